@@ -1,0 +1,231 @@
+//! The codes of faults, and the faults of a text.
+#![tactic(auto)]
+
+use crate::token::Span;
+use std::alloc::{AllocError, AllocFailed};
+
+/// The code of a fault that a text has before it runs.
+#[derive(Clone, Copy, Debug, PartialEq, Eq)]
+pub enum StaticCode {
+    /// A byte that begins no lexeme or gap.
+    L01,
+    /// A block comment is not closed.
+    L02,
+    /// A quoted literal is malformed or not closed.
+    L03,
+    /// An integer literal above 2^127 - 1, or a literal of bits or a mask wider than the width limit.
+    L04,
+    /// A name that begins with two underscores.
+    L05,
+    /// A token that is not allowed here, or the end of the file.
+    S01,
+    /// The token that opens level 101.
+    S02,
+    /// A word that is left out, or a form that is not served.
+    S03,
+    /// A file of more than 1,048,576 bytes.
+    M01,
+    /// More than 64 files.
+    M02,
+    /// The token that is number 200,001 of its file.
+    M03,
+    /// Declared twice, or shadows a visible name.
+    T01,
+    /// An unknown name, or a name of another sort.
+    T02,
+    /// A declaration reaches itself.
+    T03,
+    /// Not constant, or its evaluation faults.
+    T04,
+    /// The kinds differ, or one named type is no subtype of the other.
+    T05,
+    /// The widths are not the same.
+    T06,
+    /// The constraint is not below.
+    T07,
+    /// The operator, slice or index has no rule for these kinds.
+    T08,
+    /// No overload has these kinds.
+    T09,
+    /// Two overloads clash.
+    T10,
+    /// Parameters: a wrong count, or omitted and not given by an argument.
+    T11,
+    /// The effect is too strong here.
+    T12,
+    /// The effects of operands conflict.
+    T13,
+    /// The target is immutable.
+    T14,
+    /// An unknown, repeated or missing field.
+    T15,
+    /// A bitfield outside its width.
+    T16,
+    /// The end of a function can be reached.
+    T17,
+    /// A `return` or a call of the wrong form.
+    T18,
+    /// Not a width expression.
+    T19,
+    /// A width, a constraint or a type that is too large.
+    T20,
+    /// No exception type, or `throw;` outside a catcher.
+    T21,
+    /// The pattern does not fit.
+    T23,
+    /// The entry is missing.
+    T24,
+    /// Not a subtype of the named type.
+    T25,
+}
+
+impl StaticCode {
+    ghost use Rattle.std.specs.Prelude.{◌≡◌};
+    ghost use Rattle.asl_syn.specs.Codes.{static_text};
+
+    /// The three bytes that are printed for the code.
+    pub fn text(self) -> &'static str
+        ensures { result.now ≡ static_text self }
+    {
+        match self {
+            StaticCode::L01 => "L01",
+            StaticCode::L02 => "L02",
+            StaticCode::L03 => "L03",
+            StaticCode::L04 => "L04",
+            StaticCode::L05 => "L05",
+            StaticCode::S01 => "S01",
+            StaticCode::S02 => "S02",
+            StaticCode::S03 => "S03",
+            StaticCode::M01 => "M01",
+            StaticCode::M02 => "M02",
+            StaticCode::M03 => "M03",
+            StaticCode::T01 => "T01",
+            StaticCode::T02 => "T02",
+            StaticCode::T03 => "T03",
+            StaticCode::T04 => "T04",
+            StaticCode::T05 => "T05",
+            StaticCode::T06 => "T06",
+            StaticCode::T07 => "T07",
+            StaticCode::T08 => "T08",
+            StaticCode::T09 => "T09",
+            StaticCode::T10 => "T10",
+            StaticCode::T11 => "T11",
+            StaticCode::T12 => "T12",
+            StaticCode::T13 => "T13",
+            StaticCode::T14 => "T14",
+            StaticCode::T15 => "T15",
+            StaticCode::T16 => "T16",
+            StaticCode::T17 => "T17",
+            StaticCode::T18 => "T18",
+            StaticCode::T19 => "T19",
+            StaticCode::T20 => "T20",
+            StaticCode::T21 => "T21",
+            StaticCode::T23 => "T23",
+            StaticCode::T24 => "T24",
+            StaticCode::T25 => "T25",
+        }
+    }
+}
+
+/// The code of a fault that a run ends in.
+#[derive(Clone, Copy, Debug, PartialEq, Eq)]
+pub enum DynCode {
+    /// An integer outside -2^127 .. 2^127 - 1.
+    D01,
+    /// A divisor that is not above 0.
+    D02,
+    /// `DIV` is inexact.
+    D03,
+    /// The right operand of `^`, `<<` or `>>` is negative.
+    D04,
+    /// A slice outside its value.
+    D05,
+    /// An array index outside.
+    D06,
+    /// An asserted conversion fails.
+    D07,
+    /// An assertion is FALSE, or an extension to fewer bits.
+    D08,
+    /// No alternative matches.
+    D09,
+    /// The limit of a loop.
+    D10,
+    /// The limit of a recursion.
+    D11,
+    /// More than 2,000 nodes entered and not left.
+    D12,
+    /// No step is left.
+    D13,
+    /// A width that is negative or over the width limit.
+    D14,
+    /// `unreachable` was reached.
+    D15,
+    /// A type without a value is initialised.
+    D16,
+}
+
+impl DynCode {
+    ghost use Rattle.std.specs.Prelude.{◌≡◌};
+    ghost use Rattle.asl_syn.specs.Codes.{dynamic_text};
+
+    /// The three bytes that are printed for the code.
+    pub fn text(self) -> &'static str
+        ensures { result.now ≡ dynamic_text self }
+    {
+        match self {
+            DynCode::D01 => "D01",
+            DynCode::D02 => "D02",
+            DynCode::D03 => "D03",
+            DynCode::D04 => "D04",
+            DynCode::D05 => "D05",
+            DynCode::D06 => "D06",
+            DynCode::D07 => "D07",
+            DynCode::D08 => "D08",
+            DynCode::D09 => "D09",
+            DynCode::D10 => "D10",
+            DynCode::D11 => "D11",
+            DynCode::D12 => "D12",
+            DynCode::D13 => "D13",
+            DynCode::D14 => "D14",
+            DynCode::D15 => "D15",
+            DynCode::D16 => "D16",
+        }
+    }
+}
+
+/// A fault of a text: its code, the code of the evaluation where a constant faults (T04), and where it stands.
+#[derive(Clone, Copy, Debug, PartialEq, Eq)]
+pub struct Fault {
+    pub code: StaticCode,
+    pub inner: Option<DynCode>,
+    pub span: Span,
+}
+
+/// Why a text has no answer: its one fault, or want of memory.
+#[derive(Clone, Copy, Debug, PartialEq, Eq)]
+pub enum Refused {
+    At(Fault),
+    NoMemory,
+}
+
+impl From<AllocError> for Refused {
+    ghost use Rattle.std.specs.Prelude.{◌≡◌};
+    ghost use Rattle.asl_syn.specs.declared.code.Refused.TheVariants.{NoMemory};
+
+    ghost from_gives = { λ _ e. e ≡ NoMemory };
+
+    fn from(_error: AllocError) -> Refused {
+        Refused::NoMemory
+    }
+}
+
+impl<T: Drop> From<AllocFailed<T>> for Refused {
+    ghost use Rattle.std.specs.Prelude.{◌≡◌};
+    ghost use Rattle.asl_syn.specs.declared.code.Refused.TheVariants.{NoMemory};
+
+    ghost from_gives = { λ _ e. e ≡ NoMemory };
+
+    fn from(_error: AllocFailed<T>) -> Refused {
+        Refused::NoMemory
+    }
+}
