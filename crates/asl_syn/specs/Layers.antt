@@ -15,9 +15,12 @@ use Rattle.asl_syn.specs.declared.tree.Otherwise.{Otherwise}
 use Rattle.asl_syn.specs.declared.tree.Stmt.{Stmt, out-Stmt}
 use Rattle.asl_syn.specs.declared.tree.Alternative.TheOpen as st
 
--- one layer of an expression, and of a statement
+-- one layer of an expression, of a type and of a statement
 abbrev pub ExprLayer : Type 0
 ExprLayer = ex.Expr-F Bitfield ConstraintPart Expr FieldValue Pattern Slice TypeExpr
+
+abbrev pub TypeLayer : Type 0
+TypeLayer = ex.TypeExpr-F Bitfield ConstraintPart Expr FieldValue Pattern Slice TypeExpr
 
 abbrev pub StmtLayer : Type 0
 StmtLayer = st.Stmt-F Alternative Catcher ElseIf Otherwise Stmt

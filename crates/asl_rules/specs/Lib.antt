@@ -1,0 +1,15 @@
+pub mod Faults
+pub mod Served
+pub mod Types
+pub mod Names
+pub mod Exprs
+pub mod Stmts
+pub mod Programs
+pub mod Values
+pub mod Told
+pub mod Plans
+pub mod Cuts
+pub mod Evaluation
+pub mod Machines
+pub mod Texts
+pub mod Report

@@ -1,0 +1,123 @@
+-- What a node does is a plan: a tree of steps over a state, whose steps may be other nodes. One run of plans serves every
+-- form of node.
+use Rattle.std.specs.Prelude.{ℕ, zero, suc, ◌-◌, ◌==◌, Bool, true, false, if◌then◌else◌, List, Option}
+use Rattle.asl_syn.specs.declared.token.Span.{Span}
+use Rattle.asl_syn.specs.declared.code.DynCode.{DynCode}
+use Rattle.asl_syn.specs.declared.code.DynCode.TheVariants.{D12, D13}
+use Rattle.asl_rules.specs.Told.{appended}
+use Rattle.asl_rules.specs.Types.{Ty}
+use Rattle.asl_rules.specs.Values.{Value, Exit}
+
+-- a name with its value and the type that the value is stored under
+pub record Binding : Type 0 where
+  pub name : List ℕ
+  pub value : Value
+  pub ty : Ty
+
+-- the state that nodes read and change: the globals and the present frame in the order of their declarations, and the
+-- numbers of the subprograms that are active
+pub record Core : Type 0 where
+  pub globals : List Binding
+  pub frame : List Binding
+  pub live : List ℕ
+
+-- what no node reads: the steps that are left, and the text so far
+pub record Meter : Type 0 where
+  pub steps : ℕ
+  pub told : Option (List ℕ)
+
+-- why the rules give a node no outcome
+pub data Mistake : Type 0 where
+  UnknownName : Mistake
+  WrongKind : Mistake
+  EndReached : Mistake
+  UnservedForm : Mistake
+
+-- why a run stops: a fault of the rules, or a place where they give no outcome
+pub data End : Type 0 where
+  Faulted : DynCode → Span → End
+  Stuck : Mistake → Span → End
+
+-- what a part of a run gives, with the state and the meter after it
+pub data Outcome (A : Type 0) : Type 0 where
+  Done : A → Core → Meter → Outcome A
+  Thrown : Value → Core → Meter → Outcome A
+  Halt : End → Core → Meter → Outcome A
+
+abbrev pub final : {A : Type 0} → Outcome A → Meter
+final (Done x c h) = h
+final (Thrown x c h) = h
+final (Halt e c h) = h
+
+-- a plan over expressions E and statements S: it gives a value, throws, stops, evaluates an expression, executes a
+-- statement, writes, or does a part and goes on with what the part gives or throws
+pub data Plan (E S : Type 0) : Type 0 → Type 1 where
+  Ret : {A : Type 0} → A → Core → Plan E S A
+  Raise : {A : Type 0} → Value → Core → Plan E S A
+  Stop : {A : Type 0} → End → Core → Plan E S A
+  Eval : {A : Type 0} → E → Core → (Value → Core → Plan E S A) → Plan E S A
+  Exec : {A : Type 0} → S → Core → (Exit → Core → Plan E S A) → Plan E S A
+  Put : {A : Type 0} → List ℕ → Plan E S A → Plan E S A
+  Within : {A B : Type 0} → Plan E S B → (B → Core → Plan E S A) → (Value → Core → Plan E S A) → Plan E S A
+
+abbrev pub choose : {E S A : Type 0} → Bool → Plan E S A → Plan E S A → Plan E S A
+choose true p q = p
+choose false p q = q
+
+-- a part, whose throws are those of the whole
+abbrev pub follow : {E S A B : Type 0} → Plan E S B → (B → Core → Plan E S A) → Plan E S A
+follow p k = Within p k Raise
+
+-- what the nodes below mean
+pub record Meaning (E S : Type 0) : Type 0 where
+  pub expr : E → Core → Meter → Outcome Value
+  pub stmt : S → Core → Meter → Outcome Exit
+
+abbrev pub handle : {A B : Type 0} → Outcome B → (B → Core → Meter → Outcome A) → (Value → Core → Meter → Outcome A) → Outcome A
+handle (Done x c h) f g = f x c h
+handle (Thrown x c h) f g = g x c h
+handle (Halt e c h) f g = Halt e c h
+
+infixl 10 ◌>>=◌
+abbrev pub ◌>>=◌ : {A B : Type 0} → Outcome B → (B → Core → Meter → Outcome A) → Outcome A
+r >>= f = handle r f Thrown
+
+abbrev pub run : {E S A : Type 0} → Meaning E S → Plan E S A → Meter → Outcome A
+run m (Ret x c) h = Done x c h
+run m (Raise x c) h = Thrown x c h
+run m (Stop e c) h = Halt e c h
+run m (Eval e c k) h = m.expr e c h >>= λ x c1 h1. run m (k x c1) h1
+run m (Exec t c k) h = m.stmt t c h >>= λ x c1 h1. run m (k x c1) h1
+run m (Put bytes q) h = run m q (record h { told = appended h.told bytes })
+run m (Within q f g) h = handle (run m q h) (λ x c1 h1. run m (f x c1) h1) (λ x c1 h1. run m (g x c1) h1)
+
+-- the entry into a node takes a step: D13 where none is left, then D12 where no node more may be open
+abbrev pub enter : {A : Type 0} → Span → Bool → Core → Meter → (Meter → Outcome A) → Outcome A
+enter span deep c h go = if h.steps == 0 then Halt (Faulted D13 span) c h else (if deep then Halt (Faulted D12 span) c h else go (record h { steps = h.steps - 1 }))
+
+-- what the nodes of a kind of tree do
+pub record Nodes (E S : Type 0) : Type 1 where
+  pub expr_at : E → Span
+  pub stmt_at : S → Span
+  pub expr : E → Core → Plan E S Value
+  pub stmt : S → Core → Plan E S Exit
+
+-- the meaning of nodes where at most d more may be open
+abbrev pub meanings : {E S : Type 0} → Nodes E S → ℕ → Meaning E S
+meanings n zero = record {
+  expr = λ e c h. enter (n.expr_at e) true c h (λ h1. Halt (Faulted D12 (n.expr_at e)) c h1);
+  stmt = λ t c h. enter (n.stmt_at t) true c h (λ h1. Halt (Faulted D12 (n.stmt_at t)) c h1);
+}
+meanings n (suc d) = record {
+  expr = λ e c h. enter (n.expr_at e) false c h (run (meanings n d) (n.expr e c));
+  stmt = λ t c h. enter (n.stmt_at t) false c h (run (meanings n d) (n.stmt t c));
+}
+
+-- what an operator gives of its values
+pub data Pure (A : Type 0) : Type 0 where
+  Good : A → Pure A
+  Bad : End → Pure A
+
+abbrev pub lift : {E S A B : Type 0} → Pure A → Core → (A → Plan E S B) → Plan E S B
+lift (Good x) c k = k x
+lift (Bad e) c k = Stop e c

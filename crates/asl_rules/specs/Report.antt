@@ -1,0 +1,86 @@
+-- The report: what a command writes, and its status, as a function of what was read.
+use Rattle.std.specs.Prelude.{ℕ, List, [], ◌∷◌, ◌++◌, length, nat_lt, if◌then◌else◌, Option, Some, None, Result, Ok, Err}
+use Rattle.asl_syn.specs.Command.{Command, usage, check, run, names_of}
+use Rattle.asl_syn.specs.declared.code.Fault.{Fault}
+use Rattle.asl_syn.specs.declared.tree.Decl.{Decl}
+use Rattle.asl_rules.specs.declared.entry.Entry.TheVariants as entry
+use Rattle.asl_rules.specs.Values.{Value}
+use Rattle.asl_rules.specs.Plans.{Outcome, Done, Thrown, Halt, End, Faulted, Stuck}
+use Rattle.asl_rules.specs.Programs.{verdict}
+use Rattle.asl_rules.specs.Machines.{run_of, initial_globals}
+use Rattle.asl_rules.specs.Texts.{Text, File, fault_line, dynamic_line, usage_line, accepted_line, returned_line, uncaught_line, closing}
+
+-- what is written, and the status of it
+pub record Answer : Type 0 where
+  pub text : Text
+  pub status : ℕ
+
+abbrev pub answer : Text → ℕ → Answer
+answer text status = record { text = text; status = status }
+
+-- what came of reading the files: all of them, one that is too long, or more names than are allowed
+pub data Reading : Type 0 where
+  all : List File → Reading
+  long : Text → Reading
+  many : Reading
+
+abbrev pub with_file : File → Reading → Reading
+with_file f (all rest) = all (f ∷ rest)
+with_file f (long name) = long name
+with_file f many = many
+
+-- the files in order, up to the first that is longer than 1,048,576 bytes
+abbrev pub read_by : (Text → Text) → List Text → Reading
+read_by held [] = all []
+read_by held (name ∷ names) = if nat_lt 1048576 (length (held name)) then long name
+    else with_file (name, held name) (read_by held names)
+
+-- at most 64 files
+abbrev pub read_for : Command → (Text → Text) → Reading
+read_for command held = if nat_lt 64 (length (names_of command)) then many else read_by held (names_of command)
+
+abbrev pub told_text : Option Text → Text
+told_text None = []
+told_text (Some text) = text
+
+-- a line of the product behind printed text
+abbrev pub behind : Text → Text → Text
+behind printed line = printed ++ (closing printed ++ line)
+
+-- the value that was returned, where there is one
+abbrev pub outcome_line : Option Value → Text
+outcome_line None = []
+outcome_line (Some x) = returned_line x
+
+abbrev pub halted : List File → End → Text → Answer
+halted files (Faulted code span) printed = answer (behind printed (dynamic_line files code span)) 4
+halted files (Stuck mistake span) printed = answer printed 4
+
+-- the end of a run: its printed text, and the line that says how it ended
+abbrev pub run_answer : List File → Outcome (Option Value) → Answer
+run_answer files (Done x c h) = answer (behind (told_text h.told) (outcome_line x)) 0
+run_answer files (Thrown x c h) = answer (behind (told_text h.told) (uncaught_line x)) 3
+run_answer files (Halt e c h) = halted files e (told_text h.told)
+
+abbrev pub started : List File → List Decl → ℕ → Option ℕ → Answer
+started files ds steps None = answer [] 0
+started files ds steps (Some main) = run_answer files (run_of ds main [] (initial_globals ds) (record { steps = steps; told = Some [] }))
+
+abbrev pub check_verdict : List File → List Decl → Result (Option ℕ) Fault → Answer
+check_verdict files ds (Ok main) = answer (accepted_line (length ds)) 0
+check_verdict files ds (Err f) = answer (fault_line files f) 1
+
+abbrev pub run_verdict : List File → List Decl → ℕ → Result (Option ℕ) Fault → Answer
+run_verdict files ds steps (Ok main) = started files ds steps main
+run_verdict files ds steps (Err f) = answer (fault_line files f) 1
+
+-- the answer for a program that was read to these declarations
+abbrev pub on_program : Command → List File → List Decl → Answer
+on_program usage files ds = answer usage_line 2
+on_program (check names) files ds = check_verdict files ds (verdict entry.None ds)
+on_program (run steps names) files ds = run_verdict files ds steps (verdict entry.Main ds)
+
+-- the answer for texts that have these declarations, or this fault
+abbrev pub on_texts : Command → List File → Result (List Decl) Fault → Answer
+on_texts command files (Ok ds) = on_program command files ds
+on_texts command files (Err f) = answer (fault_line files f) 1

@@ -1,0 +1,4 @@
+//! The rules of the language: what a well-formed program is and what it does, and the laws of these definitions.
+#![tactic(auto)]
+
+pub mod entry;
