@@ -10,6 +10,7 @@ pub mod Told
 pub mod Plans
 pub mod Cuts
 pub mod Evaluation
+pub mod Belonging
 pub mod Machines
 pub mod Texts
 pub mod Report

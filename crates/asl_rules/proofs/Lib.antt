@@ -1,0 +1,5 @@
+pub mod Pieces
+pub mod Budget
+pub mod Given
+pub mod Quiet
+pub mod Calls
