@@ -2,27 +2,27 @@
 use Rattle.std.specs.Prelude.{ℕ, zero, suc, ◌-◌, ◌==◌, Bool, true, false, List, [], ◌∷◌, ◌++◌}
 use Rattle.asl_rules.specs.Told.{appended}
 use Rattle.asl_rules.specs.Values.{Value}
-use Rattle.asl_rules.specs.Plans.{Core, Meter, Outcome, Done, Thrown, Halt, Plan, Ret, Raise, Stop, Eval, Exec, Put, Within, Meaning, run, Nodes, meanings}
+use Rattle.asl_rules.specs.Plans.{Meter, Outcome, Done, Thrown, Halt, Plan, Ret, Raise, Stop, Eval, Exec, Put, Within, Meaning, run, Nodes, meanings}
 
-pub data Visit (E S : Type 0) : Type 0 where
-  AtExpr : E → Core → Visit E S
-  AtStmt : S → Core → Visit E S
+pub data Visit (C E S : Type 0) : Type 0 where
+  AtExpr : E → C → Visit C E S
+  AtStmt : S → C → Visit C E S
 
-abbrev pub state_of : {E S : Type 0} → Visit E S → Core
+abbrev pub state_of : {C E S : Type 0} → Visit C E S → C
 state_of (AtExpr e c) = c
 state_of (AtStmt s c) = c
 
 -- the visits of the nodes below
-pub record Trail (E S : Type 0) : Type 0 where
-  pub expr : E → Core → Meter → List (Visit E S)
-  pub stmt : S → Core → Meter → List (Visit E S)
+pub record Trail (C E S : Type 0) : Type 0 where
+  pub expr : E → C → Meter → List (Visit C E S)
+  pub stmt : S → C → Meter → List (Visit C E S)
 
-abbrev pub after : {A V : Type 0} → Outcome A → (A → Core → Meter → List V) → (Value → Core → Meter → List V) → List V
+abbrev pub after : {C A V : Type 0} → Outcome C A → (A → C → Meter → List V) → (Value → C → Meter → List V) → List V
 after (Done x c h) f g = f x c h
 after (Thrown x c h) f g = g x c h
 after (Halt e c h) f g = []
 
-abbrev pub visits : {E S A : Type 0} → Meaning E S → Trail E S → Plan E S A → Meter → List (Visit E S)
+abbrev pub visits : {C E S A : Type 0} → Meaning C E S → Trail C E S → Plan C E S A → Meter → List (Visit C E S)
 visits m t (Ret x c) h = []
 visits m t (Raise x c) h = []
 visits m t (Stop e c) h = []
@@ -36,7 +36,7 @@ abbrev pub entered_at : {V : Type 0} → Bool → V → List V → List V
 entered_at true v rest = []
 entered_at false v rest = v ∷ rest
 
-abbrev pub trails : {E S : Type 0} → Nodes E S → ℕ → Trail E S
+abbrev pub trails : {C E S : Type 0} → Nodes C E S → ℕ → Trail C E S
 trails n zero = record { expr = λ e c h. []; stmt = λ s c h. [] }
 trails n (suc d) = record {
   expr = λ e c h. entered_at (h.steps == 0) (AtExpr e c) (visits (meanings n d) (trails n d) (n.expr e c) (record h { steps = h.steps - 1 }));
