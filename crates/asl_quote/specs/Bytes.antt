@@ -1,5 +1,5 @@
 -- The bytes of literals of bits and masks.
-use Rattle.std.specs.Prelude.{ℕ, ◌==◌, Bool, ◌||◌, List, count_by}
+use Rattle.std.specs.Prelude.{ℕ, ◌==◌, Bool, ◌||◌, not, List, count_by}
 use Rattle.std.specs.List.{list_any}
 
 -- `0` and `1`
@@ -20,3 +20,7 @@ is_mask text = list_any is_mask_byte text
 -- how many digits a literal of bits or a mask has
 abbrev pub digit_count : List ℕ → ℕ
 digit_count text = count_by is_digit text
+
+-- any byte but `'`
+abbrev pub is_no_quote : ℕ → Bool
+is_no_quote b = not (b == 39)

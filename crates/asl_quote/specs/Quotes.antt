@@ -1,5 +1,5 @@
 -- Literals in quotes, byte by byte.
-use Rattle.std.specs.Prelude.{ℕ, ◌+◌, ◌==◌, Bool, true, false, ◌&&◌, ◌||◌, not, List, [], ◌∷◌, Option, Some, None, if◌then◌else◌, nat_le, is_some, option_and_then}
+use Rattle.std.specs.Prelude.{◌≡◌, ℕ, ◌+◌, ◌==◌, Bool, true, false, ◌&&◌, ◌||◌, not, List, [], ◌∷◌, Option, Some, None, if◌then◌else◌, nat_le, is_some, option_and_then}
 use Rattle.std.specs.Option.{option_map_or}
 use Rattle.std.specs.List.{cons_option}
 use Rattle.asl_quote.specs.Bytes.{is_bit}
@@ -83,6 +83,12 @@ abbrev pub content_digits : QuoteState → List ℕ → List (Option Bool)
 content_digits state [] = []
 content_digits state (b ∷ bs) =
     option_map_or (λ next. cons_option (quote_digit state b) (content_digits next bs)) (content_step state b) []
+
+-- the state at the closing quote q of a whole literal, whose content is bs
+pub record ClosedAt (state : QuoteState) (bs : List ℕ) (q : ℕ) : Type 0 where
+  pub end : QuoteState
+  pub content : content_run state bs ≡ Some end
+  pub closing : closes end q ≡ true
 
 -- a digit that is no `x`
 abbrev pub is_fixed : Option Bool → Bool

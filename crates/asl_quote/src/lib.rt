@@ -7,9 +7,12 @@
 //! The lexer steps through a literal and its closing quote, the reader of masks through what stands between the quotes.
 #![tactic(auto)]
 
-ghost use Rattle.std.specs.Prelude.{◌≡◌, ◌≤◌, length};
-ghost use Rattle.asl_quote.specs.Bytes.{is_digit, is_mask_byte, is_mask, digit_count};
-ghost use Rattle.asl_quote.specs.Quotes.{closes, content_step, quote_step, quote_digit, quote_opened, opens_quote, quote_len, quote_end};
+ghost use Rattle.std.specs.Prelude.{◌≡◌, ℕ, ◌≤◌, List, [], ◌∷◌, ◌++◌, length, true, not, Some};
+ghost use Rattle.std.specs.List.{list_all};
+ghost use Rattle.asl_quote.specs.Bytes.{is_digit, is_mask_byte, is_mask, digit_count, is_no_quote};
+ghost use Rattle.asl_quote.specs.Quotes.{closes, content_step, quote_step, quote_digit, quote_opened, opens_quote, quote_run, quote_len, quote_end, content_run, content_len, content_digits, is_fixed, ClosedAt};
+ghost use Rattle.asl_quote.specs.declared.QuoteState.{QuoteState};
+ghost use Rattle.asl_quote.specs.declared.QuoteState.TheVariants as at;
 
 /// How far a literal has come behind its opening quote.
 #[derive(Clone, Copy, Debug, PartialEq, Eq)]
@@ -151,6 +154,20 @@ fn is_digit(byte: u8) -> bool
     byte == b'0' || byte == b'1' || byte == b'x'
 }
 
+// ---- laws
+
+/// A whole literal, behind its opening quote, is its content and the closing quote. The content of bits or a mask
+/// writes as many digits as the literal has, all fixed exactly where it is no mask, and a malformed one goes on
+/// as far as its content does.
+#[tactic(auto, using(crate::proofs::Contents::literal_facts))]
+pub fn literal_law()
+    ensures whole { (s e : QuoteState) (bs : List ℕ) (q : ℕ) → content_run s bs ≡ Some e → closes e q ≡ true → quote_run s (bs ++ q ∷ []) ≡ Some at.Closed }
+    ensures content { (s : QuoteState) (bs : List ℕ) (q : ℕ) → quote_run s (bs ++ q ∷ []) ≡ Some at.Closed → ClosedAt s bs q }
+    ensures width { (bs : List ℕ) → content_run at.Bits bs ≡ Some at.Bits → length (content_digits at.Bits bs) ≡ digit_count bs }
+    ensures fixed { (bs : List ℕ) → content_run at.Bits bs ≡ Some at.Bits → list_all is_fixed (content_digits at.Bits bs) ≡ not (is_mask bs) }
+    ensures malformed { (bs rest : List ℕ) → list_all is_no_quote bs ≡ true → (content_run at.Bits bs ≡ Some at.Bits → ⊥) → quote_len at.Bits (bs ++ 39 ∷ rest) ≡ content_len at.Bits bs }
+{}
+
 #[cfg(test)]
 mod tests {
     use super::*;
@@ -182,6 +199,7 @@ mod tests {
 
     #[test]
     fn counts_digits(rt: HostRuntime) {
+        literal_law();
         for (text, digits, mask) in [
             (&b"'10 1'"[..], 3, false),
             (b"''", 0, false),
