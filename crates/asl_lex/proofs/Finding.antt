@@ -2,9 +2,10 @@
 use Rattle.std.proofs.Common.{◌≡◌, ℕ, ◌+◌, Bool, true, false, List, Option, Some, None, MatchOption, refl, subst, take, drop, cond}
 use Rattle.asl_quote.specs.declared.QuoteState.{QuoteState}
 use Rattle.asl_quote.specs.declared.QuoteState.TheVariants as at
-use Rattle.asl_quote.specs.Quotes.{quote_len, quote_end, is_mask}
+use Rattle.asl_quote.specs.Bytes.{is_mask}
+use Rattle.asl_quote.specs.Quotes.{quote_len, quote_end}
 use Rattle.asl_grammar.specs.lexemes.Scanning.{quoted_of, kind_of_quote, is_closed}
-use Rattle.asl_quote.proofs.Quoting.{quote_run_end}
+use Rattle.asl_quote.proofs.Quoting.{quote_run-end}
 use Rattle.asl_syn.specs.declared.token.TokenKind.{TokenKind}
 use Rattle.asl_syn.specs.declared.token.TokenKind.TheVariants as kinds
 use Rattle.asl_grammar.specs.lexemes.Gaps.{opens_block}
@@ -41,21 +42,21 @@ pub quote_small : (state : QuoteState) (text : List ℕ) → IsSmall (kind_of_qu
 quote_small at.Text text = tt
 quote_small at.Bits text = small_cond (is_mask text)
 quote_small at.Group text = small_cond (is_mask text)
-quote_small at.Digits text = small_cond (is_mask text)
+quote_small at.EmptyGroup text = small_cond (is_mask text)
 quote_small at.Escape text = small_cond (is_mask text)
 quote_small at.Closed text = small_cond (is_mask text)
 
 pub quoted_closed : (state : QuoteState) (bytes : List ℕ) → quote_end state (drop 1 bytes) ≡ at.Closed →
     quoted_of state bytes ≡ Some (1 + quote_len state (drop 1 bytes), kind_of_quote state (take (1 + quote_len state (drop 1 bytes)) bytes))
-quoted_closed state bytes e = rw (quote_run_end state (drop 1 bytes), e) refl
+quoted_closed state bytes e = rw (quote_run-end state (drop 1 bytes), e) refl
 
 open_case : {A : Type 0} (x : Option A) (q : QuoteState) → (q ≡ at.Closed → ⊥) → cond (is_closed (Some q)) x None ≡ None
 open_case x at.Closed h = absurd (h refl)
 open_case x at.Bits h = refl
 open_case x at.Group h = refl
-open_case x at.Digits h = refl
+open_case x at.EmptyGroup h = refl
 open_case x at.Text h = refl
 open_case x at.Escape h = refl
 
 pub quoted_open : (state : QuoteState) (bytes : List ℕ) → (quote_end state (drop 1 bytes) ≡ at.Closed → ⊥) → quoted_of state bytes ≡ None
-quoted_open state bytes h = rw (quote_run_end state (drop 1 bytes)) (open_case _ (quote_end state (drop 1 bytes)) h)
+quoted_open state bytes h = rw (quote_run-end state (drop 1 bytes)) (open_case _ (quote_end state (drop 1 bytes)) h)

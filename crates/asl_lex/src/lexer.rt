@@ -8,10 +8,10 @@ ghost use Rattle.asl_grammar.specs.lexemes.Lexemes.{LexemeAt};
 ghost use Rattle.asl_grammar.specs.lexemes.Tokens.{refusal, ReadGives, is_reserved, too_many, Scan, scan_of, NextGives, IsFaultAt};
 ghost use Rattle.asl_lex.specs.Found.{FindsAt, IsSmall};
 
-use crate::scan::{
-    Found, after_first, after_gap, lexeme_at, opens_block, opens_quote, quote_reach, width_of,
-};
-use asl_syn::token::{Fault, Span, StaticCode, Token, TokenKind};
+use crate::scan::{Found, after_first, after_gap, lexeme_at, opens_block};
+use asl_quote::{digit_count, opens_quote, quote_reach};
+use asl_syn::code::{Fault, StaticCode};
+use asl_syn::token::{Span, Token, TokenKind};
 use std::marker::Model;
 
 /// The most lexemes of a file.
@@ -60,7 +60,7 @@ fn refusal(kind: TokenKind, text: &[u8], given: u32) -> Option<StaticCode>
         }
         TokenKind::Int(_) => too_many(given),
         TokenKind::Bits | TokenKind::Mask => {
-            if width_of(text) <= MAX_WIDTH {
+            if digit_count(text) <= MAX_WIDTH {
                 too_many(given)
             } else {
                 Some(StaticCode::L04)
@@ -86,11 +86,13 @@ fn no_lexeme(file: u32, start: u32, bytes: &[u8]) -> Fault
             let len = (1 + reach) as u32;
             Fault {
                 code: StaticCode::L03,
+                inner: None,
                 span: Span { file, start, len },
             }
         }
         None => Fault {
             code: StaticCode::L01,
+            inner: None,
             span: Span {
                 file,
                 start,
@@ -112,6 +114,7 @@ fn read(file: u32, start: u32, bytes: &[u8], given: u32) -> Result<Option<Token>
         let len = bytes.len() as u32;
         return Err(Fault {
             code: StaticCode::L02,
+            inner: None,
             span: Span { file, start, len },
         });
     }
@@ -119,6 +122,7 @@ fn read(file: u32, start: u32, bytes: &[u8], given: u32) -> Result<Option<Token>
         Found::Nothing => Err(no_lexeme(file, start, bytes)),
         Found::TooLarge(len) => Err(Fault {
             code: StaticCode::L04,
+            inner: None,
             span: Span {
                 file,
                 start,
@@ -132,7 +136,11 @@ fn read(file: u32, start: u32, bytes: &[u8], given: u32) -> Result<Option<Token>
                 len: len as u32,
             };
             match refusal(kind, &bytes[..len], given) {
-                Some(code) => Err(Fault { code, span }),
+                Some(code) => Err(Fault {
+                    code,
+                    inner: None,
+                    span,
+                }),
                 None => Ok(Some(Token { kind, span })),
             }
         }

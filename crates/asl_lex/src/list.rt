@@ -3,28 +3,24 @@
 
 ghost use Rattle.std.specs.Prelude.{◌≡◌, ◌≤◌, ◌+◌, length, IfOk, Err, MatchResult, string_bytes, true, All, map, vec_len};
 ghost use Rattle.asl_syn.specs.declared.code.Fault.{Fault};
+ghost use Rattle.asl_syn.specs.declared.code.Refused.TheVariants.{At};
 ghost use Rattle.asl_grammar.specs.lexemes.Tokens.{Tokens, LexFault};
-ghost use Rattle.asl_grammar.specs.lexemes.Lexemes.{is_name};
 ghost use Rattle.asl_grammar.specs.lexemes.Files.{AllTokens, FirstLexFault};
 ghost use Rattle.asl_grammar.specs.lexemes.Texts.{text_at};
 
 use crate::lexer::Lexer;
+use asl_syn::code::Refused;
 use asl_syn::place::Source;
-use asl_syn::token::{Fault, Span, Token};
+use asl_syn::token::{Span, Token};
+use asl_syn::tree::Text;
+use sqlite_items::Items;
 use std::alloc::{AllocError, Global};
-
-/// Why there are no tokens.
-#[derive(Debug, Drop)]
-pub enum Refused {
-    At(Fault),
-    NoMemory,
-}
 
 /// The tokens of a file, or its fault.
 pub fn tokens_of(alloc: Global, file: u32, bytes: &[u8]) -> Result<Vec<Token>, Refused>
     requires { length bytes.now ≤ 1048576 }
     ensures tokens { IfOk result (λ v. Tokens file bytes.now v.items) }
-    ensures fault { (f : Fault) → result ≡ Err (Refused.At f) → LexFault file bytes.now f }
+    ensures fault { (f : Fault) → result ≡ Err (At f) → LexFault file bytes.now f }
 {
     let mut tokens = Vec::new(alloc);
     let mut lexer = Lexer::new(file, bytes);
@@ -32,10 +28,7 @@ pub fn tokens_of(alloc: Global, file: u32, bytes: &[u8]) -> Result<Vec<Token>, R
         match lexer.next() {
             Err(fault) => return Err(Refused::At(fault)),
             Ok(None) => return Ok(tokens),
-            Ok(Some(token)) => match tokens.push(token) {
-                Ok(()) => {}
-                Err(_) => return Err(Refused::NoMemory),
-            },
+            Ok(Some(token)) => tokens.push(token)?,
         }
     }
 }
@@ -45,15 +38,12 @@ pub fn tokens_of_all(alloc: Global, files: &[Source]) -> Result<Vec<Vec<Token>>,
     requires few { length files.now ≤ 64 }
     requires small { All (λ s. vec_len s.bytes ≤ 1048576) files.now }
     ensures tokens { IfOk result (λ v. AllTokens 0 (map (λ s. s.bytes.items) files.now) (map (λ ts. ts.items) v.items)) }
-    ensures fault { (f : Fault) → result ≡ Err (Refused.At f) → FirstLexFault 0 (map (λ s. s.bytes.items) files.now) f }
+    ensures fault { (f : Fault) → result ≡ Err (At f) → FirstLexFault 0 (map (λ s. s.bytes.items) files.now) f }
 {
     let mut all = Vec::new(alloc);
     for (number, source) in files.iter().enumerate() {
         match tokens_of(alloc, number as u32, source.bytes.as_slice()) {
-            Ok(tokens) => match all.push(tokens) {
-                Ok(()) => {}
-                Err(_) => return Err(Refused::NoMemory),
-            },
+            Ok(tokens) => all.push(tokens)?,
             Err(refused) => return Err(refused),
         }
     }
@@ -70,23 +60,19 @@ pub fn text_of(bytes: &[u8], span: Span) -> &[u8]
     &bytes[start..end]
 }
 
-/// The text of a name, as text of its own.
-#[tactic(auto, using(asl_grammar::proofs::lexemes::Names::name_is_utf8))]
-pub fn name_of(alloc: Global, bytes: &[u8], span: Span) -> Result<String, AllocError>
-    requires inside { span.start + span.len ≤ length bytes.now }
-    requires name { is_name (text_at bytes.now span) ≡ true }
-    ensures { IfOk result (λ s. string_bytes s ≡ text_at bytes.now span) }
+/// The bytes of a span, as the text that a tree owns.
+pub fn owned_text(alloc: Global, bytes: &[u8], span: Span) -> Result<Text, AllocError>
+    requires { span.start + span.len ≤ length bytes.now }
+    ensures { IfOk result (λ text. text ≡ text_at bytes.now span) }
 {
-    match std::str::from_utf8(text_of(bytes, span)) {
-        Ok(text) => String::from_str(alloc, text),
-        Err(_) => unreachable!(),
-    }
+    Items::from_slice(alloc, text_of(bytes, span))
 }
 
 #[cfg(test)]
 mod tests {
     use super::*;
-    use asl_syn::token::{Mark, StaticCode, TokenKind, Word};
+    use asl_syn::code::{Fault, StaticCode};
+    use asl_syn::token::{Mark, TokenKind, Word};
     use std::test::Fail;
 
     fn kind_at(alloc: Global, text: &[u8], at: usize) -> Result<TokenKind, Fail>

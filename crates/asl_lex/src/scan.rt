@@ -7,11 +7,10 @@ ghost use Rattle.std.specs.Option.{option_copied};
 ghost use Rattle.asl_grammar.specs.lexemes.Bytes.{is_blank, is_name_start, is_name_byte, is_decimal_byte, is_hex_digit, is_hex_byte, digit_of, value_of};
 ghost use Rattle.asl_grammar.specs.lexemes.Gaps.{after_block, after_line, skip, Gap, opens_block};
 ghost use Rattle.asl_grammar.specs.lexemes.Scanning.{kind_of_name, opens_hex, number_of, longest_mark, lexeme_of, mark_at, quoted_of, kind_of_quote};
-ghost use Rattle.asl_quote.specs.Quotes.{is_bit, quote_step, quote_len, quote_end, opens_quote, is_mask_byte, is_mask, width_of};
 ghost use Rattle.asl_lex.specs.Found.{Finds};
 
 use crate::table::{mark_of, word_of};
-use asl_quote::QuoteState;
+use asl_quote::{QuoteState, is_mask, opens_quote, quote_reach};
 use asl_syn::token::TokenKind;
 
 fn is_blank(b: u8) -> bool
@@ -266,68 +265,6 @@ fn longest_mark(bytes: &[u8]) -> Found
     }
 }
 
-fn is_bit(b: u8) -> bool
-    ensures { result ≡ is_bit b }
-{
-    b == b'0' || b == b'1'
-}
-
-// The state behind one more byte, where the literal can go on with it.
-fn quote_step(state: QuoteState, b: u8) -> Option<QuoteState>
-    ensures { result ≡ quote_step state b }
-{
-    match state {
-        QuoteState::Bits => {
-            if is_bit(b) || b == b' ' || b == b'x' {
-                Some(QuoteState::Bits)
-            } else if b == b'(' {
-                Some(QuoteState::Group)
-            } else if b == b'\'' {
-                Some(QuoteState::Closed)
-            } else {
-                None
-            }
-        }
-        QuoteState::Group => {
-            if is_bit(b) {
-                Some(QuoteState::Digits)
-            } else if b == b' ' {
-                Some(QuoteState::Group)
-            } else {
-                None
-            }
-        }
-        QuoteState::Digits => {
-            if is_bit(b) || b == b' ' {
-                Some(QuoteState::Digits)
-            } else if b == b')' {
-                Some(QuoteState::Bits)
-            } else {
-                None
-            }
-        }
-        QuoteState::Text => {
-            if b == b'"' {
-                Some(QuoteState::Closed)
-            } else if b == b'\\' {
-                Some(QuoteState::Escape)
-            } else if 32 <= b && b <= 126 {
-                Some(QuoteState::Text)
-            } else {
-                None
-            }
-        }
-        QuoteState::Escape => {
-            if b == b'n' || b == b't' || b == b'\\' || b == b'"' {
-                Some(QuoteState::Text)
-            } else {
-                None
-            }
-        }
-        QuoteState::Closed => None,
-    }
-}
-
 // What is left behind the first byte.
 pub fn after_first(bytes: &[u8]) -> &[u8]
     requires { 0 < length bytes.now }
@@ -335,69 +272,6 @@ pub fn after_first(bytes: &[u8]) -> &[u8]
     ensures len { length result.now + 1 ≡ length bytes.now }
 {
     &bytes[1..]
-}
-
-/// How far a literal goes on behind its quote, and the state there.
-pub fn quote_reach(start: QuoteState, bytes: &[u8]) -> (usize, QuoteState)
-    ensures len { result.0 ≡ quote_len start bytes.now }
-    ensures fits { result.0 ≤ length bytes.now }
-    ensures end { result.1 ≡ quote_end start bytes.now }
-{
-    let mut state = start;
-    let mut rest = bytes;
-    while let [b, ..] = rest {
-        match quote_step(state, *b) {
-            Some(next) => {
-                state = next;
-                rest = &rest[1..];
-            }
-            None => return (bytes.len() - rest.len(), state),
-        }
-    }
-    (bytes.len() - rest.len(), state)
-}
-
-/// The state behind the quote that begins a literal.
-pub fn opens_quote(bytes: &[u8]) -> Option<QuoteState>
-    ensures { result ≡ opens_quote bytes.now }
-{
-    match bytes {
-        [] => None,
-        [b, ..] => {
-            if *b == b'\'' {
-                Some(QuoteState::Bits)
-            } else if *b == b'"' {
-                Some(QuoteState::Text)
-            } else {
-                None
-            }
-        }
-    }
-}
-
-fn is_mask_byte(b: u8) -> bool
-    ensures { result ≡ is_mask_byte b }
-{
-    b == b'x' || b == b'('
-}
-
-fn is_mask(text: &[u8]) -> bool
-    ensures { result ≡ is_mask text.now }
-{
-    text.iter().any(|b| is_mask_byte(*b))
-}
-
-fn is_width_byte(b: u8) -> bool
-    ensures { result ≡ (is_bit b || (b == 120)) }
-{
-    is_bit(b) || b == b'x'
-}
-
-/// The width of a literal of bits or of a mask.
-pub fn width_of(text: &[u8]) -> usize
-    ensures { result ≡ width_of text.now }
-{
-    text.iter().filter(|b| is_width_byte(**b)).count()
 }
 
 fn kind_of_quote(state: QuoteState, text: &[u8]) -> TokenKind
@@ -412,7 +286,6 @@ fn kind_of_quote(state: QuoteState, text: &[u8]) -> TokenKind
     }
 }
 
-#[tactic(auto, using(asl_quote::proofs::Quoting::quote_run_end))]
 fn quoted_at(state: QuoteState, bytes: &[u8]) -> Found
     requires { 0 < length bytes.now }
     ensures { Finds result (quoted_of state bytes.now) }

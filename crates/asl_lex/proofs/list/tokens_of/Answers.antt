@@ -11,5 +11,5 @@ tokens-smaller c =
 pub tokens-preserved : goal.tokens-preserved
 tokens-preserved c =
     let yields = yields_of c.tokens.lexer c.next.new.self c.in-Ok-Some.field-0 c.in-Ok-Some.token c.in-Ok-Some.field-0-is c.in-Ok-Some.ensures in
-    rw c.in-Ok.ensures.items
+    rw c.in_ok-push-in-Ok-Some.ensures.items
     (Front_more (scan_of c.args.file c.args.bytes.now) c.tokens.lexer c.next.new.self c.tokens.tokens.items c.in-Ok-Some.token c.tokens.invariant yields)
