@@ -13,9 +13,11 @@ use Rattle.asl_quote.specs.Quotes.{opens_quote, quote_len}
 use Rattle.asl_grammar.specs.lexemes.Gaps.{opens_block, Gap}
 use Rattle.asl_grammar.specs.lexemes.Lexemes.{IsLexeme, LexemeAt, Longest}
 use Rattle.asl_grammar.specs.lexemes.Scanning.{lexeme_of}
-use Rattle.asl_grammar.specs.lexemes.Tokens.{Scan, refusal, place_at, IsTokenAt, Yields, Ends, Fails, NextGives, FaultAt, unclosed, malformed, stray, refused, Front, Completes, Breaks}
+use Rattle.asl_grammar.specs.lexemes.Refusals.{refusal}
+use Rattle.asl_grammar.specs.lexemes.Tokens.{Scan, behind_gap, behind_lexeme, IsTokenAt, Yields, Ends, Fails, NextGives, NoLexeme, FaultAt, unclosed, malformed, stray, refused, Front, Completes, Breaks}
 use Rattle.asl_grammar.proofs.lexemes.Gapping.{one_gap, some_gap, Gap_le}
-use Rattle.asl_grammar.proofs.lexemes.Lexing.{one_longest, not_empty, lexeme_is}
+use Rattle.asl_grammar.proofs.lexemes.OneLexeme.{one_longest, not_empty}
+use Rattle.asl_grammar.proofs.lexemes.LongestLexeme.{lexeme_is}
 
 -- a token is its parts
 token_is : (t u : Token) → t.kind ≡ u.kind → t.span.file ≡ u.span.file → t.span.start ≡ u.span.start → t.span.len ≡ u.span.len → t ≡ u
@@ -28,18 +30,16 @@ fault_is t u k i f s n =
     let make : StaticCode → Option DynCode → ℕ → ℕ → ℕ → Fault = λ a o b c d. record { code = a; inner = o; span = record { file = b; start = c; len = d } } in
     let e : make t.code t.inner t.span.file t.span.start t.span.len ≡ make u.code u.inner u.span.file u.span.start u.span.len = cc in e
 
-one_token : (file place : ℕ) (bytes : List ℕ) (given : ℕ) (t u : Token) →
-    IsTokenAt file place bytes given t → IsTokenAt file place bytes given u → t ≡ u
-one_token file place bytes given t u a b =
-    let same = one_longest bytes t.span.len u.span.len t.kind u.kind a.longest b.longest in
+one_token : (scan : Scan) (t u : Token) → IsTokenAt scan t → IsTokenAt scan u → t ≡ u
+one_token scan t u a b =
+    let same = one_longest scan.rest t.span.len u.span.len t.kind u.kind a.longest b.longest in
     token_is t u same.1 (a.file_is ∙ sym b.file_is) (a.start_is ∙ sym b.start_is) same.0
 
 pub one_yields : (s x y : Scan) (t u : Token) → Yields s t x → Yields s u y → (t ≡ u) × (x ≡ y)
 one_yields s x y t u a b =
     let gap : b.bytes ≡ a.bytes = one_gap s.rest b.bytes a.bytes b.gap a.gap in
-    let there : IsTokenAt s.file (place_at s a.bytes) a.bytes s.given u =
-    subst (λ z. IsTokenAt s.file (place_at s z) z s.given u) gap b.token in
-    let same : t ≡ u = one_token s.file (place_at s a.bytes) a.bytes s.given t u a.token there in
+    let there : IsTokenAt (behind_gap s a.bytes) u = subst (λ z. IsTokenAt (behind_gap s z) u) gap b.token in
+    let same : t ≡ u = one_token (behind_gap s a.bytes) t u a.token there in
     let p = a.next in let q = b.next in (same, cc)
 
 no_lexeme : (n : ℕ) (k : TokenKind) → LexemeAt [] n k → ⊥
@@ -50,56 +50,58 @@ yields_ends s x t a e =
     let gap : a.bytes ≡ [] = one_gap s.rest a.bytes [] a.gap e in
     no_lexeme t.span.len t.kind (subst (λ z. LexemeAt z t.span.len t.kind) gap a.token.longest.here)
 
-fault_not_empty : (bytes : List ℕ) (given : ℕ) (code : StaticCode) (len : ℕ) → bytes ≡ [] → FaultAt bytes given code len → ⊥
-fault_not_empty bytes given code len e (unclosed h) = let f : opens_block bytes ≡ false = ap opens_block e in cc
-fault_not_empty bytes given code len e (malformed apart q none) = let f : opens_quote bytes ≡ None = ap opens_quote e in cc
-fault_not_empty bytes given code len e (stray more apart plain none) = omega (arith, ap length e)
-fault_not_empty bytes given code len e (refused k l r) = no_lexeme len k (subst (λ z. LexemeAt z len k) e l.here)
+fault_not_empty : (scan : Scan) (code : StaticCode) (len : ℕ) → scan.rest ≡ [] → FaultAt scan code len → ⊥
+fault_not_empty scan code len e (unclosed h) = let f : opens_block scan.rest ≡ false = ap opens_block e in cc
+fault_not_empty scan code len e (malformed apart q none) = let f : opens_quote scan.rest ≡ None = ap opens_quote e in cc
+fault_not_empty scan code len e (stray more apart plain none) = omega (arith, ap length e)
+fault_not_empty scan code len e (refused k l r) = no_lexeme len k (subst (λ z. LexemeAt z len k) e l.here)
 
 pub fails_ends : (s : Scan) (f : Fault) → Fails s f → Ends s → ⊥
-fails_ends s f a e = fault_not_empty a.bytes s.given f.code f.span.len (one_gap s.rest a.bytes [] a.gap e) a.fault.fault
+fails_ends s f a e = fault_not_empty (behind_gap s a.bytes) f.code f.span.len (one_gap s.rest a.bytes [] a.gap e) a.fault.fault
 
-not_taken : (bytes : List ℕ) (given : ℕ) (code : StaticCode) (len n : ℕ) (k : TokenKind) → FaultAt bytes given code len →
-    Longest bytes n k → refusal k (take n bytes) given ≡ None → ⊥
-not_taken bytes given code len n k (unclosed h) l r = let f = l.here.apart in cc
-not_taken bytes given code len n k (malformed apart q none) l r = none n k l.here
-not_taken bytes given code len n k (stray more apart plain none) l r = none n k l.here
-not_taken bytes given code len n k (refused j m q) l r =
-    let same = one_longest bytes len n j k m l in
+not_taken : (scan : Scan) (code : StaticCode) (len n : ℕ) (k : TokenKind) → FaultAt scan code len →
+    Longest scan.rest n k → refusal scan.width_limit k (take n scan.rest) scan.given ≡ None → ⊥
+not_taken scan code len n k (unclosed h) l r = let f = l.here.apart in cc
+not_taken scan code len n k (malformed apart q none) l r = none n k l.here
+not_taken scan code len n k (stray more apart plain none) l r = none n k l.here
+not_taken scan code len n k (refused j m q) l r =
+    let same = one_longest scan.rest len n j k m l in
     let a = same.0 in let b = same.1 in
-    let e : refusal k (take n bytes) given ≡ refusal j (take len bytes) given = cc in cc
+    let e : refusal scan.width_limit k (take n scan.rest) scan.given ≡ refusal scan.width_limit j (take len scan.rest) scan.given = cc in cc
 
 pub yields_fails : (s x : Scan) (t : Token) (f : Fault) → Yields s t x → Fails s f → ⊥
 yields_fails s x t f a b =
     let gap : b.bytes ≡ a.bytes = one_gap s.rest b.bytes a.bytes b.gap a.gap in
-    not_taken a.bytes s.given f.code f.span.len t.span.len t.kind (subst (λ z. FaultAt z s.given f.code f.span.len) gap b.fault.fault) a.token.longest a.token.taken
+    not_taken (behind_gap s a.bytes) f.code f.span.len t.span.len t.kind (subst (λ z. FaultAt (behind_gap s z) f.code f.span.len) gap b.fault.fault) a.token.longest a.token.taken
 
-one_fault_at : (bytes : List ℕ) (given : ℕ) (c d : StaticCode) (m n : ℕ) → FaultAt bytes given c m → FaultAt bytes given d n → (c ≡ d) × (m ≡ n)
-one_fault_at bytes given c d m n (unclosed h) (unclosed g) = (refl, refl)
-one_fault_at bytes given c d m n (unclosed h) (malformed b t never) = absurd cc
-one_fault_at bytes given c d m n (unclosed h) (stray much away bare never) = absurd cc
-one_fault_at bytes given c d m n (unclosed h) (refused j o w) = let f = o.here.apart in absurd cc
-one_fault_at bytes given c d m n (malformed a p none) (unclosed g) = absurd cc
-one_fault_at bytes given c d m n (malformed {state} a p none) (malformed {state = other} b t never) = let e : state ≡ other = cc in (refl, ap (λ z. 1 + quote_len z (drop 1 bytes)) e)
-one_fault_at bytes given c d m n (malformed a p none) (stray much away bare never) = absurd cc
-one_fault_at bytes given c d m n (malformed a p none) (refused j o w) = absurd (none n j o.here)
-one_fault_at bytes given c d m n (stray more apart plain none) (unclosed g) = absurd cc
-one_fault_at bytes given c d m n (stray more apart plain none) (malformed b t never) = absurd cc
-one_fault_at bytes given c d m n (stray more apart plain none) (stray much away bare never) = (refl, refl)
-one_fault_at bytes given c d m n (stray more apart plain none) (refused j o w) = absurd (none n j o.here)
-one_fault_at bytes given c d m n (refused k l r) (unclosed g) = let f = l.here.apart in absurd cc
-one_fault_at bytes given c d m n (refused k l r) (malformed b t never) = absurd (never m k l.here)
-one_fault_at bytes given c d m n (refused k l r) (stray much away bare never) = absurd (never m k l.here)
-one_fault_at bytes given c d m n (refused k l r) (refused j o w) =
-    let same = one_longest bytes m n k j l o in
+one_fault_at : (scan : Scan) (c d : StaticCode) (m n : ℕ) → FaultAt scan c m → FaultAt scan d n → (c ≡ d) × (m ≡ n)
+one_fault_at scan c d m n (unclosed h) (unclosed g) = (refl, refl)
+one_fault_at scan c d m n (unclosed h) (malformed b t never) = absurd cc
+one_fault_at scan c d m n (unclosed h) (stray much away bare never) = absurd cc
+one_fault_at scan c d m n (unclosed h) (refused j o w) = let f = o.here.apart in absurd cc
+one_fault_at scan c d m n (malformed a p none) (unclosed g) = absurd cc
+one_fault_at scan c d m n (malformed {state} a p none) (malformed {state = other} b t never) =
+    let e : state ≡ other = cc in (refl, ap (λ z. 1 + quote_len z (drop 1 scan.rest)) e)
+one_fault_at scan c d m n (malformed a p none) (stray much away bare never) = absurd cc
+one_fault_at scan c d m n (malformed a p none) (refused j o w) = absurd (none n j o.here)
+one_fault_at scan c d m n (stray more apart plain none) (unclosed g) = absurd cc
+one_fault_at scan c d m n (stray more apart plain none) (malformed b t never) = absurd cc
+one_fault_at scan c d m n (stray more apart plain none) (stray much away bare never) = (refl, refl)
+one_fault_at scan c d m n (stray more apart plain none) (refused j o w) = absurd (none n j o.here)
+one_fault_at scan c d m n (refused k l r) (unclosed g) = let f = l.here.apart in absurd cc
+one_fault_at scan c d m n (refused k l r) (malformed b t never) = absurd (never m k l.here)
+one_fault_at scan c d m n (refused k l r) (stray much away bare never) = absurd (never m k l.here)
+one_fault_at scan c d m n (refused k l r) (refused j o w) =
+    let same = one_longest scan.rest m n k j l o in
     let x = same.0 in let y = same.1 in
-    let e : refusal k (take m bytes) given ≡ refusal j (take n bytes) given = cc in (cc, x)
+    let e : refusal scan.width_limit k (take m scan.rest) scan.given ≡ refusal scan.width_limit j (take n scan.rest) scan.given = cc in (cc, x)
 
 pub one_fails : (s : Scan) (f g : Fault) → Fails s f → Fails s g → f ≡ g
 one_fails s f g a b =
     let gap : b.bytes ≡ a.bytes = one_gap s.rest b.bytes a.bytes b.gap a.gap in
-    let same = one_fault_at a.bytes s.given f.code g.code f.span.len g.span.len a.fault.fault (subst (λ z. FaultAt z s.given g.code g.span.len) gap b.fault.fault) in
-    let starts : g.span.start ≡ place_at s a.bytes = subst (λ z. g.span.start ≡ place_at s z) gap b.fault.start_is in
+    let there : FaultAt (behind_gap s a.bytes) g.code g.span.len = subst (λ z. FaultAt (behind_gap s z) g.code g.span.len) gap b.fault.fault in
+    let same = one_fault_at (behind_gap s a.bytes) f.code g.code f.span.len g.span.len a.fault.fault there in
+    let starts : g.span.start ≡ (behind_gap s a.bytes).place = subst (λ z. g.span.start ≡ (behind_gap s z).place) gap b.fault.start_is in
     fault_is f g same.0 (a.fault.inner_is ∙ sym b.fault.inner_is) (a.fault.file_is ∙ sym b.fault.file_is) (a.fault.start_is ∙ sym starts) same.1
 
 -- two token lists of one place
@@ -134,34 +136,32 @@ pub data Step (s : Scan) : Type 0 where
   ends : Ends s → Step s
   fails : (f : Fault) → Fails s f → Step s
 
+-- a fault behind a gap
+step_fault : (s : Scan) (bytes : List ℕ) (code : StaticCode) (len : ℕ) → Gap s.rest bytes → FaultAt (behind_gap s bytes) code len → Step s
+step_fault s bytes code len gap fault =
+    fails (record { code = code; inner = None; span = record { file = s.file; start = (behind_gap s bytes).place; len = len } })
+    (record { bytes = bytes; gap = gap; fault = record { fault = fault; inner_is = refl; file_is = refl; start_is = refl } })
+
 step_taken : (s : Scan) (bytes : List ℕ) (n : ℕ) (k : TokenKind) → Gap s.rest bytes → Longest bytes n k →
-    (o : Option StaticCode) → refusal k (take n bytes) s.given ≡ o → Step s
+    (o : Option StaticCode) → refusal s.width_limit k (take n bytes) s.given ≡ o → Step s
 step_taken s bytes n k gap l None r =
-    let t : Token = record { kind = k; span = record { file = s.file; start = place_at s bytes; len = n } } in
-    yields t (record { file = s.file; place = place_at s bytes + n; rest = drop n bytes; given = s.given + 1 })
+    let t : Token = record { kind = k; span = record { file = s.file; start = (behind_gap s bytes).place; len = n } } in
+    yields t (behind_lexeme (behind_gap s bytes) n)
     (record { bytes = bytes; gap = gap; token = record { longest = l; taken = r; file_is = refl; start_is = refl }; next = refl })
-step_taken s bytes n k gap l (Some code) r =
-    fails (record { code = code; inner = None; span = record { file = s.file; start = place_at s bytes; len = n } })
-    (record { bytes = bytes; gap = gap; fault = record { fault = refused k l r; inner_is = refl; file_is = refl; start_is = refl } })
+step_taken s bytes n k gap l (Some code) r = step_fault s bytes code n gap (refused k l r)
 
 step_stray : (s : Scan) (b : ℕ) (bs : List ℕ) → Gap s.rest (b ∷ bs) → opens_block (b ∷ bs) ≡ false →
-    ((n : ℕ) (k : TokenKind) → LexemeAt (b ∷ bs) n k → ⊥) → (q : Option QuoteState) → opens_quote (b ∷ bs) ≡ q → Step s
-step_stray s b bs gap apart none None q =
-    fails (record { code = L01; inner = None; span = record { file = s.file; start = place_at s (b ∷ bs); len = 1 } })
-    (record { bytes = b ∷ bs; gap = gap; fault = record { fault = stray (omega arith) apart q none; inner_is = refl; file_is = refl; start_is = refl } })
-step_stray s b bs gap apart none (Some state) q =
-    fails (record { code = L03; inner = None; span = record { file = s.file; start = place_at s (b ∷ bs); len = 1 + quote_len state bs } })
-    (record { bytes = b ∷ bs; gap = gap; fault = record { fault = malformed apart q none; inner_is = refl; file_is = refl; start_is = refl } })
+    NoLexeme (b ∷ bs) → (q : Option QuoteState) → opens_quote (b ∷ bs) ≡ q → Step s
+step_stray s b bs gap apart none None q = step_fault s (b ∷ bs) L01 1 gap (stray (omega arith) apart q none)
+step_stray s b bs gap apart none (Some state) q = step_fault s (b ∷ bs) L03 (1 + quote_len state bs) gap (malformed apart q none)
 
 step_found : (s : Scan) (b : ℕ) (bs : List ℕ) → Gap s.rest (b ∷ bs) → opens_block (b ∷ bs) ≡ false →
-    (o : Option (ℕ × TokenKind)) → MatchOption o ((n : ℕ) (k : TokenKind) → LexemeAt (b ∷ bs) n k → ⊥) (λ r. Longest (b ∷ bs) r.0 r.1) → Step s
+    (o : Option (ℕ × TokenKind)) → MatchOption o (NoLexeme (b ∷ bs)) (λ r. Longest (b ∷ bs) r.0 r.1) → Step s
 step_found s b bs gap apart None none = step_stray s b bs gap apart none (opens_quote (b ∷ bs)) refl
 step_found s b bs gap apart (Some r) l = step_taken s (b ∷ bs) r.0 r.1 gap l _ refl
 
 step_at : (s : Scan) (bytes : List ℕ) → Gap s.rest bytes → (o : Bool) → opens_block bytes ≡ o → Step s
-step_at s bytes gap true e =
-    fails (record { code = L02; inner = None; span = record { file = s.file; start = place_at s bytes; len = length bytes } })
-    (record { bytes = bytes; gap = gap; fault = record { fault = unclosed e; inner_is = refl; file_is = refl; start_is = refl } })
+step_at s bytes gap true e = step_fault s bytes L02 (length bytes) gap (unclosed e)
 step_at s [] gap false e = ends gap
 step_at s (b ∷ bs) gap false e = step_found s b bs gap e (lexeme_of (b ∷ bs)) (lexeme_is (b ∷ bs) e)
 
@@ -208,3 +208,15 @@ one_next s x y (Ok None) (Err f) a b = absurd (fails_ends s f b.0 a.0)
 one_next s x y (Err f) (Ok (Some u)) a b = absurd (yields_fails s y u f b a.0)
 one_next s x y (Err f) (Ok None) a b = absurd (fails_ends s f a.0 b.0)
 one_next s x y (Err f) (Err g) a b = (ap (λ z. Err z) (one_fails s f g a.0 b.0), a.1 ∙ sym b.1)
+
+-- one list of tokens
+pub one_tokens : (s : Scan) (ts us : List Token) → Completes s ts → Completes s us → ts ≡ us
+one_tokens s ts us a b = one_end s a.0 b.0 ts us a.1 a.2 b.1 b.2
+
+-- one fault
+pub one_break : (s : Scan) (f g : Fault) → Breaks s f → Breaks s g → f ≡ g
+one_break s f g a b = one_fault s a.1 b.1 a.0 b.0 f g a.2 a.3 b.2 b.3
+
+-- not both
+pub never_both : (s : Scan) (ts : List Token) (f : Fault) → Completes s ts → Breaks s f → ⊥
+never_both s ts f a b = not_end_and_fault s a.0 b.1 ts b.0 f a.1 a.2 b.2 b.3

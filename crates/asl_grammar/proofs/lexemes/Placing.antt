@@ -9,9 +9,10 @@ use Rattle.asl_syn.specs.declared.token.TokenKind.{TokenKind}
 use Rattle.asl_syn.specs.declared.token.TokenKind.TheVariants as kinds
 use Rattle.asl_syn.specs.declared.code.StaticCode.TheVariants.{L04, L05}
 use Rattle.asl_grammar.specs.lexemes.Bytes.{is_blank}
-use Rattle.asl_grammar.specs.lexemes.Gaps.{after_block, after_line, skip, Skips}
+use Rattle.asl_grammar.specs.lexemes.Gaps.{after_block, after_line, after_piece, Pieces}
 use Rattle.asl_grammar.specs.lexemes.Lexemes.{IsLexeme}
-use Rattle.asl_grammar.specs.lexemes.Tokens.{Scan, scan_of, refusal, too_many, is_reserved, max_width, Yields, Front, Tokens}
+use Rattle.asl_grammar.specs.lexemes.Refusals.{refusal, too_many, is_reserved}
+use Rattle.asl_grammar.specs.lexemes.Tokens.{Scan, scan_of, Yields, Front, Tokens}
 use Rattle.asl_quote.specs.Bytes.{digit_count}
 use Rattle.asl_grammar.specs.lexemes.Texts.{HasText}
 
@@ -56,26 +57,26 @@ after_block_suffix (a ∷ b ∷ rest) left h =
 after_line_suffix : (bytes : List ℕ) → Suffix bytes (after_line bytes)
 after_line_suffix bytes = record { n = prefix_len (λ b. not (b == 10)) bytes; fits = prefix_len-le-length (λ b. not (b == 10)) bytes; is = refl }
 
-skip_cases : (a b : ℕ) (rest left : List ℕ) (x y z : Bool) →
+piece_cases : (a b : ℕ) (rest left : List ℕ) (x y z : Bool) →
     cond x (Some (b ∷ rest)) (cond y (Some (after_line rest)) (cond z (after_block rest) None)) ≡ Some left → Suffix (a ∷ b ∷ rest) left
-skip_cases a b rest left true y z h = Suffix_is (a ∷ b ∷ rest) (b ∷ rest) left (cc) (Suffix_behind a (b ∷ rest) (b ∷ rest) (Suffix_self (b ∷ rest)))
-skip_cases a b rest left false true z h =
+piece_cases a b rest left true y z h = Suffix_is (a ∷ b ∷ rest) (b ∷ rest) left (cc) (Suffix_behind a (b ∷ rest) (b ∷ rest) (Suffix_self (b ∷ rest)))
+piece_cases a b rest left false true z h =
     Suffix_is (a ∷ b ∷ rest) (after_line rest) left (cc) (Suffix_behind a (b ∷ rest) (after_line rest) (Suffix_behind b rest (after_line rest) (after_line_suffix rest)))
-skip_cases a b rest left false false true h = Suffix_behind a (b ∷ rest) left (Suffix_behind b rest left (after_block_suffix rest left h))
-skip_cases a b rest left false false false h = absurd cc
+piece_cases a b rest left false false true h = Suffix_behind a (b ∷ rest) left (Suffix_behind b rest left (after_block_suffix rest left h))
+piece_cases a b rest left false false false h = absurd cc
 
-skip_one : (a : ℕ) (left : List ℕ) (x : Bool) → cond x (Some []) None ≡ Some left → Suffix (a ∷ []) left
-skip_one a left true h = Suffix_is (a ∷ []) [] left (cc) (Suffix_behind a [] [] (Suffix_self []))
-skip_one a left false h = absurd cc
+piece_one : (a : ℕ) (left : List ℕ) (x : Bool) → cond x (Some []) None ≡ Some left → Suffix (a ∷ []) left
+piece_one a left true h = Suffix_is (a ∷ []) [] left (cc) (Suffix_behind a [] [] (Suffix_self []))
+piece_one a left false h = absurd cc
 
-skip_suffix : (bytes left : List ℕ) → skip bytes ≡ Some left → Suffix bytes left
-skip_suffix [] left h = absurd cc
-skip_suffix (a ∷ []) left h = skip_one a left (is_blank a) h
-skip_suffix (a ∷ b ∷ rest) left h = skip_cases a b rest left (is_blank a) ((a == 47) && (b == 47)) ((a == 47) && (b == 42)) h
+piece_suffix : (bytes left : List ℕ) → after_piece bytes ≡ Some left → Suffix bytes left
+piece_suffix [] left h = absurd cc
+piece_suffix (a ∷ []) left h = piece_one a left (is_blank a) h
+piece_suffix (a ∷ b ∷ rest) left h = piece_cases a b rest left (is_blank a) ((a == 47) && (b == 47)) ((a == 47) && (b == 42)) h
 
-Skips_suffix : (n : ℕ) (bytes rest : List ℕ) → Skips n bytes rest → Suffix bytes rest
-Skips_suffix zero bytes rest h = Suffix_is bytes bytes rest h (Suffix_self bytes)
-Skips_suffix (suc n) bytes rest (next, one, more) = Suffix_more bytes next rest (skip_suffix bytes next one) (Skips_suffix n next rest more)
+Pieces_suffix : (n : ℕ) (bytes rest : List ℕ) → Pieces n bytes rest → Suffix bytes rest
+Pieces_suffix zero bytes rest h = Suffix_is bytes bytes rest h (Suffix_self bytes)
+Pieces_suffix (suc n) bytes rest (next, one, more) = Suffix_more bytes next rest (piece_suffix bytes next one) (Pieces_suffix n next rest more)
 
 -- the scan stands in the bytes
 pub record Stands (bytes : List ℕ) (s : Scan) : Type 0 where
@@ -94,18 +95,18 @@ width_before : (b : Bool) (given : ℕ) → cond b (too_many given) (Some L04) �
 width_before true given h = refl
 width_before false given h = absurd cc
 
-taken_before : (k : TokenKind) (text : List ℕ) (given : ℕ) → refusal k text given ≡ None → refusal k text 0 ≡ None
-taken_before kinds.Name text given h = name_before (is_reserved text) given h
-taken_before (kinds.Int n) text given h = int_before (nat_le (2 ^ 127) n) given h
-taken_before kinds.Bits text given h = width_before (nat_le (digit_count text) max_width) given h
-taken_before kinds.Mask text given h = width_before (nat_le (digit_count text) max_width) given h
-taken_before kinds.Text text given h = refl
-taken_before (kinds.Word w) text given h = refl
-taken_before (kinds.Mark m) text given h = refl
+taken_before : (limit : ℕ) (k : TokenKind) (text : List ℕ) (given : ℕ) → refusal limit k text given ≡ None → refusal limit k text 0 ≡ None
+taken_before limit kinds.Name text given h = name_before (is_reserved text) given h
+taken_before limit (kinds.Int n) text given h = int_before (nat_le (2 ^ 127) n) given h
+taken_before limit kinds.Bits text given h = width_before (nat_le (digit_count text) limit) given h
+taken_before limit kinds.Mask text given h = width_before (nat_le (digit_count text) limit) given h
+taken_before limit kinds.Text text given h = refl
+taken_before limit (kinds.Word w) text given h = refl
+taken_before limit (kinds.Mark m) text given h = refl
 
-token_stands : (bytes : List ℕ) (s x : Scan) (t : Token) → Stands bytes s → Yields s t x → HasText s.file bytes t × Stands bytes x
+token_stands : (bytes : List ℕ) (s x : Scan) (t : Token) → Stands bytes s → Yields s t x → HasText s.width_limit s.file bytes t × Stands bytes x
 token_stands bytes s x t st y =
-    let suf = Skips_suffix y.gap.pieces s.rest y.bytes y.gap.skips in
+    let suf = Pieces_suffix y.gap.count s.rest y.bytes y.gap.pieces in
     let size : length y.bytes ≡ length s.rest - suf.n = ap length suf.is ∙ length-drop suf.n s.rest in
     let fits = suf.fits in let inside = st.fits in
     let all : length s.rest ≡ length bytes - s.place = ap length st.rest ∙ length-drop s.place bytes in
@@ -113,13 +114,13 @@ token_stands bytes s x t st y =
     let here : y.bytes ≡ drop t.span.start bytes =
     suf.is ∙ ap (drop suf.n) st.rest ∙ drop_drop_is s.place suf.n bytes ∙ ap (λ n. drop n bytes) (sym where_is) in
     let long : t.span.len ≤ length y.bytes = y.token.longest.here.fits in
-    let place : x.place ≡ t.span.start + t.span.len = ap (λ (z : Scan). z.place) y.next in
+    let place : x.place ≡ t.span.start + t.span.len = ap (λ (z : Scan). z.place) y.next ∙ ap (λ n. n + t.span.len) (sym y.token.start_is) in
     let left : x.rest ≡ drop t.span.len y.bytes = ap (λ (z : Scan). z.rest) y.next in (
       record {
         file_is = y.token.file_is;
         fits = omega arith;
         lexeme = subst (λ b. IsLexeme (take t.span.len b) t.kind) here y.token.longest.here.lexeme;
-        taken = subst (λ b. refusal t.kind (take t.span.len b) 0 ≡ None) here (taken_before t.kind (take t.span.len y.bytes) s.given y.token.taken);
+        taken = subst (λ b. refusal s.width_limit t.kind (take t.span.len b) 0 ≡ None) here (taken_before s.width_limit t.kind (take t.span.len y.bytes) s.given y.token.taken);
       },
       record {
         rest = left ∙ ap (drop t.span.len) here ∙ drop_drop_is t.span.start t.span.len bytes ∙ ap (λ n. drop n bytes) (sym place);
@@ -130,11 +131,17 @@ token_stands bytes s x t st y =
 file_same : (s x : Scan) (t : Token) → Yields s t x → x.file ≡ s.file
 file_same s x t y = ap (λ (z : Scan). z.file) y.next
 
-pub front_stands : (file : ℕ) (bytes : List ℕ) (s x : Scan) (ts : List Token) → s.file ≡ file → Stands bytes s → Front s ts x → AllByRecursion (HasText file bytes) ts
-front_stands file bytes s x [] f st fr = tt
-front_stands file bytes s x (t ∷ ts) f st (n, y, fr) =
-    let one = token_stands bytes s n t st y in
-    (subst (λ z. HasText z bytes t) f one.0, front_stands file bytes n x ts (file_same s n t y ∙ f) one.1 fr)
+limit_same : (s x : Scan) (t : Token) → Yields s t x → x.width_limit ≡ s.width_limit
+limit_same s x t y = ap (λ (z : Scan). z.width_limit) y.next
 
-pub tokens_stand : (file : ℕ) (bytes : List ℕ) (ts : List Token) → Tokens file bytes ts → AllByRecursion (HasText file bytes) ts
-tokens_stand file bytes ts (last, fr, e) = front_stands file bytes (scan_of file bytes) last ts refl (record { rest = refl; fits = omega arith }) fr
+front_stands : (limit file : ℕ) (bytes : List ℕ) (s x : Scan) (ts : List Token) → s.width_limit ≡ limit → s.file ≡ file → Stands bytes s →
+    Front s ts x → AllByRecursion (HasText limit file bytes) ts
+front_stands limit file bytes s x [] l f st fr = tt
+front_stands limit file bytes s x (t ∷ ts) l f st (n, y, fr) =
+    let one = token_stands bytes s n t st y in
+    let here : HasText limit file bytes t = subst (λ z. HasText limit z bytes t) f (subst (λ z. HasText z s.file bytes t) l one.0) in
+    (here, front_stands limit file bytes n x ts (limit_same s n t y ∙ l) (file_same s n t y ∙ f) one.1 fr)
+
+pub tokens_stand : (limit file : ℕ) (bytes : List ℕ) (ts : List Token) → Tokens limit file bytes ts → AllByRecursion (HasText limit file bytes) ts
+tokens_stand limit file bytes ts (last, fr, e) =
+    front_stands limit file bytes (scan_of limit file bytes) last ts refl refl (record { rest = refl; fits = omega arith }) fr

@@ -6,7 +6,7 @@ use Rattle.asl_syn.specs.declared.token.Mark.{Mark}
 use Rattle.asl_syn.specs.declared.token.Mark.TheVariants.{OpenParen}
 use Rattle.asl_grammar.specs.lexemes.Words.{word_spelling, word_of}
 use Rattle.asl_grammar.specs.lexemes.Marks.{mark_spelling, mark_of}
-use Rattle.asl_grammar.specs.lexemes.Heads.{head_of, mark}
+use Rattle.asl_grammar.proofs.lexemes.Heads.{head_of, mark}
 use Rattle.asl_grammar.specs.lexemes.Lexemes.{is_name}
 
 pub word_of_spelling : (w : Word) → word_of (word_spelling w) ≡ Some w

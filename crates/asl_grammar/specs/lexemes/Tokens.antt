@@ -1,94 +1,84 @@
--- The tokens of a text, or its one fault.
-use Rattle.std.specs.Prelude.{◌≡◌, ℕ, ◌+◌, ◌-◌, ◌^◌, ◌<◌, ◌==◌, Bool, true, false, ◌&&◌, List, [], ◌∷◌, Option, Some, None, Result, Ok, Err, take, drop, length, if◌then◌else◌, nat_le}
-use Rattle.asl_syn.specs.declared.token.Token.{Token}
+-- How a text is read: a gap, then the longest lexeme that begins behind it, and so on. The text has these tokens where that
+-- leads to its end. Else it has one fault, at the first place where a lexeme is refused, or none begins and the end isn't
+-- reached:
+--
+-- - L02 where a comment opens that is never closed: from its `/*` to the end of the text;
+-- - L03 at a quote that begins no literal: up to and without the first byte that can't go on, or to the end;
+-- - L01 at any other byte: the byte;
+-- - at a lexeme that is refused, that lexeme.
+use Rattle.std.specs.Prelude.{◌≡◌, ℕ, ◌+◌, ◌-◌, ◌<◌, true, false, List, [], ◌∷◌, Option, Some, None, Result, Ok, Err, take, drop, length}
 use Rattle.asl_syn.specs.declared.code.Fault.{Fault}
 use Rattle.asl_syn.specs.declared.code.StaticCode.{StaticCode}
-use Rattle.asl_syn.specs.declared.code.StaticCode.TheVariants.{L01, L02, L03, L04, L05, M03}
+use Rattle.asl_syn.specs.declared.code.StaticCode.TheVariants.{L01, L02, L03}
+use Rattle.asl_syn.specs.declared.token.Token.{Token}
 use Rattle.asl_syn.specs.declared.token.TokenKind.{TokenKind}
-use Rattle.asl_syn.specs.declared.token.TokenKind.TheVariants as kinds
 use Rattle.asl_quote.specs.declared.QuoteState.{QuoteState}
-use Rattle.asl_quote.specs.Bytes.{digit_count}
 use Rattle.asl_quote.specs.Quotes.{opens_quote, quote_len}
 use Rattle.asl_grammar.specs.lexemes.Gaps.{opens_block, Gap}
 use Rattle.asl_grammar.specs.lexemes.Lexemes.{LexemeAt, Longest}
+use Rattle.asl_grammar.specs.lexemes.Refusals.{refusal}
 
--- the most lexemes of a file
-abbrev pub max_lexemes : ℕ
-max_lexemes = 200000
-
--- the width limit
-abbrev pub max_width : ℕ
-max_width = 128
-
--- how far the reading of a file has come: the bytes that are left, where they begin, and the lexemes so far
+-- how far the reading of a file has come: the width limit, the number of the file, where the bytes that are left begin, these
+-- bytes, and how many lexemes stand before them
 pub record Scan : Type 0 where
+  pub width_limit : ℕ
   pub file : ℕ
   pub place : ℕ
   pub rest : List ℕ
   pub given : ℕ
 
 -- a file before its first byte
-abbrev pub scan_of : ℕ → List ℕ → Scan
-scan_of file bytes = record { file = file; place = 0; rest = bytes; given = 0 }
+abbrev pub scan_of : ℕ → ℕ → List ℕ → Scan
+scan_of width_limit file bytes = record { width_limit = width_limit; file = file; place = 0; rest = bytes; given = 0 }
 
-abbrev pub is_reserved : List ℕ → Bool
-is_reserved [] = false
-is_reserved (a ∷ []) = false
-is_reserved (a ∷ b ∷ rest) = (a == 95) && (b == 95)
+-- behind a gap that leaves these bytes
+abbrev pub behind_gap : Scan → List ℕ → Scan
+behind_gap scan bytes = record scan { place = scan.place + (length scan.rest - length bytes); rest = bytes }
 
-abbrev pub too_many : ℕ → Option StaticCode
-too_many given = if nat_le max_lexemes given then Some M03 else None
+-- behind a lexeme of this length
+abbrev pub behind_lexeme : Scan → ℕ → Scan
+behind_lexeme scan n = record scan { place = scan.place + n; rest = drop n scan.rest; given = scan.given + 1 }
 
--- why a lexeme is refused, where so many stand before it
-abbrev pub refusal : TokenKind → List ℕ → ℕ → Option StaticCode
-refusal kinds.Name text given = if is_reserved text then Some L05 else too_many given
-refusal (kinds.Int n) text given = if nat_le (2 ^ 127) n then Some L04 else too_many given
-refusal kinds.Bits text given = if nat_le (digit_count text) max_width then too_many given else Some L04
-refusal kinds.Mask text given = if nat_le (digit_count text) max_width then too_many given else Some L04
-refusal kinds.Text text given = too_many given
-refusal (kinds.Word w) text given = too_many given
-refusal (kinds.Mark m) text given = too_many given
+-- the token is the longest lexeme here, and isn't refused
+pub record IsTokenAt (scan : Scan) (t : Token) : Type 0 where
+  pub longest : Longest scan.rest t.span.len t.kind
+  pub taken : refusal scan.width_limit t.kind (take t.span.len scan.rest) scan.given ≡ None
+  pub file_is : t.span.file ≡ scan.file
+  pub start_is : t.span.start ≡ scan.place
 
--- where the bytes are left, before the lexeme or at it
-abbrev pub place_at : Scan → List ℕ → ℕ
-place_at scan bytes = scan.place + (length scan.rest - length bytes)
-
--- the token is the longest lexeme at this place, and isn't refused
-pub record IsTokenAt (file place : ℕ) (bytes : List ℕ) (given : ℕ) (t : Token) : Type 0 where
-  pub longest : Longest bytes t.span.len t.kind
-  pub taken : refusal t.kind (take t.span.len bytes) given ≡ None
-  pub file_is : t.span.file ≡ file
-  pub start_is : t.span.start ≡ place
-
--- a gap and a lexeme, the longest at its place, lead from old to new
+-- a gap and this token lead from old to new
 pub record Yields (old : Scan) (t : Token) (new : Scan) : Type 0 where
   pub bytes : List ℕ
   pub gap : Gap old.rest bytes
-  pub token : IsTokenAt old.file (place_at old bytes) bytes old.given t
-  pub next : new ≡ record { file = old.file; place = t.span.start + t.span.len; rest = drop t.span.len bytes; given = old.given + 1 }
+  pub token : IsTokenAt (behind_gap old bytes) t
+  pub next : new ≡ behind_lexeme (behind_gap old bytes) t.span.len
 
 -- nothing but a gap is left
 abbrev pub Ends : Scan → Type 0
 Ends scan = Gap scan.rest []
 
--- a fault stands here, of this length
-pub data FaultAt (bytes : List ℕ) (given : ℕ) : StaticCode → ℕ → Type 0 where
-  unclosed : opens_block bytes ≡ true → FaultAt bytes given L02 (length bytes)
-  malformed : {state : QuoteState} → opens_block bytes ≡ false → opens_quote bytes ≡ Some state → ((n : ℕ) (k : TokenKind) → LexemeAt bytes n k → ⊥) → FaultAt bytes given L03 (1 + quote_len state (drop 1 bytes))
-  stray : 0 < length bytes → opens_block bytes ≡ false → opens_quote bytes ≡ None → ((n : ℕ) (k : TokenKind) → LexemeAt bytes n k → ⊥) → FaultAt bytes given L01 1
-  refused : {code : StaticCode} {len : ℕ} (k : TokenKind) → Longest bytes len k → refusal k (take len bytes) given ≡ Some code → FaultAt bytes given code len
+-- no lexeme begins here
+abbrev pub NoLexeme : List ℕ → Type 0
+NoLexeme bytes = (n : ℕ) (k : TokenKind) → LexemeAt bytes n k → ⊥
 
-pub record IsFaultAt (file place : ℕ) (bytes : List ℕ) (given : ℕ) (f : Fault) : Type 0 where
-  pub fault : FaultAt bytes given f.code f.span.len
+-- a fault of this code and length stands here
+pub data FaultAt (scan : Scan) : StaticCode → ℕ → Type 0 where
+  unclosed : opens_block scan.rest ≡ true → FaultAt scan L02 (length scan.rest)
+  malformed : {state : QuoteState} → opens_block scan.rest ≡ false → opens_quote scan.rest ≡ Some state → NoLexeme scan.rest → FaultAt scan L03 (1 + quote_len state (drop 1 scan.rest))
+  stray : 0 < length scan.rest → opens_block scan.rest ≡ false → opens_quote scan.rest ≡ None → NoLexeme scan.rest → FaultAt scan L01 1
+  refused : {code : StaticCode} {len : ℕ} (k : TokenKind) → Longest scan.rest len k → refusal scan.width_limit k (take len scan.rest) scan.given ≡ Some code → FaultAt scan code len
+
+pub record IsFaultAt (scan : Scan) (f : Fault) : Type 0 where
+  pub fault : FaultAt scan f.code f.span.len
   pub inner_is : f.inner ≡ None
-  pub file_is : f.span.file ≡ file
-  pub start_is : f.span.start ≡ place
+  pub file_is : f.span.file ≡ scan.file
+  pub start_is : f.span.start ≡ scan.place
 
--- a gap leads to a fault
+-- a gap leads to this fault
 pub record Fails (old : Scan) (f : Fault) : Type 0 where
   pub bytes : List ℕ
   pub gap : Gap old.rest bytes
-  pub fault : IsFaultAt old.file (place_at old bytes) bytes old.given f
+  pub fault : IsFaultAt (behind_gap old bytes) f
 
 -- these tokens lead from old to new
 abbrev pub Front : Scan → List Token → Scan → Type 0
@@ -103,21 +93,21 @@ Completes scan ts = (last : Scan) × Front scan ts last × Ends last
 abbrev pub Breaks : Scan → Fault → Type 0
 Breaks scan f = (ts : List Token) × (last : Scan) × Front scan ts last × Fails last f
 
--- the bytes are gaps and the lexemes of these tokens, in order, each the longest at its place
-abbrev pub Tokens : ℕ → List ℕ → List Token → Type 0
-Tokens file bytes ts = Completes (scan_of file bytes) ts
+-- the tokens of a file, by the width limit, the number of the file and its bytes
+abbrev pub Tokens : ℕ → ℕ → List ℕ → List Token → Type 0
+Tokens width_limit file bytes ts = Completes (scan_of width_limit file bytes) ts
 
--- the first fault of the bytes
-abbrev pub LexFault : ℕ → List ℕ → Fault → Type 0
-LexFault file bytes f = Breaks (scan_of file bytes) f
+-- the lexical fault of a file
+abbrev pub LexFault : ℕ → ℕ → List ℕ → Fault → Type 0
+LexFault width_limit file bytes f = Breaks (scan_of width_limit file bytes) f
 
--- what the reading of a place that is no gap answers
-abbrev pub ReadGives : ℕ → ℕ → List ℕ → ℕ → Result (Option Token) Fault → Type 0
-ReadGives file place bytes given (Ok (Some t)) = IsTokenAt file place bytes given t
-ReadGives file place bytes given (Ok None) = bytes ≡ []
-ReadGives file place bytes given (Err f) = IsFaultAt file place bytes given f
+-- what is read where no gap is left: a token, the end or the fault
+abbrev pub ReadGives : Scan → Result (Option Token) Fault → Type 0
+ReadGives scan (Ok (Some t)) = IsTokenAt scan t
+ReadGives scan (Ok None) = scan.rest ≡ []
+ReadGives scan (Err f) = IsFaultAt scan f
 
--- one step of the reading: a token, the end, or the fault, after which nothing changes
+-- one step of the reading: a token, or the end or the fault, at which it stays
 abbrev pub NextGives : Scan → Result (Option Token) Fault → Scan → Type 0
 NextGives old (Ok (Some t)) new = Yields old t new
 NextGives old (Ok None) new = Ends old × (new ≡ old)

@@ -1,5 +1,5 @@
--- The scanner finds the longest lexeme.
-use Rattle.std.proofs.Common.{◌≡◌, ℕ, zero, suc, ◌+◌, ◌≤◌, ◌<◌, ◌==◌, ◌⊎◌, inl, inr, Bool, true, false, ◌&&◌, ◌||◌, List, [], ◌∷◌, Option, Some, None, length, take, drop, refl, ap, sym, ◌∙◌, subst, arith, cond, min, one-add, rules, MatchOption, find, option_and_then}
+-- What is found by the first byte is the longest lexeme; where nothing is found, none begins.
+use Rattle.std.proofs.Common.{◌≡◌, ℕ, zero, suc, ◌+◌, ◌≤◌, ◌<◌, ◌==◌, ◌⊎◌, inl, inr, Bool, true, false, ◌&&◌, ◌||◌, List, [], ◌∷◌, Option, Some, None, length, take, drop, refl, ap, sym, subst, arith, cond, min, one-add, rules, MatchOption}
 use Rattle.std.specs.Option.{option_map_or}
 use Rattle.std.proofs.lemmas.Grind.{common_steps}
 use Rattle.std.proofs.Math.Seq.{take-nil}
@@ -7,193 +7,26 @@ use Rattle.std.proofs.lemmas.List.Sums.{prefix_len-le-length}
 use Rattle.std.proofs.lemmas.List.{length-take-le, length-take, take_min}
 use Rattle.std.specs.List.{prefix_len, list_all}
 use Rattle.std.specs.Char.{is_ascii_digit}
-use Rattle.std.specs.Str.{bytes_eq}
-use Rattle.std.proofs.lemmas.Slice.Eq.{bytes_eq-Decides}
 use Rattle.asl_syn.specs.declared.token.Word.{Word}
 use Rattle.asl_syn.specs.declared.token.Mark.{Mark}
 use Rattle.asl_syn.specs.declared.token.TokenKind.{TokenKind}
 use Rattle.asl_syn.specs.declared.token.TokenKind.TheVariants as kinds
 use Rattle.asl_grammar.specs.lexemes.Bytes.{is_name_start, is_name_byte, is_decimal_byte, is_hex_digit, is_hex_byte, value_of}
-use Rattle.asl_grammar.specs.lexemes.Words.{word_spelling, word_of, words}
-use Rattle.asl_grammar.specs.lexemes.Marks.{mark_spelling, mark_of, marks}
+use Rattle.asl_grammar.specs.lexemes.Words.{word_spelling, word_of}
+use Rattle.asl_grammar.specs.lexemes.Marks.{mark_spelling, mark_of}
 use Rattle.asl_grammar.specs.lexemes.Lexemes.{is_name, is_decimal, is_hex, IsLexeme, IsQuoted, LexemeAt, Longest}
 use Rattle.asl_grammar.specs.lexemes.Scanning.{kind_of_name, opens_hex, hex_len, mark_at, or_else, lexeme_of, quoted_of, longest_mark, kind_of_quote, is_closed}
 use Rattle.asl_grammar.specs.lexemes.Gaps.{opens_block}
+use Rattle.asl_grammar.specs.lexemes.Tokens.{NoLexeme}
 use Rattle.asl_grammar.proofs.lexemes.Munch.{and_left, and_right, munch, munched}
-use Rattle.asl_grammar.proofs.lexemes.Tables.{word_of_spelling, mark_of_spelling, word_is_name, mark_head, mark_short}
-use Rattle.asl_grammar.specs.lexemes.Heads.{Head, name, number, quote, mark, head_of_byte, head_of, class_of}
+use Rattle.asl_grammar.proofs.lexemes.Tables.{word_of_spelling, mark_of_spelling, mark_short}
+use Rattle.asl_grammar.proofs.lexemes.Heads.{Head, name, number, quote, mark, head_of_byte, class_of}
 use Rattle.asl_quote.specs.declared.QuoteState.{QuoteState}
 use Rattle.asl_quote.specs.declared.QuoteState.TheVariants as at
 use Rattle.asl_quote.specs.Bytes.{is_mask}
 use Rattle.asl_quote.specs.Quotes.{opens_quote, quote_run, quote_len}
 use Rattle.asl_quote.proofs.Quoting.{quote_stops, quote_len-le}
-
-find_some_step : {X : Type 0} (p : X → Bool) (x y : X) (xs : List X) (b : Bool) → p x ≡ b →
-    (find p xs ≡ Some y → p y ≡ true) → cond b (Some x) (find p xs) ≡ Some y → p y ≡ true
-find_some_step p x y xs true e rest h = let same : x ≡ y = cc in subst (λ z. p z ≡ true) same e
-find_some_step p x y xs false e rest h = rest h
-
-pub find_some : {X : Type 0} (p : X → Bool) (xs : List X) (y : X) → find p xs ≡ Some y → p y ≡ true
-find_some p [] y h = absurd cc
-find_some p (x ∷ xs) y h = find_some_step p x y xs (p x) refl (find_some p xs y) h
-
-pub word_of_is : (text : List ℕ) (w : Word) → word_of text ≡ Some w → text ≡ word_spelling w
-unfolding word_of
-word_of_is text w h = sym ((bytes_eq-Decides (word_spelling w) text).0 (find_some (λ v. bytes_eq (word_spelling v) text) words w h))
-
-pub mark_of_is : (text : List ℕ) (m : Mark) → mark_of text ≡ Some m → text ≡ mark_spelling m
-unfolding mark_of
-mark_of_is text m h = sym ((bytes_eq-Decides (mark_spelling m) text).0 (find_some (λ v. bytes_eq (mark_spelling v) text) marks m h))
-
-pub name_start_ge : (b : ℕ) → is_name_start b ≡ true → 58 ≤ b
-name_start_ge b h = grind (arith, common_steps)
-
-pub digit_le : (b : ℕ) → is_ascii_digit b ≡ true → b ≤ 57
-digit_le b h = grind (arith, common_steps)
-
-pub digit_ge : (b : ℕ) → is_ascii_digit b ≡ true → 48 ≤ b
-digit_ge b h = grind (arith, common_steps)
-
--- what the kinds of a sort have in common
-pub name_all : (text : List ℕ) → is_name text ≡ true → list_all is_name_byte text ≡ true
-name_all [] h = refl
-name_all (b ∷ bs) h = rw (and_left (is_name_start b) _ h) (and_right (is_name_start b) _ h)
-
-pub decimal_all : (text : List ℕ) → is_decimal text ≡ true → list_all is_decimal_byte text ≡ true
-decimal_all [] h = refl
-decimal_all (b ∷ bs) h = rw (and_left (is_ascii_digit b) _ h) (and_right (is_ascii_digit b) _ h)
-
-hex_digit_head : (a : ℕ) (rest : List ℕ) → is_hex (a ∷ rest) ≡ true → is_ascii_digit a ≡ true
-hex_digit_head a (b ∷ c ∷ rest) h = grind (arith, common_steps)
-hex_digit_head a (b ∷ []) h = absurd cc
-hex_digit_head a [] h = absurd cc
-
-name_class : (text : List ℕ) (k : TokenKind) → class_of k ≡ name → IsLexeme text k → is_name text ≡ true
-name_class text kinds.Name e h = h.0
-name_class text (kinds.Word w) e h = rw h (word_is_name w)
-name_class text _ e h = absurd cc
-
-number_class : (text : List ℕ) (k : TokenKind) → class_of k ≡ number → IsLexeme text k → (is_decimal text ≡ true) ⊎ (is_hex text ≡ true)
-number_class text (kinds.Int n) e (inl h) = inl h.0
-number_class text (kinds.Int n) e (inr h) = inr h.0
-number_class text kinds.Name e h = absurd cc
-number_class text kinds.Bits e h = absurd cc
-number_class text kinds.Mask e h = absurd cc
-number_class text kinds.Text e h = absurd cc
-number_class text (kinds.Word w) e h = absurd cc
-number_class text (kinds.Mark m) e h = absurd cc
-
-quote_class : (text : List ℕ) (k : TokenKind) → class_of k ≡ quote → IsLexeme text k → (state : QuoteState) × IsQuoted state text
-quote_class text kinds.Bits e h = (at.Bits, h.0)
-quote_class text kinds.Mask e h = (at.Bits, h.0)
-quote_class text kinds.Text e h = (at.Text, h)
-quote_class text _ e h = absurd cc
-
-mark_class : (text : List ℕ) (k : TokenKind) → class_of k ≡ mark → IsLexeme text k → (m : Mark) × (text ≡ mark_spelling m)
-mark_class text (kinds.Mark m) e h = (m, h)
-mark_class text _ e h = absurd cc
-
--- the first byte says the sort
-not_start : (b : ℕ) (s : Bool) → is_name_start b ≡ s → b ≤ 57 → s ≡ false
-not_start b false e h = refl
-not_start b true e h = absurd (let low = name_start_ge b e in omega arith)
-
-quote_cases : (b : ℕ) (state : QuoteState) (x y : Bool) → (b == 39) ≡ x → (b == 34) ≡ y →
-    cond x (Some at.Bits) (cond y (Some at.Text) None) ≡ Some state → head_of_byte b ≡ quote
-quote_cases b state true y ex ey h = let e : b ≡ 39 = search rules in rw e refl
-quote_cases b state false true ex ey h = let e : b ≡ 34 = search rules in rw e refl
-quote_cases b state false false ex ey h = absurd cc
-
-digit_head : (b : ℕ) → is_ascii_digit b ≡ true → head_of_byte b ≡ number
-digit_head b d = let low = digit_le b d in let n : is_name_start b ≡ false = not_start b (is_name_start b) refl low in rw (n, d) refl
-
-quote_head : (b : ℕ) (bs : List ℕ) (state : QuoteState) → opens_quote (b ∷ bs) ≡ Some state → head_of_byte b ≡ quote
-quote_head b bs state h = quote_cases b state (b == 39) (b == 34) refl refl h
-
-name_head : (text : List ℕ) → is_name text ≡ true → head_of text ≡ Some name
-name_head [] h = absurd cc
-name_head (b ∷ bs) h = rw (and_left (is_name_start b) _ h) refl
-
-decimal_head : (text : List ℕ) → is_decimal text ≡ true → head_of text ≡ Some number
-decimal_head [] h = absurd cc
-decimal_head (b ∷ bs) h = ap Some (digit_head b (and_left (is_ascii_digit b) _ h))
-
-hex_head : (text : List ℕ) → is_hex text ≡ true → head_of text ≡ Some number
-hex_head [] h = absurd cc
-hex_head (b ∷ bs) h = ap Some (digit_head b (hex_digit_head b bs h))
-
-quoted_head : (text : List ℕ) (state : QuoteState) → IsQuoted state text → head_of text ≡ Some quote
-quoted_head [] state h = absurd h
-quoted_head (b ∷ bs) state h = ap Some (quote_head b bs state h.0)
-
-in_class : (text : List ℕ) (k : TokenKind) → IsLexeme text k → head_of text ≡ Some (class_of k)
-in_class text kinds.Name h = name_head text h.0
-in_class text (kinds.Int n) (inl h) = decimal_head text h.0
-in_class text (kinds.Int n) (inr h) = hex_head text h.0
-in_class text kinds.Bits h = quoted_head text at.Bits h.0
-in_class text kinds.Mask h = quoted_head text at.Bits h.0
-in_class text kinds.Text h = quoted_head text at.Text h
-in_class text (kinds.Word w) h = name_head text (rw h (word_is_name w))
-in_class text (kinds.Mark m) h = rw h (mark_head m)
-
--- no lexeme is empty
-pub not_empty : (k : TokenKind) → IsLexeme [] k → ⊥
-not_empty k h = let e : None ≡ Some (class_of k) = in_class [] k h in cc
-
--- the kind of a text of this sort
-kind_in : Head → List ℕ → Option TokenKind
-kind_in name text = Some (kind_of_name text)
-kind_in number text = Some (cond (opens_hex text) (kinds.Int (value_of 16 (drop 2 text))) (kinds.Int (value_of 10 text)))
-kind_in quote text = option_map_or (λ state. Some (kind_of_quote state text)) (opens_quote text) None
-kind_in mark text = option_map_or (λ m. Some (kinds.Mark m)) (mark_of text) None
-
-no_word : (text : List ℕ) (o : Option Word) → word_of text ≡ o → ((w : Word) → text ≡ word_spelling w → ⊥) → o ≡ None
-no_word text None e h = refl
-no_word text (Some w) e h = absurd (h w (word_of_is text w e))
-
-hex_opens : (text : List ℕ) → is_hex text ≡ true → opens_hex text ≡ true
-hex_opens (a ∷ b ∷ c ∷ rest) h = and_left ((a == 48) && (b == 120) && is_hex_digit c) _ h
-hex_opens (a ∷ b ∷ []) h = absurd cc
-hex_opens (a ∷ []) h = absurd cc
-hex_opens [] h = absurd cc
-
-decimal_opens : (text : List ℕ) (o : Bool) → opens_hex text ≡ o → is_decimal text ≡ true → o ≡ false
-decimal_opens text false e h = refl
-decimal_opens (a ∷ b ∷ c ∷ rest) true e h = absurd (grind (arith, common_steps))
-decimal_opens (a ∷ b ∷ []) true e h = absurd cc
-decimal_opens (a ∷ []) true e h = absurd cc
-decimal_opens [] true e h = absurd cc
-
-quoted_opens : (text : List ℕ) (state : QuoteState) → IsQuoted state text → opens_quote text ≡ Some state
-quoted_opens [] state h = absurd h
-quoted_opens (b ∷ bs) state h = h.0
-
-kind_is : (text : List ℕ) (k : TokenKind) → IsLexeme text k → kind_in (class_of k) text ≡ Some k
-unfolding kind_in
-kind_is text kinds.Name h = let e = no_word text (word_of text) refl h.1 in rw e refl
-kind_is text (kinds.Int n) (inl h) = let e = decimal_opens text (opens_hex text) refl h.0 in let v = h.1 in rw e cc
-kind_is text (kinds.Int n) (inr h) = let e = hex_opens text h.0 in let v = h.1 in rw e cc
-kind_is text kinds.Bits h = let e = quoted_opens text at.Bits h.0 in let m = h.1 in rw (e, m) refl
-kind_is text kinds.Mask h = let e = quoted_opens text at.Bits h.0 in let m = h.1 in rw (e, m) refl
-kind_is text kinds.Text h = let e = quoted_opens text at.Text h in rw e refl
-kind_is text (kinds.Word w) h = let e : word_of text ≡ Some w = ap word_of h ∙ word_of_spelling w in rw e refl
-kind_is text (kinds.Mark m) h = let e : mark_of text ≡ Some m = ap mark_of h ∙ mark_of_spelling m in rw e refl
-
--- one text has one kind
-pub one_kind : (text : List ℕ) (j k : TokenKind) → IsLexeme text j → IsLexeme text k → j ≡ k
-one_kind text j k a b =
-    let c = in_class text j a in let d = in_class text k b in
-    let e = kind_is text j a in let f = kind_is text k b in
-    let same : class_of j ≡ class_of k = cc in
-    let g : kind_in (class_of j) text ≡ kind_in (class_of k) text = ap (λ z. kind_in z text) same in cc
-
--- one place has one longest lexeme
-pub one_longest : (bytes : List ℕ) (m n : ℕ) (j k : TokenKind) → Longest bytes m j → Longest bytes n k → (m ≡ n) × (j ≡ k)
-one_longest bytes m n j k a b =
-    let up : m ≤ n = b.longest m j a.here in
-    let down : n ≤ m = a.longest n k b.here in
-    let same : m ≡ n = omega arith in
-    (same, one_kind (take n bytes) j k (subst (λ z. IsLexeme (take z bytes) j) same a.here.lexeme) b.here.lexeme)
+use Rattle.asl_grammar.proofs.lexemes.OneLexeme.{word_of_is, mark_of_is, name_all, decimal_all, name_class, number_class, quote_class, mark_class, digit_head, quote_head, in_class, not_empty}
 
 -- no lexeme is longer than what the scanner finds: by the sort of the first byte
 sort_at : (b : ℕ) (bs : List ℕ) (m : ℕ) (k : TokenKind) (h : Head) → head_of_byte b ≡ h → IsLexeme (take m (b ∷ bs)) k → class_of k ≡ h
@@ -285,8 +118,8 @@ quoted_kind : (b : ℕ) (bs text : List ℕ) (state : QuoteState) → opens_quot
 quoted_kind b bs text state o h = by_state text state (no_such b 0 0 state (b == 39) (b == 34) o) h
 
 -- what the scanner finds is the longest lexeme, and where it finds none there is none
-abbrev FoundAt : List ℕ → Option (ℕ × TokenKind) → Type 0
-FoundAt bytes found = MatchOption found ((n : ℕ) (k : TokenKind) → LexemeAt bytes n k → ⊥) (λ r. Longest bytes r.0 r.1)
+abbrev pub FoundAt : List ℕ → Option (ℕ × TokenKind) → Type 0
+FoundAt bytes found = MatchOption found (NoLexeme bytes) (λ r. Longest bytes r.0 r.1)
 
 name_kind : (text : List ℕ) (o : Option Word) → word_of text ≡ o → is_name text ≡ true → IsLexeme text (kind_of_name text)
 name_kind text (Some w) e h = rw e (word_of_is text w e)
@@ -434,8 +267,7 @@ found_cases b bs apart false true true es ed eo = found_hex b bs apart ed eo
 found_cases b bs apart false true false es ed eo = found_decimal b bs apart ed eo
 found_cases b bs apart false false o es ed eo = found_other b bs apart es ed (opens_quote (b ∷ bs)) refl
 
-pub lexeme_is : (bytes : List ℕ) → opens_block bytes ≡ false →
-    MatchOption (lexeme_of bytes) ((n : ℕ) (k : TokenKind) → LexemeAt bytes n k → ⊥) (λ r. Longest bytes r.0 r.1)
+pub lexeme_is : (bytes : List ℕ) → opens_block bytes ≡ false → FoundAt bytes (lexeme_of bytes)
 unfolding lexeme_of
 lexeme_is [] apart = λ n k h. not_empty k (let e : take n [] ≡ [] = take-nil n in subst (λ t. IsLexeme t k) e h.lexeme)
 lexeme_is (b ∷ bs) apart = found_cases b bs apart _ _ _ refl refl refl
