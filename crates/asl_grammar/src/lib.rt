@@ -1,0 +1,4 @@
+//! The lexemes and the grammar of the language: their definitions, which contracts cite, and the laws of these.
+#![tactic(auto)]
+
+pub mod reading;
