@@ -11,15 +11,16 @@ mod monomial;
 mod poly;
 mod term;
 mod terms;
+#[cfg(test)]
+mod tests;
 
 ghost use Rattle.std.specs.Prelude.{◌≢◌, ℕ, ℤ};
 ghost use Rattle.asl_poly.specs.Terms.{Polynomial};
 ghost use Rattle.asl_poly.specs.Poly.{IsPolynomial, SameAt};
 
+pub use poly::Poly;
 use std::alloc::AllocError;
 use std::marker::Model;
-
-pub use poly::Poly;
 
 /// An unknown integer, by its number.
 #[derive(Clone, Copy, Debug, PartialEq, Eq)]

@@ -11,7 +11,9 @@ use std::alloc::{AllocError, Global};
 
 // The greatest weight of a polynomial, the greatest degree of a term, and the most atoms of a polynomial.
 pub(crate) const HEAVIEST: u128 = 1 << 62;
+
 pub(crate) const HIGHEST: usize = 4;
+
 pub(crate) const MOST_ATOMS: usize = 8;
 
 // The sum of the absolute coefficients.

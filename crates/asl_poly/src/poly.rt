@@ -6,8 +6,8 @@ ghost use Rattle.std.specs.Prelude.{◌≡◌, ◌≤◌, ◌↔◌, ℤ, IsTrue
 ghost use Rattle.asl_poly.specs.Poly.{IsPolynomial, Same, IsConstant, IsOffset, IsSum, IsDifference, IsProduct, IsSubstituted, ConstantFits, SumFits, ProductFits, SubstituteFits, constant_map, atom_map, sum_map, difference_map, product_map, substitute_map, constant_value, Gives};
 
 use crate::constant::{constant_of, offset_of};
-use crate::limits::{product_fits, sum_fits, HEAVIEST};
-use crate::term::{atom_term, constant_term, Term};
+use crate::limits::{HEAVIEST, product_fits, sum_fits};
+use crate::term::{Term, atom_term, constant_term};
 use crate::terms::{add_scaled, copied, equal_terms, multiplied, single};
 use crate::{Atom, PolyRefused};
 use std::alloc::{AllocError, Global};

@@ -7,7 +7,7 @@ ghost use Rattle.asl_poly.specs.Operations.{insert, joined, Found, gather, scale
 
 use crate::Atom;
 use crate::monomial::{compare, equal_atoms};
-use crate::term::{copy_term, product, Term};
+use crate::term::{Term, copy_term, product};
 use std::alloc::{AllocError, Global};
 use std::cmp::Ordering;
 

@@ -11,9 +11,9 @@ ghost use Rattle.asl_poly.specs.Substitute.{map_at, AllMaps, factors_weight, rep
 ghost use Rattle.asl_poly.specs.Poly.{SubstituteFits};
 
 use crate::Atom;
-use crate::limits::{degree, note_terms, weight, HEAVIEST, HIGHEST, MOST_ATOMS};
+use crate::limits::{HEAVIEST, HIGHEST, MOST_ATOMS, degree, note_terms, weight};
 use crate::poly::Poly;
-use crate::term::{atom_term, constant_term, Term};
+use crate::term::{Term, atom_term, constant_term};
 use crate::terms::{add_scaled, copied, multiplied, single};
 use std::alloc::{AllocError, Global};
 
@@ -213,7 +213,11 @@ fn add_replaced(
 }
 
 // The terms with all their atoms replaced at once.
-pub(crate) fn replaced(alloc: Global, by: &[(Atom, Poly)], p: &[Term]) -> Result<Vec<Term>, AllocError>
+pub(crate) fn replaced(
+    alloc: Global,
+    by: &[(Atom, Poly)],
+    p: &[Term],
+) -> Result<Vec<Term>, AllocError>
     requires maps { AllMaps by.now }
     requires light { replaced_weight by.now p.now ≤ 2 ^ 62 }
     ensures { IfOk result (λ v. v.items ≡ replaced by.now [] p.now) }
@@ -225,7 +229,11 @@ pub(crate) fn replaced(alloc: Global, by: &[(Atom, Poly)], p: &[Term]) -> Result
     Ok(terms)
 }
 
-pub(crate) fn substitute_fits(alloc: Global, by: &[(Atom, Poly)], p: &[Term]) -> Result<bool, AllocError>
+pub(crate) fn substitute_fits(
+    alloc: Global,
+    by: &[(Atom, Poly)],
+    p: &[Term],
+) -> Result<bool, AllocError>
     requires maps { AllMaps by.now }
     requires light { weight p.now ≤ 2 ^ 62 }
     requires low { degree p.now ≤ 4 }
