@@ -1,1 +1,5 @@
+<<<<<<< HEAD
 pub mod lexemes
+=======
+pub mod grammar
+>>>>>>> h-grammar
