@@ -2,4 +2,8 @@
 #![tactic(auto)]
 
 pub mod entry;
+<<<<<<< HEAD
 pub mod law;
+=======
+pub mod served;
+>>>>>>> h-check
