@@ -1,5 +1,2 @@
-<<<<<<< HEAD
 pub mod lexemes
-=======
 pub mod grammar
->>>>>>> h-grammar

@@ -2,8 +2,5 @@
 #![tactic(auto)]
 
 pub mod entry;
-<<<<<<< HEAD
 pub mod law;
-=======
 pub mod served;
->>>>>>> h-check
