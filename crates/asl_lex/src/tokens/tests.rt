@@ -1,3 +1,5 @@
+ghost use Rattle.std.specs.Prelude.{◌≤◌, length, IfOk, vec_len};
+
 use super::*;
 use asl_syn::code::{Fault, StaticCode};
 use asl_syn::place::MAX_BYTES;
@@ -158,7 +160,10 @@ fn refuses_one_lexeme_more(rt: HostRuntime) -> Result<(), Fail> {
     Ok(())
 }
 
-fn source(alloc: Global, bytes: &[u8]) -> Result<Source, AllocError> {
+fn source(alloc: Global, bytes: &[u8]) -> Result<Source, AllocError>
+    requires { length bytes.now ≤ 1048576 }
+    ensures { IfOk result (λ source. vec_len source.bytes ≤ 1048576) }
+{
     Ok(Source {
         name: String::new(alloc),
         bytes: Vec::from_slice(alloc, bytes)?,
@@ -173,7 +178,6 @@ fn reads_all_files(rt: HostRuntime) -> Result<(), Fail> {
         source(alloc, b"")?,
         source(alloc, b" bc")?,
     ];
-    assert!(rt; files.iter().all(|file| file.bytes.len() <= MAX_BYTES));
     let tokens = tokens_of_all(alloc, &files)?;
     assert_eq!(rt; tokens.len(), 3);
     let last = tokens.get(2).ok_or("no file")?.get(0).ok_or("no token")?;
