@@ -1,5 +1,5 @@
 -- What the scanner finds is the longest lexeme.
-use Rattle.std.proofs.Common.{◌≡◌, ℕ, ◌+◌, Bool, true, false, List, Option, Some, None, MatchOption, refl, subst, take, drop, cond}
+use Rattle.std.proofs.Common.{◌≡◌, ℕ, ◌+◌, Bool, true, false, List, Option, Some, None, refl, subst, take, drop, cond}
 use Rattle.asl_quote.specs.declared.QuoteState.{QuoteState}
 use Rattle.asl_quote.specs.declared.QuoteState.TheVariants as at
 use Rattle.asl_quote.specs.Bytes.{is_mask}

@@ -1,4 +1,4 @@
-use Rattle.std.proofs.Common.{sym, rules}
+use Rattle.std.proofs.Common.{rules}
 use Rattle.asl_lex.proofs.Faults.{unclosed_here, large_here, refused_here}
 use Rattle.asl_lex.proofs.lexer.Lexer.read.Goals as goal
 

@@ -1,4 +1,4 @@
-use Rattle.std.proofs.Common.{ℕ, ◌≤◌, [], ◌∷◌, All, vec_len}
+use Rattle.std.proofs.Common.{◌≤◌, [], ◌∷◌, All, vec_len}
 use Rattle.std.proofs.lemmas.List.Elements.{All-cons, All-nil}
 use Rattle.asl_syn.specs.declared.place.Source.{Source}
 use Rattle.asl_lex.proofs.tokens.tests.reads_all_files.Goals as goal
