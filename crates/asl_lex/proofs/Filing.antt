@@ -1,11 +1,14 @@
 -- One more file.
-use Rattle.std.proofs.Common.{◌≡◌, ℕ, suc, ◌+◌, ◌<◌, List, [], ◌∷◌, ◌++◌, length, take, drop, get_or, map, sym, ◌∙◌, ap, subst, arith}
+use Rattle.std.proofs.Common.{◌≡◌, ℕ, suc, ◌+◌, ◌<◌, List, [], ◌∷◌, ◌++◌, length, take, drop, get_or, map, sym, ◌∙◌, ap, subst, arith, Result, Ok, Err}
 use Rattle.std.proofs.lemmas.List.{length-map, length-take-le, take_more, take-append-drop}
 use Rattle.std.proofs.Math.ListN.{get_or-map}
 use Rattle.std.proofs.Math.Seq.{drop-cons}
 use Rattle.asl_syn.specs.declared.place.Source.{Source}
 use Rattle.asl_syn.specs.declared.token.Token.{Token}
+use Rattle.std.specs.Prelude.{IsErrAnd}
 use Rattle.asl_syn.specs.declared.code.Fault.{Fault}
+use Rattle.asl_syn.specs.declared.code.Refused.{Refused}
+use Rattle.asl_syn.specs.declared.code.Refused.TheVariants.{At}
 use Rattle.asl_grammar.specs.lexemes.Refusals.{max_width}
 use Rattle.asl_grammar.specs.lexemes.Tokens.{Tokens, LexFault}
 use Rattle.asl_grammar.specs.lexemes.Files.{AllTokens, FirstLexFault}
@@ -40,3 +43,8 @@ module _ (files : List Source) (i : ℕ) (s : Source) (tss : List (List Token)) 
       ap (λ b. take i xs ++ b ∷ drop (suc i) xs) (sym here) ∙ ap (λ d. take i xs ++ d) (sym e) ∙ take-append-drop i xs in
       subst (λ z. FirstLexFault max_width 0 z f) g
       (fault_behind max_width 0 (take i xs) (drop (suc i) xs) tss (bytes_of s) f before (subst (λ n. LexFault max_width n (bytes_of s) f) count l))
+
+-- a refusal that is handed on by `?`
+pub handed_on : {A : Type 0} (r : Result A Refused) (x : Refused) (f : Fault) → IsErrAnd r (λ e. e ≡ x) → r ≡ Err (At f) → x ≡ At f
+handed_on (Ok a) x f same is = absurd same
+handed_on (Err e) x f same is = let g : e ≡ At f = cc in sym same ∙ g

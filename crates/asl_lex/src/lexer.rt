@@ -65,7 +65,7 @@ fn refusal(kind: TokenKind, text: &[u8], given: u32) -> Option<StaticCode>
 }
 
 /// Reads the tokens of a file one by one.
-#[derive(Drop)]
+#[derive(Debug, Drop)]
 pub struct Lexer<'a> {
     file: u32,
     place: u32,

@@ -1,6 +1,7 @@
 // The tokens of files, and the texts of tokens.
 
 ghost use Rattle.std.specs.Prelude.{◌≡◌, ◌≤◌, ◌+◌, length, IfOk, Err, All, map, vec_len};
+ghost use Rattle.asl_syn.specs.Place.{IsPlaced};
 ghost use Rattle.asl_syn.specs.declared.code.Fault.{Fault};
 ghost use Rattle.asl_syn.specs.declared.code.Refused.TheVariants.{At};
 ghost use Rattle.asl_grammar.specs.lexemes.Refusals.{max_width};
@@ -33,19 +34,18 @@ pub fn tokens_of(alloc: Global, file: u32, bytes: &[u8]) -> Result<Vec<Token>, R
     }
 }
 
-/// The tokens of each file, or the fault of the first file that has one.
+/// The tokens of each file, or the fault of the first file that has one. The fault has a line and a column there.
 pub fn tokens_of_all(alloc: Global, files: &[Source]) -> Result<Vec<Vec<Token>>, Refused>
     requires few { length files.now ≤ 64 }
     requires small { All (λ s. vec_len s.bytes ≤ 1048576) files.now }
     ensures tokens { IfOk result (λ v. AllTokens max_width 0 (map (λ s. s.bytes.items) files.now) (map (λ ts. ts.items) v.items)) }
     ensures fault { (f : Fault) → result ≡ Err (At f) → FirstLexFault max_width 0 (map (λ s. s.bytes.items) files.now) f }
+    ensures placed { (f : Fault) → result ≡ Err (At f) → IsPlaced files.now f.span }
 {
     let mut all = Vec::new(alloc);
     for (number, source) in files.iter().enumerate() {
-        match tokens_of(alloc, number as u32, source.bytes.as_slice()) {
-            Ok(tokens) => all.push(tokens)?,
-            Err(refused) => return Err(refused),
-        }
+        let tokens = tokens_of(alloc, number as u32, source.bytes.as_slice())?;
+        all.push(tokens)?;
     }
     Ok(all)
 }
