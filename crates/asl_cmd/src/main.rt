@@ -35,3 +35,6 @@ fn main(rt: HostRuntime) -> ExitCode {
     let status = run_host(&rt).unwrap_or(Status::NoMemory);
     ExitCode::from(status.code())
 }
+
+#[cfg(test)]
+mod tests;

@@ -13,16 +13,16 @@ use std::alloc::{AllocError, Global};
 /// The greatest piece that the sink takes, in bytes.
 const PIECE: usize = 4096;
 
-/// Does what the words ask for over files in memory, into a sink with room for more than the report's text: that text
-/// is written and its status answered, or memory was wanting.
+/// Does what the words ask for over files in memory, into a sink with so much room. Where that is more than the report's
+/// text needs, the text is written and its status answered, or memory was wanting.
 pub fn asl_in_memory(
     alloc: Global,
     words: &[String],
     held: Vec<(String, Vec<u8>)>,
     room: usize,
 ) -> Result<(MemSink, Status), AllocError>
-    requires { length (report_of (line_of (map string_bytes words.now)) (held_of held.items)).text < room }
-    ensures { IfOk result (λ r. (r.1 ≡ Status.NoMemory) ⊎ (let report = report_of (line_of (map string_bytes words.now)) (held_of held.items) in
+    ensures { IfOk result (λ r. length (report_of (line_of (map string_bytes words.now)) (held_of held.items)).text < room
+        → (r.1 ≡ Status.NoMemory) ⊎ (let report = report_of (line_of (map string_bytes words.now)) (held_of held.items) in
         (⟦<MemSink as Sink>⟧.written r.0 ≡ Some report.text) × (code_of r.1 ≡ report.status))) }
 {
     let mut files = SureFiles::new(held);
