@@ -14,3 +14,6 @@ mod types;
 
 pub use program::check;
 pub use stmts::falls_through;
+
+#[cfg(test)]
+mod tests;

@@ -68,11 +68,7 @@ fn may_share(standing: Option<bool>, is_subprogram: bool) -> bool
 }
 
 /// One more name: T01 at it where it is taken.
-fn declare<'a>(
-    names: &mut Names<'a>,
-    name: &'a Ident,
-    is_subprogram: bool,
-) -> Result<(), Refused>
+fn declare<'a>(names: &mut Names<'a>, name: &'a Ident, is_subprogram: bool) -> Result<(), Refused>
     ensures { Met (λ _. names.new) result (after_name names.old name.now is_subprogram) }
 {
     let text = name.text.as_slice();
