@@ -12,5 +12,8 @@ pub mod Cuts
 pub mod Evaluation
 pub mod Belonging
 pub mod Machines
+pub mod Visits
+pub mod Soundness
+pub mod OneRun
 pub mod Texts
 pub mod Report

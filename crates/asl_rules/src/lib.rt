@@ -2,3 +2,4 @@
 #![tactic(auto)]
 
 pub mod entry;
+pub mod law;
