@@ -3,7 +3,7 @@ use Rattle.std.proofs.Common.{◌≡◌, ℕ, zero, suc, ◌+◌, ◌-◌, ◌==
 use Rattle.std.proofs.lemmas.Bool.{cases_eq}
 use Rattle.std.proofs.lemmas.Bool.Decides.{nat_tests}
 use Rattle.asl_rules.specs.Told.{appended, Begins, Part}
-use Rattle.asl_rules.specs.Plans.{Core, Meter, End, Faulted, Outcome, Done, Thrown, Halt, final, Plan, Ret, Raise, Stop, Eval, Exec, Put, Within, Meaning, handle, run, enter, Nodes, meanings}
+use Rattle.asl_rules.specs.Plans.{Core, Meter, End, Faulted, Outcome, Done, Thrown, Halt, final, Plan, Ret, Raise, Stop, Eval, Exec, Put, Within, Meaning, handle, run, wrote, enter, Nodes, meanings}
 use Rattle.asl_syn.specs.declared.code.DynCode.TheVariants.{D12, D13}
 use Rattle.asl_syn.specs.declared.token.Span.{Span}
 use Rattle.asl_rules.specs.Values.{Value}
@@ -41,7 +41,7 @@ self h = record { steps = omega arith; told = same_text h.told }
 pub on : {h u w : Meter} → After h u → After u w → After h w
 on a b = record { steps = omega (arith, a.steps, b.steps); told = longer a.told b.told }
 
-pub put_after : (h : Meter) (bytes : List ℕ) → After h (record h { told = appended h.told bytes })
+pub put_after : (h : Meter) (bytes : List ℕ) → After h (wrote h bytes)
 put_after h bytes = record { steps = omega arith; told = record { rest = bytes; is = refl } }
 
 pub step_after : (h : Meter) → After h (record h { steps = h.steps - 1 })
@@ -65,7 +65,7 @@ run_after m w (Raise x c) h = self h
 run_after m w (Stop e c) h = self h
 run_after m w {A = A} (Eval e c k) h = handle_after (m.expr e c h) (λ x c1 h1. run m (k x c1) h1) Thrown (w.expr e c h) (λ x c1 h1. run_after m w (k x c1) h1) (thrown_after A)
 run_after m w {A = A} (Exec t c k) h = handle_after (m.stmt t c h) (λ x c1 h1. run m (k x c1) h1) Thrown (w.stmt t c h) (λ x c1 h1. run_after m w (k x c1) h1) (thrown_after A)
-run_after m w (Put bytes q) h = on (put_after h bytes) (run_after m w q (record h { told = appended h.told bytes }))
+run_after m w (Put bytes q) h = on (put_after h bytes) (run_after m w q (wrote h bytes))
 run_after m w (Within q f g) h = handle_after (run m q h) (λ x c1 h1. run m (f x c1) h1) (λ x c1 h1. run m (g x c1) h1) (run_after m w q h) (λ x c1 h1. run_after m w (f x c1) h1) (λ x c1 h1. run_after m w (g x c1) h1)
 
 if_after : {A : Type 0} {h : Meter} (b : Bool) (r s : Outcome A) → After h (final r) → After h (final s) → After h (final (cond b r s))
@@ -154,7 +154,7 @@ run_low m w l (Raise x c) j h = inl refl
 run_low m w l (Stop e c) j h = inl refl
 run_low m w l {A = A} (Eval e c k) j h = low_handle j (m.expr e c (plus j h)) (m.expr e c h) (λ x c1 h1. run m (k x c1) h1) Thrown (l.expr e c j h) (λ x c1 h1. run_low m w l (k x c1) j h1) (thrown_low A j) (λ x c1 h1. run_after m w (k x c1) h1) (thrown_after A)
 run_low m w l {A = A} (Exec t c k) j h = low_handle j (m.stmt t c (plus j h)) (m.stmt t c h) (λ x c1 h1. run m (k x c1) h1) Thrown (l.stmt t c j h) (λ x c1 h1. run_low m w l (k x c1) j h1) (thrown_low A j) (λ x c1 h1. run_after m w (k x c1) h1) (thrown_after A)
-run_low m w l (Put bytes q) j h = run_low m w l q j (record h { told = appended h.told bytes })
+run_low m w l (Put bytes q) j h = run_low m w l q j (wrote h bytes)
 run_low m w l (Within q f g) j h = low_handle j (run m q (plus j h)) (run m q h) (λ x c1 h1. run m (f x c1) h1) (λ x c1 h1. run m (g x c1) h1) (run_low m w l q j h) (λ x c1 h1. run_low m w l (f x c1) j h1) (λ x c1 h1. run_low m w l (g x c1) j h1) (λ x c1 h1. run_after m w (f x c1) h1) (λ x c1 h1. run_after m w (g x c1) h1)
 
 -- the entry

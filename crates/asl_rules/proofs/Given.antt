@@ -1,8 +1,8 @@
 -- A run that was given up stands between two runs with fewer steps. By the shape of programs alone.
 use Rattle.std.proofs.Common.{◌≡◌, ℕ, zero, suc, ◌+◌, ◌-◌, ◌==◌, ◌<◌, false, ◌⊎◌, inl, inr, sym, ap, subst, arith}
 use Rattle.std.proofs.lemmas.Bool.{cases_eq}
-use Rattle.asl_rules.specs.Told.{appended, Begins}
-use Rattle.asl_rules.specs.Plans.{Core, Meter, Faulted, Outcome, Done, Thrown, Halt, final, Plan, Ret, Raise, Stop, Eval, Exec, Put, Within, Meaning, handle, run, enter, Nodes, meanings}
+use Rattle.asl_rules.specs.Told.{Begins}
+use Rattle.asl_rules.specs.Plans.{Core, Meter, Faulted, Outcome, Done, Thrown, Halt, final, Plan, Ret, Raise, Stop, Eval, Exec, Put, Within, Meaning, handle, run, wrote, enter, Nodes, meanings}
 use Rattle.asl_rules.specs.Cuts.{Cutting, rest, within, cuts, cuttings, entered}
 use Rattle.asl_syn.specs.declared.code.DynCode.TheVariants.{D13}
 use Rattle.asl_syn.specs.declared.token.Span.{Span}
@@ -41,7 +41,7 @@ within_after m z v (Eval e c k) h u (inr w) = rest_after h u (m.expr e c h) (λ 
 within_after m z v (Exec t c k) h u (inl w) = v.stmt_after t c h u w
 within_after m z v (Exec t c k) h u (inr w) = rest_after h u (m.stmt t c h) (λ x c1 h1. cuts m z (k x c1) h1 u) (λ x c1 h1. ⊥) (v.grows.stmt t c h) (λ x c1 h1. here_or h1 u (within_after m z v (k x c1) h1 u)) (never u) w
 within_after m z v (Put bytes q) h u (inl w) = record { steps = omega (arith, w.0); told = taken_after h.told u.told bytes w.1 }
-within_after m z v (Put bytes q) h u (inr w) = on (put_after h bytes) (within_after m z v q (record h { told = appended h.told bytes }) u w)
+within_after m z v (Put bytes q) h u (inr w) = on (put_after h bytes) (within_after m z v q (wrote h bytes) u w)
 within_after m z v (Within q f g) h u (inl w) = within_after m z v q h u w
 within_after m z v (Within q f g) h u (inr w) = rest_after h u (run m q h) (λ x c1 h1. cuts m z (f x c1) h1 u) (λ x c1 h1. cuts m z (g x c1) h1 u) (run_after m v.grows q h) (λ x c1 h1. here_or h1 u (within_after m z v (f x c1) h1 u)) (λ x c1 h1. here_or h1 u (within_after m z v (g x c1) h1 u)) w
 
@@ -76,8 +76,8 @@ module _ {E S : Type 0} (m : Meaning E S) (z : Cutting E S) (v : Kept m z) where
   within_upper (Eval n c k) j h u (inr w) e = rest_upper j u (m.expr n c (plus j h)) (m.expr n c h) (λ x c1 h1. cuts m z (k x c1) h1 u) (λ x c1 h1. ⊥) (λ x c1 h1. run m (k x c1) h1) Thrown (v.lows.expr n c j h) (λ x c1 h1. cuts_after m z v (k x c1) h1 u) (never u) (λ x c1 h1 a. here_upper j h1 u (run m (k x c1) h1) (run_after m v.grows (k x c1) h1) (within_upper (k x c1) j h1 u) a e) (λ x c1 h1 a. absurd a) w e
   within_upper {A = A} (Exec n c k) j h u (inl w) e = longer (v.stmt_upper n c j h u w e) (handle_after (m.stmt n c h) (λ x c1 h1. run m (k x c1) h1) Thrown (self (final (m.stmt n c h))) (λ x c1 h1. run_after m v.grows (k x c1) h1) (thrown_after A)).told
   within_upper (Exec n c k) j h u (inr w) e = rest_upper j u (m.stmt n c (plus j h)) (m.stmt n c h) (λ x c1 h1. cuts m z (k x c1) h1 u) (λ x c1 h1. ⊥) (λ x c1 h1. run m (k x c1) h1) Thrown (v.lows.stmt n c j h) (λ x c1 h1. cuts_after m z v (k x c1) h1 u) (never u) (λ x c1 h1 a. here_upper j h1 u (run m (k x c1) h1) (run_after m v.grows (k x c1) h1) (within_upper (k x c1) j h1 u) a e) (λ x c1 h1 a. absurd a) w e
-  within_upper (Put bytes q) j h u (inl w) e = longer (taken_before h.told u.told bytes w.1) (run_after m v.grows q (record h { told = appended h.told bytes })).told
-  within_upper (Put bytes q) j h u (inr w) e = within_upper q j (record h { told = appended h.told bytes }) u w e
+  within_upper (Put bytes q) j h u (inl w) e = longer (taken_before h.told u.told bytes w.1) (run_after m v.grows q (wrote h bytes)).told
+  within_upper (Put bytes q) j h u (inr w) e = within_upper q j (wrote h bytes) u w e
   within_upper (Within q f g) j h u (inl w) e = longer (within_upper q j h u w e) (handle_after (run m q h) (λ x c1 h1. run m (f x c1) h1) (λ x c1 h1. run m (g x c1) h1) (self (final (run m q h))) (λ x c1 h1. run_after m v.grows (f x c1) h1) (λ x c1 h1. run_after m v.grows (g x c1) h1)).told
   within_upper (Within q f g) j h u (inr w) e = rest_upper j u (run m q (plus j h)) (run m q h) (λ x c1 h1. cuts m z (f x c1) h1 u) (λ x c1 h1. cuts m z (g x c1) h1 u) (λ x c1 h1. run m (f x c1) h1) (λ x c1 h1. run m (g x c1) h1) (run_low m v.grows v.lows q j h) (λ x c1 h1. cuts_after m z v (f x c1) h1 u) (λ x c1 h1. cuts_after m z v (g x c1) h1 u) (λ x c1 h1 a. here_upper j h1 u (run m (f x c1) h1) (run_after m v.grows (f x c1) h1) (within_upper (f x c1) j h1 u) a e) (λ x c1 h1 a. here_upper j h1 u (run m (g x c1) h1) (run_after m v.grows (g x c1) h1) (within_upper (g x c1) j h1 u) a e) w e
 
@@ -113,7 +113,7 @@ module _ {E S : Type 0} (m : Meaning E S) (z : Cutting E S) (v : Kept m z) where
   within_lower (Exec n c k) j h u (inl w) e = halts_on (m.stmt n c h) (λ x c1 h1. run m (k x c1) h1) Thrown (v.stmt_lower n c j h u w e) (same_text u.told)
   within_lower (Exec n c k) j h u (inr w) e = rest_lower j u (m.stmt n c (plus j h)) (m.stmt n c h) (λ x c1 h1. cuts m z (k x c1) h1 u) (λ x c1 h1. ⊥) (λ x c1 h1. run m (k x c1) h1) Thrown (v.lows.stmt n c j h) (λ x c1 h1. cuts_after m z v (k x c1) h1 u) (never u) (λ x c1 h1 a. here_lower j h1 u (run m (k x c1) h1) (within_lower (k x c1) j h1 u) a e) (λ x c1 h1 a. absurd a) w
   within_lower (Put bytes q) j h u (inl w) e = let p : u.steps ≡ h.steps + j = w.0 in absurd (omega (arith, p, e))
-  within_lower (Put bytes q) j h u (inr w) e = within_lower q j (record h { told = appended h.told bytes }) u w e
+  within_lower (Put bytes q) j h u (inr w) e = within_lower q j (wrote h bytes) u w e
   within_lower (Within q f g) j h u (inl w) e = halts_on (run m q h) (λ x c1 h1. run m (f x c1) h1) (λ x c1 h1. run m (g x c1) h1) (within_lower q j h u w e) (same_text u.told)
   within_lower (Within q f g) j h u (inr w) e = rest_lower j u (run m q (plus j h)) (run m q h) (λ x c1 h1. cuts m z (f x c1) h1 u) (λ x c1 h1. cuts m z (g x c1) h1 u) (λ x c1 h1. run m (f x c1) h1) (λ x c1 h1. run m (g x c1) h1) (run_low m v.grows v.lows q j h) (λ x c1 h1. cuts_after m z v (f x c1) h1 u) (λ x c1 h1. cuts_after m z v (g x c1) h1 u) (λ x c1 h1 a. here_lower j h1 u (run m (f x c1) h1) (within_lower (f x c1) j h1 u) a e) (λ x c1 h1 a. here_lower j h1 u (run m (g x c1) h1) (within_lower (g x c1) j h1 u) a e) w
 

@@ -3,9 +3,8 @@
 use Rattle.std.proofs.Common.{ℕ, zero, suc, ◌-◌, ◌==◌, Bool, true, false, cond, List, [], ◌∷◌, ◌++◌}
 use Rattle.asl_syn.specs.declared.token.Span.{Span}
 use Rattle.asl_syn.specs.declared.code.DynCode.TheVariants.{D12, D13}
-use Rattle.asl_rules.specs.Told.{appended}
 use Rattle.asl_rules.specs.Values.{Value, Exit}
-use Rattle.asl_rules.specs.Plans.{Core, Meter, Faulted, Stuck, Outcome, Done, Thrown, Halt, Plan, Ret, Raise, Stop, Eval, Exec, Put, Within, Meaning, handle, run, Nodes, meanings}
+use Rattle.asl_rules.specs.Plans.{Core, Meter, Faulted, Stuck, Outcome, Done, Thrown, Halt, Plan, Ret, Raise, Stop, Eval, Exec, Put, Within, Meaning, handle, run, wrote, Nodes, meanings}
 use Rattle.asl_rules.specs.Visits.{Visit, AtExpr, AtStmt, state_of, Trail, after, visits, entered_at, trails}
 
 -- what is claimed of expressions and statements: what must hold at the entry, and what then holds of what they give and
@@ -73,7 +72,7 @@ module _ {E S : Type 0} (w : Claims E S) (m : Meaning E S) (t : Trail E S) (v : 
   safe_run Q R (Stop (Stuck mistake span) c) h s = absurd s
   safe_run Q R (Eval e c k) h s = handled (w.expr_out s.0 e) (w.expr_thrown s.0 e) Q R (m.expr e c h) (λ x c1 h1. run m (k x c1) h1) Thrown (v.expr s.0 e c h s.1) (λ x c1 h1 o. safe_run Q R (k x c1) h1 (s.2 x c1 o)) (λ x c1 h1 o. s.3 x c1 o)
   safe_run Q R (Exec e c k) h s = handled (w.stmt_out s.0 e) (w.stmt_thrown s.0 e) Q R (m.stmt e c h) (λ x c1 h1. run m (k x c1) h1) Thrown (v.stmt s.0 e c h s.1) (λ x c1 h1 o. safe_run Q R (k x c1) h1 (s.2 x c1 o)) (λ x c1 h1 o. s.3 x c1 o)
-  safe_run Q R (Put bytes q) h s = safe_run Q R q (record h { told = appended h.told bytes }) s
+  safe_run Q R (Put bytes q) h s = safe_run Q R q (wrote h bytes) s
   safe_run Q R (Within q f g) h s = handled (λ x c. Safe w Q R (f x c)) (λ x c. Safe w Q R (g x c)) Q R (run m q h) (λ x c1 h1. run m (f x c1) h1) (λ x c1 h1. run m (g x c1) h1) (safe_run (λ x c. Safe w Q R (f x c)) (λ x c. Safe w Q R (g x c)) q h s) (λ x c1 h1 o. safe_run Q R (f x c1) h1 o) (λ x c1 h1 o. safe_run Q R (g x c1) h1 o)
 
   pub safe_visits : {A : Type 0} (Q : A → Core → Type 0) (R : Value → Core → Type 0) (q : Plan E S A) (h : Meter) → Safe w Q R q → AllHold w.holds (visits m t q h)
@@ -82,7 +81,7 @@ module _ {E S : Type 0} (w : Claims E S) (m : Meaning E S) (t : Trail E S) (v : 
   safe_visits Q R (Stop e c) h s = tt
   safe_visits Q R (Eval e c k) h s = both_hold w.holds (t.expr e c h) _ (v.expr_visits s.0 e c h s.1) (visited w.holds (w.expr_out s.0 e) (w.expr_thrown s.0 e) (m.expr e c h) (λ x c1 h1. visits m t (k x c1) h1) (λ x c1 h1. []) (v.expr s.0 e c h s.1) (λ x c1 h1 o. safe_visits Q R (k x c1) h1 (s.2 x c1 o)) (λ x c1 h1 o. tt))
   safe_visits Q R (Exec e c k) h s = both_hold w.holds (t.stmt e c h) _ (v.stmt_visits s.0 e c h s.1) (visited w.holds (w.stmt_out s.0 e) (w.stmt_thrown s.0 e) (m.stmt e c h) (λ x c1 h1. visits m t (k x c1) h1) (λ x c1 h1. []) (v.stmt s.0 e c h s.1) (λ x c1 h1 o. safe_visits Q R (k x c1) h1 (s.2 x c1 o)) (λ x c1 h1 o. tt))
-  safe_visits Q R (Put bytes q) h s = safe_visits Q R q (record h { told = appended h.told bytes }) s
+  safe_visits Q R (Put bytes q) h s = safe_visits Q R q (wrote h bytes) s
   safe_visits Q R (Within q f g) h s = both_hold w.holds (visits m t q h) _ (safe_visits (λ x c. Safe w Q R (f x c)) (λ x c. Safe w Q R (g x c)) q h s) (visited w.holds (λ x c. Safe w Q R (f x c)) (λ x c. Safe w Q R (g x c)) (run m q h) (λ x c1 h1. visits m t (f x c1) h1) (λ x c1 h1. visits m t (g x c1) h1) (safe_run (λ x c. Safe w Q R (f x c)) (λ x c. Safe w Q R (g x c)) q h s) (λ x c1 h1 o. safe_visits Q R (f x c1) h1 o) (λ x c1 h1 o. safe_visits Q R (g x c1) h1 o))
 
 ends_enter : {A : Type 0} (Q : A → Core → Type 0) (R : Value → Core → Type 0) (span : Span) (deep : Bool) (c : Core) (h : Meter) (go : Meter → Outcome A) → ((h1 : Meter) → Ends Q R (go h1)) → (b : Bool) → Ends Q R (cond b (Halt (Faulted D13 span) c h) (cond deep (Halt (Faulted D12 span) c h) (go (record h { steps = h.steps - 1 }))))

@@ -1,7 +1,7 @@
 -- Where a run may be given up: at each moment, and within what is written.
 use Rattle.std.specs.Prelude.{◌≡◌, ℕ, zero, suc, ◌-◌, ◌==◌, Bool, true, false, ◌⊎◌}
-use Rattle.asl_rules.specs.Told.{appended, Part}
-use Rattle.asl_rules.specs.Plans.{Core, Meter, Outcome, Done, Thrown, Halt, Plan, Ret, Raise, Stop, Eval, Exec, Put, Within, Meaning, Nodes, meanings, run}
+use Rattle.asl_rules.specs.Told.{Part}
+use Rattle.asl_rules.specs.Plans.{Core, Meter, Outcome, Done, Thrown, Halt, Plan, Ret, Raise, Stop, Eval, Exec, Put, Within, Meaning, Nodes, meanings, run, wrote}
 use Rattle.asl_rules.specs.Values.{Value}
 
 -- the meters at which the nodes below may be given up
@@ -20,7 +20,7 @@ within m z (Raise x c) h u = ⊥
 within m z (Stop e c) h u = ⊥
 within m z (Eval e c k) h u = z.expr e c h u ⊎ rest (m.expr e c h) (λ x c1 h1. (u ≡ h1) ⊎ within m z (k x c1) h1 u) (λ x c1 h1. ⊥)
 within m z (Exec t c k) h u = z.stmt t c h u ⊎ rest (m.stmt t c h) (λ x c1 h1. (u ≡ h1) ⊎ within m z (k x c1) h1 u) (λ x c1 h1. ⊥)
-within m z (Put bytes q) h u = ((u.steps ≡ h.steps) × Part h.told u.told bytes) ⊎ within m z q (record h { told = appended h.told bytes }) u
+within m z (Put bytes q) h u = ((u.steps ≡ h.steps) × Part h.told u.told bytes) ⊎ within m z q (wrote h bytes) u
 within m z (Within q f g) h u = within m z q h u ⊎ rest (run m q h) (λ x c1 h1. (u ≡ h1) ⊎ within m z (f x c1) h1 u) (λ x c1 h1. (u ≡ h1) ⊎ within m z (g x c1) h1 u)
 
 abbrev pub cuts : {E S A : Type 0} → Meaning E S → Cutting E S → Plan E S A → Meter → Meter → Type 0

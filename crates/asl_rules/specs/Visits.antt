@@ -1,8 +1,7 @@
 -- The nodes that a run enters, in order, each with the state at its entry.
 use Rattle.std.specs.Prelude.{ℕ, zero, suc, ◌-◌, ◌==◌, Bool, true, false, List, [], ◌∷◌, ◌++◌}
-use Rattle.asl_rules.specs.Told.{appended}
 use Rattle.asl_rules.specs.Values.{Value}
-use Rattle.asl_rules.specs.Plans.{Core, Meter, Outcome, Done, Thrown, Halt, Plan, Ret, Raise, Stop, Eval, Exec, Put, Within, Meaning, run, Nodes, meanings}
+use Rattle.asl_rules.specs.Plans.{Core, Meter, Outcome, Done, Thrown, Halt, Plan, Ret, Raise, Stop, Eval, Exec, Put, Within, Meaning, run, wrote, Nodes, meanings}
 
 pub data Visit (E S : Type 0) : Type 0 where
   AtExpr : E → Core → Visit E S
@@ -28,7 +27,7 @@ visits m t (Raise x c) h = []
 visits m t (Stop e c) h = []
 visits m t (Eval e c k) h = t.expr e c h ++ after (m.expr e c h) (λ x c1 h1. visits m t (k x c1) h1) (λ x c1 h1. [])
 visits m t (Exec s c k) h = t.stmt s c h ++ after (m.stmt s c h) (λ x c1 h1. visits m t (k x c1) h1) (λ x c1 h1. [])
-visits m t (Put bytes q) h = visits m t q (record h { told = appended h.told bytes })
+visits m t (Put bytes q) h = visits m t q (wrote h bytes)
 visits m t (Within q f g) h = visits m t q h ++ after (run m q h) (λ x c1 h1. visits m t (f x c1) h1) (λ x c1 h1. visits m t (g x c1) h1)
 
 -- a node is entered where a step is left
