@@ -1,0 +1,4 @@
+pub mod Exactly
+pub mod Widening
+pub mod Loops
+pub mod Inside
