@@ -2,3 +2,4 @@ pub mod Exactly
 pub mod Widening
 pub mod Loops
 pub mod Inside
+pub mod Membership

@@ -1,6 +1,6 @@
 use Rattle.std.specs.Prelude.{◌≡◌, ◌≢◌, ℕ, ℤ, pos, ◌≤ℤ◌, List, [], ◌∷◌, ◌⊎◌}
 use Rattle.asl_poly.specs.Terms.{Polynomial}
-use Rattle.asl_poly.specs.Poly.{IsAtMost, IsAtLeast, IsConstant, IsOffset, constant_map}
+use Rattle.asl_poly.specs.Poly.{IsAtMost, IsAtLeast, IsConstant, IsOffset, IsPolynomial, constant_map}
 use Rattle.asl_cons.specs.declared.End.{End}
 use Rattle.asl_cons.specs.declared.End.TheVariants.{Int, Width}
 use Rattle.asl_cons.specs.declared.Part.{Part}
@@ -22,6 +22,16 @@ InSome a i (p ∷ ps) = (IsAtMost a (poly_of p.low) i × IsAtLeast a (poly_of p.
 -- i lies in the constraint; the whole one holds every integer
 abbrev pub In : (ℕ → ℤ) → ℤ → List Part → Type 0
 In a i ps = (ps ≡ []) ⊎ InSome a i ps
+
+-- ---- what the ends of the code's parts are
+
+abbrev pub IsEnd : End → Type 0
+IsEnd (Int z) = Unit {0}
+IsEnd (Width p) = IsPolynomial p
+
+abbrev pub AllEnds : List Part → Type 0
+AllEnds [] = Unit {0}
+AllEnds (p ∷ ps) = (IsEnd p.low × IsEnd p.high) × AllEnds ps
 
 -- ---- inclusion
 

@@ -15,6 +15,10 @@ mod ranges;
 #[cfg(test)]
 mod tests;
 
+ghost use Rattle.std.specs.Prelude.{ℕ, ℤ, List};
+ghost use Rattle.asl_cons.specs.declared.Part.{Part};
+ghost use Rattle.asl_cons.specs.Constraint.{AllEnds, Below, In};
+
 use asl_poly::Poly;
 pub use cons::Cons;
 pub use ranges::Ranges;
@@ -36,3 +40,9 @@ pub struct Part {
     /// The greatest integer.
     pub high: End,
 }
+
+/// A constraint that is below another has no integer that the other lacks, whatever the integers at the atoms are.
+#[tactic(auto, using(crate::proofs::Membership::below_in))]
+pub fn inclusion_law()
+    ensures { (a : ℕ → ℤ) (i : ℤ) (ps qs : List Part) → AllEnds ps → Below ps qs → In a i ps → In a i qs }
+{}
