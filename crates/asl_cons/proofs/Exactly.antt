@@ -1,5 +1,5 @@
-use Rattle.std.proofs.Common.{◌^◌, ◌⊎◌, inl, inr, ◌≡◌, ℕ, Bool, true, false, refl, sym, ap, arith}
-use Rattle.std.specs.Prelude.{◌==◌, ◌≤ℤ◌, Option, Some, None, Result, Ok, Err, unsigned_abs, nat_le, ◌&&◌}
+use Rattle.std.proofs.Common.{◌^◌, ◌⊎◌, inl, inr, ◌≡◌, Bool, true, false, refl, sym, ap, arith}
+use Rattle.std.specs.Prelude.{◌≤ℤ◌, Option, Some, None, Result, Ok, Err, unsigned_abs}
 use Rattle.std.specs.Result.{result_ok}
 use Rattle.std.proofs.Math.IntN.{ℤ, pos, negsuc, ◌*ℤ◌}
 use Rattle.std.specs.Int.{int_min, int_max}
@@ -9,7 +9,7 @@ use Rattle.std.proofs.lemmas.Bool.Decides.{nat_tests}
 use Rattle.asl_num.specs.declared.NumFault.{NumFault}
 use Rattle.asl_num.specs.declared.NumFault.TheVariants.{Overflow, Divisor, Inexact, Negative}
 use Rattle.asl_num.specs.Exact.{Fits, IsExact, IsShiftLeft, IsFloor, floor_div}
-use Rattle.asl_cons.specs.Arithmetic.{point_in, power_of_two, fits, exact, part, part_of, integer_end}
+use Rattle.asl_cons.specs.Arithmetic.{power_of_two, fits, exact, part, part_of, integer_end}
 use Rattle.asl_cons.specs.declared.End.TheVariants.{Int}
 
 -- what an operation of asl_num answers
@@ -137,11 +137,3 @@ shift_is r x (negsuc n) l h = absurd (omega (arith, ints))
 pub quotient_is : (r : Result ℤ NumFault) (x m : ℤ) → pos 1 ≤ℤ m → IsFloor r x m → result_ok r ≡ Some (floor_div x (unsigned_abs m))
 quotient_is r x (pos n) l h = ap result_ok (h.1 n refl (omega (arith, ints)))
 quotient_is r x (negsuc n) l h = absurd (omega (arith, ints))
-
-pub point_least : (least : ℕ) (l h m : ℤ) → Some m ≡ point_in least l h → pos least ≤ℤ m
-point_least least (pos l) (pos h) m e = elim (bool_cases ((l == h) && nat_le least l)) [
-  | inl t ↦ let f : Some m ≡ Some (pos l) = rw t at e in let g : m ≡ pos l = cc in rw g (grind (arith, ints, nat_tests))
-  | inr t ↦ let f = rw t at e in cc
-]
-point_least least (pos l) (negsuc h) m e = cc
-point_least least (negsuc l) h m e = cc

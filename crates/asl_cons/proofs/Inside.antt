@@ -52,18 +52,6 @@ next q i t h e =
 
 -- ---- Held, by what is left of the parts
 
-pub held_now : (p q : Part) (qs : List Part) (i : ℕ) → drop i qs ≡ q ∷ drop (i + 1) qs → IsAbove p.low q.low → IsAbove q.high p.high → Held p (drop i qs)
-held_now p q qs i e l h = rw e (inl (l, h))
-
-pub held_later : (p q : Part) (qs : List Part) (i : ℕ) → drop i qs ≡ q ∷ drop (i + 1) qs → Held p (drop (i + 1) qs) → Held p (drop i qs)
-held_later p q qs i e h = rw e (inr h)
-
-held_cons : (p q : Part) (qs : List Part) → Held p (q ∷ qs) → (IsAbove p.low q.low × IsAbove q.high p.high) ⊎ Held p qs
-held_cons p q qs h = h
-
-pub held_past : (p q : Part) (qs : List Part) (i : ℕ) → drop i qs ≡ q ∷ drop (i + 1) qs → (IsAbove p.low q.low × IsAbove q.high p.high → ⊥) → Held p (drop i qs) → Held p (drop (i + 1) qs)
-held_past p q qs i e n h = elim (held_cons p q (drop (i + 1) qs) (rw e at h)) [ inl k ↦ absurd (n k) | inr k ↦ k ]
-
 -- ---- InFixed likewise
 
 pub in_now : (j : ℤ) (q : Part) (qs : List Part) (i : ℕ) → drop i qs ≡ q ∷ drop (i + 1) qs → Holds q j → InFixed j (drop i qs)
@@ -117,6 +105,3 @@ int_end z a = value_constant_map a z
 
 pub int_not_free : (e : End) (z : ℤ) → e ≡ Int z → ((c : ℤ) → HasEnd e c → ⊥) → ⊥
 int_not_free e z q n = n z (λ a. ap (end_value a) q ∙ value_constant_map a z)
-
-pub held_by : (q : Part) (l h i : ℤ) → IsFixed q l h → (j : ℤ) → l ≤ℤ i → i ≤ℤ j → j ≤ℤ h → Holds q j
-held_by q l h i f j a b d = record { l = l; h = h; fixed = f; least = omega (arith, ints); most = d }

@@ -53,9 +53,6 @@ over_64 n h = grind (arith, nat_tests)
 pub limited_all : (o : Option (List Part)) (us : List Part) → o ≡ Some us → length us ≤ 64 → us ≡ limited o
 limited_all o us e l = rw (e, le_64 (length us) l) refl
 
-pub limited_none : (o : Option (List Part)) → o ≡ None → [] ≡ limited o
-limited_none o e = rw e refl
-
 pub limited_many : (o : Option (List Part)) → ((us : List Part) → o ≡ Some us → 64 < length us) → [] ≡ limited o
 limited_many None f = refl
 limited_many (Some us) f = rw (over_64 (length us) (f us refl)) refl
