@@ -8,3 +8,6 @@ mod stop;
 mod store;
 
 pub use machine::{GlobalVar, Machine, Outcome, RunRefused};
+
+#[cfg(test)]
+mod tests;
