@@ -8,7 +8,7 @@ use Rattle.asl_syn.specs.declared.tree.Decl.{Decl}
 use Rattle.std.specs.Prelude.{slice_get}
 use Rattle.asl_rules.specs.Programs.{funcs_of}
 use Rattle.asl_rules.specs.Values.{Value, Exit, Normal, Returned}
-use Rattle.asl_rules.specs.Plans.{Binding, Core}
+use Rattle.asl_rules.specs.States.{Binding, Core}
 use Rattle.asl_rules.specs.Evaluation.{in_order, at_end, run_bound, bound, call_func, call_of}
 use Rattle.asl_rules.proofs.Quiet.{Quiet}
 

@@ -21,7 +21,8 @@ use Rattle.asl_rules.specs.Exprs.{typed, typed_layer}
 use Rattle.asl_rules.specs.Stmts.{fitting, stmt_rule, stmt_layer_rule, stmts_rule, falls, falls_layer, falls_through}
 use Rattle.asl_rules.specs.Programs.{ProgramOk, funcs_of, verdict, overloads_rule, bodies_rule, body_rule, entry_rule}
 use Rattle.asl_rules.specs.Values.{Value, int, Exit, Normal, Returned}
-use Rattle.asl_rules.specs.Plans.{Binding, Core, Meter, Faulted, Stuck, Outcome, Done, Thrown, Halt, Mistake, Ret, Eval, Good, Bad, lift}
+use Rattle.asl_rules.specs.States.{Binding, Core}
+use Rattle.asl_rules.specs.Plans.{Meter, Faulted, Stuck, Outcome, Done, Thrown, Halt, Mistake, Ret, Eval, Good, Bad, lift}
 use Rattle.asl_rules.specs.Evaluation.{nodes, meaning, expr_node, stmt_node, in_order, at_end, run_body, run_bound, bound, call_func, call_of, restored, go_on}
 use Rattle.asl_rules.specs.Belonging.{InType, AllBelong, Sound, Belong}
 use Rattle.asl_rules.specs.Machines.{most_open, resting, run_of}
@@ -36,7 +37,7 @@ EndsBody T b Normal c = (b ≡ true) × Sound c
 EndsBody T b (Returned (Some x)) c = InType x T × Sound c
 EndsBody T b (Returned None) c = ⊥
 
-abbrev pub our_claims : Claims Expr Stmt
+abbrev pub our_claims : Claims Core Expr Stmt
 our_claims = record {
   I = Ty;
   J = Ty;
@@ -172,17 +173,17 @@ call_safe ds id args globals h k =
     (bound_safe id k.func args (resting globals) (body_at (funcs_of ds) id k.func h k.is) (record { globals = k.globals_belong; frame = tt }) k.args_belong)
 
 -- what is claimed of a run, in the words of soundness
-not_stuck : {A : Type 0} (Q : A → Core → Type 0) (R : Value → Core → Type 0) (r : Outcome A) → Ends Q R r → NotStuck r
+not_stuck : {A : Type 0} (Q : A → Core → Type 0) (R : Value → Core → Type 0) (r : Outcome Core A) → Ends Q R r → NotStuck r
 not_stuck Q R (Done x c h) e = tt
 not_stuck Q R (Thrown x c h) e = tt
 not_stuck Q R (Halt (Faulted code span) c h) e = tt
 not_stuck Q R (Halt (Stuck mistake span) c h) e = e
 
-all_sound : (vs : List (Visit Expr Stmt)) → AllHold Sound vs → AllSound vs
+all_sound : (vs : List (Visit Core Expr Stmt)) → AllHold Sound vs → AllSound vs
 all_sound [] h = tt
 all_sound (v ∷ vs) h = (h.0, all_sound vs h.1)
 
-gives_type : (T : Ty) (r : Outcome Value) → Ends (λ x c. InType x T × Sound c) (λ x c. Sound c) r → GivesType T r
+gives_type : (T : Ty) (r : Outcome Core Value) → Ends (λ x c. InType x T × Sound c) (λ x c. Sound c) r → GivesType T r
 gives_type T (Done x c h) e = e
 gives_type T (Thrown x c h) e = e
 gives_type T (Halt (Faulted code span) c h) e = tt
@@ -207,7 +208,7 @@ soundness e ds main ok = record {
   typed_values = λ d x T c h t ok1. let r = (claims (nodes ds) our_claims (our_forms ds) d).expr T x c h (t, ok1) in (not_stuck (λ x c. InType x T × Sound c) (λ x c. Sound c) _ r, gives_type T _ r);
 }
 
-is_stuck : {A : Type 0} (r : Outcome A) (m : Mistake) (span : Span) (c : Core) (k : Meter) → NotStuck r → r ≡ Halt (Stuck m span) c k → ⊥
+is_stuck : {A : Type 0} (r : Outcome Core A) (m : Mistake) (span : Span) (c : Core) (k : Meter) → NotStuck r → r ≡ Halt (Stuck m span) c k → ⊥
 is_stuck r m span c k n e = subst NotStuck e n
 
 -- so a call from outside of a well-formed program is never stuck
@@ -217,7 +218,7 @@ never_stuck e ds main ok id f q args a globals g h m span c k w =
     is_stuck (run_of ds id args globals h) m span c k ((soundness e ds main ok).never_stuck id args globals h (record { func = f; is = q; args_belong = a; globals_belong = g })) w
 
 -- where a call from outside doesn't halt, the state after it is sound
-abbrev pub EndsSound : {A : Type 0} → Outcome A → Type 0
+abbrev pub EndsSound : {A : Type 0} → Outcome Core A → Type 0
 EndsSound (Done x c h) = Sound c
 EndsSound (Thrown x c h) = Sound c
 EndsSound (Halt e c h) = Unit {0}
@@ -226,7 +227,7 @@ given_sound : (x : Option Value) (c : Core) → Given x c → Sound c
 given_sound None c g = absurd g
 given_sound (Some x) c g = g.1
 
-ended_sound : (r : Outcome (Option Value)) → Ends Given (λ x c1. Sound c1) r → EndsSound r
+ended_sound : (r : Outcome Core (Option Value)) → Ends Given (λ x c1. Sound c1) r → EndsSound r
 ended_sound (Done x c h) e = given_sound x c e
 ended_sound (Thrown x c h) e = e
 ended_sound (Halt (Faulted code span) c h) e = tt

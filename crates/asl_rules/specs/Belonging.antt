@@ -3,7 +3,7 @@ use Rattle.std.specs.Prelude.{List, [], ◌∷◌}
 use Rattle.asl_syn.specs.declared.tree.Formal.{Formal}
 use Rattle.asl_rules.specs.Types.{Ty, integer}
 use Rattle.asl_rules.specs.Values.{Value, int}
-use Rattle.asl_rules.specs.Plans.{Binding, Core}
+use Rattle.asl_rules.specs.States.{Binding, Core}
 
 abbrev pub InType : Value → Ty → Type 0
 InType (int z) integer = Unit {0}

@@ -8,6 +8,7 @@ pub mod Programs
 pub mod Values
 pub mod Told
 pub mod Plans
+pub mod States
 pub mod Cuts
 pub mod Evaluation
 pub mod Belonging

@@ -9,30 +9,31 @@ use Rattle.asl_rules.specs.Types.{Ty}
 use Rattle.asl_rules.specs.Exprs.{typed}
 use Rattle.asl_rules.specs.Programs.{funcs_of}
 use Rattle.asl_rules.specs.Values.{Value}
-use Rattle.asl_rules.specs.Plans.{Binding, Core, Meter, Outcome, Done, Thrown, Halt, Faulted, Stuck}
+use Rattle.asl_rules.specs.States.{Binding, Core}
+use Rattle.asl_rules.specs.Plans.{Meter, Outcome, Done, Thrown, Halt, Faulted, Stuck}
 use Rattle.asl_rules.specs.Evaluation.{nodes, meaning, call_of}
 use Rattle.asl_rules.specs.Belonging.{InType, AllBelong, Sound, Belong}
 use Rattle.asl_rules.specs.Machines.{most_open, resting, run_of}
 use Rattle.asl_rules.specs.Visits.{Visit, state_of, visits, trails}
 
-abbrev pub NotStuck : {A : Type 0} → Outcome A → Type 0
+abbrev pub NotStuck : {A : Type 0} → Outcome Core A → Type 0
 NotStuck (Done x c h) = Unit {0}
 NotStuck (Thrown x c h) = Unit {0}
 NotStuck (Halt (Faulted code span) c h) = Unit {0}
 NotStuck (Halt (Stuck mistake span) c h) = ⊥
 
 -- a value of the type, in a sound state
-abbrev pub GivesType : Ty → Outcome Value → Type 0
+abbrev pub GivesType : Ty → Outcome Core Value → Type 0
 GivesType T (Done x c h) = InType x T × Sound c
 GivesType T (Thrown x c h) = Sound c
 GivesType T (Halt e c h) = Unit {0}
 
-abbrev pub AllSound : List (Visit Expr Stmt) → Type 0
+abbrev pub AllSound : List (Visit Core Expr Stmt) → Type 0
 AllSound [] = Unit {0}
 AllSound (v ∷ vs) = Sound (state_of v) × AllSound vs
 
 -- the nodes that a call from outside enters
-abbrev pub visits_of : List Decl → ℕ → List Value → List Binding → Meter → List (Visit Expr Stmt)
+abbrev pub visits_of : List Decl → ℕ → List Value → List Binding → Meter → List (Visit Core Expr Stmt)
 visits_of ds id args globals h = visits (meaning ds most_open) (trails (nodes ds) most_open) (call_of ds id args (resting globals)) h
 
 -- a call from outside: a subprogram of the program, with arguments in the types of its formals, over globals in theirs
