@@ -6,7 +6,8 @@ use Rattle.asl_syn.specs.declared.token.Span.{Span}
 use Rattle.asl_syn.specs.declared.tree.Decl.{Decl}
 use Rattle.asl_tree.specs.Accepted.{IsWellFormed}
 use Rattle.asl_rules.specs.Values.{Value}
-use Rattle.asl_rules.specs.Plans.{Binding, Core, Meter, Mistake, Stuck, Outcome, Done, Halt, starting}
+use Rattle.asl_rules.specs.States.{Binding, Core}
+use Rattle.asl_rules.specs.Plans.{Meter, Mistake, Stuck, Outcome, Done, Halt, starting}
 use Rattle.asl_rules.specs.Cuts.{cuts}
 use Rattle.asl_rules.specs.Evaluation.{nodes, meaning, cutting, call_of}
 use Rattle.asl_rules.specs.Belonging.{AllBelong, Sound}
@@ -23,7 +24,7 @@ pub stuck_never : (ds : List Decl) (main : Option ℕ) → IsWellFormed ds main 
 stuck_never ds main ok id args call globals belong h m span c k r =
     ∥∥₁_elim ok ⊥_prop (λ p. ∥∥₁_elim belong ⊥_prop (λ g. never_stuck p.0 ds main p.1 id call.func call.is args call.args_belong globals g h m span c k r))
 
-done_sound : (r : Outcome (Option Value)) (x : Option Value) (c : Core) (k : Meter) → EndsSound r → r ≡ Done x c k → Sound c
+done_sound : (r : Outcome Core (Option Value)) (x : Option Value) (c : Core) (k : Meter) → EndsSound r → r ≡ Done x c k → Sound c
 done_sound r x c k s e = subst EndsSound e s
 
 -- the globals belong to their types after it

@@ -2,7 +2,8 @@
 use Rattle.std.specs.Prelude.{◌≡◌, ◌≤◌, ℕ, List, Option, Result, Ok, Err}
 use Rattle.asl_io.specs.Faults.{Rises}
 use Rattle.asl_syn.specs.declared.tree.Decl.{Decl}
-use Rattle.asl_rules.specs.Plans.{Core, Meter, Faulted, Stuck, Outcome, Done, Thrown, Halt, run, Pure, Good, Bad}
+use Rattle.asl_rules.specs.States.{Core}
+use Rattle.asl_rules.specs.Plans.{Meter, Faulted, Stuck, Outcome, Done, Thrown, Halt, run, Pure, Good, Bad}
 use Rattle.asl_rules.specs.Cuts.{cuts}
 use Rattle.asl_rules.specs.Evaluation.{Does, meaning, cutting}
 use Rattle.asl_value.specs.View.{value_of}
@@ -12,7 +13,7 @@ use Rattle.asl_run.specs.declared.store.Store.{Store}
 use Rattle.asl_run.specs.View.{mistake_of, core_of, meter_of}
 
 -- an answer, with what stands after it, is what the rules give; or the run was given up at one of these meters
-abbrev pub Meets : {A B : Type 0} → (A → B) → Result A Stop → Core → Meter → Outcome B → (Meter → Type 0) → Type 0
+abbrev pub Meets : {A B : Type 0} → (A → B) → Result A Stop → Core → Meter → Outcome Core B → (Meter → Type 0) → Type 0
 Meets view (Ok x) c h r C = r ≡ Done (view x) c h
 Meets view (Err stop.NoMemory) c h r C = C h
 Meets view (Err stop.SinkFault) c h r C = C h

@@ -3,7 +3,8 @@ use Rattle.std.specs.Prelude.{◌≡◌, ◌≤◌, ℕ, Bool, true, false, List
 use Rattle.asl_io.specs.Faults.{Rises}
 use Rattle.asl_syn.specs.declared.token.Span.{Span}
 use Rattle.asl_syn.specs.declared.code.DynCode.{DynCode}
-use Rattle.asl_rules.specs.Plans.{Binding, Core, Meter, Faulted, Done, Thrown, Halt}
+use Rattle.asl_rules.specs.States.{Binding, Core}
+use Rattle.asl_rules.specs.Plans.{Meter, Faulted, Done, Thrown, Halt}
 use Rattle.asl_rules.specs.Plans as plans
 use Rattle.asl_rules.specs.Values as rules
 use Rattle.asl_rules.specs.Machines.{resting}
@@ -61,13 +62,13 @@ uncaught_by (stage.Fault code span) = None
 uncaught_by (stage.Refused e) = None
 
 -- a run halts in a fault, with these globals and this meter
-pub record Halted (globals : List Binding) (h : Meter) (r : plans.Outcome (Option rules.Value)) (code : DynCode) (span : Span) : Type 0 where
+pub record Halted (globals : List Binding) (h : Meter) (r : plans.Outcome Core (Option rules.Value)) (code : DynCode) (span : Span) : Type 0 where
   pub core : Core
   pub globals_are : core.globals ≡ globals
   pub is : r ≡ Halt (Faulted code span) core h
 
 -- a run ends so, with these globals and this meter
-abbrev pub Ends : Stage → List Binding → Meter → plans.Outcome (Option rules.Value) → Type 0
+abbrev pub Ends : Stage → List Binding → Meter → plans.Outcome Core (Option rules.Value) → Type 0
 Ends (stage.Ready x) globals h r = r ≡ Done (option_map value_of x) (resting globals) h
 Ends (stage.Uncaught x) globals h r = r ≡ Thrown (value_of x) (resting globals) h
 Ends (stage.Fault code span) globals h r = Halted globals h r code span

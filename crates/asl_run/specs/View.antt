@@ -1,7 +1,8 @@
 -- How the rules see what a run works on.
 use Rattle.std.specs.Prelude.{ℕ, List, Option, option_map}
 use Rattle.asl_rules.specs.Values as rules
-use Rattle.asl_rules.specs.Plans.{Core, Meter}
+use Rattle.asl_rules.specs.States.{Core}
+use Rattle.asl_rules.specs.Plans.{Meter}
 use Rattle.asl_rules.specs.Plans as plans
 use Rattle.asl_value.specs.View.{value_of, bindings_of}
 use Rattle.asl_run.specs.declared.stop.Exit.{Exit}

@@ -6,6 +6,7 @@ use Rattle.asl_syn.specs.declared.tree.Func.{Func}
 use Rattle.asl_tree.specs.Accepted.{Accepted, accepted_code}
 use Rattle.asl_rules.specs.Values as rules
 use Rattle.asl_rules.specs.Plans.{starting}
+use Rattle.asl_rules.specs.States.{Core}
 use Rattle.asl_rules.specs.Plans as plans
 use Rattle.asl_rules.specs.Programs.{funcs_of}
 use Rattle.asl_rules.specs.Belonging.{Belong}
@@ -44,7 +45,7 @@ pub record IsCallable (ds : List Decl) (id : ℕ) (args : List rules.Value) : Ty
   pub args_belong : Belong args func.formals
 
 -- what the call does over what the sink held
-abbrev pub run_with : Work → ℕ → List rules.Value → Option (List ℕ) → plans.Outcome (Option rules.Value)
+abbrev pub run_with : Work → ℕ → List rules.Value → Option (List ℕ) → plans.Outcome Core (Option rules.Value)
 run_with w id args told = run_of w.checked.decls id args (bindings_of w.globals) (starting w.steps told)
 
 -- the sink's text after it, had it this budget
@@ -52,5 +53,5 @@ abbrev pub text_with : Work → ℕ → List rules.Value → Option (List ℕ) �
 text_with w id args told = text_of_run w.checked.decls id args (bindings_of w.globals) told
 
 -- the run ended in this state, with this text told
-abbrev pub ends_with : Work → Option (List ℕ) → plans.Outcome (Option rules.Value) → Type 0
+abbrev pub ends_with : Work → Option (List ℕ) → plans.Outcome Core (Option rules.Value) → Type 0
 ends_with w told r = Ends w.stage (bindings_of w.globals) (record { steps = w.steps; told = told; text_open = w.text_open }) r

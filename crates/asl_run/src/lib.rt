@@ -8,6 +8,3 @@ mod stop;
 mod store;
 
 pub use machine::{GlobalVar, Machine, Outcome, RunRefused};
-
-#[cfg(test)]
-mod tests;

@@ -5,7 +5,7 @@ use Rattle.asl_value.specs.declared.binding.Ty.{Ty}
 use Rattle.asl_value.specs.declared.binding.Ty.TheVariants.{Integer}
 use Rattle.asl_value.specs.declared.value.Value.{Value}
 use Rattle.asl_value.specs.declared.value.Value.TheVariants as v
-use Rattle.asl_rules.specs.Plans as plans
+use Rattle.asl_rules.specs.States as states
 use Rattle.asl_rules.specs.Types as types
 use Rattle.asl_rules.specs.Values as rules
 
@@ -15,8 +15,8 @@ value_of (v.Int z) = rules.int z
 abbrev pub type_of : Ty → types.Ty
 type_of Integer = types.integer
 
-abbrev pub binding_of : Binding → plans.Binding
+abbrev pub binding_of : Binding → states.Binding
 binding_of b = record { name = string_bytes b.name; value = value_of b.value; ty = type_of b.ty }
 
-abbrev pub bindings_of : List Binding → List plans.Binding
+abbrev pub bindings_of : List Binding → List states.Binding
 bindings_of bs = map binding_of bs
