@@ -53,5 +53,5 @@ abbrev pub text_with : Work → ℕ → List rules.Value → Option (List ℕ) �
 text_with w id args told = text_of_run w.checked.decls id args (bindings_of w.globals) told
 
 -- the run ended in this state, with this text told
-abbrev pub ends_with : Work → Option (List ℕ) → plans.Outcome Core (Option rules.Value) → Type 0
-ends_with w told r = Ends w.stage (bindings_of w.globals) (record { steps = w.steps; told = told; text_open = w.text_open }) r
+abbrev pub EndsWith : Work → Option (List ℕ) → plans.Outcome Core (Option rules.Value) → Type 0
+EndsWith w told r = Ends w.stage (bindings_of w.globals) (record { steps = w.steps; told = told; text_open = w.text_open }) r
