@@ -10,7 +10,7 @@ ghost use Rattle.asl_value.specs.View.{value_of, bindings_of};
 ghost use Rattle.asl_run.specs.Meets.{Meets, Counts};
 ghost use Rattle.asl_run.specs.View.{core_of, meter_of};
 ghost use Rattle.asl_run.specs.Stages.{Ends, is_ready, OnReady, OnEnded, OnRefused, answer_of, returned_by, uncaught_by, Counted};
-ghost use Rattle.asl_run.specs.Work.{Work, IsCallable, begins_with, run_with, text_with, EndsWith};
+ghost use Rattle.asl_run.specs.Work.{Work, IsCallable, IsNew, run_with, text_with, EndsWith};
 
 use crate::run;
 use crate::stop::Stop;
@@ -85,7 +85,7 @@ impl Model for Machine {
 impl Machine {
     /// A machine for this program, its globals at their initial values, with so many steps left.
     pub fn new(alloc: Global, checked: Checked, steps: u64) -> Result<Machine, AllocError>
-        ensures { IfOk result (λ m. m ≡ begins_with checked steps) }
+        ensures { IfOk result (λ m. IsNew m checked steps) }
     {
         Ok(Machine {
             checked,
