@@ -10,3 +10,6 @@ pub mod Checked
 pub mod Opening
 pub mod Stops
 pub mod Answered
+pub mod Placed
+pub mod OneFault
+pub mod Ends

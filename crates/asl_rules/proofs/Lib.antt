@@ -8,3 +8,4 @@ pub mod Safe
 pub mod Inversions
 pub mod Soundness
 pub mod OneOutcome
+pub mod OneReading

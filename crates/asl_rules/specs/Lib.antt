@@ -18,3 +18,4 @@ pub mod Soundness
 pub mod OneRun
 pub mod Texts
 pub mod Report
+pub mod Reading
