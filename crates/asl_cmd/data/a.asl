@@ -1,1 +1,0 @@
-func main() => integer begin return 0; end;

@@ -1,3 +1,0 @@
-pub mod Answering
-pub mod ReadingLemmas
-pub mod Statuses

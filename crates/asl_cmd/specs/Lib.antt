@@ -1,3 +1,0 @@
-pub mod Model
-pub mod Report
-pub mod Writes
