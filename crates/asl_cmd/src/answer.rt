@@ -1,5 +1,5 @@
 //! The writing of answers.
-ghost use Rattle.std.specs.Prelude.{◌≡◌, ◌++◌, [], Err, IfOk, map, if◌then◌else◌};
+ghost use Rattle.std.specs.Prelude.{◌≡◌, ◌++◌, [], Err, map, if◌then◌else◌};
 ghost use Rattle.asl_line.specs.Model.{meaning_of};
 ghost use Rattle.asl_rules.specs.Texts.{fault_line, line_feed};
 ghost use Rattle.asl_rules.specs.Report.{answer};

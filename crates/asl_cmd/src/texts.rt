@@ -1,8 +1,7 @@
 //! The exact texts: fault lines, and the lines that end an answer.
-ghost use Rattle.std.specs.Prelude.{◌≡◌, ◌≤◌, ◌<◌, [], IfOk, map, string_bytes, codes, length};
-ghost use Rattle.asl_syn.specs.Codes.{static_text, dynamic_text};
+ghost use Rattle.std.specs.Prelude.{◌≡◌, ◌<◌, IfOk, map, string_bytes};
 ghost use Rattle.asl_rules.specs.Values.{int};
-ghost use Rattle.asl_rules.specs.Texts.{placed, line_at, fault_line, dynamic_line, long_line, accepted_line, returned_line, uncaught_line};
+ghost use Rattle.asl_rules.specs.Texts.{placed, line_at, fault_line, dynamic_line, long_line, accepted_line, returned_line};
 ghost use Rattle.asl_cmd.specs.Model.{file_of, AreShort};
 
 use asl_syn::code::{DynCode, Fault};
