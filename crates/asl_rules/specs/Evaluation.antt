@@ -13,11 +13,12 @@ use Rattle.asl_syn.specs.declared.tree.TypeExpr.{TypeExpr}
 use Rattle.asl_syn.specs.Layers.{ExprLayer, StmtLayer, expr_layer_span, stmt_layer_span, expr_span, stmt_span}
 use Rattle.asl_rules.specs.Programs.{funcs_of, origin}
 use Rattle.asl_rules.specs.Values.{Value, int, Exit, Normal, Returned}
-use Rattle.asl_rules.specs.Plans.{Binding, Core, Faulted, Stuck, UnknownName, EndReached, UnservedForm, Plan, Ret, Raise, Stop, Eval, Exec, Within, Pure, Good, Bad, lift, Meaning, Nodes, meanings}
+use Rattle.asl_rules.specs.States.{Binding, Core}
+use Rattle.asl_rules.specs.Plans.{Faulted, Stuck, UnknownName, EndReached, UnservedForm, Plan, Ret, Raise, Stop, Eval, Exec, Within, Pure, Good, Bad, lift, Meaning, Nodes, meanings}
 use Rattle.asl_rules.specs.Cuts.{Cutting, cuttings}
 
 abbrev pub Does : Type 0 → Type 1
-Does A = Plan Expr Stmt A
+Does A = Plan Core Expr Stmt A
 
 abbrev pub give : {A : Type 0} → Core → A → Does A
 give c x = Ret x c
@@ -36,7 +37,7 @@ stmt_node ds (st.Return span (Some e)) c = Eval e c (λ x c1. Ret (Returned (Som
 stmt_node ds layer c = Stop (Stuck UnservedForm (stmt_layer_span layer)) c
 
 -- what the nodes of a program do, and what they mean where at most d more may be open
-abbrev pub nodes : List Decl → Nodes Expr Stmt
+abbrev pub nodes : List Decl → Nodes Core Expr Stmt
 nodes ds = record {
   expr_at = expr_span;
   stmt_at = stmt_span;
@@ -44,10 +45,10 @@ nodes ds = record {
   stmt = λ s c. stmt_node ds (out-Stmt s) c;
 }
 
-abbrev pub meaning : List Decl → ℕ → Meaning Expr Stmt
+abbrev pub meaning : List Decl → ℕ → Meaning Core Expr Stmt
 meaning ds d = meanings (nodes ds) d
 
-abbrev pub cutting : List Decl → ℕ → Cutting Expr Stmt
+abbrev pub cutting : List Decl → ℕ → Cutting Core Expr Stmt
 cutting ds d = cuttings (nodes ds) d
 
 -- statements in order, up to one that returns

@@ -8,8 +8,13 @@ pub mod Programs
 pub mod Values
 pub mod Told
 pub mod Plans
+pub mod States
 pub mod Cuts
 pub mod Evaluation
+pub mod Belonging
 pub mod Machines
+pub mod Visits
+pub mod Soundness
+pub mod OneRun
 pub mod Texts
 pub mod Report

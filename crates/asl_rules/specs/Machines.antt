@@ -3,7 +3,8 @@ use Rattle.std.specs.Prelude.{◌≡◌, ℕ, ◌-◌, ◌<◌, List, [], Option
 use Rattle.asl_syn.specs.declared.tree.Decl.{Decl}
 use Rattle.asl_rules.specs.Told.{Begins}
 use Rattle.asl_rules.specs.Values.{Value}
-use Rattle.asl_rules.specs.Plans.{Binding, Core, Meter, Outcome, final, run}
+use Rattle.asl_rules.specs.States.{Binding, Core}
+use Rattle.asl_rules.specs.Plans.{Meter, Outcome, final, run}
 use Rattle.asl_rules.specs.Evaluation.{meaning, call_of}
 
 -- how many nodes may be entered and not left
@@ -19,7 +20,7 @@ abbrev pub initial_globals : List Decl → List Binding
 initial_globals ds = []
 
 -- a call of a subprogram with these globals, steps and text so far
-unfoldable pub run_of : List Decl → ℕ → List Value → List Binding → Meter → Outcome (Option Value)
+unfoldable pub run_of : List Decl → ℕ → List Value → List Binding → Meter → Outcome Core (Option Value)
 run_of ds id args globals h = run (meaning ds most_open) (call_of ds id args (resting globals)) h
 
 -- the text after the call, had it this budget

@@ -10,7 +10,7 @@ use Rattle.asl_syn.specs.declared.tree.Func.{Func}
 use Rattle.asl_rules.specs.declared.entry.Entry.{Entry}
 use Rattle.asl_rules.specs.declared.entry.Entry.TheVariants as entry
 use Rattle.asl_rules.specs.Faults.{◌>>◌, need, fault}
-use Rattle.asl_rules.specs.Served.{is_empty, is_integer}
+use Rattle.asl_rules.specs.Served.{is_empty, is_integer, unserved_decls}
 use Rattle.asl_rules.specs.Types.{integer}
 use Rattle.asl_rules.specs.Names.{names_rule, all_declared}
 use Rattle.asl_rules.specs.Stmts.{stmts_rule, falls_through}
@@ -73,6 +73,7 @@ verdict e ds =
     bodies_rule (funcs_of ds) >>
     entry_rule e ds
 
--- declarations that are well formed with their entry
+-- declarations whose forms are served and that are well formed with their entry
 pub record ProgramOk (e : Entry) (ds : List Decl) (main : Option ℕ) : Type 0 where
+  pub served : unserved_decls ds ≡ None
   pub is : verdict e ds ≡ Ok main

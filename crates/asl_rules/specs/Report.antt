@@ -5,6 +5,7 @@ use Rattle.asl_syn.specs.declared.code.Fault.{Fault}
 use Rattle.asl_syn.specs.declared.tree.Decl.{Decl}
 use Rattle.asl_rules.specs.declared.entry.Entry.TheVariants as entry
 use Rattle.asl_rules.specs.Values.{Value}
+use Rattle.asl_rules.specs.States.{Core}
 use Rattle.asl_rules.specs.Plans.{Outcome, Done, Thrown, Halt, End, Faulted, Stuck}
 use Rattle.asl_rules.specs.Programs.{verdict}
 use Rattle.asl_rules.specs.Machines.{run_of, initial_globals}
@@ -57,7 +58,7 @@ halted files (Faulted code span) printed = answer (behind printed (dynamic_line 
 halted files (Stuck mistake span) printed = answer printed 4
 
 -- the end of a run: its printed text, and the line that says how it ended
-abbrev pub run_answer : List File → Outcome (Option Value) → Answer
+abbrev pub run_answer : List File → Outcome Core (Option Value) → Answer
 run_answer files (Done x c h) = answer (behind (told_text h.told) (outcome_line x)) 0
 run_answer files (Thrown x c h) = answer (behind (told_text h.told) (uncaught_line x)) 3
 run_answer files (Halt e c h) = halted files e (told_text h.told)

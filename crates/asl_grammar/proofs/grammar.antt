@@ -1,0 +1,12 @@
+pub mod Basics
+pub mod Readings
+pub mod Reading
+pub mod Faults
+pub mod Levels
+pub mod Deep
+pub mod Symbols
+pub mod Facts
+pub mod Checked
+pub mod Opening
+pub mod Stops
+pub mod Answered

@@ -1,0 +1,9 @@
+pub mod Cursor
+pub mod Kinds
+pub mod Combinators
+pub mod Reader
+pub mod Opening
+pub mod Syntax
+pub mod Build
+pub mod Rules
+pub mod Language

@@ -1,0 +1,1137 @@
+-- The grammar of the language: a rule for each production, such that one token is enough to choose by. The productions that begin
+-- alike are joined, and a comment gives each rule's production.
+-- Written by tools/grammar/generate.py from tools/grammar/table.py.
+use Rattle.std.specs.Prelude.{◌⊎◌, Bool, true, false, nat_eq, ℕ, List, [], ◌∷◌, ◌++◌, Option, Some, None}
+use mathlib.Core.Logic.{inl, inr}
+use Rattle.asl_syn.specs.declared.tree.Expr.{Expr}
+use Rattle.asl_syn.specs.declared.tree.Expr.TheVariants as ex
+use Rattle.asl_syn.specs.declared.tree.FieldValue.{FieldValue}
+use Rattle.asl_syn.specs.declared.tree.FieldValue.TheVariants as fv
+use Rattle.asl_syn.specs.declared.tree.Slice.{Slice}
+use Rattle.asl_syn.specs.declared.tree.TypeExpr.{TypeExpr}
+use Rattle.asl_syn.specs.declared.tree.TypeExpr.TheVariants as ty
+use Rattle.asl_syn.specs.declared.tree.ConstraintPart.{ConstraintPart}
+use Rattle.asl_syn.specs.declared.tree.Bitfield.{Bitfield}
+use Rattle.asl_syn.specs.declared.tree.Pattern.{Pattern}
+use Rattle.asl_syn.specs.declared.tree.Pattern.TheVariants as pa
+use Rattle.asl_syn.specs.declared.tree.Suffix.{Suffix}
+use Rattle.asl_syn.specs.declared.tree.Suffix.TheVariants as su
+use Rattle.asl_syn.specs.declared.tree.PlacedSuffix.{PlacedSuffix}
+use Rattle.asl_syn.specs.declared.tree.Target.{Target}
+use Rattle.asl_syn.specs.declared.tree.Target.TheVariants as tg
+use Rattle.asl_syn.specs.declared.tree.Binder.{Binder}
+use Rattle.asl_syn.specs.declared.tree.Binder.TheVariants as bd
+use Rattle.asl_syn.specs.declared.tree.Bind.{Bind}
+use Rattle.asl_syn.specs.declared.tree.Bind.TheVariants as bi
+use Rattle.asl_syn.specs.declared.tree.PrintItem.{PrintItem}
+use Rattle.asl_syn.specs.declared.tree.PrintItem.TheVariants as pi
+use Rattle.asl_syn.specs.declared.tree.Stmt.{Stmt}
+use Rattle.asl_syn.specs.declared.tree.Stmt.TheVariants as stm
+use Rattle.asl_syn.specs.declared.tree.ElseIf.{ElseIf}
+use Rattle.asl_syn.specs.declared.tree.ElseIf.TheVariants as ei
+use Rattle.asl_syn.specs.declared.tree.Alternative.{Alternative}
+use Rattle.asl_syn.specs.declared.tree.Alternative.TheVariants as al
+use Rattle.asl_syn.specs.declared.tree.Otherwise.{Otherwise}
+use Rattle.asl_syn.specs.declared.tree.Otherwise.TheVariants as ot
+use Rattle.asl_syn.specs.declared.tree.Catcher.{Catcher}
+use Rattle.asl_syn.specs.declared.tree.Formal.{Formal}
+use Rattle.asl_syn.specs.declared.tree.Param.{Param}
+use Rattle.asl_syn.specs.declared.tree.TypeDef.{TypeDef}
+use Rattle.asl_syn.specs.declared.tree.TypeDef.TheVariants as td
+use Rattle.asl_syn.specs.declared.tree.StorageKind.TheVariants as sk
+use Rattle.asl_syn.specs.declared.tree.Qualifier.{Qualifier}
+use Rattle.asl_syn.specs.declared.tree.Decl.{Decl}
+use Rattle.asl_syn.specs.declared.tree.Decl.TheVariants as dc
+use Rattle.asl_syn.specs.declared.tree.Ident.{Ident}
+use Rattle.asl_syn.specs.declared.tree.LocalKind.TheVariants as lk
+use Rattle.asl_syn.specs.declared.tree.Direction.{Direction}
+use Rattle.asl_grammar.specs.declared.parts.AfterName.{AfterName}
+use Rattle.asl_grammar.specs.declared.parts.AfterName.TheVariants as an
+use Rattle.asl_grammar.specs.declared.parts.Braces.{Braces}
+use Rattle.asl_grammar.specs.declared.parts.Braces.TheVariants as br
+use Rattle.asl_grammar.specs.declared.parts.VarTail.{VarTail}
+use Rattle.asl_grammar.specs.declared.parts.VarTail.TheVariants as vt
+use Rattle.asl_grammar.specs.grammar.Kinds.{code, NAME, INTEGER_LITERAL, BITS_LITERAL, MASK_LITERAL, STRING_LITERAL, OPEN_PAREN, CLOSE_PAREN, OPEN_BRACKET, CLOSE_BRACKET, OPEN_BRACE, CLOSE_BRACE, SEMICOLON, COMMA, DOT, DOT_DOT, COLON, COLON_COLON, ASSIGN, EQUAL, FAT_ARROW, BANG, NOT_EQUAL, AND_AND, OR_OR, IMPLIES, IFF, LESS, LESS_EQUAL, SHIFT_LEFT, GREATER, GREATER_EQUAL, SHIFT_RIGHT, PLUS, PLUS_COLON, MINUS, STAR, STAR_COLON, CARET, BIT_AND, DIV, DIV_RM, FALSE, IN, MOD, NOT, BIT_OR, TRUE, BIT_XOR, ARRAY, AS, ASSERT, BEGIN, BIT, BITS, BOOLEAN, CASE, CATCH, CONSTANT, DO, DOWN_TO, ELSE, ELS_IF, END, ENUMERATION, EXCEPTION, FOR, FUNC, IF, INTEGER, LET, LOOP_LIMIT, OF, OTHERWISE, PASS, PRINT, PRINT_LINE, PURE, READ_ONLY, RECORD, RECURSE_LIMIT, REPEAT, RETURN, SUBTYPES, THEN, THROW, TO, TRY, TYPE, UNREACHABLE, UNTIL, VAR, WHEN, WHERE, WHILE}
+use Rattle.asl_grammar.specs.grammar.Cursor.{Lexeme, Extent, Codes, whole}
+use Rattle.asl_grammar.specs.grammar.Combinators.{G, tok, opens, into, seq, either, opt, many, by, spanned, scope, closed, trail, costs, follows}
+use Rattle.asl_grammar.specs.grammar.Build.{seconds, or_nil, int_of, ident, unary_of, direction_of, print_kind_of, storage_kind_of, qualifier_of, or_unqualified, Link, Links, AsLinks, chained, compared, as_chained, joined, finished, Posts, posted, parens_of, named_of, parameters_or, empty_or, braced, LateTail, NameTail, minus_in_braces_of, name_in_braces_of, slice_of, constraint_part_of, bitfield_of, pattern_of, SumTail, LateRange, minus_pattern_of, bang_pattern_of, bound_of, pattern_parens_of, place_of, var_tail_of, var_of, name_statement_of, or_no_otherwise, no_catchers, catch_of, untyped, VarRest, MoreNames, Typed, Untyped}
+
+-- what stands behind a token that opens a level
+pub data Sym : Type 0 where
+  -- after `(` of an expression
+  Parenthesized : Sym
+  -- after `(` of a call
+  Arguments : Sym
+  -- after `{` behind a name
+  Braced : Sym
+  -- after a prefix operator
+  Operand : Sym
+  -- after `if` of an expression
+  IfParts : Sym
+  -- after `[` of a suffix
+  Bracketed : Sym
+  -- after `(` of `bits`
+  Width : Sym
+  -- after `{` of a set
+  SetParts : Sym
+  -- after `(` of a pattern
+  PatternParts : Sym
+  -- after `{` of a constraint
+  ConstraintParts : Sym
+  -- after `{` of a `bits` type
+  Bitfields : Sym
+  -- after `(` of a type
+  TypeParts : Sym
+  -- after `array`
+  ArrayParts : Sym
+  -- after `(` of a target
+  TargetParts : Sym
+  -- after `if` of a statement
+  IfBody : Sym
+  -- after `case`
+  CaseBody : Sym
+  -- after `for`
+  ForBody : Sym
+  -- after `while`
+  WhileBody : Sym
+  -- after `repeat`
+  RepeatBody : Sym
+  -- after `try`
+  TryBody : Sym
+  -- the whole text
+  Program : Sym
+
+-- what it is read to
+abbrev pub Val : Sym → Type 0
+Val Parenthesized = List Expr
+Val Arguments = List Expr
+Val Braced = Braces
+Val Operand = Expr
+Val IfParts = Expr × Expr × Expr
+Val Bracketed = Suffix
+Val Width = Expr
+Val SetParts = List Pattern
+Val PatternParts = List Pattern
+Val ConstraintParts = List ConstraintPart
+Val Bitfields = List Bitfield
+Val TypeParts = List TypeExpr
+Val ArrayParts = Expr × TypeExpr
+Val TargetParts = List Target
+Val IfBody = Expr × List Stmt × List ElseIf × List Stmt
+Val CaseBody = Expr × List Alternative × Otherwise
+Val ForBody = Ident × Expr × Direction × Expr × Option Expr × List Stmt
+Val WhileBody = Expr × Option Expr × List Stmt
+Val RepeatBody = List Stmt × Expr × Option Expr
+Val TryBody = List Stmt × List Catcher × Otherwise
+Val Program = List Decl
+
+abbrev pub Rule : Type 0 → Type 1
+Rule A = G Sym Val A
+
+-- ---- Names and literals
+
+-- NAME
+unfoldable pub name : Rule (Ident)
+name = by ident (tok (NAME ∷ []))
+
+-- NAME,..
+unfoldable pub names : Rule (List Ident)
+names = by (λ r. r.0 ∷ seconds r.1) (seq name (many (seq (tok (COMMA ∷ [])) name)))
+
+-- INT
+unfoldable pub integer_literal : Rule (Expr)
+integer_literal = by (λ r. ex.Int r.span (int_of r.kind)) (tok (INTEGER_LITERAL ∷ []))
+
+-- BITS
+unfoldable pub bits_literal : Rule (Expr)
+bits_literal = by (λ r. ex.Bits r.span r.text) (tok (BITS_LITERAL ∷ []))
+
+-- "TRUE" | "FALSE"
+unfoldable pub boolean_literal : Rule (Expr)
+boolean_literal = by (λ r. ex.Bool r.span (nat_eq (code r.kind) TRUE)) (tok (TRUE ∷ FALSE ∷ []))
+
+-- INT | BITS | "TRUE" | "FALSE"
+unfoldable pub literal : Rule (Expr)
+literal = either integer_literal (either bits_literal boolean_literal)
+
+-- ---- Primaries and suffixes
+
+-- "(" expr,.. ")"
+unfoldable pub parenthesized : Rule (Expr)
+parenthesized = by (λ r. parens_of (whole r.1) r.0.1) (spanned (scope (into (OPEN_PAREN ∷ []) Parenthesized)))
+
+-- "(" (expr,..)? ")"
+unfoldable pub arguments : Rule (List Expr)
+arguments = by (λ r. r.1) (scope (into (OPEN_PAREN ∷ []) Arguments))
+
+-- "{" ("-" | (NAME "=" expr),..)? "}", or "{" (expr,..)? "}" as parameters
+unfoldable pub braces : Rule (Braces)
+braces = by (λ r. r.1) (scope (into (OPEN_BRACE ∷ []) Braced))
+
+-- arguments follow parameters
+unfoldable pub braces_called : Rule (Option (List FieldValue) ⊎ (List Expr × List Expr))
+braces_called = follows (by parameters_or braces) arguments
+
+-- arguments may follow empty braces, which are a construction without them
+unfoldable pub after_braces : Rule (AfterName)
+after_braces = by braced (follows (by empty_or braces_called) (opt arguments))
+
+-- args, or the braces of a construction
+unfoldable pub after_name : Rule (AfterName)
+after_name = either (by (an.Called []) arguments) after_braces
+
+unfoldable pub maybe_after_name : Rule (Option (AfterName × Extent))
+maybe_after_name = opt (spanned after_name)
+
+-- NAME | NAME args | NAME "{" ("-" | (NAME "=" expr),..)? "}"
+unfoldable pub named : Rule (Expr)
+named = by (λ r. named_of r.0 r.1) (seq name maybe_after_name)
+
+-- "[" NAME,.. "]"
+unfoldable pub field_list : Rule (Suffix)
+field_list = by (λ r. su.FieldsOf r) (scope (by (λ r. r.1.0) (seq (opens (OPEN_BRACKET ∷ [])) (seq names (tok (CLOSE_BRACKET ∷ []))))))
+
+-- what follows `.`
+unfoldable pub dotted : Rule (Suffix)
+dotted = either (by su.FieldOf name) field_list
+
+-- "." NAME | "." "[" NAME,.. "]"
+unfoldable pub dot : Rule (Suffix)
+dot = by (λ r. r.1) (seq (opens (DOT ∷ [])) dotted)
+
+-- "[" slice,.. "]" | "[" "[" expr "]" "]"; a level for the operator, and one for the bracket
+unfoldable pub bracket : Rule (Suffix)
+bracket = by (λ r. r.1) (costs false (scope (into (OPEN_BRACKET ∷ []) Bracketed)))
+
+unfoldable pub suffix_part : Rule (Suffix)
+suffix_part = either dot bracket
+
+-- suffix = "." NAME | "." "[" NAME,.. "]" | "[" slice,.. "]" | "[" "[" expr "]" "]"
+unfoldable pub suffix : Rule (PlacedSuffix)
+suffix = by (λ r. record { end = r.1.to; suffix = r.0 }) (spanned suffix_part)
+
+-- suffix*
+unfoldable pub suffixes : Rule (List PlacedSuffix)
+suffixes = many suffix
+
+-- BITS
+unfoldable pub bits_pattern : Rule (Pattern)
+bits_pattern = by (λ r. pa.ValuePattern r.span (ex.Bits r.span r.text)) (tok (BITS_LITERAL ∷ []))
+
+-- MASK
+unfoldable pub mask_pattern : Rule (Pattern)
+mask_pattern = by (λ r. pa.MaskPattern r.span r.text) (tok (MASK_LITERAL ∷ []))
+
+-- "{" pattern,.. "}"
+unfoldable pub set_braces : Rule (List Pattern)
+set_braces = by (λ r. r.1) (scope (into (OPEN_BRACE ∷ []) SetParts))
+
+unfoldable pub set_pattern : Rule (Pattern)
+set_pattern = by (λ r. pa.SetPattern (whole r.1) false r.0) (spanned set_braces)
+
+unfoldable pub not_set_pattern : Rule (Pattern)
+not_set_pattern = by (λ r. pa.SetPattern (whole r.1) true r.0.1) (spanned (seq (tok (BANG ∷ [])) set_braces))
+
+-- set | BITS | MASK
+unfoldable pub in_pattern : Rule (Pattern)
+in_pattern = either not_set_pattern (either set_pattern (either bits_pattern mask_pattern))
+
+-- ("IN" (set | BITS | MASK))?
+unfoldable pub in_clause : Rule (Option (Pattern × Extent))
+in_clause = opt (by (λ r. r.1) (seq (opens (IN ∷ [])) (spanned in_pattern)))
+
+-- suffix* ("IN" (set | BITS | MASK))?
+unfoldable pub post_rest : Rule (Posts)
+post_rest = seq suffixes in_clause
+
+-- post = prim suffix*, with what may follow it
+unfoldable pub post_literal : Rule (Expr)
+post_literal = by (λ r. posted r.0.1.from r.0.0 r.1) (seq (spanned literal) post_rest)
+
+unfoldable pub post_parenthesized : Rule (Expr)
+post_parenthesized = by (λ r. posted r.0.1.from r.0.0 r.1) (seq (spanned parenthesized) post_rest)
+
+unfoldable pub post_named : Rule (Expr)
+post_named = by (λ r. posted r.0.1.from r.0.0 r.1) (seq (spanned named) post_rest)
+
+-- ---- Operators
+
+-- ("-" | "!" | "NOT") unary, for some of these operators
+unfoldable pub prefixed_by : (operators : Codes) → Rule (Expr)
+prefixed_by operators = by (λ r. ex.Unary (whole r.1) (unary_of (code r.0.0.kind)) r.0.1) (spanned (into operators Operand))
+
+-- unary = ("-" | "!" | "NOT") unary | post ("IN" (set | BITS | MASK))?
+unfoldable pub unary : Rule (Expr)
+unary = either (prefixed_by (MINUS ∷ BANG ∷ NOT ∷ [])) (either post_literal (either post_parenthesized post_named))
+
+-- ("^" unary)*
+unfoldable pub power_rest : Rule (Links)
+power_rest = many (seq (opens (CARET ∷ [])) (spanned unary))
+
+-- pow = unary ("^" unary)*
+unfoldable pub power : Rule (Expr)
+power = by (λ r. chained r.0.1.from r.0.0 r.1) (seq (spanned unary) power_rest)
+
+-- (("*" | "DIV" | "DIVRM" | "MOD" | "<<" | ">>") pow)*
+unfoldable pub product_rest : Rule (Links)
+product_rest = many (seq (opens (STAR ∷ DIV ∷ DIV_RM ∷ MOD ∷ SHIFT_LEFT ∷ SHIFT_RIGHT ∷ [])) (spanned power))
+
+-- mul = pow (("*" | "DIV" | "DIVRM" | "MOD" | "<<" | ">>") pow)*
+unfoldable pub product : Rule (Expr)
+product = by (λ r. chained r.0.1.from r.0.0 r.1) (seq (spanned power) product_rest)
+
+-- (("+" | "-" | "AND" | "OR" | "XOR" | "::") mul)*
+unfoldable pub sum_rest : Rule (Links)
+sum_rest = many (seq (opens (PLUS ∷ MINUS ∷ BIT_AND ∷ BIT_OR ∷ BIT_XOR ∷ COLON_COLON ∷ [])) (spanned product))
+
+-- sum = mul (("+" | "-" | "AND" | "OR" | "XOR" | "::") mul)*
+unfoldable pub sum : Rule (Expr)
+sum = by (λ r. chained r.0.1.from r.0.0 r.1) (seq (spanned product) sum_rest)
+
+-- (("<" | "<=" | ">" | ">=") sum)?
+unfoldable pub comparison_rest : Rule (Option Link)
+comparison_rest = opt (seq (opens (LESS ∷ LESS_EQUAL ∷ GREATER ∷ GREATER_EQUAL ∷ [])) (spanned sum))
+
+-- cmp = sum (("<" | "<=" | ">" | ">=") sum)?
+unfoldable pub comparison : Rule (Expr)
+comparison = by (λ r. compared r.0.1.from r.0.0 r.1) (seq (spanned sum) comparison_rest)
+
+-- (("==" | "!=") cmp)*
+unfoldable pub equality_rest : Rule (Links)
+equality_rest = many (seq (opens (EQUAL ∷ NOT_EQUAL ∷ [])) (spanned comparison))
+
+-- eq = cmp (("==" | "!=") cmp)*
+unfoldable pub equality : Rule (Expr)
+equality = by (λ r. chained r.0.1.from r.0.0 r.1) (seq (spanned comparison) equality_rest)
+
+-- (operator eq)*
+unfoldable pub links_by : (operator : ℕ) → Rule (Links)
+links_by operator = many (seq (opens (operator ∷ [])) (spanned equality))
+
+-- (operator eq)+
+unfoldable pub some_links_by : (operator : ℕ) → Rule (Links)
+some_links_by operator = by (λ r. (r.0, r.1.0) ∷ r.1.1) (seq (opens (operator ∷ [])) (seq (spanned equality) (links_by operator)))
+
+unfoldable pub logic_links : Rule (Links)
+logic_links = either (some_links_by AND_AND) (either (some_links_by OR_OR) (either (some_links_by IMPLIES) (some_links_by IFF)))
+
+-- ("&&" eq)* | ("||" eq)* | ("-->" eq)* | ("<->" eq)*
+unfoldable pub logic_rest : Rule (Option Links)
+logic_rest = opt logic_links
+
+-- logic = eq (("&&" eq)* | ("||" eq)* | ("-->" eq)* | ("<->" eq)*)
+unfoldable pub logic : Rule (Expr)
+logic = by (λ r. chained r.0.1.from r.0.0 (or_nil r.1)) (seq (spanned equality) logic_rest)
+
+-- ---- Types
+
+-- cons = "{" range,.. "}"
+unfoldable pub constraint : Rule (List ConstraintPart)
+constraint = by (λ r. r.1) (scope (into (OPEN_BRACE ∷ []) ConstraintParts))
+
+-- cons?
+unfoldable pub maybe_constraint : Rule (List ConstraintPart)
+maybe_constraint = by or_nil (opt constraint)
+
+-- "integer" cons?
+unfoldable pub integer_type : Rule (TypeExpr)
+integer_type = by (λ r. ty.IntegerType (whole r.1) r.0.1) (spanned (seq (tok (INTEGER ∷ [])) maybe_constraint))
+
+-- "boolean"
+unfoldable pub boolean_type : Rule (TypeExpr)
+boolean_type = by (λ r. ty.BooleanType r.span) (tok (BOOLEAN ∷ []))
+
+-- "bit"
+unfoldable pub bit_type : Rule (TypeExpr)
+bit_type = by (λ r. ty.BitType r.span) (tok (BIT ∷ []))
+
+-- NAME
+unfoldable pub named_type : Rule (TypeExpr)
+named_type = by (λ r. ty.NamedType r.span r.text) (tok (NAME ∷ []))
+
+-- "{" (bf,.. ","?)? "}"
+unfoldable pub bitfields : Rule (List Bitfield)
+bitfields = by (λ r. r.1) (scope (into (OPEN_BRACE ∷ []) Bitfields))
+
+unfoldable pub maybe_bitfields : Rule (List Bitfield)
+maybe_bitfields = by or_nil (opt bitfields)
+
+-- "bits" "(" expr ")" ("{" (bf,.. ","?)? "}")?
+unfoldable pub bits_type : Rule (TypeExpr)
+bits_type = by (λ r. ty.BitsType (whole r.1) r.0.1.0.1 r.0.1.1) (spanned (seq (tok (BITS ∷ [])) (seq (scope (into (OPEN_PAREN ∷ []) Width)) maybe_bitfields)))
+
+-- "(" type "," type,.. ")"
+unfoldable pub tuple_type : Rule (TypeExpr)
+tuple_type = by (λ r. ty.TupleType (whole r.1) r.0.1) (spanned (scope (into (OPEN_PAREN ∷ []) TypeParts)))
+
+-- "array" "[" "[" expr "]" "]" "of" type
+unfoldable pub array_type : Rule (TypeExpr)
+array_type = by (λ r. ty.ArrayType (whole r.1) r.0.1.0 r.0.1.1) (spanned (scope (into (ARRAY ∷ []) ArrayParts)))
+
+-- type = "integer" cons? | "boolean" | "bit" | NAME | "bits" "(" expr ")" ("{" (bf,.. ","?)? "}")? | "(" type "," type,.. ")" | "array" "[" "[" expr "]" "]" "of" type
+unfoldable pub type_expression : Rule (TypeExpr)
+type_expression = either integer_type (either boolean_type (either bit_type (either named_type (either bits_type (either tuple_type array_type)))))
+
+-- e as {..} means e as integer {..}
+unfoldable pub constraint_type : Rule (TypeExpr)
+constraint_type = by (λ r. ty.IntegerType (whole r.1) r.0) (spanned constraint)
+
+-- type | cons
+unfoldable pub as_type : Rule (TypeExpr)
+as_type = either type_expression constraint_type
+
+-- ---- Operators
+
+-- ("as" (type | cons))*
+unfoldable pub as_rest : Rule (AsLinks)
+as_rest = many (by (λ r. r.1) (seq (opens (AS ∷ [])) (spanned as_type)))
+
+-- logic ("as" (type | cons))*
+unfoldable pub as_chain : Rule (Expr)
+as_chain = by (λ r. as_chained r.0.1.from r.0.0 r.1) (seq (spanned logic) as_rest)
+
+-- "if" expr "then" expr "else" expr: its level ends with it, and those of operators in it do not
+unfoldable pub conditional : Rule (Expr)
+conditional = by (λ r. ex.Conditional (whole r.1) r.0.1.0 r.0.1.1 r.0.1.2) (spanned (closed (IF ∷ []) IfParts))
+
+-- expr = "if" expr "then" expr "else" expr | logic ("as" (type | cons))*, inside a greater one
+unfoldable pub open_expression : Rule (Expr)
+open_expression = either conditional as_chain
+
+-- an outermost expression
+unfoldable pub expression : Rule (Expr)
+expression = scope open_expression
+
+-- expr "then" expr "else" expr
+unfoldable pub if_parts : Rule (Expr × Expr × Expr)
+if_parts = by (λ r. (r.0, r.1.1.0, r.1.1.1.1)) (seq open_expression (seq (tok (THEN ∷ [])) (seq open_expression (seq (tok (ELSE ∷ [])) open_expression))))
+
+-- how an expression goes on behind its first unary
+unfoldable pub rest : Rule (Links × AsLinks)
+rest = by (λ r. (joined r.0 r.1.0 r.1.1.0 r.1.1.1.0 r.1.1.1.1.0 r.1.1.1.1.1.0, r.1.1.1.1.1.1)) (seq power_rest (seq product_rest (seq sum_rest (seq comparison_rest (seq equality_rest (seq logic_rest as_rest))))))
+
+-- ("," expr)*
+unfoldable pub more_expressions : Rule (List Expr)
+more_expressions = by seconds (many (seq (tok (COMMA ∷ [])) expression))
+
+-- expr,..
+unfoldable pub expressions : Rule (List Expr)
+expressions = by (λ r. r.0 ∷ r.1) (seq expression more_expressions)
+
+-- (expr,..)?
+unfoldable pub maybe_expressions : Rule (List Expr)
+maybe_expressions = by or_nil (opt expressions)
+
+-- expr?
+unfoldable pub maybe_expression : Rule (Option Expr)
+maybe_expression = opt expression
+
+unfoldable pub parenthesized_in : Rule (List Expr)
+parenthesized_in = by (λ r. r.0) (seq expressions (tok (CLOSE_PAREN ∷ [])))
+
+unfoldable pub arguments_in : Rule (List Expr)
+arguments_in = by (λ r. r.0) (seq maybe_expressions (tok (CLOSE_PAREN ∷ [])))
+
+unfoldable pub width_in : Rule (Expr)
+width_in = by (λ r. r.0) (seq expression (tok (CLOSE_PAREN ∷ [])))
+
+-- ---- Braces behind a name
+
+-- an expression behind a prefix operator that was read, whose level is charged here
+unfoldable pub late_expression : Rule (LateTail)
+late_expression = scope (costs true (seq (spanned unary) rest))
+
+-- an expression behind a name that was read
+unfoldable pub expression_after_name : Rule (NameTail)
+expression_after_name = scope (seq maybe_after_name (seq post_rest rest))
+
+-- a unary that begins with neither a name nor `-`
+unfoldable pub other_unary : Rule (Expr)
+other_unary = either (prefixed_by (BANG ∷ NOT ∷ [])) (either post_literal post_parenthesized)
+
+unfoldable pub other_chain : Rule (Expr)
+other_chain = by (λ r. finished r.0.1.from r.0.0 r.1) (seq (spanned other_unary) rest)
+
+-- an expression that begins with neither a name nor `-`
+unfoldable pub other_expression : Rule (Expr)
+other_expression = scope (either conditional other_chain)
+
+-- NAME "=" expr
+unfoldable pub field_value : Rule (FieldValue)
+field_value = by (λ r. fv.Given r.0 r.1.1) (seq name (seq (tok (ASSIGN ∷ [])) expression))
+
+-- ("," NAME "=" expr)*
+unfoldable pub more_field_values : Rule (List FieldValue)
+more_field_values = by seconds (many (seq (tok (COMMA ∷ [])) field_value))
+
+-- "=" expr ("," NAME "=" expr)* "}"
+unfoldable pub field_values_after_name : Rule (Expr × List FieldValue)
+field_values_after_name = by (λ r. (r.1.0, r.1.1.0)) (seq (tok (ASSIGN ∷ [])) (seq expression (seq more_field_values (tok (CLOSE_BRACE ∷ [])))))
+
+-- ("," expr)* "}"
+unfoldable pub more_parameters : Rule (List Expr)
+more_parameters = by (λ r. r.0) (seq more_expressions (tok (CLOSE_BRACE ∷ [])))
+
+unfoldable pub parameters_after_minus : Rule (LateTail × List Expr)
+parameters_after_minus = seq late_expression more_parameters
+
+unfoldable pub parameters_after_name : Rule (NameTail × List Expr)
+parameters_after_name = seq expression_after_name more_parameters
+
+unfoldable pub minus_alone : Rule (Option (LateTail × List Expr))
+minus_alone = by (λ r. None) (tok (CLOSE_BRACE ∷ []))
+
+unfoldable pub after_minus : Rule (Option (LateTail × List Expr))
+after_minus = either minus_alone (by Some parameters_after_minus)
+
+unfoldable pub after_first_name : Rule ((Expr × List FieldValue) ⊎ (NameTail × List Expr))
+after_first_name = either (by inl field_values_after_name) (by inr parameters_after_name)
+
+-- "-", or parameters of which the first begins with `-`
+unfoldable pub minus_in_braces : Rule (Braces)
+minus_in_braces = by (λ r. minus_in_braces_of r.0 r.1) (seq (tok (MINUS ∷ [])) after_minus)
+
+-- fields, or parameters of which the first begins with a name
+unfoldable pub name_in_braces : Rule (Braces)
+name_in_braces = by (λ r. name_in_braces_of r.0 r.1) (seq name after_first_name)
+
+-- other parameters
+unfoldable pub other_in_braces : Rule (Braces)
+other_in_braces = by (λ r. br.Parameters (r.0 ∷ r.1)) (seq other_expression more_parameters)
+
+unfoldable pub empty_braces : Rule (Braces)
+empty_braces = by (λ r. br.Empty) (tok (CLOSE_BRACE ∷ []))
+
+unfoldable pub braced_in : Rule (Braces)
+braced_in = either empty_braces (either minus_in_braces (either name_in_braces other_in_braces))
+
+-- ---- Slices
+
+unfoldable pub slice_rest : Rule (Option (Lexeme × Expr))
+slice_rest = opt (seq (tok (COLON ∷ PLUS_COLON ∷ STAR_COLON ∷ [])) expression)
+
+-- slice = expr | expr ":" expr | expr "+:" expr | expr "*:" expr
+unfoldable pub slice : Rule (Slice)
+slice = by (λ r. slice_of r.0 r.1) (seq expression slice_rest)
+
+-- slice,..
+unfoldable pub slices : Rule (List Slice)
+slices = by (λ r. r.0 ∷ seconds r.1) (seq slice (many (seq (tok (COMMA ∷ [])) slice)))
+
+unfoldable pub slices_in : Rule (Suffix)
+slices_in = by (λ r. su.SlicesOf r.0) (seq slices (tok (CLOSE_BRACKET ∷ [])))
+
+unfoldable pub element : Rule (Suffix)
+element = by (λ r. su.ElementOf r.0) (seq (scope (by (λ r. r.1.0) (seq (opens (OPEN_BRACKET ∷ [])) (seq expression (tok (CLOSE_BRACKET ∷ [])))))) (tok (CLOSE_BRACKET ∷ [])))
+
+unfoldable pub bracketed_in : Rule (Suffix)
+bracketed_in = either element slices_in
+
+-- ---- Patterns
+
+-- how a sum goes on behind its first unary
+unfoldable pub sum_rests : Rule (Links)
+sum_rests = by (λ r. r.0 ++ (r.1.0 ++ r.1.1)) (seq power_rest (seq product_rest sum_rest))
+
+-- an outermost sum
+unfoldable pub scoped_sum : Rule (Expr)
+scoped_sum = scope sum
+
+-- (".." sum)?
+unfoldable pub range_end : Rule (Option Expr)
+range_end = opt (by (λ r. r.1) (seq (tok (DOT_DOT ∷ [])) scoped_sum))
+
+-- a sum behind a prefix operator that was read, whose level is charged here
+unfoldable pub late_sum : Rule (SumTail)
+late_sum = scope (costs true (seq (spanned unary) sum_rests))
+
+unfoldable pub late_range : Rule (LateRange)
+late_range = seq late_sum range_end
+
+unfoldable pub maybe_late_range : Rule (Option LateRange)
+maybe_late_range = opt late_range
+
+-- "-", and a sum that begins with `-`
+unfoldable pub minus_pattern : Rule (Pattern)
+minus_pattern = by (λ r. minus_pattern_of (whole r.1) r.0.0 r.0.1) (spanned (seq (tok (MINUS ∷ [])) maybe_late_range))
+
+unfoldable pub after_bang : Rule (List Pattern ⊎ LateRange)
+after_bang = either (by inl set_braces) (by inr late_range)
+
+-- a set with `!`, and a sum that begins with `!`
+unfoldable pub bang_pattern : Rule (Pattern)
+bang_pattern = by (λ r. bang_pattern_of (whole r.1) r.0.0 r.0.1) (spanned (seq (tok (BANG ∷ [])) after_bang))
+
+-- ("<=" | ">=") sum
+unfoldable pub bound_pattern : Rule (Pattern)
+bound_pattern = by (λ r. bound_of (whole r.1) (code r.0.0.kind) r.0.1) (spanned (seq (tok (LESS_EQUAL ∷ GREATER_EQUAL ∷ [])) scoped_sum))
+
+-- "(" pattern,.. ")"
+unfoldable pub pattern_in_parens : Rule (Pattern)
+pattern_in_parens = by (λ r. pattern_parens_of (whole r.1) r.0.1) (spanned (scope (into (OPEN_PAREN ∷ []) PatternParts)))
+
+-- a unary that begins with none of `-`, `!`, `(`
+unfoldable pub plain_unary : Rule (Expr)
+plain_unary = either (prefixed_by (NOT ∷ [])) (either post_literal post_named)
+
+unfoldable pub plain_sum : Rule (Expr)
+plain_sum = scope (by (λ r. chained r.0.1.from r.0.0 r.1) (seq (spanned plain_unary) sum_rests))
+
+-- sum (".." sum)?, where the sum begins with none of `-`, `!`, `(`
+unfoldable pub sum_pattern : Rule (Pattern)
+sum_pattern = by (λ r. pattern_of (whole r.1) r.0.0 r.0.1) (spanned (seq plain_sum range_end))
+
+-- pattern = "-" | set | MASK | ("<=" | ">=") sum | "(" pattern,.. ")" | sum (".." sum)?
+unfoldable pub pattern : Rule (Pattern)
+pattern = either minus_pattern (either bang_pattern (either set_pattern (either mask_pattern (either bound_pattern (either pattern_in_parens sum_pattern)))))
+
+-- pattern,..
+unfoldable pub patterns : Rule (List Pattern)
+patterns = by (λ r. r.0 ∷ seconds r.1) (seq pattern (many (seq (tok (COMMA ∷ [])) pattern)))
+
+unfoldable pub set_parts : Rule (List Pattern)
+set_parts = by (λ r. r.0) (seq patterns (tok (CLOSE_BRACE ∷ [])))
+
+unfoldable pub pattern_parts : Rule (List Pattern)
+pattern_parts = by (λ r. r.0) (seq patterns (tok (CLOSE_PAREN ∷ [])))
+
+-- ---- Types
+
+-- (".." expr)?
+unfoldable pub constraint_end : Rule (Option Expr)
+constraint_end = opt (by (λ r. r.1) (seq (tok (DOT_DOT ∷ [])) expression))
+
+-- range = expr (".." expr)?
+unfoldable pub constraint_part : Rule (ConstraintPart)
+constraint_part = by (λ r. constraint_part_of r.0 r.1) (seq expression constraint_end)
+
+-- range,..
+unfoldable pub constraint_list : Rule (List ConstraintPart)
+constraint_list = by (λ r. r.0 ∷ seconds r.1) (seq constraint_part (many (seq (tok (COMMA ∷ [])) constraint_part)))
+
+unfoldable pub constraint_parts : Rule (List ConstraintPart)
+constraint_parts = by (λ r. r.0) (seq constraint_list (tok (CLOSE_BRACE ∷ [])))
+
+-- (":" expr)?
+unfoldable pub low_end : Rule (Option Expr)
+low_end = opt (by (λ r. r.1) (seq (tok (COLON ∷ [])) expression))
+
+-- "[" expr (":" expr)? "]"
+unfoldable pub bit_ends : Rule (Expr × Option Expr)
+bit_ends = scope (by (λ r. (r.1.0, r.1.1.0)) (seq (opens (OPEN_BRACKET ∷ [])) (seq expression (seq low_end (tok (CLOSE_BRACKET ∷ []))))))
+
+-- bf = "[" expr (":" expr)? "]" NAME
+unfoldable pub bitfield : Rule (Bitfield)
+bitfield = by (λ r. bitfield_of r.0.0 r.0.1 r.1) (seq bit_ends name)
+
+-- bf,.. ","?
+unfoldable pub bitfield_list : Rule (List Bitfield)
+bitfield_list = by (λ r. r.0 ∷ seconds r.1.0) (seq bitfield (trail (COMMA ∷ []) bitfield))
+
+-- (bf,.. ","?)?
+unfoldable pub maybe_bitfield_list : Rule (List Bitfield)
+maybe_bitfield_list = by or_nil (opt bitfield_list)
+
+unfoldable pub bitfields_in : Rule (List Bitfield)
+bitfields_in = by (λ r. r.0) (seq maybe_bitfield_list (tok (CLOSE_BRACE ∷ [])))
+
+-- type,..
+unfoldable pub type_list : Rule (List TypeExpr)
+type_list = by (λ r. r.0 ∷ seconds r.1) (seq type_expression (many (seq (tok (COMMA ∷ [])) type_expression)))
+
+-- type "," type,.. ")"
+unfoldable pub type_parts : Rule (List TypeExpr)
+type_parts = by (λ r. r.0 ∷ r.1.1.0) (seq type_expression (seq (tok (COMMA ∷ [])) (seq type_list (tok (CLOSE_PAREN ∷ [])))))
+
+-- "[" "[" expr "]" "]"
+unfoldable pub array_length : Rule (Expr)
+array_length = scope (by (λ r. r.1.0) (seq (opens (OPEN_BRACKET ∷ [])) (seq (scope (by (λ r. r.1.0) (seq (opens (OPEN_BRACKET ∷ [])) (seq expression (tok (CLOSE_BRACKET ∷ [])))))) (tok (CLOSE_BRACKET ∷ [])))))
+
+unfoldable pub array_parts : Rule (Expr × TypeExpr)
+array_parts = by (λ r. (r.0, r.1.1)) (seq array_length (seq (tok (OF ∷ [])) type_expression))
+
+-- (":" type)?
+unfoldable pub typed : Rule (Option TypeExpr)
+typed = opt (by (λ r. r.1) (seq (tok (COLON ∷ [])) type_expression))
+
+-- ---- Statements
+
+-- "pass" ";"
+unfoldable pub pass : Rule (Stmt)
+pass = by (λ r. stm.Pass (whole r.1)) (spanned (seq (tok (PASS ∷ [])) (tok (SEMICOLON ∷ []))))
+
+-- "unreachable" ";"
+unfoldable pub unreachable : Rule (Stmt)
+unreachable = by (λ r. stm.Unreachable (whole r.1)) (spanned (seq (tok (UNREACHABLE ∷ [])) (tok (SEMICOLON ∷ []))))
+
+-- "assert" expr ";"
+unfoldable pub assert : Rule (Stmt)
+assert = by (λ r. stm.Assert (whole r.1) r.0.1.0) (spanned (seq (tok (ASSERT ∷ [])) (seq expression (tok (SEMICOLON ∷ [])))))
+
+unfoldable pub bind_name : Rule (Bind)
+bind_name = by (λ r. bi.Single (bd.Bound r)) name
+
+-- "-"
+unfoldable pub no_binder : Rule (Binder)
+no_binder = by (λ r. bd.Unbound r.span) (tok (MINUS ∷ []))
+
+-- one = NAME | "-"
+unfoldable pub binder : Rule (Binder)
+binder = either (by bd.Bound name) no_binder
+
+-- one,..
+unfoldable pub binders : Rule (List Binder)
+binders = by (λ r. r.0 ∷ seconds r.1) (seq binder (many (seq (tok (COMMA ∷ [])) binder)))
+
+-- "(" one "," one,.. ")"
+unfoldable pub several : Rule (Bind)
+several = by (λ r. bi.Several (whole r.1) r.0) (spanned (scope (by (λ r. r.1.0 ∷ r.1.1.1.0) (seq (opens (OPEN_PAREN ∷ [])) (seq binder (seq (tok (COMMA ∷ [])) (seq binders (tok (CLOSE_PAREN ∷ [])))))))))
+
+-- a bind that is no NAME
+unfoldable pub other_bind : Rule (Bind)
+other_bind = either (by bi.Single no_binder) several
+
+-- bind = NAME | "-" | "(" one "," one,.. ")"
+unfoldable pub local_bind : Rule (Bind)
+local_bind = either bind_name other_bind
+
+-- "=" expr ";"
+unfoldable pub value : Rule (Expr)
+value = by (λ r. r.1.0) (seq (tok (ASSIGN ∷ [])) (seq expression (tok (SEMICOLON ∷ []))))
+
+-- "let" bind (":" type)? "=" expr ";"
+unfoldable pub let_statement : Rule (Stmt)
+let_statement = by (λ r. stm.Local (whole r.1) lk.Let r.0.1.0 r.0.1.1.0 r.0.1.1.1) (spanned (seq (tok (LET ∷ [])) (seq local_bind (seq typed value))))
+
+-- ("," NAME)*
+unfoldable pub more_names : Rule (List Ident)
+more_names = by seconds (many (seq (tok (COMMA ∷ [])) name))
+
+-- "," NAME,.. ":" type ";"
+unfoldable pub names_typed : Rule (VarRest)
+names_typed = by (λ r. MoreNames (r.1.0 ∷ r.1.1.0) r.1.1.1.1.0) (seq (tok (COMMA ∷ [])) (seq name (seq more_names (seq (tok (COLON ∷ [])) (seq type_expression (tok (SEMICOLON ∷ [])))))))
+
+-- ";"
+unfoldable pub no_value : Rule (Option Expr)
+no_value = by (λ r. None) (tok (SEMICOLON ∷ []))
+
+-- ";" | "=" expr ";"
+unfoldable pub maybe_value : Rule (Option Expr)
+maybe_value = either no_value (by Some value)
+
+-- ":" type ";" | ":" type "=" expr ";"
+unfoldable pub typed_value : Rule (VarRest)
+typed_value = by (λ r. Typed r.1.0 r.1.1) (seq (tok (COLON ∷ [])) (seq type_expression maybe_value))
+
+-- behind `var NAME`: the rest of "var" bind (":" type)? "=" expr ";" or of "var" NAME,.. ":" type ";"
+unfoldable pub var_rest : Rule (VarRest)
+var_rest = either names_typed (either typed_value (by Untyped value))
+
+unfoldable pub var_names : Rule (VarTail)
+var_names = by (λ r. var_tail_of r.0 r.1) (seq name var_rest)
+
+unfoldable pub var_other : Rule (VarTail)
+var_other = by (λ r. vt.Initialised r.0 r.1.0 r.1.1) (seq other_bind (seq typed value))
+
+unfoldable pub var_tail : Rule (VarTail)
+var_tail = either var_names var_other
+
+-- "var" bind (":" type)? "=" expr ";" | "var" NAME,.. ":" type ";"
+unfoldable pub var_statement : Rule (Stmt)
+var_statement = by (λ r. var_of (whole r.1) r.0.1) (spanned (seq (tok (VAR ∷ [])) var_tail))
+
+-- "{" (expr,..)? "}"
+unfoldable pub parameters : Rule (List Expr)
+parameters = scope (by (λ r. r.1.0) (seq (opens (OPEN_BRACE ∷ [])) (seq maybe_expressions (tok (CLOSE_BRACE ∷ [])))))
+
+-- ("{" (expr,..)? "}")?
+unfoldable pub maybe_parameters : Rule (List Expr)
+maybe_parameters = by or_nil (opt parameters)
+
+-- args = ("{" (expr,..)? "}")? "(" (expr,..)? ")"
+unfoldable pub call_arguments : Rule (List Expr × List Expr)
+call_arguments = seq maybe_parameters arguments
+
+-- args ";"
+unfoldable pub invoked : Rule (List Expr × List Expr)
+invoked = by (λ r. r.0) (seq call_arguments (tok (SEMICOLON ∷ [])))
+
+-- suffix*, each opening a level until the end of the target
+unfoldable pub target_suffixes : Rule (List PlacedSuffix)
+target_suffixes = scope suffixes
+
+-- suffix* "=" expr ";"
+unfoldable pub assigned : Rule (List PlacedSuffix × Expr)
+assigned = seq target_suffixes value
+
+unfoldable pub name_statement_rest : Rule ((List Expr × List Expr) ⊎ (List PlacedSuffix × Expr))
+name_statement_rest = either (by inl invoked) (by inr assigned)
+
+-- NAME args ";" | lhs "=" expr ";" where lhs begins with a name
+unfoldable pub name_statement : Rule (Stmt)
+name_statement = by (λ r. name_statement_of (whole r.1) r.0.0 r.0.1) (spanned (seq name name_statement_rest))
+
+-- "-"
+unfoldable pub no_target : Rule (Target)
+no_target = by (λ r. tg.Discarded r.span) (tok (MINUS ∷ []))
+
+-- "(" lhs "," lhs,.. ")"
+unfoldable pub targets : Rule (Target)
+targets = by (λ r. tg.Targets (whole r.1) r.0.1) (spanned (scope (into (OPEN_PAREN ∷ []) TargetParts)))
+
+-- a target that begins with no name
+unfoldable pub other_target : Rule (Target)
+other_target = either no_target targets
+
+-- lhs "=" expr ";" where lhs begins with no name
+unfoldable pub assignment : Rule (Stmt)
+assignment = by (λ r. stm.Assign (whole r.1) r.0.0 r.0.1) (spanned (seq other_target value))
+
+-- "if" expr "then" stmt* ("elsif" expr "then" stmt*)* ("else" stmt*)? "end" ";"
+unfoldable pub if_statement : Rule (Stmt)
+if_statement = by (λ r. stm.If (whole r.1) r.0.1.0 r.0.1.1 r.0.1.2 r.0.1.3) (spanned (scope (into (IF ∷ []) IfBody)))
+
+-- "case" expr "of" alt* other? "end" ";"
+unfoldable pub case_statement : Rule (Stmt)
+case_statement = by (λ r. stm.Case (whole r.1) r.0.1.0 r.0.1.1 r.0.1.2) (spanned (scope (into (CASE ∷ []) CaseBody)))
+
+-- "for" NAME "=" expr ("to" | "downto") expr limit? "do" stmt* "end" ";"
+unfoldable pub for_statement : Rule (Stmt)
+for_statement = by (λ r. stm.For (whole r.1) r.0.1.0 r.0.1.1 r.0.1.2 r.0.1.3 r.0.1.4 r.0.1.5) (spanned (scope (into (FOR ∷ []) ForBody)))
+
+-- "while" expr limit? "do" stmt* "end" ";"
+unfoldable pub while_statement : Rule (Stmt)
+while_statement = by (λ r. stm.While (whole r.1) r.0.1.0 r.0.1.1 r.0.1.2) (spanned (scope (into (WHILE ∷ []) WhileBody)))
+
+-- "repeat" stmt* "until" expr limit? ";"
+unfoldable pub repeat_statement : Rule (Stmt)
+repeat_statement = by (λ r. stm.Repeat (whole r.1) r.0.1.0 r.0.1.1 r.0.1.2) (spanned (scope (into (REPEAT ∷ []) RepeatBody)))
+
+-- "return" expr? ";"
+unfoldable pub return_statement : Rule (Stmt)
+return_statement = by (λ r. stm.Return (whole r.1) r.0.1.0) (spanned (seq (tok (RETURN ∷ [])) (seq maybe_expression (tok (SEMICOLON ∷ [])))))
+
+-- "throw" expr? ";"
+unfoldable pub throw_statement : Rule (Stmt)
+throw_statement = by (λ r. stm.Throw (whole r.1) r.0.1.0) (spanned (seq (tok (THROW ∷ [])) (seq maybe_expression (tok (SEMICOLON ∷ [])))))
+
+-- "try" stmt* "catch" (catcher+ other? | other) "end" ";"
+unfoldable pub try_statement : Rule (Stmt)
+try_statement = by (λ r. stm.Try (whole r.1) r.0.1.0 r.0.1.1 r.0.1.2) (spanned (scope (into (TRY ∷ []) TryBody)))
+
+-- STRING
+unfoldable pub verbatim : Rule (PrintItem)
+verbatim = by (λ r. pi.Verbatim r.span r.text) (tok (STRING_LITERAL ∷ []))
+
+-- item = STRING | expr
+unfoldable pub print_item : Rule (PrintItem)
+print_item = either verbatim (by pi.Shown expression)
+
+-- item,..
+unfoldable pub print_items : Rule (List PrintItem)
+print_items = by (λ r. r.0 ∷ seconds r.1) (seq print_item (many (seq (tok (COMMA ∷ [])) print_item)))
+
+-- (item,..)?
+unfoldable pub maybe_print_items : Rule (List PrintItem)
+maybe_print_items = by or_nil (opt print_items)
+
+-- "(" (item,..)? ")"
+unfoldable pub print_arguments : Rule (List PrintItem)
+print_arguments = scope (by (λ r. r.1.0) (seq (opens (OPEN_PAREN ∷ [])) (seq maybe_print_items (tok (CLOSE_PAREN ∷ [])))))
+
+-- ("print" | "println") "(" (item,..)? ")" ";"
+unfoldable pub print_statement : Rule (Stmt)
+print_statement = by (λ r. stm.Print (whole r.1) (print_kind_of (code r.0.0.kind)) r.0.1.0) (spanned (seq (tok (PRINT ∷ PRINT_LINE ∷ [])) (seq print_arguments (tok (SEMICOLON ∷ [])))))
+
+-- stmt, one of the forms above
+unfoldable pub statement : Rule (Stmt)
+statement = either pass (either unreachable (either assert (either let_statement (either var_statement (either name_statement (either assignment (either if_statement (either case_statement (either for_statement (either while_statement (either repeat_statement (either return_statement (either throw_statement (either try_statement print_statement))))))))))))))
+
+-- stmt*
+unfoldable pub block : Rule (List Stmt)
+block = many statement
+
+-- limit? where limit = "looplimit" expr
+unfoldable pub loop_limit : Rule (Option Expr)
+loop_limit = opt (by (λ r. r.1) (seq (tok (LOOP_LIMIT ∷ [])) expression))
+
+-- other = "otherwise" "=>" stmt*
+unfoldable pub otherwise : Rule (Otherwise)
+otherwise = by (λ r. ot.Otherwise r.1.1) (seq (tok (OTHERWISE ∷ [])) (seq (tok (FAT_ARROW ∷ [])) block))
+
+-- other?
+unfoldable pub maybe_otherwise : Rule (Otherwise)
+maybe_otherwise = by or_no_otherwise (opt otherwise)
+
+-- NAME suffix*
+unfoldable pub place : Rule (Target)
+place = by (λ r. place_of r.0 r.1) (seq name target_suffixes)
+
+-- lhs = "-" | NAME suffix* | "(" lhs "," lhs,.. ")"
+unfoldable pub target : Rule (Target)
+target = either no_target (either place targets)
+
+-- lhs,..
+unfoldable pub target_list : Rule (List Target)
+target_list = by (λ r. r.0 ∷ seconds r.1) (seq target (many (seq (tok (COMMA ∷ [])) target)))
+
+-- lhs "," lhs,.. ")"
+unfoldable pub target_parts : Rule (List Target)
+target_parts = by (λ r. r.0 ∷ r.1.1.0) (seq target (seq (tok (COMMA ∷ [])) (seq target_list (tok (CLOSE_PAREN ∷ [])))))
+
+-- "elsif" expr "then" stmt*
+unfoldable pub else_if : Rule (ElseIf)
+else_if = by (λ r. ei.ElseIf r.1.0 r.1.1.1) (seq (tok (ELS_IF ∷ [])) (seq expression (seq (tok (THEN ∷ [])) block)))
+
+unfoldable pub else_ifs : Rule (List ElseIf)
+else_ifs = many else_if
+
+-- "else" stmt*
+unfoldable pub else_block : Rule (List Stmt)
+else_block = by (λ r. r.1) (seq (tok (ELSE ∷ [])) block)
+
+unfoldable pub maybe_else : Rule (List Stmt)
+maybe_else = by or_nil (opt else_block)
+
+-- expr "then" stmt* ("elsif" expr "then" stmt*)* ("else" stmt*)? "end" ";"
+unfoldable pub if_body : Rule (Expr × List Stmt × List ElseIf × List Stmt)
+if_body = by (λ r. (r.0, r.1.1.0, r.1.1.1.0, r.1.1.1.1.0)) (seq expression (seq (tok (THEN ∷ [])) (seq block (seq else_ifs (seq maybe_else (seq (tok (END ∷ [])) (tok (SEMICOLON ∷ []))))))))
+
+-- ("where" expr)?
+unfoldable pub where_clause : Rule (Option Expr)
+where_clause = opt (by (λ r. r.1) (seq (tok (WHERE ∷ [])) expression))
+
+-- alt = "when" pattern,.. ("where" expr)? "=>" stmt*
+unfoldable pub alternative : Rule (Alternative)
+alternative = by (λ r. al.When r.1.0 r.1.1.0 r.1.1.1.1) (seq (tok (WHEN ∷ [])) (seq patterns (seq where_clause (seq (tok (FAT_ARROW ∷ [])) block))))
+
+-- alt*
+unfoldable pub alternatives : Rule (List Alternative)
+alternatives = many alternative
+
+-- expr "of" alt* other? "end" ";"
+unfoldable pub case_body : Rule (Expr × List Alternative × Otherwise)
+case_body = by (λ r. (r.0, r.1.1.0, r.1.1.1.0)) (seq expression (seq (tok (OF ∷ [])) (seq alternatives (seq maybe_otherwise (seq (tok (END ∷ [])) (tok (SEMICOLON ∷ [])))))))
+
+-- "to" | "downto"
+unfoldable pub direction : Rule (Direction)
+direction = by (λ r. direction_of (code r.kind)) (tok (TO ∷ DOWN_TO ∷ []))
+
+-- NAME "=" expr ("to" | "downto") expr limit? "do" stmt* "end" ";"
+unfoldable pub for_body : Rule (Ident × Expr × Direction × Expr × Option Expr × List Stmt)
+for_body = by (λ r. (r.0, r.1.1.0, r.1.1.1.0, r.1.1.1.1.0, r.1.1.1.1.1.0, r.1.1.1.1.1.1.1.0)) (seq name (seq (tok (ASSIGN ∷ [])) (seq expression (seq direction (seq expression (seq loop_limit (seq (tok (DO ∷ [])) (seq block (seq (tok (END ∷ [])) (tok (SEMICOLON ∷ [])))))))))))
+
+-- expr limit? "do" stmt* "end" ";"
+unfoldable pub while_body : Rule (Expr × Option Expr × List Stmt)
+while_body = by (λ r. (r.0, r.1.0, r.1.1.1.0)) (seq expression (seq loop_limit (seq (tok (DO ∷ [])) (seq block (seq (tok (END ∷ [])) (tok (SEMICOLON ∷ [])))))))
+
+-- stmt* "until" expr limit? ";"
+unfoldable pub repeat_body : Rule (List Stmt × Expr × Option Expr)
+repeat_body = by (λ r. (r.0, r.1.1.0, r.1.1.1.0)) (seq block (seq (tok (UNTIL ∷ [])) (seq expression (seq loop_limit (tok (SEMICOLON ∷ []))))))
+
+-- (":" NAME)?
+unfoldable pub caught_type : Rule (Option Ident)
+caught_type = opt (by (λ r. r.1) (seq (tok (COLON ∷ [])) name))
+
+-- catcher = "when" (NAME ":")? NAME "=>" stmt*
+unfoldable pub catcher : Rule (Catcher)
+catcher = by (λ r. catch_of r.1.0 r.1.1.0 r.1.1.1.1) (seq (tok (WHEN ∷ [])) (seq name (seq caught_type (seq (tok (FAT_ARROW ∷ [])) block))))
+
+unfoldable pub catchers : Rule (List Catcher)
+catchers = many catcher
+
+-- catcher+ other?
+unfoldable pub some_catchers : Rule (List Catcher × Otherwise)
+some_catchers = by (λ r. (r.0 ∷ r.1.0, r.1.1)) (seq catcher (seq catchers maybe_otherwise))
+
+-- catcher+ other? | other
+unfoldable pub handlers : Rule (List Catcher × Otherwise)
+handlers = either some_catchers (by no_catchers otherwise)
+
+-- stmt* "catch" (catcher+ other? | other) "end" ";"
+unfoldable pub try_body : Rule (List Stmt × List Catcher × Otherwise)
+try_body = by (λ r. (r.0, r.1.1.0.0, r.1.1.0.1)) (seq block (seq (tok (CATCH ∷ [])) (seq handlers (seq (tok (END ∷ [])) (tok (SEMICOLON ∷ []))))))
+
+-- ---- Declarations
+
+-- formal = NAME ":" type
+unfoldable pub formal : Rule (Formal)
+formal = by (λ r. record { name = r.0; ty = r.1.1 }) (seq name (seq (tok (COLON ∷ [])) type_expression))
+
+-- formal,..
+unfoldable pub formal_list : Rule (List Formal)
+formal_list = by (λ r. r.0 ∷ seconds r.1) (seq formal (many (seq (tok (COMMA ∷ [])) formal)))
+
+-- (formal,..)?
+unfoldable pub maybe_formals : Rule (List Formal)
+maybe_formals = by or_nil (opt formal_list)
+
+-- "(" (formal,..)? ")"
+unfoldable pub formals : Rule (List Formal)
+formals = scope (by (λ r. r.1.0) (seq (opens (OPEN_PAREN ∷ [])) (seq maybe_formals (tok (CLOSE_PAREN ∷ [])))))
+
+-- param = NAME (":" type)?
+unfoldable pub param : Rule (Param)
+param = by (λ r. record { name = r.0; ty = r.1 }) (seq name typed)
+
+-- param,..
+unfoldable pub param_list : Rule (List Param)
+param_list = by (λ r. r.0 ∷ seconds r.1) (seq param (many (seq (tok (COMMA ∷ [])) param)))
+
+-- (param,..)?
+unfoldable pub maybe_param_list : Rule (List Param)
+maybe_param_list = by or_nil (opt param_list)
+
+-- "{" (param,..)? "}"
+unfoldable pub params : Rule (List Param)
+params = scope (by (λ r. r.1.0) (seq (opens (OPEN_BRACE ∷ [])) (seq maybe_param_list (tok (CLOSE_BRACE ∷ [])))))
+
+-- ("{" (param,..)? "}")?
+unfoldable pub maybe_params : Rule (List Param)
+maybe_params = by or_nil (opt params)
+
+-- NAME,.. ","?
+unfoldable pub label_list : Rule (List Ident)
+label_list = by (λ r. r.0 ∷ seconds r.1.0) (seq name (trail (COMMA ∷ []) name))
+
+-- "{" NAME,.. ","? "}"
+unfoldable pub label_braces : Rule (List Ident)
+label_braces = scope (by (λ r. r.1.0) (seq (opens (OPEN_BRACE ∷ [])) (seq label_list (tok (CLOSE_BRACE ∷ [])))))
+
+-- "enumeration" "{" NAME,.. ","? "}"
+unfoldable pub labels : Rule (TypeDef)
+labels = by (λ r. td.Labels (whole r.1) r.0.1) (spanned (seq (tok (ENUMERATION ∷ [])) label_braces))
+
+-- "-"
+unfoldable pub no_members : Rule (List Formal)
+no_members = by (λ r. []) (tok (MINUS ∷ []))
+
+-- formal,.. ","?
+unfoldable pub listed_members : Rule (List Formal)
+listed_members = by (λ r. r.0 ∷ seconds r.1.0) (seq formal (trail (COMMA ∷ []) formal))
+
+-- "-" | formal,.. ","?
+unfoldable pub some_members : Rule (List Formal)
+some_members = either no_members listed_members
+
+unfoldable pub maybe_some_members : Rule (List Formal)
+maybe_some_members = by or_nil (opt some_members)
+
+-- "{" ("-" | formal,.. ","?)? "}"
+unfoldable pub member_braces : Rule (List Formal)
+member_braces = scope (by (λ r. r.1.0) (seq (opens (OPEN_BRACE ∷ [])) (seq maybe_some_members (tok (CLOSE_BRACE ∷ [])))))
+
+-- ("{" ("-" | formal,.. ","?)? "}")?
+unfoldable pub members : Rule (List Formal)
+members = by or_nil (opt member_braces)
+
+unfoldable pub record_type : Rule (TypeDef)
+record_type = by (λ r. td.Record (whole r.1) r.0.1) (spanned (seq (tok (RECORD ∷ [])) members))
+
+unfoldable pub exception_type : Rule (TypeDef)
+exception_type = by (λ r. td.Exception (whole r.1) r.0.1) (spanned (seq (tok (EXCEPTION ∷ [])) members))
+
+-- tydef = type | "enumeration" "{" NAME,.. ","? "}" | ("record" | "exception") ("{" ("-" | formal,.. ","?)? "}")?
+unfoldable pub type_definition : Rule (TypeDef)
+type_definition = either (by td.Alias type_expression) (either labels (either record_type exception_type))
+
+-- ("subtypes" NAME)?
+unfoldable pub supertype : Rule (Option Ident)
+supertype = opt (by (λ r. r.1) (seq (tok (SUBTYPES ∷ [])) name))
+
+-- "type" NAME "of" tydef ("subtypes" NAME)? ";"
+unfoldable pub type_decl : Rule (Decl)
+type_decl = by (λ r. dc.Type (record { span = (whole r.1); name = r.0.1.0; def = r.0.1.1.1.0; supertype = r.0.1.1.1.1.0 })) (spanned (seq (tok (TYPE ∷ [])) (seq name (seq (tok (OF ∷ [])) (seq type_definition (seq supertype (tok (SEMICOLON ∷ []))))))))
+
+-- ("constant" | "let") NAME (":" type)? "=" expr ";"
+unfoldable pub fixed_storage : Rule (Decl)
+fixed_storage = by (λ r. dc.Storage (record { span = (whole r.1); kind = storage_kind_of (code r.0.0.kind); name = r.0.1.0; ty = r.0.1.1.0; init = Some r.0.1.1.1 })) (spanned (seq (tok (CONSTANT ∷ LET ∷ [])) (seq name (seq typed value))))
+
+-- ":" type ";" | ":" type "=" expr ";"
+unfoldable pub typed_var : Rule (Option TypeExpr × Option Expr)
+typed_var = by (λ r. (Some r.1.0, r.1.1)) (seq (tok (COLON ∷ [])) (seq type_expression maybe_value))
+
+-- behind "var" NAME
+unfoldable pub global_rest : Rule (Option TypeExpr × Option Expr)
+global_rest = either typed_var (by untyped value)
+
+-- "var" NAME (":" type)? "=" expr ";" | "var" NAME ":" type ";"
+unfoldable pub global_var : Rule (Decl)
+global_var = by (λ r. dc.Storage (record { span = (whole r.1); kind = sk.Var; name = r.0.1.0; ty = r.0.1.1.0; init = r.0.1.1.1 })) (spanned (seq (tok (VAR ∷ [])) (seq name global_rest)))
+
+-- ("=>" type)?
+unfoldable pub result_type : Rule (Option TypeExpr)
+result_type = opt (by (λ r. r.1) (seq (tok (FAT_ARROW ∷ [])) type_expression))
+
+-- ("recurselimit" expr)?
+unfoldable pub recursion_limit : Rule (Option Expr)
+recursion_limit = opt (by (λ r. r.1) (seq (tok (RECURSE_LIMIT ∷ [])) expression))
+
+-- "pure" | "readonly"
+unfoldable pub written_qualifier : Rule (Qualifier)
+written_qualifier = by (λ r. qualifier_of (code r.kind)) (tok (PURE ∷ READ_ONLY ∷ []))
+
+-- ("pure" | "readonly")?
+unfoldable pub qualifier : Rule (Qualifier)
+qualifier = by or_unqualified (opt written_qualifier)
+
+-- ("pure" | "readonly")? "func" NAME ("{" (param,..)? "}")? "(" (formal,..)? ")" ("=>" type)? ("recurselimit" expr)? "begin" stmt* "end" ";"
+unfoldable pub function : Rule (Decl)
+function = by (λ r. dc.Func (record { span = (whole r.1); qualifier = r.0.0; name = r.0.1.1.0; params = r.0.1.1.1.0; formals = r.0.1.1.1.1.0; result = r.0.1.1.1.1.1.0; limit = r.0.1.1.1.1.1.1.0; body = r.0.1.1.1.1.1.1.1.1.0 })) (spanned (seq qualifier (seq (tok (FUNC ∷ [])) (seq name (seq maybe_params (seq formals (seq result_type (seq recursion_limit (seq (tok (BEGIN ∷ [])) (seq block (seq (tok (END ∷ [])) (tok (SEMICOLON ∷ [])))))))))))))
+
+-- decl, one of the forms above
+unfoldable pub declaration : Rule (Decl)
+declaration = either type_decl (either fixed_storage (either global_var function))
+
+-- program = decl*
+unfoldable pub program : Rule (List Decl)
+program = many declaration
+
+-- ---- Symbols
+
+abbrev pub rule : (s : Sym) → Rule (Val s)
+rule Parenthesized = parenthesized_in
+rule Arguments = arguments_in
+rule Braced = braced_in
+rule Operand = unary
+rule IfParts = if_parts
+rule Bracketed = bracketed_in
+rule Width = width_in
+rule SetParts = set_parts
+rule PatternParts = pattern_parts
+rule ConstraintParts = constraint_parts
+rule Bitfields = bitfields_in
+rule TypeParts = type_parts
+rule ArrayParts = array_parts
+rule TargetParts = target_parts
+rule IfBody = if_body
+rule CaseBody = case_body
+rule ForBody = for_body
+rule WhileBody = while_body
+rule RepeatBody = repeat_body
+rule TryBody = try_body
+rule Program = program
+
+-- the tokens by which what a symbol stands for may go on
+abbrev pub after : Sym → Codes
+after Parenthesized = []
+after Arguments = []
+after Braced = []
+after Operand = (OPEN_PAREN ∷ OPEN_BRACKET ∷ OPEN_BRACE ∷ DOT ∷ IN ∷ [])
+after IfParts = (OPEN_PAREN ∷ OPEN_BRACKET ∷ OPEN_BRACE ∷ DOT ∷ COLON_COLON ∷ EQUAL ∷ NOT_EQUAL ∷ AND_AND ∷ OR_OR ∷ IMPLIES ∷ IFF ∷ LESS ∷ LESS_EQUAL ∷ SHIFT_LEFT ∷ GREATER ∷ GREATER_EQUAL ∷ SHIFT_RIGHT ∷ PLUS ∷ MINUS ∷ STAR ∷ CARET ∷ BIT_AND ∷ DIV ∷ DIV_RM ∷ IN ∷ MOD ∷ BIT_OR ∷ BIT_XOR ∷ AS ∷ [])
+after Bracketed = []
+after Width = []
+after SetParts = []
+after PatternParts = []
+after ConstraintParts = []
+after Bitfields = []
+after TypeParts = []
+after ArrayParts = (OPEN_BRACE ∷ [])
+after TargetParts = []
+after IfBody = []
+after CaseBody = []
+after ForBody = []
+after WhileBody = []
+after RepeatBody = []
+after TryBody = []
+after Program = (CONSTANT ∷ FUNC ∷ LET ∷ PURE ∷ READ_ONLY ∷ TYPE ∷ VAR ∷ [])

@@ -1,0 +1,21 @@
+//! The laws of the grammar.
+
+ghost use Rattle.std.specs.Prelude.{ℕ, Bool, List, ◌≡◌};
+ghost use Rattle.asl_grammar.specs.grammar.Cursor.{Lexeme};
+ghost use Rattle.asl_syn.specs.declared.tree.Decl.{Decl};
+ghost use Rattle.asl_grammar.specs.grammar.Language.{Opener, Tree, Answers, without_end, outcome};
+
+/// A list of tokens has at most one tree.
+pub fn one_tree()
+    ensures { (levels : ℕ) (ts : List Lexeme) (v w : List Decl) → Tree levels ts v → Tree levels ts w → v ≡ w }
+{}
+
+/// The reader with one token of lookahead gives the tree, or the place where no text goes on.
+pub fn one_token_is_enough()
+    ensures { (levels : ℕ) (ts : List Lexeme) → Answers levels ts (without_end (outcome levels ts)) }
+{}
+
+/// At most one token opens a level too many.
+pub fn one_opener()
+    ensures { (levels : ℕ) (ts : List Lexeme) (m n : ℕ) (y z : Bool) → Opener levels ts m y → Opener levels ts n z → (m ≡ n) × (y ≡ z) }
+{}

@@ -1,0 +1,432 @@
+#!/usr/bin/env python3
+"""Turns the table of the grammar into text.
+
+It writes, in the crate asl_grammar, the numbers of the kinds of tokens (specs/grammar/Kinds.antt, src/kinds.rt), the
+rules (specs/grammar/Rules.antt) and the proof that one token is enough to choose by (proofs/grammar/Checked.antt), and,
+in the crate asl_parse, each rule as the steps of the function that reads it (proofs/Steps.antt).
+
+    generate.py          writes the files
+    generate.py --check  writes nothing, and fails where a file is not what it would write
+"""
+import os
+import re
+import sys
+
+HERE = os.path.dirname(os.path.abspath(__file__))
+CRATES = os.path.normpath(os.path.join(HERE, '..', '..', 'crates'))
+
+# ---- kinds of tokens
+
+LITERALS = ['NAME', 'INTEGER_LITERAL', 'BITS_LITERAL', 'MASK_LITERAL', 'STRING_LITERAL']
+LITERAL_VARIANTS = ['Name', 'Int', 'Bits', 'Mask', 'Text']
+MARKS = ('OpenParen CloseParen OpenBracket CloseBracket OpenBrace CloseBrace Semicolon Comma Dot DotDot Colon ColonColon '
+         'Assign Equal FatArrow Bang NotEqual AndAnd OrOr Implies Iff Less LessEqual ShiftLeft Greater GreaterEqual '
+         'ShiftRight Plus PlusColon Minus Star StarColon Caret Slash').split()
+WORDS = ('BitAnd Div DivRm False In Mod Not BitOr True BitXor Array As Assert Begin Bit Bits Boolean Case Catch Constant Do '
+         'DownTo Else ElsIf End Enumeration Exception For Func If Integer Let LoopLimit Of Otherwise Pass Print PrintLine '
+         'Pure ReadOnly Record RecurseLimit Repeat Return Subtypes Then Throw To Try TypeWord Unreachable Until Var When '
+         'Where While').split()
+LEFT_OUT = 'Real StringWord Collection Pragma NoReturn Arbitrary Accessor ImpDef Implementation Config'.split()
+
+
+def constant(variant):
+    special = {'TypeWord': 'TYPE'}
+    return special.get(variant) or re.sub(r'(?<=[a-z])(?=[A-Z])', '_', variant).upper()
+
+
+CODES = {}
+for kind in LITERALS + [constant(v) for v in MARKS + WORDS] + ['LEFT_OUT']:
+    CODES[kind] = len(CODES)
+
+# ---- rules as data
+
+
+class Node:
+    def __init__(self, kind, **parts):
+        self.kind = kind
+        self.__dict__.update(parts)
+
+
+RULES, SYMBOLS, SECTIONS = {}, {}, []
+
+
+def part(p):
+    return Node('ref', name=p, arg=None) if isinstance(p, str) else p
+
+
+def chain(kind, parts):
+    parts = [part(p) for p in parts]
+    return parts[0] if len(parts) == 1 else Node(kind, p=parts[0], q=chain(kind, parts[1:]))
+
+
+def tok(*codes): return Node('tok', codes=list(codes))
+def opens(*codes): return Node('opens', codes=list(codes))
+def opens_by(variable): return Node('opens', codes=[variable])
+def into(codes, symbol): return Node('into', codes=codes, symbol=symbol)
+def closed(codes, symbol): return Node('closed', codes=codes, symbol=symbol)
+def seq(*parts): return chain('seq', parts)
+def either(*parts): return chain('either', parts)
+def opt(p): return Node('opt', p=part(p))
+def many(p): return Node('many', p=part(p))
+def by(function, p): return Node('by', function=function, p=part(p), template=None)
+def spanned(p): return Node('spanned', p=part(p))
+def scope(p): return Node('scope', p=part(p))
+def trail(codes, p): return Node('trail', codes=codes, p=part(p))
+def costs(late, p): return Node('costs', late=late, p=part(p))
+def follows(p, q): return Node('follows', p=part(p), q=part(q))
+def apply(name, codes): return Node('ref', name=name, arg=codes)
+def apply_to(name, text): return Node('ref', name=name, arg=text)
+
+
+def path(base, i, n):
+    return base + '.1' * i + ('.0' if i < n - 1 else '')
+
+
+def made(template, base, parts, whole):
+    n = len(parts)
+    text = template.replace('$s', f'(whole {whole})')
+    text = re.sub(r'\$(\d)', lambda m: path(base, int(m.group(1)), n) if n > 1 else base, text)
+    p = spanned(seq(*parts)) if whole else seq(*parts)
+    return Node('by', function=f'(λ r. {text})', p=p, template=(template, n, bool(whole)))
+
+
+def make(template, *parts): return made(template, 'r', parts, None)
+def node(template, *parts): return made(template, 'r.0', parts, 'r.1')
+def more(p): return by('seconds', many(seq(tok('COMMA'), p)))
+def commas(p): return make('$0 ∷ seconds $1', p, many(seq(tok('COMMA'), p)))
+def listed(p): return make('$0 ∷ seconds $1.0', p, trail(['COMMA'], p))
+def links(operators, operand): return many(seq(opens(*operators), spanned(operand)))
+def level(operand, rest): return make('chained $0.1.from $0.0 $1', spanned(operand), rest)
+def post(p): return make('posted $0.1.from $0.0 $1', spanned(p), 'post_rest')
+
+
+def symbol(name, type_, rule_name, comment): SYMBOLS[name] = (type_, rule_name, comment)
+def section(title): SECTIONS.append((title, len(RULES)))
+
+
+class Rule:
+    def __init__(self, name, type_, body, comment, acc, binder):
+        self.name, self.type, self.body, self.comment, self.acc, self.binder = name, type_, part(body), comment, acc, binder
+        # the variable of a family of rules, with its type
+        self.variable = binder and re.match(r'\((\w+) :', binder).group(1)
+
+
+def rule(name, type_, body, comment='', acc=False): RULES[name] = Rule(name, type_, body, comment, acc, None)
+def family(name, binder, type_, body, comment='', acc=False): RULES[name] = Rule(name, type_, body, comment, acc, binder)
+
+
+exec(open(os.path.join(HERE, 'table.py')).read())
+
+# ---- which tokens come first, whether nothing may stand for it, and by which tokens it may go on when it could end
+
+AFTER = {s: set() for s in SYMBOLS}
+memo = {}
+conflicts = []
+
+
+def given(codes, bound):
+    return [bound if bound and c in ('operator',) else c for c in codes]
+
+
+def resolve(codes, env):
+    out = []
+    for c in codes if isinstance(codes, list) else [codes]:
+        out += env.get(c, [c])
+    return out
+
+
+def environment(ref):
+    r = RULES[ref.name]
+    if r.variable is None: return {}
+    return {r.variable: ref.arg if isinstance(ref.arg, list) else [ref.arg]}
+
+
+def facts(p, env, where=None):
+    """nullable, first, goes on by"""
+    k = p.kind
+    if k == 'ref':
+        e = environment(p)
+        e = {v: resolve(c, env) for v, c in e.items()}
+        key = (p.name, tuple(sorted((v, tuple(c)) for v, c in e.items())))
+        if key not in memo: memo[key] = facts(RULES[p.name].body, e, where and p.name)
+        return memo[key]
+
+    def bad(what):
+        if where: conflicts.append((where, what))
+    if k in ('tok', 'opens'): return (False, set(resolve(p.codes, env)), set())
+    if k in ('into', 'closed'): return (False, set(resolve(p.codes, env)), set(AFTER[p.symbol]))
+    a = facts(p.p, env, where)
+    if k in ('by', 'scope'): return a
+    if k == 'seq':
+        b = facts(p.q, env, where)
+        if a[2] & b[1]: bad(f'{a[2] & b[1]} goes on and starts what follows')
+        return (a[0] and b[0], a[1] | (b[1] if a[0] else set()), b[2] | (a[2] if b[0] else set()))
+    if k == 'either':
+        b = facts(p.q, env, where)
+        if a[1] & b[1]: bad(f'{a[1] & b[1]} starts two alternatives')
+        if a[0] or b[0]: bad('an alternative may be empty')
+        return (False, a[1] | b[1], a[2] | b[2])
+    if a[0]: bad(k + ' of what may be empty')
+    if k in ('opt', 'many'):
+        if k == 'many' and a[2] & a[1]: bad(f'{a[2] & a[1]} goes on and starts another')
+        return (True, a[1], a[1] | a[2])
+    if k in ('spanned', 'costs'): return (a[0] and k == 'spanned', a[1], a[2])
+    if k == 'trail':
+        if a[2] & set(p.codes): bad(f'{a[2] & set(p.codes)} goes on and separates')
+        return (True, set(p.codes), set(p.codes) | a[1] | a[2])
+    b = facts(p.q, env, where)
+    if a[2] & b[1]: bad(f'{a[2] & b[1]} goes on and starts what follows')
+    return (False, a[1], b[2] | a[2])
+
+
+while True:
+    memo.clear()
+    old = {s: set(v) for s, v in AFTER.items()}
+    for s, (_, name, _) in SYMBOLS.items(): AFTER[s] |= facts(part(name), {})[2]
+    if old == AFTER: break
+memo.clear()
+for name, r in RULES.items():
+    if r.variable is None: facts(part(name), {}, name)
+for where, what in sorted(set(conflicts)): print('CONFLICT', where, what)
+
+# ---- text
+
+ORDER = []
+
+
+def references(p):
+    if p.kind == 'ref': yield p.name
+    for side in ('p', 'q'):
+        if hasattr(p, side): yield from references(getattr(p, side))
+
+
+def visit(name):
+    if name in ORDER: return
+    for other in references(RULES[name].body): visit(other)
+    ORDER.append(name)
+
+
+for name in RULES: visit(name)
+
+
+def codes(cs):
+    if isinstance(cs, list) and len(cs) == 1 and cs[0] == 'operators': return 'operators'
+    return '(' + ' ∷ '.join(list(cs) + ['[]']) + ')' if cs else '[]'
+
+
+def text(p):
+    k = p.kind
+    if k == 'ref':
+        if p.arg is None: return p.name
+        return f'({p.name} {codes(p.arg) if isinstance(p.arg, list) else p.arg})'
+    if k in ('tok', 'opens'): return f'({k} {codes(p.codes)})'
+    if k in ('into', 'closed'): return f'({k} {codes([p.codes] if isinstance(p.codes, str) else p.codes)} {p.symbol})'
+    if k in ('seq', 'either', 'follows'): return f'({k} {text(p.p)} {text(p.q)})'
+    if k in ('opt', 'many', 'spanned', 'scope'): return f'({k} {text(p.p)})'
+    if k == 'by': return f'(by {p.function if " " not in p.function or p.function[0] == "(" else "(" + p.function + ")"} {text(p.p)})'
+    if k == 'trail': return f'(trail {codes(p.codes)} {text(p.p)})'
+    if k == 'costs': return f'(costs {"true" if p.late else "false"} {text(p.p)})'
+    raise Exception(k)
+
+
+def bare(t):
+    return t[1:-1] if t[0] == '(' else t
+
+
+def used(names, body, dotted=False):
+    found = set(re.findall(r"[\w'-]+", re.sub(r'--.*', '', body)))
+    return [n for n in names if n in found]
+
+
+def sort(cs): return sorted(set(cs), key=lambda c: CODES[c])
+
+
+OUT = {}
+GENERATED = '-- Written by tools/grammar/generate.py from tools/grammar/table.py.\n'
+
+# kinds
+kinds = '-- A number for each kind of token, so that sets of kinds are lists. All words that are left out have one number, and so have `XOR` and `EOR`.\n' + GENERATED
+kinds += 'use Rattle.std.specs.Prelude.{ℕ}\n'
+for t, a in (('Mark', 'mk'), ('Word', 'wd'), ('TokenKind', 'tk')):
+    kinds += f'use Rattle.asl_syn.specs.declared.token.{t}.{{{t}}}\nuse Rattle.asl_syn.specs.declared.token.{t}.TheVariants as {a}\n'
+kinds += '\n' + '\n'.join(f'abbrev pub {c} : ℕ\n{c} = {n}\n' for c, n in CODES.items()) + '\n'
+kinds += 'abbrev pub mark_code : Mark → ℕ\n' + ''.join(f'mark_code mk.{m} = {constant(m)}\n' for m in MARKS) + '\n'
+kinds += 'abbrev pub word_code : Word → ℕ\n' + ''.join(f'word_code wd.{w} = {constant(w)}\n' for w in WORDS) + 'word_code wd.BitEor = BIT_XOR\n' + ''.join(f'word_code wd.{w} = LEFT_OUT\n' for w in LEFT_OUT) + '\n'
+kinds += 'abbrev pub code : TokenKind → ℕ\n' + ''.join(f'code {"(tk.Int n)" if v == "Int" else "tk." + v} = {c}\n' for v, c in zip(LITERAL_VARIANTS, LITERALS)) + 'code (tk.Word w) = word_code w\ncode (tk.Mark m) = mark_code m\n'
+OUT['asl_grammar/specs/grammar/Kinds.antt'] = kinds
+
+code = '''//! A number for each kind of token, so that sets of kinds are slices. All words that are left out have one number, and so
+//! have `XOR` and `EOR`.
+// Written by tools/grammar/generate.py from tools/grammar/table.py.
+#![tactic(auto)]
+
+ghost use Rattle.std.specs.Prelude.{◌≡◌};
+ghost use Rattle.asl_grammar.specs.grammar.Kinds as kinds;
+
+use asl_syn::token::{Mark, TokenKind, Word};
+
+'''
+code += '\n\n'.join(f'pub const {c}: u8 = {n};' for c, n in CODES.items()) + '\n\n'
+code += 'fn mark_code(mark: Mark) -> u8\n    ensures { result ≡ kinds.mark_code mark }\n{\n    match mark {\n' + ''.join(f'        Mark::{m} => {constant(m)},\n' for m in MARKS) + '    }\n}\n\n'
+code += 'fn word_code(word: Word) -> u8\n    ensures { result ≡ kinds.word_code word }\n{\n    match word {\n' + ''.join(f'        Word::{w} => {constant(w)},\n' for w in WORDS) + '        Word::BitEor => BIT_XOR,\n' + ''.join(f'        Word::{w} => LEFT_OUT,\n' for w in LEFT_OUT) + '    }\n}\n\n'
+code += '/// The number of a kind.\npub fn code(kind: TokenKind) -> u8\n    ensures { result ≡ kinds.code kind }\n{\n    match kind {\n' + ''.join(f'        TokenKind::{v}{"(_)" if v == "Int" else ""} => {c},\n' for v, c in zip(LITERAL_VARIANTS, LITERALS)) + '        TokenKind::Word(word) => word_code(word),\n        TokenKind::Mark(mark) => mark_code(mark),\n    }\n}\n'
+OUT['asl_grammar/src/kinds.rt'] = code
+
+# rules
+TREES = dict(Expr='ex', FieldValue='fv', Slice='sl', TypeExpr='ty', ConstraintPart='cp', Bitfield='bf', Pattern='pa', Suffix='su', PlacedSuffix=None, Target='tg', Binder='bd', Bind='bi', PrintItem='pi', Stmt='stm', ElseIf='ei', Alternative='al', Otherwise='ot', Catcher='ca', Formal=None, Param=None, TypeDef='td', StorageKind='sk', Qualifier='ql', Decl='dc', Ident=None, LocalKind='lk', Direction='dr')
+PARTS = dict(AfterName='an', Braces='br', VarTail='vt')
+COMBINATORS = 'G tok opens into seq either opt many by spanned scope closed trail costs follows'.split()
+build = open(os.path.join(CRATES, 'asl_grammar/specs/grammar/Build.antt')).read()
+HELPERS = re.findall(r'^abbrev pub (\w+) :', build, re.M) + ['VarRest', 'MoreNames', 'Typed', 'Untyped']
+PRELUDE = {'◌⊎◌': '⊎', 'Bool': 'Bool', 'true': 'true', 'false': 'false', 'nat_eq': 'nat_eq', 'ℕ': 'ℕ', 'List': 'List', '[]': '[]', '◌∷◌': '∷', '◌++◌': '++', 'Option': 'Option', 'Some': 'Some', 'None': 'None'}
+
+
+def imports(body):
+    found = set(re.findall(r'[\w]+', re.sub(r'--.*', '', body)))
+    plain = re.sub(r'--.*', '', body)
+    lines = []
+    for table, where in ((TREES, 'asl_syn.specs.declared.tree'), (PARTS, 'asl_grammar.specs.declared.parts')):
+        for t, a in table.items():
+            if re.search(rf'(?<![\w.]){t}(?![\w])', plain): lines.append(f'use Rattle.{where}.{t}.{{{t}}}\n')
+            if a and re.search(rf'(?<![\w.]){a}\.', plain): lines.append(f'use Rattle.{where}.{t}.TheVariants as {a}\n')
+    if re.search(r'(?<![\w.])Span(?![\w])', plain): lines.append('use Rattle.asl_syn.specs.declared.token.Span.{Span}\n')
+    return ''.join(lines)
+
+
+def from_module(module, names, body):
+    plain = re.sub(r'--.*', '', body)
+    u = [n for n in names if re.search(rf'(?<![\w.]){re.escape(n)}(?![\w])', plain)]
+    return f'use {module}.{{{", ".join(u)}}}\n' if u else ''
+
+
+CURSOR = ['Lexeme', 'Extent', 'Cursor', 'Codes', 'starts', 'ahead', 'span_to', 'whole', 'among']
+PRE = 'Rattle.asl_grammar.specs.grammar.'
+body = '-- what stands behind a token that opens a level\npub data Sym : Type 0 where\n' + ''.join(f'  -- {c}\n  {s} : Sym\n' for s, (t, n, c) in SYMBOLS.items())
+body += '\n-- what it is read to\nabbrev pub Val : Sym → Type 0\n' + ''.join(f'Val {s} = {t}\n' for s, (t, n, c) in SYMBOLS.items())
+body += '\nabbrev pub Rule : Type 0 → Type 1\nRule A = G Sym Val A\n'
+starts_at = {}
+names = list(RULES)
+for title, i in SECTIONS: starts_at[names[i]] = title
+title_of, current = {}, None
+for n in names:
+    current = starts_at.get(n, current)
+    title_of[n] = current
+last_title = None
+for n in ORDER:
+    r = RULES[n]
+    if title_of[n] != last_title:
+        last_title = title_of[n]
+        body += f'\n-- ---- {last_title}\n'
+    head = '' if r.binder is None else f'{r.binder} → '
+    body += '\n' + (f'-- {r.comment}\n' if r.comment else '') + f'unfoldable pub {n} : {head}Rule ({r.type})\n{n}{" " + r.variable if r.variable else ""} = {bare(text(r.body))}\n'
+body += '\n-- ---- Symbols\n\nabbrev pub rule : (s : Sym) → Rule (Val s)\n' + ''.join(f'rule {s} = {n}\n' for s, (t, n, c) in SYMBOLS.items())
+body += '\n-- the tokens by which what a symbol stands for may go on\nabbrev pub after : Sym → Codes\n' + ''.join(f'after {s} = {codes(sort(AFTER[s]))}\n' for s in SYMBOLS)
+head = '-- The grammar of the language: a rule for each production, such that one token is enough to choose by. The productions that begin\n-- alike are joined, and a comment gives each rule\'s production.\n' + GENERATED
+plain = re.sub(r'--.*', '', body)
+head += 'use Rattle.std.specs.Prelude.{' + ', '.join(n for n, s in PRELUDE.items() if re.search(r'(?<![\w])' + re.escape(s) + r'(?![\w])', plain)) + '}\nuse mathlib.Core.Logic.{inl, inr}\n' + imports(body)
+head += from_module(PRE + 'Kinds', ['code'] + list(CODES), body) + from_module(PRE + 'Cursor', CURSOR, body) + from_module(PRE + 'Combinators', COMBINATORS, body) + from_module(PRE + 'Build', HELPERS, body)
+OUT['asl_grammar/specs/grammar/Rules.antt'] = head + '\n' + body
+
+# ---- one token is enough
+
+
+def fact(p, env):
+    """the term, nullable, and the lists as they are built"""
+    k = p.kind
+    if k == 'ref':
+        e = {v: resolve(c, env) for v, c in environment(p).items()}
+        a = facts(p, env)
+        f = 'f_' + p.name
+        if p.arg is not None:
+            arg = resolve(p.arg, env) if isinstance(p.arg, list) else resolve(p.arg, env)[0]
+            f += '_' + '_'.join(x.lower() for x in (arg if isinstance(arg, list) else [arg]))
+            NEEDED[f] = Node('ref', name=p.name, arg=arg)
+        return (f, a[0], sort(a[1]), sort(a[2]))
+    if k in ('tok', 'opens'): return (k + '_f', False, resolve(p.codes, env), [])
+    if k in ('into', 'closed'): return (f'({k}_f {{s = {p.symbol}}})', False, resolve(p.codes, env), sort(AFTER[p.symbol]))
+
+    def small(r):
+        t, n, F, C = r
+        if len(F) + len(C) <= 60: return r
+        return (f'(fit {codes(sort(F))} {codes(sort(C))} {t} refl refl)', n, sort(F), sort(C))
+    a = fact(p.p, env)
+    if k == 'seq':
+        b = fact(p.q, env)
+        return small((f'(seq_f {a[0]} {b[0]} refl)', a[1] and b[1], a[2] + (b[2] if a[1] else []), b[3] + (a[3] if b[1] else [])))
+    if k == 'either':
+        b = fact(p.q, env)
+        return small((f'(either_f {a[0]} {b[0]} refl)', False, a[2] + b[2], a[3] + b[3]))
+    if k == 'opt': return small((f'(opt_f {a[0]})', True, a[2], a[2] + a[3]))
+    if k == 'many': return small((f'(many_f {a[0]} refl)', True, a[2], a[2] + a[3]))
+    if k in ('by', 'spanned', 'scope', 'costs'): return (f'({k}_f {a[0]})',) + a[1:]
+    if k == 'trail': return small((f'(trail_f {a[0]} refl)', True, list(p.codes), list(p.codes) + a[2] + a[3]))
+    b = fact(p.q, env)
+    return small((f'(follows_f {a[0]} {b[0]} refl)', False, a[2], b[3] + a[3]))
+
+
+def substituted(p, env):
+    """the rule of a family at its argument"""
+    t = text(p)
+    for v, c in env.items(): t = re.sub(rf'\({v} ∷ \[\]\)', codes(c), re.sub(rf'(?<![\w]){v}(?! ∷)(?![\w])', codes(c) if v == 'operators' else c[0], t))
+    return t
+
+
+NEEDED = {}
+checked = []
+
+
+def write_fact(name, ref, label):
+    r = RULES[name]
+    env = environment(ref) if r.variable else {}
+    t, nullable, F, C = fact(r.body, env)
+    a = facts(r.body, env)
+    assert nullable == a[0] and set(F) == a[1] and set(C) == a[2], name
+    nl = 'true' if nullable else 'false'
+    at = name if r.variable is None else bare(text(ref))
+    at = f'({at})' if ' ' in at else at
+    checked.append(f'{label} : Facts {at} {nl} {codes(sort(F))} {codes(sort(C))}\nunfolding {name}\n{label} =\n    let raw : Facts {{A = {r.type}}} {substituted(r.body, env)} {nl} {codes(F)} {codes(C)} = {t} in\n    fit {codes(sort(F))} {codes(sort(C))} raw refl refl\n')
+
+
+done = set()
+for n in ORDER:
+    r = RULES[n]
+    if r.variable is not None: continue
+    NEEDED.clear()
+    at = len(checked)
+    write_fact(n, part(n), 'f_' + n)
+    mine = checked.pop()
+    pending = dict(NEEDED)
+    stack = []
+    while pending:
+        f, ref = pending.popitem()
+        if f in done: continue
+        done.add(f)
+        NEEDED.clear()
+        write_fact(ref.name, ref, f)
+        stack.append(checked.pop())
+        pending.update(NEEDED)
+    checked += list(reversed(stack)) + [mine]
+body = '\n'.join(checked)
+tail = 'pub each : (s : Sym) → by_one after (rule s) ≡ true\n' + ''.join(f'each {s} = f_{n}.ok\n' for s, (t, n, c) in SYMBOLS.items())
+tail += '\npub covered : (s : Sym) → covers (after s) (cont after (rule s)) ≡ true\n' + ''.join(f'covered {s} = covered_by (cont after {n}) {codes(sort(facts(part(n), {})[2]))} f_{n}.conts\n' for s, (t, n, c) in SYMBOLS.items())
+everything = body + tail
+head = '-- One token is enough to choose by, in each rule: each is gone through once, from the facts of its parts.\n' + GENERATED
+head += 'use Rattle.std.proofs.Common.{◌≡◌, ℕ, ◌⊎◌, inl, inr, Bool, true, false, nat_eq, List, [], ◌∷◌, ◌++◌, Option, Some, None, refl}\n' + imports(everything)
+head += from_module(PRE + 'Kinds', ['code'] + list(CODES), everything) + from_module(PRE + 'Cursor', CURSOR, everything) + from_module(PRE + 'Combinators', COMBINATORS, everything) + from_module(PRE + 'Reader', ['by_one', 'cont', 'covers'], everything)
+head += from_module(PRE + 'Build', HELPERS, everything) + from_module(PRE + 'Rules', ['Sym'] + list(SYMBOLS) + ['rule', 'after'] + ORDER, everything)
+head += from_module('Rattle.asl_grammar.proofs.grammar.Facts', 'Facts fit tok_f opens_f into_f closed_f seq_f either_f opt_f many_f by_f spanned_f scope_f trail_f costs_f follows_f covered_by'.split(), everything)
+OUT['asl_grammar/proofs/grammar/Checked.antt'] = head + '\n' + body + '\n' + tail
+
+if __name__ == '__main__':
+    wrong = 0
+    for name, content in OUT.items():
+        file = os.path.join(CRATES, name)
+        if '--check' in sys.argv:
+            if not os.path.exists(file) or open(file).read() != content:
+                print('not as generated:', name)
+                wrong = 1
+        else:
+            os.makedirs(os.path.dirname(file), exist_ok=True)
+            open(file, 'w').write(content)
+    print(len(RULES), 'rules,', len(SYMBOLS), 'symbols,', len(CODES), 'kinds,', len(set(conflicts)), 'conflicts')
+    sys.exit(1 if wrong or conflicts else 0)
