@@ -4,6 +4,7 @@ use Rattle.asl_syn.specs.Command.{Command, usage, check, run}
 use Rattle.asl_syn.specs.declared.code.Fault.{Fault}
 use Rattle.asl_syn.specs.declared.tree.Decl.{Decl}
 use Rattle.asl_rules.specs.Values.{Value}
+use Rattle.asl_rules.specs.States.{Core}
 use Rattle.asl_rules.specs.Plans.{Outcome, Done, Thrown, Halt, End, Faulted, Stuck}
 use Rattle.asl_rules.specs.Texts.{Text, File}
 use Rattle.asl_rules.specs.Report.{Reading, all, long, many, halted, run_answer, started, check_verdict, run_verdict, on_program, on_texts}
@@ -36,7 +37,7 @@ of_halted : (command : Command) (files : List File) (e : End) (printed : Text) �
 of_halted command files (Faulted code span) printed = four_is command
 of_halted command files (Stuck mistake span) printed = four_is command
 
-of_run : (command : Command) (files : List File) (o : Outcome (Option Value)) → IsOrdinary command (run_answer files o).status
+of_run : (command : Command) (files : List File) (o : Outcome Core (Option Value)) → IsOrdinary command (run_answer files o).status
 of_run command files (Done x c h) = zero_is command
 of_run command files (Thrown x c h) = three_is command
 of_run command files (Halt e c h) = of_halted command files e _

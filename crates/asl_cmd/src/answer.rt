@@ -1,18 +1,22 @@
 //! The writing of answers.
-ghost use Rattle.std.specs.Prelude.{◌≡◌, ◌++◌, [], Err, map, if◌then◌else◌};
+ghost use Rattle.std.specs.Prelude.{◌≡◌, ◌++◌, [], Err, List, map, if◌then◌else◌};
 ghost use Rattle.asl_line.specs.Model.{meaning_of};
-ghost use Rattle.asl_rules.specs.Texts.{fault_line, line_feed};
-ghost use Rattle.asl_rules.specs.Report.{answer};
+ghost use Rattle.asl_syn.specs.Command.{check as check_command};
+ghost use Rattle.asl_rules.specs.Texts.{Text, fault_line, line_feed};
+ghost use Rattle.asl_rules.specs.Report.{answer, on_texts};
 ghost use Rattle.asl_cmd.specs.Model.{file_of, reading_of, AreShort, IsShort};
-ghost use Rattle.asl_cmd.specs.Report.{answer_of, answer_on_sources};
+ghost use Rattle.asl_cmd.specs.Report.{answer_of, answer_on_sources, texts_of};
 ghost use Rattle.asl_cmd.specs.Writes.{Writes, Answers, HasCause, code_of};
 
+use crate::parsing::program_of;
 use crate::reading::Reading;
 use crate::status::{Status, Stop};
 use crate::texts::{accepted_text, fault_text, long_text};
+use asl_check::check;
 use asl_io::{Sink, put_all};
 use asl_line::Line;
-use asl_syn::code::{Fault, StaticCode};
+use asl_rules::entry::Entry;
+use asl_syn::code::{Fault, Refused, StaticCode};
 use asl_syn::place::Source;
 use asl_syn::token::Span;
 use std::alloc::Global;
@@ -79,6 +83,29 @@ fn refuse<K: Sink>(
     say(out, text.as_bytes(), Status::Refused)
 }
 
+/// Checks the files without an entry, and writes the answer.
+fn check_files<K: Sink>(alloc: Global, sources: &[Source], out: &mut K) -> Result<Status, Stop>
+    requires { AreShort sources.now }
+    ensures answer { (names : List Text) → Answers result (K.written out.old) (K.written out.new) (on_texts (check_command names) (map file_of sources.now) (texts_of (map file_of sources.now))) }
+    ensures cause { HasCause result (K.faults out.old) (K.faults out.new) }
+    ensures same_full { K.full out.new ≡ K.full out.old }
+{
+    let program = match program_of(alloc, sources) {
+        Ok(program) => program,
+        Err(Refused::At(fault)) => return refuse(alloc, sources, &fault, out),
+        Err(Refused::NoMemory) => return Err(Stop::NoMemory),
+    };
+    let declarations = program.decls.len();
+    match check(alloc, program, Entry::None) {
+        Ok(_) => {
+            let text = accepted_text(alloc, declarations)?;
+            say(out, text.as_bytes(), Status::Done)
+        }
+        Err(Refused::At(fault)) => refuse(alloc, sources, &fault, out),
+        Err(Refused::NoMemory) => Err(Stop::NoMemory),
+    }
+}
+
 /// Writes the answer for files that were read.
 #[tactic(auto, unfolding(crate::specs::Report::answer_on_sources, asl_rules::specs::Programs::verdict))]
 fn answer_sources<K: Sink>(
@@ -98,10 +125,7 @@ fn answer_sources<K: Sink>(
             b"usage: asl check FILE.. | asl run [--steps N] FILE.. | asl exec [--steps N] --words W FILE.. | asl self NUMBER SIZE\n",
             Status::Usage,
         ),
-        Line::Check { .. } => {
-            let text = accepted_text(alloc, 0)?;
-            say(out, text.as_bytes(), Status::Done)
-        }
+        Line::Check { .. } => check_files(alloc, sources, out),
         Line::Run { .. } => {
             let span = Span {
                 file: 0,

@@ -3,6 +3,7 @@
 
 mod answer;
 mod memory;
+mod parsing;
 mod reading;
 mod status;
 mod texts;
