@@ -3,6 +3,7 @@ pub mod Budget
 pub mod Given
 pub mod Quiet
 pub mod Calls
+pub mod Shift
 pub mod Safe
 pub mod Inversions
 pub mod Soundness

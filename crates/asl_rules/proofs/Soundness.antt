@@ -216,3 +216,24 @@ pub never_stuck : (e : Entry) (ds : List Decl) (main : Option ℕ) → ProgramOk
     (globals : List Binding) → AllBelong globals → (h : Meter) (m : Mistake) (span : Span) (c : Core) (k : Meter) → run_of ds id args globals h ≡ Halt (Stuck m span) c k → ⊥
 never_stuck e ds main ok id f q args a globals g h m span c k w =
     is_stuck (run_of ds id args globals h) m span c k ((soundness e ds main ok).never_stuck id args globals h (record { func = f; is = q; args_belong = a; globals_belong = g })) w
+
+-- where a call from outside doesn't halt, the state after it is sound
+abbrev pub EndsSound : {A : Type 0} → Outcome Core A → Type 0
+EndsSound (Done x c h) = Sound c
+EndsSound (Thrown x c h) = Sound c
+EndsSound (Halt e c h) = Unit {0}
+
+given_sound : (x : Option Value) (c : Core) → Given x c → Sound c
+given_sound None c g = absurd g
+given_sound (Some x) c g = g.1
+
+ended_sound : (r : Outcome Core (Option Value)) → Ends Given (λ x c1. Sound c1) r → EndsSound r
+ended_sound (Done x c h) e = given_sound x c e
+ended_sound (Thrown x c h) e = e
+ended_sound (Halt (Faulted code span) c h) e = tt
+ended_sound (Halt (Stuck mistake span) c h) e = tt
+
+pub ends_sound : (e : Entry) (ds : List Decl) (main : Option ℕ) → ProgramOk e ds main → (id : ℕ) (args : List Value) (globals : List Binding) (h : Meter) → IsCall ds id args globals → EndsSound (run_of ds id args globals h)
+unfolding run_of
+ends_sound e ds main ok id args globals h k =
+    ended_sound _ (safe_run our_claims (meaning ds most_open) (trails (nodes ds) most_open) (claims (nodes ds) our_claims (our_forms ds) most_open) Given (λ x c1. Sound c1) (call_of ds id args (resting globals)) h (call_safe ds id args globals (bodies_ok e ds main ok) k))

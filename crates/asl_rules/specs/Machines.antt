@@ -4,7 +4,7 @@ use Rattle.asl_syn.specs.declared.tree.Decl.{Decl}
 use Rattle.asl_rules.specs.Told.{Begins}
 use Rattle.asl_rules.specs.Values.{Value}
 use Rattle.asl_rules.specs.States.{Binding, Core}
-use Rattle.asl_rules.specs.Plans.{Meter, Outcome, final, run}
+use Rattle.asl_rules.specs.Plans.{Meter, Outcome, final, run, starting}
 use Rattle.asl_rules.specs.Evaluation.{meaning, call_of}
 
 -- how many nodes may be entered and not left
@@ -25,7 +25,7 @@ run_of ds id args globals h = run (meaning ds most_open) (call_of ds id args (re
 
 -- the text after the call, had it this budget
 abbrev pub text_of_run : List Decl → ℕ → List Value → List Binding → Option (List ℕ) → ℕ → Option (List ℕ)
-text_of_run ds id args globals told budget = (final (run_of ds id args globals (record { steps = budget; told = told }))).told
+text_of_run ds id args globals told budget = (final (run_of ds id args globals (starting budget told))).told
 
 -- a run was given up after it entered n nodes of a budget: what was written since the beginning is a prefix of its text
 -- and of the text with budget n, and the text with one step less is a prefix of it; with no node entered it is nothing

@@ -4,13 +4,22 @@ use Rattle.std.specs.Prelude.{ℕ, zero, suc, ◌-◌, ◌==◌, Bool, true, fal
 use Rattle.asl_syn.specs.declared.token.Span.{Span}
 use Rattle.asl_syn.specs.declared.code.DynCode.{DynCode}
 use Rattle.asl_syn.specs.declared.code.DynCode.TheVariants.{D12, D13}
-use Rattle.asl_rules.specs.Told.{appended}
+use Rattle.asl_rules.specs.Told.{appended, open_after}
 use Rattle.asl_rules.specs.Values.{Value, Exit}
 
--- what no node reads: the steps that are left, and the text so far
+-- what no node reads: the steps that are left, the text so far where it is told, and whether what the run wrote is open
 pub record Meter : Type 0 where
   pub steps : ℕ
   pub told : Option (List ℕ)
+  pub text_open : Bool
+
+-- as a run begins
+abbrev pub starting : ℕ → Option (List ℕ) → Meter
+starting steps told = record { steps = steps; told = told; text_open = false }
+
+-- as bytes were written
+abbrev pub wrote : Meter → List ℕ → Meter
+wrote h bytes = record h { told = appended h.told bytes; text_open = open_after h.text_open bytes }
 
 -- why the rules give a node no outcome
 pub data Mistake : Type 0 where
@@ -74,7 +83,7 @@ run m (Raise x c) h = Thrown x c h
 run m (Stop e c) h = Halt e c h
 run m (Eval e c k) h = m.expr e c h >>= λ x c1 h1. run m (k x c1) h1
 run m (Exec t c k) h = m.stmt t c h >>= λ x c1 h1. run m (k x c1) h1
-run m (Put bytes q) h = run m q (record h { told = appended h.told bytes })
+run m (Put bytes q) h = run m q (wrote h bytes)
 run m (Within q f g) h = handle (run m q h) (λ x c1 h1. run m (f x c1) h1) (λ x c1 h1. run m (g x c1) h1)
 
 -- the entry into a node takes a step: D13 where none is left, then D12 where no node more may be open

@@ -6,7 +6,7 @@ use Rattle.asl_syn.specs.declared.tree.Decl.{Decl}
 use Rattle.asl_rules.specs.declared.entry.Entry.TheVariants as entry
 use Rattle.asl_rules.specs.Values.{Value}
 use Rattle.asl_rules.specs.States.{Core}
-use Rattle.asl_rules.specs.Plans.{Outcome, Done, Thrown, Halt, End, Faulted, Stuck}
+use Rattle.asl_rules.specs.Plans.{Outcome, Done, Thrown, Halt, End, Faulted, Stuck, starting}
 use Rattle.asl_rules.specs.Programs.{verdict}
 use Rattle.asl_rules.specs.Machines.{run_of, initial_globals}
 use Rattle.asl_rules.specs.Texts.{Text, File, fault_line, dynamic_line, usage_line, accepted_line, returned_line, uncaught_line, closing}
@@ -65,7 +65,7 @@ run_answer files (Halt e c h) = halted files e (told_text h.told)
 
 abbrev pub started : List File → List Decl → ℕ → Option ℕ → Answer
 started files ds steps None = answer [] 0
-started files ds steps (Some main) = run_answer files (run_of ds main [] (initial_globals ds) (record { steps = steps; told = Some [] }))
+started files ds steps (Some main) = run_answer files (run_of ds main [] (initial_globals ds) (starting steps (Some [])))
 
 abbrev pub check_verdict : List File → List Decl → Result (Option ℕ) Fault → Answer
 check_verdict files ds (Ok main) = answer (accepted_line (length ds)) 0
