@@ -1,8 +1,8 @@
 //! The writing of answers.
-ghost use Rattle.std.specs.Prelude.{◌≡◌, ◌++◌, [], Err, List, map, if◌then◌else◌};
+ghost use Rattle.std.specs.Prelude.{◌≡◌, List, map};
 ghost use Rattle.asl_line.specs.Model.{meaning_of};
-ghost use Rattle.asl_syn.specs.Command.{check as check_command};
-ghost use Rattle.asl_rules.specs.Texts.{Text, fault_line, line_feed};
+ghost use Rattle.asl_syn.specs.Command.{check as check_command, run as run_command};
+ghost use Rattle.asl_rules.specs.Texts.{Text, fault_line};
 ghost use Rattle.asl_rules.specs.Report.{answer, on_texts};
 ghost use Rattle.asl_cmd.specs.Model.{file_of, reading_of, AreShort, IsShort};
 ghost use Rattle.asl_cmd.specs.Report.{answer_of, answer_on_sources, texts_of};
@@ -10,62 +10,17 @@ ghost use Rattle.asl_cmd.specs.Writes.{Writes, Answers, HasCause, code_of};
 
 use crate::parsing::program_of;
 use crate::reading::Reading;
+use crate::running::run_program;
 use crate::status::{Status, Stop};
 use crate::texts::{accepted_text, fault_text, long_text};
+use crate::writing::say;
 use asl_check::check;
-use asl_io::{Sink, put_all};
+use asl_io::Sink;
 use asl_line::Line;
 use asl_rules::entry::Entry;
-use asl_syn::code::{Fault, Refused, StaticCode};
+use asl_syn::code::{Fault, Refused};
 use asl_syn::place::Source;
-use asl_syn::token::Span;
 use std::alloc::Global;
-
-/// Writes a text.
-fn put<K: Sink>(out: &mut K, text: &[u8]) -> Result<(), Stop>
-    ensures text { Writes result (K.written out.old) (K.written out.new) text.now }
-    ensures cause { HasCause result (K.faults out.old) (K.faults out.new) }
-    ensures same_full { K.full out.new ≡ K.full out.old }
-{
-    match put_all(out, text) {
-        Ok(()) => Ok(()),
-        Err(_) => Err(Stop::Fault),
-    }
-}
-
-/// Writes a text, and answers a status.
-fn say<K: Sink>(out: &mut K, text: &[u8], status: Status) -> Result<Status, Stop>
-    ensures answer { Answers result (K.written out.old) (K.written out.new) (answer text.now (code_of status)) }
-    ensures cause { HasCause result (K.faults out.old) (K.faults out.new) }
-    ensures same_full { K.full out.new ≡ K.full out.old }
-{
-    put(out, text)?;
-    Ok(status)
-}
-
-/// Closes printed text that is open.
-fn close<K: Sink>(out: &mut K, is_open: bool) -> Result<(), Stop>
-    ensures text { Writes result (K.written out.old) (K.written out.new) (if is_open then line_feed else []) }
-    ensures cause { HasCause result (K.faults out.old) (K.faults out.new) }
-    ensures same_full { K.full out.new ≡ K.full out.old }
-{
-    if is_open { put(out, b"\n") } else { Ok(()) }
-}
-
-/// Writes the line that ends an answer, behind printed text that is closed first where it is open.
-fn say_behind<K: Sink>(
-    out: &mut K,
-    is_open: bool,
-    text: &[u8],
-    status: Status,
-) -> Result<Status, Stop>
-    ensures answer { Answers result (K.written out.old) (K.written out.new) (answer ((if is_open then line_feed else []) ++ text.now) (code_of status)) }
-    ensures cause { HasCause result (K.faults out.old) (K.faults out.new) }
-    ensures same_full { K.full out.new ≡ K.full out.old }
-{
-    close(out, is_open)?;
-    say(out, text, status)
-}
 
 /// Writes the one fault of the files.
 fn refuse<K: Sink>(
@@ -106,8 +61,32 @@ fn check_files<K: Sink>(alloc: Global, sources: &[Source], out: &mut K) -> Resul
     }
 }
 
+/// Checks the files with the entry `main`, runs them with so many steps, and writes the answer.
+fn run_files<K: Sink>(
+    alloc: Global,
+    sources: &[Source],
+    steps: u32,
+    out: &mut K,
+) -> Result<Status, Stop>
+    requires { AreShort sources.now }
+    ensures answer { (names : List Text) → Answers result (K.written out.old) (K.written out.new) (on_texts (run_command steps names) (map file_of sources.now) (texts_of (map file_of sources.now))) }
+    ensures cause { HasCause result (K.faults out.old) (K.faults out.new) }
+    ensures same_full { K.full out.new ≡ K.full out.old }
+{
+    let program = match program_of(alloc, sources) {
+        Ok(program) => program,
+        Err(Refused::At(fault)) => return refuse(alloc, sources, &fault, out),
+        Err(Refused::NoMemory) => return Err(Stop::NoMemory),
+    };
+    match check(alloc, program, Entry::Main) {
+        Ok(checked) => run_program(alloc, sources, checked, steps, out),
+        Err(Refused::At(fault)) => refuse(alloc, sources, &fault, out),
+        Err(Refused::NoMemory) => Err(Stop::NoMemory),
+    }
+}
+
 /// Writes the answer for files that were read.
-#[tactic(auto, unfolding(crate::specs::Report::answer_on_sources, asl_rules::specs::Programs::verdict))]
+#[tactic(auto, unfolding(crate::specs::Report::answer_on_sources))]
 fn answer_sources<K: Sink>(
     alloc: Global,
     line: &Line,
@@ -126,19 +105,7 @@ fn answer_sources<K: Sink>(
             Status::Usage,
         ),
         Line::Check { .. } => check_files(alloc, sources, out),
-        Line::Run { .. } => {
-            let span = Span {
-                file: 0,
-                start: 0,
-                len: 0,
-            };
-            let missing = Fault {
-                code: StaticCode::T24,
-                inner: None,
-                span,
-            };
-            refuse(alloc, sources, &missing, out)
-        }
+        Line::Run { steps, .. } => run_files(alloc, sources, *steps, out),
     }
 }
 
