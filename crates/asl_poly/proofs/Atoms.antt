@@ -27,9 +27,6 @@ abbrev pub Distinct : List ℕ → Type 0
 Distinct [] = Unit {0}
 Distinct (x ∷ xs) = (In x xs → ⊥) × Distinct xs
 
-same_or : (m n : ℕ) → (m ≡ n) ⊎ (m ≢ n)
-same_or m n = grind (arith, nat_tests)
-
 has_in : (x : ℕ) (ys : List ℕ) → has_atom x ys ≡ true → In x ys
 has_in x [] e = cc
 has_in x (y ∷ ys) e = elim (bool_cases (x == y)) [

@@ -16,9 +16,6 @@ monomials zero n = 1
 monomials (suc k) zero = 1
 monomials (suc k) (suc n) = monomials (suc k) n + monomials k (suc n)
 
-abbrev pub Rows : Type 0
-Rows = List (List ℕ)
-
 abbrev Below : List ℕ → List (List ℕ) → Type 0
 Below ms [] = Unit {0}
 Below ms (xs ∷ xss) = (order xs ms ≡ Less) × Below ms xss

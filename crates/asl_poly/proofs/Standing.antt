@@ -3,7 +3,7 @@ use Rattle.std.specs.Prelude.{unsigned_abs, ◌==◌}
 use Rattle.std.specs.declared.cmp.Ordering.{Ordering}
 use Rattle.std.specs.declared.cmp.Ordering.TheVariants.{Less, Equal, Greater}
 use Rattle.std.proofs.Math.IntN.{ℤ, pos, ◌+ℤ◌, ◌*ℤ◌, +ℤ_idl}
-use Rattle.std.proofs.Math.Nat.{mul-le-mul_left, mul-le-mul_right, mul_assoc, mul_comm}
+use Rattle.std.proofs.Math.Nat.{mul-le-mul_left, mul-le-mul_right, mul_assoc}
 use Rattle.std.proofs.lemmas.Int.{ints}
 use Rattle.asl_poly.specs.Terms.{Polynomial, of_terms, Summand, Sorted, value, product, order}
 use Rattle.asl_poly.specs.Limits.{IsMap, weight, degree, note_terms}
@@ -45,10 +45,6 @@ atom_is_map x = record {
 pub map_at_is : (by : List (ℕ × Polynomial)) (x : ℕ) → AllMaps by → IsMap (map_at by x)
 map_at_is [] x h = atom_is_map x
 map_at_is (e ∷ by) x h = elim (bool_cases (x == e.0)) [ inl z ↦ rw z h.0 | inr z ↦ rw z (map_at_is by x h.1) ]
-
--- each term has at most n atoms
-abbrev pub Low : ℕ → List Summand → Type 0
-Low n ts = degree ts ≤ n
 
 degree_joined : (c : ℤ) (t : Summand) (ts : List Summand) (n : ℕ) → length t.factors ≤ n → degree ts ≤ n → degree (joined c t ts) ≤ n
 degree_joined c t ts n h k = elim (bool_cases (is_zero c)) [ inl z ↦ rw z k | inr z ↦ rw z (omega arith) ]
@@ -212,9 +208,6 @@ capped_mul m a b = elim (le_or m a) [
   | inr l ↦ let e : min m a ≡ a = omega arith in rw e refl
 ]
 
-pub capped_add : (m a b : ℕ) → min m (a + min m b) ≡ min m (a + b)
-capped_add m a b = omega arith
-
 module _ (by : List (ℕ × Polynomial)) (xs : List ℕ) (x : ℕ) (i : ℕ) (h : drop i xs ≡ x ∷ drop (i + 1) xs) where
   pub weight_next : (m a b w : ℕ) → w ≡ weight (map_at by x) → b ≡ min m (a * w) → min m (a * factors_weight by (drop i xs)) ≡ min m (b * factors_weight by (drop (i + 1) xs))
   weight_next m a b w e f =
@@ -228,16 +221,6 @@ pub next_atom : (q : List ℕ) (i : ℕ) (t : ℕ) → i < length q → t ≡ sl
 next_atom q i t h e =
     let f : drop i q ≡ slice_index_or q i t ∷ drop (suc i) q = drop-cons q i t h in
     rw (add-one i) (f ∙ ap (λ u. u ∷ drop (suc i) q) (sym e))
-
-pub sum_next : (by : List (ℕ × Polynomial)) (p : List Summand) (t : Summand) (i m a b n c : ℕ) → drop i p ≡ t ∷ drop (i + 1) p → n ≡ min m (factors_weight by t.factors) → c ≡ min m (unsigned_abs t.coefficient * n) → b ≡ min m (a + c)
-    → min m (a + replaced_weight by (drop i p)) ≡ min m (b + replaced_weight by (drop (i + 1) p))
-sum_next by p t i m a b n c h e f g =
-    let w : replaced_weight by (drop i p) ≡ unsigned_abs t.coefficient * factors_weight by t.factors + replaced_weight by (drop (i + 1) p) = ap (replaced_weight by) h in
-    let k : min m (min m (factors_weight by t.factors) * unsigned_abs t.coefficient) ≡ min m (factors_weight by t.factors * unsigned_abs t.coefficient) = capped_mul m (factors_weight by t.factors) (unsigned_abs t.coefficient) in
-    let l : unsigned_abs t.coefficient * n ≡ min m (factors_weight by t.factors) * unsigned_abs t.coefficient = mul_comm (unsigned_abs t.coefficient) n ∙ ap (λ z. z * unsigned_abs t.coefficient) e in
-    let o : c ≡ min m (factors_weight by t.factors * unsigned_abs t.coefficient) = f ∙ ap (min m) l ∙ k in
-    let q : factors_weight by t.factors * unsigned_abs t.coefficient ≡ unsigned_abs t.coefficient * factors_weight by t.factors = mul_comm (factors_weight by t.factors) (unsigned_abs t.coefficient) in
-    omega arith
 
 -- ---- for the loops
 
@@ -295,9 +278,3 @@ one_more by p acc us t i m h e l =
     let w : replaced_weight by (drop i p) ≡ unsigned_abs t.coefficient * factors_weight by t.factors + replaced_weight by (drop (i + 1) p) = ap (replaced_weight by) h in
     let g : weight us ≡ weight (gather acc (times_maps by (constant_term t.coefficient ∷ []) t.factors)) = ap weight e in
     (rw (h, e) refl, omega (arith, weight_gather acc (times_maps by (constant_term t.coefficient ∷ []) t.factors), times_weight by (constant_term t.coefficient ∷ []) t.factors))
-
-pub room_for : (by : List (ℕ × Polynomial)) (p acc : List Summand) (t : Summand) (i m : ℕ) → drop i p ≡ t ∷ drop (i + 1) p → weight acc + replaced_weight by (drop i p) ≤ m
-    → weight acc + unsigned_abs t.coefficient * factors_weight by t.factors ≤ m
-room_for by p acc t i m h l =
-    let w : replaced_weight by (drop i p) ≡ unsigned_abs t.coefficient * factors_weight by t.factors + replaced_weight by (drop (i + 1) p) = ap (replaced_weight by) h in
-    omega arith

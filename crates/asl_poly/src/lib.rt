@@ -21,6 +21,7 @@ ghost use Rattle.asl_poly.specs.Poly.{IsPolynomial, SameAt};
 pub use poly::Poly;
 use std::alloc::AllocError;
 use std::marker::Model;
+use thiserror::Error;
 
 /// An unknown integer, by its number.
 #[derive(Clone, Copy, Debug, PartialEq, Eq)]
@@ -37,12 +38,14 @@ impl Model for Atom {
 }
 
 /// Why there is no polynomial.
-#[derive(Clone, Copy, Debug, PartialEq, Eq)]
+#[derive(Clone, Copy, Debug, PartialEq, Eq, Error)]
 pub enum PolyRefused {
     /// The weight would pass 2^62, the degree 4, or the number of atoms 8, counted over the parts of the operation before
     /// any of their terms cancel.
+    #[error("the polynomial is past the limits")]
     TooLarge,
     /// There is no memory left.
+    #[error("there is no memory left")]
     NoMemory,
 }
 

@@ -11,7 +11,6 @@ use Rattle.asl_rules.specs.Plans.{Meter, Mistake, Stuck, Outcome, Done, Halt, st
 use Rattle.asl_rules.specs.Cuts.{cuts}
 use Rattle.asl_rules.specs.Evaluation.{nodes, meaning, cutting, call_of}
 use Rattle.asl_rules.specs.Belonging.{AllBelong, Sound}
-use Rattle.asl_rules.specs.Soundness.{IsCall}
 use Rattle.asl_rules.specs.Machines.{GivenUp, most_open, resting, run_of, text_of_run}
 use Rattle.asl_rules.proofs.Soundness.{never_stuck, EndsSound, ends_sound}
 use Rattle.asl_rules.proofs.Quiet.{given_up}

@@ -2,15 +2,19 @@
 use Rattle.std.specs.Prelude.{◌≡◌, ◌≤◌, ℕ, List, Option, Result, Ok, Err}
 use Rattle.asl_io.specs.Faults.{Rises}
 use Rattle.asl_syn.specs.declared.tree.Decl.{Decl}
+use Rattle.asl_syn.specs.declared.tree.Expr.{Expr}
+use Rattle.asl_syn.specs.declared.tree.Stmt.{Stmt}
 use Rattle.asl_rules.specs.States.{Core}
 use Rattle.asl_rules.specs.Plans.{Meter, Faulted, Stuck, Outcome, Done, Thrown, Halt, run, Pure, Good, Bad}
 use Rattle.asl_rules.specs.Cuts.{cuts}
 use Rattle.asl_rules.specs.Evaluation.{Does, meaning, cutting}
+use Rattle.asl_value.specs.declared.value.Value.{Value}
 use Rattle.asl_value.specs.View.{value_of}
+use Rattle.asl_run.specs.declared.stop.Exit.{Exit}
 use Rattle.asl_run.specs.declared.stop.Stop.{Stop}
 use Rattle.asl_run.specs.declared.stop.Stop.TheVariants as stop
 use Rattle.asl_run.specs.declared.store.Store.{Store}
-use Rattle.asl_run.specs.View.{mistake_of, core_of, meter_of}
+use Rattle.asl_run.specs.View.{exit_of, mistake_of, core_of, meter_of}
 
 -- an answer, with what stands after it, is what the rules give; or the run was given up at one of these meters
 abbrev pub Meets : {A B : Type 0} → (A → B) → Result A Stop → Core → Meter → Outcome Core B → (Meter → Type 0) → Type 0
@@ -21,9 +25,20 @@ Meets view (Err (stop.Thrown x)) c h r C = r ≡ Thrown (value_of x) c h
 Meets view (Err (stop.Fault code span)) c h r C = r ≡ Halt (Faulted code span) c h
 Meets view (Err (stop.Stuck mistake span)) c h r C = r ≡ Halt (Stuck (mistake_of mistake) span) c h
 
--- an answer is that of a plan, where d nodes more may be open
-abbrev pub MeetsPlan : {A B : Type 0} → (A → B) → Result A Stop → Store → Option (List ℕ) → List Decl → ℕ → Does B → Meter → Type 0
-MeetsPlan view result s told ds d q h = Meets view result (core_of s) (meter_of s told) (run (meaning ds d) q h) (cuts (meaning ds d) (cutting ds d) q h)
+-- from one store and told text to another, an answer is that of a plan, where d nodes more may be open
+abbrev pub Runs : {A B : Type 0} → (A → B) → Result A Stop → List Decl → ℕ → (Core → Does B) → Store → Option (List ℕ) → Store → Option (List ℕ) → Type 0
+Runs view result ds d q s told s1 told1 =
+    Meets view result (core_of s1) (meter_of s1 told1) (run (meaning ds d) (q (core_of s)) (meter_of s told)) (cuts (meaning ds d) (cutting ds d) (q (core_of s)) (meter_of s told))
+
+-- that of an expression
+abbrev pub Evaluates : Result Value Stop → List Decl → ℕ → Expr → Store → Option (List ℕ) → Store → Option (List ℕ) → Type 0
+Evaluates result ds d e s told s1 told1 =
+    Meets value_of result (core_of s1) (meter_of s1 told1) ((meaning ds d).expr e (core_of s) (meter_of s told)) ((cutting ds d).expr e (core_of s) (meter_of s told))
+
+-- that of a statement
+abbrev pub Executes : Result Exit Stop → List Decl → ℕ → Stmt → Store → Option (List ℕ) → Store → Option (List ℕ) → Type 0
+Executes result ds d t s told s1 told1 =
+    Meets exit_of result (core_of s1) (meter_of s1 told1) ((meaning ds d).stmt t (core_of s) (meter_of s told)) ((cutting ds d).stmt t (core_of s) (meter_of s told))
 
 -- an operator's answer, or want of memory
 abbrev pub Is : {A B : Type 0} → (A → B) → Result A Stop → Pure B → Type 0

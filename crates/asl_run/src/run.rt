@@ -5,10 +5,10 @@ ghost use Rattle.asl_syn.specs.declared.tree.Expr.{out-Expr};
 ghost use Rattle.asl_syn.specs.declared.tree.Stmt.{out-Stmt};
 ghost use Rattle.asl_rules.specs.Plans.{Eval, Ret};
 ghost use Rattle.asl_rules.specs.Values.{Returned};
-ghost use Rattle.asl_rules.specs.Evaluation.{meaning, cutting, expr_node, stmt_node, in_order, run_body as body_plan, call_of};
+ghost use Rattle.asl_rules.specs.Evaluation.{expr_node, stmt_node, in_order, run_body as body_plan, call_of};
 ghost use Rattle.asl_value.specs.View.{value_of, bindings_of};
-ghost use Rattle.asl_run.specs.View.{core_of, meter_of, exit_of};
-ghost use Rattle.asl_run.specs.Meets.{Meets, MeetsPlan, Counts};
+ghost use Rattle.asl_run.specs.View.{exit_of};
+ghost use Rattle.asl_run.specs.Meets.{Runs, Evaluates, Executes, Counts};
 
 use crate::leaves::{frame_of, func_at, literal_value};
 use crate::stop::{Exit, Mistake, Stop};
@@ -32,7 +32,8 @@ pub fn eval<K: Sink>(
     depth: u32,
     e: &Expr,
 ) -> Result<Value, Stop>
-    ensures meets { Meets value_of result (core_of store.new) (meter_of store.new (K.written sink.new)) ((meaning decls.now depth).expr e.now (core_of store.old) (meter_of store.old (K.written sink.old))) ((cutting decls.now depth).expr e.now (core_of store.old) (meter_of store.old (K.written sink.old))) }
+    ensures meets { Evaluates result decls.now depth e.now
+        store.old (K.written sink.old) store.new (K.written sink.new) }
     ensures counts { Counts result (K.faults sink.old) (K.faults sink.new) }
     ensures same_full { K.full sink.new ≡ K.full sink.old }
 {
@@ -54,7 +55,8 @@ fn eval_node<K: Sink>(
     depth: u32,
     e: &Expr,
 ) -> Result<Value, Stop>
-    ensures meets { MeetsPlan value_of result store.new (K.written sink.new) decls.now depth (expr_node decls.now (out-Expr e.now) (core_of store.old)) (meter_of store.old (K.written sink.old)) }
+    ensures meets { Runs value_of result decls.now depth (expr_node decls.now (out-Expr e.now))
+        store.old (K.written sink.old) store.new (K.written sink.new) }
     ensures counts { Counts result (K.faults sink.old) (K.faults sink.new) }
     ensures same_full { K.full sink.new ≡ K.full sink.old }
 {
@@ -73,7 +75,8 @@ pub fn exec<K: Sink>(
     depth: u32,
     s: &Stmt,
 ) -> Result<Exit, Stop>
-    ensures meets { Meets exit_of result (core_of store.new) (meter_of store.new (K.written sink.new)) ((meaning decls.now depth).stmt s.now (core_of store.old) (meter_of store.old (K.written sink.old))) ((cutting decls.now depth).stmt s.now (core_of store.old) (meter_of store.old (K.written sink.old))) }
+    ensures meets { Executes result decls.now depth s.now
+        store.old (K.written sink.old) store.new (K.written sink.new) }
     ensures counts { Counts result (K.faults sink.old) (K.faults sink.new) }
     ensures same_full { K.full sink.new ≡ K.full sink.old }
 {
@@ -95,7 +98,8 @@ fn exec_node<K: Sink>(
     depth: u32,
     s: &Stmt,
 ) -> Result<Exit, Stop>
-    ensures meets { MeetsPlan exit_of result store.new (K.written sink.new) decls.now depth (stmt_node decls.now (out-Stmt s.now) (core_of store.old)) (meter_of store.old (K.written sink.old)) }
+    ensures meets { Runs exit_of result decls.now depth (stmt_node decls.now (out-Stmt s.now))
+        store.old (K.written sink.old) store.new (K.written sink.new) }
     ensures counts { Counts result (K.faults sink.old) (K.faults sink.new) }
     ensures same_full { K.full sink.new ≡ K.full sink.old }
 {
@@ -114,7 +118,8 @@ fn exec_return<K: Sink>(
     depth: u32,
     e: &Expr,
 ) -> Result<Exit, Stop>
-    ensures meets { MeetsPlan exit_of result store.new (K.written sink.new) decls.now depth (Eval e.now (core_of store.old) (λ x c. Ret (Returned (Some x)) c)) (meter_of store.old (K.written sink.old)) }
+    ensures meets { Runs exit_of result decls.now depth (λ c. Eval e.now c (λ x c1. Ret (Returned (Some x)) c1))
+        store.old (K.written sink.old) store.new (K.written sink.new) }
     ensures counts { Counts result (K.faults sink.old) (K.faults sink.new) }
     ensures same_full { K.full sink.new ≡ K.full sink.old }
 {
@@ -131,7 +136,8 @@ fn exec_all<K: Sink>(
     depth: u32,
     list: &[Stmt],
 ) -> Result<Exit, Stop>
-    ensures meets { MeetsPlan exit_of result store.new (K.written sink.new) decls.now depth (in_order list.now (core_of store.old)) (meter_of store.old (K.written sink.old)) }
+    ensures meets { Runs exit_of result decls.now depth (in_order list.now)
+        store.old (K.written sink.old) store.new (K.written sink.new) }
     ensures counts { Counts result (K.faults sink.old) (K.faults sink.new) }
     ensures same_full { K.full sink.new ≡ K.full sink.old }
 {
@@ -154,7 +160,8 @@ pub fn call<K: Sink>(
     id: SubId,
     args: Vec<Value>,
 ) -> Result<Option<Value>, Stop>
-    ensures meets { MeetsPlan (option_map value_of) result store.new (K.written sink.new) decls.now depth (call_of decls.now id (map value_of args.items) (core_of store.old)) (meter_of store.old (K.written sink.old)) }
+    ensures meets { Runs (option_map value_of) result decls.now depth (call_of decls.now id (map value_of args.items))
+        store.old (K.written sink.old) store.new (K.written sink.new) }
     ensures counts { Counts result (K.faults sink.old) (K.faults sink.new) }
     ensures same_full { K.full sink.new ≡ K.full sink.old }
 {
@@ -184,7 +191,8 @@ fn run_body<K: Sink>(
     f: &Func,
     frame: Vec<Binding>,
 ) -> Result<Option<Value>, Stop>
-    ensures meets { MeetsPlan (option_map value_of) result store.new (K.written sink.new) decls.now depth (body_plan id f.now (core_of store.old) (bindings_of frame.items)) (meter_of store.old (K.written sink.old)) }
+    ensures meets { Runs (option_map value_of) result decls.now depth (λ c. body_plan id f.now c (bindings_of frame.items))
+        store.old (K.written sink.old) store.new (K.written sink.new) }
     ensures counts { Counts result (K.faults sink.old) (K.faults sink.new) }
     ensures same_full { K.full sink.new ≡ K.full sink.old }
 {

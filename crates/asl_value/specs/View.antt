@@ -6,7 +6,6 @@ use Rattle.asl_value.specs.declared.binding.Ty.TheVariants.{Integer}
 use Rattle.asl_value.specs.declared.value.Value.{Value}
 use Rattle.asl_value.specs.declared.value.Value.TheVariants as v
 use Rattle.asl_rules.specs.States as states
-use Rattle.asl_rules.specs.Plans as plans
 use Rattle.asl_rules.specs.Types as types
 use Rattle.asl_rules.specs.Values as rules
 

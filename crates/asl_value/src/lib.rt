@@ -6,3 +6,6 @@ mod value;
 
 pub use binding::{Binding, Ty};
 pub use value::{Value, copy, show};
+
+#[cfg(test)]
+mod tests;
