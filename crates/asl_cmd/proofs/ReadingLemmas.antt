@@ -7,7 +7,7 @@ use Rattle.std.proofs.lemmas.List.{map-append}
 use Rattle.std.proofs.lemmas.List.Elements.{All-append}
 use Rattle.asl_syn.specs.declared.place.Source.{Source}
 use Rattle.asl_rules.specs.Texts.{Text, File}
-use Rattle.asl_rules.specs.Report.{Reading, all, long, many, with_file, read_by}
+use Rattle.asl_rules.specs.Report.{Reading, all, long, with_file, read_by}
 use Rattle.asl_cmd.specs.declared.reading.One.{One}
 use Rattle.asl_cmd.specs.declared.reading.One.TheVariants as one
 use Rattle.asl_cmd.specs.Model.{file_of, IsOne, IsShortOne, AreShort}

@@ -1,15 +1,13 @@
 -- The statuses of reports: 0 to 4, and 2 for no command alone.
-use Rattle.std.proofs.Common.{◌≡◌, ◌<◌, ◌∙◌, ℕ, List, Option, Some, None, Result, Ok, Err, refl, sym, ap, subst, arith}
+use Rattle.std.proofs.Common.{◌≡◌, ◌<◌, ◌∙◌, ℕ, List, Option, Some, None, Result, Ok, Err, refl, sym, ap, arith}
 use Rattle.asl_syn.specs.Command.{Command, usage, check, run}
 use Rattle.asl_syn.specs.declared.code.Fault.{Fault}
 use Rattle.asl_syn.specs.declared.tree.Decl.{Decl}
-use Rattle.asl_rules.specs.declared.entry.Entry.TheVariants as entry
 use Rattle.asl_rules.specs.Values.{Value}
+use Rattle.asl_rules.specs.States.{Core}
 use Rattle.asl_rules.specs.Plans.{Outcome, Done, Thrown, Halt, End, Faulted, Stuck}
-use Rattle.asl_rules.specs.Programs.{verdict}
-use Rattle.asl_rules.specs.Machines.{run_of, initial_globals}
 use Rattle.asl_rules.specs.Texts.{Text, File}
-use Rattle.asl_rules.specs.Report.{Answer, Reading, all, long, many, halted, run_answer, started, check_verdict, run_verdict, on_program, on_texts}
+use Rattle.asl_rules.specs.Report.{Reading, all, long, many, halted, run_answer, started, check_verdict, run_verdict, on_program, on_texts}
 use Rattle.asl_cmd.specs.declared.status.Status.{Status}
 use Rattle.asl_cmd.specs.declared.status.Status.TheVariants as status
 use Rattle.asl_cmd.specs.Report.{answer_on_sources, answer_of, texts_of}
@@ -39,7 +37,7 @@ of_halted : (command : Command) (files : List File) (e : End) (printed : Text) �
 of_halted command files (Faulted code span) printed = four_is command
 of_halted command files (Stuck mistake span) printed = four_is command
 
-of_run : (command : Command) (files : List File) (o : Outcome (Option Value)) → IsOrdinary command (run_answer files o).status
+of_run : (command : Command) (files : List File) (o : Outcome Core (Option Value)) → IsOrdinary command (run_answer files o).status
 of_run command files (Done x c h) = zero_is command
 of_run command files (Thrown x c h) = three_is command
 of_run command files (Halt e c h) = of_halted command files e _

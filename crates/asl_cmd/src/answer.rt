@@ -1,67 +1,26 @@
 //! The writing of answers.
-ghost use Rattle.std.specs.Prelude.{◌≡◌, ◌++◌, [], Err, IfOk, map, if◌then◌else◌};
+ghost use Rattle.std.specs.Prelude.{◌≡◌, List, map};
 ghost use Rattle.asl_line.specs.Model.{meaning_of};
-ghost use Rattle.asl_rules.specs.Texts.{fault_line, line_feed};
-ghost use Rattle.asl_rules.specs.Report.{answer};
+ghost use Rattle.asl_syn.specs.Command.{check as check_command, run as run_command};
+ghost use Rattle.asl_rules.specs.Texts.{Text, fault_line};
+ghost use Rattle.asl_rules.specs.Report.{answer, on_texts};
 ghost use Rattle.asl_cmd.specs.Model.{file_of, reading_of, AreShort, IsShort};
-ghost use Rattle.asl_cmd.specs.Report.{answer_of, answer_on_sources};
+ghost use Rattle.asl_cmd.specs.Report.{answer_of, answer_on_sources, texts_of};
 ghost use Rattle.asl_cmd.specs.Writes.{Writes, Answers, HasCause, code_of};
 
+use crate::parsing::program_of;
 use crate::reading::Reading;
+use crate::running::run_program;
 use crate::status::{Status, Stop};
 use crate::texts::{accepted_text, fault_text, long_text};
-use asl_io::{Sink, put_all};
+use crate::writing::say;
+use asl_check::check;
+use asl_io::Sink;
 use asl_line::Line;
-use asl_syn::code::{Fault, StaticCode};
+use asl_rules::entry::Entry;
+use asl_syn::code::{Fault, Refused};
 use asl_syn::place::Source;
-use asl_syn::token::Span;
 use std::alloc::Global;
-
-/// Writes a text.
-fn put<K: Sink>(out: &mut K, text: &[u8]) -> Result<(), Stop>
-    ensures text { Writes result (K.written out.old) (K.written out.new) text.now }
-    ensures cause { HasCause result (K.faults out.old) (K.faults out.new) }
-    ensures same_full { K.full out.new ≡ K.full out.old }
-{
-    match put_all(out, text) {
-        Ok(()) => Ok(()),
-        Err(_) => Err(Stop::Fault),
-    }
-}
-
-/// Writes a text, and answers a status.
-fn say<K: Sink>(out: &mut K, text: &[u8], status: Status) -> Result<Status, Stop>
-    ensures answer { Answers result (K.written out.old) (K.written out.new) (answer text.now (code_of status)) }
-    ensures cause { HasCause result (K.faults out.old) (K.faults out.new) }
-    ensures same_full { K.full out.new ≡ K.full out.old }
-{
-    put(out, text)?;
-    Ok(status)
-}
-
-/// Closes printed text that is open.
-fn close<K: Sink>(out: &mut K, is_open: bool) -> Result<(), Stop>
-    ensures text { Writes result (K.written out.old) (K.written out.new) (if is_open then line_feed else []) }
-    ensures cause { HasCause result (K.faults out.old) (K.faults out.new) }
-    ensures same_full { K.full out.new ≡ K.full out.old }
-{
-    if is_open { put(out, b"\n") } else { Ok(()) }
-}
-
-/// Writes the line that ends an answer, behind printed text that is closed first where it is open.
-fn say_behind<K: Sink>(
-    out: &mut K,
-    is_open: bool,
-    text: &[u8],
-    status: Status,
-) -> Result<Status, Stop>
-    ensures answer { Answers result (K.written out.old) (K.written out.new) (answer ((if is_open then line_feed else []) ++ text.now) (code_of status)) }
-    ensures cause { HasCause result (K.faults out.old) (K.faults out.new) }
-    ensures same_full { K.full out.new ≡ K.full out.old }
-{
-    close(out, is_open)?;
-    say(out, text, status)
-}
 
 /// Writes the one fault of the files.
 fn refuse<K: Sink>(
@@ -79,8 +38,55 @@ fn refuse<K: Sink>(
     say(out, text.as_bytes(), Status::Refused)
 }
 
+/// Checks the files without an entry, and writes the answer.
+fn check_files<K: Sink>(alloc: Global, sources: &[Source], out: &mut K) -> Result<Status, Stop>
+    requires { AreShort sources.now }
+    ensures answer { (names : List Text) → Answers result (K.written out.old) (K.written out.new) (on_texts (check_command names) (map file_of sources.now) (texts_of (map file_of sources.now))) }
+    ensures cause { HasCause result (K.faults out.old) (K.faults out.new) }
+    ensures same_full { K.full out.new ≡ K.full out.old }
+{
+    let program = match program_of(alloc, sources) {
+        Ok(program) => program,
+        Err(Refused::At(fault)) => return refuse(alloc, sources, &fault, out),
+        Err(Refused::NoMemory) => return Err(Stop::NoMemory),
+    };
+    let declarations = program.decls.len();
+    match check(alloc, program, Entry::None) {
+        Ok(_) => {
+            let text = accepted_text(alloc, declarations)?;
+            say(out, text.as_bytes(), Status::Done)
+        }
+        Err(Refused::At(fault)) => refuse(alloc, sources, &fault, out),
+        Err(Refused::NoMemory) => Err(Stop::NoMemory),
+    }
+}
+
+/// Checks the files with the entry `main`, runs them with so many steps, and writes the answer.
+fn run_files<K: Sink>(
+    alloc: Global,
+    sources: &[Source],
+    steps: u32,
+    out: &mut K,
+) -> Result<Status, Stop>
+    requires { AreShort sources.now }
+    ensures answer { (names : List Text) → Answers result (K.written out.old) (K.written out.new) (on_texts (run_command steps names) (map file_of sources.now) (texts_of (map file_of sources.now))) }
+    ensures cause { HasCause result (K.faults out.old) (K.faults out.new) }
+    ensures same_full { K.full out.new ≡ K.full out.old }
+{
+    let program = match program_of(alloc, sources) {
+        Ok(program) => program,
+        Err(Refused::At(fault)) => return refuse(alloc, sources, &fault, out),
+        Err(Refused::NoMemory) => return Err(Stop::NoMemory),
+    };
+    match check(alloc, program, Entry::Main) {
+        Ok(checked) => run_program(alloc, sources, checked, steps, out),
+        Err(Refused::At(fault)) => refuse(alloc, sources, &fault, out),
+        Err(Refused::NoMemory) => Err(Stop::NoMemory),
+    }
+}
+
 /// Writes the answer for files that were read.
-#[tactic(auto, unfolding(crate::specs::Report::answer_on_sources, asl_rules::specs::Programs::verdict))]
+#[tactic(auto, unfolding(crate::specs::Report::answer_on_sources))]
 fn answer_sources<K: Sink>(
     alloc: Global,
     line: &Line,
@@ -98,23 +104,8 @@ fn answer_sources<K: Sink>(
             b"usage: asl check FILE.. | asl run [--steps N] FILE.. | asl exec [--steps N] --words W FILE.. | asl self NUMBER SIZE\n",
             Status::Usage,
         ),
-        Line::Check { .. } => {
-            let text = accepted_text(alloc, 0)?;
-            say(out, text.as_bytes(), Status::Done)
-        }
-        Line::Run { .. } => {
-            let span = Span {
-                file: 0,
-                start: 0,
-                len: 0,
-            };
-            let missing = Fault {
-                code: StaticCode::T24,
-                inner: None,
-                span,
-            };
-            refuse(alloc, sources, &missing, out)
-        }
+        Line::Check { .. } => check_files(alloc, sources, out),
+        Line::Run { steps, .. } => run_files(alloc, sources, *steps, out),
     }
 }
 

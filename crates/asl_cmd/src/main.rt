@@ -3,10 +3,13 @@
 
 mod answer;
 mod memory;
+mod parsing;
 mod reading;
+mod running;
 mod status;
 mod texts;
 mod top;
+mod writing;
 
 use asl_io::{HostFiles, HostSink};
 use status::Status;

@@ -1,5 +1,5 @@
 //! The reading of the files that a command names.
-ghost use Rattle.std.specs.Prelude.{◌≡◌, ◌<◌, ◌≤◌, All, List, IfOk, IfSome, IsErrOf, IsTrue, map, string_bytes, vec_len};
+ghost use Rattle.std.specs.Prelude.{◌≡◌, ◌<◌, All, IfOk, IfSome, IsErrOf, IsTrue, map, string_bytes};
 ghost use Rattle.asl_syn.specs.Command.{names_of};
 ghost use Rattle.asl_rules.specs.Report.{read_by, read_for};
 ghost use Rattle.asl_line.specs.Model.{meaning_of};

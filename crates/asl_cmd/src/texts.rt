@@ -1,8 +1,6 @@
 //! The exact texts: fault lines, and the lines that end an answer.
-ghost use Rattle.std.specs.Prelude.{◌≡◌, ◌≤◌, ◌<◌, [], IfOk, map, string_bytes, codes, length};
-ghost use Rattle.asl_syn.specs.Codes.{static_text, dynamic_text};
-ghost use Rattle.asl_rules.specs.Values.{int};
-ghost use Rattle.asl_rules.specs.Texts.{placed, line_at, fault_line, dynamic_line, long_line, accepted_line, returned_line, uncaught_line};
+ghost use Rattle.std.specs.Prelude.{◌≡◌, ◌<◌, IfOk, map, string_bytes};
+ghost use Rattle.asl_rules.specs.Texts.{placed, line_at, fault_line, dynamic_line, long_line, accepted_line};
 ghost use Rattle.asl_cmd.specs.Model.{file_of, AreShort};
 
 use asl_syn::code::{DynCode, Fault};
@@ -85,11 +83,4 @@ pub fn accepted_text(alloc: Global, declarations: usize) -> Result<String, Alloc
     ensures { IfOk result (λ text. string_bytes text ≡ accepted_line declarations) }
 {
     format!(in alloc; "ok {declarations} declarations\n")
-}
-
-/// The line of a run that returned this integer.
-pub fn returned_text(alloc: Global, n: i128) -> Result<String, AllocError>
-    ensures { IfOk result (λ text. string_bytes text ≡ returned_line (int n)) }
-{
-    format!(in alloc; "returned {n}\n")
 }

@@ -1,5 +1,5 @@
 //! Files that are read by name, in pieces, and the reading of one whole.
-ghost use Rattle.std.specs.Prelude.{◌≡◌, ℕ, ◌<◌, ◌≤◌, ◌+◌, ◌↔◌, ◌⊎◌, ◌++◌, Bool, IsTrue, List, [], Option, option_map, is_some, length, take, vec_len, IfOk, IfSome, IsErrOf, IsOk, OnErr, OnOk};
+ghost use Rattle.std.specs.Prelude.{◌≡◌, ℕ, ◌<◌, ◌≤◌, ◌+◌, ◌⊎◌, ◌++◌, Bool, IsTrue, List, [], Option, option_map, is_some, length, take, vec_len, IfOk, IfSome, IsErrOf, IsOk, OnErr, OnOk};
 ghost use Rattle.asl_io.specs.Faults.{Rises};
 ghost use Rattle.asl_io.specs.Told.{Gives, GivesMany};
 

@@ -1,5 +1,5 @@
 //! Files in memory that may fail.
-ghost use Rattle.std.specs.Prelude.{◌≡◌, ◌<◌, ◌≤◌, ◌+◌, ◌↔◌, ◌⊎◌, ◌∷◌, [], ℕ, List, Some, None, Option, Contains, IsTrue, length, take, drop, option_map, IfOk, IfSome, IsErr, IsOk, OnErr, OnOk};
+ghost use Rattle.std.specs.Prelude.{◌≡◌, ◌<◌, ◌≤◌, ◌+◌, ◌↔◌, ◌⊎◌, [], Some, None, Option, Contains, IsTrue, length, take, IfOk, IfSome, IsErr, IsOk, OnErr, OnOk};
 ghost use Rattle.std.proofs.Math.Path.{refl};
 ghost use Rattle.asl_io.specs.Faults.{Rises, next_number};
 ghost use Rattle.asl_io.specs.Told.{Gives};

@@ -1,5 +1,5 @@
 //! A sink in memory that may fail.
-ghost use Rattle.std.specs.Prelude.{min, ◌-◌, ◌≡◌, ℕ, ◌<◌, ◌≤◌, ◌+◌, ◌↔◌, ◌⊎◌, [], Option, Some, None, Contains, length, take, vec_len, vec_capacity, string_bytes, IfOk, IsErr, OnErr, OnOk};
+ghost use Rattle.std.specs.Prelude.{min, ◌-◌, ◌≡◌, ◌<◌, ◌≤◌, ◌↔◌, ◌⊎◌, [], Some, Contains, length, take, vec_len, vec_capacity, IfOk, IsErr, OnErr, OnOk};
 ghost use Rattle.asl_io.specs.Faults.{Rises, room_where_none_fails, next_number};
 ghost use Rattle.asl_io.specs.Told.{Takes};
 

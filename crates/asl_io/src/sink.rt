@@ -1,5 +1,5 @@
 //! What takes bytes, and the writing of a text whole.
-ghost use Rattle.std.specs.Prelude.{◌≡◌, ℕ, ◌<◌, ◌≤◌, List, Option, length, take, IfOk, IfSome, OnErr, OnOk};
+ghost use Rattle.std.specs.Prelude.{◌≡◌, ℕ, ◌<◌, ◌≤◌, List, Option, length, take, IfOk, OnErr, OnOk};
 ghost use Rattle.asl_io.specs.Faults.{Rises};
 ghost use Rattle.asl_io.specs.Told.{Takes, TakesPrefix};
 

@@ -1,5 +1,5 @@
 //! A sink that never fails.
-ghost use Rattle.std.specs.Prelude.{◌≡◌, ℕ, ◌≤◌, None, length, IfOk, IsOk};
+ghost use Rattle.std.specs.Prelude.{◌≡◌, None};
 
 use crate::sink::{Sink, SinkFault};
 
