@@ -1,11 +1,13 @@
 //! The writing of answers.
-ghost use Rattle.std.specs.Prelude.{◌≡◌, List, map};
+ghost use Rattle.std.specs.Prelude.{◌≡◌, ◌≤◌, List, None, length, map};
 ghost use Rattle.asl_line.specs.Model.{meaning_of};
 ghost use Rattle.asl_syn.specs.Command.{check as check_command, run as run_command};
 ghost use Rattle.asl_rules.specs.Texts.{Text, fault_line};
-ghost use Rattle.asl_rules.specs.Report.{answer, on_texts};
+ghost use Rattle.asl_rules.specs.Reading.{Reader, IsReading};
+ghost use Rattle.asl_rules.specs.Served.{unserved_decls};
+ghost use Rattle.asl_rules.specs.Report.{answer, on_program, on_texts};
 ghost use Rattle.asl_cmd.specs.Model.{file_of, reading_of, AreShort, IsShort};
-ghost use Rattle.asl_cmd.specs.Report.{answer_of, answer_on_sources, texts_of};
+ghost use Rattle.asl_cmd.specs.Report.{answer_of, answer_on_sources};
 ghost use Rattle.asl_cmd.specs.Writes.{Writes, Answers, HasCause, code_of};
 
 use crate::parsing::program_of;
@@ -20,6 +22,7 @@ use asl_line::Line;
 use asl_rules::entry::Entry;
 use asl_syn::code::{Fault, Refused};
 use asl_syn::place::Source;
+use asl_syn::tree::Program;
 use std::alloc::Global;
 
 /// Writes the one fault of the files.
@@ -38,24 +41,61 @@ fn refuse<K: Sink>(
     say(out, text.as_bytes(), Status::Refused)
 }
 
-/// Checks the files without an entry, and writes the answer.
-fn check_files<K: Sink>(alloc: Global, sources: &[Source], out: &mut K) -> Result<Status, Stop>
-    requires { AreShort sources.now }
-    ensures answer { (names : List Text) → Answers result (K.written out.old) (K.written out.new) (on_texts (check_command names) (map file_of sources.now) (texts_of (map file_of sources.now))) }
+/// Checks a program without an entry, and writes the answer.
+fn check_program<K: Sink>(
+    alloc: Global,
+    sources: &[Source],
+    program: Program,
+    out: &mut K,
+) -> Result<Status, Stop>
+    requires short { AreShort sources.now }
+    requires served { unserved_decls program.decls ≡ None }
+    ensures answer { (names : List Text) → Answers result (K.written out.old) (K.written out.new) (on_program (check_command names) (map file_of sources.now) program.decls) }
     ensures cause { HasCause result (K.faults out.old) (K.faults out.new) }
     ensures same_full { K.full out.new ≡ K.full out.old }
 {
-    let program = match program_of(alloc, sources) {
-        Ok(program) => program,
-        Err(Refused::At(fault)) => return refuse(alloc, sources, &fault, out),
-        Err(Refused::NoMemory) => return Err(Stop::NoMemory),
-    };
     let declarations = program.decls.len();
     match check(alloc, program, Entry::None) {
         Ok(_) => {
             let text = accepted_text(alloc, declarations)?;
             say(out, text.as_bytes(), Status::Done)
         }
+        Err(Refused::At(fault)) => refuse(alloc, sources, &fault, out),
+        Err(Refused::NoMemory) => Err(Stop::NoMemory),
+    }
+}
+
+/// Checks a program with the entry `main`, runs it with so many steps, and writes the answer.
+fn check_and_run<K: Sink>(
+    alloc: Global,
+    sources: &[Source],
+    program: Program,
+    steps: u32,
+    out: &mut K,
+) -> Result<Status, Stop>
+    requires short { AreShort sources.now }
+    requires served { unserved_decls program.decls ≡ None }
+    ensures answer { (names : List Text) → Answers result (K.written out.old) (K.written out.new) (on_program (run_command steps names) (map file_of sources.now) program.decls) }
+    ensures cause { HasCause result (K.faults out.old) (K.faults out.new) }
+    ensures same_full { K.full out.new ≡ K.full out.old }
+{
+    match check(alloc, program, Entry::Main) {
+        Ok(checked) => run_program(alloc, sources, checked, steps, out),
+        Err(Refused::At(fault)) => refuse(alloc, sources, &fault, out),
+        Err(Refused::NoMemory) => Err(Stop::NoMemory),
+    }
+}
+
+/// Checks the files without an entry, and writes the answer.
+fn check_files<K: Sink>(alloc: Global, sources: &[Source], out: &mut K) -> Result<Status, Stop>
+    requires few { length sources.now ≤ 64 }
+    requires short { AreShort sources.now }
+    ensures answer { (read : Reader) → IsReading read → (names : List Text) → Answers result (K.written out.old) (K.written out.new) (on_texts (check_command names) (map file_of sources.now) (read (map file_of sources.now))) }
+    ensures cause { HasCause result (K.faults out.old) (K.faults out.new) }
+    ensures same_full { K.full out.new ≡ K.full out.old }
+{
+    match program_of(alloc, sources) {
+        Ok(program) => check_program(alloc, sources, program, out),
         Err(Refused::At(fault)) => refuse(alloc, sources, &fault, out),
         Err(Refused::NoMemory) => Err(Stop::NoMemory),
     }
@@ -68,18 +108,14 @@ fn run_files<K: Sink>(
     steps: u32,
     out: &mut K,
 ) -> Result<Status, Stop>
-    requires { AreShort sources.now }
-    ensures answer { (names : List Text) → Answers result (K.written out.old) (K.written out.new) (on_texts (run_command steps names) (map file_of sources.now) (texts_of (map file_of sources.now))) }
+    requires few { length sources.now ≤ 64 }
+    requires short { AreShort sources.now }
+    ensures answer { (read : Reader) → IsReading read → (names : List Text) → Answers result (K.written out.old) (K.written out.new) (on_texts (run_command steps names) (map file_of sources.now) (read (map file_of sources.now))) }
     ensures cause { HasCause result (K.faults out.old) (K.faults out.new) }
     ensures same_full { K.full out.new ≡ K.full out.old }
 {
-    let program = match program_of(alloc, sources) {
-        Ok(program) => program,
-        Err(Refused::At(fault)) => return refuse(alloc, sources, &fault, out),
-        Err(Refused::NoMemory) => return Err(Stop::NoMemory),
-    };
-    match check(alloc, program, Entry::Main) {
-        Ok(checked) => run_program(alloc, sources, checked, steps, out),
+    match program_of(alloc, sources) {
+        Ok(program) => check_and_run(alloc, sources, program, steps, out),
         Err(Refused::At(fault)) => refuse(alloc, sources, &fault, out),
         Err(Refused::NoMemory) => Err(Stop::NoMemory),
     }
@@ -93,8 +129,9 @@ fn answer_sources<K: Sink>(
     sources: &[Source],
     out: &mut K,
 ) -> Result<Status, Stop>
-    requires { AreShort sources.now }
-    ensures answer { Answers result (K.written out.old) (K.written out.new) (answer_on_sources (meaning_of line.now) (map file_of sources.now)) }
+    requires few { length sources.now ≤ 64 }
+    requires short { AreShort sources.now }
+    ensures answer { (read : Reader) → IsReading read → Answers result (K.written out.old) (K.written out.new) (answer_on_sources read (meaning_of line.now) (map file_of sources.now)) }
     ensures cause { HasCause result (K.faults out.old) (K.faults out.new) }
     ensures same_full { K.full out.new ≡ K.full out.old }
 {
@@ -117,7 +154,7 @@ pub fn write_answer<K: Sink>(
     out: &mut K,
 ) -> Result<Status, Stop>
     requires { IsShort reading.now }
-    ensures answer { Answers result (K.written out.old) (K.written out.new) (answer_of (meaning_of line.now) (reading_of reading.now)) }
+    ensures answer { (read : Reader) → IsReading read → Answers result (K.written out.old) (K.written out.new) (answer_of read (meaning_of line.now) (reading_of reading.now)) }
     ensures cause { HasCause result (K.faults out.old) (K.faults out.new) }
     ensures same_full { K.full out.new ≡ K.full out.old }
 {

@@ -13,7 +13,7 @@ use Rattle.asl_rules.specs.declared.entry.Entry.{Entry}
 use Rattle.asl_rules.specs.Programs.{verdict, ProgramOk}
 use Rattle.asl_rules.specs.Served.{unserved_decls}
 use Rattle.asl_rules.specs.Texts.{Text, File}
-use Rattle.asl_rules.specs.Reading.{HasTrees, FirstSyntaxFault, AreParsed, AreRefused, Parsed, and_served, Reads, IsReading}
+use Rattle.asl_rules.specs.Reading.{HasTrees, FirstSyntaxFault, AreParsed, AreRefused, Parsed, and_served, Reads, Reader, IsReading}
 use Rattle.std.specs.Prelude.{None}
 
 one_list : (texts : List Text) (tss : List (List Token)) (ds es : List Decl) → HasTrees texts tss ds → HasTrees texts tss es → ds ≡ es
@@ -105,7 +105,7 @@ reading_of files (r, p) = (and_served r, record { parsed = r; texts = p; is = re
 some_reading : (files : List File) → (r : Result (List Decl) Fault) × Reads files r
 some_reading files = reading_of files (from_tokens (map (λ f. f.1) files) (some_reading_of_files max_width 0 (map (λ f. f.1) files)))
 
-pub some_reading_is : (read : List File → Result (List Decl) Fault) × IsReading read
+pub some_reading_is : (read : Reader) × IsReading read
 some_reading_is = (λ files. (some_reading files).0, λ files. (some_reading files).1)
 
 -- ---- verdicts

@@ -3,7 +3,7 @@
 
 ghost use Rattle.std.specs.Prelude.{◌≡◌, ℕ, ◌⊎◌, List, Option, None, Result, Err};
 ghost use Rattle.asl_syn.specs.declared.code.Fault.{Fault};
-ghost use Rattle.asl_rules.specs.Reading.{Reads, IsReading};
+ghost use Rattle.asl_rules.specs.Reading.{Reads, Reader, IsReading};
 ghost use Rattle.asl_rules.specs.Served.{unserved_decls};
 ghost use Rattle.asl_rules.specs.Texts.{File};
 ghost use Rattle.asl_syn.specs.declared.tree.Decl.{Decl};
@@ -23,7 +23,7 @@ pub fn law1()
 /// read have one verdict, the entry or the fault.
 pub fn law2()
     ensures one { (files : List File) (r s : Result (List Decl) Fault) → Reads files r → Reads files s → r ≡ s }
-    ensures some { (read : List File → Result (List Decl) Fault) × IsReading read }
+    ensures some { (read : Reader) × IsReading read }
     ensures entry { (e : Entry) (ds : List Decl) (m n : Option ℕ) → ProgramOk e ds m → ProgramOk e ds n → m ≡ n }
     ensures fault { (e : Entry) (ds : List Decl) (m : Option ℕ) (f : Fault) → ProgramOk e ds m → verdict e ds ≡ Err f → ⊥ }
     ensures verdict { (e : Entry) (ds : List Decl) → unserved_decls ds ≡ None → ((m : Option ℕ) × ProgramOk e ds m) ⊎ ((f : Fault) × (verdict e ds ≡ Err f)) }
