@@ -3,7 +3,7 @@ use Rattle.std.proofs.Common.{◌≡◌, ◌∙◌, ℕ, Bool, false, List, [], 
 use Rattle.std.specs.Prelude.{if◌then◌else◌}
 use Rattle.asl_io.specs.Told.{TakesPrefix}
 use Rattle.asl_rules.specs.declared.entry.Entry.TheVariants as entry
-use Rattle.asl_rules.specs.Told.{open_after, Part}
+use Rattle.asl_rules.specs.Told.{open_after}
 use Rattle.asl_rules.specs.States.{Binding, Core}
 use Rattle.asl_rules.specs.Values.{Value}
 use Rattle.asl_rules.specs.Plans.{starting, Outcome, Done, Thrown, Halt, Faulted, Stuck, final}

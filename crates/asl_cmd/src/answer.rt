@@ -6,7 +6,7 @@ ghost use Rattle.asl_rules.specs.Texts.{Text, fault_line};
 ghost use Rattle.asl_rules.specs.Report.{answer, on_texts};
 ghost use Rattle.asl_cmd.specs.Model.{file_of, reading_of, AreShort, IsShort};
 ghost use Rattle.asl_cmd.specs.Report.{answer_of, answer_on_sources, texts_of};
-ghost use Rattle.asl_cmd.specs.Writes.{Writes, Answers, HasCause, code_of};
+ghost use Rattle.asl_cmd.specs.Writes.{Answers, HasCause};
 
 use crate::parsing::program_of;
 use crate::reading::Reading;
