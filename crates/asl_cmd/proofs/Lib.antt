@@ -1,5 +1,5 @@
 pub mod Answering
-pub mod Entries
 pub mod ReadingLemmas
 pub mod RunLemmas
 pub mod Statuses
+pub mod ParsingLemmas

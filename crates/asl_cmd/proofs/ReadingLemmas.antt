@@ -1,5 +1,5 @@
 -- The files one after another.
-use Rattle.std.proofs.Common.{◌≡◌, ◌∙◌, ℕ, ◌+◌, ◌<◌, ◌≤◌, List, ◌++◌, [], ◌∷◌, map, drop, length, get_or, Option, Some, None, refl, sym, ap, subst, String, string_bytes, lt-ltb, le-ltb, add-one, drop-cons, append-nil, arith, drop_of_length-le, Global}
+use Rattle.std.proofs.Common.{◌≡◌, ◌∙◌, ℕ, ◌+◌, ◌<◌, ◌≤◌, List, ◌++◌, [], ◌∷◌, map, drop, length, get_or, Option, Some, None, refl, sym, ap, subst, String, string_bytes, lt-ltb, le-ltb, add-one, drop-cons, append-nil, length-append, arith, drop_of_length-le, Global}
 use Rattle.std.specs.Prelude.{IfSome}
 use Rattle.std.specs.List.{All}
 use Rattle.std.proofs.lemmas.List.{get_or-map, length-map}
@@ -106,3 +106,13 @@ short_more xs ys x o grown case came short =
     let P = λ (s : Source). length s.bytes.items ≤ 1048576 in
     let one_more : P x = subst IsShortOne case came in
     subst AreShort (sym grown) (All-append P xs (x ∷ []) short (All-one P x one_more))
+
+-- no more files than names
+pub grown_within : (xs ys : List Source) (x : Source) (i : ℕ) → ys ≡ xs ++ x ∷ [] → length xs ≤ i → length ys ≤ i + 1
+grown_within xs ys x i grown few = let e : length ys ≡ length (xs ++ x ∷ []) = ap length grown in let f : length (xs ++ x ∷ []) ≡ length xs + 1 = length-append xs (x ∷ []) in omega (arith, e, f, few)
+
+pub next_within : (i n : ℕ) → i < n → i + 1 ≤ n
+next_within i n l = omega (arith, l)
+
+pub all_within : (k i n : ℕ) → k ≤ i → i ≤ n → n ≤ 64 → k ≤ 64
+all_within k i n p q r = omega (arith, p, q, r)

@@ -1,37 +1,33 @@
--- The answer of a run, by what stands after the call.
-use Rattle.std.proofs.Common.{◌≡◌, ◌∙◌, ◌<◌, ◌-◌, ℕ, zero, suc, Bool, false, cond, List, [], ◌∷◌, ◌++◌, Option, Some, None, Result, Ok, Err, refl, sym, ap, subst, append_assoc, append-nil, arith}
-use Rattle.std.specs.Prelude.{unwrap_or, map, option_map, if◌then◌else◌}
-use Rattle.std.proofs.lemmas.List.{append_cancel_left}
-use Rattle.asl_io.specs.Told.{Takes, TakesPrefix}
-use Rattle.asl_io.proofs.ToldLemmas.{Takes-none, TakesPrefix-none}
-use Rattle.asl_syn.specs.declared.token.Span.{Span}
-use Rattle.asl_syn.specs.declared.code.DynCode.{DynCode}
-use Rattle.asl_syn.specs.declared.tree.Decl.{Decl}
+-- The answer of a run, by what the call of the machine says.
+use Rattle.std.proofs.Common.{◌≡◌, ◌∙◌, ℕ, Bool, false, List, [], ◌∷◌, ◌++◌, map, Option, Some, None, Result, Ok, refl, sym, ap, subst, append_assoc, append-nil}
+use Rattle.std.specs.Prelude.{if◌then◌else◌}
+use Rattle.asl_io.specs.Told.{TakesPrefix}
 use Rattle.asl_rules.specs.declared.entry.Entry.TheVariants as entry
-use Rattle.asl_rules.specs.Programs.{verdict}
-use Rattle.asl_rules.specs.Told.{appended, Begins, open_after}
+use Rattle.asl_rules.specs.Told.{open_after}
 use Rattle.asl_rules.specs.States.{Binding, Core}
 use Rattle.asl_rules.specs.Values.{Value}
-use Rattle.asl_rules.specs.Plans.{Meter, starting, Outcome, Done, Thrown, Halt, End, Faulted, Stuck, final}
-use Rattle.asl_rules.specs.Machines.{GivenUp, run_of, text_of_run, resting}
+use Rattle.asl_rules.specs.Plans.{starting, Outcome, Done, Thrown, Halt, Faulted, Stuck, final}
+use Rattle.asl_rules.specs.Served.{unserved_decls}
+use Rattle.asl_rules.specs.Programs.{verdict}
+use Rattle.asl_rules.specs.Machines.{GivenUp, run_of, text_of_run, initial_globals}
 use Rattle.asl_rules.specs.Texts.{Text, File, is_open, closing, line_feed, dynamic_line, uncaught_line}
-use Rattle.asl_rules.specs.Report.{Answer, answer, behind, told_text, outcome_line, run_answer, started}
-use Rattle.asl_rules.proofs.Pieces.{appended_twice}
-use Rattle.asl_rules.proofs.Shift.{OwnText, retold, retold_end, behind as behind_text, behind_own, run_behind, own_text}
+use Rattle.asl_rules.specs.Report.{answer, behind, told_text, outcome_line, run_answer, started}
+use Rattle.asl_rules.proofs.Shift.{own_text}
+use Rattle.asl_tree.specs.Accepted.{Accepted}
 use Rattle.asl_value.specs.declared.value.Value.{Value as Given}
 use Rattle.asl_value.specs.View.{value_of, bindings_of}
+use Rattle.asl_run.specs.declared.machine.Outcome.{Outcome as Ended}
 use Rattle.asl_run.specs.declared.machine.Stage.{Stage}
 use Rattle.asl_run.specs.declared.machine.Stage.TheVariants as stage
-use Rattle.asl_run.specs.declared.machine.Outcome.{Outcome as Ended}
-use Rattle.asl_run.specs.Stages.{Ends, Halted, OnReady, answer_of}
-use Rattle.asl_run.specs.Work.{Work, IsCallable, begins_with, run_with, text_with, ends_with}
-use Rattle.asl_tree.specs.Accepted.{Accepted}
+use Rattle.asl_run.specs.Stages.{Ends, OnReady, OnRefused, answer_of}
+use Rattle.asl_run.specs.Work.{Work, IsNew, IsCallable, EndsWith, run_with, text_with}
+use Rattle.asl_run.proofs.Entries.{entry_is_callable}
+use Rattle.asl_run.proofs.OwnRuns.{own_run, own_part}
 use Rattle.asl_cmd.specs.declared.status.Stop.{Stop}
 use Rattle.asl_cmd.specs.declared.status.Status.{Status}
 use Rattle.asl_cmd.specs.Ends.{end_line, end_status}
 use Rattle.asl_cmd.specs.Writes.{Answers}
 use Rattle.asl_cmd.proofs.Answering.{Answers-after}
-use Rattle.asl_cmd.proofs.Entries.{main_callable}
 
 -- both tests of open text agree
 open_is : (text : List ℕ) → open_after false text ≡ is_open text
@@ -39,133 +35,19 @@ open_is [] = refl
 open_is (b ∷ []) = refl
 open_is (b ∷ c ∷ rest) = open_is (c ∷ rest)
 
-final-retold : {A : Type 0} (F : Option (List ℕ) → Option (List ℕ)) (r : Outcome Core A) → final (retold_end F r) ≡ retold F (final r)
-final-retold F (Done x c h) = refl
-final-retold F (Thrown x c h) = refl
-final-retold F (Halt e c h) = refl
+-- a machine that gave an answer didn't give its run up
+went_on : (s : Stage) (o : Ended) → Ok o ≡ answer_of s → OnRefused s ⊥
+went_on (stage.Ready x) o h = tt
+went_on (stage.Uncaught x) o h = tt
+went_on (stage.Fault code span) o h = tt
+went_on (stage.Refused e) o h = cc
 
--- what a run adds to the text before it
-pub record Adds (old new : Option (List ℕ)) (is_open_now : Bool) (r : Outcome Core (Option Value)) : Type 0 where
-  pub text : Text
-  pub own : (final r).told ≡ Some text
-  pub takes : Takes old new text
-  pub opens : is_open_now ≡ is_open text
-
-adds : (old : Option (List ℕ)) (h : Meter) (r : Outcome Core (Option Value)) → OwnText (final r) → final (retold_end (behind_text old) r) ≡ h → Adds old h.told h.text_open r
-adds old h r own ends =
-    let meter : retold (behind_text old) (final r) ≡ h = sym (final-retold (behind_text old) r) ∙ ends in
-    record {
-      text = own.text;
-      own = own.told;
-      takes = sym (ap (λ (m : Meter). m.told) meter) ∙ ap (behind_text old) own.told ∙ behind_own old own.text;
-      opens = sym (ap (λ (m : Meter). m.text_open) meter) ∙ own.text_open ∙ open_is own.text;
-    }
-
--- how a run ended, whatever its text
-done_in : {A : Type 0} → Outcome Core A → Option A
-done_in (Done x c h) = Some x
-done_in (Thrown x c h) = None
-done_in (Halt e c h) = None
-
-thrown_in : {A : Type 0} → Outcome Core A → Option Value
-thrown_in (Done x c h) = None
-thrown_in (Thrown x c h) = Some x
-thrown_in (Halt e c h) = None
-
-end_in : {A : Type 0} → Outcome Core A → Option End
-end_in (Done x c h) = None
-end_in (Thrown x c h) = None
-end_in (Halt e c h) = Some e
-
-done_retold : {A : Type 0} (F : Option (List ℕ) → Option (List ℕ)) (r : Outcome Core A) → done_in (retold_end F r) ≡ done_in r
-unfolding done_in
-done_retold F (Done x c h) = refl
-done_retold F (Thrown x c h) = refl
-done_retold F (Halt e c h) = refl
-
-thrown_retold : {A : Type 0} (F : Option (List ℕ) → Option (List ℕ)) (r : Outcome Core A) → thrown_in (retold_end F r) ≡ thrown_in r
-unfolding thrown_in
-thrown_retold F (Done x c h) = refl
-thrown_retold F (Thrown x c h) = refl
-thrown_retold F (Halt e c h) = refl
-
-end_retold : {A : Type 0} (F : Option (List ℕ) → Option (List ℕ)) (r : Outcome Core A) → end_in (retold_end F r) ≡ end_in r
-unfolding end_in
-end_retold F (Done x c h) = refl
-end_retold F (Thrown x c h) = refl
-end_retold F (Halt e c h) = refl
-
-done_answer : (files : List File) (x : Option Value) (text : Text) (r : Outcome Core (Option Value)) → done_in r ≡ Some x → (final r).told ≡ Some text → run_answer files r ≡ answer (behind text (outcome_line x)) 0
-unfolding done_in
-done_answer files x text (Done y c h) e told = cc
-done_answer files x text (Thrown y c h) e told = cc
-done_answer files x text (Halt y c h) e told = cc
-
-thrown_answer : (files : List File) (x : Value) (text : Text) (r : Outcome Core (Option Value)) → thrown_in r ≡ Some x → (final r).told ≡ Some text → run_answer files r ≡ answer (behind text (uncaught_line x)) 3
-unfolding thrown_in
-thrown_answer files x text (Done y c h) e told = cc
-thrown_answer files x text (Thrown y c h) e told = cc
-thrown_answer files x text (Halt y c h) e told = cc
-
-fault_answer : (files : List File) (code : DynCode) (span : Span) (text : Text) (r : Outcome Core (Option Value)) → end_in r ≡ Some (Faulted code span) → (final r).told ≡ Some text → run_answer files r ≡ answer (behind text (dynamic_line files code span)) 4
-unfolding end_in
-fault_answer files code span text (Done y c h) e told = cc
-fault_answer files code span text (Thrown y c h) e told = cc
-fault_answer files code span text (Halt (Faulted d p) c h) e told = cc
-fault_answer files code span text (Halt (Stuck m p) c h) e told = cc
-
--- after a call: its own text was taken, and the answer is that text with the line of its end behind it
-pub record Finished (files : List File) (s : Stage) (old new : Option (List ℕ)) (is_open_now : Bool) (a : Answer) : Type 0 where
-  pub text : Text
-  pub takes : Takes old new text
-  pub opens : is_open_now ≡ is_open text
-  pub is : a ≡ answer (behind text (end_line files s)) (end_status s)
-
-finished : (files : List File) (s : Stage) (globals : List Binding) (h : Meter) (old : Option (List ℕ)) (r : Outcome Core (Option Value)) (o : Ended) → answer_of s ≡ Ok o → Ends s globals h (retold_end (behind_text old) r) → OwnText (final r) → Finished files s old h.told h.text_open (run_answer files r)
-unfolding done_in thrown_in end_in
-finished files (stage.Ready x) globals h old r o ok ends own =
-    let added = adds old h r own (ap final ends) in
-    record {
-      text = added.text;
-      takes = added.takes;
-      opens = added.opens;
-      is = done_answer files (option_map value_of x) added.text r (sym (done_retold (behind_text old) r) ∙ ap done_in ends) added.own;
-    }
-finished files (stage.Uncaught x) globals h old r o ok ends own =
-    let added = adds old h r own (ap final ends) in
-    record {
-      text = added.text;
-      takes = added.takes;
-      opens = added.opens;
-      is = thrown_answer files (value_of x) added.text r (sym (thrown_retold (behind_text old) r) ∙ ap thrown_in ends) added.own;
-    }
-finished files (stage.Fault code span) globals h old r o ok ends own =
-    let added = adds old h r own (ap final ends.is) in
-    record {
-      text = added.text;
-      takes = added.takes;
-      opens = added.opens;
-      is = fault_answer files code span added.text r (sym (end_retold (behind_text old) r) ∙ ap end_in ends.is) added.own;
-    }
-finished files (stage.Refused e) globals h old r o ok ends own = cc
-
--- the line of the end was written behind it
-said : (files : List File) (s : Stage) (old mid new : Option (List ℕ)) (b : Bool) (a : Answer) (result : Result Status Stop) → Finished files s old mid b a → Answers result mid new (answer ((if b then line_feed else []) ++ end_line files s) (end_status s)) → Answers result old new a
-said files s old mid new b a result f written =
-    let after = Answers-after result old mid new f.text ((if b then line_feed else []) ++ end_line files s) (end_status s) f.takes written in
-    subst (Answers result old new) (sym f.is)
-    (subst (λ c. Answers result old new (answer (f.text ++ ((if c then line_feed else []) ++ end_line files s)) (end_status s))) f.opens after)
-
--- a call that ended, and the line of its end
-pub run_ended : (files : List File) (checked : Accepted) (main steps : ℕ) (old mid new : Option (List ℕ)) (after : Work) (o : Ended) (result : Result Status Stop) → answer_of after.stage ≡ Ok o
-    → ends_with after mid (run_with (begins_with checked steps) main [] old)
-    → Answers result mid new (answer ((if after.text_open then line_feed else []) ++ end_line files after.stage) (end_status after.stage))
-    → Answers result old new (started files checked.decls steps (Some main))
-run_ended files checked main steps old mid new after o result ok ends written =
-    let r = run_of checked.decls main [] [] (starting steps (Some [])) in
-    let over : ends_with after mid (retold_end (behind_text old) r) = subst (ends_with after mid) (run_behind checked.decls main [] [] steps old) ends in
-    said files after.stage old mid new after.text_open (run_answer files r) result
-    (finished files after.stage (bindings_of after.globals) (record { steps = after.steps; told = mid; text_open = after.text_open }) old r o ok over (own_text checked.decls main [] [] steps)) written
+-- the answer of a run that ended so with this text
+answer_ends : (files : List File) (s : Stage) (globals : List Binding) (steps : ℕ) (text_open : Bool) (text : Text) (r : Outcome Core (Option Value)) → OnRefused s ⊥ → Ends s globals (record { steps = steps; told = Some text; text_open = text_open }) r → run_answer files r ≡ answer (behind text (end_line files s)) (end_status s)
+answer_ends files (stage.Ready x) globals steps text_open text r went ends = ap (run_answer files) ends
+answer_ends files (stage.Uncaught x) globals steps text_open text r went ends = ap (run_answer files) ends
+answer_ends files (stage.Fault code span) globals steps text_open text r went ends = ap (run_answer files) ends.is
+answer_ends files (stage.Refused e) globals steps text_open text r went ends = absurd went
 
 -- the text of an answer begins with that of the run
 answer_begins : (files : List File) (r : Outcome Core (Option Value)) (text : Text) → (final r).told ≡ Some text → (more : Text) × ((run_answer files r).text ≡ text ++ more)
@@ -174,60 +56,54 @@ answer_begins files (Thrown x c h) text told = (closing (told_text h.told) ++ un
 answer_begins files (Halt (Faulted code span) c h) text told = (closing (told_text h.told) ++ dynamic_line files code span, ap (λ t. t ++ (closing (told_text h.told) ++ dynamic_line files code span)) (ap told_text told))
 answer_begins files (Halt (Stuck mistake span) c h) text told = ([], ap told_text told ∙ sym (append-nil text))
 
--- the text of a run over a text, with any budget
-own_at : (ds : List Decl) (main : ℕ) (old : Option (List ℕ)) (budget : ℕ) → (text : Text) × ((final (run_of ds main [] [] (starting budget (Some [])))).told ≡ Some text) × (text_of_run ds main [] [] old budget ≡ appended old text)
-own_at ds main old budget =
-    let r = run_of ds main [] [] (starting budget (Some [])) in
-    let own = own_text ds main [] [] budget in
-    (own.text, own.told, ap (λ o. (final o).told) (run_behind ds main [] [] budget old) ∙ ap (λ (m : Meter). m.told) (final-retold (behind_text old) r) ∙ ap (behind_text old) own.told ∙ behind_own old own.text)
+-- what a new machine runs from its entry
+started_run : (checked : Accepted) (main n steps : ℕ) (old : Option (List ℕ)) (w : Work) (args : List Given) → IsNew w checked n → n ≡ steps → args ≡ []
+    → run_with w main (map value_of args) old ≡ run_of checked.decls main [] (initial_globals checked.decls) (starting steps old)
+started_run checked main n steps old w args new same none =
+    ap (λ (a : Accepted). run_of a.decls main (map value_of args) (bindings_of w.globals) (starting w.steps old)) new.checked_is
+    ∙ ap (λ (xs : List Given). run_of checked.decls main (map value_of xs) (bindings_of w.globals) (starting w.steps old)) none
+    ∙ ap (λ bs. run_of checked.decls main [] bs (starting w.steps old)) new.globals_are
+    ∙ ap (λ k. run_of checked.decls main [] (initial_globals checked.decls) (starting k old)) (new.steps_are ∙ same)
 
--- what was written until then
-taken_until : (ds : List Decl) (main : ℕ) (old new : Option (List ℕ)) (steps n : ℕ) → GivenUp (text_of_run ds main [] [] old) old new steps n → (taken : Text) × Takes old new taken
-taken_until ds main old new steps zero g = ([], g.none refl ∙ Takes-none old)
-taken_until ds main old new steps (suc k) g =
-    let before = own_at ds main old (suc k - 1) in
-    let last = g.last (omega arith) in
-    (before.0 ++ last.rest, last.is ∙ ap (λ t. appended t last.rest) before.2 ∙ appended_twice old before.0 last.rest)
-
-prefix_of : (old new : Option (List ℕ)) (taken rest text more : Text) → Takes old new taken → appended old text ≡ appended new rest → TakesPrefix old new (text ++ more)
-prefix_of None new taken rest text more takes whole = rw takes (TakesPrefix-none None (text ++ more))
-prefix_of (Some old) new taken rest text more takes whole =
-    let same : old ++ text ≡ old ++ (taken ++ rest) = ap (λ o. unwrap_or o []) (whole ∙ ap (λ t. appended t rest) takes) ∙ append_assoc old taken rest in
-    let split : text ≡ taken ++ rest = append_cancel_left old text (taken ++ rest) same in
-    (taken, rest ++ more, ap (λ t. t ++ more) split ∙ append_assoc taken rest more, takes)
-
--- a call that was given up wrote a prefix of the answer
-pub run_given_up : (files : List File) (checked : Accepted) (main steps : ℕ) (old new : Option (List ℕ)) (n : ℕ) → GivenUp (text_with (begins_with checked steps) main [] old) old new steps n → TakesPrefix old new (started files checked.decls steps (Some main)).text
-run_given_up files checked main steps old new n g =
-    let r = run_of checked.decls main [] [] (starting steps (Some [])) in
-    let own = own_at checked.decls main old steps in
-    let part = answer_begins files r own.0 own.1 in
-    let taken = taken_until checked.decls main old new steps n g in
-    subst (TakesPrefix old new) (sym part.1) (prefix_of old new taken.0 g.whole.rest own.0 part.0 taken.1 (sym own.2 ∙ g.whole.is))
-
--- the same by what a call's contract says
-pub main_call_callable : (before : Work) (checked : Accepted) (steps main : ℕ) (args : List Given) → before ≡ begins_with checked steps → args ≡ [] → Some main ≡ checked.entry → verdict entry.Main checked.decls ≡ Ok checked.entry → IsCallable before.checked.decls main (map value_of args)
-main_call_callable before checked steps main args begun none entered accepted =
-    let callable : IsCallable checked.decls main [] = main_callable checked.decls main (accepted ∙ ap Ok (sym entered)) in
-    subst (λ (w : Work). IsCallable w.checked.decls main (map value_of args)) (sym begun)
+pub main_callable : (checked : Accepted) (main n : ℕ) (w : Work) (args : List Given) → IsNew w checked n → args ≡ [] → Some main ≡ checked.entry → unserved_decls checked.decls ≡ None → verdict entry.Main checked.decls ≡ Ok checked.entry → IsCallable w.checked.decls main (map value_of args)
+main_callable checked main n w args new none entered served accepted =
+    let callable : IsCallable checked.decls main [] = entry_is_callable entry.Main checked.decls main (record { served = served; is = accepted ∙ ap Ok (sym entered) }) in
+    subst (λ (a : Accepted). IsCallable a.decls main (map value_of args)) (sym new.checked_is)
     (subst (λ (xs : List Given). IsCallable checked.decls main (map value_of xs)) (sym none) callable)
 
-pub main_call_ended : (files : List File) (checked : Accepted) (main n steps : ℕ) (old mid new : Option (List ℕ)) (before after : Work) (args : List Given) (o : Ended) (result : Result Status Stop) → before ≡ begins_with checked n → n ≡ steps → args ≡ [] → Some main ≡ checked.entry
+-- a call that ended, and the line of its end behind its text
+pub main_ended : (files : List File) (checked : Accepted) (main n steps : ℕ) (old mid last : Option (List ℕ)) (w after : Work) (args : List Given) (o : Ended) (result : Result Status Stop) → IsNew w checked n → n ≡ steps → args ≡ [] → Some main ≡ checked.entry
     → Ok o ≡ answer_of after.stage
-    → OnReady before.stage (ends_with after mid (run_with before main (map value_of args) old))
-    → Answers result mid new (answer ((if after.text_open then line_feed else []) ++ end_line files after.stage) (end_status after.stage))
-    → Answers result old new (started files checked.decls steps checked.entry)
-main_call_ended files checked main n steps old mid new before after args o result begun same none entered ok ends written =
-    let start = begun ∙ ap (begins_with checked) same in
-    let from_start : ends_with after mid (run_with (begins_with checked steps) main (map value_of args) old) = subst (λ (w : Work). OnReady w.stage (ends_with after mid (run_with w main (map value_of args) old))) start ends in
-    let bare : ends_with after mid (run_with (begins_with checked steps) main [] old) = subst (λ (xs : List Given). ends_with after mid (run_with (begins_with checked steps) main (map value_of xs) old)) none from_start in
-    subst (λ e. Answers result old new (started files checked.decls steps e)) entered (run_ended files checked main steps old mid new after o result (sym ok) bare written)
+    → OnReady w.stage (EndsWith after mid (run_with w main (map value_of args) old))
+    → Answers result mid last (answer ((if after.text_open then line_feed else []) ++ end_line files after.stage) (end_status after.stage))
+    → Answers result old last (started files checked.decls steps checked.entry)
+main_ended files checked main n steps old mid last w after args o result new same none entered ok ends written =
+    let went = went_on after.stage o ok in
+    let here : EndsWith after mid (run_with w main (map value_of args) old) = subst (λ s. OnReady s (EndsWith after mid (run_with w main (map value_of args) old))) new.stage_is ends in
+    let over = subst (EndsWith after mid) (started_run checked main n steps old w args new same none) here in
+    let own = own_run checked.decls main [] (initial_globals checked.decls) steps after old mid went over in
+    let r = run_of checked.decls main [] (initial_globals checked.decls) (starting steps (Some [])) in
+    let shown = answer_ends files after.stage (bindings_of after.globals) after.steps after.text_open own.text r went own.ends in
+    let line = end_line files after.stage in
+    let behind_it = Answers-after result old mid last own.text ((if after.text_open then line_feed else []) ++ line) (end_status after.stage) own.written written in
+    subst (λ e. Answers result old last (started files checked.decls steps e)) entered
+    (subst (Answers result old last) (sym shown)
+    (subst (λ b. Answers result old last (answer (own.text ++ ((if b then line_feed else []) ++ line)) (end_status after.stage))) (own.is_open ∙ open_is own.text) behind_it))
 
-pub main_call_given_up : (files : List File) (checked : Accepted) (main n steps : ℕ) (old new : Option (List ℕ)) (before : Work) (args : List Given) (entered_nodes : ℕ) → before ≡ begins_with checked n → n ≡ steps → args ≡ [] → Some main ≡ checked.entry
-    → OnReady before.stage (GivenUp (text_with before main (map value_of args) old) old new before.steps entered_nodes)
-    → TakesPrefix old new (started files checked.decls steps checked.entry).text
-main_call_given_up files checked main n steps old new before args entered_nodes begun same none entered given =
-    let start = begun ∙ ap (begins_with checked) same in
-    let from_start : GivenUp (text_with (begins_with checked steps) main (map value_of args) old) old new steps entered_nodes = subst (λ (w : Work). OnReady w.stage (GivenUp (text_with w main (map value_of args) old) old new w.steps entered_nodes)) start given in
-    let bare : GivenUp (text_with (begins_with checked steps) main [] old) old new steps entered_nodes = subst (λ (xs : List Given). GivenUp (text_with (begins_with checked steps) main (map value_of xs) old) old new steps entered_nodes) none from_start in
-    subst (λ e. TakesPrefix old new (started files checked.decls steps e).text) entered (run_given_up files checked main steps old new entered_nodes bare)
+-- a call that was given up wrote a prefix of the answer
+pub main_given_up : (files : List File) (checked : Accepted) (main n steps entered_nodes : ℕ) (old mid : Option (List ℕ)) (w : Work) (args : List Given) → IsNew w checked n → n ≡ steps → args ≡ [] → Some main ≡ checked.entry
+    → OnReady w.stage (GivenUp (text_with w main (map value_of args) old) old mid w.steps entered_nodes)
+    → TakesPrefix old mid (started files checked.decls steps checked.entry).text
+main_given_up files checked main n steps entered_nodes old mid w args new same none entered given =
+    let globals = initial_globals checked.decls in
+    let here : GivenUp (text_with w main (map value_of args) old) old mid w.steps entered_nodes = subst (λ s. OnReady s (GivenUp (text_with w main (map value_of args) old) old mid w.steps entered_nodes)) new.stage_is given in
+    let of_program : GivenUp (text_of_run checked.decls main (map value_of args) (bindings_of w.globals) old) old mid w.steps entered_nodes = subst (λ (a : Accepted). GivenUp (text_of_run a.decls main (map value_of args) (bindings_of w.globals) old) old mid w.steps entered_nodes) new.checked_is here in
+    let of_none : GivenUp (text_of_run checked.decls main [] (bindings_of w.globals) old) old mid w.steps entered_nodes = subst (λ (xs : List Given). GivenUp (text_of_run checked.decls main (map value_of xs) (bindings_of w.globals) old) old mid w.steps entered_nodes) none of_program in
+    let at_start : GivenUp (text_of_run checked.decls main [] globals old) old mid w.steps entered_nodes = subst (λ bs. GivenUp (text_of_run checked.decls main [] bs old) old mid w.steps entered_nodes) new.globals_are of_none in
+    let with_steps : GivenUp (text_of_run checked.decls main [] globals old) old mid steps entered_nodes = subst (λ k. GivenUp (text_of_run checked.decls main [] globals old) old mid k entered_nodes) (new.steps_are ∙ same) at_start in
+    let part = own_part checked.decls main [] globals steps entered_nodes old mid with_steps in
+    let own = own_text checked.decls main [] globals steps in
+    let more = answer_begins files (run_of checked.decls main [] globals (starting steps (Some []))) own.text own.told in
+    let whole = more.1 ∙ ap (λ t. t ++ more.0) part.whole ∙ append_assoc part.taken part.rest more.0 in
+    subst (λ e. TakesPrefix old mid (started files checked.decls steps e).text) entered
+    (part.taken, part.rest ++ more.0, whole, part.is)

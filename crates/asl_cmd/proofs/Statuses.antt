@@ -10,7 +10,8 @@ use Rattle.asl_rules.specs.Texts.{Text, File}
 use Rattle.asl_rules.specs.Report.{Reading, all, long, many, halted, run_answer, started, check_verdict, run_verdict, on_program, on_texts}
 use Rattle.asl_cmd.specs.declared.status.Status.{Status}
 use Rattle.asl_cmd.specs.declared.status.Status.TheVariants as status
-use Rattle.asl_cmd.specs.Report.{answer_on_sources, answer_of, texts_of}
+use Rattle.asl_rules.specs.Reading.{Reader}
+use Rattle.asl_cmd.specs.Report.{answer_on_sources, answer_of}
 use Rattle.asl_cmd.specs.Writes.{code_of}
 
 -- a status of a report
@@ -63,27 +64,29 @@ of_texts : (command : Command) (files : List File) (r : Result (List Decl) Fault
 of_texts command files (Ok ds) = of_program command files ds
 of_texts command files (Err f) = one_is command
 
-of_sources : (command : Command) (files : List File) → IsOrdinary command (answer_on_sources command files).status
+of_sources : (read : Reader) (command : Command) (files : List File) → IsOrdinary command (answer_on_sources read command files).status
 unfolding answer_on_sources
-of_sources command files = of_texts command files (texts_of files)
+of_sources read usage files = record { low = omega arith; usage_alone = λ _. refl }
+of_sources read (check names) files = of_texts (check names) files (read files)
+of_sources read (run steps names) files = of_texts (run steps names) files (read files)
 
-of_answer : (command : Command) (reading : Reading) → IsOrdinary command (answer_of command reading).status
-of_answer command (all files) = of_sources command files
-of_answer command (long name) = one_is command
-of_answer command many = one_is command
+of_answer : (read : Reader) (command : Command) (reading : Reading) → IsOrdinary command (answer_of read command reading).status
+of_answer read command (all files) = of_sources read command files
+of_answer read command (long name) = one_is command
+of_answer read command many = one_is command
 
 -- a status that has the number of a report's is no fault of the files or of the sink
-pub not_read : (command : Command) (reading : Reading) (s : Status) → code_of s ≡ (answer_of command reading).status → s ≡ status.ReadFault → ⊥
-not_read command reading s same is =
-    let low = (of_answer command reading).low in
-    let five : 5 ≡ (answer_of command reading).status = sym (ap code_of is) ∙ same in
+pub not_read : (read : Reader) (command : Command) (reading : Reading) (s : Status) → code_of s ≡ (answer_of read command reading).status → s ≡ status.ReadFault → ⊥
+not_read read command reading s same is =
+    let low = (of_answer read command reading).low in
+    let five : 5 ≡ (answer_of read command reading).status = sym (ap code_of is) ∙ same in
     omega (arith, low, five)
 
-pub not_write : (command : Command) (reading : Reading) (s : Status) → code_of s ≡ (answer_of command reading).status → s ≡ status.WriteFault → ⊥
-not_write command reading s same is =
-    let low = (of_answer command reading).low in
-    let six : 6 ≡ (answer_of command reading).status = sym (ap code_of is) ∙ same in
+pub not_write : (read : Reader) (command : Command) (reading : Reading) (s : Status) → code_of s ≡ (answer_of read command reading).status → s ≡ status.WriteFault → ⊥
+not_write read command reading s same is =
+    let low = (of_answer read command reading).low in
+    let six : 6 ≡ (answer_of read command reading).status = sym (ap code_of is) ∙ same in
     omega (arith, low, six)
 
-pub usage_alone : (command : Command) (reading : Reading) (s : Status) → code_of s ≡ (answer_of command reading).status → s ≡ status.Usage → command ≡ usage
-usage_alone command reading s same is = (of_answer command reading).usage_alone (sym same ∙ ap code_of is)
+pub usage_alone : (read : Reader) (command : Command) (reading : Reading) (s : Status) → code_of s ≡ (answer_of read command reading).status → s ≡ status.Usage → command ≡ usage
+usage_alone read command reading s same is = (of_answer read command reading).usage_alone (sym same ∙ ap code_of is)

@@ -22,9 +22,9 @@ reading_of (reading.All sources) = all (map file_of sources.items)
 reading_of (reading.Long name) = long (string_bytes name)
 reading_of reading.Many = many
 
--- the files that were read are short
+-- the files that were read are few and short
 abbrev pub IsShort : Reading → Type 0
-IsShort (reading.All sources) = AreShort sources.items
+IsShort (reading.All sources) = (length sources.items ≤ 64) × AreShort sources.items
 IsShort (reading.Long name) = ⊤
 IsShort reading.Many = ⊤
 

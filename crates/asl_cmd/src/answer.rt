@@ -8,7 +8,7 @@ ghost use Rattle.asl_rules.specs.Served.{unserved_decls};
 ghost use Rattle.asl_rules.specs.Report.{answer, on_program, on_texts};
 ghost use Rattle.asl_cmd.specs.Model.{file_of, reading_of, AreShort, IsShort};
 ghost use Rattle.asl_cmd.specs.Report.{answer_of, answer_on_sources};
-ghost use Rattle.asl_cmd.specs.Writes.{Writes, Answers, HasCause, code_of};
+ghost use Rattle.asl_cmd.specs.Writes.{Answers, HasCause};
 
 use crate::parsing::program_of;
 use crate::reading::Reading;

@@ -1,5 +1,5 @@
 //! The reading of the files that a command names.
-ghost use Rattle.std.specs.Prelude.{◌≡◌, ◌<◌, All, IfOk, IfSome, IsErrOf, IsTrue, map, string_bytes};
+ghost use Rattle.std.specs.Prelude.{◌≡◌, ◌<◌, All, IfOk, IfSome, IsErrOf, IsTrue, map, string_bytes, ◌≤◌, length};
 ghost use Rattle.asl_syn.specs.Command.{names_of};
 ghost use Rattle.asl_rules.specs.Report.{read_by, read_for};
 ghost use Rattle.asl_line.specs.Model.{meaning_of};
@@ -55,6 +55,7 @@ fn read_one<F: Files>(alloc: Global, name: &str, files: &mut F) -> Result<One, S
 
 /// Reads the files in order, up to the first that is too long.
 fn read_all<F: Files>(alloc: Global, names: &[String], files: &mut F) -> Result<Reading, Stop>
+    requires { length names.now ≤ 64 }
     ensures reading { IfOk result (λ reading. IfSome (F.held files.old) (λ held. reading_of reading ≡ read_by held (map string_bytes names.now))) }
     ensures short { IfOk result IsShort }
     ensures cause { HasCause result (F.faults files.old) (F.faults files.new) }
