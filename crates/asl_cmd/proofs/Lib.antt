@@ -3,3 +3,4 @@ pub mod ReadingLemmas
 pub mod RunLemmas
 pub mod Statuses
 pub mod ParsingLemmas
+pub mod Reports

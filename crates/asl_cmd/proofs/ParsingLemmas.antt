@@ -1,5 +1,5 @@
 -- From the reading of the parser to that of any reader.
-use Rattle.std.proofs.Common.{◌≡◌, List, map, Result, Ok, Err, ap, sym, ◌∙◌, refl}
+use Rattle.std.proofs.Common.{◌≡◌, List, map, Result, Ok, Err, subst, refl}
 use Rattle.asl_syn.specs.declared.place.Source.{Source}
 use Rattle.asl_syn.specs.declared.code.Fault.{Fault}
 use Rattle.asl_syn.specs.declared.code.Refused.{Refused}
@@ -17,3 +17,6 @@ pub as_read : (files : List File) (r : Result Program Refused) → IfOk r (λ p.
 as_read files (Ok p) program fault read is = one_reading files (read files) (Ok p.decls) (is files) program
 as_read files (Err (At f)) program fault read is = one_reading files (read files) (Err f) (is files) (fault f refl)
 as_read files (Err NoMemory) program fault read is = tt
+
+pub met_fault : (x : Refused) (f : Fault) (r : Result (List Decl) Fault) → x ≡ At f → Met (λ (p : Program). p.decls) (Err x) r → r ≡ Err f
+met_fault x f r is met = subst (λ z. Met (λ (p : Program). p.decls) (Err z) r) is met

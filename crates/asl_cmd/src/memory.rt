@@ -22,7 +22,7 @@ pub fn asl_in_memory(
     held: Vec<(String, Vec<u8>)>,
     room: usize,
 ) -> Result<(MemSink, Status), AllocError>
-    ensures { (read : Reader) → IsReading read → IfOk result (λ r. length (report_of read (line_of (map string_bytes words.now)) (held_of held.items)).text < room
+    ensures { IfOk result (λ r. (read : Reader) → IsReading read → length (report_of read (line_of (map string_bytes words.now)) (held_of held.items)).text < room
         → (r.1 ≡ Status.NoMemory) ⊎ (let report = report_of read (line_of (map string_bytes words.now)) (held_of held.items) in
         (⟦<MemSink as Sink>⟧.written r.0 ≡ Some report.text) × (code_of r.1 ≡ report.status))) }
 {

@@ -51,13 +51,13 @@ ends_many p cs h zero st = tt
 ends_many p cs h (suc n) st =
     ends_pick (starts cs st.toks) (bind (p st) (λ x mid. bind (run_many p cs n mid) (λ xs end. Ok (x ∷ xs, end)))) (Ok ([], st))
     (ends_bind (p st) (λ x mid. bind (run_many p cs n mid) (λ xs end. Ok (x ∷ xs, end))) (h st)
-      (λ x mid. ends_bind (run_many p cs n mid) (λ xs end. Ok (x ∷ xs, end)) (ends_many p cs h n mid) (λ xs end. tt))) tt
+    (λ x mid. ends_bind (run_many p cs n mid) (λ xs end. Ok (x ∷ xs, end)) (ends_many p cs h n mid) (λ xs end. tt))) tt
 
 ends_item : {A : Type 0} (p : Cursor → Outcome A) (F : Codes) (next : Cursor → Outcome (List (Lexeme × A) × Option Lexeme)) → ((st : Cursor) → Ends (p st)) → ((st : Cursor) → Ends (next st)) → (t : Lexeme) (mid : Cursor) → Ends (run_item p F next t mid)
 ends_item p F next h k t mid =
     ends_pick (starts F mid.toks) (bind (p mid) (λ x m. bind (next m) (λ r end. Ok (((t, x) ∷ r.0, r.1), end)))) (Ok (([], Some t), mid))
     (ends_bind (p mid) (λ x m. bind (next m) (λ r end. Ok (((t, x) ∷ r.0, r.1), end))) (h mid)
-      (λ x m. ends_bind (next m) (λ r end. Ok (((t, x) ∷ r.0, r.1), end)) (k m) (λ r end. tt))) tt
+    (λ x m. ends_bind (next m) (λ r end. Ok (((t, x) ∷ r.0, r.1), end)) (k m) (λ r end. tt))) tt
 
 ends_trail : {A : Type 0} (cs : Codes) (p : Cursor → Outcome A) (F : Codes) → ((st : Cursor) → Ends (p st)) → (n : ℕ) (st : Cursor) → Ends (run_trail cs p F n st)
 ends_trail cs p F h zero st = tt
