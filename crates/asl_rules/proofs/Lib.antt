@@ -1,9 +1,0 @@
-pub mod Pieces
-pub mod Budget
-pub mod Given
-pub mod Quiet
-pub mod Calls
-pub mod Safe
-pub mod Inversions
-pub mod Soundness
-pub mod OneOutcome

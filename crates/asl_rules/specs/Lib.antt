@@ -1,6 +1,8 @@
 pub mod Faults
 pub mod Served
 pub mod Types
+pub mod Effects
+pub mod Scopes
 pub mod Names
 pub mod Exprs
 pub mod Stmts
@@ -8,13 +10,14 @@ pub mod Programs
 pub mod Values
 pub mod Told
 pub mod Plans
-pub mod States
 pub mod Cuts
-pub mod Evaluation
+pub mod States
 pub mod Belonging
+pub mod Operators
+pub mod Strings
+pub mod Texts
+pub mod Evaluation
 pub mod Machines
 pub mod Visits
-pub mod Soundness
 pub mod OneRun
-pub mod Texts
 pub mod Report

@@ -15,10 +15,6 @@ most_open = 2000
 abbrev pub resting : List Binding → Core
 resting globals = record { globals = globals; frame = []; live = [] }
 
--- the globals before the first call
-abbrev pub initial_globals : List Decl → List Binding
-initial_globals ds = []
-
 -- a call of a subprogram with these globals, steps and text so far
 unfoldable pub run_of : List Decl → ℕ → List Value → List Binding → Meter → Outcome Core (Option Value)
 run_of ds id args globals h = run (meaning ds most_open) (call_of ds id args (resting globals)) h

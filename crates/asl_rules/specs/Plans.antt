@@ -16,6 +16,7 @@ pub record Meter : Type 0 where
 pub data Mistake : Type 0 where
   UnknownName : Mistake
   WrongKind : Mistake
+  Immutable : Mistake
   EndReached : Mistake
   UnservedForm : Mistake
 

@@ -5,11 +5,12 @@ use Rattle.asl_syn.specs.declared.code.Fault.{Fault}
 use Rattle.asl_syn.specs.declared.tree.Decl.{Decl}
 use Rattle.asl_rules.specs.declared.entry.Entry.TheVariants as entry
 use Rattle.asl_rules.specs.Values.{Value}
-use Rattle.asl_rules.specs.States.{Core}
+use Rattle.asl_rules.specs.States.{Binding, Core}
 use Rattle.asl_rules.specs.Plans.{Outcome, Done, Thrown, Halt, End, Faulted, Stuck}
 use Rattle.asl_rules.specs.Programs.{verdict}
-use Rattle.asl_rules.specs.Machines.{run_of, initial_globals}
-use Rattle.asl_rules.specs.Texts.{Text, File, fault_line, dynamic_line, usage_line, accepted_line, returned_line, uncaught_line, closing}
+use Rattle.asl_rules.specs.Machines.{run_of}
+use Rattle.asl_rules.specs.Evaluation.{initial_globals}
+use Rattle.asl_rules.specs.Texts.{Text, File, fault_line, dynamic_line, usage_line, accepted_line, returned_line, uncaught_line, closing, global_line}
 
 -- what is written, and the status of it
 pub record Answer : Type 0 where
@@ -53,15 +54,20 @@ abbrev pub outcome_line : Option Value → Text
 outcome_line None = []
 outcome_line (Some x) = returned_line x
 
-abbrev pub halted : List File → End → Text → Answer
-halted files (Faulted code span) printed = answer (behind printed (dynamic_line files code span)) 4
-halted files (Stuck mistake span) printed = answer printed 4
+-- the globals that can be assigned, in source order
+abbrev pub globals_text : List Binding → Text
+globals_text [] = []
+globals_text (b ∷ bs) = if b.is_mutable then global_line b.name b.value ++ globals_text bs else globals_text bs
 
--- the end of a run: its printed text, and the line that says how it ended
+abbrev pub halted : List File → End → List Binding → Text → Answer
+halted files (Faulted code span) globals printed = answer (behind printed (dynamic_line files code span ++ globals_text globals)) 4
+halted files (Stuck mistake span) globals printed = answer printed 4
+
+-- the end of a run: its printed text, the line that says how it ended, and the globals
 abbrev pub run_answer : List File → Outcome Core (Option Value) → Answer
-run_answer files (Done x c h) = answer (behind (told_text h.told) (outcome_line x)) 0
-run_answer files (Thrown x c h) = answer (behind (told_text h.told) (uncaught_line x)) 3
-run_answer files (Halt e c h) = halted files e (told_text h.told)
+run_answer files (Done x c h) = answer (behind (told_text h.told) (outcome_line x ++ globals_text c.globals)) 0
+run_answer files (Thrown x c h) = answer (behind (told_text h.told) (uncaught_line x ++ globals_text c.globals)) 3
+run_answer files (Halt e c h) = halted files e c.globals (told_text h.told)
 
 abbrev pub started : List File → List Decl → ℕ → Option ℕ → Answer
 started files ds steps None = answer [] 0
