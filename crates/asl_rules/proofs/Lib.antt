@@ -1,0 +1,12 @@
+pub mod Pieces
+pub mod Budget
+pub mod Given
+pub mod Quiet
+pub mod Safe
+pub mod Inversions
+pub mod OneOutcome
+pub mod Lookups
+pub mod Stores
+pub mod OperatorForms
+pub mod Agreeing
+pub mod ExprForms

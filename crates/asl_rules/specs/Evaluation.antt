@@ -1,6 +1,6 @@
 -- What expressions and statements do, over the untyped trees: names are found by name, and no type is consulted but those
 -- that are written at places.
-use Rattle.std.specs.Prelude.{ℕ, ◌+◌, pos, ◌-ℤ◌, Bool, true, false, if◌then◌else◌, List, [], ◌∷◌, ◌++◌, length, take, slice_get, slice_set, Option, Some, None}
+use Rattle.std.specs.Prelude.{ℕ, ◌+◌, pos, ◌-ℤ◌, Bool, true, false, if◌then◌else◌, List, [], ◌∷◌, ◌++◌, length, take, slice_get, option_map, Option, Some, None}
 use Rattle.std.specs.Str.{bytes_eq}
 use Rattle.asl_syn.specs.declared.token.Span.{Span}
 use Rattle.asl_syn.specs.declared.code.DynCode.TheVariants.{D08}
@@ -70,11 +70,6 @@ known span (Some x) = Good x
 abbrev pub named : Span → List ℕ → Core → Pure Value
 named span name c = known span (or_value (value_of name c.frame) (value_of name c.globals))
 
--- where a name stands among these, counted from n
-abbrev pub place_from : ℕ → List ℕ → List Binding → Option ℕ
-place_from n name [] = None
-place_from n name (b ∷ bs) = if bytes_eq b.name name then Some n else place_from (n + 1) name bs
-
 -- a store in a place that was declared: it can be assigned, and the value belongs to the type that it is stored under
 abbrev pub put_value : Span → Value → Binding → Pure Binding
 put_value span x b = if b.is_mutable then (if has_type x b.ty then Good (record b { value = x }) else Bad (Stuck WrongKind span)) else Bad (Stuck Immutable span)
@@ -83,18 +78,21 @@ abbrev pub map_pure : {A B : Type 0} → (A → B) → Pure A → Pure B
 map_pure f (Good x) = Good (f x)
 map_pure f (Bad e) = Bad e
 
-abbrev pub set_in : Span → Value → List Binding → ℕ → Option Binding → (List Binding → Core) → Pure Core
-set_in span x bs i None f = Bad (Stuck UnknownName span)
-set_in span x bs i (Some b) f = map_pure (λ b1. f (slice_set bs i b1)) (put_value span x b)
+-- a store under a name among these, none where it isn't there
+abbrev pub stored_in : Span → List ℕ → Value → List Binding → Option (Pure (List Binding))
+stored_in span name x [] = None
+stored_in span name x (b ∷ bs) =
+    if bytes_eq b.name name then Some (map_pure (λ b1. b1 ∷ bs) (put_value span x b))
+    else option_map (map_pure (λ cs. b ∷ cs)) (stored_in span name x bs)
 
-abbrev pub store_at : Span → Value → Core → Option ℕ → Option ℕ → Pure Core
-store_at span x c (Some i) o = set_in span x c.frame i (slice_get c.frame i) (λ bs. record c { frame = bs })
-store_at span x c None (Some i) = set_in span x c.globals i (slice_get c.globals i) (λ bs. record c { globals = bs })
-store_at span x c None None = Bad (Stuck UnknownName span)
+abbrev pub first_store : Span → (List Binding → Core) → (List Binding → Core) → Option (Pure (List Binding)) → Option (Pure (List Binding)) → Pure Core
+first_store span f g (Some r) o = map_pure f r
+first_store span f g None (Some r) = map_pure g r
+first_store span f g None None = Bad (Stuck UnknownName span)
 
--- a store under a name
+-- a store under a name, in the frame or else among the globals
 abbrev pub store : Span → List ℕ → Value → Core → Pure Core
-store span name x c = store_at span x c (place_from 0 name c.frame) (place_from 0 name c.globals)
+store span name x c = first_store span (λ bs. record c { frame = bs }) (λ bs. record c { globals = bs }) (stored_in span name x c.frame) (stored_in span name x c.globals)
 
 -- a new name with its value
 abbrev pub declared : List ℕ → Value → Ty → Bool → Core → Core

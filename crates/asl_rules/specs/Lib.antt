@@ -17,6 +17,7 @@ pub mod Operators
 pub mod Strings
 pub mod Texts
 pub mod Evaluation
+pub mod Agreement
 pub mod Machines
 pub mod Visits
 pub mod OneRun
