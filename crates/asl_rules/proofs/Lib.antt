@@ -10,3 +10,6 @@ pub mod Stores
 pub mod OperatorForms
 pub mod Agreeing
 pub mod ExprForms
+pub mod StmtForms
+pub mod Growing
+pub mod ListForms
