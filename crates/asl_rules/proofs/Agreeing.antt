@@ -1,13 +1,13 @@
 -- States that agree with a scope: they are sound, a new name keeps them so, and the end of a scope.
-use Rattle.std.proofs.Common.{◌≡◌, ℕ, zero, suc, Bool, true, false, cond, List, [], ◌∷◌, ◌++◌, Option, Some, None, refl, sym, ap, ◌∙◌, subst, take, length, append_assoc}
+use Rattle.std.proofs.Common.{◌≡◌, ℕ, suc, Bool, true, false, cond, List, [], ◌∷◌, ◌++◌, Option, Some, None, refl, sym, ap, ◌∙◌, subst, take, length, append_assoc}
 use Rattle.asl_rules.specs.Types.{Ty}
-use Rattle.asl_rules.specs.Scopes.{Entry, Standing, Stored, Subprogram, Storage, stored, standing_of, is_free, is_absent}
+use Rattle.asl_rules.specs.Scopes.{Entry, Standing, Stored, Subprogram, stored, standing_of, is_free, is_absent}
 use Rattle.asl_rules.specs.Values.{Value}
 use Rattle.asl_rules.specs.States.{Binding, Core}
 use Rattle.asl_rules.specs.Belonging.{InType, AllBelong, Sound}
-use Rattle.asl_rules.specs.Agreement.{Holds, GlobalsMatch, global_matches, local_matches, FrameMatches, AllFresh, Agrees}
+use Rattle.asl_rules.specs.Agreement.{GlobalsMatch, global_matches, local_matches, FrameMatches, AllFresh, Agrees}
 use Rattle.asl_rules.specs.Evaluation.{declared, cut}
-use Rattle.asl_rules.proofs.Lookups.{no, none_some, behind}
+use Rattle.asl_rules.proofs.Lookups.{no, none_some}
 
 -- ---- soundness
 

@@ -1,7 +1,6 @@
 -- Each form of expression is safe: it gives a value of its type, in a state that agrees with its scope.
-use Rattle.std.proofs.Common.{◌≡◌, ℕ, Bool, true, false, not, cond, pos, List, [], ◌∷◌, Option, Some, None, Result, Ok, Err, refl, sym, ap, ◌∙◌, subst}
+use Rattle.std.proofs.Common.{◌≡◌, ℕ, Bool, true, false, not, pos, List, Option, Some, None, Ok, refl, sym, ap, ◌∙◌, subst}
 use Rattle.asl_syn.specs.declared.token.Span.{Span}
-use Rattle.asl_syn.specs.declared.code.Fault.{Fault}
 use Rattle.asl_syn.specs.declared.code.StaticCode.TheVariants.{S03, T02, T08, T12, T13}
 use Rattle.asl_syn.specs.declared.tree.Bitfield.{Bitfield}
 use Rattle.asl_syn.specs.declared.tree.ConstraintPart.{ConstraintPart}
@@ -17,21 +16,21 @@ use Rattle.asl_syn.specs.declared.tree.Decl.{Decl}
 use Rattle.asl_syn.specs.declared.tree.UnaryOperator.{UnaryOperator}
 use Rattle.asl_syn.specs.declared.tree.BinaryOperator.{BinaryOperator}
 use Rattle.asl_syn.specs.declared.tree.BinaryOperator.TheVariants as binary
-use Rattle.asl_syn.specs.Layers.{ExprLayer, expr_layer_span}
+use Rattle.asl_syn.specs.Layers.{ExprLayer}
 use Rattle.asl_rules.specs.declared.effect.Effect.{Effect}
 use Rattle.asl_rules.specs.declared.effect.Effect.TheVariants.{Pure}
 use Rattle.asl_rules.specs.Faults.{◌>>=◌, ◌>>◌, need, found_or, fault_of}
 use Rattle.asl_rules.specs.Types.{Ty, integer, boolean}
 use Rattle.asl_rules.specs.Effects.{at_most, greater, together}
-use Rattle.asl_rules.specs.Scopes.{Scope, Entry, Storage, storage_of, reading}
+use Rattle.asl_rules.specs.Scopes.{Scope, Entry, storage_of, reading}
 use Rattle.asl_rules.specs.Exprs.{Typed, typed_as, Found, FoundType, Unread, found, found_type, typed, typed_rule, expr_rule, type_rule, finish, name_rule, of_booleans, binary_rule, unary_rule, span_of}
 use Rattle.asl_rules.specs.Stmts.{Done, found_stmt, falls}
 use Rattle.asl_rules.specs.Values.{Value, int, bool, Exit, Normal, Returned}
-use Rattle.asl_rules.specs.States.{Binding, Core}
+use Rattle.asl_rules.specs.States.{Core}
 use Rattle.asl_rules.specs.Belonging.{InType, Sound}
 use Rattle.asl_rules.specs.Agreement.{GlobalsMatch, Agrees}
-use Rattle.asl_rules.specs.Plans.{Faulted, Stuck, Plan, Ret, Stop, Eval, Pure as PureOf, Good, Bad, lift}
-use Rattle.asl_rules.specs.Operators.{integer_of, binary_value, unary_value, truth, Decided, Already, ByRight, decides, Strict, Lazy, strictness}
+use Rattle.asl_rules.specs.Plans.{Faulted, Stuck, Ret, Eval, Pure as PureOf, Good, Bad, lift}
+use Rattle.asl_rules.specs.Operators.{binary_value, unary_value, Decided, Already, ByRight, decides, Lazy, strictness}
 use Rattle.asl_rules.specs.Evaluation.{Does, give, expr_node, named, ask_right, unless_decided, behind_left, literal}
 use Rattle.asl_rules.proofs.Inversions.{ok_ok, err_ok, bind_ok, then_ok, found_ok}
 use Rattle.asl_rules.proofs.Lookups.{Knows, named_value}
@@ -148,14 +147,14 @@ module _ (base : List Entry) where
       let b = bind_ok (found_or (storage_of name G.names) T02 span) (λ s. finish G.class span true (reading s) s.ty) S h in
       let e = found_ok (storage_of name G.names) T02 span b.value b.first in
       retyped G S b.value.ty (lift {E = Expr} {S = Stmt} (named span name c) c (give c)) (finish_ok G.class span true (reading b.value) b.value.ty S b.then)
-        (lift_safe G b.value.ty (named span name c) c (known_gives b.value.ty (named span name c) (named_value base G.names c span name b.value a e)) a)
+      (lift_safe G b.value.ty (named span name c) c (known_gives b.value.ty (named span name c) (named_value base G.names c span name b.value a e)) a)
 
   unary_safe : (G : Scope) (span : Span) (o : UnaryOperator) (a : Expr) (S : Typed) (c : Core) → (typed a G >>= λ T. unary_rule span o T.ty >>= λ U. finish G.class span true T.effect U) ≡ Ok S → Agrees base G.names c → Safe (our_claims base) (Gives_in G S.ty) Thrown_in (Eval a c (λ x c1. lift (unary_value span o x) c1 (give c1)))
   unary_safe G span o a S c h g =
       let t = bind_ok (typed a G) (λ T. unary_rule span o T.ty >>= λ U. finish G.class span true T.effect U) S h in
       let u = bind_ok (unary_rule span o t.value.ty) (λ U. finish G.class span true t.value.effect U) S t.then in
       retyped G S u.value (Eval a c (λ x c1. lift (unary_value span o x) c1 (give c1))) (finish_ok G.class span true t.value.effect u.value S u.then)
-        (record { scope = G; typed = t.value }, (t.first, g), λ x c1 w. lift_safe G u.value (unary_value span o x) c1 (unary_gives span o t.value.ty u.value x u.first w.0) w.1, λ x c1 w. w)
+      (record { scope = G; typed = t.value }, (t.first, g), λ x c1 w. lift_safe G u.value (unary_value span o x) c1 (unary_gives span o t.value.ty u.value x u.first w.0) w.1, λ x c1 w. w)
 
   binary_safe : (G : Scope) (span : Span) (o : BinaryOperator) (a b : Expr) (S : Typed) (c : Core) →
       (typed a G >>= λ T. typed b G >>= λ V. binary_rule span o T.ty V.ty >>= λ U. finish G.class span (together T.effect V.effect) (greater T.effect V.effect) U) ≡ Ok S → Agrees base G.names c →
@@ -165,7 +164,7 @@ module _ (base : List Entry) where
       let v = bind_ok (typed b G) (λ V. binary_rule span o t.value.ty V.ty >>= λ U. finish G.class span (together t.value.effect V.effect) (greater t.value.effect V.effect) U) S t.then in
       let u = bind_ok (binary_rule span o t.value.ty v.value.ty) (λ U. finish G.class span (together t.value.effect v.value.effect) (greater t.value.effect v.value.effect) U) S v.then in
       retyped G S u.value (Eval a c (λ x c1. behind_left span o b x (strictness o) c1)) (finish_ok G.class span (together t.value.effect v.value.effect) (greater t.value.effect v.value.effect) u.value S u.then)
-        (record { scope = G; typed = t.value }, (t.first, g), λ x c1 w. behind_safe G span o b x t.value.ty u.value v.value c1 v.first u.first w.0 w.1, λ x c1 w. w)
+      (record { scope = G; typed = t.value }, (t.first, g), λ x c1 w. behind_safe G span o b x t.value.ty u.value v.value c1 v.first u.first w.0 w.1, λ x c1 w. w)
 
   layer_safe : (ds : List Decl) (G : Scope) (S : Typed) (layer : ExprLayer) (c : Core) → typed_rule (opened layer) G ≡ Ok S → Agrees base G.names c → Safe (our_claims base) (Gives_in G S.ty) Thrown_in (expr_node ds layer c)
   layer_safe ds G S (ex.Int span n) c h a = retyped G S integer (lift {E = Expr} {S = Stmt} (literal span n) c (give c)) (finish_ok G.class span true Pure integer S h) (literal_safe G span n c a)

@@ -1,18 +1,11 @@
 -- The names that are visible after a statement begin with those before it.
-use Rattle.std.proofs.Common.{◌≡◌, ℕ, Bool, true, false, ◌&&◌, ◌||◌, cond, List, [], ◌∷◌, ◌++◌, Option, Some, None, Result, Ok, Err, refl, sym, ap, ◌∙◌, subst, length, take, map, append_assoc}
+use Rattle.std.proofs.Common.{◌≡◌, true, false, List, [], ◌∷◌, ◌++◌, Option, Some, None, Result, Ok, refl, sym, ap, ◌∙◌, subst, append_assoc}
 use Rattle.asl_syn.specs.declared.token.Span.{Span}
 use Rattle.asl_syn.specs.declared.code.Fault.{Fault}
-use Rattle.asl_syn.specs.declared.code.StaticCode.TheVariants.{S03, T01, T02, T05, T12, T13, T14, T18}
+use Rattle.asl_syn.specs.declared.code.StaticCode.TheVariants.{S03, T01, T02, T14, T18}
 use Rattle.asl_syn.specs.declared.tree.Expr.{Expr}
 use Rattle.asl_syn.specs.declared.tree.Ident.{Ident}
-use Rattle.asl_syn.specs.declared.tree.TypeExpr.{TypeExpr, out-TypeExpr}
-use Rattle.asl_syn.specs.declared.tree.Bitfield.TheOpen as ex
-use Rattle.asl_syn.specs.declared.tree.Bitfield.TheFolds.{fold_out-TypeExpr, map-TypeExpr}
-use Rattle.asl_syn.specs.declared.tree.Bitfield.{Bitfield}
-use Rattle.asl_syn.specs.declared.tree.ConstraintPart.{ConstraintPart}
-use Rattle.asl_syn.specs.declared.tree.FieldValue.{FieldValue}
-use Rattle.asl_syn.specs.declared.tree.Pattern.{Pattern}
-use Rattle.asl_syn.specs.declared.tree.Slice.{Slice}
+use Rattle.asl_syn.specs.declared.tree.TypeExpr.{TypeExpr}
 use Rattle.asl_syn.specs.declared.tree.LocalKind.{LocalKind}
 use Rattle.asl_syn.specs.declared.tree.Binder.TheVariants.{Bound, Unbound}
 use Rattle.asl_syn.specs.declared.tree.Bind.{Bind}
@@ -20,42 +13,19 @@ use Rattle.asl_syn.specs.declared.tree.Bind.TheVariants.{Single, Several}
 use Rattle.asl_syn.specs.declared.tree.PlacedSuffix.{PlacedSuffix}
 use Rattle.asl_syn.specs.declared.tree.Target.{Target, out-Target}
 use Rattle.asl_syn.specs.declared.tree.Target.TheOpen as tg
-use Rattle.asl_syn.specs.declared.tree.PrintKind.{PrintKind}
-use Rattle.asl_syn.specs.declared.tree.PrintKind.TheVariants.{Print, PrintLine}
 use Rattle.asl_syn.specs.declared.tree.PrintItem.{PrintItem}
-use Rattle.asl_syn.specs.declared.tree.PrintItem.TheVariants.{Verbatim, Shown}
-use Rattle.asl_syn.specs.declared.tree.Alternative.{Alternative}
-use Rattle.asl_syn.specs.declared.tree.Catcher.{Catcher}
-use Rattle.asl_syn.specs.declared.tree.Otherwise.{Otherwise}
-use Rattle.asl_syn.specs.declared.tree.ElseIf.{ElseIf, out-ElseIf}
 use Rattle.asl_syn.specs.declared.tree.Stmt.{Stmt, out-Stmt}
 use Rattle.asl_syn.specs.declared.tree.Alternative.TheOpen as st
-use Rattle.asl_syn.specs.declared.tree.Alternative.TheFolds.{fold-ElseIf, fold-Alternative, fold-Catcher, fold-Otherwise, fold_out-Stmt, fold_out-ElseIf, map-Stmt, map-ElseIf}
-use Rattle.asl_syn.specs.declared.tree.Decl.{Decl}
-use Rattle.asl_syn.specs.Layers.{StmtLayer, TypeLayer, stmt_layer_span}
 use Rattle.asl_rules.specs.declared.effect.Effect.{Effect}
 use Rattle.asl_rules.specs.declared.effect.Effect.TheVariants.{Pure, Readonly, Writes}
 use Rattle.asl_rules.specs.Faults.{◌>>=◌, ◌>>◌, need, found_or, fitted, fault, fault_of}
-use Rattle.asl_rules.specs.Types.{Ty, integer, boolean, is_boolean, is_integer, same_kind, misfit}
-use Rattle.asl_rules.specs.Effects.{at_most, lesser, greater, greatest, all_together}
-use Rattle.asl_rules.specs.Scopes.{Scope, Entry, Storage, stored, storage_of, is_free, writing}
-use Rattle.asl_rules.specs.Exprs.{Typed, Found, FoundType, found, typed, written, written_rule, type_rule, integer_rule, expr_rule}
-use Rattle.asl_rules.specs.Exprs as exprs
-use Rattle.asl_rules.specs.Stmts.{Done, done, FoundStmt, FoundBranch, Branch, expr_at, ended, with_names, in_order, block, fitting, condition, assert_rule, is_var, initialised, local_rule, bind_rule, names_rule, vars_rule, assign_rule, place_rule, target_rule, branches, conditions, if_rule, return_rule, items_rule, print_rule, Unread, StmtOf, span_of, stmt_layer_rule, branch_rule, found_stmt, all_fall, any_falls, falls_layer, alternative_falls, catcher_falls, branch_falls, otherwise_falls, falls, falls_through}
-use Rattle.asl_rules.specs.Values.{Value, int, bool, Exit, Normal, Returned}
-use Rattle.asl_rules.specs.States.{Binding, Core}
-use Rattle.asl_rules.specs.Belonging.{type_of, InType, has_type}
-use Rattle.asl_rules.specs.Agreement.{GlobalsMatch, Agrees}
-use Rattle.asl_rules.specs.Plans.{Faulted, Stuck, WrongKind, Plan, Ret, Stop, Eval, Exec, Put, Within, choose, Pure as PureOf, Good, Bad, lift}
-use Rattle.asl_rules.specs.Operators.{truth}
-use Rattle.asl_rules.specs.Evaluation.{Does, stmt_node, store, map_pure, under, written_layer, stored_under, declare, initial_value, declare_all, declare_vars, declared, bound_to, store_place, store_target, asserted, print_items, branch, else_if, branches as run_branches, scope, leave, cut, in_order as run_in_order, go_on}
-use Rattle.asl_rules.proofs.Inversions.{ok_ok, err_ok, bind_ok, then_ok, need_ok, found_ok, fitted_ok}
-use Rattle.asl_rules.proofs.Lookups.{no, none_some}
-use Rattle.asl_rules.proofs.Stores.{StoresTo, store_agrees, has_own}
-use Rattle.asl_rules.proofs.Agreeing.{declared_agrees, cut_agrees}
-use Rattle.asl_rules.proofs.ExprForms.{ExprClaim, StmtClaim, GivesResult, EndsBody, our_claims}
-use Rattle.asl_rules.proofs.Safe.{Claims, Safe}
-use Rattle.asl_rules.proofs.StmtForms.{opened, branch_found, branch_falls_of, fallen, unrolled, falls_unrolled, fits_own, Thrown_in, renamed, ends_normal, truth_safe, assert_safe, bind_safe, vars_safe, target_safe}
+use Rattle.asl_rules.specs.Types.{Ty, misfit}
+use Rattle.asl_rules.specs.Effects.{lesser, greater, greatest, all_together}
+use Rattle.asl_rules.specs.Scopes.{Scope, Entry, stored, storage_of, is_free, writing}
+use Rattle.asl_rules.specs.Exprs.{typed, written}
+use Rattle.asl_rules.specs.Stmts.{Done, done, FoundStmt, FoundBranch, expr_at, ended, block, fitting, condition, assert_rule, is_var, initialised, local_rule, bind_rule, names_rule, vars_rule, assign_rule, place_rule, target_rule, branches, conditions, if_rule, return_rule, items_rule, print_rule, StmtOf, span_of, stmt_layer_rule, found_stmt}
+use Rattle.asl_rules.proofs.Inversions.{ok_ok, err_ok, bind_ok, then_ok}
+use Rattle.asl_rules.proofs.StmtForms.{opened, unrolled}
 
 -- ---- the names after a statement begin with those before it
 

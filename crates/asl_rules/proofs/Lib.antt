@@ -13,3 +13,6 @@ pub mod ExprForms
 pub mod StmtForms
 pub mod Growing
 pub mod ListForms
+pub mod Calls
+pub mod Globals
+pub mod Soundness

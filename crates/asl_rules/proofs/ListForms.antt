@@ -1,25 +1,9 @@
 -- Lists of statements are safe, and the forms that hold lists; so all forms are.
-use Rattle.std.proofs.Common.{◌≡◌, ℕ, Bool, true, false, ◌&&◌, ◌||◌, cond, List, [], ◌∷◌, ◌++◌, Option, Some, None, Result, Ok, Err, refl, sym, ap, ◌∙◌, subst, length, take, map, append_assoc}
+use Rattle.std.proofs.Common.{◌≡◌, Bool, true, false, ◌&&◌, ◌||◌, List, [], ◌∷◌, ◌++◌, Option, Some, None, Ok, refl, sym, ap, ◌∙◌, subst, length, take, map, append_assoc}
 use Rattle.asl_syn.specs.declared.token.Span.{Span}
-use Rattle.asl_syn.specs.declared.code.Fault.{Fault}
-use Rattle.asl_syn.specs.declared.code.StaticCode.TheVariants.{S03, T01, T02, T05, T12, T13, T14, T18}
+use Rattle.asl_syn.specs.declared.code.StaticCode.TheVariants.{S03, T05, T18}
 use Rattle.asl_syn.specs.declared.tree.Expr.{Expr}
-use Rattle.asl_syn.specs.declared.tree.Ident.{Ident}
-use Rattle.asl_syn.specs.declared.tree.TypeExpr.{TypeExpr, out-TypeExpr}
-use Rattle.asl_syn.specs.declared.tree.Bitfield.TheOpen as ex
-use Rattle.asl_syn.specs.declared.tree.Bitfield.TheFolds.{fold_out-TypeExpr, map-TypeExpr}
-use Rattle.asl_syn.specs.declared.tree.Bitfield.{Bitfield}
-use Rattle.asl_syn.specs.declared.tree.ConstraintPart.{ConstraintPart}
-use Rattle.asl_syn.specs.declared.tree.FieldValue.{FieldValue}
-use Rattle.asl_syn.specs.declared.tree.Pattern.{Pattern}
-use Rattle.asl_syn.specs.declared.tree.Slice.{Slice}
-use Rattle.asl_syn.specs.declared.tree.LocalKind.{LocalKind}
-use Rattle.asl_syn.specs.declared.tree.Binder.TheVariants.{Bound, Unbound}
-use Rattle.asl_syn.specs.declared.tree.Bind.{Bind}
-use Rattle.asl_syn.specs.declared.tree.Bind.TheVariants.{Single, Several}
-use Rattle.asl_syn.specs.declared.tree.PlacedSuffix.{PlacedSuffix}
-use Rattle.asl_syn.specs.declared.tree.Target.{Target, out-Target}
-use Rattle.asl_syn.specs.declared.tree.Target.TheOpen as tg
+use Rattle.asl_syn.specs.declared.tree.Target.{out-Target}
 use Rattle.asl_syn.specs.declared.tree.PrintKind.{PrintKind}
 use Rattle.asl_syn.specs.declared.tree.PrintKind.TheVariants.{Print, PrintLine}
 use Rattle.asl_syn.specs.declared.tree.PrintItem.{PrintItem}
@@ -30,31 +14,26 @@ use Rattle.asl_syn.specs.declared.tree.Otherwise.{Otherwise}
 use Rattle.asl_syn.specs.declared.tree.ElseIf.{ElseIf, out-ElseIf}
 use Rattle.asl_syn.specs.declared.tree.Stmt.{Stmt, out-Stmt}
 use Rattle.asl_syn.specs.declared.tree.Alternative.TheOpen as st
-use Rattle.asl_syn.specs.declared.tree.Alternative.TheFolds.{fold-ElseIf, fold-Alternative, fold-Catcher, fold-Otherwise, fold_out-Stmt, fold_out-ElseIf, map-Stmt, map-ElseIf}
+use Rattle.asl_syn.specs.declared.tree.Alternative.TheFolds.{fold-Alternative, fold-Catcher, fold-Otherwise, fold_out-ElseIf, map-ElseIf}
 use Rattle.asl_syn.specs.declared.tree.Decl.{Decl}
-use Rattle.asl_syn.specs.Layers.{StmtLayer, TypeLayer, stmt_layer_span}
+use Rattle.asl_syn.specs.Layers.{StmtLayer}
 use Rattle.asl_rules.specs.declared.effect.Effect.{Effect}
-use Rattle.asl_rules.specs.declared.effect.Effect.TheVariants.{Pure, Readonly, Writes}
-use Rattle.asl_rules.specs.Faults.{◌>>=◌, ◌>>◌, need, found_or, fitted, fault, fault_of}
-use Rattle.asl_rules.specs.Types.{Ty, integer, boolean, is_boolean, is_integer, same_kind, misfit}
-use Rattle.asl_rules.specs.Effects.{at_most, lesser, greater, greatest, all_together}
-use Rattle.asl_rules.specs.Scopes.{Scope, Entry, Storage, stored, storage_of, is_free, writing}
-use Rattle.asl_rules.specs.Exprs.{Typed, Found, FoundType, found, typed, written, written_rule, type_rule, integer_rule, expr_rule}
-use Rattle.asl_rules.specs.Exprs as exprs
-use Rattle.asl_rules.specs.Stmts.{Done, done, FoundStmt, FoundBranch, Branch, expr_at, ended, with_names, in_order, block, fitting, condition, assert_rule, is_var, initialised, local_rule, bind_rule, names_rule, vars_rule, assign_rule, place_rule, target_rule, branches, conditions, if_rule, return_rule, items_rule, print_rule, Unread, StmtOf, span_of, stmt_layer_rule, branch_rule, found_stmt, all_fall, any_falls, falls_layer, alternative_falls, catcher_falls, branch_falls, otherwise_falls, falls, falls_through}
-use Rattle.asl_rules.specs.Values.{Value, int, bool, Exit, Normal, Returned}
-use Rattle.asl_rules.specs.States.{Binding, Core}
-use Rattle.asl_rules.specs.Belonging.{type_of, InType, has_type}
+use Rattle.asl_rules.specs.declared.effect.Effect.TheVariants.{Pure, Writes}
+use Rattle.asl_rules.specs.Faults.{◌>>=◌, ◌>>◌, fitted, fault, fault_of}
+use Rattle.asl_rules.specs.Types.{Ty, is_boolean, misfit}
+use Rattle.asl_rules.specs.Effects.{greater, greatest, all_together}
+use Rattle.asl_rules.specs.Scopes.{Scope, Entry}
+use Rattle.asl_rules.specs.Exprs.{Typed, typed}
+use Rattle.asl_rules.specs.Stmts.{Done, done, FoundStmt, FoundBranch, Branch, expr_at, ended, with_names, in_order, block, fitting, condition, branches, conditions, if_rule, return_rule, items_rule, print_rule, Unread, span_of, stmt_layer_rule, branch_rule, found_stmt, all_fall, any_falls, falls_layer, alternative_falls, catcher_falls, branch_falls, otherwise_falls, falls}
+use Rattle.asl_rules.specs.Values.{Value, Exit, Normal, Returned}
+use Rattle.asl_rules.specs.States.{Core}
 use Rattle.asl_rules.specs.Agreement.{GlobalsMatch, Agrees}
-use Rattle.asl_rules.specs.Plans.{Faulted, Stuck, WrongKind, Plan, Ret, Stop, Eval, Exec, Put, Within, choose, Pure as PureOf, Good, Bad, lift}
-use Rattle.asl_rules.specs.Operators.{truth}
-use Rattle.asl_rules.specs.Evaluation.{Does, stmt_node, store, map_pure, under, written_layer, stored_under, declare, initial_value, declare_all, declare_vars, declared, bound_to, store_place, store_target, asserted, print_items, branch, else_if, branches as run_branches, scope, leave, cut, in_order as run_in_order, go_on}
-use Rattle.asl_rules.proofs.Inversions.{ok_ok, err_ok, bind_ok, then_ok, need_ok, found_ok, fitted_ok}
-use Rattle.asl_rules.proofs.Lookups.{no, none_some}
-use Rattle.asl_rules.proofs.Stores.{StoresTo, store_agrees, has_own}
-use Rattle.asl_rules.proofs.Agreeing.{declared_agrees, cut_agrees}
-use Rattle.asl_rules.proofs.ExprForms.{ExprClaim, StmtClaim, GivesResult, EndsBody, our_claims}
-use Rattle.asl_rules.proofs.Safe.{Claims, Safe}
+use Rattle.asl_rules.specs.Plans.{choose}
+use Rattle.asl_rules.specs.Evaluation.{Does, stmt_node, print_items, branch, else_if, branches as run_branches, scope, cut, in_order as run_in_order, go_on}
+use Rattle.asl_rules.proofs.Inversions.{ok_ok, err_ok, bind_ok, then_ok, need_ok, fitted_ok}
+use Rattle.asl_rules.proofs.Agreeing.{cut_agrees}
+use Rattle.asl_rules.proofs.ExprForms.{StmtClaim, GivesResult, EndsBody, our_claims}
+use Rattle.asl_rules.proofs.Safe.{Safe}
 use Rattle.asl_rules.proofs.StmtForms.{opened, branch_found, branch_falls_of, fallen, unrolled, falls_unrolled, fits_own, Thrown_in, renamed, ends_normal, truth_safe, assert_safe, bind_safe, vars_safe, target_safe}
 use Rattle.asl_rules.proofs.Growing.{Longer, longer_on, same_names, stmt_longer}
 
@@ -83,7 +62,7 @@ branch_falls_unrolled e = fold_out-ElseIf Bool Bool Bool Bool Bool alternative_f
 module _ (base : List Entry) where
   -- ---- lists
 
-  list_safe : (G : Scope) (names0 : List Entry) (k : Effect) (d : Done) (Q : Exit → Core → Type 0) (R : Value → Core → Type 0) (ss : List Stmt) (c : Core) → in_order (map found_stmt ss) k G ≡ Ok d → Agrees base G.names c → Longer names0 G.names →
+  pub list_safe : (G : Scope) (names0 : List Entry) (k : Effect) (d : Done) (Q : Exit → Core → Type 0) (R : Value → Core → Type 0) (ss : List Stmt) (c : Core) → in_order (map found_stmt ss) k G ≡ Ok d → Agrees base G.names c → Longer names0 G.names →
       ((c1 : Core) → Longer names0 d.names → Agrees base d.names c1 → all_fall (map falls ss) ≡ true → Q Normal c1) →
       ((o : Option Value) (c1 : Core) → GivesResult G.result o → GlobalsMatch base c1.globals → Q (Returned o) c1) →
       ((x : Value) (c1 : Core) → GlobalsMatch base c1.globals → R x c1) → Safe (our_claims base) Q R (run_in_order ss c)
@@ -91,10 +70,12 @@ module _ (base : List Entry) where
       let e : G.names ≡ d.names = ap (λ (z : Done). z.names) (ok_ok (done G.names k) d h) in
       normal c (subst (Longer names0) e l) (renamed base G.names d.names c e a) refl
   list_safe G names0 k d Q R (s ∷ ss) c h a l normal returned thrown =
-      let b = bind_ok (found_stmt s G) (λ e. in_order (map found_stmt ss) (greater k e.effect) (with_names G e.names)) d h in
-      (record { scope = G; done = b.value }, (b.first, a),
+      let b = bind_ok (found_stmt s G) (λ e. in_order (map found_stmt ss) (greater k e.effect) (with_names G e.names)) d h in (
+        record { scope = G; done = b.value },
+        (b.first, a),
         go b.value (λ c1 f a1. list_safe (with_names G b.value.names) names0 (greater k b.value.effect) d Q R ss c1 b.then a1 (longer_on names0 G.names b.value.names l (stmt_longer s G b.value b.first)) (λ c2 l2 a2 f2. normal c2 l2 a2 (true_and (falls s) (all_fall (map falls ss)) f f2)) returned thrown),
-        λ x c1 o. thrown x c1 o)
+        λ x c1 o. thrown x c1 o,
+      )
     where
       go : (e : Done) → ((c1 : Core) → falls s ≡ true → Agrees base e.names c1 → Safe (our_claims base) Q R (run_in_order ss c1)) → (x : Exit) (c1 : Core) → EndsBody base G.result (falls s) e.names x c1 → Safe (our_claims base) Q R (go_on x c1 (run_in_order ss))
       go e next Normal c1 o = next c1 o.0 o.1
@@ -106,8 +87,8 @@ module _ (base : List Entry) where
   block_safe G d ss b c h a f =
       let p = bind_ok (in_order (map found_stmt ss) Pure G) (λ e. Ok (done (take (length G.names) e.names) e.effect)) d h in
       list_safe G G.names Pure p.value (λ x c1. EndsBody base G.result b G.names x (cut (length c.frame) c1)) (Thrown_in base) ss c p.first a (same_names G.names G.names refl)
-        (λ c1 l a1 g. (f g, cut_agrees base G.names l.more c c1 a (subst (λ ns. Agrees base ns c1) l.is a1)))
-        (λ o c1 g m. (g, m)) (λ x c1 m. m)
+      (λ c1 l a1 g. (f g, cut_agrees base G.names l.more c c1 a (subst (λ ns. Agrees base ns c1) l.is a1)))
+      (λ o c1 g m. (g, m)) (λ x c1 m. m)
 
   -- ---- branches
 
@@ -121,10 +102,12 @@ module _ (base : List Entry) where
   branch_safe : (G : Scope) (span : Span) (e : Expr) (ss : List Stmt) (rest : Core → Does Exit) (b : Bool) (c : Core) → BranchOk G e ss → Agrees base G.names c →
       (all_fall (map falls ss) ≡ true → b ≡ true) → ((c1 : Core) → Agrees base G.names c1 → Safe (our_claims base) (EndsBody base G.result b G.names) (Thrown_in base) (rest c1)) →
       Safe (our_claims base) (EndsBody base G.result b G.names) (Thrown_in base) (branch span e ss rest c)
-  branch_safe G span e ss rest b c k a f next =
-      (record { scope = G; typed = k.typed_as }, (k.cond_ok, a),
-        λ x c1 o. truth_safe base (EndsBody base G.result b G.names) (Thrown_in base) span x k.typed_as.ty c1 (λ t. choose t (scope ss c1) (rest c1)) k.is_boolean_type o.0 (chosen c1 o.1),
-        λ x c1 o. o)
+  branch_safe G span e ss rest b c k a f next = (
+    record { scope = G; typed = k.typed_as },
+    (k.cond_ok, a),
+    λ x c1 o. truth_safe base (EndsBody base G.result b G.names) (Thrown_in base) span x k.typed_as.ty c1 (λ t. choose t (scope ss c1) (rest c1)) k.is_boolean_type o.0 (chosen c1 o.1),
+    λ x c1 o. o,
+  )
     where
       chosen : (c1 : Core) → Agrees base G.names c1 → (t : Bool) → Safe (our_claims base) (EndsBody base G.result b G.names) (Thrown_in base) (choose t (scope ss c1) (rest c1))
       chosen c1 a1 true = block_safe G k.body ss b c1 k.body_ok a1 f
@@ -173,8 +156,8 @@ module _ (base : List Entry) where
   branches_safe G span [] last d b c k h a f g = block_safe G d last b c h a g
   branches_safe G span (e ∷ es) last d b c k h a f g =
       else_if_safe G span (out-ElseIf e) (run_branches span es last) b c k.0 k.1 (sym (ap (λ (z : FoundBranch). typed z.condition G) (branch_unrolled e)) ∙ k.2) (sym (ap (λ (z : FoundBranch). block z.body G) (branch_unrolled e)) ∙ k.3) k.4 a
-        (λ w. f (first_true (branch_falls_of e) (any_falls (map branch_falls_of es)) (branch_falls_unrolled e ∙ w)))
-        (λ c1 a1. branches_safe G span es last d b c1 k.5 h a1 (λ w. f (second_true (branch_falls_of e) (any_falls (map branch_falls_of es)) w)) g)
+      (λ w. f (first_true (branch_falls_of e) (any_falls (map branch_falls_of es)) (branch_falls_unrolled e ∙ w)))
+      (λ c1 a1. branches_safe G span es last d b c1 k.5 h a1 (λ w. f (second_true (branch_falls_of e) (any_falls (map branch_falls_of es)) w)) g)
 
   if_safe : (G : Scope) (span : Span) (e : Expr) (ss : List Stmt) (es : List ElseIf) (last : List Stmt) (d : Done) (c : Core) → if_rule span e (map found_stmt ss) (map branch_found es) (map found_stmt last) G ≡ Ok d → Agrees base G.names c →
       Safe (our_claims base) (EndsBody base G.result (all_fall (map falls ss) || (any_falls (map branch_falls_of es) || all_fall (map falls last))) d.names) (Thrown_in base) (branch span e ss (run_branches span es last) c)
@@ -188,11 +171,11 @@ module _ (base : List Entry) where
       let k = q.ok (sym (ap conditions q.is) ∙ u.first) in
       let t : Bool = all_fall (map falls ss) || (any_falls (map branch_falls_of es) || all_fall (map falls last)) in
       subst (λ ns. Safe (our_claims base) (EndsBody base G.result t ns) (Thrown_in base) (branch span e ss (run_branches span es last) c)) (ap (λ (z : Done). z.names) (ok_ok (done G.names w.value) d w.then))
-        (branch_safe G span e ss (run_branches span es last) t c (record { typed_as = k.0; body = k.1; cond_ok = k.2; body_ok = k.3; is_boolean_type = k.4 }) a
-          (λ z. first_true (all_fall (map falls ss)) (any_falls (map branch_falls_of es) || all_fall (map falls last)) z)
-          (λ c1 a1. branches_safe G span es last b.value t c1 k.5 b.first a1
-            (λ z. second_true (all_fall (map falls ss)) (any_falls (map branch_falls_of es) || all_fall (map falls last)) (first_true (any_falls (map branch_falls_of es)) (all_fall (map falls last)) z))
-            (λ z. second_true (all_fall (map falls ss)) (any_falls (map branch_falls_of es) || all_fall (map falls last)) (second_true (any_falls (map branch_falls_of es)) (all_fall (map falls last)) z))))
+      (branch_safe G span e ss (run_branches span es last) t c (record { typed_as = k.0; body = k.1; cond_ok = k.2; body_ok = k.3; is_boolean_type = k.4 }) a
+      (λ z. first_true (all_fall (map falls ss)) (any_falls (map branch_falls_of es) || all_fall (map falls last)) z)
+      (λ c1 a1. branches_safe G span es last b.value t c1 k.5 b.first a1
+      (λ z. second_true (all_fall (map falls ss)) (any_falls (map branch_falls_of es) || all_fall (map falls last)) (first_true (any_falls (map branch_falls_of es)) (all_fall (map falls last)) z))
+      (λ z. second_true (all_fall (map falls ss)) (any_falls (map branch_falls_of es) || all_fall (map falls last)) (second_true (any_falls (map branch_falls_of es)) (all_fall (map falls last)) z))))
 
   -- ---- returning and printing
 
@@ -241,4 +224,4 @@ module _ (base : List Entry) where
       Safe (our_claims base) (EndsBody base j.scope.result (falls s) j.done.names) (Thrown_in base) (stmt_node ds (out-Stmt s) c)
   stmt_safe ds j s c h a =
       subst (λ b. Safe (our_claims base) (EndsBody base j.scope.result b j.done.names) (Thrown_in base) (stmt_node ds (out-Stmt s) c)) (sym (falls_unrolled s))
-        (layer_safe ds j.scope j.done (out-Stmt s) c (sym (ap (λ (f : FoundStmt). f j.scope) (unrolled s)) ∙ h) a)
+      (layer_safe ds j.scope j.done (out-Stmt s) c (sym (ap (λ (f : FoundStmt). f j.scope) (unrolled s)) ∙ h) a)

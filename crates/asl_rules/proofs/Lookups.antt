@@ -1,10 +1,10 @@
 -- A name that stands for storage in a scope has its value in each state that agrees.
-use Rattle.std.proofs.Common.{◌≡◌, ℕ, zero, suc, ◌+◌, Bool, true, false, cond, List, [], ◌∷◌, ◌++◌, Option, Some, None, refl, sym, ap, ◌∙◌, subst, arith}
+use Rattle.std.proofs.Common.{◌≡◌, ℕ, Bool, true, false, cond, List, [], ◌∷◌, ◌++◌, Option, Some, None, refl, sym, ap, ◌∙◌, subst}
 use Rattle.std.specs.Str.{bytes_eq}
 use Rattle.std.proofs.lemmas.Slice.Eq.{bytes_eq-Decides}
 use Rattle.asl_syn.specs.declared.token.Span.{Span}
 use Rattle.asl_rules.specs.Types.{Ty}
-use Rattle.asl_rules.specs.Scopes.{Scope, Entry, Standing, Stored, Subprogram, Storage, standing_of, storage_in, storage_of}
+use Rattle.asl_rules.specs.Scopes.{Entry, Standing, Stored, Subprogram, Storage, standing_of, storage_in, storage_of}
 use Rattle.asl_rules.specs.Values.{Value}
 use Rattle.asl_rules.specs.States.{Binding, Core}
 use Rattle.asl_rules.specs.Belonging.{InType}
@@ -58,7 +58,7 @@ global_at : (d : Bool) (name : List ℕ) (s : Storage) (b : Binding) (n : List �
     cond d (Some (Stored u)) o ≡ Some (Stored s) → (o ≡ Some (Stored s) → FindsIn s.ty rest) → FindsIn s.ty (cond (bytes_eq b.name name) (Some b.value) rest)
 global_at true name s b n u o rest q k h f =
     subst (λ t. FindsIn s.ty (cond t (Some b.value) rest)) (sym (ap (λ m. bytes_eq m name) k.name_is ∙ q))
-      (in_own b.ty s.ty b.value (k.ty_is ∙ ap (λ t. t.ty) (stored_same u s (some_same (Stored u) (Stored s) h))) k.belongs)
+    (in_own b.ty s.ty b.value (k.ty_is ∙ ap (λ t. t.ty) (stored_same u s (some_same (Stored u) (Stored s) h))) k.belongs)
 global_at false name s b n u o rest q k h f =
     subst (λ t. FindsIn s.ty (cond t (Some b.value) rest)) (sym (ap (λ m. bytes_eq m name) k.name_is ∙ q)) (f h)
 
@@ -149,7 +149,7 @@ by_base : (base locals : List Entry) (c : Core) (name : List ℕ) (s : Storage) 
 by_base base locals c name s None q f m g h = or_first s.ty (value_of name c.frame) (value_of name c.globals) (frame_value locals name s c.frame m (sym (behind base locals name q) ∙ h))
 by_base base locals c name s (Some st) q f m g h =
     or_second s.ty (value_of name c.frame) (value_of name c.globals) (absent_value base locals name st c.frame m f q)
-      (global_value base name s c.globals g (q ∙ sym (before_is base locals name st q) ∙ h))
+    (global_value base name s c.globals g (q ∙ sym (before_is base locals name st q) ∙ h))
 
 pub named_value : (base names : List Entry) (c : Core) (span : Span) (name : List ℕ) (s : Storage) → Agrees base names c → storage_of name names ≡ Some s → Knows s.ty (named span name c)
 named_value base names c span name s a h =

@@ -1,5 +1,5 @@
 -- Operators on values of the types that their rules ask for give a value of the rule's type, or a fault.
-use Rattle.std.proofs.Common.{◌≡◌, ℕ, ◌==◌, ◌^◌, ℤ, pos, negsuc, Bool, true, false, cond, Result, Ok, Err, refl, sym, ap, subst}
+use Rattle.std.proofs.Common.{◌≡◌, ℕ, ◌==◌, ◌^◌, ℤ, pos, negsuc, Bool, true, false, cond, Result, Ok, subst}
 use Rattle.std.specs.Prelude.{nat_lt, ◌+ℤ◌, ◌-ℤ◌, ◌*ℤ◌}
 use Rattle.std.specs.Int.{int_pow}
 use Rattle.asl_syn.specs.declared.token.Span.{Span}

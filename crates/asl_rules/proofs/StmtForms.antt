@@ -1,8 +1,8 @@
 -- Each form of statement is safe: it ends in a state that agrees with the scope after it, or returns what its body asks for.
-use Rattle.std.proofs.Common.{◌≡◌, ℕ, Bool, true, false, ◌&&◌, ◌||◌, cond, List, [], ◌∷◌, ◌++◌, Option, Some, None, Result, Ok, Err, refl, sym, ap, ◌∙◌, subst, length, take, map, append_assoc}
+use Rattle.std.proofs.Common.{◌≡◌, Bool, true, false, cond, List, [], ◌∷◌, ◌++◌, Option, Some, None, Result, Ok, refl, sym, ap, ◌∙◌, subst, map}
 use Rattle.asl_syn.specs.declared.token.Span.{Span}
 use Rattle.asl_syn.specs.declared.code.Fault.{Fault}
-use Rattle.asl_syn.specs.declared.code.StaticCode.TheVariants.{S03, T01, T02, T05, T12, T13, T14, T18}
+use Rattle.asl_syn.specs.declared.code.StaticCode.TheVariants.{S03, T01, T02, T05, T12, T13, T14}
 use Rattle.asl_syn.specs.declared.tree.Expr.{Expr}
 use Rattle.asl_syn.specs.declared.tree.Ident.{Ident}
 use Rattle.asl_syn.specs.declared.tree.TypeExpr.{TypeExpr, out-TypeExpr}
@@ -18,43 +18,38 @@ use Rattle.asl_syn.specs.declared.tree.Binder.TheVariants.{Bound, Unbound}
 use Rattle.asl_syn.specs.declared.tree.Bind.{Bind}
 use Rattle.asl_syn.specs.declared.tree.Bind.TheVariants.{Single, Several}
 use Rattle.asl_syn.specs.declared.tree.PlacedSuffix.{PlacedSuffix}
-use Rattle.asl_syn.specs.declared.tree.Target.{Target, out-Target}
+use Rattle.asl_syn.specs.declared.tree.Target.{Target}
 use Rattle.asl_syn.specs.declared.tree.Target.TheOpen as tg
-use Rattle.asl_syn.specs.declared.tree.PrintKind.{PrintKind}
-use Rattle.asl_syn.specs.declared.tree.PrintKind.TheVariants.{Print, PrintLine}
-use Rattle.asl_syn.specs.declared.tree.PrintItem.{PrintItem}
-use Rattle.asl_syn.specs.declared.tree.PrintItem.TheVariants.{Verbatim, Shown}
 use Rattle.asl_syn.specs.declared.tree.Alternative.{Alternative}
 use Rattle.asl_syn.specs.declared.tree.Catcher.{Catcher}
 use Rattle.asl_syn.specs.declared.tree.Otherwise.{Otherwise}
-use Rattle.asl_syn.specs.declared.tree.ElseIf.{ElseIf, out-ElseIf}
+use Rattle.asl_syn.specs.declared.tree.ElseIf.{ElseIf}
 use Rattle.asl_syn.specs.declared.tree.Stmt.{Stmt, out-Stmt}
 use Rattle.asl_syn.specs.declared.tree.Alternative.TheOpen as st
-use Rattle.asl_syn.specs.declared.tree.Alternative.TheFolds.{fold-ElseIf, fold-Alternative, fold-Catcher, fold-Otherwise, fold_out-Stmt, fold_out-ElseIf, map-Stmt, map-ElseIf}
-use Rattle.asl_syn.specs.declared.tree.Decl.{Decl}
-use Rattle.asl_syn.specs.Layers.{StmtLayer, TypeLayer, stmt_layer_span}
+use Rattle.asl_syn.specs.declared.tree.Alternative.TheFolds.{fold-ElseIf, fold-Alternative, fold-Catcher, fold-Otherwise, fold_out-Stmt, map-Stmt}
+use Rattle.asl_syn.specs.Layers.{StmtLayer, TypeLayer}
 use Rattle.asl_rules.specs.declared.effect.Effect.{Effect}
-use Rattle.asl_rules.specs.declared.effect.Effect.TheVariants.{Pure, Readonly, Writes}
-use Rattle.asl_rules.specs.Faults.{◌>>=◌, ◌>>◌, need, found_or, fitted, fault, fault_of}
+use Rattle.asl_rules.specs.declared.effect.Effect.TheVariants.{Pure, Readonly}
+use Rattle.asl_rules.specs.Faults.{◌>>=◌, ◌>>◌, need, found_or, fitted, fault_of}
 use Rattle.asl_rules.specs.Types.{Ty, integer, boolean, is_boolean, is_integer, same_kind, misfit}
-use Rattle.asl_rules.specs.Effects.{at_most, lesser, greater, greatest, all_together}
-use Rattle.asl_rules.specs.Scopes.{Scope, Entry, Storage, stored, storage_of, is_free, writing}
+use Rattle.asl_rules.specs.Effects.{at_most, lesser, greater}
+use Rattle.asl_rules.specs.Scopes.{Scope, Entry, stored, storage_of, is_free, writing}
 use Rattle.asl_rules.specs.Exprs.{Typed, Found, FoundType, found, typed, written, written_rule, type_rule, integer_rule, expr_rule}
 use Rattle.asl_rules.specs.Exprs as exprs
-use Rattle.asl_rules.specs.Stmts.{Done, done, FoundStmt, FoundBranch, Branch, expr_at, ended, with_names, in_order, block, fitting, condition, assert_rule, is_var, initialised, local_rule, bind_rule, names_rule, vars_rule, assign_rule, place_rule, target_rule, branches, conditions, if_rule, return_rule, items_rule, print_rule, Unread, StmtOf, span_of, stmt_layer_rule, branch_rule, found_stmt, all_fall, any_falls, falls_layer, alternative_falls, catcher_falls, branch_falls, otherwise_falls, falls, falls_through}
-use Rattle.asl_rules.specs.Values.{Value, int, bool, Exit, Normal, Returned}
-use Rattle.asl_rules.specs.States.{Binding, Core}
-use Rattle.asl_rules.specs.Belonging.{type_of, InType, has_type}
+use Rattle.asl_rules.specs.Stmts.{Done, done, FoundStmt, FoundBranch, expr_at, ended, fitting, condition, assert_rule, is_var, initialised, local_rule, bind_rule, names_rule, vars_rule, assign_rule, place_rule, target_rule, Unread, StmtOf, stmt_layer_rule, branch_rule, found_stmt, falls_layer, alternative_falls, catcher_falls, branch_falls, otherwise_falls, falls}
+use Rattle.asl_rules.specs.Values.{Value, int, bool, Normal}
+use Rattle.asl_rules.specs.States.{Core}
+use Rattle.asl_rules.specs.Belonging.{type_of, InType}
 use Rattle.asl_rules.specs.Agreement.{GlobalsMatch, Agrees}
-use Rattle.asl_rules.specs.Plans.{Faulted, Stuck, WrongKind, Plan, Ret, Stop, Eval, Exec, Put, Within, choose, Pure as PureOf, Good, Bad, lift}
+use Rattle.asl_rules.specs.Plans.{Stuck, WrongKind, Ret, Eval, Pure as PureOf, Good, Bad, lift}
 use Rattle.asl_rules.specs.Operators.{truth}
-use Rattle.asl_rules.specs.Evaluation.{Does, stmt_node, store, map_pure, under, written_layer, stored_under, declare, initial_value, declare_all, declare_vars, declared, bound_to, store_place, store_target, asserted, print_items, branch, else_if, branches as run_branches, scope, leave, cut, in_order as run_in_order, go_on}
+use Rattle.asl_rules.specs.Evaluation.{Does, store, written_layer, stored_under, declare, initial_value, declare_all, declare_vars, declared, bound_to, store_place, store_target, asserted}
 use Rattle.asl_rules.proofs.Inversions.{ok_ok, err_ok, bind_ok, then_ok, need_ok, found_ok, fitted_ok}
 use Rattle.asl_rules.proofs.Lookups.{no, none_some}
 use Rattle.asl_rules.proofs.Stores.{StoresTo, store_agrees, has_own}
-use Rattle.asl_rules.proofs.Agreeing.{declared_agrees, cut_agrees}
-use Rattle.asl_rules.proofs.ExprForms.{ExprClaim, StmtClaim, GivesResult, EndsBody, our_claims}
-use Rattle.asl_rules.proofs.Safe.{Claims, Safe}
+use Rattle.asl_rules.proofs.Agreeing.{declared_agrees}
+use Rattle.asl_rules.proofs.ExprForms.{EndsBody, our_claims}
+use Rattle.asl_rules.proofs.Safe.{Safe}
 
 -- ---- what the rules of statements say
 
@@ -104,13 +99,13 @@ unless_fits false h = none_some T05 (sym h)
 pub fits_own : (x : Value) (S T : Ty) → misfit S T ≡ None → InType x S → InType x T
 fits_own x S T h i = kind_own x S T (unless_fits (same_kind S T) h) i
 
-type_own : (x : Value) (T : Ty) → InType x T → type_of x ≡ T
+pub type_own : (x : Value) (T : Ty) → InType x T → type_of x ≡ T
 type_own (int z) integer i = refl
 type_own (int z) boolean i = absurd i
 type_own (bool b) integer i = absurd i
 type_own (bool b) boolean i = refl
 
-initial_own : (T : Ty) → InType (initial_value T) T
+pub initial_own : (T : Ty) → InType (initial_value T) T
 initial_own integer = tt
 initial_own boolean = tt
 
@@ -165,10 +160,12 @@ module _ (base : List Entry) where
       let G1 : Scope = record G { class = lesser G.class Readonly } in
       let t = bind_ok (typed e G1) (λ S. condition e S >> ended G.class span true S.effect >>= λ k. Ok (done G.names k)) d h in
       let u = then_ok (condition e t.value) (ended G.class span true t.value.effect >>= λ k. Ok (done G.names k)) d t.then in
-      let w = bind_ok (ended G.class span true t.value.effect) (λ k. Ok (done G.names k)) d u.then in
-      (record { scope = G1; typed = t.value }, (t.first, a),
+      let w = bind_ok (ended G.class span true t.value.effect) (λ k. Ok (done G.names k)) d u.then in (
+        record { scope = G1; typed = t.value },
+        (t.first, a),
         λ x c1 o. truth_safe (EndsBody base G.result true d.names) Thrown_in span x t.value.ty c1 (λ b. asserted span b c1) (need_ok (is_boolean t.value.ty) T05 (expr_at e) tt u.first) o.0 (λ b. asserted_safe G.result span b c1 G.names w.value d w.then o.1),
-        λ x c1 o. o)
+        λ x c1 o. o,
+      )
 
   -- ---- declarations
 
@@ -176,7 +173,7 @@ module _ (base : List Entry) where
       (let r : Result Done Fault = Ok (done (names ++ stored i.text U false m ∷ []) k) in r) ≡ Ok d → Safe (our_claims base) (EndsBody base T true d.names) Thrown_in (declare span i m (Some U) x c)
   declare_safe T span i m U x c names k d own a f h =
       subst (λ b. Safe (our_claims base) (EndsBody base T true d.names) Thrown_in (lift {E = Expr} {S = Stmt} (cond b (Good x) (Bad (Stuck WrongKind span))) c (λ y. Ret Normal (declared i.text y U m c)))) (sym (has_own x U own))
-        (ends_normal T (names ++ stored i.text U false m ∷ []) k d (declared i.text x U m c) h (declared_agrees base names c i.text x U m a f own))
+      (ends_normal T (names ++ stored i.text U false m ∷ []) k d (declared i.text x U m c) h (declared_agrees base names c i.text x U m a f own))
 
   -- behind the initialiser: the place has its type
   bound_safe : (T : Option Ty) (span : Span) (i : Ident) (m : Bool) (t : Option TypeExpr) (U : Ty) (x : Value) (c : Core) (names : List Entry) (k : Effect) (d : Done) → stored_under t x ≡ Some U → InType x U → Agrees base names c → is_free i.text names ≡ true →
@@ -188,10 +185,12 @@ module _ (base : List Entry) where
   local_untyped span kind i e G d c h a =
       let t = bind_ok (typed e G) (λ S. need (is_free i.text G.names) T01 i.span >> ended G.class span true S.effect >>= λ k. Ok (done (G.names ++ stored i.text S.ty false (is_var kind) ∷ []) k)) d h in
       let u = then_ok (need (is_free i.text G.names) T01 i.span) (ended G.class span true t.value.effect >>= λ k. Ok (done (G.names ++ stored i.text t.value.ty false (is_var kind) ∷ []) k)) d t.then in
-      let w = bind_ok (ended G.class span true t.value.effect) (λ k. Ok (done (G.names ++ stored i.text t.value.ty false (is_var kind) ∷ []) k)) d u.then in
-      (record { scope = G; typed = t.value }, (t.first, a),
+      let w = bind_ok (ended G.class span true t.value.effect) (λ k. Ok (done (G.names ++ stored i.text t.value.ty false (is_var kind) ∷ []) k)) d u.then in (
+        record { scope = G; typed = t.value },
+        (t.first, a),
         λ x c1 o. bound_safe G.result span i (is_var kind) None t.value.ty x c1 G.names w.value d (ap Some (type_own x t.value.ty o.0)) o.0 o.1 (need_ok (is_free i.text G.names) T01 i.span tt u.first) w.then,
-        λ x c1 o. o)
+        λ x c1 o. o,
+      )
 
   local_typed : (span : Span) (kind : LocalKind) (i : Ident) (t : TypeExpr) (e : Expr) (G : Scope) (d : Done) (c : Core) → local_rule span kind i (Some t) e G ≡ Ok d → Agrees base G.names c → Safe (our_claims base) (EndsBody base G.result true d.names) Thrown_in (Eval e c (λ x c1. bound_to span (Single (Bound i)) (is_var kind) (Some t) x c1))
   local_typed span kind i t e G d c h a =
@@ -202,10 +201,12 @@ module _ (base : List Entry) where
       let q = bind_ok (fitting p.value e G) (λ k. Ok (record { ty = p.value; effect = k })) s.value p.then in
       let r = bind_ok (typed e G) (λ S. fitted (misfit S.ty p.value) (expr_at e) >> Ok S.effect) q.value q.first in
       let v = then_ok (fitted (misfit r.value.ty p.value) (expr_at e)) (Ok r.value.effect) q.value r.then in
-      let same : p.value ≡ s.value.ty = ap (λ (z : Typed). z.ty) (ok_ok (record { ty = p.value; effect = q.value }) s.value q.then) in
-      (record { scope = G; typed = r.value }, (r.first, a),
+      let same : p.value ≡ s.value.ty = ap (λ (z : Typed). z.ty) (ok_ok (record { ty = p.value; effect = q.value }) s.value q.then) in (
+        record { scope = G; typed = r.value },
+        (r.first, a),
         λ x c1 o. bound_safe G.result span i (is_var kind) (Some t) s.value.ty x c1 G.names w.value d (written_same t p.value p.first ∙ ap Some same) (subst (InType x) same (fits_own x r.value.ty p.value (fitted_ok (misfit r.value.ty p.value) (expr_at e) tt v.first) o.0)) o.1 (need_ok (is_free i.text G.names) T01 i.span tt u.first) w.then,
-        λ x c1 o. o)
+        λ x c1 o. o,
+      )
 
   pub bind_safe : (span : Span) (kind : LocalKind) (b : Bind) (t : Option TypeExpr) (e : Expr) (G : Scope) (d : Done) (c : Core) → bind_rule span kind b t e G ≡ Ok d → Agrees base G.names c → Safe (our_claims base) (EndsBody base G.result true d.names) Thrown_in (Eval e c (λ x c1. bound_to span b (is_var kind) t x c1))
   bind_safe span kind (Single (Bound i)) None e G d c h a = local_untyped span kind i e G d c h a
@@ -218,14 +219,14 @@ module _ (base : List Entry) where
   names_agree (i ∷ is) T names ms c h a =
       let u = then_ok (need (is_free i.text names) T01 i.span) (names_rule is T (names ++ stored i.text T false true ∷ [])) ms h in
       names_agree is T (names ++ stored i.text T false true ∷ []) ms (declared i.text (initial_value T) T true c) u.then
-        (declared_agrees base names c i.text (initial_value T) T true a (need_ok (is_free i.text names) T01 i.span tt u.first) (initial_own T))
+      (declared_agrees base names c i.text (initial_value T) T true a (need_ok (is_free i.text names) T01 i.span tt u.first) (initial_own T))
 
   pub vars_safe : (span : Span) (is : List Ident) (t : TypeExpr) (G : Scope) (d : Done) (c : Core) → vars_rule is t G ≡ Ok d → Agrees base G.names c → Safe (our_claims base) (EndsBody base G.result true d.names) Thrown_in (declare_vars span is (written_layer (out-TypeExpr t)) c)
   vars_safe span is t G d c h a =
       let p = bind_ok (written t) (λ T. names_rule is T G.names >>= λ names. Ok (done names Pure)) d h in
       let q = bind_ok (names_rule is p.value G.names) (λ names. Ok (done names Pure)) d p.then in
       subst (λ o. Safe (our_claims base) (EndsBody base G.result true d.names) Thrown_in (declare_vars span is o c)) (sym (written_same t p.value p.first))
-        (ends_normal G.result q.value Pure d (declare_all is p.value c) q.then (names_agree is p.value G.names q.value c q.first a))
+      (ends_normal G.result q.value Pure d (declare_all is p.value c) q.then (names_agree is p.value G.names q.value c q.first a))
 
   -- ---- assignments
 
@@ -239,11 +240,13 @@ module _ (base : List Entry) where
       let s = bind_ok (found_or (storage_of i.text G.names) T02 i.span) (λ s. need s.is_mutable T14 i.span >> fitted (misfit t.value.ty s.ty) (expr_at e) >> ended G.class span true (greater t.value.effect (writing s)) >>= λ k. Ok (done G.names k)) d t.then in
       let m = then_ok (need s.value.is_mutable T14 i.span) (fitted (misfit t.value.ty s.value.ty) (expr_at e) >> ended G.class span true (greater t.value.effect (writing s.value)) >>= λ k. Ok (done G.names k)) d s.then in
       let f = then_ok (fitted (misfit t.value.ty s.value.ty) (expr_at e)) (ended G.class span true (greater t.value.effect (writing s.value)) >>= λ k. Ok (done G.names k)) d m.then in
-      let w = bind_ok (ended G.class span true (greater t.value.effect (writing s.value))) (λ k. Ok (done G.names k)) d f.then in
-      (record { scope = G; typed = t.value }, (t.first, a),
+      let w = bind_ok (ended G.class span true (greater t.value.effect (writing s.value))) (λ k. Ok (done G.names k)) d f.then in (
+        record { scope = G; typed = t.value },
+        (t.first, a),
         λ x c1 o. stored_safe G.result G.names w.value d (store span i.text x c1) c1
-          (store_agrees base G.names c1 span i.text x s.value o.1 (found_ok (storage_of i.text G.names) T02 i.span s.value s.first) (need_ok s.value.is_mutable T14 i.span tt m.first) (fits_own x t.value.ty s.value.ty (fitted_ok (misfit t.value.ty s.value.ty) (expr_at e) tt f.first) o.0)) w.then,
-        λ x c1 o. o)
+            (store_agrees base G.names c1 span i.text x s.value o.1 (found_ok (storage_of i.text G.names) T02 i.span s.value s.first) (need_ok s.value.is_mutable T14 i.span tt m.first) (fits_own x t.value.ty s.value.ty (fitted_ok (misfit t.value.ty s.value.ty) (expr_at e) tt f.first) o.0)) w.then,
+        λ x c1 o. o,
+      )
 
   place_safe : (span : Span) (i : Ident) (xs : List PlacedSuffix) (e : Expr) (G : Scope) (d : Done) (c : Core) → place_rule span i xs e G ≡ Ok d → Agrees base G.names c → Safe (our_claims base) (EndsBody base G.result true d.names) Thrown_in (Eval e c (λ x c1. lift (store_place span i xs x c1) c1 (λ c2. Ret Normal c2)))
   place_safe span i [] e G d c h a = assign_safe span i e G d c h a

@@ -10,7 +10,7 @@ use Rattle.asl_rules.specs.Belonging.{InType, has_type}
 use Rattle.asl_rules.specs.Agreement.{Holds, GlobalsMatch, global_matches, local_matches, FrameMatches, AllFresh, Agrees}
 use Rattle.asl_rules.specs.Plans.{Stuck, WrongKind, Immutable, Pure, Good, Bad}
 use Rattle.asl_rules.specs.Evaluation.{put_value, map_pure, stored_in, first_store, store}
-use Rattle.asl_rules.proofs.Lookups.{none_some, some_same, stored_same, no, not_here, skip_other, behind, before_is, storage_standing}
+use Rattle.asl_rules.proofs.Lookups.{none_some, some_same, stored_same, not_here, skip_other, behind, before_is, storage_standing}
 
 pub has_own : (x : Value) (T : Ty) → InType x T → has_type x T ≡ true
 has_own (int z) integer h = refl
@@ -49,10 +49,10 @@ step P Q true span name n x s u b bs o q k h m i here behind next =
     let e = stored_same u s (some_same (Stored u) (Stored s) h) in
     let j : InType x u.ty = subst (λ (t : Storage). InType x t.ty) (sym e) i in
     subst (λ d. Leaves Q (cond d (Some (map_pure (λ b1. b1 ∷ bs) (put_value span x b))) (option_map (map_pure (λ cs. b ∷ cs)) (stored_in span name x bs)))) (sym (ap (λ l. bytes_eq l name) k.name_is ∙ q))
-      (leaves_here Q bs (record b { value = x }) (put_value span x b) (put_good span x b (k.mutable_is ∙ ap (λ t. t.is_mutable) e ∙ m) (subst (InType x) (sym k.ty_is) j)) (here (kept_holds n u b x k j)))
+    (leaves_here Q bs (record b { value = x }) (put_value span x b) (put_good span x b (k.mutable_is ∙ ap (λ t. t.is_mutable) e ∙ m) (subst (InType x) (sym k.ty_is) j)) (here (kept_holds n u b x k j)))
 step P Q false span name n x s u b bs o q k h m i here behind next =
     subst (λ d. Leaves Q (cond d (Some (map_pure (λ b1. b1 ∷ bs) (put_value span x b))) (option_map (map_pure (λ cs. b ∷ cs)) (stored_in span name x bs)))) (sym (ap (λ l. bytes_eq l name) k.name_is ∙ q))
-      (leaves_behind P Q b (stored_in span name x bs) behind (next h))
+    (leaves_behind P Q b (stored_in span name x bs) behind (next h))
 
 frame_by : (span : Span) (name n : List ℕ) (x : Value) (s : Storage) (st : Standing) (es : List Entry) (b : Binding) (bs : List Binding) → local_matches n st b → FrameMatches es bs → cond (bytes_eq n name) (Some st) (standing_of name es) ≡ Some (Stored s) → s.is_mutable ≡ true → InType x s.ty →
     (standing_of name es ≡ Some (Stored s) → Leaves (FrameMatches es) (stored_in span name x bs)) → Leaves (FrameMatches (record { name = n; standing = st } ∷ es)) (stored_in span name x (b ∷ bs))
@@ -110,13 +110,13 @@ second_leaves P Q span f g o p e h k = subst (λ q. StoresTo P (first_store span
 by_base : (base names : List Entry) (c : Core) (span : Span) (name : List ℕ) (x : Value) (s : Storage) (a : Agrees base names c) (o : Option Standing) → standing_of name base ≡ o → standing_of name (base ++ a.locals) ≡ Some (Stored s) → s.is_mutable ≡ true → InType x s.ty → StoresTo (Agrees base names) (store span name x c)
 by_base base names c span name x s a None q h m i =
     first_leaves (Agrees base names) (FrameMatches a.locals) span (λ bs. record c { frame = bs }) (λ bs. record c { globals = bs }) (stored_in span name x c.frame) (stored_in span name x c.globals)
-      (frame_store span name x s a.locals c.frame a.frame (sym (behind base a.locals name q) ∙ h) m i)
-      (λ bs w. record { locals = a.locals; names_are = a.names_are; fresh = a.fresh; frame = w; globals = a.globals })
+    (frame_store span name x s a.locals c.frame a.frame (sym (behind base a.locals name q) ∙ h) m i)
+    (λ bs w. record { locals = a.locals; names_are = a.names_are; fresh = a.fresh; frame = w; globals = a.globals })
 by_base base names c span name x s a (Some st) q h m i =
     second_leaves (Agrees base names) (GlobalsMatch base) span (λ bs. record c { frame = bs }) (λ bs. record c { globals = bs }) (stored_in span name x c.frame) (stored_in span name x c.globals)
-      (absent_store span x base a.locals name st c.frame a.frame a.fresh q)
-      (global_store span name x s base c.globals a.globals (q ∙ sym (before_is base a.locals name st q) ∙ h) m i)
-      (λ bs w. record { locals = a.locals; names_are = a.names_are; fresh = a.fresh; frame = a.frame; globals = w })
+    (absent_store span x base a.locals name st c.frame a.frame a.fresh q)
+    (global_store span name x s base c.globals a.globals (q ∙ sym (before_is base a.locals name st q) ∙ h) m i)
+    (λ bs w. record { locals = a.locals; names_are = a.names_are; fresh = a.fresh; frame = a.frame; globals = w })
 
 pub store_agrees : (base names : List Entry) (c : Core) (span : Span) (name : List ℕ) (x : Value) (s : Storage) → Agrees base names c → storage_of name names ≡ Some s → s.is_mutable ≡ true → InType x s.ty → StoresTo (Agrees base names) (store span name x c)
 store_agrees base names c span name x s a h m i =

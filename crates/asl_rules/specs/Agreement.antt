@@ -1,8 +1,6 @@
 -- States that agree with scopes: each name that stands for storage has a value there that belongs to its type.
-use Rattle.std.specs.Prelude.{◌≡◌, ℕ, Bool, true, false, List, [], ◌∷◌, ◌++◌, Option, Some, None}
-use Rattle.asl_rules.specs.Types.{Ty}
-use Rattle.asl_rules.specs.Scopes.{Scope, Entry, Standing, Stored, Subprogram, Storage, standing_of}
-use Rattle.asl_rules.specs.Values.{Value}
+use Rattle.std.specs.Prelude.{◌≡◌, ℕ, List, [], ◌∷◌, ◌++◌, None}
+use Rattle.asl_rules.specs.Scopes.{Entry, Standing, Stored, Subprogram, Storage, standing_of}
 use Rattle.asl_rules.specs.States.{Binding, Core}
 use Rattle.asl_rules.specs.Belonging.{InType}
 

@@ -1,9 +1,9 @@
 -- The type and the effect of an expression, or its one fault. Each row has its conditions in order, each with its code and
 -- its place; the typing derivation asks that all hold, and the one fault is the first that fails.
-use Rattle.std.specs.Prelude.{ℕ, Bool, true, false, ◌&&◌, List, [], ◌∷◌, Option, Some, None, Result, Ok, Err}
+use Rattle.std.specs.Prelude.{ℕ, Bool, true, ◌&&◌, List, [], ◌∷◌, Result, Ok}
 use Rattle.asl_syn.specs.declared.token.Span.{Span}
 use Rattle.asl_syn.specs.declared.code.Fault.{Fault}
-use Rattle.asl_syn.specs.declared.code.StaticCode.TheVariants.{S03, T02, T05, T08, T12, T13}
+use Rattle.asl_syn.specs.declared.code.StaticCode.TheVariants.{S03, T02, T08, T12, T13}
 use Rattle.asl_syn.specs.declared.tree.Expr.{Expr}
 use Rattle.asl_syn.specs.declared.tree.Bitfield.TheOpen as ex
 use Rattle.asl_syn.specs.declared.tree.Bitfield.TheFolds.{fold-Expr, fold-TypeExpr}
@@ -17,7 +17,7 @@ use Rattle.asl_rules.specs.declared.effect.Effect.TheVariants.{Pure}
 use Rattle.asl_rules.specs.Faults.{◌>>=◌, ◌>>◌, need, fault, found_or}
 use Rattle.asl_rules.specs.Types.{Ty, integer, boolean, is_integer, is_boolean, same_kind}
 use Rattle.asl_rules.specs.Effects.{greater, at_most, together}
-use Rattle.asl_rules.specs.Scopes.{Scope, Storage, storage_of, reading}
+use Rattle.asl_rules.specs.Scopes.{Scope, storage_of, reading}
 
 pub record Typed : Type 0 where
   pub ty : Ty

@@ -20,5 +20,6 @@ pub mod Evaluation
 pub mod Agreement
 pub mod Machines
 pub mod Visits
+pub mod Soundness
 pub mod OneRun
 pub mod Report

@@ -1,16 +1,15 @@
 -- Which forms are served. A program has the fault S03 at the first node in source order whose form isn't, the outer one
 -- of two that begin together.
-use Rattle.std.specs.Prelude.{Bool, true, false, ◌&&◌, if◌then◌else◌, List, [], ◌∷◌, Option, Some, None, Result, Ok}
+use Rattle.std.specs.Prelude.{Bool, true, false, ◌&&◌, List, [], ◌∷◌, Option, Some, None, Result, Ok}
 use Rattle.asl_syn.specs.declared.token.Span.{Span}
 use Rattle.asl_syn.specs.declared.code.Fault.{Fault}
 use Rattle.asl_syn.specs.declared.code.StaticCode.TheVariants.{S03}
 use Rattle.asl_syn.specs.declared.tree.Expr.{Expr, out-Expr}
 use Rattle.asl_syn.specs.declared.tree.Bitfield.TheOpen as ex
-use Rattle.asl_syn.specs.declared.tree.Bitfield.TheFolds.{fold-Expr, fold-TypeExpr}
+use Rattle.asl_syn.specs.declared.tree.Bitfield.TheFolds.{fold-Expr}
 use Rattle.asl_syn.specs.declared.tree.TypeExpr.{TypeExpr, out-TypeExpr}
 use Rattle.asl_syn.specs.declared.tree.UnaryOperator.{UnaryOperator}
 use Rattle.asl_syn.specs.declared.tree.UnaryOperator.TheVariants as unary
-use Rattle.asl_syn.specs.declared.tree.Ident.{Ident}
 use Rattle.asl_syn.specs.declared.tree.Binder.TheVariants.{Bound, Unbound}
 use Rattle.asl_syn.specs.declared.tree.Bind.{Bind}
 use Rattle.asl_syn.specs.declared.tree.Bind.TheVariants.{Single, Several}
@@ -29,7 +28,7 @@ use Rattle.asl_syn.specs.declared.tree.Qualifier.{Qualifier}
 use Rattle.asl_syn.specs.declared.tree.Qualifier.TheVariants.{Unqualified, Pure, Readonly}
 use Rattle.asl_syn.specs.declared.tree.Decl.{Decl}
 use Rattle.asl_syn.specs.declared.tree.Decl.TheVariants as dc
-use Rattle.asl_syn.specs.Layers.{ExprLayer, TypeLayer, expr_layer_span, expr_span}
+use Rattle.asl_syn.specs.Layers.{ExprLayer, TypeLayer, expr_span}
 use Rattle.asl_rules.specs.Faults.{◌>>◌, none_at}
 
 abbrev pub is_empty : {A : Type 0} → List A → Bool

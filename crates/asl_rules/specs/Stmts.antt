@@ -1,5 +1,5 @@
 -- Statements in a scope: the scope after one and its effect, or its one fault; and whether the end of one can be reached.
-use Rattle.std.specs.Prelude.{ℕ, Bool, true, false, ◌&&◌, ◌||◌, if◌then◌else◌, List, [], ◌∷◌, ◌++◌, length, take, Option, Some, None, Result, Ok, Err}
+use Rattle.std.specs.Prelude.{Bool, true, false, ◌&&◌, ◌||◌, List, [], ◌∷◌, ◌++◌, length, take, Option, Some, None, Result, Ok}
 use Rattle.asl_syn.specs.declared.token.Span.{Span}
 use Rattle.asl_syn.specs.declared.code.Fault.{Fault}
 use Rattle.asl_syn.specs.declared.code.StaticCode.TheVariants.{S03, T01, T02, T05, T12, T13, T14, T18}
@@ -24,7 +24,7 @@ use Rattle.asl_rules.specs.declared.effect.Effect.TheVariants.{Pure, Readonly, W
 use Rattle.asl_rules.specs.Faults.{◌>>=◌, ◌>>◌, need, fault, found_or, fitted}
 use Rattle.asl_rules.specs.Types.{Ty, is_boolean, misfit}
 use Rattle.asl_rules.specs.Effects.{greater, lesser, at_most, all_together, greatest}
-use Rattle.asl_rules.specs.Scopes.{Scope, Entry, Storage, stored, storage_of, is_free, writing}
+use Rattle.asl_rules.specs.Scopes.{Scope, Entry, stored, storage_of, is_free, writing}
 use Rattle.asl_rules.specs.Exprs.{Typed, found, typed, written}
 
 -- the names that are visible after, and the effect
