@@ -12,3 +12,4 @@ pub mod OneReadingOfFiles
 pub mod Placing
 pub mod Fronts
 pub mod Files
+pub mod Faults

@@ -1,7 +1,9 @@
 //! The laws of lexemes.
 
-ghost use Rattle.std.specs.Prelude.{Result, Option, ◌≡◌, ◌⊎◌, ℕ, List};
+ghost use Rattle.std.specs.Prelude.{Result, Option, ◌≡◌, ◌⊎◌, ◌+◌, ◌≤◌, ℕ, List, All, length, map, vec_len};
 ghost use Rattle.std.specs.List.{AllByRecursion};
+ghost use Rattle.asl_syn.specs.Place.{IsPlaced};
+ghost use Rattle.asl_syn.specs.declared.place.Source.{Source};
 ghost use Rattle.asl_syn.specs.declared.token.Mark.{Mark};
 ghost use Rattle.asl_syn.specs.declared.token.Word.{Word};
 ghost use Rattle.asl_syn.specs.declared.token.Token.{Token};
@@ -39,6 +41,12 @@ pub fn one_reading_of_files()
 #[tactic(auto, using(crate::proofs::lexemes::Placing::tokens_stand))]
 pub fn texts_stand()
     ensures { (limit file : ℕ) (bytes : List ℕ) (ts : List Token) → Tokens limit file bytes ts → AllByRecursion (HasText limit file bytes) ts }
+{}
+
+/// The lexical fault of a file stands in it, and that of files has a line and a column.
+pub fn faults_stand()
+    ensures file { (limit file : ℕ) (bytes : List ℕ) (f : Fault) → LexFault limit file bytes f → (f.span.file ≡ file) × (f.span.start + f.span.len ≤ length bytes) }
+    ensures files { (limit : ℕ) (files : List Source) (f : Fault) → All (λ s. vec_len s.bytes ≤ 1048576) files → FirstLexFault limit 0 (map (λ s. s.bytes.items) files) f → IsPlaced files f.span }
 {}
 
 /// One state of the reading has one answer, so the end and the fault come again.

@@ -1,5 +1,5 @@
 -- What the scanner finds is the longest lexeme.
-use Rattle.std.proofs.Common.{◌≡◌, ℕ, ◌+◌, Bool, true, false, List, Option, Some, None, MatchOption, refl, subst, take, drop, cond}
+use Rattle.std.proofs.Common.{◌≡◌, ℕ, ◌+◌, Bool, true, false, List, Option, Some, None, refl, subst, take, drop, cond}
 use Rattle.asl_quote.specs.declared.QuoteState.{QuoteState}
 use Rattle.asl_quote.specs.declared.QuoteState.TheVariants as at
 use Rattle.asl_quote.specs.Bytes.{is_mask}
@@ -9,29 +9,24 @@ use Rattle.asl_quote.proofs.Quoting.{quote_run-end}
 use Rattle.asl_syn.specs.declared.token.TokenKind.{TokenKind}
 use Rattle.asl_syn.specs.declared.token.TokenKind.TheVariants as kinds
 use Rattle.asl_grammar.specs.lexemes.Gaps.{opens_block}
-use Rattle.asl_grammar.specs.lexemes.Lexemes.{LexemeAt, Longest}
+use Rattle.asl_grammar.specs.lexemes.Lexemes.{Longest}
 use Rattle.asl_grammar.specs.lexemes.Scanning.{lexeme_of}
-use Rattle.asl_grammar.proofs.lexemes.Lexing.{lexeme_is}
-use Rattle.asl_lex.specs.declared.scan.Found.{Found}
-use Rattle.asl_lex.specs.declared.scan.Found.TheVariants as founds
+use Rattle.asl_grammar.proofs.lexemes.LongestLexeme.{FoundAt, lexeme_is}
+use Rattle.asl_lex.specs.declared.lexeme.Found.{Found}
+use Rattle.asl_lex.specs.declared.lexeme.Found.TheVariants as founds
 use Rattle.asl_lex.specs.Found.{Finds, FindsAt, IsLarge, IsSmall}
-
-AtOption : List ℕ → Option (ℕ × TokenKind) → Type 0
-AtOption bytes o = MatchOption o ((n : ℕ) (k : TokenKind) → LexemeAt bytes n k → ⊥) (λ r. Longest bytes r.0 r.1)
 
 large : (bytes : List ℕ) (n m : ℕ) (k : TokenKind) → m ≡ n → IsLarge k → Longest bytes m k → FindsAt bytes (founds.TooLarge n)
 large bytes n m (kinds.Int v) e big h = (v, subst (λ z. Longest bytes z (kinds.Int v)) e h, big)
 large bytes n m _ e big h = absurd big
 
-from_option : (bytes : List ℕ) (found : Found) (o : Option (ℕ × TokenKind)) → Finds found o → AtOption bytes o → FindsAt bytes found
-unfolding AtOption
-from_option bytes (founds.Lexeme n k) o f a = (subst (AtOption bytes) f.0 a, f.1)
+from_option : (bytes : List ℕ) (found : Found) (o : Option (ℕ × TokenKind)) → Finds found o → FoundAt bytes o → FindsAt bytes found
+from_option bytes (founds.Lexeme n k) o f a = (subst (FoundAt bytes) f.0 a, f.1)
 from_option bytes (founds.TooLarge n) (Some r) f a = large bytes n r.0 r.1 f.0 f.1 a
 from_option bytes (founds.TooLarge n) None f a = absurd f
-from_option bytes founds.Nothing o f a = subst (AtOption bytes) f a
+from_option bytes founds.Nothing o f a = subst (FoundAt bytes) f a
 
 pub finds_at : (bytes : List ℕ) (found : Found) → opens_block bytes ≡ false → Finds found (lexeme_of bytes) → FindsAt bytes found
-unfolding AtOption
 finds_at bytes found apart f = from_option bytes found (lexeme_of bytes) f (lexeme_is bytes apart)
 
 small_cond : (m : Bool) → IsSmall (cond m kinds.Mask kinds.Bits)

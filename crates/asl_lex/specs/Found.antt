@@ -2,9 +2,10 @@
 use Rattle.std.specs.Prelude.{◌≡◌, ℕ, List, ◌<◌, ◌≤◌, ◌^◌, Option, Some, None, IsSomeAnd}
 use Rattle.asl_syn.specs.declared.token.TokenKind.{TokenKind}
 use Rattle.asl_syn.specs.declared.token.TokenKind.TheVariants as kinds
-use Rattle.asl_grammar.specs.lexemes.Lexemes.{LexemeAt, Longest}
-use Rattle.asl_lex.specs.declared.scan.Found.{Found}
-use Rattle.asl_lex.specs.declared.scan.Found.TheVariants as founds
+use Rattle.asl_grammar.specs.lexemes.Lexemes.{Longest}
+use Rattle.asl_grammar.specs.lexemes.Tokens.{NoLexeme}
+use Rattle.asl_lex.specs.declared.lexeme.Found.{Found}
+use Rattle.asl_lex.specs.declared.lexeme.Found.TheVariants as founds
 
 -- a number isn't too large
 abbrev pub IsSmall : TokenKind → Type 0
@@ -35,4 +36,4 @@ Finds founds.Nothing o = o ≡ None
 abbrev pub FindsAt : List ℕ → Found → Type 0
 FindsAt bytes (founds.Lexeme n k) = Longest bytes n k × IsSmall k
 FindsAt bytes (founds.TooLarge n) = (v : ℕ) × Longest bytes n (kinds.Int v) × (2 ^ 127 ≤ v)
-FindsAt bytes founds.Nothing = (n : ℕ) (k : TokenKind) → LexemeAt bytes n k → ⊥
+FindsAt bytes founds.Nothing = NoLexeme bytes

@@ -1,5 +1,4 @@
 // The words and the marks, and how each is spelled.
-#![tactic(auto)]
 
 ghost use Rattle.std.specs.Prelude.{◌≡◌};
 ghost use Rattle.asl_grammar.specs.lexemes.Words.{word_spelling, word_of};
@@ -229,6 +228,7 @@ fn mark_spelling(mark: Mark) -> &'static [u8]
     }
 }
 
+/// The word that is spelled so.
 #[tactic(auto, unfolding(asl_grammar::specs::lexemes::Words::word_of))]
 pub fn word_of(text: &[u8]) -> Option<Word>
     ensures { result ≡ word_of text.now }
@@ -236,6 +236,7 @@ pub fn word_of(text: &[u8]) -> Option<Word>
     WORDS.iter().copied().find(|w| word_spelling(*w) == text)
 }
 
+/// The mark that is spelled so.
 #[tactic(auto, unfolding(asl_grammar::specs::lexemes::Marks::mark_of))]
 pub fn mark_of(text: &[u8]) -> Option<Mark>
     ensures { result ≡ mark_of text.now }

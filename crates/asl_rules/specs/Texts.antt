@@ -1,5 +1,5 @@
 -- The exact texts: values, fault lines, and the lines that end an answer.
-use Rattle.std.specs.Prelude.{ℕ, ◌+◌, ◌==◌, ℤ, pos, negsuc, Bool, false, not, if◌then◌else◌, List, [], ◌∷◌, ◌++◌, take, slice_get, codes, true}
+use Rattle.std.specs.Prelude.{ℕ, ◌+◌, ℤ, pos, negsuc, Bool, false, if◌then◌else◌, List, [], ◌∷◌, ◌++◌, take, slice_get, codes, true}
 use Rattle.std.specs.Option.{option_map_or}
 use Rattle.std.specs.Fmt.{decimal}
 use Rattle.asl_syn.specs.declared.token.Span.{Span}
@@ -7,6 +7,7 @@ use Rattle.asl_syn.specs.declared.code.Fault.{Fault}
 use Rattle.asl_syn.specs.declared.code.DynCode.{DynCode}
 use Rattle.asl_syn.specs.Codes.{static_text, dynamic_text}
 use Rattle.asl_syn.specs.Place.{line_of, column_of}
+use Rattle.asl_rules.specs.Told.{open_after}
 use Rattle.asl_rules.specs.Values.{Value, int, bool}
 
 abbrev pub Text : Type 0
@@ -74,9 +75,7 @@ uncaught_line x = codes "uncaught " ++ (value_text x ++ line_feed)
 
 -- printed text that isn't empty and doesn't end in a line feed is open
 abbrev pub is_open : Text → Bool
-is_open [] = false
-is_open (b ∷ []) = not (b == 10)
-is_open (b ∷ c ∷ rest) = is_open (c ∷ rest)
+is_open text = open_after false text
 
 -- a line of the product begins on a line of its own
 abbrev pub closing : Text → Text

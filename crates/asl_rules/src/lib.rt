@@ -3,3 +3,4 @@
 
 pub mod effect;
 pub mod entry;
+pub mod law;

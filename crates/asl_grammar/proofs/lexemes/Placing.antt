@@ -20,10 +20,10 @@ drop_drop_is : (m n : ℕ) (a : List ℕ) → drop n (drop m a) ≡ drop (m + n)
 drop_drop_is m n a = grind (arith, common_steps, drop-drop)
 
 -- b is what is left of a behind n bytes
-record Suffix (a b : List ℕ) : Type 0 where
-  n : ℕ
-  fits : n ≤ length a
-  is : b ≡ drop n a
+pub record Suffix (a b : List ℕ) : Type 0 where
+  pub n : ℕ
+  pub fits : n ≤ length a
+  pub is : b ≡ drop n a
 
 Suffix_self : (a : List ℕ) → Suffix a a
 Suffix_self a = record { n = 0; fits = omega arith; is = refl }
@@ -74,14 +74,14 @@ piece_suffix [] left h = absurd cc
 piece_suffix (a ∷ []) left h = piece_one a left (is_blank a) h
 piece_suffix (a ∷ b ∷ rest) left h = piece_cases a b rest left (is_blank a) ((a == 47) && (b == 47)) ((a == 47) && (b == 42)) h
 
-Pieces_suffix : (n : ℕ) (bytes rest : List ℕ) → Pieces n bytes rest → Suffix bytes rest
+pub Pieces_suffix : (n : ℕ) (bytes rest : List ℕ) → Pieces n bytes rest → Suffix bytes rest
 Pieces_suffix zero bytes rest h = Suffix_is bytes bytes rest h (Suffix_self bytes)
 Pieces_suffix (suc n) bytes rest (next, one, more) = Suffix_more bytes next rest (piece_suffix bytes next one) (Pieces_suffix n next rest more)
 
 -- the scan stands in the bytes
 pub record Stands (bytes : List ℕ) (s : Scan) : Type 0 where
-  rest : s.rest ≡ drop s.place bytes
-  fits : s.place ≤ length bytes
+  pub rest : s.rest ≡ drop s.place bytes
+  pub fits : s.place ≤ length bytes
 
 name_before : (b : Bool) (given : ℕ) → cond b (Some L05) (too_many given) ≡ None → cond b (Some L05) (too_many 0) ≡ None
 name_before true given h = absurd cc
@@ -104,7 +104,7 @@ taken_before limit kinds.Text text given h = refl
 taken_before limit (kinds.Word w) text given h = refl
 taken_before limit (kinds.Mark m) text given h = refl
 
-token_stands : (bytes : List ℕ) (s x : Scan) (t : Token) → Stands bytes s → Yields s t x → HasText s.width_limit s.file bytes t × Stands bytes x
+pub token_stands : (bytes : List ℕ) (s x : Scan) (t : Token) → Stands bytes s → Yields s t x → HasText s.width_limit s.file bytes t × Stands bytes x
 token_stands bytes s x t st y =
     let suf = Pieces_suffix y.gap.count s.rest y.bytes y.gap.pieces in
     let size : length y.bytes ≡ length s.rest - suf.n = ap length suf.is ∙ length-drop suf.n s.rest in
@@ -128,7 +128,7 @@ token_stands bytes s x t st y =
       },
     )
 
-file_same : (s x : Scan) (t : Token) → Yields s t x → x.file ≡ s.file
+pub file_same : (s x : Scan) (t : Token) → Yields s t x → x.file ≡ s.file
 file_same s x t y = ap (λ (z : Scan). z.file) y.next
 
 limit_same : (s x : Scan) (t : Token) → Yields s t x → x.width_limit ≡ s.width_limit

@@ -1,4 +1,5 @@
--- How a lexeme is found: by its first byte.
+-- How the longest lexeme is found: by its first byte. These definitions serve private functions and proofs alone; that what
+-- they find is the longest lexeme is proved.
 use Rattle.std.specs.Prelude.{ℕ, ◌+◌, ◌==◌, ◌&&◌, Bool, true, false, List, [], ◌∷◌, Option, Some, None, take, drop, length, if◌then◌else◌}
 use Rattle.std.specs.List.{prefix_len}
 use Rattle.std.specs.Char.{is_ascii_digit}
@@ -56,7 +57,9 @@ kind_of_quote _ text = if is_mask text then kinds.Mask else kinds.Bits
 abbrev pub quoted_of : QuoteState → List ℕ → Option (ℕ × TokenKind)
 quoted_of state bytes =
     let n = 1 + quote_len state (drop 1 bytes) in
-    if is_closed (quote_run state (take (quote_len state (drop 1 bytes)) (drop 1 bytes))) then Some (n, kind_of_quote state (take n bytes)) else None
+    if is_closed (quote_run state (take (quote_len state (drop 1 bytes)) (drop 1 bytes)))
+    then Some (n, kind_of_quote state (take n bytes))
+    else None
 
 -- the length and the kind of the lexeme that begins here
 unfoldable pub lexeme_of : List ℕ → Option (ℕ × TokenKind)

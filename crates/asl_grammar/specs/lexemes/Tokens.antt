@@ -63,11 +63,22 @@ NoLexeme bytes = (n : ℕ) (k : TokenKind) → LexemeAt bytes n k → ⊥
 
 -- a fault of this code and length stands here
 pub data FaultAt (scan : Scan) : StaticCode → ℕ → Type 0 where
+  -- a comment that is never closed
   unclosed : opens_block scan.rest ≡ true → FaultAt scan L02 (length scan.rest)
-  malformed : {state : QuoteState} → opens_block scan.rest ≡ false → opens_quote scan.rest ≡ Some state → NoLexeme scan.rest → FaultAt scan L03 (1 + quote_len state (drop 1 scan.rest))
-  stray : 0 < length scan.rest → opens_block scan.rest ≡ false → opens_quote scan.rest ≡ None → NoLexeme scan.rest → FaultAt scan L01 1
-  refused : {code : StaticCode} {len : ℕ} (k : TokenKind) → Longest scan.rest len k → refusal scan.width_limit k (take len scan.rest) scan.given ≡ Some code → FaultAt scan code len
+  -- a quote that begins no literal
+  malformed : {state : QuoteState} →
+      opens_block scan.rest ≡ false → opens_quote scan.rest ≡ Some state → NoLexeme scan.rest →
+      FaultAt scan L03 (1 + quote_len state (drop 1 scan.rest))
+  -- another byte that begins no lexeme
+  stray :
+      0 < length scan.rest → opens_block scan.rest ≡ false → opens_quote scan.rest ≡ None → NoLexeme scan.rest →
+      FaultAt scan L01 1
+  -- a lexeme that is refused
+  refused : {code : StaticCode} {len : ℕ} (k : TokenKind) →
+      Longest scan.rest len k → refusal scan.width_limit k (take len scan.rest) scan.given ≡ Some code →
+      FaultAt scan code len
 
+-- such a fault, as it is reported
 pub record IsFaultAt (scan : Scan) (f : Fault) : Type 0 where
   pub fault : FaultAt scan f.code f.span.len
   pub inner_is : f.inner ≡ None
