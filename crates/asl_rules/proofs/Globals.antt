@@ -25,7 +25,7 @@ use Rattle.asl_rules.specs.Values.{int, bool}
 use Rattle.asl_rules.specs.States.{Binding}
 use Rattle.asl_rules.specs.Belonging.{InType}
 use Rattle.asl_rules.specs.Agreement.{GlobalsMatch, global_matches}
-use Rattle.asl_rules.specs.Evaluation.{literal_layer, initial_of, or_integer, type_of_global, written_of, global_of, initial_globals}
+use Rattle.asl_rules.specs.Evaluation.{ranged, literal_layer, initial_of, or_integer, type_of_global, written_of, global_of, initial_globals}
 use Rattle.asl_rules.proofs.Inversions.{ok_ok, err_ok, bind_ok, then_ok, fitted_ok}
 use Rattle.asl_rules.proofs.Lookups.{none_some, no}
 use Rattle.asl_rules.proofs.ExprForms.{finish_ok, opened, unrolled}
@@ -51,7 +51,7 @@ negated_typed span unary.Not e S i h = no i
 negated_typed span unary.Complement e S i h = no i
 
 literal_own : (layer : ExprLayer) (S : Typed) → is_literal layer ≡ true → typed_rule (opened layer) bare ≡ Ok S → InType (literal_layer layer) S.ty
-literal_own (ex.Int span n) S i h = subst (InType (int (pos n))) (finish_ok bare.class span true Pure integer S h) tt
+literal_own (ex.Int span n) S i h = subst (InType (int (ranged (pos n)))) (finish_ok bare.class span true Pure integer S h) tt
 literal_own (ex.Bool span b) S i h = subst (InType (bool b)) (finish_ok bare.class span true Pure boolean S h) tt
 literal_own (ex.Unary span o e) S i h = subst (InType (literal_layer (ex.Unary span o e))) (negated_typed span o e S i h) tt
 literal_own layer S i h = no i

@@ -1,6 +1,6 @@
 -- What expressions and statements do, over the untyped trees: names are found by name, and no type is consulted but those
 -- that are written at places.
-use Rattle.std.specs.Prelude.{ℕ, pos, ◌-ℤ◌, Bool, true, false, if◌then◌else◌, List, [], ◌∷◌, ◌++◌, length, take, slice_get, option_map, Option, Some, None}
+use Rattle.std.specs.Prelude.{ℕ, ℤ, pos, ◌-ℤ◌, Bool, true, false, if◌then◌else◌, List, [], ◌∷◌, ◌++◌, length, take, slice_get, option_map, Option, Some, None}
 use Rattle.std.specs.Str.{bytes_eq}
 use Rattle.asl_syn.specs.declared.token.Span.{Span}
 use Rattle.asl_syn.specs.declared.code.DynCode.TheVariants.{D08}
@@ -39,7 +39,7 @@ use Rattle.asl_rules.specs.Values.{Value, int, bool, Exit, Normal, Returned}
 use Rattle.asl_rules.specs.States.{Binding, Core}
 use Rattle.asl_rules.specs.Belonging.{type_of, has_type}
 use Rattle.asl_rules.specs.Plans.{Faulted, Stuck, UnknownName, WrongKind, Immutable, EndReached, UnservedForm, Plan, Ret, Raise, Stop, Eval, Exec, Put, Within, choose, follow, Pure, Good, Bad, lift, Meaning, Nodes, meanings}
-use Rattle.asl_rules.specs.Operators.{integer_of, binary_value, unary_value, truth, Decided, Already, ByRight, Strictness, Strict, Lazy, strictness}
+use Rattle.asl_rules.specs.Operators.{in_range, integer_of, binary_value, unary_value, truth, Decided, Already, ByRight, Strictness, Strict, Lazy, strictness}
 use Rattle.asl_rules.specs.Strings.{string_text}
 use Rattle.asl_rules.specs.Texts.{value_text}
 use Rattle.asl_rules.specs.Cuts.{Cutting, cuttings}
@@ -292,11 +292,15 @@ abbrev pub number_of : ExprLayer → ℕ
 number_of (ex.Int span n) = n
 number_of layer = 0
 
+-- a number within the range, where no literal is beyond it
+abbrev pub ranged : ℤ → ℤ
+ranged z = if in_range z then z else pos 0
+
 -- the value of a literal
 abbrev pub literal_layer : ExprLayer → Value
-literal_layer (ex.Int span n) = int (pos n)
+literal_layer (ex.Int span n) = int (ranged (pos n))
 literal_layer (ex.Bool span b) = bool b
-literal_layer (ex.Unary span o e) = int (pos 0 -ℤ pos (number_of (out-Expr e)))
+literal_layer (ex.Unary span o e) = int (ranged (pos 0 -ℤ pos (number_of (out-Expr e))))
 literal_layer layer = int (pos 0)
 
 abbrev pub initial_of : Option Ty → Option Expr → Value
