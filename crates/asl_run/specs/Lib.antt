@@ -1,4 +1,6 @@
 pub mod View
 pub mod Meets
+pub mod Numbers
+pub mod Places
 pub mod Stages
 pub mod Work

@@ -1,16 +1,23 @@
 -- How the interpreter's answers are related to the rules.
-use Rattle.std.specs.Prelude.{◌≡◌, ◌≤◌, ℕ, List, Option, Result, Ok, Err}
+use Rattle.std.specs.Prelude.{◌≡◌, ◌≤◌, ℕ, Bool, List, ◌++◌, drop, Option, Result, Ok, Err}
 use Rattle.asl_io.specs.Faults.{Rises}
 use Rattle.asl_syn.specs.declared.tree.Decl.{Decl}
-use Rattle.asl_rules.specs.States.{Core}
+use Rattle.asl_syn.specs.declared.tree.Expr.{Expr}
+use Rattle.asl_syn.specs.declared.tree.Stmt.{Stmt}
+use Rattle.asl_rules.specs.States.{Binding, Core}
 use Rattle.asl_rules.specs.Plans.{Meter, Faulted, Stuck, Outcome, Done, Thrown, Halt, run, Pure, Good, Bad}
 use Rattle.asl_rules.specs.Cuts.{cuts}
 use Rattle.asl_rules.specs.Evaluation.{Does, meaning, cutting}
+use Rattle.asl_rules.specs.Strings.{unescaped}
+use Rattle.asl_rules.specs.Told.{appended, open_after, Part}
+use Rattle.asl_rules.specs.Values as rules
+use Rattle.asl_value.specs.declared.value.Value.{Value}
 use Rattle.asl_value.specs.View.{value_of}
+use Rattle.asl_run.specs.declared.stop.Exit.{Exit}
 use Rattle.asl_run.specs.declared.stop.Stop.{Stop}
 use Rattle.asl_run.specs.declared.stop.Stop.TheVariants as stop
 use Rattle.asl_run.specs.declared.store.Store.{Store}
-use Rattle.asl_run.specs.View.{mistake_of, core_of, meter_of}
+use Rattle.asl_run.specs.View.{exit_of, mistake_of, core_of, meter_of}
 
 -- an answer, with what stands after it, is what the rules give; or the run was given up at one of these meters
 abbrev pub Meets : {A B : Type 0} → (A → B) → Result A Stop → Core → Meter → Outcome Core B → (Meter → Type 0) → Type 0
@@ -21,9 +28,24 @@ Meets view (Err (stop.Thrown x)) c h r C = r ≡ Thrown (value_of x) c h
 Meets view (Err (stop.Fault code span)) c h r C = r ≡ Halt (Faulted code span) c h
 Meets view (Err (stop.Stuck mistake span)) c h r C = r ≡ Halt (Stuck (mistake_of mistake) span) c h
 
--- an answer is that of a plan, where d nodes more may be open
-abbrev pub MeetsPlan : {A B : Type 0} → (A → B) → Result A Stop → Store → Option (List ℕ) → List Decl → ℕ → Does B → Meter → Type 0
-MeetsPlan view result s told ds d q h = Meets view result (core_of s) (meter_of s told) (run (meaning ds d) q h) (cuts (meaning ds d) (cutting ds d) q h)
+-- from one store and told text to another, an answer is that of a plan, where d nodes more may be open
+abbrev pub Runs : {A B : Type 0} → (A → B) → Result A Stop → List Decl → ℕ → (Core → Does B) → Store → Option (List ℕ) → Store → Option (List ℕ) → Type 0
+Runs view result ds d q s told s1 told1 =
+    Meets view result (core_of s1) (meter_of s1 told1) (run (meaning ds d) (q (core_of s)) (meter_of s told)) (cuts (meaning ds d) (cutting ds d) (q (core_of s)) (meter_of s told))
+
+-- that of an expression
+abbrev pub Evaluates : Result Value Stop → List Decl → ℕ → Expr → Store → Option (List ℕ) → Store → Option (List ℕ) → Type 0
+Evaluates result ds d e s told s1 told1 =
+    Meets value_of result (core_of s1) (meter_of s1 told1) ((meaning ds d).expr e (core_of s) (meter_of s told)) ((cutting ds d).expr e (core_of s) (meter_of s told))
+
+-- that of a statement
+abbrev pub Executes : Result Exit Stop → List Decl → ℕ → Stmt → Store → Option (List ℕ) → Store → Option (List ℕ) → Type 0
+Executes result ds d t s told s1 told1 =
+    Meets exit_of result (core_of s1) (meter_of s1 told1) ((meaning ds d).stmt t (core_of s) (meter_of s told)) ((cutting ds d).stmt t (core_of s) (meter_of s told))
+
+-- an answer is that of a plan which enters no node and writes nothing
+abbrev pub Acts : Result Exit Stop → (Core → Does rules.Exit) → Store → Store → Type 0
+Acts result q s s1 = (ds : List Decl) (d : ℕ) (told : Option (List ℕ)) → Runs exit_of result ds d q s told s1 told
 
 -- an operator's answer, or want of memory
 abbrev pub Is : {A B : Type 0} → (A → B) → Result A Stop → Pure B → Type 0
@@ -33,6 +55,40 @@ Is view (Err stop.SinkFault) r = ⊥
 Is view (Err (stop.Thrown x)) r = ⊥
 Is view (Err (stop.Fault code span)) r = r ≡ Bad (Faulted code span)
 Is view (Err (stop.Stuck mistake span)) r = r ≡ Bad (Stuck (mistake_of mistake) span)
+
+-- an answer is that of a store among bindings, which are as they were where it isn't good
+abbrev pub Puts : Result (Unit {0}) Stop → List Binding → List Binding → Pure (List Binding) → Type 0
+Puts (Ok x) bs bs1 r = r ≡ Good bs1
+Puts (Err stop.NoMemory) bs bs1 r = ⊥
+Puts (Err stop.SinkFault) bs bs1 r = ⊥
+Puts (Err (stop.Thrown x)) bs bs1 r = ⊥
+Puts (Err (stop.Fault code span)) bs bs1 r = (r ≡ Bad (Faulted code span)) × (bs1 ≡ bs)
+Puts (Err (stop.Stuck mistake span)) bs bs1 r = (r ≡ Bad (Stuck (mistake_of mistake) span)) × (bs1 ≡ bs)
+
+-- bytes were written, or where the sink refused them some of them; from whether text is open, and told text, to the same
+abbrev pub Writes : Result (Unit {0}) Stop → List ℕ → Bool → Option (List ℕ) → Bool → Option (List ℕ) → Type 0
+Writes (Ok x) bytes o told o1 told1 = (told1 ≡ appended told bytes) × (o1 ≡ open_after o bytes)
+Writes (Err stop.NoMemory) bytes o told o1 told1 = ⊥
+Writes (Err stop.SinkFault) bytes o told o1 told1 = Part told told1 bytes
+Writes (Err (stop.Thrown x)) bytes o told o1 told1 = ⊥
+Writes (Err (stop.Fault code span)) bytes o told o1 told1 = ⊥
+Writes (Err (stop.Stuck mistake span)) bytes o told o1 told1 = ⊥
+
+-- bytes were written but for the rest
+pub record WroteFront (bytes rest : List ℕ) (o : Bool) (told : Option (List ℕ)) (o1 : Bool) (told1 : Option (List ℕ)) : Type 0 where
+  pub front : List ℕ
+  pub whole : bytes ≡ front ++ rest
+  pub told_is : told1 ≡ appended told front
+  pub open_is : o1 ≡ open_after o front
+
+-- a piece of a string's text was written, and the answer is how much of what stands there that took
+abbrev pub WritesPiece : Result ℕ Stop → List ℕ → Bool → Option (List ℕ) → Bool → Option (List ℕ) → Type 0
+WritesPiece (Ok n) text o told o1 told1 = WroteFront (unescaped text) (unescaped (drop n text)) o told o1 told1
+WritesPiece (Err stop.NoMemory) text o told o1 told1 = ⊥
+WritesPiece (Err stop.SinkFault) text o told o1 told1 = Part told told1 (unescaped text)
+WritesPiece (Err (stop.Thrown x)) text o told o1 told1 = ⊥
+WritesPiece (Err (stop.Fault code span)) text o told o1 told1 = ⊥
+WritesPiece (Err (stop.Stuck mistake span)) text o told o1 told1 = ⊥
 
 -- the sink's count of faults rose where it refused a write, and is as it was elsewhere
 abbrev pub Counts : {A : Type 0} → Result A Stop → ℕ → ℕ → Type 0

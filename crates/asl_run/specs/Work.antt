@@ -4,12 +4,17 @@ use Rattle.std.specs.Coded.{Coded, code_by, coded×, coded_ℕ, coded_bool, code
 use Rattle.asl_syn.specs.declared.tree.Decl.{Decl}
 use Rattle.asl_syn.specs.declared.tree.Func.{Func}
 use Rattle.asl_tree.specs.Accepted.{Accepted, accepted_code}
-use Rattle.asl_rules.specs.States.{Core}
 use Rattle.asl_rules.specs.Values as rules
 use Rattle.asl_rules.specs.Plans.{starting}
+use Rattle.asl_rules.specs.States.{Core}
+use Rattle.asl_rules.specs.States as states
 use Rattle.asl_rules.specs.Plans as plans
 use Rattle.asl_rules.specs.Programs.{funcs_of}
 use Rattle.asl_rules.specs.Belonging.{Belong}
+use Rattle.asl_rules.specs.Scopes.{Entry}
+use Rattle.asl_rules.specs.Agreement.{GlobalsMatch}
+use Rattle.asl_rules.specs.Evaluation.{initial_globals}
+use Rattle.asl_rules.specs.Soundness.{NamesOf}
 use Rattle.asl_rules.specs.Machines.{run_of, text_of_run}
 use Rattle.asl_value.specs.declared.binding.Binding.{Binding}
 use Rattle.asl_value.specs.contracts.binding.Binding as binding
@@ -33,9 +38,17 @@ work_code = code_by (Accepted × (List Binding × (ℕ × (Bool × Stage))))
     (λ w. (w.checked, (w.globals, (w.steps, (w.text_open, w.stage)))))
     (λ p. record { checked = p.0; globals = p.1.0; steps = p.1.1.0; text_open = p.1.1.1.0; stage = p.1.1.1.1 }) (λ _. refl)
 
--- a machine before its first call
-abbrev pub begins_with : Accepted → ℕ → Work
-begins_with checked steps = record { checked = checked; globals = []; steps = steps; text_open = false; stage = stage.Ready None }
+-- a machine before its first call: the globals at their initial values, and nothing printed or returned
+pub record IsNew (w : Work) (checked : Accepted) (steps : ℕ) : Type 0 where
+  pub checked_is : w.checked ≡ checked
+  pub globals_are : bindings_of w.globals ≡ initial_globals checked.decls
+  pub steps_are : w.steps ≡ steps
+  pub text_is_closed : w.text_open ≡ false
+  pub stage_is : w.stage ≡ stage.Ready None
+
+-- globals that hold the storage that a program declares
+abbrev pub HoldStorage : List Decl → List states.Binding → Type 0
+HoldStorage ds globals = ∥ ((names : List Entry) × NamesOf ds names × GlobalsMatch names globals) ∥₁
 
 -- a subprogram of the program that has no parameters, with arguments in the types of its formals
 pub record IsCallable (ds : List Decl) (id : ℕ) (args : List rules.Value) : Type 0 where
@@ -53,5 +66,5 @@ abbrev pub text_with : Work → ℕ → List rules.Value → Option (List ℕ) �
 text_with w id args told = text_of_run w.checked.decls id args (bindings_of w.globals) told
 
 -- the run ended in this state, with this text told
-abbrev pub ends_with : Work → Option (List ℕ) → plans.Outcome Core (Option rules.Value) → Type 0
-ends_with w told r = Ends w.stage (bindings_of w.globals) (record { steps = w.steps; told = told; text_open = w.text_open }) r
+abbrev pub EndsWith : Work → Option (List ℕ) → plans.Outcome Core (Option rules.Value) → Type 0
+EndsWith w told r = Ends w.stage (bindings_of w.globals) (record { steps = w.steps; told = told; text_open = w.text_open }) r

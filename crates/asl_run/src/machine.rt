@@ -5,14 +5,14 @@ ghost use Rattle.asl_rules.specs.Cuts.{cuts};
 ghost use Rattle.asl_rules.specs.Evaluation.{meaning, cutting, call_of};
 ghost use Rattle.asl_rules.specs.Machines.{GivenUp, most_open, resting, run_of, text_of_run};
 ghost use Rattle.asl_rules.specs.Plans.{starting};
-ghost use Rattle.asl_rules.specs.Belonging.{AllBelong};
 ghost use Rattle.asl_value.specs.View.{value_of, bindings_of};
 ghost use Rattle.asl_run.specs.Meets.{Meets, Counts};
 ghost use Rattle.asl_run.specs.View.{core_of, meter_of};
 ghost use Rattle.asl_run.specs.Stages.{Ends, is_ready, OnReady, OnEnded, OnRefused, answer_of, returned_by, uncaught_by, Counted};
-ghost use Rattle.asl_run.specs.Work.{Work, IsCallable, begins_with, run_with, text_with, ends_with};
+ghost use Rattle.asl_run.specs.Work.{Work, IsCallable, IsNew, HoldStorage, run_with, text_with, EndsWith};
 
-use crate::run;
+use crate::calls;
+use crate::globals::initial_globals;
 use crate::stop::Stop;
 use crate::store::Store;
 use asl_io::Sink;
@@ -25,7 +25,7 @@ use std::alloc::{AllocError, Global};
 use std::marker::Model;
 use std::mem;
 
-/// A global variable: its name, its value and the type that the value is stored under.
+/// A global variable: its name and value, and the type that the value is stored under.
 pub type GlobalVar = Binding;
 
 /// How a run ends.
@@ -68,10 +68,9 @@ pub struct Machine {
 }
 
 impl Model for Machine {
-    ghost use Rattle.asl_rules.specs.Belonging.{AllBelong};
     ghost use Rattle.asl_value.specs.View.{bindings_of};
     ghost use Rattle.asl_run.specs.Stages.{OnReady};
-    ghost use Rattle.asl_run.specs.Work.{Work, work_code};
+    ghost use Rattle.asl_run.specs.Work.{Work, work_code, HoldStorage};
 
     ghost Value = { Work };
 
@@ -79,17 +78,18 @@ impl Model for Machine {
 
     ghost view = { λ m. record { checked = m.checked; globals = m.globals.items; steps = m.steps; text_open = m.text_open; stage = m.stage } };
 
-    ghost invariant = { λ m. ∥ OnReady m.stage (AllBelong (bindings_of m.globals.items)) ∥₁ };
+    ghost invariant = { λ m. OnReady m.stage (HoldStorage m.checked.decls (bindings_of m.globals.items)) };
 }
 
 impl Machine {
     /// A machine for this program, its globals at their initial values, with so many steps left.
     pub fn new(alloc: Global, checked: Checked, steps: u64) -> Result<Machine, AllocError>
-        ensures { IfOk result (λ m. m ≡ begins_with checked steps) }
+        ensures { IfOk result (λ m. IsNew m checked steps) }
     {
+        let globals = initial_globals(alloc, checked.program().decls.as_slice())?;
         Ok(Machine {
             checked,
-            globals: Vec::new(alloc),
+            globals,
             steps,
             text_open: false,
             stage: Stage::Ready(None),
@@ -109,10 +109,18 @@ impl Machine {
         requires { IsCallable self.old.checked.decls sub (map value_of args.items) }
         ensures answer { result ≡ answer_of self.new.stage }
         ensures checked { self.new.checked ≡ self.old.checked }
-        ensures outcome { OnReady self.old.stage (ends_with self.new (K.written sink.new) (run_with self.old sub (map value_of args.items) (K.written sink.old))) }
-        ensures given_up { OnReady self.old.stage (OnErr result (GivenUp (text_with self.old sub (map value_of args.items) (K.written sink.old)) (K.written sink.old) (K.written sink.new) self.old.steps (self.old.steps - self.new.steps))) }
-        ensures again { OnEnded self.old.stage ((self.new ≡ self.old) × (K.written sink.new ≡ K.written sink.old)) }
-        ensures counts { OnReady self.old.stage (Counted self.new.stage (K.faults sink.old) (K.faults sink.new)) }
+        ensures outcome { OnReady self.old.stage
+            (EndsWith self.new (K.written sink.new)
+            (run_with self.old sub (map value_of args.items) (K.written sink.old))) }
+        ensures given_up { OnReady self.old.stage
+            (OnErr result
+            (GivenUp (text_with self.old sub (map value_of args.items) (K.written sink.old))
+            (K.written sink.old) (K.written sink.new)
+            self.old.steps (self.old.steps - self.new.steps))) }
+        ensures again { OnEnded self.old.stage
+            ((self.new ≡ self.old) × (K.written sink.new ≡ K.written sink.old)) }
+        ensures counts { OnReady self.old.stage
+            (Counted self.new.stage (K.faults sink.old) (K.faults sink.new)) }
         ensures counts_again { OnEnded self.old.stage (K.faults sink.new ≡ K.faults sink.old) }
         ensures same_full { K.full sink.new ≡ K.full sink.old }
     {
@@ -222,10 +230,18 @@ fn run_checked<K: Sink>(
     requires live { store.old.live.items ≡ [] }
     requires text { store.old.text_open ≡ false }
     requires callable { IsCallable checked.now.decls sub (map value_of args.items) }
-    requires belong { ∥ AllBelong (bindings_of store.old.globals.items) ∥₁ }
-    ensures outcome { Ends result (bindings_of store.new.globals.items) (meter_of store.new (K.written sink.new)) (run_of checked.now.decls sub (map value_of args.items) (bindings_of store.old.globals.items) (starting store.old.steps (K.written sink.old))) }
-    ensures given_up { OnRefused result (GivenUp (text_of_run checked.now.decls sub (map value_of args.items) (bindings_of store.old.globals.items) (K.written sink.old)) (K.written sink.old) (K.written sink.new) store.old.steps (store.old.steps - store.new.steps)) }
-    ensures sound { OnReady result ∥ AllBelong (bindings_of store.new.globals.items) ∥₁ }
+    requires storage { HoldStorage checked.now.decls (bindings_of store.old.globals.items) }
+    ensures outcome { Ends result
+        (bindings_of store.new.globals.items) (meter_of store.new (K.written sink.new))
+        (run_of checked.now.decls sub (map value_of args.items) (bindings_of store.old.globals.items)
+        (starting store.old.steps (K.written sink.old))) }
+    ensures given_up { OnRefused result
+        (GivenUp (text_of_run checked.now.decls sub (map value_of args.items)
+        (bindings_of store.old.globals.items) (K.written sink.old))
+        (K.written sink.old) (K.written sink.new)
+        store.old.steps (store.old.steps - store.new.steps)) }
+    ensures storage { OnReady result
+        (HoldStorage checked.now.decls (bindings_of store.new.globals.items)) }
     ensures counts { Counted result (K.faults sink.old) (K.faults sink.new) }
     ensures same_full { K.full sink.new ≡ K.full sink.old }
 {
@@ -253,11 +269,17 @@ fn run_decls<K: Sink>(
     requires frame { store.old.frame.items ≡ [] }
     requires live { store.old.live.items ≡ [] }
     requires text { store.old.text_open ≡ false }
-    ensures meets { Meets (option_map value_of) result (core_of store.new) (meter_of store.new (K.written sink.new)) (run_of decls.now sub (map value_of args.items) (bindings_of store.old.globals.items) (starting store.old.steps (K.written sink.old))) (cuts (meaning decls.now most_open) (cutting decls.now most_open) (call_of decls.now sub (map value_of args.items) (resting (bindings_of store.old.globals.items))) (starting store.old.steps (K.written sink.old))) }
+    ensures meets { Meets (option_map value_of) result
+        (core_of store.new) (meter_of store.new (K.written sink.new))
+        (run_of decls.now sub (map value_of args.items) (bindings_of store.old.globals.items)
+        (starting store.old.steps (K.written sink.old)))
+        (cuts (meaning decls.now most_open) (cutting decls.now most_open)
+        (call_of decls.now sub (map value_of args.items) (resting (bindings_of store.old.globals.items)))
+        (starting store.old.steps (K.written sink.old))) }
     ensures counts { Counts result (K.faults sink.old) (K.faults sink.new) }
     ensures same_full { K.full sink.new ≡ K.full sink.old }
 {
-    run::call(alloc, decls, store, sink, open_limit(), sub, args)
+    calls::call(alloc, decls, store, sink, open_limit(), sub, args)
 }
 
 #[tactic(auto, unfolding(asl_rules::specs::Machines::most_open))]

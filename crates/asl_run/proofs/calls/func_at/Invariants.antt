@@ -1,7 +1,7 @@
 use Rattle.std.proofs.Common.{◌≡◌, drop}
 use Rattle.std.specs.Prelude.{slice_get}
 use Rattle.asl_rules.specs.Programs.{funcs_of}
-use Rattle.asl_run.proofs.leaves.func_at.Given as goal
+use Rattle.asl_run.proofs.calls.func_at.Given as goal
 
 -- the subprogram stands so far behind in what is left
 abbrev pub invariant-loop-d : goal.invariant-loop-d
