@@ -71,9 +71,6 @@ none_above n h = grind (arith, ints)
 below_none : (n : ℕ) → negsuc n ≤ℤ pos 0
 below_none n = grind (arith, ints)
 
-negative : (n : ℕ) → negsuc n <ℤ pos 0
-negative n = grind (arith, ints)
-
 -- a divisor above 0 or not
 divides : (span : Span) (r : Result ℤ NumFault) (b : ℤ) (f : ℕ → Pure Value) → (b ≤ℤ pos 0 → r ≡ Err Divisor) → ((n : ℕ) → b ≡ pos n → 0 < n → answer_of span r ≡ f n) → answer_of span r ≡ divided span b f
 divides span r (negsuc n) f low high = ap (answer_of span) (low (below_none n))
@@ -83,12 +80,6 @@ divides span r (pos n) f low high = by (nat_lt 0 n) refl
     by true e = high n refl (grind arith)
     by false e = ap (answer_of span) (low (none_above n e))
 
-pub floors : (span : Span) (r : Result ℤ NumFault) (a b : ℤ) → IsFloor r a b → answer_of span r ≡ divided span b (λ n. Good (int (floor_div a n)))
-floors span r a b h = divides span r b (λ n. Good (int (floor_div a n))) h.0 (λ n e p. ap (answer_of span) (h.1 n e p))
-
-pub remains : (span : Span) (r : Result ℤ NumFault) (a b : ℤ) → IsRemainder r a b → answer_of span r ≡ divided span b (λ n. Good (int (pos (floor_mod a n))))
-remains span r a b h = divides span r b (λ n. Good (int (pos (floor_mod a n)))) h.0 (λ n e p. ap (answer_of span) (h.1 n e p))
-
 quotient_by : (span : Span) (r : Result ℤ NumFault) (a : ℤ) (n : ℕ) (t : Bool) → (floor_mod a n == 0) ≡ t → (floor_mod a n ≢ 0 → r ≡ Err Inexact) → (floor_mod a n ≡ 0 → r ≡ Ok (floor_div a n)) →
     answer_of span r ≡ cond t (Good (int (floor_div a n))) (Bad (Faulted D03 span))
 quotient_by span r a n true e h k = ap (answer_of span) (k (grind arith))
@@ -96,17 +87,3 @@ quotient_by span r a n false e h k = ap (answer_of span) (h (grind arith))
 
 pub divides_exactly : (span : Span) (r : Result ℤ NumFault) (a b : ℤ) → IsQuotient r a b → answer_of span r ≡ divided span b (quotient span a)
 divides_exactly span r a b h = divides span r b (quotient span a) h.0 (λ n e p. quotient_by span r a n (floor_mod a n == 0) refl (h.1 n e p).0 (h.1 n e p).1)
-
--- a right operand of at least 0 or not
-raises : (span : Span) (r : Result ℤ NumFault) (b : ℤ) (f : ℕ → Pure Value) → (b <ℤ pos 0 → r ≡ Err Negative) → ((n : ℕ) → b ≡ pos n → answer_of span r ≡ f n) → answer_of span r ≡ raised span b f
-raises span r (negsuc n) f low high = ap (answer_of span) (low (negative n))
-raises span r (pos n) f low high = high n refl
-
-pub powers : (span : Span) (r : Result ℤ NumFault) (a b : ℤ) → IsPower r a b → answer_of span r ≡ raised span b (λ n. integer_of span (int_pow a n))
-powers span r a b h = raises span r b (λ n. integer_of span (int_pow a n)) h.0 (λ n e. exact span r (int_pow a n) (h.1 n e))
-
-pub shifts_up : (span : Span) (r : Result ℤ NumFault) (a b : ℤ) → IsShiftLeft r a b → answer_of span r ≡ raised span b (λ n. integer_of span (a *ℤ pos (2 ^ n)))
-shifts_up span r a b h = raises span r b (λ n. integer_of span (a *ℤ pos (2 ^ n))) h.0 (λ n e. exact span r (a *ℤ pos (2 ^ n)) (h.1 n e))
-
-pub shifts_down : (span : Span) (r : Result ℤ NumFault) (a b : ℤ) → IsShiftRight r a b → answer_of span r ≡ raised span b (λ n. Good (int (floor_div a (2 ^ n))))
-shifts_down span r a b h = raises span r b (λ n. Good (int (floor_div a (2 ^ n)))) h.0 (λ n e. ap (answer_of span) (h.1 n e))

@@ -1,6 +1,6 @@
 -- What a call of a checked program can rely on.
 use mathlib.Core.HLevel.{⊥_prop}
-use Rattle.std.proofs.Common.{◌≡◌, ℕ, ◌-◌, List, Option, refl, sym, ◌∙◌, subst}
+use Rattle.std.proofs.Common.{◌≡◌, ℕ, ◌-◌, true, List, Option, sym, ◌∙◌, subst}
 use Rattle.std.proofs.Math.Logic.{∥∥₁_elim, ∥∥₁_map, ∥∥₁_prop}
 use Rattle.asl_syn.specs.declared.token.Span.{Span}
 use Rattle.asl_syn.specs.declared.tree.Decl.{Decl}
@@ -20,6 +20,9 @@ use Rattle.asl_rules.proofs.Inversions.{ok_ok}
 use Rattle.asl_rules.proofs.Soundness.{soundness}
 use Rattle.asl_rules.proofs.Quiet.{given_up}
 use Rattle.asl_rules.proofs.Calls.{call_quiet}
+use Rattle.asl_run.specs.declared.machine.Stage.{Stage}
+use Rattle.asl_run.specs.declared.machine.Stage.TheVariants as stage
+use Rattle.asl_run.specs.Stages.{is_ready, OnReady}
 use Rattle.asl_run.specs.Work.{IsCallable, HoldStorage}
 
 -- globals that hold a program's storage, and what soundness says of it
@@ -59,6 +62,13 @@ storage_held ds main ok id args call globals held h x c k r =
     ∥∥₁_elim ok ∥∥₁_prop (λ p. ∥∥₁_map held (λ g.
     let s = sound p.0 ds main p.1 globals g in
     (s.names, s.names_are, done_keeps s.names (run_of ds id args globals h) x c k (s.soundness.keeps_globals id args globals h (call_is ds id args globals call s)) r)))
+
+-- a machine that hasn't ended has them
+pub ready_held : (s : Stage) (P : Type 0) → is_ready s ≡ true → OnReady s P → P
+ready_held (stage.Ready x) P e h = h
+ready_held (stage.Uncaught x) P e h = cc
+ready_held (stage.Fault code span) P e h = cc
+ready_held (stage.Refused r) P e h = cc
 
 -- and before the first call
 pub storage_initial : (ds : List Decl) (main : Option ℕ) → IsWellFormed ds main → HoldStorage ds (initial_globals ds)

@@ -1,5 +1,5 @@
 -- How the interpreter's answers are related to the rules.
-use Rattle.std.specs.Prelude.{◌≡◌, ◌≤◌, ℕ, Bool, List, ◌++◌, drop, Option, Result, Ok, Err}
+use Rattle.std.specs.Prelude.{◌≡◌, ◌≤◌, ℕ, Bool, List, ◌++◌, Option, Result, Ok, Err}
 use Rattle.asl_io.specs.Faults.{Rises}
 use Rattle.asl_syn.specs.declared.tree.Decl.{Decl}
 use Rattle.asl_syn.specs.declared.tree.Expr.{Expr}
@@ -8,7 +8,6 @@ use Rattle.asl_rules.specs.States.{Binding, Core}
 use Rattle.asl_rules.specs.Plans.{Meter, Faulted, Stuck, Outcome, Done, Thrown, Halt, run, Pure, Good, Bad}
 use Rattle.asl_rules.specs.Cuts.{cuts}
 use Rattle.asl_rules.specs.Evaluation.{Does, meaning, cutting}
-use Rattle.asl_rules.specs.Strings.{unescaped}
 use Rattle.asl_rules.specs.Told.{appended, open_after, Part}
 use Rattle.asl_rules.specs.Values as rules
 use Rattle.asl_value.specs.declared.value.Value.{Value}
@@ -81,15 +80,6 @@ pub record WroteFront (bytes rest : List ℕ) (o : Bool) (told : Option (List �
   pub told_is : told1 ≡ appended told front
   pub open_is : o1 ≡ open_after o front
 
--- a piece of a string's text was written, and the answer is how much of what stands there that took
-abbrev pub WritesPiece : Result ℕ Stop → List ℕ → Bool → Option (List ℕ) → Bool → Option (List ℕ) → Type 0
-WritesPiece (Ok n) text o told o1 told1 = WroteFront (unescaped text) (unescaped (drop n text)) o told o1 told1
-WritesPiece (Err stop.NoMemory) text o told o1 told1 = ⊥
-WritesPiece (Err stop.SinkFault) text o told o1 told1 = Part told told1 (unescaped text)
-WritesPiece (Err (stop.Thrown x)) text o told o1 told1 = ⊥
-WritesPiece (Err (stop.Fault code span)) text o told o1 told1 = ⊥
-WritesPiece (Err (stop.Stuck mistake span)) text o told o1 told1 = ⊥
-
 -- the sink's count of faults rose where it refused a write, and is as it was elsewhere
 abbrev pub Counts : {A : Type 0} → Result A Stop → ℕ → ℕ → Type 0
 Counts (Ok x) before after = after ≡ before
@@ -103,3 +93,12 @@ Counts (Err (stop.Stuck mistake span)) before after = after ≡ before
 pub record Left {A : Type 0} (ds : List Decl) (d : ℕ) (q : Does A) (h : Meter) (q0 : Does A) (h0 : Meter) : Type 0 where
   pub same : run (meaning ds d) q h ≡ run (meaning ds d) q0 h0
   pub given_up : (u : Meter) → cuts (meaning ds d) (cutting ds d) q h u → cuts (meaning ds d) (cutting ds d) q0 h0 u
+
+-- no write was refused
+abbrev pub NoneRefused : {A : Type 0} → Result A Stop → Type 0
+NoneRefused (Ok x) = Unit {0}
+NoneRefused (Err stop.NoMemory) = Unit {0}
+NoneRefused (Err stop.SinkFault) = ⊥
+NoneRefused (Err (stop.Thrown x)) = Unit {0}
+NoneRefused (Err (stop.Fault code span)) = Unit {0}
+NoneRefused (Err (stop.Stuck mistake span)) = Unit {0}

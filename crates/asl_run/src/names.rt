@@ -1,7 +1,6 @@
 //! Names: reading, declaring and assigning what they stand for.
-ghost use Rattle.std.specs.Prelude.{◌≡◌, ◌<◌, ℕ, OnOk, OnSome, option_map, position, length, slice_get, vec_len, Option, List};
+ghost use Rattle.std.specs.Prelude.{◌≡◌, ◌<◌, OnOk, IfSome, option_map, length, vec_len};
 ghost use Rattle.std.specs.Option.{option_copied};
-ghost use Rattle.std.specs.Str.{bytes_eq};
 ghost use Rattle.asl_syn.specs.declared.tree.Target.{out-Target};
 ghost use Rattle.asl_syn.specs.declared.tree.TypeExpr.{out-TypeExpr};
 ghost use Rattle.asl_rules.specs.Evaluation as rules;
@@ -9,8 +8,8 @@ ghost use Rattle.asl_rules.specs.Evaluation.{named, store as stored, declared, d
 ghost use Rattle.asl_rules.specs.Plans.{Ret, lift};
 ghost use Rattle.asl_rules.specs.Values.{Normal};
 ghost use Rattle.asl_value.specs.View.{value_of, ty_of, bindings_of};
-ghost use Rattle.asl_run.specs.Meets.{Acts, Is, Puts};
-ghost use Rattle.asl_run.specs.Places.{stored_at};
+ghost use Rattle.asl_run.specs.Meets.{Acts, Is, NoneRefused, Puts};
+ghost use Rattle.asl_run.specs.Places.{place_from, stored_at};
 ghost use Rattle.asl_run.specs.View.{core_of};
 
 use crate::stop::{Exit, Mistake, Stop};
@@ -53,8 +52,8 @@ pub fn named_value(alloc: Global, store: &Store, span: Span, name: &[u8]) -> Res
 
 /// The place of a name among these.
 fn place_of(bindings: &[Binding], name: &[u8]) -> Option<usize>
-    ensures is { result ≡ position (λ b. bytes_eq b.name name.now) bindings.now }
-    ensures within { OnSome result (λ i. i < length bindings.now) }
+    ensures is { result ≡ place_from name.now 0 (bindings_of bindings.now) }
+    ensures within { IfSome result (λ i. i < length bindings.now) }
 {
     for (i, b) in bindings.iter().enumerate() {
         if b.name.as_slice() == name {
@@ -82,10 +81,12 @@ fn put_at(bindings: &mut Vec<Binding>, place: usize, span: Span, value: Value) -
 }
 
 /// A store under a name, in the frame or else among the globals.
+#[tactic(auto, using(crate::proofs::Bindings::stored_first, crate::proofs::Bindings::stored_none))]
 fn assign_name(store: &mut Store, span: Span, name: &[u8], value: Value) -> Result<Exit, Stop>
-    ensures { Acts result
+    ensures acts { Acts result
         (λ c. lift (stored span name.now (value_of value) c) c (λ c1. Ret Normal c1))
         store.old store.new }
+    ensures none_refused { NoneRefused result }
 {
     if let Some(place) = place_of(store.frame.as_slice(), name) {
         put_at(&mut store.frame, place, span, value)?;
@@ -100,9 +101,10 @@ fn assign_name(store: &mut Store, span: Span, name: &[u8], value: Value) -> Resu
 
 /// A store in a target.
 pub fn assign(store: &mut Store, span: Span, target: &Target, value: Value) -> Result<Exit, Stop>
-    ensures { Acts result
+    ensures acts { Acts result
         (λ c. lift (store_target span (out-Target target.now) (value_of value) c) c (λ c1. Ret Normal c1))
         store.old store.new }
+    ensures none_refused { NoneRefused result }
 {
     match target {
         Target::Place(_, name, suffixes) => {
@@ -152,9 +154,10 @@ fn declare(
     ty: Option<Ty>,
     value: Value,
 ) -> Result<Exit, Stop>
-    ensures { Acts result
+    ensures acts { Acts result
         (declare_plan span name.now is_mutable (option_map ty_of ty) (value_of value))
         store.old store.new }
+    ensures none_refused { NoneRefused result }
 {
     let Some(ty) = ty else {
         return Err(Stop::Stuck(Mistake::UnservedForm, span));
@@ -176,9 +179,10 @@ pub fn bind(
     ty: &Option<TypeExpr>,
     value: Value,
 ) -> Result<Exit, Stop>
-    ensures { Acts result
+    ensures acts { Acts result
         (bound_to span names.now is_mutable ty.now (value_of value))
         store.old store.new }
+    ensures none_refused { NoneRefused result }
 {
     match names {
         Bind::Single(Binder::Bound(name)) => {
@@ -208,9 +212,10 @@ pub fn declare_vars(
     names: &[Ident],
     t: &TypeExpr,
 ) -> Result<Exit, Stop>
-    ensures { Acts result
+    ensures acts { Acts result
         (vars_plan span names.now (written_layer (out-TypeExpr t.now)))
         store.old store.new }
+    ensures none_refused { NoneRefused result }
 {
     let Some(ty) = written(t) else {
         return Err(Stop::Stuck(Mistake::UnservedForm, span));

@@ -1,10 +1,11 @@
 //! What a run writes.
-ghost use Rattle.std.specs.Prelude.{◌≡◌, ◌≢◌, ◌≤◌, ◌<◌, ℕ, length, slice_index, IfOk};
-ghost use Rattle.asl_rules.specs.Strings.{escaped as written_behind, string_text};
+ghost use Rattle.std.specs.Prelude.{◌≡◌, ◌≢◌, ◌≤◌, ◌<◌, ◌++◌, ℕ, drop, length, slice_index, take};
+ghost use Rattle.asl_rules.specs.Strings.{escaped as written_behind, string_text, unescaped};
 ghost use Rattle.asl_rules.specs.Texts.{value_text};
 ghost use Rattle.asl_rules.specs.Told.{open_after};
 ghost use Rattle.asl_value.specs.View.{value_of};
-ghost use Rattle.asl_run.specs.Meets.{Counts, Writes, WritesPiece};
+ghost use Rattle.asl_run.specs.Meets.{Counts, Writes};
+ghost use Rattle.asl_run.specs.Pieces.{piece_text};
 
 use crate::stop::Stop;
 use asl_io::{Sink, put_all};
@@ -72,27 +73,38 @@ fn plain_length(text: &[u8]) -> usize
     text.len() - 1
 }
 
-/// Writes the bytes in front of the next escape, or the byte that an escape stands for. It answers how many bytes of
-/// the text that took.
-fn put_piece<K: Sink>(text_open: &mut bool, sink: &mut K, text: &[u8]) -> Result<usize, Stop>
+/// How many bytes the first piece of a text has: an escape has two, and what has no escape ends in front of the next
+/// one or of the closing quote.
+#[tactic(auto, using(crate::proofs::Pieces::splits_escape, crate::proofs::Pieces::splits_plain))]
+fn piece_length(text: &[u8]) -> usize
     requires { 1 < length text.now }
-    ensures writes { WritesPiece result text.now
+    ensures within { result ≤ length text.now }
+    ensures some { 0 < result }
+    ensures splits { unescaped text.now ≡ piece_text (take result text.now) ++ unescaped (drop result text.now) }
+{
+    if text[0] == b'\\' {
+        2
+    } else {
+        plain_length(text)
+    }
+}
+
+/// Writes what a piece stands for.
+fn put_piece<K: Sink>(text_open: &mut bool, sink: &mut K, piece: &[u8]) -> Result<(), Stop>
+    ensures writes { Writes result (piece_text piece.now)
         text_open.old (K.written sink.old) text_open.new (K.written sink.new) }
-    ensures within { IfOk result (λ n. n ≤ length text.now) }
-    ensures some { IfOk result (λ n. 0 < n) }
     ensures counts { Counts result (K.faults sink.old) (K.faults sink.new) }
     ensures same_full { K.full sink.new ≡ K.full sink.old }
 {
-    if text[0] == b'\\' {
-        put(text_open, sink, &[escaped(text[1])])?;
-        return Ok(2);
+    if piece.len() > 1 && piece[0] == b'\\' {
+        put(text_open, sink, &[escaped(piece[1])])
+    } else {
+        put(text_open, sink, piece)
     }
-    let n = plain_length(text);
-    put(text_open, sink, &text[..n])?;
-    Ok(n)
 }
 
 /// Writes the bytes that a string stands for, whose text has its quotes.
+#[tactic(auto, using(crate::proofs::Pieces::front_more, crate::proofs::Pieces::front_cut))]
 pub fn put_string<K: Sink>(text_open: &mut bool, sink: &mut K, text: &[u8]) -> Result<(), Stop>
     ensures writes { Writes result (string_text text.now)
         text_open.old (K.written sink.old) text_open.new (K.written sink.new) }
@@ -102,10 +114,11 @@ pub fn put_string<K: Sink>(text_open: &mut bool, sink: &mut K, text: &[u8]) -> R
     if text.is_empty() {
         return Ok(());
     }
-    let mut rest = &text[1..];
+    let (_, mut rest) = text.split_at(1);
     while rest.len() > 1 {
-        let used = put_piece(text_open, sink, rest)?;
-        rest = &rest[used..];
+        let (piece, more) = rest.split_at(piece_length(rest));
+        put_piece(text_open, sink, piece)?;
+        rest = more;
     }
     Ok(())
 }

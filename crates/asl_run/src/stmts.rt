@@ -192,7 +192,6 @@ fn exec_return<K: Sink>(
 }
 
 /// Items, each written when it is evaluated, and the end of the line where it is asked for.
-#[tactic(auto, using(crate::proofs::Printing::print_rules))]
 fn print<K: Sink>(
     alloc: Global,
     decls: &[Decl],
