@@ -1,9 +1,11 @@
 -- Text that is written in pieces.
-use Rattle.std.proofs.Common.{◌≡◌, ◌≢◌, ℕ, zero, suc, ◌-◌, ◌<◌, ◌==◌, Bool, true, false, not, cond, List, [], ◌∷◌, ◌++◌, length, get_or, take, drop, Option, refl, sym, ap, ◌∙◌, subst, arith, append_assoc}
+use Rattle.std.proofs.Common.{◌≡◌, ◌≢◌, ℕ, zero, suc, ◌-◌, ◌<◌, ◌==◌, Bool, true, false, not, cond, List, [], ◌∷◌, ◌++◌, length, get_or, take, drop, Option, Err, refl, sym, ap, ◌∙◌, subst, arith, append_assoc}
 use Rattle.asl_rules.specs.Strings.{escaped, unescaped}
 use Rattle.asl_rules.specs.Told.{appended, open_after, Part}
 use Rattle.asl_rules.proofs.Pieces.{appended_twice, takes_first, takes_then}
-use Rattle.asl_run.specs.Meets.{WroteFront}
+use Rattle.asl_run.specs.declared.stop.Stop.{Stop}
+use Rattle.asl_run.specs.declared.stop.Stop.TheVariants as stop
+use Rattle.asl_run.specs.Meets.{Writes, WroteFront}
 use Rattle.asl_run.specs.Pieces.{piece_text}
 
 -- the last byte decides
@@ -61,12 +63,6 @@ first_taken (suc n) (a ∷ s) h = refl
 pub splits_plain : (s : List ℕ) (n : ℕ) → n < length s → ((k : ℕ) → k < n → get_or s k 0 ≢ 92) → get_or s 0 0 ≢ 92 → unescaped s ≡ piece_text (take n s) ++ unescaped (drop n s)
 splits_plain s n h p q = unescaped_front n s h p ∙ ap (λ l. l ++ unescaped (drop n s)) (sym (piece_plain (take n s) (λ k e. q (sym (first_taken n s k) ∙ e))))
 
--- nothing is left in front of the closing quote
-pub unescaped_end : (s : List ℕ) → length s < 2 → unescaped s ≡ []
-unescaped_end [] h = refl
-unescaped_end (a ∷ []) h = refl
-unescaped_end (a ∷ b ∷ s) h = absurd (omega (arith, h))
-
 -- a front, and a piece behind it
 pub front_more : (bytes rest piece more : List ℕ) (o o1 o2 : Bool) (t t1 t2 : Option (List ℕ)) → WroteFront bytes rest o t o1 t1 → rest ≡ piece ++ more → t2 ≡ appended t1 piece → o2 ≡ open_after o1 piece → WroteFront bytes more o t o2 t2
 front_more bytes rest piece more o o1 o2 t t1 t2 a e told opened = record {
@@ -79,3 +75,12 @@ front_more bytes rest piece more o o1 o2 t t1 t2 a e told opened = record {
 -- a front, and a part of a piece behind it
 pub front_cut : (bytes rest piece more : List ℕ) (o o1 : Bool) (t t1 u : Option (List ℕ)) → WroteFront bytes rest o t o1 t1 → rest ≡ piece ++ more → Part t1 u piece → Part t u bytes
 front_cut bytes rest piece more o o1 t t1 u a e p = subst (Part t u) (sym a.whole) (takes_then t t1 u a.front rest a.told_is (subst (Part t1 u) (sym e) (takes_first t1 u piece more p)))
+
+-- a refused piece, where all before it was written
+pub refused_piece : (e : Stop) (bytes s f : List ℕ) (n : ℕ) (o o1 o2 : Bool) (t t1 t2 : Option (List ℕ)) → WroteFront bytes (unescaped s) o t o1 t1 → f ≡ take n s → unescaped s ≡ piece_text (take n s) ++ unescaped (drop n s) →
+    Writes (Err e) (piece_text f) o1 t1 o2 t2 → Writes (Err e) bytes o t o2 t2
+refused_piece stop.NoMemory bytes s f n o o1 o2 t t1 t2 a e k w = absurd w
+refused_piece stop.SinkFault bytes s f n o o1 o2 t t1 t2 a e k w = front_cut bytes (unescaped s) (piece_text (take n s)) (unescaped (drop n s)) o o1 t t1 t2 a k (subst (λ p. Part t1 t2 (piece_text p)) e w)
+refused_piece (stop.Thrown x) bytes s f n o o1 o2 t t1 t2 a e k w = absurd w
+refused_piece (stop.Fault code span) bytes s f n o o1 o2 t t1 t2 a e k w = absurd w
+refused_piece (stop.Stuck mistake span) bytes s f n o o1 o2 t t1 t2 a e k w = absurd w

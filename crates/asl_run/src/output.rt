@@ -104,7 +104,7 @@ fn put_piece<K: Sink>(text_open: &mut bool, sink: &mut K, piece: &[u8]) -> Resul
 }
 
 /// Writes the bytes that a string stands for, whose text has its quotes.
-#[tactic(auto, using(crate::proofs::Pieces::front_more, crate::proofs::Pieces::front_cut))]
+#[tactic(auto, using(crate::proofs::Pieces::front_more))]
 pub fn put_string<K: Sink>(text_open: &mut bool, sink: &mut K, text: &[u8]) -> Result<(), Stop>
     ensures writes { Writes result (string_text text.now)
         text_open.old (K.written sink.old) text_open.new (K.written sink.new) }

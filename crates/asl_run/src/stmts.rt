@@ -207,15 +207,15 @@ fn print<K: Sink>(
     ensures same_full { K.full sink.new ≡ K.full sink.old }
 {
     for item in items {
-        match item {
+        let e = match item {
             PrintItem::Verbatim(_, text) => {
                 put_string(&mut store.text_open, sink, text.as_slice())?;
+                continue;
             }
-            PrintItem::Shown(e) => {
-                let x = eval(alloc, decls, store, sink, depth, e)?;
-                put_value(&mut store.text_open, sink, &x)?;
-            }
-        }
+            PrintItem::Shown(e) => e,
+        };
+        let x = eval(alloc, decls, store, sink, depth, e)?;
+        put_value(&mut store.text_open, sink, &x)?;
     }
     match kind {
         PrintKind::Print => {}
