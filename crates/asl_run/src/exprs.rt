@@ -90,15 +90,15 @@ fn eval_unary<K: Sink>(
     depth: u32,
     span: Span,
     operator: UnaryOperator,
-    a: &Expr,
+    operand: &Expr,
 ) -> Result<Value, Stop>
     ensures meets { Runs value_of result decls.now depth
-        (λ c. Eval a.now c (λ x c1. lift (operators.unary_value span operator x) c1 (rules.give c1)))
+        (λ c. Eval operand.now c (λ x c1. lift (operators.unary_value span operator x) c1 (rules.give c1)))
         store.old (K.written sink.old) store.new (K.written sink.new) }
     ensures counts { Counts result (K.faults sink.old) (K.faults sink.new) }
     ensures same_full { K.full sink.new ≡ K.full sink.old }
 {
-    let x = eval(alloc, decls, store, sink, depth, a)?;
+    let x = eval(alloc, decls, store, sink, depth, operand)?;
     unary_value(span, operator, x)
 }
 
