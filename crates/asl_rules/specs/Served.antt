@@ -19,7 +19,8 @@ use Rattle.asl_syn.specs.declared.tree.PrintItem.{PrintItem}
 use Rattle.asl_syn.specs.declared.tree.PrintItem.TheVariants.{Verbatim, Shown}
 use Rattle.asl_syn.specs.declared.tree.Stmt.{Stmt}
 use Rattle.asl_syn.specs.declared.tree.Alternative.TheOpen as st
-use Rattle.asl_syn.specs.declared.tree.Alternative.TheFolds.{fold-Stmt}
+use Rattle.asl_syn.specs.declared.tree.ElseIf.{ElseIf}
+use Rattle.asl_syn.specs.declared.tree.Alternative.TheFolds.{fold-Stmt, fold-ElseIf}
 use Rattle.asl_syn.specs.declared.tree.StorageKind.{StorageKind}
 use Rattle.asl_syn.specs.declared.tree.StorageKind.TheVariants as storage
 use Rattle.asl_syn.specs.declared.tree.StorageDecl.{StorageDecl}
@@ -145,6 +146,9 @@ unserved_branch_rule (st.ElseIf c ss) = or_else (unserved_expr c) (first_of ss)
 
 abbrev pub unserved_stmt : Stmt → Option Span
 unserved_stmt = fold-Stmt Nothing Nothing (Option Span) Nothing (Option Span) (λ _. tt) (λ _. tt) unserved_branch_rule (λ _. tt) unserved_stmt_rule
+
+abbrev pub unserved_branch : ElseIf → Option Span
+unserved_branch = fold-ElseIf Nothing Nothing (Option Span) Nothing (Option Span) (λ _. tt) (λ _. tt) unserved_branch_rule (λ _. tt) unserved_stmt_rule
 
 abbrev pub unserved_stmts : List Stmt → Option Span
 unserved_stmts [] = None
