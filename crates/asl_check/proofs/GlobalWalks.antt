@@ -160,20 +160,20 @@ known_library = record { free = λ q l h. library_free library q l; subs = λ q 
 
 -- ---- the verdict
 
+-- the phases behind that of storage, with what the overloads give
+abbrev after : Asked → List Decl → List Entry → Result (Unit {0}) Fault → Result (Option ℕ) Fault
+after e ds names o = signatures_rule (funcs_of ds) >> o >> bodies_rule names (funcs_of ds) >> entry_rule e ds
+
+by_overloads : (e : Asked) (ds : List Decl) (o : Result (Unit {0}) Fault) → overloads_rule [] (funcs_of ds) ≡ o → names_rule [] (all_declared ds) ≡ Ok tt →
+    (globals_rule ds library_names >>= λ names. after e ds names o) ≡ (globals_walk ds library_names >>= λ names. after e ds names o)
+by_overloads e ds (Ok x) h n = ap (λ r. r >>= λ names. after e ds names (Ok x)) (same_globals ds library_names [] [] known_library n h)
+by_overloads e ds (Err f) h n = same_after ds library_names library_names (signatures_rule (funcs_of ds) >> Err f)
+
+by_names : (e : Asked) (ds : List Decl) (n : Result (Unit {0}) Fault) → names_rule [] (all_declared ds) ≡ n →
+    (n >> (globals_rule ds library_names >>= λ names. after e ds names (overloads_rule [] (funcs_of ds)))) ≡ (n >> (globals_walk ds library_names >>= λ names. after e ds names (overloads_rule [] (funcs_of ds))))
+by_names e ds (Err f) h = refl
+by_names e ds (Ok x) h = by_overloads e ds (overloads_rule [] (funcs_of ds)) refl h
+
 pub verdict_is : (e : Asked) (ds : List Decl) → verdict e ds ≡ verdict_walk e ds
 unfolding verdict
-verdict_is e ds = by_names (names_rule [] (all_declared ds)) refl
-  where
-    after : List Entry → Result (Unit {0}) Fault → Result (Option ℕ) Fault
-    after names o = signatures_rule (funcs_of ds) >> o >> bodies_rule names (funcs_of ds) >> entry_rule e ds
-    fails : (f : Fault) → Result (Option ℕ) Fault
-    fails f = signatures_rule (funcs_of ds) >> Err f
-    by_overloads : (o : Result (Unit {0}) Fault) → overloads_rule [] (funcs_of ds) ≡ o → names_rule [] (all_declared ds) ≡ Ok tt →
-        (globals_rule ds library_names >>= λ names. after names o) ≡ (globals_walk ds library_names >>= λ names. after names o)
-    unfolding after fails
-    by_overloads (Ok tt) h n = ap (λ r. r >>= λ names. after names (Ok tt)) (same_globals ds library_names [] [] known_library n h)
-    by_overloads (Err f) h n = same_after ds library_names library_names (fails f)
-    by_names : (n : Result (Unit {0}) Fault) → names_rule [] (all_declared ds) ≡ n →
-        (n >> globals_rule ds library_names >>= λ names. after names (overloads_rule [] (funcs_of ds))) ≡ (n >> globals_walk ds library_names >>= λ names. after names (overloads_rule [] (funcs_of ds)))
-    by_names (Err f) h = refl
-    by_names (Ok tt) h = by_overloads (overloads_rule [] (funcs_of ds)) refl h
+verdict_is e ds = by_names e ds (names_rule [] (all_declared ds)) refl

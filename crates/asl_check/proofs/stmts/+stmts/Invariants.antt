@@ -11,5 +11,5 @@ invariant-check_list-loop-s l = in_order (map walk_stmt (drop l.s-index l.stmts)
 abbrev pub invariant-check_branches-loop-b : goal.invariant-check_branches-loop-b
 invariant-check_branches-loop-b l = record {
   same : l.names ≡ l.fn.names;
-  rest : after_branches (map walk_branch (drop l.b-index l.others)) l.so_far.misplaced l.so_far.effect (scope_of l.names l.body) ≡ after_branches (map walk_branch l.others) l.before.misplaced l.before.effect (scope_of l.fn.names l.body);
+  rest : after_branches (map walk_branch (drop l.b-index l.others)) l.so_far.misplaced l.so_far.effect (scope_of l.names l.body) ≡ after_branches (map walk_branch l.others) l.fn.before.misplaced l.fn.before.effect (scope_of l.fn.names l.body);
 }
