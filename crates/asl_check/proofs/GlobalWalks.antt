@@ -133,8 +133,8 @@ same_globals (dc.Storage d ∷ ds) names before fs k h o =
     let p = passes before dd (all_declared ds) h in
     let free : is_absent (standing_of d.name.text names) ≡ true = k.free d.name.text p.unlisted (none_before (standing before d.name.text) false p.shares (λ _. refl)) in
     then_same (storage_rule d d.ty d.init) _ _ (λ T.
-      same_globals ds (names ++ stored d.name.text T true (is_var d.kind) ∷ []) (before ++ dd ∷ []) fs (known_storage names before fs dd (stored d.name.text T true (is_var d.kind)) k refl refl) p.rest o
-      ∙ ap (globals_walk ds) (sym (goes_last names (stored d.name.text T true (is_var d.kind)) free)))
+    same_globals ds (names ++ stored d.name.text T true (is_var d.kind) ∷ []) (before ++ dd ∷ []) fs (known_storage names before fs dd (stored d.name.text T true (is_var d.kind)) k refl refl) p.rest o
+    ∙ ap (globals_walk ds) (sym (goes_last names (stored d.name.text T true (is_var d.kind)) free)))
     ∙ sym (then_then (storage_rule d d.ty d.init) (λ T. Ok (with_entry (stored d.name.text T true (is_var d.kind)) names)) (λ more. globals_walk ds more))
 same_globals (dc.Func f ∷ ds) names before fs k h o =
     let dd : Declared = declared_as true f.name in

@@ -46,9 +46,9 @@ branches_walk T [] before at k G h = ap (λ c. T c k) h
 branches_walk T (b ∷ bs) before at k G h =
     then_then (typed b.condition G) _ (λ p. T (conditions p.0) p.1)
     ∙ then_same (typed b.condition G) _ _ (λ S.
-      then_then (block b.body G) _ (λ p. T (conditions p.0) p.1)
-      ∙ then_same (block b.body G) _ _ (λ d. branches_walk T bs _ (misplaced at b.condition S) (greater k (greater S.effect d.effect)) G (conditions_last before b.condition S ∙ misplaced_is (conditions before) at b.condition S h))
-      ∙ sym (then_then (block b.body G) _ (λ p. T (none_at T05 p.0) p.1)))
+    then_then (block b.body G) _ (λ p. T (conditions p.0) p.1)
+    ∙ then_same (block b.body G) _ _ (λ d. branches_walk T bs _ (misplaced at b.condition S) (greater k (greater S.effect d.effect)) G (conditions_last before b.condition S ∙ misplaced_is (conditions before) at b.condition S h))
+    ∙ sym (then_then (block b.body G) _ (λ p. T (none_at T05 p.0) p.1)))
     ∙ sym (then_then (typed b.condition G) _ (λ p. T (none_at T05 p.0) p.1))
 
 if_is : (span : Span) (c : Expr) (first : List FoundStmt) (others : List FoundBranch) (last : List FoundStmt) (G : Scope) → if_rule span c first others last G ≡ if_walk span c first others last G
@@ -81,7 +81,7 @@ items_walk T (Verbatim span t ∷ is) ks ok k G h g = items_walk T is ks ok k G 
 items_walk T (Shown e ∷ is) ks ok k G h g =
     then_then (typed e G) _ (λ ls. T (all_together Pure ls) (greatest Pure ls))
     ∙ then_same (typed e G) _ _ (λ S. items_walk T is (ks ++ S.effect ∷ []) (ok && together k S.effect) (greater k S.effect) G
-      (all_last ks Pure S.effect ∙ (λ i. h i && together (g i) S.effect)) (greatest_last ks Pure S.effect ∙ ap (λ j. greater j S.effect) g))
+    (all_last ks Pure S.effect ∙ (λ i. h i && together (g i) S.effect)) (greatest_last ks Pure S.effect ∙ ap (λ j. greater j S.effect) g))
     ∙ sym (then_then (typed e G) _ (λ p. T p.0 p.1))
 
 print_is : (span : Span) (is : List PrintItem) (G : Scope) → print_rule span is G ≡ print_walk span is G

@@ -24,12 +24,7 @@ pub(crate) struct Branches {
 }
 
 /// One more branch, whose condition was typed and whose list has this effect.
-pub(crate) fn after_branch(
-    before: Branches,
-    condition: &Expr,
-    s: Typed,
-    effect: Effect,
-) -> Branches
+pub(crate) fn after_branch(before: Branches, condition: &Expr, s: Typed, effect: Effect) -> Branches
     ensures misplaced { result.misplaced ≡ walks.misplaced before.misplaced condition.now (typed_of s) }
     ensures effect { result.effect ≡ effects.greater before.effect (effects.greater s.effect effect) }
 {

@@ -80,11 +80,7 @@ fn library_names<'a>(alloc: Global) -> Result<Visible<'a>, Refused>
     Ok(names)
 }
 
-fn declare_global<'a>(
-    alloc: Global,
-    names: &mut Visible<'a>,
-    d: &'a Decl,
-) -> Result<(), Refused>
+fn declare_global<'a>(alloc: Global, names: &mut Visible<'a>, d: &'a Decl) -> Result<(), Refused>
     ensures { Met (λ _. names.new) result (walks.after_global d.now names.old) }
 {
     match d {

@@ -83,11 +83,7 @@ fn check_branches<'a>(
 
 /// Statements in order. The names that they declare stay.
 #[cycle(stmts)]
-fn check_list<'a>(
-    names: &mut Visible<'a>,
-    body: Body,
-    stmts: &'a [Stmt],
-) -> Result<Effect, Refused>
+fn check_list<'a>(names: &mut Visible<'a>, body: Body, stmts: &'a [Stmt]) -> Result<Effect, Refused>
     ensures { Met (λ k. done names.new k) result (rules.in_order (map walks.walk_stmt stmts.now) Pure (scope_of names.old body)) }
 {
     let mut effect = Effect::Pure;
