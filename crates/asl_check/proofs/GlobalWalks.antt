@@ -1,21 +1,20 @@
 -- The scope of all bodies holds each name once, where the names and the overloads are in order: so the phases are the verdict.
-use Rattle.std.proofs.Common.{◌≡◌, ◌⊎◌, inl, inr, ℕ, Bool, true, false, ◌&&◌, ◌||◌, not, if◌then◌else◌, cond, List, [], ◌∷◌, ◌++◌, map, Option, Some, None, Result, Ok, Err, refl, sym, ap, subst, ◌∙◌}
+use Rattle.std.proofs.Common.{◌≡◌, ◌⊎◌, inl, inr, ℕ, Bool, true, false, ◌&&◌, not, if◌then◌else◌, cond, List, [], ◌∷◌, ◌++◌, map, Option, Some, None, Result, Ok, Err, refl, sym, ap, ◌∙◌}
 use Rattle.std.specs.Str.{bytes_eq}
 use Rattle.asl_syn.specs.declared.code.Fault.{Fault}
 use Rattle.asl_syn.specs.declared.code.StaticCode.TheVariants.{T01, T10}
 use Rattle.asl_syn.specs.declared.tree.Decl.{Decl}
 use Rattle.asl_syn.specs.declared.tree.Decl.TheVariants as dc
 use Rattle.asl_syn.specs.declared.tree.Func.{Func}
-use Rattle.asl_syn.specs.declared.tree.Ident.{Ident}
 use Rattle.asl_rules.specs.declared.entry.Entry.{Entry as Asked}
 use Rattle.asl_rules.specs.Faults.{◌>>=◌, ◌>>◌, need}
-use Rattle.asl_rules.specs.Names.{Declared, declared_as, library, is_listed, may_share, standing, is_new, names_rule, declared_by, all_declared}
+use Rattle.asl_rules.specs.Names.{Declared, declared_as, library, is_listed, may_share, standing, is_new, names_rule, all_declared}
 use Rattle.asl_rules.specs.Scopes.{Entry, Standing, Subprogram, standing_of, is_absent, is_free, stored, subprogram}
 use Rattle.asl_rules.specs.Programs.{storage_rule, is_var, globals_rule, funcs_of, signatures_rule, has_name, overloads_rule, bodies_rule, entry_rule, library_names, verdict}
 use Rattle.asl_rules.proofs.Inversions.{then_ok, need_ok}
 use Rattle.asl_rules.proofs.Lookups.{no, none_some}
 use Rattle.asl_check.specs.Views.{with_entry}
-use Rattle.asl_check.specs.Walks.{after_global, globals_walk, verdict_walk}
+use Rattle.asl_check.specs.Walks.{globals_walk, verdict_walk}
 use Rattle.asl_check.proofs.Binds.{then_same, then_then}
 
 -- a fault of storage is the same among any names

@@ -1,5 +1,5 @@
 -- The walks over statements are the rules, and the names after statements begin with those before.
-use Rattle.std.proofs.Common.{◌≡◌, Bool, true, false, ◌&&◌, cond, List, [], ◌∷◌, ◌++◌, length, take, map, Option, Some, None, Result, Ok, Err, refl, sym, ap, subst, ◌∙◌}
+use Rattle.std.proofs.Common.{◌≡◌, Bool, true, false, ◌&&◌, cond, List, [], ◌∷◌, ◌++◌, length, take, map, Option, Some, None, Result, Ok, refl, sym, ap, ◌∙◌}
 use Rattle.std.proofs.Math.Seq.{take-append_seam}
 use Rattle.asl_syn.specs.declared.token.Span.{Span}
 use Rattle.asl_syn.specs.declared.code.Fault.{Fault}
@@ -15,12 +15,12 @@ use Rattle.asl_rules.specs.declared.effect.Effect.TheVariants.{Pure, Writes}
 use Rattle.asl_rules.specs.Faults.{◌>>=◌, ◌>>◌, need, none_at}
 use Rattle.asl_rules.specs.Types.{is_boolean}
 use Rattle.asl_rules.specs.Effects.{greater, together, all_together, greatest}
-use Rattle.asl_rules.specs.Scopes.{Entry, Scope}
+use Rattle.asl_rules.specs.Scopes.{Scope}
 use Rattle.asl_rules.specs.Exprs.{Typed, typed}
 use Rattle.asl_rules.specs.Stmts.{Done, done, FoundStmt, FoundBranch, Branch, expr_at, ended, with_names, in_order, block, condition, conditions, branches, if_rule, items_rule, print_rule, StmtOf, Unread, stmt_layer_rule, branch_rule, found_stmt}
 use Rattle.asl_rules.proofs.Inversions.{ok_ok, bind_ok}
 use Rattle.asl_rules.proofs.Growing.{Longer, same_names, longer_on, stmt_longer}
-use Rattle.asl_check.specs.Walks.{misplaced, after_branches, end_if, if_walk, after_items, print_walk, walk_layer, walk_stmt}
+use Rattle.asl_check.specs.Walks.{misplaced, after_branches, if_walk, after_items, print_walk, walk_layer, walk_stmt}
 use Rattle.asl_check.proofs.Binds.{then_same, then_then, need_then, need_need, need_last}
 
 -- ---- `if`

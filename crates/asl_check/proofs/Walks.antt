@@ -1,5 +1,5 @@
 -- The walks over the names are the rules: what is kept answers as the declarations before do.
-use Rattle.std.proofs.Common.{◌≡◌, ℕ, Bool, true, false, ◌&&◌, ◌||◌, not, if◌then◌else◌, cond, List, [], ◌∷◌, ◌++◌, map, Option, Some, None, Result, Ok, Err, refl, sym, ap, subst, ◌∙◌}
+use Rattle.std.proofs.Common.{◌≡◌, ℕ, Bool, true, false, ◌&&◌, not, if◌then◌else◌, cond, List, [], ◌∷◌, ◌++◌, map, Option, Some, None, Result, Ok, Err, refl, sym, ap, subst, ◌∙◌}
 use Rattle.std.proofs.lemmas.List.{map-append}
 use Rattle.std.specs.Str.{bytes_eq}
 use Rattle.std.specs.Cmp.Lexicographic.{bytes_decides, nat_list_eq_equiv}
@@ -12,8 +12,8 @@ use Rattle.asl_syn.specs.declared.tree.Func.{Func}
 use Rattle.asl_rules.specs.Faults.{◌>>=◌, ◌>>◌, need}
 use Rattle.asl_rules.specs.Names.{Declared, declared_as, library, is_listed, may_share, standing, is_new, names_rule, declared_by, all_declared}
 use Rattle.asl_rules.specs.Served.{is_absent}
-use Rattle.asl_rules.specs.Programs.{has_name, overloads_rule, funcs_of}
-use Rattle.asl_check.specs.Known.{Known, known, with_first, with_name, is_free, after_name, after_names, after_decls, after_func, after_funcs}
+use Rattle.asl_rules.specs.Programs.{has_name, overloads_rule}
+use Rattle.asl_check.specs.Known.{Known, known, with_first, with_name, is_free, after_name, after_names, after_decls, after_funcs}
 
 -- the first of two
 or_then : Option Bool → Option Bool → Option Bool

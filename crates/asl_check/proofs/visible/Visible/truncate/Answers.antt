@@ -1,6 +1,5 @@
 use Rattle.std.proofs.Common.{take, sym, ap, ◌∙◌}
 use Rattle.std.proofs.lemmas.List.{take-map}
-use Rattle.asl_check.specs.Views.{entry_view}
 use Rattle.asl_check.proofs.VisibleLemmas.{entries_of}
 use Rattle.asl_check.proofs.visible.Visible.truncate.Goals as goal
 
