@@ -62,7 +62,7 @@ def chain(kind, parts):
 def tok(*codes): return Node('tok', codes=list(codes))
 def opens(*codes): return Node('opens', codes=list(codes))
 def opens_by(variable): return Node('opens', codes=[variable])
-def into(codes, symbol): return Node('into', codes=codes, symbol=symbol)
+def into(codes, symbol): return Node('into', codes=[codes] if isinstance(codes, str) else codes, symbol=symbol)
 def closed(codes, symbol): return Node('closed', codes=codes, symbol=symbol)
 def seq(*parts): return chain('seq', parts)
 def either(*parts): return chain('either', parts)
@@ -84,7 +84,7 @@ def path(base, i, n):
 
 def made(template, base, parts, whole):
     n = len(parts)
-    text = template.replace('$s', f'(whole {whole})')
+    text = template.replace('$s', f'(whole {whole})').replace('$f', f'{whole}.from')
     text = re.sub(r'\$(\d)', lambda m: path(base, int(m.group(1)), n) if n > 1 else base, text)
     p = spanned(seq(*parts)) if whole else seq(*parts)
     return Node('by', function=f'(λ r. {text})', p=p, template=(template, n, bool(whole)))
@@ -220,7 +220,7 @@ def text(p):
         if p.arg is None: return p.name
         return f'({p.name} {codes(p.arg) if isinstance(p.arg, list) else p.arg})'
     if k in ('tok', 'opens'): return f'({k} {codes(p.codes)})'
-    if k in ('into', 'closed'): return f'({k} {codes([p.codes] if isinstance(p.codes, str) else p.codes)} {p.symbol})'
+    if k in ('into', 'closed'): return f'({k} {codes(p.codes)} {p.symbol})'
     if k in ('seq', 'either', 'follows'): return f'({k} {text(p.p)} {text(p.q)})'
     if k in ('opt', 'many', 'spanned', 'scope'): return f'({k} {text(p.p)})'
     if k == 'by': return f'(by {p.function if " " not in p.function or p.function[0] == "(" else "(" + p.function + ")"} {text(p.p)})'
@@ -416,6 +416,263 @@ head += from_module(PRE + 'Kinds', ['code'] + list(CODES), everything) + from_mo
 head += from_module(PRE + 'Build', HELPERS, everything) + from_module(PRE + 'Rules', ['Sym'] + list(SYMBOLS) + ['rule', 'after'] + ORDER, everything)
 head += from_module('Rattle.asl_grammar.proofs.grammar.Facts', 'Facts fit tok_f opens_f into_f closed_f seq_f either_f opt_f many_f by_f spanned_f scope_f trail_f costs_f follows_f covered_by'.split(), everything)
 OUT['asl_grammar/proofs/grammar/Checked.antt'] = head + '\n' + body + '\n' + tail
+
+# ---- each rule as the steps of a function
+
+
+class At:
+    """a cursor: the variable that it comes from, and the levels that are left, if they are others"""
+
+    def __init__(self, base, left=None): self.base, self.levels = base, left
+    def toks(self): return f'{self.base}.toks'
+    def last(self): return f'{self.base}.last'
+    def left(self): return self.levels or f'{self.base}.left'
+    def __str__(self): return self.base if self.levels is None else f'(record {self.base} {{ left = {self.levels} }})'
+
+
+class Reach:
+    """an extent"""
+
+    def __init__(self, start, end): self.start, self.end = start, end
+    def __str__(self): return f'(extent {self.start.toks()} {self.end.last()})'
+
+
+def shown(v): return '(' + ', '.join(map(shown, v)) + ')' if isinstance(v, tuple) else str(v)
+
+
+def field(v, names):
+    for n in names:
+        if isinstance(v, tuple) and n in ('0', '1'): v = v[int(n)]
+        elif isinstance(v, Reach) and n == 'from': v = f'(ahead {v.start.toks()})'
+        elif isinstance(v, Reach) and n == 'to': v = v.end.last()
+        else: v = f'{shown(v)}.{n}'
+    return v
+
+
+def built(p, v):
+    """the value of `by` at the value of what was read"""
+    if p.template is None:
+        f = p.function
+        if ' ' in f and f[0] != '(': return f'({f} {shown(v)})'
+        return f'({f} {shown(v)})'
+    template, n, spans = p.template
+    parts = v[0] if spans else v
+    items = []
+    for i in range(n):
+        if i < n - 1:
+            items.append(parts[0])
+            parts = parts[1]
+        else: items.append(parts)
+    out = template
+    if spans: out = out.replace('$s', f'(span_to (ahead {v[1].start.toks()}) {v[1].end.last()})').replace('$f', f'(ahead {v[1].start.toks()})')
+    out = re.sub(r'\$(\d)((?:\.(?:\d|\w+))*)', lambda m: shown(field(items[int(m.group(1))], [x for x in m.group(2).split('.') if x])), out)
+    if re.fullmatch(r'\(?[\w.]+\)?', out) or template == '$0': return out
+    m = re.fullmatch(r'\((.*), (.*)\)', out)
+    return f'({out})' if not (out.startswith('(') and out.endswith(')') and balanced(out)) else out
+
+
+def balanced(t):
+    depth = 0
+    for i, c in enumerate(t):
+        depth += (c == '(') - (c == ')')
+        if depth == 0 and i < len(t) - 1: return False
+    return True
+
+
+class Names:
+    def __init__(self): self.n = {}
+    def fresh(self, kind):
+        i = self.n.get(kind, 0)
+        self.n[kind] = i + 1
+        return kind if i == 0 else f'{kind}{i}'
+
+
+def listing(p):
+    """the codes of `first`, as they compute"""
+    k = p.kind
+    if k == 'ref':
+        r = RULES[p.name]
+        if p.name in ('expression', 'unary') or first_of_expression(p): return None
+        out = listing(r.body)
+        if out is None: return None
+        if r.variable is not None:
+            arg = p.arg if isinstance(p.arg, list) else [p.arg]
+            out = [a for c in out for a in (arg if c == r.variable else [c])]
+        return out
+    if k in ('tok', 'opens', 'into', 'closed'): return list(p.codes)
+    if k == 'trail': return list(p.codes)
+    a = listing(p.p)
+    if a is None: return None
+    if k == 'seq' and facts(p.p, FAMILY)[0]:
+        b = listing(p.q)
+        return None if b is None else a + b
+    if k == 'either':
+        b = listing(p.q)
+        return None if b is None else a + b
+    return a
+
+
+FAMILY = {'operators': ['NOT'], 'operator': ['AND_AND']}
+
+
+def first_of_expression(p): return False
+
+
+def long_first(p):
+    """the rule whose `first` is named, for lists that are long"""
+    while p.kind in ('by', 'spanned', 'scope', 'costs') or (p.kind == 'seq' and not facts(p.p, FAMILY)[0]): p = p.p
+    return p
+
+
+def starts_text(p, st):
+    l = listing(p)
+    if l is not None: return f'starts {codes(l)} {st.toks()}', l
+    q = long_first(p)
+    return f'starts (first {text(q)}) {st.toks()}', None
+
+
+def steps(p, st, names, k):
+    kind = p.kind
+    if kind in ('tok', 'opens'):
+        t, m = names.fresh('t'), names.fresh('m')
+        if kind == 'tok': return f'bind (run_tok {codes(p.codes)} {st} {st.toks()}) (λ {t} {m}. {k(t, At(m))})'
+        return f'bind (run_opens {codes(p.codes)} {st.left()} {st.toks()}) (λ {t} {m}. {k(t, At(m))})'
+    if kind in ('into', 'closed'):
+        t, m, x, e = names.fresh('t'), names.fresh('m'), names.fresh('x'), names.fresh('m')
+        end = At(e) if kind == 'into' else At(e, f'suc {e}.left')
+        return f'bind (run_opens {codes(p.codes)} {st.left()} {st.toks()}) (λ {t} {m}. bind (symbol d {p.symbol} {m}) (λ {x} {e}. {k((t, x), end)}))'
+    if kind == 'ref':
+        x, m = names.fresh('x'), names.fresh('m')
+        return f'bind (reading d {text(p)} {st}) (λ {x} {m}. {k(x, At(m))})'
+    if kind == 'seq': return steps(p.p, st, names, lambda a, m: steps(p.q, m, names, lambda b, e: k((a, b), e)))
+    if kind == 'by': return steps(p.p, st, names, lambda a, m: k(built(p, a), m))
+    if kind == 'spanned': return steps(p.p, st, names, lambda a, m: k((a, Reach(st, m)), m))
+    if kind == 'scope': return steps(p.p, st, names, lambda a, m: k(a, At(m.base, st.left())))
+    if kind == 'costs':
+        f, l = starts_text(p.p, st)
+        u, m = names.fresh('u'), names.fresh('m')
+        cs = codes(l) if l is not None else re.match(r'starts (\(first .*\)) \S+$', f).group(1)
+        return f'bind (charge {cs} {"true" if p.late else "false"} {st}) (λ {u} {m}. {steps(p.p, At(m), names, k)})'
+    raise Exception(kind)
+
+
+def atom(p): return p.kind in ('ref', 'tok', 'opens')
+def straight(p): return atom(p) or (p.kind in ('by', 'scope', 'spanned') and atom(p.p)) or (p.kind == 'seq' and atom(p.p) and atom(p.q))
+
+
+def opened(p, seen):
+    """the rules that `first` goes through"""
+    if p.kind == 'ref':
+        if p.name in seen or p.name in ('expression', 'unary'): return
+        seen.append(p.name)
+        opened(RULES[p.name].body, seen)
+        return
+    if hasattr(p, 'p'):
+        opened(p.p, seen)
+        if p.kind == 'either' or (p.kind == 'seq' and facts(p.p, FAMILY)[0]): opened(p.q, seen)
+
+
+HANDMADE = set('braces_called after_braces post_rest rest bracket late_expression late_sum expression_after_name sum_rests parameters_after_minus parameters_after_name late_range'.split())
+LOOPS = {}
+lemmas = []
+
+
+def step_lemma(name):
+    r = RULES[name]
+    st = At('st')
+    names = Names()
+    seen = []
+    binder = f' {r.binder}' if r.binder else ''
+    at = name if r.variable is None else f'({name} {r.variable})'
+    var = f' {r.variable}' if r.variable else ''
+    p, f = r.body, None
+    if p.kind == 'by' and p.p.kind in ('opt', 'either'): p, f = p.p, p
+    value = (lambda v: v) if f is None else (lambda v: built(f, v))
+    if r.acc: k = lambda v, e: f'k {shown(v)} {e}'
+    else: k = lambda v, e: f'Ok ({shown(value(v))}, {e})'
+    head_type = f'{{B : Type 0}} (d : ℕ){binder} (st : Cursor) (k : {r.type} → Cursor → Outcome B)' if r.acc else f'(d : ℕ){binder} (st : Cursor)'
+    left = f'bind (reading d {at} st) k' if r.acc else f'reading d {at} st'
+    args = f'd{var} st k' if r.acc else f'd{var} st'
+    through = f'(λ x end. Ok ({"(" + f.function + ")" if f and f.function[0] != "(" else (f.function if f else "")} x, end))' if f else None
+    kont = 'k' if r.acc else through
+    if p.kind == 'opt':
+        opened(p.p, seen)
+        test, _ = starts_text(p.p, st)
+        some = steps(p.p, st, names, lambda v, e: k("(Some " + shown(v) + ")", e))
+        right = f'pick ({test}) ({some}) ({k("None", st)})'
+        inner = 'refl' if p.p.kind == 'ref' else 'simp bind_bind'
+        if kont: proof = f'optional_as d {text(p.p)} st {kont} ({some}) ({inner})'
+        else: proof = f'optional_plain d {text(p.p)} st ({some}) ({inner})'
+    elif p.kind == 'either' and kont:
+        def alternatives(q):
+            if q.kind != 'either': return steps(q, st, Names(), k), ('refl' if q.kind == 'ref' else 'simp bind_bind')
+            opened(q.p, seen)
+            test, _ = starts_text(q.p, st)
+            a, pa = steps(q.p, st, Names(), k), ('refl' if q.p.kind == 'ref' else 'simp bind_bind')
+            b, pb = alternatives(q.q)
+            return f'pick ({test}) ({a}) ({b})', f'choice_as d {text(q.p)} {text(q.q)} st {kont} ({a}) ({b}) ({pa}) ({pb})'
+        right, proof = alternatives(p)
+    elif p.kind == 'either':
+        def direct(q):
+            if q.kind == 'ref': return f'reading d {text(q)} st'
+            if q.kind != 'either': return steps(q, st, Names(), k)
+            opened(q.p, seen)
+            test, _ = starts_text(q.p, st)
+            return f'pick ({test}) ({direct(q.p)}) ({direct(q.q)})'
+        right, proof = direct(p), 'refl'
+    else:
+        right = steps(p, st, names, k)
+        proof = 'refl' if straight(p) and not r.acc else 'simp bind_bind'
+    names_open = [name] + [n for n in seen if n != name]
+    lemmas.append(f'pub {name}_is : {head_type} → {left} ≡ {right}\nunfolding {" ".join(names_open)}\n{name}_is {args} = {proof}\n')
+
+
+def operand(p):
+    return p
+
+
+for name in ORDER:
+    if name in HANDMADE: continue
+    r = RULES[name]
+    p = r.body
+    st = At('st')
+    var = f' {r.variable}' if r.variable else ''
+    binder = f' {r.binder}' if r.binder else ''
+    inner = p.p if p.kind == 'by' else p
+    if p.kind == 'many' and p.p.kind == 'ref':
+        seen = []
+        opened(p.p, seen)
+        test, l = starts_text(p.p, st)
+        lemmas.append(f'pub {name}_is : (d : ℕ) (st : Cursor) → reading d {name} st ≡ run_items (reading d {text(p.p)}) {codes(l)} (length st.toks) [] st\nunfolding {" ".join([name] + seen)}\n{name}_is d st = items_are d {text(p.p)} st\n')
+    elif p.kind == 'many' and p.p.kind == 'seq':
+        lemmas.append(f'pub {name}_is : (d : ℕ){binder} (from : Span) (left : Expr) (st : Cursor) → bind (reading d {name if not var else "(" + name + var + ")"} st) (λ x end. Ok (chained from left x, end)) ≡ run_chain (reading d {text(p.p.q.p)}) {codes(p.p.p.codes)} {codes(p.p.p.codes)} from (length st.toks) left st\nunfolding {name}\n{name}_is d{var} from left st = chain_is d {text(p.p.q.p)} {codes(p.p.p.codes)} from left st\n')
+    elif p.kind == 'many':
+        lemmas.append(f'pub {name}_is : (d : ℕ) (from : Span) (left : Expr) (st : Cursor) → bind (reading d {name} st) (λ x end. Ok (as_chained from left x, end)) ≡ run_as_chain (reading d as_type) from (length st.toks) left st\nunfolding {name}\n{name}_is d from left st = as_chain_are d as_type from left st\n')
+    elif p.kind == 'by' and p.function == 'seconds':
+        item = p.p.p.q
+        lemmas.append(f'pub {name}_is : (d : ℕ) (found : List ({RULES[item.name].type})) (st : Cursor) → bind (reading d {name} st) (λ xs end. Ok (found ++ xs, end)) ≡ run_more (reading d {text(item)}) (length st.toks) found st\nunfolding {name}\n{name}_is d found st = more_are d {text(item)} found st\n')
+    elif p.kind == 'by' and p.template and p.template[0] == '$0 ∷ seconds $1':
+        item = p.p.p
+        lemmas.append(f'pub {name}_is : (d : ℕ) (st : Cursor) → reading d {name} st ≡ bind (reading d {text(item)} st) (λ x mid. run_more (reading d {text(item)}) (length mid.toks) (x ∷ []) mid)\nunfolding {name}\n{name}_is d st = commas_are d {text(item)} st\n')
+    elif p.kind == 'by' and p.template and p.template[0] == '$0 ∷ seconds $1.0':
+        item = p.p.p
+        seen = []
+        opened(item, seen)
+        l = listing(item)
+        lemmas.append(f'pub {name}_is : (d : ℕ) (st : Cursor) → reading d {name} st ≡ bind (reading d {text(item)} st) (λ x mid. run_listed (reading d {text(item)}) (COMMA ∷ []) {codes(l)} (length mid.toks) (x ∷ []) mid)\nunfolding {" ".join([name] + seen)}\n{name}_is d st = listed_are d {text(item)} (COMMA ∷ []) st\n')
+    else: step_lemma(name)
+for s, (t, n, c) in SYMBOLS.items():
+    lemmas.append(f'pub {s}_is : (d : ℕ) (st : Cursor) → symbol (suc d) {s} st ≡ reading d {n} st\n{s}_is d st = refl\n')
+body = '\n'.join(lemmas)
+head = '-- Each rule as the steps of the function that reads it.\n' + GENERATED
+head += 'use Rattle.std.proofs.Common.{◌≡◌, ℕ, suc, ◌⊎◌, inl, inr, Bool, true, false, nat_eq, List, [], ◌∷◌, ◌++◌, length, Option, Some, None, Ok, refl, ◌∙◌}\n' + imports(body)
+head += from_module(PRE + 'Kinds', ['code'] + list(CODES), body) + from_module(PRE + 'Cursor', CURSOR + ['extent'], body) + from_module(PRE + 'Combinators', COMBINATORS, body)
+head += from_module(PRE + 'Reader', 'Outcome bind pick first run_tok run_opens'.split(), body) + from_module(PRE + 'Build', HELPERS, body) + from_module(PRE + 'Rules', ['Sym'] + list(SYMBOLS) + ORDER, body)
+head += from_module('Rattle.asl_parse.specs.Code', 'reading symbol charge'.split(), body)
+head += from_module('Rattle.asl_parse.proofs.Loops', 'bind_bind optional_as optional_plain choice_as run_items items_are run_chain chain_is run_as_chain as_chain_are run_more more_are commas_are run_listed listed_are'.split(), body)
+OUT['asl_parse/proofs/Steps.antt'] = head + '\n' + body
+
+
 
 if __name__ == '__main__':
     wrong = 0

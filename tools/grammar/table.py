@@ -1,6 +1,6 @@
 """The grammar of the language: each rule with the type of its value, its production, and how the value is built.
 
-`$0`, `$1` .. are the values of the parts of a sequence, and `$s` is the span of the whole. `generate.py` turns the table
+`$0`, `$1` .. are the values of the parts of a sequence, `$s` is the span of the whole, and `$f` that of its first token. `generate.py` turns the table
 into the definitions and proofs that are listed there.
 """
 
@@ -110,7 +110,8 @@ rule('late_expression', 'LateTail', scope(costs(True, seq(spanned('unary'), 'res
 rule('expression_after_name', 'NameTail', scope(seq('maybe_after_name', 'post_rest', 'rest')), 'an expression behind a name that was read')
 rule('other_unary', 'Expr', either(apply('prefixed_by', ['BANG', 'NOT']), 'post_literal', 'post_parenthesized'), 'a unary that begins with neither a name nor `-`')
 rule('other_chain', 'Expr', make('finished $0.1.from $0.0 $1', spanned('other_unary'), 'rest'))
-rule('other_expression', 'Expr', scope(either('conditional', 'other_chain')), 'an expression that begins with neither a name nor `-`')
+rule('other_open_expression', 'Expr', either('conditional', 'other_chain'))
+rule('other_expression', 'Expr', scope('other_open_expression'), 'an expression that begins with neither a name nor `-`')
 rule('field_value', 'FieldValue', make('fv.Given $0 $2', 'name', tok('ASSIGN'), 'expression'), 'NAME "=" expr')
 rule('more_field_values', 'List FieldValue', more('field_value'), '("," NAME "=" expr)*')
 rule('field_values_after_name', 'Expr × List FieldValue', make('($1, $2)', tok('ASSIGN'), 'expression', 'more_field_values', tok('CLOSE_BRACE')), '"=" expr ("," NAME "=" expr)* "}"')
@@ -120,7 +121,7 @@ rule('parameters_after_name', 'NameTail × List Expr', seq('expression_after_nam
 rule('minus_alone', 'Option (LateTail × List Expr)', make('None', tok('CLOSE_BRACE')))
 rule('after_minus', 'Option (LateTail × List Expr)', either('minus_alone', by('Some', 'parameters_after_minus')), acc=True)
 rule('after_first_name', '(Expr × List FieldValue) ⊎ (NameTail × List Expr)', either(by('inl', 'field_values_after_name'), by('inr', 'parameters_after_name')), acc=True)
-rule('minus_in_braces', 'Braces', make('minus_in_braces_of $0 $1', tok('MINUS'), 'after_minus'), '"-", or parameters of which the first begins with `-`')
+rule('minus_in_braces', 'Braces', make('minus_in_braces_of $0.span $1', tok('MINUS'), 'after_minus'), '"-", or parameters of which the first begins with `-`')
 rule('name_in_braces', 'Braces', make('name_in_braces_of $0 $1', 'name', 'after_first_name'), 'fields, or parameters of which the first begins with a name')
 rule('other_in_braces', 'Braces', make('br.Parameters ($0 ∷ $1)', 'other_expression', 'more_parameters'), 'other parameters')
 rule('empty_braces', 'Braces', make('br.Empty', tok('CLOSE_BRACE')))
@@ -145,13 +146,14 @@ rule('range_end', 'Option Expr', opt(make('$1', tok('DOT_DOT'), 'scoped_sum')), 
 rule('late_sum', 'SumTail', scope(costs(True, seq(spanned('unary'), 'sum_rests'))), 'a sum behind a prefix operator that was read, whose level is charged here')
 rule('late_range', 'LateRange', seq('late_sum', 'range_end'))
 rule('maybe_late_range', 'Option LateRange', opt('late_range'), acc=True)
-rule('minus_pattern', 'Pattern', node('minus_pattern_of $s $0 $1', tok('MINUS'), 'maybe_late_range'), '"-", and a sum that begins with `-`')
+rule('minus_pattern', 'Pattern', node('minus_pattern_of $s $f $1', tok('MINUS'), 'maybe_late_range'), '"-", and a sum that begins with `-`')
 rule('after_bang', 'List Pattern ⊎ LateRange', either(by('inl', 'set_braces'), by('inr', 'late_range')), acc=True)
-rule('bang_pattern', 'Pattern', node('bang_pattern_of $s $0 $1', tok('BANG'), 'after_bang'), 'a set with `!`, and a sum that begins with `!`')
+rule('bang_pattern', 'Pattern', node('bang_pattern_of $s $f $1', tok('BANG'), 'after_bang'), 'a set with `!`, and a sum that begins with `!`')
 rule('bound_pattern', 'Pattern', node('bound_of $s (code $0.kind) $1', tok('LESS_EQUAL', 'GREATER_EQUAL'), 'scoped_sum'), '("<=" | ">=") sum')
 rule('pattern_in_parens', 'Pattern', node('pattern_parens_of $s $0.1', scope(into(['OPEN_PAREN'], 'PatternParts'))), '"(" pattern,.. ")"')
 rule('plain_unary', 'Expr', either(apply('prefixed_by', ['NOT']), 'post_literal', 'post_named'), 'a unary that begins with none of `-`, `!`, `(`')
-rule('plain_sum', 'Expr', scope(level('plain_unary', 'sum_rests')))
+rule('plain_chain', 'Expr', level('plain_unary', 'sum_rests'))
+rule('plain_sum', 'Expr', scope('plain_chain'))
 rule('sum_pattern', 'Pattern', node('pattern_of $s $0 $1', 'plain_sum', 'range_end'), 'sum (".." sum)?, where the sum begins with none of `-`, `!`, `(`')
 rule('pattern', 'Pattern', either('minus_pattern', 'bang_pattern', 'set_pattern', 'mask_pattern', 'bound_pattern', 'pattern_in_parens', 'sum_pattern'), 'pattern = "-" | set | MASK | ("<=" | ">=") sum | "(" pattern,.. ")" | sum (".." sum)?')
 rule('patterns', 'List Pattern', commas('pattern'), 'pattern,..')

@@ -54,7 +54,7 @@ use Rattle.asl_grammar.specs.grammar.Cursor.{Lexeme, Extent, whole}
 use Rattle.asl_grammar.specs.grammar.Combinators.{tok, opens, into, seq, either, opt, many, by, spanned, scope, closed, trail, costs, follows}
 use Rattle.asl_grammar.specs.grammar.Reader.{by_one, cont, covers}
 use Rattle.asl_grammar.specs.grammar.Build.{seconds, or_nil, int_of, ident, unary_of, direction_of, print_kind_of, storage_kind_of, qualifier_of, or_unqualified, Link, Links, AsLinks, chained, compared, as_chained, joined, finished, Posts, posted, parens_of, named_of, parameters_or, empty_or, braced, LateTail, NameTail, minus_in_braces_of, name_in_braces_of, slice_of, constraint_part_of, bitfield_of, pattern_of, SumTail, LateRange, minus_pattern_of, bang_pattern_of, bound_of, pattern_parens_of, place_of, var_tail_of, var_of, name_statement_of, or_no_otherwise, no_catchers, catch_of, untyped, VarRest, MoreNames, Typed, Untyped}
-use Rattle.asl_grammar.specs.grammar.Rules.{Sym, Parenthesized, Arguments, Braced, Operand, IfParts, Bracketed, Width, SetParts, PatternParts, ConstraintParts, Bitfields, TypeParts, ArrayParts, TargetParts, IfBody, CaseBody, ForBody, WhileBody, RepeatBody, TryBody, Program, rule, after, name, names, integer_literal, bits_literal, boolean_literal, literal, parenthesized, arguments, braces, braces_called, after_braces, after_name, maybe_after_name, named, field_list, dotted, dot, bracket, suffix_part, suffix, suffixes, bits_pattern, mask_pattern, set_braces, set_pattern, not_set_pattern, in_pattern, in_clause, post_rest, post_literal, post_parenthesized, post_named, prefixed_by, unary, power_rest, power, product_rest, product, sum_rest, sum, comparison_rest, comparison, equality_rest, equality, links_by, some_links_by, logic_links, logic_rest, logic, constraint, maybe_constraint, integer_type, boolean_type, bit_type, named_type, bitfields, maybe_bitfields, bits_type, tuple_type, array_type, type_expression, constraint_type, as_type, as_rest, as_chain, conditional, open_expression, expression, if_parts, rest, more_expressions, expressions, maybe_expressions, maybe_expression, parenthesized_in, arguments_in, width_in, late_expression, expression_after_name, other_unary, other_chain, other_expression, field_value, more_field_values, field_values_after_name, more_parameters, parameters_after_minus, parameters_after_name, minus_alone, after_minus, after_first_name, minus_in_braces, name_in_braces, other_in_braces, empty_braces, braced_in, slice_rest, slice, slices, slices_in, element, bracketed_in, sum_rests, scoped_sum, range_end, late_sum, late_range, maybe_late_range, minus_pattern, after_bang, bang_pattern, bound_pattern, pattern_in_parens, plain_unary, plain_sum, sum_pattern, pattern, patterns, set_parts, pattern_parts, constraint_end, constraint_part, constraint_list, constraint_parts, low_end, bit_ends, bitfield, bitfield_list, maybe_bitfield_list, bitfields_in, type_list, type_parts, array_length, array_parts, typed, pass, unreachable, assert, bind_name, no_binder, binder, binders, several, other_bind, local_bind, value, let_statement, more_names, names_typed, no_value, maybe_value, typed_value, var_rest, var_names, var_other, var_tail, var_statement, parameters, maybe_parameters, call_arguments, invoked, target_suffixes, assigned, name_statement_rest, name_statement, no_target, targets, other_target, assignment, if_statement, case_statement, for_statement, while_statement, repeat_statement, return_statement, throw_statement, try_statement, verbatim, print_item, print_items, maybe_print_items, print_arguments, print_statement, statement, block, loop_limit, otherwise, maybe_otherwise, place, target, target_list, target_parts, else_if, else_ifs, else_block, maybe_else, if_body, where_clause, alternative, alternatives, case_body, direction, for_body, while_body, repeat_body, caught_type, catcher, catchers, some_catchers, handlers, try_body, formal, formal_list, maybe_formals, formals, param, param_list, maybe_param_list, params, maybe_params, label_list, label_braces, labels, no_members, listed_members, some_members, maybe_some_members, member_braces, members, record_type, exception_type, type_definition, supertype, type_decl, fixed_storage, typed_var, global_rest, global_var, result_type, recursion_limit, written_qualifier, qualifier, function, declaration, program}
+use Rattle.asl_grammar.specs.grammar.Rules.{Sym, Parenthesized, Arguments, Braced, Operand, IfParts, Bracketed, Width, SetParts, PatternParts, ConstraintParts, Bitfields, TypeParts, ArrayParts, TargetParts, IfBody, CaseBody, ForBody, WhileBody, RepeatBody, TryBody, Program, rule, after, name, names, integer_literal, bits_literal, boolean_literal, literal, parenthesized, arguments, braces, braces_called, after_braces, after_name, maybe_after_name, named, field_list, dotted, dot, bracket, suffix_part, suffix, suffixes, bits_pattern, mask_pattern, set_braces, set_pattern, not_set_pattern, in_pattern, in_clause, post_rest, post_literal, post_parenthesized, post_named, prefixed_by, unary, power_rest, power, product_rest, product, sum_rest, sum, comparison_rest, comparison, equality_rest, equality, links_by, some_links_by, logic_links, logic_rest, logic, constraint, maybe_constraint, integer_type, boolean_type, bit_type, named_type, bitfields, maybe_bitfields, bits_type, tuple_type, array_type, type_expression, constraint_type, as_type, as_rest, as_chain, conditional, open_expression, expression, if_parts, rest, more_expressions, expressions, maybe_expressions, maybe_expression, parenthesized_in, arguments_in, width_in, late_expression, expression_after_name, other_unary, other_chain, other_open_expression, other_expression, field_value, more_field_values, field_values_after_name, more_parameters, parameters_after_minus, parameters_after_name, minus_alone, after_minus, after_first_name, minus_in_braces, name_in_braces, other_in_braces, empty_braces, braced_in, slice_rest, slice, slices, slices_in, element, bracketed_in, sum_rests, scoped_sum, range_end, late_sum, late_range, maybe_late_range, minus_pattern, after_bang, bang_pattern, bound_pattern, pattern_in_parens, plain_unary, plain_chain, plain_sum, sum_pattern, pattern, patterns, set_parts, pattern_parts, constraint_end, constraint_part, constraint_list, constraint_parts, low_end, bit_ends, bitfield, bitfield_list, maybe_bitfield_list, bitfields_in, type_list, type_parts, array_length, array_parts, typed, pass, unreachable, assert, bind_name, no_binder, binder, binders, several, other_bind, local_bind, value, let_statement, more_names, names_typed, no_value, maybe_value, typed_value, var_rest, var_names, var_other, var_tail, var_statement, parameters, maybe_parameters, call_arguments, invoked, target_suffixes, assigned, name_statement_rest, name_statement, no_target, targets, other_target, assignment, if_statement, case_statement, for_statement, while_statement, repeat_statement, return_statement, throw_statement, try_statement, verbatim, print_item, print_items, maybe_print_items, print_arguments, print_statement, statement, block, loop_limit, otherwise, maybe_otherwise, place, target, target_list, target_parts, else_if, else_ifs, else_block, maybe_else, if_body, where_clause, alternative, alternatives, case_body, direction, for_body, while_body, repeat_body, caught_type, catcher, catchers, some_catchers, handlers, try_body, formal, formal_list, maybe_formals, formals, param, param_list, maybe_param_list, params, maybe_params, label_list, label_braces, labels, no_members, listed_members, some_members, maybe_some_members, member_braces, members, record_type, exception_type, type_definition, supertype, type_decl, fixed_storage, typed_var, global_rest, global_var, result_type, recursion_limit, written_qualifier, qualifier, function, declaration, program}
 use Rattle.asl_grammar.proofs.grammar.Facts.{Facts, fit, tok_f, opens_f, into_f, closed_f, seq_f, either_f, opt_f, many_f, by_f, spanned_f, scope_f, trail_f, costs_f, follows_f, covered_by}
 
 f_name : Facts name false (NAME ∷ []) []
@@ -585,10 +585,16 @@ f_other_chain =
     let raw : Facts {A = Expr} (by (λ r. finished r.0.1.from r.0.0 r.1) (seq (spanned other_unary) rest)) false (INTEGER_LITERAL ∷ BITS_LITERAL ∷ OPEN_PAREN ∷ BANG ∷ FALSE ∷ NOT ∷ TRUE ∷ []) (OPEN_PAREN ∷ OPEN_BRACKET ∷ OPEN_BRACE ∷ DOT ∷ COLON_COLON ∷ EQUAL ∷ NOT_EQUAL ∷ AND_AND ∷ OR_OR ∷ IMPLIES ∷ IFF ∷ LESS ∷ LESS_EQUAL ∷ SHIFT_LEFT ∷ GREATER ∷ GREATER_EQUAL ∷ SHIFT_RIGHT ∷ PLUS ∷ MINUS ∷ STAR ∷ CARET ∷ BIT_AND ∷ DIV ∷ DIV_RM ∷ IN ∷ MOD ∷ BIT_OR ∷ BIT_XOR ∷ AS ∷ OPEN_PAREN ∷ OPEN_BRACKET ∷ OPEN_BRACE ∷ DOT ∷ IN ∷ []) = (by_f (seq_f (spanned_f f_other_unary) f_rest refl)) in
     fit (INTEGER_LITERAL ∷ BITS_LITERAL ∷ OPEN_PAREN ∷ BANG ∷ FALSE ∷ NOT ∷ TRUE ∷ []) (OPEN_PAREN ∷ OPEN_BRACKET ∷ OPEN_BRACE ∷ DOT ∷ COLON_COLON ∷ EQUAL ∷ NOT_EQUAL ∷ AND_AND ∷ OR_OR ∷ IMPLIES ∷ IFF ∷ LESS ∷ LESS_EQUAL ∷ SHIFT_LEFT ∷ GREATER ∷ GREATER_EQUAL ∷ SHIFT_RIGHT ∷ PLUS ∷ MINUS ∷ STAR ∷ CARET ∷ BIT_AND ∷ DIV ∷ DIV_RM ∷ IN ∷ MOD ∷ BIT_OR ∷ BIT_XOR ∷ AS ∷ []) raw refl refl
 
+f_other_open_expression : Facts other_open_expression false (INTEGER_LITERAL ∷ BITS_LITERAL ∷ OPEN_PAREN ∷ BANG ∷ FALSE ∷ NOT ∷ TRUE ∷ IF ∷ []) (OPEN_PAREN ∷ OPEN_BRACKET ∷ OPEN_BRACE ∷ DOT ∷ COLON_COLON ∷ EQUAL ∷ NOT_EQUAL ∷ AND_AND ∷ OR_OR ∷ IMPLIES ∷ IFF ∷ LESS ∷ LESS_EQUAL ∷ SHIFT_LEFT ∷ GREATER ∷ GREATER_EQUAL ∷ SHIFT_RIGHT ∷ PLUS ∷ MINUS ∷ STAR ∷ CARET ∷ BIT_AND ∷ DIV ∷ DIV_RM ∷ IN ∷ MOD ∷ BIT_OR ∷ BIT_XOR ∷ AS ∷ [])
+unfolding other_open_expression
+f_other_open_expression =
+    let raw : Facts {A = Expr} (either conditional other_chain) false (INTEGER_LITERAL ∷ BITS_LITERAL ∷ OPEN_PAREN ∷ BANG ∷ FALSE ∷ NOT ∷ TRUE ∷ IF ∷ []) (OPEN_PAREN ∷ OPEN_BRACKET ∷ OPEN_BRACE ∷ DOT ∷ COLON_COLON ∷ EQUAL ∷ NOT_EQUAL ∷ AND_AND ∷ OR_OR ∷ IMPLIES ∷ IFF ∷ LESS ∷ LESS_EQUAL ∷ SHIFT_LEFT ∷ GREATER ∷ GREATER_EQUAL ∷ SHIFT_RIGHT ∷ PLUS ∷ MINUS ∷ STAR ∷ CARET ∷ BIT_AND ∷ DIV ∷ DIV_RM ∷ IN ∷ MOD ∷ BIT_OR ∷ BIT_XOR ∷ AS ∷ []) = (fit (INTEGER_LITERAL ∷ BITS_LITERAL ∷ OPEN_PAREN ∷ BANG ∷ FALSE ∷ NOT ∷ TRUE ∷ IF ∷ []) (OPEN_PAREN ∷ OPEN_BRACKET ∷ OPEN_BRACE ∷ DOT ∷ COLON_COLON ∷ EQUAL ∷ NOT_EQUAL ∷ AND_AND ∷ OR_OR ∷ IMPLIES ∷ IFF ∷ LESS ∷ LESS_EQUAL ∷ SHIFT_LEFT ∷ GREATER ∷ GREATER_EQUAL ∷ SHIFT_RIGHT ∷ PLUS ∷ MINUS ∷ STAR ∷ CARET ∷ BIT_AND ∷ DIV ∷ DIV_RM ∷ IN ∷ MOD ∷ BIT_OR ∷ BIT_XOR ∷ AS ∷ []) (either_f f_conditional f_other_chain refl) refl refl) in
+    fit (INTEGER_LITERAL ∷ BITS_LITERAL ∷ OPEN_PAREN ∷ BANG ∷ FALSE ∷ NOT ∷ TRUE ∷ IF ∷ []) (OPEN_PAREN ∷ OPEN_BRACKET ∷ OPEN_BRACE ∷ DOT ∷ COLON_COLON ∷ EQUAL ∷ NOT_EQUAL ∷ AND_AND ∷ OR_OR ∷ IMPLIES ∷ IFF ∷ LESS ∷ LESS_EQUAL ∷ SHIFT_LEFT ∷ GREATER ∷ GREATER_EQUAL ∷ SHIFT_RIGHT ∷ PLUS ∷ MINUS ∷ STAR ∷ CARET ∷ BIT_AND ∷ DIV ∷ DIV_RM ∷ IN ∷ MOD ∷ BIT_OR ∷ BIT_XOR ∷ AS ∷ []) raw refl refl
+
 f_other_expression : Facts other_expression false (INTEGER_LITERAL ∷ BITS_LITERAL ∷ OPEN_PAREN ∷ BANG ∷ FALSE ∷ NOT ∷ TRUE ∷ IF ∷ []) (OPEN_PAREN ∷ OPEN_BRACKET ∷ OPEN_BRACE ∷ DOT ∷ COLON_COLON ∷ EQUAL ∷ NOT_EQUAL ∷ AND_AND ∷ OR_OR ∷ IMPLIES ∷ IFF ∷ LESS ∷ LESS_EQUAL ∷ SHIFT_LEFT ∷ GREATER ∷ GREATER_EQUAL ∷ SHIFT_RIGHT ∷ PLUS ∷ MINUS ∷ STAR ∷ CARET ∷ BIT_AND ∷ DIV ∷ DIV_RM ∷ IN ∷ MOD ∷ BIT_OR ∷ BIT_XOR ∷ AS ∷ [])
 unfolding other_expression
 f_other_expression =
-    let raw : Facts {A = Expr} (scope (either conditional other_chain)) false (INTEGER_LITERAL ∷ BITS_LITERAL ∷ OPEN_PAREN ∷ BANG ∷ FALSE ∷ NOT ∷ TRUE ∷ IF ∷ []) (OPEN_PAREN ∷ OPEN_BRACKET ∷ OPEN_BRACE ∷ DOT ∷ COLON_COLON ∷ EQUAL ∷ NOT_EQUAL ∷ AND_AND ∷ OR_OR ∷ IMPLIES ∷ IFF ∷ LESS ∷ LESS_EQUAL ∷ SHIFT_LEFT ∷ GREATER ∷ GREATER_EQUAL ∷ SHIFT_RIGHT ∷ PLUS ∷ MINUS ∷ STAR ∷ CARET ∷ BIT_AND ∷ DIV ∷ DIV_RM ∷ IN ∷ MOD ∷ BIT_OR ∷ BIT_XOR ∷ AS ∷ []) = (scope_f (fit (INTEGER_LITERAL ∷ BITS_LITERAL ∷ OPEN_PAREN ∷ BANG ∷ FALSE ∷ NOT ∷ TRUE ∷ IF ∷ []) (OPEN_PAREN ∷ OPEN_BRACKET ∷ OPEN_BRACE ∷ DOT ∷ COLON_COLON ∷ EQUAL ∷ NOT_EQUAL ∷ AND_AND ∷ OR_OR ∷ IMPLIES ∷ IFF ∷ LESS ∷ LESS_EQUAL ∷ SHIFT_LEFT ∷ GREATER ∷ GREATER_EQUAL ∷ SHIFT_RIGHT ∷ PLUS ∷ MINUS ∷ STAR ∷ CARET ∷ BIT_AND ∷ DIV ∷ DIV_RM ∷ IN ∷ MOD ∷ BIT_OR ∷ BIT_XOR ∷ AS ∷ []) (either_f f_conditional f_other_chain refl) refl refl)) in
+    let raw : Facts {A = Expr} (scope other_open_expression) false (INTEGER_LITERAL ∷ BITS_LITERAL ∷ OPEN_PAREN ∷ BANG ∷ FALSE ∷ NOT ∷ TRUE ∷ IF ∷ []) (OPEN_PAREN ∷ OPEN_BRACKET ∷ OPEN_BRACE ∷ DOT ∷ COLON_COLON ∷ EQUAL ∷ NOT_EQUAL ∷ AND_AND ∷ OR_OR ∷ IMPLIES ∷ IFF ∷ LESS ∷ LESS_EQUAL ∷ SHIFT_LEFT ∷ GREATER ∷ GREATER_EQUAL ∷ SHIFT_RIGHT ∷ PLUS ∷ MINUS ∷ STAR ∷ CARET ∷ BIT_AND ∷ DIV ∷ DIV_RM ∷ IN ∷ MOD ∷ BIT_OR ∷ BIT_XOR ∷ AS ∷ []) = (scope_f f_other_open_expression) in
     fit (INTEGER_LITERAL ∷ BITS_LITERAL ∷ OPEN_PAREN ∷ BANG ∷ FALSE ∷ NOT ∷ TRUE ∷ IF ∷ []) (OPEN_PAREN ∷ OPEN_BRACKET ∷ OPEN_BRACE ∷ DOT ∷ COLON_COLON ∷ EQUAL ∷ NOT_EQUAL ∷ AND_AND ∷ OR_OR ∷ IMPLIES ∷ IFF ∷ LESS ∷ LESS_EQUAL ∷ SHIFT_LEFT ∷ GREATER ∷ GREATER_EQUAL ∷ SHIFT_RIGHT ∷ PLUS ∷ MINUS ∷ STAR ∷ CARET ∷ BIT_AND ∷ DIV ∷ DIV_RM ∷ IN ∷ MOD ∷ BIT_OR ∷ BIT_XOR ∷ AS ∷ []) raw refl refl
 
 f_field_value : Facts field_value false (NAME ∷ []) (OPEN_PAREN ∷ OPEN_BRACKET ∷ OPEN_BRACE ∷ DOT ∷ COLON_COLON ∷ EQUAL ∷ NOT_EQUAL ∷ AND_AND ∷ OR_OR ∷ IMPLIES ∷ IFF ∷ LESS ∷ LESS_EQUAL ∷ SHIFT_LEFT ∷ GREATER ∷ GREATER_EQUAL ∷ SHIFT_RIGHT ∷ PLUS ∷ MINUS ∷ STAR ∷ CARET ∷ BIT_AND ∷ DIV ∷ DIV_RM ∷ IN ∷ MOD ∷ BIT_OR ∷ BIT_XOR ∷ AS ∷ [])
@@ -648,7 +654,7 @@ f_after_first_name =
 f_minus_in_braces : Facts minus_in_braces false (MINUS ∷ []) []
 unfolding minus_in_braces
 f_minus_in_braces =
-    let raw : Facts {A = Braces} (by (λ r. minus_in_braces_of r.0 r.1) (seq (tok (MINUS ∷ [])) after_minus)) false (MINUS ∷ []) [] = (by_f (seq_f tok_f f_after_minus refl)) in
+    let raw : Facts {A = Braces} (by (λ r. minus_in_braces_of r.0.span r.1) (seq (tok (MINUS ∷ [])) after_minus)) false (MINUS ∷ []) [] = (by_f (seq_f tok_f f_after_minus refl)) in
     fit (MINUS ∷ []) [] raw refl refl
 
 f_name_in_braces : Facts name_in_braces false (NAME ∷ []) []
@@ -750,7 +756,7 @@ f_maybe_late_range =
 f_minus_pattern : Facts minus_pattern false (MINUS ∷ []) (NAME ∷ INTEGER_LITERAL ∷ BITS_LITERAL ∷ OPEN_PAREN ∷ OPEN_BRACKET ∷ OPEN_BRACE ∷ DOT ∷ DOT_DOT ∷ COLON_COLON ∷ BANG ∷ SHIFT_LEFT ∷ SHIFT_RIGHT ∷ PLUS ∷ MINUS ∷ STAR ∷ CARET ∷ BIT_AND ∷ DIV ∷ DIV_RM ∷ FALSE ∷ IN ∷ MOD ∷ NOT ∷ BIT_OR ∷ TRUE ∷ BIT_XOR ∷ [])
 unfolding minus_pattern
 f_minus_pattern =
-    let raw : Facts {A = Pattern} (by (λ r. minus_pattern_of (whole r.1) r.0.0 r.0.1) (spanned (seq (tok (MINUS ∷ [])) maybe_late_range))) false (MINUS ∷ []) (NAME ∷ INTEGER_LITERAL ∷ BITS_LITERAL ∷ OPEN_PAREN ∷ OPEN_BRACKET ∷ OPEN_BRACE ∷ DOT ∷ DOT_DOT ∷ COLON_COLON ∷ BANG ∷ SHIFT_LEFT ∷ SHIFT_RIGHT ∷ PLUS ∷ MINUS ∷ STAR ∷ CARET ∷ BIT_AND ∷ DIV ∷ DIV_RM ∷ FALSE ∷ IN ∷ MOD ∷ NOT ∷ BIT_OR ∷ TRUE ∷ BIT_XOR ∷ []) = (by_f (spanned_f (seq_f tok_f f_maybe_late_range refl))) in
+    let raw : Facts {A = Pattern} (by (λ r. minus_pattern_of (whole r.1) r.1.from r.0.1) (spanned (seq (tok (MINUS ∷ [])) maybe_late_range))) false (MINUS ∷ []) (NAME ∷ INTEGER_LITERAL ∷ BITS_LITERAL ∷ OPEN_PAREN ∷ OPEN_BRACKET ∷ OPEN_BRACE ∷ DOT ∷ DOT_DOT ∷ COLON_COLON ∷ BANG ∷ SHIFT_LEFT ∷ SHIFT_RIGHT ∷ PLUS ∷ MINUS ∷ STAR ∷ CARET ∷ BIT_AND ∷ DIV ∷ DIV_RM ∷ FALSE ∷ IN ∷ MOD ∷ NOT ∷ BIT_OR ∷ TRUE ∷ BIT_XOR ∷ []) = (by_f (spanned_f (seq_f tok_f f_maybe_late_range refl))) in
     fit (MINUS ∷ []) (NAME ∷ INTEGER_LITERAL ∷ BITS_LITERAL ∷ OPEN_PAREN ∷ OPEN_BRACKET ∷ OPEN_BRACE ∷ DOT ∷ DOT_DOT ∷ COLON_COLON ∷ BANG ∷ SHIFT_LEFT ∷ SHIFT_RIGHT ∷ PLUS ∷ MINUS ∷ STAR ∷ CARET ∷ BIT_AND ∷ DIV ∷ DIV_RM ∷ FALSE ∷ IN ∷ MOD ∷ NOT ∷ BIT_OR ∷ TRUE ∷ BIT_XOR ∷ []) raw refl refl
 
 f_after_bang : Facts after_bang false (NAME ∷ INTEGER_LITERAL ∷ BITS_LITERAL ∷ OPEN_PAREN ∷ OPEN_BRACE ∷ BANG ∷ MINUS ∷ FALSE ∷ NOT ∷ TRUE ∷ []) (OPEN_PAREN ∷ OPEN_BRACKET ∷ OPEN_BRACE ∷ DOT ∷ DOT_DOT ∷ COLON_COLON ∷ SHIFT_LEFT ∷ SHIFT_RIGHT ∷ PLUS ∷ MINUS ∷ STAR ∷ CARET ∷ BIT_AND ∷ DIV ∷ DIV_RM ∷ IN ∷ MOD ∷ BIT_OR ∷ BIT_XOR ∷ [])
@@ -762,7 +768,7 @@ f_after_bang =
 f_bang_pattern : Facts bang_pattern false (BANG ∷ []) (OPEN_PAREN ∷ OPEN_BRACKET ∷ OPEN_BRACE ∷ DOT ∷ DOT_DOT ∷ COLON_COLON ∷ SHIFT_LEFT ∷ SHIFT_RIGHT ∷ PLUS ∷ MINUS ∷ STAR ∷ CARET ∷ BIT_AND ∷ DIV ∷ DIV_RM ∷ IN ∷ MOD ∷ BIT_OR ∷ BIT_XOR ∷ [])
 unfolding bang_pattern
 f_bang_pattern =
-    let raw : Facts {A = Pattern} (by (λ r. bang_pattern_of (whole r.1) r.0.0 r.0.1) (spanned (seq (tok (BANG ∷ [])) after_bang))) false (BANG ∷ []) (OPEN_PAREN ∷ OPEN_BRACKET ∷ OPEN_BRACE ∷ DOT ∷ DOT_DOT ∷ COLON_COLON ∷ SHIFT_LEFT ∷ SHIFT_RIGHT ∷ PLUS ∷ MINUS ∷ STAR ∷ CARET ∷ BIT_AND ∷ DIV ∷ DIV_RM ∷ IN ∷ MOD ∷ BIT_OR ∷ BIT_XOR ∷ []) = (by_f (spanned_f (seq_f tok_f f_after_bang refl))) in
+    let raw : Facts {A = Pattern} (by (λ r. bang_pattern_of (whole r.1) r.1.from r.0.1) (spanned (seq (tok (BANG ∷ [])) after_bang))) false (BANG ∷ []) (OPEN_PAREN ∷ OPEN_BRACKET ∷ OPEN_BRACE ∷ DOT ∷ DOT_DOT ∷ COLON_COLON ∷ SHIFT_LEFT ∷ SHIFT_RIGHT ∷ PLUS ∷ MINUS ∷ STAR ∷ CARET ∷ BIT_AND ∷ DIV ∷ DIV_RM ∷ IN ∷ MOD ∷ BIT_OR ∷ BIT_XOR ∷ []) = (by_f (spanned_f (seq_f tok_f f_after_bang refl))) in
     fit (BANG ∷ []) (OPEN_PAREN ∷ OPEN_BRACKET ∷ OPEN_BRACE ∷ DOT ∷ DOT_DOT ∷ COLON_COLON ∷ SHIFT_LEFT ∷ SHIFT_RIGHT ∷ PLUS ∷ MINUS ∷ STAR ∷ CARET ∷ BIT_AND ∷ DIV ∷ DIV_RM ∷ IN ∷ MOD ∷ BIT_OR ∷ BIT_XOR ∷ []) raw refl refl
 
 f_bound_pattern : Facts bound_pattern false (LESS_EQUAL ∷ GREATER_EQUAL ∷ []) (OPEN_PAREN ∷ OPEN_BRACKET ∷ OPEN_BRACE ∷ DOT ∷ COLON_COLON ∷ SHIFT_LEFT ∷ SHIFT_RIGHT ∷ PLUS ∷ MINUS ∷ STAR ∷ CARET ∷ BIT_AND ∷ DIV ∷ DIV_RM ∷ IN ∷ MOD ∷ BIT_OR ∷ BIT_XOR ∷ [])
@@ -789,10 +795,16 @@ f_plain_unary =
     let raw : Facts {A = Expr} (either (prefixed_by (NOT ∷ [])) (either post_literal post_named)) false (NOT ∷ INTEGER_LITERAL ∷ BITS_LITERAL ∷ FALSE ∷ TRUE ∷ NAME ∷ []) (OPEN_PAREN ∷ OPEN_BRACKET ∷ OPEN_BRACE ∷ DOT ∷ IN ∷ OPEN_BRACKET ∷ DOT ∷ IN ∷ OPEN_PAREN ∷ OPEN_BRACKET ∷ OPEN_BRACE ∷ DOT ∷ IN ∷ []) = (either_f f_prefixed_by_not (either_f f_post_literal f_post_named refl) refl) in
     fit (NAME ∷ INTEGER_LITERAL ∷ BITS_LITERAL ∷ FALSE ∷ NOT ∷ TRUE ∷ []) (OPEN_PAREN ∷ OPEN_BRACKET ∷ OPEN_BRACE ∷ DOT ∷ IN ∷ []) raw refl refl
 
+f_plain_chain : Facts plain_chain false (NAME ∷ INTEGER_LITERAL ∷ BITS_LITERAL ∷ FALSE ∷ NOT ∷ TRUE ∷ []) (OPEN_PAREN ∷ OPEN_BRACKET ∷ OPEN_BRACE ∷ DOT ∷ COLON_COLON ∷ SHIFT_LEFT ∷ SHIFT_RIGHT ∷ PLUS ∷ MINUS ∷ STAR ∷ CARET ∷ BIT_AND ∷ DIV ∷ DIV_RM ∷ IN ∷ MOD ∷ BIT_OR ∷ BIT_XOR ∷ [])
+unfolding plain_chain
+f_plain_chain =
+    let raw : Facts {A = Expr} (by (λ r. chained r.0.1.from r.0.0 r.1) (seq (spanned plain_unary) sum_rests)) false (NAME ∷ INTEGER_LITERAL ∷ BITS_LITERAL ∷ FALSE ∷ NOT ∷ TRUE ∷ []) (OPEN_PAREN ∷ OPEN_BRACKET ∷ OPEN_BRACE ∷ DOT ∷ COLON_COLON ∷ SHIFT_LEFT ∷ SHIFT_RIGHT ∷ PLUS ∷ MINUS ∷ STAR ∷ CARET ∷ BIT_AND ∷ DIV ∷ DIV_RM ∷ IN ∷ MOD ∷ BIT_OR ∷ BIT_XOR ∷ OPEN_PAREN ∷ OPEN_BRACKET ∷ OPEN_BRACE ∷ DOT ∷ IN ∷ []) = (by_f (seq_f (spanned_f f_plain_unary) f_sum_rests refl)) in
+    fit (NAME ∷ INTEGER_LITERAL ∷ BITS_LITERAL ∷ FALSE ∷ NOT ∷ TRUE ∷ []) (OPEN_PAREN ∷ OPEN_BRACKET ∷ OPEN_BRACE ∷ DOT ∷ COLON_COLON ∷ SHIFT_LEFT ∷ SHIFT_RIGHT ∷ PLUS ∷ MINUS ∷ STAR ∷ CARET ∷ BIT_AND ∷ DIV ∷ DIV_RM ∷ IN ∷ MOD ∷ BIT_OR ∷ BIT_XOR ∷ []) raw refl refl
+
 f_plain_sum : Facts plain_sum false (NAME ∷ INTEGER_LITERAL ∷ BITS_LITERAL ∷ FALSE ∷ NOT ∷ TRUE ∷ []) (OPEN_PAREN ∷ OPEN_BRACKET ∷ OPEN_BRACE ∷ DOT ∷ COLON_COLON ∷ SHIFT_LEFT ∷ SHIFT_RIGHT ∷ PLUS ∷ MINUS ∷ STAR ∷ CARET ∷ BIT_AND ∷ DIV ∷ DIV_RM ∷ IN ∷ MOD ∷ BIT_OR ∷ BIT_XOR ∷ [])
 unfolding plain_sum
 f_plain_sum =
-    let raw : Facts {A = Expr} (scope (by (λ r. chained r.0.1.from r.0.0 r.1) (seq (spanned plain_unary) sum_rests))) false (NAME ∷ INTEGER_LITERAL ∷ BITS_LITERAL ∷ FALSE ∷ NOT ∷ TRUE ∷ []) (OPEN_PAREN ∷ OPEN_BRACKET ∷ OPEN_BRACE ∷ DOT ∷ COLON_COLON ∷ SHIFT_LEFT ∷ SHIFT_RIGHT ∷ PLUS ∷ MINUS ∷ STAR ∷ CARET ∷ BIT_AND ∷ DIV ∷ DIV_RM ∷ IN ∷ MOD ∷ BIT_OR ∷ BIT_XOR ∷ OPEN_PAREN ∷ OPEN_BRACKET ∷ OPEN_BRACE ∷ DOT ∷ IN ∷ []) = (scope_f (by_f (seq_f (spanned_f f_plain_unary) f_sum_rests refl))) in
+    let raw : Facts {A = Expr} (scope plain_chain) false (NAME ∷ INTEGER_LITERAL ∷ BITS_LITERAL ∷ FALSE ∷ NOT ∷ TRUE ∷ []) (OPEN_PAREN ∷ OPEN_BRACKET ∷ OPEN_BRACE ∷ DOT ∷ COLON_COLON ∷ SHIFT_LEFT ∷ SHIFT_RIGHT ∷ PLUS ∷ MINUS ∷ STAR ∷ CARET ∷ BIT_AND ∷ DIV ∷ DIV_RM ∷ IN ∷ MOD ∷ BIT_OR ∷ BIT_XOR ∷ []) = (scope_f f_plain_chain) in
     fit (NAME ∷ INTEGER_LITERAL ∷ BITS_LITERAL ∷ FALSE ∷ NOT ∷ TRUE ∷ []) (OPEN_PAREN ∷ OPEN_BRACKET ∷ OPEN_BRACE ∷ DOT ∷ COLON_COLON ∷ SHIFT_LEFT ∷ SHIFT_RIGHT ∷ PLUS ∷ MINUS ∷ STAR ∷ CARET ∷ BIT_AND ∷ DIV ∷ DIV_RM ∷ IN ∷ MOD ∷ BIT_OR ∷ BIT_XOR ∷ []) raw refl refl
 
 f_sum_pattern : Facts sum_pattern false (NAME ∷ INTEGER_LITERAL ∷ BITS_LITERAL ∷ FALSE ∷ NOT ∷ TRUE ∷ []) (OPEN_PAREN ∷ OPEN_BRACKET ∷ OPEN_BRACE ∷ DOT ∷ DOT_DOT ∷ COLON_COLON ∷ SHIFT_LEFT ∷ SHIFT_RIGHT ∷ PLUS ∷ MINUS ∷ STAR ∷ CARET ∷ BIT_AND ∷ DIV ∷ DIV_RM ∷ IN ∷ MOD ∷ BIT_OR ∷ BIT_XOR ∷ [])

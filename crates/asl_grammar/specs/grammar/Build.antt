@@ -208,9 +208,9 @@ late_of from operator r = finished from (prefixed_at from operator r.0) r.1
 abbrev pub after_name_of : Ident → NameTail → Expr
 after_name_of i r = finished i.span (posted i.span (named_of i r.0) r.1.0) r.1.1
 
-abbrev pub minus_in_braces_of : Lexeme → Option (LateTail × List Expr) → Braces
-minus_in_braces_of t None = br.Fields []
-minus_in_braces_of t (Some r) = br.Parameters (late_of t.span un.Negate r.0 ∷ r.1)
+abbrev pub minus_in_braces_of : Span → Option (LateTail × List Expr) → Braces
+minus_in_braces_of minus None = br.Fields []
+minus_in_braces_of minus (Some r) = br.Parameters (late_of minus un.Negate r.0 ∷ r.1)
 
 abbrev pub name_in_braces_of : Ident → (Expr × List FieldValue) ⊎ (NameTail × List Expr) → Braces
 name_in_braces_of i (inl r) = br.Fields (fv.Given i r.0 ∷ r.1)
@@ -248,13 +248,13 @@ LateRange = SumTail × Option Expr
 abbrev pub late_sum_of : Span → UnaryOperator → SumTail → Expr
 late_sum_of from operator r = chained from (prefixed_at from operator r.0) r.1
 
-abbrev pub minus_pattern_of : Span → Lexeme → Option LateRange → Pattern
-minus_pattern_of span t None = pa.AnyPattern span
-minus_pattern_of span t (Some r) = pattern_of span (late_sum_of t.span un.Negate r.0) r.1
+abbrev pub minus_pattern_of : Span → Span → Option LateRange → Pattern
+minus_pattern_of span minus None = pa.AnyPattern span
+minus_pattern_of span minus (Some r) = pattern_of span (late_sum_of minus un.Negate r.0) r.1
 
-abbrev pub bang_pattern_of : Span → Lexeme → List Pattern ⊎ LateRange → Pattern
-bang_pattern_of span t (inl ps) = pa.SetPattern span true ps
-bang_pattern_of span t (inr r) = pattern_of span (late_sum_of t.span un.Not r.0) r.1
+abbrev pub bang_pattern_of : Span → Span → List Pattern ⊎ LateRange → Pattern
+bang_pattern_of span bang (inl ps) = pa.SetPattern span true ps
+bang_pattern_of span bang (inr r) = pattern_of span (late_sum_of bang un.Not r.0) r.1
 
 abbrev pub bound_of : Span → ℕ → Expr → Pattern
 bound_of span c e = pick (nat_eq c LESS_EQUAL) (pa.AtMost span e) (pa.AtLeast span e)

@@ -452,9 +452,12 @@ other_unary = either (prefixed_by (BANG ∷ NOT ∷ [])) (either post_literal po
 unfoldable pub other_chain : Rule (Expr)
 other_chain = by (λ r. finished r.0.1.from r.0.0 r.1) (seq (spanned other_unary) rest)
 
+unfoldable pub other_open_expression : Rule (Expr)
+other_open_expression = either conditional other_chain
+
 -- an expression that begins with neither a name nor `-`
 unfoldable pub other_expression : Rule (Expr)
-other_expression = scope (either conditional other_chain)
+other_expression = scope other_open_expression
 
 -- NAME "=" expr
 unfoldable pub field_value : Rule (FieldValue)
@@ -489,7 +492,7 @@ after_first_name = either (by inl field_values_after_name) (by inr parameters_af
 
 -- "-", or parameters of which the first begins with `-`
 unfoldable pub minus_in_braces : Rule (Braces)
-minus_in_braces = by (λ r. minus_in_braces_of r.0 r.1) (seq (tok (MINUS ∷ [])) after_minus)
+minus_in_braces = by (λ r. minus_in_braces_of r.0.span r.1) (seq (tok (MINUS ∷ [])) after_minus)
 
 -- fields, or parameters of which the first begins with a name
 unfoldable pub name_in_braces : Rule (Braces)
@@ -553,14 +556,14 @@ maybe_late_range = opt late_range
 
 -- "-", and a sum that begins with `-`
 unfoldable pub minus_pattern : Rule (Pattern)
-minus_pattern = by (λ r. minus_pattern_of (whole r.1) r.0.0 r.0.1) (spanned (seq (tok (MINUS ∷ [])) maybe_late_range))
+minus_pattern = by (λ r. minus_pattern_of (whole r.1) r.1.from r.0.1) (spanned (seq (tok (MINUS ∷ [])) maybe_late_range))
 
 unfoldable pub after_bang : Rule (List Pattern ⊎ LateRange)
 after_bang = either (by inl set_braces) (by inr late_range)
 
 -- a set with `!`, and a sum that begins with `!`
 unfoldable pub bang_pattern : Rule (Pattern)
-bang_pattern = by (λ r. bang_pattern_of (whole r.1) r.0.0 r.0.1) (spanned (seq (tok (BANG ∷ [])) after_bang))
+bang_pattern = by (λ r. bang_pattern_of (whole r.1) r.1.from r.0.1) (spanned (seq (tok (BANG ∷ [])) after_bang))
 
 -- ("<=" | ">=") sum
 unfoldable pub bound_pattern : Rule (Pattern)
@@ -574,8 +577,11 @@ pattern_in_parens = by (λ r. pattern_parens_of (whole r.1) r.0.1) (spanned (sco
 unfoldable pub plain_unary : Rule (Expr)
 plain_unary = either (prefixed_by (NOT ∷ [])) (either post_literal post_named)
 
+unfoldable pub plain_chain : Rule (Expr)
+plain_chain = by (λ r. chained r.0.1.from r.0.0 r.1) (seq (spanned plain_unary) sum_rests)
+
 unfoldable pub plain_sum : Rule (Expr)
-plain_sum = scope (by (λ r. chained r.0.1.from r.0.0 r.1) (seq (spanned plain_unary) sum_rests))
+plain_sum = scope plain_chain
 
 -- sum (".." sum)?, where the sum begins with none of `-`, `!`, `(`
 unfoldable pub sum_pattern : Rule (Pattern)

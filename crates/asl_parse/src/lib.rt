@@ -1,0 +1,4 @@
+//! The parser of the language: from the tokens of a file to its declarations, or to its one syntax fault.
+#![tactic(auto)]
+
+mod tokens;
