@@ -1,4 +1,5 @@
 //! The parser of the language: from the tokens of a file to its declarations, or to its one syntax fault.
 #![tactic(auto)]
 
+mod names;
 mod tokens;
