@@ -277,7 +277,7 @@ TREES = dict(Expr='ex', FieldValue='fv', Slice='sl', TypeExpr='ty', ConstraintPa
 PARTS = dict(AfterName='an', Braces='br', VarTail='vt')
 COMBINATORS = 'G tok opens into seq either opt many by spanned scope closed trail costs follows'.split()
 build = open(os.path.join(CRATES, 'asl_grammar/specs/grammar/Build.antt')).read()
-HELPERS = re.findall(r'^abbrev pub (\w+) :', build, re.M) + ['VarRest', 'MoreNames', 'Typed', 'Untyped']
+HELPERS = re.findall(r'^(?:abbrev|unfoldable) pub (\w+) :', build, re.M) + ['VarRest', 'MoreNames', 'Typed', 'Untyped']
 PRELUDE = {'◌⊎◌': '⊎', 'Bool': 'Bool', 'true': 'true', 'false': 'false', 'nat_eq': 'nat_eq', 'ℕ': 'ℕ', 'List': 'List', '[]': '[]', '◌∷◌': '∷', '◌++◌': '++', 'Option': 'Option', 'Some': 'Some', 'None': 'None'}
 
 
@@ -492,7 +492,6 @@ def listing(p):
     k = p.kind
     if k == 'ref':
         r = RULES[p.name]
-        if p.name in ('expression', 'unary') or first_of_expression(p): return None
         out = listing(r.body)
         if out is None: return None
         if r.variable is not None:
@@ -515,20 +514,24 @@ def listing(p):
 FAMILY = {'operators': ['NOT'], 'operator': ['AND_AND']}
 
 
-def first_of_expression(p): return False
-
-
-def long_first(p):
-    """the rule whose `first` is named, for lists that are long"""
-    while p.kind in ('by', 'spanned', 'scope', 'costs') or (p.kind == 'seq' and not facts(p.p, FAMILY)[0]): p = p.p
-    return p
-
-
 def starts_text(p, st):
     l = listing(p)
-    if l is not None: return f'starts {codes(l)} {st.toks()}', l
-    q = long_first(p)
-    return f'starts (first {text(q)}) {st.toks()}', None
+    return f'starts {codes(l)} {st.toks()}', l
+
+
+ACCUMULATED = {n for n, r in RULES.items() if r.acc or (r.body.kind == 'by' and r.body.function == 'seconds') or (r.body.kind == 'many' and r.body.p.kind != 'ref')} | {'rest', 'sum_rests', 'post_rest', 'more_parameters', 'late_range', 'parameters_after_minus', 'parameters_after_name'}
+
+
+def folded(right):
+    """a last step whose function takes what was read before it"""
+    m = re.search(r'bind \(reading d (\w+|\(\w+ \w+\)) (\w+)\) \(λ (x\d*) (m\d*)\. Ok \(\((.*) \3\), \4\)\)(\)*)$', right)
+    if not m or m.group(1).strip('()').split(' ')[0] not in ACCUMULATED: return right
+    name, at, x, end, f, close = m.groups()
+    if re.search(rf'\b{x}\b', f): return right
+    ends = f' (span_to (ahead st.toks) {end}.last)'
+    if f.endswith(ends): new = f'ending (ahead st.toks) ({f[:-len(ends)]}) (reading d {name} {at})'
+    else: new = f'then ({f}) (reading d {name} {at})'
+    return right[:m.start()] + new + close
 
 
 def steps(p, st, names, k):
@@ -551,8 +554,7 @@ def steps(p, st, names, k):
     if kind == 'costs':
         f, l = starts_text(p.p, st)
         u, m = names.fresh('u'), names.fresh('m')
-        cs = codes(l) if l is not None else re.match(r'starts (\(first .*\)) \S+$', f).group(1)
-        return f'bind (charge {cs} {"true" if p.late else "false"} {st}) (λ {u} {m}. {steps(p.p, At(m), names, k)})'
+        return f'bind (charge {codes(l)} {"true" if p.late else "false"} {st}) (λ {u} {m}. {steps(p.p, At(m), names, k)})'
     raise Exception(kind)
 
 
@@ -563,7 +565,7 @@ def straight(p): return atom(p) or (p.kind in ('by', 'scope', 'spanned') and ato
 def opened(p, seen):
     """the rules that `first` goes through"""
     if p.kind == 'ref':
-        if p.name in seen or p.name in ('expression', 'unary'): return
+        if p.name in seen: return
         seen.append(p.name)
         opened(RULES[p.name].body, seen)
         return
@@ -572,7 +574,7 @@ def opened(p, seen):
         if p.kind == 'either' or (p.kind == 'seq' and facts(p.p, FAMILY)[0]): opened(p.q, seen)
 
 
-HANDMADE = set('braces_called after_braces post_rest rest bracket late_expression late_sum expression_after_name sum_rests parameters_after_minus parameters_after_name late_range'.split())
+HANDMADE = set('braces_called after_braces some_links_by logic_links post_rest rest bracket late_expression late_sum expression_after_name sum_rests minus_alone parameters_after_minus parameters_after_name field_values_after_name more_parameters after_minus after_first_name other_in_braces late_range maybe_late_range after_bang minus_pattern bang_pattern'.split())
 LOOPS = {}
 lemmas = []
 
@@ -588,13 +590,13 @@ def step_lemma(name):
     p, f = r.body, None
     if p.kind == 'by' and p.p.kind in ('opt', 'either'): p, f = p.p, p
     value = (lambda v: v) if f is None else (lambda v: built(f, v))
-    if r.acc: k = lambda v, e: f'k {shown(v)} {e}'
+    if r.acc: k = lambda v, e: f'Ok (f {shown(value(v)) if shown(value(v)).startswith("(") or " " not in shown(value(v)) else "(" + shown(value(v)) + ")"}, {e})'
     else: k = lambda v, e: f'Ok ({shown(value(v))}, {e})'
     head_type = f'{{B : Type 0}} (d : ℕ){binder} (st : Cursor) (k : {r.type} → Cursor → Outcome B)' if r.acc else f'(d : ℕ){binder} (st : Cursor)'
     left = f'bind (reading d {at} st) k' if r.acc else f'reading d {at} st'
     args = f'd{var} st k' if r.acc else f'd{var} st'
     through = f'(λ x end. Ok ({"(" + f.function + ")" if f and f.function[0] != "(" else (f.function if f else "")} x, end))' if f else None
-    kont = 'k' if r.acc else through
+    kont = '(λ x end. Ok (f x, end))' if r.acc else through
     if p.kind == 'opt':
         opened(p.p, seen)
         test, _ = starts_text(p.p, st)
@@ -624,11 +626,31 @@ def step_lemma(name):
         right = steps(p, st, names, k)
         proof = 'refl' if straight(p) and not r.acc else 'simp bind_bind'
     names_open = [name] + [n for n in seen if n != name]
-    lemmas.append(f'pub {name}_is : {head_type} → {left} ≡ {right}\nunfolding {" ".join(names_open)}\n{name}_is {args} = {proof}\n')
+    if r.acc:
+        if r.acc == 'ends':
+            names_open.append('ending')
+            ends = re.sub(r'Ok \(f (.*?), (\w+)\)(?=\)|$)', lambda m: f'Ok (f (span_to from {m.group(2)}.last) {m.group(1)}, {m.group(2)})', right)
+            lemmas.append(f'pub {name}_ends : {{B : Type 0}} (d : ℕ){binder} (from : Span) (f : Span → {bracketed(r.type)} → B) (st : Cursor) → ending from f (reading d {at} st) ≡ {ends}\nunfolding {" ".join(names_open)}\n{name}_ends d{var} from f st = {ends_proof(p, st, seen, kont)}\n')
+            return
+        names_open.append('then')
+        lemmas.append(f'pub {name}_is : {{B : Type 0}} (d : ℕ){binder} (f : {bracketed(r.type)} → B) (st : Cursor) → then f (reading d {at} st) ≡ {right}\nunfolding {" ".join(names_open)}\n{name}_is d{var} f st = {proof}\n')
+        return
+    right2 = folded(right)
+    if right2 != right: names_open.append('then' if 'then (' in right2 else 'ending')
+    lemmas.append(f'pub {name}_is : {head_type} → {left} ≡ {right2}\nunfolding {" ".join(names_open)}\n{name}_is {args} = {proof}\n')
 
 
-def operand(p):
-    return p
+def ends_proof(p, st, seen, kont):
+    kont = '(λ x end. Ok (f (span_to from end.last) x, end))'
+    k = lambda v, e: f'Ok (f (span_to from {e.last()}) {shown(v) if shown(v).startswith("(") or " " not in shown(v) else "(" + shown(v) + ")"}, {e})'
+    if p.kind == 'opt':
+        some = steps(p.p, st, Names(), lambda v, e: k('(Some ' + shown(v) + ')', e))
+        return f'optional_as d {text(p.p)} st {kont} ({some}) ({"refl" if p.p.kind == "ref" else "simp bind_bind"})'
+    a, b = steps(p.p, st, Names(), k), steps(p.q, st, Names(), k)
+    return f'choice_as d {text(p.p)} {text(p.q)} st {kont} ({a}) ({b}) ({"refl" if p.p.kind == "ref" else "simp bind_bind"}) ({"refl" if p.q.kind == "ref" else "simp bind_bind"})'
+
+
+def bracketed(t): return f'({t})' if ' ' in t else t
 
 
 for name in ORDER:
@@ -645,12 +667,12 @@ for name in ORDER:
         test, l = starts_text(p.p, st)
         lemmas.append(f'pub {name}_is : (d : ℕ) (st : Cursor) → reading d {name} st ≡ run_items (reading d {text(p.p)}) {codes(l)} (length st.toks) [] st\nunfolding {" ".join([name] + seen)}\n{name}_is d st = items_are d {text(p.p)} st\n')
     elif p.kind == 'many' and p.p.kind == 'seq':
-        lemmas.append(f'pub {name}_is : (d : ℕ){binder} (from : Span) (left : Expr) (st : Cursor) → bind (reading d {name if not var else "(" + name + var + ")"} st) (λ x end. Ok (chained from left x, end)) ≡ run_chain (reading d {text(p.p.q.p)}) {codes(p.p.p.codes)} {codes(p.p.p.codes)} from (length st.toks) left st\nunfolding {name}\n{name}_is d{var} from left st = chain_is d {text(p.p.q.p)} {codes(p.p.p.codes)} from left st\n')
+        lemmas.append(f'pub {name}_is : (d : ℕ){binder} (from : Span) (left : Expr) (st : Cursor) → then (chained from left) (reading d {name if not var else "(" + name + var + ")"} st) ≡ run_chain (reading d {text(p.p.q.p)}) {codes(p.p.p.codes)} {codes(p.p.p.codes)} from (length st.toks) left st\nunfolding {name} then\n{name}_is d{var} from left st = chain_is d {text(p.p.q.p)} {codes(p.p.p.codes)} from left st\n')
     elif p.kind == 'many':
-        lemmas.append(f'pub {name}_is : (d : ℕ) (from : Span) (left : Expr) (st : Cursor) → bind (reading d {name} st) (λ x end. Ok (as_chained from left x, end)) ≡ run_as_chain (reading d as_type) from (length st.toks) left st\nunfolding {name}\n{name}_is d from left st = as_chain_are d as_type from left st\n')
+        lemmas.append(f'pub {name}_is : (d : ℕ) (from : Span) (left : Expr) (st : Cursor) → then (as_chained from left) (reading d {name} st) ≡ run_as_chain (reading d as_type) from (length st.toks) left st\nunfolding {name} then\n{name}_is d from left st = as_chain_are d as_type from left st\n')
     elif p.kind == 'by' and p.function == 'seconds':
         item = p.p.p.q
-        lemmas.append(f'pub {name}_is : (d : ℕ) (found : List ({RULES[item.name].type})) (st : Cursor) → bind (reading d {name} st) (λ xs end. Ok (found ++ xs, end)) ≡ run_more (reading d {text(item)}) (length st.toks) found st\nunfolding {name}\n{name}_is d found st = more_are d {text(item)} found st\n')
+        lemmas.append(f'pub {name}_is : (d : ℕ) (found : List ({RULES[item.name].type})) (st : Cursor) → then (behind found) (reading d {name} st) ≡ run_more (reading d {text(item)}) (length st.toks) found st\nunfolding {name} then behind\n{name}_is d found st = more_are d {text(item)} found st\n')
     elif p.kind == 'by' and p.template and p.template[0] == '$0 ∷ seconds $1':
         item = p.p.p
         lemmas.append(f'pub {name}_is : (d : ℕ) (st : Cursor) → reading d {name} st ≡ bind (reading d {text(item)} st) (λ x mid. run_more (reading d {text(item)}) (length mid.toks) (x ∷ []) mid)\nunfolding {name}\n{name}_is d st = commas_are d {text(item)} st\n')
@@ -662,14 +684,21 @@ for name in ORDER:
         lemmas.append(f'pub {name}_is : (d : ℕ) (st : Cursor) → reading d {name} st ≡ bind (reading d {text(item)} st) (λ x mid. run_listed (reading d {text(item)}) (COMMA ∷ []) {codes(l)} (length mid.toks) (x ∷ []) mid)\nunfolding {" ".join([name] + seen)}\n{name}_is d st = listed_are d {text(item)} (COMMA ∷ []) st\n')
     else: step_lemma(name)
 for s, (t, n, c) in SYMBOLS.items():
-    lemmas.append(f'pub {s}_is : (d : ℕ) (st : Cursor) → symbol (suc d) {s} st ≡ reading d {n} st\n{s}_is d st = refl\n')
+    if s == 'Program': continue
+    if s == 'Operand':
+        right, proof = f'reading (d - 1) {n} st', f'deeper d {s} st some'
+    else:
+        l = [x for x in lemmas if x.startswith(f'pub {n}_is :')][0]
+        right = re.sub(r'(?<![\w.])d(?![\w])', '(d - 1)', re.search(r' ≡ (.*)\nunfolding', l).group(1))
+        proof = f'deeper d {s} st some ∙ {n}_is (d - 1) st'
+    lemmas.append(f'pub {s}_at : (d : ℕ) (st : Cursor) → 0 < d → symbol d {s} st ≡ {right}\n{s}_at d st some = {proof}\n')
 body = '\n'.join(lemmas)
 head = '-- Each rule as the steps of the function that reads it.\n' + GENERATED
-head += 'use Rattle.std.proofs.Common.{◌≡◌, ℕ, suc, ◌⊎◌, inl, inr, Bool, true, false, nat_eq, List, [], ◌∷◌, ◌++◌, length, Option, Some, None, Ok, refl, ◌∙◌}\n' + imports(body)
+head += 'use Rattle.std.proofs.Common.{◌≡◌, ℕ, suc, ◌⊎◌, inl, inr, ◌-◌, ◌<◌, Bool, true, false, nat_eq, List, [], ◌∷◌, ◌++◌, length, Option, Some, None, Ok, refl, ◌∙◌}\n' + imports(body)
 head += from_module(PRE + 'Kinds', ['code'] + list(CODES), body) + from_module(PRE + 'Cursor', CURSOR + ['extent'], body) + from_module(PRE + 'Combinators', COMBINATORS, body)
 head += from_module(PRE + 'Reader', 'Outcome bind pick first run_tok run_opens'.split(), body) + from_module(PRE + 'Build', HELPERS, body) + from_module(PRE + 'Rules', ['Sym'] + list(SYMBOLS) + ORDER, body)
-head += from_module('Rattle.asl_parse.specs.Code', 'reading symbol charge'.split(), body)
-head += from_module('Rattle.asl_parse.proofs.Loops', 'bind_bind optional_as optional_plain choice_as run_items items_are run_chain chain_is run_as_chain as_chain_are run_more more_are commas_are run_listed listed_are'.split(), body)
+head += from_module('Rattle.asl_parse.specs.Code', 'reading symbol charge then ending'.split(), body)
+head += from_module('Rattle.asl_parse.proofs.Loops', 'bind_bind deeper optional_as optional_plain choice_as run_items items_are run_chain chain_is run_as_chain as_chain_are run_more more_are commas_are run_listed listed_are'.split(), body)
 OUT['asl_parse/proofs/Steps.antt'] = head + '\n' + body
 
 

@@ -1,16 +1,19 @@
 -- Each rule as the steps of the function that reads it.
 -- Written by tools/grammar/generate.py from tools/grammar/table.py.
-use Rattle.std.proofs.Common.{◌≡◌, ℕ, suc, ◌⊎◌, inl, inr, Bool, true, false, nat_eq, List, [], ◌∷◌, ◌++◌, length, Option, Some, None, Ok, refl, ◌∙◌}
+use Rattle.std.proofs.Common.{◌≡◌, ℕ, suc, ◌⊎◌, inl, inr, ◌-◌, ◌<◌, Bool, true, false, nat_eq, List, [], ◌∷◌, ◌++◌, length, Option, Some, None, Ok, refl, ◌∙◌}
 use Rattle.asl_syn.specs.declared.tree.Expr.{Expr}
 use Rattle.asl_syn.specs.declared.tree.Expr.TheVariants as ex
 use Rattle.asl_syn.specs.declared.tree.FieldValue.{FieldValue}
 use Rattle.asl_syn.specs.declared.tree.FieldValue.TheVariants as fv
+use Rattle.asl_syn.specs.declared.tree.TypeExpr.{TypeExpr}
 use Rattle.asl_syn.specs.declared.tree.TypeExpr.TheVariants as ty
 use Rattle.asl_syn.specs.declared.tree.Pattern.{Pattern}
 use Rattle.asl_syn.specs.declared.tree.Pattern.TheVariants as pa
 use Rattle.asl_syn.specs.declared.tree.Suffix.TheVariants as su
 use Rattle.asl_syn.specs.declared.tree.PlacedSuffix.{PlacedSuffix}
+use Rattle.asl_syn.specs.declared.tree.Target.{Target}
 use Rattle.asl_syn.specs.declared.tree.Target.TheVariants as tg
+use Rattle.asl_syn.specs.declared.tree.Binder.{Binder}
 use Rattle.asl_syn.specs.declared.tree.Binder.TheVariants as bd
 use Rattle.asl_syn.specs.declared.tree.Bind.TheVariants as bi
 use Rattle.asl_syn.specs.declared.tree.PrintItem.TheVariants as pi
@@ -21,7 +24,6 @@ use Rattle.asl_syn.specs.declared.tree.Otherwise.TheVariants as ot
 use Rattle.asl_syn.specs.declared.tree.TypeDef.TheVariants as td
 use Rattle.asl_syn.specs.declared.tree.StorageKind.TheVariants as sk
 use Rattle.asl_syn.specs.declared.tree.Decl.TheVariants as dc
-use Rattle.asl_syn.specs.declared.tree.Ident.{Ident}
 use Rattle.asl_syn.specs.declared.tree.LocalKind.TheVariants as lk
 use Rattle.asl_grammar.specs.declared.parts.AfterName.{AfterName}
 use Rattle.asl_grammar.specs.declared.parts.AfterName.TheVariants as an
@@ -31,11 +33,11 @@ use Rattle.asl_syn.specs.declared.token.Span.{Span}
 use Rattle.asl_grammar.specs.grammar.Kinds.{code, NAME, INTEGER_LITERAL, BITS_LITERAL, MASK_LITERAL, STRING_LITERAL, OPEN_PAREN, CLOSE_PAREN, OPEN_BRACKET, CLOSE_BRACKET, OPEN_BRACE, CLOSE_BRACE, SEMICOLON, COMMA, DOT, DOT_DOT, COLON, COLON_COLON, ASSIGN, EQUAL, FAT_ARROW, BANG, NOT_EQUAL, AND_AND, OR_OR, IMPLIES, IFF, LESS, LESS_EQUAL, SHIFT_LEFT, GREATER, GREATER_EQUAL, SHIFT_RIGHT, PLUS, PLUS_COLON, MINUS, STAR, STAR_COLON, CARET, BIT_AND, DIV, DIV_RM, FALSE, IN, MOD, NOT, BIT_OR, TRUE, BIT_XOR, ARRAY, ASSERT, BEGIN, BIT, BITS, BOOLEAN, CASE, CATCH, CONSTANT, DO, DOWN_TO, ELSE, ELS_IF, END, ENUMERATION, EXCEPTION, FOR, FUNC, IF, INTEGER, LET, LOOP_LIMIT, OF, OTHERWISE, PASS, PRINT, PRINT_LINE, PURE, READ_ONLY, RECORD, RECURSE_LIMIT, REPEAT, RETURN, SUBTYPES, THEN, THROW, TO, TRY, TYPE, UNREACHABLE, UNTIL, VAR, WHEN, WHERE, WHILE}
 use Rattle.asl_grammar.specs.grammar.Cursor.{Lexeme, Extent, Cursor, Codes, starts, ahead, span_to, extent}
 use Rattle.asl_grammar.specs.grammar.Combinators.{tok, opens, seq, either, by, spanned}
-use Rattle.asl_grammar.specs.grammar.Reader.{Outcome, bind, pick, first, run_tok, run_opens}
-use Rattle.asl_grammar.specs.grammar.Build.{or_nil, int_of, ident, unary_of, direction_of, print_kind_of, storage_kind_of, qualifier_of, or_unqualified, Link, Links, chained, compared, as_chained, finished, posted, parens_of, named_of, LateTail, NameTail, minus_in_braces_of, name_in_braces_of, slice_of, constraint_part_of, bitfield_of, pattern_of, LateRange, minus_pattern_of, bang_pattern_of, bound_of, pattern_parens_of, place_of, var_tail_of, var_of, name_statement_of, or_no_otherwise, no_catchers, catch_of, untyped, VarRest, MoreNames, Typed, Untyped}
-use Rattle.asl_grammar.specs.grammar.Rules.{Parenthesized, Arguments, Braced, Operand, IfParts, Bracketed, Width, SetParts, PatternParts, ConstraintParts, Bitfields, TypeParts, ArrayParts, TargetParts, IfBody, CaseBody, ForBody, WhileBody, RepeatBody, TryBody, Program, name, names, integer_literal, bits_literal, boolean_literal, literal, parenthesized, arguments, braces, braces_called, after_braces, after_name, maybe_after_name, named, field_list, dotted, dot, bracket, suffix_part, suffix, suffixes, bits_pattern, mask_pattern, set_braces, set_pattern, not_set_pattern, in_pattern, in_clause, post_rest, post_literal, post_parenthesized, post_named, prefixed_by, unary, power_rest, power, product_rest, product, sum_rest, sum, comparison_rest, comparison, equality_rest, equality, links_by, some_links_by, logic_links, logic_rest, logic, constraint, maybe_constraint, integer_type, boolean_type, bit_type, named_type, bitfields, maybe_bitfields, bits_type, tuple_type, array_type, type_expression, constraint_type, as_type, as_rest, as_chain, conditional, open_expression, expression, if_parts, rest, more_expressions, expressions, maybe_expressions, maybe_expression, parenthesized_in, arguments_in, width_in, other_unary, other_chain, other_open_expression, other_expression, field_value, more_field_values, field_values_after_name, more_parameters, parameters_after_minus, parameters_after_name, minus_alone, after_minus, after_first_name, minus_in_braces, name_in_braces, other_in_braces, empty_braces, braced_in, slice_rest, slice, slices, slices_in, element, bracketed_in, sum_rests, scoped_sum, range_end, late_sum, late_range, maybe_late_range, minus_pattern, after_bang, bang_pattern, bound_pattern, pattern_in_parens, plain_unary, plain_chain, plain_sum, sum_pattern, pattern, patterns, set_parts, pattern_parts, constraint_end, constraint_part, constraint_list, constraint_parts, low_end, bit_ends, bitfield, bitfield_list, maybe_bitfield_list, bitfields_in, type_list, type_parts, array_length, array_parts, typed, pass, unreachable, assert, bind_name, no_binder, binder, binders, several, other_bind, local_bind, value, let_statement, more_names, names_typed, no_value, maybe_value, typed_value, var_rest, var_names, var_other, var_tail, var_statement, parameters, maybe_parameters, call_arguments, invoked, target_suffixes, assigned, name_statement_rest, name_statement, no_target, targets, other_target, assignment, if_statement, case_statement, for_statement, while_statement, repeat_statement, return_statement, throw_statement, try_statement, verbatim, print_item, print_items, maybe_print_items, print_arguments, print_statement, statement, block, loop_limit, otherwise, maybe_otherwise, place, target, target_list, target_parts, else_if, else_ifs, else_block, maybe_else, if_body, where_clause, alternative, alternatives, case_body, direction, for_body, while_body, repeat_body, caught_type, catcher, catchers, some_catchers, handlers, try_body, formal, formal_list, maybe_formals, formals, param, param_list, maybe_param_list, params, maybe_params, label_list, label_braces, labels, no_members, listed_members, some_members, maybe_some_members, member_braces, members, record_type, exception_type, type_definition, supertype, type_decl, fixed_storage, typed_var, global_rest, global_var, result_type, recursion_limit, written_qualifier, qualifier, function, declaration, program}
-use Rattle.asl_parse.specs.Code.{reading, symbol}
-use Rattle.asl_parse.proofs.Loops.{bind_bind, optional_as, optional_plain, choice_as, run_items, items_are, run_chain, chain_is, run_as_chain, as_chain_are, run_more, more_are, commas_are, run_listed, listed_are}
+use Rattle.asl_grammar.specs.grammar.Reader.{bind, pick, run_tok, run_opens}
+use Rattle.asl_grammar.specs.grammar.Build.{or_nil, behind, int_of, ident, unary_of, direction_of, print_kind_of, storage_kind_of, qualifier_of, or_unqualified, Link, Links, chained, compared, as_chained, logically, finished, posted, parens_of, named_of, minus_in_braces_of, name_in_braces_of, slice_of, constraint_part_of, bitfield_of, pattern_of, bound_of, pattern_parens_of, place_of, var_tail_of, var_of, name_statement_of, or_no_otherwise, no_catchers, catch_of, untyped, VarRest, MoreNames, Typed, Untyped}
+use Rattle.asl_grammar.specs.grammar.Rules.{Parenthesized, Arguments, Braced, Operand, IfParts, Bracketed, Width, SetParts, PatternParts, ConstraintParts, Bitfields, TypeParts, ArrayParts, TargetParts, IfBody, CaseBody, ForBody, WhileBody, RepeatBody, TryBody, name, names, integer_literal, bits_literal, boolean_literal, literal, parenthesized, arguments, braces, braces_called, after_braces, after_name, maybe_after_name, named, field_list, dotted, dot, bracket, suffix_part, suffix, suffixes, bits_pattern, mask_pattern, set_braces, set_pattern, not_set_pattern, in_pattern, in_clause, post_rest, post_literal, post_parenthesized, post_named, prefixed_by, unary, power_rest, power, product_rest, product, sum_rest, sum, comparison_rest, comparison, equality_rest, equality, links_by, some_links_by, logic_links, logic_rest, logic, constraint, maybe_constraint, integer_type, boolean_type, bit_type, named_type, bitfields, maybe_bitfields, bits_type, tuple_type, array_type, type_expression, constraint_type, as_type, as_rest, as_chain, conditional, open_expression, expression, if_parts, rest, more_expressions, expressions, maybe_expressions, maybe_expression, parenthesized_in, arguments_in, width_in, other_unary, other_chain, other_open_expression, other_expression, field_value, more_field_values, after_minus, after_first_name, minus_in_braces, name_in_braces, other_in_braces, empty_braces, braced_in, slice_rest, slice, slices, slices_in, element, bracketed_in, sum_rests, scoped_sum, range_end, minus_pattern, bang_pattern, bound_pattern, pattern_in_parens, plain_unary, plain_chain, plain_sum, sum_pattern, pattern, patterns, set_parts, pattern_parts, constraint_end, constraint_part, constraint_list, constraint_parts, low_end, bit_ends, bitfield, bitfield_list, maybe_bitfield_list, bitfields_in, more_types, two_types, type_parts, array_length, array_parts, typed, pass, unreachable, assert, bind_name, no_binder, binder, more_binders, two_binders, several, other_bind, local_bind, value, let_statement, names_typed, no_value, maybe_value, typed_value, var_rest, var_names, var_other, var_tail, var_statement, parameters, maybe_parameters, call_arguments, invoked, target_suffixes, assigned, name_statement_rest, name_statement, no_target, targets, other_target, assignment, if_statement, case_statement, for_statement, while_statement, repeat_statement, return_statement, throw_statement, try_statement, verbatim, print_item, print_items, maybe_print_items, print_arguments, print_statement, statement, block, loop_limit, otherwise, maybe_otherwise, place, target, more_targets, two_targets, target_parts, else_if, else_ifs, else_block, maybe_else, if_body, where_clause, alternative, alternatives, case_body, direction, for_body, while_body, repeat_body, caught_type, catcher, catchers, some_catchers, handlers, try_body, formal, formal_list, maybe_formals, formals, param, param_list, maybe_param_list, params, maybe_params, label_list, label_braces, labels, no_members, listed_members, some_members, maybe_some_members, member_braces, members, record_type, exception_type, type_definition, supertype, type_decl, fixed_storage, typed_var, global_rest, global_var, result_type, recursion_limit, written_qualifier, qualifier, function, declaration, program}
+use Rattle.asl_parse.specs.Code.{reading, symbol, then, ending}
+use Rattle.asl_parse.proofs.Loops.{bind_bind, deeper, optional_as, optional_plain, choice_as, run_items, items_are, run_chain, chain_is, run_as_chain, as_chain_are, run_more, more_are, commas_are, run_listed, listed_are}
 
 pub name_is : (d : ℕ) (st : Cursor) → reading d name st ≡ bind (run_tok (NAME ∷ []) st st.toks) (λ t m. Ok ((ident t), m))
 unfolding name
@@ -77,12 +79,12 @@ pub after_name_is : (d : ℕ) (st : Cursor) → reading d after_name st ≡ pick
 unfolding after_name arguments
 after_name_is d st = refl
 
-pub maybe_after_name_is : {B : Type 0} (d : ℕ) (st : Cursor) (k : Option (AfterName × Extent) → Cursor → Outcome B) → bind (reading d maybe_after_name st) k ≡ pick (starts (OPEN_PAREN ∷ OPEN_BRACE ∷ []) st.toks) (bind (reading d after_name st) (λ x m. k (Some (x, (extent st.toks m.last))) m)) (k None st)
-unfolding maybe_after_name after_name arguments after_braces braces_called braces
-maybe_after_name_is d st k = optional_as d (spanned after_name) st k (bind (reading d after_name st) (λ x m. k (Some (x, (extent st.toks m.last))) m)) (simp bind_bind)
+pub maybe_after_name_is : {B : Type 0} (d : ℕ) (f : (Option (AfterName × Extent)) → B) (st : Cursor) → then f (reading d maybe_after_name st) ≡ pick (starts (OPEN_PAREN ∷ OPEN_BRACE ∷ []) st.toks) (bind (reading d after_name st) (λ x m. Ok (f (Some (x, (extent st.toks m.last))), m))) (Ok (f None, st))
+unfolding maybe_after_name after_name arguments after_braces braces_called braces then
+maybe_after_name_is d f st = optional_as d (spanned after_name) st (λ x end. Ok (f x, end)) (bind (reading d after_name st) (λ x m. Ok (f (Some (x, (extent st.toks m.last))), m))) (simp bind_bind)
 
-pub named_is : (d : ℕ) (st : Cursor) → reading d named st ≡ bind (reading d name st) (λ x m. bind (reading d maybe_after_name m) (λ x1 m1. Ok ((named_of x x1), m1)))
-unfolding named
+pub named_is : (d : ℕ) (st : Cursor) → reading d named st ≡ bind (reading d name st) (λ x m. then (named_of x) (reading d maybe_after_name m))
+unfolding named then
 named_is d st = simp bind_bind
 
 pub field_list_is : (d : ℕ) (st : Cursor) → reading d field_list st ≡ bind (run_opens (OPEN_BRACKET ∷ []) st.left st.toks) (λ t m. bind (reading d names m) (λ x m1. bind (run_tok (CLOSE_BRACKET ∷ []) m1 m1.toks) (λ t1 m2. Ok ((su.FieldsOf x), (record m2 { left = st.left })))))
@@ -133,20 +135,20 @@ pub in_pattern_is : (d : ℕ) (st : Cursor) → reading d in_pattern st ≡ pick
 unfolding in_pattern not_set_pattern set_pattern set_braces bits_pattern
 in_pattern_is d st = refl
 
-pub in_clause_is : {B : Type 0} (d : ℕ) (st : Cursor) (k : Option (Pattern × Extent) → Cursor → Outcome B) → bind (reading d in_clause st) k ≡ pick (starts (IN ∷ []) st.toks) (bind (run_opens (IN ∷ []) st.left st.toks) (λ t m. bind (reading d in_pattern m) (λ x m1. k (Some (x, (extent m.toks m1.last))) m1))) (k None st)
-unfolding in_clause
-in_clause_is d st k = optional_as d (by (λ r. r.1) (seq (opens (IN ∷ [])) (spanned in_pattern))) st k (bind (run_opens (IN ∷ []) st.left st.toks) (λ t m. bind (reading d in_pattern m) (λ x m1. k (Some (x, (extent m.toks m1.last))) m1))) (simp bind_bind)
+pub in_clause_is : {B : Type 0} (d : ℕ) (f : (Option (Pattern × Extent)) → B) (st : Cursor) → then f (reading d in_clause st) ≡ pick (starts (IN ∷ []) st.toks) (bind (run_opens (IN ∷ []) st.left st.toks) (λ t m. bind (reading d in_pattern m) (λ x m1. Ok (f (Some (x, (extent m.toks m1.last))), m1)))) (Ok (f None, st))
+unfolding in_clause then
+in_clause_is d f st = optional_as d (by (λ r. r.1) (seq (opens (IN ∷ [])) (spanned in_pattern))) st (λ x end. Ok (f x, end)) (bind (run_opens (IN ∷ []) st.left st.toks) (λ t m. bind (reading d in_pattern m) (λ x m1. Ok (f (Some (x, (extent m.toks m1.last))), m1)))) (simp bind_bind)
 
-pub post_literal_is : (d : ℕ) (st : Cursor) → reading d post_literal st ≡ bind (reading d literal st) (λ x m. bind (reading d post_rest m) (λ x1 m1. Ok ((posted (ahead st.toks) x x1), m1)))
-unfolding post_literal
+pub post_literal_is : (d : ℕ) (st : Cursor) → reading d post_literal st ≡ bind (reading d literal st) (λ x m. then (posted (ahead st.toks) x) (reading d post_rest m))
+unfolding post_literal then
 post_literal_is d st = simp bind_bind
 
-pub post_parenthesized_is : (d : ℕ) (st : Cursor) → reading d post_parenthesized st ≡ bind (reading d parenthesized st) (λ x m. bind (reading d post_rest m) (λ x1 m1. Ok ((posted (ahead st.toks) x x1), m1)))
-unfolding post_parenthesized
+pub post_parenthesized_is : (d : ℕ) (st : Cursor) → reading d post_parenthesized st ≡ bind (reading d parenthesized st) (λ x m. then (posted (ahead st.toks) x) (reading d post_rest m))
+unfolding post_parenthesized then
 post_parenthesized_is d st = simp bind_bind
 
-pub post_named_is : (d : ℕ) (st : Cursor) → reading d post_named st ≡ bind (reading d named st) (λ x m. bind (reading d post_rest m) (λ x1 m1. Ok ((posted (ahead st.toks) x x1), m1)))
-unfolding post_named
+pub post_named_is : (d : ℕ) (st : Cursor) → reading d post_named st ≡ bind (reading d named st) (λ x m. then (posted (ahead st.toks) x) (reading d post_rest m))
+unfolding post_named then
 post_named_is d st = simp bind_bind
 
 pub prefixed_by_is : (d : ℕ) (operators : Codes) (st : Cursor) → reading d (prefixed_by operators) st ≡ bind (run_opens operators st.left st.toks) (λ t m. bind (symbol d Operand m) (λ x m1. Ok ((ex.Unary (span_to (ahead st.toks) m1.last) (unary_of (code t.kind)) x), m1)))
@@ -157,64 +159,56 @@ pub unary_is : (d : ℕ) (st : Cursor) → reading d unary st ≡ pick (starts (
 unfolding unary prefixed_by post_literal literal integer_literal bits_literal boolean_literal post_parenthesized parenthesized
 unary_is d st = refl
 
-pub power_rest_is : (d : ℕ) (from : Span) (left : Expr) (st : Cursor) → bind (reading d power_rest st) (λ x end. Ok (chained from left x, end)) ≡ run_chain (reading d unary) (CARET ∷ []) (CARET ∷ []) from (length st.toks) left st
-unfolding power_rest
+pub power_rest_is : (d : ℕ) (from : Span) (left : Expr) (st : Cursor) → then (chained from left) (reading d power_rest st) ≡ run_chain (reading d unary) (CARET ∷ []) (CARET ∷ []) from (length st.toks) left st
+unfolding power_rest then
 power_rest_is d from left st = chain_is d unary (CARET ∷ []) from left st
 
-pub power_is : (d : ℕ) (st : Cursor) → reading d power st ≡ bind (reading d unary st) (λ x m. bind (reading d power_rest m) (λ x1 m1. Ok ((chained (ahead st.toks) x x1), m1)))
-unfolding power
+pub power_is : (d : ℕ) (st : Cursor) → reading d power st ≡ bind (reading d unary st) (λ x m. then (chained (ahead st.toks) x) (reading d power_rest m))
+unfolding power then
 power_is d st = simp bind_bind
 
-pub product_rest_is : (d : ℕ) (from : Span) (left : Expr) (st : Cursor) → bind (reading d product_rest st) (λ x end. Ok (chained from left x, end)) ≡ run_chain (reading d power) (STAR ∷ DIV ∷ DIV_RM ∷ MOD ∷ SHIFT_LEFT ∷ SHIFT_RIGHT ∷ []) (STAR ∷ DIV ∷ DIV_RM ∷ MOD ∷ SHIFT_LEFT ∷ SHIFT_RIGHT ∷ []) from (length st.toks) left st
-unfolding product_rest
+pub product_rest_is : (d : ℕ) (from : Span) (left : Expr) (st : Cursor) → then (chained from left) (reading d product_rest st) ≡ run_chain (reading d power) (STAR ∷ DIV ∷ DIV_RM ∷ MOD ∷ SHIFT_LEFT ∷ SHIFT_RIGHT ∷ []) (STAR ∷ DIV ∷ DIV_RM ∷ MOD ∷ SHIFT_LEFT ∷ SHIFT_RIGHT ∷ []) from (length st.toks) left st
+unfolding product_rest then
 product_rest_is d from left st = chain_is d power (STAR ∷ DIV ∷ DIV_RM ∷ MOD ∷ SHIFT_LEFT ∷ SHIFT_RIGHT ∷ []) from left st
 
-pub product_is : (d : ℕ) (st : Cursor) → reading d product st ≡ bind (reading d power st) (λ x m. bind (reading d product_rest m) (λ x1 m1. Ok ((chained (ahead st.toks) x x1), m1)))
-unfolding product
+pub product_is : (d : ℕ) (st : Cursor) → reading d product st ≡ bind (reading d power st) (λ x m. then (chained (ahead st.toks) x) (reading d product_rest m))
+unfolding product then
 product_is d st = simp bind_bind
 
-pub sum_rest_is : (d : ℕ) (from : Span) (left : Expr) (st : Cursor) → bind (reading d sum_rest st) (λ x end. Ok (chained from left x, end)) ≡ run_chain (reading d product) (PLUS ∷ MINUS ∷ BIT_AND ∷ BIT_OR ∷ BIT_XOR ∷ COLON_COLON ∷ []) (PLUS ∷ MINUS ∷ BIT_AND ∷ BIT_OR ∷ BIT_XOR ∷ COLON_COLON ∷ []) from (length st.toks) left st
-unfolding sum_rest
+pub sum_rest_is : (d : ℕ) (from : Span) (left : Expr) (st : Cursor) → then (chained from left) (reading d sum_rest st) ≡ run_chain (reading d product) (PLUS ∷ MINUS ∷ BIT_AND ∷ BIT_OR ∷ BIT_XOR ∷ COLON_COLON ∷ []) (PLUS ∷ MINUS ∷ BIT_AND ∷ BIT_OR ∷ BIT_XOR ∷ COLON_COLON ∷ []) from (length st.toks) left st
+unfolding sum_rest then
 sum_rest_is d from left st = chain_is d product (PLUS ∷ MINUS ∷ BIT_AND ∷ BIT_OR ∷ BIT_XOR ∷ COLON_COLON ∷ []) from left st
 
-pub sum_is : (d : ℕ) (st : Cursor) → reading d sum st ≡ bind (reading d product st) (λ x m. bind (reading d sum_rest m) (λ x1 m1. Ok ((chained (ahead st.toks) x x1), m1)))
-unfolding sum
+pub sum_is : (d : ℕ) (st : Cursor) → reading d sum st ≡ bind (reading d product st) (λ x m. then (chained (ahead st.toks) x) (reading d sum_rest m))
+unfolding sum then
 sum_is d st = simp bind_bind
 
-pub comparison_rest_is : {B : Type 0} (d : ℕ) (st : Cursor) (k : Option Link → Cursor → Outcome B) → bind (reading d comparison_rest st) k ≡ pick (starts (LESS ∷ LESS_EQUAL ∷ GREATER ∷ GREATER_EQUAL ∷ []) st.toks) (bind (run_opens (LESS ∷ LESS_EQUAL ∷ GREATER ∷ GREATER_EQUAL ∷ []) st.left st.toks) (λ t m. bind (reading d sum m) (λ x m1. k (Some (t, (x, (extent m.toks m1.last)))) m1))) (k None st)
-unfolding comparison_rest
-comparison_rest_is d st k = optional_as d (seq (opens (LESS ∷ LESS_EQUAL ∷ GREATER ∷ GREATER_EQUAL ∷ [])) (spanned sum)) st k (bind (run_opens (LESS ∷ LESS_EQUAL ∷ GREATER ∷ GREATER_EQUAL ∷ []) st.left st.toks) (λ t m. bind (reading d sum m) (λ x m1. k (Some (t, (x, (extent m.toks m1.last)))) m1))) (simp bind_bind)
+pub comparison_rest_is : {B : Type 0} (d : ℕ) (f : (Option Link) → B) (st : Cursor) → then f (reading d comparison_rest st) ≡ pick (starts (LESS ∷ LESS_EQUAL ∷ GREATER ∷ GREATER_EQUAL ∷ []) st.toks) (bind (run_opens (LESS ∷ LESS_EQUAL ∷ GREATER ∷ GREATER_EQUAL ∷ []) st.left st.toks) (λ t m. bind (reading d sum m) (λ x m1. Ok (f (Some (t, (x, (extent m.toks m1.last)))), m1)))) (Ok (f None, st))
+unfolding comparison_rest then
+comparison_rest_is d f st = optional_as d (seq (opens (LESS ∷ LESS_EQUAL ∷ GREATER ∷ GREATER_EQUAL ∷ [])) (spanned sum)) st (λ x end. Ok (f x, end)) (bind (run_opens (LESS ∷ LESS_EQUAL ∷ GREATER ∷ GREATER_EQUAL ∷ []) st.left st.toks) (λ t m. bind (reading d sum m) (λ x m1. Ok (f (Some (t, (x, (extent m.toks m1.last)))), m1)))) (simp bind_bind)
 
-pub comparison_is : (d : ℕ) (st : Cursor) → reading d comparison st ≡ bind (reading d sum st) (λ x m. bind (reading d comparison_rest m) (λ x1 m1. Ok ((compared (ahead st.toks) x x1), m1)))
-unfolding comparison
+pub comparison_is : (d : ℕ) (st : Cursor) → reading d comparison st ≡ bind (reading d sum st) (λ x m. then (compared (ahead st.toks) x) (reading d comparison_rest m))
+unfolding comparison then
 comparison_is d st = simp bind_bind
 
-pub equality_rest_is : (d : ℕ) (from : Span) (left : Expr) (st : Cursor) → bind (reading d equality_rest st) (λ x end. Ok (chained from left x, end)) ≡ run_chain (reading d comparison) (EQUAL ∷ NOT_EQUAL ∷ []) (EQUAL ∷ NOT_EQUAL ∷ []) from (length st.toks) left st
-unfolding equality_rest
+pub equality_rest_is : (d : ℕ) (from : Span) (left : Expr) (st : Cursor) → then (chained from left) (reading d equality_rest st) ≡ run_chain (reading d comparison) (EQUAL ∷ NOT_EQUAL ∷ []) (EQUAL ∷ NOT_EQUAL ∷ []) from (length st.toks) left st
+unfolding equality_rest then
 equality_rest_is d from left st = chain_is d comparison (EQUAL ∷ NOT_EQUAL ∷ []) from left st
 
-pub equality_is : (d : ℕ) (st : Cursor) → reading d equality st ≡ bind (reading d comparison st) (λ x m. bind (reading d equality_rest m) (λ x1 m1. Ok ((chained (ahead st.toks) x x1), m1)))
-unfolding equality
+pub equality_is : (d : ℕ) (st : Cursor) → reading d equality st ≡ bind (reading d comparison st) (λ x m. then (chained (ahead st.toks) x) (reading d equality_rest m))
+unfolding equality then
 equality_is d st = simp bind_bind
 
-pub links_by_is : (d : ℕ) (operator : ℕ) (from : Span) (left : Expr) (st : Cursor) → bind (reading d (links_by operator) st) (λ x end. Ok (chained from left x, end)) ≡ run_chain (reading d equality) (operator ∷ []) (operator ∷ []) from (length st.toks) left st
-unfolding links_by
+pub links_by_is : (d : ℕ) (operator : ℕ) (from : Span) (left : Expr) (st : Cursor) → then (chained from left) (reading d (links_by operator) st) ≡ run_chain (reading d equality) (operator ∷ []) (operator ∷ []) from (length st.toks) left st
+unfolding links_by then
 links_by_is d operator from left st = chain_is d equality (operator ∷ []) from left st
 
-pub some_links_by_is : (d : ℕ) (operator : ℕ) (st : Cursor) → reading d (some_links_by operator) st ≡ bind (run_opens (operator ∷ []) st.left st.toks) (λ t m. bind (reading d equality m) (λ x m1. bind (reading d (links_by operator) m1) (λ x1 m2. Ok (((t, (x, (extent m.toks m1.last))) ∷ x1), m2))))
-unfolding some_links_by
-some_links_by_is d operator st = simp bind_bind
+pub logic_rest_is : {B : Type 0} (d : ℕ) (f : (Option Links) → B) (st : Cursor) → then f (reading d logic_rest st) ≡ pick (starts (AND_AND ∷ OR_OR ∷ IMPLIES ∷ IFF ∷ []) st.toks) (bind (reading d logic_links st) (λ x m. Ok (f (Some x), m))) (Ok (f None, st))
+unfolding logic_rest logic_links some_links_by then
+logic_rest_is d f st = optional_as d logic_links st (λ x end. Ok (f x, end)) (bind (reading d logic_links st) (λ x m. Ok (f (Some x), m))) (refl)
 
-pub logic_links_is : (d : ℕ) (st : Cursor) → reading d logic_links st ≡ pick (starts (AND_AND ∷ []) st.toks) (reading d (some_links_by AND_AND) st) (pick (starts (OR_OR ∷ []) st.toks) (reading d (some_links_by OR_OR) st) (pick (starts (IMPLIES ∷ []) st.toks) (reading d (some_links_by IMPLIES) st) (reading d (some_links_by IFF) st)))
-unfolding logic_links some_links_by
-logic_links_is d st = refl
-
-pub logic_rest_is : {B : Type 0} (d : ℕ) (st : Cursor) (k : Option Links → Cursor → Outcome B) → bind (reading d logic_rest st) k ≡ pick (starts (AND_AND ∷ OR_OR ∷ IMPLIES ∷ IFF ∷ []) st.toks) (bind (reading d logic_links st) (λ x m. k (Some x) m)) (k None st)
-unfolding logic_rest logic_links some_links_by
-logic_rest_is d st k = optional_as d logic_links st k (bind (reading d logic_links st) (λ x m. k (Some x) m)) (refl)
-
-pub logic_is : (d : ℕ) (st : Cursor) → reading d logic st ≡ bind (reading d equality st) (λ x m. bind (reading d logic_rest m) (λ x1 m1. Ok ((chained (ahead st.toks) x (or_nil x1)), m1)))
-unfolding logic
+pub logic_is : (d : ℕ) (st : Cursor) → reading d logic st ≡ bind (reading d equality st) (λ x m. then (logically (ahead st.toks) x) (reading d logic_rest m))
+unfolding logic then
 logic_is d st = simp bind_bind
 
 pub constraint_is : (d : ℕ) (st : Cursor) → reading d constraint st ≡ bind (run_opens (OPEN_BRACE ∷ []) st.left st.toks) (λ t m. bind (symbol d ConstraintParts m) (λ x m1. Ok (x, (record m1 { left = st.left }))))
@@ -273,12 +267,12 @@ pub as_type_is : (d : ℕ) (st : Cursor) → reading d as_type st ≡ pick (star
 unfolding as_type type_expression integer_type boolean_type bit_type named_type bits_type tuple_type array_type
 as_type_is d st = refl
 
-pub as_rest_is : (d : ℕ) (from : Span) (left : Expr) (st : Cursor) → bind (reading d as_rest st) (λ x end. Ok (as_chained from left x, end)) ≡ run_as_chain (reading d as_type) from (length st.toks) left st
-unfolding as_rest
+pub as_rest_is : (d : ℕ) (from : Span) (left : Expr) (st : Cursor) → then (as_chained from left) (reading d as_rest st) ≡ run_as_chain (reading d as_type) from (length st.toks) left st
+unfolding as_rest then
 as_rest_is d from left st = as_chain_are d as_type from left st
 
-pub as_chain_is : (d : ℕ) (st : Cursor) → reading d as_chain st ≡ bind (reading d logic st) (λ x m. bind (reading d as_rest m) (λ x1 m1. Ok ((as_chained (ahead st.toks) x x1), m1)))
-unfolding as_chain
+pub as_chain_is : (d : ℕ) (st : Cursor) → reading d as_chain st ≡ bind (reading d logic st) (λ x m. then (as_chained (ahead st.toks) x) (reading d as_rest m))
+unfolding as_chain then
 as_chain_is d st = simp bind_bind
 
 pub conditional_is : (d : ℕ) (st : Cursor) → reading d conditional st ≡ bind (run_opens (IF ∷ []) st.left st.toks) (λ t m. bind (symbol d IfParts m) (λ x m1. Ok ((ex.Conditional (span_to (ahead st.toks) m1.last) x.0 x.1 x.2), (record m1 { left = suc m1.left }))))
@@ -297,20 +291,20 @@ pub if_parts_is : (d : ℕ) (st : Cursor) → reading d if_parts st ≡ bind (re
 unfolding if_parts
 if_parts_is d st = simp bind_bind
 
-pub more_expressions_is : (d : ℕ) (found : List (Expr)) (st : Cursor) → bind (reading d more_expressions st) (λ xs end. Ok (found ++ xs, end)) ≡ run_more (reading d expression) (length st.toks) found st
-unfolding more_expressions
+pub more_expressions_is : (d : ℕ) (found : List (Expr)) (st : Cursor) → then (behind found) (reading d more_expressions st) ≡ run_more (reading d expression) (length st.toks) found st
+unfolding more_expressions then behind
 more_expressions_is d found st = more_are d expression found st
 
-pub expressions_is : (d : ℕ) (st : Cursor) → reading d expressions st ≡ bind (reading d expression st) (λ x m. bind (reading d more_expressions m) (λ x1 m1. Ok ((x ∷ x1), m1)))
-unfolding expressions
+pub expressions_is : (d : ℕ) (st : Cursor) → reading d expressions st ≡ bind (reading d expression st) (λ x m. then (behind (x ∷ [])) (reading d more_expressions m))
+unfolding expressions then
 expressions_is d st = simp bind_bind
 
-pub maybe_expressions_is : (d : ℕ) (st : Cursor) → reading d maybe_expressions st ≡ pick (starts (first expressions) st.toks) (bind (reading d expressions st) (λ x m. Ok ((or_nil (Some x)), m))) (Ok ((or_nil None), st))
-unfolding maybe_expressions expressions
+pub maybe_expressions_is : (d : ℕ) (st : Cursor) → reading d maybe_expressions st ≡ pick (starts (IF ∷ MINUS ∷ BANG ∷ NOT ∷ INTEGER_LITERAL ∷ BITS_LITERAL ∷ TRUE ∷ FALSE ∷ OPEN_PAREN ∷ NAME ∷ []) st.toks) (bind (reading d expressions st) (λ x m. Ok ((or_nil (Some x)), m))) (Ok ((or_nil None), st))
+unfolding maybe_expressions expressions expression open_expression conditional as_chain logic equality comparison sum product power unary prefixed_by post_literal literal integer_literal bits_literal boolean_literal post_parenthesized parenthesized post_named named name
 maybe_expressions_is d st = optional_as d expressions st (λ x end. Ok ((or_nil) x, end)) (bind (reading d expressions st) (λ x m. Ok ((or_nil (Some x)), m))) (refl)
 
-pub maybe_expression_is : (d : ℕ) (st : Cursor) → reading d maybe_expression st ≡ pick (starts (first expression) st.toks) (bind (reading d expression st) (λ x m. Ok ((Some x), m))) (Ok (None, st))
-unfolding maybe_expression
+pub maybe_expression_is : (d : ℕ) (st : Cursor) → reading d maybe_expression st ≡ pick (starts (IF ∷ MINUS ∷ BANG ∷ NOT ∷ INTEGER_LITERAL ∷ BITS_LITERAL ∷ TRUE ∷ FALSE ∷ OPEN_PAREN ∷ NAME ∷ []) st.toks) (bind (reading d expression st) (λ x m. Ok ((Some x), m))) (Ok (None, st))
+unfolding maybe_expression expression open_expression conditional as_chain logic equality comparison sum product power unary prefixed_by post_literal literal integer_literal bits_literal boolean_literal post_parenthesized parenthesized post_named named name
 maybe_expression_is d st = optional_plain d expression st (bind (reading d expression st) (λ x m. Ok ((Some x), m))) (refl)
 
 pub parenthesized_in_is : (d : ℕ) (st : Cursor) → reading d parenthesized_in st ≡ bind (reading d expressions st) (λ x m. bind (run_tok (CLOSE_PAREN ∷ []) m m.toks) (λ t m1. Ok (x, m1)))
@@ -329,8 +323,8 @@ pub other_unary_is : (d : ℕ) (st : Cursor) → reading d other_unary st ≡ pi
 unfolding other_unary prefixed_by post_literal literal integer_literal bits_literal boolean_literal
 other_unary_is d st = refl
 
-pub other_chain_is : (d : ℕ) (st : Cursor) → reading d other_chain st ≡ bind (reading d other_unary st) (λ x m. bind (reading d rest m) (λ x1 m1. Ok ((finished (ahead st.toks) x x1), m1)))
-unfolding other_chain
+pub other_chain_is : (d : ℕ) (st : Cursor) → reading d other_chain st ≡ bind (reading d other_unary st) (λ x m. then (finished (ahead st.toks) x) (reading d rest m))
+unfolding other_chain then
 other_chain_is d st = simp bind_bind
 
 pub other_open_expression_is : (d : ℕ) (st : Cursor) → reading d other_open_expression st ≡ pick (starts (IF ∷ []) st.toks) (reading d conditional st) (reading d other_chain st)
@@ -345,41 +339,17 @@ pub field_value_is : (d : ℕ) (st : Cursor) → reading d field_value st ≡ bi
 unfolding field_value
 field_value_is d st = simp bind_bind
 
-pub more_field_values_is : (d : ℕ) (found : List (FieldValue)) (st : Cursor) → bind (reading d more_field_values st) (λ xs end. Ok (found ++ xs, end)) ≡ run_more (reading d field_value) (length st.toks) found st
-unfolding more_field_values
+pub more_field_values_is : (d : ℕ) (found : List (FieldValue)) (st : Cursor) → then (behind found) (reading d more_field_values st) ≡ run_more (reading d field_value) (length st.toks) found st
+unfolding more_field_values then behind
 more_field_values_is d found st = more_are d field_value found st
 
-pub field_values_after_name_is : (d : ℕ) (st : Cursor) → reading d field_values_after_name st ≡ bind (run_tok (ASSIGN ∷ []) st st.toks) (λ t m. bind (reading d expression m) (λ x m1. bind (reading d more_field_values m1) (λ x1 m2. bind (run_tok (CLOSE_BRACE ∷ []) m2 m2.toks) (λ t1 m3. Ok ((x, x1), m3)))))
-unfolding field_values_after_name
-field_values_after_name_is d st = simp bind_bind
-
-pub more_parameters_is : (d : ℕ) (st : Cursor) → reading d more_parameters st ≡ bind (reading d more_expressions st) (λ x m. bind (run_tok (CLOSE_BRACE ∷ []) m m.toks) (λ t m1. Ok (x, m1)))
-unfolding more_parameters
-more_parameters_is d st = simp bind_bind
-
-pub minus_alone_is : (d : ℕ) (st : Cursor) → reading d minus_alone st ≡ bind (run_tok (CLOSE_BRACE ∷ []) st st.toks) (λ t m. Ok (None, m))
-unfolding minus_alone
-minus_alone_is d st = refl
-
-pub after_minus_is : {B : Type 0} (d : ℕ) (st : Cursor) (k : Option (LateTail × List Expr) → Cursor → Outcome B) → bind (reading d after_minus st) k ≡ pick (starts (CLOSE_BRACE ∷ []) st.toks) (bind (reading d minus_alone st) (λ x m. k x m)) (bind (reading d parameters_after_minus st) (λ x m. k (Some x) m))
-unfolding after_minus minus_alone
-after_minus_is d st k = choice_as d minus_alone (by Some parameters_after_minus) st k (bind (reading d minus_alone st) (λ x m. k x m)) (bind (reading d parameters_after_minus st) (λ x m. k (Some x) m)) (refl) (simp bind_bind)
-
-pub after_first_name_is : {B : Type 0} (d : ℕ) (st : Cursor) (k : (Expr × List FieldValue) ⊎ (NameTail × List Expr) → Cursor → Outcome B) → bind (reading d after_first_name st) k ≡ pick (starts (ASSIGN ∷ []) st.toks) (bind (reading d field_values_after_name st) (λ x m. k (inl x) m)) (bind (reading d parameters_after_name st) (λ x m. k (inr x) m))
-unfolding after_first_name field_values_after_name
-after_first_name_is d st k = choice_as d (by inl field_values_after_name) (by inr parameters_after_name) st k (bind (reading d field_values_after_name st) (λ x m. k (inl x) m)) (bind (reading d parameters_after_name st) (λ x m. k (inr x) m)) (simp bind_bind) (simp bind_bind)
-
-pub minus_in_braces_is : (d : ℕ) (st : Cursor) → reading d minus_in_braces st ≡ bind (run_tok (MINUS ∷ []) st st.toks) (λ t m. bind (reading d after_minus m) (λ x m1. Ok ((minus_in_braces_of t.span x), m1)))
-unfolding minus_in_braces
+pub minus_in_braces_is : (d : ℕ) (st : Cursor) → reading d minus_in_braces st ≡ bind (run_tok (MINUS ∷ []) st st.toks) (λ t m. then (minus_in_braces_of t.span) (reading d after_minus m))
+unfolding minus_in_braces then
 minus_in_braces_is d st = simp bind_bind
 
-pub name_in_braces_is : (d : ℕ) (st : Cursor) → reading d name_in_braces st ≡ bind (reading d name st) (λ x m. bind (reading d after_first_name m) (λ x1 m1. Ok ((name_in_braces_of x x1), m1)))
-unfolding name_in_braces
+pub name_in_braces_is : (d : ℕ) (st : Cursor) → reading d name_in_braces st ≡ bind (reading d name st) (λ x m. then (name_in_braces_of x) (reading d after_first_name m))
+unfolding name_in_braces then
 name_in_braces_is d st = simp bind_bind
-
-pub other_in_braces_is : (d : ℕ) (st : Cursor) → reading d other_in_braces st ≡ bind (reading d other_expression st) (λ x m. bind (reading d more_parameters m) (λ x1 m1. Ok ((br.Parameters (x ∷ x1)), m1)))
-unfolding other_in_braces
-other_in_braces_is d st = simp bind_bind
 
 pub empty_braces_is : (d : ℕ) (st : Cursor) → reading d empty_braces st ≡ bind (run_tok (CLOSE_BRACE ∷ []) st st.toks) (λ t m. Ok (br.Empty, m))
 unfolding empty_braces
@@ -389,12 +359,12 @@ pub braced_in_is : (d : ℕ) (st : Cursor) → reading d braced_in st ≡ pick (
 unfolding braced_in empty_braces minus_in_braces name_in_braces name
 braced_in_is d st = refl
 
-pub slice_rest_is : {B : Type 0} (d : ℕ) (st : Cursor) (k : Option (Lexeme × Expr) → Cursor → Outcome B) → bind (reading d slice_rest st) k ≡ pick (starts (COLON ∷ PLUS_COLON ∷ STAR_COLON ∷ []) st.toks) (bind (run_tok (COLON ∷ PLUS_COLON ∷ STAR_COLON ∷ []) st st.toks) (λ t m. bind (reading d expression m) (λ x m1. k (Some (t, x)) m1))) (k None st)
-unfolding slice_rest
-slice_rest_is d st k = optional_as d (seq (tok (COLON ∷ PLUS_COLON ∷ STAR_COLON ∷ [])) expression) st k (bind (run_tok (COLON ∷ PLUS_COLON ∷ STAR_COLON ∷ []) st st.toks) (λ t m. bind (reading d expression m) (λ x m1. k (Some (t, x)) m1))) (simp bind_bind)
+pub slice_rest_is : {B : Type 0} (d : ℕ) (f : (Option (Lexeme × Expr)) → B) (st : Cursor) → then f (reading d slice_rest st) ≡ pick (starts (COLON ∷ PLUS_COLON ∷ STAR_COLON ∷ []) st.toks) (bind (run_tok (COLON ∷ PLUS_COLON ∷ STAR_COLON ∷ []) st st.toks) (λ t m. bind (reading d expression m) (λ x m1. Ok (f (Some (t, x)), m1)))) (Ok (f None, st))
+unfolding slice_rest then
+slice_rest_is d f st = optional_as d (seq (tok (COLON ∷ PLUS_COLON ∷ STAR_COLON ∷ [])) expression) st (λ x end. Ok (f x, end)) (bind (run_tok (COLON ∷ PLUS_COLON ∷ STAR_COLON ∷ []) st st.toks) (λ t m. bind (reading d expression m) (λ x m1. Ok (f (Some (t, x)), m1)))) (simp bind_bind)
 
-pub slice_is : (d : ℕ) (st : Cursor) → reading d slice st ≡ bind (reading d expression st) (λ x m. bind (reading d slice_rest m) (λ x1 m1. Ok ((slice_of x x1), m1)))
-unfolding slice
+pub slice_is : (d : ℕ) (st : Cursor) → reading d slice st ≡ bind (reading d expression st) (λ x m. then (slice_of x) (reading d slice_rest m))
+unfolding slice then
 slice_is d st = simp bind_bind
 
 pub slices_is : (d : ℕ) (st : Cursor) → reading d slices st ≡ bind (reading d slice st) (λ x mid. run_more (reading d slice) (length mid.toks) (x ∷ []) mid)
@@ -417,25 +387,9 @@ pub scoped_sum_is : (d : ℕ) (st : Cursor) → reading d scoped_sum st ≡ bind
 unfolding scoped_sum
 scoped_sum_is d st = refl
 
-pub range_end_is : {B : Type 0} (d : ℕ) (st : Cursor) (k : Option Expr → Cursor → Outcome B) → bind (reading d range_end st) k ≡ pick (starts (DOT_DOT ∷ []) st.toks) (bind (run_tok (DOT_DOT ∷ []) st st.toks) (λ t m. bind (reading d scoped_sum m) (λ x m1. k (Some x) m1))) (k None st)
-unfolding range_end
-range_end_is d st k = optional_as d (by (λ r. r.1) (seq (tok (DOT_DOT ∷ [])) scoped_sum)) st k (bind (run_tok (DOT_DOT ∷ []) st st.toks) (λ t m. bind (reading d scoped_sum m) (λ x m1. k (Some x) m1))) (simp bind_bind)
-
-pub maybe_late_range_is : {B : Type 0} (d : ℕ) (st : Cursor) (k : Option LateRange → Cursor → Outcome B) → bind (reading d maybe_late_range st) k ≡ pick (starts (first late_range) st.toks) (bind (reading d late_range st) (λ x m. k (Some x) m)) (k None st)
-unfolding maybe_late_range late_range late_sum
-maybe_late_range_is d st k = optional_as d late_range st k (bind (reading d late_range st) (λ x m. k (Some x) m)) (refl)
-
-pub minus_pattern_is : (d : ℕ) (st : Cursor) → reading d minus_pattern st ≡ bind (run_tok (MINUS ∷ []) st st.toks) (λ t m. bind (reading d maybe_late_range m) (λ x m1. Ok ((minus_pattern_of (span_to (ahead st.toks) m1.last) (ahead st.toks) x), m1)))
-unfolding minus_pattern
-minus_pattern_is d st = simp bind_bind
-
-pub after_bang_is : {B : Type 0} (d : ℕ) (st : Cursor) (k : List Pattern ⊎ LateRange → Cursor → Outcome B) → bind (reading d after_bang st) k ≡ pick (starts (OPEN_BRACE ∷ []) st.toks) (bind (reading d set_braces st) (λ x m. k (inl x) m)) (bind (reading d late_range st) (λ x m. k (inr x) m))
-unfolding after_bang set_braces
-after_bang_is d st k = choice_as d (by inl set_braces) (by inr late_range) st k (bind (reading d set_braces st) (λ x m. k (inl x) m)) (bind (reading d late_range st) (λ x m. k (inr x) m)) (simp bind_bind) (simp bind_bind)
-
-pub bang_pattern_is : (d : ℕ) (st : Cursor) → reading d bang_pattern st ≡ bind (run_tok (BANG ∷ []) st st.toks) (λ t m. bind (reading d after_bang m) (λ x m1. Ok ((bang_pattern_of (span_to (ahead st.toks) m1.last) (ahead st.toks) x), m1)))
-unfolding bang_pattern
-bang_pattern_is d st = simp bind_bind
+pub range_end_ends : {B : Type 0} (d : ℕ) (from : Span) (f : Span → (Option Expr) → B) (st : Cursor) → ending from f (reading d range_end st) ≡ pick (starts (DOT_DOT ∷ []) st.toks) (bind (run_tok (DOT_DOT ∷ []) st st.toks) (λ t m. bind (reading d scoped_sum m) (λ x m1. Ok (f (span_to from m1.last) (Some x), m1)))) (Ok (f (span_to from st.last) None, st))
+unfolding range_end ending
+range_end_ends d from f st = optional_as d (by (λ r. r.1) (seq (tok (DOT_DOT ∷ [])) scoped_sum)) st (λ x end. Ok (f (span_to from end.last) x, end)) (bind (run_tok (DOT_DOT ∷ []) st st.toks) (λ t m. bind (reading d scoped_sum m) (λ x m1. Ok (f (span_to from m1.last) (Some x), m1)))) (simp bind_bind)
 
 pub bound_pattern_is : (d : ℕ) (st : Cursor) → reading d bound_pattern st ≡ bind (run_tok (LESS_EQUAL ∷ GREATER_EQUAL ∷ []) st st.toks) (λ t m. bind (reading d scoped_sum m) (λ x m1. Ok ((bound_of (span_to (ahead st.toks) m1.last) (code t.kind) x), m1)))
 unfolding bound_pattern
@@ -449,16 +403,16 @@ pub plain_unary_is : (d : ℕ) (st : Cursor) → reading d plain_unary st ≡ pi
 unfolding plain_unary prefixed_by post_literal literal integer_literal bits_literal boolean_literal
 plain_unary_is d st = refl
 
-pub plain_chain_is : (d : ℕ) (st : Cursor) → reading d plain_chain st ≡ bind (reading d plain_unary st) (λ x m. bind (reading d sum_rests m) (λ x1 m1. Ok ((chained (ahead st.toks) x x1), m1)))
-unfolding plain_chain
+pub plain_chain_is : (d : ℕ) (st : Cursor) → reading d plain_chain st ≡ bind (reading d plain_unary st) (λ x m. then (chained (ahead st.toks) x) (reading d sum_rests m))
+unfolding plain_chain then
 plain_chain_is d st = simp bind_bind
 
 pub plain_sum_is : (d : ℕ) (st : Cursor) → reading d plain_sum st ≡ bind (reading d plain_chain st) (λ x m. Ok (x, (record m { left = st.left })))
 unfolding plain_sum
 plain_sum_is d st = refl
 
-pub sum_pattern_is : (d : ℕ) (st : Cursor) → reading d sum_pattern st ≡ bind (reading d plain_sum st) (λ x m. bind (reading d range_end m) (λ x1 m1. Ok ((pattern_of (span_to (ahead st.toks) m1.last) x x1), m1)))
-unfolding sum_pattern
+pub sum_pattern_is : (d : ℕ) (st : Cursor) → reading d sum_pattern st ≡ bind (reading d plain_sum st) (λ x m. ending (ahead st.toks) (pattern_of x) (reading d range_end m))
+unfolding sum_pattern ending
 sum_pattern_is d st = simp bind_bind
 
 pub pattern_is : (d : ℕ) (st : Cursor) → reading d pattern st ≡ pick (starts (MINUS ∷ []) st.toks) (reading d minus_pattern st) (pick (starts (BANG ∷ []) st.toks) (reading d bang_pattern st) (pick (starts (OPEN_BRACE ∷ []) st.toks) (reading d set_pattern st) (pick (starts (MASK_LITERAL ∷ []) st.toks) (reading d mask_pattern st) (pick (starts (LESS_EQUAL ∷ GREATER_EQUAL ∷ []) st.toks) (reading d bound_pattern st) (pick (starts (OPEN_PAREN ∷ []) st.toks) (reading d pattern_in_parens st) (reading d sum_pattern st))))))
@@ -477,12 +431,12 @@ pub pattern_parts_is : (d : ℕ) (st : Cursor) → reading d pattern_parts st �
 unfolding pattern_parts
 pattern_parts_is d st = simp bind_bind
 
-pub constraint_end_is : {B : Type 0} (d : ℕ) (st : Cursor) (k : Option Expr → Cursor → Outcome B) → bind (reading d constraint_end st) k ≡ pick (starts (DOT_DOT ∷ []) st.toks) (bind (run_tok (DOT_DOT ∷ []) st st.toks) (λ t m. bind (reading d expression m) (λ x m1. k (Some x) m1))) (k None st)
-unfolding constraint_end
-constraint_end_is d st k = optional_as d (by (λ r. r.1) (seq (tok (DOT_DOT ∷ [])) expression)) st k (bind (run_tok (DOT_DOT ∷ []) st st.toks) (λ t m. bind (reading d expression m) (λ x m1. k (Some x) m1))) (simp bind_bind)
+pub constraint_end_is : {B : Type 0} (d : ℕ) (f : (Option Expr) → B) (st : Cursor) → then f (reading d constraint_end st) ≡ pick (starts (DOT_DOT ∷ []) st.toks) (bind (run_tok (DOT_DOT ∷ []) st st.toks) (λ t m. bind (reading d expression m) (λ x m1. Ok (f (Some x), m1)))) (Ok (f None, st))
+unfolding constraint_end then
+constraint_end_is d f st = optional_as d (by (λ r. r.1) (seq (tok (DOT_DOT ∷ [])) expression)) st (λ x end. Ok (f x, end)) (bind (run_tok (DOT_DOT ∷ []) st st.toks) (λ t m. bind (reading d expression m) (λ x m1. Ok (f (Some x), m1)))) (simp bind_bind)
 
-pub constraint_part_is : (d : ℕ) (st : Cursor) → reading d constraint_part st ≡ bind (reading d expression st) (λ x m. bind (reading d constraint_end m) (λ x1 m1. Ok ((constraint_part_of x x1), m1)))
-unfolding constraint_part
+pub constraint_part_is : (d : ℕ) (st : Cursor) → reading d constraint_part st ≡ bind (reading d expression st) (λ x m. then (constraint_part_of x) (reading d constraint_end m))
+unfolding constraint_part then
 constraint_part_is d st = simp bind_bind
 
 pub constraint_list_is : (d : ℕ) (st : Cursor) → reading d constraint_list st ≡ bind (reading d constraint_part st) (λ x mid. run_more (reading d constraint_part) (length mid.toks) (x ∷ []) mid)
@@ -517,11 +471,15 @@ pub bitfields_in_is : (d : ℕ) (st : Cursor) → reading d bitfields_in st ≡ 
 unfolding bitfields_in
 bitfields_in_is d st = simp bind_bind
 
-pub type_list_is : (d : ℕ) (st : Cursor) → reading d type_list st ≡ bind (reading d type_expression st) (λ x mid. run_more (reading d type_expression) (length mid.toks) (x ∷ []) mid)
-unfolding type_list
-type_list_is d st = commas_are d type_expression st
+pub more_types_is : (d : ℕ) (found : List (TypeExpr)) (st : Cursor) → then (behind found) (reading d more_types st) ≡ run_more (reading d type_expression) (length st.toks) found st
+unfolding more_types then behind
+more_types_is d found st = more_are d type_expression found st
 
-pub type_parts_is : (d : ℕ) (st : Cursor) → reading d type_parts st ≡ bind (reading d type_expression st) (λ x m. bind (run_tok (COMMA ∷ []) m m.toks) (λ t m1. bind (reading d type_list m1) (λ x1 m2. bind (run_tok (CLOSE_PAREN ∷ []) m2 m2.toks) (λ t1 m3. Ok ((x ∷ x1), m3)))))
+pub two_types_is : (d : ℕ) (st : Cursor) → reading d two_types st ≡ bind (reading d type_expression st) (λ x m. bind (run_tok (COMMA ∷ []) m m.toks) (λ t m1. bind (reading d type_expression m1) (λ x1 m2. then (behind (x ∷ x1 ∷ [])) (reading d more_types m2))))
+unfolding two_types then
+two_types_is d st = simp bind_bind
+
+pub type_parts_is : (d : ℕ) (st : Cursor) → reading d type_parts st ≡ bind (reading d two_types st) (λ x m. bind (run_tok (CLOSE_PAREN ∷ []) m m.toks) (λ t m1. Ok (x, m1)))
 unfolding type_parts
 type_parts_is d st = simp bind_bind
 
@@ -561,11 +519,15 @@ pub binder_is : (d : ℕ) (st : Cursor) → reading d binder st ≡ pick (starts
 unfolding binder name
 binder_is d st = refl
 
-pub binders_is : (d : ℕ) (st : Cursor) → reading d binders st ≡ bind (reading d binder st) (λ x mid. run_more (reading d binder) (length mid.toks) (x ∷ []) mid)
-unfolding binders
-binders_is d st = commas_are d binder st
+pub more_binders_is : (d : ℕ) (found : List (Binder)) (st : Cursor) → then (behind found) (reading d more_binders st) ≡ run_more (reading d binder) (length st.toks) found st
+unfolding more_binders then behind
+more_binders_is d found st = more_are d binder found st
 
-pub several_is : (d : ℕ) (st : Cursor) → reading d several st ≡ bind (run_opens (OPEN_PAREN ∷ []) st.left st.toks) (λ t m. bind (reading d binder m) (λ x m1. bind (run_tok (COMMA ∷ []) m1 m1.toks) (λ t1 m2. bind (reading d binders m2) (λ x1 m3. bind (run_tok (CLOSE_PAREN ∷ []) m3 m3.toks) (λ t2 m4. Ok ((bi.Several (span_to (ahead st.toks) m4.last) (x ∷ x1)), (record m4 { left = st.left })))))))
+pub two_binders_is : (d : ℕ) (st : Cursor) → reading d two_binders st ≡ bind (reading d binder st) (λ x m. bind (run_tok (COMMA ∷ []) m m.toks) (λ t m1. bind (reading d binder m1) (λ x1 m2. then (behind (x ∷ x1 ∷ [])) (reading d more_binders m2))))
+unfolding two_binders then
+two_binders_is d st = simp bind_bind
+
+pub several_is : (d : ℕ) (st : Cursor) → reading d several st ≡ bind (run_opens (OPEN_PAREN ∷ []) st.left st.toks) (λ t m. bind (reading d two_binders m) (λ x m1. bind (run_tok (CLOSE_PAREN ∷ []) m1 m1.toks) (λ t1 m2. Ok ((bi.Several (span_to (ahead st.toks) m2.last) x), (record m2 { left = st.left })))))
 unfolding several
 several_is d st = simp bind_bind
 
@@ -585,11 +547,7 @@ pub let_statement_is : (d : ℕ) (st : Cursor) → reading d let_statement st �
 unfolding let_statement
 let_statement_is d st = simp bind_bind
 
-pub more_names_is : (d : ℕ) (found : List (Ident)) (st : Cursor) → bind (reading d more_names st) (λ xs end. Ok (found ++ xs, end)) ≡ run_more (reading d name) (length st.toks) found st
-unfolding more_names
-more_names_is d found st = more_are d name found st
-
-pub names_typed_is : (d : ℕ) (st : Cursor) → reading d names_typed st ≡ bind (run_tok (COMMA ∷ []) st st.toks) (λ t m. bind (reading d name m) (λ x m1. bind (reading d more_names m1) (λ x1 m2. bind (run_tok (COLON ∷ []) m2 m2.toks) (λ t1 m3. bind (reading d type_expression m3) (λ x2 m4. bind (run_tok (SEMICOLON ∷ []) m4 m4.toks) (λ t2 m5. Ok ((MoreNames (x ∷ x1) x2), m5)))))))
+pub names_typed_is : (d : ℕ) (st : Cursor) → reading d names_typed st ≡ bind (run_tok (COMMA ∷ []) st st.toks) (λ t m. bind (reading d names m) (λ x m1. bind (run_tok (COLON ∷ []) m1 m1.toks) (λ t1 m2. bind (reading d type_expression m2) (λ x1 m3. bind (run_tok (SEMICOLON ∷ []) m3 m3.toks) (λ t2 m4. Ok ((MoreNames x x1), m4))))))
 unfolding names_typed
 names_typed_is d st = simp bind_bind
 
@@ -605,12 +563,12 @@ pub typed_value_is : (d : ℕ) (st : Cursor) → reading d typed_value st ≡ bi
 unfolding typed_value
 typed_value_is d st = simp bind_bind
 
-pub var_rest_is : {B : Type 0} (d : ℕ) (st : Cursor) (k : VarRest → Cursor → Outcome B) → bind (reading d var_rest st) k ≡ pick (starts (COMMA ∷ []) st.toks) (bind (reading d names_typed st) (λ x m. k x m)) (pick (starts (COLON ∷ []) st.toks) (bind (reading d typed_value st) (λ x m. k x m)) (bind (reading d value st) (λ x m. k (Untyped x) m)))
-unfolding var_rest names_typed typed_value
-var_rest_is d st k = choice_as d names_typed (either typed_value (by Untyped value)) st k (bind (reading d names_typed st) (λ x m. k x m)) (pick (starts (COLON ∷ []) st.toks) (bind (reading d typed_value st) (λ x m. k x m)) (bind (reading d value st) (λ x m. k (Untyped x) m))) (refl) (choice_as d typed_value (by Untyped value) st k (bind (reading d typed_value st) (λ x m. k x m)) (bind (reading d value st) (λ x m. k (Untyped x) m)) (refl) (simp bind_bind))
+pub var_rest_is : {B : Type 0} (d : ℕ) (f : VarRest → B) (st : Cursor) → then f (reading d var_rest st) ≡ pick (starts (COMMA ∷ []) st.toks) (bind (reading d names_typed st) (λ x m. Ok (f x, m))) (pick (starts (COLON ∷ []) st.toks) (bind (reading d typed_value st) (λ x m. Ok (f x, m))) (bind (reading d value st) (λ x m. Ok (f (Untyped x), m))))
+unfolding var_rest names_typed typed_value then
+var_rest_is d f st = choice_as d names_typed (either typed_value (by Untyped value)) st (λ x end. Ok (f x, end)) (bind (reading d names_typed st) (λ x m. Ok (f x, m))) (pick (starts (COLON ∷ []) st.toks) (bind (reading d typed_value st) (λ x m. Ok (f x, m))) (bind (reading d value st) (λ x m. Ok (f (Untyped x), m)))) (refl) (choice_as d typed_value (by Untyped value) st (λ x end. Ok (f x, end)) (bind (reading d typed_value st) (λ x m. Ok (f x, m))) (bind (reading d value st) (λ x m. Ok (f (Untyped x), m))) (refl) (simp bind_bind))
 
-pub var_names_is : (d : ℕ) (st : Cursor) → reading d var_names st ≡ bind (reading d name st) (λ x m. bind (reading d var_rest m) (λ x1 m1. Ok ((var_tail_of x x1), m1)))
-unfolding var_names
+pub var_names_is : (d : ℕ) (st : Cursor) → reading d var_names st ≡ bind (reading d name st) (λ x m. then (var_tail_of x) (reading d var_rest m))
+unfolding var_names then
 var_names_is d st = simp bind_bind
 
 pub var_other_is : (d : ℕ) (st : Cursor) → reading d var_other st ≡ bind (reading d other_bind st) (λ x m. bind (reading d typed m) (λ x1 m1. bind (reading d value m1) (λ x2 m2. Ok ((vt.Initialised x x1 x2), m2))))
@@ -649,12 +607,12 @@ pub assigned_is : (d : ℕ) (st : Cursor) → reading d assigned st ≡ bind (re
 unfolding assigned
 assigned_is d st = refl
 
-pub name_statement_rest_is : {B : Type 0} (d : ℕ) (st : Cursor) (k : (List Expr × List Expr) ⊎ (List PlacedSuffix × Expr) → Cursor → Outcome B) → bind (reading d name_statement_rest st) k ≡ pick (starts (OPEN_BRACE ∷ OPEN_PAREN ∷ []) st.toks) (bind (reading d invoked st) (λ x m. k (inl x) m)) (bind (reading d assigned st) (λ x m. k (inr x) m))
-unfolding name_statement_rest invoked call_arguments maybe_parameters parameters arguments
-name_statement_rest_is d st k = choice_as d (by inl invoked) (by inr assigned) st k (bind (reading d invoked st) (λ x m. k (inl x) m)) (bind (reading d assigned st) (λ x m. k (inr x) m)) (simp bind_bind) (simp bind_bind)
+pub name_statement_rest_ends : {B : Type 0} (d : ℕ) (from : Span) (f : Span → ((List Expr × List Expr) ⊎ (List PlacedSuffix × Expr)) → B) (st : Cursor) → ending from f (reading d name_statement_rest st) ≡ pick (starts (OPEN_BRACE ∷ OPEN_PAREN ∷ []) st.toks) (bind (reading d invoked st) (λ x m. Ok (f (span_to from m.last) (inl x), m))) (bind (reading d assigned st) (λ x m. Ok (f (span_to from m.last) (inr x), m)))
+unfolding name_statement_rest invoked call_arguments maybe_parameters parameters arguments ending
+name_statement_rest_ends d from f st = choice_as d (by inl invoked) (by inr assigned) st (λ x end. Ok (f (span_to from end.last) x, end)) (bind (reading d invoked st) (λ x m. Ok (f (span_to from m.last) (inl x), m))) (bind (reading d assigned st) (λ x m. Ok (f (span_to from m.last) (inr x), m))) (simp bind_bind) (simp bind_bind)
 
-pub name_statement_is : (d : ℕ) (st : Cursor) → reading d name_statement st ≡ bind (reading d name st) (λ x m. bind (reading d name_statement_rest m) (λ x1 m1. Ok ((name_statement_of (span_to (ahead st.toks) m1.last) x x1), m1)))
-unfolding name_statement
+pub name_statement_is : (d : ℕ) (st : Cursor) → reading d name_statement st ≡ bind (reading d name st) (λ x m. ending (ahead st.toks) (name_statement_of x) (reading d name_statement_rest m))
+unfolding name_statement ending
 name_statement_is d st = simp bind_bind
 
 pub no_target_is : (d : ℕ) (st : Cursor) → reading d no_target st ≡ bind (run_tok (MINUS ∷ []) st st.toks) (λ t m. Ok ((tg.Discarded t.span), m))
@@ -717,8 +675,8 @@ pub print_items_is : (d : ℕ) (st : Cursor) → reading d print_items st ≡ bi
 unfolding print_items
 print_items_is d st = commas_are d print_item st
 
-pub maybe_print_items_is : (d : ℕ) (st : Cursor) → reading d maybe_print_items st ≡ pick (starts (first print_items) st.toks) (bind (reading d print_items st) (λ x m. Ok ((or_nil (Some x)), m))) (Ok ((or_nil None), st))
-unfolding maybe_print_items print_items print_item verbatim
+pub maybe_print_items_is : (d : ℕ) (st : Cursor) → reading d maybe_print_items st ≡ pick (starts (STRING_LITERAL ∷ IF ∷ MINUS ∷ BANG ∷ NOT ∷ INTEGER_LITERAL ∷ BITS_LITERAL ∷ TRUE ∷ FALSE ∷ OPEN_PAREN ∷ NAME ∷ []) st.toks) (bind (reading d print_items st) (λ x m. Ok ((or_nil (Some x)), m))) (Ok ((or_nil None), st))
+unfolding maybe_print_items print_items print_item verbatim expression open_expression conditional as_chain logic equality comparison sum product power unary prefixed_by post_literal literal integer_literal bits_literal boolean_literal post_parenthesized parenthesized post_named named name
 maybe_print_items_is d st = optional_as d print_items st (λ x end. Ok ((or_nil) x, end)) (bind (reading d print_items st) (λ x m. Ok ((or_nil (Some x)), m))) (refl)
 
 pub print_arguments_is : (d : ℕ) (st : Cursor) → reading d print_arguments st ≡ bind (run_opens (OPEN_PAREN ∷ []) st.left st.toks) (λ t m. bind (reading d maybe_print_items m) (λ x m1. bind (run_tok (CLOSE_PAREN ∷ []) m1 m1.toks) (λ t1 m2. Ok (x, (record m2 { left = st.left })))))
@@ -757,11 +715,15 @@ pub target_is : (d : ℕ) (st : Cursor) → reading d target st ≡ pick (starts
 unfolding target no_target place name
 target_is d st = refl
 
-pub target_list_is : (d : ℕ) (st : Cursor) → reading d target_list st ≡ bind (reading d target st) (λ x mid. run_more (reading d target) (length mid.toks) (x ∷ []) mid)
-unfolding target_list
-target_list_is d st = commas_are d target st
+pub more_targets_is : (d : ℕ) (found : List (Target)) (st : Cursor) → then (behind found) (reading d more_targets st) ≡ run_more (reading d target) (length st.toks) found st
+unfolding more_targets then behind
+more_targets_is d found st = more_are d target found st
 
-pub target_parts_is : (d : ℕ) (st : Cursor) → reading d target_parts st ≡ bind (reading d target st) (λ x m. bind (run_tok (COMMA ∷ []) m m.toks) (λ t m1. bind (reading d target_list m1) (λ x1 m2. bind (run_tok (CLOSE_PAREN ∷ []) m2 m2.toks) (λ t1 m3. Ok ((x ∷ x1), m3)))))
+pub two_targets_is : (d : ℕ) (st : Cursor) → reading d two_targets st ≡ bind (reading d target st) (λ x m. bind (run_tok (COMMA ∷ []) m m.toks) (λ t m1. bind (reading d target m1) (λ x1 m2. then (behind (x ∷ x1 ∷ [])) (reading d more_targets m2))))
+unfolding two_targets then
+two_targets_is d st = simp bind_bind
+
+pub target_parts_is : (d : ℕ) (st : Cursor) → reading d target_parts st ≡ bind (reading d two_targets st) (λ x m. bind (run_tok (CLOSE_PAREN ∷ []) m m.toks) (λ t m1. Ok (x, m1)))
 unfolding target_parts
 target_parts_is d st = simp bind_bind
 
@@ -977,65 +939,62 @@ pub program_is : (d : ℕ) (st : Cursor) → reading d program st ≡ run_items 
 unfolding program declaration type_decl fixed_storage global_var function qualifier written_qualifier
 program_is d st = items_are d declaration st
 
-pub Parenthesized_is : (d : ℕ) (st : Cursor) → symbol (suc d) Parenthesized st ≡ reading d parenthesized_in st
-Parenthesized_is d st = refl
+pub Parenthesized_at : (d : ℕ) (st : Cursor) → 0 < d → symbol d Parenthesized st ≡ bind (reading (d - 1) expressions st) (λ x m. bind (run_tok (CLOSE_PAREN ∷ []) m m.toks) (λ t m1. Ok (x, m1)))
+Parenthesized_at d st some = deeper d Parenthesized st some ∙ parenthesized_in_is (d - 1) st
 
-pub Arguments_is : (d : ℕ) (st : Cursor) → symbol (suc d) Arguments st ≡ reading d arguments_in st
-Arguments_is d st = refl
+pub Arguments_at : (d : ℕ) (st : Cursor) → 0 < d → symbol d Arguments st ≡ bind (reading (d - 1) maybe_expressions st) (λ x m. bind (run_tok (CLOSE_PAREN ∷ []) m m.toks) (λ t m1. Ok (x, m1)))
+Arguments_at d st some = deeper d Arguments st some ∙ arguments_in_is (d - 1) st
 
-pub Braced_is : (d : ℕ) (st : Cursor) → symbol (suc d) Braced st ≡ reading d braced_in st
-Braced_is d st = refl
+pub Braced_at : (d : ℕ) (st : Cursor) → 0 < d → symbol d Braced st ≡ pick (starts (CLOSE_BRACE ∷ []) st.toks) (reading (d - 1) empty_braces st) (pick (starts (MINUS ∷ []) st.toks) (reading (d - 1) minus_in_braces st) (pick (starts (NAME ∷ []) st.toks) (reading (d - 1) name_in_braces st) (reading (d - 1) other_in_braces st)))
+Braced_at d st some = deeper d Braced st some ∙ braced_in_is (d - 1) st
 
-pub Operand_is : (d : ℕ) (st : Cursor) → symbol (suc d) Operand st ≡ reading d unary st
-Operand_is d st = refl
+pub Operand_at : (d : ℕ) (st : Cursor) → 0 < d → symbol d Operand st ≡ reading (d - 1) unary st
+Operand_at d st some = deeper d Operand st some
 
-pub IfParts_is : (d : ℕ) (st : Cursor) → symbol (suc d) IfParts st ≡ reading d if_parts st
-IfParts_is d st = refl
+pub IfParts_at : (d : ℕ) (st : Cursor) → 0 < d → symbol d IfParts st ≡ bind (reading (d - 1) open_expression st) (λ x m. bind (run_tok (THEN ∷ []) m m.toks) (λ t m1. bind (reading (d - 1) open_expression m1) (λ x1 m2. bind (run_tok (ELSE ∷ []) m2 m2.toks) (λ t1 m3. bind (reading (d - 1) open_expression m3) (λ x2 m4. Ok ((x, x1, x2), m4))))))
+IfParts_at d st some = deeper d IfParts st some ∙ if_parts_is (d - 1) st
 
-pub Bracketed_is : (d : ℕ) (st : Cursor) → symbol (suc d) Bracketed st ≡ reading d bracketed_in st
-Bracketed_is d st = refl
+pub Bracketed_at : (d : ℕ) (st : Cursor) → 0 < d → symbol d Bracketed st ≡ pick (starts (OPEN_BRACKET ∷ []) st.toks) (reading (d - 1) element st) (reading (d - 1) slices_in st)
+Bracketed_at d st some = deeper d Bracketed st some ∙ bracketed_in_is (d - 1) st
 
-pub Width_is : (d : ℕ) (st : Cursor) → symbol (suc d) Width st ≡ reading d width_in st
-Width_is d st = refl
+pub Width_at : (d : ℕ) (st : Cursor) → 0 < d → symbol d Width st ≡ bind (reading (d - 1) expression st) (λ x m. bind (run_tok (CLOSE_PAREN ∷ []) m m.toks) (λ t m1. Ok (x, m1)))
+Width_at d st some = deeper d Width st some ∙ width_in_is (d - 1) st
 
-pub SetParts_is : (d : ℕ) (st : Cursor) → symbol (suc d) SetParts st ≡ reading d set_parts st
-SetParts_is d st = refl
+pub SetParts_at : (d : ℕ) (st : Cursor) → 0 < d → symbol d SetParts st ≡ bind (reading (d - 1) patterns st) (λ x m. bind (run_tok (CLOSE_BRACE ∷ []) m m.toks) (λ t m1. Ok (x, m1)))
+SetParts_at d st some = deeper d SetParts st some ∙ set_parts_is (d - 1) st
 
-pub PatternParts_is : (d : ℕ) (st : Cursor) → symbol (suc d) PatternParts st ≡ reading d pattern_parts st
-PatternParts_is d st = refl
+pub PatternParts_at : (d : ℕ) (st : Cursor) → 0 < d → symbol d PatternParts st ≡ bind (reading (d - 1) patterns st) (λ x m. bind (run_tok (CLOSE_PAREN ∷ []) m m.toks) (λ t m1. Ok (x, m1)))
+PatternParts_at d st some = deeper d PatternParts st some ∙ pattern_parts_is (d - 1) st
 
-pub ConstraintParts_is : (d : ℕ) (st : Cursor) → symbol (suc d) ConstraintParts st ≡ reading d constraint_parts st
-ConstraintParts_is d st = refl
+pub ConstraintParts_at : (d : ℕ) (st : Cursor) → 0 < d → symbol d ConstraintParts st ≡ bind (reading (d - 1) constraint_list st) (λ x m. bind (run_tok (CLOSE_BRACE ∷ []) m m.toks) (λ t m1. Ok (x, m1)))
+ConstraintParts_at d st some = deeper d ConstraintParts st some ∙ constraint_parts_is (d - 1) st
 
-pub Bitfields_is : (d : ℕ) (st : Cursor) → symbol (suc d) Bitfields st ≡ reading d bitfields_in st
-Bitfields_is d st = refl
+pub Bitfields_at : (d : ℕ) (st : Cursor) → 0 < d → symbol d Bitfields st ≡ bind (reading (d - 1) maybe_bitfield_list st) (λ x m. bind (run_tok (CLOSE_BRACE ∷ []) m m.toks) (λ t m1. Ok (x, m1)))
+Bitfields_at d st some = deeper d Bitfields st some ∙ bitfields_in_is (d - 1) st
 
-pub TypeParts_is : (d : ℕ) (st : Cursor) → symbol (suc d) TypeParts st ≡ reading d type_parts st
-TypeParts_is d st = refl
+pub TypeParts_at : (d : ℕ) (st : Cursor) → 0 < d → symbol d TypeParts st ≡ bind (reading (d - 1) two_types st) (λ x m. bind (run_tok (CLOSE_PAREN ∷ []) m m.toks) (λ t m1. Ok (x, m1)))
+TypeParts_at d st some = deeper d TypeParts st some ∙ type_parts_is (d - 1) st
 
-pub ArrayParts_is : (d : ℕ) (st : Cursor) → symbol (suc d) ArrayParts st ≡ reading d array_parts st
-ArrayParts_is d st = refl
+pub ArrayParts_at : (d : ℕ) (st : Cursor) → 0 < d → symbol d ArrayParts st ≡ bind (reading (d - 1) array_length st) (λ x m. bind (run_tok (OF ∷ []) m m.toks) (λ t m1. bind (reading (d - 1) type_expression m1) (λ x1 m2. Ok ((x, x1), m2))))
+ArrayParts_at d st some = deeper d ArrayParts st some ∙ array_parts_is (d - 1) st
 
-pub TargetParts_is : (d : ℕ) (st : Cursor) → symbol (suc d) TargetParts st ≡ reading d target_parts st
-TargetParts_is d st = refl
+pub TargetParts_at : (d : ℕ) (st : Cursor) → 0 < d → symbol d TargetParts st ≡ bind (reading (d - 1) two_targets st) (λ x m. bind (run_tok (CLOSE_PAREN ∷ []) m m.toks) (λ t m1. Ok (x, m1)))
+TargetParts_at d st some = deeper d TargetParts st some ∙ target_parts_is (d - 1) st
 
-pub IfBody_is : (d : ℕ) (st : Cursor) → symbol (suc d) IfBody st ≡ reading d if_body st
-IfBody_is d st = refl
+pub IfBody_at : (d : ℕ) (st : Cursor) → 0 < d → symbol d IfBody st ≡ bind (reading (d - 1) expression st) (λ x m. bind (run_tok (THEN ∷ []) m m.toks) (λ t m1. bind (reading (d - 1) block m1) (λ x1 m2. bind (reading (d - 1) else_ifs m2) (λ x2 m3. bind (reading (d - 1) maybe_else m3) (λ x3 m4. bind (run_tok (END ∷ []) m4 m4.toks) (λ t1 m5. bind (run_tok (SEMICOLON ∷ []) m5 m5.toks) (λ t2 m6. Ok ((x, x1, x2, x3), m6))))))))
+IfBody_at d st some = deeper d IfBody st some ∙ if_body_is (d - 1) st
 
-pub CaseBody_is : (d : ℕ) (st : Cursor) → symbol (suc d) CaseBody st ≡ reading d case_body st
-CaseBody_is d st = refl
+pub CaseBody_at : (d : ℕ) (st : Cursor) → 0 < d → symbol d CaseBody st ≡ bind (reading (d - 1) expression st) (λ x m. bind (run_tok (OF ∷ []) m m.toks) (λ t m1. bind (reading (d - 1) alternatives m1) (λ x1 m2. bind (reading (d - 1) maybe_otherwise m2) (λ x2 m3. bind (run_tok (END ∷ []) m3 m3.toks) (λ t1 m4. bind (run_tok (SEMICOLON ∷ []) m4 m4.toks) (λ t2 m5. Ok ((x, x1, x2), m5)))))))
+CaseBody_at d st some = deeper d CaseBody st some ∙ case_body_is (d - 1) st
 
-pub ForBody_is : (d : ℕ) (st : Cursor) → symbol (suc d) ForBody st ≡ reading d for_body st
-ForBody_is d st = refl
+pub ForBody_at : (d : ℕ) (st : Cursor) → 0 < d → symbol d ForBody st ≡ bind (reading (d - 1) name st) (λ x m. bind (run_tok (ASSIGN ∷ []) m m.toks) (λ t m1. bind (reading (d - 1) expression m1) (λ x1 m2. bind (reading (d - 1) direction m2) (λ x2 m3. bind (reading (d - 1) expression m3) (λ x3 m4. bind (reading (d - 1) loop_limit m4) (λ x4 m5. bind (run_tok (DO ∷ []) m5 m5.toks) (λ t1 m6. bind (reading (d - 1) block m6) (λ x5 m7. bind (run_tok (END ∷ []) m7 m7.toks) (λ t2 m8. bind (run_tok (SEMICOLON ∷ []) m8 m8.toks) (λ t3 m9. Ok ((x, x1, x2, x3, x4, x5), m9)))))))))))
+ForBody_at d st some = deeper d ForBody st some ∙ for_body_is (d - 1) st
 
-pub WhileBody_is : (d : ℕ) (st : Cursor) → symbol (suc d) WhileBody st ≡ reading d while_body st
-WhileBody_is d st = refl
+pub WhileBody_at : (d : ℕ) (st : Cursor) → 0 < d → symbol d WhileBody st ≡ bind (reading (d - 1) expression st) (λ x m. bind (reading (d - 1) loop_limit m) (λ x1 m1. bind (run_tok (DO ∷ []) m1 m1.toks) (λ t m2. bind (reading (d - 1) block m2) (λ x2 m3. bind (run_tok (END ∷ []) m3 m3.toks) (λ t1 m4. bind (run_tok (SEMICOLON ∷ []) m4 m4.toks) (λ t2 m5. Ok ((x, x1, x2), m5)))))))
+WhileBody_at d st some = deeper d WhileBody st some ∙ while_body_is (d - 1) st
 
-pub RepeatBody_is : (d : ℕ) (st : Cursor) → symbol (suc d) RepeatBody st ≡ reading d repeat_body st
-RepeatBody_is d st = refl
+pub RepeatBody_at : (d : ℕ) (st : Cursor) → 0 < d → symbol d RepeatBody st ≡ bind (reading (d - 1) block st) (λ x m. bind (run_tok (UNTIL ∷ []) m m.toks) (λ t m1. bind (reading (d - 1) expression m1) (λ x1 m2. bind (reading (d - 1) loop_limit m2) (λ x2 m3. bind (run_tok (SEMICOLON ∷ []) m3 m3.toks) (λ t1 m4. Ok ((x, x1, x2), m4))))))
+RepeatBody_at d st some = deeper d RepeatBody st some ∙ repeat_body_is (d - 1) st
 
-pub TryBody_is : (d : ℕ) (st : Cursor) → symbol (suc d) TryBody st ≡ reading d try_body st
-TryBody_is d st = refl
-
-pub Program_is : (d : ℕ) (st : Cursor) → symbol (suc d) Program st ≡ reading d program st
-Program_is d st = refl
+pub TryBody_at : (d : ℕ) (st : Cursor) → 0 < d → symbol d TryBody st ≡ bind (reading (d - 1) block st) (λ x m. bind (run_tok (CATCH ∷ []) m m.toks) (λ t m1. bind (reading (d - 1) handlers m1) (λ x1 m2. bind (run_tok (END ∷ []) m2 m2.toks) (λ t1 m3. bind (run_tok (SEMICOLON ∷ []) m3 m3.toks) (λ t2 m4. Ok ((x, x1.0, x1.1), m4))))))
+TryBody_at d st some = deeper d TryBody st some ∙ try_body_is (d - 1) st

@@ -29,11 +29,11 @@ abbrev pub symbol : ℕ → (s : Sym) → Cursor → Outcome (Val s)
 symbol depth s st = parse Sym Val rule depth s st
 
 -- what becomes of what was read
-abbrev pub then : {A B : Type 0} → (A → B) → Outcome A → Outcome B
+unfoldable pub then : {A B : Type 0} → (A → B) → Outcome A → Outcome B
 then f o = bind o (λ x end. Ok (f x, end))
 
 -- the same, given the span from a token on to where it ends
-abbrev pub ending : {A B : Type 0} → Span → (Span → A → B) → Outcome A → Outcome B
+unfoldable pub ending : {A B : Type 0} → Span → (Span → A → B) → Outcome A → Outcome B
 ending from f o = bind o (λ x end. Ok (f (span_to from end.last) x, end))
 
 -- a level more

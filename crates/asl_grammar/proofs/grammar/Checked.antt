@@ -53,8 +53,8 @@ use Rattle.asl_grammar.specs.grammar.Kinds.{code, NAME, INTEGER_LITERAL, BITS_LI
 use Rattle.asl_grammar.specs.grammar.Cursor.{Lexeme, Extent, whole}
 use Rattle.asl_grammar.specs.grammar.Combinators.{tok, opens, into, seq, either, opt, many, by, spanned, scope, closed, trail, costs, follows}
 use Rattle.asl_grammar.specs.grammar.Reader.{by_one, cont, covers}
-use Rattle.asl_grammar.specs.grammar.Build.{seconds, or_nil, int_of, ident, unary_of, direction_of, print_kind_of, storage_kind_of, qualifier_of, or_unqualified, Link, Links, AsLinks, chained, compared, as_chained, joined, finished, Posts, posted, parens_of, named_of, parameters_or, empty_or, braced, LateTail, NameTail, minus_in_braces_of, name_in_braces_of, slice_of, constraint_part_of, bitfield_of, pattern_of, SumTail, LateRange, minus_pattern_of, bang_pattern_of, bound_of, pattern_parens_of, place_of, var_tail_of, var_of, name_statement_of, or_no_otherwise, no_catchers, catch_of, untyped, VarRest, MoreNames, Typed, Untyped}
-use Rattle.asl_grammar.specs.grammar.Rules.{Sym, Parenthesized, Arguments, Braced, Operand, IfParts, Bracketed, Width, SetParts, PatternParts, ConstraintParts, Bitfields, TypeParts, ArrayParts, TargetParts, IfBody, CaseBody, ForBody, WhileBody, RepeatBody, TryBody, Program, rule, after, name, names, integer_literal, bits_literal, boolean_literal, literal, parenthesized, arguments, braces, braces_called, after_braces, after_name, maybe_after_name, named, field_list, dotted, dot, bracket, suffix_part, suffix, suffixes, bits_pattern, mask_pattern, set_braces, set_pattern, not_set_pattern, in_pattern, in_clause, post_rest, post_literal, post_parenthesized, post_named, prefixed_by, unary, power_rest, power, product_rest, product, sum_rest, sum, comparison_rest, comparison, equality_rest, equality, links_by, some_links_by, logic_links, logic_rest, logic, constraint, maybe_constraint, integer_type, boolean_type, bit_type, named_type, bitfields, maybe_bitfields, bits_type, tuple_type, array_type, type_expression, constraint_type, as_type, as_rest, as_chain, conditional, open_expression, expression, if_parts, rest, more_expressions, expressions, maybe_expressions, maybe_expression, parenthesized_in, arguments_in, width_in, late_expression, expression_after_name, other_unary, other_chain, other_open_expression, other_expression, field_value, more_field_values, field_values_after_name, more_parameters, parameters_after_minus, parameters_after_name, minus_alone, after_minus, after_first_name, minus_in_braces, name_in_braces, other_in_braces, empty_braces, braced_in, slice_rest, slice, slices, slices_in, element, bracketed_in, sum_rests, scoped_sum, range_end, late_sum, late_range, maybe_late_range, minus_pattern, after_bang, bang_pattern, bound_pattern, pattern_in_parens, plain_unary, plain_chain, plain_sum, sum_pattern, pattern, patterns, set_parts, pattern_parts, constraint_end, constraint_part, constraint_list, constraint_parts, low_end, bit_ends, bitfield, bitfield_list, maybe_bitfield_list, bitfields_in, type_list, type_parts, array_length, array_parts, typed, pass, unreachable, assert, bind_name, no_binder, binder, binders, several, other_bind, local_bind, value, let_statement, more_names, names_typed, no_value, maybe_value, typed_value, var_rest, var_names, var_other, var_tail, var_statement, parameters, maybe_parameters, call_arguments, invoked, target_suffixes, assigned, name_statement_rest, name_statement, no_target, targets, other_target, assignment, if_statement, case_statement, for_statement, while_statement, repeat_statement, return_statement, throw_statement, try_statement, verbatim, print_item, print_items, maybe_print_items, print_arguments, print_statement, statement, block, loop_limit, otherwise, maybe_otherwise, place, target, target_list, target_parts, else_if, else_ifs, else_block, maybe_else, if_body, where_clause, alternative, alternatives, case_body, direction, for_body, while_body, repeat_body, caught_type, catcher, catchers, some_catchers, handlers, try_body, formal, formal_list, maybe_formals, formals, param, param_list, maybe_param_list, params, maybe_params, label_list, label_braces, labels, no_members, listed_members, some_members, maybe_some_members, member_braces, members, record_type, exception_type, type_definition, supertype, type_decl, fixed_storage, typed_var, global_rest, global_var, result_type, recursion_limit, written_qualifier, qualifier, function, declaration, program}
+use Rattle.asl_grammar.specs.grammar.Build.{seconds, or_nil, behind, int_of, ident, unary_of, direction_of, print_kind_of, storage_kind_of, qualifier_of, or_unqualified, Link, Links, AsLinks, chained, compared, as_chained, logically, joined, finished, Posts, posted, parens_of, named_of, parameters_or, empty_or, braced, LateTail, NameTail, minus_in_braces_of, name_in_braces_of, slice_of, constraint_part_of, bitfield_of, pattern_of, SumTail, LateRange, minus_pattern_of, bang_pattern_of, bound_of, pattern_parens_of, place_of, var_tail_of, var_of, name_statement_of, or_no_otherwise, no_catchers, catch_of, untyped, VarRest, MoreNames, Typed, Untyped}
+use Rattle.asl_grammar.specs.grammar.Rules.{Sym, Parenthesized, Arguments, Braced, Operand, IfParts, Bracketed, Width, SetParts, PatternParts, ConstraintParts, Bitfields, TypeParts, ArrayParts, TargetParts, IfBody, CaseBody, ForBody, WhileBody, RepeatBody, TryBody, Program, rule, after, name, names, integer_literal, bits_literal, boolean_literal, literal, parenthesized, arguments, braces, braces_called, after_braces, after_name, maybe_after_name, named, field_list, dotted, dot, bracket, suffix_part, suffix, suffixes, bits_pattern, mask_pattern, set_braces, set_pattern, not_set_pattern, in_pattern, in_clause, post_rest, post_literal, post_parenthesized, post_named, prefixed_by, unary, power_rest, power, product_rest, product, sum_rest, sum, comparison_rest, comparison, equality_rest, equality, links_by, some_links_by, logic_links, logic_rest, logic, constraint, maybe_constraint, integer_type, boolean_type, bit_type, named_type, bitfields, maybe_bitfields, bits_type, tuple_type, array_type, type_expression, constraint_type, as_type, as_rest, as_chain, conditional, open_expression, expression, if_parts, rest, more_expressions, expressions, maybe_expressions, maybe_expression, parenthesized_in, arguments_in, width_in, late_expression, expression_after_name, other_unary, other_chain, other_open_expression, other_expression, field_value, more_field_values, field_values_after_name, more_parameters, parameters_after_minus, parameters_after_name, minus_alone, after_minus, after_first_name, minus_in_braces, name_in_braces, other_in_braces, empty_braces, braced_in, slice_rest, slice, slices, slices_in, element, bracketed_in, sum_rests, scoped_sum, range_end, late_sum, late_range, maybe_late_range, minus_pattern, after_bang, bang_pattern, bound_pattern, pattern_in_parens, plain_unary, plain_chain, plain_sum, sum_pattern, pattern, patterns, set_parts, pattern_parts, constraint_end, constraint_part, constraint_list, constraint_parts, low_end, bit_ends, bitfield, bitfield_list, maybe_bitfield_list, bitfields_in, more_types, two_types, type_parts, array_length, array_parts, typed, pass, unreachable, assert, bind_name, no_binder, binder, more_binders, two_binders, several, other_bind, local_bind, value, let_statement, names_typed, no_value, maybe_value, typed_value, var_rest, var_names, var_other, var_tail, var_statement, parameters, maybe_parameters, call_arguments, invoked, target_suffixes, assigned, name_statement_rest, name_statement, no_target, targets, other_target, assignment, if_statement, case_statement, for_statement, while_statement, repeat_statement, return_statement, throw_statement, try_statement, verbatim, print_item, print_items, maybe_print_items, print_arguments, print_statement, statement, block, loop_limit, otherwise, maybe_otherwise, place, target, more_targets, two_targets, target_parts, else_if, else_ifs, else_block, maybe_else, if_body, where_clause, alternative, alternatives, case_body, direction, for_body, while_body, repeat_body, caught_type, catcher, catchers, some_catchers, handlers, try_body, formal, formal_list, maybe_formals, formals, param, param_list, maybe_param_list, params, maybe_params, label_list, label_braces, labels, no_members, listed_members, some_members, maybe_some_members, member_braces, members, record_type, exception_type, type_definition, supertype, type_decl, fixed_storage, typed_var, global_rest, global_var, result_type, recursion_limit, written_qualifier, qualifier, function, declaration, program}
 use Rattle.asl_grammar.proofs.grammar.Facts.{Facts, fit, tok_f, opens_f, into_f, closed_f, seq_f, either_f, opt_f, many_f, by_f, spanned_f, scope_f, trail_f, costs_f, follows_f, covered_by}
 
 f_name : Facts name false (NAME ∷ []) []
@@ -384,7 +384,7 @@ f_logic_rest =
 f_logic : Facts logic false (NAME ∷ INTEGER_LITERAL ∷ BITS_LITERAL ∷ OPEN_PAREN ∷ BANG ∷ MINUS ∷ FALSE ∷ NOT ∷ TRUE ∷ []) (OPEN_PAREN ∷ OPEN_BRACKET ∷ OPEN_BRACE ∷ DOT ∷ COLON_COLON ∷ EQUAL ∷ NOT_EQUAL ∷ AND_AND ∷ OR_OR ∷ IMPLIES ∷ IFF ∷ LESS ∷ LESS_EQUAL ∷ SHIFT_LEFT ∷ GREATER ∷ GREATER_EQUAL ∷ SHIFT_RIGHT ∷ PLUS ∷ MINUS ∷ STAR ∷ CARET ∷ BIT_AND ∷ DIV ∷ DIV_RM ∷ IN ∷ MOD ∷ BIT_OR ∷ BIT_XOR ∷ [])
 unfolding logic
 f_logic =
-    let raw : Facts {A = Expr} (by (λ r. chained r.0.1.from r.0.0 (or_nil r.1)) (seq (spanned equality) logic_rest)) false (NAME ∷ INTEGER_LITERAL ∷ BITS_LITERAL ∷ OPEN_PAREN ∷ BANG ∷ MINUS ∷ FALSE ∷ NOT ∷ TRUE ∷ []) (OPEN_PAREN ∷ OPEN_BRACKET ∷ OPEN_BRACE ∷ DOT ∷ COLON_COLON ∷ EQUAL ∷ NOT_EQUAL ∷ AND_AND ∷ OR_OR ∷ IMPLIES ∷ IFF ∷ LESS ∷ LESS_EQUAL ∷ SHIFT_LEFT ∷ GREATER ∷ GREATER_EQUAL ∷ SHIFT_RIGHT ∷ PLUS ∷ MINUS ∷ STAR ∷ CARET ∷ BIT_AND ∷ DIV ∷ DIV_RM ∷ IN ∷ MOD ∷ BIT_OR ∷ BIT_XOR ∷ []) = (by_f (fit (NAME ∷ INTEGER_LITERAL ∷ BITS_LITERAL ∷ OPEN_PAREN ∷ BANG ∷ MINUS ∷ FALSE ∷ NOT ∷ TRUE ∷ []) (OPEN_PAREN ∷ OPEN_BRACKET ∷ OPEN_BRACE ∷ DOT ∷ COLON_COLON ∷ EQUAL ∷ NOT_EQUAL ∷ AND_AND ∷ OR_OR ∷ IMPLIES ∷ IFF ∷ LESS ∷ LESS_EQUAL ∷ SHIFT_LEFT ∷ GREATER ∷ GREATER_EQUAL ∷ SHIFT_RIGHT ∷ PLUS ∷ MINUS ∷ STAR ∷ CARET ∷ BIT_AND ∷ DIV ∷ DIV_RM ∷ IN ∷ MOD ∷ BIT_OR ∷ BIT_XOR ∷ []) (seq_f (spanned_f f_equality) f_logic_rest refl) refl refl)) in
+    let raw : Facts {A = Expr} (by (λ r. logically r.0.1.from r.0.0 r.1) (seq (spanned equality) logic_rest)) false (NAME ∷ INTEGER_LITERAL ∷ BITS_LITERAL ∷ OPEN_PAREN ∷ BANG ∷ MINUS ∷ FALSE ∷ NOT ∷ TRUE ∷ []) (OPEN_PAREN ∷ OPEN_BRACKET ∷ OPEN_BRACE ∷ DOT ∷ COLON_COLON ∷ EQUAL ∷ NOT_EQUAL ∷ AND_AND ∷ OR_OR ∷ IMPLIES ∷ IFF ∷ LESS ∷ LESS_EQUAL ∷ SHIFT_LEFT ∷ GREATER ∷ GREATER_EQUAL ∷ SHIFT_RIGHT ∷ PLUS ∷ MINUS ∷ STAR ∷ CARET ∷ BIT_AND ∷ DIV ∷ DIV_RM ∷ IN ∷ MOD ∷ BIT_OR ∷ BIT_XOR ∷ []) = (by_f (fit (NAME ∷ INTEGER_LITERAL ∷ BITS_LITERAL ∷ OPEN_PAREN ∷ BANG ∷ MINUS ∷ FALSE ∷ NOT ∷ TRUE ∷ []) (OPEN_PAREN ∷ OPEN_BRACKET ∷ OPEN_BRACE ∷ DOT ∷ COLON_COLON ∷ EQUAL ∷ NOT_EQUAL ∷ AND_AND ∷ OR_OR ∷ IMPLIES ∷ IFF ∷ LESS ∷ LESS_EQUAL ∷ SHIFT_LEFT ∷ GREATER ∷ GREATER_EQUAL ∷ SHIFT_RIGHT ∷ PLUS ∷ MINUS ∷ STAR ∷ CARET ∷ BIT_AND ∷ DIV ∷ DIV_RM ∷ IN ∷ MOD ∷ BIT_OR ∷ BIT_XOR ∷ []) (seq_f (spanned_f f_equality) f_logic_rest refl) refl refl)) in
     fit (NAME ∷ INTEGER_LITERAL ∷ BITS_LITERAL ∷ OPEN_PAREN ∷ BANG ∷ MINUS ∷ FALSE ∷ NOT ∷ TRUE ∷ []) (OPEN_PAREN ∷ OPEN_BRACKET ∷ OPEN_BRACE ∷ DOT ∷ COLON_COLON ∷ EQUAL ∷ NOT_EQUAL ∷ AND_AND ∷ OR_OR ∷ IMPLIES ∷ IFF ∷ LESS ∷ LESS_EQUAL ∷ SHIFT_LEFT ∷ GREATER ∷ GREATER_EQUAL ∷ SHIFT_RIGHT ∷ PLUS ∷ MINUS ∷ STAR ∷ CARET ∷ BIT_AND ∷ DIV ∷ DIV_RM ∷ IN ∷ MOD ∷ BIT_OR ∷ BIT_XOR ∷ []) raw refl refl
 
 f_constraint : Facts constraint false (OPEN_BRACE ∷ []) []
@@ -522,7 +522,7 @@ f_more_expressions =
 f_expressions : Facts expressions false (NAME ∷ INTEGER_LITERAL ∷ BITS_LITERAL ∷ OPEN_PAREN ∷ BANG ∷ MINUS ∷ FALSE ∷ NOT ∷ TRUE ∷ IF ∷ []) (OPEN_PAREN ∷ OPEN_BRACKET ∷ OPEN_BRACE ∷ COMMA ∷ DOT ∷ COLON_COLON ∷ EQUAL ∷ NOT_EQUAL ∷ AND_AND ∷ OR_OR ∷ IMPLIES ∷ IFF ∷ LESS ∷ LESS_EQUAL ∷ SHIFT_LEFT ∷ GREATER ∷ GREATER_EQUAL ∷ SHIFT_RIGHT ∷ PLUS ∷ MINUS ∷ STAR ∷ CARET ∷ BIT_AND ∷ DIV ∷ DIV_RM ∷ IN ∷ MOD ∷ BIT_OR ∷ BIT_XOR ∷ AS ∷ [])
 unfolding expressions
 f_expressions =
-    let raw : Facts {A = List Expr} (by (λ r. r.0 ∷ r.1) (seq expression more_expressions)) false (NAME ∷ INTEGER_LITERAL ∷ BITS_LITERAL ∷ OPEN_PAREN ∷ BANG ∷ MINUS ∷ FALSE ∷ NOT ∷ TRUE ∷ IF ∷ []) (OPEN_PAREN ∷ OPEN_BRACKET ∷ OPEN_BRACE ∷ COMMA ∷ DOT ∷ COLON_COLON ∷ EQUAL ∷ NOT_EQUAL ∷ AND_AND ∷ OR_OR ∷ IMPLIES ∷ IFF ∷ LESS ∷ LESS_EQUAL ∷ SHIFT_LEFT ∷ GREATER ∷ GREATER_EQUAL ∷ SHIFT_RIGHT ∷ PLUS ∷ MINUS ∷ STAR ∷ CARET ∷ BIT_AND ∷ DIV ∷ DIV_RM ∷ IN ∷ MOD ∷ BIT_OR ∷ BIT_XOR ∷ AS ∷ []) = (by_f (fit (NAME ∷ INTEGER_LITERAL ∷ BITS_LITERAL ∷ OPEN_PAREN ∷ BANG ∷ MINUS ∷ FALSE ∷ NOT ∷ TRUE ∷ IF ∷ []) (OPEN_PAREN ∷ OPEN_BRACKET ∷ OPEN_BRACE ∷ COMMA ∷ DOT ∷ COLON_COLON ∷ EQUAL ∷ NOT_EQUAL ∷ AND_AND ∷ OR_OR ∷ IMPLIES ∷ IFF ∷ LESS ∷ LESS_EQUAL ∷ SHIFT_LEFT ∷ GREATER ∷ GREATER_EQUAL ∷ SHIFT_RIGHT ∷ PLUS ∷ MINUS ∷ STAR ∷ CARET ∷ BIT_AND ∷ DIV ∷ DIV_RM ∷ IN ∷ MOD ∷ BIT_OR ∷ BIT_XOR ∷ AS ∷ []) (seq_f f_expression f_more_expressions refl) refl refl)) in
+    let raw : Facts {A = List Expr} (by (λ r. behind (r.0 ∷ []) r.1) (seq expression more_expressions)) false (NAME ∷ INTEGER_LITERAL ∷ BITS_LITERAL ∷ OPEN_PAREN ∷ BANG ∷ MINUS ∷ FALSE ∷ NOT ∷ TRUE ∷ IF ∷ []) (OPEN_PAREN ∷ OPEN_BRACKET ∷ OPEN_BRACE ∷ COMMA ∷ DOT ∷ COLON_COLON ∷ EQUAL ∷ NOT_EQUAL ∷ AND_AND ∷ OR_OR ∷ IMPLIES ∷ IFF ∷ LESS ∷ LESS_EQUAL ∷ SHIFT_LEFT ∷ GREATER ∷ GREATER_EQUAL ∷ SHIFT_RIGHT ∷ PLUS ∷ MINUS ∷ STAR ∷ CARET ∷ BIT_AND ∷ DIV ∷ DIV_RM ∷ IN ∷ MOD ∷ BIT_OR ∷ BIT_XOR ∷ AS ∷ []) = (by_f (fit (NAME ∷ INTEGER_LITERAL ∷ BITS_LITERAL ∷ OPEN_PAREN ∷ BANG ∷ MINUS ∷ FALSE ∷ NOT ∷ TRUE ∷ IF ∷ []) (OPEN_PAREN ∷ OPEN_BRACKET ∷ OPEN_BRACE ∷ COMMA ∷ DOT ∷ COLON_COLON ∷ EQUAL ∷ NOT_EQUAL ∷ AND_AND ∷ OR_OR ∷ IMPLIES ∷ IFF ∷ LESS ∷ LESS_EQUAL ∷ SHIFT_LEFT ∷ GREATER ∷ GREATER_EQUAL ∷ SHIFT_RIGHT ∷ PLUS ∷ MINUS ∷ STAR ∷ CARET ∷ BIT_AND ∷ DIV ∷ DIV_RM ∷ IN ∷ MOD ∷ BIT_OR ∷ BIT_XOR ∷ AS ∷ []) (seq_f f_expression f_more_expressions refl) refl refl)) in
     fit (NAME ∷ INTEGER_LITERAL ∷ BITS_LITERAL ∷ OPEN_PAREN ∷ BANG ∷ MINUS ∷ FALSE ∷ NOT ∷ TRUE ∷ IF ∷ []) (OPEN_PAREN ∷ OPEN_BRACKET ∷ OPEN_BRACE ∷ COMMA ∷ DOT ∷ COLON_COLON ∷ EQUAL ∷ NOT_EQUAL ∷ AND_AND ∷ OR_OR ∷ IMPLIES ∷ IFF ∷ LESS ∷ LESS_EQUAL ∷ SHIFT_LEFT ∷ GREATER ∷ GREATER_EQUAL ∷ SHIFT_RIGHT ∷ PLUS ∷ MINUS ∷ STAR ∷ CARET ∷ BIT_AND ∷ DIV ∷ DIV_RM ∷ IN ∷ MOD ∷ BIT_OR ∷ BIT_XOR ∷ AS ∷ []) raw refl refl
 
 f_maybe_expressions : Facts maybe_expressions true (NAME ∷ INTEGER_LITERAL ∷ BITS_LITERAL ∷ OPEN_PAREN ∷ BANG ∷ MINUS ∷ FALSE ∷ NOT ∷ TRUE ∷ IF ∷ []) (NAME ∷ INTEGER_LITERAL ∷ BITS_LITERAL ∷ OPEN_PAREN ∷ OPEN_BRACKET ∷ OPEN_BRACE ∷ COMMA ∷ DOT ∷ COLON_COLON ∷ EQUAL ∷ BANG ∷ NOT_EQUAL ∷ AND_AND ∷ OR_OR ∷ IMPLIES ∷ IFF ∷ LESS ∷ LESS_EQUAL ∷ SHIFT_LEFT ∷ GREATER ∷ GREATER_EQUAL ∷ SHIFT_RIGHT ∷ PLUS ∷ MINUS ∷ STAR ∷ CARET ∷ BIT_AND ∷ DIV ∷ DIV_RM ∷ FALSE ∷ IN ∷ MOD ∷ NOT ∷ BIT_OR ∷ TRUE ∷ BIT_XOR ∷ AS ∷ IF ∷ [])
@@ -756,7 +756,7 @@ f_maybe_late_range =
 f_minus_pattern : Facts minus_pattern false (MINUS ∷ []) (NAME ∷ INTEGER_LITERAL ∷ BITS_LITERAL ∷ OPEN_PAREN ∷ OPEN_BRACKET ∷ OPEN_BRACE ∷ DOT ∷ DOT_DOT ∷ COLON_COLON ∷ BANG ∷ SHIFT_LEFT ∷ SHIFT_RIGHT ∷ PLUS ∷ MINUS ∷ STAR ∷ CARET ∷ BIT_AND ∷ DIV ∷ DIV_RM ∷ FALSE ∷ IN ∷ MOD ∷ NOT ∷ BIT_OR ∷ TRUE ∷ BIT_XOR ∷ [])
 unfolding minus_pattern
 f_minus_pattern =
-    let raw : Facts {A = Pattern} (by (λ r. minus_pattern_of (whole r.1) r.1.from r.0.1) (spanned (seq (tok (MINUS ∷ [])) maybe_late_range))) false (MINUS ∷ []) (NAME ∷ INTEGER_LITERAL ∷ BITS_LITERAL ∷ OPEN_PAREN ∷ OPEN_BRACKET ∷ OPEN_BRACE ∷ DOT ∷ DOT_DOT ∷ COLON_COLON ∷ BANG ∷ SHIFT_LEFT ∷ SHIFT_RIGHT ∷ PLUS ∷ MINUS ∷ STAR ∷ CARET ∷ BIT_AND ∷ DIV ∷ DIV_RM ∷ FALSE ∷ IN ∷ MOD ∷ NOT ∷ BIT_OR ∷ TRUE ∷ BIT_XOR ∷ []) = (by_f (spanned_f (seq_f tok_f f_maybe_late_range refl))) in
+    let raw : Facts {A = Pattern} (by (λ r. minus_pattern_of r.1.from (whole r.1) r.0.1) (spanned (seq (tok (MINUS ∷ [])) maybe_late_range))) false (MINUS ∷ []) (NAME ∷ INTEGER_LITERAL ∷ BITS_LITERAL ∷ OPEN_PAREN ∷ OPEN_BRACKET ∷ OPEN_BRACE ∷ DOT ∷ DOT_DOT ∷ COLON_COLON ∷ BANG ∷ SHIFT_LEFT ∷ SHIFT_RIGHT ∷ PLUS ∷ MINUS ∷ STAR ∷ CARET ∷ BIT_AND ∷ DIV ∷ DIV_RM ∷ FALSE ∷ IN ∷ MOD ∷ NOT ∷ BIT_OR ∷ TRUE ∷ BIT_XOR ∷ []) = (by_f (spanned_f (seq_f tok_f f_maybe_late_range refl))) in
     fit (MINUS ∷ []) (NAME ∷ INTEGER_LITERAL ∷ BITS_LITERAL ∷ OPEN_PAREN ∷ OPEN_BRACKET ∷ OPEN_BRACE ∷ DOT ∷ DOT_DOT ∷ COLON_COLON ∷ BANG ∷ SHIFT_LEFT ∷ SHIFT_RIGHT ∷ PLUS ∷ MINUS ∷ STAR ∷ CARET ∷ BIT_AND ∷ DIV ∷ DIV_RM ∷ FALSE ∷ IN ∷ MOD ∷ NOT ∷ BIT_OR ∷ TRUE ∷ BIT_XOR ∷ []) raw refl refl
 
 f_after_bang : Facts after_bang false (NAME ∷ INTEGER_LITERAL ∷ BITS_LITERAL ∷ OPEN_PAREN ∷ OPEN_BRACE ∷ BANG ∷ MINUS ∷ FALSE ∷ NOT ∷ TRUE ∷ []) (OPEN_PAREN ∷ OPEN_BRACKET ∷ OPEN_BRACE ∷ DOT ∷ DOT_DOT ∷ COLON_COLON ∷ SHIFT_LEFT ∷ SHIFT_RIGHT ∷ PLUS ∷ MINUS ∷ STAR ∷ CARET ∷ BIT_AND ∷ DIV ∷ DIV_RM ∷ IN ∷ MOD ∷ BIT_OR ∷ BIT_XOR ∷ [])
@@ -768,7 +768,7 @@ f_after_bang =
 f_bang_pattern : Facts bang_pattern false (BANG ∷ []) (OPEN_PAREN ∷ OPEN_BRACKET ∷ OPEN_BRACE ∷ DOT ∷ DOT_DOT ∷ COLON_COLON ∷ SHIFT_LEFT ∷ SHIFT_RIGHT ∷ PLUS ∷ MINUS ∷ STAR ∷ CARET ∷ BIT_AND ∷ DIV ∷ DIV_RM ∷ IN ∷ MOD ∷ BIT_OR ∷ BIT_XOR ∷ [])
 unfolding bang_pattern
 f_bang_pattern =
-    let raw : Facts {A = Pattern} (by (λ r. bang_pattern_of (whole r.1) r.1.from r.0.1) (spanned (seq (tok (BANG ∷ [])) after_bang))) false (BANG ∷ []) (OPEN_PAREN ∷ OPEN_BRACKET ∷ OPEN_BRACE ∷ DOT ∷ DOT_DOT ∷ COLON_COLON ∷ SHIFT_LEFT ∷ SHIFT_RIGHT ∷ PLUS ∷ MINUS ∷ STAR ∷ CARET ∷ BIT_AND ∷ DIV ∷ DIV_RM ∷ IN ∷ MOD ∷ BIT_OR ∷ BIT_XOR ∷ []) = (by_f (spanned_f (seq_f tok_f f_after_bang refl))) in
+    let raw : Facts {A = Pattern} (by (λ r. bang_pattern_of r.1.from (whole r.1) r.0.1) (spanned (seq (tok (BANG ∷ [])) after_bang))) false (BANG ∷ []) (OPEN_PAREN ∷ OPEN_BRACKET ∷ OPEN_BRACE ∷ DOT ∷ DOT_DOT ∷ COLON_COLON ∷ SHIFT_LEFT ∷ SHIFT_RIGHT ∷ PLUS ∷ MINUS ∷ STAR ∷ CARET ∷ BIT_AND ∷ DIV ∷ DIV_RM ∷ IN ∷ MOD ∷ BIT_OR ∷ BIT_XOR ∷ []) = (by_f (spanned_f (seq_f tok_f f_after_bang refl))) in
     fit (BANG ∷ []) (OPEN_PAREN ∷ OPEN_BRACKET ∷ OPEN_BRACE ∷ DOT ∷ DOT_DOT ∷ COLON_COLON ∷ SHIFT_LEFT ∷ SHIFT_RIGHT ∷ PLUS ∷ MINUS ∷ STAR ∷ CARET ∷ BIT_AND ∷ DIV ∷ DIV_RM ∷ IN ∷ MOD ∷ BIT_OR ∷ BIT_XOR ∷ []) raw refl refl
 
 f_bound_pattern : Facts bound_pattern false (LESS_EQUAL ∷ GREATER_EQUAL ∷ []) (OPEN_PAREN ∷ OPEN_BRACKET ∷ OPEN_BRACE ∷ DOT ∷ COLON_COLON ∷ SHIFT_LEFT ∷ SHIFT_RIGHT ∷ PLUS ∷ MINUS ∷ STAR ∷ CARET ∷ BIT_AND ∷ DIV ∷ DIV_RM ∷ IN ∷ MOD ∷ BIT_OR ∷ BIT_XOR ∷ [])
@@ -810,7 +810,7 @@ f_plain_sum =
 f_sum_pattern : Facts sum_pattern false (NAME ∷ INTEGER_LITERAL ∷ BITS_LITERAL ∷ FALSE ∷ NOT ∷ TRUE ∷ []) (OPEN_PAREN ∷ OPEN_BRACKET ∷ OPEN_BRACE ∷ DOT ∷ DOT_DOT ∷ COLON_COLON ∷ SHIFT_LEFT ∷ SHIFT_RIGHT ∷ PLUS ∷ MINUS ∷ STAR ∷ CARET ∷ BIT_AND ∷ DIV ∷ DIV_RM ∷ IN ∷ MOD ∷ BIT_OR ∷ BIT_XOR ∷ [])
 unfolding sum_pattern
 f_sum_pattern =
-    let raw : Facts {A = Pattern} (by (λ r. pattern_of (whole r.1) r.0.0 r.0.1) (spanned (seq plain_sum range_end))) false (NAME ∷ INTEGER_LITERAL ∷ BITS_LITERAL ∷ FALSE ∷ NOT ∷ TRUE ∷ []) (OPEN_PAREN ∷ OPEN_BRACKET ∷ OPEN_BRACE ∷ DOT ∷ DOT_DOT ∷ COLON_COLON ∷ SHIFT_LEFT ∷ SHIFT_RIGHT ∷ PLUS ∷ MINUS ∷ STAR ∷ CARET ∷ BIT_AND ∷ DIV ∷ DIV_RM ∷ IN ∷ MOD ∷ BIT_OR ∷ BIT_XOR ∷ OPEN_PAREN ∷ OPEN_BRACKET ∷ OPEN_BRACE ∷ DOT ∷ COLON_COLON ∷ SHIFT_LEFT ∷ SHIFT_RIGHT ∷ PLUS ∷ MINUS ∷ STAR ∷ CARET ∷ BIT_AND ∷ DIV ∷ DIV_RM ∷ IN ∷ MOD ∷ BIT_OR ∷ BIT_XOR ∷ []) = (by_f (spanned_f (seq_f f_plain_sum f_range_end refl))) in
+    let raw : Facts {A = Pattern} (by (λ r. pattern_of r.0.0 (whole r.1) r.0.1) (spanned (seq plain_sum range_end))) false (NAME ∷ INTEGER_LITERAL ∷ BITS_LITERAL ∷ FALSE ∷ NOT ∷ TRUE ∷ []) (OPEN_PAREN ∷ OPEN_BRACKET ∷ OPEN_BRACE ∷ DOT ∷ DOT_DOT ∷ COLON_COLON ∷ SHIFT_LEFT ∷ SHIFT_RIGHT ∷ PLUS ∷ MINUS ∷ STAR ∷ CARET ∷ BIT_AND ∷ DIV ∷ DIV_RM ∷ IN ∷ MOD ∷ BIT_OR ∷ BIT_XOR ∷ OPEN_PAREN ∷ OPEN_BRACKET ∷ OPEN_BRACE ∷ DOT ∷ COLON_COLON ∷ SHIFT_LEFT ∷ SHIFT_RIGHT ∷ PLUS ∷ MINUS ∷ STAR ∷ CARET ∷ BIT_AND ∷ DIV ∷ DIV_RM ∷ IN ∷ MOD ∷ BIT_OR ∷ BIT_XOR ∷ []) = (by_f (spanned_f (seq_f f_plain_sum f_range_end refl))) in
     fit (NAME ∷ INTEGER_LITERAL ∷ BITS_LITERAL ∷ FALSE ∷ NOT ∷ TRUE ∷ []) (OPEN_PAREN ∷ OPEN_BRACKET ∷ OPEN_BRACE ∷ DOT ∷ DOT_DOT ∷ COLON_COLON ∷ SHIFT_LEFT ∷ SHIFT_RIGHT ∷ PLUS ∷ MINUS ∷ STAR ∷ CARET ∷ BIT_AND ∷ DIV ∷ DIV_RM ∷ IN ∷ MOD ∷ BIT_OR ∷ BIT_XOR ∷ []) raw refl refl
 
 f_pattern : Facts pattern false (NAME ∷ INTEGER_LITERAL ∷ BITS_LITERAL ∷ MASK_LITERAL ∷ OPEN_PAREN ∷ OPEN_BRACE ∷ BANG ∷ LESS_EQUAL ∷ GREATER_EQUAL ∷ MINUS ∷ FALSE ∷ NOT ∷ TRUE ∷ []) (NAME ∷ INTEGER_LITERAL ∷ BITS_LITERAL ∷ OPEN_PAREN ∷ OPEN_BRACKET ∷ OPEN_BRACE ∷ DOT ∷ DOT_DOT ∷ COLON_COLON ∷ BANG ∷ SHIFT_LEFT ∷ SHIFT_RIGHT ∷ PLUS ∷ MINUS ∷ STAR ∷ CARET ∷ BIT_AND ∷ DIV ∷ DIV_RM ∷ FALSE ∷ IN ∷ MOD ∷ NOT ∷ BIT_OR ∷ TRUE ∷ BIT_XOR ∷ [])
@@ -897,16 +897,22 @@ f_bitfields_in =
     let raw : Facts {A = List Bitfield} (by (λ r. r.0) (seq maybe_bitfield_list (tok (CLOSE_BRACE ∷ [])))) false (OPEN_BRACKET ∷ CLOSE_BRACE ∷ []) [] = (by_f (seq_f f_maybe_bitfield_list tok_f refl)) in
     fit (OPEN_BRACKET ∷ CLOSE_BRACE ∷ []) [] raw refl refl
 
-f_type_list : Facts type_list false (NAME ∷ OPEN_PAREN ∷ ARRAY ∷ BIT ∷ BITS ∷ BOOLEAN ∷ INTEGER ∷ []) (OPEN_BRACE ∷ COMMA ∷ [])
-unfolding type_list
-f_type_list =
-    let raw : Facts {A = List TypeExpr} (by (λ r. r.0 ∷ seconds r.1) (seq type_expression (many (seq (tok (COMMA ∷ [])) type_expression)))) false (NAME ∷ OPEN_PAREN ∷ ARRAY ∷ BIT ∷ BITS ∷ BOOLEAN ∷ INTEGER ∷ []) (COMMA ∷ OPEN_BRACE ∷ OPEN_BRACE ∷ []) = (by_f (seq_f f_type_expression (many_f (seq_f tok_f f_type_expression refl) refl) refl)) in
+f_more_types : Facts more_types true (COMMA ∷ []) (OPEN_BRACE ∷ COMMA ∷ [])
+unfolding more_types
+f_more_types =
+    let raw : Facts {A = List TypeExpr} (by seconds (many (seq (tok (COMMA ∷ [])) type_expression))) true (COMMA ∷ []) (COMMA ∷ OPEN_BRACE ∷ []) = (by_f (many_f (seq_f tok_f f_type_expression refl) refl)) in
+    fit (COMMA ∷ []) (OPEN_BRACE ∷ COMMA ∷ []) raw refl refl
+
+f_two_types : Facts two_types false (NAME ∷ OPEN_PAREN ∷ ARRAY ∷ BIT ∷ BITS ∷ BOOLEAN ∷ INTEGER ∷ []) (OPEN_BRACE ∷ COMMA ∷ [])
+unfolding two_types
+f_two_types =
+    let raw : Facts {A = List TypeExpr} (by (λ r. behind (r.0 ∷ r.1.1.0 ∷ []) r.1.1.1) (seq type_expression (seq (tok (COMMA ∷ [])) (seq type_expression more_types)))) false (NAME ∷ OPEN_PAREN ∷ ARRAY ∷ BIT ∷ BITS ∷ BOOLEAN ∷ INTEGER ∷ []) (OPEN_BRACE ∷ COMMA ∷ OPEN_BRACE ∷ []) = (by_f (seq_f f_type_expression (seq_f tok_f (seq_f f_type_expression f_more_types refl) refl) refl)) in
     fit (NAME ∷ OPEN_PAREN ∷ ARRAY ∷ BIT ∷ BITS ∷ BOOLEAN ∷ INTEGER ∷ []) (OPEN_BRACE ∷ COMMA ∷ []) raw refl refl
 
 f_type_parts : Facts type_parts false (NAME ∷ OPEN_PAREN ∷ ARRAY ∷ BIT ∷ BITS ∷ BOOLEAN ∷ INTEGER ∷ []) []
 unfolding type_parts
 f_type_parts =
-    let raw : Facts {A = List TypeExpr} (by (λ r. r.0 ∷ r.1.1.0) (seq type_expression (seq (tok (COMMA ∷ [])) (seq type_list (tok (CLOSE_PAREN ∷ [])))))) false (NAME ∷ OPEN_PAREN ∷ ARRAY ∷ BIT ∷ BITS ∷ BOOLEAN ∷ INTEGER ∷ []) [] = (by_f (seq_f f_type_expression (seq_f tok_f (seq_f f_type_list tok_f refl) refl) refl)) in
+    let raw : Facts {A = List TypeExpr} (by (λ r. r.0) (seq two_types (tok (CLOSE_PAREN ∷ [])))) false (NAME ∷ OPEN_PAREN ∷ ARRAY ∷ BIT ∷ BITS ∷ BOOLEAN ∷ INTEGER ∷ []) [] = (by_f (seq_f f_two_types tok_f refl)) in
     fit (NAME ∷ OPEN_PAREN ∷ ARRAY ∷ BIT ∷ BITS ∷ BOOLEAN ∷ INTEGER ∷ []) [] raw refl refl
 
 f_array_length : Facts array_length false (OPEN_BRACKET ∷ []) []
@@ -963,16 +969,22 @@ f_binder =
     let raw : Facts {A = Binder} (either (by bd.Bound name) no_binder) false (NAME ∷ MINUS ∷ []) [] = (either_f (by_f f_name) f_no_binder refl) in
     fit (NAME ∷ MINUS ∷ []) [] raw refl refl
 
-f_binders : Facts binders false (NAME ∷ MINUS ∷ []) (COMMA ∷ [])
-unfolding binders
-f_binders =
-    let raw : Facts {A = List Binder} (by (λ r. r.0 ∷ seconds r.1) (seq binder (many (seq (tok (COMMA ∷ [])) binder)))) false (NAME ∷ MINUS ∷ []) (COMMA ∷ []) = (by_f (seq_f f_binder (many_f (seq_f tok_f f_binder refl) refl) refl)) in
+f_more_binders : Facts more_binders true (COMMA ∷ []) (COMMA ∷ [])
+unfolding more_binders
+f_more_binders =
+    let raw : Facts {A = List Binder} (by seconds (many (seq (tok (COMMA ∷ [])) binder))) true (COMMA ∷ []) (COMMA ∷ []) = (by_f (many_f (seq_f tok_f f_binder refl) refl)) in
+    fit (COMMA ∷ []) (COMMA ∷ []) raw refl refl
+
+f_two_binders : Facts two_binders false (NAME ∷ MINUS ∷ []) (COMMA ∷ [])
+unfolding two_binders
+f_two_binders =
+    let raw : Facts {A = List Binder} (by (λ r. behind (r.0 ∷ r.1.1.0 ∷ []) r.1.1.1) (seq binder (seq (tok (COMMA ∷ [])) (seq binder more_binders)))) false (NAME ∷ MINUS ∷ []) (COMMA ∷ []) = (by_f (seq_f f_binder (seq_f tok_f (seq_f f_binder f_more_binders refl) refl) refl)) in
     fit (NAME ∷ MINUS ∷ []) (COMMA ∷ []) raw refl refl
 
 f_several : Facts several false (OPEN_PAREN ∷ []) []
 unfolding several
 f_several =
-    let raw : Facts {A = Bind} (by (λ r. bi.Several (whole r.1) r.0) (spanned (scope (by (λ r. r.1.0 ∷ r.1.1.1.0) (seq (opens (OPEN_PAREN ∷ [])) (seq binder (seq (tok (COMMA ∷ [])) (seq binders (tok (CLOSE_PAREN ∷ [])))))))))) false (OPEN_PAREN ∷ []) [] = (by_f (spanned_f (scope_f (by_f (seq_f opens_f (seq_f f_binder (seq_f tok_f (seq_f f_binders tok_f refl) refl) refl) refl))))) in
+    let raw : Facts {A = Bind} (by (λ r. bi.Several (whole r.1) r.0) (spanned (scope (by (λ r. r.1.0) (seq (opens (OPEN_PAREN ∷ [])) (seq two_binders (tok (CLOSE_PAREN ∷ [])))))))) false (OPEN_PAREN ∷ []) [] = (by_f (spanned_f (scope_f (by_f (seq_f opens_f (seq_f f_two_binders tok_f refl) refl))))) in
     fit (OPEN_PAREN ∷ []) [] raw refl refl
 
 f_other_bind : Facts other_bind false (OPEN_PAREN ∷ MINUS ∷ []) []
@@ -999,16 +1011,10 @@ f_let_statement =
     let raw : Facts {A = Stmt} (by (λ r. stm.Local (whole r.1) lk.Let r.0.1.0 r.0.1.1.0 r.0.1.1.1) (spanned (seq (tok (LET ∷ [])) (seq local_bind (seq typed value))))) false (LET ∷ []) [] = (by_f (spanned_f (seq_f tok_f (seq_f f_local_bind (seq_f f_typed f_value refl) refl) refl))) in
     fit (LET ∷ []) [] raw refl refl
 
-f_more_names : Facts more_names true (COMMA ∷ []) (COMMA ∷ [])
-unfolding more_names
-f_more_names =
-    let raw : Facts {A = List Ident} (by seconds (many (seq (tok (COMMA ∷ [])) name))) true (COMMA ∷ []) (COMMA ∷ []) = (by_f (many_f (seq_f tok_f f_name refl) refl)) in
-    fit (COMMA ∷ []) (COMMA ∷ []) raw refl refl
-
 f_names_typed : Facts names_typed false (COMMA ∷ []) []
 unfolding names_typed
 f_names_typed =
-    let raw : Facts {A = VarRest} (by (λ r. MoreNames (r.1.0 ∷ r.1.1.0) r.1.1.1.1.0) (seq (tok (COMMA ∷ [])) (seq name (seq more_names (seq (tok (COLON ∷ [])) (seq type_expression (tok (SEMICOLON ∷ [])))))))) false (COMMA ∷ []) [] = (by_f (seq_f tok_f (seq_f f_name (seq_f f_more_names (seq_f tok_f (seq_f f_type_expression tok_f refl) refl) refl) refl) refl)) in
+    let raw : Facts {A = VarRest} (by (λ r. MoreNames r.1.0 r.1.1.1.0) (seq (tok (COMMA ∷ [])) (seq names (seq (tok (COLON ∷ [])) (seq type_expression (tok (SEMICOLON ∷ []))))))) false (COMMA ∷ []) [] = (by_f (seq_f tok_f (seq_f f_names (seq_f tok_f (seq_f f_type_expression tok_f refl) refl) refl) refl)) in
     fit (COMMA ∷ []) [] raw refl refl
 
 f_no_value : Facts no_value false (SEMICOLON ∷ []) []
@@ -1104,7 +1110,7 @@ f_name_statement_rest =
 f_name_statement : Facts name_statement false (NAME ∷ []) []
 unfolding name_statement
 f_name_statement =
-    let raw : Facts {A = Stmt} (by (λ r. name_statement_of (whole r.1) r.0.0 r.0.1) (spanned (seq name name_statement_rest))) false (NAME ∷ []) [] = (by_f (spanned_f (seq_f f_name f_name_statement_rest refl))) in
+    let raw : Facts {A = Stmt} (by (λ r. name_statement_of r.0.0 (whole r.1) r.0.1) (spanned (seq name name_statement_rest))) false (NAME ∷ []) [] = (by_f (spanned_f (seq_f f_name f_name_statement_rest refl))) in
     fit (NAME ∷ []) [] raw refl refl
 
 f_no_target : Facts no_target false (MINUS ∷ []) []
@@ -1257,16 +1263,22 @@ f_target =
     let raw : Facts {A = Target} (either no_target (either place targets)) false (MINUS ∷ NAME ∷ OPEN_PAREN ∷ []) (OPEN_BRACKET ∷ DOT ∷ []) = (either_f f_no_target (either_f f_place f_targets refl) refl) in
     fit (NAME ∷ OPEN_PAREN ∷ MINUS ∷ []) (OPEN_BRACKET ∷ DOT ∷ []) raw refl refl
 
-f_target_list : Facts target_list false (NAME ∷ OPEN_PAREN ∷ MINUS ∷ []) (OPEN_BRACKET ∷ COMMA ∷ DOT ∷ [])
-unfolding target_list
-f_target_list =
-    let raw : Facts {A = List Target} (by (λ r. r.0 ∷ seconds r.1) (seq target (many (seq (tok (COMMA ∷ [])) target)))) false (NAME ∷ OPEN_PAREN ∷ MINUS ∷ []) (COMMA ∷ OPEN_BRACKET ∷ DOT ∷ OPEN_BRACKET ∷ DOT ∷ []) = (by_f (seq_f f_target (many_f (seq_f tok_f f_target refl) refl) refl)) in
+f_more_targets : Facts more_targets true (COMMA ∷ []) (OPEN_BRACKET ∷ COMMA ∷ DOT ∷ [])
+unfolding more_targets
+f_more_targets =
+    let raw : Facts {A = List Target} (by seconds (many (seq (tok (COMMA ∷ [])) target))) true (COMMA ∷ []) (COMMA ∷ OPEN_BRACKET ∷ DOT ∷ []) = (by_f (many_f (seq_f tok_f f_target refl) refl)) in
+    fit (COMMA ∷ []) (OPEN_BRACKET ∷ COMMA ∷ DOT ∷ []) raw refl refl
+
+f_two_targets : Facts two_targets false (NAME ∷ OPEN_PAREN ∷ MINUS ∷ []) (OPEN_BRACKET ∷ COMMA ∷ DOT ∷ [])
+unfolding two_targets
+f_two_targets =
+    let raw : Facts {A = List Target} (by (λ r. behind (r.0 ∷ r.1.1.0 ∷ []) r.1.1.1) (seq target (seq (tok (COMMA ∷ [])) (seq target more_targets)))) false (NAME ∷ OPEN_PAREN ∷ MINUS ∷ []) (OPEN_BRACKET ∷ COMMA ∷ DOT ∷ OPEN_BRACKET ∷ DOT ∷ []) = (by_f (seq_f f_target (seq_f tok_f (seq_f f_target f_more_targets refl) refl) refl)) in
     fit (NAME ∷ OPEN_PAREN ∷ MINUS ∷ []) (OPEN_BRACKET ∷ COMMA ∷ DOT ∷ []) raw refl refl
 
 f_target_parts : Facts target_parts false (NAME ∷ OPEN_PAREN ∷ MINUS ∷ []) []
 unfolding target_parts
 f_target_parts =
-    let raw : Facts {A = List Target} (by (λ r. r.0 ∷ r.1.1.0) (seq target (seq (tok (COMMA ∷ [])) (seq target_list (tok (CLOSE_PAREN ∷ [])))))) false (NAME ∷ OPEN_PAREN ∷ MINUS ∷ []) [] = (by_f (seq_f f_target (seq_f tok_f (seq_f f_target_list tok_f refl) refl) refl)) in
+    let raw : Facts {A = List Target} (by (λ r. r.0) (seq two_targets (tok (CLOSE_PAREN ∷ [])))) false (NAME ∷ OPEN_PAREN ∷ MINUS ∷ []) [] = (by_f (seq_f f_two_targets tok_f refl)) in
     fit (NAME ∷ OPEN_PAREN ∷ MINUS ∷ []) [] raw refl refl
 
 f_else_if : Facts else_if false (ELS_IF ∷ []) (NAME ∷ OPEN_PAREN ∷ MINUS ∷ ASSERT ∷ CASE ∷ FOR ∷ IF ∷ LET ∷ PASS ∷ PRINT ∷ PRINT_LINE ∷ REPEAT ∷ RETURN ∷ THROW ∷ TRY ∷ UNREACHABLE ∷ VAR ∷ WHILE ∷ [])

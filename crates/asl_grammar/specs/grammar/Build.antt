@@ -64,6 +64,10 @@ abbrev pub or_nil : {A : Type 0} → Option (List A) → List A
 or_nil None = []
 or_nil (Some xs) = xs
 
+-- more items behind those found so far
+unfoldable pub behind : {A : Type 0} → List A → List A → List A
+behind found xs = found ++ xs
+
 -- ---- tokens
 
 abbrev pub int_of : TokenKind → ℕ
@@ -127,6 +131,11 @@ compared from left (Some x) = linked from left x
 abbrev pub as_chained : Span → Expr → AsLinks → Expr
 as_chained from left [] = left
 as_chained from left (x ∷ xs) = as_chained from (ex.As (span_to from x.1.to) left x.0) xs
+
+-- one of four chains, or none
+abbrev pub logically : Span → Expr → Option Links → Expr
+logically from left None = left
+logically from left (Some xs) = chained from left xs
 
 abbrev pub one_link : Option Link → Links
 one_link None = []
@@ -208,13 +217,22 @@ late_of from operator r = finished from (prefixed_at from operator r.0) r.1
 abbrev pub after_name_of : Ident → NameTail → Expr
 after_name_of i r = finished i.span (posted i.span (named_of i r.0) r.1.0) r.1.1
 
+abbrev pub parameters_from_minus : Span → LateTail × List Expr → List Expr
+parameters_from_minus minus r = late_of minus un.Negate r.0 ∷ r.1
+
+abbrev pub parameters_from_name : Ident → NameTail × List Expr → List Expr
+parameters_from_name i r = after_name_of i r.0 ∷ r.1
+
+abbrev pub fields_from_name : Ident → Expr × List FieldValue → List FieldValue
+fields_from_name i r = fv.Given i r.0 ∷ r.1
+
 abbrev pub minus_in_braces_of : Span → Option (LateTail × List Expr) → Braces
 minus_in_braces_of minus None = br.Fields []
-minus_in_braces_of minus (Some r) = br.Parameters (late_of minus un.Negate r.0 ∷ r.1)
+minus_in_braces_of minus (Some r) = br.Parameters (parameters_from_minus minus r)
 
 abbrev pub name_in_braces_of : Ident → (Expr × List FieldValue) ⊎ (NameTail × List Expr) → Braces
-name_in_braces_of i (inl r) = br.Fields (fv.Given i r.0 ∷ r.1)
-name_in_braces_of i (inr r) = br.Parameters (after_name_of i r.0 ∷ r.1)
+name_in_braces_of i (inl r) = br.Fields (fields_from_name i r)
+name_in_braces_of i (inr r) = br.Parameters (parameters_from_name i r)
 
 -- ---- slices, constraints, bitfields
 
@@ -235,9 +253,9 @@ bitfield_of e (Some f) i = bf.BitRange e f i
 
 -- ---- patterns
 
-abbrev pub pattern_of : Span → Expr → Option Expr → Pattern
-pattern_of span e None = pa.ValuePattern span e
-pattern_of span e (Some f) = pa.RangePattern span e f
+abbrev pub pattern_of : Expr → Span → Option Expr → Pattern
+pattern_of e span None = pa.ValuePattern span e
+pattern_of e span (Some f) = pa.RangePattern span e f
 
 abbrev pub SumTail : Type 0
 SumTail = (Expr × Extent) × Links
@@ -248,13 +266,16 @@ LateRange = SumTail × Option Expr
 abbrev pub late_sum_of : Span → UnaryOperator → SumTail → Expr
 late_sum_of from operator r = chained from (prefixed_at from operator r.0) r.1
 
+abbrev pub late_range_of : Span → UnaryOperator → Span → LateRange → Pattern
+late_range_of from operator span r = pattern_of (late_sum_of from operator r.0) span r.1
+
 abbrev pub minus_pattern_of : Span → Span → Option LateRange → Pattern
-minus_pattern_of span minus None = pa.AnyPattern span
-minus_pattern_of span minus (Some r) = pattern_of span (late_sum_of minus un.Negate r.0) r.1
+minus_pattern_of minus span None = pa.AnyPattern span
+minus_pattern_of minus span (Some r) = late_range_of minus un.Negate span r
 
 abbrev pub bang_pattern_of : Span → Span → List Pattern ⊎ LateRange → Pattern
-bang_pattern_of span bang (inl ps) = pa.SetPattern span true ps
-bang_pattern_of span bang (inr r) = pattern_of span (late_sum_of bang un.Not r.0) r.1
+bang_pattern_of bang span (inl ps) = pa.SetPattern span true ps
+bang_pattern_of bang span (inr r) = late_range_of bang un.Not span r
 
 abbrev pub bound_of : Span → ℕ → Expr → Pattern
 bound_of span c e = pick (nat_eq c LESS_EQUAL) (pa.AtMost span e) (pa.AtLeast span e)
@@ -291,9 +312,9 @@ abbrev pub var_of : Span → VarTail → Stmt
 var_of span (vt.Declared is ty) = stm.LocalVars span is ty
 var_of span (vt.Initialised b ty e) = stm.Local span lk.Var b ty e
 
-abbrev pub name_statement_of : Span → Ident → (List Expr × List Expr) ⊎ (List PlacedSuffix × Expr) → Stmt
-name_statement_of span i (inl r) = stm.Invoke span i r.0 r.1
-name_statement_of span i (inr r) = stm.Assign span (place_of i r.0) r.1
+abbrev pub name_statement_of : Ident → Span → (List Expr × List Expr) ⊎ (List PlacedSuffix × Expr) → Stmt
+name_statement_of i span (inl r) = stm.Invoke span i r.0 r.1
+name_statement_of i span (inr r) = stm.Assign span (place_of i r.0) r.1
 
 abbrev pub or_no_otherwise : Option Otherwise → Otherwise
 or_no_otherwise None = ot.NoOtherwise

@@ -54,7 +54,7 @@ use Rattle.asl_grammar.specs.declared.parts.VarTail.TheVariants as vt
 use Rattle.asl_grammar.specs.grammar.Kinds.{code, NAME, INTEGER_LITERAL, BITS_LITERAL, MASK_LITERAL, STRING_LITERAL, OPEN_PAREN, CLOSE_PAREN, OPEN_BRACKET, CLOSE_BRACKET, OPEN_BRACE, CLOSE_BRACE, SEMICOLON, COMMA, DOT, DOT_DOT, COLON, COLON_COLON, ASSIGN, EQUAL, FAT_ARROW, BANG, NOT_EQUAL, AND_AND, OR_OR, IMPLIES, IFF, LESS, LESS_EQUAL, SHIFT_LEFT, GREATER, GREATER_EQUAL, SHIFT_RIGHT, PLUS, PLUS_COLON, MINUS, STAR, STAR_COLON, CARET, BIT_AND, DIV, DIV_RM, FALSE, IN, MOD, NOT, BIT_OR, TRUE, BIT_XOR, ARRAY, AS, ASSERT, BEGIN, BIT, BITS, BOOLEAN, CASE, CATCH, CONSTANT, DO, DOWN_TO, ELSE, ELS_IF, END, ENUMERATION, EXCEPTION, FOR, FUNC, IF, INTEGER, LET, LOOP_LIMIT, OF, OTHERWISE, PASS, PRINT, PRINT_LINE, PURE, READ_ONLY, RECORD, RECURSE_LIMIT, REPEAT, RETURN, SUBTYPES, THEN, THROW, TO, TRY, TYPE, UNREACHABLE, UNTIL, VAR, WHEN, WHERE, WHILE}
 use Rattle.asl_grammar.specs.grammar.Cursor.{Lexeme, Extent, Codes, whole}
 use Rattle.asl_grammar.specs.grammar.Combinators.{G, tok, opens, into, seq, either, opt, many, by, spanned, scope, closed, trail, costs, follows}
-use Rattle.asl_grammar.specs.grammar.Build.{seconds, or_nil, int_of, ident, unary_of, direction_of, print_kind_of, storage_kind_of, qualifier_of, or_unqualified, Link, Links, AsLinks, chained, compared, as_chained, joined, finished, Posts, posted, parens_of, named_of, parameters_or, empty_or, braced, LateTail, NameTail, minus_in_braces_of, name_in_braces_of, slice_of, constraint_part_of, bitfield_of, pattern_of, SumTail, LateRange, minus_pattern_of, bang_pattern_of, bound_of, pattern_parens_of, place_of, var_tail_of, var_of, name_statement_of, or_no_otherwise, no_catchers, catch_of, untyped, VarRest, MoreNames, Typed, Untyped}
+use Rattle.asl_grammar.specs.grammar.Build.{seconds, or_nil, behind, int_of, ident, unary_of, direction_of, print_kind_of, storage_kind_of, qualifier_of, or_unqualified, Link, Links, AsLinks, chained, compared, as_chained, logically, joined, finished, Posts, posted, parens_of, named_of, parameters_or, empty_or, braced, LateTail, NameTail, minus_in_braces_of, name_in_braces_of, slice_of, constraint_part_of, bitfield_of, pattern_of, SumTail, LateRange, minus_pattern_of, bang_pattern_of, bound_of, pattern_parens_of, place_of, var_tail_of, var_of, name_statement_of, or_no_otherwise, no_catchers, catch_of, untyped, VarRest, MoreNames, Typed, Untyped}
 
 -- what stands behind a token that opens a level
 pub data Sym : Type 0 where
@@ -321,7 +321,7 @@ logic_rest = opt logic_links
 
 -- logic = eq (("&&" eq)* | ("||" eq)* | ("-->" eq)* | ("<->" eq)*)
 unfoldable pub logic : Rule (Expr)
-logic = by (λ r. chained r.0.1.from r.0.0 (or_nil r.1)) (seq (spanned equality) logic_rest)
+logic = by (λ r. logically r.0.1.from r.0.0 r.1) (seq (spanned equality) logic_rest)
 
 -- ---- Types
 
@@ -416,7 +416,7 @@ more_expressions = by seconds (many (seq (tok (COMMA ∷ [])) expression))
 
 -- expr,..
 unfoldable pub expressions : Rule (List Expr)
-expressions = by (λ r. r.0 ∷ r.1) (seq expression more_expressions)
+expressions = by (λ r. behind (r.0 ∷ []) r.1) (seq expression more_expressions)
 
 -- (expr,..)?
 unfoldable pub maybe_expressions : Rule (List Expr)
@@ -556,14 +556,14 @@ maybe_late_range = opt late_range
 
 -- "-", and a sum that begins with `-`
 unfoldable pub minus_pattern : Rule (Pattern)
-minus_pattern = by (λ r. minus_pattern_of (whole r.1) r.1.from r.0.1) (spanned (seq (tok (MINUS ∷ [])) maybe_late_range))
+minus_pattern = by (λ r. minus_pattern_of r.1.from (whole r.1) r.0.1) (spanned (seq (tok (MINUS ∷ [])) maybe_late_range))
 
 unfoldable pub after_bang : Rule (List Pattern ⊎ LateRange)
 after_bang = either (by inl set_braces) (by inr late_range)
 
 -- a set with `!`, and a sum that begins with `!`
 unfoldable pub bang_pattern : Rule (Pattern)
-bang_pattern = by (λ r. bang_pattern_of (whole r.1) r.1.from r.0.1) (spanned (seq (tok (BANG ∷ [])) after_bang))
+bang_pattern = by (λ r. bang_pattern_of r.1.from (whole r.1) r.0.1) (spanned (seq (tok (BANG ∷ [])) after_bang))
 
 -- ("<=" | ">=") sum
 unfoldable pub bound_pattern : Rule (Pattern)
@@ -585,7 +585,7 @@ plain_sum = scope plain_chain
 
 -- sum (".." sum)?, where the sum begins with none of `-`, `!`, `(`
 unfoldable pub sum_pattern : Rule (Pattern)
-sum_pattern = by (λ r. pattern_of (whole r.1) r.0.0 r.0.1) (spanned (seq plain_sum range_end))
+sum_pattern = by (λ r. pattern_of r.0.0 (whole r.1) r.0.1) (spanned (seq plain_sum range_end))
 
 -- pattern = "-" | set | MASK | ("<=" | ">=") sum | "(" pattern,.. ")" | sum (".." sum)?
 unfoldable pub pattern : Rule (Pattern)
@@ -641,13 +641,16 @@ maybe_bitfield_list = by or_nil (opt bitfield_list)
 unfoldable pub bitfields_in : Rule (List Bitfield)
 bitfields_in = by (λ r. r.0) (seq maybe_bitfield_list (tok (CLOSE_BRACE ∷ [])))
 
--- type,..
-unfoldable pub type_list : Rule (List TypeExpr)
-type_list = by (λ r. r.0 ∷ seconds r.1) (seq type_expression (many (seq (tok (COMMA ∷ [])) type_expression)))
+-- ("," type)*
+unfoldable pub more_types : Rule (List TypeExpr)
+more_types = by seconds (many (seq (tok (COMMA ∷ [])) type_expression))
 
--- type "," type,.. ")"
+-- type "," type,..
+unfoldable pub two_types : Rule (List TypeExpr)
+two_types = by (λ r. behind (r.0 ∷ r.1.1.0 ∷ []) r.1.1.1) (seq type_expression (seq (tok (COMMA ∷ [])) (seq type_expression more_types)))
+
 unfoldable pub type_parts : Rule (List TypeExpr)
-type_parts = by (λ r. r.0 ∷ r.1.1.0) (seq type_expression (seq (tok (COMMA ∷ [])) (seq type_list (tok (CLOSE_PAREN ∷ [])))))
+type_parts = by (λ r. r.0) (seq two_types (tok (CLOSE_PAREN ∷ [])))
 
 -- "[" "[" expr "]" "]"
 unfoldable pub array_length : Rule (Expr)
@@ -685,13 +688,17 @@ no_binder = by (λ r. bd.Unbound r.span) (tok (MINUS ∷ []))
 unfoldable pub binder : Rule (Binder)
 binder = either (by bd.Bound name) no_binder
 
--- one,..
-unfoldable pub binders : Rule (List Binder)
-binders = by (λ r. r.0 ∷ seconds r.1) (seq binder (many (seq (tok (COMMA ∷ [])) binder)))
+-- ("," one)*
+unfoldable pub more_binders : Rule (List Binder)
+more_binders = by seconds (many (seq (tok (COMMA ∷ [])) binder))
+
+-- one "," one,..
+unfoldable pub two_binders : Rule (List Binder)
+two_binders = by (λ r. behind (r.0 ∷ r.1.1.0 ∷ []) r.1.1.1) (seq binder (seq (tok (COMMA ∷ [])) (seq binder more_binders)))
 
 -- "(" one "," one,.. ")"
 unfoldable pub several : Rule (Bind)
-several = by (λ r. bi.Several (whole r.1) r.0) (spanned (scope (by (λ r. r.1.0 ∷ r.1.1.1.0) (seq (opens (OPEN_PAREN ∷ [])) (seq binder (seq (tok (COMMA ∷ [])) (seq binders (tok (CLOSE_PAREN ∷ [])))))))))
+several = by (λ r. bi.Several (whole r.1) r.0) (spanned (scope (by (λ r. r.1.0) (seq (opens (OPEN_PAREN ∷ [])) (seq two_binders (tok (CLOSE_PAREN ∷ [])))))))
 
 -- a bind that is no NAME
 unfoldable pub other_bind : Rule (Bind)
@@ -709,13 +716,9 @@ value = by (λ r. r.1.0) (seq (tok (ASSIGN ∷ [])) (seq expression (tok (SEMICO
 unfoldable pub let_statement : Rule (Stmt)
 let_statement = by (λ r. stm.Local (whole r.1) lk.Let r.0.1.0 r.0.1.1.0 r.0.1.1.1) (spanned (seq (tok (LET ∷ [])) (seq local_bind (seq typed value))))
 
--- ("," NAME)*
-unfoldable pub more_names : Rule (List Ident)
-more_names = by seconds (many (seq (tok (COMMA ∷ [])) name))
-
 -- "," NAME,.. ":" type ";"
 unfoldable pub names_typed : Rule (VarRest)
-names_typed = by (λ r. MoreNames (r.1.0 ∷ r.1.1.0) r.1.1.1.1.0) (seq (tok (COMMA ∷ [])) (seq name (seq more_names (seq (tok (COLON ∷ [])) (seq type_expression (tok (SEMICOLON ∷ [])))))))
+names_typed = by (λ r. MoreNames r.1.0 r.1.1.1.0) (seq (tok (COMMA ∷ [])) (seq names (seq (tok (COLON ∷ [])) (seq type_expression (tok (SEMICOLON ∷ []))))))
 
 -- ";"
 unfoldable pub no_value : Rule (Option Expr)
@@ -775,7 +778,7 @@ name_statement_rest = either (by inl invoked) (by inr assigned)
 
 -- NAME args ";" | lhs "=" expr ";" where lhs begins with a name
 unfoldable pub name_statement : Rule (Stmt)
-name_statement = by (λ r. name_statement_of (whole r.1) r.0.0 r.0.1) (spanned (seq name name_statement_rest))
+name_statement = by (λ r. name_statement_of r.0.0 (whole r.1) r.0.1) (spanned (seq name name_statement_rest))
 
 -- "-"
 unfoldable pub no_target : Rule (Target)
@@ -877,13 +880,16 @@ place = by (λ r. place_of r.0 r.1) (seq name target_suffixes)
 unfoldable pub target : Rule (Target)
 target = either no_target (either place targets)
 
--- lhs,..
-unfoldable pub target_list : Rule (List Target)
-target_list = by (λ r. r.0 ∷ seconds r.1) (seq target (many (seq (tok (COMMA ∷ [])) target)))
+-- ("," lhs)*
+unfoldable pub more_targets : Rule (List Target)
+more_targets = by seconds (many (seq (tok (COMMA ∷ [])) target))
 
--- lhs "," lhs,.. ")"
+-- lhs "," lhs,..
+unfoldable pub two_targets : Rule (List Target)
+two_targets = by (λ r. behind (r.0 ∷ r.1.1.0 ∷ []) r.1.1.1) (seq target (seq (tok (COMMA ∷ [])) (seq target more_targets)))
+
 unfoldable pub target_parts : Rule (List Target)
-target_parts = by (λ r. r.0 ∷ r.1.1.0) (seq target (seq (tok (COMMA ∷ [])) (seq target_list (tok (CLOSE_PAREN ∷ [])))))
+target_parts = by (λ r. r.0) (seq two_targets (tok (CLOSE_PAREN ∷ [])))
 
 -- "elsif" expr "then" stmt*
 unfoldable pub else_if : Rule (ElseIf)
