@@ -34,7 +34,7 @@ pub var_names_steps : (d : ℕ) (st : Cursor) → reading d var_names st
     (bind (run_tok (COLON ∷ []) m m.toks) (λ t m1. bind (reading d type_expression m1) (λ x m2. bind (reading d maybe_value m2) (λ x1 m3. Ok (var_tail_of i (Typed x x1), m3)))))
     (bind (reading d value m) (λ x end. Ok (vt.Initialised (bi.Single (bd.Bound i)) None x, end)))))
 unfolding then
-var_names_steps d st = var_names_is d st ∙ bind_same (reading d name st) _ _ (λ i m. var_rest_is d (var_tail_of i) m ∙ picked _ _ _ _ _ _ _ (names_typed_as d i m) (typed_value_as d i m))
+var_names_steps d st = var_names_is d st ∙ bind_same (reading d name st) _ _ (λ i m. var_rest_is d (var_tail_of i) m ∙ picked (starts (COMMA ∷ []) m.toks) (starts (COLON ∷ []) m.toks) _ _ (bind (reading d value m) (λ x end. Ok (vt.Initialised (bi.Single (bd.Bound i)) None x, end))) _ _ (names_typed_as d i m) (typed_value_as d i m))
 
 pub name_statement_steps : (d : ℕ) (st : Cursor) → reading d name_statement st
     ≡ bind (reading d name st) (λ i m. pick (starts (OPEN_BRACE ∷ OPEN_PAREN ∷ []) m.toks)
