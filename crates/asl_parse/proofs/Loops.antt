@@ -252,4 +252,3 @@ costs_pick false x o ts f h = refl
 
 pub costs_is : {A : Type 0} (d : ℕ) (late : Bool) (p : Rule A) (st : Cursor) → reading d (costs late p) st ≡ bind (charge (first p) late st) (λ u mid. reading d p mid)
 costs_is d late p st = costs_pick (starts (first p) st.toks) _ _ st.toks _ (costs_at late (reading d p) st st.left)
-

@@ -11,7 +11,6 @@ more_targets-loop-turn-preserved t c =
     let e = one_more (λ n. run_more (reading c.args.depth target) n c.loop-turn.found (cursor_of c.loop-turn.tokens)) _ c.loop-turn._turn c.loop-turn-test.true c.loop-turn.invariant in
     first_of (search rules, grind (arith, common_steps))
 
-
 pub more_targets-loop-turn-init : goal.more_targets-loop-turn-init
 more_targets-loop-turn-init t c =
     let e = more_targets_is c.args.depth c.args.found (cursor_of c.args.tokens.now) in
