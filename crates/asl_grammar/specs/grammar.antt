@@ -7,3 +7,4 @@ pub mod Syntax
 pub mod Build
 pub mod Rules
 pub mod Language
+pub mod Faults

@@ -3,6 +3,7 @@
 
 mod braces;
 mod expressions;
+mod grammar;
 mod literals;
 mod names;
 mod operators;

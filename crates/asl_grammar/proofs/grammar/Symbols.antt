@@ -130,7 +130,7 @@ same_front [] (t ∷ b) x y l h = let q : length x ≡ suc (length (b ++ y)) = a
 same_front (t ∷ a) [] x y l h = let q : suc (length (a ++ x)) ≡ length y = ap length h in let r : length (a ++ x) ≡ length a + length x = length-append a x in absurd (omega arith)
 same_front (t ∷ a) (u ∷ b) x y l h = let e : a ++ x ≡ b ++ y = cc in let k = same_front a b x y l e in let q : t ≡ u = cc in cc
 
-same_split : (ts a b x y : List Lexeme) → ts ≡ a ++ x → ts ≡ b ++ y → length x ≡ length y → a ≡ b
+pub same_split : (ts a b x y : List Lexeme) → ts ≡ a ++ x → ts ≡ b ++ y → length x ≡ length y → a ≡ b
 same_split ts a b x y e f l = same_front a b x y l (sym e ∙ f)
 
 module _ (Sym : Type 0) (Val : Sym → Type 0) (rule : (s : Sym) → G Sym Val (Val s)) (after : Sym → Codes)

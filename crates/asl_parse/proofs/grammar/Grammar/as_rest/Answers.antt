@@ -1,0 +1,11 @@
+use Rattle.std.proofs.Common.{rules, arith}
+use Rattle.std.proofs.lemmas.Grind.{common_steps}
+use Rattle.asl_grammar.specs.grammar.Rules.{as_type}
+use Rattle.asl_parse.specs.Code.{cursor_of, reading}
+use Rattle.asl_parse.proofs.Loops.{run_as_chain, one_more}
+use Rattle.asl_parse.proofs.grammar.Grammar.as_rest.Goals as goal
+
+pub loop-turn-preserved : goal.loop-turn-preserved
+loop-turn-preserved g c =
+    let e = one_more (λ n. run_as_chain (reading c.args.self.now.depth as_type) c.args.from n c.loop-turn.left (cursor_of c.loop-turn.tokens)) _ c.loop-turn._turn c.loop-turn-test.true c.loop-turn.invariant in
+    first_of (search rules, grind (arith, common_steps))

@@ -1,0 +1,12 @@
+use Rattle.std.proofs.Common.{rules, arith, ◌∷◌, []}
+use Rattle.std.proofs.lemmas.Grind.{common_steps}
+use Rattle.asl_grammar.specs.grammar.Kinds.{STAR, DIV, DIV_RM, MOD, SHIFT_LEFT, SHIFT_RIGHT}
+use Rattle.asl_grammar.specs.grammar.Rules.{power}
+use Rattle.asl_parse.specs.Code.{cursor_of, reading}
+use Rattle.asl_parse.proofs.Loops.{run_chain, one_more}
+use Rattle.asl_parse.proofs.grammar.Grammar.product_rest.Goals as goal
+
+pub loop-turn-preserved : goal.loop-turn-preserved
+loop-turn-preserved g c =
+    let e = one_more (λ n. run_chain (reading c.args.self.now.depth power) (STAR ∷ DIV ∷ DIV_RM ∷ MOD ∷ SHIFT_LEFT ∷ SHIFT_RIGHT ∷ []) (STAR ∷ DIV ∷ DIV_RM ∷ MOD ∷ SHIFT_LEFT ∷ SHIFT_RIGHT ∷ []) c.args.from n c.loop-turn.left (cursor_of c.loop-turn.tokens)) _ c.loop-turn._turn c.loop-turn-test.true c.loop-turn.invariant in
+    first_of (search rules, grind (arith, common_steps))
