@@ -703,6 +703,46 @@ OUT['asl_parse/proofs/Steps.antt'] = head + '\n' + body
 
 
 
+# ---- samples
+
+exec(open(os.path.join(HERE, 'samples.py')).read())
+SPELLING = dict(zip('( ) [ ] { } ; , . .. : :: = == => ! != && || --> <-> < <= << > >= >> + +: - * *: ^ /'.split(), MARKS))
+LETTERS = {'AND': 'BitAnd', 'OR': 'BitOr', 'XOR': 'BitXor', 'EOR': 'BitEor', 'DIV': 'Div', 'DIVRM': 'DivRm', 'MOD': 'Mod', 'NOT': 'Not', 'IN': 'In', 'TRUE': 'True', 'FALSE': 'False', 'type': 'TypeWord', 'println': 'PrintLine', 'downto': 'DownTo', 'elsif': 'ElsIf',
+           'looplimit': 'LoopLimit', 'recurselimit': 'RecurseLimit', 'readonly': 'ReadOnly'}
+LETTERS.update({w.lower(): w for w in WORDS if w.lower() not in [x.lower() for x in LETTERS.values()] and w not in ('BitAnd', 'BitOr', 'BitXor', 'Div', 'DivRm', 'Mod', 'Not', 'In', 'True', 'False')})
+
+
+def tokens_of(source):
+    found, at = [], 0
+    for m in re.finditer(r"\s+|[A-Za-z_]\w*|\d+|'[01 ]*'|" + '|'.join(re.escape(s) for s in sorted(SPELLING, key=len, reverse=True)), source):
+        t = m.group(0)
+        if t.isspace(): continue
+        if t in SPELLING: kind = f'tk.Mark mk.{SPELLING[t]}'
+        elif t in LETTERS: kind = f'tk.Word wd.{LETTERS[t]}'
+        elif t[0].isdigit(): kind = f'tk.Int {t}'
+        else: kind = 'tk.Bits' if t[0] == "'" else 'tk.Name'
+        found.append(f'token ({kind}) {m.start()} {m.end()}')
+    return ' ∷ '.join(found + ['[]'])
+
+
+def spans(t):
+    t = re.sub(r'#(\w+)@(\d+)', lambda m: f'(record {{ span = at {m.group(2)} {int(m.group(2)) + len(m.group(1))}; text = codes "{m.group(1)}" }})', t)
+    return re.sub(r'@(\d+)-(\d+)', r'(at \1 \2)', t)
+
+
+body = 'abbrev at : ℕ → ℕ → Span\nat from to = record { file = 0; start = from; len = to - from }\n\nabbrev token : TokenKind → ℕ → ℕ → Token\ntoken kind from to = record { kind = kind; span = at from to }\n'
+for i, (levels, source, tree) in enumerate(SAMPLES):
+    body += f'\nsample{i} : without_end (outcome {levels} (lexemes (codes "{source}") ({tokens_of(source)}))) ≡ {spans(tree)}\nunfolding {" ".join(n for n in ORDER)} end_of behind\nsample{i} = refl\n'
+head = '-- Texts with their trees or their faults, by computing.\n' + GENERATED.replace('table.py', 'samples.py')
+head += 'use Rattle.std.proofs.Common.{◌≡◌, ℕ, ◌-◌, true, false, [], ◌∷◌, Some, None, Ok, Err, refl}\nuse Rattle.std.specs.Prelude.{codes}\n'
+for t, a in (('Mark', 'mk'), ('Word', 'wd'), ('TokenKind', 'tk')): head += f'use Rattle.asl_syn.specs.declared.token.{t}.TheVariants as {a}\n'
+head += 'use Rattle.asl_syn.specs.declared.token.TokenKind.{TokenKind}\nuse Rattle.asl_syn.specs.declared.token.Token.{Token}\n'
+for t, a in (('UnaryOperator', 'un'), ('BinaryOperator', 'bin')): head += f'use Rattle.asl_syn.specs.declared.tree.{t}.TheVariants as {a}\n'
+head += ''.join(line + '\n' for line in imports(body).split('\n') if ' as ' in line or '{Span}' in line)
+head += 'use Rattle.asl_grammar.specs.declared.error.ParseError.TheVariants.{Syntax, TooDeep}\n' + from_module(PRE + 'Cursor', ['end_of'], body) + from_module(PRE + 'Build', ['behind'], body) + from_module(PRE + 'Language', ['outcome', 'without_end'], body) + from_module(PRE + 'Faults', ['lexemes'], body) + from_module(PRE + 'Rules', ORDER, body)
+OUT['asl_grammar/proofs/grammar/Samples.antt'] = head + '\n' + body
+
+
 if __name__ == '__main__':
     wrong = 0
     for name, content in OUT.items():

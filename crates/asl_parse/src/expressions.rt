@@ -8,7 +8,7 @@ ghost use Rattle.asl_parse.specs.Nests.{Nests};
 
 use crate::grammar::{Grammar, Symbol, Value, nested};
 use crate::literals::literal;
-use crate::operators::{binary_node, unary_node, unary_of};
+use crate::operators::{as_node, binary_node, in_node, unary_node, unary_of};
 use crate::tokens::Tokens;
 use asl_grammar::error::ParseError;
 use asl_grammar::kinds::{AND_AND, AS, BANG, BITS_LITERAL, BIT_AND, BIT_OR, BIT_XOR, CARET, CLOSE_PAREN, COLON_COLON, COMMA, DIV, DIV_RM, ELSE, EQUAL, FALSE, GREATER, GREATER_EQUAL, IF, IFF, IMPLIES, IN, INTEGER_LITERAL, LESS, LESS_EQUAL, MINUS, MOD, NAME, NOT, NOT_EQUAL, OPEN_PAREN, OR_OR, PLUS, SHIFT_LEFT, SHIFT_RIGHT, STAR, THEN, TRUE, code};
@@ -85,8 +85,7 @@ return Ok(left);
 }
 tokens.open(&[IN])?;
 let pattern = self.in_pattern(tokens)?;
-let span = tokens.since(from);
-Ok(Expr::In(span, Boxed::new(self.alloc, left)?, Boxed::new(self.alloc, pattern)?))
+Ok(in_node(self.alloc, tokens.since(from), left, pattern)?)
 }
 
 /// Suffixes, and `IN` with its pattern.
@@ -367,8 +366,7 @@ return Ok(left);
 }
 tokens.open(&[AS])?;
 let ty = self.as_type(tokens)?;
-let span = tokens.since(from);
-left = Expr::As(span, Boxed::new(self.alloc, left)?, Boxed::new(self.alloc, ty)?);
+left = as_node(self.alloc, tokens.since(from), left, ty)?;
 }
 Ok(left)
 }

@@ -10,7 +10,7 @@ use asl_grammar::kinds::{
     SHIFT_RIGHT, STAR,
 };
 use asl_syn::token::Span;
-use asl_syn::tree::{BinaryOperator, Expr, UnaryOperator};
+use asl_syn::tree::{BinaryOperator, Expr, Pattern, TypeExpr, UnaryOperator};
 use sqlite_items::Boxed;
 use std::alloc::{AllocError, Global};
 
@@ -83,5 +83,32 @@ pub fn binary_node(
         binary_of(operator),
         Boxed::new(alloc, left)?,
         Boxed::new(alloc, right)?,
+    ))
+}
+
+/// An expression with the pattern behind `IN`.
+pub fn in_node(
+    alloc: Global,
+    span: Span,
+    left: Expr,
+    pattern: Pattern,
+) -> Result<Expr, AllocError>
+    ensures { IfOk result (λ e. e ≡ ex.In span left pattern) }
+{
+    Ok(Expr::In(
+        span,
+        Boxed::new(alloc, left)?,
+        Boxed::new(alloc, pattern)?,
+    ))
+}
+
+/// An expression with the type behind `as`.
+pub fn as_node(alloc: Global, span: Span, left: Expr, ty: TypeExpr) -> Result<Expr, AllocError>
+    ensures { IfOk result (λ e. e ≡ ex.As span left ty) }
+{
+    Ok(Expr::As(
+        span,
+        Boxed::new(alloc, left)?,
+        Boxed::new(alloc, ty)?,
     ))
 }
