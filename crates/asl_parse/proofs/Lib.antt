@@ -2,3 +2,4 @@ pub mod Loops
 pub mod Steps
 pub mod Tails
 pub mod Placing
+pub mod Rooms

@@ -395,7 +395,7 @@ Ok((condition, then, other))
 }
 
 /// An `if` expression: its level ends with it, and those of operators in it do not.
-#[tactic(auto, using(crate::proofs::Steps::conditional_is))]
+#[tactic(auto, using(crate::proofs::Steps::conditional_is, crate::proofs::Rooms::if_room))]
 pub fn conditional(&self, tokens: &mut Tokens<'_>) -> Result<Expr, ParseError>
     requires { Nests self.now.depth (F.pre self.now.nested) (F.post self.now.nested) }
     ensures { Met (reading self.now.depth rules.conditional (cursor_of tokens.old)) result (cursor_of tokens.new) }
