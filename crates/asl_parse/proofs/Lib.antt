@@ -3,3 +3,4 @@ pub mod Steps
 pub mod Tails
 pub mod Placing
 pub mod Rooms
+pub mod StatementSteps
