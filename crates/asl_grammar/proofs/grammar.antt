@@ -11,3 +11,6 @@ pub mod Opening
 pub mod Stops
 pub mod Answered
 pub mod Placed
+pub mod OneFault
+pub mod Ends
+pub mod Samples

@@ -1,1 +1,2 @@
+pub mod lexemes
 pub mod grammar

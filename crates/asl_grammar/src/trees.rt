@@ -1,6 +1,9 @@
 //! The laws of the grammar.
 
-ghost use Rattle.std.specs.Prelude.{ℕ, Bool, List, ◌≡◌};
+ghost use Rattle.std.specs.Prelude.{ℕ, ◌⊎◌, Bool, List, ◌≡◌};
+ghost use Rattle.asl_syn.specs.declared.code.Fault.{Fault};
+ghost use Rattle.asl_syn.specs.declared.token.Token.{Token};
+ghost use Rattle.asl_grammar.specs.grammar.Faults.{Parses, SyntaxFault};
 ghost use Rattle.asl_grammar.specs.grammar.Cursor.{Lexeme};
 ghost use Rattle.asl_syn.specs.declared.tree.Decl.{Decl};
 ghost use Rattle.asl_grammar.specs.grammar.Language.{Opener, Tree, Answers, without_end, outcome};
@@ -18,4 +21,11 @@ pub fn one_token_is_enough()
 /// At most one token opens a level too many.
 pub fn one_opener()
     ensures { (levels : ℕ) (ts : List Lexeme) (m n : ℕ) (y z : Bool) → Opener levels ts m y → Opener levels ts n z → (m ≡ n) × (y ≡ z) }
+{}
+
+/// The tokens of a file have one tree or one syntax fault, and never both.
+pub fn one_syntax_fault()
+    ensures one { (file : ℕ) (bytes : List ℕ) (tokens : List Token) (f g : Fault) → SyntaxFault file bytes tokens f → SyntaxFault file bytes tokens g → f ≡ g }
+    ensures no_tree { (file : ℕ) (bytes : List ℕ) (tokens : List Token) (f : Fault) (v : List Decl) → SyntaxFault file bytes tokens f → Parses bytes tokens v → ⊥ }
+    ensures some { (file : ℕ) (bytes : List ℕ) (tokens : List Token) → ((v : List Decl) × Parses bytes tokens v) ⊎ ((f : Fault) × SyntaxFault file bytes tokens f) }
 {}

@@ -1,3 +1,4 @@
 pub mod Place
 pub mod Codes
 pub mod Command
+pub mod Layers

@@ -3,5 +3,6 @@
 
 pub mod code;
 pub mod place;
+pub mod span;
 pub mod token;
 pub mod tree;

@@ -32,7 +32,7 @@ answers_of levels ts (Err e) h = answers_err levels ts e h
 pub answered : (levels : ℕ) (ts : List Lexeme) → Answers levels ts (without_end (outcome levels ts))
 answered levels ts = answers_of levels ts (outcome levels ts) refl
 
-opener_stops : (levels : ℕ) (ts : List Lexeme) (n : ℕ) (y : Bool) → Opener levels ts n y → parse Sym Val rule (suc levels) Program (start levels ts) ≡ Err (TooDeep n y)
+pub opener_stops : (levels : ℕ) (ts : List Lexeme) (n : ℕ) (y : Bool) → Opener levels ts n y → parse Sym Val rule (suc levels) Program (start levels ts) ≡ Err (TooDeep n y)
 opener_stops levels ts n y o =
     ap (λ z. parse Sym Val rule (suc levels) Program (start levels z)) o.3
     ∙ stops_n Sym Val rule after each covered o.5.0 (suc levels) y o.1 o.2 Program (start levels o.0) (omega arith) o.5.1

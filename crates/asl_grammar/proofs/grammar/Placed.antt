@@ -14,7 +14,7 @@ use Rattle.asl_grammar.specs.grammar.Faults.{max_levels, NotAllowed, TooManyLeve
 use Rattle.asl_grammar.proofs.grammar.Symbols.{same_split}
 use Rattle.asl_grammar.proofs.grammar.Answered.{answered}
 
-drop_front : (front rest : List Lexeme) → drop (length front) (front ++ rest) ≡ rest
+pub drop_front : (front rest : List Lexeme) → drop (length front) (front ++ rest) ≡ rest
 drop_front [] rest = refl
 drop_front (t ∷ front) rest = drop_front front rest
 
@@ -38,11 +38,11 @@ level_at ts front token rest n true e l =
     let k : length ts - n ≡ length front = omega arith in
     ap (λ m. place_of 0 0 (drop (m - 1) ts)) k ∙ ap (λ us. place_of 0 0 (drop (length front - 1) us)) e ∙ last_dropped front token rest
 
-abbrev first_or : Lexeme → List Lexeme → Lexeme
+abbrev pub first_or : Lexeme → List Lexeme → Lexeme
 first_or t [] = t
 first_or t (x ∷ xs) = x
 
-abbrev level_says : Span → Fault
+abbrev pub level_says : Span → Fault
 level_says s = record { code = S02; inner = None; span = s }
 
 stops_at : (ts : List Lexeme) (e : ParseError) → outcome max_levels ts ≡ Err e → Stops max_levels ts e
@@ -50,7 +50,7 @@ stops_at ts e h = subst (λ o. Answers max_levels ts (without_end o)) h (answere
 
 pub not_allowed_at : (file size : ℕ) (ts : List Lexeme) (n : ℕ) → outcome max_levels ts ≡ Err (Syntax n) → NotAllowed file size ts (refusal file size (drop (length ts - n) ts))
 not_allowed_at file size ts n h = let s = stops_at ts (Syntax n) h in
-    record { front = s.0.front; rest = s.0.rest; is = s.0.is; goes_on = s.0.goes_on; no_further = s.0.no_further; says = ap (refusal file size) (drop_is ts s.0.front s.0.rest n s.0.is s.0.there) }
+    record { front = s.0.front; rest = s.0.rest; is = s.0.is; goes_on = s.0.goes_on; no_longer = s.0.no_longer; no_tree = s.1; says = ap (refusal file size) (drop_is ts s.0.front s.0.rest n s.0.is s.0.there) }
 
 pub too_many_levels_at : (ts : List Lexeme) (n : ℕ) (late : Bool) → outcome max_levels ts ≡ Err (TooDeep n late) → TooManyLevels ts (level_fault ts n late)
 too_many_levels_at ts n late h = go (stops_at ts (TooDeep n late) h)

@@ -161,11 +161,15 @@ module _ (Sym : Type 0) (Val : Sym → Type 0) (rule : (s : Sym) → G Sym Val (
   at_levels : ℕ → List Lexeme → Outcome (Val s)
   at_levels n ts = parse Sym Val rule (suc n) s (start n ts)
 
+  -- where a front goes on, the reader stops no earlier than behind it
+  pub stops_behind : (any : ℕ) (ts front others : List Lexeme) → ts ≡ front ++ others → GoesOn Sym Val rule s any front → place (parse Sym Val rule (suc any) s (start any ts)) ≤ length others
+  stops_behind any ts front others e g =
+      let k : place (parse Sym Val rule (suc any) s (start any (front ++ others))) ≤ length others = viable_n Sym Val rule after each covered g.0 (suc any) s (start any front) g.1 (omega arith) others in
+      subst (λ z. place (parse Sym Val rule (suc any) s (start any z)) ≤ length others) (sym e) k
+
   stops_by : (any : ℕ) (ts front : List Lexeme) (t : Lexeme) (us : List Lexeme) → ts ≡ front ++ (t ∷ us) → GoesOn Sym Val rule s any (front ++ t ∷ []) → place (at_levels any ts) ≤ length us
   unfolding at_levels
-  stops_by any ts front t us e g =
-      let k : place (at_levels any ((front ++ t ∷ []) ++ us)) ≤ length us = viable_n Sym Val rule after each covered g.0 (suc any) s (start any (front ++ t ∷ [])) g.1 (omega arith) us in
-      subst (λ z. place (at_levels any z) ≤ length us) (append_assoc front (t ∷ []) us ∙ sym e) k
+  stops_by any ts front t us e g = stops_behind any ts (front ++ t ∷ []) us (e ∙ sym (append_assoc front (t ∷ []) us)) g
 
   more_levels : (m n : ℕ) (ts : List Lexeme) → m ≤ n → Same (n - m) (at_levels m ts) (at_levels n ts)
   unfolding at_levels
@@ -180,17 +184,18 @@ module _ (Sym : Type 0) (Val : Sym → Type 0) (rule : (s : Sym) → G Sym Val (
   stays d (Err (TooDeep n y)) o' k e h j q = absurd (h n y refl)
   stays d (Err OutOfMemory) o' k e h j q = absurd (j refl)
 
-  no_further : (ts front rest : List Lexeme) → ts ≡ front ++ rest → place (at_levels levels ts) ≡ length rest → ((m : ℕ) (y : Bool) → at_levels levels ts ≡ Err (TooDeep m y) → ⊥) → (at_levels levels ts ≡ Err OutOfMemory → ⊥)
-      → (t : Lexeme) (us : List Lexeme) → rest ≡ t ∷ us → (any : ℕ) → GoesOn Sym Val rule s any (front ++ t ∷ []) → ⊥
-  no_further ts front rest e pl nd nm t us er any g = go (grind arith)
+  no_longer : (ts front rest : List Lexeme) → ts ≡ front ++ rest → place (at_levels levels ts) ≡ length rest → ((m : ℕ) (y : Bool) → at_levels levels ts ≡ Err (TooDeep m y) → ⊥) → (at_levels levels ts ≡ Err OutOfMemory → ⊥)
+      → (longer others : List Lexeme) → ts ≡ longer ++ others → (any : ℕ) → GoesOn Sym Val rule s any longer → length longer ≤ length front
+  unfolding at_levels
+  no_longer ts front rest e pl nd nm longer others f any g = go (grind arith)
     where
-      k : place (at_levels any ts) ≤ length us
-      k = stops_by any ts front t us (e ∙ ap (λ z. front ++ z) er) g
+      k : place (at_levels any ts) ≤ length others
+      k = stops_behind any ts longer others f g
 
-      q : length rest ≡ suc (length us)
-      q = ap length er
+      q : length front + length rest ≡ length longer + length others
+      q = sym (ap length e ∙ length-append front rest) ∙ (ap length f ∙ length-append longer others)
 
-      go : (any ≤ levels) ⊎ (levels ≤ any) → ⊥
+      go : (any ≤ levels) ⊎ (levels ≤ any) → length longer ≤ length front
       go (inl le) = let p : place (at_levels levels ts) ≤ place (at_levels any ts) = same_place _ _ _ (more_levels any levels ts le) in omega (arith, k, q, pl)
       go (inr le) = let p : place (at_levels any ts) ≡ length rest = stays _ _ _ _ pl nd nm (more_levels levels any ts le) in omega (arith, k, q)
 
@@ -198,7 +203,7 @@ module _ (Sym : Type 0) (Val : Sym → Type 0) (rule : (s : Sym) → G Sym Val (
   unfolding at_levels
   parsed_syntax ts n h = elim (bind_err (P (start levels ts)) _ (Syntax n) h) [
     | inl e ↦ (let b = faults_n Sym Val rule after each covered (suc levels) s (start levels ts) (Syntax n) e in
-        record { front = b.0; rest = b.1; is = b.2; there = b.3; goes_on = (suc levels, b.4); no_further = no_further ts b.0 b.1 b.2 (ap place e ∙ sym b.3) (λ m y k. cc) (λ k. cc) })
+        record { front = b.0; rest = b.1; is = b.2; there = b.3; goes_on = (suc levels, b.4); no_longer = no_longer ts b.0 b.1 b.2 (ap place e ∙ sym b.3) (λ m y k. cc) (λ k. cc) })
     | inr e ↦ (let er = finish_err e.0 e.1 e.1.toks (Syntax n) e.3 in
         let z = frames_n Sym Val rule after each covered (suc levels) s (start levels ts) e.0 e.1 (sound_n Sym Val rule after each covered (suc levels) s (start levels ts) e.0 e.1 e.2) in
         let r = subst (λ us. Reads Sym Val rule (suc levels) s (start levels us) e.0 (with_toks e.1 [])) (nil_behind z.0) (z.2 []) in
@@ -209,7 +214,7 @@ module _ (Sym : Type 0) (Val : Sym → Type 0) (rule : (s : Sym) → G Sym Val (
           is = z.1;
           there = er;
           goes_on = (suc levels, whole_n Sym Val rule after each covered (suc levels) s (start levels z.0) e.0 (with_toks e.1 []) r refl);
-          no_further = no_further ts z.0 e.1.toks z.1 (ap place e.2) (λ m y k. cc) (λ k. cc);
+          no_longer = no_longer ts z.0 e.1.toks z.1 (ap place e.2) (λ m y k. cc) (λ k. cc);
         })
   ]
 

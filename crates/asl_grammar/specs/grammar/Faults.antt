@@ -1,5 +1,5 @@
 -- What the grammar says of a file: its tree, or its one syntax fault.
-use Rattle.std.specs.Prelude.{◌≡◌, ℕ, ◌-◌, ◌⊎◌, Bool, true, false, nat_eq, List, [], ◌∷◌, ◌++◌, length, map, drop, None}
+use Rattle.std.specs.Prelude.{◌≡◌, ◌≤◌, ℕ, ◌-◌, ◌⊎◌, Bool, true, false, nat_eq, List, [], ◌∷◌, ◌++◌, length, map, drop, None}
 use Rattle.asl_syn.specs.declared.code.StaticCode.{StaticCode}
 use Rattle.asl_syn.specs.declared.code.StaticCode.TheVariants.{S01, S02, S03}
 use Rattle.asl_syn.specs.declared.code.Fault.{Fault}
@@ -39,13 +39,14 @@ refusal_code (t ∷ ts) = pick (nat_eq (code t.kind) LEFT_OUT) S03 S01
 abbrev pub refusal : ℕ → ℕ → List Lexeme → Fault
 refusal file size rest = record { code = refusal_code rest; inner = None; span = place_of file size rest }
 
--- Before the fault's place the text goes on, and with the token there it doesn't, however many levels are allowed.
+-- There is no tree. Before the fault's place the text goes on, and no longer front of it does, however many levels are allowed.
 pub record NotAllowed (file size : ℕ) (ts : List Lexeme) (fault : Fault) : Type 0 where
   pub front : List Lexeme
   pub rest : List Lexeme
   pub is : ts ≡ front ++ rest
   pub goes_on : Front max_levels front
-  pub no_further : (t : Lexeme) (us : List Lexeme) → rest ≡ t ∷ us → (any : ℕ) → Front any (front ++ t ∷ []) → ⊥
+  pub no_longer : (longer others : List Lexeme) → ts ≡ longer ++ others → (any : ℕ) → Front any longer → length longer ≤ length front
+  pub no_tree : (w : List Decl) → Tree max_levels ts w → ⊥
   pub says : fault ≡ refusal file size rest
 
 abbrev pub last_or : Lexeme → List Lexeme → Lexeme

@@ -1,5 +1,5 @@
 -- What a grammar with symbols says of a list of tokens.
-use Rattle.std.specs.Prelude.{◌≡◌, ℕ, suc, List, [], ◌∷◌, ◌++◌, length, Ok}
+use Rattle.std.specs.Prelude.{◌≡◌, ◌≤◌, ℕ, suc, List, [], ◌∷◌, ◌++◌, length, Ok}
 use Rattle.asl_grammar.specs.grammar.Cursor.{Lexeme, Cursor}
 use Rattle.asl_grammar.specs.grammar.Combinators.{G, Reads, Goes}
 use Rattle.asl_grammar.specs.grammar.Reader.{Outcome, refused, bind, parse}
@@ -12,14 +12,14 @@ abbrev pub finish : {A : Type 0} → A → Cursor → List Lexeme → Outcome A
 finish v end [] = Ok (v, end)
 finish v end (t ∷ ts) = refused (t ∷ ts)
 
--- Up to this place the front goes on, and with the token there it doesn't, however many levels are allowed.
+-- Up to this place the front goes on, and no longer front does, however many levels are allowed.
 pub record Refuses (GoesTo : ℕ → List Lexeme → Type 0) (levels : ℕ) (ts : List Lexeme) (left : ℕ) : Type 0 where
   pub front : List Lexeme
   pub rest : List Lexeme
   pub is : ts ≡ front ++ rest
   pub there : length rest ≡ left
   pub goes_on : GoesTo levels front
-  pub no_further : (t : Lexeme) (us : List Lexeme) → rest ≡ t ∷ us → (any : ℕ) → GoesTo any (front ++ t ∷ []) → ⊥
+  pub no_longer : (longer others : List Lexeme) → ts ≡ longer ++ others → (any : ℕ) → GoesTo any longer → length longer ≤ length front
 
 -- Up to this place the front goes on, and with the token there only if more levels are allowed.
 pub record Exceeds (GoesTo : ℕ → List Lexeme → Type 0) (levels : ℕ) (ts : List Lexeme) (left : ℕ) : Type 0 where

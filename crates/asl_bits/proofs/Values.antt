@@ -1,0 +1,222 @@
+-- What the functions of `Bits` show, from the words of their operands.
+use Rattle.std.proofs.Common.{◌≡◌, ◌≢◌, ℕ, zero, suc, ◌+◌, ◌-◌, ◌*◌, ◌/◌, ◌%◌, ◌^◌, ◌<◌, ◌≤◌, List, [], ◌∷◌, ◌++◌, length, take, drop, map, replicate, get_or, Bool, true, false, cond, not, refl, sym, ◌∙◌, ap, subst, arith, pow-suc, length-append}
+use Rattle.std.proofs.lemmas.List.{length-replicate, length-take, length-drop}
+use Rattle.std.proofs.lemmas.Int.{ints}
+use Rattle.std.proofs.lemmas.Bool.{cases_lt}
+use mathlib.Core.Logic.{inl, inr}
+use Rattle.std.specs.Prelude.{◌==◌, IsTrue, ◌↔◌, ℤ, pos, negsuc, ◌-ℤ◌, ◌<ℤ◌, ◌≤ℤ◌, unsigned_abs, bit_and, bit_or, bit_xor}
+use Rattle.std.proofs.Math.Nat.{mod-eq_of_lt, mul-le-mul_right, add_comm, add-mod_right}
+use Rattle.std.proofs.lemmas.Nat.{pow_pos, pow-add, mod_below, or_shifted, and_le_l, or_lt, xor_lt}
+use Rattle.asl_num.specs.Exact.{floor_mod}
+use Rattle.asl_bits.proofs.Lists.{length-bits_of, value_below, zero_bits, turned_bits, low_bits, take_bits, drop_bits, cat_bits, and_bits, or_bits, xor_bits, get_bit, same_bits, twice}
+use Rattle.std.proofs.lemmas.Option.{slice_get-get_or, get_or_from_slice_get}
+use Rattle.std.specs.Prelude.{slice_get, Some}
+use Rattle.asl_bits.specs.Words.{words_value}
+use Rattle.asl_bits.specs.Lists.{bits_value, bits_of, int_bits, top_bit, signed_value, both, and_bit, or_bit, xor_bit}
+
+-- ---- words of zero
+
+abbrev pub AllZero : List ℕ → Type 0
+AllZero [] = Unit {0}
+AllZero (x ∷ xs) = (x ≡ 0) × AllZero xs
+
+pub zero_words : (xs : List ℕ) → AllZero xs → words_value xs ≡ 0
+unfolding words_value
+zero_words [] h = refl
+zero_words (x ∷ xs) h = omega (arith, h.0, zero_words xs h.1)
+
+pub first_word : (w : ℕ) (xs : List ℕ) → AllZero xs → words_value (w ∷ xs) ≡ w
+unfolding words_value
+first_word w xs h = omega (arith, zero_words xs h)
+
+-- ---- the operations of bitvectors
+
+pub slice_is : (bs : List Bool) (w k n m : ℕ) → k + m ≤ w → bs ≡ bits_of w n → bits_of m (n / 2 ^ k % 2 ^ m) ≡ take m (drop k bs)
+slice_is bs w k n m h e =
+    let room : m ≤ w - k = omega arith in
+    low_bits m (n / 2 ^ k) ∙ sym (take_bits m (w - k) (n / 2 ^ k) room)
+    ∙ ap (take m) (sym (drop_bits k w n (omega arith))) ∙ ap (λ (xs : List Bool). take m (drop k xs)) (sym e)
+
+pub below_mod : (n w v : ℕ) → v ≡ n % 2 ^ w → v < 2 ^ w
+below_mod n w v e = rw e (mod_below _ _ (pow_pos w))
+
+below_cat : (k w h n : ℕ) → n < 2 ^ k → h < 2 ^ w → h * 2 ^ k + n < 2 ^ (k + w)
+below_cat k w h n p q =
+    let e : suc h * 2 ^ k ≤ 2 ^ w * 2 ^ k = mul-le-mul_right (2 ^ k) q in
+    let f : 2 ^ (k + w) ≡ 2 ^ w * 2 ^ k = rw (add_comm k w) (pow-add 2 w k) in
+    let g : suc h * 2 ^ k ≡ h * 2 ^ k + 2 ^ k = omega arith in
+    omega arith
+
+-- the words of `concat`
+pub cat_value : (k w h n t v : ℕ) → n < 2 ^ k → h < 2 ^ w → t ≡ h * 2 ^ k % 2 ^ (k + w) → v ≡ bit_or t n → v ≡ h * 2 ^ k + n
+cat_value k w h n t v p q e f =
+    let room : h * 2 ^ k + n < 2 ^ (k + w) = below_cat k w h n p q in
+    f ∙ ap (λ (m : ℕ). bit_or m n) (e ∙ mod-eq_of_lt (omega arith)) ∙ or_shifted h k n p
+
+pub concat_below : (k w h n t v : ℕ) → n < 2 ^ k → h < 2 ^ w → t ≡ h * 2 ^ k % 2 ^ (k + w) → v ≡ bit_or t n → v < 2 ^ (k + w)
+concat_below k w h n t v p q e f = rw (cat_value k w h n t v p q e f) (below_cat k w h n p q)
+
+pub concat_is : (k w h n t v : ℕ) (low high : List Bool) → n < 2 ^ k → h < 2 ^ w → t ≡ h * 2 ^ k % 2 ^ (k + w) → v ≡ bit_or t n → low ≡ bits_of k n → high ≡ bits_of w h → bits_of (k + w) v ≡ low ++ high
+concat_is k w h n t v low high p q e f l m =
+    ap (bits_of (k + w)) (cat_value k w h n t v p q e f) ∙ cat_bits k w n h p ∙ cc
+
+pub with_slice_is : (bs part : List Bool) (w k m n q : ℕ) → k + m ≤ w → n < 2 ^ w → q < 2 ^ m → bs ≡ bits_of w n → part ≡ bits_of m q → bits_of w ((n / 2 ^ (k + m) * 2 ^ m + q) * 2 ^ k + n % 2 ^ k) ≡ take k bs ++ (part ++ drop (k + m) bs)
+with_slice_is bs part w k m n q h small less e f =
+    let total : k + (m + (w - (k + m))) ≡ w = omega arith in
+    let first : take k bs ≡ bits_of k (n % 2 ^ k) = rw e (take_bits k w n (omega arith) ∙ sym (low_bits k n)) in
+    let last : drop (k + m) bs ≡ bits_of (w - (k + m)) (n / 2 ^ (k + m)) = rw e (drop_bits (k + m) w n h) in
+    ap (λ (s : ℕ). bits_of s ((n / 2 ^ (k + m) * 2 ^ m + q) * 2 ^ k + n % 2 ^ k)) (sym total)
+    ∙ cat_bits k (m + (w - (k + m))) (n % 2 ^ k) (n / 2 ^ (k + m) * 2 ^ m + q) (mod_below _ _ (pow_pos k))
+    ∙ ap (λ (xs : List Bool). bits_of k (n % 2 ^ k) ++ xs) (cat_bits m (w - (k + m)) q (n / 2 ^ (k + m)) less)
+    ∙ cc
+
+-- ---- what the functions of `Bits` show, from their views
+
+pub width_is : (w n : ℕ) (bs : List Bool) → bits_of w n ≡ bs → w ≡ length bs
+width_is w n bs e = sym (length-bits_of w n) ∙ ap length e
+
+same_width : (w u m n : ℕ) (xs ys : List Bool) → bits_of w m ≡ xs → bits_of u n ≡ ys → length xs ≡ length ys → u ≡ w
+same_width w u m n xs ys e f l = width_is u n ys f ∙ sym l ∙ sym (width_is w m xs e)
+
+pub and_small : (w m n v : ℕ) → m < 2 ^ w → v ≡ bit_and m n → v < 2 ^ w
+and_small w m n v p e = let s : bit_and m n ≤ m = and_le_l m n in omega arith
+
+pub or_small : (w u m n v : ℕ) (xs ys : List Bool) → bits_of w m ≡ xs → bits_of u n ≡ ys → length xs ≡ length ys → m < 2 ^ w → n < 2 ^ u → v ≡ bit_or m n → v < 2 ^ w
+or_small w u m n v xs ys e f l p q i =
+    rw i (or_lt w m n p (subst (λ (k : ℕ). n < 2 ^ k) (same_width w u m n xs ys e f l) q))
+
+pub xor_small : (w u m n v : ℕ) (xs ys : List Bool) → bits_of w m ≡ xs → bits_of u n ≡ ys → length xs ≡ length ys → m < 2 ^ w → n < 2 ^ u → v ≡ bit_xor m n → v < 2 ^ w
+xor_small w u m n v xs ys e f l p q i =
+    rw i (xor_lt w m n p (subst (λ (k : ℕ). n < 2 ^ k) (same_width w u m n xs ys e f l) q))
+
+bitwise : (f : ℕ → ℕ → ℕ) (g : Bool → Bool → Bool) → ((w m n : ℕ) → bits_of w (f m n) ≡ both g (bits_of w m) (bits_of w n)) → (w u m n v : ℕ) (xs ys rs : List Bool) → bits_of w m ≡ xs → bits_of u n ≡ ys → length xs ≡ length ys → v ≡ f m n → rs ≡ bits_of w v → rs ≡ both g xs ys
+bitwise f g law w u m n v xs ys rs e h l i r =
+    r ∙ ap (bits_of w) i ∙ law w m n ∙ ap (λ (zs : List Bool). both g zs (bits_of w n)) e
+    ∙ ap (λ (k : ℕ). both g xs (bits_of k n)) (sym (same_width w u m n xs ys e h l)) ∙ ap (both g xs) h
+
+pub and_is : (w u m n v : ℕ) (xs ys rs : List Bool) → bits_of w m ≡ xs → bits_of u n ≡ ys → length xs ≡ length ys → v ≡ bit_and m n → rs ≡ bits_of w v → rs ≡ both and_bit xs ys
+and_is = bitwise bit_and and_bit and_bits
+
+pub or_is : (w u m n v : ℕ) (xs ys rs : List Bool) → bits_of w m ≡ xs → bits_of u n ≡ ys → length xs ≡ length ys → v ≡ bit_or m n → rs ≡ bits_of w v → rs ≡ both or_bit xs ys
+or_is = bitwise bit_or or_bit or_bits
+
+pub xor_is : (w u m n v : ℕ) (xs ys rs : List Bool) → bits_of w m ≡ xs → bits_of u n ≡ ys → length xs ≡ length ys → v ≡ bit_xor m n → rs ≡ bits_of w v → rs ≡ both xor_bit xs ys
+xor_is = bitwise bit_xor xor_bit xor_bits
+
+pub not_is : (w n v : ℕ) (bs rs : List Bool) → bits_of w n ≡ bs → n < 2 ^ w → v ≡ 2 ^ w - 1 - n → rs ≡ bits_of w v → rs ≡ map not bs
+not_is w n v bs rs e p i r = r ∙ ap (bits_of w) i ∙ turned_bits w n p ∙ ap (map not) e
+
+pub lowest_is : (w n v m : ℕ) (rs : List Bool) → n ≡ m → v ≡ n % 2 ^ w → rs ≡ bits_of w v → rs ≡ bits_of w m
+lowest_is w n v m rs e i r = r ∙ ap (bits_of w) i ∙ low_bits w n ∙ ap (bits_of w) e
+
+pub low_is : (w n v k : ℕ) (bs rs : List Bool) → bits_of w n ≡ bs → k ≤ w → v ≡ n % 2 ^ k → rs ≡ bits_of k v → rs ≡ take k bs
+low_is w n v k bs rs e h i r = r ∙ ap (bits_of k) i ∙ low_bits k n ∙ sym (take_bits k w n h) ∙ ap (take k) e
+
+pub high_is : (w n v k : ℕ) (bs rs : List Bool) → bits_of w n ≡ bs → k ≤ w → v ≡ n / 2 ^ k % 2 ^ (w - k) → rs ≡ bits_of (w - k) v → rs ≡ drop k bs
+high_is w n v k bs rs e h i r = r ∙ ap (bits_of (w - k)) i ∙ low_bits (w - k) (n / 2 ^ k) ∙ sym (drop_bits k w n h) ∙ ap (drop k) e
+
+pub sliced_is : (w n v k m : ℕ) (bs rs : List Bool) → bits_of w n ≡ bs → k + m ≤ w → v ≡ n / 2 ^ k % 2 ^ m → rs ≡ bits_of m v → rs ≡ take m (drop k bs)
+sliced_is w n v k m bs rs e h i r = r ∙ ap (bits_of m) i ∙ slice_is bs w k n m h (sym e)
+
+pub bit_is : (w n v k : ℕ) (bs : List Bool) → bits_of w n ≡ bs → k < w → v ≡ n / 2 ^ k % 2 ^ 128 → slice_get bs k ≡ Some (v % 2 == 1)
+bit_is w n v k bs e h i =
+    let f : v % 2 ≡ n / 2 ^ k % 2 = omega arith in
+    let size : w ≡ length bs = width_is w n bs e in
+    slice_get-get_or bs k false (omega (arith, size))
+    ∙ ap (λ (b : Bool). Some b) (ap (λ (xs : List Bool). get_or xs k false) (sym e) ∙ get_bit w n k h ∙ ap (λ (m : ℕ). m == 1) (sym f))
+
+pub top_is : (bs : List Bool) (b : Bool) (k : ℕ) → k ≡ length bs - 1 → slice_get bs k ≡ Some b → b ≡ top_bit bs
+top_is bs b k e h = sym (get_or_from_slice_get bs k b false h) ∙ ap (λ (m : ℕ). get_or bs m false) e
+
+pub top_none : (bs : List Bool) → length bs ≡ 0 → false ≡ top_bit bs
+top_none [] e = refl
+top_none (b ∷ bs) e = absurd (omega arith)
+
+pub ruleset top_facts = (top_is, top_none)
+
+pub same_is : (w u m n : ℕ) (xs ys : List Bool) (b : Bool) → bits_of w m ≡ xs → bits_of u n ≡ ys → length xs ≡ length ys → m < 2 ^ w → n < 2 ^ u → IsTrue b ↔ (m ≡ n) → IsTrue b ↔ (xs ≡ ys)
+same_is w u m n xs ys b e f l p q t =
+    let k = same_width w u m n xs ys e f l in (
+      λ h. sym e ∙ ap (bits_of w) (t.0 h) ∙ ap (λ (j : ℕ). bits_of j n) (sym k) ∙ f,
+      λ h. t.1 (same_bits w m n p (subst (λ (j : ℕ). n < 2 ^ j) k q) (e ∙ h ∙ sym f ∙ ap (λ (j : ℕ). bits_of j n) k)),
+    )
+
+pub value_shown : (w n : ℕ) (bs : List Bool) → bits_of w n ≡ bs → n < 2 ^ w → bits_value bs ≡ n
+value_shown w n bs e p = ap bits_value (sym e) ∙ value_below w n p
+
+pub sum_is : (w u m n v : ℕ) (xs ys rs : List Bool) → bits_of w m ≡ xs → bits_of u n ≡ ys → m < 2 ^ w → n < 2 ^ u → v ≡ (m + n + 0) % 2 ^ w → rs ≡ bits_of w v → rs ≡ bits_of (length xs) (bits_value xs + bits_value ys)
+sum_is w u m n v xs ys rs e f p q i r =
+    let s : m + n + 0 ≡ bits_value xs + bits_value ys = omega (arith, value_shown w m xs e p, value_shown u n ys f q) in
+    r ∙ ap (bits_of w) i ∙ low_bits w (m + n + 0) ∙ ap (bits_of w) s
+    ∙ ap (λ (k : ℕ). bits_of k (bits_value xs + bits_value ys)) (width_is w m xs e)
+
+turned_zeros : (w : ℕ) → map not (replicate w false) ≡ replicate w true
+turned_zeros zero = refl
+turned_zeros (suc w) = ap (λ (bs : List Bool). true ∷ bs) (turned_zeros w)
+
+pub fill_false : (w n : ℕ) (bs : List Bool) → n ≡ 0 → bs ≡ bits_of w n → bs ≡ replicate w false
+fill_false w n bs e r = r ∙ ap (bits_of w) e ∙ zero_bits w
+
+pub fill_true : (w n : ℕ) (bs rs : List Bool) → n ≡ 0 → bs ≡ bits_of w n → rs ≡ map not bs → rs ≡ replicate w true
+fill_true w n bs rs e r i = i ∙ ap (map not) (fill_false w n bs e r) ∙ turned_zeros w
+
+pub ruleset fill_facts = (fill_false, fill_true)
+
+pub wrap_negative : (z : ℤ) (w m : ℕ) (bs : List Bool) → z <ℤ pos 0 → m ≡ unsigned_abs z → bs ≡ bits_of w (m - 1) → map not bs ≡ int_bits w z
+wrap_negative (pos n) w m bs h e r = absurd (omega (arith, ints))
+wrap_negative (negsuc n) w m bs h e r =
+    let f : m - 1 ≡ n = omega arith in
+    ap (map not) (r ∙ ap (bits_of w) f ∙ sym (low_bits w n)) ∙ sym (turned_bits w (n % 2 ^ w) (mod_below _ _ (pow_pos w)))
+
+pub wrap_positive : (z : ℤ) (w m : ℕ) → pos 0 ≤ℤ z → m ≡ unsigned_abs z → bits_of w m ≡ int_bits w z
+wrap_positive (pos n) w m h e = ap (bits_of w) e ∙ sym (low_bits w n)
+wrap_positive (negsuc n) w m h e = absurd (omega (arith, ints))
+
+pub ruleset wrap_facts = (wrap_negative, wrap_positive)
+
+pub length-part : (k m : ℕ) (bs : List Bool) → k + m ≤ length bs → length (take m (drop k bs)) ≡ m
+length-part k m bs h = simp (length-take, length-drop) (omega arith)
+
+pub ruleset part_facts = (length-take, length-drop, length-append)
+
+below_power : (m n p : ℕ) → n < p → floor_mod (pos m -ℤ pos n) p ≡ (m + (p - 1 - n) + 1) % p
+below_power m n p h = by_lt m n
+    (λ l. let e : pos m -ℤ pos n ≡ negsuc (n - m - 1) = omega (arith, ints) in
+    let f : (n - m - 1) % p ≡ n - m - 1 = mod-eq_of_lt (omega arith) in
+    let g : (m + (p - 1 - n) + 1) % p ≡ m + (p - 1 - n) + 1 = mod-eq_of_lt (omega arith) in
+    rw (e, f, g) (omega arith))
+    (λ l. let e : pos m -ℤ pos n ≡ pos (m - n) = omega (arith, ints) in
+    let f : m + (p - 1 - n) + 1 ≡ (m - n) + p = omega arith in
+    rw (e, f) (sym (add-mod_right (m - n) p)))
+  where
+    by_lt : {P : Type 0} (a b : ℕ) → (a < b → P) → (b ≤ a → P) → P
+    by_lt a b f g = elim (cases_lt a b) [ inl l ↦ f l | inr l ↦ g l ]
+
+pub difference_is : (w u m n t v : ℕ) (xs ys rs : List Bool) → bits_of w m ≡ xs → bits_of u n ≡ ys → length xs ≡ length ys → m < 2 ^ w → n < 2 ^ u → t ≡ 2 ^ u - 1 - n → v ≡ (m + t + 1) % 2 ^ w → rs ≡ bits_of w v → rs ≡ int_bits (length xs) (pos (bits_value xs) -ℤ pos (bits_value ys))
+difference_is w u m n t v xs ys rs e f l p q i j r =
+    let k : u ≡ w = same_width w u m n xs ys e f l in
+    let a : t ≡ 2 ^ w - 1 - n = i ∙ ap (λ (s : ℕ). 2 ^ s - 1 - n) k in
+    let d : v ≡ floor_mod (pos m -ℤ pos n) (2 ^ w) =
+    j ∙ ap (λ (s : ℕ). (m + s + 1) % 2 ^ w) a
+    ∙ sym (below_power m n (2 ^ w) (subst (λ (s : ℕ). n < 2 ^ s) k q)) in
+    r ∙ ap (bits_of w) d
+    ∙ ap (λ (s : ℕ). int_bits w (pos s -ℤ pos n)) (sym (value_shown w m xs e p))
+    ∙ ap (λ (s : ℕ). int_bits w (pos (bits_value xs) -ℤ pos s)) (sym (value_shown u n ys f q))
+    ∙ ap (λ (s : ℕ). int_bits s (pos (bits_value xs) -ℤ pos (bits_value ys))) (width_is w m xs e)
+
+turned_value : (bs : List Bool) → bits_value (map not bs) + bits_value bs + 1 ≡ 2 ^ length bs
+unfolding bits_value
+turned_value [] = refl
+turned_value (true ∷ bs) = omega (arith, turned_value bs, twice (length bs))
+turned_value (false ∷ bs) = omega (arith, turned_value bs, twice (length bs))
+
+pub negative_value : (bs rs : List Bool) → top_bit bs ≡ true → rs ≡ map not bs → signed_value bs ≡ negsuc (bits_value rs)
+negative_value bs rs h e =
+    let f : bits_value rs ≡ bits_value (map not bs) = ap bits_value e in
+    let g : pos (bits_value bs) -ℤ pos (2 ^ length bs) ≡ negsuc (bits_value rs) = omega (arith, ints, turned_value bs) in
+    rw h g
+
+pub positive_value : (bs : List Bool) → top_bit bs ≡ false → signed_value bs ≡ pos (bits_value bs)
+positive_value bs h = rw h refl
+
+pub ruleset signed_facts = (negative_value, positive_value)

@@ -1,0 +1,5 @@
+pub mod Constraint
+pub mod Arithmetic
+pub mod Operation
+pub mod Operator
+pub mod Ranges

@@ -1,0 +1,116 @@
+// Whether one constraint is below another.
+
+ghost use Rattle.std.specs.Prelude.{◌≡◌, ◌≢◌, ◌↔◌, ◌⊎◌, ℤ, pos, ◌≤ℤ◌, List, [], IsTrue, MatchOption};
+ghost use Rattle.asl_cons.specs.Constraint.{HasEnd, IsFixed, Holds, InFixed, IsAbove, Held, IsCovered, AllCovered};
+
+use crate::ends::number_of;
+use crate::parts::range_of;
+use crate::{End, Part};
+
+// Whether `e` is `f` and one number of at least 0, for all integers at the atoms.
+fn above(e: &End, f: &End) -> bool
+    ensures { IsTrue result ↔ IsAbove e.now f.now }
+{
+    match number_of(e) {
+        Some(x) => match number_of(f) {
+            Some(y) => x >= y,
+            None => false,
+        },
+        None => match number_of(f) {
+            Some(_) => false,
+            None => wider(e, f),
+        },
+    }
+}
+
+// The same for two ends with atoms.
+fn wider(e: &End, f: &End) -> bool
+    requires left { (c : ℤ) → HasEnd e.now c → ⊥ }
+    requires right { (c : ℤ) → HasEnd f.now c → ⊥ }
+    ensures { IsTrue result ↔ IsAbove e.now f.now }
+{
+    match e {
+        End::Int(_) => false,
+        End::Width(p) => match f {
+            End::Int(_) => false,
+            End::Width(q) => match p.offset(q) {
+                Some(c) => c >= 0,
+                None => false,
+            },
+        },
+    }
+}
+
+// Whether one of `qs` holds the part by constant distances.
+fn held(p: &Part, qs: &[Part]) -> bool
+    ensures { IsTrue result ↔ Held p.now qs.now }
+{
+    for q in qs {
+        if above(&p.low, &q.low) && above(&q.high, &p.high) {
+            return true;
+        }
+    }
+    false
+}
+
+// Where the part is constant and holds `i`, its end.
+fn end_from(q: &Part, i: i128) -> Option<i128>
+    ensures { MatchOption result (Holds q.now i → ⊥) (λ h. (i ≤ℤ h) × ((j : ℤ) → i ≤ℤ j → j ≤ℤ h → Holds q.now j)) }
+{
+    match range_of(q) {
+        None => None,
+        Some((l, h)) => { if l <= i && i <= h { Some(h) } else { None } }
+    }
+}
+
+// Up to where constant parts hold all integers from `i` on.
+fn reach(i: i128, qs: &[Part]) -> Option<i128>
+    ensures { MatchOption result (InFixed i qs.now → ⊥) (λ r. (i ≤ℤ r) × ((j : ℤ) → i ≤ℤ j → j ≤ℤ r → InFixed j qs.now)) }
+{
+    for q in qs {
+        if let Some(h) = end_from(q, i) {
+            return Some(h);
+        }
+    }
+    None
+}
+
+// Whether constant parts hold all integers from `l` to `h`. The integers are passed part by part, not one by one.
+fn covers(l: i128, h: i128, qs: &[Part]) -> bool
+    ensures { IsTrue result ↔ ((i : ℤ) → l ≤ℤ i → i ≤ℤ h → InFixed i qs.now) }
+{
+    let mut i = l;
+    while i <= h {
+        match reach(i, qs) {
+            None => return false,
+            Some(r) => {
+                if h <= r {
+                    return true;
+                }
+                i = r + 1;
+            }
+        }
+    }
+    true
+}
+
+// Whether the part is covered by `qs`.
+fn covered(p: &Part, qs: &[Part]) -> bool
+    ensures { IsTrue result ↔ IsCovered qs.now p.now }
+{
+    match range_of(p) {
+        Some((l, h)) => covers(l, h, qs),
+        None => held(p, qs),
+    }
+}
+
+pub(crate) fn all_covered(ps: &[Part], qs: &[Part]) -> bool
+    ensures { IsTrue result ↔ AllCovered ps.now qs.now }
+{
+    for p in ps {
+        if !covered(p, qs) {
+            return false;
+        }
+    }
+    true
+}

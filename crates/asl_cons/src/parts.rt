@@ -1,0 +1,154 @@
+// What the operators make of two parts, where it is one part.
+
+ghost use Rattle.std.specs.Prelude.{◌≡◌, ◌<◌, ℤ, pos, ◌*ℤ◌, IfOk, MatchOption};
+ghost use Rattle.asl_num.specs.Exact.{floor_div};
+ghost use Rattle.asl_cons.specs.declared.End.TheVariants.{Int};
+ghost use Rattle.asl_cons.specs.Constraint.{IsFixed};
+ghost use Rattle.asl_cons.specs.Arithmetic.{part, range_of, point_in, sum_part, difference_part, product_range, scaled_part, product_part, modulo_part, quotient_part, shifted_up_part, shifted_down_part};
+
+use crate::ends::{Operation, combined, copy_end, number_of};
+use crate::integers::{least, most, product, quotient, shifted_up};
+use crate::{End, Part};
+use std::alloc::{AllocError, Global};
+
+// The ends of a constant part.
+pub(crate) fn range_of(p: &Part) -> Option<(i128, i128)>
+    ensures number { result ≡ range_of p.now }
+    ensures value { MatchOption result ((l h : ℤ) → IsFixed p.now l h → ⊥) (λ r. IsFixed p.now r.0 r.1) }
+{
+    let low = number_of(&p.low)?;
+    let high = number_of(&p.high)?;
+    Some((low, high))
+}
+
+pub(crate) fn copy_part(alloc: Global, p: &Part) -> Result<Part, AllocError>
+    ensures { IfOk result (λ r. r ≡ p.now) }
+{
+    let low = copy_end(alloc, &p.low)?;
+    let high = copy_end(alloc, &p.high)?;
+    Ok(Part { low, high })
+}
+
+// The one integer of a range, where it is `least` or more.
+fn point_in(least: u32, r: (i128, i128)) -> Option<i128>
+    ensures { result ≡ point_in least r.0 r.1 }
+{
+    if r.0 == r.1 && least as i128 <= r.0 {
+        Some(r.0)
+    } else {
+        None
+    }
+}
+
+fn integers(low: i128, high: i128) -> Part
+    ensures { result ≡ part (Int low) (Int high) }
+{
+    Part {
+        low: End::Int(low),
+        high: End::Int(high),
+    }
+}
+
+pub(crate) fn sum_part(alloc: Global, p: &Part, q: &Part) -> Result<Option<Part>, AllocError>
+    ensures { IfOk result (λ r. r ≡ sum_part p.now q.now) }
+{
+    let Some(low) = combined(alloc, Operation::Sum, &p.low, &q.low)? else {
+        return Ok(None);
+    };
+    let Some(high) = combined(alloc, Operation::Sum, &p.high, &q.high)? else {
+        return Ok(None);
+    };
+    Ok(Some(Part { low, high }))
+}
+
+pub(crate) fn difference_part(alloc: Global, p: &Part, q: &Part) -> Result<Option<Part>, AllocError>
+    ensures { IfOk result (λ r. r ≡ difference_part p.now q.now) }
+{
+    let Some(low) = combined(alloc, Operation::Difference, &p.low, &q.high)? else {
+        return Ok(None);
+    };
+    let Some(high) = combined(alloc, Operation::Difference, &p.high, &q.low)? else {
+        return Ok(None);
+    };
+    Ok(Some(Part { low, high }))
+}
+
+// From the least to the greatest of the four products of the ends.
+fn product_range(r: (i128, i128), s: (i128, i128)) -> Option<Part>
+    ensures { result ≡ product_range r s }
+{
+    let a = product(r.0, s.0)?;
+    let b = product(r.0, s.1)?;
+    let c = product(r.1, s.0)?;
+    let d = product(r.1, s.1)?;
+    Some(integers(least(a, b, c, d), most(a, b, c, d)))
+}
+
+// The integer of `c..c`, at least 0, times the ends of `q`.
+fn scaled_part(alloc: Global, r: (i128, i128), q: &Part) -> Result<Option<Part>, AllocError>
+    ensures { IfOk result (λ p. p ≡ scaled_part r q.now) }
+{
+    let Some(c) = point_in(0, r) else {
+        return Ok(None);
+    };
+    let factor = End::Int(c);
+    let Some(low) = combined(alloc, Operation::Product, &factor, &q.low)? else {
+        return Ok(None);
+    };
+    let Some(high) = combined(alloc, Operation::Product, &factor, &q.high)? else {
+        return Ok(None);
+    };
+    Ok(Some(Part { low, high }))
+}
+
+pub(crate) fn product_part(alloc: Global, p: &Part, q: &Part) -> Result<Option<Part>, AllocError>
+    ensures { IfOk result (λ r. r ≡ product_part p.now q.now) }
+{
+    match range_of(p) {
+        Some(r) => match range_of(q) {
+            Some(s) => Ok(product_range(r, s)),
+            None => scaled_part(alloc, r, q),
+        },
+        None => match range_of(q) {
+            Some(s) => scaled_part(alloc, s, p),
+            None => Ok(None),
+        },
+    }
+}
+
+pub(crate) fn modulo_part(q: &Part) -> Option<Part>
+    ensures { result ≡ modulo_part q.now }
+{
+    let m = point_in(1, range_of(q)?)?;
+    Some(integers(0, m - 1))
+}
+
+pub(crate) fn quotient_part(p: &Part, q: &Part) -> Option<Part>
+    ensures { result ≡ quotient_part p.now q.now }
+{
+    let (l, h) = range_of(p)?;
+    let m = point_in(1, range_of(q)?)?;
+    let low = quotient(l, m)?;
+    let high = quotient(h, m)?;
+    Some(integers(low, high))
+}
+
+pub(crate) fn shifted_up_part(p: &Part, q: &Part) -> Option<Part>
+    ensures { result ≡ shifted_up_part p.now q.now }
+{
+    let (l, h) = range_of(p)?;
+    let k = point_in(0, range_of(q)?)?;
+    let low = shifted_up(l, k)?;
+    let high = shifted_up(h, k)?;
+    Some(integers(low, high))
+}
+
+pub(crate) fn shifted_down_part(p: &Part, q: &Part) -> Option<Part>
+    ensures { result ≡ shifted_down_part p.now q.now }
+{
+    let (l, h) = range_of(p)?;
+    let k = point_in(0, range_of(q)?)?;
+    let low = asl_num::shr(l, k).ok()?;
+    let high = asl_num::shr(h, k).ok()?;
+    Some(integers(low, high))
+}

@@ -1,0 +1,6 @@
+use Rattle.std.proofs.Common.{◌≡◌, ◌<◌, ◌^◌, take}
+use Rattle.asl_grammar.specs.lexemes.Bytes.{value_of}
+use Rattle.asl_lex.proofs.number.decimal_value.Given as goal
+
+abbrev pub invariant-loop-b : goal.invariant-loop-b
+invariant-loop-b l = (l.value ≡ value_of 10 (take l.b-index l.text)) × (l.value < 2 ^ 127)

@@ -1,0 +1,10 @@
+use Rattle.std.proofs.Common.{◌+◌, arith}
+use Rattle.std.proofs.lemmas.Grind.{common_steps}
+use Rattle.asl_grammar.proofs.lexemes.Values.{value_front, value_next}
+use Rattle.asl_lex.proofs.number.hex_value.Goals as goal
+
+pub returns-then-value-digit : goal.returns-then-value-digit
+returns-then-value-digit c =
+    let front = value_front 16 (omega arith) c.args.text.now (c.loop-b.b-index + 1) in
+    let next = value_next 16 c.args.text.now c.loop-b.b-index (omega arith) in
+    grind (arith, common_steps)

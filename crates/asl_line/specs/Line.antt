@@ -1,0 +1,73 @@
+-- What the words of the command line ask for, by the matches that clap states.
+use Rattle.std.specs.Prelude.{ℕ, Bool, true, ◌&&◌, ◌^◌, ◌-◌, pos, List, [], ◌∷◌, length, nat_lt, nat_le, Option, Some, None, codes, if◌then◌else◌, unwrap_or, option_and_then}
+use Rattle.std.specs.List.{list_all}
+use Rattle.std.specs.Char.{digit_value}
+use Rattle.std.specs.Str.{bytes_eq}
+use Rattle.std.specs.Str.Parse.{digits_value, without_leading_plus}
+use Rattle.clap.specs.Words.{App, Row, Rule, Text, all_of, fault_of, new_app, new_rule, subcommand_of, with_rule, with_subcommand, Kinds}
+use Rattle.clap.specs.Walk.{one_of}
+use Rattle.clap.specs.declared.builder.ValueParser.TheVariants as vp
+use Rattle.clap.specs.declared.builder.ArgAction.TheVariants.{Set}
+use Rattle.asl_syn.specs.Command.{Command, usage, check, run}
+
+-- the names of the files, at least one
+abbrev pub files_rule : Rule
+files_rule = record (new_rule (codes "file")) { required = true; range = Some (record { start_inclusive = 1; end_inclusive = 2 ^ 64 - 1 }) }
+
+-- the steps of a run, 1 to 1,000,000,000
+abbrev pub steps_rule : Rule
+steps_rule = record (new_rule (codes "steps")) { long = Some (codes "steps"); action = Some Set; parser = Some (vp.Signed (pos 1) (pos 1000000000)) }
+
+-- the commands
+abbrev pub check_app : App
+check_app = with_rule (new_app (codes "check")) files_rule
+
+abbrev pub run_app : App
+run_app = with_rule (with_rule (new_app (codes "run")) steps_rule) files_rule
+
+abbrev pub bare_app : App
+bare_app = record (new_app (codes "asl")) { top = record (new_app (codes "asl")).top { subcommand_required = true; disable_help_subcommand = true } }
+
+abbrev pub asl_app : App
+asl_app = with_subcommand (with_subcommand bare_app check_app.top) run_app.top
+
+-- the text is the numeral of a number below 2^32, where a plus may stand first
+abbrev pub is_number : Text → Bool
+is_number t = let ds = without_leading_plus t in
+    nat_lt 0 (length ds) && (list_all (λ d. nat_lt (digit_value d) 10) ds && nat_lt (digits_value 10 ds) 4294967296)
+
+-- the number that a text is the numeral of
+abbrev pub number_in : Text → Option ℕ
+number_in t = if is_number t then Some (digits_value 10 (without_leading_plus t)) else None
+
+-- a number within these bounds, or another
+abbrev pub within_or : Option ℕ → ℕ → ℕ → ℕ → ℕ
+within_or None low high other = other
+within_or (Some n) low high other = if nat_le low n && nat_le n high then n else other
+
+-- the number that a text is the numeral of, within these bounds, or another
+abbrev pub number_or : Option Text → ℕ → ℕ → ℕ → ℕ
+number_or t = within_or (option_and_then number_in t)
+
+-- the steps that were given, or 1,000,000
+abbrev pub steps_in : List Row → ℕ
+steps_in rows = number_or (one_of (codes "steps") rows) 1 1000000000 1000000
+
+-- the names that were given
+abbrev pub files_in : List Row → List Text
+files_in rows = unwrap_or (all_of (codes "file") rows) []
+
+-- the command of a subcommand and its rows
+abbrev pub command_from : Option (Text × List Row) → Command
+command_from None = usage
+command_from (Some (name, rows)) =
+    if bytes_eq name (codes "check") then check (files_in rows)
+    else run (steps_in rows) (files_in rows)
+
+abbrev pub command_unless : Kinds → Option (Text × List Row) → Command
+command_unless [] found = command_from found
+command_unless (k ∷ ks) found = usage
+
+-- usage where clap refuses the words for another cause than memory, and else the command by its matches
+unfoldable pub line_of : List Text → Command
+line_of words = command_unless (fault_of asl_app words) (subcommand_of asl_app words)

@@ -1,0 +1,108 @@
+//! What the words of the command line ask for.
+ghost use Rattle.std.specs.Prelude.{◌≡◌, IfOk, Some, map, option_and_then, string_bytes};
+ghost use Rattle.clap.specs.Words.{found_of, rows_of, subcommand_rows_of};
+ghost use Rattle.clap.specs.Walk.{one_of};
+ghost use Rattle.asl_line.specs.Line.{line_of, command_from, number_or, number_in, within_or, files_in};
+ghost use Rattle.asl_line.specs.Model.{meaning_of};
+
+use crate::commands::asl_command;
+use clap::ArgMatches;
+use clap::error::ErrorKind;
+use std::alloc::{AllocError, Global};
+
+/// A command with its options and the names of its files.
+#[derive(Debug, Drop)]
+pub enum Line {
+    /// The words are no command.
+    Usage,
+    /// Reads and checks the files.
+    Check { files: Vec<String> },
+    /// Reads and checks the files, and runs them with so many steps, 1 to 1,000,000,000.
+    Run { steps: u32, files: Vec<String> },
+}
+
+/// The number that was given.
+fn number_read(matches: &ArgMatches<'_>, id: &str) -> Option<u32>
+    ensures { result ≡ option_and_then number_in (one_of id.now (rows_of (found_of matches.now))) }
+{
+    matches.get_one::<u32>(id)
+}
+
+/// A number within these bounds, or another.
+fn within(number: Option<u32>, low: u32, high: u32, other: u32) -> u32
+    ensures { result ≡ within_or number low high other }
+{
+    match number {
+        Some(n) if low <= n && n <= high => n,
+        _ => other,
+    }
+}
+
+/// The number that was given within these bounds, or another.
+fn number_given(matches: &ArgMatches<'_>, id: &str, low: u32, high: u32, other: u32) -> u32
+    ensures { result ≡ number_or (one_of id.now (rows_of (found_of matches.now))) low high other }
+{
+    within(number_read(matches, id), low, high, other)
+}
+
+/// The names of the files.
+fn files_given(alloc: Global, matches: &ArgMatches<'_>) -> Result<Vec<String>, AllocError>
+    ensures { IfOk result (λ files. map string_bytes files.items ≡ files_in (rows_of (found_of matches.now))) }
+{
+    match matches.get_strs("file") {
+        Some(names) => copied(alloc, names),
+        None => Ok(Vec::new(alloc)),
+    }
+}
+
+/// The same texts, owned.
+fn copied(alloc: Global, names: &[&str]) -> Result<Vec<String>, AllocError>
+    ensures { IfOk result (λ files. map string_bytes files.items ≡ map (λ name. name.now) names.now) }
+{
+    let mut files = Vec::new(alloc);
+    for name in names {
+        files.push(String::from_str(alloc, name)?)?;
+    }
+    Ok(files)
+}
+
+/// The command of this name, with its matches.
+fn line_named(alloc: Global, name: &str, given: &ArgMatches<'_>) -> Result<Line, AllocError>
+    ensures { IfOk result (λ line. meaning_of line ≡ command_from (Some (name.now, rows_of (found_of given.now)))) }
+{
+    if name == "check" {
+        let files = files_given(alloc, given)?;
+        Ok(Line::Check { files })
+    } else {
+        let steps = number_given(given, "steps", 1, 1_000_000_000, 1_000_000);
+        let files = files_given(alloc, given)?;
+        Ok(Line::Run { steps, files })
+    }
+}
+
+/// The command that the matches name.
+fn line_from(alloc: Global, matches: &ArgMatches<'_>) -> Result<Line, AllocError>
+    ensures { IfOk result (λ line. meaning_of line ≡ command_from (subcommand_rows_of matches.now)) }
+{
+    match matches.subcommand() {
+        Some((name, given)) => line_named(alloc, name, given),
+        None => Ok(Line::Usage),
+    }
+}
+
+/// What the words of the command line ask for, the name of the program first: usage where clap refuses
+/// them for another cause than memory.
+pub fn parse(alloc: Global, words: &[String]) -> Result<Line, AllocError>
+    ensures { IfOk result (λ line. meaning_of line ≡ line_of (map string_bytes words.now)) }
+{
+    let command = asl_command(alloc)?;
+    match command.try_get_matches_from(words) {
+        Ok(matches) => line_from(alloc, &matches),
+        Err(error) => {
+            if error.kind() == ErrorKind::OutOfMemory {
+                return Err(AllocError);
+            }
+            Ok(Line::Usage)
+        }
+    }
+}

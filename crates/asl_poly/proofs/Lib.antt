@@ -1,0 +1,13 @@
+pub mod Ring
+pub mod Order
+pub mod Law
+pub mod Places
+pub mod Sums
+pub mod Values
+pub mod Forms
+pub mod Atoms
+pub mod Steps
+pub mod Maps
+pub mod Count
+pub mod Offset
+pub mod Standing

@@ -1,0 +1,5 @@
+pub mod Terms
+pub mod Limits
+pub mod Operations
+pub mod Substitute
+pub mod Poly

@@ -1,0 +1,55 @@
+use Rattle.std.specs.Prelude.{ℕ, ◌+◌, ◌*◌, ◌==◌, if◌then◌else◌, ℤ, List, [], ◌∷◌, max, unsigned_abs}
+use Rattle.asl_poly.specs.Terms.{Summand, Polynomial, value}
+use Rattle.asl_poly.specs.Limits.{IsMap, weight, degree, note_terms}
+use Rattle.asl_poly.specs.Operations.{atom_terms, constant_term, gather, product_terms}
+
+-- what stands for the atom: the first polynomial given for it, else the atom itself
+abbrev pub map_at : List (ℕ × Polynomial) → ℕ → List Summand
+map_at [] x = atom_terms x
+map_at (e ∷ by) x = if x == e.0 then e.1.terms else map_at by x
+
+abbrev pub AllMaps : List (ℕ × Polynomial) → Type 0
+AllMaps [] = Unit {0}
+AllMaps (e ∷ by) = IsMap e.1.terms × AllMaps by
+
+-- ---- the limits: each atom of a term counts as what stands for it
+
+abbrev pub factors_weight : List (ℕ × Polynomial) → List ℕ → ℕ
+factors_weight by [] = 1
+factors_weight by (x ∷ xs) = weight (map_at by x) * factors_weight by xs
+
+abbrev pub replaced_weight : List (ℕ × Polynomial) → List Summand → ℕ
+replaced_weight by [] = 0
+replaced_weight by (t ∷ ts) = unsigned_abs t.coefficient * factors_weight by t.factors + replaced_weight by ts
+
+abbrev pub factors_degree : List (ℕ × Polynomial) → List ℕ → ℕ
+factors_degree by [] = 0
+factors_degree by (x ∷ xs) = degree (map_at by x) + factors_degree by xs
+
+abbrev pub replaced_degree : List (ℕ × Polynomial) → List Summand → ℕ
+replaced_degree by [] = 0
+replaced_degree by (t ∷ ts) = max (factors_degree by t.factors) (replaced_degree by ts)
+
+abbrev pub note_maps : List (ℕ × Polynomial) → List ℕ → List ℕ → List ℕ
+note_maps by seen [] = seen
+note_maps by seen (x ∷ xs) = note_maps by (note_terms seen (map_at by x)) xs
+
+-- the atoms of all that stands for the atoms of the terms, each once, after those of `seen`
+abbrev pub note_replaced : List (ℕ × Polynomial) → List ℕ → List Summand → List ℕ
+note_replaced by seen [] = seen
+note_replaced by seen (t ∷ ts) = note_replaced by (note_maps by seen t.factors) ts
+
+-- ---- the result
+
+abbrev pub times_maps : List (ℕ × Polynomial) → List Summand → List ℕ → List Summand
+times_maps by product [] = product
+times_maps by product (x ∷ xs) = times_maps by (product_terms product (map_at by x)) xs
+
+-- the terms `sum` with each of these added, its atoms replaced
+abbrev pub replaced : List (ℕ × Polynomial) → List Summand → List Summand → List Summand
+replaced by sum [] = sum
+replaced by sum (t ∷ ts) = replaced by (gather sum (times_maps by (constant_term t.coefficient ∷ []) t.factors)) ts
+
+-- the integer that stands for the atom x, where `a` gives an integer to each atom
+abbrev pub replaced_at : (ℕ → ℤ) → List (ℕ × Polynomial) → ℕ → ℤ
+replaced_at a by x = value a (map_at by x)

@@ -1,0 +1,247 @@
+// Polynomials in the place of atoms.
+//
+// The weight is found first, since the products may pass every machine word although the answer is within the limits:
+// a factor of weight 0 makes its term vanish. So weights stop at a cap above the limit.
+
+ghost use Rattle.std.specs.Prelude.{◌≡◌, ◌≤◌, ◌<◌, ◌+◌, ◌*◌, ◌^◌, ◌↔◌, [], ◌∷◌, IsTrue, IfOk, min, unsigned_abs, length};
+ghost use Rattle.asl_poly.specs.Terms.{of_terms};
+ghost use Rattle.asl_poly.specs.Limits.{IsMap, weight, degree};
+ghost use Rattle.asl_poly.specs.Operations.{constant_term, gather, product_terms};
+ghost use Rattle.asl_poly.specs.Substitute.{map_at, AllMaps, factors_weight, replaced_weight, factors_degree, replaced_degree, note_maps, note_replaced, times_maps, replaced};
+ghost use Rattle.asl_poly.specs.Poly.{SubstituteFits};
+
+use crate::Atom;
+use crate::limits::{HEAVIEST, HIGHEST, MOST_ATOMS, degree, note_terms, weight};
+use crate::poly::Poly;
+use crate::term::{Term, atom_term, constant_term};
+use crate::terms::{add_scaled, copied, multiplied, single};
+use std::alloc::{AllocError, Global};
+
+// Above the limit of weights, and small enough for the product of two.
+const CAP: u128 = 1 << 63;
+
+// Each polynomial is within the limits.
+pub(crate) fn all_maps(by: &[(Atom, Poly)])
+    ensures { AllMaps by.now }
+{
+    for e in by {
+        let p = &e.1;
+        let _terms = &p.terms;
+    }
+}
+
+// What stands for the atom.
+fn map_at(alloc: Global, by: &[(Atom, Poly)], x: Atom) -> Result<Vec<Term>, AllocError>
+    ensures { IfOk result (λ v. v.items ≡ map_at by.now x) }
+{
+    for e in by {
+        let y = &e.0;
+        if x.0 == y.0 {
+            let p = &e.1;
+            return copied(alloc, p.terms.as_slice());
+        }
+    }
+    single(alloc, atom_term(alloc, x)?)
+}
+
+// The product of the weights that stand for the atoms, or CAP where it is more.
+fn factors_weight(alloc: Global, by: &[(Atom, Poly)], xs: &[Atom]) -> Result<u128, AllocError>
+    requires { AllMaps by.now }
+    ensures { IfOk result (λ n. n ≡ min (2 ^ 63) (factors_weight by.now xs.now)) }
+{
+    let mut product = 1u128;
+    for x in xs {
+        let q = map_at(alloc, by, *x)?;
+        product = capped_product(product, weight_of_map(&q));
+    }
+    Ok(product)
+}
+
+fn capped_product(a: u128, b: u128) -> u128
+    requires left { a ≤ 2 ^ 63 }
+    requires right { b ≤ 2 ^ 63 }
+    ensures { result ≡ min (2 ^ 63) (a * b) }
+{
+    (a * b).min(CAP)
+}
+
+fn capped_sum(a: u128, b: u128) -> u128
+    requires left { a ≤ 2 ^ 63 }
+    requires right { b ≤ 2 ^ 63 }
+    ensures { result ≡ min (2 ^ 63) (a + b) }
+{
+    (a + b).min(CAP)
+}
+
+fn weight_of_map(q: &[Term]) -> u128
+    requires { IsMap q.now }
+    ensures is { result ≡ weight q.now }
+    ensures light { result ≤ 2 ^ 62 }
+{
+    weight(q)
+}
+
+// The weight of the result before terms cancel, or CAP where it is more.
+fn replaced_weight(alloc: Global, by: &[(Atom, Poly)], p: &[Term]) -> Result<u128, AllocError>
+    requires maps { AllMaps by.now }
+    requires light { weight p.now ≤ 2 ^ 62 }
+    ensures { IfOk result (λ n. n ≡ min (2 ^ 63) (replaced_weight by.now p.now)) }
+{
+    let mut sum = 0u128;
+    for t in p {
+        let product = factors_weight(alloc, by, t.atoms())?;
+        let c = t.coefficient().unsigned_abs();
+        sum = capped_sum(sum, capped_product(c, product));
+    }
+    Ok(sum)
+}
+
+// The sum of the degrees that stand for the atoms.
+fn factors_degree(alloc: Global, by: &[(Atom, Poly)], xs: &[Atom]) -> Result<usize, AllocError>
+    requires maps { AllMaps by.now }
+    requires short { length xs.now ≤ 4 }
+    ensures { IfOk result (λ n. n ≡ factors_degree by.now xs.now) }
+{
+    let mut sum = 0usize;
+    for x in xs {
+        let q = map_at(alloc, by, *x)?;
+        sum += low_degree(&q);
+    }
+    Ok(sum)
+}
+
+fn low_degree(q: &[Term]) -> usize
+    requires { IsMap q.now }
+    ensures is { result ≡ degree q.now }
+    ensures low { result ≤ 4 }
+{
+    degree(q)
+}
+
+// Notes the atoms of what stands for these atoms.
+fn note_maps(
+    alloc: Global,
+    by: &[(Atom, Poly)],
+    seen: &mut Vec<Atom>,
+    xs: &[Atom],
+) -> Result<(), AllocError>
+    ensures { IfOk result (λ _. seen.new.items ≡ note_maps by.now seen.old.items xs.now) }
+{
+    for x in xs {
+        let q = map_at(alloc, by, *x)?;
+        note_terms(seen, &q)?;
+    }
+    Ok(())
+}
+
+fn note_replaced(
+    alloc: Global,
+    by: &[(Atom, Poly)],
+    seen: &mut Vec<Atom>,
+    p: &[Term],
+) -> Result<(), AllocError>
+    ensures { IfOk result (λ _. seen.new.items ≡ note_replaced by.now seen.old.items p.now) }
+{
+    for t in p {
+        note_maps(alloc, by, seen, t.atoms())?;
+    }
+    Ok(())
+}
+
+// The degree of the result before terms cancel.
+fn replaced_degree(alloc: Global, by: &[(Atom, Poly)], p: &[Term]) -> Result<usize, AllocError>
+    requires maps { AllMaps by.now }
+    requires low { degree p.now ≤ 4 }
+    ensures { IfOk result (λ n. n ≡ replaced_degree by.now p.now) }
+{
+    let mut most = 0usize;
+    for t in p {
+        let n = factors_degree(alloc, by, t.atoms())?;
+        most = most.max(n);
+    }
+    Ok(most)
+}
+
+// `c` times what stands for the atoms.
+fn times_maps(
+    alloc: Global,
+    by: &[(Atom, Poly)],
+    c: i128,
+    xs: &[Atom],
+) -> Result<Vec<Term>, AllocError>
+    requires maps { AllMaps by.now }
+    requires counts { 0 < factors_weight by.now xs.now }
+    requires light { unsigned_abs c * factors_weight by.now xs.now ≤ 2 ^ 62 }
+    ensures { IfOk result (λ v. v.items ≡ times_maps by.now (constant_term c ∷ []) xs.now) }
+{
+    let mut terms = single(alloc, constant_term(alloc, c))?;
+    for x in xs {
+        let q = map_at(alloc, by, *x)?;
+        terms = times_map(alloc, &terms, &q)?;
+    }
+    Ok(terms)
+}
+
+fn times_map(alloc: Global, p: &[Term], q: &[Term]) -> Result<Vec<Term>, AllocError>
+    requires left { weight p.now ≤ 2 ^ 62 }
+    requires map { IsMap q.now }
+    requires light { weight p.now * weight q.now ≤ 2 ^ 62 }
+    ensures { IfOk result (λ v. v.items ≡ product_terms p.now q.now) }
+{
+    multiplied(alloc, p, q)
+}
+
+fn add_replaced(
+    alloc: Global,
+    by: &[(Atom, Poly)],
+    terms: &mut Vec<Term>,
+    t: &Term,
+) -> Result<(), AllocError>
+    requires maps { AllMaps by.now }
+    requires light { weight terms.old.items + unsigned_abs t.now.coefficient * factors_weight by.now t.now.factors ≤ 2 ^ 62 }
+    ensures { IfOk result (λ _. terms.new.items ≡ gather terms.old.items (times_maps by.now (constant_term t.now.coefficient ∷ []) t.now.factors)) }
+{
+    let w = factors_weight(alloc, by, t.atoms())?;
+    if w == 0 {
+        return Ok(());
+    }
+    let c = t.coefficient();
+    let m = times_maps(alloc, by, c, t.atoms())?;
+    let one = constant_term(alloc, 1);
+    add_scaled(alloc, terms, &one, &m)?;
+    Ok(())
+}
+
+// The terms with all their atoms replaced at once.
+pub(crate) fn replaced(
+    alloc: Global,
+    by: &[(Atom, Poly)],
+    p: &[Term],
+) -> Result<Vec<Term>, AllocError>
+    requires maps { AllMaps by.now }
+    requires light { replaced_weight by.now p.now ≤ 2 ^ 62 }
+    ensures { IfOk result (λ v. v.items ≡ replaced by.now [] p.now) }
+{
+    let mut terms = Vec::new(alloc);
+    for t in p {
+        add_replaced(alloc, by, &mut terms, t)?;
+    }
+    Ok(terms)
+}
+
+pub(crate) fn substitute_fits(
+    alloc: Global,
+    by: &[(Atom, Poly)],
+    p: &[Term],
+) -> Result<bool, AllocError>
+    requires maps { AllMaps by.now }
+    requires light { weight p.now ≤ 2 ^ 62 }
+    requires low { degree p.now ≤ 4 }
+    ensures { IfOk result (λ b. IsTrue b ↔ SubstituteFits by.now (of_terms p.now)) }
+{
+    let light = replaced_weight(alloc, by, p)? <= HEAVIEST;
+    let low = replaced_degree(alloc, by, p)? <= HIGHEST;
+    let mut seen = Vec::new(alloc);
+    note_replaced(alloc, by, &mut seen, p)?;
+    Ok(light && low && seen.len() <= MOST_ATOMS)
+}

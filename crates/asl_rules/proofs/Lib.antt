@@ -1,0 +1,11 @@
+pub mod Pieces
+pub mod Budget
+pub mod Given
+pub mod Quiet
+pub mod Calls
+pub mod Shift
+pub mod Safe
+pub mod Inversions
+pub mod Soundness
+pub mod OneOutcome
+pub mod OneReading

@@ -1,0 +1,24 @@
+-- Values that belong to types, and states all of whose values do.
+use Rattle.std.specs.Prelude.{List, [], ◌∷◌}
+use Rattle.asl_syn.specs.declared.tree.Formal.{Formal}
+use Rattle.asl_rules.specs.Types.{Ty, integer}
+use Rattle.asl_rules.specs.Values.{Value, int}
+use Rattle.asl_rules.specs.States.{Binding, Core}
+
+abbrev pub InType : Value → Ty → Type 0
+InType (int z) integer = Unit {0}
+
+abbrev pub AllBelong : List Binding → Type 0
+AllBelong [] = Unit {0}
+AllBelong (b ∷ bs) = InType b.value b.ty × AllBelong bs
+
+-- each value belongs to the type that it is stored under
+pub record Sound (c : Core) : Type 0 where
+  pub globals : AllBelong c.globals
+  pub frame : AllBelong c.frame
+
+-- arguments in the types of formals
+abbrev pub Belong : List Value → List Formal → Type 0
+Belong [] [] = Unit {0}
+Belong [] (f ∷ fs) = ⊥
+Belong (x ∷ xs) fs = ⊥

@@ -1,0 +1,10 @@
+-- Values, and how the execution of a statement ends.
+use Rattle.std.specs.Prelude.{ℤ, Option}
+
+pub data Value : Type 0 where
+  int : ℤ → Value
+
+-- a statement ends normally, or with `return`, which gives a value or none
+pub data Exit : Type 0 where
+  Normal : Exit
+  Returned : Option Value → Exit

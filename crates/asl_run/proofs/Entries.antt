@@ -1,0 +1,74 @@
+-- The entry of a well-formed program can be called without arguments.
+use Rattle.std.proofs.Common.{◌≡◌, ℕ, ◌+◌, suc, Bool, true, false, cond, ◌&&◌, List, [], ◌∷◌, Option, Some, None, Ok, refl, sym, subst, arith}
+use Rattle.std.specs.Prelude.{slice_get, codes}
+use Rattle.std.specs.Str.{bytes_eq}
+use Rattle.std.proofs.lemmas.Option.{none-some, same_Some}
+use Rattle.asl_syn.specs.declared.tree.Decl.{Decl}
+use Rattle.asl_syn.specs.declared.tree.Func.{Func}
+use Rattle.asl_rules.specs.declared.entry.Entry.{Entry}
+use Rattle.asl_rules.specs.declared.entry.Entry.TheVariants as entry
+use Rattle.asl_rules.specs.Faults.{◌>>◌}
+use Rattle.asl_rules.specs.Served.{is_empty, is_integer}
+use Rattle.asl_rules.specs.Names.{names_rule, all_declared}
+use Rattle.asl_rules.specs.Programs.{ProgramOk, verdict, funcs_of, overloads_rule, bodies_rule, entry_rule, is_main, main_from, main_of, found}
+use Rattle.asl_rules.specs.Belonging.{Belong}
+use Rattle.asl_rules.proofs.Inversions.{then_ok}
+use Rattle.asl_run.specs.Work.{IsCallable}
+
+empty_is : {A : Type 0} (xs : List A) → is_empty xs ≡ true → xs ≡ []
+empty_is [] h = refl
+empty_is (x ∷ xs) h = cc
+
+and_left : (a b : Bool) → (a && b) ≡ true → a ≡ true
+and_left true b h = refl
+and_left false b h = h
+
+and_right : (a b : Bool) → (a && b) ≡ true → b ≡ true
+and_right true b h = h
+and_right false b h = cc
+
+-- a function that a run can begin with stands at this place, counted from k
+pub record MainAt (fs : List Func) (k n : ℕ) : Type 0 where
+  pub func : Func
+  pub place : ℕ
+  pub at : n ≡ place + k
+  pub is : slice_get fs place ≡ Some func
+  pub main : is_main func ≡ true
+
+main_at : (k : ℕ) (fs : List Func) (n : ℕ) → main_from k fs ≡ Some n → MainAt fs k n
+main_at k [] n h = absurd (none-some n h)
+main_at k (f ∷ fs) n h = first_or (λ q. main_at (k + 1) fs n q) (is_main f) refl h
+  where
+    first_or : (main_from (k + 1) fs ≡ Some n → MainAt fs (k + 1) n) → (b : Bool) → is_main f ≡ b → cond b (Some k) (main_from (k + 1) fs) ≡ Some n → MainAt (f ∷ fs) k n
+    first_or later true e h = let same : k ≡ n = same_Some k n h in record { func = f; place = 0; at = omega (arith, same); is = refl; main = e }
+    first_or later false e h = let r = later h in let at : n ≡ r.place + (k + 1) = r.at in record { func = r.func; place = suc r.place; at = omega (arith, at); is = r.is; main = r.main }
+
+found_is : (o : Option ℕ) (n : ℕ) → found o ≡ Ok (Some n) → o ≡ Some n
+found_is None n h = cc
+found_is (Some m) n h = cc
+
+entry_is : (e : Entry) (ds : List Decl) (n : ℕ) → entry_rule e ds ≡ Ok (Some n) → main_of ds ≡ Some n
+entry_is entry.None ds n h = cc
+entry_is entry.Main ds n h = found_is (main_of ds) n h
+
+verdict_is : (e : Entry) (ds : List Decl) (n : ℕ) → verdict e ds ≡ Ok (Some n) → entry_rule e ds ≡ Ok (Some n)
+unfolding verdict
+verdict_is e ds n h =
+    let a = then_ok (names_rule [] (all_declared ds)) (overloads_rule [] (funcs_of ds) >> bodies_rule (funcs_of ds) >> entry_rule e ds) (Some n) h in
+    let b = then_ok (overloads_rule [] (funcs_of ds)) (bodies_rule (funcs_of ds) >> entry_rule e ds) (Some n) a.then in
+    (then_ok (bodies_rule (funcs_of ds)) (entry_rule e ds) (Some n) b.then).then
+
+pub entry_is_callable : (e : Entry) (ds : List Decl) (n : ℕ) → ProgramOk e ds (Some n) → IsCallable ds n []
+entry_is_callable e ds n ok =
+    let r = main_at 0 (funcs_of ds) n (entry_is e ds n (verdict_is e ds n ok.is)) in
+    let at : n ≡ r.place + 0 = r.at in
+    let same : r.place ≡ n = omega (arith, at) in
+    let f = r.func in
+    let rest = and_right (bytes_eq f.name.text (codes "main")) (is_empty f.params && (is_empty f.formals && is_integer f.result)) r.main in
+    let formals = and_left (is_empty f.formals) (is_integer f.result) (and_right (is_empty f.params) (is_empty f.formals && is_integer f.result) rest) in
+    record {
+      func = f;
+      is = subst (λ k. slice_get (funcs_of ds) k ≡ Some f) same r.is;
+      no_params = empty_is f.params (and_left (is_empty f.params) (is_empty f.formals && is_integer f.result) rest);
+      args_belong = subst (λ fs. Belong [] fs) (sym (empty_is f.formals formals)) tt;
+    }

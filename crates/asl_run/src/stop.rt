@@ -1,0 +1,70 @@
+//! How a statement ends, and why a run stops.
+
+use asl_io::SinkFault;
+use asl_syn::code::DynCode;
+use asl_syn::token::Span;
+use asl_value::Value;
+use std::alloc::{AllocError, AllocFailed};
+
+/// How a statement ends: normally, or with `return`, which gives a value or none.
+#[derive(Drop)]
+pub enum Exit {
+    Normal,
+    Returned(Option<Value>),
+}
+
+/// Why the rules give a node no outcome. No run of a checked program meets one.
+#[derive(Clone, Copy)]
+pub enum Mistake {
+    UnknownName,
+    EndReached,
+    UnservedForm,
+}
+
+/// Why a run stops.
+#[derive(Drop)]
+pub enum Stop {
+    /// Memory was wanting.
+    NoMemory,
+    /// The sink refused a write.
+    SinkFault,
+    /// A value was thrown.
+    Thrown(Value),
+    /// A fault of the rules, at its place.
+    Fault(DynCode, Span),
+    /// The rules give no outcome here.
+    Stuck(Mistake, Span),
+}
+
+impl From<AllocError> for Stop {
+    ghost use Rattle.std.specs.Prelude.{◌≡◌};
+    ghost use Rattle.asl_run.specs.declared.stop.Stop.TheVariants.{NoMemory};
+
+    ghost from_gives = { λ _ e. e ≡ NoMemory };
+
+    fn from(_error: AllocError) -> Stop {
+        Stop::NoMemory
+    }
+}
+
+impl<T: Drop> From<AllocFailed<T>> for Stop {
+    ghost use Rattle.std.specs.Prelude.{◌≡◌};
+    ghost use Rattle.asl_run.specs.declared.stop.Stop.TheVariants.{NoMemory};
+
+    ghost from_gives = { λ _ e. e ≡ NoMemory };
+
+    fn from(_error: AllocFailed<T>) -> Stop {
+        Stop::NoMemory
+    }
+}
+
+impl From<SinkFault> for Stop {
+    ghost use Rattle.std.specs.Prelude.{◌≡◌};
+    ghost use Rattle.asl_run.specs.declared.stop.Stop.TheVariants as stop;
+
+    ghost from_gives = { λ _ e. e ≡ stop.SinkFault };
+
+    fn from(_fault: SinkFault) -> Stop {
+        Stop::SinkFault
+    }
+}

@@ -1,0 +1,80 @@
+//! Programs that are well formed.
+ghost use Rattle.std.specs.Prelude.{◌≡◌, ℕ, Option};
+ghost use Rattle.asl_tree.specs.Accepted.{Accepted, IsWellFormed};
+
+use asl_syn::tree::Program;
+use std::marker::Model;
+
+/// The number of a subprogram in source order, from 0.
+#[derive(Clone, Copy, Debug, PartialEq, Eq)]
+pub struct SubId {
+    number: usize,
+}
+
+impl Model for SubId {
+    ghost Value = { ℕ };
+
+    ghost view = { λ s. s.number };
+
+    ghost inverse = { λ n. record { number = n } };
+}
+
+impl SubId {
+    /// The subprogram of this number.
+    pub fn new(number: usize) -> SubId
+        ensures { result ≡ number }
+    {
+        SubId { number }
+    }
+
+    /// The number, from 0.
+    pub fn number(self) -> usize
+        ensures { result ≡ self }
+    {
+        self.number
+    }
+}
+
+/// A program that is well formed with its entry. Contracts see its declarations and the number of the entry.
+#[derive(Drop)]
+pub struct Checked {
+    program: Program,
+    entry: Option<SubId>,
+}
+
+impl Model for Checked {
+    ghost use Rattle.asl_tree.specs.Accepted.{Accepted, accepted_code, IsWellFormed};
+
+    ghost Value = { Accepted };
+
+    ghost coded = { accepted_code };
+
+    ghost view = { λ c. record { decls = c.program.decls; entry = c.entry } };
+
+    ghost invariant = { λ c. IsWellFormed c.program.decls c.entry };
+}
+
+impl Checked {
+    /// Seals a program that is well formed with this entry, none where it was checked without one.
+    pub fn seal(program: Program, entry: Option<SubId>) -> Checked
+        requires { IsWellFormed program.decls entry }
+        ensures { result ≡ record { decls = program.decls; entry = entry } }
+    {
+        Checked { program, entry }
+    }
+
+    /// The subprogram that a run begins with: none exactly where the program was checked without an entry.
+    pub fn entry(&self) -> Option<SubId>
+        ensures { result ≡ self.now.entry }
+    {
+        self.entry
+    }
+
+    /// The trees of the program.
+    pub fn program(&self) -> &Program
+        ensures is { result.now.decls ≡ self.now.decls }
+        ensures well_formed { IsWellFormed self.now.decls self.now.entry }
+    {
+        &self.program
+    }
+}
