@@ -1,8 +1,8 @@
 //! The lexemes and the grammar of the language: their definitions, which contracts cite, and the laws of these.
 #![tactic(auto)]
 
-pub mod reading;
 pub mod error;
 pub mod kinds;
 pub mod parts;
+pub mod reading;
 pub mod trees;

@@ -175,7 +175,10 @@ impl<F: Fn(Global, &mut Tokens<'_>, usize, Symbol) -> Result<Value, ParseError>>
     }
 
     /// Behind `{` of a constraint.
-    pub fn nested_constraint(&self, tokens: &mut Tokens<'_>) -> Result<Items<ConstraintPart>, ParseError>
+    pub fn nested_constraint(
+        &self,
+        tokens: &mut Tokens<'_>,
+    ) -> Result<Items<ConstraintPart>, ParseError>
         requires { Nests self.now.depth (F.pre self.now.nested) (F.post self.now.nested) }
         ensures { Met (symbol self.now.depth rules.ConstraintParts (cursor_of tokens.old)) result (cursor_of tokens.new) }
     {

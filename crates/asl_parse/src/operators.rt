@@ -87,28 +87,15 @@ pub fn binary_node(
 }
 
 /// An expression with the pattern behind `IN`.
-pub fn in_node(
-    alloc: Global,
-    span: Span,
-    left: Expr,
-    pattern: Pattern,
-) -> Result<Expr, AllocError>
+pub fn in_node(alloc: Global, span: Span, left: Expr, pattern: Pattern) -> Result<Expr, AllocError>
     ensures { IfOk result (λ e. e ≡ ex.In span left pattern) }
 {
-    Ok(Expr::In(
-        span,
-        Boxed::new(alloc, left)?,
-        Boxed::new(alloc, pattern)?,
-    ))
+    Ok(Expr::In(span, Boxed::new(alloc, left)?, Boxed::new(alloc, pattern)?))
 }
 
 /// An expression with the type behind `as`.
 pub fn as_node(alloc: Global, span: Span, left: Expr, ty: TypeExpr) -> Result<Expr, AllocError>
     ensures { IfOk result (λ e. e ≡ ex.As span left ty) }
 {
-    Ok(Expr::As(
-        span,
-        Boxed::new(alloc, left)?,
-        Boxed::new(alloc, ty)?,
-    ))
+    Ok(Expr::As(span, Boxed::new(alloc, left)?, Boxed::new(alloc, ty)?))
 }

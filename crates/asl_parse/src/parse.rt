@@ -25,7 +25,6 @@ fn max_levels() -> usize
     100
 }
 
-
 /// The declarations, where no token is left.
 fn finished(tokens: &Tokens<'_>, found: Items<Decl>) -> Result<Items<Decl>, ParseError>
     ensures { without_end (finish found (cursor_of tokens.now) (cursor_of tokens.now).toks) ≡ result }

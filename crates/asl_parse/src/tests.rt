@@ -44,8 +44,16 @@ fn a_text_has_its_declarations(rt: HostRuntime) {
 #[test]
 fn a_fault_stands_where_the_text_stops(rt: HostRuntime) {
     let all = tokens();
-    assert_eq!(rt; fault(rt.alloc(), &all[..4]), Some((StaticCode::S01, 11, 0)));
+    assert_eq!(rt;
+        fault(rt.alloc(), &all[..4]),
+        Some((StaticCode::S01, 11, 0))
+    );
     assert_eq!(rt; fault(rt.alloc(), &all[1..]), Some((StaticCode::S01, 4, 1)));
-    let real = [all[0], all[1], all[2], token(TokenKind::Word(Word::Real), 7, 3)];
+    let real = [
+        all[0],
+        all[1],
+        all[2],
+        token(TokenKind::Word(Word::Real), 7, 3),
+    ];
     assert_eq!(rt; fault(rt.alloc(), &real), Some((StaticCode::S03, 7, 3)));
 }

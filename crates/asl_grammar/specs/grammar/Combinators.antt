@@ -1,7 +1,6 @@
 -- Grammars, and three meanings of one: which trees a run of tokens has, which fronts go on, and a parser.
 use Rattle.std.specs.Prelude.{◌≡◌, ℕ, zero, suc, ◌⊎◌, Bool, true, List, [], ◌∷◌, Option, Some, None}
 use mathlib.Core.Logic.{inl, inr}
-
 use Rattle.asl_grammar.specs.grammar.Kinds.{code}
 use Rattle.asl_grammar.specs.grammar.Cursor.{Lexeme, Extent, Cursor, Codes, among, past, extent}
 
