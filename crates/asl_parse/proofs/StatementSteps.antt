@@ -1,5 +1,5 @@
 -- Rules whose functions take what was read before them, or whose trees are known only where they end.
-use Rattle.std.proofs.Common.{◌≡◌, ℕ, Bool, [], ◌∷◌, None, Ok, ap, ◌∙◌}
+use Rattle.std.proofs.Common.{◌≡◌, ℕ, ◌-◌, ◌<◌, Bool, [], ◌∷◌, None, Ok, ap, ◌∙◌}
 use Rattle.asl_syn.specs.declared.tree.Ident.{Ident}
 use Rattle.asl_syn.specs.declared.tree.Stmt.TheVariants as stm
 use Rattle.asl_syn.specs.declared.tree.Binder.TheVariants as bd
@@ -9,9 +9,9 @@ use Rattle.asl_grammar.specs.grammar.Kinds.{COMMA, COLON, SEMICOLON, OPEN_BRACE,
 use Rattle.asl_grammar.specs.grammar.Cursor.{Cursor, starts, ahead, span_to}
 use Rattle.asl_grammar.specs.grammar.Reader.{bind, pick, run_tok}
 use Rattle.asl_grammar.specs.grammar.Build.{var_tail_of, place_of, name_statement_of, Typed}
-use Rattle.asl_grammar.specs.grammar.Rules.{name, names, type_expression, names_typed, typed_value, maybe_value, value, var_names, name_statement, invoked, assigned}
-use Rattle.asl_parse.specs.Code.{reading, then, ending}
-use Rattle.asl_parse.proofs.Loops.{bind_bind, bind_same}
+use Rattle.asl_grammar.specs.grammar.Rules.{IfBody, CaseBody, ForBody, WhileBody, RepeatBody, TryBody, if_body, case_body, for_body, while_body, repeat_body, try_body, name, names, type_expression, names_typed, typed_value, maybe_value, value, var_names, name_statement, invoked, assigned}
+use Rattle.asl_parse.specs.Code.{reading, symbol, then, ending}
+use Rattle.asl_parse.proofs.Loops.{bind_bind, bind_same, deeper}
 use Rattle.asl_parse.proofs.Steps.{var_names_is, var_rest_is, name_statement_is, name_statement_rest_ends}
 
 names_typed_as : (d : ℕ) (i : Ident) (st : Cursor) → bind (reading d names_typed st) (λ x end. Ok (var_tail_of i x, end))
@@ -42,3 +42,23 @@ pub name_statement_steps : (d : ℕ) (st : Cursor) → reading d name_statement 
     (bind (reading d assigned m) (λ x end. Ok (stm.Assign (span_to (ahead st.toks) end.last) (place_of i x.0) x.1, end))))
 unfolding ending
 name_statement_steps d st = name_statement_is d st ∙ bind_same (reading d name st) _ _ (λ i m. name_statement_rest_ends d (ahead st.toks) (name_statement_of i) m)
+
+-- ---- what a statement holds, a level below it
+
+pub if_body_at : (d : ℕ) (st : Cursor) → 0 < d → symbol d IfBody st ≡ reading (d - 1) if_body st
+if_body_at d st some = deeper d IfBody st some
+
+pub case_body_at : (d : ℕ) (st : Cursor) → 0 < d → symbol d CaseBody st ≡ reading (d - 1) case_body st
+case_body_at d st some = deeper d CaseBody st some
+
+pub for_body_at : (d : ℕ) (st : Cursor) → 0 < d → symbol d ForBody st ≡ reading (d - 1) for_body st
+for_body_at d st some = deeper d ForBody st some
+
+pub while_body_at : (d : ℕ) (st : Cursor) → 0 < d → symbol d WhileBody st ≡ reading (d - 1) while_body st
+while_body_at d st some = deeper d WhileBody st some
+
+pub repeat_body_at : (d : ℕ) (st : Cursor) → 0 < d → symbol d RepeatBody st ≡ reading (d - 1) repeat_body st
+repeat_body_at d st some = deeper d RepeatBody st some
+
+pub try_body_at : (d : ℕ) (st : Cursor) → 0 < d → symbol d TryBody st ≡ reading (d - 1) try_body st
+try_body_at d st some = deeper d TryBody st some

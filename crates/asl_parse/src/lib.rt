@@ -2,6 +2,7 @@
 #![tactic(auto)]
 
 mod binders;
+mod bodies;
 mod declarations;
 mod expressions;
 mod formals;

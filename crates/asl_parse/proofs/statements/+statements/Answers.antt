@@ -1,7 +1,7 @@
 use Rattle.std.proofs.Common.{rules, arith, ◌∷◌, []}
 use Rattle.std.proofs.lemmas.Grind.{common_steps}
-use Rattle.asl_grammar.specs.grammar.Kinds.{ASSERT, CASE, ELS_IF, FOR, IF, LET, MINUS, NAME, OPEN_PAREN, PASS, PRINT, PRINT_LINE, REPEAT, RETURN, THROW, TRY, UNREACHABLE, VAR, WHEN, WHILE}
-use Rattle.asl_grammar.specs.grammar.Rules.{statement, else_if, alternative, catcher}
+use Rattle.asl_grammar.specs.grammar.Kinds.{ASSERT, CASE, FOR, IF, LET, MINUS, NAME, OPEN_PAREN, PASS, PRINT, PRINT_LINE, REPEAT, RETURN, THROW, TRY, UNREACHABLE, VAR, WHILE}
+use Rattle.asl_grammar.specs.grammar.Rules.{statement}
 use Rattle.asl_parse.specs.Code.{cursor_of, reading}
 use Rattle.asl_parse.proofs.Loops.{run_items, one_more}
 use Rattle.asl_parse.proofs.statements.+statements.Goals as goal
@@ -9,19 +9,4 @@ use Rattle.asl_parse.proofs.statements.+statements.Goals as goal
 pub block-loop-turn-preserved : goal.block-loop-turn-preserved
 block-loop-turn-preserved t c =
     let e = one_more (λ n. run_items (reading c.args.depth statement) (PASS ∷ UNREACHABLE ∷ ASSERT ∷ LET ∷ VAR ∷ NAME ∷ MINUS ∷ OPEN_PAREN ∷ IF ∷ CASE ∷ FOR ∷ WHILE ∷ REPEAT ∷ RETURN ∷ THROW ∷ TRY ∷ PRINT ∷ PRINT_LINE ∷ []) n c.loop-turn.found (cursor_of c.loop-turn.tokens)) _ c.loop-turn._turn c.loop-turn-test.true c.loop-turn.invariant in
-    first_of (search rules, grind (arith, common_steps))
-
-pub else_ifs-loop-turn-preserved : goal.else_ifs-loop-turn-preserved
-else_ifs-loop-turn-preserved t c =
-    let e = one_more (λ n. run_items (reading c.args.depth else_if) (ELS_IF ∷ []) n c.loop-turn.found (cursor_of c.loop-turn.tokens)) _ c.loop-turn._turn c.loop-turn-test.true c.loop-turn.invariant in
-    first_of (search rules, grind (arith, common_steps))
-
-pub alternatives-loop-turn-preserved : goal.alternatives-loop-turn-preserved
-alternatives-loop-turn-preserved t c =
-    let e = one_more (λ n. run_items (reading c.args.depth alternative) (WHEN ∷ []) n c.loop-turn.found (cursor_of c.loop-turn.tokens)) _ c.loop-turn._turn c.loop-turn-test.true c.loop-turn.invariant in
-    first_of (search rules, grind (arith, common_steps))
-
-pub catchers-loop-turn-preserved : goal.catchers-loop-turn-preserved
-catchers-loop-turn-preserved t c =
-    let e = one_more (λ n. run_items (reading c.args.depth catcher) (WHEN ∷ []) n c.loop-turn.found (cursor_of c.loop-turn.tokens)) _ c.loop-turn._turn c.loop-turn-test.true c.loop-turn.invariant in
     first_of (search rules, grind (arith, common_steps))
