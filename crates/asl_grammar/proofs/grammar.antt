@@ -10,3 +10,4 @@ pub mod Checked
 pub mod Opening
 pub mod Stops
 pub mod Answered
+pub mod Shorter

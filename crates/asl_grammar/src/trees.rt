@@ -1,9 +1,9 @@
 //! The laws of the grammar.
 
-ghost use Rattle.std.specs.Prelude.{ℕ, Bool, List, ◌≡◌};
+ghost use Rattle.std.specs.Prelude.{ℕ, Bool, List, ◌≡◌, ◌++◌};
 ghost use Rattle.asl_grammar.specs.grammar.Cursor.{Lexeme};
 ghost use Rattle.asl_syn.specs.declared.tree.Decl.{Decl};
-ghost use Rattle.asl_grammar.specs.grammar.Language.{Opener, Tree, Answers, without_end, outcome};
+ghost use Rattle.asl_grammar.specs.grammar.Language.{Front, Opener, Tree, Answers, without_end, outcome};
 
 /// A list of tokens has at most one tree.
 pub fn one_tree()
@@ -18,4 +18,9 @@ pub fn one_token_is_enough()
 /// At most one token opens a level too many.
 pub fn one_opener()
     ensures { (levels : ℕ) (ts : List Lexeme) (m n : ℕ) (y z : Bool) → Opener levels ts m y → Opener levels ts n z → (m ≡ n) × (y ≡ z) }
+{}
+
+/// Each front of a front that goes on does too: so the longest front that goes on ends at the first token with which none does.
+pub fn fronts_of_fronts()
+    ensures { (levels : ℕ) (front more : List Lexeme) → Front levels (front ++ more) → Front levels front }
 {}
