@@ -13,3 +13,4 @@ pub mod Answered
 pub mod Placed
 pub mod OneFault
 pub mod Ends
+pub mod Shorter
