@@ -13,3 +13,5 @@ pub mod Answered
 pub mod Placed
 pub mod OneFault
 pub mod Ends
+mod Samples
+pub mod Shorter

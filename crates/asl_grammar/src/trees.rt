@@ -1,12 +1,12 @@
 //! The laws of the grammar.
 
-ghost use Rattle.std.specs.Prelude.{ℕ, ◌⊎◌, Bool, List, ◌≡◌};
+ghost use Rattle.std.specs.Prelude.{ℕ, ◌⊎◌, Bool, List, ◌≡◌, ◌++◌};
 ghost use Rattle.asl_syn.specs.declared.code.Fault.{Fault};
 ghost use Rattle.asl_syn.specs.declared.token.Token.{Token};
 ghost use Rattle.asl_grammar.specs.grammar.Faults.{Parses, SyntaxFault};
 ghost use Rattle.asl_grammar.specs.grammar.Cursor.{Lexeme};
 ghost use Rattle.asl_syn.specs.declared.tree.Decl.{Decl};
-ghost use Rattle.asl_grammar.specs.grammar.Language.{Opener, Tree, Answers, without_end, outcome};
+ghost use Rattle.asl_grammar.specs.grammar.Language.{Front, Opener, Tree, Answers, without_end, outcome};
 
 /// A list of tokens has at most one tree.
 pub fn one_tree()
@@ -28,4 +28,9 @@ pub fn one_syntax_fault()
     ensures one { (file : ℕ) (bytes : List ℕ) (tokens : List Token) (f g : Fault) → SyntaxFault file bytes tokens f → SyntaxFault file bytes tokens g → f ≡ g }
     ensures no_tree { (file : ℕ) (bytes : List ℕ) (tokens : List Token) (f : Fault) (v : List Decl) → SyntaxFault file bytes tokens f → Parses bytes tokens v → ⊥ }
     ensures some { (file : ℕ) (bytes : List ℕ) (tokens : List Token) → ((v : List Decl) × Parses bytes tokens v) ⊎ ((f : Fault) × SyntaxFault file bytes tokens f) }
+{}
+
+/// Each front of a front that goes on does too: so the longest front that goes on ends at the first token with which none does.
+pub fn fronts_of_fronts()
+    ensures { (levels : ℕ) (front more : List Lexeme) → Front levels (front ++ more) → Front levels front }
 {}

@@ -1,0 +1,2 @@
+pub mod StatementSteps
+pub mod Steps
