@@ -5,6 +5,7 @@ ghost use Rattle.std.specs.Prelude.{◌≡◌};
 ghost use Rattle.asl_grammar.specs.grammar.Build as build;
 ghost use Rattle.asl_grammar.specs.grammar.Rules as rules;
 ghost use Rattle.asl_parse_stmt.specs.Blocks.{Nests};
+ghost use Rattle.asl_parse_stmt.specs.Parts as parts;
 ghost use Rattle.asl_parse_expr.specs.Code.{cursor_of, Met, reading};
 
 use asl_grammar::error::ParseError;
@@ -68,6 +69,23 @@ fn direction(tokens: &mut Tokens<'_>, depth: usize) -> Result<Direction, ParseEr
     Ok(direction_of(code(token.kind)))
 }
 
+/// The index of a `for`, from where and which way it counts, and up to where.
+#[tactic(auto, unfolding(crate::specs::Parts::range))]
+fn range(
+    alloc: Global,
+    tokens: &mut Tokens<'_>,
+    depth: usize,
+) -> Result<(Ident, Expr, Direction, Expr), ParseError>
+    ensures { Met (parts.range depth (cursor_of tokens.old)) result (cursor_of tokens.new) }
+{
+    let index = name(alloc, tokens, depth)?;
+    tokens.take(&[ASSIGN])?;
+    let first = expression(alloc, tokens, depth)?;
+    let direction = direction(tokens, depth)?;
+    let last = expression(alloc, tokens, depth)?;
+    Ok((index, first, direction, last))
+}
+
 #[tactic(auto, using(crate::proofs::Steps::caught_type_is))]
 fn caught_type(
     alloc: Global,
@@ -108,8 +126,36 @@ impl<F: Fn(Global, &mut Tokens<'_>, usize) -> Result<Items<Stmt>, ParseError>> B
         (self.block)(self.alloc, tokens, self.depth)
     }
 
+    /// The condition, and the block behind `then`.
+    #[tactic(auto, unfolding(crate::specs::Parts::first_branch))]
+    fn first_branch(&self, tokens: &mut Tokens<'_>) -> Result<(Expr, Items<Stmt>), ParseError>
+        requires { Nests self.now.depth (F.pre self.now.block) (F.post self.now.block) }
+        ensures { Met (parts.first_branch self.now.depth (cursor_of tokens.old)) result (cursor_of tokens.new) }
+    {
+        let condition = expression(self.alloc, tokens, self.depth)?;
+        tokens.take(&[THEN])?;
+        let body = self.block(tokens)?;
+        Ok((condition, body))
+    }
+
+    /// Each `elsif`, the block behind `else`, and the end.
+    #[tactic(auto, unfolding(crate::specs::Parts::other_branches))]
+    fn other_branches(
+        &self,
+        tokens: &mut Tokens<'_>,
+    ) -> Result<(Items<ElseIf>, Items<Stmt>), ParseError>
+        requires { Nests self.now.depth (F.pre self.now.block) (F.post self.now.block) }
+        ensures { Met (parts.other_branches self.now.depth (cursor_of tokens.old)) result (cursor_of tokens.new) }
+    {
+        let else_ifs = self.else_ifs(tokens)?;
+        let else_block = self.maybe_else(tokens)?;
+        tokens.take(&[END])?;
+        tokens.take(&[SEMICOLON])?;
+        Ok((else_ifs, else_block))
+    }
+
     /// Behind `if`: the condition, the block behind `then`, each `elsif`, and the block behind `else`.
-    #[tactic(auto, using(crate::proofs::Steps::if_body_is))]
+    #[tactic(auto, using(crate::proofs::InParts::if_body_as))]
     pub fn if_body(
         &self,
         tokens: &mut Tokens<'_>,
@@ -117,13 +163,8 @@ impl<F: Fn(Global, &mut Tokens<'_>, usize) -> Result<Items<Stmt>, ParseError>> B
         requires { Nests self.now.depth (F.pre self.now.block) (F.post self.now.block) }
         ensures { Met (reading self.now.depth rules.if_body (cursor_of tokens.old)) result (cursor_of tokens.new) }
     {
-        let condition = expression(self.alloc, tokens, self.depth)?;
-        tokens.take(&[THEN])?;
-        let then_block = self.block(tokens)?;
-        let else_ifs = self.else_ifs(tokens)?;
-        let else_block = self.maybe_else(tokens)?;
-        tokens.take(&[END])?;
-        tokens.take(&[SEMICOLON])?;
+        let (condition, then_block) = self.first_branch(tokens)?;
+        let (else_ifs, else_block) = self.other_branches(tokens)?;
         Ok((condition, then_block, else_ifs, else_block))
     }
 
@@ -241,8 +282,21 @@ impl<F: Fn(Global, &mut Tokens<'_>, usize) -> Result<Items<Stmt>, ParseError>> B
         Ok(found)
     }
 
+    /// The block between `do` and `end` of a loop.
+    #[tactic(auto, unfolding(crate::specs::Parts::loop_block))]
+    fn loop_block(&self, tokens: &mut Tokens<'_>) -> Result<Items<Stmt>, ParseError>
+        requires { Nests self.now.depth (F.pre self.now.block) (F.post self.now.block) }
+        ensures { Met (parts.loop_block self.now.depth (cursor_of tokens.old)) result (cursor_of tokens.new) }
+    {
+        tokens.take(&[DO])?;
+        let body = self.block(tokens)?;
+        tokens.take(&[END])?;
+        tokens.take(&[SEMICOLON])?;
+        Ok(body)
+    }
+
     /// Behind `for`: the index, from where and which way it counts, up to where, the limit and the block.
-    #[tactic(auto, using(crate::proofs::Steps::for_body_is))]
+    #[tactic(auto, using(crate::proofs::InParts::for_body_as))]
     pub fn for_body(
         &self,
         tokens: &mut Tokens<'_>,
@@ -250,21 +304,14 @@ impl<F: Fn(Global, &mut Tokens<'_>, usize) -> Result<Items<Stmt>, ParseError>> B
         requires { Nests self.now.depth (F.pre self.now.block) (F.post self.now.block) }
         ensures { Met (reading self.now.depth rules.for_body (cursor_of tokens.old)) result (cursor_of tokens.new) }
     {
-        let name = name(self.alloc, tokens, self.depth)?;
-        tokens.take(&[ASSIGN])?;
-        let first = expression(self.alloc, tokens, self.depth)?;
-        let direction = direction(tokens, self.depth)?;
-        let last = expression(self.alloc, tokens, self.depth)?;
+        let (index, first, direction, last) = range(self.alloc, tokens, self.depth)?;
         let limit = loop_limit(self.alloc, tokens, self.depth)?;
-        tokens.take(&[DO])?;
-        let body = self.block(tokens)?;
-        tokens.take(&[END])?;
-        tokens.take(&[SEMICOLON])?;
-        Ok((name, first, direction, last, limit, body))
+        let body = self.loop_block(tokens)?;
+        Ok((index, first, direction, last, limit, body))
     }
 
     /// Behind `while`: the condition, the limit and the block.
-    #[tactic(auto, using(crate::proofs::Steps::while_body_is))]
+    #[tactic(auto, using(crate::proofs::InParts::while_body_as))]
     pub fn while_body(
         &self,
         tokens: &mut Tokens<'_>,
@@ -274,10 +321,7 @@ impl<F: Fn(Global, &mut Tokens<'_>, usize) -> Result<Items<Stmt>, ParseError>> B
     {
         let condition = expression(self.alloc, tokens, self.depth)?;
         let limit = loop_limit(self.alloc, tokens, self.depth)?;
-        tokens.take(&[DO])?;
-        let body = self.block(tokens)?;
-        tokens.take(&[END])?;
-        tokens.take(&[SEMICOLON])?;
+        let body = self.loop_block(tokens)?;
         Ok((condition, limit, body))
     }
 

@@ -4,6 +4,7 @@ ghost use Rattle.std.specs.Prelude.{◌≡◌};
 ghost use Rattle.asl_grammar.specs.grammar.Build as build;
 ghost use Rattle.asl_grammar.specs.grammar.Rules as rules;
 ghost use Rattle.asl_parse_expr.specs.Code.{cursor_of, Met, reading};
+ghost use Rattle.asl_parse_stmt.specs.Functions as functions;
 
 use crate::binders::{maybe_value, value};
 use crate::formals::{formals, maybe_params, members};
@@ -20,7 +21,8 @@ use asl_parse_expr::names::name;
 use asl_parse_expr::tokens::Tokens;
 use asl_parse_expr::types::{type_expression, typed};
 use asl_syn::tree::{
-    Decl, Expr, Func, Qualifier, StorageDecl, StorageKind, TypeDecl, TypeDef, TypeExpr,
+    Decl, Expr, Formal, Func, Ident, Param, Qualifier, Stmt, StorageDecl, StorageKind, TypeDecl,
+    TypeDef, TypeExpr,
 };
 use sqlite_items::Items;
 use std::alloc::Global;
@@ -223,23 +225,62 @@ fn qualifier(tokens: &mut Tokens<'_>, depth: usize) -> Result<Qualifier, ParseEr
     written_qualifier(tokens, depth)
 }
 
-/// A function or a procedure.
-#[tactic(auto, using(crate::proofs::Steps::function_is))]
-fn function(alloc: Global, tokens: &mut Tokens<'_>, depth: usize) -> Result<Decl, ParseError>
-    ensures { Met (reading depth rules.function (cursor_of tokens.old)) result (cursor_of tokens.new) }
+/// The qualifier and the name of a function.
+#[tactic(auto, unfolding(crate::specs::Functions::heading))]
+fn heading(
+    alloc: Global,
+    tokens: &mut Tokens<'_>,
+    depth: usize,
+) -> Result<(Qualifier, Ident), ParseError>
+    ensures { Met (functions.heading depth (cursor_of tokens.old)) result (cursor_of tokens.new) }
 {
-    let from = tokens.ahead();
     let qualifier = qualifier(tokens, depth)?;
     tokens.take(&[FUNC])?;
     let name = name(alloc, tokens, depth)?;
+    Ok((qualifier, name))
+}
+
+/// The parameters, the formals and the type of the result.
+#[tactic(auto, unfolding(crate::specs::Functions::signature))]
+fn signature(
+    alloc: Global,
+    tokens: &mut Tokens<'_>,
+    depth: usize,
+) -> Result<(Items<Param>, Items<Formal>, Option<TypeExpr>), ParseError>
+    ensures { Met (functions.signature depth (cursor_of tokens.old)) result (cursor_of tokens.new) }
+{
     let params = maybe_params(alloc, tokens, depth)?;
     let formals = formals(alloc, tokens, depth)?;
     let result = result_type(alloc, tokens, depth)?;
+    Ok((params, formals, result))
+}
+
+/// The limit of recursion, and the block between `begin` and `end`.
+#[tactic(auto, unfolding(crate::specs::Functions::body))]
+fn body(
+    alloc: Global,
+    tokens: &mut Tokens<'_>,
+    depth: usize,
+) -> Result<(Option<Expr>, Items<Stmt>), ParseError>
+    ensures { Met (functions.body depth (cursor_of tokens.old)) result (cursor_of tokens.new) }
+{
     let limit = recursion_limit(alloc, tokens, depth)?;
     tokens.take(&[BEGIN])?;
     let body = block(alloc, tokens, depth)?;
     tokens.take(&[END])?;
     tokens.take(&[SEMICOLON])?;
+    Ok((limit, body))
+}
+
+/// A function or a procedure.
+#[tactic(auto, using(crate::proofs::InFunctions::function_as))]
+fn function(alloc: Global, tokens: &mut Tokens<'_>, depth: usize) -> Result<Decl, ParseError>
+    ensures { Met (reading depth rules.function (cursor_of tokens.old)) result (cursor_of tokens.new) }
+{
+    let from = tokens.ahead();
+    let (qualifier, name) = heading(alloc, tokens, depth)?;
+    let (params, formals, result) = signature(alloc, tokens, depth)?;
+    let (limit, body) = body(alloc, tokens, depth)?;
     Ok(Decl::Func(Func {
         span: tokens.since(from),
         qualifier,
