@@ -3,7 +3,7 @@
 
 It writes, in the crate asl_grammar, the numbers of the kinds of tokens (specs/grammar/Kinds.antt, src/kinds.rt), the
 rules (specs/grammar/Rules.antt) and the proof that one token is enough to choose by (proofs/grammar/Checked.antt), and,
-in the crate asl_parse, each rule as the steps of the function that reads it (proofs/Steps.antt).
+in the crates asl_parse_expr and asl_parse_stmt, each rule as the steps of the function that reads it (proofs/Steps.antt).
 
     generate.py          writes the files
     generate.py --check  writes nothing, and fails where a file is not what it would write
@@ -295,7 +295,7 @@ def imports(body):
 
 def from_module(module, names, body):
     plain = re.sub(r'--.*', '', body)
-    u = [n for n in names if re.search(rf'(?<![\w.]){re.escape(n)}(?![\w])', plain)]
+    u = [n for n in names if ('◌' in n and f" {n.strip('◌')} " in plain) or re.search(rf'(?<![\w.]){re.escape(n)}(?![\w])', plain)]
     return f'use {module}.{{{", ".join(u)}}}\n' if u else ''
 
 
@@ -692,16 +692,30 @@ for s, (t, n, c) in SYMBOLS.items():
         right = re.sub(r'(?<![\w.])d(?![\w])', '(d - 1)', re.search(r' ≡ (.*)\nunfolding', l).group(1))
         proof = f'deeper d {s} st some ∙ {n}_is (d - 1) st'
     lemmas.append(f'pub {s}_at : (d : ℕ) (st : Cursor) → 0 < d → symbol d {s} st ≡ {right}\n{s}_at d st some = {proof}\n')
-body = '\n'.join(lemmas)
-head = '-- Each rule as the steps of the function that reads it.\n' + GENERATED
-head += 'use Rattle.std.proofs.Common.{◌≡◌, ℕ, suc, ◌⊎◌, inl, inr, ◌-◌, ◌<◌, Bool, true, false, nat_eq, List, [], ◌∷◌, ◌++◌, length, Option, Some, None, Ok, refl, ◌∙◌}\n' + imports(body)
-head += from_module(PRE + 'Kinds', ['code'] + list(CODES), body) + from_module(PRE + 'Cursor', CURSOR + ['extent'], body) + from_module(PRE + 'Combinators', COMBINATORS, body)
-head += from_module(PRE + 'Reader', 'Outcome bind pick first run_tok run_opens'.split(), body) + from_module(PRE + 'Build', HELPERS, body) + from_module(PRE + 'Rules', ['Sym'] + list(SYMBOLS) + ORDER, body)
-head += from_module('Rattle.asl_parse.specs.Code', 'reading symbol charge then ending'.split(), body)
-head += from_module('Rattle.asl_parse.proofs.Loops', 'bind_bind deeper optional_as optional_plain choice_as run_items items_are run_chain chain_is run_as_chain as_chain_are run_more more_are commas_are run_listed listed_are'.split(), body)
-OUT['asl_parse/proofs/Steps.antt'] = head + '\n' + body
+
+def write_steps(crate, found):
+    """the lemmas about the rules that a crate reads"""
+    body = '\n'.join(found)
+    head = '-- Each rule as the steps of the function that reads it.\n' + GENERATED
+    head += from_module('Rattle.std.proofs.Common', '◌≡◌ ℕ suc ◌⊎◌ inl inr ◌-◌ ◌<◌ Bool true false nat_eq List [] ◌∷◌ ◌++◌ length Option Some None Ok refl ◌∙◌'.split(), body) + imports(body)
+    head += from_module(PRE + 'Kinds', ['code'] + list(CODES), body) + from_module(PRE + 'Cursor', CURSOR + ['extent'], body) + from_module(PRE + 'Combinators', COMBINATORS, body)
+    head += from_module(PRE + 'Reader', 'Outcome bind pick first run_tok run_opens'.split(), body) + from_module(PRE + 'Build', HELPERS, body) + from_module(PRE + 'Rules', ['Sym'] + list(SYMBOLS) + ORDER, body)
+    head += from_module('Rattle.asl_parse_expr.specs.Code', 'reading symbol charge then ending'.split(), body)
+    head += from_module('Rattle.asl_parse_expr.proofs.Loops', 'bind_bind deeper optional_as optional_plain choice_as run_items items_are run_chain chain_is run_as_chain as_chain_are run_more more_are commas_are run_listed listed_are'.split(), body)
+    OUT[crate + '/proofs/Steps.antt'] = head + '\n' + body
 
 
+STATEMENTS = [at for title, at in SECTIONS if title == 'Statements'][0]
+OF_EXPRESSIONS = set(list(RULES)[:STATEMENTS])
+
+
+def of_expressions(lemma):
+    name = re.match(r'pub (\w+?)_(is|at|ends)\b', lemma).group(1)
+    return (SYMBOLS[name][1] if name in SYMBOLS else name) in OF_EXPRESSIONS
+
+
+write_steps('asl_parse_expr', [lemma for lemma in lemmas if of_expressions(lemma)])
+write_steps('asl_parse_stmt', [lemma for lemma in lemmas if not of_expressions(lemma)])
 
 # ---- samples
 

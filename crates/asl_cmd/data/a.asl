@@ -1,0 +1,1 @@
+func main() => integer begin return 0; end;

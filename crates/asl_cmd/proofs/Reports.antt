@@ -1,0 +1,16 @@
+-- A report that was written.
+use Rattle.std.proofs.Common.{◌≡◌, ℕ, List, Option, subst}
+use Rattle.asl_io.specs.Told.{Takes, TakesPrefix}
+use Rattle.asl_io.proofs.ToldLemmas.{TakesPrefix-all}
+use Rattle.asl_syn.specs.Command.{Command}
+use Rattle.asl_rules.specs.Reading.{Reader}
+use Rattle.asl_rules.specs.Report.{Reading, read_for}
+use Rattle.asl_rules.specs.Texts.{Text}
+use Rattle.asl_cmd.specs.Report.{answer_of, report_of}
+
+pub written_prefix : (read : Reader) (command named : Command) (reading : Reading) (held : Text → Text) (old new : Option (List ℕ)) → command ≡ named → reading ≡ read_for command held
+    → Takes old new (answer_of read command reading).text → TakesPrefix old new (report_of read named held).text
+unfolding report_of
+written_prefix read command named reading held old new same came text =
+    TakesPrefix-all old new (answer_of read named (read_for named held)).text
+    (subst (λ k. Takes old new (answer_of read k (read_for k held)).text) same (subst (λ z. Takes old new (answer_of read command z).text) came text))

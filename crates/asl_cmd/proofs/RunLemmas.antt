@@ -1,0 +1,109 @@
+-- The answer of a run, by what the call of the machine says.
+use Rattle.std.proofs.Common.{◌≡◌, ◌∙◌, ℕ, Bool, false, List, [], ◌∷◌, ◌++◌, map, Option, Some, None, Result, Ok, refl, sym, ap, subst, append_assoc, append-nil}
+use Rattle.std.specs.Prelude.{if◌then◌else◌}
+use Rattle.asl_io.specs.Told.{TakesPrefix}
+use Rattle.asl_rules.specs.declared.entry.Entry.TheVariants as entry
+use Rattle.asl_rules.specs.Told.{open_after}
+use Rattle.asl_rules.specs.States.{Binding, Core}
+use Rattle.asl_rules.specs.Values.{Value}
+use Rattle.asl_rules.specs.Plans.{starting, Outcome, Done, Thrown, Halt, Faulted, Stuck, final}
+use Rattle.asl_rules.specs.Served.{unserved_decls}
+use Rattle.asl_rules.specs.Programs.{verdict}
+use Rattle.asl_rules.specs.Machines.{GivenUp, run_of, text_of_run, initial_globals}
+use Rattle.asl_rules.specs.Texts.{Text, File, is_open, closing, line_feed, dynamic_line, uncaught_line}
+use Rattle.asl_rules.specs.Report.{answer, behind, told_text, outcome_line, run_answer, started}
+use Rattle.asl_rules.proofs.Shift.{own_text}
+use Rattle.asl_tree.specs.Accepted.{Accepted}
+use Rattle.asl_value.specs.declared.value.Value.{Value as Given}
+use Rattle.asl_value.specs.View.{value_of, bindings_of}
+use Rattle.asl_run.specs.declared.machine.Outcome.{Outcome as Ended}
+use Rattle.asl_run.specs.declared.machine.Stage.{Stage}
+use Rattle.asl_run.specs.declared.machine.Stage.TheVariants as stage
+use Rattle.asl_run.specs.Stages.{Ends, OnReady, OnRefused, answer_of}
+use Rattle.asl_run.specs.Work.{Work, IsNew, IsCallable, EndsWith, run_with, text_with}
+use Rattle.asl_run.proofs.Entries.{entry_is_callable}
+use Rattle.asl_run.proofs.OwnRuns.{own_run, own_part}
+use Rattle.asl_cmd.specs.declared.status.Stop.{Stop}
+use Rattle.asl_cmd.specs.declared.status.Status.{Status}
+use Rattle.asl_cmd.specs.Ends.{end_line, end_status}
+use Rattle.asl_cmd.specs.Writes.{Answers}
+use Rattle.asl_cmd.proofs.Answering.{Answers-after}
+
+-- both tests of open text agree
+open_is : (text : List ℕ) → open_after false text ≡ is_open text
+open_is [] = refl
+open_is (b ∷ []) = refl
+open_is (b ∷ c ∷ rest) = open_is (c ∷ rest)
+
+-- a machine that gave an answer didn't give its run up
+went_on : (s : Stage) (o : Ended) → Ok o ≡ answer_of s → OnRefused s ⊥
+went_on (stage.Ready x) o h = tt
+went_on (stage.Uncaught x) o h = tt
+went_on (stage.Fault code span) o h = tt
+went_on (stage.Refused e) o h = cc
+
+-- the answer of a run that ended so with this text
+answer_ends : (files : List File) (s : Stage) (globals : List Binding) (steps : ℕ) (text_open : Bool) (text : Text) (r : Outcome Core (Option Value)) → OnRefused s ⊥ → Ends s globals (record { steps = steps; told = Some text; text_open = text_open }) r → run_answer files r ≡ answer (behind text (end_line files s)) (end_status s)
+answer_ends files (stage.Ready x) globals steps text_open text r went ends = ap (run_answer files) ends
+answer_ends files (stage.Uncaught x) globals steps text_open text r went ends = ap (run_answer files) ends
+answer_ends files (stage.Fault code span) globals steps text_open text r went ends = ap (run_answer files) ends.is
+answer_ends files (stage.Refused e) globals steps text_open text r went ends = absurd went
+
+-- the text of an answer begins with that of the run
+answer_begins : (files : List File) (r : Outcome Core (Option Value)) (text : Text) → (final r).told ≡ Some text → (more : Text) × ((run_answer files r).text ≡ text ++ more)
+answer_begins files (Done x c h) text told = (closing (told_text h.told) ++ outcome_line x, ap (λ t. t ++ (closing (told_text h.told) ++ outcome_line x)) (ap told_text told))
+answer_begins files (Thrown x c h) text told = (closing (told_text h.told) ++ uncaught_line x, ap (λ t. t ++ (closing (told_text h.told) ++ uncaught_line x)) (ap told_text told))
+answer_begins files (Halt (Faulted code span) c h) text told = (closing (told_text h.told) ++ dynamic_line files code span, ap (λ t. t ++ (closing (told_text h.told) ++ dynamic_line files code span)) (ap told_text told))
+answer_begins files (Halt (Stuck mistake span) c h) text told = ([], ap told_text told ∙ sym (append-nil text))
+
+-- what a new machine runs from its entry
+started_run : (checked : Accepted) (main n steps : ℕ) (old : Option (List ℕ)) (w : Work) (args : List Given) → IsNew w checked n → n ≡ steps → args ≡ []
+    → run_with w main (map value_of args) old ≡ run_of checked.decls main [] (initial_globals checked.decls) (starting steps old)
+started_run checked main n steps old w args new same none =
+    ap (λ (a : Accepted). run_of a.decls main (map value_of args) (bindings_of w.globals) (starting w.steps old)) new.checked_is
+    ∙ ap (λ (xs : List Given). run_of checked.decls main (map value_of xs) (bindings_of w.globals) (starting w.steps old)) none
+    ∙ ap (λ bs. run_of checked.decls main [] bs (starting w.steps old)) new.globals_are
+    ∙ ap (λ k. run_of checked.decls main [] (initial_globals checked.decls) (starting k old)) (new.steps_are ∙ same)
+
+pub main_callable : (checked : Accepted) (main n : ℕ) (w : Work) (args : List Given) → IsNew w checked n → args ≡ [] → Some main ≡ checked.entry → unserved_decls checked.decls ≡ None → verdict entry.Main checked.decls ≡ Ok checked.entry → IsCallable w.checked.decls main (map value_of args)
+main_callable checked main n w args new none entered served accepted =
+    let callable : IsCallable checked.decls main [] = entry_is_callable entry.Main checked.decls main (record { served = served; is = accepted ∙ ap Ok (sym entered) }) in
+    subst (λ (a : Accepted). IsCallable a.decls main (map value_of args)) (sym new.checked_is)
+    (subst (λ (xs : List Given). IsCallable checked.decls main (map value_of xs)) (sym none) callable)
+
+-- a call that ended, and the line of its end behind its text
+pub main_ended : (files : List File) (checked : Accepted) (main n steps : ℕ) (old mid last : Option (List ℕ)) (w after : Work) (args : List Given) (o : Ended) (result : Result Status Stop) → IsNew w checked n → n ≡ steps → args ≡ [] → Some main ≡ checked.entry
+    → Ok o ≡ answer_of after.stage
+    → OnReady w.stage (EndsWith after mid (run_with w main (map value_of args) old))
+    → Answers result mid last (answer ((if after.text_open then line_feed else []) ++ end_line files after.stage) (end_status after.stage))
+    → Answers result old last (started files checked.decls steps checked.entry)
+main_ended files checked main n steps old mid last w after args o result new same none entered ok ends written =
+    let went = went_on after.stage o ok in
+    let here : EndsWith after mid (run_with w main (map value_of args) old) = subst (λ s. OnReady s (EndsWith after mid (run_with w main (map value_of args) old))) new.stage_is ends in
+    let over = subst (EndsWith after mid) (started_run checked main n steps old w args new same none) here in
+    let own = own_run checked.decls main [] (initial_globals checked.decls) steps after old mid went over in
+    let r = run_of checked.decls main [] (initial_globals checked.decls) (starting steps (Some [])) in
+    let shown = answer_ends files after.stage (bindings_of after.globals) after.steps after.text_open own.text r went own.ends in
+    let line = end_line files after.stage in
+    let behind_it = Answers-after result old mid last own.text ((if after.text_open then line_feed else []) ++ line) (end_status after.stage) own.written written in
+    subst (λ e. Answers result old last (started files checked.decls steps e)) entered
+    (subst (Answers result old last) (sym shown)
+    (subst (λ b. Answers result old last (answer (own.text ++ ((if b then line_feed else []) ++ line)) (end_status after.stage))) (own.is_open ∙ open_is own.text) behind_it))
+
+-- a call that was given up wrote a prefix of the answer
+pub main_given_up : (files : List File) (checked : Accepted) (main n steps entered_nodes : ℕ) (old mid : Option (List ℕ)) (w : Work) (args : List Given) → IsNew w checked n → n ≡ steps → args ≡ [] → Some main ≡ checked.entry
+    → OnReady w.stage (GivenUp (text_with w main (map value_of args) old) old mid w.steps entered_nodes)
+    → TakesPrefix old mid (started files checked.decls steps checked.entry).text
+main_given_up files checked main n steps entered_nodes old mid w args new same none entered given =
+    let globals = initial_globals checked.decls in
+    let here : GivenUp (text_with w main (map value_of args) old) old mid w.steps entered_nodes = subst (λ s. OnReady s (GivenUp (text_with w main (map value_of args) old) old mid w.steps entered_nodes)) new.stage_is given in
+    let of_program : GivenUp (text_of_run checked.decls main (map value_of args) (bindings_of w.globals) old) old mid w.steps entered_nodes = subst (λ (a : Accepted). GivenUp (text_of_run a.decls main (map value_of args) (bindings_of w.globals) old) old mid w.steps entered_nodes) new.checked_is here in
+    let of_none : GivenUp (text_of_run checked.decls main [] (bindings_of w.globals) old) old mid w.steps entered_nodes = subst (λ (xs : List Given). GivenUp (text_of_run checked.decls main (map value_of xs) (bindings_of w.globals) old) old mid w.steps entered_nodes) none of_program in
+    let at_start : GivenUp (text_of_run checked.decls main [] globals old) old mid w.steps entered_nodes = subst (λ bs. GivenUp (text_of_run checked.decls main [] bs old) old mid w.steps entered_nodes) new.globals_are of_none in
+    let with_steps : GivenUp (text_of_run checked.decls main [] globals old) old mid steps entered_nodes = subst (λ k. GivenUp (text_of_run checked.decls main [] globals old) old mid k entered_nodes) (new.steps_are ∙ same) at_start in
+    let part = own_part checked.decls main [] globals steps entered_nodes old mid with_steps in
+    let own = own_text checked.decls main [] globals steps in
+    let more = answer_begins files (run_of checked.decls main [] globals (starting steps (Some []))) own.text own.told in
+    let whole = more.1 ∙ ap (λ t. t ++ more.0) part.whole ∙ append_assoc part.taken part.rest more.0 in
+    subst (λ e. TakesPrefix old mid (started files checked.decls steps e).text) entered
+    (part.taken, part.rest ++ more.0, whole, part.is)

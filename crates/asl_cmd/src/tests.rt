@@ -1,0 +1,88 @@
+//! Command lines over files and a sink in memory: what is written, and the status.
+use crate::memory::asl_in_memory;
+use crate::status::Status;
+use crate::top::asl;
+use asl_io::{MemFiles, MemSink};
+use std::alloc::{AllocError, Global};
+use std::str;
+
+/// A program that returns 0, and three with a fault in their text.
+const ZERO: &str = "func main() => integer begin return 0; end;";
+
+const TOO_GREAT: &str =
+    "func main() => integer begin return 170141183460469231731687303715884105728; end;";
+
+const OPEN_COMMENT: &str = "func main() => integer begin return 0; end; /*";
+
+const SLASH: &str = "func main() => integer begin return 0; end; /";
+
+const USAGE: &str =
+    "usage: asl check FILE.. | asl run [--steps N] FILE.. | asl exec [--steps N] --words W FILE.. | asl self NUMBER SIZE\n";
+
+/// The words of a command line, the name of the program and then those of the text, parted by spaces.
+fn words_of(alloc: Global, line: &str) -> Result<Vec<String>, AllocError> {
+    let mut words = Vec::new(alloc);
+    words.push(String::from_str(alloc, "asl")?)?;
+    for word in line.split_whitespace() {
+        words.push(String::from_str(alloc, word)?)?;
+    }
+    Ok(words)
+}
+
+/// The one file `a.asl`.
+fn one_file(alloc: Global, text: &str) -> Result<Vec<(String, Vec<u8>)>, AllocError> {
+    let mut files = Vec::new(alloc);
+    let name = String::from_str(alloc, "a.asl")?;
+    files.push((name, text.as_bytes().to_vec(alloc)?))?;
+    Ok(files)
+}
+
+/// The status of a line over the one file, and the sink with so much room that was written to.
+fn answered(
+    alloc: Global,
+    line: &str,
+    text: &str,
+    room: usize,
+) -> Result<(MemSink, Status), AllocError> {
+    let words = words_of(alloc, line)?;
+    let mut files = MemFiles::new(one_file(alloc, text)?, 7, Vec::new(alloc));
+    let mut out = MemSink::new(alloc, room, 3, Vec::new(alloc))?;
+    let status = asl(alloc, words.as_slice(), &mut files, &mut out);
+    Ok((out, status))
+}
+
+#[test]
+fn lines_over_one_file(rt: HostRuntime) {
+    for (line, text, want, code) in [
+        ("run a.asl", ZERO, "returned 0\n", 0),
+        ("check a.asl", "", "ok 0 declarations\n", 0),
+        ("run a.asl", "", "a.asl:1:1+0: T24\n", 1),
+        ("run a.asl", TOO_GREAT, "a.asl:1:37+39: L04\n", 1),
+        ("run --steps 1 a.asl", ZERO, "a.asl:1:37+1: D13\n", 4),
+        ("run --steps 2 a.asl", ZERO, "returned 0\n", 0),
+        ("run a.asl b.asl", ZERO, "", 5),
+        ("check a.asl", OPEN_COMMENT, "a.asl:1:45+2: L02\n", 1),
+        ("check a.asl", SLASH, "a.asl:1:45+1: S01\n", 1),
+        ("", ZERO, USAGE, 2),
+    ] {
+        let (out, status) = answered(rt.alloc(), line, text, 1000).expect(&rt, "memory");
+        let written = str::from_utf8(out.bytes()).unwrap_or("no text");
+        assert_eq!(rt; written, want, "{line}");
+        assert_eq!(rt; status.code(), code, "{line}");
+    }
+}
+
+#[test]
+fn a_sink_that_is_full(rt: HostRuntime) {
+    let (out, status) = answered(rt.alloc(), "run a.asl", ZERO, 5).expect(&rt, "memory");
+    assert!(rt; status == Status::WriteFault && out.bytes() == b"retur".as_slice());
+}
+
+#[test]
+fn a_line_in_memory(rt: HostRuntime) {
+    let alloc = rt.alloc();
+    let words = words_of(alloc, "check a.asl").expect(&rt, "memory");
+    let held = one_file(alloc, "").expect(&rt, "memory");
+    let (out, status) = asl_in_memory(alloc, words.as_slice(), held, 100).expect(&rt, "memory");
+    assert!(rt; status == Status::Done && out.bytes() == b"ok 0 declarations\n".as_slice());
+}

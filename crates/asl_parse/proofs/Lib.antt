@@ -1,0 +1,3 @@
+pub mod FaultPlaces
+pub mod Filing
+pub mod Served

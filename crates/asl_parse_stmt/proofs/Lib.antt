@@ -1,0 +1,4 @@
+pub mod InFunctions
+pub mod InParts
+pub mod StatementSteps
+pub mod Steps

@@ -1,0 +1,256 @@
+//! What a local declaration declares, and its type and value.
+
+ghost use Rattle.std.specs.Prelude.{◌≡◌, IfOk};
+ghost use Rattle.asl_grammar.specs.grammar.Build as build;
+ghost use Rattle.asl_grammar.specs.grammar.Rules as rules;
+ghost use Rattle.asl_parse_expr.specs.Code.{cursor_of, Met, reading, then};
+
+use asl_grammar::error::ParseError;
+use asl_grammar::kinds::{
+    ASSIGN, CLOSE_PAREN, COLON, COMMA, LET, MINUS, NAME, OPEN_PAREN, SEMICOLON, VAR,
+};
+use asl_grammar::parts::VarTail;
+use asl_parse_expr::expressions::expression;
+use asl_parse_expr::names::{name, names};
+use asl_parse_expr::tokens::Tokens;
+use asl_parse_expr::types::{type_expression, typed};
+use asl_syn::token::Span;
+use asl_syn::tree::{Bind, Binder, Expr, Ident, LocalKind, Stmt, TypeExpr};
+use sqlite_items::Items;
+use std::alloc::{AllocError, Global};
+
+/// An initial or new value, to the end of the statement.
+#[tactic(auto, using(crate::proofs::Steps::value_is))]
+pub fn value(alloc: Global, tokens: &mut Tokens<'_>, depth: usize) -> Result<Expr, ParseError>
+    ensures { Met (reading depth rules.value (cursor_of tokens.old)) result (cursor_of tokens.new) }
+{
+    tokens.take(&[ASSIGN])?;
+    let value = expression(alloc, tokens, depth)?;
+    tokens.take(&[SEMICOLON])?;
+    Ok(value)
+}
+
+#[tactic(auto, using(crate::proofs::Steps::no_value_is))]
+fn no_value(tokens: &mut Tokens<'_>, depth: usize) -> Result<Option<Expr>, ParseError>
+    ensures { Met (reading depth rules.no_value (cursor_of tokens.old)) result (cursor_of tokens.new) }
+{
+    tokens.take(&[SEMICOLON])?;
+    Ok(None)
+}
+
+/// The initial value, if there is one, to the end of the statement.
+#[tactic(auto, using(crate::proofs::Steps::maybe_value_is))]
+pub fn maybe_value(
+    alloc: Global,
+    tokens: &mut Tokens<'_>,
+    depth: usize,
+) -> Result<Option<Expr>, ParseError>
+    ensures { Met (reading depth rules.maybe_value (cursor_of tokens.old)) result (cursor_of tokens.new) }
+{
+    if tokens.starts(&[SEMICOLON]) {
+        no_value(tokens, depth)
+    } else {
+        Ok(Some(value(alloc, tokens, depth)?))
+    }
+}
+
+#[tactic(auto, using(crate::proofs::Steps::bind_name_is))]
+fn bind_name(alloc: Global, tokens: &mut Tokens<'_>, depth: usize) -> Result<Bind, ParseError>
+    ensures { Met (reading depth rules.bind_name (cursor_of tokens.old)) result (cursor_of tokens.new) }
+{
+    Ok(Bind::Single(Binder::Bound(name(alloc, tokens, depth)?)))
+}
+
+#[tactic(auto, using(crate::proofs::Steps::no_binder_is))]
+fn no_binder(tokens: &mut Tokens<'_>, depth: usize) -> Result<Binder, ParseError>
+    ensures { Met (reading depth rules.no_binder (cursor_of tokens.old)) result (cursor_of tokens.new) }
+{
+    let token = tokens.take(&[MINUS])?;
+    Ok(Binder::Unbound(token.span))
+}
+
+#[tactic(auto, using(crate::proofs::Steps::binder_is))]
+fn binder(alloc: Global, tokens: &mut Tokens<'_>, depth: usize) -> Result<Binder, ParseError>
+    ensures { Met (reading depth rules.binder (cursor_of tokens.old)) result (cursor_of tokens.new) }
+{
+    if tokens.starts(&[NAME]) {
+        Ok(Binder::Bound(name(alloc, tokens, depth)?))
+    } else {
+        no_binder(tokens, depth)
+    }
+}
+
+#[tactic(auto, using(crate::proofs::Steps::more_binders_is))]
+fn more_binders(
+    alloc: Global,
+    tokens: &mut Tokens<'_>,
+    depth: usize,
+    mut found: Items<Binder>,
+) -> Result<Items<Binder>, ParseError>
+    ensures { Met (then (build.behind found) (reading depth rules.more_binders (cursor_of tokens.old))) result (cursor_of tokens.new) }
+{
+    for _turn in 0..tokens.len() {
+        if !tokens.starts(&[COMMA]) {
+            return Ok(found);
+        }
+        tokens.take(&[COMMA])?;
+        found.push(binder(alloc, tokens, depth)?)?;
+    }
+    Ok(found)
+}
+
+#[tactic(auto, using(crate::proofs::Steps::two_binders_is))]
+fn two_binders(
+    alloc: Global,
+    tokens: &mut Tokens<'_>,
+    depth: usize,
+) -> Result<Items<Binder>, ParseError>
+    ensures { Met (reading depth rules.two_binders (cursor_of tokens.old)) result (cursor_of tokens.new) }
+{
+    let mut found = Items::new(alloc);
+    found.push(binder(alloc, tokens, depth)?)?;
+    tokens.take(&[COMMA])?;
+    found.push(binder(alloc, tokens, depth)?)?;
+    more_binders(alloc, tokens, depth, found)
+}
+
+#[tactic(auto, using(crate::proofs::Steps::several_is))]
+fn several(alloc: Global, tokens: &mut Tokens<'_>, depth: usize) -> Result<Bind, ParseError>
+    ensures { Met (reading depth rules.several (cursor_of tokens.old)) result (cursor_of tokens.new) }
+{
+    let from = tokens.ahead();
+    let left = tokens.left;
+    tokens.open(&[OPEN_PAREN])?;
+    let binders = two_binders(alloc, tokens, depth)?;
+    tokens.take(&[CLOSE_PAREN])?;
+    tokens.left = left;
+    Ok(Bind::Several(tokens.since(from), binders))
+}
+
+#[tactic(auto, using(crate::proofs::Steps::other_bind_is))]
+fn other_bind(alloc: Global, tokens: &mut Tokens<'_>, depth: usize) -> Result<Bind, ParseError>
+    ensures { Met (reading depth rules.other_bind (cursor_of tokens.old)) result (cursor_of tokens.new) }
+{
+    if tokens.starts(&[MINUS]) {
+        Ok(Bind::Single(no_binder(tokens, depth)?))
+    } else {
+        several(alloc, tokens, depth)
+    }
+}
+
+#[tactic(auto, using(crate::proofs::Steps::local_bind_is))]
+fn local_bind(alloc: Global, tokens: &mut Tokens<'_>, depth: usize) -> Result<Bind, ParseError>
+    ensures { Met (reading depth rules.local_bind (cursor_of tokens.old)) result (cursor_of tokens.new) }
+{
+    if tokens.starts(&[NAME]) {
+        bind_name(alloc, tokens, depth)
+    } else {
+        other_bind(alloc, tokens, depth)
+    }
+}
+
+/// `let`
+#[tactic(auto, using(crate::proofs::Steps::let_statement_is))]
+pub fn let_statement(
+    alloc: Global,
+    tokens: &mut Tokens<'_>,
+    depth: usize,
+) -> Result<Stmt, ParseError>
+    ensures { Met (reading depth rules.let_statement (cursor_of tokens.old)) result (cursor_of tokens.new) }
+{
+    let from = tokens.ahead();
+    tokens.take(&[LET])?;
+    let bind = local_bind(alloc, tokens, depth)?;
+    let ty = typed(alloc, tokens, depth)?;
+    let init = value(alloc, tokens, depth)?;
+    Ok(Stmt::Local(tokens.since(from), LocalKind::Let, bind, ty, init))
+}
+
+fn typed_tail(
+    alloc: Global,
+    first: Ident,
+    ty: TypeExpr,
+    init: Option<Expr>,
+) -> Result<VarTail, AllocError>
+    ensures { IfOk result (λ tail. tail ≡ build.var_tail_of first (build.Typed ty init)) }
+{
+    match init {
+        None => {
+            let mut names = Items::new(alloc);
+            names.push(first)?;
+            Ok(VarTail::Declared(names, ty))
+        }
+        Some(init) => Ok(VarTail::Initialised(Bind::Single(Binder::Bound(first)), Some(ty), init)),
+    }
+}
+
+#[tactic(auto, using(crate::proofs::StatementSteps::var_names_steps))]
+fn var_names(alloc: Global, tokens: &mut Tokens<'_>, depth: usize) -> Result<VarTail, ParseError>
+    ensures { Met (reading depth rules.var_names (cursor_of tokens.old)) result (cursor_of tokens.new) }
+{
+    let first = name(alloc, tokens, depth)?;
+    if tokens.starts(&[COMMA]) {
+        let mut found = Items::new(alloc);
+        found.push(first)?;
+        tokens.take(&[COMMA])?;
+        let more = names(alloc, tokens, depth)?;
+        found.append(more)?;
+        tokens.take(&[COLON])?;
+        let ty = type_expression(alloc, tokens, depth)?;
+        tokens.take(&[SEMICOLON])?;
+        Ok(VarTail::Declared(found, ty))
+    } else if tokens.starts(&[COLON]) {
+        tokens.take(&[COLON])?;
+        let ty = type_expression(alloc, tokens, depth)?;
+        let init = maybe_value(alloc, tokens, depth)?;
+        Ok(typed_tail(alloc, first, ty, init)?)
+    } else {
+        let init = value(alloc, tokens, depth)?;
+        Ok(VarTail::Initialised(Bind::Single(Binder::Bound(first)), None, init))
+    }
+}
+
+#[tactic(auto, using(crate::proofs::Steps::var_other_is))]
+fn var_other(alloc: Global, tokens: &mut Tokens<'_>, depth: usize) -> Result<VarTail, ParseError>
+    ensures { Met (reading depth rules.var_other (cursor_of tokens.old)) result (cursor_of tokens.new) }
+{
+    let bind = other_bind(alloc, tokens, depth)?;
+    let ty = typed(alloc, tokens, depth)?;
+    let init = value(alloc, tokens, depth)?;
+    Ok(VarTail::Initialised(bind, ty, init))
+}
+
+#[tactic(auto, using(crate::proofs::Steps::var_tail_is))]
+fn var_tail(alloc: Global, tokens: &mut Tokens<'_>, depth: usize) -> Result<VarTail, ParseError>
+    ensures { Met (reading depth rules.var_tail (cursor_of tokens.old)) result (cursor_of tokens.new) }
+{
+    if tokens.starts(&[NAME]) {
+        var_names(alloc, tokens, depth)
+    } else {
+        var_other(alloc, tokens, depth)
+    }
+}
+
+fn var_of(span: Span, tail: VarTail) -> Stmt
+    ensures { result ≡ build.var_of span tail }
+{
+    match tail {
+        VarTail::Declared(names, ty) => Stmt::LocalVars(span, names, ty),
+        VarTail::Initialised(bind, ty, init) => Stmt::Local(span, LocalKind::Var, bind, ty, init),
+    }
+}
+
+/// `var`
+#[tactic(auto, using(crate::proofs::Steps::var_statement_is))]
+pub fn var_statement(
+    alloc: Global,
+    tokens: &mut Tokens<'_>,
+    depth: usize,
+) -> Result<Stmt, ParseError>
+    ensures { Met (reading depth rules.var_statement (cursor_of tokens.old)) result (cursor_of tokens.new) }
+{
+    let from = tokens.ahead();
+    tokens.take(&[VAR])?;
+    let tail = var_tail(alloc, tokens, depth)?;
+    Ok(var_of(tokens.since(from), tail))
+}

@@ -1,0 +1,161 @@
+//! The left sides of assignments.
+
+ghost use Rattle.std.specs.Prelude.{◌≡◌};
+ghost use Rattle.asl_grammar.specs.grammar.Build as build;
+ghost use Rattle.asl_grammar.specs.grammar.Rules as rules;
+ghost use Rattle.asl_parse_expr.specs.Code.{cursor_of, Met, reading, symbol, then};
+
+use asl_grammar::error::ParseError;
+use asl_grammar::kinds::{CLOSE_PAREN, COMMA, MINUS, NAME, OPEN_PAREN};
+use asl_parse_expr::names::name;
+use asl_parse_expr::suffixes::suffixes;
+use asl_parse_expr::tokens::{Tokens, end_of, span_to};
+use asl_syn::tree::{Ident, PlacedSuffix, Target};
+use sqlite_items::Items;
+use std::alloc::Global;
+
+fn last_end(start: u32, suffixes: &[PlacedSuffix]) -> u32
+    ensures { result ≡ build.last_end start suffixes.now }
+{
+    let mut end = start;
+    for suffix in suffixes {
+        end = suffix.end;
+    }
+    end
+}
+
+/// A name with its suffixes.
+pub fn place_of(name: Ident, suffixes: Items<PlacedSuffix>) -> Target
+    ensures { result ≡ build.place_of name suffixes }
+{
+    let end = last_end(end_of(name.span), suffixes.as_slice());
+    Target::Place(span_to(name.span, end), name, suffixes)
+}
+
+/// The suffixes of a target, whose levels end with it.
+#[tactic(auto, using(crate::proofs::Steps::target_suffixes_is))]
+pub fn target_suffixes(
+    alloc: Global,
+    tokens: &mut Tokens<'_>,
+    depth: usize,
+) -> Result<Items<PlacedSuffix>, ParseError>
+    ensures { Met (reading depth rules.target_suffixes (cursor_of tokens.old)) result (cursor_of tokens.new) }
+{
+    let left = tokens.left;
+    let found = suffixes(alloc, tokens, depth)?;
+    tokens.left = left;
+    Ok(found)
+}
+
+#[tactic(auto, using(crate::proofs::Steps::no_target_is))]
+fn no_target(tokens: &mut Tokens<'_>, depth: usize) -> Result<Target, ParseError>
+    ensures { Met (reading depth rules.no_target (cursor_of tokens.old)) result (cursor_of tokens.new) }
+{
+    let token = tokens.take(&[MINUS])?;
+    Ok(Target::Discarded(token.span))
+}
+
+#[tactic(auto, using(crate::proofs::Steps::place_is))]
+fn place(alloc: Global, tokens: &mut Tokens<'_>, depth: usize) -> Result<Target, ParseError>
+    ensures { Met (reading depth rules.place (cursor_of tokens.old)) result (cursor_of tokens.new) }
+{
+    let name = name(alloc, tokens, depth)?;
+    let suffixes = target_suffixes(alloc, tokens, depth)?;
+    Ok(place_of(name, suffixes))
+}
+
+#[cycle(targets)]
+#[tactic(auto, using(crate::proofs::Steps::target_is))]
+fn target(alloc: Global, tokens: &mut Tokens<'_>, depth: usize) -> Result<Target, ParseError>
+    ensures { Met (reading depth rules.target (cursor_of tokens.old)) result (cursor_of tokens.new) }
+{
+    if tokens.starts(&[MINUS]) {
+        no_target(tokens, depth)
+    } else if tokens.starts(&[NAME]) {
+        place(alloc, tokens, depth)
+    } else {
+        targets(alloc, tokens, depth)
+    }
+}
+
+#[cycle(targets)]
+#[tactic(auto, using(crate::proofs::Steps::more_targets_is))]
+fn more_targets(
+    alloc: Global,
+    tokens: &mut Tokens<'_>,
+    depth: usize,
+    mut found: Items<Target>,
+) -> Result<Items<Target>, ParseError>
+    ensures { Met (then (build.behind found) (reading depth rules.more_targets (cursor_of tokens.old))) result (cursor_of tokens.new) }
+{
+    for _turn in 0..tokens.len() {
+        if !tokens.starts(&[COMMA]) {
+            return Ok(found);
+        }
+        tokens.take(&[COMMA])?;
+        found.push(target(alloc, tokens, depth)?)?;
+    }
+    Ok(found)
+}
+
+#[cycle(targets)]
+#[tactic(auto, using(crate::proofs::Steps::two_targets_is))]
+fn two_targets(
+    alloc: Global,
+    tokens: &mut Tokens<'_>,
+    depth: usize,
+) -> Result<Items<Target>, ParseError>
+    ensures { Met (reading depth rules.two_targets (cursor_of tokens.old)) result (cursor_of tokens.new) }
+{
+    let mut found = Items::new(alloc);
+    found.push(target(alloc, tokens, depth)?)?;
+    tokens.take(&[COMMA])?;
+    found.push(target(alloc, tokens, depth)?)?;
+    more_targets(alloc, tokens, depth, found)
+}
+
+#[cycle(targets)]
+#[tactic(auto, using(crate::proofs::Steps::TargetParts_at))]
+fn target_parts(
+    alloc: Global,
+    tokens: &mut Tokens<'_>,
+    depth: usize,
+) -> Result<Items<Target>, ParseError>
+    ensures { Met (symbol depth rules.TargetParts (cursor_of tokens.old)) result (cursor_of tokens.new) }
+{
+    if depth == 0 {
+        return Err(ParseError::TooDeep(tokens.len(), false));
+    }
+    let found = two_targets(alloc, tokens, depth - 1)?;
+    tokens.take(&[CLOSE_PAREN])?;
+    Ok(found)
+}
+
+#[cycle(targets)]
+#[tactic(auto, using(crate::proofs::Steps::targets_is))]
+fn targets(alloc: Global, tokens: &mut Tokens<'_>, depth: usize) -> Result<Target, ParseError>
+    ensures { Met (reading depth rules.targets (cursor_of tokens.old)) result (cursor_of tokens.new) }
+{
+    let from = tokens.ahead();
+    let left = tokens.left;
+    tokens.open(&[OPEN_PAREN])?;
+    let parts = target_parts(alloc, tokens, depth)?;
+    tokens.left = left;
+    Ok(Target::Targets(tokens.since(from), parts))
+}
+
+/// A target that begins with no name.
+#[tactic(auto, using(crate::proofs::Steps::other_target_is))]
+pub fn other_target(
+    alloc: Global,
+    tokens: &mut Tokens<'_>,
+    depth: usize,
+) -> Result<Target, ParseError>
+    ensures { Met (reading depth rules.other_target (cursor_of tokens.old)) result (cursor_of tokens.new) }
+{
+    if tokens.starts(&[MINUS]) {
+        no_target(tokens, depth)
+    } else {
+        targets(alloc, tokens, depth)
+    }
+}
