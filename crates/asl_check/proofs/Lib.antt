@@ -1,2 +1,6 @@
 pub mod KnownLemmas
 pub mod Walks
+pub mod VisibleLemmas
+pub mod Binds
+pub mod StmtWalks
+pub mod GlobalWalks

@@ -1,3 +1,6 @@
 pub mod Answers
+pub mod Views
 pub mod Known
+pub mod Falls
+pub mod Walks
 pub mod Verdicts

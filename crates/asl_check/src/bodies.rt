@@ -1,33 +1,69 @@
 //! The bodies of subprograms.
 
-ghost use Rattle.asl_rules.specs.Programs.{body_rule, bodies_rule, funcs_of};
+ghost use Rattle.std.specs.Prelude.{◌≡◌, OnOk};
+ghost use Rattle.std.specs.Option.{option_map};
+ghost use Rattle.asl_rules.specs.Programs as rules;
 ghost use Rattle.asl_check.specs.Answers.{Agrees};
+ghost use Rattle.asl_check.specs.Views.{type_of};
 
 use crate::answer::fault;
-use crate::stmts::{check_stmts, falls_through};
+use crate::body::Body;
+use crate::falls::falls_through;
+use crate::signatures::result_type;
+use crate::stmts::check_stmts;
 use crate::types::Ty;
+use crate::visible::Visible;
+use asl_rules::effect::Effect;
 use asl_syn::code::{Refused, StaticCode};
-use asl_syn::tree::{Decl, Func};
+use asl_syn::tree::{Decl, Func, Qualifier};
 
-/// A function: its statements in order, then T17 at its name where the end of its body can be reached.
-fn check_body(f: &Func) -> Result<(), Refused>
-    ensures { Agrees result (body_rule f.now) }
+/// The greatest effect that is allowed in a body.
+fn class_of(qualifier: Qualifier) -> Effect
+    ensures { result ≡ rules.class_of qualifier }
 {
-    let body = f.body.as_slice();
-    check_stmts(body, Ty::Integer)?;
-    if falls_through(body) {
+    match qualifier {
+        Qualifier::Unqualified => Effect::Writes,
+        Qualifier::Pure => Effect::Pure,
+        Qualifier::Readonly => Effect::Readonly,
+    }
+}
+
+/// Whether the end of a body may be reached, as it stands: always in a procedure.
+fn may_end(returns: Option<Ty>, f: &Func) -> bool
+    ensures { result ≡ rules.may_end (option_map type_of returns) f.now }
+{
+    match returns {
+        None => true,
+        Some(_) => !falls_through(f.body.as_slice()),
+    }
+}
+
+/// A body: its statements in order, then T17 at its name where the end of a function can be reached.
+fn check_body<'a>(names: &mut Visible<'a>, f: &'a Func) -> Result<(), Refused>
+    ensures rule { Agrees result (rules.body_rule names.old f.now) }
+    ensures kept { OnOk result (names.new ≡ names.old) }
+{
+    let returns = result_type(&f.result)?;
+    let body = Body {
+        returns,
+        class: class_of(f.qualifier),
+    };
+    let height = names.len();
+    check_stmts(names, body, f.body.as_slice())?;
+    names.truncate(height);
+    if !may_end(returns, f) {
         return fault(StaticCode::T17, f.name.span);
     }
     Ok(())
 }
 
 /// The bodies of all subprograms, in source order.
-pub(crate) fn check_bodies(decls: &[Decl]) -> Result<(), Refused>
-    ensures { Agrees result (bodies_rule (funcs_of decls.now)) }
+pub(crate) fn check_bodies<'a>(names: &mut Visible<'a>, decls: &'a [Decl]) -> Result<(), Refused>
+    ensures { Agrees result (rules.bodies_rule names.old (rules.funcs_of decls.now)) }
 {
     for d in decls {
         if let Decl::Func(f) = d {
-            check_body(f)?;
+            check_body(names, f)?;
         }
     }
     Ok(())

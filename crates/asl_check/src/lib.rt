@@ -3,17 +3,28 @@
 
 mod answer;
 mod bodies;
+mod body;
+mod branches;
+mod effects;
 mod exprs;
+mod falls;
+mod globals;
 mod library;
+mod locals;
 mod main_entry;
 mod names;
 mod overloads;
+mod prints;
 mod program;
+mod signatures;
+mod simple;
+mod steps;
 mod stmts;
 mod types;
+mod visible;
 
+pub use falls::falls_through;
 pub use program::check;
-pub use stmts::falls_through;
 
 #[cfg(test)]
 mod tests;

@@ -3,7 +3,7 @@
 ghost use Rattle.std.specs.Prelude.{◌≡◌, map};
 ghost use Rattle.asl_rules.specs.Names as rules;
 
-const LIBRARY: [&str; 12] = [
+pub(crate) const LIBRARY: [&str; 12] = [
     "UInt",
     "SInt",
     "Zeros",

@@ -6,10 +6,9 @@ ghost use Rattle.asl_check.specs.Answers.{Agrees};
 
 use crate::answer::fault;
 use asl_rules::entry::Entry;
-use asl_rules::served::is_integer;
 use asl_syn::code::{Refused, StaticCode};
 use asl_syn::token::Span;
-use asl_syn::tree::{Decl, Func};
+use asl_syn::tree::{Decl, Func, TypeExpr};
 use asl_tree::SubId;
 
 /// The beginning of the first file.
@@ -23,13 +22,32 @@ fn origin() -> Span
     }
 }
 
+fn returns_integer(result_type: &Option<TypeExpr>) -> bool
+    ensures { result ≡ rules.has_integer (rules.result_rule result_type.now) }
+{
+    match result_type {
+        None => false,
+        Some(TypeExpr::IntegerType(_, parts)) => match parts.as_slice() {
+            [] => true,
+            _ => false,
+        },
+        Some(TypeExpr::BooleanType(_)) => false,
+        Some(TypeExpr::BitType(_)) => false,
+        Some(TypeExpr::NamedType(_, _)) => false,
+        Some(TypeExpr::BitsType(_, _, _)) => false,
+        Some(TypeExpr::TupleType(_, _)) => false,
+        Some(TypeExpr::ArrayType(_, _, _)) => false,
+    }
+}
+
+/// A function that a run can begin with.
 fn is_main(f: &Func) -> bool
     ensures { result ≡ rules.is_main f.now }
 {
     f.name.text.as_slice() == b"main".as_slice()
         && f.params.as_slice().is_empty()
         && f.formals.as_slice().is_empty()
-        && is_integer(&f.result)
+        && returns_integer(&f.result)
 }
 
 fn find_main(decls: &[Decl]) -> Option<SubId>

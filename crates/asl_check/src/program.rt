@@ -5,26 +5,37 @@ ghost use Rattle.asl_rules.specs.Served.{unserved_decls};
 ghost use Rattle.asl_rules.specs.Programs as rules;
 ghost use Rattle.asl_check.specs.Answers.{Agrees};
 ghost use Rattle.asl_check.specs.Verdicts.{IsVerdict};
+ghost use Rattle.asl_check.specs.Walks.{verdict_walk};
 
 use crate::bodies::check_bodies;
+use crate::globals::check_globals;
 use crate::main_entry::find_entry;
 use crate::names::check_names;
 use crate::overloads::check_overloads;
+use crate::signatures::check_signatures;
 use asl_rules::entry::Entry;
 use asl_syn::code::Refused;
 use asl_syn::tree::{Decl, Program};
 use asl_tree::{Checked, SubId};
 use std::alloc::Global;
 
-/// The entry, or the one fault: names, then overloads, then bodies, then the entry.
-#[tactic(auto, unfolding(asl_rules::specs::Programs::verdict))]
+/// The phases in order: names, storage, signatures, overloads, bodies, the entry.
+fn phases(alloc: Global, entry: Entry, decls: &[Decl]) -> Result<Option<SubId>, Refused>
+    ensures { Agrees result (verdict_walk entry decls.now) }
+{
+    check_names(alloc, decls)?;
+    let mut names = check_globals(alloc, decls)?;
+    check_signatures(decls)?;
+    check_overloads(alloc, decls)?;
+    check_bodies(&mut names, decls)?;
+    find_entry(entry, decls)
+}
+
+/// The entry, or the one fault.
 fn verdict(alloc: Global, entry: Entry, decls: &[Decl]) -> Result<Option<SubId>, Refused>
     ensures { Agrees result (rules.verdict entry decls.now) }
 {
-    check_names(alloc, decls)?;
-    check_overloads(alloc, decls)?;
-    check_bodies(decls)?;
-    find_entry(entry, decls)
+    phases(alloc, entry, decls)
 }
 
 /// Checks a program whose forms are all served. It is accepted exactly where it is well formed with the entry that is

@@ -4,55 +4,207 @@ use asl_rules::entry::Entry;
 use asl_rules::served::first_unserved;
 use asl_syn::code::{Fault, Refused, StaticCode};
 use asl_syn::token::Span;
-use asl_syn::tree::{Decl, Expr, Func, Ident, Program, Qualifier, Stmt, TypeExpr};
-use sqlite_items::Items;
-use std::alloc::{AllocError, Global};
+use asl_syn::tree::{
+    BinaryOperator, Bind, Binder, Decl, ElseIf, Expr, Func, Ident, LocalKind, PrintItem, PrintKind,
+    Program, Qualifier, Stmt, StorageDecl, StorageKind, Target, TypeExpr, UnaryOperator,
+};
+use sqlite_items::{Boxed, Items};
+use std::alloc::Global;
 
-const fn at(start: u32) -> Span {
+// The place of word number n.
+fn at(n: u32) -> Span {
     Span {
         file: 0,
-        start,
+        start: n,
         len: 4,
     }
 }
 
-fn body(alloc: Global, words: &str) -> Result<Items<Stmt>, AllocError> {
-    let mut stmts = Items::new(alloc);
-    for word in words.split(' ') {
-        stmts.push(match word {
-            "pass" => Stmt::Pass(at(90)),
-            "return" => Stmt::Return(at(91), Some(Expr::Int(at(92), 0))),
-            _ => Stmt::Unreachable(at(93)),
-        })?;
+// The place of the name in word number n.
+fn name_at(n: u32) -> Span {
+    Span {
+        file: 0,
+        start: n,
+        len: 2,
     }
-    Ok(stmts)
 }
 
-fn func(alloc: Global, start: u32, name: &str, words: &str) -> Result<Decl, AllocError> {
-    Ok(Decl::Func(Func {
-        span: at(94),
-        qualifier: Qualifier::Unqualified,
-        name: Ident {
-            span: at(start),
-            text: Items::from_slice(alloc, name.as_bytes())?,
-        },
-        params: Items::new(alloc),
-        formals: Items::new(alloc),
-        result: Some(TypeExpr::IntegerType(at(95), Items::new(alloc))),
-        limit: None,
-        body: body(alloc, words)?,
-    }))
+fn ident(alloc: Global, n: u32, name: &str) -> Option<Ident> {
+    Some(Ident {
+        span: name_at(n),
+        text: Items::from_slice(alloc, name.as_bytes()).ok()?,
+    })
 }
 
-/// Functions by their names and bodies, the name of the one of number n at the place n.
-fn program(alloc: Global, funcs: &[(&str, &str)]) -> Result<Program, AllocError> {
-    let mut decls = Items::new(alloc);
-    let mut start = 0;
-    for (name, words) in funcs {
-        decls.push(func(alloc, start, name, words)?)?;
-        start = start.saturating_add(1);
+// A program read from words, operands before what they belong to.
+#[derive(Drop)]
+struct Reader {
+    alloc: Global,
+    exprs: Items<Expr>,
+    lists: Items<Items<Stmt>>,
+    decls: Items<Decl>,
+}
+
+fn integer(alloc: Global, n: u32) -> TypeExpr {
+    TypeExpr::IntegerType(at(n), Items::new(alloc))
+}
+
+impl Reader {
+    fn push(&mut self, s: Stmt) -> Option<()> {
+        let mut list = self.lists.pop()?;
+        list.push(s).ok()?;
+        self.lists.push(list).ok()
     }
-    Ok(Program { decls })
+
+    fn operation(&mut self, n: u32, op: BinaryOperator) -> Option<()> {
+        let right = Boxed::new(self.alloc, self.exprs.pop()?).ok()?;
+        let left = Boxed::new(self.alloc, self.exprs.pop()?).ok()?;
+        self.exprs.push(Expr::Binary(at(n), op, left, right)).ok()
+    }
+
+    // `+`, `==`, `!`, `1`, `T`, and each other word as a name.
+    fn expr(&mut self, n: u32, word: &str) -> Option<()> {
+        let e = match word {
+            "+" => return self.operation(n, BinaryOperator::Add),
+            "==" => return self.operation(n, BinaryOperator::Equal),
+            "!" => {
+                let operand = Boxed::new(self.alloc, self.exprs.pop()?).ok()?;
+                Expr::Unary(at(n), UnaryOperator::Not, operand)
+            }
+            "1" => Expr::Int(at(n), 1),
+            "T" => Expr::Bool(at(n), true),
+            _ => Expr::Name(at(n), Items::from_slice(self.alloc, word.as_bytes()).ok()?),
+        };
+        self.exprs.push(e).ok()
+    }
+
+    // `{` begins a list; `if` takes a condition and two lists, `elsif` two conditions and three lists.
+    fn stmt(&mut self, n: u32, word: &str) -> Option<()> {
+        match word {
+            "{" => self.lists.push(Items::new(self.alloc)).ok(),
+            "}" => Some(()),
+            "pass" => self.push(Stmt::Pass(at(n))),
+            "unreachable" => self.push(Stmt::Unreachable(at(n))),
+            "return" => {
+                let e = self.exprs.pop()?;
+                self.push(Stmt::Return(at(n), Some(e)))
+            }
+            "assert" => {
+                let e = self.exprs.pop()?;
+                self.push(Stmt::Assert(at(n), e))
+            }
+            "print" => {
+                let mut items = Items::new(self.alloc);
+                items.push(PrintItem::Shown(self.exprs.pop()?)).ok()?;
+                self.push(Stmt::Print(at(n), PrintKind::Print, items))
+            }
+            "if" => {
+                let last = self.lists.pop()?;
+                let first = self.lists.pop()?;
+                let e = self.exprs.pop()?;
+                self.push(Stmt::If(at(n), e, first, Items::new(self.alloc), last))
+            }
+            "elsif" => {
+                let last = self.lists.pop()?;
+                let second = self.lists.pop()?;
+                let first = self.lists.pop()?;
+                let mut others = Items::new(self.alloc);
+                others.push(ElseIf::ElseIf(self.exprs.pop()?, second)).ok()?;
+                let e = self.exprs.pop()?;
+                self.push(Stmt::If(at(n), e, first, others, last))
+            }
+            _ => self.expr(n, word),
+        }
+    }
+
+    // `let:x`, `var:x`, `int:x` with its type, `set:x`, `vars:x` without initialiser, `global:x`, `int-global:x` with its
+    // type and `bare-global:x` without initialiser, `func:x` and `bool-func:x`.
+    fn named(&mut self, n: u32, word: &str, name: &str) -> Option<()> {
+        let i = ident(self.alloc, n, name)?;
+        match word {
+            "let" => self.local(n, LocalKind::Let, i, None),
+            "var" => self.local(n, LocalKind::Var, i, None),
+            "int" => self.local(n, LocalKind::Let, i, Some(integer(self.alloc, n))),
+            "set" => {
+                let e = self.exprs.pop()?;
+                self.push(Stmt::Assign(at(n), Target::Place(at(n), i, Items::new(self.alloc)), e))
+            }
+            "vars" => {
+                let mut idents = Items::new(self.alloc);
+                idents.push(i).ok()?;
+                self.push(Stmt::LocalVars(at(n), idents, integer(self.alloc, n)))
+            }
+            "global" => {
+                let e = self.exprs.pop()?;
+                self.global(n, i, None, Some(e))
+            }
+            "int-global" => {
+                let e = self.exprs.pop()?;
+                self.global(n, i, Some(integer(self.alloc, n)), Some(e))
+            }
+            "bare-global" => self.global(n, i, Some(integer(self.alloc, n)), None),
+            "func" => self.func(n, i, integer(self.alloc, n)),
+            _ => self.func(n, i, TypeExpr::BooleanType(at(n))),
+        }
+    }
+
+    fn local(&mut self, n: u32, kind: LocalKind, i: Ident, ty: Option<TypeExpr>) -> Option<()> {
+        let e = self.exprs.pop()?;
+        self.push(Stmt::Local(at(n), kind, Bind::Single(Binder::Bound(i)), ty, e))
+    }
+
+    fn global(
+        &mut self,
+        n: u32,
+        name: Ident,
+        ty: Option<TypeExpr>,
+        init: Option<Expr>,
+    ) -> Option<()> {
+        let d = StorageDecl {
+            span: at(n),
+            kind: StorageKind::Var,
+            name,
+            ty,
+            init,
+        };
+        self.decls.push(Decl::Storage(d)).ok()
+    }
+
+    fn func(&mut self, n: u32, name: Ident, returns: TypeExpr) -> Option<()> {
+        let body = self.lists.pop()?;
+        self.lists.push(Items::new(self.alloc)).ok()?;
+        let f = Func {
+            span: at(n),
+            qualifier: Qualifier::Unqualified,
+            name,
+            params: Items::new(self.alloc),
+            formals: Items::new(self.alloc),
+            result: Some(returns),
+            limit: None,
+            body,
+        };
+        self.decls.push(Decl::Func(f)).ok()
+    }
+}
+
+fn read(alloc: Global, text: &str) -> Option<Program> {
+    let mut reader = Reader {
+        alloc,
+        exprs: Items::new(alloc),
+        lists: Items::new(alloc),
+        decls: Items::new(alloc),
+    };
+    reader.lists.push(Items::new(alloc)).ok()?;
+    let mut n: u32 = 0;
+    for word in text.split_whitespace() {
+        match word.split_once(':') {
+            Some((first, name)) => reader.named(n, first, name)?,
+            None => reader.stmt(n, word)?,
+        }
+        n = n.saturating_add(1);
+    }
+    let Reader { decls, .. } = reader;
+    Some(Program { decls })
 }
 
 fn fault(code: StaticCode, span: Span) -> Result<Option<usize>, Refused> {
@@ -64,66 +216,198 @@ fn fault(code: StaticCode, span: Span) -> Result<Option<usize>, Refused> {
 }
 
 #[test]
-fn verdicts(rt: HostRuntime) {
-    let alloc = rt.alloc();
-    let none = Entry::None;
-    let main = Entry::Main;
+fn verdicts_on_declarations(rt: HostRuntime) {
     let origin = Span {
         file: 0,
         start: 0,
         len: 0,
     };
-    for (funcs, entry, want) in [
+    for (text, entry, want) in [
         (
-            [("f", "return"), ("main", "return")].as_slice(),
-            main,
+            "1 return func:f 1 return func:main",
+            Entry::Main,
             Ok(Some(1)),
         ),
-        ([("main", "pass return pass")].as_slice(), main, Ok(Some(0))),
-        ([("f", "return")].as_slice(), none, Ok(None)),
-        ([].as_slice(), none, Ok(None)),
-        ([].as_slice(), main, fault(StaticCode::T24, origin)),
+        ("pass 1 return pass func:main", Entry::Main, Ok(Some(0))),
+        ("1 return func:f", Entry::None, Ok(None)),
+        ("", Entry::None, Ok(None)),
+        ("", Entry::Main, fault(StaticCode::T24, origin)),
         (
-            [("Main", "return")].as_slice(),
-            main,
+            "1 return func:Main",
+            Entry::Main,
             fault(StaticCode::T24, origin),
         ),
-        ([("uint", "return")].as_slice(), none, Ok(None)),
         (
-            [("f", "pass"), ("UInt", "pass")].as_slice(),
-            none,
-            fault(StaticCode::T01, at(1)),
+            "T return bool-func:main",
+            Entry::Main,
+            fault(StaticCode::T24, origin),
+        ),
+        ("1 return func:uint", Entry::None, Ok(None)),
+        (
+            "pass func:f pass func:UInt",
+            Entry::None,
+            fault(StaticCode::T01, name_at(3)),
         ),
         (
-            [("f", "return"), ("Max", "pass"), ("Min", "pass")].as_slice(),
-            none,
-            fault(StaticCode::T01, at(1)),
+            "1 return func:f pass func:Max pass func:Min",
+            Entry::None,
+            fault(StaticCode::T01, name_at(4)),
         ),
         (
-            [("f", "pass"), ("g", "pass"), ("f", "return")].as_slice(),
-            none,
-            fault(StaticCode::T10, at(2)),
+            "bare-global:p bare-global:q bare-global:p",
+            Entry::None,
+            fault(StaticCode::T01, name_at(2)),
         ),
         (
-            [("f", "return"), ("g", "pass")].as_slice(),
-            main,
-            fault(StaticCode::T17, at(1)),
+            "pass func:f pass func:g 1 return func:f",
+            Entry::None,
+            fault(StaticCode::T10, name_at(6)),
+        ),
+        (
+            "1 return func:f pass func:g",
+            Entry::Main,
+            fault(StaticCode::T17, name_at(4)),
+        ),
+        (
+            "T int-global:x pass func:f",
+            Entry::None,
+            fault(StaticCode::T05, at(0)),
+        ),
+        (
+            "T global:x x return func:f",
+            Entry::None,
+            fault(StaticCode::T05, at(2)),
+        ),
+        (
+            "1 global:x bare-global:y x y + return func:f",
+            Entry::None,
+            Ok(None),
         ),
     ] {
-        let program = program(alloc, funcs).expect(&rt, "memory");
+        let program = read(rt.alloc(), text).expect(&rt, "a program");
         assert!(rt; first_unserved(&program).is_none());
-        let got = check(alloc, program, entry).map(|c| c.entry().map(|sub| sub.number()));
-        assert_eq!(rt; got, want, "{funcs:?}");
+        let got = check(rt.alloc(), program, entry).map(|c| c.entry().map(|sub| sub.number()));
+        assert_eq!(rt; got, want, "{text}");
     }
 }
 
 #[test]
-fn unserved(rt: HostRuntime) {
-    let alloc = rt.alloc();
-    let program = program(alloc, &[("f", "return"), ("g", "pass unreachable")]).expect(
-        &rt, "memory",
-    );
-    assert_eq!(rt; first_unserved(&program), Some(at(93)));
-    assert!(rt; falls_through(body(alloc, "pass pass").expect(&rt, "memory").as_slice()));
-    assert!(rt; !falls_through(body(alloc, "return pass").expect(&rt, "memory").as_slice()));
+fn verdicts_on_bodies(rt: HostRuntime) {
+    for (text, want) in [
+        (
+            "T { 1 let:a } { 1 let:a a return } if 1 return func:f",
+            Ok(None),
+        ),
+        (
+            "T { 1 let:a } { } if a return func:f",
+            fault(StaticCode::T02, at(8)),
+        ),
+        (
+            "1 let:a T { } { 1 let:a } if 1 return func:f",
+            fault(StaticCode::T01, name_at(7)),
+        ),
+        (
+            "1 global:x 1 let:x 1 return func:f",
+            fault(StaticCode::T01, name_at(3)),
+        ),
+        (
+            "1 let:f 1 return func:f",
+            fault(StaticCode::T01, name_at(1)),
+        ),
+        (
+            "1 let:Abs 1 return func:f",
+            fault(StaticCode::T01, name_at(1)),
+        ),
+        (
+            "1 let:a 1 return func:f a return func:g",
+            fault(StaticCode::T02, at(5)),
+        ),
+        ("f return func:f", fault(StaticCode::T02, at(0))),
+        (
+            "1 var:a T int:a 1 return func:f",
+            fault(StaticCode::T05, at(2)),
+        ),
+        (
+            "vars:a vars:a 1 return func:f",
+            fault(StaticCode::T01, name_at(1)),
+        ),
+        ("vars:a 1 set:a a return func:f", Ok(None)),
+        ("c set:b 1 return func:f", fault(StaticCode::T02, at(0))),
+        (
+            "T set:b 1 return func:f",
+            fault(StaticCode::T02, name_at(1)),
+        ),
+        (
+            "1 let:a T set:a 1 return func:f",
+            fault(StaticCode::T14, name_at(3)),
+        ),
+        (
+            "1 var:a T set:a 1 return func:f",
+            fault(StaticCode::T05, at(2)),
+        ),
+        ("1 T + return func:f", fault(StaticCode::T08, at(2))),
+        ("1 T == return func:f", fault(StaticCode::T08, at(2))),
+        ("T T + b == return func:f", fault(StaticCode::T08, at(2))),
+        ("1 ! return func:f", fault(StaticCode::T08, at(1))),
+        ("T ! return func:f", fault(StaticCode::T05, at(1))),
+        (
+            "1 { } { b print } if 1 return func:f",
+            fault(StaticCode::T02, at(4)),
+        ),
+        (
+            "1 { } { } if 1 return func:f",
+            fault(StaticCode::T05, at(0)),
+        ),
+        (
+            "1 { } 1 { } { } elsif 1 return func:f",
+            fault(StaticCode::T05, at(0)),
+        ),
+        (
+            "T { } 1 { } { } elsif 1 return func:f",
+            fault(StaticCode::T05, at(3)),
+        ),
+        (
+            "T { 1 return } T { pass } { 1 return } elsif func:f",
+            fault(StaticCode::T17, name_at(14)),
+        ),
+        (
+            "T { 1 return } T { 1 return } { 1 return } elsif func:f",
+            Ok(None),
+        ),
+        ("1 assert 1 return func:f", fault(StaticCode::T05, at(0))),
+        (
+            "1 global:x x 1 == assert x print 1 set:x 1 return func:f",
+            Ok(None),
+        ),
+    ] {
+        let program = read(rt.alloc(), text).expect(&rt, "a program");
+        assert!(rt; first_unserved(&program).is_none());
+        let got = check(rt.alloc(), program, Entry::None);
+        let got = got.map(|c| c.entry().map(|sub| sub.number()));
+        assert_eq!(rt; got, want, "{text}");
+    }
+}
+
+#[test]
+fn first_forms_that_are_not_served(rt: HostRuntime) {
+    for (text, want) in [
+        ("1 return func:f pass unreachable func:g", Some(at(4))),
+        ("T { } T { unreachable } { } elsif func:f", Some(at(5))),
+        ("T ! global:x T { } { unreachable } if func:f", Some(at(1))),
+    ] {
+        let program = read(rt.alloc(), text).expect(&rt, "a program");
+        assert_eq!(rt; first_unserved(&program), want, "{text}");
+    }
+    for (text, want) in [
+        ("pass func:f", true),
+        ("T { 1 return } { } if func:f", true),
+        ("T { 1 return } { unreachable } if func:f", false),
+    ] {
+        let program = read(rt.alloc(), text).expect(&rt, "a program");
+        let falls = match program.decls.get(0) {
+            Some(Decl::Func(f)) => falls_through(f.body.as_slice()),
+            _ => !want,
+        };
+        assert_eq!(rt; falls, want, "{text}");
+    }
 }

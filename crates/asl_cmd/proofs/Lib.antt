@@ -1,7 +1,8 @@
 pub mod Answering
+pub mod GlobalLines
+pub mod ParsingLemmas
 pub mod ReadingLemmas
+pub mod Reports
 pub mod Roomy
 pub mod RunLemmas
 pub mod Statuses
-pub mod ParsingLemmas
-pub mod Reports

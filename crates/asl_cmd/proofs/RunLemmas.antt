@@ -9,9 +9,10 @@ use Rattle.asl_rules.specs.Values.{Value}
 use Rattle.asl_rules.specs.Plans.{starting, Outcome, Done, Thrown, Halt, Faulted, Stuck, final}
 use Rattle.asl_rules.specs.Served.{unserved_decls}
 use Rattle.asl_rules.specs.Programs.{verdict}
-use Rattle.asl_rules.specs.Machines.{GivenUp, run_of, text_of_run, initial_globals}
+use Rattle.asl_rules.specs.Machines.{GivenUp, run_of, text_of_run}
+use Rattle.asl_rules.specs.Evaluation.{initial_globals}
 use Rattle.asl_rules.specs.Texts.{Text, File, is_open, closing, line_feed, dynamic_line, uncaught_line}
-use Rattle.asl_rules.specs.Report.{answer, behind, told_text, outcome_line, run_answer, started}
+use Rattle.asl_rules.specs.Report.{answer, behind, told_text, outcome_line, globals_text, run_answer, started}
 use Rattle.asl_rules.proofs.Shift.{own_text}
 use Rattle.asl_tree.specs.Accepted.{Accepted}
 use Rattle.asl_value.specs.declared.value.Value.{Value as Given}
@@ -25,7 +26,7 @@ use Rattle.asl_run.proofs.Entries.{entry_is_callable}
 use Rattle.asl_run.proofs.OwnRuns.{own_run, own_part}
 use Rattle.asl_cmd.specs.declared.status.Stop.{Stop}
 use Rattle.asl_cmd.specs.declared.status.Status.{Status}
-use Rattle.asl_cmd.specs.Ends.{end_line, end_status}
+use Rattle.asl_cmd.specs.Ends.{end_line, end_status, ending}
 use Rattle.asl_cmd.specs.Writes.{Answers}
 use Rattle.asl_cmd.proofs.Answering.{Answers-after}
 
@@ -43,17 +44,21 @@ went_on (stage.Fault code span) o h = tt
 went_on (stage.Refused e) o h = cc
 
 -- the answer of a run that ended so with this text
-answer_ends : (files : List File) (s : Stage) (globals : List Binding) (steps : ℕ) (text_open : Bool) (text : Text) (r : Outcome Core (Option Value)) → OnRefused s ⊥ → Ends s globals (record { steps = steps; told = Some text; text_open = text_open }) r → run_answer files r ≡ answer (behind text (end_line files s)) (end_status s)
+answer_ends : (files : List File) (s : Stage) (globals : List Binding) (steps : ℕ) (text_open : Bool) (text : Text) (r : Outcome Core (Option Value)) → OnRefused s ⊥ → Ends s globals (record { steps = steps; told = Some text; text_open = text_open }) r → run_answer files r ≡ answer (behind text (ending files s globals)) (end_status s)
 answer_ends files (stage.Ready x) globals steps text_open text r went ends = ap (run_answer files) ends
 answer_ends files (stage.Uncaught x) globals steps text_open text r went ends = ap (run_answer files) ends
-answer_ends files (stage.Fault code span) globals steps text_open text r went ends = ap (run_answer files) ends.is
+answer_ends files (stage.Fault code span) globals steps text_open text r went ends =
+    ap (run_answer files) ends.is ∙ ap (λ gs. answer (behind text (dynamic_line files code span ++ globals_text gs)) 4) ends.globals_are
 answer_ends files (stage.Refused e) globals steps text_open text r went ends = absurd went
+
+line_behind : (text : Text) (told : Option Text) (line : Text) → told ≡ Some text → (more : Text) × (behind (told_text told) line ≡ text ++ more)
+line_behind text told line is = (closing (told_text told) ++ line, ap (λ t. t ++ (closing (told_text told) ++ line)) (ap told_text is))
 
 -- the text of an answer begins with that of the run
 answer_begins : (files : List File) (r : Outcome Core (Option Value)) (text : Text) → (final r).told ≡ Some text → (more : Text) × ((run_answer files r).text ≡ text ++ more)
-answer_begins files (Done x c h) text told = (closing (told_text h.told) ++ outcome_line x, ap (λ t. t ++ (closing (told_text h.told) ++ outcome_line x)) (ap told_text told))
-answer_begins files (Thrown x c h) text told = (closing (told_text h.told) ++ uncaught_line x, ap (λ t. t ++ (closing (told_text h.told) ++ uncaught_line x)) (ap told_text told))
-answer_begins files (Halt (Faulted code span) c h) text told = (closing (told_text h.told) ++ dynamic_line files code span, ap (λ t. t ++ (closing (told_text h.told) ++ dynamic_line files code span)) (ap told_text told))
+answer_begins files (Done x c h) text told = line_behind text h.told (outcome_line x ++ globals_text c.globals) told
+answer_begins files (Thrown x c h) text told = line_behind text h.told (uncaught_line x ++ globals_text c.globals) told
+answer_begins files (Halt (Faulted code span) c h) text told = line_behind text h.told (dynamic_line files code span ++ globals_text c.globals) told
 answer_begins files (Halt (Stuck mistake span) c h) text told = ([], ap told_text told ∙ sym (append-nil text))
 
 -- what a new machine runs from its entry
@@ -75,7 +80,7 @@ main_callable checked main n w args new none entered served accepted =
 pub main_ended : (files : List File) (checked : Accepted) (main n steps : ℕ) (old mid last : Option (List ℕ)) (w after : Work) (args : List Given) (o : Ended) (result : Result Status Stop) → IsNew w checked n → n ≡ steps → args ≡ [] → Some main ≡ checked.entry
     → Ok o ≡ answer_of after.stage
     → OnReady w.stage (EndsWith after mid (run_with w main (map value_of args) old))
-    → Answers result mid last (answer ((if after.text_open then line_feed else []) ++ end_line files after.stage) (end_status after.stage))
+    → Answers result mid last (answer ((if after.text_open then line_feed else []) ++ ending files after.stage (bindings_of after.globals)) (end_status after.stage))
     → Answers result old last (started files checked.decls steps checked.entry)
 main_ended files checked main n steps old mid last w after args o result new same none entered ok ends written =
     let went = went_on after.stage o ok in
@@ -84,7 +89,7 @@ main_ended files checked main n steps old mid last w after args o result new sam
     let own = own_run checked.decls main [] (initial_globals checked.decls) steps after old mid went over in
     let r = run_of checked.decls main [] (initial_globals checked.decls) (starting steps (Some [])) in
     let shown = answer_ends files after.stage (bindings_of after.globals) after.steps after.text_open own.text r went own.ends in
-    let line = end_line files after.stage in
+    let line = ending files after.stage (bindings_of after.globals) in
     let behind_it = Answers-after result old mid last own.text ((if after.text_open then line_feed else []) ++ line) (end_status after.stage) own.written written in
     subst (λ e. Answers result old last (started files checked.decls steps e)) entered
     (subst (Answers result old last) (sym shown)

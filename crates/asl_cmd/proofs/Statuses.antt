@@ -4,7 +4,7 @@ use Rattle.asl_syn.specs.Command.{Command, usage, check, run}
 use Rattle.asl_syn.specs.declared.code.Fault.{Fault}
 use Rattle.asl_syn.specs.declared.tree.Decl.{Decl}
 use Rattle.asl_rules.specs.Values.{Value}
-use Rattle.asl_rules.specs.States.{Core}
+use Rattle.asl_rules.specs.States.{Binding, Core}
 use Rattle.asl_rules.specs.Plans.{Outcome, Done, Thrown, Halt, End, Faulted, Stuck}
 use Rattle.asl_rules.specs.Texts.{Text, File}
 use Rattle.asl_rules.specs.Report.{Reading, all, long, many, halted, run_answer, started, check_verdict, run_verdict, on_program, on_texts}
@@ -34,14 +34,14 @@ three_is command = ordinary command 3 (omega arith) (λ h. omega (arith, h))
 four_is : (command : Command) → IsOrdinary command 4
 four_is command = ordinary command 4 (omega arith) (λ h. omega (arith, h))
 
-of_halted : (command : Command) (files : List File) (e : End) (printed : Text) → IsOrdinary command (halted files e printed).status
-of_halted command files (Faulted code span) printed = four_is command
-of_halted command files (Stuck mistake span) printed = four_is command
+of_halted : (command : Command) (files : List File) (e : End) (globals : List Binding) (printed : Text) → IsOrdinary command (halted files e globals printed).status
+of_halted command files (Faulted code span) globals printed = four_is command
+of_halted command files (Stuck mistake span) globals printed = four_is command
 
 of_run : (command : Command) (files : List File) (o : Outcome Core (Option Value)) → IsOrdinary command (run_answer files o).status
 of_run command files (Done x c h) = zero_is command
 of_run command files (Thrown x c h) = three_is command
-of_run command files (Halt e c h) = of_halted command files e _
+of_run command files (Halt e c h) = of_halted command files e c.globals _
 
 of_started : (command : Command) (files : List File) (ds : List Decl) (steps : ℕ) (main : Option ℕ) → IsOrdinary command (started files ds steps main).status
 of_started command files ds steps None = zero_is command

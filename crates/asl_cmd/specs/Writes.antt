@@ -1,5 +1,5 @@
 -- What a call that reads or writes did, and why it stopped.
-use Rattle.std.specs.Prelude.{◌≡◌, ◌≤◌, ℕ, List, Option, Result, Ok, Err, MatchResult}
+use Rattle.std.specs.Prelude.{◌≡◌, ◌≤◌, ℕ, List, ◌++◌, Option, Result, Ok, Err, MatchResult}
 use Rattle.asl_io.specs.Faults.{Rises}
 use Rattle.asl_io.specs.Told.{Takes, TakesPrefix}
 use Rattle.asl_rules.specs.Report.{Answer}
@@ -11,6 +11,12 @@ use Rattle.asl_cmd.specs.declared.status.Status.TheVariants as status
 -- all of the text was taken, or a prefix
 abbrev pub Writes : {T : Type 0} → Result T Stop → Option (List ℕ) → Option (List ℕ) → List ℕ → Type 0
 Writes r old new text = MatchResult r (λ _. Takes old new text) (λ _. TakesPrefix old new text)
+
+-- all of the text was taken but for the rest
+pub record TakesFront (old new : Option (List ℕ)) (text rest : List ℕ) : Type 0 where
+  pub front : List ℕ
+  pub is : text ≡ front ++ rest
+  pub taken : Takes old new front
 
 -- a fault comes only where the count rose, and the count changes only at a fault
 abbrev pub HasCause : {T : Type 0} → Result T Stop → ℕ → ℕ → Type 0

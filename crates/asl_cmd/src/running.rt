@@ -1,13 +1,13 @@
-//! The run of a checked program, and the line of its end.
+//! The run of a checked program, and the lines of its end.
 ghost use Rattle.std.specs.Prelude.{◌≡◌, ◌++◌, [], None, Ok, map, if◌then◌else◌};
 ghost use Rattle.asl_rules.specs.declared.entry.Entry.TheVariants.{Main};
 ghost use Rattle.asl_rules.specs.Served.{unserved_decls};
 ghost use Rattle.asl_rules.specs.Programs.{verdict};
-ghost use Rattle.asl_rules.specs.Report.{answer, started};
-ghost use Rattle.asl_rules.specs.Texts.{line_feed, value_text};
-ghost use Rattle.asl_value.specs.View.{value_of};
+ghost use Rattle.asl_rules.specs.Report.{answer, globals_text, started};
+ghost use Rattle.asl_rules.specs.Texts.{global_line, line_feed, value_text};
+ghost use Rattle.asl_value.specs.View.{bindings_of, value_of};
 ghost use Rattle.asl_run.specs.Stages.{answer_of};
-ghost use Rattle.asl_cmd.specs.Ends.{end_line, end_status};
+ghost use Rattle.asl_cmd.specs.Ends.{end_line, end_status, ending};
 ghost use Rattle.asl_cmd.specs.Model.{file_of, AreShort};
 ghost use Rattle.asl_cmd.specs.Writes.{Writes, Answers, HasCause, code_of};
 
@@ -15,7 +15,7 @@ use crate::status::{Status, Stop};
 use crate::texts::dynamic_text;
 use crate::writing::{close, put, say};
 use asl_io::Sink;
-use asl_run::{Machine, Outcome, RunRefused};
+use asl_run::{GlobalVar, Machine, Outcome, RunRefused};
 use asl_syn::place::Source;
 use asl_tree::Checked;
 use asl_value::{Value, show};
@@ -79,7 +79,52 @@ fn say_end<K: Sink>(
     }
 }
 
-/// Closes the printed text of a run where it is open, and writes the line of its end.
+/// Writes the line of a global: its name and its value.
+fn put_global<K: Sink>(out: &mut K, global: &GlobalVar) -> Result<(), Stop>
+    ensures text { Writes result (K.written out.old) (K.written out.new) (global_line global.now.name (value_of global.now.value)) }
+    ensures cause { HasCause result (K.faults out.old) (K.faults out.new) }
+    ensures same_full { K.full out.new ≡ K.full out.old }
+{
+    put(out, global.name.as_slice())?;
+    put(out, b" = ")?;
+    put_value(out, &global.value)?;
+    put(out, b"\n")
+}
+
+/// Writes a line for each global that can be assigned, in source order.
+fn put_globals<K: Sink>(out: &mut K, globals: &[GlobalVar]) -> Result<(), Stop>
+    ensures text { Writes result (K.written out.old) (K.written out.new) (globals_text (bindings_of globals.now)) }
+    ensures cause { HasCause result (K.faults out.old) (K.faults out.new) }
+    ensures same_full { K.full out.new ≡ K.full out.old }
+{
+    for global in globals {
+        if global.is_mutable {
+            put_global(out, global)?;
+        }
+    }
+    Ok(())
+}
+
+/// Writes the line of a run's end and those of the globals, and answers its status.
+fn say_ending<K: Sink>(
+    alloc: Global,
+    sources: &[Source],
+    machine: &Machine,
+    outcome: Outcome,
+    out: &mut K,
+) -> Result<Status, Stop>
+    requires short { AreShort sources.now }
+    requires ended { answer_of machine.now.stage ≡ Ok outcome }
+    ensures answer { Answers result (K.written out.old) (K.written out.new) (answer (ending (map file_of sources.now) machine.now.stage (bindings_of machine.now.globals)) (end_status machine.now.stage)) }
+    ensures cause { HasCause result (K.faults out.old) (K.faults out.new) }
+    ensures same_full { K.full out.new ≡ K.full out.old }
+{
+    let status = say_end(alloc, sources, machine, outcome, out)?;
+    put_globals(out, machine.globals())?;
+    Ok(status)
+}
+
+/// Closes the printed text of a run where it is open, and writes the lines of its end.
 fn finish<K: Sink>(
     alloc: Global,
     sources: &[Source],
@@ -89,16 +134,16 @@ fn finish<K: Sink>(
 ) -> Result<Status, Stop>
     requires short { AreShort sources.now }
     requires ended { answer_of machine.now.stage ≡ Ok outcome }
-    ensures answer { Answers result (K.written out.old) (K.written out.new) (answer ((if machine.now.text_open then line_feed else []) ++ end_line (map file_of sources.now) machine.now.stage) (end_status machine.now.stage)) }
+    ensures answer { Answers result (K.written out.old) (K.written out.new) (answer ((if machine.now.text_open then line_feed else []) ++ ending (map file_of sources.now) machine.now.stage (bindings_of machine.now.globals)) (end_status machine.now.stage)) }
     ensures cause { HasCause result (K.faults out.old) (K.faults out.new) }
     ensures same_full { K.full out.new ≡ K.full out.old }
 {
     close(out, machine.text_open())?;
-    say_end(alloc, sources, machine, outcome, out)
+    say_ending(alloc, sources, machine, outcome, out)
 }
 
-/// Runs a program from its entry with so many steps: its printed text goes to the sink as it comes, and then the line of
-/// its end.
+/// Runs a program from its entry with so many steps: its printed text goes to the sink as it comes, and then the lines
+/// of its end.
 pub fn run_program<K: Sink>(
     alloc: Global,
     sources: &[Source],

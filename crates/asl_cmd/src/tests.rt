@@ -16,6 +16,25 @@ const OPEN_COMMENT: &str = "func main() => integer begin return 0; end; /*";
 
 const SLASH: &str = "func main() => integer begin return 0; end; /";
 
+/// Programs of integers and booleans.
+const PAST_THE_RANGE: &str =
+    "func main() => integer begin return 170141183460469231731687303715884105727 + 1; end;";
+
+const LEAST: &str =
+    "func main() => integer begin return -170141183460469231731687303715884105727 - 1; end;";
+
+const DIVISIONS: &str =
+    "func main() => integer begin println((-7) DIVRM 2); println((-7) MOD 2); return 7 DIV 2; end;";
+
+const MIXED_CHAIN: &str =
+    "func main() => integer begin return 1 + 2 == 3 && TRUE || FALSE; end;";
+
+const GLOBALS: &str =
+    "var n: integer = -2; var b: boolean; func main() => integer begin n = n * 3; b = !b; print(\"n\"); return n + 7; end;";
+
+const GLOBALS_AT_A_FAULT: &str =
+    "var n = 1; func main() => integer begin n = 2; assert n == 1; return n; end;";
+
 const USAGE: &str =
     "usage: asl check FILE.. | asl run [--steps N] FILE.. | asl exec [--steps N] --words W FILE.. | asl self NUMBER SIZE\n";
 
@@ -64,6 +83,22 @@ fn lines_over_one_file(rt: HostRuntime) {
         ("check a.asl", OPEN_COMMENT, "a.asl:1:45+2: L02\n", 1),
         ("check a.asl", SLASH, "a.asl:1:45+1: S01\n", 1),
         ("", ZERO, USAGE, 2),
+        ("run a.asl", PAST_THE_RANGE, "a.asl:1:37+43: D01\n", 4),
+        (
+            "run a.asl",
+            LEAST,
+            "returned -170141183460469231731687303715884105728\n",
+            0,
+        ),
+        ("run a.asl", DIVISIONS, "-4\n1\na.asl:1:81+7: D03\n", 4),
+        ("run a.asl", MIXED_CHAIN, "a.asl:1:56+2: S01\n", 1),
+        ("run a.asl", GLOBALS, "n\nreturned 1\nn = -6\nb = TRUE\n", 0),
+        (
+            "run a.asl",
+            GLOBALS_AT_A_FAULT,
+            "a.asl:1:48+14: D08\nn = 2\n",
+            4,
+        ),
     ] {
         let (out, status) = answered(rt.alloc(), line, text, 1000).expect(&rt, "memory");
         let written = str::from_utf8(out.bytes()).unwrap_or("no text");

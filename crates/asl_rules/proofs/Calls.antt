@@ -9,15 +9,20 @@ use Rattle.std.specs.Prelude.{slice_get}
 use Rattle.asl_rules.specs.Programs.{funcs_of}
 use Rattle.asl_rules.specs.Values.{Value, Exit, Normal, Returned}
 use Rattle.asl_rules.specs.States.{Binding, Core}
-use Rattle.asl_rules.specs.Evaluation.{in_order, at_end, run_bound, bound, call_func, call_of}
+use Rattle.asl_rules.specs.Plans.{Pure, Good, Bad, Ret, lift}
+use Rattle.asl_rules.specs.Evaluation.{Does, returned, restored, in_order, at_end, run_bound, bound, call_func, call_of}
 use Rattle.asl_rules.proofs.Quiet.{Quiet}
 
 list_quiet : (ss : List Stmt) (c : Core) → Quiet (in_order ss c)
 list_quiet [] c = tt
 list_quiet (s ∷ ss) c = tt
 
+lift_quiet : {A B : Type 0} (r : Pure A) (c : Core) (k : A → Does B) → ((x : A) → Quiet (k x)) → Quiet (lift r c k)
+lift_quiet (Good x) c k q = q x
+lift_quiet (Bad e) c k q = tt
+
 end_quiet : (result : Option TypeExpr) (span : Span) (c : Core) (x : Exit) (c1 : Core) → Quiet (at_end result span c x c1)
-end_quiet result span c (Returned x) c1 = tt
+end_quiet result span c (Returned x) c1 = lift_quiet (returned span result x) c1 (λ y. Ret y (restored c c1)) (λ y. tt)
 end_quiet None span c Normal c1 = tt
 end_quiet (Some t) span c Normal c1 = tt
 

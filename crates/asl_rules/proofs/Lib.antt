@@ -6,6 +6,15 @@ pub mod Calls
 pub mod Shift
 pub mod Safe
 pub mod Inversions
-pub mod Soundness
 pub mod OneOutcome
+pub mod Lookups
+pub mod Stores
+pub mod Agreeing
+pub mod OperatorForms
+pub mod ExprForms
+pub mod StmtForms
+pub mod Growing
+pub mod ListForms
+pub mod Globals
+pub mod Soundness
 pub mod OneReading

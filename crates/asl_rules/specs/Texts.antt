@@ -1,5 +1,5 @@
 -- The exact texts: values, fault lines, and the lines that end an answer.
-use Rattle.std.specs.Prelude.{ℕ, ◌+◌, ℤ, pos, negsuc, Bool, false, if◌then◌else◌, List, [], ◌∷◌, ◌++◌, take, slice_get, codes}
+use Rattle.std.specs.Prelude.{ℕ, ◌+◌, ℤ, pos, negsuc, Bool, false, if◌then◌else◌, List, [], ◌∷◌, ◌++◌, take, slice_get, codes, true}
 use Rattle.std.specs.Option.{option_map_or}
 use Rattle.std.specs.Fmt.{decimal}
 use Rattle.asl_syn.specs.declared.token.Span.{Span}
@@ -8,7 +8,7 @@ use Rattle.asl_syn.specs.declared.code.DynCode.{DynCode}
 use Rattle.asl_syn.specs.Codes.{static_text, dynamic_text}
 use Rattle.asl_syn.specs.Place.{line_of, column_of}
 use Rattle.asl_rules.specs.Told.{open_after}
-use Rattle.asl_rules.specs.Values.{Value, int}
+use Rattle.asl_rules.specs.Values.{Value, int, bool}
 
 abbrev pub Text : Type 0
 Text = List ℕ
@@ -27,6 +27,8 @@ integer_text (negsuc n) = 45 ∷ decimal (n + 1)
 
 abbrev pub value_text : Value → Text
 value_text (int z) = integer_text z
+value_text (bool true) = codes "TRUE"
+value_text (bool false) = codes "FALSE"
 
 -- the place of a fault, and its code
 abbrev pub placed : Text → ℕ → ℕ → ℕ → Text → Text
@@ -78,3 +80,7 @@ is_open text = open_after false text
 -- a line of the product begins on a line of its own
 abbrev pub closing : Text → Text
 closing text = if is_open text then line_feed else []
+
+-- a global after the run
+abbrev pub global_line : Text → Value → Text
+global_line name x = name ++ (codes " = " ++ (value_text x ++ line_feed))

@@ -10,7 +10,8 @@ ghost use Rattle.asl_syn.specs.declared.tree.Decl.{Decl};
 ghost use Rattle.asl_rules.specs.declared.entry.Entry.{Entry};
 ghost use Rattle.asl_rules.specs.Programs.{verdict, ProgramOk};
 ghost use Rattle.asl_rules.specs.OneRun.{OneRun};
-ghost use Rattle.asl_rules.specs.Soundness.{Soundness};
+ghost use Rattle.asl_rules.specs.Scopes.{Entry as Visible};
+ghost use Rattle.asl_rules.specs.Soundness.{NamesOf, Soundness};
 
 /// One run: for each program, state and node there is exactly one outcome, with one state, one number of steps left and
 /// one text after it.
@@ -32,5 +33,5 @@ pub fn law2()
 /// Soundness: no run of a well-formed program is stuck, each state that it visits is sound, and an expression with a type
 /// gives values of that type.
 pub fn law3()
-    ensures { (e : Entry) (ds : List Decl) (main : Option ℕ) → ProgramOk e ds main → Soundness ds }
+    ensures { (e : Entry) (ds : List Decl) (main : Option ℕ) → ProgramOk e ds main → (names : List Visible) × NamesOf ds names × Soundness ds names }
 {}

@@ -7,12 +7,12 @@ use Rattle.asl_syn.specs.declared.tree.Decl.{Decl}
 use Rattle.asl_syn.specs.declared.tree.Func.{Func}
 use Rattle.asl_rules.specs.declared.entry.Entry.{Entry}
 use Rattle.asl_rules.specs.declared.entry.Entry.TheVariants as entry
-use Rattle.asl_rules.specs.Faults.{◌>>◌}
-use Rattle.asl_rules.specs.Served.{is_empty, is_integer}
+use Rattle.asl_rules.specs.Faults.{◌>>=◌, ◌>>◌}
+use Rattle.asl_rules.specs.Served.{is_empty}
 use Rattle.asl_rules.specs.Names.{names_rule, all_declared}
-use Rattle.asl_rules.specs.Programs.{ProgramOk, verdict, funcs_of, overloads_rule, bodies_rule, entry_rule, is_main, main_from, main_of, found}
+use Rattle.asl_rules.specs.Programs.{ProgramOk, verdict, funcs_of, globals_rule, library_names, signatures_rule, overloads_rule, bodies_rule, result_rule, entry_rule, has_integer, is_main, main_from, main_of, entry_found}
 use Rattle.asl_rules.specs.Belonging.{Belong}
-use Rattle.asl_rules.proofs.Inversions.{then_ok}
+use Rattle.asl_rules.proofs.Inversions.{bind_ok, then_ok}
 use Rattle.asl_run.specs.Work.{IsCallable}
 
 empty_is : {A : Type 0} (xs : List A) → is_empty xs ≡ true → xs ≡ []
@@ -43,7 +43,7 @@ main_at k (f ∷ fs) n h = first_or (λ q. main_at (k + 1) fs n q) (is_main f) r
     first_or later true e h = let same : k ≡ n = same_Some k n h in record { func = f; place = 0; at = omega (arith, same); is = refl; main = e }
     first_or later false e h = let r = later h in let at : n ≡ r.place + (k + 1) = r.at in record { func = r.func; place = suc r.place; at = omega (arith, at); is = r.is; main = r.main }
 
-found_is : (o : Option ℕ) (n : ℕ) → found o ≡ Ok (Some n) → o ≡ Some n
+found_is : (o : Option ℕ) (n : ℕ) → entry_found o ≡ Ok (Some n) → o ≡ Some n
 found_is None n h = cc
 found_is (Some m) n h = cc
 
@@ -54,9 +54,11 @@ entry_is entry.Main ds n h = found_is (main_of ds) n h
 verdict_is : (e : Entry) (ds : List Decl) (n : ℕ) → verdict e ds ≡ Ok (Some n) → entry_rule e ds ≡ Ok (Some n)
 unfolding verdict
 verdict_is e ds n h =
-    let a = then_ok (names_rule [] (all_declared ds)) (overloads_rule [] (funcs_of ds) >> bodies_rule (funcs_of ds) >> entry_rule e ds) (Some n) h in
-    let b = then_ok (overloads_rule [] (funcs_of ds)) (bodies_rule (funcs_of ds) >> entry_rule e ds) (Some n) a.then in
-    (then_ok (bodies_rule (funcs_of ds)) (entry_rule e ds) (Some n) b.then).then
+    let a = then_ok (names_rule [] (all_declared ds)) (globals_rule ds library_names >>= λ names. signatures_rule (funcs_of ds) >> overloads_rule [] (funcs_of ds) >> bodies_rule names (funcs_of ds) >> entry_rule e ds) (Some n) h in
+    let g = bind_ok (globals_rule ds library_names) (λ names. signatures_rule (funcs_of ds) >> overloads_rule [] (funcs_of ds) >> bodies_rule names (funcs_of ds) >> entry_rule e ds) (Some n) a.then in
+    let s = then_ok (signatures_rule (funcs_of ds)) (overloads_rule [] (funcs_of ds) >> bodies_rule g.value (funcs_of ds) >> entry_rule e ds) (Some n) g.then in
+    let o = then_ok (overloads_rule [] (funcs_of ds)) (bodies_rule g.value (funcs_of ds) >> entry_rule e ds) (Some n) s.then in
+    (then_ok (bodies_rule g.value (funcs_of ds)) (entry_rule e ds) (Some n) o.then).then
 
 pub entry_is_callable : (e : Entry) (ds : List Decl) (n : ℕ) → ProgramOk e ds (Some n) → IsCallable ds n []
 entry_is_callable e ds n ok =
@@ -64,11 +66,11 @@ entry_is_callable e ds n ok =
     let at : n ≡ r.place + 0 = r.at in
     let same : r.place ≡ n = omega (arith, at) in
     let f = r.func in
-    let rest = and_right (bytes_eq f.name.text (codes "main")) (is_empty f.params && (is_empty f.formals && is_integer f.result)) r.main in
-    let formals = and_left (is_empty f.formals) (is_integer f.result) (and_right (is_empty f.params) (is_empty f.formals && is_integer f.result) rest) in
+    let rest = and_right (bytes_eq f.name.text (codes "main")) (is_empty f.params && (is_empty f.formals && has_integer (result_rule f.result))) r.main in
+    let formals = and_left (is_empty f.formals) (has_integer (result_rule f.result)) (and_right (is_empty f.params) (is_empty f.formals && has_integer (result_rule f.result)) rest) in
     record {
       func = f;
       is = subst (λ k. slice_get (funcs_of ds) k ≡ Some f) same r.is;
-      no_params = empty_is f.params (and_left (is_empty f.params) (is_empty f.formals && is_integer f.result) rest);
+      no_params = empty_is f.params (and_left (is_empty f.params) (is_empty f.formals && has_integer (result_rule f.result)) rest);
       args_belong = subst (λ fs. Belong [] fs) (sym (empty_is f.formals formals)) tt;
     }

@@ -1,13 +1,15 @@
 -- How the interpreter's answers are related to the rules.
-use Rattle.std.specs.Prelude.{◌≡◌, ◌≤◌, ℕ, List, Option, Result, Ok, Err}
+use Rattle.std.specs.Prelude.{◌≡◌, ◌≤◌, ℕ, Bool, List, ◌++◌, Option, Result, Ok, Err}
 use Rattle.asl_io.specs.Faults.{Rises}
 use Rattle.asl_syn.specs.declared.tree.Decl.{Decl}
 use Rattle.asl_syn.specs.declared.tree.Expr.{Expr}
 use Rattle.asl_syn.specs.declared.tree.Stmt.{Stmt}
-use Rattle.asl_rules.specs.States.{Core}
+use Rattle.asl_rules.specs.States.{Binding, Core}
 use Rattle.asl_rules.specs.Plans.{Meter, Faulted, Stuck, Outcome, Done, Thrown, Halt, run, Pure, Good, Bad}
 use Rattle.asl_rules.specs.Cuts.{cuts}
 use Rattle.asl_rules.specs.Evaluation.{Does, meaning, cutting}
+use Rattle.asl_rules.specs.Told.{appended, open_after, Part}
+use Rattle.asl_rules.specs.Values as rules
 use Rattle.asl_value.specs.declared.value.Value.{Value}
 use Rattle.asl_value.specs.View.{value_of}
 use Rattle.asl_run.specs.declared.stop.Exit.{Exit}
@@ -40,6 +42,10 @@ abbrev pub Executes : Result Exit Stop → List Decl → ℕ → Stmt → Store 
 Executes result ds d t s told s1 told1 =
     Meets exit_of result (core_of s1) (meter_of s1 told1) ((meaning ds d).stmt t (core_of s) (meter_of s told)) ((cutting ds d).stmt t (core_of s) (meter_of s told))
 
+-- an answer is that of a plan which enters no node and writes nothing
+abbrev pub Acts : Result Exit Stop → (Core → Does rules.Exit) → Store → Store → Type 0
+Acts result q s s1 = (ds : List Decl) (d : ℕ) (told : Option (List ℕ)) → Runs exit_of result ds d q s told s1 told
+
 -- an operator's answer, or want of memory
 abbrev pub Is : {A B : Type 0} → (A → B) → Result A Stop → Pure B → Type 0
 Is view (Ok x) r = r ≡ Good (view x)
@@ -48,6 +54,31 @@ Is view (Err stop.SinkFault) r = ⊥
 Is view (Err (stop.Thrown x)) r = ⊥
 Is view (Err (stop.Fault code span)) r = r ≡ Bad (Faulted code span)
 Is view (Err (stop.Stuck mistake span)) r = r ≡ Bad (Stuck (mistake_of mistake) span)
+
+-- an answer is that of a store among bindings, which are as they were where it isn't good
+abbrev pub Puts : Result (Unit {0}) Stop → List Binding → List Binding → Pure (List Binding) → Type 0
+Puts (Ok x) bs bs1 r = r ≡ Good bs1
+Puts (Err stop.NoMemory) bs bs1 r = ⊥
+Puts (Err stop.SinkFault) bs bs1 r = ⊥
+Puts (Err (stop.Thrown x)) bs bs1 r = ⊥
+Puts (Err (stop.Fault code span)) bs bs1 r = (r ≡ Bad (Faulted code span)) × (bs1 ≡ bs)
+Puts (Err (stop.Stuck mistake span)) bs bs1 r = (r ≡ Bad (Stuck (mistake_of mistake) span)) × (bs1 ≡ bs)
+
+-- bytes were written, or where the sink refused them some of them; from whether text is open, and told text, to the same
+abbrev pub Writes : Result (Unit {0}) Stop → List ℕ → Bool → Option (List ℕ) → Bool → Option (List ℕ) → Type 0
+Writes (Ok x) bytes o told o1 told1 = (told1 ≡ appended told bytes) × (o1 ≡ open_after o bytes)
+Writes (Err stop.NoMemory) bytes o told o1 told1 = ⊥
+Writes (Err stop.SinkFault) bytes o told o1 told1 = Part told told1 bytes
+Writes (Err (stop.Thrown x)) bytes o told o1 told1 = ⊥
+Writes (Err (stop.Fault code span)) bytes o told o1 told1 = ⊥
+Writes (Err (stop.Stuck mistake span)) bytes o told o1 told1 = ⊥
+
+-- bytes were written but for the rest
+pub record WroteFront (bytes rest : List ℕ) (o : Bool) (told : Option (List ℕ)) (o1 : Bool) (told1 : Option (List ℕ)) : Type 0 where
+  pub front : List ℕ
+  pub whole : bytes ≡ front ++ rest
+  pub told_is : told1 ≡ appended told front
+  pub open_is : o1 ≡ open_after o front
 
 -- the sink's count of faults rose where it refused a write, and is as it was elsewhere
 abbrev pub Counts : {A : Type 0} → Result A Stop → ℕ → ℕ → Type 0
@@ -62,3 +93,12 @@ Counts (Err (stop.Stuck mistake span)) before after = after ≡ before
 pub record Left {A : Type 0} (ds : List Decl) (d : ℕ) (q : Does A) (h : Meter) (q0 : Does A) (h0 : Meter) : Type 0 where
   pub same : run (meaning ds d) q h ≡ run (meaning ds d) q0 h0
   pub given_up : (u : Meter) → cuts (meaning ds d) (cutting ds d) q h u → cuts (meaning ds d) (cutting ds d) q0 h0 u
+
+-- no write was refused
+abbrev pub NoneRefused : {A : Type 0} → Result A Stop → Type 0
+NoneRefused (Ok x) = Unit {0}
+NoneRefused (Err stop.NoMemory) = Unit {0}
+NoneRefused (Err stop.SinkFault) = ⊥
+NoneRefused (Err (stop.Thrown x)) = Unit {0}
+NoneRefused (Err (stop.Fault code span)) = Unit {0}
+NoneRefused (Err (stop.Stuck mistake span)) = Unit {0}

@@ -17,6 +17,8 @@ exit_of (exit.Returned x) = rules.Returned (option_map value_of x)
 
 abbrev pub mistake_of : Mistake → plans.Mistake
 mistake_of mistake.UnknownName = plans.UnknownName
+mistake_of mistake.WrongKind = plans.WrongKind
+mistake_of mistake.Immutable = plans.Immutable
 mistake_of mistake.EndReached = plans.EndReached
 mistake_of mistake.UnservedForm = plans.UnservedForm
 

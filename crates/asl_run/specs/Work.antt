@@ -7,10 +7,15 @@ use Rattle.asl_tree.specs.Accepted.{Accepted, accepted_code}
 use Rattle.asl_rules.specs.Values as rules
 use Rattle.asl_rules.specs.Plans.{starting}
 use Rattle.asl_rules.specs.States.{Core}
+use Rattle.asl_rules.specs.States as states
 use Rattle.asl_rules.specs.Plans as plans
 use Rattle.asl_rules.specs.Programs.{funcs_of}
 use Rattle.asl_rules.specs.Belonging.{Belong}
-use Rattle.asl_rules.specs.Machines.{initial_globals, run_of, text_of_run}
+use Rattle.asl_rules.specs.Scopes.{Entry}
+use Rattle.asl_rules.specs.Agreement.{GlobalsMatch}
+use Rattle.asl_rules.specs.Evaluation.{initial_globals}
+use Rattle.asl_rules.specs.Soundness.{NamesOf}
+use Rattle.asl_rules.specs.Machines.{run_of, text_of_run}
 use Rattle.asl_value.specs.declared.binding.Binding.{Binding}
 use Rattle.asl_value.specs.contracts.binding.Binding as binding
 use Rattle.asl_value.specs.View.{bindings_of}
@@ -40,6 +45,10 @@ pub record IsNew (w : Work) (checked : Accepted) (steps : ℕ) : Type 0 where
   pub steps_are : w.steps ≡ steps
   pub text_is_closed : w.text_open ≡ false
   pub stage_is : w.stage ≡ stage.Ready None
+
+-- globals that hold the storage that a program declares
+abbrev pub HoldStorage : List Decl → List states.Binding → Type 0
+HoldStorage ds globals = ∥ ((names : List Entry) × NamesOf ds names × GlobalsMatch names globals) ∥₁
 
 -- a subprogram of the program that has no parameters, with arguments in the types of its formals
 pub record IsCallable (ds : List Decl) (id : ℕ) (args : List rules.Value) : Type 0 where

@@ -1,10 +1,19 @@
 //! The interpreter, and the machine that runs checked programs.
 #![tactic(auto)]
 
-mod leaves;
+mod calls;
+mod exprs;
+mod globals;
 mod machine;
-mod run;
+mod names;
+mod operators;
+mod output;
+mod stmts;
 mod stop;
 mod store;
+mod types;
 
 pub use machine::{GlobalVar, Machine, Outcome, RunRefused};
+
+#[cfg(test)]
+mod tests;

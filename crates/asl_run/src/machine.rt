@@ -5,14 +5,14 @@ ghost use Rattle.asl_rules.specs.Cuts.{cuts};
 ghost use Rattle.asl_rules.specs.Evaluation.{meaning, cutting, call_of};
 ghost use Rattle.asl_rules.specs.Machines.{GivenUp, most_open, resting, run_of, text_of_run};
 ghost use Rattle.asl_rules.specs.Plans.{starting};
-ghost use Rattle.asl_rules.specs.Belonging.{AllBelong};
 ghost use Rattle.asl_value.specs.View.{value_of, bindings_of};
 ghost use Rattle.asl_run.specs.Meets.{Meets, Counts};
 ghost use Rattle.asl_run.specs.View.{core_of, meter_of};
 ghost use Rattle.asl_run.specs.Stages.{Ends, is_ready, OnReady, OnEnded, OnRefused, answer_of, returned_by, uncaught_by, Counted};
-ghost use Rattle.asl_run.specs.Work.{Work, IsCallable, IsNew, run_with, text_with, EndsWith};
+ghost use Rattle.asl_run.specs.Work.{Work, IsCallable, IsNew, HoldStorage, run_with, text_with, EndsWith};
 
-use crate::run;
+use crate::calls;
+use crate::globals::initial_globals;
 use crate::stop::Stop;
 use crate::store::Store;
 use asl_io::Sink;
@@ -25,7 +25,7 @@ use std::alloc::{AllocError, Global};
 use std::marker::Model;
 use std::mem;
 
-/// A global variable: its name, its value and the type that the value is stored under.
+/// A global variable: its name and value, and the type that the value is stored under.
 pub type GlobalVar = Binding;
 
 /// How a run ends.
@@ -68,10 +68,9 @@ pub struct Machine {
 }
 
 impl Model for Machine {
-    ghost use Rattle.asl_rules.specs.Belonging.{AllBelong};
     ghost use Rattle.asl_value.specs.View.{bindings_of};
     ghost use Rattle.asl_run.specs.Stages.{OnReady};
-    ghost use Rattle.asl_run.specs.Work.{Work, work_code};
+    ghost use Rattle.asl_run.specs.Work.{Work, work_code, HoldStorage};
 
     ghost Value = { Work };
 
@@ -79,7 +78,7 @@ impl Model for Machine {
 
     ghost view = { λ m. record { checked = m.checked; globals = m.globals.items; steps = m.steps; text_open = m.text_open; stage = m.stage } };
 
-    ghost invariant = { λ m. ∥ OnReady m.stage (AllBelong (bindings_of m.globals.items)) ∥₁ };
+    ghost invariant = { λ m. OnReady m.stage (HoldStorage m.checked.decls (bindings_of m.globals.items)) };
 }
 
 impl Machine {
@@ -87,9 +86,10 @@ impl Machine {
     pub fn new(alloc: Global, checked: Checked, steps: u64) -> Result<Machine, AllocError>
         ensures { IfOk result (λ m. IsNew m checked steps) }
     {
+        let globals = initial_globals(alloc, checked.program().decls.as_slice())?;
         Ok(Machine {
             checked,
-            globals: Vec::new(alloc),
+            globals,
             steps,
             text_open: false,
             stage: Stage::Ready(None),
@@ -230,7 +230,7 @@ fn run_checked<K: Sink>(
     requires live { store.old.live.items ≡ [] }
     requires text { store.old.text_open ≡ false }
     requires callable { IsCallable checked.now.decls sub (map value_of args.items) }
-    requires belong { ∥ AllBelong (bindings_of store.old.globals.items) ∥₁ }
+    requires storage { HoldStorage checked.now.decls (bindings_of store.old.globals.items) }
     ensures outcome { Ends result
         (bindings_of store.new.globals.items) (meter_of store.new (K.written sink.new))
         (run_of checked.now.decls sub (map value_of args.items) (bindings_of store.old.globals.items)
@@ -240,7 +240,8 @@ fn run_checked<K: Sink>(
         (bindings_of store.old.globals.items) (K.written sink.old))
         (K.written sink.old) (K.written sink.new)
         store.old.steps (store.old.steps - store.new.steps)) }
-    ensures sound { OnReady result ∥ AllBelong (bindings_of store.new.globals.items) ∥₁ }
+    ensures storage { OnReady result
+        (HoldStorage checked.now.decls (bindings_of store.new.globals.items)) }
     ensures counts { Counted result (K.faults sink.old) (K.faults sink.new) }
     ensures same_full { K.full sink.new ≡ K.full sink.old }
 {
@@ -278,7 +279,7 @@ fn run_decls<K: Sink>(
     ensures counts { Counts result (K.faults sink.old) (K.faults sink.new) }
     ensures same_full { K.full sink.new ≡ K.full sink.old }
 {
-    run::call(alloc, decls, store, sink, open_limit(), sub, args)
+    calls::call(alloc, decls, store, sink, open_limit(), sub, args)
 }
 
 #[tactic(auto, unfolding(asl_rules::specs::Machines::most_open))]

@@ -1,8 +1,8 @@
 -- How the rules see the values of a run.
-use Rattle.std.specs.Prelude.{List, map, string_bytes}
+use Rattle.std.specs.Prelude.{List, map}
 use Rattle.asl_value.specs.declared.binding.Binding.{Binding}
-use Rattle.asl_value.specs.declared.binding.Ty.{Ty}
-use Rattle.asl_value.specs.declared.binding.Ty.TheVariants.{Integer}
+use Rattle.asl_value.specs.declared.value.Ty.{Ty}
+use Rattle.asl_value.specs.declared.value.Ty.TheVariants as ty
 use Rattle.asl_value.specs.declared.value.Value.{Value}
 use Rattle.asl_value.specs.declared.value.Value.TheVariants as v
 use Rattle.asl_rules.specs.States as states
@@ -11,12 +11,14 @@ use Rattle.asl_rules.specs.Values as rules
 
 abbrev pub value_of : Value → rules.Value
 value_of (v.Int z) = rules.int z
+value_of (v.Bool b) = rules.bool b
 
-abbrev pub type_of : Ty → types.Ty
-type_of Integer = types.integer
+abbrev pub ty_of : Ty → types.Ty
+ty_of ty.Integer = types.integer
+ty_of ty.Boolean = types.boolean
 
 abbrev pub binding_of : Binding → states.Binding
-binding_of b = record { name = string_bytes b.name; value = value_of b.value; ty = type_of b.ty }
+binding_of b = record { name = b.name; value = value_of b.value; ty = ty_of b.ty; is_mutable = b.is_mutable }
 
 abbrev pub bindings_of : List Binding → List states.Binding
 bindings_of bs = map binding_of bs

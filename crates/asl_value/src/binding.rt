@@ -1,18 +1,13 @@
 //! Names with their values.
 
-use crate::value::Value;
+use crate::value::{Ty, Value};
+use asl_syn::tree::Text;
 
-/// The types that values are stored under.
-#[derive(Clone, Copy, Debug, PartialEq, Eq)]
-pub enum Ty {
-    /// `integer`
-    Integer,
-}
-
-/// A name with its value and the type that the value is stored under.
+/// A name with its value, the type that the value is stored under, and whether it can be assigned.
 #[derive(Debug, Drop)]
 pub struct Binding {
-    pub name: String,
+    pub name: Text,
     pub value: Value,
     pub ty: Ty,
+    pub is_mutable: bool,
 }

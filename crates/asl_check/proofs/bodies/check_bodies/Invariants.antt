@@ -3,4 +3,4 @@ use Rattle.asl_rules.specs.Programs.{bodies_rule, funcs_of}
 use Rattle.asl_check.proofs.bodies.check_bodies.Given as goal
 
 abbrev pub invariant-loop-d : goal.invariant-loop-d
-invariant-loop-d l = bodies_rule (funcs_of (drop l.d-index l.decls)) ≡ bodies_rule (funcs_of l.decls)
+invariant-loop-d l = record { same : l.names ≡ l.fn.names; rest : bodies_rule l.names (funcs_of (drop l.d-index l.decls)) ≡ bodies_rule l.fn.names (funcs_of l.decls) }

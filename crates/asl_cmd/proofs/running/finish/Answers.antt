@@ -9,4 +9,4 @@ returns-in_err-close-clause-answer g c =
     rw (p.1, ← c.text_open.ensures) (TakesPrefix-more _ _ _ _ c.in_err-close.ensures.text)
 
 pub returns-clause-answer : goal.returns-clause-answer
-returns-clause-answer g c = rw (← c.text_open.ensures) (Answers-after _ _ _ _ _ _ _ c.in_ok-close.ensures.text c.say_end.ensures.answer)
+returns-clause-answer g c = rw (← c.text_open.ensures) (Answers-after _ _ _ _ _ _ _ c.in_ok-close.ensures.text c.say_ending.ensures.answer)

@@ -1,0 +1,116 @@
+-- The walks over statements are the rules, and the names after statements begin with those before.
+use Rattle.std.proofs.Common.{◌≡◌, Bool, true, false, ◌&&◌, cond, List, [], ◌∷◌, ◌++◌, length, take, map, Option, Some, None, Result, Ok, refl, sym, ap, ◌∙◌}
+use Rattle.std.proofs.Math.Seq.{take-append_seam}
+use Rattle.asl_syn.specs.declared.token.Span.{Span}
+use Rattle.asl_syn.specs.declared.code.Fault.{Fault}
+use Rattle.asl_syn.specs.declared.code.StaticCode.TheVariants.{T05}
+use Rattle.asl_syn.specs.declared.tree.Expr.{Expr}
+use Rattle.asl_syn.specs.declared.tree.PrintItem.{PrintItem}
+use Rattle.asl_syn.specs.declared.tree.PrintItem.TheVariants.{Verbatim, Shown}
+use Rattle.asl_syn.specs.declared.tree.Stmt.{Stmt}
+use Rattle.asl_syn.specs.declared.tree.Alternative.TheOpen as st
+use Rattle.asl_syn.specs.declared.tree.Alternative.TheFolds.{fold-Stmt}
+use Rattle.asl_rules.specs.declared.effect.Effect.{Effect}
+use Rattle.asl_rules.specs.declared.effect.Effect.TheVariants.{Pure, Writes}
+use Rattle.asl_rules.specs.Faults.{◌>>=◌, ◌>>◌, need, none_at}
+use Rattle.asl_rules.specs.Types.{is_boolean}
+use Rattle.asl_rules.specs.Effects.{greater, together, all_together, greatest}
+use Rattle.asl_rules.specs.Scopes.{Scope}
+use Rattle.asl_rules.specs.Exprs.{Typed, typed}
+use Rattle.asl_rules.specs.Stmts.{Done, done, FoundStmt, FoundBranch, Branch, expr_at, ended, with_names, in_order, block, condition, conditions, branches, if_rule, items_rule, print_rule, StmtOf, Unread, stmt_layer_rule, branch_rule, found_stmt}
+use Rattle.asl_rules.proofs.Inversions.{ok_ok, bind_ok}
+use Rattle.asl_rules.proofs.Growing.{Longer, same_names, longer_on, stmt_longer}
+use Rattle.asl_check.specs.Walks.{misplaced, after_branches, if_walk, after_items, print_walk, walk_layer, walk_stmt}
+use Rattle.asl_check.proofs.Binds.{then_same, then_then, need_then, need_need, need_last}
+
+-- ---- `if`
+
+branch_of : Expr → Typed → Branch
+branch_of c S = record { condition = c; typed = S }
+
+conditions_last : (before : List Branch) (c : Expr) (S : Typed) → conditions (before ++ record { condition = c; typed = S } ∷ []) ≡ (conditions before >> condition c S)
+conditions_last [] c S = need_last (condition c S)
+conditions_last (b ∷ bs) c S = ap (λ r. condition b.condition b.typed >> r) (conditions_last bs c S) ∙ need_need (condition b.condition b.typed) (conditions bs) (condition c S)
+
+boolean_at : (b : Bool) (at : Span) → need b T05 at ≡ none_at T05 (cond b None (Some at))
+boolean_at true at = refl
+boolean_at false at = refl
+
+misplaced_is : (r : Result (Unit {0}) Fault) (at : Option Span) (c : Expr) (S : Typed) → r ≡ none_at T05 at → (r >> condition c S) ≡ none_at T05 (misplaced at c S)
+misplaced_is r None c S h = ap (λ q. q >> condition c S) h ∙ boolean_at (is_boolean S.ty) (expr_at c)
+misplaced_is r (Some at) c S h = ap (λ q. q >> condition c S) h
+
+branches_walk : (T : Result (Unit {0}) Fault → Effect → Result Done Fault) (bs : List FoundBranch) (before : List Branch) (at : Option Span) (k : Effect) (G : Scope) → conditions before ≡ none_at T05 at →
+    (branches bs before k G >>= λ p. T (conditions p.0) p.1) ≡ (after_branches bs at k G >>= λ p. T (none_at T05 p.0) p.1)
+branches_walk T [] before at k G h = ap (λ c. T c k) h
+branches_walk T (b ∷ bs) before at k G h =
+    then_then (typed b.condition G) _ (λ p. T (conditions p.0) p.1)
+    ∙ then_same (typed b.condition G) _ _ (λ S.
+    then_then (block b.body G) _ (λ p. T (conditions p.0) p.1)
+    ∙ then_same (block b.body G) _ _ (λ d. branches_walk T bs _ (misplaced at b.condition S) (greater k (greater S.effect d.effect)) G (conditions_last before b.condition S ∙ misplaced_is (conditions before) at b.condition S h))
+    ∙ sym (then_then (block b.body G) _ (λ p. T (none_at T05 p.0) p.1)))
+    ∙ sym (then_then (typed b.condition G) _ (λ p. T (none_at T05 p.0) p.1))
+
+if_is : (span : Span) (c : Expr) (first : List FoundStmt) (others : List FoundBranch) (last : List FoundStmt) (G : Scope) → if_rule span c first others last G ≡ if_walk span c first others last G
+if_is span c first others last G =
+    branches_walk (λ r k. block last G >>= λ d. r >> ended G.class span true (greater k d.effect) >>= λ l. Ok (done G.names l)) (record { condition = c; body = first } ∷ others) [] None Pure G refl
+    ∙ then_same (after_branches (record { condition = c; body = first } ∷ others) None Pure G) _ _ (λ p. then_same (block last G) _ _ (λ d. need_then (none_at T05 p.0) (ended G.class span true (greater p.1 d.effect)) (λ l. Ok (done G.names l))))
+
+-- ---- `print`
+
+and_true : (b : Bool) → b && true ≡ b
+and_true true = refl
+and_true false = refl
+
+and_and : (a b c : Bool) → a && (b && c) ≡ (a && b) && c
+and_and true b c = refl
+and_and false b c = refl
+
+all_last : (ks : List Effect) (j l : Effect) → all_together j (ks ++ l ∷ []) ≡ all_together j ks && together (greatest j ks) l
+all_last [] j l = and_true (together j l)
+all_last (k ∷ ks) j l = ap (λ b. together j k && b) (all_last ks (greater j k) l) ∙ and_and (together j k) (all_together (greater j k) ks) (together (greatest (greater j k) ks) l)
+
+greatest_last : (ks : List Effect) (j l : Effect) → greatest j (ks ++ l ∷ []) ≡ greater (greatest j ks) l
+greatest_last [] j l = refl
+greatest_last (k ∷ ks) j l = greatest_last ks (greater j k) l
+
+items_walk : (T : Bool → Effect → Result Done Fault) (is : List PrintItem) (ks : List Effect) (ok : Bool) (k : Effect) (G : Scope) → all_together Pure ks ≡ ok → greatest Pure ks ≡ k →
+    (items_rule is ks G >>= λ ls. T (all_together Pure ls) (greatest Pure ls)) ≡ (after_items is ok k G >>= λ p. T p.0 p.1)
+items_walk T [] ks ok k G h g = λ i. T (h i) (g i)
+items_walk T (Verbatim span t ∷ is) ks ok k G h g = items_walk T is ks ok k G h g
+items_walk T (Shown e ∷ is) ks ok k G h g =
+    then_then (typed e G) _ (λ ls. T (all_together Pure ls) (greatest Pure ls))
+    ∙ then_same (typed e G) _ _ (λ S. items_walk T is (ks ++ S.effect ∷ []) (ok && together k S.effect) (greater k S.effect) G
+    (all_last ks Pure S.effect ∙ (λ i. h i && together (g i) S.effect)) (greatest_last ks Pure S.effect ∙ ap (λ j. greater j S.effect) g))
+    ∙ sym (then_then (typed e G) _ (λ p. T p.0 p.1))
+
+print_is : (span : Span) (is : List PrintItem) (G : Scope) → print_rule span is G ≡ print_walk span is G
+print_is span is G = items_walk (λ ok k. ended G.class span ok (greater k Writes) >>= λ l. Ok (done G.names l)) is [] true Pure G refl refl
+
+-- ---- all statements
+
+layer_is : (layer : StmtOf) (G : Scope) → stmt_layer_rule layer G ≡ walk_layer layer G
+layer_is (st.If span c first others last) G = if_is span c first others last G
+layer_is (st.Print span kind is) G = print_is span is G
+layer_is layer G = refl
+
+pub found_is : found_stmt ≡ walk_stmt
+found_is = λ i. fold-Stmt Unread Unread FoundBranch Unread FoundStmt (λ _. tt) (λ _. tt) branch_rule (λ _. tt) (λ layer G. layer_is layer G i)
+
+pub list_is : (ss : List Stmt) (k : Effect) (G : Scope) → in_order (map found_stmt ss) k G ≡ in_order (map walk_stmt ss) k G
+list_is ss k G = ap (λ (f : Stmt → FoundStmt). in_order (map f ss) k G) found_is
+
+-- ---- the names before
+
+list_longer : (ss : List Stmt) (k : Effect) (G : Scope) (d : Done) → in_order (map found_stmt ss) k G ≡ Ok d → Longer G.names d.names
+list_longer [] k G d h = same_names G.names d.names (ap (λ (e : Done). e.names) (ok_ok (done G.names k) d h))
+list_longer (s ∷ ss) k G d h =
+    let b = bind_ok (found_stmt s G) (λ e. in_order (map found_stmt ss) (greater k e.effect) (with_names G e.names)) d h in
+    longer_on G.names b.value.names d.names (stmt_longer s G b.value b.first) (list_longer ss (greater k b.value.effect) (with_names G b.value.names) d b.then)
+
+-- the scope before stands at the beginning of that after
+pub cut_back : (ss : List Stmt) (k : Effect) (G : Scope) (d : Done) → in_order (map found_stmt ss) k G ≡ Ok d → take (length G.names) d.names ≡ G.names
+cut_back ss k G d h = let l = list_longer ss k G d h in ap (take (length G.names)) l.is ∙ take-append_seam G.names l.more
+
+pub cut_back_walk : (ss : List Stmt) (k : Effect) (G : Scope) (d : Done) → in_order (map walk_stmt ss) k G ≡ Ok d → take (length G.names) d.names ≡ G.names
+cut_back_walk ss k G d h = cut_back ss k G d (list_is ss k G ∙ h)
