@@ -26,14 +26,24 @@ const LEAST: &str =
 const DIVISIONS: &str =
     "func main() => integer begin println((-7) DIVRM 2); println((-7) MOD 2); return 7 DIV 2; end;";
 
-const MIXED_CHAIN: &str =
-    "func main() => integer begin return 1 + 2 == 3 && TRUE || FALSE; end;";
+const MIXED_CHAIN: &str = "func main() => integer begin return 1 + 2 == 3 && TRUE || FALSE; end;";
 
 const GLOBALS: &str =
     "var n: integer = -2; var b: boolean; func main() => integer begin n = n * 3; b = !b; print(\"n\"); return n + 7; end;";
 
 const GLOBALS_AT_A_FAULT: &str =
     "var n = 1; func main() => integer begin n = 2; assert n == 1; return n; end;";
+
+/// A program with forms that aren't served yet.
+const DECODER: &str = "type Bad of exception {code: integer};
+var n: integer = 0;
+func decode(word: bits(32)) begin
+  case word of
+    when 'xxxx xxxx xxxx xxxx xxxx xxxx xxxx 1010' => n = n + 1;
+    otherwise => throw Bad{code = UInt(word)};
+  end;
+end;
+";
 
 const USAGE: &str =
     "usage: asl check FILE.. | asl run [--steps N] FILE.. | asl exec [--steps N] --words W FILE.. | asl self NUMBER SIZE\n";
@@ -46,6 +56,42 @@ fn words_of(alloc: Global, line: &str) -> Result<Vec<String>, AllocError> {
         words.push(String::from_str(alloc, word)?)?;
     }
     Ok(words)
+}
+
+/// A program of one function, whose body has one piece so often before its middle, and
+/// another so often behind it.
+fn repeated(
+    alloc: Global,
+    start: &str,
+    before: &str,
+    middle: &str,
+    behind: &str,
+    end: &str,
+    count: usize,
+) -> Result<String, AllocError> {
+    let mut text = String::from_str(alloc, "func main() => integer begin ")?;
+    text.push_str(start)?;
+    for _ in 0..count {
+        text.push_str(before)?;
+    }
+    text.push_str(middle)?;
+    for _ in 0..count {
+        text.push_str(behind)?;
+    }
+    text.push_str(end)?;
+    text.push_str(" end;")?;
+    Ok(text)
+}
+
+/// How many lines end in the bytes.
+fn lines_in(bytes: &[u8]) -> usize {
+    let mut lines = 0usize;
+    for byte in bytes {
+        if *byte == b'\n' {
+            lines = lines.saturating_add(1);
+        }
+    }
+    lines
 }
 
 /// The one file `a.asl`.
@@ -104,6 +150,88 @@ fn lines_over_one_file(rt: HostRuntime) {
         let written = str::from_utf8(out.bytes()).unwrap_or("no text");
         assert_eq!(rt; written, want, "{line}");
         assert_eq!(rt; status.code(), code, "{line}");
+    }
+}
+
+#[test]
+fn forms_that_nest(rt: HostRuntime) {
+    let alloc = rt.alloc();
+    for (start, before, middle, behind, end, count, want, code) in [
+        ("return ", "(", "0", ")", ";", 100, "returned 0\n", 0),
+        (
+            "return ",
+            "(",
+            "0",
+            ")",
+            ";",
+            101,
+            "a.asl:1:137+1: S02\n",
+            1,
+        ),
+        (
+            "return 0",
+            "+0",
+            "",
+            "",
+            ";",
+            101,
+            "a.asl:1:238+1: S02\n",
+            1,
+        ),
+        (
+            "assert ",
+            "!",
+            "TRUE",
+            "",
+            "; return 1;",
+            100,
+            "returned 1\n",
+            0,
+        ),
+        (
+            "",
+            "if TRUE then ",
+            "return 1;",
+            " else return 2; end;",
+            "",
+            100,
+            "returned 1\n",
+            0,
+        ),
+    ] {
+        let text = repeated(alloc, start, before, middle, behind, end, count).expect(&rt, "memory");
+        let (out, status) = answered(alloc, "run a.asl", text.as_str(), 1000).expect(&rt, "memory");
+        let written = str::from_utf8(out.bytes()).unwrap_or("no text");
+        assert_eq!(rt; written, want, "{text}");
+        assert_eq!(rt; status.code(), code, "{text}");
+    }
+}
+
+#[test]
+fn a_name_of_three_files(rt: HostRuntime) {
+    let alloc = rt.alloc();
+    let words = words_of(alloc, "check a.asl b.asl c.asl").expect(&rt, "memory");
+    let mut held = Vec::new(alloc);
+    for (name, text) in [
+        ("a.asl", "var p: integer;"),
+        ("b.asl", "var q: integer;"),
+        ("c.asl", "var p: boolean;"),
+    ] {
+        let name = String::from_str(alloc, name).expect(&rt, "memory");
+        let bytes = text.as_bytes().to_vec(alloc).expect(&rt, "memory");
+        held.push((name, bytes)).expect(&rt, "memory");
+    }
+    let (out, status) = asl_in_memory(alloc, words.as_slice(), held, 100).expect(&rt, "memory");
+    assert!(rt; status == Status::Refused && out.bytes() == b"c.asl:1:5+1: T01\n".as_slice());
+}
+
+#[test]
+fn each_prefix_of_a_program(rt: HostRuntime) {
+    let bytes = DECODER.as_bytes();
+    for length in 0..=bytes.len() {
+        let text = str::from_utf8(&bytes[..length]).unwrap_or("no text");
+        let (out, status) = answered(rt.alloc(), "check a.asl", text, 1000).expect(&rt, "memory");
+        assert!(rt; status.code() <= 1 && lines_in(out.bytes()) == 1, "{text}");
     }
 }
 

@@ -14,15 +14,15 @@ pub loop-global-preserved : goal.loop-global-preserved
 loop-global-preserved g c =
     elim c.if-global.branch [
       | then-global+in_ok-put_global w ↦ record {
-          lines = rw w.out-is (line_written _ _ _ c.args.globals.now c.loop-global.global-index c.global-item.result
-              (omega (arith, c.loop-global-test.true)) c.global-item.is w.if-global.true c.loop-global.invariant.lines w.in_ok-put_global.ensures.text);
-          count = search rules;
-          full = search rules;
-        }
+        lines = rw w.out-is (line_written _ _ _ c.args.globals.now c.loop-global.global-index c.global-item.result
+            (omega (arith, c.loop-global-test.true)) c.global-item.is w.if-global.true c.loop-global.invariant.lines w.in_ok-put_global.ensures.text);
+        count = search rules;
+        full = search rules;
+      }
       | else-global w ↦ record {
-          lines = rw w.out-is (passed_over _ _ c.args.globals.now c.loop-global.global-index c.global-item.result
-              (omega (arith, c.loop-global-test.true)) c.global-item.is w.if-global.false c.loop-global.invariant.lines);
-          count = search rules;
-          full = search rules;
-        }
+        lines = rw w.out-is (passed_over _ _ c.args.globals.now c.loop-global.global-index c.global-item.result
+            (omega (arith, c.loop-global-test.true)) c.global-item.is w.if-global.false c.loop-global.invariant.lines);
+        count = search rules;
+        full = search rules;
+      }
     ]
