@@ -1,0 +1,16 @@
+// Global variables, a branch and printed text. Behind the line of the run's end stands a line for each global variable.
+var count: integer = 2;
+var is_even: boolean;
+
+func main() => integer
+begin
+  let doubled = count * 2;
+  if doubled MOD 2 == 0 then
+    is_even = TRUE;
+    println("doubled: ", doubled);
+  else
+    println("odd");
+  end;
+  count = doubled - 1;
+  return count DIVRM 2;
+end;
