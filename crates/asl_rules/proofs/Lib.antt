@@ -18,3 +18,4 @@ pub mod ListForms
 pub mod Globals
 pub mod Soundness
 pub mod OneReading
+pub mod Places
