@@ -19,3 +19,5 @@ pub mod Globals
 pub mod Soundness
 pub mod OneReading
 pub mod Places
+pub mod Erasing
+pub mod SameExprs
