@@ -21,3 +21,5 @@ pub mod OneReading
 pub mod Places
 pub mod Erasing
 pub mod SameExprs
+pub mod SameStmts
+pub mod SameCalls

@@ -26,6 +26,7 @@ use Rattle.asl_rules.specs.Operators.{binary_value, unary_value, truth, Decided,
 use Rattle.asl_rules.specs.Strings.{string_text}
 use Rattle.asl_rules.specs.Texts.{value_text}
 use Rattle.asl_rules.specs.Evaluation.{known, literal, initial_value}
+use Rattle.asl_rules.specs.Cuts.{Cutting, cuttings}
 use Rattle.asl_rules.specs.Machines.{most_open}
 
 -- the state that nodes read and change: the globals and the present frame, each place with its value, and the numbers of
@@ -172,6 +173,9 @@ typed_nodes fs = record {
 
 abbrev pub typed_meaning : List TypedFunc → ℕ → Meaning BareCore TypedExpr TypedStmt
 typed_meaning fs d = meanings (typed_nodes fs) d
+
+abbrev pub typed_cutting : List TypedFunc → ℕ → Cutting BareCore TypedExpr TypedStmt
+typed_cutting fs d = cuttings (typed_nodes fs) d
 
 -- ---- subprograms
 

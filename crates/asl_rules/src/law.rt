@@ -39,7 +39,6 @@ pub fn law3()
 {}
 
 /// Typed trees: over states without names and types, what is made of a well-formed program does what the program does.
-#[tactic(auto, using(crate::proofs::SameExprs::expr_same, crate::proofs::Growing::stmt_adds))]
 pub fn typed_trees()
     ensures { (e : Entry) (ds : List Decl) (main : Option ℕ) → ProgramOk e ds main → (names : List Visible) × NamesOf ds names × SameMeaning ds names (elaborated_funcs names (funcs_of ds)) }
 {}
