@@ -191,8 +191,8 @@ module _ (ds : List Decl) (base : List Entry) (fs : List TypedFunc) (d : ℕ) wh
   branches_same below lower G f L span (b ∷ bs) last c h k r a l =
       ap (λ z. run (typed_meaning fs d) (bare.else_if span z (bare.branches span (branches_of (map elaborated_branch bs) L) (trees_of (map elaborated_stmt last) L)) (erased c)) h) (branch_out b L)
       ∙ else_if_same below lower G k.0 k.1 L span (out-ElseIf b) (bare.branches span (branches_of (map elaborated_branch bs) L) (trees_of (map elaborated_stmt last) L)) (untyped.branches span bs last) c h
-        (sym (ap (λ (z : FoundBranch). typed z.condition G) (branch_unrolled b)) ∙ k.2) (sym (ap (λ (z : FoundBranch). block z.body G) (branch_unrolled b)) ∙ k.3) a l
-        (λ c1 h1 a1. branches_same below lower G f L span bs last c1 h1 k.5 r a1 l)
+      (sym (ap (λ (z : FoundBranch). typed z.condition G) (branch_unrolled b)) ∙ k.2) (sym (ap (λ (z : FoundBranch). block z.body G) (branch_unrolled b)) ∙ k.3) a l
+      (λ c1 h1 a1. branches_same below lower G f L span bs last c1 h1 k.5 r a1 l)
 
   if_same : ExprsSame ds base fs d → StmtsSame → (G : Scope) (f : Done) (L : Layout) (span : Span) (e : Expr) (ss : List Stmt) (es : List ElseIf) (last : List Stmt) (c : Core) (h : Meter) →
       if_rule span e (map found_stmt ss) (map branch_found es) (map found_stmt last) G ≡ Ok f → Agrees base G.names c → LaysOut base G.names L →
@@ -262,9 +262,9 @@ module _ (ds : List Decl) (base : List Entry) (fs : List TypedFunc) (d : ℕ) wh
       let g = then_ok (fitted (misfit t.value.ty s.value.ty) (expr_at e)) (ended G.class span true (greater t.value.effect (writing s.value)) >>= λ k. Ok (done G.names k)) f m.then in
       eval_same ds base fs d below e G t.value L c h (λ x c1. lift (put span (slot_of i.text L) x c1) c1 (λ c2. Ret Normal c2)) (λ x c1. lift (store span i.text x c1) c1 (λ c2. Ret Normal c2)) t.first a l
       (λ x c1 h1 i1 a1.
-        ap (λ z. run (typed_meaning fs d) (lift z (erased c1) (λ c2. Ret Normal c2)) h1) (put_same (Agrees base G.names) span i.text x L c1 (has_names base G.names L c1 a1 l)
-        (store_agrees base G.names c1 span i.text x s.value a1 (found_ok (storage_of i.text G.names) T02 i.span s.value s.first) (need_ok s.value.is_mutable T14 i.span tt m.first) (fits_own x t.value.ty s.value.ty (fitted_ok (misfit t.value.ty s.value.ty) (expr_at e) tt g.first) i1)))
-        ∙ lift_core_same (typed_meaning fs d) (meaning ds d) (store span i.text x c1) c1 (λ c2. Ret Normal c2) (λ c2. Ret Normal c2) h1 (λ c2. refl))
+      ap (λ z. run (typed_meaning fs d) (lift z (erased c1) (λ c2. Ret Normal c2)) h1) (put_same (Agrees base G.names) span i.text x L c1 (has_names base G.names L c1 a1 l)
+      (store_agrees base G.names c1 span i.text x s.value a1 (found_ok (storage_of i.text G.names) T02 i.span s.value s.first) (need_ok s.value.is_mutable T14 i.span tt m.first) (fits_own x t.value.ty s.value.ty (fitted_ok (misfit t.value.ty s.value.ty) (expr_at e) tt g.first) i1)))
+      ∙ lift_core_same (typed_meaning fs d) (meaning ds d) (store span i.text x c1) c1 (λ c2. Ret Normal c2) (λ c2. Ret Normal c2) h1 (λ c2. refl))
 
   place_same : ExprsSame ds base fs d → (span : Span) (i : Ident) (xs : List PlacedSuffix) (e : Expr) (G : Scope) (f : Done) (L : Layout) (c : Core) (h : Meter) → place_rule span i xs e G ≡ Ok f → Agrees base G.names c → LaysOut base G.names L →
       run (typed_meaning fs d) (Eval (elaborated e L) (erased c) (λ x c1. lift (put span (slot_of i.text L) x c1) c1 (λ c2. Ret Normal c2))) h ≡ erased_outcome (run (meaning ds d) (Eval e c (λ x c1. lift (store_place span i xs x c1) c1 (λ c2. Ret Normal c2))) h)
