@@ -117,7 +117,7 @@ StoresSame old (Some (Bad e)) = Unit {0}
 put_same : (m t : Bool) (span : Span) (x : Value) (a b : Binding) (rest bs : List Binding) → b ≡ record a { value = b.value } → SameBut rest bs →
     StoresSame (a ∷ rest) (Some (map_pure (λ b1. b1 ∷ bs) (cond m (cond t (Good (record b { value = x })) (Bad (Stuck WrongKind span))) (Bad (Stuck Immutable span)))))
 unfolding StoresSame
-put_same true true span x a b rest bs e s = (ap (λ z. record z { value = x }) e, s)
+put_same true true span x a b rest bs e s = (ap (λ (z : Binding). record z { value = x }) e, s)
 put_same true false span x a b rest bs e s = tt
 put_same false t span x a b rest bs e s = tt
 
@@ -280,3 +280,37 @@ unfolding run_of
 run_of_keeps ds id args globals h =
     run_keeps (Kept globals) (meaning ds most_open) (nodes_keep (Kept globals) (nodes ds) (forms_keep globals ds) most_open) (call_of ds id args (resting globals)) h
     (func_keeps globals id (slice_get (funcs_of ds) id) args (resting globals) (same_self globals))
+
+-- ---- between two calls
+
+-- where it returned or threw, there is no frame, and no subprogram is active
+abbrev pub AtRest : {A : Type 0} → Outcome Core A → Type 0
+AtRest (Done x c h) = c ≡ resting c.globals
+AtRest (Thrown x c h) = c ≡ resting c.globals
+AtRest (Halt e c h) = Unit {0}
+
+end_rests : (m : Meaning Core Expr Stmt) (globals : List Binding) (result : Option TypeExpr) (span : Span) (x : Exit) (c1 : Core) (h : Meter) → AtRest (run m (at_end result span (resting globals) x c1) h)
+end_rests m globals result span (Returned o) c1 h = by (returned span result o)
+  where
+    by : (r : Pure (Option Value)) → AtRest (run m (lift r c1 (λ x. Ret x (restored (resting globals) c1))) h)
+    by (Good x) = refl
+    by (Bad e) = tt
+end_rests m globals None span Normal c1 h = refl
+end_rests m globals (Some t) span Normal c1 h = tt
+
+body_rests : (m : Meaning Core Expr Stmt) (globals : List Binding) (f : Func) (r : Outcome Core Exit) → AtRest (handle r (λ x c1 h1. run m (at_end f.result f.name.span (resting globals) x c1) h1) (λ x c1 h1. run m (Raise {A = Option Value} x (restored (resting globals) c1)) h1))
+body_rests m globals f (Done x c1 h1) = end_rests m globals f.result f.name.span x c1 h1
+body_rests m globals f (Thrown x c1 h1) = refl
+body_rests m globals f (Halt e c1 h1) = tt
+
+bound_rests : (m : Meaning Core Expr Stmt) (id : ℕ) (globals : List Binding) (f : Func) (o : Option (List Binding)) (h : Meter) → AtRest (run m (run_bound id f (resting globals) o) h)
+bound_rests m id globals f None h = tt
+bound_rests m id globals f (Some frame) h = body_rests m globals f (run m (in_order f.body (record (resting globals) { frame = frame; live = id ∷ [] })) h)
+
+func_rests : (m : Meaning Core Expr Stmt) (id : ℕ) (o : Option Func) (args : List Value) (globals : List Binding) (h : Meter) → AtRest (run m (call_func id o args (resting globals)) h)
+func_rests m id None args globals h = tt
+func_rests m id (Some f) args globals h = bound_rests m id globals f (bound f.formals args) h
+
+pub run_of_rests : (ds : List Decl) (id : ℕ) (args : List Value) (globals : List Binding) (h : Meter) → AtRest (run_of ds id args globals h)
+unfolding run_of
+run_of_rests ds id args globals h = func_rests (meaning ds most_open) id (slice_get (funcs_of ds) id) args globals h
