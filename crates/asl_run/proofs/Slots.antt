@@ -28,18 +28,15 @@ set_beyond (y ∷ ys) (suc i) x h = ap (option_map (λ zs. value_of y ∷ zs)) (
 
 -- ---- declarations
 
--- one more was pushed, and one fewer is left
-pub pushed_next : (n i : ℕ) (x : rules.Value) (c : BareCore) → i < n → pushed_times (n - i) x c ≡ pushed_times (n - (i + 1)) x (pushed x c)
-pushed_next n i x c h = by (n - i) (n - (i + 1)) (omega (arith, h))
+-- one is pushed, and one fewer is left
+pub pushed_more : (n : ℕ) (x : rules.Value) (c : BareCore) → 0 < n → pushed_times n x c ≡ pushed_times (n - 1) x (pushed x c)
+pushed_more zero x c h = absurd (omega (arith, h))
+pushed_more (suc n) x c h = ap (λ k. pushed_times k x (pushed x c)) one
   where
-    by : (a b : ℕ) → a ≡ b + 1 → pushed_times a x c ≡ pushed_times b x (pushed x c)
-    by a b e = ap (λ k. pushed_times k x c) (e ∙ up)
-      where
-        up : b + 1 ≡ suc b
-        up = omega arith
+    one : n ≡ suc n - 1
+    one = omega arith
 
-pub pushed_all : (n i : ℕ) (x : rules.Value) (c : BareCore) → n ≤ i → pushed_times (n - i) x c ≡ c
-pushed_all n i x c h = ap (λ k. pushed_times k x c) none
-  where
-    none : n - i ≡ 0
-    none = omega (arith, h)
+-- none is left
+pub pushed_none : (n : ℕ) (x : rules.Value) (c : BareCore) → n ≤ 0 → pushed_times n x c ≡ c
+pushed_none zero x c h = refl
+pushed_none (suc n) x c h = absurd (omega (arith, h))

@@ -93,15 +93,6 @@ pub fn push(places: &mut Places, value: Value) -> Result<(), AllocError>
     Ok(())
 }
 
-/// A declaration with its value.
-pub fn declare(places: &mut Places, value: Value) -> Result<Exit, Stop>
-    ensures acts { ActsBare result (λ c. Ret Normal (rules.pushed (value_of value) c)) places.old places.new }
-    ensures none_refused { NoneRefused result }
-{
-    push(places, value)?;
-    Ok(Exit::Normal)
-}
-
 /// The first value of a type.
 fn first(ty: Ty) -> Value
     ensures { value_of result ≡ rules.first_value ty }
@@ -113,15 +104,17 @@ fn first(ty: Ty) -> Value
 }
 
 /// So many places take the first value of a type.
-#[tactic(auto, using(crate::proofs::Slots::pushed_next, crate::proofs::Slots::pushed_all))]
+#[tactic(auto, using(crate::proofs::Slots::pushed_more, crate::proofs::Slots::pushed_none))]
 fn push_first(places: &mut Places, count: usize, ty: Ty) -> Result<(), AllocError>
     ensures ok { OnOk result
         (bare_of places.new ≡ rules.pushed_times count (rules.first_value ty) (bare_of places.old)) }
     ensures steps { places.new.steps ≡ places.old.steps }
     ensures text_open { places.new.text_open ≡ places.old.text_open }
 {
-    for _ in 0..count {
+    let mut left = count;
+    while left > 0 {
         push(places, first(ty))?;
+        left -= 1;
     }
     Ok(())
 }

@@ -12,7 +12,7 @@ ghost use Rattle.asl_run.specs.TypedMeets.{RunsBare, ExecutesBare};
 
 use crate::operators::truth;
 use crate::output::{put, put_string, put_value};
-use crate::places::{Places, assign, declare, declare_first};
+use crate::places::{Places, assign, declare_first, push};
 use crate::stop::{Exit, Stop};
 use crate::typed_exprs::eval;
 use asl_io::Sink;
@@ -142,7 +142,8 @@ fn exec_declare<K: Sink>(
     ensures same_full { K.full sink.new ≡ K.full sink.old }
 {
     let x = eval(alloc, funcs, places, sink, depth, e)?;
-    declare(places, x)
+    push(places, x)?;
+    Ok(Exit::Normal)
 }
 
 fn exec_assign<K: Sink>(

@@ -2,5 +2,7 @@
 #![tactic(auto)]
 
 mod checked;
+mod elaborate;
 
 pub use checked::{Checked, SubId};
+pub use elaborate::{Layout, elaborate_expr};
