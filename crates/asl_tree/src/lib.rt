@@ -2,7 +2,5 @@
 #![tactic(auto)]
 
 mod checked;
-mod elaborate;
 
 pub use checked::{Checked, SubId};
-pub use elaborate::{Layout, elaborate_expr};
