@@ -4,12 +4,12 @@ use Rattle.asl_run.specs.TypedMeets.{bare_of}
 use Rattle.asl_run.proofs.places.push_first.Given as goal
 
 -- the places that are left are still to be pushed
-abbrev pub invariant-loop : goal.invariant-loop
-invariant-loop l = record {
+abbrev pub invariant-loop-left : goal.invariant-loop-left
+invariant-loop-left l = record {
   pushed : pushed_times l.left (first_value l.ty) (bare_of l.places) ≡ pushed_times l.count (first_value l.ty) (bare_of l.fn.places);
   steps : l.places.steps ≡ l.fn.places.steps;
   text_open : l.places.text_open ≡ l.fn.places.text_open;
 }
 
-abbrev pub decreases-loop : goal.decreases-loop
-decreases-loop l = l.left
+abbrev pub decreases-loop-left : goal.decreases-loop-left
+decreases-loop-left l = l.left
