@@ -1,11 +1,11 @@
 -- Typed trees do what the untyped trees do: at all nodes, and in calls from outside.
-use Rattle.std.proofs.Common.{◌≡◌, ℕ, zero, suc, Bool, true, false, List, [], ◌∷◌, ◌++◌, Option, Some, None, option_map, Ok, refl, sym, ap, ◌∙◌, subst, map}
+use Rattle.std.proofs.Common.{◌≡◌, ℕ, zero, suc, true, false, List, [], ◌∷◌, ◌++◌, Option, Some, None, Ok, refl, sym, ap, ◌∙◌, map}
 use Rattle.std.specs.Prelude.{slice_get}
 use Rattle.asl_syn.specs.declared.token.Span.{Span}
 use Rattle.asl_syn.specs.declared.code.DynCode.TheVariants.{D12}
 use Rattle.asl_syn.specs.declared.code.StaticCode.TheVariants.{T17}
-use Rattle.asl_syn.specs.declared.tree.Expr.{Expr, out-Expr}
-use Rattle.asl_syn.specs.declared.tree.Stmt.{Stmt, out-Stmt}
+use Rattle.asl_syn.specs.declared.tree.Expr.{out-Expr}
+use Rattle.asl_syn.specs.declared.tree.Stmt.{out-Stmt}
 use Rattle.asl_syn.specs.declared.tree.TypeExpr.{TypeExpr, out-TypeExpr}
 use Rattle.asl_syn.specs.declared.tree.Formal.{Formal}
 use Rattle.asl_syn.specs.declared.tree.Func.{Func}
@@ -19,7 +19,7 @@ use Rattle.asl_rules.specs.declared.effect.Effect.TheVariants.{Pure}
 use Rattle.asl_rules.specs.Faults.{◌>>=◌, need}
 use Rattle.asl_rules.specs.Types.{Ty}
 use Rattle.asl_rules.specs.Scopes.{Scope, Entry}
-use Rattle.asl_rules.specs.Exprs.{Typed, typed, written}
+use Rattle.asl_rules.specs.Exprs.{written}
 use Rattle.asl_rules.specs.Stmts.{found_stmt, in_order}
 use Rattle.asl_rules.specs.Programs.{funcs_of, result_rule, class_of, may_end, body_rule, bodies_rule, ProgramOk}
 use Rattle.asl_rules.specs.Values.{Value, Exit, Normal, Returned}
@@ -42,8 +42,8 @@ use Rattle.asl_rules.proofs.Growing.{same_names}
 use Rattle.asl_rules.proofs.ExprForms.{GivesResult, our_claims}
 use Rattle.asl_rules.proofs.StmtForms.{written_same}
 use Rattle.asl_rules.proofs.ListForms.{list_safe}
-use Rattle.asl_rules.proofs.Safe.{Ends, claims, safe_run}
-use Rattle.asl_rules.proofs.Soundness.{our_forms, under_good, body_at, Bodies, bodies_of}
+use Rattle.asl_rules.proofs.Safe.{claims, safe_run}
+use Rattle.asl_rules.proofs.Soundness.{our_forms, under_good, body_at, bodies_of}
 use Rattle.asl_rules.proofs.Erasing.{handled_same, enter_same}
 use Rattle.asl_rules.proofs.SameExprs.{ExprsSame, expr_same, expr_span_same}
 use Rattle.asl_rules.proofs.SameStmts.{StmtsSame, list_same, stmt_same, stmt_span_same}

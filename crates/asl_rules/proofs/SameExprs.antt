@@ -1,5 +1,5 @@
 -- Each form of expression does over places what it does over names.
-use Rattle.std.proofs.Common.{◌≡◌, ℕ, Bool, true, false, not, List, Option, Ok, refl, sym, ap, ◌∙◌, subst}
+use Rattle.std.proofs.Common.{◌≡◌, ℕ, true, List, Ok, refl, sym, ap, ◌∙◌}
 use Rattle.asl_syn.specs.declared.token.Span.{Span}
 use Rattle.asl_syn.specs.declared.code.StaticCode.TheVariants.{S03, T02}
 use Rattle.asl_syn.specs.declared.tree.Bitfield.{Bitfield}
@@ -20,8 +20,8 @@ use Rattle.asl_rules.specs.declared.typed.TypedFunc.{TypedFunc}
 use Rattle.asl_rules.specs.Faults.{◌>>=◌, found_or, fault_of}
 use Rattle.asl_rules.specs.Effects.{greater, together}
 use Rattle.asl_rules.specs.Scopes.{Scope, Entry, storage_of, reading}
-use Rattle.asl_rules.specs.Exprs.{Typed, Found, found, typed, typed_rule, finish, name_rule, binary_rule, unary_rule, span_of}
-use Rattle.asl_rules.specs.Values.{Value, bool}
+use Rattle.asl_rules.specs.Exprs.{Typed, Found, typed, typed_rule, finish, name_rule, binary_rule, unary_rule, span_of}
+use Rattle.asl_rules.specs.Values.{Value}
 use Rattle.asl_rules.specs.States.{Core}
 use Rattle.asl_rules.specs.Belonging.{InType}
 use Rattle.asl_rules.specs.Agreement.{GlobalsMatch, Agrees}

@@ -1,7 +1,7 @@
 -- Each form of statement does over places what it does over names.
-use Rattle.std.proofs.Common.{◌≡◌, ℕ, zero, suc, Bool, true, false, cond, List, [], ◌∷◌, ◌++◌, Option, Some, None, Ok, refl, sym, ap, ◌∙◌, subst, length, take, map, append_assoc}
+use Rattle.std.proofs.Common.{◌≡◌, ℕ, Bool, true, false, cond, List, [], ◌∷◌, ◌++◌, Option, Some, None, Ok, refl, sym, ap, ◌∙◌, length, take, map, append_assoc}
 use Rattle.asl_syn.specs.declared.token.Span.{Span}
-use Rattle.asl_syn.specs.declared.code.StaticCode.TheVariants.{S03, T01, T02, T05, T14, T18}
+use Rattle.asl_syn.specs.declared.code.StaticCode.TheVariants.{S03, T01, T02, T14, T18}
 use Rattle.asl_syn.specs.declared.tree.Expr.{Expr}
 use Rattle.asl_syn.specs.declared.tree.Ident.{Ident}
 use Rattle.asl_syn.specs.declared.tree.TypeExpr.{TypeExpr, out-TypeExpr}
@@ -27,7 +27,7 @@ use Rattle.asl_syn.specs.declared.tree.Decl.{Decl}
 use Rattle.asl_syn.specs.Layers.{StmtLayer, stmt_layer_span}
 use Rattle.asl_rules.specs.declared.typed.TypedBranch.{TypedBranch, out-TypedBranch, out-roll-TypedBranch}
 use Rattle.asl_rules.specs.declared.typed.TypedBranch.TheOpen as ts
-use Rattle.asl_rules.specs.declared.typed.TypedStmt.{TypedStmt, out-TypedStmt, out-roll-TypedStmt}
+use Rattle.asl_rules.specs.declared.typed.TypedStmt.{out-TypedStmt, out-roll-TypedStmt}
 use Rattle.asl_rules.specs.declared.typed.TypedFunc.{TypedFunc}
 use Rattle.asl_rules.specs.declared.effect.Effect.{Effect}
 use Rattle.asl_rules.specs.declared.effect.Effect.TheVariants.{Pure, Readonly, Writes}
@@ -42,7 +42,7 @@ use Rattle.asl_rules.specs.Values.{Value, Exit, Normal, Returned}
 use Rattle.asl_rules.specs.States.{Core}
 use Rattle.asl_rules.specs.Belonging.{InType}
 use Rattle.asl_rules.specs.Agreement.{GlobalsMatch, Agrees}
-use Rattle.asl_rules.specs.Plans.{Meter, wrote, Stuck, WrongKind, Outcome, Done as DoneWith, Ret, Eval, Put, run, choose, lift, Good, Bad}
+use Rattle.asl_rules.specs.Plans.{Meter, wrote, Stuck, WrongKind, Done as DoneWith, Ret, Eval, Put, run, choose, lift, Good, Bad}
 use Rattle.asl_rules.specs.Operators.{truth}
 use Rattle.asl_rules.specs.Strings.{string_text}
 use Rattle.asl_rules.specs.Texts.{value_text}
@@ -53,7 +53,7 @@ use Rattle.asl_rules.specs.Elaboration.{Layout, Unread, StmtOf, Elaborated, with
 use Rattle.asl_rules.specs.TypedMeaning as bare
 use Rattle.asl_rules.specs.TypedMeaning.{BareCore, DoesBare, typed_meaning, typed_stmt_node, typed_stmt_layer_span, put, pushed, pushed_times, first_value}
 use Rattle.asl_rules.specs.Erasure.{erased, erased_outcome, entry_names, LaysOut}
-use Rattle.asl_rules.proofs.Inversions.{err_ok, ok_ok, bind_ok, then_ok, need_ok, found_ok, fitted_ok}
+use Rattle.asl_rules.proofs.Inversions.{err_ok, bind_ok, then_ok, need_ok, found_ok, fitted_ok}
 use Rattle.asl_rules.proofs.Stores.{has_own, store_agrees}
 use Rattle.asl_rules.proofs.ExprForms.{EndsBody, StmtClaim, our_claims}
 use Rattle.asl_rules.proofs.StmtForms.{opened, unrolled, branch_found, written_same, fits_own, type_own}

@@ -1,5 +1,5 @@
 -- A run changes values alone: the globals keep their names, their types and whether they can be assigned, wherever it ends.
-use Rattle.std.proofs.Common.{◌≡◌, ℕ, zero, suc, ◌-◌, ◌==◌, Bool, true, false, cond, List, [], ◌∷◌, Option, Some, None, option_map, refl, sym, ap, ◌∙◌, take}
+use Rattle.std.proofs.Common.{◌≡◌, ℕ, zero, suc, ◌-◌, ◌==◌, Bool, true, false, cond, List, [], ◌∷◌, Option, Some, None, option_map, refl, ap}
 use Rattle.std.specs.Prelude.{slice_get}
 use Rattle.std.specs.Str.{bytes_eq}
 use Rattle.asl_syn.specs.declared.token.Span.{Span}
@@ -30,13 +30,13 @@ use Rattle.asl_syn.specs.declared.tree.Func.{Func}
 use Rattle.asl_syn.specs.Layers.{ExprLayer, StmtLayer}
 use Rattle.asl_rules.specs.Types.{Ty}
 use Rattle.asl_rules.specs.Stmts.{is_var}
-use Rattle.asl_rules.specs.Values.{Value, bool, Exit, Normal, Returned}
+use Rattle.asl_rules.specs.Values.{Value, Exit, Normal, Returned}
 use Rattle.asl_rules.specs.States.{Binding, Core}
 use Rattle.asl_rules.specs.Belonging.{has_type}
 use Rattle.asl_rules.specs.Plans.{Meter, Faulted, Stuck, WrongKind, Immutable, Outcome, Done, Thrown, Halt, Plan, Ret, Raise, Stop, Eval, Exec, Put, Within, choose, Meaning, handle, run, wrote, Nodes, meanings, Pure, Good, Bad, lift}
 use Rattle.asl_rules.specs.Operators.{binary_value, unary_value, truth, Decided, Already, ByRight, Strictness, Strict, Lazy, strictness}
 use Rattle.asl_rules.specs.Programs.{funcs_of}
-use Rattle.asl_rules.specs.Evaluation.{Does, give, known, named, put_value, map_pure, stored_in, first_store, store, under, stored_under, written_layer, declare, declare_all, declare_vars, declared, initial_value, literal, ask_right, unless_decided, behind_left, expr_node, go_on, in_order, cut, leave, scope, branch, else_if, branches, asserted, bound_to, store_place, store_target, print_items, stmt_node, nodes, meaning, restored, returned, at_end, run_body, run_bound, bound, call_func, call_of}
+use Rattle.asl_rules.specs.Evaluation.{Does, give, named, put_value, map_pure, stored_in, first_store, under, stored_under, written_layer, declare, declare_all, declare_vars, declared, initial_value, literal, ask_right, unless_decided, behind_left, expr_node, go_on, in_order, scope, branch, else_if, branches, asserted, bound_to, store_place, store_target, print_items, stmt_node, nodes, meaning, restored, returned, at_end, run_bound, bound, call_func, call_of}
 use Rattle.asl_rules.specs.Machines.{most_open, resting, run_of}
 
 -- ---- by the shape of plans

@@ -1,5 +1,5 @@
 -- States without names and types, and what it says that typed trees do what the untyped trees do.
-use Rattle.std.specs.Prelude.{◌≡◌, ℕ, List, [], ◌∷◌, ◌++◌, Option, Ok, map}
+use Rattle.std.specs.Prelude.{◌≡◌, ℕ, List, [], ◌∷◌, ◌++◌, Ok}
 use Rattle.asl_syn.specs.declared.tree.Decl.{Decl}
 use Rattle.asl_syn.specs.declared.tree.Expr.{Expr}
 use Rattle.asl_syn.specs.declared.tree.Stmt.{Stmt}
@@ -8,7 +8,6 @@ use Rattle.asl_rules.specs.Scopes.{Entry, Scope}
 use Rattle.asl_rules.specs.Exprs.{Typed, typed}
 use Rattle.asl_rules.specs.Stmts.{found_stmt}
 use Rattle.asl_rules.specs.Stmts as stmts
-use Rattle.asl_rules.specs.Programs.{funcs_of}
 use Rattle.asl_rules.specs.Values.{Value}
 use Rattle.asl_rules.specs.States.{Binding, Core}
 use Rattle.asl_rules.specs.Agreement.{Agrees}
@@ -16,7 +15,7 @@ use Rattle.asl_rules.specs.Plans.{Meter, Outcome, Done, Thrown, Halt}
 use Rattle.asl_rules.specs.Evaluation.{meaning}
 use Rattle.asl_rules.specs.Machines.{run_of}
 use Rattle.asl_rules.specs.Soundness.{IsCall}
-use Rattle.asl_rules.specs.Elaboration.{Layout, storage_names, elaborated, Elaborated, elaborated_stmt, elaborated_funcs}
+use Rattle.asl_rules.specs.Elaboration.{Layout, storage_names, elaborated, elaborated_stmt}
 use Rattle.asl_rules.specs.TypedMeaning.{BareCore, typed_meaning, typed_run_of}
 
 -- the values alone
