@@ -3,6 +3,7 @@ use Rattle.std.specs.Prelude.{ℕ, Bool, true, ◌&&◌, if◌then◌else◌, Li
 use Rattle.asl_syn.specs.declared.token.Span.{Span}
 use Rattle.asl_syn.specs.declared.code.Fault.{Fault}
 use Rattle.asl_syn.specs.declared.code.StaticCode.TheVariants.{S03, T05}
+use Rattle.asl_syn.specs.declared.tree.UnaryOperator.{UnaryOperator}
 use Rattle.asl_syn.specs.declared.tree.BinaryOperator.{BinaryOperator}
 use Rattle.asl_syn.specs.declared.tree.Expr.{Expr}
 use Rattle.asl_syn.specs.declared.tree.PrintItem.{PrintItem}
@@ -22,12 +23,16 @@ use Rattle.asl_rules.specs.Effects.{greater, together}
 use Rattle.asl_rules.specs.Scopes as scopes
 use Rattle.asl_rules.specs.Scopes.{Scope, stored, subprogram}
 use Rattle.asl_rules.specs.Names.{names_rule, all_declared}
-use Rattle.asl_rules.specs.Exprs.{Typed, typed, binary_rule, finish}
+use Rattle.asl_rules.specs.Exprs.{Typed, typed, unary_rule, binary_rule, finish}
 use Rattle.asl_rules.specs.Stmts.{Done, done, FoundStmt, FoundBranch, expr_at, ended, block, StmtOf, Unread, stmt_layer_rule, branch_rule}
 use Rattle.asl_rules.specs.Programs.{storage_rule, is_var, funcs_of, signatures_rule, overloads_rule, bodies_rule, entry_rule, library_names}
 use Rattle.asl_check.specs.Views.{with_entry}
 
 -- ---- expressions
+
+-- an operation whose operand was typed
+abbrev pub operation_of_one : Effect → Span → UnaryOperator → Typed → Result Typed Fault
+operation_of_one class span o S = unary_rule span o S.ty >>= λ U. finish class span true S.effect U
 
 -- an operation whose operands were typed
 abbrev pub operation : Effect → Span → BinaryOperator → Typed → Typed → Result Typed Fault
@@ -40,12 +45,14 @@ abbrev pub misplaced : Option Span → Expr → Typed → Option Span
 misplaced None e S = if is_boolean S.ty then None else Some (expr_at e)
 misplaced (Some at) e S = Some at
 
+-- one more branch of an `if`
+abbrev pub after_branch : FoundBranch → Option Span → Effect → Scope → Result (Option Span × Effect) Fault
+after_branch b at k G = typed b.condition G >>= λ S. block b.body G >>= λ d. Ok (misplaced at b.condition S, greater k (greater S.effect d.effect))
+
 -- the branches of an `if` in order
 abbrev pub after_branches : List FoundBranch → Option Span → Effect → Scope → Result (Option Span × Effect) Fault
 after_branches [] at k G = Ok (at, k)
-after_branches (b ∷ bs) at k G =
-    typed b.condition G >>= λ S. block b.body G >>= λ d.
-    after_branches bs (misplaced at b.condition S) (greater k (greater S.effect d.effect)) G
+after_branches (b ∷ bs) at k G = after_branch b at k G >>= λ p. after_branches bs p.0 p.1 G
 
 -- the end of an `if`
 abbrev pub end_if : Effect → Span → Option Span → Effect → Result Effect Fault

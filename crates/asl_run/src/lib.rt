@@ -5,12 +5,11 @@ mod calls;
 mod exprs;
 mod globals;
 mod machine;
-mod names;
 mod operators;
 mod output;
+mod places;
 mod stmts;
 mod stop;
-mod store;
 mod types;
 
 pub use machine::{GlobalVar, Machine, Outcome, RunRefused};
