@@ -50,7 +50,7 @@ second_true false b h = h
 abbrev pub branch_opened : st.ElseIf-F Alternative Catcher ElseIf Otherwise Stmt → st.ElseIf-F Unread Unread FoundBranch Unread FoundStmt
 branch_opened = map-ElseIf Alternative Catcher ElseIf Otherwise Stmt Unread Unread FoundBranch Unread FoundStmt (λ _. tt) (λ _. tt) branch_found (λ _. tt) found_stmt
 
-branch_unrolled : (e : ElseIf) → branch_found e ≡ branch_rule (branch_opened (out-ElseIf e))
+pub branch_unrolled : (e : ElseIf) → branch_found e ≡ branch_rule (branch_opened (out-ElseIf e))
 branch_unrolled e = fold_out-ElseIf Unread Unread FoundBranch Unread FoundStmt (λ _. tt) (λ _. tt) branch_rule (λ _. tt) stmt_layer_rule e
 
 abbrev pub branch_fallen : st.ElseIf-F Alternative Catcher ElseIf Otherwise Stmt → st.ElseIf-F Bool Bool Bool Bool Bool
@@ -113,7 +113,7 @@ module _ (base : List Entry) where
       chosen c1 a1 true = block_safe G k.body ss b c1 k.body_ok a1 f
       chosen c1 a1 false = next c1 a1
 
-  abbrev AllOk : Scope → List FoundBranch → Type 0
+  abbrev pub AllOk : Scope → List FoundBranch → Type 0
   AllOk G [] = Unit {0}
   AllOk G (b ∷ bs) = (S : Typed) × (d : Done) × (typed b.condition G ≡ Ok S) × (block b.body G ≡ Ok d) × (is_boolean S.ty ≡ true) × AllOk G bs
 
@@ -121,7 +121,7 @@ module _ (base : List Entry) where
   later_conditions [] ys h = h
   later_conditions (x ∷ xs) ys h = later_conditions xs ys (then_ok (condition x.condition x.typed) (conditions (xs ++ ys)) tt h).then
 
-  record Parts (G : Scope) (bs : List FoundBranch) (before : List Branch) (p : List Branch × Effect) : Type 0 where
+  pub record Parts (G : Scope) (bs : List FoundBranch) (before : List Branch) (p : List Branch × Effect) : Type 0 where
     pub rest : List Branch
     pub is : p.0 ≡ before ++ rest
     pub ok : conditions rest ≡ Ok tt → AllOk G bs
@@ -130,7 +130,7 @@ module _ (base : List Entry) where
   append_nil [] = refl
   append_nil (x ∷ xs) = ap (λ l. x ∷ l) (append_nil xs)
 
-  parts_ok : (G : Scope) (bs : List FoundBranch) (before : List Branch) (k : Effect) (p : List Branch × Effect) → branches bs before k G ≡ Ok p → Parts G bs before p
+  pub parts_ok : (G : Scope) (bs : List FoundBranch) (before : List Branch) (k : Effect) (p : List Branch × Effect) → branches bs before k G ≡ Ok p → Parts G bs before p
   parts_ok G [] before k p h = record { rest = []; is = sym (ap (λ (q : List Branch × Effect). q.0) (ok_ok (before, k) p h)) ∙ sym (append_nil before); ok = λ c. tt }
   parts_ok G (b ∷ bs) before k p h =
       let t = bind_ok (typed b.condition G) (λ S. block b.body G >>= λ d. branches bs (before ++ record { condition = b.condition; typed = S } ∷ []) (greater k (greater S.effect d.effect)) G) p h in

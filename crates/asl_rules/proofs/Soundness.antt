@@ -38,7 +38,7 @@ use Rattle.asl_rules.proofs.StmtForms.{written_same}
 use Rattle.asl_rules.proofs.ListForms.{list_safe, stmt_safe}
 use Rattle.asl_rules.proofs.Safe.{Safe, Ends, AllHold, Forms, claims, safe_run, safe_visits}
 
-our_forms : (ds : List Decl) (names : List Entry) → Forms (nodes ds) (our_claims names)
+pub our_forms : (ds : List Decl) (names : List Entry) → Forms (nodes ds) (our_claims names)
 our_forms ds names = record {
   expr = λ i e c p. expr_safe names ds i e c p.0 p.1;
   stmt = λ j s c p. stmt_safe names ds j s c p.0 p.1;
@@ -62,7 +62,7 @@ fall_same : (ss : List Stmt) → all_fall (map falls ss) ≡ falls_through ss
 fall_same [] = refl
 fall_same (s ∷ ss) = ap (λ b. falls s && b) (fall_same ss)
 
-under_good : (span : Span) (o : Option Ty) (T : Ty) (x : Value) → o ≡ Some T → InType x T → under_written span o x ≡ Good x
+pub under_good : (span : Span) (o : Option Ty) (T : Ty) (x : Value) → o ≡ Some T → InType x T → under_written span o x ≡ Good x
 under_good span o T x e i = ap (λ p. under_written span p x) e ∙ ap (λ b. cond b (Good x) (Bad (Stuck WrongKind span))) (has_own x T i)
 
 end_safe : (names : List Entry) (result : Option TypeExpr) (T : Option Ty) (span : Span) (c c1 : Core) (o : Option Value) → result_rule result ≡ Ok T → GivesResult T o → GlobalsMatch names c1.globals →
@@ -113,7 +113,7 @@ bound_safe names id f globals [] [] h m a = body_safe names id f globals h m
 bound_safe names id f globals (g ∷ fs) [] h m a = absurd a
 bound_safe names id f globals fs (x ∷ xs) h m a = absurd a
 
-body_at : (names : List Entry) (fs : List Func) (id : ℕ) (f : Func) → bodies_rule names fs ≡ Ok tt → slice_get fs id ≡ Some f → body_rule names f ≡ Ok tt
+pub body_at : (names : List Entry) (fs : List Func) (id : ℕ) (f : Func) → bodies_rule names fs ≡ Ok tt → slice_get fs id ≡ Some f → body_rule names f ≡ Ok tt
 body_at names [] id f h k = none_some f k
 body_at names (g ∷ fs) zero f h k =
     let b = then_ok (body_rule names g) (bodies_rule names fs) tt h in

@@ -22,5 +22,8 @@ pub mod Machines
 pub mod Visits
 pub mod Soundness
 pub mod OneRun
+pub mod Elaboration
+pub mod TypedMeaning
+pub mod Erasure
 pub mod Report
 pub mod Reading

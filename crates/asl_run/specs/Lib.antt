@@ -4,4 +4,5 @@ pub mod Numbers
 pub mod Pieces
 pub mod Places
 pub mod Stages
+pub mod TypedMeets
 pub mod Work
