@@ -1,5 +1,6 @@
 pub mod Answers
 pub mod Views
+pub mod Layouts
 pub mod Known
 pub mod Falls
 pub mod Walks
