@@ -5,8 +5,10 @@ use Rattle.std.specs.Coded.{Coded, code_by, coded×, coded_bool, coded_ℕ, code
 use Rattle.asl_rules.specs.Types as types
 use Rattle.asl_rules.specs.Exprs as exprs
 use Rattle.asl_rules.specs.Scopes as scopes
-use Rattle.asl_check.specs.declared.types.Ty.{Ty}
-use Rattle.asl_check.specs.declared.types.Ty.TheVariants.{Integer, Boolean}
+use Rattle.asl_rules.specs.declared.typed.Ty.{Ty}
+use Rattle.asl_rules.specs.declared.typed.Ty.TheVariants.{Integer, Boolean}
+use Rattle.asl_rules.specs.declared.typed.Slot.{Slot}
+use Rattle.asl_rules.specs.declared.typed.Slot.TheVariants.{Local, Global}
 use Rattle.asl_check.specs.declared.types.Typed.{Typed}
 use Rattle.asl_check.specs.declared.visible.Storage.{Storage}
 use Rattle.asl_check.specs.declared.visible.Standing.{Standing}
@@ -20,8 +22,12 @@ type_of Boolean = types.boolean
 abbrev pub typed_of : Typed → exprs.Typed
 typed_of t = record { ty = type_of t.ty; effect = t.effect }
 
+abbrev pub slot_is_global : Slot → Bool
+slot_is_global (Local i) = false
+slot_is_global (Global i) = true
+
 abbrev pub storage_view : Storage → scopes.Storage
-storage_view s = record { ty = type_of s.ty; is_global = s.is_global; is_mutable = s.is_mutable }
+storage_view s = record { ty = type_of s.ty; is_global = slot_is_global s.slot; is_mutable = s.is_mutable }
 
 abbrev pub standing_view : Standing → scopes.Standing
 standing_view (standing.Stored s) = scopes.Stored (storage_view s)

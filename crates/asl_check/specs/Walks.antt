@@ -3,6 +3,7 @@ use Rattle.std.specs.Prelude.{ℕ, Bool, true, ◌&&◌, if◌then◌else◌, Li
 use Rattle.asl_syn.specs.declared.token.Span.{Span}
 use Rattle.asl_syn.specs.declared.code.Fault.{Fault}
 use Rattle.asl_syn.specs.declared.code.StaticCode.TheVariants.{S03, T05}
+use Rattle.asl_syn.specs.declared.tree.UnaryOperator.{UnaryOperator}
 use Rattle.asl_syn.specs.declared.tree.BinaryOperator.{BinaryOperator}
 use Rattle.asl_syn.specs.declared.tree.Expr.{Expr}
 use Rattle.asl_syn.specs.declared.tree.PrintItem.{PrintItem}
@@ -22,12 +23,16 @@ use Rattle.asl_rules.specs.Effects.{greater, together}
 use Rattle.asl_rules.specs.Scopes as scopes
 use Rattle.asl_rules.specs.Scopes.{Scope, stored, subprogram}
 use Rattle.asl_rules.specs.Names.{names_rule, all_declared}
-use Rattle.asl_rules.specs.Exprs.{Typed, typed, binary_rule, finish}
+use Rattle.asl_rules.specs.Exprs.{Typed, typed, unary_rule, binary_rule, finish}
 use Rattle.asl_rules.specs.Stmts.{Done, done, FoundStmt, FoundBranch, expr_at, ended, block, StmtOf, Unread, stmt_layer_rule, branch_rule}
 use Rattle.asl_rules.specs.Programs.{storage_rule, is_var, funcs_of, signatures_rule, overloads_rule, bodies_rule, entry_rule, library_names}
 use Rattle.asl_check.specs.Views.{with_entry}
 
 -- ---- expressions
+
+-- an operation whose operand was typed
+abbrev pub operation_of_one : Effect → Span → UnaryOperator → Typed → Result Typed Fault
+operation_of_one class span o S = unary_rule span o S.ty >>= λ U. finish class span true S.effect U
 
 -- an operation whose operands were typed
 abbrev pub operation : Effect → Span → BinaryOperator → Typed → Typed → Result Typed Fault

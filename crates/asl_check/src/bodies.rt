@@ -1,9 +1,11 @@
 //! The bodies of subprograms.
 
-ghost use Rattle.std.specs.Prelude.{◌≡◌, OnOk};
+ghost use Rattle.std.specs.Prelude.{◌≡◌, map, OnOk, IfOk};
 ghost use Rattle.std.specs.Option.{option_map};
+ghost use Rattle.asl_rules.specs.Elaboration.{elaborated_func, has_result};
 ghost use Rattle.asl_rules.specs.Programs as rules;
-ghost use Rattle.asl_check.specs.Answers.{Agrees};
+ghost use Rattle.asl_check.specs.Answers.{Met};
+ghost use Rattle.asl_check.specs.Layouts.{layout_of};
 ghost use Rattle.asl_check.specs.Views.{type_of};
 
 use crate::answer::fault;
@@ -14,8 +16,10 @@ use crate::stmts::check_stmts;
 use crate::types::Ty;
 use crate::visible::Visible;
 use asl_rules::effect::Effect;
+use asl_rules::typed::TypedFunc;
 use asl_syn::code::{Refused, StaticCode};
 use asl_syn::tree::{Decl, Func, Qualifier};
+use std::alloc::Global;
 
 /// The greatest effect that is allowed in a body.
 fn class_of(qualifier: Qualifier) -> Effect
@@ -38,10 +42,16 @@ fn may_end(returns: Option<Ty>, f: &Func) -> bool
     }
 }
 
-/// A body: its statements in order, then T17 at its name where the end of a function can be reached.
-fn check_body<'a>(names: &mut Visible<'a>, f: &'a Func) -> Result<(), Refused>
-    ensures rule { Agrees result (rules.body_rule names.old f.now) }
+/// A body: its statements in order, then T17 at its name where the end of a function can be reached. What is made of the
+/// subprogram.
+fn check_body<'a>(
+    alloc: Global,
+    names: &mut Visible<'a>,
+    f: &'a Func,
+) -> Result<TypedFunc, Refused>
+    ensures rule { Met (λ _. tt) result (rules.body_rule names.old f.now) }
     ensures kept { OnOk result (names.new ≡ names.old) }
+    ensures tree { IfOk result (λ t. t ≡ elaborated_func (layout_of names.old) f.now) }
 {
     let returns = result_type(&f.result)?;
     let body = Body {
@@ -49,22 +59,32 @@ fn check_body<'a>(names: &mut Visible<'a>, f: &'a Func) -> Result<(), Refused>
         class: class_of(f.qualifier),
     };
     let height = names.len();
-    check_stmts(names, body, f.body.as_slice())?;
+    let (trees, _) = check_stmts(alloc, names, body, f.body.as_slice())?;
     names.truncate(height);
     if !may_end(returns, f) {
         return fault(StaticCode::T17, f.name.span);
     }
-    Ok(())
+    Ok(TypedFunc {
+        span: f.name.span,
+        is_function: f.result.is_some(),
+        body: trees,
+    })
 }
 
-/// The bodies of all subprograms, in source order.
-pub(crate) fn check_bodies<'a>(names: &mut Visible<'a>, decls: &'a [Decl]) -> Result<(), Refused>
-    ensures { Agrees result (rules.bodies_rule names.old (rules.funcs_of decls.now)) }
+/// The bodies of all subprograms, in source order, and what is made of them.
+pub(crate) fn check_bodies<'a>(
+    alloc: Global,
+    names: &mut Visible<'a>,
+    decls: &'a [Decl],
+) -> Result<Vec<TypedFunc>, Refused>
+    ensures rule { Met (λ _. tt) result (rules.bodies_rule names.old (rules.funcs_of decls.now)) }
+    ensures tree { IfOk result (λ fs. fs.items ≡ map (elaborated_func (layout_of names.old)) (rules.funcs_of decls.now)) }
 {
+    let mut funcs = Vec::new(alloc);
     for d in decls {
         if let Decl::Func(f) = d {
-            check_body(names, f)?;
+            funcs.push(check_body(alloc, names, f)?)?;
         }
     }
-    Ok(())
+    Ok(funcs)
 }

@@ -1,8 +1,13 @@
 //! The types and the effects of expressions.
 
-ghost use Rattle.std.specs.Prelude.{◌≡◌};
+ghost use Rattle.std.specs.Prelude.{◌≡◌, IfOk};
+ghost use Rattle.asl_syn.specs.declared.tree.TypeExpr.{out-TypeExpr};
+ghost use Rattle.asl_rules.specs.declared.typed.TypedExpr.TheVariants as tree;
+ghost use Rattle.asl_rules.specs.Elaboration.{elaborated, slot_of, ty_of};
+ghost use Rattle.asl_rules.specs.Evaluation.{written_layer};
 ghost use Rattle.asl_rules.specs.Exprs as rules;
 ghost use Rattle.asl_check.specs.Answers.{Met};
+ghost use Rattle.asl_check.specs.Layouts.{layout_of};
 ghost use Rattle.asl_check.specs.Views.{type_of, typed_of, scope_of};
 ghost use Rattle.asl_check.specs.Walks as walks;
 
@@ -12,9 +17,12 @@ use crate::effects::{at_most, greater, together};
 use crate::types::{Ty, Typed, is_boolean, is_integer, same_kind};
 use crate::visible::{Visible, reading};
 use asl_rules::effect::Effect;
+use asl_rules::typed::TypedExpr;
 use asl_syn::code::{Refused, StaticCode};
 use asl_syn::token::Span;
 use asl_syn::tree::{BinaryOperator, Expr, TypeExpr, UnaryOperator};
+use sqlite_items::Boxed;
+use std::alloc::{AllocError, Global};
 
 /// The end of each expression: T13 where its operands may not stand together, then T12 where it passes the class of its
 /// body.
@@ -118,6 +126,19 @@ fn type_unary(span: Span, op: UnaryOperator, operand: Ty) -> Result<Ty, Refused>
     }
 }
 
+/// An operation whose operand was typed.
+fn type_operation_of_one(
+    class: Effect,
+    span: Span,
+    op: UnaryOperator,
+    operand: Typed,
+) -> Result<Typed, Refused>
+    ensures { Met typed_of result (walks.operation_of_one class span op (typed_of operand)) }
+{
+    let ty = type_unary(span, op, operand.ty)?;
+    finish(class, span, true, operand.effect, ty)
+}
+
 /// An operation whose operands were typed.
 fn type_operation(
     class: Effect,
@@ -135,33 +156,76 @@ fn type_operation(
 }
 
 /// A name: T02 where it is no storage.
-fn type_name(names: &Visible, body: Body, span: Span, name: &[u8]) -> Result<Typed, Refused>
-    ensures { Met typed_of result (rules.name_rule span name.now (scope_of names.now body)) }
+fn type_name(
+    names: &Visible,
+    body: Body,
+    span: Span,
+    name: &[u8],
+) -> Result<(TypedExpr, Typed), Refused>
+    ensures rule { Met (λ p. typed_of p.1) result (rules.name_rule span name.now (scope_of names.now body)) }
+    ensures tree { IfOk result (λ p. p.0 ≡ tree.Read span (slot_of name.now (layout_of names.now))) }
 {
     match names.storage_of(name) {
         None => fault(StaticCode::T02, span),
-        Some(s) => finish(body.class, span, true, reading(s), s.ty),
+        Some(s) => {
+            let typed = finish(body.class, span, true, reading(s), s.ty)?;
+            Ok((TypedExpr::Read(span, s.slot), typed))
+        }
     }
 }
 
-/// The type and the effect of an expression, or its one fault: its operands in order, and then its own conditions.
-pub(crate) fn type_expr(names: &Visible, body: Body, e: &Expr) -> Result<Typed, Refused>
-    ensures { Met typed_of result (rules.typed e.now (scope_of names.now body)) }
+fn unary(alloc: Global, span: Span, op: UnaryOperator, a: TypedExpr) -> Result<TypedExpr, AllocError>
+    ensures { IfOk result (λ t. t ≡ tree.Unary span op a) }
+{
+    Ok(TypedExpr::Unary(span, op, Boxed::new(alloc, a)?))
+}
+
+fn binary(
+    alloc: Global,
+    span: Span,
+    op: BinaryOperator,
+    a: TypedExpr,
+    b: TypedExpr,
+) -> Result<TypedExpr, AllocError>
+    ensures { IfOk result (λ t. t ≡ tree.Binary span op a b) }
+{
+    let a = Boxed::new(alloc, a)?;
+    let b = Boxed::new(alloc, b)?;
+    Ok(TypedExpr::Binary(span, op, a, b))
+}
+
+/// The typed tree of an expression with its type and effect, or its one fault: its operands in order, and then its own
+/// conditions.
+pub(crate) fn type_expr(
+    alloc: Global,
+    names: &Visible,
+    body: Body,
+    e: &Expr,
+) -> Result<(TypedExpr, Typed), Refused>
+    ensures rule { Met (λ p. typed_of p.1) result (rules.typed e.now (scope_of names.now body)) }
+    ensures tree { IfOk result (λ p. p.0 ≡ elaborated e.now (layout_of names.now)) }
 {
     match e {
-        Expr::Int(span, _) => finish(body.class, *span, true, Effect::Pure, Ty::Integer),
+        Expr::Int(span, n) => {
+            let typed = finish(body.class, *span, true, Effect::Pure, Ty::Integer)?;
+            Ok((TypedExpr::Int(*span, *n), typed))
+        }
         Expr::Bits(span, _) => fault(StaticCode::S03, *span),
-        Expr::Bool(span, _) => finish(body.class, *span, true, Effect::Pure, Ty::Boolean),
+        Expr::Bool(span, b) => {
+            let typed = finish(body.class, *span, true, Effect::Pure, Ty::Boolean)?;
+            Ok((TypedExpr::Bool(*span, *b), typed))
+        }
         Expr::Name(span, name) => type_name(names, body, *span, name.as_slice()),
         Expr::Unary(span, op, operand) => {
-            let s = type_expr(names, body, operand.get())?;
-            let ty = type_unary(*span, *op, s.ty)?;
-            finish(body.class, *span, true, s.effect, ty)
+            let (a, s) = type_expr(alloc, names, body, operand.get())?;
+            let typed = type_operation_of_one(body.class, *span, *op, s)?;
+            Ok((unary(alloc, *span, *op, a)?, typed))
         }
         Expr::Binary(span, op, left, right) => {
-            let s = type_expr(names, body, left.get())?;
-            let t = type_expr(names, body, right.get())?;
-            type_operation(body.class, *span, *op, s, t)
+            let (a, s) = type_expr(alloc, names, body, left.get())?;
+            let (b, t) = type_expr(alloc, names, body, right.get())?;
+            let typed = type_operation(body.class, *span, *op, s, t)?;
+            Ok((binary(alloc, *span, *op, a, b)?, typed))
         }
         Expr::Conditional(span, _, _, _) => fault(StaticCode::S03, *span),
         Expr::Tuple(span, _) => fault(StaticCode::S03, *span),
@@ -202,7 +266,8 @@ pub(crate) fn place(e: &Expr) -> Span
 
 /// The type that is written.
 pub(crate) fn written(ty: &TypeExpr) -> Result<Ty, Refused>
-    ensures { Met type_of result (rules.written ty.now) }
+    ensures rule { Met type_of result (rules.written ty.now) }
+    ensures tree { IfOk result (λ t. t ≡ ty_of (written_layer (out-TypeExpr ty.now))) }
 {
     match ty {
         TypeExpr::IntegerType(span, parts) => match parts.as_slice() {

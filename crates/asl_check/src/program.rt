@@ -1,9 +1,10 @@
 //! Whole programs.
 
-ghost use Rattle.std.specs.Prelude.{◌≡◌, None};
+ghost use Rattle.std.specs.Prelude.{◌≡◌, None, IfOk};
 ghost use Rattle.asl_rules.specs.Served.{unserved_decls};
 ghost use Rattle.asl_rules.specs.Programs as rules;
-ghost use Rattle.asl_check.specs.Answers.{Agrees};
+ghost use Rattle.asl_tree.specs.Accepted.{IsElaborated};
+ghost use Rattle.asl_check.specs.Answers.{Met};
 ghost use Rattle.asl_check.specs.Verdicts.{IsVerdict};
 ghost use Rattle.asl_check.specs.Walks.{verdict_walk};
 
@@ -14,26 +15,38 @@ use crate::names::check_names;
 use crate::overloads::check_overloads;
 use crate::signatures::check_signatures;
 use asl_rules::entry::Entry;
+use asl_rules::typed::TypedFunc;
 use asl_syn::code::Refused;
 use asl_syn::tree::{Decl, Program};
 use asl_tree::{Checked, SubId};
 use std::alloc::Global;
 
 /// The phases in order: names, storage, signatures, overloads, bodies, the entry.
-fn phases(alloc: Global, entry: Entry, decls: &[Decl]) -> Result<Option<SubId>, Refused>
-    ensures { Agrees result (verdict_walk entry decls.now) }
+fn phases(
+    alloc: Global,
+    entry: Entry,
+    decls: &[Decl],
+) -> Result<(Vec<TypedFunc>, Option<SubId>), Refused>
+    ensures rule { Met (λ p. p.1) result (verdict_walk entry decls.now) }
+    ensures tree { IfOk result (λ p. IsElaborated decls.now p.0.items) }
 {
     check_names(alloc, decls)?;
     let mut names = check_globals(alloc, decls)?;
     check_signatures(decls)?;
     check_overloads(alloc, decls)?;
-    check_bodies(&mut names, decls)?;
-    find_entry(entry, decls)
+    let funcs = check_bodies(alloc, &mut names, decls)?;
+    let main = find_entry(entry, decls)?;
+    Ok((funcs, main))
 }
 
-/// The entry, or the one fault.
-fn verdict(alloc: Global, entry: Entry, decls: &[Decl]) -> Result<Option<SubId>, Refused>
-    ensures { Agrees result (rules.verdict entry decls.now) }
+/// What is made of the subprograms, with the entry; or the one fault.
+fn verdict(
+    alloc: Global,
+    entry: Entry,
+    decls: &[Decl],
+) -> Result<(Vec<TypedFunc>, Option<SubId>), Refused>
+    ensures rule { Met (λ p. p.1) result (rules.verdict entry decls.now) }
+    ensures tree { IfOk result (λ p. IsElaborated decls.now p.0.items) }
 {
     phases(alloc, entry, decls)
 }
@@ -44,6 +57,6 @@ pub fn check(alloc: Global, program: Program, entry: Entry) -> Result<Checked, R
     requires { unserved_decls program.decls ≡ None }
     ensures { IsVerdict entry program.decls result }
 {
-    let main = verdict(alloc, entry, program.decls.as_slice())?;
+    let (funcs, main) = verdict(alloc, entry, program.decls.as_slice())?;
     Ok(Checked::seal(program, main))
 }

@@ -1,7 +1,10 @@
 //! What statements have in common.
 
+ghost use Rattle.std.specs.Prelude.{◌≡◌, IfOk};
+ghost use Rattle.asl_rules.specs.Elaboration.{elaborated};
 ghost use Rattle.asl_rules.specs.Stmts as rules;
-ghost use Rattle.asl_check.specs.Answers.{Agrees};
+ghost use Rattle.asl_check.specs.Answers.{Met, Agrees};
+ghost use Rattle.asl_check.specs.Layouts.{layout_of};
 ghost use Rattle.asl_check.specs.Views.{type_of, scope_of};
 
 use crate::answer::fault;
@@ -11,9 +14,11 @@ use crate::exprs::{place, type_expr};
 use crate::types::{Ty, misfit};
 use crate::visible::Visible;
 use asl_rules::effect::Effect;
+use asl_rules::typed::TypedExpr;
 use asl_syn::code::{Refused, StaticCode};
 use asl_syn::token::Span;
 use asl_syn::tree::Expr;
+use std::alloc::Global;
 
 /// The end of each statement: T13 where its operands may not stand together, then T12 where it passes the class of its
 /// body.
@@ -34,13 +39,20 @@ pub(crate) fn ended(
     Ok(effect)
 }
 
-/// An expression that has to fit a type: its effect.
-pub(crate) fn check_fit(names: &Visible, body: Body, to: Ty, e: &Expr) -> Result<Effect, Refused>
-    ensures { Agrees result (rules.fitting (type_of to) e.now (scope_of names.now body)) }
+/// An expression that has to fit a type: its typed tree and its effect.
+pub(crate) fn check_fit(
+    alloc: Global,
+    names: &Visible,
+    body: Body,
+    to: Ty,
+    e: &Expr,
+) -> Result<(TypedExpr, Effect), Refused>
+    ensures rule { Met (λ p. p.1) result (rules.fitting (type_of to) e.now (scope_of names.now body)) }
+    ensures tree { IfOk result (λ p. p.0 ≡ elaborated e.now (layout_of names.now)) }
 {
-    let s = type_expr(names, body, e)?;
+    let (tree, s) = type_expr(alloc, names, body, e)?;
     if let Some(code) = misfit(s.ty, to) {
         return fault(code, place(e));
     }
-    Ok(s.effect)
+    Ok((tree, s.effect))
 }

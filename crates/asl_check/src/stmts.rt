@@ -1,10 +1,12 @@
 //! Statements and lists of them.
 
-ghost use Rattle.std.specs.Prelude.{◌≡◌, map, OnOk};
+ghost use Rattle.std.specs.Prelude.{◌≡◌, map, OnOk, IfOk};
 ghost use Rattle.asl_rules.specs.declared.effect.Effect.TheVariants.{Pure};
+ghost use Rattle.asl_rules.specs.Elaboration.{elaborated_stmt, elaborated_branch, trees_of, branches_of};
 ghost use Rattle.asl_rules.specs.Stmts as rules;
 ghost use Rattle.asl_rules.specs.Stmts.{done};
 ghost use Rattle.asl_check.specs.Answers.{Met};
+ghost use Rattle.asl_check.specs.Layouts.{layout_of};
 ghost use Rattle.asl_check.specs.Views.{scope_of};
 ghost use Rattle.asl_check.specs.Walks as walks;
 
@@ -18,105 +20,135 @@ use crate::prints::check_print;
 use crate::simple::{check_assert, check_return, check_target};
 use crate::visible::Visible;
 use asl_rules::effect::Effect;
+use asl_rules::typed::{TypedBranch, TypedStmt};
 use asl_syn::code::{Refused, StaticCode};
 use asl_syn::tree::{ElseIf, Stmt};
+use sqlite_items::Items;
+use std::alloc::Global;
 
-/// A statement: the names that are visible after it, and its effect.
+/// A statement: the names that are visible after it, its typed tree and its effect.
 #[cycle(stmts)]
-fn check_stmt<'a>(names: &mut Visible<'a>, body: Body, s: &'a Stmt) -> Result<Effect, Refused>
-    ensures { Met (λ k. done names.new k) result (walks.walk_stmt s.now (scope_of names.old body)) }
+fn check_stmt<'a>(
+    alloc: Global,
+    names: &mut Visible<'a>,
+    body: Body,
+    s: &'a Stmt,
+) -> Result<(TypedStmt, Effect), Refused>
+    ensures rule { Met (λ p. done names.new p.1) result (walks.walk_stmt s.now (scope_of names.old body)) }
+    ensures tree { IfOk result (λ p. p.0 ≡ (elaborated_stmt s.now).tree (layout_of names.old)) }
 {
     match s {
-        Stmt::Pass(_) => Ok(Effect::Pure),
+        Stmt::Pass(span) => Ok((TypedStmt::Pass(*span), Effect::Pure)),
         Stmt::Unreachable(span) => fault(StaticCode::S03, *span),
-        Stmt::Assert(span, e) => check_assert(names, body, *span, e),
-        Stmt::Local(span, kind, bind, ty, e) => check_bind(names, body, *span, *kind, bind, ty, e),
-        Stmt::LocalVars(_, idents, ty) => check_vars(names, body, idents.as_slice(), ty),
-        Stmt::Assign(span, target, e) => check_target(names, body, *span, target, e),
+        Stmt::Assert(span, e) => check_assert(alloc, names, body, *span, e),
+        Stmt::Local(span, kind, bind, ty, e) => {
+            check_bind(alloc, names, body, *span, *kind, bind, ty, e)
+        }
+        Stmt::LocalVars(span, idents, ty) => check_vars(names, body, *span, idents.as_slice(), ty),
+        Stmt::Assign(span, target, e) => check_target(alloc, names, body, *span, target, e),
         Stmt::Invoke(span, _, _, _) => fault(StaticCode::S03, *span),
         Stmt::If(span, condition, first, others, last) => {
-            let s = type_expr(names, body, condition)?;
-            let k = check_block(names, body, first.as_slice())?;
+            let (c, s) = type_expr(alloc, names, body, condition)?;
+            let (first, k) = check_block(alloc, names, body, first.as_slice())?;
             let none = Branches {
                 misplaced: None,
                 effect: Effect::Pure,
             };
             let start = after_branch(none, condition, s, k);
-            let all = check_branches(names, body, others.as_slice(), start)?;
-            let l = check_block(names, body, last.as_slice())?;
-            end_if(body.class, *span, all, l)
+            let (others, all) = check_branches(alloc, names, body, others.as_slice(), start)?;
+            let (last, l) = check_block(alloc, names, body, last.as_slice())?;
+            let effect = end_if(body.class, *span, all, l)?;
+            Ok((TypedStmt::If(*span, c, first, others, last), effect))
         }
         Stmt::Case(span, _, _, _) => fault(StaticCode::S03, *span),
         Stmt::For(span, _, _, _, _, _, _) => fault(StaticCode::S03, *span),
         Stmt::While(span, _, _, _) => fault(StaticCode::S03, *span),
         Stmt::Repeat(span, _, _, _) => fault(StaticCode::S03, *span),
-        Stmt::Return(span, value) => check_return(names, body, *span, value),
+        Stmt::Return(span, value) => check_return(alloc, names, body, *span, value),
         Stmt::Throw(span, _) => fault(StaticCode::S03, *span),
         Stmt::Try(span, _, _, _) => fault(StaticCode::S03, *span),
-        Stmt::Print(span, _, items) => check_print(names, body, *span, items.as_slice()),
+        Stmt::Print(span, kind, items) => {
+            check_print(alloc, names, body, *span, *kind, items.as_slice())
+        }
     }
 }
 
 /// The branches of an `if` behind the first, in order.
 #[cycle(stmts)]
 fn check_branches<'a>(
+    alloc: Global,
     names: &mut Visible<'a>,
     body: Body,
     others: &'a [ElseIf],
     before: Branches,
-) -> Result<Branches, Refused>
-    ensures rule { Met (λ b. (b.misplaced, b.effect)) result (walks.after_branches (map walks.walk_branch others.now) before.misplaced before.effect (scope_of names.old body)) }
+) -> Result<(Items<TypedBranch>, Branches), Refused>
+    ensures rule { Met (λ p. (p.1.misplaced, p.1.effect)) result (walks.after_branches (map walks.walk_branch others.now) before.misplaced before.effect (scope_of names.old body)) }
     ensures kept { OnOk result (names.new ≡ names.old) }
+    ensures tree { IfOk result (λ p. p.0 ≡ branches_of (map elaborated_branch others.now) (layout_of names.old)) }
 {
+    let mut trees = Items::new(alloc);
     let mut so_far = before;
     for b in others {
         match b {
             ElseIf::ElseIf(condition, stmts) => {
-                let s = type_expr(names, body, condition)?;
-                let k = check_block(names, body, stmts.as_slice())?;
+                let (c, s) = type_expr(alloc, names, body, condition)?;
+                let (list, k) = check_block(alloc, names, body, stmts.as_slice())?;
+                trees.push(TypedBranch::Branch(c, list))?;
                 so_far = after_branch(so_far, condition, s, k);
             }
         }
     }
-    Ok(so_far)
+    Ok((trees, so_far))
 }
 
 /// Statements in order. The names that they declare stay.
 #[cycle(stmts)]
-fn check_list<'a>(names: &mut Visible<'a>, body: Body, stmts: &'a [Stmt]) -> Result<Effect, Refused>
-    ensures { Met (λ k. done names.new k) result (rules.in_order (map walks.walk_stmt stmts.now) Pure (scope_of names.old body)) }
+fn check_list<'a>(
+    alloc: Global,
+    names: &mut Visible<'a>,
+    body: Body,
+    stmts: &'a [Stmt],
+) -> Result<(Items<TypedStmt>, Effect), Refused>
+    ensures rule { Met (λ p. done names.new p.1) result (rules.in_order (map walks.walk_stmt stmts.now) Pure (scope_of names.old body)) }
+    ensures tree { IfOk result (λ p. p.0 ≡ trees_of (map elaborated_stmt stmts.now) (layout_of names.old)) }
 {
+    let mut trees = Items::new(alloc);
     let mut effect = Effect::Pure;
     for s in stmts {
-        let k = check_stmt(names, body, s)?;
+        let (tree, k) = check_stmt(alloc, names, body, s)?;
+        trees.push(tree)?;
         effect = greater(effect, k);
     }
-    Ok(effect)
+    Ok((trees, effect))
 }
 
 /// A list with a scope of its own: its names are visible no more behind it.
 #[cycle(stmts)]
 fn check_block<'a>(
+    alloc: Global,
     names: &mut Visible<'a>,
     body: Body,
     stmts: &'a [Stmt],
-) -> Result<Effect, Refused>
-    ensures rule { Met (λ k. done names.new k) result (rules.block (map walks.walk_stmt stmts.now) (scope_of names.old body)) }
+) -> Result<(Items<TypedStmt>, Effect), Refused>
+    ensures rule { Met (λ p. done names.new p.1) result (rules.block (map walks.walk_stmt stmts.now) (scope_of names.old body)) }
     ensures kept { OnOk result (names.new ≡ names.old) }
+    ensures tree { IfOk result (λ p. p.0 ≡ trees_of (map elaborated_stmt stmts.now) (layout_of names.old)) }
 {
     let height = names.len();
-    let effect = check_list(names, body, stmts)?;
+    let (trees, effect) = check_list(alloc, names, body, stmts)?;
     names.truncate(height);
-    Ok(effect)
+    Ok((trees, effect))
 }
 
 /// The statements of a body in order. The names that they declare stay.
 pub(crate) fn check_stmts<'a>(
+    alloc: Global,
     names: &mut Visible<'a>,
     body: Body,
     stmts: &'a [Stmt],
-) -> Result<Effect, Refused>
-    ensures { Met (λ k. done names.new k) result (rules.in_order (map rules.found_stmt stmts.now) Pure (scope_of names.old body)) }
+) -> Result<(Items<TypedStmt>, Effect), Refused>
+    ensures rule { Met (λ p. done names.new p.1) result (rules.in_order (map rules.found_stmt stmts.now) Pure (scope_of names.old body)) }
+    ensures tree { IfOk result (λ p. p.0 ≡ trees_of (map elaborated_stmt stmts.now) (layout_of names.old)) }
 {
-    check_list(names, body, stmts)
+    check_list(alloc, names, body, stmts)
 }

@@ -1,11 +1,14 @@
 //! The visible names and what they stand for.
 
-ghost use Rattle.std.specs.Prelude.{◌≡◌, [], length, take, OnOk, IfErr};
+ghost use Rattle.std.specs.Prelude.{◌≡◌, [], false, true, length, take, MatchOption, OnOk, IfErr};
 ghost use Rattle.std.specs.Option.{option_map};
 ghost use Rattle.asl_rules.specs.Scopes as rules;
-ghost use Rattle.asl_check.specs.Views.{storage_view, standing_view, entry_view, with_entry};
+ghost use Rattle.asl_rules.specs.Scopes.{stored, subprogram};
+ghost use Rattle.asl_rules.specs.Elaboration.{slot_of};
+ghost use Rattle.asl_check.specs.Views.{type_of, slot_is_global, storage_view, standing_view, entry_view, with_entry};
+ghost use Rattle.asl_check.specs.Layouts.{layout_of};
 
-use crate::types::Ty;
+use asl_rules::typed::{Slot, Ty};
 use asl_rules::effect::Effect;
 use asl_syn::code::Refused;
 use indexmap::IndexMap;
@@ -16,7 +19,7 @@ use std::marker::Model;
 #[derive(Clone, Copy)]
 pub(crate) struct Storage {
     pub(crate) ty: Ty,
-    pub(crate) is_global: bool,
+    pub(crate) slot: Slot,
     pub(crate) is_mutable: bool,
 }
 
@@ -82,13 +85,37 @@ impl<'a> Visible<'a> {
 
     /// The storage that a name stands for, where it stands for some.
     pub(crate) fn storage_of(&self, name: &[u8]) -> Option<Storage>
-        ensures { option_map storage_view result ≡ rules.storage_of name.now self.now }
+        ensures view { option_map storage_view result ≡ rules.storage_of name.now self.now }
+        ensures slot { MatchOption result (Unit {0}) (λ s. s.slot ≡ slot_of name.now (layout_of self.now)) }
     {
         match self.standing_of(name) {
             None => None,
             Some(Standing::Stored(s)) => Some(s),
             Some(Standing::Subprogram) => None,
         }
+    }
+
+    pub(crate) fn declare_local(&mut self, name: &'a [u8], ty: Ty, is_mutable: bool) -> Result<(), Refused>
+        ensures declared { OnOk result (self.new ≡ with_entry (stored name.now (type_of ty) false is_mutable) self.old) }
+        ensures memory { IfErr result (λ e. e ≡ Refused.NoMemory) }
+    {
+        let storage = Storage { ty, slot: Slot::Local(0), is_mutable };
+        self.declare(name, Standing::Stored(storage))
+    }
+
+    pub(crate) fn declare_global(&mut self, name: &'a [u8], ty: Ty, is_mutable: bool) -> Result<(), Refused>
+        ensures declared { OnOk result (self.new ≡ with_entry (stored name.now (type_of ty) true is_mutable) self.old) }
+        ensures memory { IfErr result (λ e. e ≡ Refused.NoMemory) }
+    {
+        let storage = Storage { ty, slot: Slot::Global(0), is_mutable };
+        self.declare(name, Standing::Stored(storage))
+    }
+
+    pub(crate) fn declare_subprogram(&mut self, name: &'a [u8]) -> Result<(), Refused>
+        ensures declared { OnOk result (self.new ≡ with_entry (subprogram name.now) self.old) }
+        ensures memory { IfErr result (λ e. e ≡ Refused.NoMemory) }
+    {
+        self.declare(name, Standing::Subprogram)
     }
 
     /// A name becomes visible, where it isn't.
@@ -110,11 +137,20 @@ impl<'a> Visible<'a> {
     }
 }
 
+pub(crate) fn is_global(slot: Slot) -> bool
+    ensures { result ≡ slot_is_global slot }
+{
+    match slot {
+        Slot::Local(_) => false,
+        Slot::Global(_) => true,
+    }
+}
+
 /// What reading storage does.
 pub(crate) fn reading(s: Storage) -> Effect
     ensures { result ≡ rules.reading (storage_view s) }
 {
-    if s.is_global && s.is_mutable {
+    if is_global(s.slot) && s.is_mutable {
         Effect::Readonly
     } else {
         Effect::Pure
@@ -125,7 +161,7 @@ pub(crate) fn reading(s: Storage) -> Effect
 pub(crate) fn writing(s: Storage) -> Effect
     ensures { result ≡ rules.writing (storage_view s) }
 {
-    if s.is_global {
+    if is_global(s.slot) {
         Effect::Writes
     } else {
         Effect::Pure
