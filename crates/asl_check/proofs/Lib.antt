@@ -4,3 +4,4 @@ pub mod VisibleLemmas
 pub mod Binds
 pub mod StmtWalks
 pub mod GlobalWalks
+pub mod Layouts
