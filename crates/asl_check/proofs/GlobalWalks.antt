@@ -176,3 +176,7 @@ by_names e ds (Ok x) h = by_overloads e ds (overloads_rule [] (funcs_of ds)) ref
 pub verdict_is : (e : Asked) (ds : List Decl) → verdict e ds ≡ verdict_walk e ds
 unfolding verdict
 verdict_is e ds = by_names e ds (names_rule [] (all_declared ds)) refl
+
+-- where the names and the overloads are in order, the walk over the declarations brings what they bring
+pub library_globals : (ds : List Decl) → names_rule [] (all_declared ds) ≡ Ok tt → overloads_rule [] (funcs_of ds) ≡ Ok tt → globals_rule ds library_names ≡ globals_walk ds library_names
+library_globals ds n o = same_globals ds library_names [] [] known_library n o

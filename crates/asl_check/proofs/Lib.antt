@@ -5,3 +5,4 @@ pub mod Binds
 pub mod StmtWalks
 pub mod GlobalWalks
 pub mod Layouts
+pub mod Trees

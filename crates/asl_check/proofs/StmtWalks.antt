@@ -20,7 +20,7 @@ use Rattle.asl_rules.specs.Exprs.{Typed, typed}
 use Rattle.asl_rules.specs.Stmts.{Done, done, FoundStmt, FoundBranch, Branch, expr_at, ended, with_names, in_order, block, condition, conditions, branches, if_rule, items_rule, print_rule, StmtOf, Unread, stmt_layer_rule, branch_rule, found_stmt}
 use Rattle.asl_rules.proofs.Inversions.{ok_ok, bind_ok}
 use Rattle.asl_rules.proofs.Growing.{Longer, same_names, longer_on, stmt_longer}
-use Rattle.asl_check.specs.Walks.{misplaced, after_branches, if_walk, after_items, print_walk, walk_layer, walk_stmt}
+use Rattle.asl_check.specs.Walks.{misplaced, after_branch, after_branches, if_walk, after_items, print_walk, walk_layer, walk_stmt}
 use Rattle.asl_check.proofs.Binds.{then_same, then_then, need_then, need_need, need_last}
 
 -- ---- `if`
@@ -47,9 +47,10 @@ branches_walk T (b ∷ bs) before at k G h =
     then_then (typed b.condition G) _ (λ p. T (conditions p.0) p.1)
     ∙ then_same (typed b.condition G) _ _ (λ S.
     then_then (block b.body G) _ (λ p. T (conditions p.0) p.1)
-    ∙ then_same (block b.body G) _ _ (λ d. branches_walk T bs _ (misplaced at b.condition S) (greater k (greater S.effect d.effect)) G (conditions_last before b.condition S ∙ misplaced_is (conditions before) at b.condition S h))
-    ∙ sym (then_then (block b.body G) _ (λ p. T (none_at T05 p.0) p.1)))
-    ∙ sym (then_then (typed b.condition G) _ (λ p. T (none_at T05 p.0) p.1))
+    ∙ then_same (block b.body G) _ _ (λ d. branches_walk T bs _ (misplaced at b.condition S) (greater k (greater S.effect d.effect)) G (conditions_last before b.condition S ∙ misplaced_is (conditions before) at b.condition S h)))
+    ∙ sym (then_then (after_branch b at k G) (λ p. after_branches bs p.0 p.1 G) (λ p. T (none_at T05 p.0) p.1)
+    ∙ then_then (typed b.condition G) (λ S. block b.body G >>= λ d. Ok (misplaced at b.condition S, greater k (greater S.effect d.effect))) (λ p. after_branches bs p.0 p.1 G >>= λ q. T (none_at T05 q.0) q.1)
+    ∙ then_same (typed b.condition G) _ _ (λ S. then_then (block b.body G) (λ d. Ok (misplaced at b.condition S, greater k (greater S.effect d.effect))) (λ p. after_branches bs p.0 p.1 G >>= λ q. T (none_at T05 q.0) q.1)))
 
 if_is : (span : Span) (c : Expr) (first : List FoundStmt) (others : List FoundBranch) (last : List FoundStmt) (G : Scope) → if_rule span c first others last G ≡ if_walk span c first others last G
 if_is span c first others last G =

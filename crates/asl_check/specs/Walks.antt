@@ -45,12 +45,14 @@ abbrev pub misplaced : Option Span → Expr → Typed → Option Span
 misplaced None e S = if is_boolean S.ty then None else Some (expr_at e)
 misplaced (Some at) e S = Some at
 
+-- one more branch of an `if`
+abbrev pub after_branch : FoundBranch → Option Span → Effect → Scope → Result (Option Span × Effect) Fault
+after_branch b at k G = typed b.condition G >>= λ S. block b.body G >>= λ d. Ok (misplaced at b.condition S, greater k (greater S.effect d.effect))
+
 -- the branches of an `if` in order
 abbrev pub after_branches : List FoundBranch → Option Span → Effect → Scope → Result (Option Span × Effect) Fault
 after_branches [] at k G = Ok (at, k)
-after_branches (b ∷ bs) at k G =
-    typed b.condition G >>= λ S. block b.body G >>= λ d.
-    after_branches bs (misplaced at b.condition S) (greater k (greater S.effect d.effect)) G
+after_branches (b ∷ bs) at k G = after_branch b at k G >>= λ p. after_branches bs p.0 p.1 G
 
 -- the end of an `if`
 abbrev pub end_if : Effect → Span → Option Span → Effect → Result Effect Fault

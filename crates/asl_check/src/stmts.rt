@@ -89,16 +89,34 @@ fn check_branches<'a>(
     let mut trees = Items::new(alloc);
     let mut so_far = before;
     for b in others {
-        match b {
-            ElseIf::ElseIf(condition, stmts) => {
-                let (c, s) = type_expr(alloc, names, body, condition)?;
-                let (list, k) = check_block(alloc, names, body, stmts.as_slice())?;
-                trees.push(TypedBranch::Branch(c, list))?;
-                so_far = after_branch(so_far, condition, s, k);
-            }
-        }
+        let (tree, after) = check_branch(alloc, names, body, b, so_far)?;
+        trees.push(tree)?;
+        so_far = after;
     }
     Ok((trees, so_far))
+}
+
+/// One branch: its condition and its list.
+#[cycle(stmts)]
+fn check_branch<'a>(
+    alloc: Global,
+    names: &mut Visible<'a>,
+    body: Body,
+    b: &'a ElseIf,
+    before: Branches,
+) -> Result<(TypedBranch, Branches), Refused>
+    ensures rule { Met (λ p. (p.1.misplaced, p.1.effect)) result (walks.after_branch (walks.walk_branch b.now) before.misplaced before.effect (scope_of names.old body)) }
+    ensures kept { OnOk result (names.new ≡ names.old) }
+    ensures tree { IfOk result (λ p. p.0 ≡ elaborated_branch b.now (layout_of names.old)) }
+{
+    match b {
+        ElseIf::ElseIf(condition, stmts) => {
+            let (c, s) = type_expr(alloc, names, body, condition)?;
+            let (trees, k) = check_block(alloc, names, body, stmts.as_slice())?;
+            let after = after_branch(before, condition, s, k);
+            Ok((TypedBranch::Branch(c, trees), after))
+        }
+    }
 }
 
 /// Statements in order. The names that they declare stay.

@@ -7,4 +7,4 @@ use Rattle.asl_check.proofs.bodies.check_body.Goals as goal
 pub returns-clause-kept : goal.returns-clause-kept
 returns-clause-kept c =
     c.truncate.ensures ∙ ap (λ n. take n c.check_stmts.new.names) c.len-height.ensures
-    ∙ cut_back c.as_slice.result.now Pure (scope_of c.args.names.now (record { returns = c.in_ok-returns.returns; class = c.class_of.result })) _ c.in_ok-check_stmts.ensures
+    ∙ cut_back c.as_slice.result.now Pure (scope_of c.args.names.now (record { returns = c.in_ok-returns.returns; class = c.class_of.result })) _ c.in_ok-trees.ensures.rule
