@@ -11,7 +11,7 @@ use crate::body::Body;
 use crate::exprs::{place, type_expr, written};
 use crate::library::LIBRARY;
 use crate::types::{Ty, misfit};
-use crate::visible::{Standing, Storage, Visible};
+use crate::visible::Visible;
 use asl_rules::effect::Effect;
 use asl_syn::code::{Refused, StaticCode};
 use asl_syn::tree::{Decl, StorageDecl, StorageKind};
@@ -66,7 +66,7 @@ fn declare_library<'a>(names: &mut Visible<'a>, library: &[&'static str]) -> Res
     ensures memory { IfErr result (λ e. e ≡ Refused.NoMemory) }
 {
     for name in library {
-        names.declare(name.as_bytes(), Standing::Subprogram)?;
+        names.declare_subprogram(name.as_bytes())?;
     }
     Ok(())
 }
@@ -87,14 +87,9 @@ fn declare_global<'a>(alloc: Global, names: &mut Visible<'a>, d: &'a Decl) -> Re
         Decl::Type(t) => fault(StaticCode::S03, t.span),
         Decl::Storage(s) => {
             let ty = type_storage(alloc, s)?;
-            let storage = Storage {
-                ty,
-                is_global: true,
-                is_mutable: is_var(s.kind),
-            };
-            names.declare(s.name.text.as_slice(), Standing::Stored(storage))
+            names.declare_global(s.name.text.as_slice(), ty, is_var(s.kind))
         }
-        Decl::Func(f) => names.declare(f.name.text.as_slice(), Standing::Subprogram),
+        Decl::Func(f) => names.declare_subprogram(f.name.text.as_slice()),
     }
 }
 

@@ -11,7 +11,7 @@ use crate::body::Body;
 use crate::exprs::{type_expr, written};
 use crate::steps::{check_fit, ended};
 use crate::types::{Ty, Typed};
-use crate::visible::{Standing, Storage, Visible};
+use crate::visible::Visible;
 use asl_rules::effect::Effect;
 use asl_syn::code::{Refused, StaticCode};
 use asl_syn::token::Span;
@@ -63,12 +63,7 @@ fn check_local<'a>(
         return fault(StaticCode::T01, name.span);
     }
     let effect = ended(body.class, span, true, s.effect)?;
-    let storage = Storage {
-        ty: s.ty,
-        is_global: false,
-        is_mutable: is_var(kind),
-    };
-    names.declare(text, Standing::Stored(storage))?;
+    names.declare_local(text, s.ty, is_var(kind))?;
     Ok(effect)
 }
 
@@ -100,12 +95,7 @@ fn declare_vars<'a>(names: &mut Visible<'a>, idents: &'a [Ident], ty: Ty) -> Res
         if !names.is_free(text) {
             return fault(StaticCode::T01, name.span);
         }
-        let storage = Storage {
-            ty,
-            is_global: false,
-            is_mutable: true,
-        };
-        names.declare(text, Standing::Stored(storage))?;
+        names.declare_local(text, ty, true)?;
     }
     Ok(())
 }

@@ -7,12 +7,7 @@ ghost use Rattle.asl_check.specs.Views.{type_of};
 use asl_rules::effect::Effect;
 use asl_syn::code::StaticCode;
 
-/// The type of a value.
-#[derive(Clone, Copy)]
-pub(crate) enum Ty {
-    Integer,
-    Boolean,
-}
+pub(crate) use asl_rules::typed::Ty;
 
 /// The type of an expression, and what it does.
 #[derive(Clone, Copy)]
