@@ -1,5 +1,5 @@
 -- The numbers that stand with the names in the map are those of their places.
-use Rattle.std.proofs.Common.{◌≡◌, ℕ, zero, suc, ◌+◌, ◌-◌, ◌≤◌, Bool, true, false, List, [], ◌∷◌, ◌++◌, length, take, cond, Option, Some, None, option_map, Bor, refl, sym, ap, subst, ◌∙◌, slice_get, arith}
+use Rattle.std.proofs.Common.{◌≡◌, ℕ, zero, suc, ◌+◌, ◌-◌, ◌≤◌, ◌<◌, Bool, true, false, List, [], ◌∷◌, ◌++◌, length, take, cond, Option, Some, None, option_map, Bor, refl, sym, ap, subst, ◌∙◌, slice_get, arith}
 use Rattle.std.specs.Prelude.{IfSome}
 use Rattle.std.specs.Str.{bytes_eq}
 use Rattle.std.specs.List.{AllByRecursion, IsDistinct}
@@ -8,7 +8,7 @@ use Rattle.std.specs.Cmp.Lexicographic.{bytes_decides, nat_list_eq_equiv}
 use Rattle.std.proofs.lemmas.Map.Keys.{IsDistinct-head, IsDistinct-tail}
 use Rattle.indexmap.specs.IndexMap.{IndexMap, insert_entry}
 use Rattle.asl_rules.specs.declared.typed.Slot.TheVariants as slot
-use Rattle.asl_rules.specs.Scopes.{is_free}
+use Rattle.asl_rules.specs.Scopes.{Entry, is_free}
 use Rattle.asl_rules.specs.Elaboration.{place_of, slot_among, slot_of}
 use Rattle.asl_check.specs.declared.visible.Form.{Form}
 use Rattle.asl_check.specs.declared.visible.Form.TheVariants.{Local, Global, Subprogram}
@@ -165,20 +165,21 @@ last_of l g (suc i) (x ∷ (y ∷ es)) e n a h =
     let b : suc i ≡ length (y ∷ es) = omega arith in
     last_later l g x (y ∷ es) e.1 (last_of (more_locals x.1.form l) (more_globals x.1.form g) i (y ∷ es) e n.2 b h)
 
--- the numbers of the last name
-pub record Last (es : Held) (d : Declared) : Type 0 where
-  pub locals : length (local_names (entries_of es)) ≡ more_locals d.form d.locals
-  pub globals : length (global_names (entries_of es)) ≡ more_globals d.form d.globals
-
-pub numbers-last : (es : Held) (e : Bor (List ℕ) × Declared) → IsKept es → slice_get es (length es - 1) ≡ Some e → Last es e.1
+pub numbers-last : (es : Held) (names : List Entry) (e : Bor (List ℕ) × Declared) (f : Form) → IsKept es → entries_of es ≡ names → slice_get es (length es - 1) ≡ Some e → e.1.form ≡ f →
+    (more_locals f e.1.locals ≡ length (local_names names)) × (more_globals f e.1.globals ≡ length (global_names names))
 unfolding LastOf
-numbers-last [] e k h = cc h
-numbers-last (x ∷ es) e k h =
+numbers-last [] names e f k v h t = cc h
+numbers-last (x ∷ es) names e f k v h t =
     let i : length (x ∷ es) - 1 ≡ length es = omega arith in
     let r : LastOf 0 0 (x ∷ es) e.1 = last_of 0 0 (length es) (x ∷ es) e k.numbered refl (ap (slice_get (x ∷ es)) (sym i) ∙ h) in
     let a : 0 + length (local_names (entries_of (x ∷ es))) ≡ more_locals e.1.form e.1.locals = r.0 in
     let b : 0 + length (global_names (entries_of (x ∷ es))) ≡ more_globals e.1.form e.1.globals = r.1 in
-    record { locals = omega arith; globals = omega arith }
+    let p : more_locals e.1.form e.1.locals ≡ length (local_names (entries_of (x ∷ es))) = omega arith in
+    let q : more_globals e.1.form e.1.globals ≡ length (global_names (entries_of (x ∷ es))) = omega arith in
+    (
+      ap (λ (g : Form). more_locals g e.1.locals) (sym t) ∙ p ∙ ap (λ (ns : List Entry). length (local_names ns)) v,
+      ap (λ (g : Form). more_globals g e.1.globals) (sym t) ∙ q ∙ ap (λ (ns : List Entry). length (global_names ns)) v,
+    )
 
 more_within : (f : Form) (l g n : ℕ) → (l ≤ n) × (g ≤ n) → (more_locals f l ≤ suc n) × (more_globals f g ≤ suc n)
 more_within (Local T m) l g n h = (omega arith, omega arith)
@@ -195,10 +196,11 @@ within l g n (suc i) (x ∷ es) e w m h =
     let r : (e.1.locals ≤ suc n + i) × (e.1.globals ≤ suc n + i) = within (more_locals x.1.form l) (more_globals x.1.form g) (suc n) i es e (more_within x.1.form l g n w) m.2 h in
     (omega arith, omega arith)
 
--- fewer of each are before a name than there are names
-pub numbers-within : (es : Held) (i : ℕ) (e : Bor (List ℕ) × Declared) → IsKept es → slice_get es i ≡ Some e → (e.1.locals ≤ i) × (e.1.globals ≤ i)
-numbers-within es i e k h =
-    let r : (e.1.locals ≤ 0 + i) × (e.1.globals ≤ 0 + i) = within 0 0 0 i es e (omega arith, omega arith) k.numbered h in
+-- fewer of each are before the last name than there are names
+pub numbers-within : (es : Held) (e : Bor (List ℕ) × Declared) → IsKept es → slice_get es (length es - 1) ≡ Some e → (e.1.locals < length es) × (e.1.globals < length es)
+numbers-within [] e k h = cc h
+numbers-within (x ∷ es) e k h =
+    let r : (e.1.locals ≤ 0 + (length (x ∷ es) - 1)) × (e.1.globals ≤ 0 + (length (x ∷ es) - 1)) = within 0 0 0 (length (x ∷ es) - 1) (x ∷ es) e (omega arith, omega arith) k.numbered h in
     (omega arith, omega arith)
 
 -- ---- more names and fewer

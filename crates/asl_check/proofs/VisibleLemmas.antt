@@ -8,7 +8,7 @@ use Rattle.std.specs.Cmp.Lexicographic.{nat_list_eq_equiv}
 use Rattle.indexmap.specs.IndexMap.{IndexMap, insert_entry}
 use Rattle.indexmap.proofs.CallerLemmas.{insert_entry-new}
 use Rattle.asl_rules.specs.Scopes as scopes
-use Rattle.asl_rules.specs.Scopes.{standing_of, is_free, is_absent}
+use Rattle.asl_rules.specs.Scopes.{Entry, standing_of, is_free, is_absent}
 use Rattle.asl_check.specs.declared.visible.Standing.{Standing}
 use Rattle.asl_check.specs.declared.visible.Form.{Form}
 use Rattle.asl_check.specs.declared.visible.Form.TheVariants.{Local, Global, Subprogram}
@@ -32,9 +32,13 @@ either false false d o p e h = h
 either true false d o p e h = cc e
 either false true d o p e h = cc e
 
-pub standing-found : (es : List (Bor (List ℕ) × Declared)) (name : List ℕ) → standing_of name (entries_of es) ≡ option_map (λ d. standing_view (standing_at d)) (lookup (λ k. bytes_eq name k.now) es)
+standing-found : (es : List (Bor (List ℕ) × Declared)) (name : List ℕ) → standing_of name (entries_of es) ≡ option_map (λ d. standing_view (standing_at d)) (lookup (λ k. bytes_eq name k.now) es)
 standing-found [] name = refl
 standing-found (e ∷ es) name = either (bytes_eq e.0.now name) (bytes_eq name e.0.now) e.1 _ _ (nat_list_eq_equiv.symm e.0.now name) (standing-found es name)
+
+pub standing-in : (es : List (Bor (List ℕ) × Declared)) (names : List Entry) (name : List ℕ) (o : Option Declared) → entries_of es ≡ names → lookup (λ k. bytes_eq name k.now) es ≡ o →
+    option_map (λ d. standing_view (standing_at d)) o ≡ standing_of name names
+standing-in es names name o v h = ap (option_map (λ d. standing_view (standing_at d))) (sym h) ∙ sym (standing-found es name) ∙ ap (λ (ns : List Entry). standing_of name ns) v
 
 none_by : (o : Option Declared) → is_absent (option_map (λ d. standing_view (standing_at d)) o) ≡ true → o ≡ None
 none_by None h = refl

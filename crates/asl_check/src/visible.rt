@@ -1,6 +1,6 @@
 //! The visible names and what they stand for.
 
-ghost use Rattle.std.specs.Prelude.{◌≡◌, [], length, take, OnOk, IfErr, IfSome};
+ghost use Rattle.std.specs.Prelude.{◌≡◌, true, false, [], length, take, OnOk, IfErr, IfSome};
 ghost use Rattle.std.specs.Option.{option_map};
 ghost use Rattle.asl_rules.specs.Scopes as rules;
 ghost use Rattle.asl_rules.specs.Elaboration.{slot_of};
@@ -125,8 +125,8 @@ impl<'a> Visible<'a> {
                 globals: 0,
             };
         };
-        let is_within = d.locals < len && d.globals < len;
-        prove!(is_within);
+        prove!(d.locals < len);
+        prove!(d.globals < len);
         match d.form {
             Form::Local(_, _) => Numbers {
                 locals: d.locals + 1,
