@@ -35,7 +35,7 @@ Placed Subprogram dl dg l g p q = Unit {0}
 
 FoundAt : ℕ → ℕ → Option Declared → Option ℕ → Option ℕ → Type 0
 FoundAt l g None p q = Unit {0}
-FoundAt l g (Some d) p q = Placed d.form d.locals d.globals l g p q
+FoundAt l g (Some d) p q = Placed d.form d.before.locals d.before.globals l g p q
 
 at_later : (l : ℕ) (p : Option ℕ) (n : ℕ) → At (suc l) p n → At l (option_map (λ i. suc i) p) n
 unfolding At
@@ -56,12 +56,12 @@ global_later Subprogram dl dg l g p q h = tt
 found_local : (l g : ℕ) (o : Option Declared) (p q : Option ℕ) → FoundAt (suc l) g o p q → FoundAt l g o (option_map (λ i. suc i) p) q
 unfolding FoundAt
 found_local l g None p q h = tt
-found_local l g (Some d) p q h = local_later d.form d.locals d.globals l g p q h
+found_local l g (Some d) p q h = local_later d.form d.before.locals d.before.globals l g p q h
 
 found_global : (l g : ℕ) (o : Option Declared) (p q : Option ℕ) → FoundAt l (suc g) o p q → FoundAt l g o p (option_map (λ i. suc i) q)
 unfolding FoundAt
 found_global l g None p q h = tt
-found_global l g (Some d) p q h = global_later d.form d.locals d.globals l g p q h
+found_global l g (Some d) p q h = global_later d.form d.before.locals d.before.globals l g p q h
 
 -- another name before
 later : (f : Form) (k name : List ℕ) (ps qs : List (List ℕ)) (l g : ℕ) (o : Option Declared) → bytes_eq k name ≡ false →
@@ -100,7 +100,7 @@ found-at (e ∷ es) name l g n d = by (bytes_eq name e.0.now) refl (found-at es 
         FoundAt (more_locals e.1.form l) (more_globals e.1.form g) (lookup (λ k. bytes_eq name k.now) es) (place_of name (local_names (entries_of es))) (place_of name (global_names (entries_of es))) →
         FoundAt l g (cond t (Some e.1) (lookup (λ k. bytes_eq name k.now) es)) (place_of name (local_name e.0.now (form_view e.1.form) (local_names (entries_of es)))) (place_of name (global_name e.0.now (form_view e.1.form) (global_names (entries_of es))))
     by true h rest =
-        here e.1.form e.1.locals e.1.globals l g e.0.now name (local_names (entries_of es)) (global_names (entries_of es)) n.0 n.1 (nat_list_eq_equiv.symm e.0.now name ∙ h)
+        here e.1.form e.1.before.locals e.1.before.globals l g e.0.now name (local_names (entries_of es)) (global_names (entries_of es)) n.0 n.1 (nat_list_eq_equiv.symm e.0.now name ∙ h)
         (ap (λ k. place_of k (local_names (entries_of es))) ((bytes_decides name e.0.now).0 h) ∙ absent e.0 es (IsDistinct-head same_name e.0 (keys_of es) d))
     by false h rest =
         later e.1.form e.0.now name (local_names (entries_of es)) (global_names (entries_of es)) l g (lookup (λ k. bytes_eq name k.now) es) (nat_list_eq_equiv.symm e.0.now name ∙ h) rest
@@ -119,7 +119,7 @@ placed_slot Subprogram dl dg p q h = tt
 pub slot-found : (es : Held) (name : List ℕ) (d : Declared) → IsKept es → lookup (λ k. bytes_eq name k.now) es ≡ Some d → HasSlot (standing_at d) (slot_of name (layout_of (entries_of es)))
 unfolding FoundAt
 slot-found es name d k h =
-    placed_slot d.form d.locals d.globals (place_of name (local_names (entries_of es))) (place_of name (global_names (entries_of es)))
+    placed_slot d.form d.before.locals d.before.globals (place_of name (local_names (entries_of es))) (place_of name (global_names (entries_of es)))
     (subst (λ (o : Option Declared). FoundAt 0 0 o (place_of name (local_names (entries_of es))) (place_of name (global_names (entries_of es)))) h (found-at es name 0 0 k.numbered k.distinct))
 
 -- ---- the numbers behind all names
@@ -136,12 +136,12 @@ globals_one Subprogram g k ps = refl
 
 -- the numbers at the last name, counted with it, are those of all
 LastOf : ℕ → ℕ → Held → Declared → Type 0
-LastOf l g es d = (l + length (local_names (entries_of es)) ≡ more_locals d.form d.locals) × (g + length (global_names (entries_of es)) ≡ more_globals d.form d.globals)
+LastOf l g es d = (l + length (local_names (entries_of es)) ≡ more_locals d.form d.before.locals) × (g + length (global_names (entries_of es)) ≡ more_globals d.form d.before.globals)
 
-last_here : (l g : ℕ) (x e : Bor (List ℕ) × Declared) → x.1.locals ≡ l → x.1.globals ≡ g → x ≡ e → LastOf l g (x ∷ []) e.1
+last_here : (l g : ℕ) (x e : Bor (List ℕ) × Declared) → x.1.before.locals ≡ l → x.1.before.globals ≡ g → x ≡ e → LastOf l g (x ∷ []) e.1
 unfolding LastOf
 last_here l g x e a b h =
-    subst (λ (y : Bor (List ℕ) × Declared). (l + length (local_names (entries_of (x ∷ []))) ≡ more_locals y.1.form y.1.locals) × (g + length (global_names (entries_of (x ∷ []))) ≡ more_globals y.1.form y.1.globals)) h (
+    subst (λ (y : Bor (List ℕ) × Declared). (l + length (local_names (entries_of (x ∷ []))) ≡ more_locals y.1.form y.1.before.locals) × (g + length (global_names (entries_of (x ∷ []))) ≡ more_globals y.1.form y.1.before.globals)) h (
       locals_one x.1.form l x.0.now [] ∙ plain (more_locals x.1.form l) ∙ ap (more_locals x.1.form) (sym a),
       globals_one x.1.form g x.0.now [] ∙ plain (more_globals x.1.form g) ∙ ap (more_globals x.1.form) (sym b),
     )
@@ -166,19 +166,18 @@ last_of l g (suc i) (x ∷ (y ∷ es)) e n a h =
     last_later l g x (y ∷ es) e.1 (last_of (more_locals x.1.form l) (more_globals x.1.form g) i (y ∷ es) e n.2 b h)
 
 pub numbers-last : (es : Held) (names : List Entry) (e : Bor (List ℕ) × Declared) (f : Form) → IsKept es → entries_of es ≡ names → slice_get es (length es - 1) ≡ Some e → e.1.form ≡ f →
-    (more_locals f e.1.locals ≡ length (local_names names)) × (more_globals f e.1.globals ≡ length (global_names names))
+    (more_locals f e.1.before.locals ≡ length (local_names names)) × (more_globals f e.1.before.globals ≡ length (global_names names))
 unfolding LastOf
 numbers-last [] names e f k v h t = cc h
 numbers-last (x ∷ es) names e f k v h t =
     let i : length (x ∷ es) - 1 ≡ length es = omega arith in
     let r : LastOf 0 0 (x ∷ es) e.1 = last_of 0 0 (length es) (x ∷ es) e k.numbered refl (ap (slice_get (x ∷ es)) (sym i) ∙ h) in
-    let a : 0 + length (local_names (entries_of (x ∷ es))) ≡ more_locals e.1.form e.1.locals = r.0 in
-    let b : 0 + length (global_names (entries_of (x ∷ es))) ≡ more_globals e.1.form e.1.globals = r.1 in
-    let p : more_locals e.1.form e.1.locals ≡ length (local_names (entries_of (x ∷ es))) = omega arith in
-    let q : more_globals e.1.form e.1.globals ≡ length (global_names (entries_of (x ∷ es))) = omega arith in
-    (
-      ap (λ (g : Form). more_locals g e.1.locals) (sym t) ∙ p ∙ ap (λ (ns : List Entry). length (local_names ns)) v,
-      ap (λ (g : Form). more_globals g e.1.globals) (sym t) ∙ q ∙ ap (λ (ns : List Entry). length (global_names ns)) v,
+    let a : 0 + length (local_names (entries_of (x ∷ es))) ≡ more_locals e.1.form e.1.before.locals = r.0 in
+    let b : 0 + length (global_names (entries_of (x ∷ es))) ≡ more_globals e.1.form e.1.before.globals = r.1 in
+    let p : more_locals e.1.form e.1.before.locals ≡ length (local_names (entries_of (x ∷ es))) = omega arith in
+    let q : more_globals e.1.form e.1.before.globals ≡ length (global_names (entries_of (x ∷ es))) = omega arith in (
+      ap (λ (g : Form). more_locals g e.1.before.locals) (sym t) ∙ p ∙ ap (λ (ns : List Entry). length (local_names ns)) v,
+      ap (λ (g : Form). more_globals g e.1.before.globals) (sym t) ∙ q ∙ ap (λ (ns : List Entry). length (global_names ns)) v,
     )
 
 more_within : (f : Form) (l g n : ℕ) → (l ≤ n) × (g ≤ n) → (more_locals f l ≤ suc n) × (more_globals f g ≤ suc n)
@@ -186,26 +185,26 @@ more_within (Local T m) l g n h = (omega arith, omega arith)
 more_within (Global T m) l g n h = (omega arith, omega arith)
 more_within Subprogram l g n h = (omega arith, omega arith)
 
-within : (l g n i : ℕ) (es : Held) (e : Bor (List ℕ) × Declared) → (l ≤ n) × (g ≤ n) → Numbered l g es → slice_get es i ≡ Some e → (e.1.locals ≤ n + i) × (e.1.globals ≤ n + i)
+within : (l g n i : ℕ) (es : Held) (e : Bor (List ℕ) × Declared) → (l ≤ n) × (g ≤ n) → Numbered l g es → slice_get es i ≡ Some e → (e.1.before.locals ≤ n + i) × (e.1.before.globals ≤ n + i)
 within l g n i [] e w m h = cc h
 within l g n zero (x ∷ es) e w m h =
-    let a : x.1.locals ≡ l = m.0 in
-    let b : x.1.globals ≡ g = m.1 in
-    subst (λ (y : Bor (List ℕ) × Declared). (y.1.locals ≤ n + 0) × (y.1.globals ≤ n + 0)) (some_same x e h) (omega arith, omega arith)
+    let a : x.1.before.locals ≡ l = m.0 in
+    let b : x.1.before.globals ≡ g = m.1 in
+    subst (λ (y : Bor (List ℕ) × Declared). (y.1.before.locals ≤ n + 0) × (y.1.before.globals ≤ n + 0)) (some_same x e h) (omega arith, omega arith)
 within l g n (suc i) (x ∷ es) e w m h =
-    let r : (e.1.locals ≤ suc n + i) × (e.1.globals ≤ suc n + i) = within (more_locals x.1.form l) (more_globals x.1.form g) (suc n) i es e (more_within x.1.form l g n w) m.2 h in
+    let r : (e.1.before.locals ≤ suc n + i) × (e.1.before.globals ≤ suc n + i) = within (more_locals x.1.form l) (more_globals x.1.form g) (suc n) i es e (more_within x.1.form l g n w) m.2 h in
     (omega arith, omega arith)
 
 -- fewer of each are before the last name than there are names
-pub numbers-within : (es : Held) (e : Bor (List ℕ) × Declared) → IsKept es → slice_get es (length es - 1) ≡ Some e → (e.1.locals < length es) × (e.1.globals < length es)
+pub numbers-within : (es : Held) (e : Bor (List ℕ) × Declared) → IsKept es → slice_get es (length es - 1) ≡ Some e → (e.1.before.locals < length es) × (e.1.before.globals < length es)
 numbers-within [] e k h = cc h
 numbers-within (x ∷ es) e k h =
-    let r : (e.1.locals ≤ 0 + (length (x ∷ es) - 1)) × (e.1.globals ≤ 0 + (length (x ∷ es) - 1)) = within 0 0 0 (length (x ∷ es) - 1) (x ∷ es) e (omega arith, omega arith) k.numbered h in
+    let r : (e.1.before.locals ≤ 0 + (length (x ∷ es) - 1)) × (e.1.before.globals ≤ 0 + (length (x ∷ es) - 1)) = within 0 0 0 (length (x ∷ es) - 1) (x ∷ es) e (omega arith, omega arith) k.numbered h in
     (omega arith, omega arith)
 
 -- ---- more names and fewer
 
-numbered_more : (l g : ℕ) (es : Held) (k : Bor (List ℕ)) (d : Declared) → Numbered l g es → d.locals ≡ l + length (local_names (entries_of es)) → d.globals ≡ g + length (global_names (entries_of es)) → Numbered l g (es ++ (k, d) ∷ [])
+numbered_more : (l g : ℕ) (es : Held) (k : Bor (List ℕ)) (d : Declared) → Numbered l g es → d.before.locals ≡ l + length (local_names (entries_of es)) → d.before.globals ≡ g + length (global_names (entries_of es)) → Numbered l g (es ++ (k, d) ∷ [])
 numbered_more l g [] k d n a b = (omega arith, omega arith, tt)
 numbered_more l g (e ∷ es) k d n a b = (
   n.0,
@@ -215,7 +214,7 @@ numbered_more l g (e ∷ es) k d n a b = (
 
 -- the map with a name that isn't visible
 pub kept-new : {S : Type 0} (m : IndexMap (Bor (List ℕ)) Declared S) (k : Bor (List ℕ)) (d : Declared) (es : Held) →
-    IsKept m.entries → is_free k.now (entries_of m.entries) ≡ true → d.locals ≡ length (local_names (entries_of m.entries)) → d.globals ≡ length (global_names (entries_of m.entries)) →
+    IsKept m.entries → is_free k.now (entries_of m.entries) ≡ true → d.before.locals ≡ length (local_names (entries_of m.entries)) → d.before.globals ≡ length (global_names (entries_of m.entries)) →
     es ≡ insert_entry same_name m.entries k d → IsDistinct same_name (keys_of es) → IsKept es
 kept-new m k d es kept free a b h distinct = record {
   numbered = subst (Numbered 0 0) (sym (map-new m k d es free h)) (numbered_more 0 0 m.entries k d kept.numbered (omega arith) (omega arith));

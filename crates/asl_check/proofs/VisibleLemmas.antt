@@ -18,7 +18,7 @@ use Rattle.asl_check.specs.Numbers.{standing_by, entries_of, same_name}
 
 -- what a name stands for that was declared so
 abbrev pub standing_at : Declared → Standing
-standing_at d = standing_by d.form d.locals d.globals
+standing_at d = standing_by d.form d.before.locals d.before.globals
 
 same_view : (f : Form) (l g : ℕ) → form_view f ≡ standing_view (standing_by f l g)
 same_view (Local T m) l g = refl
@@ -27,7 +27,7 @@ same_view Subprogram l g = refl
 
 either : (t u : Bool) (d : Declared) (o : Option Declared) (p : Option scopes.Standing) → t ≡ u → p ≡ option_map (λ d. standing_view (standing_at d)) o →
     cond t (Some (form_view d.form)) p ≡ option_map (λ d. standing_view (standing_at d)) (cond u (Some d) o)
-either true true d o p e h = ap Some (same_view d.form d.locals d.globals)
+either true true d o p e h = ap Some (same_view d.form d.before.locals d.before.globals)
 either false false d o p e h = h
 either true false d o p e h = cc e
 either false true d o p e h = cc e

@@ -43,7 +43,7 @@ more_globals form.Subprogram g = g
 -- each name has the numbers of what is before it, where so many are before the first
 abbrev pub Numbered : ℕ → ℕ → List (Bor (List ℕ) × Declared) → Type 0
 Numbered l g [] = Unit {0}
-Numbered l g (e ∷ es) = (e.1.locals ≡ l) × (e.1.globals ≡ g) × Numbered (more_locals e.1.form l) (more_globals e.1.form g) es
+Numbered l g (e ∷ es) = (e.1.before.locals ≡ l) × (e.1.before.globals ≡ g) × Numbered (more_locals e.1.form l) (more_globals e.1.form g) es
 
 abbrev pub same_name : Bor (List ℕ) → Bor (List ℕ) → Bool
 same_name x y = bytes_eq x.now y.now

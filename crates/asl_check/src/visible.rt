@@ -40,14 +40,6 @@ enum Form {
     Subprogram,
 }
 
-/// What a name was declared as, and the numbers of local storage and of global storage before it.
-#[derive(Clone, Copy)]
-struct Declared {
-    form: Form,
-    locals: usize,
-    globals: usize,
-}
-
 /// The numbers of local storage and of global storage.
 #[derive(Clone, Copy)]
 struct Numbers {
@@ -55,19 +47,26 @@ struct Numbers {
     globals: usize,
 }
 
+/// What a name was declared as, and the numbers of the storage before it.
+#[derive(Clone, Copy)]
+struct Declared {
+    form: Form,
+    before: Numbers,
+}
+
 /// What a name stands for that was declared so.
 fn standing_for(d: Declared) -> Standing
-    ensures { result ≡ standing_by d.form d.locals d.globals }
+    ensures { result ≡ standing_by d.form d.before.locals d.before.globals }
 {
     match d.form {
         Form::Local(ty, is_mutable) => Standing::Stored(Storage {
             ty,
-            slot: Slot::Local(d.locals),
+            slot: Slot::Local(d.before.locals),
             is_mutable,
         }),
         Form::Global(ty, is_mutable) => Standing::Stored(Storage {
             ty,
-            slot: Slot::Global(d.globals),
+            slot: Slot::Global(d.before.globals),
             is_mutable,
         }),
         Form::Subprogram => Standing::Subprogram,
@@ -125,20 +124,20 @@ impl<'a> Visible<'a> {
                 globals: 0,
             };
         };
-        prove!(d.locals < len);
-        prove!(d.globals < len);
+        prove!(d.before.locals < len);
+        prove!(d.before.globals < len);
         match d.form {
             Form::Local(_, _) => Numbers {
-                locals: d.locals + 1,
-                globals: d.globals,
+                locals: d.before.locals + 1,
+                globals: d.before.globals,
             },
             Form::Global(_, _) => Numbers {
-                locals: d.locals,
-                globals: d.globals + 1,
+                locals: d.before.locals,
+                globals: d.before.globals + 1,
             },
             Form::Subprogram => Numbers {
-                locals: d.locals,
-                globals: d.globals,
+                locals: d.before.locals,
+                globals: d.before.globals,
             },
         }
     }
@@ -183,12 +182,7 @@ impl<'a> Visible<'a> {
     {
         if self.is_free(name) {
             let before = self.numbers();
-            let declared = Declared {
-                form,
-                locals: before.locals,
-                globals: before.globals,
-            };
-            self.declared.insert(name, declared)?;
+            self.declared.insert(name, Declared { form, before })?;
         }
         Ok(())
     }

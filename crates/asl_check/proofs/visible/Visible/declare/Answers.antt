@@ -8,7 +8,7 @@ use Rattle.asl_check.proofs.visible.Visible.declare.Goals as goal
 
 pub invariant_of-self : goal.invariant_of-self
 invariant_of-self c =
-    kept-new c.self.inside.declared c.args.name (record { form = c.args.form; locals = c.numbers-before.result.locals; globals = c.numbers-before.result.globals }) c.insert.new.self.entries
+    kept-new c.self.inside.declared c.args.name (record { form = c.args.form; before = c.numbers-before.result }) c.insert.new.self.entries
     c.self.invariant (ap (is_free c.args.name.now) c.self.view_is ∙ sym c.is_free.ensures ∙ c.if-is_free.true)
     (c.numbers-before.ensures.locals ∙ ap (λ (names : List Entry). length (local_names names)) (sym c.self.view_is))
     (c.numbers-before.ensures.globals ∙ ap (λ (names : List Entry). length (global_names names)) (sym c.self.view_is))
@@ -16,6 +16,6 @@ invariant_of-self c =
 
 pub returns-in_ok-insert-clause-declared : goal.returns-in_ok-insert-clause-declared
 returns-in_ok-insert-clause-declared c =
-    entry-new c.self.inside.declared c.args.name (record { form = c.args.form; locals = c.numbers-before.result.locals; globals = c.numbers-before.result.globals }) c.insert.new.self.entries
+    entry-new c.self.inside.declared c.args.name (record { form = c.args.form; before = c.numbers-before.result }) c.insert.new.self.entries
     (ap (is_free c.args.name.now) c.self.view_is ∙ sym c.is_free.ensures ∙ c.if-is_free.true) c.in_ok-insert.ensures.entries
     ∙ ap (with_entry (entry_view c.args.name.now c.args.form)) c.self.view_is
