@@ -1,6 +1,7 @@
 pub mod Answers
 pub mod Views
 pub mod Layouts
+pub mod Numbers
 pub mod Known
 pub mod Falls
 pub mod Walks

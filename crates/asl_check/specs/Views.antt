@@ -2,17 +2,19 @@
 use Rattle.std.specs.Prelude.{◌≡◌, ℕ, Bool, true, false, if◌then◌else◌, List, [], ◌∷◌, ◌++◌, Option, None, Some, refl}
 use Rattle.std.specs.Option.{option_map}
 use Rattle.std.specs.Coded.{Coded, code_by, coded×, coded_bool, coded_ℕ, coded_list, coded_option}
-use Rattle.asl_rules.specs.Types as types
-use Rattle.asl_rules.specs.Exprs as exprs
-use Rattle.asl_rules.specs.Scopes as scopes
 use Rattle.asl_rules.specs.declared.typed.Ty.{Ty}
 use Rattle.asl_rules.specs.declared.typed.Ty.TheVariants.{Integer, Boolean}
 use Rattle.asl_rules.specs.declared.typed.Slot.{Slot}
-use Rattle.asl_rules.specs.declared.typed.Slot.TheVariants.{Local, Global}
+use Rattle.asl_rules.specs.declared.typed.Slot.TheVariants as slot
+use Rattle.asl_rules.specs.Types as types
+use Rattle.asl_rules.specs.Exprs as exprs
+use Rattle.asl_rules.specs.Scopes as scopes
 use Rattle.asl_check.specs.declared.types.Typed.{Typed}
 use Rattle.asl_check.specs.declared.visible.Storage.{Storage}
 use Rattle.asl_check.specs.declared.visible.Standing.{Standing}
 use Rattle.asl_check.specs.declared.visible.Standing.TheVariants as standing
+use Rattle.asl_check.specs.declared.visible.Form.{Form}
+use Rattle.asl_check.specs.declared.visible.Form.TheVariants as form
 use Rattle.asl_check.specs.declared.body.Body.{Body}
 
 abbrev pub type_of : Ty → types.Ty
@@ -22,19 +24,25 @@ type_of Boolean = types.boolean
 abbrev pub typed_of : Typed → exprs.Typed
 typed_of t = record { ty = type_of t.ty; effect = t.effect }
 
-abbrev pub slot_is_global : Slot → Bool
-slot_is_global (Local i) = false
-slot_is_global (Global i) = true
+abbrev pub is_global : Slot → Bool
+is_global (slot.Local n) = false
+is_global (slot.Global n) = true
 
 abbrev pub storage_view : Storage → scopes.Storage
-storage_view s = record { ty = type_of s.ty; is_global = slot_is_global s.slot; is_mutable = s.is_mutable }
+storage_view s = record { ty = type_of s.ty; is_global = is_global s.slot; is_mutable = s.is_mutable }
 
 abbrev pub standing_view : Standing → scopes.Standing
 standing_view (standing.Stored s) = scopes.Stored (storage_view s)
 standing_view standing.Subprogram = scopes.Subprogram
 
-abbrev pub entry_view : List ℕ → Standing → scopes.Entry
-entry_view name s = record { name = name; standing = standing_view s }
+-- what stands in the names for a name that is declared so
+abbrev pub form_view : Form → scopes.Standing
+form_view (form.Local T m) = scopes.Stored (record { ty = type_of T; is_global = false; is_mutable = m })
+form_view (form.Global T m) = scopes.Stored (record { ty = type_of T; is_global = true; is_mutable = m })
+form_view form.Subprogram = scopes.Subprogram
+
+abbrev pub entry_view : List ℕ → Form → scopes.Entry
+entry_view name f = record { name = name; standing = form_view f }
 
 -- the names with one more, where it isn't visible
 abbrev pub with_entry : scopes.Entry → List scopes.Entry → List scopes.Entry

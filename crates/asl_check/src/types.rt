@@ -5,9 +5,8 @@ ghost use Rattle.asl_rules.specs.Types as rules;
 ghost use Rattle.asl_check.specs.Views.{type_of};
 
 use asl_rules::effect::Effect;
-use asl_syn::code::StaticCode;
-
 pub(crate) use asl_rules::typed::Ty;
+use asl_syn::code::StaticCode;
 
 /// The type of an expression, and what it does.
 #[derive(Clone, Copy)]

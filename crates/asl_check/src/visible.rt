@@ -1,21 +1,22 @@
 //! The visible names and what they stand for.
 
-ghost use Rattle.std.specs.Prelude.{◌≡◌, [], false, true, length, take, MatchOption, OnOk, IfErr};
+ghost use Rattle.std.specs.Prelude.{◌≡◌, true, false, [], length, take, OnOk, IfErr, IfSome};
 ghost use Rattle.std.specs.Option.{option_map};
 ghost use Rattle.asl_rules.specs.Scopes as rules;
-ghost use Rattle.asl_rules.specs.Scopes.{stored, subprogram};
 ghost use Rattle.asl_rules.specs.Elaboration.{slot_of};
-ghost use Rattle.asl_check.specs.Views.{type_of, slot_is_global, storage_view, standing_view, entry_view, with_entry};
-ghost use Rattle.asl_check.specs.Layouts.{layout_of};
+ghost use Rattle.asl_check.specs.Views.{type_of, storage_view, standing_view, entry_view, with_entry};
+ghost use Rattle.asl_check.specs.Layouts.{local_names, global_names, layout_of};
+ghost use Rattle.asl_check.specs.Numbers.{standing_by, HasSlot};
 
-use asl_rules::typed::{Slot, Ty};
+use crate::types::Ty;
 use asl_rules::effect::Effect;
+use asl_rules::typed::Slot;
 use asl_syn::code::Refused;
 use indexmap::IndexMap;
 use std::alloc::Global;
 use std::marker::Model;
 
-/// Storage: its type, whether it is global, and whether it can be assigned.
+/// Storage: its type, where it is held, and whether it can be assigned.
 #[derive(Clone, Copy)]
 pub(crate) struct Storage {
     pub(crate) ty: Ty,
@@ -30,23 +31,68 @@ pub(crate) enum Standing {
     Subprogram,
 }
 
+/// What a name is declared as: storage of a body or outside bodies, with its type and whether it can be assigned, or a
+/// subprogram.
+#[derive(Clone, Copy)]
+enum Form {
+    Local(Ty, bool),
+    Global(Ty, bool),
+    Subprogram,
+}
+
+/// The numbers of local storage and of global storage.
+#[derive(Clone, Copy)]
+struct Numbers {
+    locals: usize,
+    globals: usize,
+}
+
+/// What a name was declared as, and the numbers of the storage before it.
+#[derive(Clone, Copy)]
+struct Declared {
+    form: Form,
+    before: Numbers,
+}
+
+/// What a name stands for that was declared so.
+fn standing_for(d: Declared) -> Standing
+    ensures { result ≡ standing_by d.form d.before.locals d.before.globals }
+{
+    match d.form {
+        Form::Local(ty, is_mutable) => Standing::Stored(Storage {
+            ty,
+            slot: Slot::Local(d.before.locals),
+            is_mutable,
+        }),
+        Form::Global(ty, is_mutable) => Standing::Stored(Storage {
+            ty,
+            slot: Slot::Global(d.before.globals),
+            is_mutable,
+        }),
+        Form::Subprogram => Standing::Subprogram,
+    }
+}
+
 /// The visible names, each once, the oldest first, and what they stand for. Contracts see the list of them. A name is
 /// found, and those of a scope that ends are dropped, without a walk over the others.
 #[derive(Drop)]
 pub(crate) struct Visible<'a> {
-    standings: IndexMap<&'a [u8], Standing>,
+    declared: IndexMap<&'a [u8], Declared>,
 }
 
 impl<'a> Model for Visible<'a> {
     ghost use Rattle.std.specs.Prelude.{List, map};
     ghost use Rattle.asl_rules.specs.Scopes.{Entry};
-    ghost use Rattle.asl_check.specs.Views.{entry_view, entries_code};
+    ghost use Rattle.asl_check.specs.Views.{entries_code};
+    ghost use Rattle.asl_check.specs.Numbers.{entries_of, IsKept};
 
     ghost Value = { List Entry };
 
     ghost coded = { entries_code };
 
-    ghost view = { λ v. map (λ e. entry_view e.0.now e.1) v.standings.entries };
+    ghost view = { λ v. entries_of v.declared.entries };
+
+    ghost invariant = { λ v. IsKept v.declared.entries };
 }
 
 impl<'a> Visible<'a> {
@@ -55,7 +101,7 @@ impl<'a> Visible<'a> {
         ensures { result ≡ [] }
     {
         Visible {
-            standings: IndexMap::new(alloc),
+            declared: IndexMap::new(alloc),
         }
     }
 
@@ -63,14 +109,48 @@ impl<'a> Visible<'a> {
     pub(crate) fn len(&self) -> usize
         ensures { result ≡ length self.now }
     {
-        self.standings.len()
+        self.declared.len()
+    }
+
+    /// The numbers of local storage and of global storage among the visible names, as the last of them tells.
+    fn numbers(&self) -> Numbers
+        ensures locals { result.locals ≡ length (local_names self.now) }
+        ensures globals { result.globals ≡ length (global_names self.now) }
+    {
+        let len = self.declared.len();
+        let Some((_, d)) = self.declared.last() else {
+            return Numbers {
+                locals: 0,
+                globals: 0,
+            };
+        };
+        prove!(d.before.locals < len);
+        prove!(d.before.globals < len);
+        match d.form {
+            Form::Local(_, _) => Numbers {
+                locals: d.before.locals + 1,
+                globals: d.before.globals,
+            },
+            Form::Global(_, _) => Numbers {
+                locals: d.before.locals,
+                globals: d.before.globals + 1,
+            },
+            Form::Subprogram => Numbers {
+                locals: d.before.locals,
+                globals: d.before.globals,
+            },
+        }
     }
 
     /// What a name stands for, where it is visible.
     pub(crate) fn standing_of(&self, name: &[u8]) -> Option<Standing>
-        ensures { option_map standing_view result ≡ rules.standing_of name.now self.now }
+        ensures view { option_map standing_view result ≡ rules.standing_of name.now self.now }
+        ensures slot { IfSome result (λ s. HasSlot s (slot_of name.now (layout_of self.now))) }
     {
-        self.standings.get(name).copied()
+        match self.declared.get(name) {
+            None => None,
+            Some(d) => Some(standing_for(*d)),
+        }
     }
 
     /// Whether a name isn't visible yet.
@@ -83,10 +163,10 @@ impl<'a> Visible<'a> {
         }
     }
 
-    /// The storage that a name stands for, where it stands for some.
+    /// The storage that a name stands for, where it stands for some, with the slot of the name.
     pub(crate) fn storage_of(&self, name: &[u8]) -> Option<Storage>
         ensures view { option_map storage_view result ≡ rules.storage_of name.now self.now }
-        ensures slot { MatchOption result (Unit {0}) (λ s. s.slot ≡ slot_of name.now (layout_of self.now)) }
+        ensures slot { IfSome result (λ s. s.slot ≡ slot_of name.now (layout_of self.now)) }
     {
         match self.standing_of(name) {
             None => None,
@@ -95,54 +175,57 @@ impl<'a> Visible<'a> {
         }
     }
 
-    pub(crate) fn declare_local(&mut self, name: &'a [u8], ty: Ty, is_mutable: bool) -> Result<(), Refused>
-        ensures declared { OnOk result (self.new ≡ with_entry (stored name.now (type_of ty) false is_mutable) self.old) }
-        ensures memory { IfErr result (λ e. e ≡ Refused.NoMemory) }
-    {
-        let storage = Storage { ty, slot: Slot::Local(0), is_mutable };
-        self.declare(name, Standing::Stored(storage))
-    }
-
-    pub(crate) fn declare_global(&mut self, name: &'a [u8], ty: Ty, is_mutable: bool) -> Result<(), Refused>
-        ensures declared { OnOk result (self.new ≡ with_entry (stored name.now (type_of ty) true is_mutable) self.old) }
-        ensures memory { IfErr result (λ e. e ≡ Refused.NoMemory) }
-    {
-        let storage = Storage { ty, slot: Slot::Global(0), is_mutable };
-        self.declare(name, Standing::Stored(storage))
-    }
-
-    pub(crate) fn declare_subprogram(&mut self, name: &'a [u8]) -> Result<(), Refused>
-        ensures declared { OnOk result (self.new ≡ with_entry (subprogram name.now) self.old) }
-        ensures memory { IfErr result (λ e. e ≡ Refused.NoMemory) }
-    {
-        self.declare(name, Standing::Subprogram)
-    }
-
     /// A name becomes visible, where it isn't.
-    pub(crate) fn declare(&mut self, name: &'a [u8], standing: Standing) -> Result<(), Refused>
-        ensures declared { OnOk result (self.new ≡ with_entry (entry_view name.now standing) self.old) }
+    fn declare(&mut self, name: &'a [u8], form: Form) -> Result<(), Refused>
+        ensures declared { OnOk result (self.new ≡ with_entry (entry_view name.now form) self.old) }
         ensures memory { IfErr result (λ e. e ≡ Refused.NoMemory) }
     {
         if self.is_free(name) {
-            self.standings.insert(name, standing)?;
+            let before = self.numbers();
+            self.declared.insert(name, Declared { form, before })?;
         }
         Ok(())
+    }
+
+    /// A name becomes visible, where it isn't, as storage of a body.
+    pub(crate) fn declare_local(
+        &mut self,
+        name: &'a [u8],
+        ty: Ty,
+        is_mutable: bool,
+    ) -> Result<(), Refused>
+        ensures declared { OnOk result (self.new ≡ with_entry (rules.stored name.now (type_of ty) false is_mutable) self.old) }
+        ensures memory { IfErr result (λ e. e ≡ Refused.NoMemory) }
+    {
+        self.declare(name, Form::Local(ty, is_mutable))
+    }
+
+    /// A name becomes visible, where it isn't, as storage outside bodies.
+    pub(crate) fn declare_global(
+        &mut self,
+        name: &'a [u8],
+        ty: Ty,
+        is_mutable: bool,
+    ) -> Result<(), Refused>
+        ensures declared { OnOk result (self.new ≡ with_entry (rules.stored name.now (type_of ty) true is_mutable) self.old) }
+        ensures memory { IfErr result (λ e. e ≡ Refused.NoMemory) }
+    {
+        self.declare(name, Form::Global(ty, is_mutable))
+    }
+
+    /// A name becomes visible, where it isn't, as a subprogram.
+    pub(crate) fn declare_subprogram(&mut self, name: &'a [u8]) -> Result<(), Refused>
+        ensures declared { OnOk result (self.new ≡ with_entry (rules.subprogram name.now) self.old) }
+        ensures memory { IfErr result (λ e. e ≡ Refused.NoMemory) }
+    {
+        self.declare(name, Form::Subprogram)
     }
 
     /// The first `len` names stay visible.
     pub(crate) fn truncate(&mut self, len: usize)
         ensures { self.new ≡ take len self.old }
     {
-        self.standings.truncate(len);
-    }
-}
-
-pub(crate) fn is_global(slot: Slot) -> bool
-    ensures { result ≡ slot_is_global slot }
-{
-    match slot {
-        Slot::Local(_) => false,
-        Slot::Global(_) => true,
+        self.declared.truncate(len);
     }
 }
 
@@ -150,10 +233,15 @@ pub(crate) fn is_global(slot: Slot) -> bool
 pub(crate) fn reading(s: Storage) -> Effect
     ensures { result ≡ rules.reading (storage_view s) }
 {
-    if is_global(s.slot) && s.is_mutable {
-        Effect::Readonly
-    } else {
-        Effect::Pure
+    match s.slot {
+        Slot::Local(_) => Effect::Pure,
+        Slot::Global(_) => {
+            if s.is_mutable {
+                Effect::Readonly
+            } else {
+                Effect::Pure
+            }
+        }
     }
 }
 
@@ -161,9 +249,8 @@ pub(crate) fn reading(s: Storage) -> Effect
 pub(crate) fn writing(s: Storage) -> Effect
     ensures { result ≡ rules.writing (storage_view s) }
 {
-    if is_global(s.slot) {
-        Effect::Writes
-    } else {
-        Effect::Pure
+    match s.slot {
+        Slot::Local(_) => Effect::Pure,
+        Slot::Global(_) => Effect::Writes,
     }
 }

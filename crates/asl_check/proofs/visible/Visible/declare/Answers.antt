@@ -1,10 +1,21 @@
-use Rattle.std.proofs.Common.{sym, ap, ◌∙◌}
-use Rattle.asl_rules.specs.Scopes.{is_free}
+use Rattle.std.proofs.Common.{◌≡◌, List, length, true, sym, ap, ◌∙◌}
+use Rattle.asl_rules.specs.Scopes.{Entry, is_free}
 use Rattle.asl_check.specs.Views.{entry_view, with_entry}
+use Rattle.asl_check.specs.Layouts.{local_names, global_names}
 use Rattle.asl_check.proofs.VisibleLemmas.{entry-new}
+use Rattle.asl_check.proofs.NumberLemmas.{kept-new}
 use Rattle.asl_check.proofs.visible.Visible.declare.Goals as goal
+
+pub invariant_of-self : goal.invariant_of-self
+invariant_of-self c =
+    kept-new c.self.inside.declared c.args.name (record { form = c.args.form; before = c.numbers-before.result }) c.insert.new.self.entries
+    c.self.invariant (ap (is_free c.args.name.now) c.self.view_is ∙ sym c.is_free.ensures ∙ c.if-is_free.true)
+    (c.numbers-before.ensures.locals ∙ ap (λ (names : List Entry). length (local_names names)) (sym c.self.view_is))
+    (c.numbers-before.ensures.globals ∙ ap (λ (names : List Entry). length (global_names names)) (sym c.self.view_is))
+    c.in_ok-insert.ensures.entries c.insert.ensures.unique
 
 pub returns-in_ok-insert-clause-declared : goal.returns-in_ok-insert-clause-declared
 returns-in_ok-insert-clause-declared c =
-    entry-new c.self.inside.standings c.args.name c.args.standing c.insert.new.self.entries (ap (is_free c.args.name.now) c.self.view_is ∙ sym c.is_free.ensures ∙ c.if-is_free.true) c.in_ok-insert.ensures.entries
-    ∙ ap (with_entry (entry_view c.args.name.now c.args.standing)) c.self.view_is
+    entry-new c.self.inside.declared c.args.name (record { form = c.args.form; before = c.numbers-before.result }) c.insert.new.self.entries
+    (ap (is_free c.args.name.now) c.self.view_is ∙ sym c.is_free.ensures ∙ c.if-is_free.true) c.in_ok-insert.ensures.entries
+    ∙ ap (with_entry (entry_view c.args.name.now c.args.form)) c.self.view_is
