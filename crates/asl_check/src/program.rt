@@ -58,5 +58,5 @@ pub fn check(alloc: Global, program: Program, entry: Entry) -> Result<Checked, R
     ensures { IsVerdict entry program.decls result }
 {
     let (funcs, main) = verdict(alloc, entry, program.decls.as_slice())?;
-    Ok(Checked::seal(program, main))
+    Ok(Checked::seal(program, main, funcs))
 }
