@@ -1,7 +1,8 @@
 //! Programs that are well formed.
 ghost use Rattle.std.specs.Prelude.{◌≡◌, ℕ, Option};
-ghost use Rattle.asl_tree.specs.Accepted.{Accepted, IsWellFormed};
+ghost use Rattle.asl_tree.specs.Accepted.{Accepted, IsWellFormed, IsElaborated};
 
+use asl_rules::typed::TypedFunc;
 use asl_syn::tree::Program;
 use std::marker::Model;
 
@@ -35,15 +36,17 @@ impl SubId {
     }
 }
 
-/// A program that is well formed with its entry. Contracts see its declarations and the number of the entry.
+/// A program that is well formed with its entry, and the typed trees of its subprograms. Contracts see its declarations and
+/// the number of the entry: the declarations determine the typed trees.
 #[derive(Drop)]
 pub struct Checked {
     program: Program,
     entry: Option<SubId>,
+    funcs: Vec<TypedFunc>,
 }
 
 impl Model for Checked {
-    ghost use Rattle.asl_tree.specs.Accepted.{Accepted, accepted_code, IsWellFormed};
+    ghost use Rattle.asl_tree.specs.Accepted.{Accepted, accepted_code, IsWellFormed, IsElaborated};
 
     ghost Value = { Accepted };
 
@@ -51,16 +54,22 @@ impl Model for Checked {
 
     ghost view = { λ c. record { decls = c.program.decls; entry = c.entry } };
 
-    ghost invariant = { λ c. IsWellFormed c.program.decls c.entry };
+    ghost invariant = { λ c. IsWellFormed c.program.decls c.entry × IsElaborated c.program.decls c.funcs.items };
 }
 
 impl Checked {
-    /// Seals a program that is well formed with this entry, none where it was checked without one.
-    pub fn seal(program: Program, entry: Option<SubId>) -> Checked
-        requires { IsWellFormed program.decls entry }
+    /// Seals a program that is well formed with this entry, none where it was checked without one, with the typed trees of
+    /// its subprograms in source order.
+    pub fn seal(program: Program, entry: Option<SubId>, funcs: Vec<TypedFunc>) -> Checked
+        requires well_formed { IsWellFormed program.decls entry }
+        requires elaborated { IsElaborated program.decls funcs.items }
         ensures { result ≡ record { decls = program.decls; entry = entry } }
     {
-        Checked { program, entry }
+        Checked {
+            program,
+            entry,
+            funcs,
+        }
     }
 
     /// The subprogram that a run begins with: none exactly where the program was checked without an entry.
@@ -76,5 +85,12 @@ impl Checked {
         ensures well_formed { IsWellFormed self.now.decls self.now.entry }
     {
         &self.program
+    }
+
+    /// The typed trees of the subprograms, in source order.
+    pub fn funcs(&self) -> &[TypedFunc]
+        ensures { IsElaborated self.now.decls result.now }
+    {
+        self.funcs.as_slice()
     }
 }
