@@ -17,24 +17,23 @@ use Rattle.asl_syn.specs.declared.tree.Alternative.TheFolds.{fold_out-Stmt}
 use Rattle.asl_syn.specs.declared.tree.Decl.{Decl}
 use Rattle.asl_syn.specs.declared.tree.Decl.TheVariants as dc
 use Rattle.asl_syn.specs.Layers.{StmtLayer}
-use Rattle.asl_rules.specs.declared.typed.TypedBranch.{TypedBranch}
+use Rattle.asl_tree.specs.declared.typed.TypedBranch.{TypedBranch}
 use Rattle.asl_rules.specs.declared.effect.Effect.{Effect}
 use Rattle.asl_rules.specs.declared.effect.Effect.TheVariants.{Pure}
 use Rattle.asl_rules.specs.Faults.{◌>>=◌, ◌>>◌, need, fault_of}
 use Rattle.asl_rules.specs.Types.{Ty}
-use Rattle.asl_rules.specs.Scopes.{Scope, Entry, Standing, Stored, Subprogram, stored, subprogram, is_free}
+use Rattle.asl_rules.specs.Scopes.{Scope, Entry, Standing, Stored, Subprogram, stored, subprogram, is_free, entry_names}
 use Rattle.asl_rules.specs.Exprs.{written}
-use Rattle.asl_rules.specs.Stmts.{Done, done, FoundStmt, ended, initialised, is_var, local_rule, bind_rule, names_rule, vars_rule, stmt_layer_rule, found_stmt}
+use Rattle.asl_rules.specs.Stmts.{Done, done, FoundStmt, ended, initialised, is_var, local_rule, bind_rule, names_rule, vars_rule, stmt_layer_rule, found_stmt, names_of, names_bound}
 use Rattle.asl_rules.specs.Programs as programs
 use Rattle.asl_rules.specs.Names.{library}
 use Rattle.asl_rules.specs.Programs.{storage_rule, globals_rule, library_names}
-use Rattle.asl_rules.specs.Elaboration as made
-use Rattle.asl_rules.specs.Elaboration.{Layout, Unread, Elaborated, with_locals, storage_name, storage_names, bare_layout, names_of, names_bound, names_declared, elaborated_stmt, stmt_rule}
-use Rattle.asl_rules.specs.Erasure.{entry_names}
+use Rattle.asl_tree.specs.Elaboration as made
+use Rattle.asl_tree.specs.Elaboration.{Layout, Unread, Elaborated, with_locals, storage_name, storage_names, bare_layout, names_declared, elaborated_stmt, stmt_rule}
 use Rattle.asl_rules.proofs.Inversions.{ok_ok, err_ok, bind_ok, then_ok}
 use Rattle.asl_rules.proofs.StmtForms.{opened, unrolled}
 use Rattle.asl_rules.proofs.Growing.{Adds, layer_names, stmt_adds}
-use Rattle.asl_rules.proofs.SameStmts.{elaborated_parts}
+use Rattle.asl_tree.proofs.SameStmts.{elaborated_parts}
 use Rattle.asl_check.specs.Layouts.{local_name, global_name, local_names, global_names, layout_of}
 use Rattle.asl_check.specs.Walks.{walk_stmt}
 use Rattle.asl_check.proofs.StmtWalks.{found_is}

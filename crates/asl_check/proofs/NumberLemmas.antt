@@ -7,9 +7,9 @@ use Rattle.std.specs.Map.{lookup, keys_of}
 use Rattle.std.specs.Cmp.Lexicographic.{bytes_decides, nat_list_eq_equiv}
 use Rattle.std.proofs.lemmas.Map.Keys.{IsDistinct-head, IsDistinct-tail}
 use Rattle.indexmap.specs.IndexMap.{IndexMap, insert_entry}
-use Rattle.asl_rules.specs.declared.typed.Slot.TheVariants as slot
+use Rattle.asl_tree.specs.declared.typed.Slot.TheVariants as slot
 use Rattle.asl_rules.specs.Scopes.{Entry, is_free}
-use Rattle.asl_rules.specs.Elaboration.{place_of, slot_among, slot_of}
+use Rattle.asl_tree.specs.Elaboration.{place_of, slot_among, slot_of}
 use Rattle.asl_check.specs.declared.visible.Form.{Form}
 use Rattle.asl_check.specs.declared.visible.Form.TheVariants.{Local, Global, Subprogram}
 use Rattle.asl_check.specs.declared.visible.Declared.{Declared}

@@ -9,11 +9,11 @@ use Rattle.asl_syn.specs.declared.tree.Stmt.{Stmt, out-Stmt, out-roll-Stmt}
 use Rattle.asl_syn.specs.declared.tree.Stmt.TheVariants as sv
 use Rattle.asl_syn.specs.declared.tree.Alternative.TheOpen as st
 use Rattle.asl_syn.specs.declared.tree.Alternative.TheFolds.{fold_out-Stmt}
-use Rattle.asl_rules.specs.declared.typed.TypedExpr.{TypedExpr}
-use Rattle.asl_rules.specs.declared.typed.TypedBranch.{TypedBranch}
-use Rattle.asl_rules.specs.declared.typed.TypedStmt.TheVariants as tv
-use Rattle.asl_rules.specs.declared.typed.TypedStmt.{TypedStmt}
-use Rattle.asl_rules.specs.declared.typed.TypedFunc.{TypedFunc}
+use Rattle.asl_tree.specs.declared.typed.TypedExpr.{TypedExpr}
+use Rattle.asl_tree.specs.declared.typed.TypedBranch.{TypedBranch}
+use Rattle.asl_tree.specs.declared.typed.TypedStmt.TheVariants as tv
+use Rattle.asl_tree.specs.declared.typed.TypedStmt.{TypedStmt}
+use Rattle.asl_tree.specs.declared.typed.TypedFunc.{TypedFunc}
 use Rattle.asl_syn.specs.declared.code.Fault.{Fault}
 use Rattle.asl_rules.specs.Faults.{◌>>=◌}
 use Rattle.asl_rules.specs.Effects.{greater}
@@ -22,8 +22,8 @@ use Rattle.asl_rules.specs.Scopes.{Scope, Entry}
 use Rattle.asl_rules.specs.declared.effect.Effect.{Effect}
 use Rattle.asl_rules.specs.Stmts.{Done, done, in_order, with_names}
 use Rattle.asl_rules.specs.Programs.{funcs_of, overloads_rule, library_names}
-use Rattle.asl_rules.specs.Elaboration.{Layout, Unread, Elaborated, elaborated, elaborated_stmt, elaborated_branch, elaborated_func, stmt_rule, branch_rule, trees_of, branches_of}
-use Rattle.asl_rules.proofs.SameStmts.{elaborated_parts}
+use Rattle.asl_tree.specs.Elaboration.{Layout, Unread, Elaborated, elaborated, elaborated_stmt, elaborated_branch, elaborated_func, stmt_rule, branch_rule, trees_of, branches_of}
+use Rattle.asl_tree.proofs.SameStmts.{elaborated_parts}
 use Rattle.asl_tree.specs.Accepted.{IsElaborated}
 use Rattle.asl_check.specs.Layouts.{layout_of}
 use Rattle.asl_check.specs.Walks.{after_branch, after_branches, walk_stmt, walk_branch, globals_walk}

@@ -1,7 +1,7 @@
 -- The places of the visible names: those of local storage and those of global storage, each in the order of the names.
 use Rattle.std.specs.Prelude.{◌≡◌, ℕ, Bool, true, false, if◌then◌else◌, List, [], ◌∷◌}
 use Rattle.asl_rules.specs.Scopes.{Entry, Standing, Stored, Subprogram}
-use Rattle.asl_rules.specs.Elaboration.{Layout}
+use Rattle.asl_tree.specs.Elaboration.{Layout}
 
 abbrev pub local_name : List ℕ → Standing → List (List ℕ) → List (List ℕ)
 local_name name (Stored s) names = if s.is_global then names else name ∷ names

@@ -4,8 +4,8 @@ use Rattle.std.specs.Borrow.{Bor}
 use Rattle.std.specs.Str.{bytes_eq}
 use Rattle.std.specs.List.{IsDistinct}
 use Rattle.std.specs.Map.{keys_of}
-use Rattle.asl_rules.specs.declared.typed.Slot.{Slot}
-use Rattle.asl_rules.specs.declared.typed.Slot.TheVariants as slot
+use Rattle.asl_tree.specs.declared.typed.Slot.{Slot}
+use Rattle.asl_tree.specs.declared.typed.Slot.TheVariants as slot
 use Rattle.asl_rules.specs.Scopes.{Entry}
 use Rattle.asl_check.specs.declared.visible.Standing.{Standing}
 use Rattle.asl_check.specs.declared.visible.Standing.TheVariants.{Stored, Subprogram}

@@ -2,10 +2,10 @@
 use Rattle.std.specs.Prelude.{◌≡◌, ℕ, Bool, true, false, if◌then◌else◌, List, [], ◌∷◌, ◌++◌, Option, None, Some, refl}
 use Rattle.std.specs.Option.{option_map}
 use Rattle.std.specs.Coded.{Coded, code_by, coded×, coded_bool, coded_ℕ, coded_list, coded_option}
-use Rattle.asl_rules.specs.declared.typed.Ty.{Ty}
-use Rattle.asl_rules.specs.declared.typed.Ty.TheVariants.{Integer, Boolean}
-use Rattle.asl_rules.specs.declared.typed.Slot.{Slot}
-use Rattle.asl_rules.specs.declared.typed.Slot.TheVariants as slot
+use Rattle.asl_tree.specs.declared.typed.Ty.{Ty}
+use Rattle.asl_tree.specs.declared.typed.Ty.TheVariants.{Integer, Boolean}
+use Rattle.asl_tree.specs.declared.typed.Slot.{Slot}
+use Rattle.asl_tree.specs.declared.typed.Slot.TheVariants as slot
 use Rattle.asl_rules.specs.Types as types
 use Rattle.asl_rules.specs.Exprs as exprs
 use Rattle.asl_rules.specs.Scopes as scopes

@@ -2,7 +2,7 @@
 
 ghost use Rattle.std.specs.Prelude.{◌≡◌, map, OnOk, IfOk};
 ghost use Rattle.std.specs.Option.{option_map};
-ghost use Rattle.asl_rules.specs.Elaboration.{elaborated_func, has_result};
+ghost use Rattle.asl_tree.specs.Elaboration.{elaborated_func, has_result};
 ghost use Rattle.asl_rules.specs.Programs as rules;
 ghost use Rattle.asl_check.specs.Answers.{Met};
 ghost use Rattle.asl_check.specs.Layouts.{layout_of};
@@ -16,7 +16,7 @@ use crate::stmts::check_stmts;
 use crate::types::Ty;
 use crate::visible::Visible;
 use asl_rules::effect::Effect;
-use asl_rules::typed::TypedFunc;
+use asl_tree::typed::TypedFunc;
 use asl_syn::code::{Refused, StaticCode};
 use asl_syn::tree::{Decl, Func, Qualifier};
 use std::alloc::Global;

@@ -2,8 +2,8 @@
 
 ghost use Rattle.std.specs.Prelude.{◌≡◌, IfOk};
 ghost use Rattle.asl_syn.specs.declared.tree.TypeExpr.{out-TypeExpr};
-ghost use Rattle.asl_rules.specs.declared.typed.TypedExpr.TheVariants as tree;
-ghost use Rattle.asl_rules.specs.Elaboration.{elaborated, slot_of, ty_of};
+ghost use Rattle.asl_tree.specs.declared.typed.TypedExpr.TheVariants as tree;
+ghost use Rattle.asl_tree.specs.Elaboration.{elaborated, slot_of, ty_of};
 ghost use Rattle.asl_rules.specs.Evaluation.{written_layer};
 ghost use Rattle.asl_rules.specs.Exprs as rules;
 ghost use Rattle.asl_check.specs.Answers.{Met};
@@ -17,7 +17,7 @@ use crate::effects::{at_most, greater, together};
 use crate::types::{Ty, Typed, is_boolean, is_integer, same_kind};
 use crate::visible::{Visible, reading};
 use asl_rules::effect::Effect;
-use asl_rules::typed::TypedExpr;
+use asl_tree::typed::TypedExpr;
 use asl_syn::code::{Refused, StaticCode};
 use asl_syn::token::Span;
 use asl_syn::tree::{BinaryOperator, Expr, TypeExpr, UnaryOperator};

@@ -1,8 +1,8 @@
 //! `print` and `println`.
 
 ghost use Rattle.std.specs.Prelude.{◌≡◌, true, IfOk};
-ghost use Rattle.asl_rules.specs.declared.typed.TypedStmt.TheVariants as tree;
-ghost use Rattle.asl_rules.specs.Elaboration.{items_of};
+ghost use Rattle.asl_tree.specs.declared.typed.TypedStmt.TheVariants as tree;
+ghost use Rattle.asl_tree.specs.Elaboration.{items_of};
 ghost use Rattle.asl_rules.specs.declared.effect.Effect.TheVariants.{Pure};
 ghost use Rattle.asl_rules.specs.Stmts.{done};
 ghost use Rattle.asl_check.specs.Answers.{Met};
@@ -16,7 +16,7 @@ use crate::exprs::type_expr;
 use crate::steps::ended;
 use crate::visible::Visible;
 use asl_rules::effect::Effect;
-use asl_rules::typed::{TypedItem, TypedStmt};
+use asl_tree::typed::{TypedItem, TypedStmt};
 use asl_syn::code::Refused;
 use asl_syn::token::Span;
 use asl_syn::tree::{PrintItem, PrintKind};

@@ -1,7 +1,7 @@
 //! What statements have in common.
 
 ghost use Rattle.std.specs.Prelude.{◌≡◌, IfOk};
-ghost use Rattle.asl_rules.specs.Elaboration.{elaborated};
+ghost use Rattle.asl_tree.specs.Elaboration.{elaborated};
 ghost use Rattle.asl_rules.specs.Stmts as rules;
 ghost use Rattle.asl_check.specs.Answers.{Met, Agrees};
 ghost use Rattle.asl_check.specs.Layouts.{layout_of};
@@ -14,7 +14,7 @@ use crate::exprs::{place, type_expr};
 use crate::types::{Ty, misfit};
 use crate::visible::Visible;
 use asl_rules::effect::Effect;
-use asl_rules::typed::TypedExpr;
+use asl_tree::typed::TypedExpr;
 use asl_syn::code::{Refused, StaticCode};
 use asl_syn::token::Span;
 use asl_syn::tree::Expr;

@@ -2,7 +2,7 @@
 
 ghost use Rattle.std.specs.Prelude.{◌≡◌, map, OnOk, IfOk};
 ghost use Rattle.asl_rules.specs.declared.effect.Effect.TheVariants.{Pure};
-ghost use Rattle.asl_rules.specs.Elaboration.{elaborated_stmt, elaborated_branch, trees_of, branches_of};
+ghost use Rattle.asl_tree.specs.Elaboration.{elaborated_stmt, elaborated_branch, trees_of, branches_of};
 ghost use Rattle.asl_rules.specs.Stmts as rules;
 ghost use Rattle.asl_rules.specs.Stmts.{done};
 ghost use Rattle.asl_check.specs.Answers.{Met};
@@ -20,7 +20,7 @@ use crate::prints::check_print;
 use crate::simple::{check_assert, check_return, check_target};
 use crate::visible::Visible;
 use asl_rules::effect::Effect;
-use asl_rules::typed::{TypedBranch, TypedStmt};
+use asl_tree::typed::{TypedBranch, TypedStmt};
 use asl_syn::code::{Refused, StaticCode};
 use asl_syn::tree::{ElseIf, Stmt};
 use sqlite_items::Items;

@@ -3,14 +3,14 @@
 ghost use Rattle.std.specs.Prelude.{◌≡◌, true, false, [], length, take, OnOk, IfErr, IfSome};
 ghost use Rattle.std.specs.Option.{option_map};
 ghost use Rattle.asl_rules.specs.Scopes as rules;
-ghost use Rattle.asl_rules.specs.Elaboration.{slot_of};
+ghost use Rattle.asl_tree.specs.Elaboration.{slot_of};
 ghost use Rattle.asl_check.specs.Views.{type_of, storage_view, standing_view, entry_view, with_entry};
 ghost use Rattle.asl_check.specs.Layouts.{local_names, global_names, layout_of};
 ghost use Rattle.asl_check.specs.Numbers.{standing_by, HasSlot};
 
 use crate::types::Ty;
 use asl_rules::effect::Effect;
-use asl_rules::typed::Slot;
+use asl_tree::typed::Slot;
 use asl_syn::code::Refused;
 use indexmap::IndexMap;
 use std::alloc::Global;

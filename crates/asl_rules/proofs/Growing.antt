@@ -22,11 +22,9 @@ use Rattle.asl_rules.specs.declared.effect.Effect.TheVariants.{Pure, Readonly, W
 use Rattle.asl_rules.specs.Faults.{◌>>=◌, ◌>>◌, need, found_or, fitted, fault, fault_of}
 use Rattle.asl_rules.specs.Types.{Ty, misfit}
 use Rattle.asl_rules.specs.Effects.{lesser, greater, greatest, all_together}
-use Rattle.asl_rules.specs.Scopes.{Scope, Entry, stored, storage_of, is_free, writing}
+use Rattle.asl_rules.specs.Scopes.{Scope, Entry, stored, storage_of, is_free, writing, entry_names}
 use Rattle.asl_rules.specs.Exprs.{typed, written}
-use Rattle.asl_rules.specs.Stmts.{Done, done, FoundStmt, FoundBranch, expr_at, ended, block, fitting, condition, assert_rule, is_var, initialised, local_rule, bind_rule, names_rule, vars_rule, assign_rule, place_rule, target_rule, branches, conditions, if_rule, return_rule, items_rule, print_rule, span_of, stmt_layer_rule, found_stmt}
-use Rattle.asl_rules.specs.Elaboration.{names_of, names_bound}
-use Rattle.asl_rules.specs.Erasure.{entry_names}
+use Rattle.asl_rules.specs.Stmts.{Done, done, FoundStmt, FoundBranch, expr_at, ended, block, fitting, condition, assert_rule, is_var, initialised, local_rule, bind_rule, names_rule, vars_rule, assign_rule, place_rule, target_rule, branches, conditions, if_rule, return_rule, items_rule, print_rule, span_of, stmt_layer_rule, found_stmt, names_of, names_bound}
 use Rattle.asl_rules.proofs.Inversions.{ok_ok, err_ok, bind_ok, then_ok}
 use Rattle.asl_rules.proofs.StmtForms.{branch_found, opened, unrolled}
 

@@ -18,10 +18,3 @@ pub mod ListForms
 pub mod Globals
 pub mod Soundness
 pub mod OneReading
-pub mod Places
-pub mod Erasing
-pub mod SameExprs
-pub mod SameStmts
-pub mod SameCalls
-pub mod TypedRuns
-pub mod Skeletons

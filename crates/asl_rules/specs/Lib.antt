@@ -22,8 +22,5 @@ pub mod Machines
 pub mod Visits
 pub mod Soundness
 pub mod OneRun
-pub mod Elaboration
-pub mod TypedMeaning
-pub mod Erasure
 pub mod Report
 pub mod Reading

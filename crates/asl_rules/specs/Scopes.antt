@@ -26,6 +26,10 @@ stored name T is_global is_mutable = record { name = name; standing = Stored (re
 abbrev pub subprogram : List ℕ → Entry
 subprogram name = record { name = name; standing = Subprogram }
 
+abbrev pub entry_names : List Entry → List (List ℕ)
+entry_names [] = []
+entry_names (e ∷ es) = e.name ∷ entry_names es
+
 -- what a name stands for, where it is visible
 abbrev pub standing_of : List ℕ → List Entry → Option Standing
 standing_of name [] = None

@@ -1,5 +1,5 @@
 -- Statements in a scope: the scope after one and its effect, or its one fault; and whether the end of one can be reached.
-use Rattle.std.specs.Prelude.{Bool, true, false, ◌&&◌, ◌||◌, List, [], ◌∷◌, ◌++◌, length, take, Option, Some, None, Result, Ok}
+use Rattle.std.specs.Prelude.{ℕ, Bool, true, false, ◌&&◌, ◌||◌, List, [], ◌∷◌, ◌++◌, length, take, Option, Some, None, Result, Ok}
 use Rattle.asl_syn.specs.declared.token.Span.{Span}
 use Rattle.asl_syn.specs.declared.code.Fault.{Fault}
 use Rattle.asl_syn.specs.declared.code.StaticCode.TheVariants.{S03, T01, T02, T05, T12, T13, T14, T18}
@@ -98,6 +98,16 @@ bind_rule span kind (Several at bs) t e G = fault S03 span
 abbrev pub names_rule : List Ident → Ty → List Entry → Result (List Entry) Fault
 names_rule [] T names = Ok names
 names_rule (i ∷ is) T names = need (is_free i.text names) T01 i.span >> names_rule is T (names ++ stored i.text T false true ∷ [])
+
+-- the names that a declaration declares
+abbrev pub names_of : List Ident → List (List ℕ)
+names_of [] = []
+names_of (i ∷ is) = i.text ∷ names_of is
+
+abbrev pub names_bound : Bind → List (List ℕ)
+names_bound (Single (Bound i)) = i.text ∷ []
+names_bound (Single (Unbound at)) = []
+names_bound (Several at bs) = []
 
 abbrev pub vars_rule : List Ident → TypeExpr → Scope → Result Done Fault
 vars_rule is t G = written t >>= λ T. names_rule is T G.names >>= λ names. Ok (done names Pure)

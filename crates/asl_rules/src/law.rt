@@ -8,12 +8,10 @@ ghost use Rattle.asl_rules.specs.Served.{unserved_decls};
 ghost use Rattle.asl_rules.specs.Texts.{File};
 ghost use Rattle.asl_syn.specs.declared.tree.Decl.{Decl};
 ghost use Rattle.asl_rules.specs.declared.entry.Entry.{Entry};
-ghost use Rattle.asl_rules.specs.Programs.{verdict, funcs_of, ProgramOk};
+ghost use Rattle.asl_rules.specs.Programs.{verdict, ProgramOk};
 ghost use Rattle.asl_rules.specs.OneRun.{OneRun};
 ghost use Rattle.asl_rules.specs.Scopes.{Entry as Visible};
 ghost use Rattle.asl_rules.specs.Soundness.{NamesOf, Soundness};
-ghost use Rattle.asl_rules.specs.Elaboration.{elaborated_funcs};
-ghost use Rattle.asl_rules.specs.Erasure.{SameMeaning};
 
 /// One run: for each program, state and node there is exactly one outcome, with one state, one number of steps left and
 /// one text after it.
@@ -36,9 +34,4 @@ pub fn law2()
 /// gives values of that type.
 pub fn law3()
     ensures { (e : Entry) (ds : List Decl) (main : Option ℕ) → ProgramOk e ds main → (names : List Visible) × NamesOf ds names × Soundness ds names }
-{}
-
-/// Typed trees: over states without names and types, what is made of a well-formed program does what the program does.
-pub fn typed_trees()
-    ensures { (e : Entry) (ds : List Decl) (main : Option ℕ) → ProgramOk e ds main → (names : List Visible) × NamesOf ds names × SameMeaning ds names (elaborated_funcs names (funcs_of ds)) }
 {}

@@ -4,7 +4,7 @@ use Rattle.std.proofs.lemmas.List.{take-map, length-map, map-set}
 use Rattle.std.proofs.lemmas.Option.{slice_get-map}
 use Rattle.std.specs.Prelude.{option_map, slice_get, slice_set, take}
 use Rattle.asl_rules.specs.Values as rules
-use Rattle.asl_rules.specs.TypedMeaning.{BareCore, set_at, pushed, pushed_times}
+use Rattle.asl_tree.specs.TypedMeaning.{BareCore, set_at, pushed, pushed_times}
 use Rattle.asl_value.specs.declared.value.Value.{Value}
 use Rattle.asl_value.specs.View.{value_of}
 

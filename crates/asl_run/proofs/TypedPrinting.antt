@@ -2,15 +2,15 @@
 use Rattle.std.proofs.Common.{◌≡◌, ℕ, suc, ◌+◌, ◌<◌, ◌⊎◌, inl, inr, Bool, List, [], ◌∷◌, ◌++◌, length, get_or, drop, Option, refl, sym, ap, ◌∙◌, subst, arith}
 use Rattle.std.proofs.Math.Seq.{drop-cons}
 use Rattle.asl_syn.specs.declared.tree.PrintKind.{PrintKind}
-use Rattle.asl_rules.specs.declared.typed.TypedFunc.{TypedFunc}
-use Rattle.asl_rules.specs.declared.typed.TypedItem.{TypedItem}
-use Rattle.asl_rules.specs.declared.typed.TypedItem.TheVariants.{Verbatim}
+use Rattle.asl_tree.specs.declared.typed.TypedFunc.{TypedFunc}
+use Rattle.asl_tree.specs.declared.typed.TypedItem.{TypedItem}
+use Rattle.asl_tree.specs.declared.typed.TypedItem.TheVariants.{Verbatim}
 use Rattle.asl_rules.specs.Values.{Exit}
 use Rattle.asl_rules.specs.Told.{appended, open_after, Part}
 use Rattle.asl_rules.specs.Plans.{Meter, Put, wrote}
 use Rattle.asl_rules.specs.Cuts.{cuts}
 use Rattle.asl_rules.specs.Strings.{string_text}
-use Rattle.asl_rules.specs.TypedMeaning.{BareCore, DoesBare, typed_meaning, typed_cutting, print_items}
+use Rattle.asl_tree.specs.TypedMeaning.{BareCore, DoesBare, typed_meaning, typed_cutting, print_items}
 use Rattle.asl_run.specs.TypedMeets.{LeftBare}
 
 append_nil : (xs : List ℕ) → xs ++ [] ≡ xs

@@ -1,11 +1,11 @@
 -- How the answers of a run of typed trees are related to the rules.
 use Rattle.std.specs.Prelude.{◌≡◌, ℕ, List, Option, Result, Ok, Err, map}
-use Rattle.asl_rules.specs.declared.typed.TypedExpr.{TypedExpr}
-use Rattle.asl_rules.specs.declared.typed.TypedFunc.{TypedFunc}
-use Rattle.asl_rules.specs.declared.typed.TypedStmt.{TypedStmt}
+use Rattle.asl_tree.specs.declared.typed.TypedExpr.{TypedExpr}
+use Rattle.asl_tree.specs.declared.typed.TypedFunc.{TypedFunc}
+use Rattle.asl_tree.specs.declared.typed.TypedStmt.{TypedStmt}
 use Rattle.asl_rules.specs.Plans.{Meter, Faulted, Stuck, Outcome, Done, Thrown, Halt, run}
 use Rattle.asl_rules.specs.Cuts.{cuts}
-use Rattle.asl_rules.specs.TypedMeaning.{BareCore, DoesBare, typed_meaning, typed_cutting}
+use Rattle.asl_tree.specs.TypedMeaning.{BareCore, DoesBare, typed_meaning, typed_cutting}
 use Rattle.asl_rules.specs.Values as rules
 use Rattle.asl_value.specs.declared.value.Value.{Value}
 use Rattle.asl_value.specs.View.{value_of}

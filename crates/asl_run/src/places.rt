@@ -3,14 +3,14 @@ ghost use Rattle.std.specs.Prelude.{◌≡◌, OnOk, option_map};
 ghost use Rattle.std.specs.Option.{option_copied};
 ghost use Rattle.asl_rules.specs.Evaluation.{known};
 ghost use Rattle.asl_rules.specs.Plans.{Ret, lift};
-ghost use Rattle.asl_rules.specs.TypedMeaning as rules;
+ghost use Rattle.asl_tree.specs.TypedMeaning as rules;
 ghost use Rattle.asl_rules.specs.Values.{Normal};
 ghost use Rattle.asl_value.specs.View.{value_of};
 ghost use Rattle.asl_run.specs.Meets.{Is, NoneRefused};
 ghost use Rattle.asl_run.specs.TypedMeets.{bare_of, ActsBare};
 
 use crate::stop::{Exit, Mistake, Stop};
-use asl_rules::typed::{Slot, Ty};
+use asl_tree::typed::{Slot, Ty};
 use asl_syn::token::Span;
 use asl_tree::SubId;
 use asl_value::{Value, copy};

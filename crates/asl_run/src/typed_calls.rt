@@ -3,7 +3,7 @@ ghost use Rattle.std.specs.Prelude.{◌≡◌, [], false, map, option_map};
 ghost use Rattle.asl_rules.specs.Cuts.{cuts};
 ghost use Rattle.asl_rules.specs.Machines.{most_open};
 ghost use Rattle.asl_rules.specs.Plans.{starting};
-ghost use Rattle.asl_rules.specs.TypedMeaning.{run_body as body_plan, typed_call_of, typed_meaning, typed_cutting, typed_run_of, bare_resting};
+ghost use Rattle.asl_tree.specs.TypedMeaning.{run_body as body_plan, typed_call_of, typed_meaning, typed_cutting, typed_run_of, bare_resting};
 ghost use Rattle.asl_value.specs.View.{value_of};
 ghost use Rattle.asl_run.specs.Meets.{Counts};
 ghost use Rattle.asl_run.specs.TypedMeets.{MeetsBare, RunsBare, bare_of, bare_meter};
@@ -12,7 +12,7 @@ use crate::places::Places;
 use crate::stop::{Exit, Mistake, Stop};
 use crate::typed_stmts::exec_all;
 use asl_io::Sink;
-use asl_rules::typed::TypedFunc;
+use asl_tree::typed::TypedFunc;
 use asl_syn::token::Span;
 use asl_tree::SubId;
 use asl_value::Value;
@@ -91,7 +91,7 @@ fn run_body<K: Sink>(
 }
 
 /// One call, on places between two calls.
-#[tactic(auto, unfolding(asl_rules::specs::TypedMeaning::typed_run_of))]
+#[tactic(auto, unfolding(asl_tree::specs::TypedMeaning::typed_run_of))]
 pub fn run_typed<K: Sink>(
     alloc: Global,
     funcs: &[TypedFunc],

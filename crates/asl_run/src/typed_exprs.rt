@@ -1,10 +1,10 @@
 //! Typed expressions: each function does what the rules say of a node. Its answer is `Stuck` exactly where they give no
 //! outcome.
 ghost use Rattle.std.specs.Prelude.{◌≡◌};
-ghost use Rattle.asl_rules.specs.declared.typed.TypedExpr.{out-TypedExpr};
+ghost use Rattle.asl_tree.specs.declared.typed.TypedExpr.{out-TypedExpr};
 ghost use Rattle.asl_rules.specs.Plans.{Eval, Ret, lift};
 ghost use Rattle.asl_rules.specs.Operators as operators;
-ghost use Rattle.asl_rules.specs.TypedMeaning as rules;
+ghost use Rattle.asl_tree.specs.TypedMeaning as rules;
 ghost use Rattle.asl_value.specs.View.{value_of};
 ghost use Rattle.asl_run.specs.Meets.{Counts};
 ghost use Rattle.asl_run.specs.TypedMeets.{RunsBare, EvaluatesBare};
@@ -13,7 +13,7 @@ use crate::operators::{binary_value, literal_value, truth, unary_value};
 use crate::places::{Places, read};
 use crate::stop::Stop;
 use asl_io::Sink;
-use asl_rules::typed::{TypedExpr, TypedFunc};
+use asl_tree::typed::{TypedExpr, TypedFunc};
 use asl_syn::code::DynCode;
 use asl_syn::token::Span;
 use asl_syn::tree::{BinaryOperator, UnaryOperator};

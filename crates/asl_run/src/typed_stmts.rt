@@ -1,11 +1,11 @@
 //! Typed statements: each function does what the rules say of a node, or of statements in order. Its answer is `Stuck`
 //! exactly where they give no outcome.
 ghost use Rattle.std.specs.Prelude.{◌≡◌};
-ghost use Rattle.asl_rules.specs.declared.typed.TypedStmt.{out-TypedStmt};
+ghost use Rattle.asl_tree.specs.declared.typed.TypedStmt.{out-TypedStmt};
 ghost use Rattle.asl_rules.specs.Plans.{Eval, Ret, lift};
 ghost use Rattle.asl_rules.specs.Values.{Normal, Returned};
 ghost use Rattle.asl_rules.specs.Operators as operators;
-ghost use Rattle.asl_rules.specs.TypedMeaning as rules;
+ghost use Rattle.asl_tree.specs.TypedMeaning as rules;
 ghost use Rattle.asl_run.specs.View.{exit_of};
 ghost use Rattle.asl_run.specs.Meets.{Counts};
 ghost use Rattle.asl_run.specs.TypedMeets.{RunsBare, ExecutesBare};
@@ -16,7 +16,7 @@ use crate::places::{Places, assign, declare_first, push};
 use crate::stop::{Exit, Stop};
 use crate::typed_exprs::eval;
 use asl_io::Sink;
-use asl_rules::typed::{Slot, TypedBranch, TypedExpr, TypedFunc, TypedItem, TypedStmt};
+use asl_tree::typed::{Slot, TypedBranch, TypedExpr, TypedFunc, TypedItem, TypedStmt};
 use asl_syn::code::DynCode;
 use asl_syn::token::Span;
 use asl_syn::tree::PrintKind;

@@ -4,11 +4,11 @@ use Rattle.std.specs.Coded.{Coded, code_by, coded×, coded_ℕ, coded_list, code
 use Rattle.asl_syn.specs.declared.tree.Decl.{Decl}
 use Rattle.asl_syn.specs.contracts.tree.Decl.{the_row}
 use Rattle.asl_rules.specs.declared.entry.Entry.{Entry}
-use Rattle.asl_rules.specs.declared.typed.TypedFunc.{TypedFunc}
+use Rattle.asl_tree.specs.declared.typed.TypedFunc.{TypedFunc}
 use Rattle.asl_rules.specs.Scopes.{Entry as Visible}
 use Rattle.asl_rules.specs.Programs.{ProgramOk, funcs_of}
 use Rattle.asl_rules.specs.Soundness.{NamesOf}
-use Rattle.asl_rules.specs.Elaboration.{elaborated_funcs}
+use Rattle.asl_tree.specs.Elaboration.{elaborated_funcs}
 
 -- the declarations, and the number of the subprogram that a run begins with, where one was asked for
 pub record Accepted : Type 0 where

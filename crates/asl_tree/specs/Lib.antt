@@ -1,1 +1,4 @@
+pub mod Elaboration
+pub mod TypedMeaning
+pub mod Erasure
 pub mod Accepted

@@ -2,7 +2,7 @@
 ghost use Rattle.std.specs.Prelude.{◌≡◌, ℕ, Option};
 ghost use Rattle.asl_tree.specs.Accepted.{Accepted, IsWellFormed, IsElaborated};
 
-use asl_rules::typed::TypedFunc;
+use crate::typed::TypedFunc;
 use asl_syn::tree::Program;
 use std::marker::Model;
 

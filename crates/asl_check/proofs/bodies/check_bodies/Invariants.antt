@@ -1,5 +1,5 @@
 use Rattle.std.proofs.Common.{◌≡◌, ◌++◌, drop, map}
-use Rattle.asl_rules.specs.Elaboration.{elaborated_func}
+use Rattle.asl_tree.specs.Elaboration.{elaborated_func}
 use Rattle.asl_rules.specs.Programs.{bodies_rule, funcs_of}
 use Rattle.asl_check.specs.Layouts.{layout_of}
 use Rattle.asl_check.proofs.bodies.check_bodies.Given as goal

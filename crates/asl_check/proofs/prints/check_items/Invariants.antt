@@ -1,6 +1,6 @@
 use Rattle.std.proofs.Common.{◌≡◌, ◌++◌, drop, true}
 use Rattle.asl_rules.specs.declared.effect.Effect.TheVariants.{Pure}
-use Rattle.asl_rules.specs.Elaboration.{items_of}
+use Rattle.asl_tree.specs.Elaboration.{items_of}
 use Rattle.asl_check.specs.Layouts.{layout_of}
 use Rattle.asl_check.specs.Views.{scope_of}
 use Rattle.asl_check.specs.Walks.{after_items}

@@ -1,6 +1,6 @@
 use Rattle.std.proofs.Common.{◌+◌, arith, drop, take, map, ap, ◌∙◌}
 use Rattle.asl_rules.specs.declared.effect.Effect.TheVariants.{Pure}
-use Rattle.asl_rules.specs.Elaboration.{elaborated_stmt, elaborated_branch, trees_of, branches_of}
+use Rattle.asl_tree.specs.Elaboration.{elaborated_stmt, elaborated_branch, trees_of, branches_of}
 use Rattle.asl_check.specs.Layouts.{layout_of}
 use Rattle.asl_check.specs.Views.{scope_of}
 use Rattle.asl_check.specs.Walks.{after_branches, walk_branch}

@@ -1,5 +1,5 @@
 use Rattle.std.proofs.Common.{◌≡◌}
-use Rattle.asl_rules.specs.TypedMeaning.{pushed_times, first_value}
+use Rattle.asl_tree.specs.TypedMeaning.{pushed_times, first_value}
 use Rattle.asl_run.specs.TypedMeets.{bare_of}
 use Rattle.asl_run.proofs.places.push_first.Given as goal
 

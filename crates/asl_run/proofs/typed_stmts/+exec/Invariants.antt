@@ -1,5 +1,5 @@
 use Rattle.std.proofs.Common.{◌≡◌, ◌+◌, ◌*◌, drop}
-use Rattle.asl_rules.specs.TypedMeaning.{branches, in_order}
+use Rattle.asl_tree.specs.TypedMeaning.{branches, in_order}
 use Rattle.asl_run.specs.TypedMeets.{bare_of, bare_meter, LeftBare}
 use Rattle.asl_run.proofs.typed_stmts.+exec.Given as goal
 

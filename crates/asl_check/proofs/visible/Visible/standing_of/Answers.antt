@@ -1,7 +1,7 @@
 use Rattle.std.proofs.Common.{List, Some, None, sym, ap, subst, ◌∙◌}
 use Rattle.std.specs.Option.{option_copied}
 use Rattle.asl_rules.specs.Scopes.{Entry}
-use Rattle.asl_rules.specs.Elaboration.{slot_of}
+use Rattle.asl_tree.specs.Elaboration.{slot_of}
 use Rattle.asl_check.specs.declared.visible.Standing.{Standing}
 use Rattle.asl_check.specs.Views.{standing_view}
 use Rattle.asl_check.specs.Layouts.{layout_of}

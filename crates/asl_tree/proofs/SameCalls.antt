@@ -11,14 +11,14 @@ use Rattle.asl_syn.specs.declared.tree.Formal.{Formal}
 use Rattle.asl_syn.specs.declared.tree.Func.{Func}
 use Rattle.asl_syn.specs.declared.tree.Decl.{Decl}
 use Rattle.asl_syn.specs.Layers.{expr_span, stmt_span}
-use Rattle.asl_rules.specs.declared.typed.TypedExpr.{out-TypedExpr}
-use Rattle.asl_rules.specs.declared.typed.TypedStmt.{out-TypedStmt}
-use Rattle.asl_rules.specs.declared.typed.TypedFunc.{TypedFunc}
+use Rattle.asl_tree.specs.declared.typed.TypedExpr.{out-TypedExpr}
+use Rattle.asl_tree.specs.declared.typed.TypedStmt.{out-TypedStmt}
+use Rattle.asl_tree.specs.declared.typed.TypedFunc.{TypedFunc}
 use Rattle.asl_rules.specs.declared.entry.Entry.{Entry as Asked}
 use Rattle.asl_rules.specs.declared.effect.Effect.TheVariants.{Pure}
 use Rattle.asl_rules.specs.Faults.{◌>>=◌, need}
 use Rattle.asl_rules.specs.Types.{Ty}
-use Rattle.asl_rules.specs.Scopes.{Scope, Entry}
+use Rattle.asl_rules.specs.Scopes.{Scope, Entry, entry_names}
 use Rattle.asl_rules.specs.Exprs.{written}
 use Rattle.asl_rules.specs.Stmts.{found_stmt, in_order}
 use Rattle.asl_rules.specs.Programs.{funcs_of, result_rule, class_of, may_end, body_rule, bodies_rule, ProgramOk}
@@ -32,10 +32,10 @@ use Rattle.asl_rules.specs.Evaluation.{nodes, meaning, expr_node, stmt_node, map
 use Rattle.asl_rules.specs.Machines.{most_open, resting, run_of}
 use Rattle.asl_rules.specs.Visits.{trails}
 use Rattle.asl_rules.specs.Soundness.{NamesOf, IsCall}
-use Rattle.asl_rules.specs.Elaboration.{Layout, bare_layout, has_result, trees_of, elaborated, elaborated_stmt, elaborated_func, elaborated_funcs}
-use Rattle.asl_rules.specs.TypedMeaning as bare
-use Rattle.asl_rules.specs.TypedMeaning.{typed_meaning, typed_expr_node, typed_stmt_node, typed_expr_layer_span, typed_stmt_layer_span, typed_call_func, typed_run_of, bare_resting}
-use Rattle.asl_rules.specs.Erasure.{values_of, erased, erased_outcome, entry_names, LaysOut, SameMeaning}
+use Rattle.asl_tree.specs.Elaboration.{Layout, bare_layout, has_result, trees_of, elaborated, elaborated_stmt, elaborated_func, elaborated_funcs}
+use Rattle.asl_tree.specs.TypedMeaning as bare
+use Rattle.asl_tree.specs.TypedMeaning.{typed_meaning, typed_expr_node, typed_stmt_node, typed_expr_layer_span, typed_stmt_layer_span, typed_call_func, typed_run_of, bare_resting}
+use Rattle.asl_tree.specs.Erasure.{values_of, erased, erased_outcome, LaysOut, SameMeaning}
 use Rattle.asl_rules.proofs.Inversions.{ok_ok, bind_ok}
 use Rattle.asl_rules.proofs.Lookups.{none_some, some_same}
 use Rattle.asl_rules.proofs.Growing.{same_names}
@@ -44,9 +44,9 @@ use Rattle.asl_rules.proofs.StmtForms.{written_same}
 use Rattle.asl_rules.proofs.ListForms.{list_safe}
 use Rattle.asl_rules.proofs.Safe.{claims, safe_run}
 use Rattle.asl_rules.proofs.Soundness.{our_forms, under_good, body_at, bodies_of}
-use Rattle.asl_rules.proofs.Erasing.{handled_same, enter_same}
-use Rattle.asl_rules.proofs.SameExprs.{ExprsSame, expr_same, expr_span_same}
-use Rattle.asl_rules.proofs.SameStmts.{StmtsSame, list_same, stmt_same, stmt_span_same}
+use Rattle.asl_tree.proofs.Erasing.{handled_same, enter_same}
+use Rattle.asl_tree.proofs.SameExprs.{ExprsSame, expr_same, expr_span_same}
+use Rattle.asl_tree.proofs.SameStmts.{StmtsSame, list_same, stmt_same, stmt_span_same}
 
 -- ---- nodes
 

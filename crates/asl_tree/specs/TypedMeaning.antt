@@ -6,18 +6,18 @@ use Rattle.asl_syn.specs.declared.code.DynCode.TheVariants.{D08}
 use Rattle.asl_syn.specs.declared.tree.BinaryOperator.{BinaryOperator}
 use Rattle.asl_syn.specs.declared.tree.PrintKind.{PrintKind}
 use Rattle.asl_syn.specs.declared.tree.PrintKind.TheVariants.{Print, PrintLine}
-use Rattle.asl_rules.specs.declared.typed.Ty.{Ty}
-use Rattle.asl_rules.specs.declared.typed.Ty.TheVariants as ty
-use Rattle.asl_rules.specs.declared.typed.Slot.{Slot}
-use Rattle.asl_rules.specs.declared.typed.Slot.TheVariants.{Local, Global}
-use Rattle.asl_rules.specs.declared.typed.TypedExpr.{TypedExpr, out-TypedExpr}
-use Rattle.asl_rules.specs.declared.typed.TypedExpr.TheOpen as te
-use Rattle.asl_rules.specs.declared.typed.TypedItem.{TypedItem}
-use Rattle.asl_rules.specs.declared.typed.TypedItem.TheVariants.{Verbatim, Shown}
-use Rattle.asl_rules.specs.declared.typed.TypedBranch.{TypedBranch, out-TypedBranch}
-use Rattle.asl_rules.specs.declared.typed.TypedBranch.TheOpen as ts
-use Rattle.asl_rules.specs.declared.typed.TypedStmt.{TypedStmt, out-TypedStmt}
-use Rattle.asl_rules.specs.declared.typed.TypedFunc.{TypedFunc}
+use Rattle.asl_tree.specs.declared.typed.Ty.{Ty}
+use Rattle.asl_tree.specs.declared.typed.Ty.TheVariants as ty
+use Rattle.asl_tree.specs.declared.typed.Slot.{Slot}
+use Rattle.asl_tree.specs.declared.typed.Slot.TheVariants.{Local, Global}
+use Rattle.asl_tree.specs.declared.typed.TypedExpr.{TypedExpr, out-TypedExpr}
+use Rattle.asl_tree.specs.declared.typed.TypedExpr.TheOpen as te
+use Rattle.asl_tree.specs.declared.typed.TypedItem.{TypedItem}
+use Rattle.asl_tree.specs.declared.typed.TypedItem.TheVariants.{Verbatim, Shown}
+use Rattle.asl_tree.specs.declared.typed.TypedBranch.{TypedBranch, out-TypedBranch}
+use Rattle.asl_tree.specs.declared.typed.TypedBranch.TheOpen as ts
+use Rattle.asl_tree.specs.declared.typed.TypedStmt.{TypedStmt, out-TypedStmt}
+use Rattle.asl_tree.specs.declared.typed.TypedFunc.{TypedFunc}
 use Rattle.asl_rules.specs.Types as types
 use Rattle.asl_rules.specs.Programs.{origin}
 use Rattle.asl_rules.specs.Values.{Value, bool, Exit, Normal, Returned}

@@ -4,16 +4,16 @@ use Rattle.std.specs.Prelude.{slice_get}
 use Rattle.std.specs.Str.{bytes_eq}
 use Rattle.asl_syn.specs.declared.token.Span.{Span}
 use Rattle.asl_rules.specs.Types.{Ty}
-use Rattle.asl_rules.specs.Scopes.{Entry, Standing, Stored, Subprogram}
+use Rattle.asl_rules.specs.Scopes.{Entry, Standing, Stored, Subprogram, entry_names}
 use Rattle.asl_rules.specs.Values.{Value}
 use Rattle.asl_rules.specs.States.{Binding, Core}
 use Rattle.asl_rules.specs.Belonging.{has_type}
 use Rattle.asl_rules.specs.Agreement.{GlobalsMatch, global_matches, local_matches, FrameMatches, Agrees}
 use Rattle.asl_rules.specs.Plans.{Stuck, WrongKind, Immutable, Pure, Good, Bad}
 use Rattle.asl_rules.specs.Evaluation.{value_of, or_value, known, put_value, map_pure, stored_in, first_store}
-use Rattle.asl_rules.specs.Elaboration.{Layout, place_of, slot_among, storage_names}
-use Rattle.asl_rules.specs.TypedMeaning.{BareCore, value_at, set_at, held, put}
-use Rattle.asl_rules.specs.Erasure.{values_of, erased, entry_names, LaysOut}
+use Rattle.asl_tree.specs.Elaboration.{Layout, place_of, slot_among, storage_names}
+use Rattle.asl_tree.specs.TypedMeaning.{BareCore, value_at, set_at, held, put}
+use Rattle.asl_tree.specs.Erasure.{values_of, erased, LaysOut}
 use Rattle.asl_rules.proofs.Lookups.{Knows}
 use Rattle.asl_rules.proofs.Stores.{StoresTo}
 

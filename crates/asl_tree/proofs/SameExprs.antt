@@ -15,8 +15,8 @@ use Rattle.asl_syn.specs.declared.tree.Decl.{Decl}
 use Rattle.asl_syn.specs.declared.tree.UnaryOperator.{UnaryOperator}
 use Rattle.asl_syn.specs.declared.tree.BinaryOperator.{BinaryOperator}
 use Rattle.asl_syn.specs.Layers.{ExprLayer, expr_layer_span}
-use Rattle.asl_rules.specs.declared.typed.TypedExpr.{TypedExpr, out-TypedExpr, out-roll-TypedExpr}
-use Rattle.asl_rules.specs.declared.typed.TypedFunc.{TypedFunc}
+use Rattle.asl_tree.specs.declared.typed.TypedExpr.{TypedExpr, out-TypedExpr, out-roll-TypedExpr}
+use Rattle.asl_tree.specs.declared.typed.TypedFunc.{TypedFunc}
 use Rattle.asl_rules.specs.Faults.{◌>>=◌, found_or, fault_of}
 use Rattle.asl_rules.specs.Effects.{greater, together}
 use Rattle.asl_rules.specs.Scopes.{Scope, Entry, storage_of, reading}
@@ -29,17 +29,17 @@ use Rattle.asl_rules.specs.Plans.{Meter, Eval, run, lift, Pure}
 use Rattle.asl_rules.specs.Operators.{binary_value, unary_value, truth, Decided, Already, ByRight, Strictness, Strict, Lazy, strictness}
 use Rattle.asl_rules.specs.Evaluation as untyped
 use Rattle.asl_rules.specs.Evaluation.{nodes, meaning, expr_node, named, literal}
-use Rattle.asl_rules.specs.Elaboration.{Layout, Unread, ExprOf, slot_of, typed_layer, rolled_layer, elaborated}
-use Rattle.asl_rules.specs.TypedMeaning as bare
-use Rattle.asl_rules.specs.TypedMeaning.{typed_meaning, typed_expr_node, typed_expr_layer_span, value_at}
-use Rattle.asl_rules.specs.Erasure.{erased, erased_outcome, LaysOut}
+use Rattle.asl_tree.specs.Elaboration.{Layout, Unread, ExprOf, slot_of, typed_layer, rolled_layer, elaborated}
+use Rattle.asl_tree.specs.TypedMeaning as bare
+use Rattle.asl_tree.specs.TypedMeaning.{typed_meaning, typed_expr_node, typed_expr_layer_span, value_at}
+use Rattle.asl_tree.specs.Erasure.{erased, erased_outcome, LaysOut}
 use Rattle.asl_rules.proofs.Inversions.{err_ok, bind_ok, found_ok}
 use Rattle.asl_rules.proofs.Lookups.{named_value}
 use Rattle.asl_rules.proofs.ExprForms.{opened, unrolled, ExprClaim, our_claims}
 use Rattle.asl_rules.proofs.Safe.{Ends, claims}
 use Rattle.asl_rules.proofs.Soundness.{our_forms}
-use Rattle.asl_rules.proofs.Places.{has_names, read_same}
-use Rattle.asl_rules.proofs.Erasing.{then_same, lift_same}
+use Rattle.asl_tree.proofs.Places.{has_names, read_same}
+use Rattle.asl_tree.proofs.Erasing.{then_same, lift_same}
 
 -- one layer of an expression, with what is made of its parts
 abbrev pub elaborated_parts : ExprLayer → ExprOf

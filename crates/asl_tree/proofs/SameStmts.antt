@@ -25,19 +25,19 @@ use Rattle.asl_syn.specs.declared.tree.Alternative.TheOpen as st
 use Rattle.asl_syn.specs.declared.tree.Alternative.TheFolds.{fold_out-Stmt, fold_out-ElseIf, map-Stmt, map-ElseIf}
 use Rattle.asl_syn.specs.declared.tree.Decl.{Decl}
 use Rattle.asl_syn.specs.Layers.{StmtLayer, stmt_layer_span}
-use Rattle.asl_rules.specs.declared.typed.TypedBranch.{TypedBranch, out-TypedBranch, out-roll-TypedBranch}
-use Rattle.asl_rules.specs.declared.typed.TypedBranch.TheOpen as ts
-use Rattle.asl_rules.specs.declared.typed.TypedStmt.{out-TypedStmt, out-roll-TypedStmt}
-use Rattle.asl_rules.specs.declared.typed.TypedFunc.{TypedFunc}
+use Rattle.asl_tree.specs.declared.typed.TypedBranch.{TypedBranch, out-TypedBranch, out-roll-TypedBranch}
+use Rattle.asl_tree.specs.declared.typed.TypedBranch.TheOpen as ts
+use Rattle.asl_tree.specs.declared.typed.TypedStmt.{out-TypedStmt, out-roll-TypedStmt}
+use Rattle.asl_tree.specs.declared.typed.TypedFunc.{TypedFunc}
 use Rattle.asl_rules.specs.declared.effect.Effect.{Effect}
 use Rattle.asl_rules.specs.declared.effect.Effect.TheVariants.{Pure, Readonly, Writes}
 use Rattle.asl_rules.specs.Faults.{◌>>=◌, ◌>>◌, need, found_or, fitted, fault, fault_of}
 use Rattle.asl_rules.specs.Types.{Ty, integer, boolean, misfit}
 use Rattle.asl_rules.specs.Effects.{lesser, greater, greatest, all_together}
-use Rattle.asl_rules.specs.Scopes.{Scope, Entry, stored, storage_of, is_free, writing}
+use Rattle.asl_rules.specs.Scopes.{Scope, Entry, stored, storage_of, is_free, writing, entry_names}
 use Rattle.asl_rules.specs.Exprs.{Typed, typed, written}
 use Rattle.asl_rules.specs.Stmts as stmts
-use Rattle.asl_rules.specs.Stmts.{Done, done, FoundStmt, FoundBranch, expr_at, ended, with_names, in_order, block, fitting, condition, assert_rule, is_var, initialised, local_rule, bind_rule, names_rule, vars_rule, assign_rule, place_rule, target_rule, conditions, if_rule, return_rule, items_rule, print_rule, span_of, stmt_layer_rule, found_stmt, falls}
+use Rattle.asl_rules.specs.Stmts.{Done, done, FoundStmt, FoundBranch, expr_at, ended, with_names, in_order, block, fitting, condition, assert_rule, is_var, initialised, local_rule, bind_rule, names_rule, vars_rule, assign_rule, place_rule, target_rule, conditions, if_rule, return_rule, items_rule, print_rule, span_of, stmt_layer_rule, found_stmt, falls, names_bound}
 use Rattle.asl_rules.specs.Values.{Value, Exit, Normal, Returned}
 use Rattle.asl_rules.specs.States.{Core}
 use Rattle.asl_rules.specs.Belonging.{InType}
@@ -48,11 +48,11 @@ use Rattle.asl_rules.specs.Strings.{string_text}
 use Rattle.asl_rules.specs.Texts.{value_text}
 use Rattle.asl_rules.specs.Evaluation as untyped
 use Rattle.asl_rules.specs.Evaluation.{Does, nodes, meaning, stmt_node, store, store_place, store_target, written_layer, stored_under, declare, declared, bound_to, initial_value, declare_all, declare_vars}
-use Rattle.asl_rules.specs.Elaboration as made
-use Rattle.asl_rules.specs.Elaboration.{Layout, Unread, StmtOf, Elaborated, with_locals, slot_of, names_bound, names_declared, trees_of, branches_of, items_of, ty_of, target_slot, elaborated, elaborated_value, elaborated_stmt, elaborated_branch, typed_stmt_layer, typed_branch_layer, stmt_rule}
-use Rattle.asl_rules.specs.TypedMeaning as bare
-use Rattle.asl_rules.specs.TypedMeaning.{BareCore, DoesBare, typed_meaning, typed_stmt_node, typed_stmt_layer_span, put, pushed, pushed_times, first_value}
-use Rattle.asl_rules.specs.Erasure.{erased, erased_outcome, entry_names, LaysOut}
+use Rattle.asl_tree.specs.Elaboration as made
+use Rattle.asl_tree.specs.Elaboration.{Layout, Unread, StmtOf, Elaborated, with_locals, slot_of, names_declared, trees_of, branches_of, items_of, ty_of, target_slot, elaborated, elaborated_value, elaborated_stmt, elaborated_branch, typed_stmt_layer, typed_branch_layer, stmt_rule}
+use Rattle.asl_tree.specs.TypedMeaning as bare
+use Rattle.asl_tree.specs.TypedMeaning.{BareCore, DoesBare, typed_meaning, typed_stmt_node, typed_stmt_layer_span, put, pushed, pushed_times, first_value}
+use Rattle.asl_tree.specs.Erasure.{erased, erased_outcome, LaysOut}
 use Rattle.asl_rules.proofs.Inversions.{err_ok, bind_ok, then_ok, need_ok, found_ok, fitted_ok}
 use Rattle.asl_rules.proofs.Stores.{has_own, store_agrees}
 use Rattle.asl_rules.proofs.ExprForms.{EndsBody, StmtClaim, our_claims}
@@ -61,9 +61,9 @@ use Rattle.asl_rules.proofs.Growing.{layer_names, stmt_adds}
 use Rattle.asl_rules.proofs.ListForms.{AllOk, parts_ok, branch_opened, branch_unrolled}
 use Rattle.asl_rules.proofs.Safe.{Ends, claims}
 use Rattle.asl_rules.proofs.Soundness.{our_forms}
-use Rattle.asl_rules.proofs.Places.{entry_names_behind, has_names, put_same}
-use Rattle.asl_rules.proofs.Erasing.{values_behind, cut_same, then_same, part_same, lift_same, lift_core_same}
-use Rattle.asl_rules.proofs.SameExprs.{ExprsSame, eval_same}
+use Rattle.asl_tree.proofs.Places.{entry_names_behind, has_names, put_same}
+use Rattle.asl_tree.proofs.Erasing.{values_behind, cut_same, then_same, part_same, lift_same, lift_core_same}
+use Rattle.asl_tree.proofs.SameExprs.{ExprsSame, eval_same}
 
 -- ---- one layer of a statement, with what is made of its parts
 

@@ -4,16 +4,16 @@ use Rattle.asl_syn.specs.declared.token.Span.{Span}
 use Rattle.asl_syn.specs.declared.code.DynCode.TheVariants.{D12, D13}
 use Rattle.asl_syn.specs.declared.tree.Expr.{Expr}
 use Rattle.asl_syn.specs.declared.tree.Stmt.{Stmt}
-use Rattle.asl_rules.specs.declared.typed.TypedExpr.{TypedExpr}
-use Rattle.asl_rules.specs.declared.typed.TypedStmt.{TypedStmt}
+use Rattle.asl_tree.specs.declared.typed.TypedExpr.{TypedExpr}
+use Rattle.asl_tree.specs.declared.typed.TypedStmt.{TypedStmt}
 use Rattle.asl_rules.specs.Values.{Value}
 use Rattle.asl_rules.specs.States.{Binding, Core}
 use Rattle.asl_rules.specs.Plans.{Meter, Faulted, Outcome, Done, Thrown, Halt, Meaning, handle, run, enter, Pure, Good, Bad, lift}
 use Rattle.asl_rules.specs.Evaluation as untyped
 use Rattle.asl_rules.specs.Evaluation.{map_pure}
-use Rattle.asl_rules.specs.TypedMeaning as bare
-use Rattle.asl_rules.specs.TypedMeaning.{BareCore}
-use Rattle.asl_rules.specs.Erasure.{values_of, erased, erased_outcome}
+use Rattle.asl_tree.specs.TypedMeaning as bare
+use Rattle.asl_tree.specs.TypedMeaning.{BareCore}
+use Rattle.asl_tree.specs.Erasure.{values_of, erased, erased_outcome}
 use Rattle.asl_rules.proofs.Safe.{Ends}
 
 -- ---- values alone

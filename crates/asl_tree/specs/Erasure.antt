@@ -3,8 +3,8 @@ use Rattle.std.specs.Prelude.{◌≡◌, ℕ, List, [], ◌∷◌, ◌++◌, Ok}
 use Rattle.asl_syn.specs.declared.tree.Decl.{Decl}
 use Rattle.asl_syn.specs.declared.tree.Expr.{Expr}
 use Rattle.asl_syn.specs.declared.tree.Stmt.{Stmt}
-use Rattle.asl_rules.specs.declared.typed.TypedFunc.{TypedFunc}
-use Rattle.asl_rules.specs.Scopes.{Entry, Scope}
+use Rattle.asl_tree.specs.declared.typed.TypedFunc.{TypedFunc}
+use Rattle.asl_rules.specs.Scopes.{Entry, Scope, entry_names}
 use Rattle.asl_rules.specs.Exprs.{Typed, typed}
 use Rattle.asl_rules.specs.Stmts.{found_stmt}
 use Rattle.asl_rules.specs.Stmts as stmts
@@ -15,8 +15,8 @@ use Rattle.asl_rules.specs.Plans.{Meter, Outcome, Done, Thrown, Halt}
 use Rattle.asl_rules.specs.Evaluation.{meaning}
 use Rattle.asl_rules.specs.Machines.{run_of}
 use Rattle.asl_rules.specs.Soundness.{IsCall}
-use Rattle.asl_rules.specs.Elaboration.{Layout, storage_names, elaborated, elaborated_stmt}
-use Rattle.asl_rules.specs.TypedMeaning.{BareCore, typed_meaning, typed_run_of}
+use Rattle.asl_tree.specs.Elaboration.{Layout, storage_names, elaborated, elaborated_stmt}
+use Rattle.asl_tree.specs.TypedMeaning.{BareCore, typed_meaning, typed_run_of}
 
 -- the values alone
 abbrev pub values_of : List Binding → List Value
@@ -31,10 +31,6 @@ abbrev pub erased_outcome : {A : Type 0} → Outcome Core A → Outcome BareCore
 erased_outcome (Done x c h) = Done x (erased c) h
 erased_outcome (Thrown x c h) = Thrown x (erased c) h
 erased_outcome (Halt e c h) = Halt e (erased c) h
-
-abbrev pub entry_names : List Entry → List (List ℕ)
-entry_names [] = []
-entry_names (e ∷ es) = e.name ∷ entry_names es
 
 -- the places of these visible names, of which the base stands outside bodies
 pub record LaysOut (base names : List Entry) (L : Layout) : Type 0 where

@@ -6,10 +6,6 @@ use Rattle.asl_syn.specs.declared.tree.Expr.{Expr}
 use Rattle.asl_syn.specs.declared.tree.Bitfield.TheOpen as ex
 use Rattle.asl_syn.specs.declared.tree.Bitfield.TheFolds.{fold-Expr}
 use Rattle.asl_syn.specs.declared.tree.TypeExpr.{TypeExpr, out-TypeExpr}
-use Rattle.asl_syn.specs.declared.tree.Ident.{Ident}
-use Rattle.asl_syn.specs.declared.tree.Binder.TheVariants.{Bound, Unbound}
-use Rattle.asl_syn.specs.declared.tree.Bind.{Bind}
-use Rattle.asl_syn.specs.declared.tree.Bind.TheVariants.{Single, Several}
 use Rattle.asl_syn.specs.declared.tree.Target.{Target, out-Target}
 use Rattle.asl_syn.specs.declared.tree.Target.TheOpen as tg
 use Rattle.asl_syn.specs.declared.tree.PrintItem.{PrintItem}
@@ -19,20 +15,21 @@ use Rattle.asl_syn.specs.declared.tree.Stmt.{Stmt}
 use Rattle.asl_syn.specs.declared.tree.Alternative.TheOpen as st
 use Rattle.asl_syn.specs.declared.tree.Alternative.TheFolds.{fold-Stmt, fold-ElseIf}
 use Rattle.asl_syn.specs.declared.tree.Func.{Func}
-use Rattle.asl_rules.specs.declared.typed.Ty.{Ty}
-use Rattle.asl_rules.specs.declared.typed.Ty.TheVariants as ty
-use Rattle.asl_rules.specs.declared.typed.Slot.{Slot}
-use Rattle.asl_rules.specs.declared.typed.Slot.TheVariants.{Local, Global}
-use Rattle.asl_rules.specs.declared.typed.TypedExpr.{TypedExpr, TypedExpr-F, roll-TypedExpr}
-use Rattle.asl_rules.specs.declared.typed.TypedExpr.TheOpen as te
-use Rattle.asl_rules.specs.declared.typed.TypedItem.{TypedItem}
-use Rattle.asl_rules.specs.declared.typed.TypedItem.TheVariants as ti
-use Rattle.asl_rules.specs.declared.typed.TypedBranch.{TypedBranch, roll-TypedBranch}
-use Rattle.asl_rules.specs.declared.typed.TypedBranch.TheOpen as ts
-use Rattle.asl_rules.specs.declared.typed.TypedStmt.{TypedStmt, roll-TypedStmt}
-use Rattle.asl_rules.specs.declared.typed.TypedFunc.{TypedFunc}
+use Rattle.asl_tree.specs.declared.typed.Ty.{Ty}
+use Rattle.asl_tree.specs.declared.typed.Ty.TheVariants as ty
+use Rattle.asl_tree.specs.declared.typed.Slot.{Slot}
+use Rattle.asl_tree.specs.declared.typed.Slot.TheVariants.{Local, Global}
+use Rattle.asl_tree.specs.declared.typed.TypedExpr.{TypedExpr, TypedExpr-F, roll-TypedExpr}
+use Rattle.asl_tree.specs.declared.typed.TypedExpr.TheOpen as te
+use Rattle.asl_tree.specs.declared.typed.TypedItem.{TypedItem}
+use Rattle.asl_tree.specs.declared.typed.TypedItem.TheVariants as ti
+use Rattle.asl_tree.specs.declared.typed.TypedBranch.{TypedBranch, roll-TypedBranch}
+use Rattle.asl_tree.specs.declared.typed.TypedBranch.TheOpen as ts
+use Rattle.asl_tree.specs.declared.typed.TypedStmt.{TypedStmt, roll-TypedStmt}
+use Rattle.asl_tree.specs.declared.typed.TypedFunc.{TypedFunc}
 use Rattle.asl_rules.specs.Types as types
 use Rattle.asl_rules.specs.Scopes.{Entry, Standing, Stored, Subprogram}
+use Rattle.asl_rules.specs.Stmts.{names_of, names_bound}
 use Rattle.asl_rules.specs.Programs.{origin}
 use Rattle.asl_rules.specs.Evaluation.{written_layer}
 
@@ -112,15 +109,6 @@ trees_of (s ∷ ss) L = s.tree L ∷ trees_of ss (with_locals L s.names)
 abbrev pub branches_of : List (Layout → TypedBranch) → Layout → List TypedBranch
 branches_of [] L = []
 branches_of (b ∷ bs) L = b L ∷ branches_of bs L
-
-abbrev pub names_of : List Ident → List (List ℕ)
-names_of [] = []
-names_of (i ∷ is) = i.text ∷ names_of is
-
-abbrev pub names_bound : Bind → List (List ℕ)
-names_bound (Single (Bound i)) = i.text ∷ []
-names_bound (Single (Unbound at)) = []
-names_bound (Several at bs) = []
 
 -- a type of the rules as the tree holds it
 abbrev pub ty_of : Option types.Ty → Ty

@@ -3,18 +3,18 @@ use Rattle.std.proofs.Common.{◌≡◌, ℕ, ◌-◌, Bool, true, false, List, 
 use Rattle.std.specs.Prelude.{slice_get}
 use Rattle.asl_syn.specs.declared.token.Span.{Span}
 use Rattle.asl_syn.specs.declared.tree.Decl.{Decl}
-use Rattle.asl_rules.specs.declared.typed.TypedFunc.{TypedFunc}
-use Rattle.asl_rules.specs.declared.typed.TypedStmt.{TypedStmt}
+use Rattle.asl_tree.specs.declared.typed.TypedFunc.{TypedFunc}
+use Rattle.asl_tree.specs.declared.typed.TypedStmt.{TypedStmt}
 use Rattle.asl_rules.specs.Told.{Begins}
 use Rattle.asl_rules.specs.Values.{Value, Exit, Normal, Returned}
 use Rattle.asl_rules.specs.States.{Binding, Core}
 use Rattle.asl_rules.specs.Plans.{Meter, starting, Outcome, Done, Thrown, Halt, End, final}
 use Rattle.asl_rules.specs.Cuts.{cuts}
 use Rattle.asl_rules.specs.Machines.{GivenUp, most_open, resting, run_of, text_of_run}
-use Rattle.asl_rules.specs.TypedMeaning.{BareCore, in_order, at_end, typed_nodes, typed_meaning, typed_cutting, typed_call_func, typed_call_of, typed_run_of, bare_resting}
-use Rattle.asl_rules.specs.Erasure.{values_of, erased, erased_outcome}
+use Rattle.asl_tree.specs.TypedMeaning.{BareCore, in_order, at_end, typed_nodes, typed_meaning, typed_cutting, typed_call_func, typed_call_of, typed_run_of, bare_resting}
+use Rattle.asl_tree.specs.Erasure.{values_of, erased, erased_outcome}
 use Rattle.asl_rules.proofs.Quiet.{Quiet, given_up}
-use Rattle.asl_rules.proofs.Skeletons.{EndsIn, SameBut, Kept, AtRest}
+use Rattle.asl_tree.proofs.Skeletons.{EndsIn, SameBut, Kept, AtRest}
 
 -- ---- a call from outside writes nothing before its first node
 
