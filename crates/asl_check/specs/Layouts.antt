@@ -1,5 +1,5 @@
 -- The places of the visible names: those of local storage and those of global storage, each in the order of the names.
-use Rattle.std.specs.Prelude.{◌≡◌, ℕ, Bool, true, false, if◌then◌else◌, List, [], ◌∷◌}
+use Rattle.std.specs.Prelude.{ℕ, if◌then◌else◌, List, [], ◌∷◌}
 use Rattle.asl_rules.specs.Scopes.{Entry, Standing, Stored, Subprogram}
 use Rattle.asl_tree.specs.Elaboration.{Layout}
 

@@ -1,4 +1,4 @@
-use Rattle.std.proofs.Common.{◌≡◌, List, length, true, sym, ap, ◌∙◌}
+use Rattle.std.proofs.Common.{List, length, sym, ap, ◌∙◌}
 use Rattle.asl_rules.specs.Scopes.{Entry, is_free}
 use Rattle.asl_check.specs.Views.{entry_view, with_entry}
 use Rattle.asl_check.specs.Layouts.{local_names, global_names}

@@ -1,6 +1,4 @@
-use Rattle.std.proofs.Common.{◌≡◌, ℕ, ◌<◌, ◌-◌, List, length, Some, Bor, option_map, slice_get, sym, ap, ◌∙◌, arith}
-use Rattle.asl_check.specs.declared.visible.Form.{Form}
-use Rattle.asl_check.specs.declared.visible.Declared.{Declared}
+use Rattle.std.proofs.Common.{option_map, sym, ap, ◌∙◌, arith}
 use Rattle.asl_check.proofs.NumberLemmas.{numbers-last, numbers-within}
 use Rattle.asl_check.proofs.visible.Visible.numbers.Goals as goal
 
