@@ -1,4 +1,5 @@
 pub mod View
+pub mod Globals
 pub mod Meets
 pub mod Numbers
 pub mod Pieces
