@@ -1,7 +1,6 @@
 -- Globals and values, exchanged one by one.
-use Rattle.std.proofs.Common.{◌≡◌, ℕ, zero, suc, ◌+◌, ◌<◌, List, [], ◌∷◌, ◌++◌, length, get_or, take, drop, map, refl, ap, ◌∙◌, subst, arith}
+use Rattle.std.proofs.Common.{◌≡◌, ℕ, zero, suc, ◌<◌, List, [], ◌∷◌, ◌++◌, length, take, drop, map, refl, ap, ◌∙◌, arith}
 use Rattle.std.proofs.lemmas.List.{take-append-drop}
-use Rattle.std.specs.Prelude.{slice_set}
 use Rattle.asl_rules.specs.States as states
 use Rattle.asl_rules.specs.Values as rules
 use Rattle.asl_rules.specs.Erasure.{values_of}
@@ -12,36 +11,7 @@ use Rattle.asl_value.specs.declared.value.Value.{Value}
 use Rattle.asl_value.specs.View.{value_of, binding_of, bindings_of}
 use Rattle.asl_run.specs.Globals.{given, taken}
 
--- ---- one more
-
-given_next : (k : ℕ) (bs : List Binding) (xs : List Value) (b : Binding) (x : Value) → k < length bs → k < length xs → b ≡ get_or bs k b → x ≡ get_or xs k x →
-    take (suc k) (slice_set bs k (record b { value = x })) ++ given (drop (suc k) (slice_set bs k (record b { value = x }))) (drop (suc k) (slice_set xs k b.value)) ≡ take k bs ++ given (drop k bs) (drop k xs)
-given_next k [] xs b x h l e f = absurd (omega (arith, h))
-given_next k (c ∷ bs) [] b x h l e f = absurd (omega (arith, l))
-given_next zero (c ∷ bs) (y ∷ xs) b x h l e f = ap (λ z. z ∷ given bs xs) (ap (λ (a : Binding). record a { value = x }) e ∙ ap (λ z. record c { value = z }) f)
-given_next (suc k) (c ∷ bs) (y ∷ xs) b x h l e f = ap (λ z. c ∷ z) (given_next k bs xs b x (omega (arith, h)) (omega (arith, l)) e f)
-
-taken_next : (k : ℕ) (bs : List Binding) (xs : List Value) (b : Binding) (x : Value) → k < length bs → k < length xs → b ≡ get_or bs k b →
-    take (suc k) (slice_set xs k b.value) ++ taken (drop (suc k) (slice_set bs k (record b { value = x }))) (drop (suc k) (slice_set xs k b.value)) ≡ take k xs ++ taken (drop k bs) (drop k xs)
-taken_next k [] xs b x h l e = absurd (omega (arith, h))
-taken_next k (c ∷ bs) [] b x h l e = absurd (omega (arith, l))
-taken_next zero (c ∷ bs) (y ∷ xs) b x h l e = ap (λ (a : Binding). a.value ∷ taken bs xs) e
-taken_next (suc k) (c ∷ bs) (y ∷ xs) b x h l e = ap (λ z. y ∷ z) (taken_next k bs xs b x (omega (arith, h)) (omega (arith, l)) e)
-
-one_more : (k : ℕ) → suc k ≡ k + 1
-one_more k = omega arith
-
-pub given_more : (k : ℕ) (bs : List Binding) (xs : List Value) (b : Binding) (x : Value) → k < length bs → k < length xs → b ≡ get_or bs k b → x ≡ get_or xs k x →
-    take (k + 1) (slice_set bs k (record b { value = x })) ++ given (drop (k + 1) (slice_set bs k (record b { value = x }))) (drop (k + 1) (slice_set xs k b.value)) ≡ take k bs ++ given (drop k bs) (drop k xs)
-given_more k bs xs b x h l e f =
-    subst (λ n. take n (slice_set bs k (record b { value = x })) ++ given (drop n (slice_set bs k (record b { value = x }))) (drop n (slice_set xs k b.value)) ≡ take k bs ++ given (drop k bs) (drop k xs)) (one_more k) (given_next k bs xs b x h l e f)
-
-pub taken_more : (k : ℕ) (bs : List Binding) (xs : List Value) (b : Binding) (x : Value) → k < length bs → k < length xs → b ≡ get_or bs k b →
-    take (k + 1) (slice_set xs k b.value) ++ taken (drop (k + 1) (slice_set bs k (record b { value = x }))) (drop (k + 1) (slice_set xs k b.value)) ≡ take k xs ++ taken (drop k bs) (drop k xs)
-taken_more k bs xs b x h l e =
-    subst (λ n. take n (slice_set xs k b.value) ++ taken (drop n (slice_set bs k (record b { value = x }))) (drop n (slice_set xs k b.value)) ≡ take k xs ++ taken (drop k bs) (drop k xs)) (one_more k) (taken_next k bs xs b x h l e)
-
--- ---- none more
+-- ---- all were exchanged
 
 given_none : (bs : List Binding) → given bs [] ≡ bs
 given_none [] = refl

@@ -1,6 +1,6 @@
 -- What a call of a checked program can rely on.
 use mathlib.Core.HLevel.{⊥_prop}
-use Rattle.std.proofs.Common.{◌≡◌, ℕ, ◌-◌, ◌⊎◌, inl, true, List, Option, refl, sym, ◌∙◌, subst}
+use Rattle.std.proofs.Common.{◌≡◌, ℕ, ◌-◌, inl, true, List, Option, refl, sym, ◌∙◌, subst}
 use Rattle.std.proofs.Math.Logic.{∥∥₁_elim, ∥∥₁_map, ∥∥₁_prop}
 use Rattle.asl_syn.specs.declared.token.Span.{Span}
 use Rattle.asl_syn.specs.declared.tree.Decl.{Decl}
@@ -12,7 +12,7 @@ use Rattle.asl_rules.specs.States.{Binding, Core}
 use Rattle.asl_rules.specs.Agreement.{GlobalsMatch}
 use Rattle.asl_rules.specs.Plans.{Meter, Mistake, Stuck, Outcome, Done, Halt, starting}
 use Rattle.asl_rules.specs.Evaluation.{nodes, call_of, initial_globals}
-use Rattle.asl_rules.specs.Programs.{ProgramOk, globals_rule, library_names}
+use Rattle.asl_rules.specs.Programs.{ProgramOk}
 use Rattle.asl_rules.specs.Soundness.{NotStuck, KeepsGlobals, NamesOf, IsCall, Soundness}
 use Rattle.asl_rules.specs.Machines.{GivenUp, most_open, resting, run_of, text_of_run}
 use Rattle.asl_rules.proofs.Inversions.{ok_ok}

@@ -1,5 +1,5 @@
 -- A call of the typed trees of a program says how the program's own call ends.
-use Rattle.std.proofs.Common.{◌≡◌, ℕ, ◌-◌, List, Option, Result, Ok, Err, ◌⊎◌, inl, inr, refl, sym, ap, ◌∙◌, subst, map, length}
+use Rattle.std.proofs.Common.{◌≡◌, ℕ, ◌-◌, List, Option, Result, Ok, Err, sym, ap, ◌∙◌, subst, map, length}
 use Rattle.std.proofs.Math.Logic.{∥∥₁_elim}
 use Rattle.std.specs.Prelude.{option_map, OnOk}
 use Rattle.asl_syn.specs.declared.tree.Decl.{Decl}
@@ -14,7 +14,7 @@ use Rattle.asl_rules.specs.Agreement.{GlobalsMatch}
 use Rattle.asl_rules.specs.Plans.{Meter, starting, Outcome, Done, Thrown, Halt, Faulted, Stuck}
 use Rattle.asl_rules.specs.Cuts.{cuts}
 use Rattle.asl_rules.specs.Programs.{ProgramOk, funcs_of}
-use Rattle.asl_rules.specs.Soundness.{NamesOf, IsCall}
+use Rattle.asl_rules.specs.Soundness.{NamesOf}
 use Rattle.asl_rules.specs.Machines.{GivenUp, most_open, resting, run_of, text_of_run}
 use Rattle.asl_rules.specs.Elaboration.{elaborated_funcs}
 use Rattle.asl_rules.specs.TypedMeaning.{BareCore, typed_meaning, typed_cutting, typed_call_of, typed_run_of, bare_resting}
@@ -22,7 +22,7 @@ use Rattle.asl_rules.specs.Erasure.{values_of, erased_outcome}
 use Rattle.asl_rules.proofs.Inversions.{ok_ok}
 use Rattle.asl_rules.proofs.SameCalls.{typed_trees_same}
 use Rattle.asl_rules.proofs.Skeletons.{EndsIn, Kept, AtRest, run_of_keeps, run_of_rests}
-use Rattle.asl_rules.proofs.TypedRuns.{with_values, done_same, thrown_same, HaltsSame, halt_same, gives_up_same}
+use Rattle.asl_rules.proofs.TypedRuns.{with_values, done_same, thrown_same, halt_same, gives_up_same}
 use Rattle.asl_value.specs.declared.binding.Binding.{Binding}
 use Rattle.asl_value.specs.declared.value.Value.{Value}
 use Rattle.asl_value.specs.View.{value_of, bindings_of}
@@ -31,8 +31,8 @@ use Rattle.asl_run.specs.declared.stop.Stop.{Stop}
 use Rattle.asl_run.specs.declared.stop.Stop.TheVariants as stop
 use Rattle.asl_run.specs.Globals.{given, taken}
 use Rattle.asl_run.specs.Stages.{CallMeets, Halted}
-use Rattle.asl_run.specs.TypedMeets.{MeetsBare, bare_of, bare_meter}
-use Rattle.asl_run.specs.View.{mistake_of}
+use Rattle.asl_run.specs.Meets.{Meets}
+use Rattle.asl_run.specs.View.{mistake_of, core_of, meter_of}
 use Rattle.asl_run.specs.Work.{IsCallable, HoldStorage}
 use Rattle.asl_run.proofs.Exchange.{given_is, taken_is, but_values}
 use Rattle.asl_run.proofs.Outcomes.{outcome_set}
@@ -76,33 +76,42 @@ stuck globals r m span c h k e never = let s = halt_same globals r (Stuck m span
 pub call_meets : (ds : List Decl) (main : Option ℕ) → IsWellFormed ds main → (fs : List TypedFunc) → IsElaborated ds fs → (id : ℕ) (args : List rules.Value) → IsCallable ds id args →
     (before between after : List Binding) (left : List Value) → HoldStorage ds (bindings_of before) → length left ≡ length before → between ≡ given before left → (xs : List Value) → xs ≡ taken before left → (steps : ℕ) (told told1 : Option (List ℕ)) (s1 : Places) → after ≡ given between s1.globals.items →
     (result : Result (Option Value) Stop) →
-    MeetsBare (option_map value_of) result (bare_of s1) (bare_meter s1 told1) (typed_run_of fs id args (map value_of xs) (starting steps told))
-        (cuts (typed_meaning fs most_open) (typed_cutting fs most_open) (typed_call_of fs id args (bare_resting (map value_of xs))) (starting steps told)) →
-    CallMeets result (bindings_of after) (bare_meter s1 told1) (run_of ds id args (bindings_of before) (starting steps told)) (GivenUp (text_of_run ds id args (bindings_of before) told) told told1 steps (steps - s1.steps))
+    Meets (option_map value_of) result (core_of s1) (meter_of s1 told1) (typed_run_of fs id args (map value_of xs) (starting steps told))
+    (cuts (typed_meaning fs most_open) (typed_cutting fs most_open) (typed_call_of fs id args (bare_resting (map value_of xs))) (starting steps told)) →
+    CallMeets result (bindings_of after) (meter_of s1 told1) (run_of ds id args (bindings_of before) (starting steps told)) (GivenUp (text_of_run ds id args (bindings_of before) told) told told1 steps (steps - s1.steps))
 call_meets ds main ok fs made id args call before between after left held room b xs t steps told told1 s1 a result met =
-    ends result (subst (λ (ys : List rules.Value). MeetsBare (option_map value_of) result (bare_of s1) h1 (typed_run_of fs id args ys (starting steps told)) (cuts (typed_meaning fs most_open) (typed_cutting fs most_open) (typed_call_of fs id args (bare_resting ys)) (starting steps told)))
+    ends result (subst (λ (ys : List rules.Value). Meets (option_map value_of) result (core_of s1) h1 (typed_run_of fs id args ys (starting steps told)) (cuts (typed_meaning fs most_open) (typed_cutting fs most_open) (typed_call_of fs id args (bare_resting ys)) (starting steps told)))
     (ap (map value_of) t ∙ taken_is before left room) met)
   where
     globals : List states.Binding
     globals = bindings_of before
+
     bare : BareCore
-    bare = bare_of s1
+    bare = core_of s1
+
     h1 : Meter
-    h1 = bare_meter s1 told1
+    h1 = meter_of s1 told1
+
     r : Outcome Core (Option rules.Value)
     r = run_of ds id args globals (starting steps told)
+
     over : List states.Binding
     over = with_values globals (map value_of left)
+
     kept : EndsIn (Kept over) r
     kept = kept_with globals (map value_of left) r (run_of_keeps ds id args globals (starting steps told))
+
     rests : AtRest r
     rests = run_of_rests ds id args globals (starting steps told)
+
     same : (h : Meter) → typed_run_of fs id args (values_of globals) h ≡ erased_outcome (run_of ds id args globals h)
     same h = same_run ds main ok fs made id args call globals held h
+
     globals_are : with_values over bare.globals ≡ bindings_of after
     globals_are = sym (ap bindings_of a ∙ ap (λ bs. bindings_of (given bs s1.globals.items)) b ∙ given_is (given before left) s1.globals.items ∙ ap (λ bs. with_values bs (map value_of s1.globals.items)) (given_is before left))
+
     ends : (result : Result (Option Value) Stop) →
-        MeetsBare (option_map value_of) result bare h1 (typed_run_of fs id args (values_of globals) (starting steps told)) (cuts (typed_meaning fs most_open) (typed_cutting fs most_open) (typed_call_of fs id args (bare_resting (values_of globals))) (starting steps told)) →
+        Meets (option_map value_of) result bare h1 (typed_run_of fs id args (values_of globals) (starting steps told)) (cuts (typed_meaning fs most_open) (typed_cutting fs most_open) (typed_call_of fs id args (bare_resting (values_of globals))) (starting steps told)) →
         CallMeets result (bindings_of after) h1 r (GivenUp (text_of_run ds id args globals told) told told1 steps (steps - s1.steps))
     ends (Ok x) e = done_same over r (option_map value_of x) bare h1 kept rests (sym (same (starting steps told)) ∙ e) ∙ ap (λ bs. Done (option_map value_of x) (resting bs) h1) globals_are
     ends (Err stop.NoMemory) w = gives_up_same ds fs id args globals steps told h1 same w

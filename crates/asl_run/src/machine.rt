@@ -8,10 +8,10 @@ ghost use Rattle.asl_run.specs.Meets.{Counts};
 ghost use Rattle.asl_run.specs.Stages.{Ends, CallMeets, is_ready, OnReady, OnEnded, OnRefused, answer_of, returned_by, uncaught_by, Counted};
 ghost use Rattle.asl_run.specs.Work.{Work, IsCallable, IsNew, HoldStorage, run_with, text_with, EndsWith};
 
+use crate::calls::run;
 use crate::globals::{exchange, initial_globals, room};
 use crate::places::Places;
 use crate::stop::Stop;
-use crate::typed_calls::run_typed;
 use asl_io::Sink;
 use asl_syn::code::DynCode;
 use asl_syn::token::Span;
@@ -277,7 +277,7 @@ fn run_trees<K: Sink>(
         steps: *steps,
         text_open: false,
     };
-    let answer = run_typed(alloc, checked.funcs(), &mut places, sink, sub, args);
+    let answer = run(alloc, checked.funcs(), &mut places, sink, sub, args);
     exchange(globals, &mut places.globals);
     *steps = places.steps;
     *text_open = places.text_open;
