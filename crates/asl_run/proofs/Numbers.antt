@@ -1,18 +1,17 @@
 -- Operations on integers give what the rules say.
-use Rattle.std.proofs.Common.{◌≡◌, ◌≢◌, ℕ, zero, suc, ◌^◌, ◌<◌, ◌==◌, Bool, true, false, cond, Ok, Err, refl, sym, ap, ◌∙◌, subst, arith, eq-eqb}
-use Rattle.std.specs.Prelude.{ℤ, pos, negsuc, ◌+ℤ◌, ◌-ℤ◌, ◌*ℤ◌, ◌≤ℤ◌, ◌<ℤ◌, neg_ℤ, nat_lt, Result}
+use Rattle.std.proofs.Common.{◌≡◌, ◌≢◌, ℕ, ◌<◌, ◌==◌, Bool, true, false, cond, Ok, Err, refl, sym, ap, ◌∙◌, arith}
+use Rattle.std.specs.Prelude.{ℤ, pos, negsuc, ◌-ℤ◌, ◌≤ℤ◌, neg_ℤ, nat_lt, Result}
 use Rattle.std.specs.Ordering.{int_eq}
 use Rattle.std.specs.Int.Signed.{lt_z}
-use Rattle.std.specs.Int.{int_pow}
 use Rattle.std.proofs.lemmas.Int.{ints}
 use Rattle.asl_syn.specs.declared.token.Span.{Span}
 use Rattle.asl_num.specs.declared.NumFault.{NumFault}
 use Rattle.asl_num.specs.declared.NumFault.TheVariants.{Overflow, Divisor, Inexact, Negative}
-use Rattle.asl_num.specs.Exact.{Fits, IsExact, floor_div, floor_mod, IsFloor, IsRemainder, IsQuotient, IsPower, IsShiftLeft, IsShiftRight}
-use Rattle.asl_syn.specs.declared.code.DynCode.TheVariants.{D01, D02, D03, D04}
+use Rattle.asl_num.specs.Exact.{Fits, IsExact, floor_div, floor_mod, IsQuotient}
+use Rattle.asl_syn.specs.declared.code.DynCode.TheVariants.{D01, D02, D03}
 use Rattle.asl_rules.specs.Values.{Value, int}
 use Rattle.asl_rules.specs.Plans.{Faulted, Pure, Good, Bad}
-use Rattle.asl_rules.specs.Operators.{in_range, less, same, integer_of, quotient, divided, raised}
+use Rattle.asl_rules.specs.Operators.{in_range, less, same, integer_of, quotient, divided}
 use Rattle.asl_rules.specs.Evaluation.{ranged}
 use Rattle.asl_run.specs.Numbers.{answer_of}
 

@@ -1,18 +1,16 @@
 -- Items, one by one.
-use Rattle.std.proofs.Common.{◌≡◌, ℕ, suc, ◌+◌, ◌<◌, ◌⊎◌, inl, inr, Bool, List, [], ◌∷◌, ◌++◌, length, get_or, drop, Option, refl, sym, ap, ◌∙◌, subst, arith}
+use Rattle.std.proofs.Common.{◌≡◌, ℕ, suc, ◌+◌, ◌<◌, inl, inr, List, [], ◌∷◌, ◌++◌, length, get_or, drop, Option, refl, sym, ap, ◌∙◌, subst, arith}
 use Rattle.std.proofs.Math.Seq.{drop-cons}
-use Rattle.asl_syn.specs.declared.token.Span.{Span}
-use Rattle.asl_syn.specs.declared.tree.Decl.{Decl}
 use Rattle.asl_syn.specs.declared.tree.PrintKind.{PrintKind}
-use Rattle.asl_syn.specs.declared.tree.PrintItem.{PrintItem}
-use Rattle.asl_syn.specs.declared.tree.PrintItem.TheVariants.{Verbatim}
-use Rattle.asl_rules.specs.States.{Core}
+use Rattle.asl_tree.specs.declared.typed.TypedFunc.{TypedFunc}
+use Rattle.asl_tree.specs.declared.typed.TypedItem.{TypedItem}
+use Rattle.asl_tree.specs.declared.typed.TypedItem.TheVariants.{Verbatim}
 use Rattle.asl_rules.specs.Values.{Exit}
 use Rattle.asl_rules.specs.Told.{appended, open_after, Part}
 use Rattle.asl_rules.specs.Plans.{Meter, Put, wrote}
 use Rattle.asl_rules.specs.Cuts.{cuts}
 use Rattle.asl_rules.specs.Strings.{string_text}
-use Rattle.asl_rules.specs.Evaluation.{Does, meaning, cutting, print_items}
+use Rattle.asl_tree.specs.TypedMeaning.{BareCore, DoesBare, typed_meaning, typed_cutting, print_items}
 use Rattle.asl_run.specs.Meets.{Left}
 
 append_nil : (xs : List ℕ) → xs ++ [] ≡ xs
@@ -23,22 +21,22 @@ append_nil (x ∷ xs) = ap (λ l. x ∷ l) (append_nil xs)
 whole_part : (t : Option (List ℕ)) (bytes : List ℕ) → Part t (appended t bytes) bytes
 whole_part t bytes = record { taken = bytes; rest = []; is = refl; whole = sym (append_nil bytes) }
 
-cuts_put : (ds : List Decl) (d : ℕ) (bytes : List ℕ) (q : Does Exit) (h u : Meter) → cuts (meaning ds d) (cutting ds d) q (wrote h bytes) u → cuts (meaning ds d) (cutting ds d) (Put bytes q) h u
-cuts_put ds d bytes q h u (inl e) = inr (inl (ap (λ k. k.steps) e, subst (λ k. Part h.told k.told bytes) (sym e) (whole_part h.told bytes)))
-cuts_put ds d bytes q h u (inr w) = inr (inr w)
+cuts_put : (fs : List TypedFunc) (d : ℕ) (bytes : List ℕ) (q : DoesBare Exit) (h u : Meter) → cuts (typed_meaning fs d) (typed_cutting fs d) q (wrote h bytes) u → cuts (typed_meaning fs d) (typed_cutting fs d) (Put bytes q) h u
+cuts_put fs d bytes q h u (inl e) = inr (inl (ap (λ k. k.steps) e, subst (λ k. Part h.told k.told bytes) (sym e) (whole_part h.told bytes)))
+cuts_put fs d bytes q h u (inr w) = inr (inr w)
 
 wrote_is : (h h1 : Meter) (bytes : List ℕ) → h1.steps ≡ h.steps → h1.told ≡ appended h.told bytes → h1.text_open ≡ open_after h.text_open bytes → wrote h bytes ≡ h1
 wrote_is h h1 bytes s t o = sym (
     ap (λ n. record h1 { steps = n }) s ∙ ap (λ x. record h1 { steps = h.steps; told = x }) t ∙ ap (λ b. record h1 { steps = h.steps; told = appended h.told bytes; text_open = b }) o)
 
 -- a string was written, and the items behind it are left
-pub string_written : (ds : List Decl) (d : ℕ) (kind : PrintKind) (items : List PrintItem) (k : ℕ) (item : PrintItem) (span : Span) (text bytes : List ℕ) (c : Core) (h h1 : Meter) (q0 : Does Exit) (h0 : Meter) →
-    k < length items → item ≡ get_or items k item → item ≡ Verbatim span text → bytes ≡ text → h1.steps ≡ h.steps → h1.told ≡ appended h.told (string_text bytes) → h1.text_open ≡ open_after h.text_open (string_text bytes) →
-    Left ds d (print_items kind (drop k items) c) h q0 h0 → Left ds d (print_items kind (drop (k + 1) items) c) h1 q0 h0
-string_written ds d kind items k item span text bytes c h h1 q0 h0 within here is same s t o l =
-    let q : Does Exit = print_items kind (drop (k + 1) items) c in
+pub string_written : (fs : List TypedFunc) (d : ℕ) (kind : PrintKind) (items : List TypedItem) (k : ℕ) (item : TypedItem) (text bytes : List ℕ) (c : BareCore) (h h1 : Meter) (q0 : DoesBare Exit) (h0 : Meter) →
+    k < length items → item ≡ get_or items k item → item ≡ Verbatim text → bytes ≡ text → h1.steps ≡ h.steps → h1.told ≡ appended h.told (string_text bytes) → h1.text_open ≡ open_after h.text_open (string_text bytes) →
+    Left fs d (print_items kind (drop k items) c) h q0 h0 → Left fs d (print_items kind (drop (k + 1) items) c) h1 q0 h0
+string_written fs d kind items k item text bytes c h h1 q0 h0 within here is same s t o l =
+    let q : DoesBare Exit = print_items kind (drop (k + 1) items) c in
     let up : suc k ≡ k + 1 = omega arith in
-    let front : drop k items ≡ Verbatim span bytes ∷ drop (k + 1) items = drop-cons items k item within ∙ ap (λ n. get_or items k item ∷ drop n items) up ∙ ap (λ i. i ∷ drop (k + 1) items) (sym here ∙ is ∙ ap (Verbatim span) (sym same)) in
-    let m : Left ds d (Put (string_text bytes) q) h q0 h0 = subst (λ is. Left ds d (print_items kind is c) h q0 h0) front l in
-    let r : Left ds d q (wrote h (string_text bytes)) q0 h0 = record { same = m.same; given_up = λ u w. m.given_up u (cuts_put ds d (string_text bytes) q h u w) } in
-    subst (λ k. Left ds d q k q0 h0) (wrote_is h h1 (string_text bytes) s t o) r
+    let front : drop k items ≡ Verbatim bytes ∷ drop (k + 1) items = drop-cons items k item within ∙ ap (λ n. get_or items k item ∷ drop n items) up ∙ ap (λ i. i ∷ drop (k + 1) items) (sym here ∙ is ∙ ap (Verbatim) (sym same)) in
+    let m : Left fs d (Put (string_text bytes) q) h q0 h0 = subst (λ is. Left fs d (print_items kind is c) h q0 h0) front l in
+    let r : Left fs d q (wrote h (string_text bytes)) q0 h0 = record { same = m.same; given_up = λ u w. m.given_up u (cuts_put fs d (string_text bytes) q h u w) } in
+    subst (λ k. Left fs d q k q0 h0) (wrote_is h h1 (string_text bytes) s t o) r

@@ -1,6 +1,6 @@
 -- What a call of a checked program can rely on.
 use mathlib.Core.HLevel.{⊥_prop}
-use Rattle.std.proofs.Common.{◌≡◌, ℕ, ◌-◌, true, List, Option, sym, ◌∙◌, subst}
+use Rattle.std.proofs.Common.{◌≡◌, ℕ, ◌-◌, inl, true, List, Option, refl, sym, ◌∙◌, subst}
 use Rattle.std.proofs.Math.Logic.{∥∥₁_elim, ∥∥₁_map, ∥∥₁_prop}
 use Rattle.asl_syn.specs.declared.token.Span.{Span}
 use Rattle.asl_syn.specs.declared.tree.Decl.{Decl}
@@ -11,9 +11,8 @@ use Rattle.asl_rules.specs.Values.{Value}
 use Rattle.asl_rules.specs.States.{Binding, Core}
 use Rattle.asl_rules.specs.Agreement.{GlobalsMatch}
 use Rattle.asl_rules.specs.Plans.{Meter, Mistake, Stuck, Outcome, Done, Halt, starting}
-use Rattle.asl_rules.specs.Cuts.{cuts}
-use Rattle.asl_rules.specs.Evaluation.{nodes, meaning, cutting, call_of, initial_globals}
-use Rattle.asl_rules.specs.Programs.{ProgramOk, globals_rule, library_names}
+use Rattle.asl_rules.specs.Evaluation.{nodes, call_of, initial_globals}
+use Rattle.asl_rules.specs.Programs.{ProgramOk}
 use Rattle.asl_rules.specs.Soundness.{NotStuck, KeepsGlobals, NamesOf, IsCall, Soundness}
 use Rattle.asl_rules.specs.Machines.{GivenUp, most_open, resting, run_of, text_of_run}
 use Rattle.asl_rules.proofs.Inversions.{ok_ok}
@@ -74,8 +73,7 @@ ready_held (stage.Refused r) P e h = cc
 pub storage_initial : (ds : List Decl) (main : Option ℕ) → IsWellFormed ds main → HoldStorage ds (initial_globals ds)
 storage_initial ds main ok = ∥∥₁_map ok (λ p. let s = soundness p.0 ds main p.1 in (s.0, s.1, s.2.initial))
 
--- where it was given up, the promise holds
-pub gives_up : (ds : List Decl) (id : ℕ) (args : List Value) (globals : List Binding) (steps : ℕ) (told : Option (List ℕ)) (u : Meter) → cuts (meaning ds most_open) (cutting ds most_open) (call_of ds id args (resting globals)) (starting steps told) u →
-    GivenUp (text_of_run ds id args globals told) told u.told steps (steps - u.steps)
+-- where it was given up before its first node, the promise holds
+pub not_begun : (ds : List Decl) (id : ℕ) (args : List Value) (globals : List Binding) (steps : ℕ) (told : Option (List ℕ)) → GivenUp (text_of_run ds id args globals told) told told steps (steps - steps)
 unfolding run_of
-gives_up ds id args globals steps told u w = given_up (nodes ds) most_open (call_of ds id args (resting globals)) (starting steps told) u (call_quiet ds id args (resting globals)) w
+not_begun ds id args globals steps told = given_up (nodes ds) most_open (call_of ds id args (resting globals)) (starting steps told) (starting steps told) (call_quiet ds id args (resting globals)) (inl refl)

@@ -1,25 +1,24 @@
 -- How the interpreter's answers are related to the rules.
 use Rattle.std.specs.Prelude.{◌≡◌, ◌≤◌, ℕ, Bool, List, ◌++◌, Option, Result, Ok, Err}
 use Rattle.asl_io.specs.Faults.{Rises}
-use Rattle.asl_syn.specs.declared.tree.Decl.{Decl}
-use Rattle.asl_syn.specs.declared.tree.Expr.{Expr}
-use Rattle.asl_syn.specs.declared.tree.Stmt.{Stmt}
-use Rattle.asl_rules.specs.States.{Binding, Core}
+use Rattle.asl_tree.specs.declared.typed.TypedExpr.{TypedExpr}
+use Rattle.asl_tree.specs.declared.typed.TypedFunc.{TypedFunc}
+use Rattle.asl_tree.specs.declared.typed.TypedStmt.{TypedStmt}
 use Rattle.asl_rules.specs.Plans.{Meter, Faulted, Stuck, Outcome, Done, Thrown, Halt, run, Pure, Good, Bad}
 use Rattle.asl_rules.specs.Cuts.{cuts}
-use Rattle.asl_rules.specs.Evaluation.{Does, meaning, cutting}
 use Rattle.asl_rules.specs.Told.{appended, open_after, Part}
+use Rattle.asl_tree.specs.TypedMeaning.{BareCore, DoesBare, typed_meaning, typed_cutting}
 use Rattle.asl_rules.specs.Values as rules
 use Rattle.asl_value.specs.declared.value.Value.{Value}
 use Rattle.asl_value.specs.View.{value_of}
+use Rattle.asl_run.specs.declared.places.Places.{Places}
 use Rattle.asl_run.specs.declared.stop.Exit.{Exit}
 use Rattle.asl_run.specs.declared.stop.Stop.{Stop}
 use Rattle.asl_run.specs.declared.stop.Stop.TheVariants as stop
-use Rattle.asl_run.specs.declared.store.Store.{Store}
 use Rattle.asl_run.specs.View.{exit_of, mistake_of, core_of, meter_of}
 
 -- an answer, with what stands after it, is what the rules give; or the run was given up at one of these meters
-abbrev pub Meets : {A B : Type 0} → (A → B) → Result A Stop → Core → Meter → Outcome Core B → (Meter → Type 0) → Type 0
+abbrev pub Meets : {A B : Type 0} → (A → B) → Result A Stop → BareCore → Meter → Outcome BareCore B → (Meter → Type 0) → Type 0
 Meets view (Ok x) c h r C = r ≡ Done (view x) c h
 Meets view (Err stop.NoMemory) c h r C = C h
 Meets view (Err stop.SinkFault) c h r C = C h
@@ -28,23 +27,23 @@ Meets view (Err (stop.Fault code span)) c h r C = r ≡ Halt (Faulted code span)
 Meets view (Err (stop.Stuck mistake span)) c h r C = r ≡ Halt (Stuck (mistake_of mistake) span) c h
 
 -- from one store and told text to another, an answer is that of a plan, where d nodes more may be open
-abbrev pub Runs : {A B : Type 0} → (A → B) → Result A Stop → List Decl → ℕ → (Core → Does B) → Store → Option (List ℕ) → Store → Option (List ℕ) → Type 0
-Runs view result ds d q s told s1 told1 =
-    Meets view result (core_of s1) (meter_of s1 told1) (run (meaning ds d) (q (core_of s)) (meter_of s told)) (cuts (meaning ds d) (cutting ds d) (q (core_of s)) (meter_of s told))
+abbrev pub Runs : {A B : Type 0} → (A → B) → Result A Stop → List TypedFunc → ℕ → (BareCore → DoesBare B) → Places → Option (List ℕ) → Places → Option (List ℕ) → Type 0
+Runs view result fs d q s told s1 told1 =
+    Meets view result (core_of s1) (meter_of s1 told1) (run (typed_meaning fs d) (q (core_of s)) (meter_of s told)) (cuts (typed_meaning fs d) (typed_cutting fs d) (q (core_of s)) (meter_of s told))
 
 -- that of an expression
-abbrev pub Evaluates : Result Value Stop → List Decl → ℕ → Expr → Store → Option (List ℕ) → Store → Option (List ℕ) → Type 0
-Evaluates result ds d e s told s1 told1 =
-    Meets value_of result (core_of s1) (meter_of s1 told1) ((meaning ds d).expr e (core_of s) (meter_of s told)) ((cutting ds d).expr e (core_of s) (meter_of s told))
+abbrev pub Evaluates : Result Value Stop → List TypedFunc → ℕ → TypedExpr → Places → Option (List ℕ) → Places → Option (List ℕ) → Type 0
+Evaluates result fs d e s told s1 told1 =
+    Meets value_of result (core_of s1) (meter_of s1 told1) ((typed_meaning fs d).expr e (core_of s) (meter_of s told)) ((typed_cutting fs d).expr e (core_of s) (meter_of s told))
 
 -- that of a statement
-abbrev pub Executes : Result Exit Stop → List Decl → ℕ → Stmt → Store → Option (List ℕ) → Store → Option (List ℕ) → Type 0
-Executes result ds d t s told s1 told1 =
-    Meets exit_of result (core_of s1) (meter_of s1 told1) ((meaning ds d).stmt t (core_of s) (meter_of s told)) ((cutting ds d).stmt t (core_of s) (meter_of s told))
+abbrev pub Executes : Result Exit Stop → List TypedFunc → ℕ → TypedStmt → Places → Option (List ℕ) → Places → Option (List ℕ) → Type 0
+Executes result fs d t s told s1 told1 =
+    Meets exit_of result (core_of s1) (meter_of s1 told1) ((typed_meaning fs d).stmt t (core_of s) (meter_of s told)) ((typed_cutting fs d).stmt t (core_of s) (meter_of s told))
 
 -- an answer is that of a plan which enters no node and writes nothing
-abbrev pub Acts : Result Exit Stop → (Core → Does rules.Exit) → Store → Store → Type 0
-Acts result q s s1 = (ds : List Decl) (d : ℕ) (told : Option (List ℕ)) → Runs exit_of result ds d q s told s1 told
+abbrev pub Acts : Result Exit Stop → (BareCore → DoesBare rules.Exit) → Places → Places → Type 0
+Acts result q s s1 = (fs : List TypedFunc) (d : ℕ) (told : Option (List ℕ)) → Runs exit_of result fs d q s told s1 told
 
 -- an operator's answer, or want of memory
 abbrev pub Is : {A B : Type 0} → (A → B) → Result A Stop → Pure B → Type 0
@@ -54,15 +53,6 @@ Is view (Err stop.SinkFault) r = ⊥
 Is view (Err (stop.Thrown x)) r = ⊥
 Is view (Err (stop.Fault code span)) r = r ≡ Bad (Faulted code span)
 Is view (Err (stop.Stuck mistake span)) r = r ≡ Bad (Stuck (mistake_of mistake) span)
-
--- an answer is that of a store among bindings, which are as they were where it isn't good
-abbrev pub Puts : Result (Unit {0}) Stop → List Binding → List Binding → Pure (List Binding) → Type 0
-Puts (Ok x) bs bs1 r = r ≡ Good bs1
-Puts (Err stop.NoMemory) bs bs1 r = ⊥
-Puts (Err stop.SinkFault) bs bs1 r = ⊥
-Puts (Err (stop.Thrown x)) bs bs1 r = ⊥
-Puts (Err (stop.Fault code span)) bs bs1 r = (r ≡ Bad (Faulted code span)) × (bs1 ≡ bs)
-Puts (Err (stop.Stuck mistake span)) bs bs1 r = (r ≡ Bad (Stuck (mistake_of mistake) span)) × (bs1 ≡ bs)
 
 -- bytes were written, or where the sink refused them some of them; from whether text is open, and told text, to the same
 abbrev pub Writes : Result (Unit {0}) Stop → List ℕ → Bool → Option (List ℕ) → Bool → Option (List ℕ) → Type 0
@@ -90,9 +80,9 @@ Counts (Err (stop.Fault code span)) before after = after ≡ before
 Counts (Err (stop.Stuck mistake span)) before after = after ≡ before
 
 -- what is left to do has the result of what there was to do at first, and is given up where that may be
-pub record Left {A : Type 0} (ds : List Decl) (d : ℕ) (q : Does A) (h : Meter) (q0 : Does A) (h0 : Meter) : Type 0 where
-  pub same : run (meaning ds d) q h ≡ run (meaning ds d) q0 h0
-  pub given_up : (u : Meter) → cuts (meaning ds d) (cutting ds d) q h u → cuts (meaning ds d) (cutting ds d) q0 h0 u
+pub record Left {A : Type 0} (fs : List TypedFunc) (d : ℕ) (q : DoesBare A) (h : Meter) (q0 : DoesBare A) (h0 : Meter) : Type 0 where
+  pub same : run (typed_meaning fs d) q h ≡ run (typed_meaning fs d) q0 h0
+  pub given_up : (u : Meter) → cuts (typed_meaning fs d) (typed_cutting fs d) q h u → cuts (typed_meaning fs d) (typed_cutting fs d) q0 h0 u
 
 -- no write was refused
 abbrev pub NoneRefused : {A : Type 0} → Result A Stop → Type 0

@@ -10,6 +10,8 @@ use Rattle.asl_rules.specs.Values as rules
 use Rattle.asl_rules.specs.Machines.{resting}
 use Rattle.asl_value.specs.View.{value_of}
 use Rattle.asl_value.specs.declared.value.Value.{Value}
+use Rattle.asl_run.specs.declared.stop.Stop.{Stop}
+use Rattle.asl_run.specs.declared.stop.Stop.TheVariants as stop
 use Rattle.asl_run.specs.declared.machine.Outcome.{Outcome}
 use Rattle.asl_run.specs.declared.machine.Outcome.TheVariants as outcome
 use Rattle.asl_run.specs.declared.machine.RunRefused.{RunRefused}
@@ -73,6 +75,16 @@ Ends (stage.Ready x) globals h r = r ≡ Done (option_map value_of x) (resting g
 Ends (stage.Uncaught x) globals h r = r ≡ Thrown (value_of x) (resting globals) h
 Ends (stage.Fault code span) globals h r = Halted globals h r code span
 Ends (stage.Refused e) globals h r = Unit {0}
+
+-- an answer of a call, with the globals and the meter after it, is what the rules give; or the run was given up, and P is
+-- promised
+abbrev pub CallMeets : Result (Option Value) Stop → List Binding → Meter → plans.Outcome Core (Option rules.Value) → Type 0 → Type 0
+CallMeets (Ok x) globals h r P = r ≡ Done (option_map value_of x) (resting globals) h
+CallMeets (Err stop.NoMemory) globals h r P = P
+CallMeets (Err stop.SinkFault) globals h r P = P
+CallMeets (Err (stop.Thrown x)) globals h r P = r ≡ Thrown (value_of x) (resting globals) h
+CallMeets (Err (stop.Fault code span)) globals h r P = Halted globals h r code span
+CallMeets (Err (stop.Stuck mistake span)) globals h r P = ⊥
 
 -- the sink's count of faults rose where it refused a write, and is as it was elsewhere
 abbrev pub Counted : Stage → ℕ → ℕ → Type 0

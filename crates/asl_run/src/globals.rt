@@ -1,15 +1,19 @@
-//! The globals before the first call.
-ghost use Rattle.std.specs.Prelude.{◌≡◌, ◌-ℤ◌, pos, IfOk, option_map};
+//! The globals before the first call, and their values in a call.
+ghost use Rattle.std.specs.Prelude.{◌≡◌, ◌-ℤ◌, pos, IfOk, length, option_map};
 ghost use Rattle.asl_syn.specs.declared.tree.Expr.{out-Expr};
 ghost use Rattle.asl_rules.specs.Evaluation as rules;
 ghost use Rattle.asl_rules.specs.Programs.{is_var};
 ghost use Rattle.asl_value.specs.View.{value_of, ty_of, binding_of, bindings_of};
+ghost use Rattle.asl_run.specs.Globals.{given, taken};
 
 use crate::types::{stored_under, written};
 use asl_syn::tree::{Decl, Expr, StorageDecl, StorageKind, TypeExpr};
 use asl_value::{Binding, Ty, Value, initial};
 use sqlite_items::Items;
 use std::alloc::{AllocError, Global};
+use std::mem;
+
+// ---- before the first call
 
 fn is_var(kind: StorageKind) -> bool
     ensures { result ≡ is_var kind }
@@ -111,4 +115,33 @@ pub fn initial_globals(alloc: Global, decls: &[Decl]) -> Result<Vec<Binding>, Al
         }
     }
     Ok(globals)
+}
+
+// ---- in a call
+
+/// So many values, for others to take their places.
+pub fn room(alloc: Global, count: usize) -> Result<Vec<Value>, AllocError>
+    ensures { IfOk result (λ values. length values.items ≡ count) }
+{
+    let mut values = Vec::new(alloc);
+    let mut left = count;
+    while left > 0 {
+        values.push(Value::Bool(false))?;
+        left -= 1;
+    }
+    Ok(values)
+}
+
+/// The globals take these values in order, and theirs stand in the places of these.
+#[tactic(auto, using(crate::proofs::Exchange::given_all, crate::proofs::Exchange::taken_all))]
+pub fn exchange(globals: &mut Vec<Binding>, values: &mut Vec<Value>)
+    ensures globals { globals.new.items ≡ given globals.old.items values.old.items }
+    ensures values { values.new.items ≡ taken globals.old.items values.old.items }
+{
+    let mut i = 0;
+    while i < globals.len() && i < values.len() {
+        let global = &mut globals[i];
+        mem::swap(&mut global.value, &mut values[i]);
+        i += 1;
+    }
 }

@@ -1,29 +1,24 @@
 //! A machine that runs a checked program.
-ghost use Rattle.std.specs.Prelude.{◌≡◌, ◌≤◌, ◌-◌, ℕ, List, [], false, None, OnErr, IfOk, map, option_map};
+ghost use Rattle.std.specs.Prelude.{◌≡◌, ◌≤◌, ◌-◌, ℕ, List, [], false, None, OnErr, OnOk, IfOk, map, option_map};
 ghost use Rattle.std.specs.Option.{option_copied};
-ghost use Rattle.asl_rules.specs.Cuts.{cuts};
-ghost use Rattle.asl_rules.specs.Evaluation.{meaning, cutting, call_of};
-ghost use Rattle.asl_rules.specs.Machines.{GivenUp, most_open, resting, run_of, text_of_run};
+ghost use Rattle.asl_rules.specs.Machines.{GivenUp, run_of, text_of_run};
 ghost use Rattle.asl_rules.specs.Plans.{starting};
 ghost use Rattle.asl_value.specs.View.{value_of, bindings_of};
-ghost use Rattle.asl_run.specs.Meets.{Meets, Counts};
-ghost use Rattle.asl_run.specs.View.{core_of, meter_of};
-ghost use Rattle.asl_run.specs.Stages.{Ends, is_ready, OnReady, OnEnded, OnRefused, answer_of, returned_by, uncaught_by, Counted};
+ghost use Rattle.asl_run.specs.Meets.{Counts};
+ghost use Rattle.asl_run.specs.Stages.{Ends, CallMeets, is_ready, OnReady, OnEnded, OnRefused, answer_of, returned_by, uncaught_by, Counted};
 ghost use Rattle.asl_run.specs.Work.{Work, IsCallable, IsNew, HoldStorage, run_with, text_with, EndsWith};
 
-use crate::calls;
-use crate::globals::initial_globals;
+use crate::calls::run;
+use crate::globals::{exchange, initial_globals, room};
+use crate::places::Places;
 use crate::stop::Stop;
-use crate::store::Store;
 use asl_io::Sink;
 use asl_syn::code::DynCode;
 use asl_syn::token::Span;
-use asl_syn::tree::Decl;
 use asl_tree::{Checked, SubId};
 use asl_value::{Binding, Value};
 use std::alloc::{AllocError, Global};
 use std::marker::Model;
-use std::mem;
 
 /// A global variable: its name and value, and the type that the value is stored under.
 pub type GlobalVar = Binding;
@@ -127,24 +122,16 @@ impl Machine {
         if !is_ready(&self.stage) {
             return answer(&self.stage);
         }
-        let mut store = Store {
-            globals: mem::replace(&mut self.globals, Vec::new(alloc)),
-            frame: Vec::new(alloc),
-            live: Vec::new(alloc),
-            steps: self.steps,
-            text_open: false,
-        };
-        self.stage = run_checked(alloc, &self.checked, &mut store, sink, sub, args);
-        let Store {
-            globals,
-            frame: _,
-            live: _,
-            steps,
-            text_open,
-        } = store;
-        self.globals = globals;
-        self.steps = steps;
-        self.text_open = text_open;
+        self.stage = run_checked(
+            alloc,
+            &self.checked,
+            &mut self.globals,
+            &mut self.steps,
+            &mut self.text_open,
+            sink,
+            sub,
+            args,
+        );
         answer(&self.stage)
     }
 
@@ -216,37 +203,35 @@ fn answer(stage: &Stage) -> Result<Outcome, RunRefused>
     }
 }
 
-/// One call of a checked program, on a store between two calls.
-#[tactic(auto, unfolding(asl_rules::specs::Machines::run_of))]
+/// One call of a checked program, over its globals between two calls.
 fn run_checked<K: Sink>(
     alloc: Global,
     checked: &Checked,
-    store: &mut Store,
+    globals: &mut Vec<GlobalVar>,
+    steps: &mut u64,
+    text_open: &mut bool,
     sink: &mut K,
     sub: SubId,
     args: Vec<Value>,
 ) -> Stage
-    requires frame { store.old.frame.items ≡ [] }
-    requires live { store.old.live.items ≡ [] }
-    requires text { store.old.text_open ≡ false }
     requires callable { IsCallable checked.now.decls sub (map value_of args.items) }
-    requires storage { HoldStorage checked.now.decls (bindings_of store.old.globals.items) }
+    requires storage { HoldStorage checked.now.decls (bindings_of globals.old.items) }
     ensures outcome { Ends result
-        (bindings_of store.new.globals.items) (meter_of store.new (K.written sink.new))
-        (run_of checked.now.decls sub (map value_of args.items) (bindings_of store.old.globals.items)
-        (starting store.old.steps (K.written sink.old))) }
+        (bindings_of globals.new.items)
+        (record { steps = steps.new; told = K.written sink.new; text_open = text_open.new })
+        (run_of checked.now.decls sub (map value_of args.items) (bindings_of globals.old.items)
+        (starting steps.old (K.written sink.old))) }
     ensures given_up { OnRefused result
         (GivenUp (text_of_run checked.now.decls sub (map value_of args.items)
-        (bindings_of store.old.globals.items) (K.written sink.old))
+        (bindings_of globals.old.items) (K.written sink.old))
         (K.written sink.old) (K.written sink.new)
-        store.old.steps (store.old.steps - store.new.steps)) }
+        steps.old (steps.old - steps.new)) }
     ensures storage { OnReady result
-        (HoldStorage checked.now.decls (bindings_of store.new.globals.items)) }
+        (HoldStorage checked.now.decls (bindings_of globals.new.items)) }
     ensures counts { Counted result (K.faults sink.old) (K.faults sink.new) }
     ensures same_full { K.full sink.new ≡ K.full sink.old }
 {
-    let decls = checked.program().decls.as_slice();
-    match run_decls(alloc, decls, store, sink, sub, args) {
+    match run_trees(alloc, checked, globals, steps, text_open, sink, sub, args) {
         Ok(x) => Stage::Ready(x),
         Err(Stop::Thrown(x)) => Stage::Uncaught(x),
         Err(Stop::Fault(code, span)) => Stage::Fault(code, span),
@@ -256,35 +241,45 @@ fn run_checked<K: Sink>(
     }
 }
 
-/// One call, on a store between two calls.
-#[tactic(auto, unfolding(asl_rules::specs::Machines::run_of))]
-fn run_decls<K: Sink>(
+/// One call, on the values of the globals: their names and types stay where they are meanwhile.
+fn run_trees<K: Sink>(
     alloc: Global,
-    decls: &[Decl],
-    store: &mut Store,
+    checked: &Checked,
+    globals: &mut Vec<GlobalVar>,
+    steps: &mut u64,
+    text_open: &mut bool,
     sink: &mut K,
     sub: SubId,
     args: Vec<Value>,
 ) -> Result<Option<Value>, Stop>
-    requires frame { store.old.frame.items ≡ [] }
-    requires live { store.old.live.items ≡ [] }
-    requires text { store.old.text_open ≡ false }
-    ensures meets { Meets (option_map value_of) result
-        (core_of store.new) (meter_of store.new (K.written sink.new))
-        (run_of decls.now sub (map value_of args.items) (bindings_of store.old.globals.items)
-        (starting store.old.steps (K.written sink.old)))
-        (cuts (meaning decls.now most_open) (cutting decls.now most_open)
-        (call_of decls.now sub (map value_of args.items) (resting (bindings_of store.old.globals.items)))
-        (starting store.old.steps (K.written sink.old))) }
+    requires callable { IsCallable checked.now.decls sub (map value_of args.items) }
+    requires storage { HoldStorage checked.now.decls (bindings_of globals.old.items) }
+    ensures meets { CallMeets result
+        (bindings_of globals.new.items)
+        (record { steps = steps.new; told = K.written sink.new; text_open = text_open.new })
+        (run_of checked.now.decls sub (map value_of args.items) (bindings_of globals.old.items)
+        (starting steps.old (K.written sink.old)))
+        (GivenUp (text_of_run checked.now.decls sub (map value_of args.items)
+        (bindings_of globals.old.items) (K.written sink.old))
+        (K.written sink.old) (K.written sink.new)
+        steps.old (steps.old - steps.new)) }
+    ensures storage { OnOk result
+        (HoldStorage checked.now.decls (bindings_of globals.new.items)) }
     ensures counts { Counts result (K.faults sink.old) (K.faults sink.new) }
     ensures same_full { K.full sink.new ≡ K.full sink.old }
 {
-    calls::call(alloc, decls, store, sink, open_limit(), sub, args)
-}
-
-#[tactic(auto, unfolding(asl_rules::specs::Machines::most_open))]
-fn open_limit() -> u32
-    ensures { result ≡ most_open }
-{
-    2000
+    let mut values = room(alloc, globals.len())?;
+    exchange(globals, &mut values);
+    let mut places = Places {
+        globals: values,
+        frame: Vec::new(alloc),
+        live: Vec::new(alloc),
+        steps: *steps,
+        text_open: false,
+    };
+    let answer = run(alloc, checked.funcs(), &mut places, sink, sub, args);
+    exchange(globals, &mut places.globals);
+    *steps = places.steps;
+    *text_open = places.text_open;
+    answer
 }

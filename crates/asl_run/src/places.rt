@@ -1,4 +1,4 @@
-//! What a run of typed trees works on, and its places.
+//! What a run works on, and its places.
 ghost use Rattle.std.specs.Prelude.{◌≡◌, OnOk, option_map};
 ghost use Rattle.std.specs.Option.{option_copied};
 ghost use Rattle.asl_rules.specs.Evaluation.{known};
@@ -6,8 +6,8 @@ ghost use Rattle.asl_rules.specs.Plans.{Ret, lift};
 ghost use Rattle.asl_tree.specs.TypedMeaning as rules;
 ghost use Rattle.asl_rules.specs.Values.{Normal};
 ghost use Rattle.asl_value.specs.View.{value_of};
-ghost use Rattle.asl_run.specs.Meets.{Is, NoneRefused};
-ghost use Rattle.asl_run.specs.TypedMeets.{bare_of, ActsBare};
+ghost use Rattle.asl_run.specs.Meets.{Acts, Is, NoneRefused};
+ghost use Rattle.asl_run.specs.View.{core_of};
 
 use crate::stop::{Exit, Mistake, Stop};
 use asl_tree::typed::{Slot, Ty};
@@ -36,7 +36,7 @@ pub struct Places {
 /// The value in a place.
 #[tactic(auto, using(crate::proofs::Slots::value_at_place))]
 fn value_at(places: &Places, slot: Slot) -> Option<&Value>
-    ensures { option_map value_of (option_copied result) ≡ rules.value_at slot (bare_of places.now) }
+    ensures { option_map value_of (option_copied result) ≡ rules.value_at slot (core_of places.now) }
 {
     match slot {
         Slot::Local(i) => places.frame.get(i),
@@ -46,7 +46,7 @@ fn value_at(places: &Places, slot: Slot) -> Option<&Value>
 
 /// A copy of the value in a place.
 pub fn read(alloc: Global, places: &Places, span: Span, slot: Slot) -> Result<Value, Stop>
-    ensures { Is value_of result (known span (rules.value_at slot (bare_of places.now))) }
+    ensures { Is value_of result (known span (rules.value_at slot (core_of places.now))) }
 {
     match value_at(places, slot) {
         Some(value) => Ok(copy(alloc, value)?),
@@ -59,7 +59,7 @@ pub fn read(alloc: Global, places: &Places, span: Span, slot: Slot) -> Result<Va
 /// A store in a place.
 #[tactic(auto, using(crate::proofs::Slots::set_within, crate::proofs::Slots::set_beyond))]
 pub fn assign(places: &mut Places, span: Span, slot: Slot, value: Value) -> Result<Exit, Stop>
-    ensures acts { ActsBare result
+    ensures acts { Acts result
         (λ c. lift (rules.put span slot (value_of value) c) c (λ c1. Ret Normal c1))
         places.old places.new }
     ensures none_refused { NoneRefused result }
@@ -85,7 +85,7 @@ pub fn assign(places: &mut Places, span: Span, slot: Slot, value: Value) -> Resu
 
 /// The next place of the frame takes a value.
 pub fn push(places: &mut Places, value: Value) -> Result<(), AllocError>
-    ensures ok { OnOk result (bare_of places.new ≡ rules.pushed (value_of value) (bare_of places.old)) }
+    ensures ok { OnOk result (core_of places.new ≡ rules.pushed (value_of value) (core_of places.old)) }
     ensures steps { places.new.steps ≡ places.old.steps }
     ensures text_open { places.new.text_open ≡ places.old.text_open }
 {
@@ -107,7 +107,7 @@ fn first(ty: Ty) -> Value
 #[tactic(auto, using(crate::proofs::Slots::pushed_more, crate::proofs::Slots::pushed_none))]
 fn push_first(places: &mut Places, count: usize, ty: Ty) -> Result<(), AllocError>
     ensures ok { OnOk result
-        (bare_of places.new ≡ rules.pushed_times count (rules.first_value ty) (bare_of places.old)) }
+        (core_of places.new ≡ rules.pushed_times count (rules.first_value ty) (core_of places.old)) }
     ensures steps { places.new.steps ≡ places.old.steps }
     ensures text_open { places.new.text_open ≡ places.old.text_open }
 {
@@ -121,7 +121,7 @@ fn push_first(places: &mut Places, count: usize, ty: Ty) -> Result<(), AllocErro
 
 /// Declares so many places with the first value of a type.
 pub fn declare_first(places: &mut Places, count: usize, ty: Ty) -> Result<Exit, Stop>
-    ensures acts { ActsBare result
+    ensures acts { Acts result
         (λ c. Ret Normal (rules.pushed_times count (rules.first_value ty) c))
         places.old places.new }
     ensures none_refused { NoneRefused result }

@@ -1,86 +1,92 @@
-//! Statements: each function does what the rules say of a node, or of statements in order. Its answer is `Stuck`
-//! exactly where they give no outcome.
+//! Statements: each function does what the rules say of a node, or of statements in order. Its answer is `Stuck` exactly
+//! where they give no outcome.
 ghost use Rattle.std.specs.Prelude.{◌≡◌};
-ghost use Rattle.asl_syn.specs.declared.tree.Stmt.{out-Stmt};
-ghost use Rattle.asl_syn.specs.declared.tree.Target.{out-Target};
+ghost use Rattle.asl_tree.specs.declared.typed.TypedStmt.{out-TypedStmt};
 ghost use Rattle.asl_rules.specs.Plans.{Eval, Ret, lift};
 ghost use Rattle.asl_rules.specs.Values.{Normal, Returned};
 ghost use Rattle.asl_rules.specs.Operators as operators;
-ghost use Rattle.asl_rules.specs.Stmts.{is_var};
-ghost use Rattle.asl_rules.specs.Evaluation as rules;
+ghost use Rattle.asl_tree.specs.TypedMeaning as rules;
 ghost use Rattle.asl_run.specs.View.{exit_of};
-ghost use Rattle.asl_run.specs.Meets.{Runs, Executes, Counts};
+ghost use Rattle.asl_run.specs.Meets.{Counts, Runs, Executes};
 
 use crate::exprs::eval;
-use crate::names::{assign, bind, declare_vars};
 use crate::operators::truth;
 use crate::output::{put, put_string, put_value};
-use crate::stop::{Exit, Mistake, Stop};
-use crate::store::Store;
+use crate::places::{Places, assign, declare_first, push};
+use crate::stop::{Exit, Stop};
 use asl_io::Sink;
+use asl_tree::typed::{Slot, TypedBranch, TypedExpr, TypedFunc, TypedItem, TypedStmt};
 use asl_syn::code::DynCode;
-use asl_syn::span;
 use asl_syn::token::Span;
-use asl_syn::tree::{
-    Bind, Decl, ElseIf, Expr, LocalKind, PrintItem, PrintKind, Stmt, Target, TypeExpr,
-};
+use asl_syn::tree::PrintKind;
 use std::alloc::Global;
+
+fn stmt_span(s: &TypedStmt) -> Span
+    ensures { result ≡ rules.typed_stmt_layer_span (out-TypedStmt s.now) }
+{
+    match s {
+        TypedStmt::Pass(span) => *span,
+        TypedStmt::Assert(span, _) => *span,
+        TypedStmt::Declare(span, _) => *span,
+        TypedStmt::DeclareFirst(span, _, _) => *span,
+        TypedStmt::Assign(span, _, _) => *span,
+        TypedStmt::If(span, _, _, _, _) => *span,
+        TypedStmt::Return(span, _) => *span,
+        TypedStmt::Print(span, _, _) => *span,
+    }
+}
 
 /// Runs a statement, where `depth` nodes more may be open.
 #[cycle(exec)]
 pub fn exec<K: Sink>(
     alloc: Global,
-    decls: &[Decl],
-    store: &mut Store,
+    funcs: &[TypedFunc],
+    places: &mut Places,
     sink: &mut K,
     depth: u32,
-    s: &Stmt,
+    s: &TypedStmt,
 ) -> Result<Exit, Stop>
-    ensures meets { Executes result decls.now depth s.now
-        store.old (K.written sink.old) store.new (K.written sink.new) }
+    ensures meets { Executes result funcs.now depth s.now
+        places.old (K.written sink.old) places.new (K.written sink.new) }
     ensures counts { Counts result (K.faults sink.old) (K.faults sink.new) }
     ensures same_full { K.full sink.new ≡ K.full sink.old }
 {
-    if store.steps == 0 {
-        return Err(Stop::Fault(DynCode::D13, span::of_stmt(s)));
+    if places.steps == 0 {
+        return Err(Stop::Fault(DynCode::D13, stmt_span(s)));
     }
     if depth == 0 {
-        return Err(Stop::Fault(DynCode::D12, span::of_stmt(s)));
+        return Err(Stop::Fault(DynCode::D12, stmt_span(s)));
     }
-    store.steps -= 1;
-    exec_node(alloc, decls, store, sink, depth - 1, s)
+    places.steps -= 1;
+    exec_node(alloc, funcs, places, sink, depth - 1, s)
 }
 
 #[cycle(exec)]
 fn exec_node<K: Sink>(
     alloc: Global,
-    decls: &[Decl],
-    store: &mut Store,
+    funcs: &[TypedFunc],
+    places: &mut Places,
     sink: &mut K,
     depth: u32,
-    s: &Stmt,
+    s: &TypedStmt,
 ) -> Result<Exit, Stop>
-    ensures meets { Runs exit_of result decls.now depth (rules.stmt_node decls.now (out-Stmt s.now))
-        store.old (K.written sink.old) store.new (K.written sink.new) }
+    ensures meets { Runs exit_of result funcs.now depth (rules.typed_stmt_node funcs.now (out-TypedStmt s.now))
+        places.old (K.written sink.old) places.new (K.written sink.new) }
     ensures counts { Counts result (K.faults sink.old) (K.faults sink.new) }
     ensures same_full { K.full sink.new ≡ K.full sink.old }
 {
     match s {
-        Stmt::Pass(_) => Ok(Exit::Normal),
-        Stmt::Assert(span, e) => exec_assert(alloc, decls, store, sink, depth, *span, e),
-        Stmt::Local(span, kind, names, t, e) => exec_local(
-            alloc, decls, store, sink, depth, *span, *kind, names, t, e,
-        ),
-        Stmt::LocalVars(span, names, t) => {
-            declare_vars(alloc, store, *span, names.as_slice(), t)
+        TypedStmt::Pass(_) => Ok(Exit::Normal),
+        TypedStmt::Assert(span, e) => exec_assert(alloc, funcs, places, sink, depth, *span, e),
+        TypedStmt::Declare(_, e) => exec_declare(alloc, funcs, places, sink, depth, e),
+        TypedStmt::DeclareFirst(_, count, ty) => declare_first(places, *count, *ty),
+        TypedStmt::Assign(span, slot, e) => {
+            exec_assign(alloc, funcs, places, sink, depth, *span, *slot, e)
         }
-        Stmt::Assign(span, target, e) => {
-            exec_assign(alloc, decls, store, sink, depth, *span, target, e)
-        }
-        Stmt::If(span, e, first, others, last) => exec_if(
+        TypedStmt::If(span, e, first, others, last) => exec_if(
             alloc,
-            decls,
-            store,
+            funcs,
+            places,
             sink,
             depth,
             *span,
@@ -89,31 +95,30 @@ fn exec_node<K: Sink>(
             others.as_slice(),
             last.as_slice(),
         ),
-        Stmt::Return(_, None) => Ok(Exit::Returned(None)),
-        Stmt::Return(_, Some(e)) => exec_return(alloc, decls, store, sink, depth, e),
-        Stmt::Print(_, kind, items) => {
-            print(alloc, decls, store, sink, depth, *kind, items.as_slice())
+        TypedStmt::Return(_, None) => Ok(Exit::Returned(None)),
+        TypedStmt::Return(_, Some(e)) => exec_return(alloc, funcs, places, sink, depth, e),
+        TypedStmt::Print(_, kind, items) => {
+            print(alloc, funcs, places, sink, depth, *kind, items.as_slice())
         }
-        _ => Err(Stop::Stuck(Mistake::UnservedForm, span::of_stmt(s))),
     }
 }
 
 fn exec_assert<K: Sink>(
     alloc: Global,
-    decls: &[Decl],
-    store: &mut Store,
+    funcs: &[TypedFunc],
+    places: &mut Places,
     sink: &mut K,
     depth: u32,
     span: Span,
-    e: &Expr,
+    e: &TypedExpr,
 ) -> Result<Exit, Stop>
-    ensures meets { Runs exit_of result decls.now depth
+    ensures meets { Runs exit_of result funcs.now depth
         (λ c. Eval e.now c (λ x c1. lift (operators.truth span x) c1 (λ b. rules.asserted span b c1)))
-        store.old (K.written sink.old) store.new (K.written sink.new) }
+        places.old (K.written sink.old) places.new (K.written sink.new) }
     ensures counts { Counts result (K.faults sink.old) (K.faults sink.new) }
     ensures same_full { K.full sink.new ≡ K.full sink.old }
 {
-    let x = eval(alloc, decls, store, sink, depth, e)?;
+    let x = eval(alloc, funcs, places, sink, depth, e)?;
     if truth(span, &x)? {
         Ok(Exit::Normal)
     } else {
@@ -121,105 +126,91 @@ fn exec_assert<K: Sink>(
     }
 }
 
-fn exec_local<K: Sink>(
+fn exec_declare<K: Sink>(
     alloc: Global,
-    decls: &[Decl],
-    store: &mut Store,
+    funcs: &[TypedFunc],
+    places: &mut Places,
     sink: &mut K,
     depth: u32,
-    span: Span,
-    kind: LocalKind,
-    names: &Bind,
-    t: &Option<TypeExpr>,
-    e: &Expr,
+    e: &TypedExpr,
 ) -> Result<Exit, Stop>
-    ensures meets { Runs exit_of result decls.now depth
-        (λ c. Eval e.now c (λ x c1. rules.bound_to span names.now (is_var kind) t.now x c1))
-        store.old (K.written sink.old) store.new (K.written sink.new) }
+    ensures meets { Runs exit_of result funcs.now depth
+        (λ c. Eval e.now c (λ x c1. Ret Normal (rules.pushed x c1)))
+        places.old (K.written sink.old) places.new (K.written sink.new) }
     ensures counts { Counts result (K.faults sink.old) (K.faults sink.new) }
     ensures same_full { K.full sink.new ≡ K.full sink.old }
 {
-    let x = eval(alloc, decls, store, sink, depth, e)?;
-    bind(alloc, store, span, names, can_change(kind), t, x)
-}
-
-/// Whether a local name can be assigned.
-fn can_change(kind: LocalKind) -> bool
-    ensures { result ≡ is_var kind }
-{
-    match kind {
-        LocalKind::Let => false,
-        LocalKind::Var => true,
-    }
+    let x = eval(alloc, funcs, places, sink, depth, e)?;
+    push(places, x)?;
+    Ok(Exit::Normal)
 }
 
 fn exec_assign<K: Sink>(
     alloc: Global,
-    decls: &[Decl],
-    store: &mut Store,
+    funcs: &[TypedFunc],
+    places: &mut Places,
     sink: &mut K,
     depth: u32,
     span: Span,
-    target: &Target,
-    e: &Expr,
+    slot: Slot,
+    e: &TypedExpr,
 ) -> Result<Exit, Stop>
-    ensures meets { Runs exit_of result decls.now depth
-        (λ c. Eval e.now c (λ x c1.
-        lift (rules.store_target span (out-Target target.now) x c1) c1 (λ c2. Ret Normal c2)))
-        store.old (K.written sink.old) store.new (K.written sink.new) }
+    ensures meets { Runs exit_of result funcs.now depth
+        (λ c. Eval e.now c (λ x c1. lift (rules.put span slot x c1) c1 (λ c2. Ret Normal c2)))
+        places.old (K.written sink.old) places.new (K.written sink.new) }
     ensures counts { Counts result (K.faults sink.old) (K.faults sink.new) }
     ensures same_full { K.full sink.new ≡ K.full sink.old }
 {
-    let x = eval(alloc, decls, store, sink, depth, e)?;
-    assign(store, span, target, x)
+    let x = eval(alloc, funcs, places, sink, depth, e)?;
+    assign(places, span, slot, x)
 }
 
 fn exec_return<K: Sink>(
     alloc: Global,
-    decls: &[Decl],
-    store: &mut Store,
+    funcs: &[TypedFunc],
+    places: &mut Places,
     sink: &mut K,
     depth: u32,
-    e: &Expr,
+    e: &TypedExpr,
 ) -> Result<Exit, Stop>
-    ensures meets { Runs exit_of result decls.now depth (λ c. Eval e.now c (λ x c1. Ret (Returned (Some x)) c1))
-        store.old (K.written sink.old) store.new (K.written sink.new) }
+    ensures meets { Runs exit_of result funcs.now depth (λ c. Eval e.now c (λ x c1. Ret (Returned (Some x)) c1))
+        places.old (K.written sink.old) places.new (K.written sink.new) }
     ensures counts { Counts result (K.faults sink.old) (K.faults sink.new) }
     ensures same_full { K.full sink.new ≡ K.full sink.old }
 {
-    let x = eval(alloc, decls, store, sink, depth, e)?;
+    let x = eval(alloc, funcs, places, sink, depth, e)?;
     Ok(Exit::Returned(Some(x)))
 }
 
 /// Items, each written when it is evaluated, and the end of the line where it is asked for.
 fn print<K: Sink>(
     alloc: Global,
-    decls: &[Decl],
-    store: &mut Store,
+    funcs: &[TypedFunc],
+    places: &mut Places,
     sink: &mut K,
     depth: u32,
     kind: PrintKind,
-    items: &[PrintItem],
+    items: &[TypedItem],
 ) -> Result<Exit, Stop>
-    ensures meets { Runs exit_of result decls.now depth (rules.print_items kind items.now)
-        store.old (K.written sink.old) store.new (K.written sink.new) }
+    ensures meets { Runs exit_of result funcs.now depth (rules.print_items kind items.now)
+        places.old (K.written sink.old) places.new (K.written sink.new) }
     ensures counts { Counts result (K.faults sink.old) (K.faults sink.new) }
     ensures same_full { K.full sink.new ≡ K.full sink.old }
 {
     for item in items {
         let e = match item {
-            PrintItem::Verbatim(_, text) => {
-                put_string(&mut store.text_open, sink, text.as_slice())?;
+            TypedItem::Verbatim(text) => {
+                put_string(&mut places.text_open, sink, text.as_slice())?;
                 continue;
             }
-            PrintItem::Shown(e) => e,
+            TypedItem::Shown(e) => e,
         };
-        let x = eval(alloc, decls, store, sink, depth, e)?;
-        put_value(&mut store.text_open, sink, &x)?;
+        let x = eval(alloc, funcs, places, sink, depth, e)?;
+        put_value(&mut places.text_open, sink, &x)?;
     }
     match kind {
         PrintKind::Print => {}
-        PrintKind::PrintLine => put(&mut store.text_open, sink, b"\n")?,
+        PrintKind::PrintLine => put(&mut places.text_open, sink, b"\n")?,
     }
     Ok(Exit::Normal)
 }
@@ -227,27 +218,27 @@ fn print<K: Sink>(
 #[cycle(exec)]
 fn exec_if<K: Sink>(
     alloc: Global,
-    decls: &[Decl],
-    store: &mut Store,
+    funcs: &[TypedFunc],
+    places: &mut Places,
     sink: &mut K,
     depth: u32,
     span: Span,
-    e: &Expr,
-    first: &[Stmt],
-    others: &[ElseIf],
-    last: &[Stmt],
+    e: &TypedExpr,
+    first: &[TypedStmt],
+    others: &[TypedBranch],
+    last: &[TypedStmt],
 ) -> Result<Exit, Stop>
-    ensures meets { Runs exit_of result decls.now depth
+    ensures meets { Runs exit_of result funcs.now depth
         (rules.branch span e.now first.now (rules.branches span others.now last.now))
-        store.old (K.written sink.old) store.new (K.written sink.new) }
+        places.old (K.written sink.old) places.new (K.written sink.new) }
     ensures counts { Counts result (K.faults sink.old) (K.faults sink.new) }
     ensures same_full { K.full sink.new ≡ K.full sink.old }
 {
-    let x = eval(alloc, decls, store, sink, depth, e)?;
+    let x = eval(alloc, funcs, places, sink, depth, e)?;
     if truth(span, &x)? {
-        exec_scope(alloc, decls, store, sink, depth, first)
+        exec_scope(alloc, funcs, places, sink, depth, first)
     } else {
-        exec_branches(alloc, decls, store, sink, depth, span, others, last)
+        exec_branches(alloc, funcs, places, sink, depth, span, others, last)
     }
 }
 
@@ -255,48 +246,48 @@ fn exec_if<K: Sink>(
 #[cycle(exec)]
 fn exec_branches<K: Sink>(
     alloc: Global,
-    decls: &[Decl],
-    store: &mut Store,
+    funcs: &[TypedFunc],
+    places: &mut Places,
     sink: &mut K,
     depth: u32,
     span: Span,
-    branches: &[ElseIf],
-    last: &[Stmt],
+    branches: &[TypedBranch],
+    last: &[TypedStmt],
 ) -> Result<Exit, Stop>
-    ensures meets { Runs exit_of result decls.now depth (rules.branches span branches.now last.now)
-        store.old (K.written sink.old) store.new (K.written sink.new) }
+    ensures meets { Runs exit_of result funcs.now depth (rules.branches span branches.now last.now)
+        places.old (K.written sink.old) places.new (K.written sink.new) }
     ensures counts { Counts result (K.faults sink.old) (K.faults sink.new) }
     ensures same_full { K.full sink.new ≡ K.full sink.old }
 {
     for branch in branches {
-        let ElseIf::ElseIf(e, list) = branch;
-        let x = eval(alloc, decls, store, sink, depth, e)?;
+        let TypedBranch::Branch(e, list) = branch;
+        let x = eval(alloc, funcs, places, sink, depth, e)?;
         if truth(span, &x)? {
-            return exec_scope(alloc, decls, store, sink, depth, list.as_slice());
+            return exec_scope(alloc, funcs, places, sink, depth, list.as_slice());
         }
     }
-    exec_scope(alloc, decls, store, sink, depth, last)
+    exec_scope(alloc, funcs, places, sink, depth, last)
 }
 
 /// Statements with a scope of their own.
 #[cycle(exec)]
-#[tactic(auto, using(crate::proofs::Bindings::cut_bindings))]
+#[tactic(auto, using(crate::proofs::Slots::cut_values))]
 fn exec_scope<K: Sink>(
     alloc: Global,
-    decls: &[Decl],
-    store: &mut Store,
+    funcs: &[TypedFunc],
+    places: &mut Places,
     sink: &mut K,
     depth: u32,
-    list: &[Stmt],
+    list: &[TypedStmt],
 ) -> Result<Exit, Stop>
-    ensures meets { Runs exit_of result decls.now depth (rules.scope list.now)
-        store.old (K.written sink.old) store.new (K.written sink.new) }
+    ensures meets { Runs exit_of result funcs.now depth (rules.scope list.now)
+        places.old (K.written sink.old) places.new (K.written sink.new) }
     ensures counts { Counts result (K.faults sink.old) (K.faults sink.new) }
     ensures same_full { K.full sink.new ≡ K.full sink.old }
 {
-    let height = store.frame.len();
-    let exit = exec_all(alloc, decls, store, sink, depth, list)?;
-    store.frame.truncate(height);
+    let height = places.frame.len();
+    let exit = exec_all(alloc, funcs, places, sink, depth, list)?;
+    places.frame.truncate(height);
     Ok(exit)
 }
 
@@ -304,19 +295,19 @@ fn exec_scope<K: Sink>(
 #[cycle(exec)]
 pub fn exec_all<K: Sink>(
     alloc: Global,
-    decls: &[Decl],
-    store: &mut Store,
+    funcs: &[TypedFunc],
+    places: &mut Places,
     sink: &mut K,
     depth: u32,
-    list: &[Stmt],
+    list: &[TypedStmt],
 ) -> Result<Exit, Stop>
-    ensures meets { Runs exit_of result decls.now depth (rules.in_order list.now)
-        store.old (K.written sink.old) store.new (K.written sink.new) }
+    ensures meets { Runs exit_of result funcs.now depth (rules.in_order list.now)
+        places.old (K.written sink.old) places.new (K.written sink.new) }
     ensures counts { Counts result (K.faults sink.old) (K.faults sink.new) }
     ensures same_full { K.full sink.new ≡ K.full sink.old }
 {
     for s in list {
-        match exec(alloc, decls, store, sink, depth, s)? {
+        match exec(alloc, funcs, places, sink, depth, s)? {
             Exit::Normal => {}
             Exit::Returned(x) => return Ok(Exit::Returned(x)),
         }

@@ -16,16 +16,12 @@ pub enum Exit {
 /// Why the rules give a node no outcome. No run of a checked program meets one.
 #[derive(Clone, Copy)]
 pub enum Mistake {
-    /// A name, or a subprogram, that isn't there.
+    /// A place, or a subprogram, that isn't there.
     UnknownName,
-    /// A value of another type than its place asks for.
+    /// A value of another type than an operator or a condition asks for.
     WrongKind,
-    /// A store in a place that can't be assigned.
-    Immutable,
     /// The end of a function.
     EndReached,
-    /// A form that isn't served.
-    UnservedForm,
 }
 
 /// Why a run stops.

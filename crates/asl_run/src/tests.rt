@@ -1,12 +1,14 @@
 //! What no clause says: native stack, and the texts of strings, which come from outside.
+use crate::calls::run;
 use crate::output::put_string;
-use crate::stmts::exec;
-use crate::stop::{Exit, Stop};
-use crate::store::Store;
+use crate::places::Places;
+use crate::stop::Stop;
 use asl_io::MemSink;
+use asl_tree::typed::{TypedExpr, TypedFunc, TypedStmt};
 use asl_syn::code::DynCode;
 use asl_syn::token::Span;
-use asl_syn::tree::{Expr, Stmt, UnaryOperator};
+use asl_syn::tree::UnaryOperator;
+use asl_tree::SubId;
 use asl_value::Value;
 use sqlite_items::{Boxed, Items};
 use std::alloc::{AllocError, Global};
@@ -19,23 +21,23 @@ const AT: Span = Span {
 };
 
 /// `--..-1`, with so many minus signs.
-fn negated(alloc: Global, times: usize) -> Result<Expr, AllocError> {
-    let mut e = Expr::Int(AT, 1);
+fn negated(alloc: Global, times: usize) -> Result<TypedExpr, AllocError> {
+    let mut e = TypedExpr::Int(AT, 1);
     for _ in 0..times {
-        e = Expr::Unary(AT, UnaryOperator::Negate, Boxed::new(alloc, e)?);
+        e = TypedExpr::Unary(AT, UnaryOperator::Negate, Boxed::new(alloc, e)?);
     }
     Ok(e)
 }
 
 /// A statement in the last branches of so many `if`s, one in another.
-fn nested(alloc: Global, ifs: usize, innermost: Stmt) -> Result<Stmt, AllocError> {
+fn nested(alloc: Global, ifs: usize, innermost: TypedStmt) -> Result<TypedStmt, AllocError> {
     let mut s = innermost;
     for _ in 0..ifs {
         let mut last = Items::new(alloc);
         last.push(s)?;
-        s = Stmt::If(
+        s = TypedStmt::If(
             AT,
-            Expr::Bool(AT, false),
+            TypedExpr::Bool(AT, false),
             Items::new(alloc),
             Items::new(alloc),
             last,
@@ -44,10 +46,20 @@ fn nested(alloc: Global, ifs: usize, innermost: Stmt) -> Result<Stmt, AllocError
     Ok(s)
 }
 
-/// Runs a `return` of an expression with 101 nodes in so many `if`s.
-fn run_nested(alloc: Global, ifs: usize) -> Result<Exit, Stop> {
-    let s = nested(alloc, ifs, Stmt::Return(AT, Some(negated(alloc, 100)?)))?;
-    let mut store = Store {
+/// Calls a function that returns `1` behind so many minus signs, in so many `if`s.
+fn run_nested(alloc: Global, ifs: usize, signs: usize) -> Result<Option<Value>, Stop> {
+    let mut body = Items::new(alloc);
+    body.push(nested(
+        alloc,
+        ifs,
+        TypedStmt::Return(AT, Some(negated(alloc, signs)?)),
+    )?)?;
+    let f = TypedFunc {
+        span: AT,
+        is_function: true,
+        body,
+    };
+    let mut places = Places {
         globals: Vec::new(alloc),
         frame: Vec::new(alloc),
         live: Vec::new(alloc),
@@ -55,22 +67,41 @@ fn run_nested(alloc: Global, ifs: usize) -> Result<Exit, Stop> {
         text_open: false,
     };
     let mut sink = MemSink::new(alloc, 1, 1, Vec::new(alloc))?;
-    let answer = exec(alloc, &[], &mut store, &mut sink, 2_000, &s);
+    let funcs = Vec::from_array(alloc, [f])?;
+    let answer = run(
+        alloc,
+        funcs.as_slice(),
+        &mut places,
+        &mut sink,
+        SubId::new(0),
+        Vec::new(alloc),
+    );
     // No text has a tree so deep, and its `drop` needs more stack than the run.
-    mem::forget(s);
+    mem::forget(funcs);
     answer
 }
 
 #[test]
 fn two_thousand_open_nodes_fit_the_stack(rt: HostRuntime) {
     let alloc = rt.alloc();
-    assert!(rt;
-        matches!(
-            run_nested(alloc, 1_898),
-            Ok(Exit::Returned(Some(Value::Int(1))))
-        )
-    );
-    assert!(rt; matches!(run_nested(alloc, 1_899), Err(Stop::Fault(DynCode::D12, _))));
+    // The `return` and the literal are nodes too.
+    for (ifs, signs) in [(0, 1_998), (1_898, 100), (1_998, 0)] {
+        assert!(rt; matches!(run_nested(alloc, ifs, signs), Ok(Some(Value::Int(1)))));
+    }
+    for (ifs, signs) in [
+        (0, 1_999),
+        (1_898, 101),
+        (1_899, 100),
+        (1_999, 0),
+        (3_000, 3_000),
+    ] {
+        assert!(rt;
+            matches!(
+                run_nested(alloc, ifs, signs),
+                Err(Stop::Fault(DynCode::D12, _))
+            )
+        );
+    }
 }
 
 #[test]

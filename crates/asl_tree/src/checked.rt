@@ -89,7 +89,8 @@ impl Checked {
 
     /// The typed trees of the subprograms, in source order.
     pub fn funcs(&self) -> &[TypedFunc]
-        ensures { IsElaborated self.now.decls result.now }
+        ensures elaborated { IsElaborated self.now.decls result.now }
+        ensures well_formed { IsWellFormed self.now.decls self.now.entry }
     {
         self.funcs.as_slice()
     }

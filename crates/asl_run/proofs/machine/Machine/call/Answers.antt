@@ -1,4 +1,4 @@
-use Rattle.std.proofs.Common.{sym, ◌∙◌, subst}
+use Rattle.std.proofs.Common.{sym, ◌∙◌}
 use Rattle.asl_value.specs.View.{bindings_of}
 use Rattle.asl_run.specs.Work.{HoldStorage}
 use Rattle.asl_run.proofs.Runs.{ready_held}
@@ -6,5 +6,4 @@ use Rattle.asl_run.proofs.machine.Machine.call.Goals as goal
 
 pub run_checked-self-inside-requires-clause-storage : goal.run_checked-self-inside-requires-clause-storage
 run_checked-self-inside-requires-clause-storage g c =
-    subst (λ v. HoldStorage c.self.inside.checked.decls (bindings_of v.items)) (sym c.replace.ensures.value)
-    (ready_held c.self.inside.stage (HoldStorage c.self.inside.checked.decls (bindings_of c.self.inside.globals.items)) (sym c.is_ready.ensures ∙ c.if-not-is_ready.false) c.self.invariant)
+    ready_held c.self.inside.stage (HoldStorage c.self.inside.checked.decls (bindings_of c.self.inside.globals.items)) (sym c.is_ready.ensures ∙ c.if-not-is_ready.false) c.self.invariant
