@@ -1,5 +1,5 @@
 -- The typed trees of lists, tree by tree, and those of a program.
-use Rattle.std.proofs.Common.{◌≡◌, ℕ, Option, ◌+◌, ◌<◌, length, get_or, drop, List, [], ◌∷◌, ◌++◌, Result, Ok, map, refl, sym, ap, ◌∙◌, append_assoc, suc, arith}
+use Rattle.std.proofs.Common.{◌≡◌, ℕ, Option, ◌+◌, ◌<◌, length, get_or, drop, List, [], ◌∷◌, ◌++◌, Result, Ok, map, sym, ap, ◌∙◌, append_assoc, suc, arith}
 use Rattle.std.proofs.Math.Seq.{drop-cons}
 use Rattle.asl_syn.specs.declared.tree.Decl.{Decl}
 use Rattle.asl_syn.specs.declared.token.Span.{Span}

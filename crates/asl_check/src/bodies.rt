@@ -16,9 +16,9 @@ use crate::stmts::check_stmts;
 use crate::types::Ty;
 use crate::visible::Visible;
 use asl_rules::effect::Effect;
-use asl_tree::typed::TypedFunc;
 use asl_syn::code::{Refused, StaticCode};
 use asl_syn::tree::{Decl, Func, Qualifier};
+use asl_tree::typed::TypedFunc;
 use std::alloc::Global;
 
 /// The greatest effect that is allowed in a body.
@@ -44,11 +44,7 @@ fn may_end(returns: Option<Ty>, f: &Func) -> bool
 
 /// A body: its statements in order, then T17 at its name where the end of a function can be reached. What is made of the
 /// subprogram.
-fn check_body<'a>(
-    alloc: Global,
-    names: &mut Visible<'a>,
-    f: &'a Func,
-) -> Result<TypedFunc, Refused>
+fn check_body<'a>(alloc: Global, names: &mut Visible<'a>, f: &'a Func) -> Result<TypedFunc, Refused>
     ensures rule { Met (λ _. tt) result (rules.body_rule names.old f.now) }
     ensures kept { OnOk result (names.new ≡ names.old) }
     ensures tree { IfOk result (λ t. t ≡ elaborated_func (layout_of names.old) f.now) }

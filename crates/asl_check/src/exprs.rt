@@ -17,10 +17,10 @@ use crate::effects::{at_most, greater, together};
 use crate::types::{Ty, Typed, is_boolean, is_integer, same_kind};
 use crate::visible::{Visible, reading};
 use asl_rules::effect::Effect;
-use asl_tree::typed::TypedExpr;
 use asl_syn::code::{Refused, StaticCode};
 use asl_syn::token::Span;
 use asl_syn::tree::{BinaryOperator, Expr, TypeExpr, UnaryOperator};
+use asl_tree::typed::TypedExpr;
 use sqlite_items::Boxed;
 use std::alloc::{AllocError, Global};
 
@@ -174,7 +174,12 @@ fn type_name(
     }
 }
 
-fn unary(alloc: Global, span: Span, op: UnaryOperator, a: TypedExpr) -> Result<TypedExpr, AllocError>
+fn unary(
+    alloc: Global,
+    span: Span,
+    op: UnaryOperator,
+    a: TypedExpr,
+) -> Result<TypedExpr, AllocError>
     ensures { IfOk result (λ t. t ≡ tree.Unary span op a) }
 {
     Ok(TypedExpr::Unary(span, op, Boxed::new(alloc, a)?))

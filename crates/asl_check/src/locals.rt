@@ -19,10 +19,10 @@ use crate::steps::{check_fit, ended};
 use crate::types::{Ty, Typed};
 use crate::visible::Visible;
 use asl_rules::effect::Effect;
-use asl_tree::typed::{TypedExpr, TypedStmt};
 use asl_syn::code::{Refused, StaticCode};
 use asl_syn::token::Span;
 use asl_syn::tree::{Bind, Binder, Expr, Ident, LocalKind, TypeExpr};
+use asl_tree::typed::{TypedExpr, TypedStmt};
 use std::alloc::Global;
 
 /// An initialiser with the type that its declaration gives and its effect: it fits the written type.
@@ -129,5 +129,8 @@ pub(crate) fn check_vars<'a>(
 {
     let to = written(ty)?;
     declare_vars(names, idents, to)?;
-    Ok((TypedStmt::DeclareFirst(span, idents.len(), to), Effect::Pure))
+    Ok((
+        TypedStmt::DeclareFirst(span, idents.len(), to),
+        Effect::Pure,
+    ))
 }

@@ -16,10 +16,10 @@ use crate::exprs::type_expr;
 use crate::steps::ended;
 use crate::visible::Visible;
 use asl_rules::effect::Effect;
-use asl_tree::typed::{TypedItem, TypedStmt};
 use asl_syn::code::Refused;
 use asl_syn::token::Span;
 use asl_syn::tree::{PrintItem, PrintKind};
+use asl_tree::typed::{TypedItem, TypedStmt};
 use sqlite_items::Items;
 use std::alloc::Global;
 

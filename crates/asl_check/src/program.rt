@@ -15,9 +15,9 @@ use crate::names::check_names;
 use crate::overloads::check_overloads;
 use crate::signatures::check_signatures;
 use asl_rules::entry::Entry;
-use asl_tree::typed::TypedFunc;
 use asl_syn::code::Refused;
 use asl_syn::tree::{Decl, Program};
+use asl_tree::typed::TypedFunc;
 use asl_tree::{Checked, SubId};
 use std::alloc::Global;
 

@@ -19,10 +19,10 @@ use crate::steps::{check_fit, ended};
 use crate::types::{is_boolean, misfit};
 use crate::visible::{Visible, writing};
 use asl_rules::effect::Effect;
-use asl_tree::typed::TypedStmt;
 use asl_syn::code::{Refused, StaticCode};
 use asl_syn::token::Span;
 use asl_syn::tree::{Expr, Ident, Target};
+use asl_tree::typed::TypedStmt;
 use std::alloc::Global;
 
 /// `assert`: a boolean that at most reads.

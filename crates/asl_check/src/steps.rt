@@ -14,10 +14,10 @@ use crate::exprs::{place, type_expr};
 use crate::types::{Ty, misfit};
 use crate::visible::Visible;
 use asl_rules::effect::Effect;
-use asl_tree::typed::TypedExpr;
 use asl_syn::code::{Refused, StaticCode};
 use asl_syn::token::Span;
 use asl_syn::tree::Expr;
+use asl_tree::typed::TypedExpr;
 use std::alloc::Global;
 
 /// The end of each statement: T13 where its operands may not stand together, then T12 where it passes the class of its

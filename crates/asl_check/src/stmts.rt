@@ -20,9 +20,9 @@ use crate::prints::check_print;
 use crate::simple::{check_assert, check_return, check_target};
 use crate::visible::Visible;
 use asl_rules::effect::Effect;
-use asl_tree::typed::{TypedBranch, TypedStmt};
 use asl_syn::code::{Refused, StaticCode};
 use asl_syn::tree::{ElseIf, Stmt};
+use asl_tree::typed::{TypedBranch, TypedStmt};
 use sqlite_items::Items;
 use std::alloc::Global;
 

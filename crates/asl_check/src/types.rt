@@ -5,8 +5,8 @@ ghost use Rattle.asl_rules.specs.Types as rules;
 ghost use Rattle.asl_check.specs.Views.{type_of};
 
 use asl_rules::effect::Effect;
-pub(crate) use asl_tree::typed::Ty;
 use asl_syn::code::StaticCode;
+pub(crate) use asl_tree::typed::Ty;
 
 /// The type of an expression, and what it does.
 #[derive(Clone, Copy)]

@@ -10,8 +10,8 @@ ghost use Rattle.asl_check.specs.Numbers.{standing_by, HasSlot};
 
 use crate::types::Ty;
 use asl_rules::effect::Effect;
-use asl_tree::typed::Slot;
 use asl_syn::code::Refused;
+use asl_tree::typed::Slot;
 use indexmap::IndexMap;
 use std::alloc::Global;
 use std::marker::Model;

@@ -11,10 +11,10 @@ use crate::operators::{binary_value, literal_value, truth, unary_value};
 use crate::places::{Places, read};
 use crate::stop::Stop;
 use asl_io::Sink;
-use asl_tree::typed::{TypedExpr, TypedFunc};
 use asl_syn::code::DynCode;
 use asl_syn::token::Span;
 use asl_syn::tree::{BinaryOperator, UnaryOperator};
+use asl_tree::typed::{TypedExpr, TypedFunc};
 use asl_value::Value;
 use std::alloc::Global;
 

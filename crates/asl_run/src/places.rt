@@ -10,9 +10,9 @@ ghost use Rattle.asl_run.specs.Meets.{Acts, Is, NoneRefused};
 ghost use Rattle.asl_run.specs.View.{core_of};
 
 use crate::stop::{Exit, Mistake, Stop};
-use asl_tree::typed::{Slot, Ty};
 use asl_syn::token::Span;
 use asl_tree::SubId;
+use asl_tree::typed::{Slot, Ty};
 use asl_value::{Value, copy};
 use std::alloc::{AllocError, Global};
 

@@ -15,10 +15,10 @@ use crate::output::{put, put_string, put_value};
 use crate::places::{Places, assign, declare_first, push};
 use crate::stop::{Exit, Stop};
 use asl_io::Sink;
-use asl_tree::typed::{Slot, TypedBranch, TypedExpr, TypedFunc, TypedItem, TypedStmt};
 use asl_syn::code::DynCode;
 use asl_syn::token::Span;
 use asl_syn::tree::PrintKind;
+use asl_tree::typed::{Slot, TypedBranch, TypedExpr, TypedFunc, TypedItem, TypedStmt};
 use std::alloc::Global;
 
 fn stmt_span(s: &TypedStmt) -> Span
