@@ -81,7 +81,7 @@ pub(crate) struct Visible<'a> {
 }
 
 impl<'a> Model for Visible<'a> {
-    ghost use Rattle.std.specs.Prelude.{List, map};
+    ghost use Rattle.std.specs.Prelude.{List};
     ghost use Rattle.asl_rules.specs.Scopes.{Entry};
     ghost use Rattle.asl_check.specs.Views.{entries_code};
     ghost use Rattle.asl_check.specs.Numbers.{entries_of, IsKept};
