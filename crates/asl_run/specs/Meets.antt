@@ -26,7 +26,7 @@ Meets view (Err (stop.Thrown x)) c h r C = r ≡ Thrown (value_of x) c h
 Meets view (Err (stop.Fault code span)) c h r C = r ≡ Halt (Faulted code span) c h
 Meets view (Err (stop.Stuck mistake span)) c h r C = r ≡ Halt (Stuck (mistake_of mistake) span) c h
 
--- from one store and told text to another, an answer is that of a plan, where d nodes more may be open
+-- from the places and told text before to those after, an answer is that of a plan, where d nodes more may be open
 abbrev pub Runs : {A B : Type 0} → (A → B) → Result A Stop → List TypedFunc → ℕ → (BareCore → DoesBare B) → Places → Option (List ℕ) → Places → Option (List ℕ) → Type 0
 Runs view result fs d q s told s1 told1 =
     Meets view result (core_of s1) (meter_of s1 told1) (run (typed_meaning fs d) (q (core_of s)) (meter_of s told)) (cuts (typed_meaning fs d) (typed_cutting fs d) (q (core_of s)) (meter_of s told))

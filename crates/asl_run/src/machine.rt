@@ -1,5 +1,5 @@
 //! A machine that runs a checked program.
-ghost use Rattle.std.specs.Prelude.{◌≡◌, ◌≤◌, ◌-◌, ℕ, List, [], false, None, OnErr, OnOk, IfOk, map, option_map};
+ghost use Rattle.std.specs.Prelude.{◌≡◌, ◌-◌, OnErr, OnOk, IfOk, map};
 ghost use Rattle.std.specs.Option.{option_copied};
 ghost use Rattle.asl_rules.specs.Machines.{GivenUp, run_of, text_of_run};
 ghost use Rattle.asl_rules.specs.Plans.{starting};
