@@ -3,6 +3,7 @@ pub mod Served
 pub mod Types
 pub mod Effects
 pub mod Scopes
+pub mod Widths
 pub mod Names
 pub mod Exprs
 pub mod Stmts
@@ -14,6 +15,10 @@ pub mod Cuts
 pub mod States
 pub mod Belonging
 pub mod Operators
+pub mod Structures
+pub mod Uses
+pub mod Constants
+pub mod Declarations
 pub mod Strings
 pub mod Texts
 pub mod Evaluation
