@@ -1,21 +1,35 @@
 -- States that agree with scopes: each name that stands for storage has a value there that belongs to its type.
-use Rattle.std.specs.Prelude.{◌≡◌, ℕ, List, [], ◌∷◌, ◌++◌, None}
-use Rattle.asl_rules.specs.Scopes.{Entry, Standing, Stored, Subprogram, Storage, standing_of}
-use Rattle.asl_rules.specs.States.{Binding, Core}
+use Rattle.std.specs.Prelude.{◌≡◌, ◌⊎◌, ℕ, List, [], ◌∷◌, ◌++◌, Option, Some, None}
+use Rattle.asl_rules.specs.Types.{Ty, kind}
+use Rattle.asl_rules.specs.Values.{Value}
+use Rattle.asl_rules.specs.Scopes.{Entry, Standing, Stored, Subprogram, TypeName, Label, Storage, standing_of, known_value}
+use Rattle.asl_rules.specs.States.{Under, of_type, of_kind, Binding, Core}
 use Rattle.asl_rules.specs.Belonging.{InType}
+
+-- what a place of this type may be stored under
+abbrev pub IsUnder : Under → Ty → Type 0
+IsUnder u T = (u ≡ of_type T) ⊎ (u ≡ of_kind (kind T))
+
+-- a value that is known before any run
+abbrev pub IsKnown : Option Value → Value → Type 0
+IsKnown None x = Unit {0}
+IsKnown (Some y) x = x ≡ y
 
 -- a binding holds the storage of this name
 pub record Holds (name : List ℕ) (s : Storage) (b : Binding) : Type 0 where
   pub name_is : b.name ≡ name
-  pub ty_is : b.ty ≡ s.ty
+  pub under_is : IsUnder b.under s.ty
   pub mutable_is : b.is_mutable ≡ s.is_mutable
-  pub belongs : InType b.value b.ty
+  pub belongs : InType b.value s.ty
+  pub known : IsKnown (known_value s) b.value
 
--- storage has the next binding, and a subprogram none
+-- storage has the next binding, and other names none
 abbrev pub global_matches : List ℕ → Standing → List Binding → (List Binding → Type 0) → Type 0
-global_matches name Subprogram bs rest = rest bs
 global_matches name (Stored s) [] rest = ⊥
 global_matches name (Stored s) (b ∷ bs) rest = Holds name s b × rest bs
+global_matches name Subprogram bs rest = rest bs
+global_matches name (TypeName T) bs rest = rest bs
+global_matches name (Label T x) bs rest = rest bs
 
 -- the globals hold the storage that is declared outside bodies, in the same order
 abbrev pub GlobalsMatch : List Entry → List Binding → Type 0
@@ -26,6 +40,8 @@ GlobalsMatch (e ∷ es) bs = global_matches e.name e.standing bs (GlobalsMatch e
 abbrev pub local_matches : List ℕ → Standing → Binding → Type 0
 local_matches name (Stored s) b = Holds name s b
 local_matches name Subprogram b = ⊥
+local_matches name (TypeName T) b = ⊥
+local_matches name (Label T x) b = ⊥
 
 -- a frame holds the local storage, in the same order
 abbrev pub FrameMatches : List Entry → List Binding → Type 0

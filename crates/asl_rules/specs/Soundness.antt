@@ -9,7 +9,8 @@ use Rattle.asl_rules.specs.Types.{Ty}
 use Rattle.asl_rules.specs.Scopes.{Scope, Entry}
 use Rattle.asl_rules.specs.Exprs.{Typed, typed}
 use Rattle.asl_rules.specs.Agreement.{GlobalsMatch, Agrees}
-use Rattle.asl_rules.specs.Programs.{funcs_of, globals_rule, library_names}
+use Rattle.asl_rules.specs.Declarations.{globals_rule}
+use Rattle.asl_rules.specs.Programs.{funcs_of}
 use Rattle.asl_rules.specs.Values.{Value}
 use Rattle.asl_rules.specs.States.{Binding, Core}
 use Rattle.asl_rules.specs.Plans.{Meter, Outcome, Done, Thrown, Halt, Faulted, Stuck}
@@ -40,7 +41,7 @@ visits_of ds id args globals h = visits (meaning ds most_open) (trails (nodes ds
 
 -- the names that are visible in all bodies of a program
 abbrev pub NamesOf : List Decl → List Entry → Type 0
-NamesOf ds names = globals_rule ds library_names ≡ Ok names
+NamesOf ds names = globals_rule ds ≡ Ok names
 
 -- a call from outside: a subprogram of the program, with arguments in the types of its formals, over globals that hold
 -- the program's storage
