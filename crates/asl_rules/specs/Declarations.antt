@@ -78,12 +78,15 @@ abbrev pub label_entries : TypeDef → List ℕ → Ty → List Entry
 label_entries (td.Labels span is) name T = map (λ (i : Ident). label_name i.text T (label name i.text)) is
 label_entries def name T = []
 
--- a type declaration: the type, and the labels of an enumeration
+abbrev pub type_entries : TypeDecl → Ty → List Entry
+type_entries d T = type_name d.name.text T ∷ label_entries d.def d.name.text T
+
+-- a type declaration: the name with the structure that it stands for, and the labels of an enumeration
 abbrev pub type_decl_rule : TypeDecl → Scope → Result (List Entry) Fault
 type_decl_rule d G =
     def_rule d.name.text d.def G >>= λ T.
     supertype_rule d.supertype T G >>= λ supers.
-    Ok (type_name d.name.text (named d.name.text supers T) ∷ label_entries d.def d.name.text (named d.name.text supers T))
+    Ok (type_entries d (named d.name.text supers (structure T)))
 
 -- ---- storage
 
