@@ -9,6 +9,7 @@ pub mod Exprs
 pub mod Stmts
 pub mod Programs
 pub mod Values
+pub mod WellFormed
 pub mod Told
 pub mod Plans
 pub mod Cuts

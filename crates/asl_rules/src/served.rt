@@ -1,15 +1,12 @@
 //! Which forms are served.
 
 ghost use Rattle.std.specs.Prelude.{◌≡◌, map};
-ghost use Rattle.asl_syn.specs.declared.tree.Expr.{out-Expr};
-ghost use Rattle.asl_syn.specs.declared.tree.Target.{out-Target};
 ghost use Rattle.asl_rules.specs.Served as forms;
 
-use asl_syn::span;
 use asl_syn::token::Span;
 use asl_syn::tree::{
-    Bind, Binder, Decl, ElseIf, Expr, Func, PrintItem, Program, Qualifier, Stmt, StorageDecl,
-    StorageKind, Target, TypeExpr, UnaryOperator,
+    Decl, ElseIf, Expr, FieldValue, Formal, Func, PlacedSuffix, PrintItem, Program, Qualifier, Stmt,
+    StorageDecl, Suffix, Target, TypeDef, TypeExpr,
 };
 
 /// The first node in source order whose form isn't served, the outer one of two that begin together. A program that
@@ -29,27 +26,52 @@ fn unserved_decl(d: &Decl) -> Option<Span>
     ensures { result ≡ forms.unserved_decl d.now }
 {
     match d {
-        Decl::Type(d) => Some(d.span),
+        Decl::Type(d) => unserved_def(&d.def),
         Decl::Storage(d) => unserved_storage(d),
         Decl::Func(f) => unserved_func(f),
     }
 }
 
+// ---- declared types
+
+/// An enumeration has a label.
+fn unserved_def(def: &TypeDef) -> Option<Span>
+    ensures { result ≡ forms.unserved_def def.now }
+{
+    match def {
+        TypeDef::Alias(ty) => unserved_type(ty),
+        TypeDef::Labels(span, labels) => {
+            if labels.as_slice().is_empty() {
+                Some(*span)
+            } else {
+                None
+            }
+        }
+        TypeDef::Record(_, fields) => unserved_fields(fields.as_slice()),
+        TypeDef::Exception(_, fields) => unserved_fields(fields.as_slice()),
+    }
+}
+
+fn unserved_fields(fields: &[Formal]) -> Option<Span>
+    ensures { result ≡ forms.unserved_fields fields.now }
+{
+    for f in fields {
+        if let Some(at) = unserved_type(&f.ty) {
+            return Some(at);
+        }
+    }
+    None
+}
+
 // ---- global storage
 
 fn unserved_storage(d: &StorageDecl) -> Option<Span>
-    ensures { result ≡ forms.unserved_storage d.now d.now.kind }
+    ensures { result ≡ forms.or_else (forms.unserved_written d.now.ty) (forms.unserved_init d.now.init) }
 {
-    match d.kind {
-        StorageKind::Constant => Some(d.span),
-        StorageKind::Let => Some(d.span),
-        StorageKind::Var => {
-            if let Some(at) = unserved_written(&d.ty) {
-                return Some(at);
-            }
-            unserved_init(&d.init)
-        }
+    if let Some(at) = unserved_written(&d.ty) {
+        return Some(at);
     }
+    unserved_init(&d.init)
 }
 
 fn unserved_init(init: &Option<Expr>) -> Option<Span>
@@ -57,44 +79,7 @@ fn unserved_init(init: &Option<Expr>) -> Option<Span>
 {
     match init {
         None => None,
-        Some(e) => {
-            if is_literal(e) {
-                None
-            } else {
-                Some(span::of_expr(e))
-            }
-        }
-    }
-}
-
-/// An integer literal, maybe behind `-`, or `TRUE` or `FALSE`.
-fn is_literal(e: &Expr) -> bool
-    ensures { result ≡ forms.is_literal (out-Expr e.now) }
-{
-    match e {
-        Expr::Int(_, _) => true,
-        Expr::Bool(_, _) => true,
-        Expr::Unary(_, op, operand) => is_negated_int(*op, operand.get()),
-        _ => false,
-    }
-}
-
-fn is_negated_int(op: UnaryOperator, operand: &Expr) -> bool
-    ensures { result ≡ forms.is_negated_int op operand.now }
-{
-    match op {
-        UnaryOperator::Negate => is_int(operand),
-        UnaryOperator::Not => false,
-        UnaryOperator::Complement => false,
-    }
-}
-
-fn is_int(e: &Expr) -> bool
-    ensures { result ≡ forms.is_int (out-Expr e.now) }
-{
-    match e {
-        Expr::Int(_, _) => true,
-        _ => false,
+        Some(e) => unserved_expr(e),
     }
 }
 
@@ -152,6 +137,8 @@ fn unserved_written(ty: &Option<TypeExpr>) -> Option<Span>
     }
 }
 
+/// No constraints and no types of bits.
+#[cycle(types)]
 fn unserved_type(ty: &TypeExpr) -> Option<Span>
     ensures { result ≡ forms.unserved_type ty.now }
 {
@@ -165,11 +152,28 @@ fn unserved_type(ty: &TypeExpr) -> Option<Span>
         }
         TypeExpr::BooleanType(_) => None,
         TypeExpr::BitType(span) => Some(*span),
-        TypeExpr::NamedType(span, _) => Some(*span),
+        TypeExpr::NamedType(_, _) => None,
         TypeExpr::BitsType(span, _, _) => Some(*span),
-        TypeExpr::TupleType(span, _) => Some(*span),
-        TypeExpr::ArrayType(span, _, _) => Some(*span),
+        TypeExpr::TupleType(_, parts) => unserved_types(parts.as_slice()),
+        TypeExpr::ArrayType(_, size, element) => {
+            if let Some(at) = unserved_expr(size.get()) {
+                return Some(at);
+            }
+            unserved_type(element.get())
+        }
     }
+}
+
+#[cycle(types)]
+fn unserved_types(types: &[TypeExpr]) -> Option<Span>
+    ensures { result ≡ forms.first_of (map forms.unserved_type types.now) }
+{
+    for ty in types {
+        if let Some(at) = unserved_type(ty) {
+            return Some(at);
+        }
+    }
+    None
 }
 
 // ---- statements
@@ -219,7 +223,7 @@ fn unserved_stmt(s: &Stmt) -> Option<Span>
         Stmt::Pass(_) => None,
         Stmt::Unreachable(span) => Some(*span),
         Stmt::Assert(_, e) => unserved_expr(e),
-        Stmt::Local(span, _, bind, ty, e) => unserved_local(*span, bind, ty, e),
+        Stmt::Local(_, _, _, ty, e) => unserved_local(ty, e),
         Stmt::LocalVars(_, _, ty) => unserved_type(ty),
         Stmt::Assign(span, target, e) => unserved_assignment(*span, target, e),
         Stmt::Invoke(span, _, _, _) => Some(*span),
@@ -247,52 +251,67 @@ fn unserved_stmt(s: &Stmt) -> Option<Span>
     }
 }
 
-fn unserved_local(span: Span, bind: &Bind, ty: &Option<TypeExpr>, e: &Expr) -> Option<Span>
-    ensures { result ≡ forms.or_else (forms.unserved_bind span bind.now) (forms.or_else (forms.unserved_written ty.now) (forms.unserved_expr e.now)) }
+fn unserved_local(ty: &Option<TypeExpr>, e: &Expr) -> Option<Span>
+    ensures { result ≡ forms.or_else (forms.unserved_written ty.now) (forms.unserved_expr e.now) }
 {
-    if let Some(at) = unserved_bind(span, bind) {
-        return Some(at);
-    }
     if let Some(at) = unserved_written(ty) {
         return Some(at);
     }
     unserved_expr(e)
 }
 
-/// A declaration of one name.
-fn unserved_bind(span: Span, bind: &Bind) -> Option<Span>
-    ensures { result ≡ forms.unserved_bind span bind.now }
-{
-    match bind {
-        Bind::Single(Binder::Bound(_)) => None,
-        Bind::Single(Binder::Unbound(_)) => Some(span),
-        Bind::Several(_, _) => Some(span),
-    }
-}
-
 fn unserved_assignment(span: Span, target: &Target, e: &Expr) -> Option<Span>
-    ensures { result ≡ forms.or_else (forms.unserved_target span (out-Target target.now)) (forms.unserved_expr e.now) }
+    ensures { result ≡ forms.or_else (forms.unserved_target target.now span) (forms.unserved_expr e.now) }
 {
-    if let Some(at) = unserved_target(span, target) {
+    if let Some(at) = unserved_target(target, span) {
         return Some(at);
     }
     unserved_expr(e)
 }
 
-/// A name alone.
-fn unserved_target(span: Span, target: &Target) -> Option<Span>
-    ensures { result ≡ forms.unserved_target span (out-Target target.now) }
+/// Names with fields and elements, in tuples too; the place is that of the assignment.
+#[cycle(targets)]
+fn unserved_target(target: &Target, span: Span) -> Option<Span>
+    ensures { result ≡ forms.unserved_target target.now span }
 {
     match target {
-        Target::Discarded(_) => Some(span),
-        Target::Place(_, _, suffixes) => {
-            if suffixes.as_slice().is_empty() {
-                None
-            } else {
-                Some(span)
-            }
+        Target::Discarded(_) => None,
+        Target::Place(_, _, suffixes) => unserved_suffixes(span, suffixes.as_slice()),
+        Target::Targets(_, targets) => unserved_targets(targets.as_slice(), span),
+    }
+}
+
+#[cycle(targets)]
+fn unserved_targets(targets: &[Target], span: Span) -> Option<Span>
+    ensures { result ≡ forms.unserved_targets (map forms.unserved_target targets.now) span }
+{
+    for target in targets {
+        if let Some(at) = unserved_target(target, span) {
+            return Some(at);
         }
-        Target::Targets(_, _) => Some(span),
+    }
+    None
+}
+
+fn unserved_suffixes(span: Span, suffixes: &[PlacedSuffix]) -> Option<Span>
+    ensures { result ≡ forms.unserved_suffixes span suffixes.now }
+{
+    for s in suffixes {
+        if let Some(at) = unserved_suffix(span, &s.suffix) {
+            return Some(at);
+        }
+    }
+    None
+}
+
+fn unserved_suffix(span: Span, suffix: &Suffix) -> Option<Span>
+    ensures { result ≡ forms.unserved_suffix span suffix.now }
+{
+    match suffix {
+        Suffix::FieldOf(_) => None,
+        Suffix::FieldsOf(_) => Some(span),
+        Suffix::SlicesOf(_) => Some(span),
+        Suffix::ElementOf(e) => unserved_expr(e),
     }
 }
 
@@ -311,7 +330,8 @@ fn unserved_items(items: &[PrintItem]) -> Option<Span>
 
 // ---- expressions
 
-/// Integers, booleans, names, and operators with one and two operands.
+/// No literals of bits, calls, slices, lists of fields, `as` and `IN`.
+#[cycle(exprs)]
 fn unserved_expr(e: &Expr) -> Option<Span>
     ensures { result ≡ forms.unserved_expr e.now }
 {
@@ -327,15 +347,57 @@ fn unserved_expr(e: &Expr) -> Option<Span>
             }
             unserved_expr(right.get())
         }
-        Expr::Conditional(span, _, _, _) => Some(*span),
-        Expr::Tuple(span, _) => Some(*span),
-        Expr::Construct(span, _, _) => Some(*span),
+        Expr::Conditional(_, condition, first, second) => {
+            if let Some(at) = unserved_expr(condition.get()) {
+                return Some(at);
+            }
+            if let Some(at) = unserved_expr(first.get()) {
+                return Some(at);
+            }
+            unserved_expr(second.get())
+        }
+        Expr::Tuple(_, parts) => unserved_exprs(parts.as_slice()),
+        Expr::Construct(_, _, fields) => unserved_values(fields.as_slice()),
         Expr::Call(span, _, _, _) => Some(*span),
-        Expr::Field(span, _, _) => Some(*span),
+        Expr::Field(_, of, _) => unserved_expr(of.get()),
         Expr::Fields(span, _, _) => Some(*span),
         Expr::Slices(span, _, _) => Some(*span),
-        Expr::Element(span, _, _) => Some(*span),
+        Expr::Element(_, of, index) => {
+            if let Some(at) = unserved_expr(of.get()) {
+                return Some(at);
+            }
+            unserved_expr(index.get())
+        }
         Expr::As(span, _, _) => Some(*span),
         Expr::In(span, _, _) => Some(*span),
     }
+}
+
+#[cycle(exprs)]
+fn unserved_exprs(exprs: &[Expr]) -> Option<Span>
+    ensures { result ≡ forms.first_of (map forms.unserved_expr exprs.now) }
+{
+    for e in exprs {
+        if let Some(at) = unserved_expr(e) {
+            return Some(at);
+        }
+    }
+    None
+}
+
+/// The values of the fields of a construction.
+#[cycle(exprs)]
+fn unserved_values(fields: &[FieldValue]) -> Option<Span>
+    ensures { result ≡ forms.first_of (map forms.unserved_field fields.now) }
+{
+    for f in fields {
+        match f {
+            FieldValue::Given(_, e) => {
+                if let Some(at) = unserved_expr(e) {
+                    return Some(at);
+                }
+            }
+        }
+    }
+    None
 }

@@ -1,0 +1,97 @@
+-- Well-formed types and the values that a program has: what a name stands for is told by a function from names to declared
+-- types.
+use Rattle.std.specs.Prelude.{◌≡◌, ℕ, Bool, true, false, List, [], ◌∷◌, Option, Some, None}
+use Rattle.asl_rules.specs.Types.{Ty, Fields, Parts, integer, boolean, enumeration_of, record_of, exception_of, tuple_of, array_of, named, no_field, field, no_part, part, is_among, misfit}
+use Rattle.asl_rules.specs.Values.{Value, FieldValues, Values, int, bool, label, record_with, exception_with, tuple_with, array_with, no_value_of, value_of_field, no_value, value}
+
+abbrev pub is_named : Ty → Bool
+is_named (named name supers T) = true
+is_named T = false
+
+-- an exception without the declared name by which it can be thrown and caught
+abbrev pub is_nameless_exception : Ty → Bool
+is_nameless_exception (exception_of name fs) = true
+is_nameless_exception T = false
+
+abbrev pub HasLabel : List (List ℕ) → Type 0
+HasLabel [] = ⊥
+HasLabel (l ∷ ls) = Unit {0}
+
+-- the nearest of the names that a structure reaches is declared, with the others above it, and the structure fits what it
+-- stands for
+abbrev pub Nearest : (List ℕ → Option Ty) → Ty → List (List ℕ) → Type 0
+Nearest declared T [] = Unit {0}
+Nearest declared T (n ∷ ns) = (U : Ty) × (declared n ≡ Some (named n ns U)) × (misfit T U ≡ None)
+
+-- a declared name with the structure that it stands for and the names that it reaches, from the nearest
+pub record Declared (declared : List ℕ → Option Ty) (name : List ℕ) (supers : List (List ℕ)) (T : Ty) : Type 0 where
+  pub stands : declared name ≡ Some (named name supers T)
+  pub nearest : Nearest declared T supers
+
+-- the structure is the one that the declaration of the name writes
+pub record Written (declared : List ℕ → Option Ty) (name : List ℕ) (T : Ty) : Type 0 where
+  pub supers : List (List ℕ)
+  pub stands : declared name ≡ Some (named name supers T)
+
+-- names agree with the declarations and stand for structures, enumerations have a label, and exceptions have a name
+-- wherever they are fields, parts or elements
+abbrev mutual
+  pub Shaped : (List ℕ → Option Ty) → Ty → Type 0
+  Shaped declared integer = Unit {0}
+  Shaped declared boolean = Unit {0}
+  Shaped declared (enumeration_of name labels) = Written declared name (enumeration_of name labels) × HasLabel labels
+  Shaped declared (record_of name fs) = Written declared name (record_of name fs) × ShapedFields declared fs
+  Shaped declared (exception_of name fs) = Written declared name (exception_of name fs) × ShapedFields declared fs
+  Shaped declared (tuple_of ts) = ShapedParts declared ts
+  Shaped declared (array_of n T) = (is_nameless_exception T ≡ false) × Shaped declared T
+  Shaped declared (named name supers T) = (is_named T ≡ false) × Declared declared name supers T × Shaped declared T
+
+  pub ShapedFields : (List ℕ → Option Ty) → Fields → Type 0
+  ShapedFields declared no_field = Unit {0}
+  ShapedFields declared (field f T fs) = (is_nameless_exception T ≡ false) × Shaped declared T × ShapedFields declared fs
+
+  pub ShapedParts : (List ℕ → Option Ty) → Parts → Type 0
+  ShapedParts declared no_part = Unit {0}
+  ShapedParts declared (part T ts) = (is_nameless_exception T ≡ false) × Shaped declared T × ShapedParts declared ts
+
+-- a type of storage and of expressions
+pub record WellFormed (declared : List ℕ → Option Ty) (T : Ty) : Type 0 where
+  pub shaped : Shaped declared T
+  pub has_name : is_nameless_exception T ≡ false
+
+-- what a name stands for is well-formed
+pub record WellDeclared (declared : List ℕ → Option Ty) : Type 0 where
+  pub each : (name : List ℕ) (T : Ty) → declared name ≡ Some T → WellFormed declared T
+
+-- the structure of a declared name fits that of each name which it reaches, and not of the nearest alone
+pub record SupersFit (declared : List ℕ → Option Ty) : Type 0 where
+  pub fit : (n c : List ℕ) (supers others : List (List ℕ)) (T U : Ty) → declared n ≡ Some (named n supers T) → declared c ≡ Some (named c others U) → is_among c supers ≡ true → misfit T U ≡ None
+
+-- more names are declared, and none otherwise
+pub record Extends (declared later : List ℕ → Option Ty) : Type 0 where
+  pub kept : (name : List ℕ) (T : Ty) → declared name ≡ Some T → later name ≡ Some T
+
+-- ---- values that a program with these declared types can have: each exception in them was built with a declared type
+
+abbrev mutual
+  pub Built : (List ℕ → Option Ty) → Value → Type 0
+  Built declared (int z) = Unit {0}
+  Built declared (bool b) = Unit {0}
+  Built declared (label name l) = Unit {0}
+  Built declared (record_with name xs) = BuiltFields declared xs
+  Built declared (exception_with own supers name xs) = ((T : Ty) × (declared own ≡ Some (named own supers T))) × BuiltFields declared xs
+  Built declared (tuple_with xs) = BuiltAll declared xs
+  Built declared (array_with k xs) = BuiltAll declared xs
+
+  pub BuiltFields : (List ℕ → Option Ty) → FieldValues → Type 0
+  BuiltFields declared no_value_of = Unit {0}
+  BuiltFields declared (value_of_field f x xs) = Built declared x × BuiltFields declared xs
+
+  pub BuiltAll : (List ℕ → Option Ty) → Values → Type 0
+  BuiltAll declared no_value = Unit {0}
+  BuiltAll declared (value x xs) = Built declared x × BuiltAll declared xs
+
+-- a statement ends normally, or with `return`, which gives a value or none
+pub data Exit : Type 0 where
+  Normal : Exit
+  Returned : Option Value → Exit
