@@ -17,7 +17,7 @@ use Rattle.asl_rules.specs.declared.effect.Effect.TheVariants.{Pure}
 use Rattle.asl_rules.specs.Faults.{◌>>=◌, ◌>>◌, need, found_or, fault_of}
 use Rattle.asl_rules.specs.Types.{Ty, integer, boolean, tuple_of, booleans, kind, is_boolean, is_integer, join, bare}
 use Rattle.asl_rules.specs.Effects.{at_most, greater, together}
-use Rattle.asl_rules.specs.Scopes.{Scope, Entry, Standing, Stored, Subprogram, TypeName, Label, standing_of, reading}
+use Rattle.asl_rules.specs.Scopes.{Scope, Entry, Storage, Standing, Stored, Subprogram, TypeName, Label, standing_of, reading}
 use Rattle.asl_rules.specs.WellFormed.{WellFormed, BuiltAll}
 use Rattle.asl_rules.specs.Widths.{bounded}
 use Rattle.asl_rules.specs.Declarations.{names_of_program}
@@ -93,7 +93,7 @@ boolean_operands span S T U h =
     let p = then_ok (need (is_boolean S && is_boolean T) T08 span) (Ok boolean) U h in
     ((both (is_boolean S) (is_boolean T) (need_ok (is_boolean S && is_boolean T) T08 span tt p.first)).0, ok_ok boolean U p.then)
 
-append_nil : {A : Type 0} (xs : List A) → xs ++ [] ≡ xs
+pub append_nil : {A : Type 0} (xs : List A) → xs ++ [] ≡ xs
 append_nil [] = refl
 append_nil (x ∷ xs) = ap (λ l. x ∷ l) (append_nil xs)
 
@@ -146,17 +146,17 @@ module _ (base : List Entry) where
   pub retyped : (G : Scope) (S : Typed) (T : Ty) (q : Does Value) → T ≡ S.ty → Safe (our_claims base) (Gives_in G T) Thrown_in q → Safe (our_claims base) (Gives_in G S.ty) Thrown_in q
   retyped G S T q e s = subst (λ V. Safe (our_claims base) (Gives_in G V) Thrown_in q) e s
 
-  literal_safe : (G : Scope) (span : Span) (n : ℕ) (c : Core) → Agrees base G.names c → Safe (our_claims base) (Gives_in G integer) Thrown_in (lift {E = Expr} {S = Stmt} (literal span n) c (give c))
+  pub literal_safe : (G : Scope) (span : Span) (n : ℕ) (c : Core) → Agrees base G.names c → Safe (our_claims base) (Gives_in G integer) Thrown_in (lift {E = Expr} {S = Stmt} (literal span n) c (give c))
   literal_safe G span n c a = lift_safe G integer (literal span n) c (integer_gives (types_in base) span (pos n)) a
 
-  unary_safe : (G : Scope) (span : Span) (o : UnaryOperator) (a : Expr) (S : Typed) (c : Core) → (typed a G >>= λ T. unary_rule span o T.ty >>= λ U. finish G.class span true T.effect U) ≡ Ok S → Agrees base G.names c → Safe (our_claims base) (Gives_in G S.ty) Thrown_in (Eval a c (λ x c1. lift (unary_value span o x) c1 (give c1)))
+  pub unary_safe : (G : Scope) (span : Span) (o : UnaryOperator) (a : Expr) (S : Typed) (c : Core) → (typed a G >>= λ T. unary_rule span o T.ty >>= λ U. finish G.class span true T.effect U) ≡ Ok S → Agrees base G.names c → Safe (our_claims base) (Gives_in G S.ty) Thrown_in (Eval a c (λ x c1. lift (unary_value span o x) c1 (give c1)))
   unary_safe G span o a S c h g =
       let t = bind_ok (typed a G) (λ T. unary_rule span o T.ty >>= λ U. finish G.class span true T.effect U) S h in
       let u = bind_ok (unary_rule span o t.value.ty) (λ U. finish G.class span true t.value.effect U) S t.then in
       retyped G S u.value (Eval a c (λ x c1. lift (unary_value span o x) c1 (give c1))) (finish_ok G.class span true t.value.effect u.value S u.then)
       (of_type G t.value, (t.first, g), λ x c1 w. lift_safe G u.value (unary_value span o x) c1 (unary_gives (types_in base) span o t.value.ty u.value x u.first w.0) w.1, λ x c1 w. w)
 
-  binary_safe : (G : Scope) (span : Span) (o : BinaryOperator) (a b : Expr) (S : Typed) (c : Core) →
+  pub binary_safe : (G : Scope) (span : Span) (o : BinaryOperator) (a b : Expr) (S : Typed) (c : Core) →
       (typed a G >>= λ T. typed b G >>= λ V. binary_rule span o T.ty V.ty >>= λ U. finish G.class span (together T.effect V.effect) (greater T.effect V.effect) U) ≡ Ok S → Agrees base G.names c →
       Safe (our_claims base) (Gives_in G S.ty) Thrown_in (Eval a c (λ x c1. behind_left span o b x (strictness o) c1))
   binary_safe G span o a b S c h g =
@@ -166,7 +166,7 @@ module _ (base : List Entry) where
       retyped G S u.value (Eval a c (λ x c1. behind_left span o b x (strictness o) c1)) (finish_ok G.class span (together t.value.effect v.value.effect) (greater t.value.effect v.value.effect) u.value S u.then)
       (of_type G t.value, (t.first, g), λ x c1 w. behind_safe G span o b x t.value.ty u.value v.value c1 v.first u.first w.0 w.1, λ x c1 w. w)
 
-  field_safe : (G : Scope) (span : Span) (a : Expr) (i : Ident) (S : Typed) (c : Core) → field_rule span (found a) i G ≡ Ok S → Agrees base G.names c → Safe (our_claims base) (Gives_in G S.ty) Thrown_in (Eval a c (λ x c1. lift (field_of span i.text x) c1 (give c1)))
+  pub field_safe : (G : Scope) (span : Span) (a : Expr) (i : Ident) (S : Typed) (c : Core) → field_rule span (found a) i G ≡ Ok S → Agrees base G.names c → Safe (our_claims base) (Gives_in G S.ty) Thrown_in (Eval a c (λ x c1. lift (field_of span i.text x) c1 (give c1)))
   field_safe G span a i S c h g =
       let t = bind_ok (typed a G) (λ T. found_or (field_in (fields_of T.ty) i.text) T15 i.span >>= λ U. finish G.class span true T.effect U) S h in
       let u = bind_ok (found_or (field_in (fields_of t.value.ty) i.text) T15 i.span) (λ U. finish G.class span true t.value.effect U) S t.then in
@@ -174,7 +174,7 @@ module _ (base : List Entry) where
       retyped G S u.value (Eval a c (λ x c1. lift (field_of span i.text x) c1 (give c1))) (finish_ok G.class span true t.value.effect u.value S u.then)
       (of_type G t.value, (t.first, g), λ x c1 w. lift_safe G u.value (field_of span i.text x) c1 (field_gives (types_in base) span i.text t.value.ty u.value x f w.0) w.1, λ x c1 w. w)
 
-  element_safe : (G : Scope) (span : Span) (a i : Expr) (S : Typed) (c : Core) → element_rule span (found a) (found i) G ≡ Ok S → Agrees base G.names c →
+  pub element_safe : (G : Scope) (span : Span) (a i : Expr) (S : Typed) (c : Core) → element_rule span (found a) (found i) G ≡ Ok S → Agrees base G.names c →
       Safe (our_claims base) (Gives_in G S.ty) Thrown_in (Eval a c (λ x c1. Eval i c1 (λ y c2. lift (element_of span x y) c2 (give c2))))
   element_safe G span a i S c h g =
       let t = bind_ok (typed a G) _ S h in
@@ -212,7 +212,7 @@ module _ (base : List Entry) where
         λ x c1 w. w,
       )
 
-  tuple_safe : (G : Scope) (span : Span) (es : List Expr) (S : Typed) (c : Core) → tuple_rule span (map found es) G ≡ Ok S → Agrees base G.names c →
+  pub tuple_safe : (G : Scope) (span : Span) (es : List Expr) (S : Typed) (c : Core) → tuple_rule span (map found es) G ≡ Ok S → Agrees base G.names c →
       Safe (our_claims base) (Gives_in G S.ty) Thrown_in (eval_all es [] c (λ xs c1. Ret (tuple_with (values_of xs)) c1))
   tuple_safe G span es S c h a =
       let s = bind_ok (operands (map found es) G) (λ os. bounded span (tuple_of (types_of os)) >>= λ T. finish_all G.class span os T) S h in
@@ -222,7 +222,7 @@ module _ (base : List Entry) where
 
   -- ---- forms that need what is known of the names outside bodies
 
-  knows_gives : (s : _) (r : PureOf Value) → Knows (types_in base) s r → Gives (types_in base) s.ty r
+  knows_gives : (s : Storage) (r : PureOf Value) → Knows (types_in base) s r → Gives (types_in base) s.ty r
   knows_gives s (Good x) h = h.0
   knows_gives s (Bad e) h = absurd h
 
@@ -239,12 +239,12 @@ module _ (base : List Entry) where
     name_by G span name (Some (TypeName T)) S c q h a = err_ok (fault_of T02 span) S h
     name_by G span name None S c q h a = err_ok (fault_of T02 span) S h
 
-    name_safe : (ds : List Decl) (G : Scope) (span : Span) (name : List ℕ) (S : Typed) (c : Core) → names_of_program ds ≡ base → name_rule span name G ≡ Ok S → Agrees base G.names c → Safe (our_claims base) (Gives_in G S.ty) Thrown_in (lift {E = Expr} {S = Stmt} (value_or_label ds span name c) c (give c))
+    pub name_safe : (ds : List Decl) (G : Scope) (span : Span) (name : List ℕ) (S : Typed) (c : Core) → names_of_program ds ≡ base → name_rule span name G ≡ Ok S → Agrees base G.names c → Safe (our_claims base) (Gives_in G S.ty) Thrown_in (lift {E = Expr} {S = Stmt} (value_or_label ds span name c) c (give c))
     name_safe ds G span name S c e h a =
         lift_safe G S.ty (value_or_label ds span name c) c
         (subst (λ ns. Gives (types_in base) S.ty (known span (or_value (value_of name c.frame) (or_value (value_of name c.globals) (label_in (standing_of name ns)))))) (sym e) (name_by G span name (standing_of name G.names) S c refl h a)) a
 
-    conditional_safe : (G : Scope) (span : Span) (e a b : Expr) (S : Typed) (c : Core) → conditional_rule span (found e) (found a) (found b) G ≡ Ok S → Agrees base G.names c →
+    pub conditional_safe : (G : Scope) (span : Span) (e a b : Expr) (S : Typed) (c : Core) → conditional_rule span (found e) (found a) (found b) G ≡ Ok S → Agrees base G.names c →
         Safe (our_claims base) (Gives_in G S.ty) Thrown_in (Eval e c (λ x c1. lift (truth span x) c1 (λ p. choose p (Eval a c1 (λ y c2. Ret y c2)) (Eval b c1 (λ y c2. Ret y c2)))))
     conditional_safe G span e a b S c h g =
         let z = bind_ok (typed e G) _ S h in

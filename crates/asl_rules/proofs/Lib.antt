@@ -30,3 +30,4 @@ pub mod OperatorForms
 pub mod StructureForms
 pub mod WellTyped
 pub mod ExprForms
+pub mod ConstructForms

@@ -1,7 +1,8 @@
 -- The names that are visible outside bodies: what they stand for is well formed, and no two clash.
 use Rattle.std.proofs.Common.{◌≡◌, ℕ, Bool, true, false, cond, List, [], ◌∷◌, ◌++◌, Option, Some, None, refl, sym, ap, ◌∙◌, subst}
 use Rattle.std.specs.Str.{bytes_eq}
-use Rattle.asl_rules.specs.Types.{Ty}
+use Rattle.asl_rules.specs.Types.{Ty, Fields, no_field, field}
+use Rattle.asl_rules.specs.Exprs.{fields_of, field_type}
 use Rattle.asl_rules.specs.Scopes.{Entry, Standing, Stored, Subprogram, TypeName, Label, standing_of, type_in, type_of_name}
 use Rattle.asl_rules.specs.Values.{Value}
 use Rattle.asl_rules.specs.WellFormed.{WellFormed, WellDeclared}
@@ -11,25 +12,37 @@ use Rattle.asl_rules.specs.States.{Binding, Core}
 use Rattle.asl_rules.proofs.Tests.{some_same}
 use Rattle.asl_rules.proofs.Lookups.{none_some, Apart, behind, before_is}
 
+-- each field stands once
+abbrev pub FieldsOnce : Fields → Type 0
+FieldsOnce no_field = Unit {0}
+FieldsOnce (field f T fs) = (field_type f fs ≡ None) × FieldsOnce fs
+
+abbrev pub OnceIn : Option Fields → Type 0
+OnceIn None = Unit {0}
+OnceIn (Some fs) = FieldsOnce fs
+
 -- what a name stands for is well formed
 abbrev pub GoodStanding : (List ℕ → Option Ty) → Standing → Type 0
 GoodStanding d (Stored s) = WellFormed d s.ty
 GoodStanding d Subprogram = Unit {0}
-GoodStanding d (TypeName T) = WellFormed d T
+GoodStanding d (TypeName T) = WellFormed d T × OnceIn (fields_of T)
 GoodStanding d (Label T x) = WellFormed d T × InType d x T
 
 abbrev pub GoodNames : (List ℕ → Option Ty) → List Entry → Type 0
 GoodNames d names = (name : List ℕ) (st : Standing) → standing_of name names ≡ Some st → GoodStanding d st
 
-type_by : (d : List ℕ → Option Ty) (o : Option Standing) (T : Ty) → ((st : Standing) → o ≡ Some st → GoodStanding d st) → type_in o ≡ Some T → WellFormed d T
-type_by d (Some (TypeName U)) T g h = subst (WellFormed d) (some_same U T h) (g (TypeName U) refl)
+type_by : (d : List ℕ → Option Ty) (o : Option Standing) (T : Ty) → ((st : Standing) → o ≡ Some st → GoodStanding d st) → type_in o ≡ Some T → GoodStanding d (TypeName T)
+type_by d (Some (TypeName U)) T g h = subst (λ V. GoodStanding d (TypeName V)) (some_same U T h) (g (TypeName U) refl)
 type_by d (Some (Stored s)) T g h = none_some T h
 type_by d (Some Subprogram) T g h = none_some T h
 type_by d (Some (Label U x)) T g h = none_some T h
 type_by d None T g h = none_some T h
 
 pub type_formed : (d : List ℕ → Option Ty) (names : List Entry) (name : List ℕ) → GoodNames d names → (T : Ty) → type_of_name name names ≡ Some T → WellFormed d T
-type_formed d names name g T h = type_by d (standing_of name names) T (g name) h
+type_formed d names name g T h = (type_by d (standing_of name names) T (g name) h).0
+
+pub fields_once : (d : List ℕ → Option Ty) (names : List Entry) (name : List ℕ) → GoodNames d names → (T : Ty) → type_of_name name names ≡ Some T → OnceIn (fields_of T)
+fields_once d names name g T h = (type_by d (standing_of name names) T (g name) h).1
 
 -- the names outside the bodies of a program
 pub record WellNamed (base : List Entry) : Type 0 where
