@@ -6,7 +6,7 @@ use Rattle.asl_rules.specs.Values.{Value}
 use Rattle.asl_rules.specs.WellFormed.{WellFormed}
 use Rattle.asl_rules.specs.States.{Under, Binding, Core, belongs}
 use Rattle.asl_rules.specs.Belonging.{InType, AllBelong, Sound}
-use Rattle.asl_rules.specs.Agreement.{IsUnder, IsKnown, Holds, types_in, AllMatch, global_matches, local_matches, FrameMatches, AllFresh, Agrees}
+use Rattle.asl_rules.specs.Agreement.{IsUnder, IsKnown, Holds, types_in, AllMatch, global_matches, local_matches, FrameMatches, AllFresh, AllPlain, has_no_initial, Agrees}
 use Rattle.asl_rules.specs.Evaluation.{declared, cut}
 use Rattle.asl_rules.proofs.Tests.{no}
 use Rattle.asl_rules.proofs.Lookups.{none_some}
@@ -53,6 +53,10 @@ fresh_snoc : (base es : List Entry) (e : Entry) → AllFresh base es → standin
 fresh_snoc base [] e f h = (h, tt)
 fresh_snoc base (d ∷ es) e f h = (f.0, fresh_snoc base es e f.1 h)
 
+plain_snoc : (es : List Entry) (e : Entry) → AllPlain es → has_no_initial e.standing → AllPlain (es ++ e ∷ [])
+plain_snoc [] e f h = (h, tt)
+plain_snoc (d ∷ es) e f h = (f.0, plain_snoc es e f.1 h)
+
 absent_none : {A : Type 0} (o : Option A) → is_absent o ≡ true → o ≡ None
 absent_none None h = refl
 absent_none (Some x) h = no h
@@ -77,6 +81,7 @@ declared_agrees base names c name x u T m a f v w i =
       locals = a.locals ++ stored name T m ∷ [];
       names_are = ap (λ ns. ns ++ stored name T m ∷ []) a.names_are ∙ append_assoc base a.locals (stored name T m ∷ []);
       fresh = fresh_snoc base a.locals (stored name T m) a.fresh (first_none base a.locals name free);
+      plain = plain_snoc a.locals (stored name T m) a.plain refl;
       frame = frame_snoc (types_in base) a.locals c.frame (stored name T m) (record { name = name; value = x; under = u; is_mutable = m }) a.frame (record { name_is = refl; under_is = v; mutable_is = refl; well_formed = w; belongs = i; known = local_known m x });
       globals = a.globals;
     }
@@ -114,6 +119,7 @@ cut_agrees base names more c c1 a b =
       locals = a.locals;
       names_are = a.names_are;
       fresh = a.fresh;
+      plain = a.plain;
       frame = subst (λ n. FrameMatches (types_in base) a.locals (take n c1.frame)) (sym (frame_length (types_in base) a.locals c.frame a.frame)) (frame_cut (types_in base) a.locals more c1.frame (subst (λ es. FrameMatches (types_in base) es c1.frame) same b.frame));
       globals = b.globals;
     }

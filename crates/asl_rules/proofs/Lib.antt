@@ -31,3 +31,6 @@ pub mod StructureForms
 pub mod WellTyped
 pub mod ExprForms
 pub mod ConstructForms
+pub mod WrittenTypes
+pub mod BindForms
+pub mod AssignForms

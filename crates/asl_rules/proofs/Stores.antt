@@ -127,12 +127,12 @@ by_base : (base names : List Entry) (c : Core) (span : Span) (name : List ℕ) (
 by_base base names c span name x s a None q h m i =
     first_leaves (Agrees base names) (FrameMatches (types_in base) a.locals) span (λ bs. record c { frame = bs }) (λ bs. record c { globals = bs }) (stored_in span name x c.frame) (stored_in span name x c.globals)
     (frame_store (types_in base) span name x s a.locals c.frame a.frame (sym (behind base a.locals name q) ∙ h) m i)
-    (λ bs w. record { locals = a.locals; names_are = a.names_are; fresh = a.fresh; frame = w; globals = a.globals })
+    (λ bs w. record { locals = a.locals; names_are = a.names_are; fresh = a.fresh; plain = a.plain; frame = w; globals = a.globals })
 by_base base names c span name x s a (Some st) q h m i =
     second_leaves (Agrees base names) (AllMatch (types_in base) base) span (λ bs. record c { frame = bs }) (λ bs. record c { globals = bs }) (stored_in span name x c.frame) (stored_in span name x c.globals)
     (absent_store (types_in base) span x base a.locals name st c.frame a.frame a.fresh q)
     (global_store (types_in base) span name x s base c.globals a.globals (q ∙ sym (before_is base a.locals name st q) ∙ h) m i)
-    (λ bs w. record { locals = a.locals; names_are = a.names_are; fresh = a.fresh; frame = a.frame; globals = w })
+    (λ bs w. record { locals = a.locals; names_are = a.names_are; fresh = a.fresh; plain = a.plain; frame = a.frame; globals = w })
 
 pub store_agrees : (base names : List Entry) (c : Core) (span : Span) (name : List ℕ) (x : Value) (s : Storage) → Agrees base names c → standing_of name names ≡ Some (Stored s) → s.is_mutable ≡ true → InType (types_in base) x s.ty → StoresTo (Agrees base names) (store span name x c)
 store_agrees base names c span name x s a h m i =

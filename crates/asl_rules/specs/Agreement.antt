@@ -59,6 +59,15 @@ FrameMatches declared [] (b ∷ bs) = ⊥
 FrameMatches declared (e ∷ es) [] = ⊥
 FrameMatches declared (e ∷ es) (b ∷ bs) = local_matches declared e.name e.standing b × FrameMatches declared es bs
 
+abbrev pub has_no_initial : Standing → Type 0
+has_no_initial (Stored s) = s.initial ≡ None
+has_no_initial st = Unit {0}
+
+-- local storage has no value that is known before any run
+abbrev pub AllPlain : List Entry → Type 0
+AllPlain [] = Unit {0}
+AllPlain (e ∷ es) = has_no_initial e.standing × AllPlain es
+
 -- no local name is one of those outside
 abbrev pub AllFresh : List Entry → List Entry → Type 0
 AllFresh base [] = Unit {0}
@@ -69,5 +78,6 @@ pub record Agrees (base names : List Entry) (c : Core) : Type 0 where
   pub locals : List Entry
   pub names_are : names ≡ base ++ locals
   pub fresh : AllFresh base locals
+  pub plain : AllPlain locals
   pub frame : FrameMatches (types_in base) locals c.frame
   pub globals : GlobalsMatch base c.globals
