@@ -41,7 +41,7 @@ use Rattle.asl_rules.proofs.OperatorForms.{Gives}
 use Rattle.asl_rules.proofs.StructureForms.{element_gives, with_element_gives, field_gives, with_field_gives}
 use Rattle.asl_rules.proofs.WellTyped.{field_formed, element_formed, indexed_in, typed_formed}
 use Rattle.asl_rules.proofs.ExprForms.{ExprClaim, of_type, EndsBody, our_claims, Thrown_in, append_nil}
-use Rattle.asl_rules.proofs.BindForms.{parts_kind, tuple_has, tuple_shaped, renamed, ends_normal}
+use Rattle.asl_rules.proofs.BindForms.{parts_kind, tuple_has, tuple_shaped}
 use Rattle.asl_rules.proofs.Safe.{Safe}
 
 -- ---- steps into values

@@ -5,7 +5,7 @@ use Rattle.std.specs.Str.{bytes_eq}
 use Rattle.asl_syn.specs.declared.token.Span.{Span}
 use Rattle.asl_syn.specs.declared.code.Fault.{Fault}
 use Rattle.asl_syn.specs.declared.code.StaticCode.{StaticCode}
-use Rattle.asl_syn.specs.declared.code.StaticCode.TheVariants.{S03, T01, T02, T05, T12, T13, T14}
+use Rattle.asl_syn.specs.declared.code.StaticCode.TheVariants.{T01, T05}
 use Rattle.asl_syn.specs.declared.tree.Expr.{Expr}
 use Rattle.asl_syn.specs.declared.tree.Ident.{Ident}
 use Rattle.asl_syn.specs.declared.tree.TypeExpr.{TypeExpr}
@@ -19,7 +19,6 @@ use Rattle.asl_syn.specs.declared.tree.Decl.{Decl}
 use Rattle.asl_rules.specs.declared.effect.Effect.{Effect}
 use Rattle.asl_rules.specs.Faults.{◌>>=◌, ◌>>◌, need, found_or, fitted, fault_of}
 use Rattle.asl_rules.specs.Types.{Ty, Parts, Kinds, tuple_of, named, no_part, part, tuples, kind, kinds, misfit}
-use Rattle.asl_rules.specs.Effects.{at_most}
 use Rattle.asl_rules.specs.Scopes.{Scope, Entry, Standing, stored, standing_of, is_free, is_absent}
 use Rattle.asl_rules.specs.Declarations.{in_names, names_of_program}
 use Rattle.asl_rules.specs.Exprs.{Typed, typed, written, has_name}
@@ -45,13 +44,8 @@ use Rattle.asl_rules.proofs.Naming.{WellNamed, well_declared, scope_good}
 use Rattle.asl_rules.proofs.WellTyped.{typed_formed, written_formed}
 use Rattle.asl_rules.proofs.WrittenTypes.{written_outside}
 use Rattle.asl_rules.proofs.ExprForms.{ExprClaim, of_type, EndsBody, our_claims, Thrown_in}
+use Rattle.asl_rules.proofs.StmtForms.{renamed, ends_normal}
 use Rattle.asl_rules.proofs.Safe.{Safe}
-
-pub ended_ok : (class : Effect) (span : Span) (ok : Bool) (k l : Effect) → ended class span ok k ≡ Ok l → k ≡ l
-ended_ok class span ok k l h =
-    let a = then_ok (need ok T13 span) (need (at_most k class) T12 span >> Ok k) l h in
-    let b = then_ok (need (at_most k class) T12 span) (Ok k) l a.then in
-    ok_ok k l b.then
 
 -- the parts of a type that is a tuple
 pub parts_kind : (T : Ty) (ts : Parts) → tuple_parts T ≡ Some ts → kind T ≡ tuples (kinds ts)
@@ -127,16 +121,27 @@ not_true : (b : Bool) → not b ≡ true → b ≡ false
 not_true true h = no h
 not_true false h = refl
 
+-- what the rule of a tuple bind says behind the types
+pub record Binds (kind : LocalKind) (bs : List Binder) (T : Ty) (code : Option StaticCode) (G : Scope) (d : Done) : Type 0 where
+  pub free : binders_free bs [] G.names ≡ Ok tt
+  pub fits : code ≡ None
+  pub bound : bound_in bs (is_var kind) (tuple_parts T) G.names ≡ Some d.names
+
+pub binds : (span : Span) (kind : LocalKind) (bs : List Binder) (T : Ty) (code : Option StaticCode) (e : Expr) (k : Effect) (G : Scope) (d : Done) → several_bound span kind bs T code e k G ≡ Ok d → Binds kind bs T code G d
+binds span kind bs T code e k G d h =
+    let f = then_ok (binders_free bs [] G.names) _ d h in
+    let c = then_ok (fitted code (expr_at e)) _ d f.then in
+    let n = bind_ok (found_or (bound_in bs (is_var kind) (tuple_parts T) G.names) T05 span) _ d c.then in
+    let l = bind_ok (ended G.class span true k) (λ l. Ok (done n.value l)) d n.then in
+    record {
+      free = f.first;
+      fits = fitted_ok code (expr_at e) tt c.first;
+      bound = found_ok (bound_in bs (is_var kind) (tuple_parts T) G.names) T05 span n.value n.first ∙ ap Some (ap (λ (z : Done). z.names) (ok_ok (done n.value l.value) d l.then));
+    }
+
 module _ (ds : List Decl) (base : List Entry) (w : WellNamed base) (same : names_of_program ds ≡ base) where
-  pub renamed : (ns ms : List Entry) (c : Core) → ns ≡ ms → Agrees base ns c → Agrees base ms c
-  renamed ns ms c e a = subst (λ n. Agrees base n c) e a
-
-  -- a normal end in the scope that the rule gives
-  pub ends_normal : (T : Option Ty) (ns : List Entry) (k : Effect) (d : Done) (c : Core) → (let r : Result Done Fault = Ok (done ns k) in r) ≡ Ok d → Agrees base ns c → EndsBody base T true d.names Normal c
-  ends_normal T ns k d c h a = (refl, renamed ns d.names c (ap (λ (e : Done). e.names) (ok_ok (done ns k) d h)) a)
-
   pub stored_safe : (T : Option Ty) (names : List Entry) (k : Effect) (d : Done) (r : PureOf Core) (c : Core) → StoresTo (Agrees base names) r → (let q : Result Done Fault = Ok (done names k) in q) ≡ Ok d → Safe (our_claims base) (EndsBody base T true d.names) (Thrown_in base) (lift {E = Expr} {S = Stmt} r c (λ c2. Ret Normal c2))
-  stored_safe T names k d (Good c2) c s h = ends_normal T names k d c2 h s
+  stored_safe T names k d (Good c2) c s h = ends_normal base T names k d c2 h s
   stored_safe T names k d (Bad e) c s h = absurd s
 
   -- ---- where a value is stored
@@ -196,7 +201,7 @@ module _ (ds : List Decl) (base : List Entry) (w : WellNamed base) (same : names
       let s = bind_ok (initialised t e G) (λ S. ended G.class span true S.effect >>= λ k. Ok (done G.names k)) d h in
       let v = bind_ok (ended G.class span true s.value.effect) (λ k. Ok (done G.names k)) d s.then in
       init_safe t e G s.value c (EndsBody base G.result true d.names) (λ x c1. lift (bound_to ds span (Single (Unbound at)) (is_var kind) t x c1) c1 (λ c2. Ret Normal c2)) s.first a
-      (λ f x c1 o a1 p. ends_normal G.result G.names v.value d c1 v.then a1)
+      (λ f x c1 o a1 p. ends_normal base G.result G.names v.value d c1 v.then a1)
 
   -- ---- the names of a tuple bind
 
@@ -207,7 +212,7 @@ module _ (ds : List Decl) (base : List Entry) (w : WellNamed base) (same : names
   declare_each_good : (span : Span) (bs : List Binder) (m : Bool) (ts : Parts) (us : List Under) (xs : Values) (before : List (List ℕ)) (names0 names after : List Entry) (c : Core) →
       bound_parts bs m ts names ≡ Some after → binders_free bs before names0 ≡ Ok tt → AllUnder us ts → ShapedParts (types_in base) ts → parts_have xs ts ≡ true → BuiltAll (types_in base) xs → Agrees base names c →
       ((n : List ℕ) → is_free n names0 ≡ true → has_name n before ≡ false → is_free n names ≡ true) → StoresTo (Agrees base after) (declare_each span bs m us (values_in xs) c)
-  declare_each_good span [] m no_part [] no_value before names0 names after c h k v s i b a free = renamed names after c (some_same names after h) a
+  declare_each_good span [] m no_part [] no_value before names0 names after c h k v s i b a free = renamed base names after c (some_same names after h) a
   declare_each_good span [] m no_part [] (value x xs) before names0 names after c h k v s i b a free = no i
   declare_each_good span [] m no_part (u ∷ us) xs before names0 names after c h k v s i b a free = absurd v
   declare_each_good span [] m (part T ts) us xs before names0 names after c h k v s i b a free = some_none after (sym h)
@@ -241,24 +246,6 @@ module _ (ds : List Decl) (base : List Entry) (w : WellNamed base) (same : names
       (subst (λ o. StoresTo (Agrees base after) (pure.◌>>=◌ (there span o) (λ us. pure.◌>>=◌ (parts span x) (λ xs. declare_each span bs m us xs c)))) (sym u.are)
       (subst (λ y. StoresTo (Agrees base after) (pure.◌>>=◌ (parts span y) (λ xs. declare_each span bs m u.unders xs c))) (sym v.1)
       (declare_each_good span bs m b.0 u.unders v.0 [] names names after c b.2 k u.all (tuple_shaped (types_in base) T b.0 b.1 f.shaped) (tuple_has T b.0 v.0 b.1 j.0) j.1 a (λ n z g. z))))
-
-  -- what the rule of a tuple bind says behind the types
-  record Binds (kind : LocalKind) (bs : List Binder) (T : Ty) (code : Option StaticCode) (G : Scope) (d : Done) : Type 0 where
-    pub free : binders_free bs [] G.names ≡ Ok tt
-    pub fits : code ≡ None
-    pub bound : bound_in bs (is_var kind) (tuple_parts T) G.names ≡ Some d.names
-
-  binds : (span : Span) (kind : LocalKind) (bs : List Binder) (T : Ty) (code : Option StaticCode) (e : Expr) (k : Effect) (G : Scope) (d : Done) → several_bound span kind bs T code e k G ≡ Ok d → Binds kind bs T code G d
-  binds span kind bs T code e k G d h =
-      let f = then_ok (binders_free bs [] G.names) _ d h in
-      let c = then_ok (fitted code (expr_at e)) _ d f.then in
-      let n = bind_ok (found_or (bound_in bs (is_var kind) (tuple_parts T) G.names) T05 span) _ d c.then in
-      let l = bind_ok (ended G.class span true k) (λ l. Ok (done n.value l)) d n.then in
-      record {
-        free = f.first;
-        fits = fitted_ok code (expr_at e) tt c.first;
-        bound = found_ok (bound_in bs (is_var kind) (tuple_parts T) G.names) T05 span n.value n.first ∙ ap Some (ap (λ (z : Done). z.names) (ok_ok (done n.value l.value) d l.then));
-      }
 
   several_safe : (span at : Span) (kind : LocalKind) (bs : List Binder) (t : Option TypeExpr) (e : Expr) (G : Scope) (d : Done) (c : Core) → several_rule span kind bs t e G ≡ Ok d → Agrees base G.names c →
       Safe (our_claims base) (EndsBody base G.result true d.names) (Thrown_in base) (Eval e c (λ x c1. lift (bound_to ds span (Several at bs) (is_var kind) t x c1) c1 (λ c2. Ret Normal c2)))

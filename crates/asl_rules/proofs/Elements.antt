@@ -1,8 +1,8 @@
--- The elements of arrays and the parts of tuples, and what stays when one is replaced.
+-- The elements of arrays, and what stays when one is replaced.
 use Rattle.std.proofs.Common.{◌≡◌, ℕ, zero, suc, ◌<◌, ◌&&◌, true, List, Option, Some, None, option_map, le_of_suc-le-suc, not-suc-le-zero, refl, sym, ap, ◌∙◌, subst}
 use Rattle.std.specs.Prelude.{◌==◌}
-use Rattle.asl_rules.specs.Types.{Ty, Parts, Kind, array_of, tuple_of, named, no_part, part, arrays, kind, kind_eq, parts_of, element_of, part_type}
-use Rattle.asl_rules.specs.Values.{Value, Values, array_with, tuple_with, no_value, value, count, has_type, parts_have, all_have}
+use Rattle.asl_rules.specs.Types.{Ty, Kind, array_of, named, arrays, kind, kind_eq, parts_of, element_of}
+use Rattle.asl_rules.specs.Values.{Value, Values, array_with, no_value, value, count, has_type, all_have}
 use Rattle.asl_rules.specs.Structures.{value_at, with_value_at}
 use Rattle.asl_rules.specs.WellFormed.{Built, BuiltAll}
 use Rattle.asl_rules.proofs.Having.{Has}
@@ -51,19 +51,6 @@ length_of k = 0
 pub array_length : (T : Ty) (k l : Kind) (n : ℕ) (xs : Values) → has_type (array_with k xs) T ≡ true → kind T ≡ arrays n l → count xs ≡ n
 unfolding length_of
 array_length T k l n xs h e = ap length_of (has_kind T (array_with k xs) h ∙ e)
-
--- ---- tuples
-
-parts_at : (ts : Parts) (xs : Values) (i : ℕ) (U : Ty) → parts_have xs ts ≡ true → part_type i ts ≡ Some U → Has (λ x. (value_at i xs ≡ Some x) × (has_type x U ≡ true))
-parts_at no_part xs i U h e = some_none U (sym e)
-parts_at (part T ts) no_value i U h e = no h
-parts_at (part T ts) (value x xs) zero U h e = record { one = x; holds = (refl, subst (λ V. has_type x V ≡ true) (some_same T U e) (both (has_type x T) (parts_have xs ts) h).0) }
-parts_at (part T ts) (value x xs) (suc i) U h e = parts_at ts xs i U (both (has_type x T) (parts_have xs ts) h).1 e
-
-pub tuple_part : (T U : Ty) (xs : Values) (i : ℕ) → has_type (tuple_with xs) T ≡ true → part_type i (parts_of T) ≡ Some U → Has (λ x. (value_at i xs ≡ Some x) × (has_type x U ≡ true))
-tuple_part (tuple_of ts) U xs i h e = parts_at ts xs i U h e
-tuple_part (named n supers T) U xs i h e = tuple_part T U xs i h e
-tuple_part T U xs i h e = no h
 
 -- ---- built with declared types
 

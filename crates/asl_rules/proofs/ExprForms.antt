@@ -48,6 +48,11 @@ GivesResult d None (Some x) = ⊥
 GivesResult d (Some T) None = ⊥
 GivesResult d (Some T) (Some x) = InType d x T
 
+-- the result of a body is a well-formed type
+abbrev pub FormedResult : List Entry → Option Ty → Type 0
+FormedResult base None = Unit {0}
+FormedResult base (Some T) = WellFormed (types_in base) T
+
 -- how a statement of a body with this result ends
 abbrev pub EndsBody : List Entry → Option Ty → Bool → List Entry → Exit → Core → Type 0
 EndsBody base result b names Normal c = (b ≡ true) × Agrees base names c
@@ -78,7 +83,7 @@ our_claims base = record {
   expr_in = ExprIn base;
   expr_out = λ i e x c. ExprOut base i x c;
   expr_thrown = λ i e x c. GlobalsMatch base c.globals;
-  stmt_in = λ j s c. (found_stmt s j.scope ≡ Ok j.done) × Agrees base j.scope.names c;
+  stmt_in = λ j s c. (found_stmt s j.scope ≡ Ok j.done) × Agrees base j.scope.names c × FormedResult base j.scope.result;
   stmt_out = λ j s x c. EndsBody base j.scope.result (falls s) j.done.names x c;
   stmt_thrown = λ j s x c. GlobalsMatch base c.globals;
   holds = Sound;

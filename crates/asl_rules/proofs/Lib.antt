@@ -32,5 +32,7 @@ pub mod WellTyped
 pub mod ExprForms
 pub mod ConstructForms
 pub mod WrittenTypes
+pub mod StmtForms
 pub mod BindForms
 pub mod AssignForms
+pub mod Growing
