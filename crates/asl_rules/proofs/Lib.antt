@@ -36,3 +36,7 @@ pub mod StmtForms
 pub mod BindForms
 pub mod AssignForms
 pub mod Growing
+pub mod SmallNumbers
+pub mod WidthForms
+pub mod SizeForms
+pub mod ListForms

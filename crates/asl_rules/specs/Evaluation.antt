@@ -5,15 +5,15 @@ use Rattle.std.specs.Str.{bytes_eq}
 use Rattle.asl_syn.specs.declared.token.Span.{Span}
 use Rattle.asl_syn.specs.declared.code.DynCode.TheVariants.{D08}
 use Rattle.asl_syn.specs.declared.tree.BinaryOperator.{BinaryOperator}
-use Rattle.asl_syn.specs.declared.tree.Bitfield.{Bitfield, roll-Bitfield}
-use Rattle.asl_syn.specs.declared.tree.ConstraintPart.{ConstraintPart, roll-ConstraintPart}
-use Rattle.asl_syn.specs.declared.tree.Expr.{Expr, out-Expr, roll-Expr}
-use Rattle.asl_syn.specs.declared.tree.FieldValue.{FieldValue, out-FieldValue, roll-FieldValue}
-use Rattle.asl_syn.specs.declared.tree.Pattern.{Pattern, roll-Pattern}
-use Rattle.asl_syn.specs.declared.tree.Slice.{Slice, roll-Slice}
+use Rattle.asl_syn.specs.declared.tree.Bitfield.{Bitfield}
+use Rattle.asl_syn.specs.declared.tree.ConstraintPart.{ConstraintPart}
+use Rattle.asl_syn.specs.declared.tree.Expr.{Expr, out-Expr}
+use Rattle.asl_syn.specs.declared.tree.FieldValue.{FieldValue, out-FieldValue}
+use Rattle.asl_syn.specs.declared.tree.Pattern.{Pattern}
+use Rattle.asl_syn.specs.declared.tree.Slice.{Slice}
 use Rattle.asl_syn.specs.declared.tree.Bitfield.TheOpen as ex
-use Rattle.asl_syn.specs.declared.tree.Bitfield.TheFolds.{fold-TypeExpr, map-Bitfield, map-ConstraintPart, map-Expr, map-FieldValue, map-Pattern, map-Slice, map-TypeExpr}
-use Rattle.asl_syn.specs.declared.tree.TypeExpr.{TypeExpr, roll-TypeExpr}
+use Rattle.asl_syn.specs.declared.tree.Bitfield.TheFolds.{fold-TypeExpr, para-TypeExpr}
+use Rattle.asl_syn.specs.declared.tree.TypeExpr.{TypeExpr}
 use Rattle.asl_syn.specs.declared.tree.Ident.{Ident}
 use Rattle.asl_syn.specs.declared.tree.Binder.{Binder}
 use Rattle.asl_syn.specs.declared.tree.Binder.TheVariants.{Bound, Unbound}
@@ -335,44 +335,21 @@ store_each (p ∷ ps) c = eval_suffixes p.name p.suffixes [] c (λ ss c1. lift (
 
 -- ---- declarations without an initialiser: the expressions in the written type are evaluated once
 
--- a tree whose written types stand with what was found in them
-abbrev keep_bitfield : {X : Type 0} → ex.Bitfield-F Bitfield ConstraintPart Expr FieldValue Pattern Slice (TypeExpr × X) → Bitfield
-keep_bitfield layer = roll-Bitfield (map-Bitfield Bitfield ConstraintPart Expr FieldValue Pattern Slice (TypeExpr × _) Bitfield ConstraintPart Expr FieldValue Pattern Slice TypeExpr (λ x. x) (λ x. x) (λ x. x) (λ x. x) (λ x. x) (λ x. x) (λ p. p.0) layer)
-
-abbrev keep_constraintpart : {X : Type 0} → ex.ConstraintPart-F Bitfield ConstraintPart Expr FieldValue Pattern Slice (TypeExpr × X) → ConstraintPart
-keep_constraintpart layer = roll-ConstraintPart (map-ConstraintPart Bitfield ConstraintPart Expr FieldValue Pattern Slice (TypeExpr × _) Bitfield ConstraintPart Expr FieldValue Pattern Slice TypeExpr (λ x. x) (λ x. x) (λ x. x) (λ x. x) (λ x. x) (λ x. x) (λ p. p.0) layer)
-
-abbrev keep_expr : {X : Type 0} → ex.Expr-F Bitfield ConstraintPart Expr FieldValue Pattern Slice (TypeExpr × X) → Expr
-keep_expr layer = roll-Expr (map-Expr Bitfield ConstraintPart Expr FieldValue Pattern Slice (TypeExpr × _) Bitfield ConstraintPart Expr FieldValue Pattern Slice TypeExpr (λ x. x) (λ x. x) (λ x. x) (λ x. x) (λ x. x) (λ x. x) (λ p. p.0) layer)
-
-abbrev keep_fieldvalue : {X : Type 0} → ex.FieldValue-F Bitfield ConstraintPart Expr FieldValue Pattern Slice (TypeExpr × X) → FieldValue
-keep_fieldvalue layer = roll-FieldValue (map-FieldValue Bitfield ConstraintPart Expr FieldValue Pattern Slice (TypeExpr × _) Bitfield ConstraintPart Expr FieldValue Pattern Slice TypeExpr (λ x. x) (λ x. x) (λ x. x) (λ x. x) (λ x. x) (λ x. x) (λ p. p.0) layer)
-
-abbrev keep_pattern : {X : Type 0} → ex.Pattern-F Bitfield ConstraintPart Expr FieldValue Pattern Slice (TypeExpr × X) → Pattern
-keep_pattern layer = roll-Pattern (map-Pattern Bitfield ConstraintPart Expr FieldValue Pattern Slice (TypeExpr × _) Bitfield ConstraintPart Expr FieldValue Pattern Slice TypeExpr (λ x. x) (λ x. x) (λ x. x) (λ x. x) (λ x. x) (λ x. x) (λ p. p.0) layer)
-
-abbrev keep_slice : {X : Type 0} → ex.Slice-F Bitfield ConstraintPart Expr FieldValue Pattern Slice (TypeExpr × X) → Slice
-keep_slice layer = roll-Slice (map-Slice Bitfield ConstraintPart Expr FieldValue Pattern Slice (TypeExpr × _) Bitfield ConstraintPart Expr FieldValue Pattern Slice TypeExpr (λ x. x) (λ x. x) (λ x. x) (λ x. x) (λ x. x) (λ x. x) (λ p. p.0) layer)
-
-abbrev keep_type : {X : Type 0} → ex.TypeExpr-F Bitfield ConstraintPart Expr FieldValue Pattern Slice (TypeExpr × X) → TypeExpr
-keep_type layer = roll-TypeExpr (map-TypeExpr Bitfield ConstraintPart Expr FieldValue Pattern Slice (TypeExpr × _) Bitfield ConstraintPart Expr FieldValue Pattern Slice TypeExpr (λ x. x) (λ x. x) (λ x. x) (λ x. x) (λ x. x) (λ x. x) (λ p. p.0) layer)
-
--- what a rule finds in a written type, whose expressions it sees as they stand
-abbrev found_in_type : (X : Type 0) → (ex.TypeExpr-F Bitfield ConstraintPart Expr FieldValue Pattern Slice (TypeExpr × X) → X) → TypeExpr → TypeExpr × X
-found_in_type X rule = fold-TypeExpr Bitfield ConstraintPart Expr FieldValue Pattern Slice (TypeExpr × X) keep_bitfield keep_constraintpart keep_expr keep_fieldvalue keep_pattern keep_slice (λ layer. (keep_type layer, rule layer))
+abbrev pub Unread : Type 0
+Unread = Unit {0}
 
 abbrev pub all_sizes : List (TypeExpr × List Expr) → List Expr
 all_sizes [] = []
 all_sizes (t ∷ ts) = t.1 ++ all_sizes ts
 
 -- the expressions in a written type, in order
-abbrev pub sizes_layer : ex.TypeExpr-F Bitfield ConstraintPart Expr FieldValue Pattern Slice (TypeExpr × List Expr) → List Expr
+abbrev pub sizes_layer : ex.TypeExpr-F (Bitfield × Unread) (ConstraintPart × Unread) (Expr × Unread) (FieldValue × Unread) (Pattern × Unread) (Slice × Unread) (TypeExpr × List Expr) → List Expr
 sizes_layer (ex.TupleType span ts) = all_sizes ts
-sizes_layer (ex.ArrayType span e t) = e ∷ t.1
+sizes_layer (ex.ArrayType span e t) = e.0 ∷ t.1
 sizes_layer layer = []
 
 abbrev pub sizes_in : TypeExpr → List Expr
-sizes_in t = (found_in_type (List Expr) sizes_layer t).1
+sizes_in = para-TypeExpr Unread Unread Unread Unread Unread Unread (List Expr) (λ _. tt) (λ _. tt) (λ _. tt) (λ _. tt) (λ _. tt) (λ _. tt) sizes_layer
 
 -- a type with its sizes, in order, and the sizes that are left
 abbrev pub Sized : Type 0
@@ -382,17 +359,17 @@ pub record SizedParts : Type 0 where
   pub parts : Parts
   pub left : List Value
 
+abbrev pub with_part : Ty → Option SizedParts → Option SizedParts
+with_part T None = None
+with_part T (Some q) = Some (record q { parts = part T q.parts })
+
 abbrev pub first_part : Option (Ty × List Value) → (List Value → Option SizedParts) → Option SizedParts
 first_part None rest = None
 first_part (Some p) rest = with_part p.0 (rest p.1)
-  where
-    with_part : Ty → Option SizedParts → Option SizedParts
-    with_part T None = None
-    with_part T (Some q) = Some (record q { parts = part T q.parts })
 
-abbrev pub sized_parts : List (TypeExpr × Sized) → List Value → Option SizedParts
+abbrev pub sized_parts : List Sized → List Value → Option SizedParts
 sized_parts [] zs = Some (record { parts = no_part; left = zs })
-sized_parts (t ∷ ts) zs = first_part (t.1 zs) (sized_parts ts)
+sized_parts (t ∷ ts) zs = first_part (t zs) (sized_parts ts)
 
 abbrev pub tuple_sized : Option SizedParts → Option (Ty × List Value)
 tuple_sized None = None
@@ -410,16 +387,16 @@ abbrev pub named_type : Option Ty → List Value → Option (Ty × List Value)
 named_type None zs = None
 named_type (Some T) zs = Some (T, zs)
 
-abbrev pub sized_layer : List Decl → ex.TypeExpr-F Bitfield ConstraintPart Expr FieldValue Pattern Slice (TypeExpr × Sized) → Sized
+abbrev pub sized_layer : List Decl → ex.TypeExpr-F Unread Unread Unread Unread Unread Unread Sized → Sized
 sized_layer ds (ex.IntegerType span []) zs = Some (integer, zs)
 sized_layer ds (ex.BooleanType span) zs = Some (boolean, zs)
 sized_layer ds (ex.NamedType span name) zs = named_type (type_of_name name (names_of_program ds)) zs
 sized_layer ds (ex.TupleType span ts) zs = tuple_sized (sized_parts ts zs)
-sized_layer ds (ex.ArrayType span e t) zs = by_size t.1 zs
+sized_layer ds (ex.ArrayType span e t) zs = by_size t zs
 sized_layer ds layer zs = None
 
 abbrev pub sized : List Decl → TypeExpr → Sized
-sized ds t = (found_in_type Sized (sized_layer ds) t).1
+sized ds = fold-TypeExpr Unread Unread Unread Unread Unread Unread Sized (λ _. tt) (λ _. tt) (λ _. tt) (λ _. tt) (λ _. tt) (λ _. tt) (sized_layer ds)
 
 abbrev pub first_of_pair : Option (Ty × List Value) → Option Ty
 first_of_pair None = None
