@@ -52,7 +52,7 @@ field_layer_is (ex.Given i e) = refl
 pub field_is : (f : FieldValue) → found_field f ≡ record { name = (given_layer (out-FieldValue f)).0; value = found (given_layer (out-FieldValue f)).1 }
 field_is f = fold_out-FieldValue Unread Unread Found FoundField Unread Unread FoundType (λ _. tt) (λ _. tt) expr_rule given_rule (λ _. tt) (λ _. tt) type_rule f ∙ field_layer_is (out-FieldValue f)
 
-constructed_is : (i : Ident) (o : Option Ty) (p : Ty × Fields) → constructed i o ≡ Ok p → (o ≡ Some p.0) × (fields_of p.0 ≡ Some p.1)
+pub constructed_is : (i : Ident) (o : Option Ty) (p : Ty × Fields) → constructed i o ≡ Ok p → (o ≡ Some p.0) × (fields_of p.0 ≡ Some p.1)
 constructed_is i None p h = err_ok (fault_of T02 i.span) p h
 constructed_is i (Some T) p h =
     let f = bind_ok (found_or (fields_of T) T05 i.span) (λ fs. Ok (T, fs)) p h in
@@ -64,11 +64,11 @@ behind_field : (b : Bool) (f g : List ℕ) (T U : Ty) (o : Option Ty) (rest : Fi
 behind_field true f g T U o rest q n h = some_none U (sym h ∙ ap (λ m. field_type m rest) (sym (same_name f g q)) ∙ n)
 behind_field false f g T U o rest q n h = h
 
-once_in : (o : Option Fields) (fs : Fields) → o ≡ Some fs → OnceIn o → FieldsOnce fs
+pub once_in : (o : Option Fields) (fs : Fields) → o ≡ Some fs → OnceIn o → FieldsOnce fs
 once_in o fs h k = subst OnceIn h k
 
 module _ (d : List ℕ → Option Ty) where
-  fields_shaped : (T : Ty) (fs : Fields) → Shaped d T → fields_of T ≡ Some fs → ShapedFields d fs
+  pub fields_shaped : (T : Ty) (fs : Fields) → Shaped d T → fields_of T ≡ Some fs → ShapedFields d fs
   fields_shaped (record_of n gs) fs s h = subst (ShapedFields d) (some_same gs fs h) s.1
   fields_shaped (exception_of n gs) fs s h = subst (ShapedFields d) (some_same gs fs h) s.1
   fields_shaped (named n supers T) fs s h = fields_shaped T fs s.2 h
@@ -81,14 +81,14 @@ module _ (d : List ℕ → Option Ty) where
   GivenIn fs os gs = ⊥
 
   -- the value of a field among those that are given
-  abbrev Gets : Ty → Option Value → Type 0
+  abbrev pub Gets : Ty → Option Value → Type 0
   Gets T o = Has (λ y. (o ≡ Some y) × InType d y T)
 
   gets_first : (b : Bool) (n f : List ℕ) (x : Value) (T : Ty) (o : Option Value) (names : List (List ℕ)) → bytes_eq n f ≡ b → (if b then true else has_name f names) ≡ true → (n ≡ f → InType d x T) → (has_name f names ≡ true → Gets T o) → Gets T (if b then Some x else o)
   gets_first true n f x T o names q h here further = record { one = x; holds = (refl, here (same_name n f q)) }
   gets_first false n f x T o names q h here further = further h
 
-  value_given : (fs : List FieldValue) (os : List Operand) (gs : List Given) (before : List (List ℕ)) (whole : Fields) (Ts : List Ty) (f : List ℕ) (T : Ty) → GivenIn fs os gs → given_once (map found_field fs) before whole ≡ Ok Ts → all_fit os Ts ≡ Ok tt →
+  pub value_given : (fs : List FieldValue) (os : List Operand) (gs : List Given) (before : List (List ℕ)) (whole : Fields) (Ts : List Ty) (f : List ℕ) (T : Ty) → GivenIn fs os gs → given_once (map found_field fs) before whole ≡ Ok Ts → all_fit os Ts ≡ Ok tt →
       has_name f (names_given (map found_field fs)) ≡ true → field_type f whole ≡ Some T → WellFormed d T → ((S U : Ty) (x : Value) → WellFormed d S → WellFormed d U → misfit S U ≡ None → InType d x S → InType d x U) → Gets T (given_value f gs)
   value_given [] os gs before whole Ts f T i h k n e t keep = no n
   value_given (l ∷ fs) [] gs before whole Ts f T i h k n e t keep = absurd i
@@ -106,7 +106,7 @@ module _ (d : List ℕ → Option Ty) where
       (λ q. keep o.typed.ty T g.value i.2 t (subst (λ V. misfit o.typed.ty V ≡ None) (same q) m) i.1)
       (λ z. value_given fs os gs (before ++ name.text ∷ []) whole r.value f T i.3 r.first fits.then z e t keep))
 
-  filled_from : (names : List (List ℕ)) (gs : List Given) (part : Fields) → ((f : List ℕ) (T : Ty) → field_type f part ≡ Some T → WellFormed d T → has_name f names ≡ true → Gets T (given_value f gs)) → FieldsOnce part → ShapedFields d part → none_missing part names ≡ true → Filled d part gs
+  pub filled_from : (names : List (List ℕ)) (gs : List Given) (part : Fields) → ((f : List ℕ) (T : Ty) → field_type f part ≡ Some T → WellFormed d T → has_name f names ≡ true → Gets T (given_value f gs)) → FieldsOnce part → ShapedFields d part → none_missing part names ≡ true → Filled d part gs
   filled_from names gs no_field f o s n = record { values = no_value_of; given = refl; have = refl; built = tt }
   filled_from names gs (field g T rest) f o s n =
       let q = both (has_name g names) (none_missing rest names) n in

@@ -93,7 +93,7 @@ pub unrolled : (e : Expr) → found e ≡ expr_rule (opened (out-Expr e))
 unrolled e = fold_out-Expr Unread Unread Found FoundField Unread Unread FoundType (λ _. tt) (λ _. tt) expr_rule given_rule (λ _. tt) (λ _. tt) type_rule e
 
 -- an operator that its left operand may decide is one on booleans
-boolean_operands : (span : Span) (S T U : Ty) → of_booleans span S T ≡ Ok U → (is_boolean S ≡ true) × (boolean ≡ U)
+pub boolean_operands : (span : Span) (S T U : Ty) → of_booleans span S T ≡ Ok U → (is_boolean S ≡ true) × (boolean ≡ U)
 boolean_operands span S T U h =
     let p = then_ok (need (is_boolean S && is_boolean T) T08 span) (Ok boolean) U h in
     ((both (is_boolean S) (is_boolean T) (need_ok (is_boolean S && is_boolean T) T08 span tt p.first)).0, ok_ok boolean U p.then)

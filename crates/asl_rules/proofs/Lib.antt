@@ -40,3 +40,6 @@ pub mod SmallNumbers
 pub mod WidthForms
 pub mod SizeForms
 pub mod ListForms
+pub mod Distinct
+pub mod KnownForms
+pub mod DeclForms

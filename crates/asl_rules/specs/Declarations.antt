@@ -211,10 +211,16 @@ all_fine f us (d ∷ ds) = fine_where_used (f d) d us && all_fine f us ds
 abbrev pub judged_by : (Decl → Judged) → List Decl → Decl → Judged
 judged_by f ds d = if all_fine f (uses d) ds then judged (decl_rule d (in_names (map subprogram library ++ entries f ds))) else Waiting
 
--- after so many rounds, in each of which all are judged that use only what was well formed before it
+-- what was judged stays
+abbrev pub still : Judged → Judged → Judged
+still Waiting j = j
+still (Fine es) j = Fine es
+still (Faulty f) j = Faulty f
+
+-- after so many rounds, in each of which all that wait are judged that use only what was well formed before it
 abbrev pub judgement : ℕ → List Decl → Decl → Judged
 judgement zero ds d = Waiting
-judgement (suc n) ds d = judged_by (λ e. judgement n ds e) ds d
+judgement (suc n) ds d = still (judgement n ds d) (judged_by (λ e. judgement n ds e) ds d)
 
 -- as many rounds as there are declarations
 abbrev pub final : List Decl → Decl → Judged
