@@ -99,7 +99,7 @@ in_type_grows : (d D : List ℕ → Option Ty) → Extends d D → (x : Value) (
 in_type_grows d D g x T i = (i.0, built_grows d D g x i.1)
 
 stands_grows : (d D : List ℕ → Option Ty) → Extends d D → (n : List ℕ) (st : Standing) → StandsWell d n st → StandsWell D n st
-stands_grows d D g n (Stored s) w = (well_formed_grows d D g s.ty w.0, w.1.0, w.1.1, in_type_grows d D g w.1.0 s.ty w.1.2)
+stands_grows d D g n (Stored s) w = (well_formed_grows d D g s.ty w.0, (w.1.0, w.1.1, in_type_grows d D g w.1.0 s.ty w.1.2))
 stands_grows d D g n Subprogram w = tt
 stands_grows d D g n (TypeName T) w = (well_formed_grows d D g T w.0, w.1, w.2)
 stands_grows d D g n (Label T x) w = (well_formed_grows d D g T w.0, in_type_grows d D g x T w.1)
@@ -276,7 +276,7 @@ module _ (d D : List ℕ → Option Ty) (grow : Extends d D) (names : List Entry
 
   labels_well : (name : List ℕ) (N : Ty) (is : List Ident) → WellFormed D N → ((l : List ℕ) → is_among l (labels is) ≡ true → has_type (label name l) N ≡ true) → AllWell D (map (λ (i : Ident). label_name i.text N (label name i.text)) is)
   labels_well name N [] w f = tt
-  labels_well name N (i ∷ is) w f = ((w, f i.text (or_first (bytes_eq i.text i.text) (is_among i.text (labels is)) (name_is i.text)), tt), labels_well name N is w (λ l h. f l (or_second (bytes_eq i.text l) (is_among l (labels is)) h)))
+  labels_well name N (i ∷ is) w f = ((w, (f i.text (or_first (bytes_eq i.text i.text) (is_among i.text (labels is)) (name_is i.text)), tt)), labels_well name N is w (λ l h. f l (or_second (bytes_eq i.text l) (is_among l (labels is)) h)))
 
   def_well : (name : List ℕ) (def : TypeDef) (T : Ty) (supers : List (List ℕ)) → def_rule name def G ≡ Ok T → WellFormed D (named name supers (structure T)) → AllWell D (label_entries def name (named name supers (structure T)))
   def_well name (td.Alias t) T supers h w = tt
@@ -305,7 +305,7 @@ module _ (d D : List ℕ → Option Ty) (grow : Extends d D) (names : List Entry
   storage_good s (Some t) None i h =
       let v = bind_ok (written t G) (λ T. Ok (with_type T (initial_value T))) i h in
       let w = written_formed d t G v.value ready.good v.first in
-      subst (λ (z : Initial). WellFormed d z.ty × InType d z.value z.ty) (ok_ok (with_type v.value (initial_value v.value)) i v.then) (w, initial_belongs d v.value w, initial_built d v.value w)
+      subst (λ (z : Initial). WellFormed d z.ty × InType d z.value z.ty) (ok_ok (with_type v.value (initial_value v.value)) i v.then) (w, (initial_belongs d v.value w, initial_built d v.value w))
   storage_good s None (Some e) i h =
       let b = then_ok (none_at T04 (barred e names)) _ i h in
       let v = bind_ok (typed e G) _ i b.then in
@@ -322,7 +322,7 @@ module _ (d D : List ℕ → Option Ty) (grow : Extends d D) (names : List Entry
       let k = typed_formed d e G v.value ready.good v.first in
       let g = subst (Gives d v.value.ty) (evaluated_is (constant e names) x.value x.first) (constant_gives d G ready.good ready.initials ready.declared e v.value v.first) in
       subst (λ (z : Initial). WellFormed d z.ty × InType d z.value z.ty) (ok_ok (with_type u.value x.value) i x.then)
-      (w, satisfying_keeps d ready.declared v.value.ty u.value x.value k w g.1 (fitted_ok (misfit v.value.ty u.value) (found e).span tt f.first) g.0, g.1)
+      (w, (satisfying_keeps d ready.declared v.value.ty u.value x.value k w g.1 (fitted_ok (misfit v.value.ty u.value) (found e).span tt f.first) g.0, g.1))
 
   storage_well : (s : StorageDecl) (es : List Entry) → storage_decl_rule s G ≡ Ok es → AllWell D es
   storage_well s es h =

@@ -43,3 +43,5 @@ pub mod ListForms
 pub mod Distinct
 pub mod KnownForms
 pub mod DeclForms
+pub mod Globals
+pub mod Soundness
