@@ -1,12 +1,12 @@
 -- States that agree with a scope: they are sound, a new name keeps them so, and the end of a scope.
-use Rattle.std.proofs.Common.{◌≡◌, ℕ, suc, ◌⊎◌, Bool, true, false, cond, List, [], ◌∷◌, ◌++◌, Option, Some, None, refl, sym, ap, ◌∙◌, subst, take, length, append_assoc}
+use Rattle.std.proofs.Common.{◌≡◌, ℕ, suc, Bool, true, false, cond, List, [], ◌∷◌, ◌++◌, Option, Some, None, refl, sym, ap, ◌∙◌, subst, take, length, append_assoc}
 use Rattle.asl_rules.specs.Types.{Ty}
 use Rattle.asl_rules.specs.Scopes.{Entry, Standing, Stored, Subprogram, TypeName, Label, stored, standing_of, is_free, is_absent}
 use Rattle.asl_rules.specs.Values.{Value}
 use Rattle.asl_rules.specs.WellFormed.{WellFormed}
 use Rattle.asl_rules.specs.States.{Under, Binding, Core, belongs}
 use Rattle.asl_rules.specs.Belonging.{InType, AllBelong, Sound}
-use Rattle.asl_rules.specs.Agreement.{IsUnder, IsKnown, Holds, types_in, AllMatch, global_matches, local_matches, FrameMatches, AllFresh, AllPlain, has_no_initial, Agrees}
+use Rattle.asl_rules.specs.Agreement.{IsUnder, IsKnown, types_in, AllMatch, global_matches, local_matches, FrameMatches, AllFresh, AllPlain, has_no_initial, Agrees}
 use Rattle.asl_rules.specs.Evaluation.{declared, cut}
 use Rattle.asl_rules.proofs.Tests.{no}
 use Rattle.asl_rules.proofs.Lookups.{none_some}

@@ -1,37 +1,33 @@
 -- Assignments are safe: each place of the target takes a value of its type.
-use Rattle.std.proofs.Common.{◌≡◌, ℕ, ◌&&◌, Bool, true, false, List, [], ◌∷◌, ◌++◌, Option, Some, None, Result, Ok, refl, sym, ap, ◌∙◌, subst, append_assoc, map}
+use Rattle.std.proofs.Common.{◌≡◌, ℕ, true, List, [], ◌∷◌, ◌++◌, Option, Some, None, Ok, refl, sym, ap, ◌∙◌, subst, append_assoc, map}
 use Rattle.asl_syn.specs.declared.token.Span.{Span}
-use Rattle.asl_syn.specs.declared.code.Fault.{Fault}
 use Rattle.asl_syn.specs.declared.code.StaticCode.TheVariants.{S03, T02, T05, T14, T15}
 use Rattle.asl_syn.specs.declared.tree.Expr.{Expr}
 use Rattle.asl_syn.specs.declared.tree.Ident.{Ident}
 use Rattle.asl_syn.specs.declared.tree.PlacedSuffix.{PlacedSuffix}
 use Rattle.asl_syn.specs.declared.tree.Suffix.{Suffix}
 use Rattle.asl_syn.specs.declared.tree.Suffix.TheVariants.{FieldOf, FieldsOf, SlicesOf, ElementOf}
-use Rattle.asl_syn.specs.declared.tree.Target.{Target, roll-Target, fold-Target, fold-roll-Target, map-Target, ind-Target}
+use Rattle.asl_syn.specs.declared.tree.Target.{Target, roll-Target, fold-roll-Target, map-Target, ind-Target}
 use Rattle.asl_syn.specs.declared.tree.Target.TheOpen as tg
 use Rattle.asl_syn.specs.declared.tree.Stmt.{Stmt}
-use Rattle.asl_syn.specs.declared.tree.Decl.{Decl}
-use Rattle.asl_rules.specs.declared.effect.Effect.{Effect}
 use Rattle.asl_rules.specs.declared.effect.Effect.TheVariants.{Pure}
 use Rattle.asl_rules.specs.Faults.{◌>>=◌, ◌>>◌, need, found_or, fitted, fault_of}
 use Rattle.asl_rules.specs.Types.{Ty, Parts, no_part, part, kinds, is_integer, misfit}
 use Rattle.asl_rules.specs.Effects.{greater, greatest, all_together}
-use Rattle.asl_rules.specs.Scopes.{Scope, Entry, Storage, Stored, standing_of, storage_of, writing}
-use Rattle.asl_rules.specs.Declarations.{names_of_program}
-use Rattle.asl_rules.specs.Exprs.{Typed, typed, fields_of, field_in, element_in, indexed}
-use Rattle.asl_rules.specs.Stmts.{Done, done, expr_at, ended, up_to, behind_suffix, behind_suffixes, assignable, place_type, FoundTarget, all_operands, all_places, parts_fit, all_parts_fit, parts_count, all_count, target_layer, found_target, tuple_parts, assign_rule}
+use Rattle.asl_rules.specs.Scopes.{Scope, Entry, Storage, Stored, standing_of, storage_of}
+use Rattle.asl_rules.specs.Exprs.{typed, fields_of, field_in, element_in, indexed}
+use Rattle.asl_rules.specs.Stmts.{Done, done, expr_at, ended, up_to, behind_suffix, behind_suffixes, assignable, place_type, FoundTarget, parts_fit, all_parts_fit, parts_count, all_count, target_layer, found_target, tuple_parts, assign_rule}
 use Rattle.asl_rules.specs.Values.{Value, Values, tuple_with, no_value, value, has_type, parts_have, Exit, Normal}
-use Rattle.asl_rules.specs.WellFormed.{WellFormed, Shaped, ShapedParts, BuiltAll}
+use Rattle.asl_rules.specs.WellFormed.{WellFormed, ShapedParts, BuiltAll}
 use Rattle.asl_rules.specs.States.{Core}
 use Rattle.asl_rules.specs.Belonging.{InType}
-use Rattle.asl_rules.specs.Agreement.{types_in, GlobalsMatch, Agrees}
+use Rattle.asl_rules.specs.Agreement.{types_in, Agrees}
 use Rattle.asl_rules.specs.Structures.{element_of, with_element, field_of, with_field, values_in, parts}
 use Rattle.asl_rules.specs.Constants as pure
-use Rattle.asl_rules.specs.Plans.{Faulted, Stuck, Ret, Eval, Pure as PureOf, Good, Bad, lift}
+use Rattle.asl_rules.specs.Plans.{Faulted, Stuck, Eval, Pure as PureOf, Good, Bad, lift}
 use Rattle.asl_rules.specs.Evaluation.{Does, Step, into_field, into_element, updated, held, store, store_at, eval_suffix, eval_suffixes, Assigned, Assigning, assign_each, assigning_layer, assigned, store_each}
 use Rattle.asl_rules.proofs.Inversions.{ok_ok, err_ok, bind_ok, then_ok, need_ok, found_ok, fitted_ok}
-use Rattle.asl_rules.proofs.Tests.{no, some_none, some_same, both}
+use Rattle.asl_rules.proofs.Tests.{no, both}
 use Rattle.asl_rules.proofs.OfType.{of_tuples}
 use Rattle.asl_rules.proofs.Keeping.{satisfying_keeps}
 use Rattle.asl_rules.proofs.Lookups.{Knows, storage_standing, held_value}
@@ -40,7 +36,7 @@ use Rattle.asl_rules.proofs.Naming.{GoodNames, WellNamed, well_declared, scope_g
 use Rattle.asl_rules.proofs.OperatorForms.{Gives}
 use Rattle.asl_rules.proofs.StructureForms.{element_gives, with_element_gives, field_gives, with_field_gives}
 use Rattle.asl_rules.proofs.WellTyped.{field_formed, element_formed, indexed_in, typed_formed}
-use Rattle.asl_rules.proofs.ExprForms.{ExprClaim, of_type, EndsBody, our_claims, Thrown_in, append_nil}
+use Rattle.asl_rules.proofs.ExprForms.{of_type, EndsBody, our_claims, Thrown_in, append_nil}
 use Rattle.asl_rules.proofs.BindForms.{parts_kind, tuple_has, tuple_shaped}
 use Rattle.asl_rules.proofs.Safe.{Safe}
 
@@ -116,7 +112,7 @@ module _ (base : List Entry) (w : WellNamed base) where
   suffixes_safe G Q i (x ∷ xs) before c T U k h a next =
       let v = bind_ok (behind_suffix (up_to i x.end) x.suffix T G) (λ V. behind_suffixes i xs V G) U h in
       one (up_to i x.end) x.suffix v.value v.first (λ ss c1 a1 l.
-          suffixes_safe G Q i xs ss c1 v.value U k v.then a1 (λ ss2 c2 a2 l2. l ss2 c2 a2 l2))
+      suffixes_safe G Q i xs ss c1 v.value U k v.then a1 (λ ss2 c2 a2 l2. l ss2 c2 a2 l2))
     where
       one : (span : Span) (s : Suffix) (V : Ty) → behind_suffix span s T G ≡ Ok V →
           ((ss : List Step) (c1 : Core) → Agrees base G.names c1 → ((ss2 : List Step) (c2 : Core) → Agrees base G.names c2 → Leads (types_in base) ss2 V U → Safe (our_claims base) Q (Thrown_in base) (k (ss ++ ss2) c2)) → Safe (our_claims base) Q (Thrown_in base) (eval_suffixes i xs ss c1 k)) →

@@ -1,5 +1,5 @@
 -- Declarations in bodies are safe: each new name has a value of its type.
-use Rattle.std.proofs.Common.{◌≡◌, ℕ, ◌⊎◌, inl, inr, ◌&&◌, ◌||◌, Bool, true, false, not, cond, List, [], ◌∷◌, ◌++◌, Option, Some, None, Result, Ok, refl, sym, ap, ◌∙◌, subst, append_assoc}
+use Rattle.std.proofs.Common.{◌≡◌, ℕ, inl, inr, ◌&&◌, Bool, true, false, not, cond, List, [], ◌∷◌, ◌++◌, Option, Some, None, Result, Ok, refl, sym, ap, ◌∙◌, subst}
 use Rattle.std.specs.Prelude.{if◌then◌else◌}
 use Rattle.std.specs.Str.{bytes_eq}
 use Rattle.asl_syn.specs.declared.token.Span.{Span}
@@ -17,33 +17,33 @@ use Rattle.asl_syn.specs.declared.tree.Bind.TheVariants.{Single, Several}
 use Rattle.asl_syn.specs.declared.tree.Stmt.{Stmt}
 use Rattle.asl_syn.specs.declared.tree.Decl.{Decl}
 use Rattle.asl_rules.specs.declared.effect.Effect.{Effect}
-use Rattle.asl_rules.specs.Faults.{◌>>=◌, ◌>>◌, need, found_or, fitted, fault_of}
-use Rattle.asl_rules.specs.Types.{Ty, Parts, Kinds, tuple_of, named, no_part, part, tuples, kind, kinds, misfit}
-use Rattle.asl_rules.specs.Scopes.{Scope, Entry, Standing, stored, standing_of, is_free, is_absent}
+use Rattle.asl_rules.specs.Faults.{◌>>=◌, ◌>>◌, need, found_or, fitted}
+use Rattle.asl_rules.specs.Types.{Ty, Parts, tuple_of, named, no_part, part, tuples, kind, kinds, misfit}
+use Rattle.asl_rules.specs.Scopes.{Scope, Entry, stored, standing_of, is_free, is_absent}
 use Rattle.asl_rules.specs.Declarations.{in_names, names_of_program}
 use Rattle.asl_rules.specs.Exprs.{Typed, typed, written, has_name}
 use Rattle.asl_rules.specs.Stmts.{Done, done, expr_at, ended, fitting, is_var, initialised, local_rule, unbound_rule, binders_free, tuple_parts, bound_parts, bound_in, several_bound, several_rule, bind_rule}
 use Rattle.asl_rules.specs.Values.{Value, Values, tuple_with, no_value, value, kind_of, has_type, parts_have, Exit, Normal}
-use Rattle.asl_rules.specs.WellFormed.{Built, BuiltAll, WellFormed, Shaped, ShapedParts}
-use Rattle.asl_rules.specs.States.{Under, of_type, of_kind, Core, belongs}
+use Rattle.asl_rules.specs.WellFormed.{BuiltAll, WellFormed, Shaped, ShapedParts}
+use Rattle.asl_rules.specs.States.{Under, of_type, of_kind, Core}
 use Rattle.asl_rules.specs.Belonging.{InType}
-use Rattle.asl_rules.specs.Agreement.{IsUnder, types_in, GlobalsMatch, Agrees}
+use Rattle.asl_rules.specs.Agreement.{IsUnder, types_in, Agrees}
 use Rattle.asl_rules.specs.Structures.{values_in, parts, there}
 use Rattle.asl_rules.specs.Constants as pure
-use Rattle.asl_rules.specs.Plans.{Faulted, Stuck, WrongKind, Ret, Eval, Pure as PureOf, Good, Bad, lift}
-use Rattle.asl_rules.specs.Evaluation.{Does, good_type, type_written, declared, type_under, stored_under, under, map_pure, declare, unders_of_kinds, unders_of_parts, unders_in, unders_or, declare_each, bound_to}
-use Rattle.asl_rules.proofs.Inversions.{ok_ok, err_ok, bind_ok, then_ok, need_ok, found_ok, fitted_ok}
+use Rattle.asl_rules.specs.Plans.{Stuck, WrongKind, Ret, Eval, Pure as PureOf, Good, Bad, lift}
+use Rattle.asl_rules.specs.Evaluation.{Does, good_type, declared, type_under, stored_under, map_pure, declare, unders_of_kinds, unders_of_parts, unders_in, unders_or, declare_each, bound_to}
+use Rattle.asl_rules.proofs.Inversions.{ok_ok, bind_ok, then_ok, need_ok, found_ok, fitted_ok}
 use Rattle.asl_rules.proofs.Tests.{no, some_none, some_same, both}
 use Rattle.asl_rules.proofs.KindOf.{has_kind}
 use Rattle.asl_rules.proofs.OfType.{of_tuples}
 use Rattle.asl_rules.proofs.Keeping.{satisfying_keeps}
-use Rattle.asl_rules.proofs.Lookups.{none_some, behind}
+use Rattle.asl_rules.proofs.Lookups.{behind}
 use Rattle.asl_rules.proofs.Stores.{StoresTo, belongs_under}
 use Rattle.asl_rules.proofs.Agreeing.{declared_agrees}
 use Rattle.asl_rules.proofs.Naming.{WellNamed, well_declared, scope_good}
 use Rattle.asl_rules.proofs.WellTyped.{typed_formed, written_formed}
 use Rattle.asl_rules.proofs.WrittenTypes.{written_outside}
-use Rattle.asl_rules.proofs.ExprForms.{ExprClaim, of_type, EndsBody, our_claims, Thrown_in}
+use Rattle.asl_rules.proofs.ExprForms.{of_type, EndsBody, our_claims, Thrown_in}
 use Rattle.asl_rules.proofs.StmtForms.{renamed, ends_normal}
 use Rattle.asl_rules.proofs.Safe.{Safe}
 
@@ -191,9 +191,9 @@ module _ (ds : List Decl) (base : List Entry) (w : WellNamed base) (same : names
       let u = then_ok (need (is_free i.text G.names) T01 i.span) (ended G.class span true s.value.effect >>= λ k. Ok (done (G.names ++ stored i.text s.value.ty (is_var kind) ∷ []) k)) d s.then in
       let v = bind_ok (ended G.class span true s.value.effect) (λ k. Ok (done (G.names ++ stored i.text s.value.ty (is_var kind) ∷ []) k)) d u.then in
       init_safe t e G s.value c (EndsBody base G.result true d.names) (λ x c1. lift (bound_to ds span (Single (Bound i)) (is_var kind) t x c1) c1 (λ c2. Ret Normal c2)) s.first a (λ f x c1 o a1 p.
-          stored_safe G.result (G.names ++ stored i.text s.value.ty (is_var kind) ∷ []) v.value d (bound_to ds span (Single (Bound i)) (is_var kind) t x c1) c1
-          (subst (λ z. StoresTo (Agrees base (G.names ++ stored i.text s.value.ty (is_var kind) ∷ [])) (declare span i.text (is_var kind) z x c1)) (sym p.1)
-          (declare_good span i.text (is_var kind) p.0 s.value.ty x c1 G.names p.2 f o a1 (need_ok (is_free i.text G.names) T01 i.span tt u.first))) v.then)
+      stored_safe G.result (G.names ++ stored i.text s.value.ty (is_var kind) ∷ []) v.value d (bound_to ds span (Single (Bound i)) (is_var kind) t x c1) c1
+      (subst (λ z. StoresTo (Agrees base (G.names ++ stored i.text s.value.ty (is_var kind) ∷ [])) (declare span i.text (is_var kind) z x c1)) (sym p.1)
+      (declare_good span i.text (is_var kind) p.0 s.value.ty x c1 G.names p.2 f o a1 (need_ok (is_free i.text G.names) T01 i.span tt u.first))) v.then)
 
   unbound_safe : (span at : Span) (kind : LocalKind) (t : Option TypeExpr) (e : Expr) (G : Scope) (d : Done) (c : Core) → unbound_rule span t e G ≡ Ok d → Agrees base G.names c →
       Safe (our_claims base) (EndsBody base G.result true d.names) (Thrown_in base) (Eval e c (λ x c1. lift (bound_to ds span (Single (Unbound at)) (is_var kind) t x c1) c1 (λ c2. Ret Normal c2)))

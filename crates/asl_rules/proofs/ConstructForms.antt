@@ -18,18 +18,18 @@ use Rattle.asl_syn.specs.declared.tree.Stmt.{Stmt}
 use Rattle.asl_syn.specs.declared.tree.Decl.{Decl}
 use Rattle.asl_syn.specs.Layers.{ExprLayer}
 use Rattle.asl_rules.specs.declared.effect.Effect.TheVariants.{Pure}
-use Rattle.asl_rules.specs.Faults.{◌>>=◌, ◌>>◌, need, found_or, fitted, fault_of}
+use Rattle.asl_rules.specs.Faults.{◌>>=◌, need, found_or, fitted, fault_of}
 use Rattle.asl_rules.specs.Types.{Ty, Fields, integer, boolean, record_of, exception_of, named, no_field, field, misfit}
 use Rattle.asl_rules.specs.Scopes.{Scope, Entry, type_of_name}
-use Rattle.asl_rules.specs.WellFormed.{WellFormed, Shaped, ShapedFields, BuiltFields}
+use Rattle.asl_rules.specs.WellFormed.{WellFormed, Shaped, ShapedFields}
 use Rattle.asl_rules.specs.Declarations.{names_of_program}
-use Rattle.asl_rules.specs.Exprs.{Typed, Found, FoundField, FoundType, Operand, Unread, found, typed, typed_rule, expr_rule, given_rule, type_rule, finish, finish_all, operands, constructed, given_once, all_fit, none_missing, names_given, values_given, has_name, construct_rule, fields_of, field_type, span_of}
-use Rattle.asl_rules.specs.Values.{Value, FieldValues, bool, no_value_of, value_of_field, has_type, fields_have}
+use Rattle.asl_rules.specs.Exprs.{Typed, Found, FoundField, FoundType, Operand, Unread, found, typed, typed_rule, expr_rule, given_rule, type_rule, operands, constructed, given_once, all_fit, none_missing, names_given, values_given, has_name, construct_rule, fields_of, field_type, span_of}
+use Rattle.asl_rules.specs.Values.{Value, bool, no_value_of, value_of_field, has_type, fields_have}
 use Rattle.asl_rules.specs.States.{Core}
 use Rattle.asl_rules.specs.Belonging.{InType}
-use Rattle.asl_rules.specs.Agreement.{types_in, GlobalsMatch, Agrees}
+use Rattle.asl_rules.specs.Agreement.{types_in, Agrees}
 use Rattle.asl_rules.specs.Structures.{Given, given_value, filled, fields_given, construct}
-use Rattle.asl_rules.specs.Plans.{Ret, Eval, lift}
+use Rattle.asl_rules.specs.Plans.{Ret, lift}
 use Rattle.asl_rules.specs.Evaluation as runs
 use Rattle.asl_rules.specs.Evaluation.{Does, give, expr_node, given_layer, eval_given, literal}
 use Rattle.asl_rules.proofs.Inversions.{ok_ok, err_ok, bind_ok, then_ok, need_ok, found_ok, fitted_ok}
@@ -38,10 +38,9 @@ use Rattle.asl_rules.proofs.Tests.{no, some_none, some_same, both, and_true, sam
 use Rattle.asl_rules.proofs.Keeping.{satisfying_keeps}
 use Rattle.asl_rules.proofs.Lookups.{same_types}
 use Rattle.asl_rules.proofs.Naming.{FieldsOnce, OnceIn, WellNamed, well_declared, scope_good, type_formed, fields_once}
-use Rattle.asl_rules.proofs.OperatorForms.{integer_gives}
 use Rattle.asl_rules.proofs.StructureForms.{Filled, construct_gives}
 use Rattle.asl_rules.proofs.WellTyped.{found_field, field_opened, opened, finish_ok, typed_formed}
-use Rattle.asl_rules.proofs.ExprForms.{ExprClaim, of_type, of_width, our_claims, unrolled, append_nil, Gives_in, Thrown_in, lift_safe, retyped, literal_safe, name_safe, unary_safe, binary_safe, conditional_safe, tuple_safe, field_safe, element_safe}
+use Rattle.asl_rules.proofs.ExprForms.{of_type, our_claims, unrolled, append_nil, Gives_in, Thrown_in, lift_safe, retyped, literal_safe, name_safe, unary_safe, binary_safe, conditional_safe, tuple_safe, field_safe, element_safe}
 use Rattle.asl_rules.proofs.Safe.{Safe}
 
 -- ---- the fields that a construction gives
@@ -159,12 +158,12 @@ module _ (ds : List Decl) (base : List Entry) (w : WellNamed base) (same : names
       let shaped = fields_shaped d p.value.0 p.value.1 tf.shaped is.1 in
       retyped base G S p.value.0 (eval_given fs [] c (λ gs c1. lift (runs.constructed span (type_of_name i.text (names_of_program ds)) gs) c1 (give c1))) (finish_ok G.class span _ _ p.value.0 S n.then)
       (eval_given_safe G p.value.0 fs o.value [] c (λ gs c1. lift (runs.constructed span (type_of_name i.text (names_of_program ds)) gs) c1 (give c1)) o.first a (λ gs c1 a1 g.
-          subst (λ z. Safe (our_claims base) (Gives_in base G p.value.0) (Thrown_in base) (lift {E = Expr} {S = Stmt} (runs.constructed span z gs) c1 (give c1))) (sym here)
-          (lift_safe base G p.value.0 (construct span p.value.0 gs) c1
-          (construct_gives d span p.value.0 p.value.1 gs tf is.1
-          (filled_from d (names_given (map found_field fs)) gs p.value.1 (λ l T e u q.
-              value_given d fs o.value gs [] p.value.1 t.value l T g t.first f.first q e u (λ V W x v y k j. (satisfying_keeps d (well_declared base w) V W x v y j.1 k j.0, j.1)))
-              once shaped m)) a1)))
+      subst (λ z. Safe (our_claims base) (Gives_in base G p.value.0) (Thrown_in base) (lift {E = Expr} {S = Stmt} (runs.constructed span z gs) c1 (give c1))) (sym here)
+      (lift_safe base G p.value.0 (construct span p.value.0 gs) c1
+      (construct_gives d span p.value.0 p.value.1 gs tf is.1
+      (filled_from d (names_given (map found_field fs)) gs p.value.1 (λ l T e u q.
+      value_given d fs o.value gs [] p.value.1 t.value l T g t.first f.first q e u (λ V W x v y k j. (satisfying_keeps d (well_declared base w) V W x v y j.1 k j.0, j.1)))
+      once shaped m)) a1)))
 
   -- ---- all forms
 

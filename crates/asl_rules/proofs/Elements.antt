@@ -1,7 +1,7 @@
 -- The elements of arrays, and what stays when one is replaced.
 use Rattle.std.proofs.Common.{◌≡◌, ℕ, zero, suc, ◌<◌, ◌&&◌, true, List, Option, Some, None, option_map, le_of_suc-le-suc, not-suc-le-zero, refl, sym, ap, ◌∙◌, subst}
 use Rattle.std.specs.Prelude.{◌==◌}
-use Rattle.asl_rules.specs.Types.{Ty, Kind, array_of, named, arrays, kind, kind_eq, parts_of, element_of}
+use Rattle.asl_rules.specs.Types.{Ty, Kind, array_of, named, arrays, kind, kind_eq, element_of}
 use Rattle.asl_rules.specs.Values.{Value, Values, array_with, no_value, value, count, has_type, all_have}
 use Rattle.asl_rules.specs.Structures.{value_at, with_value_at}
 use Rattle.asl_rules.specs.WellFormed.{Built, BuiltAll}

@@ -1,44 +1,41 @@
 -- Each form of expression is safe: it gives a value of its type, in a state that agrees with its scope.
-use Rattle.std.proofs.Common.{◌≡◌, ℕ, ℤ, ◌⊎◌, inl, inr, ◌&&◌, Bool, true, false, not, pos, List, [], ◌∷◌, ◌++◌, Option, Some, None, Result, Ok, refl, sym, ap, ◌∙◌, subst, map, append_assoc}
+use Rattle.std.proofs.Common.{◌≡◌, ℕ, ℤ, inl, inr, ◌&&◌, Bool, true, false, not, pos, List, [], ◌∷◌, ◌++◌, Option, Some, None, Ok, refl, sym, ap, ◌∙◌, subst, map, append_assoc}
 use Rattle.asl_syn.specs.declared.token.Span.{Span}
-use Rattle.asl_syn.specs.declared.code.Fault.{Fault}
-use Rattle.asl_syn.specs.declared.code.StaticCode.TheVariants.{S03, T02, T05, T08, T12, T13, T15}
+use Rattle.asl_syn.specs.declared.code.StaticCode.TheVariants.{T02, T05, T08, T15}
 use Rattle.asl_syn.specs.declared.tree.Ident.{Ident}
 use Rattle.asl_syn.specs.declared.tree.Expr.{Expr, out-Expr}
-use Rattle.asl_syn.specs.declared.tree.Bitfield.TheOpen as ex
 use Rattle.asl_syn.specs.declared.tree.Bitfield.TheFolds.{fold_out-Expr}
 use Rattle.asl_syn.specs.declared.tree.Stmt.{Stmt}
 use Rattle.asl_syn.specs.declared.tree.Decl.{Decl}
 use Rattle.asl_syn.specs.declared.tree.UnaryOperator.{UnaryOperator}
 use Rattle.asl_syn.specs.declared.tree.BinaryOperator.{BinaryOperator}
 use Rattle.asl_syn.specs.declared.tree.BinaryOperator.TheVariants as binary
-use Rattle.asl_syn.specs.Layers.{ExprLayer}
 use Rattle.asl_rules.specs.declared.effect.Effect.TheVariants.{Pure}
-use Rattle.asl_rules.specs.Faults.{◌>>=◌, ◌>>◌, need, found_or, fault_of}
-use Rattle.asl_rules.specs.Types.{Ty, integer, boolean, tuple_of, booleans, kind, is_boolean, is_integer, join, bare}
-use Rattle.asl_rules.specs.Effects.{at_most, greater, together}
+use Rattle.asl_rules.specs.Faults.{◌>>=◌, need, found_or, fault_of}
+use Rattle.asl_rules.specs.Types.{Ty, integer, boolean, tuple_of, is_boolean, join, bare}
+use Rattle.asl_rules.specs.Effects.{greater, together}
 use Rattle.asl_rules.specs.Scopes.{Scope, Entry, Storage, Standing, Stored, Subprogram, TypeName, Label, standing_of, reading}
 use Rattle.asl_rules.specs.WellFormed.{WellFormed, BuiltAll}
 use Rattle.asl_rules.specs.Widths.{bounded}
 use Rattle.asl_rules.specs.Declarations.{names_of_program}
-use Rattle.asl_rules.specs.Exprs.{Typed, typed_as, Found, FoundField, FoundType, Operand, Unread, found, typed, width, typed_rule, expr_rule, given_rule, type_rule, finish, finish_all, name_rule, name_of_standing, operands, types_of, effects_of, of_booleans, binary_rule, unary_rule, conditional_rule, tuple_rule, field_rule, fields_of, field_in, element_rule, indexed, construct_rule, span_of}
+use Rattle.asl_rules.specs.Exprs.{Typed, Found, FoundField, FoundType, Operand, Unread, found, typed, width, expr_rule, given_rule, type_rule, finish, finish_all, name_rule, name_of_standing, operands, types_of, of_booleans, binary_rule, unary_rule, conditional_rule, tuple_rule, field_rule, fields_of, field_in, element_rule, indexed}
 use Rattle.asl_rules.specs.Stmts.{Done, found_stmt, falls}
-use Rattle.asl_rules.specs.Values.{Value, Values, int, bool, tuple_with, value, no_value, has_type, parts_have, Exit, Normal, Returned}
+use Rattle.asl_rules.specs.Values.{Value, int, tuple_with, has_type, parts_have, Exit, Normal, Returned}
 use Rattle.asl_rules.specs.States.{Core}
 use Rattle.asl_rules.specs.Belonging.{InType, Sound}
 use Rattle.asl_rules.specs.Agreement.{types_in, GlobalsMatch, Agrees}
 use Rattle.asl_rules.specs.Structures.{element_of, field_of, values_of}
 use Rattle.asl_rules.specs.Plans.{Faulted, Stuck, Ret, Eval, choose, Pure as PureOf, Good, Bad, lift}
 use Rattle.asl_rules.specs.Operators.{binary_value, unary_value, truth, Decided, Already, ByRight, decides, Lazy, strictness}
-use Rattle.asl_rules.specs.Evaluation.{Does, give, expr_node, value_of, or_value, known, label_in, value_or_label, ask_right, unless_decided, behind_left, literal, eval_all}
+use Rattle.asl_rules.specs.Evaluation.{Does, give, value_of, or_value, known, label_in, value_or_label, ask_right, unless_decided, behind_left, literal, eval_all}
 use Rattle.asl_rules.proofs.Inversions.{ok_ok, err_ok, bind_ok, then_ok, need_ok, found_ok}
 use Rattle.asl_rules.proofs.Tests.{both, and_true}
 use Rattle.asl_rules.proofs.Joining.{bare_join_keeps}
 use Rattle.asl_rules.proofs.Lookups.{Knows, named_value, label_value, label_outside}
-use Rattle.asl_rules.proofs.Naming.{GoodStanding, GoodNames, WellNamed, well_declared, scope_good}
+use Rattle.asl_rules.proofs.Naming.{WellNamed, well_declared, scope_good}
 use Rattle.asl_rules.proofs.OperatorForms.{Gives, is_bool, integer_gives, binary_gives, unary_gives}
 use Rattle.asl_rules.proofs.StructureForms.{element_gives, field_gives}
-use Rattle.asl_rules.proofs.WellTyped.{found_field, opened, finish_ok, bounded_ok, indexed_in, typed_formed}
+use Rattle.asl_rules.proofs.WellTyped.{opened, finish_ok, bounded_ok, indexed_in, typed_formed}
 use Rattle.asl_rules.proofs.Safe.{Claims, Safe}
 
 -- a result, where the body has one

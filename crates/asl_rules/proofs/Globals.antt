@@ -10,27 +10,26 @@ use Rattle.asl_syn.specs.declared.tree.TypeDef.TheVariants as td
 use Rattle.asl_syn.specs.declared.tree.StorageDecl.{StorageDecl}
 use Rattle.asl_syn.specs.declared.tree.Decl.{Decl}
 use Rattle.asl_syn.specs.declared.tree.Decl.TheVariants as dc
-use Rattle.asl_rules.specs.Faults.{◌>>=◌, ◌>>◌}
+use Rattle.asl_rules.specs.Faults.{◌>>=◌}
 use Rattle.asl_rules.specs.Served.{or_else, unserved_decl, unserved_decls}
-use Rattle.asl_rules.specs.Types.{Ty, named, structure, kind}
-use Rattle.asl_rules.specs.Values.{Value, label, kind_of, has_type}
-use Rattle.asl_rules.specs.WellFormed.{WellFormed, WellDeclared, Extends}
+use Rattle.asl_rules.specs.Types.{Ty, named, structure}
+use Rattle.asl_rules.specs.Values.{Value, label, has_type}
+use Rattle.asl_rules.specs.WellFormed.{Extends}
 use Rattle.asl_rules.specs.Names.{library, names_rule, all_declared, declared_by}
-use Rattle.asl_rules.specs.Scopes.{Scope, Entry, Storage, Standing, Stored, Subprogram, TypeName, Label, subprogram, global, label_name, standing_of, storage_in, storage_of, type_in, type_of_name, known_value}
-use Rattle.asl_rules.specs.States.{Under, of_type, of_kind, Binding}
+use Rattle.asl_rules.specs.Scopes.{Scope, Entry, Standing, Stored, Subprogram, TypeName, Label, subprogram, global, label_name, standing_of, storage_in, storage_of, type_in}
+use Rattle.asl_rules.specs.States.{of_kind, Binding}
 use Rattle.asl_rules.specs.Belonging.{InType}
 use Rattle.asl_rules.specs.Agreement.{IsUnder, IsKnown, Holds, types_in, AllMatch, GlobalsMatch, global_matches}
 use Rattle.asl_rules.specs.Uses.{uses}
-use Rattle.asl_rules.specs.Declarations.{in_names, def_rule, supertype_rule, label_entries, type_entries, type_decl_rule, Initial, storage_rule, storage_decl_rule, decl_rule, is_var, Judged, Waiting, Fine, Faulty, judged, is_fine, entries_of, entries, all_fine, judged_by, still, judgement, final, faults_rule, names_of_program, globals_rule}
+use Rattle.asl_rules.specs.Declarations.{in_names, def_rule, supertype_rule, label_entries, type_entries, Initial, storage_rule, decl_rule, is_var, Judged, Waiting, Fine, Faulty, judged, is_fine, entries_of, entries, all_fine, judged_by, still, judgement, faults_rule, names_of_program, globals_rule}
 use Rattle.asl_rules.specs.Evaluation.{global_under, global_with, global_in, globals_among, initial_globals}
-use Rattle.asl_rules.proofs.Inversions.{ok_ok, err_ok, bind_ok, then_ok}
+use Rattle.asl_rules.proofs.Inversions.{ok_ok, bind_ok, then_ok}
 use Rattle.asl_rules.proofs.Tests.{no, some_none, some_same, name_is}
 use Rattle.asl_rules.proofs.KindOf.{has_kind}
-use Rattle.asl_rules.proofs.Lookups.{none_some, stored_same, storage_standing}
-use Rattle.asl_rules.proofs.Naming.{OnceIn, GoodStanding, GoodNames, WellNamed}
-use Rattle.asl_rules.proofs.KnownForms.{Initials}
-use Rattle.asl_rules.proofs.Distinct.{Distinct, distinct_of, AllNamed, IsPlain, In, Plain, NotIn, plain_in, plain_named, plain_new, behind_library, past_library, FoundAt, found_at, own_found, not_found, all_apart}
-use Rattle.asl_rules.proofs.DeclForms.{NamedBy, StandsWell, AllWell, well_at, well_grows, Ready, decl_named, decl_well}
+use Rattle.asl_rules.proofs.Lookups.{none_some}
+use Rattle.asl_rules.proofs.Naming.{GoodNames, WellNamed}
+use Rattle.asl_rules.proofs.Distinct.{Distinct, distinct_of, AllNamed, IsPlain, In, Plain, plain_in, plain_named, plain_new, behind_library, past_library, FoundAt, found_at, own_found, not_found, all_apart}
+use Rattle.asl_rules.proofs.DeclForms.{StandsWell, AllWell, well_at, well_grows, Ready, decl_named, decl_well}
 
 -- ---- what is judged
 
@@ -144,9 +143,11 @@ module _ (ds : List Decl) (served : unserved_decls ds ≡ None) (distinct : Dist
   found_in n name st p h = found_at (judgement n ds) (named_at n) ds name st (past_library name (entries (judgement n ds) ds) st p h)
 
   extends : (n : ℕ) → Extends (types_at n) (types_at (suc n))
-  extends n = record { kept = λ name T h.
-      let f = found_in n name (TypeName T) tt (type_standing (standing_of name (names_at n)) T h) in
-      ap type_in (own_at (suc n) f.decl f.brings name (TypeName T) f.is_in (stays_fine n f.decl f.brings f.is_fine) f.stands tt) }
+  extends n = record {
+    kept = λ name T h.
+        let f = found_in n name (TypeName T) tt (type_standing (standing_of name (names_at n)) T h) in
+        ap type_in (own_at (suc n) f.decl f.brings name (TypeName T) f.is_in (stays_fine n f.decl f.brings f.is_fine) f.stands tt);
+  }
 
   -- what was brought by then is well formed
   abbrev Well : ℕ → Type 0

@@ -1,5 +1,5 @@
 -- The names that are visible after a statement are those before it, and behind them those that it declares.
-use Rattle.std.proofs.Common.{◌≡◌, ℕ, Bool, true, false, List, [], ◌∷◌, ◌++◌, Option, Some, None, Result, Ok, refl, sym, ap, ◌∙◌, subst, append_assoc, map}
+use Rattle.std.proofs.Common.{◌≡◌, ℕ, Bool, true, List, [], ◌∷◌, ◌++◌, Option, Some, None, Result, Ok, refl, sym, ap, ◌∙◌, subst, append_assoc, map}
 use Rattle.asl_syn.specs.declared.token.Span.{Span}
 use Rattle.asl_syn.specs.declared.code.Fault.{Fault}
 use Rattle.asl_syn.specs.declared.code.StaticCode.TheVariants.{S03, T01, T05, T18}
@@ -17,7 +17,7 @@ use Rattle.asl_syn.specs.declared.tree.Alternative.TheOpen as st
 use Rattle.asl_syn.specs.Layers.{StmtLayer}
 use Rattle.asl_rules.specs.declared.effect.Effect.{Effect}
 use Rattle.asl_rules.specs.declared.effect.Effect.TheVariants.{Pure, Readonly, Writes}
-use Rattle.asl_rules.specs.Faults.{◌>>=◌, ◌>>◌, need, found_or, fitted, fault, fault_of}
+use Rattle.asl_rules.specs.Faults.{◌>>=◌, ◌>>◌, need, fault, fault_of}
 use Rattle.asl_rules.specs.Types.{Ty, Parts, no_part, part, misfit}
 use Rattle.asl_rules.specs.Effects.{lesser, greater, greatest, all_together}
 use Rattle.asl_rules.specs.Scopes.{Scope, Entry, stored, is_free, entry_names}
@@ -25,7 +25,7 @@ use Rattle.asl_rules.specs.Exprs.{typed, written}
 use Rattle.asl_rules.specs.Stmts.{Done, done, FoundStmt, FoundBranch, expr_at, ended, block, fitting, condition, assert_rule, is_var, initialised, local_rule, unbound_rule, tuple_parts, bound_parts, bound_in, several_bound, several_rule, bind_rule, names_rule, vars_rule, FoundTarget, found_target, assign_rule, branches, conditions, if_rule, return_rule, items_rule, print_rule, span_of, stmt_layer_rule, found_stmt, names_of, names_of_binders, names_bound}
 use Rattle.asl_rules.proofs.Inversions.{ok_ok, err_ok, bind_ok, then_ok}
 use Rattle.asl_rules.proofs.Tests.{some_none, some_same}
-use Rattle.asl_rules.proofs.BindForms.{Binds, binds}
+use Rattle.asl_rules.proofs.BindForms.{binds}
 use Rattle.asl_rules.proofs.StmtForms.{branch_found, opened, unrolled}
 
 -- ---- the names after a statement begin with those before it

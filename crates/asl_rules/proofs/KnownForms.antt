@@ -1,7 +1,7 @@
 -- An expression whose value is known before any run has a value of its type, or a fault, where the names have known values.
-use Rattle.std.proofs.Common.{◌≡◌, ℕ, ◌⊎◌, inl, inr, ◌&&◌, not, pos, Bool, true, false, List, [], ◌∷◌, ◌++◌, Option, Some, None, Ok, refl, sym, ap, ◌∙◌, subst, map}
+use Rattle.std.proofs.Common.{◌≡◌, ℕ, inl, inr, not, pos, Bool, true, false, List, [], ◌∷◌, Option, Some, None, Ok, refl, sym, ap, ◌∙◌, subst, map}
 use Rattle.asl_syn.specs.declared.token.Span.{Span}
-use Rattle.asl_syn.specs.declared.code.StaticCode.TheVariants.{S03, T02, T05, T08, T15}
+use Rattle.asl_syn.specs.declared.code.StaticCode.TheVariants.{S03, T02, T05, T15}
 use Rattle.asl_syn.specs.declared.tree.Ident.{Ident}
 use Rattle.asl_syn.specs.declared.tree.UnaryOperator.{UnaryOperator}
 use Rattle.asl_syn.specs.declared.tree.BinaryOperator.{BinaryOperator}
@@ -17,8 +17,8 @@ use Rattle.asl_syn.specs.declared.tree.Bitfield.TheOpen as ex
 use Rattle.asl_syn.specs.declared.tree.Bitfield.TheFolds.{fold-FieldValue, fold-roll-Expr, fold-roll-FieldValue, map-Expr, map-FieldValue, ind-Expr}
 use Rattle.asl_syn.specs.Layers.{ExprLayer}
 use Rattle.asl_rules.specs.declared.effect.Effect.TheVariants.{Pure}
-use Rattle.asl_rules.specs.Faults.{◌>>=◌, ◌>>◌, need, found_or, fault_of}
-use Rattle.asl_rules.specs.Types.{Ty, Fields, Parts, integer, boolean, tuple_of, is_boolean, is_integer, join, bare}
+use Rattle.asl_rules.specs.Faults.{◌>>=◌, need, found_or, fault_of}
+use Rattle.asl_rules.specs.Types.{Ty, integer, boolean, tuple_of, is_boolean, join, bare}
 use Rattle.asl_rules.specs.Effects.{greater, together}
 use Rattle.asl_rules.specs.Scopes.{Scope, Entry, Storage, Standing, Stored, Subprogram, TypeName, Label, standing_of, type_of_name, reading}
 use Rattle.asl_rules.specs.Values.{Value, bool, tuple_with, has_type, parts_have}
@@ -27,11 +27,11 @@ use Rattle.asl_rules.specs.Belonging.{InType}
 use Rattle.asl_rules.specs.Widths.{bounded}
 use Rattle.asl_rules.specs.Exprs as exprs
 use Rattle.asl_rules.specs.Exprs.{Typed, Found, FoundField, FoundType, Operand, found, typed, typed_rule, expr_rule, type_rule, finish, finish_all, name_of_standing, operands, types_of, binary_rule, unary_rule, conditional_rule, tuple_rule, given_once, all_fit, none_missing, names_given, values_given, construct_rule, field_rule, fields_of, field_in, element_rule, indexed, span_of}
-use Rattle.asl_rules.specs.Structures.{element_of, field_of, Given, construct, values_of}
+use Rattle.asl_rules.specs.Structures.{element_of, field_of, construct, values_of}
 use Rattle.asl_rules.specs.Constants as pure
 use Rattle.asl_rules.specs.Constants.{Known, KnownField, known_or, value_of_standing, unless_decided, behind_left, chosen, all_known, all_given, Unread, constant_rule, given_rule, constant}
 use Rattle.asl_rules.specs.Plans.{Faulted, Stuck, Pure as PureOf, Good, Bad}
-use Rattle.asl_rules.specs.Operators.{integer_of, binary_value, unary_value, truth, Decided, Already, ByRight, decides, Strict, Lazy, strictness}
+use Rattle.asl_rules.specs.Operators.{integer_of, binary_value, unary_value, truth, Decided, Already, ByRight, decides, Lazy, strictness}
 use Rattle.asl_rules.proofs.Inversions.{ok_ok, err_ok, bind_ok, then_ok, need_ok, found_ok}
 use Rattle.asl_rules.proofs.Tests.{and_true}
 use Rattle.asl_rules.proofs.Keeping.{satisfying_keeps}
@@ -260,8 +260,8 @@ module _ (d : List ℕ → Option Ty) where
         (gives_yields p.value.0 (construct span p.value.0 gs)
         (construct_gives d span p.value.0 p.value.1 gs tf is.1
         (filled_from d (names_given (map found_field ts)) gs p.value.1 (λ l T e u q.
-            value_given d ts o.value gs [] p.value.1 t.value l T g t.first f.first q e u (λ V W x v y k j. (satisfying_keeps d wd V W x v y j.1 k j.0, j.1)))
-            once shaped m))))))
+        value_given d ts o.value gs [] p.value.1 t.value l T g t.first f.first q e u (λ V W x v y k j. (satisfying_keeps d wd V W x v y j.1 k j.0, j.1)))
+        once shaped m))))))
 
     layer_known : (y : Below) (S : Typed) → typed_rule (opened (trees y)) G ≡ Ok S → Gives d S.ty (constant_rule (known_opened (trees y)) G.names)
     layer_known (ex.Int span n) S h = retyped integer S.ty (integer_of span (pos n)) (finish_ok G.class span true Pure integer S h) (integer_gives d span (pos n))

@@ -33,7 +33,7 @@ use Rattle.asl_rules.specs.Evaluation.{Does, stmt_node, print_items, branch, els
 use Rattle.asl_rules.proofs.Inversions.{ok_ok, err_ok, bind_ok, then_ok, need_ok, fitted_ok}
 use Rattle.asl_rules.proofs.Agreeing.{cut_agrees}
 use Rattle.asl_rules.proofs.Naming.{WellNamed}
-use Rattle.asl_rules.proofs.ExprForms.{ExprClaim, of_type, StmtClaim, GivesResult, FormedResult, EndsBody, our_claims, Thrown_in, truth_safe}
+use Rattle.asl_rules.proofs.ExprForms.{of_type, StmtClaim, GivesResult, FormedResult, EndsBody, our_claims, Thrown_in, truth_safe}
 use Rattle.asl_rules.proofs.Safe.{Safe}
 use Rattle.asl_rules.proofs.StmtForms.{opened, branch_found, branch_falls_of, fallen, unrolled, falls_unrolled, renamed, ends_normal, assert_safe}
 use Rattle.asl_rules.proofs.BindForms.{fits_own, bind_safe}

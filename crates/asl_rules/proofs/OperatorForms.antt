@@ -1,10 +1,9 @@
 -- Operators on values of the types that their rules ask for give a value of the rule's type, or a fault.
-use Rattle.std.proofs.Common.{◌≡◌, ℕ, ◌==◌, ◌^◌, ℤ, pos, negsuc, ◌&&◌, Bool, true, false, cond, List, Option, Result, Ok, refl, sym, ap, ◌∙◌, subst}
-use Rattle.std.specs.Prelude.{nat_lt, not, ◌+ℤ◌, ◌-ℤ◌, ◌*ℤ◌}
+use Rattle.std.proofs.Common.{◌≡◌, ℕ, ◌==◌, ◌^◌, ℤ, pos, negsuc, ◌&&◌, Bool, true, false, cond, List, Option, Ok, refl, sym, ◌∙◌, subst}
+use Rattle.std.specs.Prelude.{nat_lt, ◌+ℤ◌, ◌-ℤ◌, ◌*ℤ◌}
 use Rattle.std.specs.Int.{int_pow}
 use Rattle.std.specs.Str.{bytes_eq}
 use Rattle.asl_syn.specs.declared.token.Span.{Span}
-use Rattle.asl_syn.specs.declared.code.Fault.{Fault}
 use Rattle.asl_syn.specs.declared.code.StaticCode.TheVariants.{T08}
 use Rattle.asl_syn.specs.declared.code.DynCode.TheVariants.{D01, D02, D03}
 use Rattle.asl_syn.specs.declared.tree.UnaryOperator.{UnaryOperator}
@@ -12,15 +11,15 @@ use Rattle.asl_syn.specs.declared.tree.UnaryOperator.TheVariants as unary
 use Rattle.asl_syn.specs.declared.tree.BinaryOperator.{BinaryOperator}
 use Rattle.asl_syn.specs.declared.tree.BinaryOperator.TheVariants as binary
 use Rattle.asl_num.specs.Exact.{floor_div, floor_mod}
-use Rattle.asl_rules.specs.Faults.{◌>>◌, need, fault_of}
-use Rattle.asl_rules.specs.Types.{Ty, integer, boolean, record_of, exception_of, tuple_of, array_of, named, integers, booleans, kind, kind_eq, is_integer, is_boolean, same_kind}
+use Rattle.asl_rules.specs.Faults.{need, fault_of}
+use Rattle.asl_rules.specs.Types.{Ty, integer, boolean, record_of, exception_of, tuple_of, array_of, named, integers, booleans, kind, is_integer, is_boolean, same_kind}
 use Rattle.asl_rules.specs.Exprs as exprs
 use Rattle.asl_rules.specs.Exprs.{is_comparable, of_one_kind, binary_rule, unary_rule}
 use Rattle.asl_rules.specs.Values.{Value, Values, FieldValues, int, bool, label, record_with, exception_with, tuple_with, array_with, kind_of, has_type}
 use Rattle.asl_rules.specs.Types.{Kind}
 use Rattle.asl_rules.specs.Belonging.{InType}
-use Rattle.asl_rules.specs.Plans.{Faulted, Stuck, WrongKind, Pure, Good, Bad}
-use Rattle.asl_rules.specs.Operators.{in_range, integer_of, quotient, divided, raised, of_integers, of_booleans, of_labels, of_one_enumeration, binary_value, unary_value, same, same_bool, less}
+use Rattle.asl_rules.specs.Plans.{Faulted, Stuck, Pure, Good, Bad}
+use Rattle.asl_rules.specs.Operators.{in_range, integer_of, quotient, divided, raised, of_integers, of_booleans, of_labels, of_one_enumeration, binary_value, unary_value}
 use Rattle.asl_rules.proofs.Inversions.{ok_ok, err_ok, then_ok, need_ok}
 use Rattle.asl_rules.proofs.Tests.{no, both, name_is}
 use Rattle.asl_rules.proofs.SameKind.{equal_kinds}

@@ -1,6 +1,6 @@
 -- Declarations without an initialiser are safe: the sizes of the written type are evaluated to the numbers that it was
 -- judged with.
-use Rattle.std.proofs.Common.{◌≡◌, ℕ, ℤ, pos, negsuc, ◌⊎◌, inl, inr, Bool, true, List, [], ◌∷◌, ◌++◌, Option, Some, None, Ok, refl, sym, ap, ◌∙◌, subst, map, append_assoc}
+use Rattle.std.proofs.Common.{◌≡◌, ℕ, ℤ, pos, negsuc, inl, true, List, [], ◌∷◌, ◌++◌, Some, Ok, refl, sym, ap, ◌∙◌, subst, map, append_assoc}
 use Rattle.asl_syn.specs.declared.token.Span.{Span}
 use Rattle.asl_syn.specs.declared.code.StaticCode.TheVariants.{S03, T01, T02, T20}
 use Rattle.asl_syn.specs.declared.tree.Ident.{Ident}
@@ -13,11 +13,10 @@ use Rattle.asl_syn.specs.declared.tree.Slice.{Slice}
 use Rattle.asl_syn.specs.declared.tree.TypeExpr.{TypeExpr, roll-TypeExpr}
 use Rattle.asl_syn.specs.declared.tree.Bitfield.TheOpen as ex
 use Rattle.asl_syn.specs.declared.tree.Bitfield.TheFolds.{fold-roll-TypeExpr, para-roll-TypeExpr, map-TypeExpr, ind-TypeExpr}
-use Rattle.asl_syn.specs.declared.tree.Stmt.{Stmt}
 use Rattle.asl_syn.specs.declared.tree.Decl.{Decl}
 use Rattle.asl_syn.specs.Layers.{TypeLayer}
 use Rattle.asl_rules.specs.declared.effect.Effect.TheVariants.{Pure}
-use Rattle.asl_rules.specs.Faults.{◌>>=◌, ◌>>◌, need, found_or, fault_of}
+use Rattle.asl_rules.specs.Faults.{◌>>=◌, need, fault_of}
 use Rattle.asl_rules.specs.Types.{Ty, Parts, integer, boolean, tuple_of, array_of, no_part, part}
 use Rattle.asl_rules.specs.Scopes.{Scope, Entry, stored, type_of_name, is_free}
 use Rattle.asl_rules.specs.Widths.{bounded, length_of}
@@ -25,18 +24,18 @@ use Rattle.asl_rules.specs.Declarations.{names_of_program}
 use Rattle.asl_rules.specs.Exprs as exprs
 use Rattle.asl_rules.specs.Exprs.{Found, FoundField, FoundType, found, found_type, width, written, written_rule, integer_rule, types_in_order, array_rule, expr_rule, given_rule, type_rule}
 use Rattle.asl_rules.specs.Stmts.{Done, done, names_rule, vars_rule}
-use Rattle.asl_rules.specs.Values.{Value, int, initial_value, Exit, Normal}
+use Rattle.asl_rules.specs.Values.{Value, int, initial_value, Exit}
 use Rattle.asl_rules.specs.WellFormed.{WellFormed}
 use Rattle.asl_rules.specs.States.{of_type, Core}
 use Rattle.asl_rules.specs.Agreement.{types_in, Agrees}
-use Rattle.asl_rules.specs.Evaluation.{Does, Unread, declared, declare_all, all_sizes, sizes_layer, sizes_in, Sized, SizedParts, with_part, first_part, sized_parts, tuple_sized, array_sized, by_size, named_type, sized_layer, sized, first_of_pair, eval_sizes, declare_vars}
+use Rattle.asl_rules.specs.Evaluation.{Does, Unread, declared, declare_all, all_sizes, sizes_layer, sizes_in, Sized, with_part, first_part, sized_parts, tuple_sized, array_sized, by_size, named_type, sized_layer, sized, first_of_pair, eval_sizes, declare_vars}
 use Rattle.asl_rules.proofs.Inversions.{ok_ok, err_ok, bind_ok, then_ok, need_ok, found_ok}
 use Rattle.asl_rules.proofs.Initial.{initial_belongs, initial_built}
 use Rattle.asl_rules.proofs.Lookups.{same_types}
 use Rattle.asl_rules.proofs.Agreeing.{declared_agrees}
 use Rattle.asl_rules.proofs.Naming.{WellNamed, scope_good}
 use Rattle.asl_rules.proofs.WellTyped.{bounded_ok, type_opened, written_formed}
-use Rattle.asl_rules.proofs.ExprForms.{ExprClaim, of_width, EndsBody, our_claims, Thrown_in, append_nil}
+use Rattle.asl_rules.proofs.ExprForms.{of_width, EndsBody, our_claims, Thrown_in, append_nil}
 use Rattle.asl_rules.proofs.StmtForms.{renamed, ends_normal}
 use Rattle.asl_rules.proofs.Safe.{Safe}
 

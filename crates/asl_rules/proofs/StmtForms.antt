@@ -1,5 +1,5 @@
 -- Statements are unrolled, and assertions are safe.
-use Rattle.std.proofs.Common.{◌≡◌, Bool, true, false, List, [], ◌∷◌, ◌++◌, Option, Some, None, Result, Ok, refl, sym, ap, ◌∙◌, subst}
+use Rattle.std.proofs.Common.{◌≡◌, Bool, true, false, List, Option, Result, Ok, refl, ap, subst}
 use Rattle.asl_syn.specs.declared.token.Span.{Span}
 use Rattle.asl_syn.specs.declared.code.Fault.{Fault}
 use Rattle.asl_syn.specs.declared.code.StaticCode.TheVariants.{T05, T12, T13}
@@ -18,16 +18,16 @@ use Rattle.asl_rules.specs.Faults.{◌>>=◌, ◌>>◌, need}
 use Rattle.asl_rules.specs.Types.{Ty, is_boolean}
 use Rattle.asl_rules.specs.Effects.{at_most, lesser}
 use Rattle.asl_rules.specs.Scopes.{Scope, Entry}
-use Rattle.asl_rules.specs.Exprs.{Typed, typed}
+use Rattle.asl_rules.specs.Exprs.{typed}
 use Rattle.asl_rules.specs.Stmts.{Done, done, FoundStmt, FoundBranch, expr_at, ended, condition, assert_rule, Unread, StmtOf, stmt_layer_rule, branch_rule, found_stmt, falls_layer, alternative_falls, catcher_falls, branch_falls, otherwise_falls, falls}
-use Rattle.asl_rules.specs.Values.{Value, Normal}
+use Rattle.asl_rules.specs.Values.{Normal}
 use Rattle.asl_rules.specs.States.{Core}
 use Rattle.asl_rules.specs.Agreement.{Agrees}
 use Rattle.asl_rules.specs.Plans.{Eval, lift}
 use Rattle.asl_rules.specs.Operators.{truth}
 use Rattle.asl_rules.specs.Evaluation.{asserted}
 use Rattle.asl_rules.proofs.Inversions.{ok_ok, bind_ok, then_ok, need_ok}
-use Rattle.asl_rules.proofs.ExprForms.{ExprClaim, of_type, EndsBody, our_claims, Thrown_in, truth_safe}
+use Rattle.asl_rules.proofs.ExprForms.{of_type, EndsBody, our_claims, Thrown_in, truth_safe}
 use Rattle.asl_rules.proofs.Safe.{Safe}
 
 -- ---- what the rules of statements say

@@ -1,6 +1,6 @@
 -- An expression that stands for a number where a width is asked for gives that number.
-use Rattle.std.proofs.Common.{◌≡◌, ℕ, ◌≤◌, ◌+◌, ◌*◌, ℤ, pos, Bool, true, false, cond, List, Option, Some, None, Ok, refl, sym, ap, ◌∙◌, subst, arith}
-use Rattle.std.specs.Prelude.{if◌then◌else◌, nat_le, ◌+ℤ◌, ◌-ℤ◌, ◌*ℤ◌}
+use Rattle.std.proofs.Common.{◌≡◌, ℕ, ◌≤◌, ◌+◌, ◌*◌, ℤ, pos, true, cond, List, Option, Some, None, Ok, refl, sym, ap, ◌∙◌, subst, arith}
+use Rattle.std.specs.Prelude.{nat_le, ◌+ℤ◌, ◌-ℤ◌, ◌*ℤ◌}
 use Rattle.asl_syn.specs.declared.token.Span.{Span}
 use Rattle.asl_syn.specs.declared.code.StaticCode.TheVariants.{T02, T05, T19, T20}
 use Rattle.asl_syn.specs.declared.code.DynCode.TheVariants.{D01}
@@ -13,22 +13,22 @@ use Rattle.asl_syn.specs.declared.tree.UnaryOperator.TheVariants as unary
 use Rattle.asl_syn.specs.declared.tree.BinaryOperator.{BinaryOperator}
 use Rattle.asl_syn.specs.declared.tree.BinaryOperator.TheVariants as binary
 use Rattle.asl_syn.specs.Layers.{ExprLayer}
-use Rattle.asl_rules.specs.Faults.{◌>>=◌, ◌>>◌, need, fault, fault_of}
-use Rattle.asl_rules.specs.Types.{Ty, is_integer}
+use Rattle.asl_rules.specs.Faults.{◌>>=◌, need, fault_of}
+use Rattle.asl_rules.specs.Types.{is_integer}
 use Rattle.asl_rules.specs.Scopes.{Scope, Entry, Storage, Standing, Stored, Subprogram, TypeName, Label, standing_of, known_value}
-use Rattle.asl_rules.specs.Widths.{heaviest, weight, weighed, known_number, width_of_storage, width_of_standing, width_of_binary, has_width}
+use Rattle.asl_rules.specs.Widths.{heaviest, weight, weighed, known_number, width_of_storage, width_of_standing, width_of_binary}
 use Rattle.asl_rules.specs.Declarations.{names_of_program}
 use Rattle.asl_rules.specs.Exprs.{Found, found, width, width_rule, span_of}
 use Rattle.asl_rules.specs.Values.{Value, int, bool, label, record_with, exception_with, tuple_with, array_with}
 use Rattle.asl_rules.specs.States.{Core}
-use Rattle.asl_rules.specs.Agreement.{IsKnown, types_in, GlobalsMatch, Agrees}
-use Rattle.asl_rules.specs.Plans.{Faulted, Stuck, Eval, Pure as PureOf, Good, Bad, lift}
+use Rattle.asl_rules.specs.Agreement.{IsKnown, types_in, Agrees}
+use Rattle.asl_rules.specs.Plans.{Faulted, Eval, Pure as PureOf, Good, Bad, lift}
 use Rattle.asl_rules.specs.Operators.{in_range, integer_of, binary_value, unary_value, strictness}
-use Rattle.asl_rules.specs.Evaluation.{Does, give, expr_node, value_of, or_value, known, label_in, value_or_label, behind_left, literal}
+use Rattle.asl_rules.specs.Evaluation.{give, expr_node, label_in, value_or_label, behind_left, literal}
 use Rattle.asl_rules.proofs.Inversions.{ok_ok, err_ok, bind_ok, then_ok, need_ok}
 use Rattle.asl_rules.proofs.Lookups.{Knows, named_value}
 use Rattle.asl_rules.proofs.Naming.{WellNamed}
-use Rattle.asl_rules.proofs.SmallNumbers.{in_range_of, weight_sum, weight_negated, weight_difference, weight_product}
+use Rattle.asl_rules.proofs.SmallNumbers.{in_range_of, weight_sum, weight_difference, weight_product}
 use Rattle.asl_rules.proofs.WellTyped.{opened}
 use Rattle.asl_rules.proofs.ExprForms.{ExprClaim, of_type, of_width, ExprIn, ExprOut, our_claims, unrolled, Thrown_in}
 use Rattle.asl_rules.proofs.ConstructForms.{typed_safe}

@@ -4,7 +4,7 @@ use Rattle.std.proofs.Common.{◌≡◌, ℕ, ℤ, pos, Bool, true, false, cond,
 use Rattle.std.specs.Prelude.{◌-ℤ◌, if◌then◌else◌}
 use Rattle.std.specs.Str.{bytes_eq}
 use Rattle.asl_syn.specs.declared.token.Span.{Span}
-use Rattle.asl_syn.specs.declared.code.StaticCode.TheVariants.{S03, T02, T05, T19}
+use Rattle.asl_syn.specs.declared.code.StaticCode.TheVariants.{T02, T05, T19}
 use Rattle.asl_syn.specs.declared.tree.UnaryOperator.{UnaryOperator}
 use Rattle.asl_syn.specs.declared.tree.UnaryOperator.TheVariants as unary
 use Rattle.asl_syn.specs.declared.tree.BinaryOperator.{BinaryOperator}
@@ -18,15 +18,15 @@ use Rattle.asl_syn.specs.declared.tree.TypeExpr.{TypeExpr, roll-TypeExpr}
 use Rattle.asl_syn.specs.declared.tree.Bitfield.TheOpen as ex
 use Rattle.asl_syn.specs.declared.tree.Bitfield.TheFolds.{fold-roll-Expr, fold-roll-TypeExpr, map-Expr, map-TypeExpr, ind-Expr, ind-TypeExpr}
 use Rattle.asl_syn.specs.Layers.{ExprLayer, TypeLayer}
-use Rattle.asl_rules.specs.Faults.{◌>>=◌, ◌>>◌, need, found_or, fault, fault_of}
-use Rattle.asl_rules.specs.Types.{Ty, Parts, tuple_of, array_of, part, no_part, is_integer}
+use Rattle.asl_rules.specs.Faults.{◌>>=◌, need, found_or, fault, fault_of}
+use Rattle.asl_rules.specs.Types.{Ty, Parts, tuple_of, array_of, part, is_integer}
 use Rattle.asl_rules.specs.Scopes.{Scope, Entry, Storage, Standing, Stored, Subprogram, TypeName, Label, standing_of, type_of_name, known_value}
 use Rattle.asl_rules.specs.Values.{Value}
 use Rattle.asl_rules.specs.States.{Core}
 use Rattle.asl_rules.specs.Agreement.{types_in, has_no_initial, AllPlain, Agrees}
 use Rattle.asl_rules.specs.Widths.{weight, weighed, known_number, width_of_storage, width_of_standing, width_of_binary, has_width, bounded, length_of}
-use Rattle.asl_rules.specs.Exprs.{Found, FoundField, FoundType, Unread, found, found_type, width, written, width_rule, written_rule, integer_rule, types_in_order, array_rule, expr_rule, given_rule, type_rule, span_of}
-use Rattle.asl_rules.proofs.Inversions.{ok_ok, err_ok, bind_ok, then_ok}
+use Rattle.asl_rules.specs.Exprs.{Found, FoundField, FoundType, Unread, found, found_type, width, written, width_rule, written_rule, types_in_order, array_rule, expr_rule, given_rule, type_rule}
+use Rattle.asl_rules.proofs.Inversions.{err_ok, bind_ok, then_ok}
 use Rattle.asl_rules.proofs.Tests.{some_same}
 use Rattle.asl_rules.proofs.Lookups.{none_some, behind, before_is, IsStored, all_stored, same_types}
 use Rattle.asl_rules.proofs.WellTyped.{opened, type_opened}

@@ -1,5 +1,5 @@
 -- The values of expressions that are known before any run: they are evaluated without steps, over the values of the names.
-use Rattle.std.specs.Prelude.{ℕ, pos, Bool, true, false, List, [], ◌∷◌, Option, Some, None}
+use Rattle.std.specs.Prelude.{pos, Bool, true, false, List, [], ◌∷◌, Option, Some, None}
 use Rattle.asl_syn.specs.declared.token.Span.{Span}
 use Rattle.asl_syn.specs.declared.tree.Expr.{Expr}
 use Rattle.asl_syn.specs.declared.tree.BinaryOperator.{BinaryOperator}
@@ -8,7 +8,7 @@ use Rattle.asl_syn.specs.declared.tree.Bitfield.TheOpen as ex
 use Rattle.asl_syn.specs.declared.tree.Bitfield.TheFolds.{fold-Expr}
 use Rattle.asl_rules.specs.Types.{Ty}
 use Rattle.asl_rules.specs.Values.{Value, bool, tuple_with}
-use Rattle.asl_rules.specs.Scopes.{Entry, Standing, Stored, Subprogram, TypeName, Label, standing_of, type_of_name}
+use Rattle.asl_rules.specs.Scopes.{Entry, Standing, Stored, Label, standing_of, type_of_name}
 use Rattle.asl_rules.specs.Plans.{Stuck, UnknownName, UnservedForm, Pure, Good, Bad}
 use Rattle.asl_rules.specs.Operators.{integer_of, binary_value, unary_value, truth, Decided, Already, ByRight, Strictness, Strict, Lazy, strictness}
 use Rattle.asl_rules.specs.Structures.{element_of, field_of, Given, construct, values_of}

@@ -1,6 +1,6 @@
 -- What expressions and statements do, over the untyped trees: names are found by name, and no type is consulted but those
 -- that are written at places.
-use Rattle.std.specs.Prelude.{ℕ, ℤ, pos, ◌-ℤ◌, Bool, true, false, if◌then◌else◌, List, [], ◌∷◌, ◌++◌, length, take, slice_get, option_map, Option, Some, None, Result, Ok, Err}
+use Rattle.std.specs.Prelude.{ℕ, pos, Bool, true, false, if◌then◌else◌, List, [], ◌∷◌, ◌++◌, length, take, slice_get, option_map, Option, Some, None, Result, Ok, Err}
 use Rattle.std.specs.Str.{bytes_eq}
 use Rattle.asl_syn.specs.declared.token.Span.{Span}
 use Rattle.asl_syn.specs.declared.code.DynCode.TheVariants.{D08}
@@ -41,7 +41,7 @@ use Rattle.asl_syn.specs.declared.tree.Formal.{Formal}
 use Rattle.asl_syn.specs.declared.tree.Func.{Func}
 use Rattle.asl_syn.specs.declared.code.Fault.{Fault}
 use Rattle.asl_syn.specs.Layers.{ExprLayer, StmtLayer, expr_layer_span, stmt_layer_span, expr_span, stmt_span}
-use Rattle.asl_rules.specs.Types.{Ty, Parts, Kind, Kinds, integer, boolean, tuple_of, array_of, no_part, part, tuples, no_kind, one_more}
+use Rattle.asl_rules.specs.Types.{Ty, Parts, Kinds, integer, boolean, tuple_of, array_of, no_part, part, tuples, no_kind, one_more}
 use Rattle.asl_rules.specs.Scopes.{Entry, Standing, Label, Storage, standing_of, storage_of, type_of_name}
 use Rattle.asl_rules.specs.Exprs.{written}
 use Rattle.asl_rules.specs.Declarations as programs
@@ -53,7 +53,7 @@ use Rattle.asl_rules.specs.States.{Under, of_type, of_kind, belongs, Binding, Co
 use Rattle.asl_rules.specs.Structures.{element_of, with_element, field_of, with_field, there, Given, construct, values_of, parts}
 use Rattle.asl_rules.specs.Constants.{◌>>=◌}
 use Rattle.asl_rules.specs.Plans.{Faulted, Stuck, UnknownName, WrongKind, Immutable, EndReached, UnservedForm, Plan, Ret, Raise, Stop, Eval, Exec, Put, Within, choose, follow, Pure, Good, Bad, lift, Meaning, Nodes, meanings}
-use Rattle.asl_rules.specs.Operators.{in_range, integer_of, binary_value, unary_value, truth, Decided, Already, ByRight, Strictness, Strict, Lazy, strictness}
+use Rattle.asl_rules.specs.Operators.{integer_of, binary_value, unary_value, truth, Decided, Already, ByRight, Strictness, Strict, Lazy, strictness}
 use Rattle.asl_rules.specs.Strings.{string_text}
 use Rattle.asl_rules.specs.Texts.{value_text}
 use Rattle.asl_rules.specs.Cuts.{Cutting, cuttings}

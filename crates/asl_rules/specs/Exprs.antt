@@ -17,9 +17,9 @@ use Rattle.asl_rules.specs.declared.effect.Effect.{Effect}
 use Rattle.asl_rules.specs.declared.effect.Effect.TheVariants.{Pure}
 use Rattle.asl_syn.specs.declared.tree.Ident.{Ident}
 use Rattle.asl_rules.specs.Faults.{◌>>=◌, ◌>>◌, need, fault, found_or, fitted}
-use Rattle.asl_rules.specs.Types.{Ty, Fields, Parts, integer, boolean, record_of, exception_of, tuple_of, array_of, named, no_field, field, no_part, part, is_integer, is_boolean, same_kind, structure, misfit, join, bare}
+use Rattle.asl_rules.specs.Types.{Ty, Fields, Parts, integer, boolean, record_of, exception_of, tuple_of, array_of, named, no_field, field, no_part, part, is_integer, is_boolean, same_kind, misfit, join, bare}
 use Rattle.asl_rules.specs.Effects.{greater, at_most, together, all_together, greatest}
-use Rattle.asl_rules.specs.Scopes.{Scope, Standing, Stored, Subprogram, TypeName, Label, standing_of, type_of_name, reading}
+use Rattle.asl_rules.specs.Scopes.{Scope, Standing, Stored, Label, standing_of, type_of_name, reading}
 use Rattle.asl_rules.specs.Widths.{weight, weighed, width_of_standing, width_of_binary, has_width, bounded, length_of}
 
 pub record Typed : Type 0 where
