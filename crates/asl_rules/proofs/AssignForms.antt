@@ -33,21 +33,16 @@ use Rattle.asl_rules.proofs.Keeping.{satisfying_keeps}
 use Rattle.asl_rules.proofs.Lookups.{Knows, storage_standing, held_value}
 use Rattle.asl_rules.proofs.Stores.{StoresTo, store_agrees}
 use Rattle.asl_rules.proofs.Naming.{GoodNames, WellNamed, well_declared, scope_good}
-use Rattle.asl_rules.proofs.OperatorForms.{Gives}
+use Rattle.asl_rules.proofs.OperatorForms.{Gives, gives_bind}
 use Rattle.asl_rules.proofs.StructureForms.{element_gives, with_element_gives, field_gives, with_field_gives}
 use Rattle.asl_rules.proofs.WellTyped.{field_formed, element_formed, indexed_in, typed_formed}
-use Rattle.asl_rules.proofs.ExprForms.{of_type, EndsBody, our_claims, Thrown_in, append_nil}
+use Rattle.asl_rules.proofs.ExprForms.{of_type, EndsBody, our_claims, Thrown_in, append_nil, knows_gives}
 use Rattle.asl_rules.proofs.BindForms.{parts_kind, tuple_has, tuple_shaped}
 use Rattle.asl_rules.proofs.Safe.{Safe}
 
 -- ---- steps into values
 
 module _ (d : List ℕ → Option Ty) where
-  gives_bind : (S T : Ty) (r : PureOf Value) (f : Value → PureOf Value) → Gives d S r → ((x : Value) → InType d x S → Gives d T (f x)) → Gives d T (pure.◌>>=◌ r f)
-  gives_bind S T (Good x) f g next = next x g
-  gives_bind S T (Bad (Faulted code span)) f g next = tt
-  gives_bind S T (Bad (Stuck mistake span)) f g next = absurd g
-
   -- these steps lead from a value of the first type to one of the second
   abbrev pub Leads : List Step → Ty → Ty → Type 0
   Leads [] T U = T ≡ U
@@ -57,12 +52,12 @@ module _ (d : List ℕ → Option Ty) where
   pub updated_gives : (ss : List Step) (T U : Ty) (y x : Value) → Leads ss T U → InType d y U → InType d x T → Gives d T (updated ss y x)
   updated_gives [] T U y x l i j = subst (InType d y) (sym l) i
   updated_gives (into_field span f ∷ ss) T U y x l i j =
-      gives_bind l.0 T (field_of span f x) (λ q. pure.◌>>=◌ (updated ss y q) (λ r. with_field span f r x)) (field_gives d span f T l.0 x l.1 j) (λ q k.
-      gives_bind l.0 T (updated ss y q) (λ r. with_field span f r x) (updated_gives ss l.0 U y q l.2 i k) (λ r m.
+      gives_bind d l.0 T (field_of span f x) (λ q. pure.◌>>=◌ (updated ss y q) (λ r. with_field span f r x)) (field_gives d span f T l.0 x l.1 j) (λ q k.
+      gives_bind d l.0 T (updated ss y q) (λ r. with_field span f r x) (updated_gives ss l.0 U y q l.2 i k) (λ r m.
       with_field_gives d span f T l.0 x r l.1 j m))
   updated_gives (into_element span v ∷ ss) T U y x l i j =
-      gives_bind l.0 T (element_of span x v) (λ q. pure.◌>>=◌ (updated ss y q) (λ r. with_element span r x v)) (element_gives d span T l.1 l.0 x v l.2 l.3 j l.4) (λ q k.
-      gives_bind l.0 T (updated ss y q) (λ r. with_element span r x v) (updated_gives ss l.0 U y q l.5 i k) (λ r m.
+      gives_bind d l.0 T (element_of span x v) (λ q. pure.◌>>=◌ (updated ss y q) (λ r. with_element span r x v)) (element_gives d span T l.1 l.0 x v l.2 l.3 j l.4) (λ q k.
+      gives_bind d l.0 T (updated ss y q) (λ r. with_element span r x v) (updated_gives ss l.0 U y q l.5 i k) (λ r m.
       with_element_gives d span T l.1 l.0 x v r l.2 l.3 j l.4 m))
 
 -- a state of which this holds, or a fault
@@ -88,14 +83,10 @@ module _ (base : List Entry) (w : WellNamed base) where
   core_bind T P (Bad (Faulted code span)) f g next = tt
   core_bind T P (Bad (Stuck mistake span)) f g next = absurd g
 
-  knows_gives : (s : Storage) (r : PureOf Value) → Knows (types_in base) s r → Gives (types_in base) s.ty r
-  knows_gives s (Good x) h = h.0
-  knows_gives s (Bad e) h = absurd h
-
   store_at_gives : (G : Scope) (c : Core) (span : Span) (name : List ℕ) (ss : List Step) (y : Value) (s : Storage) (U : Ty) → Agrees base G.names c → standing_of name G.names ≡ Some (Stored s) → s.is_mutable ≡ true → Leads (types_in base) ss s.ty U → InType (types_in base) y U →
       CoreGives (Agrees base G.names) (store_at span name ss y c)
   store_at_gives G c span name ss y s U a h m l i =
-      core_bind s.ty (Agrees base G.names) (held span name c) (λ x. pure.◌>>=◌ (updated ss y x) (λ z. store span name z c)) (knows_gives s (held span name c) (held_value base G.names c span name s a h)) (λ x j.
+      core_bind s.ty (Agrees base G.names) (held span name c) (λ x. pure.◌>>=◌ (updated ss y x) (λ z. store span name z c)) (knows_gives base s (held span name c) (held_value base G.names c span name s a h)) (λ x j.
       core_bind s.ty (Agrees base G.names) (updated ss y x) (λ z. store span name z c) (updated_gives (types_in base) ss s.ty U y x l i j) (λ z k.
       stores_give (Agrees base G.names) (store span name z c) (store_agrees base G.names c span name z s a h m k)))
 

@@ -224,7 +224,7 @@ module _ (base : List Entry) where
 
   -- ---- forms that need what is known of the names outside bodies
 
-  knows_gives : (s : Storage) (r : PureOf Value) → Knows (types_in base) s r → Gives (types_in base) s.ty r
+  pub knows_gives : (s : Storage) (r : PureOf Value) → Knows (types_in base) s r → Gives (types_in base) s.ty r
   knows_gives s (Good x) h = h.0
   knows_gives s (Bad e) h = absurd h
 

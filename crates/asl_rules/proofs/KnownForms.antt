@@ -37,7 +37,7 @@ use Rattle.asl_rules.proofs.Tests.{and_true}
 use Rattle.asl_rules.proofs.Keeping.{satisfying_keeps}
 use Rattle.asl_rules.proofs.Joining.{bare_join_keeps}
 use Rattle.asl_rules.proofs.Naming.{GoodNames, type_formed, fields_once}
-use Rattle.asl_rules.proofs.OperatorForms.{Gives, is_bool, integer_gives, binary_gives, unary_gives}
+use Rattle.asl_rules.proofs.OperatorForms.{Gives, is_bool, integer_gives, binary_gives, unary_gives, gives_bind}
 use Rattle.asl_rules.proofs.StructureForms.{element_gives, field_gives, construct_gives}
 use Rattle.asl_rules.proofs.WellTyped.{found_field, field_opened, opened, finish_ok, bounded_ok, indexed_in, typed_formed}
 use Rattle.asl_rules.proofs.ExprForms.{boolean_operands}
@@ -81,9 +81,6 @@ module _ (d : List ℕ → Option Ty) where
   -- a step whose value is of a type
   gives_then : {A : Type 0} (S : Ty) (Q : A → Type 0) (r : PureOf Value) (f : Value → PureOf A) → Gives d S r → ((x : Value) → InType d x S → Yields Q (f x)) → Yields Q (pure.◌>>=◌ r f)
   gives_then S Q r f g next = yields_bind (λ x. InType d x S) Q r f (gives_yields S r g) next
-
-  gives_bind : (S T : Ty) (r : PureOf Value) (f : Value → PureOf Value) → Gives d S r → ((x : Value) → InType d x S → Gives d T (f x)) → Gives d T (pure.◌>>=◌ r f)
-  gives_bind S T r f g next = yields_gives T (pure.◌>>=◌ r f) (gives_then S (λ x. InType d x T) r f g (λ x i. gives_yields T (f x) (next x i)))
 
   gives_map : (S T : Ty) (r : PureOf Value) → ((x : Value) → InType d x S → InType d x T) → Gives d S r → Gives d T r
   gives_map S T (Good x) f g = f x g
@@ -138,10 +135,10 @@ module _ (d : List ℕ → Option Ty) where
         let t = bind_ok (typed a.0 G) (λ T. unary_rule span o T.ty >>= λ U. finish G.class span true T.effect U) S h in
         let u = bind_ok (unary_rule span o t.value.ty) (λ U. finish G.class span true t.value.effect U) S t.then in
         retyped u.value S.ty (pure.◌>>=◌ (constant a.0 G.names) (λ x. unary_value span o x)) (finish_ok G.class span true t.value.effect u.value S u.then)
-        (gives_bind t.value.ty u.value (constant a.0 G.names) (λ x. unary_value span o x) (a.1 t.value t.first) (λ x i. unary_gives d span o t.value.ty u.value x u.first i))
+        (gives_bind d t.value.ty u.value (constant a.0 G.names) (λ x. unary_value span o x) (a.1 t.value t.first) (λ x i. unary_gives d span o t.value.ty u.value x u.first i))
 
     right_known : (span : Span) (o : BinaryOperator) (b : (e : Expr) × ConstantGood e) (x : Value) (S U : Ty) (T : Typed) → typed b.0 G ≡ Ok T → binary_rule span o S T.ty ≡ Ok U → InType d x S → Gives d U (pure.◌>>=◌ (constant b.0 G.names) (λ y. binary_value span o x y))
-    right_known span o b x S U T h r i = gives_bind T.ty U (constant b.0 G.names) (λ y. binary_value span o x y) (b.1 T h) (λ y j. binary_gives d span o S T.ty U x y r i j)
+    right_known span o b x S U T h r i = gives_bind d T.ty U (constant b.0 G.names) (λ y. binary_value span o x y) (b.1 T h) (λ y j. binary_gives d span o S T.ty U x y r i j)
 
     decided_known : (span : Span) (o : BinaryOperator) (b : (e : Expr) × ConstantGood e) (x : Value) (S : Ty) (T : Typed) (k : Decided) → typed b.0 G ≡ Ok T → binary_rule span o S T.ty ≡ Ok boolean → InType d x S → Gives d boolean (unless_decided span o x (constant b.0) G.names k)
     decided_known span o b x S T (Already r) h q i = (refl, tt)
@@ -166,7 +163,7 @@ module _ (d : List ℕ → Option Ty) where
         let v = bind_ok (typed b.0 G) (λ V. binary_rule span o t.value.ty V.ty >>= λ U. finish G.class span (together t.value.effect V.effect) (greater t.value.effect V.effect) U) S t.then in
         let u = bind_ok (binary_rule span o t.value.ty v.value.ty) (λ U. finish G.class span (together t.value.effect v.value.effect) (greater t.value.effect v.value.effect) U) S v.then in
         retyped u.value S.ty (pure.◌>>=◌ (constant a.0 G.names) (λ x. behind_left span o x (constant b.0) G.names (strictness o))) (finish_ok G.class span (together t.value.effect v.value.effect) (greater t.value.effect v.value.effect) u.value S u.then)
-        (gives_bind t.value.ty u.value (constant a.0 G.names) (λ x. behind_left span o x (constant b.0) G.names (strictness o)) (a.1 t.value t.first) (λ x i. behind_known span o b x t.value.ty u.value v.value v.first u.first i))
+        (gives_bind d t.value.ty u.value (constant a.0 G.names) (λ x. behind_left span o x (constant b.0) G.names (strictness o)) (a.1 t.value t.first) (λ x i. behind_known span o b x t.value.ty u.value v.value v.first u.first i))
 
     chosen_known : (T : Ty) (r s : PureOf Value) → Gives d T r → Gives d T s → (p : Bool) → Gives d T (chosen p r s)
     chosen_known T r s g h true = g
@@ -184,7 +181,7 @@ module _ (d : List ℕ → Option Ty) where
         let v = typed_formed d a.0 G s.value good s.first in
         let w = typed_formed d b.0 G t.value good t.first in
         retyped (bare u.value) S.ty _ (finish_ok G.class span _ _ (bare u.value) S u.then)
-        (gives_bind z.value.ty (bare u.value) (constant c.0 G.names) (λ x. pure.◌>>=◌ (truth span x) (λ p. chosen p (constant a.0 G.names) (constant b.0 G.names))) (c.1 z.value z.first) (λ x i.
+        (gives_bind d z.value.ty (bare u.value) (constant c.0 G.names) (λ x. pure.◌>>=◌ (truth span x) (λ p. chosen p (constant a.0 G.names) (constant b.0 G.names))) (c.1 z.value z.first) (λ x i.
         truth_then z.value.ty (bare u.value) span x (λ p. chosen p (constant a.0 G.names) (constant b.0 G.names)) (need_ok (is_boolean z.value.ty) T05 (found c.0).span tt n.first) i
         (chosen_known (bare u.value) (constant a.0 G.names) (constant b.0 G.names)
         (gives_map s.value.ty (bare u.value) (constant a.0 G.names) (λ y k. (bare_join_keeps d wd s.value.ty t.value.ty u.value y v w k.1 j (inl k.0), k.1)) (a.1 s.value s.first))
@@ -217,7 +214,7 @@ module _ (d : List ℕ → Option Ty) where
         let t = bind_ok (typed a.0 G) (λ T. found_or (field_in (fields_of T.ty) i.text) T15 i.span >>= λ U. finish G.class span true T.effect U) S h in
         let u = bind_ok (found_or (field_in (fields_of t.value.ty) i.text) T15 i.span) (λ U. finish G.class span true t.value.effect U) S t.then in
         retyped u.value S.ty _ (finish_ok G.class span true t.value.effect u.value S u.then)
-        (gives_bind t.value.ty u.value (constant a.0 G.names) (λ x. field_of span i.text x) (a.1 t.value t.first) (λ x k. field_gives d span i.text t.value.ty u.value x (found_ok (field_in (fields_of t.value.ty) i.text) T15 i.span u.value u.first) k))
+        (gives_bind d t.value.ty u.value (constant a.0 G.names) (λ x. field_of span i.text x) (a.1 t.value t.first) (λ x k. field_gives d span i.text t.value.ty u.value x (found_ok (field_in (fields_of t.value.ty) i.text) T15 i.span u.value u.first) k))
 
     element_known : (span : Span) (a i : (e : Expr) × ConstantGood e) (S : Typed) → element_rule span (found a.0) (found i.0) G ≡ Ok S → Gives d S.ty (pure.◌>>=◌ (constant a.0 G.names) (λ x. pure.◌>>=◌ (constant i.0 G.names) (λ y. element_of span x y)))
     element_known span a i S h =
@@ -226,8 +223,8 @@ module _ (d : List ℕ → Option Ty) where
         let u = bind_ok (indexed span t.value.ty v.value.ty) _ S v.then in
         let n = indexed_in d span t.value.ty v.value.ty u.value u.first in
         retyped u.value S.ty _ (finish_ok G.class span _ _ u.value S u.then)
-        (gives_bind t.value.ty u.value (constant a.0 G.names) (λ x. pure.◌>>=◌ (constant i.0 G.names) (λ y. element_of span x y)) (a.1 t.value t.first) (λ x k.
-        gives_bind v.value.ty u.value (constant i.0 G.names) (λ y. element_of span x y) (i.1 v.value v.first) (λ y l. element_gives d span t.value.ty v.value.ty u.value x y n.0 n.1 k l)))
+        (gives_bind d t.value.ty u.value (constant a.0 G.names) (λ x. pure.◌>>=◌ (constant i.0 G.names) (λ y. element_of span x y)) (a.1 t.value t.first) (λ x k.
+        gives_bind d v.value.ty u.value (constant i.0 G.names) (λ y. element_of span x y) (i.1 v.value v.first) (λ y l. element_gives d span t.value.ty v.value.ty u.value x y n.0 n.1 k l)))
 
     given_of : (fs : List ((f : FieldValue) × FieldGood f)) (os : List Operand) → operands (values_given (map found_field (map (λ f. f.0) fs))) G ≡ Ok os → Yields (GivenIn d (map (λ f. f.0) fs) os) (all_given (map known_field (map (λ f. f.0) fs)) G.names)
     given_of [] os h = subst (λ o. GivenIn d [] o []) (ok_ok [] os h) tt

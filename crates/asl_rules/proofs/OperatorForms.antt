@@ -18,6 +18,7 @@ use Rattle.asl_rules.specs.Exprs.{is_comparable, of_one_kind, binary_rule, unary
 use Rattle.asl_rules.specs.Values.{Value, Values, FieldValues, int, bool, label, record_with, exception_with, tuple_with, array_with, kind_of, has_type}
 use Rattle.asl_rules.specs.Types.{Kind}
 use Rattle.asl_rules.specs.Belonging.{InType}
+use Rattle.asl_rules.specs.Constants as pure
 use Rattle.asl_rules.specs.Plans.{Faulted, Stuck, Pure, Good, Bad}
 use Rattle.asl_rules.specs.Operators.{in_range, integer_of, quotient, divided, raised, of_integers, of_booleans, of_labels, of_one_enumeration, binary_value, unary_value}
 use Rattle.asl_rules.proofs.Inversions.{ok_ok, err_ok, then_ok, need_ok}
@@ -61,6 +62,12 @@ module _ (d : List ℕ → Option Ty) where
   raised_gives : (span : Span) (z : ℤ) (f : ℕ → Pure Value) → ((n : ℕ) → Gives d integer (f n)) → Gives d integer (raised span z f)
   raised_gives span (pos n) f g = g n
   raised_gives span (negsuc n) f g = tt
+
+  -- a step behind one that gives a value of a type
+  pub gives_bind : (S T : Ty) (r : Pure Value) (f : Value → Pure Value) → Gives d S r → ((x : Value) → InType d x S → Gives d T (f x)) → Gives d T (pure.◌>>=◌ r f)
+  gives_bind S T (Good x) f g next = next x g
+  gives_bind S T (Bad (Faulted code span)) f g next = tt
+  gives_bind S T (Bad (Stuck mistake span)) f g next = absurd g
 
   -- ---- operands of the kinds that a rule asks for
 

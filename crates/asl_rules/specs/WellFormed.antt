@@ -1,7 +1,7 @@
 -- Well-formed types and the values that a program has: what a name stands for is told by a function from names to declared
 -- types.
 use Rattle.std.specs.Prelude.{◌≡◌, ℕ, Bool, true, false, List, [], ◌∷◌, Option, Some, None}
-use Rattle.asl_rules.specs.Types.{Ty, Fields, Parts, integer, boolean, enumeration_of, record_of, exception_of, tuple_of, array_of, named, no_field, field, no_part, part, is_among, misfit}
+use Rattle.asl_rules.specs.Types.{Ty, Fields, Parts, integer, boolean, enumeration_of, record_of, exception_of, tuple_of, array_of, named, no_field, field, no_part, part, misfit}
 use Rattle.asl_rules.specs.Values.{Value, FieldValues, Values, int, bool, label, record_with, exception_with, tuple_with, array_with, no_value_of, value_of_field, no_value, value}
 
 abbrev pub is_named : Ty → Bool
@@ -62,10 +62,6 @@ pub record WellFormed (declared : List ℕ → Option Ty) (T : Ty) : Type 0 wher
 -- what a name stands for is well-formed
 pub record WellDeclared (declared : List ℕ → Option Ty) : Type 0 where
   pub each : (name : List ℕ) (T : Ty) → declared name ≡ Some T → WellFormed declared T
-
--- the structure of a declared name fits that of each name which it reaches, and not of the nearest alone
-pub record SupersFit (declared : List ℕ → Option Ty) : Type 0 where
-  pub fit : (n c : List ℕ) (supers others : List (List ℕ)) (T U : Ty) → declared n ≡ Some (named n supers T) → declared c ≡ Some (named c others U) → is_among c supers ≡ true → misfit T U ≡ None
 
 -- more names are declared, and none otherwise
 pub record Extends (declared later : List ℕ → Option Ty) : Type 0 where
