@@ -1,19 +1,7 @@
 //! A scratch crate.
 #![tactic(auto)]
 
-mod baring;
-mod codes;
-mod fits;
-mod initial;
-mod kinds;
-mod names;
-mod reading;
-mod replacing;
-mod sizes;
-mod types;
-mod values;
-
-ghost use Rattle.nest.specs.Types.{Ty, integer, exception_of, named, no_field, Kind, exceptions, kind, kind_eq, arrays, misfit, join, bare, names_kept, reaches, parts_of, fields_of, element_of, part_type, field_type, Declared, WellFormed, WellDeclared, SupersFit, Extends, stripped, size, depth, enumerations, declared_in, AllWellFormed};
+ghost use Rattle.nest.specs.Types.{Ty, integer, exception_of, named, no_field, Kind, exceptions, kind, kind_eq, arrays, StaticCode, misfit, join, bare, names_kept, reaches, parts_of, fields_of, element_of, part_type, field_type, Declared, WellFormed, WellDeclared, SupersFit, Extends, stripped, size, depth, enumerations, declared_in, AllWellFormed};
 ghost use Rattle.nest.specs.Values.{Value, label, Values, FieldValues, record_with, exception_with, tuple_with, array_with, count, is_exception, has_type, kind_of, Built, initial_value, element_at, set_element, field_at, set_field};
 ghost use Rattle.nest.specs.Having.{Has};
 ghost use Rattle.std.specs.Str.{bytes_eq};
@@ -77,7 +65,7 @@ pub fn bare_types()
 {}
 
 /// An initial value belongs to its type.
-#[tactic(auto, using(crate::proofs::InitialValues::initial_belongs, crate::proofs::InitialValues::initial_built))]
+#[tactic(auto, using(crate::proofs::Initial::initial_belongs, crate::proofs::Initial::initial_built))]
 pub fn initial_values()
     ensures belongs { (d : List ℕ → Option Ty) (T : Ty) → WellFormed d T → has_type (initial_value T) T ≡ true }
     ensures built { (d : List ℕ → Option Ty) (T : Ty) → WellFormed d T → Built d (initial_value T) }
@@ -127,7 +115,7 @@ pub fn more_names()
 {}
 
 /// What is read after an element or a field is replaced.
-#[tactic(auto, using(crate::proofs::ReadAfter::replaced_element, crate::proofs::ReadAfter::other_element, crate::proofs::ReadAfter::replaced_field, crate::proofs::ReadAfter::other_field))]
+#[tactic(auto, using(crate::proofs::Replacing::replaced_element, crate::proofs::Replacing::other_element, crate::proofs::Replacing::replaced_field, crate::proofs::Replacing::other_field))]
 pub fn read_after()
     ensures element { (xs : Values) (i : ℕ) (y : Value) (ys : Values) → set_element i y xs ≡ Some ys → element_at i ys ≡ Some y }
     ensures elements { (xs : Values) (i j : ℕ) (y : Value) (ys : Values) → set_element i y xs ≡ Some ys → (i ≡ j → ⊥) → element_at j ys ≡ element_at j xs }

@@ -1,5 +1,6 @@
 -- What values of the code stand for.
-use Rattle.std.specs.Prelude.{ℕ, List, [], ◌∷◌, map}
+use Rattle.std.specs.Prelude.{ℕ, zero, suc, List, [], ◌∷◌, map, Option, Some, None, option_map, if◌then◌else◌}
+use Rattle.std.specs.Str.{bytes_eq}
 use Rattle.nest.specs.Values as values
 use Rattle.nest.specs.Types as types
 use Rattle.nest.specs.Types.{kind}
@@ -55,3 +56,8 @@ field_list (types.field f T fs) = record { name = f; value = values.initial_valu
 abbrev pub part_list : types.Parts → List values.Value
 part_list types.no_part = []
 part_list (types.part T ts) = values.initial_value T ∷ part_list ts
+
+-- the place of the first field of a name
+abbrev pub place_of : List ℕ → List FieldValue → Option ℕ
+place_of name [] = None
+place_of name (x ∷ xs) = if bytes_eq (field x).name name then Some zero else option_map suc (place_of name xs)
