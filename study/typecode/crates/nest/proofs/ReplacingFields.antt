@@ -1,5 +1,5 @@
 -- A list of fields with one replaced, and what it stands for.
-use Rattle.std.proofs.Common.{◌≡◌, ℕ, zero, suc, ◌+◌, ◌<◌, Bool, true, false, List, [], ◌∷◌, length, Option, Some, None, refl, sym, ap, ◌∙◌, arith}
+use Rattle.std.proofs.Common.{◌≡◌, ℕ, zero, suc, Bool, true, false, List, [], ◌∷◌, Option, Some, None, refl, sym, ap, ◌∙◌}
 use Rattle.std.specs.Prelude.{option_map, slice_set, if◌then◌else◌}
 use Rattle.std.specs.Str.{bytes_eq}
 use Rattle.nest.specs.declared.values.FieldValue.{FieldValue}
@@ -38,3 +38,7 @@ pub field_unset : (name : List ℕ) (xs : List FieldValue) (v : values.Value) �
 field_unset name [] v e = refl
 field_unset name (x ∷ xs) v e =
     unset_by (bytes_eq (field x).name name) (place_of name xs) (set_field name v (all_fields xs)) _ _ (field_unset name xs v) e
+
+pub field_put : (name : List ℕ) (xs zs : List FieldValue) (i : ℕ) (y : FieldValue) (v : values.Value) → zs ≡ slice_set xs i y → (field y).name ≡ name → (field y).value ≡ v → place_of name xs ≡ Some i → Some (all_fields zs) ≡ set_field name v (all_fields xs)
+field_put name xs zs i y v z h w e =
+    ap (λ us. Some (all_fields us)) z ∙ (field_set name xs i y h e ∙ ap (λ u. set_field name u (all_fields xs)) w)

@@ -34,21 +34,39 @@ pub fn place_of(name: &Items<u8>, fields: &[FieldValue]) -> Option<usize>
 }
 
 /// The fields with the first of a name replaced, where there is one.
-#[tactic(auto, using(crate::proofs::ReplacingFields::field_set, crate::proofs::ReplacingFields::field_unset))]
-pub fn set_field(alloc: Global, name: &Text, fields: Shared<Items<FieldValue>>, value: Value) -> Result<Option<Shared<Items<FieldValue>>>, AllocError>
+#[tactic(auto, using(crate::proofs::ReplacingFields::field_put, crate::proofs::ReplacingFields::field_unset))]
+pub fn set_field(
+    alloc: Global,
+    name: &Text,
+    fields: Shared<Items<FieldValue>>,
+    value: Value,
+) -> Result<Option<Shared<Items<FieldValue>>>, AllocError>
     ensures { IfOk result (λ it. option_map views.all_fields it ≡ set_field name.now (views.value value) (views.all_fields fields)) }
 {
     match place_of(name.get(), fields.get().as_slice()) {
         None => Ok(None),
         Some(at) => {
-            let field = FieldValue::Given(name.share()?, value);
+            let field = given(name, value)?;
             Ok(Some(replace_field(alloc, fields, at, field)?))
         }
     }
 }
 
+/// A field of this name with this value.
+fn given(name: &Text, value: Value) -> Result<FieldValue, AllocError>
+    ensures name { IfOk result (λ it. (views.field it).name ≡ name.now) }
+    ensures value { IfOk result (λ it. (views.field it).value ≡ views.value value) }
+{
+    Ok(FieldValue::Given(name.share()?, value))
+}
+
 /// The fields with the one at a place replaced.
-fn replace_field(alloc: Global, fields: Shared<Items<FieldValue>>, at: usize, field: FieldValue) -> Result<Shared<Items<FieldValue>>, AllocError>
+fn replace_field(
+    alloc: Global,
+    fields: Shared<Items<FieldValue>>,
+    at: usize,
+    field: FieldValue,
+) -> Result<Shared<Items<FieldValue>>, AllocError>
     requires { at < length fields }
     ensures { IfOk result (λ it. it ≡ slice_set fields at field) }
 {
@@ -58,7 +76,10 @@ fn replace_field(alloc: Global, fields: Shared<Items<FieldValue>>, at: usize, fi
 }
 
 /// The fields, with no other owner.
-fn into_owned_fields(alloc: Global, fields: Shared<Items<FieldValue>>) -> Result<Items<FieldValue>, AllocError>
+fn into_owned_fields(
+    alloc: Global,
+    fields: Shared<Items<FieldValue>>,
+) -> Result<Items<FieldValue>, AllocError>
     ensures { IfOk result (λ it. it ≡ fields) }
 {
     match fields.take() {
@@ -74,7 +95,10 @@ fn copy_fields(alloc: Global, fields: &[FieldValue]) -> Result<Items<FieldValue>
     let mut copies = Items::new(alloc);
     for field in fields {
         match field {
-            FieldValue::Given(name, value) => copies.push(FieldValue::Given(name.share()?, value.copy()?))?,
+            FieldValue::Given(name, value) => copies.push(FieldValue::Given(
+                name.share()?,
+                value.copy()?,
+            ))?,
         }
     }
     Ok(copies)
