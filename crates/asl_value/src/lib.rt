@@ -1,11 +1,6 @@
-//! The values of a run with their types, and how they are written.
+//! Values: their kinds, their parts, the operators on them, and their texts.
 #![tactic(auto)]
 
-mod binding;
 mod value;
 
-pub use binding::Binding;
-pub use value::{Ty, Value, copy, has_type, initial, show, type_of};
-
-#[cfg(test)]
-mod tests;
+pub use value::{FieldValue, Kind, Name, Names, Value, copy};
