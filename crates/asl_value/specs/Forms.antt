@@ -1,0 +1,16 @@
+-- What constructions stand for.
+use Rattle.std.specs.Prelude.{List, map}
+use Rattle.asl_value.specs.declared.parts.GivenField.{GivenField}
+use Rattle.asl_value.specs.declared.parts.Shell.{Shell}
+use Rattle.asl_value.specs.declared.parts.Shell.TheVariants as shell
+use Rattle.asl_value.specs.Places as places
+
+abbrev pub shell_of : Shell → places.Shell
+shell_of (shell.Record name) = places.record_shell name
+shell_of (shell.Exception own supers name) = places.exception_shell own supers name
+
+abbrev pub given_of : GivenField → places.Given
+given_of g = (g.name, g.place)
+
+abbrev pub all_given : List GivenField → List places.Given
+all_given gs = map given_of gs
