@@ -1,6 +1,15 @@
 //! Types: their kinds and sizes, which satisfies which, and the scope that they stand in.
 #![tactic(auto)]
 
+pub mod answer;
+pub mod baring;
+pub mod binding;
+pub mod fits;
+pub mod initial;
+pub mod kinds;
+mod names;
+pub mod sizes;
+pub mod structure;
 mod ty;
 
 pub use ty::{FieldType, Ty};
