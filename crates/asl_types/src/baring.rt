@@ -48,6 +48,7 @@ pub fn bare(alloc: Global, ty: &Ty) -> Result<Ty, AllocError>
 
 /// The parts without the names of their tuples and arrays, in order.
 #[cycle(bare)]
+#[tactic(auto, using(crate::proofs::Building::pushed, crate::proofs::Building::bares_built))]
 fn bare_parts(alloc: Global, parts: &[Ty]) -> Result<Items<Ty>, AllocError>
     ensures { IfOk result (λ bares. all_parts bares ≡ rules.bare_parts (all_parts parts.now)) }
 {

@@ -5,6 +5,7 @@ ghost use Rattle.asl_rules.specs.Types.{array_of};
 ghost use Rattle.asl_rules.specs.Values as rules;
 ghost use Rattle.asl_value.specs.View as values;
 ghost use Rattle.asl_value.specs.View.{value_of, all_values};
+ghost use Rattle.asl_types.specs.Parts.{with_initial};
 ghost use Rattle.asl_types.specs.View.{ty_of, field_of, all_fields, all_parts};
 
 use crate::kinds::kind;
@@ -65,6 +66,7 @@ fn first_label(alloc: Global, labels: &[Name]) -> Result<Name, AllocError>
 }
 
 /// So many of a value.
+#[tactic(auto, using(crate::proofs::Building::all_of_times, crate::proofs::Building::times_more))]
 fn repeated(alloc: Global, count: u32, value: &Value) -> Result<Items<Value>, AllocError>
     ensures { IfOk result (λ it. all_values it ≡ rules.repeated count (value_of value.now)) }
 {
@@ -88,6 +90,7 @@ fn initial_array(alloc: Global, length: u32, element: &Ty) -> Result<Value, Allo
 
 /// The fields with their initial values, in order.
 #[cycle(initial)]
+#[tactic(auto, using(crate::proofs::Building::pushed, crate::proofs::Building::fields_built))]
 fn initial_fields(alloc: Global, fields: &[FieldType]) -> Result<Items<FieldValue>, AllocError>
     ensures { IfOk result (λ xs. values.all_fields xs ≡ rules.initial_fields (all_fields fields.now)) }
 {
@@ -101,8 +104,7 @@ fn initial_fields(alloc: Global, fields: &[FieldType]) -> Result<Items<FieldValu
 /// A field with its initial value.
 #[cycle(initial)]
 fn initial_field(alloc: Global, field: &FieldType) -> Result<FieldValue, AllocError>
-    ensures name { IfOk result (λ x. (values.field_of x).name ≡ (field_of field.now).name) }
-    ensures value { IfOk result (λ x. (values.field_of x).value ≡ rules.initial_value (field_of field.now).ty) }
+    ensures { IfOk result (λ x. values.field_of x ≡ with_initial (field_of field.now)) }
 {
     match field {
         FieldType::Field(name, ty) => {
@@ -114,6 +116,7 @@ fn initial_field(alloc: Global, field: &FieldType) -> Result<FieldValue, AllocEr
 
 /// The parts of a tuple with their initial values, in order.
 #[cycle(initial)]
+#[tactic(auto, using(crate::proofs::Building::pushed, crate::proofs::Building::parts_built))]
 fn initial_parts(alloc: Global, parts: &[Ty]) -> Result<Items<Value>, AllocError>
     ensures { IfOk result (λ xs. all_values xs ≡ rules.initial_parts (all_parts parts.now)) }
 {

@@ -41,6 +41,7 @@ pub fn kind(alloc: Global, ty: &Ty) -> Result<Kind, AllocError>
 
 /// The kinds of the parts of a tuple, in order.
 #[cycle(kind)]
+#[tactic(auto, using(crate::proofs::Building::pushed, crate::proofs::Building::kinds_built))]
 fn kinds(alloc: Global, parts: &[Ty]) -> Result<Items<Kind>, AllocError>
     ensures { IfOk result (λ ks. all_kinds ks ≡ rules.kinds (all_parts parts.now)) }
 {
@@ -124,6 +125,7 @@ fn is_exception(name: &[u8], ty: &Ty) -> bool
 
 /// Whether the types are of one kind. Two enumerations, records or exceptions are where one declaration writes both.
 #[cycle(same_kind)]
+#[tactic(auto, using(crate::proofs::KindLemmas::integers_either, crate::proofs::KindLemmas::booleans_either))]
 pub fn same_kind(ty: &Ty, other: &Ty) -> bool
     ensures { result ≡ rules.same_kind (ty_of ty.now) (ty_of other.now) }
 {
@@ -141,6 +143,7 @@ pub fn same_kind(ty: &Ty, other: &Ty) -> bool
 
 /// Whether the type is a tuple with parts of the kinds of these.
 #[cycle(same_kind)]
+#[tactic(auto, using(crate::proofs::KindLemmas::tuple_there, crate::proofs::KindLemmas::tuple_missing))]
 fn is_tuple(parts: &[Ty], ty: &Ty) -> bool
     ensures { result ≡ kind_eq (tuples (rules.kinds (all_parts parts.now))) (rules.kind (ty_of ty.now)) }
 {
@@ -152,6 +155,7 @@ fn is_tuple(parts: &[Ty], ty: &Ty) -> bool
 
 /// Whether the type is an array of this length with elements of the kind of this.
 #[cycle(same_kind)]
+#[tactic(auto, using(crate::proofs::KindLemmas::array_there, crate::proofs::KindLemmas::array_apart, crate::proofs::KindLemmas::array_missing))]
 fn is_array(length: u32, element: &Ty, ty: &Ty) -> bool
     ensures { result ≡ kind_eq (arrays length (rules.kind (ty_of element.now))) (rules.kind (ty_of ty.now)) }
 {
