@@ -1,6 +1,8 @@
 //! Types: their kinds and sizes, which satisfies which, and the scope that they stand in.
 #![tactic(auto)]
 
+mod slot;
 mod ty;
 
+pub use slot::Slot;
 pub use ty::{FieldType, Ty};
