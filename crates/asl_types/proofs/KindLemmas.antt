@@ -1,8 +1,11 @@
 -- The kinds of tuples and arrays, behind their names too.
-use Rattle.std.proofs.Common.{◌≡◌, ℕ, ◌==◌, Bool, true, false, ◌&&◌, Option, Some, None, nat_eq, refl, sym, ap, ◌∙◌}
+use Rattle.std.proofs.Common.{◌≡◌, ℕ, ◌==◌, Bool, true, false, ◌&&◌, Option, Some, None, List, [], ◌∷◌, length, drop, ◌≤◌, nat_eq, refl, sym, ap, ◌∙◌, suc, arith}
+use Rattle.std.proofs.lemmas.List.{drop_all}
 use Rattle.asl_rules.specs.Types.{Ty, Parts, Kind, Kinds, integer, boolean, enumeration_of, record_of, exception_of, tuple_of, array_of, named, integers, booleans, enumerations, records, exceptions, tuples, arrays, kind, kinds, kind_eq, kinds_eq}
 use Rattle.asl_rules.specs.Stmts.{tuple_parts}
+use Rattle.asl_types.specs.declared.ty.Ty.{Ty as TyInCode}
 use Rattle.asl_types.specs.Parts.{array_in}
+use Rattle.asl_types.specs.View.{all_parts}
 
 -- the kinds of integers and booleans are equal either way round
 pub integers_either : (k : Kind) → kind_eq integers k ≡ kind_eq k integers
@@ -45,6 +48,17 @@ tuple_there b ks T Ts h e = e ∙ ap (of_parts ks) h ∙ tuple_kind ks T
 pub tuple_missing : (ks : Kinds) (T : Ty) → None ≡ tuple_parts T → false ≡ kind_eq (tuples ks) (kind T)
 tuple_missing ks T h = ap (of_parts ks) h ∙ tuple_kind ks T
 
+none_of_more : (n : ℕ) → (suc n == 0) ≡ false
+none_of_more n = grind arith
+
+none_equal : (Ts : List TyInCode) → (length Ts == 0) ≡ kinds_eq (kinds (all_parts [])) (kinds (all_parts Ts))
+none_equal [] = refl
+none_equal (T ∷ Ts) = none_of_more (length Ts)
+
+-- behind the last part of the one, the kinds are those of the other where nothing is left of it
+pub none_left : (b : Bool) (Ts : List TyInCode) (i : ℕ) (rest : List TyInCode) (all : Bool) → length Ts ≤ i → b ≡ (length rest == 0) → kinds_eq (kinds (all_parts (drop i Ts))) (kinds (all_parts rest)) ≡ all → b ≡ all
+none_left b Ts i rest all end e before = e ∙ none_equal rest ∙ ap (λ Us. kinds_eq (kinds (all_parts Us)) (kinds (all_parts rest))) (sym (drop_all i Ts end)) ∙ before
+
 -- ---- arrays
 
 abbrev of_array : ℕ → Kind → Option (ℕ × Ty) → Bool
@@ -61,11 +75,14 @@ array_kind n k (tuple_of Ts) = refl
 array_kind n k (array_of m T) = refl
 array_kind n k (named m ns T) = array_kind n k T
 
-pub array_there : (b : Bool) (n m : ℕ) (k : Kind) (S T : Ty) → Some (m, S) ≡ array_in T → (n == m) ≡ true → b ≡ kind_eq k (kind S) → b ≡ kind_eq (arrays n k) (kind T)
-array_there b n m k S T h same e = e ∙ ap (λ r. r && kind_eq k (kind S)) (sym same) ∙ ap (of_array n k) h ∙ array_kind n k T
+is_same : (n m : ℕ) → n ≡ m → (n == m) ≡ true
+is_same n m h = grind arith
 
-pub array_apart : (b : Bool) (n m : ℕ) (k : Kind) (S T : Ty) → Some (m, S) ≡ array_in T → (n == m) ≡ false → false ≡ kind_eq (arrays n k) (kind T)
-array_apart b n m k S T h other = ap (λ r. r && kind_eq k (kind S)) (sym other) ∙ ap (of_array n k) h ∙ array_kind n k T
+pub array_there : (b : Bool) (n m : ℕ) (k : Kind) (S T : Ty) → Some (m, S) ≡ array_in T → n ≡ m → b ≡ kind_eq k (kind S) → b ≡ kind_eq (arrays n k) (kind T)
+array_there b n m k S T h same e = e ∙ ap (λ r. r && kind_eq k (kind S)) (sym (is_same n m same)) ∙ ap (of_array n k) h ∙ array_kind n k T
+
+pub array_apart : (n m : ℕ) (k : Kind) (S T : Ty) → Some (m, S) ≡ array_in T → (n == m) ≡ false → false ≡ kind_eq (arrays n k) (kind T)
+array_apart n m k S T h other = ap (λ r. r && kind_eq k (kind S)) (sym other) ∙ ap (of_array n k) h ∙ array_kind n k T
 
 pub array_missing : (n : ℕ) (k : Kind) (T : Ty) → None ≡ array_in T → false ≡ kind_eq (arrays n k) (kind T)
 array_missing n k T h = ap (of_array n k) h ∙ array_kind n k T
