@@ -13,3 +13,6 @@ pub mod structure;
 mod ty;
 
 pub use ty::{FieldType, Ty};
+
+#[cfg(test)]
+mod tests;
