@@ -1,6 +1,6 @@
 -- Texts of values that are written one piece behind another.
 use Rattle.std.proofs.Common.{◌≡◌, ℕ, zero, suc, ◌+◌, ◌<◌, ◌≤◌, Bool, true, false, List, [], ◌∷◌, ◌++◌, length, get_or, drop, length-drop, Option, refl, sym, ap, ◌∙◌, subst, arith, append_assoc, append-nil}
-use Rattle.std.specs.Prelude.{codes, nat_lt}
+use Rattle.std.specs.Prelude.{codes, nat_lt, Result, Ok, Err, OnErr}
 use Rattle.asl_io.specs.Told.{Takes, TakesPrefix}
 use Rattle.asl_io.proofs.ToldLemmas.{Takes-join, Takes-none, TakesPrefix-after, TakesPrefix-more}
 use Rattle.asl_rules.specs.Texts.{Text, value_text, value_texts, field_texts, behind_comma}
@@ -57,8 +57,11 @@ some_field : (xs : List FieldValue) (b : Bool) → (0 < length xs → b ≡ true
 some_field [] b some none = none (omega arith)
 some_field (x ∷ xs) b some none = some (omega arith) ∙ sym (equal_sign (field_of x).name (value_text (field_of x).value ++ behind_comma (field_texts (all_fields xs))))
 
+regroup : (a b c d e : List ℕ) → a ++ (b ++ (c ++ (d ++ e))) ≡ (a ++ (b ++ (c ++ d))) ++ e
+regroup a b c d e = simp append_assoc
+
 pub fields_from : (xs : List FieldValue) (i : ℕ) (x : FieldValue) (more : Bool) → i < length xs → x ≡ get_or xs i x → more ≡ nat_lt (i + 1) (length xs)
-    → field_texts (all_fields (drop i xs)) ≡ (field_text (field_of x) ++ comma more) ++ field_texts (all_fields (drop (i + 1) xs))
+    → field_texts (all_fields (drop i xs)) ≡ field_text (field_of x) more ++ field_texts (all_fields (drop (i + 1) xs))
 fields_from xs i x more within here some =
     let rest = field_texts (all_fields (drop (i + 1) xs)) in
     let name = (field_of x).name in
@@ -67,6 +70,44 @@ fields_from xs i x more within here some =
     ap (λ ys. field_texts (all_fields ys)) (at_front xs i x within here) ∙
     ap (λ t. name ++ (codes "=" ++ (own ++ t))) (comma_is rest ∙ ap (λ b. comma b ++ rest) (sym is_some)) ∙
     regroup name (codes "=") own (comma more) rest
-  where
-    regroup : (a b c d e : List ℕ) → a ++ (b ++ (c ++ (d ++ e))) ≡ ((a ++ (b ++ c)) ++ d) ++ e
-    regroup a b c d e = simp append_assoc
+
+-- ---- refused writes
+
+pub prefix_after : {T E : Type 0} (r : Result T E) (a b c : Option (List ℕ)) (xs ys : List ℕ) → Takes a b xs → OnErr r (TakesPrefix b c ys) → OnErr r (TakesPrefix a c (xs ++ ys))
+prefix_after (Ok x) a b c xs ys h k = tt
+prefix_after (Err e) a b c xs ys h k = TakesPrefix-after a b c xs ys h k
+
+pub prefix_same : {T E : Type 0} (r : Result T E) (a b : Option (List ℕ)) (xs ys : List ℕ) → xs ≡ ys → TakesPrefix a b xs → OnErr r (TakesPrefix a b ys)
+prefix_same (Ok x) a b xs ys e k = tt
+prefix_same (Err x) a b xs ys e k = subst (TakesPrefix a b) e k
+
+-- ---- whether there is any text
+
+some_then : (t u : Text) → is_some_text t ≡ true → is_some_text (t ++ u) ≡ true
+some_then [] u h = cc
+some_then (b ∷ t) u h = refl
+
+none_then : (t u : Text) → is_some_text t ≡ false → is_some_text (t ++ behind_comma u) ≡ is_some_text u
+none_then [] [] h = refl
+none_then [] (b ∷ u) h = refl
+none_then (b ∷ t) u h = cc
+
+pub some_here : (xs : List Value) (i : ℕ) (x : Value) → i < length xs → x ≡ get_or xs i x → is_some_text (value_texts (all_values xs)) ≡ is_some_text (value_texts (all_values (drop i xs))) → is_some_text (value_text (value_of x)) ≡ true → is_some_text (value_texts (all_values xs)) ≡ true
+some_here xs i x within here before some =
+    before ∙ ap (λ ys. is_some_text (value_texts (all_values ys))) (at_front xs i x within here) ∙
+    some_then (value_text (value_of x)) (behind_comma (value_texts (all_values (drop (i + 1) xs)))) some
+
+pub some_later : (xs : List Value) (i : ℕ) (x : Value) → i < length xs → x ≡ get_or xs i x → is_some_text (value_texts (all_values xs)) ≡ is_some_text (value_texts (all_values (drop i xs))) → is_some_text (value_text (value_of x)) ≡ false → is_some_text (value_texts (all_values xs)) ≡ is_some_text (value_texts (all_values (drop (i + 1) xs)))
+some_later xs i x within here before none =
+    before ∙ ap (λ ys. is_some_text (value_texts (all_values ys))) (at_front xs i x within here) ∙
+    none_then (value_text (value_of x)) (value_texts (all_values (drop (i + 1) xs))) none
+
+pub some_none : (xs : List Value) (i : ℕ) → length xs ≤ i → is_some_text (value_texts (all_values xs)) ≡ is_some_text (value_texts (all_values (drop i xs))) → is_some_text (value_texts (all_values xs)) ≡ false
+some_none xs i past before = before ∙ ap (λ ys. is_some_text (value_texts (all_values ys))) (none_after xs i past)
+
+-- no item is left
+pub values_past : (xs : List Value) (i : ℕ) → length xs ≤ i → value_texts (all_values (drop i xs)) ≡ []
+values_past xs i past = ap (λ ys. value_texts (all_values ys)) (none_after xs i past)
+
+pub fields_past : (xs : List FieldValue) (i : ℕ) → length xs ≤ i → field_texts (all_fields (drop i xs)) ≡ []
+fields_past xs i past = ap (λ ys. field_texts (all_fields ys)) (none_after xs i past)

@@ -77,23 +77,23 @@ fn show_named<K: Sink>(name: &[u8], fields: &[FieldValue], sink: &mut K) -> Resu
 /// Writes values with commas between them, between two marks.
 #[cycle(show)]
 fn show_between<K: Sink>(
-    open: &[u8],
+    front: &[u8],
     values: &[Value],
-    close: &[u8],
+    end: &[u8],
     sink: &mut K,
 ) -> Result<(), SinkFault>
     ensures all { OnOk result
-        (Takes (K.written sink.old) (K.written sink.new) (open.now ++ (value_texts (all_values values.now) ++ close.now))) }
+        (Takes (K.written sink.old) (K.written sink.new) (front.now ++ (value_texts (all_values values.now) ++ end.now))) }
     ensures prefix { OnErr result
-        (TakesPrefix (K.written sink.old) (K.written sink.new) (open.now ++ (value_texts (all_values values.now) ++ close.now))) }
+        (TakesPrefix (K.written sink.old) (K.written sink.new) (front.now ++ (value_texts (all_values values.now) ++ end.now))) }
     ensures count_grows { K.faults sink.old ≤ K.faults sink.new }
     ensures count_rises { OnErr result (Rises (K.faults sink.old) (K.faults sink.new)) }
     ensures count_stays { OnOk result (K.faults sink.new ≡ K.faults sink.old) }
     ensures same_full { K.full sink.new ≡ K.full sink.old }
 {
-    put_all(sink, open)?;
+    put_all(sink, front)?;
     show_values(values, sink)?;
-    put_all(sink, close)
+    put_all(sink, end)
 }
 
 /// Writes fields with commas between them.
@@ -139,9 +139,9 @@ fn show_values<K: Sink>(values: &[Value], sink: &mut K) -> Result<(), SinkFault>
 #[cycle(show)]
 fn show_field<K: Sink>(field: &FieldValue, more: bool, sink: &mut K) -> Result<(), SinkFault>
     ensures all { OnOk result
-        (Takes (K.written sink.old) (K.written sink.new) (field_text (field_of field.now) ++ comma more)) }
+        (Takes (K.written sink.old) (K.written sink.new) (field_text (field_of field.now) more)) }
     ensures prefix { OnErr result
-        (TakesPrefix (K.written sink.old) (K.written sink.new) (field_text (field_of field.now) ++ comma more)) }
+        (TakesPrefix (K.written sink.old) (K.written sink.new) (field_text (field_of field.now) more)) }
     ensures count_grows { K.faults sink.old ≤ K.faults sink.new }
     ensures count_rises { OnErr result (Rises (K.faults sink.old) (K.faults sink.new)) }
     ensures count_stays { OnOk result (K.faults sink.new ≡ K.faults sink.old) }
@@ -187,6 +187,7 @@ fn put_comma<K: Sink>(more: bool, sink: &mut K) -> Result<(), SinkFault>
 }
 
 /// Whether the text of these values, with commas between them, isn't empty. It stops at the first that writes something.
+#[tactic(auto, using(crate::proofs::Fronts::some_here, crate::proofs::Fronts::some_later, crate::proofs::Fronts::some_none))]
 fn have_text(values: &[Value]) -> bool
     ensures { result ≡ is_some_text (value_texts (all_values values.now)) }
 {
@@ -199,23 +200,53 @@ fn have_text(values: &[Value]) -> bool
 }
 
 /// Whether the text of a value isn't empty: only that of a label may be.
+#[tactic(auto, using(crate::proofs::Endings::some_named))]
 fn has_text(value: &Value) -> bool
     ensures { result ≡ is_some_text (value_text (value_of value.now)) }
 {
     match value {
-        Value::Label(_, name) => !name.get().as_slice().is_empty(),
-        _ => true,
+        Value::Int(n) => integer_has_text(*n),
+        Value::Bool(true) => true,
+        Value::Bool(false) => true,
+        Value::Label(_, name) => !name.get().is_empty(),
+        Value::Record(_, _) => true,
+        Value::Exception(_, _, _, _) => true,
+        Value::Tuple(_) => true,
+        Value::Array(_, _) => true,
     }
 }
 
+/// The text of an integer isn't empty.
+#[tactic(auto, using(crate::proofs::Endings::some_integer))]
+fn integer_has_text(n: i128) -> bool
+    ensures { result ≡ is_some_text (integer_text n) }
+{
+    true
+}
+
 /// Whether text is open once a value is written: it isn't empty and doesn't end in a line feed. Only a label may end in one.
+#[tactic(auto, using(crate::proofs::Endings::open_named, crate::proofs::Endings::open_between))]
 pub fn leaves_open(before: bool, value: &Value) -> bool
     ensures { result ≡ open_after before (value_text (value_of value.now)) }
 {
     match value {
+        Value::Int(n) => integer_leaves_open(before, *n),
+        Value::Bool(true) => true,
+        Value::Bool(false) => true,
         Value::Label(_, name) => ends_open(before, name.get().as_slice()),
-        _ => true,
+        Value::Record(_, _) => true,
+        Value::Exception(_, _, _, _) => true,
+        Value::Tuple(_) => true,
+        Value::Array(_, _) => true,
     }
+}
+
+/// An integer leaves text open.
+#[tactic(auto, using(crate::proofs::Digits::integer_open))]
+fn integer_leaves_open(_before: bool, n: i128) -> bool
+    ensures { result ≡ open_after _before (integer_text n) }
+{
+    true
 }
 
 /// Whether text is open once these bytes are written.
