@@ -39,6 +39,12 @@ value_past [] i h = refl
 value_past (x ∷ xs) zero h = absurd (omega (arith, h))
 value_past (x ∷ xs) (suc i) h = value_past xs i (omega (arith, h))
 
+pub value_inside : (span : Span) (xs : List Value) (i : ℕ) (x y : Value) → i < length xs → x ≡ get_or xs i x → y ≡ x → inside span (value_at i (all_values xs)) ≡ Good (value_of y)
+value_inside span xs i x y h e same = ap (inside span) (value_there xs i x h e) ∙ ap (λ w. Good (value_of w)) (sym same)
+
+pub value_outside : (span : Span) (xs : List Value) (i : ℕ) → length xs ≤ i → inside span (value_at i (all_values xs)) ≡ Bad (Faulted D06 span)
+value_outside span xs i h = ap (inside span) (value_past xs i h)
+
 -- ---- elements
 
 index_is : (z : ℤ) (n i : ℕ) → index_in z n ≡ Some i → z ≡ pos i

@@ -1,5 +1,6 @@
 //! Parts of values replaced: in place where they have one owner, and else in a copy of their list, over the same parts.
 ghost use Rattle.std.specs.Prelude.{◌≡◌, ◌<◌, ◌∷◌, pos, length, IfOk, OnOk};
+ghost use Rattle.asl_rules.specs.Structures as rules;
 ghost use Rattle.asl_value.specs.Answers.{Is, Changes};
 ghost use Rattle.asl_value.specs.Forms.{step_of, all_steps};
 ghost use Rattle.asl_value.specs.Places as places;
@@ -27,6 +28,7 @@ pub enum Step {
 
 /// Replaces what stands at the end of these steps; with no step it is the value itself. Where a step isn't there the value
 /// stays the same. Where memory is wanting nothing is said of it.
+#[tactic(auto, using(crate::proofs::Followed::unchanged))]
 pub fn replace(alloc: Global, value: &mut Value, steps: &[Step], new: Value) -> Result<(), Failure>
     ensures { Changes result (places.updated (all_steps steps.now) (value_of new) (value_of value.old)) value.old value.new }
 {
@@ -42,6 +44,7 @@ pub fn replace(alloc: Global, value: &mut Value, steps: &[Step], new: Value) -> 
 }
 
 /// Whether each of these steps is there.
+#[tactic(auto, using(crate::proofs::Followed::reaches_on, crate::proofs::Followed::reaches_off))]
 fn reach(value: &Value, steps: &[Step]) -> Result<(), Failure>
     ensures { Reaches result (λ y. places.updated (all_steps steps.now) y (value_of value.now)) }
 {
@@ -176,11 +179,10 @@ fn put_in_place(
     rest: &[Step],
     new: Value,
 ) -> Result<Shared<Items<Value>>, Failure>
-    requires { at < length elements }
     ensures { Is all_values result
         (put_into_elements span (pos at) (all_steps rest.now) (value_of new) (all_values elements)) }
 {
-    let part = copy(&elements.get().as_slice()[at])?;
+    let part = value_at(span, at, elements.get().as_slice())?;
     let mut owned = into_owned(alloc, elements)?;
     owned.set(at, Value::Bool(false));
     let changed = put(alloc, part, rest, new)?;
@@ -189,6 +191,7 @@ fn put_in_place(
 }
 
 /// Gives the field in a place another value.
+#[tactic(auto, using(crate::proofs::Putting::field_set))]
 fn set_field(fields: &mut Items<FieldValue>, place: usize, value: Value) -> Result<(), AllocError>
     requires { place < length fields.old }
     ensures length { OnOk result (length fields.new ≡ length fields.old) }
@@ -207,6 +210,19 @@ fn given_as(field: &FieldValue, value: Value) -> Result<FieldValue, AllocError>
 {
     match field {
         FieldValue::Given(name, _) => Ok(FieldValue::Given(name.share()?, value)),
+    }
+}
+
+/// The element in a place, over the same parts: D06 where there is none.
+#[tactic(auto, using(crate::proofs::Elements::value_inside, crate::proofs::Elements::value_outside))]
+fn value_at(span: Span, at: usize, elements: &[Value]) -> Result<Value, Failure>
+    ensures value { Is value_of result (rules.inside span (rules.value_at at (all_values elements.now))) }
+    ensures within { OnOk result (at < length elements.now) }
+{
+    if at < elements.len() {
+        Ok(copy(&elements[at])?)
+    } else {
+        Err(Failure::Fault(DynCode::D06, span))
     }
 }
 
