@@ -13,6 +13,7 @@ use Rattle.asl_value.specs.declared.value.FieldValue.{FieldValue}
 use Rattle.asl_value.specs.Places.{Step, field_at, with_field_at, updated}
 use Rattle.asl_value.specs.Reaching.{index_in, put_into_fields, put_into_elements}
 use Rattle.asl_value.specs.View.{value_of, field_of, all_values, all_fields}
+use Rattle.asl_value.proofs.Elements.{value_past}
 
 -- ---- lists with another item
 
@@ -74,11 +75,6 @@ values_put span i ss y q a b xs ys zs at done within out back =
     ap (λ p. p >>= λ u. updated ss y u >>= λ v. inside span (with_value_at i v (all_values xs))) at ∙
     ap (λ p. p >>= λ v. inside span (with_value_at i v (all_values xs))) done ∙
     ap (inside span) (sym (values_twice i (value_of a) (value_of b) (all_values xs)) ∙ ap (λ o. then o (with_value_at i (value_of b))) (value_set xs ys i a within out) ∙ value_set ys zs i b still back)
-
-value_past : (xs : List Value) (i : ℕ) → length xs ≤ i → value_at i (all_values xs) ≡ None
-value_past [] i h = refl
-value_past (x ∷ xs) zero h = absurd (omega (arith, h))
-value_past (x ∷ xs) (suc i) h = value_past xs i (omega (arith, h))
 
 pub elements_none : (span : Span) (z : ℤ) (ss : List Step) (y : rules.Value) (xs : List Value) → index_in z (length xs) ≡ None → put_into_elements span z ss y (all_values xs) ≡ Bad (Faulted D06 span)
 elements_none span (negsuc k) ss y xs h = refl
