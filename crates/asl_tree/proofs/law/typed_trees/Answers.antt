@@ -1,5 +1,9 @@
+use Rattle.asl_tree.proofs.Steps.{updated_same}
 use Rattle.asl_tree.proofs.Backs.{value_same, value_code}
 use Rattle.asl_tree.proofs.MadeFound.{made_found}
+use Rattle.asl_tree.proofs.Outside.{names_outside, base_lays}
+use Rattle.asl_tree.proofs.Places.{has_names}
+use Rattle.asl_tree.proofs.Erasing.{then_same}
 use Rattle.asl_tree.proofs.law.typed_trees.Goals as goal
 
 pub returns : goal.returns
