@@ -18,32 +18,28 @@ use Rattle.asl_rules.proofs.StructureForms.{field_gives}
 
 -- ---- among fields
 
-at_place : Option ℕ → FieldValues → Option Value
+abbrev at_place : Option ℕ → FieldValues → Option Value
 at_place None xs = None
 at_place (Some i) xs = field_at i xs
 
-with_place : Option ℕ → Value → FieldValues → Option FieldValues
+abbrev with_place : Option ℕ → Value → FieldValues → Option FieldValues
 with_place None y xs = None
 with_place (Some i) y xs = with_field_at i y xs
 
 at_later : (g : List ℕ) (x : Value) (xs : FieldValues) (o : Option ℕ) → at_place (option_map suc o) (value_of_field g x xs) ≡ at_place o xs
-unfolding at_place
 at_later g x xs None = refl
 at_later g x xs (Some i) = refl
 
 with_later : (g : List ℕ) (x y : Value) (xs : FieldValues) (o : Option ℕ) → with_place (option_map suc o) y (value_of_field g x xs) ≡ option_map (λ ys. value_of_field g x ys) (with_place o y xs)
-unfolding with_place
 with_later g x y xs None = refl
 with_later g x y xs (Some i) = refl
 
 at_one : (b : Bool) (g : List ℕ) (x : Value) (xs : FieldValues) (o : Option Value) (p : Option ℕ) → o ≡ at_place p xs → cond b (Some x) o ≡ at_place (cond b (Some zero) (option_map suc p)) (value_of_field g x xs)
-unfolding at_place
 at_one true g x xs o p h = refl
 at_one false g x xs o p h = h ∙ sym (at_later g x xs p)
 
 with_one : (b : Bool) (g : List ℕ) (x y : Value) (xs : FieldValues) (o : Option FieldValues) (p : Option ℕ) → o ≡ with_place p y xs →
     cond b (Some (value_of_field g y xs)) (option_map (λ ys. value_of_field g x ys) o) ≡ with_place (cond b (Some zero) (option_map suc p)) y (value_of_field g x xs)
-unfolding with_place
 with_one true g x y xs o p h = refl
 with_one false g x y xs o p h = ap (option_map (λ ys. value_of_field g x ys)) h ∙ sym (with_later g x y xs p)
 
@@ -86,12 +82,10 @@ has_place f no_field U h = some_none U (sym h)
 has_place f (field g T fs) U h = place_one (bytes_eq g f) T U (field_type f fs) (place_of_field f fs) h (has_place f fs U)
 
 at_first : (o : Option ℕ) (xs : FieldValues) → HasPlace o → at_place o xs ≡ field_at (or_first o) xs
-unfolding at_place
 at_first (Some i) xs h = refl
 at_first None xs h = absurd h
 
 with_first : (o : Option ℕ) (y : Value) (xs : FieldValues) → HasPlace o → with_place o y xs ≡ with_field_at (or_first o) y xs
-unfolding with_place
 with_first (Some i) y xs h = refl
 with_first None y xs h = absurd h
 

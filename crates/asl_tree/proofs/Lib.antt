@@ -5,3 +5,4 @@ pub mod Places
 pub mod Erasing
 pub mod FieldPlaces
 pub mod Steps
+pub mod Construct
