@@ -6,3 +6,4 @@ pub mod Erasing
 pub mod FieldPlaces
 pub mod Steps
 pub mod Construct
+pub mod SameExprs

@@ -1,3 +1,4 @@
+use Rattle.asl_tree.proofs.SameExprs.{expr_same}
 use Rattle.asl_tree.proofs.Construct.{construct_same}
 use Rattle.asl_tree.proofs.Steps.{updated_same}
 use Rattle.asl_tree.proofs.Backs.{value_same, value_code}
