@@ -83,7 +83,7 @@ module _ (base : List Entry) (w : WellNamed base) where
   core_bind T P (Bad (Faulted code span)) f g next = tt
   core_bind T P (Bad (Stuck mistake span)) f g next = absurd g
 
-  store_at_gives : (G : Scope) (c : Core) (span : Span) (name : List ℕ) (ss : List Step) (y : Value) (s : Storage) (U : Ty) → Agrees base G.names c → standing_of name G.names ≡ Some (Stored s) → s.is_mutable ≡ true → Leads (types_in base) ss s.ty U → InType (types_in base) y U →
+  pub store_at_gives : (G : Scope) (c : Core) (span : Span) (name : List ℕ) (ss : List Step) (y : Value) (s : Storage) (U : Ty) → Agrees base G.names c → standing_of name G.names ≡ Some (Stored s) → s.is_mutable ≡ true → Leads (types_in base) ss s.ty U → InType (types_in base) y U →
       CoreGives (Agrees base G.names) (store_at span name ss y c)
   store_at_gives G c span name ss y s U a h m l i =
       core_bind s.ty (Agrees base G.names) (held span name c) (λ x. pure.◌>>=◌ (updated ss y x) (λ z. store span name z c)) (knows_gives base s (held span name c) (held_value base G.names c span name s a h)) (λ x j.

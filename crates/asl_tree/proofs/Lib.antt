@@ -7,3 +7,7 @@ pub mod FieldPlaces
 pub mod Steps
 pub mod Construct
 pub mod SameExprs
+pub mod Names
+pub mod Binding
+pub mod SizeTrees
+pub mod TargetPlaces

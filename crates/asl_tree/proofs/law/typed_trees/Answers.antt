@@ -1,3 +1,7 @@
+use Rattle.asl_tree.proofs.SizeTrees.{sizes_are}
+use Rattle.asl_tree.proofs.TargetPlaces.{target_placed}
+use Rattle.asl_tree.proofs.Names.{stmt_lays}
+use Rattle.asl_tree.proofs.Binding.{bound_same}
 use Rattle.asl_tree.proofs.SameExprs.{expr_same}
 use Rattle.asl_tree.proofs.Construct.{construct_same}
 use Rattle.asl_tree.proofs.Steps.{updated_same}
