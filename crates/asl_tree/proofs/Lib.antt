@@ -11,3 +11,4 @@ pub mod Names
 pub mod Binding
 pub mod SizeTrees
 pub mod TargetPlaces
+pub mod SameStores
