@@ -12,3 +12,4 @@ pub mod Binding
 pub mod SizeTrees
 pub mod TargetPlaces
 pub mod SameStores
+pub mod SameStmts

@@ -1,3 +1,4 @@
+use Rattle.asl_tree.proofs.SameStmts.{stmt_same}
 use Rattle.asl_tree.proofs.SameStores.{assign_same}
 use Rattle.asl_tree.proofs.SizeTrees.{sizes_are}
 use Rattle.asl_tree.proofs.TargetPlaces.{target_placed}
