@@ -13,3 +13,4 @@ pub mod SizeTrees
 pub mod TargetPlaces
 pub mod SameStores
 pub mod SameStmts
+pub mod SameCalls
