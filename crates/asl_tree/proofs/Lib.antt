@@ -14,3 +14,5 @@ pub mod TargetPlaces
 pub mod SameStores
 pub mod SameStmts
 pub mod SameCalls
+pub mod TypedRuns
+pub mod Skeletons
