@@ -1,5 +1,5 @@
 -- What a declaration takes of a value: over places it is what it is over names.
-use Rattle.std.proofs.Common.{◌≡◌, ℕ, Bool, true, false, cond, List, [], ◌∷◌, ◌++◌, Option, Some, None, refl, sym, ap, ◌∙◌, subst, map, length}
+use Rattle.std.proofs.Common.{◌≡◌, ℕ, Bool, true, false, cond, List, [], ◌∷◌, Option, Some, None, refl, sym, ap, ◌∙◌, subst, map, length}
 use Rattle.asl_syn.specs.declared.token.Span.{Span}
 use Rattle.asl_syn.specs.declared.tree.Ident.{Ident}
 use Rattle.asl_syn.specs.declared.tree.TypeExpr.{TypeExpr}
@@ -10,14 +10,14 @@ use Rattle.asl_syn.specs.declared.tree.Bind.TheVariants.{Single, Several}
 use Rattle.asl_syn.specs.declared.tree.Decl.{Decl}
 use Rattle.asl_rules.specs.Types.{Ty}
 use Rattle.asl_rules.specs.Values.{Value, tuple_with}
-use Rattle.asl_rules.specs.States.{Under, of_type, belongs, Binding, Core}
-use Rattle.asl_rules.specs.Structures.{values_in, parts, there}
+use Rattle.asl_rules.specs.States.{Under, of_type, belongs, Core}
+use Rattle.asl_rules.specs.Structures.{parts, there}
 use Rattle.asl_rules.specs.Constants.{◌>>=◌}
 use Rattle.asl_rules.specs.Plans.{Faulted, Stuck, WrongKind, Pure, Good, Bad}
-use Rattle.asl_rules.specs.Evaluation.{declared, stored_under, map_pure, under, declare, unders_in, unders_or, declare_each, bound_to, declare_all}
+use Rattle.asl_rules.specs.Evaluation.{declared, stored_under, map_pure, declare, unders_in, unders_or, declare_each, bound_to, declare_all}
 use Rattle.asl_tree.specs.Elaboration.{is_bound, binds_of}
-use Rattle.asl_tree.specs.TypedMeaning.{BareCore, pushed, pushed_times, pushed_each, taken}
-use Rattle.asl_tree.specs.Erasure.{values_of, erased}
+use Rattle.asl_tree.specs.TypedMeaning.{pushed, pushed_times, pushed_each, taken}
+use Rattle.asl_tree.specs.Erasure.{erased}
 use Rattle.asl_tree.proofs.Erasing.{values_behind}
 
 -- ---- no fault comes of what is only stored

@@ -1,9 +1,9 @@
 -- Constructions by places make what constructions by names make.
-use Rattle.std.proofs.Common.{◌≡◌, ℕ, zero, suc, ◌&&◌, Bool, true, false, cond, List, [], ◌∷◌, ◌++◌, Option, Some, None, option_map, refl, sym, ap, ◌∙◌, subst, map}
+use Rattle.std.proofs.Common.{◌≡◌, ℕ, suc, Bool, true, false, List, [], ◌∷◌, Option, Some, None, option_map, refl, sym, ap, ◌∙◌, map}
 use Rattle.std.specs.Prelude.{slice_get, if◌then◌else◌}
 use Rattle.std.specs.Str.{bytes_eq}
 use Rattle.asl_syn.specs.declared.token.Span.{Span}
-use Rattle.asl_syn.specs.declared.tree.FieldValue.{FieldValue, out-FieldValue}
+use Rattle.asl_syn.specs.declared.tree.FieldValue.{FieldValue}
 use Rattle.asl_value.specs.Places as places
 use Rattle.asl_value.specs.Forms.{shell_of, all_given}
 use Rattle.asl_types.specs.Places.{place_of}
@@ -11,7 +11,6 @@ use Rattle.asl_rules.specs.Types.{Ty, Fields, record_of, exception_of, named, no
 use Rattle.asl_rules.specs.Values.{Value, FieldValues, record_with, exception_with}
 use Rattle.asl_rules.specs.Exprs.{FoundField, fields_of, has_name, none_missing, names_given}
 use Rattle.asl_rules.specs.Structures.{Given, given_value, filled, fields_given, there, built, construct}
-use Rattle.asl_rules.specs.Evaluation.{given_layer}
 use Rattle.asl_tree.specs.Elaboration.{MadeField, made_field, names_in, or_first, shell_in, shell_of_type, places_given, places_in_type}
 use Rattle.asl_rules.proofs.Tests.{no, some_none, some_same, both}
 use Rattle.asl_rules.proofs.WellTyped.{found_field}

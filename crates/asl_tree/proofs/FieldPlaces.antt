@@ -1,19 +1,17 @@
 -- Fields by their places: in a value of a type, the field in the place of a name is the field of the name.
-use Rattle.std.proofs.Common.{◌≡◌, ℕ, zero, suc, ◌&&◌, Bool, true, false, cond, List, [], ◌∷◌, ◌++◌, Option, Some, None, option_map, refl, sym, ap, ◌∙◌, subst}
-use Rattle.std.specs.Prelude.{slice_get}
+use Rattle.std.proofs.Common.{◌≡◌, ℕ, zero, suc, ◌&&◌, Bool, true, false, cond, List, Option, Some, None, option_map, refl, sym, ap, ◌∙◌}
 use Rattle.std.specs.Str.{bytes_eq}
 use Rattle.asl_syn.specs.declared.token.Span.{Span}
 use Rattle.asl_value.specs.Places.{field_at, with_field_at, field_in, with_field_in}
-use Rattle.asl_types.specs.Parts.{place_of_field, place_in}
+use Rattle.asl_types.specs.Parts.{place_of_field}
 use Rattle.asl_rules.specs.Types.{Ty, Fields, record_of, exception_of, named, no_field, field, reaches}
-use Rattle.asl_rules.specs.Values.{Value, FieldValues, record_with, exception_with, no_value_of, value_of_field, has_type, fields_have, is_exception}
+use Rattle.asl_rules.specs.Values.{Value, FieldValues, record_with, exception_with, no_value_of, value_of_field, has_type, fields_have}
 use Rattle.asl_rules.specs.Belonging.{InType}
 use Rattle.asl_rules.specs.Exprs.{fields_of, field_type}
 use Rattle.asl_rules.specs.Exprs as exprs
 use Rattle.asl_rules.specs.Structures.{field_value, with_field_value, there, field_of, with_field}
 use Rattle.asl_tree.specs.Elaboration.{or_first, place_in_type}
 use Rattle.asl_rules.proofs.Tests.{no, some_none, both, same_name}
-use Rattle.asl_rules.proofs.OperatorForms.{Gives}
 use Rattle.asl_rules.proofs.StructureForms.{field_gives}
 
 -- ---- among fields

@@ -1,5 +1,5 @@
 -- The names after a statement: those that the elaboration takes for the statements behind it, and their places.
-use Rattle.std.proofs.Common.{◌≡◌, ℕ, Bool, true, false, cond, List, [], ◌∷◌, ◌++◌, Option, Some, None, Result, Ok, refl, sym, ap, ◌∙◌, append_assoc, map, subst}
+use Rattle.std.proofs.Common.{◌≡◌, ℕ, Bool, true, false, cond, List, [], ◌∷◌, ◌++◌, Option, Some, None, Result, Ok, refl, sym, ap, ◌∙◌, append_assoc, subst}
 use Rattle.std.proofs.lemmas.List.{append-nil}
 use Rattle.asl_syn.specs.declared.token.Span.{Span}
 use Rattle.asl_syn.specs.declared.code.Fault.{Fault}
@@ -22,7 +22,7 @@ use Rattle.asl_syn.specs.declared.tree.Alternative.TheFolds.{fold_out-Stmt, fold
 use Rattle.asl_syn.specs.Layers.{StmtLayer}
 use Rattle.asl_types.specs.Places.{local_name, global_name, local_names, global_names}
 use Rattle.asl_tree.specs.declared.typed.TypedBranch.{TypedBranch, out-TypedBranch, out-roll-TypedBranch}
-use Rattle.asl_tree.specs.declared.typed.TypedStmt.{TypedStmt, out-TypedStmt, out-roll-TypedStmt}
+use Rattle.asl_tree.specs.declared.typed.TypedStmt.{out-TypedStmt, out-roll-TypedStmt}
 use Rattle.asl_rules.specs.declared.effect.Effect.{Effect}
 use Rattle.asl_rules.specs.declared.effect.Effect.TheVariants.{Pure}
 use Rattle.asl_rules.specs.Faults.{◌>>=◌, ◌>>◌, need}

@@ -1,12 +1,11 @@
 -- The names outside bodies: their storage is global, and a label stands for itself.
-use Rattle.std.proofs.Common.{◌≡◌, ℕ, zero, suc, Bool, true, false, cond, List, [], ◌∷◌, ◌++◌, Option, Some, None, Result, Ok, Err, refl, sym, ap, ◌∙◌, subst, length, map}
+use Rattle.std.proofs.Common.{◌≡◌, ℕ, zero, suc, Bool, true, false, cond, List, [], ◌∷◌, ◌++◌, Option, Some, Result, Ok, Err, refl, sym, ap, ◌∙◌, subst, length, map}
 use Rattle.std.specs.Str.{bytes_eq}
 use Rattle.std.proofs.lemmas.List.{append-nil}
 use Rattle.asl_syn.specs.declared.code.Fault.{Fault}
 use Rattle.asl_syn.specs.declared.tree.Ident.{Ident}
 use Rattle.asl_syn.specs.declared.tree.TypeDef.{TypeDef}
 use Rattle.asl_syn.specs.declared.tree.TypeDef.TheVariants as td
-use Rattle.asl_syn.specs.declared.tree.StorageDecl.{StorageDecl}
 use Rattle.asl_syn.specs.declared.tree.Decl.{Decl}
 use Rattle.asl_syn.specs.declared.tree.Decl.TheVariants as dc
 use Rattle.asl_types.specs.Places.{local_name, global_name, storage_name, local_names, global_names, storage_names}
@@ -14,7 +13,7 @@ use Rattle.asl_rules.specs.Faults.{◌>>=◌}
 use Rattle.asl_rules.specs.Types.{Ty, named, structure}
 use Rattle.asl_rules.specs.Values.{Value, label}
 use Rattle.asl_rules.specs.Names.{library}
-use Rattle.asl_rules.specs.Scopes.{Scope, Entry, Standing, Stored, Subprogram, TypeName, Label, Storage, subprogram, global, label_name, standing_of, entry_names}
+use Rattle.asl_rules.specs.Scopes.{Scope, Entry, Standing, Stored, Subprogram, TypeName, Label, subprogram, global, label_name, standing_of, entry_names}
 use Rattle.asl_rules.specs.Uses.{uses}
 use Rattle.asl_rules.specs.Declarations.{in_names, def_rule, supertype_rule, label_entries, type_entries, storage_rule, decl_rule, is_var, Judged, Waiting, Fine, Faulty, judged, entries_of, entries, all_fine, judged_by, still, judgement, final, names_of_program}
 use Rattle.asl_tree.specs.Erasure.{LaysOut}

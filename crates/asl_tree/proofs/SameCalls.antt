@@ -22,7 +22,7 @@ use Rattle.asl_rules.specs.Types.{Ty}
 use Rattle.asl_rules.specs.Scopes.{Scope, Entry}
 use Rattle.asl_rules.specs.Exprs.{written}
 use Rattle.asl_rules.specs.Stmts.{found_stmt, in_order}
-use Rattle.asl_rules.specs.Declarations.{in_names, names_of_program}
+use Rattle.asl_rules.specs.Declarations.{in_names}
 use Rattle.asl_rules.specs.Programs.{funcs_of, result_rule, class_of, may_end, body_rule, bodies_rule, ProgramOk}
 use Rattle.asl_rules.specs.Values.{Value, Exit, Normal, Returned}
 use Rattle.asl_rules.specs.States.{Binding, Core}

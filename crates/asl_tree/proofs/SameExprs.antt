@@ -3,7 +3,7 @@ use Rattle.std.proofs.Common.{◌≡◌, ℕ, ℤ, Bool, true, false, cond, List
 use Rattle.asl_syn.specs.declared.token.Span.{Span}
 use Rattle.asl_syn.specs.declared.code.Fault.{Fault}
 use Rattle.asl_syn.specs.declared.code.StaticCode.{StaticCode}
-use Rattle.asl_syn.specs.declared.code.StaticCode.TheVariants.{S03, T02, T05, T15, T19}
+use Rattle.asl_syn.specs.declared.code.StaticCode.TheVariants.{S03, T02, T15, T19}
 use Rattle.asl_syn.specs.declared.tree.Expr.{Expr, out-Expr}
 use Rattle.asl_syn.specs.declared.tree.FieldValue.{FieldValue, out-FieldValue}
 use Rattle.asl_syn.specs.declared.tree.Bitfield.TheOpen as ex
@@ -16,30 +16,30 @@ use Rattle.asl_syn.specs.Layers.{ExprLayer, expr_layer_span}
 use Rattle.asl_value.specs.Forms.{shell_of, all_given}
 use Rattle.asl_value.specs.Places as places
 use Rattle.asl_types.specs.Places.{slot_of, layout_of}
-use Rattle.asl_tree.specs.declared.typed.TypedExpr.{TypedExpr, out-TypedExpr}
+use Rattle.asl_tree.specs.declared.typed.TypedExpr.{out-TypedExpr}
 use Rattle.asl_tree.specs.declared.typed.TypedExpr.TheOpen as te
 use Rattle.asl_tree.specs.declared.typed.TypedFunc.{TypedFunc}
-use Rattle.asl_rules.specs.Faults.{◌>>=◌, ◌>>◌, need, found_or, fault, fault_of}
-use Rattle.asl_rules.specs.Types.{Ty, Fields, is_boolean}
+use Rattle.asl_rules.specs.Faults.{◌>>=◌, need, found_or, fault, fault_of}
+use Rattle.asl_rules.specs.Types.{Ty}
 use Rattle.asl_rules.specs.Effects.{greater, together}
 use Rattle.asl_rules.specs.Scopes.{Scope, Entry, Standing, Stored, Subprogram, TypeName, Label, Storage, standing_of, type_of_name}
-use Rattle.asl_rules.specs.Widths.{weight, weighed, width_of_standing, width_of_binary, has_width}
+use Rattle.asl_rules.specs.Widths.{width_of_standing, width_of_binary, has_width}
 use Rattle.asl_rules.specs.Declarations.{names_of_program}
-use Rattle.asl_rules.specs.Exprs.{Typed, Found, FoundField, Operand, found, typed, width, typed_rule, width_rule, finish, name_rule, name_of_standing, binary_rule, unary_rule, conditional_rule, tuple_rule, operands, constructed, given_once, all_fit, none_missing, names_given, values_given, construct_rule, field_rule, fields_of, field_in, element_rule, span_of}
-use Rattle.asl_rules.specs.Values.{Value, int, bool, label, tuple_with}
+use Rattle.asl_rules.specs.Exprs.{Typed, Found, FoundField, Operand, found, typed, width, typed_rule, width_rule, finish, name_of_standing, binary_rule, unary_rule, conditional_rule, tuple_rule, operands, constructed, given_once, all_fit, none_missing, names_given, values_given, construct_rule, field_rule, fields_of, field_in, element_rule, span_of}
+use Rattle.asl_rules.specs.Values.{Value, int, label, tuple_with}
 use Rattle.asl_rules.specs.States.{Core}
 use Rattle.asl_rules.specs.Belonging.{InType}
 use Rattle.asl_rules.specs.Agreement.{types_in, GlobalsMatch, Agrees}
-use Rattle.asl_rules.specs.Structures.{Given, element_of, field_of, construct, values_of}
-use Rattle.asl_rules.specs.Plans.{Meter, Eval, Ret, run, choose, lift, Pure, Good, Bad, Stuck, UnknownName, Outcome, Done, Thrown, Halt, Faulted}
+use Rattle.asl_rules.specs.Structures.{Given, element_of, field_of, values_of}
+use Rattle.asl_rules.specs.Plans.{Meter, Eval, Ret, run, choose, lift, Pure, Good, Done}
 use Rattle.asl_rules.specs.Operators.{binary_value, unary_value, truth, Decided, Already, ByRight, Strictness, Strict, Lazy, strictness}
 use Rattle.asl_rules.specs.Evaluation as untyped
 use Rattle.asl_rules.specs.Evaluation.{nodes, meaning, expr_node, value_of, or_value, known, held, label_in, value_or_label, literal, given_layer}
-use Rattle.asl_tree.specs.Elaboration.{Made, made, made_field, elaborated, typed_layer, name_layer, label_layer, construct_layer, trees_in, values_in, names_in, place_behind, place_in_type, shell_of_type, places_in_type}
+use Rattle.asl_tree.specs.Elaboration.{made, made_field, elaborated, typed_layer, name_layer, label_layer, construct_layer, trees_in, values_in, names_in, place_behind, place_in_type, shell_of_type, places_in_type}
 use Rattle.asl_tree.specs.TypedMeaning as bare
 use Rattle.asl_tree.specs.TypedMeaning.{typed_meaning, typed_expr_node, typed_expr_layer_span, value_at}
 use Rattle.asl_tree.specs.Erasure.{erased, erased_outcome, LaysOut}
-use Rattle.asl_rules.proofs.Inversions.{ok_ok, err_ok, bind_ok, then_ok, need_ok, found_ok}
+use Rattle.asl_rules.proofs.Inversions.{err_ok, bind_ok, then_ok, need_ok, found_ok}
 use Rattle.asl_rules.proofs.Lookups.{Knows, same_types, label_outside, held_value, label_value}
 use Rattle.asl_rules.proofs.Naming.{WellNamed}
 use Rattle.asl_rules.proofs.WellTyped.{found_field, opened}

@@ -28,18 +28,17 @@ use Rattle.asl_tree.specs.declared.typed.TypedBranch.TheOpen as ts
 use Rattle.asl_tree.specs.declared.typed.TypedStmt.{out-TypedStmt}
 use Rattle.asl_tree.specs.declared.typed.TypedFunc.{TypedFunc}
 use Rattle.asl_rules.specs.declared.effect.Effect.{Effect}
-use Rattle.asl_rules.specs.declared.effect.Effect.TheVariants.{Pure, Readonly, Writes}
+use Rattle.asl_rules.specs.declared.effect.Effect.TheVariants.{Pure, Writes}
 use Rattle.asl_rules.specs.Faults.{◌>>=◌, ◌>>◌, fitted, fault, fault_of}
 use Rattle.asl_rules.specs.Types.{Ty, misfit}
-use Rattle.asl_rules.specs.Effects.{lesser, greater, greatest, all_together}
+use Rattle.asl_rules.specs.Effects.{greater, greatest, all_together}
 use Rattle.asl_rules.specs.Scopes.{Scope, Entry, type_of_name}
-use Rattle.asl_rules.specs.Exprs.{Typed, typed, width, written}
+use Rattle.asl_rules.specs.Exprs.{Typed, typed, written}
 use Rattle.asl_rules.specs.Stmts as stmts
 use Rattle.asl_rules.specs.Stmts.{Done, done, FoundStmt, FoundBranch, expr_at, ended, with_names, in_order, block, fitting, condition, assert_rule, is_var, initialised, local_rule, unbound_rule, several_bound, several_rule, bind_rule, names_rule, vars_rule, found_target, conditions, if_rule, return_rule, items_rule, print_rule, span_of, stmt_layer_rule, found_stmt, falls}
-use Rattle.asl_rules.specs.Declarations.{names_of_program}
 use Rattle.asl_rules.specs.Values.{Value, int, initial_value, Exit, Normal, Returned}
 use Rattle.asl_rules.specs.States.{Core}
-use Rattle.asl_rules.specs.Agreement.{types_in, GlobalsMatch, Agrees}
+use Rattle.asl_rules.specs.Agreement.{GlobalsMatch, Agrees}
 use Rattle.asl_rules.specs.Plans.{Meter, wrote, Faulted, Stuck, Outcome, Done as DoneWith, Thrown, Halt, Ret, Eval, Put, run, choose, lift, Pure as PureOf, Good, Bad}
 use Rattle.asl_rules.specs.Operators.{truth}
 use Rattle.asl_rules.specs.Strings.{string_text}
@@ -47,16 +46,16 @@ use Rattle.asl_rules.specs.Texts.{value_text}
 use Rattle.asl_rules.specs.Evaluation as untyped
 use Rattle.asl_rules.specs.Evaluation.{Does, nodes, meaning, stmt_node, bound_to, declare_all, declare_vars, sizes_in, sized, first_of_pair, eval_sizes}
 use Rattle.asl_tree.specs.Back.{value_back}
-use Rattle.asl_tree.specs.Elaboration.{Elaborated, made, made_type, elaborated, trees_in, trees_of, branches_of, items_of, binds_of, first_value, elaborated_value, elaborated_stmt, elaborated_branch, reading_only, typed_stmt_layer, typed_branch_layer}
+use Rattle.asl_tree.specs.Elaboration.{made, made_type, elaborated, trees_in, trees_of, branches_of, items_of, binds_of, first_value, elaborated_value, elaborated_stmt, elaborated_branch, reading_only, typed_stmt_layer, typed_branch_layer}
 use Rattle.asl_tree.specs.TypedMeaning as bare
 use Rattle.asl_tree.specs.TypedMeaning.{BareCore, DoesBare, typed_meaning, typed_stmt_node, typed_stmt_layer_span, pushed_times, taken}
 use Rattle.asl_tree.specs.Erasure.{erased, erased_outcome, LaysOut, HasFormedResult}
-use Rattle.asl_rules.proofs.Inversions.{err_ok, bind_ok, then_ok, fitted_ok}
+use Rattle.asl_rules.proofs.Inversions.{err_ok, bind_ok, then_ok}
 use Rattle.asl_rules.proofs.Lookups.{same_types}
 use Rattle.asl_rules.proofs.ExprForms.{EndsBody, StmtClaim, our_claims, Thrown_in}
 use Rattle.asl_rules.proofs.StmtForms.{opened, unrolled, branch_found}
 use Rattle.asl_rules.proofs.BindForms.{bind_safe}
-use Rattle.asl_rules.proofs.SizeForms.{numbers, AllNumbers, Sizes, sizes}
+use Rattle.asl_rules.proofs.SizeForms.{numbers, AllNumbers, sizes}
 use Rattle.asl_rules.proofs.ListForms.{AllOk, parts_ok, branch_opened, branch_unrolled}
 use Rattle.asl_rules.proofs.Safe.{Safe, Ends, claims}
 use Rattle.asl_rules.proofs.Soundness.{our_forms}
@@ -65,7 +64,7 @@ use Rattle.asl_tree.proofs.Names.{stmt_parts, elaborated_out, branch_parts, bran
 use Rattle.asl_tree.proofs.Binding.{Steady, bound_steady, bound_same, times_same}
 use Rattle.asl_tree.proofs.SizeTrees.{sizes_are}
 use Rattle.asl_tree.proofs.Erasing.{cut_same, then_same, part_same, lift_same}
-use Rattle.asl_tree.proofs.SameExprs.{Setting, ExprsSame, WidthsSame, Throws, Evals, Of, typed_evals, width_evals, eval_same}
+use Rattle.asl_tree.proofs.SameExprs.{Setting, ExprsSame, WidthsSame, Throws, Of, typed_evals, width_evals, eval_same}
 use Rattle.asl_tree.proofs.SameStores.{assign_same}
 
 -- what is claimed twice of an end

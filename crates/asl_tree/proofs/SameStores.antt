@@ -1,5 +1,5 @@
 -- Assignments over places do what they do over names.
-use Rattle.std.proofs.Common.{◌≡◌, ℕ, true, List, [], ◌∷◌, ◌++◌, Option, Some, None, Ok, refl, sym, ap, ◌∙◌, subst, append_assoc, map}
+use Rattle.std.proofs.Common.{◌≡◌, ℕ, true, List, [], ◌∷◌, ◌++◌, Option, Some, Ok, refl, sym, ap, ◌∙◌, subst, append_assoc}
 use Rattle.std.proofs.lemmas.List.{append-nil}
 use Rattle.asl_syn.specs.declared.token.Span.{Span}
 use Rattle.asl_syn.specs.declared.code.StaticCode.TheVariants.{S03, T05, T15}
@@ -18,27 +18,27 @@ use Rattle.asl_tree.specs.declared.typed.TypedExpr.{TypedExpr}
 use Rattle.asl_tree.specs.declared.typed.TypedPlace.{TypedPlace}
 use Rattle.asl_tree.specs.declared.typed.TypedStmt.{TypedStmt}
 use Rattle.asl_tree.specs.declared.typed.TypedFunc.{TypedFunc}
-use Rattle.asl_rules.specs.Faults.{◌>>=◌, need, found_or, fault_of}
+use Rattle.asl_rules.specs.Faults.{need, fault_of}
 use Rattle.asl_rules.specs.Types.{Ty}
 use Rattle.asl_rules.specs.Scopes.{Scope, Entry, Storage, Stored, standing_of, storage_of}
 use Rattle.asl_rules.specs.Scopes as scopes
-use Rattle.asl_rules.specs.Exprs.{Typed, typed, fields_of, field_in, indexed}
+use Rattle.asl_rules.specs.Exprs.{typed, fields_of, field_in, indexed}
 use Rattle.asl_rules.specs.Stmts.{Done, expr_at, up_to, behind_suffix, behind_suffixes, found_target, assign_rule}
-use Rattle.asl_rules.specs.Values.{Value, Exit, Normal}
+use Rattle.asl_rules.specs.Values.{Value, Exit}
 use Rattle.asl_rules.specs.States.{Core}
 use Rattle.asl_rules.specs.Belonging.{InType}
 use Rattle.asl_rules.specs.Agreement.{types_in, Agrees}
 use Rattle.asl_rules.specs.Constants as pure
-use Rattle.asl_rules.specs.Plans.{Meter, Ret, Eval, run, lift, Meaning, Pure, Good, Bad}
+use Rattle.asl_rules.specs.Plans.{Meter, Eval, run, lift, Meaning, Pure, Good, Bad}
 use Rattle.asl_rules.specs.Evaluation as untyped
 use Rattle.asl_rules.specs.Evaluation.{Does, Step, into_field, into_element, updated, held, known, store, store_at, map_pure, eval_suffix, eval_suffixes, Assigned, assigned, meaning}
-use Rattle.asl_tree.specs.Elaboration.{elaborated, place_in_type, type_behind, step_at, steps_at, type_of_storage, place_at, placing}
+use Rattle.asl_tree.specs.Elaboration.{elaborated, place_in_type, type_behind, step_at, steps_at, type_of_storage, placing}
 use Rattle.asl_tree.specs.TypedMeaning as bare
 use Rattle.asl_tree.specs.TypedMeaning.{BareCore, DoesBare, typed_meaning, value_at, put, put_at, eval_step, eval_steps}
 use Rattle.asl_tree.specs.Erasure.{erased, erased_outcome, LaysOut}
 use Rattle.asl_rules.proofs.Inversions.{ok_ok, err_ok, bind_ok, then_ok, need_ok, found_ok}
 use Rattle.asl_rules.proofs.Lookups.{Knows, held_value}
-use Rattle.asl_rules.proofs.Stores.{StoresTo, store_agrees}
+use Rattle.asl_rules.proofs.Stores.{store_agrees}
 use Rattle.asl_rules.proofs.Naming.{scope_good}
 use Rattle.asl_rules.proofs.OperatorForms.{Gives}
 use Rattle.asl_rules.proofs.WellTyped.{indexed_in, typed_formed}
@@ -46,7 +46,6 @@ use Rattle.asl_rules.proofs.AssignForms.{CoreGives, updated_gives, store_at_give
 use Rattle.asl_tree.proofs.Places.{has_names, read_same, put_same}
 use Rattle.asl_tree.proofs.Steps.{SameWay, same_leads, updated_same}
 use Rattle.asl_tree.proofs.TargetPlaces.{Placed, AllPlaced, target_placed}
-use Rattle.asl_tree.proofs.Erasing.{lift_same}
 use Rattle.asl_tree.proofs.SameExprs.{Setting, ExprsSame, Of, typed_evals, eval_same}
 
 -- ---- one store

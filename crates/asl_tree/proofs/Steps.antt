@@ -1,6 +1,5 @@
 -- Steps into values by places do what steps by names do, in values of the types that the steps lead through.
-use Rattle.std.proofs.Common.{◌≡◌, ℕ, true, List, [], ◌∷◌, ◌++◌, Option, Some, None, refl, sym, ap, ◌∙◌, subst}
-use Rattle.asl_syn.specs.declared.token.Span.{Span}
+use Rattle.std.proofs.Common.{◌≡◌, ℕ, true, List, [], ◌∷◌, Option, Some, refl, ap, ◌∙◌}
 use Rattle.asl_value.specs.Places as places
 use Rattle.asl_value.specs.Places.{into_place}
 use Rattle.asl_rules.specs.Types.{Ty, is_integer}
@@ -9,7 +8,7 @@ use Rattle.asl_rules.specs.Belonging.{InType}
 use Rattle.asl_rules.specs.Exprs.{fields_of, field_in, element_in}
 use Rattle.asl_rules.specs.Structures.{element_of, with_element, field_of, with_field}
 use Rattle.asl_rules.specs.Constants as pure
-use Rattle.asl_rules.specs.Plans.{Faulted, Stuck, Pure, Good, Bad}
+use Rattle.asl_rules.specs.Plans.{Pure, Good, Bad}
 use Rattle.asl_rules.specs.Evaluation.{Step, into_field, into_element, updated}
 use Rattle.asl_tree.specs.Elaboration.{place_in_type}
 use Rattle.asl_rules.proofs.OperatorForms.{Gives}

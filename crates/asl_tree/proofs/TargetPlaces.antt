@@ -1,8 +1,6 @@
 -- The places of a target are those of the untyped tree, each with the way to its part of the value.
 use Rattle.std.proofs.Common.{◌≡◌, ℕ, zero, suc, List, [], ◌∷◌, ◌++◌, Option, Some, None, refl, sym, ap, ◌∙◌, subst, map}
 use Rattle.asl_syn.specs.declared.token.Span.{Span}
-use Rattle.asl_syn.specs.declared.tree.Ident.{Ident}
-use Rattle.asl_syn.specs.declared.tree.PlacedSuffix.{PlacedSuffix}
 use Rattle.asl_syn.specs.declared.tree.Target.{Target, roll-Target, fold-roll-Target, map-Target, ind-Target}
 use Rattle.asl_syn.specs.declared.tree.Target.TheOpen as tg
 use Rattle.asl_value.specs.Places.{part_in}
@@ -11,11 +9,10 @@ use Rattle.asl_rules.specs.Values.{Value, Values, tuple_with, no_value, value}
 use Rattle.asl_rules.specs.Scopes.{Scope}
 use Rattle.asl_rules.specs.Structures.{values_in, parts, there, value_at}
 use Rattle.asl_rules.specs.Constants.{◌>>=◌}
-use Rattle.asl_rules.specs.Plans.{Pure, Good, Bad, Stuck, WrongKind}
+use Rattle.asl_rules.specs.Plans.{Good}
 use Rattle.asl_rules.specs.Evaluation.{Assigned, Assigning, assign_each, assigning_layer, assigned}
 use Rattle.asl_tree.specs.Elaboration.{place_at, Placing, places_of, placing_layer, placing}
-use Rattle.asl_rules.proofs.Tests.{some_none, some_same}
-use Rattle.asl_tree.proofs.Binding.{IsGood, good_same, Both, both_good}
+use Rattle.asl_tree.proofs.Binding.{IsGood, good_same, both_good}
 
 -- a part of a tuple stands at the end of a way one longer
 part_behind : (at : Span) (way : List ℕ) (n : ℕ) (x0 : Value) (vs : Values) (y : Value) → part_in at way x0 ≡ Good (tuple_with vs) → value_at n vs ≡ Some y → part_in at (way ++ n ∷ []) x0 ≡ Good y
