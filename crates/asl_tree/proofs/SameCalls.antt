@@ -50,6 +50,7 @@ use Rattle.asl_rules.proofs.ListForms.{list_safe}
 use Rattle.asl_rules.proofs.Safe.{claims, safe_run}
 use Rattle.asl_rules.proofs.Soundness.{our_forms, under_good, body_at, bodies_of}
 use Rattle.asl_tree.proofs.Outside.{names_outside, base_lays}
+use Rattle.asl_tree.proofs.Names.{stmt_lays}
 use Rattle.asl_tree.proofs.Erasing.{handled_same, enter_same}
 use Rattle.asl_tree.proofs.SameExprs.{Setting, ExprsSame, WidthsSame, expr_same, width_same, expr_span_same, width_span_same}
 use Rattle.asl_tree.proofs.SameStmts.{StmtsSame, list_same, stmt_same, stmt_span_same}
@@ -166,6 +167,8 @@ call_same ds names z id args globals h ok k =
 
 same_with : (ds : List Decl) (names : List Entry) → Setting ds names → bodies_rule names (funcs_of ds) ≡ Ok tt → SameMeaning ds names (elaborated_funcs names (funcs_of ds))
 same_with ds names z ok = record {
+  begins = base_lays names z.outside;
+  goes_on = stmt_lays names;
   expr = λ d e G S c h t a l. (same_at ds names z (elaborated_funcs names (funcs_of ds)) d).expr e G S c h t a l;
   stmt = λ d s G f c h r a l w. (same_at ds names z (elaborated_funcs names (funcs_of ds)) d).stmt s G f c h r a l w;
   call = λ id args globals h k. call_same ds names z id args globals h ok k;
