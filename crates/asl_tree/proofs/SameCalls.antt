@@ -136,12 +136,12 @@ module _ (ds : List Decl) (names : List Entry) (z : Setting ds names) (fs : List
       let w = formed_result names z.well f.result t.value t.first in
       ap (λ (T : Option Ty). run (typed_meaning fs most_open) (bare.run_body id (record { span = f.name.span; is_function = has_result f.result; body = trees_of (map elaborated_stmt f.body) (record { names = names; result = T; class = class_of f.qualifier }) }) (bare_resting (values_of globals)) []) h) (ap result_of t.first)
       ∙ handled_same (BodyEnds names t.value) Anything (run (typed_meaning fs most_open) (bare.in_order (trees_of (map elaborated_stmt f.body) G) (erased c0)) h) (run (meaning ds most_open) (untyped.in_order f.body c0) h)
-        (λ x c1 h1. run (typed_meaning fs most_open) (bare.at_end (has_result f.result) f.name.span (erased c) x c1) h1) (λ x c1 h1. run (meaning ds most_open) (untyped.at_end ds f.result f.name.span c x c1) h1)
-        (λ x c1 h1. run (typed_meaning fs most_open) (Raise x (bare.restored (erased c) c1)) h1) (λ x c1 h1. run (meaning ds most_open) (Raise x (restored c c1)) h1)
-        (list_same ds names z fs most_open s.stmt G Pure d.value f.body c0 h d.first a l w)
-        (safe_run (our_claims names) (meaning ds most_open) (trails (nodes ds) most_open) (claims (nodes ds) (our_claims names) (our_forms ds names z.well z.same) most_open) (BodyEnds names t.value) Anything (untyped.in_order f.body c0) h
-        (list_safe names G names Pure d.value (BodyEnds names t.value) Anything f.body c0 d.first a w (same_names names names refl) (λ c1 k b g. tt) (λ o c1 g k. g) (λ x c1 k. tt)))
-        (λ x c1 h1 g. end_same f.result t.value f.name.span c c1 h1 x t.first g) (λ x c1 h1. refl)
+      (λ x c1 h1. run (typed_meaning fs most_open) (bare.at_end (has_result f.result) f.name.span (erased c) x c1) h1) (λ x c1 h1. run (meaning ds most_open) (untyped.at_end ds f.result f.name.span c x c1) h1)
+      (λ x c1 h1. run (typed_meaning fs most_open) (Raise x (bare.restored (erased c) c1)) h1) (λ x c1 h1. run (meaning ds most_open) (Raise x (restored c c1)) h1)
+      (list_same ds names z fs most_open s.stmt G Pure d.value f.body c0 h d.first a l w)
+      (safe_run (our_claims names) (meaning ds most_open) (trails (nodes ds) most_open) (claims (nodes ds) (our_claims names) (our_forms ds names z.well z.same) most_open) (BodyEnds names t.value) Anything (untyped.in_order f.body c0) h
+      (list_safe names G names Pure d.value (BodyEnds names t.value) Anything f.body c0 d.first a w (same_names names names refl) (λ c1 k b g. tt) (λ o c1 g k. g) (λ x c1 k. tt)))
+      (λ x c1 h1 g. end_same f.result t.value f.name.span c c1 h1 x t.first g) (λ x c1 h1. refl)
 
   -- ---- calls
 

@@ -161,7 +161,7 @@ module _ (ds : List Decl) (base : List Entry) (z : Setting ds base) (fs : List T
   label_same span name G T x c h e a =
       let p = standing_outside base name (Label T x) z.outside (label_outside base G.names c name T x a e) in
       let v : value_or_label ds span name c ≡ Good x =
-          ap (λ ns. known span (or_value (value_of name c.frame) (or_value (value_of name c.globals) (label_in (standing_of name ns))))) z.same ∙ label_value base G.names c span name T x z.well.apart a e in
+      ap (λ ns. known span (or_value (value_of name c.frame) (or_value (value_of name c.globals) (label_in (standing_of name ns))))) z.same ∙ label_value base G.names c span name T x z.well.apart a e in
       ap (λ y. run (typed_meaning fs d) (typed_expr_node fs (label_layer span y) (erased c)) h) p.2
       ∙ ap (λ y. Done y (erased c) h) (sym p.2)
       ∙ sym (ap (λ q. erased_outcome (run (meaning ds d) (lift q c (untyped.give c)) h)) v)
@@ -228,9 +228,9 @@ module _ (ds : List Decl) (base : List Entry) (z : Setting ds base) (fs : List T
       let own : typed p.1 G ≡ Ok t.value = ap (λ (m : FoundField). m.value.typed G) (sym (field_is f)) ∙ t.first in
       ap (λ e. run (typed_meaning fs d) (Eval e (erased c) (λ x c1. bare.eval_all (values_in (map made_field fields) G) (xs ++ x ∷ []) c1 k)) h) (ap (λ m. m.value.tree G) (made_field_is f))
       ∙ eval_same p.1 G (Of t.value) (typed_evals below p.1 G t.value own l) c h (λ x c1. bare.eval_all (values_in (map made_field fields) G) (xs ++ x ∷ []) c1 k) (λ x c1. untyped.eval_given fields (gs ++ record { name = p.0.text; value = x } ∷ []) c1 j) a
-        (λ x c1 h1 i a1. given_same below G (done ++ f ∷ []) fields q.value (gs ++ record { name = p.0.text; value = x } ∷ []) (xs ++ x ∷ []) c1 h1 k j q.first
-        (both_given done (f ∷ []) gs (record { name = p.0.text; value = x } ∷ []) xs (x ∷ []) g (sym (ap (λ m. m.name.text) (made_field_is f)), refl, tt)) a1 l
-        (λ gs1 xs1 c2 h2 w a2. go gs1 xs1 c2 h2 (subst (λ l1. GivenAs l1 gs1 xs1) (append_one done f fields) w) a2))
+      (λ x c1 h1 i a1. given_same below G (done ++ f ∷ []) fields q.value (gs ++ record { name = p.0.text; value = x } ∷ []) (xs ++ x ∷ []) c1 h1 k j q.first
+      (both_given done (f ∷ []) gs (record { name = p.0.text; value = x } ∷ []) xs (x ∷ []) g (sym (ap (λ m. m.name.text) (made_field_is f)), refl, tt)) a1 l
+      (λ gs1 xs1 c2 h2 w a2. go gs1 xs1 c2 h2 (subst (λ l1. GivenAs l1 gs1 xs1) (append_one done f fields) w) a2))
     where
       append_one : (ys : List FieldValue) (y : FieldValue) (zs : List FieldValue) → (ys ++ y ∷ []) ++ zs ≡ ys ++ y ∷ zs
       append_one [] y zs = refl
@@ -250,10 +250,10 @@ module _ (ds : List Decl) (base : List Entry) (z : Setting ds base) (fs : List T
       let there : type_of_name i.text (names_of_program ds) ≡ Some T = ap (type_of_name i.text) z.same ∙ same_types base G.names c i.text a ∙ is.0 in
       ap (λ q. run (typed_meaning fs d) (typed_expr_node fs (construct_layer span q (map made_field fields) G) (erased c)) h) is.0
       ∙ given_same below G [] fields o.value [] [] c h
-        (λ xs c1. lift (places.constructed span (shell_of (shell_of_type T)) (all_given (places_in_type (fields_of T) (names_in (map made_field fields)))) xs) c1 (bare.give c1))
-        (λ gs c1. lift (untyped.constructed span (type_of_name i.text (names_of_program ds)) gs) c1 (untyped.give c1)) o.first tt a l
-        (λ gs xs c1 h1 g a1. purely_same (places.constructed span (shell_of (shell_of_type T)) (all_given (places_in_type (fields_of T) (names_in (map made_field fields)))) xs) (untyped.constructed span (type_of_name i.text (names_of_program ds)) gs) c1 h1
-        (construct_same fields gs xs g span T p.value.1 is.1 (ap (none_missing p.value.1) (names_same fields) ∙ m) ∙ sym (ap (λ q. untyped.constructed span q gs) there)))
+      (λ xs c1. lift (places.constructed span (shell_of (shell_of_type T)) (all_given (places_in_type (fields_of T) (names_in (map made_field fields)))) xs) c1 (bare.give c1))
+      (λ gs c1. lift (untyped.constructed span (type_of_name i.text (names_of_program ds)) gs) c1 (untyped.give c1)) o.first tt a l
+      (λ gs xs c1 h1 g a1. purely_same (places.constructed span (shell_of (shell_of_type T)) (all_given (places_in_type (fields_of T) (names_in (map made_field fields)))) xs) (untyped.constructed span (type_of_name i.text (names_of_program ds)) gs) c1 h1
+      (construct_same fields gs xs g span T p.value.1 is.1 (ap (none_missing p.value.1) (names_same fields) ∙ m) ∙ sym (ap (λ q. untyped.constructed span q gs) there)))
 
   -- ---- the other forms
 
@@ -283,7 +283,7 @@ module _ (ds : List Decl) (base : List Entry) (z : Setting ds base) (fs : List T
       let f = found_ok (field_in (fields_of t.value.ty) i.text) T15 i.span u.value u.first in
       ap (λ q. run (typed_meaning fs d) (typed_expr_node fs (te.Field span (elaborated e G) (place_behind i.text q)) (erased c)) h) (ap (λ (m : Found). m.typed G) (made_found e) ∙ t.first)
       ∙ eval_same e G (Of t.value) (typed_evals below e G t.value t.first l) c h (λ x c1. lift (places.field_in span (place_in_type i.text t.value.ty) x) c1 (bare.give c1)) (λ x c1. lift (field_of span i.text x) c1 (untyped.give c1)) a
-        (λ x c1 h1 w a1. purely_same (places.field_in span (place_in_type i.text t.value.ty) x) (field_of span i.text x) c1 h1 (field_same (types_in base) span i.text t.value.ty u.value x f w))
+      (λ x c1 h1 w a1. purely_same (places.field_in span (place_in_type i.text t.value.ty) x) (field_of span i.text x) c1 h1 (field_same (types_in base) span i.text t.value.ty u.value x f w))
 
   element_same : ExprsSame → (span : Span) (e i : Expr) (G : Scope) (S : Typed) (c : Core) (h : Meter) → element_rule span (found e) (found i) G ≡ Ok S → Agrees base G.names c → LaysOut base G.names →
       run (typed_meaning fs d) (typed_expr_node fs (te.Element span (elaborated e G) (elaborated i G)) (erased c)) h ≡ erased_outcome (run (meaning ds d) (expr_node ds (ex.Element span e i) c) h)

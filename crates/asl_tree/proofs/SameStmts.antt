@@ -128,10 +128,10 @@ module _ (ds : List Decl) (base : List Entry) (z : Setting ds base) (fs : List T
       let G1 : Scope = with_names G b.value.names in
       ap (λ ns. run (typed_meaning fs d) (bare.in_order ((elaborated_stmt s).tree G ∷ trees_of (map elaborated_stmt ss) (with_names G ns)) (erased c)) h) (names_are s G b.value b.first)
       ∙ then_same (EndsBody base G.result (falls s) b.value.names) (λ x c1. GlobalsMatch base c1.globals) ((typed_meaning fs d).stmt ((elaborated_stmt s).tree G) (erased c) h) ((meaning ds d).stmt s c h)
-        (λ x c1 h1. run (typed_meaning fs d) (bare.go_on x c1 (bare.in_order (trees_of (map elaborated_stmt ss) G1))) h1) (λ x c1 h1. run (meaning ds d) (untyped.go_on x c1 (untyped.in_order ss)) h1)
-        (below s G b.value c h b.first a l w) (stmt_ends s G b.value c h b.first a w)
-        (go_same G.result (falls s) b.value.names (bare.in_order (trees_of (map elaborated_stmt ss) G1)) (untyped.in_order ss)
-        (λ c1 h1 a1. list_same below G1 (greater k b.value.effect) e ss c1 h1 b.then a1 (stmt_lays base s G b.value b.first l) w))
+      (λ x c1 h1. run (typed_meaning fs d) (bare.go_on x c1 (bare.in_order (trees_of (map elaborated_stmt ss) G1))) h1) (λ x c1 h1. run (meaning ds d) (untyped.go_on x c1 (untyped.in_order ss)) h1)
+      (below s G b.value c h b.first a l w) (stmt_ends s G b.value c h b.first a w)
+      (go_same G.result (falls s) b.value.names (bare.in_order (trees_of (map elaborated_stmt ss) G1)) (untyped.in_order ss)
+      (λ c1 h1 a1. list_same below G1 (greater k b.value.effect) e ss c1 h1 b.then a1 (stmt_lays base s G b.value b.first l) w))
 
   block_same : StmtsSame → (G : Scope) (e : Done) (ss : List Stmt) (c : Core) (h : Meter) → block (map found_stmt ss) G ≡ Ok e → Agrees base G.names c → LaysOut base G.names → HasFormedResult base G.result →
       run (typed_meaning fs d) (bare.scope (trees_of (map elaborated_stmt ss) G) (erased c)) h ≡ erased_outcome (run (meaning ds d) (untyped.scope ss c) h)
@@ -169,8 +169,8 @@ module _ (ds : List Decl) (base : List Entry) (z : Setting ds base) (fs : List T
   branches_same below lower G f span (b ∷ bs) last c h k r a l w =
       ap (λ m. run (typed_meaning fs d) (bare.else_if span m (bare.branches span (branches_of (map elaborated_branch bs) G) (trees_of (map elaborated_stmt last) G)) (erased c)) h) (branch_out b G)
       ∙ else_if_same below lower G k.0 k.1 span (out-ElseIf b) (bare.branches span (branches_of (map elaborated_branch bs) G) (trees_of (map elaborated_stmt last) G)) (untyped.branches span bs last) c h
-        (sym (ap (λ (m : FoundBranch). typed m.condition G) (branch_unrolled b)) ∙ k.2) (sym (ap (λ (m : FoundBranch). block m.body G) (branch_unrolled b)) ∙ k.3) a l w
-        (λ c1 h1 a1. branches_same below lower G f span bs last c1 h1 k.5 r a1 l w)
+      (sym (ap (λ (m : FoundBranch). typed m.condition G) (branch_unrolled b)) ∙ k.2) (sym (ap (λ (m : FoundBranch). block m.body G) (branch_unrolled b)) ∙ k.3) a l w
+      (λ c1 h1 a1. branches_same below lower G f span bs last c1 h1 k.5 r a1 l w)
 
   if_same : Exprs → StmtsSame → (G : Scope) (f : Done) (span : Span) (e : Expr) (ss : List Stmt) (es : List ElseIf) (last : List Stmt) (c : Core) (h : Meter) →
       if_rule span e (map found_stmt ss) (map branch_found es) (map found_stmt last) G ≡ Ok f → Agrees base G.names c → LaysOut base G.names → HasFormedResult base G.result →
@@ -231,10 +231,10 @@ module _ (ds : List Decl) (base : List Entry) (z : Setting ds base) (fs : List T
       ap (λ q. run (typed_meaning fs d) (typed_stmt_node fs (ts.DeclareFirst span ((made_type t).sizes G) (length is) (first_value q)) (erased c)) h) p.first
       ∙ ap (λ es. run (typed_meaning fs d) (bare.eval_all es [] (erased c) (λ zs c1. Ret Normal (pushed_times (length is) (view.value_of (value_back x)) c1))) h) (sizes_are G t)
       ∙ sizes_same below G (sizes_in t) s.numbers_are [] [] c h (λ zs c1. Ret Normal (pushed_times (length is) (view.value_of (value_back x)) c1)) (λ zs c1. declare_vars span is (first_of_pair (sized ds t zs)) c1) s.stand a l
-        (λ ys c1 h1 a1.
-        ap (λ v. DoneWith Normal (pushed_times (length is) v (erased c1)) h1) (value_same x)
-        ∙ ap (λ c2. DoneWith Normal c2 h1) (times_same is p.value x c1)
-        ∙ sym (ap (λ o. erased_outcome (run (meaning ds d) (declare_vars span is (first_of_pair o) c1) h1)) (sym (ap (sized ds t) (append-nil (numbers s.numbers_are))) ∙ s.gives [])))
+      (λ ys c1 h1 a1.
+      ap (λ v. DoneWith Normal (pushed_times (length is) v (erased c1)) h1) (value_same x)
+      ∙ ap (λ c2. DoneWith Normal c2 h1) (times_same is p.value x c1)
+      ∙ sym (ap (λ o. erased_outcome (run (meaning ds d) (declare_vars span is (first_of_pair o) c1) h1)) (sym (ap (sized ds t) (append-nil (numbers s.numbers_are))) ∙ s.gives [])))
 
   -- ---- the other forms
 

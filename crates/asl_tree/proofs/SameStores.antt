@@ -102,7 +102,7 @@ module _ (ds : List Decl) (base : List Entry) (z : Setting ds base) (fs : List T
       let v = bind_ok (behind_suffix (up_to i x.end) x.suffix T G) (λ V. behind_suffixes i xs V G) U r in
       ap (λ V. run (typed_meaning fs d) (eval_step (step_at (up_to i x.end) x.suffix T G) placed (erased c) (λ ps1 c1. eval_steps (steps_at i xs V G) ps1 c1 k)) h) (ap (λ q. type_behind q T) v.first)
       ∙ one (up_to i x.end) x.suffix v.value v.first
-        (λ ss ps c1 h1 a1 l1. steps_same below G i xs ss ps v.value U c1 h1 k j v.then a1 l l1)
+      (λ ss ps c1 h1 a1 l1. steps_same below G i xs ss ps v.value U c1 h1 k j v.then a1 l l1)
     where
       one : (span : Span) (s : Suffix) (V : Ty) → behind_suffix span s T G ≡ Ok V →
           ((ss : List Step) (ps : List places.Step) (c1 : Core) (h1 : Meter) → Agrees base G.names c1 →
@@ -140,10 +140,10 @@ module _ (ds : List Decl) (base : List Entry) (z : Setting ds base) (fs : List T
       ∙ ap (λ o. run (typed_meaning fs d) (lift o (erased c) (λ y. eval_steps (steps_at p.name p.suffixes (type_of_storage (storage_of p.name.text G.names)) G) [] (erased c) (λ ps c1. lift (put_at p.name.span slot ps y c1) c1 k))) h) (w.part p.name.span)
       ∙ ap (λ T. run (typed_meaning fs d) (eval_steps (steps_at p.name p.suffixes T G) [] (erased c) (λ ps c1. lift (put_at p.name.span slot ps p.value c1) c1 k)) h) ty
       ∙ steps_same below G p.name p.suffixes [] [] S t.ty c h (λ ps c1. lift (put_at p.name.span slot ps p.value c1) c1 k) (λ ss c1. lift (store_at p.name.span p.name.text ss p.value c1) c1 j) t.leads a l
-        (λ ss ps c1 h1 o a1. lift_core_with (Agrees base G.names) (typed_meaning fs d) (meaning ds d) (put_at p.name.span slot ps p.value (erased c1)) (store_at p.name.span p.name.text ss p.value c1) c1 k j h1
-        (put_at_same base G c1 p.name.span p.name.text ss ps p.value t.storage t.ty a1 l t.stands t.is_mutable o t.fits)
-        (store_at_gives base z.well G c1 p.name.span p.name.text ss p.value t.storage t.ty a1 t.stands t.is_mutable (same_leads (types_in base) ss ps S t.ty o) t.fits)
-        (λ c2 a2. go c2 h1 a2))
+      (λ ss ps c1 h1 o a1. lift_core_with (Agrees base G.names) (typed_meaning fs d) (meaning ds d) (put_at p.name.span slot ps p.value (erased c1)) (store_at p.name.span p.name.text ss p.value c1) c1 k j h1
+      (put_at_same base G c1 p.name.span p.name.text ss ps p.value t.storage t.ty a1 l t.stands t.is_mutable o t.fits)
+      (store_at_gives base z.well G c1 p.name.span p.name.text ss p.value t.storage t.ty a1 t.stands t.is_mutable (same_leads (types_in base) ss ps S t.ty o) t.fits)
+      (λ c2 a2. go c2 h1 a2))
 
   each_same : ExprsSame ds base z fs d → (G : Scope) (x0 : Value) (ps : List Assigned) (qs : List TypedPlace) (c : Core) (h : Meter) → AllTake base z.well G ps → AllPlaced G x0 ps qs → Agrees base G.names c → LaysOut base G.names →
       run (typed_meaning fs d) (bare.store_each qs x0 (erased c)) h ≡ erased_outcome (run (meaning ds d) (untyped.store_each ps c) h)

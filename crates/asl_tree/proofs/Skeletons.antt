@@ -188,9 +188,11 @@ module _ (old : List Binding) where
   expr_keeps ds (ex.Name span name) c p = pure_keeps (value_or_label ds span name c) c p
   expr_keeps ds (ex.Unary span o a) c p = (p, λ x c1 p1. pure_keeps (unary_value span o x) c1 p1)
   expr_keeps ds (ex.Binary span o a b) c p = (p, λ x c1 p1. behind_keeps span o b x (strictness o) c1 p1)
-  expr_keeps ds (ex.Conditional span e a b) c p =
-      (p, λ x c1 p1. lift_keeps (truth span x) c1 (λ t. choose t (Eval a c1 (λ y c2. Ret y c2)) (Eval b c1 (λ y c2. Ret y c2))) p1
-      (λ t. either_keeps t (Eval a c1 (λ y c2. Ret y c2)) (Eval b c1 (λ y c2. Ret y c2)) (p1, λ y c2 p2. p2) (p1, λ y c2 p2. p2)))
+  expr_keeps ds (ex.Conditional span e a b) c p = (
+    p,
+    λ x c1 p1. lift_keeps (truth span x) c1 (λ t. choose t (Eval a c1 (λ y c2. Ret y c2)) (Eval b c1 (λ y c2. Ret y c2))) p1
+        (λ t. either_keeps t (Eval a c1 (λ y c2. Ret y c2)) (Eval b c1 (λ y c2. Ret y c2)) (p1, λ y c2 p2. p2) (p1, λ y c2 p2. p2)),
+  )
   expr_keeps ds (ex.Tuple span es) c p = all_keeps es [] c (λ xs c1. Ret (tuple_with (values_of xs)) c1) p (λ xs c1 p1. p1)
   expr_keeps ds (ex.Construct span i fs) c p =
       given_keeps fs [] c (λ gs c1. lift (constructed span (type_of_name i.text (names_of_program ds)) gs) c1 (give c1)) p (λ gs c1 p1. pure_keeps (constructed span (type_of_name i.text (names_of_program ds)) gs) c1 p1)

@@ -48,13 +48,13 @@ module _ (d : List ℕ → Option Ty) where
   updated_same (into_field span f ∷ ss) (p ∷ ps) T U y x w i =
       ap (λ s. places.updated (s ∷ ps) y x) w.2
       ∙ bind_same w.0 (places.field_in span (place_in_type f T) x) (field_of span f x)
-        (λ q. pure.◌>>=◌ (places.updated ps y q) (λ r. places.with_field_in span (place_in_type f T) r x)) (λ q. pure.◌>>=◌ (updated ss y q) (λ r. with_field span f r x))
-        (field_same d span f T w.0 x w.1 i) (field_gives d span f T w.0 x w.1 i)
-        (λ q k. then_same (places.updated ps y q) (updated ss y q) (λ r. places.with_field_in span (place_in_type f T) r x) (λ r. with_field span f r x)
-        (updated_same ss ps w.0 U y q w.3 k) (λ r. with_field_same d span f T w.0 r x w.1 i))
+      (λ q. pure.◌>>=◌ (places.updated ps y q) (λ r. places.with_field_in span (place_in_type f T) r x)) (λ q. pure.◌>>=◌ (updated ss y q) (λ r. with_field span f r x))
+      (field_same d span f T w.0 x w.1 i) (field_gives d span f T w.0 x w.1 i)
+      (λ q k. then_same (places.updated ps y q) (updated ss y q) (λ r. places.with_field_in span (place_in_type f T) r x) (λ r. with_field span f r x)
+      (updated_same ss ps w.0 U y q w.3 k) (λ r. with_field_same d span f T w.0 r x w.1 i))
   updated_same (into_element span v ∷ ss) (p ∷ ps) T U y x w i =
       ap (λ s. places.updated (s ∷ ps) y x) w.5
       ∙ bind_same w.0 (element_of span x v) (element_of span x v)
-        (λ q. pure.◌>>=◌ (places.updated ps y q) (λ r. with_element span r x v)) (λ q. pure.◌>>=◌ (updated ss y q) (λ r. with_element span r x v))
-        refl (element_gives d span T w.1 w.0 x v w.2 w.3 i w.4)
-        (λ q k. then_same (places.updated ps y q) (updated ss y q) (λ r. with_element span r x v) (λ r. with_element span r x v) (updated_same ss ps w.0 U y q w.6 k) (λ r. refl))
+      (λ q. pure.◌>>=◌ (places.updated ps y q) (λ r. with_element span r x v)) (λ q. pure.◌>>=◌ (updated ss y q) (λ r. with_element span r x v))
+      refl (element_gives d span T w.1 w.0 x v w.2 w.3 i w.4)
+      (λ q k. then_same (places.updated ps y q) (updated ss y q) (λ r. with_element span r x v) (λ r. with_element span r x v) (updated_same ss ps w.0 U y q w.6 k) (λ r. refl))
