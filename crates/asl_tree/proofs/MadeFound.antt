@@ -17,9 +17,6 @@ use Rattle.asl_rules.specs.Evaluation.{given_layer}
 use Rattle.asl_tree.specs.Elaboration.{Made, MadeField, MadeType, MadeOf, TypeOf, typed_layer, found_of, field_found, type_found, found_in, found_in_type, made_rule, made_field_rule, made_type_rule, made, made_field, made_type, elaborated}
 use Rattle.asl_rules.proofs.WellTyped.{found_field, opened, field_opened, type_opened}
 
-FieldLayer : Type 0
-FieldLayer = ex.FieldValue-F Bitfield ConstraintPart Expr FieldValue Pattern Slice TypeExpr
-
 -- ---- one layer of a tree, with what is made of its parts
 
 abbrev pub made_parts : ExprLayer → MadeOf

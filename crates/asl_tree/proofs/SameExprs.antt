@@ -60,9 +60,6 @@ before_label d s span (Some x) v l h = refl
 before_label d s span None (Some x) l h = refl
 before_label d s span None None l h = absurd h
 
-good_same : (o : Option Standing) (T : Ty) (x : Value) → o ≡ Some (Label T x) → label_in o ≡ Some x
-good_same o T x h = ap label_in h
-
 -- a program, with the names outside its bodies
 pub record Setting (ds : List Decl) (base : List Entry) : Type 0 where
   pub well : WellNamed base
