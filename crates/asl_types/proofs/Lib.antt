@@ -1,3 +1,4 @@
+pub mod FirstLemmas
 pub mod Building
 pub mod KindLemmas
 pub mod SizeLemmas
