@@ -1,2 +1,7 @@
 pub mod ScopeLemmas
 pub mod NumberLemmas
+pub mod Building
+pub mod KindLemmas
+pub mod SizeLemmas
+pub mod TypesBack
+pub mod ValuesBack

@@ -2,61 +2,44 @@
 use Rattle.std.specs.Prelude.{◌≡◌, ℕ, Bool, List, [], ◌∷◌, Option, Some, None, map, refl}
 use Rattle.std.specs.Coded.{Coded, code_by, coded×, coded⊎, coded_bool, coded_ℕ, coded_list, coded_option}
 use Rattle.std.proofs.Common.{ap, ◌∙◌, ◌⊎◌, inl, inr}
-use Rattle.asl_value.specs.declared.value.Kind.{Kind, roll-Kind}
+use Rattle.asl_value.specs.declared.value.Kind.{Kind}
 use Rattle.asl_value.specs.declared.value.Kind.TheOpen as k
 use Rattle.asl_value.specs.declared.value.Kind.TheFolds.{fold-roll-Kind}
-use Rattle.asl_value.specs.declared.value.Value.{Value, roll-Value}
-use Rattle.asl_value.specs.declared.value.FieldValue.{FieldValue, roll-FieldValue}
+use Rattle.asl_value.specs.declared.value.Value.{Value}
+use Rattle.asl_value.specs.declared.value.FieldValue.{FieldValue}
 use Rattle.asl_value.specs.declared.value.FieldValue.TheOpen as v
 use Rattle.asl_value.specs.declared.value.FieldValue.TheFolds.{fold-roll-Value, fold-roll-FieldValue}
 use Rattle.asl_value.specs.contracts.value.Value as value_in_code
 use Rattle.asl_value.specs.View as values
-use Rattle.asl_types.specs.declared.ty.Ty.{Ty, roll-Ty}
-use Rattle.asl_types.specs.declared.ty.FieldType.{FieldType, roll-FieldType}
+use Rattle.asl_types.specs.declared.ty.Ty.{Ty}
+use Rattle.asl_types.specs.declared.ty.FieldType.{FieldType}
 use Rattle.asl_types.specs.declared.ty.FieldType.TheOpen as t
 use Rattle.asl_types.specs.declared.ty.FieldType.TheFolds.{fold-roll-Ty, fold-roll-FieldType}
 use Rattle.asl_types.specs.contracts.ty.Ty as ty_in_code
 use Rattle.asl_rules.specs.Types as rules
 use Rattle.asl_rules.specs.Values as worth
 use Rattle.asl_rules.specs.Scopes.{Storage, Standing, Stored, Subprogram, TypeName, Label, Entry}
-use Rattle.asl_types.specs.View.{Of, field_rule, ty_rule, ty_of, field_of, all_parts, all_fields}
+use Rattle.asl_types.specs.View.{Of, field_rule, ty_rule, ty_of, all_parts, all_fields}
+use Rattle.asl_types.specs.Back.{ty_back, field_types_back, parts_back, kind_back, kinds_back, value_back, fields_back, values_back}
+use Rattle.asl_types.specs.Parts.{all_kinds}
 
 -- ---- types
-
-abbrev mutual
-  pub ty_back : rules.Ty → Ty
-  ty_back rules.integer = roll-Ty t.Integer
-  ty_back rules.boolean = roll-Ty t.Boolean
-  ty_back (rules.enumeration_of n ls) = roll-Ty (t.Enumeration n ls)
-  ty_back (rules.record_of n fs) = roll-Ty (t.Record n (fields_back fs))
-  ty_back (rules.exception_of n fs) = roll-Ty (t.Exception n (fields_back fs))
-  ty_back (rules.tuple_of Ts) = roll-Ty (t.Tuple (parts_back Ts))
-  ty_back (rules.array_of n T) = roll-Ty (t.Array n (ty_back T))
-  ty_back (rules.named n ns T) = roll-Ty (t.Named n ns (ty_back T))
-
-  pub fields_back : rules.Fields → List FieldType
-  fields_back rules.no_field = []
-  fields_back (rules.field f T fs) = roll-FieldType (t.Field f (ty_back T)) ∷ fields_back fs
-
-  pub parts_back : rules.Parts → List Ty
-  parts_back rules.no_part = []
-  parts_back (rules.part T Ts) = ty_back T ∷ parts_back Ts
 
 mutual
   pub ty_again : (T : rules.Ty) → ty_of (ty_back T) ≡ T
   ty_again rules.integer = fold-roll-Ty Of rules.Ty field_rule ty_rule t.Integer
   ty_again rules.boolean = fold-roll-Ty Of rules.Ty field_rule ty_rule t.Boolean
   ty_again (rules.enumeration_of n ls) = fold-roll-Ty Of rules.Ty field_rule ty_rule (t.Enumeration n ls)
-  ty_again (rules.record_of n fs) = fold-roll-Ty Of rules.Ty field_rule ty_rule (t.Record n (fields_back fs)) ∙ ap (λ Ts. rules.record_of n Ts) (fields_again fs)
-  ty_again (rules.exception_of n fs) = fold-roll-Ty Of rules.Ty field_rule ty_rule (t.Exception n (fields_back fs)) ∙ ap (λ Ts. rules.exception_of n Ts) (fields_again fs)
+  ty_again (rules.record_of n fs) = fold-roll-Ty Of rules.Ty field_rule ty_rule (t.Record n (field_types_back fs)) ∙ ap (λ Ts. rules.record_of n Ts) (fields_again fs)
+  ty_again (rules.exception_of n fs) = fold-roll-Ty Of rules.Ty field_rule ty_rule (t.Exception n (field_types_back fs)) ∙ ap (λ Ts. rules.exception_of n Ts) (fields_again fs)
   ty_again (rules.tuple_of Ts) = fold-roll-Ty Of rules.Ty field_rule ty_rule (t.Tuple (parts_back Ts)) ∙ ap (λ Us. rules.tuple_of Us) (parts_again Ts)
   ty_again (rules.array_of n T) = fold-roll-Ty Of rules.Ty field_rule ty_rule (t.Array n (ty_back T)) ∙ ap (λ U. rules.array_of n U) (ty_again T)
   ty_again (rules.named n ns T) = fold-roll-Ty Of rules.Ty field_rule ty_rule (t.Named n ns (ty_back T)) ∙ ap (λ U. rules.named n ns U) (ty_again T)
 
-  pub fields_again : (fs : rules.Fields) → all_fields (fields_back fs) ≡ fs
+  pub fields_again : (fs : rules.Fields) → all_fields (field_types_back fs) ≡ fs
   fields_again rules.no_field = refl
   fields_again (rules.field f T fs) =
-      ap (λ (o : Of). rules.field o.name o.ty (all_fields (fields_back fs))) (fold-roll-FieldType Of rules.Ty field_rule ty_rule (t.Field f (ty_back T)))
+      ap (λ (o : Of). rules.field o.name o.ty (all_fields (field_types_back fs))) (fold-roll-FieldType Of rules.Ty field_rule ty_rule (t.Field f (ty_back T)))
       ∙ λ i. rules.field f (ty_again T i) (fields_again fs i)
 
   pub parts_again : (Ts : rules.Parts) → all_parts (parts_back Ts) ≡ Ts
@@ -64,23 +47,6 @@ mutual
   parts_again (rules.part T Ts) = λ i. rules.part (ty_again T i) (parts_again Ts i)
 
 -- ---- kinds
-
-abbrev mutual
-  pub kind_back : rules.Kind → Kind
-  kind_back rules.integers = roll-Kind k.Integers
-  kind_back rules.booleans = roll-Kind k.Booleans
-  kind_back (rules.enumerations n) = roll-Kind (k.Enumerations n)
-  kind_back (rules.records n) = roll-Kind (k.Records n)
-  kind_back (rules.exceptions n) = roll-Kind (k.Exceptions n)
-  kind_back (rules.tuples ks) = roll-Kind (k.Tuples (kinds_back ks))
-  kind_back (rules.arrays n l) = roll-Kind (k.Arrays n (kind_back l))
-
-  pub kinds_back : rules.Kinds → List Kind
-  kinds_back rules.no_kind = []
-  kinds_back (rules.one_more k ks) = kind_back k ∷ kinds_back ks
-
-abbrev all_kinds : List Kind → rules.Kinds
-all_kinds ks = values.kinds_of (map values.kind_of ks)
 
 mutual
   pub kind_again : (K : rules.Kind) → values.kind_of (kind_back K) ≡ K
@@ -98,38 +64,20 @@ mutual
 
 -- ---- values
 
-abbrev mutual
-  pub value_back : worth.Value → Value
-  value_back (worth.int z) = roll-Value (v.Int z)
-  value_back (worth.bool b) = roll-Value (v.Bool b)
-  value_back (worth.label n l) = roll-Value (v.Label n l)
-  value_back (worth.record_with n xs) = roll-Value (v.Record n (field_values_back xs))
-  value_back (worth.exception_with own supers n xs) = roll-Value (v.Exception own supers n (field_values_back xs))
-  value_back (worth.tuple_with xs) = roll-Value (v.Tuple (values_back xs))
-  value_back (worth.array_with l xs) = roll-Value (v.Array (kind_back l) (values_back xs))
-
-  pub field_values_back : worth.FieldValues → List FieldValue
-  field_values_back worth.no_value_of = []
-  field_values_back (worth.value_of_field f x xs) = roll-FieldValue (v.Given f (value_back x)) ∷ field_values_back xs
-
-  pub values_back : worth.Values → List Value
-  values_back worth.no_value = []
-  values_back (worth.value x xs) = value_back x ∷ values_back xs
-
 mutual
   pub value_again : (x : worth.Value) → values.value_of (value_back x) ≡ x
   value_again (worth.int z) = fold-roll-Value values.Of worth.Value values.field_rule values.value_rule (v.Int z)
   value_again (worth.bool b) = fold-roll-Value values.Of worth.Value values.field_rule values.value_rule (v.Bool b)
   value_again (worth.label n l) = fold-roll-Value values.Of worth.Value values.field_rule values.value_rule (v.Label n l)
-  value_again (worth.record_with n xs) = fold-roll-Value values.Of worth.Value values.field_rule values.value_rule (v.Record n (field_values_back xs)) ∙ ap (λ ys. worth.record_with n ys) (field_values_again xs)
-  value_again (worth.exception_with own supers n xs) = fold-roll-Value values.Of worth.Value values.field_rule values.value_rule (v.Exception own supers n (field_values_back xs)) ∙ ap (λ ys. worth.exception_with own supers n ys) (field_values_again xs)
+  value_again (worth.record_with n xs) = fold-roll-Value values.Of worth.Value values.field_rule values.value_rule (v.Record n (fields_back xs)) ∙ ap (λ ys. worth.record_with n ys) (field_values_again xs)
+  value_again (worth.exception_with own supers n xs) = fold-roll-Value values.Of worth.Value values.field_rule values.value_rule (v.Exception own supers n (fields_back xs)) ∙ ap (λ ys. worth.exception_with own supers n ys) (field_values_again xs)
   value_again (worth.tuple_with xs) = fold-roll-Value values.Of worth.Value values.field_rule values.value_rule (v.Tuple (values_back xs)) ∙ ap (λ ys. worth.tuple_with ys) (values_again xs)
   value_again (worth.array_with l xs) = fold-roll-Value values.Of worth.Value values.field_rule values.value_rule (v.Array (kind_back l) (values_back xs)) ∙ λ i. worth.array_with (kind_again l i) (values_again xs i)
 
-  pub field_values_again : (xs : worth.FieldValues) → values.all_fields (field_values_back xs) ≡ xs
+  pub field_values_again : (xs : worth.FieldValues) → values.all_fields (fields_back xs) ≡ xs
   field_values_again worth.no_value_of = refl
   field_values_again (worth.value_of_field f x xs) =
-      ap (λ (o : values.Of). worth.value_of_field o.name o.value (values.all_fields (field_values_back xs))) (fold-roll-FieldValue values.Of worth.Value values.field_rule values.value_rule (v.Given f (value_back x)))
+      ap (λ (o : values.Of). worth.value_of_field o.name o.value (values.all_fields (fields_back xs))) (fold-roll-FieldValue values.Of worth.Value values.field_rule values.value_rule (v.Given f (value_back x)))
       ∙ λ i. worth.value_of_field f (value_again x i) (field_values_again xs i)
 
   pub values_again : (xs : worth.Values) → values.all_values (values_back xs) ≡ xs

@@ -1,8 +1,17 @@
 //! Types: their kinds and sizes, which satisfies which, and the scope that they stand in.
 #![tactic(auto)]
 
+pub mod answer;
+pub mod baring;
+pub mod binding;
+pub mod fits;
+pub mod initial;
+pub mod kinds;
+mod names;
 mod scope;
+pub mod sizes;
 mod slot;
+pub mod structure;
 mod ty;
 
 pub use scope::{Scope, Standing, Storage, reading, writing};
