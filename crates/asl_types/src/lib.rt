@@ -9,13 +9,12 @@ pub mod fits;
 pub mod initial;
 pub mod kinds;
 mod names;
-mod slot;
+mod scope;
 pub mod sizes;
+mod slot;
 pub mod structure;
 mod ty;
 
+pub use scope::{Scope, Standing, Storage, reading, writing};
 pub use slot::Slot;
 pub use ty::{FieldType, Ty};
-
-#[cfg(test)]
-mod tests;
