@@ -18,3 +18,6 @@ mod ty;
 pub use scope::{Scope, Standing, Storage, reading, writing};
 pub use slot::Slot;
 pub use ty::{FieldType, Ty};
+
+#[cfg(test)]
+mod tests;
