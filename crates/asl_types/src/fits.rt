@@ -5,7 +5,7 @@ ghost use Rattle.asl_rules.specs.Types as rules;
 ghost use Rattle.asl_types.specs.View.{ty_of, all_parts};
 
 use crate::kinds::same_kind;
-use crate::names::reaches;
+use asl_value::reaches;
 use crate::ty::Ty;
 use asl_syn::code::StaticCode;
 use std::alloc::AllocError;

@@ -8,7 +8,7 @@ ghost use Rattle.asl_value.specs.View.{kind_of};
 ghost use Rattle.asl_types.specs.Parts.{all_kinds};
 ghost use Rattle.asl_types.specs.View.{ty_of, all_parts};
 
-use crate::names::same_name;
+use asl_value::same_name;
 use crate::structure::{array_in, tuple_parts};
 use crate::ty::Ty;
 use asl_shared::Shared;

@@ -7,7 +7,7 @@ ghost use Rattle.asl_rules.specs.Types as rules;
 ghost use Rattle.asl_types.specs.Parts as parts;
 ghost use Rattle.asl_types.specs.View.{ty_of, all_fields, all_parts};
 
-use crate::names::same_name;
+use asl_value::same_name;
 use crate::ty::{FieldType, Ty};
 
 /// What a declared name stands for, and any other type itself.
