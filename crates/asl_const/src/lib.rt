@@ -7,3 +7,6 @@ mod failure;
 mod structures;
 
 pub use evaluate::eval_const;
+
+#[cfg(test)]
+mod tests;
