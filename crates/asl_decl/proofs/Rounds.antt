@@ -72,10 +72,8 @@ fine_is (Faulty f) h = no h
 
 pub fine_used : (j : Judged) (d : Decl) (us : Used) → fine_where_used j d us ≡ (not (any_declared d us) || is_fine j)
 fine_used j d [] = refl
-fine_used j d (u ∷ us) = by (declares d u) (is_fine j) ∙ ap (λ z. (not (declares d u) || is_fine j) && z) (fine_used j d us) ∙ join_them (declares d u) (any_declared d us) (is_fine j)
+fine_used j d (u ∷ us) = ap (λ z. (not (declares d u) || is_fine j) && z) (fine_used j d us) ∙ join_them (declares d u) (any_declared d us) (is_fine j)
   where
-    by : (a b : Bool) → ((not a || b) && fine_where_used j d us) ≡ ((not a || b) && fine_where_used j d us)
-    by a b = refl
     join_them : (a c b : Bool) → ((not a || b) && (not c || b)) ≡ (not (a || c) || b)
     join_them true true true = refl
     join_them true true false = refl
@@ -126,3 +124,152 @@ judged_same : (f g : Decl → Judged) (ds : List Decl) (d : Decl) → ((e : Decl
 judged_same f g ds d h =
     ap (λ b. cond b (judged (decl_rule d (in_names (map subprogram library ++ entries f ds)))) Waiting) (all_fine_same f g (uses d) ds h)
     ∙ ap (λ es. cond (all_fine g (uses d) ds) (judged (decl_rule d (in_names (map subprogram library ++ es)))) Waiting) (entries_same f g ds h)
+
+-- ---- lists of names that serve declarations
+
+declared_here : (a b c : Bool) → a ≡ true → b ≡ false → ((a && not b) || c) ≡ true
+declared_here true false c e f = refl
+declared_here true true c e f = no (sym f)
+declared_here false b c e f = no e
+
+pub plain_declared : (n : List ℕ) (xs : List Declared) → Plain n xs → is_declared n xs ≡ true
+plain_declared n [] p = absurd p
+plain_declared n (x ∷ xs) (inl e) = declared_here (bytes_eq x.name.text n) x.is_subprogram (is_declared n xs) (ap (λ m. bytes_eq m n) e.0 ∙ name_is n) e.1
+plain_declared n (x ∷ xs) (inr p) = or_second (bytes_eq x.name.text n && not x.is_subprogram) (is_declared n xs) (plain_declared n xs p)
+
+abbrev pub Named : (Decl → Judged) → Type 0
+Named g = (d : Decl) (es : List Entry) → g d ≡ Fine es → AllNamed (declared_by d) es
+
+-- these names are those of well-formed declarations, and those of all such declarations for which D holds are among them;
+-- subprograms aside
+pub record Serves (g : Decl → Judged) (ds : List Decl) (D : Decl → Type 0) (N : List Entry) : Type 0 where
+  pub sound : (n : List ℕ) (st : Standing) → IsPlain st → standing_of n N ≡ Some st → FoundAt g ds n st
+  pub whole : (d : Decl) (es : List Entry) (n : List ℕ) (st : Standing) → In d ds → D d → g d ≡ Fine es → standing_of n es ≡ Some st → IsPlain st → standing_of n N ≡ Some st
+
+alike : (o p : Option Standing) → ((st : Standing) → IsPlain st → o ≡ Some st → p ≡ Some st) → ((st : Standing) → IsPlain st → p ≡ Some st → o ≡ Some st) → shown o ≡ shown p
+alike (Some (Stored s)) p f g = ap shown (sym (f (Stored s) tt refl))
+alike (Some (TypeName T)) p f g = ap shown (sym (f (TypeName T) tt refl))
+alike (Some (Label T x)) p f g = ap shown (sym (f (Label T x) tt refl))
+alike None None f g = refl
+alike None (Some Subprogram) f g = refl
+alike None (Some (Stored s)) f g = none_some (Stored s) (g (Stored s) tt refl)
+alike None (Some (TypeName T)) f g = none_some (TypeName T) (g (TypeName T) tt refl)
+alike None (Some (Label T x)) f g = none_some (Label T x) (g (Label T x) tt refl)
+alike (Some Subprogram) None f g = refl
+alike (Some Subprogram) (Some Subprogram) f g = refl
+alike (Some Subprogram) (Some (Stored s)) f g = absurd (subst IsPlain (sym (some_same Subprogram (Stored s) (g (Stored s) tt refl))) tt)
+alike (Some Subprogram) (Some (TypeName T)) f g = absurd (subst IsPlain (sym (some_same Subprogram (TypeName T) (g (TypeName T) tt refl))) tt)
+alike (Some Subprogram) (Some (Label T x)) f g = absurd (subst IsPlain (sym (some_same Subprogram (Label T x) (g (Label T x) tt refl))) tt)
+
+module _ (g : Decl → Judged) (ds : List Decl) (named : Named g) where
+  served_alike : (D E : Decl → Type 0) (N M : List Entry) → Serves g ds D N → Serves g ds E M → (u : List ℕ) → ((e : Decl) → In e ds → declares e u ≡ true → E e) → (st : Standing) → IsPlain st → standing_of u N ≡ Some st → standing_of u M ≡ Some st
+  served_alike D E N M s t u h st p k =
+      let f = s.sound u st p k in
+      let d = plain_declared u (declared_by f.decl) (plain_named u st (declared_by f.decl) f.brings (named f.decl f.brings f.is_fine) f.stands p) in
+      t.whole f.decl f.brings u st f.is_in (h f.decl f.is_in d) f.is_fine f.stands p
+
+  pub serve_agree : (D E : Decl → Type 0) (N M : List Entry) → Serves g ds D N → Serves g ds E M → (us : Used) → ((e : Decl) → In e ds → any_declared e us ≡ true → D e × E e) → Agree N M us
+  serve_agree D E N M s t [] h = tt
+  serve_agree D E N M s t (u ∷ us) h = (
+      alike (standing_of u N) (standing_of u M)
+      (served_alike D E N M s t u (λ e i d. (h e i (or_first (declares e u) (any_declared e us) d)).1))
+      (served_alike E D M N t s u (λ e i d. (h e i (or_first (declares e u) (any_declared e us) d)).0)),
+      serve_agree D E N M s t us (λ e i d. h e i (or_second (declares e u) (any_declared e us) d)),
+  )
+
+  -- all names of a program serve
+  pub all_serve : Distinct (all_declared ds) → (D : Decl → Type 0) → Serves g ds D (map subprogram library ++ entries g ds)
+  all_serve x D = record {
+    sound = λ n st p h. found_at g named ds n st (past_library n (entries g ds) st p h);
+    whole = λ d es n st i k q h p.
+        let l = plain_in d ds n i (plain_named n st (declared_by d) es (named d es q) h p) in
+        behind_library n (entries g ds) (plain_new n (all_declared ds) x l) ∙ own_found g named ds d es n st x i q h p;
+  }
+
+-- ---- the rounds of a program with distinct names
+
+module _ (ds : List Decl) (distinct : Distinct (all_declared ds)) where
+  abbrev round : ℕ → Decl → Judged
+  round n = judgement n ds
+
+  abbrev names_at : ℕ → List Entry
+  names_at n = map subprogram library ++ entries (round n) ds
+
+  judged_now : (n : ℕ) (d : Decl) (es : List Entry) → judged_by (round n) ds d ≡ Fine es → decl_rule d (in_names (names_at n)) ≡ Ok es
+  judged_now n d es h = by_test (all_fine (round n) (uses d) ds) (decl_rule d (in_names (names_at n))) es h
+
+  pub named_at : (n : ℕ) → Named (round n)
+  named_at zero d es h = not_waiting es h
+  named_at (suc n) d es h = ⊎_elim (named_at n d es) (λ k. decl_named d (in_names (names_at n)) es (judged_now n d es k)) (still_is (round n d) (judged_by (round n) ds d) es h)
+
+  stays : (n : ℕ) (d : Decl) → is_judged (round n d) ≡ true → round (suc n) d ≡ round n d
+  stays n d h = still_judged (round n d) (judged_by (round n) ds d) h
+
+  stays_fine : (n : ℕ) (d : Decl) → is_fine (round n d) ≡ true → round (suc n) d ≡ round n d
+  stays_fine n d h = stays n d (fine_judged (round n d) h)
+
+  -- the names of a round serve the next
+  round_serves : (n : ℕ) → Serves (round (suc n)) ds (λ d. is_fine (round n d) ≡ true) (names_at n)
+  round_serves n =
+      let s = all_serve (round n) ds (named_at n) distinct (λ d. Unit {0}) in
+      record {
+        sound = λ m st p h. let f = s.sound m st p h in record { decl = f.decl; brings = f.brings; is_in = f.is_in; is_fine = stays_fine n f.decl (ap is_fine f.is_fine) ∙ f.is_fine; stands = f.stands };
+        whole = λ d es m st i k q h p. s.whole d es m st i tt (sym (stays_fine n d k) ∙ q) h p;
+      }
+
+  tests_stay : (n : ℕ) (d : Decl) → all_fine (round n) (uses d) ds ≡ true → all_fine (round (suc n)) (uses d) ds ≡ true
+  tests_stay n d h = is_all_fine (round (suc n)) (uses d) ds (λ e i u. let k = all_fine_is (round n) (uses d) ds h e i u in ap is_fine (stays_fine n e k) ∙ k)
+
+  names_alike : (n : ℕ) (d : Decl) → all_fine (round n) (uses d) ds ≡ true → decl_rule d (in_names (names_at n)) ≡ decl_rule d (in_names (names_at (suc n)))
+  names_alike n d h =
+      decl_same (names_at n) (names_at (suc n)) d
+      (serve_agree (round (suc n)) ds (named_at (suc n)) (λ e. is_fine (round n e) ≡ true) (λ e. Unit {0}) (names_at n) (names_at (suc n)) (round_serves n) (all_serve (round (suc n)) ds (named_at (suc n)) distinct (λ d. Unit {0})) (uses d)
+      (λ e i u. (all_fine_is (round n) (uses d) ds h e i u, tt)))
+
+  -- what is judged in a round is judged alike in the next
+  next_alike : (n : ℕ) (d : Decl) (j : Judged) → is_judged j ≡ true → judged_by (round n) ds d ≡ j → judged_by (round (suc n)) ds d ≡ j
+  next_alike n d j h k = by (all_fine (round n) (uses d) ds) refl k
+    where
+      by : (b : Bool) → all_fine (round n) (uses d) ds ≡ b → cond b (judged (decl_rule d (in_names (names_at n)))) Waiting ≡ j → judged_by (round (suc n)) ds d ≡ j
+      by true e q = ap (λ b. cond b (judged (decl_rule d (in_names (names_at (suc n))))) Waiting) (tests_stay n d e) ∙ ap judged (sym (names_alike n d e)) ∙ q
+      by false e q = no (ap is_judged q ∙ h)
+
+  as_judged : (n : ℕ) (d : Decl) (j : Judged) → is_judged j ≡ true → round n d ≡ j → judged_by (round n) ds d ≡ j
+  as_judged zero d j h k = no (ap is_judged k ∙ h)
+  as_judged (suc n) d j h k = by (round n d) refl k (as_judged n d j h)
+    where
+      by : (i : Judged) → round n d ≡ i → still i (judged_by (round n) ds d) ≡ j → (round n d ≡ j → judged_by (round n) ds d ≡ j) → judged_by (round (suc n)) ds d ≡ j
+      by Waiting e q next = next_alike n d j h q
+      by (Fine es) e q next = next_alike n d j h (next (e ∙ q))
+      by (Faulty f) e q next = next_alike n d j h (next (e ∙ q))
+
+  -- ---- they come to rest
+
+  same_round : (n : ℕ) (d : Decl) → is_judged (round (suc n) d) ≡ is_judged (round n d) → round (suc n) d ≡ round n d
+  same_round n d h = by (is_judged (round n d)) refl
+    where
+      by : (b : Bool) → is_judged (round n d) ≡ b → round (suc n) d ≡ round n d
+      by true e = stays n d e
+      by false e = waits (round (suc n) d) (h ∙ e) ∙ sym (waits (round n d) e)
+
+  goes_on : (n : ℕ) → ((d : Decl) → In d ds → is_judged (round (suc n) d) ≡ is_judged (round n d)) → (d : Decl) → In d ds → is_judged (round (suc (suc n)) d) ≡ is_judged (round (suc n) d)
+  goes_on n h d i =
+      ap is_judged
+      (ap (λ j. still j (judged_by (round (suc n)) ds d)) (same_round n d (h d i))
+      ∙ ap (still (round n d)) (judged_same (round (suc n)) (round n) ds d (λ e k. same_round n e (h e k))))
+
+  at_rest : (d : Decl) → In d ds → is_judged (round (suc (suc (length ds))) d) ≡ is_judged (round (suc (length ds)) d)
+  at_rest d i = settled (λ n e. is_judged (round n e)) ds (λ n e k h. ap is_judged (stays n e h) ∙ h) goes_on (suc (length ds)) (omega arith) d i
+
+  -- each declaration is judged as it is where all others are judged so
+  pub final_is : (d : Decl) → In d ds → final ds d ≡ judged_by (final ds) ds d
+  final_is d i = by (is_judged (final ds d)) refl
+    where
+      by : (b : Bool) → is_judged (final ds d) ≡ b → final ds d ≡ judged_by (final ds) ds d
+      by true e = sym (as_judged (suc (length ds)) d (final ds d) e refl)
+      by false e =
+          let w = waits (final ds d) e in
+          w ∙ sym (waits (judged_by (final ds) ds d) (sym (ap is_judged (ap (λ j. still j (judged_by (final ds) ds d)) w)) ∙ (at_rest d i ∙ e)))
+
+  pub final_named : Named (final ds)
+  final_named = named_at (suc (length ds))
