@@ -6,3 +6,4 @@ pub mod Distinct
 pub mod DeclNames
 pub mod SameNames
 pub mod Rounds
+pub mod Reaching
