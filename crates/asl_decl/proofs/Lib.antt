@@ -7,3 +7,5 @@ pub mod DeclNames
 pub mod SameNames
 pub mod Rounds
 pub mod Reaching
+pub mod Walks
+pub mod KnownLemmas
