@@ -9,3 +9,5 @@ pub mod Rounds
 pub mod Reaching
 pub mod Walks
 pub mod KnownLemmas
+pub mod Declaring
+pub mod Drops

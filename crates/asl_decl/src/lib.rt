@@ -2,6 +2,7 @@
 #![tactic(auto)]
 
 mod answer;
+mod declarers;
 mod library;
 mod names;
 mod overloads;
