@@ -11,3 +11,5 @@ pub mod Walks
 pub mod KnownLemmas
 pub mod Declaring
 pub mod Drops
+pub mod Marks
+pub mod Bridge

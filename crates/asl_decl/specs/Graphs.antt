@@ -6,7 +6,13 @@ use Rattle.asl_syn.specs.declared.tree.Decl.{Decl}
 use Rattle.asl_syn.specs.declared.tree.Decl.TheVariants as dc
 use Rattle.asl_syn.specs.declared.tree.Ident.{Ident}
 use Rattle.asl_rules.specs.Names.{labels_of}
-use Rattle.asl_rules.specs.Uses.{Used, uses}
+use Rattle.asl_syn.specs.declared.tree.Bitfield.{Bitfield}
+use Rattle.asl_syn.specs.declared.tree.ConstraintPart.{ConstraintPart}
+use Rattle.asl_syn.specs.declared.tree.FieldValue.{FieldValue}
+use Rattle.asl_syn.specs.declared.tree.Pattern.{Pattern}
+use Rattle.asl_syn.specs.declared.tree.Slice.{Slice}
+use Rattle.asl_syn.specs.declared.tree.Bitfield.TheFolds.{fold-Bitfield, fold-ConstraintPart, fold-FieldValue, fold-Pattern, fold-Slice}
+use Rattle.asl_rules.specs.Uses.{Used, uses, in_bitfield, in_part, in_expr, in_field, in_pattern, in_slice, in_type}
 
 -- names, each with the place of a declaration
 abbrev pub Places : Type 0
@@ -61,3 +67,20 @@ graph_by table ds = map (λ d. added table (uses d) []) ds
 
 abbrev pub graph_of : List Decl → List (List ℕ)
 graph_of ds = graph_by (declarers ds) ds
+
+-- ---- the names in parts of expressions and types
+
+abbrev pub used_by_bitfield : Bitfield → Used
+used_by_bitfield = fold-Bitfield Used Used Used Used Used Used Used in_bitfield in_part in_expr in_field in_pattern in_slice in_type
+
+abbrev pub used_by_part : ConstraintPart → Used
+used_by_part = fold-ConstraintPart Used Used Used Used Used Used Used in_bitfield in_part in_expr in_field in_pattern in_slice in_type
+
+abbrev pub used_by_field : FieldValue → Used
+used_by_field = fold-FieldValue Used Used Used Used Used Used Used in_bitfield in_part in_expr in_field in_pattern in_slice in_type
+
+abbrev pub used_by_pattern : Pattern → Used
+used_by_pattern = fold-Pattern Used Used Used Used Used Used Used in_bitfield in_part in_expr in_field in_pattern in_slice in_type
+
+abbrev pub used_by_slice : Slice → Used
+used_by_slice = fold-Slice Used Used Used Used Used Used Used in_bitfield in_part in_expr in_field in_pattern in_slice in_type

@@ -6,3 +6,4 @@ mod declarers;
 mod library;
 mod names;
 mod overloads;
+mod used;
