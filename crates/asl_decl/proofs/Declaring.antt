@@ -47,3 +47,6 @@ added_step f table xs i x places more all h e k q =
     let rest = all_used (map f (drop (i + 1) xs)) in
     added_then table (f x) rest places more (added table rest more) k refl
     ∙ ap (λ l. added table (all_used (map f l)) places) (sym (drop_here xs i x h e)) ∙ q
+
+pub added_of : (table : Places) (us vs ws : Used) (places more most : List ℕ) → more ≡ added table us places → most ≡ added table vs more → ws ≡ us ++ vs → most ≡ added table ws places
+added_of table us vs ws places more most h k e = added_then table us vs places more most h k ∙ ap (λ l. added table l places) (sym e)

@@ -199,7 +199,15 @@ none_library (m ∷ ns) n h = by (bytes_eq m n) h (none_library ns n)
 pub behind_library : (n : List ℕ) (es : List Entry) → is_listed library n ≡ false → standing_of n (map subprogram library ++ es) ≡ standing_of n es
 behind_library n es h = behind (map subprogram library) es n (none_library library n h)
 
-only_subprograms : (ns : List (List ℕ)) (n : List ℕ) (st : Standing) → standing_of n (map subprogram ns) ≡ Some st → st ≡ Subprogram
+pub library_listed : (ns : List (List ℕ)) (n : List ℕ) → standing_of n (map subprogram ns) ≡ Some Subprogram → is_listed ns n ≡ true
+library_listed [] n h = none_some Subprogram h
+library_listed (m ∷ ns) n h = by (bytes_eq m n) h (library_listed ns n)
+  where
+    by : (b : Bool) → cond b (Some Subprogram) (standing_of n (map subprogram ns)) ≡ Some Subprogram → (standing_of n (map subprogram ns) ≡ Some Subprogram → is_listed ns n ≡ true) → (if b then true else is_listed ns n) ≡ true
+    by true h next = refl
+    by false h next = next h
+
+pub only_subprograms : (ns : List (List ℕ)) (n : List ℕ) (st : Standing) → standing_of n (map subprogram ns) ≡ Some st → st ≡ Subprogram
 only_subprograms [] n st h = none_some st h
 only_subprograms (m ∷ ns) n st h = by (bytes_eq m n) h (only_subprograms ns n st)
   where

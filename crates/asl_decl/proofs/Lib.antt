@@ -13,3 +13,4 @@ pub mod Declaring
 pub mod Drops
 pub mod Marks
 pub mod Bridge
+pub mod Passing

@@ -4,6 +4,8 @@
 mod answer;
 mod declarers;
 mod library;
+mod listed;
 mod names;
+mod order;
 mod overloads;
 mod used;

@@ -28,7 +28,6 @@ pub(crate) fn use_name(
 // ---- one layer, and several of a sort
 
 #[cycle(uses)]
-#[tactic(auto, using(crate::proofs::Declaring::added_then, crate::proofs::Declaring::added_last))]
 pub(crate) fn use_expr(
     table: &Declarers<'_>,
     e: &Expr,
@@ -131,7 +130,6 @@ fn use_fields(
 }
 
 #[cycle(uses)]
-#[tactic(auto, using(crate::proofs::Declaring::added_then, crate::proofs::Declaring::added_last))]
 fn use_slice(
     table: &Declarers<'_>,
     slice: &Slice,
@@ -174,7 +172,6 @@ fn use_slices(
 }
 
 #[cycle(uses)]
-#[tactic(auto, using(crate::proofs::Declaring::added_then, crate::proofs::Declaring::added_last))]
 fn use_pattern(
     table: &Declarers<'_>,
     pattern: &Pattern,
@@ -213,7 +210,6 @@ fn use_patterns(
 }
 
 #[cycle(uses)]
-#[tactic(auto, using(crate::proofs::Declaring::added_then, crate::proofs::Declaring::added_last))]
 pub(crate) fn use_type(
     table: &Declarers<'_>,
     ty: &TypeExpr,
@@ -255,7 +251,6 @@ fn use_types(
 }
 
 #[cycle(uses)]
-#[tactic(auto, using(crate::proofs::Declaring::added_then, crate::proofs::Declaring::added_last))]
 fn use_part(
     table: &Declarers<'_>,
     part: &ConstraintPart,
@@ -288,7 +283,6 @@ fn use_parts(
 }
 
 #[cycle(uses)]
-#[tactic(auto, using(crate::proofs::Declaring::added_then, crate::proofs::Declaring::added_last))]
 fn use_bitfield(
     table: &Declarers<'_>,
     field: &Bitfield,
