@@ -14,3 +14,4 @@ pub mod Drops
 pub mod Marks
 pub mod Bridge
 pub mod Passing
+pub mod Ways

@@ -8,4 +8,5 @@ mod listed;
 mod names;
 mod order;
 mod overloads;
+mod reach;
 mod used;
