@@ -15,3 +15,4 @@ pub mod Marks
 pub mod Bridge
 pub mod Passing
 pub mod Ways
+pub mod CycleLemmas

@@ -60,7 +60,7 @@ up : (i at : ℕ) → (i < at) ⊎ (i ≡ at) → (suc i < suc at) ⊎ (suc i �
 up i at (inl a) = inl (omega (arith, a))
 up i at (inr a) = inr (omega (arith, a))
 
-below_or : (i at : ℕ) → i ≤ at → (i < at) ⊎ (i ≡ at)
+pub below_or : (i at : ℕ) → i ≤ at → (i < at) ⊎ (i ≡ at)
 below_or zero zero h = inr refl
 below_or (suc i) zero h = absurd (omega (arith, h))
 below_or zero (suc at) h = inl (omega arith)

@@ -2,6 +2,7 @@
 #![tactic(auto)]
 
 mod answer;
+mod cycles;
 mod declarers;
 mod library;
 mod listed;
