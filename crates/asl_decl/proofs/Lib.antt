@@ -16,3 +16,4 @@ pub mod Bridge
 pub mod Passing
 pub mod Ways
 pub mod CycleLemmas
+pub mod UsedForms

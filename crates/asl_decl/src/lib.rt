@@ -4,6 +4,7 @@
 mod answer;
 mod cycles;
 mod declarers;
+mod graph;
 mod library;
 mod listed;
 mod names;

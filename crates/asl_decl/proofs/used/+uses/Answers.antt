@@ -1,8 +1,8 @@
-use Rattle.std.proofs.Common.{[], ◌∷◌, ◌++◌, map, rules, arith}
-use Rattle.std.proofs.lemmas.Grind.{common_steps}
+use Rattle.std.proofs.Common.{[], ◌∷◌, ◌++◌, map, refl, sym, ap, ◌∙◌, arith}
 use Rattle.asl_rules.specs.Uses.{all_used, used_by, used_by_type}
 use Rattle.asl_decl.specs.Graphs.{used_by_bitfield, used_by_part, used_by_field, used_by_pattern, used_by_slice}
-use Rattle.asl_decl.proofs.Declaring.{added_step, added_then, added_of}
+use Rattle.asl_decl.proofs.Declaring.{added_step}
+use Rattle.asl_decl.proofs.UsedForms.{used_Binary, used_Conditional, used_Call, used_Slices, used_Element, used_As, used_In, used_HighLow, used_LowWidth, used_FactorWidth, used_RangePattern, used_BitsType, used_ArrayType, used_FromTo, used_BitRange, form_two, form_last}
 use Rattle.asl_decl.proofs.used.+uses.Goals as goal
 
 pub use_exprs-loop-e-preserved : goal.use_exprs-loop-e-preserved
@@ -27,50 +27,50 @@ pub use_bitfields-loop-field-preserved : goal.use_bitfields-loop-field-preserved
 use_bitfields-loop-field-preserved t c = added_step used_by_bitfield c.args.table.now c.args.fields.now c.loop-field.field-index c.field-item.result c.loop-field.places c.use_bitfield.new.places _ (omega arith) c.field-item.is c.in_ok-use_bitfield.ensures c.loop-field.invariant
 
 pub use_expr-returns-in_ok-use_expr-in-Binary-2 : goal.use_expr-returns-in_ok-use_expr-in-Binary-2
-use_expr-returns-in_ok-use_expr-in-Binary-2 t c = added_of c.args.table.now (used_by c.get-in-Binary.result.now) (used_by c.get-in-Binary-2.result.now) (used_by c.args.e.now) _ _ _ c.in_ok-use_expr-in-Binary.ensures c.in_ok-use_expr-in-Binary-2.ensures (first_of (search rules, grind (arith, common_steps)))
+use_expr-returns-in_ok-use_expr-in-Binary-2 t c = form_two (used_by) (used_by) c.args.table.now (used_by c.args.e.now) _ _ _ _ c.args.places.now _ _ (ap used_by c.in-Binary.is ∙ used_Binary _ _ _ _) c.get-in-Binary.ensures c.get-in-Binary-2.ensures c.in_ok-use_expr-in-Binary.ensures c.in_ok-use_expr-in-Binary-2.ensures
 
 pub use_expr-returns-in_ok-use_expr-in-Element-2 : goal.use_expr-returns-in_ok-use_expr-in-Element-2
-use_expr-returns-in_ok-use_expr-in-Element-2 t c = added_of c.args.table.now (used_by c.get-in-Element.result.now) (used_by c.get-in-Element-2.result.now) (used_by c.args.e.now) _ _ _ c.in_ok-use_expr-in-Element.ensures c.in_ok-use_expr-in-Element-2.ensures (first_of (search rules, grind (arith, common_steps)))
+use_expr-returns-in_ok-use_expr-in-Element-2 t c = form_two (used_by) (used_by) c.args.table.now (used_by c.args.e.now) _ _ _ _ c.args.places.now _ _ (ap used_by c.in-Element.is ∙ used_Element _ _ _) c.get-in-Element.ensures c.get-in-Element-2.ensures c.in_ok-use_expr-in-Element.ensures c.in_ok-use_expr-in-Element-2.ensures
 
 pub use_expr-returns-in_ok-use_slices-in-Slices : goal.use_expr-returns-in_ok-use_slices-in-Slices
-use_expr-returns-in_ok-use_slices-in-Slices t c = added_of c.args.table.now (used_by c.get-in-Slices.result.now) (all_used (map used_by_slice c.as_slice-in-Slices.result.now)) (used_by c.args.e.now) _ _ _ c.in_ok-use_expr-in-Slices.ensures c.in_ok-use_slices-in-Slices.ensures (first_of (search rules, grind (arith, common_steps)))
+use_expr-returns-in_ok-use_slices-in-Slices t c = form_two (used_by) (λ ss. all_used (map used_by_slice ss)) c.args.table.now (used_by c.args.e.now) _ _ _ _ c.args.places.now _ _ (ap used_by c.in-Slices.is ∙ used_Slices _ _ _) c.get-in-Slices.ensures c.as_slice-in-Slices.ensures c.in_ok-use_expr-in-Slices.ensures c.in_ok-use_slices-in-Slices.ensures
 
 pub use_expr-returns-in_ok-use_type-in-As : goal.use_expr-returns-in_ok-use_type-in-As
-use_expr-returns-in_ok-use_type-in-As t c = added_of c.args.table.now (used_by c.get-in-As.result.now) (used_by_type c.get-in-As-2.result.now) (used_by c.args.e.now) _ _ _ c.in_ok-use_expr-in-As.ensures c.in_ok-use_type-in-As.ensures (first_of (search rules, grind (arith, common_steps)))
+use_expr-returns-in_ok-use_type-in-As t c = form_two (used_by) (used_by_type) c.args.table.now (used_by c.args.e.now) _ _ _ _ c.args.places.now _ _ (ap used_by c.in-As.is ∙ used_As _ _ _) c.get-in-As.ensures c.get-in-As-2.ensures c.in_ok-use_expr-in-As.ensures c.in_ok-use_type-in-As.ensures
 
 pub use_expr-returns-in_ok-use_pattern-in-In : goal.use_expr-returns-in_ok-use_pattern-in-In
-use_expr-returns-in_ok-use_pattern-in-In t c = added_of c.args.table.now (used_by c.get-in-In.result.now) (used_by_pattern c.get-in-In-2.result.now) (used_by c.args.e.now) _ _ _ c.in_ok-use_expr-in-In.ensures c.in_ok-use_pattern-in-In.ensures (first_of (search rules, grind (arith, common_steps)))
+use_expr-returns-in_ok-use_pattern-in-In t c = form_two (used_by) (used_by_pattern) c.args.table.now (used_by c.args.e.now) _ _ _ _ c.args.places.now _ _ (ap used_by c.in-In.is ∙ used_In _ _ _) c.get-in-In.ensures c.get-in-In-2.ensures c.in_ok-use_expr-in-In.ensures c.in_ok-use_pattern-in-In.ensures
 
 pub use_expr-returns-in_ok-use_expr-in-Conditional-3 : goal.use_expr-returns-in_ok-use_expr-in-Conditional-3
-use_expr-returns-in_ok-use_expr-in-Conditional-3 t c =
-    let last = added_then c.args.table.now (used_by c.get-in-Conditional-2.result.now) (used_by c.get-in-Conditional-3.result.now) _ _ _ c.in_ok-use_expr-in-Conditional-2.ensures c.in_ok-use_expr-in-Conditional-3.ensures in
-    added_of c.args.table.now (used_by c.get-in-Conditional.result.now) (used_by c.get-in-Conditional-2.result.now ++ used_by c.get-in-Conditional-3.result.now) (used_by c.args.e.now) _ _ _ c.in_ok-use_expr-in-Conditional.ensures last (first_of (search rules, grind (arith, common_steps)))
+use_expr-returns-in_ok-use_expr-in-Conditional-3 t c = form_last used_by used_by c.args.table.now (used_by c.get-in-Conditional.result.now) _ _ _ _ c.args.places.now _ _ _ (used_by c.args.e.now)
+    (ap used_by c.in-Conditional.is ∙ used_Conditional _ _ _ _ ∙ ap (λ z. used_by z ++ (used_by c.in-Conditional.a ++ used_by c.in-Conditional.b)) (sym c.get-in-Conditional.ensures))
+    c.get-in-Conditional-2.ensures c.get-in-Conditional-3.ensures c.in_ok-use_expr-in-Conditional.ensures c.in_ok-use_expr-in-Conditional-2.ensures c.in_ok-use_expr-in-Conditional-3.ensures
 
 pub use_expr-returns-in_ok-use_exprs-in-Call-2 : goal.use_expr-returns-in_ok-use_exprs-in-Call-2
-use_expr-returns-in_ok-use_exprs-in-Call-2 t c =
-    let last = added_then c.args.table.now (all_used (map used_by c.as_slice-in-Call-2.result.now)) (all_used (map used_by c.as_slice-in-Call-3.result.now)) _ _ _ c.in_ok-use_exprs-in-Call.ensures c.in_ok-use_exprs-in-Call-2.ensures in
-    added_of c.args.table.now (c.as_slice-in-Call.result.now ∷ []) (all_used (map used_by c.as_slice-in-Call-2.result.now) ++ all_used (map used_by c.as_slice-in-Call-3.result.now)) (used_by c.args.e.now) _ _ _ c.in_ok-use_name-in-Call.ensures last (first_of (search rules, grind (arith, common_steps)))
+use_expr-returns-in_ok-use_exprs-in-Call-2 t c = form_last (λ es. all_used (map used_by es)) (λ es. all_used (map used_by es)) c.args.table.now (c.as_slice-in-Call.result.now ∷ []) _ _ _ _ c.args.places.now _ _ _ (used_by c.args.e.now)
+    (ap used_by c.in-Call.is ∙ used_Call _ _ _ _ ∙ ap (λ z. z ∷ (all_used (map used_by c.in-Call.parameters) ++ all_used (map used_by c.in-Call.arguments))) (sym c.as_slice-in-Call.ensures))
+    c.as_slice-in-Call-2.ensures c.as_slice-in-Call-3.ensures c.in_ok-use_name-in-Call.ensures c.in_ok-use_exprs-in-Call.ensures c.in_ok-use_exprs-in-Call-2.ensures
 
 pub use_type-returns-in_ok-use_type-in-ArrayType : goal.use_type-returns-in_ok-use_type-in-ArrayType
-use_type-returns-in_ok-use_type-in-ArrayType t c = added_of c.args.table.now (used_by c.get-in-ArrayType.result.now) (used_by_type c.get-in-ArrayType-2.result.now) (used_by_type c.args.ty.now) _ _ _ c.in_ok-use_expr-in-ArrayType.ensures c.in_ok-use_type-in-ArrayType.ensures (first_of (search rules, grind (arith, common_steps)))
+use_type-returns-in_ok-use_type-in-ArrayType t c = form_two (used_by) (used_by_type) c.args.table.now (used_by_type c.args.ty.now) _ _ _ _ c.args.places.now _ _ (ap used_by_type c.in-ArrayType.is ∙ used_ArrayType _ _ _) c.get-in-ArrayType.ensures c.get-in-ArrayType-2.ensures c.in_ok-use_expr-in-ArrayType.ensures c.in_ok-use_type-in-ArrayType.ensures
 
 pub use_type-returns-in_ok-use_bitfields-in-BitsType : goal.use_type-returns-in_ok-use_bitfields-in-BitsType
-use_type-returns-in_ok-use_bitfields-in-BitsType t c = added_of c.args.table.now (used_by c.get.result.now) (all_used (map used_by_bitfield c.as_slice-in-BitsType.result.now)) (used_by_type c.args.ty.now) _ _ _ c.in_ok-use_expr-in-BitsType.ensures c.in_ok-use_bitfields-in-BitsType.ensures (first_of (search rules, grind (arith, common_steps)))
+use_type-returns-in_ok-use_bitfields-in-BitsType t c = form_two (used_by) (λ fs. all_used (map used_by_bitfield fs)) c.args.table.now (used_by_type c.args.ty.now) _ _ _ _ c.args.places.now _ _ (ap used_by_type c.in-BitsType.is ∙ used_BitsType _ _ _) c.get.ensures c.as_slice-in-BitsType.ensures c.in_ok-use_expr-in-BitsType.ensures c.in_ok-use_bitfields-in-BitsType.ensures
 
 pub use_bitfield-returns-in_ok-use_expr-in-BitRange-2 : goal.use_bitfield-returns-in_ok-use_expr-in-BitRange-2
-use_bitfield-returns-in_ok-use_expr-in-BitRange-2 t c = added_of c.args.table.now (used_by c.in-BitRange.a) (used_by c.in-BitRange.b) (used_by_bitfield c.args.field.now) _ _ _ c.in_ok-use_expr-in-BitRange.ensures c.in_ok-use_expr-in-BitRange-2.ensures (first_of (search rules, grind (arith, common_steps)))
+use_bitfield-returns-in_ok-use_expr-in-BitRange-2 t c = form_two (used_by) (used_by) c.args.table.now (used_by_bitfield c.args.field.now) _ _ _ _ c.args.places.now _ _ (ap used_by_bitfield c.in-BitRange.is ∙ used_BitRange _ _ _) refl refl c.in_ok-use_expr-in-BitRange.ensures c.in_ok-use_expr-in-BitRange-2.ensures
 
 pub use_part-returns-in_ok-use_expr-in-FromTo-2 : goal.use_part-returns-in_ok-use_expr-in-FromTo-2
-use_part-returns-in_ok-use_expr-in-FromTo-2 t c = added_of c.args.table.now (used_by c.in-FromTo.a) (used_by c.in-FromTo.b) (used_by_part c.args.part.now) _ _ _ c.in_ok-use_expr-in-FromTo.ensures c.in_ok-use_expr-in-FromTo-2.ensures (first_of (search rules, grind (arith, common_steps)))
+use_part-returns-in_ok-use_expr-in-FromTo-2 t c = form_two (used_by) (used_by) c.args.table.now (used_by_part c.args.part.now) _ _ _ _ c.args.places.now _ _ (ap used_by_part c.in-FromTo.is ∙ used_FromTo _ _) refl refl c.in_ok-use_expr-in-FromTo.ensures c.in_ok-use_expr-in-FromTo-2.ensures
 
 pub use_pattern-returns-in_ok-use_expr-in-RangePattern-2 : goal.use_pattern-returns-in_ok-use_expr-in-RangePattern-2
-use_pattern-returns-in_ok-use_expr-in-RangePattern-2 t c = added_of c.args.table.now (used_by c.in-RangePattern.a) (used_by c.in-RangePattern.b) (used_by_pattern c.args.pattern.now) _ _ _ c.in_ok-use_expr-in-RangePattern.ensures c.in_ok-use_expr-in-RangePattern-2.ensures (first_of (search rules, grind (arith, common_steps)))
+use_pattern-returns-in_ok-use_expr-in-RangePattern-2 t c = form_two (used_by) (used_by) c.args.table.now (used_by_pattern c.args.pattern.now) _ _ _ _ c.args.places.now _ _ (ap used_by_pattern c.in-RangePattern.is ∙ used_RangePattern _ _ _) refl refl c.in_ok-use_expr-in-RangePattern.ensures c.in_ok-use_expr-in-RangePattern-2.ensures
 
 pub use_slice-returns-in_ok-use_expr-in-HighLow-2 : goal.use_slice-returns-in_ok-use_expr-in-HighLow-2
-use_slice-returns-in_ok-use_expr-in-HighLow-2 t c = added_of c.args.table.now (used_by c.in-HighLow.a) (used_by c.in-HighLow.b) (used_by_slice c.args.slice.now) _ _ _ c.in_ok-use_expr-in-HighLow.ensures c.in_ok-use_expr-in-HighLow-2.ensures (first_of (search rules, grind (arith, common_steps)))
+use_slice-returns-in_ok-use_expr-in-HighLow-2 t c = form_two (used_by) (used_by) c.args.table.now (used_by_slice c.args.slice.now) _ _ _ _ c.args.places.now _ _ (ap used_by_slice c.in-HighLow.is ∙ used_HighLow _ _) refl refl c.in_ok-use_expr-in-HighLow.ensures c.in_ok-use_expr-in-HighLow-2.ensures
 
 pub use_slice-returns-in_ok-use_expr-in-LowWidth-2 : goal.use_slice-returns-in_ok-use_expr-in-LowWidth-2
-use_slice-returns-in_ok-use_expr-in-LowWidth-2 t c = added_of c.args.table.now (used_by c.in-LowWidth.a) (used_by c.in-LowWidth.b) (used_by_slice c.args.slice.now) _ _ _ c.in_ok-use_expr-in-LowWidth.ensures c.in_ok-use_expr-in-LowWidth-2.ensures (first_of (search rules, grind (arith, common_steps)))
+use_slice-returns-in_ok-use_expr-in-LowWidth-2 t c = form_two (used_by) (used_by) c.args.table.now (used_by_slice c.args.slice.now) _ _ _ _ c.args.places.now _ _ (ap used_by_slice c.in-LowWidth.is ∙ used_LowWidth _ _) refl refl c.in_ok-use_expr-in-LowWidth.ensures c.in_ok-use_expr-in-LowWidth-2.ensures
 
 pub use_slice-returns-in_ok-use_expr-in-FactorWidth-2 : goal.use_slice-returns-in_ok-use_expr-in-FactorWidth-2
-use_slice-returns-in_ok-use_expr-in-FactorWidth-2 t c = added_of c.args.table.now (used_by c.in-FactorWidth.a) (used_by c.in-FactorWidth.b) (used_by_slice c.args.slice.now) _ _ _ c.in_ok-use_expr-in-FactorWidth.ensures c.in_ok-use_expr-in-FactorWidth-2.ensures (first_of (search rules, grind (arith, common_steps)))
+use_slice-returns-in_ok-use_expr-in-FactorWidth-2 t c = form_two (used_by) (used_by) c.args.table.now (used_by_slice c.args.slice.now) _ _ _ _ c.args.places.now _ _ (ap used_by_slice c.in-FactorWidth.is ∙ used_FactorWidth _ _) refl refl c.in_ok-use_expr-in-FactorWidth.ensures c.in_ok-use_expr-in-FactorWidth-2.ensures
