@@ -104,7 +104,7 @@ plain_new n (x ∷ xs) d (inr p) = plain_new n xs d.2 p
 never_sub : {A : Type 0} (b : Bool) → b ≡ false → b ≡ true → A
 never_sub b f t = no (sym f ∙ t)
 
-differs : (b : Bool) (m n : List ℕ) → bytes_eq m n ≡ b → (bytes_eq m n ≡ true → false ≡ true) → bytes_eq m n ≡ false
+pub differs : (b : Bool) (m n : List ℕ) → bytes_eq m n ≡ b → (bytes_eq m n ≡ true → false ≡ true) → bytes_eq m n ≡ false
 differs true m n q f = no (f q)
 differs false m n q f = q
 
@@ -122,15 +122,15 @@ rest_distinct [] zs d = d
 rest_distinct (y ∷ ys) zs d = rest_distinct ys zs d.2
 
 -- what stands behind a type, storage or a label doesn't have its name
-apart_later : (x : Declared) (zs : List Declared) → x.is_subprogram ≡ false → ApartFrom x zs → NotIn x.name.text zs
+pub apart_later : (x : Declared) (zs : List Declared) → x.is_subprogram ≡ false → ApartFrom x zs → NotIn x.name.text zs
 apart_later x [] s a = tt
 apart_later x (y ∷ zs) s a = (differs (bytes_eq y.name.text x.name.text) y.name.text x.name.text refl (λ q. never_sub x.is_subprogram s (a.0 q).0), apart_later x zs s a.1)
 
-in_first : (n : List ℕ) (xs ys : List Declared) → NotIn n (xs ++ ys) → NotIn n xs
+pub in_first : (n : List ℕ) (xs ys : List Declared) → NotIn n (xs ++ ys) → NotIn n xs
 in_first n [] ys h = tt
 in_first n (x ∷ xs) ys h = (h.0, in_first n xs ys h.1)
 
-in_second : (n : List ℕ) (xs ys : List Declared) → NotIn n (xs ++ ys) → NotIn n ys
+pub in_second : (n : List ℕ) (xs ys : List Declared) → NotIn n (xs ++ ys) → NotIn n ys
 in_second n [] ys h = h
 in_second n (x ∷ xs) ys h = in_second n xs ys h.1
 

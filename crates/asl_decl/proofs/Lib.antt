@@ -17,3 +17,5 @@ pub mod Passing
 pub mod Ways
 pub mod CycleLemmas
 pub mod UsedForms
+pub mod Scoping
+pub mod NoneTwice

@@ -9,6 +9,9 @@ mod library;
 mod listed;
 mod names;
 mod order;
+mod ordered;
 mod overloads;
 mod reach;
 mod used;
+
+pub use ordered::{Ordered, in_order};
