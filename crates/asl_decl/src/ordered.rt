@@ -1,10 +1,8 @@
 //! Declarations in an order, in which each stands behind all that it uses.
 
-ghost use Rattle.std.specs.Prelude.{◌≡◌, ℕ, ◌<◌, [], true, length, IfOk};
-ghost use Rattle.asl_rules.specs.Faults.{◌>>◌};
-ghost use Rattle.asl_rules.specs.Names.{names_rule, all_declared};
-ghost use Rattle.asl_rules.specs.Uses.{cycles_rule};
+ghost use Rattle.std.specs.Prelude.{◌≡◌, ℕ, ◌<◌, true, length, IfOk};
 ghost use Rattle.asl_decl.specs.Answers.{Met};
+ghost use Rattle.asl_decl.specs.Cycles.{order_rule};
 ghost use Rattle.asl_decl.specs.Graphs.{graph_of};
 ghost use Rattle.asl_decl.specs.Orders.{has_mark, IsOrder};
 
@@ -30,7 +28,7 @@ pub struct Ordered {
 /// itself. It takes a time that grows with the text, but where some reach themselves: for each that does or that uses
 /// one that does, up to the first, a walk over those that it reaches.
 pub fn in_order(alloc: Global, decls: &[Decl]) -> Result<Ordered, Refused>
-    ensures rule { Met (λ _. tt) result (names_rule [] (all_declared decls.now) >> cycles_rule decls.now decls.now) }
+    ensures rule { Met (λ _. tt) result (order_rule decls.now) }
     ensures graph { IfOk result (λ ordered. ordered.graph ≡ graph_of decls.now) }
     ensures order { IfOk result (λ ordered. IsOrder (graph_of decls.now) ordered.nodes ordered.marks) }
     ensures whole { IfOk result (λ ordered. (n : ℕ) → n < length decls.now → has_mark ordered.marks n ≡ true) }
