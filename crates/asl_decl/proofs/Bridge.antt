@@ -1,5 +1,5 @@
 -- The graph of a program is of its declarations: an edge is a use, a way a path, and an order one of declarations.
-use Rattle.std.proofs.Common.{◌≡◌, ℕ, zero, suc, ◌+◌, ◌<◌, ◌⊎◌, inl, inr, Bool, true, false, not, ◌&&◌, ◌||◌, cond, List, [], ◌∷◌, ◌++◌, length, map, get_or, Option, Some, None, refl, sym, ap, ◌∙◌, subst, arith, append_assoc}
+use Rattle.std.proofs.Common.{◌≡◌, ℕ, zero, suc, ◌+◌, ◌<◌, inl, inr, Bool, true, false, not, ◌&&◌, ◌||◌, cond, List, [], ◌∷◌, ◌++◌, length, map, get_or, Option, Some, None, refl, sym, ap, ◌∙◌, subst, arith, append_assoc}
 use Rattle.std.specs.Prelude.{◌==◌}
 use Rattle.std.specs.List.{slice_get}
 use Rattle.std.specs.Str.{bytes_eq}
@@ -13,12 +13,12 @@ use Rattle.asl_syn.specs.declared.tree.Ident.{Ident}
 use Rattle.asl_rules.specs.Names.{Declared, declared_as, declared_by, all_declared}
 use Rattle.asl_rules.specs.Uses.{Used, uses, is_declared, declares, any_declared, uses_one_of, leads_by, leads_to, reaches_itself}
 use Rattle.asl_decl.specs.Graphs.{Places, place_of, with_first, with_place, kept, plain_names, named_at, all_places, declarers, with_used, added, graph_of}
-use Rattle.asl_decl.specs.Orders.{Graph, row, has_mark, all_marked, is_among, all_among, each_behind, IsOrder, IsListed, IsStuck, is_way, HasWay}
+use Rattle.asl_decl.specs.Orders.{Graph, row, has_mark, all_marked, is_among, all_among, each_behind, IsStuck, is_way, HasWay}
 use Rattle.asl_decl.proofs.Tests.{no, some_none, some_same, both, either, or_first, or_second, and_true, same_name, name_is}
 use Rattle.asl_decl.proofs.Lookups.{none_some}
 use Rattle.asl_decl.proofs.Settling.{In}
 use Rattle.asl_decl.proofs.Distinct.{Distinct, Plain, NotIn, front_not_in, rest_distinct, plain_in}
-use Rattle.asl_decl.proofs.Reaching.{Step, step_of, leads_step, Reaches, short, Ordered, ordered_apart, UsesOne, none_stuck}
+use Rattle.asl_decl.proofs.Reaching.{step_of, leads_step, Reaches, short, Ordered, ordered_apart, UsesOne, none_stuck}
 
 -- ---- places of declarations
 
@@ -262,8 +262,10 @@ module _ (ds : List Decl) (distinct : Distinct (all_declared ds)) where
             where
               decl_at : ℕ → ℕ → Decl → Decl → Type 0
               decl_at m n x y = (m ≡ n) × At ds m x × At ds n y
+
               at_one : {m n : ℕ} {x y : Decl} → decl_at m n x y → x ≡ y
               at_one z = some_same _ _ (sym z.1 ∙ ap (slice_get ds) z.0 ∙ z.2)
+
       by : (b : Bool) → declares e u ≡ b → is_place j (place_of u (all_places 0 ds)) ≡ b
       by true h = let z : 0 + j ≡ j = omega arith in ap (is_place j) (place_is 0 ds u j e distinct a h ∙ ap Some z) ∙ eq-eqb j j refl
       by false h = miss (place_of u (all_places 0 ds)) refl h
@@ -356,6 +358,7 @@ module _ (ds : List Decl) (distinct : Distinct (all_declared ds)) where
       later : (o : Option Decl) → In d acc → In d (with_taken o acc)
       later None j = j
       later (Some e) j = inr j
+
       here : (n == k) ≡ true → In d (with_taken (slice_get ds n) acc)
       here q = subst (λ o. In d (with_taken o acc)) (sym (ap (slice_get ds) (eqb-true n k q) ∙ a)) (inl refl)
 
@@ -401,6 +404,7 @@ module _ (ds : List Decl) (distinct : Distinct (all_declared ds)) where
     where
       next : Left marks (suc n) xs d → Left marks n (x ∷ xs) d
       next r = let z : suc n + r.place ≡ n + suc r.place = omega arith in record { place = suc r.place; at = r.at; unmarked = subst (λ m. has_mark marks m ≡ false) z r.unmarked }
+
       by : (b : Bool) → has_mark marks n ≡ b → In d (cond b (left_out marks (suc n) xs) (x ∷ left_out marks (suc n) xs)) → (In d (left_out marks (suc n) xs) → Left marks (suc n) xs d) → Left marks n (x ∷ xs) d
       by true q j f = next (f j)
       by false q (inl e) f = let z : n ≡ n + 0 = omega arith in record { place = 0; at = ap Some e; unmarked = subst (λ m. has_mark marks m ≡ false) z q }
@@ -434,8 +438,10 @@ module _ (ds : List Decl) (distinct : Distinct (all_declared ds)) where
     where
       here : (m : ℕ) → has_mark marks (0 + m) ≡ false → has_mark marks m ≡ false
       here m h = let z : 0 + m ≡ m = omega arith in ap (has_mark marks) (sym z) ∙ h
+
       there : (m : ℕ) → has_mark marks m ≡ false → has_mark marks (0 + m) ≡ false
       there m h = let z : m ≡ 0 + m = omega arith in ap (has_mark marks) (sym z) ∙ h
+
       uses_left : (d : Decl) → In d (left_out marks 0 ds) → UsesOne ds d (left_out marks 0 ds)
       uses_left d i =
           let p = left_of marks 0 ds d i in
@@ -448,6 +454,7 @@ module _ (ds : List Decl) (distinct : Distinct (all_declared ds)) where
           length_map : (xs : List Decl) → length (map (λ d. added (declarers ds) (uses d) []) xs) ≡ length xs
           length_map [] = refl
           length_map (x ∷ xs) = ap suc (length_map xs)
+
       by : (b : Bool) → has_mark marks n ≡ b → b ≡ true
       by true q = refl
       by false q =

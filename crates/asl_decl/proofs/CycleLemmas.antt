@@ -1,24 +1,19 @@
 -- The rule of declarations that reach themselves, by the graph.
-use Rattle.std.proofs.Common.{◌≡◌, ℕ, zero, suc, ◌+◌, ◌<◌, ◌≤◌, ◌⊎◌, inl, inr, Bool, true, false, not, ◌&&◌, ◌||◌, List, [], ◌∷◌, length, drop, get_or, map, Some, Ok, Err, refl, sym, ap, ◌∙◌, subst, arith}
-use Rattle.std.specs.Prelude.{Result}
-use Rattle.std.specs.List.{slice_get}
-use Rattle.std.proofs.lemmas.Option.{slice_get_within, slice_get-get_or, get_or_from_slice_get}
+use Rattle.std.proofs.Common.{◌≡◌, ℕ, zero, suc, ◌+◌, ◌<◌, ◌⊎◌, inl, inr, Bool, true, false, not, List, [], ◌∷◌, length, get_or, map, Some, Ok, Err, refl, sym, ap, ◌∙◌, subst, arith}
+use Rattle.std.proofs.lemmas.Option.{slice_get_within, slice_get-get_or}
 use Rattle.asl_syn.specs.declared.code.StaticCode.TheVariants.{T03}
-use Rattle.asl_syn.specs.declared.code.Fault.{Fault}
 use Rattle.asl_syn.specs.declared.tree.Decl.{Decl}
 use Rattle.asl_syn.specs.declared.tree.Decl.TheVariants as dc
 use Rattle.asl_syn.specs.declared.tree.Func.{Func}
 use Rattle.asl_rules.specs.Faults.{◌>>◌, need, fault_of}
 use Rattle.asl_rules.specs.Names.{names_rule, all_declared}
-use Rattle.asl_rules.specs.Uses.{uses_one_of, leads_by, leads_to, reaches_itself, cycles_rule}
+use Rattle.asl_rules.specs.Uses.{leads_by, leads_to, reaches_itself, cycles_rule}
 use Rattle.asl_decl.specs.Graphs.{graph_of}
-use Rattle.asl_decl.specs.Orders.{row, has_mark, is_among, IsOrder, IsStuck, HasWay, HasEdges}
+use Rattle.asl_decl.specs.Orders.{has_mark, IsOrder, IsStuck, HasWay, HasEdges}
 use Rattle.asl_decl.specs.Cycles.{name_of, NoneBack}
 use Rattle.asl_decl.proofs.Tests.{no, some_same}
-use Rattle.asl_decl.proofs.Distinct.{Distinct, distinct_of}
-use Rattle.asl_decl.proofs.Reaching.{cycles_pass}
+use Rattle.asl_decl.proofs.Distinct.{distinct_of}
 use Rattle.asl_decl.proofs.Ways.{below_or}
-use Rattle.asl_decl.proofs.Drops.{drop_here}
 use Rattle.asl_decl.proofs.Bridge.{At, edge_at, way_reaches, reaches_way, order_apart, none_left_out}
 
 length_map : {A B : Type 0} (f : A → B) (xs : List A) → length (map f xs) ≡ length xs

@@ -1,5 +1,5 @@
 -- A name among entries, of which some stand behind others.
-use Rattle.std.proofs.Common.{◌≡◌, ℕ, Bool, true, false, cond, List, [], ◌∷◌, ◌++◌, Option, Some, None, refl, sym, ap, ◌∙◌, subst}
+use Rattle.std.proofs.Common.{◌≡◌, ℕ, Bool, true, false, cond, List, [], ◌∷◌, ◌++◌, Option, Some, None, refl, sym, subst}
 use Rattle.std.specs.Str.{bytes_eq}
 use Rattle.asl_rules.specs.Scopes.{Entry, Standing, standing_of}
 

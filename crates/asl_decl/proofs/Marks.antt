@@ -1,5 +1,5 @@
 -- Marks, the nodes that are listed with them, and orders.
-use Rattle.std.proofs.Common.{◌≡◌, ◌≢◌, ℕ, zero, suc, ◌+◌, ◌<◌, ◌≤◌, Bool, true, false, ◌&&◌, ◌||◌, List, [], ◌∷◌, ◌++◌, length, get_or, set, replicate, refl, sym, ap, ◌∙◌, subst, arith, get_or-set_same, get_or-set_other, append_assoc}
+use Rattle.std.proofs.Common.{◌≡◌, ◌≢◌, ℕ, zero, suc, ◌+◌, ◌<◌, Bool, true, false, ◌&&◌, ◌||◌, List, [], ◌∷◌, ◌++◌, length, get_or, set, replicate, refl, sym, ap, ◌∙◌, subst, arith, get_or-set_same, get_or-set_other, append_assoc}
 use Rattle.std.proofs.lemmas.List.{append-nil, length-set}
 use Rattle.std.proofs.lemmas.Bool.{eq-eqb, eqb-true, eqb-false}
 use Rattle.std.specs.Prelude.{◌==◌}
@@ -66,7 +66,7 @@ each_last g before (m ∷ ns) n h k =
 
 pub order_more : (g : Graph) (nodes : List ℕ) (marks : List Bool) (n : ℕ) → IsOrder g nodes marks → n < length g → all_marked marks (row g n) ≡ true → IsOrder g (nodes ++ n ∷ []) (set marks n true)
 order_more g nodes marks n o l h = (
-    length-set marks n true ∙ o.0,
-    each_last g [] nodes n o.1 (sym (marked_among nodes marks o.2 (row g n)) ∙ h),
-    listed_more nodes marks n (omega (arith, o.0, l)) o.2,
+  length-set marks n true ∙ o.0,
+  each_last g [] nodes n o.1 (sym (marked_among nodes marks o.2 (row g n)) ∙ h),
+  listed_more nodes marks n (omega (arith, o.0, l)) o.2,
 )

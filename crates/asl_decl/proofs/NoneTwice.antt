@@ -1,23 +1,22 @@
 -- Where no subprograms share a name either, the scope of all bodies has each name once.
-use Rattle.std.proofs.Common.{◌≡◌, ℕ, Bool, true, false, not, cond, List, [], ◌∷◌, ◌++◌, Option, Some, None, Ok, refl, sym, ap, ◌∙◌, subst, map}
+use Rattle.std.proofs.Common.{◌≡◌, ℕ, Bool, true, false, not, cond, List, [], ◌∷◌, ◌++◌, Some, None, Ok, refl, sym, ap, ◌∙◌, subst, map}
 use Rattle.std.specs.Prelude.{if◌then◌else◌}
 use Rattle.std.proofs.lemmas.List.{append-nil}
 use Rattle.std.specs.Str.{bytes_eq}
 use Rattle.asl_syn.specs.declared.code.StaticCode.TheVariants.{T10}
 use Rattle.asl_syn.specs.declared.tree.Ident.{Ident}
-use Rattle.asl_syn.specs.declared.tree.TypeDef.{TypeDef}
 use Rattle.asl_syn.specs.declared.tree.Decl.{Decl}
 use Rattle.asl_syn.specs.declared.tree.Decl.TheVariants as dc
 use Rattle.asl_syn.specs.declared.tree.Func.{Func}
-use Rattle.asl_rules.specs.Faults.{◌>>◌, need}
-use Rattle.asl_rules.specs.Names.{library, is_listed, Declared, declared_as, labels_of, declared_by, names_rule, all_declared}
-use Rattle.asl_rules.specs.Scopes.{Entry, Standing, subprogram, standing_of}
+use Rattle.asl_rules.specs.Faults.{need}
+use Rattle.asl_rules.specs.Names.{library, Declared, declared_as, labels_of, declared_by, names_rule, all_declared}
+use Rattle.asl_rules.specs.Scopes.{Entry, subprogram, standing_of}
 use Rattle.asl_rules.specs.Declarations.{Judged, Waiting, Fine, Faulty, entries_of, entries, final, names_of_program}
 use Rattle.asl_rules.specs.Programs.{funcs_of, has_name, overloads_rule}
 use Rattle.asl_decl.proofs.Inversions.{then_ok, need_ok}
 use Rattle.asl_decl.proofs.Tests.{no, same_name, name_is}
 use Rattle.asl_decl.proofs.Lookups.{behind}
-use Rattle.asl_decl.proofs.Distinct.{Distinct, ApartFrom, NotIn, AllNamed, distinct_of, differs, apart_later, in_first, in_second, none_named, behind_library}
+use Rattle.asl_decl.proofs.Distinct.{Distinct, ApartFrom, NotIn, AllNamed, distinct_of, differs, apart_later, behind_library}
 use Rattle.asl_decl.proofs.Rounds.{Named, final_named}
 use Rattle.asl_decl.proofs.Passing.{with_all}
 use Rattle.asl_decl.proofs.Scoping.{AllNew, all_kept}
@@ -146,8 +145,8 @@ new_named N [] ys [] rest a h s f = f N h
 new_named N [] ys (e ∷ es) rest a h s f = absurd a
 new_named N (x ∷ xs) ys [] rest a h s f = absurd a
 new_named N (x ∷ xs) ys (e ∷ es) rest a h s f = (
-    ap (λ m. standing_of m N) a.0 ∙ h.0,
-    new_named (N ++ e ∷ []) xs ys es rest a.2 (none_more N e (xs ++ ys) h.1 (subst (λ m. NotIn m (xs ++ ys)) (sym a.0) s.0)) s.1 f,
+  ap (λ m. standing_of m N) a.0 ∙ h.0,
+  new_named (N ++ e ∷ []) xs ys es rest a.2 (none_more N e (xs ++ ys) h.1 (subst (λ m. NotIn m (xs ++ ys)) (sym a.0) s.0)) s.1 f,
 )
 
 strict_second : (xs ys : List Declared) → Strict (xs ++ ys) → Strict ys

@@ -1,18 +1,16 @@
 -- A pass over declarations in an order: each is judged once, where all that it uses was, and as after all rounds.
-use Rattle.std.proofs.Common.{◌≡◌, ℕ, ◌⊎◌, inl, inr, Bool, true, false, not, ◌&&◌, ◌||◌, cond, List, [], ◌∷◌, ◌++◌, Option, Some, None, Ok, Err, Result, map, refl, sym, ap, ◌∙◌, subst}
-use Rattle.std.specs.Str.{bytes_eq}
-use Rattle.asl_syn.specs.declared.code.Fault.{Fault}
+use Rattle.std.proofs.Common.{◌≡◌, ℕ, ◌⊎◌, inl, inr, Bool, true, false, cond, List, [], ◌∷◌, ◌++◌, Option, Some, None, map, refl, sym, ap, ◌∙◌, subst}
 use Rattle.asl_syn.specs.declared.tree.Decl.{Decl}
 use Rattle.asl_rules.specs.Names.{library, is_listed, declared_by, all_declared}
-use Rattle.asl_rules.specs.Scopes.{Entry, Standing, Stored, Subprogram, TypeName, Label, subprogram, standing_of, is_free, is_absent}
-use Rattle.asl_rules.specs.Uses.{Used, uses, uses_one_of}
-use Rattle.asl_rules.specs.Declarations.{in_names, decl_rule, Judged, Waiting, Fine, Faulty, judged, is_fine, entries, all_fine, judged_by, final, names_of_program}
-use Rattle.asl_decl.proofs.Tests.{no, some_none, some_same}
-use Rattle.asl_decl.proofs.Lookups.{none_some, behind, before_is}
+use Rattle.asl_rules.specs.Scopes.{Entry, Standing, Stored, Subprogram, TypeName, Label, subprogram, standing_of, is_free}
+use Rattle.asl_rules.specs.Uses.{uses, uses_one_of}
+use Rattle.asl_rules.specs.Declarations.{in_names, decl_rule, Judged, Waiting, Fine, Faulty, judged, is_fine, entries, all_fine, final, names_of_program}
+use Rattle.asl_decl.proofs.Tests.{no}
+use Rattle.asl_decl.proofs.Lookups.{behind, before_is}
 use Rattle.asl_decl.proofs.Settling.{In}
-use Rattle.asl_decl.proofs.Distinct.{Distinct, AllNamed, IsPlain, Plain, plain_in, plain_named, plain_new, behind_library, past_library, only_subprograms, library_listed, FoundAt, own_found}
-use Rattle.asl_decl.proofs.SameNames.{Agree, decl_same}
-use Rattle.asl_decl.proofs.Rounds.{Named, Serves, serve_agree, all_serve, all_fine_is, is_all_fine, final_is, final_named, not_waiting}
+use Rattle.asl_decl.proofs.Distinct.{Distinct, IsPlain, plain_in, plain_named, plain_new, only_subprograms, library_listed, FoundAt, own_found}
+use Rattle.asl_decl.proofs.SameNames.{decl_same}
+use Rattle.asl_decl.proofs.Rounds.{Named, Serves, serve_agree, all_serve, all_fine_is, is_all_fine, final_is, final_named}
 
 -- subprograms aside, only the library has names
 abbrev pub OnlyLibrary : List Entry → Type 0
@@ -76,14 +74,17 @@ module _ (ds : List Decl) (distinct : Distinct (all_declared ds)) where
     where
       named : Named (final ds)
       named = final_named ds distinct
+
       sound : (n : List ℕ) (st : Standing) → IsPlain st → standing_of n (N ++ es) ≡ Some st → FoundAt (final ds) ds n st
       sound n st p h = by (by_last N es n (standing_of n N) refl st h)
         where
           by : (standing_of n N ≡ Some st) ⊎ (standing_of n es ≡ Some st) → FoundAt (final ds) ds n st
           by (inl q) = s.0.sound n st p q
           by (inr q) = record { decl = d; brings = es; is_in = i; is_fine = f; stands = q }
+
       own : (n : List ℕ) (st : Standing) → standing_of n es ≡ Some st → IsPlain st → standing_of n (entries (final ds) ds) ≡ Some st
       own n st q p = own_found (final ds) named ds d es n st distinct i f q p
+
       new : (n : List ℕ) (st : Standing) → standing_of n es ≡ Some st → IsPlain st → (o : Option Standing) → standing_of n N ≡ o → standing_of n (N ++ es) ≡ Some st
       new n st q p None e = behind N es n e ∙ q
       new n st q p (Some Subprogram) e = no (sym (plain_new n (all_declared ds) distinct (plain_in d ds n i (plain_named n st (declared_by d) es (named d es f) q p))) ∙ s.1 n e)
@@ -99,6 +100,7 @@ module _ (ds : List Decl) (distinct : Distinct (all_declared ds)) where
         where
           same : (n : List ℕ) (st su : Standing) → standing_of n es ≡ Some st → IsPlain st → standing_of n N ≡ Some su → IsPlain su → Some su ≡ Some st
           same n st su q p e k = let r = s.0.sound n su k e in sym (own_found (final ds) named ds r.decl r.brings n su distinct r.is_in r.is_fine r.stands k) ∙ own n st q p
+
       whole : (e : Decl) (fs : List Entry) (n : List ℕ) (st : Standing) → In e ds → E e → final ds e ≡ Fine fs → standing_of n fs ≡ Some st → IsPlain st → standing_of n (N ++ es) ≡ Some st
       whole e fs n st j k g h p = by (t e k)
         where
@@ -115,6 +117,7 @@ module _ (ds : List Decl) (distinct : Distinct (all_declared ds)) where
                   brought Waiting = []
                   brought (Fine l) = l
                   brought (Faulty x) = []
+
       only : OnlyLibrary (N ++ es)
       only n h = by (by_last N es n (standing_of n N) refl Subprogram h)
         where

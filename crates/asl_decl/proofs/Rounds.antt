@@ -1,14 +1,14 @@
 -- After all rounds each declaration is judged as it is where all others are judged so: the rounds have come to rest.
-use Rattle.std.proofs.Common.{◌≡◌, ℕ, zero, suc, ◌+◌, ◌≤◌, ◌⊎◌, inl, inr, ⊎_elim, Bool, true, false, not, ◌&&◌, ◌||◌, cond, List, [], ◌∷◌, ◌++◌, Option, Some, None, Ok, Err, length, map, refl, sym, ap, ◌∙◌, subst, arith}
-use Rattle.std.specs.Prelude.{Result, if◌then◌else◌}
+use Rattle.std.proofs.Common.{◌≡◌, ℕ, zero, suc, ◌⊎◌, inl, inr, ⊎_elim, Bool, true, false, not, ◌&&◌, ◌||◌, cond, List, [], ◌∷◌, ◌++◌, Option, Some, None, Ok, Err, length, map, refl, sym, ap, ◌∙◌, subst, arith}
+use Rattle.std.specs.Prelude.{Result}
 use Rattle.std.specs.Str.{bytes_eq}
 use Rattle.asl_syn.specs.declared.code.Fault.{Fault}
 use Rattle.asl_syn.specs.declared.tree.Decl.{Decl}
 use Rattle.asl_rules.specs.Names.{library, Declared, declared_by, all_declared}
 use Rattle.asl_rules.specs.Scopes.{Entry, Standing, Stored, Subprogram, TypeName, Label, subprogram, standing_of}
-use Rattle.asl_rules.specs.Uses.{Used, uses, is_declared, declares, any_declared, uses_one_of}
+use Rattle.asl_rules.specs.Uses.{Used, uses, is_declared, declares, any_declared}
 use Rattle.asl_rules.specs.Declarations.{in_names, decl_rule, Judged, Waiting, Fine, Faulty, judged, is_fine, entries_of, entries, fine_where_used, all_fine, judged_by, still, judgement, final}
-use Rattle.asl_decl.proofs.Tests.{no, some_none, some_same, both, and_true, name_is, same_name, either, or_first, or_second}
+use Rattle.asl_decl.proofs.Tests.{no, some_same, both, and_true, name_is, or_first, or_second}
 use Rattle.asl_decl.proofs.Lookups.{none_some}
 use Rattle.asl_decl.proofs.Settling.{In, settled}
 use Rattle.asl_decl.proofs.Distinct.{Distinct, AllNamed, IsPlain, Plain, plain_in, plain_named, plain_new, behind_library, past_library, FoundAt, found_at, own_found}
@@ -171,10 +171,10 @@ module _ (g : Decl → Judged) (ds : List Decl) (named : Named g) where
   pub serve_agree : (D E : Decl → Type 0) (N M : List Entry) → Serves g ds D N → Serves g ds E M → (us : Used) → ((e : Decl) → In e ds → any_declared e us ≡ true → D e × E e) → Agree N M us
   serve_agree D E N M s t [] h = tt
   serve_agree D E N M s t (u ∷ us) h = (
-      alike (standing_of u N) (standing_of u M)
-      (served_alike D E N M s t u (λ e i d. (h e i (or_first (declares e u) (any_declared e us) d)).1))
-      (served_alike E D M N t s u (λ e i d. (h e i (or_first (declares e u) (any_declared e us) d)).0)),
-      serve_agree D E N M s t us (λ e i d. h e i (or_second (declares e u) (any_declared e us) d)),
+    alike (standing_of u N) (standing_of u M)
+        (served_alike D E N M s t u (λ e i d. (h e i (or_first (declares e u) (any_declared e us) d)).1))
+        (served_alike E D M N t s u (λ e i d. (h e i (or_first (declares e u) (any_declared e us) d)).0)),
+    serve_agree D E N M s t us (λ e i d. h e i (or_second (declares e u) (any_declared e us) d)),
   )
 
   -- all names of a program serve

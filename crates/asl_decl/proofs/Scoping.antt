@@ -1,21 +1,20 @@
 -- Names that are kept each once: they stand for the same as all, and signatures are judged alike among them.
-use Rattle.std.proofs.Common.{◌≡◌, ℕ, ◌⊎◌, inl, inr, Bool, true, false, cond, List, [], ◌∷◌, ◌++◌, Option, Some, None, Ok, Err, Result, refl, sym, ap, ◌∙◌, subst, append_assoc}
+use Rattle.std.proofs.Common.{◌≡◌, Bool, true, false, cond, List, [], ◌∷◌, ◌++◌, Option, Some, None, Ok, Err, refl, sym, ap, ◌∙◌, append_assoc}
 use Rattle.std.proofs.lemmas.List.{append-nil}
 use Rattle.std.specs.Str.{bytes_eq}
 use Rattle.asl_syn.specs.declared.code.Fault.{Fault}
 use Rattle.asl_syn.specs.declared.tree.TypeExpr.{TypeExpr}
 use Rattle.asl_syn.specs.declared.tree.Decl.{Decl}
 use Rattle.asl_syn.specs.declared.tree.Func.{Func}
-use Rattle.asl_rules.specs.Faults.{◌>>=◌, ◌>>◌}
-use Rattle.asl_rules.specs.Types.{Ty}
-use Rattle.asl_rules.specs.Scopes.{Entry, Standing, standing_of, is_free, is_absent}
+use Rattle.asl_rules.specs.Faults.{◌>>◌}
+use Rattle.asl_rules.specs.Scopes.{Entry, Standing, standing_of, is_absent}
 use Rattle.asl_rules.specs.Uses.{Used, used_by_type}
 use Rattle.asl_rules.specs.Exprs.{written}
-use Rattle.asl_rules.specs.Declarations.{in_names, Judged, Waiting, Fine, Faulty, faulty, final, faults_rule}
+use Rattle.asl_rules.specs.Declarations.{in_names, Faulty, faulty, final, faults_rule}
 use Rattle.asl_rules.specs.Programs.{result_rule, signatures_rule}
-use Rattle.asl_decl.proofs.Tests.{no, some_none, same_name}
+use Rattle.asl_decl.proofs.Tests.{same_name}
 use Rattle.asl_decl.proofs.Lookups.{behind, before_is}
-use Rattle.asl_decl.proofs.SameNames.{shown, Agree, bind_same, then_same, written_same}
+use Rattle.asl_decl.proofs.SameNames.{shown, Agree, bind_same, written_same}
 use Rattle.asl_decl.proofs.Passing.{SameStandings, with_free, with_all}
 
 -- one more name, where it is free or not, stands as it does at the end
@@ -29,6 +28,7 @@ with_one e es n = by (standing_of e.name es) refl
         other : (o : Option Standing) → standing_of n es ≡ o → standing_of n (es ++ e ∷ []) ≡ standing_of n es
         other None k = behind es (e ∷ []) n k ∙ ap (λ b. cond b (Some e.standing) None) q ∙ sym k
         other (Some t) k = before_is es (e ∷ []) n t k ∙ sym k
+
     by : (o : Option Standing) → standing_of e.name es ≡ o → standing_of n (es ++ e ∷ []) ≡ standing_of n (cond (is_absent (standing_of e.name es)) (es ++ e ∷ []) es)
     by None h = ap (λ o. standing_of n (cond (is_absent o) (es ++ e ∷ []) es)) (sym h)
     by (Some s) h = last (bytes_eq e.name n) refl s h ∙ ap (λ o. standing_of n (cond (is_absent o) (es ++ e ∷ []) es)) (sym h)

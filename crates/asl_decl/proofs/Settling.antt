@@ -1,5 +1,5 @@
 -- Tests that only ever come to hold, of the members of a list, settle after as many steps as the list is long.
-use Rattle.std.proofs.Common.{◌≡◌, ℕ, zero, suc, ◌+◌, ◌≤◌, ◌⊎◌, inl, inr, Bool, true, false, cond, List, [], ◌∷◌, length, refl, sym, ap, ◌∙◌, subst, arith}
+use Rattle.std.proofs.Common.{◌≡◌, ℕ, zero, suc, ◌+◌, ◌≤◌, ◌⊎◌, inl, inr, Bool, true, false, cond, List, [], ◌∷◌, length, refl, sym, ◌∙◌, subst, arith}
 use Rattle.asl_decl.proofs.Tests.{no}
 
 -- a member of a list
@@ -39,6 +39,7 @@ module _ {A : Type 0} where
       here : (b : Bool) → q x ≡ b → r x ≡ b → ((y : A) → In y xs → r y ≡ q y) → (y : A) → In y (x ∷ xs) → r y ≡ q y
       here b e h g y (inl i) = subst (λ z. r z ≡ q z) i (h ∙ sym e)
       here b e h g y (inr i) = g y i
+
       by : (b c : Bool) → q x ≡ b → r x ≡ c → (b ≡ true → c ≡ true) → ((y : A) → In y xs → r y ≡ q y) ⊎ (suc (left r xs) ≤ left q xs) →
           ((y : A) → In y (x ∷ xs) → r y ≡ q y) ⊎ (suc (cond c (left r xs) (suc (left r xs))) ≤ cond b (left q xs) (suc (left q xs)))
       by true true e h g (inl s) = inl (here true e h s)
@@ -68,6 +69,7 @@ module _ {A : Type 0} (p : ℕ → A → Bool) (xs : List A) (grows : (n : ℕ) 
       step : n + left (p n) xs ≤ length xs → ((x : A) → In x xs → p (suc n) x ≡ p n x) ⊎ (suc (left (p (suc n)) xs) ≤ left (p n) xs) → Still (suc n) ⊎ (suc n + left (p (suc n)) xs ≤ length xs)
       step l (inl s) = inl (goes_on n s)
       step l (inr f) = inr (omega (arith, l, f))
+
       by : Still n ⊎ (n + left (p n) xs ≤ length xs) → Still (suc n) ⊎ (suc n + left (p (suc n)) xs ≤ length xs)
       by (inl s) = inl (goes_on n s)
       by (inr l) = step l (same_or_fewer (p n) (p (suc n)) xs (grows n))

@@ -1,11 +1,10 @@
 -- The names in expressions and types, form by form.
-use Rattle.std.proofs.Common.{◌≡◌, ℕ, List, [], ◌∷◌, ◌++◌, map, refl, sym, ap, ◌∙◌}
+use Rattle.std.proofs.Common.{◌≡◌, ℕ, List, ◌∷◌, ◌++◌, map, refl, sym, ap, ◌∙◌}
 use Rattle.asl_syn.specs.declared.token.Span.{Span}
 use Rattle.asl_syn.specs.declared.tree.BinaryOperator.{BinaryOperator}
 use Rattle.asl_syn.specs.declared.tree.Ident.{Ident}
 use Rattle.asl_syn.specs.declared.tree.Bitfield.{Bitfield}
 use Rattle.asl_syn.specs.declared.tree.Bitfield.TheVariants as bv
-use Rattle.asl_syn.specs.declared.tree.ConstraintPart.{ConstraintPart}
 use Rattle.asl_syn.specs.declared.tree.ConstraintPart.TheVariants as cv
 use Rattle.asl_syn.specs.declared.tree.Expr.{Expr}
 use Rattle.asl_syn.specs.declared.tree.Expr.TheVariants as ev

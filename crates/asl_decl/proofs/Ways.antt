@@ -1,9 +1,9 @@
 -- Walks over a graph come to what there is a way to.
-use Rattle.std.proofs.Common.{◌≡◌, ℕ, zero, suc, ◌+◌, ◌<◌, ◌≤◌, ◌⊎◌, inl, inr, Bool, true, false, ◌&&◌, ◌||◌, List, [], ◌∷◌, ◌++◌, length, get_or, set, refl, sym, ap, ◌∙◌, subst, arith, append_assoc, get_or-set_same, get_or-set_other}
+use Rattle.std.proofs.Common.{◌≡◌, ℕ, zero, suc, ◌+◌, ◌<◌, ◌≤◌, ◌⊎◌, inl, inr, Bool, true, false, List, [], ◌∷◌, ◌++◌, length, get_or, set, refl, sym, ap, ◌∙◌, subst, arith, append_assoc, get_or-set_same, get_or-set_other}
 use Rattle.std.specs.Prelude.{◌==◌}
 use Rattle.std.proofs.lemmas.Bool.{eq-eqb, eqb-true, eqb-false}
 use Rattle.std.proofs.lemmas.List.{append-nil}
-use Rattle.asl_decl.specs.Orders.{Graph, row, has_mark, all_marked, is_among, IsListed, is_way, HasWay, HasEdges, Below, Within, MarkedMore, Goes, FoundOne, MarkedTo, ClosedTo, Reached}
+use Rattle.asl_decl.specs.Orders.{Graph, row, has_mark, all_marked, is_among, IsListed, is_way, HasWay, MarkedMore, Goes, FoundOne, MarkedTo, ClosedTo, Reached}
 use Rattle.asl_decl.proofs.Tests.{no, both, and_true, either, or_first, or_second}
 
 pub among_marked : (marks : List Bool) (ns : List ℕ) (k : ℕ) → all_marked marks ns ≡ true → is_among k ns ≡ true → has_mark marks k ≡ true
@@ -88,9 +88,9 @@ goes_none nodes ns = ([], sym (append-nil nodes), λ k h. no h)
 
 pub goes_more : (nodes ns all : List ℕ) (n : ℕ) → Goes nodes ns all → is_among n ns ≡ true → Goes nodes ns (all ++ n ∷ [])
 goes_more nodes ns all n w h = (
-    w.0 ++ n ∷ [],
-    ap (λ l. l ++ n ∷ []) w.1 ∙ append_assoc nodes w.0 (n ∷ []),
-    λ k i. by k (among_split k w.0 (n ∷ []) i),
+  w.0 ++ n ∷ [],
+  ap (λ l. l ++ n ∷ []) w.1 ∙ append_assoc nodes w.0 (n ∷ []),
+  λ k i. by k (among_split k w.0 (n ∷ []) i),
 )
   where
     by : (k : ℕ) → (is_among k w.0 ≡ true) ⊎ (is_among k (n ∷ []) ≡ true) → is_among k ns ≡ true

@@ -62,11 +62,7 @@ fn keep_labels<'a>(
     Ok(())
 }
 
-fn keep_decl<'a>(
-    table: &mut Declarers<'a>,
-    d: &'a Decl,
-    place: usize,
-) -> Result<(), AllocError>
+fn keep_decl<'a>(table: &mut Declarers<'a>, d: &'a Decl, place: usize) -> Result<(), AllocError>
     ensures { OnOk result (table.new ≡ graphs.kept (graphs.named_at place (graphs.plain_names d.now)) table.old) }
 {
     match d {

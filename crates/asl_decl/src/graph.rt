@@ -104,11 +104,7 @@ fn use_storage(
     Ok(())
 }
 
-fn use_decl(
-    table: &Declarers<'_>,
-    d: &Decl,
-    places: &mut Items<usize>,
-) -> Result<(), AllocError>
+fn use_decl(table: &Declarers<'_>, d: &Decl, places: &mut Items<usize>) -> Result<(), AllocError>
     ensures { OnOk result (places.new ≡ graphs.added table.now (uses.uses d.now) places.old) }
 {
     match d {

@@ -44,11 +44,7 @@ fn find_all(found: &mut Listed, nodes: &[usize]) -> Result<(), AllocError>
 }
 
 /// The nodes that there is a way to from this one.
-fn reached_from(
-    alloc: Global,
-    graph: &[Items<usize>],
-    start: usize,
-) -> Result<Listed, AllocError>
+fn reached_from(alloc: Global, graph: &[Items<usize>], start: usize) -> Result<Listed, AllocError>
     requires { HasEdges graph.now }
     ensures way { IfOk result (λ found. (k : ℕ) → has_mark found.marks k ≡ true → HasWay graph.now start k) }
     ensures mark { IfOk result (λ found. (k : ℕ) → HasWay graph.now start k → has_mark found.marks k ≡ true) }

@@ -5,9 +5,7 @@ ghost use Rattle.asl_rules.specs.Uses as uses;
 ghost use Rattle.asl_decl.specs.Graphs as graphs;
 
 use crate::declarers::Declarers;
-use asl_syn::tree::{
-    Bitfield, ConstraintPart, Expr, FieldValue, Pattern, Slice, TypeExpr,
-};
+use asl_syn::tree::{Bitfield, ConstraintPart, Expr, FieldValue, Pattern, Slice, TypeExpr};
 use sqlite_items::Items;
 use std::alloc::AllocError;
 

@@ -1,5 +1,5 @@
 use Rattle.std.proofs.Common.{◌≡◌, ◌++◌, drop}
-use Rattle.asl_decl.specs.Graphs.{graph_by, graph_of}
+use Rattle.asl_decl.specs.Graphs.{graph_by}
 use Rattle.asl_decl.proofs.graph.uses_of.Given as goal
 
 abbrev pub invariant-loop-d : goal.invariant-loop-d

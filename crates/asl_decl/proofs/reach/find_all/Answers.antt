@@ -1,5 +1,5 @@
-use Rattle.std.proofs.Common.{◌≡◌, ◌≤◌, ◌<◌, length, true, refl, sym, ap, ◌∙◌, subst, arith}
-use Rattle.asl_decl.proofs.Ways.{among_place, goes_one, marked_to_next, marked_to_all, more_trans, marked_to_end}
+use Rattle.std.proofs.Common.{refl, ◌∙◌, arith}
+use Rattle.asl_decl.proofs.Ways.{among_place, goes_one, marked_to_next, more_trans, marked_to_end}
 use Rattle.asl_decl.proofs.reach.find_all.Goals as goal
 
 pub find-requires-clause-within : goal.find-requires-clause-within

@@ -1,4 +1,4 @@
-use Rattle.std.proofs.Common.{◌≡◌, ◌≤◌, ◌<◌, ◌+◌, true, length, get_or, refl, sym, ap, ◌∙◌, subst, arith}
+use Rattle.std.proofs.Common.{◌≡◌, ◌+◌, true, get_or, sym, ap, ◌∙◌, subst, arith}
 use Rattle.asl_decl.specs.Orders.{row, all_marked, is_among, ClosedTo}
 use Rattle.asl_decl.proofs.Ways.{among_place, goes_reached, marked_more, closed_next, way_mark}
 use Rattle.asl_decl.proofs.reach.reached_from.Goals as goal

@@ -1,4 +1,4 @@
-use Rattle.std.proofs.Common.{◌≡◌, ◌≤◌, ◌-◌, length, true}
+use Rattle.std.proofs.Common.{◌≡◌, ◌-◌, length, true}
 use Rattle.asl_decl.specs.Orders.{row, all_marked, room, IsListed, ClosedTo, Reached}
 use Rattle.asl_decl.proofs.reach.reached_from.Given as goal
 
