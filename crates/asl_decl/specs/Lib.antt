@@ -1,0 +1,5 @@
+pub mod Answers
+pub mod Known
+pub mod Graphs
+pub mod Orders
+pub mod Cycles
