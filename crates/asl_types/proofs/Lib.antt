@@ -5,3 +5,4 @@ pub mod KindLemmas
 pub mod SizeLemmas
 pub mod TypesBack
 pub mod ValuesBack
+pub mod WrittenLemmas
