@@ -1,2 +1,3 @@
+pub mod ArmLemmas
 pub mod EndLemmas
 pub mod OperandLemmas

@@ -1,6 +1,7 @@
 -- Expressions in order, one by one.
 use Rattle.std.proofs.Common.{◌≡◌, ℕ, ◌+◌, ◌<◌, ◌≤◌, length, get_or, drop, List, [], ◌∷◌, ◌++◌, Result, Ok, Err, map, refl, sym, ap, ◌∙◌, append_assoc}
 use Rattle.std.proofs.lemmas.List.{drop_more, drop_all}
+use Rattle.asl_syn.specs.declared.token.Span.{Span}
 use Rattle.asl_syn.specs.declared.code.Fault.{Fault}
 use Rattle.asl_syn.specs.declared.tree.Expr.{Expr}
 use Rattle.asl_rules.specs.Faults.{◌>>=◌}
@@ -38,7 +39,7 @@ operands_next all es i e os qs o G within here w at more before =
     before
     ∙ ap (λ fs. behind_operands os (operands (all_found fs) G)) (at_next es i e within here)
     ∙ ap (λ r. behind_operands os (r >>= λ S. operands (all_found (drop (i + 1) es)) G >>= λ Ss. Ok (record { span = (found e).span; typed = S } ∷ Ss))) w
-    ∙ ap (λ (s : _). behind_operands os (operands (all_found (drop (i + 1) es)) G >>= λ Ss. Ok (record { span = s; typed = typed_of o.typed } ∷ Ss))) (sym at)
+    ∙ ap (λ (s : Span). behind_operands os (operands (all_found (drop (i + 1) es)) G >>= λ Ss. Ok (record { span = s; typed = typed_of o.typed } ∷ Ss))) (sym at)
     ∙ behind_one os o (operands (all_found (drop (i + 1) es)) G)
     ∙ ap (λ ps. behind_operands ps (operands (all_found (drop (i + 1) es)) G)) (sym more)
 
