@@ -35,4 +35,4 @@ field_made e span a b i S s t n G is same w tree place h =
     ∙ ap (λ (r : Result rules.Typed Fault). roll-TypedExpr (te.Field span (elaborated b G) (place_behind i.text r))) (sym w ∙ sym (ap (λ (f : Found). f.typed G) (made_found b)))
     ∙ ap (λ c. roll-TypedExpr (te.Field span (elaborated c G) (place_behind i.text ((made c).found.typed G)))) same
     ∙ sym (ap (λ u. elaborated u G) (is ∙ sym (ev.rolls-Field span a i))
-      ∙ ap (λ (m : Made). m.tree G) (fold-roll-Expr Unread Unread Made MadeField Unread Unread MadeType (λ _. tt) (λ _. tt) made_rule made_field_rule (λ _. tt) (λ _. tt) made_type_rule (ex.Field span a i)))
+    ∙ ap (λ (m : Made). m.tree G) (fold-roll-Expr Unread Unread Made MadeField Unread Unread MadeType (λ _. tt) (λ _. tt) made_rule made_field_rule (λ _. tt) (λ _. tt) made_type_rule (ex.Field span a i)))

@@ -188,12 +188,7 @@ fn type_index(span: Span, array: &Ty, index: &Ty) -> Result<Ty, Refused>
 }
 
 /// An element whose array and index were typed.
-pub fn type_element(
-    class: Effect,
-    span: Span,
-    array: Typed,
-    index: Typed,
-) -> Result<Typed, Refused>
+pub fn type_element(class: Effect, span: Span, array: Typed, index: Typed) -> Result<Typed, Refused>
     ensures { Met typed_of result (views.element_at class span (typed_of array) (typed_of index)) }
 {
     let ty = type_index(span, &array.ty, &index.ty)?;

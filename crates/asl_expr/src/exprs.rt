@@ -11,7 +11,8 @@ ghost use Rattle.asl_types.specs.Judged.{scope_in};
 ghost use Rattle.asl_expr.specs.Views.{typed_of, all_operands, all_found};
 
 use crate::ends::{
-    finish, type_either, type_element, type_field, type_operation, type_operation_of_one, type_tuple,
+    finish, type_either, type_element, type_field, type_operation, type_operation_of_one,
+    type_tuple,
 };
 use crate::trees;
 use crate::typed::{Operand, Typed};

@@ -216,12 +216,7 @@ impl<'a> Scope<'a> {
     }
 
     /// A name becomes visible, where it isn't, as storage of a body.
-    pub fn declare_local(
-        &mut self,
-        name: &'a [u8],
-        ty: Ty,
-        is_mutable: bool,
-    ) -> Result<(), Refused>
+    pub fn declare_local(&mut self, name: &'a [u8], ty: Ty, is_mutable: bool) -> Result<(), Refused>
         ensures declared { OnOk result (self.new ≡ with_entry (rules.stored name.now (ty_of ty) is_mutable) self.old) }
         ensures memory { IfErr result (λ e. e ≡ Refused.NoMemory) }
     {

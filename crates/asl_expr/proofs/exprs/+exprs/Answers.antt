@@ -19,7 +19,7 @@ type_all-loop-e-preserved t c = record {
 pub type_expr-returns-in_err-typed-in-Tuple-clause-rule : goal.type_expr-returns-in_err-typed-in-Tuple-clause-rule
 type_expr-returns-in_err-typed-in-Tuple-clause-rule t c returns =
     let gives = tuple_typed c.args.e.now c.in-Tuple.span c.in-Tuple.parts c.as_slice-in-Tuple.result.now _ (scope_in c.args.names.now returns c.args.class) c.in-Tuple.is c.as_slice-in-Tuple.ensures (c.in_ok-parts-in-Tuple.ensures.rule returns)
-        ∙ ap (λ os. tuple_with c.args.class c.in-Tuple.span (all_operands os)) (sym c.as_slice-in-Tuple-2.ensures) in
+    ∙ ap (λ os. tuple_with c.args.class c.in-Tuple.span (all_operands os)) (sym c.as_slice-in-Tuple-2.ensures) in
     subst (λ (z : Result exprs.Typed Fault). Met (λ p. typed_of p.1) c.from_residual-in_err-typed-in-Tuple.result z) (sym gives) (search rules)
 
 pub type_expr-returns-in_ok-typed-in-Tuple-clause-rule : goal.type_expr-returns-in_ok-typed-in-Tuple-clause-rule

@@ -1,7 +1,7 @@
 use Rattle.std.proofs.Common.{List, Some, None, sym, ap, subst, ◌∙◌}
 use Rattle.std.specs.Option.{option_copied}
 use Rattle.asl_rules.specs.Scopes as rules
-use Rattle.asl_types.specs.Standings.{standing_view, HasSlot}
+use Rattle.asl_types.specs.Standings.{HasSlot}
 use Rattle.asl_types.specs.Places.{slot_of, layout_of}
 use Rattle.asl_types.proofs.ScopeLemmas.{standing-in}
 use Rattle.asl_types.proofs.NumberLemmas.{slot-found}
