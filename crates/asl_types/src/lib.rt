@@ -1,8 +1,16 @@
 //! Types: their kinds and sizes, which satisfies which, and the scope that they stand in.
 #![tactic(auto)]
 
+pub mod answer;
+pub mod baring;
 mod binding;
+pub mod fits;
+pub mod initial;
+pub mod kinds;
+mod names;
+pub mod sizes;
 mod slot;
+pub mod structure;
 mod ty;
 
 pub use binding::{Binding, Under};

@@ -1,0 +1,6 @@
+use Rattle.std.proofs.Common.{◌≡◌, drop}
+use Rattle.asl_rules.specs.Types as rules
+use Rattle.asl_types.proofs.names.is_among.Given as goal
+
+abbrev pub invariant-loop-other : goal.invariant-loop-other
+invariant-loop-other l = rules.is_among l.name (drop l.other-index l.names) ≡ rules.is_among l.name l.names
