@@ -1,10 +1,14 @@
 -- Places as the rules see them.
-use Rattle.std.proofs.Common.{◌≡◌, ℕ, zero, suc, ◌-◌, ◌<◌, ◌≤◌, List, [], ◌∷◌, length, map, Some, None, refl, sym, ap, ◌∙◌, arith}
+use Rattle.std.proofs.Common.{◌≡◌, ◌≢◌, ℕ, zero, suc, ◌+◌, ◌-◌, ◌<◌, ◌≤◌, Bool, true, false, List, [], ◌∷◌, length, get_or, drop, map, Some, None, refl, sym, ap, ◌∙◌, arith}
 use Rattle.std.proofs.lemmas.List.{take-map, length-map}
 use Rattle.std.proofs.lemmas.Option.{slice_get-map}
 use Rattle.std.specs.Prelude.{option_map, slice_get, slice_set, take}
 use Rattle.asl_rules.specs.Values as rules
-use Rattle.asl_tree.specs.TypedMeaning.{BareCore, set_at, pushed, pushed_times}
+use Rattle.asl_rules.specs.Plans.{Stuck, WrongKind, Good, Bad}
+use Rattle.asl_rules.specs.Structures as structures
+use Rattle.asl_syn.specs.declared.token.Span.{Span}
+use Rattle.asl_tree.specs.TypedMeaning.{BareCore, set_at, pushed, pushed_times, pushed_each}
+use Rattle.asl_value.specs.View as view
 use Rattle.asl_value.specs.declared.value.Value.{Value}
 use Rattle.asl_value.specs.View.{value_of}
 
@@ -40,3 +44,45 @@ pushed_more (suc n) x c h = ap (λ k. pushed_times k x (pushed x c)) one
 pub pushed_none : (n : ℕ) (x : rules.Value) (c : BareCore) → n ≤ 0 → pushed_times n x c ≡ c
 pushed_none zero x c h = refl
 pushed_none (suc n) x c h = absurd (omega (arith, h))
+
+-- ---- parts of tuples
+
+pub parts_back : (xs : List rules.Value) → structures.values_in (view.values_of xs) ≡ xs
+parts_back [] = refl
+parts_back (x ∷ xs) = ap (λ ys. x ∷ ys) (parts_back xs)
+
+-- the part in front is taken, or isn't
+pub part_taken : (span : Span) (bs : List Bool) (xs : List Value) (i : ℕ) (x : Value) (c : BareCore) → i < length bs → i < length xs → get_or bs i false ≡ true → x ≡ get_or xs i x →
+    pushed_each span (drop i bs) (map value_of (drop i xs)) c ≡ pushed_each span (drop (i + 1) bs) (map value_of (drop (i + 1) xs)) (pushed (value_of x) c)
+part_taken span [] xs i x c p q t e = absurd (omega (arith, p))
+part_taken span (b ∷ bs) [] i x c p q t e = absurd (omega (arith, q))
+part_taken span (true ∷ bs) (y ∷ xs) zero x c p q t e = ap (λ z. pushed_each span bs (map value_of xs) (pushed (value_of z) c)) (sym e)
+part_taken span (false ∷ bs) (y ∷ xs) zero x c p q t e = cc
+part_taken span (b ∷ bs) (y ∷ xs) (suc i) x c p q t e = part_taken span bs xs i x c (omega (arith, p)) (omega (arith, q)) t e
+
+pub part_left : (span : Span) (bs : List Bool) (xs : List Value) (i : ℕ) (c : BareCore) → i < length bs → i < length xs → get_or bs i false ≡ false →
+    pushed_each span (drop i bs) (map value_of (drop i xs)) c ≡ pushed_each span (drop (i + 1) bs) (map value_of (drop (i + 1) xs)) c
+part_left span [] xs i c p q t = absurd (omega (arith, p))
+part_left span (b ∷ bs) [] i c p q t = absurd (omega (arith, q))
+part_left span (true ∷ bs) (y ∷ xs) zero c p q t = cc
+part_left span (false ∷ bs) (y ∷ xs) zero c p q t = refl
+part_left span (b ∷ bs) (y ∷ xs) (suc i) c p q t = part_left span bs xs i c (omega (arith, p)) (omega (arith, q)) t
+
+-- no part is left
+pub parts_ended : (span : Span) (bs : List Bool) (xs : List Value) (i : ℕ) (c : BareCore) → length bs ≤ i → length xs ≤ i → pushed_each span (drop i bs) (map value_of (drop i xs)) c ≡ Good c
+parts_ended span [] [] zero c p q = refl
+parts_ended span [] [] (suc i) c p q = refl
+parts_ended span (b ∷ bs) xs zero c p q = absurd (omega (arith, p))
+parts_ended span [] (x ∷ xs) zero c p q = absurd (omega (arith, q))
+parts_ended span [] (x ∷ xs) (suc i) c p q = parts_ended span [] xs i c (omega arith) (omega (arith, q))
+parts_ended span (b ∷ bs) [] (suc i) c p q = parts_ended span bs [] i c (omega (arith, p)) (omega arith)
+parts_ended span (b ∷ bs) (x ∷ xs) (suc i) c p q = parts_ended span bs xs i c (omega (arith, p)) (omega (arith, q))
+
+-- they aren't as many
+pub parts_uneven : (span : Span) (bs : List Bool) (xs : List rules.Value) (c : BareCore) → length bs ≢ length xs → pushed_each span bs xs c ≡ Bad (Stuck WrongKind span)
+parts_uneven span [] [] c h = absurd (h refl)
+parts_uneven span [] (x ∷ xs) c h = refl
+parts_uneven span (true ∷ bs) [] c h = refl
+parts_uneven span (false ∷ bs) [] c h = refl
+parts_uneven span (true ∷ bs) (x ∷ xs) c h = parts_uneven span bs xs (pushed x c) (λ e. h (omega (arith, e)))
+parts_uneven span (false ∷ bs) (x ∷ xs) c h = parts_uneven span bs xs c (λ e. h (omega (arith, e)))

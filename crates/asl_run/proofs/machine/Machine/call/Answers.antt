@@ -1,5 +1,5 @@
 use Rattle.std.proofs.Common.{sym, ◌∙◌}
-use Rattle.asl_value.specs.View.{bindings_of}
+use Rattle.asl_types.specs.Bindings.{bindings_of}
 use Rattle.asl_run.specs.Work.{HoldStorage}
 use Rattle.asl_run.proofs.Runs.{ready_held}
 use Rattle.asl_run.proofs.machine.Machine.call.Goals as goal
