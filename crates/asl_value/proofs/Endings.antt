@@ -31,8 +31,8 @@ open_then before (x ∷ xs) ys = open_then (not (x == 10)) xs ys
 pub open_named : (name t : List ℕ) (before : Bool) → open_after before (name ++ (123 ∷ (t ++ 125 ∷ []))) ≡ true
 open_named name t before = sym (open_then before name (123 ∷ (t ++ 125 ∷ []))) ∙ open_last t 125 true
 
-pub open_between : (first last : ℕ) (t : List ℕ) (before : Bool) → (last == 10) ≡ false → open_after before (first ∷ (t ++ last ∷ [])) ≡ true
-open_between first last t before h = open_last t last (not (first == 10)) ∙ ap not h
+pub open_between : (first last : ℕ) (t : List ℕ) (before : Bool) → open_after before (first ∷ (t ++ last ∷ [])) ≡ not (last == 10)
+open_between first last t before = open_last t last (not (first == 10))
 
 -- ---- whether there is any text
 
