@@ -1,5 +1,5 @@
 -- A part of a plan, and what goes on behind it: the whole gives what goes on gives where the part is done.
-use Rattle.std.proofs.Common.{◌≡◌, ℕ, ◌⊎◌, inl, inr, List, [], ◌∷◌, ◌++◌, Result, Err, refl, sym, ap, ◌∙◌, subst}
+use Rattle.std.proofs.Common.{◌≡◌, ℕ, ◌⊎◌, inl, inr, List, [], ◌∷◌, ◌++◌, Result, Ok, Err, refl, sym, ap, ◌∙◌, subst}
 use Rattle.asl_syn.specs.declared.token.Span.{Span}
 use Rattle.asl_rules.specs.Cuts.{Cutting, rest, within, cuts}
 use Rattle.asl_rules.specs.Plans.{Meter, Faulted, Stuck, Outcome, Done, Thrown, Halt, Ret, Eval, Stop, Pure, Good, Bad, lift, Meaning, handle, run, ◌>>=◌}
@@ -24,6 +24,18 @@ pub record Goes {A B : Type 0} (fs : List TypedFunc) (d : ℕ) (g : DoesBare A) 
   pub same : (h : Meter) → run (typed_meaning fs d) f h ≡ run (typed_meaning fs d) g h >>= λ x c1 h1. run (typed_meaning fs d) (k x c1) h1
   pub cut : (h u : Meter) → cuts (typed_meaning fs d) (typed_cutting fs d) g h u → cuts (typed_meaning fs d) (typed_cutting fs d) f h u
   pub later : (h u : Meter) (x : A) (c1 : BareCore) (h1 : Meter) → run (typed_meaning fs d) g h ≡ Done x c1 h1 → cuts (typed_meaning fs d) (typed_cutting fs d) (k x c1) h1 u → cuts (typed_meaning fs d) (typed_cutting fs d) f h u
+
+-- ---- what is left
+
+-- an answer of what is left is one of the whole
+pub meets_left : {A B : Type 0} (w : A → B) (fs : List TypedFunc) (d : ℕ) (p q : DoesBare B) (h0 h : Meter) → Left fs d p h q h0 → (r : Result A Stopped) (c1 : BareCore) (h1 : Meter) →
+    Meets w r c1 h1 (run (typed_meaning fs d) p h) (cuts (typed_meaning fs d) (typed_cutting fs d) p h) → Meets w r c1 h1 (run (typed_meaning fs d) q h0) (cuts (typed_meaning fs d) (typed_cutting fs d) q h0)
+meets_left w fs d p q h0 h l (Ok x) c1 h1 m = sym l.same ∙ m
+meets_left w fs d p q h0 h l (Err stop.NoMemory) c1 h1 m = l.given_up h1 m
+meets_left w fs d p q h0 h l (Err stop.SinkFault) c1 h1 m = l.given_up h1 m
+meets_left w fs d p q h0 h l (Err (stop.Thrown x)) c1 h1 m = sym l.same ∙ m
+meets_left w fs d p q h0 h l (Err (stop.Fault code span)) c1 h1 m = sym l.same ∙ m
+meets_left w fs d p q h0 h l (Err (stop.Stuck mistake span)) c1 h1 m = sym l.same ∙ m
 
 -- ---- what follows from it
 

@@ -63,7 +63,14 @@ fn store_one<K: Sink>(
 {
     let part = part_in(target.span, target.way.as_slice(), value)?;
     let steps = eval_steps(alloc, funcs, places, sink, depth, target.steps.as_slice())?;
-    assign_at(alloc, places, target.span, target.slot, steps.as_slice(), part)
+    assign_at(
+        alloc,
+        places,
+        target.span,
+        target.slot,
+        steps.as_slice(),
+        part,
+    )
 }
 
 /// Places in turn.

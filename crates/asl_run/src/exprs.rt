@@ -21,7 +21,8 @@ use asl_syn::token::Span;
 use asl_syn::tree::{BinaryOperator, UnaryOperator};
 use asl_tree::typed::{TypedExpr, TypedFunc};
 use asl_value::{
-    GivenField, Name, Shell, Value, binary, construct, element_of, field_in, literal, truth, tuple, unary,
+    GivenField, Name, Shell, Value, binary, construct, element_of, field_in, literal, truth, tuple,
+    unary,
 };
 use sqlite_items::Items;
 use std::alloc::Global;
@@ -172,17 +173,17 @@ fn eval_binary<K: Sink>(
     depth: u32,
     span: Span,
     operator: BinaryOperator,
-    a: &TypedExpr,
-    b: &TypedExpr,
+    left: &TypedExpr,
+    right: &TypedExpr,
 ) -> Result<Value, Stop>
     ensures meets { Runs value_of result funcs.now depth
-        (λ c. Eval a.now c (λ x c1. rules.behind_left span operator b.now x (operators.strictness operator) c1))
+        (λ c. Eval left.now c (λ x c1. rules.behind_left span operator right.now x (operators.strictness operator) c1))
         places.old (K.written sink.old) places.new (K.written sink.new) }
     ensures counts { Counts result (K.faults sink.old) (K.faults sink.new) }
     ensures same_full { K.full sink.new ≡ K.full sink.old }
 {
-    let x = eval(alloc, funcs, places, sink, depth, a)?;
-    eval_behind(alloc, funcs, places, sink, depth, span, operator, &x, b)
+    let x = eval(alloc, funcs, places, sink, depth, left)?;
+    eval_behind(alloc, funcs, places, sink, depth, span, operator, &x, right)
 }
 
 /// What an operator does behind its left operand: `&&`, `||` and `-->` may be decided by it.
@@ -266,7 +267,7 @@ fn eval_conditional<K: Sink>(
 ) -> Result<Value, Stop>
     ensures meets { Runs value_of result funcs.now depth
         (λ c. Eval e.now c (λ x c1. lift (operators.truth span x) c1
-            (λ p. choose p (Eval a.now c1 (λ y c2. Ret y c2)) (Eval b.now c1 (λ y c2. Ret y c2)))))
+        (λ p. choose p (Eval a.now c1 (λ y c2. Ret y c2)) (Eval b.now c1 (λ y c2. Ret y c2)))))
         places.old (K.written sink.old) places.new (K.written sink.new) }
     ensures counts { Counts result (K.faults sink.old) (K.faults sink.new) }
     ensures same_full { K.full sink.new ≡ K.full sink.old }
@@ -336,7 +337,7 @@ fn eval_construct<K: Sink>(
 ) -> Result<Value, Stop>
     ensures meets { Runs value_of result funcs.now depth
         (λ c. rules.eval_all es.now [] c
-            (λ xs c1. lift (parts.constructed span (shell_of shell.now) (all_given fields.now) xs) c1 (rules.give c1)))
+        (λ xs c1. lift (parts.constructed span (shell_of shell.now) (all_given fields.now) xs) c1 (rules.give c1)))
         places.old (K.written sink.old) places.new (K.written sink.new) }
     ensures counts { Counts result (K.faults sink.old) (K.faults sink.new) }
     ensures same_full { K.full sink.new ≡ K.full sink.old }

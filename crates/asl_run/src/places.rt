@@ -118,10 +118,15 @@ pub fn assign_at(
     ensures none_refused { NoneRefused result }
 {
     match slot {
-        Slot::Local(i) => store_in(alloc, &mut places.frame, span, i, steps, value)?,
-        Slot::Global(i) => store_in(alloc, &mut places.globals, span, i, steps, value)?,
+        Slot::Local(i) => {
+            store_in(alloc, &mut places.frame, span, i, steps, value)?;
+            Ok(Exit::Normal)
+        }
+        Slot::Global(i) => {
+            store_in(alloc, &mut places.globals, span, i, steps, value)?;
+            Ok(Exit::Normal)
+        }
     }
-    Ok(Exit::Normal)
 }
 
 // ---- declaring
@@ -202,12 +207,7 @@ fn declare_parts(
 }
 
 /// Declares what is taken of a value, each in the next place of the frame.
-pub fn declare(
-    places: &mut Places,
-    span: Span,
-    binds: &Binds,
-    value: Value,
-) -> Result<Exit, Stop>
+pub fn declare(places: &mut Places, span: Span, binds: &Binds, value: Value) -> Result<Exit, Stop>
     ensures acts { Acts result
         (λ c. lift (rules.taken span binds.now (value_of value) c) c (λ c1. Ret Normal c1))
         places.old places.new }

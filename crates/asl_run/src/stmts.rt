@@ -19,9 +19,7 @@ use asl_io::Sink;
 use asl_syn::code::DynCode;
 use asl_syn::token::Span;
 use asl_syn::tree::PrintKind;
-use asl_tree::typed::{
-    Binds, TypedBranch, TypedExpr, TypedFunc, TypedItem, TypedPlace, TypedStmt,
-};
+use asl_tree::typed::{Binds, TypedBranch, TypedExpr, TypedFunc, TypedItem, TypedPlace, TypedStmt};
 use asl_value::{Value, truth};
 use std::alloc::Global;
 
