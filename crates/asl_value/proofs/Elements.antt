@@ -34,7 +34,7 @@ value_there [] i x h e = absurd (omega (arith, h))
 value_there (y ∷ xs) zero x h e = ap (λ z. Some (value_of z)) (sym e)
 value_there (y ∷ xs) (suc i) x h e = value_there xs i x (omega (arith, h)) e
 
-value_past : (xs : List Value) (i : ℕ) → length xs ≤ i → value_at i (all_values xs) ≡ None
+pub value_past : (xs : List Value) (i : ℕ) → length xs ≤ i → value_at i (all_values xs) ≡ None
 value_past [] i h = refl
 value_past (x ∷ xs) zero h = absurd (omega (arith, h))
 value_past (x ∷ xs) (suc i) h = value_past xs i (omega (arith, h))

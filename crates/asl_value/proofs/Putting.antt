@@ -13,6 +13,7 @@ use Rattle.asl_value.specs.declared.value.FieldValue.{FieldValue}
 use Rattle.asl_value.specs.Places.{Step, field_at, with_field_at, updated}
 use Rattle.asl_value.specs.Reaching.{index_in, put_into_fields, put_into_elements}
 use Rattle.asl_value.specs.View.{value_of, field_of, all_values, all_fields}
+use Rattle.asl_value.proofs.Elements.{value_past}
 
 -- ---- lists with another item
 
@@ -61,17 +62,19 @@ fields_put span i ss y s q r xs ys zs at done out back =
     ap (λ p. p >>= λ b. there span (with_field_at i b xs)) done ∙
     ap (there span) (sym (fields_twice i s r xs) ∙ ap (λ o. then o (with_field_at i r)) out ∙ back)
 
-pub values_put : (span : Span) (i : ℕ) (ss : List Step) (y q : rules.Value) (a b : Value) (xs ys zs : List Value) → inside span (value_at i (all_values xs)) ≡ Good q → updated ss y q ≡ Good (value_of b) → i < length xs → ys ≡ slice_set xs i a → i < length ys → zs ≡ slice_set ys i b
+set_length : (xs : List Value) (i : ℕ) (y : Value) → length (slice_set xs i y) ≡ length xs
+set_length [] i y = refl
+set_length (x ∷ xs) zero y = refl
+set_length (x ∷ xs) (suc i) y = ap suc (set_length xs i y)
+
+pub values_put : (span : Span) (i : ℕ) (ss : List Step) (y q : rules.Value) (a b : Value) (xs ys zs : List Value) → inside span (value_at i (all_values xs)) ≡ Good q → updated ss y q ≡ Good (value_of b) → i < length xs → ys ≡ slice_set xs i a → zs ≡ slice_set ys i b
     → put_into_elements span (pos i) ss y (all_values xs) ≡ Good (all_values zs)
-values_put span i ss y q a b xs ys zs at done within out still back =
+values_put span i ss y q a b xs ys zs at done within out back =
+    let same : length ys ≡ length xs = ap (λ l. length l) out ∙ set_length xs i a in
+    let still : i < length ys = omega arith in
     ap (λ p. p >>= λ u. updated ss y u >>= λ v. inside span (with_value_at i v (all_values xs))) at ∙
     ap (λ p. p >>= λ v. inside span (with_value_at i v (all_values xs))) done ∙
     ap (inside span) (sym (values_twice i (value_of a) (value_of b) (all_values xs)) ∙ ap (λ o. then o (with_value_at i (value_of b))) (value_set xs ys i a within out) ∙ value_set ys zs i b still back)
-
-value_past : (xs : List Value) (i : ℕ) → length xs ≤ i → value_at i (all_values xs) ≡ None
-value_past [] i h = refl
-value_past (x ∷ xs) zero h = absurd (omega (arith, h))
-value_past (x ∷ xs) (suc i) h = value_past xs i (omega (arith, h))
 
 pub elements_none : (span : Span) (z : ℤ) (ss : List Step) (y : rules.Value) (xs : List Value) → index_in z (length xs) ≡ None → put_into_elements span z ss y (all_values xs) ≡ Bad (Faulted D06 span)
 elements_none span (negsuc k) ss y xs h = refl

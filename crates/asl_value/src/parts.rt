@@ -49,12 +49,7 @@ pub fn element_of(span: Span, array: &Value, index: &Value) -> Result<Value, Fai
 
 /// The element at an index of an array with elements of this kind: D06 where there is none.
 #[tactic(auto, using(crate::proofs::Elements::element_there, crate::proofs::Elements::element_none))]
-fn element_at(
-    span: Span,
-    kind: &Kind,
-    elements: &[Value],
-    index: i128,
-) -> Result<Value, Failure>
+fn element_at(span: Span, kind: &Kind, elements: &[Value], index: i128) -> Result<Value, Failure>
     ensures { Is value_of result
         (rules.element_of span (array_with (kind_of kind.now) (all_values elements.now)) (int index)) }
 {
