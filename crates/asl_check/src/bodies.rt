@@ -4,11 +4,10 @@ ghost use Rattle.std.specs.Prelude.{◌≡◌, map, OnOk, IfOk};
 ghost use Rattle.std.specs.Option.{option_map};
 ghost use Rattle.asl_tree.specs.Elaboration.{elaborated_func, has_result};
 ghost use Rattle.asl_rules.specs.Programs as rules;
-ghost use Rattle.asl_check.specs.Answers.{Met};
+ghost use Rattle.asl_types.specs.Answers.{Met};
 ghost use Rattle.asl_check.specs.Layouts.{layout_of};
 ghost use Rattle.asl_check.specs.Views.{type_of};
 
-use crate::answer::fault;
 use crate::body::Body;
 use crate::falls::falls_through;
 use crate::signatures::result_type;
@@ -19,6 +18,7 @@ use asl_rules::effect::Effect;
 use asl_syn::code::{Refused, StaticCode};
 use asl_syn::tree::{Decl, Func, Qualifier};
 use asl_tree::typed::TypedFunc;
+use asl_types::answer::fault;
 use std::alloc::Global;
 
 /// The greatest effect that is allowed in a body.

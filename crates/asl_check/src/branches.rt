@@ -2,11 +2,10 @@
 
 ghost use Rattle.std.specs.Prelude.{◌≡◌};
 ghost use Rattle.asl_rules.specs.Effects as effects;
-ghost use Rattle.asl_check.specs.Answers.{Agrees};
+ghost use Rattle.asl_types.specs.Answers.{Agrees};
 ghost use Rattle.asl_check.specs.Views.{typed_of};
 ghost use Rattle.asl_check.specs.Walks as walks;
 
-use crate::answer::fault;
 use crate::effects::greater;
 use crate::exprs::place;
 use crate::steps::ended;
@@ -15,6 +14,7 @@ use asl_rules::effect::Effect;
 use asl_syn::code::{Refused, StaticCode};
 use asl_syn::token::Span;
 use asl_syn::tree::Expr;
+use asl_types::answer::fault;
 
 /// What is known after some branches: the place of the first condition that is no boolean, and the greatest effect.
 #[derive(Clone, Copy)]

@@ -6,12 +6,11 @@ ghost use Rattle.asl_tree.specs.declared.typed.TypedExpr.TheVariants as tree;
 ghost use Rattle.asl_tree.specs.Elaboration.{elaborated, slot_of, ty_of};
 ghost use Rattle.asl_rules.specs.Evaluation.{written_layer};
 ghost use Rattle.asl_rules.specs.Exprs as rules;
-ghost use Rattle.asl_check.specs.Answers.{Met};
+ghost use Rattle.asl_types.specs.Answers.{Met};
 ghost use Rattle.asl_check.specs.Layouts.{layout_of};
 ghost use Rattle.asl_check.specs.Views.{type_of, typed_of, scope_of};
 ghost use Rattle.asl_check.specs.Walks as walks;
 
-use crate::answer::fault;
 use crate::body::Body;
 use crate::effects::{at_most, greater, together};
 use crate::types::{Ty, Typed, is_boolean, is_integer, same_kind};
@@ -21,6 +20,7 @@ use asl_syn::code::{Refused, StaticCode};
 use asl_syn::token::Span;
 use asl_syn::tree::{BinaryOperator, Expr, TypeExpr, UnaryOperator};
 use asl_tree::typed::TypedExpr;
+use asl_types::answer::fault;
 use sqlite_items::Boxed;
 use std::alloc::{AllocError, Global};
 

@@ -2,11 +2,10 @@
 
 ghost use Rattle.std.specs.Prelude.{◌≡◌, map, OnOk, IfOk, IfErr};
 ghost use Rattle.asl_rules.specs.Programs as rules;
-ghost use Rattle.asl_check.specs.Answers.{Met, Agrees};
+ghost use Rattle.asl_types.specs.Answers.{Met, Agrees};
 ghost use Rattle.asl_check.specs.Views.{type_of};
 ghost use Rattle.asl_check.specs.Walks as walks;
 
-use crate::answer::fault;
 use crate::body::Body;
 use crate::exprs::{place, type_expr, written};
 use crate::library::LIBRARY;
@@ -15,6 +14,7 @@ use crate::visible::Visible;
 use asl_rules::effect::Effect;
 use asl_syn::code::{Refused, StaticCode};
 use asl_syn::tree::{Decl, StorageDecl, StorageKind};
+use asl_types::answer::fault;
 use std::alloc::Global;
 
 /// The type of global storage: the written one, which the initialiser fits, or else the initialiser's. No name is

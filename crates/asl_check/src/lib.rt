@@ -1,7 +1,6 @@
 //! The checker: a program is well formed with the entry that is asked for, or has its one fault.
 #![tactic(auto)]
 
-mod answer;
 mod bodies;
 mod body;
 mod branches;

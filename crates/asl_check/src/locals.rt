@@ -8,11 +8,10 @@ ghost use Rattle.asl_tree.specs.Elaboration.{elaborated, ty_of};
 ghost use Rattle.asl_rules.specs.Evaluation.{written_layer};
 ghost use Rattle.asl_rules.specs.Stmts as rules;
 ghost use Rattle.asl_rules.specs.Stmts.{done};
-ghost use Rattle.asl_check.specs.Answers.{Met};
+ghost use Rattle.asl_types.specs.Answers.{Met};
 ghost use Rattle.asl_check.specs.Layouts.{layout_of};
 ghost use Rattle.asl_check.specs.Views.{type_of, typed_of, scope_of};
 
-use crate::answer::fault;
 use crate::body::Body;
 use crate::exprs::{type_expr, written};
 use crate::steps::{check_fit, ended};
@@ -23,6 +22,7 @@ use asl_syn::code::{Refused, StaticCode};
 use asl_syn::token::Span;
 use asl_syn::tree::{Bind, Binder, Expr, Ident, LocalKind, TypeExpr};
 use asl_tree::typed::{TypedExpr, TypedStmt};
+use asl_types::answer::fault;
 use std::alloc::Global;
 
 /// An initialiser with the type that its declaration gives and its effect: it fits the written type.

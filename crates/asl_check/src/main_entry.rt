@@ -2,14 +2,14 @@
 
 ghost use Rattle.std.specs.Prelude.{◌≡◌};
 ghost use Rattle.asl_rules.specs.Programs as rules;
-ghost use Rattle.asl_check.specs.Answers.{Agrees};
+ghost use Rattle.asl_types.specs.Answers.{Agrees};
 
-use crate::answer::fault;
 use asl_rules::entry::Entry;
 use asl_syn::code::{Refused, StaticCode};
 use asl_syn::token::Span;
 use asl_syn::tree::{Decl, Func, TypeExpr};
 use asl_tree::SubId;
+use asl_types::answer::fault;
 
 /// The beginning of the first file.
 fn origin() -> Span

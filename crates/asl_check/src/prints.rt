@@ -5,7 +5,7 @@ ghost use Rattle.asl_tree.specs.declared.typed.TypedStmt.TheVariants as tree;
 ghost use Rattle.asl_tree.specs.Elaboration.{items_of};
 ghost use Rattle.asl_rules.specs.declared.effect.Effect.TheVariants.{Pure};
 ghost use Rattle.asl_rules.specs.Stmts.{done};
-ghost use Rattle.asl_check.specs.Answers.{Met};
+ghost use Rattle.asl_types.specs.Answers.{Met};
 ghost use Rattle.asl_check.specs.Layouts.{layout_of};
 ghost use Rattle.asl_check.specs.Views.{scope_of};
 ghost use Rattle.asl_check.specs.Walks as walks;

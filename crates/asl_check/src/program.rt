@@ -4,7 +4,7 @@ ghost use Rattle.std.specs.Prelude.{◌≡◌, None, IfOk};
 ghost use Rattle.asl_rules.specs.Served.{unserved_decls};
 ghost use Rattle.asl_rules.specs.Programs as rules;
 ghost use Rattle.asl_tree.specs.Accepted.{IsElaborated};
-ghost use Rattle.asl_check.specs.Answers.{Met};
+ghost use Rattle.asl_types.specs.Answers.{Met};
 ghost use Rattle.asl_check.specs.Verdicts.{IsVerdict};
 ghost use Rattle.asl_check.specs.Walks.{verdict_walk};
 

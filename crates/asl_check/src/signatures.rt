@@ -2,7 +2,7 @@
 
 ghost use Rattle.std.specs.Option.{option_map};
 ghost use Rattle.asl_rules.specs.Programs as rules;
-ghost use Rattle.asl_check.specs.Answers.{Met, Agrees};
+ghost use Rattle.asl_types.specs.Answers.{Met, Agrees};
 ghost use Rattle.asl_check.specs.Views.{type_of};
 
 use crate::exprs::written;

@@ -7,11 +7,10 @@ ghost use Rattle.asl_tree.specs.declared.typed.TypedStmt.TheVariants as tree;
 ghost use Rattle.asl_tree.specs.Elaboration.{elaborated, elaborated_value, slot_of, target_slot};
 ghost use Rattle.asl_rules.specs.Stmts as rules;
 ghost use Rattle.asl_rules.specs.Stmts.{done};
-ghost use Rattle.asl_check.specs.Answers.{Met};
+ghost use Rattle.asl_types.specs.Answers.{Met};
 ghost use Rattle.asl_check.specs.Layouts.{layout_of};
 ghost use Rattle.asl_check.specs.Views.{type_of, scope_of};
 
-use crate::answer::fault;
 use crate::body::Body;
 use crate::effects::{greater, lesser};
 use crate::exprs::{place, type_expr};
@@ -23,6 +22,7 @@ use asl_syn::code::{Refused, StaticCode};
 use asl_syn::token::Span;
 use asl_syn::tree::{Expr, Ident, Target};
 use asl_tree::typed::TypedStmt;
+use asl_types::answer::fault;
 use std::alloc::Global;
 
 /// `assert`: a boolean that at most reads.

@@ -3,11 +3,10 @@
 ghost use Rattle.std.specs.Prelude.{◌≡◌, IfOk};
 ghost use Rattle.asl_tree.specs.Elaboration.{elaborated};
 ghost use Rattle.asl_rules.specs.Stmts as rules;
-ghost use Rattle.asl_check.specs.Answers.{Met, Agrees};
+ghost use Rattle.asl_types.specs.Answers.{Met, Agrees};
 ghost use Rattle.asl_check.specs.Layouts.{layout_of};
 ghost use Rattle.asl_check.specs.Views.{type_of, scope_of};
 
-use crate::answer::fault;
 use crate::body::Body;
 use crate::effects::at_most;
 use crate::exprs::{place, type_expr};
@@ -18,6 +17,7 @@ use asl_syn::code::{Refused, StaticCode};
 use asl_syn::token::Span;
 use asl_syn::tree::Expr;
 use asl_tree::typed::TypedExpr;
+use asl_types::answer::fault;
 use std::alloc::Global;
 
 /// The end of each statement: T13 where its operands may not stand together, then T12 where it passes the class of its

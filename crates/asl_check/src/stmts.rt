@@ -5,12 +5,11 @@ ghost use Rattle.asl_rules.specs.declared.effect.Effect.TheVariants.{Pure};
 ghost use Rattle.asl_tree.specs.Elaboration.{elaborated_stmt, elaborated_branch, trees_of, branches_of};
 ghost use Rattle.asl_rules.specs.Stmts as rules;
 ghost use Rattle.asl_rules.specs.Stmts.{done};
-ghost use Rattle.asl_check.specs.Answers.{Met};
+ghost use Rattle.asl_types.specs.Answers.{Met};
 ghost use Rattle.asl_check.specs.Layouts.{layout_of};
 ghost use Rattle.asl_check.specs.Views.{scope_of};
 ghost use Rattle.asl_check.specs.Walks as walks;
 
-use crate::answer::fault;
 use crate::body::Body;
 use crate::branches::{Branches, after_branch, end_if};
 use crate::effects::greater;
@@ -23,6 +22,7 @@ use asl_rules::effect::Effect;
 use asl_syn::code::{Refused, StaticCode};
 use asl_syn::tree::{ElseIf, Stmt};
 use asl_tree::typed::{TypedBranch, TypedStmt};
+use asl_types::answer::fault;
 use sqlite_items::Items;
 use std::alloc::Global;
 

@@ -42,8 +42,11 @@ fn misfit_inside(ty: &Ty, other: &Ty) -> Option<StaticCode>
         Ty::Array(_, element) => misfit_inside(element.get(), element_of(other)),
         Ty::Named(name, supers, inner) => match other {
             Ty::Named(target, _, _) => {
-                if reaches(name.get().as_slice(), supers.get().as_slice(), target.get().as_slice())
-                {
+                if reaches(
+                    name.get().as_slice(),
+                    supers.get().as_slice(),
+                    target.get().as_slice(),
+                ) {
                     None
                 } else {
                     Some(StaticCode::T05)

@@ -16,3 +16,6 @@ mod ty;
 pub use binding::{Binding, Under};
 pub use slot::Slot;
 pub use ty::{FieldType, Ty};
+
+#[cfg(test)]
+mod tests;

@@ -1,5 +1,5 @@
 use Rattle.std.proofs.Common.{sym, subst}
-use Rattle.asl_check.specs.Answers.{Met}
+use Rattle.asl_types.specs.Answers.{Met}
 use Rattle.asl_check.proofs.GlobalWalks.{verdict_is}
 use Rattle.asl_check.proofs.program.verdict.Goals as goal
 

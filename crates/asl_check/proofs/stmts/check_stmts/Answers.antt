@@ -1,7 +1,7 @@
 use Rattle.std.proofs.Common.{sym, subst}
 use Rattle.asl_rules.specs.declared.effect.Effect.TheVariants.{Pure}
 use Rattle.asl_rules.specs.Stmts.{done}
-use Rattle.asl_check.specs.Answers.{Met}
+use Rattle.asl_types.specs.Answers.{Met}
 use Rattle.asl_check.specs.Views.{scope_of}
 use Rattle.asl_check.proofs.StmtWalks.{list_is}
 use Rattle.asl_check.proofs.stmts.check_stmts.Goals as goal
