@@ -83,7 +83,7 @@ module _ (base : List Entry) (w : WellNamed base) where
   core_bind T P (Bad (Faulted code span)) f g next = tt
   core_bind T P (Bad (Stuck mistake span)) f g next = absurd g
 
-  store_at_gives : (G : Scope) (c : Core) (span : Span) (name : List ℕ) (ss : List Step) (y : Value) (s : Storage) (U : Ty) → Agrees base G.names c → standing_of name G.names ≡ Some (Stored s) → s.is_mutable ≡ true → Leads (types_in base) ss s.ty U → InType (types_in base) y U →
+  pub store_at_gives : (G : Scope) (c : Core) (span : Span) (name : List ℕ) (ss : List Step) (y : Value) (s : Storage) (U : Ty) → Agrees base G.names c → standing_of name G.names ≡ Some (Stored s) → s.is_mutable ≡ true → Leads (types_in base) ss s.ty U → InType (types_in base) y U →
       CoreGives (Agrees base G.names) (store_at span name ss y c)
   store_at_gives G c span name ss y s U a h m l i =
       core_bind s.ty (Agrees base G.names) (held span name c) (λ x. pure.◌>>=◌ (updated ss y x) (λ z. store span name z c)) (knows_gives base s (held span name c) (held_value base G.names c span name s a h)) (λ x j.
@@ -149,7 +149,7 @@ module _ (base : List Entry) (w : WellNamed base) where
       (store_at_gives G c1 p.name.span p.name.text ss p.value t.0.storage t.0.ty a1 t.0.stands t.0.is_mutable l t.0.fits)
       (λ c2 a2. store_each_safe G Q ps c2 t.1 a2 end))
 
-  abbrev AssignsTo : Scope → PureOf (List Assigned) → Type 0
+  abbrev pub AssignsTo : Scope → PureOf (List Assigned) → Type 0
   AssignsTo G (Good ps) = AllTake G ps
   AssignsTo G (Bad e) = ⊥
 
@@ -170,7 +170,7 @@ module _ (base : List Entry) (w : WellNamed base) where
 
   -- ---- targets
 
-  abbrev TargetGood : Target → Type 0
+  abbrev pub TargetGood : Target → Type 0
   TargetGood t = (G : Scope) (S : Ty) (x : Value) (at span : Span) → GoodNames (types_in base) G.names → WellFormed (types_in base) S → InType (types_in base) x S → (found_target t).fits S at G ≡ Ok tt → (found_target t).counts S ≡ true → AssignsTo G (assigned t span x)
 
   abbrev Below : Type 0
@@ -238,7 +238,7 @@ module _ (base : List Entry) (w : WellNamed base) where
       (ap (λ z. (target_layer (map-Target Target FoundTarget found_target z)).fits S at G) is ∙ sym (ap (λ (z : FoundTarget). z.fits S at G) e) ∙ h)
       (ap (λ z. (target_layer (map-Target Target FoundTarget found_target z)).counts S) is ∙ sym (ap (λ (z : FoundTarget). z.counts S) e) ∙ n)))
 
-  target_good : (t : Target) → TargetGood t
+  pub target_good : (t : Target) → TargetGood t
   target_good = ind-Target TargetGood target_step
 
   lift_places : (Q : Exit → Core → Type 0) (G : Scope) (r : PureOf (List Assigned)) (c : Core) (k : List Assigned → Does Exit) → AssignsTo G r → ((ps : List Assigned) → AllTake G ps → Safe (our_claims base) Q (Thrown_in base) (k ps)) → Safe (our_claims base) Q (Thrown_in base) (lift {E = Expr} {S = Stmt} r c k)

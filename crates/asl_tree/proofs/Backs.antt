@@ -1,5 +1,5 @@
 -- The values of the code and those of the rules that they stand for are one to one.
-use Rattle.std.proofs.Common.{◌≡◌, ℕ, List, [], ◌∷◌, refl, sym, ap, ◌∙◌, subst, map}
+use Rattle.std.proofs.Common.{◌≡◌, List, [], ◌∷◌, refl, ap, ◌∙◌, subst, map}
 use Rattle.asl_value.specs.declared.value.Kind.{Kind, roll-Kind}
 use Rattle.asl_value.specs.declared.value.Kind.TheOpen as k
 use Rattle.asl_value.specs.declared.value.Kind.TheFolds.{fold-roll-Kind, map-Kind, ind-Kind}

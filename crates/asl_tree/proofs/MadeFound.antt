@@ -1,5 +1,5 @@
 -- What is made of a tree holds what the rules find at it.
-use Rattle.std.proofs.Common.{◌≡◌, ℕ, List, [], ◌∷◌, ◌++◌, refl, sym, ap, ◌∙◌, subst, map}
+use Rattle.std.proofs.Common.{◌≡◌, List, [], ◌∷◌, refl, sym, ap, ◌∙◌, subst, map}
 use Rattle.asl_syn.specs.declared.tree.Bitfield.{Bitfield}
 use Rattle.asl_syn.specs.declared.tree.ConstraintPart.{ConstraintPart}
 use Rattle.asl_syn.specs.declared.tree.Expr.{Expr, out-Expr, roll-Expr}
@@ -7,20 +7,15 @@ use Rattle.asl_syn.specs.declared.tree.FieldValue.{FieldValue, out-FieldValue, r
 use Rattle.asl_syn.specs.declared.tree.Pattern.{Pattern}
 use Rattle.asl_syn.specs.declared.tree.Slice.{Slice}
 use Rattle.asl_syn.specs.declared.tree.TypeExpr.{TypeExpr, roll-TypeExpr}
-use Rattle.asl_syn.specs.declared.tree.Ident.{Ident}
 use Rattle.asl_syn.specs.declared.tree.Bitfield.TheOpen as ex
-use Rattle.asl_syn.specs.declared.tree.Bitfield.TheFolds.{fold-roll-Expr, fold-roll-FieldValue, fold-roll-TypeExpr, fold_out-Expr, fold_out-FieldValue, map-Expr, map-FieldValue, map-TypeExpr, ind-Expr, ind-FieldValue, ind-TypeExpr}
+use Rattle.asl_syn.specs.declared.tree.Bitfield.TheFolds.{fold-roll-Expr, fold-roll-FieldValue, fold-roll-TypeExpr, fold_out-Expr, fold_out-FieldValue, map-Expr, map-FieldValue, map-TypeExpr, ind-Expr}
 use Rattle.asl_syn.specs.Layers.{ExprLayer, TypeLayer}
-use Rattle.asl_tree.specs.declared.typed.TypedExpr.{TypedExpr, out-TypedExpr, out-roll-TypedExpr}
+use Rattle.asl_tree.specs.declared.typed.TypedExpr.{out-TypedExpr, out-roll-TypedExpr}
 use Rattle.asl_rules.specs.Scopes.{Scope}
 use Rattle.asl_rules.specs.Exprs.{Found, FoundField, FoundType, Unread, found, found_type, expr_rule, given_rule, type_rule}
 use Rattle.asl_rules.specs.Evaluation.{given_layer}
 use Rattle.asl_tree.specs.Elaboration.{Made, MadeField, MadeType, MadeOf, TypeOf, typed_layer, found_of, field_found, type_found, found_in, found_in_type, made_rule, made_field_rule, made_type_rule, made, made_field, made_type, elaborated}
 use Rattle.asl_rules.proofs.WellTyped.{found_field, opened, field_opened, type_opened}
-use Rattle.asl_rules.proofs.ConstructForms.{field_is}
-
-FieldLayer : Type 0
-FieldLayer = ex.FieldValue-F Bitfield ConstraintPart Expr FieldValue Pattern Slice TypeExpr
 
 -- ---- one layer of a tree, with what is made of its parts
 

@@ -1,5 +1,5 @@
 -- The values of the code that stand for those of the rules: the way back from the views.
-use Rattle.std.specs.Prelude.{ℕ, List, [], ◌∷◌}
+use Rattle.std.specs.Prelude.{List, [], ◌∷◌}
 use Rattle.asl_value.specs.declared.value.Kind.{Kind, roll-Kind}
 use Rattle.asl_value.specs.declared.value.Kind.TheOpen as k
 use Rattle.asl_value.specs.declared.value.Value.{Value, roll-Value}

@@ -6,7 +6,7 @@ use Rattle.asl_syn.specs.declared.token.Span.{Span}
 use Rattle.asl_syn.specs.declared.code.Fault.{Fault}
 use Rattle.asl_syn.specs.declared.tree.Expr.{Expr}
 use Rattle.asl_syn.specs.declared.tree.Bitfield.TheOpen as ex
-use Rattle.asl_syn.specs.declared.tree.Bitfield.TheFolds.{fold-Expr, fold-FieldValue, fold-TypeExpr, map-Expr, map-FieldValue, map-TypeExpr}
+use Rattle.asl_syn.specs.declared.tree.Bitfield.TheFolds.{fold-Expr, fold-FieldValue, fold-TypeExpr, map-Expr, map-TypeExpr}
 use Rattle.asl_syn.specs.declared.tree.FieldValue.{FieldValue}
 use Rattle.asl_syn.specs.declared.tree.TypeExpr.{TypeExpr}
 use Rattle.asl_syn.specs.declared.tree.Ident.{Ident}
@@ -52,7 +52,7 @@ use Rattle.asl_rules.specs.Effects.{lesser}
 use Rattle.asl_rules.specs.Values as values
 use Rattle.asl_rules.specs.Values.{label, int, initial_value}
 use Rattle.asl_rules.specs.Scopes.{Scope, Entry, Standing, Label, Storage, standing_of, storage_of, type_of_name}
-use Rattle.asl_rules.specs.Exprs.{Typed, Found, FoundField, FoundType, Unread, expr_rule, given_rule, type_rule, fields_of, written}
+use Rattle.asl_rules.specs.Exprs.{Typed, Found, FoundField, FoundType, Unread, expr_rule, type_rule, fields_of, written}
 use Rattle.asl_rules.specs.Stmts.{Done, up_to, with_names, bind_rule, vars_rule, behind_suffix}
 use Rattle.asl_rules.specs.Programs.{result_rule, class_of, origin}
 

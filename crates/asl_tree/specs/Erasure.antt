@@ -46,9 +46,12 @@ abbrev pub HasFormedResult : List Entry → Option Ty → Type 0
 HasFormedResult base None = Unit {0}
 HasFormedResult base (Some T) = WellFormed (types_in base) T
 
--- in states that agree with a scope the typed trees of what the rules accept there do what the untyped trees do, and so do
--- calls from outside: they give the same, with the same state, the same steps and the same text
+-- as a body begins the names are laid out so, and behind each statement of it. In states that agree with such a scope the typed
+-- trees of what the rules accept there do what the untyped trees do, and so do calls from outside: they give the same, with the
+-- same state, the same steps and the same text
 pub record SameMeaning (ds : List Decl) (names : List Entry) (fs : List TypedFunc) : Type 0 where
+  pub begins : LaysOut names names
+  pub goes_on : (s : Stmt) (G : Scope) (e : stmts.Done) → found_stmt s G ≡ Ok e → LaysOut names G.names → LaysOut names e.names
   pub expr : (d : ℕ) (e : Expr) (G : Scope) (S : Typed) (c : Core) (h : Meter) → typed e G ≡ Ok S → Agrees names G.names c → LaysOut names G.names →
       (typed_meaning fs d).expr (elaborated e G) (erased c) h ≡ erased_outcome ((meaning ds d).expr e c h)
   pub stmt : (d : ℕ) (s : Stmt) (G : Scope) (e : stmts.Done) (c : Core) (h : Meter) → found_stmt s G ≡ Ok e → Agrees names G.names c → LaysOut names G.names → HasFormedResult names G.result →

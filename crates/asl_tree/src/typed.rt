@@ -4,10 +4,9 @@
 
 use asl_syn::token::Span;
 use asl_syn::tree::{BinaryOperator, PrintKind, Text, UnaryOperator};
+pub use asl_types::Slot;
 use asl_value::{GivenField, Name, Shell, Value};
 use sqlite_items::{Boxed, Items};
-
-pub use asl_types::Slot;
 
 /// An expression. Each has its span first.
 #[cycle(typed_expressions)]

@@ -1,6 +1,5 @@
-use Rattle.asl_tree.proofs.Backs.{value_same, value_code}
-use Rattle.asl_tree.proofs.MadeFound.{made_found}
+use Rattle.asl_tree.proofs.SameCalls.{typed_trees_same}
 use Rattle.asl_tree.proofs.law.typed_trees.Goals as goal
 
 pub returns : goal.returns
-returns c = ?
+returns c = typed_trees_same
