@@ -4,8 +4,8 @@ use Rattle.std.proofs.lemmas.List.{take-append-drop}
 use Rattle.asl_rules.specs.States as states
 use Rattle.asl_rules.specs.Values as rules
 use Rattle.asl_tree.specs.Erasure.{values_of}
-use Rattle.asl_run.proofs.TypedRuns.{with_values}
-use Rattle.asl_run.proofs.Skeletons.{SameBut}
+use Rattle.asl_tree.proofs.TypedRuns.{with_values}
+use Rattle.asl_tree.proofs.Skeletons.{SameBut}
 use Rattle.asl_types.specs.declared.binding.Binding.{Binding}
 use Rattle.asl_value.specs.declared.value.Value.{Value}
 use Rattle.asl_types.specs.Bindings.{binding_of, bindings_of}

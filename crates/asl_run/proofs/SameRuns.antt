@@ -21,8 +21,8 @@ use Rattle.asl_tree.specs.TypedMeaning.{BareCore, typed_meaning, typed_cutting, 
 use Rattle.asl_tree.specs.Erasure.{values_of, erased_outcome}
 use Rattle.asl_rules.proofs.Inversions.{ok_ok}
 use Rattle.asl_tree.proofs.SameCalls.{typed_trees_same}
-use Rattle.asl_run.proofs.Skeletons.{EndsIn, Kept, AtRest, run_of_keeps, run_of_rests}
-use Rattle.asl_run.proofs.TypedRuns.{with_values, done_same, thrown_same, halt_same, gives_up_same}
+use Rattle.asl_tree.proofs.Skeletons.{EndsIn, Kept, AtRest, run_of_keeps, run_of_rests}
+use Rattle.asl_tree.proofs.TypedRuns.{with_values, done_same, thrown_same, halt_same, gives_up_same}
 use Rattle.asl_types.specs.declared.binding.Binding.{Binding}
 use Rattle.asl_value.specs.declared.value.Value.{Value}
 use Rattle.asl_types.specs.Bindings.{bindings_of}
