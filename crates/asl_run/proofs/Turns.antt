@@ -1,8 +1,7 @@
 -- A part of a plan, and what goes on behind it: the whole gives what goes on gives where the part is done.
 use Rattle.std.proofs.Common.{◌≡◌, ℕ, ◌⊎◌, inl, inr, List, [], ◌∷◌, ◌++◌, Result, Ok, Err, refl, sym, ap, ◌∙◌, subst}
-use Rattle.asl_syn.specs.declared.token.Span.{Span}
-use Rattle.asl_rules.specs.Cuts.{Cutting, rest, within, cuts}
-use Rattle.asl_rules.specs.Plans.{Meter, Faulted, Stuck, Outcome, Done, Thrown, Halt, Ret, Eval, Stop, Pure, Good, Bad, lift, Meaning, handle, run, ◌>>=◌}
+use Rattle.asl_rules.specs.Cuts.{rest, cuts}
+use Rattle.asl_rules.specs.Plans.{Meter, Outcome, Done, Thrown, Halt, Ret, Eval, Pure, Good, Bad, lift, run, ◌>>=◌}
 use Rattle.asl_rules.specs.Values as rules
 use Rattle.asl_rules.specs.Values.{Exit, Normal}
 use Rattle.asl_tree.specs.declared.typed.TypedExpr.{TypedExpr}
@@ -11,13 +10,15 @@ use Rattle.asl_tree.specs.declared.typed.TypedPlace.{TypedPlace}
 use Rattle.asl_tree.specs.declared.typed.TypedStep.{TypedStep}
 use Rattle.asl_tree.specs.declared.typed.TypedStep.TheVariants as step
 use Rattle.asl_tree.specs.TypedMeaning.{BareCore, DoesBare, typed_meaning, typed_cutting, eval_all, eval_steps, put_at, store_each}
+use Rattle.asl_value.specs.declared.failure.Failure.{Failure}
+use Rattle.asl_value.specs.declared.failure.Failure.TheVariants as failure
+use Rattle.asl_value.specs.Answers.{Is}
 use Rattle.asl_value.specs.Places.{Step, into_place, into_element, part_in}
-use Rattle.asl_value.specs.View.{value_of}
 use Rattle.asl_run.specs.declared.stop.Stop.{Stop as Stopped}
 use Rattle.asl_run.specs.declared.stop.Stop.TheVariants as stop
 use Rattle.asl_run.specs.Meets.{Meets, Left}
 use Rattle.asl_run.specs.Stores.{stepped}
-use Rattle.asl_run.specs.View.{mistake_of}
+use Rattle.asl_run.specs.View.{stop_of}
 
 -- a whole is a part, and then what goes on with what the part gives
 pub record Goes {A B : Type 0} (fs : List TypedFunc) (d : ℕ) (g : DoesBare A) (f : DoesBare B) (k : A → BareCore → DoesBare B) : Type 0 where
@@ -36,6 +37,13 @@ meets_left w fs d p q h0 h l (Err stop.SinkFault) c1 h1 m = l.given_up h1 m
 meets_left w fs d p q h0 h l (Err (stop.Thrown x)) c1 h1 m = sym l.same ∙ m
 meets_left w fs d p q h0 h l (Err (stop.Fault code span)) c1 h1 m = sym l.same ∙ m
 meets_left w fs d p q h0 h l (Err (stop.Stuck mistake span)) c1 h1 m = sym l.same ∙ m
+
+-- where an operation on values gives none, the run stops
+pub lift_failed : {A B C D : Type 0} (v : C → D) (w : A → B) (fs : List TypedFunc) (d : ℕ) (f : Failure) (r : Pure D) → Is v (Err f) r → (c : BareCore) (h : Meter) (k : D → DoesBare B) →
+    Meets w (Err (stop_of f)) c h (run (typed_meaning fs d) (lift r c k) h) (cuts (typed_meaning fs d) (typed_cutting fs d) (lift r c k) h)
+lift_failed v w fs d (failure.Fault code span) r e c h k = ap (λ q. run (typed_meaning fs d) (lift q c k) h) e
+lift_failed v w fs d (failure.WrongKind span) r e c h k = ap (λ q. run (typed_meaning fs d) (lift q c k) h) e
+lift_failed v w fs d failure.NoMemory r e c h k = inl refl
 
 -- ---- what follows from it
 
