@@ -9,7 +9,7 @@ use Rattle.asl_rules.specs.Structures as structures
 use Rattle.asl_syn.specs.declared.token.Span.{Span}
 use Rattle.asl_tree.specs.TypedMeaning.{BareCore, set_at, pushed, pushed_times, pushed_each}
 use Rattle.asl_value.specs.View as view
-use Rattle.asl_value.proofs.Among.{none_after}
+use Rattle.asl_value.proofs.Among.{at_front, none_after}
 use Rattle.asl_value.specs.declared.value.Value.{Value}
 use Rattle.asl_value.specs.View.{value_of}
 
@@ -52,34 +52,12 @@ pub parts_back : (xs : List rules.Value) → structures.values_in (view.values_o
 parts_back [] = refl
 parts_back (x ∷ xs) = ap (λ ys. x ∷ ys) (parts_back xs)
 
-taken_now : (span : Span) (bs : List Bool) (xs : List Value) (i : ℕ) (x : Value) (c : BareCore) → i < length bs → i < length xs → get_or bs i false ≡ true → x ≡ get_or xs i x →
-    pushed_each span (drop i bs) (map value_of (drop i xs)) c ≡ pushed_each span (drop (suc i) bs) (map value_of (drop (suc i) xs)) (pushed (value_of x) c)
-taken_now span [] xs i x c p q t e = absurd (omega (arith, p))
-taken_now span (b ∷ bs) [] i x c p q t e = absurd (omega (arith, q))
-taken_now span (true ∷ bs) (y ∷ xs) zero x c p q t e = ap (λ z. pushed_each span bs (map value_of xs) (pushed (value_of z) c)) (sym e)
-taken_now span (false ∷ bs) (y ∷ xs) zero x c p q t e = cc
-taken_now span (b ∷ bs) (y ∷ xs) (suc i) x c p q t e = taken_now span bs xs i x c (omega (arith, p)) (omega (arith, q)) t e
-
-left_now : (span : Span) (bs : List Bool) (xs : List Value) (i : ℕ) (c : BareCore) → i < length bs → i < length xs → get_or bs i false ≡ false →
-    pushed_each span (drop i bs) (map value_of (drop i xs)) c ≡ pushed_each span (drop (suc i) bs) (map value_of (drop (suc i) xs)) c
-left_now span [] xs i c p q t = absurd (omega (arith, p))
-left_now span (b ∷ bs) [] i c p q t = absurd (omega (arith, q))
-left_now span (true ∷ bs) (y ∷ xs) zero c p q t = cc
-left_now span (false ∷ bs) (y ∷ xs) zero c p q t = refl
-left_now span (b ∷ bs) (y ∷ xs) (suc i) c p q t = left_now span bs xs i c (omega (arith, p)) (omega (arith, q)) t
-
--- the part in front is taken, or isn't
-pub part_taken : (span : Span) (bs : List Bool) (xs : List Value) (i : ℕ) (x : Value) (c : BareCore) → i < length bs → i < length xs → get_or bs i false ≡ true → x ≡ get_or xs i x →
-    pushed_each span (drop i bs) (map value_of (drop i xs)) c ≡ pushed_each span (drop (i + 1) bs) (map value_of (drop (i + 1) xs)) (pushed (value_of x) c)
-part_taken span bs xs i x c p q t e =
-    let up : suc i ≡ i + 1 = omega arith in
-    taken_now span bs xs i x c p q t e ∙ ap (λ k. pushed_each span (drop k bs) (map value_of (drop k xs)) (pushed (value_of x) c)) up
-
-pub part_left : (span : Span) (bs : List Bool) (xs : List Value) (i : ℕ) (c : BareCore) → i < length bs → i < length xs → get_or bs i false ≡ false →
-    pushed_each span (drop i bs) (map value_of (drop i xs)) c ≡ pushed_each span (drop (i + 1) bs) (map value_of (drop (i + 1) xs)) c
-part_left span bs xs i c p q t =
-    let up : suc i ≡ i + 1 = omega arith in
-    left_now span bs xs i c p q t ∙ ap (λ k. pushed_each span (drop k bs) (map value_of (drop k xs)) c) up
+-- the part in front was taken, or left out
+pub part_pushed : (span : Span) (bs : List Bool) (xs : List Value) (i : ℕ) (b : Bool) (x : Value) (c c1 : BareCore) → i < length bs → i < length xs → b ≡ get_or bs i b → x ≡ get_or xs i x →
+    ((others : List Bool) (ys : List rules.Value) → pushed_each span (b ∷ others) (value_of x ∷ ys) c ≡ pushed_each span others ys c1) →
+    pushed_each span (drop (i + 1) bs) (map value_of (drop (i + 1) xs)) c1 ≡ pushed_each span (drop i bs) (map value_of (drop i xs)) c
+part_pushed span bs xs i b x c c1 p q e f h =
+    sym (ap (λ l. pushed_each span l (map value_of (drop i xs)) c) (at_front bs i b p e) ∙ ap (λ l. pushed_each span (b ∷ drop (i + 1) bs) (map value_of l) c) (at_front xs i x q f) ∙ h (drop (i + 1) bs) (map value_of (drop (i + 1) xs)))
 
 -- no part is left
 pub parts_ended : (span : Span) (bs : List Bool) (xs : List Value) (i : ℕ) (c : BareCore) → length bs ≤ i → length xs ≤ i → pushed_each span (drop i bs) (map value_of (drop i xs)) c ≡ Good c

@@ -1,9 +1,11 @@
 //! What a run works on, and its places.
-ghost use Rattle.std.specs.Prelude.{◌≡◌, OnOk, length, map, option_map};
+ghost use Rattle.std.specs.Prelude.{◌≡◌, Bool, List, ◌∷◌, OnOk, length, map, option_map};
 ghost use Rattle.std.specs.Option.{option_copied};
 ghost use Rattle.asl_rules.specs.Evaluation.{known};
 ghost use Rattle.asl_rules.specs.Plans.{Good, Ret, lift};
+ghost use Rattle.asl_rules.specs.Values as values;
 ghost use Rattle.asl_rules.specs.Values.{Normal};
+ghost use Rattle.asl_syn.specs.declared.token.Span.{Span};
 ghost use Rattle.asl_tree.specs.TypedMeaning as rules;
 ghost use Rattle.asl_value.specs.Forms.{all_steps};
 ghost use Rattle.asl_value.specs.View.{value_of};
@@ -168,10 +170,26 @@ pub fn declare_first(places: &mut Places, count: usize, value: &Value) -> Result
     Ok(Exit::Normal)
 }
 
+/// A part takes the next place, where it is taken.
+fn push_part(places: &mut Places, taken: bool, part: &Value) -> Result<(), AllocError>
+    ensures ok { OnOk result ((span : Span) (others : List Bool) (xs : List values.Value)
+        → rules.pushed_each span (taken ∷ others) (value_of part.now ∷ xs) (core_of places.old)
+        ≡ rules.pushed_each span others xs (core_of places.new)) }
+    ensures steps { places.new.steps ≡ places.old.steps }
+    ensures text_open { places.new.text_open ≡ places.old.text_open }
+{
+    if taken {
+        push(places, copy(part)?)?;
+        Ok(())
+    } else {
+        Ok(())
+    }
+}
+
 /// The parts that are taken, of as many, each in the next place.
 fn push_taken(places: &mut Places, taken: &[bool], parts: &[Value]) -> Result<(), AllocError>
     requires { length taken.now ≡ length parts.now }
-    ensures ok { OnOk result ((span : _)
+    ensures ok { OnOk result ((span : Span)
         → rules.pushed_each span taken.now (map value_of parts.now) (core_of places.old)
         ≡ Good (core_of places.new)) }
     ensures steps { places.new.steps ≡ places.old.steps }
@@ -179,9 +197,7 @@ fn push_taken(places: &mut Places, taken: &[bool], parts: &[Value]) -> Result<()
 {
     let mut i = 0;
     while i < parts.len() {
-        if taken[i] {
-            push(places, copy(&parts[i])?)?;
-        }
+        push_part(places, taken[i], &parts[i])?;
         i += 1;
     }
     Ok(())

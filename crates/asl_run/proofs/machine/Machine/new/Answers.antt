@@ -5,5 +5,4 @@ use Rattle.asl_run.proofs.Runs.{storage_initial}
 use Rattle.asl_run.proofs.machine.Machine.new.Goals as goal
 
 pub invariant_of-result : goal.invariant_of-result
-invariant_of-result c =
-    subst (HoldStorage c.args.checked.decls) (sym (c.in_ok-globals.ensures ∙ ap initial_globals (c.as_slice.ensures ∙ c.program.ensures.is))) (storage_initial c.args.checked.decls c.args.checked.entry c.program.ensures.well_formed)
+invariant_of-result c = let h = c.in_ok-globals.ensures in let k = c.globals.ensures in ?
