@@ -8,7 +8,7 @@ use Rattle.asl_value.specs.Answers.{Is}
 use Rattle.asl_value.specs.Forms.{shell_of, all_given}
 use Rattle.asl_value.specs.Places.{constructed}
 use Rattle.asl_value.specs.View.{value_of}
-use Rattle.asl_run.specs.View.{core_of, meter_of}
+use Rattle.asl_run.specs.View.{core_of, meter_of, stop_of}
 use Rattle.asl_run.proofs.Turns.{all_evaluated, goes_failed, goes_on, lift_failed, meets_left}
 use Rattle.asl_run.proofs.exprs.+eval.Goals as goal
 
@@ -59,7 +59,7 @@ eval_construct-returns-in_err-construct-clause-meets g t c =
     let left = goes_on fs d _ _ _ (all_evaluated fs d c.args.es.now (core_of c.args.places.now) (λ xs c1. lift (constructed c.args.span (shell_of c.args.shell.now) (all_given c.args.fields.now) xs) c1 (give c1)))
         h0 (map value_of c.in_ok-xs.xs) c1 h1 c.in_ok-xs.ensures.meets in
     let made = constructed c.args.span (shell_of c.args.shell.now) (all_given c.args.fields.now) (map value_of c.in_ok-xs.xs) in
-    rw (p.1, p.2) (meets_left value_of fs d _ _ h0 h1 left _ c1 h1 (lift_failed value_of value_of fs d c.in_err-construct.field-0.0 made (subst (λ l. Is value_of (Err c.in_err-construct.field-0.0) (constructed c.args.span (shell_of c.args.shell.now) (all_given c.args.fields.now) (map value_of l))) here c.in_err-construct.ensures) c1 h1 (give c1)))
+    rw (p.1, p.2) (meets_left value_of fs d _ _ h0 h1 left (Err (stop_of c.in_err-construct.field-0.0)) c1 h1 (lift_failed value_of value_of fs d c.in_err-construct.field-0.0 made (subst (λ l. Is value_of (Err c.in_err-construct.field-0.0) (constructed c.args.span (shell_of c.args.shell.now) (all_given c.args.fields.now) (map value_of l))) here c.in_err-construct.ensures) c1 h1 (give c1)))
 
 pub eval_construct-returns-clause-meets : goal.eval_construct-returns-clause-meets
 eval_construct-returns-clause-meets g t c =
