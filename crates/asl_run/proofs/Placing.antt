@@ -5,7 +5,7 @@ use Rattle.asl_syn.specs.declared.token.Span.{Span}
 use Rattle.asl_rules.specs.Constants.{◌>>=◌}
 use Rattle.asl_rules.specs.Cuts.{cuts}
 use Rattle.asl_rules.specs.Evaluation.{known}
-use Rattle.asl_rules.specs.Plans.{Meter, End, Pure, Good, Bad, lift, run}
+use Rattle.asl_rules.specs.Plans.{Meter, End, Faulted, Stuck, Halt, Pure, Good, Bad, lift, run}
 use Rattle.asl_rules.specs.Values as rules
 use Rattle.asl_types.specs.declared.slot.Slot.TheVariants.{Local, Global}
 use Rattle.asl_tree.specs.declared.typed.TypedFunc.{TypedFunc}
@@ -20,7 +20,7 @@ use Rattle.asl_run.specs.declared.stop.Stop.{Stop}
 use Rattle.asl_run.specs.declared.stop.Stop.TheVariants as stop
 use Rattle.asl_run.specs.Meets.{Meets, Stores}
 use Rattle.asl_run.specs.Stores.{there, stored_in}
-use Rattle.asl_run.specs.View.{exit_of, stop_of}
+use Rattle.asl_run.specs.View.{exit_of, mistake_of, stop_of}
 use Rattle.asl_run.proofs.Slots.{set_within}
 
 -- ---- among values
@@ -98,9 +98,9 @@ failed fs d f old new r p k h stop.NoMemory e s = inl refl
 failed fs d f old new r p k h stop.SinkFault e s = absurd s
 failed fs d f old new r p k h (stop.Thrown x) e s = absurd s
 failed fs d f old new r p k h (stop.Fault code span) e s =
-    ap (λ q. run (typed_meaning fs d) (lift q (f (map value_of old)) k) h) (e ∙ ap (made f) s.0) ∙ ap (λ c. run (typed_meaning fs d) (lift (Bad _) c k) h) (ap (λ xs. f (map value_of xs)) (sym s.1))
+    ap (λ q. run (typed_meaning fs d) (lift q (f (map value_of old)) k) h) (e ∙ ap (made f) s.0) ∙ ap (λ (c : BareCore). Halt (Faulted code span) c h) (ap (λ xs. f (map value_of xs)) (sym s.1))
 failed fs d f old new r p k h (stop.Stuck mistake span) e s =
-    ap (λ q. run (typed_meaning fs d) (lift q (f (map value_of old)) k) h) (e ∙ ap (made f) s.0) ∙ ap (λ c. run (typed_meaning fs d) (lift (Bad _) c k) h) (ap (λ xs. f (map value_of xs)) (sym s.1))
+    ap (λ q. run (typed_meaning fs d) (lift q (f (map value_of old)) k) h) (e ∙ ap (made f) s.0) ∙ ap (λ (c : BareCore). Halt (Stuck (mistake_of mistake) span) c h) (ap (λ xs. f (map value_of xs)) (sym s.1))
 
 pub local_failed : (fs : List TypedFunc) (d : ℕ) (span : Span) (i : ℕ) (ss : List Step) (y : rules.Value) (globals frame : List Value) (live : List ℕ) (new : List Value) (k : BareCore → DoesBare rules.Exit) (h : Meter) (e : Stop) →
     Stores (Err e) (stored_in span i ss y (map value_of frame)) frame new →

@@ -8,9 +8,7 @@ use Rattle.asl_rules.specs.Values as rules
 use Rattle.asl_rules.specs.Plans.{Stuck, WrongKind, Good, Bad}
 use Rattle.asl_rules.specs.Structures as structures
 use Rattle.asl_syn.specs.declared.token.Span.{Span}
-use Rattle.asl_tree.specs.declared.typed.Binds.{Binds}
-use Rattle.asl_tree.specs.declared.typed.Binds.TheVariants as binds
-use Rattle.asl_tree.specs.TypedMeaning.{BareCore, set_at, pushed, pushed_times, pushed_each, taken}
+use Rattle.asl_tree.specs.TypedMeaning.{BareCore, set_at, pushed, pushed_times, pushed_each}
 use Rattle.asl_value.specs.View as view
 use Rattle.asl_value.proofs.Among.{at_front, none_after}
 use Rattle.asl_value.specs.declared.value.Value.{Value}
@@ -77,7 +75,3 @@ parts_uneven span (true ∷ bs) [] c h = refl
 parts_uneven span (false ∷ bs) [] c h = refl
 parts_uneven span (true ∷ bs) (x ∷ xs) c h = parts_uneven span bs xs (pushed (value_of x) c) (λ e. h (ap (λ n. suc n) e))
 parts_uneven span (false ∷ bs) (x ∷ xs) c h = parts_uneven span bs xs c (λ e. h (ap (λ n. suc n) e))
-
--- what is taken of a tuple
-pub tuple_taken : (span : Span) (b : Binds) (x : rules.Value) (bs : List Bool) (xs : List Value) (c : BareCore) → x ≡ rules.tuple_with (view.values_of (map value_of xs)) → b ≡ binds.Parts bs → taken span b x c ≡ pushed_each span bs (map value_of xs) c
-tuple_taken span b x bs xs c e f = ap (λ z. taken span z x c) f ∙ ap (λ z. taken span (binds.Parts bs) z c) e ∙ ap (λ ys. pushed_each span bs ys c) (parts_back (map value_of xs))

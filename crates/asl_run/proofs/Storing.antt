@@ -109,6 +109,10 @@ plain_is [] (t ∷ ts) p q e = cc
 plain_is (i ∷ is) [] p q e = cc
 plain_is (i ∷ is) (t ∷ ts) p q e = cc
 
+-- a store in a place, by this way to its part and these steps
+abbrev placed : TypedPlace → rules.Value → BareCore → List ℕ → List TypedStep → DoesBare rules.Exit
+placed p x c way ts = lift (part_in p.span way x) c (λ y. eval_steps ts [] c (λ ss c2. lift (put_at p.span p.slot ss y c2) c2 (λ c3. store_each [] x c3)))
+
 -- a store in the one place, where it takes the whole value
 pub single_stored : (fs : List TypedFunc) (d : ℕ) (ps : List TypedPlace) (q : TypedPlace) (x : rules.Value) (c : BareCore) (h : Meter) (r : Result Exit Stop) (c1 : BareCore) (h1 : Meter) → single ps ≡ Some q →
     Meets exit_of r c1 h1 (run (typed_meaning fs d) (lift (put q.span q.slot x c) c (λ c2. Ret Normal c2)) h) (cuts (typed_meaning fs d) (typed_cutting fs d) (lift (put q.span q.slot x c) c (λ c2. Ret Normal c2)) h) →
@@ -119,8 +123,5 @@ single_stored fs d (p ∷ []) q x c h r c1 h1 e m =
     let s = plain_is p.way p.steps p q e in
     let whole : Meets exit_of r c1 h1 (run (typed_meaning fs d) (lift (put p.span p.slot x c) c (λ c2. Ret Normal c2)) h) (cuts (typed_meaning fs d) (typed_cutting fs d) (lift (put p.span p.slot x c) c (λ c2. Ret Normal c2)) h) =
         subst (λ (o : TypedPlace). Meets exit_of r c1 h1 (run (typed_meaning fs d) (lift (put o.span o.slot x c) c (λ c2. Ret Normal c2)) h) (cuts (typed_meaning fs d) (typed_cutting fs d) (lift (put o.span o.slot x c) c (λ c2. Ret Normal c2)) h)) (sym s.same) m in
-    subst (λ (way : List ℕ). Meets exit_of r c1 h1 (run (typed_meaning fs d) (placed p way p.steps) h) (cuts (typed_meaning fs d) (typed_cutting fs d) (placed p way p.steps) h)) (sym s.no_way)
-    (subst (λ (ts : List TypedStep). Meets exit_of r c1 h1 (run (typed_meaning fs d) (placed p [] ts) h) (cuts (typed_meaning fs d) (typed_cutting fs d) (placed p [] ts) h)) (sym s.no_steps) whole)
-  where
-    abbrev placed : TypedPlace → List ℕ → List TypedStep → DoesBare rules.Exit
-    placed p way ts = lift (part_in p.span way x) c (λ y. eval_steps ts [] c (λ ss c2. lift (put_at p.span p.slot ss y c2) c2 (λ c3. store_each [] x c3)))
+    subst (λ (way : List ℕ). Meets exit_of r c1 h1 (run (typed_meaning fs d) (placed p x c way p.steps) h) (cuts (typed_meaning fs d) (typed_cutting fs d) (placed p x c way p.steps) h)) (sym s.no_way)
+    (subst (λ (ts : List TypedStep). Meets exit_of r c1 h1 (run (typed_meaning fs d) (placed p x c [] ts) h) (cuts (typed_meaning fs d) (typed_cutting fs d) (placed p x c [] ts) h)) (sym s.no_steps) whole)

@@ -133,6 +133,10 @@ all_goes fs d (e ∷ es) xs c g f k goes = goes_eval fs d e c _ _ k (λ x c1. al
 pub all_evaluated : {B : Type 0} (fs : List TypedFunc) (d : ℕ) (es : List TypedExpr) (c : BareCore) (k : List rules.Value → BareCore → DoesBare B) → Goes fs d (eval_all es [] c (λ xs c1. Ret xs c1)) (eval_all es [] c k) k
 all_evaluated fs d es c k = all_goes fs d es [] c (λ xs c1. Ret xs c1) k k (λ ys c1. goes_ret fs d ys c1 k)
 
+-- an expression, and what comes with its value
+pub one_evaluated : {B : Type 0} (fs : List TypedFunc) (d : ℕ) (e : TypedExpr) (c : BareCore) (k : rules.Value → BareCore → DoesBare B) → Goes fs d (Eval e c (λ x c1. Ret x c1)) (Eval e c k) k
+one_evaluated fs d e c k = goes_eval fs d e c (λ x c1. Ret x c1) k k (λ x c1. goes_ret fs d x c1 k)
+
 -- steps, and what comes with them
 pub all_stepped : (fs : List TypedFunc) (d : ℕ) (ts : List TypedStep) (ss : List Step) (c : BareCore) (k : List Step → BareCore → DoesBare Exit) → Goes fs d (stepped ts ss c) (eval_steps ts ss c k) k
 all_stepped fs d [] ss c k = goes_ret fs d ss c k

@@ -6,6 +6,7 @@ ghost use Rattle.asl_rules.specs.Plans.{Good, Ret, lift};
 ghost use Rattle.asl_rules.specs.Values as values;
 ghost use Rattle.asl_rules.specs.Values.{Normal};
 ghost use Rattle.asl_syn.specs.declared.token.Span.{Span};
+ghost use Rattle.asl_tree.specs.declared.typed.Binds.TheVariants as bound;
 ghost use Rattle.asl_tree.specs.TypedMeaning as rules;
 ghost use Rattle.asl_value.specs.Forms.{all_steps};
 ghost use Rattle.asl_value.specs.View.{value_of};
@@ -222,22 +223,42 @@ fn declare_parts(
     Ok(Exit::Normal)
 }
 
+/// Declares the parts of a tuple that are taken, where there are as many.
+fn declare_tuple(
+    places: &mut Places,
+    span: Span,
+    taken: &[bool],
+    value: &Value,
+) -> Result<Exit, Stop>
+    ensures acts { Acts result
+        (λ c. lift (rules.taken span (bound.Parts taken.now) (value_of value.now) c) c (λ c1. Ret Normal c1))
+        places.old places.new }
+    ensures none_refused { NoneRefused result }
+{
+    match value {
+        Value::Tuple(parts) => declare_parts(places, span, taken, parts.get().as_slice()),
+        _ => Err(Stop::Stuck(Mistake::WrongKind, span)),
+    }
+}
+
 /// Declares what is taken of a value, each in the next place of the frame.
-pub fn declare(places: &mut Places, span: Span, binds: &Binds, value: Value) -> Result<Exit, Stop>
+pub fn declare(
+    places: &mut Places,
+    span: Span,
+    binds: &Binds,
+    value: Value,
+) -> Result<Exit, Stop>
     ensures acts { Acts result
         (λ c. lift (rules.taken span binds.now (value_of value) c) c (λ c1. Ret Normal c1))
         places.old places.new }
     ensures none_refused { NoneRefused result }
 {
-    match (binds, value) {
-        (Binds::Nothing, _) => Ok(Exit::Normal),
-        (Binds::One, value) => {
+    match binds {
+        Binds::Nothing => Ok(Exit::Normal),
+        Binds::One => {
             push(places, value)?;
             Ok(Exit::Normal)
         }
-        (Binds::Parts(taken), Value::Tuple(parts)) => {
-            declare_parts(places, span, taken.as_slice(), parts.get().as_slice())
-        }
-        (Binds::Parts(_), _) => Err(Stop::Stuck(Mistake::WrongKind, span)),
+        Binds::Parts(taken) => declare_tuple(places, span, taken.as_slice(), &value),
     }
 }
