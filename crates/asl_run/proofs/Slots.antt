@@ -9,6 +9,9 @@ use Rattle.asl_rules.specs.Plans.{Stuck, WrongKind, Good, Bad}
 use Rattle.asl_rules.specs.Structures as structures
 use Rattle.asl_syn.specs.declared.token.Span.{Span}
 use Rattle.asl_tree.specs.TypedMeaning.{BareCore, set_at, pushed, pushed_times, pushed_each}
+use Rattle.asl_value.specs.declared.value.FieldValue.TheOpen as layers
+use Rattle.asl_value.specs.declared.value.FieldValue.TheFolds.{fold-roll-Value}
+use Rattle.asl_value.specs.declared.value.Value.TheVariants as variants
 use Rattle.asl_value.specs.View as view
 use Rattle.asl_value.proofs.Among.{at_front, none_after}
 use Rattle.asl_value.specs.declared.value.Value.{Value}
@@ -48,6 +51,11 @@ pushed_none zero x c h = refl
 pushed_none (suc n) x c h = absurd (omega (arith, h))
 
 -- ---- parts of tuples
+
+-- what a tuple stands for
+pub tuple_there : (x : Value) (xs ys : List Value) → x ≡ variants.Tuple xs → ys ≡ xs → value_of x ≡ rules.tuple_with (view.values_of (map value_of ys))
+tuple_there x xs ys e same =
+    ap value_of (e ∙ sym (variants.rolls-Tuple xs)) ∙ fold-roll-Value view.Of rules.Value view.field_rule view.value_rule (layers.Tuple xs) ∙ ap (λ l. rules.tuple_with (view.values_of (map value_of l))) (sym same)
 
 pub parts_back : (xs : List rules.Value) → structures.values_in (view.values_of xs) ≡ xs
 parts_back [] = refl

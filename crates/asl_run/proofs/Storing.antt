@@ -122,6 +122,6 @@ single_stored fs d (p ∷ o ∷ ps) q x c h r c1 h1 e m = cc
 single_stored fs d (p ∷ []) q x c h r c1 h1 e m =
     let s = plain_is p.way p.steps p q e in
     let whole : Meets exit_of r c1 h1 (run (typed_meaning fs d) (lift (put p.span p.slot x c) c (λ c2. Ret Normal c2)) h) (cuts (typed_meaning fs d) (typed_cutting fs d) (lift (put p.span p.slot x c) c (λ c2. Ret Normal c2)) h) =
-        subst (λ (o : TypedPlace). Meets exit_of r c1 h1 (run (typed_meaning fs d) (lift (put o.span o.slot x c) c (λ c2. Ret Normal c2)) h) (cuts (typed_meaning fs d) (typed_cutting fs d) (lift (put o.span o.slot x c) c (λ c2. Ret Normal c2)) h)) (sym s.same) m in
+    subst (λ (o : TypedPlace). Meets exit_of r c1 h1 (run (typed_meaning fs d) (lift (put o.span o.slot x c) c (λ c2. Ret Normal c2)) h) (cuts (typed_meaning fs d) (typed_cutting fs d) (lift (put o.span o.slot x c) c (λ c2. Ret Normal c2)) h)) (sym s.same) m in
     subst (λ (way : List ℕ). Meets exit_of r c1 h1 (run (typed_meaning fs d) (placed p x c way p.steps) h) (cuts (typed_meaning fs d) (typed_cutting fs d) (placed p x c way p.steps) h)) (sym s.no_way)
     (subst (λ (ts : List TypedStep). Meets exit_of r c1 h1 (run (typed_meaning fs d) (placed p x c [] ts) h) (cuts (typed_meaning fs d) (typed_cutting fs d) (placed p x c [] ts) h)) (sym s.no_steps) whole)

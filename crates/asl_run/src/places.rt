@@ -242,12 +242,7 @@ fn declare_tuple(
 }
 
 /// Declares what is taken of a value, each in the next place of the frame.
-pub fn declare(
-    places: &mut Places,
-    span: Span,
-    binds: &Binds,
-    value: Value,
-) -> Result<Exit, Stop>
+pub fn declare(places: &mut Places, span: Span, binds: &Binds, value: Value) -> Result<Exit, Stop>
     ensures acts { Acts result
         (λ c. lift (rules.taken span binds.now (value_of value) c) c (λ c1. Ret Normal c1))
         places.old places.new }

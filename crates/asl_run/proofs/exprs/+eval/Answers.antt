@@ -57,7 +57,7 @@ eval_construct-returns-in_err-construct-clause-meets g t c =
     let p = err_from_is_err_and c.from_residual-in_err-construct.result c.from_residual-in_err-construct.ensures.1 in
     let here : c.as_slice.result.now ≡ c.in_ok-xs.xs = search rules in
     let left = goes_on fs d _ _ _ (all_evaluated fs d c.args.es.now (core_of c.args.places.now) (λ xs c1. lift (constructed c.args.span (shell_of c.args.shell.now) (all_given c.args.fields.now) xs) c1 (give c1)))
-        h0 (map value_of c.in_ok-xs.xs) c1 h1 c.in_ok-xs.ensures.meets in
+    h0 (map value_of c.in_ok-xs.xs) c1 h1 c.in_ok-xs.ensures.meets in
     let made = constructed c.args.span (shell_of c.args.shell.now) (all_given c.args.fields.now) (map value_of c.in_ok-xs.xs) in
     rw (p.1, p.2) (meets_left value_of fs d _ _ h0 h1 left (Err (stop_of c.in_err-construct.field-0.0)) c1 h1 (lift_failed value_of value_of fs d c.in_err-construct.field-0.0 made (subst (λ l. Is value_of (Err c.in_err-construct.field-0.0) (constructed c.args.span (shell_of c.args.shell.now) (all_given c.args.fields.now) (map value_of l))) here c.in_err-construct.ensures) c1 h1 (give c1)))
 
@@ -69,6 +69,6 @@ eval_construct-returns-clause-meets g t c =
     let h1 = meter_of c.eval_all.new.places (g.K.Sink.written c.eval_all.new.sink) in
     let here : c.as_slice.result.now ≡ c.in_ok-xs.xs = search rules in
     let left = goes_on fs d _ _ _ (all_evaluated fs d c.args.es.now (core_of c.args.places.now) (λ xs c1. lift (constructed c.args.span (shell_of c.args.shell.now) (all_given c.args.fields.now) xs) c1 (give c1)))
-        (meter_of c.args.places.now (g.K.Sink.written c.args.sink.now)) (map value_of c.in_ok-xs.xs) c1 h1 c.in_ok-xs.ensures.meets in
+    (meter_of c.args.places.now (g.K.Sink.written c.args.sink.now)) (map value_of c.in_ok-xs.xs) c1 h1 c.in_ok-xs.ensures.meets in
     sym left.same ∙ ap (λ r. run (typed_meaning fs d) (lift r c1 (give c1)) h1)
     (ap (λ l. constructed c.args.span (shell_of c.args.shell.now) (all_given c.args.fields.now) (map value_of l)) (sym here) ∙ c.in_ok-construct.ensures)
