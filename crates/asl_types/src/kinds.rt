@@ -41,7 +41,7 @@ pub fn kind(alloc: Global, ty: &Ty) -> Result<Kind, AllocError>
 
 /// The kinds of the parts of a tuple, in order.
 #[cycle(kind)]
-#[tactic(auto, using(crate::proofs::Building::pushed, crate::proofs::Building::kinds_built))]
+#[tactic(auto, using(crate::proofs::Building::pushed))]
 fn kinds(alloc: Global, parts: &[Ty]) -> Result<Items<Kind>, AllocError>
     ensures { IfOk result (λ ks. all_kinds ks ≡ rules.kinds (all_parts parts.now)) }
 {
