@@ -1,5 +1,10 @@
 -- Whether text is open once bytes are written.
-use Rattle.std.proofs.Common.{◌≡◌, ℕ, suc, ◌-◌, ◌<◌, ◌==◌, Bool, not, List, [], ◌∷◌, ◌++◌, length, get_or, refl, ap, ◌∙◌, arith}
+use Rattle.std.proofs.Common.{◌≡◌, ℕ, suc, ◌+◌, ◌-◌, ◌%◌, ◌^◌, ◌<◌, ◌≤◌, ◌==◌, Bool, true, false, not, List, [], ◌∷◌, ◌++◌, length, get_or, refl, sym, ap, ◌∙◌, arith}
+use Rattle.std.specs.Prelude.{ℤ, pos, negsuc, unsigned_abs}
+use Rattle.std.specs.Fmt.{decimal}
+use Rattle.std.proofs.lemmas.Fmt.{decimal_by_steps_wide}
+use Rattle.asl_rules.specs.Texts.{integer_text}
+use Rattle.asl_value.specs.Pieces.{is_some_text}
 use Rattle.asl_rules.specs.Told.{open_after}
 
 -- the last byte decides
@@ -13,3 +18,31 @@ open_end (b ∷ c ∷ bs) before h = open_end (c ∷ bs) (not (b == 10)) (omega 
         let p : suc n - 1 ≡ n = omega arith in
         let q : suc n ≡ suc (suc n) - 1 = omega arith in
         ap (λ k. get_or xs k 0) p ∙ ap (λ k. get_or (b ∷ xs) k 0) q
+
+open_last : (bs : List ℕ) (x : ℕ) (before : Bool) → open_after before (bs ++ x ∷ []) ≡ not (x == 10)
+open_last [] x before = refl
+open_last (b ∷ bs) x before = open_last bs x (not (b == 10))
+
+open_then : (before : Bool) (xs ys : List ℕ) → open_after (open_after before xs) ys ≡ open_after before (xs ++ ys)
+open_then before [] ys = refl
+open_then before (x ∷ xs) ys = open_then (not (x == 10)) xs ys
+
+-- what ends in a bracket is open
+pub open_named : (name t : List ℕ) (before : Bool) → open_after before (name ++ (123 ∷ (t ++ 125 ∷ []))) ≡ true
+open_named name t before = sym (open_then before name (123 ∷ (t ++ 125 ∷ []))) ∙ open_last t 125 true
+
+pub open_between : (first last : ℕ) (t : List ℕ) (before : Bool) → (last == 10) ≡ false → open_after before (first ∷ (t ++ last ∷ [])) ≡ true
+open_between first last t before h = open_last t last (not (first == 10)) ∙ ap not h
+
+-- ---- whether there is any text
+
+pub some_named : (name t : List ℕ) (b : ℕ) → is_some_text (name ++ (b ∷ t)) ≡ true
+some_named [] t b = refl
+some_named (x ∷ name) t b = refl
+
+some_digits : (n : ℕ) → n < 10 ^ 64 → is_some_text (decimal n) ≡ true
+some_digits n h = decimal_by_steps_wide (λ m ds. is_some_text ds ≡ true) (λ m k. refl) (λ m ds k p. some_named ds [] (48 + m % 10)) n h
+
+pub some_integer : (z : ℤ) → unsigned_abs z ≤ 2 ^ 127 → is_some_text (integer_text z) ≡ true
+some_integer (pos n) h = some_digits n (omega arith)
+some_integer (negsuc n) h = refl
