@@ -8,11 +8,13 @@ pub mod fits;
 pub mod initial;
 pub mod kinds;
 mod names;
+mod scope;
 pub mod sizes;
 mod slot;
 pub mod structure;
 mod ty;
 
 pub use binding::{Binding, Under};
+pub use scope::{Scope, Standing, Storage, reading, writing};
 pub use slot::Slot;
 pub use ty::{FieldType, Ty};
