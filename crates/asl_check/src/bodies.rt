@@ -7,6 +7,7 @@ ghost use Rattle.asl_tree.specs.Elaboration.{elaborated_func};
 ghost use Rattle.asl_types.specs.Answers.{Met};
 ghost use Rattle.asl_types.specs.View.{ty_of};
 
+use crate::body::Body;
 use crate::stmts::check_stmts;
 use asl_decl::result_type;
 use asl_expr::falls_through;
@@ -15,7 +16,7 @@ use asl_syn::code::{Refused, StaticCode};
 use asl_syn::tree::{Decl, Func, Qualifier};
 use asl_tree::typed::TypedFunc;
 use asl_types::answer::fault;
-use asl_types::{Body, Scope, Ty};
+use asl_types::{Scope, Ty};
 use std::alloc::Global;
 
 /// The greatest effect that is allowed in a body.
@@ -71,6 +72,7 @@ pub(crate) fn check_bodies<'a>(
     decls: &'a [Decl],
 ) -> Result<Vec<TypedFunc>, Refused>
     ensures rule { Met (λ _. tt) result (rules.bodies_rule names.old (rules.funcs_of decls.now)) }
+    ensures kept { OnOk result (names.new ≡ names.old) }
     ensures tree { IfOk result (λ fs. fs.items ≡ map (elaborated_func names.old) (rules.funcs_of decls.now)) }
 {
     let mut funcs = Vec::new(alloc);

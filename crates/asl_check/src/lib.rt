@@ -3,6 +3,7 @@
 
 mod binds;
 mod bodies;
+mod body;
 mod branches;
 mod locals;
 mod main_entry;
@@ -15,6 +16,7 @@ mod steps;
 mod stmts;
 mod suffixes;
 mod targets;
+mod typing;
 
 pub use program::check;
 

@@ -7,15 +7,17 @@ ghost use Rattle.asl_tree.specs.declared.typed.Binds.TheVariants as binds;
 ghost use Rattle.asl_tree.specs.declared.typed.TypedStmt.TheVariants as tree;
 ghost use Rattle.asl_tree.specs.Elaboration.{elaborated, binds_of, made_type, first_value};
 ghost use Rattle.asl_types.specs.Answers.{Met};
-ghost use Rattle.asl_types.specs.Bodies.{scope_of};
+ghost use Rattle.asl_check.specs.Views.{scope_of};
 ghost use Rattle.asl_types.specs.View.{ty_of};
 ghost use Rattle.asl_expr.specs.Views.{typed_of};
 ghost use Rattle.asl_check.specs.Walks as walks;
 
+use crate::body::Body;
 use crate::binds::{check_several, is_var};
 use crate::sizes::type_sizes;
 use crate::steps::{check_fit, ended};
-use asl_expr::exprs::{Typed, type_expr};
+use crate::typing::{type_in, written_in};
+use asl_expr::exprs::Typed;
 use asl_rules::effect::Effect;
 use asl_syn::code::{Refused, StaticCode};
 use asl_syn::token::Span;
@@ -23,8 +25,7 @@ use asl_syn::tree::{Bind, Binder, Expr, Ident, LocalKind, TypeExpr};
 use asl_tree::typed::{Binds, TypedExpr, TypedStmt};
 use asl_types::answer::fault;
 use asl_types::initial::initial_value;
-use asl_types::written;
-use asl_types::{Body, Scope, Ty};
+use asl_types::{Scope, Ty};
 use sqlite_items::Items;
 use std::alloc::Global;
 
@@ -40,9 +41,9 @@ fn type_initialiser(
     ensures tree { IfOk result (λ p. p.0 ≡ elaborated e.now (scope_of names.now body.now)) }
 {
     match ty {
-        None => type_expr(alloc, names, body, e),
+        None => type_in(alloc, names, body, e),
         Some(t) => {
-            let to = written::ty_of(alloc, t, names, body)?;
+            let to = written_in(alloc, names, body, t)?;
             let (tree, effect) = check_fit(alloc, names, body, &to, e)?;
             Ok((tree, Typed { ty: to, effect }))
         }
@@ -141,7 +142,7 @@ pub(crate) fn check_vars<'a>(
     ensures rule { Met (λ p. done names.new p.1) result (walks.vars_walk idents.now ty.now (scope_of names.old body.now)) }
     ensures tree { IfOk result (λ p. p.0 ≡ walks.vars_tree span idents.now ty.now (scope_of names.old body.now)) }
 {
-    let to = written::ty_of(alloc, ty, names, body)?;
+    let to = written_in(alloc, names, body, ty)?;
     let mut sizes = Items::new(alloc);
     type_sizes(alloc, names, body, ty, &mut sizes)?;
     let first = initial_value(alloc, &to)?;

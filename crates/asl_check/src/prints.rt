@@ -6,20 +6,20 @@ ghost use Rattle.asl_rules.specs.Stmts.{done};
 ghost use Rattle.asl_tree.specs.declared.typed.TypedStmt.TheVariants as tree;
 ghost use Rattle.asl_tree.specs.Elaboration.{items_of};
 ghost use Rattle.asl_types.specs.Answers.{Met};
-ghost use Rattle.asl_types.specs.Bodies.{scope_of};
-ghost use Rattle.asl_check.specs.Views.{operands_of};
+ghost use Rattle.asl_check.specs.Views.{operands_of, scope_of};
 ghost use Rattle.asl_check.specs.Walks as walks;
 
+use crate::body::Body;
 use crate::operands::{Operands, no_operands, with_operand};
 use crate::steps::ended;
+use crate::typing::type_in;
 use asl_expr::effects::greater;
-use asl_expr::exprs::type_expr;
 use asl_rules::effect::Effect;
 use asl_syn::code::Refused;
 use asl_syn::token::Span;
 use asl_syn::tree::{PrintItem, PrintKind};
 use asl_tree::typed::{TypedItem, TypedStmt};
-use asl_types::{Body, Scope};
+use asl_types::Scope;
 use sqlite_items::Items;
 use std::alloc::Global;
 
@@ -42,7 +42,7 @@ fn check_items(
                 trees.push(TypedItem::Verbatim(text))?;
             }
             PrintItem::Shown(e) => {
-                let (tree, s) = type_expr(alloc, names, body, e)?;
+                let (tree, s) = type_in(alloc, names, body, e)?;
                 trees.push(TypedItem::Shown(tree))?;
                 so_far = with_operand(so_far, s.effect);
             }

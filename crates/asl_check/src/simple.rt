@@ -7,13 +7,15 @@ ghost use Rattle.asl_rules.specs.Stmts.{done};
 ghost use Rattle.asl_tree.specs.declared.typed.TypedStmt.TheVariants as tree;
 ghost use Rattle.asl_tree.specs.Elaboration.{elaborated, elaborated_value, reading_only, placing};
 ghost use Rattle.asl_types.specs.Answers.{Met};
-ghost use Rattle.asl_types.specs.Bodies.{scope_of};
+ghost use Rattle.asl_check.specs.Views.{scope_of};
 ghost use Rattle.asl_types.specs.View.{ty_of};
 ghost use Rattle.asl_check.specs.Walks as walks;
 
+use crate::body::Body;
 use crate::operands::{no_operands, with_operand};
 use crate::steps::{check_fit, ended};
 use crate::targets::{check_fits, counts, place_target, type_operands};
+use crate::typing::type_in;
 use asl_expr::effects::{greater, lesser};
 use asl_expr::exprs::{place, type_expr};
 use asl_rules::effect::Effect;
@@ -23,29 +25,9 @@ use asl_syn::tree::{Expr, Target};
 use asl_tree::typed::TypedStmt;
 use asl_types::answer::fault;
 use asl_types::kinds::is_boolean;
-use asl_types::{Body, Scope, Ty};
+use asl_types::Scope;
 use sqlite_items::Items;
-use std::alloc::{AllocError, Global};
-
-/// A type that is there or not, over the same parts.
-fn copy_type(ty: &Option<Ty>) -> Result<Option<Ty>, AllocError>
-    ensures { IfOk result (λ same. same ≡ ty.now) }
-{
-    match ty {
-        None => Ok(None),
-        Some(ty) => Ok(Some(ty.copy()?)),
-    }
-}
-
-/// What `assert` is judged in: it at most reads.
-fn reading_body(body: &Body) -> Result<Body, AllocError>
-    ensures { IfOk result (λ b. b ≡ walks.reading_body body.now) }
-{
-    Ok(Body {
-        returns: copy_type(&body.returns)?,
-        class: lesser(body.class, Effect::Readonly),
-    })
-}
+use std::alloc::Global;
 
 /// `assert`: a boolean that at most reads.
 pub(crate) fn check_assert(
@@ -58,8 +40,8 @@ pub(crate) fn check_assert(
     ensures rule { Met (λ p. done names.now p.1) result (rules.assert_rule span e.now (scope_of names.now body.now)) }
     ensures tree { IfOk result (λ p. p.0 ≡ tree.Assert span (elaborated e.now (reading_only (scope_of names.now body.now)))) }
 {
-    let reading = reading_body(body)?;
-    let (tree, s) = type_expr(alloc, names, &reading, e)?;
+    let class = lesser(body.class, Effect::Readonly);
+    let (tree, s) = type_expr(alloc, names, class, e)?;
     if !is_boolean(&s.ty) {
         return fault(StaticCode::T05, place(e));
     }
@@ -85,7 +67,7 @@ pub(crate) fn check_return(
         },
         Some(e) => match &body.returns {
             None => {
-                type_expr(alloc, names, body, e)?;
+                type_in(alloc, names, body, e)?;
                 fault(StaticCode::T18, span)
             }
             Some(to) => {
@@ -110,7 +92,7 @@ pub(crate) fn check_assign(
     ensures tree { IfOk result (λ p. p.0 ≡ walks.assign_tree span target.now e.now (scope_of names.now body.now)) }
 {
     let before = type_operands(alloc, names, body, target, no_operands())?;
-    let (tree, s) = type_expr(alloc, names, body, e)?;
+    let (tree, s) = type_in(alloc, names, body, e)?;
     let mut way = Items::new(alloc);
     let mut places = Items::new(alloc);
     let stores = place_target(alloc, names, body, target, &mut way, &mut places)?;

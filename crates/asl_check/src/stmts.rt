@@ -6,21 +6,22 @@ ghost use Rattle.asl_rules.specs.Stmts as rules;
 ghost use Rattle.asl_rules.specs.Stmts.{done};
 ghost use Rattle.asl_tree.specs.Elaboration.{elaborated_stmt, elaborated_branch, trees_of, branches_of};
 ghost use Rattle.asl_types.specs.Answers.{Met};
-ghost use Rattle.asl_types.specs.Bodies.{scope_of};
+ghost use Rattle.asl_check.specs.Views.{scope_of};
 ghost use Rattle.asl_check.specs.Walks as walks;
 
+use crate::body::Body;
 use crate::branches::{Branches, after_branch, end_if};
 use crate::locals::{check_bind, check_vars};
 use crate::prints::check_print;
 use crate::simple::{check_assert, check_assign, check_return};
+use crate::typing::type_in;
 use asl_expr::effects::greater;
-use asl_expr::exprs::type_expr;
 use asl_rules::effect::Effect;
 use asl_syn::code::{Refused, StaticCode};
 use asl_syn::tree::{ElseIf, Stmt};
 use asl_tree::typed::{TypedBranch, TypedStmt};
 use asl_types::answer::fault;
-use asl_types::{Body, Scope};
+use asl_types::Scope;
 use sqlite_items::Items;
 use std::alloc::Global;
 
@@ -46,7 +47,7 @@ fn check_stmt<'a>(
         Stmt::Assign(span, target, e) => check_assign(alloc, names, body, *span, target, e),
         Stmt::Invoke(span, _, _, _) => fault(StaticCode::S03, *span),
         Stmt::If(span, condition, first, others, last) => {
-            let (c, s) = type_expr(alloc, names, body, condition)?;
+            let (c, s) = type_in(alloc, names, body, condition)?;
             let (first, k) = check_block(alloc, names, body, first.as_slice())?;
             let none = Branches {
                 misplaced: None,
@@ -109,7 +110,7 @@ fn check_branch<'a>(
 {
     match b {
         ElseIf::ElseIf(condition, stmts) => {
-            let (c, s) = type_expr(alloc, names, body, condition)?;
+            let (c, s) = type_in(alloc, names, body, condition)?;
             let (trees, k) = check_block(alloc, names, body, stmts.as_slice())?;
             let after = after_branch(before, condition, &s, k);
             Ok((TypedBranch::Branch(c, trees), after))

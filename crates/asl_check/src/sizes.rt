@@ -1,0 +1,63 @@
+//! The expressions in written types.
+
+ghost use Rattle.std.specs.Prelude.{◌≡◌, ◌++◌, map, OnOk};
+ghost use Rattle.asl_tree.specs.Elaboration.{made_type, all_sizes};
+ghost use Rattle.asl_types.specs.Answers.{Agrees};
+ghost use Rattle.asl_check.specs.Views.{scope_of};
+ghost use Rattle.asl_check.specs.Walks as walks;
+
+use crate::body::Body;
+use crate::typing::type_in;
+use asl_syn::code::Refused;
+use asl_syn::tree::TypeExpr;
+use asl_tree::typed::TypedExpr;
+use asl_types::Scope;
+use sqlite_items::Items;
+use std::alloc::Global;
+
+/// The expressions in a written type, in order: their typed trees, behind those before.
+#[cycle(sizes)]
+pub(crate) fn type_sizes(
+    alloc: Global,
+    names: &Scope,
+    body: &Body,
+    t: &TypeExpr,
+    trees: &mut Items<TypedExpr>,
+) -> Result<(), Refused>
+    ensures rule { Agrees result (walks.sizes_walk t.now (scope_of names.now body.now)) }
+    ensures tree { OnOk result (trees.new ≡ trees.old ++ (made_type t.now).sizes (scope_of names.now body.now)) }
+{
+    match t {
+        TypeExpr::IntegerType(_, _) => Ok(()),
+        TypeExpr::BooleanType(_) => Ok(()),
+        TypeExpr::BitType(_) => Ok(()),
+        TypeExpr::NamedType(_, _) => Ok(()),
+        TypeExpr::BitsType(_, _, _) => Ok(()),
+        TypeExpr::TupleType(_, parts) => {
+            all_type_sizes(alloc, names, body, parts.as_slice(), trees)
+        }
+        TypeExpr::ArrayType(_, size, element) => {
+            let (tree, _) = type_in(alloc, names, body, size.get())?;
+            trees.push(tree)?;
+            type_sizes(alloc, names, body, element.get(), trees)
+        }
+    }
+}
+
+/// The expressions in written types, in order: their typed trees, behind those before.
+#[cycle(sizes)]
+fn all_type_sizes(
+    alloc: Global,
+    names: &Scope,
+    body: &Body,
+    types: &[TypeExpr],
+    trees: &mut Items<TypedExpr>,
+) -> Result<(), Refused>
+    ensures rule { Agrees result (walks.all_sizes_walk (map walks.sizes_walk types.now) (scope_of names.now body.now)) }
+    ensures tree { OnOk result (trees.new ≡ trees.old ++ all_sizes (map made_type types.now) (scope_of names.now body.now)) }
+{
+    for t in types {
+        type_sizes(alloc, names, body, t, trees)?;
+    }
+    Ok(())
+}
