@@ -1,9 +1,7 @@
-pub mod KnownLemmas
-pub mod Walks
-pub mod VisibleLemmas
-pub mod NumberLemmas
 pub mod Binds
+pub mod OperandWalks
+pub mod BindWalks
+pub mod Sizing
 pub mod StmtWalks
-pub mod GlobalWalks
-pub mod Layouts
 pub mod Trees
+pub mod Programs
