@@ -19,7 +19,7 @@ use Rattle.asl_rules.specs.Scopes.{Scope, Entry, Standing, standing_of, is_absen
 use Rattle.asl_rules.specs.Exprs.{typed, written, has_name}
 use Rattle.asl_rules.specs.Stmts.{Done, done, expr_at, ended, is_var, binders_free, tuple_parts, bound_parts, bound_in, several_bound, several_rule, bind_rule}
 use Rattle.asl_check.specs.Walks.{first_part, other_parts, has_part, has_none, after_binder, after_binders, after_parts, several_walk, several_rule_walk, bind_walk}
-use Rattle.asl_check.proofs.Binds.{then_same}
+use Rattle.asl_check.proofs.Chains.{then_same}
 
 -- ---- names that were declared on the way
 

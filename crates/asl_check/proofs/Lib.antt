@@ -1,4 +1,4 @@
-pub mod Binds
+pub mod Chains
 pub mod OperandWalks
 pub mod BindWalks
 pub mod Sizing

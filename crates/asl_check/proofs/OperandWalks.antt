@@ -16,7 +16,7 @@ use Rattle.asl_rules.specs.Exprs.{Typed, typed}
 use Rattle.asl_rules.specs.Stmts.{Done, done, FoundTarget, expr_at, ended, all_operands, all_places, suffix_operands, suffixes_operands, items_rule, print_rule, assign_rule}
 use Rattle.asl_rules.proofs.Inversions.{ok_ok, err_ok}
 use Rattle.asl_check.specs.Walks.{no_operands, with_effect, with_effects, with_all, after_items, print_walk, assign_walk}
-use Rattle.asl_check.proofs.Binds.{then_same, then_then}
+use Rattle.asl_check.proofs.Chains.{then_same, then_then}
 
 and_true : (b : Bool) → b && true ≡ b
 and_true true = refl

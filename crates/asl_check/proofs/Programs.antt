@@ -15,7 +15,7 @@ use Rattle.asl_tree.specs.Accepted.{IsElaborated}
 use Rattle.asl_tree.specs.Elaboration.{elaborated_func}
 use Rattle.asl_decl.specs.Tables.{table_rule}
 use Rattle.asl_check.specs.Walks.{verdict_walk}
-use Rattle.asl_check.proofs.Binds.{then_same, then_then, need_then}
+use Rattle.asl_check.proofs.Chains.{then_same, then_then, need_then}
 
 -- the signatures and the overloads before what comes after them
 checked_then : {A : Type 0} (ds : List Decl) (names : List Entry) (F : List Entry → Result A Fault) →

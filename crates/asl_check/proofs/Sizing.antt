@@ -17,7 +17,7 @@ use Rattle.asl_syn.specs.declared.tree.Pattern.{Pattern}
 use Rattle.asl_syn.specs.declared.tree.Slice.{Slice}
 use Rattle.asl_syn.specs.declared.tree.TypeExpr.{TypeExpr, roll-TypeExpr}
 use Rattle.asl_syn.specs.declared.tree.Bitfield.TheOpen as ex
-use Rattle.asl_syn.specs.declared.tree.Bitfield.TheFolds.{fold-roll-Expr, fold-roll-TypeExpr, map-Expr, map-TypeExpr, ind-Expr, ind-TypeExpr}
+use Rattle.asl_syn.specs.declared.tree.Bitfield.TheFolds.{fold-roll-Expr, fold-roll-TypeExpr, para-roll-TypeExpr, map-Expr, map-TypeExpr, ind-Expr, ind-TypeExpr}
 use Rattle.asl_syn.specs.Layers.{ExprLayer, TypeLayer}
 use Rattle.asl_rules.specs.declared.effect.Effect.TheVariants.{Pure, Readonly}
 use Rattle.asl_rules.specs.Faults.{◌>>=◌, ◌>>◌, need, fault, fault_of}
@@ -28,8 +28,8 @@ use Rattle.asl_rules.specs.Effects.{greater, together}
 use Rattle.asl_rules.specs.Widths.{weight, weighed, known_number, width_of_storage, width_of_standing, width_of_binary, has_width, bounded, length_of}
 use Rattle.asl_rules.specs.Exprs.{Typed, typed_as, Found, FoundField, FoundType, Unread, finish, of_integers, unary_rule, binary_rule, name_of_standing, found, found_type, typed, width, written, typed_rule, width_rule, written_rule, types_in_order, array_rule, expr_rule, given_rule, type_rule}
 use Rattle.asl_rules.proofs.Inversions.{err_ok, bind_ok, then_ok, need_ok}
-use Rattle.asl_rules.proofs.WellTyped.{found_field, opened, type_opened}
-use Rattle.asl_check.specs.Walks.{Sizing, all_sizes_walk, sizes_layer_walk, sizes_walk}
+use Rattle.asl_rules.proofs.WellTyped.{opened, type_opened}
+use Rattle.asl_check.specs.Walks.{Sizing, TypeOf, all_sizes_walk, sizes_layer_walk, sizes_walk, with_walk}
 
 -- an integer that does nothing
 record IsNumber (r : Result Typed Fault) : Type 0 where
@@ -143,15 +143,15 @@ module _ (G : Scope) where
 
   -- ---- written types
 
-  abbrev walks_opened : TypeLayer → ex.TypeExpr-F Unread Unread Found FoundField Unread Unread Sizing
-  walks_opened = map-TypeExpr Bitfield ConstraintPart Expr FieldValue Pattern Slice TypeExpr Unread Unread Found FoundField Unread Unread Sizing (λ _. tt) (λ _. tt) found found_field (λ _. tt) (λ _. tt) sizes_walk
+  abbrev walks_opened : TypeLayer → TypeOf
+  walks_opened = map-TypeExpr Bitfield ConstraintPart Expr FieldValue Pattern Slice TypeExpr (Bitfield × Unread) (ConstraintPart × Unread) (Expr × Unread) (FieldValue × Unread) (Pattern × Unread) (Slice × Unread) (TypeExpr × Sizing) (λ x. (x, tt)) (λ x. (x, tt)) (λ x. (x, tt)) (λ x. (x, tt)) (λ x. (x, tt)) (λ x. (x, tt)) with_walk
 
-  parts_sized : (ts : List ((t : TypeExpr) × Sized t)) (Ts : Parts) → types_in_order (map found_type (map (λ t. t.0) ts)) G ≡ Ok Ts → all_sizes_walk (map sizes_walk (map (λ t. t.0) ts)) G ≡ Ok tt
+  parts_sized : (ts : List ((t : TypeExpr) × Sized t)) (Ts : Parts) → types_in_order (map found_type (map (λ t. t.0) ts)) G ≡ Ok Ts → all_sizes_walk (map with_walk (map (λ t. t.0) ts)) G ≡ Ok tt
   parts_sized [] Ts h = refl
   parts_sized (t ∷ ts) Ts h =
       let s = bind_ok (written t.0 G) (λ T. types_in_order (map found_type (map (λ t. t.0) ts)) G >>= λ Us. Ok (part T Us)) Ts h in
       let r = bind_ok (types_in_order (map found_type (map (λ t. t.0) ts)) G) (λ Us. Ok (part s.value Us)) Ts s.then in
-      ap (λ q. q >> all_sizes_walk (map sizes_walk (map (λ t. t.0) ts)) G) (t.1 s.value s.first) ∙ parts_sized ts r.value r.first
+      ap (λ q. q >> all_sizes_walk (map with_walk (map (λ t. t.0) ts)) G) (t.1 s.value s.first) ∙ parts_sized ts r.value r.first
 
   layer_sized : (y : TypeBelow) (T : Ty) → written_rule (type_opened (type_trees y)) G ≡ Ok T → sizes_layer_walk (walks_opened (type_trees y)) G ≡ Ok tt
   layer_sized (ex.IntegerType span ps) T h = refl
@@ -170,7 +170,7 @@ module _ (G : Scope) where
   type_step : (x : TypeLayer) (y : TypeBelow) → type_trees y ≡ x → Sized (roll-TypeExpr x)
   type_step x y is T h =
       let e = fold-roll-TypeExpr Unread Unread Found FoundField Unread Unread FoundType (λ _. tt) (λ _. tt) expr_rule given_rule (λ _. tt) (λ _. tt) type_rule x in
-      let w = fold-roll-TypeExpr Unread Unread Found FoundField Unread Unread Sizing (λ _. tt) (λ _. tt) expr_rule given_rule (λ _. tt) (λ _. tt) sizes_layer_walk x in
+      let w = para-roll-TypeExpr Unread Unread Unread Unread Unread Unread Sizing (λ _. tt) (λ _. tt) (λ _. tt) (λ _. tt) (λ _. tt) (λ _. tt) sizes_layer_walk x in
       ap (λ (f : Sizing). f G) w ∙ sym (ap (λ l. sizes_layer_walk (walks_opened l) G) is)
       ∙ layer_sized y T (ap (λ l. written_rule (type_opened l) G) is ∙ sym (ap (λ (f : FoundType). f.ty G) e) ∙ h)
 

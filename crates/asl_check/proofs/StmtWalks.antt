@@ -24,7 +24,7 @@ use Rattle.asl_check.specs.Walks.{misplaced, after_branch, after_branches, if_wa
 use Rattle.asl_check.proofs.BindWalks.{bind_is}
 use Rattle.asl_check.proofs.OperandWalks.{print_is, assign_is}
 use Rattle.asl_check.proofs.Sizing.{sizes_typed}
-use Rattle.asl_check.proofs.Binds.{then_same, then_then, need_then, need_need, need_last}
+use Rattle.asl_check.proofs.Chains.{then_same, then_then, need_then, need_need, need_last}
 
 -- ---- `if`
 

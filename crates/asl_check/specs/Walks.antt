@@ -17,7 +17,12 @@ use Rattle.asl_syn.specs.declared.tree.PrintItem.TheVariants.{Verbatim, Shown}
 use Rattle.asl_syn.specs.declared.tree.Target.{Target}
 use Rattle.asl_syn.specs.declared.tree.TypeExpr.{TypeExpr}
 use Rattle.asl_syn.specs.declared.tree.Bitfield.TheOpen as ex
-use Rattle.asl_syn.specs.declared.tree.Bitfield.TheFolds.{fold-TypeExpr}
+use Rattle.asl_syn.specs.declared.tree.Bitfield.TheFolds.{para-TypeExpr}
+use Rattle.asl_syn.specs.declared.tree.Bitfield.{Bitfield}
+use Rattle.asl_syn.specs.declared.tree.ConstraintPart.{ConstraintPart}
+use Rattle.asl_syn.specs.declared.tree.FieldValue.{FieldValue}
+use Rattle.asl_syn.specs.declared.tree.Pattern.{Pattern}
+use Rattle.asl_syn.specs.declared.tree.Slice.{Slice}
 use Rattle.asl_syn.specs.declared.tree.Stmt.{Stmt}
 use Rattle.asl_syn.specs.declared.tree.ElseIf.{ElseIf}
 use Rattle.asl_syn.specs.declared.tree.Alternative.TheOpen as st
@@ -34,8 +39,7 @@ use Rattle.asl_rules.specs.Types.{Ty, Parts, integer, no_part, part, is_boolean,
 use Rattle.asl_rules.specs.Effects.{greater, together}
 use Rattle.asl_rules.specs.Scopes as scopes
 use Rattle.asl_rules.specs.Scopes.{Scope, stored, is_free, writing}
-use Rattle.asl_rules.specs.Exprs as exprs
-use Rattle.asl_rules.specs.Exprs.{Typed, Found, FoundField, typed, written, expr_rule, given_rule}
+use Rattle.asl_rules.specs.Exprs.{Typed, typed, written}
 use Rattle.asl_rules.specs.Stmts.{Done, done, FoundStmt, FoundBranch, FoundTarget, expr_at, ended, block, is_var, tuple_parts, local_rule, unbound_rule, names_rule, assignable, behind_suffixes, found_target, StmtOf, Unread, stmt_layer_rule, branch_rule}
 use Rattle.asl_rules.specs.Programs.{funcs_of, bodies_rule, entry_rule}
 use Rattle.asl_decl.specs.Tables.{table_rule}
@@ -148,24 +152,27 @@ bind_walk span kind (Several at bs) t e G = several_rule_walk span kind bs t e G
 
 -- ---- declarations without an initialiser
 
--- whether the expressions in a written type have types
+-- whether the expressions in a written type have types, in order
 abbrev pub Sizing : Type 0
 Sizing = Scope → Result (Unit {0}) Fault
 
-abbrev pub all_sizes_walk : List Sizing → Sizing
+abbrev pub all_sizes_walk : List (TypeExpr × Sizing) → Sizing
 all_sizes_walk [] G = Ok tt
-all_sizes_walk (t ∷ ts) G = t G >> all_sizes_walk ts G
+all_sizes_walk (t ∷ ts) G = t.1 G >> all_sizes_walk ts G
 
 abbrev pub TypeOf : Type 0
-TypeOf = ex.TypeExpr-F exprs.Unread exprs.Unread Found FoundField exprs.Unread exprs.Unread Sizing
+TypeOf = ex.TypeExpr-F (Bitfield × Unread) (ConstraintPart × Unread) (Expr × Unread) (FieldValue × Unread) (Pattern × Unread) (Slice × Unread) (TypeExpr × Sizing)
 
 abbrev pub sizes_layer_walk : TypeOf → Sizing
 sizes_layer_walk (ex.TupleType span ts) G = all_sizes_walk ts G
-sizes_layer_walk (ex.ArrayType span e t) G = e.typed G >>= λ S. t G
+sizes_layer_walk (ex.ArrayType span e t) G = typed e.0 G >>= λ S. t.1 G
 sizes_layer_walk layer G = Ok tt
 
 abbrev pub sizes_walk : TypeExpr → Sizing
-sizes_walk = fold-TypeExpr exprs.Unread exprs.Unread Found FoundField exprs.Unread exprs.Unread Sizing (λ _. tt) (λ _. tt) expr_rule given_rule (λ _. tt) (λ _. tt) sizes_layer_walk
+sizes_walk = para-TypeExpr Unread Unread Unread Unread Unread Unread Sizing (λ _. tt) (λ _. tt) (λ _. tt) (λ _. tt) (λ _. tt) (λ _. tt) sizes_layer_walk
+
+abbrev pub with_walk : TypeExpr → TypeExpr × Sizing
+with_walk t = (t, sizes_walk t)
 
 abbrev pub vars_walk : List Ident → TypeExpr → Scope → Result Done Fault
 vars_walk is t G = written t G >>= λ T. sizes_walk t G >> names_rule is T G.names >>= λ names. Ok (done names Pure)

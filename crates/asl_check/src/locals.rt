@@ -86,8 +86,8 @@ fn check_unbound(
     ensures rule { Met (λ p. done names.now p.1) result (rules.unbound_rule span ty.now e.now (scope_of names.now body.now)) }
     ensures tree { IfOk result (λ p. p.0 ≡ tree.Declare span binds.Nothing (elaborated e.now (scope_of names.now body.now))) }
 {
-    let (tree, s) = type_initialiser(alloc, names, body, ty, e)?;
-    let effect = ended(body.class, span, true, s.effect)?;
+    let (tree, initial) = type_initialiser(alloc, names, body, ty, e)?;
+    let effect = ended(body.class, span, true, initial.effect)?;
     Ok((TypedStmt::Declare(span, Binds::Nothing, tree), effect))
 }
 

@@ -53,7 +53,7 @@ fn all_type_sizes(
     types: &[TypeExpr],
     trees: &mut Items<TypedExpr>,
 ) -> Result<(), Refused>
-    ensures rule { Agrees result (walks.all_sizes_walk (map walks.sizes_walk types.now) (scope_of names.now body.now)) }
+    ensures rule { Agrees result (walks.all_sizes_walk (map walks.with_walk types.now) (scope_of names.now body.now)) }
     ensures tree { OnOk result (trees.new ≡ trees.old ++ all_sizes (map made_type types.now) (scope_of names.now body.now)) }
 {
     for t in types {
