@@ -5,3 +5,4 @@ pub mod Sizing
 pub mod StmtWalks
 pub mod Trees
 pub mod Programs
+pub mod TargetWalks

@@ -77,7 +77,7 @@ list_step before t s ss G d h w =
     append_assoc before (t ∷ []) (trees_of (map elaborated_stmt ss) (with_names G d.names))
     ∙ (λ i. before ++ h i ∷ trees_of (map elaborated_stmt ss) (with_names G (sym (names_are s G d w) i)))
 
-next_of : {A : Type 0} (ss : List A) (k : ℕ) (s : A) → k < length ss → s ≡ get_or ss k s → drop k ss ≡ s ∷ drop (k + 1) ss
+pub next_of : {A : Type 0} (ss : List A) (k : ℕ) (s : A) → k < length ss → s ≡ get_or ss k s → drop k ss ≡ s ∷ drop (k + 1) ss
 next_of ss k s within here =
     let up : suc k ≡ k + 1 = omega arith in
     drop-cons ss k s within ∙ ap (λ n. get_or ss k s ∷ drop n ss) up ∙ ap (λ z. z ∷ drop (k + 1) ss) (sym here)

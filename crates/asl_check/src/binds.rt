@@ -19,7 +19,7 @@ use asl_rules::effect::Effect;
 use asl_syn::code::{Refused, StaticCode};
 use asl_syn::token::Span;
 use asl_syn::tree::{Binder, Expr, LocalKind, TypeExpr};
-use asl_tree::typed::{Binds, TypedStmt};
+use asl_tree::typed::{Binds, TypedExpr, TypedStmt};
 use asl_types::answer::fault;
 use asl_types::fits::misfit;
 use asl_types::structure::tuple_parts;
@@ -151,6 +151,37 @@ fn bound_parts(alloc: Global, binders: &[Binder]) -> Result<Items<bool>, AllocEr
     Ok(bound)
 }
 
+/// The initialiser of a tuple bind, and then its names: its typed tree and its effect.
+fn bind_several<'a>(
+    alloc: Global,
+    names: &mut Scope<'a>,
+    body: &Body,
+    span: Span,
+    kind: LocalKind,
+    binders: &'a [Binder],
+    ty: &Option<TypeExpr>,
+    e: &Expr,
+) -> Result<(TypedExpr, Effect), Refused>
+    ensures rule { Met (λ p. done names.new p.1) result (walks.several_rule_walk span kind binders.now ty.now e.now (scope_of names.old body.now)) }
+    ensures tree { IfOk result (λ p. p.0 ≡ elaborated e.now (scope_of names.old body.now)) }
+{
+    match ty {
+        None => {
+            let (tree, s) = type_in(alloc, names, body, e)?;
+            let k =
+                bind_parts(names, body.class, span, kind, binders, &s.ty, None, e, s.effect)?;
+            Ok((tree, k))
+        }
+        Some(t) => {
+            let to = written_in(alloc, names, body, t)?;
+            let (tree, s) = type_in(alloc, names, body, e)?;
+            let code = misfit(&s.ty, &to);
+            let k = bind_parts(names, body.class, span, kind, binders, &to, code, e, s.effect)?;
+            Ok((tree, k))
+        }
+    }
+}
+
 /// A declaration of the parts of a tuple with its initialiser.
 pub(crate) fn check_several<'a>(
     alloc: Global,
@@ -165,21 +196,7 @@ pub(crate) fn check_several<'a>(
     ensures rule { Met (λ p. done names.new p.1) result (walks.several_rule_walk span kind binders.now ty.now e.now (scope_of names.old body.now)) }
     ensures tree { IfOk result (λ p. p.0 ≡ tree.Declare span (binds.Parts (map is_bound binders.now)) (elaborated e.now (scope_of names.old body.now))) }
 {
+    let (tree, effect) = bind_several(alloc, names, body, span, kind, binders, ty, e)?;
     let bound = bound_parts(alloc, binders)?;
-    let (tree, effect) = match ty {
-        None => {
-            let (tree, s) = type_in(alloc, names, body, e)?;
-            let k =
-                bind_parts(names, body.class, span, kind, binders, &s.ty, None, e, s.effect)?;
-            (tree, k)
-        }
-        Some(t) => {
-            let to = written_in(alloc, names, body, t)?;
-            let (tree, s) = type_in(alloc, names, body, e)?;
-            let code = misfit(&s.ty, &to);
-            let k = bind_parts(names, body.class, span, kind, binders, &to, code, e, s.effect)?;
-            (tree, k)
-        }
-    };
     Ok((TypedStmt::Declare(span, Binds::Parts(bound), tree), effect))
 }

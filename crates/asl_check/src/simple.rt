@@ -93,9 +93,8 @@ pub(crate) fn check_assign(
 {
     let before = type_operands(alloc, names, body, target, no_operands())?;
     let (tree, s) = type_in(alloc, names, body, e)?;
-    let mut way = Items::new(alloc);
     let mut places = Items::new(alloc);
-    let stores = place_target(alloc, names, body, target, &mut way, &mut places)?;
+    let stores = place_target(alloc, names, body, target, &[], &mut places)?;
     check_fits(alloc, names, body, target, &s.ty, place(e))?;
     if !counts(target, &s.ty) {
         return fault(StaticCode::T05, span);

@@ -1,6 +1,6 @@
 //! Targets of assignments.
 
-ghost use Rattle.std.specs.Prelude.{◌≡◌, ◌++◌, map, OnOk, IfOk};
+ghost use Rattle.std.specs.Prelude.{◌≡◌, [], ◌∷◌, ◌++◌, map, OnOk, IfOk};
 ghost use Rattle.asl_rules.specs.Stmts as rules;
 ghost use Rattle.asl_rules.specs.Stmts.{found_target};
 ghost use Rattle.asl_tree.specs.Elaboration.{placing, places_of, place_at};
@@ -23,7 +23,7 @@ use asl_types::fits::misfit;
 use asl_types::structure::tuple_parts;
 use asl_types::{Scope, Ty, writing};
 use sqlite_items::Items;
-use std::alloc::Global;
+use std::alloc::{AllocError, Global};
 
 /// The operands in a target, behind those before.
 #[cycle(operands)]
@@ -84,9 +84,9 @@ fn check_place(
     if !storage.is_mutable {
         return fault(StaticCode::T14, name.span);
     }
-    let effect = writing(storage);
     let slot = storage.slot;
     let ty = storage.ty.copy()?;
+    let effect = writing(storage);
     let (steps, behind) = behind_suffixes(alloc, names, body, name, suffixes, ty)?;
     let place = TypedPlace {
         span: name.span,
@@ -97,6 +97,15 @@ fn check_place(
     Ok((place, behind, effect))
 }
 
+/// The way on to a part, by its number from 0.
+fn way_into(alloc: Global, way: &[usize], part: usize) -> Result<Items<usize>, AllocError>
+    ensures { IfOk result (λ inner. inner ≡ way.now ++ part ∷ []) }
+{
+    let mut inner = Items::from_slice(alloc, way)?;
+    inner.push(part)?;
+    Ok(inner)
+}
+
 /// The places of a target, behind those before, for a value at the end of this way; and what its stores do.
 #[cycle(places)]
 pub(crate) fn place_target(
@@ -104,18 +113,17 @@ pub(crate) fn place_target(
     names: &Scope,
     body: &Body,
     target: &Target,
-    way: &mut Items<usize>,
+    way: &[usize],
     places: &mut Items<TypedPlace>,
 ) -> Result<Effect, Refused>
     ensures rule { Agrees result ((found_target target.now).place (scope_of names.now body.now)) }
-    ensures way { OnOk result (way.new ≡ way.old) }
-    ensures tree { OnOk result (places.new ≡ places.old ++ placing target.now way.old (scope_of names.now body.now)) }
+    ensures tree { OnOk result (places.new ≡ places.old ++ placing target.now way.now (scope_of names.now body.now)) }
 {
     match target {
         Target::Discarded(_) => Ok(Effect::Pure),
         Target::Place(_, name, suffixes) => {
             let (place, _, effect) =
-                check_place(alloc, names, body, name, suffixes.as_slice(), way.as_slice())?;
+                check_place(alloc, names, body, name, suffixes.as_slice(), way)?;
             places.push(place)?;
             Ok(effect)
         }
@@ -133,18 +141,16 @@ fn place_targets(
     names: &Scope,
     body: &Body,
     targets: &[Target],
-    way: &mut Items<usize>,
+    way: &[usize],
     places: &mut Items<TypedPlace>,
 ) -> Result<Effect, Refused>
     ensures rule { Agrees result (rules.all_places (map found_target targets.now) (scope_of names.now body.now)) }
-    ensures way { OnOk result (way.new ≡ way.old) }
-    ensures tree { OnOk result (places.new ≡ places.old ++ places_of (map placing targets.now) 0 way.old (scope_of names.now body.now)) }
+    ensures tree { OnOk result (places.new ≡ places.old ++ places_of (map placing targets.now) 0 way.now (scope_of names.now body.now)) }
 {
     let mut effect = Effect::Pure;
-    for (part, target) in targets.iter().enumerate() {
-        way.push(part)?;
-        let more = place_target(alloc, names, body, target, way, places)?;
-        way.pop();
+    for part in 0..targets.len() {
+        let inner = way_into(alloc, way, part)?;
+        let more = place_target(alloc, names, body, &targets[part], inner.as_slice(), places)?;
         effect = greater(effect, more);
     }
     Ok(effect)
@@ -166,9 +172,7 @@ pub(crate) fn check_fits(
     match target {
         Target::Discarded(_) => Ok(()),
         Target::Place(_, name, suffixes) => {
-            let none = Items::new(alloc);
-            let (_, to, _) =
-                check_place(alloc, names, body, name, suffixes.as_slice(), none.as_slice())?;
+            let (_, to, _) = check_place(alloc, names, body, name, suffixes.as_slice(), &[])?;
             match misfit(ty, &to) {
                 None => Ok(()),
                 Some(code) => fault(code, at),
