@@ -15,8 +15,8 @@ use Rattle.asl_rules.specs.Scopes.{Scope}
 use Rattle.asl_rules.specs.Exprs.{Typed, typed}
 use Rattle.asl_rules.specs.Stmts.{Done, done, FoundTarget, expr_at, ended, all_operands, all_places, suffix_operands, suffixes_operands, items_rule, print_rule, assign_rule}
 use Rattle.asl_rules.proofs.Inversions.{ok_ok, err_ok}
-use Rattle.asl_check.specs.Walks.{no_operands, with_effect, with_effects, with_all, after_items, print_walk, assign_walk}
-use Rattle.asl_check.proofs.Chains.{then_same, then_then}
+use Rattle.asl_check.specs.Walks.{no_operands, with_effect, with_effects, with_all, after_items, print_walk, end_walk, stores_walk, assign_walk}
+use Rattle.asl_check.proofs.Chains.{then_same, then_then, need_then}
 
 and_true : (b : Bool) → b && true ≡ b
 and_true true = refl
@@ -56,11 +56,17 @@ print_is span is G =
 all_with : (ks : List Effect) (k : Effect) → (all_together Pure (ks ++ k ∷ []), greatest Pure (ks ++ k ∷ [])) ≡ with_effect (with_effects no_operands ks) k
 all_with ks k = sym (summary (ks ++ k ∷ []) true Pure) ∙ more_effects ks (k ∷ []) no_operands
 
+-- the conditions at the end, and the statement
+end_then : (c d : Result (Unit {0}) Fault) (r : Result Effect Fault) (F : Effect → Result Done Fault) → (c >> (d >> (r >>= F))) ≡ ((c >> (d >> r)) >>= F)
+end_then c d r F = ap (λ q. c >> q) (need_then d r F) ∙ need_then c (d >> r) F
+
 pub assign_is : (span : Span) (t : FoundTarget) (e : Expr) (G : Scope) → assign_rule span t e G ≡ assign_walk span t e G
 assign_is span t e G =
     then_same (t.operands G) _ _ (λ ks. then_same (typed e G) _ _ (λ S.
-    ap (λ (q : Bool × Effect). t.place G >>= λ w. t.fits S.ty (expr_at e) G >> need (t.counts S.ty) T05 span >> ended G.class span q.0 (greater q.1 w) >>= λ k. Ok (done G.names k)) (all_with ks S.effect)))
-    ∙ sym (then_then (t.operands G) (λ ks. Ok (with_effects no_operands ks)) _)
+    ap (λ (q : Bool × Effect). t.place G >>= λ w. t.fits S.ty (expr_at e) G >> need (t.counts S.ty) T05 span >> ended G.class span q.0 (greater q.1 w) >>= λ k. Ok (done G.names k)) (all_with ks S.effect)
+    ∙ then_same (t.place G) _ _ (λ w. end_then (t.fits S.ty (expr_at e) G) (need (t.counts S.ty) T05 span) (ended G.class span (with_effect (with_effects no_operands ks) S.effect).0 (greater (with_effect (with_effects no_operands ks) S.effect).1 w)) (λ k. Ok (done G.names k)))
+    ∙ sym (then_then (t.place G) (λ w. end_walk span t S.ty (expr_at e) (with_effect (with_effects no_operands ks) S.effect) w G) (λ k. Ok (done G.names k)))))
+    ∙ sym (then_then (t.operands G) (λ ks. Ok (with_effects no_operands ks)) (λ p. typed e G >>= λ S. stores_walk span t S (expr_at e) p G >>= λ k. Ok (done G.names k)))
 
 -- the operands of suffixes, suffix by suffix
 pub suffixes_step : (x : PlacedSuffix) (xs : List PlacedSuffix) (G : Scope) (p q : Bool × Effect) → with_all p (suffix_operands x.suffix G) ≡ Ok q → with_all p (suffixes_operands (x ∷ xs) G) ≡ with_all q (suffixes_operands xs G)

@@ -20,7 +20,7 @@ use Rattle.asl_rules.specs.Exprs.{Typed, typed, written}
 use Rattle.asl_rules.specs.Stmts.{Done, done, FoundStmt, FoundBranch, Branch, expr_at, ended, with_names, in_order, block, condition, conditions, branches, if_rule, names_rule, vars_rule, found_target, StmtOf, Unread, stmt_layer_rule, branch_rule, found_stmt}
 use Rattle.asl_rules.proofs.Inversions.{ok_ok, bind_ok}
 use Rattle.asl_rules.proofs.Growing.{Longer, same_names, longer_on, stmt_longer}
-use Rattle.asl_check.specs.Walks.{misplaced, after_branch, after_branches, if_walk, sizes_walk, vars_walk, walk_layer, walk_stmt}
+use Rattle.asl_check.specs.Walks.{misplaced, condition_walk, after_branch, after_branches, if_walk, sizes_walk, vars_walk, walk_layer, walk_stmt}
 use Rattle.asl_check.proofs.BindWalks.{bind_is}
 use Rattle.asl_check.proofs.OperandWalks.{print_is, assign_is}
 use Rattle.asl_check.proofs.Sizing.{sizes_typed}
@@ -43,6 +43,9 @@ misplaced_is : (r : Result (Unit {0}) Fault) (at : Option Span) (c : Expr) (S : 
 misplaced_is r None c S h = ap (λ q. q >> condition c S) h ∙ boolean_at (is_boolean S.ty) (expr_at c)
 misplaced_is r (Some at) c S h = ap (λ q. q >> condition c S) h
 
+branch_is : (b : FoundBranch) (at : Option Span) (k : Effect) (G : Scope) → after_branch b at k G ≡ (typed b.condition G >>= λ S. block b.body G >>= λ d. Ok (misplaced at b.condition S, greater k (greater S.effect d.effect)))
+branch_is b at k G = then_then (typed b.condition G) (λ S. Ok (misplaced at b.condition S, S.effect)) (λ p. block b.body G >>= λ d. Ok (p.0, greater k (greater p.1 d.effect)))
+
 branches_walk : (T : Result (Unit {0}) Fault → Effect → Result Done Fault) (bs : List FoundBranch) (before : List Branch) (at : Option Span) (k : Effect) (G : Scope) → conditions before ≡ none_at T05 at →
     (branches bs before k G >>= λ p. T (conditions p.0) p.1) ≡ (after_branches bs at k G >>= λ p. T (none_at T05 p.0) p.1)
 branches_walk T [] before at k G h = ap (λ c. T c k) h
@@ -51,7 +54,8 @@ branches_walk T (b ∷ bs) before at k G h =
     ∙ then_same (typed b.condition G) _ _ (λ S.
     then_then (block b.body G) _ (λ p. T (conditions p.0) p.1)
     ∙ then_same (block b.body G) _ _ (λ d. branches_walk T bs _ (misplaced at b.condition S) (greater k (greater S.effect d.effect)) G (conditions_last before b.condition S ∙ misplaced_is (conditions before) at b.condition S h)))
-    ∙ sym (then_then (after_branch b at k G) (λ p. after_branches bs p.0 p.1 G) (λ p. T (none_at T05 p.0) p.1)
+    ∙ sym (ap (λ r. r >>= λ p. T (none_at T05 p.0) p.1) (ap (λ r. r >>= λ p. after_branches bs p.0 p.1 G) (branch_is b at k G))
+    ∙ then_then (typed b.condition G >>= λ S. block b.body G >>= λ d. Ok (misplaced at b.condition S, greater k (greater S.effect d.effect))) (λ p. after_branches bs p.0 p.1 G) (λ p. T (none_at T05 p.0) p.1)
     ∙ then_then (typed b.condition G) (λ S. block b.body G >>= λ d. Ok (misplaced at b.condition S, greater k (greater S.effect d.effect))) (λ p. after_branches bs p.0 p.1 G >>= λ q. T (none_at T05 q.0) q.1)
     ∙ then_same (typed b.condition G) _ _ (λ S. then_then (block b.body G) (λ d. Ok (misplaced at b.condition S, greater k (greater S.effect d.effect))) (λ p. after_branches bs p.0 p.1 G >>= λ q. T (none_at T05 q.0) q.1)))
 
@@ -65,9 +69,9 @@ if_is span c first others last G =
 vars_is : (is : List Ident) (t : TypeExpr) (G : Scope) → vars_rule is t G ≡ vars_walk is t G
 vars_is is t G = by (written t G) refl
   where
-    by : (r : Result Ty Fault) → written t G ≡ r → (r >>= λ T. names_rule is T G.names >>= λ names. Ok (done names Pure)) ≡ (r >>= λ T. sizes_walk t G >> names_rule is T G.names >>= λ names. Ok (done names Pure))
+    by : (r : Result Ty Fault) → written t G ≡ r → (r >>= λ T. names_rule is T G.names >>= λ names. Ok (done names Pure)) ≡ ((r >>= λ T. sizes_walk t G >> Ok T) >>= λ T. names_rule is T G.names >>= λ names. Ok (done names Pure))
     by (Err f) h = refl
-    by (Ok T) h = sym (ap (λ c. c >> (names_rule is T G.names >>= λ names. Ok (done names Pure))) (sizes_typed G t T h))
+    by (Ok T) h = sym (ap (λ c. (c >> Ok T) >>= λ T. names_rule is T G.names >>= λ names. Ok (done names Pure)) (sizes_typed G t T h))
 
 -- ---- all statements
 

@@ -1,5 +1,5 @@
 -- The rules as the checker walks them: what it keeps from step to step, and the statements by these steps.
-use Rattle.std.specs.Prelude.{ℕ, Bool, true, false, ◌&&◌, if◌then◌else◌, List, [], ◌∷◌, ◌++◌, length, Option, None, Some, Result, Ok}
+use Rattle.std.specs.Prelude.{ℕ, Bool, true, false, ◌&&◌, if◌then◌else◌, List, [], ◌∷◌, ◌++◌, length, map, Option, None, Some, Result, Ok}
 use Rattle.asl_syn.specs.declared.token.Span.{Span}
 use Rattle.asl_syn.specs.declared.code.Fault.{Fault}
 use Rattle.asl_syn.specs.declared.code.StaticCode.{StaticCode}
@@ -30,7 +30,7 @@ use Rattle.asl_syn.specs.declared.tree.Alternative.TheFolds.{fold-Stmt, fold-Els
 use Rattle.asl_syn.specs.declared.tree.Decl.{Decl}
 use Rattle.asl_tree.specs.declared.typed.TypedStmt.{TypedStmt}
 use Rattle.asl_tree.specs.declared.typed.TypedStmt.TheVariants as tree
-use Rattle.asl_tree.specs.Elaboration.{elaborated, placing, made_type, first_value}
+use Rattle.asl_tree.specs.Elaboration.{elaborated, elaborated_stmt, elaborated_branch, trees_of, branches_of, placing, made_type, first_value}
 use Rattle.asl_rules.specs.declared.effect.Effect.{Effect}
 use Rattle.asl_rules.specs.declared.effect.Effect.TheVariants.{Pure, Writes}
 use Rattle.asl_rules.specs.declared.entry.Entry.{Entry}
@@ -68,9 +68,16 @@ abbrev pub misplaced : Option Span → Expr → Typed → Option Span
 misplaced None e S = if is_boolean S.ty then None else Some (expr_at e)
 misplaced (Some at) e S = Some at
 
+-- a condition: the place of the first that is no boolean after it, and its effect
+abbrev pub condition_walk : Option Span → Expr → Scope → Result (Option Span × Effect) Fault
+condition_walk at e G = typed e G >>= λ S. Ok (misplaced at e S, S.effect)
+
+abbrev pub branch_of : Expr → List FoundStmt → FoundBranch
+branch_of c ss = record { condition = c; body = ss }
+
 -- one more branch of an `if`
 abbrev pub after_branch : FoundBranch → Option Span → Effect → Scope → Result (Option Span × Effect) Fault
-after_branch b at k G = typed b.condition G >>= λ S. block b.body G >>= λ d. Ok (misplaced at b.condition S, greater k (greater S.effect d.effect))
+after_branch b at k G = condition_walk at b.condition G >>= λ p. block b.body G >>= λ d. Ok (p.0, greater k (greater p.1 d.effect))
 
 -- the branches of an `if` in order
 abbrev pub after_branches : List FoundBranch → Option Span → Effect → Scope → Result (Option Span × Effect) Fault
@@ -83,9 +90,12 @@ end_if class span at k = none_at T05 at >> ended class span true k
 
 abbrev pub if_walk : Span → Expr → List FoundStmt → List FoundBranch → List FoundStmt → Scope → Result Done Fault
 if_walk span c first others last G =
-    after_branches (record { condition = c; body = first } ∷ others) None Pure G >>= λ p.
+    after_branches (branch_of c first ∷ others) None Pure G >>= λ p.
     block last G >>= λ d.
     end_if G.class span p.0 (greater p.1 d.effect) >>= λ k. Ok (done G.names k)
+
+abbrev pub if_tree : Span → Expr → List Stmt → List ElseIf → List Stmt → Scope → TypedStmt
+if_tree span c first others last G = tree.If span (elaborated c G) (trees_of (map elaborated_stmt first) G) (branches_of (map elaborated_branch others) G) (trees_of (map elaborated_stmt last) G)
 
 -- ---- `print`
 
@@ -174,25 +184,36 @@ sizes_walk = para-TypeExpr Unread Unread Unread Unread Unread Unread Sizing (λ 
 abbrev pub with_walk : TypeExpr → TypeExpr × Sizing
 with_walk t = (t, sizes_walk t)
 
+abbrev pub type_walk : TypeExpr → Scope → Result Ty Fault
+type_walk t G = written t G >>= λ T. sizes_walk t G >> Ok T
+
 abbrev pub vars_walk : List Ident → TypeExpr → Scope → Result Done Fault
-vars_walk is t G = written t G >>= λ T. sizes_walk t G >> names_rule is T G.names >>= λ names. Ok (done names Pure)
+vars_walk is t G = type_walk t G >>= λ T. names_rule is T G.names >>= λ names. Ok (done names Pure)
 
 abbrev pub vars_tree : Span → List Ident → TypeExpr → Scope → TypedStmt
 vars_tree span is t G = tree.DeclareFirst span ((made_type t).sizes G) (length is) (first_value (written t G))
 
 -- ---- assignments
 
+-- a name that can be assigned: its type, and what a store in it does
+abbrev pub assignable_walk : Ident → Scope → Result (Ty × Effect) Fault
+assignable_walk i G = assignable i G >>= λ s. Ok (s.ty, writing s)
+
 -- the type of a place, and what a store in it does
 abbrev pub place_walk : Ident → List PlacedSuffix → Scope → Result (Ty × Effect) Fault
-place_walk i xs G = assignable i G >>= λ s. behind_suffixes i xs s.ty G >>= λ T. Ok (T, writing s)
+place_walk i xs G = assignable_walk i G >>= λ p. behind_suffixes i xs p.0 G >>= λ T. Ok (T, p.1)
+
+-- the end of an assignment, whose operands and stores do this
+abbrev pub end_walk : Span → FoundTarget → Ty → Span → Bool × Effect → Effect → Scope → Result Effect Fault
+end_walk span t T at p w G = t.fits T at G >> need (t.counts T) T05 span >> ended G.class span p.0 (greater p.1 w)
+
+abbrev pub stores_walk : Span → FoundTarget → Typed → Span → Bool × Effect → Scope → Result Effect Fault
+stores_walk span t S at p G = t.place G >>= λ w. end_walk span t S.ty at (with_effect p S.effect) w G
 
 abbrev pub assign_walk : Span → FoundTarget → Expr → Scope → Result Done Fault
 assign_walk span t e G =
     with_all no_operands (t.operands G) >>= λ p. typed e G >>= λ S.
-    t.place G >>= λ w.
-    t.fits S.ty (expr_at e) G >>
-    need (t.counts S.ty) T05 span >>
-    ended G.class span (with_effect p S.effect).0 (greater (with_effect p S.effect).1 w) >>= λ k. Ok (done G.names k)
+    stores_walk span t S (expr_at e) p G >>= λ k. Ok (done G.names k)
 
 abbrev pub assign_tree : Span → Target → Expr → Scope → TypedStmt
 assign_tree span t e G = tree.Assign span (placing t [] G) (elaborated e G)

@@ -3,9 +3,11 @@
 ghost use Rattle.std.specs.Prelude.{◌≡◌, length, IfOk};
 ghost use Rattle.asl_rules.specs.Stmts as rules;
 ghost use Rattle.asl_rules.specs.Stmts.{done};
+ghost use Rattle.asl_rules.specs.Values.{initial_value as initial};
+ghost use Rattle.asl_value.specs.View.{value_of};
 ghost use Rattle.asl_tree.specs.declared.typed.Binds.TheVariants as binds;
 ghost use Rattle.asl_tree.specs.declared.typed.TypedStmt.TheVariants as tree;
-ghost use Rattle.asl_tree.specs.Elaboration.{elaborated, binds_of, made_type, first_value};
+ghost use Rattle.asl_tree.specs.Elaboration.{elaborated, binds_of, made_type};
 ghost use Rattle.asl_types.specs.Answers.{Met};
 ghost use Rattle.asl_check.specs.Views.{scope_of};
 ghost use Rattle.asl_types.specs.View.{ty_of};
@@ -26,6 +28,7 @@ use asl_tree::typed::{Binds, TypedExpr, TypedStmt};
 use asl_types::answer::fault;
 use asl_types::initial::initial_value;
 use asl_types::{Scope, Ty};
+use asl_value::Value;
 use sqlite_items::Items;
 use std::alloc::Global;
 
@@ -130,6 +133,41 @@ fn declare_vars<'a>(names: &mut Scope<'a>, idents: &'a [Ident], ty: &Ty) -> Resu
     Ok(())
 }
 
+/// What a declaration without an initialiser declares: the type that is written, the expressions in it, and its first value.
+#[derive(Drop)]
+struct Vars {
+    ty: Ty,
+    sizes: Items<TypedExpr>,
+    first: Value,
+}
+
+/// The expressions in a written type, in order: their typed trees.
+fn sizes_of(
+    alloc: Global,
+    names: &Scope,
+    body: &Body,
+    t: &TypeExpr,
+) -> Result<Items<TypedExpr>, Refused>
+    ensures rule { Met (λ _. tt) result (walks.sizes_walk t.now (scope_of names.now body.now)) }
+    ensures tree { IfOk result (λ xs. xs ≡ (made_type t.now).sizes (scope_of names.now body.now)) }
+{
+    let mut sizes = Items::new(alloc);
+    type_sizes(alloc, names, body, t, &mut sizes)?;
+    Ok(sizes)
+}
+
+/// The type that is written, with the expressions in it and its first value.
+fn type_vars(alloc: Global, names: &Scope, body: &Body, t: &TypeExpr) -> Result<Vars, Refused>
+    ensures rule { Met (λ vars. ty_of vars.ty) result (walks.type_walk t.now (scope_of names.now body.now)) }
+    ensures sizes { IfOk result (λ vars. vars.sizes ≡ (made_type t.now).sizes (scope_of names.now body.now)) }
+    ensures first { IfOk result (λ vars. value_of vars.first ≡ initial (ty_of vars.ty)) }
+{
+    let ty = written_in(alloc, names, body, t)?;
+    let first = initial_value(alloc, &ty)?;
+    let sizes = sizes_of(alloc, names, body, t)?;
+    Ok(Vars { ty, sizes, first })
+}
+
 /// A declaration without an initialiser.
 pub(crate) fn check_vars<'a>(
     alloc: Global,
@@ -142,11 +180,8 @@ pub(crate) fn check_vars<'a>(
     ensures rule { Met (λ p. done names.new p.1) result (walks.vars_walk idents.now ty.now (scope_of names.old body.now)) }
     ensures tree { IfOk result (λ p. p.0 ≡ walks.vars_tree span idents.now ty.now (scope_of names.old body.now)) }
 {
-    let to = written_in(alloc, names, body, ty)?;
-    let mut sizes = Items::new(alloc);
-    type_sizes(alloc, names, body, ty, &mut sizes)?;
-    let first = initial_value(alloc, &to)?;
-    declare_vars(names, idents, &to)?;
+    let Vars { ty, sizes, first } = type_vars(alloc, names, body, ty)?;
+    declare_vars(names, idents, &ty)?;
     let tree = TypedStmt::DeclareFirst(span, sizes, idents.len(), first);
     Ok((tree, Effect::Pure))
 }

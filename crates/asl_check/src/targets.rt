@@ -5,6 +5,7 @@ ghost use Rattle.asl_rules.specs.Stmts as rules;
 ghost use Rattle.asl_rules.specs.Stmts.{found_target};
 ghost use Rattle.asl_tree.specs.Elaboration.{placing, places_of, place_at};
 ghost use Rattle.asl_types.specs.Answers.{Met, Agrees};
+ghost use Rattle.asl_types.specs.Places.{slot_of, layout_of};
 ghost use Rattle.asl_types.specs.View.{ty_of, all_parts};
 ghost use Rattle.asl_check.specs.Views.{operands_of, scope_of};
 ghost use Rattle.asl_check.specs.Walks as walks;
@@ -21,7 +22,7 @@ use asl_tree::typed::TypedPlace;
 use asl_types::answer::fault;
 use asl_types::fits::misfit;
 use asl_types::structure::tuple_parts;
-use asl_types::{Scope, Ty, writing};
+use asl_types::{Scope, Slot, Ty, writing};
 use sqlite_items::Items;
 use std::alloc::{AllocError, Global};
 
@@ -65,8 +66,33 @@ fn all_operands(
     Ok(so_far)
 }
 
-/// A name with its suffixes as the place of an assignment: T02 where it is no storage, T14 where that can't be assigned. With
-/// its type, and with what a store in it does.
+/// A name that can be assigned: where it is held, its type, and what a store in it does.
+#[derive(Drop)]
+struct Assignable {
+    slot: Slot,
+    ty: Ty,
+    effect: Effect,
+}
+
+/// T02 where a name is no storage, T14 where that can't be assigned.
+fn find_assignable(names: &Scope, body: &Body, name: &Ident) -> Result<Assignable, Refused>
+    ensures rule { Met (λ a. (ty_of a.ty, a.effect)) result (walks.assignable_walk name.now (scope_of names.now body.now)) }
+    ensures slot { IfOk result (λ a. a.slot ≡ slot_of name.now.text (layout_of names.now)) }
+{
+    let Some(storage) = names.storage_of(name.text.as_slice()) else {
+        return fault(StaticCode::T02, name.span);
+    };
+    if !storage.is_mutable {
+        return fault(StaticCode::T14, name.span);
+    }
+    Ok(Assignable {
+        slot: storage.slot,
+        ty: storage.ty.copy()?,
+        effect: writing(storage),
+    })
+}
+
+/// A name with its suffixes as the place of an assignment, with its type, and with what a store in it does.
 fn check_place(
     alloc: Global,
     names: &Scope,
@@ -78,19 +104,12 @@ fn check_place(
     ensures rule { Met (λ p. (ty_of p.1, p.2)) result (walks.place_walk name.now suffixes.now (scope_of names.now body.now)) }
     ensures tree { IfOk result (λ p. p.0 ≡ place_at name.now suffixes.now way.now (scope_of names.now body.now)) }
 {
-    let Some(storage) = names.storage_of(name.text.as_slice()) else {
-        return fault(StaticCode::T02, name.span);
-    };
-    if !storage.is_mutable {
-        return fault(StaticCode::T14, name.span);
-    }
-    let slot = storage.slot;
-    let ty = storage.ty.copy()?;
-    let effect = writing(storage);
+    let Assignable { slot, ty, effect } = find_assignable(names, body, name)?;
     let (steps, behind) = behind_suffixes(alloc, names, body, name, suffixes, ty)?;
+    let way = Items::from_slice(alloc, way)?;
     let place = TypedPlace {
         span: name.span,
-        way: Items::from_slice(alloc, way)?,
+        way,
         slot,
         steps,
     };
