@@ -29,7 +29,8 @@ use Rattle.asl_rules.specs.Widths.{weight, weighed, known_number, width_of_stora
 use Rattle.asl_rules.specs.Exprs.{Typed, typed_as, Found, FoundField, FoundType, Unread, finish, of_integers, unary_rule, binary_rule, name_of_standing, found, found_type, typed, width, written, typed_rule, width_rule, written_rule, types_in_order, array_rule, expr_rule, given_rule, type_rule}
 use Rattle.asl_rules.proofs.Inversions.{err_ok, bind_ok, then_ok, need_ok}
 use Rattle.asl_rules.proofs.WellTyped.{opened, type_opened}
-use Rattle.asl_check.specs.Walks.{Sizing, TypeOf, all_sizes_walk, sizes_layer_walk, sizes_walk, with_walk}
+use Rattle.asl_check.specs.Walks.{Sizing, all_sizes_walk, sizes_layer_walk, sizes_walk, with_walk}
+use Rattle.asl_check.proofs.SizeWalks.{walks_opened}
 
 -- an integer that does nothing
 record IsNumber (r : Result Typed Fault) : Type 0 where
@@ -143,9 +144,6 @@ module _ (G : Scope) where
 
   -- ---- written types
 
-  abbrev walks_opened : TypeLayer → TypeOf
-  walks_opened = map-TypeExpr Bitfield ConstraintPart Expr FieldValue Pattern Slice TypeExpr (Bitfield × Unread) (ConstraintPart × Unread) (Expr × Unread) (FieldValue × Unread) (Pattern × Unread) (Slice × Unread) (TypeExpr × Sizing) (λ x. (x, tt)) (λ x. (x, tt)) (λ x. (x, tt)) (λ x. (x, tt)) (λ x. (x, tt)) (λ x. (x, tt)) with_walk
-
   parts_sized : (ts : List ((t : TypeExpr) × Sized t)) (Ts : Parts) → types_in_order (map found_type (map (λ t. t.0) ts)) G ≡ Ok Ts → all_sizes_walk (map with_walk (map (λ t. t.0) ts)) G ≡ Ok tt
   parts_sized [] Ts h = refl
   parts_sized (t ∷ ts) Ts h =
@@ -165,7 +163,7 @@ module _ (G : Scope) where
   layer_sized (ex.ArrayType span e t) T h =
       let z = bind_ok (width e.0 G) (λ z. written t.0 G >>= λ U. length_of span z >>= λ n. bounded span (array_of n U)) T h in
       let u = bind_ok (written t.0 G) (λ U. length_of span z.value >>= λ n. bounded span (array_of n U)) T z.then in
-      ap (λ r. r >>= λ S. sizes_walk t.0 G) (e.1 z.value z.first).is ∙ t.1 u.value u.first
+      ap (λ r. (r >>= λ S. Ok tt) >> sizes_walk t.0 G) (e.1 z.value z.first).is ∙ t.1 u.value u.first
 
   type_step : (x : TypeLayer) (y : TypeBelow) → type_trees y ≡ x → Sized (roll-TypeExpr x)
   type_step x y is T h =

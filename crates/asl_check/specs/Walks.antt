@@ -166,6 +166,9 @@ bind_walk span kind (Several at bs) t e G = several_rule_walk span kind bs t e G
 abbrev pub Sizing : Type 0
 Sizing = Scope → Result (Unit {0}) Fault
 
+abbrev pub size_walk : Expr → Sizing
+size_walk e G = typed e G >>= λ S. Ok tt
+
 abbrev pub all_sizes_walk : List (TypeExpr × Sizing) → Sizing
 all_sizes_walk [] G = Ok tt
 all_sizes_walk (t ∷ ts) G = t.1 G >> all_sizes_walk ts G
@@ -175,11 +178,14 @@ TypeOf = ex.TypeExpr-F (Bitfield × Unread) (ConstraintPart × Unread) (Expr × 
 
 abbrev pub sizes_layer_walk : TypeOf → Sizing
 sizes_layer_walk (ex.TupleType span ts) G = all_sizes_walk ts G
-sizes_layer_walk (ex.ArrayType span e t) G = typed e.0 G >>= λ S. t.1 G
+sizes_layer_walk (ex.ArrayType span e t) G = size_walk e.0 G >> t.1 G
 sizes_layer_walk layer G = Ok tt
 
 abbrev pub sizes_walk : TypeExpr → Sizing
 sizes_walk = para-TypeExpr Unread Unread Unread Unread Unread Unread Sizing (λ _. tt) (λ _. tt) (λ _. tt) (λ _. tt) (λ _. tt) (λ _. tt) sizes_layer_walk
+
+abbrev pub array_walk : Expr → TypeExpr → Sizing
+array_walk e t G = size_walk e G >> sizes_walk t G
 
 abbrev pub with_walk : TypeExpr → TypeExpr × Sizing
 with_walk t = (t, sizes_walk t)
@@ -195,13 +201,9 @@ vars_tree span is t G = tree.DeclareFirst span ((made_type t).sizes G) (length i
 
 -- ---- assignments
 
--- a name that can be assigned: its type, and what a store in it does
-abbrev pub assignable_walk : Ident → Scope → Result (Ty × Effect) Fault
-assignable_walk i G = assignable i G >>= λ s. Ok (s.ty, writing s)
-
--- the type of a place, and what a store in it does
-abbrev pub place_walk : Ident → List PlacedSuffix → Scope → Result (Ty × Effect) Fault
-place_walk i xs G = assignable_walk i G >>= λ p. behind_suffixes i xs p.0 G >>= λ T. Ok (T, p.1)
+-- what a store in a place does
+abbrev pub store_walk : Ident → List PlacedSuffix → Scope → Result Effect Fault
+store_walk i xs G = assignable i G >>= λ s. behind_suffixes i xs s.ty G >>= λ T. Ok (writing s)
 
 -- the end of an assignment, whose operands and stores do this
 abbrev pub end_walk : Span → FoundTarget → Ty → Span → Bool × Effect → Effect → Scope → Result Effect Fault

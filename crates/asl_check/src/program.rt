@@ -10,7 +10,7 @@ ghost use Rattle.asl_check.specs.Walks.{verdict_walk};
 
 use crate::bodies::check_bodies;
 use crate::main_entry::find_entry;
-use asl_decl::{Table, build};
+use asl_decl::Table;
 use asl_rules::entry::Entry;
 use asl_syn::code::Refused;
 use asl_syn::tree::{Decl, Program};
@@ -33,7 +33,7 @@ fn phases(alloc: Global, entry: Entry, decls: &[Decl]) -> Result<Made, Refused>
     ensures tree { IfOk result (λ made. IsElaborated decls.now made.funcs.items) }
     ensures initial { IfOk result (λ made. IsInitial decls.now made.globals.items) }
 {
-    let Table { mut names, globals } = build(alloc, decls)?;
+    let Table { mut names, globals } = Table::build(alloc, decls)?;
     let funcs = check_bodies(alloc, &mut names, decls)?;
     let main = find_entry(alloc, entry, &names, decls)?;
     Ok(Made {

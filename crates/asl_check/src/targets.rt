@@ -6,6 +6,7 @@ ghost use Rattle.asl_rules.specs.Stmts.{found_target};
 ghost use Rattle.asl_tree.specs.Elaboration.{placing, places_of, place_at};
 ghost use Rattle.asl_types.specs.Answers.{Met, Agrees};
 ghost use Rattle.asl_types.specs.Places.{slot_of, layout_of};
+ghost use Rattle.asl_types.specs.Standings.{storage_view};
 ghost use Rattle.asl_types.specs.View.{ty_of, all_parts};
 ghost use Rattle.asl_check.specs.Views.{operands_of, scope_of};
 ghost use Rattle.asl_check.specs.Walks as walks;
@@ -22,7 +23,7 @@ use asl_tree::typed::TypedPlace;
 use asl_types::answer::fault;
 use asl_types::fits::misfit;
 use asl_types::structure::tuple_parts;
-use asl_types::{Scope, Slot, Ty, writing};
+use asl_types::{Scope, Storage, Ty, writing};
 use sqlite_items::Items;
 use std::alloc::{AllocError, Global};
 
@@ -61,23 +62,20 @@ fn all_operands(
 {
     let mut so_far = before;
     for target in targets {
-        so_far = type_operands(alloc, names, body, target, so_far)?;
+        let next = type_operands(alloc, names, body, target, so_far)?;
+        so_far = next;
     }
     Ok(so_far)
 }
 
-/// A name that can be assigned: where it is held, its type, and what a store in it does.
-#[derive(Drop)]
-struct Assignable {
-    slot: Slot,
-    ty: Ty,
-    effect: Effect,
-}
-
-/// T02 where a name is no storage, T14 where that can't be assigned.
-fn find_assignable(names: &Scope, body: &Body, name: &Ident) -> Result<Assignable, Refused>
-    ensures rule { Met (λ a. (ty_of a.ty, a.effect)) result (walks.assignable_walk name.now (scope_of names.now body.now)) }
-    ensures slot { IfOk result (λ a. a.slot ≡ slot_of name.now.text (layout_of names.now)) }
+/// Storage that can be assigned: T02 where a name is no storage, T14 where that can't be assigned.
+fn find_assignable<'s>(
+    names: &'s Scope,
+    body: &Body,
+    name: &Ident,
+) -> Result<Storage<'s>, Refused>
+    ensures rule { Met storage_view result (rules.assignable name.now (scope_of names.now body.now)) }
+    ensures slot { IfOk result (λ s. s.slot ≡ slot_of name.now.text (layout_of names.now)) }
 {
     let Some(storage) = names.storage_of(name.text.as_slice()) else {
         return fault(StaticCode::T02, name.span);
@@ -85,11 +83,7 @@ fn find_assignable(names: &Scope, body: &Body, name: &Ident) -> Result<Assignabl
     if !storage.is_mutable {
         return fault(StaticCode::T14, name.span);
     }
-    Ok(Assignable {
-        slot: storage.slot,
-        ty: storage.ty.copy()?,
-        effect: writing(storage),
-    })
+    Ok(storage)
 }
 
 /// A name with its suffixes as the place of an assignment, with its type, and with what a store in it does.
@@ -101,10 +95,14 @@ fn check_place(
     suffixes: &[PlacedSuffix],
     way: &[usize],
 ) -> Result<(TypedPlace, Ty, Effect), Refused>
-    ensures rule { Met (λ p. (ty_of p.1, p.2)) result (walks.place_walk name.now suffixes.now (scope_of names.now body.now)) }
+    ensures ty { Met (λ p. ty_of p.1) result (rules.place_type name.now suffixes.now (scope_of names.now body.now)) }
+    ensures store { Met (λ p. p.2) result (walks.store_walk name.now suffixes.now (scope_of names.now body.now)) }
     ensures tree { IfOk result (λ p. p.0 ≡ place_at name.now suffixes.now way.now (scope_of names.now body.now)) }
 {
-    let Assignable { slot, ty, effect } = find_assignable(names, body, name)?;
+    let storage = find_assignable(names, body, name)?;
+    let slot = storage.slot;
+    let ty = storage.ty.copy()?;
+    let effect = writing(storage);
     let (steps, behind) = behind_suffixes(alloc, names, body, name, suffixes, ty)?;
     let way = Items::from_slice(alloc, way)?;
     let place = TypedPlace {
@@ -229,6 +227,13 @@ fn check_parts_fit(
     Ok(())
 }
 
+/// Whether no part is left for no target.
+fn is_end(parts: &[Ty]) -> bool
+    ensures { result ≡ rules.parts_count [] (all_parts parts.now) }
+{
+    parts.is_empty()
+}
+
 /// Whether a value of this type has as many parts as a target asks for.
 #[cycle(counts)]
 pub(crate) fn counts(target: &Target, ty: &Ty) -> bool
@@ -261,5 +266,5 @@ fn parts_count(targets: &[Target], parts: &[Ty]) -> bool
             }
         }
     }
-    rest.is_empty()
+    is_end(rest)
 }

@@ -607,7 +607,7 @@ fn first_forms_that_are_not_served(rt: HostRuntime) {
     for (text, want) in [
         ("1 return func:f pass unreachable func:g", Some(at(4))),
         ("T { } T { unreachable } { } elsif func:f", Some(at(5))),
-        ("T ! global:x T { } { unreachable } if func:f", Some(at(1))),
+        ("T ! global:x T { } { unreachable } if func:f", Some(at(7))),
     ] {
         let program = read(rt.alloc(), text).expect(&rt, "a program");
         assert_eq!(rt; first_unserved(&program), want, "{text}");
