@@ -1,5 +1,5 @@
 -- Tuple binds, binder by binder: the names are declared as they are found to be free, and counted at the end.
-use Rattle.std.proofs.Common.{◌≡◌, ℕ, Bool, true, false, ◌&&◌, not, if◌then◌else◌, cond, List, [], ◌∷◌, ◌++◌, Option, Some, None, Result, Ok, Err, refl, sym, ap, ◌∙◌}
+use Rattle.std.proofs.Common.{◌≡◌, ℕ, ◌+◌, ◌<◌, length, get_or, drop, Bool, true, false, ◌&&◌, not, if◌then◌else◌, cond, List, [], ◌∷◌, ◌++◌, Option, Some, None, Result, Ok, Err, refl, sym, ap, ◌∙◌}
 use Rattle.std.specs.Str.{bytes_eq}
 use Rattle.asl_syn.specs.declared.code.Fault.{Fault}
 use Rattle.asl_syn.specs.declared.code.StaticCode.{StaticCode}
@@ -19,7 +19,7 @@ use Rattle.asl_rules.specs.Scopes.{Scope, Entry, Standing, standing_of, is_absen
 use Rattle.asl_rules.specs.Exprs.{typed, written, has_name}
 use Rattle.asl_rules.specs.Stmts.{Done, done, expr_at, ended, is_var, binders_free, tuple_parts, bound_parts, bound_in, several_bound, several_rule, bind_rule}
 use Rattle.asl_check.specs.Walks.{first_part, other_parts, has_part, has_none, after_binder, after_binders, after_parts, several_walk, several_rule_walk, bind_walk}
-use Rattle.asl_check.proofs.Chains.{then_same}
+use Rattle.asl_check.proofs.Chains.{then_same, next_of}
 
 -- ---- names that were declared on the way
 
@@ -158,3 +158,14 @@ pub bind_is : (span : Span) (kind : LocalKind) (b : Bind) (t : Option TypeExpr) 
 bind_is span kind (Single (Bound i)) t e G = refl
 bind_is span kind (Single (Unbound at)) t e G = refl
 bind_is span kind (Several at bs) t e G = several_is span kind bs t e G
+
+-- ---- the loop over binders
+
+pub binders_loop : (bs : List Binder) (k : ℕ) (b : Binder) (m : Bool) (Ts Us : Parts) (ok more_ok : Bool) (T : Ty) (names more : List Entry) (all : Result (List Entry × Bool) Fault) → k < length bs → b ≡ get_or bs k b →
+    T ≡ first_part Ts → Us ≡ other_parts Ts → more_ok ≡ (ok && has_part Ts) → after_binder b m T names ≡ Ok more →
+    after_binders (drop k bs) m Ts ok names ≡ all → after_binders (drop (k + 1) bs) m Us more_ok more ≡ all
+binders_loop bs k b m Ts Us ok more_ok T names more all within here t u o h inv =
+    (λ i. after_binders (drop (k + 1) bs) m (u i) (o i) more)
+    ∙ sym (ap (λ r. r >>= λ more. after_binders (drop (k + 1) bs) m (other_parts Ts) (ok && has_part Ts) more) (ap (λ U. after_binder b m U names) (sym t) ∙ h))
+    ∙ ap (λ rest. after_binders rest m Ts ok names) (sym (next_of bs k b within here))
+    ∙ inv

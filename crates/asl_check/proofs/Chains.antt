@@ -1,5 +1,6 @@
 -- Steps one after another.
-use Rattle.std.proofs.Common.{◌≡◌, Result, Ok, Err, refl}
+use Rattle.std.proofs.Common.{◌≡◌, ℕ, ◌+◌, ◌<◌, suc, length, get_or, drop, List, ◌∷◌, Result, Ok, Err, refl, sym, ap, ◌∙◌, arith}
+use Rattle.std.proofs.Math.Seq.{drop-cons}
 use Rattle.asl_syn.specs.declared.code.Fault.{Fault}
 use Rattle.asl_rules.specs.Faults.{◌>>=◌, ◌>>◌}
 
@@ -25,3 +26,9 @@ need_need (Err e) d r = refl
 pub need_last : (c : Result (Unit {0}) Fault) → (c >> Ok tt) ≡ c
 need_last (Ok x) = refl
 need_last (Err e) = refl
+
+-- the rest of a list at a place in it
+pub next_of : {A : Type 0} (ss : List A) (k : ℕ) (s : A) → k < length ss → s ≡ get_or ss k s → drop k ss ≡ s ∷ drop (k + 1) ss
+next_of ss k s within here =
+    let up : suc k ≡ k + 1 = omega arith in
+    drop-cons ss k s within ∙ ap (λ n. get_or ss k s ∷ drop n ss) up ∙ ap (λ z. z ∷ drop (k + 1) ss) (sym here)

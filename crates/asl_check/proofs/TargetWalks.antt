@@ -16,7 +16,7 @@ use Rattle.asl_tree.specs.declared.typed.TypedStep.{TypedStep}
 use Rattle.asl_tree.specs.Elaboration.{type_behind, step_at, steps_at, placing, places_of}
 use Rattle.asl_check.specs.Walks.{with_all}
 use Rattle.asl_check.proofs.OperandWalks.{suffixes_step, operands_step, places_step}
-use Rattle.asl_check.proofs.Trees.{next_of}
+use Rattle.asl_check.proofs.Chains.{next_of}
 
 pub suffixes_loop : (xs : List PlacedSuffix) (k : ℕ) (x : PlacedSuffix) (G : Scope) (p q : Bool × Effect) (all : Result (Bool × Effect) Fault) → k < length xs → x ≡ get_or xs k x →
     with_all p (suffix_operands x.suffix G) ≡ Ok q → with_all p (suffixes_operands (drop k xs) G) ≡ all → with_all q (suffixes_operands (drop (k + 1) xs) G) ≡ all

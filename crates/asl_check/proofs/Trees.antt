@@ -1,6 +1,5 @@
 -- The typed trees of lists, tree by tree.
 use Rattle.std.proofs.Common.{◌≡◌, ℕ, Option, ◌+◌, ◌<◌, length, get_or, drop, List, [], ◌∷◌, ◌++◌, Result, Ok, map, refl, sym, ap, subst, ◌∙◌, append_assoc, suc, arith}
-use Rattle.std.proofs.Math.Seq.{drop-cons}
 use Rattle.asl_syn.specs.declared.code.Fault.{Fault}
 use Rattle.asl_syn.specs.declared.token.Span.{Span}
 use Rattle.asl_syn.specs.declared.tree.Alternative.{Alternative}
@@ -25,16 +24,18 @@ use Rattle.asl_tree.specs.Back.{value_back}
 use Rattle.asl_tree.specs.Elaboration.{Elaborated, StmtOf, elaborated, made_type, first_value, names_after, names_declared, elaborated_stmt, elaborated_branch, stmt_rule, branch_rule, trees_of, branches_of}
 use Rattle.asl_tree.proofs.Backs.{value_code}
 use Rattle.asl_rules.specs.declared.effect.Effect.{Effect}
-use Rattle.asl_rules.specs.Faults.{◌>>=◌}
+use Rattle.asl_rules.specs.Faults.{◌>>=◌, ◌>>◌}
 use Rattle.asl_rules.specs.Types.{Ty}
 use Rattle.asl_rules.specs.Values.{initial_value}
 use Rattle.asl_rules.specs.Effects.{greater}
 use Rattle.asl_rules.specs.Scopes.{Scope, Entry, entry_names}
 use Rattle.asl_rules.specs.Exprs.{written}
 use Rattle.asl_rules.specs.Stmts.{Done, done, Unread, in_order, with_names, stmt_layer_rule, found_stmt}
+use Rattle.asl_rules.proofs.Inversions.{bind_ok, then_ok}
 use Rattle.asl_rules.proofs.Growing.{Adds, layer_names, stmt_adds}
 use Rattle.asl_rules.proofs.StmtForms.{opened, unrolled}
-use Rattle.asl_check.specs.Walks.{after_branch, after_branches, walk_stmt, walk_branch, vars_tree}
+use Rattle.asl_check.specs.Walks.{after_branch, after_branches, sizes_walk, type_walk, walk_stmt, walk_branch, vars_tree}
+use Rattle.asl_check.proofs.Chains.{next_of}
 use Rattle.asl_check.proofs.StmtWalks.{found_is}
 
 -- ---- the names after a statement
@@ -76,11 +77,6 @@ list_step : (before : List TypedStmt) (t : TypedStmt) (s : Stmt) (ss : List Stmt
 list_step before t s ss G d h w =
     append_assoc before (t ∷ []) (trees_of (map elaborated_stmt ss) (with_names G d.names))
     ∙ (λ i. before ++ h i ∷ trees_of (map elaborated_stmt ss) (with_names G (sym (names_are s G d w) i)))
-
-pub next_of : {A : Type 0} (ss : List A) (k : ℕ) (s : A) → k < length ss → s ≡ get_or ss k s → drop k ss ≡ s ∷ drop (k + 1) ss
-next_of ss k s within here =
-    let up : suc k ≡ k + 1 = omega arith in
-    drop-cons ss k s within ∙ ap (λ n. get_or ss k s ∷ drop n ss) up ∙ ap (λ z. z ∷ drop (k + 1) ss) (sym here)
 
 -- the rest of a loop over statements
 pub walk_loop : (ss : List Stmt) (k : ℕ) (s : Stmt) (G : Scope) (names : List Entry) (e0 e l : Effect) (all : Result Done Fault) →
@@ -135,8 +131,18 @@ if_tree s span c first last others tree firsts lasts branches G G1 G2 is k1 k2 h
 
 -- ---- declarations without an initialiser
 
-pub vars_made : (span : Span) (is : List Ident) (t : TypeExpr) (G : Scope) (T : Ty) (sizes : List TypedExpr) (x : Value) → written t G ≡ Ok T → sizes ≡ (made_type t).sizes G → value_of x ≡ initial_value T →
+vars_made : (span : Span) (is : List Ident) (t : TypeExpr) (G : Scope) (T : Ty) (sizes : List TypedExpr) (x : Value) → written t G ≡ Ok T → sizes ≡ (made_type t).sizes G → value_of x ≡ initial_value T →
     tv.DeclareFirst span sizes (length is) x ≡ vars_tree span is t G
 vars_made span is t G T sizes x w s v =
     let first : x ≡ first_value (written t G) = sym (value_code x) ∙ ap value_back v ∙ sym (ap first_value w) in
     λ i. tv.DeclareFirst span (s i) (length is) (first i)
+
+type_written : (t : TypeExpr) (G : Scope) (T : Ty) → type_walk t G ≡ Ok T → written t G ≡ Ok T
+type_written t G T h =
+    let w = bind_ok (written t G) (λ U. sizes_walk t G >> Ok U) T h in
+    let s = then_ok (sizes_walk t G) (Ok w.value) T w.then in
+    w.first ∙ s.then
+
+pub vars_declared : (span : Span) (is : List Ident) (t : TypeExpr) (G : Scope) (T : Ty) (sizes : List TypedExpr) (x : Value) → type_walk t G ≡ Ok T → sizes ≡ (made_type t).sizes G → value_of x ≡ initial_value T →
+    tv.DeclareFirst span sizes (length is) x ≡ vars_tree span is t G
+vars_declared span is t G T sizes x w s v = vars_made span is t G T sizes x (type_written t G T w) s v

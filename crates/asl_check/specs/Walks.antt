@@ -1,5 +1,5 @@
 -- The rules as the checker walks them: what it keeps from step to step, and the statements by these steps.
-use Rattle.std.specs.Prelude.{ℕ, Bool, true, false, ◌&&◌, if◌then◌else◌, List, [], ◌∷◌, ◌++◌, length, map, Option, None, Some, Result, Ok}
+use Rattle.std.specs.Prelude.{ℕ, Bool, true, false, ◌&&◌, if◌then◌else◌, List, [], ◌∷◌, ◌++◌, length, Option, None, Some, Result, Ok}
 use Rattle.asl_syn.specs.declared.token.Span.{Span}
 use Rattle.asl_syn.specs.declared.code.Fault.{Fault}
 use Rattle.asl_syn.specs.declared.code.StaticCode.{StaticCode}
@@ -30,7 +30,7 @@ use Rattle.asl_syn.specs.declared.tree.Alternative.TheFolds.{fold-Stmt, fold-Els
 use Rattle.asl_syn.specs.declared.tree.Decl.{Decl}
 use Rattle.asl_tree.specs.declared.typed.TypedStmt.{TypedStmt}
 use Rattle.asl_tree.specs.declared.typed.TypedStmt.TheVariants as tree
-use Rattle.asl_tree.specs.Elaboration.{elaborated, elaborated_stmt, elaborated_branch, trees_of, branches_of, placing, made_type, first_value}
+use Rattle.asl_tree.specs.Elaboration.{elaborated, placing, made_type, first_value}
 use Rattle.asl_rules.specs.declared.effect.Effect.{Effect}
 use Rattle.asl_rules.specs.declared.effect.Effect.TheVariants.{Pure, Writes}
 use Rattle.asl_rules.specs.declared.entry.Entry.{Entry}
@@ -93,9 +93,6 @@ if_walk span c first others last G =
     after_branches (branch_of c first ∷ others) None Pure G >>= λ p.
     block last G >>= λ d.
     end_if G.class span p.0 (greater p.1 d.effect) >>= λ k. Ok (done G.names k)
-
-abbrev pub if_tree : Span → Expr → List Stmt → List ElseIf → List Stmt → Scope → TypedStmt
-if_tree span c first others last G = tree.If span (elaborated c G) (trees_of (map elaborated_stmt first) G) (branches_of (map elaborated_branch others) G) (trees_of (map elaborated_stmt last) G)
 
 -- ---- `print`
 

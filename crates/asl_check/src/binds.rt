@@ -1,6 +1,6 @@
 //! Declarations that bind the parts of a tuple.
 
-ghost use Rattle.std.specs.Prelude.{◌≡◌, true, map, IfOk};
+ghost use Rattle.std.specs.Prelude.{◌≡◌, true, ◌&&◌, map, IfOk};
 ghost use Rattle.asl_rules.specs.Stmts as rules;
 ghost use Rattle.asl_rules.specs.Stmts.{done};
 ghost use Rattle.asl_tree.specs.declared.typed.Binds.TheVariants as binds;
@@ -57,6 +57,26 @@ fn behind_first(parts: &[Ty]) -> &[Ty]
     }
 }
 
+/// Whether there were as many parts so far, and there is one more.
+fn has_one_more(as_many: bool, parts: &[Ty]) -> bool
+    ensures { result ≡ (as_many && walks.has_part (all_parts parts.now)) }
+{
+    match parts.split_first() {
+        None => false,
+        Some(_) => as_many,
+    }
+}
+
+/// Whether there were as many parts, and none is left.
+fn has_no_more(as_many: bool, parts: &[Ty]) -> bool
+    ensures { result ≡ (as_many && walks.has_none (all_parts parts.now)) }
+{
+    match parts.split_first() {
+        None => as_many,
+        Some(_) => false,
+    }
+}
+
 /// One more binder, with the type of its part: T01 where its name is visible.
 fn declare_binder<'a>(
     names: &mut Scope<'a>,
@@ -90,12 +110,12 @@ fn declare_binders<'a>(
     let mut rest = parts;
     let mut as_many = true;
     for binder in binders {
-        as_many = as_many && !rest.is_empty();
+        as_many = has_one_more(as_many, rest);
         let ty = first_or_integer(rest)?;
         declare_binder(names, binder, is_mutable, ty)?;
         rest = behind_first(rest);
     }
-    Ok(as_many && rest.is_empty())
+    Ok(has_no_more(as_many, rest))
 }
 
 /// Binders in order with the parts of a type.

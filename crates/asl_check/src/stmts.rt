@@ -4,7 +4,7 @@ ghost use Rattle.std.specs.Prelude.{◌≡◌, map, OnOk, IfOk};
 ghost use Rattle.asl_rules.specs.declared.effect.Effect.TheVariants.{Pure};
 ghost use Rattle.asl_rules.specs.Stmts as rules;
 ghost use Rattle.asl_rules.specs.Stmts.{done};
-ghost use Rattle.asl_tree.specs.Elaboration.{elaborated, elaborated_stmt, elaborated_branch, trees_of, branches_of};
+ghost use Rattle.asl_tree.specs.Elaboration.{elaborated_stmt, elaborated_branch, trees_of, branches_of};
 ghost use Rattle.asl_types.specs.Answers.{Met};
 ghost use Rattle.asl_check.specs.Views.{scope_of};
 ghost use Rattle.asl_check.specs.Walks as walks;
@@ -17,9 +17,8 @@ use crate::simple::{check_assert, check_assign, check_return};
 use asl_expr::effects::greater;
 use asl_rules::effect::Effect;
 use asl_syn::code::{Refused, StaticCode};
-use asl_syn::token::Span;
-use asl_syn::tree::{ElseIf, Expr, Stmt};
-use asl_tree::typed::{TypedBranch, TypedExpr, TypedStmt};
+use asl_syn::tree::{ElseIf, Stmt};
+use asl_tree::typed::{TypedBranch, TypedStmt};
 use asl_types::answer::fault;
 use asl_types::Scope;
 use sqlite_items::Items;
@@ -46,16 +45,15 @@ fn check_stmt<'a>(
         Stmt::LocalVars(span, idents, ty) => check_vars(alloc, names, body, *span, idents.as_slice(), ty),
         Stmt::Assign(span, target, e) => check_assign(alloc, names, body, *span, target, e),
         Stmt::Invoke(span, _, _, _) => fault(StaticCode::S03, *span),
-        Stmt::If(span, condition, first, others, last) => check_if(
-            alloc,
-            names,
-            body,
-            *span,
-            condition,
-            first.as_slice(),
-            others.as_slice(),
-            last.as_slice(),
-        ),
+        Stmt::If(span, condition, first, others, last) => {
+            let (c, typed) = type_condition(alloc, names, body, condition, None)?;
+            let (first, k) = check_block(alloc, names, body, first.as_slice())?;
+            let start = after_branch(Effect::Pure, typed, k);
+            let (others, all) = check_branches(alloc, names, body, others.as_slice(), start)?;
+            let (last, l) = check_block(alloc, names, body, last.as_slice())?;
+            let effect = end_if(body.class, *span, all, l)?;
+            Ok((TypedStmt::If(*span, c, first, others, last), effect))
+        }
         Stmt::Case(span, _, _, _) => fault(StaticCode::S03, *span),
         Stmt::For(span, _, _, _, _, _, _) => fault(StaticCode::S03, *span),
         Stmt::While(span, _, _, _) => fault(StaticCode::S03, *span),
@@ -67,52 +65,6 @@ fn check_stmt<'a>(
             check_print(alloc, names, body, *span, *kind, items.as_slice())
         }
     }
-}
-
-/// The first branch of an `if`: its condition and its list, and what is known after it.
-#[cycle(stmts)]
-fn check_first<'a>(
-    alloc: Global,
-    names: &mut Scope<'a>,
-    body: &Body,
-    condition: &'a Expr,
-    stmts: &'a [Stmt],
-    before: Branches,
-) -> Result<(TypedExpr, Items<TypedStmt>, Branches), Refused>
-    ensures rule { Met (λ p. (p.2.misplaced, p.2.effect)) result (walks.after_branch (walks.branch_of condition.now (map walks.walk_stmt stmts.now)) before.misplaced before.effect (scope_of names.old body.now)) }
-    ensures kept { OnOk result (names.new ≡ names.old) }
-    ensures condition { IfOk result (λ p. p.0 ≡ elaborated condition.now (scope_of names.old body.now)) }
-    ensures list { IfOk result (λ p. p.1 ≡ trees_of (map elaborated_stmt stmts.now) (scope_of names.old body.now)) }
-{
-    let (c, typed) = type_condition(alloc, names, body, condition, before.misplaced)?;
-    let (trees, k) = check_block(alloc, names, body, stmts)?;
-    Ok((c, trees, after_branch(before.effect, typed, k)))
-}
-
-/// `if`: all its parts in order, and then its conditions.
-#[cycle(stmts)]
-fn check_if<'a>(
-    alloc: Global,
-    names: &mut Scope<'a>,
-    body: &Body,
-    span: Span,
-    condition: &'a Expr,
-    first: &'a [Stmt],
-    others: &'a [ElseIf],
-    last: &'a [Stmt],
-) -> Result<(TypedStmt, Effect), Refused>
-    ensures rule { Met (λ p. done names.new p.1) result (walks.if_walk span condition.now (map walks.walk_stmt first.now) (map walks.walk_branch others.now) (map walks.walk_stmt last.now) (scope_of names.old body.now)) }
-    ensures tree { IfOk result (λ p. p.0 ≡ walks.if_tree span condition.now first.now others.now last.now (scope_of names.old body.now)) }
-{
-    let none = Branches {
-        misplaced: None,
-        effect: Effect::Pure,
-    };
-    let (c, first, start) = check_first(alloc, names, body, condition, first, none)?;
-    let (others, all) = check_branches(alloc, names, body, others, start)?;
-    let (last, l) = check_block(alloc, names, body, last)?;
-    let effect = end_if(body.class, span, all, l)?;
-    Ok((TypedStmt::If(span, c, first, others, last), effect))
 }
 
 /// The branches of an `if` behind the first, in order.
@@ -153,8 +105,9 @@ fn check_branch<'a>(
 {
     match b {
         ElseIf::ElseIf(condition, stmts) => {
-            let (c, trees, after) =
-                check_first(alloc, names, body, condition, stmts.as_slice(), before)?;
+            let (c, typed) = type_condition(alloc, names, body, condition, before.misplaced)?;
+            let (trees, k) = check_block(alloc, names, body, stmts.as_slice())?;
+            let after = after_branch(before.effect, typed, k);
             Ok((TypedBranch::Branch(c, trees), after))
         }
     }

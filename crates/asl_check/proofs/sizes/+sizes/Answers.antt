@@ -23,13 +23,13 @@ type_sizes-returns-in-BitsType-clause-rule t c = at_bits _ _ _ _ _ c.in-BitsType
 pub type_sizes-returns-in-TupleType-clause-rule : goal.type_sizes-returns-in-TupleType-clause-rule
 type_sizes-returns-in-TupleType-clause-rule t c =
     let G = scope_of c.args.names.now c.args.body.now in
-    subst (Agrees c.all_type_sizes-in-TupleType.result)
-    (ap (λ ts. all_sizes_walk (map with_walk ts) G) c.as_slice-in-TupleType.ensures ∙ sym (at_tuple _ _ _ G c.in-TupleType.is))
-    c.all_type_sizes-in-TupleType.ensures.rule
+    subst (Agrees c.all_type_sizes.result)
+    (ap (λ ts. all_sizes_walk (map with_walk ts) G) c.as_slice.ensures ∙ sym (at_tuple _ _ _ G c.in-TupleType.is))
+    c.all_type_sizes.ensures.rule
 
 pub type_sizes-returns-in-ArrayType-clause-rule : goal.type_sizes-returns-in-ArrayType-clause-rule
 type_sizes-returns-in-ArrayType-clause-rule t c =
     let G = scope_of c.args.names.now c.args.body.now in
-    subst (Agrees c.array_sizes-in-ArrayType.result)
-    ((λ i. array_walk (c.get-in-ArrayType.ensures i) (c.get-in-ArrayType-2.ensures i) G) ∙ sym (at_array _ _ _ _ G c.in-ArrayType.is))
-    c.array_sizes-in-ArrayType.ensures.rule
+    subst (Agrees c.array_sizes.result)
+    ((λ i. array_walk (c.get.ensures i) (c.get-2.ensures i) G) ∙ sym (at_array _ _ _ _ G c.in-ArrayType.is))
+    c.array_sizes.ensures.rule
