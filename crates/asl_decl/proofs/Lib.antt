@@ -19,3 +19,6 @@ pub mod CycleLemmas
 pub mod UsedForms
 pub mod Scoping
 pub mod NoneTwice
+pub mod Serving
+pub mod Judgements
+pub mod TableLemmas
