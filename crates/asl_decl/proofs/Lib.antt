@@ -22,3 +22,6 @@ pub mod NoneTwice
 pub mod Serving
 pub mod Judgements
 pub mod TableLemmas
+pub mod Keeping
+pub mod GlobalLemmas
+pub mod LibraryNames

@@ -1,20 +1,17 @@
 -- The judgements of all declarations are the rule of their faults, and the scope of all bodies.
-use Rattle.std.proofs.Common.{◌≡◌, ℕ, List, [], ◌∷◌, ◌++◌, map, Result, Ok, Err, Some, None, Option, refl, sym, ap, ◌∙◌, subst}
+use Rattle.std.proofs.Common.{◌≡◌, ℕ, List, [], ◌∷◌, ◌++◌, map, Result, Ok, Err, refl, sym, ap, ◌∙◌, subst}
 use Rattle.asl_syn.specs.declared.code.Fault.{Fault}
 use Rattle.asl_syn.specs.declared.tree.Decl.{Decl}
-use Rattle.asl_syn.specs.declared.tree.Decl.TheVariants as dc
-use Rattle.asl_syn.specs.declared.tree.StorageDecl.{StorageDecl}
 use Rattle.asl_rules.specs.Faults.{◌>>=◌, ◌>>◌}
 use Rattle.asl_rules.specs.Names.{library, names_rule, all_declared}
 use Rattle.asl_rules.specs.Uses.{cycles_rule}
-use Rattle.asl_rules.specs.Scopes.{Entry, subprogram, Storage, storage_of}
+use Rattle.asl_rules.specs.Scopes.{Entry, subprogram}
 use Rattle.asl_rules.specs.States.{Binding}
 use Rattle.asl_rules.specs.Declarations.{Judged, entries_of, entries, faulty, final, faults_rule, names_of_program, globals_rule}
 use Rattle.asl_rules.specs.Programs.{funcs_of, signatures_rule, overloads_rule}
-use Rattle.asl_rules.specs.Evaluation.{global_in, globals_among, initial_globals}
+use Rattle.asl_rules.specs.Evaluation.{globals_among, initial_globals}
 use Rattle.asl_decl.specs.Brought.{with_entries}
 use Rattle.asl_decl.specs.Cycles.{order_rule}
-use Rattle.asl_decl.specs.Graphs.{graph_of}
 use Rattle.asl_decl.specs.Passes.{first_fault, with_judgements}
 use Rattle.asl_decl.specs.Tables.{table_rule, declarations_rule, subprograms_rule}
 use Rattle.asl_decl.proofs.Inversions.{then_ok}
@@ -98,13 +95,3 @@ table_whole ds js names h j n k = table_then ds (Ok tt) h (subprograms_same ds n
 
 pub initial_is : (ds : List Decl) (js : List Judged) (names : List Entry) (bs : List Binding) → declarations_rule ds ≡ Ok tt → js ≡ map (final ds) ds → names ≡ with_judgements js (map subprogram library) → subprograms_rule names ds ≡ Ok tt → bs ≡ globals_among ds names → bs ≡ initial_globals ds
 initial_is ds js names bs h j n k e = e ∙ ap (globals_among ds) (names_are ds js names h j n k)
-
--- ---- the globals
-
-pub global_then : (d : StorageDecl) (o : Option Storage) (rest : List Binding) → global_in d o rest ≡ global_in d o [] ++ rest
-global_then d None rest = refl
-global_then d (Some s) rest = by s.initial
-  where
-    by : (x : Option _) → global_in d (Some (record s { initial = x })) rest ≡ global_in d (Some (record s { initial = x })) [] ++ rest
-    by None = refl
-    by (Some x) = refl

@@ -1,6 +1,6 @@
 //! The globals before the first call.
 
-ghost use Rattle.std.specs.Prelude.{◌≡◌, ◌++◌, [], IfOk, OnOk};
+ghost use Rattle.std.specs.Prelude.{◌≡◌, ◌∷◌, ◌++◌, [], IfOk, OnOk};
 ghost use Rattle.asl_rules.specs.Evaluation.{global_in, globals_among};
 ghost use Rattle.asl_rules.specs.Scopes.{storage_of};
 ghost use Rattle.asl_types.specs.Bindings.{bindings_of};
@@ -28,7 +28,23 @@ fn add_global(
     Ok(())
 }
 
+fn add_declared(
+    alloc: Global,
+    d: &Decl,
+    names: &Scope,
+    globals: &mut Vec<Binding>,
+) -> Result<(), AllocError>
+    ensures { OnOk result (bindings_of globals.new.items ≡ bindings_of globals.old.items ++ globals_among (d.now ∷ []) names.now) }
+{
+    match d {
+        Decl::Type(_) => Ok(()),
+        Decl::Storage(s) => add_global(alloc, s, names, globals),
+        Decl::Func(_) => Ok(()),
+    }
+}
+
 /// The globals with what they begin with, in source order.
+#[tactic(auto, using(crate::proofs::GlobalLemmas::globals_more))]
 pub(crate) fn initial_globals(
     alloc: Global,
     decls: &[Decl],
@@ -38,9 +54,7 @@ pub(crate) fn initial_globals(
 {
     let mut globals = Vec::new(alloc);
     for d in decls {
-        if let Decl::Storage(s) = d {
-            add_global(alloc, s, names, &mut globals)?;
-        }
+        add_declared(alloc, d, names, &mut globals)?;
     }
     Ok(globals)
 }

@@ -1,6 +1,6 @@
 //! A pass over declarations in an order, in which each stands behind all that it uses: each is judged once.
 
-ghost use Rattle.std.specs.Prelude.{◌≡◌, ℕ, ◌<◌, [], Ok, true, length, map, replicate, IfOk, IfErr, OnOk};
+ghost use Rattle.std.specs.Prelude.{◌≡◌, ℕ, ◌<◌, [], Ok, true, length, map, replicate, slice_set, IfOk, IfErr, OnOk};
 ghost use Rattle.std.specs.List.{slice_get};
 ghost use Rattle.asl_rules.specs.Names.{names_rule, all_declared};
 ghost use Rattle.asl_rules.specs.Declarations as rules;
@@ -32,7 +32,8 @@ pub(crate) struct Progress<'a> {
 }
 
 fn none_judged<'a>(alloc: Global, count: usize) -> Result<Items<Outcome<'a>>, AllocError>
-    ensures { IfOk result (λ outcomes. all_judged outcomes ≡ replicate count rules.Waiting) }
+    ensures judged { IfOk result (λ outcomes. all_judged outcomes ≡ replicate count rules.Waiting) }
+    ensures count { IfOk result (λ outcomes. length outcomes ≡ count) }
 {
     let mut outcomes = Items::new(alloc);
     for _ in 0..count {
@@ -44,6 +45,8 @@ fn none_judged<'a>(alloc: Global, count: usize) -> Result<Items<Outcome<'a>>, Al
 /// Before the first of so many declarations.
 fn begin<'a>(alloc: Global, count: usize) -> Result<Progress<'a>, Refused>
     ensures begin { IfOk result (λ progress. progress_of progress ≡ before_all count) }
+    ensures fine { IfOk result (λ progress. length progress.fine ≡ count) }
+    ensures outcomes { IfOk result (λ progress. length progress.outcomes ≡ count) }
     ensures memory { IfErr result (λ e. e ≡ Refused.NoMemory) }
 {
     Ok(Progress {
@@ -94,12 +97,15 @@ fn keep<'a>(progress: &mut Progress<'a>, node: usize, outcome: Outcome<'a>)
     ensures names { progress.new.names ≡ progress.old.names }
     ensures fine { progress.new.fine ≡ slice_set progress.old.fine node (rules.is_fine (judged_of outcome)) }
     ensures outcomes { all_judged progress.new.outcomes ≡ slice_set (all_judged progress.old.outcomes) node (judged_of outcome) }
+    ensures marks { length progress.new.fine ≡ length progress.old.fine }
+    ensures places { length progress.new.outcomes ≡ length progress.old.outcomes }
 {
     progress.fine.set(node, outcome.is_fine());
     progress.outcomes.set(node, outcome);
 }
 
 /// Judges the declaration at a place.
+#[tactic(auto, using(crate::proofs::Keeping::with_judged_is))]
 fn judge_one<'a>(
     alloc: Global,
     progress: &mut Progress<'a>,
@@ -110,6 +116,8 @@ fn judge_one<'a>(
     requires fine { node < length progress.old.fine }
     requires outcomes { node < length progress.old.outcomes }
     ensures judged { OnOk result (progress_of progress.new ≡ with_judged node d.now (judged_over progress.old.fine used.now d.now progress.old.names) (progress_of progress.old)) }
+    ensures marks { OnOk result (length progress.new.fine ≡ length progress.old.fine) }
+    ensures places { OnOk result (length progress.new.outcomes ≡ length progress.old.outcomes) }
     ensures memory { IfErr result (λ e. e ≡ Refused.NoMemory) }
 {
     let fine = progress.fine.as_slice();
@@ -130,6 +138,8 @@ fn judge_at<'a>(
     requires fine { length progress.old.fine ≡ length decls.now }
     requires outcomes { length progress.old.outcomes ≡ length decls.now }
     ensures judged { OnOk result (progress_of progress.new ≡ after_at graph.now node (slice_get decls.now node) (progress_of progress.old)) }
+    ensures marks { OnOk result (length progress.new.fine ≡ length progress.old.fine) }
+    ensures places { OnOk result (length progress.new.outcomes ≡ length progress.old.outcomes) }
     ensures memory { IfErr result (λ e. e ≡ Refused.NoMemory) }
 {
     match decls.get(node) {

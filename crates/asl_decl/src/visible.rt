@@ -16,7 +16,7 @@ fn declare_subprograms<'a>(
     names: &mut Scope<'a>,
     subprograms: &[&'static str],
 ) -> Result<(), Refused>
-    ensures declared { OnOk result (names.new ≡ with_entries (map (λ n. subprogram n.now) subprograms.now) names.old) }
+    ensures declared { OnOk result (names.new ≡ with_entries (map subprogram (map (λ n. n.now) subprograms.now)) names.old) }
     ensures memory { IfErr result (λ e. e ≡ Refused.NoMemory) }
 {
     for name in subprograms {
@@ -26,6 +26,7 @@ fn declare_subprograms<'a>(
 }
 
 /// The subprograms of the library.
+#[tactic(auto, using(crate::proofs::LibraryNames::library_is))]
 pub(crate) fn library_names<'a>(alloc: Global) -> Result<Scope<'a>, Refused>
     ensures declared { IfOk result (λ names. names ≡ map subprogram rules.library) }
     ensures memory { IfErr result (λ e. e ≡ Refused.NoMemory) }
