@@ -10,6 +10,9 @@ use Rattle.asl_rules.specs.States.{Binding}
 use Rattle.asl_rules.specs.Declarations.{Judged, entries_of, entries, faulty, final, faults_rule, names_of_program, globals_rule}
 use Rattle.asl_rules.specs.Programs.{funcs_of, signatures_rule, overloads_rule}
 use Rattle.asl_rules.specs.Evaluation.{globals_among, initial_globals}
+use Rattle.asl_syn.specs.declared.code.Refused.{Refused}
+use Rattle.asl_syn.specs.declared.code.Refused.TheVariants.{At, NoMemory}
+use Rattle.asl_types.specs.Answers.{Met, Agrees}
 use Rattle.asl_decl.specs.Brought.{with_entries}
 use Rattle.asl_decl.specs.Cycles.{order_rule}
 use Rattle.asl_decl.specs.Passes.{first_fault, with_judgements}
@@ -83,6 +86,11 @@ declarations_then ds js r h j k = ap (λ q. q >> faults_rule ds ds) h ∙ sym (f
 
 pub table_faulty : (ds : List Decl) (js : List Judged) (names : List Entry) (f : Fault) → declarations_rule ds ≡ Ok tt → js ≡ map (final ds) ds → names ≡ with_judgements js (map subprogram library) → subprograms_rule names ds ≡ Err f → table_rule ds ≡ Err f
 table_faulty ds js names f h j n k = table_then ds (Err f) h (subprograms_same ds names (same_names ds js names j n) ∙ k)
+
+-- the same of an answer
+pub table_refused : {A : Type 0} (view : A → List Entry) (ds : List Decl) (js : List Judged) (names : List Entry) (e : Refused) → declarations_rule ds ≡ Ok tt → js ≡ map (final ds) ds → names ≡ with_judgements js (map subprogram library) → Agrees (let r : Result (Unit {0}) Refused = Err e in r) (subprograms_rule names ds) → Met view (Err e) (table_rule ds)
+table_refused view ds js names (At f) h j n k = table_faulty ds js names f h j n k
+table_refused view ds js names NoMemory h j n k = tt
 
 pub names_are : (ds : List Decl) (js : List Judged) (names : List Entry) → declarations_rule ds ≡ Ok tt → js ≡ map (final ds) ds → names ≡ with_judgements js (map subprogram library) → subprograms_rule names ds ≡ Ok tt → names ≡ names_of_program ds
 names_are ds js names h j n k =

@@ -95,8 +95,8 @@ fn keep<'a>(progress: &mut Progress<'a>, node: usize, outcome: Outcome<'a>)
     requires fine { node < length progress.old.fine }
     requires outcomes { node < length progress.old.outcomes }
     ensures names { progress.new.names ≡ progress.old.names }
-    ensures fine { progress.new.fine ≡ slice_set progress.old.fine node (rules.is_fine (judged_of outcome)) }
-    ensures outcomes { all_judged progress.new.outcomes ≡ slice_set (all_judged progress.old.outcomes) node (judged_of outcome) }
+    ensures fine { progress.new.fine ≡ slice_set progress.old.fine node (rules.is_fine (judged_of outcome.entry)) }
+    ensures outcomes { all_judged progress.new.outcomes ≡ slice_set (all_judged progress.old.outcomes) node (judged_of outcome.entry) }
     ensures marks { length progress.new.fine ≡ length progress.old.fine }
     ensures places { length progress.new.outcomes ≡ length progress.old.outcomes }
 {
@@ -167,7 +167,6 @@ fn judge_each<'a>(
 
 /// What comes of each declaration, in source order, in a time that grows with the declarations and their uses, beside
 /// that of judging each once.
-#[tactic(auto, using(crate::proofs::Judgements::pass_judged))]
 pub(crate) fn judge_all<'a>(
     alloc: Global,
     decls: &'a [Decl],
