@@ -342,7 +342,7 @@ module _ (ds : List Decl) (distinct : Distinct (all_declared ds)) where
   Holds : List ℕ → List Decl → Type 0
   Holds before acc = (k : ℕ) (d : Decl) → is_among k before ≡ true → At ds k d → In d acc
 
-  among_all : (k : ℕ) (ns ms : List ℕ) → all_among ns ms ≡ true → is_among k ns ≡ true → is_among k ms ≡ true
+  pub among_all : (k : ℕ) (ns ms : List ℕ) → all_among ns ms ≡ true → is_among k ns ≡ true → is_among k ms ≡ true
   among_all k [] ms h i = no i
   among_all k (n ∷ ns) ms h i =
       let p = both (is_among n ms) (all_among ns ms) h in
@@ -424,7 +424,7 @@ module _ (ds : List Decl) (distinct : Distinct (all_declared ds)) where
       by true i = i
       by false i = inr i
 
-  one_unmarked : (marks : List Bool) (ns : List ℕ) → all_marked marks ns ≡ false → (j : ℕ) × (is_among j ns ≡ true) × (has_mark marks j ≡ false)
+  pub one_unmarked : (marks : List Bool) (ns : List ℕ) → all_marked marks ns ≡ false → (j : ℕ) × (is_among j ns ≡ true) × (has_mark marks j ≡ false)
   one_unmarked marks [] h = no (sym h)
   one_unmarked marks (n ∷ ns) h = by (has_mark marks n) refl h (one_unmarked marks ns)
     where

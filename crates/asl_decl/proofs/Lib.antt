@@ -19,3 +19,9 @@ pub mod CycleLemmas
 pub mod UsedForms
 pub mod Scoping
 pub mod NoneTwice
+pub mod Serving
+pub mod Judgements
+pub mod TableLemmas
+pub mod Keeping
+pub mod GlobalLemmas
+pub mod LibraryNames

@@ -75,7 +75,7 @@ closed_next g marks more nodes rest at l c f h i j = by (below_or i at (omega (a
 
 -- ---- one more that is found
 
-among_split : (k : ℕ) (ms ns : List ℕ) → is_among k (ms ++ ns) ≡ true → (is_among k ms ≡ true) ⊎ (is_among k ns ≡ true)
+pub among_split : (k : ℕ) (ms ns : List ℕ) → is_among k (ms ++ ns) ≡ true → (is_among k ms ≡ true) ⊎ (is_among k ns ≡ true)
 among_split k [] ns h = inr h
 among_split k (m ∷ ms) ns h = either (m == k) (is_among k (ms ++ ns)) h (λ q. inl (or_first (m == k) (is_among k ms) q)) (λ q. later (among_split k ms ns q))
   where

@@ -1,5 +1,8 @@
-pub mod Answers
+pub mod Brought
 pub mod Known
 pub mod Graphs
 pub mod Orders
 pub mod Cycles
+pub mod Passes
+pub mod Progresses
+pub mod Tables

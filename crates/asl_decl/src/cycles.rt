@@ -5,12 +5,12 @@ ghost use Rattle.std.specs.List.{slice_get};
 ghost use Rattle.asl_syn.specs.declared.tree.Decl.{Decl as Declaration};
 ghost use Rattle.asl_rules.specs.Names.{names_rule, all_declared};
 ghost use Rattle.asl_rules.specs.Uses as rules;
-ghost use Rattle.asl_decl.specs.Answers.{Met};
+ghost use Rattle.asl_types.specs.Answers.{Met};
 ghost use Rattle.asl_decl.specs.Graphs.{graph_of};
 ghost use Rattle.asl_decl.specs.Orders.{has_mark, IsOrder, HasEdges, HasWay};
 ghost use Rattle.asl_decl.specs.Cycles.{name_of, NoneBack};
 
-use crate::answer::fault;
+use asl_types::answer::fault;
 use crate::listed::{Listed, has_mark};
 use crate::order::order_of;
 use crate::reach::reaches_itself;

@@ -1,17 +1,25 @@
 //! Declarations of types and of storage, in any order.
 #![tactic(auto)]
 
-mod answer;
 mod cycles;
 mod declarers;
+mod globals;
 mod graph;
+mod judging;
 mod library;
 mod listed;
 mod names;
 mod order;
 mod ordered;
+mod outcome;
 mod overloads;
+mod pass;
 mod reach;
+mod signatures;
+mod table;
 mod used;
+mod visible;
 
 pub use ordered::{Ordered, in_order};
+pub use signatures::result_type;
+pub use table::Table;

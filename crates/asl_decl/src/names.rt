@@ -3,10 +3,10 @@
 ghost use Rattle.std.specs.Prelude.{◌≡◌, [], false, map, OnOk, IfErr};
 ghost use Rattle.asl_syn.specs.declared.tree.Decl.TheVariants as decl;
 ghost use Rattle.asl_rules.specs.Names as rules;
-ghost use Rattle.asl_decl.specs.Answers.{Met, Agrees};
+ghost use Rattle.asl_types.specs.Answers.{Met, Agrees};
 ghost use Rattle.asl_decl.specs.Known.{known, with_name, after_name, after_names, after_decls};
 
-use crate::answer::fault;
+use asl_types::answer::fault;
 use crate::library;
 use asl_syn::code::{Refused, StaticCode};
 use asl_syn::tree::{Decl, Ident, TypeDecl, TypeDef};

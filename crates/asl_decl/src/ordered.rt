@@ -1,7 +1,7 @@
 //! Declarations in an order, in which each stands behind all that it uses.
 
 ghost use Rattle.std.specs.Prelude.{◌≡◌, ℕ, ◌<◌, true, length, IfOk};
-ghost use Rattle.asl_decl.specs.Answers.{Met};
+ghost use Rattle.asl_types.specs.Answers.{Met};
 ghost use Rattle.asl_decl.specs.Cycles.{order_rule};
 ghost use Rattle.asl_decl.specs.Graphs.{graph_of};
 ghost use Rattle.asl_decl.specs.Orders.{has_mark, IsOrder};

@@ -2,10 +2,10 @@
 
 ghost use Rattle.std.specs.Prelude.{◌≡◌, []};
 ghost use Rattle.asl_rules.specs.Programs.{funcs_of, overloads_rule};
-ghost use Rattle.asl_decl.specs.Answers.{Met, Agrees};
+ghost use Rattle.asl_types.specs.Answers.{Met, Agrees};
 ghost use Rattle.asl_decl.specs.Known.{after_func, after_funcs};
 
-use crate::answer::fault;
+use asl_types::answer::fault;
 use crate::names::Names;
 use asl_syn::code::{Refused, StaticCode};
 use asl_syn::tree::{Decl, Func};

@@ -3,7 +3,7 @@ use Rattle.asl_syn.specs.declared.code.StaticCode.TheVariants.{T03}
 use Rattle.asl_syn.specs.declared.tree.Ident.{Ident}
 use Rattle.asl_rules.specs.Faults.{fault_of}
 use Rattle.asl_rules.specs.Uses.{cycles_rule, reaches_itself}
-use Rattle.asl_decl.specs.Answers.{Met}
+use Rattle.asl_types.specs.Answers.{Met}
 use Rattle.asl_decl.specs.Orders.{HasEdges, HasWay}
 use Rattle.asl_decl.proofs.Drops.{drop_here}
 use Rattle.asl_decl.proofs.Reaching.{cycles_pass}
