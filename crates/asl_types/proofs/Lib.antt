@@ -6,3 +6,4 @@ pub mod ScopeLemmas
 pub mod SizeLemmas
 pub mod TypesBack
 pub mod ValuesBack
+pub mod WrittenLemmas

@@ -13,6 +13,8 @@ pub mod sizes;
 mod slot;
 pub mod structure;
 mod ty;
+pub mod widths;
+pub mod written;
 
 pub use binding::{Binding, Under};
 pub use scope::{Scope, Standing, Storage, reading, writing};
