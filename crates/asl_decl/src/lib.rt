@@ -1,2 +1,9 @@
-//! To come.
+//! Declarations of types and of storage, in any order.
 #![tactic(auto)]
+
+mod barred;
+mod definitions;
+mod judging;
+mod signatures;
+mod storage;
+mod value_kind;

@@ -1,0 +1,3 @@
+pub mod Barred
+pub mod Brought
+pub mod Definitions
