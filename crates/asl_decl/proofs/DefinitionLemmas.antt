@@ -10,7 +10,7 @@ use Rattle.asl_rules.specs.Exprs.{written}
 use Rattle.asl_rules.specs.Declarations.{labels, fields_written}
 use Rattle.asl_types.specs.declared.ty.FieldType.{FieldType}
 use Rattle.asl_types.specs.View.{Of, field_of, fields_of, all_fields}
-use Rattle.asl_decl.specs.Definitions.{of_field, fields_after}
+use Rattle.asl_decl.specs.Definitions.{of_field, fields_after, names_after, labels_after}
 
 -- ---- fields
 
@@ -69,10 +69,6 @@ fields_bad fs G e h = fields_are fs G ∙ ap seen h
 
 -- ---- names
 
-abbrev pub names_after : List (List ℕ) → List (List ℕ) → List (List ℕ)
-names_after xs [] = xs
-names_after xs (n ∷ ns) = names_after (xs ++ n ∷ []) ns
-
 append_one : (xs : List (List ℕ)) (n : List ℕ) (ns : List (List ℕ)) → (xs ++ n ∷ []) ++ ns ≡ xs ++ n ∷ ns
 append_one [] n ns = refl
 append_one (x ∷ xs) n ns = ap (λ zs. x ∷ zs) (append_one xs n ns)
@@ -87,10 +83,6 @@ names_behind (n ∷ ns) xs = names_behind ns (xs ++ n ∷ []) ∙ append_one xs 
 
 pub names_all : (xs : List (List ℕ)) (n : List ℕ) (ns : List (List ℕ)) → xs ≡ names_after (n ∷ []) ns → xs ≡ n ∷ ns
 names_all xs n ns h = h ∙ names_behind ns (n ∷ [])
-
-abbrev pub labels_after : List (List ℕ) → List Ident → List (List ℕ)
-labels_after xs [] = xs
-labels_after xs (i ∷ is) = labels_after (xs ++ i.text ∷ []) is
 
 labels_behind : (is : List Ident) (xs : List (List ℕ)) → labels_after xs is ≡ xs ++ labels is
 labels_behind [] xs = append_nil xs

@@ -1,20 +1,19 @@
 -- The kinds of values in order, and of arrays.
-use Rattle.std.proofs.Common.{◌≡◌, ℕ, zero, suc, ◌≤◌, List, [], ◌∷◌, length, take, map, refl, sym, ap, ◌∙◌}
+use Rattle.std.proofs.Common.{◌≡◌, ℕ, suc, ◌≤◌, List, [], ◌∷◌, length, take, map, refl, sym, ap, ◌∙◌}
 use Rattle.std.proofs.lemmas.List.{take_all}
-use Rattle.asl_rules.specs.Types.{Kind, arrays, one_more}
+use Rattle.asl_rules.specs.Types.{Kind, one_more}
 use Rattle.asl_rules.specs.Values as rules
 use Rattle.asl_value.specs.declared.value.Kind.{Kind as KindOfCode}
 use Rattle.asl_value.specs.declared.value.Value.{Value}
 use Rattle.asl_value.specs.View.{kind_of, kinds_of, value_of, all_values}
 use Rattle.asl_types.specs.Parts.{all_kinds}
 
-count_is : (xs : List Value) → rules.count (all_values xs) ≡ length xs
-count_is [] = refl
-count_is (x ∷ xs) = ap suc (count_is xs)
+each_counts : (xs : List Value) → rules.count (all_values xs) ≡ length xs
+each_counts [] = refl
+each_counts (x ∷ xs) = ap suc (each_counts xs)
 
--- the kind of an array of these elements
-pub array_kind : (k : Kind) (xs : List Value) (n : ℕ) → n ≡ length xs → arrays n k ≡ rules.kind_of (rules.array_with k (all_values xs))
-array_kind k xs n h = ap (λ m. arrays m k) (h ∙ sym (count_is xs))
+pub count_is : (xs : List Value) (n : ℕ) → n ≡ length xs → n ≡ rules.count (all_values xs)
+count_is xs n h = h ∙ sym (each_counts xs)
 
 abbrev pub kind_at : Value → Kind
 kind_at x = rules.kind_of (value_of x)

@@ -23,8 +23,11 @@ absent_place n (m ∷ ms) = absent_by (bytes_eq m n) (has_name n ms) (place_of n
 absent_is : (n : List ℕ) (ns : List (List ℕ)) → not (has_name n ns) ≡ is_absent (first_place n (placed ns 0 []))
 absent_is n ns = absent_place n ns ∙ ap is_absent (sym (place_is n ns))
 
+zero_add : (i : ℕ) → i ≡ 0 + i
+zero_add i = omega arith
+
 placed_one : (ns : List (List ℕ)) (m : List ℕ) (i : ℕ) (ps : Places) → placed (ns ++ m ∷ []) i ps ≡ kept m (length ns + i) (placed ns i ps)
-placed_one [] m i ps = refl
+placed_one [] m i ps = ap (λ k. kept m k ps) (zero_add i)
 placed_one (n ∷ ns) m i ps = placed_one ns m (suc i) (kept n i ps) ∙ ap (λ k. kept m k (placed ns (suc i) (kept n i ps))) (omega arith)
 
 length_one : (ns : List (List ℕ)) (m : List ℕ) → length (ns ++ m ∷ []) ≡ suc (length ns)

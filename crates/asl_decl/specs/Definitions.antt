@@ -2,6 +2,7 @@
 use Rattle.std.specs.Prelude.{ℕ, suc, Bool, true, ◌&&◌, List, [], ◌∷◌, ◌++◌, Result, Ok}
 use Rattle.asl_syn.specs.declared.code.Fault.{Fault}
 use Rattle.asl_syn.specs.declared.tree.Formal.{Formal}
+use Rattle.asl_syn.specs.declared.tree.Ident.{Ident}
 use Rattle.asl_syn.specs.declared.tree.TypeDecl.{TypeDecl}
 use Rattle.asl_rules.specs.Faults.{◌>>=◌}
 use Rattle.asl_rules.specs.Types.{Ty, named, structure}
@@ -24,6 +25,16 @@ fields_after xs (f ∷ fs) G = written f.ty G >>= λ T. fields_after (xs ++ of_f
 abbrev pub once_beside : List Formal → ℕ → Places → Bool
 once_beside [] n ps = true
 once_beside (f ∷ fs) n ps = is_absent (first_place f.name.text ps) && once_beside fs (suc n) (kept f.name.text n ps)
+
+-- the labels of an enumeration, behind those before
+abbrev pub labels_after : List (List ℕ) → List Ident → List (List ℕ)
+labels_after xs [] = xs
+labels_after xs (i ∷ is) = labels_after (xs ++ i.text ∷ []) is
+
+-- names behind others
+abbrev pub names_after : List (List ℕ) → List (List ℕ) → List (List ℕ)
+names_after xs [] = xs
+names_after xs (n ∷ ns) = names_after (xs ++ n ∷ []) ns
 
 -- the type that a declaration names
 abbrev pub type_declared : TypeDecl → Scope → Result Ty Fault

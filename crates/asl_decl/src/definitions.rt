@@ -9,7 +9,7 @@ ghost use Rattle.asl_rules.specs.Types.{record_of, exception_of, enumeration_of,
 ghost use Rattle.asl_rules.specs.Scopes.{type_of_name};
 ghost use Rattle.asl_types.specs.Answers.{Met, Agrees};
 ghost use Rattle.asl_types.specs.View.{ty_of, field_of, all_fields};
-ghost use Rattle.asl_decl.specs.Definitions.{of_field, fields_after, type_declared};
+ghost use Rattle.asl_decl.specs.Definitions.{of_field, fields_after, once_beside, labels_after, names_after, type_declared};
 
 use asl_shared::Shared;
 use asl_syn::code::{Refused, StaticCode};
@@ -66,7 +66,7 @@ fn fields_in_order(
 }
 
 /// The fields of a type, with the types that are written.
-#[tactic(auto, using(crate::proofs::DefinitionLemmas::fields_good, crate::proofs::Along::fields_bad))]
+#[tactic(auto, using(crate::proofs::DefinitionLemmas::fields_good, crate::proofs::DefinitionLemmas::fields_bad))]
 fn fields_written(
     alloc: Global,
     fields: &[Formal],
@@ -78,10 +78,9 @@ fn fields_written(
     Ok(types)
 }
 
-/// Whether each field stands once.
-#[tactic(auto, using(crate::proofs::OnceLemmas::once_is))]
-fn is_once(alloc: Global, fields: &[Formal]) -> Result<bool, AllocError>
-    ensures { IfOk result (λ once. once ≡ rules.once fields.now []) }
+/// Whether each field stands once, by the places at which names stand first.
+fn is_once_by_places(alloc: Global, fields: &[Formal]) -> Result<bool, AllocError>
+    ensures { IfOk result (λ once. once ≡ once_beside fields.now 0 []) }
 {
     let mut firsts = Firsts::new(alloc);
     for (place, field) in fields.iter().enumerate() {
@@ -94,6 +93,15 @@ fn is_once(alloc: Global, fields: &[Formal]) -> Result<bool, AllocError>
     Ok(true)
 }
 
+/// Whether each field stands once.
+#[tactic(auto, using(crate::proofs::OnceLemmas::once_is))]
+fn is_once(alloc: Global, fields: &[Formal]) -> Result<bool, AllocError>
+    ensures { IfOk result (λ once. once ≡ rules.once fields.now []) }
+{
+    let once = is_once_by_places(alloc, fields)?;
+    Ok(once)
+}
+
 /// T15 at this place where a field stands twice.
 fn check_once(alloc: Global, span: Span, fields: &[Formal]) -> Result<(), Refused>
     ensures { Agrees result (need (rules.once fields.now []) StaticCode.T15 span) }
@@ -104,15 +112,23 @@ fn check_once(alloc: Global, span: Span, fields: &[Formal]) -> Result<(), Refuse
     Ok(())
 }
 
-/// The labels of an enumeration.
-#[tactic(auto, using(crate::proofs::DefinitionLemmas::labels_all))]
-fn labels_of(alloc: Global, labels: &[Ident]) -> Result<Items<Name>, AllocError>
-    ensures { IfOk result (λ names. names ≡ rules.labels labels.now) }
+/// Labels in order.
+fn labels_in_order(alloc: Global, labels: &[Ident]) -> Result<Items<Name>, AllocError>
+    ensures { IfOk result (λ names. names ≡ labels_after [] labels.now) }
 {
     let mut names = Items::new(alloc);
     for label in labels {
         names.push(name_of(alloc, label.text.as_slice())?)?;
     }
+    Ok(names)
+}
+
+/// The labels of an enumeration.
+#[tactic(auto, using(crate::proofs::DefinitionLemmas::labels_all))]
+fn labels_of(alloc: Global, labels: &[Ident]) -> Result<Items<Name>, AllocError>
+    ensures { IfOk result (λ names. names ≡ rules.labels labels.now) }
+{
+    let names = labels_in_order(alloc, labels)?;
     Ok(names)
 }
 
@@ -192,16 +208,24 @@ pub(crate) fn define(
 
 // ---- what a declared type reaches
 
-/// A name, and the names that it reaches.
-#[tactic(auto, using(crate::proofs::DefinitionLemmas::names_all))]
-fn with_reached(alloc: Global, name: &Name, supers: &[Name]) -> Result<Items<Name>, AllocError>
-    ensures { IfOk result (λ names. names ≡ name.now ∷ supers.now) }
+/// Names behind one.
+fn names_behind(alloc: Global, name: &Name, supers: &[Name]) -> Result<Items<Name>, AllocError>
+    ensures { IfOk result (λ names. names ≡ names_after (name.now ∷ []) supers.now) }
 {
     let mut names = Items::new(alloc);
     names.push(name.share()?)?;
     for other in supers {
         names.push(other.share()?)?;
     }
+    Ok(names)
+}
+
+/// A name, and the names that it reaches.
+#[tactic(auto, using(crate::proofs::DefinitionLemmas::names_all))]
+fn with_reached(alloc: Global, name: &Name, supers: &[Name]) -> Result<Items<Name>, AllocError>
+    ensures { IfOk result (λ names. names ≡ name.now ∷ supers.now) }
+{
+    let names = names_behind(alloc, name, supers)?;
     Ok(names)
 }
 

@@ -7,3 +7,6 @@ mod judging;
 mod signatures;
 mod storage;
 mod value_kind;
+
+#[cfg(test)]
+mod tests;

@@ -30,14 +30,22 @@ pub(crate) fn kind_of_value(alloc: Global, value: &Value) -> Result<Kind, AllocE
     }
 }
 
+/// The number of values, where it is below 2^32.
+#[tactic(auto, using(crate::proofs::KindLemmas::count_is))]
+fn count_of(values: &[Value]) -> Result<u32, AllocError>
+    ensures { IfOk result (λ n. n ≡ rules.count (all_values values.now)) }
+{
+    let Ok(count) = u32::try_from(values.len()) else {
+        return Err(AllocError);
+    };
+    Ok(count)
+}
+
 /// The kind of an array of elements of this kind.
-#[tactic(auto, using(crate::proofs::KindLemmas::array_kind))]
 fn kind_of_array(kind: &Shared<Kind>, elements: &[Value]) -> Result<Kind, AllocError>
     ensures { IfOk result (λ k. kind_of k ≡ rules.kind_of (array_with (kind_of kind.now) (all_values elements.now))) }
 {
-    let Ok(length) = u32::try_from(elements.len()) else {
-        return Err(AllocError);
-    };
+    let length = count_of(elements)?;
     Ok(Kind::Arrays(length, kind.share()?))
 }
 
