@@ -221,7 +221,6 @@ fn names_behind(alloc: Global, name: &Name, supers: &[Name]) -> Result<Items<Nam
 }
 
 /// A name, and the names that it reaches.
-#[tactic(auto, using(crate::proofs::DefinitionLemmas::names_all))]
 fn with_reached(alloc: Global, name: &Name, supers: &[Name]) -> Result<Items<Name>, AllocError>
     ensures { IfOk result (λ names. names ≡ name.now ∷ supers.now) }
 {

@@ -42,6 +42,7 @@ fn labels_in(def: &TypeDef) -> &[Ident]
     }
 }
 
+#[tactic(auto, using(crate::proofs::DefinitionLemmas::type_good, crate::proofs::DefinitionLemmas::type_bad))]
 fn judge_type<'a>(alloc: Global, d: &'a TypeDecl, names: &Scope) -> Result<Brought<'a>, Refused>
     ensures { Met brought_of result (rules.type_decl_rule d.now (in_names names.now)) }
 {
