@@ -25,3 +25,6 @@ pub mod TableLemmas
 pub mod Keeping
 pub mod GlobalLemmas
 pub mod LibraryNames
+pub mod DefinitionLemmas
+pub mod KindLemmas
+pub mod OnceLemmas

@@ -6,3 +6,5 @@ pub mod Cycles
 pub mod Passes
 pub mod Progresses
 pub mod Tables
+pub mod Barred
+pub mod Definitions
