@@ -10,7 +10,7 @@ use asl_syn::token::Span;
 use asl_syn::tree::{BinaryOperator, UnaryOperator};
 use asl_tree::typed::TypedExpr;
 use asl_types::Slot;
-use asl_value::Value;
+use asl_value::{GivenField, Shell, Value};
 use sqlite_items::{Boxed, Items};
 use std::alloc::{AllocError, Global};
 
@@ -115,4 +115,15 @@ pub(crate) fn element(
     let a = Boxed::new(alloc, a)?;
     let i = Boxed::new(alloc, i)?;
     Ok(TypedExpr::Element(span, a, i))
+}
+
+pub(crate) fn construct(
+    span: Span,
+    shell: Shell,
+    places: Items<GivenField>,
+    values: Items<TypedExpr>,
+) -> TypedExpr
+    ensures { result ≡ roll-TypedExpr (te.Construct span shell places values) }
+{
+    TypedExpr::Construct(span, shell, places, values)
 }
