@@ -19,7 +19,7 @@ use crate::binds::{check_several, is_var};
 use crate::sizes::type_sizes;
 use crate::steps::{check_fit, ended};
 use crate::typing::{type_in, written_in};
-use asl_expr::exprs::Typed;
+use asl_expr::typed::Typed;
 use asl_rules::effect::Effect;
 use asl_syn::code::{Refused, StaticCode};
 use asl_syn::token::Span;

@@ -9,7 +9,8 @@ ghost use Rattle.asl_expr.specs.Views.{typed_of};
 ghost use Rattle.asl_check.specs.Views.{scope_of};
 
 use crate::body::Body;
-use asl_expr::exprs::{Typed, type_expr};
+use asl_expr::exprs::type_expr;
+use asl_expr::typed::Typed;
 use asl_syn::code::Refused;
 use asl_syn::tree::{Expr, TypeExpr};
 use asl_tree::typed::TypedExpr;
@@ -39,5 +40,5 @@ pub(crate) fn written_in(
 ) -> Result<Ty, Refused>
     ensures { Met ty_of result (rules.written t.now (scope_of names.now body.now)) }
 {
-    written::ty_of(alloc, t, names)
+    written::written_type(alloc, t, names)
 }
