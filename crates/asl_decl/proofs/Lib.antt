@@ -1,3 +1,6 @@
+pub mod DefinitionLemmas
+pub mod KindLemmas
+pub mod OnceLemmas
 pub mod Tests
 pub mod Inversions
 pub mod Lookups

@@ -7,8 +7,14 @@ use Rattle.asl_types.specs.Standings.{with_entry}
 use Rattle.asl_rules.specs.Types.{Ty}
 use Rattle.asl_rules.specs.Values.{label}
 use Rattle.asl_rules.specs.Scopes.{Entry, global, subprogram, type_name, label_name}
+use Rattle.asl_rules.specs.Declarations as rules
+use Rattle.asl_decl.specs.declared.storage.Initial.{Initial}
 use Rattle.asl_decl.specs.declared.judging.Brought.{Brought}
 use Rattle.asl_decl.specs.declared.judging.Brought.TheVariants as brought
+
+-- the type and the initial value of global storage
+abbrev pub initial_of : Initial → rules.Initial
+initial_of s = record { ty = ty_of s.ty; value = value_of s.value }
 
 -- the labels of a type of this name
 abbrev pub labels_brought : List Ident → List ℕ → Ty → List Entry

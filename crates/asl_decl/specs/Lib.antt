@@ -1,4 +1,6 @@
+pub mod Barred
 pub mod Brought
+pub mod Definitions
 pub mod Known
 pub mod Graphs
 pub mod Orders

@@ -1,19 +1,24 @@
 //! What a declaration brings into the scope of all bodies.
 
-ghost use Rattle.std.specs.Prelude.{◌≡◌, IfOk, IfErr, OnOk};
+ghost use Rattle.std.specs.Prelude.{◌≡◌, ℕ, List, IfOk, IfErr, OnOk};
 ghost use Rattle.asl_rules.specs.Declarations as rules;
 ghost use Rattle.asl_rules.specs.Declarations.{in_names};
-ghost use Rattle.asl_rules.specs.Evaluation.{global_with};
+ghost use Rattle.asl_rules.specs.Evaluation.{global_under, global_with};
+ghost use Rattle.asl_rules.specs.Types as types;
+ghost use Rattle.asl_rules.specs.Values as values;
 ghost use Rattle.asl_value.specs.View.{value_of};
 ghost use Rattle.asl_types.specs.Answers.{Met};
-ghost use Rattle.asl_types.specs.Bindings.{binding_of};
+ghost use Rattle.asl_types.specs.Bindings.{binding_of, under_of};
 ghost use Rattle.asl_types.specs.View.{ty_of};
-ghost use Rattle.asl_decl.specs.Brought.{brought_of, with_entries};
+ghost use Rattle.asl_decl.specs.Brought.{brought_of, labels_brought, with_entries};
 
+use crate::definitions::{declared_type, name_of};
+use crate::storage::{initial_storage, is_var};
+use crate::value_kind::kind_of_value;
 use asl_syn::code::Refused;
-use asl_syn::tree::{Decl, Ident, StorageDecl};
-use asl_types::{Binding, Scope, Ty};
-use asl_value::Value;
+use asl_syn::tree::{Decl, Ident, StorageDecl, TypeDecl, TypeDef, TypeExpr};
+use asl_types::{Binding, Scope, Ty, Under};
+use asl_value::{Name, Value, copy};
 use std::alloc::{AllocError, Global};
 
 /// What a declaration brings.
@@ -27,6 +32,36 @@ pub(crate) enum Brought<'a> {
     Subprogram(&'a [u8]),
 }
 
+/// The labels that a definition writes.
+fn labels_in(def: &TypeDef) -> &[Ident]
+    ensures { (name : List ℕ) (T : types.Ty) → labels_brought result.now name T ≡ rules.label_entries def.now name T }
+{
+    match def {
+        TypeDef::Labels(_, labels) => labels.as_slice(),
+        _ => &[],
+    }
+}
+
+#[tactic(auto, using(crate::proofs::DefinitionLemmas::type_good, crate::proofs::DefinitionLemmas::type_bad))]
+fn judge_type<'a>(alloc: Global, d: &'a TypeDecl, names: &Scope) -> Result<Brought<'a>, Refused>
+    ensures { Met brought_of result (rules.type_decl_rule d.now (in_names names.now)) }
+{
+    let ty = declared_type(alloc, d, names)?;
+    Ok(Brought::Type(d.name.text.as_slice(), ty, labels_in(&d.def)))
+}
+
+fn judge_storage<'a>(
+    alloc: Global,
+    d: &'a StorageDecl,
+    names: &Scope,
+) -> Result<Brought<'a>, Refused>
+    ensures { Met brought_of result (rules.storage_decl_rule d.now (in_names names.now)) }
+{
+    let initial = initial_storage(alloc, d, names)?;
+    let name = d.name.text.as_slice();
+    Ok(Brought::Storage(name, initial.ty, is_var(d.kind), initial.value))
+}
+
 /// What a declaration brings, where it is well formed over these names.
 pub(crate) fn judge<'a>(
     alloc: Global,
@@ -35,7 +70,37 @@ pub(crate) fn judge<'a>(
 ) -> Result<Brought<'a>, Refused>
     ensures { Met brought_of result (rules.decl_rule d.now (in_names names.now)) }
 {
-    Err(Refused::NoMemory)
+    match d {
+        Decl::Type(t) => judge_type(alloc, t, names),
+        Decl::Storage(s) => judge_storage(alloc, s, names),
+        Decl::Func(f) => Ok(Brought::Subprogram(f.name.text.as_slice())),
+    }
+}
+
+// ---- the names
+
+fn label_value(alloc: Global, name: &Name, label: &Ident) -> Result<Value, AllocError>
+    ensures { IfOk result (λ x. value_of x ≡ values.label name.now label.now.text) }
+{
+    Ok(Value::Label(name.share()?, name_of(alloc, label.text.as_slice())?))
+}
+
+/// The labels of a type become visible, each where it isn't.
+fn bring_labels<'a>(
+    alloc: Global,
+    names: &mut Scope<'a>,
+    name: &Name,
+    ty: &Ty,
+    labels: &'a [Ident],
+) -> Result<(), Refused>
+    ensures brought { OnOk result (names.new ≡ with_entries (labels_brought labels.now name.now (ty_of ty.now)) names.old) }
+    ensures memory { IfErr result (λ e. e ≡ Refused.NoMemory) }
+{
+    for label in labels {
+        let value = label_value(alloc, name, label)?;
+        names.declare_label(label.text.as_slice(), ty.copy()?, value)?;
+    }
+    Ok(())
 }
 
 impl<'a> Brought<'a> {
@@ -44,7 +109,33 @@ impl<'a> Brought<'a> {
         ensures brought { OnOk result (names.new ≡ with_entries (brought_of self.now) names.old) }
         ensures memory { IfErr result (λ e. e ≡ Refused.NoMemory) }
     {
-        Err(Refused::NoMemory)
+        match self {
+            Brought::Type(name, ty, labels) => {
+                names.declare_type(name, ty.copy()?)?;
+                bring_labels(alloc, names, &name_of(alloc, name)?, ty, labels)
+            }
+            Brought::Storage(name, ty, is_mutable, value) => {
+                names.declare_global(name, ty.copy()?, *is_mutable, copy(value)?)
+            }
+            Brought::Subprogram(name) => names.declare_subprogram(name),
+        }
+    }
+}
+
+// ---- the globals
+
+/// What global storage holds: values of the type that is written, or else of the kind of the value that it begins with.
+fn under_of_storage(
+    alloc: Global,
+    written: &Option<TypeExpr>,
+    ty: &Ty,
+    value: &Value,
+) -> Result<Under, AllocError>
+    ensures { IfOk result (λ u. under_of u ≡ global_under written.now (ty_of ty.now) (value_of value.now)) }
+{
+    match written {
+        None => Ok(Under::OfKind(kind_of_value(alloc, value)?)),
+        Some(_) => Ok(Under::OfType(ty.copy()?)),
     }
 }
 
@@ -57,5 +148,10 @@ pub(crate) fn binding_of_storage(
 ) -> Result<Binding, AllocError>
     ensures { IfOk result (λ b. binding_of b ≡ global_with d.now (ty_of ty.now) (value_of value.now)) }
 {
-    Err(AllocError)
+    Ok(Binding {
+        name: name_of(alloc, d.name.text.as_slice())?,
+        value: copy(value)?,
+        under: under_of_storage(alloc, &d.ty, ty, value)?,
+        is_mutable: is_var(d.kind),
+    })
 }

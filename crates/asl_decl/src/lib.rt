@@ -1,8 +1,10 @@
 //! Declarations of types and of storage, in any order.
 #![tactic(auto)]
 
+mod barred;
 mod cycles;
 mod declarers;
+mod definitions;
 mod globals;
 mod graph;
 mod judging;
@@ -16,10 +18,14 @@ mod overloads;
 mod pass;
 mod reach;
 mod signatures;
+mod storage;
 mod table;
 mod used;
+mod value_kind;
 mod visible;
 
-pub use ordered::{Ordered, in_order};
 pub use signatures::result_type;
 pub use table::Table;
+
+#[cfg(test)]
+mod tests;

@@ -5,6 +5,7 @@ ghost use Rattle.asl_rules.specs.Programs as rules;
 ghost use Rattle.asl_types.specs.Answers.{Met, Agrees};
 ghost use Rattle.asl_types.specs.View.{ty_of};
 
+use crate::definitions::written;
 use asl_syn::code::Refused;
 use asl_syn::tree::{Decl, TypeExpr};
 use asl_types::{Scope, Ty};
@@ -18,12 +19,23 @@ pub fn result_type(
 ) -> Result<Option<Ty>, Refused>
     ensures { Met (option_map ty_of) result (rules.result_rule names.now t.now) }
 {
-    Err(Refused::NoMemory)
+    match t {
+        None => Ok(None),
+        Some(t) => {
+            let result = written(alloc, t, names)?;
+            Ok(Some(result))
+        }
+    }
 }
 
 /// The signatures of all subprograms, in source order.
 pub(crate) fn check_signatures(alloc: Global, names: &Scope, decls: &[Decl]) -> Result<(), Refused>
     ensures { Agrees result (rules.signatures_rule names.now (rules.funcs_of decls.now)) }
 {
-    Err(Refused::NoMemory)
+    for d in decls {
+        if let Decl::Func(f) = d {
+            result_type(alloc, names, &f.result)?;
+        }
+    }
+    Ok(())
 }

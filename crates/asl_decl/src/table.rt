@@ -46,7 +46,8 @@ fn judge_names<'a>(alloc: Global, decls: &'a [Decl]) -> Result<Scope<'a>, Refuse
     ensures names { IfOk result (λ names. names ≡ names_judged decls.now) }
 {
     let outcomes = judge_decls(alloc, decls)?;
-    names_of_all(alloc, outcomes.as_slice())
+    let names = names_of_all(alloc, outcomes.as_slice())?;
+    Ok(names)
 }
 
 /// The results of subprograms, and then those of one name.
