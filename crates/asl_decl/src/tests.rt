@@ -1,6 +1,7 @@
 //! Declarations judged one after another, against the rules as they are told.
 use crate::judging::{Brought, binding_of_storage, judge};
 use crate::signatures::result_type;
+use crate::table::Table;
 use asl_syn::code::{Fault, Refused};
 use asl_syn::token::Span;
 use asl_syn::tree::{
@@ -301,5 +302,46 @@ fn globals_and_results(rt: HostRuntime) {
             }
             _ => assert!(rt; false),
         }
+    }
+}
+
+// The numbers of names and of globals, or the first fault with the number of the word where it stands.
+fn table(alloc: Global, text: &str) -> Option<String> {
+    let mut out = String::new(alloc);
+    let decls = read(alloc, text)?;
+    match Table::build(alloc, decls.as_slice()) {
+        Ok(table) => {
+            let (names, globals) = (table.names.len(), table.globals.len());
+            write!(out, "{names} names, {globals} globals").ok()?;
+        }
+        Err(Refused::At(fault)) => write_fault(fault, &mut out)?,
+        Err(Refused::NoMemory) => return None,
+    }
+    Some(out)
+}
+
+#[test]
+fn declarations_in_any_order(rt: HostRuntime) {
+    let alloc = rt.alloc();
+    for (text, wanted) in [
+        ("x let:y 1 let:x", "14 names, 2 globals"),
+        ("is:A type:B int type:A", "14 names, 0 globals"),
+        ("is:C RED let:x l:RED l:GREEN enum:C", "16 names, 1 globals"),
+        ("int func:f func:g is:A 1 let:x int type:A", "16 names, 1 globals"),
+        ("x let:x", "T03@1"),
+        ("y let:x x let:y", "T03@1"),
+        ("x let:w y let:x x let:y", "T03@3"),
+        ("z let:w y let:x x let:y", "T03@3"),
+        ("y let:x T 1 + let:y", "T08@4"),
+        ("y let:x nope let:z T 1 + let:y", "T02@2"),
+        ("int func:f 1 let:f", "T01@3"),
+        ("1 let:UInt", "T01@1"),
+        ("int func:f int func:f", "T10@3"),
+        ("is:X func:f int func:f", "T02@0"),
+        ("is:X func:g x let:y", "T02@2"),
+        ("func:f 1 let:x call:f let:y", "T04@3"),
+    ] {
+        let found = table(alloc, text).expect(&rt, "memory");
+        assert!(rt; found.as_str() == wanted, "{text}: {found}");
     }
 }
