@@ -65,11 +65,7 @@ fn judge_storage<'a>(
 }
 
 /// What a declaration brings, where it is well formed over these names.
-pub(crate) fn judge<'a>(
-    alloc: Global,
-    d: &'a Decl,
-    names: &Scope,
-) -> Result<Brought<'a>, Refused>
+pub(crate) fn judge<'a>(alloc: Global, d: &'a Decl, names: &Scope) -> Result<Brought<'a>, Refused>
     ensures { Met brought_of result (rules.decl_rule d.now (in_names names.now)) }
 {
     match d {

@@ -6,7 +6,6 @@ mod definitions;
 mod judging;
 mod signatures;
 mod storage;
-mod value_kind;
-
 #[cfg(test)]
 mod tests;
+mod value_kind;
