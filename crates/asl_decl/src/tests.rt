@@ -242,8 +242,14 @@ fn types_that_are_declared(rt: HostRuntime) {
         ("int type:A sub:A int type:B is:B 1 let:x", "ok"),
         ("int type:A sub:A bool type:B", "T25@2"),
         ("sub:A bool type:B", "T02@0"),
-        ("int type:A sub:A int type:B sub:B int type:C is:C 1 let:x is:A x let:y", "ok"),
-        ("int type:A sub:A int type:B sub:B int type:C is:A 1 let:x is:C x let:y", "T05@12"),
+        (
+            "int type:A sub:A int type:B sub:B int type:C is:C 1 let:x is:A x let:y",
+            "ok",
+        ),
+        (
+            "int type:A sub:A int type:B sub:B int type:C is:A 1 let:x is:C x let:y",
+            "T05@12",
+        ),
         ("int 1 array type:A", "ok"),
         ("int x array type:A", "T02@1"),
     ] {
@@ -279,7 +285,10 @@ fn storage_that_is_declared(rt: HostRuntime) {
 #[test]
 fn globals_and_results(rt: HostRuntime) {
     let alloc = rt.alloc();
-    let decls = read(alloc, "1 var:x int 1 let:y int func:f is:X func:g func:h").expect(&rt, "declarations");
+    let decls = read(alloc, "1 var:x int 1 let:y int func:f is:X func:g func:h").expect(
+        &rt,
+        "declarations",
+    );
     let names = Scope::new(alloc);
     for (place, d) in decls.as_slice().iter().enumerate() {
         let brought = judge(alloc, d, &names).expect(&rt, "a judgement");
@@ -289,7 +298,9 @@ fn globals_and_results(rt: HostRuntime) {
                 assert_eq!(rt; b.is_mutable, place == 0);
                 assert_eq!(rt; *is_mutable, place == 0);
                 match b.under {
-                    Under::OfKind(kind) => assert!(rt; place == 0 && matches!(kind, Kind::Integers)),
+                    Under::OfKind(kind) => assert!(rt;
+                        place == 0 && matches!(kind, Kind::Integers)
+                    ),
                     Under::OfType(_) => assert_eq!(rt; place, 1),
                 }
             }
