@@ -3,15 +3,14 @@ use Rattle.std.proofs.Common.{◌≡◌, ℕ, List, [], ◌∷◌, ◌++◌, map
 use Rattle.asl_syn.specs.declared.code.Fault.{Fault}
 use Rattle.asl_syn.specs.declared.tree.Formal.{Formal}
 use Rattle.asl_syn.specs.declared.tree.Ident.{Ident}
-use Rattle.asl_syn.specs.declared.tree.TypeDecl.{TypeDecl}
 use Rattle.asl_rules.specs.Faults.{◌>>=◌}
 use Rattle.asl_rules.specs.Types as types
 use Rattle.asl_rules.specs.Scopes.{Scope}
 use Rattle.asl_rules.specs.Exprs.{written}
-use Rattle.asl_rules.specs.Declarations.{labels, fields_written, def_rule, supertype_rule, type_entries, type_decl_rule}
+use Rattle.asl_rules.specs.Declarations.{labels, fields_written}
 use Rattle.asl_types.specs.declared.ty.FieldType.{FieldType}
 use Rattle.asl_types.specs.View.{Of, field_of, fields_of, all_fields}
-use Rattle.asl_decl.specs.Definitions.{of_field, fields_after, names_after, labels_after, type_declared}
+use Rattle.asl_decl.specs.Definitions.{of_field, fields_after, names_after, labels_after}
 
 -- ---- fields
 
@@ -91,24 +90,3 @@ labels_behind (i ∷ is) xs = labels_behind is (xs ++ i.text ∷ []) ∙ append_
 
 pub labels_all : (xs : List (List ℕ)) (is : List Ident) → xs ≡ labels_after [] is → xs ≡ labels is
 labels_all xs is h = h ∙ labels_behind is []
-
--- ---- declarations of types
-
-both : (d : TypeDecl) (r : Result types.Ty Fault) (s : types.Ty → Result (List (List ℕ)) Fault) (k : types.Ty → List (List ℕ) → types.Ty) →
-    (r >>= λ T. s T >>= λ ns. Ok (type_entries d (k T ns))) ≡ ((r >>= λ T. s T >>= λ ns. Ok (k T ns)) >>= λ T. Ok (type_entries d T))
-both d (Err e) s k = refl
-both d (Ok T) s k = by (s T)
-  where
-    by : (q : Result (List (List ℕ)) Fault) → (q >>= λ ns. Ok (type_entries d (k T ns))) ≡ ((q >>= λ ns. Ok (k T ns)) >>= λ U. Ok (type_entries d U))
-    by (Ok ns) = refl
-    by (Err e) = refl
-
-type_is : (d : TypeDecl) (G : Scope) → type_decl_rule d G ≡ (type_declared d G >>= λ T. Ok (type_entries d T))
-type_is d G = both d (def_rule d.name.text d.def G) (λ T. supertype_rule d.supertype T G) (λ T ns. types.named d.name.text ns (types.structure T))
-
--- what a declaration of a type brings, by the type that it names
-pub type_good : (d : TypeDecl) (G : Scope) (T : types.Ty) → type_declared d G ≡ Ok T → type_decl_rule d G ≡ Ok (type_entries d T)
-type_good d G T h = type_is d G ∙ ap (λ r. r >>= λ U. Ok (type_entries d U)) h
-
-pub type_bad : (d : TypeDecl) (G : Scope) (e : Fault) → type_declared d G ≡ Err e → type_decl_rule d G ≡ Err e
-type_bad d G e h = type_is d G ∙ ap (λ r. r >>= λ U. Ok (type_entries d U)) h

@@ -42,9 +42,9 @@ once_beside_is [] ns = refl
 once_beside_is (f ∷ fs) ns =
     ap (λ b. b && once fs (ns ++ f.name.text ∷ [])) (absent_is f.name.text ns)
     ∙ ap (λ b. is_absent (first_place f.name.text (placed ns 0 [])) && b)
-        (once_beside_is fs (ns ++ f.name.text ∷ [])
-        ∙ ap (λ k. once_beside fs k (placed (ns ++ f.name.text ∷ []) 0 [])) (length_one ns f.name.text)
-        ∙ ap (once_beside fs (suc (length ns))) (placed_next ns f.name.text))
+    (once_beside_is fs (ns ++ f.name.text ∷ [])
+    ∙ ap (λ k. once_beside fs k (placed (ns ++ f.name.text ∷ []) 0 [])) (length_one ns f.name.text)
+    ∙ ap (once_beside fs (suc (length ns))) (placed_next ns f.name.text))
 
 -- each stands once, where it does by the places
 pub once_is : (fs : List Formal) (b : Bool) → b ≡ once_beside fs 0 [] → b ≡ once fs []

@@ -10,12 +10,9 @@ use Rattle.asl_rules.specs.States.{Binding}
 use Rattle.asl_rules.specs.Declarations.{Judged, entries_of, entries, faulty, final, faults_rule, names_of_program, globals_rule}
 use Rattle.asl_rules.specs.Programs.{funcs_of, signatures_rule, overloads_rule}
 use Rattle.asl_rules.specs.Evaluation.{globals_among, initial_globals}
-use Rattle.asl_syn.specs.declared.code.Refused.{Refused}
-use Rattle.asl_syn.specs.declared.code.Refused.TheVariants.{At, NoMemory}
-use Rattle.asl_types.specs.Answers.{Met, Agrees}
 use Rattle.asl_decl.specs.Brought.{with_entries}
 use Rattle.asl_decl.specs.Cycles.{order_rule}
-use Rattle.asl_decl.specs.Passes.{first_fault, with_judgements}
+use Rattle.asl_decl.specs.Passes.{first_fault, with_judgements, names_judged}
 use Rattle.asl_decl.specs.Tables.{table_rule, declarations_rule, subprograms_rule}
 use Rattle.asl_decl.proofs.Inversions.{then_ok}
 use Rattle.asl_decl.proofs.Passing.{SameStandings, with_free, with_all}
@@ -66,8 +63,8 @@ table_then ds r h k = table_is ds ∙ ap (λ q. q >> (subprograms_rule (names_of
 
 -- ---- the names of these judgements
 
-same_names : (ds : List Decl) (js : List Judged) (names : List Entry) → js ≡ map (final ds) ds → names ≡ with_judgements js (map subprogram library) → names ≡ with_all (entries (final ds) ds) (map subprogram library)
-same_names ds js names j n = n ∙ ap (λ l. with_judgements l (map subprogram library)) j ∙ with_all_judged (final ds) ds (map subprogram library)
+same_names : (ds : List Decl) (names : List Entry) → names ≡ names_judged ds → names ≡ with_all (entries (final ds) ds) (map subprogram library)
+same_names ds names n = n ∙ with_all_judged (final ds) ds (map subprogram library)
 
 subprograms_same : (ds : List Decl) (names : List Entry) → names ≡ with_all (entries (final ds) ds) (map subprogram library) → subprograms_rule (names_of_program ds) ds ≡ subprograms_rule names ds
 subprograms_same ds names e =
@@ -84,22 +81,17 @@ declarations_stop ds f h = ap (λ r. r >> faults_rule ds ds) h
 pub declarations_then : (ds : List Decl) (js : List Judged) (r : Result (Unit {0}) Fault) → order_rule ds ≡ Ok tt → js ≡ map (final ds) ds → first_fault js ≡ r → declarations_rule ds ≡ r
 declarations_then ds js r h j k = ap (λ q. q >> faults_rule ds ds) h ∙ sym (first_is ds ds) ∙ ap first_fault (sym j) ∙ k
 
-pub table_faulty : (ds : List Decl) (js : List Judged) (names : List Entry) (f : Fault) → declarations_rule ds ≡ Ok tt → js ≡ map (final ds) ds → names ≡ with_judgements js (map subprogram library) → subprograms_rule names ds ≡ Err f → table_rule ds ≡ Err f
-table_faulty ds js names f h j n k = table_then ds (Err f) h (subprograms_same ds names (same_names ds js names j n) ∙ k)
+pub table_faulty : (ds : List Decl) (names : List Entry) (f : Fault) → declarations_rule ds ≡ Ok tt → names ≡ names_judged ds → subprograms_rule names ds ≡ Err f → table_rule ds ≡ Err f
+table_faulty ds names f h n k = table_then ds (Err f) h (subprograms_same ds names (same_names ds names n) ∙ k)
 
--- the same of an answer
-pub table_refused : {A : Type 0} (view : A → List Entry) (ds : List Decl) (js : List Judged) (names : List Entry) (e : Refused) → declarations_rule ds ≡ Ok tt → js ≡ map (final ds) ds → names ≡ with_judgements js (map subprogram library) → Agrees (let r : Result (Unit {0}) Refused = Err e in r) (subprograms_rule names ds) → Met view (Err e) (table_rule ds)
-table_refused view ds js names (At f) h j n k = table_faulty ds js names f h j n k
-table_refused view ds js names NoMemory h j n k = tt
-
-pub names_are : (ds : List Decl) (js : List Judged) (names : List Entry) → declarations_rule ds ≡ Ok tt → js ≡ map (final ds) ds → names ≡ with_judgements js (map subprogram library) → subprograms_rule names ds ≡ Ok tt → names ≡ names_of_program ds
-names_are ds js names h j n k =
+names_are : (ds : List Decl) (names : List Entry) → declarations_rule ds ≡ Ok tt → names ≡ names_judged ds → subprograms_rule names ds ≡ Ok tt → names ≡ names_of_program ds
+names_are ds names h n k =
     let first = names_first ds (then_ok (order_rule ds) (faults_rule ds ds) tt h).first in
     let last = (then_ok (signatures_rule names (funcs_of ds)) (overloads_rule [] (funcs_of ds)) tt k).then in
-    same_names ds js names j n ∙ scope_is ds first last
+    same_names ds names n ∙ scope_is ds first last
 
-pub table_whole : (ds : List Decl) (js : List Judged) (names : List Entry) → declarations_rule ds ≡ Ok tt → js ≡ map (final ds) ds → names ≡ with_judgements js (map subprogram library) → subprograms_rule names ds ≡ Ok tt → table_rule ds ≡ Ok names
-table_whole ds js names h j n k = table_then ds (Ok tt) h (subprograms_same ds names (same_names ds js names j n) ∙ k) ∙ ap Ok (sym (names_are ds js names h j n k))
+pub table_whole : (ds : List Decl) (names : List Entry) → declarations_rule ds ≡ Ok tt → names ≡ names_judged ds → subprograms_rule names ds ≡ Ok tt → table_rule ds ≡ Ok names
+table_whole ds names h n k = table_then ds (Ok tt) h (subprograms_same ds names (same_names ds names n) ∙ k) ∙ ap Ok (sym (names_are ds names h n k))
 
-pub initial_is : (ds : List Decl) (js : List Judged) (names : List Entry) (bs : List Binding) → declarations_rule ds ≡ Ok tt → js ≡ map (final ds) ds → names ≡ with_judgements js (map subprogram library) → subprograms_rule names ds ≡ Ok tt → bs ≡ globals_among ds names → bs ≡ initial_globals ds
-initial_is ds js names bs h j n k e = e ∙ ap (globals_among ds) (names_are ds js names h j n k)
+pub initial_is : (ds : List Decl) (names : List Entry) (bs : List Binding) → declarations_rule ds ≡ Ok tt → names ≡ names_judged ds → subprograms_rule names ds ≡ Ok tt → bs ≡ globals_among ds names → bs ≡ initial_globals ds
+initial_is ds names bs h n k e = e ∙ ap (globals_among ds) (names_are ds names h n k)

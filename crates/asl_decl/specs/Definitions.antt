@@ -3,12 +3,10 @@ use Rattle.std.specs.Prelude.{ℕ, suc, Bool, true, ◌&&◌, List, [], ◌∷�
 use Rattle.asl_syn.specs.declared.code.Fault.{Fault}
 use Rattle.asl_syn.specs.declared.tree.Formal.{Formal}
 use Rattle.asl_syn.specs.declared.tree.Ident.{Ident}
-use Rattle.asl_syn.specs.declared.tree.TypeDecl.{TypeDecl}
 use Rattle.asl_rules.specs.Faults.{◌>>=◌}
-use Rattle.asl_rules.specs.Types.{Ty, named, structure}
+use Rattle.asl_rules.specs.Types.{Ty}
 use Rattle.asl_rules.specs.Scopes.{Scope, is_absent}
 use Rattle.asl_rules.specs.Exprs.{written}
-use Rattle.asl_rules.specs.Declarations.{def_rule, supertype_rule}
 use Rattle.asl_types.specs.Firsts.{Places, first_place, kept}
 use Rattle.asl_types.specs.View.{Of}
 
@@ -35,10 +33,3 @@ labels_after xs (i ∷ is) = labels_after (xs ++ i.text ∷ []) is
 abbrev pub names_after : List (List ℕ) → List (List ℕ) → List (List ℕ)
 names_after xs [] = xs
 names_after xs (n ∷ ns) = names_after (xs ++ n ∷ []) ns
-
--- the type that a declaration names
-abbrev pub type_declared : TypeDecl → Scope → Result Ty Fault
-type_declared d G =
-    def_rule d.name.text d.def G >>= λ T.
-    supertype_rule d.supertype T G >>= λ supers.
-    Ok (named d.name.text supers (structure T))

@@ -8,7 +8,7 @@ use Rattle.asl_syn.specs.declared.tree.Decl.TheVariants as dc
 use Rattle.asl_rules.specs.Faults.{◌>>◌}
 use Rattle.asl_rules.specs.Names.{library}
 use Rattle.asl_rules.specs.Scopes.{Entry, subprogram}
-use Rattle.asl_rules.specs.Declarations.{in_names, decl_rule, Judged, Waiting, Fine, Faulty, judged, is_fine, entries_of, faulty}
+use Rattle.asl_rules.specs.Declarations.{in_names, decl_rule, Judged, Waiting, Fine, Faulty, judged, is_fine, entries_of, faulty, final}
 use Rattle.asl_decl.specs.declared.outcome.Outcome.{Outcome}
 use Rattle.asl_decl.specs.declared.outcome.Outcome.TheVariants as outcome
 use Rattle.asl_decl.specs.Brought.{brought_of, with_entries}
@@ -70,3 +70,7 @@ first_fault (j ∷ js) = faulty j >> first_fault js
 abbrev pub with_judgements : List Judged → List Entry → List Entry
 with_judgements [] names = names
 with_judgements (j ∷ js) names = with_judgements js (with_entries (entries_of j) names)
+
+-- the names of the library with those that all declarations bring, each as it is judged, where they are free
+abbrev pub names_judged : List Decl → List Entry
+names_judged ds = with_judgements (map (final ds) ds) (map subprogram library)

@@ -30,13 +30,7 @@ fn at_var(span: Span, name: &[u8], names: &Scope) -> Option<Span>
 {
     match names.storage_of(name) {
         None => None,
-        Some(s) => {
-            if is_global_var(s) {
-                Some(span)
-            } else {
-                None
-            }
-        }
+        Some(s) => { if is_global_var(s) { Some(span) } else { None } }
     }
 }
 

@@ -9,12 +9,12 @@ ghost use Rattle.asl_rules.specs.Types.{record_of, exception_of, enumeration_of,
 ghost use Rattle.asl_rules.specs.Scopes.{type_of_name};
 ghost use Rattle.asl_types.specs.Answers.{Met, Agrees};
 ghost use Rattle.asl_types.specs.View.{ty_of, field_of, all_fields};
-ghost use Rattle.asl_decl.specs.Definitions.{of_field, fields_after, once_beside, labels_after, names_after, type_declared};
+ghost use Rattle.asl_decl.specs.Definitions.{of_field, fields_after, once_beside, labels_after, names_after};
 
 use asl_shared::Shared;
 use asl_syn::code::{Refused, StaticCode};
 use asl_syn::token::Span;
-use asl_syn::tree::{Formal, Ident, TypeDecl, TypeDef, TypeExpr};
+use asl_syn::tree::{Formal, Ident, TypeDef, TypeExpr};
 use asl_types::answer::fault;
 use asl_types::firsts::Firsts;
 use asl_types::fits::misfit;
@@ -267,7 +267,7 @@ fn declared(name: &Ident, names: &Scope) -> Result<Ty, Refused>
 }
 
 /// The names that a declared type reaches by its `subtypes`, where its structure fits that of the type there.
-fn supertypes(
+pub(crate) fn supertypes(
     alloc: Global,
     supertype: &Option<Ident>,
     ty: &Ty,
@@ -285,21 +285,17 @@ fn supertypes(
     }
 }
 
-fn named_with(alloc: Global, name: &[u8], supers: Items<Name>, ty: &Ty) -> Result<Ty, AllocError>
+/// The type of a declared name, which reaches these others, with the structure that it stands for.
+pub(crate) fn named_with(
+    alloc: Global,
+    name: &[u8],
+    supers: Items<Name>,
+    ty: &Ty,
+) -> Result<Ty, AllocError>
     ensures { IfOk result (λ it. ty_of it ≡ named name.now supers (structure (ty_of ty.now))) }
 {
     let name = name_of(alloc, name)?;
     let supers = Shared::new(alloc, supers)?;
     let inner = structure(ty).copy()?;
     Ok(Ty::Named(name, supers, Shared::new(alloc, inner)?))
-}
-
-/// The type that a declaration names, with the names that it reaches and the structure that it stands for.
-pub(crate) fn declared_type(alloc: Global, d: &TypeDecl, names: &Scope) -> Result<Ty, Refused>
-    ensures { Met ty_of result (type_declared d.now (in_names names.now)) }
-{
-    let name = d.name.text.as_slice();
-    let ty = define(alloc, name, &d.def, names)?;
-    let supers = supertypes(alloc, &d.supertype, &ty, names)?;
-    Ok(named_with(alloc, name, supers, &ty)?)
 }

@@ -12,7 +12,7 @@ ghost use Rattle.asl_types.specs.Bindings.{binding_of, under_of};
 ghost use Rattle.asl_types.specs.View.{ty_of};
 ghost use Rattle.asl_decl.specs.Brought.{brought_of, labels_brought, with_entries};
 
-use crate::definitions::{declared_type, name_of};
+use crate::definitions::{define, name_of, named_with, supertypes};
 use crate::storage::{initial_storage, is_var};
 use crate::value_kind::kind_of_value;
 use asl_syn::code::Refused;
@@ -42,12 +42,14 @@ fn labels_in(def: &TypeDef) -> &[Ident]
     }
 }
 
-#[tactic(auto, using(crate::proofs::DefinitionLemmas::type_good, crate::proofs::DefinitionLemmas::type_bad))]
 fn judge_type<'a>(alloc: Global, d: &'a TypeDecl, names: &Scope) -> Result<Brought<'a>, Refused>
     ensures { Met brought_of result (rules.type_decl_rule d.now (in_names names.now)) }
 {
-    let ty = declared_type(alloc, d, names)?;
-    Ok(Brought::Type(d.name.text.as_slice(), ty, labels_in(&d.def)))
+    let name = d.name.text.as_slice();
+    let ty = define(alloc, name, &d.def, names)?;
+    let supers = supertypes(alloc, &d.supertype, &ty, names)?;
+    let ty = named_with(alloc, name, supers, &ty)?;
+    Ok(Brought::Type(name, ty, labels_in(&d.def)))
 }
 
 fn judge_storage<'a>(
@@ -63,11 +65,7 @@ fn judge_storage<'a>(
 }
 
 /// What a declaration brings, where it is well formed over these names.
-pub(crate) fn judge<'a>(
-    alloc: Global,
-    d: &'a Decl,
-    names: &Scope,
-) -> Result<Brought<'a>, Refused>
+pub(crate) fn judge<'a>(alloc: Global, d: &'a Decl, names: &Scope) -> Result<Brought<'a>, Refused>
     ensures { Met brought_of result (rules.decl_rule d.now (in_names names.now)) }
 {
     match d {

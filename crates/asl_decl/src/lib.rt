@@ -24,7 +24,6 @@ mod used;
 mod value_kind;
 mod visible;
 
-pub use ordered::{Ordered, in_order};
 pub use signatures::result_type;
 pub use table::Table;
 

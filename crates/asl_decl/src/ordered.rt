@@ -16,18 +16,18 @@ use std::alloc::Global;
 
 /// The places of declarations, in an order in which each stands behind all that it uses.
 #[derive(Drop)]
-pub struct Ordered {
+pub(crate) struct Ordered {
     /// Of each declaration the places of those that it uses.
-    pub graph: Items<Items<usize>>,
-    pub nodes: Items<usize>,
+    pub(crate) graph: Items<Items<usize>>,
+    pub(crate) nodes: Items<usize>,
     /// Of each declaration whether it stands in the order, which all do.
-    pub marks: Items<bool>,
+    pub(crate) marks: Items<bool>,
 }
 
 /// An order of the declarations: T01 at the first name that is taken, then T03 at the first declaration that reaches
 /// itself. It takes a time that grows with the text, but where some reach themselves: for each that does or that uses
 /// one that does, up to the first, a walk over those that it reaches.
-pub fn in_order(alloc: Global, decls: &[Decl]) -> Result<Ordered, Refused>
+pub(crate) fn in_order(alloc: Global, decls: &[Decl]) -> Result<Ordered, Refused>
     ensures rule { Met (λ _. tt) result (order_rule decls.now) }
     ensures graph { IfOk result (λ ordered. ordered.graph ≡ graph_of decls.now) }
     ensures order { IfOk result (λ ordered. IsOrder (graph_of decls.now) ordered.nodes ordered.marks) }

@@ -5,7 +5,7 @@ ghost use Rattle.asl_rules.specs.Declarations as rules;
 ghost use Rattle.asl_rules.specs.Evaluation as evaluation;
 ghost use Rattle.asl_types.specs.Answers.{Met, Agrees};
 ghost use Rattle.asl_types.specs.Bindings.{bindings_of};
-ghost use Rattle.asl_decl.specs.Passes.{all_judged};
+ghost use Rattle.asl_decl.specs.Passes.{all_judged, names_judged};
 ghost use Rattle.asl_decl.specs.Tables.{table_rule, declarations_rule, subprograms_rule};
 
 use crate::globals::initial_globals;
@@ -40,6 +40,16 @@ fn judge_decls<'a>(alloc: Global, decls: &'a [Decl]) -> Result<Items<Outcome<'a>
     Ok(outcomes)
 }
 
+/// The names that are visible in all bodies, where each declaration is well formed.
+fn judge_names<'a>(alloc: Global, decls: &'a [Decl]) -> Result<Scope<'a>, Refused>
+    ensures rule { Met (λ _. tt) result (declarations_rule decls.now) }
+    ensures names { IfOk result (λ names. names ≡ names_judged decls.now) }
+{
+    let outcomes = judge_decls(alloc, decls)?;
+    let names = names_of_all(alloc, outcomes.as_slice())?;
+    Ok(names)
+}
+
 /// The results of subprograms, and then those of one name.
 fn check_subprograms(alloc: Global, names: &Scope, decls: &[Decl]) -> Result<(), Refused>
     ensures { Agrees result (subprograms_rule names.now decls.now) }
@@ -58,8 +68,7 @@ impl<'a> Table<'a> {
         ensures rule { Met (λ table. table.names) result (table_rule decls.now) }
         ensures initial { IfOk result (λ table. bindings_of table.globals.items ≡ evaluation.initial_globals decls.now) }
     {
-        let outcomes = judge_decls(alloc, decls)?;
-        let names = names_of_all(alloc, outcomes.as_slice())?;
+        let names = judge_names(alloc, decls)?;
         check_subprograms(alloc, &names, decls)?;
         let globals = initial_globals(alloc, decls, &names)?;
         Ok(Table { names, globals })

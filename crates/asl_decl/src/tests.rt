@@ -1,6 +1,7 @@
 //! Declarations judged one after another, against the rules as they are told.
 use crate::judging::{Brought, binding_of_storage, judge};
 use crate::signatures::result_type;
+use crate::table::Table;
 use asl_syn::code::{Fault, Refused};
 use asl_syn::token::Span;
 use asl_syn::tree::{
@@ -241,8 +242,14 @@ fn types_that_are_declared(rt: HostRuntime) {
         ("int type:A sub:A int type:B is:B 1 let:x", "ok"),
         ("int type:A sub:A bool type:B", "T25@2"),
         ("sub:A bool type:B", "T02@0"),
-        ("int type:A sub:A int type:B sub:B int type:C is:C 1 let:x is:A x let:y", "ok"),
-        ("int type:A sub:A int type:B sub:B int type:C is:A 1 let:x is:C x let:y", "T05@12"),
+        (
+            "int type:A sub:A int type:B sub:B int type:C is:C 1 let:x is:A x let:y",
+            "ok",
+        ),
+        (
+            "int type:A sub:A int type:B sub:B int type:C is:A 1 let:x is:C x let:y",
+            "T05@12",
+        ),
         ("int 1 array type:A", "ok"),
         ("int x array type:A", "T02@1"),
     ] {
@@ -278,7 +285,10 @@ fn storage_that_is_declared(rt: HostRuntime) {
 #[test]
 fn globals_and_results(rt: HostRuntime) {
     let alloc = rt.alloc();
-    let decls = read(alloc, "1 var:x int 1 let:y int func:f is:X func:g func:h").expect(&rt, "declarations");
+    let decls = read(alloc, "1 var:x int 1 let:y int func:f is:X func:g func:h").expect(
+        &rt,
+        "declarations",
+    );
     let names = Scope::new(alloc);
     for (place, d) in decls.as_slice().iter().enumerate() {
         let brought = judge(alloc, d, &names).expect(&rt, "a judgement");
@@ -288,7 +298,9 @@ fn globals_and_results(rt: HostRuntime) {
                 assert_eq!(rt; b.is_mutable, place == 0);
                 assert_eq!(rt; *is_mutable, place == 0);
                 match b.under {
-                    Under::OfKind(kind) => assert!(rt; place == 0 && matches!(kind, Kind::Integers)),
+                    Under::OfKind(kind) => assert!(rt;
+                        place == 0 && matches!(kind, Kind::Integers)
+                    ),
                     Under::OfType(_) => assert_eq!(rt; place, 1),
                 }
             }
@@ -301,5 +313,46 @@ fn globals_and_results(rt: HostRuntime) {
             }
             _ => assert!(rt; false),
         }
+    }
+}
+
+// The numbers of names and of globals, or the first fault with the number of the word where it stands.
+fn table(alloc: Global, text: &str) -> Option<String> {
+    let mut out = String::new(alloc);
+    let decls = read(alloc, text)?;
+    match Table::build(alloc, decls.as_slice()) {
+        Ok(table) => {
+            let (names, globals) = (table.names.len(), table.globals.len());
+            write!(out, "{names} names, {globals} globals").ok()?;
+        }
+        Err(Refused::At(fault)) => write_fault(fault, &mut out)?,
+        Err(Refused::NoMemory) => return None,
+    }
+    Some(out)
+}
+
+#[test]
+fn declarations_in_any_order(rt: HostRuntime) {
+    let alloc = rt.alloc();
+    for (text, wanted) in [
+        ("x let:y 1 let:x", "14 names, 2 globals"),
+        ("is:A type:B int type:A", "14 names, 0 globals"),
+        ("is:C RED let:x l:RED l:GREEN enum:C", "16 names, 1 globals"),
+        ("int func:f func:g is:A 1 let:x int type:A", "16 names, 1 globals"),
+        ("x let:x", "T03@1"),
+        ("y let:x x let:y", "T03@1"),
+        ("x let:w y let:x x let:y", "T03@3"),
+        ("z let:w y let:x x let:y", "T03@3"),
+        ("y let:x T 1 + let:y", "T08@4"),
+        ("y let:x nope let:z T 1 + let:y", "T02@2"),
+        ("int func:f 1 let:f", "T01@3"),
+        ("1 let:UInt", "T01@1"),
+        ("int func:f int func:f", "T10@3"),
+        ("is:X func:f int func:f", "T02@0"),
+        ("is:X func:g x let:y", "T02@2"),
+        ("func:f 1 let:x call:f let:y", "T04@3"),
+    ] {
+        let found = table(alloc, text).expect(&rt, "memory");
+        assert!(rt; found.as_str() == wanted, "{text}: {found}");
     }
 }
