@@ -1,7 +1,8 @@
-use Rattle.std.proofs.Common.{rules, arith, sym, ap, subst, ◌∙◌, Result}
+use Rattle.std.proofs.Common.{rules, arith, map, sym, ap, subst, ◌∙◌, Result}
 use Rattle.asl_syn.specs.declared.code.Fault.{Fault}
 use Rattle.asl_rules.specs.Exprs as exprs
 use Rattle.asl_types.specs.Answers.{Met}
+use Rattle.asl_tree.specs.Elaboration.{made_field, values_in}
 use Rattle.asl_types.specs.Judged.{scope_in}
 use Rattle.asl_expr.specs.Views.{typed_of, all_operands, tuple_with}
 use Rattle.asl_expr.proofs.ArmLemmas.{tuple_typed, field_made}
@@ -52,3 +53,7 @@ pub type_expr-returns-in-Construct-clause-tree : goal.type_expr-returns-in-Const
 type_expr-returns-in-Construct-clause-tree t c returns =
     construct_made c.args.e.now c.in-Construct.span c.in-Construct.name c.in-Construct.given c.as_slice-in-Construct.result.now (scope_in c.args.names.now returns c.args.class) c.type_construction.result
     c.in-Construct.is c.as_slice-in-Construct.ensures (c.type_construction.ensures.tree returns)
+
+pub type_construction-returns-clause-tree : goal.type_construction-returns-clause-tree
+type_construction-returns-clause-tree t c returns =
+    c.type_construct.ensures.tree (values_in (map made_field c.args.given.now) (scope_in c.args.names.now returns c.args.class)) (c.type_values-values.ensures.tree returns)
