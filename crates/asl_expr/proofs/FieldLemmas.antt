@@ -64,28 +64,36 @@ opened gs i g fs within here =
       (λ T. given_once (found_fields (drop (i + 1) gs)) (names_given (found_fields (take i gs)) ++ (found_field g).name.text ∷ []) fs >>= λ Ts. Ok (T ∷ Ts))
     ∙ ap (λ ns. given_type (found_field g).name (names_given (found_fields (take i gs))) fs >>= λ T. given_once (found_fields (drop (i + 1) gs)) ns fs >>= λ Ts. Ok (T ∷ Ts)) (sym (given_more gs i g within here))
 
-pub types_next : (all : Types) (gs : List FieldValue) (i : ℕ) (g : FieldValue) (Ts Us : List code.Ty) (x : code.Ty) (fs : Fields) →
-    i < length gs → g ≡ get_or gs i g → given_type (found_field g).name (take i (names_given (found_fields gs))) fs ≡ Ok (ty_of x) → Us ≡ Ts ++ x ∷ [] →
+pub types_next : (all : Types) (gs : List FieldValue) (i : ℕ) (g : FieldValue) (n : Ident) (Ts Us : List code.Ty) (x : code.Ty) (fs : Fields) →
+    i < length gs → g ≡ get_or gs i g → n ≡ (found_field g).name → given_type n (take i (names_given (found_fields gs))) fs ≡ Ok (ty_of x) → Us ≡ Ts ++ x ∷ [] →
     all ≡ behind_types Ts (given_once (found_fields (drop i gs)) (names_given (found_fields (take i gs))) fs) →
     all ≡ behind_types Us (given_once (found_fields (drop (i + 1) gs)) (names_given (found_fields (take (i + 1) gs))) fs)
-types_next all gs i g Ts Us x fs within here w more inv =
+types_next all gs i g n Ts Us x fs within here name w more inv =
     let rest : Types = given_once (found_fields (drop (i + 1) gs)) (names_given (found_fields (take (i + 1) gs))) fs in
     inv
     ∙ ap (λ r. behind_types Ts r) (opened gs i g fs within here)
     ∙ ap (λ ns. behind_types Ts (given_type (found_field g).name ns fs >>= λ T. rest >>= λ Vs. Ok (T ∷ Vs))) (sym (given_before gs i))
+    ∙ ap (λ (m : Ident). behind_types Ts (given_type m (take i (names_given (found_fields gs))) fs >>= λ T. rest >>= λ Vs. Ok (T ∷ Vs))) (sym name)
     ∙ ap (λ r. behind_types Ts (r >>= λ T. rest >>= λ Vs. Ok (T ∷ Vs))) w
     ∙ behind_one Ts x rest
     ∙ ap (λ Vs. behind_types Vs rest) (sym more)
 
-pub types_stop : (all : Types) (gs : List FieldValue) (i : ℕ) (g : FieldValue) (Ts : List code.Ty) (e : Fault) (fs : Fields) →
-    i < length gs → g ≡ get_or gs i g → given_type (found_field g).name (take i (names_given (found_fields gs))) fs ≡ Err e →
-    all ≡ behind_types Ts (given_once (found_fields (drop i gs)) (names_given (found_fields (take i gs))) fs) → all ≡ Err e
-types_stop all gs i g Ts e fs within here w inv =
+later : (Ts : List code.Ty) (q : Result Ty Fault) (k : Ty → Types) → behind_types Ts (q >>= k) ≡ (q >>= λ T. behind_types Ts (k T))
+later Ts (Ok T) k = refl
+later Ts (Err e) k = refl
+
+-- all of them, by the type of the next
+pub types_opened : (all : Types) (gs : List FieldValue) (i : ℕ) (g : FieldValue) (n : Ident) (Ts : List code.Ty) (fs : Fields) →
+    i < length gs → g ≡ get_or gs i g → n ≡ (found_field g).name →
+    all ≡ behind_types Ts (given_once (found_fields (drop i gs)) (names_given (found_fields (take i gs))) fs) →
+    all ≡ (given_type n (take i (names_given (found_fields gs))) fs >>= λ T. behind_types Ts (given_once (found_fields (drop (i + 1) gs)) (names_given (found_fields (take (i + 1) gs))) fs >>= λ Vs. Ok (T ∷ Vs)))
+types_opened all gs i g n Ts fs within here name inv =
     let rest : Types = given_once (found_fields (drop (i + 1) gs)) (names_given (found_fields (take (i + 1) gs))) fs in
     inv
     ∙ ap (λ r. behind_types Ts r) (opened gs i g fs within here)
     ∙ ap (λ ns. behind_types Ts (given_type (found_field g).name ns fs >>= λ T. rest >>= λ Vs. Ok (T ∷ Vs))) (sym (given_before gs i))
-    ∙ ap (λ r. behind_types Ts (r >>= λ T. rest >>= λ Vs. Ok (T ∷ Vs))) w
+    ∙ ap (λ (m : Ident). behind_types Ts (given_type m (take i (names_given (found_fields gs))) fs >>= λ T. rest >>= λ Vs. Ok (T ∷ Vs))) (sym name)
+    ∙ later Ts (given_type n (take i (names_given (found_fields gs))) fs) (λ T. rest >>= λ Vs. Ok (T ∷ Vs))
 
 before_none : (Ts : List code.Ty) → types_before Ts [] ≡ map ty_of Ts
 before_none [] = refl

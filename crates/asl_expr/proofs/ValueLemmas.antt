@@ -3,21 +3,16 @@ use Rattle.std.proofs.Common.{◌≡◌, ℕ, ◌+◌, ◌<◌, ◌≤◌, lengt
 use Rattle.std.proofs.lemmas.List.{drop_more, drop_all}
 use Rattle.asl_syn.specs.declared.token.Span.{Span}
 use Rattle.asl_syn.specs.declared.code.Fault.{Fault}
-use Rattle.asl_syn.specs.declared.tree.Expr.{Expr}
-use Rattle.asl_syn.specs.declared.tree.Ident.{Ident}
 use Rattle.asl_syn.specs.declared.tree.FieldValue.{FieldValue}
-use Rattle.asl_syn.specs.declared.tree.FieldValue.TheVariants as fv
-use Rattle.asl_syn.specs.declared.tree.Bitfield.TheOpen as ex
-use Rattle.asl_syn.specs.declared.tree.Bitfield.TheFolds.{fold-roll-FieldValue}
 use Rattle.asl_rules.specs.Faults.{◌>>=◌}
 use Rattle.asl_rules.specs.Scopes.{Scope}
 use Rattle.asl_rules.specs.Exprs as rules
-use Rattle.asl_rules.specs.Exprs.{Unread, FoundField, FoundType, expr_rule, given_rule, type_rule, typed, found, operands, values_given}
+use Rattle.asl_rules.specs.Exprs.{operands, values_given}
 use Rattle.asl_tree.specs.declared.typed.TypedExpr.{TypedExpr}
-use Rattle.asl_tree.specs.Elaboration.{Made, MadeField, MadeType, made_rule, made_field_rule, made_type_rule, made, made_field, elaborated, values_in}
+use Rattle.asl_tree.specs.Elaboration.{made_field, values_in}
 use Rattle.asl_expr.specs.declared.typed.Operand.{Operand}
-use Rattle.asl_expr.specs.Constructs.{found_field, found_fields}
-use Rattle.asl_expr.specs.Views.{typed_of, operand_of, all_operands, operands_before, behind_operands}
+use Rattle.asl_expr.specs.Constructs.{found_field, found_fields, operand_found}
+use Rattle.asl_expr.specs.Views.{operand_of, all_operands, operands_before, behind_operands}
 
 abbrev Answer : Type 0
 Answer = Result (List rules.Operand) Fault
@@ -37,45 +32,51 @@ behind_one os o (Err e) = refl
 at_next : (gs : List FieldValue) (i : ℕ) (g : FieldValue) → i < length gs → g ≡ get_or gs i g → drop i gs ≡ g ∷ drop (i + 1) gs
 at_next gs i g within here = drop_more gs i g within ∙ ap (λ z. z ∷ drop (i + 1) gs) (sym here)
 
--- what is found at the value of a field
-value_found : (g : FieldValue) (n : Ident) (e : Expr) → g ≡ fv.Given n e → (found_field g).value ≡ found e
-value_found g n e is =
-    ap (λ h. (found_field h).value) (is ∙ sym (fv.rolls-Given n e))
-    ∙ ap (λ (f : FoundField). f.value) (fold-roll-FieldValue Unread Unread rules.Found FoundField Unread Unread FoundType (λ _. tt) (λ _. tt) expr_rule given_rule (λ _. tt) (λ _. tt) type_rule (ex.Given n e))
-
-value_made : (g : FieldValue) (n : Ident) (e : Expr) → g ≡ fv.Given n e → (made_field g).value ≡ made e
-value_made g n e is =
-    ap (λ h. (made_field h).value) (is ∙ sym (fv.rolls-Given n e))
-    ∙ ap (λ (m : MadeField). m.value) (fold-roll-FieldValue Unread Unread Made MadeField Unread Unread MadeType (λ _. tt) (λ _. tt) made_rule made_field_rule (λ _. tt) (λ _. tt) made_type_rule (ex.Given n e))
+split : (r : Result rules.Typed Fault) (at : Span) (k : rules.Operand → Answer) →
+    (r >>= λ S. k (record { span = at; typed = S })) ≡ ((r >>= λ S. Ok (record { span = at; typed = S })) >>= k)
+split (Ok S) at k = refl
+split (Err e) at k = refl
 
 -- the operands of the rest, by what is found at the first
-opened : (gs : List FieldValue) (i : ℕ) (g : FieldValue) (n : Ident) (e : Expr) (G : Scope) → i < length gs → g ≡ get_or gs i g → g ≡ fv.Given n e →
-    operands (values_given (found_fields (drop i gs))) G ≡ (typed e G >>= λ S. operands (values_given (found_fields (drop (i + 1) gs))) G >>= λ Ss. Ok (record { span = (found e).span; typed = S } ∷ Ss))
-opened gs i g n e G within here is =
+opened : (gs : List FieldValue) (i : ℕ) (g : FieldValue) (G : Scope) → i < length gs → g ≡ get_or gs i g →
+    operands (values_given (found_fields (drop i gs))) G ≡ (operand_found (found_field g).value G >>= λ o. operands (values_given (found_fields (drop (i + 1) gs))) G >>= λ os. Ok (o ∷ os))
+opened gs i g G within here =
     ap (λ hs. operands (values_given (found_fields hs)) G) (at_next gs i g within here)
-    ∙ ap (λ (f : rules.Found). f.typed G >>= λ S. operands (values_given (found_fields (drop (i + 1) gs))) G >>= λ Ss. Ok (record { span = f.span; typed = S } ∷ Ss)) (value_found g n e is)
+    ∙ split ((found_field g).value.typed G) (found_field g).value.span (λ o. operands (values_given (found_fields (drop (i + 1) gs))) G >>= λ os. Ok (o ∷ os))
 
 -- one more, where it is well formed
-pub operands_next : (all : Answer) (gs : List FieldValue) (i : ℕ) (g : FieldValue) (n : Ident) (e : Expr) (os qs : List Operand) (o : Operand) (G : Scope) →
-    i < length gs → g ≡ get_or gs i g → g ≡ fv.Given n e → typed e G ≡ Ok (typed_of o.typed) → o.span ≡ (found e).span → qs ≡ os ++ o ∷ [] →
+pub values_next : (all : Answer) (gs : List FieldValue) (i : ℕ) (g : FieldValue) (os qs : List Operand) (o : Operand) (G : Scope) →
+    i < length gs → g ≡ get_or gs i g → operand_found (found_field g).value G ≡ Ok (operand_of o) → qs ≡ os ++ o ∷ [] →
     all ≡ behind_operands os (operands (values_given (found_fields (drop i gs))) G) → all ≡ behind_operands qs (operands (values_given (found_fields (drop (i + 1) gs))) G)
-operands_next all gs i g n e os qs o G within here is w at more before =
+values_next all gs i g os qs o G within here w more before =
     let rest : Answer = operands (values_given (found_fields (drop (i + 1) gs))) G in
     before
-    ∙ ap (λ r. behind_operands os r) (opened gs i g n e G within here is)
-    ∙ ap (λ r. behind_operands os (r >>= λ S. rest >>= λ Ss. Ok (record { span = (found e).span; typed = S } ∷ Ss))) w
-    ∙ ap (λ (s : Span). behind_operands os (rest >>= λ Ss. Ok (record { span = s; typed = typed_of o.typed } ∷ Ss))) (sym at)
+    ∙ ap (λ r. behind_operands os r) (opened gs i g G within here)
+    ∙ ap (λ r. behind_operands os (r >>= λ p. rest >>= λ ps. Ok (p ∷ ps))) w
     ∙ behind_one os o rest
     ∙ ap (λ ps. behind_operands ps rest) (sym more)
 
 -- one that isn't
-pub operands_stop : (all : Answer) (gs : List FieldValue) (i : ℕ) (g : FieldValue) (n : Ident) (e : Expr) (os : List Operand) (f : Fault) (G : Scope) →
-    i < length gs → g ≡ get_or gs i g → g ≡ fv.Given n e → typed e G ≡ Err f → all ≡ behind_operands os (operands (values_given (found_fields (drop i gs))) G) → all ≡ Err f
-operands_stop all gs i g n e os f G within here is w before =
+pub values_stop : (all : Answer) (gs : List FieldValue) (i : ℕ) (g : FieldValue) (os : List Operand) (f : Fault) (G : Scope) →
+    i < length gs → g ≡ get_or gs i g → operand_found (found_field g).value G ≡ Err f → all ≡ behind_operands os (operands (values_given (found_fields (drop i gs))) G) → all ≡ Err f
+values_stop all gs i g os f G within here w before =
     let rest : Answer = operands (values_given (found_fields (drop (i + 1) gs))) G in
     before
-    ∙ ap (λ r. behind_operands os r) (opened gs i g n e G within here is)
-    ∙ ap (λ r. behind_operands os (r >>= λ S. rest >>= λ Ss. Ok (record { span = (found e).span; typed = S } ∷ Ss))) w
+    ∙ ap (λ r. behind_operands os r) (opened gs i g G within here)
+    ∙ ap (λ r. behind_operands os (r >>= λ p. rest >>= λ ps. Ok (p ∷ ps))) w
+
+later : (os : List Operand) (q : Result rules.Operand Fault) (k : rules.Operand → Answer) → behind_operands os (q >>= k) ≡ (q >>= λ p. behind_operands os (k p))
+later os (Ok p) k = refl
+later os (Err e) k = refl
+
+-- all of them, by what is found at the next
+pub values_opened : (all : Answer) (gs : List FieldValue) (i : ℕ) (g : FieldValue) (os : List Operand) (G : Scope) →
+    i < length gs → g ≡ get_or gs i g → all ≡ behind_operands os (operands (values_given (found_fields (drop i gs))) G) →
+    all ≡ (operand_found (found_field g).value G >>= λ p. behind_operands os (operands (values_given (found_fields (drop (i + 1) gs))) G >>= λ ps. Ok (p ∷ ps)))
+values_opened all gs i g os G within here before =
+    before
+    ∙ ap (λ r. behind_operands os r) (opened gs i g G within here)
+    ∙ later os (operand_found (found_field g).value G) (λ p. operands (values_given (found_fields (drop (i + 1) gs))) G >>= λ ps. Ok (p ∷ ps))
 
 before_none : (os : List Operand) → operands_before os [] ≡ all_operands os
 before_none [] = refl
@@ -90,14 +91,13 @@ operands_last all gs i os G end before =
 
 -- ---- trees
 
-pub trees_next : (gs : List FieldValue) (i : ℕ) (g : FieldValue) (n : Ident) (e : Expr) (before more all : List TypedExpr) (t : TypedExpr) (G : Scope) →
-    i < length gs → g ≡ get_or gs i g → g ≡ fv.Given n e → t ≡ elaborated e G → more ≡ before ++ t ∷ [] →
+pub trees_next : (gs : List FieldValue) (i : ℕ) (g : FieldValue) (before more all : List TypedExpr) (t : TypedExpr) (G : Scope) →
+    i < length gs → g ≡ get_or gs i g → t ≡ (made_field g).value.tree G → more ≡ before ++ t ∷ [] →
     before ++ values_in (map made_field (drop i gs)) G ≡ all → more ++ values_in (map made_field (drop (i + 1) gs)) G ≡ all
-trees_next gs i g n e before more all t G within here is w m inv =
+trees_next gs i g before more all t G within here w m inv =
     let rest : List TypedExpr = values_in (map made_field (drop (i + 1) gs)) G in
     ap (λ ts. ts ++ rest) m
     ∙ append_assoc before (t ∷ []) rest
     ∙ ap (λ s. before ++ s ∷ rest) w
-    ∙ ap (λ (q : Made). before ++ q.tree G ∷ rest) (sym (value_made g n e is))
     ∙ ap (λ hs. before ++ values_in (map made_field hs) G) (sym (at_next gs i g within here))
     ∙ inv

@@ -8,6 +8,7 @@ use Rattle.asl_syn.specs.declared.tree.Ident.{Ident}
 use Rattle.asl_syn.specs.declared.tree.Bitfield.TheFolds.{fold-FieldValue}
 use Rattle.asl_rules.specs.declared.effect.Effect.{Effect}
 use Rattle.asl_rules.specs.Faults.{◌>>=◌, ◌>>◌, need, found_or}
+use Rattle.asl_rules.specs.Scopes.{Scope}
 use Rattle.asl_rules.specs.Types.{Ty, Fields}
 use Rattle.asl_rules.specs.Exprs.{Unread, Found, FoundField, FoundType, expr_rule, given_rule, type_rule, Operand, Typed, names_given, constructed, given_once, all_fit, none_missing, finish_all, has_name, field_type, fields_of}
 use Rattle.asl_types.specs.declared.ty.Ty as code
@@ -23,6 +24,10 @@ found_field = fold-FieldValue Unread Unread Found FoundField Unread Unread Found
 
 abbrev pub found_fields : List FieldValue → List FoundField
 found_fields fs = map found_field fs
+
+-- what is found at an expression, with its place
+abbrev pub operand_found : Found → Scope → Result Operand Fault
+operand_found f G = f.typed G >>= λ S. Ok (record { span = f.span; typed = S })
 
 -- the names of the fields of a type, in order
 abbrev pub names_of_fields : List FieldType → List (List ℕ)

@@ -1,16 +1,19 @@
 //! Constructions of records and exceptions. The fields of the type and those that are given are found by the first places
 //! of their names, so that a construction takes no walk over the others for each field.
 
-ghost use Rattle.std.specs.Prelude.{◌≡◌, ℕ, List, [], map, take, slice_get, Some, IfOk};
+ghost use Rattle.std.specs.Prelude.{◌≡◌, ℕ, List, [], map, take, slice_get, Option, Some, IfOk};
 ghost use Rattle.std.specs.Option.{option_map};
 ghost use Rattle.asl_rules.specs.Exprs as rules;
-ghost use Rattle.asl_rules.specs.Exprs.{names_given, has_name};
-ghost use Rattle.asl_tree.specs.declared.typed.TypedExpr.{roll-TypedExpr};
+ghost use Rattle.asl_rules.specs.Exprs.{names_given, values_given, has_name};
+ghost use Rattle.asl_rules.specs.Scopes.{type_of_name};
+ghost use Rattle.asl_rules.specs.Types as types;
+ghost use Rattle.asl_tree.specs.declared.typed.TypedExpr.{TypedExpr, roll-TypedExpr};
 ghost use Rattle.asl_rules.specs.Faults.{found_or};
 ghost use Rattle.asl_tree.specs.declared.typed.TypedExpr.TheOpen as te;
 ghost use Rattle.asl_tree.specs.Elaboration as elaboration;
 ghost use Rattle.asl_types.specs.Answers.{Met};
 ghost use Rattle.asl_types.specs.Firsts.{placed};
+ghost use Rattle.asl_types.specs.Judged.{scope_in};
 ghost use Rattle.asl_types.specs.Places.{place_of};
 ghost use Rattle.asl_types.specs.View.{ty_of, field_of, all_fields};
 ghost use Rattle.asl_expr.specs.Constructs.{found_field, found_fields, names_of_fields, construction, construction_of, given_type, given_fit, construct_of};
@@ -29,7 +32,7 @@ use asl_types::answer::fault;
 use asl_types::firsts::Firsts;
 use asl_types::fits::misfit;
 use asl_types::structure::fields_of;
-use asl_types::{FieldType, Ty};
+use asl_types::{FieldType, Scope, Ty};
 use asl_value::{GivenField, Name, Names, Shell};
 use sqlite_items::Items;
 use std::alloc::{AllocError, Global};
@@ -170,7 +173,7 @@ fn none_missing(firsts: &Firsts, given: &[FieldValue], fields: &[FieldType]) -> 
 }
 
 /// The types of the fields that are given, in order: T15 at a name that stood before, or that is no field's.
-#[tactic(auto, using(crate::proofs::FieldLemmas::types_first, crate::proofs::FieldLemmas::types_next, crate::proofs::FieldLemmas::types_stop, crate::proofs::FieldLemmas::types_last))]
+#[tactic(auto, using(crate::proofs::FieldLemmas::types_first, crate::proofs::FieldLemmas::types_last))]
 fn types_given(
     alloc: Global,
     given: &[FieldValue],
@@ -359,7 +362,7 @@ fn construct(
 
 /// A construction whose values were typed, of the type of a name: T02 where that is none.
 #[tactic(auto, using(crate::proofs::ConstructRows::row_of))]
-pub(crate) fn type_construct(
+fn construct_declared(
     alloc: Global,
     class: Effect,
     span: Span,
@@ -376,4 +379,31 @@ pub(crate) fn type_construct(
         None => fault(StaticCode::T02, name.span),
         Some(ty) => construct(alloc, class, span, name, ty, given, operands, values),
     }
+}
+
+/// A construction of the type of a name, with the answer for its values in order: their trees, and what is found at each.
+pub(crate) fn type_construct(
+    alloc: Global,
+    names: &Scope,
+    class: Effect,
+    span: Span,
+    name: &Ident,
+    given: &[FieldValue],
+    values: Result<(Items<TypedExpr>, Items<Operand>), Refused>,
+) -> Result<(TypedExpr, Typed), Refused>
+    ensures rule { (returns : Option types.Ty) → Met (λ p. all_operands p.1) values (rules.operands (values_given (found_fields given.now)) (scope_in names.now returns class)) → Met (λ p. typed_of p.1) result (rules.construct_rule span name.now (found_fields given.now) (scope_in names.now returns class)) }
+    ensures tree { (ts : List TypedExpr) → IfOk values (λ p. p.0 ≡ ts) → IfOk result (λ p. p.0 ≡ roll-TypedExpr (construct_of span (type_of_name name.now.text names.now) (names_given (found_fields given.now)) ts)) }
+{
+    let (trees, operands) = values?;
+    let declared = names.type_of_name(name.text.as_slice());
+    construct_declared(
+        alloc,
+        class,
+        span,
+        name,
+        declared,
+        given,
+        operands.as_slice(),
+        trees,
+    )
 }

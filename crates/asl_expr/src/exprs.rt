@@ -2,14 +2,17 @@
 
 ghost use Rattle.std.specs.Prelude.{◌≡◌, IfOk, Option, map};
 ghost use Rattle.asl_rules.specs.Exprs as rules;
-ghost use Rattle.asl_rules.specs.Scopes.{standing_of};
+ghost use Rattle.asl_rules.specs.Exprs.{names_given, values_given};
+ghost use Rattle.asl_rules.specs.Scopes.{standing_of, type_of_name};
 ghost use Rattle.asl_rules.specs.Types as types;
 ghost use Rattle.asl_tree.specs.declared.typed.TypedExpr.{roll-TypedExpr};
-ghost use Rattle.asl_tree.specs.Elaboration.{made, elaborated, name_layer, trees_in};
+ghost use Rattle.asl_tree.specs.Elaboration.{made, made_field, elaborated, name_layer, trees_in, values_in};
 ghost use Rattle.asl_types.specs.Answers.{Met};
 ghost use Rattle.asl_types.specs.Judged.{scope_in};
-ghost use Rattle.asl_expr.specs.Views.{typed_of, all_operands, all_found};
+ghost use Rattle.asl_expr.specs.Constructs.{found_field, found_fields, construct_of, operand_found};
+ghost use Rattle.asl_expr.specs.Views.{typed_of, operand_of, all_operands, all_found};
 
+use crate::constructs::type_construct;
 use crate::ends::{
     finish, type_either, type_element, type_field, type_operation, type_operation_of_one,
     type_tuple,
@@ -19,7 +22,7 @@ use crate::typed::{Operand, Typed};
 use asl_rules::effect::Effect;
 use asl_syn::code::{Refused, StaticCode};
 use asl_syn::token::Span;
-use asl_syn::tree::Expr;
+use asl_syn::tree::{Expr, FieldValue, Ident};
 use asl_tree::typed::TypedExpr;
 use asl_types::answer::fault;
 use asl_types::{Scope, Standing, Ty, reading};
@@ -122,8 +125,9 @@ pub fn type_expr(
             let typed = type_tuple(alloc, class, *span, operands.as_slice())?;
             Ok((trees::tuple(*span, parts), typed))
         }
-        // Still open: constructions are answered by want of memory.
-        Expr::Construct(_, _, _) => Err(Refused::NoMemory),
+        Expr::Construct(span, name, given) => {
+            type_construction(alloc, names, class, *span, name, given.as_slice())
+        }
         Expr::Call(span, _, _, _) => fault(StaticCode::S03, *span),
         Expr::Field(span, operand, name) => {
             let (a, s) = type_expr(alloc, names, class, operand.get())?;
@@ -166,4 +170,74 @@ pub fn type_all(
         })?;
     }
     Ok((trees, operands))
+}
+
+/// A construction of the type of a name: the values in order, and then its own conditions.
+#[cycle(exprs)]
+fn type_construction(
+    alloc: Global,
+    names: &Scope,
+    class: Effect,
+    span: Span,
+    name: &Ident,
+    given: &[FieldValue],
+) -> Result<(TypedExpr, Typed), Refused>
+    ensures rule { (returns : Option types.Ty) → Met (λ p. typed_of p.1) result (rules.construct_rule span name.now (found_fields given.now) (scope_in names.now returns class)) }
+    ensures tree { (returns : Option types.Ty) → IfOk result (λ p. p.0 ≡ roll-TypedExpr (construct_of span (type_of_name name.now.text names.now) (names_given (found_fields given.now)) (values_in (map made_field given.now) (scope_in names.now returns class)))) }
+{
+    let values = type_values(alloc, names, class, given);
+    type_construct(alloc, names, class, span, name, given, values)
+}
+
+/// The typed trees of the values of fields in order, with what is found at each, or the first fault.
+#[cycle(exprs)]
+#[tactic(auto, using(crate::proofs::ValueLemmas::operands_first, crate::proofs::ValueLemmas::values_stop, crate::proofs::ValueLemmas::operands_last))]
+fn type_values(
+    alloc: Global,
+    names: &Scope,
+    class: Effect,
+    given: &[FieldValue],
+) -> Result<(Items<TypedExpr>, Items<Operand>), Refused>
+    ensures rule { (returns : Option types.Ty) → Met (λ p. all_operands p.1) result (rules.operands (values_given (found_fields given.now)) (scope_in names.now returns class)) }
+    ensures tree { (returns : Option types.Ty) → IfOk result (λ p. p.0 ≡ values_in (map made_field given.now) (scope_in names.now returns class)) }
+{
+    let mut trees = Items::new(alloc);
+    let mut operands = Items::new(alloc);
+    for g in given {
+        let (tree, operand) = type_value(alloc, names, class, g)?;
+        trees.push(tree)?;
+        operands.push(operand)?;
+    }
+    Ok((trees, operands))
+}
+
+/// The typed tree of the value of a field, with what is found at it, or its fault.
+#[cycle(exprs)]
+fn type_value(
+    alloc: Global,
+    names: &Scope,
+    class: Effect,
+    g: &FieldValue,
+) -> Result<(TypedExpr, Operand), Refused>
+    ensures rule { (returns : Option types.Ty) → Met (λ p. operand_of p.1) result (operand_found (found_field g.now).value (scope_in names.now returns class)) }
+    ensures tree { (returns : Option types.Ty) → IfOk result (λ p. p.0 ≡ (made_field g.now).value.tree (scope_in names.now returns class)) }
+{
+    let FieldValue::Given(_, e) = g;
+    type_operand(alloc, names, class, e)
+}
+
+/// The typed tree of an expression, with its place and what is found at it, or its fault.
+#[cycle(exprs)]
+fn type_operand(
+    alloc: Global,
+    names: &Scope,
+    class: Effect,
+    e: &Expr,
+) -> Result<(TypedExpr, Operand), Refused>
+    ensures rule { (returns : Option types.Ty) → Met (λ p. operand_of p.1) result (operand_found (rules.found e.now) (scope_in names.now returns class)) }
+    ensures tree { (returns : Option types.Ty) → IfOk result (λ p. p.0 ≡ elaborated e.now (scope_in names.now returns class)) }
+{
+    let (tree, typed) = type_expr(alloc, names, class, e)?;
+    let span = place(e);
+    Ok((tree, Operand { span, typed }))
 }
