@@ -166,6 +166,9 @@ Sizing = Scope → Result (Unit {0}) Fault
 abbrev pub size_walk : Expr → Sizing
 size_walk e G = typed e G >>= λ S. Ok tt
 
+abbrev pub both_walk : Result (Unit {0}) Fault → Result (Unit {0}) Fault → Result (Unit {0}) Fault
+both_walk p q = p >> q
+
 abbrev pub all_sizes_walk : List (TypeExpr × Sizing) → Sizing
 all_sizes_walk [] G = Ok tt
 all_sizes_walk (t ∷ ts) G = t.1 G >> all_sizes_walk ts G

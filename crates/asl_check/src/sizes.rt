@@ -1,6 +1,7 @@
 //! The expressions in written types.
 
-ghost use Rattle.std.specs.Prelude.{◌≡◌, [], ◌∷◌, ◌++◌, map, OnOk};
+ghost use Rattle.std.specs.Prelude.{◌≡◌, [], ◌∷◌, ◌++◌, map, Result, Ok, OnOk, IfOk};
+ghost use Rattle.asl_syn.specs.declared.code.Fault.{Fault};
 ghost use Rattle.asl_tree.specs.Elaboration.{elaborated, made_type, all_sizes};
 ghost use Rattle.asl_types.specs.Answers.{Agrees};
 ghost use Rattle.asl_check.specs.Views.{scope_of};
@@ -31,6 +32,17 @@ fn type_size(
     Ok(())
 }
 
+/// The first of two faults, where there is one.
+fn both(first: Result<(), Refused>, second: Result<(), Refused>) -> Result<(), Refused>
+    ensures rule { (p q : Result (Unit {0}) Fault) → Agrees first p → Agrees second q → Agrees result (walks.both_walk p q) }
+    ensures ok { IfOk result (λ _. (first ≡ Ok tt) × (second ≡ Ok tt)) }
+{
+    match first {
+        Ok(_) => second,
+        Err(e) => Err(e),
+    }
+}
+
 /// The expressions in a written type, in order: their typed trees, behind those before.
 #[cycle(sizes)]
 pub(crate) fn type_sizes(
@@ -53,27 +65,11 @@ pub(crate) fn type_sizes(
             all_type_sizes(alloc, names, body, parts.as_slice(), trees)
         }
         TypeExpr::ArrayType(_, size, element) => {
-            array_sizes(alloc, names, body, size.get(), element.get(), trees)
+            let sized = type_size(alloc, names, body, size.get(), trees);
+            let others = type_sizes(alloc, names, body, element.get(), trees);
+            both(sized, others)
         }
     }
-}
-
-/// The size of an array and the expressions in the type of its elements, in order: their typed trees, behind those before.
-#[cycle(sizes)]
-#[tactic(auto, using(crate::proofs::SizeWalks::one_more))]
-fn array_sizes(
-    alloc: Global,
-    names: &Scope,
-    body: &Body,
-    size: &Expr,
-    element: &TypeExpr,
-    trees: &mut Items<TypedExpr>,
-) -> Result<(), Refused>
-    ensures rule { Agrees result (walks.array_walk size.now element.now (scope_of names.now body.now)) }
-    ensures tree { OnOk result (trees.new ≡ trees.old ++ elaborated size.now (scope_of names.now body.now) ∷ (made_type element.now).sizes (scope_of names.now body.now)) }
-{
-    type_size(alloc, names, body, size, trees)?;
-    type_sizes(alloc, names, body, element, trees)
 }
 
 /// The expressions in written types, in order: their typed trees, behind those before.

@@ -231,7 +231,10 @@ fn check_parts_fit(
 fn is_end(parts: &[Ty]) -> bool
     ensures { result ≡ rules.parts_count [] (all_parts parts.now) }
 {
-    parts.is_empty()
+    match parts.split_first() {
+        None => true,
+        Some(_) => false,
+    }
 }
 
 /// Whether a value of this type has as many parts as a target asks for.

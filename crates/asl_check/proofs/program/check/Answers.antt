@@ -1,8 +1,8 @@
-use Rattle.std.proofs.Common.{sym, subst}
+use Rattle.std.proofs.Common.{subst}
 use Rattle.asl_tree.specs.Accepted.{IsElaborated}
 use Rattle.asl_check.proofs.program.check.Goals as goal
 
 pub seal-requires-clause-elaborated : goal.seal-requires-clause-elaborated
 seal-requires-clause-elaborated c =
     subst (λ ds. IsElaborated ds c.in_ok-funcs.funcs.items) c.as_slice.ensures
-    (subst (λ fs. IsElaborated c.as_slice.result.now fs.items) (sym c.in_ok-funcs.funcs-is) c.in_ok-funcs.ensures.tree)
+    (subst (λ fs. IsElaborated c.as_slice.result.now fs.items) c.in_ok-funcs.funcs-is c.in_ok-funcs.ensures.tree)

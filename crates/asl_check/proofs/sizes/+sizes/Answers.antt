@@ -1,8 +1,9 @@
-use Rattle.std.proofs.Common.{sym, ap, subst, ◌∙◌, map}
+use Rattle.std.proofs.Common.{◌∷◌, sym, ap, subst, ◌∙◌, map}
+use Rattle.asl_tree.specs.Elaboration.{elaborated, made_type}
 use Rattle.asl_types.specs.Answers.{Agrees}
 use Rattle.asl_check.specs.Views.{scope_of}
 use Rattle.asl_check.specs.Walks.{all_sizes_walk, array_walk, with_walk}
-use Rattle.asl_check.proofs.SizeWalks.{at_integer, at_boolean, at_bit, at_named, at_bits, at_tuple, at_array}
+use Rattle.asl_check.proofs.SizeWalks.{at_integer, at_boolean, at_bit, at_named, at_bits, at_tuple, at_array, made_array, trees_both}
 use Rattle.asl_check.proofs.sizes.+sizes.Goals as goal
 
 pub type_sizes-returns-in-IntegerType-clause-rule : goal.type_sizes-returns-in-IntegerType-clause-rule
@@ -30,6 +31,13 @@ type_sizes-returns-in-TupleType-clause-rule t c =
 pub type_sizes-returns-in-ArrayType-clause-rule : goal.type_sizes-returns-in-ArrayType-clause-rule
 type_sizes-returns-in-ArrayType-clause-rule t c =
     let G = scope_of c.args.names.now c.args.body.now in
-    subst (Agrees c.array_sizes.result)
-    ((λ i. array_walk (c.get.ensures i) (c.get-2.ensures i) G) ∙ sym (at_array _ _ _ _ G c.in-ArrayType.is))
-    c.array_sizes.ensures.rule
+    subst (Agrees c.both.result)
+    ((λ i. array_walk (c.get.ensures i) (c.get-in-ArrayType.ensures i) G) ∙ sym (at_array _ _ _ _ G c.in-ArrayType.is))
+    (c.both.ensures.rule _ _ c.type_size-sized.ensures.rule c.type_sizes-others.ensures.rule)
+
+pub type_sizes-returns-in-ArrayType-clause-tree : goal.type_sizes-returns-in-ArrayType-clause-tree
+type_sizes-returns-in-ArrayType-clause-tree t c =
+    let G = scope_of c.args.names.now c.args.body.now in
+    trees_both c.both.result c.type_size-sized.result c.type_sizes-others.result c.args.trees.now c.type_size-sized.new.trees c.type_sizes-others.new.trees _ _ _
+    c.both.ensures.ok c.type_size-sized.ensures.tree c.type_sizes-others.ensures.tree
+    (made_array _ _ _ _ G c.in-ArrayType.is ∙ (λ i. elaborated (sym c.get.ensures i) G ∷ (made_type (sym c.get-in-ArrayType.ensures i)).sizes G))
