@@ -1,9 +1,9 @@
-pub mod KnownLemmas
-pub mod Walks
-pub mod VisibleLemmas
-pub mod NumberLemmas
-pub mod Binds
+pub mod Chains
+pub mod OperandWalks
+pub mod BindWalks
+pub mod SizeWalks
+pub mod Sizing
 pub mod StmtWalks
-pub mod GlobalWalks
-pub mod Layouts
 pub mod Trees
+pub mod Programs
+pub mod TargetWalks

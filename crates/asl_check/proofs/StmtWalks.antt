@@ -1,27 +1,30 @@
 -- The walks over statements are the rules, and the names after statements begin with those before.
-use Rattle.std.proofs.Common.{◌≡◌, Bool, true, false, ◌&&◌, cond, List, [], ◌∷◌, ◌++◌, length, take, map, Option, Some, None, Result, Ok, refl, sym, ap, ◌∙◌}
+use Rattle.std.proofs.Common.{◌≡◌, Bool, true, false, cond, List, [], ◌∷◌, ◌++◌, length, take, map, Option, Some, None, Result, Ok, refl, sym, ap, ◌∙◌}
 use Rattle.std.proofs.Math.Seq.{take-append_seam}
 use Rattle.asl_syn.specs.declared.token.Span.{Span}
 use Rattle.asl_syn.specs.declared.code.Fault.{Fault}
 use Rattle.asl_syn.specs.declared.code.StaticCode.TheVariants.{T05}
 use Rattle.asl_syn.specs.declared.tree.Expr.{Expr}
-use Rattle.asl_syn.specs.declared.tree.PrintItem.{PrintItem}
-use Rattle.asl_syn.specs.declared.tree.PrintItem.TheVariants.{Verbatim, Shown}
+use Rattle.asl_syn.specs.declared.tree.Ident.{Ident}
+use Rattle.asl_syn.specs.declared.tree.TypeExpr.{TypeExpr}
 use Rattle.asl_syn.specs.declared.tree.Stmt.{Stmt}
 use Rattle.asl_syn.specs.declared.tree.Alternative.TheOpen as st
 use Rattle.asl_syn.specs.declared.tree.Alternative.TheFolds.{fold-Stmt}
 use Rattle.asl_rules.specs.declared.effect.Effect.{Effect}
-use Rattle.asl_rules.specs.declared.effect.Effect.TheVariants.{Pure, Writes}
+use Rattle.asl_rules.specs.declared.effect.Effect.TheVariants.{Pure}
 use Rattle.asl_rules.specs.Faults.{◌>>=◌, ◌>>◌, need, none_at}
-use Rattle.asl_rules.specs.Types.{is_boolean}
-use Rattle.asl_rules.specs.Effects.{greater, together, all_together, greatest}
+use Rattle.asl_rules.specs.Types.{Ty, is_boolean}
+use Rattle.asl_rules.specs.Effects.{greater}
 use Rattle.asl_rules.specs.Scopes.{Scope}
-use Rattle.asl_rules.specs.Exprs.{Typed, typed}
-use Rattle.asl_rules.specs.Stmts.{Done, done, FoundStmt, FoundBranch, Branch, expr_at, ended, with_names, in_order, block, condition, conditions, branches, if_rule, items_rule, print_rule, StmtOf, Unread, stmt_layer_rule, branch_rule, found_stmt}
+use Rattle.asl_rules.specs.Exprs.{Typed, typed, written}
+use Rattle.asl_rules.specs.Stmts.{Done, done, FoundStmt, FoundBranch, Branch, expr_at, ended, with_names, in_order, block, condition, conditions, branches, if_rule, names_rule, vars_rule, found_target, StmtOf, Unread, stmt_layer_rule, branch_rule, found_stmt}
 use Rattle.asl_rules.proofs.Inversions.{ok_ok, bind_ok}
 use Rattle.asl_rules.proofs.Growing.{Longer, same_names, longer_on, stmt_longer}
-use Rattle.asl_check.specs.Walks.{misplaced, after_branch, after_branches, if_walk, after_items, print_walk, walk_layer, walk_stmt}
-use Rattle.asl_check.proofs.Binds.{then_same, then_then, need_then, need_need, need_last}
+use Rattle.asl_check.specs.Walks.{misplaced, condition_walk, after_branch, after_branches, if_walk, sizes_walk, vars_walk, walk_layer, walk_stmt}
+use Rattle.asl_check.proofs.BindWalks.{bind_is}
+use Rattle.asl_check.proofs.OperandWalks.{print_is, assign_is}
+use Rattle.asl_check.proofs.Sizing.{sizes_typed}
+use Rattle.asl_check.proofs.Chains.{then_same, then_then, need_then, need_need, need_last}
 
 -- ---- `if`
 
@@ -40,6 +43,9 @@ misplaced_is : (r : Result (Unit {0}) Fault) (at : Option Span) (c : Expr) (S : 
 misplaced_is r None c S h = ap (λ q. q >> condition c S) h ∙ boolean_at (is_boolean S.ty) (expr_at c)
 misplaced_is r (Some at) c S h = ap (λ q. q >> condition c S) h
 
+branch_is : (b : FoundBranch) (at : Option Span) (k : Effect) (G : Scope) → after_branch b at k G ≡ (typed b.condition G >>= λ S. block b.body G >>= λ d. Ok (misplaced at b.condition S, greater k (greater S.effect d.effect)))
+branch_is b at k G = then_then (typed b.condition G) (λ S. Ok (misplaced at b.condition S, S.effect)) (λ p. block b.body G >>= λ d. Ok (p.0, greater k (greater p.1 d.effect)))
+
 branches_walk : (T : Result (Unit {0}) Fault → Effect → Result Done Fault) (bs : List FoundBranch) (before : List Branch) (at : Option Span) (k : Effect) (G : Scope) → conditions before ≡ none_at T05 at →
     (branches bs before k G >>= λ p. T (conditions p.0) p.1) ≡ (after_branches bs at k G >>= λ p. T (none_at T05 p.0) p.1)
 branches_walk T [] before at k G h = ap (λ c. T c k) h
@@ -48,7 +54,8 @@ branches_walk T (b ∷ bs) before at k G h =
     ∙ then_same (typed b.condition G) _ _ (λ S.
     then_then (block b.body G) _ (λ p. T (conditions p.0) p.1)
     ∙ then_same (block b.body G) _ _ (λ d. branches_walk T bs _ (misplaced at b.condition S) (greater k (greater S.effect d.effect)) G (conditions_last before b.condition S ∙ misplaced_is (conditions before) at b.condition S h)))
-    ∙ sym (then_then (after_branch b at k G) (λ p. after_branches bs p.0 p.1 G) (λ p. T (none_at T05 p.0) p.1)
+    ∙ sym (ap (λ r. r >>= λ p. T (none_at T05 p.0) p.1) (ap (λ r. r >>= λ p. after_branches bs p.0 p.1 G) (branch_is b at k G))
+    ∙ then_then (typed b.condition G >>= λ S. block b.body G >>= λ d. Ok (misplaced at b.condition S, greater k (greater S.effect d.effect))) (λ p. after_branches bs p.0 p.1 G) (λ p. T (none_at T05 p.0) p.1)
     ∙ then_then (typed b.condition G) (λ S. block b.body G >>= λ d. Ok (misplaced at b.condition S, greater k (greater S.effect d.effect))) (λ p. after_branches bs p.0 p.1 G >>= λ q. T (none_at T05 q.0) q.1)
     ∙ then_same (typed b.condition G) _ _ (λ S. then_then (block b.body G) (λ d. Ok (misplaced at b.condition S, greater k (greater S.effect d.effect))) (λ p. after_branches bs p.0 p.1 G >>= λ q. T (none_at T05 q.0) q.1)))
 
@@ -57,40 +64,21 @@ if_is span c first others last G =
     branches_walk (λ r k. block last G >>= λ d. r >> ended G.class span true (greater k d.effect) >>= λ l. Ok (done G.names l)) (record { condition = c; body = first } ∷ others) [] None Pure G refl
     ∙ then_same (after_branches (record { condition = c; body = first } ∷ others) None Pure G) _ _ (λ p. then_same (block last G) _ _ (λ d. need_then (none_at T05 p.0) (ended G.class span true (greater p.1 d.effect)) (λ l. Ok (done G.names l))))
 
--- ---- `print`
+-- ---- declarations without an initialiser
 
-and_true : (b : Bool) → b && true ≡ b
-and_true true = refl
-and_true false = refl
-
-and_and : (a b c : Bool) → a && (b && c) ≡ (a && b) && c
-and_and true b c = refl
-and_and false b c = refl
-
-all_last : (ks : List Effect) (j l : Effect) → all_together j (ks ++ l ∷ []) ≡ all_together j ks && together (greatest j ks) l
-all_last [] j l = and_true (together j l)
-all_last (k ∷ ks) j l = ap (λ b. together j k && b) (all_last ks (greater j k) l) ∙ and_and (together j k) (all_together (greater j k) ks) (together (greatest (greater j k) ks) l)
-
-greatest_last : (ks : List Effect) (j l : Effect) → greatest j (ks ++ l ∷ []) ≡ greater (greatest j ks) l
-greatest_last [] j l = refl
-greatest_last (k ∷ ks) j l = greatest_last ks (greater j k) l
-
-items_walk : (T : Bool → Effect → Result Done Fault) (is : List PrintItem) (ks : List Effect) (ok : Bool) (k : Effect) (G : Scope) → all_together Pure ks ≡ ok → greatest Pure ks ≡ k →
-    (items_rule is ks G >>= λ ls. T (all_together Pure ls) (greatest Pure ls)) ≡ (after_items is ok k G >>= λ p. T p.0 p.1)
-items_walk T [] ks ok k G h g = λ i. T (h i) (g i)
-items_walk T (Verbatim span t ∷ is) ks ok k G h g = items_walk T is ks ok k G h g
-items_walk T (Shown e ∷ is) ks ok k G h g =
-    then_then (typed e G) _ (λ ls. T (all_together Pure ls) (greatest Pure ls))
-    ∙ then_same (typed e G) _ _ (λ S. items_walk T is (ks ++ S.effect ∷ []) (ok && together k S.effect) (greater k S.effect) G
-    (all_last ks Pure S.effect ∙ (λ i. h i && together (g i) S.effect)) (greatest_last ks Pure S.effect ∙ ap (λ j. greater j S.effect) g))
-    ∙ sym (then_then (typed e G) _ (λ p. T p.0 p.1))
-
-print_is : (span : Span) (is : List PrintItem) (G : Scope) → print_rule span is G ≡ print_walk span is G
-print_is span is G = items_walk (λ ok k. ended G.class span ok (greater k Writes) >>= λ l. Ok (done G.names l)) is [] true Pure G refl refl
+vars_is : (is : List Ident) (t : TypeExpr) (G : Scope) → vars_rule is t G ≡ vars_walk is t G
+vars_is is t G = by (written t G) refl
+  where
+    by : (r : Result Ty Fault) → written t G ≡ r → (r >>= λ T. names_rule is T G.names >>= λ names. Ok (done names Pure)) ≡ ((r >>= λ T. sizes_walk t G >> Ok T) >>= λ T. names_rule is T G.names >>= λ names. Ok (done names Pure))
+    by (Err f) h = refl
+    by (Ok T) h = sym (ap (λ c. (c >> Ok T) >>= λ T. names_rule is T G.names >>= λ names. Ok (done names Pure)) (sizes_typed G t T h))
 
 -- ---- all statements
 
 layer_is : (layer : StmtOf) (G : Scope) → stmt_layer_rule layer G ≡ walk_layer layer G
+layer_is (st.Local span kind b t e) G = bind_is span kind b t e G
+layer_is (st.LocalVars span iss t) G = vars_is iss t G
+layer_is (st.Assign span t e) G = assign_is span (found_target t) e G
 layer_is (st.If span c first others last) G = if_is span c first others last G
 layer_is (st.Print span kind is) G = print_is span is G
 layer_is layer G = refl

@@ -2,23 +2,21 @@
 
 ghost use Rattle.std.specs.Prelude.{◌≡◌, map, OnOk, IfOk};
 ghost use Rattle.std.specs.Option.{option_map};
-ghost use Rattle.asl_tree.specs.Elaboration.{elaborated_func, has_result};
 ghost use Rattle.asl_rules.specs.Programs as rules;
-ghost use Rattle.asl_check.specs.Answers.{Met};
-ghost use Rattle.asl_check.specs.Layouts.{layout_of};
-ghost use Rattle.asl_check.specs.Views.{type_of};
+ghost use Rattle.asl_tree.specs.Elaboration.{elaborated_func};
+ghost use Rattle.asl_types.specs.Answers.{Met};
+ghost use Rattle.asl_types.specs.View.{ty_of};
 
-use crate::answer::fault;
 use crate::body::Body;
-use crate::falls::falls_through;
-use crate::signatures::result_type;
 use crate::stmts::check_stmts;
-use crate::types::Ty;
-use crate::visible::Visible;
+use asl_decl::result_type;
+use asl_expr::falls_through;
 use asl_rules::effect::Effect;
 use asl_syn::code::{Refused, StaticCode};
 use asl_syn::tree::{Decl, Func, Qualifier};
 use asl_tree::typed::TypedFunc;
+use asl_types::answer::fault;
+use asl_types::{Scope, Ty};
 use std::alloc::Global;
 
 /// The greatest effect that is allowed in a body.
@@ -33,8 +31,8 @@ fn class_of(qualifier: Qualifier) -> Effect
 }
 
 /// Whether the end of a body may be reached, as it stands: always in a procedure.
-fn may_end(returns: Option<Ty>, f: &Func) -> bool
-    ensures { result ≡ rules.may_end (option_map type_of returns) f.now }
+fn may_end(returns: &Option<Ty>, f: &Func) -> bool
+    ensures { result ≡ rules.may_end (option_map ty_of returns.now) f.now }
 {
     match returns {
         None => true,
@@ -44,20 +42,20 @@ fn may_end(returns: Option<Ty>, f: &Func) -> bool
 
 /// A body: its statements in order, then T17 at its name where the end of a function can be reached. What is made of the
 /// subprogram.
-fn check_body<'a>(alloc: Global, names: &mut Visible<'a>, f: &'a Func) -> Result<TypedFunc, Refused>
+fn check_body<'a>(alloc: Global, names: &mut Scope<'a>, f: &'a Func) -> Result<TypedFunc, Refused>
     ensures rule { Met (λ _. tt) result (rules.body_rule names.old f.now) }
     ensures kept { OnOk result (names.new ≡ names.old) }
-    ensures tree { IfOk result (λ t. t ≡ elaborated_func (layout_of names.old) f.now) }
+    ensures tree { IfOk result (λ t. t ≡ elaborated_func names.old f.now) }
 {
-    let returns = result_type(&f.result)?;
+    let returns = result_type(alloc, names, &f.result)?;
     let body = Body {
         returns,
         class: class_of(f.qualifier),
     };
     let height = names.len();
-    let (trees, _) = check_stmts(alloc, names, body, f.body.as_slice())?;
+    let (trees, _) = check_stmts(alloc, names, &body, f.body.as_slice())?;
     names.truncate(height);
-    if !may_end(returns, f) {
+    if !may_end(&body.returns, f) {
         return fault(StaticCode::T17, f.name.span);
     }
     Ok(TypedFunc {
@@ -70,11 +68,12 @@ fn check_body<'a>(alloc: Global, names: &mut Visible<'a>, f: &'a Func) -> Result
 /// The bodies of all subprograms, in source order, and what is made of them.
 pub(crate) fn check_bodies<'a>(
     alloc: Global,
-    names: &mut Visible<'a>,
+    names: &mut Scope<'a>,
     decls: &'a [Decl],
 ) -> Result<Vec<TypedFunc>, Refused>
     ensures rule { Met (λ _. tt) result (rules.bodies_rule names.old (rules.funcs_of decls.now)) }
-    ensures tree { IfOk result (λ fs. fs.items ≡ map (elaborated_func (layout_of names.old)) (rules.funcs_of decls.now)) }
+    ensures kept { OnOk result (names.new ≡ names.old) }
+    ensures tree { IfOk result (λ fs. fs.items ≡ map (elaborated_func names.old) (rules.funcs_of decls.now)) }
 {
     let mut funcs = Vec::new(alloc);
     for d in decls {

@@ -1,29 +1,23 @@
 //! The checker: a program is well formed with the entry that is asked for, or has its one fault.
 #![tactic(auto)]
 
-mod answer;
+mod binds;
 mod bodies;
 mod body;
 mod branches;
-mod effects;
-mod exprs;
-mod falls;
-mod globals;
-mod library;
 mod locals;
 mod main_entry;
-mod names;
-mod overloads;
+mod operands;
 mod prints;
 mod program;
-mod signatures;
 mod simple;
+mod sizes;
 mod steps;
 mod stmts;
-mod types;
-mod visible;
+mod suffixes;
+mod targets;
+mod typing;
 
-pub use falls::falls_through;
 pub use program::check;
 
 #[cfg(test)]

@@ -3,50 +3,51 @@
 ghost use Rattle.std.specs.Prelude.{◌≡◌, None, IfOk};
 ghost use Rattle.asl_rules.specs.Served.{unserved_decls};
 ghost use Rattle.asl_rules.specs.Programs as rules;
-ghost use Rattle.asl_tree.specs.Accepted.{IsElaborated};
-ghost use Rattle.asl_check.specs.Answers.{Met};
+ghost use Rattle.asl_tree.specs.Accepted.{IsElaborated, IsInitial};
+ghost use Rattle.asl_types.specs.Answers.{Met};
 ghost use Rattle.asl_check.specs.Verdicts.{IsVerdict};
 ghost use Rattle.asl_check.specs.Walks.{verdict_walk};
 
 use crate::bodies::check_bodies;
-use crate::globals::check_globals;
 use crate::main_entry::find_entry;
-use crate::names::check_names;
-use crate::overloads::check_overloads;
-use crate::signatures::check_signatures;
+use asl_decl::Table;
 use asl_rules::entry::Entry;
 use asl_syn::code::Refused;
 use asl_syn::tree::{Decl, Program};
 use asl_tree::typed::TypedFunc;
 use asl_tree::{Checked, SubId};
+use asl_types::Binding;
 use std::alloc::Global;
 
-/// The phases in order: names, storage, signatures, overloads, bodies, the entry.
-fn phases(
-    alloc: Global,
-    entry: Entry,
-    decls: &[Decl],
-) -> Result<(Vec<TypedFunc>, Option<SubId>), Refused>
-    ensures rule { Met (λ p. p.1) result (verdict_walk entry decls.now) }
-    ensures tree { IfOk result (λ p. IsElaborated decls.now p.0.items) }
-{
-    check_names(alloc, decls)?;
-    let mut names = check_globals(alloc, decls)?;
-    check_signatures(decls)?;
-    check_overloads(alloc, decls)?;
-    let funcs = check_bodies(alloc, &mut names, decls)?;
-    let main = find_entry(entry, decls)?;
-    Ok((funcs, main))
+/// What is made of a program that is well formed: its subprograms, its globals, and its entry.
+#[derive(Drop)]
+struct Made {
+    funcs: Vec<TypedFunc>,
+    globals: Vec<Binding>,
+    entry: Option<SubId>,
 }
 
-/// What is made of the subprograms, with the entry; or the one fault.
-fn verdict(
-    alloc: Global,
-    entry: Entry,
-    decls: &[Decl],
-) -> Result<(Vec<TypedFunc>, Option<SubId>), Refused>
-    ensures rule { Met (λ p. p.1) result (rules.verdict entry decls.now) }
-    ensures tree { IfOk result (λ p. IsElaborated decls.now p.0.items) }
+/// The phases in order: names, cycles, declarations, signatures, overloads, bodies, the entry.
+fn phases(alloc: Global, entry: Entry, decls: &[Decl]) -> Result<Made, Refused>
+    ensures rule { Met (λ made. made.entry) result (verdict_walk entry decls.now) }
+    ensures tree { IfOk result (λ made. IsElaborated decls.now made.funcs.items) }
+    ensures initial { IfOk result (λ made. IsInitial decls.now made.globals.items) }
+{
+    let Table { mut names, globals } = Table::build(alloc, decls)?;
+    let funcs = check_bodies(alloc, &mut names, decls)?;
+    let main = find_entry(alloc, entry, &names, decls)?;
+    Ok(Made {
+        funcs,
+        globals,
+        entry: main,
+    })
+}
+
+/// What is made of a program, with its entry; or the one fault.
+fn verdict(alloc: Global, entry: Entry, decls: &[Decl]) -> Result<Made, Refused>
+    ensures rule { Met (λ made. made.entry) result (rules.verdict entry decls.now) }
+    ensures tree { IfOk result (λ made. IsElaborated decls.now made.funcs.items) }
+    ensures initial { IfOk result (λ made. IsInitial decls.now made.globals.items) }
 {
     phases(alloc, entry, decls)
 }
@@ -57,6 +58,10 @@ pub fn check(alloc: Global, program: Program, entry: Entry) -> Result<Checked, R
     requires { unserved_decls program.decls ≡ None }
     ensures { IsVerdict entry program.decls result }
 {
-    let (funcs, main) = verdict(alloc, entry, program.decls.as_slice())?;
-    Ok(Checked::seal(program, main, funcs))
+    let Made {
+        funcs,
+        globals,
+        entry,
+    } = verdict(alloc, entry, program.decls.as_slice())?;
+    Ok(Checked::seal(program, entry, funcs, globals))
 }

@@ -1,23 +1,24 @@
 //! What statements have in common.
 
 ghost use Rattle.std.specs.Prelude.{◌≡◌, IfOk};
-ghost use Rattle.asl_tree.specs.Elaboration.{elaborated};
 ghost use Rattle.asl_rules.specs.Stmts as rules;
-ghost use Rattle.asl_check.specs.Answers.{Met, Agrees};
-ghost use Rattle.asl_check.specs.Layouts.{layout_of};
-ghost use Rattle.asl_check.specs.Views.{type_of, scope_of};
+ghost use Rattle.asl_tree.specs.Elaboration.{elaborated};
+ghost use Rattle.asl_types.specs.Answers.{Met, Agrees};
+ghost use Rattle.asl_check.specs.Views.{scope_of};
+ghost use Rattle.asl_types.specs.View.{ty_of};
 
-use crate::answer::fault;
 use crate::body::Body;
-use crate::effects::at_most;
-use crate::exprs::{place, type_expr};
-use crate::types::{Ty, misfit};
-use crate::visible::Visible;
+use crate::typing::type_in;
+use asl_expr::effects::at_most;
+use asl_expr::exprs::place;
 use asl_rules::effect::Effect;
 use asl_syn::code::{Refused, StaticCode};
 use asl_syn::token::Span;
 use asl_syn::tree::Expr;
 use asl_tree::typed::TypedExpr;
+use asl_types::answer::fault;
+use asl_types::fits::misfit;
+use asl_types::{Scope, Ty};
 use std::alloc::Global;
 
 /// The end of each statement: T13 where its operands may not stand together, then T12 where it passes the class of its
@@ -42,16 +43,16 @@ pub(crate) fn ended(
 /// An expression that has to fit a type: its typed tree and its effect.
 pub(crate) fn check_fit(
     alloc: Global,
-    names: &Visible,
-    body: Body,
-    to: Ty,
+    names: &Scope,
+    body: &Body,
+    to: &Ty,
     e: &Expr,
 ) -> Result<(TypedExpr, Effect), Refused>
-    ensures rule { Met (λ p. p.1) result (rules.fitting (type_of to) e.now (scope_of names.now body)) }
-    ensures tree { IfOk result (λ p. p.0 ≡ elaborated e.now (layout_of names.now)) }
+    ensures rule { Met (λ p. p.1) result (rules.fitting (ty_of to.now) e.now (scope_of names.now body.now)) }
+    ensures tree { IfOk result (λ p. p.0 ≡ elaborated e.now (scope_of names.now body.now)) }
 {
-    let (tree, s) = type_expr(alloc, names, body, e)?;
-    if let Some(code) = misfit(s.ty, to) {
+    let (tree, s) = type_in(alloc, names, body, e)?;
+    if let Some(code) = misfit(&s.ty, to) {
         return fault(code, place(e));
     }
     Ok((tree, s.effect))

@@ -1,12 +1,14 @@
 //! Verdicts on small programs, against the rules as they are told.
-use crate::{check, falls_through};
+use crate::check;
+use asl_expr::falls_through;
 use asl_rules::entry::Entry;
 use asl_rules::served::first_unserved;
 use asl_syn::code::{Fault, Refused, StaticCode};
 use asl_syn::token::Span;
 use asl_syn::tree::{
-    BinaryOperator, Bind, Binder, Decl, ElseIf, Expr, Func, Ident, LocalKind, PrintItem, PrintKind,
-    Program, Qualifier, Stmt, StorageDecl, StorageKind, Target, TypeExpr, UnaryOperator,
+    BinaryOperator, Bind, Binder, Decl, ElseIf, Expr, FieldValue, Formal, Func, Ident, LocalKind,
+    PlacedSuffix, PrintItem, PrintKind, Program, Qualifier, Stmt, StorageDecl, StorageKind, Suffix,
+    Target, TypeDecl, TypeDef, TypeExpr, UnaryOperator,
 };
 use sqlite_items::{Boxed, Items};
 use std::alloc::Global;
@@ -49,6 +51,32 @@ fn integer(alloc: Global, n: u32) -> TypeExpr {
     TypeExpr::IntegerType(at(n), Items::new(alloc))
 }
 
+// A name, or `-` for none.
+fn binder(alloc: Global, n: u32, name: &str) -> Option<Binder> {
+    match name {
+        "-" => Some(Binder::Unbound(name_at(n))),
+        _ => Some(Binder::Bound(ident(alloc, n, name)?)),
+    }
+}
+
+// `x`, `-` for none, or `x.f`.
+fn target(alloc: Global, n: u32, text: &str) -> Option<Target> {
+    if text == "-" {
+        return Some(Target::Discarded(at(n)));
+    }
+    let mut suffixes = Items::new(alloc);
+    let name = match text.split_once('.') {
+        None => text,
+        Some((name, field)) => {
+            let suffix = Suffix::FieldOf(ident(alloc, n, field)?);
+            let end = n.saturating_add(3);
+            suffixes.push(PlacedSuffix { end, suffix }).ok()?;
+            name
+        }
+    };
+    Some(Target::Place(at(n), ident(alloc, n, name)?, suffixes))
+}
+
 impl Reader {
     fn push(&mut self, s: Stmt) -> Option<()> {
         let mut list = self.lists.pop()?;
@@ -62,9 +90,28 @@ impl Reader {
         self.exprs.push(Expr::Binary(at(n), op, left, right)).ok()
     }
 
-    // `+`, `==`, `!`, `1`, `T`, and each other word as a name.
+    fn tuple(&mut self, n: u32) -> Option<()> {
+        let right = self.exprs.pop()?;
+        let mut parts = Items::new(self.alloc);
+        parts.push(self.exprs.pop()?).ok()?;
+        parts.push(right).ok()?;
+        self.exprs.push(Expr::Tuple(at(n), parts)).ok()
+    }
+
+    // `.f`
+    fn field(&mut self, n: u32, name: &str) -> Option<()> {
+        let operand = Boxed::new(self.alloc, self.exprs.pop()?).ok()?;
+        let field = ident(self.alloc, n, name)?;
+        self.exprs.push(Expr::Field(at(n), operand, field)).ok()
+    }
+
+    // `+`, `==`, `!`, `,` for a pair, `.f`, `1`, `T`, and each other word as a name.
     fn expr(&mut self, n: u32, word: &str) -> Option<()> {
+        if let Some((_, name)) = word.split_once('.') {
+            return self.field(n, name);
+        }
         let e = match word {
+            "," => return self.tuple(n),
             "+" => return self.operation(n, BinaryOperator::Add),
             "==" => return self.operation(n, BinaryOperator::Equal),
             "!" => {
@@ -117,22 +164,38 @@ impl Reader {
         }
     }
 
-    // `let:x`, `var:x`, `int:x` with its type, `set:x`, `vars:x` without initialiser, `global:x`, `int-global:x` with its
-    // type and `bare-global:x` without initialiser, `func:x` and `bool-func:x`.
+    // `let:x`, `var:x`, `int:x` with its type, `set:x`, `put:x` with an index, `vars:x` without initialiser and `array:x` of
+    // one integer, `type:X` of integers, `record:X` with a field `f`, `make:X`, `global:x`, `int-global:x` with its type and
+    // `bare-global:x` without initialiser, `func:x` and `bool-func:x`.
     fn named(&mut self, n: u32, word: &str, name: &str) -> Option<()> {
         let i = ident(self.alloc, n, name)?;
         match word {
             "let" => self.local(n, LocalKind::Let, i, None),
             "var" => self.local(n, LocalKind::Var, i, None),
             "int" => self.local(n, LocalKind::Let, i, Some(integer(self.alloc, n))),
-            "set" => {
-                let e = self.exprs.pop()?;
-                self.push(Stmt::Assign(at(n), Target::Place(at(n), i, Items::new(self.alloc)), e))
+            "typed" => self.typed(n, name),
+            "bind" => self.bind(n, name),
+            "set" => self.assign(n, name),
+            "put" => self.put(n, i),
+            "vars" => self.vars(n, i, integer(self.alloc, n)),
+            "array" => {
+                let size = Boxed::new(self.alloc, Expr::Int(at(n), 1)).ok()?;
+                let element = Boxed::new(self.alloc, integer(self.alloc, n)).ok()?;
+                self.vars(n, i, TypeExpr::ArrayType(at(n), size, element))
             }
-            "vars" => {
-                let mut idents = Items::new(self.alloc);
-                idents.push(i).ok()?;
-                self.push(Stmt::LocalVars(at(n), idents, integer(self.alloc, n)))
+            "type" => self.declare(n, i, TypeDef::Alias(integer(self.alloc, n))),
+            "record" => {
+                let name = ident(self.alloc, n, "f")?;
+                let ty = integer(self.alloc, n);
+                let mut fields = Items::new(self.alloc);
+                fields.push(Formal { name, ty }).ok()?;
+                self.declare(n, i, TypeDef::Record(at(n), fields))
+            }
+            "make" => {
+                let field = ident(self.alloc, n, "f")?;
+                let mut fields = Items::new(self.alloc);
+                fields.push(FieldValue::Given(field, self.exprs.pop()?)).ok()?;
+                self.exprs.push(Expr::Construct(at(n), i, fields)).ok()
             }
             "global" => {
                 let e = self.exprs.pop()?;
@@ -146,6 +209,67 @@ impl Reader {
             "func" => self.func(n, i, integer(self.alloc, n)),
             _ => self.func(n, i, TypeExpr::BooleanType(at(n))),
         }
+    }
+
+    // `x=X`: `let` with its type.
+    fn typed(&mut self, n: u32, text: &str) -> Option<()> {
+        let (name, ty) = text.split_once('=')?;
+        let i = ident(self.alloc, n, name)?;
+        let ty = Items::from_slice(self.alloc, ty.as_bytes()).ok()?;
+        self.local(n, LocalKind::Let, i, Some(TypeExpr::NamedType(at(n), ty)))
+    }
+
+    // `x,y`: the parts of a tuple; `-` alone: no name.
+    fn bind(&mut self, n: u32, text: &str) -> Option<()> {
+        let e = self.exprs.pop()?;
+        let mut binders = Items::new(self.alloc);
+        for name in text.split(',') {
+            binders.push(binder(self.alloc, n, name)?).ok()?;
+        }
+        let bind = match text {
+            "-" => Bind::Single(Binder::Unbound(name_at(n))),
+            _ => Bind::Several(at(n), binders),
+        };
+        self.push(Stmt::Local(at(n), LocalKind::Let, bind, None, e))
+    }
+
+    // `x`, `x.f`, or `x,y` for the parts of a tuple.
+    fn assign(&mut self, n: u32, text: &str) -> Option<()> {
+        let e = self.exprs.pop()?;
+        let mut targets = Items::new(self.alloc);
+        for part in text.split(',') {
+            targets.push(target(self.alloc, n, part)?).ok()?;
+        }
+        let all = match text.split_once(',') {
+            None => targets.pop()?,
+            Some(_) => Target::Targets(at(n), targets),
+        };
+        self.push(Stmt::Assign(at(n), all, e))
+    }
+
+    fn put(&mut self, n: u32, i: Ident) -> Option<()> {
+        let e = self.exprs.pop()?;
+        let suffix = Suffix::ElementOf(self.exprs.pop()?);
+        let end = n.saturating_add(3);
+        let mut suffixes = Items::new(self.alloc);
+        suffixes.push(PlacedSuffix { end, suffix }).ok()?;
+        self.push(Stmt::Assign(at(n), Target::Place(at(n), i, suffixes), e))
+    }
+
+    fn vars(&mut self, n: u32, i: Ident, ty: TypeExpr) -> Option<()> {
+        let mut idents = Items::new(self.alloc);
+        idents.push(i).ok()?;
+        self.push(Stmt::LocalVars(at(n), idents, ty))
+    }
+
+    fn declare(&mut self, n: u32, name: Ident, def: TypeDef) -> Option<()> {
+        let d = TypeDecl {
+            span: at(n),
+            name,
+            def,
+            supertype: None,
+        };
+        self.decls.push(Decl::Type(d)).ok()
     }
 
     fn local(&mut self, n: u32, kind: LocalKind, i: Ident, ty: Option<TypeExpr>) -> Option<()> {
@@ -389,11 +513,101 @@ fn verdicts_on_bodies(rt: HostRuntime) {
 }
 
 #[test]
+fn verdicts_on_types_and_targets(rt: HostRuntime) {
+    // A target in word number n, up to its suffix.
+    let up_to = |n: u32| Span {
+        file: 0,
+        start: n,
+        len: 3,
+    };
+    for (text, want) in [
+        ("1 T , bind:a,b a return func:f", Ok(None)),
+        ("1 T , bind:-,b b assert 1 return func:f", Ok(None)),
+        ("1 bind:- 1 return func:f", Ok(None)),
+        ("b bind:- 1 return func:f", fault(StaticCode::T02, at(0))),
+        ("1 bind:a,b 1 return func:f", fault(StaticCode::T05, at(1))),
+        (
+            "1 T , bind:a,b,c 1 return func:f",
+            fault(StaticCode::T05, at(3)),
+        ),
+        (
+            "1 T , bind:a,a 1 return func:f",
+            fault(StaticCode::T01, name_at(3)),
+        ),
+        (
+            "1 let:a T bind:b,a 1 return func:f",
+            fault(StaticCode::T01, name_at(3)),
+        ),
+        ("a let:a 1 return func:f", fault(StaticCode::T02, at(0))),
+        (
+            "vars:a vars:b 1 1 , set:a,b a b + return func:f",
+            Ok(None),
+        ),
+        ("vars:a 1 T , set:a,- a return func:f", Ok(None)),
+        (
+            "vars:a 1 T , set:-,a 1 return func:f",
+            fault(StaticCode::T05, at(3)),
+        ),
+        (
+            "vars:a 1 set:a,a 1 return func:f",
+            fault(StaticCode::T05, at(2)),
+        ),
+        (
+            "1 let:a T T , set:a,- 1 return func:f",
+            fault(StaticCode::T14, name_at(5)),
+        ),
+        (
+            "type:A 1 typed:x=A x typed:y=A x return func:f",
+            Ok(None),
+        ),
+        (
+            "type:A type:B 1 typed:x=A x typed:y=B 1 return func:f",
+            fault(StaticCode::T05, at(4)),
+        ),
+        (
+            "1 typed:x=A 1 return func:f",
+            fault(StaticCode::T02, at(1)),
+        ),
+        (
+            "record:R 1 make:R var:x 1 set:x.f x .f return func:f",
+            Ok(None),
+        ),
+        (
+            "record:R 1 make:R var:x 1 set:x.g 1 return func:f",
+            fault(StaticCode::T15, up_to(5)),
+        ),
+        (
+            "record:R 1 make:R let:x T set:x.g 1 return func:f",
+            fault(StaticCode::T14, name_at(5)),
+        ),
+        (
+            "record:R 1 make:R var:x T set:x.f 1 return func:f",
+            fault(StaticCode::T05, at(4)),
+        ),
+        ("array:x 1 1 put:x 1 return func:f", Ok(None)),
+        (
+            "array:x T 1 put:x 1 return func:f",
+            fault(StaticCode::T08, up_to(3)),
+        ),
+        (
+            "vars:x 1 1 put:x 1 return func:f",
+            fault(StaticCode::T08, up_to(3)),
+        ),
+    ] {
+        let program = read(rt.alloc(), text).expect(&rt, "a program");
+        assert!(rt; first_unserved(&program).is_none());
+        let got = check(rt.alloc(), program, Entry::None);
+        let got = got.map(|c| c.entry().map(|sub| sub.number()));
+        assert_eq!(rt; got, want, "{text}");
+    }
+}
+
+#[test]
 fn first_forms_that_are_not_served(rt: HostRuntime) {
     for (text, want) in [
         ("1 return func:f pass unreachable func:g", Some(at(4))),
         ("T { } T { unreachable } { } elsif func:f", Some(at(5))),
-        ("T ! global:x T { } { unreachable } if func:f", Some(at(1))),
+        ("T ! global:x T { } { unreachable } if func:f", Some(at(7))),
     ] {
         let program = read(rt.alloc(), text).expect(&rt, "a program");
         assert_eq!(rt; first_unserved(&program), want, "{text}");

@@ -6,8 +6,9 @@ use Rattle.asl_io.specs.Told.{Takes, TakesPrefix}
 use Rattle.asl_io.proofs.ToldLemmas.{Takes-join, Takes-none, TakesPrefix-after, TakesPrefix-more}
 use Rattle.asl_rules.specs.Texts.{Text, global_line}
 use Rattle.asl_rules.specs.Report.{globals_text}
-use Rattle.asl_value.specs.declared.binding.Binding.{Binding}
-use Rattle.asl_value.specs.View.{value_of, bindings_of}
+use Rattle.asl_types.specs.declared.binding.Binding.{Binding}
+use Rattle.asl_value.specs.View.{value_of}
+use Rattle.asl_types.specs.Bindings.{bindings_of}
 use Rattle.asl_cmd.specs.Writes.{TakesFront}
 
 -- the lines from global number k on

@@ -10,7 +10,7 @@ use Rattle.std.specs.Prelude.{IfOk}
 use Rattle.asl_rules.specs.Reading.{Reads, Reader, IsReading}
 use Rattle.asl_rules.specs.Texts.{File}
 use Rattle.asl_rules.proofs.OneReading.{one_reading}
-use Rattle.asl_check.specs.Answers.{Met}
+use Rattle.asl_types.specs.Answers.{Met}
 
 pub as_read : (files : List File) (r : Result Program Refused) → IfOk r (λ p. Reads files (Ok p.decls)) → ((f : Fault) → r ≡ Err (At f) → Reads files (Err f))
     → (read : Reader) → IsReading read → Met (λ p. p.decls) r (read files)

@@ -16,7 +16,8 @@ use Rattle.asl_rules.specs.Report.{answer, behind, told_text, outcome_line, glob
 use Rattle.asl_rules.proofs.Shift.{own_text}
 use Rattle.asl_tree.specs.Accepted.{Accepted}
 use Rattle.asl_value.specs.declared.value.Value.{Value as Given}
-use Rattle.asl_value.specs.View.{value_of, bindings_of}
+use Rattle.asl_value.specs.View.{value_of}
+use Rattle.asl_types.specs.Bindings.{bindings_of}
 use Rattle.asl_run.specs.declared.machine.Outcome.{Outcome as Ended}
 use Rattle.asl_run.specs.declared.machine.Stage.{Stage}
 use Rattle.asl_run.specs.declared.machine.Stage.TheVariants as stage

@@ -2,7 +2,7 @@
 ghost use Rattle.std.specs.Prelude.{◌≡◌, ◌≤◌, None, IfOk, length, map};
 ghost use Rattle.asl_rules.specs.Reading.{Reader, IsReading};
 ghost use Rattle.asl_rules.specs.Served.{unserved_decls};
-ghost use Rattle.asl_check.specs.Answers.{Met};
+ghost use Rattle.asl_types.specs.Answers.{Met};
 ghost use Rattle.asl_cmd.specs.Model.{file_of, AreShort};
 
 use asl_parse::parse;

@@ -5,7 +5,8 @@ ghost use Rattle.asl_rules.specs.Served.{unserved_decls};
 ghost use Rattle.asl_rules.specs.Programs.{verdict};
 ghost use Rattle.asl_rules.specs.Report.{answer, globals_text, started};
 ghost use Rattle.asl_rules.specs.Texts.{global_line, line_feed, value_text};
-ghost use Rattle.asl_value.specs.View.{bindings_of, value_of};
+ghost use Rattle.asl_types.specs.Bindings.{bindings_of};
+ghost use Rattle.asl_value.specs.View.{value_of};
 ghost use Rattle.asl_run.specs.Stages.{answer_of};
 ghost use Rattle.asl_cmd.specs.Ends.{end_line, end_status, ending};
 ghost use Rattle.asl_cmd.specs.Model.{file_of, AreShort};
@@ -85,7 +86,7 @@ fn put_global<K: Sink>(out: &mut K, global: &GlobalVar) -> Result<(), Stop>
     ensures cause { HasCause result (K.faults out.old) (K.faults out.new) }
     ensures same_full { K.full out.new ≡ K.full out.old }
 {
-    put(out, global.name.as_slice())?;
+    put(out, global.name.get().as_slice())?;
     put(out, b" = ")?;
     put_value(out, &global.value)?;
     put(out, b"\n")

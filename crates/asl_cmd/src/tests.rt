@@ -34,6 +34,22 @@ const GLOBALS: &str =
 const GLOBALS_AT_A_FAULT: &str =
     "var n = 1; func main() => integer begin n = 2; assert n == 1; return n; end;";
 
+/// Programs of declared types.
+const LABELS_AND_A_TUPLE: &str =
+    "type E of enumeration {red, green}; var a: array [[2]] of E; var t: (integer, boolean); func main() => integer begin a[[1]] = green; t = (7, TRUE); return 0; end;";
+
+const PAST_AN_ARRAY: &str =
+    "var a: array [[2]] of integer; func main() => integer begin a[[2]] = 1; return 0; end;";
+
+const JOINED: &str =
+    "type X of exception; type Y of X subtypes X; func main() => integer begin var x: X; var y: Y; x = if TRUE then y else x; println(x); return 0; end;";
+
+const JOINED_ABOVE_A_SUBTYPE: &str =
+    "type X of exception; type Y of X subtypes X; func main() => integer begin var x: X; var y: Y; x = if TRUE then y else x; y = if TRUE then y else x; return 0; end;";
+
+const NEVER_JOINED: &str =
+    "func main() => integer begin return if TRUE then 1 else FALSE; end;";
+
 /// A program with forms that aren't served yet.
 const DECODER: &str = "type Bad of exception {code: integer};
 var n: integer = 0;
@@ -145,6 +161,43 @@ fn lines_over_one_file(rt: HostRuntime) {
             "a.asl:1:48+14: D08\nn = 2\n",
             4,
         ),
+        (
+            "run a.asl",
+            LABELS_AND_A_TUPLE,
+            "returned 0\na = [red, green]\nt = (7, TRUE)\n",
+            0,
+        ),
+        (
+            "run a.asl",
+            PAST_AN_ARRAY,
+            "a.asl:1:61+6: D06\na = [0, 0]\n",
+            4,
+        ),
+        (
+            "check a.asl",
+            "constant A = B; constant B = A;",
+            "a.asl:1:10+1: T03\n",
+            1,
+        ),
+        (
+            "check a.asl",
+            "constant C = 1 DIV 0;",
+            "a.asl:1:14+7: T04 D02\n",
+            1,
+        ),
+        ("run a.asl", JOINED, "Y{}\nreturned 0\n", 0),
+        (
+            "check a.asl",
+            JOINED_ABOVE_A_SUBTYPE,
+            "a.asl:1:126+21: T05\n",
+            1,
+        ),
+        (
+            "check a.asl",
+            NEVER_JOINED,
+            "a.asl:1:37+25: T05\n",
+            1,
+        ),
     ] {
         let (out, status) = answered(rt.alloc(), line, text, 1000).expect(&rt, "memory");
         let written = str::from_utf8(out.bytes()).unwrap_or("no text");
@@ -197,6 +250,26 @@ fn forms_that_nest(rt: HostRuntime) {
             100,
             "returned 1\n",
             0,
+        ),
+        (
+            "var x: ",
+            "(",
+            "(integer, integer)",
+            ", integer)",
+            "; return 0;",
+            98,
+            "returned 0\n",
+            0,
+        ),
+        (
+            "var x: ",
+            "(",
+            "(integer, integer)",
+            ", integer)",
+            "; return 0;",
+            99,
+            "a.asl:1:37+1107: T20\n",
+            1,
         ),
     ] {
         let text = repeated(alloc, start, before, middle, behind, end, count).expect(&rt, "memory");

@@ -21,18 +21,18 @@ lift_quiet : {A B : Type 0} (r : Pure A) (c : Core) (k : A → Does B) → ((x :
 lift_quiet (Good x) c k q = q x
 lift_quiet (Bad e) c k q = tt
 
-end_quiet : (result : Option TypeExpr) (span : Span) (c : Core) (x : Exit) (c1 : Core) → Quiet (at_end result span c x c1)
-end_quiet result span c (Returned x) c1 = lift_quiet (returned span result x) c1 (λ y. Ret y (restored c c1)) (λ y. tt)
-end_quiet None span c Normal c1 = tt
-end_quiet (Some t) span c Normal c1 = tt
+end_quiet : (ds : List Decl) (result : Option TypeExpr) (span : Span) (c : Core) (x : Exit) (c1 : Core) → Quiet (at_end ds result span c x c1)
+end_quiet ds result span c (Returned x) c1 = lift_quiet (returned ds span result x) c1 (λ y. Ret y (restored c c1)) (λ y. tt)
+end_quiet ds None span c Normal c1 = tt
+end_quiet ds (Some t) span c Normal c1 = tt
 
-body_quiet : (id : ℕ) (f : Func) (c : Core) (o : Option (List Binding)) → Quiet (run_bound id f c o)
-body_quiet id f c None = tt
-body_quiet id f c (Some frame) = (list_quiet f.body _, end_quiet f.result f.name.span c, λ x c1. tt)
+body_quiet : (ds : List Decl) (id : ℕ) (f : Func) (c : Core) (o : Option (List Binding)) → Quiet (run_bound ds id f c o)
+body_quiet ds id f c None = tt
+body_quiet ds id f c (Some frame) = (list_quiet f.body _, end_quiet ds f.result f.name.span c, λ x c1. tt)
 
-func_quiet : (id : ℕ) (o : Option Func) (args : List Value) (c : Core) → Quiet (call_func id o args c)
-func_quiet id None args c = tt
-func_quiet id (Some f) args c = body_quiet id f c (bound f.formals args)
+func_quiet : (ds : List Decl) (id : ℕ) (o : Option Func) (args : List Value) (c : Core) → Quiet (call_func ds id o args c)
+func_quiet ds id None args c = tt
+func_quiet ds id (Some f) args c = body_quiet ds id f c (bound f.formals args)
 
 pub call_quiet : (ds : List Decl) (id : ℕ) (args : List Value) (c : Core) → Quiet (call_of ds id args c)
-call_quiet ds id args c = func_quiet id (slice_get (funcs_of ds) id) args c
+call_quiet ds id args c = func_quiet ds id (slice_get (funcs_of ds) id) args c

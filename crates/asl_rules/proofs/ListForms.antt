@@ -3,7 +3,6 @@ use Rattle.std.proofs.Common.{◌≡◌, Bool, true, false, ◌&&◌, ◌||◌, 
 use Rattle.asl_syn.specs.declared.token.Span.{Span}
 use Rattle.asl_syn.specs.declared.code.StaticCode.TheVariants.{S03, T05, T18}
 use Rattle.asl_syn.specs.declared.tree.Expr.{Expr}
-use Rattle.asl_syn.specs.declared.tree.Target.{out-Target}
 use Rattle.asl_syn.specs.declared.tree.PrintKind.{PrintKind}
 use Rattle.asl_syn.specs.declared.tree.PrintKind.TheVariants.{Print, PrintLine}
 use Rattle.asl_syn.specs.declared.tree.PrintItem.{PrintItem}
@@ -27,14 +26,19 @@ use Rattle.asl_rules.specs.Exprs.{Typed, typed}
 use Rattle.asl_rules.specs.Stmts.{Done, done, FoundStmt, FoundBranch, Branch, expr_at, ended, with_names, in_order, block, fitting, condition, branches, conditions, if_rule, return_rule, items_rule, print_rule, Unread, span_of, stmt_layer_rule, branch_rule, found_stmt, all_fall, any_falls, falls_layer, alternative_falls, catcher_falls, branch_falls, otherwise_falls, falls}
 use Rattle.asl_rules.specs.Values.{Value, Exit, Normal, Returned}
 use Rattle.asl_rules.specs.States.{Core}
-use Rattle.asl_rules.specs.Agreement.{GlobalsMatch, Agrees}
+use Rattle.asl_rules.specs.Agreement.{types_in, GlobalsMatch, Agrees}
+use Rattle.asl_rules.specs.Declarations.{names_of_program}
 use Rattle.asl_rules.specs.Plans.{choose}
 use Rattle.asl_rules.specs.Evaluation.{Does, stmt_node, print_items, branch, else_if, branches as run_branches, scope, cut, in_order as run_in_order, go_on}
 use Rattle.asl_rules.proofs.Inversions.{ok_ok, err_ok, bind_ok, then_ok, need_ok, fitted_ok}
 use Rattle.asl_rules.proofs.Agreeing.{cut_agrees}
-use Rattle.asl_rules.proofs.ExprForms.{StmtClaim, GivesResult, EndsBody, our_claims}
+use Rattle.asl_rules.proofs.Naming.{WellNamed}
+use Rattle.asl_rules.proofs.ExprForms.{of_type, StmtClaim, GivesResult, FormedResult, EndsBody, our_claims, Thrown_in, truth_safe}
 use Rattle.asl_rules.proofs.Safe.{Safe}
-use Rattle.asl_rules.proofs.StmtForms.{opened, branch_found, branch_falls_of, fallen, unrolled, falls_unrolled, fits_own, Thrown_in, renamed, ends_normal, truth_safe, assert_safe, bind_safe, vars_safe, target_safe}
+use Rattle.asl_rules.proofs.StmtForms.{opened, branch_found, branch_falls_of, fallen, unrolled, falls_unrolled, renamed, ends_normal, assert_safe}
+use Rattle.asl_rules.proofs.BindForms.{fits_own, bind_safe}
+use Rattle.asl_rules.proofs.AssignForms.{assign_safe}
+use Rattle.asl_rules.proofs.SizeForms.{vars_safe}
 use Rattle.asl_rules.proofs.Growing.{Longer, longer_on, same_names, stmt_longer}
 
 true_and : (a b : Bool) → a ≡ true → b ≡ true → (a && b) ≡ true
@@ -62,18 +66,18 @@ branch_falls_unrolled e = fold_out-ElseIf Bool Bool Bool Bool Bool alternative_f
 module _ (base : List Entry) where
   -- ---- lists
 
-  pub list_safe : (G : Scope) (names0 : List Entry) (k : Effect) (d : Done) (Q : Exit → Core → Type 0) (R : Value → Core → Type 0) (ss : List Stmt) (c : Core) → in_order (map found_stmt ss) k G ≡ Ok d → Agrees base G.names c → Longer names0 G.names →
+  pub list_safe : (G : Scope) (names0 : List Entry) (k : Effect) (d : Done) (Q : Exit → Core → Type 0) (R : Value → Core → Type 0) (ss : List Stmt) (c : Core) → in_order (map found_stmt ss) k G ≡ Ok d → Agrees base G.names c → FormedResult base G.result → Longer names0 G.names →
       ((c1 : Core) → Longer names0 d.names → Agrees base d.names c1 → all_fall (map falls ss) ≡ true → Q Normal c1) →
-      ((o : Option Value) (c1 : Core) → GivesResult G.result o → GlobalsMatch base c1.globals → Q (Returned o) c1) →
+      ((o : Option Value) (c1 : Core) → GivesResult (types_in base) G.result o → GlobalsMatch base c1.globals → Q (Returned o) c1) →
       ((x : Value) (c1 : Core) → GlobalsMatch base c1.globals → R x c1) → Safe (our_claims base) Q R (run_in_order ss c)
-  list_safe G names0 k d Q R [] c h a l normal returned thrown =
+  list_safe G names0 k d Q R [] c h a r l normal returned thrown =
       let e : G.names ≡ d.names = ap (λ (z : Done). z.names) (ok_ok (done G.names k) d h) in
       normal c (subst (Longer names0) e l) (renamed base G.names d.names c e a) refl
-  list_safe G names0 k d Q R (s ∷ ss) c h a l normal returned thrown =
+  list_safe G names0 k d Q R (s ∷ ss) c h a r l normal returned thrown =
       let b = bind_ok (found_stmt s G) (λ e. in_order (map found_stmt ss) (greater k e.effect) (with_names G e.names)) d h in (
         record { scope = G; done = b.value },
-        (b.first, a),
-        go b.value (λ c1 f a1. list_safe (with_names G b.value.names) names0 (greater k b.value.effect) d Q R ss c1 b.then a1 (longer_on names0 G.names b.value.names l (stmt_longer s G b.value b.first)) (λ c2 l2 a2 f2. normal c2 l2 a2 (true_and (falls s) (all_fall (map falls ss)) f f2)) returned thrown),
+        (b.first, a, r),
+        go b.value (λ c1 f a1. list_safe (with_names G b.value.names) names0 (greater k b.value.effect) d Q R ss c1 b.then a1 r (longer_on names0 G.names b.value.names l (stmt_longer s G b.value b.first)) (λ c2 l2 a2 f2. normal c2 l2 a2 (true_and (falls s) (all_fall (map falls ss)) f f2)) returned thrown),
         λ x c1 o. thrown x c1 o,
       )
     where
@@ -82,11 +86,11 @@ module _ (base : List Entry) where
       go e next (Returned v) c1 o = returned v c1 o.0 o.1
 
   -- a list with a scope of its own, in a statement that can be fallen through where the list can
-  block_safe : (G : Scope) (d : Done) (ss : List Stmt) (b : Bool) (c : Core) → block (map found_stmt ss) G ≡ Ok d → Agrees base G.names c → (all_fall (map falls ss) ≡ true → b ≡ true) →
+  block_safe : (G : Scope) (d : Done) (ss : List Stmt) (b : Bool) (c : Core) → block (map found_stmt ss) G ≡ Ok d → Agrees base G.names c → FormedResult base G.result → (all_fall (map falls ss) ≡ true → b ≡ true) →
       Safe (our_claims base) (EndsBody base G.result b G.names) (Thrown_in base) (scope ss c)
-  block_safe G d ss b c h a f =
+  block_safe G d ss b c h a r f =
       let p = bind_ok (in_order (map found_stmt ss) Pure G) (λ e. Ok (done (take (length G.names) e.names) e.effect)) d h in
-      list_safe G G.names Pure p.value (λ x c1. EndsBody base G.result b G.names x (cut (length c.frame) c1)) (Thrown_in base) ss c p.first a (same_names G.names G.names refl)
+      list_safe G G.names Pure p.value (λ x c1. EndsBody base G.result b G.names x (cut (length c.frame) c1)) (Thrown_in base) ss c p.first a r (same_names G.names G.names refl)
       (λ c1 l a1 g. (f g, cut_agrees base G.names l.more c c1 a (subst (λ ns. Agrees base ns c1) l.is a1)))
       (λ o c1 g m. (g, m)) (λ x c1 m. m)
 
@@ -99,18 +103,18 @@ module _ (base : List Entry) where
     pub body_ok : block (map found_stmt ss) G ≡ Ok body
     pub is_boolean_type : is_boolean typed_as.ty ≡ true
 
-  branch_safe : (G : Scope) (span : Span) (e : Expr) (ss : List Stmt) (rest : Core → Does Exit) (b : Bool) (c : Core) → BranchOk G e ss → Agrees base G.names c →
+  branch_safe : (G : Scope) (span : Span) (e : Expr) (ss : List Stmt) (rest : Core → Does Exit) (b : Bool) (c : Core) → BranchOk G e ss → Agrees base G.names c → FormedResult base G.result →
       (all_fall (map falls ss) ≡ true → b ≡ true) → ((c1 : Core) → Agrees base G.names c1 → Safe (our_claims base) (EndsBody base G.result b G.names) (Thrown_in base) (rest c1)) →
       Safe (our_claims base) (EndsBody base G.result b G.names) (Thrown_in base) (branch span e ss rest c)
-  branch_safe G span e ss rest b c k a f next = (
-    record { scope = G; typed = k.typed_as },
+  branch_safe G span e ss rest b c k a r f next = (
+    of_type G k.typed_as,
     (k.cond_ok, a),
     λ x c1 o. truth_safe base (EndsBody base G.result b G.names) (Thrown_in base) span x k.typed_as.ty c1 (λ t. choose t (scope ss c1) (rest c1)) k.is_boolean_type o.0 (chosen c1 o.1),
     λ x c1 o. o,
   )
     where
       chosen : (c1 : Core) → Agrees base G.names c1 → (t : Bool) → Safe (our_claims base) (EndsBody base G.result b G.names) (Thrown_in base) (choose t (scope ss c1) (rest c1))
-      chosen c1 a1 true = block_safe G k.body ss b c1 k.body_ok a1 f
+      chosen c1 a1 true = block_safe G k.body ss b c1 k.body_ok a1 r f
       chosen c1 a1 false = next c1 a1
 
   abbrev pub AllOk : Scope → List FoundBranch → Type 0
@@ -146,22 +150,22 @@ module _ (base : List Entry) where
 
   -- the branches behind the first, one after the other
   else_if_safe : (G : Scope) (span : Span) (l : st.ElseIf-F Alternative Catcher ElseIf Otherwise Stmt) (rest : Core → Does Exit) (b : Bool) (c : Core) (S : Typed) (d : Done) →
-      typed (branch_rule (branch_opened l)).condition G ≡ Ok S → block (branch_rule (branch_opened l)).body G ≡ Ok d → is_boolean S.ty ≡ true → Agrees base G.names c →
+      typed (branch_rule (branch_opened l)).condition G ≡ Ok S → block (branch_rule (branch_opened l)).body G ≡ Ok d → is_boolean S.ty ≡ true → Agrees base G.names c → FormedResult base G.result →
       (branch_falls (branch_fallen l) ≡ true → b ≡ true) → ((c1 : Core) → Agrees base G.names c1 → Safe (our_claims base) (EndsBody base G.result b G.names) (Thrown_in base) (rest c1)) →
       Safe (our_claims base) (EndsBody base G.result b G.names) (Thrown_in base) (else_if span l rest c)
-  else_if_safe G span (st.ElseIf e ss) rest b c S d h k i a f next = branch_safe G span e ss rest b c (record { typed_as = S; body = d; cond_ok = h; body_ok = k; is_boolean_type = i }) a f next
+  else_if_safe G span (st.ElseIf e ss) rest b c S d h k i a r f next = branch_safe G span e ss rest b c (record { typed_as = S; body = d; cond_ok = h; body_ok = k; is_boolean_type = i }) a r f next
 
-  branches_safe : (G : Scope) (span : Span) (bs : List ElseIf) (last : List Stmt) (d : Done) (b : Bool) (c : Core) → AllOk G (map branch_found bs) → block (map found_stmt last) G ≡ Ok d → Agrees base G.names c →
+  branches_safe : (G : Scope) (span : Span) (bs : List ElseIf) (last : List Stmt) (d : Done) (b : Bool) (c : Core) → AllOk G (map branch_found bs) → block (map found_stmt last) G ≡ Ok d → Agrees base G.names c → FormedResult base G.result →
       (any_falls (map branch_falls_of bs) ≡ true → b ≡ true) → (all_fall (map falls last) ≡ true → b ≡ true) → Safe (our_claims base) (EndsBody base G.result b G.names) (Thrown_in base) (run_branches span bs last c)
-  branches_safe G span [] last d b c k h a f g = block_safe G d last b c h a g
-  branches_safe G span (e ∷ es) last d b c k h a f g =
-      else_if_safe G span (out-ElseIf e) (run_branches span es last) b c k.0 k.1 (sym (ap (λ (z : FoundBranch). typed z.condition G) (branch_unrolled e)) ∙ k.2) (sym (ap (λ (z : FoundBranch). block z.body G) (branch_unrolled e)) ∙ k.3) k.4 a
+  branches_safe G span [] last d b c k h a r f g = block_safe G d last b c h a r g
+  branches_safe G span (e ∷ es) last d b c k h a r f g =
+      else_if_safe G span (out-ElseIf e) (run_branches span es last) b c k.0 k.1 (sym (ap (λ (z : FoundBranch). typed z.condition G) (branch_unrolled e)) ∙ k.2) (sym (ap (λ (z : FoundBranch). block z.body G) (branch_unrolled e)) ∙ k.3) k.4 a r
       (λ w. f (first_true (branch_falls_of e) (any_falls (map branch_falls_of es)) (branch_falls_unrolled e ∙ w)))
-      (λ c1 a1. branches_safe G span es last d b c1 k.5 h a1 (λ w. f (second_true (branch_falls_of e) (any_falls (map branch_falls_of es)) w)) g)
+      (λ c1 a1. branches_safe G span es last d b c1 k.5 h a1 r (λ w. f (second_true (branch_falls_of e) (any_falls (map branch_falls_of es)) w)) g)
 
-  if_safe : (G : Scope) (span : Span) (e : Expr) (ss : List Stmt) (es : List ElseIf) (last : List Stmt) (d : Done) (c : Core) → if_rule span e (map found_stmt ss) (map branch_found es) (map found_stmt last) G ≡ Ok d → Agrees base G.names c →
+  if_safe : (G : Scope) (span : Span) (e : Expr) (ss : List Stmt) (es : List ElseIf) (last : List Stmt) (d : Done) (c : Core) → if_rule span e (map found_stmt ss) (map branch_found es) (map found_stmt last) G ≡ Ok d → Agrees base G.names c → FormedResult base G.result →
       Safe (our_claims base) (EndsBody base G.result (all_fall (map falls ss) || (any_falls (map branch_falls_of es) || all_fall (map falls last))) d.names) (Thrown_in base) (branch span e ss (run_branches span es last) c)
-  if_safe G span e ss es last d c h a =
+  if_safe G span e ss es last d c h a r =
       let bs : List FoundBranch = record { condition = e; body = map found_stmt ss } ∷ map branch_found es in
       let p = bind_ok (branches bs [] Pure G) (λ p. block (map found_stmt last) G >>= λ b. conditions p.0 >> ended G.class span true (greater p.1 b.effect) >>= λ k. Ok (done G.names k)) d h in
       let b = bind_ok (block (map found_stmt last) G) (λ b. conditions p.value.0 >> ended G.class span true (greater p.value.1 b.effect) >>= λ k. Ok (done G.names k)) d p.then in
@@ -171,24 +175,13 @@ module _ (base : List Entry) where
       let k = q.ok (sym (ap conditions q.is) ∙ u.first) in
       let t : Bool = all_fall (map falls ss) || (any_falls (map branch_falls_of es) || all_fall (map falls last)) in
       subst (λ ns. Safe (our_claims base) (EndsBody base G.result t ns) (Thrown_in base) (branch span e ss (run_branches span es last) c)) (ap (λ (z : Done). z.names) (ok_ok (done G.names w.value) d w.then))
-      (branch_safe G span e ss (run_branches span es last) t c (record { typed_as = k.0; body = k.1; cond_ok = k.2; body_ok = k.3; is_boolean_type = k.4 }) a
+      (branch_safe G span e ss (run_branches span es last) t c (record { typed_as = k.0; body = k.1; cond_ok = k.2; body_ok = k.3; is_boolean_type = k.4 }) a r
       (λ z. first_true (all_fall (map falls ss)) (any_falls (map branch_falls_of es) || all_fall (map falls last)) z)
-      (λ c1 a1. branches_safe G span es last b.value t c1 k.5 b.first a1
+      (λ c1 a1. branches_safe G span es last b.value t c1 k.5 b.first a1 r
       (λ z. second_true (all_fall (map falls ss)) (any_falls (map branch_falls_of es) || all_fall (map falls last)) (first_true (any_falls (map branch_falls_of es)) (all_fall (map falls last)) z))
       (λ z. second_true (all_fall (map falls ss)) (any_falls (map branch_falls_of es) || all_fall (map falls last)) (second_true (any_falls (map branch_falls_of es)) (all_fall (map falls last)) z))))
 
-  -- ---- returning and printing
-
-  return_safe : (G : Scope) (span : Span) (o : Option Expr) (T : Option Ty) (d : Done) (c : Core) (ds : List Decl) → G.result ≡ T → return_rule span o G T ≡ Ok d → Agrees base G.names c →
-      Safe (our_claims base) (EndsBody base T false d.names) (Thrown_in base) (stmt_node ds (st.Return span o) c)
-  return_safe G span None None d c ds e h a = (tt, a.globals)
-  return_safe G span None (Some T) d c ds e h a = err_ok (fault_of T18 span) d h
-  return_safe G span (Some x) None d c ds e h a = let t = bind_ok (typed x G) (λ S. fault T18 span) d h in err_ok (fault_of T18 span) d t.then
-  return_safe G span (Some x) (Some T) d c ds e h a =
-      let t = bind_ok (fitting T x G) (λ k. ended G.class span true k >>= λ l. Ok (done G.names l)) d h in
-      let s = bind_ok (typed x G) (λ S. fitted (misfit S.ty T) (expr_at x) >> Ok S.effect) t.value t.first in
-      let v = then_ok (fitted (misfit s.value.ty T) (expr_at x)) (Ok s.value.effect) t.value s.then in
-      (record { scope = G; typed = s.value }, (s.first, a), λ y c1 w. (fits_own y s.value.ty T (fitted_ok (misfit s.value.ty T) (expr_at x) tt v.first) w.0, w.1.globals), λ y c1 w. w)
+  -- ---- printing
 
   items_safe : (G : Scope) (kind : PrintKind) (is : List PrintItem) (ks ls : List Effect) (d : Done) (c : Core) → items_rule is ks G ≡ Ok ls → G.names ≡ d.names → Agrees base G.names c →
       Safe (our_claims base) (EndsBody base G.result true d.names) (Thrown_in base) (print_items kind is c)
@@ -197,7 +190,7 @@ module _ (base : List Entry) where
   items_safe G kind (Verbatim span t ∷ is) ks ls d c h e a = items_safe G kind is ks ls d c h e a
   items_safe G kind (Shown x ∷ is) ks ls d c h e a =
       let t = bind_ok (typed x G) (λ S. items_rule is (ks ++ S.effect ∷ []) G) ls h in
-      (record { scope = G; typed = t.value }, (t.first, a), λ y c1 w. items_safe G kind is (ks ++ t.value.effect ∷ []) ls d c1 t.then e w.1, λ y c1 w. w)
+      (of_type G t.value, (t.first, a), λ y c1 w. items_safe G kind is (ks ++ t.value.effect ∷ []) ls d c1 t.then e w.1, λ y c1 w. w)
 
   print_safe : (G : Scope) (span : Span) (kind : PrintKind) (is : List PrintItem) (d : Done) (c : Core) → print_rule span is G ≡ Ok d → Agrees base G.names c →
       Safe (our_claims base) (EndsBody base G.result true d.names) (Thrown_in base) (print_items kind is c)
@@ -206,22 +199,36 @@ module _ (base : List Entry) where
       let w = bind_ok (ended G.class span (all_together Pure t.value) (greater (greatest Pure t.value) Writes)) (λ k. Ok (done G.names k)) d t.then in
       items_safe G kind is [] t.value d c t.first (ap (λ (z : Done). z.names) (ok_ok (done G.names w.value) d w.then)) a
 
+module _ (ds : List Decl) (base : List Entry) (w : WellNamed base) (same : names_of_program ds ≡ base) where
+  -- ---- returning
+
+  return_safe : (G : Scope) (span : Span) (o : Option Expr) (T : Option Ty) (d : Done) (c : Core) → G.result ≡ T → return_rule span o G T ≡ Ok d → Agrees base G.names c → FormedResult base T →
+      Safe (our_claims base) (EndsBody base T false d.names) (Thrown_in base) (stmt_node ds (st.Return span o) c)
+  return_safe G span None None d c e h a r = (tt, a.globals)
+  return_safe G span None (Some T) d c e h a r = err_ok (fault_of T18 span) d h
+  return_safe G span (Some x) None d c e h a r = let t = bind_ok (typed x G) (λ S. fault T18 span) d h in err_ok (fault_of T18 span) d t.then
+  return_safe G span (Some x) (Some T) d c e h a r =
+      let t = bind_ok (fitting T x G) (λ k. ended G.class span true k >>= λ l. Ok (done G.names l)) d h in
+      let s = bind_ok (typed x G) (λ S. fitted (misfit S.ty T) (expr_at x) >> Ok S.effect) t.value t.first in
+      let v = then_ok (fitted (misfit s.value.ty T) (expr_at x)) (Ok s.value.effect) t.value s.then in
+      (of_type G s.value, (s.first, a), λ y c1 o. (fits_own ds base w same G c x s.value T y a s.first r (fitted_ok (misfit s.value.ty T) (expr_at x) tt v.first) o.0, o.1.globals), λ y c1 o. o)
+
   -- ---- all forms
 
-  layer_safe : (ds : List Decl) (G : Scope) (d : Done) (layer : StmtLayer) (c : Core) → stmt_layer_rule (opened layer) G ≡ Ok d → Agrees base G.names c →
+  layer_safe : (G : Scope) (d : Done) (layer : StmtLayer) (c : Core) → stmt_layer_rule (opened layer) G ≡ Ok d → Agrees base G.names c → FormedResult base G.result →
       Safe (our_claims base) (EndsBody base G.result (falls_layer (fallen layer)) d.names) (Thrown_in base) (stmt_node ds layer c)
-  layer_safe ds G d (st.Pass span) c h a = ends_normal base G.result G.names Pure d c h a
-  layer_safe ds G d (st.Assert span e) c h a = assert_safe base span e G d c h a
-  layer_safe ds G d (st.Local span kind b t e) c h a = bind_safe base span kind b t e G d c h a
-  layer_safe ds G d (st.LocalVars span iss t) c h a = vars_safe base span iss t G d c h a
-  layer_safe ds G d (st.Assign span t e) c h a = target_safe base span (out-Target t) e G d c h a
-  layer_safe ds G d (st.If span e ss es last) c h a = if_safe G span e ss es last d c h a
-  layer_safe ds G d (st.Return span o) c h a = return_safe G span o G.result d c ds refl h a
-  layer_safe ds G d (st.Print span kind iss) c h a = print_safe G span kind iss d c h a
-  layer_safe ds G d layer c h a = err_ok (fault_of S03 (span_of (opened layer))) d h
+  layer_safe G d (st.Pass span) c h a r = ends_normal base G.result G.names Pure d c h a
+  layer_safe G d (st.Assert span e) c h a r = assert_safe base span e G d c h a
+  layer_safe G d (st.Local span kind b t e) c h a r = bind_safe ds base w same span kind b t e G d c h a
+  layer_safe G d (st.LocalVars span iss t) c h a r = vars_safe ds base w same span iss t G d c h a
+  layer_safe G d (st.Assign span t e) c h a r = assign_safe base w span t e G d c h a
+  layer_safe G d (st.If span e ss es last) c h a r = if_safe base G span e ss es last d c h a r
+  layer_safe G d (st.Return span o) c h a r = return_safe G span o G.result d c refl h a r
+  layer_safe G d (st.Print span kind iss) c h a r = print_safe base G span kind iss d c h a
+  layer_safe G d layer c h a r = err_ok (fault_of S03 (span_of (opened layer))) d h
 
-  pub stmt_safe : (ds : List Decl) (j : StmtClaim) (s : Stmt) (c : Core) → found_stmt s j.scope ≡ Ok j.done → Agrees base j.scope.names c →
+  pub stmt_safe : (j : StmtClaim) (s : Stmt) (c : Core) → found_stmt s j.scope ≡ Ok j.done → Agrees base j.scope.names c → FormedResult base j.scope.result →
       Safe (our_claims base) (EndsBody base j.scope.result (falls s) j.done.names) (Thrown_in base) (stmt_node ds (out-Stmt s) c)
-  stmt_safe ds j s c h a =
+  stmt_safe j s c h a r =
       subst (λ b. Safe (our_claims base) (EndsBody base j.scope.result b j.done.names) (Thrown_in base) (stmt_node ds (out-Stmt s) c)) (sym (falls_unrolled s))
-      (layer_safe ds j.scope j.done (out-Stmt s) c (sym (ap (λ (f : FoundStmt). f j.scope) (unrolled s)) ∙ h) a)
+      (layer_safe j.scope j.done (out-Stmt s) c (sym (ap (λ (f : FoundStmt). f j.scope) (unrolled s)) ∙ h) a r)

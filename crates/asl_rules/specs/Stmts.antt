@@ -1,18 +1,22 @@
 -- Statements in a scope: the scope after one and its effect, or its one fault; and whether the end of one can be reached.
-use Rattle.std.specs.Prelude.{ℕ, Bool, true, false, ◌&&◌, ◌||◌, List, [], ◌∷◌, ◌++◌, length, take, Option, Some, None, Result, Ok}
+use Rattle.std.specs.Prelude.{ℕ, ◌-◌, not, Bool, true, false, ◌&&◌, ◌||◌, List, [], ◌∷◌, ◌++◌, length, take, Option, Some, None, Result, Ok}
 use Rattle.asl_syn.specs.declared.token.Span.{Span}
 use Rattle.asl_syn.specs.declared.code.Fault.{Fault}
-use Rattle.asl_syn.specs.declared.code.StaticCode.TheVariants.{S03, T01, T02, T05, T12, T13, T14, T18}
+use Rattle.asl_syn.specs.declared.code.StaticCode.{StaticCode}
+use Rattle.asl_syn.specs.declared.code.StaticCode.TheVariants.{S03, T01, T02, T05, T12, T13, T14, T15, T18}
 use Rattle.asl_syn.specs.declared.tree.Expr.{Expr}
 use Rattle.asl_syn.specs.declared.tree.TypeExpr.{TypeExpr}
 use Rattle.asl_syn.specs.declared.tree.Ident.{Ident}
 use Rattle.asl_syn.specs.declared.tree.LocalKind.{LocalKind}
 use Rattle.asl_syn.specs.declared.tree.LocalKind.TheVariants as local
+use Rattle.asl_syn.specs.declared.tree.Binder.{Binder}
 use Rattle.asl_syn.specs.declared.tree.Binder.TheVariants.{Bound, Unbound}
 use Rattle.asl_syn.specs.declared.tree.Bind.{Bind}
 use Rattle.asl_syn.specs.declared.tree.Bind.TheVariants.{Single, Several}
 use Rattle.asl_syn.specs.declared.tree.PlacedSuffix.{PlacedSuffix}
-use Rattle.asl_syn.specs.declared.tree.Target.{Target, out-Target}
+use Rattle.asl_syn.specs.declared.tree.Suffix.{Suffix}
+use Rattle.asl_syn.specs.declared.tree.Suffix.TheVariants.{FieldOf, FieldsOf, SlicesOf, ElementOf}
+use Rattle.asl_syn.specs.declared.tree.Target.{Target, fold-Target}
 use Rattle.asl_syn.specs.declared.tree.Target.TheOpen as tg
 use Rattle.asl_syn.specs.declared.tree.PrintItem.{PrintItem}
 use Rattle.asl_syn.specs.declared.tree.PrintItem.TheVariants.{Verbatim, Shown}
@@ -22,10 +26,10 @@ use Rattle.asl_syn.specs.declared.tree.Alternative.TheFolds.{fold-Stmt}
 use Rattle.asl_rules.specs.declared.effect.Effect.{Effect}
 use Rattle.asl_rules.specs.declared.effect.Effect.TheVariants.{Pure, Readonly, Writes}
 use Rattle.asl_rules.specs.Faults.{◌>>=◌, ◌>>◌, need, fault, found_or, fitted}
-use Rattle.asl_rules.specs.Types.{Ty, is_boolean, misfit}
+use Rattle.asl_rules.specs.Types.{Ty, Parts, tuple_of, named, no_part, part, is_boolean, misfit}
 use Rattle.asl_rules.specs.Effects.{greater, lesser, at_most, all_together, greatest}
-use Rattle.asl_rules.specs.Scopes.{Scope, Entry, stored, storage_of, is_free, writing}
-use Rattle.asl_rules.specs.Exprs.{Typed, found, typed, written}
+use Rattle.asl_rules.specs.Scopes.{Scope, Entry, Storage, stored, storage_of, is_free, writing}
+use Rattle.asl_rules.specs.Exprs.{Typed, found, typed, written, has_name, fields_of, field_in, indexed}
 
 -- the names that are visible after, and the effect
 pub record Done : Type 0 where
@@ -79,7 +83,7 @@ is_var local.Var = true
 -- the type that a declaration with an initialiser gives, and the effect of the initialiser
 abbrev pub initialised : Option TypeExpr → Expr → Scope → Result Typed Fault
 initialised None e G = typed e G
-initialised (Some t) e G = written t >>= λ T. fitting T e G >>= λ k. Ok (record { ty = T; effect = k })
+initialised (Some t) e G = written t G >>= λ T. fitting T e G >>= λ k. Ok (record { ty = T; effect = k })
 
 -- a declaration of one name: the initialiser fits the written type; the name isn't visible yet
 abbrev pub local_rule : Span → LocalKind → Ident → Option TypeExpr → Expr → Scope → Result Done Fault
@@ -87,48 +91,170 @@ local_rule span kind i t e G =
     initialised t e G >>= λ S.
     need (is_free i.text G.names) T01 i.span >>
     ended G.class span true S.effect >>= λ k.
-    Ok (done (G.names ++ stored i.text S.ty false (is_var kind) ∷ []) k)
+    Ok (done (G.names ++ stored i.text S.ty (is_var kind) ∷ []) k)
+
+-- a declaration of no name
+abbrev pub unbound_rule : Span → Option TypeExpr → Expr → Scope → Result Done Fault
+unbound_rule span t e G = initialised t e G >>= λ S. ended G.class span true S.effect >>= λ k. Ok (done G.names k)
+
+-- each name of a tuple bind stands once, and isn't visible yet
+abbrev pub binders_free : List Binder → List (List ℕ) → List Entry → Result (Unit {0}) Fault
+binders_free [] before names = Ok tt
+binders_free (Bound i ∷ bs) before names = need (is_free i.text names && not (has_name i.text before)) T01 i.span >> binders_free bs (before ++ i.text ∷ []) names
+binders_free (Unbound at ∷ bs) before names = binders_free bs before names
+
+-- the parts of a tuple
+abbrev pub tuple_parts : Ty → Option Parts
+tuple_parts (tuple_of ts) = Some ts
+tuple_parts (named name supers T) = tuple_parts T
+tuple_parts T = None
+
+-- the names of a tuple bind with the types of the parts, where there are as many
+abbrev pub bound_parts : List Binder → Bool → Parts → List Entry → Option (List Entry)
+bound_parts [] is_mutable no_part names = Some names
+bound_parts (Bound i ∷ bs) is_mutable (part T ts) names = bound_parts bs is_mutable ts (names ++ stored i.text T is_mutable ∷ [])
+bound_parts (Unbound at ∷ bs) is_mutable (part T ts) names = bound_parts bs is_mutable ts names
+bound_parts bs is_mutable ts names = None
+
+abbrev pub bound_in : List Binder → Bool → Option Parts → List Entry → Option (List Entry)
+bound_in bs is_mutable None names = None
+bound_in bs is_mutable (Some ts) names = bound_parts bs is_mutable ts names
+
+-- the end of a tuple bind: the names, then the fit, then the count
+abbrev pub several_bound : Span → LocalKind → List Binder → Ty → Option StaticCode → Expr → Effect → Scope → Result Done Fault
+several_bound span kind bs T code e k G =
+    binders_free bs [] G.names >>
+    fitted code (expr_at e) >>
+    found_or (bound_in bs (is_var kind) (tuple_parts T) G.names) T05 span >>= λ names.
+    ended G.class span true k >>= λ l. Ok (done names l)
+
+abbrev pub several_rule : Span → LocalKind → List Binder → Option TypeExpr → Expr → Scope → Result Done Fault
+several_rule span kind bs None e G = typed e G >>= λ S. several_bound span kind bs S.ty None e S.effect G
+several_rule span kind bs (Some t) e G = written t G >>= λ T. typed e G >>= λ S. several_bound span kind bs T (misfit S.ty T) e S.effect G
 
 abbrev pub bind_rule : Span → LocalKind → Bind → Option TypeExpr → Expr → Scope → Result Done Fault
 bind_rule span kind (Single (Bound i)) t e G = local_rule span kind i t e G
-bind_rule span kind (Single (Unbound at)) t e G = fault S03 span
-bind_rule span kind (Several at bs) t e G = fault S03 span
+bind_rule span kind (Single (Unbound at)) t e G = unbound_rule span t e G
+bind_rule span kind (Several at bs) t e G = several_rule span kind bs t e G
 
 -- names of one type, each of which isn't visible yet
 abbrev pub names_rule : List Ident → Ty → List Entry → Result (List Entry) Fault
 names_rule [] T names = Ok names
-names_rule (i ∷ is) T names = need (is_free i.text names) T01 i.span >> names_rule is T (names ++ stored i.text T false true ∷ [])
+names_rule (i ∷ is) T names = need (is_free i.text names) T01 i.span >> names_rule is T (names ++ stored i.text T true ∷ [])
 
 -- the names that a declaration declares
 abbrev pub names_of : List Ident → List (List ℕ)
 names_of [] = []
 names_of (i ∷ is) = i.text ∷ names_of is
 
+abbrev pub names_of_binders : List Binder → List (List ℕ)
+names_of_binders [] = []
+names_of_binders (Bound i ∷ bs) = i.text ∷ names_of_binders bs
+names_of_binders (Unbound at ∷ bs) = names_of_binders bs
+
 abbrev pub names_bound : Bind → List (List ℕ)
 names_bound (Single (Bound i)) = i.text ∷ []
 names_bound (Single (Unbound at)) = []
-names_bound (Several at bs) = []
+names_bound (Several at bs) = names_of_binders bs
 
+-- what is evaluated in a written type are constants
 abbrev pub vars_rule : List Ident → TypeExpr → Scope → Result Done Fault
-vars_rule is t G = written t >>= λ T. names_rule is T G.names >>= λ names. Ok (done names Pure)
+vars_rule is t G = written t G >>= λ T. names_rule is T G.names >>= λ names. Ok (done names Pure)
 
--- an assignment to a name: it is storage, which can be assigned; the right side fits
-abbrev pub assign_rule : Span → Ident → Expr → Scope → Result Done Fault
-assign_rule span i e G =
-    typed e G >>= λ S.
-    found_or (storage_of i.text G.names) T02 i.span >>= λ s.
-    need s.is_mutable T14 i.span >>
-    fitted (misfit S.ty s.ty) (expr_at e) >>
-    ended G.class span true (greater S.effect (writing s)) >>= λ k. Ok (done G.names k)
+-- ---- assignments
 
-abbrev pub place_rule : Span → Ident → List PlacedSuffix → Expr → Scope → Result Done Fault
-place_rule span i [] e G = assign_rule span i e G
-place_rule span i (x ∷ xs) e G = fault S03 span
+-- the span of a target up to this place
+abbrev pub up_to : Ident → ℕ → Span
+up_to i end = record { file = i.span.file; start = i.span.start; len = end - i.span.start }
 
-abbrev pub target_rule : Span → tg.Target-F Target → Expr → Scope → Result Done Fault
-target_rule span (tg.Discarded at) e G = fault S03 span
-target_rule span (tg.Place at i suffixes) e G = place_rule span i suffixes e G
-target_rule span (tg.Targets at ts) e G = fault S03 span
+-- the effects of the expressions in suffixes, in order
+abbrev pub suffix_operands : Suffix → Scope → Result (List Effect) Fault
+suffix_operands (FieldOf f) G = Ok []
+suffix_operands (FieldsOf fs) G = Ok []
+suffix_operands (SlicesOf ss) G = Ok []
+suffix_operands (ElementOf e) G = typed e G >>= λ S. Ok (S.effect ∷ [])
+
+abbrev pub suffixes_operands : List PlacedSuffix → Scope → Result (List Effect) Fault
+suffixes_operands [] G = Ok []
+suffixes_operands (x ∷ xs) G = suffix_operands x.suffix G >>= λ ks. suffixes_operands xs G >>= λ ls. Ok (ks ++ ls)
+
+-- the type of a place behind one suffix more, whose faults stand at the target up to it
+abbrev pub behind_suffix : Span → Suffix → Ty → Scope → Result Ty Fault
+behind_suffix at (FieldOf f) T G = found_or (field_in (fields_of T) f.text) T15 at
+behind_suffix at (ElementOf e) T G = typed e G >>= λ I. indexed at T I.ty
+behind_suffix at (FieldsOf fs) T G = fault S03 at
+behind_suffix at (SlicesOf ss) T G = fault S03 at
+
+abbrev pub behind_suffixes : Ident → List PlacedSuffix → Ty → Scope → Result Ty Fault
+behind_suffixes i [] T G = Ok T
+behind_suffixes i (x ∷ xs) T G = behind_suffix (up_to i x.end) x.suffix T G >>= λ U. behind_suffixes i xs U G
+
+-- storage that can be assigned
+abbrev pub assignable : Ident → Scope → Result Storage Fault
+assignable i G = found_or (storage_of i.text G.names) T02 i.span >>= λ s. need s.is_mutable T14 i.span >> Ok s
+
+abbrev pub place_type : Ident → List PlacedSuffix → Scope → Result Ty Fault
+place_type i xs G = assignable i G >>= λ s. behind_suffixes i xs s.ty G
+
+-- what is found at a target: the effects of its operands; what its stores do, after its own conditions; whether a type
+-- fits, and whether its parts are as many
+pub record FoundTarget : Type 0 where
+  pub operands : Scope → Result (List Effect) Fault
+  pub place : Scope → Result Effect Fault
+  pub fits : Ty → Span → Scope → Result (Unit {0}) Fault
+  pub counts : Ty → Bool
+
+abbrev pub all_operands : List FoundTarget → Scope → Result (List Effect) Fault
+all_operands [] G = Ok []
+all_operands (t ∷ ts) G = t.operands G >>= λ ks. all_operands ts G >>= λ ls. Ok (ks ++ ls)
+
+abbrev pub all_places : List FoundTarget → Scope → Result Effect Fault
+all_places [] G = Ok Pure
+all_places (t ∷ ts) G = t.place G >>= λ k. all_places ts G >>= λ l. Ok (greater k l)
+
+abbrev pub parts_fit : List FoundTarget → Parts → Span → Scope → Result (Unit {0}) Fault
+parts_fit (t ∷ ts) (part S Ss) at G = t.fits S at G >> parts_fit ts Ss at G
+parts_fit ts Ss at G = Ok tt
+
+abbrev pub all_parts_fit : List FoundTarget → Option Parts → Span → Scope → Result (Unit {0}) Fault
+all_parts_fit ts None at G = Ok tt
+all_parts_fit ts (Some Ss) at G = parts_fit ts Ss at G
+
+abbrev pub parts_count : List FoundTarget → Parts → Bool
+parts_count [] no_part = true
+parts_count (t ∷ ts) (part S Ss) = t.counts S && parts_count ts Ss
+parts_count ts Ss = false
+
+abbrev pub all_count : List FoundTarget → Option Parts → Bool
+all_count ts None = false
+all_count ts (Some Ss) = parts_count ts Ss
+
+abbrev pub target_layer : tg.Target-F FoundTarget → FoundTarget
+target_layer (tg.Discarded at) = record { operands = λ G. Ok []; place = λ G. Ok Pure; fits = λ S at G. Ok tt; counts = λ S. true }
+target_layer (tg.Place at i xs) = record {
+  operands = suffixes_operands xs;
+  place = λ G. assignable i G >>= λ s. behind_suffixes i xs s.ty G >>= λ T. Ok (writing s);
+  fits = λ S at G. place_type i xs G >>= λ T. fitted (misfit S T) at;
+  counts = λ S. true;
+}
+target_layer (tg.Targets at ts) = record {
+  operands = all_operands ts;
+  place = all_places ts;
+  fits = λ S at G. all_parts_fit ts (tuple_parts S) at G;
+  counts = λ S. all_count ts (tuple_parts S);
+}
+
+abbrev pub found_target : Target → FoundTarget
+found_target = fold-Target FoundTarget target_layer
+
+-- an assignment: the operands and the right side, then each target in turn, then the fits, then the counts
+abbrev pub assign_rule : Span → FoundTarget → Expr → Scope → Result Done Fault
+assign_rule span t e G =
+    t.operands G >>= λ ks. typed e G >>= λ S.
+    t.place G >>= λ w.
+    t.fits S.ty (expr_at e) G >>
+    need (t.counts S.ty) T05 span >>
+    ended G.class span (all_together Pure (ks ++ S.effect ∷ [])) (greater (greatest Pure (ks ++ S.effect ∷ [])) w) >>= λ k. Ok (done G.names k)
 
 -- the condition of a branch, and its list
 pub record FoundBranch : Type 0 where
@@ -207,7 +333,7 @@ stmt_layer_rule (st.Pass span) G = Ok (done G.names Pure)
 stmt_layer_rule (st.Assert span e) G = assert_rule span e G
 stmt_layer_rule (st.Local span kind b t e) G = bind_rule span kind b t e G
 stmt_layer_rule (st.LocalVars span iss t) G = vars_rule iss t G
-stmt_layer_rule (st.Assign span t e) G = target_rule span (out-Target t) e G
+stmt_layer_rule (st.Assign span t e) G = assign_rule span (found_target t) e G
 stmt_layer_rule (st.If span c first others last) G = if_rule span c first others last G
 stmt_layer_rule (st.Return span e) G = return_rule span e G G.result
 stmt_layer_rule (st.Print span kind iss) G = print_rule span iss G

@@ -6,9 +6,10 @@ use Rattle.asl_rules.specs.Values as rules
 use Rattle.asl_tree.specs.Erasure.{values_of}
 use Rattle.asl_tree.proofs.TypedRuns.{with_values}
 use Rattle.asl_tree.proofs.Skeletons.{SameBut}
-use Rattle.asl_value.specs.declared.binding.Binding.{Binding}
+use Rattle.asl_types.specs.declared.binding.Binding.{Binding}
 use Rattle.asl_value.specs.declared.value.Value.{Value}
-use Rattle.asl_value.specs.View.{value_of, binding_of, bindings_of}
+use Rattle.asl_types.specs.Bindings.{binding_of, bindings_of}
+use Rattle.asl_value.specs.View.{value_of}
 use Rattle.asl_run.specs.Globals.{given, taken}
 
 -- ---- all were exchanged

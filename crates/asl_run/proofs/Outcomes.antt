@@ -1,30 +1,21 @@
 -- Two proofs that outcomes are equal are equal.
 use Rattle.std.proofs.Common.{◌≡◌, ℕ, zero, suc, Bool, List, Option, ◌⊎◌, inl, inr, refl}
-use Rattle.std.specs.Prelude.{ℤ}
-use Rattle.std.specs.Coded.{Coded, Coded-set, code_by, coded×, coded⊎, coded_ℕ, coded_ℤ, coded_bool, coded_list, coded_option}
+use Rattle.std.specs.Coded.{Coded, Coded-set, code_by, coded×, coded⊎, coded_ℕ, coded_bool, coded_list, coded_option}
 use Rattle.asl_syn.specs.declared.code.DynCode.{DynCode}
 use Rattle.asl_syn.specs.contracts.code.DynCode as codes
 use Rattle.asl_syn.specs.declared.token.Span.{Span}
 use Rattle.asl_syn.specs.contracts.token.Span as spans
-use Rattle.asl_rules.specs.Values.{Value, int, bool}
+use Rattle.asl_rules.specs.Values.{Value}
 use Rattle.asl_rules.specs.Plans.{Meter, Mistake, UnknownName, WrongKind, Immutable, EndReached, UnservedForm, End, Faulted, Stuck, Outcome, Done, Thrown, Halt}
+use Rattle.asl_value.specs.declared.value.Value as values
+use Rattle.asl_value.specs.contracts.value.Value as rows
+use Rattle.asl_value.specs.View.{value_of}
+use Rattle.asl_tree.specs.Back.{value_back}
 use Rattle.asl_tree.specs.TypedMeaning.{BareCore}
-
-value_out : Value → ℤ ⊎ Bool
-value_out (int z) = inl z
-value_out (bool b) = inr b
-
-value_in : ℤ ⊎ Bool → Value
-value_in (inl z) = int z
-value_in (inr b) = bool b
-
-value_back : (x : Value) → value_in (value_out x) ≡ x
-unfolding value_out value_in
-value_back (int z) = refl
-value_back (bool b) = refl
+use Rattle.asl_tree.proofs.Backs.{value_same}
 
 coded_value : Coded Value
-coded_value = code_by (ℤ ⊎ Bool) (coded⊎ coded_ℤ coded_bool) value_out value_in value_back
+coded_value = code_by values.Value rows.the_row.coded value_back value_of value_same
 
 mistake_out : Mistake → ℕ
 mistake_out UnknownName = 0

@@ -10,7 +10,7 @@ use Rattle.asl_rules.specs.Evaluation.{nodes, call_of}
 use Rattle.asl_rules.proofs.Pieces.{appended_twice}
 use Rattle.asl_rules.proofs.Budget.{run_after, grows, longer, same_text}
 use Rattle.asl_rules.proofs.Shift.{OwnText, own_text, retold, retold_end, behind, behind_own, run_behind}
-use Rattle.asl_value.specs.View.{bindings_of}
+use Rattle.asl_types.specs.Bindings.{bindings_of}
 use Rattle.asl_run.specs.declared.machine.Stage.{Stage}
 use Rattle.asl_run.specs.declared.machine.Stage.TheVariants as stage
 use Rattle.asl_run.specs.Stages.{Ends, OnRefused}

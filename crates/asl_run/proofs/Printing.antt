@@ -2,16 +2,19 @@
 use Rattle.std.proofs.Common.{◌≡◌, ℕ, suc, ◌+◌, ◌<◌, inl, inr, List, [], ◌∷◌, ◌++◌, length, get_or, drop, Option, refl, sym, ap, ◌∙◌, subst, arith}
 use Rattle.std.proofs.Math.Seq.{drop-cons}
 use Rattle.asl_syn.specs.declared.tree.PrintKind.{PrintKind}
+use Rattle.asl_tree.specs.declared.typed.TypedExpr.{TypedExpr}
 use Rattle.asl_tree.specs.declared.typed.TypedFunc.{TypedFunc}
 use Rattle.asl_tree.specs.declared.typed.TypedItem.{TypedItem}
-use Rattle.asl_tree.specs.declared.typed.TypedItem.TheVariants.{Verbatim}
-use Rattle.asl_rules.specs.Values.{Exit}
+use Rattle.asl_tree.specs.declared.typed.TypedItem.TheVariants.{Verbatim, Shown}
+use Rattle.asl_rules.specs.Values.{Value, Exit}
 use Rattle.asl_rules.specs.Told.{appended, open_after, Part}
-use Rattle.asl_rules.specs.Plans.{Meter, Put, wrote}
+use Rattle.asl_rules.specs.Plans.{Meter, Done, Ret, Eval, Put, wrote, ◌>>=◌}
 use Rattle.asl_rules.specs.Cuts.{cuts}
 use Rattle.asl_rules.specs.Strings.{string_text}
+use Rattle.asl_rules.specs.Texts.{value_text}
 use Rattle.asl_tree.specs.TypedMeaning.{BareCore, DoesBare, typed_meaning, typed_cutting, print_items}
 use Rattle.asl_run.specs.Meets.{Left}
+use Rattle.asl_run.proofs.Turns.{goes_on, one_evaluated}
 
 append_nil : (xs : List ℕ) → xs ++ [] ≡ xs
 append_nil [] = refl
@@ -40,3 +43,17 @@ string_written fs d kind items k item text bytes c h h1 q0 h0 within here is sam
     let m : Left fs d (Put (string_text bytes) q) h q0 h0 = subst (λ is. Left fs d (print_items kind is c) h q0 h0) front l in
     let r : Left fs d q (wrote h (string_text bytes)) q0 h0 = record { same = m.same; given_up = λ u w. m.given_up u (cuts_put fs d (string_text bytes) q h u w) } in
     subst (λ k. Left fs d q k q0 h0) (wrote_is h h1 (string_text bytes) s t o) r
+
+-- a value was written, and the items behind it are left
+pub shown_written : (fs : List TypedFunc) (d : ℕ) (kind : PrintKind) (items : List TypedItem) (k : ℕ) (item : TypedItem) (e : TypedExpr) (x : Value) (c : BareCore) (h : Meter) (c1 : BareCore) (h1 h2 : Meter) (q0 : DoesBare Exit) (h0 : Meter) →
+    k < length items → item ≡ get_or items k item → item ≡ Shown e → (typed_meaning fs d).expr e c h ≡ Done x c1 h1 → h2.steps ≡ h1.steps → h2.told ≡ appended h1.told (value_text x) → h2.text_open ≡ open_after h1.text_open (value_text x) →
+    Left fs d (print_items kind (drop k items) c) h q0 h0 → Left fs d (print_items kind (drop (k + 1) items) c1) h2 q0 h0
+shown_written fs d kind items k item e x c h c1 h1 h2 q0 h0 within here is done s t o l =
+    let go : Value → BareCore → DoesBare Exit = λ y c2. Put (value_text y) (print_items kind (drop (k + 1) items) c2) in
+    let q : DoesBare Exit = print_items kind (drop (k + 1) items) c1 in
+    let up : suc k ≡ k + 1 = omega arith in
+    let front : drop k items ≡ Shown e ∷ drop (k + 1) items = drop-cons items k item within ∙ ap (λ n. get_or items k item ∷ drop n items) up ∙ ap (λ i. i ∷ drop (k + 1) items) (sym here ∙ is) in
+    let m : Left fs d (Eval e c go) h q0 h0 = subst (λ is. Left fs d (print_items kind is c) h q0 h0) front l in
+    let n : Left fs d (go x c1) h1 (Eval e c go) h = goes_on fs d (Eval e c (λ y c2. Ret y c2)) (Eval e c go) go (one_evaluated fs d e c go) h x c1 h1 (ap (λ r. r >>= λ y c2 h3. Done y c2 h3) done) in
+    let r : Left fs d q (wrote h1 (value_text x)) q0 h0 = record { same = n.same ∙ m.same; given_up = λ u w. m.given_up u (n.given_up u (cuts_put fs d (value_text x) q h1 u w)) } in
+    subst (λ k. Left fs d q k q0 h0) (wrote_is h1 h2 (value_text x) s t o) r

@@ -23,9 +23,10 @@ use Rattle.asl_rules.proofs.Inversions.{ok_ok}
 use Rattle.asl_tree.proofs.SameCalls.{typed_trees_same}
 use Rattle.asl_tree.proofs.Skeletons.{EndsIn, Kept, AtRest, run_of_keeps, run_of_rests}
 use Rattle.asl_tree.proofs.TypedRuns.{with_values, done_same, thrown_same, halt_same, gives_up_same}
-use Rattle.asl_value.specs.declared.binding.Binding.{Binding}
+use Rattle.asl_types.specs.declared.binding.Binding.{Binding}
 use Rattle.asl_value.specs.declared.value.Value.{Value}
-use Rattle.asl_value.specs.View.{value_of, bindings_of}
+use Rattle.asl_types.specs.Bindings.{bindings_of}
+use Rattle.asl_value.specs.View.{value_of}
 use Rattle.asl_run.specs.declared.places.Places.{Places}
 use Rattle.asl_run.specs.declared.stop.Stop.{Stop}
 use Rattle.asl_run.specs.declared.stop.Stop.TheVariants as stop

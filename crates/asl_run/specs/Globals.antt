@@ -1,6 +1,6 @@
 -- Globals and values that take their places.
 use Rattle.std.specs.Prelude.{List, [], ◌∷◌}
-use Rattle.asl_value.specs.declared.binding.Binding.{Binding}
+use Rattle.asl_types.specs.declared.binding.Binding.{Binding}
 use Rattle.asl_value.specs.declared.value.Value.{Value}
 
 -- the globals with these values, as far as they go

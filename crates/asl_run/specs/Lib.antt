@@ -1,7 +1,7 @@
 pub mod View
 pub mod Globals
 pub mod Meets
-pub mod Numbers
 pub mod Pieces
 pub mod Stages
+pub mod Stores
 pub mod Work

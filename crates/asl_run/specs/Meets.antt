@@ -1,5 +1,5 @@
 -- How the interpreter's answers are related to the rules.
-use Rattle.std.specs.Prelude.{◌≡◌, ◌≤◌, ℕ, Bool, List, ◌++◌, Option, Result, Ok, Err}
+use Rattle.std.specs.Prelude.{◌≡◌, ◌≤◌, ℕ, Bool, List, ◌++◌, map, Option, Result, Ok, Err}
 use Rattle.asl_io.specs.Faults.{Rises}
 use Rattle.asl_tree.specs.declared.typed.TypedExpr.{TypedExpr}
 use Rattle.asl_tree.specs.declared.typed.TypedFunc.{TypedFunc}
@@ -53,6 +53,15 @@ Is view (Err stop.SinkFault) r = ⊥
 Is view (Err (stop.Thrown x)) r = ⊥
 Is view (Err (stop.Fault code span)) r = r ≡ Bad (Faulted code span)
 Is view (Err (stop.Stuck mistake span)) r = r ≡ Bad (Stuck (mistake_of mistake) span)
+
+-- values were changed into what the rules give, or they give none and the values are the same, or memory was wanting
+abbrev pub Stores : Result (Unit {0}) Stop → Pure (List rules.Value) → List Value → List Value → Type 0
+Stores (Ok x) r old new = r ≡ Good (map value_of new)
+Stores (Err stop.NoMemory) r old new = Unit {0}
+Stores (Err stop.SinkFault) r old new = ⊥
+Stores (Err (stop.Thrown x)) r old new = ⊥
+Stores (Err (stop.Fault code span)) r old new = (r ≡ Bad (Faulted code span)) × (new ≡ old)
+Stores (Err (stop.Stuck mistake span)) r old new = (r ≡ Bad (Stuck (mistake_of mistake) span)) × (new ≡ old)
 
 -- bytes were written, or where the sink refused them some of them; from whether text is open, and told text, to the same
 abbrev pub Writes : Result (Unit {0}) Stop → List ℕ → Bool → Option (List ℕ) → Bool → Option (List ℕ) → Type 0

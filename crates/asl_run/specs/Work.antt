@@ -16,9 +16,9 @@ use Rattle.asl_rules.specs.Agreement.{GlobalsMatch}
 use Rattle.asl_rules.specs.Evaluation.{initial_globals}
 use Rattle.asl_rules.specs.Soundness.{NamesOf}
 use Rattle.asl_rules.specs.Machines.{run_of, text_of_run}
-use Rattle.asl_value.specs.declared.binding.Binding.{Binding}
-use Rattle.asl_value.specs.contracts.binding.Binding as binding
-use Rattle.asl_value.specs.View.{bindings_of}
+use Rattle.asl_types.specs.declared.binding.Binding.{Binding}
+use Rattle.asl_types.specs.contracts.binding.Binding as binding
+use Rattle.asl_types.specs.Bindings.{bindings_of}
 use Rattle.asl_run.specs.declared.machine.Stage.{Stage}
 use Rattle.asl_run.specs.declared.machine.Stage.TheVariants as stage
 use Rattle.asl_run.specs.contracts.machine.Stage as stages

@@ -1,13 +1,18 @@
 //! Expressions: each function does what the rules say of a node. Its answer is `Stuck` exactly where they give no outcome.
-ghost use Rattle.std.specs.Prelude.{◌≡◌};
+ghost use Rattle.std.specs.Prelude.{◌≡◌, [], map};
 ghost use Rattle.asl_tree.specs.declared.typed.TypedExpr.{out-TypedExpr};
-ghost use Rattle.asl_rules.specs.Plans.{Eval, Ret, lift};
 ghost use Rattle.asl_rules.specs.Operators as operators;
+ghost use Rattle.asl_rules.specs.Plans.{Eval, Good, Ret, choose, lift};
+ghost use Rattle.asl_rules.specs.Structures.{element_of as element_in, values_of};
+ghost use Rattle.asl_rules.specs.Values.{tuple_with};
+ghost use Rattle.asl_rules.specs.Values as values;
 ghost use Rattle.asl_tree.specs.TypedMeaning as rules;
+ghost use Rattle.asl_value.specs.Forms.{all_given, shell_of};
+ghost use Rattle.asl_value.specs.Places as parts;
 ghost use Rattle.asl_value.specs.View.{value_of};
-ghost use Rattle.asl_run.specs.Meets.{Counts, Runs, Evaluates};
+ghost use Rattle.asl_run.specs.Meets.{Counts, Evaluates, Is, Runs};
+ghost use Rattle.asl_run.specs.Stores.{evaluated};
 
-use crate::operators::{binary_value, literal_value, truth, unary_value};
 use crate::places::{Places, read};
 use crate::stop::Stop;
 use asl_io::Sink;
@@ -15,7 +20,11 @@ use asl_syn::code::DynCode;
 use asl_syn::token::Span;
 use asl_syn::tree::{BinaryOperator, UnaryOperator};
 use asl_tree::typed::{TypedExpr, TypedFunc};
-use asl_value::Value;
+use asl_value::{
+    GivenField, Name, Shell, Value, binary, construct, element_of, field_in, literal, truth, tuple,
+    unary,
+};
+use sqlite_items::Items;
 use std::alloc::Global;
 
 fn expr_span(e: &TypedExpr) -> Span
@@ -24,9 +33,15 @@ fn expr_span(e: &TypedExpr) -> Span
     match e {
         TypedExpr::Int(span, _) => *span,
         TypedExpr::Bool(span, _) => *span,
+        TypedExpr::Label(span, _, _) => *span,
         TypedExpr::Read(span, _) => *span,
         TypedExpr::Unary(span, _, _) => *span,
         TypedExpr::Binary(span, _, _, _) => *span,
+        TypedExpr::Conditional(span, _, _, _) => *span,
+        TypedExpr::Tuple(span, _) => *span,
+        TypedExpr::Construct(span, _, _, _) => *span,
+        TypedExpr::Field(span, _, _) => *span,
+        TypedExpr::Element(span, _, _) => *span,
     }
 }
 
@@ -64,15 +79,17 @@ fn eval_node<K: Sink>(
     depth: u32,
     e: &TypedExpr,
 ) -> Result<Value, Stop>
-    ensures meets { Runs value_of result funcs.now depth (rules.typed_expr_node funcs.now (out-TypedExpr e.now))
+    ensures meets { Runs value_of result funcs.now depth
+        (rules.typed_expr_node funcs.now (out-TypedExpr e.now))
         places.old (K.written sink.old) places.new (K.written sink.new) }
     ensures counts { Counts result (K.faults sink.old) (K.faults sink.new) }
     ensures same_full { K.full sink.new ≡ K.full sink.old }
 {
     match e {
-        TypedExpr::Int(span, n) => literal_value(*span, *n),
+        TypedExpr::Int(span, n) => Ok(literal(*span, *n)?),
         TypedExpr::Bool(_, b) => Ok(Value::Bool(*b)),
-        TypedExpr::Read(span, slot) => read(alloc, places, *span, *slot),
+        TypedExpr::Label(_, name, label) => label_of(name, label),
+        TypedExpr::Read(span, slot) => read(places, *span, *slot),
         TypedExpr::Unary(span, operator, a) => {
             eval_unary(alloc, funcs, places, sink, depth, *span, *operator, a.get())
         }
@@ -87,7 +104,43 @@ fn eval_node<K: Sink>(
             a.get(),
             b.get(),
         ),
+        TypedExpr::Conditional(span, e, a, b) => eval_conditional(
+            alloc,
+            funcs,
+            places,
+            sink,
+            depth,
+            *span,
+            e.get(),
+            a.get(),
+            b.get(),
+        ),
+        TypedExpr::Tuple(_, es) => eval_tuple(alloc, funcs, places, sink, depth, es.as_slice()),
+        TypedExpr::Construct(span, shell, fields, es) => eval_construct(
+            alloc,
+            funcs,
+            places,
+            sink,
+            depth,
+            *span,
+            shell,
+            fields.as_slice(),
+            es.as_slice(),
+        ),
+        TypedExpr::Field(span, a, place) => {
+            eval_field(alloc, funcs, places, sink, depth, *span, a.get(), *place)
+        }
+        TypedExpr::Element(span, a, i) => {
+            eval_element(alloc, funcs, places, sink, depth, *span, a.get(), i.get())
+        }
     }
+}
+
+/// The value of a label.
+fn label_of(name: &Name, label: &Name) -> Result<Value, Stop>
+    ensures { Is value_of result (Good (values.label name.now label.now)) }
+{
+    Ok(Value::Label(name.share()?, label.share()?))
 }
 
 #[cycle(eval)]
@@ -108,7 +161,7 @@ fn eval_unary<K: Sink>(
     ensures same_full { K.full sink.new ≡ K.full sink.old }
 {
     let x = eval(alloc, funcs, places, sink, depth, operand)?;
-    unary_value(span, operator, x)
+    Ok(unary(span, operator, &x)?)
 }
 
 #[cycle(eval)]
@@ -120,17 +173,17 @@ fn eval_binary<K: Sink>(
     depth: u32,
     span: Span,
     operator: BinaryOperator,
-    a: &TypedExpr,
-    b: &TypedExpr,
+    left: &TypedExpr,
+    right: &TypedExpr,
 ) -> Result<Value, Stop>
     ensures meets { Runs value_of result funcs.now depth
-        (λ c. Eval a.now c (λ x c1. rules.behind_left span operator b.now x (operators.strictness operator) c1))
+        (λ c. Eval left.now c (λ x c1. rules.behind_left span operator right.now x (operators.strictness operator) c1))
         places.old (K.written sink.old) places.new (K.written sink.new) }
     ensures counts { Counts result (K.faults sink.old) (K.faults sink.new) }
     ensures same_full { K.full sink.new ≡ K.full sink.old }
 {
-    let x = eval(alloc, funcs, places, sink, depth, a)?;
-    eval_behind(alloc, funcs, places, sink, depth, span, operator, x, b)
+    let x = eval(alloc, funcs, places, sink, depth, left)?;
+    eval_behind(alloc, funcs, places, sink, depth, span, operator, &x, right)
 }
 
 /// What an operator does behind its left operand: `&&`, `||` and `-->` may be decided by it.
@@ -143,32 +196,32 @@ fn eval_behind<K: Sink>(
     depth: u32,
     span: Span,
     operator: BinaryOperator,
-    x: Value,
+    x: &Value,
     b: &TypedExpr,
 ) -> Result<Value, Stop>
     ensures meets { Runs value_of result funcs.now depth
-        (rules.behind_left span operator b.now (value_of x) (operators.strictness operator))
+        (rules.behind_left span operator b.now (value_of x.now) (operators.strictness operator))
         places.old (K.written sink.old) places.new (K.written sink.new) }
     ensures counts { Counts result (K.faults sink.old) (K.faults sink.new) }
     ensures same_full { K.full sink.new ≡ K.full sink.old }
 {
     match operator {
         BinaryOperator::LogicalAnd => {
-            if truth(span, &x)? {
+            if truth(span, x)? {
                 eval_right(alloc, funcs, places, sink, depth, span, operator, x, b)
             } else {
                 Ok(Value::Bool(false))
             }
         }
         BinaryOperator::LogicalOr => {
-            if truth(span, &x)? {
+            if truth(span, x)? {
                 Ok(Value::Bool(true))
             } else {
                 eval_right(alloc, funcs, places, sink, depth, span, operator, x, b)
             }
         }
         BinaryOperator::Implies => {
-            if truth(span, &x)? {
+            if truth(span, x)? {
                 eval_right(alloc, funcs, places, sink, depth, span, operator, x, b)
             } else {
                 Ok(Value::Bool(true))
@@ -187,14 +240,151 @@ fn eval_right<K: Sink>(
     depth: u32,
     span: Span,
     operator: BinaryOperator,
-    x: Value,
+    x: &Value,
     b: &TypedExpr,
 ) -> Result<Value, Stop>
-    ensures meets { Runs value_of result funcs.now depth (rules.ask_right span operator b.now (value_of x))
+    ensures meets { Runs value_of result funcs.now depth
+        (rules.ask_right span operator b.now (value_of x.now))
         places.old (K.written sink.old) places.new (K.written sink.new) }
     ensures counts { Counts result (K.faults sink.old) (K.faults sink.new) }
     ensures same_full { K.full sink.new ≡ K.full sink.old }
 {
     let y = eval(alloc, funcs, places, sink, depth, b)?;
-    binary_value(span, operator, x, y)
+    Ok(binary(span, operator, x, &y)?)
+}
+
+#[cycle(eval)]
+fn eval_conditional<K: Sink>(
+    alloc: Global,
+    funcs: &[TypedFunc],
+    places: &mut Places,
+    sink: &mut K,
+    depth: u32,
+    span: Span,
+    e: &TypedExpr,
+    a: &TypedExpr,
+    b: &TypedExpr,
+) -> Result<Value, Stop>
+    ensures meets { Runs value_of result funcs.now depth
+        (λ c. Eval e.now c (λ x c1. lift (operators.truth span x) c1
+        (λ p. choose p (Eval a.now c1 (λ y c2. Ret y c2)) (Eval b.now c1 (λ y c2. Ret y c2)))))
+        places.old (K.written sink.old) places.new (K.written sink.new) }
+    ensures counts { Counts result (K.faults sink.old) (K.faults sink.new) }
+    ensures same_full { K.full sink.new ≡ K.full sink.old }
+{
+    let x = eval(alloc, funcs, places, sink, depth, e)?;
+    if truth(span, &x)? {
+        Ok(eval(alloc, funcs, places, sink, depth, a)?)
+    } else {
+        Ok(eval(alloc, funcs, places, sink, depth, b)?)
+    }
+}
+
+/// The values of expressions in order.
+#[cycle(eval)]
+pub fn eval_all<K: Sink>(
+    alloc: Global,
+    funcs: &[TypedFunc],
+    places: &mut Places,
+    sink: &mut K,
+    depth: u32,
+    es: &[TypedExpr],
+) -> Result<Items<Value>, Stop>
+    ensures meets { Runs (map value_of) result funcs.now depth
+        (evaluated es.now)
+        places.old (K.written sink.old) places.new (K.written sink.new) }
+    ensures counts { Counts result (K.faults sink.old) (K.faults sink.new) }
+    ensures same_full { K.full sink.new ≡ K.full sink.old }
+{
+    let mut xs = Items::new(alloc);
+    for e in es {
+        let x = eval(alloc, funcs, places, sink, depth, e)?;
+        xs.push(x)?;
+    }
+    Ok(xs)
+}
+
+#[cycle(eval)]
+fn eval_tuple<K: Sink>(
+    alloc: Global,
+    funcs: &[TypedFunc],
+    places: &mut Places,
+    sink: &mut K,
+    depth: u32,
+    es: &[TypedExpr],
+) -> Result<Value, Stop>
+    ensures meets { Runs value_of result funcs.now depth
+        (λ c. rules.eval_all es.now [] c (λ xs c1. Ret (tuple_with (values_of xs)) c1))
+        places.old (K.written sink.old) places.new (K.written sink.new) }
+    ensures counts { Counts result (K.faults sink.old) (K.faults sink.new) }
+    ensures same_full { K.full sink.new ≡ K.full sink.old }
+{
+    let xs = eval_all(alloc, funcs, places, sink, depth, es)?;
+    Ok(tuple(alloc, xs)?)
+}
+
+#[cycle(eval)]
+fn eval_construct<K: Sink>(
+    alloc: Global,
+    funcs: &[TypedFunc],
+    places: &mut Places,
+    sink: &mut K,
+    depth: u32,
+    span: Span,
+    shell: &Shell,
+    fields: &[GivenField],
+    es: &[TypedExpr],
+) -> Result<Value, Stop>
+    ensures meets { Runs value_of result funcs.now depth
+        (λ c. rules.eval_all es.now [] c
+        (λ xs c1. lift (parts.constructed span (shell_of shell.now) (all_given fields.now) xs) c1 (rules.give c1)))
+        places.old (K.written sink.old) places.new (K.written sink.new) }
+    ensures counts { Counts result (K.faults sink.old) (K.faults sink.new) }
+    ensures same_full { K.full sink.new ≡ K.full sink.old }
+{
+    let xs = eval_all(alloc, funcs, places, sink, depth, es)?;
+    Ok(construct(alloc, span, shell, fields, xs.as_slice())?)
+}
+
+#[cycle(eval)]
+fn eval_field<K: Sink>(
+    alloc: Global,
+    funcs: &[TypedFunc],
+    places: &mut Places,
+    sink: &mut K,
+    depth: u32,
+    span: Span,
+    a: &TypedExpr,
+    place: usize,
+) -> Result<Value, Stop>
+    ensures meets { Runs value_of result funcs.now depth
+        (λ c. Eval a.now c (λ x c1. lift (parts.field_in span place x) c1 (rules.give c1)))
+        places.old (K.written sink.old) places.new (K.written sink.new) }
+    ensures counts { Counts result (K.faults sink.old) (K.faults sink.new) }
+    ensures same_full { K.full sink.new ≡ K.full sink.old }
+{
+    let x = eval(alloc, funcs, places, sink, depth, a)?;
+    Ok(field_in(span, place, &x)?)
+}
+
+#[cycle(eval)]
+fn eval_element<K: Sink>(
+    alloc: Global,
+    funcs: &[TypedFunc],
+    places: &mut Places,
+    sink: &mut K,
+    depth: u32,
+    span: Span,
+    a: &TypedExpr,
+    i: &TypedExpr,
+) -> Result<Value, Stop>
+    ensures meets { Runs value_of result funcs.now depth
+        (λ c. Eval a.now c (λ x c1. Eval i.now c1 (λ y c2. lift (element_in span x y) c2 (rules.give c2))))
+        places.old (K.written sink.old) places.new (K.written sink.new) }
+    ensures counts { Counts result (K.faults sink.old) (K.faults sink.new) }
+    ensures same_full { K.full sink.new ≡ K.full sink.old }
+{
+    let x = eval(alloc, funcs, places, sink, depth, a)?;
+    let y = eval(alloc, funcs, places, sink, depth, i)?;
+    Ok(element_of(span, &x, &y)?)
 }

@@ -1,16 +1,15 @@
 //! The interpreter, and the machine that runs checked programs.
 #![tactic(auto)]
 
+mod assignments;
 mod calls;
 mod exprs;
 mod globals;
 mod machine;
-mod operators;
 mod output;
 mod places;
 mod stmts;
 mod stop;
-mod types;
 
 pub use machine::{GlobalVar, Machine, Outcome, RunRefused};
 

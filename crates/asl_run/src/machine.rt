@@ -3,20 +3,22 @@ ghost use Rattle.std.specs.Prelude.{◌≡◌, ◌-◌, OnErr, OnOk, IfOk, map};
 ghost use Rattle.std.specs.Option.{option_copied};
 ghost use Rattle.asl_rules.specs.Machines.{GivenUp, run_of, text_of_run};
 ghost use Rattle.asl_rules.specs.Plans.{starting};
-ghost use Rattle.asl_value.specs.View.{value_of, bindings_of};
+ghost use Rattle.asl_types.specs.Bindings.{bindings_of};
+ghost use Rattle.asl_value.specs.View.{value_of};
 ghost use Rattle.asl_run.specs.Meets.{Counts};
 ghost use Rattle.asl_run.specs.Stages.{Ends, CallMeets, is_ready, OnReady, OnEnded, OnRefused, answer_of, returned_by, uncaught_by, Counted};
 ghost use Rattle.asl_run.specs.Work.{Work, IsCallable, IsNew, HoldStorage, run_with, text_with, EndsWith};
 
 use crate::calls::run;
-use crate::globals::{exchange, initial_globals, room};
+use crate::globals::{copy_globals, exchange, room};
 use crate::places::Places;
 use crate::stop::Stop;
 use asl_io::Sink;
 use asl_syn::code::DynCode;
 use asl_syn::token::Span;
 use asl_tree::{Checked, SubId};
-use asl_value::{Binding, Value};
+use asl_types::Binding;
+use asl_value::Value;
 use std::alloc::{AllocError, Global};
 use std::marker::Model;
 
@@ -63,7 +65,7 @@ pub struct Machine {
 }
 
 impl Model for Machine {
-    ghost use Rattle.asl_value.specs.View.{bindings_of};
+    ghost use Rattle.asl_types.specs.Bindings.{bindings_of};
     ghost use Rattle.asl_run.specs.Stages.{OnReady};
     ghost use Rattle.asl_run.specs.Work.{Work, work_code, HoldStorage};
 
@@ -81,7 +83,7 @@ impl Machine {
     pub fn new(alloc: Global, checked: Checked, steps: u64) -> Result<Machine, AllocError>
         ensures { IfOk result (λ m. IsNew m checked steps) }
     {
-        let globals = initial_globals(alloc, checked.program().decls.as_slice())?;
+        let globals = copy_globals(alloc, checked.globals())?;
         Ok(Machine {
             checked,
             globals,

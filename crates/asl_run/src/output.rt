@@ -9,7 +9,7 @@ ghost use Rattle.asl_run.specs.Pieces.{piece_text};
 
 use crate::stop::Stop;
 use asl_io::{Sink, put_all};
-use asl_value::{Value, show};
+use asl_value::{Value, leaves_open, show};
 
 /// Whether text is open once these bytes are written: it isn't empty and doesn't end in a line feed.
 #[tactic(auto, using(crate::proofs::Pieces::open_end))]
@@ -43,7 +43,7 @@ pub fn put_value<K: Sink>(text_open: &mut bool, sink: &mut K, value: &Value) -> 
     ensures same_full { K.full sink.new ≡ K.full sink.old }
 {
     show(value, sink)?;
-    *text_open = true;
+    *text_open = leaves_open(*text_open, value);
     Ok(())
 }
 

@@ -1,19 +1,24 @@
 //! What a run works on, and its places.
-ghost use Rattle.std.specs.Prelude.{◌≡◌, OnOk, option_map};
+ghost use Rattle.std.specs.Prelude.{◌≡◌, Bool, List, ◌∷◌, OnOk, length, map, option_map};
 ghost use Rattle.std.specs.Option.{option_copied};
 ghost use Rattle.asl_rules.specs.Evaluation.{known};
-ghost use Rattle.asl_rules.specs.Plans.{Ret, lift};
-ghost use Rattle.asl_tree.specs.TypedMeaning as rules;
+ghost use Rattle.asl_rules.specs.Plans.{Good, Ret, lift};
+ghost use Rattle.asl_rules.specs.Values as values;
 ghost use Rattle.asl_rules.specs.Values.{Normal};
+ghost use Rattle.asl_syn.specs.declared.token.Span.{Span};
+ghost use Rattle.asl_tree.specs.declared.typed.Binds.TheVariants as bound;
+ghost use Rattle.asl_tree.specs.TypedMeaning as rules;
+ghost use Rattle.asl_value.specs.Forms.{all_steps};
 ghost use Rattle.asl_value.specs.View.{value_of};
-ghost use Rattle.asl_run.specs.Meets.{Acts, Is, NoneRefused};
+ghost use Rattle.asl_run.specs.Meets.{Acts, Is, NoneRefused, Stores};
+ghost use Rattle.asl_run.specs.Stores.{stored_in};
 ghost use Rattle.asl_run.specs.View.{core_of};
 
 use crate::stop::{Exit, Mistake, Stop};
 use asl_syn::token::Span;
 use asl_tree::SubId;
-use asl_tree::typed::{Slot, Ty};
-use asl_value::{Value, copy};
+use asl_tree::typed::{Binds, Slot};
+use asl_value::{Step, Value, copy, replace};
 use std::alloc::{AllocError, Global};
 
 /// The state that nodes read and change, each place with its value, and the meter that no node reads.
@@ -44,12 +49,12 @@ fn value_at(places: &Places, slot: Slot) -> Option<&Value>
     }
 }
 
-/// A copy of the value in a place.
-pub fn read(alloc: Global, places: &Places, span: Span, slot: Slot) -> Result<Value, Stop>
+/// A copy of the value in a place, over the same parts.
+pub fn read(places: &Places, span: Span, slot: Slot) -> Result<Value, Stop>
     ensures { Is value_of result (known span (rules.value_at slot (core_of places.now))) }
 {
     match value_at(places, slot) {
-        Some(value) => Ok(copy(alloc, value)?),
+        Some(value) => Ok(copy(value)?),
         None => Err(Stop::Stuck(Mistake::UnknownName, span)),
     }
 }
@@ -81,10 +86,56 @@ pub fn assign(places: &mut Places, span: Span, slot: Slot, value: Value) -> Resu
     Ok(Exit::Normal)
 }
 
+/// A store at the end of these steps from one of the values, in place where each part on the way has one owner.
+fn store_in(
+    alloc: Global,
+    values: &mut Vec<Value>,
+    span: Span,
+    at: usize,
+    steps: &[Step],
+    value: Value,
+) -> Result<(), Stop>
+    ensures stores { Stores result
+        (stored_in span at (all_steps steps.now) (value_of value) (map value_of values.old.items))
+        values.old.items values.new.items }
+{
+    if at >= values.len() {
+        return Err(Stop::Stuck(Mistake::UnknownName, span));
+    }
+    replace(alloc, &mut values[at], steps, value)?;
+    Ok(())
+}
+
+/// A store at the end of these steps from a place. At a fault the place holds what it held.
+pub fn assign_at(
+    alloc: Global,
+    places: &mut Places,
+    span: Span,
+    slot: Slot,
+    steps: &[Step],
+    value: Value,
+) -> Result<Exit, Stop>
+    ensures acts { Acts result
+        (λ c. lift (rules.put_at span slot (all_steps steps.now) (value_of value) c) c (λ c1. Ret Normal c1))
+        places.old places.new }
+    ensures none_refused { NoneRefused result }
+{
+    match slot {
+        Slot::Local(i) => {
+            store_in(alloc, &mut places.frame, span, i, steps, value)?;
+            Ok(Exit::Normal)
+        }
+        Slot::Global(i) => {
+            store_in(alloc, &mut places.globals, span, i, steps, value)?;
+            Ok(Exit::Normal)
+        }
+    }
+}
+
 // ---- declaring
 
 /// The next place of the frame takes a value.
-pub fn push(places: &mut Places, value: Value) -> Result<(), AllocError>
+fn push(places: &mut Places, value: Value) -> Result<(), AllocError>
     ensures ok { OnOk result (core_of places.new ≡ rules.pushed (value_of value) (core_of places.old)) }
     ensures steps { places.new.steps ≡ places.old.steps }
     ensures text_open { places.new.text_open ≡ places.old.text_open }
@@ -93,39 +144,116 @@ pub fn push(places: &mut Places, value: Value) -> Result<(), AllocError>
     Ok(())
 }
 
-/// The first value of a type.
-fn first(ty: Ty) -> Value
-    ensures { value_of result ≡ rules.first_value ty }
-{
-    match ty {
-        Ty::Integer => Value::Int(0),
-        Ty::Boolean => Value::Bool(false),
-    }
-}
-
-/// So many places take the first value of a type.
+/// So many places take a copy of this value.
 #[tactic(auto, using(crate::proofs::Slots::pushed_more, crate::proofs::Slots::pushed_none))]
-fn push_first(places: &mut Places, count: usize, ty: Ty) -> Result<(), AllocError>
+fn push_times(places: &mut Places, count: usize, value: &Value) -> Result<(), AllocError>
     ensures ok { OnOk result
-        (core_of places.new ≡ rules.pushed_times count (rules.first_value ty) (core_of places.old)) }
+        (core_of places.new ≡ rules.pushed_times count (value_of value.now) (core_of places.old)) }
     ensures steps { places.new.steps ≡ places.old.steps }
     ensures text_open { places.new.text_open ≡ places.old.text_open }
 {
     let mut left = count;
     while left > 0 {
-        push(places, first(ty))?;
+        push(places, copy(value)?)?;
         left -= 1;
     }
     Ok(())
 }
 
-/// Declares so many places with the first value of a type.
-pub fn declare_first(places: &mut Places, count: usize, ty: Ty) -> Result<Exit, Stop>
+/// Declares so many places with this value.
+pub fn declare_first(places: &mut Places, count: usize, value: &Value) -> Result<Exit, Stop>
     ensures acts { Acts result
-        (λ c. Ret Normal (rules.pushed_times count (rules.first_value ty) c))
+        (λ c. Ret Normal (rules.pushed_times count (value_of value.now) c))
         places.old places.new }
     ensures none_refused { NoneRefused result }
 {
-    push_first(places, count, ty)?;
+    push_times(places, count, value)?;
     Ok(Exit::Normal)
+}
+
+/// A part takes the next place, where it is taken.
+fn push_part(places: &mut Places, taken: bool, part: &Value) -> Result<(), AllocError>
+    ensures ok { OnOk result ((span : Span) (others : List Bool) (xs : List values.Value)
+        → rules.pushed_each span (taken ∷ others) (value_of part.now ∷ xs) (core_of places.old)
+        ≡ rules.pushed_each span others xs (core_of places.new)) }
+    ensures steps { places.new.steps ≡ places.old.steps }
+    ensures text_open { places.new.text_open ≡ places.old.text_open }
+{
+    if taken {
+        push(places, copy(part)?)?;
+        Ok(())
+    } else {
+        Ok(())
+    }
+}
+
+/// The parts that are taken, of as many, each in the next place.
+fn push_taken(places: &mut Places, taken: &[bool], parts: &[Value]) -> Result<(), AllocError>
+    requires { length taken.now ≡ length parts.now }
+    ensures ok { OnOk result ((span : Span)
+        → rules.pushed_each span taken.now (map value_of parts.now) (core_of places.old)
+        ≡ Good (core_of places.new)) }
+    ensures steps { places.new.steps ≡ places.old.steps }
+    ensures text_open { places.new.text_open ≡ places.old.text_open }
+{
+    let mut i = 0;
+    while i < parts.len() {
+        push_part(places, taken[i], &parts[i])?;
+        i += 1;
+    }
+    Ok(())
+}
+
+/// Declares the parts that are taken, where there are as many.
+fn declare_parts(
+    places: &mut Places,
+    span: Span,
+    taken: &[bool],
+    parts: &[Value],
+) -> Result<Exit, Stop>
+    ensures acts { Acts result
+        (λ c. lift (rules.pushed_each span taken.now (map value_of parts.now) c) c (λ c1. Ret Normal c1))
+        places.old places.new }
+    ensures none_refused { NoneRefused result }
+{
+    if taken.len() != parts.len() {
+        return Err(Stop::Stuck(Mistake::WrongKind, span));
+    }
+    push_taken(places, taken, parts)?;
+    Ok(Exit::Normal)
+}
+
+/// Declares the parts of a tuple that are taken, where there are as many.
+fn declare_tuple(
+    places: &mut Places,
+    span: Span,
+    taken: &[bool],
+    value: &Value,
+) -> Result<Exit, Stop>
+    ensures acts { Acts result
+        (λ c. lift (rules.taken span (bound.Parts taken.now) (value_of value.now) c) c (λ c1. Ret Normal c1))
+        places.old places.new }
+    ensures none_refused { NoneRefused result }
+{
+    match value {
+        Value::Tuple(parts) => declare_parts(places, span, taken, parts.get().as_slice()),
+        _ => Err(Stop::Stuck(Mistake::WrongKind, span)),
+    }
+}
+
+/// Declares what is taken of a value, each in the next place of the frame.
+pub fn declare(places: &mut Places, span: Span, binds: &Binds, value: Value) -> Result<Exit, Stop>
+    ensures acts { Acts result
+        (λ c. lift (rules.taken span binds.now (value_of value) c) c (λ c1. Ret Normal c1))
+        places.old places.new }
+    ensures none_refused { NoneRefused result }
+{
+    match binds {
+        Binds::Nothing => Ok(Exit::Normal),
+        Binds::One => {
+            push(places, value)?;
+            Ok(Exit::Normal)
+        }
+        Binds::Parts(taken) => declare_tuple(places, span, taken.as_slice(), &value),
+    }
 }

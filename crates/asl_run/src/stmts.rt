@@ -1,24 +1,26 @@
 //! Statements: each function does what the rules say of a node, or of statements in order. Its answer is `Stuck` exactly
 //! where they give no outcome.
-ghost use Rattle.std.specs.Prelude.{◌≡◌};
+ghost use Rattle.std.specs.Prelude.{◌≡◌, []};
 ghost use Rattle.asl_tree.specs.declared.typed.TypedStmt.{out-TypedStmt};
 ghost use Rattle.asl_rules.specs.Plans.{Eval, Ret, lift};
 ghost use Rattle.asl_rules.specs.Values.{Normal, Returned};
 ghost use Rattle.asl_rules.specs.Operators as operators;
 ghost use Rattle.asl_tree.specs.TypedMeaning as rules;
+ghost use Rattle.asl_value.specs.View.{value_of};
+ghost use Rattle.asl_run.specs.Meets.{Counts, Executes, Runs};
 ghost use Rattle.asl_run.specs.View.{exit_of};
-ghost use Rattle.asl_run.specs.Meets.{Counts, Runs, Executes};
 
-use crate::exprs::eval;
-use crate::operators::truth;
+use crate::assignments::store;
+use crate::exprs::{eval, eval_all};
 use crate::output::{put, put_string, put_value};
-use crate::places::{Places, assign, declare_first, push};
+use crate::places::{Places, declare, declare_first};
 use crate::stop::{Exit, Stop};
 use asl_io::Sink;
 use asl_syn::code::DynCode;
 use asl_syn::token::Span;
 use asl_syn::tree::PrintKind;
-use asl_tree::typed::{Slot, TypedBranch, TypedExpr, TypedFunc, TypedItem, TypedStmt};
+use asl_tree::typed::{Binds, TypedBranch, TypedExpr, TypedFunc, TypedItem, TypedPlace, TypedStmt};
+use asl_value::{Value, truth};
 use std::alloc::Global;
 
 fn stmt_span(s: &TypedStmt) -> Span
@@ -27,8 +29,8 @@ fn stmt_span(s: &TypedStmt) -> Span
     match s {
         TypedStmt::Pass(span) => *span,
         TypedStmt::Assert(span, _) => *span,
-        TypedStmt::Declare(span, _) => *span,
-        TypedStmt::DeclareFirst(span, _, _) => *span,
+        TypedStmt::Declare(span, _, _) => *span,
+        TypedStmt::DeclareFirst(span, _, _, _) => *span,
         TypedStmt::Assign(span, _, _) => *span,
         TypedStmt::If(span, _, _, _, _) => *span,
         TypedStmt::Return(span, _) => *span,
@@ -78,10 +80,21 @@ fn exec_node<K: Sink>(
     match s {
         TypedStmt::Pass(_) => Ok(Exit::Normal),
         TypedStmt::Assert(span, e) => exec_assert(alloc, funcs, places, sink, depth, *span, e),
-        TypedStmt::Declare(_, e) => exec_declare(alloc, funcs, places, sink, depth, e),
-        TypedStmt::DeclareFirst(_, count, ty) => declare_first(places, *count, *ty),
-        TypedStmt::Assign(span, slot, e) => {
-            exec_assign(alloc, funcs, places, sink, depth, *span, *slot, e)
+        TypedStmt::Declare(span, binds, e) => {
+            exec_declare(alloc, funcs, places, sink, depth, *span, binds, e)
+        }
+        TypedStmt::DeclareFirst(_, sizes, count, value) => exec_declare_first(
+            alloc,
+            funcs,
+            places,
+            sink,
+            depth,
+            sizes.as_slice(),
+            *count,
+            value,
+        ),
+        TypedStmt::Assign(_, targets, e) => {
+            exec_assign(alloc, funcs, places, sink, depth, targets.as_slice(), e)
         }
         TypedStmt::If(span, e, first, others, last) => exec_if(
             alloc,
@@ -132,17 +145,39 @@ fn exec_declare<K: Sink>(
     places: &mut Places,
     sink: &mut K,
     depth: u32,
+    span: Span,
+    binds: &Binds,
     e: &TypedExpr,
 ) -> Result<Exit, Stop>
     ensures meets { Runs exit_of result funcs.now depth
-        (λ c. Eval e.now c (λ x c1. Ret Normal (rules.pushed x c1)))
+        (λ c. Eval e.now c (λ x c1. lift (rules.taken span binds.now x c1) c1 (λ c2. Ret Normal c2)))
         places.old (K.written sink.old) places.new (K.written sink.new) }
     ensures counts { Counts result (K.faults sink.old) (K.faults sink.new) }
     ensures same_full { K.full sink.new ≡ K.full sink.old }
 {
     let x = eval(alloc, funcs, places, sink, depth, e)?;
-    push(places, x)?;
-    Ok(Exit::Normal)
+    declare(places, span, binds, x)
+}
+
+/// The sizes in a type are evaluated, and then so many places take its first value.
+fn exec_declare_first<K: Sink>(
+    alloc: Global,
+    funcs: &[TypedFunc],
+    places: &mut Places,
+    sink: &mut K,
+    depth: u32,
+    sizes: &[TypedExpr],
+    count: usize,
+    value: &Value,
+) -> Result<Exit, Stop>
+    ensures meets { Runs exit_of result funcs.now depth
+        (λ c. rules.eval_all sizes.now [] c (λ zs c1. Ret Normal (rules.pushed_times count (value_of value.now) c1)))
+        places.old (K.written sink.old) places.new (K.written sink.new) }
+    ensures counts { Counts result (K.faults sink.old) (K.faults sink.new) }
+    ensures same_full { K.full sink.new ≡ K.full sink.old }
+{
+    let _sizes = eval_all(alloc, funcs, places, sink, depth, sizes)?;
+    declare_first(places, count, value)
 }
 
 fn exec_assign<K: Sink>(
@@ -151,18 +186,17 @@ fn exec_assign<K: Sink>(
     places: &mut Places,
     sink: &mut K,
     depth: u32,
-    span: Span,
-    slot: Slot,
+    targets: &[TypedPlace],
     e: &TypedExpr,
 ) -> Result<Exit, Stop>
     ensures meets { Runs exit_of result funcs.now depth
-        (λ c. Eval e.now c (λ x c1. lift (rules.put span slot x c1) c1 (λ c2. Ret Normal c2)))
+        (λ c. Eval e.now c (λ x c1. rules.store_each targets.now x c1))
         places.old (K.written sink.old) places.new (K.written sink.new) }
     ensures counts { Counts result (K.faults sink.old) (K.faults sink.new) }
     ensures same_full { K.full sink.new ≡ K.full sink.old }
 {
     let x = eval(alloc, funcs, places, sink, depth, e)?;
-    assign(places, span, slot, x)
+    store(alloc, funcs, places, sink, depth, targets, x)
 }
 
 fn exec_return<K: Sink>(

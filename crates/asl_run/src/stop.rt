@@ -3,7 +3,7 @@
 use asl_io::SinkFault;
 use asl_syn::code::DynCode;
 use asl_syn::token::Span;
-use asl_value::Value;
+use asl_value::{Failure, Value};
 use std::alloc::{AllocError, AllocFailed};
 
 /// How a statement ends: normally, or with `return`, which gives a value or none.
@@ -69,5 +69,20 @@ impl From<SinkFault> for Stop {
 
     fn from(_fault: SinkFault) -> Stop {
         Stop::SinkFault
+    }
+}
+
+impl From<Failure> for Stop {
+    ghost use Rattle.std.specs.Prelude.{◌≡◌};
+    ghost use Rattle.asl_run.specs.View.{stop_of};
+
+    ghost from_gives = { λ f e. e ≡ stop_of f };
+
+    fn from(failure: Failure) -> Stop {
+        match failure {
+            Failure::Fault(code, span) => Stop::Fault(code, span),
+            Failure::WrongKind(span) => Stop::Stuck(Mistake::WrongKind, span),
+            Failure::NoMemory => Stop::NoMemory,
+        }
     }
 }

@@ -60,12 +60,6 @@ pub lift_same : {A B : Type 0} (tm : Meaning BareCore TypedExpr TypedStmt) (m : 
 lift_same tm m (Good x) c k j h go = go x
 lift_same tm m (Bad e) c k j h go = refl
 
--- a new state
-pub lift_core_same : {B : Type 0} (tm : Meaning BareCore TypedExpr TypedStmt) (m : Meaning Core Expr Stmt) (r : Pure Core) (c : Core) (k : BareCore → bare.DoesBare B) (j : Core → untyped.Does B) (h : Meter) →
-    ((c1 : Core) → run tm (k (erased c1)) h ≡ erased_outcome (run m (j c1) h)) → run tm (lift (map_pure erased r) (erased c) k) h ≡ erased_outcome (run m (lift r c j) h)
-lift_core_same tm m (Good c1) c k j h go = go c1
-lift_core_same tm m (Bad e) c k j h go = refl
-
 enter_at : {A : Type 0} (span : Span) (deep : Bool) (c : Core) (h : Meter) (k : Meter → Outcome BareCore A) (j : Meter → Outcome Core A) → ((h1 : Meter) → k h1 ≡ erased_outcome (j h1)) → (b : Bool) →
     cond b (Halt (Faulted D13 span) (erased c) h) (cond deep (Halt (Faulted D12 span) (erased c) h) (k (record h { steps = h.steps - 1 })))
     ≡ erased_outcome (cond b (Halt (Faulted D13 span) c h) (cond deep (Halt (Faulted D12 span) c h) (j (record h { steps = h.steps - 1 }))))

@@ -1,6 +1,17 @@
+pub mod Backs
+pub mod MadeFound
+pub mod Outside
 pub mod Places
 pub mod Erasing
+pub mod FieldPlaces
+pub mod Steps
+pub mod Construct
 pub mod SameExprs
+pub mod Names
+pub mod Binding
+pub mod SizeTrees
+pub mod TargetPlaces
+pub mod SameStores
 pub mod SameStmts
 pub mod SameCalls
 pub mod TypedRuns

@@ -1,3 +1,4 @@
+pub mod Back
 pub mod Elaboration
 pub mod TypedMeaning
 pub mod Erasure

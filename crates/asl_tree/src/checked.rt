@@ -1,9 +1,12 @@
 //! Programs that are well formed.
 ghost use Rattle.std.specs.Prelude.{◌≡◌, ℕ, Option};
-ghost use Rattle.asl_tree.specs.Accepted.{Accepted, IsWellFormed, IsElaborated};
+ghost use Rattle.asl_types.specs.Bindings.{bindings_of};
+ghost use Rattle.asl_rules.specs.Evaluation.{initial_globals};
+ghost use Rattle.asl_tree.specs.Accepted.{Accepted, IsWellFormed, IsElaborated, IsInitial};
 
 use crate::typed::TypedFunc;
 use asl_syn::tree::Program;
+use asl_types::Binding;
 use std::marker::Model;
 
 /// The number of a subprogram in source order, from 0.
@@ -36,17 +39,19 @@ impl SubId {
     }
 }
 
-/// A program that is well formed with its entry, and the typed trees of its subprograms. Contracts see its declarations and
-/// the number of the entry: the declarations determine the typed trees.
+/// A program that is well formed with its entry, the typed trees of its subprograms, and its globals with their initial
+/// values. Contracts see its declarations and the number of the entry: the declarations determine the typed trees and the
+/// globals.
 #[derive(Drop)]
 pub struct Checked {
     program: Program,
     entry: Option<SubId>,
     funcs: Vec<TypedFunc>,
+    globals: Vec<Binding>,
 }
 
 impl Model for Checked {
-    ghost use Rattle.asl_tree.specs.Accepted.{Accepted, accepted_code, IsWellFormed, IsElaborated};
+    ghost use Rattle.asl_tree.specs.Accepted.{Accepted, accepted_code, IsWellFormed, IsElaborated, IsInitial};
 
     ghost Value = { Accepted };
 
@@ -54,21 +59,28 @@ impl Model for Checked {
 
     ghost view = { λ c. record { decls = c.program.decls; entry = c.entry } };
 
-    ghost invariant = { λ c. IsWellFormed c.program.decls c.entry × IsElaborated c.program.decls c.funcs.items };
+    ghost invariant = { λ c. IsWellFormed c.program.decls c.entry × IsElaborated c.program.decls c.funcs.items × IsInitial c.program.decls c.globals.items };
 }
 
 impl Checked {
     /// Seals a program that is well formed with this entry, none where it was checked without one, with the typed trees of
-    /// its subprograms in source order.
-    pub fn seal(program: Program, entry: Option<SubId>, funcs: Vec<TypedFunc>) -> Checked
+    /// its subprograms and its globals with their initial values, each in source order.
+    pub fn seal(
+        program: Program,
+        entry: Option<SubId>,
+        funcs: Vec<TypedFunc>,
+        globals: Vec<Binding>,
+    ) -> Checked
         requires well_formed { IsWellFormed program.decls entry }
         requires elaborated { IsElaborated program.decls funcs.items }
+        requires initial { IsInitial program.decls globals.items }
         ensures { result ≡ record { decls = program.decls; entry = entry } }
     {
         Checked {
             program,
             entry,
             funcs,
+            globals,
         }
     }
 
@@ -93,5 +105,12 @@ impl Checked {
         ensures well_formed { IsWellFormed self.now.decls self.now.entry }
     {
         self.funcs.as_slice()
+    }
+
+    /// The globals with their initial values, in source order.
+    pub fn globals(&self) -> &[Binding]
+        ensures initial { bindings_of result.now ≡ initial_globals self.now.decls }
+    {
+        self.globals.as_slice()
     }
 }

@@ -1,6 +1,6 @@
 use Rattle.std.proofs.Common.{◌≡◌, drop}
 use Rattle.asl_rules.specs.Report.{globals_text}
-use Rattle.asl_value.specs.View.{bindings_of}
+use Rattle.asl_types.specs.Bindings.{bindings_of}
 use Rattle.asl_cmd.specs.Writes.{TakesFront}
 use Rattle.asl_cmd.proofs.running.put_globals.Given as goal
 

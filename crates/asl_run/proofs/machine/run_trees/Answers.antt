@@ -1,7 +1,8 @@
 use Rattle.std.proofs.Common.{rules, map}
 use Rattle.std.proofs.lemmas.Result.{err_from_is_err_and}
 use Rattle.asl_rules.specs.Plans.{starting}
-use Rattle.asl_value.specs.View.{value_of, bindings_of}
+use Rattle.asl_types.specs.Bindings.{bindings_of}
+use Rattle.asl_value.specs.View.{value_of}
 use Rattle.asl_run.specs.View.{meter_of}
 use Rattle.asl_run.proofs.Runs.{not_begun}
 use Rattle.asl_run.proofs.SameRuns.{call_meets, returned_held}

@@ -1,0 +1,4 @@
+pub mod Deciding
+pub mod InOrder
+pub mod GivenLemmas
+pub mod Filling

@@ -1,0 +1,2 @@
+pub mod Unknowns
+pub mod Finds

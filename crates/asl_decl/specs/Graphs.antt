@@ -1,0 +1,86 @@
+-- Declarations by their places, and which of them use which.
+use Rattle.std.specs.Prelude.{ℕ, ◌+◌, List, [], ◌∷◌, ◌++◌, map, Option, None, Some}
+use Rattle.std.specs.Str.{bytes_eq}
+use Rattle.std.specs.Map.{lookup}
+use Rattle.asl_syn.specs.declared.tree.Decl.{Decl}
+use Rattle.asl_syn.specs.declared.tree.Decl.TheVariants as dc
+use Rattle.asl_syn.specs.declared.tree.Ident.{Ident}
+use Rattle.asl_rules.specs.Names.{labels_of}
+use Rattle.asl_syn.specs.declared.tree.Bitfield.{Bitfield}
+use Rattle.asl_syn.specs.declared.tree.ConstraintPart.{ConstraintPart}
+use Rattle.asl_syn.specs.declared.tree.FieldValue.{FieldValue}
+use Rattle.asl_syn.specs.declared.tree.Pattern.{Pattern}
+use Rattle.asl_syn.specs.declared.tree.Slice.{Slice}
+use Rattle.asl_syn.specs.declared.tree.Bitfield.TheFolds.{fold-Bitfield, fold-ConstraintPart, fold-FieldValue, fold-Pattern, fold-Slice}
+use Rattle.asl_rules.specs.Uses.{Used, uses, in_bitfield, in_part, in_expr, in_field, in_pattern, in_slice, in_type}
+
+-- names, each with the place of a declaration
+abbrev pub Places : Type 0
+Places = List (List ℕ × ℕ)
+
+abbrev pub place_of : List ℕ → Places → Option ℕ
+place_of name table = lookup (bytes_eq name) table
+
+-- a name is kept where it isn't there
+abbrev pub with_first : Option ℕ → List ℕ → ℕ → Places → Places
+with_first (Some n) name place table = table
+with_first None name place table = table ++ (name, place) ∷ []
+
+abbrev pub with_place : List ℕ → ℕ → Places → Places
+with_place name place table = with_first (place_of name table) name place table
+
+abbrev pub kept : Places → Places → Places
+kept [] table = table
+kept (p ∷ ps) table = kept ps (with_place p.0 p.1 table)
+
+-- the names of a type, with its labels, or of storage
+abbrev pub plain_names : Decl → List Ident
+plain_names (dc.Type d) = d.name ∷ labels_of d.def
+plain_names (dc.Storage d) = d.name ∷ []
+plain_names (dc.Func f) = []
+
+abbrev pub named_at : ℕ → List Ident → Places
+named_at place [] = []
+named_at place (i ∷ is) = (i.text, place) ∷ named_at place is
+
+-- the names of these declarations, of which the first has this place
+abbrev pub all_places : ℕ → List Decl → Places
+all_places place [] = []
+all_places place (d ∷ ds) = named_at place (plain_names d) ++ all_places (place + 1) ds
+
+-- where each name is declared
+abbrev pub declarers : List Decl → Places
+declarers ds = kept (all_places 0 ds) []
+
+abbrev pub with_used : Option ℕ → List ℕ → List ℕ
+with_used None places = places
+with_used (Some n) places = places ++ n ∷ []
+
+-- and then the places of these names
+abbrev pub added : Places → Used → List ℕ → List ℕ
+added table [] places = places
+added table (u ∷ us) places = added table us (with_used (place_of u table) places)
+
+-- of each declaration the places of those that it uses
+abbrev pub graph_by : Places → List Decl → List (List ℕ)
+graph_by table ds = map (λ d. added table (uses d) []) ds
+
+abbrev pub graph_of : List Decl → List (List ℕ)
+graph_of ds = graph_by (declarers ds) ds
+
+-- ---- the names in parts of expressions and types
+
+abbrev pub used_by_bitfield : Bitfield → Used
+used_by_bitfield = fold-Bitfield Used Used Used Used Used Used Used in_bitfield in_part in_expr in_field in_pattern in_slice in_type
+
+abbrev pub used_by_part : ConstraintPart → Used
+used_by_part = fold-ConstraintPart Used Used Used Used Used Used Used in_bitfield in_part in_expr in_field in_pattern in_slice in_type
+
+abbrev pub used_by_field : FieldValue → Used
+used_by_field = fold-FieldValue Used Used Used Used Used Used Used in_bitfield in_part in_expr in_field in_pattern in_slice in_type
+
+abbrev pub used_by_pattern : Pattern → Used
+used_by_pattern = fold-Pattern Used Used Used Used Used Used Used in_bitfield in_part in_expr in_field in_pattern in_slice in_type
+
+abbrev pub used_by_slice : Slice → Used
+used_by_slice = fold-Slice Used Used Used Used Used Used Used in_bitfield in_part in_expr in_field in_pattern in_slice in_type

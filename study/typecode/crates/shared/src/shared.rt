@@ -1,0 +1,56 @@
+ghost use Rattle.std.specs.Prelude.{◌≡◌, IfOk, MatchResult};
+
+use std::alloc::{AllocError, Global};
+use std::marker::Model;
+use std::rc::Rc;
+
+/// An `Rc` that contracts see as its value.
+#[derive(Debug, Drop)]
+pub struct Shared<T> {
+    inner: Rc<T>,
+}
+
+impl<T> Model for Shared<T> {
+    ghost Value = { T };
+
+    ghost coded = { T.code };
+
+    ghost view = { λ s. s.inner.value };
+}
+
+impl<T> Shared<T> {
+    pub fn get(&self) -> &T
+        ensures { result.now ≡ self.now }
+    {
+        self.inner.as_ref()
+    }
+
+    /// The value, if this is its sole owner.
+    pub fn take(self) -> Result<T, Shared<T>>
+        ensures { MatchResult result (λ value. value ≡ self) (λ shared. shared ≡ self) }
+    {
+        match Rc::try_unwrap(self.inner) {
+            Ok(value) => Ok(value),
+            Err(inner) => Err(Shared { inner }),
+        }
+    }
+}
+
+impl<T: Drop> Shared<T> {
+    pub fn new(alloc: Global, value: T) -> Result<Shared<T>, AllocError>
+        ensures { IfOk result (λ s. s ≡ value) }
+    {
+        Ok(Shared {
+            inner: Rc::new(alloc, value)?,
+        })
+    }
+
+    /// A further owner of the same value.
+    pub fn share(&self) -> Result<Shared<T>, AllocError>
+        ensures { IfOk result (λ s. s ≡ self.now) }
+    {
+        Ok(Shared {
+            inner: self.inner.clone()?,
+        })
+    }
+}
