@@ -20,9 +20,9 @@ use Rattle.asl_tree.specs.declared.typed.TypedExpr.{TypedExpr}
 use Rattle.asl_tree.specs.declared.typed.TypedBranch.{TypedBranch}
 use Rattle.asl_tree.specs.declared.typed.TypedStmt.TheVariants as tv
 use Rattle.asl_tree.specs.declared.typed.TypedStmt.{TypedStmt}
-use Rattle.asl_tree.specs.Back.{value_back}
+use Rattle.asl_types.specs.Back.{value_back}
 use Rattle.asl_tree.specs.Elaboration.{Elaborated, StmtOf, elaborated, made_type, first_value, names_after, names_declared, elaborated_stmt, elaborated_branch, stmt_rule, branch_rule, trees_of, branches_of}
-use Rattle.asl_tree.proofs.Backs.{value_code}
+use Rattle.asl_types.proofs.ValuesBack.{value_same}
 use Rattle.asl_rules.specs.declared.effect.Effect.{Effect}
 use Rattle.asl_rules.specs.Faults.{◌>>=◌, ◌>>◌}
 use Rattle.asl_rules.specs.Types.{Ty}
@@ -134,7 +134,7 @@ if_tree s span c first last others tree firsts lasts branches G G1 G2 is k1 k2 h
 vars_made : (span : Span) (is : List Ident) (t : TypeExpr) (G : Scope) (T : Ty) (sizes : List TypedExpr) (x : Value) → written t G ≡ Ok T → sizes ≡ (made_type t).sizes G → value_of x ≡ initial_value T →
     tv.DeclareFirst span sizes (length is) x ≡ vars_tree span is t G
 vars_made span is t G T sizes x w s v =
-    let first : x ≡ first_value (written t G) = sym (value_code x) ∙ ap value_back v ∙ sym (ap first_value w) in
+    let first : x ≡ first_value (written t G) = sym (value_same x) ∙ ap value_back v ∙ sym (ap first_value w) in
     λ i. tv.DeclareFirst span (s i) (length is) (first i)
 
 type_written : (t : TypeExpr) (G : Scope) (T : Ty) → type_walk t G ≡ Ok T → written t G ≡ Ok T

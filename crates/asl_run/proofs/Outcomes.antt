@@ -10,12 +10,12 @@ use Rattle.asl_rules.specs.Plans.{Meter, Mistake, UnknownName, WrongKind, Immuta
 use Rattle.asl_value.specs.declared.value.Value as values
 use Rattle.asl_value.specs.contracts.value.Value as rows
 use Rattle.asl_value.specs.View.{value_of}
-use Rattle.asl_tree.specs.Back.{value_back}
+use Rattle.asl_types.specs.Back.{value_back}
 use Rattle.asl_tree.specs.TypedMeaning.{BareCore}
-use Rattle.asl_tree.proofs.Backs.{value_same}
+use Rattle.asl_types.proofs.ValuesBack.{value_there}
 
 coded_value : Coded Value
-coded_value = code_by values.Value rows.the_row.coded value_back value_of value_same
+coded_value = code_by values.Value rows.the_row.coded value_back value_of value_there
 
 mistake_out : Mistake → ℕ
 mistake_out UnknownName = 0

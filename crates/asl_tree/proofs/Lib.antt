@@ -1,4 +1,3 @@
-pub mod Backs
 pub mod MadeFound
 pub mod Outside
 pub mod Places

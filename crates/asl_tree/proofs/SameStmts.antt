@@ -45,7 +45,7 @@ use Rattle.asl_rules.specs.Strings.{string_text}
 use Rattle.asl_rules.specs.Texts.{value_text}
 use Rattle.asl_rules.specs.Evaluation as untyped
 use Rattle.asl_rules.specs.Evaluation.{Does, nodes, meaning, stmt_node, bound_to, declare_all, declare_vars, sizes_in, sized, first_of_pair, eval_sizes}
-use Rattle.asl_tree.specs.Back.{value_back}
+use Rattle.asl_types.specs.Back.{value_back}
 use Rattle.asl_tree.specs.Elaboration.{made, made_type, elaborated, trees_in, trees_of, branches_of, items_of, binds_of, first_value, elaborated_value, elaborated_stmt, elaborated_branch, reading_only, typed_stmt_layer, typed_branch_layer}
 use Rattle.asl_tree.specs.TypedMeaning as bare
 use Rattle.asl_tree.specs.TypedMeaning.{BareCore, DoesBare, typed_meaning, typed_stmt_node, typed_stmt_layer_span, pushed_times, taken}
@@ -59,7 +59,7 @@ use Rattle.asl_rules.proofs.SizeForms.{numbers, AllNumbers, sizes}
 use Rattle.asl_rules.proofs.ListForms.{AllOk, parts_ok, branch_opened, branch_unrolled}
 use Rattle.asl_rules.proofs.Safe.{Safe, Ends, claims}
 use Rattle.asl_rules.proofs.Soundness.{our_forms}
-use Rattle.asl_tree.proofs.Backs.{value_same}
+use Rattle.asl_types.proofs.ValuesBack.{value_there}
 use Rattle.asl_tree.proofs.Names.{stmt_parts, elaborated_out, branch_parts, branch_out, names_are, stmt_lays}
 use Rattle.asl_tree.proofs.Binding.{Steady, bound_steady, bound_same, times_same}
 use Rattle.asl_tree.proofs.SizeTrees.{sizes_are}
@@ -232,7 +232,7 @@ module _ (ds : List Decl) (base : List Entry) (z : Setting ds base) (fs : List T
       ∙ ap (λ es. run (typed_meaning fs d) (bare.eval_all es [] (erased c) (λ zs c1. Ret Normal (pushed_times (length is) (view.value_of (value_back x)) c1))) h) (sizes_are G t)
       ∙ sizes_same below G (sizes_in t) s.numbers_are [] [] c h (λ zs c1. Ret Normal (pushed_times (length is) (view.value_of (value_back x)) c1)) (λ zs c1. declare_vars span is (first_of_pair (sized ds t zs)) c1) s.stand a l
       (λ ys c1 h1 a1.
-      ap (λ v. DoneWith Normal (pushed_times (length is) v (erased c1)) h1) (value_same x)
+      ap (λ v. DoneWith Normal (pushed_times (length is) v (erased c1)) h1) (value_there x)
       ∙ ap (λ c2. DoneWith Normal c2 h1) (times_same is p.value x c1)
       ∙ sym (ap (λ o. erased_outcome (run (meaning ds d) (declare_vars span is (first_of_pair o) c1) h1)) (sym (ap (sized ds t) (append-nil (numbers s.numbers_are))) ∙ s.gives [])))
 

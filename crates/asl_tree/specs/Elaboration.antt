@@ -45,7 +45,7 @@ use Rattle.asl_tree.specs.declared.typed.TypedBranch.{TypedBranch, roll-TypedBra
 use Rattle.asl_tree.specs.declared.typed.TypedBranch.TheOpen as ts
 use Rattle.asl_tree.specs.declared.typed.TypedStmt.{TypedStmt, roll-TypedStmt}
 use Rattle.asl_tree.specs.declared.typed.TypedFunc.{TypedFunc}
-use Rattle.asl_tree.specs.Back.{value_back}
+use Rattle.asl_types.specs.Back.{value_back}
 use Rattle.asl_rules.specs.declared.effect.Effect.TheVariants.{Readonly}
 use Rattle.asl_rules.specs.Types.{Ty, Fields, integer, record_of, exception_of, named, no_field, field}
 use Rattle.asl_rules.specs.Effects.{lesser}

@@ -1,4 +1,3 @@
-pub mod Back
 pub mod Elaboration
 pub mod TypedMeaning
 pub mod Erasure
