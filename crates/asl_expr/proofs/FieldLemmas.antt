@@ -61,7 +61,7 @@ opened : (gs : List FieldValue) (i : ℕ) (g : FieldValue) (fs : Fields) → i <
 opened gs i g fs within here =
     ap (λ hs. given_once (found_fields hs) (names_given (found_fields (take i gs))) fs) (at_next gs i g within here)
     ∙ joined (need (not (has_name (found_field g).name.text (names_given (found_fields (take i gs))))) T15 (found_field g).name.span) (found_or (field_type (found_field g).name.text fs) T15 (found_field g).name.span)
-      (λ T. given_once (found_fields (drop (i + 1) gs)) (names_given (found_fields (take i gs)) ++ (found_field g).name.text ∷ []) fs >>= λ Ts. Ok (T ∷ Ts))
+    (λ T. given_once (found_fields (drop (i + 1) gs)) (names_given (found_fields (take i gs)) ++ (found_field g).name.text ∷ []) fs >>= λ Ts. Ok (T ∷ Ts))
     ∙ ap (λ ns. given_type (found_field g).name (names_given (found_fields (take i gs))) fs >>= λ T. given_once (found_fields (drop (i + 1) gs)) ns fs >>= λ Ts. Ok (T ∷ Ts)) (sym (given_more gs i g within here))
 
 pub types_next : (all : Types) (gs : List FieldValue) (i : ℕ) (g : FieldValue) (n : Ident) (Ts Us : List code.Ty) (x : code.Ty) (fs : Fields) →

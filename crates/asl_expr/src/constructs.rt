@@ -23,10 +23,10 @@ use crate::ends::finish_all;
 use crate::trees;
 use crate::typed::{Operand, Typed};
 use asl_rules::effect::Effect;
+use asl_shared::Shared;
 use asl_syn::code::{Refused, StaticCode};
 use asl_syn::token::Span;
-use asl_syn::tree::{Expr, FieldValue, Ident};
-use asl_shared::Shared;
+use asl_syn::tree::{FieldValue, Ident};
 use asl_tree::typed::TypedExpr;
 use asl_types::answer::fault;
 use asl_types::firsts::Firsts;
@@ -61,16 +61,6 @@ fn name_given(field: &FieldValue) -> &Ident
 {
     match field {
         FieldValue::Given(name, _) => name,
-    }
-}
-
-/// The value of a field that is given.
-pub(crate) fn value_given(field: &FieldValue) -> &Expr
-    ensures found { (found_field field.now).value ≡ rules.found result.now }
-    ensures made { (elaboration.made_field field.now).value ≡ elaboration.made result.now }
-{
-    match field {
-        FieldValue::Given(_, value) => value,
     }
 }
 

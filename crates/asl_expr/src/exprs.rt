@@ -12,7 +12,7 @@ ghost use Rattle.asl_types.specs.Judged.{scope_in};
 ghost use Rattle.asl_expr.specs.Constructs.{found_field, found_fields, construct_of, operand_found};
 ghost use Rattle.asl_expr.specs.Views.{typed_of, operand_of, all_operands, all_found};
 
-use crate::constructs::{type_construct, value_given};
+use crate::constructs::type_construct;
 use crate::ends::{
     finish, type_either, type_element, type_field, type_operation, type_operation_of_one,
     type_tuple,
@@ -222,7 +222,9 @@ fn type_value(
     ensures rule { (returns : Option types.Ty) → Met (λ p. operand_of p.1) result (operand_found (found_field g.now).value (scope_in names.now returns class)) }
     ensures tree { (returns : Option types.Ty) → IfOk result (λ p. p.0 ≡ (made_field g.now).value.tree (scope_in names.now returns class)) }
 {
-    type_operand(alloc, names, class, value_given(g))
+    match g {
+        FieldValue::Given(_, e) => type_operand(alloc, names, class, e),
+    }
 }
 
 /// The typed tree of an expression, with its place and what is found at it, or its fault.

@@ -1,13 +1,12 @@
-use Rattle.std.proofs.Common.{◌≡◌, rules, arith, map, sym, ap, subst, ◌∙◌, Result, IfOk}
+use Rattle.std.proofs.Common.{rules, arith, map, sym, ap, subst, ◌∙◌, Result}
 use Rattle.asl_syn.specs.declared.code.Fault.{Fault}
 use Rattle.asl_rules.specs.Exprs as exprs
 use Rattle.asl_types.specs.Answers.{Met}
-use Rattle.asl_tree.specs.Elaboration.{Made, made_field, values_in}
+use Rattle.asl_tree.specs.Elaboration.{made_field, values_in}
 use Rattle.asl_types.specs.Judged.{scope_in}
-use Rattle.asl_expr.specs.Constructs.{operand_found}
-use Rattle.asl_expr.specs.Views.{typed_of, operand_of, all_operands, tuple_with}
+use Rattle.asl_expr.specs.Views.{typed_of, all_operands, tuple_with}
 use Rattle.asl_expr.proofs.ArmLemmas.{tuple_typed, field_made}
-use Rattle.asl_expr.proofs.ConstructArms.{construct_typed, construct_made}
+use Rattle.asl_expr.proofs.ConstructArms.{construct_typed, construct_made, value_typed, value_made}
 use Rattle.asl_expr.proofs.OperandLemmas.{operands_next, trees_next}
 use Rattle.asl_expr.proofs.ValueLemmas as values
 use Rattle.asl_expr.proofs.exprs.+exprs.Goals as goal
@@ -61,8 +60,8 @@ type_construction-returns-clause-tree t c returns =
 
 pub type_value-returns-clause-rule : goal.type_value-returns-clause-rule
 type_value-returns-clause-rule t c returns =
-    subst (λ (f : exprs.Found). Met (λ p. operand_of p.1) c.type_operand.result (operand_found f (scope_in c.args.names.now returns c.args.class))) (sym c.value_given.ensures.found) (c.type_operand.ensures.rule returns)
+    value_typed c.args.g.now c.e-1.given.0.0 c.e-1.given.0.1.0 _ (scope_in c.args.names.now returns c.args.class) c.type_operand.result c.e-1.given.1 (search rules) (c.type_operand.ensures.rule returns)
 
 pub type_value-returns-clause-tree : goal.type_value-returns-clause-tree
 type_value-returns-clause-tree t c returns =
-    subst (λ (m : Made). IfOk c.type_operand.result (λ p. p.0 ≡ m.tree (scope_in c.args.names.now returns c.args.class))) (sym c.value_given.ensures.made) (c.type_operand.ensures.tree returns)
+    value_made c.args.g.now c.e-1.given.0.0 c.e-1.given.0.1.0 _ (scope_in c.args.names.now returns c.args.class) c.type_operand.result c.e-1.given.1 (search rules) (c.type_operand.ensures.tree returns)
