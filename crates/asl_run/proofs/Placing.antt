@@ -1,5 +1,5 @@
 -- Stores among values and in places.
-use Rattle.std.proofs.Common.{◌≡◌, ℕ, zero, suc, ◌<◌, inl, List, [], ◌∷◌, length, get_or, map, Option, Some, None, Err, refl, sym, ap, ◌∙◌, subst, arith}
+use Rattle.std.proofs.Common.{◌≡◌, ℕ, zero, suc, ◌<◌, inl, List, [], ◌∷◌, length, get_or, map, Option, Some, None, Err, refl, sym, ap, ◌∙◌, arith}
 use Rattle.std.specs.Prelude.{option_map, slice_get, slice_set}
 use Rattle.asl_syn.specs.declared.token.Span.{Span}
 use Rattle.asl_rules.specs.Constants.{◌>>=◌}
@@ -9,7 +9,7 @@ use Rattle.asl_rules.specs.Plans.{Meter, End, Faulted, Stuck, Halt, Pure, Good, 
 use Rattle.asl_rules.specs.Values as rules
 use Rattle.asl_types.specs.declared.slot.Slot.TheVariants.{Local, Global}
 use Rattle.asl_tree.specs.declared.typed.TypedFunc.{TypedFunc}
-use Rattle.asl_tree.specs.TypedMeaning.{BareCore, DoesBare, typed_meaning, typed_cutting, set_at, held, put, put_at}
+use Rattle.asl_tree.specs.TypedMeaning.{BareCore, DoesBare, typed_meaning, typed_cutting, set_at, held, put_at}
 use Rattle.asl_value.specs.declared.failure.Failure.{Failure}
 use Rattle.asl_value.specs.declared.failure.Failure.TheVariants as failure
 use Rattle.asl_value.specs.declared.value.Value.{Value}

@@ -109,18 +109,16 @@ fn wrapped(alloc: Global, form: usize, inner: TypedExpr) -> Result<(TypedExpr, u
 /// So many open nodes of one form after another from this one, or of this form alone, whose value is 1.
 fn open(alloc: Global, from: usize, step: usize, nodes: usize) -> Result<TypedExpr, AllocError> {
     let mut e = int(1);
-    let mut count = 1;
+    let mut left = nodes.saturating_sub(1);
     let mut form = from;
-    while count + 3 <= nodes {
-        let (outer, more) = wrapped(alloc, form, e)?;
+    for _ in 0..nodes {
+        if left == 0 {
+            break;
+        }
+        let (outer, more) = wrapped(alloc, if left < 3 { FORMS } else { form }, e)?;
         e = outer;
-        count += more;
-        form = (form + step) % FORMS;
-    }
-    while count < nodes {
-        let (outer, more) = wrapped(alloc, FORMS, e)?;
-        e = outer;
-        count += more;
+        left = left.saturating_sub(more);
+        form = form.wrapping_add(step) % FORMS;
     }
     Ok(e)
 }

@@ -1,13 +1,9 @@
-use Rattle.std.proofs.Common.{ap, sym, subst}
 use Rattle.std.proofs.lemmas.Result.{err_from_is_err_and}
-use Rattle.asl_rules.specs.Cuts.{cuts}
-use Rattle.asl_rules.specs.Plans.{Ret, lift, run}
+use Rattle.asl_rules.specs.Plans.{Ret}
 use Rattle.asl_rules.specs.Values.{Normal}
-use Rattle.asl_tree.specs.TypedMeaning.{put_at, typed_meaning, typed_cutting}
 use Rattle.asl_value.specs.Forms.{all_steps}
 use Rattle.asl_value.specs.View.{value_of}
-use Rattle.asl_run.specs.Meets.{Meets}
-use Rattle.asl_run.specs.View.{core_of, exit_of, meter_of}
+use Rattle.asl_run.specs.View.{meter_of}
 use Rattle.asl_run.proofs.Placing.{local_failed, global_failed}
 use Rattle.asl_run.proofs.places.assign_at.Goals as goal
 
