@@ -1,5 +1,5 @@
 -- Expressions whose parts were typed: what the rules find, and what is made.
-use Rattle.std.proofs.Common.{◌≡◌, ℕ, List, Result, Ok, map, refl, sym, ap, ◌∙◌}
+use Rattle.std.proofs.Common.{◌≡◌, ℕ, List, Result, Ok, sym, ap, ◌∙◌}
 use Rattle.asl_syn.specs.declared.token.Span.{Span}
 use Rattle.asl_syn.specs.declared.code.Fault.{Fault}
 use Rattle.asl_syn.specs.declared.tree.Expr.{Expr}

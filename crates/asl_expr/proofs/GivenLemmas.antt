@@ -1,10 +1,9 @@
 -- What the first places of names say of the fields of a type and of those that are given.
-use Rattle.std.proofs.Common.{◌≡◌, ℕ, zero, suc, ◌+◌, ◌<◌, ◌≤◌, nat_lt, Bool, true, false, cond, length, get_or, take, List, [], ◌∷◌, ◌++◌, Option, Some, None, option_map, slice_get, map, refl, sym, ap, ◌∙◌, arith}
-use Rattle.std.proofs.lemmas.List.{take_more, take_all}
+use Rattle.std.proofs.Common.{◌≡◌, ℕ, zero, suc, nat_lt, Bool, true, false, cond, take, List, [], ◌∷◌, Option, Some, None, option_map, slice_get, refl, sym, ap, ◌∙◌, arith}
 use Rattle.std.specs.Str.{bytes_eq}
 use Rattle.asl_rules.specs.Types.{Fields, no_field, field}
 use Rattle.asl_rules.specs.Types as types
-use Rattle.asl_rules.specs.Exprs.{field_type, has_name, none_missing}
+use Rattle.asl_rules.specs.Exprs.{field_type, has_name}
 use Rattle.asl_types.specs.declared.ty.FieldType.{FieldType}
 use Rattle.asl_types.specs.Firsts.{Places, first_place, placed}
 use Rattle.asl_types.specs.Places.{place_of}

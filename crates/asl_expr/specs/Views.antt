@@ -1,5 +1,5 @@
 -- What is found at expressions, in the rules and in code, and the ends of expressions whose parts were typed.
-use Rattle.std.specs.Prelude.{ℕ, true, false, List, [], ◌∷◌, Option, Some, None, Result, Ok, map}
+use Rattle.std.specs.Prelude.{true, List, [], ◌∷◌, Result, Ok, map}
 use Rattle.asl_syn.specs.declared.token.Span.{Span}
 use Rattle.asl_syn.specs.declared.code.Fault.{Fault}
 use Rattle.asl_syn.specs.declared.code.StaticCode.TheVariants.{T05, T15}
@@ -10,7 +10,6 @@ use Rattle.asl_syn.specs.declared.tree.BinaryOperator.{BinaryOperator}
 use Rattle.asl_rules.specs.declared.effect.Effect.{Effect}
 use Rattle.asl_rules.specs.declared.effect.Effect.TheVariants.{Pure}
 use Rattle.asl_rules.specs.Faults.{◌>>=◌, ◌>>◌, need, found_or}
-use Rattle.asl_rules.specs.Types as types
 use Rattle.asl_rules.specs.Types.{is_boolean, join, bare, tuple_of}
 use Rattle.asl_rules.specs.Effects.{greater, together, all_together, greatest}
 use Rattle.asl_rules.specs.Widths.{bounded}
