@@ -14,8 +14,8 @@ use Rattle.asl_rules.specs.Names.{Declared, declared_as, declared_by, all_declar
 use Rattle.asl_rules.specs.Uses.{Used, uses, is_declared, declares, any_declared, uses_one_of, leads_by, leads_to, reaches_itself}
 use Rattle.asl_decl.specs.Graphs.{Places, place_of, with_first, with_place, kept, plain_names, named_at, all_places, declarers, with_used, added, graph_of}
 use Rattle.asl_decl.specs.Orders.{Graph, row, has_mark, all_marked, is_among, all_among, each_behind, IsStuck, is_way, HasWay}
-use Rattle.asl_decl.proofs.Tests.{no, some_none, some_same, both, either, or_first, or_second, and_true, same_name, name_is}
-use Rattle.asl_decl.proofs.Lookups.{none_some}
+use Rattle.asl_rules.proofs.Tests.{no, some_none, some_same, both, either, or_first, or_second, and_true, same_name, name_is}
+use Rattle.asl_rules.proofs.Lookups.{none_some}
 use Rattle.asl_decl.proofs.Settling.{In}
 use Rattle.asl_decl.proofs.Distinct.{Distinct, Plain, NotIn, front_not_in, rest_distinct, plain_in}
 use Rattle.asl_decl.proofs.Reaching.{step_of, leads_step, Reaches, short, Ordered, ordered_apart, UsesOne, none_stuck}

@@ -13,7 +13,7 @@ use Rattle.asl_rules.specs.Values.{label}
 use Rattle.asl_rules.specs.Names.{declared_as, labels_of, declared_by}
 use Rattle.asl_rules.specs.Scopes.{Scope, Entry, label_name, global}
 use Rattle.asl_rules.specs.Declarations.{def_rule, supertype_rule, label_entries, type_entries, type_decl_rule, storage_rule, is_var, storage_decl_rule, decl_rule}
-use Rattle.asl_decl.proofs.Inversions.{ok_ok, bind_ok}
+use Rattle.asl_rules.proofs.Inversions.{ok_ok, bind_ok}
 use Rattle.asl_decl.proofs.Distinct.{AllNamed}
 
 labels_named : (T : Ty) (name : List ℕ) (is : List Ident) → AllNamed (map (declared_as false) is) (map (λ (i : Ident). label_name i.text T (label name i.text)) is)

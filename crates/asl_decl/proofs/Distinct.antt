@@ -10,9 +10,9 @@ use Rattle.asl_rules.specs.Names.{library, is_listed, Declared, declared_by, sta
 use Rattle.asl_rules.specs.Scopes.{Entry, Standing, Stored, Subprogram, TypeName, Label, subprogram, standing_of}
 use Rattle.asl_rules.specs.Declarations.{Judged, Waiting, Fine, Faulty, entries_of, entries}
 use Rattle.asl_decl.proofs.Settling.{In}
-use Rattle.asl_decl.proofs.Inversions.{then_ok, need_ok}
-use Rattle.asl_decl.proofs.Tests.{no, some_same, both, same_name, name_is}
-use Rattle.asl_decl.proofs.Lookups.{none_some, behind, before_is}
+use Rattle.asl_rules.proofs.Inversions.{then_ok, need_ok}
+use Rattle.asl_rules.proofs.Tests.{no, some_same, both, same_name, name_is}
+use Rattle.asl_rules.proofs.Lookups.{none_some, behind, before_is}
 
 -- ---- what the rule says of names
 

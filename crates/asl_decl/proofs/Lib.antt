@@ -1,6 +1,3 @@
-pub mod Tests
-pub mod Inversions
-pub mod Lookups
 pub mod Settling
 pub mod Distinct
 pub mod DeclNames

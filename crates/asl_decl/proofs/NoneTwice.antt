@@ -13,9 +13,9 @@ use Rattle.asl_rules.specs.Names.{library, Declared, declared_as, labels_of, dec
 use Rattle.asl_rules.specs.Scopes.{Entry, subprogram, standing_of}
 use Rattle.asl_rules.specs.Declarations.{Judged, Waiting, Fine, Faulty, entries_of, entries, final, names_of_program}
 use Rattle.asl_rules.specs.Programs.{funcs_of, has_name, overloads_rule}
-use Rattle.asl_decl.proofs.Inversions.{then_ok, need_ok}
-use Rattle.asl_decl.proofs.Tests.{no, same_name, name_is}
-use Rattle.asl_decl.proofs.Lookups.{behind}
+use Rattle.asl_rules.proofs.Inversions.{then_ok, need_ok}
+use Rattle.asl_rules.proofs.Tests.{no, same_name, name_is}
+use Rattle.asl_rules.proofs.Lookups.{behind}
 use Rattle.asl_decl.proofs.Distinct.{Distinct, ApartFrom, NotIn, AllNamed, distinct_of, differs, apart_later, behind_library}
 use Rattle.asl_decl.proofs.Rounds.{Named, final_named}
 use Rattle.asl_decl.proofs.Passing.{with_all}

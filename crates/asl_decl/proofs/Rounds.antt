@@ -8,8 +8,8 @@ use Rattle.asl_rules.specs.Names.{library, Declared, declared_by, all_declared}
 use Rattle.asl_rules.specs.Scopes.{Entry, Standing, Stored, Subprogram, TypeName, Label, subprogram, standing_of}
 use Rattle.asl_rules.specs.Uses.{Used, uses, is_declared, declares, any_declared}
 use Rattle.asl_rules.specs.Declarations.{in_names, decl_rule, Judged, Waiting, Fine, Faulty, judged, is_fine, entries_of, entries, fine_where_used, all_fine, judged_by, still, judgement, final}
-use Rattle.asl_decl.proofs.Tests.{no, some_same, both, and_true, name_is, or_first, or_second}
-use Rattle.asl_decl.proofs.Lookups.{none_some}
+use Rattle.asl_rules.proofs.Tests.{no, some_same, both, and_true, name_is, or_first, or_second}
+use Rattle.asl_rules.proofs.Lookups.{none_some}
 use Rattle.asl_decl.proofs.Settling.{In, settled}
 use Rattle.asl_decl.proofs.Distinct.{Distinct, AllNamed, IsPlain, Plain, plain_in, plain_named, plain_new, behind_library, past_library, FoundAt, found_at, own_found}
 use Rattle.asl_decl.proofs.DeclNames.{decl_named}

@@ -12,8 +12,8 @@ use Rattle.asl_rules.specs.Uses.{Used, used_by_type}
 use Rattle.asl_rules.specs.Exprs.{written}
 use Rattle.asl_rules.specs.Declarations.{in_names, Faulty, faulty, final, faults_rule}
 use Rattle.asl_rules.specs.Programs.{result_rule, signatures_rule}
-use Rattle.asl_decl.proofs.Tests.{same_name}
-use Rattle.asl_decl.proofs.Lookups.{behind, before_is}
+use Rattle.asl_rules.proofs.Tests.{same_name}
+use Rattle.asl_rules.proofs.Lookups.{behind, before_is}
 use Rattle.asl_decl.proofs.SameNames.{shown, Agree, bind_same, written_same}
 use Rattle.asl_decl.proofs.Passing.{SameStandings, with_free, with_all}
 

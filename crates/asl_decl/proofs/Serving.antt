@@ -18,8 +18,8 @@ use Rattle.asl_decl.specs.Brought.{with_entries}
 use Rattle.asl_decl.specs.Graphs.{graph_of}
 use Rattle.asl_decl.specs.Orders.{row, has_mark, all_marked, is_among, all_among, each_behind, IsOrder}
 use Rattle.asl_decl.specs.Passes.{Pass, judged_over, names_after, with_judged, after_one, after_at, after_all, before_all}
-use Rattle.asl_decl.proofs.Tests.{no, some_none, some_same, both, either}
-use Rattle.asl_decl.proofs.Lookups.{none_some}
+use Rattle.asl_rules.proofs.Tests.{no, some_none, some_same, both, either}
+use Rattle.asl_rules.proofs.Lookups.{none_some}
 use Rattle.asl_decl.proofs.Settling.{In}
 use Rattle.asl_decl.proofs.Distinct.{Distinct, AllNamed, IsPlain, Plain, plain_named}
 use Rattle.asl_decl.proofs.Rounds.{Named, final_named}

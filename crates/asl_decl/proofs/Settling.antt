@@ -1,6 +1,6 @@
 -- Tests that only ever come to hold, of the members of a list, settle after as many steps as the list is long.
 use Rattle.std.proofs.Common.{◌≡◌, ℕ, zero, suc, ◌+◌, ◌≤◌, ◌⊎◌, inl, inr, Bool, true, false, cond, List, [], ◌∷◌, length, refl, sym, ◌∙◌, subst, arith}
-use Rattle.asl_decl.proofs.Tests.{no}
+use Rattle.asl_rules.proofs.Tests.{no}
 
 -- a member of a list
 abbrev pub In : {A : Type 0} → A → List A → Type 0

@@ -14,7 +14,7 @@ use Rattle.asl_decl.specs.Brought.{with_entries}
 use Rattle.asl_decl.specs.Cycles.{order_rule}
 use Rattle.asl_decl.specs.Passes.{first_fault, with_judgements, names_judged}
 use Rattle.asl_decl.specs.Tables.{table_rule, declarations_rule, subprograms_rule}
-use Rattle.asl_decl.proofs.Inversions.{then_ok}
+use Rattle.asl_rules.proofs.Inversions.{then_ok}
 use Rattle.asl_decl.proofs.Passing.{SameStandings, with_free, with_all}
 use Rattle.asl_decl.proofs.Scoping.{with_all_same, signatures_same}
 use Rattle.asl_decl.proofs.NoneTwice.{scope_is}

@@ -4,7 +4,7 @@ use Rattle.std.specs.Prelude.{◌==◌}
 use Rattle.std.proofs.lemmas.Bool.{eq-eqb, eqb-true, eqb-false}
 use Rattle.std.proofs.lemmas.List.{append-nil}
 use Rattle.asl_decl.specs.Orders.{Graph, row, has_mark, all_marked, is_among, IsListed, is_way, HasWay, MarkedMore, Goes, FoundOne, MarkedTo, ClosedTo, Reached}
-use Rattle.asl_decl.proofs.Tests.{no, both, and_true, either, or_first, or_second}
+use Rattle.asl_rules.proofs.Tests.{no, both, and_true, either, or_first, or_second}
 
 pub among_marked : (marks : List Bool) (ns : List ℕ) (k : ℕ) → all_marked marks ns ≡ true → is_among k ns ≡ true → has_mark marks k ≡ true
 among_marked marks [] k h i = no i
