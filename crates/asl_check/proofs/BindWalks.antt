@@ -128,13 +128,16 @@ counted p c span F = by p.1
     by true = refl
     by false = refl
 
+abbrev uncounted : List Entry × Bool → Result (List Entry × Bool) Fault
+uncounted p = Ok (p.0, false)
+
 parts_walk : (bs : List Binder) (m : Bool) (o : Option Parts) (names : List Entry) (c : Result (Unit {0}) Fault) (span : Span) (F : List Entry → Result Done Fault) →
     (binders_free bs [] names >> (c >> (found_or (bound_in bs m o names) T05 span >>= F))) ≡ (after_parts bs m o names >>= λ p. c >> (need p.1 T05 span >> F p.0))
 parts_walk bs m None names c span F =
     by (binders_free bs [] names)
-    ∙ sym (ap (λ r. (r >>= λ p. Ok (p.0, false)) >>= λ p. c >> (need p.1 T05 span >> F p.0)) (binders_walk bs m no_part true names [] names (free_now names)))
+    ∙ sym (ap (λ r. (r >>= uncounted) >>= λ p. c >> (need p.1 T05 span >> F p.0)) (binders_walk bs m no_part true names [] names (free_now names)))
   where
-    by : (r : Result (Unit {0}) Fault) → (r >> (c >> (found_or None T05 span >>= F))) ≡ (((r >> Ok (ends bs m no_part true names)) >>= λ p. Ok (p.0, false)) >>= λ p. c >> (need p.1 T05 span >> F p.0))
+    by : (r : Result (Unit {0}) Fault) → (r >> (c >> (found_or None T05 span >>= F))) ≡ (((r >> Ok (ends bs m no_part true names)) >>= uncounted) >>= λ p. c >> (need p.1 T05 span >> F p.0))
     by (Ok x) = refl
     by (Err f) = refl
 parts_walk bs m (Some Ts) names c span F =

@@ -4,5 +4,4 @@ use Rattle.asl_check.proofs.program.check.Goals as goal
 
 pub seal-requires-clause-elaborated : goal.seal-requires-clause-elaborated
 seal-requires-clause-elaborated c =
-    subst (λ ds. IsElaborated ds c.in_ok-funcs.funcs.items) c.as_slice.ensures
-    (subst (λ fs. IsElaborated c.as_slice.result.now fs.items) c.in_ok-funcs.funcs-is c.in_ok-funcs.ensures.tree)
+    subst (λ ds. IsElaborated ds c.in_ok-funcs.field-0.funcs.items) c.as_slice.ensures c.in_ok-funcs.ensures.tree

@@ -1,10 +1,6 @@
-use Rattle.std.proofs.Common.{sym, ap, ◌∙◌, map}
-use Rattle.asl_rules.specs.Programs.{funcs_of}
-use Rattle.asl_tree.specs.Elaboration.{elaborated_func}
 use Rattle.asl_check.proofs.Programs.{is_elaborated}
 use Rattle.asl_check.proofs.program.phases.Goals as goal
 
 pub returns-clause-tree : goal.returns-clause-tree
 returns-clause-tree c =
-    is_elaborated c.args.decls.now c.in_ok-names.field-0.names c.in_ok-funcs.funcs.items c.in_ok-names.ensures.rule
-    (c.in_ok-funcs.ensures.tree ∙ ap (λ names. map (elaborated_func names) (funcs_of c.args.decls.now)) (sym c.in_ok-names.names-is))
+    is_elaborated c.args.decls.now c.in_ok-names.field-0.names c.in_ok-funcs.funcs.items c.in_ok-names.ensures.rule c.in_ok-funcs.ensures.tree
