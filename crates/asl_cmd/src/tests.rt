@@ -47,8 +47,7 @@ const JOINED: &str =
 const JOINED_ABOVE_A_SUBTYPE: &str =
     "type X of exception; type Y of X subtypes X; func main() => integer begin var x: X; var y: Y; x = if TRUE then y else x; y = if TRUE then y else x; return 0; end;";
 
-const NEVER_JOINED: &str =
-    "func main() => integer begin return if TRUE then 1 else FALSE; end;";
+const NEVER_JOINED: &str = "func main() => integer begin return if TRUE then 1 else FALSE; end;";
 
 /// A program with forms that aren't served yet.
 const DECODER: &str = "type Bad of exception {code: integer};
@@ -192,12 +191,7 @@ fn lines_over_one_file(rt: HostRuntime) {
             "a.asl:1:126+21: T05\n",
             1,
         ),
-        (
-            "check a.asl",
-            NEVER_JOINED,
-            "a.asl:1:37+25: T05\n",
-            1,
-        ),
+        ("check a.asl", NEVER_JOINED, "a.asl:1:37+25: T05\n", 1),
     ] {
         let (out, status) = answered(rt.alloc(), line, text, 1000).expect(&rt, "memory");
         let written = str::from_utf8(out.bytes()).unwrap_or("no text");

@@ -94,9 +94,7 @@ fn eval(alloc: Global, names: &Scope, e: &Expr) -> Result<Value, Unknown>
                 eval(alloc, names, b.get())
             }
         }
-        Expr::Tuple(_, parts) => {
-            tuple_of(alloc, eval_all(alloc, names, parts.as_slice()))
-        }
+        Expr::Tuple(_, parts) => { tuple_of(alloc, eval_all(alloc, names, parts.as_slice())) }
         Expr::Construct(span, name, fields) => {
             let fields = fields.as_slice();
             let values = eval_given(alloc, names, fields);

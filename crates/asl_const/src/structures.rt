@@ -15,13 +15,16 @@ use asl_syn::token::Span;
 use asl_syn::tree::FieldValue;
 use asl_types::firsts::Firsts;
 use asl_types::{FieldType, Scope, Ty};
-use asl_value::FieldValue as ValueOfField;
-use asl_value::{Name, Names, Value, copy, same_name};
+use asl_value::{FieldValue as ValueOfField, Name, Names, Value, copy, same_name};
 use sqlite_items::Items;
 use std::alloc::{AllocError, Global};
 
 /// The value of a field among these.
-pub(crate) fn field_among(span: Span, name: &[u8], fields: &[ValueOfField]) -> Result<Value, Unknown>
+pub(crate) fn field_among(
+    span: Span,
+    name: &[u8],
+    fields: &[ValueOfField],
+) -> Result<Value, Unknown>
     ensures { Finds value_of result (rules.there span (rules.field_value name.now (all_fields fields.now))) }
 {
     for field in fields {
@@ -101,11 +104,7 @@ fn filled(
 }
 
 /// A record of these fields.
-fn in_record(
-    alloc: Global,
-    name: &Name,
-    fields: Items<ValueOfField>,
-) -> Result<Value, AllocError>
+fn in_record(alloc: Global, name: &Name, fields: Items<ValueOfField>) -> Result<Value, AllocError>
     ensures { IfOk result (λ it. value_of it ≡ record_with name.now (fields_of (map field_of fields))) }
 {
     Ok(Value::Record(name.share()?, Shared::new(alloc, fields)?))
@@ -122,12 +121,7 @@ fn in_exception(
     ensures { IfOk result (λ it. value_of it ≡ exception_with own.now supers.now name.now (fields_of (map field_of fields))) }
 {
     let fields = Shared::new(alloc, fields)?;
-    Ok(Value::Exception(
-        own.share()?,
-        supers.share()?,
-        name.share()?,
-        fields,
-    ))
+    Ok(Value::Exception(own.share()?, supers.share()?, name.share()?, fields))
 }
 
 /// A record of the fields of a type with the values that are given for them.
@@ -189,7 +183,9 @@ fn built(
         }
         Ty::Exception(name, fields) => {
             let fields = fields.get().as_slice();
-            built_exception(alloc, span, own, supers, name, fields, given, firsts, values)
+            built_exception(
+                alloc, span, own, supers, name, fields, given, firsts, values,
+            )
         }
         Ty::Named(_, _, inner) => {
             built(alloc, span, own, supers, inner.get(), given, firsts, values)
@@ -211,7 +207,16 @@ fn construct(
     let firsts = firsts_of(alloc, given)?;
     match ty {
         Ty::Named(name, supers, inner) => {
-            built(alloc, span, name, supers, inner.get(), given, &firsts, values)
+            built(
+                alloc,
+                span,
+                name,
+                supers,
+                inner.get(),
+                given,
+                &firsts,
+                values,
+            )
         }
         _ => {
             let no_name = Shared::new(alloc, Items::new(alloc))?;

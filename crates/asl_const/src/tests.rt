@@ -16,13 +16,14 @@ fn at(n: u32) -> Span {
     }
 }
 
-fn operation(alloc: Global, n: u32, op: BinaryOperator, a: Expr, b: Expr) -> Result<Expr, AllocError> {
-    Ok(Expr::Binary(
-        at(n),
-        op,
-        Boxed::new(alloc, a)?,
-        Boxed::new(alloc, b)?,
-    ))
+fn operation(
+    alloc: Global,
+    n: u32,
+    op: BinaryOperator,
+    a: Expr,
+    b: Expr,
+) -> Result<Expr, AllocError> {
+    Ok(Expr::Binary(at(n), op, Boxed::new(alloc, a)?, Boxed::new(alloc, b)?))
 }
 
 /// `K OP n`
@@ -65,8 +66,20 @@ fn constants_are_evaluated(rt: HostRuntime) {
     let alloc = rt.alloc();
     assert!(rt; is_integer(&of_seven(alloc, BinaryOperator::Add, 2), 9));
     assert!(rt; is_integer(&of_seven(alloc, BinaryOperator::Modulo, 4), 3));
-    assert!(rt; is_fault(&of_seven(alloc, BinaryOperator::DivideExact, 0), DynCode::D02, 2));
-    assert!(rt; is_fault(&of_seven(alloc, BinaryOperator::DivideExact, 2), DynCode::D03, 2));
+    assert!(rt;
+        is_fault(
+            &of_seven(alloc, BinaryOperator::DivideExact, 0),
+            DynCode::D02,
+            2
+        )
+    );
+    assert!(rt;
+        is_fault(
+            &of_seven(alloc, BinaryOperator::DivideExact, 2),
+            DynCode::D03,
+            2
+        )
+    );
 }
 
 /// `if FALSE && (1 DIV 0 == 0) then 1 else 2`
@@ -78,7 +91,13 @@ fn undecided(alloc: Global) -> Result<Expr, AllocError> {
         Expr::Int(at(2), 1),
         Expr::Int(at(3), 0),
     )?;
-    let right = operation(alloc, 4, BinaryOperator::Equal, quotient, Expr::Int(at(5), 0))?;
+    let right = operation(
+        alloc,
+        4,
+        BinaryOperator::Equal,
+        quotient,
+        Expr::Int(at(5), 0),
+    )?;
     let both = operation(
         alloc,
         6,
