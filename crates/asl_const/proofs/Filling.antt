@@ -11,7 +11,7 @@ use Rattle.asl_value.specs.declared.value.FieldValue.{FieldValue}
 use Rattle.asl_value.specs.View.{Of, fields_of, field_of}
 use Rattle.asl_types.specs.declared.ty.FieldType.{FieldType}
 use Rattle.asl_types.specs.View as types
-use Rattle.asl_const.specs.Finds.{of_value, filled_one, filled_after}
+use Rattle.asl_const.specs.Finds.{of_value, filled_after}
 
 pub more_fields : (xs : List FieldValue) (x : FieldValue) → map field_of (xs ++ x ∷ []) ≡ map field_of xs ++ field_of x ∷ []
 more_fields [] x = refl

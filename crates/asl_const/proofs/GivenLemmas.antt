@@ -3,7 +3,7 @@ use Rattle.std.proofs.Common.{◌≡◌, ℕ, zero, suc, Bool, true, false, List
 use Rattle.std.specs.Prelude.{option_map, slice_get}
 use Rattle.std.specs.Str.{bytes_eq}
 use Rattle.asl_rules.specs.Values.{Value}
-use Rattle.asl_rules.specs.Structures.{Given, given_value}
+use Rattle.asl_rules.specs.Structures.{given_value}
 use Rattle.asl_value.specs.declared.value.Value as code
 use Rattle.asl_value.specs.View.{value_of}
 use Rattle.asl_types.specs.Firsts.{Places, first_place, placed}

@@ -4,7 +4,7 @@ use Rattle.asl_rules.specs.Plans.{End, Pure, Good, Bad}
 use Rattle.asl_rules.specs.Values.{Value}
 use Rattle.asl_rules.specs.Scopes.{Entry}
 use Rattle.asl_rules.specs.Structures.{Given}
-use Rattle.asl_rules.specs.Constants.{◌>>=◌, Known, KnownField, all_known, all_given}
+use Rattle.asl_rules.specs.Constants.{◌>>=◌, Known, all_known, all_given}
 use Rattle.asl_syn.specs.declared.tree.FieldValue.{FieldValue}
 use Rattle.asl_value.specs.declared.value.Value as code
 use Rattle.asl_value.specs.View.{value_of}
