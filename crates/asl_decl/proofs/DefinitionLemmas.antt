@@ -9,7 +9,7 @@ use Rattle.asl_rules.specs.Scopes.{Scope}
 use Rattle.asl_rules.specs.Exprs.{written}
 use Rattle.asl_rules.specs.Declarations.{labels, fields_written}
 use Rattle.asl_types.specs.declared.ty.FieldType.{FieldType}
-use Rattle.asl_types.specs.View.{Of, field_of, fields_of, all_fields}
+use Rattle.asl_types.specs.View.{Of, field_of, fields_of}
 use Rattle.asl_decl.specs.Definitions.{of_field, fields_after, names_after, labels_after}
 
 -- ---- fields

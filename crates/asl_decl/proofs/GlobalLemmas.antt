@@ -3,7 +3,6 @@ use Rattle.std.proofs.Common.{◌≡◌, List, [], ◌∷◌, ◌++◌, Option, 
 use Rattle.asl_syn.specs.declared.tree.StorageDecl.{StorageDecl}
 use Rattle.asl_syn.specs.declared.tree.Decl.{Decl}
 use Rattle.asl_syn.specs.declared.tree.Decl.TheVariants as dc
-use Rattle.asl_rules.specs.Types.{Ty}
 use Rattle.asl_rules.specs.Values.{Value}
 use Rattle.asl_rules.specs.Scopes.{Entry, Storage, storage_of}
 use Rattle.asl_rules.specs.States.{Binding}

@@ -1,5 +1,5 @@
 -- A pass after one more was judged, by its parts.
-use Rattle.std.proofs.Common.{◌≡◌, ℕ, Bool, List, set, refl, sym, ap, ◌∙◌}
+use Rattle.std.proofs.Common.{◌≡◌, ℕ, Bool, List, set, ap, ◌∙◌}
 use Rattle.asl_syn.specs.declared.tree.Decl.{Decl}
 use Rattle.asl_rules.specs.Scopes.{Entry}
 use Rattle.asl_rules.specs.Declarations.{Judged, is_fine}

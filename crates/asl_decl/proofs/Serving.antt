@@ -1,5 +1,5 @@
 -- A pass over the nodes of an order judges each declaration as after all rounds.
-use Rattle.std.proofs.Common.{◌≡◌, ℕ, zero, suc, ◌+◌, ◌<◌, ◌⊎◌, inl, inr, Bool, true, false, cond, List, [], ◌∷◌, ◌++◌, length, replicate, set, map, Option, Some, None, refl, sym, ap, ◌∙◌, subst, arith, append_assoc, get_or-set_same, get_or-set_other}
+use Rattle.std.proofs.Common.{◌≡◌, ℕ, zero, suc, ◌<◌, ◌⊎◌, inl, inr, Bool, true, false, cond, List, [], ◌∷◌, ◌++◌, length, set, map, Option, Some, None, refl, sym, ap, ◌∙◌, subst, arith, append_assoc, get_or-set_same, get_or-set_other}
 use Rattle.std.specs.Prelude.{◌==◌}
 use Rattle.std.specs.List.{slice_get}
 use Rattle.std.specs.Str.{bytes_eq}
@@ -10,23 +10,22 @@ use Rattle.asl_syn.specs.declared.tree.Ident.{Ident}
 use Rattle.asl_syn.specs.declared.tree.Func.{Func}
 use Rattle.asl_syn.specs.declared.tree.Decl.{Decl}
 use Rattle.asl_syn.specs.declared.tree.Decl.TheVariants as dc
-use Rattle.asl_rules.specs.Names.{Declared, declared_as, labels_of, declared_by, all_declared, library}
+use Rattle.asl_rules.specs.Names.{declared_as, labels_of, declared_by, all_declared, library}
 use Rattle.asl_rules.specs.Scopes.{Entry, Standing, Subprogram, subprogram, standing_of}
-use Rattle.asl_rules.specs.Uses.{uses_one_of}
 use Rattle.asl_rules.specs.Declarations.{in_names, decl_rule, Judged, Waiting, Fine, Faulty, judged, is_fine, entries_of, final}
 use Rattle.asl_decl.specs.Brought.{with_entries}
 use Rattle.asl_decl.specs.Graphs.{graph_of}
 use Rattle.asl_decl.specs.Orders.{row, has_mark, all_marked, is_among, all_among, each_behind, IsOrder}
-use Rattle.asl_decl.specs.Passes.{Pass, judged_over, names_after, with_judged, after_one, after_at, after_all, before_all}
-use Rattle.asl_rules.proofs.Tests.{no, some_none, some_same, both, either}
+use Rattle.asl_decl.specs.Passes.{Pass, judged_over, names_after, with_judged, after_at, after_all, before_all}
+use Rattle.asl_rules.proofs.Tests.{no, some_same, both, either}
 use Rattle.asl_rules.proofs.Lookups.{none_some}
 use Rattle.asl_decl.proofs.Settling.{In}
 use Rattle.asl_decl.proofs.Distinct.{Distinct, AllNamed, IsPlain, Plain, plain_named}
-use Rattle.asl_decl.proofs.Rounds.{Named, final_named}
+use Rattle.asl_decl.proofs.Rounds.{final_named}
 use Rattle.asl_decl.proofs.Bridge.{At, at_in, in_at, edge_is, edge_at, among_all, one_unmarked}
 use Rattle.asl_decl.proofs.Ways.{among_marked, among_split}
 use Rattle.asl_decl.proofs.CycleLemmas.{at_one}
-use Rattle.asl_decl.proofs.Passing.{SameStandings, Serving, none_serve, same_serve, Ready, judged_here, waits_here, more_serve, skip_serve, with_free, with_all}
+use Rattle.asl_decl.proofs.Passing.{Serving, none_serve, same_serve, Ready, judged_here, waits_here, more_serve, skip_serve, with_free, with_all}
 use Rattle.asl_decl.proofs.Scoping.{with_all_same}
 
 -- ---- places of lists

@@ -1,5 +1,5 @@
 -- The judgements of all declarations are the rule of their faults, and the scope of all bodies.
-use Rattle.std.proofs.Common.{◌≡◌, ℕ, List, [], ◌∷◌, ◌++◌, map, Result, Ok, Err, refl, sym, ap, ◌∙◌, subst}
+use Rattle.std.proofs.Common.{◌≡◌, List, [], ◌∷◌, ◌++◌, map, Result, Ok, Err, refl, sym, ap, ◌∙◌}
 use Rattle.asl_syn.specs.declared.code.Fault.{Fault}
 use Rattle.asl_syn.specs.declared.tree.Decl.{Decl}
 use Rattle.asl_rules.specs.Faults.{◌>>=◌, ◌>>◌}
@@ -7,7 +7,7 @@ use Rattle.asl_rules.specs.Names.{library, names_rule, all_declared}
 use Rattle.asl_rules.specs.Uses.{cycles_rule}
 use Rattle.asl_rules.specs.Scopes.{Entry, subprogram}
 use Rattle.asl_rules.specs.States.{Binding}
-use Rattle.asl_rules.specs.Declarations.{Judged, entries_of, entries, faulty, final, faults_rule, names_of_program, globals_rule}
+use Rattle.asl_rules.specs.Declarations.{Judged, entries_of, entries, faulty, final, faults_rule, names_of_program}
 use Rattle.asl_rules.specs.Programs.{funcs_of, signatures_rule, overloads_rule}
 use Rattle.asl_rules.specs.Evaluation.{globals_among, initial_globals}
 use Rattle.asl_decl.specs.Brought.{with_entries}
@@ -15,7 +15,7 @@ use Rattle.asl_decl.specs.Cycles.{order_rule}
 use Rattle.asl_decl.specs.Passes.{first_fault, with_judgements, names_judged}
 use Rattle.asl_decl.specs.Tables.{table_rule, declarations_rule, subprograms_rule}
 use Rattle.asl_rules.proofs.Inversions.{then_ok}
-use Rattle.asl_decl.proofs.Passing.{SameStandings, with_free, with_all}
+use Rattle.asl_decl.proofs.Passing.{with_free, with_all}
 use Rattle.asl_decl.proofs.Scoping.{with_all_same, signatures_same}
 use Rattle.asl_decl.proofs.NoneTwice.{scope_is}
 use Rattle.asl_decl.proofs.Serving.{entries_all}

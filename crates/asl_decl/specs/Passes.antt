@@ -1,6 +1,6 @@
 -- A pass over declarations in an order: each is judged where all that it uses is well formed, over the names of those
 -- before it.
-use Rattle.std.specs.Prelude.{ℕ, Bool, false, if◌then◌else◌, List, [], ◌∷◌, ◌++◌, length, map, replicate, slice_set, Option, None, Some, Result, Ok}
+use Rattle.std.specs.Prelude.{ℕ, Bool, false, if◌then◌else◌, List, [], ◌∷◌, map, replicate, slice_set, Option, None, Some, Result, Ok}
 use Rattle.std.specs.List.{slice_get}
 use Rattle.asl_syn.specs.declared.code.Fault.{Fault}
 use Rattle.asl_syn.specs.declared.tree.Decl.{Decl}

@@ -10,12 +10,12 @@ ghost use Rattle.asl_decl.specs.Graphs.{graph_of};
 ghost use Rattle.asl_decl.specs.Orders.{has_mark, IsOrder, HasEdges, HasWay};
 ghost use Rattle.asl_decl.specs.Cycles.{name_of, NoneBack};
 
-use asl_types::answer::fault;
 use crate::listed::{Listed, has_mark};
 use crate::order::order_of;
 use crate::reach::reaches_itself;
 use asl_syn::code::{Refused, StaticCode};
 use asl_syn::tree::{Decl, Ident};
+use asl_types::answer::fault;
 use sqlite_items::Items;
 use std::alloc::{AllocError, Global};
 

@@ -6,10 +6,10 @@ ghost use Rattle.asl_rules.specs.Names as rules;
 ghost use Rattle.asl_types.specs.Answers.{Met, Agrees};
 ghost use Rattle.asl_decl.specs.Known.{known, with_name, after_name, after_names, after_decls};
 
-use asl_types::answer::fault;
 use crate::library;
 use asl_syn::code::{Refused, StaticCode};
 use asl_syn::tree::{Decl, Ident, TypeDecl, TypeDef};
+use asl_types::answer::fault;
 use indexmap::IndexMap;
 use std::alloc::Global;
 use std::marker::Model;

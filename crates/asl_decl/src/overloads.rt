@@ -5,10 +5,10 @@ ghost use Rattle.asl_rules.specs.Programs.{funcs_of, overloads_rule};
 ghost use Rattle.asl_types.specs.Answers.{Met, Agrees};
 ghost use Rattle.asl_decl.specs.Known.{after_func, after_funcs};
 
-use asl_types::answer::fault;
 use crate::names::Names;
 use asl_syn::code::{Refused, StaticCode};
 use asl_syn::tree::{Decl, Func};
+use asl_types::answer::fault;
 use std::alloc::Global;
 
 /// One more subprogram: T10 at its name where it has the name, and formals of the kinds, of one before it.

@@ -8,7 +8,7 @@ use asl_syn::tree::{
     BinaryOperator, Decl, Expr, Formal, Func, Ident, Qualifier, StorageDecl, StorageKind, TypeDecl,
     TypeDef, TypeExpr,
 };
-use asl_types::{Scope, Under};
+use asl_types::{Binding, Scope, Under};
 use asl_value::Kind;
 use sqlite_items::{Boxed, Items};
 use std::alloc::Global;
@@ -183,13 +183,13 @@ fn read(alloc: Global, text: &str) -> Option<Items<Decl>> {
         supertype: None,
         decls: Items::new(alloc),
     };
-    let mut n = 0;
+    let mut n: u32 = 0;
     for word in text.split_whitespace() {
         match word.split_once(':') {
             Some((first, rest)) => reader.named(n, first, rest)?,
             None => reader.plain(n, word)?,
         }
-        n += 1;
+        n = n.wrapping_add(1);
     }
     Some(reader.decls)
 }
@@ -282,37 +282,73 @@ fn storage_that_is_declared(rt: HostRuntime) {
     }
 }
 
+// `var` or `let`, and whether it holds values of a kind or of a type.
+fn write_binding(b: &Binding, out: &mut String) -> Option<()> {
+    let word = if b.is_mutable { "var" } else { "let" };
+    let under = match &b.under {
+        Under::OfKind(Kind::Integers) => "integers",
+        Under::OfKind(_) => "kind",
+        Under::OfType(_) => "type",
+    };
+    write!(out, "{word} of {under};").ok()
+}
+
+fn write_storage(
+    alloc: Global,
+    s: &StorageDecl,
+    brought: &Brought,
+    out: &mut String,
+) -> Option<()> {
+    match brought {
+        Brought::Storage(_, ty, _, value) => {
+            let b = binding_of_storage(alloc, s, ty, value).ok()?;
+            write_binding(&b, out)
+        }
+        _ => None,
+    }
+}
+
+fn write_result(alloc: Global, f: &Func, names: &Scope, out: &mut String) -> Option<()> {
+    match result_type(alloc, names, &f.result) {
+        Ok(Some(_)) => out.push_str("type;").ok(),
+        Ok(None) => out.push_str("none;").ok(),
+        Err(Refused::At(fault)) => write_fault(fault, out),
+        Err(Refused::NoMemory) => None,
+    }
+}
+
+fn write_declared(alloc: Global, d: &Decl, names: &Scope, out: &mut String) -> Option<()> {
+    match d {
+        Decl::Type(_) => None,
+        Decl::Storage(s) => {
+            let brought = judge(alloc, d, names).ok()?;
+            write_storage(alloc, s, &brought, out)
+        }
+        Decl::Func(f) => write_result(alloc, f, names, out),
+    }
+}
+
+// What storage holds before the first call, and the results of subprograms, each without those before.
+fn declared(alloc: Global, text: &str) -> Option<String> {
+    let mut out = String::new(alloc);
+    let decls = read(alloc, text)?;
+    let names = Scope::new(alloc);
+    for d in decls.as_slice() {
+        write_declared(alloc, d, &names, &mut out)?;
+    }
+    Some(out)
+}
+
 #[test]
 fn globals_and_results(rt: HostRuntime) {
     let alloc = rt.alloc();
-    let decls = read(alloc, "1 var:x int 1 let:y int func:f is:X func:g func:h").expect(
-        &rt,
-        "declarations",
-    );
-    let names = Scope::new(alloc);
-    for (place, d) in decls.as_slice().iter().enumerate() {
-        let brought = judge(alloc, d, &names).expect(&rt, "a judgement");
-        match (d, &brought) {
-            (Decl::Storage(s), Brought::Storage(_, ty, is_mutable, value)) => {
-                let b = binding_of_storage(alloc, s, ty, value).expect(&rt, "memory");
-                assert_eq!(rt; b.is_mutable, place == 0);
-                assert_eq!(rt; *is_mutable, place == 0);
-                match b.under {
-                    Under::OfKind(kind) => assert!(rt;
-                        place == 0 && matches!(kind, Kind::Integers)
-                    ),
-                    Under::OfType(_) => assert_eq!(rt; place, 1),
-                }
-            }
-            (Decl::Func(f), Brought::Subprogram(_)) => {
-                match result_type(alloc, &names, &f.result) {
-                    Ok(Some(_)) => assert_eq!(rt; place, 2),
-                    Ok(None) => assert_eq!(rt; place, 4),
-                    Err(_) => assert_eq!(rt; place, 3),
-                }
-            }
-            _ => assert!(rt; false),
-        }
+    for (text, wanted) in [
+        ("1 var:x int 1 let:y", "var of integers;let of type;"),
+        ("T let:x", "let of kind;"),
+        ("int func:f func:h is:X func:g", "type;none;T02@3"),
+    ] {
+        let found = declared(alloc, text).expect(&rt, "memory");
+        assert!(rt; found.as_str() == wanted, "{text}: {found}");
     }
 }
 
@@ -338,7 +374,10 @@ fn declarations_in_any_order(rt: HostRuntime) {
         ("x let:y 1 let:x", "14 names, 2 globals"),
         ("is:A type:B int type:A", "14 names, 0 globals"),
         ("is:C RED let:x l:RED l:GREEN enum:C", "16 names, 1 globals"),
-        ("int func:f func:g is:A 1 let:x int type:A", "16 names, 1 globals"),
+        (
+            "int func:f func:g is:A 1 let:x int type:A",
+            "16 names, 1 globals",
+        ),
         ("x let:x", "T03@1"),
         ("y let:x x let:y", "T03@1"),
         ("x let:w y let:x x let:y", "T03@3"),
