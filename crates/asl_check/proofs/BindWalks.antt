@@ -15,7 +15,7 @@ use Rattle.asl_syn.specs.declared.tree.TypeExpr.{TypeExpr}
 use Rattle.asl_rules.specs.declared.effect.Effect.{Effect}
 use Rattle.asl_rules.specs.Faults.{◌>>=◌, ◌>>◌, need, found_or, fitted}
 use Rattle.asl_rules.specs.Types.{Ty, Parts, no_part, part, misfit}
-use Rattle.asl_rules.specs.Scopes.{Scope, Entry, Standing, standing_of, is_absent, is_free, stored}
+use Rattle.asl_rules.specs.Scopes.{Scope, Entry, standing_of, is_absent, is_free, stored}
 use Rattle.asl_rules.specs.Exprs.{typed, written, has_name}
 use Rattle.asl_rules.specs.Stmts.{Done, done, expr_at, ended, is_var, binders_free, tuple_parts, bound_parts, bound_in, several_bound, several_rule, bind_rule}
 use Rattle.asl_check.specs.Walks.{first_part, other_parts, has_part, has_none, after_binder, after_binders, after_parts, several_walk, several_rule_walk, bind_walk}

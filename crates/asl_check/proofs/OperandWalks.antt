@@ -12,7 +12,7 @@ use Rattle.asl_rules.specs.declared.effect.Effect.TheVariants.{Pure, Readonly, W
 use Rattle.asl_rules.specs.Faults.{◌>>=◌, ◌>>◌, need}
 use Rattle.asl_rules.specs.Effects.{greater, together, all_together, greatest}
 use Rattle.asl_rules.specs.Scopes.{Scope}
-use Rattle.asl_rules.specs.Exprs.{Typed, typed}
+use Rattle.asl_rules.specs.Exprs.{typed}
 use Rattle.asl_rules.specs.Stmts.{Done, done, FoundTarget, expr_at, ended, all_operands, all_places, suffix_operands, suffixes_operands, items_rule, print_rule, assign_rule}
 use Rattle.asl_rules.proofs.Inversions.{ok_ok, err_ok}
 use Rattle.asl_check.specs.Walks.{no_operands, with_effect, with_effects, with_all, after_items, print_walk, end_walk, stores_walk, assign_walk}

@@ -1,8 +1,7 @@
 -- The walk over the expressions in a written type, form by form.
-use Rattle.std.proofs.Common.{◌≡◌, ℕ, List, [], ◌∷◌, ◌++◌, Result, Ok, Err, refl, sym, ap, subst, ◌∙◌, map, append_assoc}
+use Rattle.std.proofs.Common.{◌≡◌, ℕ, List, [], ◌∷◌, ◌++◌, Result, Ok, Err, sym, ap, subst, ◌∙◌, map, append_assoc}
 use Rattle.std.specs.Result.{OnOk, IfOk}
 use Rattle.asl_syn.specs.declared.code.Refused.{Refused}
-use Rattle.asl_syn.specs.declared.code.Fault.{Fault}
 use Rattle.asl_syn.specs.declared.token.Span.{Span}
 use Rattle.asl_syn.specs.declared.tree.Bitfield.{Bitfield}
 use Rattle.asl_syn.specs.declared.tree.ConstraintPart.{ConstraintPart}

@@ -1,10 +1,10 @@
 -- The expressions in a written type have types where the type is well formed: an expression that stands for a number is an
 -- integer that does nothing.
-use Rattle.std.proofs.Common.{◌≡◌, ℕ, ℤ, pos, Bool, true, false, List, [], ◌∷◌, Option, Some, None, Result, Ok, refl, sym, ap, ◌∙◌, subst, map}
+use Rattle.std.proofs.Common.{◌≡◌, ℤ, pos, Bool, true, false, List, [], ◌∷◌, Option, Some, None, Result, Ok, refl, sym, ap, ◌∙◌, map}
 use Rattle.std.specs.Prelude.{◌-ℤ◌, ◌&&◌, if◌then◌else◌}
 use Rattle.asl_syn.specs.declared.token.Span.{Span}
 use Rattle.asl_syn.specs.declared.code.Fault.{Fault}
-use Rattle.asl_syn.specs.declared.code.StaticCode.TheVariants.{S03, T02, T05, T08, T19}
+use Rattle.asl_syn.specs.declared.code.StaticCode.TheVariants.{T02, T05, T08, T19}
 use Rattle.asl_syn.specs.declared.tree.UnaryOperator.{UnaryOperator}
 use Rattle.asl_syn.specs.declared.tree.UnaryOperator.TheVariants as unary
 use Rattle.asl_syn.specs.declared.tree.BinaryOperator.{BinaryOperator}
@@ -17,16 +17,15 @@ use Rattle.asl_syn.specs.declared.tree.Pattern.{Pattern}
 use Rattle.asl_syn.specs.declared.tree.Slice.{Slice}
 use Rattle.asl_syn.specs.declared.tree.TypeExpr.{TypeExpr, roll-TypeExpr}
 use Rattle.asl_syn.specs.declared.tree.Bitfield.TheOpen as ex
-use Rattle.asl_syn.specs.declared.tree.Bitfield.TheFolds.{fold-roll-Expr, fold-roll-TypeExpr, para-roll-TypeExpr, map-Expr, map-TypeExpr, ind-Expr, ind-TypeExpr}
+use Rattle.asl_syn.specs.declared.tree.Bitfield.TheFolds.{fold-roll-Expr, fold-roll-TypeExpr, para-roll-TypeExpr, map-Expr, map-TypeExpr, ind-TypeExpr}
 use Rattle.asl_syn.specs.Layers.{ExprLayer, TypeLayer}
 use Rattle.asl_rules.specs.declared.effect.Effect.TheVariants.{Pure, Readonly}
-use Rattle.asl_rules.specs.Faults.{◌>>=◌, ◌>>◌, need, fault, fault_of}
+use Rattle.asl_rules.specs.Faults.{◌>>=◌, ◌>>◌, need, fault_of}
 use Rattle.asl_rules.specs.Types.{Ty, Parts, integer, tuple_of, array_of, part, is_integer}
-use Rattle.asl_rules.specs.Values.{Value}
-use Rattle.asl_rules.specs.Scopes.{Scope, Entry, Storage, Standing, Stored, Subprogram, TypeName, Label, standing_of, known_value, reading}
+use Rattle.asl_rules.specs.Scopes.{Scope, Storage, Standing, Stored, Subprogram, TypeName, Label, standing_of, known_value, reading}
 use Rattle.asl_rules.specs.Effects.{greater, together}
-use Rattle.asl_rules.specs.Widths.{weight, weighed, known_number, width_of_storage, width_of_standing, width_of_binary, has_width, bounded, length_of}
-use Rattle.asl_rules.specs.Exprs.{Typed, typed_as, Found, FoundField, FoundType, Unread, finish, of_integers, unary_rule, binary_rule, name_of_standing, found, found_type, typed, width, written, typed_rule, width_rule, written_rule, types_in_order, array_rule, expr_rule, given_rule, type_rule}
+use Rattle.asl_rules.specs.Widths.{weight, weighed, known_number, width_of_standing, width_of_binary, bounded, length_of}
+use Rattle.asl_rules.specs.Exprs.{Typed, typed_as, Found, FoundField, FoundType, Unread, finish, of_integers, unary_rule, binary_rule, name_of_standing, found, found_type, typed, width, written, typed_rule, width_rule, written_rule, types_in_order, expr_rule, given_rule, type_rule}
 use Rattle.asl_rules.proofs.Inversions.{err_ok, bind_ok, then_ok, need_ok}
 use Rattle.asl_rules.proofs.WellTyped.{opened, type_opened}
 use Rattle.asl_check.specs.Walks.{Sizing, all_sizes_walk, sizes_layer_walk, sizes_walk, with_walk}

@@ -20,7 +20,7 @@ use Rattle.asl_rules.specs.Exprs.{Typed, typed, written}
 use Rattle.asl_rules.specs.Stmts.{Done, done, FoundStmt, FoundBranch, Branch, expr_at, ended, with_names, in_order, block, condition, conditions, branches, if_rule, names_rule, vars_rule, found_target, StmtOf, Unread, stmt_layer_rule, branch_rule, found_stmt}
 use Rattle.asl_rules.proofs.Inversions.{ok_ok, bind_ok}
 use Rattle.asl_rules.proofs.Growing.{Longer, same_names, longer_on, stmt_longer}
-use Rattle.asl_check.specs.Walks.{misplaced, condition_walk, after_branch, after_branches, if_walk, sizes_walk, vars_walk, walk_layer, walk_stmt}
+use Rattle.asl_check.specs.Walks.{misplaced, after_branch, after_branches, if_walk, sizes_walk, vars_walk, walk_layer, walk_stmt}
 use Rattle.asl_check.proofs.BindWalks.{bind_is}
 use Rattle.asl_check.proofs.OperandWalks.{print_is, assign_is}
 use Rattle.asl_check.proofs.Sizing.{sizes_typed}

@@ -1,16 +1,15 @@
 -- The loops over suffixes and targets.
 use Rattle.std.proofs.Common.{◌≡◌, ℕ, ◌+◌, ◌<◌, suc, length, get_or, drop, Bool, List, [], ◌∷◌, ◌++◌, Result, Ok, map, sym, ap, ◌∙◌, append_assoc, arith}
 use Rattle.asl_syn.specs.declared.code.Fault.{Fault}
-use Rattle.asl_syn.specs.declared.token.Span.{Span}
 use Rattle.asl_syn.specs.declared.tree.Ident.{Ident}
 use Rattle.asl_syn.specs.declared.tree.PlacedSuffix.{PlacedSuffix}
 use Rattle.asl_syn.specs.declared.tree.Target.{Target}
 use Rattle.asl_rules.specs.declared.effect.Effect.{Effect}
-use Rattle.asl_rules.specs.Faults.{◌>>=◌, ◌>>◌}
+use Rattle.asl_rules.specs.Faults.{◌>>=◌}
 use Rattle.asl_rules.specs.Effects.{greater}
-use Rattle.asl_rules.specs.Types.{Ty, Parts, part}
+use Rattle.asl_rules.specs.Types.{Ty}
 use Rattle.asl_rules.specs.Scopes.{Scope}
-use Rattle.asl_rules.specs.Stmts.{found_target, suffix_operands, suffixes_operands, all_operands, all_places, up_to, behind_suffix, behind_suffixes, parts_fit}
+use Rattle.asl_rules.specs.Stmts.{found_target, suffix_operands, suffixes_operands, all_operands, all_places, up_to, behind_suffix, behind_suffixes}
 use Rattle.asl_tree.specs.declared.typed.TypedPlace.{TypedPlace}
 use Rattle.asl_tree.specs.declared.typed.TypedStep.{TypedStep}
 use Rattle.asl_tree.specs.Elaboration.{type_behind, step_at, steps_at, placing, places_of}

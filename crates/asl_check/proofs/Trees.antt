@@ -1,5 +1,5 @@
 -- The typed trees of lists, tree by tree.
-use Rattle.std.proofs.Common.{◌≡◌, ℕ, Option, ◌+◌, ◌<◌, length, get_or, drop, List, [], ◌∷◌, ◌++◌, Result, Ok, map, refl, sym, ap, subst, ◌∙◌, append_assoc, suc, arith}
+use Rattle.std.proofs.Common.{◌≡◌, ℕ, Option, ◌+◌, ◌<◌, length, get_or, drop, List, [], ◌∷◌, ◌++◌, Result, Ok, map, refl, sym, ap, ◌∙◌, append_assoc}
 use Rattle.asl_syn.specs.declared.code.Fault.{Fault}
 use Rattle.asl_syn.specs.declared.token.Span.{Span}
 use Rattle.asl_syn.specs.declared.tree.Alternative.{Alternative}

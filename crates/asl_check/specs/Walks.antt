@@ -34,7 +34,7 @@ use Rattle.asl_tree.specs.Elaboration.{elaborated, placing, made_type, first_val
 use Rattle.asl_rules.specs.declared.effect.Effect.{Effect}
 use Rattle.asl_rules.specs.declared.effect.Effect.TheVariants.{Pure, Writes}
 use Rattle.asl_rules.specs.declared.entry.Entry.{Entry}
-use Rattle.asl_rules.specs.Faults.{◌>>=◌, ◌>>◌, need, none_at, found_or, fitted}
+use Rattle.asl_rules.specs.Faults.{◌>>=◌, ◌>>◌, need, none_at, fitted}
 use Rattle.asl_rules.specs.Types.{Ty, Parts, integer, no_part, part, is_boolean, misfit}
 use Rattle.asl_rules.specs.Effects.{greater, together}
 use Rattle.asl_rules.specs.Scopes as scopes
