@@ -51,6 +51,7 @@ name_last (m ∷ ns) n q a = by (bytes_eq m q) (name_last ns n q a)
     rest : (a t : Bool) → ((a && false) && not t) ≡ (a && false)
     rest true t = refl
     rest false t = refl
+
     by : (t : Bool) → ((a && not (has_name q ns)) && not (bytes_eq n q)) ≡ (a && not (has_name q (ns ++ n ∷ []))) →
         ((a && not (if t then true else has_name q ns)) && not (bytes_eq n q)) ≡ (a && not (if t then true else has_name q (ns ++ n ∷ [])))
     by true h = rest a (bytes_eq n q)

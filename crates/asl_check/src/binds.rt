@@ -188,15 +188,18 @@ fn bind_several<'a>(
     match ty {
         None => {
             let (tree, s) = type_in(alloc, names, body, e)?;
-            let k =
-                bind_parts(names, body.class, span, kind, binders, &s.ty, None, e, s.effect)?;
+            let k = bind_parts(
+                names, body.class, span, kind, binders, &s.ty, None, e, s.effect,
+            )?;
             Ok((tree, k))
         }
         Some(t) => {
             let to = written_in(alloc, names, body, t)?;
             let (tree, s) = type_in(alloc, names, body, e)?;
             let code = misfit(&s.ty, &to);
-            let k = bind_parts(names, body.class, span, kind, binders, &to, code, e, s.effect)?;
+            let k = bind_parts(
+                names, body.class, span, kind, binders, &to, code, e, s.effect,
+            )?;
             Ok((tree, k))
         }
     }

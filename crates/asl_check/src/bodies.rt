@@ -40,8 +40,8 @@ fn may_end(returns: &Option<Ty>, f: &Func) -> bool
     }
 }
 
-/// A body: its statements in order, then T17 at its name where the end of a function can be reached. What is made of the
-/// subprogram.
+/// The subprogram with the typed trees of its body: the statements are judged in order, then T17 comes at its name where
+/// the end of a function can be reached.
 fn check_body<'a>(alloc: Global, names: &mut Scope<'a>, f: &'a Func) -> Result<TypedFunc, Refused>
     ensures rule { Met (λ _. tt) result (rules.body_rule names.old f.now) }
     ensures kept { OnOk result (names.new ≡ names.old) }

@@ -14,8 +14,8 @@ ghost use Rattle.asl_types.specs.View.{ty_of};
 ghost use Rattle.asl_expr.specs.Views.{typed_of};
 ghost use Rattle.asl_check.specs.Walks as walks;
 
-use crate::body::Body;
 use crate::binds::{check_several, is_var};
+use crate::body::Body;
 use crate::sizes::type_sizes;
 use crate::steps::{check_fit, ended};
 use crate::typing::{type_in, written_in};

@@ -99,7 +99,12 @@ fn end_assign(
     if !counts(target, ty) {
         return fault(StaticCode::T05, span);
     }
-    ended(body.class, span, all.is_together, greater(all.effect, stores))
+    ended(
+        body.class,
+        span,
+        all.is_together,
+        greater(all.effect, stores),
+    )
 }
 
 /// The places of an assignment whose right side was typed, and its effect.
@@ -137,7 +142,6 @@ pub(crate) fn check_assign(
 {
     let before = type_operands(alloc, names, body, target, no_operands())?;
     let (tree, s) = type_in(alloc, names, body, e)?;
-    let (places, effect) =
-        check_stores(alloc, names, body, span, target, &s, place(e), before)?;
+    let (places, effect) = check_stores(alloc, names, body, span, target, &s, place(e), before)?;
     Ok((TypedStmt::Assign(span, places, tree), effect))
 }

@@ -19,8 +19,8 @@ use asl_rules::effect::Effect;
 use asl_syn::code::{Refused, StaticCode};
 use asl_syn::tree::{ElseIf, Stmt};
 use asl_tree::typed::{TypedBranch, TypedStmt};
-use asl_types::answer::fault;
 use asl_types::Scope;
+use asl_types::answer::fault;
 use sqlite_items::Items;
 use std::alloc::Global;
 
@@ -42,7 +42,14 @@ fn check_stmt<'a>(
         Stmt::Local(span, kind, bind, ty, e) => {
             check_bind(alloc, names, body, *span, *kind, bind, ty, e)
         }
-        Stmt::LocalVars(span, idents, ty) => check_vars(alloc, names, body, *span, idents.as_slice(), ty),
+        Stmt::LocalVars(span, idents, ty) => check_vars(
+            alloc,
+            names,
+            body,
+            *span,
+            idents.as_slice(),
+            ty,
+        ),
         Stmt::Assign(span, target, e) => check_assign(alloc, names, body, *span, target, e),
         Stmt::Invoke(span, _, _, _) => fault(StaticCode::S03, *span),
         Stmt::If(span, condition, first, others, last) => {

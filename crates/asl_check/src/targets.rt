@@ -69,11 +69,7 @@ fn all_operands(
 }
 
 /// Storage that can be assigned: T02 where a name is no storage, T14 where that can't be assigned.
-fn find_assignable<'s>(
-    names: &'s Scope,
-    body: &Body,
-    name: &Ident,
-) -> Result<Storage<'s>, Refused>
+fn find_assignable<'s>(names: &'s Scope, body: &Body, name: &Ident) -> Result<Storage<'s>, Refused>
     ensures rule { Met storage_view result (rules.assignable name.now (scope_of names.now body.now)) }
     ensures slot { IfOk result (λ s. s.slot ≡ slot_of name.now.text (layout_of names.now)) }
 {
@@ -139,8 +135,14 @@ pub(crate) fn place_target(
     match target {
         Target::Discarded(_) => Ok(Effect::Pure),
         Target::Place(_, name, suffixes) => {
-            let (place, _, effect) =
-                check_place(alloc, names, body, name, suffixes.as_slice(), way)?;
+            let (place, _, effect) = check_place(
+                alloc,
+                names,
+                body,
+                name,
+                suffixes.as_slice(),
+                way,
+            )?;
             places.push(place)?;
             Ok(effect)
         }

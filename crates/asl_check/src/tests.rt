@@ -194,7 +194,9 @@ impl Reader {
             "make" => {
                 let field = ident(self.alloc, n, "f")?;
                 let mut fields = Items::new(self.alloc);
-                fields.push(FieldValue::Given(field, self.exprs.pop()?)).ok()?;
+                fields
+                    .push(FieldValue::Given(field, self.exprs.pop()?))
+                    .ok()?;
                 self.exprs.push(Expr::Construct(at(n), i, fields)).ok()
             }
             "global" => {
@@ -539,10 +541,7 @@ fn verdicts_on_types_and_targets(rt: HostRuntime) {
             fault(StaticCode::T01, name_at(3)),
         ),
         ("a let:a 1 return func:f", fault(StaticCode::T02, at(0))),
-        (
-            "vars:a vars:b 1 1 , set:a,b a b + return func:f",
-            Ok(None),
-        ),
+        ("vars:a vars:b 1 1 , set:a,b a b + return func:f", Ok(None)),
         ("vars:a 1 T , set:a,- a return func:f", Ok(None)),
         (
             "vars:a 1 T , set:-,a 1 return func:f",
@@ -556,18 +555,12 @@ fn verdicts_on_types_and_targets(rt: HostRuntime) {
             "1 let:a T T , set:a,- 1 return func:f",
             fault(StaticCode::T14, name_at(5)),
         ),
-        (
-            "type:A 1 typed:x=A x typed:y=A x return func:f",
-            Ok(None),
-        ),
+        ("type:A 1 typed:x=A x typed:y=A x return func:f", Ok(None)),
         (
             "type:A type:B 1 typed:x=A x typed:y=B 1 return func:f",
             fault(StaticCode::T05, at(4)),
         ),
-        (
-            "1 typed:x=A 1 return func:f",
-            fault(StaticCode::T02, at(1)),
-        ),
+        ("1 typed:x=A 1 return func:f", fault(StaticCode::T02, at(1))),
         (
             "record:R 1 make:R var:x 1 set:x.f x .f return func:f",
             Ok(None),

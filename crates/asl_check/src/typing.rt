@@ -14,8 +14,7 @@ use asl_expr::typed::Typed;
 use asl_syn::code::Refused;
 use asl_syn::tree::{Expr, TypeExpr};
 use asl_tree::typed::TypedExpr;
-use asl_types::written;
-use asl_types::{Scope, Ty};
+use asl_types::{Scope, Ty, written};
 use std::alloc::Global;
 
 /// An expression in a body: its typed tree, with its type and its effect.

@@ -30,7 +30,6 @@ check_branches-loop-b-preserved t c = record {
       (omega (arith, c.loop-b-test.true)) c.b-item.is c.in_ok-tree.ensures.tree c.in_ok-push.ensures.ok (ap (λ names. scope_of names c.args.body.now) c.in_ok-tree.ensures.kept) c.loop-b.invariant.trees;
 }
 
-
 pub check_stmt-returns-in_ok-effect-in-If-clause-tree : goal.check_stmt-returns-in_ok-effect-in-If-clause-tree
 check_stmt-returns-in_ok-effect-in-If-clause-tree t c = if_tree c.args.s.now c.in-If.span c.in-If.condition c.in-If.first c.in-If.last c.in-If.others
     c.in_ok-c-in-If.c c.in_ok-first-in-If.first c.in_ok-last-in-If.last c.in_ok-others-in-If.others
