@@ -1,5 +1,5 @@
 -- The answer of a run, by what the call of the machine says.
-use Rattle.std.proofs.Common.{◌≡◌, ◌∙◌, ℕ, Bool, false, List, [], ◌∷◌, ◌++◌, map, Option, Some, None, Result, Ok, refl, sym, ap, subst, append_assoc, append-nil}
+use Rattle.std.proofs.Common.{◌≡◌, ◌∙◌, ℕ, Bool, false, List, [], ◌∷◌, ◌++◌, map, Option, Some, None, Result, Ok, Err, refl, sym, ap, subst, append_assoc, append-nil}
 use Rattle.std.specs.Prelude.{if◌then◌else◌}
 use Rattle.asl_io.specs.Told.{TakesPrefix}
 use Rattle.asl_rules.specs.declared.entry.Entry.TheVariants as entry
@@ -19,9 +19,10 @@ use Rattle.asl_value.specs.declared.value.Value.{Value as Given}
 use Rattle.asl_value.specs.View.{value_of}
 use Rattle.asl_types.specs.Bindings.{bindings_of}
 use Rattle.asl_run.specs.declared.machine.Outcome.{Outcome as Ended}
+use Rattle.asl_run.specs.declared.machine.RunRefused.{RunRefused}
 use Rattle.asl_run.specs.declared.machine.Stage.{Stage}
 use Rattle.asl_run.specs.declared.machine.Stage.TheVariants as stage
-use Rattle.asl_run.specs.Stages.{Ends, OnReady, OnRefused, answer_of}
+use Rattle.asl_run.specs.Stages.{Ends, OnReady, OnRefused, answer_of, Counted}
 use Rattle.asl_run.specs.Work.{Work, IsNew, IsCallable, EndsWith, run_with, text_with}
 use Rattle.asl_run.proofs.Entries.{entry_is_callable}
 use Rattle.asl_run.proofs.OwnRuns.{own_run, own_part}
@@ -113,3 +114,18 @@ main_given_up files checked main n steps entered_nodes old mid w args new same n
     let whole = more.1 ∙ ap (λ t. t ++ more.0) part.whole ∙ append_assoc part.taken part.rest more.0 in
     subst (λ e. TakesPrefix old mid (started files checked.decls steps e).text) entered
     (part.taken, part.rest ++ more.0, whole, part.is)
+
+refused_as : (s : Stage) (e : RunRefused) (before after : ℕ) → Err e ≡ answer_of s → Counted s before after → Counted (stage.Refused e) before after
+refused_as (stage.Ready x) e before after h counts = absurd cc
+refused_as (stage.Uncaught x) e before after h counts = absurd cc
+refused_as (stage.Fault code span) e before after h counts = absurd cc
+refused_as (stage.Refused f) e before after h counts =
+    let same : f ≡ e = cc in
+    subst (λ r. Counted (stage.Refused r) before after) same counts
+
+-- the sink's count of faults rose where a call of a new machine was given up for a refused write, and else is as it was
+pub refused_counts : (checked : Accepted) (n : ℕ) (w : Work) (s : Stage) (e : RunRefused) (before after : ℕ) → IsNew w checked n → Err e ≡ answer_of s
+    → OnReady w.stage (Counted s before after) → Counted (stage.Refused e) before after
+refused_counts checked n w s e before after new is counts =
+    let here : Counted s before after = subst (λ t. OnReady t (Counted s before after)) new.stage_is counts in
+    refused_as s e before after is here

@@ -80,13 +80,20 @@ fn say_end<K: Sink>(
     }
 }
 
+/// The name of a global.
+fn name_of(global: &GlobalVar) -> &[u8]
+    ensures { result.now ≡ global.now.name }
+{
+    global.name.get().as_slice()
+}
+
 /// Writes the line of a global: its name and its value.
 fn put_global<K: Sink>(out: &mut K, global: &GlobalVar) -> Result<(), Stop>
     ensures text { Writes result (K.written out.old) (K.written out.new) (global_line global.now.name (value_of global.now.value)) }
     ensures cause { HasCause result (K.faults out.old) (K.faults out.new) }
     ensures same_full { K.full out.new ≡ K.full out.old }
 {
-    put(out, global.name.get().as_slice())?;
+    put(out, name_of(global))?;
     put(out, b" = ")?;
     put_value(out, &global.value)?;
     put(out, b"\n")

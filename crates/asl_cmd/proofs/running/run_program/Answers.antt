@@ -1,4 +1,4 @@
-use Rattle.asl_cmd.proofs.RunLemmas.{main_callable, main_ended, main_given_up}
+use Rattle.asl_cmd.proofs.RunLemmas.{main_callable, main_ended, main_given_up, refused_counts}
 use Rattle.asl_cmd.proofs.running.run_program.Goals as goal
 
 pub call-requires : goal.call-requires
@@ -18,3 +18,9 @@ pub returns-clause-answer : goal.returns-clause-answer
 returns-clause-answer g c =
     main_given_up _ c.args.checked c.in-Some.main _ c.args.steps _ _ _ _ c.new-2.result.items
     c.in_ok-machine.ensures c.from.ensures c.new-2.ensures.items c.in-Some.ensures c.in-Err-NoMemory.ensures.given_up
+
+pub returns-in-Err-SinkFault-clause-cause : goal.returns-in-Err-SinkFault-clause-cause
+returns-in-Err-SinkFault-clause-cause g c = refused_counts c.args.checked _ _ c.call.new.self.stage _ _ _ c.in_ok-machine.ensures c.in-Err-SinkFault.ensures.answer c.in-Err-SinkFault.ensures.counts
+
+pub returns-clause-cause : goal.returns-clause-cause
+returns-clause-cause g c = refused_counts c.args.checked _ _ c.call.new.self.stage _ _ _ c.in_ok-machine.ensures c.in-Err-NoMemory.ensures.answer c.in-Err-NoMemory.ensures.counts
