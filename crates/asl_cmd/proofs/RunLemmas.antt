@@ -20,6 +20,7 @@ use Rattle.asl_value.specs.View.{value_of}
 use Rattle.asl_types.specs.Bindings.{bindings_of}
 use Rattle.asl_run.specs.declared.machine.Outcome.{Outcome as Ended}
 use Rattle.asl_run.specs.declared.machine.RunRefused.{RunRefused}
+use Rattle.asl_run.specs.declared.machine.RunRefused.TheVariants as refused
 use Rattle.asl_run.specs.declared.machine.Stage.{Stage}
 use Rattle.asl_run.specs.declared.machine.Stage.TheVariants as stage
 use Rattle.asl_run.specs.Stages.{Ends, OnReady, OnRefused, answer_of, Counted}
@@ -123,9 +124,16 @@ refused_as (stage.Refused f) e before after h counts =
     let same : f ≡ e = cc in
     subst (λ r. Counted (stage.Refused r) before after) same counts
 
--- the sink's count of faults rose where a call of a new machine was given up for a refused write, and else is as it was
-pub refused_counts : (checked : Accepted) (n : ℕ) (w : Work) (s : Stage) (e : RunRefused) (before after : ℕ) → IsNew w checked n → Err e ≡ answer_of s
-    → OnReady w.stage (Counted s before after) → Counted (stage.Refused e) before after
-refused_counts checked n w s e before after new is counts =
+-- a call of a new machine that was given up: the sink's count of faults rose where a write was refused
+pub refused_fault : (checked : Accepted) (n : ℕ) (w : Work) (s : Stage) (e : RunRefused) (before after : ℕ) → IsNew w checked n → Err e ≡ answer_of s
+    → OnReady w.stage (Counted s before after) → e ≡ refused.SinkFault → Counted (stage.Refused refused.SinkFault) before after
+refused_fault checked n w s e before after new is counts why =
     let here : Counted s before after = subst (λ t. OnReady t (Counted s before after)) new.stage_is counts in
-    refused_as s e before after is here
+    subst (λ r. Counted (stage.Refused r) before after) why (refused_as s e before after is here)
+
+-- and is as it was where memory was wanting
+pub refused_memory : (checked : Accepted) (n : ℕ) (w : Work) (s : Stage) (e : RunRefused) (before after : ℕ) → IsNew w checked n → Err e ≡ answer_of s
+    → OnReady w.stage (Counted s before after) → e ≡ refused.NoMemory → after ≡ before
+refused_memory checked n w s e before after new is counts why =
+    let here : Counted s before after = subst (λ t. OnReady t (Counted s before after)) new.stage_is counts in
+    subst (λ r. Counted (stage.Refused r) before after) why (refused_as s e before after is here)

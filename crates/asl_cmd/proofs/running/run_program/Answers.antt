@@ -1,4 +1,5 @@
-use Rattle.asl_cmd.proofs.RunLemmas.{main_callable, main_ended, main_given_up, refused_counts}
+use Rattle.std.proofs.Common.{rules}
+use Rattle.asl_cmd.proofs.RunLemmas.{main_callable, main_ended, main_given_up, refused_fault, refused_memory}
 use Rattle.asl_cmd.proofs.running.run_program.Goals as goal
 
 pub call-requires : goal.call-requires
@@ -20,7 +21,9 @@ returns-clause-answer g c =
     c.in_ok-machine.ensures c.from.ensures c.new-2.ensures.items c.in-Some.ensures c.in-Err-NoMemory.ensures.given_up
 
 pub returns-in-Err-SinkFault-clause-cause : goal.returns-in-Err-SinkFault-clause-cause
-returns-in-Err-SinkFault-clause-cause g c = refused_counts c.args.checked _ _ c.call.new.self.stage _ _ _ c.in_ok-machine.ensures c.in-Err-SinkFault.ensures.answer c.in-Err-SinkFault.ensures.counts
+returns-in-Err-SinkFault-clause-cause g c =
+    refused_fault c.args.checked _ _ c.call.new.self.stage _ _ _ c.in_ok-machine.ensures c.in-Err-SinkFault.ensures.answer c.in-Err-SinkFault.ensures.counts (search rules)
 
 pub returns-clause-cause : goal.returns-clause-cause
-returns-clause-cause g c = refused_counts c.args.checked _ _ c.call.new.self.stage _ _ _ c.in_ok-machine.ensures c.in-Err-NoMemory.ensures.answer c.in-Err-NoMemory.ensures.counts
+returns-clause-cause g c =
+    refused_memory c.args.checked _ _ c.call.new.self.stage _ _ _ c.in_ok-machine.ensures c.in-Err-NoMemory.ensures.answer c.in-Err-NoMemory.ensures.counts (search rules)
