@@ -12,12 +12,12 @@ use Rattle.asl_syn.specs.declared.tree.Decl.TheVariants as dc
 use Rattle.asl_syn.specs.declared.tree.Ident.{Ident}
 use Rattle.asl_rules.specs.Names.{Declared, declared_as, declared_by, all_declared}
 use Rattle.asl_rules.specs.Uses.{Used, uses, is_declared, declares, any_declared, uses_one_of, leads_by, leads_to, reaches_itself}
-use Rattle.asl_decl.specs.Graphs.{Places, place_of, with_first, with_place, kept, plain_names, named_at, all_places, declarers, with_used, added, graph_of}
+use Rattle.asl_types.specs.Firsts.{Places, first_place, kept_by, kept}
+use Rattle.asl_decl.specs.Graphs.{all_kept, plain_names, named_at, all_places, declarers, with_used, added, graph_of}
 use Rattle.asl_decl.specs.Orders.{Graph, row, has_mark, all_marked, is_among, all_among, each_behind, IsStuck, is_way, HasWay}
 use Rattle.asl_rules.proofs.Tests.{no, some_none, some_same, both, either, or_first, or_second, and_true, same_name, name_is}
 use Rattle.asl_rules.proofs.Lookups.{none_some}
-use Rattle.asl_decl.proofs.Settling.{In}
-use Rattle.asl_decl.proofs.Distinct.{Distinct, Plain, NotIn, front_not_in, rest_distinct, plain_in}
+use Rattle.asl_rules.proofs.Distinct.{In, Distinct, Plain, NotIn, front_not_in, rest_distinct, plain_in}
 use Rattle.asl_decl.proofs.Reaching.{step_of, leads_step, Reaches, short, Ordered, ordered_apart, UsesOne, none_stuck}
 
 -- ---- places of declarations
@@ -56,25 +56,25 @@ unfolding or_place
 or_three None p q = refl
 or_three (Some n) p q = refl
 
-both_places : (t s : Places) (u : List ℕ) → place_of u (t ++ s) ≡ or_place (place_of u t) (place_of u s)
+both_places : (t s : Places) (u : List ℕ) → first_place u (t ++ s) ≡ or_place (first_place u t) (first_place u s)
 unfolding or_place
 both_places [] s u = refl
 both_places (e ∷ t) s u = or_in (bytes_eq u e.0) e.1 _ _ _ (both_places t s u)
 
-stands : (t : Places) (name u : List ℕ) (a n : ℕ) → place_of name t ≡ Some a → or_place (place_of u t) (cond (bytes_eq u name) (Some n) None) ≡ place_of u t
+stands : (t : Places) (name u : List ℕ) (a n : ℕ) → first_place name t ≡ Some a → or_place (first_place u t) (cond (bytes_eq u name) (Some n) None) ≡ first_place u t
 unfolding or_place
 stands t name u a n h = by (bytes_eq u name) refl
   where
-    by : (b : Bool) → bytes_eq u name ≡ b → or_place (place_of u t) (cond b (Some n) None) ≡ place_of u t
-    by false e = or_none (place_of u t)
+    by : (b : Bool) → bytes_eq u name ≡ b → or_place (first_place u t) (cond b (Some n) None) ≡ first_place u t
+    by false e = or_none (first_place u t)
     by true e =
-        let there : place_of u t ≡ Some a = ap (λ m. place_of m t) ((bytes_decides u name).0 e) ∙ h in
+        let there : first_place u t ≡ Some a = ap (λ m. first_place m t) ((bytes_decides u name).0 e) ∙ h in
         ap (λ o. or_place o (Some n)) there ∙ sym there
 
-kept_one : (t : Places) (name u : List ℕ) (n : ℕ) → place_of u (with_place name n t) ≡ or_place (place_of u t) (cond (bytes_eq u name) (Some n) None)
-kept_one t name u n = by (place_of name t) refl
+kept_one : (t : Places) (name u : List ℕ) (n : ℕ) → first_place u (kept name n t) ≡ or_place (first_place u t) (cond (bytes_eq u name) (Some n) None)
+kept_one t name u n = by (first_place name t) refl
   where
-    by : (o : Option ℕ) → place_of name t ≡ o → place_of u (with_first o name n t) ≡ or_place (place_of u t) (cond (bytes_eq u name) (Some n) None)
+    by : (o : Option ℕ) → first_place name t ≡ o → first_place u (kept_by o name n t) ≡ or_place (first_place u t) (cond (bytes_eq u name) (Some n) None)
     by None h = both_places t ((name, n) ∷ []) u
     by (Some a) h = sym (stands t name u a n h)
 
@@ -83,14 +83,14 @@ unfolding or_place
 or_cond true n o = refl
 or_cond false n o = refl
 
-kept_all : (ps t : Places) (u : List ℕ) → place_of u (kept ps t) ≡ or_place (place_of u t) (place_of u ps)
-kept_all [] t u = sym (or_none (place_of u t))
+kept_all : (ps t : Places) (u : List ℕ) → first_place u (all_kept ps t) ≡ or_place (first_place u t) (first_place u ps)
+kept_all [] t u = sym (or_none (first_place u t))
 kept_all (p ∷ ps) t u =
-    kept_all ps (with_place p.0 p.1 t) u ∙ ap (λ o. or_place o (place_of u ps)) (kept_one t p.0 u p.1)
-    ∙ or_three (place_of u t) (cond (bytes_eq u p.0) (Some p.1) None) (place_of u ps)
-    ∙ ap (or_place (place_of u t)) (or_cond (bytes_eq u p.0) p.1 (place_of u ps))
+    kept_all ps (kept p.0 p.1 t) u ∙ ap (λ o. or_place o (first_place u ps)) (kept_one t p.0 u p.1)
+    ∙ or_three (first_place u t) (cond (bytes_eq u p.0) (Some p.1) None) (first_place u ps)
+    ∙ ap (or_place (first_place u t)) (or_cond (bytes_eq u p.0) p.1 (first_place u ps))
 
-in_table : (ds : List Decl) (u : List ℕ) → place_of u (declarers ds) ≡ place_of u (all_places 0 ds)
+in_table : (ds : List Decl) (u : List ℕ) → first_place u (declarers ds) ≡ first_place u (all_places 0 ds)
 unfolding or_place
 in_table ds u = kept_all (all_places 0 ds) [] u
 
@@ -123,19 +123,19 @@ or_cond_both : (a b : Bool) (n : ℕ) → cond a (Some n) (cond b (Some n) None)
 or_cond_both true b n = refl
 or_cond_both false b n = refl
 
-named_has : (n : ℕ) (is : List Ident) (u : List ℕ) → place_of u (named_at n is) ≡ cond (has_ident u is) (Some n) None
+named_has : (n : ℕ) (is : List Ident) (u : List ℕ) → first_place u (named_at n is) ≡ cond (has_ident u is) (Some n) None
 unfolding has_ident
 named_has n [] u = refl
 named_has n (i ∷ is) u =
-    ap (λ b. cond b (Some n) (place_of u (named_at n is))) (nat_list_eq_equiv.symm u i.text)
+    ap (λ b. cond b (Some n) (first_place u (named_at n is))) (nat_list_eq_equiv.symm u i.text)
     ∙ ap (cond (bytes_eq i.text u) (Some n)) (named_has n is u) ∙ or_cond_both (bytes_eq i.text u) (has_ident u is) n
 
 -- the first declaration of a name, or one behind it
-places_first : (n : ℕ) (d : Decl) (ds : List Decl) (u : List ℕ) → place_of u (all_places n (d ∷ ds)) ≡ cond (declares d u) (Some n) (place_of u (all_places (n + 1) ds))
+places_first : (n : ℕ) (d : Decl) (ds : List Decl) (u : List ℕ) → first_place u (all_places n (d ∷ ds)) ≡ cond (declares d u) (Some n) (first_place u (all_places (n + 1) ds))
 places_first n d ds u =
     both_places (named_at n (plain_names d)) (all_places (n + 1) ds) u
-    ∙ ap (λ o. or_place o (place_of u (all_places (n + 1) ds))) (named_has n (plain_names d) u ∙ ap (λ b. cond b (Some n) None) (sym (declares_has d u)))
-    ∙ or_cond (declares d u) n (place_of u (all_places (n + 1) ds))
+    ∙ ap (λ o. or_place o (first_place u (all_places (n + 1) ds))) (named_has n (plain_names d) u ∙ ap (λ b. cond b (Some n) None) (sym (declares_has d u)))
+    ∙ or_cond (declares d u) n (first_place u (all_places (n + 1) ds))
 
 record Declarer (ds : List Decl) (u : List ℕ) (n k : ℕ) : Type 0 where
   pub place : ℕ
@@ -144,11 +144,11 @@ record Declarer (ds : List Decl) (u : List ℕ) (n k : ℕ) : Type 0 where
   pub at : At ds place decl
   pub declares_it : declares decl u ≡ true
 
-declarer_of : (n : ℕ) (ds : List Decl) (u : List ℕ) (k : ℕ) → place_of u (all_places n ds) ≡ Some k → Declarer ds u n k
+declarer_of : (n : ℕ) (ds : List Decl) (u : List ℕ) (k : ℕ) → first_place u (all_places n ds) ≡ Some k → Declarer ds u n k
 declarer_of n [] u k h = none_some k h
 declarer_of n (d ∷ ds) u k h = by (declares d u) refl (sym (places_first n d ds u) ∙ h) (declarer_of (n + 1) ds u k)
   where
-    by : (b : Bool) → declares d u ≡ b → cond b (Some n) (place_of u (all_places (n + 1) ds)) ≡ Some k → (place_of u (all_places (n + 1) ds) ≡ Some k → Declarer ds u (n + 1) k) → Declarer (d ∷ ds) u n k
+    by : (b : Bool) → declares d u ≡ b → cond b (Some n) (first_place u (all_places (n + 1) ds)) ≡ Some k → (first_place u (all_places (n + 1) ds) ≡ Some k → Declarer ds u (n + 1) k) → Declarer (d ∷ ds) u n k
     by true e q next = let s = some_same n k q in record { place = 0; is = omega (arith, s); decl = d; at = refl; declares_it = e }
     by false e q next = let r = next q in let i = r.is in record { place = suc r.place; is = omega (arith, i); decl = r.decl; at = r.at; declares_it = r.declares_it }
 
@@ -174,19 +174,19 @@ one_declarer : {A : Type 0} (d : Decl) (ds : List Decl) (u : List ℕ) (e : Decl
 one_declarer d ds u e x h i k =
     not_plain u (declared_by d) (front_not_in u (declared_by d) (all_declared ds) x (plain_in e ds u i (declared_plain u (declared_by e) k))) (declared_plain u (declared_by d) h)
 
-place_is : (n : ℕ) (ds : List Decl) (u : List ℕ) (j : ℕ) (e : Decl) → Distinct (all_declared ds) → At ds j e → declares e u ≡ true → place_of u (all_places n ds) ≡ Some (n + j)
+place_is : (n : ℕ) (ds : List Decl) (u : List ℕ) (j : ℕ) (e : Decl) → Distinct (all_declared ds) → At ds j e → declares e u ≡ true → first_place u (all_places n ds) ≡ Some (n + j)
 place_is n [] u j e x a h = none_some e a
 place_is n (d ∷ ds) u zero e x a h =
     let q = some_same d e a in
     let z : n ≡ n + zero = omega arith in
-    places_first n d ds u ∙ ap (λ b. cond b (Some n) (place_of u (all_places (n + 1) ds))) (subst (λ y. declares y u ≡ true) (sym q) h) ∙ ap Some z
+    places_first n d ds u ∙ ap (λ b. cond b (Some n) (first_place u (all_places (n + 1) ds))) (subst (λ y. declares y u ≡ true) (sym q) h) ∙ ap Some z
 place_is n (d ∷ ds) u (suc j) e x a h = by (declares d u) refl (place_is (n + 1) ds u j e (rest_distinct (declared_by d) (all_declared ds) x) a h)
   where
-    by : (b : Bool) → declares d u ≡ b → place_of u (all_places (n + 1) ds) ≡ Some (n + 1 + j) → place_of u (all_places n (d ∷ ds)) ≡ Some (n + suc j)
+    by : (b : Bool) → declares d u ≡ b → first_place u (all_places (n + 1) ds) ≡ Some (n + 1 + j) → first_place u (all_places n (d ∷ ds)) ≡ Some (n + suc j)
     by true q k = one_declarer d ds u e x q (at_in ds j e a) h
     by false q k =
         let z : n + 1 + j ≡ n + suc j = omega arith in
-        places_first n d ds u ∙ ap (λ b. cond b (Some n) (place_of u (all_places (n + 1) ds))) q ∙ k ∙ ap Some z
+        places_first n d ds u ∙ ap (λ b. cond b (Some n) (first_place u (all_places (n + 1) ds))) q ∙ k ∙ ap Some z
 
 -- ---- the graph
 
@@ -196,7 +196,7 @@ is_place j (Some k) = k == j
 
 hits : ℕ → Places → Used → Bool
 hits j t [] = false
-hits j t (u ∷ us) = is_place j (place_of u t) || hits j t us
+hits j t (u ∷ us) = is_place j (first_place u t) || hits j t us
 
 or_nothing : (b : Bool) → (b || false) ≡ b
 or_nothing true = refl
@@ -219,8 +219,8 @@ among_added : (j : ℕ) (t : Places) (us : Used) (ps : List ℕ) → is_among j 
 unfolding hits
 among_added j t [] ps = sym (or_nothing (is_among j ps))
 among_added j t (u ∷ us) ps =
-    among_added j t us (with_used (place_of u t) ps) ∙ ap (λ b. b || hits j t us) (among_used j (place_of u t) ps)
-    ∙ or_assoc (is_among j ps) (is_place j (place_of u t)) (hits j t us)
+    among_added j t us (with_used (first_place u t) ps) ∙ ap (λ b. b || hits j t us) (among_used j (first_place u t) ps)
+    ∙ or_assoc (is_among j ps) (is_place j (first_place u t)) (hits j t us)
 
 map_get : {A B : Type 0} (f : A → B) (xs : List A) (n : ℕ) (x : A) (d : B) → At xs n x → get_or (map f xs) n d ≡ f x
 map_get f [] n x d h = none_some x h
@@ -242,11 +242,11 @@ module _ (ds : List Decl) (distinct : Distinct (all_declared ds)) where
   row_past : (n : ℕ) → slice_get ds n ≡ None → row (graph_of ds) n ≡ []
   row_past n h = map_past (λ d. added (declarers ds) (uses d) []) ds n [] h
 
-  place_declares : (u : List ℕ) (j : ℕ) (e : Decl) → At ds j e → is_place j (place_of u (declarers ds)) ≡ declares e u
+  place_declares : (u : List ℕ) (j : ℕ) (e : Decl) → At ds j e → is_place j (first_place u (declarers ds)) ≡ declares e u
   unfolding is_place
   place_declares u j e a = ap (is_place j) (in_table ds u) ∙ by (declares e u) refl
     where
-      miss : (o : Option ℕ) → place_of u (all_places 0 ds) ≡ o → declares e u ≡ false → is_place j o ≡ false
+      miss : (o : Option ℕ) → first_place u (all_places 0 ds) ≡ o → declares e u ≡ false → is_place j o ≡ false
       miss None q h = refl
       miss (Some k) q h = by_eq (k == j) refl
         where
@@ -266,9 +266,9 @@ module _ (ds : List Decl) (distinct : Distinct (all_declared ds)) where
               at_one : {m n : ℕ} {x y : Decl} → decl_at m n x y → x ≡ y
               at_one z = some_same _ _ (sym z.1 ∙ ap (slice_get ds) z.0 ∙ z.2)
 
-      by : (b : Bool) → declares e u ≡ b → is_place j (place_of u (all_places 0 ds)) ≡ b
+      by : (b : Bool) → declares e u ≡ b → is_place j (first_place u (all_places 0 ds)) ≡ b
       by true h = let z : 0 + j ≡ j = omega arith in ap (is_place j) (place_is 0 ds u j e distinct a h ∙ ap Some z) ∙ eq-eqb j j refl
-      by false h = miss (place_of u (all_places 0 ds)) refl h
+      by false h = miss (first_place u (all_places 0 ds)) refl h
 
   hits_used : (us : Used) (j : ℕ) (e : Decl) → At ds j e → hits j (declarers ds) us ≡ any_declared e us
   unfolding hits
@@ -282,9 +282,9 @@ module _ (ds : List Decl) (distinct : Distinct (all_declared ds)) where
   hit_at : (j : ℕ) (us : Used) → hits j (declarers ds) us ≡ true → (e : Decl) × At ds j e
   unfolding hits is_place
   hit_at j [] h = no h
-  hit_at j (u ∷ us) h = either (is_place j (place_of u (declarers ds))) (hits j (declarers ds) us) h (λ k. by (place_of u (all_places 0 ds)) refl (sym (ap (is_place j) (in_table ds u)) ∙ k)) (hit_at j us)
+  hit_at j (u ∷ us) h = either (is_place j (first_place u (declarers ds))) (hits j (declarers ds) us) h (λ k. by (first_place u (all_places 0 ds)) refl (sym (ap (is_place j) (in_table ds u)) ∙ k)) (hit_at j us)
     where
-      by : (o : Option ℕ) → place_of u (all_places 0 ds) ≡ o → is_place j o ≡ true → (e : Decl) × At ds j e
+      by : (o : Option ℕ) → first_place u (all_places 0 ds) ≡ o → is_place j o ≡ true → (e : Decl) × At ds j e
       by None q k = no k
       by (Some m) q k =
           let r = declarer_of 0 ds u m q in

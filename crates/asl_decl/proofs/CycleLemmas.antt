@@ -12,7 +12,7 @@ use Rattle.asl_decl.specs.Graphs.{graph_of}
 use Rattle.asl_decl.specs.Orders.{has_mark, IsOrder, IsStuck, HasWay, HasEdges}
 use Rattle.asl_decl.specs.Cycles.{name_of, NoneBack}
 use Rattle.asl_rules.proofs.Tests.{no, some_same}
-use Rattle.asl_decl.proofs.Distinct.{distinct_of}
+use Rattle.asl_rules.proofs.Distinct.{distinct_of}
 use Rattle.asl_decl.proofs.Ways.{below_or}
 use Rattle.asl_decl.proofs.Bridge.{At, edge_at, way_reaches, reaches_way, order_apart, none_left_out}
 

@@ -6,7 +6,7 @@ use Rattle.asl_rules.specs.Declarations.{final}
 use Rattle.asl_decl.specs.Graphs.{graph_of}
 use Rattle.asl_decl.specs.Orders.{Graph, has_mark, IsOrder}
 use Rattle.asl_decl.specs.Passes.{Pass, after_all, before_all}
-use Rattle.asl_decl.proofs.Distinct.{distinct_of}
+use Rattle.asl_rules.proofs.Distinct.{distinct_of}
 use Rattle.asl_decl.proofs.Serving.{pass_is}
 
 pub pass_judged : (ds : List Decl) (g : Graph) (nodes ns : List ℕ) (marks : List Bool) (p : Pass) → names_rule [] (all_declared ds) ≡ Ok tt → g ≡ graph_of ds → ns ≡ nodes → IsOrder (graph_of ds) nodes marks → ((n : ℕ) → n < length ds → has_mark marks n ≡ true) → p ≡ after_all g ds ns (before_all (length ds)) → p.judged ≡ map (final ds) ds

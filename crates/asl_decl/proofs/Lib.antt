@@ -1,13 +1,10 @@
 pub mod Settling
-pub mod Distinct
-pub mod DeclNames
 pub mod SameNames
 pub mod Rounds
 pub mod Reaching
 pub mod Walks
 pub mod KnownLemmas
 pub mod Declaring
-pub mod Drops
 pub mod Marks
 pub mod Bridge
 pub mod Passing

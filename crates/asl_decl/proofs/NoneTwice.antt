@@ -16,7 +16,7 @@ use Rattle.asl_rules.specs.Programs.{funcs_of, has_name, overloads_rule}
 use Rattle.asl_rules.proofs.Inversions.{then_ok, need_ok}
 use Rattle.asl_rules.proofs.Tests.{no, same_name, name_is}
 use Rattle.asl_rules.proofs.Lookups.{behind}
-use Rattle.asl_decl.proofs.Distinct.{Distinct, ApartFrom, NotIn, AllNamed, distinct_of, differs, apart_later, behind_library}
+use Rattle.asl_rules.proofs.Distinct.{Distinct, ApartFrom, NotIn, AllNamed, distinct_of, differs, apart_later, behind_library}
 use Rattle.asl_decl.proofs.Rounds.{Named, final_named}
 use Rattle.asl_decl.proofs.Passing.{with_all}
 use Rattle.asl_decl.proofs.Scoping.{AllNew, all_kept}

@@ -7,8 +7,8 @@ use Rattle.asl_rules.specs.Uses.{uses, uses_one_of}
 use Rattle.asl_rules.specs.Declarations.{in_names, decl_rule, Judged, Waiting, Fine, Faulty, judged, is_fine, entries, all_fine, final, names_of_program}
 use Rattle.asl_rules.proofs.Tests.{no}
 use Rattle.asl_rules.proofs.Lookups.{behind, before_is}
-use Rattle.asl_decl.proofs.Settling.{In}
-use Rattle.asl_decl.proofs.Distinct.{Distinct, IsPlain, plain_in, plain_named, plain_new, only_subprograms, library_listed, FoundAt, own_found}
+use Rattle.asl_rules.proofs.Distinct.{In, Distinct, IsPlain, plain_in, plain_named, plain_new, only_subprograms, FoundAt, own_found}
+use Rattle.asl_decl.proofs.LibraryNames.{library_listed}
 use Rattle.asl_decl.proofs.SameNames.{decl_same}
 use Rattle.asl_decl.proofs.Rounds.{Named, Serves, serve_agree, all_serve, all_fine_is, is_all_fine, final_is, final_named}
 

@@ -7,7 +7,8 @@ use Rattle.asl_syn.specs.declared.tree.Decl.TheVariants as dc
 use Rattle.asl_rules.specs.Faults.{◌>>◌, need}
 use Rattle.asl_rules.specs.Uses.{uses_one_of, leads_by, leads_to, reaches_itself, cycles_rule}
 use Rattle.asl_rules.proofs.Tests.{no, both, and_true, either, or_first, or_second}
-use Rattle.asl_decl.proofs.Settling.{In, settled}
+use Rattle.asl_rules.proofs.Distinct.{In}
+use Rattle.asl_decl.proofs.Settling.{settled}
 
 -- ---- one step, and the rest
 

@@ -1,5 +1,5 @@
 -- After all rounds each declaration is judged as it is where all others are judged so: the rounds have come to rest.
-use Rattle.std.proofs.Common.{◌≡◌, ℕ, zero, suc, ◌⊎◌, inl, inr, ⊎_elim, Bool, true, false, not, ◌&&◌, ◌||◌, cond, List, [], ◌∷◌, ◌++◌, Option, Some, None, Ok, Err, length, map, refl, sym, ap, ◌∙◌, subst, arith}
+use Rattle.std.proofs.Common.{◌≡◌, ℕ, zero, suc, inl, inr, ⊎_elim, Bool, true, false, not, ◌&&◌, ◌||◌, cond, List, [], ◌∷◌, ◌++◌, Option, Some, None, Ok, Err, length, map, refl, sym, ap, ◌∙◌, subst, arith}
 use Rattle.std.specs.Prelude.{Result}
 use Rattle.std.specs.Str.{bytes_eq}
 use Rattle.asl_syn.specs.declared.code.Fault.{Fault}
@@ -10,9 +10,10 @@ use Rattle.asl_rules.specs.Uses.{Used, uses, is_declared, declares, any_declared
 use Rattle.asl_rules.specs.Declarations.{in_names, decl_rule, Judged, Waiting, Fine, Faulty, judged, is_fine, entries_of, entries, fine_where_used, all_fine, judged_by, still, judgement, final}
 use Rattle.asl_rules.proofs.Tests.{no, some_same, both, and_true, name_is, or_first, or_second}
 use Rattle.asl_rules.proofs.Lookups.{none_some}
-use Rattle.asl_decl.proofs.Settling.{In, settled}
-use Rattle.asl_decl.proofs.Distinct.{Distinct, AllNamed, IsPlain, Plain, plain_in, plain_named, plain_new, behind_library, past_library, FoundAt, found_at, own_found}
-use Rattle.asl_decl.proofs.DeclNames.{decl_named}
+use Rattle.asl_decl.proofs.Settling.{settled}
+use Rattle.asl_rules.proofs.Distinct.{In, Distinct, AllNamed, IsPlain, Plain, plain_in, plain_named, plain_new, behind_library, past_library, FoundAt, found_at, own_found}
+use Rattle.asl_rules.proofs.DeclForms.{decl_named}
+use Rattle.asl_rules.proofs.Globals.{not_waiting, by_test, still_is}
 use Rattle.asl_decl.proofs.SameNames.{shown, Agree, decl_same}
 
 -- ---- what is judged
@@ -21,28 +22,6 @@ abbrev pub is_judged : Judged → Bool
 is_judged Waiting = false
 is_judged (Fine es) = true
 is_judged (Faulty f) = true
-
-pub fine_same : (es fs : List Entry) → Fine es ≡ Fine fs → es ≡ fs
-fine_same es fs h = ap entries_of h
-
-pub not_waiting : {A : Type 0} (es : List Entry) → Waiting ≡ Fine es → A
-not_waiting es h = no (ap is_fine h)
-
-not_faulty : {A : Type 0} (f : Fault) (es : List Entry) → Faulty f ≡ Fine es → A
-not_faulty f es h = no (ap is_fine h)
-
-judged_is : (r : Result (List Entry) Fault) (es : List Entry) → judged r ≡ Fine es → r ≡ Ok es
-judged_is (Ok fs) es h = ap Ok (fine_same fs es h)
-judged_is (Err f) es h = not_faulty f es h
-
-by_test : (b : Bool) (r : Result (List Entry) Fault) (es : List Entry) → cond b (judged r) Waiting ≡ Fine es → r ≡ Ok es
-by_test true r es h = judged_is r es h
-by_test false r es h = not_waiting es h
-
-still_is : (j k : Judged) (es : List Entry) → still j k ≡ Fine es → (j ≡ Fine es) ⊎ (k ≡ Fine es)
-still_is Waiting k es h = inr h
-still_is (Fine fs) k es h = inl h
-still_is (Faulty f) k es h = inl h
 
 still_judged : (j k : Judged) → is_judged j ≡ true → still j k ≡ j
 still_judged Waiting k h = no h

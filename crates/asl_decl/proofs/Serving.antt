@@ -19,8 +19,7 @@ use Rattle.asl_decl.specs.Orders.{row, has_mark, all_marked, is_among, all_among
 use Rattle.asl_decl.specs.Passes.{Pass, judged_over, names_after, with_judged, after_at, after_all, before_all}
 use Rattle.asl_rules.proofs.Tests.{no, some_same, both, either}
 use Rattle.asl_rules.proofs.Lookups.{none_some}
-use Rattle.asl_decl.proofs.Settling.{In}
-use Rattle.asl_decl.proofs.Distinct.{Distinct, AllNamed, IsPlain, Plain, plain_named}
+use Rattle.asl_rules.proofs.Distinct.{In, Distinct, AllNamed, IsPlain, Plain, plain_named}
 use Rattle.asl_decl.proofs.Rounds.{final_named}
 use Rattle.asl_decl.proofs.Bridge.{At, at_in, in_at, edge_is, edge_at, among_all, one_unmarked}
 use Rattle.asl_decl.proofs.Ways.{among_marked, among_split}

@@ -1,11 +1,7 @@
 -- Tests that only ever come to hold, of the members of a list, settle after as many steps as the list is long.
 use Rattle.std.proofs.Common.{◌≡◌, ℕ, zero, suc, ◌+◌, ◌≤◌, ◌⊎◌, inl, inr, Bool, true, false, cond, List, [], ◌∷◌, length, refl, sym, ◌∙◌, subst, arith}
 use Rattle.asl_rules.proofs.Tests.{no}
-
--- a member of a list
-abbrev pub In : {A : Type 0} → A → List A → Type 0
-In x [] = ⊥
-In x (y ∷ ys) = (y ≡ x) ⊎ In x ys
+use Rattle.asl_rules.proofs.Distinct.{In}
 
 -- the number of members of which a test doesn't hold
 abbrev left : {A : Type 0} → (A → Bool) → List A → ℕ

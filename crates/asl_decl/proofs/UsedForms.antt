@@ -17,7 +17,8 @@ use Rattle.asl_syn.specs.declared.tree.TypeExpr.TheVariants as tv
 use Rattle.asl_syn.specs.declared.tree.Bitfield.TheOpen as ex
 use Rattle.asl_syn.specs.declared.tree.Bitfield.TheFolds.{fold-roll-Expr, fold-roll-Slice, fold-roll-Pattern, fold-roll-TypeExpr, fold-roll-ConstraintPart, fold-roll-Bitfield}
 use Rattle.asl_rules.specs.Uses.{Used, all_used, used_by, used_by_type, in_bitfield, in_part, in_expr, in_field, in_pattern, in_slice, in_type}
-use Rattle.asl_decl.specs.Graphs.{Places, added, used_by_bitfield, used_by_part, used_by_pattern, used_by_slice}
+use Rattle.asl_types.specs.Firsts.{Places}
+use Rattle.asl_decl.specs.Graphs.{added, used_by_bitfield, used_by_part, used_by_pattern, used_by_slice}
 use Rattle.asl_decl.proofs.Declaring.{added_of}
 
 pub used_Binary : (span : Span) (o : BinaryOperator) (a b : Expr) → used_by (ev.Binary span o a b) ≡ used_by a ++ used_by b

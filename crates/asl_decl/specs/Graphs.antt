@@ -1,7 +1,5 @@
 -- Declarations by their places, and which of them use which.
 use Rattle.std.specs.Prelude.{ℕ, ◌+◌, List, [], ◌∷◌, ◌++◌, map, Option, None, Some}
-use Rattle.std.specs.Str.{bytes_eq}
-use Rattle.std.specs.Map.{lookup}
 use Rattle.asl_syn.specs.declared.tree.Decl.{Decl}
 use Rattle.asl_syn.specs.declared.tree.Decl.TheVariants as dc
 use Rattle.asl_syn.specs.declared.tree.Ident.{Ident}
@@ -13,25 +11,12 @@ use Rattle.asl_syn.specs.declared.tree.Pattern.{Pattern}
 use Rattle.asl_syn.specs.declared.tree.Slice.{Slice}
 use Rattle.asl_syn.specs.declared.tree.Bitfield.TheFolds.{fold-Bitfield, fold-ConstraintPart, fold-FieldValue, fold-Pattern, fold-Slice}
 use Rattle.asl_rules.specs.Uses.{Used, uses, in_bitfield, in_part, in_expr, in_field, in_pattern, in_slice, in_type}
+use Rattle.asl_types.specs.Firsts.{Places, first_place, kept}
 
--- names, each with the place of a declaration
-abbrev pub Places : Type 0
-Places = List (List ℕ × ℕ)
-
-abbrev pub place_of : List ℕ → Places → Option ℕ
-place_of name table = lookup (bytes_eq name) table
-
--- a name is kept where it isn't there
-abbrev pub with_first : Option ℕ → List ℕ → ℕ → Places → Places
-with_first (Some n) name place table = table
-with_first None name place table = table ++ (name, place) ∷ []
-
-abbrev pub with_place : List ℕ → ℕ → Places → Places
-with_place name place table = with_first (place_of name table) name place table
-
-abbrev pub kept : Places → Places → Places
-kept [] table = table
-kept (p ∷ ps) table = kept ps (with_place p.0 p.1 table)
+-- with these names, each with its place, where they aren't there
+abbrev pub all_kept : Places → Places → Places
+all_kept [] table = table
+all_kept (p ∷ ps) table = all_kept ps (kept p.0 p.1 table)
 
 -- the names of a type, with its labels, or of storage
 abbrev pub plain_names : Decl → List Ident
@@ -50,7 +35,7 @@ all_places place (d ∷ ds) = named_at place (plain_names d) ++ all_places (plac
 
 -- where each name is declared
 abbrev pub declarers : List Decl → Places
-declarers ds = kept (all_places 0 ds) []
+declarers ds = all_kept (all_places 0 ds) []
 
 abbrev pub with_used : Option ℕ → List ℕ → List ℕ
 with_used None places = places
@@ -59,7 +44,7 @@ with_used (Some n) places = places ++ n ∷ []
 -- and then the places of these names
 abbrev pub added : Places → Used → List ℕ → List ℕ
 added table [] places = places
-added table (u ∷ us) places = added table us (with_used (place_of u table) places)
+added table (u ∷ us) places = added table us (with_used (first_place u table) places)
 
 -- of each declaration the places of those that it uses
 abbrev pub graph_by : Places → List Decl → List (List ℕ)

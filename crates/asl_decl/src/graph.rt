@@ -5,14 +5,15 @@ ghost use Rattle.asl_syn.specs.declared.tree.Decl.TheVariants as decl;
 ghost use Rattle.asl_rules.specs.Uses as uses;
 ghost use Rattle.asl_decl.specs.Graphs as graphs;
 
-use crate::declarers::{Declarers, declared_places};
+use crate::declarers::declared_places;
 use crate::used::{use_expr, use_name, use_type};
 use asl_syn::tree::{Decl, Expr, Formal, Ident, StorageDecl, TypeDecl, TypeDef, TypeExpr};
+use asl_types::firsts::Firsts;
 use sqlite_items::Items;
 use std::alloc::{AllocError, Global};
 
 fn use_formals(
-    table: &Declarers<'_>,
+    table: &Firsts<'_>,
     fields: &[Formal],
     places: &mut Items<usize>,
 ) -> Result<(), AllocError>
@@ -24,11 +25,7 @@ fn use_formals(
     Ok(())
 }
 
-fn use_def(
-    table: &Declarers<'_>,
-    def: &TypeDef,
-    places: &mut Items<usize>,
-) -> Result<(), AllocError>
+fn use_def(table: &Firsts<'_>, def: &TypeDef, places: &mut Items<usize>) -> Result<(), AllocError>
     ensures { OnOk result (places.new ≡ graphs.added table.now (uses.used_by_def def.now) places.old) }
 {
     match def {
@@ -40,7 +37,7 @@ fn use_def(
 }
 
 fn use_supertype(
-    table: &Declarers<'_>,
+    table: &Firsts<'_>,
     supertype: &Option<Ident>,
     places: &mut Items<usize>,
 ) -> Result<(), AllocError>
@@ -53,7 +50,7 @@ fn use_supertype(
 }
 
 fn use_written(
-    table: &Declarers<'_>,
+    table: &Firsts<'_>,
     ty: &Option<TypeExpr>,
     places: &mut Items<usize>,
 ) -> Result<(), AllocError>
@@ -66,7 +63,7 @@ fn use_written(
 }
 
 fn use_init(
-    table: &Declarers<'_>,
+    table: &Firsts<'_>,
     init: &Option<Expr>,
     places: &mut Items<usize>,
 ) -> Result<(), AllocError>
@@ -80,7 +77,7 @@ fn use_init(
 
 #[tactic(auto, using(crate::proofs::Declaring::added_then))]
 fn use_type_decl(
-    table: &Declarers<'_>,
+    table: &Firsts<'_>,
     d: &TypeDecl,
     places: &mut Items<usize>,
 ) -> Result<(), AllocError>
@@ -93,7 +90,7 @@ fn use_type_decl(
 
 #[tactic(auto, using(crate::proofs::Declaring::added_then))]
 fn use_storage(
-    table: &Declarers<'_>,
+    table: &Firsts<'_>,
     d: &StorageDecl,
     places: &mut Items<usize>,
 ) -> Result<(), AllocError>
@@ -104,7 +101,7 @@ fn use_storage(
     Ok(())
 }
 
-fn use_decl(table: &Declarers<'_>, d: &Decl, places: &mut Items<usize>) -> Result<(), AllocError>
+fn use_decl(table: &Firsts<'_>, d: &Decl, places: &mut Items<usize>) -> Result<(), AllocError>
     ensures { OnOk result (places.new ≡ graphs.added table.now (uses.uses d.now) places.old) }
 {
     match d {
@@ -114,7 +111,7 @@ fn use_decl(table: &Declarers<'_>, d: &Decl, places: &mut Items<usize>) -> Resul
     }
 }
 
-fn row_of(alloc: Global, table: &Declarers<'_>, d: &Decl) -> Result<Items<usize>, AllocError>
+fn row_of(alloc: Global, table: &Firsts<'_>, d: &Decl) -> Result<Items<usize>, AllocError>
     ensures { IfOk result (λ row. row ≡ graphs.added table.now (uses.uses d.now) []) }
 {
     let mut places = Items::new(alloc);

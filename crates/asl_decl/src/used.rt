@@ -4,20 +4,20 @@ ghost use Rattle.std.specs.Prelude.{◌≡◌, [], ◌∷◌, ◌++◌, map, OnO
 ghost use Rattle.asl_rules.specs.Uses as uses;
 ghost use Rattle.asl_decl.specs.Graphs as graphs;
 
-use crate::declarers::Declarers;
 use asl_syn::tree::{Bitfield, ConstraintPart, Expr, FieldValue, Pattern, Slice, TypeExpr};
+use asl_types::firsts::Firsts;
 use sqlite_items::Items;
 use std::alloc::AllocError;
 
 /// The place of a name's declaration, where there is one.
 pub(crate) fn use_name(
-    table: &Declarers<'_>,
+    table: &Firsts<'_>,
     name: &[u8],
     places: &mut Items<usize>,
 ) -> Result<(), AllocError>
     ensures { OnOk result (places.new ≡ graphs.added table.now (name.now ∷ []) places.old) }
 {
-    if let Some(place) = table.get(name) {
+    if let Some(place) = table.place_of(name) {
         places.push(place)?;
     }
     Ok(())
@@ -27,7 +27,7 @@ pub(crate) fn use_name(
 
 #[cycle(uses)]
 pub(crate) fn use_expr(
-    table: &Declarers<'_>,
+    table: &Firsts<'_>,
     e: &Expr,
     places: &mut Items<usize>,
 ) -> Result<(), AllocError>
@@ -88,7 +88,7 @@ pub(crate) fn use_expr(
 
 #[cycle(uses)]
 fn use_exprs(
-    table: &Declarers<'_>,
+    table: &Firsts<'_>,
     exprs: &[Expr],
     places: &mut Items<usize>,
 ) -> Result<(), AllocError>
@@ -102,7 +102,7 @@ fn use_exprs(
 
 #[cycle(uses)]
 fn use_field(
-    table: &Declarers<'_>,
+    table: &Firsts<'_>,
     field: &FieldValue,
     places: &mut Items<usize>,
 ) -> Result<(), AllocError>
@@ -115,7 +115,7 @@ fn use_field(
 
 #[cycle(uses)]
 fn use_fields(
-    table: &Declarers<'_>,
+    table: &Firsts<'_>,
     fields: &[FieldValue],
     places: &mut Items<usize>,
 ) -> Result<(), AllocError>
@@ -128,11 +128,7 @@ fn use_fields(
 }
 
 #[cycle(uses)]
-fn use_slice(
-    table: &Declarers<'_>,
-    slice: &Slice,
-    places: &mut Items<usize>,
-) -> Result<(), AllocError>
+fn use_slice(table: &Firsts<'_>, slice: &Slice, places: &mut Items<usize>) -> Result<(), AllocError>
     ensures { OnOk result (places.new ≡ graphs.added table.now (graphs.used_by_slice slice.now) places.old) }
 {
     match slice {
@@ -157,7 +153,7 @@ fn use_slice(
 
 #[cycle(uses)]
 fn use_slices(
-    table: &Declarers<'_>,
+    table: &Firsts<'_>,
     slices: &[Slice],
     places: &mut Items<usize>,
 ) -> Result<(), AllocError>
@@ -171,7 +167,7 @@ fn use_slices(
 
 #[cycle(uses)]
 fn use_pattern(
-    table: &Declarers<'_>,
+    table: &Firsts<'_>,
     pattern: &Pattern,
     places: &mut Items<usize>,
 ) -> Result<(), AllocError>
@@ -195,7 +191,7 @@ fn use_pattern(
 
 #[cycle(uses)]
 fn use_patterns(
-    table: &Declarers<'_>,
+    table: &Firsts<'_>,
     patterns: &[Pattern],
     places: &mut Items<usize>,
 ) -> Result<(), AllocError>
@@ -209,7 +205,7 @@ fn use_patterns(
 
 #[cycle(uses)]
 pub(crate) fn use_type(
-    table: &Declarers<'_>,
+    table: &Firsts<'_>,
     ty: &TypeExpr,
     places: &mut Items<usize>,
 ) -> Result<(), AllocError>
@@ -236,7 +232,7 @@ pub(crate) fn use_type(
 
 #[cycle(uses)]
 fn use_types(
-    table: &Declarers<'_>,
+    table: &Firsts<'_>,
     types: &[TypeExpr],
     places: &mut Items<usize>,
 ) -> Result<(), AllocError>
@@ -250,7 +246,7 @@ fn use_types(
 
 #[cycle(uses)]
 fn use_part(
-    table: &Declarers<'_>,
+    table: &Firsts<'_>,
     part: &ConstraintPart,
     places: &mut Items<usize>,
 ) -> Result<(), AllocError>
@@ -268,7 +264,7 @@ fn use_part(
 
 #[cycle(uses)]
 fn use_parts(
-    table: &Declarers<'_>,
+    table: &Firsts<'_>,
     parts: &[ConstraintPart],
     places: &mut Items<usize>,
 ) -> Result<(), AllocError>
@@ -282,7 +278,7 @@ fn use_parts(
 
 #[cycle(uses)]
 fn use_bitfield(
-    table: &Declarers<'_>,
+    table: &Firsts<'_>,
     field: &Bitfield,
     places: &mut Items<usize>,
 ) -> Result<(), AllocError>
@@ -300,7 +296,7 @@ fn use_bitfield(
 
 #[cycle(uses)]
 fn use_bitfields(
-    table: &Declarers<'_>,
+    table: &Firsts<'_>,
     fields: &[Bitfield],
     places: &mut Items<usize>,
 ) -> Result<(), AllocError>

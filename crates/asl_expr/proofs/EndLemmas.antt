@@ -1,17 +1,15 @@
 -- The effects and the types of operands, one by one.
 use Rattle.std.proofs.Common.{◌≡◌, ℕ, ◌+◌, ◌<◌, ◌≤◌, length, get_or, drop, List, [], ◌∷◌, ◌++◌, refl, sym, ap, ◌∙◌, append_assoc}
-use Rattle.std.proofs.lemmas.List.{drop_more, drop_all, append-nil}
+use Rattle.std.proofs.lemmas.List.{drop_all, append-nil}
 use Rattle.asl_rules.specs.declared.effect.Effect.{Effect}
 use Rattle.asl_rules.specs.Types.{Parts, no_part, part}
 use Rattle.asl_rules.specs.Exprs.{effects_of, types_of}
 use Rattle.asl_types.specs.declared.ty.Ty.{Ty}
 use Rattle.asl_types.specs.Judged.{parts_before}
 use Rattle.asl_types.specs.View.{ty_of, all_parts}
+use Rattle.asl_types.proofs.Rest.{at_next}
 use Rattle.asl_expr.specs.declared.typed.Operand.{Operand}
 use Rattle.asl_expr.specs.Views.{all_operands}
-
-at_next : (os : List Operand) (i : ℕ) (o : Operand) → i < length os → o ≡ get_or os i o → drop i os ≡ o ∷ drop (i + 1) os
-at_next os i o within here = drop_more os i o within ∙ ap (λ z. z ∷ drop (i + 1) os) (sym here)
 
 pub effects_next : (os : List Operand) (i : ℕ) (o : Operand) (ks ls all : List Effect) → i < length os → o ≡ get_or os i o → ls ≡ ks ++ o.typed.effect ∷ [] →
     ks ++ effects_of (all_operands (drop i os)) ≡ all → ls ++ effects_of (all_operands (drop (i + 1) os)) ≡ all

@@ -1,6 +1,6 @@
 -- Expressions in order, one by one.
 use Rattle.std.proofs.Common.{◌≡◌, ℕ, ◌+◌, ◌<◌, ◌≤◌, length, get_or, drop, List, [], ◌∷◌, ◌++◌, Result, Ok, Err, map, refl, sym, ap, ◌∙◌, append_assoc}
-use Rattle.std.proofs.lemmas.List.{drop_more, drop_all}
+use Rattle.std.proofs.lemmas.List.{drop_all}
 use Rattle.asl_syn.specs.declared.token.Span.{Span}
 use Rattle.asl_syn.specs.declared.code.Fault.{Fault}
 use Rattle.asl_syn.specs.declared.tree.Expr.{Expr}
@@ -8,6 +8,7 @@ use Rattle.asl_rules.specs.Faults.{◌>>=◌}
 use Rattle.asl_rules.specs.Scopes.{Scope}
 use Rattle.asl_rules.specs.Exprs as rules
 use Rattle.asl_rules.specs.Exprs.{typed, found, operands}
+use Rattle.asl_types.proofs.Rest.{at_next}
 use Rattle.asl_tree.specs.declared.typed.TypedExpr.{TypedExpr}
 use Rattle.asl_tree.specs.Elaboration.{made, elaborated, trees_in}
 use Rattle.asl_expr.specs.declared.typed.Operand.{Operand}
@@ -24,12 +25,9 @@ one_more : (os : List Operand) (o : Operand) (ps : List rules.Operand) → opera
 one_more [] o ps = refl
 one_more (p ∷ os) o ps = ap (λ qs. operand_of p ∷ qs) (one_more os o ps)
 
-behind_one : (os : List Operand) (o : Operand) (r : Found) → behind_operands os (r >>= λ ps. Ok (operand_of o ∷ ps)) ≡ behind_operands (os ++ o ∷ []) r
+pub behind_one : (os : List Operand) (o : Operand) (r : Found) → behind_operands os (r >>= λ ps. Ok (operand_of o ∷ ps)) ≡ behind_operands (os ++ o ∷ []) r
 behind_one os o (Ok ps) = ap (λ qs. let a : Found = Ok qs in a) (one_more os o ps)
 behind_one os o (Err e) = refl
-
-at_next : (es : List Expr) (i : ℕ) (e : Expr) → i < length es → e ≡ get_or es i e → drop i es ≡ e ∷ drop (i + 1) es
-at_next es i e within here = drop_more es i e within ∙ ap (λ z. z ∷ drop (i + 1) es) (sym here)
 
 -- one more, where it is well formed
 pub operands_next : (all : Found) (es : List Expr) (i : ℕ) (e : Expr) (os qs : List Operand) (o : Operand) (G : Scope) →
@@ -51,7 +49,7 @@ operands_stop all es i e os f G within here w before =
     ∙ ap (λ fs. behind_operands os (operands (all_found fs) G)) (at_next es i e within here)
     ∙ ap (λ r. behind_operands os (r >>= λ S. operands (all_found (drop (i + 1) es)) G >>= λ Ss. Ok (record { span = (found e).span; typed = S } ∷ Ss))) w
 
-before_none : (os : List Operand) → operands_before os [] ≡ all_operands os
+pub before_none : (os : List Operand) → operands_before os [] ≡ all_operands os
 before_none [] = refl
 before_none (o ∷ os) = ap (λ ps. operand_of o ∷ ps) (before_none os)
 

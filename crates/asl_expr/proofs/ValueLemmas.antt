@@ -1,6 +1,6 @@
 -- The values of fields in order, one by one.
 use Rattle.std.proofs.Common.{◌≡◌, ℕ, ◌+◌, ◌<◌, ◌≤◌, length, get_or, drop, List, [], ◌∷◌, ◌++◌, Result, Ok, Err, map, refl, sym, ap, ◌∙◌, append_assoc}
-use Rattle.std.proofs.lemmas.List.{drop_more, drop_all}
+use Rattle.std.proofs.lemmas.List.{drop_all}
 use Rattle.asl_syn.specs.declared.token.Span.{Span}
 use Rattle.asl_syn.specs.declared.code.Fault.{Fault}
 use Rattle.asl_syn.specs.declared.tree.FieldValue.{FieldValue}
@@ -8,29 +8,16 @@ use Rattle.asl_rules.specs.Faults.{◌>>=◌}
 use Rattle.asl_rules.specs.Scopes.{Scope}
 use Rattle.asl_rules.specs.Exprs as rules
 use Rattle.asl_rules.specs.Exprs.{operands, values_given}
+use Rattle.asl_types.proofs.Rest.{at_next}
 use Rattle.asl_tree.specs.declared.typed.TypedExpr.{TypedExpr}
 use Rattle.asl_tree.specs.Elaboration.{made_field, values_in}
 use Rattle.asl_expr.specs.declared.typed.Operand.{Operand}
 use Rattle.asl_expr.specs.Constructs.{found_field, found_fields, operand_found}
-use Rattle.asl_expr.specs.Views.{operand_of, all_operands, operands_before, behind_operands}
+use Rattle.asl_expr.specs.Views.{operand_of, all_operands, behind_operands}
+use Rattle.asl_expr.proofs.OperandLemmas.{behind_one, before_none}
 
 abbrev Answer : Type 0
 Answer = Result (List rules.Operand) Fault
-
-pub operands_first : (r : Answer) → r ≡ behind_operands [] r
-operands_first (Ok ps) = refl
-operands_first (Err e) = refl
-
-one_more : (os : List Operand) (o : Operand) (ps : List rules.Operand) → operands_before os (operand_of o ∷ ps) ≡ operands_before (os ++ o ∷ []) ps
-one_more [] o ps = refl
-one_more (p ∷ os) o ps = ap (λ qs. operand_of p ∷ qs) (one_more os o ps)
-
-behind_one : (os : List Operand) (o : Operand) (r : Answer) → behind_operands os (r >>= λ ps. Ok (operand_of o ∷ ps)) ≡ behind_operands (os ++ o ∷ []) r
-behind_one os o (Ok ps) = ap (λ qs. let a : Answer = Ok qs in a) (one_more os o ps)
-behind_one os o (Err e) = refl
-
-at_next : (gs : List FieldValue) (i : ℕ) (g : FieldValue) → i < length gs → g ≡ get_or gs i g → drop i gs ≡ g ∷ drop (i + 1) gs
-at_next gs i g within here = drop_more gs i g within ∙ ap (λ z. z ∷ drop (i + 1) gs) (sym here)
 
 split : (r : Result rules.Typed Fault) (at : Span) (k : rules.Operand → Answer) →
     (r >>= λ S. k (record { span = at; typed = S })) ≡ ((r >>= λ S. Ok (record { span = at; typed = S })) >>= k)
@@ -77,10 +64,6 @@ values_opened all gs i g os G within here before =
     before
     ∙ ap (λ r. behind_operands os r) (opened gs i g G within here)
     ∙ later os (operand_found (found_field g).value G) (λ p. operands (values_given (found_fields (drop (i + 1) gs))) G >>= λ ps. Ok (p ∷ ps))
-
-before_none : (os : List Operand) → operands_before os [] ≡ all_operands os
-before_none [] = refl
-before_none (o ∷ os) = ap (λ ps. operand_of o ∷ ps) (before_none os)
 
 pub operands_last : (all : Answer) (gs : List FieldValue) (i : ℕ) (os : List Operand) (G : Scope) → length gs ≤ i →
     all ≡ behind_operands os (operands (values_given (found_fields (drop i gs))) G) → all ≡ Ok (all_operands os)

@@ -191,7 +191,7 @@ fn type_construction(
 
 /// The typed trees of the values of fields in order, with what is found at each, or the first fault.
 #[cycle(exprs)]
-#[tactic(auto, using(crate::proofs::ValueLemmas::operands_first, crate::proofs::ValueLemmas::values_stop, crate::proofs::ValueLemmas::operands_last))]
+#[tactic(auto, using(crate::proofs::OperandLemmas::operands_first, crate::proofs::ValueLemmas::values_stop, crate::proofs::ValueLemmas::operands_last))]
 fn type_values(
     alloc: Global,
     names: &Scope,

@@ -12,7 +12,7 @@ use asl_io::{Sink, put_all};
 use asl_value::{Value, leaves_open, show};
 
 /// Whether text is open once these bytes are written: it isn't empty and doesn't end in a line feed.
-#[tactic(auto, using(crate::proofs::Pieces::open_end))]
+#[tactic(auto, using(asl_value::proofs::Endings::open_end))]
 fn is_open(before: bool, bytes: &[u8]) -> bool
     ensures { result ≡ open_after before bytes.now }
 {

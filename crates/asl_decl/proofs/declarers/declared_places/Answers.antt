@@ -1,7 +1,7 @@
 use Rattle.std.proofs.Common.{◌+◌, drop, sym, ap, ◌∙◌, arith}
-use Rattle.asl_decl.specs.Graphs.{named_at, plain_names, all_places, kept}
+use Rattle.asl_decl.specs.Graphs.{named_at, plain_names, all_places, all_kept}
 use Rattle.asl_decl.proofs.Declaring.{kept_both}
-use Rattle.asl_decl.proofs.Drops.{drop_here}
+use Rattle.asl_types.proofs.Rest.{at_next}
 use Rattle.asl_decl.proofs.declarers.declared_places.Goals as goal
 
 pub loop-place-preserved : goal.loop-place-preserved
@@ -10,7 +10,7 @@ loop-place-preserved c =
     let xs = c.args.decls.now in
     let d = c.index-decls-place.result in
     let rest = all_places (i + 1) (drop (i + 1) xs) in
-    ap (kept rest) c.in_ok-keep_decl.ensures
+    ap (all_kept rest) c.in_ok-keep_decl.ensures
     ∙ sym (kept_both (named_at i (plain_names d)) rest c.loop-place.table)
-    ∙ ap (λ l. kept (all_places i l) c.loop-place.table) (sym (drop_here xs i d (omega arith) c.index-decls-place.is))
+    ∙ ap (λ l. all_kept (all_places i l) c.loop-place.table) (sym (at_next xs i d (omega arith) c.index-decls-place.is))
     ∙ c.loop-place.invariant
