@@ -1,13 +1,14 @@
 #!/usr/bin/env python3
 """Turns the table of the grammar into text.
 
-It writes, in the crate asl_grammar, the numbers of the kinds of tokens (specs/grammar/Kinds.antt, src/kinds.rt), the
-rules (specs/grammar/Rules.antt) and the proof that one token is enough to choose by (proofs/grammar/Checked.antt), and,
-in the crates asl_parse_expr and asl_parse_stmt, each rule as the steps of the function that reads it (proofs/Steps.antt).
+It writes, in the crate asl_grammar, the kinds of tokens (specs/grammar/Kinds.antt, src/kinds.rt), the operators that
+kinds are (specs/grammar/Operators.antt, src/operators.rt), the rules (specs/grammar/Rules.antt) and the proof that one
+token is enough to choose by (proofs/grammar/Checked.antt), and, in the crates asl_parse_expr and asl_parse_stmt, each rule as the steps of the function that reads it (proofs/Steps.antt).
 
     generate.py          writes the files
     generate.py --check  writes nothing, and fails where a file is not what it would write
 """
+import glob
 import os
 import re
 import sys
@@ -17,8 +18,7 @@ CRATES = os.path.normpath(os.path.join(HERE, '..', '..', 'crates'))
 
 # ---- kinds of tokens
 
-LITERALS = ['NAME', 'INTEGER_LITERAL', 'BITS_LITERAL', 'MASK_LITERAL', 'STRING_LITERAL']
-LITERAL_VARIANTS = ['Name', 'Int', 'Bits', 'Mask', 'Text']
+LITERALS = {'Name': 'Name', 'Int': 'IntegerLiteral', 'Bits': 'BitsLiteral', 'Mask': 'MaskLiteral', 'Text': 'StringLiteral'}
 MARKS = ('OpenParen CloseParen OpenBracket CloseBracket OpenBrace CloseBrace Semicolon Comma Dot DotDot Colon ColonColon '
          'Assign Equal FatArrow Bang NotEqual AndAnd OrOr Implies Iff Less LessEqual ShiftLeft Greater GreaterEqual '
          'ShiftRight Plus PlusColon Minus Star StarColon Caret Slash').split()
@@ -27,16 +27,11 @@ WORDS = ('BitAnd Div DivRm False In Mod Not BitOr True BitXor Array As Assert Be
          'Pure ReadOnly Record RecurseLimit Repeat Return Subtypes Then Throw To Try TypeWord Unreachable Until Var When '
          'Where While').split()
 LEFT_OUT = 'Real StringWord Collection Pragma NoReturn Arbitrary Accessor ImpDef Implementation Config'.split()
+KINDS = {kind: n for n, kind in enumerate(list(LITERALS.values()) + MARKS + WORDS + ['LeftOut'])}
+WORD_KINDS = {**{word: word for word in WORDS}, 'BitEor': 'BitXor', **{word: 'LeftOut' for word in LEFT_OUT}}
 
 
-def constant(variant):
-    special = {'TypeWord': 'TYPE'}
-    return special.get(variant) or re.sub(r'(?<=[a-z])(?=[A-Z])', '_', variant).upper()
-
-
-CODES = {}
-for kind in LITERALS + [constant(v) for v in MARKS + WORDS] + ['LEFT_OUT']:
-    CODES[kind] = len(CODES)
+def snake(variant): return re.sub(r'(?<=[a-z])(?=[A-Z])', '_', variant).lower()
 
 # ---- rules as data
 
@@ -92,9 +87,9 @@ def made(template, base, parts, whole):
 
 def make(template, *parts): return made(template, 'r', parts, None)
 def node(template, *parts): return made(template, 'r.0', parts, 'r.1')
-def more(p): return by('seconds', many(seq(tok('COMMA'), p)))
-def commas(p): return make('$0 ∷ seconds $1', p, many(seq(tok('COMMA'), p)))
-def listed(p): return make('$0 ∷ seconds $1.0', p, trail(['COMMA'], p))
+def more(p): return by('seconds', many(seq(tok('Comma'), p)))
+def commas(p): return make('$0 ∷ seconds $1', p, many(seq(tok('Comma'), p)))
+def listed(p): return make('$0 ∷ seconds $1.0', p, trail(['Comma'], p))
 def links(operators, operand): return many(seq(opens(*operators), spanned(operand)))
 def level(operand, rest): return make('chained $0.1.from $0.0 $1', spanned(operand), rest)
 def post(p): return make('posted $0.1.from $0.0 $1', spanned(p), 'post_rest')
@@ -211,14 +206,17 @@ for name in RULES: visit(name)
 
 def codes(cs):
     if isinstance(cs, list) and len(cs) == 1 and cs[0] == 'operators': return 'operators'
-    return '(' + ' ∷ '.join(list(cs) + ['[]']) + ')' if cs else '[]'
+    return '(' + ' ∷ '.join([constructor(c) for c in cs] + ['[]']) + ')' if cs else '[]'
+
+
+def constructor(c): return 'kind.' + c if c in KINDS else c
 
 
 def text(p):
     k = p.kind
     if k == 'ref':
         if p.arg is None: return p.name
-        return f'({p.name} {codes(p.arg) if isinstance(p.arg, list) else p.arg})'
+        return f'({p.name} {codes(p.arg) if isinstance(p.arg, list) else constructor(p.arg)})'
     if k in ('tok', 'opens'): return f'({k} {codes(p.codes)})'
     if k in ('into', 'closed'): return f'({k} {codes(p.codes)} {p.symbol})'
     if k in ('seq', 'either', 'follows'): return f'({k} {text(p.p)} {text(p.q)})'
@@ -238,47 +236,111 @@ def used(names, body, dotted=False):
     return [n for n in names if n in found]
 
 
-def sort(cs): return sorted(set(cs), key=lambda c: CODES[c])
+def sort(cs): return sorted(set(cs), key=lambda c: KINDS[c])
 
 
 OUT = {}
 GENERATED = '-- Written by tools/grammar/generate.py from tools/grammar/table.py.\n'
 
 # kinds
-kinds = '-- A number for each kind of token, so that sets of kinds are lists. All words that are left out have one number, and so have `XOR` and `EOR`.\n' + GENERATED
-kinds += 'use Rattle.std.specs.Prelude.{ℕ}\n'
+
+
+def arms(pairs, enum): return ''.join(f'        {enum}::{a} => {b},\n' for a, b in pairs)
+
+
+def rows(function, of, pairs): return ''.join(f'{function} {of}.{a} = {b}\n' for a, b in pairs)
+
+
+kinds = '-- The kinds of tokens. All words that are left out have one kind, and so have `XOR` and `EOR`.\n' + GENERATED
+kinds += 'use Rattle.std.specs.Prelude.{Bool}\nuse denote.Enum.Bare.{sameb}\n'
 for t, a in (('Mark', 'mk'), ('Word', 'wd'), ('TokenKind', 'tk')):
     kinds += f'use Rattle.asl_syn.specs.declared.token.{t}.{{{t}}}\nuse Rattle.asl_syn.specs.declared.token.{t}.TheVariants as {a}\n'
-kinds += '\n' + '\n'.join(f'abbrev pub {c} : ℕ\n{c} = {n}\n' for c, n in CODES.items()) + '\n'
-kinds += 'abbrev pub mark_code : Mark → ℕ\n' + ''.join(f'mark_code mk.{m} = {constant(m)}\n' for m in MARKS) + '\n'
-kinds += 'abbrev pub word_code : Word → ℕ\n' + ''.join(f'word_code wd.{w} = {constant(w)}\n' for w in WORDS) + 'word_code wd.BitEor = BIT_XOR\n' + ''.join(f'word_code wd.{w} = LEFT_OUT\n' for w in LEFT_OUT) + '\n'
-kinds += 'abbrev pub code : TokenKind → ℕ\n' + ''.join(f'code {"(tk.Int n)" if v == "Int" else "tk." + v} = {c}\n' for v, c in zip(LITERAL_VARIANTS, LITERALS)) + 'code (tk.Word w) = word_code w\ncode (tk.Mark m) = mark_code m\n'
+kinds += 'use Rattle.asl_grammar.specs.contracts.kinds.Kind.{the_type}\nuse Rattle.asl_grammar.specs.declared.kinds.Kind.{Kind}\nuse Rattle.asl_grammar.specs.declared.kinds.Kind.TheVariants as kind\n\n'
+kinds += '-- `==` on kinds\nabbrev pub same_kind : Kind → Kind → Bool\nsame_kind = sameb the_type\n\n'
+kinds += 'abbrev pub kind_of_mark : Mark → Kind\n' + rows('kind_of_mark', 'mk', [(m, 'kind.' + m) for m in MARKS]) + '\n'
+kinds += 'abbrev pub kind_of_word : Word → Kind\n' + rows('kind_of_word', 'wd', [(w, 'kind.' + k) for w, k in WORD_KINDS.items()]) + '\n'
+kinds += 'abbrev pub kind_of : TokenKind → Kind\n' + ''.join(f'kind_of {"(tk.Int n)" if v == "Int" else "tk." + v} = kind.{c}\n' for v, c in LITERALS.items()) + 'kind_of (tk.Word w) = kind_of_word w\nkind_of (tk.Mark m) = kind_of_mark m\n'
 OUT['asl_grammar/specs/grammar/Kinds.antt'] = kinds
 
-code = '''//! A number for each kind of token, so that sets of kinds are slices. All words that are left out have one number, and so
-//! have `XOR` and `EOR`.
+code = '''//! The kinds of tokens: what a rule of the grammar asks of the next token.
 // Written by tools/grammar/generate.py from tools/grammar/table.py.
-#![tactic(auto)]
 
 ghost use Rattle.std.specs.Prelude.{◌≡◌};
 ghost use Rattle.asl_grammar.specs.grammar.Kinds as kinds;
 
 use asl_syn::token::{Mark, TokenKind, Word};
 
+/// A kind of token, without the token's value. All words that are left out are of one kind, and so are `XOR` and `EOR`.
+#[derive(Clone, Copy, Debug, PartialEq, Eq)]
+pub enum Kind {
+''' + ''.join(f'    {kind},\n' for kind in KINDS) + '''}
+
+fn kind_of_mark(mark: Mark) -> Kind
+    ensures { result ≡ kinds.kind_of_mark mark }
+{
+    match mark {
+''' + arms([(m, 'Kind::' + m) for m in MARKS], 'Mark') + '''    }
+}
+
+fn kind_of_word(word: Word) -> Kind
+    ensures { result ≡ kinds.kind_of_word word }
+{
+    match word {
+''' + arms([(w, 'Kind::' + k) for w, k in WORD_KINDS.items()], 'Word') + '''    }
+}
+
+/// The kind of a token.
+pub fn kind_of(token: TokenKind) -> Kind
+    ensures { result ≡ kinds.kind_of token }
+{
+    match token {
+''' + arms([(v + ('(_)' if v == 'Int' else ''), 'Kind::' + c) for v, c in LITERALS.items()], 'TokenKind') + '''        TokenKind::Word(word) => kind_of_word(word),
+        TokenKind::Mark(mark) => kind_of_mark(mark),
+    }
+}
 '''
-code += '\n\n'.join(f'pub const {c}: u8 = {n};' for c, n in CODES.items()) + '\n\n'
-code += 'fn mark_code(mark: Mark) -> u8\n    ensures { result ≡ kinds.mark_code mark }\n{\n    match mark {\n' + ''.join(f'        Mark::{m} => {constant(m)},\n' for m in MARKS) + '    }\n}\n\n'
-code += 'fn word_code(word: Word) -> u8\n    ensures { result ≡ kinds.word_code word }\n{\n    match word {\n' + ''.join(f'        Word::{w} => {constant(w)},\n' for w in WORDS) + '        Word::BitEor => BIT_XOR,\n' + ''.join(f'        Word::{w} => LEFT_OUT,\n' for w in LEFT_OUT) + '    }\n}\n\n'
-code += '/// The number of a kind.\npub fn code(kind: TokenKind) -> u8\n    ensures { result ≡ kinds.code kind }\n{\n    match kind {\n' + ''.join(f'        TokenKind::{v}{"(_)" if v == "Int" else ""} => {c},\n' for v, c in zip(LITERAL_VARIANTS, LITERALS)) + '        TokenKind::Word(word) => word_code(word),\n        TokenKind::Mark(mark) => mark_code(mark),\n    }\n}\n'
 OUT['asl_grammar/src/kinds.rt'] = code
 
+# operators
+specs = '-- The operators that kinds of tokens are.\n' + GENERATED
+for t, a in (('UnaryOperator', 'un'), ('BinaryOperator', 'bin')):
+    specs += f'use Rattle.asl_syn.specs.declared.tree.{t}.{{{t}}}\nuse Rattle.asl_syn.specs.declared.tree.{t}.TheVariants as {a}\n'
+specs += 'use Rattle.std.specs.Prelude.{[], ◌∷◌}\nuse Rattle.asl_grammar.specs.declared.kinds.Kind.{Kind}\nuse Rattle.asl_grammar.specs.declared.kinds.Kind.TheVariants as kind\nuse Rattle.asl_grammar.specs.grammar.Cursor.{Kinds}\n'
+code = '''//! The operators that kinds of tokens are.
+// Written by tools/grammar/generate.py from tools/grammar/table.py.
+
+ghost use Rattle.std.specs.Prelude.{◌≡◌, true};
+ghost use Rattle.asl_grammar.specs.grammar.Cursor.{among};
+ghost use Rattle.asl_grammar.specs.grammar.Operators as operators;
+
+use crate::kinds::Kind;
+use asl_syn::tree::{BinaryOperator, UnaryOperator};
+'''
+for name, type_, a, table, what in (('unary', 'UnaryOperator', 'un', UNARY, 'before its operand'), ('binary', 'BinaryOperator', 'bin', BINARY, 'between its operands')):
+    specs += f'\n-- the kinds that are an operator {what}\nabbrev pub {name}_kinds : Kinds\n{name}_kinds = {" ∷ ".join(["kind." + k for k in table] + ["[]"])}\n'
+    last = list(table)[-1]
+    specs += f'\n-- the operator {what} that one of these kinds is; no rule asks it of another\nabbrev pub {name}_of : Kind → {type_}\n' + rows(name + '_of', 'kind', [(k, f'{a}.{o}') for k, o in table.items() if k != last]) + f'{name}_of _ = {a}.{table[last]}\n'
+    code += f'''
+/// The operator {what} that this kind is.
+pub fn {name}_of(kind: Kind) -> {type_}
+    requires {{ among operators.{name}_kinds kind ≡ true }}
+    ensures {{ result ≡ operators.{name}_of kind }}
+{{
+    match kind {{
+''' + arms([(k, f'{type_}::{o}') for k, o in table.items()], 'Kind') + '''        _ => unreachable!(),
+    }
+}
+'''
+OUT['asl_grammar/specs/grammar/Operators.antt'] = specs
+OUT['asl_grammar/src/operators.rt'] = code
+
 # rules
-TREES = dict(Expr='ex', FieldValue='fv', Slice='sl', TypeExpr='ty', ConstraintPart='cp', Bitfield='bf', Pattern='pa', Suffix='su', PlacedSuffix=None, Target='tg', Binder='bd', Bind='bi', PrintItem='pi', Stmt='stm', ElseIf='ei', Alternative='al', Otherwise='ot', Catcher='ca', Formal=None, Param=None, TypeDef='td', StorageKind='sk', Qualifier='ql', Decl='dc', Ident=None, LocalKind='lk', Direction='dr')
-PARTS = dict(AfterName='an', Braces='br', VarTail='vt')
+TREES = dict(Expr='ex', FieldValue='fv', Slice='sl', TypeExpr='ty', ConstraintPart='cp', Bitfield='bf', Pattern='pa', Suffix='su', PlacedSuffix=None, Target='tg', Binder='bd', Bind='bi', PrintItem='pi', Stmt='stm', ElseIf='ei', Alternative='al', Otherwise='ot', Catcher='ca', Formal=None, Param=None, TypeDef='td', StorageKind='sk', Qualifier='ql', Decl='dc', Ident=None, LocalKind='lk', Direction='dr', PrintKind='pk')
+PARTS = dict(AfterName='an', Braces='br', VarTail='vt', SliceForm='sf')
 COMBINATORS = 'G tok opens into seq either opt many by spanned scope closed trail costs follows'.split()
 build = open(os.path.join(CRATES, 'asl_grammar/specs/grammar/Build.antt')).read()
 HELPERS = re.findall(r'^(?:abbrev|unfoldable) pub (\w+) :', build, re.M) + ['VarRest', 'MoreNames', 'Typed', 'Untyped']
-PRELUDE = {'◌⊎◌': '⊎', 'Bool': 'Bool', 'true': 'true', 'false': 'false', 'nat_eq': 'nat_eq', 'ℕ': 'ℕ', 'List': 'List', '[]': '[]', '◌∷◌': '∷', '◌++◌': '++', 'Option': 'Option', 'Some': 'Some', 'None': 'None'}
+PRELUDE = {'◌⊎◌': '⊎', 'true': 'true', 'false': 'false', 'ℕ': 'ℕ', 'List': 'List', '[]': '[]', '◌∷◌': '∷', '◌++◌': '++', 'Option': 'Option', 'Some': 'Some', 'None': 'None'}
 
 
 def imports(body):
@@ -299,8 +361,18 @@ def from_module(module, names, body):
     return f'use {module}.{{{", ".join(u)}}}\n' if u else ''
 
 
-CURSOR = ['Lexeme', 'Extent', 'Cursor', 'Codes', 'starts', 'ahead', 'span_to', 'whole', 'among']
+CURSOR = ['Lexeme', 'Extent', 'Cursor', 'Kinds', 'starts', 'ahead', 'span_to', 'whole', 'among']
 PRE = 'Rattle.asl_grammar.specs.grammar.'
+DECLARED = 'Rattle.asl_grammar.specs.declared.kinds.Kind'
+
+
+def from_kinds(body):
+    plain = re.sub(r'--.*', '', body)
+    lines = f'use {DECLARED}.{{Kind}}\n' if re.search(r'(?<![\w.])Kind(?![\w])', plain) else ''
+    if re.search(r'(?<![\w.])kind\.[A-Z]', plain): lines += f'use {DECLARED}.TheVariants as kind\n'
+    return lines + from_module(PRE + 'Kinds', ['kind_of', 'same_kind'], body) + from_module(PRE + 'Operators', ['unary_of', 'binary_of'], body)
+
+
 body = '-- what stands behind a token that opens a level\npub data Sym : Type 0 where\n' + ''.join(f'  -- {c}\n  {s} : Sym\n' for s, (t, n, c) in SYMBOLS.items())
 body += '\n-- what it is read to\nabbrev pub Val : Sym → Type 0\n' + ''.join(f'Val {s} = {t}\n' for s, (t, n, c) in SYMBOLS.items())
 body += '\nabbrev pub Rule : Type 0 → Type 1\nRule A = G Sym Val A\n'
@@ -320,11 +392,11 @@ for n in ORDER:
     head = '' if r.binder is None else f'{r.binder} → '
     body += '\n' + (f'-- {r.comment}\n' if r.comment else '') + f'unfoldable pub {n} : {head}Rule ({r.type})\n{n}{" " + r.variable if r.variable else ""} = {bare(text(r.body))}\n'
 body += '\n-- ---- Symbols\n\nabbrev pub rule : (s : Sym) → Rule (Val s)\n' + ''.join(f'rule {s} = {n}\n' for s, (t, n, c) in SYMBOLS.items())
-body += '\n-- the tokens by which what a symbol stands for may go on\nabbrev pub after : Sym → Codes\n' + ''.join(f'after {s} = {codes(sort(AFTER[s]))}\n' for s in SYMBOLS)
+body += '\n-- the tokens by which what a symbol stands for may go on\nabbrev pub after : Sym → Kinds\n' + ''.join(f'after {s} = {codes(sort(AFTER[s]))}\n' for s in SYMBOLS)
 head = '-- The grammar of the language: a rule for each production, such that one token is enough to choose by. The productions that begin\n-- alike are joined, and a comment gives each rule\'s production.\n' + GENERATED
 plain = re.sub(r'--.*', '', body)
 head += 'use Rattle.std.specs.Prelude.{' + ', '.join(n for n, s in PRELUDE.items() if re.search(r'(?<![\w])' + re.escape(s) + r'(?![\w])', plain)) + '}\nuse mathlib.Core.Logic.{inl, inr}\n' + imports(body)
-head += from_module(PRE + 'Kinds', ['code'] + list(CODES), body) + from_module(PRE + 'Cursor', CURSOR, body) + from_module(PRE + 'Combinators', COMBINATORS, body) + from_module(PRE + 'Build', HELPERS, body)
+head += from_kinds(body) + from_module(PRE + 'Cursor', CURSOR, body) + from_module(PRE + 'Combinators', COMBINATORS, body) + from_module(PRE + 'Build', HELPERS, body)
 OUT['asl_grammar/specs/grammar/Rules.antt'] = head + '\n' + body
 
 # ---- one token is enough
@@ -339,7 +411,7 @@ def fact(p, env):
         f = 'f_' + p.name
         if p.arg is not None:
             arg = resolve(p.arg, env) if isinstance(p.arg, list) else resolve(p.arg, env)[0]
-            f += '_' + '_'.join(x.lower() for x in (arg if isinstance(arg, list) else [arg]))
+            f += '_' + '_'.join(snake(x) for x in (arg if isinstance(arg, list) else [arg]))
             NEEDED[f] = Node('ref', name=p.name, arg=arg)
         return (f, a[0], sort(a[1]), sort(a[2]))
     if k in ('tok', 'opens'): return (k + '_f', False, resolve(p.codes, env), [])
@@ -367,7 +439,7 @@ def fact(p, env):
 def substituted(p, env):
     """the rule of a family at its argument"""
     t = text(p)
-    for v, c in env.items(): t = re.sub(rf'\({v} ∷ \[\]\)', codes(c), re.sub(rf'(?<![\w]){v}(?! ∷)(?![\w])', codes(c) if v == 'operators' else c[0], t))
+    for v, c in env.items(): t = re.sub(rf'\({v} ∷ \[\]\)', codes(c), re.sub(rf'(?<![\w]){v}(?! ∷)(?![\w])', codes(c) if v == 'operators' else constructor(c[0]), t))
     return t
 
 
@@ -411,8 +483,8 @@ tail = 'pub each : (s : Sym) → by_one after (rule s) ≡ true\n' + ''.join(f'e
 tail += '\npub covered : (s : Sym) → covers (after s) (cont after (rule s)) ≡ true\n' + ''.join(f'covered {s} = covered_by (cont after {n}) {codes(sort(facts(part(n), {})[2]))} f_{n}.conts\n' for s, (t, n, c) in SYMBOLS.items())
 everything = body + tail
 head = '-- One token is enough to choose by, in each rule: each is gone through once, from the facts of its parts.\n' + GENERATED
-head += 'use Rattle.std.proofs.Common.{◌≡◌, ℕ, ◌⊎◌, inl, inr, Bool, true, false, nat_eq, List, [], ◌∷◌, ◌++◌, Option, Some, None, refl}\n' + imports(everything)
-head += from_module(PRE + 'Kinds', ['code'] + list(CODES), everything) + from_module(PRE + 'Cursor', CURSOR, everything) + from_module(PRE + 'Combinators', COMBINATORS, everything) + from_module(PRE + 'Reader', ['by_one', 'cont', 'covers'], everything)
+head += 'use Rattle.std.proofs.Common.{◌≡◌, ◌⊎◌, inl, inr, true, false, List, [], ◌∷◌, ◌++◌, Option, Some, None, refl}\n' + imports(everything)
+head += from_kinds(everything) + from_module(PRE + 'Cursor', CURSOR, everything) + from_module(PRE + 'Combinators', COMBINATORS, everything) + from_module(PRE + 'Reader', ['by_one', 'cont', 'covers'], everything)
 head += from_module(PRE + 'Build', HELPERS, everything) + from_module(PRE + 'Rules', ['Sym'] + list(SYMBOLS) + ['rule', 'after'] + ORDER, everything)
 head += from_module('Rattle.asl_grammar.proofs.grammar.Facts', 'Facts fit tok_f opens_f into_f closed_f seq_f either_f opt_f many_f by_f spanned_f scope_f trail_f costs_f follows_f covered_by'.split(), everything)
 OUT['asl_grammar/proofs/grammar/Checked.antt'] = head + '\n' + body + '\n' + tail
@@ -511,7 +583,7 @@ def listing(p):
     return a
 
 
-FAMILY = {'operators': ['NOT'], 'operator': ['AND_AND']}
+FAMILY = {'operators': ['Not'], 'operator': ['AndAnd']}
 
 
 def starts_text(p, st):
@@ -574,7 +646,7 @@ def opened(p, seen):
         if p.kind == 'either' or (p.kind == 'seq' and facts(p.p, FAMILY)[0]): opened(p.q, seen)
 
 
-HANDMADE = set('braces_called after_braces some_links_by logic_links post_rest rest bracket late_expression late_sum expression_after_name sum_rests minus_alone parameters_after_minus parameters_after_name field_values_after_name more_parameters after_minus after_first_name other_in_braces late_range maybe_late_range after_bang minus_pattern bang_pattern'.split())
+HANDMADE = set('prefixed_by comparison_rest braces_called after_braces some_links_by logic_links post_rest rest bracket late_expression late_sum expression_after_name sum_rests minus_alone parameters_after_minus parameters_after_name field_values_after_name more_parameters after_minus after_first_name other_in_braces late_range maybe_late_range after_bang minus_pattern bang_pattern'.split())
 LOOPS = {}
 lemmas = []
 
@@ -681,7 +753,7 @@ for name in ORDER:
         seen = []
         opened(item, seen)
         l = listing(item)
-        lemmas.append(f'pub {name}_is : (d : ℕ) (st : Cursor) → reading d {name} st ≡ bind (reading d {text(item)} st) (λ x mid. run_listed (reading d {text(item)}) (COMMA ∷ []) {codes(l)} (length mid.toks) (x ∷ []) mid)\nunfolding {" ".join([name] + seen)}\n{name}_is d st = listed_are d {text(item)} (COMMA ∷ []) st\n')
+        lemmas.append(f'pub {name}_is : (d : ℕ) (st : Cursor) → reading d {name} st ≡ bind (reading d {text(item)} st) (λ x mid. run_listed (reading d {text(item)}) (kind.Comma ∷ []) {codes(l)} (length mid.toks) (x ∷ []) mid)\nunfolding {" ".join([name] + seen)}\n{name}_is d st = listed_are d {text(item)} (kind.Comma ∷ []) st\n')
     else: step_lemma(name)
 for s, (t, n, c) in SYMBOLS.items():
     if s == 'Program': continue
@@ -693,12 +765,26 @@ for s, (t, n, c) in SYMBOLS.items():
         proof = f'deeper d {s} st some ∙ {n}_is (d - 1) st'
     lemmas.append(f'pub {s}_at : (d : ℕ) (st : Cursor) → 0 < d → symbol d {s} st ≡ {right}\n{s}_at d st some = {proof}\n')
 
+def cited(crate, found):
+    """the lemmas that the crate's functions and its other proofs name, and those that these are proved by"""
+    named = {re.match(r'pub (\w+) ', lemma).group(1): lemma for lemma in found}
+    files = glob.glob(f'{CRATES}/{crate}/src/*.rt') + glob.glob(f'{CRATES}/{crate}/proofs/**/*.antt', recursive=True)
+    texts = [open(file).read() for file in files if not file.endswith('/Steps.antt')]
+    kept = set()
+    while texts:
+        words = set(re.findall(r'\w+', texts.pop()))
+        for name in [n for n in named if n in words and n not in kept]:
+            kept.add(name)
+            texts.append(named[name])
+    return [lemma for name, lemma in named.items() if name in kept]
+
+
 def write_steps(crate, found):
     """the lemmas about the rules that a crate reads"""
     body = '\n'.join(found)
     head = '-- Each rule as the steps of the function that reads it.\n' + GENERATED
     head += from_module('Rattle.std.proofs.Common', '◌≡◌ ℕ suc ◌⊎◌ inl inr ◌-◌ ◌<◌ Bool true false nat_eq List [] ◌∷◌ ◌++◌ length Option Some None Ok refl ◌∙◌'.split(), body) + imports(body)
-    head += from_module(PRE + 'Kinds', ['code'] + list(CODES), body) + from_module(PRE + 'Cursor', CURSOR + ['extent'], body) + from_module(PRE + 'Combinators', COMBINATORS, body)
+    head += from_kinds(body) + from_module(PRE + 'Cursor', CURSOR + ['extent'], body) + from_module(PRE + 'Combinators', COMBINATORS, body)
     head += from_module(PRE + 'Reader', 'Outcome bind pick first run_tok run_opens'.split(), body) + from_module(PRE + 'Build', HELPERS, body) + from_module(PRE + 'Rules', ['Sym'] + list(SYMBOLS) + ORDER, body)
     head += from_module('Rattle.asl_parse_expr.specs.Code', 'reading symbol charge then ending'.split(), body)
     head += from_module('Rattle.asl_parse_expr.proofs.Loops', 'bind_bind deeper optional_as optional_plain choice_as run_items items_are run_chain chain_is run_as_chain as_chain_are run_more more_are commas_are run_listed listed_are'.split(), body)
@@ -715,7 +801,7 @@ def of_expressions(lemma):
 
 
 write_steps('asl_parse_expr', [lemma for lemma in lemmas if of_expressions(lemma)])
-write_steps('asl_parse_stmt', [lemma for lemma in lemmas if not of_expressions(lemma)])
+write_steps('asl_parse_stmt', cited('asl_parse_stmt', [lemma for lemma in lemmas if not of_expressions(lemma)]))
 
 # ---- samples
 
@@ -768,5 +854,5 @@ if __name__ == '__main__':
         else:
             os.makedirs(os.path.dirname(file), exist_ok=True)
             open(file, 'w').write(content)
-    print(len(RULES), 'rules,', len(SYMBOLS), 'symbols,', len(CODES), 'kinds,', len(set(conflicts)), 'conflicts')
+    print(len(RULES), 'rules,', len(SYMBOLS), 'symbols,', len(KINDS), 'kinds,', len(set(conflicts)), 'conflicts')
     sys.exit(1 if wrong or conflicts else 0)

@@ -1,4 +1,4 @@
--- What the words of `specs/Lists.antt` mean.
+-- The two laws: numbers and lists of bits, two's complement, and extensions.
 use Rattle.std.proofs.Common.{◌≡◌, ℕ, zero, suc, ◌+◌, ◌-◌, ◌*◌, ◌%◌, ◌^◌, ◌<◌, ◌≤◌, List, [], ◌∷◌, ◌++◌, length, replicate, get_or, Bool, true, false, refl, sym, ◌∙◌, ap, arith, length-append}
 use Rattle.std.proofs.lemmas.List.{length-replicate, append-nil, get_or-append_right, get_or-replicate}
 use Rattle.std.proofs.lemmas.Int.{ints}
@@ -15,13 +15,13 @@ pub ruleset number_laws = (length-bits_of, value_of_bits, bits_of_value, value_s
 below_zero : (v p : ℕ) → v < p → pos v -ℤ pos p ≡ negsuc (p - v - 1)
 below_zero v p h = omega (arith, ints)
 
-back : (v p : ℕ) → v < p → p - 1 - (p - v - 1) % p ≡ v
-back v p h = let e : (p - v - 1) % p ≡ p - v - 1 = mod-eq_of_lt (omega arith) in rw e (omega arith)
+negative_mod : (v p : ℕ) → v < p → p - 1 - (p - v - 1) % p ≡ v
+negative_mod v p h = let e : (p - v - 1) % p ≡ p - v - 1 = mod-eq_of_lt (omega arith) in rw e (omega arith)
 
 signed_by : (bs : List Bool) (t : Bool) → top_bit bs ≡ t → int_bits (length bs) (signed_value bs) ≡ bs
 signed_by bs false e = rw e (low_bits (length bs) (bits_value bs) ∙ bits_of_value bs)
 signed_by bs true e =
-    rw (e, below_zero (bits_value bs) (2 ^ length bs) (value_small bs), back (bits_value bs) (2 ^ length bs) (value_small bs)) (bits_of_value bs)
+    rw (e, below_zero (bits_value bs) (2 ^ length bs) (value_small bs), negative_mod (bits_value bs) (2 ^ length bs) (value_small bs)) (bits_of_value bs)
 
 pub int_bits-signed_value : (bs : List Bool) → int_bits (length bs) (signed_value bs) ≡ bs
 int_bits-signed_value bs = signed_by bs (top_bit bs) refl

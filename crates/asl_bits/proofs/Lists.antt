@@ -1,4 +1,4 @@
--- Lists of bits and the numbers that they show.
+-- Lists of bits and numbers: each gives the other back, and each operation on numbers is one on their bits.
 use Rattle.std.proofs.Common.{◌≡◌, ℕ, zero, suc, ◌+◌, ◌-◌, ◌*◌, ◌/◌, ◌%◌, ◌^◌, ◌<◌, ◌≤◌, List, [], ◌∷◌, ◌++◌, length, take, drop, map, replicate, get_or, Bool, true, false, not, refl, sym, ◌∙◌, ap, subst, arith, pow-suc}
 use Rattle.std.specs.Prelude.{◌==◌, bit_and, bit_or, bit_xor}
 use Rattle.std.specs.Int.{from_bool}
@@ -74,13 +74,6 @@ turned_bits zero n h = refl
 turned_bits (suc w) n h =
     let k : n / 2 < 2 ^ w = omega (arith, twice w) in
     rw (turn_bit n w h, turn_half n w h, turned_bits w (n / 2) k) refl
-
-pub one_bits : (w : ℕ) → bits_of w (2 ^ w - 1) ≡ replicate w true
-one_bits w = ap (bits_of w) (omega arith) ∙ turned_bits w 0 (pow_pos w) ∙ ap (map not) (zero_bits w) ∙ turned w
-  where
-    turned : (n : ℕ) → map not (replicate n false) ≡ replicate n true
-    turned zero = refl
-    turned (suc n) = ap (λ (bs : List Bool). true ∷ bs) (turned n)
 
 pub low_bits : (w n : ℕ) → bits_of w (n % 2 ^ w) ≡ bits_of w n
 low_bits w n =

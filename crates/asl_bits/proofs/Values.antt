@@ -1,4 +1,5 @@
--- What the functions of `Bits` show, from the words of their operands.
+-- What each function of `Bits` gives, from what its operands' words stand for. A lemma NAME_is ends in the clause of a
+-- function; NAME_small and below_mod keep the result within its width.
 use Rattle.std.proofs.Common.{◌≡◌, ◌≢◌, ℕ, zero, suc, ◌+◌, ◌-◌, ◌*◌, ◌/◌, ◌%◌, ◌^◌, ◌<◌, ◌≤◌, List, [], ◌∷◌, ◌++◌, length, take, drop, map, replicate, get_or, Bool, true, false, cond, not, refl, sym, ◌∙◌, ap, subst, arith, pow-suc, length-append}
 use Rattle.std.proofs.lemmas.List.{length-replicate, length-take, length-drop}
 use Rattle.std.proofs.lemmas.Int.{ints}
@@ -59,16 +60,6 @@ concat_below k w h n t v p q e f = rw (cat_value k w h n t v p q e f) (below_cat
 pub concat_is : (k w h n t v : ℕ) (low high : List Bool) → n < 2 ^ k → h < 2 ^ w → t ≡ h * 2 ^ k % 2 ^ (k + w) → v ≡ bit_or t n → low ≡ bits_of k n → high ≡ bits_of w h → bits_of (k + w) v ≡ low ++ high
 concat_is k w h n t v low high p q e f l m =
     ap (bits_of (k + w)) (cat_value k w h n t v p q e f) ∙ cat_bits k w n h p ∙ cc
-
-pub with_slice_is : (bs part : List Bool) (w k m n q : ℕ) → k + m ≤ w → n < 2 ^ w → q < 2 ^ m → bs ≡ bits_of w n → part ≡ bits_of m q → bits_of w ((n / 2 ^ (k + m) * 2 ^ m + q) * 2 ^ k + n % 2 ^ k) ≡ take k bs ++ (part ++ drop (k + m) bs)
-with_slice_is bs part w k m n q h small less e f =
-    let total : k + (m + (w - (k + m))) ≡ w = omega arith in
-    let first : take k bs ≡ bits_of k (n % 2 ^ k) = rw e (take_bits k w n (omega arith) ∙ sym (low_bits k n)) in
-    let last : drop (k + m) bs ≡ bits_of (w - (k + m)) (n / 2 ^ (k + m)) = rw e (drop_bits (k + m) w n h) in
-    ap (λ (s : ℕ). bits_of s ((n / 2 ^ (k + m) * 2 ^ m + q) * 2 ^ k + n % 2 ^ k)) (sym total)
-    ∙ cat_bits k (m + (w - (k + m))) (n % 2 ^ k) (n / 2 ^ (k + m) * 2 ^ m + q) (mod_below _ _ (pow_pos k))
-    ∙ ap (λ (xs : List Bool). bits_of k (n % 2 ^ k) ++ xs) (cat_bits m (w - (k + m)) q (n / 2 ^ (k + m)) less)
-    ∙ cc
 
 -- ---- what the functions of `Bits` show, from their views
 
@@ -173,9 +164,6 @@ wrap_positive (pos n) w m h e = ap (bits_of w) e ∙ sym (low_bits w n)
 wrap_positive (negsuc n) w m h e = absurd (omega (arith, ints))
 
 pub ruleset wrap_facts = (wrap_negative, wrap_positive)
-
-pub length-part : (k m : ℕ) (bs : List Bool) → k + m ≤ length bs → length (take m (drop k bs)) ≡ m
-length-part k m bs h = simp (length-take, length-drop) (omega arith)
 
 pub ruleset part_facts = (length-take, length-drop, length-append)
 

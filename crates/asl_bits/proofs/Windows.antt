@@ -1,4 +1,5 @@
--- Numbers and the words that show them.
+-- Lists of words and the numbers that they stand for, in the order of src/words.rt: the words of a number, a window of 128
+-- bits, shifts, the lowest bits, the operations bit by bit, the sum, and the number that is one word.
 use Rattle.std.proofs.Common.{◌≡◌, ◌≢◌, ℕ, zero, suc, ◌+◌, ◌-◌, ◌*◌, ◌/◌, ◌%◌, ◌^◌, ◌<◌, ◌≤◌, List, [], ◌∷◌, length, get_or, set, get_or-set_other, get_or-set_same, below_more, Bool, refl, sym, ◌∙◌, ap, subst, arith}
 use Rattle.std.proofs.Math.Nat.{pow-le-pow_right, div-le_self, div-one, mod-one, mul_assoc, mul-mod_left, add_comm, mod-eq_of_lt, div-eq_of_lt, add-mul-div_right, mod-le, add-mul-mod_self_right}
 use Rattle.std.proofs.lemmas.Bool.{cases_lt}

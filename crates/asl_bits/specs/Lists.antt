@@ -4,7 +4,7 @@ use Rattle.std.proofs.Common.{get_or}
 use Rattle.std.specs.Int.{from_bool}
 use Rattle.asl_num.specs.Exact.{floor_mod}
 
--- the number that bits show
+-- the number that bits are read as
 unfoldable pub bits_value : List Bool → ℕ
 bits_value [] = 0
 bits_value (b ∷ bs) = from_bool b + 2 * bits_value bs
@@ -14,15 +14,15 @@ unfoldable pub bits_of : ℕ → ℕ → List Bool
 bits_of zero n = []
 bits_of (suc w) n = (n % 2 == 1) ∷ bits_of w (n / 2)
 
--- those of an integer in two's complement, which counts modulo 2^w
+-- the lowest w bits of an integer in two's complement, that is, of the integer modulo 2^w
 abbrev pub int_bits : ℕ → ℤ → List Bool
 int_bits w z = bits_of w (floor_mod z (2 ^ w))
 
--- the highest bit; no bits have none
+-- the highest bit, and false where there is none
 abbrev pub top_bit : List Bool → Bool
 top_bit bs = get_or bs (length bs - 1) false
 
--- the integer that bits show in two's complement
+-- the integer that bits are read as in two's complement
 abbrev pub signed_value : List Bool → ℤ
 signed_value bs = if top_bit bs then pos (bits_value bs) -ℤ pos (2 ^ length bs) else pos (bits_value bs)
 

@@ -1,8 +1,8 @@
 //! Bitvectors of a width up to a limit, packed into words of 128 bits.
 //!
 //! Contracts see a bitvector as the list of its bits, lowest first. The operations work word by word and take no memory.
-//! Those that take a width or a place as an integer answer `TooWide` where the width is negative or over the limit, else
-//! `OutOfRange` where the places aren't all there.
+//! Those that take a width or a place as an integer answer `TooWide` where the width is negative or over the limit, and
+//! otherwise `OutOfRange` where one of the places is outside the bitvector.
 #![tactic(auto)]
 
 ghost use Rattle.std.specs.Prelude.{◌≡◌, ℕ, ◌+◌, ◌%◌, ◌<◌, ◌≤◌, ◌^◌, ◌++◌, List, Bool, true, false, length, map, not, take, drop, replicate, pos, ◌-ℤ◌, slice_get, IsTrue, ◌↔◌, Ok, Some};
@@ -24,15 +24,15 @@ pub const WIDTH_LIMIT: u32 = 128 * WORDS as u32;
 /// Why an operation has no result.
 #[derive(Clone, Copy, Debug, PartialEq, Eq)]
 pub enum BitsRefused {
-    /// A width is negative or over the limit. This goes before `OutOfRange`.
+    /// A width is negative or over the limit. This is reported before `OutOfRange`.
     TooWide,
-    /// A place is negative, or the bits from there on pass the width, or an extension would shorten.
+    /// A place is negative, or the bits from there on go past the width, or an extension would shorten the bitvector.
     OutOfRange,
-    /// The number leaves the range from -2^127 to 2^127 - 1.
+    /// The number is outside -2^127 to 2^127 - 1.
     Overflow,
 }
 
-/// A bitvector: its width, and the number that its bits show, in words from the lowest on. Bits at or above the width are 0.
+/// A bitvector: its width, and its bits as a number, in words from the lowest on. Bits at or above the width are 0.
 #[derive(Drop)]
 pub struct Bits {
     width: u32,
@@ -69,7 +69,7 @@ impl Bits {
         Ok(filled(width, true))
     }
 
-    /// The lowest `w` bits of the integer in two's complement, which counts modulo 2 to the power `w`, or `TooWide`.
+    /// The lowest `w` bits of the integer in two's complement, that is, the integer modulo 2 to the power `w`, or `TooWide`.
     pub fn from_int(value: i128, w: i128) -> Result<Bits, BitsRefused>
         ensures { OfWidth result w (λ n. result ≡ Ok (int_bits n value)) }
     {
@@ -77,8 +77,8 @@ impl Bits {
         Ok(wrapped(value, width))
     }
 
-    /// `w` bits of the integer in two's complement from the place `lo` on, without an upper end.
-    /// `TooWide` by `w`, else `OutOfRange` where `lo` is negative.
+    /// `w` bits of the integer in two's complement from the place `lo` on; an integer has bits at every place.
+    /// `TooWide` for the width `w`, otherwise `OutOfRange` where `lo` is negative.
     pub fn slice_int(value: i128, lo: i128, w: i128) -> Result<Bits, BitsRefused>
         ensures { IsIntSlice result value lo w }
     {
@@ -89,8 +89,8 @@ impl Bits {
         }
     }
 
-    /// `w` bits from the place `lo` on. `TooWide` by `w`, else `OutOfRange` where `lo` is negative or `lo + w` passes
-    /// the width.
+    /// `w` bits from the place `lo` on. `TooWide` for the width `w`, otherwise `OutOfRange` where `lo` is negative or
+    /// `lo + w` is above the width.
     pub fn slice(&self, lo: i128, w: i128) -> Result<Bits, BitsRefused>
         ensures { IsSlice result self.now lo w }
     {
@@ -99,7 +99,7 @@ impl Bits {
         Ok(self.slice_at(place, width))
     }
 
-    /// The bits with `part` in place of those from `lo` on. `OutOfRange` where `lo` is negative or the part would pass
+    /// The bits with `part` in place of those from `lo` on. `OutOfRange` where `lo` is negative or the part would go past
     /// the width.
     pub fn with_slice(&self, lo: i128, part: &Bits) -> Result<Bits, BitsRefused>
         ensures { IsWithSlice result self.now lo part.now }
@@ -119,7 +119,7 @@ impl Bits {
     }
 
     /// The bits with zeros on top up to the width `w`, or, where it is signed, with copies of the highest bit.
-    /// `TooWide` by `w`, else `OutOfRange` where `w` is below the width.
+    /// `TooWide` for the width `w`, otherwise `OutOfRange` where `w` is below the width.
     pub fn extend(&self, w: i128, signed: bool) -> Result<Bits, BitsRefused>
         ensures { IsExtension result self.now w signed }
     {
@@ -130,7 +130,7 @@ impl Bits {
         Ok(joined(&filled(width - self.width(), signed && self.top()), self))
     }
 
-    /// Each bit turned.
+    /// The complement: each bit inverted.
     #[tactic(auto, using(crate::proofs::Values::not_is))]
     pub fn not(&self) -> Bits
         ensures { result ≡ map not self.now }
@@ -209,7 +209,7 @@ impl Bits {
         pack(self.width, words)
     }
 
-    /// The number that the bits show, or `Overflow`.
+    /// The bits read as an unsigned number, or `Overflow`.
     pub fn uint(&self) -> Result<i128, BitsRefused>
         ensures { IsInt result (pos (bits_value self.now)) }
     {
@@ -219,7 +219,7 @@ impl Bits {
         }
     }
 
-    /// The integer that the bits show in two's complement, or `Overflow`. No bits show 0.
+    /// The bits read as an integer in two's complement, or `Overflow`. A bitvector of width 0 is 0.
     #[tactic(auto, using(crate::proofs::Values::signed_facts))]
     pub fn sint(&self) -> Result<i128, BitsRefused>
         ensures { IsInt result (signed_value self.now) }
@@ -260,7 +260,7 @@ impl Bits {
         words::window(&self.words, place as usize) % 2 == 1
     }
 
-    // The number that the bits show, where it is below 2^127.
+    // The bits read as an unsigned number, where it is below 2^127.
     #[tactic(auto, using(crate::proofs::Values::value_shown))]
     fn small(&self) -> Option<i128>
         ensures { SomeIff result (bits_value self.now < 2 ^ 127) (pos (bits_value self.now)) }
@@ -277,7 +277,7 @@ impl Bits {
         }
     }
 
-    // The highest bit; no bits have none.
+    // The highest bit, and `false` where there is none.
     #[tactic(auto, using(crate::proofs::Values::top_facts))]
     fn top(&self) -> bool
         ensures { result ≡ top_bit self.now }
@@ -353,7 +353,7 @@ fn joined(high: &Bits, low: &Bits) -> Bits
     pack(width, words)
 }
 
-// The bits of the number that words show.
+// The bitvector of the given width whose bits stand in the words.
 fn pack(width: u32, words: [u128; WORDS]) -> Bits
     requires wide { width ≤ WIDTH_LIMIT }
     requires small { words_value words < 2 ^ width }
@@ -362,7 +362,7 @@ fn pack(width: u32, words: [u128; WORDS]) -> Bits
     Bits { width, words }
 }
 
-// `width` bits of one kind.
+// `width` bits, all equal to `bit`.
 #[tactic(auto, using(crate::proofs::Values::fill_facts))]
 fn filled(width: u32, bit: bool) -> Bits
     requires { width ≤ WIDTH_LIMIT }
@@ -396,7 +396,7 @@ fn lowest(word: u128, width: u32) -> Bits
     pack(width, words)
 }
 
-// The word, and zeros above it.
+// The words of a number that is below 2^128.
 #[tactic(auto, using(crate::proofs::Values::first_word))]
 fn first_word(word: u128) -> [u128; WORDS]
     ensures { words_value result ≡ word }
@@ -406,7 +406,7 @@ fn first_word(word: u128) -> [u128; WORDS]
     words
 }
 
-// The width `w`.
+// `w` as a width, or `TooWide`.
 fn width_of(w: i128) -> Result<u32, BitsRefused>
     ensures { IsWidth result w }
 {
@@ -417,7 +417,7 @@ fn width_of(w: i128) -> Result<u32, BitsRefused>
     }
 }
 
-// The place `lo`, where `width` bits from there on are among `most`.
+// `lo` as a place from which `width` bits on are among the `most` that there are, or `OutOfRange`.
 fn place_of(lo: i128, width: u32, most: u32) -> Result<u32, BitsRefused>
     ensures { IsPlace result lo width most }
 {
@@ -430,7 +430,8 @@ fn place_of(lo: i128, width: u32, most: u32) -> Result<u32, BitsRefused>
 
 // ---- laws
 
-/// Numbers below 2 to the power w and lists of w bits are the same: each gives the other back.
+/// Lists of `w` bits stand for the numbers below 2 to the power `w`, one for each: the bits of a number read as the number,
+/// and the number that bits are read as has these bits.
 #[tactic(auto, using(crate::proofs::Laws::number_laws))]
 pub fn number_law()
     ensures width { (w n : ℕ) → length (bits_of w n) ≡ w }
@@ -439,13 +440,11 @@ pub fn number_law()
     ensures small { (bs : List Bool) → bits_value bs < 2 ^ length bs }
 {}
 
-/// The integer that bits show in two's complement gives them back, and extensions keep what bits show.
+/// The integer that bits are read as in two's complement has these bits (`bits`), and an extension is read as the same
+/// integer as before (`signed`, `unsigned`).
 #[tactic(auto, using(crate::proofs::Laws::signed_laws))]
 pub fn signed_law()
     ensures bits { (bs : List Bool) → int_bits (length bs) (signed_value bs) ≡ bs }
     ensures signed { (bs : List Bool) (n : ℕ) → length bs ≤ n → signed_value (extension_of bs n true) ≡ signed_value bs }
     ensures unsigned { (bs : List Bool) (n : ℕ) → length bs ≤ n → bits_value (extension_of bs n false) ≡ bits_value bs }
 {}
-
-#[cfg(test)]
-mod tests;

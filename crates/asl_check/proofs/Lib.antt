@@ -1,6 +1,7 @@
 pub mod Chains
 pub mod OperandWalks
 pub mod BindWalks
+pub mod ServedForms
 pub mod SizeWalks
 pub mod Sizing
 pub mod StmtWalks

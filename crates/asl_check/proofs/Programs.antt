@@ -4,6 +4,7 @@ use Rattle.asl_syn.specs.declared.code.Fault.{Fault}
 use Rattle.asl_syn.specs.declared.tree.Decl.{Decl}
 use Rattle.asl_rules.specs.declared.entry.Entry.{Entry as Asked}
 use Rattle.asl_rules.specs.Faults.{◌>>=◌, ◌>>◌}
+use Rattle.asl_rules.specs.Served.{served_rule}
 use Rattle.asl_rules.specs.Names.{names_rule, all_declared}
 use Rattle.asl_rules.specs.Scopes.{Entry}
 use Rattle.asl_rules.specs.Uses.{cycles_rule}
@@ -14,7 +15,6 @@ use Rattle.asl_tree.specs.declared.typed.TypedFunc.{TypedFunc}
 use Rattle.asl_tree.specs.Accepted.{IsElaborated}
 use Rattle.asl_tree.specs.Elaboration.{elaborated_func}
 use Rattle.asl_decl.specs.Tables.{table_rule}
-use Rattle.asl_check.specs.Walks.{verdict_walk}
 use Rattle.asl_check.proofs.Chains.{then_same, then_then, need_then}
 
 -- the signatures and the overloads before what comes after them
@@ -34,9 +34,9 @@ table_then ds F =
     sym (need_then (names_rule [] (all_declared ds)) _ F)
     ∙ ap (λ r. names_rule [] (all_declared ds) >> r) (sym (need_then (cycles_rule ds ds) _ F) ∙ ap (λ r. cycles_rule ds ds >> r) (globals_then ds F))
 
-pub verdict_is : (e : Asked) (ds : List Decl) → verdict e ds ≡ verdict_walk e ds
+pub verdict_is : (e : Asked) (ds : List Decl) → verdict e ds ≡ (served_rule ds >> (table_rule ds >>= λ names. bodies_rule names (funcs_of ds) >> entry_rule e names ds))
 unfolding verdict
-verdict_is e ds = sym (table_then ds (λ names. bodies_rule names (funcs_of ds) >> entry_rule e names ds))
+verdict_is e ds = ap (λ r. served_rule ds >> r) (sym (table_then ds (λ names. bodies_rule names (funcs_of ds) >> entry_rule e names ds)))
 
 -- the names of the table are those of the program
 pub table_names : (ds : List Decl) (names : List Entry) → table_rule ds ≡ Ok names → globals_rule ds ≡ Ok names

@@ -1,5 +1,5 @@
 -- The rules as the checker walks them: what it keeps from step to step, and the statements by these steps.
-use Rattle.std.specs.Prelude.{ℕ, Bool, true, false, ◌&&◌, if◌then◌else◌, List, [], ◌∷◌, ◌++◌, length, Option, None, Some, Result, Ok}
+use Rattle.std.specs.Prelude.{Bool, true, false, ◌&&◌, if◌then◌else◌, List, [], ◌∷◌, ◌++◌, length, Option, None, Some, Result, Ok}
 use Rattle.asl_syn.specs.declared.token.Span.{Span}
 use Rattle.asl_syn.specs.declared.code.Fault.{Fault}
 use Rattle.asl_syn.specs.declared.code.StaticCode.{StaticCode}
@@ -27,13 +27,11 @@ use Rattle.asl_syn.specs.declared.tree.Stmt.{Stmt}
 use Rattle.asl_syn.specs.declared.tree.ElseIf.{ElseIf}
 use Rattle.asl_syn.specs.declared.tree.Alternative.TheOpen as st
 use Rattle.asl_syn.specs.declared.tree.Alternative.TheFolds.{fold-Stmt, fold-ElseIf}
-use Rattle.asl_syn.specs.declared.tree.Decl.{Decl}
 use Rattle.asl_tree.specs.declared.typed.TypedStmt.{TypedStmt}
 use Rattle.asl_tree.specs.declared.typed.TypedStmt.TheVariants as tree
 use Rattle.asl_tree.specs.Elaboration.{elaborated, placing, made_type, first_value}
 use Rattle.asl_rules.specs.declared.effect.Effect.{Effect}
 use Rattle.asl_rules.specs.declared.effect.Effect.TheVariants.{Pure, Writes}
-use Rattle.asl_rules.specs.declared.entry.Entry.{Entry}
 use Rattle.asl_rules.specs.Faults.{◌>>=◌, ◌>>◌, need, none_at, fitted}
 use Rattle.asl_rules.specs.Types.{Ty, Parts, integer, no_part, part, is_boolean, misfit}
 use Rattle.asl_rules.specs.Effects.{greater, together}
@@ -41,8 +39,6 @@ use Rattle.asl_rules.specs.Scopes as scopes
 use Rattle.asl_rules.specs.Scopes.{Scope, stored, is_free, writing}
 use Rattle.asl_rules.specs.Exprs.{Typed, typed, written}
 use Rattle.asl_rules.specs.Stmts.{Done, done, FoundStmt, FoundBranch, FoundTarget, expr_at, ended, block, is_var, tuple_parts, local_rule, unbound_rule, names_rule, assignable, behind_suffixes, found_target, StmtOf, Unread, stmt_layer_rule, branch_rule}
-use Rattle.asl_rules.specs.Programs.{funcs_of, bodies_rule, entry_rule}
-use Rattle.asl_decl.specs.Tables.{table_rule}
 
 -- ---- operands
 
@@ -235,9 +231,3 @@ walk_stmt = fold-Stmt Unread Unread FoundBranch Unread FoundStmt (λ _. tt) (λ 
 
 abbrev pub walk_branch : ElseIf → FoundBranch
 walk_branch = fold-ElseIf Unread Unread FoundBranch Unread FoundStmt (λ _. tt) (λ _. tt) branch_rule (λ _. tt) walk_layer
-
--- ---- programs
-
--- a program, its phases in order
-abbrev pub verdict_walk : Entry → List Decl → Result (Option ℕ) Fault
-verdict_walk e ds = table_rule ds >>= λ names. bodies_rule names (funcs_of ds) >> entry_rule e names ds

@@ -16,6 +16,7 @@ use crate::steps::ended;
 use crate::typing::{type_in, written_in};
 use asl_expr::exprs::place;
 use asl_rules::effect::Effect;
+use asl_shared::Held;
 use asl_syn::code::{Refused, StaticCode};
 use asl_syn::token::Span;
 use asl_syn::tree::{Binder, Expr, LocalKind, TypeExpr};
@@ -171,7 +172,7 @@ fn bound_parts(alloc: Global, binders: &[Binder]) -> Result<Items<bool>, AllocEr
     Ok(bound)
 }
 
-/// The initialiser of a tuple bind, and then its names: its typed tree and its effect.
+/// The initialiser of a tuple bind, and then its names: its typed tree, held, and its effect.
 fn bind_several<'a>(
     alloc: Global,
     names: &mut Scope<'a>,
@@ -181,7 +182,7 @@ fn bind_several<'a>(
     binders: &'a [Binder],
     ty: &Option<TypeExpr>,
     e: &Expr,
-) -> Result<(TypedExpr, Effect), Refused>
+) -> Result<(Held<TypedExpr>, Effect), Refused>
     ensures rule { Met (λ p. done names.new p.1) result (walks.several_rule_walk span kind binders.now ty.now e.now (scope_of names.old body.now)) }
     ensures tree { IfOk result (λ p. p.0 ≡ elaborated e.now (scope_of names.old body.now)) }
 {
@@ -196,9 +197,17 @@ fn bind_several<'a>(
         Some(t) => {
             let to = written_in(alloc, names, body, t)?;
             let (tree, s) = type_in(alloc, names, body, e)?;
-            let code = misfit(&s.ty, &to);
+            let code = misfit(&s.ty, to.get());
             let k = bind_parts(
-                names, body.class, span, kind, binders, &to, code, e, s.effect,
+                names,
+                body.class,
+                span,
+                kind,
+                binders,
+                to.get(),
+                code,
+                e,
+                s.effect,
             )?;
             Ok((tree, k))
         }
@@ -221,5 +230,6 @@ pub(crate) fn check_several<'a>(
 {
     let (tree, effect) = bind_several(alloc, names, body, span, kind, binders, ty, e)?;
     let bound = bound_parts(alloc, binders)?;
-    Ok((TypedStmt::Declare(span, Binds::Parts(bound), tree), effect))
+    let tree = TypedStmt::Declare(span, Binds::Parts(bound), tree.into_inner());
+    Ok((tree, effect))
 }

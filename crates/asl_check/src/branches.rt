@@ -15,6 +15,7 @@ use asl_expr::effects::greater;
 use asl_expr::exprs::place;
 use asl_expr::typed::Typed;
 use asl_rules::effect::Effect;
+use asl_shared::Held;
 use asl_syn::code::{Refused, StaticCode};
 use asl_syn::token::Span;
 use asl_syn::tree::Expr;
@@ -47,14 +48,14 @@ fn misplaced(before: Option<Span>, condition: &Expr, s: &Typed) -> Option<Span>
     }
 }
 
-/// A condition: its typed tree, and what is known after it, with its own effect.
+/// A condition: its typed tree, held, and what is known after it, with its own effect.
 pub(crate) fn type_condition(
     alloc: Global,
     names: &Scope,
     body: &Body,
     condition: &Expr,
     before: Option<Span>,
-) -> Result<(TypedExpr, Branches), Refused>
+) -> Result<(Held<TypedExpr>, Branches), Refused>
     ensures rule { Met (λ p. (p.1.misplaced, p.1.effect)) result (walks.condition_walk before condition.now (scope_of names.now body.now)) }
     ensures tree { IfOk result (λ p. p.0 ≡ elaborated condition.now (scope_of names.now body.now)) }
 {

@@ -10,6 +10,7 @@ mod main_entry;
 mod operands;
 mod prints;
 mod program;
+mod served;
 mod simple;
 mod sizes;
 mod steps;
@@ -19,6 +20,3 @@ mod targets;
 mod typing;
 
 pub use program::check;
-
-#[cfg(test)]
-mod tests;

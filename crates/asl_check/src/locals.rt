@@ -21,6 +21,7 @@ use crate::steps::{check_fit, ended};
 use crate::typing::{type_in, written_in};
 use asl_expr::typed::Typed;
 use asl_rules::effect::Effect;
+use asl_shared::Held;
 use asl_syn::code::{Refused, StaticCode};
 use asl_syn::token::Span;
 use asl_syn::tree::{Bind, Binder, Expr, Ident, LocalKind, TypeExpr};
@@ -32,14 +33,14 @@ use asl_value::Value;
 use sqlite_items::Items;
 use std::alloc::Global;
 
-/// An initialiser with the type that its declaration gives and its effect: it fits the written type.
+/// An initialiser, held, with the type that its declaration gives and its effect: it fits the written type.
 fn type_initialiser(
     alloc: Global,
     names: &Scope,
     body: &Body,
     ty: &Option<TypeExpr>,
     e: &Expr,
-) -> Result<(TypedExpr, Typed), Refused>
+) -> Result<(Held<TypedExpr>, Typed), Refused>
     ensures rule { Met (λ p. typed_of p.1) result (rules.initialised ty.now e.now (scope_of names.now body.now)) }
     ensures tree { IfOk result (λ p. p.0 ≡ elaborated e.now (scope_of names.now body.now)) }
 {
@@ -47,8 +48,9 @@ fn type_initialiser(
         None => type_in(alloc, names, body, e),
         Some(t) => {
             let to = written_in(alloc, names, body, t)?;
-            let (tree, effect) = check_fit(alloc, names, body, &to, e)?;
-            Ok((tree, Typed { ty: to, effect }))
+            let (tree, effect) = check_fit(alloc, names, body, to.get(), e)?;
+            let ty = to.into_inner();
+            Ok((tree, Typed { ty, effect }))
         }
     }
 }
@@ -73,8 +75,11 @@ fn check_local<'a>(
         return fault(StaticCode::T01, name.span);
     }
     let effect = ended(body.class, span, true, s.effect)?;
-    names.declare_local(text, s.ty, is_var(kind))?;
-    Ok((TypedStmt::Declare(span, Binds::One, tree), effect))
+    names.declare_local(text, s.into_type(), is_var(kind))?;
+    Ok((
+        TypedStmt::Declare(span, Binds::One, tree.into_inner()),
+        effect,
+    ))
 }
 
 /// A declaration of no name.
@@ -91,7 +96,10 @@ fn check_unbound(
 {
     let (tree, initial) = type_initialiser(alloc, names, body, ty, e)?;
     let effect = ended(body.class, span, true, initial.effect)?;
-    Ok((TypedStmt::Declare(span, Binds::Nothing, tree), effect))
+    Ok((
+        TypedStmt::Declare(span, Binds::Nothing, tree.into_inner()),
+        effect,
+    ))
 }
 
 /// A declaration with an initialiser.
@@ -163,9 +171,13 @@ fn type_vars(alloc: Global, names: &Scope, body: &Body, t: &TypeExpr) -> Result<
     ensures first { IfOk result (λ vars. value_of vars.first ≡ initial (ty_of vars.ty)) }
 {
     let ty = written_in(alloc, names, body, t)?;
-    let first = initial_value(alloc, &ty)?;
+    let first = Held::new(initial_value(alloc, ty.get())?);
     let sizes = sizes_of(alloc, names, body, t)?;
-    Ok(Vars { ty, sizes, first })
+    Ok(Vars {
+        ty: ty.into_inner(),
+        sizes,
+        first: first.into_inner(),
+    })
 }
 
 /// A declaration without an initialiser.
@@ -181,7 +193,9 @@ pub(crate) fn check_vars<'a>(
     ensures tree { IfOk result (λ p. p.0 ≡ walks.vars_tree span idents.now ty.now (scope_of names.old body.now)) }
 {
     let Vars { ty, sizes, first } = type_vars(alloc, names, body, ty)?;
-    declare_vars(names, idents, &ty)?;
-    let tree = TypedStmt::DeclareFirst(span, sizes, idents.len(), first);
+    let ty = Held::new(ty);
+    let first = Held::new(first);
+    declare_vars(names, idents, ty.get())?;
+    let tree = TypedStmt::DeclareFirst(span, sizes, idents.len(), first.into_inner());
     Ok((tree, Effect::Pure))
 }

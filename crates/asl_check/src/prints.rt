@@ -43,7 +43,7 @@ fn check_items(
             }
             PrintItem::Shown(e) => {
                 let (tree, s) = type_in(alloc, names, body, e)?;
-                trees.push(TypedItem::Shown(tree))?;
+                trees.push(TypedItem::Shown(tree.into_inner()))?;
                 so_far = with_operand(so_far, s.effect);
             }
         }

@@ -1,15 +1,14 @@
 //! Whole programs.
 
-ghost use Rattle.std.specs.Prelude.{◌≡◌, None, IfOk};
-ghost use Rattle.asl_rules.specs.Served.{unserved_decls};
-ghost use Rattle.asl_rules.specs.Programs as rules;
+ghost use Rattle.std.specs.Prelude.{IfOk};
+ghost use Rattle.asl_rules.specs.Programs.{verdict};
 ghost use Rattle.asl_tree.specs.Accepted.{IsElaborated, IsInitial};
 ghost use Rattle.asl_types.specs.Answers.{Met};
 ghost use Rattle.asl_check.specs.Verdicts.{IsVerdict};
-ghost use Rattle.asl_check.specs.Walks.{verdict_walk};
 
 use crate::bodies::check_bodies;
 use crate::main_entry::find_entry;
+use crate::served::check_served;
 use asl_decl::Table;
 use asl_rules::entry::Entry;
 use asl_syn::code::Refused;
@@ -27,12 +26,14 @@ struct Made {
     entry: Option<SubId>,
 }
 
-/// The phases in order: names, cycles, declarations, signatures, overloads, bodies, the entry.
+/// The phases in order: forms that are served, names, cycles, declarations, signatures, overloads, bodies, the entry.
+#[tactic(auto, using(crate::proofs::Programs::verdict_is))]
 fn phases(alloc: Global, entry: Entry, decls: &[Decl]) -> Result<Made, Refused>
-    ensures rule { Met (λ made. made.entry) result (verdict_walk entry decls.now) }
+    ensures rule { Met (λ made. made.entry) result (verdict entry decls.now) }
     ensures tree { IfOk result (λ made. IsElaborated decls.now made.funcs.items) }
     ensures initial { IfOk result (λ made. IsInitial decls.now made.globals.items) }
 {
+    check_served(decls)?;
     let Table { mut names, globals } = Table::build(alloc, decls)?;
     let funcs = check_bodies(alloc, &mut names, decls)?;
     let main = find_entry(alloc, entry, &names, decls)?;
@@ -43,25 +44,15 @@ fn phases(alloc: Global, entry: Entry, decls: &[Decl]) -> Result<Made, Refused>
     })
 }
 
-/// What is made of a program, with its entry; or the one fault.
-fn verdict(alloc: Global, entry: Entry, decls: &[Decl]) -> Result<Made, Refused>
-    ensures rule { Met (λ made. made.entry) result (rules.verdict entry decls.now) }
-    ensures tree { IfOk result (λ made. IsElaborated decls.now made.funcs.items) }
-    ensures initial { IfOk result (λ made. IsInitial decls.now made.globals.items) }
-{
-    phases(alloc, entry, decls)
-}
-
-/// Checks a program whose forms are all served. It is accepted exactly where it is well formed with the entry that is
-/// asked for, and otherwise refused at its one fault.
+/// Checks a program. It is accepted exactly where it is well formed with the entry that is asked for, and otherwise refused
+/// at its one fault.
 pub fn check(alloc: Global, program: Program, entry: Entry) -> Result<Checked, Refused>
-    requires { unserved_decls program.decls ≡ None }
     ensures { IsVerdict entry program.decls result }
 {
     let Made {
         funcs,
         globals,
         entry,
-    } = verdict(alloc, entry, program.decls.as_slice())?;
+    } = phases(alloc, entry, program.decls.as_slice())?;
     Ok(Checked::seal(program, entry, funcs, globals))
 }

@@ -21,6 +21,7 @@ use asl_expr::effects::{greater, lesser};
 use asl_expr::exprs::{place, type_expr};
 use asl_expr::typed::Typed;
 use asl_rules::effect::Effect;
+use asl_shared::Held;
 use asl_syn::code::{Refused, StaticCode};
 use asl_syn::token::Span;
 use asl_syn::tree::{Expr, Target};
@@ -44,11 +45,12 @@ pub(crate) fn check_assert(
 {
     let class = lesser(body.class, Effect::Readonly);
     let (tree, s) = type_expr(alloc, names, class, e)?;
+    let tree = Held::new(tree);
     if !is_boolean(&s.ty) {
         return fault(StaticCode::T05, place(e));
     }
     let effect = ended(body.class, span, true, s.effect)?;
-    Ok((TypedStmt::Assert(span, tree), effect))
+    Ok((TypedStmt::Assert(span, tree.into_inner()), effect))
 }
 
 /// `return`: of the form that the body asks for, and what it gives fits the result.
@@ -75,7 +77,7 @@ pub(crate) fn check_return(
             Some(to) => {
                 let (tree, k) = check_fit(alloc, names, body, to, e)?;
                 let effect = ended(body.class, span, true, k)?;
-                Ok((TypedStmt::Return(span, Some(tree)), effect))
+                Ok((TypedStmt::Return(span, Some(tree.into_inner())), effect))
             }
         },
     }
@@ -143,5 +145,5 @@ pub(crate) fn check_assign(
     let before = type_operands(alloc, names, body, target, no_operands())?;
     let (tree, s) = type_in(alloc, names, body, e)?;
     let (places, effect) = check_stores(alloc, names, body, span, target, &s, place(e), before)?;
-    Ok((TypedStmt::Assign(span, places, tree), effect))
+    Ok((TypedStmt::Assign(span, places, tree.into_inner()), effect))
 }

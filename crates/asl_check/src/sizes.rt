@@ -28,7 +28,7 @@ fn type_size(
     ensures tree { OnOk result (trees.new ≡ trees.old ++ elaborated e.now (scope_of names.now body.now) ∷ []) }
 {
     let (tree, _) = type_in(alloc, names, body, e)?;
-    trees.push(tree)?;
+    trees.push(tree.into_inner())?;
     Ok(())
 }
 

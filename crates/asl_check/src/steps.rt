@@ -12,6 +12,7 @@ use crate::typing::type_in;
 use asl_expr::effects::at_most;
 use asl_expr::exprs::place;
 use asl_rules::effect::Effect;
+use asl_shared::Held;
 use asl_syn::code::{Refused, StaticCode};
 use asl_syn::token::Span;
 use asl_syn::tree::Expr;
@@ -40,14 +41,14 @@ pub(crate) fn ended(
     Ok(effect)
 }
 
-/// An expression that has to fit a type: its typed tree and its effect.
+/// An expression that has to fit a type: its typed tree, held, and its effect.
 pub(crate) fn check_fit(
     alloc: Global,
     names: &Scope,
     body: &Body,
     to: &Ty,
     e: &Expr,
-) -> Result<(TypedExpr, Effect), Refused>
+) -> Result<(Held<TypedExpr>, Effect), Refused>
     ensures rule { Met (λ p. p.1) result (rules.fitting (ty_of to.now) e.now (scope_of names.now body.now)) }
     ensures tree { IfOk result (λ p. p.0 ≡ elaborated e.now (scope_of names.now body.now)) }
 {

@@ -59,6 +59,7 @@ fn check_stmt<'a>(
             let (others, all) = check_branches(alloc, names, body, others.as_slice(), start)?;
             let (last, l) = check_block(alloc, names, body, last.as_slice())?;
             let effect = end_if(body.class, *span, all, l)?;
+            let c = c.into_inner();
             Ok((TypedStmt::If(*span, c, first, others, last), effect))
         }
         Stmt::Case(span, _, _, _) => fault(StaticCode::S03, *span),
@@ -115,7 +116,7 @@ fn check_branch<'a>(
             let (c, typed) = type_condition(alloc, names, body, condition, before.misplaced)?;
             let (trees, k) = check_block(alloc, names, body, stmts.as_slice())?;
             let after = after_branch(before.effect, typed, k);
-            Ok((TypedBranch::Branch(c, trees), after))
+            Ok((TypedBranch::Branch(c.into_inner(), trees), after))
         }
     }
 }

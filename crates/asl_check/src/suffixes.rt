@@ -12,6 +12,7 @@ ghost use Rattle.asl_check.specs.Walks as walks;
 use crate::body::Body;
 use crate::operands::{Operands, with_operand};
 use crate::typing::type_in;
+use asl_shared::Held;
 use asl_syn::code::{Refused, StaticCode};
 use asl_syn::token::Span;
 use asl_syn::tree::{Ident, PlacedSuffix, Suffix};
@@ -109,7 +110,8 @@ fn behind_suffix(
         Suffix::ElementOf(e) => {
             let (tree, index) = type_in(alloc, names, body, e)?;
             let element = indexed(at, ty, &index.ty)?;
-            Ok((TypedStep::Element(at, tree), element.copy()?))
+            let behind = element.copy()?;
+            Ok((TypedStep::Element(at, tree.into_inner()), behind))
         }
     }
 }
@@ -127,12 +129,12 @@ pub(crate) fn behind_suffixes(
     ensures tree { IfOk result (λ p. p.0 ≡ steps_at name.now suffixes.now (ty_of ty) (scope_of names.now body.now)) }
 {
     let mut steps = Items::new(alloc);
-    let mut behind = ty;
+    let mut behind = Held::new(ty);
     for x in suffixes {
         let at = up_to(name, x.end);
-        let (step, next) = behind_suffix(alloc, names, body, at, &x.suffix, &behind)?;
+        let (step, next) = behind_suffix(alloc, names, body, at, &x.suffix, behind.get())?;
+        behind = Held::new(next);
         steps.push(step)?;
-        behind = next;
     }
-    Ok((steps, behind))
+    Ok((steps, behind.into_inner()))
 }

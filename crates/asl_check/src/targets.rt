@@ -16,6 +16,7 @@ use crate::operands::Operands;
 use crate::suffixes::{behind_suffixes, suffixes_operands};
 use asl_expr::effects::greater;
 use asl_rules::effect::Effect;
+use asl_shared::Held;
 use asl_syn::code::{Refused, StaticCode};
 use asl_syn::token::Span;
 use asl_syn::tree::{Ident, PlacedSuffix, Target};
@@ -82,7 +83,7 @@ fn find_assignable<'s>(names: &'s Scope, body: &Body, name: &Ident) -> Result<St
     Ok(storage)
 }
 
-/// A name with its suffixes as the place of an assignment, with its type, and with what a store in it does.
+/// A name with its suffixes as the place of an assignment, with its type, held, and with what a store in it does.
 fn check_place(
     alloc: Global,
     names: &Scope,
@@ -90,7 +91,7 @@ fn check_place(
     name: &Ident,
     suffixes: &[PlacedSuffix],
     way: &[usize],
-) -> Result<(TypedPlace, Ty, Effect), Refused>
+) -> Result<(TypedPlace, Held<Ty>, Effect), Refused>
     ensures ty { Met (λ p. ty_of p.1) result (rules.place_type name.now suffixes.now (scope_of names.now body.now)) }
     ensures store { Met (λ p. p.2) result (walks.store_walk name.now suffixes.now (scope_of names.now body.now)) }
     ensures tree { IfOk result (λ p. p.0 ≡ place_at name.now suffixes.now way.now (scope_of names.now body.now)) }
@@ -100,6 +101,7 @@ fn check_place(
     let ty = storage.ty.copy()?;
     let effect = writing(storage);
     let (steps, behind) = behind_suffixes(alloc, names, body, name, suffixes, ty)?;
+    let behind = Held::new(behind);
     let way = Items::from_slice(alloc, way)?;
     let place = TypedPlace {
         span: name.span,
@@ -192,7 +194,7 @@ pub(crate) fn check_fits(
         Target::Discarded(_) => Ok(()),
         Target::Place(_, name, suffixes) => {
             let (_, to, _) = check_place(alloc, names, body, name, suffixes.as_slice(), &[])?;
-            match misfit(ty, &to) {
+            match misfit(ty, to.get()) {
                 None => Ok(()),
                 Some(code) => fault(code, at),
             }

@@ -1,6 +1,5 @@
 pub mod Answering
 pub mod GlobalLines
-pub mod ParsingLemmas
 pub mod ReadingLemmas
 pub mod Reports
 pub mod Roomy

@@ -3,7 +3,7 @@ use Rattle.std.proofs.Common.{◌≡◌, ℕ, List, Option, subst}
 use Rattle.asl_io.specs.Told.{Takes, TakesPrefix}
 use Rattle.asl_io.proofs.ToldLemmas.{TakesPrefix-all}
 use Rattle.asl_syn.specs.Command.{Command}
-use Rattle.asl_rules.specs.Reading.{Reader}
+use Rattle.asl_grammar.specs.Reading.{Reader}
 use Rattle.asl_rules.specs.Report.{Reading, read_for}
 use Rattle.asl_rules.specs.Texts.{Text}
 use Rattle.asl_cmd.specs.Report.{answer_of, report_of}

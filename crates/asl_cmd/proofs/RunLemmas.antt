@@ -1,5 +1,5 @@
 -- The answer of a run, by what the call of the machine says.
-use Rattle.std.proofs.Common.{◌≡◌, ◌∙◌, ℕ, Bool, false, List, [], ◌∷◌, ◌++◌, map, Option, Some, None, Result, Ok, Err, refl, sym, ap, subst, append_assoc, append-nil}
+use Rattle.std.proofs.Common.{◌≡◌, ◌∙◌, ℕ, Bool, false, List, [], ◌∷◌, ◌++◌, map, Option, Some, Result, Ok, Err, refl, sym, ap, subst, append_assoc, append-nil}
 use Rattle.std.specs.Prelude.{if◌then◌else◌}
 use Rattle.asl_io.specs.Told.{TakesPrefix}
 use Rattle.asl_rules.specs.declared.entry.Entry.TheVariants as entry
@@ -7,7 +7,6 @@ use Rattle.asl_rules.specs.Told.{open_after}
 use Rattle.asl_rules.specs.States.{Binding, Core}
 use Rattle.asl_rules.specs.Values.{Value}
 use Rattle.asl_rules.specs.Plans.{starting, Outcome, Done, Thrown, Halt, Faulted, Stuck, final}
-use Rattle.asl_rules.specs.Served.{unserved_decls}
 use Rattle.asl_rules.specs.Programs.{verdict}
 use Rattle.asl_rules.specs.Machines.{GivenUp, run_of, text_of_run}
 use Rattle.asl_rules.specs.Evaluation.{initial_globals}
@@ -29,7 +28,7 @@ use Rattle.asl_run.proofs.Entries.{entry_is_callable}
 use Rattle.asl_run.proofs.OwnRuns.{own_run, own_part}
 use Rattle.asl_cmd.specs.declared.status.Stop.{Stop}
 use Rattle.asl_cmd.specs.declared.status.Status.{Status}
-use Rattle.asl_cmd.specs.Ends.{end_line, end_status, ending}
+use Rattle.asl_cmd.specs.Ends.{end_status, ending}
 use Rattle.asl_cmd.specs.Writes.{Answers}
 use Rattle.asl_cmd.proofs.Answering.{Answers-after}
 
@@ -73,9 +72,9 @@ started_run checked main n steps old w args new same none =
     ∙ ap (λ bs. run_of checked.decls main [] bs (starting w.steps old)) new.globals_are
     ∙ ap (λ k. run_of checked.decls main [] (initial_globals checked.decls) (starting k old)) (new.steps_are ∙ same)
 
-pub main_callable : (checked : Accepted) (main n : ℕ) (w : Work) (args : List Given) → IsNew w checked n → args ≡ [] → Some main ≡ checked.entry → unserved_decls checked.decls ≡ None → verdict entry.Main checked.decls ≡ Ok checked.entry → IsCallable w.checked.decls main (map value_of args)
-main_callable checked main n w args new none entered served accepted =
-    let callable : IsCallable checked.decls main [] = entry_is_callable entry.Main checked.decls main (record { served = served; is = accepted ∙ ap Ok (sym entered) }) in
+pub main_callable : (checked : Accepted) (main n : ℕ) (w : Work) (args : List Given) → IsNew w checked n → args ≡ [] → Some main ≡ checked.entry → verdict entry.Main checked.decls ≡ Ok checked.entry → IsCallable w.checked.decls main (map value_of args)
+main_callable checked main n w args new none entered accepted =
+    let callable : IsCallable checked.decls main [] = entry_is_callable entry.Main checked.decls main (accepted ∙ ap Ok (sym entered)) in
     subst (λ (a : Accepted). IsCallable a.decls main (map value_of args)) (sym new.checked_is)
     (subst (λ (xs : List Given). IsCallable checked.decls main (map value_of xs)) (sym none) callable)
 

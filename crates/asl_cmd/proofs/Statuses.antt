@@ -10,7 +10,7 @@ use Rattle.asl_rules.specs.Texts.{Text, File}
 use Rattle.asl_rules.specs.Report.{Reading, all, long, many, halted, run_answer, started, check_verdict, run_verdict, on_program, on_texts}
 use Rattle.asl_cmd.specs.declared.status.Status.{Status}
 use Rattle.asl_cmd.specs.declared.status.Status.TheVariants as status
-use Rattle.asl_rules.specs.Reading.{Reader}
+use Rattle.asl_grammar.specs.Reading.{Reader}
 use Rattle.asl_cmd.specs.Report.{answer_on_sources, answer_of}
 use Rattle.asl_cmd.specs.Writes.{code_of}
 

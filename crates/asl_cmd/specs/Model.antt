@@ -1,16 +1,13 @@
 -- What the values of the program stand for.
 use Rattle.std.specs.Prelude.{◌≡◌, ◌≤◌, ◌<◌, ⊤, All, List, length, map, string_bytes}
 use Rattle.asl_syn.specs.declared.place.Source.{Source}
-use Rattle.asl_rules.specs.Texts.{Text, File}
+pub use Rattle.asl_grammar.specs.Reading.{file_of}
+use Rattle.asl_rules.specs.Texts.{Text}
 use Rattle.asl_rules.specs.Report.{Reading as Came, all, long, many}
 use Rattle.asl_cmd.specs.declared.reading.One.{One}
 use Rattle.asl_cmd.specs.declared.reading.One.TheVariants as one
 use Rattle.asl_cmd.specs.declared.reading.Reading.{Reading}
 use Rattle.asl_cmd.specs.declared.reading.Reading.TheVariants as reading
-
--- a file by its name and its bytes
-abbrev pub file_of : Source → File
-file_of s = (string_bytes s.name, s.bytes.items)
 
 -- each file has at most 1,048,576 bytes
 abbrev pub AreShort : List Source → Type 0

@@ -1,7 +1,7 @@
 -- The report of a command: its text and its status, by the bytes under the names.
 use Rattle.std.specs.Prelude.{List}
 use Rattle.asl_syn.specs.Command.{Command, usage, check, run}
-use Rattle.asl_rules.specs.Reading.{Reader}
+use Rattle.asl_grammar.specs.Reading.{Reader}
 use Rattle.asl_rules.specs.Texts.{Text, File, usage_line, long_line, many_line}
 use Rattle.asl_rules.specs.Report.{Answer, answer, Reading, all, long, many, read_for, on_texts}
 

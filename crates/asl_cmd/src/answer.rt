@@ -1,16 +1,14 @@
 //! The writing of answers.
-ghost use Rattle.std.specs.Prelude.{◌≡◌, ◌≤◌, List, None, length, map};
+ghost use Rattle.std.specs.Prelude.{◌≡◌, ◌≤◌, List, length, map};
 ghost use Rattle.asl_line.specs.Model.{meaning_of};
 ghost use Rattle.asl_syn.specs.Command.{check as check_command, run as run_command};
 ghost use Rattle.asl_rules.specs.Texts.{Text, fault_line};
-ghost use Rattle.asl_rules.specs.Reading.{Reader, IsReading};
-ghost use Rattle.asl_rules.specs.Served.{unserved_decls};
+ghost use Rattle.asl_grammar.specs.Reading.{Reader, IsReading};
 ghost use Rattle.asl_rules.specs.Report.{answer, on_program, on_texts};
 ghost use Rattle.asl_cmd.specs.Model.{file_of, reading_of, AreShort, IsShort};
 ghost use Rattle.asl_cmd.specs.Report.{answer_of, answer_on_sources};
 ghost use Rattle.asl_cmd.specs.Writes.{Answers, HasCause};
 
-use crate::parsing::program_of;
 use crate::reading::Reading;
 use crate::running::run_program;
 use crate::status::{Status, Stop};
@@ -19,6 +17,7 @@ use crate::writing::say;
 use asl_check::check;
 use asl_io::Sink;
 use asl_line::Line;
+use asl_parse::parse;
 use asl_rules::entry::Entry;
 use asl_syn::code::{Fault, Refused};
 use asl_syn::place::Source;
@@ -49,7 +48,6 @@ fn check_program<K: Sink>(
     out: &mut K,
 ) -> Result<Status, Stop>
     requires short { AreShort sources.now }
-    requires served { unserved_decls program.decls ≡ None }
     ensures answer { (names : List Text) → Answers result (K.written out.old) (K.written out.new) (on_program (check_command names) (map file_of sources.now) program.decls) }
     ensures cause { HasCause result (K.faults out.old) (K.faults out.new) }
     ensures same_full { K.full out.new ≡ K.full out.old }
@@ -74,7 +72,6 @@ fn check_and_run<K: Sink>(
     out: &mut K,
 ) -> Result<Status, Stop>
     requires short { AreShort sources.now }
-    requires served { unserved_decls program.decls ≡ None }
     ensures answer { (names : List Text) → Answers result (K.written out.old) (K.written out.new) (on_program (run_command steps names) (map file_of sources.now) program.decls) }
     ensures cause { HasCause result (K.faults out.old) (K.faults out.new) }
     ensures same_full { K.full out.new ≡ K.full out.old }
@@ -94,7 +91,7 @@ fn check_files<K: Sink>(alloc: Global, sources: &[Source], out: &mut K) -> Resul
     ensures cause { HasCause result (K.faults out.old) (K.faults out.new) }
     ensures same_full { K.full out.new ≡ K.full out.old }
 {
-    match program_of(alloc, sources) {
+    match parse(alloc, sources) {
         Ok(program) => check_program(alloc, sources, program, out),
         Err(Refused::At(fault)) => refuse(alloc, sources, &fault, out),
         Err(Refused::NoMemory) => Err(Stop::NoMemory),
@@ -114,7 +111,7 @@ fn run_files<K: Sink>(
     ensures cause { HasCause result (K.faults out.old) (K.faults out.new) }
     ensures same_full { K.full out.new ≡ K.full out.old }
 {
-    match program_of(alloc, sources) {
+    match parse(alloc, sources) {
         Ok(program) => check_and_run(alloc, sources, program, steps, out),
         Err(Refused::At(fault)) => refuse(alloc, sources, &fault, out),
         Err(Refused::NoMemory) => Err(Stop::NoMemory),

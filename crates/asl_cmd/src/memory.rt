@@ -2,7 +2,7 @@
 ghost use Rattle.std.specs.Prelude.{◌≡◌, ◌<◌, ◌⊎◌, Some, IfOk, length, map, string_bytes};
 ghost use Rattle.asl_io.specs.Shelf.{held_of};
 ghost use Rattle.asl_line.specs.Line.{line_of};
-ghost use Rattle.asl_rules.specs.Reading.{Reader, IsReading};
+ghost use Rattle.asl_grammar.specs.Reading.{Reader, IsReading};
 ghost use Rattle.asl_cmd.specs.Report.{report_of};
 ghost use Rattle.asl_cmd.specs.Writes.{code_of};
 

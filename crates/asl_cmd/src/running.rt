@@ -1,7 +1,6 @@
 //! The run of a checked program, and the lines of its end.
 ghost use Rattle.std.specs.Prelude.{◌≡◌, ◌++◌, [], None, Ok, map, if◌then◌else◌};
 ghost use Rattle.asl_rules.specs.declared.entry.Entry.TheVariants.{Main};
-ghost use Rattle.asl_rules.specs.Served.{unserved_decls};
 ghost use Rattle.asl_rules.specs.Programs.{verdict};
 ghost use Rattle.asl_rules.specs.Report.{answer, globals_text, started};
 ghost use Rattle.asl_rules.specs.Texts.{global_line, line_feed, value_text};
@@ -160,7 +159,6 @@ pub fn run_program<K: Sink>(
     out: &mut K,
 ) -> Result<Status, Stop>
     requires short { AreShort sources.now }
-    requires served { unserved_decls checked.decls ≡ None }
     requires accepted { verdict Main checked.decls ≡ Ok checked.entry }
     ensures answer { Answers result (K.written out.old) (K.written out.new) (started (map file_of sources.now) checked.decls steps checked.entry) }
     ensures cause { HasCause result (K.faults out.old) (K.faults out.new) }

@@ -4,7 +4,7 @@ ghost use Rattle.asl_io.specs.Faults.{Rises};
 ghost use Rattle.asl_io.specs.Told.{Takes, TakesPrefix};
 ghost use Rattle.asl_syn.specs.Command.{usage, names_of};
 ghost use Rattle.asl_line.specs.Line.{line_of};
-ghost use Rattle.asl_rules.specs.Reading.{Reader, IsReading};
+ghost use Rattle.asl_grammar.specs.Reading.{Reader, IsReading};
 ghost use Rattle.asl_cmd.specs.Report.{report_of};
 ghost use Rattle.asl_cmd.specs.Writes.{code_of};
 

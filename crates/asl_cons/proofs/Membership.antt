@@ -1,3 +1,4 @@
+-- `inclusion_law`.
 use Rattle.std.proofs.Common.{◌⊎◌, inl, inr, ◌≡◌, ℕ, List, [], ◌∷◌, refl, arith}
 use Rattle.std.specs.Prelude.{◌≤ℤ◌, Option, Some, None, MatchOption}
 use Rattle.std.proofs.Math.IntN.{ℤ, pos, ◌+ℤ◌}
@@ -10,7 +11,7 @@ use Rattle.asl_cons.specs.declared.End.{End}
 use Rattle.asl_cons.specs.declared.End.TheVariants.{Int, Width}
 use Rattle.asl_cons.specs.declared.Part.{Part}
 use Rattle.asl_cons.specs.Constraint.{poly_of, IsEnd, AllEnds, InSome, In, HasEnd, IsFixed, InFixed, Holds, Held, IsCovered, AllCovered, Below}
-use Rattle.asl_cons.proofs.Inside.{int_end}
+use Rattle.asl_cons.proofs.Covering.{int_end}
 
 -- whether an end is constant can be told
 

@@ -1,11 +1,11 @@
+-- Constraints as lists of parts, where no parts are the whole constraint: which integers they allow, and when one is below
+-- another.
 use Rattle.std.specs.Prelude.{◌≡◌, ◌≢◌, ℕ, ℤ, pos, ◌≤ℤ◌, List, [], ◌∷◌, ◌⊎◌}
 use Rattle.asl_poly.specs.Terms.{Polynomial}
 use Rattle.asl_poly.specs.Poly.{IsAtMost, IsAtLeast, IsConstant, IsOffset, IsPolynomial, constant_map}
 use Rattle.asl_cons.specs.declared.End.{End}
 use Rattle.asl_cons.specs.declared.End.TheVariants.{Int, Width}
 use Rattle.asl_cons.specs.declared.Part.{Part}
-
--- A constraint is a list of parts. No parts are the whole constraint.
 
 -- an end as a polynomial
 abbrev pub poly_of : End → Polynomial

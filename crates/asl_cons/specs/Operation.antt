@@ -1,3 +1,4 @@
+-- The operations on ends, by the code's names for them.
 use Rattle.std.specs.Prelude.{ℤ, ◌+ℤ◌, ◌-ℤ◌, ◌*ℤ◌, Option}
 use Rattle.asl_poly.specs.Terms.{Polynomial}
 use Rattle.asl_poly.specs.Poly.{ConstantFits, SumFits, ProductFits, sum_map, difference_map, product_map}
@@ -7,8 +8,6 @@ use Rattle.asl_cons.specs.declared.ends.Operation.{Operation}
 use Rattle.asl_cons.specs.declared.ends.Operation.TheVariants.{Sum, Difference, Product}
 use Rattle.asl_cons.specs.Constraint.{poly_of}
 use Rattle.asl_cons.specs.Arithmetic.{sum_fits, product_fits, widths, sum_end, difference_end, product_end}
-
--- The operations on ends by the code's names for them.
 
 abbrev pub number_by : Operation → ℤ → ℤ → ℤ
 number_by Sum x y = x +ℤ y

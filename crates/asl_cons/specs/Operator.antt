@@ -1,10 +1,9 @@
+-- The operators on parts, by the code's names for them.
 use Rattle.std.specs.Prelude.{Bool, true, false, List, ◌++◌, Option, Some, None}
 use Rattle.asl_cons.specs.declared.Part.{Part}
 use Rattle.asl_cons.specs.declared.arithmetic.Operator.{Operator}
 use Rattle.asl_cons.specs.declared.arithmetic.Operator.TheVariants.{Add, Sub, Mul, DivFloor, Shl, Shr}
 use Rattle.asl_cons.specs.Arithmetic.{sum_part, difference_part, product_part, quotient_part, shifted_up_part, shifted_down_part}
-
--- The operators on parts by the code's names for them.
 
 abbrev pub part_by : Operator → Part → Part → Option Part
 part_by Add p q = sum_part p q

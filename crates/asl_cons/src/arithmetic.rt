@@ -1,4 +1,4 @@
-// The operators on the parts of two constraints.
+//! The operators on the parts of two constraints.
 
 ghost use Rattle.std.specs.Prelude.{◌≡◌, ◌≤◌, Some, None, ◌++◌, List, if◌then◌else◌, IfOk, length};
 ghost use Rattle.asl_cons.specs.Arithmetic.{limited, with_each, by_pairs, each_part, modulo_part};
@@ -15,7 +15,7 @@ use std::alloc::{AllocError, Global};
 // The most parts of a constraint.
 pub(crate) const MOST_PARTS: usize = 64;
 
-// The operators that go over pairs of parts.
+// The operators that take each pair of parts.
 #[derive(Clone, Copy)]
 pub(crate) enum Operator {
     Add,
@@ -26,6 +26,7 @@ pub(crate) enum Operator {
     Shr,
 }
 
+// What the operator makes of two parts.
 fn on_parts(alloc: Global, op: Operator, p: &Part, q: &Part) -> Result<Option<Part>, AllocError>
     ensures { IfOk result (λ r. r ≡ part_by op p.now q.now) }
 {
@@ -39,7 +40,7 @@ fn on_parts(alloc: Global, op: Operator, p: &Part, q: &Part) -> Result<Option<Pa
     }
 }
 
-// Puts what `p` and each of `qs` give behind `made`; false where a pair gives none.
+// Appends what `p` and each of `qs` give to `made`; `false` where a pair gives no part.
 fn add_each(
     alloc: Global,
     op: Operator,
@@ -58,7 +59,8 @@ fn add_each(
     Ok(true)
 }
 
-// What all pairs of parts give, left part first; no parts, the whole constraint, where one gives none or they are too many.
+// What all pairs of parts give, left part first. The result is empty, that is, the whole constraint, where a pair gives no
+// part or there are too many.
 pub(crate) fn by_pairs(
     alloc: Global,
     op: Operator,
@@ -81,7 +83,7 @@ pub(crate) fn by_pairs(
     Ok(made)
 }
 
-// What `MOD` gives by each part.
+// What `MOD` gives for each part of the right operand.
 pub(crate) fn by_moduli(alloc: Global, qs: &[Part]) -> Result<Vec<Part>, AllocError>
     requires { length qs.now ≤ 64 }
     ensures { IfOk result (λ v. v.items ≡ limited (each_part modulo_part qs.now)) }

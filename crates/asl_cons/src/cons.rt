@@ -1,4 +1,4 @@
-// Constraints.
+//! Constraints.
 
 ghost use Rattle.std.specs.Prelude.{◌≡◌, ◌≤◌, ◌↔◌, [], ◌++◌, Some, IsTrue, IfOk, length};
 ghost use Rattle.asl_cons.specs.Constraint.{Below};
@@ -11,11 +11,12 @@ use crate::parts::copy_part;
 use std::alloc::{AllocError, Global};
 use std::marker::Model;
 
-/// A constraint: whole, so that it holds every integer, or 1 to 64 parts.
+/// A constraint: whole, which means that it allows every integer, or 1 to 64 parts.
 ///
-/// The arithmetic goes over pairs of parts, the left part first. It gives the whole constraint where an operand is whole
-/// (`modulo` looks at the right one alone), where a pair of parts gives no part, for over 64 parts, for a constant end past
-/// 128 bits, and for an end past the limits of polynomials. A part is constant where its ends have no atom.
+/// The arithmetic takes each pair of parts, the left part first. It gives the whole constraint where an operand is whole
+/// (`modulo` looks at the right operand only), where a pair of parts gives no part, where there would be more than 64
+/// parts, where a constant end does not fit 128 bits, and where an end is beyond the limits of polynomials. A part is
+/// constant where its ends have no atom.
 #[derive(Drop)]
 pub struct Cons {
     parts: Vec<Part>,
@@ -32,7 +33,7 @@ impl Model for Cons {
     ghost invariant = { λ c. length c.parts.items ≤ 64 };
 }
 
-// Copies the parts behind `made`.
+// Appends copies of the parts to `made`.
 fn add_copies(alloc: Global, made: &mut Vec<Part>, ps: &[Part]) -> Result<(), AllocError>
     ensures { IfOk result (λ _. made.new.items ≡ made.old.items ++ ps.now) }
 {
@@ -43,7 +44,7 @@ fn add_copies(alloc: Global, made: &mut Vec<Part>, ps: &[Part]) -> Result<(), Al
 }
 
 impl Cons {
-    /// The constraint that holds every integer. It takes no memory.
+    /// The constraint that allows every integer. It takes no memory.
     pub fn whole(alloc: Global) -> Cons
         ensures { result ≡ [] }
     {
@@ -52,7 +53,7 @@ impl Cons {
         }
     }
 
-    /// The parts, none exactly for the whole constraint.
+    /// The parts; there are none exactly for the whole constraint.
     pub fn parts(&self) -> &[Part]
         ensures parts { result.now ≡ self.now }
         ensures few { length self.now ≤ 64 }
@@ -62,14 +63,14 @@ impl Cons {
 
     /// Whether `other` is whole, or every integer of the constant parts of this lies in a constant part of `other` and each
     /// other part `p..q` of this has a part `r..s` in `other` with `p - r` and `s - q` constants of at least 0. The whole
-    /// constraint is below the whole one alone. It takes no memory.
+    /// constraint is below the whole one only. It takes no memory.
     pub fn below(&self, other: &Cons) -> bool
         ensures { IsTrue result ↔ Below self.now other.now }
     {
         other.parts.is_empty() || (!self.parts.is_empty() && all_covered(&self.parts, &other.parts))
     }
 
-    /// The constraint with these parts, whole for none and for over 64.
+    /// The constraint with these parts, whole where there are none or more than 64.
     pub fn from_parts(alloc: Global, parts: Vec<Part>) -> Result<Cons, AllocError>
         ensures { IfOk result (λ c. c ≡ limited (Some parts.items)) }
     {
@@ -88,7 +89,7 @@ impl Cons {
         Ok(Cons { parts })
     }
 
-    /// The parts of both, those of this first; whole where one is whole, and for over 64.
+    /// The parts of both, those of this first; whole where one of the two is whole or there would be more than 64.
     pub fn union(&self, alloc: Global, other: &Cons) -> Result<Cons, AllocError>
         ensures { IfOk result (λ c. c ≡ union_parts self.now other.now) }
     {
@@ -122,8 +123,8 @@ impl Cons {
         Ok(Cons { parts })
     }
 
-    /// Constant parts give the least to the greatest of the four products of their ends; a part `p..q` that isn't constant
-    /// and a constant part `c..c`, c at least 0, on either side, give `c*p..c*q`.
+    /// Two constant parts give the least to the greatest of the four products of their ends; a part `p..q` that is not
+    /// constant and a constant part `c..c` on either side, with c at least 0, give `c*p..c*q`.
     #[tactic(auto, unfolding(crate::specs::Arithmetic::product_parts))]
     pub fn mul(&self, alloc: Global, other: &Cons) -> Result<Cons, AllocError>
         ensures { IfOk result (λ c. c ≡ product_parts self.now other.now) }

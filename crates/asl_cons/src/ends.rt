@@ -1,4 +1,4 @@
-// The ends of parts, and the arithmetic on them.
+//! The ends of parts, and the arithmetic on them.
 
 ghost use Rattle.std.specs.Prelude.{◌≡◌, ℤ, IfOk, MatchOption};
 ghost use Rattle.asl_poly.specs.Poly.{Gives};
@@ -10,7 +10,7 @@ use crate::End;
 use asl_poly::{Poly, PolyRefused};
 use std::alloc::{AllocError, Global};
 
-// What is done with two ends.
+// An operation on two ends.
 #[derive(Clone, Copy)]
 pub(crate) enum Operation {
     Sum,
@@ -18,7 +18,7 @@ pub(crate) enum Operation {
     Product,
 }
 
-// The integer that an end without atoms is.
+// The value of an end without atoms.
 pub(crate) fn number_of(e: &End) -> Option<i128>
     ensures number { result ≡ number_of e.now }
     ensures value { MatchOption result ((c : ℤ) → HasEnd e.now c → ⊥) (λ c. HasEnd e.now c) }
@@ -29,6 +29,7 @@ pub(crate) fn number_of(e: &End) -> Option<i128>
     }
 }
 
+// A copy of an end.
 pub(crate) fn copy_end(alloc: Global, e: &End) -> Result<End, AllocError>
     ensures { IfOk result (λ r. r ≡ e.now) }
 {
@@ -38,6 +39,7 @@ pub(crate) fn copy_end(alloc: Global, e: &End) -> Result<End, AllocError>
     }
 }
 
+// The result on 128-bit integers, `None` where it does not fit.
 fn on_integers(op: Operation, x: i128, y: i128) -> Option<i128>
     ensures { result ≡ exact (number_by op x y) }
 {
@@ -48,6 +50,7 @@ fn on_integers(op: Operation, x: i128, y: i128) -> Option<i128>
     }
 }
 
+// The result on polynomials.
 fn on_polys(alloc: Global, op: Operation, p: &Poly, q: &Poly) -> Result<Poly, PolyRefused>
     ensures { Gives (PolyFits op p.now q.now) (poly_by op p.now q.now) result }
 {
@@ -58,7 +61,7 @@ fn on_polys(alloc: Global, op: Operation, p: &Poly, q: &Poly) -> Result<Poly, Po
     }
 }
 
-// Both ends as polynomials; `TooLarge` also where an integer is past the limit of widths.
+// The result on the two ends as polynomials; `TooLarge` also where an integer is beyond the limit of polynomials.
 fn on_widths(alloc: Global, op: Operation, e: &End, f: &End) -> Result<Poly, PolyRefused>
     ensures { Gives (Fits op e.now f.now) (poly_by op (poly_of e.now) (poly_of f.now)) result }
 {
@@ -83,7 +86,7 @@ fn on_widths(alloc: Global, op: Operation, e: &End, f: &End) -> Result<Poly, Pol
     }
 }
 
-// The polynomial as an end, an integer where it has no atom.
+// The polynomial as an end, which is an integer where it has no atom.
 fn shown(p: Poly) -> End
     ensures { result ≡ shown p }
 {
@@ -93,6 +96,7 @@ fn shown(p: Poly) -> End
     }
 }
 
+// The result on two ends of which one has an atom, `None` beyond the limits of polynomials.
 fn widths(alloc: Global, op: Operation, e: &End, f: &End) -> Result<Option<End>, AllocError>
     ensures { IfOk result (λ r. r ≡ widths_by op e.now f.now) }
 {
@@ -103,7 +107,8 @@ fn widths(alloc: Global, op: Operation, e: &End, f: &End) -> Result<Option<End>,
     }
 }
 
-// What the operation gives: 128-bit integers where no end has an atom, else widths, None past the limits of either.
+// What the operation gives: a 128-bit integer where no end has an atom, and otherwise a polynomial; `None` where the result
+// does not fit.
 pub(crate) fn combined(
     alloc: Global,
     op: Operation,

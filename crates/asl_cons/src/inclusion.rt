@@ -1,4 +1,4 @@
-// Whether one constraint is below another.
+//! Whether one constraint is below another.
 
 ghost use Rattle.std.specs.Prelude.{◌≡◌, ◌≢◌, ◌↔◌, ◌⊎◌, ℤ, pos, ◌≤ℤ◌, List, [], IsTrue, MatchOption};
 ghost use Rattle.asl_cons.specs.Constraint.{HasEnd, IsFixed, Holds, InFixed, IsAbove, Held, IsCovered, AllCovered};
@@ -41,7 +41,7 @@ fn wider(e: &End, f: &End) -> bool
     }
 }
 
-// Whether one of `qs` holds the part by constant distances.
+// Whether the part lies inside one of `qs`, at constant distances from its ends.
 fn held(p: &Part, qs: &[Part]) -> bool
     ensures { IsTrue result ↔ Held p.now qs.now }
 {
@@ -53,7 +53,7 @@ fn held(p: &Part, qs: &[Part]) -> bool
     false
 }
 
-// Where the part is constant and holds `i`, its end.
+// The upper end of the part, where it is constant and `i` lies in it.
 fn end_from(q: &Part, i: i128) -> Option<i128>
     ensures { MatchOption result (Holds q.now i → ⊥) (λ h. (i ≤ℤ h) × ((j : ℤ) → i ≤ℤ j → j ≤ℤ h → Holds q.now j)) }
 {
@@ -63,7 +63,7 @@ fn end_from(q: &Part, i: i128) -> Option<i128>
     }
 }
 
-// Up to where constant parts hold all integers from `i` on.
+// An integer up to which all integers from `i` on lie in constant parts, where `i` does.
 fn reach(i: i128, qs: &[Part]) -> Option<i128>
     ensures { MatchOption result (InFixed i qs.now → ⊥) (λ r. (i ≤ℤ r) × ((j : ℤ) → i ≤ℤ j → j ≤ℤ r → InFixed j qs.now)) }
 {
@@ -75,7 +75,7 @@ fn reach(i: i128, qs: &[Part]) -> Option<i128>
     None
 }
 
-// Whether constant parts hold all integers from `l` to `h`. The integers are passed part by part, not one by one.
+// Whether all integers from `l` to `h` lie in constant parts. The loop goes from part to part, not from integer to integer.
 fn covers(l: i128, h: i128, qs: &[Part]) -> bool
     ensures { IsTrue result ↔ ((i : ℤ) → l ≤ℤ i → i ≤ℤ h → InFixed i qs.now) }
 {
@@ -104,6 +104,7 @@ fn covered(p: &Part, qs: &[Part]) -> bool
     }
 }
 
+// Whether each part of `ps` is covered by `qs`.
 pub(crate) fn all_covered(ps: &[Part], qs: &[Part]) -> bool
     ensures { IsTrue result ↔ AllCovered ps.now qs.now }
 {

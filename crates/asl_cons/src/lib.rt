@@ -1,8 +1,8 @@
-//! Constraints: sets of integers between ends, which may depend on integers without a name yet, as in `{0..N, 2*N}`.
+//! Constraints: sets of integers between ends that may depend on unknown integers, as in `{0..N, 2*N}`.
 //!
-//! A [`Cons`] is whole, so that it holds every integer, or has 1 to 64 parts, each from one [`End`] to another. It can be
-//! told whether a constraint is below another for all integers at the atoms, and what the operators make of two of them.
-//! [`Ranges`] are the parts with the integers that their ends have at one moment.
+//! A [`Cons`] is whole, which means that it allows every integer, or has 1 to 64 parts, each from one [`End`] to another.
+//! `below` tells whether one constraint allows no more than another, for all integers at the atoms, and there is a call for
+//! what each operator makes of two constraints. [`Ranges`] are the parts of a constraint whose ends have been evaluated.
 #![tactic(auto)]
 
 mod arithmetic;
@@ -12,8 +12,6 @@ mod inclusion;
 mod integers;
 mod parts;
 mod ranges;
-#[cfg(test)]
-mod tests;
 
 ghost use Rattle.std.specs.Prelude.{ℕ, ℤ, List};
 ghost use Rattle.asl_cons.specs.declared.Part.{Part};
@@ -28,11 +26,11 @@ pub use ranges::Ranges;
 pub enum End {
     /// This integer.
     Int(i128),
-    /// The value of this polynomial. Results of the arithmetic have no polynomial without atoms: they show it as an integer.
+    /// The value of this polynomial. A result of the arithmetic that has no atom is an `Int`.
     Width(Poly),
 }
 
-/// The integers from `low` to `high`, none where `low` is the greater one.
+/// The integers from `low` to `high`: none where `low` is greater than `high`.
 #[derive(Drop)]
 pub struct Part {
     /// The least integer.
@@ -41,7 +39,7 @@ pub struct Part {
     pub high: End,
 }
 
-/// A constraint that is below another has no integer that the other lacks, whatever the integers at the atoms are.
+/// A constraint that is below another allows no integer that the other does not, whatever the integers at the atoms are.
 #[tactic(auto, using(crate::proofs::Membership::below_in))]
 pub fn inclusion_law()
     ensures { (a : ℕ → ℤ) (i : ℤ) (ps qs : List Part) → AllEnds ps → Below ps qs → In a i ps → In a i qs }

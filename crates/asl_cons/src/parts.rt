@@ -1,4 +1,4 @@
-// What the operators make of two parts, where it is one part.
+//! What an operator makes of two parts, `None` where that is not one part.
 
 ghost use Rattle.std.specs.Prelude.{◌≡◌, ◌<◌, ℤ, pos, ◌*ℤ◌, IfOk, MatchOption};
 ghost use Rattle.asl_num.specs.Exact.{floor_div};
@@ -21,6 +21,7 @@ pub(crate) fn range_of(p: &Part) -> Option<(i128, i128)>
     Some((low, high))
 }
 
+// A copy of a part.
 pub(crate) fn copy_part(alloc: Global, p: &Part) -> Result<Part, AllocError>
     ensures { IfOk result (λ r. r ≡ p.now) }
 {
@@ -29,7 +30,7 @@ pub(crate) fn copy_part(alloc: Global, p: &Part) -> Result<Part, AllocError>
     Ok(Part { low, high })
 }
 
-// The one integer of a range, where it is `least` or more.
+// The integer of a range of one integer, where it is `least` or more.
 fn point_in(least: u32, r: (i128, i128)) -> Option<i128>
     ensures { result ≡ point_in least r.0 r.1 }
 {
@@ -40,6 +41,7 @@ fn point_in(least: u32, r: (i128, i128)) -> Option<i128>
     }
 }
 
+// The constant part from `low` to `high`.
 fn integers(low: i128, high: i128) -> Part
     ensures { result ≡ part (Int low) (Int high) }
 {
@@ -73,7 +75,7 @@ pub(crate) fn difference_part(alloc: Global, p: &Part, q: &Part) -> Result<Optio
     Ok(Some(Part { low, high }))
 }
 
-// From the least to the greatest of the four products of the ends.
+// The part from the least to the greatest of the four products of the ends.
 fn product_range(r: (i128, i128), s: (i128, i128)) -> Option<Part>
     ensures { result ≡ product_range r s }
 {
@@ -84,7 +86,7 @@ fn product_range(r: (i128, i128), s: (i128, i128)) -> Option<Part>
     Some(integers(least(a, b, c, d), most(a, b, c, d)))
 }
 
-// The integer of `c..c`, at least 0, times the ends of `q`.
+// The part whose ends are those of `q` times the integer of the range `c..c`, which is at least 0.
 fn scaled_part(alloc: Global, r: (i128, i128), q: &Part) -> Result<Option<Part>, AllocError>
     ensures { IfOk result (λ p. p ≡ scaled_part r q.now) }
 {

@@ -1,4 +1,4 @@
-// Constraints at one moment.
+//! Constraints whose ends have been evaluated.
 
 ghost use Rattle.std.specs.Prelude.{◌≡◌, ◌↔◌, ℤ, pos, List, [], ◌∷◌, ◌++◌, IsTrue, OnOk, OnErr};
 ghost use Rattle.asl_cons.specs.Ranges.{HasRange, first_low, IsFirst};
@@ -6,7 +6,7 @@ ghost use Rattle.asl_cons.specs.Ranges.{HasRange, first_low, IsFirst};
 use std::alloc::{AllocError, Global};
 use std::marker::Model;
 
-/// Parts with the integers that their ends have at one moment. No parts hold no integers.
+/// The parts of a constraint whose ends have been evaluated. Where there are no parts, there are no integers.
 #[derive(Drop)]
 pub struct Ranges {
     spans: Vec<(i128, i128)>,
@@ -20,6 +20,7 @@ impl Model for Ranges {
     ghost view = { λ r. r.spans.items };
 }
 
+// Whether the integer lies in one of the parts.
 fn has_range(v: i128, spans: &[(i128, i128)]) -> bool
     ensures { IsTrue result ↔ HasRange v spans.now }
 {
@@ -31,6 +32,7 @@ fn has_range(v: i128, spans: &[(i128, i128)]) -> bool
     false
 }
 
+// The first integer of the first part that is not empty.
 fn first_low(spans: &[(i128, i128)]) -> Option<i128>
     ensures { result ≡ first_low spans.now }
 {
@@ -43,7 +45,7 @@ fn first_low(spans: &[(i128, i128)]) -> Option<i128>
 }
 
 impl Ranges {
-    /// No parts.
+    /// No parts. It takes no memory.
     pub fn new(alloc: Global) -> Ranges
         ensures { result ≡ [] }
     {
@@ -52,7 +54,7 @@ impl Ranges {
         }
     }
 
-    /// One more part, the integers from `low` to `high`. Without memory the parts stay as they are.
+    /// Appends a part, the integers from `low` to `high`. Where no memory is left, the parts stay as they are.
     pub fn push(&mut self, low: i128, high: i128) -> Result<(), AllocError>
         ensures ok { OnOk result (self.new ≡ self.old ++ (low, high) ∷ []) }
         ensures err { OnErr result (self.new ≡ self.old) }
@@ -61,14 +63,15 @@ impl Ranges {
         Ok(())
     }
 
-    /// Whether a part has the integer.
+    /// Whether the integer lies in one of the parts.
     pub fn has(&self, value: i128) -> bool
         ensures { IsTrue result ↔ HasRange value self.now }
     {
         has_range(value, &self.spans)
     }
 
-    /// 0 where a part has it, else the first integer of the first part that isn't empty, None exactly where each is.
+    /// 0 where it lies in one of the parts, and otherwise the first integer of the first part that is not empty; `None`
+    /// exactly where every part is empty.
     pub fn first(&self) -> Option<i128>
         ensures { IsFirst self.now result }
     {

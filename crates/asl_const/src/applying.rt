@@ -12,6 +12,7 @@ ghost use Rattle.asl_const.specs.Finds.{Finds, decision_of, decided_by, known_af
 
 use crate::failure::{Mistake, Unknown};
 use crate::structures::field_among;
+use asl_shared::Held;
 use asl_syn::token::Span;
 use asl_syn::tree::{BinaryOperator, UnaryOperator};
 use asl_value::{Value, binary, element_of, truth, tuple, unary};
@@ -29,14 +30,16 @@ pub(crate) enum Decision {
 pub(crate) fn truth_of(span: Span, x: Value) -> Result<bool, Unknown>
     ensures { Finds (λ b. b) result (operators.truth span (value_of x)) }
 {
-    Ok(truth(span, &x)?)
+    let x = Held::new(x);
+    Ok(truth(span, x.get())?)
 }
 
 /// An operation on one value.
 pub(crate) fn of_one(span: Span, op: UnaryOperator, x: Value) -> Result<Value, Unknown>
     ensures { Finds value_of result (operators.unary_value span op (value_of x)) }
 {
-    Ok(unary(span, op, &x)?)
+    let x = Held::new(x);
+    Ok(unary(span, op, x.get())?)
 }
 
 /// How an operation goes on behind its left operand: `&&`, `||` and `-->` may be decided by it.
@@ -54,8 +57,9 @@ pub(crate) fn decide(span: Span, op: BinaryOperator, x: Value) -> Result<Decisio
 fn decide_and(span: Span, x: Value) -> Result<Decision, Unknown>
     ensures { Finds decision_of result (decided_by span (value_of x) (operators.strictness logical.LogicalAnd)) }
 {
-    if truth(span, &x)? {
-        Ok(Decision::ByRight(x))
+    let x = Held::new(x);
+    if truth(span, x.get())? {
+        Ok(Decision::ByRight(x.into_inner()))
     } else {
         Ok(Decision::Already(false))
     }
@@ -64,18 +68,20 @@ fn decide_and(span: Span, x: Value) -> Result<Decision, Unknown>
 fn decide_or(span: Span, x: Value) -> Result<Decision, Unknown>
     ensures { Finds decision_of result (decided_by span (value_of x) (operators.strictness logical.LogicalOr)) }
 {
-    if truth(span, &x)? {
+    let x = Held::new(x);
+    if truth(span, x.get())? {
         Ok(Decision::Already(true))
     } else {
-        Ok(Decision::ByRight(x))
+        Ok(Decision::ByRight(x.into_inner()))
     }
 }
 
 fn decide_implies(span: Span, x: Value) -> Result<Decision, Unknown>
     ensures { Finds decision_of result (decided_by span (value_of x) (operators.strictness logical.Implies)) }
 {
-    if truth(span, &x)? {
-        Ok(Decision::ByRight(x))
+    let x = Held::new(x);
+    if truth(span, x.get())? {
+        Ok(Decision::ByRight(x.into_inner()))
     } else {
         Ok(Decision::Already(true))
     }
@@ -91,8 +97,9 @@ pub(crate) fn of_two(
 ) -> Result<Value, Unknown>
     ensures { (left : TheValue) (b : Known) (names : List Entry) → decided_by span left (operators.strictness op) ≡ Good (Err (value_of x)) → Finds value_of y (b names) → Finds value_of result (behind_left span op left b names (operators.strictness op)) }
 {
-    let y = y?;
-    Ok(binary(span, op, &x, &y)?)
+    let x = Held::new(x);
+    let y = Held::new(y?);
+    Ok(binary(span, op, x.get(), y.get())?)
 }
 
 /// The tuple of these parts, which are the values of expressions in order.
@@ -110,15 +117,17 @@ pub(crate) fn tuple_of(
 pub(crate) fn element(span: Span, x: Value, y: Result<Value, Unknown>) -> Result<Value, Unknown>
     ensures { (r : Pure TheValue) → Finds value_of y r → Finds value_of result (r then λ i. structures.element_of span (value_of x) i) }
 {
-    let y = y?;
-    Ok(element_of(span, &x, &y)?)
+    let x = Held::new(x);
+    let y = Held::new(y?);
+    Ok(element_of(span, x.get(), y.get())?)
 }
 
 /// The value of a field.
 pub(crate) fn field_of(span: Span, name: &[u8], x: Value) -> Result<Value, Unknown>
     ensures { Finds value_of result (structures.field_of span name.now (value_of x)) }
 {
-    match &x {
+    let x = Held::new(x);
+    match x.get() {
         Value::Record(_, fields) => field_among(span, name, fields.get().as_slice()),
         Value::Exception(_, _, _, fields) => field_among(span, name, fields.get().as_slice()),
         _ => Err(Unknown::Stuck(Mistake::WrongKind, span)),

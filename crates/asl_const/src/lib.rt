@@ -7,6 +7,3 @@ mod failure;
 mod structures;
 
 pub use evaluate::eval_const;
-
-#[cfg(test)]
-mod tests;

@@ -11,7 +11,7 @@ ghost use Rattle.asl_types.specs.Answers.{Met, Agrees};
 ghost use Rattle.asl_types.specs.View.{ty_of, field_of, all_fields};
 ghost use Rattle.asl_decl.specs.Definitions.{of_field, fields_after, once_beside, labels_after, names_after};
 
-use asl_shared::Shared;
+use asl_shared::{Held, Shared};
 use asl_syn::code::{Refused, StaticCode};
 use asl_syn::token::Span;
 use asl_syn::tree::{Formal, Ident, TypeDef, TypeExpr};
@@ -278,9 +278,9 @@ pub(crate) fn supertypes(
     match supertype {
         None => Ok(Items::new(alloc)),
         Some(name) => {
-            let other = declared(name, names)?;
-            check_subtype(name.span, ty, &other)?;
-            Ok(reached(alloc, name.text.as_slice(), &other)?)
+            let other = Held::new(declared(name, names)?);
+            check_subtype(name.span, ty, other.get())?;
+            Ok(reached(alloc, name.text.as_slice(), other.get())?)
         }
     }
 }

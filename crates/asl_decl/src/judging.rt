@@ -15,6 +15,7 @@ ghost use Rattle.asl_decl.specs.Brought.{brought_of, labels_brought, with_entrie
 use crate::definitions::{define, name_of, named_with, supertypes};
 use crate::storage::{initial_storage, is_var};
 use crate::value_kind::kind_of_value;
+use asl_shared::Held;
 use asl_syn::code::Refused;
 use asl_syn::tree::{Decl, Ident, StorageDecl, TypeDecl, TypeDef, TypeExpr};
 use asl_types::{Binding, Scope, Ty, Under};
@@ -22,7 +23,6 @@ use asl_value::{Name, Value, copy};
 use std::alloc::{AllocError, Global};
 
 /// What a declaration brings.
-#[derive(Drop)]
 pub(crate) enum Brought<'a> {
     /// The name of a type, what it stands for, and the labels of an enumeration.
     Type(&'a [u8], Ty, &'a [Ident]),
@@ -30,6 +30,17 @@ pub(crate) enum Brought<'a> {
     Storage(&'a [u8], Ty, bool, Value),
     /// The name of a subprogram.
     Subprogram(&'a [u8]),
+}
+
+// By hand, so that a drop of one is a call, as `Held` of asl_shared says.
+impl<'a> Drop for Brought<'a> {
+    fn drop(self) {
+        match self {
+            Brought::Type(_name, _ty, _labels) => {}
+            Brought::Storage(_name, _ty, _is_mutable, _value) => {}
+            Brought::Subprogram(_name) => {}
+        }
+    }
 }
 
 /// The labels that a definition writes.
@@ -46,9 +57,9 @@ fn judge_type<'a>(alloc: Global, d: &'a TypeDecl, names: &Scope) -> Result<Broug
     ensures { Met brought_of result (rules.type_decl_rule d.now (in_names names.now)) }
 {
     let name = d.name.text.as_slice();
-    let ty = define(alloc, name, &d.def, names)?;
-    let supers = supertypes(alloc, &d.supertype, &ty, names)?;
-    let ty = named_with(alloc, name, supers, &ty)?;
+    let ty = Held::new(define(alloc, name, &d.def, names)?);
+    let supers = supertypes(alloc, &d.supertype, ty.get(), names)?;
+    let ty = named_with(alloc, name, supers, ty.get())?;
     Ok(Brought::Type(name, ty, labels_in(&d.def)))
 }
 

@@ -26,6 +26,3 @@ mod visible;
 
 pub use signatures::result_type;
 pub use table::Table;
-
-#[cfg(test)]
-mod tests;

@@ -17,6 +17,7 @@ use asl_const::eval_const;
 use asl_expr::exprs::{place, type_expr};
 use asl_expr::typed::Typed;
 use asl_rules::effect::Effect;
+use asl_shared::Held;
 use asl_syn::code::{Refused, StaticCode};
 use asl_syn::tree::{Expr, StorageDecl, StorageKind, TypeExpr};
 use asl_types::answer::fault;
@@ -66,9 +67,12 @@ fn check_fit(ty: &Ty, to: &Ty, e: &Expr) -> Result<(), Refused>
 fn of_type(alloc: Global, d: &StorageDecl, t: &TypeExpr, names: &Scope) -> Result<Initial, Refused>
     ensures { Met initial_of result (rules.storage_rule d.now (Some t.now) None (in_names names.now)) }
 {
-    let ty = written(alloc, t, names)?;
-    let value = initial_value(alloc, &ty)?;
-    Ok(Initial { ty, value })
+    let ty = Held::new(written(alloc, t, names)?);
+    let value = initial_value(alloc, ty.get())?;
+    Ok(Initial {
+        ty: ty.into_inner(),
+        value,
+    })
 }
 
 /// Storage without a written type has that of its initialiser.
@@ -79,7 +83,7 @@ fn of_value(alloc: Global, d: &StorageDecl, e: &Expr, names: &Scope) -> Result<I
     let typed = typed(alloc, e, names)?;
     let value = eval_const(alloc, e, names)?;
     Ok(Initial {
-        ty: typed.ty,
+        ty: typed.into_type(),
         value,
     })
 }
@@ -95,11 +99,14 @@ fn of_both(
     ensures { Met initial_of result (rules.storage_rule d.now (Some t.now) (Some e.now) (in_names names.now)) }
 {
     check_unbarred(e, names)?;
-    let ty = written(alloc, t, names)?;
+    let ty = Held::new(written(alloc, t, names)?);
     let typed = typed(alloc, e, names)?;
-    check_fit(&typed.ty, &ty, e)?;
+    check_fit(&typed.ty, ty.get(), e)?;
     let value = eval_const(alloc, e, names)?;
-    Ok(Initial { ty, value })
+    Ok(Initial {
+        ty: ty.into_inner(),
+        value,
+    })
 }
 
 /// The type and the initial value of global storage: before all else its initialiser holds no call and no global `var`;

@@ -15,6 +15,7 @@ use crate::effects::{at_most, greater, greatest, may_stand_together, together};
 use crate::operators::{type_binary, type_unary};
 use crate::typed::{Operand, Typed};
 use asl_rules::effect::Effect;
+use asl_shared::Held;
 use asl_syn::code::{Refused, StaticCode};
 use asl_syn::token::Span;
 use asl_syn::tree::{BinaryOperator, Ident, UnaryOperator};
@@ -39,13 +40,14 @@ pub fn finish(
 ) -> Result<Typed, Refused>
     ensures { Met typed_of result (rules.finish class span is_together effect (ty_of ty)) }
 {
+    let typed = Typed { ty, effect };
     if !is_together {
         return fault(StaticCode::T13, span);
     }
     if !at_most(effect, class) {
         return fault(StaticCode::T12, span);
     }
-    Ok(Typed { ty, effect })
+    Ok(typed)
 }
 
 /// An operation whose operand was typed.
@@ -102,8 +104,8 @@ pub fn type_either(
     if !is_boolean(&condition.ty) {
         return fault(StaticCode::T05, at);
     }
-    let ty = joined(span, &left.ty, &right.ty)?;
-    let ty = bare(alloc, &ty)?;
+    let ty = Held::new(joined(span, &left.ty, &right.ty)?);
+    let ty = bare(alloc, ty.get())?;
     let effects = [condition.effect, left.effect, right.effect];
     let is_together = may_stand_together(&effects);
     finish(class, span, is_together, greatest(&effects), ty)

@@ -20,6 +20,7 @@ use crate::ends::{
 use crate::trees;
 use crate::typed::{Operand, Typed};
 use asl_rules::effect::Effect;
+use asl_shared::Held;
 use asl_syn::code::{Refused, StaticCode};
 use asl_syn::token::Span;
 use asl_syn::tree::{Expr, FieldValue, Ident};
@@ -104,20 +105,28 @@ pub fn type_expr(
         Expr::Name(span, name) => type_name(names, class, *span, name.as_slice()),
         Expr::Unary(span, op, operand) => {
             let (a, s) = type_expr(alloc, names, class, operand.get())?;
+            let a = Held::new(a);
             let typed = type_operation_of_one(class, *span, *op, s)?;
-            Ok((trees::unary(alloc, *span, *op, a)?, typed))
+            Ok((trees::unary(alloc, *span, *op, a.into_inner())?, typed))
         }
         Expr::Binary(span, op, left, right) => {
             let (a, s) = type_expr(alloc, names, class, left.get())?;
+            let a = Held::new(a);
             let (b, t) = type_expr(alloc, names, class, right.get())?;
+            let b = Held::new(b);
             let typed = type_operation(class, *span, *op, s, t)?;
-            Ok((trees::binary(alloc, *span, *op, a, b)?, typed))
+            let tree = trees::binary(alloc, *span, *op, a.into_inner(), b.into_inner())?;
+            Ok((tree, typed))
         }
         Expr::Conditional(span, condition, left, right) => {
             let (c, r) = type_expr(alloc, names, class, condition.get())?;
+            let c = Held::new(c);
             let (a, s) = type_expr(alloc, names, class, left.get())?;
+            let a = Held::new(a);
             let (b, t) = type_expr(alloc, names, class, right.get())?;
+            let b = Held::new(b);
             let typed = type_either(alloc, class, *span, place(condition.get()), r, s, t)?;
+            let (c, a, b) = (c.into_inner(), a.into_inner(), b.into_inner());
             Ok((trees::conditional(alloc, *span, c, a, b)?, typed))
         }
         Expr::Tuple(span, parts) => {
@@ -131,16 +140,22 @@ pub fn type_expr(
         Expr::Call(span, _, _, _) => fault(StaticCode::S03, *span),
         Expr::Field(span, operand, name) => {
             let (a, s) = type_expr(alloc, names, class, operand.get())?;
+            let a = Held::new(a);
             let (place, typed) = type_field(class, *span, name, s)?;
-            Ok((trees::field(alloc, *span, a, place)?, typed))
+            Ok((trees::field(alloc, *span, a.into_inner(), place)?, typed))
         }
         Expr::Fields(span, _, _) => fault(StaticCode::S03, *span),
         Expr::Slices(span, _, _) => fault(StaticCode::S03, *span),
         Expr::Element(span, array, index) => {
             let (a, s) = type_expr(alloc, names, class, array.get())?;
+            let a = Held::new(a);
             let (i, t) = type_expr(alloc, names, class, index.get())?;
+            let i = Held::new(i);
             let typed = type_element(class, *span, s, t)?;
-            Ok((trees::element(alloc, *span, a, i)?, typed))
+            Ok((
+                trees::element(alloc, *span, a.into_inner(), i.into_inner())?,
+                typed,
+            ))
         }
         Expr::As(span, _, _) => fault(StaticCode::S03, *span),
         Expr::In(span, _, _) => fault(StaticCode::S03, *span),

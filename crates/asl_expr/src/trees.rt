@@ -6,6 +6,7 @@ ghost use Rattle.asl_tree.specs.declared.typed.TypedExpr.{roll-TypedExpr};
 ghost use Rattle.asl_tree.specs.declared.typed.TypedExpr.TheOpen as te;
 ghost use Rattle.asl_tree.specs.Elaboration.{label_layer};
 
+use asl_shared::{three_boxes, two_boxes};
 use asl_syn::token::Span;
 use asl_syn::tree::{BinaryOperator, UnaryOperator};
 use asl_tree::typed::TypedExpr;
@@ -67,8 +68,7 @@ pub(crate) fn binary(
 ) -> Result<TypedExpr, AllocError>
     ensures { IfOk result (λ t. t ≡ roll-TypedExpr (te.Binary span op a b)) }
 {
-    let a = Boxed::new(alloc, a)?;
-    let b = Boxed::new(alloc, b)?;
+    let (a, b) = two_boxes(alloc, a, b)?;
     Ok(TypedExpr::Binary(span, op, a, b))
 }
 
@@ -81,9 +81,7 @@ pub(crate) fn conditional(
 ) -> Result<TypedExpr, AllocError>
     ensures { IfOk result (λ t. t ≡ roll-TypedExpr (te.Conditional span condition a b)) }
 {
-    let condition = Boxed::new(alloc, condition)?;
-    let a = Boxed::new(alloc, a)?;
-    let b = Boxed::new(alloc, b)?;
+    let (condition, a, b) = three_boxes(alloc, condition, a, b)?;
     Ok(TypedExpr::Conditional(span, condition, a, b))
 }
 
@@ -112,8 +110,7 @@ pub(crate) fn element(
 ) -> Result<TypedExpr, AllocError>
     ensures { IfOk result (λ t. t ≡ roll-TypedExpr (te.Element span a i)) }
 {
-    let a = Boxed::new(alloc, a)?;
-    let i = Boxed::new(alloc, i)?;
+    let (a, i) = two_boxes(alloc, a, i)?;
     Ok(TypedExpr::Element(span, a, i))
 }
 

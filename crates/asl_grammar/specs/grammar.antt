@@ -1,5 +1,6 @@
 pub mod Cursor
 pub mod Kinds
+pub mod Operators
 pub mod Combinators
 pub mod Reader
 pub mod Opening

@@ -3,6 +3,7 @@
 
 pub mod error;
 pub mod kinds;
+pub mod operators;
 pub mod parts;
 pub mod reading;
 pub mod trees;

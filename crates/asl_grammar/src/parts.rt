@@ -32,3 +32,14 @@ pub enum VarTail {
     /// What is declared, with its type and its initial value.
     Initialised(Bind, Option<TypeExpr>, Expr),
 }
+
+/// How a slice with two expressions is written.
+#[derive(Clone, Copy, Debug, PartialEq, Eq)]
+pub enum SliceForm {
+    /// `high:low`
+    HighLow,
+    /// `low+:width`
+    LowWidth,
+    /// `factor*:width`
+    FactorWidth,
+}

@@ -1,12 +1,13 @@
 //! The laws of the grammar.
 
-ghost use Rattle.std.specs.Prelude.{ℕ, ◌⊎◌, Bool, List, ◌≡◌, ◌++◌};
+ghost use Rattle.std.specs.Prelude.{ℕ, ◌⊎◌, Bool, List, Result, ◌≡◌, ◌++◌};
 ghost use Rattle.asl_syn.specs.declared.code.Fault.{Fault};
 ghost use Rattle.asl_syn.specs.declared.token.Token.{Token};
 ghost use Rattle.asl_grammar.specs.grammar.Faults.{Parses, SyntaxFault};
 ghost use Rattle.asl_grammar.specs.grammar.Cursor.{Lexeme};
 ghost use Rattle.asl_syn.specs.declared.tree.Decl.{Decl};
 ghost use Rattle.asl_grammar.specs.grammar.Language.{Front, Opener, Tree, Answers, without_end, outcome};
+ghost use Rattle.asl_grammar.specs.Reading.{File, Reads, Reader, IsReading};
 
 /// A list of tokens has at most one tree.
 pub fn one_tree()
@@ -33,4 +34,10 @@ pub fn one_syntax_fault()
 /// Each front of a front that goes on does too: so the longest front that goes on ends at the first token with which none does.
 pub fn fronts_of_fronts()
     ensures { (levels : ℕ) (front more : List Lexeme) → Front levels (front ++ more) → Front levels front }
+{}
+
+/// Files are read to exactly one answer: their declarations in order, or their one fault.
+pub fn one_program()
+    ensures one { (files : List File) (r s : Result (List Decl) Fault) → Reads files r → Reads files s → r ≡ s }
+    ensures some { (read : Reader) × IsReading read }
 {}

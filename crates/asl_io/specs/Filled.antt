@@ -1,10 +1,11 @@
--- A sink in memory that failed is full, and one that tells no room says nothing.
+-- The two lemmas that prove the trait's `filled` for each sink: one in memory that has failed is full, and of one without a
+-- number there is nothing to show.
 use Rattle.std.specs.Prelude.{◌≡◌, ℕ, ◌<◌, ◌≤◌, List, [], ◌∷◌, length, Some, None, is_some, unwrap_or}
 use Rattle.std.proofs.Common.{refl, ap, sym, subst, ◌∙◌, true≢false}
 use Rattle.std.proofs.Math.Nat.{le_refl}
 use Rattle.asl_io.specs.Faults.{room_where_none_fails}
 
--- what holds of a number that isn't there
+-- of a number that is not there anything holds
 pub no_room : (P : Type 0) (room : ℕ) → None ≡ Some room → P
 no_room P room none = absurd (true≢false (sym (ap is_some none)))
 

@@ -1,4 +1,4 @@
--- What is shown of files in memory.
+-- What contracts see of `MemFiles` besides the trait's words.
 use Rattle.std.specs.Prelude.{ℕ, List}
 use Rattle.asl_io.specs.declared.mem_files.MemFiles.{MemFiles}
 
@@ -6,7 +6,7 @@ use Rattle.asl_io.specs.declared.mem_files.MemFiles.{MemFiles}
 abbrev pub failing_calls : MemFiles → List ℕ
 failing_calls f = f.fails.items
 
--- how many calls there were
+-- how many calls there have been
 abbrev pub call_count : MemFiles → ℕ
 call_count f = f.calls
 

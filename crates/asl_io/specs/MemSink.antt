@@ -1,4 +1,4 @@
--- What is shown of a sink in memory.
+-- What contracts see of `MemSink` besides the trait's words.
 use Rattle.std.specs.Prelude.{ℕ, List}
 use Rattle.asl_io.specs.declared.mem_sink.MemSink.{MemSink}
 
@@ -6,7 +6,7 @@ use Rattle.asl_io.specs.declared.mem_sink.MemSink.{MemSink}
 abbrev pub failing_calls : MemSink → List ℕ
 failing_calls s = s.fails.items
 
--- how many calls there were
+-- how many calls there have been
 abbrev pub call_count : MemSink → ℕ
 call_count s = s.calls
 

@@ -11,22 +11,23 @@ pub struct FileFault;
 
 /// Files by name, one open at a time.
 pub trait Files {
-    /// The bytes of each name, where they are told.
+    /// The bytes of each name, where this kind of files tells them.
     ghost held: { Self → Option (List ℕ → List ℕ) };
 
-    /// The bytes of the open file that were not given yet, none where no file is open. Nothing is known of it after a fault.
+    /// The bytes of the open file that have not been given yet: none where no file is open. After a fault nothing is known
+    /// of them.
     ghost left: { Self → Option (List ℕ) };
 
-    /// How often a call failed.
+    /// How many calls have failed.
     ghost faults: { Self → ℕ };
 
-    /// The next calls of `next` succeed.
+    /// From here on `next` succeeds.
     ghost steady: { Self → Bool };
 
-    /// Opening this name succeeds, and so does reading it.
+    /// Opening this name succeeds, and then reading it does.
     ghost sure: { Self → List ℕ → Bool };
 
-    /// Opens a file, and closes what was open.
+    /// Opens a file, and closes the one that was open.
     fn open(&mut self, name: &str) -> Result<(), FileFault>
         ensures begins { OnOk result (left self.new ≡ option_map (λ bytes. bytes name.now) (held self.old)) }
         ensures same_held { held self.new ≡ held self.old }
@@ -37,7 +38,8 @@ pub trait Files {
         ensures opens { IsTrue (sure self.old name.now) → IsOk result }
         ensures steady { IsTrue (sure self.old name.now) → IsTrue (steady self.new) };
 
-    /// Gives the next bytes of the open file: none only at its end, where no file is open or where there is no room.
+    /// Copies the next bytes of the open file to the front of `buf`, and returns how many: 0 only at the end of the file,
+    /// where no file is open, or where `buf` is empty.
     fn next(&mut self, buf: &mut [u8]) -> Result<usize, FileFault>
         ensures bound { IfOk result (λ n. n ≤ length buf.new) }
         ensures gives { IfOk result (λ n. Gives (left self.old) (left self.new) (take n buf.new)) }
@@ -51,15 +53,18 @@ pub trait Files {
         ensures goes_on { IsTrue (steady self.old) → IsOk result }
         ensures stays_steady { IsTrue (steady self.old) → IsTrue (steady self.new) };
 
-    /// What is left of the open file is told where the bytes of the names are.
+    /// What is left of the open file is told exactly where the bytes of the names are.
     ghost told: { (f : Self) → is_some (left f) ≡ is_some (held f) };
 }
 
 /// Why a file was not read.
 #[derive(Clone, Copy, Debug, PartialEq, Eq)]
 pub enum ReadAnswer {
+    /// A call of the files failed.
     Fault,
+    /// The file is longer than the limit.
     TooLong,
+    /// No memory was left.
     NoMemory,
 }
 
@@ -83,9 +88,10 @@ impl From<FileFault> for ReadAnswer {
     }
 }
 
+// How many bytes `read_file` asks for at a time.
 const PIECE: usize = 4096;
 
-/// Takes one more piece of the open file, of at most `most` bytes, and says how many there were.
+/// Appends one more piece of the open file to `bytes`, of at most `most` bytes, and returns how long it was.
 fn take_piece<F: Files>(
     files: &mut F,
     bytes: &mut Vec<u8>,
@@ -113,7 +119,7 @@ fn take_piece<F: Files>(
     Ok(n)
 }
 
-/// Reads a file whole, where it has at most `limit` bytes.
+/// Reads a whole file that has at most `limit` bytes.
 pub fn read_file<F: Files>(
     alloc: Global,
     files: &mut F,
@@ -125,7 +131,7 @@ pub fn read_file<F: Files>(
     ensures short { IfOk result (λ bytes. vec_len bytes ≤ limit) }
     ensures to_the_end { OnOk result (IfSome (F.left files.new) (λ rest. rest ≡ [])) }
 
-    // Where it is too long, one byte more than the limit was taken.
+    // Where it is too long, one byte more than the limit has been read.
     ensures too_long { IsErrOf result ReadAnswer.TooLong → IfSome (F.held files.old) (λ held. limit < length (held name.now)) }
     ensures one_more { IsErrOf result ReadAnswer.TooLong → GivesMany (option_map (λ held. held name.now) (F.held files.old)) (F.left files.new) (limit + 1) }
 

@@ -1,4 +1,4 @@
-//! The host's files and its standard output. They tell no bytes.
+//! The host's files and its standard output. Contracts know nothing of their bytes.
 ghost use Rattle.std.specs.Prelude.{◌≡◌, None, false};
 ghost use Rattle.std.proofs.Math.Path.{refl};
 
@@ -17,7 +17,7 @@ pub struct HostFiles {
 }
 
 impl HostFiles {
-    /// The host's files, none of them open.
+    /// The host's files, with none of them open.
     pub fn new(rt: HostRuntime) -> HostFiles
         ensures { ⟦<HostFiles as Files>⟧.faults result ≡ 0 }
     {

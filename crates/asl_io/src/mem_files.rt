@@ -8,7 +8,7 @@ ghost use Rattle.asl_io.specs.Shelf.{held_of, left_of, is_sure, is_empty, place_
 use crate::files::{FileFault, Files};
 use crate::shelf;
 
-/// Files in memory, which fail at the calls listed and where a name isn't held.
+/// Files in memory, which fail at the listed calls and where a name is not held.
 #[derive(Drop)]
 pub struct MemFiles {
     held: Vec<(String, Vec<u8>)>,
@@ -24,9 +24,9 @@ pub struct MemFiles {
 impl MemFiles {
     ghost use Rattle.asl_io.specs.MemFiles.{failing_calls, call_count, piece_of};
 
-    /// Files of these names and bytes, none of them open, that are given in pieces of at most `piece` bytes.
-    /// The calls with the numbers listed fail, `open` and `next` counted together from 1. Of two files with one
-    /// name the first counts.
+    /// Files with these names and bytes, none of them open, that are given in pieces of at most `piece` bytes, which must
+    /// be above 0. The calls with the listed numbers fail, where `open` and `next` are counted together from 1. Of two files
+    /// with one name the first counts.
     pub fn new(held: Vec<(String, Vec<u8>)>, piece: usize, fails: Vec<u64>) -> MemFiles
         requires { 0 < piece }
         ensures held { ⟦<MemFiles as Files>⟧.held result ≡ Some (held_of held.items) }

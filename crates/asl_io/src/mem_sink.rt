@@ -6,7 +6,7 @@ ghost use Rattle.asl_io.specs.Told.{Takes};
 use crate::sink::{Sink, SinkFault};
 use std::alloc::{AllocError, Global};
 
-/// A sink in memory, with room for so many bytes, which fails at the calls listed and where it is full.
+/// A sink in memory, which fails at the listed calls and where it is full.
 #[derive(Drop)]
 pub struct MemSink {
     bytes: Vec<u8>,
@@ -24,8 +24,8 @@ pub struct MemSink {
 impl MemSink {
     ghost use Rattle.asl_io.specs.MemSink.{failing_calls, call_count, piece_of, room_of};
 
-    /// A sink with room for so many bytes, taken here, that takes at most `piece` of them in a call.
-    /// The calls with the numbers listed fail, counted from 1, and each call where the room is full.
+    /// A sink with room for `room` bytes, which is allocated here, that takes at most `piece` of them in a call, which must
+    /// be above 0. The calls with the listed numbers fail, counted from 1, and so does every call once the room is full.
     pub fn new(
         alloc: Global,
         room: usize,
@@ -54,7 +54,7 @@ impl MemSink {
         })
     }
 
-    /// What was written.
+    /// The bytes that have been written.
     pub fn bytes(&self) -> &[u8]
         ensures { ⟦<MemSink as Sink>⟧.written self.now ≡ Some result.now }
     {

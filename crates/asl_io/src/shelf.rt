@@ -1,15 +1,15 @@
-//! Files in memory, by their names.
+//! A list of files in memory with their names.
 ghost use Rattle.std.specs.Prelude.{◌≡◌, ◌<◌, ◌≤◌, ◌+◌, ◌++◌, [], length, take, drop};
 ghost use Rattle.asl_io.specs.Shelf.{place_of, left_of};
 
-/// Where the file of this name stands.
+/// The index of the first file with this name.
 pub fn place(held: &[(String, Vec<u8>)], name: &str) -> Option<usize>
     ensures { result ≡ place_of held.now name.now }
 {
     held.iter().position(|entry| entry.0.as_str() == name)
 }
 
-/// Gives the next bytes of a text, at most `piece`.
+/// Copies the next bytes of a text, at most `piece`, to the front of `buf`, and returns how many.
 fn give(bytes: &[u8], at: usize, piece: usize, buf: &mut [u8]) -> usize
     requires { 0 < piece }
     ensures bound { result ≤ length buf.new }
@@ -26,7 +26,7 @@ fn give(bytes: &[u8], at: usize, piece: usize, buf: &mut [u8]) -> usize
     n
 }
 
-/// Gives the next bytes of the file at a place, at most `piece`.
+/// Copies the next bytes of a file, at most `piece`, to the front of `buf`, and returns how many.
 pub fn give_from(
     held: &[(String, Vec<u8>)],
     place: Option<usize>,

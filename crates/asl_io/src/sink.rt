@@ -1,24 +1,24 @@
-//! What takes bytes, and the writing of a text whole.
+//! What takes bytes, and the writing of a whole text.
 ghost use Rattle.std.specs.Prelude.{◌≡◌, ℕ, ◌<◌, ◌≤◌, List, Option, length, take, IfOk, OnErr, OnOk};
 ghost use Rattle.asl_io.specs.Faults.{Rises};
 ghost use Rattle.asl_io.specs.Told.{Takes, TakesPrefix};
 
-/// The sink didn't take the bytes.
+/// The sink did not take the bytes.
 #[derive(Clone, Copy, Debug, PartialEq, Eq)]
 pub struct SinkFault;
 
 /// What takes bytes.
 pub trait Sink {
-    /// The bytes taken so far, where they are told.
+    /// The bytes taken so far, where this kind of sink tells them.
     ghost written: { Self → Option (List ℕ) };
 
-    /// How often a call failed.
+    /// How many calls have failed.
     ghost faults: { Self → ℕ };
 
-    /// Where it is a number, a count above 0 means that at least so many bytes were taken.
+    /// Where this is a number, no call fails before that many bytes have been taken.
     ghost full: { Self → Option ℕ };
 
-    /// Takes the first n bytes at `Ok(n)`, and none at `Err`.
+    /// Takes the first `n` bytes where it answers `Ok(n)`, and none where it answers `Err`.
     fn write(&mut self, bytes: &[u8]) -> Result<usize, SinkFault>
         ensures bound { IfOk result (λ n. n ≤ length bytes.now) }
         ensures some { IfOk result (λ n. 0 < length bytes.now → 0 < n) }
@@ -29,10 +29,11 @@ pub trait Sink {
         ensures count_stays { OnOk result (faults self.new ≡ faults self.old) }
         ensures same_full { full self.new ≡ full self.old };
 
+    /// The sentence above on `full`, where the bytes are told.
     ghost filled: { (s : Self) (room : ℕ) (bytes : List ℕ) → full s ≡ Option.Some room → written s ≡ Option.Some bytes → 0 < faults s → room ≤ length bytes };
 }
 
-/// Writes all the bytes, in as many calls as the sink wants. At a fault a prefix was taken.
+/// Writes all the bytes, in as many calls as the sink needs. At a fault a prefix of them has been taken.
 pub fn put_all<K: Sink>(sink: &mut K, bytes: &[u8]) -> Result<(), SinkFault>
     ensures all { OnOk result (Takes (K.written sink.old) (K.written sink.new) bytes.now) }
     ensures prefix { OnErr result (TakesPrefix (K.written sink.old) (K.written sink.new) bytes.now) }

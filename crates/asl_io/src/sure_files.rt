@@ -6,7 +6,7 @@ ghost use Rattle.asl_io.specs.Shelf.{held_of, left_of};
 use crate::files::{FileFault, Files};
 use crate::shelf;
 
-/// Files in memory. A name that isn't held is an empty file.
+/// Files in memory. A name that is not held is an empty file.
 #[derive(Drop)]
 pub struct SureFiles {
     held: Vec<(String, Vec<u8>)>,
@@ -15,7 +15,7 @@ pub struct SureFiles {
 }
 
 impl SureFiles {
-    /// Files of these names and bytes, none of them open. Of two with one name the first counts.
+    /// Files with these names and bytes, none of them open. Of two with one name the first counts.
     pub fn new(held: Vec<(String, Vec<u8>)>) -> SureFiles
         ensures held { ⟦<SureFiles as Files>⟧.held result ≡ Some (held_of held.items) }
         ensures closed { ⟦<SureFiles as Files>⟧.left result ≡ Some [] }

@@ -3,12 +3,12 @@ ghost use Rattle.std.specs.Prelude.{◌≡◌, None};
 
 use crate::sink::{Sink, SinkFault};
 
-/// A sink that takes all bytes, and keeps none.
+/// A sink that takes all bytes and keeps none.
 #[derive(Clone, Copy, Debug, PartialEq, Eq)]
 pub struct SureSink;
 
 impl SureSink {
-    /// A sink that took nothing yet.
+    /// A sink that has taken nothing yet.
     pub fn new() -> SureSink
         ensures { ⟦<SureSink as Sink>⟧.faults result ≡ 0 }
     {

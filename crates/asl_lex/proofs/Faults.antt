@@ -1,4 +1,4 @@
--- The faults that stand where the reading is.
+-- Each fault that the lexer makes is one that the definitions allow there.
 use Rattle.std.proofs.Common.{◌≡◌, ℕ, ◌+◌, ◌<◌, ◌≤◌, ◌^◌, true, false, length, take, drop, Some, None, refl, sym, subst}
 use Rattle.asl_syn.specs.declared.code.Fault.{Fault}
 use Rattle.asl_syn.specs.declared.code.StaticCode.{StaticCode}
@@ -15,7 +15,7 @@ use Rattle.asl_grammar.proofs.lexemes.Reading.{large_refused}
 
 -- what the fields say, what the lexer is seen as, and the fault
 module _ (fields lexer : Scan) (is : fields ≡ lexer) (f : Fault) where
-  -- the fault has this code and length, and stands where the reading is
+  -- the fault has this code and length, and stands first in what is left
   abbrev pub Has : StaticCode → ℕ → Type 0
   Has code len = f ≡ record { code = code; inner = None; span = record { file = lexer.file; start = lexer.place; len = len } }
 

@@ -1,5 +1,6 @@
--- What the scanner finds is the longest lexeme.
-use Rattle.std.proofs.Common.{◌≡◌, ℕ, ◌+◌, Bool, true, false, List, Option, Some, None, refl, subst, take, drop, cond}
+-- What `found_at` finds is the longest lexeme.
+use Rattle.std.proofs.Common.{◌≡◌, ℕ, ◌+◌, ◌≤◌, Bool, true, false, List, [], ◌∷◌, length, slice_index_or, Option, Some, None, refl, sym, subst, take, drop, cond, arith}
+use Rattle.std.specs.List.{prefix_len}
 use Rattle.asl_quote.specs.declared.QuoteState.{QuoteState}
 use Rattle.asl_quote.specs.declared.QuoteState.TheVariants as at
 use Rattle.asl_quote.specs.Bytes.{is_mask}
@@ -10,7 +11,8 @@ use Rattle.asl_syn.specs.declared.token.TokenKind.{TokenKind}
 use Rattle.asl_syn.specs.declared.token.TokenKind.TheVariants as kinds
 use Rattle.asl_grammar.specs.lexemes.Gaps.{opens_block}
 use Rattle.asl_grammar.specs.lexemes.Lexemes.{Longest}
-use Rattle.asl_grammar.specs.lexemes.Scanning.{lexeme_of}
+use Rattle.asl_grammar.specs.lexemes.Bytes.{is_name_start, is_name_byte}
+use Rattle.asl_grammar.specs.lexemes.Scanning.{kind_of_name, lexeme_of}
 use Rattle.asl_grammar.proofs.lexemes.LongestLexeme.{FoundAt, lexeme_is}
 use Rattle.asl_lex.specs.declared.lexeme.Found.{Found}
 use Rattle.asl_lex.specs.declared.lexeme.Found.TheVariants as founds
@@ -28,6 +30,15 @@ from_option bytes founds.Nothing o f a = subst (FoundAt bytes) f a
 
 pub finds_at : (bytes : List ℕ) (found : Found) → opens_block bytes ≡ false → Finds found (lexeme_of bytes) → FindsAt bytes found
 finds_at bytes found apart f = from_option bytes found (lexeme_of bytes) f (lexeme_is bytes apart)
+
+pub finds_name : (bytes : List ℕ) (n : ℕ) (k : TokenKind) → 1 ≤ length bytes → true ≡ is_name_start (slice_index_or bytes 0 0) → n ≡ prefix_len is_name_byte bytes →
+    k ≡ kind_of_name (take n bytes) → IsSmall k → opens_block bytes ≡ false → FindsAt bytes (founds.Lexeme n k)
+unfolding lexeme_of
+finds_name [] n k some s en ek small apart = absurd (omega arith)
+finds_name (b ∷ bs) n k some s en ek small apart =
+    let t : is_name_start b ≡ true = sym s in
+    let f : lexeme_of (b ∷ bs) ≡ Some (n, k) = rw (ek, en, t) refl in
+    finds_at (b ∷ bs) (founds.Lexeme n k) apart (f, small)
 
 small_cond : (m : Bool) → IsSmall (cond m kinds.Mask kinds.Bits)
 small_cond true = tt

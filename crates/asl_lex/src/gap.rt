@@ -1,4 +1,4 @@
-// Gaps: blanks and comments.
+//! Gaps: blanks and comments.
 
 ghost use Rattle.std.specs.Prelude.{◌≡◌, ◌≤◌, length};
 ghost use Rattle.std.specs.Option.{option_copied};
@@ -6,14 +6,14 @@ ghost use Rattle.asl_grammar.specs.lexemes.Gaps.{after_block, after_line, after_
 
 use crate::bytes::{is_blank, line_len};
 
-/// What is left at the next line feed, or at the end.
+/// The bytes from the next line feed on, none where there is none.
 fn after_line(bytes: &[u8]) -> &[u8]
     ensures { result.now ≡ after_line bytes.now }
 {
     &bytes[line_len(bytes)..]
 }
 
-/// What is left behind the next `*/`.
+/// The bytes after the next `*/`, or `None` where there is none.
 #[tactic(auto, using(asl_grammar::proofs::lexemes::Gapping::after_block_short))]
 fn after_block(bytes: &[u8]) -> Option<&[u8]>
     ensures { option_copied result ≡ after_block bytes.now }
@@ -28,7 +28,7 @@ fn after_block(bytes: &[u8]) -> Option<&[u8]>
     None
 }
 
-/// Whether `/*` stands here.
+/// Whether the bytes begin with `/*`.
 pub fn opens_block(bytes: &[u8]) -> bool
     ensures { result ≡ opens_block bytes.now }
 {
@@ -38,7 +38,7 @@ pub fn opens_block(bytes: &[u8]) -> bool
     }
 }
 
-/// What is left behind the blank or the comment that begins here.
+/// The bytes after the blank or the comment that stands first, or `None` where neither stands there.
 fn after_piece(bytes: &[u8]) -> Option<&[u8]>
     ensures { option_copied result ≡ after_piece bytes.now }
 {
@@ -51,7 +51,7 @@ fn after_piece(bytes: &[u8]) -> Option<&[u8]>
     }
 }
 
-/// What is left behind the gap.
+/// The bytes after the gap that stands first.
 pub fn after_gap(bytes: &[u8]) -> &[u8]
     ensures gap { Gap bytes.now result.now }
     ensures fits { length result.now ≤ length bytes.now }

@@ -1,9 +1,9 @@
-// The lexeme that begins at a place, found by its first byte.
+//! The lexeme that a text begins with, found by its first byte.
 
 ghost use Rattle.std.specs.Prelude.{◌≡◌, ◌+◌, ◌<◌, length, false, drop, take};
 ghost use Rattle.asl_grammar.specs.lexemes.Gaps.{opens_block};
 ghost use Rattle.asl_grammar.specs.lexemes.Scanning.{kind_of_name, opens_hex, number_of, longest_mark, lexeme_of, mark_at, quoted_of, kind_of_quote};
-ghost use Rattle.asl_lex.specs.Found.{Finds, FindsAt};
+ghost use Rattle.asl_lex.specs.Found.{Finds, FindsAt, IsSmall};
 
 use crate::bytes::{decimal_len, hex_len, is_hex_digit, is_name_start, name_len};
 use crate::number::{decimal_value, hex_value};
@@ -11,12 +11,12 @@ use crate::table::{mark_of, word_of};
 use asl_quote::{QuoteState, is_mask, opens_quote, quote_reach};
 use asl_syn::token::TokenKind;
 
-/// What begins at a place.
+/// What a text begins with.
 #[derive(Clone, Copy)]
 pub enum Found {
     /// The longest lexeme, with its length in bytes.
     Lexeme(usize, TokenKind),
-    /// An integer literal of this length in bytes, that is too large.
+    /// An integer literal of this length in bytes whose value is 2^127 or more.
     TooLarge(usize),
     /// No lexeme.
     Nothing,
@@ -29,7 +29,7 @@ fn front(n: usize, bytes: &[u8]) -> &[u8]
     if bytes.len() < n { bytes } else { &bytes[..n] }
 }
 
-/// What is left behind the first byte.
+/// The bytes after the first one.
 pub fn after_first(bytes: &[u8]) -> &[u8]
     requires { 0 < length bytes.now }
     ensures after { result.now ≡ drop 1 bytes.now }
@@ -38,8 +38,10 @@ pub fn after_first(bytes: &[u8]) -> &[u8]
     &bytes[1..]
 }
 
+/// The word that a name spells, or a name.
 fn kind_of_name(text: &[u8]) -> TokenKind
-    ensures { result ≡ kind_of_name text.now }
+    ensures kind { result ≡ kind_of_name text.now }
+    ensures small { IsSmall result }
 {
     match word_of(text) {
         Some(word) => TokenKind::Word(word),
@@ -47,7 +49,7 @@ fn kind_of_name(text: &[u8]) -> TokenKind
     }
 }
 
-/// Whether `0x` and a hexadecimal digit stand here.
+/// Whether the bytes begin with `0x` and a hexadecimal digit.
 fn opens_hex(bytes: &[u8]) -> bool
     ensures { result ≡ opens_hex bytes.now }
 {
@@ -57,6 +59,7 @@ fn opens_hex(bytes: &[u8]) -> bool
     }
 }
 
+/// The integer literal that the bytes begin with.
 fn number_at(bytes: &[u8]) -> Found
     ensures { Finds result (number_of bytes.now) }
 {
@@ -75,7 +78,7 @@ fn number_at(bytes: &[u8]) -> Found
     }
 }
 
-/// The mark that at most the first n bytes spell, with its length.
+/// The mark that the first `n` bytes spell, with its length; all the bytes where there are fewer.
 fn mark_at(n: usize, bytes: &[u8]) -> Option<(usize, TokenKind)>
     ensures { result ≡ mark_at n bytes.now }
 {
@@ -86,6 +89,7 @@ fn mark_at(n: usize, bytes: &[u8]) -> Option<(usize, TokenKind)>
     }
 }
 
+/// The longest mark that the bytes begin with.
 fn longest_mark(bytes: &[u8]) -> Found
     ensures { Finds result (longest_mark bytes.now) }
 {
@@ -101,6 +105,7 @@ fn longest_mark(bytes: &[u8]) -> Found
     }
 }
 
+/// The kind of a literal in quotes.
 fn kind_of_quote(state: QuoteState, text: &[u8]) -> TokenKind
     ensures { result ≡ kind_of_quote state text.now }
 {
@@ -113,6 +118,7 @@ fn kind_of_quote(state: QuoteState, text: &[u8]) -> TokenKind
     }
 }
 
+/// The literal in quotes that the bytes begin with.
 fn quoted_at(state: QuoteState, bytes: &[u8]) -> Found
     requires { 0 < length bytes.now }
     ensures { Finds result (quoted_of state bytes.now) }
@@ -127,9 +133,11 @@ fn quoted_at(state: QuoteState, bytes: &[u8]) -> Found
     }
 }
 
-#[tactic(auto, unfolding(asl_grammar::specs::lexemes::Scanning::lexeme_of))]
-fn lexeme_at(bytes: &[u8]) -> Found
-    ensures { Finds result (lexeme_of bytes.now) }
+/// The longest lexeme that the bytes begin with.
+#[tactic(auto, unfolding(asl_grammar::specs::lexemes::Scanning::lexeme_of), using(crate::proofs::Finding::finds_at))]
+pub fn found_at(bytes: &[u8]) -> Found
+    requires { opens_block bytes.now ≡ false }
+    ensures { FindsAt bytes.now result }
 {
     match bytes {
         [] => Found::Nothing,
@@ -146,12 +154,4 @@ fn lexeme_at(bytes: &[u8]) -> Found
             }
         }
     }
-}
-
-/// The longest lexeme that begins here.
-pub fn found_at(bytes: &[u8]) -> Found
-    requires { opens_block bytes.now ≡ false }
-    ensures { FindsAt bytes.now result }
-{
-    lexeme_at(bytes)
 }

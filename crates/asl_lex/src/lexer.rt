@@ -1,24 +1,28 @@
-// The lexer with its state.
+//! The lexer with its state.
 
 ghost use Rattle.std.specs.Prelude.{◌≡◌, ◌≤◌, ◌+◌, ◌<◌, ◌^◌, length, None, false};
 ghost use Rattle.asl_grammar.specs.lexemes.Gaps.{opens_block, Gap};
 ghost use Rattle.asl_grammar.specs.lexemes.Refusals.{refusal, is_reserved, too_many, max_width};
 ghost use Rattle.asl_grammar.specs.lexemes.Tokens.{NoLexeme, Scan, scan_of, behind_gap, behind_lexeme, ReadGives, IsFaultAt, NextGives};
+ghost use Rattle.asl_syn.specs.declared.place.TheConstants as of_files;
+ghost use Rattle.asl_lex.specs.declared.lexer.TheConstants as of_lexemes;
 ghost use Rattle.asl_lex.specs.Found.{IsSmall};
 
 use crate::gap::{after_gap, opens_block};
 use crate::lexeme::{Found, after_first, found_at};
 use asl_quote::{digit_count, opens_quote, quote_reach};
 use asl_syn::code::{Fault, StaticCode};
+use asl_syn::place::MAX_BYTES;
 use asl_syn::token::{Span, Token, TokenKind};
 use std::marker::Model;
 
-/// The most lexemes of a file.
+/// The most lexemes that a file may have.
 pub const MAX_LEXEMES: u32 = 200_000;
 
-/// The width limit: the most digits of a literal of bits or of a mask.
+/// The width limit: the most digits that a bitvector literal or a mask may have.
 pub const MAX_WIDTH: usize = 128;
 
+/// Whether a name begins with two underscores.
 fn is_reserved(text: &[u8]) -> bool
     ensures { result ≡ is_reserved text.now }
 {
@@ -28,6 +32,7 @@ fn is_reserved(text: &[u8]) -> bool
     }
 }
 
+/// `M03` where a file has had all its lexemes.
 fn too_many(given: u32) -> Option<StaticCode>
     ensures { result ≡ too_many given }
 {
@@ -38,7 +43,7 @@ fn too_many(given: u32) -> Option<StaticCode>
     }
 }
 
-/// Why a lexeme is refused, where so many stand before it.
+/// Why a lexeme is refused, where `given` lexemes of its file stand before it, or `None`.
 fn refusal(kind: TokenKind, text: &[u8], given: u32) -> Option<StaticCode>
     requires { IsSmall kind }
     ensures { result ≡ refusal max_width kind text.now given }
@@ -64,7 +69,7 @@ fn refusal(kind: TokenKind, text: &[u8], given: u32) -> Option<StaticCode>
     }
 }
 
-/// Reads the tokens of a file one by one.
+/// Reads the tokens of a file one by one. Contracts see a lexer as the `Scan` of the text that is left.
 #[derive(Debug, Drop)]
 pub struct Lexer<'a> {
     file: u32,
@@ -78,13 +83,13 @@ impl<'a> Model for Lexer<'a> {
 
     ghost view = { λ l. record { width_limit = max_width; file = l.file; place = l.place; rest = l.rest.now; given = l.given } };
 
-    ghost invariant = { λ l. (l.place + length l.rest.now ≤ 1048576) × (l.given ≤ 200000) };
+    ghost invariant = { λ l. (l.place + length l.rest.now ≤ of_files.MAX_BYTES) × (l.given ≤ of_lexemes.MAX_LEXEMES) };
 }
 
 impl<'a> Lexer<'a> {
-    /// The lexer of a file, before its first byte. Spans carry the file's number.
+    /// The lexer of a file, before its first byte. `file` is the number that the spans will carry.
     pub fn new(file: u32, bytes: &'a [u8]) -> Self
-        requires { length bytes.now ≤ 1048576 }
+        requires { length bytes.now ≤ MAX_BYTES }
         ensures { result ≡ scan_of max_width file bytes.now }
     {
         Lexer {
@@ -95,8 +100,8 @@ impl<'a> Lexer<'a> {
         }
     }
 
-    /// The next token, `None` at the end, or the fault: L01 to L05 or M03. After the end and after a fault it answers
-    /// the same again. It takes no memory.
+    /// The next token, `None` at the end of the file, or the file's fault: L01 to L05 or M03. After the end or a fault it
+    /// gives the same answer again. It takes no memory.
     pub fn next(&mut self) -> Result<Option<Token>, Fault>
         ensures { NextGives self.old result self.new }
     {
@@ -108,6 +113,7 @@ impl<'a> Lexer<'a> {
         Ok(answer)
     }
 
+    /// The lexer after the gap that stands first.
     fn behind_gap(&self) -> Lexer<'a>
         ensures gap { Gap self.now.rest result.rest }
         ensures rest { result ≡ behind_gap self.now result.rest }
@@ -122,9 +128,10 @@ impl<'a> Lexer<'a> {
         }
     }
 
+    /// The lexer after a lexeme of this length, which stands first.
     fn behind_lexeme(&self, len: u32) -> Lexer<'a>
         requires fits { len ≤ length self.now.rest }
-        requires few { self.now.given < 200000 }
+        requires few { self.now.given < MAX_LEXEMES }
         ensures { result ≡ behind_lexeme self.now len }
     {
         Lexer {
@@ -135,6 +142,7 @@ impl<'a> Lexer<'a> {
         }
     }
 
+    /// The span of this length that stands first.
     fn span(&self, len: usize) -> Span
         requires { len < 2 ^ 32 }
         ensures { result ≡ record { file = self.now.file; start = self.now.place; len = len } }
@@ -146,6 +154,7 @@ impl<'a> Lexer<'a> {
         }
     }
 
+    /// The fault with this code and length that stands first.
     fn fault(&self, code: StaticCode, len: usize) -> Fault
         requires { len < 2 ^ 32 }
         ensures { result ≡ record { code = code; inner = None; span = record { file = self.now.file; start = self.now.place; len = len } } }
@@ -157,7 +166,7 @@ impl<'a> Lexer<'a> {
         }
     }
 
-    /// The token, the end or the fault, where no gap is left.
+    /// The token, the end or the fault that stands first, where that is no gap.
     fn read(&self) -> Result<Option<Token>, Fault>
         ensures { ReadGives self.now result }
     {
@@ -180,7 +189,7 @@ impl<'a> Lexer<'a> {
         }
     }
 
-    /// The fault where no lexeme begins.
+    /// The fault that stands first, where that is no lexeme.
     fn no_lexeme(&self) -> Fault
         requires some { 0 < length self.now.rest }
         requires apart { opens_block self.now.rest ≡ false }

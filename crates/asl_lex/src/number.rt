@@ -1,12 +1,12 @@
-// The values of integer literals.
+//! The values of integer literals.
 
 ghost use Rattle.std.specs.Prelude.{◌≡◌, ◌≤◌, ◌<◌, ◌^◌, MatchOption};
 ghost use Rattle.asl_grammar.specs.lexemes.Bytes.{digit_of, value_of};
 
-/// An integer literal is below this: 2^127.
+/// The least integer that is too large for a literal: 2^127.
 const TOO_LARGE: u128 = 0x8000_0000_0000_0000_0000_0000_0000_0000;
 
-/// What a hexadecimal digit stands for.
+/// The value of a hexadecimal digit.
 fn digit_of(b: u8) -> u8
     ensures { result ≡ digit_of b }
 {
@@ -19,7 +19,7 @@ fn digit_of(b: u8) -> u8
     }
 }
 
-/// The number that decimal digits spell, `None` where it is too large.
+/// The number that decimal digits and underscores write, or `None` where it is 2^127 or more.
 pub fn decimal_value(text: &[u8]) -> Option<u128>
     ensures { MatchOption result (2 ^ 127 ≤ value_of 10 text.now) (λ n. (n ≡ value_of 10 text.now) × (n < 2 ^ 127)) }
 {
@@ -36,7 +36,7 @@ pub fn decimal_value(text: &[u8]) -> Option<u128>
     Some(value)
 }
 
-/// The number that hexadecimal digits spell, `None` where it is too large.
+/// The number that hexadecimal digits and underscores write, or `None` where it is 2^127 or more.
 pub fn hex_value(text: &[u8]) -> Option<u128>
     ensures { MatchOption result (2 ^ 127 ≤ value_of 16 text.now) (λ n. (n ≡ value_of 16 text.now) × (n < 2 ^ 127)) }
 {

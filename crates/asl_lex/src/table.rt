@@ -1,4 +1,4 @@
-// The words and the marks, and how each is spelled.
+//! The words and the marks, and how each is spelled.
 
 ghost use Rattle.std.specs.Prelude.{◌≡◌};
 ghost use Rattle.asl_grammar.specs.lexemes.Words.{word_spelling, word_of};
@@ -6,6 +6,7 @@ ghost use Rattle.asl_grammar.specs.lexemes.Marks.{mark_spelling, mark_of};
 
 use asl_syn::token::{Mark, Word};
 
+/// All words.
 const WORDS: [Word; 67] = [
     Word::BitAnd,
     Word::Div,
@@ -76,6 +77,7 @@ const WORDS: [Word; 67] = [
     Word::Config,
 ];
 
+/// All marks.
 const MARKS: [Mark; 34] = [
     Mark::OpenParen,
     Mark::CloseParen,
@@ -113,6 +115,7 @@ const MARKS: [Mark; 34] = [
     Mark::Slash,
 ];
 
+/// How a word is spelled.
 fn word_spelling(word: Word) -> &'static [u8]
     ensures { result.now ≡ word_spelling word }
 {
@@ -187,6 +190,7 @@ fn word_spelling(word: Word) -> &'static [u8]
     }
 }
 
+/// How a mark is spelled.
 fn mark_spelling(mark: Mark) -> &'static [u8]
     ensures { result.now ≡ mark_spelling mark }
 {
@@ -228,7 +232,7 @@ fn mark_spelling(mark: Mark) -> &'static [u8]
     }
 }
 
-/// The word that is spelled so.
+/// The word with this spelling.
 #[tactic(auto, unfolding(asl_grammar::specs::lexemes::Words::word_of))]
 pub fn word_of(text: &[u8]) -> Option<Word>
     ensures { result ≡ word_of text.now }
@@ -236,7 +240,7 @@ pub fn word_of(text: &[u8]) -> Option<Word>
     WORDS.iter().copied().find(|w| word_spelling(*w) == text)
 }
 
-/// The mark that is spelled so.
+/// The mark with this spelling.
 #[tactic(auto, unfolding(asl_grammar::specs::lexemes::Marks::mark_of))]
 pub fn mark_of(text: &[u8]) -> Option<Mark>
     ensures { result ≡ mark_of text.now }

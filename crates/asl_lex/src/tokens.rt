@@ -1,25 +1,23 @@
-// The tokens of files, and the texts of tokens.
+//! The tokens of files.
 
-ghost use Rattle.std.specs.Prelude.{◌≡◌, ◌≤◌, ◌+◌, length, IfOk, Err, All, map, vec_len};
+ghost use Rattle.std.specs.Prelude.{◌≡◌, ◌≤◌, length, IfOk, Err, All, map, vec_len};
 ghost use Rattle.asl_syn.specs.Place.{IsPlaced};
 ghost use Rattle.asl_syn.specs.declared.code.Fault.{Fault};
 ghost use Rattle.asl_syn.specs.declared.code.Refused.TheVariants.{At};
 ghost use Rattle.asl_grammar.specs.lexemes.Refusals.{max_width};
 ghost use Rattle.asl_grammar.specs.lexemes.Tokens.{Tokens, LexFault};
 ghost use Rattle.asl_grammar.specs.lexemes.Files.{AllTokens, FirstLexFault};
-ghost use Rattle.asl_grammar.specs.lexemes.Texts.{text_at};
 
 use crate::lexer::Lexer;
 use asl_syn::code::Refused;
-use asl_syn::place::Source;
-use asl_syn::token::{Span, Token};
-use asl_syn::tree::Text;
-use sqlite_items::Items;
-use std::alloc::{AllocError, Global};
+use asl_syn::place::{MAX_BYTES, Source};
+use asl_syn::token::Token;
+use std::alloc::Global;
 
-/// The tokens of a file, or its fault.
+/// The tokens of a file, or its fault. `file` is the number that the spans carry. The file must have at most
+/// [`MAX_BYTES`] bytes.
 pub fn tokens_of(alloc: Global, file: u32, bytes: &[u8]) -> Result<Vec<Token>, Refused>
-    requires { length bytes.now ≤ 1048576 }
+    requires { length bytes.now ≤ MAX_BYTES }
     ensures tokens { IfOk result (λ v. Tokens max_width file bytes.now v.items) }
     ensures fault { (f : Fault) → result ≡ Err (At f) → LexFault max_width file bytes.now f }
 {
@@ -34,10 +32,11 @@ pub fn tokens_of(alloc: Global, file: u32, bytes: &[u8]) -> Result<Vec<Token>, R
     }
 }
 
-/// The tokens of each file, or the fault of the first file that has one. The fault has a line and a column there.
+/// The tokens of each file, or the fault of the first file that has one, which lies in that file. There must be at most 64
+/// files, each of at most [`MAX_BYTES`] bytes.
 pub fn tokens_of_all(alloc: Global, files: &[Source]) -> Result<Vec<Vec<Token>>, Refused>
     requires few { length files.now ≤ 64 }
-    requires small { All (λ s. vec_len s.bytes ≤ 1048576) files.now }
+    requires small { All (λ s. vec_len s.bytes ≤ MAX_BYTES) files.now }
     ensures tokens { IfOk result (λ v. AllTokens max_width 0 (map (λ s. s.bytes.items) files.now) (map (λ ts. ts.items) v.items)) }
     ensures fault { (f : Fault) → result ≡ Err (At f) → FirstLexFault max_width 0 (map (λ s. s.bytes.items) files.now) f }
     ensures placed { (f : Fault) → result ≡ Err (At f) → IsPlaced files.now f.span }
@@ -49,24 +48,3 @@ pub fn tokens_of_all(alloc: Global, files: &[Source]) -> Result<Vec<Vec<Token>>,
     }
     Ok(all)
 }
-
-/// The bytes of a file at a span that lies in it.
-pub fn text_of(bytes: &[u8], span: Span) -> &[u8]
-    requires { span.start + span.len ≤ length bytes.now }
-    ensures { result.now ≡ text_at bytes.now span }
-{
-    let start = span.start as usize;
-    let end = start + span.len as usize;
-    &bytes[start..end]
-}
-
-/// The bytes of a file at a span that lies in it, as the text that a tree owns.
-pub fn owned_text_of(alloc: Global, bytes: &[u8], span: Span) -> Result<Text, AllocError>
-    requires { span.start + span.len ≤ length bytes.now }
-    ensures { IfOk result (λ text. text ≡ text_at bytes.now span) }
-{
-    Items::from_slice(alloc, text_of(bytes, span))
-}
-
-#[cfg(test)]
-mod tests;

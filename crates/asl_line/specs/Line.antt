@@ -1,4 +1,4 @@
--- What the words of the command line ask for, by the matches that clap states.
+-- What the words of a command line ask for, as the matches that clap's contracts state give it.
 use Rattle.std.specs.Prelude.{ℕ, Bool, true, ◌&&◌, ◌^◌, ◌-◌, pos, List, [], ◌∷◌, length, nat_lt, nat_le, Option, Some, None, codes, if◌then◌else◌, unwrap_or, option_and_then}
 use Rattle.std.specs.List.{list_all}
 use Rattle.std.specs.Char.{digit_value}
@@ -18,7 +18,7 @@ files_rule = record (new_rule (codes "file")) { required = true; range = Some (r
 abbrev pub steps_rule : Rule
 steps_rule = record (new_rule (codes "steps")) { long = Some (codes "steps"); action = Some Set; parser = Some (vp.Signed (pos 1) (pos 1000000000)) }
 
--- the commands
+-- the commands, as clap sees them
 abbrev pub check_app : App
 check_app = with_rule (new_app (codes "check")) files_rule
 
@@ -31,21 +31,21 @@ bare_app = record (new_app (codes "asl")) { top = record (new_app (codes "asl"))
 abbrev pub asl_app : App
 asl_app = with_subcommand (with_subcommand bare_app check_app.top) run_app.top
 
--- the text is the numeral of a number below 2^32, where a plus may stand first
+-- the text is a decimal number below 2^32, and a plus may stand before it
 abbrev pub is_number : Text → Bool
 is_number t = let ds = without_leading_plus t in
     nat_lt 0 (length ds) && (list_all (λ d. nat_lt (digit_value d) 10) ds && nat_lt (digits_value 10 ds) 4294967296)
 
--- the number that a text is the numeral of
+-- the number that a text writes
 abbrev pub number_in : Text → Option ℕ
 number_in t = if is_number t then Some (digits_value 10 (without_leading_plus t)) else None
 
--- a number within these bounds, or another
+-- the number where it is within the bounds, and otherwise `other`
 abbrev pub within_or : Option ℕ → ℕ → ℕ → ℕ → ℕ
 within_or None low high other = other
 within_or (Some n) low high other = if nat_le low n && nat_le n high then n else other
 
--- the number that a text is the numeral of, within these bounds, or another
+-- the number that a text writes, where it is within the bounds, and otherwise `other`
 abbrev pub number_or : Option Text → ℕ → ℕ → ℕ → ℕ
 number_or t = within_or (option_and_then number_in t)
 
@@ -68,6 +68,6 @@ abbrev pub command_unless : Kinds → Option (Text × List Row) → Command
 command_unless [] found = command_from found
 command_unless (k ∷ ks) found = usage
 
--- usage where clap refuses the words for another cause than memory, and else the command by its matches
+-- usage where clap refuses the words for any other reason than memory, and otherwise the command that they match
 unfoldable pub line_of : List Text → Command
 line_of words = command_unless (fault_of asl_app words) (subcommand_of asl_app words)

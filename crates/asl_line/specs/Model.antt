@@ -1,4 +1,4 @@
--- What a line stands for.
+-- The command that a `Line` stands for.
 use Rattle.std.specs.Prelude.{map, string_bytes}
 use Rattle.asl_syn.specs.Command.{Command, usage, check, run}
 use Rattle.asl_line.specs.declared.words.Line.{Line}

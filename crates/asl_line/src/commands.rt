@@ -7,6 +7,10 @@ ghost use Rattle.asl_line.specs.Line.{files_rule, steps_rule, check_app, run_app
 use clap::{Arg, ArgAction, Command};
 use std::alloc::{AllocError, Global};
 
+/// The most steps that a run can be given.
+pub const MOST_STEPS: u32 = 1_000_000_000;
+
+/// The names of the files: one or more.
 fn files_arg<'a>(alloc: Global) -> Arg<'a>
     ensures rule { rule_of result ≡ files_rule }
     ensures local { result.global ≡ false }
@@ -14,6 +18,7 @@ fn files_arg<'a>(alloc: Global) -> Arg<'a>
     Arg::new(alloc, "file").required(true).num_args(1..)
 }
 
+/// The option `--steps`.
 fn steps_arg<'a>(alloc: Global) -> Arg<'a>
     ensures rule { rule_of result ≡ steps_rule }
     ensures local { result.global ≡ false }
@@ -21,9 +26,10 @@ fn steps_arg<'a>(alloc: Global) -> Arg<'a>
     Arg::new(alloc, "steps")
         .long("steps")
         .action(ArgAction::Set)
-        .value_parser(clap::value_parser!(u32).range(1..=1_000_000_000))
+        .value_parser(clap::value_parser!(u32).range(1..=MOST_STEPS as i64))
 }
 
+/// `check FILE..`
 fn check_command<'a>(alloc: Global) -> Result<Command<'a>, AllocError>
     ensures shape { IfOk result (λ c. app_of c ≡ check_app) }
     ensures local { IfOk result (λ c. (out-Command c).has_globals ≡ false) }
@@ -31,6 +37,7 @@ fn check_command<'a>(alloc: Global) -> Result<Command<'a>, AllocError>
     Ok(Command::new(alloc, "check").arg(files_arg(alloc))?)
 }
 
+/// `run [--steps N] FILE..`
 fn run_command<'a>(alloc: Global) -> Result<Command<'a>, AllocError>
     ensures shape { IfOk result (λ c. app_of c ≡ run_app) }
     ensures local { IfOk result (λ c. (out-Command c).has_globals ≡ false) }
@@ -42,7 +49,7 @@ fn run_command<'a>(alloc: Global) -> Result<Command<'a>, AllocError>
     )
 }
 
-/// The whole command line. A wish for help is refused like any other word that is no command.
+/// The whole command line. Asking for help is refused, as any other word that is no command.
 pub fn asl_command<'a>(alloc: Global) -> Result<Command<'a>, AllocError>
     ensures { IfOk result (λ c. app_of c ≡ asl_app) }
 {

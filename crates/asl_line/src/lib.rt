@@ -1,10 +1,7 @@
-//! The reading of the command line.
+//! Reads the command line, by clap.
 #![tactic(auto)]
 
 mod commands;
 mod words;
 
 pub use words::{Line, parse};
-
-#[cfg(test)]
-mod tests;

@@ -1,34 +1,37 @@
-//! What the words of the command line ask for.
+//! From the words of the command line to a [`Line`].
 ghost use Rattle.std.specs.Prelude.{◌≡◌, IfOk, Some, map, option_and_then, string_bytes};
 ghost use Rattle.clap.specs.Words.{found_of, rows_of, subcommand_rows_of};
 ghost use Rattle.clap.specs.Walk.{one_of};
 ghost use Rattle.asl_line.specs.Line.{line_of, command_from, number_or, number_in, within_or, files_in};
 ghost use Rattle.asl_line.specs.Model.{meaning_of};
 
-use crate::commands::asl_command;
+use crate::commands::{MOST_STEPS, asl_command};
 use clap::ArgMatches;
 use clap::error::ErrorKind;
 use std::alloc::{AllocError, Global};
 
-/// A command with its options and the names of its files.
+/// The steps of a run where the command line gives no number.
+const DEFAULT_STEPS: u32 = 1_000_000;
+
+/// What a command line asks for: a command with its options and the names of its files.
 #[derive(Debug, Drop)]
 pub enum Line {
-    /// The words are no command.
+    /// The words are not a command.
     Usage,
     /// Reads and checks the files.
     Check { files: Vec<String> },
-    /// Reads and checks the files, and runs them with so many steps, 1 to 1,000,000,000.
+    /// Reads and checks the files, and runs the program with at most this many steps, 1 to 1,000,000,000.
     Run { steps: u32, files: Vec<String> },
 }
 
-/// The number that was given.
+/// The number that was given for an option.
 fn number_read(matches: &ArgMatches<'_>, id: &str) -> Option<u32>
     ensures { result ≡ option_and_then number_in (one_of id.now (rows_of (found_of matches.now))) }
 {
     matches.get_one::<u32>(id)
 }
 
-/// A number within these bounds, or another.
+/// The number where it is within the bounds, and otherwise `other`.
 fn within(number: Option<u32>, low: u32, high: u32, other: u32) -> u32
     ensures { result ≡ within_or number low high other }
 {
@@ -38,14 +41,14 @@ fn within(number: Option<u32>, low: u32, high: u32, other: u32) -> u32
     }
 }
 
-/// The number that was given within these bounds, or another.
+/// The number that was given for an option, where it is within the bounds, and otherwise `other`.
 fn number_given(matches: &ArgMatches<'_>, id: &str, low: u32, high: u32, other: u32) -> u32
     ensures { result ≡ number_or (one_of id.now (rows_of (found_of matches.now))) low high other }
 {
     within(number_read(matches, id), low, high, other)
 }
 
-/// The names of the files.
+/// The names of the files that were given.
 fn files_given(alloc: Global, matches: &ArgMatches<'_>) -> Result<Vec<String>, AllocError>
     ensures { IfOk result (λ files. map string_bytes files.items ≡ files_in (rows_of (found_of matches.now))) }
 {
@@ -55,7 +58,7 @@ fn files_given(alloc: Global, matches: &ArgMatches<'_>) -> Result<Vec<String>, A
     }
 }
 
-/// The same texts, owned.
+/// Owned copies of the texts.
 fn copied(alloc: Global, names: &[&str]) -> Result<Vec<String>, AllocError>
     ensures { IfOk result (λ files. map string_bytes files.items ≡ map (λ name. name.now) names.now) }
 {
@@ -66,7 +69,7 @@ fn copied(alloc: Global, names: &[&str]) -> Result<Vec<String>, AllocError>
     Ok(files)
 }
 
-/// The command of this name, with its matches.
+/// What the command of this name asks for, by its matches.
 fn line_named(alloc: Global, name: &str, given: &ArgMatches<'_>) -> Result<Line, AllocError>
     ensures { IfOk result (λ line. meaning_of line ≡ command_from (Some (name.now, rows_of (found_of given.now)))) }
 {
@@ -74,13 +77,13 @@ fn line_named(alloc: Global, name: &str, given: &ArgMatches<'_>) -> Result<Line,
         let files = files_given(alloc, given)?;
         Ok(Line::Check { files })
     } else {
-        let steps = number_given(given, "steps", 1, 1_000_000_000, 1_000_000);
+        let steps = number_given(given, "steps", 1, MOST_STEPS, DEFAULT_STEPS);
         let files = files_given(alloc, given)?;
         Ok(Line::Run { steps, files })
     }
 }
 
-/// The command that the matches name.
+/// What the matches ask for.
 fn line_from(alloc: Global, matches: &ArgMatches<'_>) -> Result<Line, AllocError>
     ensures { IfOk result (λ line. meaning_of line ≡ command_from (subcommand_rows_of matches.now)) }
 {
@@ -90,8 +93,8 @@ fn line_from(alloc: Global, matches: &ArgMatches<'_>) -> Result<Line, AllocError
     }
 }
 
-/// What the words of the command line ask for, the name of the program first: usage where clap refuses
-/// them for another cause than memory.
+/// Reads the words of the command line, of which the first is the name of the program. `Usage` where clap refuses them for
+/// any other reason than memory, and an error where it has no memory.
 pub fn parse(alloc: Global, words: &[String]) -> Result<Line, AllocError>
     ensures { IfOk result (λ line. meaning_of line ≡ line_of (map string_bytes words.now)) }
 {

@@ -1,4 +1,4 @@
--- What the words of `specs/Texts.antt` mean.
+-- The clauses of `literal_law`.
 use Rattle.std.proofs.Common.{◌≡◌, ℕ, List, [], ◌∷◌, length, reverse, Bool, true, false, refl, ◌∙◌, ap}
 use Rattle.std.specs.Prelude.{Option, Some, None, ◌&&◌, not, is_some, map, option_map}
 use Rattle.std.specs.List.{list_all}

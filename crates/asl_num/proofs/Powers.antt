@@ -1,4 +1,4 @@
--- Powers and shifts whose right operand is large.
+-- Powers and shifts whose right operand is large: which results still fit, and what they are.
 use Rattle.std.proofs.Common.{◌≡◌, ◌≢◌, ℕ, zero, suc, ◌-◌, ◌*◌, ◌/◌, ◌%◌, ◌^◌, ◌<◌, ◌≤◌, Bool, true, false, cond, refl, ◌∙◌, ap, arith, le_trans, pow-suc}
 use Rattle.std.proofs.Math.Nat.{pow-le-pow_left, pow-le-pow_right, mul-le-mul_right, div-eq_of_lt}
 use Rattle.std.proofs.lemmas.Int.{ints, to_z_pos}
@@ -58,8 +58,8 @@ pub ruleset power_of_units = (odd_power, even_power, pow_of_zero)
 big_shift : (k n : ℕ) → k ≤ n → 2 ^ k ≤ 2 ^ n
 big_shift k n h = pow-le-pow_right (omega arith) h
 
-above : (n : ℕ) → 127 ≤ n → n ≢ 127 → 128 ≤ n
-above n h k = omega arith
+not_127 : (n : ℕ) → 127 ≤ n → n ≢ 127 → 128 ≤ n
+not_127 n h k = omega arith
 
 one_le_suc : (a : ℕ) → 1 ≤ suc a
 one_le_suc a = omega arith
@@ -71,11 +71,11 @@ neg_large : (m : ℕ) → FitsSigned w128 (neg_ℤ (pos m)) → m ≤ 2 ^ 127
 neg_large zero f = omega arith
 neg_large (suc m) f = omega (arith, f.sfits)
 
-minus : (n p : ℕ) → FitsSigned w128 (negsuc 0 *ℤ pos p) → 2 ^ 128 ≤ p → ⊥
-minus n p f h = omega (arith, neg_large (1 * p) f)
+minus_one_up : (n p : ℕ) → FitsSigned w128 (negsuc 0 *ℤ pos p) → 2 ^ 128 ≤ p → ⊥
+minus_one_up n p f h = omega (arith, neg_large (1 * p) f)
 
-minus_more : (a p : ℕ) → FitsSigned w128 (negsuc (suc a) *ℤ pos p) → 2 ^ 127 ≤ p → ⊥
-minus_more a p f h =
+negative_up : (a p : ℕ) → FitsSigned w128 (negsuc (suc a) *ℤ pos p) → 2 ^ 127 ≤ p → ⊥
+negative_up a p f h =
     omega (arith, neg_large (suc (suc a) * p) f, mul-le-mul_right p (two_le a))
 
 pub one_up : (n : ℕ) → n < 127 → to_z w128 ((1 * 2 ^ n) % 2 ^ 128) ≡ pos (2 ^ n)
@@ -93,8 +93,8 @@ least_up n h = rw h refl
 pub shift_too_large : (a : ℤ) (n : ℕ) → FitsSigned w128 (a *ℤ pos (2 ^ n)) → 127 ≤ n → a ≢ pos 0 → (a ≡ negsuc 0 → n ≢ 127) → ⊥
 shift_too_large (pos zero) n f h k m = k refl
 shift_too_large (pos (suc a)) n f h k m = let e : 2 ^ n ≤ suc a * 2 ^ n = omega (arith, mul-le-mul_right (2 ^ n) (one_le_suc a)) in omega (arith, f.sfits, big_shift 127 n h)
-shift_too_large (negsuc zero) n f h k m = minus n (2 ^ n) f (big_shift 128 n (above n h (m refl)))
-shift_too_large (negsuc (suc a)) n f h k m = minus_more a (2 ^ n) f (big_shift 127 n h)
+shift_too_large (negsuc zero) n f h k m = minus_one_up n (2 ^ n) f (big_shift 128 n (not_127 n h (m refl)))
+shift_too_large (negsuc (suc a)) n f h k m = negative_up a (2 ^ n) f (big_shift 127 n h)
 
 pub down_pos : (a n : ℕ) → a < 2 ^ 127 → 128 ≤ n → a / 2 ^ n ≡ 0
 down_pos a n h k = div-eq_of_lt (omega (arith, big_shift 128 n k))

@@ -1,17 +1,17 @@
--- The trees of files: one more behind others, and the first fault.
-use Rattle.std.proofs.Common.{◌≡◌, ℕ, zero, suc, ◌+◌, ◌<◌, inl, inr, List, [], ◌∷◌, ◌++◌, length, take, drop, get_or, map, refl, sym, ◌∙◌, ap, subst, arith, add-zero, append-nil, append_assoc, Result, Ok, Err}
+-- The trees of files: one more behind others, the first fault, and what the files are read to.
+use Rattle.std.proofs.Common.{◌≡◌, ℕ, suc, ◌+◌, ◌<◌, inl, inr, List, [], ◌∷◌, ◌++◌, length, take, drop, get_or, map, refl, sym, ◌∙◌, ap, subst, arith, add-zero, append-nil, append_assoc, Result, Ok, Err}
 use Rattle.std.proofs.lemmas.List.{length-map, length-take-le, take_more, take-append-drop}
 use Rattle.std.proofs.Math.ListN.{get_or-map}
 use Rattle.std.proofs.Math.Seq.{drop-cons}
 use Rattle.std.specs.Prelude.{IsErrAnd}
+use Rattle.asl_syn.specs.declared.place.Source.{Source}
 use Rattle.asl_syn.specs.declared.token.Token.{Token}
 use Rattle.asl_syn.specs.declared.tree.Decl.{Decl}
 use Rattle.asl_syn.specs.declared.code.Fault.{Fault}
 use Rattle.asl_syn.specs.declared.code.Refused.{Refused}
 use Rattle.asl_syn.specs.declared.code.Refused.TheVariants.{At}
 use Rattle.asl_grammar.specs.grammar.Faults.{Parses, SyntaxFault}
-use Rattle.asl_rules.specs.Texts.{Text}
-use Rattle.asl_rules.specs.Reading.{HasTrees, FirstSyntaxFault}
+use Rattle.asl_grammar.specs.Reading.{Text, File, text_of, file_of, HasTrees, FirstSyntaxFault, Parsed, Reads}
 
 pub one_more : (texts : List Text) (tss : List (List Token)) (ds : List Decl) (text : Text) (ts : List Token) (v : List Decl) →
     HasTrees texts tss ds → Parses text ts v → HasTrees (texts ++ text ∷ []) (tss ++ ts ∷ []) (ds ++ v)
@@ -65,3 +65,12 @@ map_within f xs i l = let e : length (map f xs) ≡ length xs = length-map xs f 
 pub handed_on : {A : Type 0} (r : Result A Refused) (x : Refused) (f : Fault) → IsErrAnd r (λ e. e ≡ x) → r ≡ Err (At f) → x ≡ At f
 handed_on (Ok a) x f same is = absurd same
 handed_on (Err e) x f same is = let g : e ≡ At f = cc in sym same ∙ g
+
+-- ---- what files are read to, by their texts
+
+texts_are : (files : List Source) → map text_of files ≡ map (λ (f : File). f.1) (map file_of files)
+texts_are [] = refl
+texts_are (s ∷ files) = ap (λ ts. text_of s ∷ ts) (texts_are files)
+
+pub read_to : (files : List Source) (r : Result (List Decl) Fault) → Parsed (map text_of files) r → Reads (map file_of files) r
+read_to files r p = subst (λ texts. Parsed texts r) (texts_are files) p

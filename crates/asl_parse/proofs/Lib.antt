@@ -1,3 +1,2 @@
 pub mod FaultPlaces
 pub mod Filing
-pub mod Served

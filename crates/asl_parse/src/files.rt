@@ -1,18 +1,13 @@
 //! The declarations of files, or their one fault.
 
-ghost use Rattle.std.specs.Prelude.{◌≡◌, ◌≤◌, ◌⊎◌, All, None as TheNone, Ok as TheOk, Err, IfOk, length, map, vec_len};
+ghost use Rattle.std.specs.Prelude.{◌≡◌, ◌≤◌, All, Ok as TheOk, Err, IfOk, length, map, vec_len};
 ghost use Rattle.asl_syn.specs.declared.code.Fault.{Fault as TheFault};
 ghost use Rattle.asl_syn.specs.declared.code.Refused.TheVariants.{At};
-ghost use Rattle.asl_grammar.specs.lexemes.Refusals.{max_width};
-ghost use Rattle.asl_grammar.specs.lexemes.Files.{FirstLexFault};
-ghost use Rattle.asl_rules.specs.Reading.{HasTrees, FirstSyntaxFault, AreParsed, AreRefused, Reads};
-ghost use Rattle.asl_rules.specs.Served.{unserved_decls};
-ghost use Rattle.asl_parse.specs.Outcomes.{text_of, file_of};
+ghost use Rattle.asl_grammar.specs.Reading.{text_of, file_of, HasTrees, FirstSyntaxFault, Reads};
 
 use crate::tree::tree_of;
 use asl_lex::tokens::tokens_of_all;
-use asl_rules::served::first_unserved;
-use asl_syn::code::{Fault, Refused, StaticCode};
+use asl_syn::code::Refused;
 use asl_syn::place::Source;
 use asl_syn::token::Token;
 use asl_syn::tree::{Decl, Program};
@@ -44,35 +39,15 @@ fn trees_of_all(
     Ok(decls)
 }
 
-/// What the grammar says of the files.
-fn parsed(alloc: Global, files: &[Source]) -> Result<Program, Refused>
-    requires few { length files.now ≤ 64 }
-    requires small { All (λ s. vec_len s.bytes ≤ 1048576) files.now }
-    ensures program { IfOk result (λ p. AreParsed (map text_of files.now) p.decls) }
-    ensures fault { (f : TheFault) → result ≡ Err (At f) → FirstLexFault max_width 0 (map text_of files.now) f ⊎ AreRefused (map text_of files.now) f }
-{
-    let tokens = tokens_of_all(alloc, files)?;
-    let decls = trees_of_all(alloc, files, tokens.as_slice())?;
-    Ok(Program { decls })
-}
-
-/// The declarations of the files, in the order of the files and of the declarations in them, where each text is good
-/// and the forms of all nodes are served. Else the one fault: of the lexemes of the first file that has one, or else the
-/// syntax fault of the first file that has one, or else S03 at the first node whose form isn't served.
+/// The declarations of the files, in the order of the files and of the declarations in them, where each text is good. Else
+/// the one fault: of the lexemes of the first file that has one, or else the syntax fault of the first file that has one.
 pub fn parse(alloc: Global, files: &[Source]) -> Result<Program, Refused>
     requires few { length files.now ≤ 64 }
     requires small { All (λ s. vec_len s.bytes ≤ 1048576) files.now }
     ensures program { IfOk result (λ p. Reads (map file_of files.now) (TheOk p.decls)) }
     ensures fault { (f : TheFault) → result ≡ Err (At f) → Reads (map file_of files.now) (Err f) }
-    ensures served { IfOk result (λ p. unserved_decls p.decls ≡ TheNone) }
 {
-    let program = parsed(alloc, files)?;
-    match first_unserved(&program) {
-        None => Ok(program),
-        Some(span) => Err(Refused::At(Fault {
-            code: StaticCode::S03,
-            inner: None,
-            span,
-        })),
-    }
+    let tokens = tokens_of_all(alloc, files)?;
+    let decls = trees_of_all(alloc, files, tokens.as_slice())?;
+    Ok(Program { decls })
 }

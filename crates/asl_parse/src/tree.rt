@@ -10,7 +10,7 @@ ghost use Rattle.asl_grammar.specs.grammar.Language.{outcome};
 ghost use Rattle.asl_parse.specs.Outcomes.{IsOutcome};
 
 use asl_grammar::error::ParseError;
-use asl_grammar::kinds::{LEFT_OUT, code};
+use asl_grammar::kinds::{Kind, kind_of};
 use asl_parse_expr::tokens::Tokens;
 use asl_parse_stmt::declarations::program;
 use asl_syn::code::{Fault, Refused, StaticCode};
@@ -62,7 +62,7 @@ fn refusal_code(ahead: &[Token]) -> StaticCode
     match ahead.first() {
         None => StaticCode::S01,
         Some(token) => {
-            if code(token.kind) == LEFT_OUT {
+            if kind_of(token.kind) == Kind::LeftOut {
                 StaticCode::S03
             } else {
                 StaticCode::S01

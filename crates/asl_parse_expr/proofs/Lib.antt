@@ -1,5 +1,5 @@
-pub mod Branching
 pub mod Loops
+pub mod Opened
 pub mod Rooms
 pub mod Steps
 pub mod Tails

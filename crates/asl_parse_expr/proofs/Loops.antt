@@ -5,13 +5,15 @@ use Rattle.asl_syn.specs.declared.tree.Expr.{Expr}
 use Rattle.asl_syn.specs.declared.tree.Expr.TheVariants as ex
 use Rattle.asl_syn.specs.declared.tree.TypeExpr.{TypeExpr}
 use Rattle.asl_syn.specs.declared.tree.PlacedSuffix.{PlacedSuffix}
-use Rattle.asl_grammar.specs.grammar.Kinds.{COMMA, AS}
-use Rattle.asl_grammar.specs.grammar.Cursor.{Lexeme, Cursor, Codes, Extent, starts, extent, span_to}
+use Rattle.asl_grammar.specs.declared.kinds.Kind.TheVariants as kind
+use Rattle.asl_grammar.specs.grammar.Kinds.{kind_of}
+use Rattle.asl_grammar.specs.grammar.Operators.{binary_of}
+use Rattle.asl_grammar.specs.grammar.Cursor.{Lexeme, Cursor, Kinds, Extent, starts, extent, span_to}
 use Rattle.asl_grammar.specs.grammar.Combinators.{opens, tok, seq, either, opt, many, by, spanned, trail, costs}
 use Rattle.asl_grammar.specs.grammar.Reader.{first, pick, Outcome, refused, bind, run_tok, run_opens, run_many, run_item, run_trail, run_costs}
 use Rattle.asl_grammar.specs.grammar.Build.{seconds, Link, linked, chained, as_chained, suffix_on, suffixed}
 use Rattle.asl_grammar.specs.grammar.Rules.{Sym, Rule, rule}
-use Rattle.asl_parse_expr.specs.Code.{reading, symbol, charge, charged}
+use Rattle.asl_parse_expr.specs.Code.{reading, symbol, charge, charged, operator_at}
 
 pub bind_bind : {A B C : Type 0} (o : Outcome A) (f : A → Cursor → Outcome B) (g : B → Cursor → Outcome C) → bind (bind o f) g ≡ bind o (λ a mid. bind (f a mid) g)
 bind_bind (Ok r) f g = refl
@@ -57,7 +59,7 @@ choice_as d p q st k X Y h i = choice_at (starts (first p) st.toks) (reading d p
 
 -- ---- items one after the other
 
-abbrev pub run_items : {A : Type 0} → (Cursor → Outcome A) → Codes → ℕ → List A → Cursor → Outcome (List A)
+abbrev pub run_items : {A : Type 0} → (Cursor → Outcome A) → Kinds → ℕ → List A → Cursor → Outcome (List A)
 run_items p F zero found st = Ok (found, st)
 run_items p F (suc n) found st = pick (starts F st.toks) (bind (p st) (λ x end. run_items p F n (found ++ x ∷ []) end)) (Ok (found, st))
 
@@ -75,7 +77,7 @@ items_step found st false o rest next ih = ap (λ xs. Ok (xs, st)) (nil_behind f
 items_step found st true (Err e) rest next ih = refl
 items_step found st true (Ok r) rest next ih = grown found r.0 (rest r.1) ∙ ih (found ++ r.0 ∷ []) r.1
 
-items_from : {A : Type 0} (p : Cursor → Outcome A) (F : Codes) (n : ℕ) (found : List A) (st : Cursor) → bind (run_many p F n st) (λ xs end. Ok (found ++ xs, end)) ≡ run_items p F n found st
+items_from : {A : Type 0} (p : Cursor → Outcome A) (F : Kinds) (n : ℕ) (found : List A) (st : Cursor) → bind (run_many p F n st) (λ xs end. Ok (found ++ xs, end)) ≡ run_items p F n found st
 items_from p F zero found st = ap (λ xs. Ok (xs, st)) (nil_behind found)
 items_from p F (suc n) found st = items_step found st (starts F st.toks) (p st) (run_many p F n) (run_items p F n) (items_from p F n)
 
@@ -84,7 +86,7 @@ items_are d p st = sym (bind_done (reading d (many p) st)) ∙ items_from (readi
 
 -- ---- suffixes, put on an expression
 
-abbrev pub run_suffixed : (Cursor → Outcome PlacedSuffix) → Codes → Span → ℕ → Expr → Cursor → Outcome Expr
+abbrev pub run_suffixed : (Cursor → Outcome PlacedSuffix) → Kinds → Span → ℕ → Expr → Cursor → Outcome Expr
 run_suffixed p F from zero left st = Ok (left, st)
 run_suffixed p F from (suc n) left st = pick (starts F st.toks) (bind (p st) (λ x end. run_suffixed p F from n (suffix_on (span_to from x.end) left x.suffix) end)) (Ok (left, st))
 
@@ -94,19 +96,19 @@ suffixed_step from left st false o rest next ih = refl
 suffixed_step from left st true (Err e) rest next ih = refl
 suffixed_step from left st true (Ok r) rest next ih = bind_bind (rest r.1) (λ xs end. Ok (r.0 ∷ xs, end)) (λ xs end. Ok (suffixed from left xs, end)) ∙ ih (suffix_on (span_to from r.0.end) left r.0.suffix) r.1
 
-pub suffixed_are : (p : Cursor → Outcome PlacedSuffix) (F : Codes) (from : Span) (n : ℕ) (left : Expr) (st : Cursor) → bind (run_many p F n st) (λ xs end. Ok (suffixed from left xs, end)) ≡ run_suffixed p F from n left st
+pub suffixed_are : (p : Cursor → Outcome PlacedSuffix) (F : Kinds) (from : Span) (n : ℕ) (left : Expr) (st : Cursor) → bind (run_many p F n st) (λ xs end. Ok (suffixed from left xs, end)) ≡ run_suffixed p F from n left st
 suffixed_are p F from zero left st = refl
 suffixed_are p F from (suc n) left st = suffixed_step from left st (starts F st.toks) (p st) (run_many p F n) (run_suffixed p F from n) (suffixed_are p F from n)
 
 -- ---- chains of operators
 
-abbrev pub run_chain : (Cursor → Outcome Expr) → Codes → Codes → Span → ℕ → Expr → Cursor → Outcome Expr
+abbrev pub run_chain : (Cursor → Outcome Expr) → Kinds → Kinds → Span → ℕ → Expr → Cursor → Outcome Expr
 run_chain p ops F from zero left st = Ok (left, st)
 run_chain p ops F from (suc n) left st = pick (starts F st.toks)
-    (bind (run_opens ops st.left st.toks) (λ t m. bind (p m) (λ e end. run_chain p ops F from n (linked from left (t, (e, extent m.toks end.last))) end)))
+    (bind (operator_at ops st) (λ o m. bind (p m) (λ e end. run_chain p ops F from n (ex.Binary (span_to from end.last) o left e) end)))
     (Ok (left, st))
 
-abbrev link_at : (Cursor → Outcome Expr) → Codes → Cursor → Outcome Link
+abbrev link_at : (Cursor → Outcome Expr) → Kinds → Cursor → Outcome Link
 link_at p ops st = bind (run_opens ops st.left st.toks) (λ a mid. bind (bind (p mid) (λ x end. Ok ((x, extent mid.toks end.last), end))) (λ b end. Ok ((a, b), end)))
 
 chain_operand : (from : Span) (left : Expr) (t : Lexeme) (m : Cursor) (o : Outcome Expr) (rest : Cursor → Outcome (List Link)) (next : Expr → Cursor → Outcome Expr) → ((left : Expr) (c : Cursor) → bind (rest c) (λ xs end. Ok (chained from left xs, end)) ≡ next left c)
@@ -116,28 +118,29 @@ chain_operand from left t m (Ok r) rest next ih = bind_bind (rest r.1) (λ xs en
 
 chain_step : (p : Cursor → Outcome Expr) (from : Span) (left : Expr) (st : Cursor) (b : Bool) (o : Outcome Lexeme) (rest : Cursor → Outcome (List Link)) (next : Expr → Cursor → Outcome Expr) → ((left : Expr) (c : Cursor) → bind (rest c) (λ xs end. Ok (chained from left xs, end)) ≡ next left c)
     → bind (pick b (bind (bind {B = Link} o (λ a mid. bind (bind (p mid) (λ x end. Ok ((x, extent mid.toks end.last), end))) (λ b end. Ok ((a, b), end)))) (λ x mid. bind (rest mid) (λ xs end. Ok (x ∷ xs, end)))) (Ok ([], st))) (λ xs end. Ok (chained from left xs, end))
-    ≡ pick b (bind o (λ t m. bind (p m) (λ e end. next (linked from left (t, (e, extent m.toks end.last))) end))) (Ok (left, st))
+    ≡ pick b (bind (bind o (λ t m. Ok (binary_of (kind_of t.kind), m))) (λ o m. bind (p m) (λ e end. next (ex.Binary (span_to from end.last) o left e) end))) (Ok (left, st))
 chain_step p from left st false o rest next ih = refl
 chain_step p from left st true (Err e) rest next ih = refl
 chain_step p from left st true (Ok r) rest next ih = chain_operand from left r.0 r.1 (p r.1) rest next ih
 
-chain_from : (p : Cursor → Outcome Expr) (ops F : Codes) (from : Span) (n : ℕ) (left : Expr) (st : Cursor) → bind (run_many (link_at p ops) F n st) (λ xs end. Ok (chained from left xs, end)) ≡ run_chain p ops F from n left st
+chain_from : (p : Cursor → Outcome Expr) (ops F : Kinds) (from : Span) (n : ℕ) (left : Expr) (st : Cursor) → bind (run_many (link_at p ops) F n st) (λ xs end. Ok (chained from left xs, end)) ≡ run_chain p ops F from n left st
+unfolding operator_at
 chain_from p ops F from zero left st = refl
 chain_from p ops F from (suc n) left st = chain_step p from left st (starts F st.toks) (run_opens ops st.left st.toks) (run_many (link_at p ops) F n) (run_chain p ops F from n) (chain_from p ops F from n)
 
-pub chain_is : (d : ℕ) (p : Rule Expr) (ops : Codes) (from : Span) (left : Expr) (st : Cursor) → bind (reading d (many (seq (opens ops) (spanned p))) st) (λ x end. Ok (chained from left x, end)) ≡ run_chain (reading d p) ops (ops ++ []) from (length st.toks) left st
+pub chain_is : (d : ℕ) (p : Rule Expr) (ops : Kinds) (from : Span) (left : Expr) (st : Cursor) → bind (reading d (many (seq (opens ops) (spanned p))) st) (λ x end. Ok (chained from left x, end)) ≡ run_chain (reading d p) ops (ops ++ []) from (length st.toks) left st
 chain_is d p ops from left st = chain_from (reading d p) ops (ops ++ []) from (length st.toks) left st
 
 -- ---- chains of `as`
 
 abbrev pub run_as_chain : (Cursor → Outcome TypeExpr) → Span → ℕ → Expr → Cursor → Outcome Expr
 run_as_chain p from zero left st = Ok (left, st)
-run_as_chain p from (suc n) left st = pick (starts (AS ∷ []) st.toks)
-    (bind (run_opens (AS ∷ []) st.left st.toks) (λ t m. bind (p m) (λ e end. run_as_chain p from n (ex.As (span_to from end.last) left e) end)))
+run_as_chain p from (suc n) left st = pick (starts (kind.As ∷ []) st.toks)
+    (bind (run_opens (kind.As ∷ []) st.left st.toks) (λ t m. bind (p m) (λ e end. run_as_chain p from n (ex.As (span_to from end.last) left e) end)))
     (Ok (left, st))
 
 abbrev as_link_at : (Cursor → Outcome TypeExpr) → Cursor → Outcome (TypeExpr × Extent)
-as_link_at p st = bind {A = Lexeme × (TypeExpr × Extent)} (bind (run_opens (AS ∷ []) st.left st.toks) (λ a mid. bind (bind (p mid) (λ x end. Ok ((x, extent mid.toks end.last), end))) (λ b end. Ok ((a, b), end)))) (λ r end. Ok (r.1, end))
+as_link_at p st = bind {A = Lexeme × (TypeExpr × Extent)} (bind (run_opens (kind.As ∷ []) st.left st.toks) (λ a mid. bind (bind (p mid) (λ x end. Ok ((x, extent mid.toks end.last), end))) (λ b end. Ok ((a, b), end)))) (λ r end. Ok (r.1, end))
 
 as_operand : (from : Span) (left : Expr) (t : Lexeme) (m : Cursor) (o : Outcome TypeExpr) (rest : Cursor → Outcome (List (TypeExpr × Extent))) (next : Expr → Cursor → Outcome Expr) → ((left : Expr) (c : Cursor) → bind (rest c) (λ xs end. Ok (as_chained from left xs, end)) ≡ next left c)
     → bind (bind (bind {A = Lexeme × (TypeExpr × Extent)} (bind (bind o (λ x end. Ok ((x, extent m.toks end.last), end))) (λ b end. Ok ((t, b), end))) (λ r end. Ok (r.1, end))) (λ x mid. bind (rest mid) (λ xs end. Ok (x ∷ xs, end)))) (λ xs end. Ok (as_chained from left xs, end)) ≡ bind o (λ e end. next (ex.As (span_to from end.last) left e) end)
@@ -151,21 +154,21 @@ as_step p from left st false o rest next ih = refl
 as_step p from left st true (Err e) rest next ih = refl
 as_step p from left st true (Ok r) rest next ih = as_operand from left r.0 r.1 (p r.1) rest next ih
 
-as_from : (p : Cursor → Outcome TypeExpr) (from : Span) (n : ℕ) (left : Expr) (st : Cursor) → bind (run_many (as_link_at p) (AS ∷ []) n st) (λ xs end. Ok (as_chained from left xs, end)) ≡ run_as_chain p from n left st
+as_from : (p : Cursor → Outcome TypeExpr) (from : Span) (n : ℕ) (left : Expr) (st : Cursor) → bind (run_many (as_link_at p) (kind.As ∷ []) n st) (λ xs end. Ok (as_chained from left xs, end)) ≡ run_as_chain p from n left st
 as_from p from zero left st = refl
-as_from p from (suc n) left st = as_step p from left st (starts (AS ∷ []) st.toks) (run_opens (AS ∷ []) st.left st.toks) (run_many (as_link_at p) (AS ∷ []) n) (run_as_chain p from n) (as_from p from n)
+as_from p from (suc n) left st = as_step p from left st (starts (kind.As ∷ []) st.toks) (run_opens (kind.As ∷ []) st.left st.toks) (run_many (as_link_at p) (kind.As ∷ []) n) (run_as_chain p from n) (as_from p from n)
 
-pub as_chain_are : (d : ℕ) (p : Rule TypeExpr) (from : Span) (left : Expr) (st : Cursor) → bind (reading d (many (by (λ r. r.1) (seq (opens (AS ∷ [])) (spanned p)))) st) (λ x end. Ok (as_chained from left x, end)) ≡ run_as_chain (reading d p) from (length st.toks) left st
+pub as_chain_are : (d : ℕ) (p : Rule TypeExpr) (from : Span) (left : Expr) (st : Cursor) → bind (reading d (many (by (λ r. r.1) (seq (opens (kind.As ∷ [])) (spanned p)))) st) (λ x end. Ok (as_chained from left x, end)) ≡ run_as_chain (reading d p) from (length st.toks) left st
 as_chain_are d p from left st = as_from (reading d p) from (length st.toks) left st
 
 -- ---- items behind commas
 
 abbrev pub run_more : {A : Type 0} → (Cursor → Outcome A) → ℕ → List A → Cursor → Outcome (List A)
 run_more p zero found st = Ok (found, st)
-run_more p (suc n) found st = pick (starts (COMMA ∷ []) st.toks) (bind (run_tok (COMMA ∷ []) st st.toks) (λ t mid. bind (p mid) (λ x end. run_more p n (found ++ x ∷ []) end))) (Ok (found, st))
+run_more p (suc n) found st = pick (starts (kind.Comma ∷ []) st.toks) (bind (run_tok (kind.Comma ∷ []) st st.toks) (λ t mid. bind (p mid) (λ x end. run_more p n (found ++ x ∷ []) end))) (Ok (found, st))
 
 abbrev comma_at : {A : Type 0} → (Cursor → Outcome A) → Cursor → Outcome (Lexeme × A)
-comma_at p st = bind (run_tok (COMMA ∷ []) st st.toks) (λ a mid. bind (p mid) (λ b end. Ok ((a, b), end)))
+comma_at p st = bind (run_tok (kind.Comma ∷ []) st st.toks) (λ a mid. bind (p mid) (λ b end. Ok ((a, b), end)))
 
 more_item : {A : Type 0} (found : List A) (t : Lexeme) (o : Outcome A) (rest : Cursor → Outcome (List (Lexeme × A))) (next : List A → Cursor → Outcome (List A)) → ((found : List A) (c : Cursor) → bind (rest c) (λ xs end. Ok (found ++ seconds xs, end)) ≡ next found c)
     → bind (bind (bind {B = Lexeme × A} o (λ b end. Ok ((t, b), end))) (λ x mid. bind (rest mid) (λ xs end. Ok (x ∷ xs, end)))) (λ xs end. Ok (found ++ seconds xs, end)) ≡ bind o (λ x end. next (found ++ x ∷ []) end)
@@ -181,12 +184,12 @@ more_step p found st false o rest next ih = ap (λ xs. Ok (xs, st)) (nil_behind 
 more_step p found st true (Err e) rest next ih = refl
 more_step p found st true (Ok r) rest next ih = more_item found r.0 (p r.1) rest next ih
 
-more_from : {A : Type 0} (p : Cursor → Outcome A) (n : ℕ) (found : List A) (st : Cursor) → bind (run_many (comma_at p) (COMMA ∷ []) n st) (λ xs end. Ok (found ++ seconds xs, end)) ≡ run_more p n found st
+more_from : {A : Type 0} (p : Cursor → Outcome A) (n : ℕ) (found : List A) (st : Cursor) → bind (run_many (comma_at p) (kind.Comma ∷ []) n st) (λ xs end. Ok (found ++ seconds xs, end)) ≡ run_more p n found st
 more_from p zero found st = ap (λ xs. Ok (xs, st)) (nil_behind found)
-more_from p (suc n) found st = more_step p found st (starts (COMMA ∷ []) st.toks) (run_tok (COMMA ∷ []) st st.toks) (run_many (comma_at p) (COMMA ∷ []) n) (run_more p n) (more_from p n)
+more_from p (suc n) found st = more_step p found st (starts (kind.Comma ∷ []) st.toks) (run_tok (kind.Comma ∷ []) st st.toks) (run_many (comma_at p) (kind.Comma ∷ []) n) (run_more p n) (more_from p n)
 
-pub more_are : {A : Type 0} (d : ℕ) (p : Rule A) (found : List A) (st : Cursor) → bind (reading d (by seconds (many (seq (tok (COMMA ∷ [])) p))) st) (λ xs end. Ok (found ++ xs, end)) ≡ run_more (reading d p) (length st.toks) found st
-more_are d p found st = bind_bind (reading d (many (seq (tok (COMMA ∷ [])) p)) st) _ _ ∙ more_from (reading d p) (length st.toks) found st
+pub more_are : {A : Type 0} (d : ℕ) (p : Rule A) (found : List A) (st : Cursor) → bind (reading d (by seconds (many (seq (tok (kind.Comma ∷ [])) p))) st) (λ xs end. Ok (found ++ xs, end)) ≡ run_more (reading d p) (length st.toks) found st
+more_are d p found st = bind_bind (reading d (many (seq (tok (kind.Comma ∷ [])) p)) st) _ _ ∙ more_from (reading d p) (length st.toks) found st
 
 commas_from : {A : Type 0} (o : Outcome A) (rest : ℕ → Cursor → Outcome (List (Lexeme × A))) (next : ℕ → List A → Cursor → Outcome (List A))
     → ((n : ℕ) (found : List A) (st : Cursor) → bind (rest n st) (λ xs end. Ok (found ++ seconds xs, end)) ≡ next n found st)
@@ -194,12 +197,12 @@ commas_from : {A : Type 0} (o : Outcome A) (rest : ℕ → Cursor → Outcome (L
 commas_from (Err e) rest next ih = refl
 commas_from (Ok q) rest next ih = bind_bind (rest (length q.1.toks) q.1) (λ b end. Ok ((q.0, b), end)) _ ∙ ih (length q.1.toks) (q.0 ∷ []) q.1
 
-pub commas_are : {A : Type 0} (d : ℕ) (p : Rule A) (st : Cursor) → reading d (by (λ r. r.0 ∷ seconds r.1) (seq p (many (seq (tok (COMMA ∷ [])) p)))) st ≡ bind (reading d p st) (λ x mid. run_more (reading d p) (length mid.toks) (x ∷ []) mid)
-commas_are d p st = commas_from (reading d p st) (run_many (comma_at (reading d p)) (COMMA ∷ [])) (run_more (reading d p)) (more_from (reading d p))
+pub commas_are : {A : Type 0} (d : ℕ) (p : Rule A) (st : Cursor) → reading d (by (λ r. r.0 ∷ seconds r.1) (seq p (many (seq (tok (kind.Comma ∷ [])) p)))) st ≡ bind (reading d p st) (λ x mid. run_more (reading d p) (length mid.toks) (x ∷ []) mid)
+commas_are d p st = commas_from (reading d p st) (run_many (comma_at (reading d p)) (kind.Comma ∷ [])) (run_more (reading d p)) (more_from (reading d p))
 
 -- ---- a list with separators and maybe one more
 
-abbrev pub run_listed : {A : Type 0} → (Cursor → Outcome A) → Codes → Codes → ℕ → List A → Cursor → Outcome (List A)
+abbrev pub run_listed : {A : Type 0} → (Cursor → Outcome A) → Kinds → Kinds → ℕ → List A → Cursor → Outcome (List A)
 run_listed p cs F zero found st = Ok (found, st)
 run_listed p cs F (suc n) found st = pick (starts cs st.toks)
     (bind (run_tok cs st st.toks) (λ t mid. pick (starts F mid.toks) (bind (p mid) (λ x end. run_listed p cs F n (found ++ x ∷ []) end)) (Ok (found, mid))))
@@ -225,7 +228,7 @@ listed_sep : {A : Type 0} (found : List A) (o : Outcome Lexeme) (f : Lexeme → 
 listed_sep found (Ok r) f g h = h r.0 r.1
 listed_sep found (Err e) f g h = refl
 
-trail_are : {A : Type 0} (p : Cursor → Outcome A) (cs F : Codes) (n : ℕ) (found : List A) (st : Cursor) → bind (run_trail cs p F n st) (λ r end. Ok (found ++ seconds r.0, end)) ≡ run_listed p cs F n found st
+trail_are : {A : Type 0} (p : Cursor → Outcome A) (cs F : Kinds) (n : ℕ) (found : List A) (st : Cursor) → bind (run_trail cs p F n st) (λ r end. Ok (found ++ seconds r.0, end)) ≡ run_listed p cs F n found st
 trail_are p cs F zero found st = ap (λ xs. Ok (xs, st)) (nil_behind found)
 trail_are p cs F (suc n) found st = listed_pick found None st (starts cs st.toks) _ _
     (listed_sep found (run_tok cs st st.toks) (λ t mid. run_item p F (run_trail cs p F n) t mid) _
@@ -237,7 +240,7 @@ listed_from : {A : Type 0} (o : Outcome A) (rest : ℕ → Cursor → Outcome (R
 listed_from (Err e) rest next ih = refl
 listed_from (Ok q) rest next ih = bind_bind (rest (length q.1.toks) q.1) (λ b end. Ok ((q.0, b), end)) _ ∙ ih (length q.1.toks) (q.0 ∷ []) q.1
 
-pub listed_are : {A : Type 0} (d : ℕ) (p : Rule A) (cs : Codes) (st : Cursor) → reading d (by (λ r. r.0 ∷ seconds r.1.0) (seq p (trail cs p))) st ≡ bind (reading d p st) (λ x mid. run_listed (reading d p) cs (first p) (length mid.toks) (x ∷ []) mid)
+pub listed_are : {A : Type 0} (d : ℕ) (p : Rule A) (cs : Kinds) (st : Cursor) → reading d (by (λ r. r.0 ∷ seconds r.1.0) (seq p (trail cs p))) st ≡ bind (reading d p st) (λ x mid. run_listed (reading d p) cs (first p) (length mid.toks) (x ∷ []) mid)
 listed_are d p cs st = listed_from (reading d p st) (run_trail cs (reading d p) (first p)) (run_listed (reading d p) cs (first p)) (λ n. trail_are (reading d p) cs (first p) n)
 
 -- ---- a level more

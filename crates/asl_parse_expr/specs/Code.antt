@@ -2,10 +2,14 @@
 use Rattle.std.specs.Prelude.{◌≡◌, ◌≢◌, ℕ, zero, suc, Bool, List, map, length, Result, Ok, Err}
 use Rattle.asl_syn.specs.declared.token.Span.{Span}
 use Rattle.asl_syn.specs.declared.token.Token.{Token}
+use Rattle.asl_syn.specs.declared.tree.BinaryOperator.{BinaryOperator}
+use Rattle.asl_syn.specs.declared.tree.UnaryOperator.{UnaryOperator}
 use Rattle.asl_grammar.specs.declared.error.ParseError.{ParseError}
 use Rattle.asl_grammar.specs.declared.error.ParseError.TheVariants.{OutOfMemory, TooDeep}
-use Rattle.asl_grammar.specs.grammar.Cursor.{Lexeme, Cursor, Codes, starts, with_text, span_to}
-use Rattle.asl_grammar.specs.grammar.Reader.{Outcome, refused, bind, pick, run, parse}
+use Rattle.asl_grammar.specs.grammar.Cursor.{Lexeme, Cursor, Kinds, starts, with_text, span_to}
+use Rattle.asl_grammar.specs.grammar.Kinds.{kind_of}
+use Rattle.asl_grammar.specs.grammar.Operators.{binary_of, unary_of}
+use Rattle.asl_grammar.specs.grammar.Reader.{Outcome, refused, bind, pick, run, run_opens, parse}
 use Rattle.asl_grammar.specs.grammar.Rules.{Sym, Val, Rule, rule}
 use Rattle.asl_parse_expr.specs.declared.tokens.Tokens.{Tokens}
 
@@ -42,5 +46,13 @@ charged late st zero = Err (TooDeep (length st.toks) late)
 charged late st (suc l) = Ok (tt, record st { left = l })
 
 -- a level more at one of these tokens
-abbrev pub charge : Codes → Bool → Cursor → Outcome (Unit {0})
+abbrev pub charge : Kinds → Bool → Cursor → Outcome (Unit {0})
 charge cs late st = pick (starts cs st.toks) (charged late st st.left) (refused st.toks)
+
+-- an operator before its operand
+unfoldable pub prefix_at : Kinds → Cursor → Outcome UnaryOperator
+prefix_at kinds st = bind (run_opens kinds st.left st.toks) (λ t m. Ok (unary_of (kind_of t.kind), m))
+
+-- an operator between its operands
+unfoldable pub operator_at : Kinds → Cursor → Outcome BinaryOperator
+operator_at kinds st = bind (run_opens kinds st.left st.toks) (λ t m. Ok (binary_of (kind_of t.kind), m))

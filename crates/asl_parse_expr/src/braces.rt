@@ -11,16 +11,14 @@ use crate::names::name;
 use crate::operators::unary_node;
 use crate::tokens::{Tokens, span_to};
 use asl_grammar::error::ParseError;
-use asl_grammar::kinds::{
-    ASSIGN, BANG, BITS_LITERAL, CLOSE_BRACE, COMMA, FALSE, IF, INTEGER_LITERAL, MINUS, NAME, NOT,
-    OPEN_BRACE, OPEN_PAREN, TRUE,
-};
+use asl_grammar::kinds::Kind;
 use asl_grammar::parts::{AfterName, Braces};
 use asl_syn::token::Span;
 use asl_syn::tree::{Expr, FieldValue, Ident, UnaryOperator};
-use sqlite_items::Items;
+use sqlite_items::{Boxed, Items};
 use std::alloc::Global;
 
+/// A name with what stands behind it.
 fn after_of(name: Ident, span: Span, after: AfterName) -> Expr
     ensures { result ≡ build.after_of name span after }
 {
@@ -30,35 +28,41 @@ fn after_of(name: Ident, span: Span, after: AfterName) -> Expr
     }
 }
 
-#[tactic(auto, using(crate::proofs::Steps::empty_braces_is))]
+/// The `}` of empty braces.
+#[tactic(auto, unfolding(asl_grammar::specs::grammar::Rules::empty_braces))]
 fn empty_braces(tokens: &mut Tokens<'_>, depth: usize) -> Result<Braces, ParseError>
     ensures { Met (reading depth rules.empty_braces (cursor_of tokens.old)) result (cursor_of tokens.new) }
 {
-    tokens.take(&[CLOSE_BRACE])?;
+    tokens.take(&[Kind::CloseBrace])?;
     Ok(Braces::Empty)
 }
 
 impl<F: Fn(Global, &mut Tokens<'_>, usize, Symbol) -> Result<Value, ParseError>> Grammar<F> {
-    #[tactic(auto, using(crate::proofs::Steps::braces_is))]
+    /// Braces behind a name.
+    #[tactic(auto, unfolding(asl_grammar::specs::grammar::Rules::braces))]
     pub fn braces(&self, tokens: &mut Tokens<'_>) -> Result<Braces, ParseError>
         requires { Nests self.now.depth (F.pre self.now.nested) (F.post self.now.nested) }
         ensures { Met (reading self.now.depth rules.braces (cursor_of tokens.old)) result (cursor_of tokens.new) }
     {
         let left = tokens.left;
-        tokens.open(&[OPEN_BRACE])?;
-        let found = self.nested_braced(tokens)?;
+        tokens.open(&[Kind::OpenBrace])?;
+        let found = match self.value(tokens, Symbol::Braced)? {
+            Value::Braces(found) => found,
+            _ => unreachable!(),
+        };
         tokens.left = left;
         Ok(found)
     }
 
-    #[tactic(auto, using(crate::proofs::Tails::after_braces_is))]
+    /// Braces behind a name, and the arguments behind these: parameters must have them, empty braces may.
+    #[tactic(auto, unfolding(asl_grammar::specs::grammar::Rules::after_braces, asl_grammar::specs::grammar::Rules::braces_called, asl_grammar::specs::grammar::Rules::arguments))]
     pub fn after_braces(&self, tokens: &mut Tokens<'_>) -> Result<AfterName, ParseError>
         requires { Nests self.now.depth (F.pre self.now.nested) (F.post self.now.nested) }
         ensures { Met (reading self.now.depth rules.after_braces (cursor_of tokens.old)) result (cursor_of tokens.new) }
     {
         match self.braces(tokens)? {
             Braces::Empty => {
-                if tokens.starts(&[OPEN_PAREN]) {
+                if tokens.starts(&[Kind::OpenParen]) {
                     Ok(AfterName::Called(Items::new(self.alloc), self.arguments(tokens)?))
                 } else {
                     Ok(AfterName::Built(Items::new(self.alloc)))
@@ -69,24 +73,26 @@ impl<F: Fn(Global, &mut Tokens<'_>, usize, Symbol) -> Result<Value, ParseError>>
         }
     }
 
-    #[tactic(auto, using(crate::proofs::Steps::after_name_is))]
+    /// Arguments, or the braces of a construction or of parameters.
+    #[tactic(auto, unfolding(asl_grammar::specs::grammar::Rules::after_name, asl_grammar::specs::grammar::Rules::arguments))]
     pub fn after_name(&self, tokens: &mut Tokens<'_>) -> Result<AfterName, ParseError>
         requires { Nests self.now.depth (F.pre self.now.nested) (F.post self.now.nested) }
         ensures { Met (reading self.now.depth rules.after_name (cursor_of tokens.old)) result (cursor_of tokens.new) }
     {
-        if tokens.starts(&[OPEN_PAREN]) {
+        if tokens.starts(&[Kind::OpenParen]) {
             Ok(AfterName::Called(Items::new(self.alloc), self.arguments(tokens)?))
         } else {
             self.after_braces(tokens)
         }
     }
 
-    #[tactic(auto, using(crate::proofs::Steps::maybe_after_name_is))]
+    /// What stands behind a name that was read, if anything does.
+    #[tactic(auto, unfolding(asl_grammar::specs::grammar::Rules::maybe_after_name, asl_grammar::specs::grammar::Rules::after_name, asl_grammar::specs::grammar::Rules::arguments, asl_grammar::specs::grammar::Rules::after_braces, asl_grammar::specs::grammar::Rules::braces_called, asl_grammar::specs::grammar::Rules::braces, crate::specs::Code::then))]
     pub fn maybe_after_name(&self, tokens: &mut Tokens<'_>, name: Ident) -> Result<Expr, ParseError>
         requires { Nests self.now.depth (F.pre self.now.nested) (F.post self.now.nested) }
         ensures { Met (then (build.named_of name) (reading self.now.depth rules.maybe_after_name (cursor_of tokens.old))) result (cursor_of tokens.new) }
     {
-        if !tokens.starts(&[OPEN_PAREN, OPEN_BRACE]) {
+        if !tokens.starts(&[Kind::OpenParen, Kind::OpenBrace]) {
             return Ok(Expr::Name(name.span, name.text));
         }
         let after = self.after_name(tokens)?;
@@ -95,7 +101,7 @@ impl<F: Fn(Global, &mut Tokens<'_>, usize, Symbol) -> Result<Value, ParseError>>
     }
 
     /// A name alone, a call or a construction.
-    #[tactic(auto, using(crate::proofs::Steps::named_is))]
+    #[tactic(auto, unfolding(asl_grammar::specs::grammar::Rules::named, crate::specs::Code::then))]
     pub fn named(&self, tokens: &mut Tokens<'_>) -> Result<Expr, ParseError>
         requires { Nests self.now.depth (F.pre self.now.nested) (F.post self.now.nested) }
         ensures { Met (reading self.now.depth rules.named (cursor_of tokens.old)) result (cursor_of tokens.new) }
@@ -104,28 +110,29 @@ impl<F: Fn(Global, &mut Tokens<'_>, usize, Symbol) -> Result<Value, ParseError>>
         self.maybe_after_name(tokens, name)
     }
 
+    /// An expression whose first operator, a prefix one, was read: its level is opened here.
     #[tactic(auto, using(crate::proofs::Tails::late_expression_is))]
     pub fn late_expression(
         &self,
         tokens: &mut Tokens<'_>,
         from: Span,
         operator: UnaryOperator,
-    ) -> Result<Expr, ParseError>
+    ) -> Result<Boxed<Expr>, ParseError>
         requires { Nests self.now.depth (F.pre self.now.nested) (F.post self.now.nested) }
         ensures { Met (then (build.late_of from operator) (reading self.now.depth rules.late_expression (cursor_of tokens.old))) result (cursor_of tokens.new) }
     {
         let left = tokens.left;
         tokens.charge(
             &[
-                MINUS,
-                BANG,
-                NOT,
-                INTEGER_LITERAL,
-                BITS_LITERAL,
-                TRUE,
-                FALSE,
-                OPEN_PAREN,
-                NAME,
+                Kind::Minus,
+                Kind::Bang,
+                Kind::Not,
+                Kind::IntegerLiteral,
+                Kind::BitsLiteral,
+                Kind::True,
+                Kind::False,
+                Kind::OpenParen,
+                Kind::Name,
             ],
             true,
         )?;
@@ -136,40 +143,48 @@ impl<F: Fn(Global, &mut Tokens<'_>, usize, Symbol) -> Result<Value, ParseError>>
         Ok(whole)
     }
 
+    /// An expression whose first name was read.
     #[tactic(auto, using(crate::proofs::Tails::expression_after_name_is))]
     pub fn expression_after_name(
         &self,
         tokens: &mut Tokens<'_>,
         name: Ident,
-    ) -> Result<Expr, ParseError>
+    ) -> Result<Boxed<Expr>, ParseError>
         requires { Nests self.now.depth (F.pre self.now.nested) (F.post self.now.nested) }
         ensures { Met (then (build.after_name_of name) (reading self.now.depth rules.expression_after_name (cursor_of tokens.old))) result (cursor_of tokens.new) }
     {
         let left = tokens.left;
         let from = name.span;
-        let whole = self.maybe_after_name(tokens, name)?;
+        let whole = Boxed::new(self.alloc, self.maybe_after_name(tokens, name)?)?;
         let whole = self.post_rest(tokens, from, whole)?;
         let whole = self.rest(tokens, from, whole)?;
         tokens.left = left;
         Ok(whole)
     }
 
-    #[tactic(auto, using(crate::proofs::Steps::other_unary_is))]
-    pub fn other_unary(&self, tokens: &mut Tokens<'_>) -> Result<Expr, ParseError>
+    /// An operand that begins with neither a name nor `-`.
+    #[tactic(auto, unfolding(asl_grammar::specs::grammar::Rules::other_unary, asl_grammar::specs::grammar::Rules::prefixed_by, asl_grammar::specs::grammar::Rules::post_literal, asl_grammar::specs::grammar::Rules::literal, asl_grammar::specs::grammar::Rules::integer_literal, asl_grammar::specs::grammar::Rules::bits_literal, asl_grammar::specs::grammar::Rules::boolean_literal))]
+    pub fn other_unary(&self, tokens: &mut Tokens<'_>) -> Result<Boxed<Expr>, ParseError>
         requires { Nests self.now.depth (F.pre self.now.nested) (F.post self.now.nested) }
         ensures { Met (reading self.now.depth rules.other_unary (cursor_of tokens.old)) result (cursor_of tokens.new) }
     {
-        if tokens.starts(&[BANG, NOT]) {
-            self.prefixed_by(tokens, &[BANG, NOT])
-        } else if tokens.starts(&[INTEGER_LITERAL, BITS_LITERAL, TRUE, FALSE]) {
+        if tokens.starts(&[Kind::Bang, Kind::Not]) {
+            self.prefixed_by(tokens, &[Kind::Bang, Kind::Not])
+        } else if tokens.starts(&[
+            Kind::IntegerLiteral,
+            Kind::BitsLiteral,
+            Kind::True,
+            Kind::False,
+        ]) {
             self.post_literal(tokens)
         } else {
             self.post_parenthesized(tokens)
         }
     }
 
-    #[tactic(auto, using(crate::proofs::Steps::other_chain_is))]
-    pub fn other_chain(&self, tokens: &mut Tokens<'_>) -> Result<Expr, ParseError>
+    /// An expression that begins with neither a name, `-` nor `if`, inside a greater one.
+    #[tactic(auto, unfolding(asl_grammar::specs::grammar::Rules::other_chain, crate::specs::Code::then))]
+    pub fn other_chain(&self, tokens: &mut Tokens<'_>) -> Result<Boxed<Expr>, ParseError>
         requires { Nests self.now.depth (F.pre self.now.nested) (F.post self.now.nested) }
         ensures { Met (reading self.now.depth rules.other_chain (cursor_of tokens.old)) result (cursor_of tokens.new) }
     {
@@ -178,20 +193,22 @@ impl<F: Fn(Global, &mut Tokens<'_>, usize, Symbol) -> Result<Value, ParseError>>
         self.rest(tokens, from, left)
     }
 
-    #[tactic(auto, using(crate::proofs::Steps::other_open_expression_is))]
-    pub fn other_open_expression(&self, tokens: &mut Tokens<'_>) -> Result<Expr, ParseError>
+    /// An expression that begins with neither a name nor `-`, inside a greater one.
+    #[tactic(auto, unfolding(asl_grammar::specs::grammar::Rules::other_open_expression, asl_grammar::specs::grammar::Rules::conditional))]
+    pub fn other_open_expression(&self, tokens: &mut Tokens<'_>) -> Result<Boxed<Expr>, ParseError>
         requires { Nests self.now.depth (F.pre self.now.nested) (F.post self.now.nested) }
         ensures { Met (reading self.now.depth rules.other_open_expression (cursor_of tokens.old)) result (cursor_of tokens.new) }
     {
-        if tokens.starts(&[IF]) {
+        if tokens.starts(&[Kind::If]) {
             self.conditional(tokens)
         } else {
             self.other_chain(tokens)
         }
     }
 
-    #[tactic(auto, using(crate::proofs::Steps::other_expression_is))]
-    pub fn other_expression(&self, tokens: &mut Tokens<'_>) -> Result<Expr, ParseError>
+    /// An outermost expression that begins with neither a name nor `-`.
+    #[tactic(auto, unfolding(asl_grammar::specs::grammar::Rules::other_expression))]
+    pub fn other_expression(&self, tokens: &mut Tokens<'_>) -> Result<Boxed<Expr>, ParseError>
         requires { Nests self.now.depth (F.pre self.now.nested) (F.post self.now.nested) }
         ensures { Met (reading self.now.depth rules.other_expression (cursor_of tokens.old)) result (cursor_of tokens.new) }
     {
@@ -201,17 +218,19 @@ impl<F: Fn(Global, &mut Tokens<'_>, usize, Symbol) -> Result<Value, ParseError>>
         Ok(whole)
     }
 
-    #[tactic(auto, using(crate::proofs::Steps::field_value_is))]
+    /// A field of a construction with its value.
+    #[tactic(auto, unfolding(asl_grammar::specs::grammar::Rules::field_value))]
     pub fn field_value(&self, tokens: &mut Tokens<'_>) -> Result<FieldValue, ParseError>
         requires { Nests self.now.depth (F.pre self.now.nested) (F.post self.now.nested) }
         ensures { Met (reading self.now.depth rules.field_value (cursor_of tokens.old)) result (cursor_of tokens.new) }
     {
         let name = name(self.alloc, tokens, self.depth)?;
-        tokens.take(&[ASSIGN])?;
+        tokens.take(&[Kind::Assign])?;
         let value = self.expression(tokens)?;
-        Ok(FieldValue::Given(name, value))
+        Ok(FieldValue::Given(name, value.into_inner()))
     }
 
+    /// More fields, each behind a comma.
     #[tactic(auto, using(crate::proofs::Steps::more_field_values_is))]
     pub fn more_field_values(
         &self,
@@ -222,15 +241,16 @@ impl<F: Fn(Global, &mut Tokens<'_>, usize, Symbol) -> Result<Value, ParseError>>
         ensures { Met (then (build.behind found) (reading self.now.depth rules.more_field_values (cursor_of tokens.old))) result (cursor_of tokens.new) }
     {
         for _turn in 0..tokens.len() {
-            if !tokens.starts(&[COMMA]) {
+            if !tokens.starts(&[Kind::Comma]) {
                 return Ok(found);
             }
-            tokens.take(&[COMMA])?;
+            tokens.take(&[Kind::Comma])?;
             found.push(self.field_value(tokens)?)?;
         }
         Ok(found)
     }
 
+    /// The fields of a construction from `=` on: the name of the first was read.
     #[tactic(auto, using(crate::proofs::Tails::field_values_after_name_is))]
     pub fn field_values_after_name(
         &self,
@@ -240,15 +260,16 @@ impl<F: Fn(Global, &mut Tokens<'_>, usize, Symbol) -> Result<Value, ParseError>>
         requires { Nests self.now.depth (F.pre self.now.nested) (F.post self.now.nested) }
         ensures { Met (then (build.fields_from_name name) (reading self.now.depth rules.field_values_after_name (cursor_of tokens.old))) result (cursor_of tokens.new) }
     {
-        tokens.take(&[ASSIGN])?;
+        tokens.take(&[Kind::Assign])?;
         let value = self.expression(tokens)?;
         let mut found = Items::new(self.alloc);
-        found.push(FieldValue::Given(name, value))?;
+        found.push(FieldValue::Given(name, value.into_inner()))?;
         let found = self.more_field_values(tokens, found)?;
-        tokens.take(&[CLOSE_BRACE])?;
+        tokens.take(&[Kind::CloseBrace])?;
         Ok(found)
     }
 
+    /// More parameters, each behind a comma, and the `}`.
     #[tactic(auto, using(crate::proofs::Tails::more_parameters_is))]
     pub fn more_parameters(
         &self,
@@ -259,11 +280,12 @@ impl<F: Fn(Global, &mut Tokens<'_>, usize, Symbol) -> Result<Value, ParseError>>
         ensures { Met (then (build.behind found) (reading self.now.depth rules.more_parameters (cursor_of tokens.old))) result (cursor_of tokens.new) }
     {
         let found = self.more_expressions(tokens, found)?;
-        tokens.take(&[CLOSE_BRACE])?;
+        tokens.take(&[Kind::CloseBrace])?;
         Ok(found)
     }
 
-    #[tactic(auto, using(crate::proofs::Tails::parameters_after_minus_is))]
+    /// Parameters of which the first begins with a `-` that was read.
+    #[tactic(auto, unfolding(asl_grammar::specs::grammar::Rules::parameters_after_minus, crate::specs::Code::then, asl_grammar::specs::grammar::Build::behind))]
     pub fn parameters_after_minus(
         &self,
         tokens: &mut Tokens<'_>,
@@ -274,11 +296,12 @@ impl<F: Fn(Global, &mut Tokens<'_>, usize, Symbol) -> Result<Value, ParseError>>
     {
         let first = self.late_expression(tokens, minus, UnaryOperator::Negate)?;
         let mut found = Items::new(self.alloc);
-        found.push(first)?;
+        found.push(first.into_inner())?;
         self.more_parameters(tokens, found)
     }
 
-    #[tactic(auto, using(crate::proofs::Tails::parameters_after_name_is))]
+    /// Parameters of which the first begins with a name that was read.
+    #[tactic(auto, unfolding(asl_grammar::specs::grammar::Rules::parameters_after_name, crate::specs::Code::then, asl_grammar::specs::grammar::Build::behind))]
     pub fn parameters_after_name(
         &self,
         tokens: &mut Tokens<'_>,
@@ -289,22 +312,24 @@ impl<F: Fn(Global, &mut Tokens<'_>, usize, Symbol) -> Result<Value, ParseError>>
     {
         let first = self.expression_after_name(tokens, name)?;
         let mut found = Items::new(self.alloc);
-        found.push(first)?;
+        found.push(first.into_inner())?;
         self.more_parameters(tokens, found)
     }
 
+    /// What stands in braces behind their first `-`: nothing more, or the rest of parameters.
     #[tactic(auto, using(crate::proofs::Tails::after_minus_is))]
     pub fn after_minus(&self, tokens: &mut Tokens<'_>, minus: Span) -> Result<Braces, ParseError>
         requires { Nests self.now.depth (F.pre self.now.nested) (F.post self.now.nested) }
         ensures { Met (then (build.minus_in_braces_of minus) (reading self.now.depth rules.after_minus (cursor_of tokens.old))) result (cursor_of tokens.new) }
     {
-        if tokens.starts(&[CLOSE_BRACE]) {
-            tokens.take(&[CLOSE_BRACE])?;
+        if tokens.starts(&[Kind::CloseBrace]) {
+            tokens.take(&[Kind::CloseBrace])?;
             return Ok(Braces::Fields(Items::new(self.alloc)));
         }
         Ok(Braces::Parameters(self.parameters_after_minus(tokens, minus)?))
     }
 
+    /// What stands in braces behind their first name: the rest of fields, or of parameters.
     #[tactic(auto, using(crate::proofs::Tails::after_first_name_is))]
     pub fn after_first_name(
         &self,
@@ -314,22 +339,24 @@ impl<F: Fn(Global, &mut Tokens<'_>, usize, Symbol) -> Result<Value, ParseError>>
         requires { Nests self.now.depth (F.pre self.now.nested) (F.post self.now.nested) }
         ensures { Met (then (build.name_in_braces_of name) (reading self.now.depth rules.after_first_name (cursor_of tokens.old))) result (cursor_of tokens.new) }
     {
-        if tokens.starts(&[ASSIGN]) {
+        if tokens.starts(&[Kind::Assign]) {
             return Ok(Braces::Fields(self.field_values_after_name(tokens, name)?));
         }
         Ok(Braces::Parameters(self.parameters_after_name(tokens, name)?))
     }
 
-    #[tactic(auto, using(crate::proofs::Steps::minus_in_braces_is))]
+    /// Braces that begin with `-`.
+    #[tactic(auto, unfolding(asl_grammar::specs::grammar::Rules::minus_in_braces, crate::specs::Code::then))]
     pub fn minus_in_braces(&self, tokens: &mut Tokens<'_>) -> Result<Braces, ParseError>
         requires { Nests self.now.depth (F.pre self.now.nested) (F.post self.now.nested) }
         ensures { Met (reading self.now.depth rules.minus_in_braces (cursor_of tokens.old)) result (cursor_of tokens.new) }
     {
-        let minus = tokens.take(&[MINUS])?;
+        let minus = tokens.take(&[Kind::Minus])?;
         self.after_minus(tokens, minus.span)
     }
 
-    #[tactic(auto, using(crate::proofs::Steps::name_in_braces_is))]
+    /// Braces that begin with a name.
+    #[tactic(auto, unfolding(asl_grammar::specs::grammar::Rules::name_in_braces, crate::specs::Code::then))]
     pub fn name_in_braces(&self, tokens: &mut Tokens<'_>) -> Result<Braces, ParseError>
         requires { Nests self.now.depth (F.pre self.now.nested) (F.post self.now.nested) }
         ensures { Met (reading self.now.depth rules.name_in_braces (cursor_of tokens.old)) result (cursor_of tokens.new) }
@@ -338,6 +365,7 @@ impl<F: Fn(Global, &mut Tokens<'_>, usize, Symbol) -> Result<Value, ParseError>>
         self.after_first_name(tokens, name)
     }
 
+    /// Parameters of which the first begins with neither a name nor `-`.
     #[tactic(auto, using(crate::proofs::Tails::other_in_braces_is))]
     pub fn other_in_braces(&self, tokens: &mut Tokens<'_>) -> Result<Braces, ParseError>
         requires { Nests self.now.depth (F.pre self.now.nested) (F.post self.now.nested) }
@@ -345,20 +373,21 @@ impl<F: Fn(Global, &mut Tokens<'_>, usize, Symbol) -> Result<Value, ParseError>>
     {
         let first = self.other_expression(tokens)?;
         let mut found = Items::new(self.alloc);
-        found.push(first)?;
+        found.push(first.into_inner())?;
         Ok(Braces::Parameters(self.more_parameters(tokens, found)?))
     }
 
-    #[tactic(auto, using(crate::proofs::Steps::braced_in_is))]
+    /// What stands in braces behind a name, and the `}`.
+    #[tactic(auto, unfolding(asl_grammar::specs::grammar::Rules::braced_in, asl_grammar::specs::grammar::Rules::empty_braces, asl_grammar::specs::grammar::Rules::minus_in_braces, asl_grammar::specs::grammar::Rules::name_in_braces, asl_grammar::specs::grammar::Rules::name))]
     pub fn braced_in(&self, tokens: &mut Tokens<'_>) -> Result<Braces, ParseError>
         requires { Nests self.now.depth (F.pre self.now.nested) (F.post self.now.nested) }
         ensures { Met (reading self.now.depth rules.braced_in (cursor_of tokens.old)) result (cursor_of tokens.new) }
     {
-        if tokens.starts(&[CLOSE_BRACE]) {
+        if tokens.starts(&[Kind::CloseBrace]) {
             empty_braces(tokens, self.depth)
-        } else if tokens.starts(&[MINUS]) {
+        } else if tokens.starts(&[Kind::Minus]) {
             self.minus_in_braces(tokens)
-        } else if tokens.starts(&[NAME]) {
+        } else if tokens.starts(&[Kind::Name]) {
             self.name_in_braces(tokens)
         } else {
             self.other_in_braces(tokens)

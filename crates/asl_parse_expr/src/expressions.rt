@@ -1,28 +1,25 @@
 //! Expressions.
 
-ghost use Rattle.std.specs.Prelude.{◌≡◌, ◌∷◌, []};
+ghost use Rattle.std.specs.Prelude.{◌≡◌, ◌∷◌, [], true};
 ghost use Rattle.asl_grammar.specs.grammar.Build as build;
+ghost use Rattle.asl_grammar.specs.grammar.Operators.{binary_kinds, unary_kinds};
+ghost use Rattle.asl_grammar.specs.grammar.Reader.{covers};
 ghost use Rattle.asl_grammar.specs.grammar.Rules as rules;
-ghost use Rattle.asl_parse_expr.specs.Branches.{branch};
 ghost use Rattle.asl_parse_expr.specs.Code.{cursor_of, Met, reading, then};
 ghost use Rattle.asl_parse_expr.specs.Nests.{Nests};
 
 use crate::grammar::{Grammar, Symbol, Value, nested};
 use crate::literals::literal;
-use crate::operators::{as_node, binary_node, in_node, unary_node, unary_of};
+use crate::operators::{as_node, binary_node, in_node, unary_node};
 use crate::tokens::Tokens;
 use asl_grammar::error::ParseError;
-use asl_grammar::kinds::{
-    AND_AND, AS, BANG, BIT_AND, BIT_OR, BIT_XOR, BITS_LITERAL, CARET, CLOSE_PAREN, COLON_COLON,
-    COMMA, DIV, DIV_RM, ELSE, EQUAL, FALSE, GREATER, GREATER_EQUAL, IF, IFF, IMPLIES, IN,
-    INTEGER_LITERAL, LESS, LESS_EQUAL, MINUS, MOD, NAME, NOT, NOT_EQUAL, OPEN_PAREN, OR_OR, PLUS,
-    SHIFT_LEFT, SHIFT_RIGHT, STAR, THEN, TRUE, code,
-};
+use asl_grammar::kinds::Kind;
 use asl_syn::token::Span;
 use asl_syn::tree::Expr;
 use sqlite_items::{Boxed, Items};
 use std::alloc::Global;
 
+/// The expression that parentheses hold: a tuple, unless they hold one alone.
 fn parens_of(span: Span, mut parts: Items<Expr>) -> Expr
     ensures { result ≡ build.parens_of span parts }
 {
@@ -33,78 +30,88 @@ fn parens_of(span: Span, mut parts: Items<Expr>) -> Expr
 }
 
 impl<F: Fn(Global, &mut Tokens<'_>, usize, Symbol) -> Result<Value, ParseError>> Grammar<F> {
-    #[tactic(auto, using(crate::proofs::Steps::parenthesized_in_is))]
+    /// Expressions with commas between, and the `)`.
+    #[tactic(auto, unfolding(asl_grammar::specs::grammar::Rules::parenthesized_in))]
     pub fn parenthesized_in(&self, tokens: &mut Tokens<'_>) -> Result<Items<Expr>, ParseError>
         requires { Nests self.now.depth (F.pre self.now.nested) (F.post self.now.nested) }
         ensures { Met (reading self.now.depth rules.parenthesized_in (cursor_of tokens.old)) result (cursor_of tokens.new) }
     {
         let found = self.expressions(tokens)?;
-        tokens.take(&[CLOSE_PAREN])?;
+        tokens.take(&[Kind::CloseParen])?;
         Ok(found)
     }
 
-    #[tactic(auto, using(crate::proofs::Steps::parenthesized_is))]
+    /// An expression in parentheses, or a tuple.
+    #[tactic(auto, unfolding(asl_grammar::specs::grammar::Rules::parenthesized))]
     pub fn parenthesized(&self, tokens: &mut Tokens<'_>) -> Result<Expr, ParseError>
         requires { Nests self.now.depth (F.pre self.now.nested) (F.post self.now.nested) }
         ensures { Met (reading self.now.depth rules.parenthesized (cursor_of tokens.old)) result (cursor_of tokens.new) }
     {
         let from = tokens.ahead();
         let left = tokens.left;
-        tokens.open(&[OPEN_PAREN])?;
-        let parts = self.nested_parenthesized(tokens)?;
+        tokens.open(&[Kind::OpenParen])?;
+        let parts = match self.value(tokens, Symbol::Parenthesized)? {
+            Value::Expressions(found) => found,
+            _ => unreachable!(),
+        };
         tokens.left = left;
         Ok(parens_of(tokens.since(from), parts))
     }
 
-    #[tactic(auto, using(crate::proofs::Steps::arguments_in_is))]
+    /// Arguments, and the `)`.
+    #[tactic(auto, unfolding(asl_grammar::specs::grammar::Rules::arguments_in))]
     pub fn arguments_in(&self, tokens: &mut Tokens<'_>) -> Result<Items<Expr>, ParseError>
         requires { Nests self.now.depth (F.pre self.now.nested) (F.post self.now.nested) }
         ensures { Met (reading self.now.depth rules.arguments_in (cursor_of tokens.old)) result (cursor_of tokens.new) }
     {
         let found = self.maybe_expressions(tokens)?;
-        tokens.take(&[CLOSE_PAREN])?;
+        tokens.take(&[Kind::CloseParen])?;
         Ok(found)
     }
 
     /// Arguments in parentheses.
-    #[tactic(auto, using(crate::proofs::Steps::arguments_is))]
+    #[tactic(auto, unfolding(asl_grammar::specs::grammar::Rules::arguments))]
     pub fn arguments(&self, tokens: &mut Tokens<'_>) -> Result<Items<Expr>, ParseError>
         requires { Nests self.now.depth (F.pre self.now.nested) (F.post self.now.nested) }
         ensures { Met (reading self.now.depth rules.arguments (cursor_of tokens.old)) result (cursor_of tokens.new) }
     {
         let left = tokens.left;
-        tokens.open(&[OPEN_PAREN])?;
-        let found = self.nested_arguments(tokens)?;
+        tokens.open(&[Kind::OpenParen])?;
+        let found = match self.value(tokens, Symbol::Arguments)? {
+            Value::Expressions(found) => found,
+            _ => unreachable!(),
+        };
         tokens.left = left;
         Ok(found)
     }
 
-    #[tactic(auto, using(crate::proofs::Steps::in_clause_is))]
+    /// `IN` with its pattern, if it is there.
+    #[tactic(auto, unfolding(asl_grammar::specs::grammar::Rules::in_clause, crate::specs::Code::then))]
     pub fn in_clause(
         &self,
         tokens: &mut Tokens<'_>,
         from: Span,
-        left: Expr,
-    ) -> Result<Expr, ParseError>
+        left: Boxed<Expr>,
+    ) -> Result<Boxed<Expr>, ParseError>
         requires { Nests self.now.depth (F.pre self.now.nested) (F.post self.now.nested) }
         ensures { Met (then (build.in_on from left) (reading self.now.depth rules.in_clause (cursor_of tokens.old))) result (cursor_of tokens.new) }
     {
-        if !tokens.starts(&[IN]) {
+        if !tokens.starts(&[Kind::In]) {
             return Ok(left);
         }
-        tokens.open(&[IN])?;
+        tokens.open(&[Kind::In])?;
         let pattern = self.in_pattern(tokens)?;
         Ok(in_node(self.alloc, tokens.since(from), left, pattern)?)
     }
 
     /// Suffixes, and `IN` with its pattern.
-    #[tactic(auto, using(crate::proofs::Tails::post_rest_is))]
+    #[tactic(auto, unfolding(asl_grammar::specs::grammar::Rules::post_rest, crate::specs::Code::then))]
     pub fn post_rest(
         &self,
         tokens: &mut Tokens<'_>,
         from: Span,
-        left: Expr,
-    ) -> Result<Expr, ParseError>
+        left: Boxed<Expr>,
+    ) -> Result<Boxed<Expr>, ParseError>
         requires { Nests self.now.depth (F.pre self.now.nested) (F.post self.now.nested) }
         ensures { Met (then (build.posted from left) (reading self.now.depth rules.post_rest (cursor_of tokens.old))) result (cursor_of tokens.new) }
     {
@@ -113,66 +120,74 @@ impl<F: Fn(Global, &mut Tokens<'_>, usize, Symbol) -> Result<Value, ParseError>>
     }
 
     /// A literal with what may follow it.
-    #[tactic(auto, using(crate::proofs::Steps::post_literal_is))]
-    pub fn post_literal(&self, tokens: &mut Tokens<'_>) -> Result<Expr, ParseError>
+    #[tactic(auto, unfolding(asl_grammar::specs::grammar::Rules::post_literal, crate::specs::Code::then))]
+    pub fn post_literal(&self, tokens: &mut Tokens<'_>) -> Result<Boxed<Expr>, ParseError>
         requires { Nests self.now.depth (F.pre self.now.nested) (F.post self.now.nested) }
         ensures { Met (reading self.now.depth rules.post_literal (cursor_of tokens.old)) result (cursor_of tokens.new) }
     {
         let from = tokens.ahead();
-        let left = literal(self.alloc, tokens, self.depth)?;
+        let left = Boxed::new(self.alloc, literal(self.alloc, tokens, self.depth)?)?;
         self.post_rest(tokens, from, left)
     }
 
     /// An expression in parentheses, or a tuple, with what may follow it.
-    #[tactic(auto, using(crate::proofs::Steps::post_parenthesized_is))]
-    pub fn post_parenthesized(&self, tokens: &mut Tokens<'_>) -> Result<Expr, ParseError>
+    #[tactic(auto, unfolding(asl_grammar::specs::grammar::Rules::post_parenthesized, crate::specs::Code::then))]
+    pub fn post_parenthesized(&self, tokens: &mut Tokens<'_>) -> Result<Boxed<Expr>, ParseError>
         requires { Nests self.now.depth (F.pre self.now.nested) (F.post self.now.nested) }
         ensures { Met (reading self.now.depth rules.post_parenthesized (cursor_of tokens.old)) result (cursor_of tokens.new) }
     {
         let from = tokens.ahead();
-        let left = self.parenthesized(tokens)?;
+        let left = Boxed::new(self.alloc, self.parenthesized(tokens)?)?;
         self.post_rest(tokens, from, left)
     }
 
     /// A name, a call or a construction, with what may follow it.
-    #[tactic(auto, using(crate::proofs::Steps::post_named_is))]
-    pub fn post_named(&self, tokens: &mut Tokens<'_>) -> Result<Expr, ParseError>
+    #[tactic(auto, unfolding(asl_grammar::specs::grammar::Rules::post_named, crate::specs::Code::then))]
+    pub fn post_named(&self, tokens: &mut Tokens<'_>) -> Result<Boxed<Expr>, ParseError>
         requires { Nests self.now.depth (F.pre self.now.nested) (F.post self.now.nested) }
         ensures { Met (reading self.now.depth rules.post_named (cursor_of tokens.old)) result (cursor_of tokens.new) }
     {
         let from = tokens.ahead();
-        let left = self.named(tokens)?;
+        let left = Boxed::new(self.alloc, self.named(tokens)?)?;
         self.post_rest(tokens, from, left)
     }
 
     /// One of some prefix operators with its operand.
-    #[tactic(auto, using(crate::proofs::Steps::prefixed_by_is))]
-    pub fn prefixed_by(&self, tokens: &mut Tokens<'_>, operators: &[u8]) -> Result<Expr, ParseError>
-        requires { Nests self.now.depth (F.pre self.now.nested) (F.post self.now.nested) }
+    #[tactic(auto, using(crate::proofs::Tails::prefixed_by_is))]
+    pub fn prefixed_by(
+        &self,
+        tokens: &mut Tokens<'_>,
+        operators: &[Kind],
+    ) -> Result<Boxed<Expr>, ParseError>
+        requires nests { Nests self.now.depth (F.pre self.now.nested) (F.post self.now.nested) }
+        requires operators { covers unary_kinds operators.now ≡ true }
         ensures { Met (reading self.now.depth (rules.prefixed_by operators.now) (cursor_of tokens.old)) result (cursor_of tokens.new) }
     {
         let from = tokens.ahead();
-        let operator = tokens.open(operators)?;
-        let operand = self.nested_operand(tokens)?;
-        Ok(unary_node(
-            self.alloc,
-            tokens.since(from),
-            unary_of(code(operator.kind)),
-            operand,
-        )?)
+        let operator = tokens.prefix(operators)?;
+        let operand = match self.value(tokens, Symbol::Operand)? {
+            Value::Expr(found) => found,
+            _ => unreachable!(),
+        };
+        Ok(unary_node(self.alloc, tokens.since(from), operator, operand)?)
     }
 
     /// An operand of `^`.
     #[tactic(auto, using(crate::proofs::Steps::unary_is))]
-    pub fn unary(&self, tokens: &mut Tokens<'_>) -> Result<Expr, ParseError>
+    pub fn unary(&self, tokens: &mut Tokens<'_>) -> Result<Boxed<Expr>, ParseError>
         requires { Nests self.now.depth (F.pre self.now.nested) (F.post self.now.nested) }
         ensures { Met (reading self.now.depth rules.unary (cursor_of tokens.old)) result (cursor_of tokens.new) }
     {
-        if tokens.starts(&[MINUS, BANG, NOT]) {
-            self.prefixed_by(tokens, &[MINUS, BANG, NOT])
-        } else if tokens.starts(&[INTEGER_LITERAL, BITS_LITERAL, TRUE, FALSE]) {
+        if tokens.starts(&[Kind::Minus, Kind::Bang, Kind::Not]) {
+            self.prefixed_by(tokens, &[Kind::Minus, Kind::Bang, Kind::Not])
+        } else if tokens.starts(&[
+            Kind::IntegerLiteral,
+            Kind::BitsLiteral,
+            Kind::True,
+            Kind::False,
+        ]) {
             self.post_literal(tokens)
-        } else if tokens.starts(&[OPEN_PAREN]) {
+        } else if tokens.starts(&[Kind::OpenParen]) {
             self.post_parenthesized(tokens)
         } else {
             self.post_named(tokens)
@@ -185,30 +200,25 @@ impl<F: Fn(Global, &mut Tokens<'_>, usize, Symbol) -> Result<Value, ParseError>>
         &self,
         tokens: &mut Tokens<'_>,
         from: Span,
-        mut left: Expr,
-    ) -> Result<Expr, ParseError>
+        mut left: Boxed<Expr>,
+    ) -> Result<Boxed<Expr>, ParseError>
         requires { Nests self.now.depth (F.pre self.now.nested) (F.post self.now.nested) }
         ensures { Met (then (build.chained from left) (reading self.now.depth rules.power_rest (cursor_of tokens.old))) result (cursor_of tokens.new) }
     {
         for _turn in 0..tokens.len() {
-            if !tokens.starts(&[CARET]) {
+            if !tokens.starts(&[Kind::Caret]) {
                 return Ok(left);
             }
-            let operator = tokens.open(&[CARET])?;
+            let operator = tokens.operator(&[Kind::Caret])?;
             let right = self.unary(tokens)?;
-            left = binary_node(
-                self.alloc,
-                tokens.since(from),
-                code(operator.kind),
-                left,
-                right,
-            )?;
+            left = binary_node(self.alloc, tokens.since(from), operator, left, right)?;
         }
         Ok(left)
     }
 
-    #[tactic(auto, using(crate::proofs::Steps::power_is))]
-    pub fn power(&self, tokens: &mut Tokens<'_>) -> Result<Expr, ParseError>
+    /// A chain of `^`.
+    #[tactic(auto, unfolding(asl_grammar::specs::grammar::Rules::power, crate::specs::Code::then))]
+    pub fn power(&self, tokens: &mut Tokens<'_>) -> Result<Boxed<Expr>, ParseError>
         requires { Nests self.now.depth (F.pre self.now.nested) (F.post self.now.nested) }
         ensures { Met (reading self.now.depth rules.power (cursor_of tokens.old)) result (cursor_of tokens.new) }
     {
@@ -223,30 +233,39 @@ impl<F: Fn(Global, &mut Tokens<'_>, usize, Symbol) -> Result<Value, ParseError>>
         &self,
         tokens: &mut Tokens<'_>,
         from: Span,
-        mut left: Expr,
-    ) -> Result<Expr, ParseError>
+        mut left: Boxed<Expr>,
+    ) -> Result<Boxed<Expr>, ParseError>
         requires { Nests self.now.depth (F.pre self.now.nested) (F.post self.now.nested) }
         ensures { Met (then (build.chained from left) (reading self.now.depth rules.product_rest (cursor_of tokens.old))) result (cursor_of tokens.new) }
     {
         for _turn in 0..tokens.len() {
-            if !tokens.starts(&[STAR, DIV, DIV_RM, MOD, SHIFT_LEFT, SHIFT_RIGHT]) {
+            if !tokens.starts(&[
+                Kind::Star,
+                Kind::Div,
+                Kind::DivRm,
+                Kind::Mod,
+                Kind::ShiftLeft,
+                Kind::ShiftRight,
+            ]) {
                 return Ok(left);
             }
-            let operator = tokens.open(&[STAR, DIV, DIV_RM, MOD, SHIFT_LEFT, SHIFT_RIGHT])?;
+            let operator = tokens.operator(&[
+                Kind::Star,
+                Kind::Div,
+                Kind::DivRm,
+                Kind::Mod,
+                Kind::ShiftLeft,
+                Kind::ShiftRight,
+            ])?;
             let right = self.power(tokens)?;
-            left = binary_node(
-                self.alloc,
-                tokens.since(from),
-                code(operator.kind),
-                left,
-                right,
-            )?;
+            left = binary_node(self.alloc, tokens.since(from), operator, left, right)?;
         }
         Ok(left)
     }
 
-    #[tactic(auto, using(crate::proofs::Steps::product_is))]
-    pub fn product(&self, tokens: &mut Tokens<'_>) -> Result<Expr, ParseError>
+    /// A chain of `*`, `DIV`, `DIVRM`, `MOD`, `<<`, `>>`.
+    #[tactic(auto, unfolding(asl_grammar::specs::grammar::Rules::product, crate::specs::Code::then))]
+    pub fn product(&self, tokens: &mut Tokens<'_>) -> Result<Boxed<Expr>, ParseError>
         requires { Nests self.now.depth (F.pre self.now.nested) (F.post self.now.nested) }
         ensures { Met (reading self.now.depth rules.product (cursor_of tokens.old)) result (cursor_of tokens.new) }
     {
@@ -261,31 +280,39 @@ impl<F: Fn(Global, &mut Tokens<'_>, usize, Symbol) -> Result<Value, ParseError>>
         &self,
         tokens: &mut Tokens<'_>,
         from: Span,
-        mut left: Expr,
-    ) -> Result<Expr, ParseError>
+        mut left: Boxed<Expr>,
+    ) -> Result<Boxed<Expr>, ParseError>
         requires { Nests self.now.depth (F.pre self.now.nested) (F.post self.now.nested) }
         ensures { Met (then (build.chained from left) (reading self.now.depth rules.sum_rest (cursor_of tokens.old))) result (cursor_of tokens.new) }
     {
         for _turn in 0..tokens.len() {
-            if !tokens.starts(&[PLUS, MINUS, BIT_AND, BIT_OR, BIT_XOR, COLON_COLON]) {
+            if !tokens.starts(&[
+                Kind::Plus,
+                Kind::Minus,
+                Kind::BitAnd,
+                Kind::BitOr,
+                Kind::BitXor,
+                Kind::ColonColon,
+            ]) {
                 return Ok(left);
             }
-            let operator = tokens.open(&[PLUS, MINUS, BIT_AND, BIT_OR, BIT_XOR, COLON_COLON])?;
+            let operator = tokens.operator(&[
+                Kind::Plus,
+                Kind::Minus,
+                Kind::BitAnd,
+                Kind::BitOr,
+                Kind::BitXor,
+                Kind::ColonColon,
+            ])?;
             let right = self.product(tokens)?;
-            left = binary_node(
-                self.alloc,
-                tokens.since(from),
-                code(operator.kind),
-                left,
-                right,
-            )?;
+            left = binary_node(self.alloc, tokens.since(from), operator, left, right)?;
         }
         Ok(left)
     }
 
     /// A sum.
-    #[tactic(auto, using(crate::proofs::Steps::sum_is))]
-    pub fn sum(&self, tokens: &mut Tokens<'_>) -> Result<Expr, ParseError>
+    #[tactic(auto, unfolding(asl_grammar::specs::grammar::Rules::sum, crate::specs::Code::then))]
+    pub fn sum(&self, tokens: &mut Tokens<'_>) -> Result<Boxed<Expr>, ParseError>
         requires { Nests self.now.depth (F.pre self.now.nested) (F.post self.now.nested) }
         ensures { Met (reading self.now.depth rules.sum (cursor_of tokens.old)) result (cursor_of tokens.new) }
     {
@@ -294,32 +321,37 @@ impl<F: Fn(Global, &mut Tokens<'_>, usize, Symbol) -> Result<Value, ParseError>>
         self.sum_rest(tokens, from, left)
     }
 
-    #[tactic(auto, using(crate::proofs::Steps::comparison_rest_is))]
+    /// A comparison with another sum, if there is one.
     pub fn comparison_rest(
         &self,
         tokens: &mut Tokens<'_>,
         from: Span,
-        left: Expr,
-    ) -> Result<Expr, ParseError>
+        left: Boxed<Expr>,
+    ) -> Result<Boxed<Expr>, ParseError>
         requires { Nests self.now.depth (F.pre self.now.nested) (F.post self.now.nested) }
         ensures { Met (then (build.compared from left) (reading self.now.depth rules.comparison_rest (cursor_of tokens.old))) result (cursor_of tokens.new) }
     {
-        if !tokens.starts(&[LESS, LESS_EQUAL, GREATER, GREATER_EQUAL]) {
+        if !tokens.starts(&[
+            Kind::Less,
+            Kind::LessEqual,
+            Kind::Greater,
+            Kind::GreaterEqual,
+        ]) {
             return Ok(left);
         }
-        let operator = tokens.open(&[LESS, LESS_EQUAL, GREATER, GREATER_EQUAL])?;
+        let operator = tokens.operator(&[
+            Kind::Less,
+            Kind::LessEqual,
+            Kind::Greater,
+            Kind::GreaterEqual,
+        ])?;
         let right = self.sum(tokens)?;
-        Ok(binary_node(
-            self.alloc,
-            tokens.since(from),
-            code(operator.kind),
-            left,
-            right,
-        )?)
+        Ok(binary_node(self.alloc, tokens.since(from), operator, left, right)?)
     }
 
-    #[tactic(auto, using(crate::proofs::Steps::comparison_is))]
-    pub fn comparison(&self, tokens: &mut Tokens<'_>) -> Result<Expr, ParseError>
+    /// A sum, or the comparison of two.
+    #[tactic(auto, unfolding(asl_grammar::specs::grammar::Rules::comparison, crate::specs::Code::then))]
+    pub fn comparison(&self, tokens: &mut Tokens<'_>) -> Result<Boxed<Expr>, ParseError>
         requires { Nests self.now.depth (F.pre self.now.nested) (F.post self.now.nested) }
         ensures { Met (reading self.now.depth rules.comparison (cursor_of tokens.old)) result (cursor_of tokens.new) }
     {
@@ -328,35 +360,31 @@ impl<F: Fn(Global, &mut Tokens<'_>, usize, Symbol) -> Result<Value, ParseError>>
         self.comparison_rest(tokens, from, left)
     }
 
+    /// How a chain of `==`, `!=` goes on behind its first operand.
     #[tactic(auto, using(crate::proofs::Steps::equality_rest_is))]
     pub fn equality_rest(
         &self,
         tokens: &mut Tokens<'_>,
         from: Span,
-        mut left: Expr,
-    ) -> Result<Expr, ParseError>
+        mut left: Boxed<Expr>,
+    ) -> Result<Boxed<Expr>, ParseError>
         requires { Nests self.now.depth (F.pre self.now.nested) (F.post self.now.nested) }
         ensures { Met (then (build.chained from left) (reading self.now.depth rules.equality_rest (cursor_of tokens.old))) result (cursor_of tokens.new) }
     {
         for _turn in 0..tokens.len() {
-            if !tokens.starts(&[EQUAL, NOT_EQUAL]) {
+            if !tokens.starts(&[Kind::Equal, Kind::NotEqual]) {
                 return Ok(left);
             }
-            let operator = tokens.open(&[EQUAL, NOT_EQUAL])?;
+            let operator = tokens.operator(&[Kind::Equal, Kind::NotEqual])?;
             let right = self.comparison(tokens)?;
-            left = binary_node(
-                self.alloc,
-                tokens.since(from),
-                code(operator.kind),
-                left,
-                right,
-            )?;
+            left = binary_node(self.alloc, tokens.since(from), operator, left, right)?;
         }
         Ok(left)
     }
 
-    #[tactic(auto, using(crate::proofs::Steps::equality_is))]
-    pub fn equality(&self, tokens: &mut Tokens<'_>) -> Result<Expr, ParseError>
+    /// A chain of `==`, `!=`.
+    #[tactic(auto, unfolding(asl_grammar::specs::grammar::Rules::equality, crate::specs::Code::then))]
+    pub fn equality(&self, tokens: &mut Tokens<'_>) -> Result<Boxed<Expr>, ParseError>
         requires { Nests self.now.depth (F.pre self.now.nested) (F.post self.now.nested) }
         ensures { Met (reading self.now.depth rules.equality (cursor_of tokens.old)) result (cursor_of tokens.new) }
     {
@@ -365,96 +393,91 @@ impl<F: Fn(Global, &mut Tokens<'_>, usize, Symbol) -> Result<Value, ParseError>>
         self.equality_rest(tokens, from, left)
     }
 
+    /// How a chain of one logical operator goes on.
     #[tactic(auto, using(crate::proofs::Steps::links_by_is))]
     pub fn links_by(
         &self,
         tokens: &mut Tokens<'_>,
         from: Span,
-        mut left: Expr,
-        operator: u8,
-    ) -> Result<Expr, ParseError>
-        requires { Nests self.now.depth (F.pre self.now.nested) (F.post self.now.nested) }
-        ensures { Met (then (build.chained from left) (reading self.now.depth (rules.links_by operator) (cursor_of tokens.old))) result (cursor_of tokens.new) }
+        mut left: Boxed<Expr>,
+        kind: Kind,
+    ) -> Result<Boxed<Expr>, ParseError>
+        requires nests { Nests self.now.depth (F.pre self.now.nested) (F.post self.now.nested) }
+        requires operator { covers binary_kinds (kind ∷ []) ≡ true }
+        ensures { Met (then (build.chained from left) (reading self.now.depth (rules.links_by kind) (cursor_of tokens.old))) result (cursor_of tokens.new) }
     {
         for _turn in 0..tokens.len() {
-            if !tokens.starts(&[operator]) {
+            if !tokens.starts(&[kind]) {
                 return Ok(left);
             }
-            let token = tokens.open(&[operator])?;
+            let operator = tokens.operator(&[kind])?;
             let right = self.equality(tokens)?;
-            left = binary_node(
-                self.alloc,
-                tokens.since(from),
-                code(token.kind),
-                left,
-                right,
-            )?;
+            left = binary_node(self.alloc, tokens.since(from), operator, left, right)?;
         }
         Ok(left)
     }
 
+    /// One logical operator with its operand, and how its chain goes on.
     #[tactic(auto, using(crate::proofs::Tails::some_links_by_is))]
     pub fn some_links_by(
         &self,
         tokens: &mut Tokens<'_>,
         from: Span,
-        left: Expr,
-        operator: u8,
-    ) -> Result<Expr, ParseError>
-        requires { Nests self.now.depth (F.pre self.now.nested) (F.post self.now.nested) }
-        ensures { Met (then (build.chained from left) (reading self.now.depth (rules.some_links_by operator) (cursor_of tokens.old))) result (cursor_of tokens.new) }
+        left: Boxed<Expr>,
+        kind: Kind,
+    ) -> Result<Boxed<Expr>, ParseError>
+        requires nests { Nests self.now.depth (F.pre self.now.nested) (F.post self.now.nested) }
+        requires operator { covers binary_kinds (kind ∷ []) ≡ true }
+        ensures { Met (then (build.chained from left) (reading self.now.depth (rules.some_links_by kind) (cursor_of tokens.old))) result (cursor_of tokens.new) }
     {
-        let token = tokens.open(&[operator])?;
+        let operator = tokens.operator(&[kind])?;
         let right = self.equality(tokens)?;
-        let whole = binary_node(
-            self.alloc,
-            tokens.since(from),
-            code(token.kind),
-            left,
-            right,
-        )?;
-        self.links_by(tokens, from, whole, operator)
+        let whole = binary_node(self.alloc, tokens.since(from), operator, left, right)?;
+        self.links_by(tokens, from, whole, kind)
     }
 
+    /// A chain of one of the logical operators.
     #[tactic(auto, using(crate::proofs::Tails::logic_links_is))]
     pub fn logic_links(
         &self,
         tokens: &mut Tokens<'_>,
         from: Span,
-        left: Expr,
-    ) -> Result<Expr, ParseError>
+        left: Boxed<Expr>,
+    ) -> Result<Boxed<Expr>, ParseError>
         requires { Nests self.now.depth (F.pre self.now.nested) (F.post self.now.nested) }
         ensures { Met (then (build.chained from left) (reading self.now.depth rules.logic_links (cursor_of tokens.old))) result (cursor_of tokens.new) }
     {
-        if tokens.starts(&[AND_AND]) {
-            self.some_links_by(tokens, from, left, AND_AND)
-        } else if tokens.starts(&[OR_OR]) {
-            self.some_links_by(tokens, from, left, OR_OR)
-        } else if tokens.starts(&[IMPLIES]) {
-            self.some_links_by(tokens, from, left, IMPLIES)
+        if tokens.starts(&[Kind::AndAnd]) {
+            self.some_links_by(tokens, from, left, Kind::AndAnd)
+        } else if tokens.starts(&[Kind::OrOr]) {
+            self.some_links_by(tokens, from, left, Kind::OrOr)
+        } else if tokens.starts(&[Kind::Implies]) {
+            self.some_links_by(tokens, from, left, Kind::Implies)
         } else {
-            self.some_links_by(tokens, from, left, IFF)
+            self.some_links_by(tokens, from, left, Kind::Iff)
         }
     }
 
+    /// A chain of one of the logical operators, if there is one.
     #[tactic(auto, using(crate::proofs::Tails::logic_rest_on))]
     pub fn logic_rest(
         &self,
         tokens: &mut Tokens<'_>,
         from: Span,
-        left: Expr,
-    ) -> Result<Expr, ParseError>
+        left: Boxed<Expr>,
+    ) -> Result<Boxed<Expr>, ParseError>
         requires { Nests self.now.depth (F.pre self.now.nested) (F.post self.now.nested) }
         ensures { Met (then (build.logically from left) (reading self.now.depth rules.logic_rest (cursor_of tokens.old))) result (cursor_of tokens.new) }
     {
-        if !tokens.starts(&[AND_AND, OR_OR, IMPLIES, IFF]) {
+        if !tokens.starts(&[Kind::AndAnd, Kind::OrOr, Kind::Implies, Kind::Iff]) {
             return Ok(left);
         }
         self.logic_links(tokens, from, left)
     }
 
-    #[tactic(auto, using(crate::proofs::Steps::logic_is))]
-    pub fn logic(&self, tokens: &mut Tokens<'_>) -> Result<Expr, ParseError>
+    /// A chain of `&&`, of `||`, of `-->` or of `<->`.
+    #[tactic(auto, unfolding(asl_grammar::specs::grammar::Rules::logic, crate::specs::Code::then))]
+    pub fn logic(&self, tokens: &mut Tokens<'_>) -> Result<Boxed<Expr>, ParseError>
         requires { Nests self.now.depth (F.pre self.now.nested) (F.post self.now.nested) }
         ensures { Met (reading self.now.depth rules.logic (cursor_of tokens.old)) result (cursor_of tokens.new) }
     {
@@ -463,29 +486,31 @@ impl<F: Fn(Global, &mut Tokens<'_>, usize, Symbol) -> Result<Value, ParseError>>
         self.logic_rest(tokens, from, left)
     }
 
+    /// Types behind `as`, as many as there are.
     #[tactic(auto, using(crate::proofs::Steps::as_rest_is))]
     pub fn as_rest(
         &self,
         tokens: &mut Tokens<'_>,
         from: Span,
-        mut left: Expr,
-    ) -> Result<Expr, ParseError>
+        mut left: Boxed<Expr>,
+    ) -> Result<Boxed<Expr>, ParseError>
         requires { Nests self.now.depth (F.pre self.now.nested) (F.post self.now.nested) }
         ensures { Met (then (build.as_chained from left) (reading self.now.depth rules.as_rest (cursor_of tokens.old))) result (cursor_of tokens.new) }
     {
         for _turn in 0..tokens.len() {
-            if !tokens.starts(&[AS]) {
+            if !tokens.starts(&[Kind::As]) {
                 return Ok(left);
             }
-            tokens.open(&[AS])?;
+            tokens.open(&[Kind::As])?;
             let ty = self.as_type(tokens)?;
             left = as_node(self.alloc, tokens.since(from), left, ty)?;
         }
         Ok(left)
     }
 
-    #[tactic(auto, using(crate::proofs::Steps::as_chain_is))]
-    pub fn as_chain(&self, tokens: &mut Tokens<'_>) -> Result<Expr, ParseError>
+    /// An expression that is no `if` expression, inside a greater one.
+    #[tactic(auto, unfolding(asl_grammar::specs::grammar::Rules::as_chain, crate::specs::Code::then))]
+    pub fn as_chain(&self, tokens: &mut Tokens<'_>) -> Result<Boxed<Expr>, ParseError>
         requires { Nests self.now.depth (F.pre self.now.nested) (F.post self.now.nested) }
         ensures { Met (reading self.now.depth rules.as_chain (cursor_of tokens.old)) result (cursor_of tokens.new) }
     {
@@ -494,54 +519,50 @@ impl<F: Fn(Global, &mut Tokens<'_>, usize, Symbol) -> Result<Value, ParseError>>
         self.as_rest(tokens, from, left)
     }
 
-    /// A word of an `if` expression, and the expression behind it.
-    #[tactic(auto, unfolding(crate::specs::Branches::branch))]
-    fn branch_behind(&self, tokens: &mut Tokens<'_>, word: u8) -> Result<Expr, ParseError>
-        requires { Nests self.now.depth (F.pre self.now.nested) (F.post self.now.nested) }
-        ensures { Met (branch self.now.depth (word ∷ []) (cursor_of tokens.old)) result (cursor_of tokens.new) }
-    {
-        tokens.take(&[word])?;
-        self.open_expression(tokens)
-    }
-
-    #[tactic(auto, using(crate::proofs::Branching::if_parts_as))]
-    pub fn if_parts(&self, tokens: &mut Tokens<'_>) -> Result<(Expr, Expr, Expr), ParseError>
+    /// The parts of an `if` expression.
+    #[tactic(auto, unfolding(asl_grammar::specs::grammar::Rules::if_parts))]
+    pub fn if_parts(
+        &self,
+        tokens: &mut Tokens<'_>,
+    ) -> Result<(Boxed<Expr>, Boxed<Expr>, Boxed<Expr>), ParseError>
         requires { Nests self.now.depth (F.pre self.now.nested) (F.post self.now.nested) }
         ensures { Met (reading self.now.depth rules.if_parts (cursor_of tokens.old)) result (cursor_of tokens.new) }
     {
         let condition = self.open_expression(tokens)?;
-        let then = self.branch_behind(tokens, THEN)?;
-        let other = self.branch_behind(tokens, ELSE)?;
+        tokens.take(&[Kind::Then])?;
+        let then = self.open_expression(tokens)?;
+        tokens.take(&[Kind::Else])?;
+        let other = self.open_expression(tokens)?;
         Ok((condition, then, other))
     }
 
     /// An `if` expression: its level ends with it, and those of operators in it do not.
     #[tactic(auto, using(crate::proofs::Steps::conditional_is, crate::proofs::Rooms::if_room))]
-    pub fn conditional(&self, tokens: &mut Tokens<'_>) -> Result<Expr, ParseError>
+    pub fn conditional(&self, tokens: &mut Tokens<'_>) -> Result<Boxed<Expr>, ParseError>
         requires { Nests self.now.depth (F.pre self.now.nested) (F.post self.now.nested) }
         ensures { Met (reading self.now.depth rules.conditional (cursor_of tokens.old)) result (cursor_of tokens.new) }
     {
         let from = tokens.ahead();
         let left = tokens.left;
-        tokens.open(&[IF])?;
-        let (condition, then, other) = self.nested_if(tokens)?;
+        tokens.open(&[Kind::If])?;
+        let (condition, then, other) = match self.value(tokens, Symbol::IfParts)? {
+            Value::Branches(first, second, third) => (first, second, third),
+            _ => unreachable!(),
+        };
         prove!(tokens.left < left);
         tokens.left += 1;
         let span = tokens.since(from);
-        Ok(Expr::Conditional(
-            span,
-            Boxed::new(self.alloc, condition)?,
-            Boxed::new(self.alloc, then)?,
-            Boxed::new(self.alloc, other)?,
-        ))
+        let whole = Expr::Conditional(span, condition, then, other);
+        Ok(Boxed::new(self.alloc, whole)?)
     }
 
-    #[tactic(auto, using(crate::proofs::Steps::open_expression_is))]
-    pub fn open_expression(&self, tokens: &mut Tokens<'_>) -> Result<Expr, ParseError>
+    /// An expression inside a greater one: the levels of its operators stay open.
+    #[tactic(auto, unfolding(asl_grammar::specs::grammar::Rules::open_expression, asl_grammar::specs::grammar::Rules::conditional))]
+    pub fn open_expression(&self, tokens: &mut Tokens<'_>) -> Result<Boxed<Expr>, ParseError>
         requires { Nests self.now.depth (F.pre self.now.nested) (F.post self.now.nested) }
         ensures { Met (reading self.now.depth rules.open_expression (cursor_of tokens.old)) result (cursor_of tokens.new) }
     {
-        if tokens.starts(&[IF]) {
+        if tokens.starts(&[Kind::If]) {
             self.conditional(tokens)
         } else {
             self.as_chain(tokens)
@@ -549,8 +570,8 @@ impl<F: Fn(Global, &mut Tokens<'_>, usize, Symbol) -> Result<Value, ParseError>>
     }
 
     /// An outermost expression: the levels of its operators end with it.
-    #[tactic(auto, using(crate::proofs::Steps::expression_is))]
-    pub fn expression(&self, tokens: &mut Tokens<'_>) -> Result<Expr, ParseError>
+    #[tactic(auto, unfolding(asl_grammar::specs::grammar::Rules::expression))]
+    pub fn expression(&self, tokens: &mut Tokens<'_>) -> Result<Boxed<Expr>, ParseError>
         requires { Nests self.now.depth (F.pre self.now.nested) (F.post self.now.nested) }
         ensures { Met (reading self.now.depth rules.expression (cursor_of tokens.old)) result (cursor_of tokens.new) }
     {
@@ -562,7 +583,12 @@ impl<F: Fn(Global, &mut Tokens<'_>, usize, Symbol) -> Result<Value, ParseError>>
 
     /// How an expression goes on behind its first operand.
     #[tactic(auto, using(crate::proofs::Tails::rest_is))]
-    pub fn rest(&self, tokens: &mut Tokens<'_>, from: Span, left: Expr) -> Result<Expr, ParseError>
+    pub fn rest(
+        &self,
+        tokens: &mut Tokens<'_>,
+        from: Span,
+        left: Boxed<Expr>,
+    ) -> Result<Boxed<Expr>, ParseError>
         requires { Nests self.now.depth (F.pre self.now.nested) (F.post self.now.nested) }
         ensures { Met (then (build.finished from left) (reading self.now.depth rules.rest (cursor_of tokens.old))) result (cursor_of tokens.new) }
     {
@@ -586,42 +612,43 @@ impl<F: Fn(Global, &mut Tokens<'_>, usize, Symbol) -> Result<Value, ParseError>>
         ensures { Met (then (build.behind found) (reading self.now.depth rules.more_expressions (cursor_of tokens.old))) result (cursor_of tokens.new) }
     {
         for _turn in 0..tokens.len() {
-            if !tokens.starts(&[COMMA]) {
+            if !tokens.starts(&[Kind::Comma]) {
                 return Ok(found);
             }
-            tokens.take(&[COMMA])?;
-            found.push(self.expression(tokens)?)?;
+            tokens.take(&[Kind::Comma])?;
+            found.push(self.expression(tokens)?.into_inner())?;
         }
         Ok(found)
     }
 
-    #[tactic(auto, using(crate::proofs::Steps::expressions_is))]
+    /// Expressions with commas between.
+    #[tactic(auto, unfolding(asl_grammar::specs::grammar::Rules::expressions, crate::specs::Code::then))]
     pub fn expressions(&self, tokens: &mut Tokens<'_>) -> Result<Items<Expr>, ParseError>
         requires { Nests self.now.depth (F.pre self.now.nested) (F.post self.now.nested) }
         ensures { Met (reading self.now.depth rules.expressions (cursor_of tokens.old)) result (cursor_of tokens.new) }
     {
         let mut found = Items::new(self.alloc);
-        found.push(self.expression(tokens)?)?;
+        found.push(self.expression(tokens)?.into_inner())?;
         self.more_expressions(tokens, found)
     }
 
     /// Expressions with commas between, or none.
-    #[tactic(auto, using(crate::proofs::Steps::maybe_expressions_is))]
+    #[tactic(auto, unfolding(asl_grammar::specs::grammar::Rules::maybe_expressions, asl_grammar::specs::grammar::Rules::expressions, asl_grammar::specs::grammar::Rules::expression, asl_grammar::specs::grammar::Rules::open_expression, asl_grammar::specs::grammar::Rules::conditional, asl_grammar::specs::grammar::Rules::as_chain, asl_grammar::specs::grammar::Rules::logic, asl_grammar::specs::grammar::Rules::equality, asl_grammar::specs::grammar::Rules::comparison, asl_grammar::specs::grammar::Rules::sum, asl_grammar::specs::grammar::Rules::product, asl_grammar::specs::grammar::Rules::power, asl_grammar::specs::grammar::Rules::unary, asl_grammar::specs::grammar::Rules::prefixed_by, asl_grammar::specs::grammar::Rules::post_literal, asl_grammar::specs::grammar::Rules::literal, asl_grammar::specs::grammar::Rules::integer_literal, asl_grammar::specs::grammar::Rules::bits_literal, asl_grammar::specs::grammar::Rules::boolean_literal, asl_grammar::specs::grammar::Rules::post_parenthesized, asl_grammar::specs::grammar::Rules::parenthesized, asl_grammar::specs::grammar::Rules::post_named, asl_grammar::specs::grammar::Rules::named, asl_grammar::specs::grammar::Rules::name))]
     pub fn maybe_expressions(&self, tokens: &mut Tokens<'_>) -> Result<Items<Expr>, ParseError>
         requires { Nests self.now.depth (F.pre self.now.nested) (F.post self.now.nested) }
         ensures { Met (reading self.now.depth rules.maybe_expressions (cursor_of tokens.old)) result (cursor_of tokens.new) }
     {
         if !tokens.starts(&[
-            IF,
-            MINUS,
-            BANG,
-            NOT,
-            INTEGER_LITERAL,
-            BITS_LITERAL,
-            TRUE,
-            FALSE,
-            OPEN_PAREN,
-            NAME,
+            Kind::If,
+            Kind::Minus,
+            Kind::Bang,
+            Kind::Not,
+            Kind::IntegerLiteral,
+            Kind::BitsLiteral,
+            Kind::True,
+            Kind::False,
+            Kind::OpenParen,
+            Kind::Name,
         ]) {
             return Ok(Items::new(self.alloc));
         }
@@ -629,26 +656,26 @@ impl<F: Fn(Global, &mut Tokens<'_>, usize, Symbol) -> Result<Value, ParseError>>
     }
 
     /// An expression, or none.
-    #[tactic(auto, using(crate::proofs::Steps::maybe_expression_is))]
+    #[tactic(auto, unfolding(asl_grammar::specs::grammar::Rules::maybe_expression, asl_grammar::specs::grammar::Rules::expression, asl_grammar::specs::grammar::Rules::open_expression, asl_grammar::specs::grammar::Rules::conditional, asl_grammar::specs::grammar::Rules::as_chain, asl_grammar::specs::grammar::Rules::logic, asl_grammar::specs::grammar::Rules::equality, asl_grammar::specs::grammar::Rules::comparison, asl_grammar::specs::grammar::Rules::sum, asl_grammar::specs::grammar::Rules::product, asl_grammar::specs::grammar::Rules::power, asl_grammar::specs::grammar::Rules::unary, asl_grammar::specs::grammar::Rules::prefixed_by, asl_grammar::specs::grammar::Rules::post_literal, asl_grammar::specs::grammar::Rules::literal, asl_grammar::specs::grammar::Rules::integer_literal, asl_grammar::specs::grammar::Rules::bits_literal, asl_grammar::specs::grammar::Rules::boolean_literal, asl_grammar::specs::grammar::Rules::post_parenthesized, asl_grammar::specs::grammar::Rules::parenthesized, asl_grammar::specs::grammar::Rules::post_named, asl_grammar::specs::grammar::Rules::named, asl_grammar::specs::grammar::Rules::name))]
     pub fn maybe_expression(&self, tokens: &mut Tokens<'_>) -> Result<Option<Expr>, ParseError>
         requires { Nests self.now.depth (F.pre self.now.nested) (F.post self.now.nested) }
         ensures { Met (reading self.now.depth rules.maybe_expression (cursor_of tokens.old)) result (cursor_of tokens.new) }
     {
         if !tokens.starts(&[
-            IF,
-            MINUS,
-            BANG,
-            NOT,
-            INTEGER_LITERAL,
-            BITS_LITERAL,
-            TRUE,
-            FALSE,
-            OPEN_PAREN,
-            NAME,
+            Kind::If,
+            Kind::Minus,
+            Kind::Bang,
+            Kind::Not,
+            Kind::IntegerLiteral,
+            Kind::BitsLiteral,
+            Kind::True,
+            Kind::False,
+            Kind::OpenParen,
+            Kind::Name,
         ]) {
             return Ok(None);
         }
-        Ok(Some(self.expression(tokens)?))
+        Ok(Some(self.expression(tokens)?.into_inner()))
     }
 }
 
@@ -656,12 +683,12 @@ impl<F: Fn(Global, &mut Tokens<'_>, usize, Symbol) -> Result<Value, ParseError>>
 pub fn expression(alloc: Global, tokens: &mut Tokens<'_>, depth: usize) -> Result<Expr, ParseError>
     ensures { Met (reading depth rules.expression (cursor_of tokens.old)) result (cursor_of tokens.new) }
 {
-    Grammar {
+    let grammar = Grammar {
         alloc,
         depth,
         nested,
-    }
-    .expression(tokens)
+    };
+    Ok(grammar.expression(tokens)?.into_inner())
 }
 
 /// An expression, or none.

@@ -1,5 +1,8 @@
 //! The rules of expressions, patterns and types nest in each other. Their functions take the reader of what is nested as
 //! a parameter, so that each stands on the functions before it alone.
+//!
+//! An expression is passed as a `Boxed` one: to drop it is then one call, where the drop of a bare tree is written out at
+//! each place at which a function may return early, and its proof goes through all of that.
 
 ghost use Rattle.std.specs.Prelude.{◌≡◌};
 ghost use Rattle.asl_grammar.specs.grammar.Rules as rules;
@@ -10,7 +13,7 @@ use crate::tokens::Tokens;
 use asl_grammar::error::ParseError;
 use asl_grammar::parts::Braces;
 use asl_syn::tree::{Bitfield, ConstraintPart, Expr, Pattern, Suffix, TypeExpr};
-use sqlite_items::Items;
+use sqlite_items::{Boxed, Items};
 use std::alloc::Global;
 
 /// What is nested: what stands behind a token that opens a level.
@@ -49,14 +52,14 @@ pub enum Symbol {
 pub enum Value {
     Expressions(Items<Expr>),
     Braces(Braces),
-    Expr(Expr),
-    Branches(Expr, Expr, Expr),
+    Expr(Boxed<Expr>),
+    Branches(Boxed<Expr>, Boxed<Expr>, Boxed<Expr>),
     Suffix(Suffix),
     Patterns(Items<Pattern>),
     Constraint(Items<ConstraintPart>),
     Bitfields(Items<Bitfield>),
     Types(Items<TypeExpr>),
-    Array(Expr, TypeExpr),
+    Array(Boxed<Expr>, TypeExpr),
 }
 
 /// The rules, where things may nest so deep below.
@@ -68,157 +71,12 @@ pub struct Grammar<F> {
 }
 
 impl<F: Fn(Global, &mut Tokens<'_>, usize, Symbol) -> Result<Value, ParseError>> Grammar<F> {
-    fn value(&self, tokens: &mut Tokens<'_>, what: Symbol) -> Result<Value, ParseError>
+    /// What stands behind a token that opened a level: the value's variant is that of the symbol.
+    pub fn value(&self, tokens: &mut Tokens<'_>, what: Symbol) -> Result<Value, ParseError>
         requires { Nests self.now.depth (F.pre self.now.nested) (F.post self.now.nested) }
         ensures { MetValue what self.now.depth (cursor_of tokens.old) result (cursor_of tokens.new) }
     {
         (self.nested)(self.alloc, tokens, self.depth, what)
-    }
-
-    /// Behind `(` of an expression.
-    pub fn nested_parenthesized(&self, tokens: &mut Tokens<'_>) -> Result<Items<Expr>, ParseError>
-        requires { Nests self.now.depth (F.pre self.now.nested) (F.post self.now.nested) }
-        ensures { Met (symbol self.now.depth rules.Parenthesized (cursor_of tokens.old)) result (cursor_of tokens.new) }
-    {
-        match self.value(tokens, Symbol::Parenthesized)? {
-            Value::Expressions(found) => Ok(found),
-            _ => unreachable!(),
-        }
-    }
-
-    /// Behind `(` of a call.
-    pub fn nested_arguments(&self, tokens: &mut Tokens<'_>) -> Result<Items<Expr>, ParseError>
-        requires { Nests self.now.depth (F.pre self.now.nested) (F.post self.now.nested) }
-        ensures { Met (symbol self.now.depth rules.Arguments (cursor_of tokens.old)) result (cursor_of tokens.new) }
-    {
-        match self.value(tokens, Symbol::Arguments)? {
-            Value::Expressions(found) => Ok(found),
-            _ => unreachable!(),
-        }
-    }
-
-    /// Behind `{` after a name.
-    pub fn nested_braced(&self, tokens: &mut Tokens<'_>) -> Result<Braces, ParseError>
-        requires { Nests self.now.depth (F.pre self.now.nested) (F.post self.now.nested) }
-        ensures { Met (symbol self.now.depth rules.Braced (cursor_of tokens.old)) result (cursor_of tokens.new) }
-    {
-        match self.value(tokens, Symbol::Braced)? {
-            Value::Braces(found) => Ok(found),
-            _ => unreachable!(),
-        }
-    }
-
-    /// Behind a prefix operator.
-    pub fn nested_operand(&self, tokens: &mut Tokens<'_>) -> Result<Expr, ParseError>
-        requires { Nests self.now.depth (F.pre self.now.nested) (F.post self.now.nested) }
-        ensures { Met (symbol self.now.depth rules.Operand (cursor_of tokens.old)) result (cursor_of tokens.new) }
-    {
-        match self.value(tokens, Symbol::Operand)? {
-            Value::Expr(found) => Ok(found),
-            _ => unreachable!(),
-        }
-    }
-
-    /// Behind `if` of an expression.
-    pub fn nested_if(&self, tokens: &mut Tokens<'_>) -> Result<(Expr, Expr, Expr), ParseError>
-        requires { Nests self.now.depth (F.pre self.now.nested) (F.post self.now.nested) }
-        ensures { Met (symbol self.now.depth rules.IfParts (cursor_of tokens.old)) result (cursor_of tokens.new) }
-    {
-        match self.value(tokens, Symbol::IfParts)? {
-            Value::Branches(first, second, third) => Ok((first, second, third)),
-            _ => unreachable!(),
-        }
-    }
-
-    /// Behind `[` of a suffix.
-    pub fn nested_bracketed(&self, tokens: &mut Tokens<'_>) -> Result<Suffix, ParseError>
-        requires { Nests self.now.depth (F.pre self.now.nested) (F.post self.now.nested) }
-        ensures { Met (symbol self.now.depth rules.Bracketed (cursor_of tokens.old)) result (cursor_of tokens.new) }
-    {
-        match self.value(tokens, Symbol::Bracketed)? {
-            Value::Suffix(found) => Ok(found),
-            _ => unreachable!(),
-        }
-    }
-
-    /// Behind `(` of `bits`.
-    pub fn nested_width(&self, tokens: &mut Tokens<'_>) -> Result<Expr, ParseError>
-        requires { Nests self.now.depth (F.pre self.now.nested) (F.post self.now.nested) }
-        ensures { Met (symbol self.now.depth rules.Width (cursor_of tokens.old)) result (cursor_of tokens.new) }
-    {
-        match self.value(tokens, Symbol::Width)? {
-            Value::Expr(found) => Ok(found),
-            _ => unreachable!(),
-        }
-    }
-
-    /// Behind `{` of a set.
-    pub fn nested_set(&self, tokens: &mut Tokens<'_>) -> Result<Items<Pattern>, ParseError>
-        requires { Nests self.now.depth (F.pre self.now.nested) (F.post self.now.nested) }
-        ensures { Met (symbol self.now.depth rules.SetParts (cursor_of tokens.old)) result (cursor_of tokens.new) }
-    {
-        match self.value(tokens, Symbol::SetParts)? {
-            Value::Patterns(found) => Ok(found),
-            _ => unreachable!(),
-        }
-    }
-
-    /// Behind `(` of a pattern.
-    pub fn nested_patterns(&self, tokens: &mut Tokens<'_>) -> Result<Items<Pattern>, ParseError>
-        requires { Nests self.now.depth (F.pre self.now.nested) (F.post self.now.nested) }
-        ensures { Met (symbol self.now.depth rules.PatternParts (cursor_of tokens.old)) result (cursor_of tokens.new) }
-    {
-        match self.value(tokens, Symbol::PatternParts)? {
-            Value::Patterns(found) => Ok(found),
-            _ => unreachable!(),
-        }
-    }
-
-    /// Behind `{` of a constraint.
-    pub fn nested_constraint(
-        &self,
-        tokens: &mut Tokens<'_>,
-    ) -> Result<Items<ConstraintPart>, ParseError>
-        requires { Nests self.now.depth (F.pre self.now.nested) (F.post self.now.nested) }
-        ensures { Met (symbol self.now.depth rules.ConstraintParts (cursor_of tokens.old)) result (cursor_of tokens.new) }
-    {
-        match self.value(tokens, Symbol::ConstraintParts)? {
-            Value::Constraint(found) => Ok(found),
-            _ => unreachable!(),
-        }
-    }
-
-    /// Behind `{` of a `bits` type.
-    pub fn nested_bitfields(&self, tokens: &mut Tokens<'_>) -> Result<Items<Bitfield>, ParseError>
-        requires { Nests self.now.depth (F.pre self.now.nested) (F.post self.now.nested) }
-        ensures { Met (symbol self.now.depth rules.Bitfields (cursor_of tokens.old)) result (cursor_of tokens.new) }
-    {
-        match self.value(tokens, Symbol::Bitfields)? {
-            Value::Bitfields(found) => Ok(found),
-            _ => unreachable!(),
-        }
-    }
-
-    /// Behind `(` of a type.
-    pub fn nested_types(&self, tokens: &mut Tokens<'_>) -> Result<Items<TypeExpr>, ParseError>
-        requires { Nests self.now.depth (F.pre self.now.nested) (F.post self.now.nested) }
-        ensures { Met (symbol self.now.depth rules.TypeParts (cursor_of tokens.old)) result (cursor_of tokens.new) }
-    {
-        match self.value(tokens, Symbol::TypeParts)? {
-            Value::Types(found) => Ok(found),
-            _ => unreachable!(),
-        }
-    }
-
-    /// Behind `array`.
-    pub fn nested_array(&self, tokens: &mut Tokens<'_>) -> Result<(Expr, TypeExpr), ParseError>
-        requires { Nests self.now.depth (F.pre self.now.nested) (F.post self.now.nested) }
-        ensures { Met (symbol self.now.depth rules.ArrayParts (cursor_of tokens.old)) result (cursor_of tokens.new) }
-    {
-        match self.value(tokens, Symbol::ArrayParts)? {
-            Value::Array(first, second) => Ok((first, second)),
-            _ => unreachable!(),
-        }
     }
 }
 

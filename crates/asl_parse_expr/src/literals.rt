@@ -7,11 +7,12 @@ ghost use Rattle.asl_parse_expr.specs.Code.{cursor_of, Met, reading};
 
 use crate::tokens::{Tokens, text_at};
 use asl_grammar::error::ParseError;
-use asl_grammar::kinds::{BITS_LITERAL, FALSE, INTEGER_LITERAL, MASK_LITERAL, TRUE, code};
+use asl_grammar::kinds::{Kind, kind_of};
 use asl_syn::token::TokenKind;
 use asl_syn::tree::{Expr, Pattern};
 use std::alloc::Global;
 
+/// The value of a literal of an integer.
 fn int_of(kind: TokenKind) -> u128
     ensures { result ≡ build.int_of kind }
 {
@@ -21,39 +22,42 @@ fn int_of(kind: TokenKind) -> u128
     }
 }
 
-#[tactic(auto, using(crate::proofs::Steps::integer_literal_is))]
+/// A literal of an integer.
+#[tactic(auto, unfolding(asl_grammar::specs::grammar::Rules::integer_literal))]
 fn integer_literal(tokens: &mut Tokens<'_>, depth: usize) -> Result<Expr, ParseError>
     ensures { Met (reading depth rules.integer_literal (cursor_of tokens.old)) result (cursor_of tokens.new) }
 {
-    let token = tokens.take(&[INTEGER_LITERAL])?;
+    let token = tokens.take(&[Kind::IntegerLiteral])?;
     Ok(Expr::Int(token.span, int_of(token.kind)))
 }
 
-#[tactic(auto, using(crate::proofs::Steps::bits_literal_is))]
+/// A literal of bits.
+#[tactic(auto, unfolding(asl_grammar::specs::grammar::Rules::bits_literal))]
 fn bits_literal(alloc: Global, tokens: &mut Tokens<'_>, depth: usize) -> Result<Expr, ParseError>
     ensures { Met (reading depth rules.bits_literal (cursor_of tokens.old)) result (cursor_of tokens.new) }
 {
     let bytes = tokens.bytes;
-    let token = tokens.take(&[BITS_LITERAL])?;
+    let token = tokens.take(&[Kind::BitsLiteral])?;
     Ok(Expr::Bits(token.span, text_at(alloc, bytes, token.span)?))
 }
 
-#[tactic(auto, using(crate::proofs::Steps::boolean_literal_is))]
+/// `TRUE` or `FALSE`.
+#[tactic(auto, unfolding(asl_grammar::specs::grammar::Rules::boolean_literal))]
 fn boolean_literal(tokens: &mut Tokens<'_>, depth: usize) -> Result<Expr, ParseError>
     ensures { Met (reading depth rules.boolean_literal (cursor_of tokens.old)) result (cursor_of tokens.new) }
 {
-    let token = tokens.take(&[TRUE, FALSE])?;
-    Ok(Expr::Bool(token.span, code(token.kind) == TRUE))
+    let token = tokens.take(&[Kind::True, Kind::False])?;
+    Ok(Expr::Bool(token.span, kind_of(token.kind) == Kind::True))
 }
 
 /// A literal that is an expression.
-#[tactic(auto, using(crate::proofs::Steps::literal_is))]
+#[tactic(auto, unfolding(asl_grammar::specs::grammar::Rules::literal, asl_grammar::specs::grammar::Rules::integer_literal, asl_grammar::specs::grammar::Rules::bits_literal))]
 pub fn literal(alloc: Global, tokens: &mut Tokens<'_>, depth: usize) -> Result<Expr, ParseError>
     ensures { Met (reading depth rules.literal (cursor_of tokens.old)) result (cursor_of tokens.new) }
 {
-    if tokens.starts(&[INTEGER_LITERAL]) {
+    if tokens.starts(&[Kind::IntegerLiteral]) {
         integer_literal(tokens, depth)
-    } else if tokens.starts(&[BITS_LITERAL]) {
+    } else if tokens.starts(&[Kind::BitsLiteral]) {
         bits_literal(alloc, tokens, depth)
     } else {
         boolean_literal(tokens, depth)
@@ -61,7 +65,7 @@ pub fn literal(alloc: Global, tokens: &mut Tokens<'_>, depth: usize) -> Result<E
 }
 
 /// A literal of bits as a pattern.
-#[tactic(auto, using(crate::proofs::Steps::bits_pattern_is))]
+#[tactic(auto, unfolding(asl_grammar::specs::grammar::Rules::bits_pattern))]
 pub fn bits_pattern(
     alloc: Global,
     tokens: &mut Tokens<'_>,
@@ -70,13 +74,13 @@ pub fn bits_pattern(
     ensures { Met (reading depth rules.bits_pattern (cursor_of tokens.old)) result (cursor_of tokens.new) }
 {
     let bytes = tokens.bytes;
-    let token = tokens.take(&[BITS_LITERAL])?;
+    let token = tokens.take(&[Kind::BitsLiteral])?;
     let value = Expr::Bits(token.span, text_at(alloc, bytes, token.span)?);
     Ok(Pattern::ValuePattern(token.span, value))
 }
 
 /// A mask.
-#[tactic(auto, using(crate::proofs::Steps::mask_pattern_is))]
+#[tactic(auto, unfolding(asl_grammar::specs::grammar::Rules::mask_pattern))]
 pub fn mask_pattern(
     alloc: Global,
     tokens: &mut Tokens<'_>,
@@ -85,6 +89,6 @@ pub fn mask_pattern(
     ensures { Met (reading depth rules.mask_pattern (cursor_of tokens.old)) result (cursor_of tokens.new) }
 {
     let bytes = tokens.bytes;
-    let token = tokens.take(&[MASK_LITERAL])?;
+    let token = tokens.take(&[Kind::MaskLiteral])?;
     Ok(Pattern::MaskPattern(token.span, text_at(alloc, bytes, token.span)?))
 }

@@ -6,18 +6,18 @@ ghost use Rattle.asl_parse_expr.specs.Code.{cursor_of, Met, reading};
 
 use crate::tokens::{Tokens, ident};
 use asl_grammar::error::ParseError;
-use asl_grammar::kinds::{COMMA, NAME};
+use asl_grammar::kinds::Kind;
 use asl_syn::tree::Ident;
 use sqlite_items::Items;
 use std::alloc::Global;
 
 /// A name.
-#[tactic(auto, using(crate::proofs::Steps::name_is))]
+#[tactic(auto, unfolding(asl_grammar::specs::grammar::Rules::name))]
 pub fn name(alloc: Global, tokens: &mut Tokens<'_>, depth: usize) -> Result<Ident, ParseError>
     ensures { Met (reading depth rules.name (cursor_of tokens.old)) result (cursor_of tokens.new) }
 {
     let bytes = tokens.bytes;
-    let token = tokens.take(&[NAME])?;
+    let token = tokens.take(&[Kind::Name])?;
     Ok(ident(alloc, bytes, token)?)
 }
 
@@ -33,10 +33,10 @@ pub fn names(
     let mut found = Items::new(alloc);
     found.push(name(alloc, tokens, depth)?)?;
     for _turn in 0..tokens.len() {
-        if !tokens.starts(&[COMMA]) {
+        if !tokens.starts(&[Kind::Comma]) {
             return Ok(found);
         }
-        tokens.take(&[COMMA])?;
+        tokens.take(&[Kind::Comma])?;
         found.push(name(alloc, tokens, depth)?)?;
     }
     Ok(found)

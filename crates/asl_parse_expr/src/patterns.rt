@@ -11,26 +11,13 @@ use crate::literals::{bits_pattern, mask_pattern};
 use crate::operators::unary_node;
 use crate::tokens::Tokens;
 use asl_grammar::error::ParseError;
-use asl_grammar::kinds::{
-    BANG, BITS_LITERAL, CLOSE_BRACE, CLOSE_PAREN, COMMA, DOT_DOT, FALSE, GREATER_EQUAL,
-    INTEGER_LITERAL, LESS_EQUAL, MASK_LITERAL, MINUS, NAME, NOT, OPEN_BRACE, OPEN_PAREN, TRUE,
-    code,
-};
+use asl_grammar::kinds::Kind;
 use asl_syn::token::Span;
 use asl_syn::tree::{Expr, Pattern, UnaryOperator};
-use sqlite_items::Items;
+use sqlite_items::{Boxed, Items};
 use std::alloc::Global;
 
-fn bound_of(span: Span, mark: u8, bound: Expr) -> Pattern
-    ensures { result ≡ build.bound_of span mark bound }
-{
-    if mark == LESS_EQUAL {
-        Pattern::AtMost(span, bound)
-    } else {
-        Pattern::AtLeast(span, bound)
-    }
-}
-
+/// The pattern that parentheses hold: a tuple, unless they hold one alone.
 fn pattern_parens_of(span: Span, mut parts: Items<Pattern>) -> Pattern
     ensures { result ≡ build.pattern_parens_of span parts }
 {
@@ -41,29 +28,35 @@ fn pattern_parens_of(span: Span, mut parts: Items<Pattern>) -> Pattern
 }
 
 impl<F: Fn(Global, &mut Tokens<'_>, usize, Symbol) -> Result<Value, ParseError>> Grammar<F> {
-    #[tactic(auto, using(crate::proofs::Steps::set_parts_is))]
+    /// The patterns of a set, and the `}`.
+    #[tactic(auto, unfolding(asl_grammar::specs::grammar::Rules::set_parts))]
     pub fn set_parts(&self, tokens: &mut Tokens<'_>) -> Result<Items<Pattern>, ParseError>
         requires { Nests self.now.depth (F.pre self.now.nested) (F.post self.now.nested) }
         ensures { Met (reading self.now.depth rules.set_parts (cursor_of tokens.old)) result (cursor_of tokens.new) }
     {
         let found = self.patterns(tokens)?;
-        tokens.take(&[CLOSE_BRACE])?;
+        tokens.take(&[Kind::CloseBrace])?;
         Ok(found)
     }
 
-    #[tactic(auto, using(crate::proofs::Steps::set_braces_is))]
+    /// The patterns of a set in braces.
+    #[tactic(auto, unfolding(asl_grammar::specs::grammar::Rules::set_braces))]
     pub fn set_braces(&self, tokens: &mut Tokens<'_>) -> Result<Items<Pattern>, ParseError>
         requires { Nests self.now.depth (F.pre self.now.nested) (F.post self.now.nested) }
         ensures { Met (reading self.now.depth rules.set_braces (cursor_of tokens.old)) result (cursor_of tokens.new) }
     {
         let left = tokens.left;
-        tokens.open(&[OPEN_BRACE])?;
-        let found = self.nested_set(tokens)?;
+        tokens.open(&[Kind::OpenBrace])?;
+        let found = match self.value(tokens, Symbol::SetParts)? {
+            Value::Patterns(found) => found,
+            _ => unreachable!(),
+        };
         tokens.left = left;
         Ok(found)
     }
 
-    #[tactic(auto, using(crate::proofs::Steps::set_pattern_is))]
+    /// A set.
+    #[tactic(auto, unfolding(asl_grammar::specs::grammar::Rules::set_pattern))]
     pub fn set_pattern(&self, tokens: &mut Tokens<'_>) -> Result<Pattern, ParseError>
         requires { Nests self.now.depth (F.pre self.now.nested) (F.post self.now.nested) }
         ensures { Met (reading self.now.depth rules.set_pattern (cursor_of tokens.old)) result (cursor_of tokens.new) }
@@ -73,13 +66,14 @@ impl<F: Fn(Global, &mut Tokens<'_>, usize, Symbol) -> Result<Value, ParseError>>
         Ok(Pattern::SetPattern(tokens.since(from), false, parts))
     }
 
-    #[tactic(auto, using(crate::proofs::Steps::not_set_pattern_is))]
+    /// `!` and a set.
+    #[tactic(auto, unfolding(asl_grammar::specs::grammar::Rules::not_set_pattern))]
     pub fn not_set_pattern(&self, tokens: &mut Tokens<'_>) -> Result<Pattern, ParseError>
         requires { Nests self.now.depth (F.pre self.now.nested) (F.post self.now.nested) }
         ensures { Met (reading self.now.depth rules.not_set_pattern (cursor_of tokens.old)) result (cursor_of tokens.new) }
     {
         let from = tokens.ahead();
-        tokens.take(&[BANG])?;
+        tokens.take(&[Kind::Bang])?;
         let parts = self.set_braces(tokens)?;
         Ok(Pattern::SetPattern(tokens.since(from), true, parts))
     }
@@ -90,24 +84,25 @@ impl<F: Fn(Global, &mut Tokens<'_>, usize, Symbol) -> Result<Value, ParseError>>
         requires { Nests self.now.depth (F.pre self.now.nested) (F.post self.now.nested) }
         ensures { Met (reading self.now.depth rules.in_pattern (cursor_of tokens.old)) result (cursor_of tokens.new) }
     {
-        if tokens.starts(&[BANG]) {
+        if tokens.starts(&[Kind::Bang]) {
             self.not_set_pattern(tokens)
-        } else if tokens.starts(&[OPEN_BRACE]) {
+        } else if tokens.starts(&[Kind::OpenBrace]) {
             self.set_pattern(tokens)
-        } else if tokens.starts(&[BITS_LITERAL]) {
+        } else if tokens.starts(&[Kind::BitsLiteral]) {
             bits_pattern(self.alloc, tokens, self.depth)
         } else {
             mask_pattern(self.alloc, tokens, self.depth)
         }
     }
 
+    /// How a sum goes on behind its first operand.
     #[tactic(auto, using(crate::proofs::Tails::sum_rests_is))]
     pub fn sum_rests(
         &self,
         tokens: &mut Tokens<'_>,
         from: Span,
-        left: Expr,
-    ) -> Result<Expr, ParseError>
+        left: Boxed<Expr>,
+    ) -> Result<Boxed<Expr>, ParseError>
         requires { Nests self.now.depth (F.pre self.now.nested) (F.post self.now.nested) }
         ensures { Met (then (build.chained from left) (reading self.now.depth rules.sum_rests (cursor_of tokens.old))) result (cursor_of tokens.new) }
     {
@@ -116,8 +111,9 @@ impl<F: Fn(Global, &mut Tokens<'_>, usize, Symbol) -> Result<Value, ParseError>>
         self.sum_rest(tokens, from, left)
     }
 
-    #[tactic(auto, using(crate::proofs::Steps::scoped_sum_is))]
-    pub fn scoped_sum(&self, tokens: &mut Tokens<'_>) -> Result<Expr, ParseError>
+    /// An outermost sum: the levels of its operators end with it.
+    #[tactic(auto, unfolding(asl_grammar::specs::grammar::Rules::scoped_sum))]
+    pub fn scoped_sum(&self, tokens: &mut Tokens<'_>) -> Result<Boxed<Expr>, ParseError>
         requires { Nests self.now.depth (F.pre self.now.nested) (F.post self.now.nested) }
         ensures { Met (reading self.now.depth rules.scoped_sum (cursor_of tokens.old)) result (cursor_of tokens.new) }
     {
@@ -127,46 +123,48 @@ impl<F: Fn(Global, &mut Tokens<'_>, usize, Symbol) -> Result<Value, ParseError>>
         Ok(whole)
     }
 
-    #[tactic(auto, using(crate::proofs::Steps::range_end_ends))]
+    /// The upper end of a range, if there is one.
+    #[tactic(auto, unfolding(asl_grammar::specs::grammar::Rules::range_end, crate::specs::Code::ending))]
     pub fn range_end(
         &self,
         tokens: &mut Tokens<'_>,
         from: Span,
-        low: Expr,
+        low: Boxed<Expr>,
     ) -> Result<Pattern, ParseError>
         requires { Nests self.now.depth (F.pre self.now.nested) (F.post self.now.nested) }
         ensures { Met (ending from (build.pattern_of low) (reading self.now.depth rules.range_end (cursor_of tokens.old))) result (cursor_of tokens.new) }
     {
-        if !tokens.starts(&[DOT_DOT]) {
-            return Ok(Pattern::ValuePattern(tokens.since(from), low));
+        if !tokens.starts(&[Kind::DotDot]) {
+            return Ok(Pattern::ValuePattern(tokens.since(from), low.into_inner()));
         }
-        tokens.take(&[DOT_DOT])?;
+        tokens.take(&[Kind::DotDot])?;
         let high = self.scoped_sum(tokens)?;
-        Ok(Pattern::RangePattern(tokens.since(from), low, high))
+        Ok(Pattern::RangePattern(tokens.since(from), low.into_inner(), high.into_inner()))
     }
 
+    /// A sum whose first operator, a prefix one, was read: its level is opened here.
     #[tactic(auto, using(crate::proofs::Tails::late_sum_is))]
     pub fn late_sum(
         &self,
         tokens: &mut Tokens<'_>,
         from: Span,
         operator: UnaryOperator,
-    ) -> Result<Expr, ParseError>
+    ) -> Result<Boxed<Expr>, ParseError>
         requires { Nests self.now.depth (F.pre self.now.nested) (F.post self.now.nested) }
         ensures { Met (then (build.late_sum_of from operator) (reading self.now.depth rules.late_sum (cursor_of tokens.old))) result (cursor_of tokens.new) }
     {
         let left = tokens.left;
         tokens.charge(
             &[
-                MINUS,
-                BANG,
-                NOT,
-                INTEGER_LITERAL,
-                BITS_LITERAL,
-                TRUE,
-                FALSE,
-                OPEN_PAREN,
-                NAME,
+                Kind::Minus,
+                Kind::Bang,
+                Kind::Not,
+                Kind::IntegerLiteral,
+                Kind::BitsLiteral,
+                Kind::True,
+                Kind::False,
+                Kind::OpenParen,
+                Kind::Name,
             ],
             true,
         )?;
@@ -177,6 +175,7 @@ impl<F: Fn(Global, &mut Tokens<'_>, usize, Symbol) -> Result<Value, ParseError>>
         Ok(whole)
     }
 
+    /// A value or a range whose first operator, a prefix one, was read.
     #[tactic(auto, using(crate::proofs::Tails::late_range_ends))]
     pub fn late_range(
         &self,
@@ -191,23 +190,24 @@ impl<F: Fn(Global, &mut Tokens<'_>, usize, Symbol) -> Result<Value, ParseError>>
         self.range_end(tokens, from, low)
     }
 
+    /// `-` alone, or a value or a range that begins with it.
     #[tactic(auto, using(crate::proofs::Tails::minus_pattern_is))]
     pub fn minus_pattern(&self, tokens: &mut Tokens<'_>) -> Result<Pattern, ParseError>
         requires { Nests self.now.depth (F.pre self.now.nested) (F.post self.now.nested) }
         ensures { Met (reading self.now.depth rules.minus_pattern (cursor_of tokens.old)) result (cursor_of tokens.new) }
     {
         let from = tokens.ahead();
-        tokens.take(&[MINUS])?;
+        tokens.take(&[Kind::Minus])?;
         if tokens.starts(&[
-            MINUS,
-            BANG,
-            NOT,
-            INTEGER_LITERAL,
-            BITS_LITERAL,
-            TRUE,
-            FALSE,
-            OPEN_PAREN,
-            NAME,
+            Kind::Minus,
+            Kind::Bang,
+            Kind::Not,
+            Kind::IntegerLiteral,
+            Kind::BitsLiteral,
+            Kind::True,
+            Kind::False,
+            Kind::OpenParen,
+            Kind::Name,
         ]) {
             self.late_range(tokens, from, UnaryOperator::Negate)
         } else {
@@ -215,14 +215,15 @@ impl<F: Fn(Global, &mut Tokens<'_>, usize, Symbol) -> Result<Value, ParseError>>
         }
     }
 
+    /// A set with `!`, or a value or a range that begins with `!`.
     #[tactic(auto, using(crate::proofs::Tails::bang_pattern_is))]
     pub fn bang_pattern(&self, tokens: &mut Tokens<'_>) -> Result<Pattern, ParseError>
         requires { Nests self.now.depth (F.pre self.now.nested) (F.post self.now.nested) }
         ensures { Met (reading self.now.depth rules.bang_pattern (cursor_of tokens.old)) result (cursor_of tokens.new) }
     {
         let from = tokens.ahead();
-        tokens.take(&[BANG])?;
-        if tokens.starts(&[OPEN_BRACE]) {
+        tokens.take(&[Kind::Bang])?;
+        if tokens.starts(&[Kind::OpenBrace]) {
             let parts = self.set_braces(tokens)?;
             Ok(Pattern::SetPattern(tokens.since(from), true, parts))
         } else {
@@ -230,56 +231,81 @@ impl<F: Fn(Global, &mut Tokens<'_>, usize, Symbol) -> Result<Value, ParseError>>
         }
     }
 
-    #[tactic(auto, using(crate::proofs::Steps::bound_pattern_is))]
-    pub fn bound_pattern(&self, tokens: &mut Tokens<'_>) -> Result<Pattern, ParseError>
+    /// `<=` and a sum.
+    #[tactic(auto, unfolding(asl_grammar::specs::grammar::Rules::at_most))]
+    pub fn at_most(&self, tokens: &mut Tokens<'_>) -> Result<Pattern, ParseError>
         requires { Nests self.now.depth (F.pre self.now.nested) (F.post self.now.nested) }
-        ensures { Met (reading self.now.depth rules.bound_pattern (cursor_of tokens.old)) result (cursor_of tokens.new) }
+        ensures { Met (reading self.now.depth rules.at_most (cursor_of tokens.old)) result (cursor_of tokens.new) }
     {
         let from = tokens.ahead();
-        let mark = tokens.take(&[LESS_EQUAL, GREATER_EQUAL])?;
+        tokens.take(&[Kind::LessEqual])?;
         let bound = self.scoped_sum(tokens)?;
-        Ok(bound_of(tokens.since(from), code(mark.kind), bound))
+        Ok(Pattern::AtMost(tokens.since(from), bound.into_inner()))
     }
 
-    #[tactic(auto, using(crate::proofs::Steps::pattern_parts_is))]
+    /// `>=` and a sum.
+    #[tactic(auto, unfolding(asl_grammar::specs::grammar::Rules::at_least))]
+    pub fn at_least(&self, tokens: &mut Tokens<'_>) -> Result<Pattern, ParseError>
+        requires { Nests self.now.depth (F.pre self.now.nested) (F.post self.now.nested) }
+        ensures { Met (reading self.now.depth rules.at_least (cursor_of tokens.old)) result (cursor_of tokens.new) }
+    {
+        let from = tokens.ahead();
+        tokens.take(&[Kind::GreaterEqual])?;
+        let bound = self.scoped_sum(tokens)?;
+        Ok(Pattern::AtLeast(tokens.since(from), bound.into_inner()))
+    }
+
+    /// The patterns of a tuple, and the `)`.
+    #[tactic(auto, unfolding(asl_grammar::specs::grammar::Rules::pattern_parts))]
     pub fn pattern_parts(&self, tokens: &mut Tokens<'_>) -> Result<Items<Pattern>, ParseError>
         requires { Nests self.now.depth (F.pre self.now.nested) (F.post self.now.nested) }
         ensures { Met (reading self.now.depth rules.pattern_parts (cursor_of tokens.old)) result (cursor_of tokens.new) }
     {
         let found = self.patterns(tokens)?;
-        tokens.take(&[CLOSE_PAREN])?;
+        tokens.take(&[Kind::CloseParen])?;
         Ok(found)
     }
 
-    #[tactic(auto, using(crate::proofs::Steps::pattern_in_parens_is))]
+    /// A pattern in parentheses, or a tuple of patterns.
+    #[tactic(auto, unfolding(asl_grammar::specs::grammar::Rules::pattern_in_parens))]
     pub fn pattern_in_parens(&self, tokens: &mut Tokens<'_>) -> Result<Pattern, ParseError>
         requires { Nests self.now.depth (F.pre self.now.nested) (F.post self.now.nested) }
         ensures { Met (reading self.now.depth rules.pattern_in_parens (cursor_of tokens.old)) result (cursor_of tokens.new) }
     {
         let from = tokens.ahead();
         let left = tokens.left;
-        tokens.open(&[OPEN_PAREN])?;
-        let parts = self.nested_patterns(tokens)?;
+        tokens.open(&[Kind::OpenParen])?;
+        let parts = match self.value(tokens, Symbol::PatternParts)? {
+            Value::Patterns(found) => found,
+            _ => unreachable!(),
+        };
         tokens.left = left;
         Ok(pattern_parens_of(tokens.since(from), parts))
     }
 
-    #[tactic(auto, using(crate::proofs::Steps::plain_unary_is))]
-    pub fn plain_unary(&self, tokens: &mut Tokens<'_>) -> Result<Expr, ParseError>
+    /// An operand that begins with none of `-`, `!`, `(`.
+    #[tactic(auto, unfolding(asl_grammar::specs::grammar::Rules::plain_unary, asl_grammar::specs::grammar::Rules::prefixed_by, asl_grammar::specs::grammar::Rules::post_literal, asl_grammar::specs::grammar::Rules::literal, asl_grammar::specs::grammar::Rules::integer_literal, asl_grammar::specs::grammar::Rules::bits_literal, asl_grammar::specs::grammar::Rules::boolean_literal))]
+    pub fn plain_unary(&self, tokens: &mut Tokens<'_>) -> Result<Boxed<Expr>, ParseError>
         requires { Nests self.now.depth (F.pre self.now.nested) (F.post self.now.nested) }
         ensures { Met (reading self.now.depth rules.plain_unary (cursor_of tokens.old)) result (cursor_of tokens.new) }
     {
-        if tokens.starts(&[NOT]) {
-            self.prefixed_by(tokens, &[NOT])
-        } else if tokens.starts(&[INTEGER_LITERAL, BITS_LITERAL, TRUE, FALSE]) {
+        if tokens.starts(&[Kind::Not]) {
+            self.prefixed_by(tokens, &[Kind::Not])
+        } else if tokens.starts(&[
+            Kind::IntegerLiteral,
+            Kind::BitsLiteral,
+            Kind::True,
+            Kind::False,
+        ]) {
             self.post_literal(tokens)
         } else {
             self.post_named(tokens)
         }
     }
 
-    #[tactic(auto, using(crate::proofs::Steps::plain_chain_is))]
-    pub fn plain_chain(&self, tokens: &mut Tokens<'_>) -> Result<Expr, ParseError>
+    /// A sum that begins with none of `-`, `!`, `(`, inside a greater expression.
+    #[tactic(auto, unfolding(asl_grammar::specs::grammar::Rules::plain_chain, crate::specs::Code::then))]
+    pub fn plain_chain(&self, tokens: &mut Tokens<'_>) -> Result<Boxed<Expr>, ParseError>
         requires { Nests self.now.depth (F.pre self.now.nested) (F.post self.now.nested) }
         ensures { Met (reading self.now.depth rules.plain_chain (cursor_of tokens.old)) result (cursor_of tokens.new) }
     {
@@ -288,8 +314,9 @@ impl<F: Fn(Global, &mut Tokens<'_>, usize, Symbol) -> Result<Value, ParseError>>
         self.sum_rests(tokens, from, left)
     }
 
-    #[tactic(auto, using(crate::proofs::Steps::plain_sum_is))]
-    pub fn plain_sum(&self, tokens: &mut Tokens<'_>) -> Result<Expr, ParseError>
+    /// An outermost sum that begins with none of `-`, `!`, `(`.
+    #[tactic(auto, unfolding(asl_grammar::specs::grammar::Rules::plain_sum))]
+    pub fn plain_sum(&self, tokens: &mut Tokens<'_>) -> Result<Boxed<Expr>, ParseError>
         requires { Nests self.now.depth (F.pre self.now.nested) (F.post self.now.nested) }
         ensures { Met (reading self.now.depth rules.plain_sum (cursor_of tokens.old)) result (cursor_of tokens.new) }
     {
@@ -299,7 +326,8 @@ impl<F: Fn(Global, &mut Tokens<'_>, usize, Symbol) -> Result<Value, ParseError>>
         Ok(whole)
     }
 
-    #[tactic(auto, using(crate::proofs::Steps::sum_pattern_is))]
+    /// A value or a range that begins with none of `-`, `!`, `(`.
+    #[tactic(auto, unfolding(asl_grammar::specs::grammar::Rules::sum_pattern, crate::specs::Code::ending))]
     pub fn sum_pattern(&self, tokens: &mut Tokens<'_>) -> Result<Pattern, ParseError>
         requires { Nests self.now.depth (F.pre self.now.nested) (F.post self.now.nested) }
         ensures { Met (reading self.now.depth rules.sum_pattern (cursor_of tokens.old)) result (cursor_of tokens.new) }
@@ -309,22 +337,25 @@ impl<F: Fn(Global, &mut Tokens<'_>, usize, Symbol) -> Result<Value, ParseError>>
         self.range_end(tokens, from, low)
     }
 
-    #[tactic(auto, using(crate::proofs::Steps::pattern_is))]
+    /// A pattern.
+    #[tactic(auto, unfolding(asl_grammar::specs::grammar::Rules::pattern, asl_grammar::specs::grammar::Rules::minus_pattern, asl_grammar::specs::grammar::Rules::bang_pattern, asl_grammar::specs::grammar::Rules::set_pattern, asl_grammar::specs::grammar::Rules::set_braces, asl_grammar::specs::grammar::Rules::mask_pattern, asl_grammar::specs::grammar::Rules::at_most, asl_grammar::specs::grammar::Rules::at_least, asl_grammar::specs::grammar::Rules::pattern_in_parens))]
     pub fn pattern(&self, tokens: &mut Tokens<'_>) -> Result<Pattern, ParseError>
         requires { Nests self.now.depth (F.pre self.now.nested) (F.post self.now.nested) }
         ensures { Met (reading self.now.depth rules.pattern (cursor_of tokens.old)) result (cursor_of tokens.new) }
     {
-        if tokens.starts(&[MINUS]) {
+        if tokens.starts(&[Kind::Minus]) {
             self.minus_pattern(tokens)
-        } else if tokens.starts(&[BANG]) {
+        } else if tokens.starts(&[Kind::Bang]) {
             self.bang_pattern(tokens)
-        } else if tokens.starts(&[OPEN_BRACE]) {
+        } else if tokens.starts(&[Kind::OpenBrace]) {
             self.set_pattern(tokens)
-        } else if tokens.starts(&[MASK_LITERAL]) {
+        } else if tokens.starts(&[Kind::MaskLiteral]) {
             mask_pattern(self.alloc, tokens, self.depth)
-        } else if tokens.starts(&[LESS_EQUAL, GREATER_EQUAL]) {
-            self.bound_pattern(tokens)
-        } else if tokens.starts(&[OPEN_PAREN]) {
+        } else if tokens.starts(&[Kind::LessEqual]) {
+            self.at_most(tokens)
+        } else if tokens.starts(&[Kind::GreaterEqual]) {
+            self.at_least(tokens)
+        } else if tokens.starts(&[Kind::OpenParen]) {
             self.pattern_in_parens(tokens)
         } else {
             self.sum_pattern(tokens)
@@ -340,10 +371,10 @@ impl<F: Fn(Global, &mut Tokens<'_>, usize, Symbol) -> Result<Value, ParseError>>
         let mut found = Items::new(self.alloc);
         found.push(self.pattern(tokens)?)?;
         for _turn in 0..tokens.len() {
-            if !tokens.starts(&[COMMA]) {
+            if !tokens.starts(&[Kind::Comma]) {
                 return Ok(found);
             }
-            tokens.take(&[COMMA])?;
+            tokens.take(&[Kind::Comma])?;
             found.push(self.pattern(tokens)?)?;
         }
         Ok(found)

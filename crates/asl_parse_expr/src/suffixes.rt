@@ -10,84 +10,113 @@ use crate::grammar::{Grammar, Symbol, Value, nested};
 use crate::names::{name, names};
 use crate::tokens::{Tokens, span_to};
 use asl_grammar::error::ParseError;
-use asl_grammar::kinds::{
-    CLOSE_BRACKET, COLON, COMMA, DOT, NAME, OPEN_BRACKET, PLUS_COLON, STAR_COLON, code,
-};
+use asl_grammar::kinds::Kind;
+use asl_grammar::parts::SliceForm;
 use asl_syn::token::Span;
 use asl_syn::tree::{Expr, PlacedSuffix, Slice, Suffix};
 use sqlite_items::{Boxed, Items};
 use std::alloc::{AllocError, Global};
 
-fn slice_by(first: Expr, mark: u8, second: Expr) -> Slice
-    ensures { result ≡ build.slice_by first mark second }
+/// The slice that two expressions make in a form.
+fn slice_by(first: Expr, form: SliceForm, second: Expr) -> Slice
+    ensures { result ≡ build.slice_by first form second }
 {
-    if mark == COLON {
-        Slice::HighLow(first, second)
-    } else if mark == PLUS_COLON {
-        Slice::LowWidth(first, second)
-    } else {
-        Slice::FactorWidth(first, second)
+    match form {
+        SliceForm::HighLow => Slice::HighLow(first, second),
+        SliceForm::LowWidth => Slice::LowWidth(first, second),
+        SliceForm::FactorWidth => Slice::FactorWidth(first, second),
     }
 }
 
-fn suffix_on(alloc: Global, span: Span, left: Expr, suffix: Suffix) -> Result<Expr, AllocError>
+/// `:`, `+:` or `*:`
+#[tactic(auto, using(crate::proofs::Steps::slice_form_is))]
+fn slice_form(tokens: &mut Tokens<'_>, depth: usize) -> Result<SliceForm, ParseError>
+    ensures { Met (reading depth rules.slice_form (cursor_of tokens.old)) result (cursor_of tokens.new) }
+{
+    if tokens.starts(&[Kind::Colon]) {
+        tokens.take(&[Kind::Colon])?;
+        Ok(SliceForm::HighLow)
+    } else if tokens.starts(&[Kind::PlusColon]) {
+        tokens.take(&[Kind::PlusColon])?;
+        Ok(SliceForm::LowWidth)
+    } else {
+        tokens.take(&[Kind::StarColon])?;
+        Ok(SliceForm::FactorWidth)
+    }
+}
+
+/// A suffix on an expression.
+fn suffix_on(
+    alloc: Global,
+    span: Span,
+    left: Boxed<Expr>,
+    suffix: Suffix,
+) -> Result<Boxed<Expr>, AllocError>
     ensures { IfOk result (λ e. e ≡ build.suffix_on span left suffix) }
 {
-    let left = Boxed::new(alloc, left)?;
-    Ok(match suffix {
+    let whole = match suffix {
         Suffix::FieldOf(field) => Expr::Field(span, left, field),
         Suffix::FieldsOf(fields) => Expr::Fields(span, left, fields),
         Suffix::SlicesOf(slices) => Expr::Slices(span, left, slices),
         Suffix::ElementOf(index) => Expr::Element(span, left, Boxed::new(alloc, index)?),
-    })
+    };
+    Boxed::new(alloc, whole)
 }
 
-#[tactic(auto, using(crate::proofs::Steps::field_list_is))]
+/// Names of fields in brackets.
+#[tactic(auto, unfolding(asl_grammar::specs::grammar::Rules::field_list))]
 fn field_list(alloc: Global, tokens: &mut Tokens<'_>, depth: usize) -> Result<Suffix, ParseError>
     ensures { Met (reading depth rules.field_list (cursor_of tokens.old)) result (cursor_of tokens.new) }
 {
     let left = tokens.left;
-    tokens.open(&[OPEN_BRACKET])?;
+    tokens.open(&[Kind::OpenBracket])?;
     let fields = names(alloc, tokens, depth)?;
-    tokens.take(&[CLOSE_BRACKET])?;
+    tokens.take(&[Kind::CloseBracket])?;
     tokens.left = left;
     Ok(Suffix::FieldsOf(fields))
 }
 
-#[tactic(auto, using(crate::proofs::Steps::dotted_is))]
+/// What stands behind `.`.
+#[tactic(auto, unfolding(asl_grammar::specs::grammar::Rules::dotted, asl_grammar::specs::grammar::Rules::name))]
 fn dotted(alloc: Global, tokens: &mut Tokens<'_>, depth: usize) -> Result<Suffix, ParseError>
     ensures { Met (reading depth rules.dotted (cursor_of tokens.old)) result (cursor_of tokens.new) }
 {
-    if tokens.starts(&[NAME]) {
+    if tokens.starts(&[Kind::Name]) {
         Ok(Suffix::FieldOf(name(alloc, tokens, depth)?))
     } else {
         field_list(alloc, tokens, depth)
     }
 }
 
-#[tactic(auto, using(crate::proofs::Steps::dot_is))]
+/// A field, or several in brackets.
+#[tactic(auto, unfolding(asl_grammar::specs::grammar::Rules::dot))]
 fn dot(alloc: Global, tokens: &mut Tokens<'_>, depth: usize) -> Result<Suffix, ParseError>
     ensures { Met (reading depth rules.dot (cursor_of tokens.old)) result (cursor_of tokens.new) }
 {
-    tokens.open(&[DOT])?;
+    tokens.open(&[Kind::Dot])?;
     dotted(alloc, tokens, depth)
 }
 
 impl<F: Fn(Global, &mut Tokens<'_>, usize, Symbol) -> Result<Value, ParseError>> Grammar<F> {
-    #[tactic(auto, using(crate::proofs::Steps::slice_rest_is))]
-    pub fn slice_rest(&self, tokens: &mut Tokens<'_>, first: Expr) -> Result<Slice, ParseError>
+    /// How a slice goes on behind its first expression.
+    pub fn slice_rest(
+        &self,
+        tokens: &mut Tokens<'_>,
+        first: Boxed<Expr>,
+    ) -> Result<Slice, ParseError>
         requires { Nests self.now.depth (F.pre self.now.nested) (F.post self.now.nested) }
         ensures { Met (then (build.slice_of first) (reading self.now.depth rules.slice_rest (cursor_of tokens.old))) result (cursor_of tokens.new) }
     {
-        if !tokens.starts(&[COLON, PLUS_COLON, STAR_COLON]) {
-            return Ok(Slice::BitAt(first));
+        if !tokens.starts(&[Kind::Colon, Kind::PlusColon, Kind::StarColon]) {
+            return Ok(Slice::BitAt(first.into_inner()));
         }
-        let mark = tokens.take(&[COLON, PLUS_COLON, STAR_COLON])?;
+        let form = slice_form(tokens, self.depth)?;
         let second = self.expression(tokens)?;
-        Ok(slice_by(first, code(mark.kind), second))
+        Ok(slice_by(first.into_inner(), form, second.into_inner()))
     }
 
-    #[tactic(auto, using(crate::proofs::Steps::slice_is))]
+    /// A slice.
+    #[tactic(auto, unfolding(asl_grammar::specs::grammar::Rules::slice, crate::specs::Code::then))]
     pub fn slice(&self, tokens: &mut Tokens<'_>) -> Result<Slice, ParseError>
         requires { Nests self.now.depth (F.pre self.now.nested) (F.post self.now.nested) }
         ensures { Met (reading self.now.depth rules.slice (cursor_of tokens.old)) result (cursor_of tokens.new) }
@@ -96,6 +125,7 @@ impl<F: Fn(Global, &mut Tokens<'_>, usize, Symbol) -> Result<Value, ParseError>>
         self.slice_rest(tokens, first)
     }
 
+    /// Slices with commas between.
     #[tactic(auto, using(crate::proofs::Steps::slices_is))]
     pub fn slices(&self, tokens: &mut Tokens<'_>) -> Result<Items<Slice>, ParseError>
         requires { Nests self.now.depth (F.pre self.now.nested) (F.post self.now.nested) }
@@ -104,77 +134,86 @@ impl<F: Fn(Global, &mut Tokens<'_>, usize, Symbol) -> Result<Value, ParseError>>
         let mut found = Items::new(self.alloc);
         found.push(self.slice(tokens)?)?;
         for _turn in 0..tokens.len() {
-            if !tokens.starts(&[COMMA]) {
+            if !tokens.starts(&[Kind::Comma]) {
                 return Ok(found);
             }
-            tokens.take(&[COMMA])?;
+            tokens.take(&[Kind::Comma])?;
             found.push(self.slice(tokens)?)?;
         }
         Ok(found)
     }
 
-    #[tactic(auto, using(crate::proofs::Steps::slices_in_is))]
+    /// Slices, and the `]`.
+    #[tactic(auto, unfolding(asl_grammar::specs::grammar::Rules::slices_in))]
     pub fn slices_in(&self, tokens: &mut Tokens<'_>) -> Result<Suffix, ParseError>
         requires { Nests self.now.depth (F.pre self.now.nested) (F.post self.now.nested) }
         ensures { Met (reading self.now.depth rules.slices_in (cursor_of tokens.old)) result (cursor_of tokens.new) }
     {
         let found = self.slices(tokens)?;
-        tokens.take(&[CLOSE_BRACKET])?;
+        tokens.take(&[Kind::CloseBracket])?;
         Ok(Suffix::SlicesOf(found))
     }
 
-    #[tactic(auto, using(crate::proofs::Steps::element_is))]
+    /// The index of an array: from its second `[` on.
+    #[tactic(auto, unfolding(asl_grammar::specs::grammar::Rules::element))]
     pub fn element(&self, tokens: &mut Tokens<'_>) -> Result<Suffix, ParseError>
         requires { Nests self.now.depth (F.pre self.now.nested) (F.post self.now.nested) }
         ensures { Met (reading self.now.depth rules.element (cursor_of tokens.old)) result (cursor_of tokens.new) }
     {
         let left = tokens.left;
-        tokens.open(&[OPEN_BRACKET])?;
+        tokens.open(&[Kind::OpenBracket])?;
         let index = self.expression(tokens)?;
-        tokens.take(&[CLOSE_BRACKET])?;
+        tokens.take(&[Kind::CloseBracket])?;
         tokens.left = left;
-        tokens.take(&[CLOSE_BRACKET])?;
-        Ok(Suffix::ElementOf(index))
+        tokens.take(&[Kind::CloseBracket])?;
+        Ok(Suffix::ElementOf(index.into_inner()))
     }
 
-    #[tactic(auto, using(crate::proofs::Steps::bracketed_in_is))]
+    /// What stands behind `[`, and the `]`.
+    #[tactic(auto, unfolding(asl_grammar::specs::grammar::Rules::bracketed_in, asl_grammar::specs::grammar::Rules::element))]
     pub fn bracketed_in(&self, tokens: &mut Tokens<'_>) -> Result<Suffix, ParseError>
         requires { Nests self.now.depth (F.pre self.now.nested) (F.post self.now.nested) }
         ensures { Met (reading self.now.depth rules.bracketed_in (cursor_of tokens.old)) result (cursor_of tokens.new) }
     {
-        if tokens.starts(&[OPEN_BRACKET]) {
+        if tokens.starts(&[Kind::OpenBracket]) {
             self.element(tokens)
         } else {
             self.slices_in(tokens)
         }
     }
 
+    /// Slices or an index in brackets: a level for the operator, and one for the bracket.
     #[tactic(auto, using(crate::proofs::Tails::bracket_is))]
     pub fn bracket(&self, tokens: &mut Tokens<'_>) -> Result<Suffix, ParseError>
         requires { Nests self.now.depth (F.pre self.now.nested) (F.post self.now.nested) }
         ensures { Met (reading self.now.depth rules.bracket (cursor_of tokens.old)) result (cursor_of tokens.new) }
     {
-        tokens.charge(&[OPEN_BRACKET], false)?;
+        tokens.charge(&[Kind::OpenBracket], false)?;
         let left = tokens.left;
-        tokens.open(&[OPEN_BRACKET])?;
-        let found = self.nested_bracketed(tokens)?;
+        tokens.open(&[Kind::OpenBracket])?;
+        let found = match self.value(tokens, Symbol::Bracketed)? {
+            Value::Suffix(found) => found,
+            _ => unreachable!(),
+        };
         tokens.left = left;
         Ok(found)
     }
 
-    #[tactic(auto, using(crate::proofs::Steps::suffix_part_is))]
+    /// One suffix.
+    #[tactic(auto, unfolding(asl_grammar::specs::grammar::Rules::suffix_part, asl_grammar::specs::grammar::Rules::dot))]
     pub fn suffix_part(&self, tokens: &mut Tokens<'_>) -> Result<Suffix, ParseError>
         requires { Nests self.now.depth (F.pre self.now.nested) (F.post self.now.nested) }
         ensures { Met (reading self.now.depth rules.suffix_part (cursor_of tokens.old)) result (cursor_of tokens.new) }
     {
-        if tokens.starts(&[DOT]) {
+        if tokens.starts(&[Kind::Dot]) {
             dot(self.alloc, tokens, self.depth)
         } else {
             self.bracket(tokens)
         }
     }
 
-    #[tactic(auto, using(crate::proofs::Steps::suffix_is))]
+    /// One suffix, with the place where it ends.
+    #[tactic(auto, unfolding(asl_grammar::specs::grammar::Rules::suffix))]
     pub fn suffix(&self, tokens: &mut Tokens<'_>) -> Result<PlacedSuffix, ParseError>
         requires { Nests self.now.depth (F.pre self.now.nested) (F.post self.now.nested) }
         ensures { Met (reading self.now.depth rules.suffix (cursor_of tokens.old)) result (cursor_of tokens.new) }
@@ -194,7 +233,7 @@ impl<F: Fn(Global, &mut Tokens<'_>, usize, Symbol) -> Result<Value, ParseError>>
     {
         let mut found = Items::new(self.alloc);
         for _turn in 0..tokens.len() {
-            if !tokens.starts(&[DOT, OPEN_BRACKET]) {
+            if !tokens.starts(&[Kind::Dot, Kind::OpenBracket]) {
                 return Ok(found);
             }
             found.push(self.suffix(tokens)?)?;
@@ -208,13 +247,13 @@ impl<F: Fn(Global, &mut Tokens<'_>, usize, Symbol) -> Result<Value, ParseError>>
         &self,
         tokens: &mut Tokens<'_>,
         from: Span,
-        mut left: Expr,
-    ) -> Result<Expr, ParseError>
+        mut left: Boxed<Expr>,
+    ) -> Result<Boxed<Expr>, ParseError>
         requires { Nests self.now.depth (F.pre self.now.nested) (F.post self.now.nested) }
         ensures { Met (then (build.suffixed from left) (reading self.now.depth rules.suffixes (cursor_of tokens.old))) result (cursor_of tokens.new) }
     {
         for _turn in 0..tokens.len() {
-            if !tokens.starts(&[DOT, OPEN_BRACKET]) {
+            if !tokens.starts(&[Kind::Dot, Kind::OpenBracket]) {
                 return Ok(left);
             }
             let placed = self.suffix(tokens)?;

@@ -1,16 +1,17 @@
 //! A cursor over the tokens of a file.
 
-ghost use Rattle.std.specs.Prelude.{◌≡◌, length, IfOk};
+ghost use Rattle.std.specs.Prelude.{◌≡◌, length, true, IfOk};
 ghost use Rattle.asl_grammar.specs.grammar.Build as build;
 ghost use Rattle.asl_grammar.specs.grammar.Cursor as cursor;
-ghost use Rattle.asl_grammar.specs.grammar.Kinds as kinds;
-ghost use Rattle.asl_grammar.specs.grammar.Reader.{run_tok, run_opens};
-ghost use Rattle.asl_parse_expr.specs.Code.{cursor_of, Met, MetToken, charge};
+ghost use Rattle.asl_grammar.specs.grammar.Operators.{binary_kinds, unary_kinds};
+ghost use Rattle.asl_grammar.specs.grammar.Reader.{covers, run_tok, run_opens};
+ghost use Rattle.asl_parse_expr.specs.Code.{cursor_of, Met, MetToken, charge, operator_at, prefix_at};
 
 use asl_grammar::error::ParseError;
-use asl_grammar::kinds::code;
+use asl_grammar::kinds::{Kind, kind_of};
+use asl_grammar::operators::{binary_of, unary_of};
 use asl_syn::token::{Span, Token};
-use asl_syn::tree::{Ident, Text};
+use asl_syn::tree::{BinaryOperator, Ident, Text, UnaryOperator};
 use std::alloc::{AllocError, Global};
 
 #[derive(Drop)]
@@ -62,11 +63,12 @@ pub fn ident(alloc: Global, bytes: &[u8], token: Token) -> Result<Ident, AllocEr
     })
 }
 
-fn is_among(codes: &[u8], code: u8) -> bool
-    ensures { result ≡ cursor.among codes.now code }
+/// Whether a kind is one of these.
+fn is_among(kinds: &[Kind], kind: Kind) -> bool
+    ensures { result ≡ cursor.among kinds.now kind }
 {
-    for c in codes {
-        if *c == code {
+    for one in kinds {
+        if *one == kind {
             return true;
         }
     }
@@ -75,12 +77,12 @@ fn is_among(codes: &[u8], code: u8) -> bool
 
 impl<'a> Tokens<'a> {
     /// Whether the next token has one of these kinds.
-    pub fn starts(&self, codes: &[u8]) -> bool
-        ensures { result ≡ cursor.starts codes.now (cursor_of self.now).toks }
+    pub fn starts(&self, kinds: &[Kind]) -> bool
+        ensures { result ≡ cursor.starts kinds.now (cursor_of self.now).toks }
     {
         match self.toks.first() {
             None => false,
-            Some(token) => is_among(codes, code(token.kind)),
+            Some(token) => is_among(kinds, kind_of(token.kind)),
         }
     }
 
@@ -113,14 +115,14 @@ impl<'a> Tokens<'a> {
     }
 
     /// Reads a token of one of these kinds.
-    pub fn take(&mut self, codes: &[u8]) -> Result<Token, ParseError>
-        ensures { MetToken (run_tok codes.now (cursor_of self.old) (cursor_of self.old).toks) self.old.bytes.now result (cursor_of self.new) }
+    pub fn take(&mut self, kinds: &[Kind]) -> Result<Token, ParseError>
+        ensures { MetToken (run_tok kinds.now (cursor_of self.old) (cursor_of self.old).toks) self.old.bytes.now result (cursor_of self.new) }
     {
         let toks = self.toks;
         let Some((token, rest)) = toks.split_first() else {
             return Err(ParseError::Syntax(0));
         };
-        if !is_among(codes, code(token.kind)) {
+        if !is_among(kinds, kind_of(token.kind)) {
             return Err(ParseError::Syntax(toks.len()));
         }
         self.toks = rest;
@@ -129,14 +131,14 @@ impl<'a> Tokens<'a> {
     }
 
     /// Reads a token of one of these kinds, which opens a level.
-    pub fn open(&mut self, codes: &[u8]) -> Result<Token, ParseError>
-        ensures { MetToken (run_opens codes.now self.old.left (cursor_of self.old).toks) self.old.bytes.now result (cursor_of self.new) }
+    pub fn open(&mut self, kinds: &[Kind]) -> Result<Token, ParseError>
+        ensures { MetToken (run_opens kinds.now self.old.left (cursor_of self.old).toks) self.old.bytes.now result (cursor_of self.new) }
     {
         let toks = self.toks;
         let Some((token, rest)) = toks.split_first() else {
             return Err(ParseError::Syntax(0));
         };
-        if !is_among(codes, code(token.kind)) {
+        if !is_among(kinds, kind_of(token.kind)) {
             return Err(ParseError::Syntax(toks.len()));
         }
         if self.left == 0 {
@@ -148,11 +150,31 @@ impl<'a> Tokens<'a> {
         Ok(*token)
     }
 
-    /// Opens a level at the next token, if it is one of these; it is the token before that opens it, if so said.
-    pub fn charge(&mut self, codes: &[u8], late: bool) -> Result<(), ParseError>
-        ensures { Met (charge codes.now late (cursor_of self.old)) result (cursor_of self.new) }
+    /// Reads an operator of one of these kinds before its operand, which opens a level.
+    #[tactic(auto, unfolding(crate::specs::Code::prefix_at))]
+    pub fn prefix(&mut self, kinds: &[Kind]) -> Result<UnaryOperator, ParseError>
+        requires { covers unary_kinds kinds.now ≡ true }
+        ensures { Met (prefix_at kinds.now (cursor_of self.old)) result (cursor_of self.new) }
     {
-        if !self.starts(codes) {
+        let token = self.open(kinds)?;
+        Ok(unary_of(kind_of(token.kind)))
+    }
+
+    /// Reads an operator of one of these kinds between its operands, which opens a level.
+    #[tactic(auto, unfolding(crate::specs::Code::operator_at))]
+    pub fn operator(&mut self, kinds: &[Kind]) -> Result<BinaryOperator, ParseError>
+        requires { covers binary_kinds kinds.now ≡ true }
+        ensures { Met (operator_at kinds.now (cursor_of self.old)) result (cursor_of self.new) }
+    {
+        let token = self.open(kinds)?;
+        Ok(binary_of(kind_of(token.kind)))
+    }
+
+    /// Opens a level at the next token, if it is one of these; it is the token before that opens it, if so said.
+    pub fn charge(&mut self, kinds: &[Kind], late: bool) -> Result<(), ParseError>
+        ensures { Met (charge kinds.now late (cursor_of self.old)) result (cursor_of self.new) }
+    {
+        if !self.starts(kinds) {
             return Err(ParseError::Syntax(self.toks.len()));
         }
         if self.left == 0 {

@@ -10,66 +10,70 @@ use crate::grammar::{Grammar, Symbol, Value, nested};
 use crate::names::name;
 use crate::tokens::{Tokens, text_at};
 use asl_grammar::error::ParseError;
-use asl_grammar::kinds::{
-    ARRAY, BIT, BITS, BOOLEAN, CLOSE_BRACE, CLOSE_BRACKET, CLOSE_PAREN, COLON, COMMA, DOT_DOT,
-    INTEGER, NAME, OF, OPEN_BRACE, OPEN_BRACKET, OPEN_PAREN,
-};
+use asl_grammar::kinds::Kind;
 use asl_syn::tree::{Bitfield, ConstraintPart, Expr, Ident, TypeExpr};
 use sqlite_items::{Boxed, Items};
 use std::alloc::Global;
 
-fn bitfield_of(high: Expr, low: Option<Expr>, name: Ident) -> Bitfield
+/// A bit or a range of bits with its name.
+fn bitfield_of(high: Boxed<Expr>, low: Option<Boxed<Expr>>, name: Ident) -> Bitfield
     ensures { result ≡ build.bitfield_of high low name }
 {
     match low {
-        None => Bitfield::OneBit(high, name),
-        Some(low) => Bitfield::BitRange(high, low, name),
+        None => Bitfield::OneBit(high.into_inner(), name),
+        Some(low) => Bitfield::BitRange(high.into_inner(), low.into_inner(), name),
     }
 }
 
-#[tactic(auto, using(crate::proofs::Steps::boolean_type_is))]
+/// `boolean`
+#[tactic(auto, unfolding(asl_grammar::specs::grammar::Rules::boolean_type))]
 fn boolean_type(tokens: &mut Tokens<'_>, depth: usize) -> Result<TypeExpr, ParseError>
     ensures { Met (reading depth rules.boolean_type (cursor_of tokens.old)) result (cursor_of tokens.new) }
 {
-    let token = tokens.take(&[BOOLEAN])?;
+    let token = tokens.take(&[Kind::Boolean])?;
     Ok(TypeExpr::BooleanType(token.span))
 }
 
-#[tactic(auto, using(crate::proofs::Steps::bit_type_is))]
+/// `bit`
+#[tactic(auto, unfolding(asl_grammar::specs::grammar::Rules::bit_type))]
 fn bit_type(tokens: &mut Tokens<'_>, depth: usize) -> Result<TypeExpr, ParseError>
     ensures { Met (reading depth rules.bit_type (cursor_of tokens.old)) result (cursor_of tokens.new) }
 {
-    let token = tokens.take(&[BIT])?;
+    let token = tokens.take(&[Kind::Bit])?;
     Ok(TypeExpr::BitType(token.span))
 }
 
-#[tactic(auto, using(crate::proofs::Steps::named_type_is))]
+/// The name of a type.
+#[tactic(auto, unfolding(asl_grammar::specs::grammar::Rules::named_type))]
 fn named_type(alloc: Global, tokens: &mut Tokens<'_>, depth: usize) -> Result<TypeExpr, ParseError>
     ensures { Met (reading depth rules.named_type (cursor_of tokens.old)) result (cursor_of tokens.new) }
 {
     let bytes = tokens.bytes;
-    let token = tokens.take(&[NAME])?;
+    let token = tokens.take(&[Kind::Name])?;
     Ok(TypeExpr::NamedType(token.span, text_at(alloc, bytes, token.span)?))
 }
 
 impl<F: Fn(Global, &mut Tokens<'_>, usize, Symbol) -> Result<Value, ParseError>> Grammar<F> {
-    #[tactic(auto, using(crate::proofs::Steps::constraint_end_is))]
+    /// The upper end of a range of integers, if there is one.
+    #[tactic(auto, unfolding(asl_grammar::specs::grammar::Rules::constraint_end, crate::specs::Code::then))]
     pub fn constraint_end(
         &self,
         tokens: &mut Tokens<'_>,
-        low: Expr,
+        low: Boxed<Expr>,
     ) -> Result<ConstraintPart, ParseError>
         requires { Nests self.now.depth (F.pre self.now.nested) (F.post self.now.nested) }
         ensures { Met (then (build.constraint_part_of low) (reading self.now.depth rules.constraint_end (cursor_of tokens.old))) result (cursor_of tokens.new) }
     {
-        if !tokens.starts(&[DOT_DOT]) {
-            return Ok(ConstraintPart::Only(low));
+        if !tokens.starts(&[Kind::DotDot]) {
+            return Ok(ConstraintPart::Only(low.into_inner()));
         }
-        tokens.take(&[DOT_DOT])?;
-        Ok(ConstraintPart::FromTo(low, self.expression(tokens)?))
+        tokens.take(&[Kind::DotDot])?;
+        let high = self.expression(tokens)?;
+        Ok(ConstraintPart::FromTo(low.into_inner(), high.into_inner()))
     }
 
-    #[tactic(auto, using(crate::proofs::Steps::constraint_part_is))]
+    /// An integer or a range of integers.
+    #[tactic(auto, unfolding(asl_grammar::specs::grammar::Rules::constraint_part, crate::specs::Code::then))]
     pub fn constraint_part(&self, tokens: &mut Tokens<'_>) -> Result<ConstraintPart, ParseError>
         requires { Nests self.now.depth (F.pre self.now.nested) (F.post self.now.nested) }
         ensures { Met (reading self.now.depth rules.constraint_part (cursor_of tokens.old)) result (cursor_of tokens.new) }
@@ -78,6 +82,7 @@ impl<F: Fn(Global, &mut Tokens<'_>, usize, Symbol) -> Result<Value, ParseError>>
         self.constraint_end(tokens, low)
     }
 
+    /// Parts of a constraint with commas between.
     #[tactic(auto, using(crate::proofs::Steps::constraint_list_is))]
     pub fn constraint_list(
         &self,
@@ -89,16 +94,17 @@ impl<F: Fn(Global, &mut Tokens<'_>, usize, Symbol) -> Result<Value, ParseError>>
         let mut found = Items::new(self.alloc);
         found.push(self.constraint_part(tokens)?)?;
         for _turn in 0..tokens.len() {
-            if !tokens.starts(&[COMMA]) {
+            if !tokens.starts(&[Kind::Comma]) {
                 return Ok(found);
             }
-            tokens.take(&[COMMA])?;
+            tokens.take(&[Kind::Comma])?;
             found.push(self.constraint_part(tokens)?)?;
         }
         Ok(found)
     }
 
-    #[tactic(auto, using(crate::proofs::Steps::constraint_parts_is))]
+    /// Parts of a constraint, and the `}`.
+    #[tactic(auto, unfolding(asl_grammar::specs::grammar::Rules::constraint_parts))]
     pub fn constraint_parts(
         &self,
         tokens: &mut Tokens<'_>,
@@ -107,23 +113,28 @@ impl<F: Fn(Global, &mut Tokens<'_>, usize, Symbol) -> Result<Value, ParseError>>
         ensures { Met (reading self.now.depth rules.constraint_parts (cursor_of tokens.old)) result (cursor_of tokens.new) }
     {
         let found = self.constraint_list(tokens)?;
-        tokens.take(&[CLOSE_BRACE])?;
+        tokens.take(&[Kind::CloseBrace])?;
         Ok(found)
     }
 
-    #[tactic(auto, using(crate::proofs::Steps::constraint_is))]
+    /// A constraint.
+    #[tactic(auto, unfolding(asl_grammar::specs::grammar::Rules::constraint))]
     pub fn constraint(&self, tokens: &mut Tokens<'_>) -> Result<Items<ConstraintPart>, ParseError>
         requires { Nests self.now.depth (F.pre self.now.nested) (F.post self.now.nested) }
         ensures { Met (reading self.now.depth rules.constraint (cursor_of tokens.old)) result (cursor_of tokens.new) }
     {
         let left = tokens.left;
-        tokens.open(&[OPEN_BRACE])?;
-        let found = self.nested_constraint(tokens)?;
+        tokens.open(&[Kind::OpenBrace])?;
+        let found = match self.value(tokens, Symbol::ConstraintParts)? {
+            Value::Constraint(found) => found,
+            _ => unreachable!(),
+        };
         tokens.left = left;
         Ok(found)
     }
 
-    #[tactic(auto, using(crate::proofs::Steps::maybe_constraint_is))]
+    /// A constraint, if there is one: else no parts.
+    #[tactic(auto, unfolding(asl_grammar::specs::grammar::Rules::maybe_constraint, asl_grammar::specs::grammar::Rules::constraint))]
     pub fn maybe_constraint(
         &self,
         tokens: &mut Tokens<'_>,
@@ -131,39 +142,45 @@ impl<F: Fn(Global, &mut Tokens<'_>, usize, Symbol) -> Result<Value, ParseError>>
         requires { Nests self.now.depth (F.pre self.now.nested) (F.post self.now.nested) }
         ensures { Met (reading self.now.depth rules.maybe_constraint (cursor_of tokens.old)) result (cursor_of tokens.new) }
     {
-        if !tokens.starts(&[OPEN_BRACE]) {
+        if !tokens.starts(&[Kind::OpenBrace]) {
             return Ok(Items::new(self.alloc));
         }
         self.constraint(tokens)
     }
 
-    #[tactic(auto, using(crate::proofs::Steps::low_end_is))]
-    pub fn low_end(&self, tokens: &mut Tokens<'_>) -> Result<Option<Expr>, ParseError>
+    /// The lower end of a bitfield, if there is one.
+    #[tactic(auto, unfolding(asl_grammar::specs::grammar::Rules::low_end))]
+    pub fn low_end(&self, tokens: &mut Tokens<'_>) -> Result<Option<Boxed<Expr>>, ParseError>
         requires { Nests self.now.depth (F.pre self.now.nested) (F.post self.now.nested) }
         ensures { Met (reading self.now.depth rules.low_end (cursor_of tokens.old)) result (cursor_of tokens.new) }
     {
-        if !tokens.starts(&[COLON]) {
+        if !tokens.starts(&[Kind::Colon]) {
             return Ok(None);
         }
-        tokens.take(&[COLON])?;
+        tokens.take(&[Kind::Colon])?;
         Ok(Some(self.expression(tokens)?))
     }
 
-    #[tactic(auto, using(crate::proofs::Steps::bit_ends_is))]
-    pub fn bit_ends(&self, tokens: &mut Tokens<'_>) -> Result<(Expr, Option<Expr>), ParseError>
+    /// The bits of a bitfield, in brackets.
+    #[tactic(auto, unfolding(asl_grammar::specs::grammar::Rules::bit_ends))]
+    pub fn bit_ends(
+        &self,
+        tokens: &mut Tokens<'_>,
+    ) -> Result<(Boxed<Expr>, Option<Boxed<Expr>>), ParseError>
         requires { Nests self.now.depth (F.pre self.now.nested) (F.post self.now.nested) }
         ensures { Met (reading self.now.depth rules.bit_ends (cursor_of tokens.old)) result (cursor_of tokens.new) }
     {
         let left = tokens.left;
-        tokens.open(&[OPEN_BRACKET])?;
+        tokens.open(&[Kind::OpenBracket])?;
         let high = self.expression(tokens)?;
         let low = self.low_end(tokens)?;
-        tokens.take(&[CLOSE_BRACKET])?;
+        tokens.take(&[Kind::CloseBracket])?;
         tokens.left = left;
         Ok((high, low))
     }
 
-    #[tactic(auto, using(crate::proofs::Steps::bitfield_is))]
+    /// A bitfield.
+    #[tactic(auto, unfolding(asl_grammar::specs::grammar::Rules::bitfield))]
     pub fn bitfield(&self, tokens: &mut Tokens<'_>) -> Result<Bitfield, ParseError>
         requires { Nests self.now.depth (F.pre self.now.nested) (F.post self.now.nested) }
         ensures { Met (reading self.now.depth rules.bitfield (cursor_of tokens.old)) result (cursor_of tokens.new) }
@@ -173,6 +190,7 @@ impl<F: Fn(Global, &mut Tokens<'_>, usize, Symbol) -> Result<Value, ParseError>>
         Ok(bitfield_of(high, low, name))
     }
 
+    /// Bitfields with commas between, and maybe one behind them.
     #[tactic(auto, using(crate::proofs::Steps::bitfield_list_is))]
     pub fn bitfield_list(&self, tokens: &mut Tokens<'_>) -> Result<Items<Bitfield>, ParseError>
         requires { Nests self.now.depth (F.pre self.now.nested) (F.post self.now.nested) }
@@ -181,11 +199,11 @@ impl<F: Fn(Global, &mut Tokens<'_>, usize, Symbol) -> Result<Value, ParseError>>
         let mut found = Items::new(self.alloc);
         found.push(self.bitfield(tokens)?)?;
         for _turn in 0..tokens.len() {
-            if !tokens.starts(&[COMMA]) {
+            if !tokens.starts(&[Kind::Comma]) {
                 return Ok(found);
             }
-            tokens.take(&[COMMA])?;
-            if !tokens.starts(&[OPEN_BRACKET]) {
+            tokens.take(&[Kind::Comma])?;
+            if !tokens.starts(&[Kind::OpenBracket]) {
                 return Ok(found);
             }
             found.push(self.bitfield(tokens)?)?;
@@ -193,7 +211,8 @@ impl<F: Fn(Global, &mut Tokens<'_>, usize, Symbol) -> Result<Value, ParseError>>
         Ok(found)
     }
 
-    #[tactic(auto, using(crate::proofs::Steps::maybe_bitfield_list_is))]
+    /// Bitfields, or none.
+    #[tactic(auto, unfolding(asl_grammar::specs::grammar::Rules::maybe_bitfield_list, asl_grammar::specs::grammar::Rules::bitfield_list, asl_grammar::specs::grammar::Rules::bitfield, asl_grammar::specs::grammar::Rules::bit_ends))]
     pub fn maybe_bitfield_list(
         &self,
         tokens: &mut Tokens<'_>,
@@ -201,82 +220,95 @@ impl<F: Fn(Global, &mut Tokens<'_>, usize, Symbol) -> Result<Value, ParseError>>
         requires { Nests self.now.depth (F.pre self.now.nested) (F.post self.now.nested) }
         ensures { Met (reading self.now.depth rules.maybe_bitfield_list (cursor_of tokens.old)) result (cursor_of tokens.new) }
     {
-        if !tokens.starts(&[OPEN_BRACKET]) {
+        if !tokens.starts(&[Kind::OpenBracket]) {
             return Ok(Items::new(self.alloc));
         }
         self.bitfield_list(tokens)
     }
 
-    #[tactic(auto, using(crate::proofs::Steps::bitfields_in_is))]
+    /// Bitfields, and the `}`.
+    #[tactic(auto, unfolding(asl_grammar::specs::grammar::Rules::bitfields_in))]
     pub fn bitfields_in(&self, tokens: &mut Tokens<'_>) -> Result<Items<Bitfield>, ParseError>
         requires { Nests self.now.depth (F.pre self.now.nested) (F.post self.now.nested) }
         ensures { Met (reading self.now.depth rules.bitfields_in (cursor_of tokens.old)) result (cursor_of tokens.new) }
     {
         let found = self.maybe_bitfield_list(tokens)?;
-        tokens.take(&[CLOSE_BRACE])?;
+        tokens.take(&[Kind::CloseBrace])?;
         Ok(found)
     }
 
-    #[tactic(auto, using(crate::proofs::Steps::bitfields_is))]
+    /// Bitfields in braces.
+    #[tactic(auto, unfolding(asl_grammar::specs::grammar::Rules::bitfields))]
     pub fn bitfields(&self, tokens: &mut Tokens<'_>) -> Result<Items<Bitfield>, ParseError>
         requires { Nests self.now.depth (F.pre self.now.nested) (F.post self.now.nested) }
         ensures { Met (reading self.now.depth rules.bitfields (cursor_of tokens.old)) result (cursor_of tokens.new) }
     {
         let left = tokens.left;
-        tokens.open(&[OPEN_BRACE])?;
-        let found = self.nested_bitfields(tokens)?;
+        tokens.open(&[Kind::OpenBrace])?;
+        let found = match self.value(tokens, Symbol::Bitfields)? {
+            Value::Bitfields(found) => found,
+            _ => unreachable!(),
+        };
         tokens.left = left;
         Ok(found)
     }
 
-    #[tactic(auto, using(crate::proofs::Steps::maybe_bitfields_is))]
+    /// Bitfields in braces, if they are there.
+    #[tactic(auto, unfolding(asl_grammar::specs::grammar::Rules::maybe_bitfields, asl_grammar::specs::grammar::Rules::bitfields))]
     pub fn maybe_bitfields(&self, tokens: &mut Tokens<'_>) -> Result<Items<Bitfield>, ParseError>
         requires { Nests self.now.depth (F.pre self.now.nested) (F.post self.now.nested) }
         ensures { Met (reading self.now.depth rules.maybe_bitfields (cursor_of tokens.old)) result (cursor_of tokens.new) }
     {
-        if !tokens.starts(&[OPEN_BRACE]) {
+        if !tokens.starts(&[Kind::OpenBrace]) {
             return Ok(Items::new(self.alloc));
         }
         self.bitfields(tokens)
     }
 
-    #[tactic(auto, using(crate::proofs::Steps::integer_type_is))]
+    /// `integer`, with its constraint.
+    #[tactic(auto, unfolding(asl_grammar::specs::grammar::Rules::integer_type))]
     pub fn integer_type(&self, tokens: &mut Tokens<'_>) -> Result<TypeExpr, ParseError>
         requires { Nests self.now.depth (F.pre self.now.nested) (F.post self.now.nested) }
         ensures { Met (reading self.now.depth rules.integer_type (cursor_of tokens.old)) result (cursor_of tokens.new) }
     {
         let from = tokens.ahead();
-        tokens.take(&[INTEGER])?;
+        tokens.take(&[Kind::Integer])?;
         let parts = self.maybe_constraint(tokens)?;
         Ok(TypeExpr::IntegerType(tokens.since(from), parts))
     }
 
-    #[tactic(auto, using(crate::proofs::Steps::width_in_is))]
-    pub fn width_in(&self, tokens: &mut Tokens<'_>) -> Result<Expr, ParseError>
+    /// A width, and the `)`.
+    #[tactic(auto, unfolding(asl_grammar::specs::grammar::Rules::width_in))]
+    pub fn width_in(&self, tokens: &mut Tokens<'_>) -> Result<Boxed<Expr>, ParseError>
         requires { Nests self.now.depth (F.pre self.now.nested) (F.post self.now.nested) }
         ensures { Met (reading self.now.depth rules.width_in (cursor_of tokens.old)) result (cursor_of tokens.new) }
     {
         let width = self.expression(tokens)?;
-        tokens.take(&[CLOSE_PAREN])?;
+        tokens.take(&[Kind::CloseParen])?;
         Ok(width)
     }
 
-    #[tactic(auto, using(crate::proofs::Steps::bits_type_is))]
+    /// `bits` with its width and its bitfields.
+    #[tactic(auto, unfolding(asl_grammar::specs::grammar::Rules::bits_type))]
     pub fn bits_type(&self, tokens: &mut Tokens<'_>) -> Result<TypeExpr, ParseError>
         requires { Nests self.now.depth (F.pre self.now.nested) (F.post self.now.nested) }
         ensures { Met (reading self.now.depth rules.bits_type (cursor_of tokens.old)) result (cursor_of tokens.new) }
     {
         let from = tokens.ahead();
-        tokens.take(&[BITS])?;
+        tokens.take(&[Kind::Bits])?;
         let left = tokens.left;
-        tokens.open(&[OPEN_PAREN])?;
-        let width = self.nested_width(tokens)?;
+        tokens.open(&[Kind::OpenParen])?;
+        let width = match self.value(tokens, Symbol::Width)? {
+            Value::Expr(found) => found,
+            _ => unreachable!(),
+        };
         tokens.left = left;
         let fields = self.maybe_bitfields(tokens)?;
         let span = tokens.since(from);
-        Ok(TypeExpr::BitsType(span, Boxed::new(self.alloc, width)?, fields))
+        Ok(TypeExpr::BitsType(span, width, fields))
     }
 
+    /// More types, each behind a comma.
     #[tactic(auto, using(crate::proofs::Steps::more_types_is))]
     pub fn more_types(
         &self,
@@ -287,15 +319,16 @@ impl<F: Fn(Global, &mut Tokens<'_>, usize, Symbol) -> Result<Value, ParseError>>
         ensures { Met (then (build.behind found) (reading self.now.depth rules.more_types (cursor_of tokens.old))) result (cursor_of tokens.new) }
     {
         for _turn in 0..tokens.len() {
-            if !tokens.starts(&[COMMA]) {
+            if !tokens.starts(&[Kind::Comma]) {
                 return Ok(found);
             }
-            tokens.take(&[COMMA])?;
+            tokens.take(&[Kind::Comma])?;
             found.push(self.type_expression(tokens)?)?;
         }
         Ok(found)
     }
 
+    /// Two types or more, with commas between.
     #[tactic(auto, using(crate::proofs::Steps::two_types_is))]
     pub fn two_types(&self, tokens: &mut Tokens<'_>) -> Result<Items<TypeExpr>, ParseError>
         requires { Nests self.now.depth (F.pre self.now.nested) (F.post self.now.nested) }
@@ -303,78 +336,88 @@ impl<F: Fn(Global, &mut Tokens<'_>, usize, Symbol) -> Result<Value, ParseError>>
     {
         let mut found = Items::new(self.alloc);
         found.push(self.type_expression(tokens)?)?;
-        tokens.take(&[COMMA])?;
+        tokens.take(&[Kind::Comma])?;
         found.push(self.type_expression(tokens)?)?;
         self.more_types(tokens, found)
     }
 
-    #[tactic(auto, using(crate::proofs::Steps::type_parts_is))]
+    /// The types of a tuple, and the `)`.
+    #[tactic(auto, unfolding(asl_grammar::specs::grammar::Rules::type_parts))]
     pub fn type_parts(&self, tokens: &mut Tokens<'_>) -> Result<Items<TypeExpr>, ParseError>
         requires { Nests self.now.depth (F.pre self.now.nested) (F.post self.now.nested) }
         ensures { Met (reading self.now.depth rules.type_parts (cursor_of tokens.old)) result (cursor_of tokens.new) }
     {
         let found = self.two_types(tokens)?;
-        tokens.take(&[CLOSE_PAREN])?;
+        tokens.take(&[Kind::CloseParen])?;
         Ok(found)
     }
 
-    #[tactic(auto, using(crate::proofs::Steps::tuple_type_is))]
+    /// A type of tuples.
+    #[tactic(auto, unfolding(asl_grammar::specs::grammar::Rules::tuple_type))]
     pub fn tuple_type(&self, tokens: &mut Tokens<'_>) -> Result<TypeExpr, ParseError>
         requires { Nests self.now.depth (F.pre self.now.nested) (F.post self.now.nested) }
         ensures { Met (reading self.now.depth rules.tuple_type (cursor_of tokens.old)) result (cursor_of tokens.new) }
     {
         let from = tokens.ahead();
         let left = tokens.left;
-        tokens.open(&[OPEN_PAREN])?;
-        let parts = self.nested_types(tokens)?;
+        tokens.open(&[Kind::OpenParen])?;
+        let parts = match self.value(tokens, Symbol::TypeParts)? {
+            Value::Types(found) => found,
+            _ => unreachable!(),
+        };
         tokens.left = left;
         Ok(TypeExpr::TupleType(tokens.since(from), parts))
     }
 
-    #[tactic(auto, using(crate::proofs::Steps::array_length_is))]
-    pub fn array_length(&self, tokens: &mut Tokens<'_>) -> Result<Expr, ParseError>
+    /// The length of an array, in two brackets.
+    #[tactic(auto, unfolding(asl_grammar::specs::grammar::Rules::array_length))]
+    pub fn array_length(&self, tokens: &mut Tokens<'_>) -> Result<Boxed<Expr>, ParseError>
         requires { Nests self.now.depth (F.pre self.now.nested) (F.post self.now.nested) }
         ensures { Met (reading self.now.depth rules.array_length (cursor_of tokens.old)) result (cursor_of tokens.new) }
     {
         let left = tokens.left;
-        tokens.open(&[OPEN_BRACKET])?;
+        tokens.open(&[Kind::OpenBracket])?;
         let inside = tokens.left;
-        tokens.open(&[OPEN_BRACKET])?;
+        tokens.open(&[Kind::OpenBracket])?;
         let length = self.expression(tokens)?;
-        tokens.take(&[CLOSE_BRACKET])?;
+        tokens.take(&[Kind::CloseBracket])?;
         tokens.left = inside;
-        tokens.take(&[CLOSE_BRACKET])?;
+        tokens.take(&[Kind::CloseBracket])?;
         tokens.left = left;
         Ok(length)
     }
 
-    #[tactic(auto, using(crate::proofs::Steps::array_parts_is))]
-    pub fn array_parts(&self, tokens: &mut Tokens<'_>) -> Result<(Expr, TypeExpr), ParseError>
+    /// The length of an array, and the type of its elements.
+    #[tactic(auto, unfolding(asl_grammar::specs::grammar::Rules::array_parts))]
+    pub fn array_parts(
+        &self,
+        tokens: &mut Tokens<'_>,
+    ) -> Result<(Boxed<Expr>, TypeExpr), ParseError>
         requires { Nests self.now.depth (F.pre self.now.nested) (F.post self.now.nested) }
         ensures { Met (reading self.now.depth rules.array_parts (cursor_of tokens.old)) result (cursor_of tokens.new) }
     {
         let length = self.array_length(tokens)?;
-        tokens.take(&[OF])?;
+        tokens.take(&[Kind::Of])?;
         let element = self.type_expression(tokens)?;
         Ok((length, element))
     }
 
-    #[tactic(auto, using(crate::proofs::Steps::array_type_is))]
+    /// A type of arrays.
+    #[tactic(auto, unfolding(asl_grammar::specs::grammar::Rules::array_type))]
     pub fn array_type(&self, tokens: &mut Tokens<'_>) -> Result<TypeExpr, ParseError>
         requires { Nests self.now.depth (F.pre self.now.nested) (F.post self.now.nested) }
         ensures { Met (reading self.now.depth rules.array_type (cursor_of tokens.old)) result (cursor_of tokens.new) }
     {
         let from = tokens.ahead();
         let left = tokens.left;
-        tokens.open(&[ARRAY])?;
-        let (length, element) = self.nested_array(tokens)?;
+        tokens.open(&[Kind::Array])?;
+        let (length, element) = match self.value(tokens, Symbol::ArrayParts)? {
+            Value::Array(first, second) => (first, second),
+            _ => unreachable!(),
+        };
         tokens.left = left;
         let span = tokens.since(from);
-        Ok(TypeExpr::ArrayType(
-            span,
-            Boxed::new(self.alloc, length)?,
-            Boxed::new(self.alloc, element)?,
-        ))
+        Ok(TypeExpr::ArrayType(span, length, Boxed::new(self.alloc, element)?))
     }
 
     /// A type.
@@ -383,24 +426,25 @@ impl<F: Fn(Global, &mut Tokens<'_>, usize, Symbol) -> Result<Value, ParseError>>
         requires { Nests self.now.depth (F.pre self.now.nested) (F.post self.now.nested) }
         ensures { Met (reading self.now.depth rules.type_expression (cursor_of tokens.old)) result (cursor_of tokens.new) }
     {
-        if tokens.starts(&[INTEGER]) {
+        if tokens.starts(&[Kind::Integer]) {
             self.integer_type(tokens)
-        } else if tokens.starts(&[BOOLEAN]) {
+        } else if tokens.starts(&[Kind::Boolean]) {
             boolean_type(tokens, self.depth)
-        } else if tokens.starts(&[BIT]) {
+        } else if tokens.starts(&[Kind::Bit]) {
             bit_type(tokens, self.depth)
-        } else if tokens.starts(&[NAME]) {
+        } else if tokens.starts(&[Kind::Name]) {
             named_type(self.alloc, tokens, self.depth)
-        } else if tokens.starts(&[BITS]) {
+        } else if tokens.starts(&[Kind::Bits]) {
             self.bits_type(tokens)
-        } else if tokens.starts(&[OPEN_PAREN]) {
+        } else if tokens.starts(&[Kind::OpenParen]) {
             self.tuple_type(tokens)
         } else {
             self.array_type(tokens)
         }
     }
 
-    #[tactic(auto, using(crate::proofs::Steps::constraint_type_is))]
+    /// A constraint alone, which stands for `integer` with it.
+    #[tactic(auto, unfolding(asl_grammar::specs::grammar::Rules::constraint_type))]
     pub fn constraint_type(&self, tokens: &mut Tokens<'_>) -> Result<TypeExpr, ParseError>
         requires { Nests self.now.depth (F.pre self.now.nested) (F.post self.now.nested) }
         ensures { Met (reading self.now.depth rules.constraint_type (cursor_of tokens.old)) result (cursor_of tokens.new) }
@@ -411,12 +455,20 @@ impl<F: Fn(Global, &mut Tokens<'_>, usize, Symbol) -> Result<Value, ParseError>>
     }
 
     /// What stands behind `as`: a type, or a constraint alone.
-    #[tactic(auto, using(crate::proofs::Steps::as_type_is))]
+    #[tactic(auto, unfolding(asl_grammar::specs::grammar::Rules::as_type, asl_grammar::specs::grammar::Rules::type_expression, asl_grammar::specs::grammar::Rules::integer_type, asl_grammar::specs::grammar::Rules::boolean_type, asl_grammar::specs::grammar::Rules::bit_type, asl_grammar::specs::grammar::Rules::named_type, asl_grammar::specs::grammar::Rules::bits_type, asl_grammar::specs::grammar::Rules::tuple_type, asl_grammar::specs::grammar::Rules::array_type))]
     pub fn as_type(&self, tokens: &mut Tokens<'_>) -> Result<TypeExpr, ParseError>
         requires { Nests self.now.depth (F.pre self.now.nested) (F.post self.now.nested) }
         ensures { Met (reading self.now.depth rules.as_type (cursor_of tokens.old)) result (cursor_of tokens.new) }
     {
-        if tokens.starts(&[INTEGER, BOOLEAN, BIT, NAME, BITS, OPEN_PAREN, ARRAY]) {
+        if tokens.starts(&[
+            Kind::Integer,
+            Kind::Boolean,
+            Kind::Bit,
+            Kind::Name,
+            Kind::Bits,
+            Kind::OpenParen,
+            Kind::Array,
+        ]) {
             self.type_expression(tokens)
         } else {
             self.constraint_type(tokens)
@@ -424,15 +476,15 @@ impl<F: Fn(Global, &mut Tokens<'_>, usize, Symbol) -> Result<Value, ParseError>>
     }
 
     /// A colon with a type, or none.
-    #[tactic(auto, using(crate::proofs::Steps::typed_is))]
+    #[tactic(auto, unfolding(asl_grammar::specs::grammar::Rules::typed))]
     pub fn typed(&self, tokens: &mut Tokens<'_>) -> Result<Option<TypeExpr>, ParseError>
         requires { Nests self.now.depth (F.pre self.now.nested) (F.post self.now.nested) }
         ensures { Met (reading self.now.depth rules.typed (cursor_of tokens.old)) result (cursor_of tokens.new) }
     {
-        if !tokens.starts(&[COLON]) {
+        if !tokens.starts(&[Kind::Colon]) {
             return Ok(None);
         }
-        tokens.take(&[COLON])?;
+        tokens.take(&[Kind::Colon])?;
         Ok(Some(self.type_expression(tokens)?))
     }
 }

@@ -1,4 +1,2 @@
-pub mod InFunctions
-pub mod InParts
 pub mod StatementSteps
 pub mod Steps

@@ -1,26 +1,29 @@
--- Rules whose functions take what was read before them, or whose trees are known only where they end.
-use Rattle.std.proofs.Common.{◌≡◌, ℕ, ◌-◌, ◌<◌, Bool, [], ◌∷◌, None, Ok, ap, ◌∙◌}
+-- Rules whose functions take what was read before them, whose trees are known only where they end, or whose parts stand a level below.
+use Rattle.std.proofs.Common.{◌≡◌, ℕ, zero, suc, Bool, List, [], ◌∷◌, None, Ok, refl, ap, sym, ◌∙◌}
 use Rattle.asl_syn.specs.declared.tree.Ident.{Ident}
+use Rattle.asl_syn.specs.declared.tree.Target.{Target}
+use Rattle.asl_syn.specs.declared.tree.Target.TheVariants as tg
 use Rattle.asl_syn.specs.declared.tree.Stmt.TheVariants as stm
 use Rattle.asl_syn.specs.declared.tree.Binder.TheVariants as bd
 use Rattle.asl_syn.specs.declared.tree.Bind.TheVariants as bi
 use Rattle.asl_grammar.specs.declared.parts.VarTail.TheVariants as vt
-use Rattle.asl_grammar.specs.grammar.Kinds.{COMMA, COLON, SEMICOLON, OPEN_BRACE, OPEN_PAREN}
-use Rattle.asl_grammar.specs.grammar.Cursor.{Cursor, starts, ahead, span_to}
-use Rattle.asl_grammar.specs.grammar.Reader.{bind, pick, run_tok}
+use Rattle.asl_grammar.specs.declared.kinds.Kind.TheVariants as kind
+use Rattle.asl_grammar.specs.grammar.Cursor.{Cursor, Kinds, starts, ahead, span_to}
+use Rattle.asl_grammar.specs.grammar.Reader.{Outcome, bind, pick, run_tok, run_opens}
 use Rattle.asl_grammar.specs.grammar.Build.{var_tail_of, place_of, name_statement_of, Typed}
-use Rattle.asl_grammar.specs.grammar.Rules.{IfBody, CaseBody, ForBody, WhileBody, RepeatBody, TryBody, if_body, case_body, for_body, while_body, repeat_body, try_body, name, names, type_expression, names_typed, typed_value, maybe_value, value, var_names, name_statement, invoked, assigned}
+use Rattle.asl_grammar.specs.grammar.Rules.{Sym, Val, rule, IfBody, CaseBody, ForBody, WhileBody, RepeatBody, TryBody, TargetParts, if_body, case_body, for_body, while_body, repeat_body, try_body, if_statement, case_statement, for_statement, while_statement, repeat_statement, try_statement, two_targets, target_parts, targets, name, names, type_expression, names_typed, typed_value, maybe_value, value, var_names, name_statement, invoked, assigned}
 use Rattle.asl_parse_expr.specs.Code.{reading, symbol, then, ending}
-use Rattle.asl_parse_expr.proofs.Loops.{bind_bind, bind_same, deeper}
-use Rattle.asl_parse_stmt.proofs.Steps.{var_names_is, var_rest_is, name_statement_is, name_statement_rest_ends}
+use Rattle.asl_parse_expr.proofs.Loops.{bind_bind, bind_same}
+use Rattle.asl_parse_stmt.specs.Levels.{inside, nested}
+use Rattle.asl_parse_stmt.proofs.Steps.{var_names_is, var_rest_is, name_statement_is, name_statement_rest_ends, if_statement_is, case_statement_is, for_statement_is, while_statement_is, repeat_statement_is, try_statement_is, targets_is}
 
 names_typed_as : (d : ℕ) (i : Ident) (st : Cursor) → bind (reading d names_typed st) (λ x end. Ok (var_tail_of i x, end))
-    ≡ bind (run_tok (COMMA ∷ []) st st.toks) (λ t m. bind (reading d names m) (λ x m1. bind (run_tok (COLON ∷ []) m1 m1.toks) (λ t1 m2. bind (reading d type_expression m2) (λ x1 m3. bind (run_tok (SEMICOLON ∷ []) m3 m3.toks) (λ t2 m4. Ok (vt.Declared (i ∷ x) x1, m4))))))
+    ≡ bind (run_tok (kind.Comma ∷ []) st st.toks) (λ t m. bind (reading d names m) (λ x m1. bind (run_tok (kind.Colon ∷ []) m1 m1.toks) (λ t1 m2. bind (reading d type_expression m2) (λ x1 m3. bind (run_tok (kind.Semicolon ∷ []) m3 m3.toks) (λ t2 m4. Ok (vt.Declared (i ∷ x) x1, m4))))))
 unfolding names_typed
 names_typed_as d i st = simp bind_bind
 
 typed_value_as : (d : ℕ) (i : Ident) (st : Cursor) → bind (reading d typed_value st) (λ x end. Ok (var_tail_of i x, end))
-    ≡ bind (run_tok (COLON ∷ []) st st.toks) (λ t m. bind (reading d type_expression m) (λ x m1. bind (reading d maybe_value m1) (λ x1 m2. Ok (var_tail_of i (Typed x x1), m2))))
+    ≡ bind (run_tok (kind.Colon ∷ []) st st.toks) (λ t m. bind (reading d type_expression m) (λ x m1. bind (reading d maybe_value m1) (λ x1 m2. Ok (var_tail_of i (Typed x x1), m2))))
 unfolding typed_value
 typed_value_as d i st = simp bind_bind
 
@@ -28,37 +31,54 @@ picked : {A : Type 0} (a b : Bool) (x y z x' y' : A) → x ≡ x' → y ≡ y' �
 picked a b x y z x' y' e f = ap (λ v. pick a v (pick b y z)) e ∙ ap (λ v. pick a x' (pick b v z)) f
 
 pub var_names_steps : (d : ℕ) (st : Cursor) → reading d var_names st
-    ≡ bind (reading d name st) (λ i m. pick (starts (COMMA ∷ []) m.toks)
-    (bind (run_tok (COMMA ∷ []) m m.toks) (λ t m1. bind (reading d names m1) (λ x m2. bind (run_tok (COLON ∷ []) m2 m2.toks) (λ t1 m3. bind (reading d type_expression m3) (λ x1 m4. bind (run_tok (SEMICOLON ∷ []) m4 m4.toks) (λ t2 m5. Ok (vt.Declared (i ∷ x) x1, m5)))))))
-    (pick (starts (COLON ∷ []) m.toks)
-    (bind (run_tok (COLON ∷ []) m m.toks) (λ t m1. bind (reading d type_expression m1) (λ x m2. bind (reading d maybe_value m2) (λ x1 m3. Ok (var_tail_of i (Typed x x1), m3)))))
+    ≡ bind (reading d name st) (λ i m. pick (starts (kind.Comma ∷ []) m.toks)
+    (bind (run_tok (kind.Comma ∷ []) m m.toks) (λ t m1. bind (reading d names m1) (λ x m2. bind (run_tok (kind.Colon ∷ []) m2 m2.toks) (λ t1 m3. bind (reading d type_expression m3) (λ x1 m4. bind (run_tok (kind.Semicolon ∷ []) m4 m4.toks) (λ t2 m5. Ok (vt.Declared (i ∷ x) x1, m5)))))))
+    (pick (starts (kind.Colon ∷ []) m.toks)
+    (bind (run_tok (kind.Colon ∷ []) m m.toks) (λ t m1. bind (reading d type_expression m1) (λ x m2. bind (reading d maybe_value m2) (λ x1 m3. Ok (var_tail_of i (Typed x x1), m3)))))
     (bind (reading d value m) (λ x end. Ok (vt.Initialised (bi.Single (bd.Bound i)) None x, end)))))
 unfolding then
-var_names_steps d st = var_names_is d st ∙ bind_same (reading d name st) _ _ (λ i m. var_rest_is d (var_tail_of i) m ∙ picked (starts (COMMA ∷ []) m.toks) (starts (COLON ∷ []) m.toks) _ _ (bind (reading d value m) (λ x end. Ok (vt.Initialised (bi.Single (bd.Bound i)) None x, end))) _ _ (names_typed_as d i m) (typed_value_as d i m))
+var_names_steps d st = var_names_is d st ∙ bind_same (reading d name st) _ _ (λ i m. var_rest_is d (var_tail_of i) m ∙ picked (starts (kind.Comma ∷ []) m.toks) (starts (kind.Colon ∷ []) m.toks) _ _ (bind (reading d value m) (λ x end. Ok (vt.Initialised (bi.Single (bd.Bound i)) None x, end))) _ _ (names_typed_as d i m) (typed_value_as d i m))
 
 pub name_statement_steps : (d : ℕ) (st : Cursor) → reading d name_statement st
-    ≡ bind (reading d name st) (λ i m. pick (starts (OPEN_BRACE ∷ OPEN_PAREN ∷ []) m.toks)
+    ≡ bind (reading d name st) (λ i m. pick (starts (kind.OpenBrace ∷ kind.OpenParen ∷ []) m.toks)
     (bind (reading d invoked m) (λ x end. Ok (stm.Invoke (span_to (ahead st.toks) end.last) i x.0 x.1, end)))
     (bind (reading d assigned m) (λ x end. Ok (stm.Assign (span_to (ahead st.toks) end.last) (place_of i x.0) x.1, end))))
 unfolding ending
 name_statement_steps d st = name_statement_is d st ∙ bind_same (reading d name st) _ _ (λ i m. name_statement_rest_ends d (ahead st.toks) (name_statement_of i) m)
 
--- ---- what a statement holds, a level below it
+-- ---- what a statement or a target holds, a level below it
 
-pub if_body_at : (d : ℕ) (st : Cursor) → 0 < d → symbol d IfBody st ≡ reading (d - 1) if_body st
-if_body_at d st some = deeper d IfBody st some
+inside_reads : {B : Type 0} (d : ℕ) (s : Sym) (st : Cursor) (k : Val s → Cursor → Outcome B) → bind (symbol d s st) k ≡ bind (inside d st) (λ n m. bind (reading n (rule s) m) k)
+inside_reads zero s st k = refl
+inside_reads (suc d) s st k = refl
 
-pub case_body_at : (d : ℕ) (st : Cursor) → 0 < d → symbol d CaseBody st ≡ reading (d - 1) case_body st
-case_body_at d st some = deeper d CaseBody st some
+nests : {B : Type 0} (d : ℕ) (kinds : Kinds) (s : Sym) (st : Cursor) (k : Val s → Cursor → Outcome B)
+    → bind (run_opens kinds st.left st.toks) (λ t m. bind (symbol d s m) k) ≡ bind (nested d kinds st) (λ n m. bind (reading n (rule s) m) k)
+unfolding nested
+nests d kinds s st k = bind_same (run_opens kinds st.left st.toks) (λ t m. bind (symbol d s m) k) (λ t m. bind (inside d m) (λ n at. bind (reading n (rule s) at) k)) (λ t m. inside_reads d s m k)
+    ∙ sym (bind_bind (run_opens kinds st.left st.toks) (λ t m. inside d m) (λ n m. bind (reading n (rule s) m) k))
 
-pub for_body_at : (d : ℕ) (st : Cursor) → 0 < d → symbol d ForBody st ≡ reading (d - 1) for_body st
-for_body_at d st some = deeper d ForBody st some
+pub if_statement_nests : (d : ℕ) (st : Cursor) → reading d if_statement st ≡ bind (nested d (kind.If ∷ []) st) (λ n m. bind (reading n if_body m) (λ x m1. Ok ((stm.If (span_to (ahead st.toks) m1.last) x.0 x.1 x.2 x.3), (record m1 { left = st.left }))))
+if_statement_nests d st = if_statement_is d st ∙ nests d (kind.If ∷ []) IfBody st (λ x m1. Ok ((stm.If (span_to (ahead st.toks) m1.last) x.0 x.1 x.2 x.3), (record m1 { left = st.left })))
 
-pub while_body_at : (d : ℕ) (st : Cursor) → 0 < d → symbol d WhileBody st ≡ reading (d - 1) while_body st
-while_body_at d st some = deeper d WhileBody st some
+pub case_statement_nests : (d : ℕ) (st : Cursor) → reading d case_statement st ≡ bind (nested d (kind.Case ∷ []) st) (λ n m. bind (reading n case_body m) (λ x m1. Ok ((stm.Case (span_to (ahead st.toks) m1.last) x.0 x.1 x.2), (record m1 { left = st.left }))))
+case_statement_nests d st = case_statement_is d st ∙ nests d (kind.Case ∷ []) CaseBody st (λ x m1. Ok ((stm.Case (span_to (ahead st.toks) m1.last) x.0 x.1 x.2), (record m1 { left = st.left })))
 
-pub repeat_body_at : (d : ℕ) (st : Cursor) → 0 < d → symbol d RepeatBody st ≡ reading (d - 1) repeat_body st
-repeat_body_at d st some = deeper d RepeatBody st some
+pub for_statement_nests : (d : ℕ) (st : Cursor) → reading d for_statement st ≡ bind (nested d (kind.For ∷ []) st) (λ n m. bind (reading n for_body m) (λ x m1. Ok ((stm.For (span_to (ahead st.toks) m1.last) x.0 x.1 x.2 x.3 x.4 x.5), (record m1 { left = st.left }))))
+for_statement_nests d st = for_statement_is d st ∙ nests d (kind.For ∷ []) ForBody st (λ x m1. Ok ((stm.For (span_to (ahead st.toks) m1.last) x.0 x.1 x.2 x.3 x.4 x.5), (record m1 { left = st.left })))
 
-pub try_body_at : (d : ℕ) (st : Cursor) → 0 < d → symbol d TryBody st ≡ reading (d - 1) try_body st
-try_body_at d st some = deeper d TryBody st some
+pub while_statement_nests : (d : ℕ) (st : Cursor) → reading d while_statement st ≡ bind (nested d (kind.While ∷ []) st) (λ n m. bind (reading n while_body m) (λ x m1. Ok ((stm.While (span_to (ahead st.toks) m1.last) x.0 x.1 x.2), (record m1 { left = st.left }))))
+while_statement_nests d st = while_statement_is d st ∙ nests d (kind.While ∷ []) WhileBody st (λ x m1. Ok ((stm.While (span_to (ahead st.toks) m1.last) x.0 x.1 x.2), (record m1 { left = st.left })))
+
+pub repeat_statement_nests : (d : ℕ) (st : Cursor) → reading d repeat_statement st ≡ bind (nested d (kind.Repeat ∷ []) st) (λ n m. bind (reading n repeat_body m) (λ x m1. Ok ((stm.Repeat (span_to (ahead st.toks) m1.last) x.0 x.1 x.2), (record m1 { left = st.left }))))
+repeat_statement_nests d st = repeat_statement_is d st ∙ nests d (kind.Repeat ∷ []) RepeatBody st (λ x m1. Ok ((stm.Repeat (span_to (ahead st.toks) m1.last) x.0 x.1 x.2), (record m1 { left = st.left })))
+
+pub try_statement_nests : (d : ℕ) (st : Cursor) → reading d try_statement st ≡ bind (nested d (kind.Try ∷ []) st) (λ n m. bind (reading n try_body m) (λ x m1. Ok ((stm.Try (span_to (ahead st.toks) m1.last) x.0 x.1 x.2), (record m1 { left = st.left }))))
+try_statement_nests d st = try_statement_is d st ∙ nests d (kind.Try ∷ []) TryBody st (λ x m1. Ok ((stm.Try (span_to (ahead st.toks) m1.last) x.0 x.1 x.2), (record m1 { left = st.left })))
+
+targets_at : {B : Type 0} (d : ℕ) (st : Cursor) (k : List Target → Cursor → Outcome B) → bind (reading d target_parts st) k ≡ bind (reading d two_targets st) (λ x m. bind (run_tok (kind.CloseParen ∷ []) m m.toks) (λ t end. k x end))
+unfolding target_parts
+targets_at d st k = simp bind_bind
+
+pub targets_nest : (d : ℕ) (st : Cursor) → reading d targets st ≡ bind (nested d (kind.OpenParen ∷ []) st) (λ n m. bind (reading n two_targets m) (λ x m1. bind (run_tok (kind.CloseParen ∷ []) m1 m1.toks) (λ t m2. Ok ((tg.Targets (span_to (ahead st.toks) m2.last) x), (record m2 { left = st.left })))))
+targets_nest d st = targets_is d st ∙ nests d (kind.OpenParen ∷ []) TargetParts st (λ x m1. Ok ((tg.Targets (span_to (ahead st.toks) m1.last) x), (record m1 { left = st.left }))) ∙ bind_same (nested d (kind.OpenParen ∷ []) st) _ _ (λ n m. targets_at n m (λ x m1. Ok ((tg.Targets (span_to (ahead st.toks) m1.last) x), (record m1 { left = st.left }))))

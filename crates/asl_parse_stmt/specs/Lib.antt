@@ -1,3 +1,2 @@
 pub mod Blocks
-pub mod Functions
-pub mod Parts
+pub mod Levels

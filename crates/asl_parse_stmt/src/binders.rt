@@ -6,40 +6,31 @@ ghost use Rattle.asl_grammar.specs.grammar.Rules as rules;
 ghost use Rattle.asl_parse_expr.specs.Code.{cursor_of, Met, reading, then};
 
 use asl_grammar::error::ParseError;
-use asl_grammar::kinds::{
-    ASSIGN, CLOSE_PAREN, COLON, COMMA, LET, MINUS, NAME, OPEN_PAREN, SEMICOLON, VAR,
-};
+use asl_grammar::kinds::Kind;
 use asl_grammar::parts::VarTail;
 use asl_parse_expr::expressions::expression;
 use asl_parse_expr::names::{name, names};
 use asl_parse_expr::tokens::Tokens;
 use asl_parse_expr::types::{type_expression, typed};
+use asl_shared::Held;
 use asl_syn::token::Span;
 use asl_syn::tree::{Bind, Binder, Expr, Ident, LocalKind, Stmt, TypeExpr};
 use sqlite_items::Items;
 use std::alloc::{AllocError, Global};
 
 /// An initial or new value, to the end of the statement.
-#[tactic(auto, using(crate::proofs::Steps::value_is))]
+#[tactic(auto, unfolding(asl_grammar::specs::grammar::Rules::value))]
 pub fn value(alloc: Global, tokens: &mut Tokens<'_>, depth: usize) -> Result<Expr, ParseError>
     ensures { Met (reading depth rules.value (cursor_of tokens.old)) result (cursor_of tokens.new) }
 {
-    tokens.take(&[ASSIGN])?;
-    let value = expression(alloc, tokens, depth)?;
-    tokens.take(&[SEMICOLON])?;
-    Ok(value)
-}
-
-#[tactic(auto, using(crate::proofs::Steps::no_value_is))]
-fn no_value(tokens: &mut Tokens<'_>, depth: usize) -> Result<Option<Expr>, ParseError>
-    ensures { Met (reading depth rules.no_value (cursor_of tokens.old)) result (cursor_of tokens.new) }
-{
-    tokens.take(&[SEMICOLON])?;
-    Ok(None)
+    tokens.take(&[Kind::Assign])?;
+    let value = Held::new(expression(alloc, tokens, depth)?);
+    tokens.take(&[Kind::Semicolon])?;
+    Ok(value.into_inner())
 }
 
 /// The initial value, if there is one, to the end of the statement.
-#[tactic(auto, using(crate::proofs::Steps::maybe_value_is))]
+#[tactic(auto, using(crate::proofs::Steps::maybe_value_is), unfolding(asl_grammar::specs::grammar::Rules::no_value))]
 pub fn maybe_value(
     alloc: Global,
     tokens: &mut Tokens<'_>,
@@ -47,25 +38,18 @@ pub fn maybe_value(
 ) -> Result<Option<Expr>, ParseError>
     ensures { Met (reading depth rules.maybe_value (cursor_of tokens.old)) result (cursor_of tokens.new) }
 {
-    if tokens.starts(&[SEMICOLON]) {
-        no_value(tokens, depth)
-    } else {
-        Ok(Some(value(alloc, tokens, depth)?))
+    if tokens.starts(&[Kind::Semicolon]) {
+        tokens.take(&[Kind::Semicolon])?;
+        return Ok(None);
     }
+    Ok(Some(value(alloc, tokens, depth)?))
 }
 
-#[tactic(auto, using(crate::proofs::Steps::bind_name_is))]
-fn bind_name(alloc: Global, tokens: &mut Tokens<'_>, depth: usize) -> Result<Bind, ParseError>
-    ensures { Met (reading depth rules.bind_name (cursor_of tokens.old)) result (cursor_of tokens.new) }
-{
-    Ok(Bind::Single(Binder::Bound(name(alloc, tokens, depth)?)))
-}
-
-#[tactic(auto, using(crate::proofs::Steps::no_binder_is))]
+#[tactic(auto, unfolding(asl_grammar::specs::grammar::Rules::no_binder))]
 fn no_binder(tokens: &mut Tokens<'_>, depth: usize) -> Result<Binder, ParseError>
     ensures { Met (reading depth rules.no_binder (cursor_of tokens.old)) result (cursor_of tokens.new) }
 {
-    let token = tokens.take(&[MINUS])?;
+    let token = tokens.take(&[Kind::Minus])?;
     Ok(Binder::Unbound(token.span))
 }
 
@@ -73,7 +57,7 @@ fn no_binder(tokens: &mut Tokens<'_>, depth: usize) -> Result<Binder, ParseError
 fn binder(alloc: Global, tokens: &mut Tokens<'_>, depth: usize) -> Result<Binder, ParseError>
     ensures { Met (reading depth rules.binder (cursor_of tokens.old)) result (cursor_of tokens.new) }
 {
-    if tokens.starts(&[NAME]) {
+    if tokens.starts(&[Kind::Name]) {
         Ok(Binder::Bound(name(alloc, tokens, depth)?))
     } else {
         no_binder(tokens, depth)
@@ -90,16 +74,16 @@ fn more_binders(
     ensures { Met (then (build.behind found) (reading depth rules.more_binders (cursor_of tokens.old))) result (cursor_of tokens.new) }
 {
     for _turn in 0..tokens.len() {
-        if !tokens.starts(&[COMMA]) {
+        if !tokens.starts(&[Kind::Comma]) {
             return Ok(found);
         }
-        tokens.take(&[COMMA])?;
+        tokens.take(&[Kind::Comma])?;
         found.push(binder(alloc, tokens, depth)?)?;
     }
     Ok(found)
 }
 
-#[tactic(auto, using(crate::proofs::Steps::two_binders_is))]
+#[tactic(auto, unfolding(asl_grammar::specs::grammar::Rules::two_binders, asl_parse_expr::specs::Code::then))]
 fn two_binders(
     alloc: Global,
     tokens: &mut Tokens<'_>,
@@ -109,20 +93,20 @@ fn two_binders(
 {
     let mut found = Items::new(alloc);
     found.push(binder(alloc, tokens, depth)?)?;
-    tokens.take(&[COMMA])?;
+    tokens.take(&[Kind::Comma])?;
     found.push(binder(alloc, tokens, depth)?)?;
     more_binders(alloc, tokens, depth, found)
 }
 
-#[tactic(auto, using(crate::proofs::Steps::several_is))]
+#[tactic(auto, unfolding(asl_grammar::specs::grammar::Rules::several))]
 fn several(alloc: Global, tokens: &mut Tokens<'_>, depth: usize) -> Result<Bind, ParseError>
     ensures { Met (reading depth rules.several (cursor_of tokens.old)) result (cursor_of tokens.new) }
 {
     let from = tokens.ahead();
     let left = tokens.left;
-    tokens.open(&[OPEN_PAREN])?;
+    tokens.open(&[Kind::OpenParen])?;
     let binders = two_binders(alloc, tokens, depth)?;
-    tokens.take(&[CLOSE_PAREN])?;
+    tokens.take(&[Kind::CloseParen])?;
     tokens.left = left;
     Ok(Bind::Several(tokens.since(from), binders))
 }
@@ -131,26 +115,26 @@ fn several(alloc: Global, tokens: &mut Tokens<'_>, depth: usize) -> Result<Bind,
 fn other_bind(alloc: Global, tokens: &mut Tokens<'_>, depth: usize) -> Result<Bind, ParseError>
     ensures { Met (reading depth rules.other_bind (cursor_of tokens.old)) result (cursor_of tokens.new) }
 {
-    if tokens.starts(&[MINUS]) {
+    if tokens.starts(&[Kind::Minus]) {
         Ok(Bind::Single(no_binder(tokens, depth)?))
     } else {
         several(alloc, tokens, depth)
     }
 }
 
-#[tactic(auto, using(crate::proofs::Steps::local_bind_is))]
+#[tactic(auto, using(crate::proofs::Steps::local_bind_is), unfolding(asl_grammar::specs::grammar::Rules::bind_name))]
 fn local_bind(alloc: Global, tokens: &mut Tokens<'_>, depth: usize) -> Result<Bind, ParseError>
     ensures { Met (reading depth rules.local_bind (cursor_of tokens.old)) result (cursor_of tokens.new) }
 {
-    if tokens.starts(&[NAME]) {
-        bind_name(alloc, tokens, depth)
+    if tokens.starts(&[Kind::Name]) {
+        Ok(Bind::Single(Binder::Bound(name(alloc, tokens, depth)?)))
     } else {
         other_bind(alloc, tokens, depth)
     }
 }
 
 /// `let`
-#[tactic(auto, using(crate::proofs::Steps::let_statement_is))]
+#[tactic(auto, unfolding(asl_grammar::specs::grammar::Rules::let_statement))]
 pub fn let_statement(
     alloc: Global,
     tokens: &mut Tokens<'_>,
@@ -159,10 +143,11 @@ pub fn let_statement(
     ensures { Met (reading depth rules.let_statement (cursor_of tokens.old)) result (cursor_of tokens.new) }
 {
     let from = tokens.ahead();
-    tokens.take(&[LET])?;
+    tokens.take(&[Kind::Let])?;
     let bind = local_bind(alloc, tokens, depth)?;
-    let ty = typed(alloc, tokens, depth)?;
+    let ty = Held::new(typed(alloc, tokens, depth)?);
     let init = value(alloc, tokens, depth)?;
+    let ty = ty.into_inner();
     Ok(Stmt::Local(tokens.since(from), LocalKind::Let, bind, ty, init))
 }
 
@@ -189,46 +174,38 @@ fn var_names(alloc: Global, tokens: &mut Tokens<'_>, depth: usize) -> Result<Var
     ensures { Met (reading depth rules.var_names (cursor_of tokens.old)) result (cursor_of tokens.new) }
 {
     let first = name(alloc, tokens, depth)?;
-    if tokens.starts(&[COMMA]) {
+    if tokens.starts(&[Kind::Comma]) {
         let mut found = Items::new(alloc);
         found.push(first)?;
-        tokens.take(&[COMMA])?;
+        tokens.take(&[Kind::Comma])?;
         let more = names(alloc, tokens, depth)?;
         found.append(more)?;
-        tokens.take(&[COLON])?;
-        let ty = type_expression(alloc, tokens, depth)?;
-        tokens.take(&[SEMICOLON])?;
-        Ok(VarTail::Declared(found, ty))
-    } else if tokens.starts(&[COLON]) {
-        tokens.take(&[COLON])?;
-        let ty = type_expression(alloc, tokens, depth)?;
+        tokens.take(&[Kind::Colon])?;
+        let ty = Held::new(type_expression(alloc, tokens, depth)?);
+        tokens.take(&[Kind::Semicolon])?;
+        Ok(VarTail::Declared(found, ty.into_inner()))
+    } else if tokens.starts(&[Kind::Colon]) {
+        tokens.take(&[Kind::Colon])?;
+        let ty = Held::new(type_expression(alloc, tokens, depth)?);
         let init = maybe_value(alloc, tokens, depth)?;
-        Ok(typed_tail(alloc, first, ty, init)?)
+        Ok(typed_tail(alloc, first, ty.into_inner(), init)?)
     } else {
         let init = value(alloc, tokens, depth)?;
         Ok(VarTail::Initialised(Bind::Single(Binder::Bound(first)), None, init))
     }
 }
 
-#[tactic(auto, using(crate::proofs::Steps::var_other_is))]
-fn var_other(alloc: Global, tokens: &mut Tokens<'_>, depth: usize) -> Result<VarTail, ParseError>
-    ensures { Met (reading depth rules.var_other (cursor_of tokens.old)) result (cursor_of tokens.new) }
-{
-    let bind = other_bind(alloc, tokens, depth)?;
-    let ty = typed(alloc, tokens, depth)?;
-    let init = value(alloc, tokens, depth)?;
-    Ok(VarTail::Initialised(bind, ty, init))
-}
-
-#[tactic(auto, using(crate::proofs::Steps::var_tail_is))]
+#[tactic(auto, using(crate::proofs::Steps::var_tail_is), unfolding(asl_grammar::specs::grammar::Rules::var_other))]
 fn var_tail(alloc: Global, tokens: &mut Tokens<'_>, depth: usize) -> Result<VarTail, ParseError>
     ensures { Met (reading depth rules.var_tail (cursor_of tokens.old)) result (cursor_of tokens.new) }
 {
-    if tokens.starts(&[NAME]) {
-        var_names(alloc, tokens, depth)
-    } else {
-        var_other(alloc, tokens, depth)
+    if tokens.starts(&[Kind::Name]) {
+        return var_names(alloc, tokens, depth);
     }
+    let bind = other_bind(alloc, tokens, depth)?;
+    let ty = Held::new(typed(alloc, tokens, depth)?);
+    let init = value(alloc, tokens, depth)?;
+    Ok(VarTail::Initialised(bind, ty.into_inner(), init))
 }
 
 fn var_of(span: Span, tail: VarTail) -> Stmt
@@ -241,7 +218,7 @@ fn var_of(span: Span, tail: VarTail) -> Stmt
 }
 
 /// `var`
-#[tactic(auto, using(crate::proofs::Steps::var_statement_is))]
+#[tactic(auto, unfolding(asl_grammar::specs::grammar::Rules::var_statement))]
 pub fn var_statement(
     alloc: Global,
     tokens: &mut Tokens<'_>,
@@ -250,7 +227,7 @@ pub fn var_statement(
     ensures { Met (reading depth rules.var_statement (cursor_of tokens.old)) result (cursor_of tokens.new) }
 {
     let from = tokens.ahead();
-    tokens.take(&[VAR])?;
+    tokens.take(&[Kind::Var])?;
     let tail = var_tail(alloc, tokens, depth)?;
     Ok(var_of(tokens.since(from), tail))
 }

@@ -5,18 +5,15 @@ ghost use Rattle.std.specs.Prelude.{◌≡◌};
 ghost use Rattle.asl_grammar.specs.grammar.Build as build;
 ghost use Rattle.asl_grammar.specs.grammar.Rules as rules;
 ghost use Rattle.asl_parse_stmt.specs.Blocks.{Nests};
-ghost use Rattle.asl_parse_stmt.specs.Parts as parts;
 ghost use Rattle.asl_parse_expr.specs.Code.{cursor_of, Met, reading};
 
 use asl_grammar::error::ParseError;
-use asl_grammar::kinds::{
-    ASSIGN, CATCH, COLON, DO, DOWN_TO, ELS_IF, ELSE, END, FAT_ARROW, LOOP_LIMIT, OF, OTHERWISE,
-    SEMICOLON, THEN, TO, UNTIL, WHEN, WHERE, code,
-};
+use asl_grammar::kinds::Kind;
 use asl_parse_expr::expressions::expression;
 use asl_parse_expr::names::name;
 use asl_parse_expr::patterns::patterns;
 use asl_parse_expr::tokens::Tokens;
+use asl_shared::Held;
 use asl_syn::tree::{Alternative, Catcher, Direction, ElseIf, Expr, Ident, Otherwise, Stmt};
 use sqlite_items::Items;
 use std::alloc::Global;
@@ -29,10 +26,10 @@ fn loop_limit(
 ) -> Result<Option<Expr>, ParseError>
     ensures { Met (reading depth rules.loop_limit (cursor_of tokens.old)) result (cursor_of tokens.new) }
 {
-    if !tokens.starts(&[LOOP_LIMIT]) {
+    if !tokens.starts(&[Kind::LoopLimit]) {
         return Ok(None);
     }
-    tokens.take(&[LOOP_LIMIT])?;
+    tokens.take(&[Kind::LoopLimit])?;
     Ok(Some(expression(alloc, tokens, depth)?))
 }
 
@@ -44,46 +41,24 @@ fn where_clause(
 ) -> Result<Option<Expr>, ParseError>
     ensures { Met (reading depth rules.where_clause (cursor_of tokens.old)) result (cursor_of tokens.new) }
 {
-    if !tokens.starts(&[WHERE]) {
+    if !tokens.starts(&[Kind::Where]) {
         return Ok(None);
     }
-    tokens.take(&[WHERE])?;
+    tokens.take(&[Kind::Where])?;
     Ok(Some(expression(alloc, tokens, depth)?))
-}
-
-fn direction_of(code: u8) -> Direction
-    ensures { result ≡ build.direction_of code }
-{
-    if code == TO {
-        Direction::Up
-    } else {
-        Direction::Down
-    }
 }
 
 #[tactic(auto, using(crate::proofs::Steps::direction_is))]
 fn direction(tokens: &mut Tokens<'_>, depth: usize) -> Result<Direction, ParseError>
     ensures { Met (reading depth rules.direction (cursor_of tokens.old)) result (cursor_of tokens.new) }
 {
-    let token = tokens.take(&[TO, DOWN_TO])?;
-    Ok(direction_of(code(token.kind)))
-}
-
-/// The index of a `for`, from where and which way it counts, and up to where.
-#[tactic(auto, unfolding(crate::specs::Parts::range))]
-fn range(
-    alloc: Global,
-    tokens: &mut Tokens<'_>,
-    depth: usize,
-) -> Result<(Ident, Expr, Direction, Expr), ParseError>
-    ensures { Met (parts.range depth (cursor_of tokens.old)) result (cursor_of tokens.new) }
-{
-    let index = name(alloc, tokens, depth)?;
-    tokens.take(&[ASSIGN])?;
-    let first = expression(alloc, tokens, depth)?;
-    let direction = direction(tokens, depth)?;
-    let last = expression(alloc, tokens, depth)?;
-    Ok((index, first, direction, last))
+    if tokens.starts(&[Kind::To]) {
+        tokens.take(&[Kind::To])?;
+        Ok(Direction::Up)
+    } else {
+        tokens.take(&[Kind::DownTo])?;
+        Ok(Direction::Down)
+    }
 }
 
 #[tactic(auto, using(crate::proofs::Steps::caught_type_is))]
@@ -94,10 +69,10 @@ fn caught_type(
 ) -> Result<Option<Ident>, ParseError>
     ensures { Met (reading depth rules.caught_type (cursor_of tokens.old)) result (cursor_of tokens.new) }
 {
-    if !tokens.starts(&[COLON]) {
+    if !tokens.starts(&[Kind::Colon]) {
         return Ok(None);
     }
-    tokens.take(&[COLON])?;
+    tokens.take(&[Kind::Colon])?;
     Ok(Some(name(alloc, tokens, depth)?))
 }
 
@@ -126,36 +101,8 @@ impl<F: Fn(Global, &mut Tokens<'_>, usize) -> Result<Items<Stmt>, ParseError>> B
         (self.block)(self.alloc, tokens, self.depth)
     }
 
-    /// The condition, and the block behind `then`.
-    #[tactic(auto, unfolding(crate::specs::Parts::first_branch))]
-    fn first_branch(&self, tokens: &mut Tokens<'_>) -> Result<(Expr, Items<Stmt>), ParseError>
-        requires { Nests self.now.depth (F.pre self.now.block) (F.post self.now.block) }
-        ensures { Met (parts.first_branch self.now.depth (cursor_of tokens.old)) result (cursor_of tokens.new) }
-    {
-        let condition = expression(self.alloc, tokens, self.depth)?;
-        tokens.take(&[THEN])?;
-        let body = self.block(tokens)?;
-        Ok((condition, body))
-    }
-
-    /// Each `elsif`, the block behind `else`, and the end.
-    #[tactic(auto, unfolding(crate::specs::Parts::other_branches))]
-    fn other_branches(
-        &self,
-        tokens: &mut Tokens<'_>,
-    ) -> Result<(Items<ElseIf>, Items<Stmt>), ParseError>
-        requires { Nests self.now.depth (F.pre self.now.block) (F.post self.now.block) }
-        ensures { Met (parts.other_branches self.now.depth (cursor_of tokens.old)) result (cursor_of tokens.new) }
-    {
-        let else_ifs = self.else_ifs(tokens)?;
-        let else_block = self.maybe_else(tokens)?;
-        tokens.take(&[END])?;
-        tokens.take(&[SEMICOLON])?;
-        Ok((else_ifs, else_block))
-    }
-
     /// Behind `if`: the condition, the block behind `then`, each `elsif`, and the block behind `else`.
-    #[tactic(auto, using(crate::proofs::InParts::if_body_as))]
+    #[tactic(auto, unfolding(asl_grammar::specs::grammar::Rules::if_body))]
     pub fn if_body(
         &self,
         tokens: &mut Tokens<'_>,
@@ -163,21 +110,26 @@ impl<F: Fn(Global, &mut Tokens<'_>, usize) -> Result<Items<Stmt>, ParseError>> B
         requires { Nests self.now.depth (F.pre self.now.block) (F.post self.now.block) }
         ensures { Met (reading self.now.depth rules.if_body (cursor_of tokens.old)) result (cursor_of tokens.new) }
     {
-        let (condition, then_block) = self.first_branch(tokens)?;
-        let (else_ifs, else_block) = self.other_branches(tokens)?;
-        Ok((condition, then_block, else_ifs, else_block))
+        let condition = Held::new(expression(self.alloc, tokens, self.depth)?);
+        tokens.take(&[Kind::Then])?;
+        let then_block = self.block(tokens)?;
+        let else_ifs = self.else_ifs(tokens)?;
+        let else_block = self.maybe_else(tokens)?;
+        tokens.take(&[Kind::End])?;
+        tokens.take(&[Kind::Semicolon])?;
+        Ok((condition.into_inner(), then_block, else_ifs, else_block))
     }
 
-    #[tactic(auto, using(crate::proofs::Steps::else_if_is))]
+    #[tactic(auto, unfolding(asl_grammar::specs::grammar::Rules::else_if))]
     fn else_if(&self, tokens: &mut Tokens<'_>) -> Result<ElseIf, ParseError>
         requires { Nests self.now.depth (F.pre self.now.block) (F.post self.now.block) }
         ensures { Met (reading self.now.depth rules.else_if (cursor_of tokens.old)) result (cursor_of tokens.new) }
     {
-        tokens.take(&[ELS_IF])?;
-        let condition = expression(self.alloc, tokens, self.depth)?;
-        tokens.take(&[THEN])?;
+        tokens.take(&[Kind::ElsIf])?;
+        let condition = Held::new(expression(self.alloc, tokens, self.depth)?);
+        tokens.take(&[Kind::Then])?;
         let body = self.block(tokens)?;
-        Ok(ElseIf::ElseIf(condition, body))
+        Ok(ElseIf::ElseIf(condition.into_inner(), body))
     }
 
     #[tactic(auto, using(crate::proofs::Steps::else_ifs_is))]
@@ -187,7 +139,7 @@ impl<F: Fn(Global, &mut Tokens<'_>, usize) -> Result<Items<Stmt>, ParseError>> B
     {
         let mut found = Items::new(self.alloc);
         for _turn in 0..tokens.len() {
-            if !tokens.starts(&[ELS_IF]) {
+            if !tokens.starts(&[Kind::ElsIf]) {
                 return Ok(found);
             }
             found.push(self.else_if(tokens)?)?;
@@ -195,33 +147,25 @@ impl<F: Fn(Global, &mut Tokens<'_>, usize) -> Result<Items<Stmt>, ParseError>> B
         Ok(found)
     }
 
-    #[tactic(auto, using(crate::proofs::Steps::else_block_is))]
-    fn else_block(&self, tokens: &mut Tokens<'_>) -> Result<Items<Stmt>, ParseError>
-        requires { Nests self.now.depth (F.pre self.now.block) (F.post self.now.block) }
-        ensures { Met (reading self.now.depth rules.else_block (cursor_of tokens.old)) result (cursor_of tokens.new) }
-    {
-        tokens.take(&[ELSE])?;
-        self.block(tokens)
-    }
-
-    #[tactic(auto, using(crate::proofs::Steps::maybe_else_is))]
+    #[tactic(auto, using(crate::proofs::Steps::maybe_else_is), unfolding(asl_grammar::specs::grammar::Rules::else_block))]
     fn maybe_else(&self, tokens: &mut Tokens<'_>) -> Result<Items<Stmt>, ParseError>
         requires { Nests self.now.depth (F.pre self.now.block) (F.post self.now.block) }
         ensures { Met (reading self.now.depth rules.maybe_else (cursor_of tokens.old)) result (cursor_of tokens.new) }
     {
-        if !tokens.starts(&[ELSE]) {
+        if !tokens.starts(&[Kind::Else]) {
             return Ok(Items::new(self.alloc));
         }
-        self.else_block(tokens)
+        tokens.take(&[Kind::Else])?;
+        self.block(tokens)
     }
 
-    #[tactic(auto, using(crate::proofs::Steps::otherwise_is))]
+    #[tactic(auto, unfolding(asl_grammar::specs::grammar::Rules::otherwise))]
     fn otherwise(&self, tokens: &mut Tokens<'_>) -> Result<Otherwise, ParseError>
         requires { Nests self.now.depth (F.pre self.now.block) (F.post self.now.block) }
         ensures { Met (reading self.now.depth rules.otherwise (cursor_of tokens.old)) result (cursor_of tokens.new) }
     {
-        tokens.take(&[OTHERWISE])?;
-        tokens.take(&[FAT_ARROW])?;
+        tokens.take(&[Kind::Otherwise])?;
+        tokens.take(&[Kind::FatArrow])?;
         Ok(Otherwise::Otherwise(self.block(tokens)?))
     }
 
@@ -230,14 +174,14 @@ impl<F: Fn(Global, &mut Tokens<'_>, usize) -> Result<Items<Stmt>, ParseError>> B
         requires { Nests self.now.depth (F.pre self.now.block) (F.post self.now.block) }
         ensures { Met (reading self.now.depth rules.maybe_otherwise (cursor_of tokens.old)) result (cursor_of tokens.new) }
     {
-        if !tokens.starts(&[OTHERWISE]) {
+        if !tokens.starts(&[Kind::Otherwise]) {
             return Ok(Otherwise::NoOtherwise);
         }
         self.otherwise(tokens)
     }
 
     /// Behind `case`: the subject, the alternatives, and what is done otherwise.
-    #[tactic(auto, using(crate::proofs::Steps::case_body_is))]
+    #[tactic(auto, unfolding(asl_grammar::specs::grammar::Rules::case_body))]
     pub fn case_body(
         &self,
         tokens: &mut Tokens<'_>,
@@ -245,26 +189,26 @@ impl<F: Fn(Global, &mut Tokens<'_>, usize) -> Result<Items<Stmt>, ParseError>> B
         requires { Nests self.now.depth (F.pre self.now.block) (F.post self.now.block) }
         ensures { Met (reading self.now.depth rules.case_body (cursor_of tokens.old)) result (cursor_of tokens.new) }
     {
-        let subject = expression(self.alloc, tokens, self.depth)?;
-        tokens.take(&[OF])?;
+        let subject = Held::new(expression(self.alloc, tokens, self.depth)?);
+        tokens.take(&[Kind::Of])?;
         let alternatives = self.alternatives(tokens)?;
         let otherwise = self.maybe_otherwise(tokens)?;
-        tokens.take(&[END])?;
-        tokens.take(&[SEMICOLON])?;
-        Ok((subject, alternatives, otherwise))
+        tokens.take(&[Kind::End])?;
+        tokens.take(&[Kind::Semicolon])?;
+        Ok((subject.into_inner(), alternatives, otherwise))
     }
 
-    #[tactic(auto, using(crate::proofs::Steps::alternative_is))]
+    #[tactic(auto, unfolding(asl_grammar::specs::grammar::Rules::alternative))]
     fn alternative(&self, tokens: &mut Tokens<'_>) -> Result<Alternative, ParseError>
         requires { Nests self.now.depth (F.pre self.now.block) (F.post self.now.block) }
         ensures { Met (reading self.now.depth rules.alternative (cursor_of tokens.old)) result (cursor_of tokens.new) }
     {
-        tokens.take(&[WHEN])?;
+        tokens.take(&[Kind::When])?;
         let patterns = patterns(self.alloc, tokens, self.depth)?;
-        let condition = where_clause(self.alloc, tokens, self.depth)?;
-        tokens.take(&[FAT_ARROW])?;
+        let condition = Held::new(where_clause(self.alloc, tokens, self.depth)?);
+        tokens.take(&[Kind::FatArrow])?;
         let body = self.block(tokens)?;
-        Ok(Alternative::When(patterns, condition, body))
+        Ok(Alternative::When(patterns, condition.into_inner(), body))
     }
 
     #[tactic(auto, using(crate::proofs::Steps::alternatives_is))]
@@ -274,7 +218,7 @@ impl<F: Fn(Global, &mut Tokens<'_>, usize) -> Result<Items<Stmt>, ParseError>> B
     {
         let mut found = Items::new(self.alloc);
         for _turn in 0..tokens.len() {
-            if !tokens.starts(&[WHEN]) {
+            if !tokens.starts(&[Kind::When]) {
                 return Ok(found);
             }
             found.push(self.alternative(tokens)?)?;
@@ -282,21 +226,8 @@ impl<F: Fn(Global, &mut Tokens<'_>, usize) -> Result<Items<Stmt>, ParseError>> B
         Ok(found)
     }
 
-    /// The block between `do` and `end` of a loop.
-    #[tactic(auto, unfolding(crate::specs::Parts::loop_block))]
-    fn loop_block(&self, tokens: &mut Tokens<'_>) -> Result<Items<Stmt>, ParseError>
-        requires { Nests self.now.depth (F.pre self.now.block) (F.post self.now.block) }
-        ensures { Met (parts.loop_block self.now.depth (cursor_of tokens.old)) result (cursor_of tokens.new) }
-    {
-        tokens.take(&[DO])?;
-        let body = self.block(tokens)?;
-        tokens.take(&[END])?;
-        tokens.take(&[SEMICOLON])?;
-        Ok(body)
-    }
-
     /// Behind `for`: the index, from where and which way it counts, up to where, the limit and the block.
-    #[tactic(auto, using(crate::proofs::InParts::for_body_as))]
+    #[tactic(auto, unfolding(asl_grammar::specs::grammar::Rules::for_body))]
     pub fn for_body(
         &self,
         tokens: &mut Tokens<'_>,
@@ -304,14 +235,22 @@ impl<F: Fn(Global, &mut Tokens<'_>, usize) -> Result<Items<Stmt>, ParseError>> B
         requires { Nests self.now.depth (F.pre self.now.block) (F.post self.now.block) }
         ensures { Met (reading self.now.depth rules.for_body (cursor_of tokens.old)) result (cursor_of tokens.new) }
     {
-        let (index, first, direction, last) = range(self.alloc, tokens, self.depth)?;
-        let limit = loop_limit(self.alloc, tokens, self.depth)?;
-        let body = self.loop_block(tokens)?;
+        let index = name(self.alloc, tokens, self.depth)?;
+        tokens.take(&[Kind::Assign])?;
+        let first = Held::new(expression(self.alloc, tokens, self.depth)?);
+        let direction = direction(tokens, self.depth)?;
+        let last = Held::new(expression(self.alloc, tokens, self.depth)?);
+        let limit = Held::new(loop_limit(self.alloc, tokens, self.depth)?);
+        tokens.take(&[Kind::Do])?;
+        let body = self.block(tokens)?;
+        tokens.take(&[Kind::End])?;
+        tokens.take(&[Kind::Semicolon])?;
+        let (first, last, limit) = (first.into_inner(), last.into_inner(), limit.into_inner());
         Ok((index, first, direction, last, limit, body))
     }
 
     /// Behind `while`: the condition, the limit and the block.
-    #[tactic(auto, using(crate::proofs::InParts::while_body_as))]
+    #[tactic(auto, unfolding(asl_grammar::specs::grammar::Rules::while_body))]
     pub fn while_body(
         &self,
         tokens: &mut Tokens<'_>,
@@ -319,14 +258,17 @@ impl<F: Fn(Global, &mut Tokens<'_>, usize) -> Result<Items<Stmt>, ParseError>> B
         requires { Nests self.now.depth (F.pre self.now.block) (F.post self.now.block) }
         ensures { Met (reading self.now.depth rules.while_body (cursor_of tokens.old)) result (cursor_of tokens.new) }
     {
-        let condition = expression(self.alloc, tokens, self.depth)?;
-        let limit = loop_limit(self.alloc, tokens, self.depth)?;
-        let body = self.loop_block(tokens)?;
-        Ok((condition, limit, body))
+        let condition = Held::new(expression(self.alloc, tokens, self.depth)?);
+        let limit = Held::new(loop_limit(self.alloc, tokens, self.depth)?);
+        tokens.take(&[Kind::Do])?;
+        let body = self.block(tokens)?;
+        tokens.take(&[Kind::End])?;
+        tokens.take(&[Kind::Semicolon])?;
+        Ok((condition.into_inner(), limit.into_inner(), body))
     }
 
     /// Behind `repeat`: the block, the condition and the limit.
-    #[tactic(auto, using(crate::proofs::Steps::repeat_body_is))]
+    #[tactic(auto, unfolding(asl_grammar::specs::grammar::Rules::repeat_body))]
     pub fn repeat_body(
         &self,
         tokens: &mut Tokens<'_>,
@@ -335,15 +277,15 @@ impl<F: Fn(Global, &mut Tokens<'_>, usize) -> Result<Items<Stmt>, ParseError>> B
         ensures { Met (reading self.now.depth rules.repeat_body (cursor_of tokens.old)) result (cursor_of tokens.new) }
     {
         let body = self.block(tokens)?;
-        tokens.take(&[UNTIL])?;
-        let condition = expression(self.alloc, tokens, self.depth)?;
-        let limit = loop_limit(self.alloc, tokens, self.depth)?;
-        tokens.take(&[SEMICOLON])?;
-        Ok((body, condition, limit))
+        tokens.take(&[Kind::Until])?;
+        let condition = Held::new(expression(self.alloc, tokens, self.depth)?);
+        let limit = Held::new(loop_limit(self.alloc, tokens, self.depth)?);
+        tokens.take(&[Kind::Semicolon])?;
+        Ok((body, condition.into_inner(), limit.into_inner()))
     }
 
     /// Behind `try`: the block, the catchers, and what is done otherwise.
-    #[tactic(auto, using(crate::proofs::Steps::try_body_is))]
+    #[tactic(auto, unfolding(asl_grammar::specs::grammar::Rules::try_body))]
     pub fn try_body(
         &self,
         tokens: &mut Tokens<'_>,
@@ -352,10 +294,10 @@ impl<F: Fn(Global, &mut Tokens<'_>, usize) -> Result<Items<Stmt>, ParseError>> B
         ensures { Met (reading self.now.depth rules.try_body (cursor_of tokens.old)) result (cursor_of tokens.new) }
     {
         let body = self.block(tokens)?;
-        tokens.take(&[CATCH])?;
+        tokens.take(&[Kind::Catch])?;
         let (catchers, otherwise) = self.handlers(tokens)?;
-        tokens.take(&[END])?;
-        tokens.take(&[SEMICOLON])?;
+        tokens.take(&[Kind::End])?;
+        tokens.take(&[Kind::Semicolon])?;
         Ok((body, catchers, otherwise))
     }
 
@@ -364,7 +306,7 @@ impl<F: Fn(Global, &mut Tokens<'_>, usize) -> Result<Items<Stmt>, ParseError>> B
         requires { Nests self.now.depth (F.pre self.now.block) (F.post self.now.block) }
         ensures { Met (reading self.now.depth rules.handlers (cursor_of tokens.old)) result (cursor_of tokens.new) }
     {
-        if tokens.starts(&[WHEN]) {
+        if tokens.starts(&[Kind::When]) {
             self.some_catchers(tokens)
         } else {
             let otherwise = self.otherwise(tokens)?;
@@ -372,7 +314,7 @@ impl<F: Fn(Global, &mut Tokens<'_>, usize) -> Result<Items<Stmt>, ParseError>> B
         }
     }
 
-    #[tactic(auto, using(crate::proofs::Steps::some_catchers_is))]
+    #[tactic(auto, unfolding(asl_grammar::specs::grammar::Rules::some_catchers))]
     fn some_catchers(
         &self,
         tokens: &mut Tokens<'_>,
@@ -388,15 +330,15 @@ impl<F: Fn(Global, &mut Tokens<'_>, usize) -> Result<Items<Stmt>, ParseError>> B
         Ok((found, otherwise))
     }
 
-    #[tactic(auto, using(crate::proofs::Steps::catcher_is))]
+    #[tactic(auto, unfolding(asl_grammar::specs::grammar::Rules::catcher))]
     fn catcher(&self, tokens: &mut Tokens<'_>) -> Result<Catcher, ParseError>
         requires { Nests self.now.depth (F.pre self.now.block) (F.post self.now.block) }
         ensures { Met (reading self.now.depth rules.catcher (cursor_of tokens.old)) result (cursor_of tokens.new) }
     {
-        tokens.take(&[WHEN])?;
+        tokens.take(&[Kind::When])?;
         let first = name(self.alloc, tokens, self.depth)?;
         let ty = caught_type(self.alloc, tokens, self.depth)?;
-        tokens.take(&[FAT_ARROW])?;
+        tokens.take(&[Kind::FatArrow])?;
         let body = self.block(tokens)?;
         Ok(catch_of(first, ty, body))
     }
@@ -408,7 +350,7 @@ impl<F: Fn(Global, &mut Tokens<'_>, usize) -> Result<Items<Stmt>, ParseError>> B
     {
         let mut found = Items::new(self.alloc);
         for _turn in 0..tokens.len() {
-            if !tokens.starts(&[WHEN]) {
+            if !tokens.starts(&[Kind::When]) {
                 return Ok(found);
             }
             found.push(self.catcher(tokens)?)?;

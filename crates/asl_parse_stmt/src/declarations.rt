@@ -1,43 +1,37 @@
 //! Declarations.
 
 ghost use Rattle.std.specs.Prelude.{◌≡◌};
-ghost use Rattle.asl_grammar.specs.grammar.Build as build;
 ghost use Rattle.asl_grammar.specs.grammar.Rules as rules;
 ghost use Rattle.asl_parse_expr.specs.Code.{cursor_of, Met, reading};
-ghost use Rattle.asl_parse_stmt.specs.Functions as functions;
 
 use crate::binders::{maybe_value, value};
 use crate::formals::{formals, maybe_params, members};
 use crate::labels::{labels, supertype};
 use crate::statements::block;
 use asl_grammar::error::ParseError;
-use asl_grammar::kinds::{
-    ARRAY, BEGIN, BIT, BITS, BOOLEAN, COLON, CONSTANT, END, ENUMERATION, EXCEPTION, FAT_ARROW,
-    FUNC, INTEGER, LET, NAME, OF, OPEN_PAREN, PURE, READ_ONLY, RECORD, RECURSE_LIMIT, SEMICOLON,
-    TYPE, VAR, code,
-};
+use asl_grammar::kinds::Kind;
 use asl_parse_expr::expressions::expression;
 use asl_parse_expr::names::name;
 use asl_parse_expr::tokens::Tokens;
 use asl_parse_expr::types::{type_expression, typed};
+use asl_shared::Held;
 use asl_syn::tree::{
-    Decl, Expr, Formal, Func, Ident, Param, Qualifier, Stmt, StorageDecl, StorageKind, TypeDecl,
-    TypeDef, TypeExpr,
+    Decl, Expr, Func, Qualifier, StorageDecl, StorageKind, TypeDecl, TypeDef, TypeExpr,
 };
 use sqlite_items::Items;
 use std::alloc::Global;
 
-#[tactic(auto, using(crate::proofs::Steps::record_type_is))]
+#[tactic(auto, unfolding(asl_grammar::specs::grammar::Rules::record_type))]
 fn record_type(alloc: Global, tokens: &mut Tokens<'_>, depth: usize) -> Result<TypeDef, ParseError>
     ensures { Met (reading depth rules.record_type (cursor_of tokens.old)) result (cursor_of tokens.new) }
 {
     let from = tokens.ahead();
-    tokens.take(&[RECORD])?;
+    tokens.take(&[Kind::Record])?;
     let fields = members(alloc, tokens, depth)?;
     Ok(TypeDef::Record(tokens.since(from), fields))
 }
 
-#[tactic(auto, using(crate::proofs::Steps::exception_type_is))]
+#[tactic(auto, unfolding(asl_grammar::specs::grammar::Rules::exception_type))]
 fn exception_type(
     alloc: Global,
     tokens: &mut Tokens<'_>,
@@ -46,7 +40,7 @@ fn exception_type(
     ensures { Met (reading depth rules.exception_type (cursor_of tokens.old)) result (cursor_of tokens.new) }
 {
     let from = tokens.ahead();
-    tokens.take(&[EXCEPTION])?;
+    tokens.take(&[Kind::Exception])?;
     let fields = members(alloc, tokens, depth)?;
     Ok(TypeDef::Exception(tokens.since(from), fields))
 }
@@ -59,81 +53,77 @@ fn type_definition(
 ) -> Result<TypeDef, ParseError>
     ensures { Met (reading depth rules.type_definition (cursor_of tokens.old)) result (cursor_of tokens.new) }
 {
-    if tokens.starts(&[INTEGER, BOOLEAN, BIT, NAME, BITS, OPEN_PAREN, ARRAY]) {
+    if tokens.starts(&[
+        Kind::Integer,
+        Kind::Boolean,
+        Kind::Bit,
+        Kind::Name,
+        Kind::Bits,
+        Kind::OpenParen,
+        Kind::Array,
+    ]) {
         Ok(TypeDef::Alias(type_expression(alloc, tokens, depth)?))
-    } else if tokens.starts(&[ENUMERATION]) {
+    } else if tokens.starts(&[Kind::Enumeration]) {
         labels(alloc, tokens, depth)
-    } else if tokens.starts(&[RECORD]) {
+    } else if tokens.starts(&[Kind::Record]) {
         record_type(alloc, tokens, depth)
     } else {
         exception_type(alloc, tokens, depth)
     }
 }
 
-#[tactic(auto, using(crate::proofs::Steps::type_decl_is))]
+#[tactic(auto, unfolding(asl_grammar::specs::grammar::Rules::type_decl))]
 fn type_decl(alloc: Global, tokens: &mut Tokens<'_>, depth: usize) -> Result<Decl, ParseError>
     ensures { Met (reading depth rules.type_decl (cursor_of tokens.old)) result (cursor_of tokens.new) }
 {
     let from = tokens.ahead();
-    tokens.take(&[TYPE])?;
+    tokens.take(&[Kind::TypeWord])?;
     let name = name(alloc, tokens, depth)?;
-    tokens.take(&[OF])?;
-    let def = type_definition(alloc, tokens, depth)?;
+    tokens.take(&[Kind::Of])?;
+    let def = Held::new(type_definition(alloc, tokens, depth)?);
     let supertype = supertype(alloc, tokens, depth)?;
-    tokens.take(&[SEMICOLON])?;
+    tokens.take(&[Kind::Semicolon])?;
     Ok(Decl::Type(TypeDecl {
         span: tokens.since(from),
         name,
-        def,
+        def: def.into_inner(),
         supertype,
     }))
 }
 
-fn storage_kind_of(code: u8) -> StorageKind
-    ensures { result ≡ build.storage_kind_of code }
+#[tactic(auto, using(crate::proofs::Steps::fixed_kind_is))]
+fn fixed_kind(tokens: &mut Tokens<'_>, depth: usize) -> Result<StorageKind, ParseError>
+    ensures { Met (reading depth rules.fixed_kind (cursor_of tokens.old)) result (cursor_of tokens.new) }
 {
-    if code == CONSTANT {
-        StorageKind::Constant
+    if tokens.starts(&[Kind::Constant]) {
+        tokens.take(&[Kind::Constant])?;
+        Ok(StorageKind::Constant)
     } else {
-        StorageKind::Let
+        tokens.take(&[Kind::Let])?;
+        Ok(StorageKind::Let)
     }
 }
 
 /// `constant` or `let`
-#[tactic(auto, using(crate::proofs::Steps::fixed_storage_is))]
+#[tactic(auto, unfolding(asl_grammar::specs::grammar::Rules::fixed_storage))]
 fn fixed_storage(alloc: Global, tokens: &mut Tokens<'_>, depth: usize) -> Result<Decl, ParseError>
     ensures { Met (reading depth rules.fixed_storage (cursor_of tokens.old)) result (cursor_of tokens.new) }
 {
     let from = tokens.ahead();
-    let token = tokens.take(&[CONSTANT, LET])?;
-    let kind = storage_kind_of(code(token.kind));
+    let kind = fixed_kind(tokens, depth)?;
     let name = name(alloc, tokens, depth)?;
-    let ty = typed(alloc, tokens, depth)?;
+    let ty = Held::new(typed(alloc, tokens, depth)?);
     let init = value(alloc, tokens, depth)?;
     Ok(Decl::Storage(StorageDecl {
         span: tokens.since(from),
         kind,
         name,
-        ty,
+        ty: ty.into_inner(),
         init: Some(init),
     }))
 }
 
-#[tactic(auto, using(crate::proofs::Steps::typed_var_is))]
-fn typed_var(
-    alloc: Global,
-    tokens: &mut Tokens<'_>,
-    depth: usize,
-) -> Result<(Option<TypeExpr>, Option<Expr>), ParseError>
-    ensures { Met (reading depth rules.typed_var (cursor_of tokens.old)) result (cursor_of tokens.new) }
-{
-    tokens.take(&[COLON])?;
-    let ty = type_expression(alloc, tokens, depth)?;
-    let init = maybe_value(alloc, tokens, depth)?;
-    Ok((Some(ty), init))
-}
-
-#[tactic(auto, using(crate::proofs::Steps::global_rest_is))]
+#[tactic(auto, using(crate::proofs::Steps::global_rest_is), unfolding(asl_grammar::specs::grammar::Rules::typed_var))]
 fn global_rest(
     alloc: Global,
     tokens: &mut Tokens<'_>,
@@ -141,8 +131,11 @@ fn global_rest(
 ) -> Result<(Option<TypeExpr>, Option<Expr>), ParseError>
     ensures { Met (reading depth rules.global_rest (cursor_of tokens.old)) result (cursor_of tokens.new) }
 {
-    if tokens.starts(&[COLON]) {
-        typed_var(alloc, tokens, depth)
+    if tokens.starts(&[Kind::Colon]) {
+        tokens.take(&[Kind::Colon])?;
+        let ty = Held::new(type_expression(alloc, tokens, depth)?);
+        let init = maybe_value(alloc, tokens, depth)?;
+        Ok((Some(ty.into_inner()), init))
     } else {
         let init = value(alloc, tokens, depth)?;
         Ok((None, Some(init)))
@@ -150,12 +143,12 @@ fn global_rest(
 }
 
 /// `var`
-#[tactic(auto, using(crate::proofs::Steps::global_var_is))]
+#[tactic(auto, unfolding(asl_grammar::specs::grammar::Rules::global_var))]
 fn global_var(alloc: Global, tokens: &mut Tokens<'_>, depth: usize) -> Result<Decl, ParseError>
     ensures { Met (reading depth rules.global_var (cursor_of tokens.old)) result (cursor_of tokens.new) }
 {
     let from = tokens.ahead();
-    tokens.take(&[VAR])?;
+    tokens.take(&[Kind::Var])?;
     let name = name(alloc, tokens, depth)?;
     let (ty, init) = global_rest(alloc, tokens, depth)?;
     Ok(Decl::Storage(StorageDecl {
@@ -175,10 +168,10 @@ fn result_type(
 ) -> Result<Option<TypeExpr>, ParseError>
     ensures { Met (reading depth rules.result_type (cursor_of tokens.old)) result (cursor_of tokens.new) }
 {
-    if !tokens.starts(&[FAT_ARROW]) {
+    if !tokens.starts(&[Kind::FatArrow]) {
         return Ok(None);
     }
-    tokens.take(&[FAT_ARROW])?;
+    tokens.take(&[Kind::FatArrow])?;
     Ok(Some(type_expression(alloc, tokens, depth)?))
 }
 
@@ -190,105 +183,61 @@ fn recursion_limit(
 ) -> Result<Option<Expr>, ParseError>
     ensures { Met (reading depth rules.recursion_limit (cursor_of tokens.old)) result (cursor_of tokens.new) }
 {
-    if !tokens.starts(&[RECURSE_LIMIT]) {
+    if !tokens.starts(&[Kind::RecurseLimit]) {
         return Ok(None);
     }
-    tokens.take(&[RECURSE_LIMIT])?;
+    tokens.take(&[Kind::RecurseLimit])?;
     Ok(Some(expression(alloc, tokens, depth)?))
-}
-
-fn qualifier_of(code: u8) -> Qualifier
-    ensures { result ≡ build.qualifier_of code }
-{
-    if code == PURE {
-        Qualifier::Pure
-    } else {
-        Qualifier::Readonly
-    }
 }
 
 #[tactic(auto, using(crate::proofs::Steps::written_qualifier_is))]
 fn written_qualifier(tokens: &mut Tokens<'_>, depth: usize) -> Result<Qualifier, ParseError>
     ensures { Met (reading depth rules.written_qualifier (cursor_of tokens.old)) result (cursor_of tokens.new) }
 {
-    let token = tokens.take(&[PURE, READ_ONLY])?;
-    Ok(qualifier_of(code(token.kind)))
+    if tokens.starts(&[Kind::Pure]) {
+        tokens.take(&[Kind::Pure])?;
+        Ok(Qualifier::Pure)
+    } else {
+        tokens.take(&[Kind::ReadOnly])?;
+        Ok(Qualifier::Readonly)
+    }
 }
 
 #[tactic(auto, using(crate::proofs::Steps::qualifier_is))]
 fn qualifier(tokens: &mut Tokens<'_>, depth: usize) -> Result<Qualifier, ParseError>
     ensures { Met (reading depth rules.qualifier (cursor_of tokens.old)) result (cursor_of tokens.new) }
 {
-    if !tokens.starts(&[PURE, READ_ONLY]) {
+    if !tokens.starts(&[Kind::Pure, Kind::ReadOnly]) {
         return Ok(Qualifier::Unqualified);
     }
     written_qualifier(tokens, depth)
 }
 
-/// The qualifier and the name of a function.
-#[tactic(auto, unfolding(crate::specs::Functions::heading))]
-fn heading(
-    alloc: Global,
-    tokens: &mut Tokens<'_>,
-    depth: usize,
-) -> Result<(Qualifier, Ident), ParseError>
-    ensures { Met (functions.heading depth (cursor_of tokens.old)) result (cursor_of tokens.new) }
-{
-    let qualifier = qualifier(tokens, depth)?;
-    tokens.take(&[FUNC])?;
-    let name = name(alloc, tokens, depth)?;
-    Ok((qualifier, name))
-}
-
-/// The parameters, the formals and the type of the result.
-#[tactic(auto, unfolding(crate::specs::Functions::signature))]
-fn signature(
-    alloc: Global,
-    tokens: &mut Tokens<'_>,
-    depth: usize,
-) -> Result<(Items<Param>, Items<Formal>, Option<TypeExpr>), ParseError>
-    ensures { Met (functions.signature depth (cursor_of tokens.old)) result (cursor_of tokens.new) }
-{
-    let params = maybe_params(alloc, tokens, depth)?;
-    let formals = formals(alloc, tokens, depth)?;
-    let result = result_type(alloc, tokens, depth)?;
-    Ok((params, formals, result))
-}
-
-/// The limit of recursion, and the block between `begin` and `end`.
-#[tactic(auto, unfolding(crate::specs::Functions::body))]
-fn body(
-    alloc: Global,
-    tokens: &mut Tokens<'_>,
-    depth: usize,
-) -> Result<(Option<Expr>, Items<Stmt>), ParseError>
-    ensures { Met (functions.body depth (cursor_of tokens.old)) result (cursor_of tokens.new) }
-{
-    let limit = recursion_limit(alloc, tokens, depth)?;
-    tokens.take(&[BEGIN])?;
-    let body = block(alloc, tokens, depth)?;
-    tokens.take(&[END])?;
-    tokens.take(&[SEMICOLON])?;
-    Ok((limit, body))
-}
-
 /// A function or a procedure.
-#[tactic(auto, using(crate::proofs::InFunctions::function_as))]
+#[tactic(auto, unfolding(asl_grammar::specs::grammar::Rules::function))]
 fn function(alloc: Global, tokens: &mut Tokens<'_>, depth: usize) -> Result<Decl, ParseError>
     ensures { Met (reading depth rules.function (cursor_of tokens.old)) result (cursor_of tokens.new) }
 {
     let from = tokens.ahead();
-    let (qualifier, name) = heading(alloc, tokens, depth)?;
-    let (params, formals, result) = signature(alloc, tokens, depth)?;
-    let (limit, body) = body(alloc, tokens, depth)?;
+    let qualifier = qualifier(tokens, depth)?;
+    tokens.take(&[Kind::Func])?;
+    let name = name(alloc, tokens, depth)?;
+    let params = maybe_params(alloc, tokens, depth)?;
+    let formals = formals(alloc, tokens, depth)?;
+    let result = Held::new(result_type(alloc, tokens, depth)?);
+    let limit = Held::new(recursion_limit(alloc, tokens, depth)?);
+    tokens.take(&[Kind::Begin])?;
+    let body = block(alloc, tokens, depth)?;
+    tokens.take(&[Kind::End])?;
+    tokens.take(&[Kind::Semicolon])?;
     Ok(Decl::Func(Func {
         span: tokens.since(from),
         qualifier,
         name,
         params,
         formals,
-        result,
-        limit,
+        result: result.into_inner(),
+        limit: limit.into_inner(),
         body,
     }))
 }
@@ -297,11 +246,11 @@ fn function(alloc: Global, tokens: &mut Tokens<'_>, depth: usize) -> Result<Decl
 fn declaration(alloc: Global, tokens: &mut Tokens<'_>, depth: usize) -> Result<Decl, ParseError>
     ensures { Met (reading depth rules.declaration (cursor_of tokens.old)) result (cursor_of tokens.new) }
 {
-    if tokens.starts(&[TYPE]) {
+    if tokens.starts(&[Kind::TypeWord]) {
         type_decl(alloc, tokens, depth)
-    } else if tokens.starts(&[CONSTANT, LET]) {
+    } else if tokens.starts(&[Kind::Constant, Kind::Let]) {
         fixed_storage(alloc, tokens, depth)
-    } else if tokens.starts(&[VAR]) {
+    } else if tokens.starts(&[Kind::Var]) {
         global_var(alloc, tokens, depth)
     } else {
         function(alloc, tokens, depth)
@@ -319,7 +268,15 @@ pub fn program(
 {
     let mut found = Items::new(alloc);
     for _turn in 0..tokens.len() {
-        if !tokens.starts(&[TYPE, CONSTANT, LET, VAR, PURE, READ_ONLY, FUNC]) {
+        if !tokens.starts(&[
+            Kind::TypeWord,
+            Kind::Constant,
+            Kind::Let,
+            Kind::Var,
+            Kind::Pure,
+            Kind::ReadOnly,
+            Kind::Func,
+        ]) {
             return Ok(found);
         }
         found.push(declaration(alloc, tokens, depth)?)?;

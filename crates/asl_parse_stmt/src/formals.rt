@@ -5,9 +5,7 @@ ghost use Rattle.asl_grammar.specs.grammar.Rules as rules;
 ghost use Rattle.asl_parse_expr.specs.Code.{cursor_of, Met, reading};
 
 use asl_grammar::error::ParseError;
-use asl_grammar::kinds::{
-    CLOSE_BRACE, CLOSE_PAREN, COLON, COMMA, MINUS, NAME, OPEN_BRACE, OPEN_PAREN,
-};
+use asl_grammar::kinds::Kind;
 use asl_parse_expr::names::name;
 use asl_parse_expr::tokens::Tokens;
 use asl_parse_expr::types::{type_expression, typed};
@@ -15,12 +13,12 @@ use asl_syn::tree::{Formal, Param};
 use sqlite_items::Items;
 use std::alloc::Global;
 
-#[tactic(auto, using(crate::proofs::Steps::formal_is))]
+#[tactic(auto, unfolding(asl_grammar::specs::grammar::Rules::formal))]
 fn formal(alloc: Global, tokens: &mut Tokens<'_>, depth: usize) -> Result<Formal, ParseError>
     ensures { Met (reading depth rules.formal (cursor_of tokens.old)) result (cursor_of tokens.new) }
 {
     let name = name(alloc, tokens, depth)?;
-    tokens.take(&[COLON])?;
+    tokens.take(&[Kind::Colon])?;
     let ty = type_expression(alloc, tokens, depth)?;
     Ok(Formal { name, ty })
 }
@@ -36,10 +34,10 @@ fn formal_list(
     let mut found = Items::new(alloc);
     found.push(formal(alloc, tokens, depth)?)?;
     for _turn in 0..tokens.len() {
-        if !tokens.starts(&[COMMA]) {
+        if !tokens.starts(&[Kind::Comma]) {
             return Ok(found);
         }
-        tokens.take(&[COMMA])?;
+        tokens.take(&[Kind::Comma])?;
         found.push(formal(alloc, tokens, depth)?)?;
     }
     Ok(found)
@@ -53,14 +51,14 @@ fn maybe_formals(
 ) -> Result<Items<Formal>, ParseError>
     ensures { Met (reading depth rules.maybe_formals (cursor_of tokens.old)) result (cursor_of tokens.new) }
 {
-    if !tokens.starts(&[NAME]) {
+    if !tokens.starts(&[Kind::Name]) {
         return Ok(Items::new(alloc));
     }
     formal_list(alloc, tokens, depth)
 }
 
 /// The formals of a subprogram, in their parentheses.
-#[tactic(auto, using(crate::proofs::Steps::formals_is))]
+#[tactic(auto, unfolding(asl_grammar::specs::grammar::Rules::formals))]
 pub fn formals(
     alloc: Global,
     tokens: &mut Tokens<'_>,
@@ -69,14 +67,14 @@ pub fn formals(
     ensures { Met (reading depth rules.formals (cursor_of tokens.old)) result (cursor_of tokens.new) }
 {
     let left = tokens.left;
-    tokens.open(&[OPEN_PAREN])?;
+    tokens.open(&[Kind::OpenParen])?;
     let found = maybe_formals(alloc, tokens, depth)?;
-    tokens.take(&[CLOSE_PAREN])?;
+    tokens.take(&[Kind::CloseParen])?;
     tokens.left = left;
     Ok(found)
 }
 
-#[tactic(auto, using(crate::proofs::Steps::param_is))]
+#[tactic(auto, unfolding(asl_grammar::specs::grammar::Rules::param))]
 fn param(alloc: Global, tokens: &mut Tokens<'_>, depth: usize) -> Result<Param, ParseError>
     ensures { Met (reading depth rules.param (cursor_of tokens.old)) result (cursor_of tokens.new) }
 {
@@ -96,10 +94,10 @@ fn param_list(
     let mut found = Items::new(alloc);
     found.push(param(alloc, tokens, depth)?)?;
     for _turn in 0..tokens.len() {
-        if !tokens.starts(&[COMMA]) {
+        if !tokens.starts(&[Kind::Comma]) {
             return Ok(found);
         }
-        tokens.take(&[COMMA])?;
+        tokens.take(&[Kind::Comma])?;
         found.push(param(alloc, tokens, depth)?)?;
     }
     Ok(found)
@@ -113,26 +111,14 @@ fn maybe_param_list(
 ) -> Result<Items<Param>, ParseError>
     ensures { Met (reading depth rules.maybe_param_list (cursor_of tokens.old)) result (cursor_of tokens.new) }
 {
-    if !tokens.starts(&[NAME]) {
+    if !tokens.starts(&[Kind::Name]) {
         return Ok(Items::new(alloc));
     }
     param_list(alloc, tokens, depth)
 }
 
-#[tactic(auto, using(crate::proofs::Steps::params_is))]
-fn params(alloc: Global, tokens: &mut Tokens<'_>, depth: usize) -> Result<Items<Param>, ParseError>
-    ensures { Met (reading depth rules.params (cursor_of tokens.old)) result (cursor_of tokens.new) }
-{
-    let left = tokens.left;
-    tokens.open(&[OPEN_BRACE])?;
-    let found = maybe_param_list(alloc, tokens, depth)?;
-    tokens.take(&[CLOSE_BRACE])?;
-    tokens.left = left;
-    Ok(found)
-}
-
 /// The parameters of a subprogram, if it has braces.
-#[tactic(auto, using(crate::proofs::Steps::maybe_params_is))]
+#[tactic(auto, using(crate::proofs::Steps::maybe_params_is), unfolding(asl_grammar::specs::grammar::Rules::params))]
 pub fn maybe_params(
     alloc: Global,
     tokens: &mut Tokens<'_>,
@@ -140,22 +126,15 @@ pub fn maybe_params(
 ) -> Result<Items<Param>, ParseError>
     ensures { Met (reading depth rules.maybe_params (cursor_of tokens.old)) result (cursor_of tokens.new) }
 {
-    if !tokens.starts(&[OPEN_BRACE]) {
+    if !tokens.starts(&[Kind::OpenBrace]) {
         return Ok(Items::new(alloc));
     }
-    params(alloc, tokens, depth)
-}
-
-#[tactic(auto, using(crate::proofs::Steps::no_members_is))]
-fn no_members(
-    alloc: Global,
-    tokens: &mut Tokens<'_>,
-    depth: usize,
-) -> Result<Items<Formal>, ParseError>
-    ensures { Met (reading depth rules.no_members (cursor_of tokens.old)) result (cursor_of tokens.new) }
-{
-    tokens.take(&[MINUS])?;
-    Ok(Items::new(alloc))
+    let left = tokens.left;
+    tokens.open(&[Kind::OpenBrace])?;
+    let found = maybe_param_list(alloc, tokens, depth)?;
+    tokens.take(&[Kind::CloseBrace])?;
+    tokens.left = left;
+    Ok(found)
 }
 
 #[tactic(auto, using(crate::proofs::Steps::listed_members_is))]
@@ -169,11 +148,11 @@ fn listed_members(
     let mut found = Items::new(alloc);
     found.push(formal(alloc, tokens, depth)?)?;
     for _turn in 0..tokens.len() {
-        if !tokens.starts(&[COMMA]) {
+        if !tokens.starts(&[Kind::Comma]) {
             return Ok(found);
         }
-        tokens.take(&[COMMA])?;
-        if !tokens.starts(&[NAME]) {
+        tokens.take(&[Kind::Comma])?;
+        if !tokens.starts(&[Kind::Name]) {
             return Ok(found);
         }
         found.push(formal(alloc, tokens, depth)?)?;
@@ -181,22 +160,7 @@ fn listed_members(
     Ok(found)
 }
 
-#[tactic(auto, using(crate::proofs::Steps::some_members_is))]
-fn some_members(
-    alloc: Global,
-    tokens: &mut Tokens<'_>,
-    depth: usize,
-) -> Result<Items<Formal>, ParseError>
-    ensures { Met (reading depth rules.some_members (cursor_of tokens.old)) result (cursor_of tokens.new) }
-{
-    if tokens.starts(&[MINUS]) {
-        no_members(alloc, tokens, depth)
-    } else {
-        listed_members(alloc, tokens, depth)
-    }
-}
-
-#[tactic(auto, using(crate::proofs::Steps::maybe_some_members_is))]
+#[tactic(auto, using(crate::proofs::Steps::maybe_some_members_is), unfolding(asl_grammar::specs::grammar::Rules::some_members, asl_grammar::specs::grammar::Rules::no_members))]
 fn maybe_some_members(
     alloc: Global,
     tokens: &mut Tokens<'_>,
@@ -204,30 +168,18 @@ fn maybe_some_members(
 ) -> Result<Items<Formal>, ParseError>
     ensures { Met (reading depth rules.maybe_some_members (cursor_of tokens.old)) result (cursor_of tokens.new) }
 {
-    if !tokens.starts(&[MINUS, NAME]) {
+    if !tokens.starts(&[Kind::Minus, Kind::Name]) {
         return Ok(Items::new(alloc));
     }
-    some_members(alloc, tokens, depth)
-}
-
-#[tactic(auto, using(crate::proofs::Steps::member_braces_is))]
-fn member_braces(
-    alloc: Global,
-    tokens: &mut Tokens<'_>,
-    depth: usize,
-) -> Result<Items<Formal>, ParseError>
-    ensures { Met (reading depth rules.member_braces (cursor_of tokens.old)) result (cursor_of tokens.new) }
-{
-    let left = tokens.left;
-    tokens.open(&[OPEN_BRACE])?;
-    let found = maybe_some_members(alloc, tokens, depth)?;
-    tokens.take(&[CLOSE_BRACE])?;
-    tokens.left = left;
-    Ok(found)
+    if tokens.starts(&[Kind::Minus]) {
+        tokens.take(&[Kind::Minus])?;
+        return Ok(Items::new(alloc));
+    }
+    listed_members(alloc, tokens, depth)
 }
 
 /// The fields of a record or an exception, if it has braces.
-#[tactic(auto, using(crate::proofs::Steps::members_is))]
+#[tactic(auto, using(crate::proofs::Steps::members_is), unfolding(asl_grammar::specs::grammar::Rules::member_braces))]
 pub fn members(
     alloc: Global,
     tokens: &mut Tokens<'_>,
@@ -235,8 +187,13 @@ pub fn members(
 ) -> Result<Items<Formal>, ParseError>
     ensures { Met (reading depth rules.members (cursor_of tokens.old)) result (cursor_of tokens.new) }
 {
-    if !tokens.starts(&[OPEN_BRACE]) {
+    if !tokens.starts(&[Kind::OpenBrace]) {
         return Ok(Items::new(alloc));
     }
-    member_braces(alloc, tokens, depth)
+    let left = tokens.left;
+    tokens.open(&[Kind::OpenBrace])?;
+    let found = maybe_some_members(alloc, tokens, depth)?;
+    tokens.take(&[Kind::CloseBrace])?;
+    tokens.left = left;
+    Ok(found)
 }

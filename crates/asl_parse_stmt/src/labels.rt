@@ -5,7 +5,7 @@ ghost use Rattle.asl_grammar.specs.grammar.Rules as rules;
 ghost use Rattle.asl_parse_expr.specs.Code.{cursor_of, Met, reading};
 
 use asl_grammar::error::ParseError;
-use asl_grammar::kinds::{CLOSE_BRACE, COMMA, ENUMERATION, NAME, OPEN_BRACE, SUBTYPES};
+use asl_grammar::kinds::Kind;
 use asl_parse_expr::names::name;
 use asl_parse_expr::tokens::Tokens;
 use asl_syn::tree::{Ident, TypeDef};
@@ -23,11 +23,11 @@ fn label_list(
     let mut found = Items::new(alloc);
     found.push(name(alloc, tokens, depth)?)?;
     for _turn in 0..tokens.len() {
-        if !tokens.starts(&[COMMA]) {
+        if !tokens.starts(&[Kind::Comma]) {
             return Ok(found);
         }
-        tokens.take(&[COMMA])?;
-        if !tokens.starts(&[NAME]) {
+        tokens.take(&[Kind::Comma])?;
+        if !tokens.starts(&[Kind::Name]) {
             return Ok(found);
         }
         found.push(name(alloc, tokens, depth)?)?;
@@ -35,32 +35,22 @@ fn label_list(
     Ok(found)
 }
 
-#[tactic(auto, using(crate::proofs::Steps::label_braces_is))]
-fn label_braces(
-    alloc: Global,
-    tokens: &mut Tokens<'_>,
-    depth: usize,
-) -> Result<Items<Ident>, ParseError>
-    ensures { Met (reading depth rules.label_braces (cursor_of tokens.old)) result (cursor_of tokens.new) }
-{
-    let left = tokens.left;
-    tokens.open(&[OPEN_BRACE])?;
-    let found = label_list(alloc, tokens, depth)?;
-    tokens.take(&[CLOSE_BRACE])?;
-    tokens.left = left;
-    Ok(found)
-}
-
-#[tactic(auto, using(crate::proofs::Steps::labels_is))]
+/// The labels of an enumeration.
+#[tactic(auto, unfolding(asl_grammar::specs::grammar::Rules::label_braces, asl_grammar::specs::grammar::Rules::labels))]
 pub fn labels(alloc: Global, tokens: &mut Tokens<'_>, depth: usize) -> Result<TypeDef, ParseError>
     ensures { Met (reading depth rules.labels (cursor_of tokens.old)) result (cursor_of tokens.new) }
 {
     let from = tokens.ahead();
-    tokens.take(&[ENUMERATION])?;
-    let found = label_braces(alloc, tokens, depth)?;
+    tokens.take(&[Kind::Enumeration])?;
+    let left = tokens.left;
+    tokens.open(&[Kind::OpenBrace])?;
+    let found = label_list(alloc, tokens, depth)?;
+    tokens.take(&[Kind::CloseBrace])?;
+    tokens.left = left;
     Ok(TypeDef::Labels(tokens.since(from), found))
 }
 
+/// The supertype of a type, if it has one.
 #[tactic(auto, using(crate::proofs::Steps::supertype_is))]
 pub fn supertype(
     alloc: Global,
@@ -69,9 +59,9 @@ pub fn supertype(
 ) -> Result<Option<Ident>, ParseError>
     ensures { Met (reading depth rules.supertype (cursor_of tokens.old)) result (cursor_of tokens.new) }
 {
-    if !tokens.starts(&[SUBTYPES]) {
+    if !tokens.starts(&[Kind::Subtypes]) {
         return Ok(None);
     }
-    tokens.take(&[SUBTYPES])?;
+    tokens.take(&[Kind::Subtypes])?;
     Ok(Some(name(alloc, tokens, depth)?))
 }

@@ -1,4 +1,4 @@
-//! The parser of statements and declarations: one function for each rule of the grammar.
+//! The parser of statements and declarations: its functions follow the rules of the grammar.
 #![tactic(auto)]
 
 mod binders;
@@ -6,6 +6,7 @@ mod bodies;
 pub mod declarations;
 mod formals;
 mod labels;
+mod levels;
 mod printing;
 mod simple;
 mod statements;

@@ -7,67 +7,50 @@ ghost use Rattle.asl_parse_expr.specs.Code.{cursor_of, Met, reading};
 use crate::binders::value;
 use crate::targets::{other_target, place_of, target_suffixes};
 use asl_grammar::error::ParseError;
-use asl_grammar::kinds::{
-    ASSERT, CLOSE_BRACE, OPEN_BRACE, OPEN_PAREN, PASS, RETURN, SEMICOLON, THROW, UNREACHABLE,
-};
+use asl_grammar::kinds::Kind;
 use asl_parse_expr::expressions::{arguments, expression, maybe_expression, maybe_expressions};
 use asl_parse_expr::names::name;
 use asl_parse_expr::tokens::Tokens;
+use asl_shared::Held;
 use asl_syn::tree::{Expr, PlacedSuffix, Stmt};
 use sqlite_items::Items;
 use std::alloc::Global;
 
 /// `pass`
-#[tactic(auto, using(crate::proofs::Steps::pass_is))]
+#[tactic(auto, unfolding(asl_grammar::specs::grammar::Rules::pass))]
 pub fn pass(tokens: &mut Tokens<'_>, depth: usize) -> Result<Stmt, ParseError>
     ensures { Met (reading depth rules.pass (cursor_of tokens.old)) result (cursor_of tokens.new) }
 {
     let from = tokens.ahead();
-    tokens.take(&[PASS])?;
-    tokens.take(&[SEMICOLON])?;
+    tokens.take(&[Kind::Pass])?;
+    tokens.take(&[Kind::Semicolon])?;
     Ok(Stmt::Pass(tokens.since(from)))
 }
 
 /// `unreachable`
-#[tactic(auto, using(crate::proofs::Steps::unreachable_is))]
+#[tactic(auto, unfolding(asl_grammar::specs::grammar::Rules::unreachable))]
 pub fn unreachable(tokens: &mut Tokens<'_>, depth: usize) -> Result<Stmt, ParseError>
     ensures { Met (reading depth rules.unreachable (cursor_of tokens.old)) result (cursor_of tokens.new) }
 {
     let from = tokens.ahead();
-    tokens.take(&[UNREACHABLE])?;
-    tokens.take(&[SEMICOLON])?;
+    tokens.take(&[Kind::Unreachable])?;
+    tokens.take(&[Kind::Semicolon])?;
     Ok(Stmt::Unreachable(tokens.since(from)))
 }
 
 /// `assert`
-#[tactic(auto, using(crate::proofs::Steps::assert_is))]
+#[tactic(auto, unfolding(asl_grammar::specs::grammar::Rules::assert))]
 pub fn assert(alloc: Global, tokens: &mut Tokens<'_>, depth: usize) -> Result<Stmt, ParseError>
     ensures { Met (reading depth rules.assert (cursor_of tokens.old)) result (cursor_of tokens.new) }
 {
     let from = tokens.ahead();
-    tokens.take(&[ASSERT])?;
-    let condition = expression(alloc, tokens, depth)?;
-    tokens.take(&[SEMICOLON])?;
-    Ok(Stmt::Assert(tokens.since(from), condition))
+    tokens.take(&[Kind::Assert])?;
+    let condition = Held::new(expression(alloc, tokens, depth)?);
+    tokens.take(&[Kind::Semicolon])?;
+    Ok(Stmt::Assert(tokens.since(from), condition.into_inner()))
 }
 
-#[tactic(auto, using(crate::proofs::Steps::parameters_is))]
-fn parameters(
-    alloc: Global,
-    tokens: &mut Tokens<'_>,
-    depth: usize,
-) -> Result<Items<Expr>, ParseError>
-    ensures { Met (reading depth rules.parameters (cursor_of tokens.old)) result (cursor_of tokens.new) }
-{
-    let left = tokens.left;
-    tokens.open(&[OPEN_BRACE])?;
-    let found = maybe_expressions(alloc, tokens, depth)?;
-    tokens.take(&[CLOSE_BRACE])?;
-    tokens.left = left;
-    Ok(found)
-}
-
-#[tactic(auto, using(crate::proofs::Steps::maybe_parameters_is))]
+#[tactic(auto, using(crate::proofs::Steps::maybe_parameters_is), unfolding(asl_grammar::specs::grammar::Rules::parameters))]
 fn maybe_parameters(
     alloc: Global,
     tokens: &mut Tokens<'_>,
@@ -75,26 +58,18 @@ fn maybe_parameters(
 ) -> Result<Items<Expr>, ParseError>
     ensures { Met (reading depth rules.maybe_parameters (cursor_of tokens.old)) result (cursor_of tokens.new) }
 {
-    if !tokens.starts(&[OPEN_BRACE]) {
+    if !tokens.starts(&[Kind::OpenBrace]) {
         return Ok(Items::new(alloc));
     }
-    parameters(alloc, tokens, depth)
+    let left = tokens.left;
+    tokens.open(&[Kind::OpenBrace])?;
+    let found = maybe_expressions(alloc, tokens, depth)?;
+    tokens.take(&[Kind::CloseBrace])?;
+    tokens.left = left;
+    Ok(found)
 }
 
-#[tactic(auto, using(crate::proofs::Steps::call_arguments_is))]
-fn call_arguments(
-    alloc: Global,
-    tokens: &mut Tokens<'_>,
-    depth: usize,
-) -> Result<(Items<Expr>, Items<Expr>), ParseError>
-    ensures { Met (reading depth rules.call_arguments (cursor_of tokens.old)) result (cursor_of tokens.new) }
-{
-    let parameters = maybe_parameters(alloc, tokens, depth)?;
-    let arguments = arguments(alloc, tokens, depth)?;
-    Ok((parameters, arguments))
-}
-
-#[tactic(auto, using(crate::proofs::Steps::invoked_is))]
+#[tactic(auto, unfolding(asl_grammar::specs::grammar::Rules::call_arguments, asl_grammar::specs::grammar::Rules::invoked))]
 fn invoked(
     alloc: Global,
     tokens: &mut Tokens<'_>,
@@ -102,12 +77,13 @@ fn invoked(
 ) -> Result<(Items<Expr>, Items<Expr>), ParseError>
     ensures { Met (reading depth rules.invoked (cursor_of tokens.old)) result (cursor_of tokens.new) }
 {
-    let call = call_arguments(alloc, tokens, depth)?;
-    tokens.take(&[SEMICOLON])?;
-    Ok(call)
+    let parameters = maybe_parameters(alloc, tokens, depth)?;
+    let arguments = arguments(alloc, tokens, depth)?;
+    tokens.take(&[Kind::Semicolon])?;
+    Ok((parameters, arguments))
 }
 
-#[tactic(auto, using(crate::proofs::Steps::assigned_is))]
+#[tactic(auto, unfolding(asl_grammar::specs::grammar::Rules::assigned))]
 fn assigned(
     alloc: Global,
     tokens: &mut Tokens<'_>,
@@ -131,7 +107,7 @@ pub fn name_statement(
 {
     let from = tokens.ahead();
     let name = name(alloc, tokens, depth)?;
-    if tokens.starts(&[OPEN_BRACE, OPEN_PAREN]) {
+    if tokens.starts(&[Kind::OpenBrace, Kind::OpenParen]) {
         let (parameters, arguments) = invoked(alloc, tokens, depth)?;
         Ok(Stmt::Invoke(tokens.since(from), name, parameters, arguments))
     } else {
@@ -142,7 +118,7 @@ pub fn name_statement(
 }
 
 /// An assignment whose target begins with no name.
-#[tactic(auto, using(crate::proofs::Steps::assignment_is))]
+#[tactic(auto, unfolding(asl_grammar::specs::grammar::Rules::assignment))]
 pub fn assignment(alloc: Global, tokens: &mut Tokens<'_>, depth: usize) -> Result<Stmt, ParseError>
     ensures { Met (reading depth rules.assignment (cursor_of tokens.old)) result (cursor_of tokens.new) }
 {
@@ -153,7 +129,7 @@ pub fn assignment(alloc: Global, tokens: &mut Tokens<'_>, depth: usize) -> Resul
 }
 
 /// `return`
-#[tactic(auto, using(crate::proofs::Steps::return_statement_is))]
+#[tactic(auto, unfolding(asl_grammar::specs::grammar::Rules::return_statement))]
 pub fn return_statement(
     alloc: Global,
     tokens: &mut Tokens<'_>,
@@ -162,14 +138,14 @@ pub fn return_statement(
     ensures { Met (reading depth rules.return_statement (cursor_of tokens.old)) result (cursor_of tokens.new) }
 {
     let from = tokens.ahead();
-    tokens.take(&[RETURN])?;
-    let value = maybe_expression(alloc, tokens, depth)?;
-    tokens.take(&[SEMICOLON])?;
-    Ok(Stmt::Return(tokens.since(from), value))
+    tokens.take(&[Kind::Return])?;
+    let value = Held::new(maybe_expression(alloc, tokens, depth)?);
+    tokens.take(&[Kind::Semicolon])?;
+    Ok(Stmt::Return(tokens.since(from), value.into_inner()))
 }
 
 /// `throw`
-#[tactic(auto, using(crate::proofs::Steps::throw_statement_is))]
+#[tactic(auto, unfolding(asl_grammar::specs::grammar::Rules::throw_statement))]
 pub fn throw_statement(
     alloc: Global,
     tokens: &mut Tokens<'_>,
@@ -178,8 +154,8 @@ pub fn throw_statement(
     ensures { Met (reading depth rules.throw_statement (cursor_of tokens.old)) result (cursor_of tokens.new) }
 {
     let from = tokens.ahead();
-    tokens.take(&[THROW])?;
-    let value = maybe_expression(alloc, tokens, depth)?;
-    tokens.take(&[SEMICOLON])?;
-    Ok(Stmt::Throw(tokens.since(from), value))
+    tokens.take(&[Kind::Throw])?;
+    let value = Held::new(maybe_expression(alloc, tokens, depth)?);
+    tokens.take(&[Kind::Semicolon])?;
+    Ok(Stmt::Throw(tokens.since(from), value.into_inner()))
 }

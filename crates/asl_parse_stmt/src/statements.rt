@@ -6,34 +6,29 @@ ghost use Rattle.asl_parse_expr.specs.Code.{cursor_of, Met, reading};
 
 use crate::binders::{let_statement, var_statement};
 use crate::bodies::Bodies;
+use crate::levels::nest;
 use crate::printing::print_statement;
 use crate::simple::{
     assert, assignment, name_statement, pass, return_statement, throw_statement, unreachable,
 };
 use asl_grammar::error::ParseError;
-use asl_grammar::kinds::{
-    ASSERT, CASE, FOR, IF, LET, MINUS, NAME, OPEN_PAREN, PASS, PRINT, PRINT_LINE, REPEAT, RETURN,
-    THROW, TRY, UNREACHABLE, VAR, WHILE,
-};
+use asl_grammar::kinds::Kind;
 use asl_parse_expr::tokens::Tokens;
 use asl_syn::tree::Stmt;
 use sqlite_items::Items;
 use std::alloc::Global;
 
 #[cycle(statements)]
-#[tactic(auto, using(crate::proofs::Steps::if_statement_is, crate::proofs::StatementSteps::if_body_at))]
+#[tactic(auto, using(crate::proofs::StatementSteps::if_statement_nests))]
 fn if_statement(alloc: Global, tokens: &mut Tokens<'_>, depth: usize) -> Result<Stmt, ParseError>
     ensures { Met (reading depth rules.if_statement (cursor_of tokens.old)) result (cursor_of tokens.new) }
 {
     let from = tokens.ahead();
     let left = tokens.left;
-    tokens.open(&[IF])?;
-    if depth == 0 {
-        return Err(ParseError::TooDeep(tokens.len(), false));
-    }
+    let depth = nest(tokens, &[Kind::If], depth)?;
     let bodies = Bodies {
         alloc,
-        depth: depth - 1,
+        depth,
         block,
     };
     let (condition, then_block, else_ifs, else_block) = bodies.if_body(tokens)?;
@@ -48,19 +43,16 @@ fn if_statement(alloc: Global, tokens: &mut Tokens<'_>, depth: usize) -> Result<
 }
 
 #[cycle(statements)]
-#[tactic(auto, using(crate::proofs::Steps::case_statement_is, crate::proofs::StatementSteps::case_body_at))]
+#[tactic(auto, using(crate::proofs::StatementSteps::case_statement_nests))]
 fn case_statement(alloc: Global, tokens: &mut Tokens<'_>, depth: usize) -> Result<Stmt, ParseError>
     ensures { Met (reading depth rules.case_statement (cursor_of tokens.old)) result (cursor_of tokens.new) }
 {
     let from = tokens.ahead();
     let left = tokens.left;
-    tokens.open(&[CASE])?;
-    if depth == 0 {
-        return Err(ParseError::TooDeep(tokens.len(), false));
-    }
+    let depth = nest(tokens, &[Kind::Case], depth)?;
     let bodies = Bodies {
         alloc,
-        depth: depth - 1,
+        depth,
         block,
     };
     let (subject, alternatives, otherwise) = bodies.case_body(tokens)?;
@@ -69,19 +61,16 @@ fn case_statement(alloc: Global, tokens: &mut Tokens<'_>, depth: usize) -> Resul
 }
 
 #[cycle(statements)]
-#[tactic(auto, using(crate::proofs::Steps::for_statement_is, crate::proofs::StatementSteps::for_body_at))]
+#[tactic(auto, using(crate::proofs::StatementSteps::for_statement_nests))]
 fn for_statement(alloc: Global, tokens: &mut Tokens<'_>, depth: usize) -> Result<Stmt, ParseError>
     ensures { Met (reading depth rules.for_statement (cursor_of tokens.old)) result (cursor_of tokens.new) }
 {
     let from = tokens.ahead();
     let left = tokens.left;
-    tokens.open(&[FOR])?;
-    if depth == 0 {
-        return Err(ParseError::TooDeep(tokens.len(), false));
-    }
+    let depth = nest(tokens, &[Kind::For], depth)?;
     let bodies = Bodies {
         alloc,
-        depth: depth - 1,
+        depth,
         block,
     };
     let (name, first, direction, last, limit, body) = bodies.for_body(tokens)?;
@@ -98,19 +87,16 @@ fn for_statement(alloc: Global, tokens: &mut Tokens<'_>, depth: usize) -> Result
 }
 
 #[cycle(statements)]
-#[tactic(auto, using(crate::proofs::Steps::while_statement_is, crate::proofs::StatementSteps::while_body_at))]
+#[tactic(auto, using(crate::proofs::StatementSteps::while_statement_nests))]
 fn while_statement(alloc: Global, tokens: &mut Tokens<'_>, depth: usize) -> Result<Stmt, ParseError>
     ensures { Met (reading depth rules.while_statement (cursor_of tokens.old)) result (cursor_of tokens.new) }
 {
     let from = tokens.ahead();
     let left = tokens.left;
-    tokens.open(&[WHILE])?;
-    if depth == 0 {
-        return Err(ParseError::TooDeep(tokens.len(), false));
-    }
+    let depth = nest(tokens, &[Kind::While], depth)?;
     let bodies = Bodies {
         alloc,
-        depth: depth - 1,
+        depth,
         block,
     };
     let (condition, limit, body) = bodies.while_body(tokens)?;
@@ -119,7 +105,7 @@ fn while_statement(alloc: Global, tokens: &mut Tokens<'_>, depth: usize) -> Resu
 }
 
 #[cycle(statements)]
-#[tactic(auto, using(crate::proofs::Steps::repeat_statement_is, crate::proofs::StatementSteps::repeat_body_at))]
+#[tactic(auto, using(crate::proofs::StatementSteps::repeat_statement_nests))]
 fn repeat_statement(
     alloc: Global,
     tokens: &mut Tokens<'_>,
@@ -129,13 +115,10 @@ fn repeat_statement(
 {
     let from = tokens.ahead();
     let left = tokens.left;
-    tokens.open(&[REPEAT])?;
-    if depth == 0 {
-        return Err(ParseError::TooDeep(tokens.len(), false));
-    }
+    let depth = nest(tokens, &[Kind::Repeat], depth)?;
     let bodies = Bodies {
         alloc,
-        depth: depth - 1,
+        depth,
         block,
     };
     let (body, condition, limit) = bodies.repeat_body(tokens)?;
@@ -144,19 +127,16 @@ fn repeat_statement(
 }
 
 #[cycle(statements)]
-#[tactic(auto, using(crate::proofs::Steps::try_statement_is, crate::proofs::StatementSteps::try_body_at))]
+#[tactic(auto, using(crate::proofs::StatementSteps::try_statement_nests))]
 fn try_statement(alloc: Global, tokens: &mut Tokens<'_>, depth: usize) -> Result<Stmt, ParseError>
     ensures { Met (reading depth rules.try_statement (cursor_of tokens.old)) result (cursor_of tokens.new) }
 {
     let from = tokens.ahead();
     let left = tokens.left;
-    tokens.open(&[TRY])?;
-    if depth == 0 {
-        return Err(ParseError::TooDeep(tokens.len(), false));
-    }
+    let depth = nest(tokens, &[Kind::Try], depth)?;
     let bodies = Bodies {
         alloc,
-        depth: depth - 1,
+        depth,
         block,
     };
     let (body, catchers, otherwise) = bodies.try_body(tokens)?;
@@ -169,35 +149,35 @@ fn try_statement(alloc: Global, tokens: &mut Tokens<'_>, depth: usize) -> Result
 fn statement(alloc: Global, tokens: &mut Tokens<'_>, depth: usize) -> Result<Stmt, ParseError>
     ensures { Met (reading depth rules.statement (cursor_of tokens.old)) result (cursor_of tokens.new) }
 {
-    if tokens.starts(&[PASS]) {
+    if tokens.starts(&[Kind::Pass]) {
         pass(tokens, depth)
-    } else if tokens.starts(&[UNREACHABLE]) {
+    } else if tokens.starts(&[Kind::Unreachable]) {
         unreachable(tokens, depth)
-    } else if tokens.starts(&[ASSERT]) {
+    } else if tokens.starts(&[Kind::Assert]) {
         assert(alloc, tokens, depth)
-    } else if tokens.starts(&[LET]) {
+    } else if tokens.starts(&[Kind::Let]) {
         let_statement(alloc, tokens, depth)
-    } else if tokens.starts(&[VAR]) {
+    } else if tokens.starts(&[Kind::Var]) {
         var_statement(alloc, tokens, depth)
-    } else if tokens.starts(&[NAME]) {
+    } else if tokens.starts(&[Kind::Name]) {
         name_statement(alloc, tokens, depth)
-    } else if tokens.starts(&[MINUS, OPEN_PAREN]) {
+    } else if tokens.starts(&[Kind::Minus, Kind::OpenParen]) {
         assignment(alloc, tokens, depth)
-    } else if tokens.starts(&[IF]) {
+    } else if tokens.starts(&[Kind::If]) {
         if_statement(alloc, tokens, depth)
-    } else if tokens.starts(&[CASE]) {
+    } else if tokens.starts(&[Kind::Case]) {
         case_statement(alloc, tokens, depth)
-    } else if tokens.starts(&[FOR]) {
+    } else if tokens.starts(&[Kind::For]) {
         for_statement(alloc, tokens, depth)
-    } else if tokens.starts(&[WHILE]) {
+    } else if tokens.starts(&[Kind::While]) {
         while_statement(alloc, tokens, depth)
-    } else if tokens.starts(&[REPEAT]) {
+    } else if tokens.starts(&[Kind::Repeat]) {
         repeat_statement(alloc, tokens, depth)
-    } else if tokens.starts(&[RETURN]) {
+    } else if tokens.starts(&[Kind::Return]) {
         return_statement(alloc, tokens, depth)
-    } else if tokens.starts(&[THROW]) {
+    } else if tokens.starts(&[Kind::Throw]) {
         throw_statement(alloc, tokens, depth)
-    } else if tokens.starts(&[TRY]) {
+    } else if tokens.starts(&[Kind::Try]) {
         try_statement(alloc, tokens, depth)
     } else {
         print_statement(alloc, tokens, depth)
@@ -217,24 +197,24 @@ pub fn block(
     let mut found = Items::new(alloc);
     for _turn in 0..tokens.len() {
         if !tokens.starts(&[
-            PASS,
-            UNREACHABLE,
-            ASSERT,
-            LET,
-            VAR,
-            NAME,
-            MINUS,
-            OPEN_PAREN,
-            IF,
-            CASE,
-            FOR,
-            WHILE,
-            REPEAT,
-            RETURN,
-            THROW,
-            TRY,
-            PRINT,
-            PRINT_LINE,
+            Kind::Pass,
+            Kind::Unreachable,
+            Kind::Assert,
+            Kind::Let,
+            Kind::Var,
+            Kind::Name,
+            Kind::Minus,
+            Kind::OpenParen,
+            Kind::If,
+            Kind::Case,
+            Kind::For,
+            Kind::While,
+            Kind::Repeat,
+            Kind::Return,
+            Kind::Throw,
+            Kind::Try,
+            Kind::Print,
+            Kind::PrintLine,
         ]) {
             return Ok(found);
         }

@@ -3,10 +3,11 @@
 ghost use Rattle.std.specs.Prelude.{◌≡◌};
 ghost use Rattle.asl_grammar.specs.grammar.Build as build;
 ghost use Rattle.asl_grammar.specs.grammar.Rules as rules;
-ghost use Rattle.asl_parse_expr.specs.Code.{cursor_of, Met, reading, symbol, then};
+ghost use Rattle.asl_parse_expr.specs.Code.{cursor_of, Met, reading, then};
 
+use crate::levels::nest;
 use asl_grammar::error::ParseError;
-use asl_grammar::kinds::{CLOSE_PAREN, COMMA, MINUS, NAME, OPEN_PAREN};
+use asl_grammar::kinds::Kind;
 use asl_parse_expr::names::name;
 use asl_parse_expr::suffixes::suffixes;
 use asl_parse_expr::tokens::{Tokens, end_of, span_to};
@@ -33,7 +34,7 @@ pub fn place_of(name: Ident, suffixes: Items<PlacedSuffix>) -> Target
 }
 
 /// The suffixes of a target, whose levels end with it.
-#[tactic(auto, using(crate::proofs::Steps::target_suffixes_is))]
+#[tactic(auto, unfolding(asl_grammar::specs::grammar::Rules::target_suffixes))]
 pub fn target_suffixes(
     alloc: Global,
     tokens: &mut Tokens<'_>,
@@ -47,32 +48,25 @@ pub fn target_suffixes(
     Ok(found)
 }
 
-#[tactic(auto, using(crate::proofs::Steps::no_target_is))]
+#[tactic(auto, unfolding(asl_grammar::specs::grammar::Rules::no_target))]
 fn no_target(tokens: &mut Tokens<'_>, depth: usize) -> Result<Target, ParseError>
     ensures { Met (reading depth rules.no_target (cursor_of tokens.old)) result (cursor_of tokens.new) }
 {
-    let token = tokens.take(&[MINUS])?;
+    let token = tokens.take(&[Kind::Minus])?;
     Ok(Target::Discarded(token.span))
 }
 
-#[tactic(auto, using(crate::proofs::Steps::place_is))]
-fn place(alloc: Global, tokens: &mut Tokens<'_>, depth: usize) -> Result<Target, ParseError>
-    ensures { Met (reading depth rules.place (cursor_of tokens.old)) result (cursor_of tokens.new) }
-{
-    let name = name(alloc, tokens, depth)?;
-    let suffixes = target_suffixes(alloc, tokens, depth)?;
-    Ok(place_of(name, suffixes))
-}
-
 #[cycle(targets)]
-#[tactic(auto, using(crate::proofs::Steps::target_is))]
+#[tactic(auto, using(crate::proofs::Steps::target_is), unfolding(asl_grammar::specs::grammar::Rules::place))]
 fn target(alloc: Global, tokens: &mut Tokens<'_>, depth: usize) -> Result<Target, ParseError>
     ensures { Met (reading depth rules.target (cursor_of tokens.old)) result (cursor_of tokens.new) }
 {
-    if tokens.starts(&[MINUS]) {
+    if tokens.starts(&[Kind::Minus]) {
         no_target(tokens, depth)
-    } else if tokens.starts(&[NAME]) {
-        place(alloc, tokens, depth)
+    } else if tokens.starts(&[Kind::Name]) {
+        let name = name(alloc, tokens, depth)?;
+        let suffixes = target_suffixes(alloc, tokens, depth)?;
+        Ok(place_of(name, suffixes))
     } else {
         targets(alloc, tokens, depth)
     }
@@ -89,17 +83,17 @@ fn more_targets(
     ensures { Met (then (build.behind found) (reading depth rules.more_targets (cursor_of tokens.old))) result (cursor_of tokens.new) }
 {
     for _turn in 0..tokens.len() {
-        if !tokens.starts(&[COMMA]) {
+        if !tokens.starts(&[Kind::Comma]) {
             return Ok(found);
         }
-        tokens.take(&[COMMA])?;
+        tokens.take(&[Kind::Comma])?;
         found.push(target(alloc, tokens, depth)?)?;
     }
     Ok(found)
 }
 
 #[cycle(targets)]
-#[tactic(auto, using(crate::proofs::Steps::two_targets_is))]
+#[tactic(auto, unfolding(asl_grammar::specs::grammar::Rules::two_targets, asl_parse_expr::specs::Code::then))]
 fn two_targets(
     alloc: Global,
     tokens: &mut Tokens<'_>,
@@ -109,37 +103,21 @@ fn two_targets(
 {
     let mut found = Items::new(alloc);
     found.push(target(alloc, tokens, depth)?)?;
-    tokens.take(&[COMMA])?;
+    tokens.take(&[Kind::Comma])?;
     found.push(target(alloc, tokens, depth)?)?;
     more_targets(alloc, tokens, depth, found)
 }
 
 #[cycle(targets)]
-#[tactic(auto, using(crate::proofs::Steps::TargetParts_at))]
-fn target_parts(
-    alloc: Global,
-    tokens: &mut Tokens<'_>,
-    depth: usize,
-) -> Result<Items<Target>, ParseError>
-    ensures { Met (symbol depth rules.TargetParts (cursor_of tokens.old)) result (cursor_of tokens.new) }
-{
-    if depth == 0 {
-        return Err(ParseError::TooDeep(tokens.len(), false));
-    }
-    let found = two_targets(alloc, tokens, depth - 1)?;
-    tokens.take(&[CLOSE_PAREN])?;
-    Ok(found)
-}
-
-#[cycle(targets)]
-#[tactic(auto, using(crate::proofs::Steps::targets_is))]
+#[tactic(auto, using(crate::proofs::StatementSteps::targets_nest))]
 fn targets(alloc: Global, tokens: &mut Tokens<'_>, depth: usize) -> Result<Target, ParseError>
     ensures { Met (reading depth rules.targets (cursor_of tokens.old)) result (cursor_of tokens.new) }
 {
     let from = tokens.ahead();
     let left = tokens.left;
-    tokens.open(&[OPEN_PAREN])?;
-    let parts = target_parts(alloc, tokens, depth)?;
+    let depth = nest(tokens, &[Kind::OpenParen], depth)?;
+    let parts = two_targets(alloc, tokens, depth)?;
+    tokens.take(&[Kind::CloseParen])?;
     tokens.left = left;
     Ok(Target::Targets(tokens.since(from), parts))
 }
@@ -153,7 +131,7 @@ pub fn other_target(
 ) -> Result<Target, ParseError>
     ensures { Met (reading depth rules.other_target (cursor_of tokens.old)) result (cursor_of tokens.new) }
 {
-    if tokens.starts(&[MINUS]) {
+    if tokens.starts(&[Kind::Minus]) {
         no_target(tokens, depth)
     } else {
         targets(alloc, tokens, depth)

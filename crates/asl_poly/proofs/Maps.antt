@@ -1,16 +1,18 @@
+-- The results of `add`, `sub` and `mul`: within the limits, with the value that the clauses say; and when a polynomial is constant.
 use Rattle.std.proofs.Common.{inl, inr, ◌≡◌, ◌≢◌, ℕ, ◌+◌, ◌*◌, ◌≤◌, List, [], ◌∷◌, length, refl, sym, subst, ◌∙◌, ap, arith}
 use Rattle.std.specs.Prelude.{unsigned_abs, Option, Some, None, MatchOption}
 use Rattle.std.proofs.Math.IntN.{ℤ, pos, negsuc, ◌+ℤ◌, ◌-ℤ◌, ◌*ℤ◌, neg_ℤ, +ℤ_idl}
 use Rattle.std.proofs.lemmas.Int.{ints}
+use Rattle.std.proofs.lemmas.Bool.{cases_Bool}
 use Rattle.asl_poly.specs.Terms.{of_terms, Summand, IsTerm, Sorted, value}
 use Rattle.asl_poly.specs.Limits.{IsMap, weight, degree, atoms_of_both, note_terms}
 use Rattle.asl_poly.specs.Operations.{constant_of, constant_if, constant_term, gather, scaled, constant_term, multiply, sum_terms, difference_terms, product_terms, is_zero, constant_terms}
 use Rattle.asl_poly.specs.Poly.{SumFits, ProductFits}
 use Rattle.asl_poly.proofs.Ring.{one-mul, mul-one, neg-mul}
-use Rattle.asl_poly.proofs.Values.{value-gather, value-scaled, value-multiply, bool_cases, zero_is}
-use Rattle.asl_poly.proofs.Forms.{AllTerms, all_sorted, sorted_gather, times_term, weight_gather, weight_scaled, weight_multiply, not_zero}
+use Rattle.asl_poly.proofs.Values.{value-gather, value-scaled, value-multiply, zero_is}
+use Rattle.asl_poly.proofs.NormalForm.{AllTerms, all_sorted, sorted_gather, times_term, weight_gather, weight_scaled, weight_multiply, not_zero}
 use Rattle.asl_poly.proofs.Atoms.{FactorsIn, terms_have, in_keep, gather_in, scaled_in, multiply_in, atoms_few}
-use Rattle.asl_poly.proofs.Law.{agree, at, same_term}
+use Rattle.asl_poly.proofs.DistinctValues.{agree, at, same_term}
 
 scaled_terms : (s : Summand) (ts : List Summand) → IsTerm s → AllTerms ts → length s.factors + degree ts ≤ 4 → AllTerms (scaled s ts)
 scaled_terms s [] h k l = tt
@@ -81,10 +83,10 @@ pub same_map : (p q : List Summand) → IsMap p → IsMap q → ((a : ℕ → �
 same_map p q hp hq h = agree (weight p + weight q + 1) p q hp.sorted hq.sorted (omega arith) (h (at (weight p + weight q + 1)))
 
 pub sorted_constant : (c : ℤ) → Sorted (constant_terms c)
-sorted_constant c = elim (bool_cases (is_zero c)) [ inl z ↦ rw z tt | inr z ↦ rw z (unit_term c (not_zero c z), tt, tt) ]
+sorted_constant c = elim (cases_Bool (is_zero c)) [ inl z ↦ rw z tt | inr z ↦ rw z (unit_term c (not_zero c z), tt, tt) ]
 
 pub value_constant : (a : ℕ → ℤ) (c : ℤ) → value a (constant_terms c) ≡ c
-value_constant a c = elim (bool_cases (is_zero c)) [ inl z ↦ rw z (sym (zero_is c z)) | inr z ↦ rw z (omega (arith, ints, mul-one c)) ]
+value_constant a c = elim (cases_Bool (is_zero c)) [ inl z ↦ rw z (sym (zero_is c z)) | inr z ↦ rw z (omega (arith, ints, mul-one c)) ]
 
 -- a polynomial with one value is the constant's
 pub constant_is : (p : List Summand) (c : ℤ) → IsMap p → ((a : ℕ → ℤ) → value a p ≡ c) → p ≡ constant_terms c
@@ -95,7 +97,7 @@ constant_is p c hp h =
 -- ---- terms without atoms
 
 found_with : (t : Summand) (ts : List Summand) (ms : List ℕ) (c : ℤ) → t.factors ≡ ms → IsTerm t → constant_if ms ts t.coefficient ≡ Some c → t ∷ ts ≡ constant_terms c
-found_with t [] [] c f h e = elim (bool_cases (is_zero c)) [
+found_with t [] [] c f h e = elim (cases_Bool (is_zero c)) [
   | inl z ↦ let g : t.coefficient ≡ c = cc in absurd (h.counts (g ∙ zero_is c z))
   | inr z ↦ let g : t.coefficient ≡ c = cc in rw z (ap (λ u. u ∷ []) (same_term t (constant_term c) g f))
 ]
@@ -107,7 +109,7 @@ found_constant [] c h e = let f : pos 0 ≡ c = cc in rw (← f) refl
 found_constant (t ∷ ts) c h e = found_with t ts t.factors c refl h.0 e
 
 constant_back : (c : ℤ) → constant_of (constant_terms c) ≡ Some c
-constant_back c = elim (bool_cases (is_zero c)) [ inl z ↦ rw (z, zero_is c z) refl | inr z ↦ rw z refl ]
+constant_back c = elim (cases_Bool (is_zero c)) [ inl z ↦ rw (z, zero_is c z) refl | inr z ↦ rw z refl ]
 
 -- what `as_constant` answers, of what it finds in the terms
 pub one_value : (p : List Summand) (r : Option ℤ) → IsMap p → r ≡ constant_of p

@@ -1,15 +1,16 @@
+-- When two polynomials differ by a constant.
 use Rattle.std.proofs.Common.{inl, inr, ◌≡◌, ◌≢◌, ℕ, ◌+◌, ◌≤◌, List, [], ◌∷◌, ◌++◌, refl, sym, subst, ◌∙◌, ap, arith}
 use Rattle.std.specs.Prelude.{unsigned_abs, Option, Some, None, MatchOption}
 use Rattle.std.specs.declared.cmp.Ordering.TheVariants.{Less}
 use Rattle.std.proofs.Math.IntN.{ℤ, pos, ◌+ℤ◌, ◌-ℤ◌, ◌*ℤ◌}
 use Rattle.std.proofs.lemmas.Int.{ints}
+use Rattle.std.proofs.lemmas.Bool.{cases_Bool}
 use Rattle.asl_poly.specs.Terms.{Summand, Sorted, AllBelow, order, value, product}
 use Rattle.asl_poly.specs.Limits.{IsMap, weight}
 use Rattle.asl_poly.specs.Operations.{varying_part, varying_with, constant_part, constant_with, constant_terms, is_zero, constant_term}
 use Rattle.asl_poly.proofs.Ring.{mul-one}
-use Rattle.asl_poly.proofs.Values.{bool_cases}
 use Rattle.asl_poly.proofs.Maps.{value_constant, sorted_constant}
-use Rattle.asl_poly.proofs.Law.{agree, at}
+use Rattle.asl_poly.proofs.DistinctValues.{agree, at}
 
 -- p is q and the constant c
 abbrev pub Differ : List Summand → List Summand → ℤ → Type 0
@@ -61,7 +62,7 @@ below_nil [] n = absurd (n refl)
 below_nil (x ∷ xs) n = refl
 
 below_constant : (ms : List ℕ) (ts : List Summand) (k : ℤ) → ms ≢ [] → AllBelow ms ts → AllBelow ms (ts ++ constant_terms k)
-below_constant ms [] k n b = elim (bool_cases (is_zero k)) [ inl z ↦ rw z tt | inr z ↦ rw z (below_nil ms n, tt) ]
+below_constant ms [] k n b = elim (cases_Bool (is_zero k)) [ inl z ↦ rw z tt | inr z ↦ rw z (below_nil ms n, tt) ]
 below_constant ms (t ∷ ts) k n b = (b.0, below_constant ms ts k n b.1)
 
 -- a constant behind
@@ -80,7 +81,7 @@ first_named (t ∷ ts) {c = c} n e =
     absurd (n.0 (ap (λ u. u.factors) f))
 
 named_append : (ts us : List Summand) (k : ℤ) → AllNamed ts → AllNamed us → ts ≡ us ++ constant_terms k → ts ≡ us
-named_append ts [] k n m e = elim (bool_cases (is_zero k)) [
+named_append ts [] k n m e = elim (cases_Bool (is_zero k)) [
   | inl z ↦ rw z at e
   | inr z ↦ first_named ts n (rw z at e)
 ]

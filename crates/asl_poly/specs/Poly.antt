@@ -1,3 +1,4 @@
+-- What the operations on polynomials answer: the value of the result, when it is too large, and its terms.
 use Rattle.std.specs.Prelude.{◌≡◌, ℕ, ◌+◌, ◌*◌, ◌≤◌, ◌^◌, ℤ, ◌+ℤ◌, ◌-ℤ◌, ◌*ℤ◌, ◌≤ℤ◌, List, [], length, unsigned_abs, Option, Result, Ok, Err}
 use Rattle.asl_poly.specs.declared.PolyRefused.{PolyRefused}
 use Rattle.asl_poly.specs.declared.PolyRefused.TheVariants.{TooLarge, NoMemory}

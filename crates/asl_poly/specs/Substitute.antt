@@ -1,3 +1,4 @@
+-- Polynomials in the place of atoms: the limits, and the result.
 use Rattle.std.specs.Prelude.{ℕ, ◌+◌, ◌*◌, ◌==◌, if◌then◌else◌, ℤ, List, [], ◌∷◌, max, unsigned_abs}
 use Rattle.asl_poly.specs.Terms.{Summand, Polynomial, value}
 use Rattle.asl_poly.specs.Limits.{IsMap, weight, degree, note_terms}
@@ -8,9 +9,15 @@ abbrev pub map_at : List (ℕ × Polynomial) → ℕ → List Summand
 map_at [] x = atom_terms x
 map_at (e ∷ by) x = if x == e.0 then e.1.terms else map_at by x
 
-abbrev pub AllMaps : List (ℕ × Polynomial) → Type 0
-AllMaps [] = Unit {0}
-AllMaps (e ∷ by) = IsMap e.1.terms × AllMaps by
+-- what stands for each of the atoms is within the limits
+abbrev pub AreMaps : List (ℕ × Polynomial) → List ℕ → Type 0
+AreMaps by [] = Unit {0}
+AreMaps by (x ∷ xs) = IsMap (map_at by x) × AreMaps by xs
+
+-- what stands for each atom of the terms is within the limits
+abbrev pub AllMaps : List (ℕ × Polynomial) → List Summand → Type 0
+AllMaps by [] = Unit {0}
+AllMaps by (t ∷ ts) = AreMaps by t.factors × AllMaps by ts
 
 -- ---- the limits: each atom of a term counts as what stands for it
 

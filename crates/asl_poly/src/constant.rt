@@ -1,4 +1,4 @@
-// Constants: terms without atoms, and terms that differ by a constant.
+//! Constants: terms without atoms, and lists of terms that differ by a constant.
 
 ghost use Rattle.std.specs.Prelude.{◌≡◌, ◌≢◌, ◌≤◌, ◌^◌, ◌-ℤ◌, MatchOption, length, take};
 ghost use Rattle.asl_poly.specs.Limits.{weight};
@@ -7,7 +7,7 @@ ghost use Rattle.asl_poly.specs.Operations.{constant_of, varying_part, constant_
 use crate::term::Term;
 use crate::terms::equal_terms;
 
-// The number that the terms are, where none has an atom.
+// The value of the terms, where none has an atom.
 pub(crate) fn constant_of(ts: &[Term]) -> Option<i128>
     ensures { result ≡ constant_of ts.now }
 {
@@ -21,7 +21,7 @@ pub(crate) fn constant_of(ts: &[Term]) -> Option<i128>
     }
 }
 
-// How many terms stand before the one without atoms, and its coefficient.
+// How many terms stand before the one without atoms, and the coefficient of that one, 0 where there is none.
 fn parted(ts: &[Term]) -> (usize, i128)
     ensures within { result.0 ≤ length ts.now }
     ensures varying_part { varying_part ts.now ≡ take result.0 ts.now }
@@ -35,7 +35,7 @@ fn parted(ts: &[Term]) -> (usize, i128)
     (ts.len(), 0)
 }
 
-// The constant by which `p` is more than `q`, where they differ by one.
+// The constant `c` with `p = q + c`, where there is one.
 pub(crate) fn offset_of(p: &[Term], q: &[Term]) -> Option<i128>
     requires left { weight p.now ≤ 2 ^ 62 }
     requires right { weight q.now ≤ 2 ^ 62 }

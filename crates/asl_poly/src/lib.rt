@@ -1,8 +1,9 @@
-//! Polynomials in integers without a name yet, as widths are: `2*N + 1` for every integer `N`.
+//! Polynomials over unknown integers, for widths such as `2*N + 1`.
 //!
-//! A [`Poly`] is kept in normal form, so that two widths are compared by their values at all integers and not by their
-//! text: `N + N` and `2*N` are the same. Each `Poly` is within three limits: its weight, the sum of its coefficients'
-//! absolute values, is at most 2^62; each of its terms is a product of at most 4 atoms; it has at most 8 atoms.
+//! A [`Poly`] is kept in normal form, so two widths are compared by their values for all integers and not by how they are
+//! written: `N + N` and `2*N` are the same. Each `Poly` is within three limits: its weight, the sum of the absolute values
+//! of its coefficients, is at most 2^62; its degree, the number of factors of a term, is at most 4; and it has at most 8
+//! atoms.
 #![tactic(auto)]
 
 mod constant;
@@ -11,8 +12,6 @@ mod monomial;
 mod poly;
 mod term;
 mod terms;
-#[cfg(test)]
-mod tests;
 
 ghost use Rattle.std.specs.Prelude.{◌≢◌, ℕ, ℤ};
 ghost use Rattle.asl_poly.specs.Terms.{Polynomial};
@@ -23,7 +22,7 @@ use std::alloc::AllocError;
 use std::marker::Model;
 use thiserror::Error;
 
-/// An unknown integer, by its number.
+/// An unknown integer, named by a number.
 #[derive(Clone, Copy, Debug, PartialEq, Eq)]
 pub struct Atom(pub u32);
 
@@ -40,8 +39,8 @@ impl Model for Atom {
 /// Why there is no polynomial.
 #[derive(Clone, Copy, Debug, PartialEq, Eq, Error)]
 pub enum PolyRefused {
-    /// The weight would pass 2^62, the degree 4, or the number of atoms 8, counted over the parts of the operation before
-    /// any of their terms cancel.
+    /// The weight would be above 2^62, the degree above 4, or the number of atoms above 8. All three are counted over the
+    /// operands, before any terms cancel.
     #[error("the polynomial is past the limits")]
     TooLarge,
     /// There is no memory left.
@@ -60,7 +59,7 @@ impl From<AllocError> for PolyRefused {
     }
 }
 
-/// Different polynomials within the limits differ in value, at some integers of their atoms.
+/// Two different polynomials within the limits have different values for some integers at their atoms.
 pub fn law4()
     ensures { (p q : Polynomial) → IsPolynomial p → IsPolynomial q → p ≢ q → (a : ℕ → ℤ) × (SameAt a p q → ⊥) }
 {}

@@ -1,4 +1,4 @@
-// Weight, degree and atoms of terms, and the limits of sums and products.
+//! The weight, the degree and the atoms of terms, and the limits of sums and products.
 
 ghost use Rattle.std.specs.Prelude.{◌≡◌, ◌≤◌, ◌^◌, ◌↔◌, IsTrue, IfOk, length};
 ghost use Rattle.asl_poly.specs.Terms.{of_terms};
@@ -9,11 +9,13 @@ use crate::Atom;
 use crate::term::Term;
 use std::alloc::{AllocError, Global};
 
-// The greatest weight of a polynomial, the greatest degree of a term, and the most atoms of a polynomial.
+// The greatest weight of a polynomial.
 pub(crate) const HEAVIEST: u128 = 1 << 62;
 
+// The greatest degree of a term.
 pub(crate) const HIGHEST: usize = 4;
 
+// The most atoms of a polynomial.
 pub(crate) const MOST_ATOMS: usize = 8;
 
 // The sum of the absolute coefficients.
@@ -28,7 +30,7 @@ pub(crate) fn weight(ts: &[Term]) -> u128
     sum
 }
 
-// The most atoms that one term is multiplied with.
+// The greatest degree of the terms: how many atoms, counted as factors, the longest monomial has.
 pub(crate) fn degree(ts: &[Term]) -> usize
     ensures { result ≡ degree ts.now }
 {
@@ -39,6 +41,7 @@ pub(crate) fn degree(ts: &[Term]) -> usize
     most
 }
 
+// Whether the atom is in the list.
 fn has(x: Atom, ys: &[Atom]) -> bool
     ensures { result ≡ has_atom x ys.now }
 {
@@ -50,6 +53,7 @@ fn has(x: Atom, ys: &[Atom]) -> bool
     false
 }
 
+// Appends those of the atoms that are not yet there.
 fn note_factors(seen: &mut Vec<Atom>, xs: &[Atom]) -> Result<(), AllocError>
     ensures { IfOk result (λ _. seen.new.items ≡ note_factors seen.old.items xs.now) }
 {
@@ -61,7 +65,7 @@ fn note_factors(seen: &mut Vec<Atom>, xs: &[Atom]) -> Result<(), AllocError>
     Ok(())
 }
 
-// Puts the atoms of the terms behind those seen so far, each once.
+// Appends those of the terms' atoms that are not yet there.
 pub(crate) fn note_terms(seen: &mut Vec<Atom>, ts: &[Term]) -> Result<(), AllocError>
     ensures { IfOk result (λ _. seen.new.items ≡ note_terms seen.old.items ts.now) }
 {
@@ -71,7 +75,7 @@ pub(crate) fn note_terms(seen: &mut Vec<Atom>, ts: &[Term]) -> Result<(), AllocE
     Ok(())
 }
 
-// Whether the two have few enough atoms.
+// Whether the two together have few enough atoms.
 fn few(alloc: Global, p: &[Term], q: &[Term]) -> Result<bool, AllocError>
     ensures { IfOk result (λ b. IsTrue b ↔ (length (atoms_of_both p.now q.now) ≤ 8)) }
 {
@@ -81,6 +85,7 @@ fn few(alloc: Global, p: &[Term], q: &[Term]) -> Result<bool, AllocError>
     Ok(seen.len() <= MOST_ATOMS)
 }
 
+// Whether the sum of the two, or their difference, is within the limits.
 pub(crate) fn sum_fits(alloc: Global, p: &[Term], q: &[Term]) -> Result<bool, AllocError>
     requires left { weight p.now ≤ 2 ^ 62 }
     requires right { weight q.now ≤ 2 ^ 62 }
@@ -91,6 +96,7 @@ pub(crate) fn sum_fits(alloc: Global, p: &[Term], q: &[Term]) -> Result<bool, Al
     Ok(light && few)
 }
 
+// Whether the product of the two is within the limits.
 pub(crate) fn product_fits(alloc: Global, p: &[Term], q: &[Term]) -> Result<bool, AllocError>
     requires left { weight p.now ≤ 2 ^ 62 }
     requires right { weight q.now ≤ 2 ^ 62 }

@@ -1,4 +1,4 @@
-// The polynomials that the other crates see.
+//! The polynomials that the other crates see.
 
 mod substitute;
 
@@ -12,12 +12,12 @@ use crate::terms::{add_scaled, copied, equal_terms, multiplied, single};
 use crate::{Atom, PolyRefused};
 use std::alloc::{AllocError, Global};
 use std::marker::Model;
-use substitute::{all_maps, replaced, substitute_fits};
+use substitute::{replaced, substitute_fits};
 
 /// A polynomial with whole coefficients, within the limits, in normal form: a sum of terms with different monomials, the
 /// greatest monomial first and the constant term last, none with the coefficient 0.
 ///
-/// Monomials are compared by their greatest atom, then by the next one; the rest of a longer one makes it the greater.
+/// Monomials are compared by their greatest atom, then by the next one; a prefix of a monomial is smaller than it.
 #[derive(Drop)]
 pub struct Poly {
     terms: Vec<Term>,
@@ -35,7 +35,7 @@ impl Model for Poly {
 }
 
 impl Poly {
-    /// The integer `value`. `TooLarge` exactly where its absolute value passes 2^62.
+    /// The integer `value`. `TooLarge` exactly where its absolute value is above 2^62.
     #[tactic(auto, using(crate::proofs::Maps::value_constant), unfolding(crate::specs::Poly::constant_map))]
     pub fn constant(alloc: Global, value: i128) -> Result<Poly, PolyRefused>
         ensures gives { Gives (ConstantFits value) (constant_map value) result }
@@ -70,7 +70,7 @@ impl Poly {
         Ok(Poly { terms })
     }
 
-    /// The sum. `TooLarge` exactly where the weights of both together pass 2^62, or both together have over 8 atoms.
+    /// The sum. `TooLarge` exactly where the sum of the weights is above 2^62, or both together have more than 8 atoms.
     pub fn add(&self, alloc: Global, other: &Poly) -> Result<Poly, PolyRefused>
         ensures gives { Gives (SumFits self.now other.now) (sum_map self.now other.now) result }
         ensures value { IfOk result (λ r. IsSum self.now other.now r) }
@@ -84,7 +84,7 @@ impl Poly {
         Ok(Poly { terms })
     }
 
-    /// The difference, `TooLarge` as for the sum.
+    /// The difference. `TooLarge` as for the sum.
     pub fn sub(&self, alloc: Global, other: &Poly) -> Result<Poly, PolyRefused>
         ensures gives { Gives (SumFits self.now other.now) (difference_map self.now other.now) result }
         ensures value { IfOk result (λ r. IsDifference self.now other.now r) }
@@ -98,8 +98,8 @@ impl Poly {
         Ok(Poly { terms })
     }
 
-    /// The product. `TooLarge` exactly where the product of the weights passes 2^62, the sum of the degrees 4, or both
-    /// together have over 8 atoms.
+    /// The product. `TooLarge` exactly where the product of the weights is above 2^62, the sum of the degrees above 4, or
+    /// both together have more than 8 atoms.
     pub fn mul(&self, alloc: Global, other: &Poly) -> Result<Poly, PolyRefused>
         ensures gives { Gives (ProductFits self.now other.now) (product_map self.now other.now) result }
         ensures value { IfOk result (λ r. IsProduct self.now other.now r) }
@@ -111,17 +111,16 @@ impl Poly {
         Ok(Poly { terms })
     }
 
-    /// The polynomials of `by` in the place of their atoms, all at once; where an atom stands twice in `by`, the first
-    /// one counts, and an atom that isn't in `by` stands for itself.
+    /// Replaces each atom by the polynomial that `by` has for it, all at once. Where `by` has an atom twice, the first entry
+    /// counts; an atom that `by` does not have stays.
     ///
-    /// `TooLarge` exactly where one of these passes its limit: the sum, over the terms, of the absolute coefficient times
-    /// the weights of what stands for its atoms; the sum of the degrees of what stands for the atoms of one term; the
-    /// atoms of all that stands for atoms of the terms.
+    /// `TooLarge` exactly where one of these is above its limit: the weight, that is, the sum over the terms of the absolute
+    /// coefficient times the weights of the replacements of its atoms; the degree, that is, the greatest sum over one term
+    /// of the degrees of these replacements; and the number of atoms that the replacements have.
     pub fn substitute(&self, alloc: Global, by: &[(Atom, Poly)]) -> Result<Poly, PolyRefused>
         ensures gives { Gives (SubstituteFits by.now self.now) (substitute_map by.now self.now) result }
         ensures value { IfOk result (λ r. IsSubstituted by.now self.now r) }
     {
-        all_maps(by);
         if !substitute_fits(alloc, by, &self.terms)? {
             return Err(PolyRefused::TooLarge);
         }
@@ -144,14 +143,14 @@ impl Poly {
         constant_of(&self.terms)
     }
 
-    /// The one integer by which this is more than `other`, for all integers at the atoms; None where there is none.
+    /// The integer `c` with `self = other + c` for all integers at the atoms, or `None` where there is none.
     pub fn offset(&self, other: &Poly) -> Option<i128>
         ensures { MatchOption result ((c : ℤ) → IsOffset self.now other.now c → ⊥) (λ c. IsOffset self.now other.now c) }
     {
         offset_of(&self.terms, &other.terms)
     }
 
-    /// How many terms there are, at most 495: so many products of at most 4 of 8 atoms there are.
+    /// How many terms there are: at most 495, which is how many products of at most 4 of 8 atoms there are.
     pub fn terms(&self) -> u32
         ensures count { result ≡ length self.now.terms }
         ensures few { result ≤ 495 }
@@ -160,8 +159,8 @@ impl Poly {
         self.terms.len() as u32
     }
 
-    /// The coefficient of the term at `place` and its atoms, each as often as it is a factor, the greatest first. Terms
-    /// are counted from 0; None comes exactly past the last one.
+    /// The coefficient of the term at `place`, counted from 0, and its atoms, each as often as it is a factor, the greatest
+    /// first. `None` exactly past the last term.
     pub fn term(&self, place: u32) -> Option<(i128, &[Atom])>
         ensures { MatchOption result (slice_get self.now.terms place ≡ None) (λ r. slice_get self.now.terms place ≡ Some (record { coefficient = r.0; factors = r.1.now })) }
     {

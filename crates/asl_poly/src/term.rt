@@ -1,4 +1,4 @@
-// One term: a coefficient times a monomial.
+//! One term: a coefficient times a monomial.
 
 ghost use Rattle.std.specs.Prelude.{◌≡◌, ◌≤◌, ◌*◌, ◌^◌, [], ◌∷◌, IfOk, unsigned_abs};
 ghost use Rattle.asl_poly.specs.Operations.{with_coefficient, constant_term, atom_terms, times};
@@ -8,6 +8,7 @@ use crate::monomial::{copy_atoms, merged};
 use std::alloc::{AllocError, Global};
 use std::marker::Model;
 
+// A coefficient and a monomial.
 #[derive(Drop)]
 pub(crate) struct Term {
     coefficient: i128,
@@ -42,6 +43,7 @@ impl Term {
     }
 }
 
+// The term without atoms.
 pub(crate) fn constant_term(alloc: Global, c: i128) -> Term
     ensures { result ≡ constant_term c }
 {
@@ -51,6 +53,7 @@ pub(crate) fn constant_term(alloc: Global, c: i128) -> Term
     }
 }
 
+// The term that is one atom.
 pub(crate) fn atom_term(alloc: Global, x: Atom) -> Result<Term, AllocError>
     ensures { IfOk result (λ t. t ∷ [] ≡ atom_terms x) }
 {
@@ -62,6 +65,7 @@ pub(crate) fn atom_term(alloc: Global, x: Atom) -> Result<Term, AllocError>
     })
 }
 
+// The product of two terms.
 pub(crate) fn product(alloc: Global, s: &Term, t: &Term) -> Result<Term, AllocError>
     requires left { unsigned_abs s.now.coefficient ≤ 2 ^ 100 }
     requires right { unsigned_abs t.now.coefficient ≤ 2 ^ 100 }
@@ -76,6 +80,7 @@ pub(crate) fn product(alloc: Global, s: &Term, t: &Term) -> Result<Term, AllocEr
     })
 }
 
+// A copy of a term.
 pub(crate) fn copy_term(alloc: Global, t: &Term) -> Result<Term, AllocError>
     ensures { IfOk result (λ r. r ≡ t.now) }
 {

@@ -1,4 +1,4 @@
-// Lists of terms, the greatest monomial first.
+//! Lists of terms, the greatest monomial first.
 
 ghost use Rattle.std.specs.Prelude.{◌≡◌, ◌≤◌, ◌<◌, ◌+◌, ◌*◌, ◌^◌, ◌↔◌, IsTrue, slice_index_or, vec_len, take, drop, suc, [], ◌∷◌, ◌++◌, IfOk, unsigned_abs, length};
 ghost use Rattle.asl_poly.specs.Terms.{Summand};
@@ -11,7 +11,7 @@ use crate::term::{Term, copy_term, product};
 use std::alloc::{AllocError, Global};
 use std::cmp::Ordering;
 
-// Where the term with this monomial stands, or would stand, and whether it is there.
+// The index of the term with this monomial, or the index at which it would go, and whether it is there.
 fn find(terms: &[Term], atoms: &[Atom]) -> (usize, bool)
     ensures { Found atoms.now terms.now result.0 result.1 }
 {
@@ -25,6 +25,7 @@ fn find(terms: &[Term], atoms: &[Atom]) -> (usize, bool)
     (terms.len(), false)
 }
 
+// The coefficient of the term at `i`.
 fn coefficient_at(terms: &[Term], i: usize) -> i128
     requires { i < length terms.now }
     ensures { (d : Summand) → result ≡ (slice_index_or terms.now i d).coefficient }
@@ -32,7 +33,7 @@ fn coefficient_at(terms: &[Term], i: usize) -> i128
     terms[i].coefficient()
 }
 
-// The term at `i` gets this coefficient, and goes where it is 0.
+// Gives the term at `i` this coefficient, and removes the term where the coefficient is 0.
 fn set_coefficient(terms: &mut Vec<Term>, i: usize, c: i128)
     requires { i < vec_len terms.old }
     ensures { (d : Summand) → terms.new.items ≡ take i terms.old.items ++ joined c (slice_index_or terms.old.items i d) (drop (suc i) terms.old.items) }
@@ -44,6 +45,7 @@ fn set_coefficient(terms: &mut Vec<Term>, i: usize, c: i128)
     }
 }
 
+// Adds a term.
 fn add_term(terms: &mut Vec<Term>, s: Term) -> Result<(), AllocError>
     requires { unsigned_abs s.coefficient + weight terms.old.items ≤ 2 ^ 100 }
     ensures { IfOk result (λ _. terms.new.items ≡ insert s terms.old.items) }
@@ -77,6 +79,7 @@ pub(crate) fn add_scaled(
     Ok(())
 }
 
+// The product of two lists of terms.
 pub(crate) fn multiplied(alloc: Global, p: &[Term], q: &[Term]) -> Result<Vec<Term>, AllocError>
     requires left { weight p.now ≤ 2 ^ 62 }
     requires right { weight q.now ≤ 2 ^ 62 }
@@ -90,6 +93,7 @@ pub(crate) fn multiplied(alloc: Global, p: &[Term], q: &[Term]) -> Result<Vec<Te
     Ok(terms)
 }
 
+// A copy of the terms.
 pub(crate) fn copied(alloc: Global, ts: &[Term]) -> Result<Vec<Term>, AllocError>
     ensures { IfOk result (λ v. v.items ≡ ts.now) }
 {
@@ -100,6 +104,7 @@ pub(crate) fn copied(alloc: Global, ts: &[Term]) -> Result<Vec<Term>, AllocError
     Ok(terms)
 }
 
+// The list of one term.
 pub(crate) fn single(alloc: Global, t: Term) -> Result<Vec<Term>, AllocError>
     ensures { IfOk result (λ v. v.items ≡ t ∷ []) }
 {
@@ -108,6 +113,7 @@ pub(crate) fn single(alloc: Global, t: Term) -> Result<Vec<Term>, AllocError>
     Ok(terms)
 }
 
+// Whether two lists have the same terms in the same order.
 pub(crate) fn equal_terms(p: &[Term], q: &[Term]) -> bool
     ensures { IsTrue result ↔ (p.now ≡ q.now) }
 {

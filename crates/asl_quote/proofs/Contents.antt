@@ -1,14 +1,15 @@
--- What stands between the quotes: a literal behind its opening quote is its content and the closing quote,
--- and the digits of the content are as many as the literal's digits, all fixed unless it is a mask.
+-- What stands between the quotes: after its opening quote a literal is its content and the closing quote, and the digits
+-- of the content are as many as the literal's, all fixed unless it is a mask.
 use Rattle.std.proofs.Common.{◌≡◌, ℕ, ◌+◌, List, [], ◌∷◌, ◌++◌, length, Bool, true, false, cond, Option, Some, None, refl, sym, ◌∙◌, ap, subst, arith, rules}
-use Rattle.std.specs.Prelude.{◌==◌, ◌||◌, ◌&&◌, not, is_some, option_and_then}
+use Rattle.std.specs.Prelude.{◌==◌, ◌||◌, not, is_some, option_and_then}
 use Rattle.std.specs.Int.{from_bool}
+use Rattle.std.proofs.lemmas.Bool.{and_parts, not-true}
 use Rattle.std.proofs.lemmas.List.Sums.{sum_by-cons}
 use Rattle.std.specs.Option.{option_map_or}
-use Rattle.std.specs.List.{cons_option, list_any, list_all}
+use Rattle.std.specs.List.{cons_option, list_all}
 use Rattle.asl_quote.specs.declared.QuoteState.{QuoteState}
 use Rattle.asl_quote.specs.declared.QuoteState.TheVariants as at
-use Rattle.asl_quote.specs.Bytes.{is_bit, is_digit, is_mask_byte, is_mask, digit_count, is_no_quote}
+use Rattle.asl_quote.specs.Bytes.{is_bit, is_digit, is_mask, digit_count, is_no_quote}
 use Rattle.asl_quote.specs.Quotes.{closes, content_step, quote_step, quote_digit, quote_run, content_run, content_digits, content_len, quote_len, is_fixed, ClosedAt}
 
 -- ---- the closing quote
@@ -200,20 +201,6 @@ pub fixed_unless_mask : (bs : List ℕ) → content_run at.Bits bs ≡ Some at.B
 fixed_unless_mask [] = λ h. refl
 fixed_unless_mask (b ∷ bs) = bits_byte b bs (b == 48) (b == 49) (b == 32) (b == 120) (b == 40) refl refl refl refl refl (fixed_unless_mask bs) (free_in_group bs)
 
-any_quoted : (bs : List ℕ) → list_any is_mask_byte (bs ++ 39 ∷ []) ≡ list_any is_mask_byte bs
-any_quoted [] = refl
-any_quoted (b ∷ bs) = ap (λ (x : Bool). is_mask_byte b || x) (any_quoted bs)
-
-pub is_mask-quoted : (bs : List ℕ) → is_mask (39 ∷ bs ++ 39 ∷ []) ≡ is_mask bs
-is_mask-quoted bs = any_quoted bs
-
-count_quoted : (bs : List ℕ) → digit_count (bs ++ 39 ∷ []) ≡ digit_count bs
-count_quoted [] = refl
-count_quoted (b ∷ bs) = digit_count-cons b (bs ++ 39 ∷ []) ∙ ap (λ (n : ℕ). from_bool (is_digit b) + n) (count_quoted bs) ∙ sym (digit_count-cons b bs)
-
-pub digit_count-quoted : (bs : List ℕ) → digit_count (39 ∷ bs ++ 39 ∷ []) ≡ digit_count bs
-digit_count-quoted bs = digit_count-cons 39 (bs ++ 39 ∷ []) ∙ omega (arith, count_quoted bs)
-
 -- ---- where a malformed literal stops
 
 stop_more : (s : QuoteState) (b : ℕ) (bs rest : List ℕ) →
@@ -224,20 +211,12 @@ stop_more s b bs rest more d None i bad = refl
 stop_more s b bs rest more d (Some t) i bad = ap (λ (n : ℕ). 1 + n) (more t (digital_step s t b d i) bad)
 
 no_closing : (s : QuoteState) (b : ℕ) → is_digital s ≡ true → is_no_quote b ≡ true → closes s b ≡ false
-no_closing at.Bits b d h = flip (b == 39) h
-  where
-    flip : (x : Bool) → not x ≡ true → x ≡ false
-    flip true e = absurd cc
-    flip false e = refl
+no_closing at.Bits b d h = not-true (b == 39) h
 no_closing at.EmptyGroup b d h = refl
 no_closing at.Group b d h = refl
 no_closing at.Text b d h = absurd cc
 no_closing at.Escape b d h = absurd cc
 no_closing at.Closed b d h = absurd cc
-
-and_parts : (x y : Bool) → (x && y) ≡ true → (x ≡ true) × (y ≡ true)
-and_parts true y h = (refl, h)
-and_parts false y h = absurd cc
 
 -- a malformed literal of bits or a mask goes on, behind its opening quote, as far as its content does
 pub quote_len-malformed : (s : QuoteState) (bs rest : List ℕ) → is_digital s ≡ true → list_all is_no_quote bs ≡ true →

@@ -1,4 +1,4 @@
--- Where a literal stops.
+-- Where a literal stops: the state that `quote_reach` ends in, and why no whole literal is the front of another.
 use Rattle.std.proofs.Common.{◌≡◌, ℕ, ◌+◌, ◌≤◌, zero, suc, List, [], ◌∷◌, length, Option, Some, None, take, refl, one-add, arith}
 use Rattle.std.specs.Prelude.{option_and_then}
 use Rattle.std.specs.Option.{option_map_or}
@@ -12,7 +12,7 @@ end_step : (b : ℕ) (bs : List ℕ) (s : QuoteState) (o : Option QuoteState) �
 end_step b bs s None e more = refl
 end_step b bs s (Some next) e more = rw one-add (rw e (more next))
 
--- the state in which the literal goes on no more is the one that all its bytes lead to
+-- `quote_end` is the state that the bytes counted by `quote_len` lead to
 pub quote_run-end : (s : QuoteState) (bs : List ℕ) → quote_run s (take (quote_len s bs) bs) ≡ Some (quote_end s bs)
 quote_run-end s [] = refl
 quote_run-end s (b ∷ bs) = end_step b bs s (quote_step s b) refl (λ next. quote_run-end next bs)
@@ -32,7 +32,7 @@ stops_step : (bs : List ℕ) (m : ℕ) (o : Option QuoteState) →
 stops_step bs m None more h = absurd cc
 stops_step bs m (Some next) more h = let e = more next h in omega arith
 
--- a whole literal is as long as it can go on: none is a front of another
+-- a whole literal has all the bytes that belong to it, so none is the front of another
 pub quote_stops : (state : QuoteState) (bs : List ℕ) (m : ℕ) → m ≤ length bs → quote_run state (take m bs) ≡ Some at.Closed → m ≡ quote_len state bs
 quote_stops state [] zero fits h = refl
 quote_stops state [] (suc m) fits h = absurd (omega arith)

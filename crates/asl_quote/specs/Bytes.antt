@@ -1,4 +1,4 @@
--- The bytes of literals of bits and masks.
+-- The bytes of bitvector literals and masks.
 use Rattle.std.specs.Prelude.{ℕ, ◌==◌, Bool, ◌||◌, not, List, count_by}
 use Rattle.std.specs.List.{list_any}
 
@@ -14,10 +14,11 @@ is_digit b = is_bit b || (b == 120)
 abbrev pub is_mask_byte : ℕ → Bool
 is_mask_byte b = (b == 120) || (b == 40)
 
+-- the literal is a mask: an `x` or a group stands in it
 abbrev pub is_mask : List ℕ → Bool
 is_mask text = list_any is_mask_byte text
 
--- how many digits a literal of bits or a mask has
+-- how many digits a bitvector literal or a mask has
 abbrev pub digit_count : List ℕ → ℕ
 digit_count text = count_by is_digit text
 

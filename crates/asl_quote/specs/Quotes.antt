@@ -1,4 +1,5 @@
--- Literals in quotes, byte by byte.
+-- Literals in quotes, byte by byte. The bytes are 32 space, 34 `"`, 39 `'`, 40 `(`, 41 `)`, 48 `0`, 49 `1`, 92 `\`, 110 `n`,
+-- 116 `t` and 120 `x`.
 use Rattle.std.specs.Prelude.{◌≡◌, ℕ, ◌+◌, ◌==◌, Bool, true, false, ◌&&◌, ◌||◌, not, List, [], ◌∷◌, Option, Some, None, if◌then◌else◌, nat_le, is_some, option_and_then}
 use Rattle.std.specs.Option.{option_map_or}
 use Rattle.std.specs.List.{cons_option}
@@ -6,7 +7,7 @@ use Rattle.asl_quote.specs.Bytes.{is_bit}
 use Rattle.asl_quote.specs.declared.QuoteState.{QuoteState}
 use Rattle.asl_quote.specs.declared.QuoteState.TheVariants as at
 
--- the state behind the byte that opens a literal
+-- the state after the byte that opens a literal
 abbrev pub quote_opened : ℕ → Option QuoteState
 quote_opened b = if b == 39 then Some at.Bits else (if b == 34 then Some at.Text else None)
 
@@ -23,7 +24,7 @@ closes at.Text b = b == 34
 closes at.Escape b = false
 closes at.Closed b = false
 
--- the state behind one more byte between the quotes, where the literal can go on with it
+-- the state after one more byte between the quotes, where the literal can have it there
 abbrev pub content_step : QuoteState → ℕ → Option QuoteState
 content_step at.Bits b =
     if is_bit b || (b == 120) || (b == 32) then Some at.Bits else (if b == 40 then Some at.EmptyGroup else None)
@@ -38,7 +39,7 @@ content_step at.Escape b =
     if (b == 110) || (b == 116) || (b == 92) || (b == 34) then Some at.Text else None
 content_step at.Closed b = None
 
--- the state behind one more byte, the closing quote included
+-- the state after one more byte, which may be the closing quote
 abbrev pub quote_step : QuoteState → ℕ → Option QuoteState
 quote_step state b = if closes state b then Some at.Closed else content_step state b
 
@@ -53,27 +54,27 @@ quote_digit at.Text b = None
 quote_digit at.Escape b = None
 quote_digit at.Closed b = None
 
--- the state behind bytes with all of which the literal goes on
+-- the state after bytes that all belong to the literal
 abbrev pub quote_run : QuoteState → List ℕ → Option QuoteState
 quote_run state [] = Some state
 quote_run state (b ∷ bs) = option_and_then (λ next. quote_run next bs) (quote_step state b)
 
--- with how many bytes the literal goes on
+-- how many of the bytes belong to the literal
 abbrev pub quote_len : QuoteState → List ℕ → ℕ
 quote_len state [] = 0
 quote_len state (b ∷ bs) = option_map_or (λ next. 1 + quote_len next bs) (quote_step state b) 0
 
--- the state in which the literal goes on no more
+-- the state after the last of them
 abbrev pub quote_end : QuoteState → List ℕ → QuoteState
 quote_end state [] = state
 quote_end state (b ∷ bs) = option_map_or (λ next. quote_end next bs) (quote_step state b) state
 
--- the state behind bytes between the quotes, with all of which the literal goes on
+-- the state after bytes between the quotes that all belong to the literal
 abbrev pub content_run : QuoteState → List ℕ → Option QuoteState
 content_run state [] = Some state
 content_run state (b ∷ bs) = option_and_then (λ next. content_run next bs) (content_step state b)
 
--- with how many bytes between the quotes the literal goes on
+-- how many of the bytes between the quotes belong to the literal
 abbrev pub content_len : QuoteState → List ℕ → ℕ
 content_len state [] = 0
 content_len state (b ∷ bs) = option_map_or (λ next. 1 + content_len next bs) (content_step state b) 0

@@ -1,10 +1,10 @@
-//! The texts that stand between quotes: bits, masks and strings, as one state machine over bytes.
+//! Literals between quotes: bitvectors, masks and strings, read byte by byte by one state machine.
 //!
-//! - BITS: `'`, then `0`, `1` and spaces, then `'`.
-//! - MASK: as BITS, also with `x`, and with groups in parentheses of `0`, `1` and spaces with at least one digit.
-//! - STRING: `"`, then printable ASCII bytes but `"` and `\`, or `\n`, `\t`, `\\`, `\"`, then `"`.
+//! - A bitvector: `'`, then `0`, `1` and spaces, then `'`.
+//! - A mask: as a bitvector, but also with `x`, and with groups in parentheses: `0`, `1` and spaces, at least one digit.
+//! - A string: `"`, then printable ASCII bytes other than `"` and `\`, or `\n`, `\t`, `\\`, `\"`, then `"`.
 //!
-//! The lexer steps through a literal and its closing quote, the reader of masks through what stands between the quotes.
+//! The lexer steps through a literal up to its closing quote, the reader of masks through what stands between the quotes.
 #![tactic(auto)]
 
 ghost use Rattle.std.specs.Prelude.{◌≡◌, ℕ, ◌≤◌, List, [], ◌∷◌, ◌++◌, length, true, not, Some};
@@ -17,7 +17,7 @@ ghost use Rattle.asl_quote.specs.declared.QuoteState.TheVariants as at;
 /// How far a literal has come behind its opening quote.
 #[derive(Clone, Copy, Debug, PartialEq, Eq)]
 pub enum QuoteState {
-    /// In bits or a mask, outside of groups.
+    /// In a bitvector or a mask, outside of groups.
     Bits,
     /// In a group of a mask that has no digit so far.
     EmptyGroup,
@@ -32,7 +32,7 @@ pub enum QuoteState {
 }
 
 impl QuoteState {
-    /// The state behind a byte that opens a literal: `'` opens bits and masks, `"` a string.
+    /// The state after a byte that opens a literal: `'` opens bitvectors and masks, `"` a string. `None` for other bytes.
     pub fn opened_by(byte: u8) -> Option<QuoteState>
         ensures { result ≡ quote_opened byte }
     {
@@ -54,7 +54,7 @@ impl QuoteState {
         }
     }
 
-    /// The state behind one more byte between the quotes; None where the literal can't go on with it.
+    /// The state after one more byte between the quotes, or `None` where the literal cannot have that byte there.
     pub fn content_step(self, byte: u8) -> Option<QuoteState>
         ensures { result ≡ content_step self byte }
     {
@@ -72,7 +72,7 @@ impl QuoteState {
         }
     }
 
-    /// The state behind one more byte, the closing quote included; None where the literal can't go on with it.
+    /// The state after one more byte, which may be the closing quote, or `None` where the literal cannot have it there.
     pub fn step(self, byte: u8) -> Option<QuoteState>
         ensures { result ≡ quote_step self byte }
     {
@@ -83,8 +83,8 @@ impl QuoteState {
         }
     }
 
-    /// The digit of bits or a mask that a byte writes, None where it writes none.
-    /// A digit is a bit where it is fixed, and None for `x` and for each digit of a group.
+    /// The digit of a bitvector or a mask that a byte writes, or `None` where it writes none. The digit itself is a bit
+    /// where it is fixed, and `None` for an `x` and for each digit of a group.
     pub fn digit(self, byte: u8) -> Option<Option<bool>>
         ensures { result ≡ quote_digit self byte }
     {
@@ -98,7 +98,7 @@ impl QuoteState {
     }
 }
 
-/// The state behind the quote that a text begins with.
+/// The state after the quote that a text begins with, or `None` where it begins with no quote.
 pub fn opens_quote(bytes: &[u8]) -> Option<QuoteState>
     ensures { result ≡ opens_quote bytes.now }
 {
@@ -108,7 +108,7 @@ pub fn opens_quote(bytes: &[u8]) -> Option<QuoteState>
     }
 }
 
-/// With how many bytes a literal goes on from a state, and the state behind these.
+/// How many of the bytes belong to a literal that has come to the state `start`, and the state after them.
 pub fn quote_reach(start: QuoteState, bytes: &[u8]) -> (usize, QuoteState)
     ensures len { result.0 ≡ quote_len start bytes.now }
     ensures fits { result.0 ≤ length bytes.now }
@@ -128,7 +128,7 @@ pub fn quote_reach(start: QuoteState, bytes: &[u8]) -> (usize, QuoteState)
     (bytes.len() - rest.len(), state)
 }
 
-/// Whether a literal in `'` is a mask: an `x` or a group stands in it.
+/// Whether a literal in `'` is a mask, that is, has an `x` or a group.
 pub fn is_mask(text: &[u8]) -> bool
     ensures { result ≡ is_mask text.now }
 {
@@ -156,9 +156,9 @@ fn is_digit(byte: u8) -> bool
 
 // ---- laws
 
-/// A whole literal, behind its opening quote, is its content and the closing quote. The content of bits or a mask
-/// writes as many digits as the literal has, all fixed exactly where it is no mask, and a malformed one goes on
-/// as far as its content does.
+/// After its opening quote a whole literal is its content and the closing quote (`whole`, `content`). The content of a
+/// bitvector or a mask writes as many digits as the literal has (`width`), and all of them are fixed exactly where it
+/// is no mask (`fixed`). A malformed one is read as far as its content can be (`malformed`).
 #[tactic(auto, using(crate::proofs::Contents::literal_facts))]
 pub fn literal_law()
     ensures whole { (s e : QuoteState) (bs : List ℕ) (q : ℕ) → content_run s bs ≡ Some e → closes e q ≡ true → quote_run s (bs ++ q ∷ []) ≡ Some at.Closed }
@@ -167,50 +167,3 @@ pub fn literal_law()
     ensures fixed { (bs : List ℕ) → content_run at.Bits bs ≡ Some at.Bits → list_all is_fixed (content_digits at.Bits bs) ≡ not (is_mask bs) }
     ensures malformed { (bs rest : List ℕ) → list_all is_no_quote bs ≡ true → (content_run at.Bits bs ≡ Some at.Bits → ⊥) → quote_len at.Bits (bs ++ 39 ∷ rest) ≡ content_len at.Bits bs }
 {}
-
-#[cfg(test)]
-mod tests {
-    use super::*;
-
-    #[test]
-    fn reaches_the_closing_quote(rt: HostRuntime) {
-        for (text, reach, closed) in [
-            (&b"'10 1' rest"[..], 5, true),
-            (b"''", 1, true),
-            (b"'1(0 1)x'", 8, true),
-            (b"'()'", 1, false),
-            (b"'(01'", 3, false),
-            (b"'(x)'", 1, false),
-            (b"'12'", 1, false),
-            (b"'1", 1, false),
-            (b"\"a \\n\\\"b\"", 8, true),
-            (b"\"\\q\"", 1, false),
-            (b"\"a\n\"", 1, false),
-        ] {
-            let Some(state) = opens_quote(text) else {
-                continue;
-            };
-            let (len, end) = quote_reach(state, &text[1..]);
-            assert_eq!(rt; len, reach);
-            assert_eq!(rt; end == QuoteState::Closed, closed);
-        }
-        assert_eq!(rt; opens_quote(b"a"), None);
-    }
-
-    #[test]
-    fn counts_digits(rt: HostRuntime) {
-        literal_law();
-        for (text, digits, mask) in [
-            (&b"'10 1'"[..], 3, false),
-            (b"''", 0, false),
-            (b"'1x'", 2, true),
-            (b"'1(01) 1'", 4, true),
-        ] {
-            assert_eq!(rt; digit_count(text), digits);
-            assert_eq!(rt; is_mask(text), mask);
-        }
-        assert_eq!(rt; QuoteState::Bits.digit(b'1'), Some(Some(true)));
-        assert_eq!(rt; QuoteState::Group.digit(b'1'), Some(None));
-        assert_eq!(rt; QuoteState::Group.digit(b' '), None);
-    }
-}

@@ -30,7 +30,7 @@ use Rattle.asl_rules.proofs.Inversions.{ok_ok, err_ok, bind_ok, then_ok, need_ok
 use Rattle.asl_rules.proofs.Tests.{no, both}
 use Rattle.asl_rules.proofs.OfType.{of_tuples}
 use Rattle.asl_rules.proofs.Keeping.{satisfying_keeps}
-use Rattle.asl_rules.proofs.Lookups.{Knows, storage_standing, held_value}
+use Rattle.asl_rules.proofs.Lookups.{storage_standing, held_value}
 use Rattle.asl_rules.proofs.Stores.{StoresTo, store_agrees}
 use Rattle.asl_rules.proofs.Naming.{GoodNames, WellNamed, well_declared, scope_good}
 use Rattle.asl_rules.proofs.OperatorForms.{Gives, gives_bind}

@@ -7,7 +7,7 @@ pub mod Shift
 pub mod Safe
 pub mod Inversions
 pub mod OneOutcome
-pub mod OneReading
+pub mod OneVerdict
 pub mod Having
 pub mod Tests
 pub mod SameKind

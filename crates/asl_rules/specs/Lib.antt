@@ -29,4 +29,3 @@ pub mod Visits
 pub mod Soundness
 pub mod OneRun
 pub mod Report
-pub mod Reading

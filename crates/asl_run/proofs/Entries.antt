@@ -8,7 +8,7 @@ use Rattle.asl_syn.specs.declared.tree.Func.{Func}
 use Rattle.asl_rules.specs.declared.entry.Entry.{Entry}
 use Rattle.asl_rules.specs.declared.entry.Entry.TheVariants as entry
 use Rattle.asl_rules.specs.Faults.{◌>>=◌, ◌>>◌}
-use Rattle.asl_rules.specs.Served.{is_empty}
+use Rattle.asl_rules.specs.Served.{is_empty, served_rule}
 use Rattle.asl_rules.specs.Names.{names_rule, all_declared}
 use Rattle.asl_rules.specs.Uses.{cycles_rule}
 use Rattle.asl_rules.specs.Scopes.{Entry as Visible}
@@ -62,7 +62,8 @@ record EntryIn (e : Entry) (ds : List Decl) (n : ℕ) : Type 0 where
 verdict_is : (e : Entry) (ds : List Decl) (n : ℕ) → verdict e ds ≡ Ok (Some n) → EntryIn e ds n
 unfolding verdict
 verdict_is e ds n h =
-    let a = then_ok (names_rule [] (all_declared ds)) (cycles_rule ds ds >> globals_rule ds >>= λ names. signatures_rule names (funcs_of ds) >> overloads_rule [] (funcs_of ds) >> bodies_rule names (funcs_of ds) >> entry_rule e names ds) (Some n) h in
+    let w = then_ok (served_rule ds) _ (Some n) h in
+    let a = then_ok (names_rule [] (all_declared ds)) (cycles_rule ds ds >> globals_rule ds >>= λ names. signatures_rule names (funcs_of ds) >> overloads_rule [] (funcs_of ds) >> bodies_rule names (funcs_of ds) >> entry_rule e names ds) (Some n) w.then in
     let y = then_ok (cycles_rule ds ds) (globals_rule ds >>= λ names. signatures_rule names (funcs_of ds) >> overloads_rule [] (funcs_of ds) >> bodies_rule names (funcs_of ds) >> entry_rule e names ds) (Some n) a.then in
     let g = bind_ok (globals_rule ds) (λ names. signatures_rule names (funcs_of ds) >> overloads_rule [] (funcs_of ds) >> bodies_rule names (funcs_of ds) >> entry_rule e names ds) (Some n) y.then in
     let s = then_ok (signatures_rule g.value (funcs_of ds)) (overloads_rule [] (funcs_of ds) >> bodies_rule g.value (funcs_of ds) >> entry_rule e g.value ds) (Some n) g.then in
@@ -71,7 +72,7 @@ verdict_is e ds n h =
 
 pub entry_is_callable : (e : Entry) (ds : List Decl) (n : ℕ) → ProgramOk e ds (Some n) → IsCallable ds n []
 entry_is_callable e ds n ok =
-    let v = verdict_is e ds n ok.is in
+    let v = verdict_is e ds n ok in
     let r = main_at v.names 0 (funcs_of ds) n (entry_is e v.names ds n v.is) in
     let at : n ≡ r.place + 0 = r.at in
     let same : r.place ≡ n = omega (arith, at) in

@@ -12,6 +12,7 @@ use crate::exprs::eval;
 use crate::places::{Places, assign, assign_at};
 use crate::stop::{Exit, Stop};
 use asl_io::Sink;
+use asl_shared::Held;
 use asl_tree::typed::{TypedFunc, TypedPlace, TypedStep};
 use asl_value::{Step, Value, part_in};
 use sqlite_items::Items;
@@ -62,6 +63,7 @@ fn store_one<K: Sink>(
     ensures same_full { K.full sink.new ≡ K.full sink.old }
 {
     let part = part_in(target.span, target.way.as_slice(), value)?;
+    let part = Held::new(part);
     let steps = eval_steps(alloc, funcs, places, sink, depth, target.steps.as_slice())?;
     assign_at(
         alloc,
@@ -69,7 +71,7 @@ fn store_one<K: Sink>(
         target.span,
         target.slot,
         steps.as_slice(),
-        part,
+        part.into_inner(),
     )
 }
 
@@ -127,8 +129,9 @@ pub fn store<K: Sink>(
     ensures counts { Counts result (K.faults sink.old) (K.faults sink.new) }
     ensures same_full { K.full sink.new ≡ K.full sink.old }
 {
+    let value = Held::new(value);
     match single(targets) {
-        Some(target) => assign(places, target.span, target.slot, value),
-        None => store_all(alloc, funcs, places, sink, depth, targets, &value),
+        Some(target) => assign(places, target.span, target.slot, value.into_inner()),
+        None => store_all(alloc, funcs, places, sink, depth, targets, value.get()),
     }
 }

@@ -16,6 +16,7 @@ ghost use Rattle.asl_run.specs.Stores.{evaluated};
 use crate::places::{Places, read};
 use crate::stop::Stop;
 use asl_io::Sink;
+use asl_shared::Held;
 use asl_syn::code::DynCode;
 use asl_syn::token::Span;
 use asl_syn::tree::{BinaryOperator, UnaryOperator};
@@ -160,8 +161,8 @@ fn eval_unary<K: Sink>(
     ensures counts { Counts result (K.faults sink.old) (K.faults sink.new) }
     ensures same_full { K.full sink.new ≡ K.full sink.old }
 {
-    let x = eval(alloc, funcs, places, sink, depth, operand)?;
-    Ok(unary(span, operator, &x)?)
+    let x = Held::new(eval(alloc, funcs, places, sink, depth, operand)?);
+    Ok(unary(span, operator, x.get())?)
 }
 
 #[cycle(eval)]
@@ -182,8 +183,18 @@ fn eval_binary<K: Sink>(
     ensures counts { Counts result (K.faults sink.old) (K.faults sink.new) }
     ensures same_full { K.full sink.new ≡ K.full sink.old }
 {
-    let x = eval(alloc, funcs, places, sink, depth, left)?;
-    eval_behind(alloc, funcs, places, sink, depth, span, operator, &x, right)
+    let x = Held::new(eval(alloc, funcs, places, sink, depth, left)?);
+    eval_behind(
+        alloc,
+        funcs,
+        places,
+        sink,
+        depth,
+        span,
+        operator,
+        x.get(),
+        right,
+    )
 }
 
 /// What an operator does behind its left operand: `&&`, `||` and `-->` may be decided by it.
@@ -249,8 +260,8 @@ fn eval_right<K: Sink>(
     ensures counts { Counts result (K.faults sink.old) (K.faults sink.new) }
     ensures same_full { K.full sink.new ≡ K.full sink.old }
 {
-    let y = eval(alloc, funcs, places, sink, depth, b)?;
-    Ok(binary(span, operator, x, &y)?)
+    let y = Held::new(eval(alloc, funcs, places, sink, depth, b)?);
+    Ok(binary(span, operator, x, y.get())?)
 }
 
 #[cycle(eval)]
@@ -272,8 +283,8 @@ fn eval_conditional<K: Sink>(
     ensures counts { Counts result (K.faults sink.old) (K.faults sink.new) }
     ensures same_full { K.full sink.new ≡ K.full sink.old }
 {
-    let x = eval(alloc, funcs, places, sink, depth, e)?;
-    if truth(span, &x)? {
+    let x = Held::new(eval(alloc, funcs, places, sink, depth, e)?);
+    if truth(span, x.get())? {
         Ok(eval(alloc, funcs, places, sink, depth, a)?)
     } else {
         Ok(eval(alloc, funcs, places, sink, depth, b)?)
@@ -363,8 +374,8 @@ fn eval_field<K: Sink>(
     ensures counts { Counts result (K.faults sink.old) (K.faults sink.new) }
     ensures same_full { K.full sink.new ≡ K.full sink.old }
 {
-    let x = eval(alloc, funcs, places, sink, depth, a)?;
-    Ok(field_in(span, place, &x)?)
+    let x = Held::new(eval(alloc, funcs, places, sink, depth, a)?);
+    Ok(field_in(span, place, x.get())?)
 }
 
 #[cycle(eval)]
@@ -384,7 +395,7 @@ fn eval_element<K: Sink>(
     ensures counts { Counts result (K.faults sink.old) (K.faults sink.new) }
     ensures same_full { K.full sink.new ≡ K.full sink.old }
 {
-    let x = eval(alloc, funcs, places, sink, depth, a)?;
-    let y = eval(alloc, funcs, places, sink, depth, i)?;
-    Ok(element_of(span, &x, &y)?)
+    let x = Held::new(eval(alloc, funcs, places, sink, depth, a)?);
+    let y = Held::new(eval(alloc, funcs, places, sink, depth, i)?);
+    Ok(element_of(span, x.get(), y.get())?)
 }

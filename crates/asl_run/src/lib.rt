@@ -13,5 +13,7 @@ mod stop;
 
 pub use machine::{GlobalVar, Machine, Outcome, RunRefused};
 
-#[cfg(test)]
-mod tests;
+// What a machine stands on is public for the tests of the native stack, which run trees that no text has.
+pub use calls::run;
+pub use places::Places;
+pub use stop::Stop;

@@ -46,12 +46,23 @@ pub enum RunRefused {
 }
 
 /// Where a machine stands: ready, with the value that the last call returned where it returned one, or ended.
-#[derive(Drop)]
 pub enum Stage {
     Ready(Option<Value>),
     Uncaught(Value),
     Fault(DynCode, Span),
     Refused(RunRefused),
+}
+
+// By hand, so that a drop of one is a call, as `Held` of asl_shared says.
+impl Drop for Stage {
+    fn drop(self) {
+        match self {
+            Stage::Ready(_returned) => {}
+            Stage::Uncaught(_thrown) => {}
+            Stage::Fault(_code, _span) => {}
+            Stage::Refused(_refused) => {}
+        }
+    }
 }
 
 /// A machine that runs a checked program, call by call, over globals that stay.

@@ -15,6 +15,7 @@ ghost use Rattle.asl_run.specs.Stores.{stored_in};
 ghost use Rattle.asl_run.specs.View.{core_of};
 
 use crate::stop::{Exit, Mistake, Stop};
+use asl_shared::Held;
 use asl_syn::token::Span;
 use asl_tree::SubId;
 use asl_tree::typed::{Binds, Slot};
@@ -72,12 +73,14 @@ pub fn assign(places: &mut Places, span: Span, slot: Slot, value: Value) -> Resu
     match slot {
         Slot::Local(i) => {
             if i >= places.frame.len() {
+                drop(value);
                 return Err(Stop::Stuck(Mistake::UnknownName, span));
             }
             places.frame[i] = value;
         }
         Slot::Global(i) => {
             if i >= places.globals.len() {
+                drop(value);
                 return Err(Stop::Stuck(Mistake::UnknownName, span));
             }
             places.globals[i] = value;
@@ -100,6 +103,7 @@ fn store_in(
         values.old.items values.new.items }
 {
     if at >= values.len() {
+        drop(value);
         return Err(Stop::Stuck(Mistake::UnknownName, span));
     }
     replace(alloc, &mut values[at], steps, value)?;
@@ -248,12 +252,13 @@ pub fn declare(places: &mut Places, span: Span, binds: &Binds, value: Value) -> 
         places.old places.new }
     ensures none_refused { NoneRefused result }
 {
+    let value = Held::new(value);
     match binds {
         Binds::Nothing => Ok(Exit::Normal),
         Binds::One => {
-            push(places, value)?;
+            push(places, value.into_inner())?;
             Ok(Exit::Normal)
         }
-        Binds::Parts(taken) => declare_tuple(places, span, taken.as_slice(), &value),
+        Binds::Parts(taken) => declare_tuple(places, span, taken.as_slice(), value.get()),
     }
 }

@@ -16,6 +16,7 @@ use crate::output::{put, put_string, put_value};
 use crate::places::{Places, declare, declare_first};
 use crate::stop::{Exit, Stop};
 use asl_io::Sink;
+use asl_shared::Held;
 use asl_syn::code::DynCode;
 use asl_syn::token::Span;
 use asl_syn::tree::PrintKind;
@@ -131,8 +132,8 @@ fn exec_assert<K: Sink>(
     ensures counts { Counts result (K.faults sink.old) (K.faults sink.new) }
     ensures same_full { K.full sink.new ≡ K.full sink.old }
 {
-    let x = eval(alloc, funcs, places, sink, depth, e)?;
-    if truth(span, &x)? {
+    let x = Held::new(eval(alloc, funcs, places, sink, depth, e)?);
+    if truth(span, x.get())? {
         Ok(Exit::Normal)
     } else {
         Err(Stop::Fault(DynCode::D08, span))
@@ -268,8 +269,8 @@ fn exec_if<K: Sink>(
     ensures counts { Counts result (K.faults sink.old) (K.faults sink.new) }
     ensures same_full { K.full sink.new ≡ K.full sink.old }
 {
-    let x = eval(alloc, funcs, places, sink, depth, e)?;
-    if truth(span, &x)? {
+    let x = Held::new(eval(alloc, funcs, places, sink, depth, e)?);
+    if truth(span, x.get())? {
         exec_scope(alloc, funcs, places, sink, depth, first)
     } else {
         exec_branches(alloc, funcs, places, sink, depth, span, others, last)
@@ -295,8 +296,8 @@ fn exec_branches<K: Sink>(
 {
     for branch in branches {
         let TypedBranch::Branch(e, list) = branch;
-        let x = eval(alloc, funcs, places, sink, depth, e)?;
-        if truth(span, &x)? {
+        let x = Held::new(eval(alloc, funcs, places, sink, depth, e)?);
+        if truth(span, x.get())? {
             return exec_scope(alloc, funcs, places, sink, depth, list.as_slice());
         }
     }

@@ -1,6 +1,11 @@
-//! Values with several owners, which contracts see as what they hold, so that a tree of them is plain data.
+//! Values with several owners, which contracts see as what they hold, so that a tree of them is plain data; and values that
+//! are dropped by a call.
 #![tactic(auto)]
 
+mod boxes;
+mod held;
 mod shared;
 
+pub use boxes::{three_boxes, two_boxes};
+pub use held::Held;
 pub use shared::Shared;

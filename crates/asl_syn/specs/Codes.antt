@@ -1,4 +1,4 @@
--- How codes are printed.
+-- The bytes that are printed for each code.
 use Rattle.std.specs.Prelude.{ℕ, List, codes}
 use Rattle.asl_syn.specs.declared.code.StaticCode.{StaticCode}
 use Rattle.asl_syn.specs.declared.code.StaticCode.TheVariants.{L01, L02, L03, L04, L05, S01, S02, S03, M01, M02, M03, T01, T02, T03, T04, T05, T06, T07, T08, T09, T10, T11, T12, T13, T14, T15, T16, T17, T18, T19, T20, T21, T23, T24, T25}

@@ -1,13 +1,13 @@
--- What the words of the command line ask for.
+-- What a command line asks for. The crates that read the command line, answer it and state the answer share it.
 use Rattle.std.specs.Prelude.{ℕ, List, []}
 
--- a command with its options and the names of its files, or no command
+-- a command with the names of its files, where `run` also has the number of steps; `usage` where the words are no command
 pub data Command : Type 0 where
   usage : Command
   check : List (List ℕ) → Command
   run : ℕ → List (List ℕ) → Command
 
--- the names that a command reads, in order
+-- the names of the files that a command reads, in order
 abbrev pub names_of : Command → List (List ℕ)
 names_of usage = []
 names_of (check names) = names

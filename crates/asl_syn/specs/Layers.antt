@@ -1,4 +1,4 @@
--- One layer of a tree, as `out-Expr` and `out-Stmt` open it, and where a node stands.
+-- One layer of a tree, as `out-Expr` and `out-Stmt` open it, and the span of a node.
 use Rattle.asl_syn.specs.declared.token.Span.{Span}
 use Rattle.asl_syn.specs.declared.tree.Bitfield.{Bitfield}
 use Rattle.asl_syn.specs.declared.tree.ConstraintPart.{ConstraintPart}

@@ -1,10 +1,10 @@
-//! The codes of faults, and the faults of a text.
+//! The codes of faults, and the faults that a program can have before it runs.
 #![tactic(auto)]
 
 use crate::token::Span;
 use std::alloc::{AllocError, AllocFailed};
 
-/// The code of a fault that a text has before it runs.
+/// The code of a fault that is found before the program runs.
 #[derive(Clone, Copy, Debug, PartialEq, Eq)]
 pub enum StaticCode {
     /// A byte that begins no lexeme or gap.
@@ -13,69 +13,69 @@ pub enum StaticCode {
     L02,
     /// A quoted literal is malformed or not closed.
     L03,
-    /// An integer literal above 2^127 - 1, or a literal of bits or a mask wider than the width limit.
+    /// An integer literal above 2^127 - 1, or a bitvector literal or mask that is wider than the width limit.
     L04,
     /// A name that begins with two underscores.
     L05,
-    /// A token that is not allowed here, or the end of the file.
+    /// A token that cannot stand here, or a file that ends where more must follow.
     S01,
-    /// The token that opens level 101.
+    /// The token that opens the 101st level of nesting.
     S02,
-    /// A word that is left out, or a form that is not served.
+    /// A word of the language that is left out, or a form that is not supported.
     S03,
     /// A file of more than 1,048,576 bytes.
     M01,
     /// More than 64 files.
     M02,
-    /// The token that is number 200,001 of its file.
+    /// The 200,001st token of a file.
     M03,
     /// Declared twice, or shadows a visible name.
     T01,
-    /// An unknown name, or a name of another sort.
+    /// An unknown name, or a name that stands for another sort of thing.
     T02,
-    /// A declaration reaches itself.
+    /// A declaration depends on itself.
     T03,
-    /// Not constant, or its evaluation faults.
+    /// An expression that must be constant is not, or its evaluation fails.
     T04,
     /// The kinds differ, or one named type is no subtype of the other.
     T05,
-    /// The widths are not the same.
+    /// The widths are not equal.
     T06,
-    /// The constraint is not below.
+    /// The constraint allows integers that the constraint asked for does not.
     T07,
-    /// The operator, slice or index has no rule for these kinds.
+    /// No rule for the operator, slice or index has these kinds.
     T08,
-    /// No overload has these kinds.
+    /// No overload takes these kinds.
     T09,
     /// Two overloads clash.
     T10,
-    /// Parameters: a wrong count, or omitted and not given by an argument.
+    /// Parameters: the wrong number of them, or one that is omitted and that no argument determines.
     T11,
-    /// The effect is too strong here.
+    /// The expression has an effect that is not allowed here.
     T12,
-    /// The effects of operands conflict.
+    /// The effects of the operands conflict.
     T13,
-    /// The target is immutable.
+    /// The target cannot be assigned.
     T14,
     /// An unknown, repeated or missing field.
     T15,
-    /// A bitfield outside its width.
+    /// A bitfield that reaches outside its type's width.
     T16,
-    /// The end of a function can be reached.
+    /// A function can end without returning a value.
     T17,
-    /// A `return` or a call of the wrong form.
+    /// A `return` or a call with a value where none belongs, or without one where one does.
     T18,
     /// Not a width expression.
     T19,
-    /// A width, a constraint or a type that is too large.
+    /// A width, a constraint or a type beyond the limits.
     T20,
-    /// No exception type, or `throw;` outside a catcher.
+    /// A type that is not an exception, or `throw;` outside a catcher.
     T21,
     /// The pattern does not fit.
     T23,
-    /// The entry is missing.
+    /// The subprogram to start with is missing.
     T24,
-    /// Not a subtype of the named type.
+    /// A type that is not a subtype of the named one.
     T25,
 }
 
@@ -127,7 +127,7 @@ impl StaticCode {
     }
 }
 
-/// The code of a fault that a run ends in.
+/// The code of a fault that a run can end in.
 #[derive(Clone, Copy, Debug, PartialEq, Eq)]
 pub enum DynCode {
     /// An integer outside -2^127 .. 2^127 - 1.
@@ -140,7 +140,7 @@ pub enum DynCode {
     D04,
     /// A slice outside its value.
     D05,
-    /// An array index outside.
+    /// An index outside its array.
     D06,
     /// An asserted conversion fails.
     D07,
@@ -148,19 +148,19 @@ pub enum DynCode {
     D08,
     /// No alternative matches.
     D09,
-    /// The limit of a loop.
+    /// A loop that goes on past its limit.
     D10,
-    /// The limit of a recursion.
+    /// A recursion deeper than its limit.
     D11,
-    /// More than 2,000 nodes entered and not left.
+    /// More than 2,000 nodes of the tree are being evaluated at once.
     D12,
     /// No step is left.
     D13,
-    /// A width that is negative or over the width limit.
+    /// A width that is negative or above the width limit.
     D14,
     /// `unreachable` was reached.
     D15,
-    /// A type without a value is initialised.
+    /// A variable of a type without values is initialised.
     D16,
 }
 
@@ -193,7 +193,8 @@ impl DynCode {
     }
 }
 
-/// A fault of a text: its code, the code of the evaluation where a constant faults (T04), and where it stands.
+/// A fault that is found before the program runs: its code, the code that ended the evaluation of a constant (only for
+/// [`StaticCode::T04`]), and where it stands.
 #[derive(Clone, Copy, Debug, PartialEq, Eq)]
 pub struct Fault {
     pub code: StaticCode,
@@ -201,10 +202,12 @@ pub struct Fault {
     pub span: Span,
 }
 
-/// Why a text has no answer: its one fault, or want of memory.
+/// Why a program was refused.
 #[derive(Clone, Copy, Debug, PartialEq, Eq)]
 pub enum Refused {
+    /// Its one fault.
     At(Fault),
+    /// No memory was left to decide.
     NoMemory,
 }
 

@@ -3,6 +3,5 @@
 
 pub mod code;
 pub mod place;
-pub mod span;
 pub mod token;
 pub mod tree;

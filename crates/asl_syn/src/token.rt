@@ -2,8 +2,8 @@
 //! source, at the token's span.
 #![tactic(auto)]
 
-/// A run of bytes of a file: the number of the file in the order of the program's files, the place of the first
-/// byte, from 0, and the number of bytes.
+/// A run of bytes of a file: the number of the file among the program's files, the index of the first byte, both from
+/// 0, and the number of bytes.
 #[derive(Clone, Copy, Debug, PartialEq, Eq)]
 pub struct Span {
     pub file: u32,
@@ -11,8 +11,8 @@ pub struct Span {
     pub len: u32,
 }
 
-/// The words of the language, and those that it leaves out and refuses. `EOR` and `XOR` are two words with one
-/// meaning.
+/// The reserved words: those with a meaning, and behind them those that are refused wherever they stand. `EOR` and
+/// `XOR` are two words with one meaning.
 #[derive(Clone, Copy, Debug, PartialEq, Eq)]
 pub enum Word {
     BitAnd,
@@ -130,11 +130,11 @@ pub enum TokenKind {
     Name,
     /// An integer literal, with its value, below 2^127 in every token of a text.
     Int(u128),
-    /// A literal of bits, with its quotes.
+    /// A bitvector literal; its span includes the quotes.
     Bits,
-    /// A mask, with its quotes.
+    /// A mask; its span includes the quotes.
     Mask,
-    /// A string, with its quotes.
+    /// A string; its span includes the quotes.
     Text,
     Word(Word),
     Mark(Mark),

@@ -1,11 +1,15 @@
-//! The trees of a program. Each node has its span as its first field: from its first lexeme to its last, brackets
-//! directly round it not included. A name or a literal owns its text.
+//! The trees of a program. A name or a literal owns its text.
+//!
+//! An expression, a statement, a type, a pattern, a target, a name and a declaration has its span as its first field:
+//! from its first lexeme to its last, without parentheses that stand directly round it. What is only a part of one
+//! of these (`FieldValue`, `Slice`, `ConstraintPart`, `Bitfield`, `ElseIf`, `Alternative`, `Otherwise`, `Catcher`,
+//! `Formal`, `Param`) has no span of its own: no fault is reported at it.
 #![tactic(auto)]
 
 use crate::token::Span;
 use sqlite_items::{Boxed, Items};
 
-/// The bytes of a name or of a literal, which contracts see as their list.
+/// The bytes of a name or of a literal. Contracts see them as a list.
 pub type Text = Items<u8>;
 
 /// A name where it stands.
@@ -83,7 +87,7 @@ pub enum BinaryOperator {
 pub enum Expr {
     /// An integer literal with its value.
     Int(Span, u128),
-    /// A literal of bits, its text with the quotes.
+    /// A bitvector literal, its text with the quotes.
     Bits(Span, Text),
     /// `TRUE` or `FALSE`.
     Bool(Span, bool),
@@ -127,7 +131,7 @@ pub enum FieldValue {
 #[cycle(syntax)]
 #[derive(Drop)]
 pub enum Slice {
-    /// `place`
+    /// `index`
     BitAt(Expr),
     /// `high:low`
     HighLow(Expr, Expr),
@@ -141,7 +145,7 @@ pub enum Slice {
 #[cycle(syntax)]
 #[derive(Drop)]
 pub enum TypeExpr {
-    /// `integer`, with the parts of its constraint; whole where there are none.
+    /// `integer`, with the parts of its constraint: unconstrained where there are none.
     IntegerType(Span, Items<ConstraintPart>),
     /// `boolean`
     BooleanType(Span),
@@ -171,7 +175,7 @@ pub enum ConstraintPart {
 #[cycle(syntax)]
 #[derive(Drop)]
 pub enum Bitfield {
-    /// `[place] f`
+    /// `[index] f`
     OneBit(Expr, Ident),
     /// `[high:low] f`
     BitRange(Expr, Expr, Ident),
@@ -199,7 +203,7 @@ pub enum Pattern {
     RangePattern(Span, Expr, Expr),
 }
 
-/// What may stand behind a name of a target.
+/// What may follow the name of a target.
 #[derive(Drop)]
 pub enum Suffix {
     /// `.f`
@@ -212,7 +216,7 @@ pub enum Suffix {
     ElementOf(Expr),
 }
 
-/// A suffix, with the place behind its last byte in the file.
+/// A suffix, and the index in the file of the first byte behind it.
 #[derive(Drop)]
 pub struct PlacedSuffix {
     pub end: u32,
@@ -238,7 +242,7 @@ pub enum Binder {
     Unbound(Span),
 }
 
-/// What a local declaration declares.
+/// The names that a local declaration declares.
 #[derive(Drop)]
 pub enum Bind {
     Single(Binder),
@@ -246,7 +250,7 @@ pub enum Bind {
     Several(Span, Items<Binder>),
 }
 
-/// Whether a local declaration can be assigned.
+/// Whether what a local declaration declares can be assigned.
 #[derive(Clone, Copy, Debug, PartialEq, Eq)]
 pub enum LocalKind {
     Let,
@@ -343,7 +347,7 @@ pub enum Catcher {
     Catch(Option<Ident>, Ident, Items<Stmt>),
 }
 
-/// A formal of a subprogram, or a field of a record or an exception.
+/// A formal argument of a subprogram, or a field of a record or an exception.
 #[derive(Drop)]
 pub struct Formal {
     pub name: Ident,
@@ -366,7 +370,7 @@ pub enum TypeDef {
     Exception(Span, Items<Formal>),
 }
 
-/// The sorts of global storage.
+/// The kinds of global storage.
 #[derive(Clone, Copy, Debug, PartialEq, Eq)]
 pub enum StorageKind {
     Constant,
@@ -422,7 +426,7 @@ pub enum Decl {
     Func(Func),
 }
 
-/// The declarations of all files, in the order of the files and of the declarations in them.
+/// A program: the declarations of all its files, in the order of the files and within each as they are written.
 #[derive(Drop)]
 pub struct Program {
     pub decls: Items<Decl>,

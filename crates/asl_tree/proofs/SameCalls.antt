@@ -178,5 +178,5 @@ pub typed_trees_same : (e : Asked) (ds : List Decl) (main : Option ℕ) → Prog
 typed_trees_same e ds main ok =
     let b = bodies_of e ds main ok in
     let same = names_same ds b.names b.names_are in
-    let w = well_named ds b.names ok.served b.apart b.names_are in
+    let w = well_named ds b.names b.served b.apart b.names_are in
     (b.names, b.names_are, same_with ds b.names (record { well = w; same = same; outside = names_outside ds b.names same }) b.bodies)

@@ -20,6 +20,3 @@ pub use binding::{Binding, Under};
 pub use scope::{Scope, Standing, Storage, reading, writing};
 pub use slot::Slot;
 pub use ty::{FieldType, Ty};
-
-#[cfg(test)]
-mod tests;

@@ -88,9 +88,17 @@ fn standing_for(d: &Declared) -> Standing<'_>
 
 /// The visible names, each once, the oldest first, and what they stand for. Contracts see the list of them. A name is
 /// found, and those of a block that ends are dropped, without a walk over the others.
-#[derive(Drop)]
 pub struct Scope<'a> {
     declared: IndexMap<&'a [u8], Declared>,
+}
+
+// By hand, so that a drop of one is a call, as `Held` of asl_shared says.
+impl<'a> Drop for Scope<'a> {
+    fn drop(self) {
+        let Scope {
+            declared: _declared,
+        } = self;
+    }
 }
 
 impl<'a> Model for Scope<'a> {
@@ -211,6 +219,8 @@ impl<'a> Scope<'a> {
         if self.is_free(name) {
             let before = self.numbers();
             drop(self.declared.insert(name, Declared { form, before })?);
+        } else {
+            drop(form);
         }
         Ok(())
     }

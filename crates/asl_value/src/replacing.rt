@@ -10,7 +10,7 @@ ghost use Rattle.asl_value.specs.View.{value_of, field_of, all_values, all_field
 use crate::failure::Failure;
 use crate::parts::{element_of, field_at, field_in, index_in};
 use crate::value::{FieldValue, Value, copy};
-use asl_shared::Shared;
+use asl_shared::{Held, Shared};
 use asl_syn::code::DynCode;
 use asl_syn::token::Span;
 use sqlite_items::Items;
@@ -32,6 +32,7 @@ pub enum Step {
 pub fn replace(alloc: Global, value: &mut Value, steps: &[Step], new: Value) -> Result<(), Failure>
     ensures { Changes result (places.updated (all_steps steps.now) (value_of new) (value_of value.old)) value.old value.new }
 {
+    let new = Held::new(new);
     reach(value, steps)?;
     let old = mem::replace(value, Value::Bool(false));
     match put(alloc, old, steps, new) {
@@ -69,11 +70,11 @@ fn step_in(value: &Value, step: &Step) -> Result<Value, Failure>
 
 /// The value with another at the end of these steps.
 #[cycle(put)]
-fn put(alloc: Global, value: Value, steps: &[Step], new: Value) -> Result<Value, Failure>
+fn put(alloc: Global, value: Value, steps: &[Step], new: Held<Value>) -> Result<Value, Failure>
     ensures { Is value_of result (places.updated (all_steps steps.now) (value_of new) (value_of value)) }
 {
     match steps.split_first() {
-        None => Ok(new),
+        None => Ok(new.into_inner()),
         Some((step, rest)) => match step {
             Step::Field(span, place) => put_field(alloc, value, *span, *place, rest, new),
             Step::Element(span, index) => put_element(alloc, value, *span, index, rest, new),
@@ -89,7 +90,7 @@ fn put_field(
     span: Span,
     place: usize,
     rest: &[Step],
-    new: Value,
+    new: Held<Value>,
 ) -> Result<Value, Failure>
     ensures { Is value_of result
         (places.updated (places.into_place span place ∷ all_steps rest.now) (value_of new) (value_of value)) }
@@ -115,15 +116,16 @@ fn put_in_fields(
     span: Span,
     place: usize,
     rest: &[Step],
-    new: Value,
+    new: Held<Value>,
 ) -> Result<Shared<Items<FieldValue>>, Failure>
     ensures { Is all_fields result
         (put_into_fields span place (all_steps rest.now) (value_of new) (all_fields fields)) }
 {
     let part = field_at(span, place, fields.get().as_slice())?;
+    let part = Held::new(part);
     let mut owned = into_owned_fields(alloc, fields)?;
     set_field(&mut owned, place, Value::Bool(false))?;
-    let changed = put(alloc, part, rest, new)?;
+    let changed = put(alloc, part.into_inner(), rest, new)?;
     set_field(&mut owned, place, changed)?;
     Ok(Shared::new(alloc, owned)?)
 }
@@ -136,7 +138,7 @@ fn put_element(
     span: Span,
     index: &Value,
     rest: &[Step],
-    new: Value,
+    new: Held<Value>,
 ) -> Result<Value, Failure>
     ensures { Is value_of result
         (places.updated (places.into_element span (value_of index.now) ∷ all_steps rest.now) (value_of new) (value_of value)) }
@@ -158,7 +160,7 @@ fn put_in_elements(
     span: Span,
     index: i128,
     rest: &[Step],
-    new: Value,
+    new: Held<Value>,
 ) -> Result<Shared<Items<Value>>, Failure>
     ensures { Is all_values result
         (put_into_elements span index (all_steps rest.now) (value_of new) (all_values elements)) }
@@ -177,15 +179,16 @@ fn put_in_place(
     span: Span,
     at: usize,
     rest: &[Step],
-    new: Value,
+    new: Held<Value>,
 ) -> Result<Shared<Items<Value>>, Failure>
     ensures { Is all_values result
         (put_into_elements span (pos at) (all_steps rest.now) (value_of new) (all_values elements)) }
 {
     let part = value_at(span, at, elements.get().as_slice())?;
+    let part = Held::new(part);
     let mut owned = into_owned(alloc, elements)?;
     owned.set(at, Value::Bool(false));
-    let changed = put(alloc, part, rest, new)?;
+    let changed = put(alloc, part.into_inner(), rest, new)?;
     owned.set(at, changed);
     Ok(Shared::new(alloc, owned)?)
 }
@@ -208,8 +211,9 @@ fn given_as(field: &FieldValue, value: Value) -> Result<FieldValue, AllocError>
     ensures name { IfOk result (λ it. (field_of it).name ≡ (field_of field.now).name) }
     ensures value { IfOk result (λ it. (field_of it).value ≡ value_of value) }
 {
+    let value = Held::new(value);
     match field {
-        FieldValue::Given(name, _) => Ok(FieldValue::Given(name.share()?, value)),
+        FieldValue::Given(name, _) => Ok(FieldValue::Given(name.share()?, value.into_inner())),
     }
 }
 

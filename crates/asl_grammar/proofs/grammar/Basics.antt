@@ -1,9 +1,11 @@
 -- Steps that the laws share.
-use Rattle.std.proofs.Common.{◌≡◌, ℕ, ◌⊎◌, inl, inr, Bool, true, false, nat_eq, List, [], ◌∷◌, ◌++◌, Ok, Err, refl, ap, sym, ◌∙◌, arith}
-use Rattle.std.proofs.lemmas.Bool.Decides.{nat_tests}
+use Rattle.std.proofs.Common.{◌≡◌, ◌⊎◌, inl, inr, Bool, true, false, List, [], ◌∷◌, ◌++◌, Ok, Err, refl, ap, sym, ◌∙◌, rules}
+use denote.Enum.Bare.{same_true, true_same}
 use Rattle.asl_grammar.specs.declared.error.ParseError.{ParseError}
-use Rattle.asl_grammar.specs.grammar.Kinds.{code}
-use Rattle.asl_grammar.specs.grammar.Cursor.{Lexeme, Cursor, Codes, among, one_of, starts}
+use Rattle.asl_grammar.specs.contracts.kinds.Kind.{the_type}
+use Rattle.asl_grammar.specs.declared.kinds.Kind.{Kind}
+use Rattle.asl_grammar.specs.grammar.Kinds.{kind_of, same_kind}
+use Rattle.asl_grammar.specs.grammar.Cursor.{Lexeme, Cursor, Kinds, among, one_of, starts}
 use Rattle.asl_grammar.specs.grammar.Reader.{Outcome, bind, both, flipped, pick, apart, covers}
 
 pub pick_cases : {A : Type 0} (b : Bool) (x y z : A) → pick b x y ≡ z → ((b ≡ true) × (x ≡ z)) ⊎ ((b ≡ false) × (y ≡ z))
@@ -63,54 +65,61 @@ one_of_assoc : (a b c : Bool) → one_of a (one_of b c) ≡ one_of (one_of a b) 
 one_of_assoc true b c = refl
 one_of_assoc false b c = refl
 
-pub among_append : (cs ds : Codes) (k : ℕ) → among (cs ++ ds) k ≡ one_of (among cs k) (among ds k)
+-- `==` on kinds
+pub same_is : (c k : Kind) → same_kind c k ≡ true → c ≡ k
+same_is c k h = same_true the_type (search rules) c k h
+
+pub same_self : (c : Kind) → same_kind c c ≡ true
+same_self c = true_same the_type c c refl
+
+pub among_append : (cs ds : Kinds) (k : Kind) → among (cs ++ ds) k ≡ one_of (among cs k) (among ds k)
 among_append [] ds k = refl
-among_append (c ∷ cs) ds k = ap (one_of (nat_eq c k)) (among_append cs ds k) ∙ one_of_assoc (nat_eq c k) (among cs k) (among ds k)
+among_append (c ∷ cs) ds k = ap (one_of (same_kind c k)) (among_append cs ds k) ∙ one_of_assoc (same_kind c k) (among cs k) (among ds k)
 
-pub starts_append-false : (cs ds : Codes) (ts : List Lexeme) → starts (cs ++ ds) ts ≡ false → (starts cs ts ≡ false) × (starts ds ts ≡ false)
+pub starts_append-false : (cs ds : Kinds) (ts : List Lexeme) → starts (cs ++ ds) ts ≡ false → (starts cs ts ≡ false) × (starts ds ts ≡ false)
 starts_append-false cs ds [] h = (refl, refl)
-starts_append-false cs ds (t ∷ ts) h = one_of_false _ _ (sym (among_append cs ds (code t.kind)) ∙ h)
+starts_append-false cs ds (t ∷ ts) h = one_of_false _ _ (sym (among_append cs ds (kind_of t.kind)) ∙ h)
 
-pub starts_append-true : (cs ds : Codes) (ts : List Lexeme) → starts (cs ++ ds) ts ≡ true → (starts cs ts ≡ true) ⊎ (starts ds ts ≡ true)
+pub starts_append-true : (cs ds : Kinds) (ts : List Lexeme) → starts (cs ++ ds) ts ≡ true → (starts cs ts ≡ true) ⊎ (starts ds ts ≡ true)
 starts_append-true cs ds [] h = cc
-starts_append-true cs ds (t ∷ ts) h = one_of_true _ _ (sym (among_append cs ds (code t.kind)) ∙ h)
+starts_append-true cs ds (t ∷ ts) h = one_of_true _ _ (sym (among_append cs ds (kind_of t.kind)) ∙ h)
 
-pub starts_left : (cs ds : Codes) (ts : List Lexeme) → starts cs ts ≡ true → starts (cs ++ ds) ts ≡ true
+pub starts_left : (cs ds : Kinds) (ts : List Lexeme) → starts cs ts ≡ true → starts (cs ++ ds) ts ≡ true
 starts_left cs ds [] h = cc
-starts_left cs ds (t ∷ ts) h = among_append cs ds (code t.kind) ∙ ap (λ b. one_of b (among ds (code t.kind))) h
+starts_left cs ds (t ∷ ts) h = among_append cs ds (kind_of t.kind) ∙ ap (λ b. one_of b (among ds (kind_of t.kind))) h
 
-pub starts_right : (cs ds : Codes) (ts : List Lexeme) → starts ds ts ≡ true → starts (cs ++ ds) ts ≡ true
+pub starts_right : (cs ds : Kinds) (ts : List Lexeme) → starts ds ts ≡ true → starts (cs ++ ds) ts ≡ true
 starts_right cs ds [] h = cc
-starts_right cs ds (t ∷ ts) h = among_append cs ds (code t.kind) ∙ one_of_right _ _ h
+starts_right cs ds (t ∷ ts) h = among_append cs ds (kind_of t.kind) ∙ one_of_right _ _ h
 
-among_apart : (cs ds : Codes) (k : ℕ) → apart cs ds ≡ true → among ds k ≡ true → among cs k ≡ false
+among_apart : (cs ds : Kinds) (k : Kind) → apart cs ds ≡ true → among ds k ≡ true → among cs k ≡ false
 among_apart [] ds k a h = refl
-among_apart (c ∷ cs) ds k a h = go (among_apart cs ds k (both_true _ _ a).1 h) (nat_eq c k) refl
+among_apart (c ∷ cs) ds k a h = go (among_apart cs ds k (both_true _ _ a).1 h) (same_kind c k) refl
   where
-    go : among cs k ≡ false → (b : Bool) → nat_eq c k ≡ b → one_of (nat_eq c k) (among cs k) ≡ false
+    go : among cs k ≡ false → (b : Bool) → same_kind c k ≡ b → one_of (same_kind c k) (among cs k) ≡ false
     go rest true e =
-        let same : c ≡ k = grind (arith, nat_tests) in
+        let same : c ≡ k = same_is c k e in
         let off : among ds c ≡ false = flipped_true _ (both_true _ _ a).0 in
         let on : among ds c ≡ true = ap (among ds) same ∙ h in
         cc
     go rest false e = ap (λ b. one_of b (among cs k)) e ∙ rest
 
-pub starts_apart : (cs ds : Codes) (ts : List Lexeme) → apart cs ds ≡ true → starts ds ts ≡ true → starts cs ts ≡ false
+pub starts_apart : (cs ds : Kinds) (ts : List Lexeme) → apart cs ds ≡ true → starts ds ts ≡ true → starts cs ts ≡ false
 starts_apart cs ds [] a h = refl
-starts_apart cs ds (t ∷ ts) a h = among_apart cs ds (code t.kind) a h
+starts_apart cs ds (t ∷ ts) a h = among_apart cs ds (kind_of t.kind) a h
 
-among_covers : (ds cs : Codes) (k : ℕ) → covers ds cs ≡ true → among ds k ≡ false → among cs k ≡ false
+among_covers : (ds cs : Kinds) (k : Kind) → covers ds cs ≡ true → among ds k ≡ false → among cs k ≡ false
 among_covers ds [] k a h = refl
-among_covers ds (c ∷ cs) k a h = go (among_covers ds cs k (both_true _ _ a).1 h) (nat_eq c k) refl
+among_covers ds (c ∷ cs) k a h = go (among_covers ds cs k (both_true _ _ a).1 h) (same_kind c k) refl
   where
-    go : among cs k ≡ false → (b : Bool) → nat_eq c k ≡ b → one_of (nat_eq c k) (among cs k) ≡ false
+    go : among cs k ≡ false → (b : Bool) → same_kind c k ≡ b → one_of (same_kind c k) (among cs k) ≡ false
     go rest true e =
-        let same : c ≡ k = grind (arith, nat_tests) in
+        let same : c ≡ k = same_is c k e in
         let on : among ds c ≡ true = (both_true _ _ a).0 in
         let off : among ds c ≡ false = ap (among ds) same ∙ h in
         cc
     go rest false e = ap (λ b. one_of b (among cs k)) e ∙ rest
 
-pub starts_covers : (ds cs : Codes) (ts : List Lexeme) → covers ds cs ≡ true → starts ds ts ≡ false → starts cs ts ≡ false
+pub starts_covers : (ds cs : Kinds) (ts : List Lexeme) → covers ds cs ≡ true → starts ds ts ≡ false → starts cs ts ≡ false
 starts_covers ds cs [] a h = refl
-starts_covers ds cs (t ∷ ts) a h = among_covers ds cs (code t.kind) a h
+starts_covers ds cs (t ∷ ts) a h = among_covers ds cs (kind_of t.kind) a h

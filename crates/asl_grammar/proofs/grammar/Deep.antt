@@ -1,8 +1,9 @@
 -- A token that opens a level too many is allowed there: with one level more the front with it goes on.
 use Rattle.std.proofs.Common.{◌≡◌, ℕ, zero, suc, ◌+◌, ◌≤◌, ◌⊎◌, inl, inr, Bool, true, false, List, [], ◌∷◌, ◌++◌, length, Option, Some, None, Ok, Err, refl, ap, sym, ◌∙◌, subst, arith, append_assoc}
 use Rattle.asl_grammar.specs.declared.error.ParseError.TheVariants.{TooDeep}
-use Rattle.asl_grammar.specs.grammar.Kinds.{code}
-use Rattle.asl_grammar.specs.grammar.Cursor.{Lexeme, Cursor, Codes, among, starts, with_toks, past, extent}
+use Rattle.asl_grammar.specs.declared.kinds.Kind.{Kind}
+use Rattle.asl_grammar.specs.grammar.Kinds.{kind_of}
+use Rattle.asl_grammar.specs.grammar.Cursor.{Lexeme, Cursor, Kinds, among, starts, with_toks, past, extent}
 use Rattle.asl_grammar.specs.grammar.Combinators.{G, tok, opens, into, seq, either, opt, many, by, spanned, scope, closed, trail, costs, follows, Reading, reads, reads_all, reads_opt, reads_tok, reads_then, reads_follows, goes, goes_trail}
 use Rattle.asl_grammar.specs.grammar.Reader.{nullable, first, cont, by_one, both, flipped, pick, apart, Outcome, refused, run, run_tok, run_opens, open_at, run_many, run_trail, run_costs}
 use Rattle.asl_grammar.proofs.grammar.Basics.{both_true, both_three, both_four, both_five, pick_cases, bind_err, among_append, one_of_true}
@@ -24,10 +25,10 @@ rise_opt : {A : Type 0} (d : ℕ) (P : Reading A) → Rises d P → (a : Option 
 rise_opt d P h None st end r = ap (up d) r
 rise_opt d P h (Some x) st end r = h st x end r
 
-rise_tok : (d : ℕ) (cs : Codes) → Rises d (reads_tok cs)
+rise_tok : (d : ℕ) (cs : Kinds) → Rises d (reads_tok cs)
 rise_tok d cs st a end r = (r.0, r.1, r.2, ap (up d) r.3)
 
-rise_then : {A : Type 0} (d : ℕ) (cs : Codes) (P : Reading A) → Rises d P → Rises d (reads_then cs P)
+rise_then : {A : Type 0} (d : ℕ) (cs : Kinds) (P : Reading A) → Rises d P → Rises d (reads_then cs P)
 rise_then d cs P h st a end r = (up d r.0, rise_tok d cs st a.0 r.0 r.1, h r.0 a.1 end r.2)
 
 rise_follows : {A B C : Type 0} (d : ℕ) (P : Reading (A ⊎ B)) (Q : Reading C) → Rises d P → Rises d Q → (a : A ⊎ (B × C)) (st end : Cursor) → reads_follows P Q st a end → reads_follows P Q (up d st) a (up d end)
@@ -59,17 +60,17 @@ module _ (Sym : Type 0) (Val : Sym → Type 0) (R : (s : Sym) → Reading (Val s
 abbrev pub Deeper : (Cursor → Type 0) → Cursor → ℕ → Type 0
 Deeper Go st n = (front : List Lexeme) × (t : Lexeme) × (us : List Lexeme) × (st.toks ≡ front ++ (t ∷ us)) × (length (t ∷ us) ≡ n) × (d : ℕ) × Go (up d (with_toks st (front ++ (t ∷ []))))
 
-tok_not_deep : (cs : Codes) (st : Cursor) (toks : List Lexeme) (n : ℕ) (y : Bool) → run_tok cs st toks ≡ Err (TooDeep n y) → ⊥
+tok_not_deep : (cs : Kinds) (st : Cursor) (toks : List Lexeme) (n : ℕ) (y : Bool) → run_tok cs st toks ≡ Err (TooDeep n y) → ⊥
 tok_not_deep cs st [] n y h = cc
-tok_not_deep cs st (t ∷ ts) n y h = elim (pick_cases (among cs (code t.kind)) (Ok (t, past t ts st.left)) (refused (t ∷ ts)) (Err (TooDeep n y)) h) [ inl k ↦ not_err k.1 | inr k ↦ (let e = k.1 in cc) ]
+tok_not_deep cs st (t ∷ ts) n y h = elim (pick_cases (among cs (kind_of t.kind)) (Ok (t, past t ts st.left)) (refused (t ∷ ts)) (Err (TooDeep n y)) h) [ inl k ↦ not_err k.1 | inr k ↦ (let e = k.1 in cc) ]
 
 open_deep : (t : Lexeme) (ts : List Lexeme) (l n : ℕ) (y : Bool) → open_at t ts l ≡ Err (TooDeep n y) → length (t ∷ ts) ≡ n
 open_deep t ts zero n y h = cc
 open_deep t ts (suc l) n y h = absurd (not_err h)
 
-opens_deep : (cs : Codes) (left : ℕ) (toks : List Lexeme) (n : ℕ) (y : Bool) → run_opens cs left toks ≡ Err (TooDeep n y) → (t : Lexeme) × (ts : List Lexeme) × (toks ≡ t ∷ ts) × (among cs (code t.kind) ≡ true) × (length (t ∷ ts) ≡ n)
+opens_deep : (cs : Kinds) (left : ℕ) (toks : List Lexeme) (n : ℕ) (y : Bool) → run_opens cs left toks ≡ Err (TooDeep n y) → (t : Lexeme) × (ts : List Lexeme) × (toks ≡ t ∷ ts) × (among cs (kind_of t.kind) ≡ true) × (length (t ∷ ts) ≡ n)
 opens_deep cs left [] n y h = cc
-opens_deep cs left (t ∷ ts) n y h = elim (pick_cases (among cs (code t.kind)) (open_at t ts left) (refused (t ∷ ts)) (Err (TooDeep n y)) h) [
+opens_deep cs left (t ∷ ts) n y h = elim (pick_cases (among cs (kind_of t.kind)) (open_at t ts left) (refused (t ∷ ts)) (Err (TooDeep n y)) h) [
   | inl k ↦ (t, ts, refl, k.0, open_deep t ts left n y k.1)
   | inr k ↦ (let e = k.1 in cc)
 ]
@@ -86,7 +87,7 @@ zero_suc l d e = omega arith
 below : (left l n : ℕ) → left ≡ suc l → left ≤ n → l ≤ n
 below left l n e le = omega arith
 
-deep_many : {A : Type 0} (P : Reading A) (p : Cursor → Outcome A) (F : Codes) (Go : Cursor → Type 0) (n : ℕ) → Frames P → Lowers P → ((d : ℕ) → Rises d P) → ((st : Cursor) (a : A) (end : Cursor) → p st ≡ Ok (a, end) → P st a end)
+deep_many : {A : Type 0} (P : Reading A) (p : Cursor → Outcome A) (F : Kinds) (Go : Cursor → Type 0) (n : ℕ) → Frames P → Lowers P → ((d : ℕ) → Rises d P) → ((st : Cursor) (a : A) (end : Cursor) → p st ≡ Ok (a, end) → P st a end)
     → ((st : Cursor) (m : ℕ) (y : Bool) → st.left ≤ n → p st ≡ Err (TooDeep m y) → Deeper Go st m)
     → (k : ℕ) (st : Cursor) (m : ℕ) (y : Bool) → st.left ≤ n → run_many p F k st ≡ Err (TooDeep m y) → Deeper (λ st. (xs : List A) × (mid : Cursor) × reads_all P st xs mid × Go mid) st m
 deep_many P p F Go n fr lo ri so de zero st m y le h = absurd (not_err h)
@@ -110,7 +111,7 @@ deep_many {A} P p F Go n fr lo ri so de (suc k) st m y le h = elim (pick_cases (
   ]
 ]
 
-pick_among : (b : Bool) (F : Codes) (k : ℕ) → among (pick b F []) k ≡ true → (b ≡ true) × (among F k ≡ true)
+pick_among : (b : Bool) (F : Kinds) (k : Kind) → among (pick b F []) k ≡ true → (b ≡ true) × (among F k ≡ true)
 pick_among true F k h = (refl, h)
 pick_among false F k h = cc
 
@@ -132,18 +133,18 @@ module _ (Sym : Type 0) (Val : Sym → Type 0) (R : (s : Sym) → Reading (Val s
   null_reads (costs late p) h st = cc
   null_reads (follows p q) h st = cc
 
-  first_goes : {A : Type 0} (g : G Sym Val A) (t : Lexeme) → among (first g) (code t.kind) ≡ true → (st : Cursor) → st.toks ≡ t ∷ [] → (d : ℕ) × goes R Q g (up d st)
+  first_goes : {A : Type 0} (g : G Sym Val A) (t : Lexeme) → among (first g) (kind_of t.kind) ≡ true → (st : Cursor) → st.toks ≡ t ∷ [] → (d : ℕ) × goes R Q g (up d st)
   first_goes (tok cs) t m st e = (0, inr (t, e, m))
   first_goes (opens cs) t m st e = (1, inr (t, st.left, e, m, one_more st.left))
   first_goes (into cs s) t m st e = (1, inr (t, [], st.left, e, m, one_more st.left, emp s _ refl))
-  first_goes (seq p q) t m st e = elim (one_of_true (among (first p) (code t.kind)) _ (sym (among_append (first p) (pick (nullable p) (first q) []) (code t.kind)) ∙ m)) [
+  first_goes (seq p q) t m st e = elim (one_of_true (among (first p) (kind_of t.kind)) _ (sym (among_append (first p) (pick (nullable p) (first q) []) (kind_of t.kind)) ∙ m)) [
     | inl h ↦ (let k = first_goes p t h st e in (k.0, inl k.1))
-    | inr h ↦ (let n = pick_among (nullable p) (first q) (code t.kind) h in
+    | inr h ↦ (let n = pick_among (nullable p) (first q) (kind_of t.kind) h in
         let k = first_goes q t n.1 st e in
         let a = null_reads p n.0 (up k.0 st) in
         (k.0, inr (a.0, up k.0 st, a.1, k.1)))
   ]
-  first_goes (either p q) t m st e = elim (one_of_true (among (first p) (code t.kind)) _ (sym (among_append (first p) (first q) (code t.kind)) ∙ m)) [
+  first_goes (either p q) t m st e = elim (one_of_true (among (first p) (kind_of t.kind)) _ (sym (among_append (first p) (first q) (kind_of t.kind)) ∙ m)) [
     | inl h ↦ (let k = first_goes p t h st e in (k.0, inl k.1))
     | inr h ↦ (let k = first_goes q t h st e in (k.0, inr k.1))
   ]
@@ -157,7 +158,7 @@ module _ (Sym : Type 0) (Val : Sym → Type 0) (R : (s : Sym) → Reading (Val s
   first_goes (costs late p) t m st e = let k = first_goes p t m st e in (suc k.0, inr (st.left + k.0, plus_suc st.left k.0, k.1))
   first_goes (follows p q) t m st e = let k = first_goes p t m st e in (k.0, inl k.1)
 
-deep_trail : {A : Type 0} (cs : Codes) (P : Reading A) (p : Cursor → Outcome A) (F : Codes) (Go : Cursor → Type 0) (n : ℕ) → Frames P → Lowers P → ((d : ℕ) → Rises d P) → ((st : Cursor) (a : A) (end : Cursor) → p st ≡ Ok (a, end) → P st a end)
+deep_trail : {A : Type 0} (cs : Kinds) (P : Reading A) (p : Cursor → Outcome A) (F : Kinds) (Go : Cursor → Type 0) (n : ℕ) → Frames P → Lowers P → ((d : ℕ) → Rises d P) → ((st : Cursor) (a : A) (end : Cursor) → p st ≡ Ok (a, end) → P st a end)
     → ((st : Cursor) (m : ℕ) (y : Bool) → st.left ≤ n → p st ≡ Err (TooDeep m y) → Deeper Go st m)
     → (k : ℕ) (st : Cursor) (m : ℕ) (y : Bool) → st.left ≤ n → run_trail cs p F k st ≡ Err (TooDeep m y) → Deeper (goes_trail cs P Go) st m
 deep_trail cs P p F Go n fr lo ri so de zero st m y le h = absurd (not_err h)
@@ -192,11 +193,11 @@ deep_trail {A} cs P p F Go n fr lo ri so de (suc k) st m y le h = elim (pick_cas
   ]
 ]
 
-starts_one : (F : Codes) (ts : List Lexeme) → starts F ts ≡ true → (t : Lexeme) × (us : List Lexeme) × (ts ≡ t ∷ us) × (among F (code t.kind) ≡ true)
+starts_one : (F : Kinds) (ts : List Lexeme) → starts F ts ≡ true → (t : Lexeme) × (us : List Lexeme) × (ts ≡ t ∷ us) × (among F (kind_of t.kind) ≡ true)
 starts_one F [] h = cc
 starts_one F (t ∷ ts) h = (t, ts, refl, h)
 
-deep_costs : {A : Type 0} (late : Bool) (p : Cursor → Outcome A) (F : Codes) (Go : Cursor → Type 0) (n : ℕ) → ((t : Lexeme) → among F (code t.kind) ≡ true → (st : Cursor) → st.toks ≡ t ∷ [] → (d : ℕ) × Go (up d st))
+deep_costs : {A : Type 0} (late : Bool) (p : Cursor → Outcome A) (F : Kinds) (Go : Cursor → Type 0) (n : ℕ) → ((t : Lexeme) → among F (kind_of t.kind) ≡ true → (st : Cursor) → st.toks ≡ t ∷ [] → (d : ℕ) × Go (up d st))
     → ((st : Cursor) (m : ℕ) (y : Bool) → st.left ≤ n → p st ≡ Err (TooDeep m y) → Deeper Go st m)
     → (st : Cursor) (left m : ℕ) (y : Bool) → st.left ≡ left → st.left ≤ n → starts F st.toks ≡ true → run_costs late p st left ≡ Err (TooDeep m y)
     → Deeper (λ z. (z.toks ≡ []) ⊎ ((l : ℕ) × (z.left ≡ suc l) × Go (record z { left = l }))) st m
@@ -209,7 +210,7 @@ deep_costs late p F Go n one de st (suc l) m y e le s h =
     let b = de (record st { left = l }) m y (below st.left l n e le) h in
     (b.0, b.1, b.2, b.3, b.4, b.5, inr (l + b.5, more_left st.left l b.5 e, b.6))
 
-module _ (Sym : Type 0) (Val : Sym → Type 0) (after : Sym → Codes) (R : (s : Sym) → Reading (Val s)) (Q : (s : Sym) → Cursor → Type 0) (P : (s : Sym) → Cursor → Outcome (Val s)) (n : ℕ)
+module _ (Sym : Type 0) (Val : Sym → Type 0) (after : Sym → Kinds) (R : (s : Sym) → Reading (Val s)) (Q : (s : Sym) → Cursor → Type 0) (P : (s : Sym) → Cursor → Outcome (Val s)) (n : ℕ)
     (shr : (s : Sym) (st : Cursor) (v : Val s) (end : Cursor) → R s st v end → length end.toks ≤ length st.toks)
     (frs : (s : Sym) → Frames (R s)) (los : (s : Sym) → Lowers (R s)) (ris : (d : ℕ) (s : Sym) → Rises d (R s))
     (snd : (s : Sym) (st : Cursor) (v : Val s) (end : Cursor) → P s st ≡ Ok (v, end) → R s st v end)

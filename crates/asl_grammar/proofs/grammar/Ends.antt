@@ -1,18 +1,18 @@
 -- The reader comes to an end at every text: a tree or a place where it stops. So every text has a tree or a syntax fault.
-use Rattle.std.proofs.Common.{◌≡◌, ℕ, zero, suc, ◌⊎◌, inl, inr, Bool, true, false, List, [], ◌∷◌, length, Option, Some, None, Ok, Err, refl, subst, sym}
+use Rattle.std.proofs.Common.{◌≡◌, ℕ, zero, suc, ◌⊎◌, inl, inr, Bool, true, false, List, [], ◌∷◌, length, Option, Some, None, Ok, Err, refl}
 use Rattle.asl_syn.specs.declared.code.Fault.{Fault}
 use Rattle.asl_syn.specs.declared.token.Token.{Token}
 use Rattle.asl_syn.specs.declared.tree.Decl.{Decl}
 use Rattle.asl_grammar.specs.declared.error.ParseError.{ParseError}
 use Rattle.asl_grammar.specs.declared.error.ParseError.TheVariants.{OutOfMemory, Syntax, TooDeep}
-use Rattle.asl_grammar.specs.grammar.Kinds.{code}
-use Rattle.asl_grammar.specs.grammar.Cursor.{Lexeme, Cursor, Codes, among, starts, past, extent}
+use Rattle.asl_grammar.specs.grammar.Kinds.{kind_of}
+use Rattle.asl_grammar.specs.grammar.Cursor.{Lexeme, Cursor, Kinds, among, starts, past, extent}
 use Rattle.asl_grammar.specs.grammar.Combinators.{G, tok, opens, into, seq, either, opt, many, by, spanned, scope, closed, trail, costs, follows}
-use Rattle.asl_grammar.specs.grammar.Reader.{Outcome, refused, too_deep, bind, pick, first, run, run_tok, run_opens, open_at, run_many, run_item, run_trail, run_costs, run_follows, parse}
+use Rattle.asl_grammar.specs.grammar.Reader.{Outcome, refused, bind, pick, first, run, run_tok, run_opens, open_at, run_many, run_item, run_trail, run_costs, run_follows, parse}
 use Rattle.asl_grammar.specs.grammar.Rules.{Sym, Val, rule, after, Program}
-use Rattle.asl_grammar.specs.grammar.Syntax.{start, finish, parsed}
+use Rattle.asl_grammar.specs.grammar.Syntax.{start, finish}
 use Rattle.asl_grammar.specs.grammar.Language.{outcome}
-use Rattle.asl_grammar.specs.grammar.Faults.{max_levels, lexemes, Parses, SyntaxFault, refusal, level_fault}
+use Rattle.asl_grammar.specs.grammar.Faults.{max_levels, lexemes, Parses, SyntaxFault}
 use Rattle.asl_grammar.proofs.grammar.Symbols.{parsed_tree}
 use Rattle.asl_grammar.proofs.grammar.Checked.{each, covered}
 use Rattle.asl_grammar.proofs.grammar.Placed.{not_allowed_at, too_many_levels_at}
@@ -34,32 +34,32 @@ ends_pick : {A : Type 0} (b : Bool) (x y : Outcome A) → Ends x → Ends y → 
 ends_pick true x y h k = h
 ends_pick false x y h k = k
 
-ends_tok : (cs : Codes) (st : Cursor) (ts : List Lexeme) → Ends (run_tok cs st ts)
+ends_tok : (cs : Kinds) (st : Cursor) (ts : List Lexeme) → Ends (run_tok cs st ts)
 ends_tok cs st [] = tt
-ends_tok cs st (t ∷ ts) = ends_pick (among cs (code t.kind)) (Ok (t, past t ts st.left)) (refused (t ∷ ts)) tt tt
+ends_tok cs st (t ∷ ts) = ends_pick (among cs (kind_of t.kind)) (Ok (t, past t ts st.left)) (refused (t ∷ ts)) tt tt
 
 ends_open : (t : Lexeme) (ts : List Lexeme) (left : ℕ) → Ends (open_at t ts left)
 ends_open t ts zero = tt
 ends_open t ts (suc l) = tt
 
-ends_opens : (cs : Codes) (left : ℕ) (ts : List Lexeme) → Ends (run_opens cs left ts)
+ends_opens : (cs : Kinds) (left : ℕ) (ts : List Lexeme) → Ends (run_opens cs left ts)
 ends_opens cs left [] = tt
-ends_opens cs left (t ∷ ts) = ends_pick (among cs (code t.kind)) (open_at t ts left) (refused (t ∷ ts)) (ends_open t ts left) tt
+ends_opens cs left (t ∷ ts) = ends_pick (among cs (kind_of t.kind)) (open_at t ts left) (refused (t ∷ ts)) (ends_open t ts left) tt
 
-ends_many : {A : Type 0} (p : Cursor → Outcome A) (cs : Codes) → ((st : Cursor) → Ends (p st)) → (n : ℕ) (st : Cursor) → Ends (run_many p cs n st)
+ends_many : {A : Type 0} (p : Cursor → Outcome A) (cs : Kinds) → ((st : Cursor) → Ends (p st)) → (n : ℕ) (st : Cursor) → Ends (run_many p cs n st)
 ends_many p cs h zero st = tt
 ends_many p cs h (suc n) st =
     ends_pick (starts cs st.toks) (bind (p st) (λ x mid. bind (run_many p cs n mid) (λ xs end. Ok (x ∷ xs, end)))) (Ok ([], st))
     (ends_bind (p st) (λ x mid. bind (run_many p cs n mid) (λ xs end. Ok (x ∷ xs, end))) (h st)
     (λ x mid. ends_bind (run_many p cs n mid) (λ xs end. Ok (x ∷ xs, end)) (ends_many p cs h n mid) (λ xs end. tt))) tt
 
-ends_item : {A : Type 0} (p : Cursor → Outcome A) (F : Codes) (next : Cursor → Outcome (List (Lexeme × A) × Option Lexeme)) → ((st : Cursor) → Ends (p st)) → ((st : Cursor) → Ends (next st)) → (t : Lexeme) (mid : Cursor) → Ends (run_item p F next t mid)
+ends_item : {A : Type 0} (p : Cursor → Outcome A) (F : Kinds) (next : Cursor → Outcome (List (Lexeme × A) × Option Lexeme)) → ((st : Cursor) → Ends (p st)) → ((st : Cursor) → Ends (next st)) → (t : Lexeme) (mid : Cursor) → Ends (run_item p F next t mid)
 ends_item p F next h k t mid =
     ends_pick (starts F mid.toks) (bind (p mid) (λ x m. bind (next m) (λ r end. Ok (((t, x) ∷ r.0, r.1), end)))) (Ok (([], Some t), mid))
     (ends_bind (p mid) (λ x m. bind (next m) (λ r end. Ok (((t, x) ∷ r.0, r.1), end))) (h mid)
     (λ x m. ends_bind (next m) (λ r end. Ok (((t, x) ∷ r.0, r.1), end)) (k m) (λ r end. tt))) tt
 
-ends_trail : {A : Type 0} (cs : Codes) (p : Cursor → Outcome A) (F : Codes) → ((st : Cursor) → Ends (p st)) → (n : ℕ) (st : Cursor) → Ends (run_trail cs p F n st)
+ends_trail : {A : Type 0} (cs : Kinds) (p : Cursor → Outcome A) (F : Kinds) → ((st : Cursor) → Ends (p st)) → (n : ℕ) (st : Cursor) → Ends (run_trail cs p F n st)
 ends_trail cs p F h zero st = tt
 ends_trail cs p F h (suc n) st =
     ends_pick (starts cs st.toks) (bind (run_tok cs st st.toks) (λ t mid. run_item p F (run_trail cs p F n) t mid)) (Ok (([], None), st))

@@ -1,8 +1,8 @@
 -- Where the parser stops: at the first token with which the front doesn't go on.
 use Rattle.std.proofs.Common.{◌≡◌, ℕ, zero, suc, ◌+◌, ◌≤◌, ◌<◌, ◌⊎◌, inl, inr, Bool, true, false, List, [], ◌∷◌, ◌++◌, length, Option, Some, None, Result, Ok, Err, refl, ap, sym, ◌∙◌, subst, arith, append_assoc, length-append}
 use Rattle.asl_grammar.specs.declared.error.ParseError.{ParseError}
-use Rattle.asl_grammar.specs.grammar.Kinds.{code}
-use Rattle.asl_grammar.specs.grammar.Cursor.{Lexeme, Cursor, Codes, among, starts, with_toks, plus, past, extent}
+use Rattle.asl_grammar.specs.grammar.Kinds.{kind_of}
+use Rattle.asl_grammar.specs.grammar.Cursor.{Lexeme, Cursor, Kinds, among, starts, with_toks, plus, past, extent}
 use Rattle.asl_grammar.specs.grammar.Combinators.{G, tok, opens, into, seq, either, opt, many, by, spanned, scope, closed, trail, costs, follows, Reading, reads, reads_all, reads_tok, reads_then, goes, goes_tok, goes_trail}
 use Rattle.asl_grammar.specs.grammar.Reader.{nullable, first, cont, by_one, both, flipped, pick, apart, left_of, Outcome, refused, bind, run, run_tok, run_opens, open_at, run_many, run_item, run_trail, run_costs, run_follows}
 use Rattle.asl_grammar.proofs.grammar.Basics.{both_true, both_three, both_four, both_five, flipped_true, starts_apart, pick_cases, bind_err}
@@ -24,7 +24,7 @@ pick_true b x y n e h = subst (λ z. place (pick z x y) ≤ n) (sym e) h
 pick_false : {A : Type 0} (b : Bool) (x y : Outcome A) (n : ℕ) → b ≡ false → place y ≤ n → place (pick b x y) ≤ n
 pick_false b x y n e h = subst (λ z. place (pick z x y) ≤ n) (sym e) h
 
-viable_many : {A : Type 0} (P : Reading A) (p : Cursor → Outcome A) (C F : Codes) (nl : Bool) (n : ℕ) (Go : Cursor → Type 0) → Takes P F nl → nl ≡ false → Lowers P → Completes P p C n → apart C F ≡ true
+viable_many : {A : Type 0} (P : Reading A) (p : Cursor → Outcome A) (C F : Kinds) (nl : Bool) (n : ℕ) (Go : Cursor → Type 0) → Takes P F nl → nl ≡ false → Lowers P → Completes P p C n → apart C F ≡ true
     → ((st : Cursor) → place (p st) ≤ length st.toks) → ((st : Cursor) → Go st → Begins F st)
     → ((st : Cursor) (a : A) (end : Cursor) → P st a end → end.toks ≡ [] → Go st)
     → ((st : Cursor) → Go st → st.left ≤ n → (more : List Lexeme) → place (p (plus st more)) ≤ length more)
@@ -57,12 +57,12 @@ viable_many {A} P p C F nl n Go takes e0 lo comp ap' sh begins whole via (suc k)
         place_is _ _ _ (run_many_in p F k (plus st more) (plus r.0 more) x (starts_more F st.toks more t.0) one)
         (place_bind (run_many p F k (plus r.0 more)) (λ xs end. Ok (x ∷ xs, end)) _ (ih (omega arith) more (omega arith)) (λ xs end. same _))
 
-place_past : {A : Type 0} (cs : Codes) (p : Cursor → Outcome A) (F : Codes) (k : ℕ) → ((st : Cursor) → place (p st) ≤ length st.toks) → (st : Cursor) (more : List Lexeme) (t : Lexeme) (m : Cursor) → reads_tok cs st t m
+place_past : {A : Type 0} (cs : Kinds) (p : Cursor → Outcome A) (F : Kinds) (k : ℕ) → ((st : Cursor) → place (p st) ≤ length st.toks) → (st : Cursor) (more : List Lexeme) (t : Lexeme) (m : Cursor) → reads_tok cs st t m
     → place (run_item p F (run_trail cs p F k) t (plus m more)) ≤ length more → place (run_trail cs p F (suc k) (plus st more)) ≤ length more
 place_past cs p F k sh st more t m r h =
     place_is _ _ _ (run_trail_in cs p F k (plus st more) t (r.0 ++ more) (more_toks st t r.0 more r.1) r.2 ∙ ap (λ z. run_item p F (run_trail cs p F k) t (plus z more)) (sym r.3)) h
 
-viable_trail : {A : Type 0} (cs : Codes) (P : Reading A) (p : Cursor → Outcome A) (C F : Codes) (nl : Bool) (n : ℕ) (Go : Cursor → Type 0) → Takes P F nl → nl ≡ false → Lowers P → Completes P p C n → apart C cs ≡ true
+viable_trail : {A : Type 0} (cs : Kinds) (P : Reading A) (p : Cursor → Outcome A) (C F : Kinds) (nl : Bool) (n : ℕ) (Go : Cursor → Type 0) → Takes P F nl → nl ≡ false → Lowers P → Completes P p C n → apart C cs ≡ true
     → ((st : Cursor) → place (p st) ≤ length st.toks) → ((st : Cursor) → Go st → Begins F st)
     → ((st : Cursor) (a : A) (end : Cursor) → P st a end → end.toks ≡ [] → Go st)
     → ((st : Cursor) → Go st → st.left ≤ n → (more : List Lexeme) → place (p (plus st more)) ≤ length more)
@@ -124,7 +124,7 @@ viable_trail {A} cs P p C F nl n Go takes e0 lo comp ap' sh begins whole via (su
         place_is _ _ _ (ap (λ z. bind z (λ y z. bind (run_trail cs p F k z) (λ r end. Ok (((x.0, y) ∷ r.0, r.1), end)))) one)
         (place_bind (run_trail cs p F k (plus r.0 more)) (λ v end. Ok (((x.0, x.1) ∷ v.0, v.1), end)) _ (ih (omega (arith, l, lm, le)) more (omega (arith, q, tm, ts, le'))) (λ v end. same _))
 
-module _ (Sym : Type 0) (Val : Sym → Type 0) (after : Sym → Codes) (R : (s : Sym) → Reading (Val s)) (Q : (s : Sym) → Cursor → Type 0) (P : (s : Sym) → Cursor → Outcome (Val s)) (n : ℕ)
+module _ (Sym : Type 0) (Val : Sym → Type 0) (after : Sym → Kinds) (R : (s : Sym) → Reading (Val s)) (Q : (s : Sym) → Cursor → Type 0) (P : (s : Sym) → Cursor → Outcome (Val s)) (n : ℕ)
     (shr : (s : Sym) (st : Cursor) (v : Val s) (end : Cursor) → R s st v end → length end.toks ≤ length st.toks)
     (los : (s : Sym) → Lowers (R s))
     (whole : (s : Sym) (st : Cursor) (v : Val s) (end : Cursor) → R s st v end → end.toks ≡ [] → Q s st)
@@ -244,19 +244,19 @@ pub last_err : {A B : Type 0} (o : Outcome A) (f : A → B) (g : Cursor → Curs
 last_err (Ok r) f g e h = absurd (not_err h)
 last_err (Err e') f g e h = cc
 
-tok_err : (cs : Codes) (st : Cursor) (toks : List Lexeme) (f : ParseError) → run_tok cs st toks ≡ Err f → length toks ≡ left_of f
+tok_err : (cs : Kinds) (st : Cursor) (toks : List Lexeme) (f : ParseError) → run_tok cs st toks ≡ Err f → length toks ≡ left_of f
 tok_err cs st [] f h = err_same h
-tok_err cs st (t ∷ ts) f h = elim (pick_cases (among cs (code t.kind)) (Ok (t, past t ts st.left)) (refused (t ∷ ts)) (Err f) h) [ inl k ↦ absurd (not_err k.1) | inr k ↦ err_same k.1 ]
+tok_err cs st (t ∷ ts) f h = elim (pick_cases (among cs (kind_of t.kind)) (Ok (t, past t ts st.left)) (refused (t ∷ ts)) (Err f) h) [ inl k ↦ absurd (not_err k.1) | inr k ↦ err_same k.1 ]
 
 open_err : (t : Lexeme) (ts : List Lexeme) (l : ℕ) (f : ParseError) → open_at t ts l ≡ Err f → length (t ∷ ts) ≡ left_of f
 open_err t ts zero f h = err_same h
 open_err t ts (suc l) f h = absurd (not_err h)
 
-opens_err : (cs : Codes) (left : ℕ) (toks : List Lexeme) (f : ParseError) → run_opens cs left toks ≡ Err f → length toks ≡ left_of f
+opens_err : (cs : Kinds) (left : ℕ) (toks : List Lexeme) (f : ParseError) → run_opens cs left toks ≡ Err f → length toks ≡ left_of f
 opens_err cs left [] f h = err_same h
-opens_err cs left (t ∷ ts) f h = elim (pick_cases (among cs (code t.kind)) (open_at t ts left) (refused (t ∷ ts)) (Err f) h) [ inl k ↦ open_err t ts left f k.1 | inr k ↦ err_same k.1 ]
+opens_err cs left (t ∷ ts) f h = elim (pick_cases (among cs (kind_of t.kind)) (open_at t ts left) (refused (t ∷ ts)) (Err f) h) [ inl k ↦ open_err t ts left f k.1 | inr k ↦ err_same k.1 ]
 
-fault_many : {A : Type 0} (P : Reading A) (p : Cursor → Outcome A) (F : Codes) (Go : Cursor → Type 0) → Frames P → ((st : Cursor) (a : A) (end : Cursor) → p st ≡ Ok (a, end) → P st a end)
+fault_many : {A : Type 0} (P : Reading A) (p : Cursor → Outcome A) (F : Kinds) (Go : Cursor → Type 0) → Frames P → ((st : Cursor) (a : A) (end : Cursor) → p st ≡ Ok (a, end) → P st a end)
     → ((st : Cursor) (f : ParseError) → p st ≡ Err f → Before Go st f)
     → (k : ℕ) (st : Cursor) (f : ParseError) → run_many p F k st ≡ Err f → Before (λ st. (xs : List A) × (mid : Cursor) × reads_all P st xs mid × Go mid) st f
 fault_many P p F Go fr so fl zero st f h = absurd (not_err h)
@@ -270,7 +270,7 @@ fault_many {A} P p F Go fr so fl (suc k) st f h = elim (pick_cases (starts F st.
   ]
 ]
 
-fault_trail : {A : Type 0} (cs : Codes) (P : Reading A) (p : Cursor → Outcome A) (F : Codes) (Go : Cursor → Type 0) → Frames P → ((st : Cursor) (a : A) (end : Cursor) → p st ≡ Ok (a, end) → P st a end)
+fault_trail : {A : Type 0} (cs : Kinds) (P : Reading A) (p : Cursor → Outcome A) (F : Kinds) (Go : Cursor → Type 0) → Frames P → ((st : Cursor) (a : A) (end : Cursor) → p st ≡ Ok (a, end) → P st a end)
     → ((st : Cursor) (f : ParseError) → p st ≡ Err f → Before Go st f)
     → (k : ℕ) (st : Cursor) (f : ParseError) → run_trail cs p F k st ≡ Err f → Before (goes_trail cs P Go) st f
 fault_trail cs P p F Go fr so fl zero st f h = absurd (not_err h)
@@ -302,7 +302,7 @@ fault_costs : {A : Type 0} (late : Bool) (p : Cursor → Outcome A) (Go : Cursor
 fault_costs late p Go fl st zero f h = ([], st.toks, refl, err_same h, inl refl)
 fault_costs late p Go fl st (suc l) f h = let b = fl (record st { left = l }) f h in (b.0, b.1, b.2, b.3, inr (l, refl, b.4))
 
-module _ (Sym : Type 0) (Val : Sym → Type 0) (after : Sym → Codes) (R : (s : Sym) → Reading (Val s)) (Q : (s : Sym) → Cursor → Type 0) (P : (s : Sym) → Cursor → Outcome (Val s))
+module _ (Sym : Type 0) (Val : Sym → Type 0) (after : Sym → Kinds) (R : (s : Sym) → Reading (Val s)) (Q : (s : Sym) → Cursor → Type 0) (P : (s : Sym) → Cursor → Outcome (Val s))
     (shr : (s : Sym) (st : Cursor) (v : Val s) (end : Cursor) → R s st v end → length end.toks ≤ length st.toks)
     (frs : (s : Sym) → Frames (R s))
     (snd : (s : Sym) (st : Cursor) (v : Val s) (end : Cursor) → P s st ≡ Ok (v, end) → R s st v end)

@@ -1,8 +1,8 @@
 -- With more levels the parser reads the same, up to a token that opened one too many.
 use Rattle.std.proofs.Common.{◌≡◌, ℕ, zero, suc, ◌+◌, ◌≤◌, ◌⊎◌, inl, inr, Bool, true, false, List, [], ◌∷◌, length, Some, None, Ok, Err, refl, ap, sym, subst, arith}
 use Rattle.asl_grammar.specs.declared.error.ParseError.TheVariants.{OutOfMemory, Syntax, TooDeep}
-use Rattle.asl_grammar.specs.grammar.Kinds.{code}
-use Rattle.asl_grammar.specs.grammar.Cursor.{Lexeme, Cursor, Codes, among, starts, past, extent}
+use Rattle.asl_grammar.specs.grammar.Kinds.{kind_of}
+use Rattle.asl_grammar.specs.grammar.Cursor.{Lexeme, Cursor, Kinds, among, starts, past, extent}
 use Rattle.asl_grammar.specs.grammar.Combinators.{G, tok, opens, into, seq, either, opt, many, by, spanned, scope, closed, trail, costs, follows}
 use Rattle.asl_grammar.specs.grammar.Reader.{first, pick, Outcome, refused, bind, run, run_tok, run_opens, open_at, run_many, run_trail, run_costs, run_follows}
 use Rattle.asl_grammar.proofs.grammar.Reading.{place, place_bind, place_many, place_item, place_trail, place_costs, place_follows, shrinks}
@@ -30,9 +30,9 @@ same_pick d false x y x' y' h k = k
 eq_place : (n : ℕ) → n ≤ n
 eq_place n = omega arith
 
-same_tok : (d : ℕ) (cs : Codes) (st : Cursor) (ts : List Lexeme) → Same d (run_tok cs st ts) (run_tok cs (up d st) ts)
+same_tok : (d : ℕ) (cs : Kinds) (st : Cursor) (ts : List Lexeme) → Same d (run_tok cs st ts) (run_tok cs (up d st) ts)
 same_tok d cs st [] = refl
-same_tok d cs st (t ∷ ts) = same_pick d (among cs (code t.kind)) (Ok (t, past t ts st.left)) (refused (t ∷ ts)) (Ok (t, past t ts (st.left + d))) (refused (t ∷ ts)) refl refl
+same_tok d cs st (t ∷ ts) = same_pick d (among cs (kind_of t.kind)) (Ok (t, past t ts st.left)) (refused (t ∷ ts)) (Ok (t, past t ts (st.left + d))) (refused (t ∷ ts)) refl refl
 
 same_open : (d : ℕ) (t : Lexeme) (ts : List Lexeme) (l : ℕ) → place (open_at t ts (l + d)) ≤ length (t ∷ ts) → Same d (open_at t ts l) (open_at t ts (l + d))
 same_open d t ts zero p = p
@@ -42,18 +42,18 @@ place_open : (t : Lexeme) (ts : List Lexeme) (l : ℕ) → place (open_at t ts l
 place_open t ts zero = omega arith
 place_open t ts (suc l) = omega arith
 
-same_opens : (d : ℕ) (cs : Codes) (l : ℕ) (ts : List Lexeme) → Same d (run_opens cs l ts) (run_opens cs (l + d) ts)
+same_opens : (d : ℕ) (cs : Kinds) (l : ℕ) (ts : List Lexeme) → Same d (run_opens cs l ts) (run_opens cs (l + d) ts)
 same_opens d cs l [] = refl
-same_opens d cs l (t ∷ ts) = same_pick d (among cs (code t.kind)) (open_at t ts l) (refused (t ∷ ts)) (open_at t ts (l + d)) (refused (t ∷ ts)) (same_open d t ts l (place_open t ts (l + d))) refl
+same_opens d cs l (t ∷ ts) = same_pick d (among cs (kind_of t.kind)) (open_at t ts l) (refused (t ∷ ts)) (open_at t ts (l + d)) (refused (t ∷ ts)) (same_open d t ts l (place_open t ts (l + d))) refl
 
-same_many : {A : Type 0} (d : ℕ) (p p' : Cursor → Outcome A) (F : Codes) → ((st : Cursor) → Same d (p st) (p' (up d st))) → ((st : Cursor) → place (p' st) ≤ length st.toks) → (n : ℕ) (st : Cursor) → Same d (run_many p F n st) (run_many p' F n (up d st))
+same_many : {A : Type 0} (d : ℕ) (p p' : Cursor → Outcome A) (F : Kinds) → ((st : Cursor) → Same d (p st) (p' (up d st))) → ((st : Cursor) → place (p' st) ≤ length st.toks) → (n : ℕ) (st : Cursor) → Same d (run_many p F n st) (run_many p' F n (up d st))
 same_many d p p' F h sh zero st = refl
 same_many d p p' F h sh (suc n) st = same_pick d (starts F st.toks) _ (Ok ([], st)) _ (Ok ([], up d st))
     (same_bind d (p st) (p' (up d st)) _ _ (h st) (λ x mid. same_bind d (run_many p F n mid) (run_many p' F n (up d mid)) _ _ (same_many d p p' F h sh n mid) (λ xs end. refl) (λ xs end. eq_place _))
     (λ x mid. place_bind (run_many p' F n mid) (λ xs end. Ok (x ∷ xs, end)) _ (place_many p' F sh n mid) (λ xs end. eq_place _)))
     refl
 
-same_trail : {A : Type 0} (d : ℕ) (cs : Codes) (p p' : Cursor → Outcome A) (F : Codes) → ((st : Cursor) → Same d (p st) (p' (up d st))) → ((st : Cursor) → place (p' st) ≤ length st.toks) → (n : ℕ) (st : Cursor) → Same d (run_trail cs p F n st) (run_trail cs p' F n (up d st))
+same_trail : {A : Type 0} (d : ℕ) (cs : Kinds) (p p' : Cursor → Outcome A) (F : Kinds) → ((st : Cursor) → Same d (p st) (p' (up d st))) → ((st : Cursor) → place (p' st) ≤ length st.toks) → (n : ℕ) (st : Cursor) → Same d (run_trail cs p F n st) (run_trail cs p' F n (up d st))
 same_trail d cs p p' F h sh zero st = refl
 same_trail d cs p p' F h sh (suc n) st = same_pick d (starts cs st.toks) _ (Ok (([], None), st)) _ (Ok (([], None), up d st))
     (same_bind d (run_tok cs st st.toks) (run_tok cs (up d st) st.toks) _ _ (same_tok d cs st st.toks)

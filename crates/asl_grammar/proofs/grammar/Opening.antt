@@ -2,8 +2,8 @@
 use Rattle.std.proofs.Common.{Result, ◌≡◌, ℕ, zero, suc, ◌≤◌, ◌⊎◌, inl, inr, Bool, true, false, List, [], ◌∷◌, ◌++◌, length, Some, None, Ok, Err, refl, ap, sym, ◌∙◌, subst, arith, append_assoc}
 use Rattle.asl_grammar.specs.declared.error.ParseError.{ParseError}
 use Rattle.asl_grammar.specs.declared.error.ParseError.TheVariants.{TooDeep}
-use Rattle.asl_grammar.specs.grammar.Kinds.{code}
-use Rattle.asl_grammar.specs.grammar.Cursor.{Lexeme, Cursor, Codes, among, starts, with_toks, past, extent}
+use Rattle.asl_grammar.specs.grammar.Kinds.{kind_of}
+use Rattle.asl_grammar.specs.grammar.Cursor.{Lexeme, Cursor, Kinds, among, starts, with_toks, past, extent}
 use Rattle.asl_grammar.specs.grammar.Combinators.{G, tok, opens, into, seq, either, opt, many, by, spanned, scope, closed, trail, costs, follows, Reading, reads, reads_all, reads_tok, reads_then}
 use Rattle.asl_grammar.specs.grammar.Reader.{nullable, first, cont, by_one, both, flipped, apart, Outcome, refused, run, run_tok, run_opens, open_at, run_many, run_trail, run_costs}
 use Rattle.asl_grammar.proofs.grammar.Basics.{both_true, both_three, both_four, both_five, pick_cases, bind_err}
@@ -15,9 +15,9 @@ use Rattle.asl_grammar.specs.grammar.Opening.{opens_here, full}
 abbrev pub Fuller : (Cursor → Lexeme → Type 0) → Cursor → ℕ → Type 0
 Fuller Fu st n = (front : List Lexeme) × (x : Lexeme) × (us : List Lexeme) × (st.toks ≡ front ++ (x ∷ us)) × (length (x ∷ us) ≡ n) × Fu (with_toks st front) x
 
-tok_not_deep : (cs : Codes) (st : Cursor) (toks : List Lexeme) (n : ℕ) (y : Bool) → run_tok cs st toks ≡ Err (TooDeep n y) → ⊥
+tok_not_deep : (cs : Kinds) (st : Cursor) (toks : List Lexeme) (n : ℕ) (y : Bool) → run_tok cs st toks ≡ Err (TooDeep n y) → ⊥
 tok_not_deep cs st [] n y h = cc
-tok_not_deep cs st (t ∷ ts) n y h = elim (pick_cases (among cs (code t.kind)) (Ok (t, past t ts st.left)) (refused (t ∷ ts)) (Err (TooDeep n y)) h) [ inl k ↦ not_err k.1 | inr k ↦ (let e = k.1 in cc) ]
+tok_not_deep cs st (t ∷ ts) n y h = elim (pick_cases (among cs (kind_of t.kind)) (Ok (t, past t ts st.left)) (refused (t ∷ ts)) (Err (TooDeep n y)) h) [ inl k ↦ not_err k.1 | inr k ↦ (let e = k.1 in cc) ]
 
 deep_same : {A : Type 0} {m n : ℕ} {x y : Bool} → (let o : Result A ParseError = Err (TooDeep m x) in o) ≡ Err (TooDeep n y) → (m ≡ n) × (y ≡ x)
 deep_same h = (cc, cc)
@@ -26,21 +26,21 @@ open_full : (t : Lexeme) (ts : List Lexeme) (l n : ℕ) (y : Bool) → open_at t
 open_full t ts zero n y h = let k = deep_same h in (k.0, refl, k.1)
 open_full t ts (suc l) n y h = absurd (not_err h)
 
-opens_full : (cs : Codes) (left : ℕ) (toks : List Lexeme) (n : ℕ) (y : Bool) → run_opens cs left toks ≡ Err (TooDeep n y) → (t : Lexeme) × (ts : List Lexeme) × (toks ≡ t ∷ ts) × (among cs (code t.kind) ≡ true) × (length (t ∷ ts) ≡ n) × (left ≡ 0) × (y ≡ false)
+opens_full : (cs : Kinds) (left : ℕ) (toks : List Lexeme) (n : ℕ) (y : Bool) → run_opens cs left toks ≡ Err (TooDeep n y) → (t : Lexeme) × (ts : List Lexeme) × (toks ≡ t ∷ ts) × (among cs (kind_of t.kind) ≡ true) × (length (t ∷ ts) ≡ n) × (left ≡ 0) × (y ≡ false)
 opens_full cs left [] n y h = cc
-opens_full cs left (t ∷ ts) n y h = elim (pick_cases (among cs (code t.kind)) (open_at t ts left) (refused (t ∷ ts)) (Err (TooDeep n y)) h) [
+opens_full cs left (t ∷ ts) n y h = elim (pick_cases (among cs (kind_of t.kind)) (open_at t ts left) (refused (t ∷ ts)) (Err (TooDeep n y)) h) [
   | inl k ↦ (let o = open_full t ts left n y k.1 in (t, ts, refl, k.0, o.0, o.1, o.2))
   | inr k ↦ (let e = k.1 in cc)
 ]
 
-starts_one : (F : Codes) (ts : List Lexeme) → starts F ts ≡ true → (t : Lexeme) × (us : List Lexeme) × (ts ≡ t ∷ us) × (among F (code t.kind) ≡ true)
+starts_one : (F : Kinds) (ts : List Lexeme) → starts F ts ≡ true → (t : Lexeme) × (us : List Lexeme) × (ts ≡ t ∷ us) × (among F (kind_of t.kind) ≡ true)
 starts_one F [] h = cc
 starts_one F (t ∷ ts) h = (t, ts, refl, h)
 
 below : (left l n : ℕ) → left ≡ suc l → left ≤ n → l ≤ n
 below left l n e le = omega arith
 
-full_many : {A : Type 0} (P : Reading A) (p : Cursor → Outcome A) (F : Codes) (Fu : Cursor → Lexeme → Type 0) (n : ℕ) (y : Bool) → Frames P → Lowers P → ((st : Cursor) (a : A) (end : Cursor) → p st ≡ Ok (a, end) → P st a end)
+full_many : {A : Type 0} (P : Reading A) (p : Cursor → Outcome A) (F : Kinds) (Fu : Cursor → Lexeme → Type 0) (n : ℕ) (y : Bool) → Frames P → Lowers P → ((st : Cursor) (a : A) (end : Cursor) → p st ≡ Ok (a, end) → P st a end)
     → ((st : Cursor) (m : ℕ) → st.left ≤ n → p st ≡ Err (TooDeep m y) → Fuller Fu st m)
     → (k : ℕ) (st : Cursor) (m : ℕ) → st.left ≤ n → run_many p F k st ≡ Err (TooDeep m y) → Fuller (λ st x. (xs : List A) × (mid : Cursor) × reads_all P st xs mid × Fu mid x) st m
 full_many P p F Fu n y fr lo so de zero st m le h = absurd (not_err h)
@@ -56,7 +56,7 @@ full_many {A} P p F Fu n y fr lo so de (suc k) st m le h = elim (pick_cases (sta
   ]
 ]
 
-full_trail : {A : Type 0} (cs : Codes) (P : Reading A) (p : Cursor → Outcome A) (F : Codes) (Fu : Cursor → Lexeme → Type 0) (n : ℕ) (y : Bool) → Frames P → Lowers P → ((st : Cursor) (a : A) (end : Cursor) → p st ≡ Ok (a, end) → P st a end)
+full_trail : {A : Type 0} (cs : Kinds) (P : Reading A) (p : Cursor → Outcome A) (F : Kinds) (Fu : Cursor → Lexeme → Type 0) (n : ℕ) (y : Bool) → Frames P → Lowers P → ((st : Cursor) (a : A) (end : Cursor) → p st ≡ Ok (a, end) → P st a end)
     → ((st : Cursor) (m : ℕ) → st.left ≤ n → p st ≡ Err (TooDeep m y) → Fuller Fu st m)
     → (k : ℕ) (st : Cursor) (m : ℕ) → st.left ≤ n → run_trail cs p F k st ≡ Err (TooDeep m y)
     → Fuller (λ st x. (xs : List (Lexeme × A)) × (mid : Cursor) × reads_all (reads_then cs P) st xs mid × ((t : Lexeme) × (m : Cursor) × reads_tok cs mid t m × Fu m x)) st m
@@ -83,7 +83,7 @@ full_trail {A} cs P p F Fu n y fr lo so de (suc k) st m le h = elim (pick_cases 
   ]
 ]
 
-full_costs : {A : Type 0} (late : Bool) (p : Cursor → Outcome A) (F : Codes) (Fu : Cursor → Lexeme → Type 0) (n : ℕ) (y : Bool) → ((st : Cursor) (m : ℕ) → st.left ≤ n → p st ≡ Err (TooDeep m y) → Fuller Fu st m)
+full_costs : {A : Type 0} (late : Bool) (p : Cursor → Outcome A) (F : Kinds) (Fu : Cursor → Lexeme → Type 0) (n : ℕ) (y : Bool) → ((st : Cursor) (m : ℕ) → st.left ≤ n → p st ≡ Err (TooDeep m y) → Fuller Fu st m)
     → (st : Cursor) (left m : ℕ) → st.left ≡ left → st.left ≤ n → starts F st.toks ≡ true → run_costs late p st left ≡ Err (TooDeep m y)
     → Fuller (λ z x. opens_here late F y z x ⊎ ((l : ℕ) × (z.left ≡ suc l) × Fu (record z { left = l }) x)) st m
 full_costs late p F Fu n y de st zero m e le s h =
@@ -94,7 +94,7 @@ full_costs late p F Fu n y de st (suc l) m e le s h =
     let b = de (record st { left = l }) m (below st.left l n e le) h in
     (b.0, b.1, b.2, b.3, b.4, inr (l, e, b.5))
 
-module _ (Sym : Type 0) (Val : Sym → Type 0) (after : Sym → Codes) (R : (s : Sym) → Reading (Val s)) (Q : (s : Sym) → Cursor → Lexeme → Type 0) (P : (s : Sym) → Cursor → Outcome (Val s)) (n : ℕ) (y : Bool)
+module _ (Sym : Type 0) (Val : Sym → Type 0) (after : Sym → Kinds) (R : (s : Sym) → Reading (Val s)) (Q : (s : Sym) → Cursor → Lexeme → Type 0) (P : (s : Sym) → Cursor → Outcome (Val s)) (n : ℕ) (y : Bool)
     (shr : (s : Sym) (st : Cursor) (v : Val s) (end : Cursor) → R s st v end → length end.toks ≤ length st.toks)
     (frs : (s : Sym) → Frames (R s)) (los : (s : Sym) → Lowers (R s))
     (snd : (s : Sym) (st : Cursor) (v : Val s) (end : Cursor) → P s st ≡ Ok (v, end) → R s st v end)

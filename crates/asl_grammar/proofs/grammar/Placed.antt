@@ -1,16 +1,16 @@
 -- From the number of tokens that are left where the reader stops, to the syntax fault.
-use Rattle.std.proofs.Common.{◌≡◌, ℕ, suc, ◌+◌, ◌-◌, Bool, true, false, List, [], ◌∷◌, ◌++◌, length, drop, None, Ok, Err, refl, ap, sym, ◌∙◌, subst, arith, length-append}
+use Rattle.std.proofs.Common.{◌≡◌, ℕ, suc, ◌+◌, ◌-◌, Bool, true, false, List, [], ◌∷◌, ◌++◌, length, drop, None, Err, refl, ap, sym, ◌∙◌, subst, arith, length-append}
 use Rattle.asl_syn.specs.declared.code.StaticCode.TheVariants.{S02}
 use Rattle.asl_syn.specs.declared.code.Fault.{Fault}
 use Rattle.asl_syn.specs.declared.token.Span.{Span}
 use Rattle.asl_grammar.specs.declared.error.ParseError.{ParseError}
 use Rattle.asl_grammar.specs.declared.error.ParseError.TheVariants.{Syntax, TooDeep}
 use Rattle.asl_grammar.specs.grammar.Cursor.{Lexeme}
-use Rattle.asl_grammar.specs.grammar.Language.{Front, Answers, Stops, without_end, outcome}
+use Rattle.asl_grammar.specs.grammar.Language.{Answers, Stops, without_end, outcome}
 use Rattle.asl_grammar.specs.grammar.Rules.{Sym, Val, rule, Program}
 use Rattle.asl_grammar.specs.grammar.Syntax.{start}
 use Rattle.asl_grammar.specs.grammar.Opening.{Full}
-use Rattle.asl_grammar.specs.grammar.Faults.{max_levels, NotAllowed, TooManyLevels, refusal, place_of, last_or, opener, before, too_many_at, level_fault}
+use Rattle.asl_grammar.specs.grammar.Faults.{max_levels, NotAllowed, TooManyLevels, refusal, place_of, last_or, opener, before, level_fault}
 use Rattle.asl_grammar.proofs.grammar.Symbols.{same_split}
 use Rattle.asl_grammar.proofs.grammar.Answered.{answered}
 

@@ -1,8 +1,8 @@
 -- The parser reads what the grammar reads.
 use Rattle.std.proofs.Common.{◌≡◌, ℕ, zero, suc, ◌+◌, ◌≤◌, ◌<◌, ◌⊎◌, inl, inr, Bool, true, false, List, [], ◌∷◌, ◌++◌, length, Option, Some, None, Result, Ok, Err, refl, ap, sym, ◌∙◌, subst, arith, length-append}
 use Rattle.asl_grammar.specs.declared.error.ParseError.{ParseError}
-use Rattle.asl_grammar.specs.grammar.Kinds.{code}
-use Rattle.asl_grammar.specs.grammar.Cursor.{Lexeme, Cursor, Codes, among, starts, plus, past, extent}
+use Rattle.asl_grammar.specs.grammar.Kinds.{kind_of}
+use Rattle.asl_grammar.specs.grammar.Cursor.{Lexeme, Cursor, Kinds, among, starts, plus, past, extent}
 use Rattle.asl_grammar.specs.grammar.Combinators.{G, tok, opens, into, seq, either, opt, many, by, spanned, scope, closed, trail, costs, follows, Reading, reads, reads_all, reads_opt, reads_tok, reads_then, reads_trail, reads_follows}
 use Rattle.asl_grammar.specs.grammar.Reader.{nullable, first, cont, by_one, pick, apart, left_of, Outcome, refused, bind, run, run_tok, run_opens, open_at, run_many, run_item, run_trail, run_costs, run_follows}
 use Rattle.asl_grammar.proofs.grammar.Basics.{both_true, both_three, both_four, both_five, flipped_true, starts_append-false, starts_apart, pick_cases, bind_ok}
@@ -25,34 +25,34 @@ place_bind (Err e) f n h k = h
 place_same : (n : ℕ) → n ≤ n
 place_same n = omega arith
 
-place_tok : (cs : Codes) (st : Cursor) (ts : List Lexeme) → place (run_tok cs st ts) ≤ length ts
+place_tok : (cs : Kinds) (st : Cursor) (ts : List Lexeme) → place (run_tok cs st ts) ≤ length ts
 place_tok cs st [] = omega arith
-place_tok cs st (t ∷ ts) = place_pick (among cs (code t.kind)) (Ok (t, past t ts st.left)) (refused (t ∷ ts)) _ (omega arith) (omega arith)
+place_tok cs st (t ∷ ts) = place_pick (among cs (kind_of t.kind)) (Ok (t, past t ts st.left)) (refused (t ∷ ts)) _ (omega arith) (omega arith)
 
 place_open : (t : Lexeme) (ts : List Lexeme) (l : ℕ) → place (open_at t ts l) ≤ length (t ∷ ts)
 place_open t ts zero = omega arith
 place_open t ts (suc l) = omega arith
 
-pub place_opens : (cs : Codes) (l : ℕ) (ts : List Lexeme) → place (run_opens cs l ts) ≤ length ts
+pub place_opens : (cs : Kinds) (l : ℕ) (ts : List Lexeme) → place (run_opens cs l ts) ≤ length ts
 place_opens cs l [] = omega arith
-place_opens cs l (t ∷ ts) = place_pick (among cs (code t.kind)) (open_at t ts l) (refused (t ∷ ts)) _ (place_open t ts l) (omega arith)
+place_opens cs l (t ∷ ts) = place_pick (among cs (kind_of t.kind)) (open_at t ts l) (refused (t ∷ ts)) _ (place_open t ts l) (omega arith)
 
-pub place_many : {A : Type 0} (p : Cursor → Outcome A) (F : Codes) → ((st : Cursor) → place (p st) ≤ length st.toks) → (n : ℕ) (st : Cursor) → place (run_many p F n st) ≤ length st.toks
+pub place_many : {A : Type 0} (p : Cursor → Outcome A) (F : Kinds) → ((st : Cursor) → place (p st) ≤ length st.toks) → (n : ℕ) (st : Cursor) → place (run_many p F n st) ≤ length st.toks
 place_many p F h zero st = omega arith
 place_many p F h (suc n) st = place_pick (starts F st.toks) (bind (p st) (λ x mid. bind (run_many p F n mid) (λ xs end. Ok (x ∷ xs, end)))) (Ok ([], st)) _
     (place_bind (p st) _ _ (h st) (λ x mid. place_bind (run_many p F n mid) (λ xs end. Ok (x ∷ xs, end)) _ (place_many p F h n mid) (λ xs end. place_same _)))
     (omega arith)
 
-pub place_token : (cs : Codes) (st : Cursor) (ts : List Lexeme) → place (run_tok cs st ts) ≤ length ts
+pub place_token : (cs : Kinds) (st : Cursor) (ts : List Lexeme) → place (run_tok cs st ts) ≤ length ts
 place_token cs st ts = place_tok cs st ts
 
-pub place_item : {A : Type 0} (p : Cursor → Outcome A) (F : Codes) (next : Cursor → Outcome (List (Lexeme × A) × Option Lexeme)) → ((st : Cursor) → place (p st) ≤ length st.toks) → ((st : Cursor) → place (next st) ≤ length st.toks)
+pub place_item : {A : Type 0} (p : Cursor → Outcome A) (F : Kinds) (next : Cursor → Outcome (List (Lexeme × A) × Option Lexeme)) → ((st : Cursor) → place (p st) ≤ length st.toks) → ((st : Cursor) → place (next st) ≤ length st.toks)
     → (t : Lexeme) (mid : Cursor) → place (run_item p F next t mid) ≤ length mid.toks
 place_item p F next h k t mid = place_pick (starts F mid.toks) (bind (p mid) (λ x m. bind (next m) (λ r end. Ok (((t, x) ∷ r.0, r.1), end)))) (Ok (([], Some t), mid)) _
     (place_bind (p mid) _ _ (h mid) (λ x m. place_bind (next m) (λ r end. Ok (((t, x) ∷ r.0, r.1), end)) _ (k m) (λ r end. place_same _)))
     (place_same _)
 
-pub place_trail : {A : Type 0} (cs : Codes) (p : Cursor → Outcome A) (F : Codes) → ((st : Cursor) → place (p st) ≤ length st.toks) → (n : ℕ) (st : Cursor) → place (run_trail cs p F n st) ≤ length st.toks
+pub place_trail : {A : Type 0} (cs : Kinds) (p : Cursor → Outcome A) (F : Kinds) → ((st : Cursor) → place (p st) ≤ length st.toks) → (n : ℕ) (st : Cursor) → place (run_trail cs p F n st) ≤ length st.toks
 place_trail cs p F h zero st = place_same _
 place_trail cs p F h (suc n) st = place_pick (starts cs st.toks) (bind (run_tok cs st st.toks) (λ t mid. run_item p F (run_trail cs p F n) t mid)) (Ok (([], None), st)) _
     (place_bind (run_tok cs st st.toks) _ _ (place_tok cs st st.toks) (λ t mid. place_item p F (run_trail cs p F n) h (place_trail cs p F h n) t mid))
@@ -98,10 +98,10 @@ not_ok : {A : Type 0} {x : A} {f : ParseError} → (let o : Result A ParseError 
 not_ok h = cc
 
 -- what `run_tok` and `run_opens` say of the tokens
-pub tok_ok : (cs : Codes) (st : Cursor) (toks : List Lexeme) (a : Lexeme) (end : Cursor) → run_tok cs st toks ≡ Ok (a, end) → (ts : List Lexeme) × (toks ≡ a ∷ ts) × (among cs (code a.kind) ≡ true) × (end ≡ past a ts st.left)
+pub tok_ok : (cs : Kinds) (st : Cursor) (toks : List Lexeme) (a : Lexeme) (end : Cursor) → run_tok cs st toks ≡ Ok (a, end) → (ts : List Lexeme) × (toks ≡ a ∷ ts) × (among cs (kind_of a.kind) ≡ true) × (end ≡ past a ts st.left)
 tok_ok cs st [] a end h = absurd (not_ok h)
-tok_ok cs st (t ∷ ts) a end h = elim (pick_cases (among cs (code t.kind)) (Ok (t, past t ts st.left)) (refused (t ∷ ts)) (Ok (a, end)) h) [
-  | inl k ↦ subst (λ (r : Lexeme × Cursor). (us : List Lexeme) × ((t ∷ ts) ≡ r.0 ∷ us) × (among cs (code r.0.kind) ≡ true) × (r.1 ≡ past r.0 us st.left)) (ok_same k.1) (ts, refl, k.0, refl)
+tok_ok cs st (t ∷ ts) a end h = elim (pick_cases (among cs (kind_of t.kind)) (Ok (t, past t ts st.left)) (refused (t ∷ ts)) (Ok (a, end)) h) [
+  | inl k ↦ subst (λ (r : Lexeme × Cursor). (us : List Lexeme) × ((t ∷ ts) ≡ r.0 ∷ us) × (among cs (kind_of r.0.kind) ≡ true) × (r.1 ≡ past r.0 us st.left)) (ok_same k.1) (ts, refl, k.0, refl)
   | inr k ↦ absurd (not_ok k.1)
 ]
 
@@ -109,21 +109,21 @@ open_ok : (t : Lexeme) (ts : List Lexeme) (left : ℕ) (a : Lexeme) (end : Curso
 open_ok t ts zero a end h = absurd (not_ok h)
 open_ok t ts (suc l) a end h = subst (λ (r : Lexeme × Cursor). (m : ℕ) × (suc l ≡ suc m) × (t ≡ r.0) × (r.1 ≡ past r.0 ts m)) (ok_same h) (l, refl, refl, refl)
 
-pub opens_ok : (cs : Codes) (left : ℕ) (toks : List Lexeme) (a : Lexeme) (end : Cursor) → run_opens cs left toks ≡ Ok (a, end) → (ts : List Lexeme) × (l : ℕ) × (toks ≡ a ∷ ts) × (among cs (code a.kind) ≡ true) × (left ≡ suc l) × (end ≡ past a ts l)
+pub opens_ok : (cs : Kinds) (left : ℕ) (toks : List Lexeme) (a : Lexeme) (end : Cursor) → run_opens cs left toks ≡ Ok (a, end) → (ts : List Lexeme) × (l : ℕ) × (toks ≡ a ∷ ts) × (among cs (kind_of a.kind) ≡ true) × (left ≡ suc l) × (end ≡ past a ts l)
 opens_ok cs left [] a end h = absurd (not_ok h)
-opens_ok cs left (t ∷ ts) a end h = elim (pick_cases (among cs (code t.kind)) (open_at t ts left) (refused (t ∷ ts)) (Ok (a, end)) h) [
-  | inl k ↦ (let o = open_ok t ts left a end k.1 in (ts, o.0, ap (λ x. x ∷ ts) o.2, ap (λ (x : Lexeme). among cs (code x.kind)) (sym o.2) ∙ k.0, o.1, o.3))
+opens_ok cs left (t ∷ ts) a end h = elim (pick_cases (among cs (kind_of t.kind)) (open_at t ts left) (refused (t ∷ ts)) (Ok (a, end)) h) [
+  | inl k ↦ (let o = open_ok t ts left a end k.1 in (ts, o.0, ap (λ x. x ∷ ts) o.2, ap (λ (x : Lexeme). among cs (kind_of x.kind)) (sym o.2) ∙ k.0, o.1, o.3))
   | inr k ↦ absurd (not_ok k.1)
 ]
 
-pub sound_many : {A : Type 0} (p : Cursor → Outcome A) (P : Reading A) (F : Codes) → ((st : Cursor) (a : A) (end : Cursor) → p st ≡ Ok (a, end) → P st a end) → (n : ℕ) (st : Cursor) (xs : List A) (end : Cursor) → run_many p F n st ≡ Ok (xs, end) → reads_all P st xs end
+pub sound_many : {A : Type 0} (p : Cursor → Outcome A) (P : Reading A) (F : Kinds) → ((st : Cursor) (a : A) (end : Cursor) → p st ≡ Ok (a, end) → P st a end) → (n : ℕ) (st : Cursor) (xs : List A) (end : Cursor) → run_many p F n st ≡ Ok (xs, end) → reads_all P st xs end
 sound_many p P F h zero st xs end e = ok_to (reads_all P) st [] st xs end e refl
 sound_many p P F h (suc n) st xs end e = elim (pick_cases (starts F st.toks) _ (Ok ([], st)) (Ok (xs, end)) e) [
   | inl k ↦ (let o = bind_ok (p st) _ xs end k.1 in let o' = bind_ok (run_many p F n o.1) _ xs end o.3 in ok_to (reads_all P) st (o.0 ∷ o'.0) o'.1 xs end o'.3 (o.1, h st o.0 o.1 o.2, sound_many p P F h n o.1 o'.0 o'.1 o'.2))
   | inr k ↦ ok_to (reads_all P) st [] st xs end k.1 refl
 ]
 
-pub sound_trail : {A : Type 0} (cs : Codes) (p : Cursor → Outcome A) (P : Reading A) (F : Codes) → ((st : Cursor) (a : A) (end : Cursor) → p st ≡ Ok (a, end) → P st a end)
+pub sound_trail : {A : Type 0} (cs : Kinds) (p : Cursor → Outcome A) (P : Reading A) (F : Kinds) → ((st : Cursor) (a : A) (end : Cursor) → p st ≡ Ok (a, end) → P st a end)
     → (n : ℕ) (st : Cursor) (a : List (Lexeme × A) × Option Lexeme) (end : Cursor) → run_trail cs p F n st ≡ Ok (a, end) → reads_trail cs P st a end
 sound_trail cs p P F h zero st a end e = ok_to (reads_trail cs P) st ([], None) st a end e (st, refl, refl)
 sound_trail cs p P F h (suc n) st a end e = elim (pick_cases (starts cs st.toks) _ (Ok (([], None), st)) (Ok (a, end)) e) [
@@ -186,44 +186,44 @@ module _ (Sym : Type 0) (Val : Sym → Type 0) (R : (s : Sym) → Reading (Val s
 
 -- ---- what the grammar reads the parser reads, with more behind it by which it doesn't go on
 
-pub starts_more : (F : Codes) (ts more : List Lexeme) → starts F ts ≡ true → starts F (ts ++ more) ≡ true
+pub starts_more : (F : Kinds) (ts more : List Lexeme) → starts F ts ≡ true → starts F (ts ++ more) ≡ true
 starts_more F [] more h = cc
 starts_more F (t ∷ ts) more h = h
 
 -- the tokens after p, where q follows, are none by which p goes on
-pub follow : (C F : Codes) (n : Bool) (C' : Codes) (mid end : Cursor) (more : List Lexeme) → apart C F ≡ true → TookAs F n mid end → starts (C' ++ pick n C []) (end.toks ++ more) ≡ false → starts C (mid.toks ++ more) ≡ false
+pub follow : (C F : Kinds) (n : Bool) (C' : Kinds) (mid end : Cursor) (more : List Lexeme) → apart C F ≡ true → TookAs F n mid end → starts (C' ++ pick n C []) (end.toks ++ more) ≡ false → starts C (mid.toks ++ more) ≡ false
 follow C F n C' mid end more a (inl h) c = starts_apart C F (mid.toks ++ more) a (starts_more F mid.toks more h.0)
 follow C F n C' mid end more a (inr h) c =
     let k : starts (pick n C []) (end.toks ++ more) ≡ false = (starts_append-false C' (pick n C []) (end.toks ++ more) c).1 in
     let k' : starts C (end.toks ++ more) ≡ false = subst (λ b. starts (pick b C []) (end.toks ++ more) ≡ false) h.0 k in
     ap (λ ts. starts C (ts ++ more)) (sym h.1) ∙ k'
 
-follow_many : (C F : Codes) (mid end : Cursor) (more : List Lexeme) → apart C F ≡ true → TookAs F true mid end → starts (F ++ C) (end.toks ++ more) ≡ false → starts C (mid.toks ++ more) ≡ false
+follow_many : (C F : Kinds) (mid end : Cursor) (more : List Lexeme) → apart C F ≡ true → TookAs F true mid end → starts (F ++ C) (end.toks ++ more) ≡ false → starts C (mid.toks ++ more) ≡ false
 follow_many C F mid end more a (inl h) c = starts_apart C F (mid.toks ++ more) a (starts_more F mid.toks more h.0)
 follow_many C F mid end more a (inr h) c = ap (λ ts. starts C (ts ++ more)) (sym h.1) ∙ (starts_append-false F C (end.toks ++ more) c).1
 
-pub run_tok_at : (cs : Codes) (st : Cursor) (toks : List Lexeme) (t : Lexeme) (ts : List Lexeme) → toks ≡ t ∷ ts → among cs (code t.kind) ≡ true → run_tok cs st toks ≡ Ok (t, past t ts st.left)
+pub run_tok_at : (cs : Kinds) (st : Cursor) (toks : List Lexeme) (t : Lexeme) (ts : List Lexeme) → toks ≡ t ∷ ts → among cs (kind_of t.kind) ≡ true → run_tok cs st toks ≡ Ok (t, past t ts st.left)
 run_tok_at cs st toks t ts e m = ap (run_tok cs st) e ∙ ap (λ b. pick b (Ok (t, past t ts st.left)) (refused (t ∷ ts))) m
 
-pub run_opens_at : (cs : Codes) (left l : ℕ) (toks : List Lexeme) (t : Lexeme) (ts : List Lexeme) → toks ≡ t ∷ ts → among cs (code t.kind) ≡ true → left ≡ suc l → run_opens cs left toks ≡ Ok (t, past t ts l)
+pub run_opens_at : (cs : Kinds) (left l : ℕ) (toks : List Lexeme) (t : Lexeme) (ts : List Lexeme) → toks ≡ t ∷ ts → among cs (kind_of t.kind) ≡ true → left ≡ suc l → run_opens cs left toks ≡ Ok (t, past t ts l)
 run_opens_at cs left l toks t ts e m lv = ap (run_opens cs left) e ∙ ap (λ b. pick b (open_at t ts left) (refused (t ∷ ts))) m ∙ ap (open_at t ts) lv
 
 span_more : (ts more : List Lexeme) (l : ℕ) → 0 < length ts → extent (ts ++ more) l ≡ extent ts l
 span_more [] more l h = absurd (omega arith)
 span_more (t ∷ ts) more l h = refl
 
-pub run_many_in : {A : Type 0} (p : Cursor → Outcome A) (F : Codes) (n : ℕ) (st mid : Cursor) (x : A) → starts F st.toks ≡ true → p st ≡ Ok (x, mid) → run_many p F (suc n) st ≡ bind (run_many p F n mid) (λ xs end. Ok (x ∷ xs, end))
+pub run_many_in : {A : Type 0} (p : Cursor → Outcome A) (F : Kinds) (n : ℕ) (st mid : Cursor) (x : A) → starts F st.toks ≡ true → p st ≡ Ok (x, mid) → run_many p F (suc n) st ≡ bind (run_many p F n mid) (λ xs end. Ok (x ∷ xs, end))
 run_many_in p F n st mid x s e = ap (λ b. pick b (bind (p st) (λ x mid. bind (run_many p F n mid) (λ xs end. Ok (x ∷ xs, end)))) (Ok ([], st))) s ∙ ap (λ o. bind o (λ x mid. bind (run_many p F n mid) (λ xs end. Ok (x ∷ xs, end)))) e
 
-pub run_many_out : {A : Type 0} (p : Cursor → Outcome A) (F : Codes) (n : ℕ) (st : Cursor) → starts F st.toks ≡ false → run_many p F n st ≡ Ok ([], st)
+pub run_many_out : {A : Type 0} (p : Cursor → Outcome A) (F : Kinds) (n : ℕ) (st : Cursor) → starts F st.toks ≡ false → run_many p F n st ≡ Ok ([], st)
 run_many_out p F zero st s = refl
 run_many_out p F (suc n) st s = ap (λ b. pick b (bind (p st) (λ x mid. bind (run_many p F n mid) (λ xs end. Ok (x ∷ xs, end)))) (Ok ([], st))) s
 
 -- what one item needs
-abbrev pub Completes : {A : Type 0} → Reading A → (Cursor → Outcome A) → Codes → ℕ → Type 0
+abbrev pub Completes : {A : Type 0} → Reading A → (Cursor → Outcome A) → Kinds → ℕ → Type 0
 Completes {A} P p C n = (st : Cursor) (a : A) (end : Cursor) → P st a end → st.left ≤ n → (more : List Lexeme) → starts C (end.toks ++ more) ≡ false → p (plus st more) ≡ Ok (a, plus end more)
 
-complete_many : {A : Type 0} (P : Reading A) (p : Cursor → Outcome A) (C F : Codes) (nl : Bool) (n : ℕ) → Takes P F nl → nl ≡ false → Lowers P → Completes P p C n → apart C F ≡ true
+complete_many : {A : Type 0} (P : Reading A) (p : Cursor → Outcome A) (C F : Kinds) (nl : Bool) (n : ℕ) → Takes P F nl → nl ≡ false → Lowers P → Completes P p C n → apart C F ≡ true
     → (k : ℕ) (xs : List A) (st end : Cursor) → reads_all P st xs end → st.left ≤ n → (more : List Lexeme) → starts (F ++ C) (end.toks ++ more) ≡ false → length st.toks + length more ≤ k → run_many p F k (plus st more) ≡ Ok (xs, plus end more)
 complete_many P p C F nl n takes e0 lo comp ap' k [] st end r le more c le' =
     let s : starts F (st.toks ++ more) ≡ false = ap (λ (z : Cursor). starts F (z.toks ++ more)) (sym r) ∙ (starts_append-false F C (end.toks ++ more) c).0 in
@@ -240,7 +240,7 @@ complete_many P p C F nl n takes e0 lo comp ap' (suc k) (x ∷ xs) st end r le m
     run_many_in p F k (plus st more) (plus r.0 more) x (starts_more F st.toks more t.0) one
     ∙ ap (λ o. bind o (λ xs end. Ok (x ∷ xs, end))) (complete_many P p C F nl n takes e0 lo comp ap' k xs r.0 end r.2 (omega arith) more c (omega arith))
 
-complete_opt : {A : Type 0} (P : Reading A) (p : Cursor → Outcome A) (C F : Codes) (nl : Bool) (n : ℕ) → Takes P F nl → nl ≡ false → Completes P p C n
+complete_opt : {A : Type 0} (P : Reading A) (p : Cursor → Outcome A) (C F : Kinds) (nl : Bool) (n : ℕ) → Takes P F nl → nl ≡ false → Completes P p C n
     → (a : Option A) (st end : Cursor) → reads_opt P st a end → st.left ≤ n → (more : List Lexeme) → starts (F ++ C) (end.toks ++ more) ≡ false → pick (starts F (st.toks ++ more)) (bind (p (plus st more)) (λ x end. Ok (Some x, end))) (Ok (None, plus st more)) ≡ Ok (a, plus end more)
 complete_opt P p C F nl n takes e0 comp None st end r le more c =
     let s : starts F (st.toks ++ more) ≡ false = ap (λ (z : Cursor). starts F (z.toks ++ more)) (sym r) ∙ (starts_append-false F C (end.toks ++ more) c).0 in
@@ -250,30 +250,30 @@ complete_opt P p C F nl n takes e0 comp (Some x) st end r le more c =
     ap (λ b. pick b (bind (p (plus st more)) (λ x end. Ok (Some x, end))) (Ok (None, plus st more))) s
     ∙ ap (λ o. bind o (λ x end. Ok (Some x, end))) (comp st x end r le more (starts_append-false F C (end.toks ++ more) c).1)
 
-pub run_trail_out : {A : Type 0} (cs : Codes) (p : Cursor → Outcome A) (F : Codes) (n : ℕ) (st : Cursor) → starts cs st.toks ≡ false → run_trail cs p F n st ≡ Ok (([], None), st)
+pub run_trail_out : {A : Type 0} (cs : Kinds) (p : Cursor → Outcome A) (F : Kinds) (n : ℕ) (st : Cursor) → starts cs st.toks ≡ false → run_trail cs p F n st ≡ Ok (([], None), st)
 run_trail_out cs p F zero st s = refl
 run_trail_out cs p F (suc n) st s = ap (λ b. pick b (bind (run_tok cs st st.toks) (λ t mid. run_item p F (run_trail cs p F n) t mid)) (Ok (([], None), st))) s
 
-pub run_trail_in : {A : Type 0} (cs : Codes) (p : Cursor → Outcome A) (F : Codes) (n : ℕ) (st : Cursor) (t : Lexeme) (ts : List Lexeme) → st.toks ≡ t ∷ ts → among cs (code t.kind) ≡ true → run_trail cs p F (suc n) st ≡ run_item p F (run_trail cs p F n) t (past t ts st.left)
+pub run_trail_in : {A : Type 0} (cs : Kinds) (p : Cursor → Outcome A) (F : Kinds) (n : ℕ) (st : Cursor) (t : Lexeme) (ts : List Lexeme) → st.toks ≡ t ∷ ts → among cs (kind_of t.kind) ≡ true → run_trail cs p F (suc n) st ≡ run_item p F (run_trail cs p F n) t (past t ts st.left)
 run_trail_in cs p F n st t ts e m =
     ap (λ b. pick b (bind (run_tok cs st st.toks) (λ t mid. run_item p F (run_trail cs p F n) t mid)) (Ok (([], None), st))) (ap (starts cs) e ∙ m)
     ∙ ap (λ o. bind o (λ t mid. run_item p F (run_trail cs p F n) t mid)) (run_tok_at cs st st.toks t ts e m)
 
-pub run_item_out : {A : Type 0} (p : Cursor → Outcome A) (F : Codes) (next : Cursor → Outcome (List (Lexeme × A) × Option Lexeme)) (t : Lexeme) (mid : Cursor) → starts F mid.toks ≡ false → run_item p F next t mid ≡ Ok (([], Some t), mid)
+pub run_item_out : {A : Type 0} (p : Cursor → Outcome A) (F : Kinds) (next : Cursor → Outcome (List (Lexeme × A) × Option Lexeme)) (t : Lexeme) (mid : Cursor) → starts F mid.toks ≡ false → run_item p F next t mid ≡ Ok (([], Some t), mid)
 run_item_out p F next t mid s = ap (λ b. pick b (bind (p mid) (λ x m. bind (next m) (λ r end. Ok (((t, x) ∷ r.0, r.1), end)))) (Ok (([], Some t), mid))) s
 
-pub run_item_in : {A : Type 0} (p : Cursor → Outcome A) (F : Codes) (next : Cursor → Outcome (List (Lexeme × A) × Option Lexeme)) (t : Lexeme) (mid : Cursor) → starts F mid.toks ≡ true → run_item p F next t mid ≡ bind (p mid) (λ x m. bind (next m) (λ r end. Ok (((t, x) ∷ r.0, r.1), end)))
+pub run_item_in : {A : Type 0} (p : Cursor → Outcome A) (F : Kinds) (next : Cursor → Outcome (List (Lexeme × A) × Option Lexeme)) (t : Lexeme) (mid : Cursor) → starts F mid.toks ≡ true → run_item p F next t mid ≡ bind (p mid) (λ x m. bind (next m) (λ r end. Ok (((t, x) ∷ r.0, r.1), end)))
 run_item_in p F next t mid s = ap (λ b. pick b (bind (p mid) (λ x m. bind (next m) (λ r end. Ok (((t, x) ∷ r.0, r.1), end)))) (Ok (([], Some t), mid))) s
 
 pub more_toks : (st : Cursor) (t : Lexeme) (ts more : List Lexeme) → st.toks ≡ t ∷ ts → (plus st more).toks ≡ t ∷ (ts ++ more)
 more_toks st t ts more e = ap (λ us. us ++ more) e
 
 -- behind an item no item goes on
-pub follow_trail : (C cs F : Codes) (mid end : Cursor) (more : List Lexeme) → apart C cs ≡ true → TookAs cs true mid end → starts (cs ++ (F ++ C)) (end.toks ++ more) ≡ false → starts C (mid.toks ++ more) ≡ false
+pub follow_trail : (C cs F : Kinds) (mid end : Cursor) (more : List Lexeme) → apart C cs ≡ true → TookAs cs true mid end → starts (cs ++ (F ++ C)) (end.toks ++ more) ≡ false → starts C (mid.toks ++ more) ≡ false
 follow_trail C cs F mid end more a (inl h) c = starts_apart C cs (mid.toks ++ more) a (starts_more cs mid.toks more h.0)
 follow_trail C cs F mid end more a (inr h) c = ap (λ ts. starts C (ts ++ more)) (sym h.1) ∙ (starts_append-false F C (end.toks ++ more) (starts_append-false cs (F ++ C) (end.toks ++ more) c).1).1
 
-complete_sep : {A : Type 0} (cs : Codes) (p : Cursor → Outcome A) (C F : Codes) (k : ℕ) (o : Option Lexeme) (st end : Cursor) → reads_opt (reads_tok cs) st o end → (more : List Lexeme) → starts (cs ++ (F ++ C)) (end.toks ++ more) ≡ false → length st.toks + length more ≤ k → run_trail cs p F k (plus st more) ≡ Ok (([], o), plus end more)
+complete_sep : {A : Type 0} (cs : Kinds) (p : Cursor → Outcome A) (C F : Kinds) (k : ℕ) (o : Option Lexeme) (st end : Cursor) → reads_opt (reads_tok cs) st o end → (more : List Lexeme) → starts (cs ++ (F ++ C)) (end.toks ++ more) ≡ false → length st.toks + length more ≤ k → run_trail cs p F k (plus st more) ≡ Ok (([], o), plus end more)
 complete_sep cs p C F k None st end r more c le =
     let s : starts cs (st.toks ++ more) ≡ false = ap (λ (z : Cursor). starts cs (z.toks ++ more)) (sym r) ∙ (starts_append-false cs (F ++ C) (end.toks ++ more) c).0 in
     run_trail_out cs p F k (plus st more) s ∙ ap (λ z. Ok (([], None), plus z more)) (sym r)
@@ -284,7 +284,7 @@ complete_sep cs p C F (suc k) (Some t) st end r more c le =
     ∙ ap (λ z. run_item p F (run_trail cs p F k) t (plus z more)) (sym r.3)
     ∙ run_item_out p F (run_trail cs p F k) t (plus end more) s
 
-complete_trail : {A : Type 0} (cs : Codes) (P : Reading A) (p : Cursor → Outcome A) (C F : Codes) (nl : Bool) (n : ℕ) → Takes P F nl → nl ≡ false → Lowers P → Completes P p C n → apart C cs ≡ true
+complete_trail : {A : Type 0} (cs : Kinds) (P : Reading A) (p : Cursor → Outcome A) (C F : Kinds) (nl : Bool) (n : ℕ) → Takes P F nl → nl ≡ false → Lowers P → Completes P p C n → apart C cs ≡ true
     → (k : ℕ) (xs : List (Lexeme × A)) (o : Option Lexeme) (st mid end : Cursor) → reads_all (reads_then cs P) st xs mid → reads_opt (reads_tok cs) mid o end → st.left ≤ n → (more : List Lexeme) → starts (cs ++ (F ++ C)) (end.toks ++ more) ≡ false → length st.toks + length more ≤ k → run_trail cs p F k (plus st more) ≡ Ok ((xs, o), plus end more)
 complete_trail cs P p C F nl n takes e0 lo comp ap' k [] o st mid end r ro le more c le' = complete_sep cs p C F k o st end (subst (λ z. reads_opt (reads_tok cs) z o end) r ro) more c le'
 complete_trail cs P p C F nl n takes e0 lo comp ap' zero (x ∷ xs) o st mid end r ro le more c le' = let q : length st.toks ≡ suc (length r.1.1.0) = ap length r.1.1.1 in absurd (omega arith)
@@ -305,7 +305,7 @@ complete_trail cs P p C F nl n takes e0 lo comp ap' (suc k) (x ∷ xs) o st mid 
     ∙ ap (λ z. bind z (λ y m. bind (run_trail cs p F k m) (λ r end. Ok (((x.0, y) ∷ r.0, r.1), end)))) one
     ∙ ap (λ z. bind z (λ r end. Ok (((x.0, x.1) ∷ r.0, r.1), end))) (complete_trail cs P p C F nl n takes e0 lo comp ap' k xs o r.0 mid end r.2 ro (omega arith) more c (omega arith))
 
-complete_follows : {A B C : Type 0} (P : Reading (A ⊎ B)) (p : Cursor → Outcome (A ⊎ B)) (Q : Reading C) (q : Cursor → Outcome C) (K F' K' : Codes) (n' : Bool) (n : ℕ) → Takes Q F' n' → Lowers P → Completes P p K n → Completes Q q K' n → apart K F' ≡ true
+complete_follows : {A B C : Type 0} (P : Reading (A ⊎ B)) (p : Cursor → Outcome (A ⊎ B)) (Q : Reading C) (q : Cursor → Outcome C) (K F' K' : Kinds) (n' : Bool) (n : ℕ) → Takes Q F' n' → Lowers P → Completes P p K n → Completes Q q K' n → apart K F' ≡ true
     → (a : A ⊎ (B × C)) (st end : Cursor) → reads_follows P Q st a end → st.left ≤ n → (more : List Lexeme) → starts (K' ++ K) (end.toks ++ more) ≡ false → bind (p (plus st more)) (λ x mid. run_follows q x mid) ≡ Ok (a, plus end more)
 complete_follows P p Q q K F' K' n' n tq lo cp cq apt (inl a) st end r le more c =
     ap (λ o. bind o (λ x mid. run_follows q x mid)) (cp st (inl a) end r le more (starts_append-false K' K (end.toks ++ more) c).1)
@@ -315,11 +315,11 @@ complete_follows P p Q q K F' K' n' n tq lo cp cq apt (inr a) st end r le more c
     ap (λ o. bind o (λ x mid. run_follows q x mid)) (cp st (inr a.0) r.0 r.1 le more (follow_two K F' n' r.0 end more apt (tq r.0 a.1 end r.2) c2.1))
     ∙ ap (λ o. bind o (λ z end. Ok (inr (a.0, z), end))) (cq r.0 a.1 end r.2 (omega arith) more c2.0)
   where
-    follow_two : (K F' : Codes) (n' : Bool) (mid end : Cursor) (more : List Lexeme) → apart K F' ≡ true → TookAs F' n' mid end → starts K (end.toks ++ more) ≡ false → starts K (mid.toks ++ more) ≡ false
+    follow_two : (K F' : Kinds) (n' : Bool) (mid end : Cursor) (more : List Lexeme) → apart K F' ≡ true → TookAs F' n' mid end → starts K (end.toks ++ more) ≡ false → starts K (mid.toks ++ more) ≡ false
     follow_two K F' n' mid end more a (inl h) c = starts_apart K F' (mid.toks ++ more) a (starts_more F' mid.toks more h.0)
     follow_two K F' n' mid end more a (inr h) c = ap (λ ts. starts K (ts ++ more)) (sym h.1) ∙ c
 
-module _ (Sym : Type 0) (Val : Sym → Type 0) (after : Sym → Codes) (R : (s : Sym) → Reading (Val s)) (P : (s : Sym) → Cursor → Outcome (Val s)) (n : ℕ)
+module _ (Sym : Type 0) (Val : Sym → Type 0) (after : Sym → Kinds) (R : (s : Sym) → Reading (Val s)) (P : (s : Sym) → Cursor → Outcome (Val s)) (n : ℕ)
     (shr : (s : Sym) (st : Cursor) (v : Val s) (end : Cursor) → R s st v end → length end.toks ≤ length st.toks)
     (los : (s : Sym) → Lowers (R s))
     (hyp : (s : Sym) (st : Cursor) (v : Val s) (end : Cursor) → R s st v end → suc st.left ≤ n → (more : List Lexeme) → starts (after s) (end.toks ++ more) ≡ false → P s (plus st more) ≡ Ok (v, plus end more)) where

@@ -1,16 +1,16 @@
 -- What every reading does: it takes tokens from the front, whatever follows them, and opens levels.
 use Rattle.std.proofs.Common.{◌≡◌, ℕ, suc, ◌≤◌, ◌<◌, ◌⊎◌, inl, inr, Bool, true, false, List, [], ◌∷◌, ◌++◌, length, Option, Some, None, refl, ap, sym, ◌∙◌, subst, arith, append_assoc}
-use Rattle.asl_grammar.specs.grammar.Kinds.{code}
-use Rattle.asl_grammar.specs.grammar.Cursor.{Lexeme, Cursor, Codes, among, starts, with_toks, extent}
+use Rattle.asl_grammar.specs.grammar.Kinds.{kind_of}
+use Rattle.asl_grammar.specs.grammar.Cursor.{Lexeme, Cursor, Kinds, among, starts, with_toks, extent}
 use Rattle.asl_grammar.specs.grammar.Combinators.{G, tok, opens, into, seq, either, opt, many, by, spanned, scope, closed, trail, costs, follows, Reading, reads, reads_all, reads_opt, reads_tok, reads_then, reads_trail, reads_follows, goes, goes_trail}
 use Rattle.asl_grammar.specs.grammar.Reader.{nullable, first, cont, by_one, both, pick, apart}
 use Rattle.asl_grammar.proofs.grammar.Basics.{both_true, both_four, flipped_true, starts_left, starts_right}
 
 -- it takes a token of F, or, if it may be empty, none
-abbrev pub TookAs : Codes → Bool → Cursor → Cursor → Type 0
+abbrev pub TookAs : Kinds → Bool → Cursor → Cursor → Type 0
 TookAs F n st end = ((starts F st.toks ≡ true) × (length end.toks < length st.toks)) ⊎ ((n ≡ true) × (end.toks ≡ st.toks))
 
-abbrev pub Takes : {A : Type 0} → Reading A → Codes → Bool → Type 0
+abbrev pub Takes : {A : Type 0} → Reading A → Kinds → Bool → Type 0
 Takes {A} P F n = (st : Cursor) (a : A) (end : Cursor) → P st a end → TookAs F n st end
 
 abbrev pub Framed : {A : Type 0} → Reading A → Cursor → A → Cursor → Type 0
@@ -22,10 +22,10 @@ Frames {A} P = (st : Cursor) (a : A) (end : Cursor) → P st a end → Framed P 
 abbrev pub Lowers : {A : Type 0} → Reading A → Type 0
 Lowers {A} P = (st : Cursor) (a : A) (end : Cursor) → P st a end → end.left ≤ st.left
 
-pub took_one : (cs : Codes) (st end : Cursor) (t : Lexeme) (ts : List Lexeme) → st.toks ≡ t ∷ ts → among cs (code t.kind) ≡ true → length end.toks ≤ length ts → (starts cs st.toks ≡ true) × (length end.toks < length st.toks)
+pub took_one : (cs : Kinds) (st end : Cursor) (t : Lexeme) (ts : List Lexeme) → st.toks ≡ t ∷ ts → among cs (kind_of t.kind) ≡ true → length end.toks ≤ length ts → (starts cs st.toks ≡ true) × (length end.toks < length st.toks)
 took_one cs st end t ts e m le = (ap (starts cs) e ∙ m, (let q : length st.toks ≡ suc (length ts) = ap length e in omega arith))
 
-pub took_all : {A : Type 0} (P : Reading A) (F : Codes) (n : Bool) → Takes P F n → (xs : List A) (st end : Cursor) → reads_all P st xs end → TookAs F true st end
+pub took_all : {A : Type 0} (P : Reading A) (F : Kinds) (n : Bool) → Takes P F n → (xs : List A) (st end : Cursor) → reads_all P st xs end → TookAs F true st end
 took_all P F n takes [] st end r = inr (refl, ap (λ (c : Cursor). c.toks) r)
 took_all P F n takes (x ∷ xs) st end r = go (takes st x r.0 r.1) (took_all P F n takes xs r.0 end r.2)
   where
@@ -35,51 +35,51 @@ took_all P F n takes (x ∷ xs) st end r = go (takes st x r.0 r.1) (took_all P F
     go (inr h) (inl k) = inl (ap (starts F) (sym h.1) ∙ k.0, (let q : length r.0.toks ≡ length st.toks = ap length h.1 in omega arith))
     go (inr h) (inr k) = inr (refl, k.1 ∙ h.1)
 
-pub took_seq : (F F' : Codes) (n n' : Bool) (st mid end : Cursor) → TookAs F n st mid → TookAs F' n' mid end → TookAs (F ++ pick n F' []) (both n n') st end
+pub took_seq : (F F' : Kinds) (n n' : Bool) (st mid end : Cursor) → TookAs F n st mid → TookAs F' n' mid end → TookAs (F ++ pick n F' []) (both n n') st end
 took_seq F F' n n' st mid end (inl h) (inl k) = inl (starts_left F _ st.toks h.0, omega arith)
 took_seq F F' n n' st mid end (inl h) (inr k) = inl (starts_left F _ st.toks h.0, (let q : length end.toks ≡ length mid.toks = ap length k.1 in omega arith))
 took_seq F F' n n' st mid end (inr h) (inl k) = inl (starts_right F _ st.toks (rw h.0 (ap (starts F') (sym h.1) ∙ k.0)), (let q : length mid.toks ≡ length st.toks = ap length h.1 in omega arith))
 took_seq F F' n n' st mid end (inr h) (inr k) = inr (rw h.0 k.0, k.1 ∙ h.1)
 
 -- what may not be empty took a token
-pub took_some : (F : Codes) (n : Bool) (st end : Cursor) → n ≡ false → TookAs F n st end → (starts F st.toks ≡ true) × (length end.toks < length st.toks)
+pub took_some : (F : Kinds) (n : Bool) (st end : Cursor) → n ≡ false → TookAs F n st end → (starts F st.toks ≡ true) × (length end.toks < length st.toks)
 took_some F n st end e (inl h) = h
 took_some F n st end e (inr h) = cc
 
-pub took_either : (F F' : Codes) (n n' : Bool) (st end : Cursor) → n ≡ false → n' ≡ false → TookAs F n st end ⊎ TookAs F' n' st end → TookAs (F ++ F') false st end
+pub took_either : (F F' : Kinds) (n n' : Bool) (st end : Cursor) → n ≡ false → n' ≡ false → TookAs F n st end ⊎ TookAs F' n' st end → TookAs (F ++ F') false st end
 took_either F F' n n' st end e e' (inl h) = let k = took_some F n st end e h in inl (starts_left F F' st.toks k.0, k.1)
 took_either F F' n n' st end e e' (inr h) = let k = took_some F' n' st end e' h in inl (starts_right F F' st.toks k.0, k.1)
 
-pub took_opt : {A : Type 0} (P : Reading A) (F : Codes) (n : Bool) → Takes P F n → n ≡ false → (a : Option A) (st end : Cursor) → reads_opt P st a end → TookAs F true st end
+pub took_opt : {A : Type 0} (P : Reading A) (F : Kinds) (n : Bool) → Takes P F n → n ≡ false → (a : Option A) (st end : Cursor) → reads_opt P st a end → TookAs F true st end
 took_opt P F n takes e None st end r = inr (refl, ap (λ (c : Cursor). c.toks) r)
 took_opt P F n takes e (Some x) st end r = inl (took_some F n st end e (takes st x end r))
 
-pub took_scope : (F : Codes) (n : Bool) (st mid end : Cursor) → end.toks ≡ mid.toks → TookAs F n st mid → TookAs F n st end
+pub took_scope : (F : Kinds) (n : Bool) (st mid end : Cursor) → end.toks ≡ mid.toks → TookAs F n st mid → TookAs F n st end
 took_scope F n st mid end e h = subst (λ ts. ((starts F st.toks ≡ true) × (length ts < length st.toks)) ⊎ ((n ≡ true) × (ts ≡ st.toks))) (sym e) h
 
-pub took_twice : (F : Codes) (st mid end : Cursor) → TookAs F true st mid → TookAs F true mid end → TookAs F true st end
+pub took_twice : (F : Kinds) (st mid end : Cursor) → TookAs F true st mid → TookAs F true mid end → TookAs F true st end
 took_twice F st mid end (inl h) (inl k) = inl (h.0, omega arith)
 took_twice F st mid end (inl h) (inr k) = inl (h.0, (let q : length end.toks ≡ length mid.toks = ap length k.1 in omega arith))
 took_twice F st mid end (inr h) (inl k) = inl (ap (starts F) (sym h.1) ∙ k.0, (let q : length mid.toks ≡ length st.toks = ap length h.1 in omega arith))
 took_twice F st mid end (inr h) (inr k) = inr (refl, k.1 ∙ h.1)
 
-pub took_less : (F : Codes) (n : Bool) (st end : Cursor) → TookAs F n st end → length end.toks ≤ length st.toks
+pub took_less : (F : Kinds) (n : Bool) (st end : Cursor) → TookAs F n st end → length end.toks ≤ length st.toks
 took_less F n st end (inl h) = let k : length end.toks < length st.toks = h.1 in omega arith
 took_less F n st end (inr h) = let q : length end.toks ≡ length st.toks = ap length h.1 in omega arith
 
-pub took_tok : (cs : Codes) → Takes (reads_tok cs) cs false
+pub took_tok : (cs : Kinds) → Takes (reads_tok cs) cs false
 took_tok cs st a end r = inl (took_one cs st end a r.0 r.1 r.2 (let q : length end.toks ≡ length r.0 = ap (λ (c : Cursor). length c.toks) r.3 in omega arith))
 
-pub took_then : {A : Type 0} (cs : Codes) (P : Reading A) (F : Codes) (n : Bool) → Takes P F n → Takes (reads_then cs P) cs false
+pub took_then : {A : Type 0} (cs : Kinds) (P : Reading A) (F : Kinds) (n : Bool) → Takes P F n → Takes (reads_then cs P) cs false
 took_then cs P F n takes st a end r =
     let k : length end.toks ≤ length r.0.toks = took_less F n r.0 end (takes r.0 a.1 end r.2) in
     let q : length r.0.toks ≡ length r.1.0 = ap (λ (c : Cursor). length c.toks) r.1.3 in
     inl (took_one cs st end a.0 r.1.0 r.1.1 r.1.2 (omega arith))
 
-pub took_trail : {A : Type 0} (cs : Codes) (P : Reading A) (F : Codes) (n : Bool) → Takes P F n → (a : List (Lexeme × A) × Option Lexeme) (st end : Cursor) → reads_trail cs P st a end → TookAs cs true st end
+pub took_trail : {A : Type 0} (cs : Kinds) (P : Reading A) (F : Kinds) (n : Bool) → Takes P F n → (a : List (Lexeme × A) × Option Lexeme) (st end : Cursor) → reads_trail cs P st a end → TookAs cs true st end
 took_trail cs P F n takes a st end r = took_twice cs st r.0 end (took_all (reads_then cs P) cs false (took_then cs P F n takes) a.0 st r.0 r.1) (took_opt (reads_tok cs) cs false (took_tok cs) refl a.1 r.0 end r.2)
 
-pub took_follows : {A B C : Type 0} (P : Reading (A ⊎ B)) (Q : Reading C) (F F' : Codes) (n n' : Bool) → Takes P F n → Takes Q F' n' → n ≡ false → (a : A ⊎ (B × C)) (st end : Cursor) → reads_follows P Q st a end → TookAs F false st end
+pub took_follows : {A B C : Type 0} (P : Reading (A ⊎ B)) (Q : Reading C) (F F' : Kinds) (n n' : Bool) → Takes P F n → Takes Q F' n' → n ≡ false → (a : A ⊎ (B × C)) (st end : Cursor) → reads_follows P Q st a end → TookAs F false st end
 took_follows P Q F F' n n' tp tq e (inl a) st end r = inl (took_some F n st end e (tp st (inl a) end r))
 took_follows P Q F F' n n' tp tq e (inr a) st end r =
     let h = took_some F n st r.0 e (tp st (inr a.0) r.0 r.1) in
@@ -87,7 +87,7 @@ took_follows P Q F F' n n' tp tq e (inr a) st end r =
     let k : length end.toks ≤ length r.0.toks = took_less F' n' r.0 end (tq r.0 a.1 end r.2) in
     inl (h.0, omega arith)
 
-module _ (Sym : Type 0) (Val : Sym → Type 0) (after : Sym → Codes) (R : (s : Sym) → Reading (Val s)) where
+module _ (Sym : Type 0) (Val : Sym → Type 0) (after : Sym → Kinds) (R : (s : Sym) → Reading (Val s)) where
   pub took : ((s : Sym) (st : Cursor) (v : Val s) (end : Cursor) → R s st v end → length end.toks ≤ length st.toks) → {A : Type 0} (g : G Sym Val A) → by_one after g ≡ true → Takes (reads R g) (first g) (nullable g)
   took shr (tok cs) w st a end r = inl (took_one cs st end a r.0 r.1 r.2 (let q : length end.toks ≡ length r.0 = ap (λ (c : Cursor). length c.toks) r.3 in omega arith))
   took shr (opens cs) w st a end r = inl (took_one cs st end a r.0 r.2 r.3 (let q : length end.toks ≡ length r.0 = ap (λ (c : Cursor). length c.toks) r.5 in omega arith))
@@ -134,13 +134,13 @@ pub frame_opt : {A : Type 0} (P : Reading A) → Frames P → (a : Option A) (st
 frame_opt P fr None st end r = framed_none (reads_opt P) st None end r (λ us. ap (λ c. with_toks c us) r)
 frame_opt P fr (Some x) st end r = fr st x end r
 
-pub frames_tok : (cs : Codes) → Frames (reads_tok cs)
+pub frames_tok : (cs : Kinds) → Frames (reads_tok cs)
 frames_tok cs st a end r = (a ∷ [], r.1 ∙ ap (λ (c : Cursor). a ∷ c.toks) (sym r.3), (λ us. (us, refl, r.2, ap (λ c. with_toks c us) r.3)))
 
-pub frames_then : {A : Type 0} (cs : Codes) (P : Reading A) → Frames P → Frames (reads_then cs P)
+pub frames_then : {A : Type 0} (cs : Kinds) (P : Reading A) → Frames P → Frames (reads_then cs P)
 frames_then cs P fr st a end r = framed_seq (reads_tok cs) P st r.0 end a.0 a.1 (frames_tok cs st a.0 r.0 r.1) (fr r.0 a.1 end r.2)
 
-pub frames_trail : {A : Type 0} (cs : Codes) (P : Reading A) → Frames P → Frames (reads_trail cs P)
+pub frames_trail : {A : Type 0} (cs : Kinds) (P : Reading A) → Frames P → Frames (reads_trail cs P)
 frames_trail cs P fr st a end r = framed_seq (reads_all (reads_then cs P)) (reads_opt (reads_tok cs)) st r.0 end a.0 a.1 (frame_all (reads_then cs P) (frames_then cs P fr) a.0 st r.0 r.1) (frame_opt (reads_tok cs) (frames_tok cs) a.1 r.0 end r.2)
 
 frame_follows : {A B C : Type 0} (P : Reading (A ⊎ B)) (Q : Reading C) → Frames P → Frames Q → (a : A ⊎ (B × C)) (st end : Cursor) → reads_follows P Q st a end → Framed (reads_follows P Q) st a end
@@ -151,7 +151,7 @@ span_frame : (c ts rest us : List Lexeme) (l : ℕ) → ts ≡ c ++ rest → len
 span_frame [] ts rest us l e lt = let q : length ts ≡ length rest = ap length e in absurd (omega arith)
 span_frame (t ∷ c) ts rest us l e lt = ap (λ x. extent x l) e
 
-module _ (Sym : Type 0) (Val : Sym → Type 0) (after : Sym → Codes) (R : (s : Sym) → Reading (Val s))
+module _ (Sym : Type 0) (Val : Sym → Type 0) (after : Sym → Kinds) (R : (s : Sym) → Reading (Val s))
     (shr : (s : Sym) (st : Cursor) (v : Val s) (end : Cursor) → R s st v end → length end.toks ≤ length st.toks) (frs : (s : Sym) → Frames (R s)) where
   pub frame : {A : Type 0} (g : G Sym Val A) → by_one after g ≡ true → Frames (reads R g)
   frame (tok cs) w st a end r = (a ∷ [], r.1 ∙ ap (λ (c : Cursor). a ∷ c.toks) (sym r.3), (λ us. (us, refl, r.2, ap (λ c. with_toks c us) r.3)))
@@ -196,13 +196,13 @@ lowers_opt : {A : Type 0} (P : Reading A) → Lowers P → (a : Option A) (st en
 lowers_opt P lo None st end r = let q : end.left ≡ st.left = ap (λ (c : Cursor). c.left) r in omega arith
 lowers_opt P lo (Some x) st end r = lo st x end r
 
-pub lowers_tok : (cs : Codes) → Lowers (reads_tok cs)
+pub lowers_tok : (cs : Kinds) → Lowers (reads_tok cs)
 lowers_tok cs st a end r = let q : end.left ≡ st.left = ap (λ (c : Cursor). c.left) r.3 in omega arith
 
-pub lowers_then : {A : Type 0} (cs : Codes) (P : Reading A) → Lowers P → Lowers (reads_then cs P)
+pub lowers_then : {A : Type 0} (cs : Kinds) (P : Reading A) → Lowers P → Lowers (reads_then cs P)
 lowers_then cs P lo st a end r = let h : r.0.left ≤ st.left = lowers_tok cs st a.0 r.0 r.1 in let k : end.left ≤ r.0.left = lo r.0 a.1 end r.2 in omega arith
 
-pub lowers_trail : {A : Type 0} (cs : Codes) (P : Reading A) → Lowers P → Lowers (reads_trail cs P)
+pub lowers_trail : {A : Type 0} (cs : Kinds) (P : Reading A) → Lowers P → Lowers (reads_trail cs P)
 lowers_trail cs P lo st a end r =
     let h : r.0.left ≤ st.left = lowers_all (reads_then cs P) (lowers_then cs P lo) a.0 st r.0 r.1 in
     let k : end.left ≤ r.0.left = lowers_opt (reads_tok cs) (lowers_tok cs) a.1 r.0 end r.2 in
@@ -257,7 +257,7 @@ module _ (Sym : Type 0) (Val : Sym → Type 0) (R : (s : Sym) → Reading (Val s
   whole_opt p f None st end r e = empty_goes p st (ap (λ (c : Cursor). c.toks) (sym r) ∙ e)
   whole_opt p f (Some x) st end r e = f x st end r e
 
-  whole_trail : {A : Type 0} (cs : Codes) (P : Reading A) (Go : Cursor → Type 0) (xs : List (Lexeme × A)) (o : Option Lexeme) (st mid end : Cursor) → reads_all (reads_then cs P) st xs mid → reads_opt (reads_tok cs) mid o end → end.toks ≡ [] → goes_trail cs P Go st
+  whole_trail : {A : Type 0} (cs : Kinds) (P : Reading A) (Go : Cursor → Type 0) (xs : List (Lexeme × A)) (o : Option Lexeme) (st mid end : Cursor) → reads_all (reads_then cs P) st xs mid → reads_opt (reads_tok cs) mid o end → end.toks ≡ [] → goes_trail cs P Go st
   whole_trail cs P Go xs None st mid end r o e = (xs, mid, r, inl (inl (ap (λ (c : Cursor). c.toks) (sym o) ∙ e)))
   whole_trail cs P Go xs (Some t) st mid end r o e = (xs, mid, r, inl (inr (t, o.1 ∙ ap (λ ts. t ∷ ts) (ap (λ (c : Cursor). c.toks) (sym o.3) ∙ e), o.2)))
 
@@ -283,33 +283,33 @@ module _ (Sym : Type 0) (Val : Sym → Type 0) (R : (s : Sym) → Reading (Val s
   whole_goes hyp (costs late p) a st end r e = inr (r.0, r.1, whole_goes hyp p a (record st { left = r.0 }) end r.2 e)
   whole_goes hyp (follows p q) a st end r e = whole_follows p q (whole_goes hyp p) (whole_goes hyp q) a st end r e
 
-abbrev pub Begins : Codes → Cursor → Type 0
+abbrev pub Begins : Kinds → Cursor → Type 0
 Begins F st = (st.toks ≡ []) ⊎ (starts F st.toks ≡ true)
 
-begins_left : (F F' : Codes) (st : Cursor) → Begins F st → Begins (F ++ F') st
+begins_left : (F F' : Kinds) (st : Cursor) → Begins F st → Begins (F ++ F') st
 begins_left F F' st (inl h) = inl h
 begins_left F F' st (inr h) = inr (starts_left F F' st.toks h)
 
-begins_right : (F F' : Codes) (st : Cursor) → Begins F' st → Begins (F ++ F') st
+begins_right : (F F' : Kinds) (st : Cursor) → Begins F' st → Begins (F ++ F') st
 begins_right F F' st (inl h) = inl h
 begins_right F F' st (inr h) = inr (starts_right F F' st.toks h)
 
-begins_behind : (F F' : Codes) (n : Bool) (st mid : Cursor) → TookAs F n st mid → Begins F' mid → Begins (F ++ pick n F' []) st
+begins_behind : (F F' : Kinds) (n : Bool) (st mid : Cursor) → TookAs F n st mid → Begins F' mid → Begins (F ++ pick n F' []) st
 begins_behind F F' n st mid (inl h) b = inr (starts_left F _ st.toks h.0)
 begins_behind F F' n st mid (inr h) b = rw h.0 (begins_right F F' st (subst (λ ts. (ts ≡ []) ⊎ (starts F' ts ≡ true)) h.1 b))
 
-begins_many : (F : Codes) (st mid : Cursor) → TookAs F true st mid → Begins F mid → Begins F st
+begins_many : (F : Kinds) (st mid : Cursor) → TookAs F true st mid → Begins F mid → Begins F st
 begins_many F st mid (inl h) b = inr h.0
 begins_many F st mid (inr h) b = subst (λ ts. (ts ≡ []) ⊎ (starts F ts ≡ true)) h.1 b
 
-begins_trail : {A : Type 0} (cs : Codes) (P : Reading A) (Go : Cursor → Type 0) (F : Codes) (n : Bool) → Takes P F n → (st : Cursor) → goes_trail cs P Go st → Begins cs st
+begins_trail : {A : Type 0} (cs : Kinds) (P : Reading A) (Go : Cursor → Type 0) (F : Kinds) (n : Bool) → Takes P F n → (st : Cursor) → goes_trail cs P Go st → Begins cs st
 begins_trail cs P Go F n takes st h = begins_many cs st h.1 (took_all (reads_then cs P) cs false (took_then cs P F n takes) h.0 st h.1 h.2)
     (elim h.3 [
       | inl e ↦ elim e [ inl z ↦ inl z | inr k ↦ inr (ap (starts cs) k.1 ∙ k.2) ]
       | inr k ↦ inr (ap (starts cs) k.2.1 ∙ k.2.2)
     ])
 
-module _ (Sym : Type 0) (Val : Sym → Type 0) (after : Sym → Codes) (R : (s : Sym) → Reading (Val s)) (Q : (s : Sym) → Cursor → Type 0)
+module _ (Sym : Type 0) (Val : Sym → Type 0) (after : Sym → Kinds) (R : (s : Sym) → Reading (Val s)) (Q : (s : Sym) → Cursor → Type 0)
     (shr : (s : Sym) (st : Cursor) (v : Val s) (end : Cursor) → R s st v end → length end.toks ≤ length st.toks) where
   -- a front that isn't nothing begins with a token that may come first
   pub goes_begins : {A : Type 0} (g : G Sym Val A) → by_one after g ≡ true → (st : Cursor) → goes R Q g st → Begins (first g) st

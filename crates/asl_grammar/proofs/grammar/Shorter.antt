@@ -1,7 +1,7 @@
 -- Each front of a front goes on.
 use Rattle.std.proofs.Common.{◌≡◌, ℕ, zero, suc, ◌+◌, ◌≤◌, ◌⊎◌, inl, inr, true, false, List, [], ◌∷◌, ◌++◌, length, Option, Some, None, refl, ap, sym, ◌∙◌, subst, arith, length-append}
-use Rattle.asl_grammar.specs.grammar.Cursor.{Lexeme, Cursor, Codes, among, with_toks, past}
-use Rattle.asl_grammar.specs.grammar.Kinds.{code}
+use Rattle.asl_grammar.specs.grammar.Cursor.{Lexeme, Cursor, Kinds, among, with_toks, past}
+use Rattle.asl_grammar.specs.grammar.Kinds.{kind_of}
 use Rattle.asl_grammar.specs.grammar.Combinators.{G, tok, opens, into, seq, either, opt, many, by, spanned, scope, closed, trail, costs, follows, Reading, reads, reads_all, reads_opt, reads_tok, reads_then, reads_trail, reads_follows, goes, goes_tok, goes_trail, Reads, Goes}
 use Rattle.asl_grammar.specs.grammar.Reader.{nullable, first, cont, by_one, apart, covers}
 use Rattle.asl_grammar.specs.grammar.Syntax.{start, GoesOn}
@@ -61,14 +61,14 @@ split P st a mid f front more e = elim (split_at f.0 mid.toks front more (sym f.
   | inr k ↦ inr (k.0, k.1, subst (λ ts. P (with_toks st ts) a (with_toks mid k.0)) (sym k.2) (f.2 k.0))
 ]
 
-inside_tok : (cs : Codes) → Inside (reads_tok cs) (goes_tok cs)
+inside_tok : (cs : Kinds) → Inside (reads_tok cs) (goes_tok cs)
 inside_tok cs st a end r front more e l = elim (first_token a r.0 front more (sym r.1 ∙ e)) [
   | inl z ↦ inl z
   | inr k ↦ (let q : length end.toks ≡ length r.0 = ap (λ (c : Cursor). length c.toks) r.3 in let n : length r.0 ≤ length more = omega arith in
       inr (a, k.1 ∙ ap (λ us. a ∷ us) (no_rest k.0 more r.0 k.2 n), r.2))
 ]
 
-cuts_tok : (cs : Codes) → Cuts (goes_tok cs)
+cuts_tok : (cs : Kinds) → Cuts (goes_tok cs)
 cuts_tok cs st (inl z) front more e = inl (no_front front more (sym e ∙ z))
 cuts_tok cs st (inr h) front more e = elim (first_token h.0 [] front more (sym h.1 ∙ e)) [
   | inl z ↦ inl z
@@ -95,36 +95,36 @@ cuts_all P Go fr nil ins cut st h front more e = elim (split (reads_all P) st h.
 ]
 
 -- a token, and behind it a front
-abbrev ThenGoes : Codes → (Cursor → Type 0) → Cursor → Type 0
+abbrev ThenGoes : Kinds → (Cursor → Type 0) → Cursor → Type 0
 ThenGoes cs Go st = goes_tok cs st ⊎ ((t : Lexeme) × (m : Cursor) × reads_tok cs st t m × Go m)
 
-inside_then : {A : Type 0} (cs : Codes) (P : Reading A) (Go : Cursor → Type 0) → Inside P Go → Inside (reads_then cs P) (ThenGoes cs Go)
+inside_then : {A : Type 0} (cs : Kinds) (P : Reading A) (Go : Cursor → Type 0) → Inside P Go → Inside (reads_then cs P) (ThenGoes cs Go)
 inside_then cs P Go ins st a end r front more e l = elim (split (reads_tok cs) st a.0 r.0 (frames_tok cs st a.0 r.0 r.1) front more e) [
   | inl n ↦ inl (inside_tok cs st a.0 r.0 r.1 front more e n)
   | inr k ↦ inr (a.0, with_toks r.0 k.0, k.2, ins r.0 a.1 end r.2 k.0 more k.1 l)
 ]
 
-cuts_then : (cs : Codes) (Go : Cursor → Type 0) → Cuts Go → Cuts (ThenGoes cs Go)
+cuts_then : (cs : Kinds) (Go : Cursor → Type 0) → Cuts Go → Cuts (ThenGoes cs Go)
 cuts_then cs Go cut st (inl h) front more e = inl (cuts_tok cs st h front more e)
 cuts_then cs Go cut st (inr h) front more e = elim (split (reads_tok cs) st h.0 h.1 (frames_tok cs st h.0 h.1 h.2) front more e) [
   | inl n ↦ inl (inside_tok cs st h.0 h.1 h.2 front more e n)
   | inr k ↦ inr (h.0, with_toks h.1 k.0, k.2, cut h.1 h.3 k.0 more k.1)
 ]
 
-inside_last : (cs : Codes) (o : Option Lexeme) (st end : Cursor) → reads_opt (reads_tok cs) st o end → (front more : List Lexeme) → st.toks ≡ front ++ more → length end.toks ≤ length more → goes_tok cs (with_toks st front)
+inside_last : (cs : Kinds) (o : Option Lexeme) (st end : Cursor) → reads_opt (reads_tok cs) st o end → (front more : List Lexeme) → st.toks ≡ front ++ more → length end.toks ≤ length more → goes_tok cs (with_toks st front)
 inside_last cs None st end r front more e l =
     let q : length end.toks ≡ length st.toks = ap (λ (c : Cursor). length c.toks) r in
     let n : length st.toks ≤ length more = omega arith in
     inl (no_rest front more st.toks e n)
 inside_last cs (Some t) st end r front more e l = inside_tok cs st t end r front more e l
 
-inside_trail : {A : Type 0} (cs : Codes) (P : Reading A) (Go : Cursor → Type 0) → Frames P → Inside P Go → Inside (reads_trail cs P) (goes_trail cs P Go)
+inside_trail : {A : Type 0} (cs : Kinds) (P : Reading A) (Go : Cursor → Type 0) → Frames P → Inside P Go → Inside (reads_trail cs P) (goes_trail cs P Go)
 inside_trail cs P Go fr ins st a end r front more e l = elim (split (reads_all (reads_then cs P)) st a.0 r.0 (frame_all (reads_then cs P) (frames_then cs P fr) a.0 st r.0 r.1) front more e) [
   | inl n ↦ inside_all (reads_then cs P) (ThenGoes cs Go) (frames_then cs P fr) (λ c z. inl (inl z)) (inside_then cs P Go ins) a.0 st r.0 r.1 front more e n
   | inr k ↦ (a.0, with_toks r.0 k.0, k.2, inl (inside_last cs a.1 r.0 end r.2 k.0 more k.1 l))
 ]
 
-module _ (Sym : Type 0) (Val : Sym → Type 0) (after : Sym → Codes) (R : (s : Sym) → Reading (Val s)) (Q : (s : Sym) → Cursor → Type 0)
+module _ (Sym : Type 0) (Val : Sym → Type 0) (after : Sym → Kinds) (R : (s : Sym) → Reading (Val s)) (Q : (s : Sym) → Cursor → Type 0)
     (shr : (s : Sym) (st : Cursor) (v : Val s) (end : Cursor) → R s st v end → length end.toks ≤ length st.toks) (frs : (s : Sym) → Frames (R s))
     (ins : (s : Sym) → Inside (R s) (Q s)) where
   inside_opt : {A : Type 0} (p : G Sym Val A) → Inside (reads R p) (goes R Q p) → Inside (reads_opt (reads R p)) (goes R Q p)
@@ -134,7 +134,7 @@ module _ (Sym : Type 0) (Val : Sym → Type 0) (after : Sym → Codes) (R : (s :
       empty_goes Sym Val R Q p (with_toks st front) (no_rest front more st.toks e n)
   inside_opt p f st (Some x) end r front more e l = f st x end r front more e l
 
-  inside_symbol : (cs : Codes) (s : Sym) (st : Cursor) (t : Lexeme) (ts : List Lexeme) (l : ℕ) (v : Val s) (end : Cursor) → st.toks ≡ t ∷ ts → among cs (code t.kind) ≡ true → st.left ≡ suc l → R s (past t ts l) v end
+  inside_symbol : (cs : Kinds) (s : Sym) (st : Cursor) (t : Lexeme) (ts : List Lexeme) (l : ℕ) (v : Val s) (end : Cursor) → st.toks ≡ t ∷ ts → among cs (kind_of t.kind) ≡ true → st.left ≡ suc l → R s (past t ts l) v end
       → (front more : List Lexeme) → st.toks ≡ front ++ more → length end.toks ≤ length more → goes R Q (into cs s) (with_toks st front)
   inside_symbol cs s st t ts l v end is one some r front more e n = elim (first_token t ts front more (sym is ∙ e)) [
     | inl z ↦ inl z
@@ -181,14 +181,14 @@ module _ (Sym : Type 0) (Val : Sym → Type 0) (after : Sym → Codes) (R : (s :
       inside_follows p q (frame Sym Val after R shr frs p k.0) (inside p k.0) (inside q k.1) st a end r front more e l
 
   module _ (cut : (s : Sym) → Cuts (Q s)) where
-    cuts_symbol : (cs : Codes) (s : Sym) → Cuts (goes R Q (into cs s))
+    cuts_symbol : (cs : Kinds) (s : Sym) → Cuts (goes R Q (into cs s))
     cuts_symbol cs s st (inl z) front more e = inl (no_front front more (sym e ∙ z))
     cuts_symbol cs s st (inr h) front more e = elim (first_token h.0 h.1 front more (sym h.3 ∙ e)) [
       | inl z ↦ inl z
       | inr k ↦ inr (h.0, k.0, h.2, k.1, h.4, h.5, cut s (past h.0 h.1 h.2) h.6 k.0 more k.2)
     ]
 
-    cuts_opens : (cs : Codes) → Cuts (goes R Q (opens cs))
+    cuts_opens : (cs : Kinds) → Cuts (goes R Q (opens cs))
     cuts_opens cs st (inl z) front more e = inl (no_front front more (sym e ∙ z))
     cuts_opens cs st (inr h) front more e = elim (first_token h.0 [] front more (sym h.2 ∙ e)) [
       | inl z ↦ inl z
@@ -233,7 +233,7 @@ module _ (Sym : Type 0) (Val : Sym → Type 0) (after : Sym → Codes) (R : (s :
           ])
         ]
 
-module _ (Sym : Type 0) (Val : Sym → Type 0) (rule : (s : Sym) → G Sym Val (Val s)) (after : Sym → Codes)
+module _ (Sym : Type 0) (Val : Sym → Type 0) (rule : (s : Sym) → G Sym Val (Val s)) (after : Sym → Kinds)
     (each : (s : Sym) → by_one after (rule s) ≡ true) (covered : (s : Sym) → covers (after s) (cont after (rule s)) ≡ true) where
   inside_n : (n : ℕ) (s : Sym) → Inside (Reads Sym Val rule n s) (Goes Sym Val rule n s)
   inside_n zero s st a end r front more e l = elim r [ ]

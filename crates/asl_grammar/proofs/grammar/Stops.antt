@@ -1,7 +1,7 @@
 -- The token that the grammar names as the one that opens a level too many is the one that the reader names.
 use Rattle.std.proofs.Common.{◌≡◌, ℕ, zero, suc, ◌≤◌, ◌<◌, inl, inr, Bool, true, false, List, [], ◌∷◌, ◌++◌, length, Some, None, Ok, Err, ap, sym, ◌∙◌, subst, arith, length-append}
 use Rattle.asl_grammar.specs.declared.error.ParseError.TheVariants.{TooDeep}
-use Rattle.asl_grammar.specs.grammar.Cursor.{Lexeme, Cursor, Codes, starts, plus, past, extent}
+use Rattle.asl_grammar.specs.grammar.Cursor.{Lexeme, Cursor, Kinds, starts, plus, past, extent}
 use Rattle.asl_grammar.specs.grammar.Combinators.{G, tok, opens, into, seq, either, opt, many, by, spanned, scope, closed, trail, costs, follows, Reading, reads, reads_all, reads_tok, reads_then}
 use Rattle.asl_grammar.specs.grammar.Reader.{nullable, first, cont, by_one, both, flipped, pick, apart, Outcome, refused, bind, run, run_opens, open_at, run_many, run_item, run_trail, run_costs, run_follows}
 use Rattle.asl_grammar.specs.grammar.Opening.{opens_here, full}
@@ -9,18 +9,18 @@ use Rattle.asl_grammar.proofs.grammar.Basics.{both_true, both_three, both_four, 
 use Rattle.asl_grammar.proofs.grammar.Readings.{TookAs, Takes, Lowers, took, took_all, took_some, took_then, lowers}
 use Rattle.asl_grammar.proofs.grammar.Reading.{complete, Completes, starts_more, run_opens_at, run_many_in, run_trail_in, run_item_in, more_toks}
 
-begins_here : (late : Bool) (cs : Codes) (y : Bool) (st : Cursor) (x : Lexeme) (us : List Lexeme) → opens_here late cs y st x → starts cs (st.toks ++ (x ∷ us)) ≡ true
+begins_here : (late : Bool) (cs : Kinds) (y : Bool) (st : Cursor) (x : Lexeme) (us : List Lexeme) → opens_here late cs y st x → starts cs (st.toks ++ (x ∷ us)) ≡ true
 begins_here late cs y st x us h = ap (λ ts. starts cs (ts ++ (x ∷ us))) h.0 ∙ h.2
 
-begins_seq : (F F' : Codes) (n : Bool) (st mid : Cursor) (more : List Lexeme) → TookAs F n st mid → starts F' (mid.toks ++ more) ≡ true → starts (F ++ pick n F' []) (st.toks ++ more) ≡ true
+begins_seq : (F F' : Kinds) (n : Bool) (st mid : Cursor) (more : List Lexeme) → TookAs F n st mid → starts F' (mid.toks ++ more) ≡ true → starts (F ++ pick n F' []) (st.toks ++ more) ≡ true
 begins_seq F F' n st mid more (inl h) k = starts_left F _ (st.toks ++ more) (starts_more F st.toks more h.0)
 begins_seq F F' n st mid more (inr h) k = starts_right F _ (st.toks ++ more) (rw h.0 (ap (λ ts. starts F' (ts ++ more)) (sym h.1) ∙ k))
 
-begins_many : (F : Codes) (st mid : Cursor) (more : List Lexeme) → TookAs F true st mid → starts F (mid.toks ++ more) ≡ true → starts F (st.toks ++ more) ≡ true
+begins_many : (F : Kinds) (st mid : Cursor) (more : List Lexeme) → TookAs F true st mid → starts F (mid.toks ++ more) ≡ true → starts F (st.toks ++ more) ≡ true
 begins_many F st mid more (inl h) k = starts_more F st.toks more h.0
 begins_many F st mid more (inr h) k = ap (λ ts. starts F (ts ++ more)) (sym h.1) ∙ k
 
-module _ (Sym : Type 0) (Val : Sym → Type 0) (after : Sym → Codes) (R : (s : Sym) → Reading (Val s)) (Q : (s : Sym) → Cursor → Lexeme → Type 0) (y : Bool)
+module _ (Sym : Type 0) (Val : Sym → Type 0) (after : Sym → Kinds) (R : (s : Sym) → Reading (Val s)) (Q : (s : Sym) → Cursor → Lexeme → Type 0) (y : Bool)
     (shr : (s : Sym) (st : Cursor) (v : Val s) (end : Cursor) → R s st v end → length end.toks ≤ length st.toks) where
   pub full_begins : {A : Type 0} (g : G Sym Val A) → by_one after g ≡ true → (st : Cursor) (x : Lexeme) (us : List Lexeme) → full R Q y g st x → starts (first g) (st.toks ++ (x ∷ us)) ≡ true
   full_begins (tok cs) w st x us h = elim h [ ]
@@ -57,11 +57,11 @@ module _ (Sym : Type 0) (Val : Sym → Type 0) (after : Sym → Codes) (R : (s :
 abbrev stop : {A : Type 0} → Lexeme → List Lexeme → Bool → Outcome A
 stop x us y = Err (TooDeep (length (x ∷ us)) y)
 
-opens_stops : (cs : Codes) (y : Bool) (st : Cursor) (x : Lexeme) (us : List Lexeme) → opens_here false cs y st x → run_opens cs st.left (st.toks ++ (x ∷ us)) ≡ stop x us y
+opens_stops : (cs : Kinds) (y : Bool) (st : Cursor) (x : Lexeme) (us : List Lexeme) → opens_here false cs y st x → run_opens cs st.left (st.toks ++ (x ∷ us)) ≡ stop x us y
 opens_stops cs y st x us h =
     ap (λ ts. run_opens cs st.left (ts ++ (x ∷ us))) h.0 ∙ ap (λ b. pick b (open_at x us st.left) (refused (x ∷ us))) h.2 ∙ ap (open_at x us) h.1 ∙ ap (λ z. stop x us z) (sym h.3)
 
-module _ {A : Type 0} (P : Reading A) (p : Cursor → Outcome A) (C F : Codes) (nl : Bool) (n : ℕ) (Fu : Cursor → Lexeme → Type 0) (y : Bool) (x : Lexeme) (us : List Lexeme)
+module _ {A : Type 0} (P : Reading A) (p : Cursor → Outcome A) (C F : Kinds) (nl : Bool) (n : ℕ) (Fu : Cursor → Lexeme → Type 0) (y : Bool) (x : Lexeme) (us : List Lexeme)
     (takes : Takes P F nl) (e0 : nl ≡ false) (lo : Lowers P) (comp : Completes P p C n)
     (begins : (st : Cursor) → Fu st x → starts F (st.toks ++ (x ∷ us)) ≡ true)
     (stops : (st : Cursor) → Fu st x → st.left ≤ n → p (plus st (x ∷ us)) ≡ stop x us y) where
@@ -80,7 +80,7 @@ module _ {A : Type 0} (P : Reading A) (p : Cursor → Outcome A) (C F : Codes) (
       run_many_in p F k (plus st (x ∷ us)) (plus r.0 (x ∷ us)) z (starts_more F st.toks (x ∷ us) t.0) one
       ∙ ap (λ o. bind o (λ xs end. Ok (z ∷ xs, end))) (stops_many ap' k xs r.0 mid r.2 f (omega arith) (omega arith))
 
-  stops_trail : (cs : Codes) → apart C cs ≡ true → (k : ℕ) (xs : List (Lexeme × A)) (st mid : Cursor) → reads_all (reads_then cs P) st xs mid → (t : Lexeme) (m : Cursor) → reads_tok cs mid t m → Fu m x → st.left ≤ n → length st.toks ≤ k → run_trail cs p F k (plus st (x ∷ us)) ≡ stop x us y
+  stops_trail : (cs : Kinds) → apart C cs ≡ true → (k : ℕ) (xs : List (Lexeme × A)) (st mid : Cursor) → reads_all (reads_then cs P) st xs mid → (t : Lexeme) (m : Cursor) → reads_tok cs mid t m → Fu m x → st.left ≤ n → length st.toks ≤ k → run_trail cs p F k (plus st (x ∷ us)) ≡ stop x us y
   stops_trail cs ap' zero [] st mid r t m rt f le lt = let rt' = subst (λ c. reads_tok cs c t m) r rt in let q : length st.toks ≡ suc (length rt'.0) = ap length rt'.1 in absurd (omega arith)
   stops_trail cs ap' (suc k) [] st mid r t m rt f le lt =
       let rt' : reads_tok cs st t m = subst (λ c. reads_tok cs c t m) r rt in
@@ -107,7 +107,7 @@ module _ {A : Type 0} (P : Reading A) (p : Cursor → Outcome A) (C F : Codes) (
       ∙ ap (λ o. bind o (λ v m. bind (run_trail cs p F k m) (λ r end. Ok (((z.0, v) ∷ r.0, r.1), end)))) one
       ∙ ap (λ o. bind o (λ r end. Ok (((z.0, z.1) ∷ r.0, r.1), end))) (stops_trail cs ap' k xs r.0 mid r.2 t m rt f (omega arith) (omega arith))
 
-module _ (Sym : Type 0) (Val : Sym → Type 0) (after : Sym → Codes) (R : (s : Sym) → Reading (Val s)) (Q : (s : Sym) → Cursor → Lexeme → Type 0) (P : (s : Sym) → Cursor → Outcome (Val s)) (n : ℕ) (y : Bool)
+module _ (Sym : Type 0) (Val : Sym → Type 0) (after : Sym → Kinds) (R : (s : Sym) → Reading (Val s)) (Q : (s : Sym) → Cursor → Lexeme → Type 0) (P : (s : Sym) → Cursor → Outcome (Val s)) (n : ℕ) (y : Bool)
     (shr : (s : Sym) (st : Cursor) (v : Val s) (end : Cursor) → R s st v end → length end.toks ≤ length st.toks)
     (los : (s : Sym) → Lowers (R s))
     (hyp : (s : Sym) (st : Cursor) (v : Val s) (end : Cursor) → R s st v end → suc st.left ≤ n → (more : List Lexeme) → starts (after s) (end.toks ++ more) ≡ false → P s (plus st more) ≡ Ok (v, plus end more))

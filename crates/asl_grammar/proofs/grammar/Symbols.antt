@@ -2,7 +2,7 @@
 use Rattle.std.proofs.Common.{◌≡◌, ℕ, zero, suc, ◌+◌, ◌-◌, ◌≤◌, ◌⊎◌, inl, inr, Bool, true, false, List, [], ◌∷◌, ◌++◌, length, Result, Ok, Err, refl, ap, sym, ◌∙◌, subst, arith, append_assoc, length-append}
 use Rattle.asl_grammar.specs.declared.error.ParseError.{ParseError}
 use Rattle.asl_grammar.specs.declared.error.ParseError.TheVariants.{OutOfMemory, Syntax, TooDeep}
-use Rattle.asl_grammar.specs.grammar.Cursor.{Lexeme, Cursor, Codes, starts, with_toks, plus}
+use Rattle.asl_grammar.specs.grammar.Cursor.{Lexeme, Cursor, Kinds, starts, with_toks, plus}
 use Rattle.asl_grammar.specs.grammar.Combinators.{G, Reading, Reads, Goes}
 use Rattle.asl_grammar.specs.grammar.Reader.{cont, by_one, covers, left_of, Outcome, bind, parse}
 use Rattle.asl_grammar.specs.grammar.Syntax.{start, finish, Parses, GoesOn, Refuses, Exceeds, parsed}
@@ -22,7 +22,7 @@ shorter P st a end f = let q : length st.toks ≡ length (f.0 ++ end.toks) = ap 
 no_ok : {A : Type 0} {x : A} {f : ParseError} → (let o : Result A ParseError = Err f in o) ≡ Ok x → ⊥
 no_ok h = cc
 
-module _ (Sym : Type 0) (Val : Sym → Type 0) (rule : (s : Sym) → G Sym Val (Val s)) (after : Sym → Codes)
+module _ (Sym : Type 0) (Val : Sym → Type 0) (rule : (s : Sym) → G Sym Val (Val s)) (after : Sym → Kinds)
     (each : (s : Sym) → by_one after (rule s) ≡ true) (covered : (s : Sym) → covers (after s) (cont after (rule s)) ≡ true) where
   abbrev Rd : ℕ → (s : Sym) → Reading (Val s)
   Rd = Reads Sym Val rule
@@ -89,13 +89,13 @@ module _ (Sym : Type 0) (Val : Sym → Type 0) (rule : (s : Sym) → G Sym Val (
   deep_n zero s st m y le h = absurd (omega arith)
   deep_n (suc n) s st m y le h = deep Sym Val after (Rd n) (Gd n) (Pd n) n (short_n n) (frames_n n) (lowers_n n) (λ d. rises_n d n) (sound_n n) (empty_n n) (deep_n n) (rule s) (each s) st m y (omega arith) h
 
-module _ (Sym : Type 0) (Val : Sym → Type 0) (rule : (s : Sym) → G Sym Val (Val s)) (after : Sym → Codes)
+module _ (Sym : Type 0) (Val : Sym → Type 0) (rule : (s : Sym) → G Sym Val (Val s)) (after : Sym → Kinds)
     (each : (s : Sym) → by_one after (rule s) ≡ true) (covered : (s : Sym) → covers (after s) (cont after (rule s)) ≡ true) where
   pub full_n : (n : ℕ) (y : Bool) (s : Sym) (st : Cursor) (m : ℕ) → suc st.left ≤ n → parse Sym Val rule n s st ≡ Err (TooDeep m y) → Fuller (Full Sym Val rule n y s) st m
   full_n zero y s st m le h = absurd (omega arith)
   full_n (suc n) y s st m le h = fuller Sym Val after (Reads Sym Val rule n) (Full Sym Val rule n y) (parse Sym Val rule n) n y (short_n Sym Val rule after each covered n) (frames_n Sym Val rule after each covered n) (lowers_n Sym Val rule after each covered n) (sound_n Sym Val rule after each covered n) (full_n n y) (rule s) (each s) st m (omega arith) h
 
-module _ (Sym : Type 0) (Val : Sym → Type 0) (rule : (s : Sym) → G Sym Val (Val s)) (after : Sym → Codes)
+module _ (Sym : Type 0) (Val : Sym → Type 0) (rule : (s : Sym) → G Sym Val (Val s)) (after : Sym → Kinds)
     (each : (s : Sym) → by_one after (rule s) ≡ true) (covered : (s : Sym) → covers (after s) (cont after (rule s)) ≡ true) where
   pub stops_n : (m n : ℕ) (y : Bool) (x : Lexeme) (us : List Lexeme) (s : Sym) (st : Cursor) → suc st.left ≤ n → Full Sym Val rule m y s st x → parse Sym Val rule n s (plus st (x ∷ us)) ≡ Err (TooDeep (length (x ∷ us)) y)
   stops_n zero n y x us s st le h = elim h [ ]
@@ -133,7 +133,7 @@ same_front (t ∷ a) (u ∷ b) x y l h = let e : a ++ x ≡ b ++ y = cc in let k
 pub same_split : (ts a b x y : List Lexeme) → ts ≡ a ++ x → ts ≡ b ++ y → length x ≡ length y → a ≡ b
 same_split ts a b x y e f l = same_front a b x y l (sym e ∙ f)
 
-module _ (Sym : Type 0) (Val : Sym → Type 0) (rule : (s : Sym) → G Sym Val (Val s)) (after : Sym → Codes)
+module _ (Sym : Type 0) (Val : Sym → Type 0) (rule : (s : Sym) → G Sym Val (Val s)) (after : Sym → Kinds)
     (each : (s : Sym) → by_one after (rule s) ≡ true) (covered : (s : Sym) → covers (after s) (cont after (rule s)) ≡ true) (s : Sym) (levels : ℕ) where
   abbrev P : Cursor → Outcome (Val s)
   P = parse Sym Val rule (suc levels) s

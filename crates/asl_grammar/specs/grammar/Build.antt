@@ -1,5 +1,5 @@
 -- How the trees are put together from what was read.
-use Rattle.std.specs.Prelude.{ℕ, ◌⊎◌, Bool, true, false, nat_eq, List, [], ◌∷◌, ◌++◌, Option, Some, None}
+use Rattle.std.specs.Prelude.{ℕ, ◌⊎◌, true, List, [], ◌∷◌, ◌++◌, Option, Some, None}
 use mathlib.Core.Logic.{inl, inr}
 use Rattle.asl_syn.specs.declared.token.TokenKind.{TokenKind}
 use Rattle.asl_syn.specs.declared.token.TokenKind.TheVariants as tk
@@ -7,8 +7,6 @@ use Rattle.asl_syn.specs.declared.token.Span.{Span}
 use Rattle.asl_syn.specs.declared.tree.Ident.{Ident}
 use Rattle.asl_syn.specs.declared.tree.UnaryOperator.{UnaryOperator}
 use Rattle.asl_syn.specs.declared.tree.UnaryOperator.TheVariants as un
-use Rattle.asl_syn.specs.declared.tree.BinaryOperator.{BinaryOperator}
-use Rattle.asl_syn.specs.declared.tree.BinaryOperator.TheVariants as bin
 use Rattle.asl_syn.specs.declared.tree.Expr.{Expr}
 use Rattle.asl_syn.specs.declared.tree.Expr.TheVariants as ex
 use Rattle.asl_syn.specs.declared.tree.FieldValue.{FieldValue}
@@ -30,29 +28,25 @@ use Rattle.asl_syn.specs.declared.tree.Target.TheVariants as tg
 use Rattle.asl_syn.specs.declared.tree.Binder.TheVariants as bd
 use Rattle.asl_syn.specs.declared.tree.Bind.TheVariants as bi
 use Rattle.asl_syn.specs.declared.tree.LocalKind.TheVariants as lk
-use Rattle.asl_syn.specs.declared.tree.Direction.{Direction}
-use Rattle.asl_syn.specs.declared.tree.Direction.TheVariants as dr
-use Rattle.asl_syn.specs.declared.tree.PrintKind.{PrintKind}
-use Rattle.asl_syn.specs.declared.tree.PrintKind.TheVariants as pk
 use Rattle.asl_syn.specs.declared.tree.Stmt.{Stmt}
 use Rattle.asl_syn.specs.declared.tree.Stmt.TheVariants as stm
 use Rattle.asl_syn.specs.declared.tree.Otherwise.{Otherwise}
 use Rattle.asl_syn.specs.declared.tree.Otherwise.TheVariants as ot
 use Rattle.asl_syn.specs.declared.tree.Catcher.{Catcher}
 use Rattle.asl_syn.specs.declared.tree.Catcher.TheVariants as ca
-use Rattle.asl_syn.specs.declared.tree.StorageKind.{StorageKind}
-use Rattle.asl_syn.specs.declared.tree.StorageKind.TheVariants as sk
 use Rattle.asl_syn.specs.declared.tree.Qualifier.{Qualifier}
 use Rattle.asl_syn.specs.declared.tree.Qualifier.TheVariants as ql
 use Rattle.asl_grammar.specs.declared.parts.Braces.{Braces}
 use Rattle.asl_grammar.specs.declared.parts.Braces.TheVariants as br
 use Rattle.asl_grammar.specs.declared.parts.AfterName.{AfterName}
 use Rattle.asl_grammar.specs.declared.parts.AfterName.TheVariants as an
+use Rattle.asl_grammar.specs.declared.parts.SliceForm.{SliceForm}
+use Rattle.asl_grammar.specs.declared.parts.SliceForm.TheVariants as sf
 use Rattle.asl_grammar.specs.declared.parts.VarTail.{VarTail}
 use Rattle.asl_grammar.specs.declared.parts.VarTail.TheVariants as vt
 use Rattle.asl_grammar.specs.grammar.Cursor.{Lexeme, Extent, end_of, span_to}
-use Rattle.asl_grammar.specs.grammar.Reader.{pick}
-use Rattle.asl_grammar.specs.grammar.Kinds.{code, COLON, COLON_COLON, EQUAL, NOT_EQUAL, BANG, AND_AND, OR_OR, IMPLIES, IFF, LESS, LESS_EQUAL, SHIFT_LEFT, GREATER, GREATER_EQUAL, SHIFT_RIGHT, PLUS, PLUS_COLON, MINUS, STAR, BIT_AND, DIV, DIV_RM, MOD, BIT_OR, BIT_XOR, CONSTANT, PURE, TO, PRINT}
+use Rattle.asl_grammar.specs.grammar.Kinds.{kind_of}
+use Rattle.asl_grammar.specs.grammar.Operators.{binary_of}
 
 -- ---- lists
 
@@ -77,28 +71,6 @@ int_of _ = 0
 abbrev pub ident : Lexeme → Ident
 ident t = record { span = t.span; text = t.text }
 
-abbrev pub unary_of : ℕ → UnaryOperator
-unary_of c = pick (nat_eq c MINUS) un.Negate (pick (nat_eq c BANG) un.Not un.Complement)
-
-abbrev pub binary_of : ℕ → BinaryOperator
-binary_of c =
-    pick (nat_eq c AND_AND) bin.LogicalAnd (pick (nat_eq c OR_OR) bin.LogicalOr (pick (nat_eq c IMPLIES) bin.Implies (pick (nat_eq c IFF) bin.Equivalent
-    (pick (nat_eq c EQUAL) bin.Equal (pick (nat_eq c NOT_EQUAL) bin.NotEqual (pick (nat_eq c LESS) bin.Less (pick (nat_eq c LESS_EQUAL) bin.LessEqual (pick (nat_eq c GREATER) bin.Greater (pick (nat_eq c GREATER_EQUAL) bin.GreaterEqual
-    (pick (nat_eq c PLUS) bin.Add (pick (nat_eq c MINUS) bin.Subtract (pick (nat_eq c BIT_AND) bin.BitAnd (pick (nat_eq c BIT_OR) bin.BitOr (pick (nat_eq c BIT_XOR) bin.BitXor (pick (nat_eq c COLON_COLON) bin.Concatenate
-    (pick (nat_eq c STAR) bin.Multiply (pick (nat_eq c DIV) bin.DivideExact (pick (nat_eq c DIV_RM) bin.DivideFloor (pick (nat_eq c MOD) bin.Modulo (pick (nat_eq c SHIFT_LEFT) bin.ShiftLeft (pick (nat_eq c SHIFT_RIGHT) bin.ShiftRight bin.Power)))))))))))))))))))))
-
-abbrev pub direction_of : ℕ → Direction
-direction_of c = pick (nat_eq c TO) dr.Up dr.Down
-
-abbrev pub print_kind_of : ℕ → PrintKind
-print_kind_of c = pick (nat_eq c PRINT) pk.Print pk.PrintLine
-
-abbrev pub storage_kind_of : ℕ → StorageKind
-storage_kind_of c = pick (nat_eq c CONSTANT) sk.Constant sk.Let
-
-abbrev pub qualifier_of : ℕ → Qualifier
-qualifier_of c = pick (nat_eq c PURE) ql.Pure ql.Readonly
-
 abbrev pub or_unqualified : Option Qualifier → Qualifier
 or_unqualified None = ql.Unqualified
 or_unqualified (Some q) = q
@@ -117,7 +89,7 @@ AsLinks = List (TypeExpr × Extent)
 
 -- an operator on what was read so far, which begins at a token
 abbrev pub linked : Span → Expr → Link → Expr
-linked from left x = ex.Binary (span_to from x.1.1.to) (binary_of (code x.0.kind)) left x.1.0
+linked from left x = ex.Binary (span_to from x.1.1.to) (binary_of (kind_of x.0.kind)) left x.1.0
 
 -- operands with operators between, which group to the left
 abbrev pub chained : Span → Expr → Links → Expr
@@ -236,12 +208,14 @@ name_in_braces_of i (inr r) = br.Parameters (parameters_from_name i r)
 
 -- ---- slices, constraints, bitfields
 
-abbrev pub slice_by : Expr → ℕ → Expr → Slice
-slice_by e c f = pick (nat_eq c COLON) (sl.HighLow e f) (pick (nat_eq c PLUS_COLON) (sl.LowWidth e f) (sl.FactorWidth e f))
+abbrev pub slice_by : Expr → SliceForm → Expr → Slice
+slice_by e sf.HighLow f = sl.HighLow e f
+slice_by e sf.LowWidth f = sl.LowWidth e f
+slice_by e sf.FactorWidth f = sl.FactorWidth e f
 
-abbrev pub slice_of : Expr → Option (Lexeme × Expr) → Slice
+abbrev pub slice_of : Expr → Option (SliceForm × Expr) → Slice
 slice_of e None = sl.BitAt e
-slice_of e (Some x) = slice_by e (code x.0.kind) x.1
+slice_of e (Some x) = slice_by e x.0 x.1
 
 abbrev pub constraint_part_of : Expr → Option Expr → ConstraintPart
 constraint_part_of e None = cp.Only e
@@ -276,9 +250,6 @@ minus_pattern_of minus span (Some r) = late_range_of minus un.Negate span r
 abbrev pub bang_pattern_of : Span → Span → List Pattern ⊎ LateRange → Pattern
 bang_pattern_of bang span (inl ps) = pa.SetPattern span true ps
 bang_pattern_of bang span (inr r) = late_range_of bang un.Not span r
-
-abbrev pub bound_of : Span → ℕ → Expr → Pattern
-bound_of span c e = pick (nat_eq c LESS_EQUAL) (pa.AtMost span e) (pa.AtLeast span e)
 
 -- parentheses round one pattern are no node
 abbrev pub pattern_parens_of : Span → List Pattern → Pattern

@@ -1,9 +1,10 @@
 -- Tokens with their text, and a place among them.
-use Rattle.std.specs.Prelude.{ℕ, ◌+◌, ◌-◌, min, ◌^◌, Bool, true, false, nat_eq, List, [], ◌∷◌, ◌++◌, take, drop}
+use Rattle.std.specs.Prelude.{ℕ, ◌+◌, ◌-◌, min, ◌^◌, Bool, true, false, List, [], ◌∷◌, ◌++◌, take, drop}
 use Rattle.asl_syn.specs.declared.token.TokenKind.{TokenKind}
 use Rattle.asl_syn.specs.declared.token.Token.{Token}
 use Rattle.asl_syn.specs.declared.token.Span.{Span}
-use Rattle.asl_grammar.specs.grammar.Kinds.{code}
+use Rattle.asl_grammar.specs.declared.kinds.Kind.{Kind}
+use Rattle.asl_grammar.specs.grammar.Kinds.{kind_of, same_kind}
 
 -- a token with the bytes that stand at its span
 pub record Lexeme : Type 0 where
@@ -24,21 +25,21 @@ pub record Cursor : Type 0 where
   pub left : ℕ
   pub last : ℕ
 
-abbrev pub Codes : Type 0
-Codes = List ℕ
+abbrev pub Kinds : Type 0
+Kinds = List Kind
 
 abbrev pub one_of : Bool → Bool → Bool
 one_of true b = true
 one_of false b = b
 
-abbrev pub among : Codes → ℕ → Bool
+abbrev pub among : Kinds → Kind → Bool
 among [] k = false
-among (c ∷ cs) k = one_of (nat_eq c k) (among cs k)
+among (c ∷ cs) k = one_of (same_kind c k) (among cs k)
 
 -- whether the next token has one of these kinds
-abbrev pub starts : Codes → List Lexeme → Bool
+abbrev pub starts : Kinds → List Lexeme → Bool
 starts cs [] = false
-starts cs (t ∷ ts) = among cs (code t.kind)
+starts cs (t ∷ ts) = among cs (kind_of t.kind)
 
 abbrev pub with_toks : Cursor → List Lexeme → Cursor
 with_toks st ts = record st { toks = ts }

@@ -1,12 +1,13 @@
 -- What the grammar says of a file: its tree, or its one syntax fault.
-use Rattle.std.specs.Prelude.{◌≡◌, ◌≤◌, ℕ, ◌-◌, ◌⊎◌, Bool, true, false, nat_eq, List, [], ◌∷◌, ◌++◌, length, map, drop, None}
+use Rattle.std.specs.Prelude.{◌≡◌, ◌≤◌, ℕ, ◌-◌, ◌⊎◌, Bool, true, false, List, [], ◌∷◌, ◌++◌, length, map, drop, None}
 use Rattle.asl_syn.specs.declared.code.StaticCode.{StaticCode}
 use Rattle.asl_syn.specs.declared.code.StaticCode.TheVariants.{S01, S02, S03}
 use Rattle.asl_syn.specs.declared.code.Fault.{Fault}
 use Rattle.asl_syn.specs.declared.token.Span.{Span}
 use Rattle.asl_syn.specs.declared.token.Token.{Token}
 use Rattle.asl_syn.specs.declared.tree.Decl.{Decl}
-use Rattle.asl_grammar.specs.grammar.Kinds.{code, LEFT_OUT}
+use Rattle.asl_grammar.specs.declared.kinds.Kind.TheVariants as kind
+use Rattle.asl_grammar.specs.grammar.Kinds.{kind_of, same_kind}
 use Rattle.asl_grammar.specs.grammar.Cursor.{Lexeme, with_text}
 use Rattle.asl_grammar.specs.grammar.Reader.{pick}
 use Rattle.asl_grammar.specs.grammar.Rules.{Sym, Val, rule, Program}
@@ -34,7 +35,7 @@ place_of file size (t ∷ ts) = t.span
 -- a word that is left out has a code of its own
 abbrev pub refusal_code : List Lexeme → StaticCode
 refusal_code [] = S01
-refusal_code (t ∷ ts) = pick (nat_eq (code t.kind) LEFT_OUT) S03 S01
+refusal_code (t ∷ ts) = pick (same_kind (kind_of t.kind) kind.LeftOut) S03 S01
 
 abbrev pub refusal : ℕ → ℕ → List Lexeme → Fault
 refusal file size rest = record { code = refusal_code rest; inner = None; span = place_of file size rest }

@@ -3,8 +3,8 @@ use Rattle.std.specs.Prelude.{ℕ, zero, suc, ◌⊎◌, Bool, true, false, List
 use mathlib.Core.Logic.{inl, inr}
 use Rattle.asl_grammar.specs.declared.error.ParseError.{ParseError}
 use Rattle.asl_grammar.specs.declared.error.ParseError.TheVariants.{OutOfMemory, Syntax, TooDeep}
-use Rattle.asl_grammar.specs.grammar.Kinds.{code}
-use Rattle.asl_grammar.specs.grammar.Cursor.{Lexeme, Cursor, Codes, among, starts, past, extent}
+use Rattle.asl_grammar.specs.grammar.Kinds.{kind_of}
+use Rattle.asl_grammar.specs.grammar.Cursor.{Lexeme, Cursor, Kinds, among, starts, past, extent}
 use Rattle.asl_grammar.specs.grammar.Combinators.{G, tok, opens, into, seq, either, opt, many, by, spanned, scope, closed, trail, costs, follows}
 
 -- how many tokens there are from where it stopped
@@ -57,7 +57,7 @@ nullable (trail cs p) = true
 nullable (costs late p) = false
 nullable (follows p q) = false
 
-abbrev pub first : {Sym : Type 0} {Val : Sym → Type 0} {A : Type 0} → G Sym Val A → Codes
+abbrev pub first : {Sym : Type 0} {Val : Sym → Type 0} {A : Type 0} → G Sym Val A → Kinds
 first (tok cs) = cs
 first (opens cs) = cs
 first (into cs s) = cs
@@ -75,26 +75,26 @@ first (follows p q) = first p
 
 -- ---- the parser
 
-abbrev pub run_tok : Codes → Cursor → List Lexeme → Outcome Lexeme
+abbrev pub run_tok : Kinds → Cursor → List Lexeme → Outcome Lexeme
 run_tok cs st [] = refused []
-run_tok cs st (t ∷ ts) = pick (among cs (code t.kind)) (Ok (t, past t ts st.left)) (refused (t ∷ ts))
+run_tok cs st (t ∷ ts) = pick (among cs (kind_of t.kind)) (Ok (t, past t ts st.left)) (refused (t ∷ ts))
 
 abbrev pub open_at : Lexeme → List Lexeme → ℕ → Outcome Lexeme
 open_at t ts zero = too_deep (t ∷ ts)
 open_at t ts (suc l) = Ok (t, past t ts l)
 
-abbrev pub run_opens : Codes → ℕ → List Lexeme → Outcome Lexeme
+abbrev pub run_opens : Kinds → ℕ → List Lexeme → Outcome Lexeme
 run_opens cs left [] = refused []
-run_opens cs left (t ∷ ts) = pick (among cs (code t.kind)) (open_at t ts left) (refused (t ∷ ts))
+run_opens cs left (t ∷ ts) = pick (among cs (kind_of t.kind)) (open_at t ts left) (refused (t ∷ ts))
 
-abbrev pub run_many : {A : Type 0} → (Cursor → Outcome A) → Codes → ℕ → Cursor → Outcome (List A)
+abbrev pub run_many : {A : Type 0} → (Cursor → Outcome A) → Kinds → ℕ → Cursor → Outcome (List A)
 run_many p cs zero st = Ok ([], st)
 run_many p cs (suc n) st = pick (starts cs st.toks) (bind (p st) (λ x mid. bind (run_many p cs n mid) (λ xs end. Ok (x ∷ xs, end)))) (Ok ([], st))
 
-abbrev pub run_item : {A : Type 0} → (Cursor → Outcome A) → Codes → (Cursor → Outcome (List (Lexeme × A) × Option Lexeme)) → Lexeme → Cursor → Outcome (List (Lexeme × A) × Option Lexeme)
+abbrev pub run_item : {A : Type 0} → (Cursor → Outcome A) → Kinds → (Cursor → Outcome (List (Lexeme × A) × Option Lexeme)) → Lexeme → Cursor → Outcome (List (Lexeme × A) × Option Lexeme)
 run_item p F next t mid = pick (starts F mid.toks) (bind (p mid) (λ x m. bind (next m) (λ r end. Ok (((t, x) ∷ r.0, r.1), end)))) (Ok (([], Some t), mid))
 
-abbrev pub run_trail : {A : Type 0} → Codes → (Cursor → Outcome A) → Codes → ℕ → Cursor → Outcome (List (Lexeme × A) × Option Lexeme)
+abbrev pub run_trail : {A : Type 0} → Kinds → (Cursor → Outcome A) → Kinds → ℕ → Cursor → Outcome (List (Lexeme × A) × Option Lexeme)
 run_trail cs p F zero st = Ok (([], None), st)
 run_trail cs p F (suc n) st = pick (starts cs st.toks) (bind (run_tok cs st st.toks) (λ t mid. run_item p F (run_trail cs p F n) t mid)) (Ok (([], None), st))
 
@@ -124,16 +124,16 @@ run P (follows p q) st = bind (run P p st) (λ x mid. run_follows (run P q) x mi
 
 -- ---- what makes one token enough to choose by
 
-abbrev pub apart : Codes → Codes → Bool
+abbrev pub apart : Kinds → Kinds → Bool
 apart [] ds = true
 apart (c ∷ cs) ds = both (flipped (among ds c)) (apart cs ds)
 
-abbrev pub covers : Codes → Codes → Bool
+abbrev pub covers : Kinds → Kinds → Bool
 covers ds [] = true
 covers ds (c ∷ cs) = both (among ds c) (covers ds cs)
 
 -- where `after s` has the tokens by which the symbol s may go on
-abbrev pub cont : {Sym : Type 0} {Val : Sym → Type 0} → (Sym → Codes) → {A : Type 0} → G Sym Val A → Codes
+abbrev pub cont : {Sym : Type 0} {Val : Sym → Type 0} → (Sym → Kinds) → {A : Type 0} → G Sym Val A → Kinds
 cont after (tok cs) = []
 cont after (opens cs) = []
 cont after (into cs s) = after s
@@ -149,7 +149,7 @@ cont after (trail cs p) = cs ++ (first p ++ cont after p)
 cont after (costs late p) = cont after p
 cont after (follows p q) = cont after q ++ cont after p
 
-abbrev pub by_one : {Sym : Type 0} {Val : Sym → Type 0} → (Sym → Codes) → {A : Type 0} → G Sym Val A → Bool
+abbrev pub by_one : {Sym : Type 0} {Val : Sym → Type 0} → (Sym → Kinds) → {A : Type 0} → G Sym Val A → Bool
 by_one after (tok cs) = true
 by_one after (opens cs) = true
 by_one after (into cs s) = true

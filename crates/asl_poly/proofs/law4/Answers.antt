@@ -1,6 +1,6 @@
 use Rattle.std.proofs.Common.{ap}
 use Rattle.asl_poly.specs.Terms.{of_terms}
-use Rattle.asl_poly.proofs.Law.{law}
+use Rattle.asl_poly.proofs.DistinctValues.{law}
 use Rattle.asl_poly.proofs.law4.Goals as goal
 
 pub returns : goal.returns

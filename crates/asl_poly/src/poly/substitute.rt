@@ -1,13 +1,13 @@
-// Polynomials in the place of atoms.
-//
-// The weight is found first, since the products may pass every machine word although the answer is within the limits:
-// a factor of weight 0 makes its term vanish. So weights stop at a cap above the limit.
+//! Polynomials in the place of atoms.
+//!
+//! The weight is found first, since a product of weights may be above every machine integer although the result is within
+//! the limits: a factor of weight 0 makes its term vanish. So weights are counted up to a cap above the limit.
 
-ghost use Rattle.std.specs.Prelude.{◌≡◌, ◌≤◌, ◌<◌, ◌+◌, ◌*◌, ◌^◌, ◌↔◌, [], ◌∷◌, IsTrue, IfOk, min, unsigned_abs, length};
+ghost use Rattle.std.specs.Prelude.{◌≡◌, ◌≤◌, ◌<◌, ◌+◌, ◌*◌, ◌^◌, ◌↔◌, [], ◌∷◌, IsTrue, IfOk, OnOk, min, unsigned_abs, length};
 ghost use Rattle.asl_poly.specs.Terms.{of_terms};
 ghost use Rattle.asl_poly.specs.Limits.{IsMap, weight, degree};
 ghost use Rattle.asl_poly.specs.Operations.{constant_term, gather, product_terms};
-ghost use Rattle.asl_poly.specs.Substitute.{map_at, AllMaps, factors_weight, replaced_weight, factors_degree, replaced_degree, note_maps, note_replaced, times_maps, replaced};
+ghost use Rattle.asl_poly.specs.Substitute.{map_at, AreMaps, AllMaps, factors_weight, replaced_weight, factors_degree, replaced_degree, note_maps, note_replaced, times_maps, replaced};
 ghost use Rattle.asl_poly.specs.Poly.{SubstituteFits};
 
 use crate::Atom;
@@ -17,22 +17,13 @@ use crate::term::{Term, atom_term, constant_term};
 use crate::terms::{add_scaled, copied, multiplied, single};
 use std::alloc::{AllocError, Global};
 
-// Above the limit of weights, and small enough for the product of two.
+// A weight above the limit, and small enough for the product of two such weights to fit a machine integer.
 const CAP: u128 = 1 << 63;
-
-// Each polynomial is within the limits.
-pub(crate) fn all_maps(by: &[(Atom, Poly)])
-    ensures { AllMaps by.now }
-{
-    for e in by {
-        let p = &e.1;
-        let _terms = &p.terms;
-    }
-}
 
 // What stands for the atom.
 fn map_at(alloc: Global, by: &[(Atom, Poly)], x: Atom) -> Result<Vec<Term>, AllocError>
-    ensures { IfOk result (λ v. v.items ≡ map_at by.now x) }
+    ensures terms { IfOk result (λ v. v.items ≡ map_at by.now x) }
+    ensures map { IfOk result (λ v. IsMap v.items) }
 {
     for e in by {
         let y = &e.0;
@@ -46,8 +37,8 @@ fn map_at(alloc: Global, by: &[(Atom, Poly)], x: Atom) -> Result<Vec<Term>, Allo
 
 // The product of the weights that stand for the atoms, or CAP where it is more.
 fn factors_weight(alloc: Global, by: &[(Atom, Poly)], xs: &[Atom]) -> Result<u128, AllocError>
-    requires { AllMaps by.now }
-    ensures { IfOk result (λ n. n ≡ min (2 ^ 63) (factors_weight by.now xs.now)) }
+    ensures weight { IfOk result (λ n. n ≡ min (2 ^ 63) (factors_weight by.now xs.now)) }
+    ensures maps { OnOk result (AreMaps by.now xs.now) }
 {
     let mut product = 1u128;
     for x in xs {
@@ -57,6 +48,7 @@ fn factors_weight(alloc: Global, by: &[(Atom, Poly)], xs: &[Atom]) -> Result<u12
     Ok(product)
 }
 
+// The product of two capped weights, or CAP where it is more.
 fn capped_product(a: u128, b: u128) -> u128
     requires left { a ≤ 2 ^ 63 }
     requires right { b ≤ 2 ^ 63 }
@@ -65,6 +57,7 @@ fn capped_product(a: u128, b: u128) -> u128
     (a * b).min(CAP)
 }
 
+// The sum of two capped weights, or CAP where it is more.
 fn capped_sum(a: u128, b: u128) -> u128
     requires left { a ≤ 2 ^ 63 }
     requires right { b ≤ 2 ^ 63 }
@@ -73,6 +66,7 @@ fn capped_sum(a: u128, b: u128) -> u128
     (a + b).min(CAP)
 }
 
+// The weight of what stands for an atom.
 fn weight_of_map(q: &[Term]) -> u128
     requires { IsMap q.now }
     ensures is { result ≡ weight q.now }
@@ -83,7 +77,6 @@ fn weight_of_map(q: &[Term]) -> u128
 
 // The weight of the result before terms cancel, or CAP where it is more.
 fn replaced_weight(alloc: Global, by: &[(Atom, Poly)], p: &[Term]) -> Result<u128, AllocError>
-    requires maps { AllMaps by.now }
     requires light { weight p.now ≤ 2 ^ 62 }
     ensures { IfOk result (λ n. n ≡ min (2 ^ 63) (replaced_weight by.now p.now)) }
 {
@@ -98,7 +91,6 @@ fn replaced_weight(alloc: Global, by: &[(Atom, Poly)], p: &[Term]) -> Result<u12
 
 // The sum of the degrees that stand for the atoms.
 fn factors_degree(alloc: Global, by: &[(Atom, Poly)], xs: &[Atom]) -> Result<usize, AllocError>
-    requires maps { AllMaps by.now }
     requires short { length xs.now ≤ 4 }
     ensures { IfOk result (λ n. n ≡ factors_degree by.now xs.now) }
 {
@@ -110,6 +102,7 @@ fn factors_degree(alloc: Global, by: &[(Atom, Poly)], xs: &[Atom]) -> Result<usi
     Ok(sum)
 }
 
+// The degree of what stands for an atom.
 fn low_degree(q: &[Term]) -> usize
     requires { IsMap q.now }
     ensures is { result ≡ degree q.now }
@@ -118,7 +111,7 @@ fn low_degree(q: &[Term]) -> usize
     degree(q)
 }
 
-// Notes the atoms of what stands for these atoms.
+// Appends the atoms of what stands for these atoms, as far as they are not yet there.
 fn note_maps(
     alloc: Global,
     by: &[(Atom, Poly)],
@@ -134,6 +127,7 @@ fn note_maps(
     Ok(())
 }
 
+// Appends the atoms of what stands for the terms' atoms, as far as they are not yet there.
 fn note_replaced(
     alloc: Global,
     by: &[(Atom, Poly)],
@@ -150,7 +144,6 @@ fn note_replaced(
 
 // The degree of the result before terms cancel.
 fn replaced_degree(alloc: Global, by: &[(Atom, Poly)], p: &[Term]) -> Result<usize, AllocError>
-    requires maps { AllMaps by.now }
     requires low { degree p.now ≤ 4 }
     ensures { IfOk result (λ n. n ≡ replaced_degree by.now p.now) }
 {
@@ -169,7 +162,6 @@ fn times_maps(
     c: i128,
     xs: &[Atom],
 ) -> Result<Vec<Term>, AllocError>
-    requires maps { AllMaps by.now }
     requires counts { 0 < factors_weight by.now xs.now }
     requires light { unsigned_abs c * factors_weight by.now xs.now ≤ 2 ^ 62 }
     ensures { IfOk result (λ v. v.items ≡ times_maps by.now (constant_term c ∷ []) xs.now) }
@@ -182,6 +174,7 @@ fn times_maps(
     Ok(terms)
 }
 
+// The product with what stands for one atom.
 fn times_map(alloc: Global, p: &[Term], q: &[Term]) -> Result<Vec<Term>, AllocError>
     requires left { weight p.now ≤ 2 ^ 62 }
     requires map { IsMap q.now }
@@ -191,15 +184,16 @@ fn times_map(alloc: Global, p: &[Term], q: &[Term]) -> Result<Vec<Term>, AllocEr
     multiplied(alloc, p, q)
 }
 
+// Adds a term with its atoms replaced.
 fn add_replaced(
     alloc: Global,
     by: &[(Atom, Poly)],
     terms: &mut Vec<Term>,
     t: &Term,
 ) -> Result<(), AllocError>
-    requires maps { AllMaps by.now }
     requires light { weight terms.old.items + unsigned_abs t.now.coefficient * factors_weight by.now t.now.factors ≤ 2 ^ 62 }
-    ensures { IfOk result (λ _. terms.new.items ≡ gather terms.old.items (times_maps by.now (constant_term t.now.coefficient ∷ []) t.now.factors)) }
+    ensures sum { IfOk result (λ _. terms.new.items ≡ gather terms.old.items (times_maps by.now (constant_term t.now.coefficient ∷ []) t.now.factors)) }
+    ensures maps { OnOk result (AreMaps by.now t.now.factors) }
 {
     let w = factors_weight(alloc, by, t.atoms())?;
     if w == 0 {
@@ -218,9 +212,9 @@ pub(crate) fn replaced(
     by: &[(Atom, Poly)],
     p: &[Term],
 ) -> Result<Vec<Term>, AllocError>
-    requires maps { AllMaps by.now }
     requires light { replaced_weight by.now p.now ≤ 2 ^ 62 }
-    ensures { IfOk result (λ v. v.items ≡ replaced by.now [] p.now) }
+    ensures terms { IfOk result (λ v. v.items ≡ replaced by.now [] p.now) }
+    ensures maps { OnOk result (AllMaps by.now p.now) }
 {
     let mut terms = Vec::new(alloc);
     for t in p {
@@ -229,12 +223,12 @@ pub(crate) fn replaced(
     Ok(terms)
 }
 
+// Whether the terms with their atoms replaced are within the limits.
 pub(crate) fn substitute_fits(
     alloc: Global,
     by: &[(Atom, Poly)],
     p: &[Term],
 ) -> Result<bool, AllocError>
-    requires maps { AllMaps by.now }
     requires light { weight p.now ≤ 2 ^ 62 }
     requires low { degree p.now ≤ 4 }
     ensures { IfOk result (λ b. IsTrue b ↔ SubstituteFits by.now (of_terms p.now)) }

@@ -1,4 +1,4 @@
-use Rattle.std.proofs.Common.{◌+◌, arith, drop, take, map, ap, ◌∙◌}
+use Rattle.std.proofs.Common.{◌≡◌, ◌+◌, arith, rules, drop, take, map, ap, ◌∙◌}
 use Rattle.asl_rules.specs.declared.effect.Effect.TheVariants.{Pure}
 use Rattle.asl_tree.specs.Elaboration.{elaborated_stmt, elaborated_branch, trees_of, branches_of}
 use Rattle.asl_check.specs.Views.{scope_of}
@@ -31,11 +31,13 @@ check_branches-loop-b-preserved t c = record {
 }
 
 pub check_stmt-returns-in_ok-effect-in-If-clause-tree : goal.check_stmt-returns-in_ok-effect-in-If-clause-tree
-check_stmt-returns-in_ok-effect-in-If-clause-tree t c = if_tree c.args.s.now c.in-If.span c.in-If.condition c.in-If.first c.in-If.last c.in-If.others
-    c.in_ok-c-in-If.c c.in_ok-first-in-If.first c.in_ok-last-in-If.last c.in_ok-others-in-If.others
+check_stmt-returns-in_ok-effect-in-If-clause-tree t c =
+    let held : c.into_inner-c.result ≡ c.in_ok-c-in-If.c = search rules in
+    if_tree c.args.s.now c.in-If.span c.in-If.condition c.in-If.first c.in-If.last c.in-If.others
+    c.into_inner-c.result c.in_ok-first-in-If.first c.in_ok-last-in-If.last c.in_ok-others-in-If.others
     (scope_of c.args.names.now c.args.body.now) (scope_of c.check_block.new.names c.args.body.now) (scope_of c.check_branches.new.names c.args.body.now) c.in-If.is
     (ap (λ names. scope_of names c.args.body.now) c.in_ok-first-in-If.ensures.kept) (ap (λ names. scope_of names c.args.body.now) c.in_ok-others-in-If.ensures.kept)
-    c.in_ok-c-in-If.ensures.tree
+    (held ∙ c.in_ok-c-in-If.ensures.tree)
     (c.in_ok-first-in-If.ensures.tree ∙ ap (λ ss. trees_of (map elaborated_stmt ss) (scope_of c.args.names.now c.args.body.now)) c.as_slice-in-If.ensures)
     (c.in_ok-others-in-If.ensures.tree ∙ ap (λ bs. branches_of (map elaborated_branch bs) (scope_of c.check_block.new.names c.args.body.now)) c.as_slice-in-If-2.ensures)
     (c.in_ok-last-in-If.ensures.tree ∙ ap (λ ss. trees_of (map elaborated_stmt ss) (scope_of c.check_branches.new.names c.args.body.now)) c.as_slice-in-If-3.ensures)

@@ -3,7 +3,7 @@ use Rattle.asl_cmd.proofs.RunLemmas.{main_callable, main_ended, main_given_up, r
 use Rattle.asl_cmd.proofs.running.run_program.Goals as goal
 
 pub call-requires : goal.call-requires
-call-requires g c = main_callable c.args.checked _ _ _ _ c.in_ok-machine.ensures c.new-2.ensures.items c.in-Some.ensures c.requires.served c.requires.accepted
+call-requires g c = main_callable c.args.checked _ _ _ _ c.in_ok-machine.ensures c.new-2.ensures.items c.in-Some.ensures c.requires.accepted
 
 pub returns-in-Ok-clause-answer : goal.returns-in-Ok-clause-answer
 returns-in-Ok-clause-answer g c =

@@ -4,24 +4,24 @@ use Rattle.asl_line.specs.Model.{meaning_of}
 use Rattle.asl_cmd.specs.Model.{reading_of}
 use Rattle.asl_cmd.proofs.ReadingLemmas.{IfSome-at}
 use Rattle.asl_cmd.proofs.Reports.{written_prefix}
-use Rattle.asl_rules.proofs.OneReading.{some_reading_is}
+use Rattle.asl_grammar.proofs.OneProgram.{some_reader}
 use Rattle.asl_cmd.proofs.Statuses.{not_read, not_write, usage_alone}
 use Rattle.asl_cmd.proofs.top.asl.Goals as goal
 
 pub returns-in-Ok-write_answer-clause-nothing : goal.returns-in-Ok-write_answer-clause-nothing
-returns-in-Ok-write_answer-clause-nothing g c is = absurd (not_read some_reading_is.0 _ _ _ (c.in-Ok-write_answer.ensures.answer some_reading_is.0 some_reading_is.1).1 is)
+returns-in-Ok-write_answer-clause-nothing g c is = absurd (not_read some_reader.0 _ _ _ (c.in-Ok-write_answer.ensures.answer some_reader.0 some_reader.1).1 is)
 
 pub returns-in-Ok-write_answer-clause-usage : goal.returns-in-Ok-write_answer-clause-usage
-returns-in-Ok-write_answer-clause-usage g c is = sym c.in-Ok.ensures ∙ usage_alone some_reading_is.0 _ _ _ (c.in-Ok-write_answer.ensures.answer some_reading_is.0 some_reading_is.1).1 is
+returns-in-Ok-write_answer-clause-usage g c is = sym c.in-Ok.ensures ∙ usage_alone some_reader.0 _ _ _ (c.in-Ok-write_answer.ensures.answer some_reader.0 some_reader.1).1 is
 
 pub returns-in-Ok-write_answer-clause-read_fault : goal.returns-in-Ok-write_answer-clause-read_fault
-returns-in-Ok-write_answer-clause-read_fault g c is = absurd (not_read some_reading_is.0 _ _ _ (c.in-Ok-write_answer.ensures.answer some_reading_is.0 some_reading_is.1).1 is)
+returns-in-Ok-write_answer-clause-read_fault g c is = absurd (not_read some_reader.0 _ _ _ (c.in-Ok-write_answer.ensures.answer some_reader.0 some_reader.1).1 is)
 
 pub returns-in-Ok-write_answer-clause-write_fault : goal.returns-in-Ok-write_answer-clause-write_fault
-returns-in-Ok-write_answer-clause-write_fault g c is = absurd (not_write some_reading_is.0 _ _ _ (c.in-Ok-write_answer.ensures.answer some_reading_is.0 some_reading_is.1).1 is)
+returns-in-Ok-write_answer-clause-write_fault g c is = absurd (not_write some_reader.0 _ _ _ (c.in-Ok-write_answer.ensures.answer some_reader.0 some_reader.1).1 is)
 
 pub returns-in-Ok-write_answer-clause-sure : goal.returns-in-Ok-write_answer-clause-sure
-returns-in-Ok-write_answer-clause-sure g c sure is = not_read some_reading_is.0 _ _ _ (c.in-Ok-write_answer.ensures.answer some_reading_is.0 some_reading_is.1).1 is
+returns-in-Ok-write_answer-clause-sure g c sure is = not_read some_reader.0 _ _ _ (c.in-Ok-write_answer.ensures.answer some_reader.0 some_reader.1).1 is
 
 pub returns-in-Ok-write_answer-clause-prefix : goal.returns-in-Ok-write_answer-clause-prefix
 returns-in-Ok-write_answer-clause-prefix g c = λ read is held told no.

@@ -2,7 +2,7 @@ use Rattle.std.proofs.Common.{rules}
 use mir.Syntax.{w128}
 use mir.Val.{SFits}
 use Rattle.std.proofs.lemmas.Int.{to_z-of_z}
-use Rattle.asl_cons.proofs.Inside.{int_end}
+use Rattle.asl_cons.proofs.Covering.{int_end}
 use Rattle.asl_cons.proofs.ends.number_of.Goals as goal
 
 pub returns-in-Int-clause-value : goal.returns-in-Int-clause-value

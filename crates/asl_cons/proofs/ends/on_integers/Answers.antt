@@ -2,7 +2,7 @@ use Rattle.std.proofs.Common.{◌∙◌}
 use Rattle.std.proofs.Math.IntN.{◌+ℤ◌, ◌-ℤ◌, ◌*ℤ◌}
 use Rattle.std.proofs.lemmas.Int.{to_z-of_z}
 use mir.Syntax.{w128}
-use Rattle.asl_cons.proofs.Exactly.{exact_ok}
+use Rattle.asl_cons.proofs.ExactResults.{exact_ok}
 use Rattle.asl_cons.proofs.ends.on_integers.Goals as goal
 
 pub returns-in-Sum : goal.returns-in-Sum

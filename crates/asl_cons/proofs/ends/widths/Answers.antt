@@ -1,4 +1,4 @@
-use Rattle.asl_cons.proofs.Widening.{widths_ok, widths_large}
+use Rattle.asl_cons.proofs.EndsAsWidths.{widths_ok, widths_large}
 use Rattle.asl_cons.proofs.ends.widths.Goals as goal
 
 pub returns-in-Ok : goal.returns-in-Ok

@@ -2,7 +2,7 @@ use Rattle.std.proofs.Common.{rules, arith}
 use mir.Val.{SFits}
 use mir.Syntax.{w128}
 use Rattle.std.proofs.lemmas.Int.{ints}
-use Rattle.asl_cons.proofs.Inside.{not_holds, free_not_holds}
+use Rattle.asl_cons.proofs.Covering.{not_holds, free_not_holds}
 use Rattle.asl_cons.proofs.inclusion.end_from.Goals as goal
 use Rattle.asl_cons.proofs.inclusion.end_from.Goals.{else-l-i-via-then-l-i+else-i-h, else-l-i-via-else-l-i}
 

@@ -2,7 +2,8 @@ use Rattle.std.proofs.Common.{rules, arith, ◌≡◌, drop, ◌∷◌, ◌+◌}
 use mir.Val.{SFits, to_z, of_z}
 use mir.Syntax.{w128}
 use Rattle.std.proofs.lemmas.Int.{to_z-of_z}
-use Rattle.asl_cons.proofs.Inside.{next, in_now, in_later, in_past}
+use Rattle.asl_poly.proofs.ProductLoops.{next}
+use Rattle.asl_cons.proofs.Covering.{in_now, in_later, in_past}
 use Rattle.asl_cons.proofs.inclusion.reach.Goals as goal
 
 pub returns-in-Some : goal.returns-in-Some

@@ -2,7 +2,7 @@ use Rattle.std.proofs.Common.{rules}
 use mir.Val.{SFits}
 use mir.Syntax.{w128}
 use Rattle.std.proofs.lemmas.Int.{to_z-of_z}
-use Rattle.asl_cons.proofs.Inside.{differ_above, differ_not, never, int_not_free}
+use Rattle.asl_cons.proofs.Covering.{differ_above, differ_not, iff_never, int_not_free}
 use Rattle.asl_cons.proofs.inclusion.wider.Goals as goal
 
 pub returns-in-Int : goal.returns-in-Int
@@ -17,4 +17,4 @@ returns-in-Some c =
     rw (to_z-of_z w128 c.in-Some.c f) (differ_above c.args.e.now c.args.f.now c.in-Width.p c.in-Width-f.q c.in-Some.c c.in-Width.is c.in-Width-f.is c.in-Some.ensures)
 
 pub returns-in-None : goal.returns-in-None
-returns-in-None c = never (differ_not c.args.e.now c.args.f.now c.in-Width.p c.in-Width-f.q c.in-Width.is c.in-Width-f.is c.in-None.ensures)
+returns-in-None c = iff_never (differ_not c.args.e.now c.args.f.now c.in-Width.p c.in-Width-f.q c.in-Width.is c.in-Width-f.is c.in-None.ensures)

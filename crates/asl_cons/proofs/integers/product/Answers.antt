@@ -2,7 +2,7 @@ use Rattle.std.proofs.Common.{◌∙◌}
 use Rattle.std.proofs.Math.IntN.{◌*ℤ◌}
 use Rattle.std.proofs.lemmas.Int.{to_z-of_z}
 use mir.Syntax.{w128}
-use Rattle.asl_cons.proofs.Exactly.{exact_ok}
+use Rattle.asl_cons.proofs.ExactResults.{exact_ok}
 use Rattle.asl_cons.proofs.integers.product.Goals as goal
 
 pub returns : goal.returns

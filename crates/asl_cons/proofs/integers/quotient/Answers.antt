@@ -1,7 +1,7 @@
 use Rattle.std.proofs.Common.{◌∙◌}
 use Rattle.std.proofs.lemmas.Int.{to_z-of_z}
 use mir.Syntax.{w128}
-use Rattle.asl_cons.proofs.Exactly.{quotient_is}
+use Rattle.asl_cons.proofs.ExactResults.{quotient_is}
 use Rattle.asl_cons.proofs.integers.quotient.Goals as goal
 
 pub returns : goal.returns

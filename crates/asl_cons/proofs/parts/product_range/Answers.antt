@@ -5,7 +5,7 @@ use Rattle.std.proofs.lemmas.Int.{to_z-of_z}
 use mir.Syntax.{w128}
 use mir.Val.{SFits}
 use Rattle.asl_cons.specs.Arithmetic.{exact}
-use Rattle.asl_cons.proofs.Exactly.{first_out, second_out, third_out, fourth_out, all_in}
+use Rattle.asl_cons.proofs.ExactResults.{first_out, second_out, third_out, fourth_out, all_in}
 use Rattle.asl_cons.proofs.parts.product_range.Goals as goal
 
 pub returns-in_err-a : goal.returns-in_err-a

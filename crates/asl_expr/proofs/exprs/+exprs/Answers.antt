@@ -1,4 +1,4 @@
-use Rattle.std.proofs.Common.{rules, arith, map, sym, ap, subst, ◌∙◌, Result}
+use Rattle.std.proofs.Common.{◌≡◌, rules, arith, map, sym, ap, subst, ◌∙◌, Result}
 use Rattle.asl_syn.specs.declared.code.Fault.{Fault}
 use Rattle.asl_rules.specs.Exprs as exprs
 use Rattle.asl_types.specs.Answers.{Met}
@@ -33,8 +33,9 @@ type_expr-returns-in_ok-typed-in-Tuple-clause-rule t c returns =
 
 pub type_expr-returns-in_ok-field-in-Field-clause-tree : goal.type_expr-returns-in_ok-field-in-Field-clause-tree
 type_expr-returns-in_ok-field-in-Field-clause-tree t c returns =
-    field_made c.args.e.now c.in-Field.span c.in-Field.operand c.get-in-Field.result.now c.in-Field.name _ c.in_ok-a-in-Field.a c.in_ok-field-in-Field.field-0 c.in_ok-place-in-Field.place (scope_in c.args.names.now returns c.args.class)
-    c.in-Field.is c.get-in-Field.ensures (c.in_ok-a-in-Field.ensures.rule returns) (c.in_ok-a-in-Field.ensures.tree returns) c.in_ok-place-in-Field.ensures.place c.in_ok-field-in-Field.ensures
+    let held : c.into_inner-in-Field.result ≡ c.in_ok-a-in-Field.a = search rules in
+    field_made c.args.e.now c.in-Field.span c.in-Field.operand c.get-in-Field.result.now c.in-Field.name _ c.into_inner-in-Field.result c.in_ok-field-in-Field.field-0 c.in_ok-place-in-Field.place (scope_in c.args.names.now returns c.args.class)
+    c.in-Field.is c.get-in-Field.ensures (c.in_ok-a-in-Field.ensures.rule returns) (held ∙ c.in_ok-a-in-Field.ensures.tree returns) c.in_ok-place-in-Field.ensures.place c.in_ok-field-in-Field.ensures
 
 pub type_values-loop-g-preserved : goal.type_values-loop-g-preserved
 type_values-loop-g-preserved t c = record {

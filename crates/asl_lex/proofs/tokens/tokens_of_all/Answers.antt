@@ -4,7 +4,7 @@ use Rattle.asl_grammar.specs.lexemes.Refusals.{max_width}
 use Rattle.asl_grammar.specs.lexemes.Tokens.{Tokens, LexFault}
 use Rattle.asl_grammar.proofs.lexemes.Faults.{first_fault_placed}
 use Rattle.asl_syn.specs.declared.code.Refused.TheVariants as Refused
-use Rattle.asl_lex.proofs.Filing.{one_more, fault_here, handed_on}
+use Rattle.asl_lex.proofs.FileSteps.{one_more, fault_here, handed_on}
 use Rattle.asl_lex.proofs.tokens.tokens_of_all.Goals as goal
 
 pub returns-in_err-tokens-clause-fault : goal.returns-in_err-tokens-clause-fault

@@ -1,7 +1,7 @@
-use Rattle.std.proofs.Common.{◌≡◌, ◌<◌, ap, map, sym, subst, length, Err, arith}
+use Rattle.std.proofs.Common.{◌≡◌, ◌<◌, ap, map, subst, length, Err, arith}
 use Rattle.asl_grammar.specs.grammar.Faults.{Parses, SyntaxFault}
 use Rattle.asl_syn.specs.declared.code.Refused.TheVariants as Refused
-use Rattle.asl_parse.specs.Outcomes.{text_of}
+use Rattle.asl_grammar.specs.Reading.{text_of}
 use Rattle.asl_parse.proofs.Filing.{next, fault_here, mapped_at, map_within, handed_on}
 use Rattle.asl_parse.proofs.files.trees_of_all.Goals as goal
 

@@ -1,6 +1,5 @@
 use Rattle.std.proofs.Common.{map, take}
-use Rattle.asl_rules.specs.Reading.{HasTrees}
-use Rattle.asl_parse.specs.Outcomes.{text_of}
+use Rattle.asl_grammar.specs.Reading.{text_of, HasTrees}
 use Rattle.asl_parse.proofs.files.trees_of_all.Given as goal
 
 abbrev pub invariant-loop-number : goal.invariant-loop-number

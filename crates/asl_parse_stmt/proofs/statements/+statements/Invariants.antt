@@ -1,5 +1,5 @@
 use Rattle.std.proofs.Common.{◌≡◌, ◌+◌, ◌*◌, ◌-◌, ◌∷◌, []}
-use Rattle.asl_grammar.specs.grammar.Kinds.{ASSERT, CASE, FOR, IF, LET, MINUS, NAME, OPEN_PAREN, PASS, PRINT, PRINT_LINE, REPEAT, RETURN, THROW, TRY, UNREACHABLE, VAR, WHILE}
+use Rattle.asl_grammar.specs.declared.kinds.Kind.TheVariants as kind
 use Rattle.asl_grammar.specs.grammar.Rules.{statement, block}
 use Rattle.asl_parse_expr.specs.Code.{cursor_of, reading}
 use Rattle.asl_parse_expr.proofs.Loops.{run_items}
@@ -30,4 +30,4 @@ abbrev pub decreases-try_statement : goal.decreases-try_statement
 decreases-try_statement l = l.depth * 3
 
 abbrev pub invariant-block-loop-turn : goal.invariant-block-loop-turn
-invariant-block-loop-turn l = reading l.depth block (cursor_of l.fn.tokens) ≡ run_items (reading l.depth statement) (PASS ∷ UNREACHABLE ∷ ASSERT ∷ LET ∷ VAR ∷ NAME ∷ MINUS ∷ OPEN_PAREN ∷ IF ∷ CASE ∷ FOR ∷ WHILE ∷ REPEAT ∷ RETURN ∷ THROW ∷ TRY ∷ PRINT ∷ PRINT_LINE ∷ []) (l._turn-end - l._turn) l.found (cursor_of l.tokens)
+invariant-block-loop-turn l = reading l.depth block (cursor_of l.fn.tokens) ≡ run_items (reading l.depth statement) (kind.Pass ∷ kind.Unreachable ∷ kind.Assert ∷ kind.Let ∷ kind.Var ∷ kind.Name ∷ kind.Minus ∷ kind.OpenParen ∷ kind.If ∷ kind.Case ∷ kind.For ∷ kind.While ∷ kind.Repeat ∷ kind.Return ∷ kind.Throw ∷ kind.Try ∷ kind.Print ∷ kind.PrintLine ∷ []) (l._turn-end - l._turn) l.found (cursor_of l.tokens)

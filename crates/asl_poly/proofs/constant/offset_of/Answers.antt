@@ -1,7 +1,7 @@
 use Rattle.std.proofs.Common.{◌≤◌, ◌∙◌, arith, rules, refl, unsigned_abs}
 use Rattle.asl_poly.specs.Limits.{weight}
 use Rattle.asl_poly.proofs.Offset.{rest_light}
-use Rattle.asl_poly.proofs.Sums.{difference_fits, difference_is}
+use Rattle.asl_poly.proofs.MachineIntegers.{difference_fits, difference_is}
 use Rattle.asl_poly.proofs.constant.offset_of.Goals as goal
 
 pub overflow_sub-result : goal.overflow_sub-result

@@ -32,7 +32,8 @@ returns-in_err-steps-clause-meets g c =
 pub returns-clause-meets : goal.returns-clause-meets
 returns-clause-meets g c =
     let t = c.args.target.now in
-    let found : part_in t.span t.way (value_of c.args.value.now) ≡ Good (value_of c.in_ok-part.part) = search rules in
+    let held : c.into_inner.result ≡ c.in_ok-part.part = search rules in
+    let found : part_in t.span t.way (value_of c.args.value.now) ≡ Good (value_of c.into_inner.result) = search rules in
     let same : c.as_slice-2.result.now ≡ t.steps = search rules in
     let steps : c.as_slice-3.result.now ≡ c.in_ok-steps.steps = search rules in
     let c0 = core_of c.args.places.now in
@@ -42,7 +43,7 @@ returns-clause-meets g c =
     let h1 = meter_of c.eval_steps.new.places told in
     let c2 = core_of c.assign_at.new.places in
     let h2 = meter_of c.assign_at.new.places told in
-    let y = value_of c.in_ok-part.part in
+    let y = value_of c.into_inner.result in
     let m = typed_meaning c.args.funcs.now c.args.depth in
     let z = typed_cutting c.args.funcs.now c.args.depth in
     steps_done c.args.funcs.now c.args.depth t (value_of c.args.value.now) y c0 h0 (all_steps c.in_ok-steps.steps) c1 h1 c.assign_at.result c2 h2 found

@@ -1,10 +1,10 @@
-use Rattle.std.proofs.Common.{◌≡◌, ◌<◌, ◌∙◌, false, length, sym, ap, subst, to_z-of_z}
+use Rattle.std.proofs.Common.{◌≡◌, ◌<◌, ◌∙◌, false, length, sym, ap, subst, to_z-of_z, rules}
 use Rattle.std.specs.Prelude.{slice_set}
 use Rattle.asl_rules.specs.Structures.{value_at, inside, there}
 use Rattle.asl_rules.specs.Plans.{Good}
 use Rattle.asl_value.specs.declared.value.Value.TheVariants as v
 use Rattle.asl_value.specs.Forms.{all_steps}
-use Rattle.asl_value.specs.Places.{field_at, with_field_at}
+use Rattle.asl_value.specs.Places.{field_at, updated, with_field_at}
 use Rattle.asl_value.specs.Reaching.{index_in}
 use Rattle.asl_value.specs.View.{value_of, all_values, all_fields}
 use Rattle.asl_value.proofs.Putting.{fields_put, values_put, elements_none}
@@ -19,10 +19,11 @@ put_in_elements-returns-in-None t c =
 pub put_in_fields-returns : goal.put_in_fields-returns
 put_in_fields-returns t c =
     let seen : c.as_slice.result.now ≡ c.args.fields = c.as_slice.ensures ∙ c.get.ensures in
+    let held : c.into_inner.result ≡ c.in_ok-part.part = search rules in
     fields_put c.args.span c.args.place (all_steps c.args.rest.now) (value_of c.args.new) (value_of (v.Bool false)) (value_of c.in_ok-part.part) (value_of c.in_ok-changed.changed)
     (all_fields c.args.fields) (all_fields c.set_field.new.fields) (all_fields c.set_field-2.new.fields)
     (ap (λ l. there c.args.span (field_at c.args.place (all_fields l))) (sym seen) ∙ c.in_ok-part.ensures.value)
-    c.in_ok-changed.ensures
+    (ap (λ x. updated (all_steps c.args.rest.now) (value_of c.args.new) (value_of x)) (sym held) ∙ c.in_ok-changed.ensures)
     (ap (λ l. with_field_at c.args.place (value_of (v.Bool false)) (all_fields l)) (sym c.in_ok-owned.ensures) ∙ c.in_ok-set_field.ensures.value)
     c.in_ok-set_field-2.ensures.value ∙
     ap (λ l. Good (all_fields l)) (sym c.in_ok-new.ensures)
@@ -30,10 +31,11 @@ put_in_fields-returns t c =
 pub put_in_place-returns : goal.put_in_place-returns
 put_in_place-returns t c =
     let seen : c.as_slice.result.now ≡ c.args.elements = c.as_slice.ensures ∙ c.get.ensures in
+    let held : c.into_inner.result ≡ c.in_ok-part.part = search rules in
     values_put c.args.span c.args.at (all_steps c.args.rest.now) (value_of c.args.new) (value_of c.in_ok-part.part) (v.Bool false) c.in_ok-changed.changed
     c.args.elements c.set.new.self c.set-2.new.self
     (ap (λ l. inside c.args.span (value_at c.args.at (all_values l))) (sym seen) ∙ c.in_ok-part.ensures.value)
-    c.in_ok-changed.ensures
+    (ap (λ x. updated (all_steps c.args.rest.now) (value_of c.args.new) (value_of x)) (sym held) ∙ c.in_ok-changed.ensures)
     (subst (λ l. c.args.at < length l) seen c.in_ok-part.ensures.within)
     (c.set.ensures ∙ ap (λ l. slice_set l c.args.at (v.Bool false)) c.in_ok-owned.ensures)
     c.set-2.ensures ∙

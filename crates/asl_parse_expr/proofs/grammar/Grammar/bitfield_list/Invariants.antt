@@ -1,9 +1,9 @@
 use Rattle.std.proofs.Common.{◌≡◌, ◌-◌, ◌∷◌, []}
-use Rattle.asl_grammar.specs.grammar.Kinds.{COMMA, OPEN_BRACKET}
+use Rattle.asl_grammar.specs.declared.kinds.Kind.TheVariants as kind
 use Rattle.asl_grammar.specs.grammar.Rules.{bitfield, bitfield_list}
 use Rattle.asl_parse_expr.specs.Code.{cursor_of, reading}
 use Rattle.asl_parse_expr.proofs.Loops.{run_listed}
 use Rattle.asl_parse_expr.proofs.grammar.Grammar.bitfield_list.Given as goal
 
 abbrev pub invariant-loop-turn : goal.invariant-loop-turn
-invariant-loop-turn g l = reading l.self.depth bitfield_list (cursor_of l.fn.tokens) ≡ run_listed (reading l.self.depth bitfield) (COMMA ∷ []) (OPEN_BRACKET ∷ []) (l._turn-end - l._turn) l.found (cursor_of l.tokens)
+invariant-loop-turn g l = reading l.self.depth bitfield_list (cursor_of l.fn.tokens) ≡ run_listed (reading l.self.depth bitfield) (kind.Comma ∷ []) (kind.OpenBracket ∷ []) (l._turn-end - l._turn) l.found (cursor_of l.tokens)

@@ -1,7 +1,7 @@
 use Rattle.std.proofs.Common.{rules, arith, ◌≡◌, ◌∷◌, [], ◌+◌, ◌≤◌, Ok}
 use Rattle.asl_syn.specs.declared.tree.Expr.{Expr}
 use Rattle.asl_grammar.specs.grammar.Cursor.{with_text}
-use Rattle.asl_grammar.specs.grammar.Kinds.{IF}
+use Rattle.asl_grammar.specs.declared.kinds.Kind.TheVariants as kind
 use Rattle.asl_grammar.specs.grammar.Reader.{run_opens}
 use Rattle.asl_grammar.specs.grammar.Rules.{IfParts}
 use Rattle.asl_parse_expr.specs.Code.{cursor_of, symbol}
@@ -13,10 +13,10 @@ prove-unreachable-requires g c =
     let at = cursor_of c.args.tokens.now in
     let token = with_text c.args.tokens.now.bytes.now c.in_ok-open.field-0 in
     let inside = cursor_of c.open.new.self in
-    let end = cursor_of c.nested_if.new.tokens in
-    let parts : Expr × Expr × Expr = (c.in_ok-condition.condition, c.in_ok-condition.then, c.in_ok-condition.other) in
-    let h : run_opens (IF ∷ []) at.left at.toks ≡ Ok (token, inside) = search rules in
+    let end = cursor_of c.value.new.tokens in
+    let parts : Expr × Expr × Expr = (c.in-Branches.first, c.in-Branches.second, c.in-Branches.third) in
+    let h : run_opens (kind.If ∷ []) at.left at.toks ≡ Ok (token, inside) = search rules in
     let k : symbol c.args.self.now.depth IfParts inside ≡ Ok (parts, end) = search rules in
-    let room : end.left + 1 ≤ at.left = if_room (IF ∷ []) at.left at.toks token inside c.args.self.now.depth parts end h k in
+    let room : end.left + 1 ≤ at.left = if_room (kind.If ∷ []) at.left at.toks token inside c.args.self.now.depth parts end h k in
     let more : at.left ≤ end.left = c.if-prove.true in
     omega (arith, room, more)

@@ -9,3 +9,8 @@ pub loop-turn-preserved : goal.loop-turn-preserved
 loop-turn-preserved g c =
     let e = one_more (λ n. run_more (reading c.args.self.now.depth constraint_part) n c.loop-turn.found (cursor_of c.loop-turn.tokens)) _ c.loop-turn._turn c.loop-turn-test.true c.loop-turn.invariant in
     first_of (search rules, grind (arith, common_steps))
+
+pub returns-in_err-constraint_part-2 : goal.returns-in_err-constraint_part-2
+returns-in_err-constraint_part-2 g c =
+    let e = one_more (λ n. run_more (reading c.args.self.now.depth constraint_part) n c.loop-turn.found (cursor_of c.loop-turn.tokens)) _ c.loop-turn._turn c.loop-turn-test.true c.loop-turn.invariant in
+    first_of (search rules, grind (arith, common_steps))

@@ -1,6 +1,6 @@
 use Rattle.std.proofs.Common.{rules, arith, ◌∷◌, []}
 use Rattle.std.proofs.lemmas.Grind.{common_steps}
-use Rattle.asl_grammar.specs.grammar.Kinds.{EQUAL, NOT_EQUAL}
+use Rattle.asl_grammar.specs.declared.kinds.Kind.TheVariants as kind
 use Rattle.asl_grammar.specs.grammar.Rules.{comparison}
 use Rattle.asl_parse_expr.specs.Code.{cursor_of, reading}
 use Rattle.asl_parse_expr.proofs.Loops.{run_chain, one_more}
@@ -9,7 +9,7 @@ use Rattle.asl_parse_expr.proofs.grammar.Grammar.equality_rest.Goals as goal
 
 pub loop-turn-preserved : goal.loop-turn-preserved
 loop-turn-preserved g c =
-    let e = one_more (λ n. run_chain (reading c.args.self.now.depth comparison) (EQUAL ∷ NOT_EQUAL ∷ []) (EQUAL ∷ NOT_EQUAL ∷ []) c.args.from n c.loop-turn.left (cursor_of c.loop-turn.tokens)) _ c.loop-turn._turn c.loop-turn-test.true c.loop-turn.invariant in
+    let e = one_more (λ n. run_chain (reading c.args.self.now.depth comparison) (kind.Equal ∷ kind.NotEqual ∷ []) (kind.Equal ∷ kind.NotEqual ∷ []) c.args.from n c.loop-turn.left (cursor_of c.loop-turn.tokens)) _ c.loop-turn._turn c.loop-turn-test.true c.loop-turn.invariant in
     first_of (search rules, grind (arith, common_steps))
 
 pub loop-turn-init : goal.loop-turn-init
@@ -19,5 +19,10 @@ loop-turn-init g c =
 
 pub returns-in_err-right : goal.returns-in_err-right
 returns-in_err-right g c =
-    let e = one_more (λ n. run_chain (reading c.args.self.now.depth comparison) (EQUAL ∷ NOT_EQUAL ∷ []) (EQUAL ∷ NOT_EQUAL ∷ []) c.args.from n c.loop-turn.left (cursor_of c.loop-turn.tokens)) _ c.loop-turn._turn c.loop-turn-test.true c.loop-turn.invariant in
+    let e = one_more (λ n. run_chain (reading c.args.self.now.depth comparison) (kind.Equal ∷ kind.NotEqual ∷ []) (kind.Equal ∷ kind.NotEqual ∷ []) c.args.from n c.loop-turn.left (cursor_of c.loop-turn.tokens)) _ c.loop-turn._turn c.loop-turn-test.true c.loop-turn.invariant in
+    first_of (search rules, grind (arith, common_steps))
+
+pub returns-in_err-operator : goal.returns-in_err-operator
+returns-in_err-operator g c =
+    let e = one_more (λ n. run_chain (reading c.args.self.now.depth comparison) (kind.Equal ∷ kind.NotEqual ∷ []) (kind.Equal ∷ kind.NotEqual ∷ []) c.args.from n c.loop-turn.left (cursor_of c.loop-turn.tokens)) _ c.loop-turn._turn c.loop-turn-test.true c.loop-turn.invariant in
     first_of (search rules, grind (arith, common_steps))

@@ -1,5 +1,5 @@
 use Rattle.std.proofs.Common.{◌≡◌, ◌-◌, ◌∷◌, []}
-use Rattle.asl_grammar.specs.grammar.Kinds.{STAR, DIV, DIV_RM, MOD, SHIFT_LEFT, SHIFT_RIGHT}
+use Rattle.asl_grammar.specs.declared.kinds.Kind.TheVariants as kind
 use Rattle.asl_grammar.specs.grammar.Build.{chained}
 use Rattle.asl_grammar.specs.grammar.Rules.{power, product_rest}
 use Rattle.asl_parse_expr.specs.Code.{cursor_of, reading, then}
@@ -7,4 +7,4 @@ use Rattle.asl_parse_expr.proofs.Loops.{run_chain}
 use Rattle.asl_parse_expr.proofs.grammar.Grammar.product_rest.Given as goal
 
 abbrev pub invariant-loop-turn : goal.invariant-loop-turn
-invariant-loop-turn g l = then (chained l.from l.fn.left) (reading l.self.depth product_rest (cursor_of l.fn.tokens)) ≡ run_chain (reading l.self.depth power) (STAR ∷ DIV ∷ DIV_RM ∷ MOD ∷ SHIFT_LEFT ∷ SHIFT_RIGHT ∷ []) (STAR ∷ DIV ∷ DIV_RM ∷ MOD ∷ SHIFT_LEFT ∷ SHIFT_RIGHT ∷ []) l.from (l._turn-end - l._turn) l.left (cursor_of l.tokens)
+invariant-loop-turn g l = then (chained l.from l.fn.left) (reading l.self.depth product_rest (cursor_of l.fn.tokens)) ≡ run_chain (reading l.self.depth power) (kind.Star ∷ kind.Div ∷ kind.DivRm ∷ kind.Mod ∷ kind.ShiftLeft ∷ kind.ShiftRight ∷ []) (kind.Star ∷ kind.Div ∷ kind.DivRm ∷ kind.Mod ∷ kind.ShiftLeft ∷ kind.ShiftRight ∷ []) l.from (l._turn-end - l._turn) l.left (cursor_of l.tokens)

@@ -1,9 +1,9 @@
 use Rattle.std.proofs.Common.{◌≡◌, ◌-◌, ◌∷◌, []}
-use Rattle.asl_grammar.specs.grammar.Kinds.{DOT, OPEN_BRACKET}
+use Rattle.asl_grammar.specs.declared.kinds.Kind.TheVariants as kind
 use Rattle.asl_grammar.specs.grammar.Rules.{suffix, suffixes}
 use Rattle.asl_parse_expr.specs.Code.{cursor_of, reading}
 use Rattle.asl_parse_expr.proofs.Loops.{run_items}
 use Rattle.asl_parse_expr.proofs.grammar.Grammar.suffixes.Given as goal
 
 abbrev pub invariant-loop-turn : goal.invariant-loop-turn
-invariant-loop-turn g l = reading l.self.depth suffixes (cursor_of l.fn.tokens) ≡ run_items (reading l.self.depth suffix) (DOT ∷ OPEN_BRACKET ∷ []) (l._turn-end - l._turn) l.found (cursor_of l.tokens)
+invariant-loop-turn g l = reading l.self.depth suffixes (cursor_of l.fn.tokens) ≡ run_items (reading l.self.depth suffix) (kind.Dot ∷ kind.OpenBracket ∷ []) (l._turn-end - l._turn) l.found (cursor_of l.tokens)

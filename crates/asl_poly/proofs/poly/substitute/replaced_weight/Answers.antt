@@ -1,6 +1,6 @@
 use Rattle.std.proofs.Common.{◌≡◌, ◌≤◌, ◌^◌, arith, unsigned_abs}
-use Rattle.asl_poly.proofs.Places.{weight_at}
-use Rattle.asl_poly.proofs.Sums.{light_fits}
+use Rattle.asl_poly.proofs.TermPlaces.{weight_at}
+use Rattle.asl_poly.proofs.MachineIntegers.{light_fits}
 use Rattle.std.proofs.lemmas.Int.{to_z-of_z}
 use mir.Syntax.{w128}
 use mir.Val.{SFits}

@@ -1,0 +1,12 @@
+use Rattle.std.proofs.Common.{ap, ◌∙◌}
+use Rattle.asl_grammar.specs.grammar.Cursor.{among, with_text}
+use Rattle.asl_grammar.specs.grammar.Operators.{unary_kinds}
+use Rattle.asl_parse_expr.specs.Code.{cursor_of}
+use Rattle.asl_parse_expr.proofs.Opened.{is_operator}
+use Rattle.asl_parse_expr.proofs.tokens.Tokens.prefix.Goals as goal
+
+pub unary_of-requires : goal.unary_of-requires
+unary_of-requires c =
+    let old = cursor_of c.args.self.now in
+    let token = with_text c.args.self.now.bytes.now c.in_ok-token.token in
+    ap (among unary_kinds) c.kind_of.ensures ∙ is_operator unary_kinds c.args.kinds.now old.left old.toks token (cursor_of c.open.new.self) c.requires c.in_ok-token.ensures

@@ -1,0 +1,44 @@
+//! What the words of a command line mean.
+use asl_line::parse;
+use std::alloc::{AllocError, Global};
+
+fn shown(alloc: Global, text: &str) -> Result<String, AllocError> {
+    let mut words = Vec::new(alloc);
+    for word in text.split(' ') {
+        words.push(String::from_str(alloc, word)?)?;
+    }
+    let line = parse(alloc, words.as_slice())?;
+    format!(in alloc; "{line:?}")
+}
+
+#[test]
+fn lines(rt: HostRuntime) {
+    for (text, want) in [
+        ("asl", "Usage"),
+        ("asl --help", "Usage"),
+        ("asl help", "Usage"),
+        ("asl check", "Usage"),
+        ("asl check --help", "Usage"),
+        ("asl run --steps 0 a", "Usage"),
+        ("asl run --steps 1000000001 a", "Usage"),
+        ("asl run --steps x a", "Usage"),
+        ("asl run --steps 5 --steps 6 a", "Usage"),
+        ("asl check --steps 5 a", "Usage"),
+        ("asl run -a", "Usage"),
+        ("asl exec --words w a", "Usage"),
+        ("asl self 1 1", "Usage"),
+        (
+            "asl run a --steps 5 b",
+            "Run { steps: 5, files: [\"a\", \"b\"] }",
+        ),
+        (
+            "asl run --steps=+05 a a",
+            "Run { steps: 5, files: [\"a\", \"a\"] }",
+        ),
+        ("asl run -- -a", "Run { steps: 1000000, files: [\"-a\"] }"),
+        ("asl check a b c", "Check { files: [\"a\", \"b\", \"c\"] }"),
+    ] {
+        let got = shown(rt.alloc(), text).expect(&rt, "memory");
+        assert_eq!(rt; got.as_str(), want, "{text}");
+    }
+}

@@ -1,0 +1,28 @@
+//! Tests of public calls of the other crates, where no clause says what they test. Most tests are rows of `asl_rows`; here
+//! stands what no program's text shows.
+#![tactic(auto)]
+
+#[cfg(test)]
+mod bits;
+#[cfg(test)]
+mod commands;
+#[cfg(test)]
+mod constraints;
+#[cfg(test)]
+mod declarations;
+#[cfg(test)]
+mod lexemes;
+#[cfg(test)]
+mod literals;
+#[cfg(test)]
+mod numbers;
+#[cfg(test)]
+mod outside;
+#[cfg(test)]
+mod polynomials;
+#[cfg(test)]
+mod stack;
+#[cfg(test)]
+mod types;
+#[cfg(test)]
+mod values;
