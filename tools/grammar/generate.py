@@ -3,7 +3,8 @@
 
 It writes, in the crate asl_grammar, the kinds of tokens (specs/grammar/Kinds.antt, src/kinds.rt), the operators that
 kinds are (specs/grammar/Operators.antt, src/operators.rt), the rules (specs/grammar/Rules.antt) and the proof that one
-token is enough to choose by (proofs/grammar/Checked.antt), and, in the crates asl_parse_expr and asl_parse_stmt, each rule as the steps of the function that reads it (proofs/Steps.antt).
+token is enough to choose by (proofs/grammar/Checked.antt), and, in the crates asl_parse_expr and asl_parse_stmt, the tokens that a rule may begin with (src/firsts.rt)
+and rules as the steps of the functions that read them (proofs/Steps.antt).
 
     generate.py          writes the files
     generate.py --check  writes nothing, and fails where a file is not what it would write
@@ -755,15 +756,7 @@ for name in ORDER:
         l = listing(item)
         lemmas.append(f'pub {name}_is : (d : ℕ) (st : Cursor) → reading d {name} st ≡ bind (reading d {text(item)} st) (λ x mid. run_listed (reading d {text(item)}) (kind.Comma ∷ []) {codes(l)} (length mid.toks) (x ∷ []) mid)\nunfolding {" ".join([name] + seen)}\n{name}_is d st = listed_are d {text(item)} (kind.Comma ∷ []) st\n')
     else: step_lemma(name)
-for s, (t, n, c) in SYMBOLS.items():
-    if s == 'Program': continue
-    if s == 'Operand':
-        right, proof = f'reading (d - 1) {n} st', f'deeper d {s} st some'
-    else:
-        l = [x for x in lemmas if x.startswith(f'pub {n}_is :')][0]
-        right = re.sub(r'(?<![\w.])d(?![\w])', '(d - 1)', re.search(r' ≡ (.*)\nunfolding', l).group(1))
-        proof = f'deeper d {s} st some ∙ {n}_is (d - 1) st'
-    lemmas.append(f'pub {s}_at : (d : ℕ) (st : Cursor) → 0 < d → symbol d {s} st ≡ {right}\n{s}_at d st some = {proof}\n')
+
 
 def cited(crate, found):
     """the lemmas that the crate's functions and its other proofs name, and those that these are proved by"""
@@ -787,7 +780,7 @@ def write_steps(crate, found):
     head += from_kinds(body) + from_module(PRE + 'Cursor', CURSOR + ['extent'], body) + from_module(PRE + 'Combinators', COMBINATORS, body)
     head += from_module(PRE + 'Reader', 'Outcome bind pick first run_tok run_opens'.split(), body) + from_module(PRE + 'Build', HELPERS, body) + from_module(PRE + 'Rules', ['Sym'] + list(SYMBOLS) + ORDER, body)
     head += from_module('Rattle.asl_parse_expr.specs.Code', 'reading symbol charge then ending'.split(), body)
-    head += from_module('Rattle.asl_parse_expr.proofs.Loops', 'bind_bind deeper optional_as optional_plain choice_as run_items items_are run_chain chain_is run_as_chain as_chain_are run_more more_are commas_are run_listed listed_are'.split(), body)
+    head += from_module('Rattle.asl_parse_expr.proofs.Loops', 'bind_bind optional_as optional_plain choice_as run_items items_are run_chain chain_is run_as_chain as_chain_are run_more more_are commas_are run_listed listed_are'.split(), body)
     OUT[crate + '/proofs/Steps.antt'] = head + '\n' + body
 
 
@@ -796,12 +789,57 @@ OF_EXPRESSIONS = set(list(RULES)[:STATEMENTS])
 
 
 def of_expressions(lemma):
-    name = re.match(r'pub (\w+?)_(is|at|ends)\b', lemma).group(1)
-    return (SYMBOLS[name][1] if name in SYMBOLS else name) in OF_EXPRESSIONS
+    return re.match(r'pub (\w+?)_(is|ends)\b', lemma).group(1) in OF_EXPRESSIONS
 
 
-write_steps('asl_parse_expr', [lemma for lemma in lemmas if of_expressions(lemma)])
+write_steps('asl_parse_expr', cited('asl_parse_expr', [lemma for lemma in lemmas if of_expressions(lemma)]))
 write_steps('asl_parse_stmt', cited('asl_parse_stmt', [lemma for lemma in lemmas if not of_expressions(lemma)]))
+
+# ---- the tokens that a rule may begin with, where there are several
+
+
+def operators(name): return RULES[name].body.p.p.codes
+
+
+FIRSTS = {
+    'asl_parse_expr': [
+        ('AFTER_NAME', listing(part('after_name')), 'What stands behind a name: arguments, or braces.'),
+        ('BOOLEAN_LITERAL', listing(part('boolean_literal')), '`TRUE` or `FALSE`.'),
+        ('COMPARISON_OPERATORS', operators('comparison_rest'), 'The operators that compare numbers.'),
+        ('EQUALITY_OPERATORS', operators('equality_rest'), 'The operators of a chain of equations.'),
+        ('EXPRESSION', listing(part('expression')), 'An expression.'),
+        ('LITERAL', listing(part('literal')), 'A literal that is an expression.'),
+        ('LOGIC_OPERATORS', listing(part('logic_links')), 'The logical operators.'),
+        ('OTHER_PREFIX_OPERATORS', RULES['other_unary'].body.p.arg, 'The operators before an operand, without `-`.'),
+        ('PREFIX_OPERATORS', RULES['unary'].body.p.arg, 'The operators before an operand.'),
+        ('PRODUCT_OPERATORS', operators('product_rest'), 'The operators of a product.'),
+        ('SLICE_FORM', listing(part('slice_form')), 'What stands between the two expressions of a slice.'),
+        ('SUFFIX', listing(part('suffix')), 'A suffix.'),
+        ('SUM_OPERATORS', operators('sum_rest'), 'The operators of a sum.'),
+        ('TYPE_EXPRESSION', listing(part('type_expression')), 'A type.'),
+        ('UNARY', listing(part('unary')), 'An operand.'),
+    ],
+    'asl_parse_stmt': [
+        ('DECLARATION', listing(part('declaration')), 'A declaration.'),
+        ('FIXED_STORAGE', listing(part('fixed_storage')), 'A constant, or a `let` of the whole program.'),
+        ('INVOKED', listing(part('invoked')), 'The parameters or the arguments of a call.'),
+        ('PRINT_ITEM', listing(part('print_item')), 'What `print` writes.'),
+        ('SOME_MEMBERS', listing(part('some_members')), 'What stands in the braces of a record.'),
+        ('STATEMENT', listing(part('statement')), 'A statement.'),
+        ('WRITTEN_QUALIFIER', listing(part('written_qualifier')), 'A qualifier.'),
+    ],
+}
+
+
+def array(kinds):
+    """as `rt fmt` lays an array out"""
+    line = ', '.join('Kind::' + kind for kind in kinds)
+    return f'[{line}]' if len(line) <= 60 else '[\n' + ''.join(f'    Kind::{kind},\n' for kind in kinds) + ']'
+
+
+for crate, found in FIRSTS.items():
+    body = '//! The tokens that a rule may begin with, where there are several, and the operators of a level.\n// Written by tools/grammar/generate.py from tools/grammar/table.py.\n\nuse asl_grammar::kinds::Kind;\n'
+    OUT[crate + '/src/firsts.rt'] = body + ''.join(f'\n/// {comment}\npub const {name}: [Kind; {len(kinds)}] = {array(kinds)};\n' for name, kinds, comment in found)
 
 # ---- samples
 

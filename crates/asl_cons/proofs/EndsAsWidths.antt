@@ -19,7 +19,7 @@ use Rattle.asl_cons.specs.Operation.{LightEnd, Fits, poly_by, widths_by}
 le_true : (m n : ℕ) → m ≤ n → nat_le m n ≡ true
 le_true m n h = grind (arith, nat_tests)
 
-true_le : (m n : ℕ) → nat_le m n ≡ true → m ≤ n
+pub true_le : (m n : ℕ) → nat_le m n ≡ true → m ≤ n
 true_le m n h = grind (arith, nat_tests)
 
 light_in : (e : End) → LightEnd e → light_end e ≡ true
@@ -34,7 +34,7 @@ sum_in : (p q : Polynomial) → SumFits p q → sum_fits p q ≡ true
 unfolding sum_fits
 sum_in p q h = rw (le_true (weight p.terms + weight q.terms) (2 ^ 62) h.light, le_true (length (atoms_of_both p.terms q.terms)) 8 h.few) refl
 
-sum_back : (p q : Polynomial) → sum_fits p q ≡ true → SumFits p q
+pub sum_back : (p q : Polynomial) → sum_fits p q ≡ true → SumFits p q
 unfolding sum_fits
 sum_back p q e =
     let f = and_parts (nat_le (weight p.terms + weight q.terms) (2 ^ 62)) (nat_le (length (atoms_of_both p.terms q.terms)) 8) e in
@@ -45,7 +45,7 @@ unfolding product_fits
 product_in p q h =
     rw (le_true (weight p.terms * weight q.terms) (2 ^ 62) h.light, le_true (degree p.terms + degree q.terms) 4 h.low, le_true (length (atoms_of_both p.terms q.terms)) 8 h.few) refl
 
-product_back : (p q : Polynomial) → product_fits p q ≡ true → ProductFits p q
+pub product_back : (p q : Polynomial) → product_fits p q ≡ true → ProductFits p q
 unfolding product_fits
 product_back p q e =
     let f = and_parts (nat_le (weight p.terms * weight q.terms) (2 ^ 62)) (nat_le (degree p.terms + degree q.terms) 4 && nat_le (length (atoms_of_both p.terms q.terms)) 8) e in

@@ -1,6 +1,6 @@
 -- Constraints as lists of parts, where no parts are the whole constraint: which integers they allow, and when one is below
 -- another.
-use Rattle.std.specs.Prelude.{◌≡◌, ◌≢◌, ℕ, ℤ, pos, ◌≤ℤ◌, List, [], ◌∷◌, ◌⊎◌}
+use Rattle.std.specs.Prelude.{◌≡◌, ◌≢◌, ℕ, ◌≤◌, ℤ, pos, ◌≤ℤ◌, List, [], ◌∷◌, length, ◌⊎◌}
 use Rattle.asl_poly.specs.Terms.{Polynomial}
 use Rattle.asl_poly.specs.Poly.{IsAtMost, IsAtLeast, IsConstant, IsOffset, IsPolynomial, constant_map}
 use Rattle.asl_cons.specs.declared.End.{End}
@@ -32,6 +32,11 @@ IsEnd (Width p) = IsPolynomial p
 abbrev pub AllEnds : List Part → Type 0
 AllEnds [] = Unit {0}
 AllEnds (p ∷ ps) = (IsEnd p.low × IsEnd p.high) × AllEnds ps
+
+-- what the code holds of a constraint: at most 64 parts, whose ends are polynomials within the limits
+pub record IsConstraint (ps : List Part) : Type 0 where
+  pub few : length ps ≤ 64
+  pub ends : AllEnds ps
 
 -- ---- inclusion
 

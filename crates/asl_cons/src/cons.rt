@@ -1,11 +1,12 @@
 //! Constraints.
 
 ghost use Rattle.std.specs.Prelude.{◌≡◌, ◌≤◌, ◌↔◌, [], ◌++◌, Some, IsTrue, IfOk, length};
-ghost use Rattle.asl_cons.specs.Constraint.{Below};
+ghost use Rattle.asl_cons.specs.Constraint.{AllEnds, Below};
 ghost use Rattle.asl_cons.specs.Arithmetic.{limited, union_parts, sum_parts, difference_parts, product_parts, modulo_parts, quotient_parts, shifted_up_parts, shifted_down_parts};
 
 use crate::Part;
 use crate::arithmetic::{MOST_PARTS, Operator, by_moduli, by_pairs};
+use crate::ends::within_limits;
 use crate::inclusion::all_covered;
 use crate::parts::copy_part;
 use std::alloc::{AllocError, Global};
@@ -23,14 +24,15 @@ pub struct Cons {
 }
 
 impl Model for Cons {
-    ghost use Rattle.std.specs.Prelude.{◌≤◌, List, length};
+    ghost use Rattle.std.specs.Prelude.{List};
     ghost use Rattle.asl_cons.specs.declared.Part.{Part};
+    ghost use Rattle.asl_cons.specs.Constraint.{IsConstraint};
 
     ghost Value = { List Part };
 
     ghost view = { λ c. c.parts.items };
 
-    ghost invariant = { λ c. length c.parts.items ≤ 64 };
+    ghost invariant = { λ c. IsConstraint c.parts.items };
 }
 
 // Appends copies of the parts to `made`.
@@ -41,6 +43,16 @@ fn add_copies(alloc: Global, made: &mut Vec<Part>, ps: &[Part]) -> Result<(), Al
         made.push(copy_part(alloc, p)?)?;
     }
     Ok(())
+}
+
+// The ends of all parts that are no integers are polynomials within the limits.
+fn all_within_limits(ps: &[Part])
+    ensures { AllEnds ps.now }
+{
+    for p in ps {
+        within_limits(&p.low);
+        within_limits(&p.high);
+    }
 }
 
 impl Cons {
@@ -57,6 +69,7 @@ impl Cons {
     pub fn parts(&self) -> &[Part]
         ensures parts { result.now ≡ self.now }
         ensures few { length self.now ≤ 64 }
+        ensures within_limits { AllEnds self.now }
     {
         self.parts.as_slice()
     }
@@ -77,6 +90,7 @@ impl Cons {
         if parts.len() > MOST_PARTS {
             return Ok(Cons::whole(alloc));
         }
+        all_within_limits(&parts);
         Ok(Cons { parts })
     }
 

@@ -2,7 +2,7 @@
 
 ghost use Rattle.std.specs.Prelude.{◌≡◌, ℤ, IfOk, MatchOption};
 ghost use Rattle.asl_poly.specs.Poly.{Gives};
-ghost use Rattle.asl_cons.specs.Constraint.{HasEnd, poly_of};
+ghost use Rattle.asl_cons.specs.Constraint.{HasEnd, IsEnd, poly_of};
 ghost use Rattle.asl_cons.specs.Arithmetic.{number_of, exact, shown};
 ghost use Rattle.asl_cons.specs.Operation.{Fits, PolyFits, poly_by, number_by, end_by, widths_by};
 
@@ -26,6 +26,15 @@ pub(crate) fn number_of(e: &End) -> Option<i128>
     match e {
         End::Int(n) => Some(*n),
         End::Width(p) => p.as_constant(),
+    }
+}
+
+// An end that is no integer is a polynomial within the limits. This says so of an end, and does nothing.
+pub(crate) fn within_limits(e: &End)
+    ensures { IsEnd e.now }
+{
+    if let End::Width(p) = e {
+        let _ = p.terms();
     }
 }
 

@@ -8,7 +8,7 @@ ghost use Rattle.asl_grammar.specs.Reading.{text_of, file_of, HasTrees, FirstSyn
 use crate::tree::tree_of;
 use asl_lex::tokens::tokens_of_all;
 use asl_syn::code::Refused;
-use asl_syn::place::Source;
+use asl_syn::place::{MAX_BYTES, Source};
 use asl_syn::token::Token;
 use asl_syn::tree::{Decl, Program};
 use sqlite_items::Items;
@@ -21,7 +21,7 @@ fn trees_of_all(
     tokens: &[Vec<Token>],
 ) -> Result<Items<Decl>, Refused>
     requires few { length files.now ≤ 64 }
-    requires small { All (λ s. vec_len s.bytes ≤ 1048576) files.now }
+    requires small { All (λ s. vec_len s.bytes ≤ MAX_BYTES) files.now }
     requires same { length tokens.now ≡ length files.now }
     ensures trees { IfOk result (λ v. HasTrees (map text_of files.now) (map (λ ts. ts.items) tokens.now) v) }
     ensures fault { (f : TheFault) → result ≡ Err (At f) → FirstSyntaxFault 0 (map text_of files.now) (map (λ ts. ts.items) tokens.now) f }
@@ -43,7 +43,7 @@ fn trees_of_all(
 /// the one fault: of the lexemes of the first file that has one, or else the syntax fault of the first file that has one.
 pub fn parse(alloc: Global, files: &[Source]) -> Result<Program, Refused>
     requires few { length files.now ≤ 64 }
-    requires small { All (λ s. vec_len s.bytes ≤ 1048576) files.now }
+    requires small { All (λ s. vec_len s.bytes ≤ MAX_BYTES) files.now }
     ensures program { IfOk result (λ p. Reads (map file_of files.now) (TheOk p.decls)) }
     ensures fault { (f : TheFault) → result ≡ Err (At f) → Reads (map file_of files.now) (Err f) }
 {

@@ -14,6 +14,7 @@ use asl_grammar::kinds::{Kind, kind_of};
 use asl_parse_expr::tokens::Tokens;
 use asl_parse_stmt::declarations::program;
 use asl_syn::code::{Fault, Refused, StaticCode};
+use asl_syn::place::MAX_BYTES;
 use asl_syn::token::{Span, Token};
 use asl_syn::tree::Decl;
 use sqlite_items::Items;
@@ -42,7 +43,7 @@ fn outcome_of(alloc: Global, bytes: &[u8], toks: &[Token]) -> Result<Items<Decl>
 
 /// Where the next token stands, or the end of the file.
 fn place_of(file: u32, bytes: &[u8], ahead: &[Token]) -> Span
-    requires { length bytes.now ≤ 1048576 }
+    requires { length bytes.now ≤ MAX_BYTES }
     ensures { result ≡ faults.place_of file (length bytes.now) (lexemes bytes.now ahead.now) }
 {
     match ahead.first() {
@@ -73,7 +74,7 @@ fn refusal_code(ahead: &[Token]) -> StaticCode
 
 /// The next token isn't allowed.
 fn refusal(file: u32, bytes: &[u8], ahead: &[Token]) -> Fault
-    requires { length bytes.now ≤ 1048576 }
+    requires { length bytes.now ≤ MAX_BYTES }
     ensures { result ≡ faults.refusal file (length bytes.now) (lexemes bytes.now ahead.now) }
 {
     Fault {
@@ -129,7 +130,7 @@ fn level_fault(toks: &[Token], left: usize, late: bool) -> Fault
 
 /// The syntax fault, by where the reader stopped.
 fn refused(file: u32, bytes: &[u8], toks: &[Token], error: ParseError) -> Refused
-    requires { length bytes.now ≤ 1048576 }
+    requires { length bytes.now ≤ MAX_BYTES }
     ensures fault { (f : TheFault) → result ≡ At f → outcome max_levels (lexemes bytes.now toks.now) ≡ Err error → SyntaxFault file bytes.now toks.now f }
     ensures memory { error ≡ OutOfMemory → result ≡ NoMemory }
 {
@@ -147,7 +148,7 @@ pub fn tree_of(
     bytes: &[u8],
     toks: &[Token],
 ) -> Result<Items<Decl>, Refused>
-    requires { length bytes.now ≤ 1048576 }
+    requires { length bytes.now ≤ MAX_BYTES }
     ensures tree { IfOk result (λ v. Parses bytes.now toks.now v) }
     ensures fault { (f : TheFault) → result ≡ Err (At f) → SyntaxFault file bytes.now toks.now f }
 {

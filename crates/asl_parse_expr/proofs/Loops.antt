@@ -12,8 +12,8 @@ use Rattle.asl_grammar.specs.grammar.Cursor.{Lexeme, Cursor, Kinds, Extent, star
 use Rattle.asl_grammar.specs.grammar.Combinators.{opens, tok, seq, either, opt, many, by, spanned, trail, costs}
 use Rattle.asl_grammar.specs.grammar.Reader.{first, pick, Outcome, refused, bind, run_tok, run_opens, run_many, run_item, run_trail, run_costs}
 use Rattle.asl_grammar.specs.grammar.Build.{seconds, Link, linked, chained, as_chained, suffix_on, suffixed}
-use Rattle.asl_grammar.specs.grammar.Rules.{Sym, Rule, rule}
-use Rattle.asl_parse_expr.specs.Code.{reading, symbol, charge, charged, operator_at}
+use Rattle.asl_grammar.specs.grammar.Rules.{Rule}
+use Rattle.asl_parse_expr.specs.Code.{reading, charge, charged, operator_at}
 
 pub bind_bind : {A B C : Type 0} (o : Outcome A) (f : A → Cursor → Outcome B) (g : B → Cursor → Outcome C) → bind (bind o f) g ≡ bind o (λ a mid. bind (f a mid) g)
 bind_bind (Ok r) f g = refl
@@ -29,10 +29,6 @@ bind_done (Err e) = refl
 
 pub one_more : {X : Type 0} {x : X} (f : ℕ → X) (n at : ℕ) → at < n → x ≡ f (n - at) → x ≡ f (suc (n - (at + 1)))
 one_more f n at below e = let turn : n - at ≡ suc (n - (at + 1)) = omega arith in e ∙ ap f turn
-
-pub deeper : (d : ℕ) (s : Sym) (st : Cursor) → 0 < d → symbol d s st ≡ reading (d - 1) (rule s) st
-deeper zero s st some = absurd (omega arith)
-deeper (suc d) s st some = let e : d ≡ suc d - 1 = omega arith in ap (λ n. reading n (rule s) st) e
 
 -- ---- what may be left out, and choices
 

@@ -6,6 +6,7 @@ ghost use Rattle.asl_grammar.specs.grammar.Rules as rules;
 ghost use Rattle.asl_parse_expr.specs.Code.{cursor_of, Met, reading, then};
 ghost use Rattle.asl_parse_expr.specs.Nests.{Nests};
 
+use crate::firsts::{AFTER_NAME, LITERAL, OTHER_PREFIX_OPERATORS, UNARY};
 use crate::grammar::{Grammar, Symbol, Value};
 use crate::names::name;
 use crate::operators::unary_node;
@@ -33,7 +34,7 @@ fn after_of(name: Ident, span: Span, after: AfterName) -> Expr
 fn empty_braces(tokens: &mut Tokens<'_>, depth: usize) -> Result<Braces, ParseError>
     ensures { Met (reading depth rules.empty_braces (cursor_of tokens.old)) result (cursor_of tokens.new) }
 {
-    tokens.take(&[Kind::CloseBrace])?;
+    tokens.take(Kind::CloseBrace)?;
     Ok(Braces::Empty)
 }
 
@@ -45,7 +46,7 @@ impl<F: Fn(Global, &mut Tokens<'_>, usize, Symbol) -> Result<Value, ParseError>>
         ensures { Met (reading self.now.depth rules.braces (cursor_of tokens.old)) result (cursor_of tokens.new) }
     {
         let left = tokens.left;
-        tokens.open(&[Kind::OpenBrace])?;
+        tokens.open(Kind::OpenBrace)?;
         let found = match self.value(tokens, Symbol::Braced)? {
             Value::Braces(found) => found,
             _ => unreachable!(),
@@ -87,12 +88,11 @@ impl<F: Fn(Global, &mut Tokens<'_>, usize, Symbol) -> Result<Value, ParseError>>
     }
 
     /// What stands behind a name that was read, if anything does.
-    #[tactic(auto, unfolding(asl_grammar::specs::grammar::Rules::maybe_after_name, asl_grammar::specs::grammar::Rules::after_name, asl_grammar::specs::grammar::Rules::arguments, asl_grammar::specs::grammar::Rules::after_braces, asl_grammar::specs::grammar::Rules::braces_called, asl_grammar::specs::grammar::Rules::braces, crate::specs::Code::then))]
     pub fn maybe_after_name(&self, tokens: &mut Tokens<'_>, name: Ident) -> Result<Expr, ParseError>
         requires { Nests self.now.depth (F.pre self.now.nested) (F.post self.now.nested) }
         ensures { Met (then (build.named_of name) (reading self.now.depth rules.maybe_after_name (cursor_of tokens.old))) result (cursor_of tokens.new) }
     {
-        if !tokens.starts(&[Kind::OpenParen, Kind::OpenBrace]) {
+        if !tokens.starts(&AFTER_NAME) {
             return Ok(Expr::Name(name.span, name.text));
         }
         let after = self.after_name(tokens)?;
@@ -111,7 +111,6 @@ impl<F: Fn(Global, &mut Tokens<'_>, usize, Symbol) -> Result<Value, ParseError>>
     }
 
     /// An expression whose first operator, a prefix one, was read: its level is opened here.
-    #[tactic(auto, using(crate::proofs::Tails::late_expression_is))]
     pub fn late_expression(
         &self,
         tokens: &mut Tokens<'_>,
@@ -122,20 +121,7 @@ impl<F: Fn(Global, &mut Tokens<'_>, usize, Symbol) -> Result<Value, ParseError>>
         ensures { Met (then (build.late_of from operator) (reading self.now.depth rules.late_expression (cursor_of tokens.old))) result (cursor_of tokens.new) }
     {
         let left = tokens.left;
-        tokens.charge(
-            &[
-                Kind::Minus,
-                Kind::Bang,
-                Kind::Not,
-                Kind::IntegerLiteral,
-                Kind::BitsLiteral,
-                Kind::True,
-                Kind::False,
-                Kind::OpenParen,
-                Kind::Name,
-            ],
-            true,
-        )?;
+        tokens.charge(&UNARY, true)?;
         let operand = self.unary(tokens)?;
         let whole = unary_node(self.alloc, tokens.since(from), operator, operand)?;
         let whole = self.rest(tokens, from, whole)?;
@@ -144,7 +130,6 @@ impl<F: Fn(Global, &mut Tokens<'_>, usize, Symbol) -> Result<Value, ParseError>>
     }
 
     /// An expression whose first name was read.
-    #[tactic(auto, using(crate::proofs::Tails::expression_after_name_is))]
     pub fn expression_after_name(
         &self,
         tokens: &mut Tokens<'_>,
@@ -163,19 +148,13 @@ impl<F: Fn(Global, &mut Tokens<'_>, usize, Symbol) -> Result<Value, ParseError>>
     }
 
     /// An operand that begins with neither a name nor `-`.
-    #[tactic(auto, unfolding(asl_grammar::specs::grammar::Rules::other_unary, asl_grammar::specs::grammar::Rules::prefixed_by, asl_grammar::specs::grammar::Rules::post_literal, asl_grammar::specs::grammar::Rules::literal, asl_grammar::specs::grammar::Rules::integer_literal, asl_grammar::specs::grammar::Rules::bits_literal, asl_grammar::specs::grammar::Rules::boolean_literal))]
     pub fn other_unary(&self, tokens: &mut Tokens<'_>) -> Result<Boxed<Expr>, ParseError>
         requires { Nests self.now.depth (F.pre self.now.nested) (F.post self.now.nested) }
         ensures { Met (reading self.now.depth rules.other_unary (cursor_of tokens.old)) result (cursor_of tokens.new) }
     {
-        if tokens.starts(&[Kind::Bang, Kind::Not]) {
-            self.prefixed_by(tokens, &[Kind::Bang, Kind::Not])
-        } else if tokens.starts(&[
-            Kind::IntegerLiteral,
-            Kind::BitsLiteral,
-            Kind::True,
-            Kind::False,
-        ]) {
+        if tokens.starts(&OTHER_PREFIX_OPERATORS) {
+            self.prefixed_by(tokens, &OTHER_PREFIX_OPERATORS)
+        } else if tokens.starts(&LITERAL) {
             self.post_literal(tokens)
         } else {
             self.post_parenthesized(tokens)
@@ -225,7 +204,7 @@ impl<F: Fn(Global, &mut Tokens<'_>, usize, Symbol) -> Result<Value, ParseError>>
         ensures { Met (reading self.now.depth rules.field_value (cursor_of tokens.old)) result (cursor_of tokens.new) }
     {
         let name = name(self.alloc, tokens, self.depth)?;
-        tokens.take(&[Kind::Assign])?;
+        tokens.take(Kind::Assign)?;
         let value = self.expression(tokens)?;
         Ok(FieldValue::Given(name, value.into_inner()))
     }
@@ -244,14 +223,13 @@ impl<F: Fn(Global, &mut Tokens<'_>, usize, Symbol) -> Result<Value, ParseError>>
             if !tokens.starts(&[Kind::Comma]) {
                 return Ok(found);
             }
-            tokens.take(&[Kind::Comma])?;
+            tokens.take(Kind::Comma)?;
             found.push(self.field_value(tokens)?)?;
         }
         Ok(found)
     }
 
     /// The fields of a construction from `=` on: the name of the first was read.
-    #[tactic(auto, using(crate::proofs::Tails::field_values_after_name_is))]
     pub fn field_values_after_name(
         &self,
         tokens: &mut Tokens<'_>,
@@ -260,17 +238,16 @@ impl<F: Fn(Global, &mut Tokens<'_>, usize, Symbol) -> Result<Value, ParseError>>
         requires { Nests self.now.depth (F.pre self.now.nested) (F.post self.now.nested) }
         ensures { Met (then (build.fields_from_name name) (reading self.now.depth rules.field_values_after_name (cursor_of tokens.old))) result (cursor_of tokens.new) }
     {
-        tokens.take(&[Kind::Assign])?;
+        tokens.take(Kind::Assign)?;
         let value = self.expression(tokens)?;
         let mut found = Items::new(self.alloc);
         found.push(FieldValue::Given(name, value.into_inner()))?;
         let found = self.more_field_values(tokens, found)?;
-        tokens.take(&[Kind::CloseBrace])?;
+        tokens.take(Kind::CloseBrace)?;
         Ok(found)
     }
 
     /// More parameters, each behind a comma, and the `}`.
-    #[tactic(auto, using(crate::proofs::Tails::more_parameters_is))]
     pub fn more_parameters(
         &self,
         tokens: &mut Tokens<'_>,
@@ -280,7 +257,7 @@ impl<F: Fn(Global, &mut Tokens<'_>, usize, Symbol) -> Result<Value, ParseError>>
         ensures { Met (then (build.behind found) (reading self.now.depth rules.more_parameters (cursor_of tokens.old))) result (cursor_of tokens.new) }
     {
         let found = self.more_expressions(tokens, found)?;
-        tokens.take(&[Kind::CloseBrace])?;
+        tokens.take(Kind::CloseBrace)?;
         Ok(found)
     }
 
@@ -323,7 +300,7 @@ impl<F: Fn(Global, &mut Tokens<'_>, usize, Symbol) -> Result<Value, ParseError>>
         ensures { Met (then (build.minus_in_braces_of minus) (reading self.now.depth rules.after_minus (cursor_of tokens.old))) result (cursor_of tokens.new) }
     {
         if tokens.starts(&[Kind::CloseBrace]) {
-            tokens.take(&[Kind::CloseBrace])?;
+            tokens.take(Kind::CloseBrace)?;
             return Ok(Braces::Fields(Items::new(self.alloc)));
         }
         Ok(Braces::Parameters(self.parameters_after_minus(tokens, minus)?))
@@ -351,7 +328,7 @@ impl<F: Fn(Global, &mut Tokens<'_>, usize, Symbol) -> Result<Value, ParseError>>
         requires { Nests self.now.depth (F.pre self.now.nested) (F.post self.now.nested) }
         ensures { Met (reading self.now.depth rules.minus_in_braces (cursor_of tokens.old)) result (cursor_of tokens.new) }
     {
-        let minus = tokens.take(&[Kind::Minus])?;
+        let minus = tokens.take_any(&[Kind::Minus])?;
         self.after_minus(tokens, minus.span)
     }
 
@@ -366,7 +343,6 @@ impl<F: Fn(Global, &mut Tokens<'_>, usize, Symbol) -> Result<Value, ParseError>>
     }
 
     /// Parameters of which the first begins with neither a name nor `-`.
-    #[tactic(auto, using(crate::proofs::Tails::other_in_braces_is))]
     pub fn other_in_braces(&self, tokens: &mut Tokens<'_>) -> Result<Braces, ParseError>
         requires { Nests self.now.depth (F.pre self.now.nested) (F.post self.now.nested) }
         ensures { Met (reading self.now.depth rules.other_in_braces (cursor_of tokens.old)) result (cursor_of tokens.new) }
@@ -378,7 +354,6 @@ impl<F: Fn(Global, &mut Tokens<'_>, usize, Symbol) -> Result<Value, ParseError>>
     }
 
     /// What stands in braces behind a name, and the `}`.
-    #[tactic(auto, unfolding(asl_grammar::specs::grammar::Rules::braced_in, asl_grammar::specs::grammar::Rules::empty_braces, asl_grammar::specs::grammar::Rules::minus_in_braces, asl_grammar::specs::grammar::Rules::name_in_braces, asl_grammar::specs::grammar::Rules::name))]
     pub fn braced_in(&self, tokens: &mut Tokens<'_>) -> Result<Braces, ParseError>
         requires { Nests self.now.depth (F.pre self.now.nested) (F.post self.now.nested) }
         ensures { Met (reading self.now.depth rules.braced_in (cursor_of tokens.old)) result (cursor_of tokens.new) }

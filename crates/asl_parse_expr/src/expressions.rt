@@ -8,6 +8,10 @@ ghost use Rattle.asl_grammar.specs.grammar.Rules as rules;
 ghost use Rattle.asl_parse_expr.specs.Code.{cursor_of, Met, reading, then};
 ghost use Rattle.asl_parse_expr.specs.Nests.{Nests};
 
+use crate::firsts::{
+    COMPARISON_OPERATORS, EQUALITY_OPERATORS, EXPRESSION, LITERAL, LOGIC_OPERATORS,
+    PREFIX_OPERATORS, PRODUCT_OPERATORS, SUM_OPERATORS,
+};
 use crate::grammar::{Grammar, Symbol, Value, nested};
 use crate::literals::literal;
 use crate::operators::{as_node, binary_node, in_node, unary_node};
@@ -37,7 +41,7 @@ impl<F: Fn(Global, &mut Tokens<'_>, usize, Symbol) -> Result<Value, ParseError>>
         ensures { Met (reading self.now.depth rules.parenthesized_in (cursor_of tokens.old)) result (cursor_of tokens.new) }
     {
         let found = self.expressions(tokens)?;
-        tokens.take(&[Kind::CloseParen])?;
+        tokens.take(Kind::CloseParen)?;
         Ok(found)
     }
 
@@ -49,7 +53,7 @@ impl<F: Fn(Global, &mut Tokens<'_>, usize, Symbol) -> Result<Value, ParseError>>
     {
         let from = tokens.ahead();
         let left = tokens.left;
-        tokens.open(&[Kind::OpenParen])?;
+        tokens.open(Kind::OpenParen)?;
         let parts = match self.value(tokens, Symbol::Parenthesized)? {
             Value::Expressions(found) => found,
             _ => unreachable!(),
@@ -65,7 +69,7 @@ impl<F: Fn(Global, &mut Tokens<'_>, usize, Symbol) -> Result<Value, ParseError>>
         ensures { Met (reading self.now.depth rules.arguments_in (cursor_of tokens.old)) result (cursor_of tokens.new) }
     {
         let found = self.maybe_expressions(tokens)?;
-        tokens.take(&[Kind::CloseParen])?;
+        tokens.take(Kind::CloseParen)?;
         Ok(found)
     }
 
@@ -76,7 +80,7 @@ impl<F: Fn(Global, &mut Tokens<'_>, usize, Symbol) -> Result<Value, ParseError>>
         ensures { Met (reading self.now.depth rules.arguments (cursor_of tokens.old)) result (cursor_of tokens.new) }
     {
         let left = tokens.left;
-        tokens.open(&[Kind::OpenParen])?;
+        tokens.open(Kind::OpenParen)?;
         let found = match self.value(tokens, Symbol::Arguments)? {
             Value::Expressions(found) => found,
             _ => unreachable!(),
@@ -99,7 +103,7 @@ impl<F: Fn(Global, &mut Tokens<'_>, usize, Symbol) -> Result<Value, ParseError>>
         if !tokens.starts(&[Kind::In]) {
             return Ok(left);
         }
-        tokens.open(&[Kind::In])?;
+        tokens.open(Kind::In)?;
         let pattern = self.in_pattern(tokens)?;
         Ok(in_node(self.alloc, tokens.since(from), left, pattern)?)
     }
@@ -153,7 +157,6 @@ impl<F: Fn(Global, &mut Tokens<'_>, usize, Symbol) -> Result<Value, ParseError>>
     }
 
     /// One of some prefix operators with its operand.
-    #[tactic(auto, using(crate::proofs::Tails::prefixed_by_is))]
     pub fn prefixed_by(
         &self,
         tokens: &mut Tokens<'_>,
@@ -173,19 +176,13 @@ impl<F: Fn(Global, &mut Tokens<'_>, usize, Symbol) -> Result<Value, ParseError>>
     }
 
     /// An operand of `^`.
-    #[tactic(auto, using(crate::proofs::Steps::unary_is))]
     pub fn unary(&self, tokens: &mut Tokens<'_>) -> Result<Boxed<Expr>, ParseError>
         requires { Nests self.now.depth (F.pre self.now.nested) (F.post self.now.nested) }
         ensures { Met (reading self.now.depth rules.unary (cursor_of tokens.old)) result (cursor_of tokens.new) }
     {
-        if tokens.starts(&[Kind::Minus, Kind::Bang, Kind::Not]) {
-            self.prefixed_by(tokens, &[Kind::Minus, Kind::Bang, Kind::Not])
-        } else if tokens.starts(&[
-            Kind::IntegerLiteral,
-            Kind::BitsLiteral,
-            Kind::True,
-            Kind::False,
-        ]) {
+        if tokens.starts(&PREFIX_OPERATORS) {
+            self.prefixed_by(tokens, &PREFIX_OPERATORS)
+        } else if tokens.starts(&LITERAL) {
             self.post_literal(tokens)
         } else if tokens.starts(&[Kind::OpenParen]) {
             self.post_parenthesized(tokens)
@@ -239,24 +236,10 @@ impl<F: Fn(Global, &mut Tokens<'_>, usize, Symbol) -> Result<Value, ParseError>>
         ensures { Met (then (build.chained from left) (reading self.now.depth rules.product_rest (cursor_of tokens.old))) result (cursor_of tokens.new) }
     {
         for _turn in 0..tokens.len() {
-            if !tokens.starts(&[
-                Kind::Star,
-                Kind::Div,
-                Kind::DivRm,
-                Kind::Mod,
-                Kind::ShiftLeft,
-                Kind::ShiftRight,
-            ]) {
+            if !tokens.starts(&PRODUCT_OPERATORS) {
                 return Ok(left);
             }
-            let operator = tokens.operator(&[
-                Kind::Star,
-                Kind::Div,
-                Kind::DivRm,
-                Kind::Mod,
-                Kind::ShiftLeft,
-                Kind::ShiftRight,
-            ])?;
+            let operator = tokens.operator(&PRODUCT_OPERATORS)?;
             let right = self.power(tokens)?;
             left = binary_node(self.alloc, tokens.since(from), operator, left, right)?;
         }
@@ -286,24 +269,10 @@ impl<F: Fn(Global, &mut Tokens<'_>, usize, Symbol) -> Result<Value, ParseError>>
         ensures { Met (then (build.chained from left) (reading self.now.depth rules.sum_rest (cursor_of tokens.old))) result (cursor_of tokens.new) }
     {
         for _turn in 0..tokens.len() {
-            if !tokens.starts(&[
-                Kind::Plus,
-                Kind::Minus,
-                Kind::BitAnd,
-                Kind::BitOr,
-                Kind::BitXor,
-                Kind::ColonColon,
-            ]) {
+            if !tokens.starts(&SUM_OPERATORS) {
                 return Ok(left);
             }
-            let operator = tokens.operator(&[
-                Kind::Plus,
-                Kind::Minus,
-                Kind::BitAnd,
-                Kind::BitOr,
-                Kind::BitXor,
-                Kind::ColonColon,
-            ])?;
+            let operator = tokens.operator(&SUM_OPERATORS)?;
             let right = self.product(tokens)?;
             left = binary_node(self.alloc, tokens.since(from), operator, left, right)?;
         }
@@ -331,20 +300,10 @@ impl<F: Fn(Global, &mut Tokens<'_>, usize, Symbol) -> Result<Value, ParseError>>
         requires { Nests self.now.depth (F.pre self.now.nested) (F.post self.now.nested) }
         ensures { Met (then (build.compared from left) (reading self.now.depth rules.comparison_rest (cursor_of tokens.old))) result (cursor_of tokens.new) }
     {
-        if !tokens.starts(&[
-            Kind::Less,
-            Kind::LessEqual,
-            Kind::Greater,
-            Kind::GreaterEqual,
-        ]) {
+        if !tokens.starts(&COMPARISON_OPERATORS) {
             return Ok(left);
         }
-        let operator = tokens.operator(&[
-            Kind::Less,
-            Kind::LessEqual,
-            Kind::Greater,
-            Kind::GreaterEqual,
-        ])?;
+        let operator = tokens.operator(&COMPARISON_OPERATORS)?;
         let right = self.sum(tokens)?;
         Ok(binary_node(self.alloc, tokens.since(from), operator, left, right)?)
     }
@@ -372,10 +331,10 @@ impl<F: Fn(Global, &mut Tokens<'_>, usize, Symbol) -> Result<Value, ParseError>>
         ensures { Met (then (build.chained from left) (reading self.now.depth rules.equality_rest (cursor_of tokens.old))) result (cursor_of tokens.new) }
     {
         for _turn in 0..tokens.len() {
-            if !tokens.starts(&[Kind::Equal, Kind::NotEqual]) {
+            if !tokens.starts(&EQUALITY_OPERATORS) {
                 return Ok(left);
             }
-            let operator = tokens.operator(&[Kind::Equal, Kind::NotEqual])?;
+            let operator = tokens.operator(&EQUALITY_OPERATORS)?;
             let right = self.comparison(tokens)?;
             left = binary_node(self.alloc, tokens.since(from), operator, left, right)?;
         }
@@ -469,7 +428,7 @@ impl<F: Fn(Global, &mut Tokens<'_>, usize, Symbol) -> Result<Value, ParseError>>
         requires { Nests self.now.depth (F.pre self.now.nested) (F.post self.now.nested) }
         ensures { Met (then (build.logically from left) (reading self.now.depth rules.logic_rest (cursor_of tokens.old))) result (cursor_of tokens.new) }
     {
-        if !tokens.starts(&[Kind::AndAnd, Kind::OrOr, Kind::Implies, Kind::Iff]) {
+        if !tokens.starts(&LOGIC_OPERATORS) {
             return Ok(left);
         }
         self.logic_links(tokens, from, left)
@@ -501,7 +460,7 @@ impl<F: Fn(Global, &mut Tokens<'_>, usize, Symbol) -> Result<Value, ParseError>>
             if !tokens.starts(&[Kind::As]) {
                 return Ok(left);
             }
-            tokens.open(&[Kind::As])?;
+            tokens.open(Kind::As)?;
             let ty = self.as_type(tokens)?;
             left = as_node(self.alloc, tokens.since(from), left, ty)?;
         }
@@ -529,9 +488,9 @@ impl<F: Fn(Global, &mut Tokens<'_>, usize, Symbol) -> Result<Value, ParseError>>
         ensures { Met (reading self.now.depth rules.if_parts (cursor_of tokens.old)) result (cursor_of tokens.new) }
     {
         let condition = self.open_expression(tokens)?;
-        tokens.take(&[Kind::Then])?;
+        tokens.take(Kind::Then)?;
         let then = self.open_expression(tokens)?;
-        tokens.take(&[Kind::Else])?;
+        tokens.take(Kind::Else)?;
         let other = self.open_expression(tokens)?;
         Ok((condition, then, other))
     }
@@ -544,7 +503,7 @@ impl<F: Fn(Global, &mut Tokens<'_>, usize, Symbol) -> Result<Value, ParseError>>
     {
         let from = tokens.ahead();
         let left = tokens.left;
-        tokens.open(&[Kind::If])?;
+        tokens.open(Kind::If)?;
         let (condition, then, other) = match self.value(tokens, Symbol::IfParts)? {
             Value::Branches(first, second, third) => (first, second, third),
             _ => unreachable!(),
@@ -582,7 +541,6 @@ impl<F: Fn(Global, &mut Tokens<'_>, usize, Symbol) -> Result<Value, ParseError>>
     }
 
     /// How an expression goes on behind its first operand.
-    #[tactic(auto, using(crate::proofs::Tails::rest_is))]
     pub fn rest(
         &self,
         tokens: &mut Tokens<'_>,
@@ -615,7 +573,7 @@ impl<F: Fn(Global, &mut Tokens<'_>, usize, Symbol) -> Result<Value, ParseError>>
             if !tokens.starts(&[Kind::Comma]) {
                 return Ok(found);
             }
-            tokens.take(&[Kind::Comma])?;
+            tokens.take(Kind::Comma)?;
             found.push(self.expression(tokens)?.into_inner())?;
         }
         Ok(found)
@@ -633,46 +591,22 @@ impl<F: Fn(Global, &mut Tokens<'_>, usize, Symbol) -> Result<Value, ParseError>>
     }
 
     /// Expressions with commas between, or none.
-    #[tactic(auto, unfolding(asl_grammar::specs::grammar::Rules::maybe_expressions, asl_grammar::specs::grammar::Rules::expressions, asl_grammar::specs::grammar::Rules::expression, asl_grammar::specs::grammar::Rules::open_expression, asl_grammar::specs::grammar::Rules::conditional, asl_grammar::specs::grammar::Rules::as_chain, asl_grammar::specs::grammar::Rules::logic, asl_grammar::specs::grammar::Rules::equality, asl_grammar::specs::grammar::Rules::comparison, asl_grammar::specs::grammar::Rules::sum, asl_grammar::specs::grammar::Rules::product, asl_grammar::specs::grammar::Rules::power, asl_grammar::specs::grammar::Rules::unary, asl_grammar::specs::grammar::Rules::prefixed_by, asl_grammar::specs::grammar::Rules::post_literal, asl_grammar::specs::grammar::Rules::literal, asl_grammar::specs::grammar::Rules::integer_literal, asl_grammar::specs::grammar::Rules::bits_literal, asl_grammar::specs::grammar::Rules::boolean_literal, asl_grammar::specs::grammar::Rules::post_parenthesized, asl_grammar::specs::grammar::Rules::parenthesized, asl_grammar::specs::grammar::Rules::post_named, asl_grammar::specs::grammar::Rules::named, asl_grammar::specs::grammar::Rules::name))]
     pub fn maybe_expressions(&self, tokens: &mut Tokens<'_>) -> Result<Items<Expr>, ParseError>
         requires { Nests self.now.depth (F.pre self.now.nested) (F.post self.now.nested) }
         ensures { Met (reading self.now.depth rules.maybe_expressions (cursor_of tokens.old)) result (cursor_of tokens.new) }
     {
-        if !tokens.starts(&[
-            Kind::If,
-            Kind::Minus,
-            Kind::Bang,
-            Kind::Not,
-            Kind::IntegerLiteral,
-            Kind::BitsLiteral,
-            Kind::True,
-            Kind::False,
-            Kind::OpenParen,
-            Kind::Name,
-        ]) {
+        if !tokens.starts(&EXPRESSION) {
             return Ok(Items::new(self.alloc));
         }
         self.expressions(tokens)
     }
 
     /// An expression, or none.
-    #[tactic(auto, unfolding(asl_grammar::specs::grammar::Rules::maybe_expression, asl_grammar::specs::grammar::Rules::expression, asl_grammar::specs::grammar::Rules::open_expression, asl_grammar::specs::grammar::Rules::conditional, asl_grammar::specs::grammar::Rules::as_chain, asl_grammar::specs::grammar::Rules::logic, asl_grammar::specs::grammar::Rules::equality, asl_grammar::specs::grammar::Rules::comparison, asl_grammar::specs::grammar::Rules::sum, asl_grammar::specs::grammar::Rules::product, asl_grammar::specs::grammar::Rules::power, asl_grammar::specs::grammar::Rules::unary, asl_grammar::specs::grammar::Rules::prefixed_by, asl_grammar::specs::grammar::Rules::post_literal, asl_grammar::specs::grammar::Rules::literal, asl_grammar::specs::grammar::Rules::integer_literal, asl_grammar::specs::grammar::Rules::bits_literal, asl_grammar::specs::grammar::Rules::boolean_literal, asl_grammar::specs::grammar::Rules::post_parenthesized, asl_grammar::specs::grammar::Rules::parenthesized, asl_grammar::specs::grammar::Rules::post_named, asl_grammar::specs::grammar::Rules::named, asl_grammar::specs::grammar::Rules::name))]
     pub fn maybe_expression(&self, tokens: &mut Tokens<'_>) -> Result<Option<Expr>, ParseError>
         requires { Nests self.now.depth (F.pre self.now.nested) (F.post self.now.nested) }
         ensures { Met (reading self.now.depth rules.maybe_expression (cursor_of tokens.old)) result (cursor_of tokens.new) }
     {
-        if !tokens.starts(&[
-            Kind::If,
-            Kind::Minus,
-            Kind::Bang,
-            Kind::Not,
-            Kind::IntegerLiteral,
-            Kind::BitsLiteral,
-            Kind::True,
-            Kind::False,
-            Kind::OpenParen,
-            Kind::Name,
-        ]) {
+        if !tokens.starts(&EXPRESSION) {
             return Ok(None);
         }
         Ok(Some(self.expression(tokens)?.into_inner()))

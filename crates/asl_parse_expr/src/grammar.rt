@@ -4,9 +4,8 @@
 //! An expression is passed as a `Boxed` one: to drop it is then one call, where the drop of a bare tree is written out at
 //! each place at which a function may return early, and its proof goes through all of that.
 
-ghost use Rattle.std.specs.Prelude.{◌≡◌};
-ghost use Rattle.asl_grammar.specs.grammar.Rules as rules;
-ghost use Rattle.asl_parse_expr.specs.Code.{cursor_of, Met, symbol};
+ghost use Rattle.std.specs.Prelude.{◌≡◌, suc};
+ghost use Rattle.asl_parse_expr.specs.Code.{cursor_of};
 ghost use Rattle.asl_parse_expr.specs.Nests.{Nests, MetValue};
 
 use crate::tokens::Tokens;
@@ -78,10 +77,37 @@ impl<F: Fn(Global, &mut Tokens<'_>, usize, Symbol) -> Result<Value, ParseError>>
     {
         (self.nested)(self.alloc, tokens, self.depth, what)
     }
+
+    /// Reads what a symbol stands for, by its rule: a level deeper than what nests in it.
+    fn read(&self, tokens: &mut Tokens<'_>, what: Symbol) -> Result<Value, ParseError>
+        requires { Nests self.now.depth (F.pre self.now.nested) (F.post self.now.nested) }
+        ensures { MetValue what (suc self.now.depth) (cursor_of tokens.old) result (cursor_of tokens.new) }
+    {
+        match what {
+            Symbol::Parenthesized => Ok(Value::Expressions(self.parenthesized_in(tokens)?)),
+            Symbol::Arguments => Ok(Value::Expressions(self.arguments_in(tokens)?)),
+            Symbol::Braced => Ok(Value::Braces(self.braced_in(tokens)?)),
+            Symbol::Operand => Ok(Value::Expr(self.unary(tokens)?)),
+            Symbol::IfParts => {
+                let (first, second, third) = self.if_parts(tokens)?;
+                Ok(Value::Branches(first, second, third))
+            }
+            Symbol::Bracketed => Ok(Value::Suffix(self.bracketed_in(tokens)?)),
+            Symbol::Width => Ok(Value::Expr(self.width_in(tokens)?)),
+            Symbol::SetParts => Ok(Value::Patterns(self.set_parts(tokens)?)),
+            Symbol::PatternParts => Ok(Value::Patterns(self.pattern_parts(tokens)?)),
+            Symbol::ConstraintParts => Ok(Value::Constraint(self.constraint_parts(tokens)?)),
+            Symbol::Bitfields => Ok(Value::Bitfields(self.bitfields_in(tokens)?)),
+            Symbol::TypeParts => Ok(Value::Types(self.type_parts(tokens)?)),
+            Symbol::ArrayParts => {
+                let (first, second) = self.array_parts(tokens)?;
+                Ok(Value::Array(first, second))
+            }
+        }
+    }
 }
 
 /// Reads what is nested.
-#[tactic(auto, using(crate::proofs::Loops::deeper))]
 pub fn nested(
     alloc: Global,
     tokens: &mut Tokens<'_>,
@@ -98,25 +124,5 @@ pub fn nested(
         depth: depth - 1,
         nested,
     };
-    match what {
-        Symbol::Parenthesized => Ok(Value::Expressions(grammar.parenthesized_in(tokens)?)),
-        Symbol::Arguments => Ok(Value::Expressions(grammar.arguments_in(tokens)?)),
-        Symbol::Braced => Ok(Value::Braces(grammar.braced_in(tokens)?)),
-        Symbol::Operand => Ok(Value::Expr(grammar.unary(tokens)?)),
-        Symbol::IfParts => {
-            let (first, second, third) = grammar.if_parts(tokens)?;
-            Ok(Value::Branches(first, second, third))
-        }
-        Symbol::Bracketed => Ok(Value::Suffix(grammar.bracketed_in(tokens)?)),
-        Symbol::Width => Ok(Value::Expr(grammar.width_in(tokens)?)),
-        Symbol::SetParts => Ok(Value::Patterns(grammar.set_parts(tokens)?)),
-        Symbol::PatternParts => Ok(Value::Patterns(grammar.pattern_parts(tokens)?)),
-        Symbol::ConstraintParts => Ok(Value::Constraint(grammar.constraint_parts(tokens)?)),
-        Symbol::Bitfields => Ok(Value::Bitfields(grammar.bitfields_in(tokens)?)),
-        Symbol::TypeParts => Ok(Value::Types(grammar.type_parts(tokens)?)),
-        Symbol::ArrayParts => {
-            let (first, second) = grammar.array_parts(tokens)?;
-            Ok(Value::Array(first, second))
-        }
-    }
+    grammar.read(tokens, what)
 }

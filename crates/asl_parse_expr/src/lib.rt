@@ -3,6 +3,7 @@
 
 mod braces;
 pub mod expressions;
+pub mod firsts;
 mod grammar;
 mod literals;
 pub mod names;

@@ -5,6 +5,7 @@ ghost use Rattle.asl_grammar.specs.grammar.Build as build;
 ghost use Rattle.asl_grammar.specs.grammar.Rules as rules;
 ghost use Rattle.asl_parse_expr.specs.Code.{cursor_of, Met, reading};
 
+use crate::firsts::BOOLEAN_LITERAL;
 use crate::tokens::{Tokens, text_at};
 use asl_grammar::error::ParseError;
 use asl_grammar::kinds::{Kind, kind_of};
@@ -27,7 +28,7 @@ fn int_of(kind: TokenKind) -> u128
 fn integer_literal(tokens: &mut Tokens<'_>, depth: usize) -> Result<Expr, ParseError>
     ensures { Met (reading depth rules.integer_literal (cursor_of tokens.old)) result (cursor_of tokens.new) }
 {
-    let token = tokens.take(&[Kind::IntegerLiteral])?;
+    let token = tokens.take(Kind::IntegerLiteral)?;
     Ok(Expr::Int(token.span, int_of(token.kind)))
 }
 
@@ -37,7 +38,7 @@ fn bits_literal(alloc: Global, tokens: &mut Tokens<'_>, depth: usize) -> Result<
     ensures { Met (reading depth rules.bits_literal (cursor_of tokens.old)) result (cursor_of tokens.new) }
 {
     let bytes = tokens.bytes;
-    let token = tokens.take(&[Kind::BitsLiteral])?;
+    let token = tokens.take(Kind::BitsLiteral)?;
     Ok(Expr::Bits(token.span, text_at(alloc, bytes, token.span)?))
 }
 
@@ -46,7 +47,7 @@ fn bits_literal(alloc: Global, tokens: &mut Tokens<'_>, depth: usize) -> Result<
 fn boolean_literal(tokens: &mut Tokens<'_>, depth: usize) -> Result<Expr, ParseError>
     ensures { Met (reading depth rules.boolean_literal (cursor_of tokens.old)) result (cursor_of tokens.new) }
 {
-    let token = tokens.take(&[Kind::True, Kind::False])?;
+    let token = tokens.take_any(&BOOLEAN_LITERAL)?;
     Ok(Expr::Bool(token.span, kind_of(token.kind) == Kind::True))
 }
 
@@ -74,7 +75,7 @@ pub fn bits_pattern(
     ensures { Met (reading depth rules.bits_pattern (cursor_of tokens.old)) result (cursor_of tokens.new) }
 {
     let bytes = tokens.bytes;
-    let token = tokens.take(&[Kind::BitsLiteral])?;
+    let token = tokens.take(Kind::BitsLiteral)?;
     let value = Expr::Bits(token.span, text_at(alloc, bytes, token.span)?);
     Ok(Pattern::ValuePattern(token.span, value))
 }
@@ -89,6 +90,6 @@ pub fn mask_pattern(
     ensures { Met (reading depth rules.mask_pattern (cursor_of tokens.old)) result (cursor_of tokens.new) }
 {
     let bytes = tokens.bytes;
-    let token = tokens.take(&[Kind::MaskLiteral])?;
+    let token = tokens.take(Kind::MaskLiteral)?;
     Ok(Pattern::MaskPattern(token.span, text_at(alloc, bytes, token.span)?))
 }

@@ -17,7 +17,7 @@ pub fn name(alloc: Global, tokens: &mut Tokens<'_>, depth: usize) -> Result<Iden
     ensures { Met (reading depth rules.name (cursor_of tokens.old)) result (cursor_of tokens.new) }
 {
     let bytes = tokens.bytes;
-    let token = tokens.take(&[Kind::Name])?;
+    let token = tokens.take(Kind::Name)?;
     Ok(ident(alloc, bytes, token)?)
 }
 
@@ -36,7 +36,7 @@ pub fn names(
         if !tokens.starts(&[Kind::Comma]) {
             return Ok(found);
         }
-        tokens.take(&[Kind::Comma])?;
+        tokens.take(Kind::Comma)?;
         found.push(name(alloc, tokens, depth)?)?;
     }
     Ok(found)

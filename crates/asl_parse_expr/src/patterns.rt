@@ -6,6 +6,7 @@ ghost use Rattle.asl_grammar.specs.grammar.Rules as rules;
 ghost use Rattle.asl_parse_expr.specs.Code.{cursor_of, Met, reading, then, ending};
 ghost use Rattle.asl_parse_expr.specs.Nests.{Nests};
 
+use crate::firsts::{LITERAL, UNARY};
 use crate::grammar::{Grammar, Symbol, Value, nested};
 use crate::literals::{bits_pattern, mask_pattern};
 use crate::operators::unary_node;
@@ -35,7 +36,7 @@ impl<F: Fn(Global, &mut Tokens<'_>, usize, Symbol) -> Result<Value, ParseError>>
         ensures { Met (reading self.now.depth rules.set_parts (cursor_of tokens.old)) result (cursor_of tokens.new) }
     {
         let found = self.patterns(tokens)?;
-        tokens.take(&[Kind::CloseBrace])?;
+        tokens.take(Kind::CloseBrace)?;
         Ok(found)
     }
 
@@ -46,7 +47,7 @@ impl<F: Fn(Global, &mut Tokens<'_>, usize, Symbol) -> Result<Value, ParseError>>
         ensures { Met (reading self.now.depth rules.set_braces (cursor_of tokens.old)) result (cursor_of tokens.new) }
     {
         let left = tokens.left;
-        tokens.open(&[Kind::OpenBrace])?;
+        tokens.open(Kind::OpenBrace)?;
         let found = match self.value(tokens, Symbol::SetParts)? {
             Value::Patterns(found) => found,
             _ => unreachable!(),
@@ -73,13 +74,12 @@ impl<F: Fn(Global, &mut Tokens<'_>, usize, Symbol) -> Result<Value, ParseError>>
         ensures { Met (reading self.now.depth rules.not_set_pattern (cursor_of tokens.old)) result (cursor_of tokens.new) }
     {
         let from = tokens.ahead();
-        tokens.take(&[Kind::Bang])?;
+        tokens.take(Kind::Bang)?;
         let parts = self.set_braces(tokens)?;
         Ok(Pattern::SetPattern(tokens.since(from), true, parts))
     }
 
     /// The pattern behind `IN`.
-    #[tactic(auto, using(crate::proofs::Steps::in_pattern_is))]
     pub fn in_pattern(&self, tokens: &mut Tokens<'_>) -> Result<Pattern, ParseError>
         requires { Nests self.now.depth (F.pre self.now.nested) (F.post self.now.nested) }
         ensures { Met (reading self.now.depth rules.in_pattern (cursor_of tokens.old)) result (cursor_of tokens.new) }
@@ -137,7 +137,7 @@ impl<F: Fn(Global, &mut Tokens<'_>, usize, Symbol) -> Result<Value, ParseError>>
         if !tokens.starts(&[Kind::DotDot]) {
             return Ok(Pattern::ValuePattern(tokens.since(from), low.into_inner()));
         }
-        tokens.take(&[Kind::DotDot])?;
+        tokens.take(Kind::DotDot)?;
         let high = self.scoped_sum(tokens)?;
         Ok(Pattern::RangePattern(tokens.since(from), low.into_inner(), high.into_inner()))
     }
@@ -154,20 +154,7 @@ impl<F: Fn(Global, &mut Tokens<'_>, usize, Symbol) -> Result<Value, ParseError>>
         ensures { Met (then (build.late_sum_of from operator) (reading self.now.depth rules.late_sum (cursor_of tokens.old))) result (cursor_of tokens.new) }
     {
         let left = tokens.left;
-        tokens.charge(
-            &[
-                Kind::Minus,
-                Kind::Bang,
-                Kind::Not,
-                Kind::IntegerLiteral,
-                Kind::BitsLiteral,
-                Kind::True,
-                Kind::False,
-                Kind::OpenParen,
-                Kind::Name,
-            ],
-            true,
-        )?;
+        tokens.charge(&UNARY, true)?;
         let operand = self.unary(tokens)?;
         let whole = unary_node(self.alloc, tokens.since(from), operator, operand)?;
         let whole = self.sum_rests(tokens, from, whole)?;
@@ -176,7 +163,6 @@ impl<F: Fn(Global, &mut Tokens<'_>, usize, Symbol) -> Result<Value, ParseError>>
     }
 
     /// A value or a range whose first operator, a prefix one, was read.
-    #[tactic(auto, using(crate::proofs::Tails::late_range_ends))]
     pub fn late_range(
         &self,
         tokens: &mut Tokens<'_>,
@@ -191,24 +177,13 @@ impl<F: Fn(Global, &mut Tokens<'_>, usize, Symbol) -> Result<Value, ParseError>>
     }
 
     /// `-` alone, or a value or a range that begins with it.
-    #[tactic(auto, using(crate::proofs::Tails::minus_pattern_is))]
     pub fn minus_pattern(&self, tokens: &mut Tokens<'_>) -> Result<Pattern, ParseError>
         requires { Nests self.now.depth (F.pre self.now.nested) (F.post self.now.nested) }
         ensures { Met (reading self.now.depth rules.minus_pattern (cursor_of tokens.old)) result (cursor_of tokens.new) }
     {
         let from = tokens.ahead();
-        tokens.take(&[Kind::Minus])?;
-        if tokens.starts(&[
-            Kind::Minus,
-            Kind::Bang,
-            Kind::Not,
-            Kind::IntegerLiteral,
-            Kind::BitsLiteral,
-            Kind::True,
-            Kind::False,
-            Kind::OpenParen,
-            Kind::Name,
-        ]) {
+        tokens.take(Kind::Minus)?;
+        if tokens.starts(&UNARY) {
             self.late_range(tokens, from, UnaryOperator::Negate)
         } else {
             Ok(Pattern::AnyPattern(tokens.since(from)))
@@ -216,13 +191,12 @@ impl<F: Fn(Global, &mut Tokens<'_>, usize, Symbol) -> Result<Value, ParseError>>
     }
 
     /// A set with `!`, or a value or a range that begins with `!`.
-    #[tactic(auto, using(crate::proofs::Tails::bang_pattern_is))]
     pub fn bang_pattern(&self, tokens: &mut Tokens<'_>) -> Result<Pattern, ParseError>
         requires { Nests self.now.depth (F.pre self.now.nested) (F.post self.now.nested) }
         ensures { Met (reading self.now.depth rules.bang_pattern (cursor_of tokens.old)) result (cursor_of tokens.new) }
     {
         let from = tokens.ahead();
-        tokens.take(&[Kind::Bang])?;
+        tokens.take(Kind::Bang)?;
         if tokens.starts(&[Kind::OpenBrace]) {
             let parts = self.set_braces(tokens)?;
             Ok(Pattern::SetPattern(tokens.since(from), true, parts))
@@ -238,7 +212,7 @@ impl<F: Fn(Global, &mut Tokens<'_>, usize, Symbol) -> Result<Value, ParseError>>
         ensures { Met (reading self.now.depth rules.at_most (cursor_of tokens.old)) result (cursor_of tokens.new) }
     {
         let from = tokens.ahead();
-        tokens.take(&[Kind::LessEqual])?;
+        tokens.take(Kind::LessEqual)?;
         let bound = self.scoped_sum(tokens)?;
         Ok(Pattern::AtMost(tokens.since(from), bound.into_inner()))
     }
@@ -250,7 +224,7 @@ impl<F: Fn(Global, &mut Tokens<'_>, usize, Symbol) -> Result<Value, ParseError>>
         ensures { Met (reading self.now.depth rules.at_least (cursor_of tokens.old)) result (cursor_of tokens.new) }
     {
         let from = tokens.ahead();
-        tokens.take(&[Kind::GreaterEqual])?;
+        tokens.take(Kind::GreaterEqual)?;
         let bound = self.scoped_sum(tokens)?;
         Ok(Pattern::AtLeast(tokens.since(from), bound.into_inner()))
     }
@@ -262,7 +236,7 @@ impl<F: Fn(Global, &mut Tokens<'_>, usize, Symbol) -> Result<Value, ParseError>>
         ensures { Met (reading self.now.depth rules.pattern_parts (cursor_of tokens.old)) result (cursor_of tokens.new) }
     {
         let found = self.patterns(tokens)?;
-        tokens.take(&[Kind::CloseParen])?;
+        tokens.take(Kind::CloseParen)?;
         Ok(found)
     }
 
@@ -274,7 +248,7 @@ impl<F: Fn(Global, &mut Tokens<'_>, usize, Symbol) -> Result<Value, ParseError>>
     {
         let from = tokens.ahead();
         let left = tokens.left;
-        tokens.open(&[Kind::OpenParen])?;
+        tokens.open(Kind::OpenParen)?;
         let parts = match self.value(tokens, Symbol::PatternParts)? {
             Value::Patterns(found) => found,
             _ => unreachable!(),
@@ -284,19 +258,13 @@ impl<F: Fn(Global, &mut Tokens<'_>, usize, Symbol) -> Result<Value, ParseError>>
     }
 
     /// An operand that begins with none of `-`, `!`, `(`.
-    #[tactic(auto, unfolding(asl_grammar::specs::grammar::Rules::plain_unary, asl_grammar::specs::grammar::Rules::prefixed_by, asl_grammar::specs::grammar::Rules::post_literal, asl_grammar::specs::grammar::Rules::literal, asl_grammar::specs::grammar::Rules::integer_literal, asl_grammar::specs::grammar::Rules::bits_literal, asl_grammar::specs::grammar::Rules::boolean_literal))]
     pub fn plain_unary(&self, tokens: &mut Tokens<'_>) -> Result<Boxed<Expr>, ParseError>
         requires { Nests self.now.depth (F.pre self.now.nested) (F.post self.now.nested) }
         ensures { Met (reading self.now.depth rules.plain_unary (cursor_of tokens.old)) result (cursor_of tokens.new) }
     {
         if tokens.starts(&[Kind::Not]) {
             self.prefixed_by(tokens, &[Kind::Not])
-        } else if tokens.starts(&[
-            Kind::IntegerLiteral,
-            Kind::BitsLiteral,
-            Kind::True,
-            Kind::False,
-        ]) {
+        } else if tokens.starts(&LITERAL) {
             self.post_literal(tokens)
         } else {
             self.post_named(tokens)
@@ -338,7 +306,6 @@ impl<F: Fn(Global, &mut Tokens<'_>, usize, Symbol) -> Result<Value, ParseError>>
     }
 
     /// A pattern.
-    #[tactic(auto, unfolding(asl_grammar::specs::grammar::Rules::pattern, asl_grammar::specs::grammar::Rules::minus_pattern, asl_grammar::specs::grammar::Rules::bang_pattern, asl_grammar::specs::grammar::Rules::set_pattern, asl_grammar::specs::grammar::Rules::set_braces, asl_grammar::specs::grammar::Rules::mask_pattern, asl_grammar::specs::grammar::Rules::at_most, asl_grammar::specs::grammar::Rules::at_least, asl_grammar::specs::grammar::Rules::pattern_in_parens))]
     pub fn pattern(&self, tokens: &mut Tokens<'_>) -> Result<Pattern, ParseError>
         requires { Nests self.now.depth (F.pre self.now.nested) (F.post self.now.nested) }
         ensures { Met (reading self.now.depth rules.pattern (cursor_of tokens.old)) result (cursor_of tokens.new) }
@@ -374,7 +341,7 @@ impl<F: Fn(Global, &mut Tokens<'_>, usize, Symbol) -> Result<Value, ParseError>>
             if !tokens.starts(&[Kind::Comma]) {
                 return Ok(found);
             }
-            tokens.take(&[Kind::Comma])?;
+            tokens.take(Kind::Comma)?;
             found.push(self.pattern(tokens)?)?;
         }
         Ok(found)

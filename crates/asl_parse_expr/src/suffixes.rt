@@ -6,6 +6,7 @@ ghost use Rattle.asl_grammar.specs.grammar.Rules as rules;
 ghost use Rattle.asl_parse_expr.specs.Code.{cursor_of, Met, reading, then};
 ghost use Rattle.asl_parse_expr.specs.Nests.{Nests};
 
+use crate::firsts::{SLICE_FORM, SUFFIX};
 use crate::grammar::{Grammar, Symbol, Value, nested};
 use crate::names::{name, names};
 use crate::tokens::{Tokens, span_to};
@@ -29,18 +30,17 @@ fn slice_by(first: Expr, form: SliceForm, second: Expr) -> Slice
 }
 
 /// `:`, `+:` or `*:`
-#[tactic(auto, using(crate::proofs::Steps::slice_form_is))]
 fn slice_form(tokens: &mut Tokens<'_>, depth: usize) -> Result<SliceForm, ParseError>
     ensures { Met (reading depth rules.slice_form (cursor_of tokens.old)) result (cursor_of tokens.new) }
 {
     if tokens.starts(&[Kind::Colon]) {
-        tokens.take(&[Kind::Colon])?;
+        tokens.take(Kind::Colon)?;
         Ok(SliceForm::HighLow)
     } else if tokens.starts(&[Kind::PlusColon]) {
-        tokens.take(&[Kind::PlusColon])?;
+        tokens.take(Kind::PlusColon)?;
         Ok(SliceForm::LowWidth)
     } else {
-        tokens.take(&[Kind::StarColon])?;
+        tokens.take(Kind::StarColon)?;
         Ok(SliceForm::FactorWidth)
     }
 }
@@ -69,9 +69,9 @@ fn field_list(alloc: Global, tokens: &mut Tokens<'_>, depth: usize) -> Result<Su
     ensures { Met (reading depth rules.field_list (cursor_of tokens.old)) result (cursor_of tokens.new) }
 {
     let left = tokens.left;
-    tokens.open(&[Kind::OpenBracket])?;
+    tokens.open(Kind::OpenBracket)?;
     let fields = names(alloc, tokens, depth)?;
-    tokens.take(&[Kind::CloseBracket])?;
+    tokens.take(Kind::CloseBracket)?;
     tokens.left = left;
     Ok(Suffix::FieldsOf(fields))
 }
@@ -93,7 +93,7 @@ fn dotted(alloc: Global, tokens: &mut Tokens<'_>, depth: usize) -> Result<Suffix
 fn dot(alloc: Global, tokens: &mut Tokens<'_>, depth: usize) -> Result<Suffix, ParseError>
     ensures { Met (reading depth rules.dot (cursor_of tokens.old)) result (cursor_of tokens.new) }
 {
-    tokens.open(&[Kind::Dot])?;
+    tokens.open(Kind::Dot)?;
     dotted(alloc, tokens, depth)
 }
 
@@ -107,7 +107,7 @@ impl<F: Fn(Global, &mut Tokens<'_>, usize, Symbol) -> Result<Value, ParseError>>
         requires { Nests self.now.depth (F.pre self.now.nested) (F.post self.now.nested) }
         ensures { Met (then (build.slice_of first) (reading self.now.depth rules.slice_rest (cursor_of tokens.old))) result (cursor_of tokens.new) }
     {
-        if !tokens.starts(&[Kind::Colon, Kind::PlusColon, Kind::StarColon]) {
+        if !tokens.starts(&SLICE_FORM) {
             return Ok(Slice::BitAt(first.into_inner()));
         }
         let form = slice_form(tokens, self.depth)?;
@@ -137,7 +137,7 @@ impl<F: Fn(Global, &mut Tokens<'_>, usize, Symbol) -> Result<Value, ParseError>>
             if !tokens.starts(&[Kind::Comma]) {
                 return Ok(found);
             }
-            tokens.take(&[Kind::Comma])?;
+            tokens.take(Kind::Comma)?;
             found.push(self.slice(tokens)?)?;
         }
         Ok(found)
@@ -150,7 +150,7 @@ impl<F: Fn(Global, &mut Tokens<'_>, usize, Symbol) -> Result<Value, ParseError>>
         ensures { Met (reading self.now.depth rules.slices_in (cursor_of tokens.old)) result (cursor_of tokens.new) }
     {
         let found = self.slices(tokens)?;
-        tokens.take(&[Kind::CloseBracket])?;
+        tokens.take(Kind::CloseBracket)?;
         Ok(Suffix::SlicesOf(found))
     }
 
@@ -161,11 +161,11 @@ impl<F: Fn(Global, &mut Tokens<'_>, usize, Symbol) -> Result<Value, ParseError>>
         ensures { Met (reading self.now.depth rules.element (cursor_of tokens.old)) result (cursor_of tokens.new) }
     {
         let left = tokens.left;
-        tokens.open(&[Kind::OpenBracket])?;
+        tokens.open(Kind::OpenBracket)?;
         let index = self.expression(tokens)?;
-        tokens.take(&[Kind::CloseBracket])?;
+        tokens.take(Kind::CloseBracket)?;
         tokens.left = left;
-        tokens.take(&[Kind::CloseBracket])?;
+        tokens.take(Kind::CloseBracket)?;
         Ok(Suffix::ElementOf(index.into_inner()))
     }
 
@@ -183,14 +183,13 @@ impl<F: Fn(Global, &mut Tokens<'_>, usize, Symbol) -> Result<Value, ParseError>>
     }
 
     /// Slices or an index in brackets: a level for the operator, and one for the bracket.
-    #[tactic(auto, using(crate::proofs::Tails::bracket_is))]
     pub fn bracket(&self, tokens: &mut Tokens<'_>) -> Result<Suffix, ParseError>
         requires { Nests self.now.depth (F.pre self.now.nested) (F.post self.now.nested) }
         ensures { Met (reading self.now.depth rules.bracket (cursor_of tokens.old)) result (cursor_of tokens.new) }
     {
         tokens.charge(&[Kind::OpenBracket], false)?;
         let left = tokens.left;
-        tokens.open(&[Kind::OpenBracket])?;
+        tokens.open(Kind::OpenBracket)?;
         let found = match self.value(tokens, Symbol::Bracketed)? {
             Value::Suffix(found) => found,
             _ => unreachable!(),
@@ -233,7 +232,7 @@ impl<F: Fn(Global, &mut Tokens<'_>, usize, Symbol) -> Result<Value, ParseError>>
     {
         let mut found = Items::new(self.alloc);
         for _turn in 0..tokens.len() {
-            if !tokens.starts(&[Kind::Dot, Kind::OpenBracket]) {
+            if !tokens.starts(&SUFFIX) {
                 return Ok(found);
             }
             found.push(self.suffix(tokens)?)?;
@@ -253,7 +252,7 @@ impl<F: Fn(Global, &mut Tokens<'_>, usize, Symbol) -> Result<Value, ParseError>>
         ensures { Met (then (build.suffixed from left) (reading self.now.depth rules.suffixes (cursor_of tokens.old))) result (cursor_of tokens.new) }
     {
         for _turn in 0..tokens.len() {
-            if !tokens.starts(&[Kind::Dot, Kind::OpenBracket]) {
+            if !tokens.starts(&SUFFIX) {
                 return Ok(left);
             }
             let placed = self.suffix(tokens)?;

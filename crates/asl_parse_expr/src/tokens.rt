@@ -1,6 +1,6 @@
 //! A cursor over the tokens of a file.
 
-ghost use Rattle.std.specs.Prelude.{◌≡◌, length, true, IfOk};
+ghost use Rattle.std.specs.Prelude.{◌≡◌, [], ◌∷◌, length, true, IfOk};
 ghost use Rattle.asl_grammar.specs.grammar.Build as build;
 ghost use Rattle.asl_grammar.specs.grammar.Cursor as cursor;
 ghost use Rattle.asl_grammar.specs.grammar.Operators.{binary_kinds, unary_kinds};
@@ -115,7 +115,7 @@ impl<'a> Tokens<'a> {
     }
 
     /// Reads a token of one of these kinds.
-    pub fn take(&mut self, kinds: &[Kind]) -> Result<Token, ParseError>
+    pub fn take_any(&mut self, kinds: &[Kind]) -> Result<Token, ParseError>
         ensures { MetToken (run_tok kinds.now (cursor_of self.old) (cursor_of self.old).toks) self.old.bytes.now result (cursor_of self.new) }
     {
         let toks = self.toks;
@@ -130,8 +130,15 @@ impl<'a> Tokens<'a> {
         Ok(*token)
     }
 
+    /// Reads a token of this kind.
+    pub fn take(&mut self, kind: Kind) -> Result<Token, ParseError>
+        ensures { MetToken (run_tok (kind ∷ []) (cursor_of self.old) (cursor_of self.old).toks) self.old.bytes.now result (cursor_of self.new) }
+    {
+        self.take_any(&[kind])
+    }
+
     /// Reads a token of one of these kinds, which opens a level.
-    pub fn open(&mut self, kinds: &[Kind]) -> Result<Token, ParseError>
+    pub fn open_any(&mut self, kinds: &[Kind]) -> Result<Token, ParseError>
         ensures { MetToken (run_opens kinds.now self.old.left (cursor_of self.old).toks) self.old.bytes.now result (cursor_of self.new) }
     {
         let toks = self.toks;
@@ -150,13 +157,20 @@ impl<'a> Tokens<'a> {
         Ok(*token)
     }
 
+    /// Reads a token of this kind, which opens a level.
+    pub fn open(&mut self, kind: Kind) -> Result<Token, ParseError>
+        ensures { MetToken (run_opens (kind ∷ []) self.old.left (cursor_of self.old).toks) self.old.bytes.now result (cursor_of self.new) }
+    {
+        self.open_any(&[kind])
+    }
+
     /// Reads an operator of one of these kinds before its operand, which opens a level.
     #[tactic(auto, unfolding(crate::specs::Code::prefix_at))]
     pub fn prefix(&mut self, kinds: &[Kind]) -> Result<UnaryOperator, ParseError>
         requires { covers unary_kinds kinds.now ≡ true }
         ensures { Met (prefix_at kinds.now (cursor_of self.old)) result (cursor_of self.new) }
     {
-        let token = self.open(kinds)?;
+        let token = self.open_any(kinds)?;
         Ok(unary_of(kind_of(token.kind)))
     }
 
@@ -166,7 +180,7 @@ impl<'a> Tokens<'a> {
         requires { covers binary_kinds kinds.now ≡ true }
         ensures { Met (operator_at kinds.now (cursor_of self.old)) result (cursor_of self.new) }
     {
-        let token = self.open(kinds)?;
+        let token = self.open_any(kinds)?;
         Ok(binary_of(kind_of(token.kind)))
     }
 

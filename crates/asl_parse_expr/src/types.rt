@@ -6,6 +6,7 @@ ghost use Rattle.asl_grammar.specs.grammar.Rules as rules;
 ghost use Rattle.asl_parse_expr.specs.Code.{cursor_of, Met, reading, then};
 ghost use Rattle.asl_parse_expr.specs.Nests.{Nests};
 
+use crate::firsts::TYPE_EXPRESSION;
 use crate::grammar::{Grammar, Symbol, Value, nested};
 use crate::names::name;
 use crate::tokens::{Tokens, text_at};
@@ -30,7 +31,7 @@ fn bitfield_of(high: Boxed<Expr>, low: Option<Boxed<Expr>>, name: Ident) -> Bitf
 fn boolean_type(tokens: &mut Tokens<'_>, depth: usize) -> Result<TypeExpr, ParseError>
     ensures { Met (reading depth rules.boolean_type (cursor_of tokens.old)) result (cursor_of tokens.new) }
 {
-    let token = tokens.take(&[Kind::Boolean])?;
+    let token = tokens.take(Kind::Boolean)?;
     Ok(TypeExpr::BooleanType(token.span))
 }
 
@@ -39,7 +40,7 @@ fn boolean_type(tokens: &mut Tokens<'_>, depth: usize) -> Result<TypeExpr, Parse
 fn bit_type(tokens: &mut Tokens<'_>, depth: usize) -> Result<TypeExpr, ParseError>
     ensures { Met (reading depth rules.bit_type (cursor_of tokens.old)) result (cursor_of tokens.new) }
 {
-    let token = tokens.take(&[Kind::Bit])?;
+    let token = tokens.take(Kind::Bit)?;
     Ok(TypeExpr::BitType(token.span))
 }
 
@@ -49,7 +50,7 @@ fn named_type(alloc: Global, tokens: &mut Tokens<'_>, depth: usize) -> Result<Ty
     ensures { Met (reading depth rules.named_type (cursor_of tokens.old)) result (cursor_of tokens.new) }
 {
     let bytes = tokens.bytes;
-    let token = tokens.take(&[Kind::Name])?;
+    let token = tokens.take(Kind::Name)?;
     Ok(TypeExpr::NamedType(token.span, text_at(alloc, bytes, token.span)?))
 }
 
@@ -67,7 +68,7 @@ impl<F: Fn(Global, &mut Tokens<'_>, usize, Symbol) -> Result<Value, ParseError>>
         if !tokens.starts(&[Kind::DotDot]) {
             return Ok(ConstraintPart::Only(low.into_inner()));
         }
-        tokens.take(&[Kind::DotDot])?;
+        tokens.take(Kind::DotDot)?;
         let high = self.expression(tokens)?;
         Ok(ConstraintPart::FromTo(low.into_inner(), high.into_inner()))
     }
@@ -97,7 +98,7 @@ impl<F: Fn(Global, &mut Tokens<'_>, usize, Symbol) -> Result<Value, ParseError>>
             if !tokens.starts(&[Kind::Comma]) {
                 return Ok(found);
             }
-            tokens.take(&[Kind::Comma])?;
+            tokens.take(Kind::Comma)?;
             found.push(self.constraint_part(tokens)?)?;
         }
         Ok(found)
@@ -113,7 +114,7 @@ impl<F: Fn(Global, &mut Tokens<'_>, usize, Symbol) -> Result<Value, ParseError>>
         ensures { Met (reading self.now.depth rules.constraint_parts (cursor_of tokens.old)) result (cursor_of tokens.new) }
     {
         let found = self.constraint_list(tokens)?;
-        tokens.take(&[Kind::CloseBrace])?;
+        tokens.take(Kind::CloseBrace)?;
         Ok(found)
     }
 
@@ -124,7 +125,7 @@ impl<F: Fn(Global, &mut Tokens<'_>, usize, Symbol) -> Result<Value, ParseError>>
         ensures { Met (reading self.now.depth rules.constraint (cursor_of tokens.old)) result (cursor_of tokens.new) }
     {
         let left = tokens.left;
-        tokens.open(&[Kind::OpenBrace])?;
+        tokens.open(Kind::OpenBrace)?;
         let found = match self.value(tokens, Symbol::ConstraintParts)? {
             Value::Constraint(found) => found,
             _ => unreachable!(),
@@ -157,7 +158,7 @@ impl<F: Fn(Global, &mut Tokens<'_>, usize, Symbol) -> Result<Value, ParseError>>
         if !tokens.starts(&[Kind::Colon]) {
             return Ok(None);
         }
-        tokens.take(&[Kind::Colon])?;
+        tokens.take(Kind::Colon)?;
         Ok(Some(self.expression(tokens)?))
     }
 
@@ -171,10 +172,10 @@ impl<F: Fn(Global, &mut Tokens<'_>, usize, Symbol) -> Result<Value, ParseError>>
         ensures { Met (reading self.now.depth rules.bit_ends (cursor_of tokens.old)) result (cursor_of tokens.new) }
     {
         let left = tokens.left;
-        tokens.open(&[Kind::OpenBracket])?;
+        tokens.open(Kind::OpenBracket)?;
         let high = self.expression(tokens)?;
         let low = self.low_end(tokens)?;
-        tokens.take(&[Kind::CloseBracket])?;
+        tokens.take(Kind::CloseBracket)?;
         tokens.left = left;
         Ok((high, low))
     }
@@ -202,7 +203,7 @@ impl<F: Fn(Global, &mut Tokens<'_>, usize, Symbol) -> Result<Value, ParseError>>
             if !tokens.starts(&[Kind::Comma]) {
                 return Ok(found);
             }
-            tokens.take(&[Kind::Comma])?;
+            tokens.take(Kind::Comma)?;
             if !tokens.starts(&[Kind::OpenBracket]) {
                 return Ok(found);
             }
@@ -233,7 +234,7 @@ impl<F: Fn(Global, &mut Tokens<'_>, usize, Symbol) -> Result<Value, ParseError>>
         ensures { Met (reading self.now.depth rules.bitfields_in (cursor_of tokens.old)) result (cursor_of tokens.new) }
     {
         let found = self.maybe_bitfield_list(tokens)?;
-        tokens.take(&[Kind::CloseBrace])?;
+        tokens.take(Kind::CloseBrace)?;
         Ok(found)
     }
 
@@ -244,7 +245,7 @@ impl<F: Fn(Global, &mut Tokens<'_>, usize, Symbol) -> Result<Value, ParseError>>
         ensures { Met (reading self.now.depth rules.bitfields (cursor_of tokens.old)) result (cursor_of tokens.new) }
     {
         let left = tokens.left;
-        tokens.open(&[Kind::OpenBrace])?;
+        tokens.open(Kind::OpenBrace)?;
         let found = match self.value(tokens, Symbol::Bitfields)? {
             Value::Bitfields(found) => found,
             _ => unreachable!(),
@@ -272,7 +273,7 @@ impl<F: Fn(Global, &mut Tokens<'_>, usize, Symbol) -> Result<Value, ParseError>>
         ensures { Met (reading self.now.depth rules.integer_type (cursor_of tokens.old)) result (cursor_of tokens.new) }
     {
         let from = tokens.ahead();
-        tokens.take(&[Kind::Integer])?;
+        tokens.take(Kind::Integer)?;
         let parts = self.maybe_constraint(tokens)?;
         Ok(TypeExpr::IntegerType(tokens.since(from), parts))
     }
@@ -284,7 +285,7 @@ impl<F: Fn(Global, &mut Tokens<'_>, usize, Symbol) -> Result<Value, ParseError>>
         ensures { Met (reading self.now.depth rules.width_in (cursor_of tokens.old)) result (cursor_of tokens.new) }
     {
         let width = self.expression(tokens)?;
-        tokens.take(&[Kind::CloseParen])?;
+        tokens.take(Kind::CloseParen)?;
         Ok(width)
     }
 
@@ -295,9 +296,9 @@ impl<F: Fn(Global, &mut Tokens<'_>, usize, Symbol) -> Result<Value, ParseError>>
         ensures { Met (reading self.now.depth rules.bits_type (cursor_of tokens.old)) result (cursor_of tokens.new) }
     {
         let from = tokens.ahead();
-        tokens.take(&[Kind::Bits])?;
+        tokens.take(Kind::Bits)?;
         let left = tokens.left;
-        tokens.open(&[Kind::OpenParen])?;
+        tokens.open(Kind::OpenParen)?;
         let width = match self.value(tokens, Symbol::Width)? {
             Value::Expr(found) => found,
             _ => unreachable!(),
@@ -322,21 +323,20 @@ impl<F: Fn(Global, &mut Tokens<'_>, usize, Symbol) -> Result<Value, ParseError>>
             if !tokens.starts(&[Kind::Comma]) {
                 return Ok(found);
             }
-            tokens.take(&[Kind::Comma])?;
+            tokens.take(Kind::Comma)?;
             found.push(self.type_expression(tokens)?)?;
         }
         Ok(found)
     }
 
     /// Two types or more, with commas between.
-    #[tactic(auto, using(crate::proofs::Steps::two_types_is))]
     pub fn two_types(&self, tokens: &mut Tokens<'_>) -> Result<Items<TypeExpr>, ParseError>
         requires { Nests self.now.depth (F.pre self.now.nested) (F.post self.now.nested) }
         ensures { Met (reading self.now.depth rules.two_types (cursor_of tokens.old)) result (cursor_of tokens.new) }
     {
         let mut found = Items::new(self.alloc);
         found.push(self.type_expression(tokens)?)?;
-        tokens.take(&[Kind::Comma])?;
+        tokens.take(Kind::Comma)?;
         found.push(self.type_expression(tokens)?)?;
         self.more_types(tokens, found)
     }
@@ -348,7 +348,7 @@ impl<F: Fn(Global, &mut Tokens<'_>, usize, Symbol) -> Result<Value, ParseError>>
         ensures { Met (reading self.now.depth rules.type_parts (cursor_of tokens.old)) result (cursor_of tokens.new) }
     {
         let found = self.two_types(tokens)?;
-        tokens.take(&[Kind::CloseParen])?;
+        tokens.take(Kind::CloseParen)?;
         Ok(found)
     }
 
@@ -360,7 +360,7 @@ impl<F: Fn(Global, &mut Tokens<'_>, usize, Symbol) -> Result<Value, ParseError>>
     {
         let from = tokens.ahead();
         let left = tokens.left;
-        tokens.open(&[Kind::OpenParen])?;
+        tokens.open(Kind::OpenParen)?;
         let parts = match self.value(tokens, Symbol::TypeParts)? {
             Value::Types(found) => found,
             _ => unreachable!(),
@@ -376,13 +376,13 @@ impl<F: Fn(Global, &mut Tokens<'_>, usize, Symbol) -> Result<Value, ParseError>>
         ensures { Met (reading self.now.depth rules.array_length (cursor_of tokens.old)) result (cursor_of tokens.new) }
     {
         let left = tokens.left;
-        tokens.open(&[Kind::OpenBracket])?;
+        tokens.open(Kind::OpenBracket)?;
         let inside = tokens.left;
-        tokens.open(&[Kind::OpenBracket])?;
+        tokens.open(Kind::OpenBracket)?;
         let length = self.expression(tokens)?;
-        tokens.take(&[Kind::CloseBracket])?;
+        tokens.take(Kind::CloseBracket)?;
         tokens.left = inside;
-        tokens.take(&[Kind::CloseBracket])?;
+        tokens.take(Kind::CloseBracket)?;
         tokens.left = left;
         Ok(length)
     }
@@ -397,7 +397,7 @@ impl<F: Fn(Global, &mut Tokens<'_>, usize, Symbol) -> Result<Value, ParseError>>
         ensures { Met (reading self.now.depth rules.array_parts (cursor_of tokens.old)) result (cursor_of tokens.new) }
     {
         let length = self.array_length(tokens)?;
-        tokens.take(&[Kind::Of])?;
+        tokens.take(Kind::Of)?;
         let element = self.type_expression(tokens)?;
         Ok((length, element))
     }
@@ -410,7 +410,7 @@ impl<F: Fn(Global, &mut Tokens<'_>, usize, Symbol) -> Result<Value, ParseError>>
     {
         let from = tokens.ahead();
         let left = tokens.left;
-        tokens.open(&[Kind::Array])?;
+        tokens.open(Kind::Array)?;
         let (length, element) = match self.value(tokens, Symbol::ArrayParts)? {
             Value::Array(first, second) => (first, second),
             _ => unreachable!(),
@@ -421,7 +421,6 @@ impl<F: Fn(Global, &mut Tokens<'_>, usize, Symbol) -> Result<Value, ParseError>>
     }
 
     /// A type.
-    #[tactic(auto, using(crate::proofs::Steps::type_expression_is))]
     pub fn type_expression(&self, tokens: &mut Tokens<'_>) -> Result<TypeExpr, ParseError>
         requires { Nests self.now.depth (F.pre self.now.nested) (F.post self.now.nested) }
         ensures { Met (reading self.now.depth rules.type_expression (cursor_of tokens.old)) result (cursor_of tokens.new) }
@@ -455,20 +454,11 @@ impl<F: Fn(Global, &mut Tokens<'_>, usize, Symbol) -> Result<Value, ParseError>>
     }
 
     /// What stands behind `as`: a type, or a constraint alone.
-    #[tactic(auto, unfolding(asl_grammar::specs::grammar::Rules::as_type, asl_grammar::specs::grammar::Rules::type_expression, asl_grammar::specs::grammar::Rules::integer_type, asl_grammar::specs::grammar::Rules::boolean_type, asl_grammar::specs::grammar::Rules::bit_type, asl_grammar::specs::grammar::Rules::named_type, asl_grammar::specs::grammar::Rules::bits_type, asl_grammar::specs::grammar::Rules::tuple_type, asl_grammar::specs::grammar::Rules::array_type))]
     pub fn as_type(&self, tokens: &mut Tokens<'_>) -> Result<TypeExpr, ParseError>
         requires { Nests self.now.depth (F.pre self.now.nested) (F.post self.now.nested) }
         ensures { Met (reading self.now.depth rules.as_type (cursor_of tokens.old)) result (cursor_of tokens.new) }
     {
-        if tokens.starts(&[
-            Kind::Integer,
-            Kind::Boolean,
-            Kind::Bit,
-            Kind::Name,
-            Kind::Bits,
-            Kind::OpenParen,
-            Kind::Array,
-        ]) {
+        if tokens.starts(&TYPE_EXPRESSION) {
             self.type_expression(tokens)
         } else {
             self.constraint_type(tokens)
@@ -484,7 +474,7 @@ impl<F: Fn(Global, &mut Tokens<'_>, usize, Symbol) -> Result<Value, ParseError>>
         if !tokens.starts(&[Kind::Colon]) {
             return Ok(None);
         }
-        tokens.take(&[Kind::Colon])?;
+        tokens.take(Kind::Colon)?;
         Ok(Some(self.type_expression(tokens)?))
     }
 }

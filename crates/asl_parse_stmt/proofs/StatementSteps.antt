@@ -1,43 +1,33 @@
 -- Rules whose functions take what was read before them, whose trees are known only where they end, or whose parts stand a level below.
-use Rattle.std.proofs.Common.{◌≡◌, ℕ, zero, suc, Bool, List, [], ◌∷◌, None, Ok, refl, ap, sym, ◌∙◌}
+use Rattle.std.proofs.Common.{◌≡◌, ℕ, zero, suc, List, [], ◌∷◌, Option, Ok, refl, sym, ◌∙◌}
+use Rattle.asl_syn.specs.declared.tree.Decl.TheVariants as dc
+use Rattle.asl_syn.specs.declared.tree.Direction.{Direction}
+use Rattle.asl_syn.specs.declared.tree.Expr.{Expr}
+use Rattle.asl_syn.specs.declared.tree.Formal.{Formal}
 use Rattle.asl_syn.specs.declared.tree.Ident.{Ident}
+use Rattle.asl_syn.specs.declared.tree.Param.{Param}
+use Rattle.asl_syn.specs.declared.tree.Qualifier.{Qualifier}
+use Rattle.asl_syn.specs.declared.tree.TypeExpr.{TypeExpr}
 use Rattle.asl_syn.specs.declared.tree.Target.{Target}
 use Rattle.asl_syn.specs.declared.tree.Target.TheVariants as tg
 use Rattle.asl_syn.specs.declared.tree.Stmt.TheVariants as stm
-use Rattle.asl_syn.specs.declared.tree.Binder.TheVariants as bd
-use Rattle.asl_syn.specs.declared.tree.Bind.TheVariants as bi
-use Rattle.asl_grammar.specs.declared.parts.VarTail.TheVariants as vt
 use Rattle.asl_grammar.specs.declared.kinds.Kind.TheVariants as kind
 use Rattle.asl_grammar.specs.grammar.Cursor.{Cursor, Kinds, starts, ahead, span_to}
 use Rattle.asl_grammar.specs.grammar.Reader.{Outcome, bind, pick, run_tok, run_opens}
-use Rattle.asl_grammar.specs.grammar.Build.{var_tail_of, place_of, name_statement_of, Typed}
-use Rattle.asl_grammar.specs.grammar.Rules.{Sym, Val, rule, IfBody, CaseBody, ForBody, WhileBody, RepeatBody, TryBody, TargetParts, if_body, case_body, for_body, while_body, repeat_body, try_body, if_statement, case_statement, for_statement, while_statement, repeat_statement, try_statement, two_targets, target_parts, targets, name, names, type_expression, names_typed, typed_value, maybe_value, value, var_names, name_statement, invoked, assigned}
+use Rattle.asl_grammar.specs.grammar.Build.{place_of, name_statement_of, VarRest, Untyped}
+use Rattle.asl_grammar.specs.grammar.Rules.{Sym, Val, rule, IfBody, CaseBody, ForBody, WhileBody, RepeatBody, TryBody, TargetParts, if_body, case_body, for_body, while_body, repeat_body, try_body, if_statement, case_statement, for_statement, while_statement, repeat_statement, try_statement, two_targets, target_parts, targets, name, names_typed, typed_value, value, var_rest, name_statement, invoked, assigned, expression, direction, loop_limit, block, qualifier, maybe_params, formals, result_type, recursion_limit, function}
 use Rattle.asl_parse_expr.specs.Code.{reading, symbol, then, ending}
 use Rattle.asl_parse_expr.proofs.Loops.{bind_bind, bind_same}
+use Rattle.asl_parse_stmt.specs.Heads.{for_head, function_head}
 use Rattle.asl_parse_stmt.specs.Levels.{inside, nested}
-use Rattle.asl_parse_stmt.proofs.Steps.{var_names_is, var_rest_is, name_statement_is, name_statement_rest_ends, if_statement_is, case_statement_is, for_statement_is, while_statement_is, repeat_statement_is, try_statement_is, targets_is}
+use Rattle.asl_parse_stmt.proofs.Steps.{for_body_is, function_is, var_rest_is, name_statement_is, name_statement_rest_ends, if_statement_is, case_statement_is, for_statement_is, while_statement_is, repeat_statement_is, try_statement_is, targets_is}
 
-names_typed_as : (d : ℕ) (i : Ident) (st : Cursor) → bind (reading d names_typed st) (λ x end. Ok (var_tail_of i x, end))
-    ≡ bind (run_tok (kind.Comma ∷ []) st st.toks) (λ t m. bind (reading d names m) (λ x m1. bind (run_tok (kind.Colon ∷ []) m1 m1.toks) (λ t1 m2. bind (reading d type_expression m2) (λ x1 m3. bind (run_tok (kind.Semicolon ∷ []) m3 m3.toks) (λ t2 m4. Ok (vt.Declared (i ∷ x) x1, m4))))))
-unfolding names_typed
-names_typed_as d i st = simp bind_bind
-
-typed_value_as : (d : ℕ) (i : Ident) (st : Cursor) → bind (reading d typed_value st) (λ x end. Ok (var_tail_of i x, end))
-    ≡ bind (run_tok (kind.Colon ∷ []) st st.toks) (λ t m. bind (reading d type_expression m) (λ x m1. bind (reading d maybe_value m1) (λ x1 m2. Ok (var_tail_of i (Typed x x1), m2))))
-unfolding typed_value
-typed_value_as d i st = simp bind_bind
-
-picked : {A : Type 0} (a b : Bool) (x y z x' y' : A) → x ≡ x' → y ≡ y' → pick a x (pick b y z) ≡ pick a x' (pick b y' z)
-picked a b x y z x' y' e f = ap (λ v. pick a v (pick b y z)) e ∙ ap (λ v. pick a x' (pick b v z)) f
-
-pub var_names_steps : (d : ℕ) (st : Cursor) → reading d var_names st
-    ≡ bind (reading d name st) (λ i m. pick (starts (kind.Comma ∷ []) m.toks)
-    (bind (run_tok (kind.Comma ∷ []) m m.toks) (λ t m1. bind (reading d names m1) (λ x m2. bind (run_tok (kind.Colon ∷ []) m2 m2.toks) (λ t1 m3. bind (reading d type_expression m3) (λ x1 m4. bind (run_tok (kind.Semicolon ∷ []) m4 m4.toks) (λ t2 m5. Ok (vt.Declared (i ∷ x) x1, m5)))))))
-    (pick (starts (kind.Colon ∷ []) m.toks)
-    (bind (run_tok (kind.Colon ∷ []) m m.toks) (λ t m1. bind (reading d type_expression m1) (λ x m2. bind (reading d maybe_value m2) (λ x1 m3. Ok (var_tail_of i (Typed x x1), m3)))))
-    (bind (reading d value m) (λ x end. Ok (vt.Initialised (bi.Single (bd.Bound i)) None x, end)))))
+pub var_rest_steps : {B : Type 0} (d : ℕ) (f : VarRest → B) (st : Cursor) → then f (reading d var_rest st)
+    ≡ pick (starts (kind.Comma ∷ []) st.toks) (then f (reading d names_typed st))
+    (pick (starts (kind.Colon ∷ []) st.toks) (then f (reading d typed_value st))
+    (bind (reading d value st) (λ x end. Ok (f (Untyped x), end))))
 unfolding then
-var_names_steps d st = var_names_is d st ∙ bind_same (reading d name st) _ _ (λ i m. var_rest_is d (var_tail_of i) m ∙ picked (starts (kind.Comma ∷ []) m.toks) (starts (kind.Colon ∷ []) m.toks) _ _ (bind (reading d value m) (λ x end. Ok (vt.Initialised (bi.Single (bd.Bound i)) None x, end))) _ _ (names_typed_as d i m) (typed_value_as d i m))
+var_rest_steps d f st = var_rest_is d f st
 
 pub name_statement_steps : (d : ℕ) (st : Cursor) → reading d name_statement st
     ≡ bind (reading d name st) (λ i m. pick (starts (kind.OpenBrace ∷ kind.OpenParen ∷ []) m.toks)
@@ -82,3 +72,25 @@ targets_at d st k = simp bind_bind
 
 pub targets_nest : (d : ℕ) (st : Cursor) → reading d targets st ≡ bind (nested d (kind.OpenParen ∷ []) st) (λ n m. bind (reading n two_targets m) (λ x m1. bind (run_tok (kind.CloseParen ∷ []) m1 m1.toks) (λ t m2. Ok ((tg.Targets (span_to (ahead st.toks) m2.last) x), (record m2 { left = st.left })))))
 targets_nest d st = targets_is d st ∙ nests d (kind.OpenParen ∷ []) TargetParts st (λ x m1. Ok ((tg.Targets (span_to (ahead st.toks) m1.last) x), (record m1 { left = st.left }))) ∙ bind_same (nested d (kind.OpenParen ∷ []) st) _ _ (λ n m. targets_at n m (λ x m1. Ok ((tg.Targets (span_to (ahead st.toks) m1.last) x), (record m1 { left = st.left }))))
+
+-- ---- long rules by their heads
+
+for_head_then : {B : Type 0} (d : ℕ) (st : Cursor) (k : Ident × Expr × Direction × Expr → Cursor → Outcome B) → bind (for_head d st) k
+    ≡ bind (reading d name st) (λ i m. bind (run_tok (kind.Assign ∷ []) m m.toks) (λ t m1. bind (reading d expression m1) (λ x m2. bind (reading d direction m2) (λ y m3. bind (reading d expression m3) (λ z m4. k (i, x, y, z) m4)))))
+unfolding for_head
+for_head_then d st k = simp bind_bind
+
+pub for_body_by : (d : ℕ) (st : Cursor) → reading d for_body st
+    ≡ bind (for_head d st) (λ x m. bind (reading d loop_limit m) (λ y m1. bind (run_tok (kind.Do ∷ []) m1 m1.toks) (λ t m2. bind (reading d block m2) (λ z m3. bind (run_tok (kind.End ∷ []) m3 m3.toks) (λ t1 m4. bind (run_tok (kind.Semicolon ∷ []) m4 m4.toks) (λ t2 m5. Ok ((x.0, x.1, x.2, x.3, y, z), m5)))))))
+for_body_by d st = for_body_is d st ∙ sym (for_head_then d st (λ x m. bind (reading d loop_limit m) (λ y m1. bind (run_tok (kind.Do ∷ []) m1 m1.toks) (λ t m2. bind (reading d block m2) (λ z m3. bind (run_tok (kind.End ∷ []) m3 m3.toks) (λ t1 m4. bind (run_tok (kind.Semicolon ∷ []) m4 m4.toks) (λ t2 m5. Ok ((x.0, x.1, x.2, x.3, y, z), m5))))))))
+
+function_head_then : {B : Type 0} (d : ℕ) (st : Cursor) (k : Qualifier × Ident × List Param × List Formal × Option TypeExpr → Cursor → Outcome B) → bind (function_head d st) k
+    ≡ bind (reading d qualifier st) (λ q m. bind (run_tok (kind.Func ∷ []) m m.toks) (λ t m1. bind (reading d name m1) (λ i m2. bind (reading d maybe_params m2) (λ x m3. bind (reading d formals m3) (λ y m4. bind (reading d result_type m4) (λ z m5. k (q, i, x, y, z) m5))))))
+unfolding function_head
+function_head_then d st k = simp bind_bind
+
+pub function_by : (d : ℕ) (st : Cursor) → reading d function st
+    ≡ bind (function_head d st) (λ x m. bind (reading d recursion_limit m) (λ y m1. bind (run_tok (kind.Begin ∷ []) m1 m1.toks) (λ t m2. bind (reading d block m2) (λ z m3. bind (run_tok (kind.End ∷ []) m3 m3.toks) (λ t1 m4. bind (run_tok (kind.Semicolon ∷ []) m4 m4.toks)
+    (λ t2 m5. Ok (dc.Func (record { span = span_to (ahead st.toks) m5.last; qualifier = x.0; name = x.1; params = x.2; formals = x.3; result = x.4; limit = y; body = z }), m5)))))))
+function_by d st = function_is d st ∙ sym (function_head_then d st (λ x m. bind (reading d recursion_limit m) (λ y m1. bind (run_tok (kind.Begin ∷ []) m1 m1.toks) (λ t m2. bind (reading d block m2) (λ z m3. bind (run_tok (kind.End ∷ []) m3 m3.toks) (λ t1 m4. bind (run_tok (kind.Semicolon ∷ []) m4 m4.toks)
+    (λ t2 m5. Ok (dc.Func (record { span = span_to (ahead st.toks) m5.last; qualifier = x.0; name = x.1; params = x.2; formals = x.3; result = x.4; limit = y; body = z }), m5))))))))

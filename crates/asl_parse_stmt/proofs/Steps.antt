@@ -13,6 +13,7 @@ use Rattle.asl_syn.specs.declared.tree.Stmt.TheVariants as stm
 use Rattle.asl_syn.specs.declared.tree.TypeDef.TheVariants as td
 use Rattle.asl_syn.specs.declared.tree.StorageKind.TheVariants as sk
 use Rattle.asl_syn.specs.declared.tree.Qualifier.TheVariants as ql
+use Rattle.asl_syn.specs.declared.tree.Decl.TheVariants as dc
 use Rattle.asl_syn.specs.declared.tree.Direction.TheVariants as dr
 use Rattle.asl_syn.specs.declared.tree.PrintKind.TheVariants as pk
 use Rattle.asl_syn.specs.declared.token.Span.{Span}
@@ -20,8 +21,8 @@ use Rattle.asl_grammar.specs.declared.kinds.Kind.TheVariants as kind
 use Rattle.asl_grammar.specs.grammar.Cursor.{Cursor, starts, ahead, span_to}
 use Rattle.asl_grammar.specs.grammar.Combinators.{tok, seq, either, by}
 use Rattle.asl_grammar.specs.grammar.Reader.{bind, pick, run_tok, run_opens}
-use Rattle.asl_grammar.specs.grammar.Build.{or_nil, behind, or_unqualified, var_tail_of, name_statement_of, or_no_otherwise, no_catchers, untyped, VarRest, Untyped}
-use Rattle.asl_grammar.specs.grammar.Rules.{TargetParts, IfBody, CaseBody, ForBody, WhileBody, RepeatBody, TryBody, name, integer_literal, bits_literal, boolean_literal, literal, parenthesized, arguments, named, post_literal, post_parenthesized, post_named, prefixed_by, unary, power, product, sum, comparison, equality, logic, integer_type, boolean_type, bit_type, named_type, bits_type, tuple_type, array_type, type_expression, as_chain, conditional, open_expression, expression, pass, unreachable, assert, bind_name, no_binder, binder, more_binders, several, other_bind, local_bind, value, let_statement, names_typed, no_value, maybe_value, typed_value, var_rest, var_names, var_other, var_tail, var_statement, parameters, maybe_parameters, call_arguments, invoked, assigned, name_statement_rest, name_statement, no_target, targets, other_target, assignment, if_statement, case_statement, for_statement, while_statement, repeat_statement, return_statement, throw_statement, try_statement, print_kind, verbatim, print_item, print_items, maybe_print_items, print_statement, statement, block, loop_limit, otherwise, maybe_otherwise, place, target, more_targets, else_if, else_ifs, else_block, maybe_else, where_clause, alternative, alternatives, direction, caught_type, catcher, catchers, some_catchers, handlers, formal, formal_list, maybe_formals, param, param_list, maybe_param_list, params, maybe_params, label_list, labels, no_members, listed_members, some_members, maybe_some_members, member_braces, members, record_type, exception_type, type_definition, supertype, type_decl, fixed_kind, fixed_storage, typed_var, global_rest, global_var, result_type, recursion_limit, written_qualifier, qualifier, function, declaration, program}
+use Rattle.asl_grammar.specs.grammar.Build.{or_nil, behind, or_unqualified, name_statement_of, or_no_otherwise, no_catchers, untyped, VarRest, Untyped}
+use Rattle.asl_grammar.specs.grammar.Rules.{TargetParts, IfBody, CaseBody, ForBody, WhileBody, RepeatBody, TryBody, name, integer_literal, bits_literal, boolean_literal, literal, parenthesized, arguments, named, post_literal, post_parenthesized, post_named, prefixed_by, unary, power, product, sum, comparison, equality, logic, integer_type, boolean_type, bit_type, named_type, bits_type, tuple_type, array_type, type_expression, as_chain, conditional, open_expression, expression, pass, unreachable, assert, bind_name, no_binder, binder, more_binders, two_binders, several, other_bind, local_bind, value, let_statement, names_typed, no_value, maybe_value, typed_value, var_rest, var_names, var_other, var_tail, var_statement, parameters, maybe_parameters, call_arguments, invoked, assigned, name_statement_rest, name_statement, no_target, targets, other_target, assignment, if_statement, case_statement, for_statement, while_statement, repeat_statement, return_statement, throw_statement, try_statement, print_kind, verbatim, print_item, print_items, maybe_print_items, print_statement, statement, block, loop_limit, otherwise, maybe_otherwise, place, target, more_targets, two_targets, else_if, else_ifs, else_block, maybe_else, where_clause, alternative, alternatives, direction, for_body, caught_type, catcher, catchers, some_catchers, handlers, formal, formal_list, maybe_formals, formals, param, param_list, maybe_param_list, params, maybe_params, label_list, labels, no_members, listed_members, some_members, maybe_some_members, member_braces, members, record_type, exception_type, type_definition, supertype, type_decl, fixed_kind, fixed_storage, typed_var, global_rest, global_var, result_type, recursion_limit, written_qualifier, qualifier, function, declaration, program}
 use Rattle.asl_parse_expr.specs.Code.{reading, symbol, then, ending}
 use Rattle.asl_parse_expr.proofs.Loops.{bind_bind, optional_as, optional_plain, choice_as, run_items, items_are, run_more, more_are, commas_are, run_listed, listed_are}
 
@@ -32,6 +33,10 @@ binder_is d st = refl
 pub more_binders_is : (d : ℕ) (found : List (Binder)) (st : Cursor) → then (behind found) (reading d more_binders st) ≡ run_more (reading d binder) (length st.toks) found st
 unfolding more_binders then behind
 more_binders_is d found st = more_are d binder found st
+
+pub two_binders_is : (d : ℕ) (st : Cursor) → reading d two_binders st ≡ bind (reading d binder st) (λ x m. bind (run_tok (kind.Comma ∷ []) m m.toks) (λ t m1. bind (reading d binder m1) (λ x1 m2. then (behind (x ∷ x1 ∷ [])) (reading d more_binders m2))))
+unfolding two_binders then
+two_binders_is d st = simp bind_bind
 
 pub other_bind_is : (d : ℕ) (st : Cursor) → reading d other_bind st ≡ pick (starts (kind.Minus ∷ []) st.toks) (bind (reading d no_binder st) (λ x m. Ok ((bi.Single x), m))) (reading d several st)
 unfolding other_bind no_binder
@@ -48,10 +53,6 @@ maybe_value_is d st = refl
 pub var_rest_is : {B : Type 0} (d : ℕ) (f : VarRest → B) (st : Cursor) → then f (reading d var_rest st) ≡ pick (starts (kind.Comma ∷ []) st.toks) (bind (reading d names_typed st) (λ x m. Ok (f x, m))) (pick (starts (kind.Colon ∷ []) st.toks) (bind (reading d typed_value st) (λ x m. Ok (f x, m))) (bind (reading d value st) (λ x m. Ok (f (Untyped x), m))))
 unfolding var_rest names_typed typed_value then
 var_rest_is d f st = choice_as d names_typed (either typed_value (by Untyped value)) st (λ x end. Ok (f x, end)) (bind (reading d names_typed st) (λ x m. Ok (f x, m))) (pick (starts (kind.Colon ∷ []) st.toks) (bind (reading d typed_value st) (λ x m. Ok (f x, m))) (bind (reading d value st) (λ x m. Ok (f (Untyped x), m)))) (refl) (choice_as d typed_value (by Untyped value) st (λ x end. Ok (f x, end)) (bind (reading d typed_value st) (λ x m. Ok (f x, m))) (bind (reading d value st) (λ x m. Ok (f (Untyped x), m))) (refl) (simp bind_bind))
-
-pub var_names_is : (d : ℕ) (st : Cursor) → reading d var_names st ≡ bind (reading d name st) (λ x m. then (var_tail_of x) (reading d var_rest m))
-unfolding var_names then
-var_names_is d st = simp bind_bind
 
 pub var_tail_is : (d : ℕ) (st : Cursor) → reading d var_tail st ≡ pick (starts (kind.Name ∷ []) st.toks) (reading d var_names st) (reading d var_other st)
 unfolding var_tail var_names name
@@ -141,6 +142,10 @@ pub more_targets_is : (d : ℕ) (found : List (Target)) (st : Cursor) → then (
 unfolding more_targets then behind
 more_targets_is d found st = more_are d target found st
 
+pub two_targets_is : (d : ℕ) (st : Cursor) → reading d two_targets st ≡ bind (reading d target st) (λ x m. bind (run_tok (kind.Comma ∷ []) m m.toks) (λ t m1. bind (reading d target m1) (λ x1 m2. then (behind (x ∷ x1 ∷ [])) (reading d more_targets m2))))
+unfolding two_targets then
+two_targets_is d st = simp bind_bind
+
 pub else_ifs_is : (d : ℕ) (st : Cursor) → reading d else_ifs st ≡ run_items (reading d else_if) (kind.ElsIf ∷ []) (length st.toks) [] st
 unfolding else_ifs else_if
 else_ifs_is d st = items_are d else_if st
@@ -160,6 +165,10 @@ alternatives_is d st = items_are d alternative st
 pub direction_is : (d : ℕ) (st : Cursor) → reading d direction st ≡ pick (starts (kind.To ∷ []) st.toks) (bind (run_tok (kind.To ∷ []) st st.toks) (λ t m. Ok (dr.Up, m))) (bind (run_tok (kind.DownTo ∷ []) st st.toks) (λ t m. Ok (dr.Down, m)))
 unfolding direction
 direction_is d st = refl
+
+pub for_body_is : (d : ℕ) (st : Cursor) → reading d for_body st ≡ bind (reading d name st) (λ x m. bind (run_tok (kind.Assign ∷ []) m m.toks) (λ t m1. bind (reading d expression m1) (λ x1 m2. bind (reading d direction m2) (λ x2 m3. bind (reading d expression m3) (λ x3 m4. bind (reading d loop_limit m4) (λ x4 m5. bind (run_tok (kind.Do ∷ []) m5 m5.toks) (λ t1 m6. bind (reading d block m6) (λ x5 m7. bind (run_tok (kind.End ∷ []) m7 m7.toks) (λ t2 m8. bind (run_tok (kind.Semicolon ∷ []) m8 m8.toks) (λ t3 m9. Ok ((x, x1, x2, x3, x4, x5), m9)))))))))))
+unfolding for_body
+for_body_is d st = simp bind_bind
 
 pub caught_type_is : (d : ℕ) (st : Cursor) → reading d caught_type st ≡ pick (starts (kind.Colon ∷ []) st.toks) (bind (run_tok (kind.Colon ∷ []) st st.toks) (λ t m. bind (reading d name m) (λ x m1. Ok ((Some x), m1)))) (Ok (None, st))
 unfolding caught_type
@@ -240,6 +249,10 @@ written_qualifier_is d st = refl
 pub qualifier_is : (d : ℕ) (st : Cursor) → reading d qualifier st ≡ pick (starts (kind.Pure ∷ kind.ReadOnly ∷ []) st.toks) (bind (reading d written_qualifier st) (λ x m. Ok ((or_unqualified (Some x)), m))) (Ok ((or_unqualified None), st))
 unfolding qualifier written_qualifier
 qualifier_is d st = optional_as d written_qualifier st (λ x end. Ok ((or_unqualified) x, end)) (bind (reading d written_qualifier st) (λ x m. Ok ((or_unqualified (Some x)), m))) (refl)
+
+pub function_is : (d : ℕ) (st : Cursor) → reading d function st ≡ bind (reading d qualifier st) (λ x m. bind (run_tok (kind.Func ∷ []) m m.toks) (λ t m1. bind (reading d name m1) (λ x1 m2. bind (reading d maybe_params m2) (λ x2 m3. bind (reading d formals m3) (λ x3 m4. bind (reading d result_type m4) (λ x4 m5. bind (reading d recursion_limit m5) (λ x5 m6. bind (run_tok (kind.Begin ∷ []) m6 m6.toks) (λ t1 m7. bind (reading d block m7) (λ x6 m8. bind (run_tok (kind.End ∷ []) m8 m8.toks) (λ t2 m9. bind (run_tok (kind.Semicolon ∷ []) m9 m9.toks) (λ t3 m10. Ok ((dc.Func (record { span = (span_to (ahead st.toks) m10.last); qualifier = x; name = x1; params = x2; formals = x3; result = x4; limit = x5; body = x6 })), m10))))))))))))
+unfolding function
+function_is d st = simp bind_bind
 
 pub declaration_is : (d : ℕ) (st : Cursor) → reading d declaration st ≡ pick (starts (kind.TypeWord ∷ []) st.toks) (reading d type_decl st) (pick (starts (kind.Constant ∷ kind.Let ∷ []) st.toks) (reading d fixed_storage st) (pick (starts (kind.Var ∷ []) st.toks) (reading d global_var st) (reading d function st)))
 unfolding declaration type_decl fixed_storage fixed_kind global_var

@@ -1,6 +1,6 @@
 //! What a local declaration declares, and its type and value.
 
-ghost use Rattle.std.specs.Prelude.{◌≡◌, IfOk};
+ghost use Rattle.std.specs.Prelude.{◌≡◌, ◌∷◌, IfOk};
 ghost use Rattle.asl_grammar.specs.grammar.Build as build;
 ghost use Rattle.asl_grammar.specs.grammar.Rules as rules;
 ghost use Rattle.asl_parse_expr.specs.Code.{cursor_of, Met, reading, then};
@@ -23,14 +23,14 @@ use std::alloc::{AllocError, Global};
 pub fn value(alloc: Global, tokens: &mut Tokens<'_>, depth: usize) -> Result<Expr, ParseError>
     ensures { Met (reading depth rules.value (cursor_of tokens.old)) result (cursor_of tokens.new) }
 {
-    tokens.take(&[Kind::Assign])?;
+    tokens.take(Kind::Assign)?;
     let value = Held::new(expression(alloc, tokens, depth)?);
-    tokens.take(&[Kind::Semicolon])?;
+    tokens.take(Kind::Semicolon)?;
     Ok(value.into_inner())
 }
 
 /// The initial value, if there is one, to the end of the statement.
-#[tactic(auto, using(crate::proofs::Steps::maybe_value_is), unfolding(asl_grammar::specs::grammar::Rules::no_value))]
+#[tactic(auto, unfolding(asl_grammar::specs::grammar::Rules::no_value))]
 pub fn maybe_value(
     alloc: Global,
     tokens: &mut Tokens<'_>,
@@ -39,7 +39,7 @@ pub fn maybe_value(
     ensures { Met (reading depth rules.maybe_value (cursor_of tokens.old)) result (cursor_of tokens.new) }
 {
     if tokens.starts(&[Kind::Semicolon]) {
-        tokens.take(&[Kind::Semicolon])?;
+        tokens.take(Kind::Semicolon)?;
         return Ok(None);
     }
     Ok(Some(value(alloc, tokens, depth)?))
@@ -49,11 +49,10 @@ pub fn maybe_value(
 fn no_binder(tokens: &mut Tokens<'_>, depth: usize) -> Result<Binder, ParseError>
     ensures { Met (reading depth rules.no_binder (cursor_of tokens.old)) result (cursor_of tokens.new) }
 {
-    let token = tokens.take(&[Kind::Minus])?;
+    let token = tokens.take(Kind::Minus)?;
     Ok(Binder::Unbound(token.span))
 }
 
-#[tactic(auto, using(crate::proofs::Steps::binder_is))]
 fn binder(alloc: Global, tokens: &mut Tokens<'_>, depth: usize) -> Result<Binder, ParseError>
     ensures { Met (reading depth rules.binder (cursor_of tokens.old)) result (cursor_of tokens.new) }
 {
@@ -77,13 +76,12 @@ fn more_binders(
         if !tokens.starts(&[Kind::Comma]) {
             return Ok(found);
         }
-        tokens.take(&[Kind::Comma])?;
+        tokens.take(Kind::Comma)?;
         found.push(binder(alloc, tokens, depth)?)?;
     }
     Ok(found)
 }
 
-#[tactic(auto, unfolding(asl_grammar::specs::grammar::Rules::two_binders, asl_parse_expr::specs::Code::then))]
 fn two_binders(
     alloc: Global,
     tokens: &mut Tokens<'_>,
@@ -93,7 +91,7 @@ fn two_binders(
 {
     let mut found = Items::new(alloc);
     found.push(binder(alloc, tokens, depth)?)?;
-    tokens.take(&[Kind::Comma])?;
+    tokens.take(Kind::Comma)?;
     found.push(binder(alloc, tokens, depth)?)?;
     more_binders(alloc, tokens, depth, found)
 }
@@ -104,14 +102,13 @@ fn several(alloc: Global, tokens: &mut Tokens<'_>, depth: usize) -> Result<Bind,
 {
     let from = tokens.ahead();
     let left = tokens.left;
-    tokens.open(&[Kind::OpenParen])?;
+    tokens.open(Kind::OpenParen)?;
     let binders = two_binders(alloc, tokens, depth)?;
-    tokens.take(&[Kind::CloseParen])?;
+    tokens.take(Kind::CloseParen)?;
     tokens.left = left;
     Ok(Bind::Several(tokens.since(from), binders))
 }
 
-#[tactic(auto, using(crate::proofs::Steps::other_bind_is))]
 fn other_bind(alloc: Global, tokens: &mut Tokens<'_>, depth: usize) -> Result<Bind, ParseError>
     ensures { Met (reading depth rules.other_bind (cursor_of tokens.old)) result (cursor_of tokens.new) }
 {
@@ -122,7 +119,7 @@ fn other_bind(alloc: Global, tokens: &mut Tokens<'_>, depth: usize) -> Result<Bi
     }
 }
 
-#[tactic(auto, using(crate::proofs::Steps::local_bind_is), unfolding(asl_grammar::specs::grammar::Rules::bind_name))]
+#[tactic(auto, unfolding(asl_grammar::specs::grammar::Rules::bind_name))]
 fn local_bind(alloc: Global, tokens: &mut Tokens<'_>, depth: usize) -> Result<Bind, ParseError>
     ensures { Met (reading depth rules.local_bind (cursor_of tokens.old)) result (cursor_of tokens.new) }
 {
@@ -143,7 +140,7 @@ pub fn let_statement(
     ensures { Met (reading depth rules.let_statement (cursor_of tokens.old)) result (cursor_of tokens.new) }
 {
     let from = tokens.ahead();
-    tokens.take(&[Kind::Let])?;
+    tokens.take(Kind::Let)?;
     let bind = local_bind(alloc, tokens, depth)?;
     let ty = Held::new(typed(alloc, tokens, depth)?);
     let init = value(alloc, tokens, depth)?;
@@ -169,33 +166,76 @@ fn typed_tail(
     }
 }
 
-#[tactic(auto, using(crate::proofs::StatementSteps::var_names_steps))]
-fn var_names(alloc: Global, tokens: &mut Tokens<'_>, depth: usize) -> Result<VarTail, ParseError>
-    ensures { Met (reading depth rules.var_names (cursor_of tokens.old)) result (cursor_of tokens.new) }
+/// A name in front of others.
+fn in_front(alloc: Global, first: Ident, others: Items<Ident>) -> Result<Items<Ident>, AllocError>
+    ensures { IfOk result (λ all. all ≡ first ∷ others) }
 {
-    let first = name(alloc, tokens, depth)?;
+    let mut all = Items::new(alloc);
+    all.push(first)?;
+    all.append(others)?;
+    Ok(all)
+}
+
+#[tactic(auto, unfolding(asl_grammar::specs::grammar::Rules::names_typed, asl_parse_expr::specs::Code::then))]
+fn names_typed(
+    alloc: Global,
+    tokens: &mut Tokens<'_>,
+    depth: usize,
+    first: Ident,
+) -> Result<VarTail, ParseError>
+    ensures { Met (then (build.var_tail_of first) (reading depth rules.names_typed (cursor_of tokens.old))) result (cursor_of tokens.new) }
+{
+    tokens.take(Kind::Comma)?;
+    let others = names(alloc, tokens, depth)?;
+    tokens.take(Kind::Colon)?;
+    let ty = Held::new(type_expression(alloc, tokens, depth)?);
+    tokens.take(Kind::Semicolon)?;
+    Ok(VarTail::Declared(in_front(alloc, first, others)?, ty.into_inner()))
+}
+
+#[tactic(auto, unfolding(asl_grammar::specs::grammar::Rules::typed_value, asl_parse_expr::specs::Code::then))]
+fn typed_value(
+    alloc: Global,
+    tokens: &mut Tokens<'_>,
+    depth: usize,
+    first: Ident,
+) -> Result<VarTail, ParseError>
+    ensures { Met (then (build.var_tail_of first) (reading depth rules.typed_value (cursor_of tokens.old))) result (cursor_of tokens.new) }
+{
+    tokens.take(Kind::Colon)?;
+    let ty = Held::new(type_expression(alloc, tokens, depth)?);
+    let init = maybe_value(alloc, tokens, depth)?;
+    Ok(typed_tail(alloc, first, ty.into_inner(), init)?)
+}
+
+/// What stands behind `var` and a name.
+fn var_rest(
+    alloc: Global,
+    tokens: &mut Tokens<'_>,
+    depth: usize,
+    first: Ident,
+) -> Result<VarTail, ParseError>
+    ensures { Met (then (build.var_tail_of first) (reading depth rules.var_rest (cursor_of tokens.old))) result (cursor_of tokens.new) }
+{
     if tokens.starts(&[Kind::Comma]) {
-        let mut found = Items::new(alloc);
-        found.push(first)?;
-        tokens.take(&[Kind::Comma])?;
-        let more = names(alloc, tokens, depth)?;
-        found.append(more)?;
-        tokens.take(&[Kind::Colon])?;
-        let ty = Held::new(type_expression(alloc, tokens, depth)?);
-        tokens.take(&[Kind::Semicolon])?;
-        Ok(VarTail::Declared(found, ty.into_inner()))
+        names_typed(alloc, tokens, depth, first)
     } else if tokens.starts(&[Kind::Colon]) {
-        tokens.take(&[Kind::Colon])?;
-        let ty = Held::new(type_expression(alloc, tokens, depth)?);
-        let init = maybe_value(alloc, tokens, depth)?;
-        Ok(typed_tail(alloc, first, ty.into_inner(), init)?)
+        typed_value(alloc, tokens, depth, first)
     } else {
         let init = value(alloc, tokens, depth)?;
         Ok(VarTail::Initialised(Bind::Single(Binder::Bound(first)), None, init))
     }
 }
 
-#[tactic(auto, using(crate::proofs::Steps::var_tail_is), unfolding(asl_grammar::specs::grammar::Rules::var_other))]
+#[tactic(auto, unfolding(asl_grammar::specs::grammar::Rules::var_names, asl_parse_expr::specs::Code::then))]
+fn var_names(alloc: Global, tokens: &mut Tokens<'_>, depth: usize) -> Result<VarTail, ParseError>
+    ensures { Met (reading depth rules.var_names (cursor_of tokens.old)) result (cursor_of tokens.new) }
+{
+    let first = name(alloc, tokens, depth)?;
+    var_rest(alloc, tokens, depth, first)
+}
+
+#[tactic(auto, unfolding(asl_grammar::specs::grammar::Rules::var_other))]
 fn var_tail(alloc: Global, tokens: &mut Tokens<'_>, depth: usize) -> Result<VarTail, ParseError>
     ensures { Met (reading depth rules.var_tail (cursor_of tokens.old)) result (cursor_of tokens.new) }
 {
@@ -227,7 +267,7 @@ pub fn var_statement(
     ensures { Met (reading depth rules.var_statement (cursor_of tokens.old)) result (cursor_of tokens.new) }
 {
     let from = tokens.ahead();
-    tokens.take(&[Kind::Var])?;
+    tokens.take(Kind::Var)?;
     let tail = var_tail(alloc, tokens, depth)?;
     Ok(var_of(tokens.since(from), tail))
 }

@@ -5,6 +5,7 @@ ghost use Rattle.std.specs.Prelude.{◌≡◌};
 ghost use Rattle.asl_grammar.specs.grammar.Build as build;
 ghost use Rattle.asl_grammar.specs.grammar.Rules as rules;
 ghost use Rattle.asl_parse_stmt.specs.Blocks.{Nests};
+ghost use Rattle.asl_parse_stmt.specs.Heads as heads;
 ghost use Rattle.asl_parse_expr.specs.Code.{cursor_of, Met, reading};
 
 use asl_grammar::error::ParseError;
@@ -18,7 +19,6 @@ use asl_syn::tree::{Alternative, Catcher, Direction, ElseIf, Expr, Ident, Otherw
 use sqlite_items::Items;
 use std::alloc::Global;
 
-#[tactic(auto, using(crate::proofs::Steps::loop_limit_is))]
 fn loop_limit(
     alloc: Global,
     tokens: &mut Tokens<'_>,
@@ -29,11 +29,10 @@ fn loop_limit(
     if !tokens.starts(&[Kind::LoopLimit]) {
         return Ok(None);
     }
-    tokens.take(&[Kind::LoopLimit])?;
+    tokens.take(Kind::LoopLimit)?;
     Ok(Some(expression(alloc, tokens, depth)?))
 }
 
-#[tactic(auto, using(crate::proofs::Steps::where_clause_is))]
 fn where_clause(
     alloc: Global,
     tokens: &mut Tokens<'_>,
@@ -44,24 +43,22 @@ fn where_clause(
     if !tokens.starts(&[Kind::Where]) {
         return Ok(None);
     }
-    tokens.take(&[Kind::Where])?;
+    tokens.take(Kind::Where)?;
     Ok(Some(expression(alloc, tokens, depth)?))
 }
 
-#[tactic(auto, using(crate::proofs::Steps::direction_is))]
 fn direction(tokens: &mut Tokens<'_>, depth: usize) -> Result<Direction, ParseError>
     ensures { Met (reading depth rules.direction (cursor_of tokens.old)) result (cursor_of tokens.new) }
 {
     if tokens.starts(&[Kind::To]) {
-        tokens.take(&[Kind::To])?;
+        tokens.take(Kind::To)?;
         Ok(Direction::Up)
     } else {
-        tokens.take(&[Kind::DownTo])?;
+        tokens.take(Kind::DownTo)?;
         Ok(Direction::Down)
     }
 }
 
-#[tactic(auto, using(crate::proofs::Steps::caught_type_is))]
 fn caught_type(
     alloc: Global,
     tokens: &mut Tokens<'_>,
@@ -72,7 +69,7 @@ fn caught_type(
     if !tokens.starts(&[Kind::Colon]) {
         return Ok(None);
     }
-    tokens.take(&[Kind::Colon])?;
+    tokens.take(Kind::Colon)?;
     Ok(Some(name(alloc, tokens, depth)?))
 }
 
@@ -83,6 +80,23 @@ fn catch_of(first: Ident, ty: Option<Ident>, body: Items<Stmt>) -> Catcher
         None => Catcher::Catch(None, first, body),
         Some(ty) => Catcher::Catch(Some(first), ty, body),
     }
+}
+
+/// The index of a `for`, from where and which way it counts, and up to where.
+#[tactic(auto, unfolding(crate::specs::Heads::for_head))]
+fn for_head(
+    alloc: Global,
+    tokens: &mut Tokens<'_>,
+    depth: usize,
+) -> Result<(Ident, Expr, Direction, Expr), ParseError>
+    ensures { Met (heads.for_head depth (cursor_of tokens.old)) result (cursor_of tokens.new) }
+{
+    let index = name(alloc, tokens, depth)?;
+    tokens.take(Kind::Assign)?;
+    let first = Held::new(expression(alloc, tokens, depth)?);
+    let direction = direction(tokens, depth)?;
+    let last = expression(alloc, tokens, depth)?;
+    Ok((index, first.into_inner(), direction, last))
 }
 
 /// The rules of what statements hold, where things may nest so deep below.
@@ -111,12 +125,12 @@ impl<F: Fn(Global, &mut Tokens<'_>, usize) -> Result<Items<Stmt>, ParseError>> B
         ensures { Met (reading self.now.depth rules.if_body (cursor_of tokens.old)) result (cursor_of tokens.new) }
     {
         let condition = Held::new(expression(self.alloc, tokens, self.depth)?);
-        tokens.take(&[Kind::Then])?;
+        tokens.take(Kind::Then)?;
         let then_block = self.block(tokens)?;
         let else_ifs = self.else_ifs(tokens)?;
         let else_block = self.maybe_else(tokens)?;
-        tokens.take(&[Kind::End])?;
-        tokens.take(&[Kind::Semicolon])?;
+        tokens.take(Kind::End)?;
+        tokens.take(Kind::Semicolon)?;
         Ok((condition.into_inner(), then_block, else_ifs, else_block))
     }
 
@@ -125,9 +139,9 @@ impl<F: Fn(Global, &mut Tokens<'_>, usize) -> Result<Items<Stmt>, ParseError>> B
         requires { Nests self.now.depth (F.pre self.now.block) (F.post self.now.block) }
         ensures { Met (reading self.now.depth rules.else_if (cursor_of tokens.old)) result (cursor_of tokens.new) }
     {
-        tokens.take(&[Kind::ElsIf])?;
+        tokens.take(Kind::ElsIf)?;
         let condition = Held::new(expression(self.alloc, tokens, self.depth)?);
-        tokens.take(&[Kind::Then])?;
+        tokens.take(Kind::Then)?;
         let body = self.block(tokens)?;
         Ok(ElseIf::ElseIf(condition.into_inner(), body))
     }
@@ -147,7 +161,7 @@ impl<F: Fn(Global, &mut Tokens<'_>, usize) -> Result<Items<Stmt>, ParseError>> B
         Ok(found)
     }
 
-    #[tactic(auto, using(crate::proofs::Steps::maybe_else_is), unfolding(asl_grammar::specs::grammar::Rules::else_block))]
+    #[tactic(auto, unfolding(asl_grammar::specs::grammar::Rules::else_block))]
     fn maybe_else(&self, tokens: &mut Tokens<'_>) -> Result<Items<Stmt>, ParseError>
         requires { Nests self.now.depth (F.pre self.now.block) (F.post self.now.block) }
         ensures { Met (reading self.now.depth rules.maybe_else (cursor_of tokens.old)) result (cursor_of tokens.new) }
@@ -155,7 +169,7 @@ impl<F: Fn(Global, &mut Tokens<'_>, usize) -> Result<Items<Stmt>, ParseError>> B
         if !tokens.starts(&[Kind::Else]) {
             return Ok(Items::new(self.alloc));
         }
-        tokens.take(&[Kind::Else])?;
+        tokens.take(Kind::Else)?;
         self.block(tokens)
     }
 
@@ -164,12 +178,11 @@ impl<F: Fn(Global, &mut Tokens<'_>, usize) -> Result<Items<Stmt>, ParseError>> B
         requires { Nests self.now.depth (F.pre self.now.block) (F.post self.now.block) }
         ensures { Met (reading self.now.depth rules.otherwise (cursor_of tokens.old)) result (cursor_of tokens.new) }
     {
-        tokens.take(&[Kind::Otherwise])?;
-        tokens.take(&[Kind::FatArrow])?;
+        tokens.take(Kind::Otherwise)?;
+        tokens.take(Kind::FatArrow)?;
         Ok(Otherwise::Otherwise(self.block(tokens)?))
     }
 
-    #[tactic(auto, using(crate::proofs::Steps::maybe_otherwise_is))]
     fn maybe_otherwise(&self, tokens: &mut Tokens<'_>) -> Result<Otherwise, ParseError>
         requires { Nests self.now.depth (F.pre self.now.block) (F.post self.now.block) }
         ensures { Met (reading self.now.depth rules.maybe_otherwise (cursor_of tokens.old)) result (cursor_of tokens.new) }
@@ -190,11 +203,11 @@ impl<F: Fn(Global, &mut Tokens<'_>, usize) -> Result<Items<Stmt>, ParseError>> B
         ensures { Met (reading self.now.depth rules.case_body (cursor_of tokens.old)) result (cursor_of tokens.new) }
     {
         let subject = Held::new(expression(self.alloc, tokens, self.depth)?);
-        tokens.take(&[Kind::Of])?;
+        tokens.take(Kind::Of)?;
         let alternatives = self.alternatives(tokens)?;
         let otherwise = self.maybe_otherwise(tokens)?;
-        tokens.take(&[Kind::End])?;
-        tokens.take(&[Kind::Semicolon])?;
+        tokens.take(Kind::End)?;
+        tokens.take(Kind::Semicolon)?;
         Ok((subject.into_inner(), alternatives, otherwise))
     }
 
@@ -203,10 +216,10 @@ impl<F: Fn(Global, &mut Tokens<'_>, usize) -> Result<Items<Stmt>, ParseError>> B
         requires { Nests self.now.depth (F.pre self.now.block) (F.post self.now.block) }
         ensures { Met (reading self.now.depth rules.alternative (cursor_of tokens.old)) result (cursor_of tokens.new) }
     {
-        tokens.take(&[Kind::When])?;
+        tokens.take(Kind::When)?;
         let patterns = patterns(self.alloc, tokens, self.depth)?;
         let condition = Held::new(where_clause(self.alloc, tokens, self.depth)?);
-        tokens.take(&[Kind::FatArrow])?;
+        tokens.take(Kind::FatArrow)?;
         let body = self.block(tokens)?;
         Ok(Alternative::When(patterns, condition.into_inner(), body))
     }
@@ -227,7 +240,6 @@ impl<F: Fn(Global, &mut Tokens<'_>, usize) -> Result<Items<Stmt>, ParseError>> B
     }
 
     /// Behind `for`: the index, from where and which way it counts, up to where, the limit and the block.
-    #[tactic(auto, unfolding(asl_grammar::specs::grammar::Rules::for_body))]
     pub fn for_body(
         &self,
         tokens: &mut Tokens<'_>,
@@ -235,16 +247,13 @@ impl<F: Fn(Global, &mut Tokens<'_>, usize) -> Result<Items<Stmt>, ParseError>> B
         requires { Nests self.now.depth (F.pre self.now.block) (F.post self.now.block) }
         ensures { Met (reading self.now.depth rules.for_body (cursor_of tokens.old)) result (cursor_of tokens.new) }
     {
-        let index = name(self.alloc, tokens, self.depth)?;
-        tokens.take(&[Kind::Assign])?;
-        let first = Held::new(expression(self.alloc, tokens, self.depth)?);
-        let direction = direction(tokens, self.depth)?;
-        let last = Held::new(expression(self.alloc, tokens, self.depth)?);
+        let (index, first, direction, last) = for_head(self.alloc, tokens, self.depth)?;
+        let (first, last) = (Held::new(first), Held::new(last));
         let limit = Held::new(loop_limit(self.alloc, tokens, self.depth)?);
-        tokens.take(&[Kind::Do])?;
+        tokens.take(Kind::Do)?;
         let body = self.block(tokens)?;
-        tokens.take(&[Kind::End])?;
-        tokens.take(&[Kind::Semicolon])?;
+        tokens.take(Kind::End)?;
+        tokens.take(Kind::Semicolon)?;
         let (first, last, limit) = (first.into_inner(), last.into_inner(), limit.into_inner());
         Ok((index, first, direction, last, limit, body))
     }
@@ -260,10 +269,10 @@ impl<F: Fn(Global, &mut Tokens<'_>, usize) -> Result<Items<Stmt>, ParseError>> B
     {
         let condition = Held::new(expression(self.alloc, tokens, self.depth)?);
         let limit = Held::new(loop_limit(self.alloc, tokens, self.depth)?);
-        tokens.take(&[Kind::Do])?;
+        tokens.take(Kind::Do)?;
         let body = self.block(tokens)?;
-        tokens.take(&[Kind::End])?;
-        tokens.take(&[Kind::Semicolon])?;
+        tokens.take(Kind::End)?;
+        tokens.take(Kind::Semicolon)?;
         Ok((condition.into_inner(), limit.into_inner(), body))
     }
 
@@ -277,10 +286,10 @@ impl<F: Fn(Global, &mut Tokens<'_>, usize) -> Result<Items<Stmt>, ParseError>> B
         ensures { Met (reading self.now.depth rules.repeat_body (cursor_of tokens.old)) result (cursor_of tokens.new) }
     {
         let body = self.block(tokens)?;
-        tokens.take(&[Kind::Until])?;
+        tokens.take(Kind::Until)?;
         let condition = Held::new(expression(self.alloc, tokens, self.depth)?);
         let limit = Held::new(loop_limit(self.alloc, tokens, self.depth)?);
-        tokens.take(&[Kind::Semicolon])?;
+        tokens.take(Kind::Semicolon)?;
         Ok((body, condition.into_inner(), limit.into_inner()))
     }
 
@@ -294,14 +303,13 @@ impl<F: Fn(Global, &mut Tokens<'_>, usize) -> Result<Items<Stmt>, ParseError>> B
         ensures { Met (reading self.now.depth rules.try_body (cursor_of tokens.old)) result (cursor_of tokens.new) }
     {
         let body = self.block(tokens)?;
-        tokens.take(&[Kind::Catch])?;
+        tokens.take(Kind::Catch)?;
         let (catchers, otherwise) = self.handlers(tokens)?;
-        tokens.take(&[Kind::End])?;
-        tokens.take(&[Kind::Semicolon])?;
+        tokens.take(Kind::End)?;
+        tokens.take(Kind::Semicolon)?;
         Ok((body, catchers, otherwise))
     }
 
-    #[tactic(auto, using(crate::proofs::Steps::handlers_is))]
     fn handlers(&self, tokens: &mut Tokens<'_>) -> Result<(Items<Catcher>, Otherwise), ParseError>
         requires { Nests self.now.depth (F.pre self.now.block) (F.post self.now.block) }
         ensures { Met (reading self.now.depth rules.handlers (cursor_of tokens.old)) result (cursor_of tokens.new) }
@@ -335,10 +343,10 @@ impl<F: Fn(Global, &mut Tokens<'_>, usize) -> Result<Items<Stmt>, ParseError>> B
         requires { Nests self.now.depth (F.pre self.now.block) (F.post self.now.block) }
         ensures { Met (reading self.now.depth rules.catcher (cursor_of tokens.old)) result (cursor_of tokens.new) }
     {
-        tokens.take(&[Kind::When])?;
+        tokens.take(Kind::When)?;
         let first = name(self.alloc, tokens, self.depth)?;
         let ty = caught_type(self.alloc, tokens, self.depth)?;
-        tokens.take(&[Kind::FatArrow])?;
+        tokens.take(Kind::FatArrow)?;
         let body = self.block(tokens)?;
         Ok(catch_of(first, ty, body))
     }

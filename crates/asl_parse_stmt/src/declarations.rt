@@ -3,20 +3,24 @@
 ghost use Rattle.std.specs.Prelude.{◌≡◌};
 ghost use Rattle.asl_grammar.specs.grammar.Rules as rules;
 ghost use Rattle.asl_parse_expr.specs.Code.{cursor_of, Met, reading};
+ghost use Rattle.asl_parse_stmt.specs.Heads as heads;
 
 use crate::binders::{maybe_value, value};
+use crate::firsts::{DECLARATION, FIXED_STORAGE, WRITTEN_QUALIFIER};
 use crate::formals::{formals, maybe_params, members};
 use crate::labels::{labels, supertype};
 use crate::statements::block;
 use asl_grammar::error::ParseError;
 use asl_grammar::kinds::Kind;
 use asl_parse_expr::expressions::expression;
+use asl_parse_expr::firsts::TYPE_EXPRESSION;
 use asl_parse_expr::names::name;
 use asl_parse_expr::tokens::Tokens;
 use asl_parse_expr::types::{type_expression, typed};
 use asl_shared::Held;
 use asl_syn::tree::{
-    Decl, Expr, Func, Qualifier, StorageDecl, StorageKind, TypeDecl, TypeDef, TypeExpr,
+    Decl, Expr, Formal, Func, Ident, Param, Qualifier, StorageDecl, StorageKind, TypeDecl, TypeDef,
+    TypeExpr,
 };
 use sqlite_items::Items;
 use std::alloc::Global;
@@ -26,7 +30,7 @@ fn record_type(alloc: Global, tokens: &mut Tokens<'_>, depth: usize) -> Result<T
     ensures { Met (reading depth rules.record_type (cursor_of tokens.old)) result (cursor_of tokens.new) }
 {
     let from = tokens.ahead();
-    tokens.take(&[Kind::Record])?;
+    tokens.take(Kind::Record)?;
     let fields = members(alloc, tokens, depth)?;
     Ok(TypeDef::Record(tokens.since(from), fields))
 }
@@ -40,12 +44,11 @@ fn exception_type(
     ensures { Met (reading depth rules.exception_type (cursor_of tokens.old)) result (cursor_of tokens.new) }
 {
     let from = tokens.ahead();
-    tokens.take(&[Kind::Exception])?;
+    tokens.take(Kind::Exception)?;
     let fields = members(alloc, tokens, depth)?;
     Ok(TypeDef::Exception(tokens.since(from), fields))
 }
 
-#[tactic(auto, using(crate::proofs::Steps::type_definition_is))]
 fn type_definition(
     alloc: Global,
     tokens: &mut Tokens<'_>,
@@ -53,15 +56,7 @@ fn type_definition(
 ) -> Result<TypeDef, ParseError>
     ensures { Met (reading depth rules.type_definition (cursor_of tokens.old)) result (cursor_of tokens.new) }
 {
-    if tokens.starts(&[
-        Kind::Integer,
-        Kind::Boolean,
-        Kind::Bit,
-        Kind::Name,
-        Kind::Bits,
-        Kind::OpenParen,
-        Kind::Array,
-    ]) {
+    if tokens.starts(&TYPE_EXPRESSION) {
         Ok(TypeDef::Alias(type_expression(alloc, tokens, depth)?))
     } else if tokens.starts(&[Kind::Enumeration]) {
         labels(alloc, tokens, depth)
@@ -77,12 +72,12 @@ fn type_decl(alloc: Global, tokens: &mut Tokens<'_>, depth: usize) -> Result<Dec
     ensures { Met (reading depth rules.type_decl (cursor_of tokens.old)) result (cursor_of tokens.new) }
 {
     let from = tokens.ahead();
-    tokens.take(&[Kind::TypeWord])?;
+    tokens.take(Kind::TypeWord)?;
     let name = name(alloc, tokens, depth)?;
-    tokens.take(&[Kind::Of])?;
+    tokens.take(Kind::Of)?;
     let def = Held::new(type_definition(alloc, tokens, depth)?);
     let supertype = supertype(alloc, tokens, depth)?;
-    tokens.take(&[Kind::Semicolon])?;
+    tokens.take(Kind::Semicolon)?;
     Ok(Decl::Type(TypeDecl {
         span: tokens.since(from),
         name,
@@ -91,15 +86,14 @@ fn type_decl(alloc: Global, tokens: &mut Tokens<'_>, depth: usize) -> Result<Dec
     }))
 }
 
-#[tactic(auto, using(crate::proofs::Steps::fixed_kind_is))]
 fn fixed_kind(tokens: &mut Tokens<'_>, depth: usize) -> Result<StorageKind, ParseError>
     ensures { Met (reading depth rules.fixed_kind (cursor_of tokens.old)) result (cursor_of tokens.new) }
 {
     if tokens.starts(&[Kind::Constant]) {
-        tokens.take(&[Kind::Constant])?;
+        tokens.take(Kind::Constant)?;
         Ok(StorageKind::Constant)
     } else {
-        tokens.take(&[Kind::Let])?;
+        tokens.take(Kind::Let)?;
         Ok(StorageKind::Let)
     }
 }
@@ -123,7 +117,7 @@ fn fixed_storage(alloc: Global, tokens: &mut Tokens<'_>, depth: usize) -> Result
     }))
 }
 
-#[tactic(auto, using(crate::proofs::Steps::global_rest_is), unfolding(asl_grammar::specs::grammar::Rules::typed_var))]
+#[tactic(auto, unfolding(asl_grammar::specs::grammar::Rules::typed_var))]
 fn global_rest(
     alloc: Global,
     tokens: &mut Tokens<'_>,
@@ -132,7 +126,7 @@ fn global_rest(
     ensures { Met (reading depth rules.global_rest (cursor_of tokens.old)) result (cursor_of tokens.new) }
 {
     if tokens.starts(&[Kind::Colon]) {
-        tokens.take(&[Kind::Colon])?;
+        tokens.take(Kind::Colon)?;
         let ty = Held::new(type_expression(alloc, tokens, depth)?);
         let init = maybe_value(alloc, tokens, depth)?;
         Ok((Some(ty.into_inner()), init))
@@ -148,7 +142,7 @@ fn global_var(alloc: Global, tokens: &mut Tokens<'_>, depth: usize) -> Result<De
     ensures { Met (reading depth rules.global_var (cursor_of tokens.old)) result (cursor_of tokens.new) }
 {
     let from = tokens.ahead();
-    tokens.take(&[Kind::Var])?;
+    tokens.take(Kind::Var)?;
     let name = name(alloc, tokens, depth)?;
     let (ty, init) = global_rest(alloc, tokens, depth)?;
     Ok(Decl::Storage(StorageDecl {
@@ -160,7 +154,6 @@ fn global_var(alloc: Global, tokens: &mut Tokens<'_>, depth: usize) -> Result<De
     }))
 }
 
-#[tactic(auto, using(crate::proofs::Steps::result_type_is))]
 fn result_type(
     alloc: Global,
     tokens: &mut Tokens<'_>,
@@ -171,11 +164,10 @@ fn result_type(
     if !tokens.starts(&[Kind::FatArrow]) {
         return Ok(None);
     }
-    tokens.take(&[Kind::FatArrow])?;
+    tokens.take(Kind::FatArrow)?;
     Ok(Some(type_expression(alloc, tokens, depth)?))
 }
 
-#[tactic(auto, using(crate::proofs::Steps::recursion_limit_is))]
 fn recursion_limit(
     alloc: Global,
     tokens: &mut Tokens<'_>,
@@ -186,50 +178,70 @@ fn recursion_limit(
     if !tokens.starts(&[Kind::RecurseLimit]) {
         return Ok(None);
     }
-    tokens.take(&[Kind::RecurseLimit])?;
+    tokens.take(Kind::RecurseLimit)?;
     Ok(Some(expression(alloc, tokens, depth)?))
 }
 
-#[tactic(auto, using(crate::proofs::Steps::written_qualifier_is))]
 fn written_qualifier(tokens: &mut Tokens<'_>, depth: usize) -> Result<Qualifier, ParseError>
     ensures { Met (reading depth rules.written_qualifier (cursor_of tokens.old)) result (cursor_of tokens.new) }
 {
     if tokens.starts(&[Kind::Pure]) {
-        tokens.take(&[Kind::Pure])?;
+        tokens.take(Kind::Pure)?;
         Ok(Qualifier::Pure)
     } else {
-        tokens.take(&[Kind::ReadOnly])?;
+        tokens.take(Kind::ReadOnly)?;
         Ok(Qualifier::Readonly)
     }
 }
 
-#[tactic(auto, using(crate::proofs::Steps::qualifier_is))]
 fn qualifier(tokens: &mut Tokens<'_>, depth: usize) -> Result<Qualifier, ParseError>
     ensures { Met (reading depth rules.qualifier (cursor_of tokens.old)) result (cursor_of tokens.new) }
 {
-    if !tokens.starts(&[Kind::Pure, Kind::ReadOnly]) {
+    if !tokens.starts(&WRITTEN_QUALIFIER) {
         return Ok(Qualifier::Unqualified);
     }
     written_qualifier(tokens, depth)
 }
 
+/// A subprogram up to its result.
+#[tactic(auto, unfolding(crate::specs::Heads::function_head))]
+fn function_head(
+    alloc: Global,
+    tokens: &mut Tokens<'_>,
+    depth: usize,
+) -> Result<
+    (
+        Qualifier,
+        Ident,
+        Items<Param>,
+        Items<Formal>,
+        Option<TypeExpr>,
+    ),
+    ParseError,
+>
+    ensures { Met (heads.function_head depth (cursor_of tokens.old)) result (cursor_of tokens.new) }
+{
+    let qualifier = qualifier(tokens, depth)?;
+    tokens.take(Kind::Func)?;
+    let name = name(alloc, tokens, depth)?;
+    let params = maybe_params(alloc, tokens, depth)?;
+    let formals = formals(alloc, tokens, depth)?;
+    let result = result_type(alloc, tokens, depth)?;
+    Ok((qualifier, name, params, formals, result))
+}
+
 /// A function or a procedure.
-#[tactic(auto, unfolding(asl_grammar::specs::grammar::Rules::function))]
 fn function(alloc: Global, tokens: &mut Tokens<'_>, depth: usize) -> Result<Decl, ParseError>
     ensures { Met (reading depth rules.function (cursor_of tokens.old)) result (cursor_of tokens.new) }
 {
     let from = tokens.ahead();
-    let qualifier = qualifier(tokens, depth)?;
-    tokens.take(&[Kind::Func])?;
-    let name = name(alloc, tokens, depth)?;
-    let params = maybe_params(alloc, tokens, depth)?;
-    let formals = formals(alloc, tokens, depth)?;
-    let result = Held::new(result_type(alloc, tokens, depth)?);
+    let (qualifier, name, params, formals, result) = function_head(alloc, tokens, depth)?;
+    let result = Held::new(result);
     let limit = Held::new(recursion_limit(alloc, tokens, depth)?);
-    tokens.take(&[Kind::Begin])?;
+    tokens.take(Kind::Begin)?;
     let body = block(alloc, tokens, depth)?;
-    tokens.take(&[Kind::End])?;
-    tokens.take(&[Kind::Semicolon])?;
+    tokens.take(Kind::End)?;
+    tokens.take(Kind::Semicolon)?;
     Ok(Decl::Func(Func {
         span: tokens.since(from),
         qualifier,
@@ -242,13 +254,12 @@ fn function(alloc: Global, tokens: &mut Tokens<'_>, depth: usize) -> Result<Decl
     }))
 }
 
-#[tactic(auto, using(crate::proofs::Steps::declaration_is))]
 fn declaration(alloc: Global, tokens: &mut Tokens<'_>, depth: usize) -> Result<Decl, ParseError>
     ensures { Met (reading depth rules.declaration (cursor_of tokens.old)) result (cursor_of tokens.new) }
 {
     if tokens.starts(&[Kind::TypeWord]) {
         type_decl(alloc, tokens, depth)
-    } else if tokens.starts(&[Kind::Constant, Kind::Let]) {
+    } else if tokens.starts(&FIXED_STORAGE) {
         fixed_storage(alloc, tokens, depth)
     } else if tokens.starts(&[Kind::Var]) {
         global_var(alloc, tokens, depth)
@@ -268,15 +279,7 @@ pub fn program(
 {
     let mut found = Items::new(alloc);
     for _turn in 0..tokens.len() {
-        if !tokens.starts(&[
-            Kind::TypeWord,
-            Kind::Constant,
-            Kind::Let,
-            Kind::Var,
-            Kind::Pure,
-            Kind::ReadOnly,
-            Kind::Func,
-        ]) {
+        if !tokens.starts(&DECLARATION) {
             return Ok(found);
         }
         found.push(declaration(alloc, tokens, depth)?)?;

@@ -4,6 +4,7 @@ ghost use Rattle.std.specs.Prelude.{◌≡◌};
 ghost use Rattle.asl_grammar.specs.grammar.Rules as rules;
 ghost use Rattle.asl_parse_expr.specs.Code.{cursor_of, Met, reading};
 
+use crate::firsts::SOME_MEMBERS;
 use asl_grammar::error::ParseError;
 use asl_grammar::kinds::Kind;
 use asl_parse_expr::names::name;
@@ -18,7 +19,7 @@ fn formal(alloc: Global, tokens: &mut Tokens<'_>, depth: usize) -> Result<Formal
     ensures { Met (reading depth rules.formal (cursor_of tokens.old)) result (cursor_of tokens.new) }
 {
     let name = name(alloc, tokens, depth)?;
-    tokens.take(&[Kind::Colon])?;
+    tokens.take(Kind::Colon)?;
     let ty = type_expression(alloc, tokens, depth)?;
     Ok(Formal { name, ty })
 }
@@ -37,13 +38,12 @@ fn formal_list(
         if !tokens.starts(&[Kind::Comma]) {
             return Ok(found);
         }
-        tokens.take(&[Kind::Comma])?;
+        tokens.take(Kind::Comma)?;
         found.push(formal(alloc, tokens, depth)?)?;
     }
     Ok(found)
 }
 
-#[tactic(auto, using(crate::proofs::Steps::maybe_formals_is))]
 fn maybe_formals(
     alloc: Global,
     tokens: &mut Tokens<'_>,
@@ -67,9 +67,9 @@ pub fn formals(
     ensures { Met (reading depth rules.formals (cursor_of tokens.old)) result (cursor_of tokens.new) }
 {
     let left = tokens.left;
-    tokens.open(&[Kind::OpenParen])?;
+    tokens.open(Kind::OpenParen)?;
     let found = maybe_formals(alloc, tokens, depth)?;
-    tokens.take(&[Kind::CloseParen])?;
+    tokens.take(Kind::CloseParen)?;
     tokens.left = left;
     Ok(found)
 }
@@ -97,13 +97,12 @@ fn param_list(
         if !tokens.starts(&[Kind::Comma]) {
             return Ok(found);
         }
-        tokens.take(&[Kind::Comma])?;
+        tokens.take(Kind::Comma)?;
         found.push(param(alloc, tokens, depth)?)?;
     }
     Ok(found)
 }
 
-#[tactic(auto, using(crate::proofs::Steps::maybe_param_list_is))]
 fn maybe_param_list(
     alloc: Global,
     tokens: &mut Tokens<'_>,
@@ -118,7 +117,7 @@ fn maybe_param_list(
 }
 
 /// The parameters of a subprogram, if it has braces.
-#[tactic(auto, using(crate::proofs::Steps::maybe_params_is), unfolding(asl_grammar::specs::grammar::Rules::params))]
+#[tactic(auto, unfolding(asl_grammar::specs::grammar::Rules::params))]
 pub fn maybe_params(
     alloc: Global,
     tokens: &mut Tokens<'_>,
@@ -130,9 +129,9 @@ pub fn maybe_params(
         return Ok(Items::new(alloc));
     }
     let left = tokens.left;
-    tokens.open(&[Kind::OpenBrace])?;
+    tokens.open(Kind::OpenBrace)?;
     let found = maybe_param_list(alloc, tokens, depth)?;
-    tokens.take(&[Kind::CloseBrace])?;
+    tokens.take(Kind::CloseBrace)?;
     tokens.left = left;
     Ok(found)
 }
@@ -151,7 +150,7 @@ fn listed_members(
         if !tokens.starts(&[Kind::Comma]) {
             return Ok(found);
         }
-        tokens.take(&[Kind::Comma])?;
+        tokens.take(Kind::Comma)?;
         if !tokens.starts(&[Kind::Name]) {
             return Ok(found);
         }
@@ -160,7 +159,7 @@ fn listed_members(
     Ok(found)
 }
 
-#[tactic(auto, using(crate::proofs::Steps::maybe_some_members_is), unfolding(asl_grammar::specs::grammar::Rules::some_members, asl_grammar::specs::grammar::Rules::no_members))]
+#[tactic(auto, unfolding(asl_grammar::specs::grammar::Rules::some_members, asl_grammar::specs::grammar::Rules::no_members))]
 fn maybe_some_members(
     alloc: Global,
     tokens: &mut Tokens<'_>,
@@ -168,18 +167,18 @@ fn maybe_some_members(
 ) -> Result<Items<Formal>, ParseError>
     ensures { Met (reading depth rules.maybe_some_members (cursor_of tokens.old)) result (cursor_of tokens.new) }
 {
-    if !tokens.starts(&[Kind::Minus, Kind::Name]) {
+    if !tokens.starts(&SOME_MEMBERS) {
         return Ok(Items::new(alloc));
     }
     if tokens.starts(&[Kind::Minus]) {
-        tokens.take(&[Kind::Minus])?;
+        tokens.take(Kind::Minus)?;
         return Ok(Items::new(alloc));
     }
     listed_members(alloc, tokens, depth)
 }
 
 /// The fields of a record or an exception, if it has braces.
-#[tactic(auto, using(crate::proofs::Steps::members_is), unfolding(asl_grammar::specs::grammar::Rules::member_braces))]
+#[tactic(auto, unfolding(asl_grammar::specs::grammar::Rules::member_braces))]
 pub fn members(
     alloc: Global,
     tokens: &mut Tokens<'_>,
@@ -191,9 +190,9 @@ pub fn members(
         return Ok(Items::new(alloc));
     }
     let left = tokens.left;
-    tokens.open(&[Kind::OpenBrace])?;
+    tokens.open(Kind::OpenBrace)?;
     let found = maybe_some_members(alloc, tokens, depth)?;
-    tokens.take(&[Kind::CloseBrace])?;
+    tokens.take(Kind::CloseBrace)?;
     tokens.left = left;
     Ok(found)
 }

@@ -26,7 +26,7 @@ fn label_list(
         if !tokens.starts(&[Kind::Comma]) {
             return Ok(found);
         }
-        tokens.take(&[Kind::Comma])?;
+        tokens.take(Kind::Comma)?;
         if !tokens.starts(&[Kind::Name]) {
             return Ok(found);
         }
@@ -41,17 +41,16 @@ pub fn labels(alloc: Global, tokens: &mut Tokens<'_>, depth: usize) -> Result<Ty
     ensures { Met (reading depth rules.labels (cursor_of tokens.old)) result (cursor_of tokens.new) }
 {
     let from = tokens.ahead();
-    tokens.take(&[Kind::Enumeration])?;
+    tokens.take(Kind::Enumeration)?;
     let left = tokens.left;
-    tokens.open(&[Kind::OpenBrace])?;
+    tokens.open(Kind::OpenBrace)?;
     let found = label_list(alloc, tokens, depth)?;
-    tokens.take(&[Kind::CloseBrace])?;
+    tokens.take(Kind::CloseBrace)?;
     tokens.left = left;
     Ok(TypeDef::Labels(tokens.since(from), found))
 }
 
 /// The supertype of a type, if it has one.
-#[tactic(auto, using(crate::proofs::Steps::supertype_is))]
 pub fn supertype(
     alloc: Global,
     tokens: &mut Tokens<'_>,
@@ -62,6 +61,6 @@ pub fn supertype(
     if !tokens.starts(&[Kind::Subtypes]) {
         return Ok(None);
     }
-    tokens.take(&[Kind::Subtypes])?;
+    tokens.take(Kind::Subtypes)?;
     Ok(Some(name(alloc, tokens, depth)?))
 }

@@ -4,6 +4,7 @@
 mod binders;
 mod bodies;
 pub mod declarations;
+mod firsts;
 mod formals;
 mod labels;
 mod levels;

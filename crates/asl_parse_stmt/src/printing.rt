@@ -4,6 +4,7 @@ ghost use Rattle.std.specs.Prelude.{◌≡◌};
 ghost use Rattle.asl_grammar.specs.grammar.Rules as rules;
 ghost use Rattle.asl_parse_expr.specs.Code.{cursor_of, Met, reading};
 
+use crate::firsts::PRINT_ITEM;
 use asl_grammar::error::ParseError;
 use asl_grammar::kinds::Kind;
 use asl_parse_expr::expressions::expression;
@@ -17,11 +18,10 @@ fn verbatim(alloc: Global, tokens: &mut Tokens<'_>, depth: usize) -> Result<Prin
     ensures { Met (reading depth rules.verbatim (cursor_of tokens.old)) result (cursor_of tokens.new) }
 {
     let bytes = tokens.bytes;
-    let token = tokens.take(&[Kind::StringLiteral])?;
+    let token = tokens.take(Kind::StringLiteral)?;
     Ok(PrintItem::Verbatim(token.span, text_at(alloc, bytes, token.span)?))
 }
 
-#[tactic(auto, using(crate::proofs::Steps::print_item_is))]
 fn print_item(alloc: Global, tokens: &mut Tokens<'_>, depth: usize) -> Result<PrintItem, ParseError>
     ensures { Met (reading depth rules.print_item (cursor_of tokens.old)) result (cursor_of tokens.new) }
 {
@@ -46,13 +46,12 @@ fn print_items(
         if !tokens.starts(&[Kind::Comma]) {
             return Ok(found);
         }
-        tokens.take(&[Kind::Comma])?;
+        tokens.take(Kind::Comma)?;
         found.push(print_item(alloc, tokens, depth)?)?;
     }
     Ok(found)
 }
 
-#[tactic(auto, using(crate::proofs::Steps::maybe_print_items_is))]
 fn maybe_print_items(
     alloc: Global,
     tokens: &mut Tokens<'_>,
@@ -60,33 +59,20 @@ fn maybe_print_items(
 ) -> Result<Items<PrintItem>, ParseError>
     ensures { Met (reading depth rules.maybe_print_items (cursor_of tokens.old)) result (cursor_of tokens.new) }
 {
-    if !tokens.starts(&[
-        Kind::StringLiteral,
-        Kind::If,
-        Kind::Minus,
-        Kind::Bang,
-        Kind::Not,
-        Kind::IntegerLiteral,
-        Kind::BitsLiteral,
-        Kind::True,
-        Kind::False,
-        Kind::OpenParen,
-        Kind::Name,
-    ]) {
+    if !tokens.starts(&PRINT_ITEM) {
         return Ok(Items::new(alloc));
     }
     print_items(alloc, tokens, depth)
 }
 
-#[tactic(auto, using(crate::proofs::Steps::print_kind_is))]
 fn print_kind(tokens: &mut Tokens<'_>, depth: usize) -> Result<PrintKind, ParseError>
     ensures { Met (reading depth rules.print_kind (cursor_of tokens.old)) result (cursor_of tokens.new) }
 {
     if tokens.starts(&[Kind::Print]) {
-        tokens.take(&[Kind::Print])?;
+        tokens.take(Kind::Print)?;
         Ok(PrintKind::Print)
     } else {
-        tokens.take(&[Kind::PrintLine])?;
+        tokens.take(Kind::PrintLine)?;
         Ok(PrintKind::PrintLine)
     }
 }
@@ -103,10 +89,10 @@ pub fn print_statement(
     let from = tokens.ahead();
     let kind = print_kind(tokens, depth)?;
     let left = tokens.left;
-    tokens.open(&[Kind::OpenParen])?;
+    tokens.open(Kind::OpenParen)?;
     let items = maybe_print_items(alloc, tokens, depth)?;
-    tokens.take(&[Kind::CloseParen])?;
+    tokens.take(Kind::CloseParen)?;
     tokens.left = left;
-    tokens.take(&[Kind::Semicolon])?;
+    tokens.take(Kind::Semicolon)?;
     Ok(Stmt::Print(tokens.since(from), kind, items))
 }

@@ -5,6 +5,7 @@ ghost use Rattle.asl_grammar.specs.grammar.Rules as rules;
 ghost use Rattle.asl_parse_expr.specs.Code.{cursor_of, Met, reading};
 
 use crate::binders::value;
+use crate::firsts::INVOKED;
 use crate::targets::{other_target, place_of, target_suffixes};
 use asl_grammar::error::ParseError;
 use asl_grammar::kinds::Kind;
@@ -22,8 +23,8 @@ pub fn pass(tokens: &mut Tokens<'_>, depth: usize) -> Result<Stmt, ParseError>
     ensures { Met (reading depth rules.pass (cursor_of tokens.old)) result (cursor_of tokens.new) }
 {
     let from = tokens.ahead();
-    tokens.take(&[Kind::Pass])?;
-    tokens.take(&[Kind::Semicolon])?;
+    tokens.take(Kind::Pass)?;
+    tokens.take(Kind::Semicolon)?;
     Ok(Stmt::Pass(tokens.since(from)))
 }
 
@@ -33,8 +34,8 @@ pub fn unreachable(tokens: &mut Tokens<'_>, depth: usize) -> Result<Stmt, ParseE
     ensures { Met (reading depth rules.unreachable (cursor_of tokens.old)) result (cursor_of tokens.new) }
 {
     let from = tokens.ahead();
-    tokens.take(&[Kind::Unreachable])?;
-    tokens.take(&[Kind::Semicolon])?;
+    tokens.take(Kind::Unreachable)?;
+    tokens.take(Kind::Semicolon)?;
     Ok(Stmt::Unreachable(tokens.since(from)))
 }
 
@@ -44,13 +45,13 @@ pub fn assert(alloc: Global, tokens: &mut Tokens<'_>, depth: usize) -> Result<St
     ensures { Met (reading depth rules.assert (cursor_of tokens.old)) result (cursor_of tokens.new) }
 {
     let from = tokens.ahead();
-    tokens.take(&[Kind::Assert])?;
+    tokens.take(Kind::Assert)?;
     let condition = Held::new(expression(alloc, tokens, depth)?);
-    tokens.take(&[Kind::Semicolon])?;
+    tokens.take(Kind::Semicolon)?;
     Ok(Stmt::Assert(tokens.since(from), condition.into_inner()))
 }
 
-#[tactic(auto, using(crate::proofs::Steps::maybe_parameters_is), unfolding(asl_grammar::specs::grammar::Rules::parameters))]
+#[tactic(auto, unfolding(asl_grammar::specs::grammar::Rules::parameters))]
 fn maybe_parameters(
     alloc: Global,
     tokens: &mut Tokens<'_>,
@@ -62,9 +63,9 @@ fn maybe_parameters(
         return Ok(Items::new(alloc));
     }
     let left = tokens.left;
-    tokens.open(&[Kind::OpenBrace])?;
+    tokens.open(Kind::OpenBrace)?;
     let found = maybe_expressions(alloc, tokens, depth)?;
-    tokens.take(&[Kind::CloseBrace])?;
+    tokens.take(Kind::CloseBrace)?;
     tokens.left = left;
     Ok(found)
 }
@@ -79,7 +80,7 @@ fn invoked(
 {
     let parameters = maybe_parameters(alloc, tokens, depth)?;
     let arguments = arguments(alloc, tokens, depth)?;
-    tokens.take(&[Kind::Semicolon])?;
+    tokens.take(Kind::Semicolon)?;
     Ok((parameters, arguments))
 }
 
@@ -97,7 +98,6 @@ fn assigned(
 }
 
 /// A call, or an assignment to a place.
-#[tactic(auto, using(crate::proofs::StatementSteps::name_statement_steps))]
 pub fn name_statement(
     alloc: Global,
     tokens: &mut Tokens<'_>,
@@ -107,7 +107,7 @@ pub fn name_statement(
 {
     let from = tokens.ahead();
     let name = name(alloc, tokens, depth)?;
-    if tokens.starts(&[Kind::OpenBrace, Kind::OpenParen]) {
+    if tokens.starts(&INVOKED) {
         let (parameters, arguments) = invoked(alloc, tokens, depth)?;
         Ok(Stmt::Invoke(tokens.since(from), name, parameters, arguments))
     } else {
@@ -138,9 +138,9 @@ pub fn return_statement(
     ensures { Met (reading depth rules.return_statement (cursor_of tokens.old)) result (cursor_of tokens.new) }
 {
     let from = tokens.ahead();
-    tokens.take(&[Kind::Return])?;
+    tokens.take(Kind::Return)?;
     let value = Held::new(maybe_expression(alloc, tokens, depth)?);
-    tokens.take(&[Kind::Semicolon])?;
+    tokens.take(Kind::Semicolon)?;
     Ok(Stmt::Return(tokens.since(from), value.into_inner()))
 }
 
@@ -154,8 +154,8 @@ pub fn throw_statement(
     ensures { Met (reading depth rules.throw_statement (cursor_of tokens.old)) result (cursor_of tokens.new) }
 {
     let from = tokens.ahead();
-    tokens.take(&[Kind::Throw])?;
+    tokens.take(Kind::Throw)?;
     let value = Held::new(maybe_expression(alloc, tokens, depth)?);
-    tokens.take(&[Kind::Semicolon])?;
+    tokens.take(Kind::Semicolon)?;
     Ok(Stmt::Throw(tokens.since(from), value.into_inner()))
 }

@@ -6,6 +6,7 @@ ghost use Rattle.asl_parse_expr.specs.Code.{cursor_of, Met, reading};
 
 use crate::binders::{let_statement, var_statement};
 use crate::bodies::Bodies;
+use crate::firsts::STATEMENT;
 use crate::levels::nest;
 use crate::printing::print_statement;
 use crate::simple::{
@@ -19,13 +20,12 @@ use sqlite_items::Items;
 use std::alloc::Global;
 
 #[cycle(statements)]
-#[tactic(auto, using(crate::proofs::StatementSteps::if_statement_nests))]
 fn if_statement(alloc: Global, tokens: &mut Tokens<'_>, depth: usize) -> Result<Stmt, ParseError>
     ensures { Met (reading depth rules.if_statement (cursor_of tokens.old)) result (cursor_of tokens.new) }
 {
     let from = tokens.ahead();
     let left = tokens.left;
-    let depth = nest(tokens, &[Kind::If], depth)?;
+    let depth = nest(tokens, Kind::If, depth)?;
     let bodies = Bodies {
         alloc,
         depth,
@@ -43,13 +43,12 @@ fn if_statement(alloc: Global, tokens: &mut Tokens<'_>, depth: usize) -> Result<
 }
 
 #[cycle(statements)]
-#[tactic(auto, using(crate::proofs::StatementSteps::case_statement_nests))]
 fn case_statement(alloc: Global, tokens: &mut Tokens<'_>, depth: usize) -> Result<Stmt, ParseError>
     ensures { Met (reading depth rules.case_statement (cursor_of tokens.old)) result (cursor_of tokens.new) }
 {
     let from = tokens.ahead();
     let left = tokens.left;
-    let depth = nest(tokens, &[Kind::Case], depth)?;
+    let depth = nest(tokens, Kind::Case, depth)?;
     let bodies = Bodies {
         alloc,
         depth,
@@ -61,13 +60,12 @@ fn case_statement(alloc: Global, tokens: &mut Tokens<'_>, depth: usize) -> Resul
 }
 
 #[cycle(statements)]
-#[tactic(auto, using(crate::proofs::StatementSteps::for_statement_nests))]
 fn for_statement(alloc: Global, tokens: &mut Tokens<'_>, depth: usize) -> Result<Stmt, ParseError>
     ensures { Met (reading depth rules.for_statement (cursor_of tokens.old)) result (cursor_of tokens.new) }
 {
     let from = tokens.ahead();
     let left = tokens.left;
-    let depth = nest(tokens, &[Kind::For], depth)?;
+    let depth = nest(tokens, Kind::For, depth)?;
     let bodies = Bodies {
         alloc,
         depth,
@@ -87,13 +85,12 @@ fn for_statement(alloc: Global, tokens: &mut Tokens<'_>, depth: usize) -> Result
 }
 
 #[cycle(statements)]
-#[tactic(auto, using(crate::proofs::StatementSteps::while_statement_nests))]
 fn while_statement(alloc: Global, tokens: &mut Tokens<'_>, depth: usize) -> Result<Stmt, ParseError>
     ensures { Met (reading depth rules.while_statement (cursor_of tokens.old)) result (cursor_of tokens.new) }
 {
     let from = tokens.ahead();
     let left = tokens.left;
-    let depth = nest(tokens, &[Kind::While], depth)?;
+    let depth = nest(tokens, Kind::While, depth)?;
     let bodies = Bodies {
         alloc,
         depth,
@@ -105,7 +102,6 @@ fn while_statement(alloc: Global, tokens: &mut Tokens<'_>, depth: usize) -> Resu
 }
 
 #[cycle(statements)]
-#[tactic(auto, using(crate::proofs::StatementSteps::repeat_statement_nests))]
 fn repeat_statement(
     alloc: Global,
     tokens: &mut Tokens<'_>,
@@ -115,7 +111,7 @@ fn repeat_statement(
 {
     let from = tokens.ahead();
     let left = tokens.left;
-    let depth = nest(tokens, &[Kind::Repeat], depth)?;
+    let depth = nest(tokens, Kind::Repeat, depth)?;
     let bodies = Bodies {
         alloc,
         depth,
@@ -127,13 +123,12 @@ fn repeat_statement(
 }
 
 #[cycle(statements)]
-#[tactic(auto, using(crate::proofs::StatementSteps::try_statement_nests))]
 fn try_statement(alloc: Global, tokens: &mut Tokens<'_>, depth: usize) -> Result<Stmt, ParseError>
     ensures { Met (reading depth rules.try_statement (cursor_of tokens.old)) result (cursor_of tokens.new) }
 {
     let from = tokens.ahead();
     let left = tokens.left;
-    let depth = nest(tokens, &[Kind::Try], depth)?;
+    let depth = nest(tokens, Kind::Try, depth)?;
     let bodies = Bodies {
         alloc,
         depth,
@@ -145,7 +140,6 @@ fn try_statement(alloc: Global, tokens: &mut Tokens<'_>, depth: usize) -> Result
 }
 
 #[cycle(statements)]
-#[tactic(auto, using(crate::proofs::Steps::statement_is))]
 fn statement(alloc: Global, tokens: &mut Tokens<'_>, depth: usize) -> Result<Stmt, ParseError>
     ensures { Met (reading depth rules.statement (cursor_of tokens.old)) result (cursor_of tokens.new) }
 {
@@ -196,26 +190,7 @@ pub fn block(
 {
     let mut found = Items::new(alloc);
     for _turn in 0..tokens.len() {
-        if !tokens.starts(&[
-            Kind::Pass,
-            Kind::Unreachable,
-            Kind::Assert,
-            Kind::Let,
-            Kind::Var,
-            Kind::Name,
-            Kind::Minus,
-            Kind::OpenParen,
-            Kind::If,
-            Kind::Case,
-            Kind::For,
-            Kind::While,
-            Kind::Repeat,
-            Kind::Return,
-            Kind::Throw,
-            Kind::Try,
-            Kind::Print,
-            Kind::PrintLine,
-        ]) {
+        if !tokens.starts(&STATEMENT) {
             return Ok(found);
         }
         found.push(statement(alloc, tokens, depth)?)?;

@@ -52,12 +52,11 @@ pub fn target_suffixes(
 fn no_target(tokens: &mut Tokens<'_>, depth: usize) -> Result<Target, ParseError>
     ensures { Met (reading depth rules.no_target (cursor_of tokens.old)) result (cursor_of tokens.new) }
 {
-    let token = tokens.take(&[Kind::Minus])?;
+    let token = tokens.take(Kind::Minus)?;
     Ok(Target::Discarded(token.span))
 }
 
 #[cycle(targets)]
-#[tactic(auto, using(crate::proofs::Steps::target_is), unfolding(asl_grammar::specs::grammar::Rules::place))]
 fn target(alloc: Global, tokens: &mut Tokens<'_>, depth: usize) -> Result<Target, ParseError>
     ensures { Met (reading depth rules.target (cursor_of tokens.old)) result (cursor_of tokens.new) }
 {
@@ -86,14 +85,13 @@ fn more_targets(
         if !tokens.starts(&[Kind::Comma]) {
             return Ok(found);
         }
-        tokens.take(&[Kind::Comma])?;
+        tokens.take(Kind::Comma)?;
         found.push(target(alloc, tokens, depth)?)?;
     }
     Ok(found)
 }
 
 #[cycle(targets)]
-#[tactic(auto, unfolding(asl_grammar::specs::grammar::Rules::two_targets, asl_parse_expr::specs::Code::then))]
 fn two_targets(
     alloc: Global,
     tokens: &mut Tokens<'_>,
@@ -103,27 +101,25 @@ fn two_targets(
 {
     let mut found = Items::new(alloc);
     found.push(target(alloc, tokens, depth)?)?;
-    tokens.take(&[Kind::Comma])?;
+    tokens.take(Kind::Comma)?;
     found.push(target(alloc, tokens, depth)?)?;
     more_targets(alloc, tokens, depth, found)
 }
 
 #[cycle(targets)]
-#[tactic(auto, using(crate::proofs::StatementSteps::targets_nest))]
 fn targets(alloc: Global, tokens: &mut Tokens<'_>, depth: usize) -> Result<Target, ParseError>
     ensures { Met (reading depth rules.targets (cursor_of tokens.old)) result (cursor_of tokens.new) }
 {
     let from = tokens.ahead();
     let left = tokens.left;
-    let depth = nest(tokens, &[Kind::OpenParen], depth)?;
+    let depth = nest(tokens, Kind::OpenParen, depth)?;
     let parts = two_targets(alloc, tokens, depth)?;
-    tokens.take(&[Kind::CloseParen])?;
+    tokens.take(Kind::CloseParen)?;
     tokens.left = left;
     Ok(Target::Targets(tokens.since(from), parts))
 }
 
 /// A target that begins with no name.
-#[tactic(auto, using(crate::proofs::Steps::other_target_is))]
 pub fn other_target(
     alloc: Global,
     tokens: &mut Tokens<'_>,

@@ -1,5 +1,5 @@
 //! Constraints, worked by hand from the rules of the operators.
-use asl_cons::{Cons, End, Part, Ranges, inclusion_law};
+use asl_cons::{Cons, End, Part, Ranges, arithmetic_law, inclusion_law};
 use asl_poly::{Atom, Poly, PolyRefused};
 use std::alloc::{AllocError, Global};
 
@@ -115,6 +115,7 @@ fn constant_parts_are_included(rt: HostRuntime) {
         assert_eq!(rt; found, Some(want), "{left:?} {right:?}");
     }
     inclusion_law();
+    arithmetic_law();
 }
 
 /// An atom and an integer.

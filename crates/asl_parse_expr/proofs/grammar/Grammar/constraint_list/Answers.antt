@@ -3,6 +3,7 @@ use Rattle.std.proofs.lemmas.Grind.{common_steps}
 use Rattle.asl_grammar.specs.grammar.Rules.{constraint_part}
 use Rattle.asl_parse_expr.specs.Code.{cursor_of, reading}
 use Rattle.asl_parse_expr.proofs.Loops.{run_more, one_more}
+use Rattle.asl_parse_expr.proofs.Steps.{constraint_list_is}
 use Rattle.asl_parse_expr.proofs.grammar.Grammar.constraint_list.Goals as goal
 
 pub loop-turn-preserved : goal.loop-turn-preserved
@@ -12,5 +13,20 @@ loop-turn-preserved g c =
 
 pub returns-in_err-constraint_part-2 : goal.returns-in_err-constraint_part-2
 returns-in_err-constraint_part-2 g c =
+    let e = one_more (λ n. run_more (reading c.args.self.now.depth constraint_part) n c.loop-turn.found (cursor_of c.loop-turn.tokens)) _ c.loop-turn._turn c.loop-turn-test.true c.loop-turn.invariant in
+    first_of (search rules, grind (arith, common_steps))
+
+pub loop-turn-init : goal.loop-turn-init
+loop-turn-init g c =
+    let e = constraint_list_is c.args.self.now.depth (cursor_of c.args.tokens.now) in
+    first_of (search rules, grind (arith, common_steps))
+
+pub returns-in_err-constraint_part : goal.returns-in_err-constraint_part
+returns-in_err-constraint_part g c =
+    let e = constraint_list_is c.args.self.now.depth (cursor_of c.args.tokens.now) in
+    first_of (search rules, grind (arith, common_steps))
+
+pub returns-then-not-starts : goal.returns-then-not-starts
+returns-then-not-starts g c =
     let e = one_more (λ n. run_more (reading c.args.self.now.depth constraint_part) n c.loop-turn.found (cursor_of c.loop-turn.tokens)) _ c.loop-turn._turn c.loop-turn-test.true c.loop-turn.invariant in
     first_of (search rules, grind (arith, common_steps))

@@ -9,4 +9,4 @@ pub unary_of-requires : goal.unary_of-requires
 unary_of-requires c =
     let old = cursor_of c.args.self.now in
     let token = with_text c.args.self.now.bytes.now c.in_ok-token.token in
-    ap (among unary_kinds) c.kind_of.ensures ∙ is_operator unary_kinds c.args.kinds.now old.left old.toks token (cursor_of c.open.new.self) c.requires c.in_ok-token.ensures
+    ap (among unary_kinds) c.kind_of.ensures ∙ is_operator unary_kinds c.args.kinds.now old.left old.toks token (cursor_of c.open_any.new.self) c.requires c.in_ok-token.ensures

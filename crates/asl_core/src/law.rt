@@ -1,0 +1,29 @@
+//! The laws of the definitions, each as the contract of a function without parameters.
+#![tactic(auto)]
+
+ghost use Rattle.std.specs.Prelude.{ℕ, List};
+ghost use Rattle.asl_grammar.specs.Reading.{File};
+ghost use Rattle.asl_core.specs.declared.entry.Entry.{Entry};
+ghost use Rattle.asl_core.specs.Answers.{OneAnswer};
+ghost use Rattle.asl_core.specs.Programs.{Environment};
+ghost use Rattle.asl_syn.specs.declared.tree.Decl.{Decl};
+ghost use Rattle.asl_core.specs.Tests.{Tests};
+ghost use Rattle.asl_core.specs.OneRun.{OneRun};
+ghost use Rattle.asl_core.specs.BeforeRuns.{BeginsSo};
+
+/// One run: for each program, state and node there is exactly one outcome, with one state, one number of steps left and
+/// one text after it. A call takes one step for each node that it enters, and never are more than 2,000 nodes open. An
+/// expression gives in a run what it gives before any run, where each name has the value that it has then: as it has when
+/// a run begins.
+#[tactic(auto)]
+pub fn law1()
+    ensures one { (env : Environment) → OneRun env }
+    ensures start { (t : Tests) (ds : List Decl) → BeginsSo t ds }
+{}
+
+/// One answer: files, each entry and each width limit have exactly one of these, a program that is well formed or one
+/// single fault.
+#[tactic(auto, using(crate::proofs::OneVerdict::one_answer))]
+pub fn law2()
+    ensures { (limit : ℕ) (e : Entry) (files : List File) → OneAnswer limit e files }
+{}

@@ -1,0 +1,10 @@
+pub mod Building
+pub mod Falling
+pub mod KindLemmas
+pub mod MemberLemmas
+pub mod NumberLemmas
+pub mod Rest
+pub mod ScopeLemmas
+pub mod SizeLemmas
+pub mod SubstituteLemmas
+pub mod TestLemmas

@@ -1,0 +1,9 @@
+pub mod Answers
+pub mod Codes
+pub mod EntryCodes
+pub mod Heights
+pub mod HeightsFall
+pub mod MemberView
+pub mod Parts
+pub mod Standings
+pub mod View

@@ -1,0 +1,17 @@
+pub mod Digits
+pub mod Endings
+pub mod Integers
+pub mod Among
+pub mod Fronts
+pub mod Elements
+pub mod Ways
+pub mod Givens
+pub mod Putting
+pub mod Followed
+pub mod Lists
+pub mod Seen
+pub mod Kept
+pub mod Pairs
+pub mod Bits
+pub mod Fields
+pub mod Placed

@@ -1,0 +1,10 @@
+pub mod View
+pub mod Sights
+pub mod Seeing
+pub mod Keeping
+pub mod Fields
+pub mod Numbers
+pub mod Forms
+pub mod Pieces
+pub mod Answers
+pub mod Reaching

@@ -1,0 +1,289 @@
+//! Parts of values replaced: in place where they have one owner, and else in a copy of their list, over the same parts.
+ghost use Rattle.std.specs.Prelude.{◌≡◌, ◌<◌, ◌∷◌, pos, length, IfOk, OnOk};
+ghost use Rattle.asl_core.specs.Structures as rules;
+ghost use Rattle.asl_core_value.specs.Answers.{Is, Changes};
+ghost use Rattle.asl_core_value.specs.Forms.{place_of, all_steps};
+ghost use Rattle.asl_bits.specs.declared.TheConstants.{WIDTH_LIMIT};
+ghost use Rattle.asl_core.specs.ByPlace as places;
+ghost use Rattle.asl_core.specs.Pures.{there};
+ghost use Rattle.asl_core_value.specs.Reaching.{step_in, put_into_fields, put_into_elements, Reaches};
+ghost use Rattle.asl_core_value.specs.View.{value_of, field_of, all_values, all_fields};
+
+use crate::failure::Failure;
+use crate::keeping::adopt;
+use crate::parts::{element_of, field_at, field_in, index_in};
+use crate::value::{FieldValue, Value, copy};
+use asl_shared::{Held, Shared};
+use asl_syn::code::DynCode;
+use asl_syn::token::Span;
+use sqlite_items::Items;
+use std::alloc::{AllocError, Global};
+use std::mem;
+
+/// A step into a value, with the place of its failures.
+#[derive(Drop)]
+pub enum Step {
+    /// Into the field in a place, from 0.
+    Field(Span, usize),
+    /// Into the element at an index.
+    Element(Span, Value),
+}
+
+/// Replaces what stands at the end of these steps; with no step it is the value itself. The new value takes the bitfields of
+/// the one that it replaces. Where a step isn't there the value
+/// stays the same. Where memory is wanting nothing is said of it.
+#[tactic(auto, using(crate::proofs::Followed::unchanged))]
+pub fn replace(alloc: Global, value: &mut Value, steps: &[Step], new: Value) -> Result<(), Failure>
+    ensures { Changes result (places.updated WIDTH_LIMIT (all_steps steps.now) (value_of new) (value_of value.old)) value.old value.new }
+{
+    let new = Held::new(new);
+    reach(value, steps)?;
+    let old = mem::replace(value, Value::Bool(false));
+    match put(alloc, old, steps, new) {
+        Ok(changed) => {
+            *value = changed;
+            Ok(())
+        }
+        Err(_) => Err(Failure::NoMemory),
+    }
+}
+
+/// Whether each of these steps is there.
+#[tactic(auto, using(crate::proofs::Followed::reaches_on, crate::proofs::Followed::reaches_off))]
+fn reach(value: &Value, steps: &[Step]) -> Result<(), Failure>
+    ensures { Reaches result (λ y. places.updated WIDTH_LIMIT (all_steps steps.now) y (value_of value.now)) }
+{
+    match steps.split_first() {
+        None => Ok(()),
+        Some((step, rest)) => {
+            let part = step_in(value, step)?;
+            reach(&part, rest)
+        }
+    }
+}
+
+/// The part that a step leads to, over the same parts.
+fn step_in(value: &Value, step: &Step) -> Result<Value, Failure>
+    ensures { Is value_of result (step_in (place_of step.now) (value_of value.now)) }
+{
+    match step {
+        Step::Field(span, place) => field_in(*span, *place, value),
+        Step::Element(span, index) => element_of(*span, value, index),
+    }
+}
+
+/// The value with another at the end of these steps.
+#[cycle(put)]
+fn put(alloc: Global, value: Value, steps: &[Step], new: Held<Value>) -> Result<Value, Failure>
+    ensures { Is value_of result (places.updated WIDTH_LIMIT (all_steps steps.now) (value_of new) (value_of value)) }
+{
+    match steps.split_first() {
+        None => Ok(adopt(alloc, &value, new.get())?),
+        Some((step, rest)) => match step {
+            Step::Field(span, place) => put_field(alloc, value, *span, *place, rest, new),
+            Step::Element(span, index) => put_element(alloc, value, *span, index, rest, new),
+        },
+    }
+}
+
+/// The record or the exception with another value at the end of the steps behind the field in a place.
+#[cycle(put)]
+fn put_field(
+    alloc: Global,
+    value: Value,
+    span: Span,
+    place: usize,
+    rest: &[Step],
+    new: Held<Value>,
+) -> Result<Value, Failure>
+    ensures { Is value_of result
+        (places.updated WIDTH_LIMIT (places.into_field span place ∷ all_steps rest.now) (value_of new) (value_of value)) }
+{
+    match value {
+        Value::Record(name, fields) => {
+            let changed = put_in_fields(alloc, fields, span, place, rest, new)?;
+            Ok(Value::Record(name, changed))
+        }
+        Value::Exception(own, supers, name, fields) => {
+            let changed = put_in_fields(alloc, fields, span, place, rest, new)?;
+            Ok(Value::Exception(own, supers, name, changed))
+        }
+        _ => Err(Failure::WrongKind(span)),
+    }
+}
+
+/// The fields with another value at the end of the steps behind the one in a place.
+#[cycle(put)]
+fn put_in_fields(
+    alloc: Global,
+    fields: Shared<Items<FieldValue>>,
+    span: Span,
+    place: usize,
+    rest: &[Step],
+    new: Held<Value>,
+) -> Result<Shared<Items<FieldValue>>, Failure>
+    ensures { Is all_fields result
+        (put_into_fields WIDTH_LIMIT span place (all_steps rest.now) (value_of new) (all_fields fields)) }
+{
+    let part = field_at(span, place, fields.get().as_slice())?;
+    let part = Held::new(part);
+    let mut owned = into_owned_fields(alloc, fields)?;
+    set_field(&mut owned, place, Value::Bool(false))?;
+    let changed = put(alloc, part.into_inner(), rest, new)?;
+    set_field(&mut owned, place, changed)?;
+    Ok(Shared::new(alloc, owned)?)
+}
+
+/// The array with another value at the end of the steps behind the element at an index.
+#[cycle(put)]
+fn put_element(
+    alloc: Global,
+    value: Value,
+    span: Span,
+    index: &Value,
+    rest: &[Step],
+    new: Held<Value>,
+) -> Result<Value, Failure>
+    ensures { Is value_of result
+        (places.updated WIDTH_LIMIT (places.into_element span (value_of index.now) ∷ all_steps rest.now) (value_of new) (value_of value)) }
+{
+    match (value, index) {
+        (Value::Array(kind, elements), Value::Int(i)) => {
+            let changed = put_in_elements(alloc, elements, span, *i, rest, new)?;
+            Ok(Value::Array(kind, changed))
+        }
+        _ => Err(Failure::WrongKind(span)),
+    }
+}
+
+/// The elements with another value at the end of the steps behind the one at an index.
+#[cycle(put)]
+fn put_in_elements(
+    alloc: Global,
+    elements: Shared<Items<Value>>,
+    span: Span,
+    index: i128,
+    rest: &[Step],
+    new: Held<Value>,
+) -> Result<Shared<Items<Value>>, Failure>
+    ensures { Is all_values result
+        (put_into_elements WIDTH_LIMIT span index (all_steps rest.now) (value_of new) (all_values elements)) }
+{
+    match index_in(index, elements.get().len()) {
+        Some(at) => put_in_place(alloc, elements, span, at, rest, new),
+        None => Err(Failure::Fault(DynCode::D06, span)),
+    }
+}
+
+/// The elements with another value at the end of the steps behind the one in a place.
+#[cycle(put)]
+fn put_in_place(
+    alloc: Global,
+    elements: Shared<Items<Value>>,
+    span: Span,
+    at: usize,
+    rest: &[Step],
+    new: Held<Value>,
+) -> Result<Shared<Items<Value>>, Failure>
+    ensures { Is all_values result
+        (put_into_elements WIDTH_LIMIT span (pos at) (all_steps rest.now) (value_of new) (all_values elements)) }
+{
+    let part = value_at(span, at, elements.get().as_slice())?;
+    let part = Held::new(part);
+    let mut owned = into_owned(alloc, elements)?;
+    owned.set(at, Value::Bool(false));
+    let changed = put(alloc, part.into_inner(), rest, new)?;
+    owned.set(at, changed);
+    Ok(Shared::new(alloc, owned)?)
+}
+
+/// Gives the field in a place another value.
+#[tactic(auto, using(crate::proofs::Putting::field_set))]
+fn set_field(fields: &mut Items<FieldValue>, place: usize, value: Value) -> Result<(), AllocError>
+    requires { place < length fields.old }
+    ensures length { OnOk result (length fields.new ≡ length fields.old) }
+    ensures value { OnOk result
+        (places.with_field_at place (value_of value) (all_fields fields.old) ≡ Some (all_fields fields.new)) }
+{
+    let field = given_as(&fields.as_slice()[place], value)?;
+    fields.set(place, field);
+    Ok(())
+}
+
+/// A field of the same name with another value.
+fn given_as(field: &FieldValue, value: Value) -> Result<FieldValue, AllocError>
+    ensures name { IfOk result (λ it. (field_of it).name ≡ (field_of field.now).name) }
+    ensures value { IfOk result (λ it. (field_of it).value ≡ value_of value) }
+{
+    let value = Held::new(value);
+    match field {
+        FieldValue::Given(name, _) => Ok(FieldValue::Given(name.share()?, value.into_inner())),
+    }
+}
+
+/// The element in a place, over the same parts: D06 where there is none.
+#[tactic(auto, using(crate::proofs::Elements::value_inside, crate::proofs::Elements::value_outside))]
+fn value_at(span: Span, at: usize, elements: &[Value]) -> Result<Value, Failure>
+    ensures value { Is value_of result (rules.inside span (rules.value_at at (all_values elements.now))) }
+    ensures within { OnOk result (at < length elements.now) }
+{
+    if at < elements.len() {
+        Ok(copy(&elements[at])?)
+    } else {
+        Err(Failure::Fault(DynCode::D06, span))
+    }
+}
+
+/// The elements, with no other owner.
+fn into_owned(alloc: Global, elements: Shared<Items<Value>>) -> Result<Items<Value>, AllocError>
+    ensures { IfOk result (λ it. it ≡ elements) }
+{
+    match elements.take() {
+        Ok(owned) => Ok(owned),
+        Err(shared) => copy_all(alloc, shared.get().as_slice()),
+    }
+}
+
+/// The same values in a list of their own.
+fn copy_all(alloc: Global, values: &[Value]) -> Result<Items<Value>, AllocError>
+    ensures { IfOk result (λ it. it ≡ values.now) }
+{
+    let mut copies = Items::new(alloc);
+    for value in values {
+        copies.push(copy(value)?)?;
+    }
+    Ok(copies)
+}
+
+/// The fields, with no other owner.
+fn into_owned_fields(
+    alloc: Global,
+    fields: Shared<Items<FieldValue>>,
+) -> Result<Items<FieldValue>, AllocError>
+    ensures { IfOk result (λ it. it ≡ fields) }
+{
+    match fields.take() {
+        Ok(owned) => Ok(owned),
+        Err(shared) => copy_fields(alloc, shared.get().as_slice()),
+    }
+}
+
+/// The same fields in a list of their own.
+fn copy_fields(alloc: Global, fields: &[FieldValue]) -> Result<Items<FieldValue>, AllocError>
+    ensures { IfOk result (λ it. it ≡ fields.now) }
+{
+    let mut copies = Items::new(alloc);
+    for field in fields {
+        copies.push(copy_field(field)?)?;
+    }
+    Ok(copies)
+}
+
+/// The same field, over the same parts.
+fn copy_field(field: &FieldValue) -> Result<FieldValue, AllocError>
+    ensures { IfOk result (λ it. it ≡ field.now) }
+{
+    match field {
+        FieldValue::Given(name, value) => Ok(FieldValue::Given(name.share()?, copy(value)?)),
+    }
+}

@@ -1,0 +1,25 @@
+use Rattle.std.proofs.Common.{rules, arith}
+use Rattle.std.proofs.lemmas.Grind.{common_steps}
+use Rattle.asl_parse_expr.specs.Code.{cursor_of}
+use Rattle.asl_parse_stmt.proofs.Steps.{result_type_is}
+use Rattle.asl_parse_stmt.proofs.declarations.result_type.Goals as goal
+
+pub returns-then-not-starts : goal.returns-then-not-starts
+returns-then-not-starts c =
+    let e = result_type_is c.args.depth (cursor_of c.args.tokens.now) in
+    first_of (search rules, grind (arith, common_steps))
+
+pub returns-in_err-take : goal.returns-in_err-take
+returns-in_err-take c =
+    let e = result_type_is c.args.depth (cursor_of c.args.tokens.now) in
+    first_of (search rules, grind (arith, common_steps))
+
+pub returns-in_err-type_expression : goal.returns-in_err-type_expression
+returns-in_err-type_expression c =
+    let e = result_type_is c.args.depth (cursor_of c.args.tokens.now) in
+    first_of (search rules, grind (arith, common_steps))
+
+pub returns : goal.returns
+returns c =
+    let e = result_type_is c.args.depth (cursor_of c.args.tokens.now) in
+    first_of (search rules, grind (arith, common_steps))

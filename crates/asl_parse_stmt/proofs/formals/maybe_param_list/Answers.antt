@@ -1,0 +1,15 @@
+use Rattle.std.proofs.Common.{rules, arith}
+use Rattle.std.proofs.lemmas.Grind.{common_steps}
+use Rattle.asl_parse_expr.specs.Code.{cursor_of}
+use Rattle.asl_parse_stmt.proofs.Steps.{maybe_param_list_is}
+use Rattle.asl_parse_stmt.proofs.formals.maybe_param_list.Goals as goal
+
+pub returns-then-not-starts : goal.returns-then-not-starts
+returns-then-not-starts c =
+    let e = maybe_param_list_is c.args.depth (cursor_of c.args.tokens.now) in
+    first_of (search rules, grind (arith, common_steps))
+
+pub returns : goal.returns
+returns c =
+    let e = maybe_param_list_is c.args.depth (cursor_of c.args.tokens.now) in
+    first_of (search rules, grind (arith, common_steps))

@@ -1,0 +1,36 @@
+use Rattle.std.proofs.Common.{rules, arith}
+use Rattle.std.proofs.lemmas.Grind.{common_steps}
+use Rattle.asl_grammar.specs.grammar.Rules.{params}
+use Rattle.asl_parse_expr.specs.Code.{cursor_of}
+use Rattle.asl_parse_stmt.proofs.Steps.{maybe_params_is}
+use Rattle.asl_parse_stmt.proofs.formals.maybe_params.Goals as goal
+
+pub returns-then-not-starts : goal.returns-then-not-starts
+unfolding params
+returns-then-not-starts c =
+    let e = maybe_params_is c.args.depth (cursor_of c.args.tokens.now) in
+    first_of (search rules, grind (arith, common_steps))
+
+pub returns-in_err-open : goal.returns-in_err-open
+unfolding params
+returns-in_err-open c =
+    let e = maybe_params_is c.args.depth (cursor_of c.args.tokens.now) in
+    first_of (search rules, grind (arith, common_steps))
+
+pub returns-in_err-found : goal.returns-in_err-found
+unfolding params
+returns-in_err-found c =
+    let e = maybe_params_is c.args.depth (cursor_of c.args.tokens.now) in
+    first_of (search rules, grind (arith, common_steps))
+
+pub returns-in_err-take : goal.returns-in_err-take
+unfolding params
+returns-in_err-take c =
+    let e = maybe_params_is c.args.depth (cursor_of c.args.tokens.now) in
+    first_of (search rules, grind (arith, common_steps))
+
+pub returns : goal.returns
+unfolding params
+returns c =
+    let e = maybe_params_is c.args.depth (cursor_of c.args.tokens.now) in
+    first_of (search rules, grind (arith, common_steps))
