@@ -1,8 +1,8 @@
 -- A state with one more name in the frame agrees with one more name behind those that are visible, at the same integers of the atoms.
-use Rattle.std.proofs.Common.{◌≡◌, ℕ, Bool, true, false, cond, List, [], ◌∷◌, ◌++◌, Option, Some, None, refl, sym, ap, ◌∙◌, subst, append_assoc}
+use Rattle.std.proofs.Common.{◌≡◌, ℕ, Bool, true, false, cond, List, [], ◌∷◌, ◌++◌, Option, Some, None, refl, sym, ap, ◌∙◌, append_assoc}
 use Rattle.asl_core.specs.Types.{Ty}
 use Rattle.asl_core.specs.Closed.{Assignment}
-use Rattle.asl_core.specs.Scopes.{Entry, Standing, Stored, Storage, standing_of, is_absent, is_free}
+use Rattle.asl_core.specs.Scopes.{Entry, Standing, standing_of, is_absent, is_free}
 use Rattle.asl_core.specs.Values.{Value}
 use Rattle.asl_core.specs.States.{Under, Binding, Core}
 use Rattle.asl_core.specs.Evaluation.{declared}

@@ -1,40 +1,31 @@
 -- All forms of expression with their typed trees, where calls of the program's functions do the same.
-use Rattle.std.proofs.Common.{◌≡◌, ℕ, Bool, true, List, Option, Some, None, Ok, refl, sym, ap, ◌∙◌, subst, map}
+use Rattle.std.proofs.Common.{◌≡◌, true, List, Option, Some, None, Ok, refl, sym, ap, ◌∙◌, subst, map}
 use Rattle.asl_syn.specs.declared.token.Span.{Span}
 use Rattle.asl_syn.specs.declared.tree.Ident.{Ident}
 use Rattle.asl_syn.specs.declared.tree.Expr.{Expr, out-Expr}
-use Rattle.asl_syn.specs.declared.tree.Slice.{Slice}
-use Rattle.asl_syn.specs.declared.tree.Pattern.{Pattern}
-use Rattle.asl_syn.specs.declared.tree.TypeExpr.{TypeExpr}
 use Rattle.asl_syn.specs.declared.tree.Bitfield.TheOpen as ex
 use Rattle.asl_syn.specs.declared.tree.Decl.{Decl}
-use Rattle.asl_syn.specs.declared.tree.Stmt.{Stmt}
 use Rattle.asl_syn.specs.Layers.{ExprLayer, expr_layer_span}
 use Rattle.asl_core.specs.declared.effect.Effect.TheVariants.{Pure}
 use Rattle.asl_core.specs.Tests.{Tests, IsRight}
 use Rattle.asl_core.specs.Faults.{need}
-use Rattle.asl_core.specs.Scopes.{Scope, Entry, Signature, with_class, standing_of, is_subprogram}
+use Rattle.asl_core.specs.Scopes.{Entry, Signature, with_class, standing_of, is_subprogram}
 use Rattle.asl_core.specs.WellFormed.{WellFormed}
-use Rattle.asl_core.specs.Trees.{Tree, Act, TreeFunc, tree_at}
+use Rattle.asl_core.specs.Trees.{TreeFunc, tree_at}
 use Rattle.asl_core.specs.Typing.{Found, Typed, Operand, operands}
-use Rattle.asl_core.specs.Slicing.{slices_rule}
-use Rattle.asl_core.specs.Writing.{as_rule}
-use Rattle.asl_core.specs.Patterns.{in_rule}
 use Rattle.asl_core.specs.Calls.{call_begun, function_of, function_rule}
 use Rattle.asl_core.specs.Routines.{Routine, routine_named}
-use Rattle.asl_core.specs.Exprs.{found, found_slice, found_type, found_pattern, typed, typed_rule}
-use Rattle.asl_core.specs.Values.{Value}
+use Rattle.asl_core.specs.Exprs.{found, typed, typed_rule}
 use Rattle.asl_core.specs.States.{Core}
 use Rattle.asl_core.specs.Agreement.{types_in}
-use Rattle.asl_core.specs.Plans.{Plan}
-use Rattle.asl_core.specs.Evaluation.{Does, expr_node, stmt_node, nodes, meaning}
-use Rattle.asl_core.specs.TypedMeaning.{BareCore, Runs, tree_node, act_node, tree_nodes, tree_meaning}
+use Rattle.asl_core.specs.Evaluation.{expr_node}
+use Rattle.asl_core.specs.TypedMeaning.{tree_node}
 use Rattle.asl_core.specs.Erasure.{erased}
 use Rattle.asl_core.proofs.Naming.{WellNamed, well_declared, scope_good}
 use Rattle.asl_core.proofs.WellTyped.{FormedSubs, typed_formed}
 use Rattle.asl_core.proofs.Opening.{opened, unrolled}
-use Rattle.asl_core.proofs.Twins.{Twins, Meets, Forms, twins, twins_weaker}
-use Rattle.asl_core.proofs.Claims.{Here, Asked, of_type, of_pure, of_width, of_number, of_known, tree_asked, Answers, GivesAsked, At, Over, ExprIn, our}
+use Rattle.asl_core.proofs.Twins.{twins_weaker}
+use Rattle.asl_core.proofs.Claims.{Here, Asked, of_type, of_pure, of_width, of_number, of_known, tree_asked, Answers, GivesAsked, At, our}
 use Rattle.asl_core.proofs.TreePlans.{Out, Throws, Same}
 use Rattle.asl_core.proofs.ExprForms.{env, program, Formed, int_formed, bool_formed, bits_formed, name_formed, operation_formed, two_formed, conditional_formed, tuple_formed, element_formed}
 use Rattle.asl_core.proofs.FieldForms.{field_formed, bitfields_formed}
@@ -45,7 +36,7 @@ use Rattle.asl_core.proofs.SliceForms.{slices_formed}
 use Rattle.asl_core.proofs.CallForms.{library_formed}
 use Rattle.asl_core.proofs.Inversions.{bind_ok, then_ok, need_ok}
 use Rattle.asl_syn.specs.declared.code.StaticCode.TheVariants.{T02}
-use Rattle.asl_core.proofs.WidthTrees.{Widened, width_formed, number_formed, known_formed}
+use Rattle.asl_core.proofs.WidthTrees.{width_formed, number_formed, known_formed}
 
 module _ (tests : Tests) (right : IsRight tests) (ds : List Decl) (base : List Entry) (subs : List Signature) (funcs : List TreeFunc) (w : WellNamed base) (s : FormedSubs tests right (types_in base) (well_declared base w) subs) where
   -- calls of the program's functions, whose proof stands elsewhere

@@ -5,12 +5,10 @@ use Rattle.asl_syn.specs.declared.token.Span.{Span}
 use Rattle.asl_syn.specs.declared.tree.Ident.{Ident}
 use Rattle.asl_syn.specs.declared.tree.Expr.{Expr}
 use Rattle.asl_syn.specs.declared.tree.TypeExpr.{TypeExpr}
-use Rattle.asl_syn.specs.declared.tree.Binder.{Binder}
 use Rattle.asl_syn.specs.declared.tree.Binder.TheVariants.{Bound, Unbound}
 use Rattle.asl_syn.specs.declared.tree.Bind.{Bind}
 use Rattle.asl_syn.specs.declared.tree.Bind.TheVariants.{Single, Several}
 use Rattle.asl_syn.specs.declared.tree.LocalKind.{LocalKind}
-use Rattle.asl_syn.specs.declared.tree.Direction.{Direction}
 use Rattle.asl_syn.specs.declared.tree.Alternative.{Alternative}
 use Rattle.asl_syn.specs.declared.tree.Catcher.{Catcher}
 use Rattle.asl_syn.specs.declared.tree.ElseIf.{ElseIf}
@@ -22,31 +20,31 @@ use Rattle.asl_syn.specs.declared.tree.Decl.{Decl}
 use Rattle.asl_syn.specs.Layers.{StmtLayer}
 use Rattle.asl_core.specs.Tests.{Tests, IsRight}
 use Rattle.asl_core.specs.Scopes.{Entry, Signature}
-use Rattle.asl_core.specs.Trees.{TreeFunc, Tree, Act, tree_at, act_at}
-use Rattle.asl_core.specs.Exprs.{found}
+use Rattle.asl_core.specs.Trees.{TreeFunc, Act, tree_at, act_at}
 use Rattle.asl_core.specs.Acting.{FoundStmt, FoundOtherwise}
-use Rattle.asl_core.specs.Locals.{bind_rule, vars_rule}
-use Rattle.asl_core.specs.Branches.{FoundBranch, FoundAlternative, FoundCatcher, for_rule, try_rule}
+use Rattle.asl_core.specs.Locals.{bind_rule}
+use Rattle.asl_core.specs.Branches.{FoundBranch, FoundAlternative, FoundCatcher, try_rule}
 use Rattle.asl_core.specs.Stmts.{StmtOf, invoke_rule, stmt_layer_rule, alternative_found, catcher_found, branch_found, otherwise_found, found_stmt}
 use Rattle.asl_core.specs.Falling.{falls, falls_layer, any_falls, all_fall, alternative_falls, catcher_falls, branch_falls, otherwise_falls}
 use Rattle.asl_core.specs.States.{Core}
 use Rattle.asl_core.specs.Agreement.{types_in}
-use Rattle.asl_core.specs.Evaluation.{nodes, meaning, stmt_node, expr_node}
+use Rattle.asl_core.specs.Evaluation.{nodes, meaning}
 use Rattle.asl_core.specs.TypedMeaning.{tree_nodes, tree_meaning, tree_node, act_node}
 use Rattle.asl_core.specs.Erasure.{erased}
 use Rattle.asl_core.proofs.Naming.{WellNamed, well_declared}
 use Rattle.asl_core.proofs.WellTyped.{FormedSubs}
 use Rattle.asl_core.proofs.Twins.{Twins, Meets, Forms, twins}
 use Rattle.asl_core.proofs.Several.{Singles, several_forms}
-use Rattle.asl_core.proofs.Claims.{Here, Asked, tree_asked, GivesAsked, StmtClaim, At, ExprIn, StmtIn, Over, Ends, our_each, our}
+use Rattle.asl_core.proofs.Claims.{GivesAsked, StmtClaim, At, StmtIn, Over, Ends, our_each, our}
 use Rattle.asl_core.proofs.TreePlans.{Same}
 use Rattle.asl_core.proofs.ExprForms.{env, program}
 use Rattle.asl_core.proofs.AllExprs.{Others, asked_formed}
-use Rattle.asl_core.proofs.StmtForms.{here, Held, Acted, ActSame, pass_acted, unreachable_acted, assert_acted, return_acted, print_acted}
+use Rattle.asl_core.proofs.StmtForms.{Held, Acted, ActSame, pass_acted, unreachable_acted, assert_acted, return_acted, print_acted}
 use Rattle.asl_core.proofs.BranchForms.{if_acted, while_acted, repeat_acted}
 use Rattle.asl_core.proofs.ForForms.{for_acted}
 use Rattle.asl_core.proofs.DeclareForms.{single_acted, none_acted}
 use Rattle.asl_core.proofs.TupleForms.{several_acted}
+use Rattle.asl_core.proofs.VarForms.{vars_acted}
 use Rattle.asl_core.proofs.ThrowForms.{throw_acted}
 use Rattle.asl_core.proofs.AssignActs.{assign_acted}
 use Rattle.asl_core.proofs.CaseForms.{case_acted}
@@ -91,7 +89,6 @@ module _ (tests : Tests) (right : IsRight tests) (ds : List Decl) (base : List E
 
   -- the forms whose proofs stand elsewhere
   pub record OtherStmts : Type 0 where
-    pub vars : (j : StmtClaim) (span : Span) (is : List Ident) (ty : TypeExpr) (c : Core) → vars_rule tests span is ty j.body.scope ≡ Ok j.done → Starts j c → Does_so j true (st.LocalVars span is ty) c
     pub invoke : (j : StmtClaim) (span : Span) (i : Ident) (ps es : List Expr) (c : Core) → invoke_rule tests span i ps es j.body.scope ≡ Ok j.done → Starts j c → Does_so j true (st.Invoke span i ps es) c
     pub try : (j : StmtClaim) (span : Span) (ss : List Stmt) (cs : List Catcher) (o : Otherwise) (c : Core) → try_rule span (map (found_stmt tests) ss) (map (found_catcher tests) cs) (found_otherwise tests o) j.body ≡ Ok j.done → Starts j c → Does_so j (all_fall (map falls ss) || (any_falls (map catcher_fallen cs) || otherwise_fallen o)) (st.Try span ss cs o) c
 
@@ -105,7 +102,7 @@ module _ (tests : Tests) (right : IsRight tests) (ds : List Decl) (base : List E
   layer_acted o j (st.Unreachable span) c h k = unreachable_acted tests right ds base subs funcs w j _ span c h k
   layer_acted o j (st.Assert span e) c h k = assert_acted tests right ds base subs funcs w j span e c h k
   layer_acted o j (st.Local span kind b ty e) c h k = local_acted j span kind b ty e c h k
-  layer_acted o j (st.LocalVars span is ty) c h k = o.vars j span is ty c h k
+  layer_acted o j (st.LocalVars span is ty) c h k = vars_acted tests right ds base subs funcs w j span is ty c h k
   layer_acted o j (st.Assign span x e) c h k = assign_acted tests right ds base subs funcs w j span x e c h k
   layer_acted o j (st.Invoke span i ps es) c h k = o.invoke j span i ps es c h k
   layer_acted o j (st.If span e ss es last) c h k = if_acted tests right ds base subs funcs w j _ span e ss es last c refl h k

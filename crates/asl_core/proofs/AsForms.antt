@@ -1,6 +1,5 @@
 -- `as` with its typed tree: both do the same, and give a value of the type.
-use Rattle.std.proofs.Common.{◌≡◌, ℕ, cond, Bool, true, false, List, [], ◌∷◌, ◌++◌, Option, Some, None, option_map, Ok, refl, sym, ap, ◌∙◌, subst}
-use Rattle.std.specs.Prelude.{option_and_then}
+use Rattle.std.proofs.Common.{◌≡◌, cond, Bool, true, false, List, [], Some, Ok, refl, sym, ap, ◌∙◌, subst}
 use Rattle.asl_syn.specs.declared.token.Span.{Span}
 use Rattle.asl_syn.specs.declared.code.StaticCode.TheVariants.{T05}
 use Rattle.asl_syn.specs.declared.code.DynCode.TheVariants.{D07}
@@ -11,15 +10,14 @@ use Rattle.asl_syn.specs.declared.tree.Decl.{Decl}
 use Rattle.asl_core.specs.Faults.{need}
 use Rattle.asl_core.specs.Tests.{Tests, IsRight}
 use Rattle.asl_core.specs.Types.{Ty, same_kind, kind, kind_eq}
-use Rattle.asl_core.specs.Closed.{Assignment, Closed, type_with, kind_at}
-use Rattle.asl_core.specs.Scopes.{Entry, Signature, type_of_name}
-use Rattle.asl_core.specs.WellFormed.{WellFormed, Built}
-use Rattle.asl_core.specs.Shapes.{TypeShape}
+use Rattle.asl_core.specs.Closed.{Assignment, type_with, kind_at}
+use Rattle.asl_core.specs.Scopes.{Entry, Signature}
+use Rattle.asl_core.specs.WellFormed.{Built}
 use Rattle.asl_core.specs.Shaped.{type_parts}
 use Rattle.asl_core.specs.Trees as tree
 use Rattle.asl_core.specs.Trees.{Note, Tree, TreeFunc}
 use Rattle.asl_core.specs.Typing.{Typed, trees_from}
-use Rattle.asl_core.specs.Writing.{Written, as_rule}
+use Rattle.asl_core.specs.Writing.{as_rule}
 use Rattle.asl_core.specs.Exprs.{found, typed, found_type, written}
 use Rattle.asl_core.specs.Values.{Value, has, kind_of}
 use Rattle.asl_core.specs.Views.{viewed}
@@ -28,13 +26,13 @@ use Rattle.asl_core.specs.Belonging.{InType}
 use Rattle.asl_core.specs.Agreement.{types_in}
 use Rattle.asl_core.specs.Plans.{Faulted, Stuck, WrongKind, Pure as PureOf, Good, Bad}
 use Rattle.asl_core.specs.Pures.{◌>>=◌, found_type as type_or_stuck}
-use Rattle.asl_core.specs.Written.{Sized, filled, sized, type_of_sized, in_type, of_kind_of, converted}
+use Rattle.asl_core.specs.Written.{type_of_sized, in_type, of_kind_of, converted}
 use Rattle.asl_core.specs.ByNames.{types_among}
 use Rattle.asl_core.specs.Forms.{behind_more}
 use Rattle.asl_core.specs.Erasure.{erased}
 use Rattle.asl_core.proofs.Inversions.{bind_ok, then_ok, need_ok}
 use Rattle.asl_core.proofs.Lookups.{same_types}
-use Rattle.asl_core.proofs.Naming.{WellNamed, well_declared, scope_good, type_fixed}
+use Rattle.asl_core.proofs.Naming.{WellNamed, scope_good, type_fixed}
 use Rattle.asl_core.proofs.KindOf.{has_kind, kind_same}
 use Rattle.asl_core.proofs.Viewing.{viewed_has, viewed_twice}
 use Rattle.asl_core.proofs.Bare.{viewed_built}
@@ -42,7 +40,7 @@ use Rattle.asl_core.proofs.OperatorForms.{Gives}
 use Rattle.asl_core.proofs.Opening.{in_class_is}
 use Rattle.asl_core.proofs.Claims.{Here, At}
 use Rattle.asl_core.proofs.TreePlans.{Out, Same, behind_more_same, append_nil, list_from}
-use Rattle.asl_core.proofs.SizeForms.{Fills, type_says}
+use Rattle.asl_core.proofs.SizeForms.{type_says}
 use Rattle.asl_core.proofs.ExprForms.{Formed, formed}
 
 module _ (tests : Tests) (right : IsRight tests) (ds : List Decl) (base : List Entry) (subs : List Signature) (funcs : List TreeFunc) (w : WellNamed base) where

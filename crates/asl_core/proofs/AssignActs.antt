@@ -10,7 +10,7 @@ use Rattle.asl_syn.specs.declared.tree.Target.TheOpen as tg
 use Rattle.asl_syn.specs.declared.tree.Alternative.TheOpen as st
 use Rattle.asl_syn.specs.declared.tree.Decl.{Decl}
 use Rattle.asl_core.specs.declared.effect.Effect.TheVariants.{Pure}
-use Rattle.asl_core.specs.Faults.{◌>>=◌, ◌>>◌, need, found_or}
+use Rattle.asl_core.specs.Faults.{need, found_or}
 use Rattle.asl_core.specs.Tests.{Tests, IsRight}
 use Rattle.asl_core.specs.Types.{Ty, Parts, no_part, part, tuple_of, named, misfit, tuple_parts}
 use Rattle.asl_core.specs.Closed.{Assignment, type_with, parts_with}

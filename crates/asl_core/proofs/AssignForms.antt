@@ -1,5 +1,5 @@
 -- Assignments with their typed trees: each place of the target takes a value that fits its type, by its name and in its place.
-use Rattle.std.proofs.Common.{◌≡◌, ◌+◌, ◌&&◌, List, [], ◌∷◌, ◌++◌, Some, Ok, sym, ap, ◌∙◌, subst, append_assoc, map}
+use Rattle.std.proofs.Common.{◌≡◌, ◌&&◌, List, [], ◌∷◌, ◌++◌, Some, Ok, sym, ap, ◌∙◌, subst, append_assoc, map}
 use Rattle.asl_syn.specs.declared.token.Span.{Span}
 use Rattle.asl_syn.specs.declared.code.StaticCode.TheVariants.{T08, T15, T20}
 use Rattle.asl_syn.specs.declared.tree.Ident.{Ident}

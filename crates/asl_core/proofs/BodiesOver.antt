@@ -88,14 +88,14 @@ pub local_added : (names : List Entry) (e : Entry) → NamesOver (Below names) n
 local_added names e g st f = added_over (Below (names ++ e ∷ [])) names e (names_more (Below names) (Below (names ++ e ∷ [])) (below_more names (e ∷ [])) names g) st f
 
 -- what the storage of a name counts as
-counted_in : (A : ℕ → Type 0) (name : List ℕ) (T : Ty) (o : Option Counted) → ((c : Counted) → o ≡ Some c → Good A c.poly) → CountedOver A (fixed name T o).standing
+pub counted_in : (A : ℕ → Type 0) (name : List ℕ) (T : Ty) (o : Option Counted) → ((c : Counted) → o ≡ Some c → Good A c.poly) → CountedOver A (fixed name T o).standing
 counted_in A name T o f s c k q = (f c (ap (λ (z : Storage). z.counted) (stored_is _ s k) ∙ q), ap (λ (z : Storage). z.is_mutable) (sym (stored_is _ s k)))
 
 variable_in : (A : ℕ → Type 0) (name : List ℕ) (T : Ty) → CountedOver A (variable name T).standing
 variable_in A name T s c k q = none_some c (ap (λ (z : Storage). z.counted) (stored_is _ s k) ∙ q)
 
 -- a name that stands for itself
-itself_in : (A : ℕ → Type 0) (n : ℕ) (c : Counted) → A n → Some (atom_at n) ≡ Some c → Good A c.poly
+pub itself_in : (A : ℕ → Type 0) (n : ℕ) (c : Counted) → A n → Some (atom_at n) ≡ Some c → Good A c.poly
 itself_in A n c h q = subst (λ (z : Counted). Good A z.poly) (some_same (atom_at n) c q) (atom_good A n h)
 
 pub if_itself : (A : ℕ → Type 0) (b : Bool) (n : ℕ) (c : Counted) → A n → (if b then Some (atom_at n) else None) ≡ Some c → Good A c.poly
@@ -134,7 +134,7 @@ one_below ps q names e at l b n h = elim (in_either ps q n h) [
 ]
 
 module _ (t : Tests) where
-  param_over : (A : ℕ → Type 0) (o : Option TypeExpr) (names : List Entry) (w : Option Ty) (n : ℕ) → NamesOver A names → A n → param_written t o names ≡ Ok w → Over A (type_or_itself w n)
+  pub param_over : (A : ℕ → Type 0) (o : Option TypeExpr) (names : List Entry) (w : Option Ty) (n : ℕ) → NamesOver A names → A n → param_written t o names ≡ Ok w → Over A (type_or_itself w n)
   param_over A None names w n g h k = subst (λ z. Over A (type_or_itself z n)) (ok_ok None w k) (only_width_over A (atom_map n) (atom_good A n h))
   param_over A (Some ty) names w n g h k =
       let u = bind_ok (written t ty false (in_names names)) _ w k in

@@ -1,5 +1,5 @@
 -- `if` and loops without an index with their typed trees.
-use Rattle.std.proofs.Common.{◌≡◌, ℕ, zero, suc, ℤ, pos, negsuc, Bool, true, false, ◌&&◌, ◌||◌, List, [], ◌∷◌, map, Option, Some, None, Ok, refl, sym, ap, ◌∙◌, subst}
+use Rattle.std.proofs.Common.{◌≡◌, ℕ, zero, suc, Bool, true, ◌||◌, List, [], ◌∷◌, map, Option, Some, None, Ok, refl, sym, ap, ◌∙◌, subst}
 use Rattle.asl_syn.specs.declared.token.Span.{Span}
 use Rattle.asl_syn.specs.declared.code.StaticCode.TheVariants.{T05}
 use Rattle.asl_syn.specs.declared.tree.Expr.{Expr}
@@ -11,14 +11,12 @@ use Rattle.asl_syn.specs.declared.tree.ElseIf.{ElseIf, out-ElseIf}
 use Rattle.asl_syn.specs.declared.tree.Alternative.TheOpen as st
 use Rattle.asl_syn.specs.declared.tree.Alternative.TheFolds.{fold-Alternative, fold-Catcher, fold-ElseIf, fold-Otherwise, fold_out-ElseIf, map-ElseIf}
 use Rattle.asl_syn.specs.declared.tree.Decl.{Decl}
-use Rattle.asl_core.specs.declared.effect.Effect.{Effect}
 use Rattle.asl_core.specs.declared.effect.Effect.TheVariants.{Pure}
-use Rattle.asl_core.specs.Faults.{◌>>=◌, ◌>>◌, need}
 use Rattle.asl_core.specs.Tests.{Tests, IsRight}
 use Rattle.asl_core.specs.Types.{is_integer}
 use Rattle.asl_core.specs.Closed.{Assignment}
 use Rattle.asl_core.specs.Effects.{greater}
-use Rattle.asl_core.specs.Scopes.{Scope, Body, Entry, Signature, with_class}
+use Rattle.asl_core.specs.Scopes.{Entry, Signature, with_class}
 use Rattle.asl_core.specs.Trees as tree
 use Rattle.asl_core.specs.Trees.{Tree, Act, TreeFunc}
 use Rattle.asl_core.specs.Typing.{Operand}
@@ -26,26 +24,25 @@ use Rattle.asl_core.specs.Acting.{Done, FoundStmt, FoundOtherwise, Listed, done,
 use Rattle.asl_core.specs.Branches.{FoundBranch, FoundAlternative, FoundCatcher, TypedBranch, branch_rule, branches as branches_rule, branch_conditions, branch_effect, branch_effects, branch_trees, if_rule, tree_in, limit_typed, limit_fits, while_rule, repeat_rule}
 use Rattle.asl_core.specs.Stmts.{found_stmt, stmt_layer_rule, alternative_found, catcher_found, branch_found, otherwise_found}
 use Rattle.asl_core.specs.Falling.{falls, falls_through, all_fall, any_falls, falls_layer, alternative_falls, catcher_falls, branch_falls, otherwise_falls}
-use Rattle.asl_core.specs.Values.{Value, int, Exit, Normal, Returned}
+use Rattle.asl_core.specs.Values.{Value, Exit, Normal, Returned}
 use Rattle.asl_core.specs.States.{Core}
 use Rattle.asl_core.specs.Agreement.{types_in, Agrees, SameOn}
 use Rattle.asl_core.specs.Plans.{Raise, lift}
-use Rattle.asl_core.specs.StatementForms.{Branch, go_on, scope, asked, branch, branches, done_normal, whole_number, turns_in, limited, while_turn, while_loop, repeat_turn, repeat_loop}
+use Rattle.asl_core.specs.StatementForms.{go_on, scope, asked, branch, branches, done_normal, whole_number, turns_in, limited, while_turn, repeat_turn}
 use Rattle.asl_core.specs.Limits.{most_turns}
-use Rattle.asl_core.specs.Evaluation.{Does, frames, branch_layer, branch_in, stmt_node}
-use Rattle.asl_core.specs.TypedMeaning.{BareCore, Runs, in_bare, acts_of, branches_of, itself, act_node}
+use Rattle.asl_core.specs.Evaluation.{Does, frames, branch_layer, branch_in}
+use Rattle.asl_core.specs.TypedMeaning.{BareCore, Runs, in_bare, acts_of, branches_of, itself}
 use Rattle.asl_core.specs.Erasure.{erased}
 use Rattle.asl_core.proofs.Inversions.{ok_ok, bind_ok, then_ok, need_ok}
 use Rattle.asl_core.proofs.Tests.{or_first, or_second}
 use Rattle.asl_core.proofs.OperatorForms.{is_int}
 use Rattle.asl_core.proofs.Naming.{WellNamed}
 use Rattle.asl_core.proofs.Twins.{Twins, twins_weaker}
-use Rattle.asl_core.proofs.Claims.{Here, of_pure, StmtClaim, At, Over, Ended, Left, Ends, our}
-use Rattle.asl_core.proofs.TreePlans.{Same, Throws, operand}
+use Rattle.asl_core.proofs.Claims.{Here, StmtClaim, At, Ends, our}
+use Rattle.asl_core.proofs.TreePlans.{Throws, operand}
 use Rattle.asl_core.proofs.Longer.{longer_self, same_on_both}
-use Rattle.asl_core.proofs.StmtForms.{here, in_class, Held, OutAct, ActSame, Acted, acted, operand_typed, ended_is, ends_here}
+use Rattle.asl_core.proofs.StmtForms.{here, in_class, Held, OutAct, ActSame, Acted, acted, operand_typed, ended_is}
 use Rattle.asl_core.proofs.ListForms.{moved, over_back, block_same, condition_same, fall_same}
-use Rattle.asl_core.proofs.ExprForms.{env, program}
 
 module _ (tests : Tests) where
   abbrev found_branch : ElseIf → FoundBranch

@@ -1,24 +1,22 @@
 -- Calls of the library with their typed trees: the parameters are the widths in braces, and both give the same value of the type.
-use Rattle.std.proofs.Common.{◌≡◌, ℕ, suc, Bool, true, List, [], ◌∷◌, ◌++◌, length, Option, Some, None, Ok, refl, sym, ap, ◌∙◌, subst, map}
+use Rattle.std.proofs.Common.{◌≡◌, suc, true, List, [], ◌∷◌, length, Option, Some, Ok, refl, sym, ap, ◌∙◌, subst, map}
 use Rattle.std.specs.Prelude.{◌==◌}
 use Rattle.asl_syn.specs.declared.token.Span.{Span}
-use Rattle.asl_syn.specs.declared.code.StaticCode.TheVariants.{T02, T09, T11}
+use Rattle.asl_syn.specs.declared.code.StaticCode.TheVariants.{T09, T11}
 use Rattle.asl_syn.specs.declared.tree.Ident.{Ident}
 use Rattle.asl_syn.specs.declared.tree.Expr.{Expr}
 use Rattle.asl_syn.specs.declared.tree.Bitfield.TheOpen as ex
 use Rattle.asl_syn.specs.declared.tree.Decl.{Decl}
 use Rattle.asl_core.specs.declared.effect.Effect.TheVariants.{Pure}
 use Rattle.asl_core.specs.Effects.{all_together, greatest, greater}
-use Rattle.asl_core.specs.Faults.{◌>>=◌, ◌>>◌, need}
+use Rattle.asl_core.specs.Faults.{need}
 use Rattle.asl_core.specs.Routines.{Routine, routine_named}
 use Rattle.asl_core.specs.Tests.{Tests, IsRight}
-use Rattle.asl_core.specs.Types.{Ty, Parts, kinds, kinds_eq}
-use Rattle.asl_core.specs.Closed.{Assignment}
-use Rattle.asl_core.specs.Scopes.{Scope, Entry, Signature, standing_of, is_subprogram}
-use Rattle.asl_core.specs.Trees as tree
+use Rattle.asl_core.specs.Types.{Ty, kinds, kinds_eq}
+use Rattle.asl_core.specs.Scopes.{Entry, Signature}
 use Rattle.asl_core.specs.Trees.{Tree, Note, TreeFunc, of_library}
-use Rattle.asl_core.specs.Typing.{Found, Typed, Operand, operands, effects_of, types_of, trees_in, trees_of, trees_from, note}
-use Rattle.asl_core.specs.Calls.{routine_params, routine_formals, routine_type, Replacing, replacing, given, written_first, widths_given, polys, routine_taken, routine_called, call_tree, function_of}
+use Rattle.asl_core.specs.Typing.{Typed, Operand, operands, effects_of, types_of, trees_in, trees_of}
+use Rattle.asl_core.specs.Calls.{routine_params, routine_formals, routine_type, Replacing, replacing, given, written_first, widths_given, polys, routine_taken, call_tree, function_of}
 use Rattle.asl_core.specs.Exprs.{found, width}
 use Rattle.asl_core.specs.Values.{Value}
 use Rattle.asl_core.specs.States.{Core}
@@ -26,14 +24,14 @@ use Rattle.asl_core.specs.Agreement.{types_in}
 use Rattle.asl_core.specs.Plans.{Faulted, Stuck, Pure as PureOf, Good, Bad, follow}
 use Rattle.asl_core.specs.Library.{routine_value}
 use Rattle.asl_core.specs.Forms.{eval_all, call, function_gives, routine_gives}
-use Rattle.asl_core.specs.Evaluation.{Does, called, call_named, expr_node}
-use Rattle.asl_core.specs.TypedMeaning.{BareCore, Runs, list_of, call_of, tree_node}
+use Rattle.asl_core.specs.Evaluation.{Does, called, call_named}
+use Rattle.asl_core.specs.TypedMeaning.{BareCore, Runs, list_of, call_of}
 use Rattle.asl_core.specs.Erasure.{erased}
 use Rattle.asl_core.proofs.Inversions.{ok_ok, bind_ok, then_ok, need_ok}
 use Rattle.asl_core.proofs.OperatorForms.{Gives}
 use Rattle.asl_core.proofs.Naming.{WellNamed}
 use Rattle.asl_core.proofs.Opening.{finish_is}
-use Rattle.asl_core.proofs.Claims.{Here, Asked, of_width, tree_asked, Answers, GivesAsked, At}
+use Rattle.asl_core.proofs.Claims.{Here, Asked, of_width, At}
 use Rattle.asl_core.proofs.TreePlans.{Same, Out, AllAsked, AllGive, asked_of, operands_asked, all_same, list_from}
 use Rattle.asl_core.proofs.ExprForms.{env, program, Formed, formed}
 use Rattle.asl_core.proofs.Routines.{AllIn, AllWide, routine_in}

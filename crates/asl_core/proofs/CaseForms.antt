@@ -1,5 +1,5 @@
 -- `case` with its typed tree: the expressions of patterns in order, a decided value, and the list that is chosen.
-use Rattle.std.proofs.Common.{◌≡◌, ℕ, Bool, true, false, ◌||◌, List, [], ◌∷◌, ◌++◌, map, Option, Some, None, Ok, refl, sym, ap, ◌∙◌, subst, append_assoc}
+use Rattle.std.proofs.Common.{◌≡◌, Bool, true, false, ◌||◌, List, [], ◌∷◌, ◌++◌, map, Option, Some, None, Ok, refl, sym, ap, ◌∙◌, subst, append_assoc}
 use Rattle.asl_syn.specs.declared.token.Span.{Span}
 use Rattle.asl_syn.specs.declared.code.StaticCode.TheVariants.{T05}
 use Rattle.asl_syn.specs.declared.tree.Expr.{Expr}
@@ -12,22 +12,19 @@ use Rattle.asl_syn.specs.declared.tree.Otherwise.{Otherwise, out-Otherwise}
 use Rattle.asl_syn.specs.declared.tree.Alternative.TheOpen as st
 use Rattle.asl_syn.specs.declared.tree.Alternative.TheFolds.{fold-Alternative, fold-Catcher, fold-ElseIf, fold-Otherwise, fold_out-Alternative, fold_out-Otherwise, map-Alternative, map-Otherwise}
 use Rattle.asl_syn.specs.declared.tree.Decl.{Decl}
-use Rattle.asl_core.specs.declared.effect.Effect.{Effect}
 use Rattle.asl_core.specs.declared.effect.Effect.TheVariants.{Pure}
-use Rattle.asl_core.specs.Faults.{◌>>=◌, ◌>>◌, need}
 use Rattle.asl_core.specs.Tests.{Tests, IsRight}
 use Rattle.asl_core.specs.Types.{Ty, is_boolean}
-use Rattle.asl_core.specs.Closed.{Assignment}
 use Rattle.asl_core.specs.Effects.{greater}
-use Rattle.asl_core.specs.Scopes.{Scope, Body, Entry, Signature, with_class}
-use Rattle.asl_core.specs.Shapes.{PatternShapes, pattern_and}
-use Rattle.asl_core.specs.Shaped.{pattern_parts, exprs_in, exprs_in_patterns, shapes_of_patterns}
+use Rattle.asl_core.specs.Scopes.{Entry, Signature, with_class}
+use Rattle.asl_core.specs.Shapes.{pattern_and}
+use Rattle.asl_core.specs.Shaped.{pattern_parts, exprs_in_patterns, shapes_of_patterns}
 use Rattle.asl_core.specs.Trees as tree
 use Rattle.asl_core.specs.Trees.{Tree, Act, TreeFunc}
 use Rattle.asl_core.specs.Typing.{Operand, trees_from}
 use Rattle.asl_core.specs.Patterns.{Matched, pattern_shapes, pattern_trees}
 use Rattle.asl_core.specs.Exprs.{found_pattern}
-use Rattle.asl_core.specs.Acting.{Done, FoundStmt, FoundOtherwise, Listed, LastListed, done, block, last_block, operand_of, condition, reading_scope}
+use Rattle.asl_core.specs.Acting.{Done, FoundStmt, FoundOtherwise, Listed, LastListed, done, block, last_block, operand_of, reading_scope}
 use Rattle.asl_core.specs.Branches.{FoundBranch, FoundAlternative, FoundCatcher, TypedAlternative, all_patterns, where_rule, alternative_rule, alternatives as alternatives_rule, where_condition, where_conditions, alternative_effects, alternative_trees, tree_in, case_rule}
 use Rattle.asl_core.specs.Stmts.{found_stmt, stmt_layer_rule, alternative_found, catcher_found, branch_found, otherwise_found}
 use Rattle.asl_core.specs.Falling.{falls, falls_through, any_falls, falls_layer, alternative_falls, catcher_falls, branch_falls, otherwise_falls}
@@ -40,15 +37,15 @@ use Rattle.asl_core.specs.Pures as pure
 use Rattle.asl_core.specs.Operators.{truth}
 use Rattle.asl_core.specs.Matching as runs
 use Rattle.asl_core.specs.Matching.{matches, any_match, is_matched}
-use Rattle.asl_core.specs.StatementForms.{scope, branch, guarded, alternative, alternatives, no_match}
+use Rattle.asl_core.specs.StatementForms.{scope, guarded, alternative, alternatives, no_match}
 use Rattle.asl_core.specs.Evaluation.{Does, frames, choice_layer, choice_in, otherwise_layer, otherwise_in}
 use Rattle.asl_core.specs.TypedMeaning.{BareCore, Runs, in_bare, acts_of, list_of, choices_of, last_of, itself}
 use Rattle.asl_core.specs.Erasure.{erased}
 use Rattle.asl_core.proofs.Inversions.{ok_ok, bind_ok, then_ok, need_ok}
 use Rattle.asl_core.proofs.Tests.{or_first, or_second}
 use Rattle.asl_core.proofs.Naming.{WellNamed}
-use Rattle.asl_core.proofs.Claims.{Here, Asked, StmtClaim, At}
-use Rattle.asl_core.proofs.TreePlans.{Same, AllAsked, AllGive, operand, truth_same, all_same, list_from, append_nil}
+use Rattle.asl_core.proofs.Claims.{Here, Asked, StmtClaim}
+use Rattle.asl_core.proofs.TreePlans.{AllAsked, AllGive, operand, truth_same, all_same, list_from, append_nil}
 use Rattle.asl_core.proofs.MatchForms.{Decided, decided_then, asks_both, split, pattern_says}
 use Rattle.asl_core.proofs.ExprForms.{env}
 use Rattle.asl_core.proofs.StmtForms.{here, in_class, Held, OutAct, ActSame, Acted, acted, operand_typed, ended_is}

@@ -1,51 +1,46 @@
 -- `try` with its typed tree: a catcher takes an exception of its type, which may have a name in its list.
-use Rattle.std.proofs.Common.{◌≡◌, ℕ, ◌<◌, Bool, true, false, cond, not, ◌&&◌, ◌||◌, List, [], ◌∷◌, ◌++◌, length, map, Option, Some, None, Ok, refl, sym, ap, ◌∙◌, subst, append_assoc}
-use Rattle.std.specs.Prelude.{option_map, if◌then◌else◌}
-use Rattle.asl_syn.specs.declared.token.Span.{Span}
-use Rattle.asl_syn.specs.declared.code.StaticCode.TheVariants.{T01, T02, T21}
+use Rattle.std.proofs.Common.{◌≡◌, ℕ, Bool, true, false, List, [], ◌∷◌, ◌++◌, length, map, Option, Some, None, Ok, refl, sym, ap, ◌∙◌, subst, append_assoc}
+use Rattle.std.specs.Prelude.{if◌then◌else◌}
 use Rattle.asl_syn.specs.declared.tree.Ident.{Ident}
 use Rattle.asl_syn.specs.declared.tree.Stmt.{Stmt}
 use Rattle.asl_syn.specs.declared.tree.Decl.{Decl}
-use Rattle.asl_core.specs.Faults.{need, found_or}
 use Rattle.asl_core.specs.Tests.{Tests, IsRight}
 use Rattle.asl_core.specs.declared.effect.Effect.TheVariants.{Pure}
-use Rattle.asl_core.specs.Types.{Ty, exceptions, kind, reaches, integer_of, boolean, bits_of, enumeration_of, record_of, exception_of, tuple_of, array_of, named}
+use Rattle.asl_core.specs.Types.{Ty, reaches, integer_of, boolean, bits_of, enumeration_of, record_of, exception_of, tuple_of, array_of, named}
 use Rattle.asl_core.specs.Closed.{Assignment, Closed, type_with, closed}
-use Rattle.asl_core.specs.Scopes.{Scope, Body, Entry, Standing, Signature, body_names, handling, fixed, is_free, is_absent, standing_of, type_of_name, with_names}
-use Rattle.asl_core.specs.WellFormed.{WellFormed, Built}
-use Rattle.asl_core.specs.Trees.{TreeFunc, Acts}
-use Rattle.asl_core.specs.Acting.{Done, Listed, in_order, block}
-use Rattle.asl_core.specs.Branches.{is_exception, with_caught}
+use Rattle.asl_core.specs.Scopes.{Entry, Standing, Signature, body_names, handling, fixed, is_free, is_absent, standing_of, with_names}
+use Rattle.asl_core.specs.WellFormed.{WellFormed}
+use Rattle.asl_core.specs.Trees.{TreeFunc}
+use Rattle.asl_core.specs.Acting.{Listed, block}
+use Rattle.asl_core.specs.Branches.{is_exception}
 use Rattle.asl_core.specs.Stmts.{found_stmt}
 use Rattle.asl_core.specs.Falling.{falls_through}
 use Rattle.asl_core.specs.Values.{Value, exception_with, has, Exit, Normal, Returned}
 use Rattle.asl_core.specs.Views.{viewed}
-use Rattle.asl_core.specs.States.{Under, of_type, Binding, Core, kept}
-use Rattle.asl_core.specs.Belonging.{InType, has_type}
-use Rattle.asl_core.specs.Agreement.{no_atoms, types_in, Holds, FrameMatches, local_matches, IsPlain, AllPlain, AllFresh, Raised, AllRaised, Agrees, SameOn}
-use Rattle.asl_core.specs.Plans.{Pure as PureOf, Good, Bad, Raise, lift}
+use Rattle.asl_core.specs.States.{of_type, Binding, Core, kept}
+use Rattle.asl_core.specs.Belonging.{InType}
+use Rattle.asl_core.specs.Agreement.{no_atoms, types_in, FrameMatches, local_matches, IsPlain, AllPlain, AllFresh, Raised, AllRaised, Agrees}
+use Rattle.asl_core.specs.Plans.{Pure as PureOf, Good, Raise, lift}
 use Rattle.asl_core.specs.Pures.{◌>>=◌, known, there}
 use Rattle.asl_core.specs.StatementForms as plan
 use Rattle.asl_core.specs.StatementForms.{scope, scope_from, scope_with, leave, is_caught, catch_list}
 use Rattle.asl_core.specs.ByNames.{types_among}
 use Rattle.asl_core.specs.Evaluation.{Does, frames, declare, declared, caught_as}
-use Rattle.asl_core.specs.TypedMeaning as bare
 use Rattle.asl_core.specs.TypedMeaning.{BareCore, Runs, in_bare, acts_of, with_next}
 use Rattle.asl_core.specs.Erasure.{erased, values_of}
-use Rattle.asl_core.proofs.Inversions.{ok_ok, bind_ok, then_ok, need_ok, found_ok}
 use Rattle.asl_core.proofs.Tests.{no, none_some, some_same}
-use Rattle.asl_core.proofs.Lookups.{before_is, same_types}
-use Rattle.asl_core.proofs.Naming.{WellNamed, well_declared, type_formed}
+use Rattle.asl_core.proofs.Lookups.{before_is}
+use Rattle.asl_core.proofs.Naming.{WellNamed, well_declared}
 use Rattle.asl_core.proofs.Keeping.{caught_of}
 use Rattle.asl_core.proofs.OfType.{of_exceptions}
 use Rattle.asl_core.proofs.Twins.{Twins, twins_weaker}
-use Rattle.asl_core.proofs.Claims.{Here, StmtClaim, Handles, At, Over, Ended, Left, Ends, our}
-use Rattle.asl_core.proofs.TreePlans.{Same, Throws, append_nil}
+use Rattle.asl_core.proofs.Claims.{StmtClaim, At, Ends, our}
+use Rattle.asl_core.proofs.TreePlans.{Throws, append_nil}
 use Rattle.asl_core.proofs.StmtForms.{here, Held, OutAct, ActSame}
-use Rattle.asl_core.proofs.ExprForms.{env, program}
+use Rattle.asl_core.proofs.ExprForms.{env}
 use Rattle.asl_core.proofs.ScopesKept.{GoodScope}
 use Rattle.asl_core.proofs.Longer.{Longer, list_longer, same_on_fewer}
-use Rattle.asl_core.proofs.ListForms.{Ending, onward, held_onward, list_same, block_same, cut_agrees, values_length, erased_cut}
+use Rattle.asl_core.proofs.ListForms.{onward, held_onward, list_same, cut_agrees, values_length, erased_cut}
 
 -- ---- a caught exception
 

@@ -14,13 +14,13 @@ use Rattle.asl_syn.specs.declared.tree.Bitfield.TheOpen as ex
 use Rattle.asl_syn.specs.declared.tree.Bitfield.TheFolds.{fold_out-FieldValue}
 use Rattle.asl_syn.specs.declared.tree.Decl.{Decl}
 use Rattle.asl_core.specs.declared.effect.Effect.TheVariants.{Pure}
-use Rattle.asl_core.specs.Faults.{◌>>=◌, found_or, fault_of}
+use Rattle.asl_core.specs.Faults.{found_or, fault_of}
 use Rattle.asl_core.specs.Tests.{Tests, IsRight}
-use Rattle.asl_core.specs.Types.{Ty, Fields, record_of, exception_of, named}
+use Rattle.asl_core.specs.Types.{Ty, record_of, exception_of, named}
 use Rattle.asl_core.specs.Closed.{Assignment, closed, fields_with}
 use Rattle.asl_core.specs.Effects.{greater, all_together, greatest}
 use Rattle.asl_core.specs.Scopes.{Entry, Scope, Signature, type_of_name}
-use Rattle.asl_core.specs.WellFormed.{WellFormed, WellDeclared, Shaped, ShapedFields}
+use Rattle.asl_core.specs.WellFormed.{WellFormed, WellDeclared, ShapedFields}
 use Rattle.asl_core.specs.Trees as tree
 use Rattle.asl_core.specs.Trees.{Note, Tree, TreeFunc}
 use Rattle.asl_core.specs.Typing.{Found, Typed, Operand, operand as operand_at, operands, effects_of, trees_in, trees_of}
@@ -37,7 +37,6 @@ use Rattle.asl_core.specs.Shaped.{exprs_in, shapes_in, given_parts, given_layer,
 use Rattle.asl_core.specs.Forms.{behind_all}
 use Rattle.asl_core.specs.ByNames.{types_among}
 use Rattle.asl_core.specs.ByPlace as places
-use Rattle.asl_core.specs.TypedMeaning.{list_of}
 use Rattle.asl_core.specs.Erasure.{erased}
 use Rattle.asl_core.proofs.Inversions.{ok_ok, err_ok, bind_ok, then_ok, found_ok}
 use Rattle.asl_core.proofs.Tests.{no, some_same, none_some}
@@ -48,7 +47,7 @@ use Rattle.asl_core.proofs.WellTyped.{constructed_type}
 use Rattle.asl_core.proofs.OperatorForms.{Gives}
 use Rattle.asl_core.proofs.MemberForms.{no_atoms_in, no_atoms_in_exception}
 use Rattle.asl_core.proofs.Constructs.{AllBelong, once_found, fields_shaped, fields_fixed, made, values_at, construct_gives}
-use Rattle.asl_core.proofs.Claims.{Here, Asked, At}
+use Rattle.asl_core.proofs.Claims.{Here, At}
 use Rattle.asl_core.proofs.TreePlans.{Out, Same, AllAsked, AllGive, asked_of, behind_all_same, list_from}
 use Rattle.asl_core.proofs.ExprForms.{Formed, formed}
 

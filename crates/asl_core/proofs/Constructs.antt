@@ -1,31 +1,30 @@
 -- What a construction gives: the fields of the type with the values that were given, by the names and by the places alike.
-use Rattle.std.proofs.Common.{◌≡◌, ℕ, zero, suc, pos, ◌⊎◌, inl, inr, ◌&&◌, cond, Bool, true, false, not, List, [], ◌∷◌, ◌++◌, Option, Some, None, option_map, Ok, refl, sym, ap, ◌∙◌, subst}
+use Rattle.std.proofs.Common.{◌≡◌, ℕ, suc, ◌⊎◌, inl, inr, ◌&&◌, cond, Bool, true, false, not, List, [], ◌∷◌, ◌++◌, Option, Some, None, option_map, Ok, refl, sym, ap, ◌∙◌, subst}
 use Rattle.std.specs.Prelude.{slice_get, option_and_then}
 use Rattle.std.specs.Str.{bytes_eq}
 use Rattle.asl_syn.specs.declared.token.Span.{Span}
 use Rattle.asl_syn.specs.declared.code.StaticCode.TheVariants.{T15}
 use Rattle.asl_syn.specs.declared.tree.Ident.{Ident}
-use Rattle.asl_core.specs.Faults.{need, found_or, fitted, fault_of}
+use Rattle.asl_core.specs.Faults.{need, found_or, fitted}
 use Rattle.asl_core.specs.Tests.{Tests, IsRight}
-use Rattle.asl_core.specs.Types.{Ty, Fields, Parts, integer_of, boolean, bits_of, enumeration_of, record_of, exception_of, tuple_of, array_of, named, no_field, field, no_part, part, misfit, reaches, is_among}
+use Rattle.asl_core.specs.Types.{Ty, Fields, Parts, bits_of, record_of, exception_of, tuple_of, array_of, named, no_field, field, part, misfit, reaches, is_among}
 use Rattle.asl_core.specs.Closed as cl
 use Rattle.asl_core.specs.Closed.{Assignment, Closed, ClosedFields, type_with, fields_with, closed}
 use Rattle.asl_core.specs.Trees.{FieldGiven, record_shell, exception_shell}
 use Rattle.asl_core.specs.Layouts.{place_of}
 use Rattle.asl_core.specs.Typing.{Operand}
-use Rattle.asl_core.specs.Members.{numbered, one_further, Constructed, constructed_of, constructed_as, given_once, all_fit, texts_of, with_place, places_given, has_name}
+use Rattle.asl_core.specs.Members.{numbered, one_further, Constructed, constructed_of, given_once, all_fit, texts_of, with_place, places_given, has_name}
 use Rattle.asl_core.specs.Values.{Value, Values, FieldValues, bits_with, tuple_with, array_with, record_with, exception_with, no_value_of, value_of_field, no_value, value, has, fields_in}
 use Rattle.asl_core.specs.Views.{viewed, parts_viewed, all_viewed}
-use Rattle.asl_core.specs.WellFormed.{WellFormed, Shaped, ShapedFields, Built, BuiltFields, FieldsSeen, Written, WellDeclared}
-use Rattle.asl_core.specs.Belonging.{has_type, InType}
+use Rattle.asl_core.specs.WellFormed.{WellFormed, ShapedFields, Built, BuiltFields, FieldsSeen, Written, WellDeclared}
+use Rattle.asl_core.specs.Belonging.{InType}
 use Rattle.asl_core.specs.Agreement.{no_atoms}
 use Rattle.asl_core.specs.States.{of_type, kept}
-use Rattle.asl_core.specs.Plans.{Pure, Good, Bad}
 use Rattle.asl_core.specs.Pures.{there}
 use Rattle.asl_core.specs.Structures.{given_value, with_given, fields_given, construct}
 use Rattle.asl_core.specs.ByPlace as places
 use Rattle.asl_core.specs.ByPlace.{seen_as, parts_seen_as, all_seen_as, filled, fields_from, in_shell}
-use Rattle.asl_core.proofs.Inversions.{ok_ok, err_ok, bind_ok, then_ok, found_ok, fitted_ok}
+use Rattle.asl_core.proofs.Inversions.{ok_ok, bind_ok, then_ok, found_ok, fitted_ok}
 use Rattle.asl_core.proofs.Tests.{no, and_true, or_first, some_same, none_some, same_name, name_is}
 use Rattle.asl_core.proofs.Keeping.{satisfying_keeps}
 use Rattle.asl_core.proofs.Viewing.{viewed_has, viewed_twice}

@@ -2,7 +2,6 @@
 use Rattle.std.proofs.Common.{◌≡◌, ℕ, not, Bool, true, false, cond, List, [], ◌∷◌, ◌++◌, Option, Some, None, Ok, refl, sym, ap, ap₂, ◌∙◌, subst, map, length}
 use Rattle.std.specs.Prelude.{if◌then◌else◌, nat_le, Result}
 use Rattle.std.specs.Str.{bytes_eq}
-use Rattle.asl_syn.specs.declared.token.Span.{Span}
 use Rattle.asl_syn.specs.declared.code.Fault.{Fault}
 use Rattle.asl_syn.specs.declared.code.StaticCode.TheVariants.{S03, T02, T04, T05, T15, T19, T20, T25}
 use Rattle.asl_syn.specs.declared.tree.Expr.{Expr}
@@ -20,11 +19,11 @@ use Rattle.asl_syn.specs.declared.tree.Decl.TheVariants as dc
 use Rattle.asl_syn.specs.Layers.{TypeLayer}
 use Rattle.asl_core.specs.Faults.{◌>>=◌, ◌>>◌, need, none_at, found_or, fitted, fault_of}
 use Rattle.asl_core.specs.Tests.{Tests, IsRight}
-use Rattle.asl_core.specs.Types.{Ty, Fields, Parts, integer_of, boolean, bits_of, enumeration_of, record_of, exception_of, tuple_of, array_of, named, no_field, field, no_part, part, structure, is_among, misfit, misfit_inside, misfit_of_parts, by_names, or_else, same_kind, parts_of, element_of, widened, widened_parts, bits_wide}
-use Rattle.asl_core.specs.Closed.{closed, parts_with}
-use Rattle.asl_core.specs.Values.{Value, Values, int, bool, bits_with, label, record_with, exception_with, tuple_with, array_with, no_value, value, has, parts_in}
-use Rattle.asl_core.specs.Views.{viewed, parts_viewed}
-use Rattle.asl_core.specs.WellFormed.{is_named, is_nameless_exception, HasLabel, Fits, Nearest, Shaped, ShapedFields, ShapedParts, WellFormed, WellDeclared, Extends}
+use Rattle.asl_core.specs.Types.{Ty, Fields, Parts, integer_of, boolean, bits_of, enumeration_of, record_of, exception_of, tuple_of, array_of, named, no_field, field, no_part, part, structure, is_among, misfit, misfit_inside, misfit_of_parts, by_names, or_else, same_kind, parts_of, element_of, bits_wide}
+use Rattle.asl_core.specs.Closed.{closed}
+use Rattle.asl_core.specs.Values.{Value, label}
+use Rattle.asl_core.specs.Views.{viewed}
+use Rattle.asl_core.specs.WellFormed.{is_named, HasLabel, Fits, Nearest, Shaped, ShapedFields, WellFormed, WellDeclared, Extends}
 use Rattle.asl_core.specs.Scopes.{Scope, Entry, Standing, Stored, Subprogram, TypeName, Label, label_name, global, standing_of, type_of_name}
 use Rattle.asl_core.specs.Widths.{bounded, length_of}
 use Rattle.asl_poly.specs.Poly.{constant_value}
@@ -34,7 +33,7 @@ use Rattle.asl_core.specs.Typing.{Typed, Found}
 use Rattle.asl_core.specs.Slicing.{FoundSlice}
 use Rattle.asl_core.specs.Patterns.{FoundPattern}
 use Rattle.asl_core.specs.Writing.{FoundPart, FoundBitfield, FoundType, Written, written_as, all_parts, all_fields, most_parts, parts_written, types_in_order, types_written, view_rule, within_limits}
-use Rattle.asl_core.specs.Exprs.{FoundField, found, found_type, found_slice, found_pattern, typed, written, written_rule, expr_rule, given_rule, slice_rule, part_rule, bitfield_rule, type_rule, pattern_rule}
+use Rattle.asl_core.specs.Exprs.{FoundField, found, found_type, typed, written, written_rule, expr_rule, given_rule, slice_rule, part_rule, bitfield_rule, type_rule, pattern_rule}
 use Rattle.asl_core.specs.Members.{fields_of, has_name, numbered, one_further}
 use Rattle.asl_core.specs.Belonging.{InType}
 use Rattle.asl_core.specs.Agreement.{no_atoms}

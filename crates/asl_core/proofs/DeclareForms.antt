@@ -1,5 +1,5 @@
 -- Declarations in bodies with their typed trees: each new name has a value of its type, and where it counts in widths, its integer.
-use Rattle.std.proofs.Common.{◌≡◌, ℕ, ◌<◌, ℤ, Bool, true, false, cond, List, [], ◌∷◌, ◌++◌, Option, Some, None, Result, Ok, Err, refl, sym, ap, ◌∙◌, subst}
+use Rattle.std.proofs.Common.{◌≡◌, ℕ, ℤ, Bool, true, false, cond, List, [], ◌∷◌, ◌++◌, Option, Some, None, Result, Ok, Err, refl, sym, ap, ◌∙◌, subst}
 use Rattle.asl_syn.specs.declared.token.Span.{Span}
 use Rattle.asl_syn.specs.declared.code.Fault.{Fault}
 use Rattle.asl_syn.specs.declared.code.StaticCode.TheVariants.{T01}
@@ -9,39 +9,38 @@ use Rattle.asl_syn.specs.declared.tree.TypeExpr.{TypeExpr}
 use Rattle.asl_syn.specs.declared.tree.LocalKind.{LocalKind}
 use Rattle.asl_syn.specs.declared.tree.LocalKind.TheVariants as local
 use Rattle.asl_syn.specs.declared.tree.Binder.TheVariants.{Bound, Unbound}
-use Rattle.asl_syn.specs.declared.tree.Bind.{Bind}
-use Rattle.asl_syn.specs.declared.tree.Bind.TheVariants.{Single, Several}
+use Rattle.asl_syn.specs.declared.tree.Bind.TheVariants.{Single}
 use Rattle.asl_syn.specs.declared.tree.Alternative.TheOpen as st
 use Rattle.asl_syn.specs.declared.tree.Decl.{Decl}
 use Rattle.asl_core.specs.Faults.{need}
 use Rattle.asl_core.specs.Programs.{Environment}
 use Rattle.asl_core.specs.Tests.{Tests, IsRight}
 use Rattle.asl_core.specs.Types.{Ty, is_integer, misfit}
-use Rattle.asl_core.specs.Closed.{Assignment, Closed, type_with, width_at}
-use Rattle.asl_core.specs.Scopes.{Scope, Entry, Signature, Counted, atom_at, next_atom, is_free}
+use Rattle.asl_core.specs.Closed.{Assignment, type_with, width_at}
+use Rattle.asl_core.specs.Scopes.{Entry, Signature, Counted, atom_at, next_atom, is_free}
 use Rattle.asl_core.specs.WellFormed.{WellFormed, Built}
 use Rattle.asl_core.specs.Trees as tree
 use Rattle.asl_core.specs.Trees.{TreeFunc, Taken}
-use Rattle.asl_core.specs.Typing.{Typed, Width, Operand}
+use Rattle.asl_core.specs.Typing.{Typed, Width}
 use Rattle.asl_core.specs.Exprs.{found, typed, written}
 use Rattle.asl_core.specs.Acting.{Done, done, operand_of, fits}
 use Rattle.asl_core.specs.Locals as rules
 use Rattle.asl_core.specs.Locals.{counted_as, initialised_as, is_var, unannotated, Initialised, initialised_with, initialised, type_declared, one_declared, none_declared, bound, bind_rule}
-use Rattle.asl_core.specs.Values.{Value, int, has, Exit, Normal}
+use Rattle.asl_core.specs.Values.{Value, int, has, Exit}
 use Rattle.asl_core.specs.Views.{viewed}
 use Rattle.asl_core.specs.States.{Under, of_type, of_value, Core, kept}
 use Rattle.asl_core.specs.Belonging.{InType}
 use Rattle.asl_core.specs.Agreement.{types_in, IsUnder, CountsAs, Agrees, SameOn}
-use Rattle.asl_core.specs.Plans.{Eval, Pure as PureOf, Good, lift}
+use Rattle.asl_core.specs.Plans.{Eval, Good, lift}
 use Rattle.asl_core.specs.Pures.{◌>>=◌, found_type, there}
 use Rattle.asl_core.specs.ByPlace.{seen_where}
-use Rattle.asl_core.specs.StatementForms.{done_normal, with_value}
-use Rattle.asl_core.specs.Evaluation.{Does, declared, stored_under, type_under, declare, bound_to}
+use Rattle.asl_core.specs.StatementForms.{done_normal}
+use Rattle.asl_core.specs.Evaluation.{Does, declared, stored_under, type_under, bound_to}
 use Rattle.asl_core.specs.TypedMeaning as bare
 use Rattle.asl_core.specs.TypedMeaning.{BareCore, Runs, with_next}
 use Rattle.asl_core.specs.Erasure.{erased, values_of}
 use Rattle.asl_core.proofs.Inversions.{ok_ok, bind_ok, then_ok, need_ok, fitted_ok}
-use Rattle.asl_core.proofs.Tests.{no, some_same, none_some}
+use Rattle.asl_core.proofs.Tests.{no}
 use Rattle.asl_core.proofs.Keeping.{satisfying_keeps}
 use Rattle.asl_core.proofs.Viewing.{viewed_has, viewed_twice}
 use Rattle.asl_core.proofs.Bare.{viewed_built}
@@ -60,12 +59,11 @@ use Rattle.asl_core.proofs.Moved.{in_type_moved, under_moved, agrees_moved, exte
 use Rattle.asl_core.proofs.Agreeing.{declared_agrees, erased_declared}
 use Rattle.asl_core.proofs.PresentTypes.{type_present}
 use Rattle.asl_core.proofs.SoundnessStates.{kept_as_is}
-use Rattle.asl_core.proofs.Claims.{Here, Asked, of_width, Answers, GivesAsked, StmtClaim, At, Ended, our}
-use Rattle.asl_core.proofs.TreePlans.{Same, operand, operand_also, append_nil}
+use Rattle.asl_core.proofs.Claims.{Here, of_width, StmtClaim, At}
+use Rattle.asl_core.proofs.TreePlans.{operand, operand_also, append_nil}
 use Rattle.asl_core.proofs.StmtForms.{here, Held, OutAct, ActSame, Acted, acted, operand_typed, ended_is, ends_here}
-use Rattle.asl_core.proofs.ListForms.{moved}
 use Rattle.asl_core.proofs.ForForms.{viewed_int}
-use Rattle.asl_core.proofs.ExprForms.{env, program}
+use Rattle.asl_core.proofs.ExprForms.{env}
 
 module _ (tests : Tests) (right : IsRight tests) (ds : List Decl) (base : List Entry) (subs : List Signature) (funcs : List TreeFunc) (w : WellNamed base) where
   abbrev HeldAt : StmtClaim → Core → Type 0

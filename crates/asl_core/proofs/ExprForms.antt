@@ -1,5 +1,5 @@
 -- Forms of expression with their typed trees: both do the same, and give a value of the type, in a state that agrees with the scope.
-use Rattle.std.proofs.Common.{◌≡◌, ℕ, ℤ, pos, inl, inr, suc, ◌&&◌, cond, Bool, true, false, not, List, [], ◌∷◌, ◌++◌, length, Option, Some, None, option_map, Ok, refl, sym, ap, ◌∙◌, subst, map}
+use Rattle.std.proofs.Common.{◌≡◌, ℕ, pos, inl, inr, ◌&&◌, Bool, true, false, not, List, [], ◌∷◌, length, Option, Some, None, option_map, Ok, refl, sym, ap, ◌∙◌, subst, map}
 use Rattle.asl_syn.specs.declared.token.Span.{Span}
 use Rattle.asl_syn.specs.declared.code.StaticCode.TheVariants.{S03, T02, T05, T08}
 use Rattle.asl_syn.specs.declared.tree.Expr.{Expr}
@@ -12,11 +12,11 @@ use Rattle.asl_syn.specs.Layers.{ExprLayer, expr_layer_span}
 use Rattle.asl_mask.specs.Digits.{fixed_bits}
 use Rattle.asl_core.specs.declared.effect.Effect.{Effect}
 use Rattle.asl_core.specs.declared.effect.Effect.TheVariants.{Pure}
-use Rattle.asl_core.specs.Faults.{◌>>=◌, ◌>>◌, need, found_or, fault_of}
+use Rattle.asl_core.specs.Faults.{◌>>◌, need, found_or, fault_of}
 use Rattle.asl_core.specs.Tests.{Tests, IsRight}
 use Rattle.asl_core.specs.Types.{Ty, integer_of, boolean, tuple_of, only_number, bits_wide, is_boolean, is_integer, join, bare}
 use Rattle.asl_core.specs.Closed.{Assignment, parts_with}
-use Rattle.asl_core.specs.Scopes.{Scope, Entry, Signature, Storage, Standing, Stored, Subprogram, TypeName, Label, standing_of, reading}
+use Rattle.asl_core.specs.Scopes.{Entry, Signature, Storage, Standing, Stored, Subprogram, TypeName, Label, standing_of, reading}
 use Rattle.asl_core.specs.WellFormed.{WellFormed, BuiltAll}
 use Rattle.asl_core.specs.Layouts.{slot_of, layout_of}
 use Rattle.asl_core.specs.Trees as tree
@@ -28,34 +28,33 @@ use Rattle.asl_core.specs.Typing.{Typed, typed_as, note, in_class, Operand, oper
 use Rattle.asl_core.specs.Operations.{of_booleans, binary_rule, unary_rule}
 use Rattle.asl_core.specs.Members.{element_in, indexed}
 use Rattle.asl_core.specs.Exprs.{found, typed, apart, operation_rule, operation_rule_of_two, conditional_rule, tuple_rule, element_rule, name_of_standing, bits_rule_of}
-use Rattle.asl_core.specs.Values.{Value, Values, bool, tuple_with, is_width, no_value, value}
+use Rattle.asl_core.specs.Values.{Value, bool, tuple_with, is_width, value}
 use Rattle.asl_core.specs.Views.{stripped, parts_viewed}
 use Rattle.asl_core.specs.States.{Core}
 use Rattle.asl_core.specs.Belonging.{InType, has_type, parts_have}
-use Rattle.asl_core.specs.Agreement.{types_in, Agrees}
-use Rattle.asl_core.specs.Vectors.{literal_digits, literal_bits}
+use Rattle.asl_core.specs.Agreement.{types_in}
+use Rattle.asl_core.specs.Vectors.{literal_digits}
 use Rattle.asl_core.specs.Structures.{element_of, values_of}
-use Rattle.asl_core.specs.Plans.{Faulted, Stuck, Ret, Eval, choose, Pure as PureOf, Good, Bad, lift}
+use Rattle.asl_core.specs.Plans.{Ret, choose, Good, lift}
 use Rattle.asl_core.specs.Pures.{known, there}
 use Rattle.asl_core.specs.Operators.{binary_value, unary_value, truth, plain_bits, Decided, Already, ByRight, decides, Lazy, strictness}
 use Rattle.asl_core.specs.Forms.{at_once, literal, behind, behind_all, ask_right, unless_decided, behind_left, branch_value}
 use Rattle.asl_core.specs.Evaluation.{Does, value_of, or_value, label_in, value_or_label, expr_node}
-use Rattle.asl_core.specs.TypedMeaning.{BareCore, Runs, TreeProgram, value_at, list_of, tree_node}
+use Rattle.asl_core.specs.TypedMeaning.{Runs, TreeProgram, value_at, tree_node}
 use Rattle.asl_core.specs.Erasure.{erased}
 use Rattle.asl_core.proofs.Inversions.{ok_ok, err_ok, bind_ok, then_ok, need_ok, found_ok}
-use Rattle.asl_core.proofs.Tests.{both, and_true, some_same}
+use Rattle.asl_core.proofs.Tests.{both, and_true}
 use Rattle.asl_core.proofs.SameKind.{number_is}
 use Rattle.asl_core.proofs.Joining.{bare_join}
-use Rattle.asl_core.proofs.Lookups.{Finds, Knows, finds, label_value, label_outside}
+use Rattle.asl_core.proofs.Lookups.{Finds, finds, label_value, label_outside}
 use Rattle.asl_core.proofs.Naming.{WellNamed, well_declared}
 use Rattle.asl_core.proofs.OperatorForms.{Gives, literal_gives, binary_gives, unary_gives}
 use Rattle.asl_core.proofs.ElementForms.{element_gives}
 use Rattle.asl_cons.proofs.Covering.{value_constant_map}
-use Rattle.asl_core.proofs.Slots.{AllOutside, has_names, slot_is}
+use Rattle.asl_core.proofs.Slots.{has_names, slot_is}
 use Rattle.asl_core.proofs.Opening.{in_class_is, finish_is, bounded_ok}
-use Rattle.asl_core.proofs.Twins.{Twins}
-use Rattle.asl_core.proofs.Claims.{Here, Asked, of_type, GivesAsked, At, our}
-use Rattle.asl_core.proofs.TreePlans.{Out, Throws, Same, operand, at_once_same, at_once_both, behind_same, truth_same, AllAsked, AllGive, asked_of, operands_asked, all_same, behind_all_same, list_from}
+use Rattle.asl_core.proofs.Claims.{Here, At}
+use Rattle.asl_core.proofs.TreePlans.{Out, Same, operand, at_once_same, at_once_both, behind_same, truth_same, AllGive, asked_of, operands_asked, behind_all_same, list_from}
 
 -- an operator that its left operand may decide is one on booleans
 boolean_operands : (span : Span) (S T U : Ty) → of_booleans span S T ≡ Ok U → (is_boolean S ≡ true) × (boolean ≡ U)

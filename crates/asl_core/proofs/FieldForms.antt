@@ -1,5 +1,5 @@
 -- Fields and bitfields with their typed trees: both do the same, and give a value of the type.
-use Rattle.std.proofs.Common.{◌≡◌, List, Option, Some, Ok, refl, sym, ap, ◌∙◌}
+use Rattle.std.proofs.Common.{◌≡◌, List, Some, Ok, refl, ap, ◌∙◌}
 use Rattle.asl_syn.specs.declared.token.Span.{Span}
 use Rattle.asl_syn.specs.declared.code.StaticCode.TheVariants.{T15, T20}
 use Rattle.asl_syn.specs.declared.tree.Ident.{Ident}
@@ -7,7 +7,7 @@ use Rattle.asl_syn.specs.declared.tree.Expr.{Expr}
 use Rattle.asl_syn.specs.declared.tree.Bitfield.TheOpen as ex
 use Rattle.asl_syn.specs.declared.tree.Decl.{Decl}
 use Rattle.std.specs.Prelude.{nat_le}
-use Rattle.asl_core.specs.Faults.{◌>>=◌, need, found_or}
+use Rattle.asl_core.specs.Faults.{need, found_or}
 use Rattle.asl_core.specs.Tests.{Tests, IsRight}
 use Rattle.asl_core.specs.Types.{is_bits, view_of, bits_wide}
 use Rattle.asl_core.specs.Scopes.{Entry, Signature}
@@ -21,7 +21,6 @@ use Rattle.asl_core.specs.Exprs.{found, typed, field_rule, bitfields_rule}
 use Rattle.asl_core.specs.States.{Core}
 use Rattle.asl_core.specs.Agreement.{types_in}
 use Rattle.asl_core.specs.Structures.{field_of}
-use Rattle.asl_core.specs.Plans.{Good, Bad}
 use Rattle.asl_core.specs.Pures as pure
 use Rattle.asl_core.specs.Vectors.{bitfield_of, bitfields_of, bitfields_named}
 use Rattle.asl_core.specs.ByPlace as places

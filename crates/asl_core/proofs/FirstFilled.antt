@@ -1,5 +1,5 @@
 -- What a written type with the values of its expressions begins with is the first value of the type, and no run is stuck there.
-use Rattle.std.proofs.Common.{◌≡◌, ℕ, zero, suc, ℤ, pos, negsuc, Bool, true, false, cond, List, [], ◌∷◌, Option, Some, None, option_map, refl, sym, ap, ◌∙◌, subst}
+use Rattle.std.proofs.Common.{◌≡◌, ℕ, zero, suc, ℤ, pos, negsuc, Bool, true, false, cond, List, [], ◌∷◌, Option, Some, None, refl, ap, ◌∙◌, subst}
 use Rattle.std.specs.Prelude.{nat_le, replicate, option_and_then}
 use Rattle.asl_syn.specs.declared.token.Span.{Span}
 use Rattle.asl_syn.specs.declared.code.DynCode.TheVariants.{D14}
@@ -8,7 +8,7 @@ use Rattle.asl_core.specs.Closed as cl
 use Rattle.asl_core.specs.Closed.{Closed, ClosedFields, ClosedParts, Range, first_in, kind_at}
 use Rattle.asl_core.specs.Shapes as shapes
 use Rattle.asl_core.specs.Shapes.{PartShape, BitfieldShape, TypeShape, TypeShapes}
-use Rattle.asl_core.specs.Values.{Value, FieldValues, Values, bits_with, int, tuple_with, array_with, value, no_value, repeated}
+use Rattle.asl_core.specs.Values.{Value, Values, bits_with, int, tuple_with, array_with, value, repeated}
 use Rattle.asl_core.specs.Plans.{Faulted, Stuck, Pure, Good, Bad}
 use Rattle.asl_core.specs.Pures.{◌>>=◌}
 use Rattle.asl_core.specs.Written.{first_integer, first_bits, first_elements, first_value, first_fields, first_parts, Sized, SizedRanges, SizedView, SizedParts, sized_as, all_ranges, integer_filled, constraint_filled, all_bitfields, bits_filled, width_filled, with_part, first_part, tuple_filled, array_filled, by_length, filled, parts_filled}

@@ -1,5 +1,5 @@
 -- The first value of a type belongs to it at the integers of the atoms: it is that of a type without atoms that is the same there.
-use Rattle.std.proofs.Common.{◌≡◌, ℕ, ℤ, Bool, true, false, List, [], ◌∷◌, Option, Some, refl, sym, ap, ap₂, ◌∙◌, subst}
+use Rattle.std.proofs.Common.{◌≡◌, ℕ, true, false, List, [], ◌∷◌, Option, Some, refl, sym, ap, ap₂, ◌∙◌, subst}
 use Rattle.asl_syn.specs.declared.token.Span.{Span}
 use Rattle.asl_poly.specs.Terms.{Polynomial}
 use Rattle.asl_poly.specs.Poly.{constant_map}

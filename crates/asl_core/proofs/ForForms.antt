@@ -1,5 +1,5 @@
 -- `for` with its typed tree: the index stands in the next place in each turn, and lies between the bounds.
-use Rattle.std.proofs.Common.{◌≡◌, ℕ, zero, suc, ◌<◌, ◌≤◌, ℤ, pos, negsuc, ◌≤ℤ◌, ◌+ℤ◌, ◌-ℤ◌, Bool, true, false, cond, ◌||◌, ◌&&◌, List, [], ◌∷◌, ◌++◌, length, map, Option, Some, None, Result, Ok, Err, refl, sym, ap, ◌∙◌, subst, append_assoc, arith}
+use Rattle.std.proofs.Common.{◌≡◌, ℕ, zero, suc, ◌≤◌, ℤ, pos, negsuc, ◌≤ℤ◌, ◌+ℤ◌, ◌-ℤ◌, Bool, true, false, cond, ◌||◌, List, [], ◌∷◌, ◌++◌, length, map, Option, Some, Result, Ok, Err, refl, sym, ap, ◌∙◌, subst, append_assoc, arith}
 use Rattle.std.proofs.lemmas.Bool.Decides.{nat_tests}
 use Rattle.std.proofs.lemmas.Int.{ints}
 use Rattle.std.specs.Prelude.{nat_lt}
@@ -15,7 +15,6 @@ use Rattle.asl_syn.specs.declared.tree.Alternative.TheOpen as st
 use Rattle.asl_syn.specs.declared.tree.Decl.{Decl}
 use Rattle.asl_cons.specs.declared.End.{End}
 use Rattle.asl_cons.specs.declared.End.TheVariants.{Int}
-use Rattle.asl_cons.specs.declared.Part.{Part}
 use Rattle.asl_cons.specs.Arithmetic as cons
 use Rattle.asl_core.specs.declared.effect.Effect.TheVariants.{Pure}
 use Rattle.asl_core.specs.Faults.{need}
@@ -26,24 +25,22 @@ use Rattle.asl_core.specs.Views.{viewed}
 use Rattle.asl_core.specs.Closed.{Closed, Assignment, type_with, width_at, end_at, in_one, in_some, not_above}
 use Rattle.asl_core.specs.Effects.{greater, all_together}
 use Rattle.asl_core.specs.Operators.{less}
-use Rattle.asl_core.specs.Scopes.{Scope, Body, Entry, Signature, body_names, with_names, fixed, atom_at, next_atom, is_free}
+use Rattle.asl_core.specs.Scopes.{Scope, Entry, Signature, body_names, with_names, fixed, atom_at, next_atom, is_free}
 use Rattle.asl_core.specs.WellFormed.{WellFormed}
 use Rattle.asl_core.specs.Trees as tree
 use Rattle.asl_core.specs.Trees.{TreeFunc, Act}
-use Rattle.asl_core.specs.Typing.{Typed, Operand}
+use Rattle.asl_core.specs.Typing.{Typed}
 use Rattle.asl_core.specs.Writing.{WrittenPart, range_rule, range_of_widths, range_of_numbers}
 use Rattle.asl_core.specs.Exprs.{found, typed, width}
 use Rattle.asl_core.specs.Acting.{Done, Listed, done, block, operand_of}
 use Rattle.asl_core.specs.Branches.{limit_typed, limit_fits, tree_in, of_range, index_type, index_rule, for_rule, with_index as index_body}
 use Rattle.asl_core.specs.Stmts.{found_stmt}
-use Rattle.asl_core.specs.Falling.{falls_through}
-use Rattle.asl_core.specs.Values.{Value, int, Exit, Normal, Returned, has}
+use Rattle.asl_core.specs.Values.{Value, int, Exit, Normal, has}
 use Rattle.asl_core.specs.States.{Under, of_value, Core}
 use Rattle.asl_core.specs.Belonging.{InType, has_type}
 use Rattle.asl_core.specs.Agreement.{types_in, Agrees, SameOn}
 use Rattle.asl_core.specs.Plans.{Eval, Ret, Raise, choose, lift}
-use Rattle.asl_core.specs.StatementForms as plan
-use Rattle.asl_core.specs.StatementForms.{go_on, leave, scope_from, scope_with, whole_number, limited, is_past, next_index, index_turn, index_turns, for_loop}
+use Rattle.asl_core.specs.StatementForms.{leave, scope_from, scope_with, whole_number, limited, is_past, next_index, index_turn, index_turns}
 use Rattle.asl_core.specs.Evaluation.{Does, frames, declared, with_index}
 use Rattle.asl_core.specs.TypedMeaning.{BareCore, Runs, in_bare, acts_of, indexed, with_next}
 use Rattle.asl_core.specs.Erasure.{erased, values_of}
@@ -59,14 +56,12 @@ use Rattle.asl_core.proofs.BodiesOver.{index_type_over}
 use Rattle.asl_core.proofs.ScopesKept.{GoodScope, index_scope}
 use Rattle.asl_core.proofs.Moved.{agrees_moved, extended, extended_at, extended_same}
 use Rattle.asl_core.proofs.Agreeing.{declared_agrees, erased_declared}
-use Rattle.asl_core.proofs.Twins.{Twins, twins_weaker}
-use Rattle.asl_core.proofs.Claims.{Here, Asked, of_width, of_number, Answers, GivesAsked, StmtClaim, At, Over, Ended, Left, Ends, our}
-use Rattle.asl_core.proofs.TreePlans.{Same, Throws, operand, operand_also, append_nil}
+use Rattle.asl_core.proofs.Claims.{Here, Asked, of_width, of_number, Answers, GivesAsked, StmtClaim, At}
+use Rattle.asl_core.proofs.TreePlans.{operand, operand_also, append_nil}
 use Rattle.asl_core.proofs.Longer.{Longer, list_longer, same_on_fewer, same_on_both}
 use Rattle.asl_core.proofs.StmtForms.{here, Held, OutAct, ActSame, Acted, acted, operand_typed, ended_is}
 use Rattle.asl_core.proofs.ListForms.{moved, onward, held_onward, list_same, cut_agrees, values_length, erased_cut}
 use Rattle.asl_core.proofs.BranchForms.{later_on, after_same, normal_end, limit_same}
-use Rattle.asl_core.proofs.ExprForms.{env, program}
 
 -- ---- integers between the bounds
 

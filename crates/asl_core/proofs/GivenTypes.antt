@@ -10,7 +10,7 @@ use Rattle.asl_core.specs.Exprs.{typed}
 use Rattle.asl_core.specs.Values.{Value}
 use Rattle.asl_core.specs.States.{Core, resting}
 use Rattle.asl_core.specs.Belonging.{InType}
-use Rattle.asl_core.specs.Agreement.{no_atoms, types_in, GlobalsMatch, Agrees}
+use Rattle.asl_core.specs.Agreement.{no_atoms, types_in, GlobalsMatch}
 use Rattle.asl_core.specs.Plans.{Meter, Faulted, Stuck, Outcome, Done, Thrown, Halt}
 use Rattle.asl_core.specs.Declarations.{in_names}
 use Rattle.asl_core.specs.Evaluation.{meaning, globals_among}

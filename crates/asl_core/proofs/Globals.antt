@@ -1,39 +1,35 @@
 -- The names that a program declares are well formed, and the globals as a run begins hold its storage: in the rounds in which declarations are judged, where
 -- constants belong to their types in each round.
-use Rattle.std.proofs.Common.{◌≡◌, ℕ, zero, suc, ◌⊎◌, inl, inr, ⊎_elim, Bool, true, false, cond, List, [], ◌∷◌, ◌++◌, Option, Some, None, Ok, Err, refl, sym, ap, ◌∙◌, subst, length, map}
-use Rattle.std.specs.Prelude.{Result}
-use Rattle.asl_syn.specs.declared.code.Fault.{Fault}
+use Rattle.std.proofs.Common.{◌≡◌, ℕ, zero, suc, inl, inr, ⊎_elim, Bool, true, false, cond, List, [], ◌∷◌, ◌++◌, Option, Some, None, Ok, refl, sym, ap, ◌∙◌, subst, length, map}
 use Rattle.asl_syn.specs.declared.tree.Expr.{Expr}
 use Rattle.asl_syn.specs.declared.tree.TypeExpr.{TypeExpr}
 use Rattle.asl_syn.specs.declared.tree.Ident.{Ident}
 use Rattle.asl_syn.specs.declared.tree.TypeDef.{TypeDef}
 use Rattle.asl_syn.specs.declared.tree.TypeDef.TheVariants as td
-use Rattle.asl_syn.specs.declared.tree.TypeDecl.{TypeDecl}
 use Rattle.asl_syn.specs.declared.tree.StorageDecl.{StorageDecl}
 use Rattle.asl_syn.specs.declared.tree.Decl.{Decl}
 use Rattle.asl_syn.specs.declared.tree.Decl.TheVariants as dc
-use Rattle.asl_core.specs.Faults.{◌>>=◌}
 use Rattle.asl_core.specs.Tests.{Tests, IsRight}
 use Rattle.asl_core.specs.Types.{Ty, named, structure}
-use Rattle.asl_core.specs.Closed.{Assignment, type_with, closed}
+use Rattle.asl_core.specs.Closed.{Assignment}
 use Rattle.asl_core.specs.Values.{Value, label, has}
 use Rattle.asl_core.specs.Views.{viewed}
 use Rattle.asl_core.specs.WellFormed.{Extends, Fixed}
 use Rattle.asl_core.specs.Names.{library, names_rule, all_declared, declared_by}
-use Rattle.asl_core.specs.Scopes.{Scope, Entry, Standing, Stored, Subprogram, TypeName, Label, Storage, subprogram, global, label_name, standing_of, storage_in, storage_of, type_in}
+use Rattle.asl_core.specs.Scopes.{Scope, Entry, Standing, Stored, Subprogram, TypeName, Label, subprogram, global, label_name, standing_of, storage_in, storage_of, type_in}
 use Rattle.asl_core.specs.Typing.{Typed}
 use Rattle.asl_core.specs.Exprs.{typed}
 use Rattle.asl_core.specs.States.{Binding, resting}
 use Rattle.asl_core.specs.BeforeRuns.{HoldsInitial}
 use Rattle.asl_core.specs.Belonging.{InType}
-use Rattle.asl_core.specs.Agreement.{no_atoms, IsUnder, IsKnown, Holds, HoldsGlobal, types_in, AllMatch, GlobalsMatch, global_matches}
+use Rattle.asl_core.specs.Agreement.{no_atoms, IsUnder, IsKnown, HoldsGlobal, types_in, AllMatch, GlobalsMatch, global_matches}
 use Rattle.asl_core.specs.Uses.{uses}
 use Rattle.asl_core.specs.Nodes.{Each, own_node, own_nodes}
 use Rattle.asl_core.specs.Grown.{Grown, AreGrown}
 use Rattle.asl_core.specs.Plans.{Good}
 use Rattle.asl_core.specs.Constants.{constant}
 use Rattle.asl_core.specs.Programs.{environment}
-use Rattle.asl_core.specs.Declarations.{in_names, def_rule, supertype_rule, label_entries, type_entries, type_decl_rule, storage_decl_rule, Initial, storage_rule, decl_rule, is_var, Judged, Waiting, Fine, Faulty, judged, entries_of, entries, all_fine, judged_by, still, judgement, faults_rule, names_of_program, globals_rule}
+use Rattle.asl_core.specs.Declarations.{in_names, def_rule, supertype_rule, label_entries, type_entries, Initial, storage_rule, decl_rule, is_var, Judged, Waiting, Fine, Faulty, entries_of, entries, all_fine, judged_by, still, judgement, faults_rule, names_of_program, globals_rule}
 use Rattle.asl_core.specs.Evaluation.{global_under, global_with, global_in, cons_some, globals_among, initial_globals}
 use Rattle.asl_core.proofs.Inversions.{ok_ok, bind_ok, then_ok}
 use Rattle.asl_core.proofs.Tests.{no, some_same, none_some, name_is}
@@ -42,9 +38,9 @@ use Rattle.asl_core.proofs.Slots.{IsOutside, AllOutside}
 use Rattle.asl_core.proofs.OverScope.{NamesOver}
 use Rattle.asl_core.proofs.TypesOver.{Never}
 use Rattle.asl_core.proofs.ScopesOver.{fixed_never, rounds_over}
-use Rattle.asl_core.proofs.Distinct.{Distinct, distinct_of, IsPlain, In, Plain, plain_in, plain_named, plain_new, behind_library, past_library, FoundAt, found_at, own_found, not_found, all_apart}
+use Rattle.asl_core.proofs.Distinct.{Distinct, distinct_of, IsPlain, In, Plain, plain_in, plain_new, behind_library, past_library, FoundAt, found_at, not_found, all_apart}
 use Rattle.asl_core.proofs.KnownStart.{starts_at}
-use Rattle.asl_core.proofs.Settled.{fine_same, not_waiting, by_test, still_is, names_at, named_at, own_at}
+use Rattle.asl_core.proofs.Settled.{not_waiting, by_test, still_is, names_at, named_at, own_at}
 use Rattle.asl_core.proofs.DeclWell.{StandsWell, AllWell, well_at, well_grows, Ready, LabelsIn, HasLabels, decl_well}
 
 type_standing : (o : Option Standing) (T : Ty) → type_in o ≡ Some T → o ≡ Some (TypeName T)

@@ -1,5 +1,5 @@
 -- `IN` with its typed tree: both do the same, and give a boolean.
-use Rattle.std.proofs.Common.{◌≡◌, ℕ, ◌||◌, Bool, true, false, List, [], ◌∷◌, ◌++◌, Ok, refl, sym, ap, ◌∙◌, subst}
+use Rattle.std.proofs.Common.{◌≡◌, ◌||◌, false, List, [], Ok, refl, sym, ap, subst}
 use Rattle.asl_syn.specs.declared.token.Span.{Span}
 use Rattle.asl_syn.specs.declared.tree.Expr.{Expr}
 use Rattle.asl_syn.specs.declared.tree.Pattern.{Pattern}
@@ -9,7 +9,6 @@ use Rattle.asl_core.specs.declared.effect.Effect.TheVariants.{Pure}
 use Rattle.asl_core.specs.Tests.{Tests, IsRight}
 use Rattle.asl_core.specs.Types.{boolean}
 use Rattle.asl_core.specs.Scopes.{Entry, Signature, with_class}
-use Rattle.asl_core.specs.Shapes.{PatternShape, no_pattern, pattern_and}
 use Rattle.asl_core.specs.Shaped.{pattern_parts}
 use Rattle.asl_core.specs.Trees as tree
 use Rattle.asl_core.specs.Trees.{Note, Tree, TreeFunc}
@@ -21,10 +20,9 @@ use Rattle.asl_core.specs.States.{Core}
 use Rattle.asl_core.specs.Agreement.{types_in}
 use Rattle.asl_core.specs.Plans.{Faulted, Stuck, Pure as PureOf, Good, Bad}
 use Rattle.asl_core.specs.Pures.{◌>>=◌}
-use Rattle.asl_core.specs.Matching.{Matched, matched, matches, any_match, is_matched}
+use Rattle.asl_core.specs.Matching.{Matched, matched, matches}
 use Rattle.asl_core.specs.ByNames.{matched_in}
 use Rattle.asl_core.specs.Forms.{behind_more}
-use Rattle.asl_core.specs.TypedMeaning.{list_of}
 use Rattle.asl_core.specs.Erasure.{erased}
 use Rattle.asl_core.proofs.Inversions.{bind_ok}
 use Rattle.asl_core.proofs.Naming.{WellNamed}

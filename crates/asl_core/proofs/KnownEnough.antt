@@ -1,14 +1,12 @@
 -- So many nodes are enough for an expression that has a value before any run: as many as its evaluation enters.
-use Rattle.std.proofs.Common.{◌≡◌, ℕ, zero, suc, ◌+◌, ◌-◌, ◌==◌, ◌≤◌, Bool, true, false, cond, ◌⊎◌, inl, inr, List, [], ◌∷◌, ◌++◌, refl, sym, ap, ap₂, ◌∙◌, subst, map, arith}
-use Rattle.std.proofs.lemmas.Bool.{cases_eq}
+use Rattle.std.proofs.Common.{◌≡◌, ℕ, zero, suc, ◌+◌, ◌-◌, ◌≤◌, false, ◌⊎◌, inl, inr, List, [], ◌∷◌, ◌++◌, sym, ap, ap₂, ◌∙◌, subst, map, arith}
 use Rattle.asl_syn.specs.declared.token.Span.{Span}
-use Rattle.asl_syn.specs.declared.code.DynCode.TheVariants.{D12, D13}
-use Rattle.asl_syn.specs.declared.tree.Bitfield.{Bitfield, out-Bitfield, roll-Bitfield, out-roll-Bitfield}
-use Rattle.asl_syn.specs.declared.tree.ConstraintPart.{ConstraintPart, out-ConstraintPart, roll-ConstraintPart, out-roll-ConstraintPart}
+use Rattle.asl_syn.specs.declared.tree.Bitfield.{Bitfield, roll-Bitfield, out-roll-Bitfield}
+use Rattle.asl_syn.specs.declared.tree.ConstraintPart.{ConstraintPart, roll-ConstraintPart, out-roll-ConstraintPart}
 use Rattle.asl_syn.specs.declared.tree.Expr.{Expr, out-Expr, roll-Expr, out-roll-Expr}
-use Rattle.asl_syn.specs.declared.tree.FieldValue.{FieldValue, out-FieldValue, roll-FieldValue, out-roll-FieldValue}
+use Rattle.asl_syn.specs.declared.tree.FieldValue.{FieldValue, roll-FieldValue, out-roll-FieldValue}
 use Rattle.asl_syn.specs.declared.tree.Pattern.{Pattern, roll-Pattern}
-use Rattle.asl_syn.specs.declared.tree.Slice.{Slice, out-Slice, roll-Slice, out-roll-Slice}
+use Rattle.asl_syn.specs.declared.tree.Slice.{Slice, roll-Slice, out-roll-Slice}
 use Rattle.asl_syn.specs.declared.tree.TypeExpr.{TypeExpr, roll-TypeExpr}
 use Rattle.asl_syn.specs.declared.tree.Stmt.{Stmt}
 use Rattle.asl_syn.specs.declared.tree.Bitfield.TheOpen as ex
@@ -17,7 +15,7 @@ use Rattle.asl_syn.specs.Layers.{ExprLayer, TypeLayer, expr_span}
 use Rattle.asl_core.specs.Values.{Value}
 use Rattle.asl_core.specs.Scopes.{Entry}
 use Rattle.asl_core.specs.States.{Core}
-use Rattle.asl_core.specs.Plans.{Meter, End, Faulted, Outcome, Done, Thrown, Halt, handle, Plan, Ret, Raise, Stop, Eval, Exec, Put, Within, Meaning, run, enter, Nodes, meanings, Pure, Good, Bad}
+use Rattle.asl_core.specs.Plans.{Meter, Outcome, Done, Thrown, Halt, handle, Plan, Ret, Stop, Eval, Within, run, enter, Pure, Good, Bad}
 use Rattle.asl_core.specs.Pures.{◌>>=◌}
 use Rattle.asl_core.specs.Shapes.{PatternShape}
 use Rattle.asl_core.specs.Shaped.{Shaped, TypeOver, Unread, itself, exprs_in, given_layer, slice_layer, part_layer, bitfield_layer, pattern_layer, type_layer, given_parts, slice_parts, range_parts, bitfield_parts, pattern_parts, type_parts}

@@ -1,5 +1,5 @@
 -- Slices, patterns, fields given and written types before any run: their shapes are those of the trees, and their expressions stand for the values of these.
-use Rattle.std.proofs.Common.{◌≡◌, ℕ, List, [], ◌∷◌, ◌++◌, Option, Some, None, refl, sym, ap, ap₂, ◌∙◌, map}
+use Rattle.std.proofs.Common.{◌≡◌, ℕ, List, [], ◌∷◌, ◌++◌, Some, refl, sym, ap, ap₂, ◌∙◌, map}
 use Rattle.std.specs.Prelude.{option_map}
 use Rattle.asl_syn.specs.declared.tree.Bitfield.{Bitfield, out-Bitfield}
 use Rattle.asl_syn.specs.declared.tree.ConstraintPart.{ConstraintPart, out-ConstraintPart}

@@ -1,5 +1,5 @@
 -- An expression that has a value before any run gives that value in a run: the plans of both are the same, step by step.
-use Rattle.std.proofs.Common.{◌≡◌, ℕ, zero, suc, ◌-◌, ◌==◌, Bool, true, false, cond, ◌⊎◌, inl, inr, List, [], ◌∷◌, ◌++◌, Option, refl, sym, ap, ap₂, subst, map}
+use Rattle.std.proofs.Common.{◌≡◌, ℕ, zero, suc, ◌-◌, ◌==◌, Bool, true, false, cond, inl, inr, List, [], ◌∷◌, ◌++◌, refl, sym, ap, ap₂, subst, map}
 use Rattle.asl_syn.specs.declared.token.Span.{Span}
 use Rattle.asl_syn.specs.declared.code.DynCode.TheVariants.{D12, D13}
 use Rattle.asl_syn.specs.declared.tree.BinaryOperator.{BinaryOperator}
@@ -7,22 +7,22 @@ use Rattle.asl_syn.specs.declared.tree.Expr.{Expr, out-Expr}
 use Rattle.asl_syn.specs.declared.tree.Stmt.{Stmt}
 use Rattle.asl_syn.specs.declared.tree.Bitfield.TheOpen as ex
 use Rattle.asl_syn.specs.Layers.{ExprLayer, expr_span}
-use Rattle.asl_core.specs.Values.{Value, tuple_with}
+use Rattle.asl_core.specs.Values.{Value}
 use Rattle.asl_core.specs.Scopes.{Entry, standing_of}
 use Rattle.asl_core.specs.States.{Core}
-use Rattle.asl_core.specs.Plans.{Meter, End, Faulted, Stuck, CallBarred, Outcome, Done, Thrown, Halt, handle, Plan, Ret, Raise, Stop, Eval, Exec, Put, Within, Meaning, run, choose, enter, Nodes, meanings, Pure, Good, Bad, lift}
+use Rattle.asl_core.specs.Plans.{Meter, Faulted, Outcome, Done, Thrown, Halt, handle, Plan, Ret, Stop, Eval, Within, Meaning, run, choose, Pure, Good, Bad, lift}
 use Rattle.asl_core.specs.Pures.{◌>>=◌, known}
 use Rattle.asl_core.specs.Operators.{binary_value, unary_value, truth, Decided, Already, ByRight, Strictness, Strict, Lazy, strictness}
-use Rattle.asl_core.specs.Structures.{element_of, field_of, constructed, values_of}
+use Rattle.asl_core.specs.Structures.{element_of, field_of, constructed}
 use Rattle.asl_core.specs.Vectors.{literal_bits, slices_of, bitfields_of, bitfields_named}
 use Rattle.asl_core.specs.Written.{converted}
-use Rattle.asl_core.specs.Forms.{at_once, literal, behind, behind_all, behind_more, eval_all, behind_left, unless_decided, operation, branch_value, conditional}
+use Rattle.asl_core.specs.Forms.{at_once, literal, behind, behind_all, behind_more, eval_all, behind_left, unless_decided, branch_value}
 use Rattle.asl_core.specs.Shaped.{itself, exprs_in, shapes_in, given_parts, slice_parts, pattern_parts, type_parts}
-use Rattle.asl_core.specs.ByNames.{matched_in, expr_plan, types_among}
+use Rattle.asl_core.specs.ByNames.{matched_in, expr_plan}
 use Rattle.asl_core.specs.Constants.{Known, before_runs, known_parts, initial_value, settled, layer_at, constant}
 use Rattle.asl_core.specs.Programs.{Environment}
-use Rattle.asl_core.specs.Evaluation.{value_here, types_of, in_state, tree_parts, nodes, meaning}
-use Rattle.asl_core.specs.BeforeRuns.{HoldsInitial, EndsSo, RanOut, IsBarred, HoldsCall, AsBefore}
+use Rattle.asl_core.specs.Evaluation.{value_here, types_of, in_state, tree_parts, meaning}
+use Rattle.asl_core.specs.BeforeRuns.{HoldsInitial, RanOut, IsBarred, HoldsCall, AsBefore}
 use Rattle.asl_core.proofs.KnownParts.{known_given, known_slice, known_pattern, known_type, known_layer, constant_out, parts_of, shapes_of, given_known, slice_known, pattern_known, type_known}
 
 -- a plan that stops at a call

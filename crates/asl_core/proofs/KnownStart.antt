@@ -1,13 +1,11 @@
 -- As a run begins, each name has the value that it has before any run: what stands for storage outside bodies comes from its declaration.
 use Rattle.std.proofs.Common.{◌≡◌, ℕ, zero, suc, Bool, true, false, cond, ◌⊎◌, inl, inr, List, [], ◌∷◌, ◌++◌, Option, Some, None, Result, Ok, Err, refl, sym, ap, ◌∙◌, subst, map}
-use Rattle.std.proofs.lemmas.Bool.{cases_eq}
 use Rattle.std.specs.Prelude.{length, option_map, option_and_then}
 use Rattle.std.specs.Str.{bytes_eq}
 use Rattle.asl_syn.specs.declared.code.Fault.{Fault}
 use Rattle.asl_syn.specs.declared.tree.Ident.{Ident}
 use Rattle.asl_syn.specs.declared.tree.TypeDef.{TypeDef}
 use Rattle.asl_syn.specs.declared.tree.TypeDef.TheVariants as td
-use Rattle.asl_syn.specs.declared.tree.TypeDecl.{TypeDecl}
 use Rattle.asl_syn.specs.declared.tree.StorageDecl.{StorageDecl}
 use Rattle.asl_syn.specs.declared.tree.Decl.{Decl}
 use Rattle.asl_syn.specs.declared.tree.Decl.TheVariants as dc
@@ -22,7 +20,7 @@ use Rattle.asl_core.specs.Declarations as decl
 use Rattle.asl_core.specs.Uses.{uses}
 use Rattle.asl_core.specs.States.{Binding, resting}
 use Rattle.asl_core.specs.Constants.{initial_value}
-use Rattle.asl_core.specs.Evaluation.{value_of, or_value, label_in, value_here, global_with, global_in, cons_some, globals_among}
+use Rattle.asl_core.specs.Evaluation.{value_of, or_value, label_in, global_with, global_in, cons_some, globals_among}
 use Rattle.asl_core.specs.BeforeRuns.{HoldsInitial, BeginsSo}
 use Rattle.asl_core.proofs.Tests.{same_name, name_is, some_same, none_some, no}
 

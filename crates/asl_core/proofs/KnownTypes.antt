@@ -1,5 +1,5 @@
 -- Constants belong to their types, where the runs of expressions give values of their types: a constant is what a run gives that has nodes enough.
-use Rattle.std.proofs.Common.{◌≡◌, ℕ, ◌≤◌, ◌⊎◌, inl, inr, List, [], ◌∷◌, ◌++◌, Option, Some, None, Ok, refl, sym, ap, ◌∙◌, subst, arith}
+use Rattle.std.proofs.Common.{◌≡◌, ℕ, ◌⊎◌, inl, inr, List, [], ◌∷◌, ◌++◌, None, Ok, refl, ap, subst, arith}
 use Rattle.asl_syn.specs.declared.tree.Expr.{Expr}
 use Rattle.asl_syn.specs.declared.tree.Decl.{Decl}
 use Rattle.asl_core.specs.Tests.{Tests}
@@ -10,7 +10,7 @@ use Rattle.asl_core.specs.Exprs.{typed}
 use Rattle.asl_core.specs.States.{Binding, Core, resting}
 use Rattle.asl_core.specs.Belonging.{InType}
 use Rattle.asl_core.specs.Agreement.{no_atoms, types_in, GlobalsMatch, Agrees}
-use Rattle.asl_core.specs.Plans.{Meter, Outcome, Done, Pure, Good, Bad, starting}
+use Rattle.asl_core.specs.Plans.{Meter, Outcome, Pure, Good, Bad, starting}
 use Rattle.asl_core.specs.Programs.{Environment}
 use Rattle.asl_core.specs.Declarations.{in_names}
 use Rattle.asl_core.specs.Constants.{constant}

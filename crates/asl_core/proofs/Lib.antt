@@ -1,3 +1,5 @@
+pub mod OwnForms
+pub mod OwnGiven
 pub mod OwnOmitted
 pub mod OwnWidths
 pub mod OwnBodies
@@ -84,6 +86,7 @@ pub mod Moved
 pub mod ForForms
 pub mod DeclareForms
 pub mod TupleForms
+pub mod VarForms
 pub mod FirstFilled
 pub mod FirstPresent
 pub mod ThrowForms
@@ -133,3 +136,4 @@ pub mod AssignSteps
 pub mod SoundnessEntry
 pub mod AssignForms
 pub mod AssignActs
+pub mod OwnBraces

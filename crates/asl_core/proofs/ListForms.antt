@@ -1,5 +1,5 @@
 -- Lists of statements with their typed trees, and lists with a scope of their own.
-use Rattle.std.proofs.Common.{◌≡◌, ℕ, zero, suc, Bool, true, false, ◌&&◌, ◌||◌, List, [], ◌∷◌, ◌++◌, length, take, map, Option, Some, None, Ok, refl, sym, ap, ◌∙◌, subst, append_assoc}
+use Rattle.std.proofs.Common.{◌≡◌, ℕ, zero, suc, Bool, true, false, ◌&&◌, List, [], ◌∷◌, ◌++◌, length, take, map, Option, Ok, refl, sym, ap, ◌∙◌, subst, append_assoc}
 use Rattle.asl_syn.specs.declared.token.Span.{Span}
 use Rattle.asl_syn.specs.declared.code.StaticCode.TheVariants.{T05}
 use Rattle.asl_syn.specs.declared.tree.Expr.{Expr}
@@ -7,12 +7,11 @@ use Rattle.asl_syn.specs.declared.tree.Stmt.{Stmt}
 use Rattle.asl_syn.specs.declared.tree.Decl.{Decl}
 use Rattle.asl_core.specs.declared.effect.Effect.{Effect}
 use Rattle.asl_core.specs.declared.effect.Effect.TheVariants.{Pure}
-use Rattle.asl_core.specs.Faults.{need}
 use Rattle.asl_core.specs.Tests.{Tests, IsRight}
 use Rattle.asl_core.specs.Types.{Ty, is_boolean}
 use Rattle.asl_core.specs.Closed.{Assignment}
 use Rattle.asl_core.specs.Effects.{greater}
-use Rattle.asl_core.specs.Scopes.{Scope, Body, Entry, Signature, body_names, with_names}
+use Rattle.asl_core.specs.Scopes.{Entry, Signature, body_names, with_names}
 use Rattle.asl_core.specs.Trees.{TreeFunc}
 use Rattle.asl_core.specs.Typing.{Operand}
 use Rattle.asl_core.specs.Acting.{Done, Listed, act_first, listed, in_order, block, operand_of, condition}
@@ -31,12 +30,12 @@ use Rattle.asl_core.specs.Erasure.{erased, values_of}
 use Rattle.asl_core.proofs.Inversions.{ok_ok, bind_ok, need_ok}
 use Rattle.asl_core.proofs.Tests.{and_true}
 use Rattle.asl_core.proofs.Naming.{WellNamed}
-use Rattle.asl_core.proofs.Twins.{Twins, twins_weaker}
+use Rattle.asl_core.proofs.Twins.{Twins}
 use Rattle.asl_core.proofs.Several.{one}
-use Rattle.asl_core.proofs.Claims.{Here, StmtClaim, At, Over, Ended, Left, Ends, our}
+use Rattle.asl_core.proofs.Claims.{StmtClaim, At, Over, Ended, Left, Ends, our}
 use Rattle.asl_core.proofs.TreePlans.{Same, Throws, operand, truth_same, append_nil}
 use Rattle.asl_core.proofs.ScopesKept.{GoodScope, stmt_scope}
-use Rattle.asl_core.proofs.Longer.{Longer, longer_self, stmt_longer, list_longer, same_on_fewer, same_on_both}
+use Rattle.asl_core.proofs.Longer.{Longer, stmt_longer, list_longer, same_on_fewer, same_on_both}
 use Rattle.asl_core.proofs.StmtForms.{here, Held, OutAct, ActSame, operand_typed}
 
 -- ---- the end of a scope

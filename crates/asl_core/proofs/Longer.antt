@@ -1,5 +1,5 @@
 -- The names that are visible after a statement are those before it, and behind them those that it declares.
-use Rattle.std.proofs.Common.{◌≡◌, ℕ, suc, ◌<◌, ◌≤◌, Bool, true, false, not, cond, List, [], ◌∷◌, ◌++◌, map, Option, Some, None, Ok, refl, sym, ap, ◌∙◌, subst, append_assoc, arith}
+use Rattle.std.proofs.Common.{◌≡◌, ℕ, suc, ◌<◌, ◌≤◌, Bool, true, false, cond, List, [], ◌∷◌, ◌++◌, map, Option, Some, None, Ok, refl, sym, ap, ◌∙◌, subst, append_assoc, arith}
 use Rattle.asl_syn.specs.declared.token.Span.{Span}
 use Rattle.asl_syn.specs.declared.code.StaticCode.TheVariants.{T01, T05}
 use Rattle.asl_syn.specs.declared.tree.Expr.{Expr}
@@ -12,14 +12,14 @@ use Rattle.asl_syn.specs.declared.tree.Bind.{Bind}
 use Rattle.asl_syn.specs.declared.tree.Bind.TheVariants.{Single, Several}
 use Rattle.asl_syn.specs.declared.tree.Stmt.{Stmt}
 use Rattle.asl_core.specs.declared.effect.Effect.{Effect}
-use Rattle.asl_core.specs.Faults.{◌>>◌, need, found_or}
+use Rattle.asl_core.specs.Faults.{need, found_or}
 use Rattle.asl_core.specs.Tests.{Tests}
 use Rattle.asl_core.specs.Types.{Ty, Parts, no_part, part, tuple_parts}
 use Rattle.asl_core.specs.Closed.{Assignment}
 use Rattle.asl_core.specs.Scopes.{Scope, Body, Entry, is_free, variable, is_local, next_atom}
 use Rattle.asl_core.specs.Trees as tree
 use Rattle.asl_core.specs.Exprs.{written}
-use Rattle.asl_core.specs.Acting.{Done, FoundStmt, Listed, in_order}
+use Rattle.asl_core.specs.Acting.{Done, Listed, in_order}
 use Rattle.asl_core.specs.Locals.{Initialised, initialised, initialised_as, itself, declared, type_declared, part_declared, written_or, taken, binders_free, bound_parts, bound_in, bound, bind_rule, names_rule, vars_rule}
 use Rattle.asl_core.specs.Stmts.{found_stmt}
 use Rattle.asl_core.specs.Agreement.{SameOn}

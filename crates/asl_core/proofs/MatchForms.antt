@@ -1,5 +1,5 @@
 -- Patterns with their typed trees: the expressions in them are the same, in order, and a value of the type that they fit is decided with their values.
-use Rattle.std.proofs.Common.{◌≡◌, ℕ, ℤ, pos, ◌&&◌, ◌||◌, cond, Bool, true, false, not, List, [], ◌∷◌, ◌++◌, length, Option, Some, None, Ok, refl, sym, ap, ◌∙◌, subst, map, append_assoc}
+use Rattle.std.proofs.Common.{◌≡◌, ℕ, ℤ, pos, ◌&&◌, cond, Bool, true, false, List, [], ◌∷◌, ◌++◌, length, Option, Some, Ok, refl, sym, ap, ◌∙◌, subst, map, append_assoc}
 use Rattle.std.specs.Prelude.{◌==◌}
 use Rattle.asl_syn.specs.declared.token.Span.{Span}
 use Rattle.asl_syn.specs.declared.code.StaticCode.TheVariants.{T06, T08, T23}
@@ -17,24 +17,23 @@ use Rattle.asl_poly.specs.Poly.{constant_map}
 use Rattle.asl_cons.proofs.Covering.{value_constant_map}
 use Rattle.asl_mask.specs.Digits.{mask_matches}
 use Rattle.asl_core.specs.declared.effect.Effect.TheVariants.{Pure}
-use Rattle.asl_core.specs.Faults.{◌>>◌, need, found_or, fault_of}
+use Rattle.asl_core.specs.Faults.{◌>>◌, need, found_or}
 use Rattle.asl_core.specs.Tests.{Tests, IsRight, SameWidth}
 use Rattle.asl_core.specs.Types.{Ty, Parts, boolean, no_part, part, is_integer, is_bits, width_of, tuple_parts, tuple_of, named, same_kind}
-use Rattle.asl_core.specs.Closed.{Assignment, width_at, type_with, parts_with, not_above}
-use Rattle.asl_core.specs.Scopes.{Scope, Entry, Signature, with_class}
-use Rattle.asl_core.specs.Shapes.{PatternShape, PatternShapes, anything, one_of, masked, at_most, at_least, in_parts, equal_to, between, no_pattern, pattern_and}
+use Rattle.asl_core.specs.Closed.{Assignment, width_at}
+use Rattle.asl_core.specs.Scopes.{Entry, Signature, with_class}
+use Rattle.asl_core.specs.Shapes.{PatternShape, anything, one_of, masked, at_most, at_least, in_parts, equal_to, between, no_pattern, pattern_and}
 use Rattle.asl_core.specs.Shaped as shaped
 use Rattle.asl_core.specs.Shaped.{Shaped, Unread, pattern_layer, pattern_parts, exprs_in, shapes_in}
 use Rattle.asl_core.specs.Trees.{Tree}
 use Rattle.asl_core.specs.Typing.{Found, Typed}
-use Rattle.asl_core.specs.Operations.{binary_rule, comparable, compared, is_comparable, same_widths}
-use Rattle.asl_core.specs.Patterns.{Matched, FoundPattern, all_match, as_many, parts_match, pattern_shapes, pattern_trees, set_matched, matched, mask_matched, tuple_pattern_rule}
+use Rattle.asl_core.specs.Operations.{binary_rule, comparable, is_comparable, same_widths}
+use Rattle.asl_core.specs.Patterns.{Matched, FoundPattern, all_match, as_many, parts_match, pattern_shapes, pattern_trees, set_matched, matched}
 use Rattle.asl_core.specs.Slicing.{FoundSlice}
 use Rattle.asl_core.specs.Writing.{FoundPart, FoundBitfield, FoundType}
 use Rattle.asl_core.specs.Vectors.{literal_digits}
-use Rattle.asl_core.specs.Exprs.{FoundField, PatternOf, found, found_pattern, typed, expr_rule, given_rule, slice_rule, part_rule, bitfield_rule, type_rule, pattern_rule}
-use Rattle.asl_core.specs.Values.{Value, Values, int, bool, bits_with, tuple_with, no_value, value, is_width}
-use Rattle.asl_core.specs.Views.{viewed}
+use Rattle.asl_core.specs.Exprs.{FoundField, found_pattern, typed, expr_rule, given_rule, slice_rule, part_rule, bitfield_rule, type_rule, pattern_rule}
+use Rattle.asl_core.specs.Values.{Value, Values, int, tuple_with, no_value, value, is_width}
 use Rattle.asl_core.specs.Belonging.{InType, has_type, parts_have}
 use Rattle.asl_core.specs.Agreement.{types_in}
 use Rattle.asl_core.specs.Plans.{Faulted, Stuck, WrongKind, Pure as PureOf, Good, Bad}
@@ -43,15 +42,15 @@ use Rattle.asl_core.specs.Operators.{binary_value, truth}
 use Rattle.asl_core.specs.Structures.{parts, values_in}
 use Rattle.asl_core.specs.Matching as runs
 use Rattle.asl_core.specs.Matching.{matches, any_match, all_match as each_match, mask_match, value_match, negated_or}
-use Rattle.asl_core.proofs.Inversions.{ok_ok, err_ok, bind_ok, then_ok, need_ok, found_ok}
+use Rattle.asl_core.proofs.Inversions.{ok_ok, bind_ok, then_ok, need_ok, found_ok}
 use Rattle.asl_core.proofs.Tests.{no, both, some_same, none_some}
 use Rattle.asl_core.proofs.Shapes.{named_parts}
 use Rattle.asl_core.proofs.SameKind.{same_number, number_is}
 use Rattle.asl_core.proofs.Opening.{pattern_opened}
-use Rattle.asl_core.proofs.Viewing.{same_first, same_rest, same_width}
+use Rattle.asl_core.proofs.Viewing.{same_first, same_rest}
 use Rattle.asl_core.proofs.OperatorForms.{Gives, is_int, is_bool, is_bitvector, binary_gives}
-use Rattle.asl_core.proofs.Claims.{Here, Asked, of_pure, tree_asked, Answers, GivesAsked}
-use Rattle.asl_core.proofs.TreePlans.{AllAsked, AllGive, append_nil}
+use Rattle.asl_core.proofs.Claims.{Here, Asked, of_pure, GivesAsked}
+use Rattle.asl_core.proofs.TreePlans.{AllAsked, AllGive}
 
 -- the pattern is decided, and these values are left
 abbrev pub Decided : PureOf runs.Matched → List Value → Type 0

@@ -1,6 +1,6 @@
 -- Fields of records and exceptions, and bitfields: what stands under the name of one stands at its number or its places, and belongs to its type.
-use Rattle.std.proofs.Common.{◌≡◌, ℕ, zero, suc, ℤ, pos, negsuc, ◌+◌, ◌-◌, ◌≤◌, ◌<◌, min, ◌&&◌, cond, Bool, true, false, List, [], ◌∷◌, ◌++◌, length, take, drop, Option, Some, None, option_map, Ok, refl, sym, ap, ◌∙◌, subst, arith}
-use Rattle.std.specs.Prelude.{nat_le, nat_lt, ◌==◌}
+use Rattle.std.proofs.Common.{◌≡◌, ℕ, suc, ℤ, pos, negsuc, ◌+◌, ◌-◌, ◌≤◌, ◌<◌, min, ◌&&◌, cond, Bool, true, false, List, [], ◌∷◌, length, drop, Option, Some, None, option_map, Ok, refl, sym, ap, ◌∙◌, subst, arith}
+use Rattle.std.specs.Prelude.{nat_le, nat_lt}
 use Rattle.std.specs.Str.{bytes_eq}
 use Rattle.std.proofs.lemmas.List.{length-take, length-drop, length-append}
 use Rattle.std.proofs.lemmas.Bool.Decides.{nat_tests}
@@ -8,7 +8,6 @@ use Rattle.asl_syn.specs.declared.token.Span.{Span}
 use Rattle.asl_syn.specs.declared.code.StaticCode.TheVariants.{T15}
 use Rattle.asl_syn.specs.declared.code.DynCode.TheVariants.{D14}
 use Rattle.asl_syn.specs.declared.tree.Ident.{Ident}
-use Rattle.asl_poly.specs.Poly.{constant_map}
 use Rattle.asl_poly.specs.Terms.{Polynomial}
 use Rattle.asl_bits.specs.Lists.{slice_of}
 use Rattle.asl_core.specs.Tests.{Tests, IsRight}
@@ -16,15 +15,14 @@ use Rattle.asl_core.specs.Types.{Ty, Fields, View, BitField, bitfield_width, int
 use Rattle.asl_core.specs.Closed as cl
 use Rattle.asl_core.specs.Closed.{Assignment, Closed, ClosedFields, type_with, fields_with, closed, width_at}
 use Rattle.asl_core.specs.Members.{Member, a_field, a_bitfield, member_type, numbered, one_further, field_among, bitfield_in, member_of, bitfields_in, all_wide}
-use Rattle.asl_core.specs.Values.{Value, FieldValues, int, bool, bits_with, label, record_with, exception_with, tuple_with, array_with, no_value_of, value_of_field, is_width}
+use Rattle.asl_core.specs.Values.{Value, FieldValues, bits_with, record_with, exception_with, no_value_of, value_of_field, is_width}
 use Rattle.asl_core.specs.Views.{viewed}
-use Rattle.asl_core.specs.WellFormed.{Shaped, AllInside, ShapedView, Built, BuiltFields, FieldsSeen, Written, WellDeclared}
+use Rattle.asl_core.specs.WellFormed.{Shaped, AllInside, ShapedView, BuiltFields, FieldsSeen, Written, WellDeclared}
 use Rattle.asl_core.specs.Belonging.{has_type, fields_have, InType}
 use Rattle.asl_core.specs.Agreement.{no_atoms}
 use Rattle.asl_core.specs.Plans.{Faulted, Pure, Good, Bad}
 use Rattle.asl_core.specs.Pures.{◌>>=◌, there}
-use Rattle.asl_core.specs.Vectors.{read_bits, total_width, places_of_field, places_of_fields, bits_at, bitfield_of, bitfields_of, named_among, bitfield_named, each_named, bitfields_named}
-use Rattle.asl_core.specs.Operators.{plain_bits}
+use Rattle.asl_core.specs.Vectors.{read_bits, total_width, places_of_field, places_of_fields, bits_at, bitfield_of, bitfields_of, named_among, each_named, bitfields_named}
 use Rattle.asl_core.specs.ByPlace.{field_at, field_in}
 use Rattle.asl_core.specs.Structures.{field_value, field_of}
 use Rattle.asl_core.specs.Faults.{found_or, fault_of}

@@ -1,5 +1,5 @@
 -- Types stay well-formed where more names are declared, and how a new name is declared.
-use Rattle.std.proofs.Common.{◌≡◌, ℕ, ◌⊎◌, ⊎_elim, false, List, [], ◌∷◌, Option, Some, None, refl}
+use Rattle.std.proofs.Common.{◌≡◌, ℕ, ◌⊎◌, ⊎_elim, false, List, [], ◌∷◌, Option, Some, refl}
 use Rattle.asl_core.specs.Types.{Ty, Fields, Parts, integer_of, boolean, bits_of, enumeration_of, record_of, exception_of, tuple_of, array_of, named, no_field, field, no_part, part, structure}
 use Rattle.asl_core.specs.Values.{Value, Values, FieldValues, int, bool, bits_with, label, record_with, exception_with, tuple_with, array_with, no_value, value, no_value_of, value_of_field}
 use Rattle.asl_core.specs.WellFormed.{Built, BuiltAll, BuiltFields, SeenAs, Declared, Extends, Fits, Fixed, Nearest, Shaped, ShapedFields, ShapedParts, WellDeclared, WellFormed, Written, is_named}

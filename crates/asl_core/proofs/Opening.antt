@@ -1,16 +1,16 @@
 -- One layer of a tree with what is found at its parts, and what the ends of rows give.
-use Rattle.std.proofs.Common.{◌≡◌, ◌&&◌, Bool, Ok, List, [], ◌∷◌, ◌++◌, ap}
+use Rattle.std.proofs.Common.{◌≡◌, Bool, Ok}
 use Rattle.asl_syn.specs.declared.token.Span.{Span}
-use Rattle.asl_syn.specs.declared.code.StaticCode.TheVariants.{T12, T13, T20}
-use Rattle.asl_syn.specs.declared.tree.Bitfield.{Bitfield, out-Bitfield}
-use Rattle.asl_syn.specs.declared.tree.ConstraintPart.{ConstraintPart, out-ConstraintPart}
+use Rattle.asl_syn.specs.declared.code.StaticCode.TheVariants.{T12, T13}
+use Rattle.asl_syn.specs.declared.tree.Bitfield.{Bitfield}
+use Rattle.asl_syn.specs.declared.tree.ConstraintPart.{ConstraintPart}
 use Rattle.asl_syn.specs.declared.tree.Expr.{Expr, out-Expr}
-use Rattle.asl_syn.specs.declared.tree.FieldValue.{FieldValue, out-FieldValue}
-use Rattle.asl_syn.specs.declared.tree.Pattern.{Pattern, out-Pattern}
-use Rattle.asl_syn.specs.declared.tree.Slice.{Slice, out-Slice}
-use Rattle.asl_syn.specs.declared.tree.TypeExpr.{TypeExpr, out-TypeExpr}
+use Rattle.asl_syn.specs.declared.tree.FieldValue.{FieldValue}
+use Rattle.asl_syn.specs.declared.tree.Pattern.{Pattern}
+use Rattle.asl_syn.specs.declared.tree.Slice.{Slice}
+use Rattle.asl_syn.specs.declared.tree.TypeExpr.{TypeExpr}
 use Rattle.asl_syn.specs.declared.tree.Bitfield.TheOpen as ex
-use Rattle.asl_syn.specs.declared.tree.Bitfield.TheFolds.{fold-FieldValue, fold-Bitfield, fold-ConstraintPart, fold_out-Expr, fold_out-FieldValue, fold_out-Slice, fold_out-Pattern, fold_out-TypeExpr, map-Bitfield, map-ConstraintPart, map-Expr, map-FieldValue, map-Slice, map-Pattern, map-TypeExpr}
+use Rattle.asl_syn.specs.declared.tree.Bitfield.TheFolds.{fold-FieldValue, fold-Bitfield, fold-ConstraintPart, fold_out-Expr, map-Bitfield, map-ConstraintPart, map-Expr, map-FieldValue, map-Pattern, map-TypeExpr}
 use Rattle.asl_syn.specs.Layers.{ExprLayer, TypeLayer}
 use Rattle.asl_core.specs.declared.effect.Effect.{Effect}
 use Rattle.asl_core.specs.Faults.{need}

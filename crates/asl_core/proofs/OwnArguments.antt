@@ -1,16 +1,16 @@
 -- The types of a subprogram in the frame of a call: with the parameters replaced they are for the caller what they are at the integers of the frame. So arguments that
 -- fit belong to the formals, and what a function gives belongs to the type of its call.
-use Rattle.std.proofs.Common.{◌≡◌, ◌⊎◌, inl, inr, ℕ, ◌+◌, ℤ, Bool, true, false, cond, ◌&&◌, List, [], ◌∷◌, ◌++◌, Option, Some, None, Ok, refl, sym, ap, ◌∙◌, subst}
+use Rattle.std.proofs.Common.{◌≡◌, ◌⊎◌, inl, inr, ℕ, ◌+◌, Bool, true, false, cond, List, [], ◌∷◌, ◌++◌, Option, Some, Ok, refl, sym, ap, ◌∙◌, subst}
 use Rattle.std.specs.Prelude.{◌==◌}
 use Rattle.asl_syn.specs.declared.token.Span.{Span}
 use Rattle.asl_syn.specs.declared.code.StaticCode.TheVariants.{T20}
 use Rattle.asl_poly.specs.Terms.{Summand, value}
 use Rattle.asl_poly.specs.Substitute.{map_at, replaced_at}
-use Rattle.asl_core.specs.Faults.{◌>>=◌, ◌>>◌, need, found_or, fitted}
+use Rattle.asl_core.specs.Faults.{found_or}
 use Rattle.asl_core.specs.Tests.{Tests, IsRight}
-use Rattle.asl_core.specs.Types.{Ty, Parts, Widths, no_part, part, kinds, kinds_eq, kind_eq, kind, substitute, misfit}
+use Rattle.asl_core.specs.Types.{Ty, Parts, no_part, part, kinds, kinds_eq, kind_eq, kind, substitute, misfit}
 use Rattle.asl_core.specs.Closed.{Assignment, type_with, width_at}
-use Rattle.asl_core.specs.Values.{Value, int, has}
+use Rattle.asl_core.specs.Values.{Value, has}
 use Rattle.asl_core.specs.Views.{viewed}
 use Rattle.asl_core.specs.Scopes.{Entry, Param, Signature}
 use Rattle.asl_core.specs.WellFormed.{WellFormed, Built}
@@ -32,7 +32,6 @@ use Rattle.asl_core.proofs.OverScope.{IsAtomOf}
 use Rattle.asl_core.proofs.ScopesOver.{type_moved}
 use Rattle.asl_core.proofs.Replacing.{type_replaced}
 use Rattle.asl_core.proofs.OwnFrames.{Follows, HasAll}
-use Rattle.asl_core.proofs.OwnCalls.{GivesCall}
 
 -- parameters have the atoms from m, two by two
 abbrev pub AtomsFrom : ℕ → List Param → Type 0

@@ -1,5 +1,5 @@
 -- What the rules say of the body of a subprogram, in the frame of a call.
-use Rattle.std.proofs.Common.{◌≡◌, ℕ, suc, ◌+◌, ◌<◌, ◌≤◌, Bool, true, false, cond, ◌&&◌, List, [], ◌∷◌, ◌++◌, Option, Some, None, Ok, refl, sym, ap, ◌∙◌, subst, arith, map, append_assoc}
+use Rattle.std.proofs.Common.{◌≡◌, ℕ, suc, ◌<◌, ◌≤◌, Bool, true, false, cond, ◌&&◌, List, [], ◌∷◌, ◌++◌, Option, Some, None, Ok, refl, sym, ap, ◌∙◌, subst, arith, map, append_assoc}
 use Rattle.std.specs.Str.{bytes_eq}
 use Rattle.asl_syn.specs.declared.code.StaticCode.TheVariants.{T17}
 use Rattle.asl_syn.specs.declared.tree.Decl.{Decl}
@@ -7,12 +7,12 @@ use Rattle.asl_syn.specs.declared.tree.Formal.{Formal}
 use Rattle.asl_syn.specs.declared.tree.Func.{Func}
 use Rattle.asl_syn.specs.declared.tree.Param.{Param as WrittenParam}
 use Rattle.asl_core.specs.declared.effect.Effect.TheVariants.{Pure}
-use Rattle.asl_core.specs.Faults.{◌>>=◌, ◌>>◌, need}
+use Rattle.asl_core.specs.Faults.{need}
 use Rattle.asl_core.specs.Tests.{Tests, IsRight}
 use Rattle.asl_core.specs.Types.{Ty, Parts, Kinds, no_part, part, kinds, kinds_eq}
-use Rattle.asl_core.specs.Closed.{Assignment, type_with}
-use Rattle.asl_core.specs.Scopes.{Scope, Entry, Signature, Param, Chosen, next_atom, choose_from, fixed}
-use Rattle.asl_core.specs.Trees.{TreeFunc, Acts}
+use Rattle.asl_core.specs.Closed.{Assignment}
+use Rattle.asl_core.specs.Scopes.{Entry, Signature, Param, Chosen, next_atom, choose_from, fixed}
+use Rattle.asl_core.specs.Trees.{TreeFunc}
 use Rattle.asl_core.specs.Acting.{Listed, in_order}
 use Rattle.asl_core.specs.Stmts.{found_stmt}
 use Rattle.asl_core.specs.Locals.{itself}
@@ -24,17 +24,17 @@ use Rattle.asl_core.proofs.Tests.{some_same, none_some}
 use Rattle.asl_core.proofs.Counting.{no_fewer}
 use Rattle.asl_core.proofs.Omitted.{atoms_last}
 use Rattle.asl_core.proofs.TypesOver.{Over, Never}
-use Rattle.asl_core.proofs.OverScope.{IsAtomOf, SubsOver, NamesOver, ResultOver}
+use Rattle.asl_core.proofs.OverScope.{IsAtomOf, SubsOver, NamesOver}
 use Rattle.asl_core.proofs.ScopesOver.{type_moved, program_over}
-use Rattle.asl_core.proofs.BodiesOver.{AreBelow, params_over, signature_over}
-use Rattle.asl_core.proofs.ScopesKept.{GoodScope, head_scope}
+use Rattle.asl_core.proofs.BodiesOver.{params_over, signature_over}
+use Rattle.asl_core.proofs.ScopesKept.{head_scope}
 use Rattle.asl_core.proofs.Naming.{WellNamed, well_declared}
 use Rattle.asl_core.proofs.WellTyped as well
 use Rattle.asl_core.proofs.WellTyped.{FormedSubs}
 use Rattle.asl_core.proofs.Claims.{FormedResult, result_at}
 use Rattle.asl_core.proofs.TreePlans.{append_nil}
 use Rattle.asl_core.proofs.OwnCalls.{BodyOk}
-use Rattle.asl_core.proofs.OwnChosen.{HeadIs, head_is, head_of}
+use Rattle.asl_core.proofs.OwnChosen.{HeadIs, head_is}
 use Rattle.asl_core.proofs.OwnArguments.{AtomsFrom}
 
 no_less : (m n k : ℕ) → m ≤ n → n ≤ k → m ≤ k

@@ -1,9 +1,9 @@
 -- The subprogram that a run finds for a call is the one that the rules chose, with its judged head and body; and its limit is the judged one.
-use Rattle.std.proofs.Common.{◌≡◌, ℕ, zero, suc, ◌+◌, ℤ, pos, Bool, true, false, cond, ◌&&◌, List, [], ◌∷◌, ◌++◌, Option, Some, None, option_map, Ok, refl, sym, ap, ◌∙◌, subst, arith, map}
+use Rattle.std.proofs.Common.{◌≡◌, ℕ, suc, ◌+◌, ℤ, Bool, true, false, cond, ◌&&◌, List, [], ◌∷◌, ◌++◌, Option, Some, None, option_map, Ok, refl, sym, ap, ◌∙◌, subst, arith}
 use Rattle.std.specs.Prelude.{slice_get}
 use Rattle.std.specs.Str.{bytes_eq}
 use Rattle.asl_syn.specs.declared.token.Span.{Span}
-use Rattle.asl_syn.specs.declared.code.StaticCode.TheVariants.{T02, T04, T05, T19, T20}
+use Rattle.asl_syn.specs.declared.code.StaticCode.TheVariants.{T02, T04, T05, T19}
 use Rattle.asl_syn.specs.declared.tree.Decl.{Decl}
 use Rattle.asl_syn.specs.declared.tree.Expr.{Expr}
 use Rattle.asl_syn.specs.declared.tree.Formal.{Formal}
@@ -12,31 +12,31 @@ use Rattle.asl_syn.specs.declared.tree.Param.{Param as WrittenParam}
 use Rattle.asl_syn.specs.declared.tree.TypeExpr.{TypeExpr}
 use Rattle.asl_poly.specs.Terms.{Polynomial}
 use Rattle.asl_poly.specs.Poly.{constant_map}
-use Rattle.asl_core.specs.Faults.{◌>>=◌, ◌>>◌, need, fault_of}
+use Rattle.asl_core.specs.Faults.{need, fault_of}
 use Rattle.asl_core.specs.Tests.{Tests, IsRight}
-use Rattle.asl_core.specs.Types.{Ty, Parts, Kinds, no_part, part, kind, kinds, kinds_eq, kind_eq, is_integer}
+use Rattle.asl_core.specs.Types.{Ty, Parts, no_part, part, kind, kinds, kinds_eq, kind_eq, is_integer}
 use Rattle.asl_core.specs.Closed.{closed}
 use Rattle.asl_core.specs.Values.{Value, int, bool, bits_with, label, record_with, exception_with, tuple_with, array_with, kind_of}
-use Rattle.asl_core.specs.Scopes.{Counted, Scope, Entry, Signature, Param, Chosen, Storage, Standing, Stored, Subprogram, TypeName, Label, standing_of, type_of_name, type_in, known_value, next_atom, choose_from, fixed, atom_at}
+use Rattle.asl_core.specs.Scopes.{Entry, Signature, Param, Chosen, Standing, Stored, Subprogram, TypeName, Label, standing_of, type_of_name, type_in, known_value, next_atom, choose_from}
 use Rattle.asl_core.specs.Trees.{TreeFunc}
 use Rattle.asl_core.specs.Typing.{Typed}
-use Rattle.asl_core.specs.Widths.{heaviest, weight_of, width_of_known, width_of_counted, width_of_standing, width_of_number}
+use Rattle.asl_core.specs.Widths.{width_of_known, width_of_counted, width_of_standing}
 use Rattle.asl_core.specs.Writing.{Written}
 use Rattle.asl_core.specs.Exprs.{found, written}
 use Rattle.asl_core.specs.Alone.{Polynomials, polynomial}
 use Rattle.asl_core.specs.Declarations.{in_names, evaluated}
 use Rattle.asl_core.specs.Constants.{constant}
-use Rattle.asl_core.specs.Programs.{Head, class_of, params_free, formals_free, params_rule, param_written, param_entry, type_or_itself, formals_rule, result_rule, limit_typed, params_are_integers, limit_rule, as_number, with_formals, signature_rule, signatures_rule, signatures, body_rule, bodies_rule}
+use Rattle.asl_core.specs.Programs.{Head, class_of, params_free, formals_free, params_rule, param_written, param_entry, formals_rule, result_rule, limit_typed, params_are_integers, limit_rule, as_number, with_formals, signature_rule, signatures_rule, signatures, body_rule, bodies_rule}
 use Rattle.asl_core.specs.Numbers.{Numbers, outside}
-use Rattle.asl_core.specs.States.{Binding, Core}
+use Rattle.asl_core.specs.States.{Core}
 use Rattle.asl_core.specs.Agreement.{types_in, no_atoms, GlobalsMatch}
 use Rattle.asl_core.specs.Plans.{Faulted, Stuck, Pure as PureOf, Good, Bad}
 use Rattle.asl_core.specs.Pures as pures
 use Rattle.asl_core.specs.ByNames.{types_among}
 use Rattle.asl_core.specs.Written.{kind_written}
-use Rattle.asl_core.specs.Evaluation.{Numbered, width_over, takes, is_kind, overload, limit_of, limit_in}
+use Rattle.asl_core.specs.Evaluation.{width_over, takes, is_kind, overload, limit_of, limit_in}
 use Rattle.asl_core.proofs.Inversions.{ok_ok, err_ok, bind_ok, then_ok}
-use Rattle.asl_core.proofs.Tests.{no, some_same, none_some}
+use Rattle.asl_core.proofs.Tests.{some_same, none_some}
 use Rattle.asl_core.proofs.Lookups.{before_is, behind}
 use Rattle.asl_core.proofs.Naming.{WellNamed}
 use Rattle.asl_core.proofs.ExprForms.{env}
@@ -137,7 +137,7 @@ type_back names e n T i h = by (standing_of n names) refl
     by None q = last (bytes_eq e.name n) (sym (ap type_in (behind names (e ∷ []) n q)) ∙ h)
     by (Some st) q = ap type_in q ∙ sym (ap type_in (before_is names (e ∷ []) n st q)) ∙ h
 
-types_back : (t : Tests) (ps : List WrittenParam) (pre : List Param) (names : List Entry) (r : List Param × List Entry) (n : List ℕ) (T : Ty) → params_rule t ps pre names ≡ Ok r → type_of_name n r.1 ≡ Some T → type_of_name n names ≡ Some T
+pub types_back : (t : Tests) (ps : List WrittenParam) (pre : List Param) (names : List Entry) (r : List Param × List Entry) (n : List ℕ) (T : Ty) → params_rule t ps pre names ≡ Ok r → type_of_name n r.1 ≡ Some T → type_of_name n names ≡ Some T
 types_back t [] pre names r n T h k = subst (λ (z : List Param × List Entry). type_of_name n z.1 ≡ Some T) (sym (ok_ok (pre, names) r h)) k
 types_back t (p ∷ ps) pre names r n T h k =
     let v = bind_ok (param_written t p.ty names) _ r h in

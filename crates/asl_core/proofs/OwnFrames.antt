@@ -6,17 +6,14 @@ use Rattle.asl_syn.specs.declared.token.Span.{Span}
 use Rattle.asl_syn.specs.declared.code.StaticCode.TheVariants.{T01}
 use Rattle.asl_syn.specs.declared.tree.Decl.{Decl}
 use Rattle.asl_syn.specs.declared.tree.Formal.{Formal}
-use Rattle.asl_syn.specs.declared.tree.TypeExpr.{TypeExpr}
-use Rattle.asl_syn.specs.declared.tree.Param.{Param as WrittenParam}
-use Rattle.asl_poly.specs.Poly.{atom_map}
-use Rattle.asl_core.specs.Faults.{◌>>=◌, ◌>>◌, need}
+use Rattle.asl_core.specs.Faults.{need}
 use Rattle.asl_core.specs.Tests.{Tests, IsRight}
-use Rattle.asl_core.specs.Types.{Ty, Parts, no_part, part, kind, integers, is_integer, only_width, integer_of}
+use Rattle.asl_core.specs.Types.{Ty, Parts, no_part, part, kind, integers, is_integer}
 use Rattle.asl_core.specs.Closed as cl
 use Rattle.asl_core.specs.Closed.{Assignment, Closed, type_with, width_at}
-use Rattle.asl_core.specs.Values.{Value, int, bool, bits_with, label, record_with, exception_with, tuple_with, array_with, has}
+use Rattle.asl_core.specs.Values.{Value, int, bool, bits_with, label, record_with, exception_with, tuple_with, array_with}
 use Rattle.asl_core.specs.Views.{viewed}
-use Rattle.asl_core.specs.Scopes.{Counted, Scope, Entry, Signature, Param, Storage, Standing, Stored, Subprogram, TypeName, Label, fixed, atom_at, next_atom, standing_of, is_free, is_absent}
+use Rattle.asl_core.specs.Scopes.{Counted, Entry, Signature, Standing, fixed, atom_at, next_atom, standing_of, is_free, is_absent}
 use Rattle.asl_core.specs.WellFormed.{WellFormed, Built}
 use Rattle.asl_core.specs.Trees.{TreeFunc}
 use Rattle.asl_core.specs.Members.{has_name}
@@ -24,20 +21,20 @@ use Rattle.asl_core.specs.Locals.{itself}
 use Rattle.asl_core.specs.Writing.{Written}
 use Rattle.asl_core.specs.Exprs.{written}
 use Rattle.asl_core.specs.Declarations.{in_names}
-use Rattle.asl_core.specs.Programs.{formals_free, formals_rule, with_formals, types_in as list_types, param_written, type_or_itself, param_entry, params_rule, params_free}
-use Rattle.asl_core.specs.Numbers.{Numbers, present}
-use Rattle.asl_core.specs.States.{of_type, of_value, Core, kept}
-use Rattle.asl_core.specs.Belonging.{InType, has_type}
+use Rattle.asl_core.specs.Programs.{formals_free, formals_rule, with_formals, types_in as list_types}
+use Rattle.asl_core.specs.Numbers.{Numbers}
+use Rattle.asl_core.specs.States.{of_type, Core}
+use Rattle.asl_core.specs.Belonging.{has_type}
 use Rattle.asl_core.specs.Agreement.{types_in, CountsAs, Agrees}
-use Rattle.asl_core.specs.Plans.{Pure as PureOf, Good, Bad}
+use Rattle.asl_core.specs.Plans.{Pure as PureOf, Good}
 use Rattle.asl_core.specs.Pures as pures
 use Rattle.asl_core.specs.Pures.{there}
 use Rattle.asl_core.specs.ByPlace.{seen_as}
 use Rattle.asl_core.specs.Evaluation.{declare, declared, type_at, type_under, formals_bound}
-use Rattle.asl_core.specs.TypedMeaning.{BareCore, with_next, formals_seen}
+use Rattle.asl_core.specs.TypedMeaning.{with_next, formals_seen}
 use Rattle.asl_core.specs.Erasure.{erased}
 use Rattle.asl_core.proofs.Inversions.{ok_ok, bind_ok, then_ok, need_ok}
-use Rattle.asl_core.proofs.Tests.{no, both, some_same}
+use Rattle.asl_core.proofs.Tests.{no, both}
 use Rattle.asl_core.proofs.SameKind.{equal_kinds}
 use Rattle.asl_core.proofs.OfType.{of_integers}
 use Rattle.asl_core.proofs.Viewing.{viewed_has, viewed_twice}

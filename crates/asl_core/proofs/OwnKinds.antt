@@ -1,5 +1,5 @@
 -- The kind of a written type, as a run finds it, is that of the type that was judged.
-use Rattle.std.proofs.Common.{◌≡◌, ℕ, ℤ, pos, negsuc, Bool, List, [], ◌∷◌, Option, Some, None, option_map, Ok, refl, sym, ap, ◌∙◌, subst, map}
+use Rattle.std.proofs.Common.{◌≡◌, ℕ, ℤ, pos, negsuc, Bool, List, [], ◌∷◌, Option, Some, option_map, Ok, refl, sym, ap, ◌∙◌, subst, map}
 use Rattle.std.specs.Prelude.{option_and_then, nat_le, length}
 use Rattle.asl_syn.specs.declared.token.Span.{Span}
 use Rattle.asl_syn.specs.declared.code.StaticCode.TheVariants.{T02, T19, T20}
@@ -16,7 +16,7 @@ use Rattle.asl_syn.specs.Layers.{TypeLayer}
 use Rattle.asl_poly.specs.Poly.{constant_value}
 use Rattle.asl_core.specs.Faults.{need, found_or, fault_of}
 use Rattle.asl_core.specs.Tests.{Tests}
-use Rattle.asl_core.specs.Types.{Ty, Kind, Kinds, integer_of, boolean, bits_of, tuple_of, array_of, kind, kinds, bits_wide, integers, booleans, bitvectors, tuples, arrays, no_kind, one_more}
+use Rattle.asl_core.specs.Types.{Ty, Kind, integer_of, boolean, bits_of, tuple_of, array_of, kind, kinds, bits_wide, integers, booleans, bitvectors, tuples, one_more}
 use Rattle.asl_core.specs.Closed.{closed, kind_at}
 use Rattle.asl_core.specs.Scopes.{Scope, type_of_name}
 use Rattle.asl_core.specs.Widths.{bounded, length_of}
@@ -27,7 +27,7 @@ use Rattle.asl_core.specs.Typing.{Found, Width}
 use Rattle.asl_core.specs.Slicing.{FoundSlice}
 use Rattle.asl_core.specs.Patterns.{FoundPattern}
 use Rattle.asl_core.specs.Writing.{FoundPart, FoundBitfield, Written, FoundType, written_as, all_parts, parts_written, part_shapes, part_trees, most_parts, all_fields, field_shapes, field_trees, view_rule, within_limits, types_in_order, types_written, type_shapes, all_sizes}
-use Rattle.asl_core.specs.Exprs.{FoundField, found, found_type, width, written, written_rule, expr_rule, given_rule, slice_rule, part_rule, bitfield_rule, type_rule, pattern_rule}
+use Rattle.asl_core.specs.Exprs.{FoundField, found_type, width, written, written_rule, expr_rule, given_rule, slice_rule, part_rule, bitfield_rule, type_rule, pattern_rule}
 use Rattle.asl_core.specs.Written.{kinds_first, all_kinds, array_kind, kind_layer, kind_written}
 use Rattle.asl_core.proofs.Inversions.{ok_ok, err_ok, bind_ok, then_ok, found_ok}
 use Rattle.asl_core.proofs.KindOf.{kind_same}

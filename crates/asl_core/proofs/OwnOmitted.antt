@@ -1,5 +1,5 @@
 -- A parameter that is omitted: a run and the typed tree take the same width of the same argument, which is the one that the rules take.
-use Rattle.std.proofs.Common.{◌≡◌, ℕ, suc, ◌+◌, ℤ, pos, Bool, true, false, cond, ◌&&◌, List, [], ◌∷◌, length, Option, Some, None, Ok, refl, sym, ap, ◌∙◌, subst, arith}
+use Rattle.std.proofs.Common.{◌≡◌, ℕ, suc, ◌+◌, Bool, true, false, cond, List, [], ◌∷◌, length, Option, Some, Ok, refl, sym, ap, ◌∙◌, subst, arith}
 use Rattle.std.specs.Prelude.{slice_get, option_and_then}
 use Rattle.asl_syn.specs.declared.tree.Expr.{Expr}
 use Rattle.asl_syn.specs.declared.tree.Formal.{Formal}
@@ -12,7 +12,7 @@ use Rattle.asl_core.specs.Plans.{Good}
 use Rattle.asl_core.specs.Pures as pures
 use Rattle.asl_core.specs.TypedMeaning as bare
 use Rattle.asl_core.specs.Tests.{Tests, IsRight}
-use Rattle.asl_core.specs.Types.{Ty, Parts, no_part, part, kind, kinds, kind_eq, kinds_eq, bitvectors, is_bits, width_of, integer_of, boolean, bits_of, enumeration_of, record_of, exception_of, tuple_of, array_of, named}
+use Rattle.asl_core.specs.Types.{Ty, Parts, no_part, part, kind, kinds, kind_eq, kinds_eq, bitvectors, width_of, integer_of, boolean, bits_of, enumeration_of, record_of, exception_of, tuple_of, array_of, named}
 use Rattle.asl_core.specs.Closed.{Assignment, width_at}
 use Rattle.asl_core.specs.Values.{Value, int}
 use Rattle.asl_core.specs.Scopes.{Entry, Param, type_of_name}
@@ -46,6 +46,13 @@ alone_bits n (exception_of name fs) h = no h
 alone_bits n (tuple_of ts) h = no h
 alone_bits n (array_of k T) h = no h
 alone_bits n (named name supers T) h = no h
+
+-- as many parameters as are written
+abbrev pub AsMany : List WrittenParam → List Param → Type 0
+AsMany [] [] = Unit {0}
+AsMany [] (q ∷ qs) = ⊥
+AsMany (v ∷ vs) [] = ⊥
+AsMany (v ∷ vs) (q ∷ qs) = AsMany vs qs
 
 module _ (tests : Tests) (right : IsRight tests) (d : List ℕ → Option Ty) (a : Assignment) (p : Polynomials) (over : List Entry) (widths : (e : Expr) (w : Width) → width tests e (in_names over) ≡ Ok w → polynomial e p ≡ Some w.poly) (fixed : (name : List ℕ) (T : Ty) → type_of_name name over ≡ Some T → Over Never T) where
   -- the width that an argument gives
@@ -93,12 +100,6 @@ module _ (tests : Tests) (right : IsRight tests) (d : List ℕ → Option Ty) (a
       (λ y. given_same n (suc k) gs R.value os xs all r R.first q2.1 i.1 (λ m. at (suc m) ∙ ap (slice_get all) (suc_on m k)) y)
 
   -- ---- all parameters of a call without braces
-
-  abbrev pub AsMany : List WrittenParam → List Param → Type 0
-  AsMany [] [] = Unit {0}
-  AsMany [] (q ∷ qs) = ⊥
-  AsMany (v ∷ vs) [] = ⊥
-  AsMany (v ∷ vs) (q ∷ qs) = AsMany vs qs
 
   pub record OmittedSo (span : Span) (n : ℕ) (vs : List WrittenParam) (qs : List Param) (gs : List Formal) (xs : List Value) (r : Replacing) : Type 0 where
     pub values : List Value

@@ -1,5 +1,5 @@
 -- A call enters a frame that agrees with the names of the body: the parameters, each over those before it, the formals behind them, and the result over the parameters.
-use Rattle.std.proofs.Common.{◌≡◌, ℕ, zero, suc, ◌+◌, ℤ, pos, Bool, true, false, cond, not, ◌&&◌, List, [], ◌∷◌, ◌++◌, Option, Some, None, Ok, refl, sym, ap, ◌∙◌, subst, arith, append_assoc}
+use Rattle.std.proofs.Common.{◌≡◌, ℕ, ◌+◌, ℤ, Bool, true, false, cond, not, ◌&&◌, List, [], ◌∷◌, ◌++◌, Option, Some, None, Ok, refl, sym, ap, ◌∙◌, subst, arith, append_assoc}
 use Rattle.std.specs.Str.{bytes_eq}
 use Rattle.asl_syn.specs.declared.token.Span.{Span}
 use Rattle.asl_syn.specs.declared.code.StaticCode.TheVariants.{T01}
@@ -8,28 +8,25 @@ use Rattle.asl_syn.specs.declared.tree.Func.{Func}
 use Rattle.asl_syn.specs.declared.tree.TypeExpr.{TypeExpr}
 use Rattle.asl_syn.specs.declared.tree.Param.{Param as WrittenParam}
 use Rattle.asl_poly.specs.Poly.{atom_map}
-use Rattle.asl_core.specs.Faults.{◌>>=◌, ◌>>◌, need}
+use Rattle.asl_core.specs.Faults.{need}
 use Rattle.asl_core.specs.Tests.{Tests, IsRight}
-use Rattle.asl_core.specs.Types.{Ty, Parts, only_width, integer_of}
+use Rattle.asl_core.specs.Types.{Ty, Parts, only_width}
 use Rattle.asl_core.specs.Closed.{Assignment, type_with, width_at}
 use Rattle.asl_core.specs.Values.{Value, int}
-use Rattle.asl_core.specs.Views.{viewed}
-use Rattle.asl_core.specs.Scopes.{Counted, Scope, Entry, Signature, Param, Storage, Standing, Stored, Subprogram, TypeName, Label, fixed, atom_at, next_atom, standing_of, is_free}
-use Rattle.asl_core.specs.WellFormed.{WellFormed, Built}
+use Rattle.asl_core.specs.Scopes.{Counted, Entry, Signature, Param, Storage, Standing, Stored, Subprogram, TypeName, Label, fixed, atom_at, next_atom, standing_of, is_free}
+use Rattle.asl_core.specs.WellFormed.{WellFormed}
 use Rattle.asl_core.specs.Trees.{TreeFunc}
 use Rattle.asl_core.specs.Members.{has_name}
-use Rattle.asl_core.specs.Writing.{Written}
 use Rattle.asl_core.specs.Exprs.{written}
 use Rattle.asl_core.specs.Declarations.{in_names}
 use Rattle.asl_core.specs.Programs.{formals_free, formals_rule, with_formals, types_in as list_types, param_written, type_or_itself, param_entry, params_rule, params_free, result_rule}
-use Rattle.asl_core.specs.Numbers.{Numbers, present}
+use Rattle.asl_core.specs.Numbers.{present}
 use Rattle.asl_core.specs.States.{of_type, of_value, Core, entered}
 use Rattle.asl_core.specs.Belonging.{InType, has_type}
-use Rattle.asl_core.specs.Agreement.{types_in, no_atoms, CountsAs, Agrees, GlobalsMatch, AllMatch, global_matches, AllWait}
-use Rattle.asl_core.specs.Plans.{Pure as PureOf, Good, Bad}
+use Rattle.asl_core.specs.Agreement.{types_in, Agrees, GlobalsMatch, AllMatch, global_matches}
+use Rattle.asl_core.specs.Plans.{Pure as PureOf, Good}
 use Rattle.asl_core.specs.Pures as pures
-use Rattle.asl_core.specs.ByPlace.{seen_as}
-use Rattle.asl_core.specs.Evaluation.{declare, declared, type_at, type_under, param_under, params_bound, formals_bound, Entering, entering, under_written, result_at as keeps_at}
+use Rattle.asl_core.specs.Evaluation.{declare, declared, type_under, param_under, params_bound, formals_bound, Entering, entering, under_written, result_at as keeps_at}
 use Rattle.asl_core.specs.TypedMeaning as bare
 use Rattle.asl_core.specs.TypedMeaning.{BareCore, with_next, formals_seen}
 use Rattle.asl_core.specs.Erasure.{erased}
@@ -48,7 +45,7 @@ use Rattle.asl_core.proofs.ExprForms.{env}
 use Rattle.asl_core.proofs.PresentNumbers.{CountedFixed, present_agree}
 use Rattle.asl_core.proofs.PresentTypes.{type_present}
 use Rattle.asl_core.proofs.OwnCalls.{seen_by}
-use Rattle.asl_core.proofs.OwnFrames.{integers_of, Follows, follows, viewed_int, Taken, taken_more, Next, declare_next, HasAll, Bound, formals_good}
+use Rattle.asl_core.proofs.OwnFrames.{integers_of, Follows, follows, viewed_int, Taken, taken_more, Next, declare_next, HasAll, formals_good}
 
 -- ---- names that count in widths can't be assigned
 
@@ -93,7 +90,7 @@ split_follows : (a : Assignment) (m : ℕ) (x : Value) (xs ys : List Value) → 
 split_follows a m x xs ys h = h.1
 
 module _ (tests : Tests) (right : IsRight tests) (ds : List Decl) (base : List Entry) (subs : List Signature) (funcs : List TreeFunc) (w : WellNamed base) where
-  abbrev HasOption : Assignment → Option Ty → Value → Type 0
+  abbrev pub HasOption : Assignment → Option Ty → Value → Type 0
   HasOption av None x = Unit {0}
   HasOption av (Some T) x = has_type av x T ≡ true
 

@@ -1,5 +1,5 @@
 -- A formal is written as the width of a parameter alone, for a run, just where its type is that for the rules.
-use Rattle.std.proofs.Common.{◌≡◌, ℕ, ℤ, pos, negsuc, Bool, true, false, ◌&&◌, List, [], ◌∷◌, Option, Some, None, Ok, refl, sym, ap, ◌∙◌, subst, map}
+use Rattle.std.proofs.Common.{◌≡◌, ℕ, pos, Bool, true, false, ◌&&◌, List, [], ◌∷◌, Some, Ok, refl, sym, ap, ◌∙◌, subst, map}
 use Rattle.std.specs.Prelude.{nat_le, length}
 use Rattle.asl_syn.specs.declared.code.StaticCode.TheVariants.{T02, T19, T20}
 use Rattle.asl_syn.specs.declared.tree.Expr.{Expr}
@@ -23,7 +23,7 @@ use Rattle.asl_core.specs.Slicing.{FoundSlice}
 use Rattle.asl_core.specs.Patterns.{FoundPattern}
 use Rattle.asl_core.specs.Calls as rules
 use Rattle.asl_core.specs.Writing.{FoundPart, FoundBitfield, Written, FoundType, written_as, all_parts, parts_written, part_shapes, part_trees, most_parts, all_fields, field_shapes, field_trees, view_rule, within_limits, types_in_order, types_written, type_shapes, all_sizes}
-use Rattle.asl_core.specs.Exprs.{FoundField, found, found_type, width, written, written_rule, expr_rule, given_rule, slice_rule, part_rule, bitfield_rule, type_rule, pattern_rule}
+use Rattle.asl_core.specs.Exprs.{FoundField, found_type, width, written, written_rule, expr_rule, given_rule, slice_rule, part_rule, bitfield_rule, type_rule, pattern_rule}
 use Rattle.asl_core.specs.Evaluation as runs
 use Rattle.asl_core.proofs.Inversions.{ok_ok, bind_ok, then_ok, found_ok}
 use Rattle.asl_core.proofs.WidthAtoms.{constant_good}

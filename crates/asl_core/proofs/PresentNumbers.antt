@@ -1,32 +1,31 @@
 -- In a state that agrees with a scope, a width expression has the number of its polynomial, and a number its own: what a run takes for the expressions of a type that
 -- is written at a place.
-use Rattle.std.proofs.Common.{◌≡◌, ℕ, ℤ, pos, Bool, true, false, cond, List, [], ◌∷◌, ◌++◌, Option, Some, None, option_map, Ok, refl, sym, ap, ◌∙◌, subst}
-use Rattle.std.specs.Prelude.{option_and_then, ◌-ℤ◌}
+use Rattle.std.proofs.Common.{◌≡◌, ℕ, ℤ, pos, Bool, true, false, cond, List, [], ◌∷◌, Option, Some, None, Ok, refl, sym, ap, ◌∙◌, subst}
+use Rattle.std.specs.Prelude.{◌-ℤ◌}
 use Rattle.std.specs.Str.{bytes_eq}
 use Rattle.asl_syn.specs.declared.token.Span.{Span}
 use Rattle.asl_syn.specs.declared.code.StaticCode.TheVariants.{T02, T05, T19}
 use Rattle.asl_syn.specs.declared.tree.Expr.{Expr}
-use Rattle.asl_syn.specs.declared.tree.TypeExpr.{TypeExpr}
 use Rattle.asl_syn.specs.declared.tree.Bitfield.TheOpen as ex
 use Rattle.asl_syn.specs.declared.tree.UnaryOperator.TheVariants as unary
 use Rattle.asl_poly.specs.Terms.{Polynomial, value}
 use Rattle.asl_poly.specs.Poly.{constant_map, constant_value}
 use Rattle.asl_cons.proofs.Covering.{value_constant_map}
 use Rattle.asl_core.specs.Faults.{need, found_or, fault_of}
-use Rattle.asl_core.specs.Tests.{Tests, IsRight}
+use Rattle.asl_core.specs.Tests.{Tests}
 use Rattle.asl_core.specs.Types.{Ty, is_integer}
 use Rattle.asl_core.specs.Closed.{Assignment, width_at}
 use Rattle.asl_core.specs.Values.{Value, int, bool, bits_with, label, record_with, exception_with, tuple_with, array_with}
-use Rattle.asl_core.specs.Scopes.{Counted, Scope, Entry, Signature, Storage, Standing, Stored, Subprogram, TypeName, Label, standing_of, known_value}
-use Rattle.asl_core.specs.Widths.{width_of_known, width_of_counted, width_of_storage, width_of_standing, number_of_known, number_of_counted, number_of_storage, number_of_standing}
+use Rattle.asl_core.specs.Scopes.{Counted, Scope, Entry, Storage, Standing, Stored, Subprogram, TypeName, Label, standing_of, known_value}
+use Rattle.asl_core.specs.Widths.{width_of_counted, width_of_standing, number_of_counted, number_of_standing}
 use Rattle.asl_core.specs.Typing.{Width, Number}
 use Rattle.asl_core.specs.Exprs.{found, width}
-use Rattle.asl_core.specs.Numbers.{Numbers, number, integer_of_value, fixed_number, number_among, or_number, present, outside}
+use Rattle.asl_core.specs.Numbers.{Numbers, number, integer_of_value, fixed_number, number_among, or_number, present}
 use Rattle.asl_core.specs.States.{Binding, Core}
-use Rattle.asl_core.specs.Agreement.{types_in, no_atoms, IsKnown, CountsAs, Holds, HoldsGlobal, global_matches, AllMatch, local_matches, FrameMatches, AllFresh, GlobalsMatch, Agrees}
+use Rattle.asl_core.specs.Agreement.{types_in, IsKnown, CountsAs, global_matches, AllMatch, local_matches, FrameMatches, GlobalsMatch, Agrees}
 use Rattle.asl_core.specs.Evaluation.{value_of}
 use Rattle.asl_core.proofs.Inversions.{ok_ok, err_ok, then_ok, found_ok}
-use Rattle.asl_core.proofs.Tests.{no, some_same, some_none, none_some}
+use Rattle.asl_core.proofs.Tests.{some_same, some_none, none_some}
 use Rattle.asl_core.proofs.WidthForms.{unless_ok, WidthForms, NumberForms, by_width_forms, by_number_forms}
 use Rattle.asl_core.proofs.WorthForms.{number_roll, number_of_one, number_of_two}
 use Rattle.asl_core.proofs.WidthsWorth.{number_is, difference_is, binary_is}

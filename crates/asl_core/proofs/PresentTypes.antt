@@ -1,11 +1,10 @@
 -- In a state that agrees with a scope, a type that is written at a place is the type that was judged, at the integers of the state.
-use Rattle.std.proofs.Common.{◌≡◌, ℕ, ℤ, Bool, List, [], ◌∷◌, ◌++◌, Option, Some, None, option_map, Ok, refl, sym, ap, ◌∙◌, subst}
+use Rattle.std.proofs.Common.{◌≡◌, ℤ, Bool, List, [], ◌∷◌, Some, option_map, Ok, refl, sym, ap, ◌∙◌}
 use Rattle.std.specs.Prelude.{option_and_then}
 use Rattle.asl_syn.specs.declared.tree.Expr.{Expr}
 use Rattle.asl_syn.specs.declared.tree.TypeExpr.{TypeExpr}
 use Rattle.asl_syn.specs.declared.tree.Decl.{Decl}
 use Rattle.asl_core.specs.Tests.{Tests, IsRight}
-use Rattle.asl_core.specs.Types.{Ty}
 use Rattle.asl_core.specs.Closed.{Assignment, width_at, type_with}
 use Rattle.asl_core.specs.Values.{Value, int}
 use Rattle.asl_core.specs.Scopes.{Scope, Entry, Signature}
@@ -15,7 +14,6 @@ use Rattle.asl_core.specs.Exprs.{written}
 use Rattle.asl_core.specs.Numbers.{Numbers, number, number_first, all_numbers, present}
 use Rattle.asl_core.specs.Shaped.{type_parts}
 use Rattle.asl_core.specs.States.{Core}
-use Rattle.asl_core.specs.Declarations.{in_names}
 use Rattle.asl_core.specs.Agreement.{types_in, Agrees}
 use Rattle.asl_core.specs.Written.{filled, sized, type_of_sized, type_span}
 use Rattle.asl_core.specs.Evaluation.{type_at, sized_at}

@@ -1,5 +1,5 @@
 -- What the subprograms of the library give belongs to their types, where their parameters are widths and their arguments have types of the kinds that they take.
-use Rattle.std.proofs.Common.{◌≡◌, ℕ, zero, suc, ◌+◌, ◌-◌, ◌^◌, ◌≤◌, ℤ, pos, negsuc, inr, inl, ◌&&◌, cond, Bool, true, false, List, [], ◌∷◌, ◌++◌, length, replicate, Option, Some, None, refl, sym, ap, ◌∙◌, subst, arith}
+use Rattle.std.proofs.Common.{◌≡◌, ℕ, suc, ◌+◌, ◌-◌, ◌^◌, ◌≤◌, ℤ, pos, negsuc, inl, ◌&&◌, cond, Bool, true, false, List, [], ◌∷◌, length, replicate, Option, Some, None, refl, sym, ap, ◌∙◌, subst, arith}
 use Rattle.std.specs.Prelude.{◌==◌, ◌≤ℤ◌, neg_ℤ, nat_le}
 use Rattle.std.proofs.lemmas.List.{length-append, length-replicate}
 use Rattle.std.proofs.lemmas.Int.{ints}
@@ -9,23 +9,21 @@ use Rattle.asl_syn.specs.declared.code.DynCode.TheVariants.{D08}
 use Rattle.asl_bits.specs.Lists.{bits_value, signed_value, extension_of, top_bit}
 use Rattle.asl_poly.specs.Terms.{Polynomial}
 use Rattle.asl_poly.specs.Poly.{constant_value}
-use Rattle.asl_cons.specs.declared.Part.{Part}
 use Rattle.asl_cons.specs.Arithmetic.{shown}
 use Rattle.asl_core.specs.Routines.{Routine, UInt, SInt, Zeros, Ones, ZeroExtend, SignExtend, IsZero, IsOnes, Len, Abs, Min, Max}
 use Rattle.asl_core.specs.Tests.{Tests, IsRight}
-use Rattle.asl_core.specs.Types.{Ty, Parts, Kinds, kind, kinds, kind_eq, kinds_eq, integers, bitvectors, no_kind, one_more, integer_of, boolean, bits_of, no_part, part, is_bits, is_integer, width_of, only_width, from_to}
-use Rattle.asl_core.specs.Closed.{Assignment, width_at, not_above, in_one, in_some, end_at, ranges_at, constraint_at, is_in}
+use Rattle.asl_core.specs.Types.{Ty, Parts, kind, kinds, kind_eq, kinds_eq, integers, bitvectors, no_kind, one_more, integer_of, bits_of, no_part, part, is_bits, is_integer, width_of, only_width, from_to}
+use Rattle.asl_core.specs.Closed.{Assignment, width_at, not_above, in_one, end_at, constraint_at, is_in}
 use Rattle.asl_core.specs.Calls.{routine_params, routine_formals, routine_type, unsigned, signed, of_bits, of_integer}
-use Rattle.asl_core.specs.Values.{Value, int, bool, bits_with, is_width}
+use Rattle.asl_core.specs.Values.{Value, int, bits_with}
 use Rattle.asl_core.specs.Belonging.{InType}
-use Rattle.asl_core.specs.Plans.{Faulted, Pure, Good, Bad}
-use Rattle.asl_core.specs.Pures.{◌>>=◌}
+use Rattle.asl_core.specs.Plans.{Faulted, Good, Bad}
 use Rattle.asl_core.specs.Operators.{plain_bits}
 use Rattle.asl_core.specs.Vectors.{width_of as tested_width}
-use Rattle.asl_core.specs.Library.{all_equal, copies, extended, absolute, lesser, greater, routine_value}
+use Rattle.asl_core.specs.Library.{copies, extended, absolute, lesser, greater, routine_value}
 use Rattle.asl_core.proofs.Tests.{no, both, and_true, or_first}
 use Rattle.asl_cons.proofs.Results.{constant_is}
-use Rattle.asl_core.proofs.SameKind.{equal_kinds, number_is}
+use Rattle.asl_core.proofs.SameKind.{equal_kinds}
 use Rattle.asl_core.proofs.Viewing.{width_is}
 use Rattle.asl_core.proofs.Constrained.{is_not_above, in_is_in, is_in_in, shown_is}
 use Rattle.asl_core.proofs.OperatorForms.{Gives, is_int, is_bitvector, integer_gives}

@@ -1,7 +1,6 @@
 -- Several claims of one node at once: where each of them holds at its entry, all of them hold of what it gives and throws; the others may speak of other typed
 -- trees of the same node.
-use Rattle.std.proofs.Common.{◌≡◌, refl}
-use Rattle.asl_syn.specs.declared.token.Span.{Span}
+use Rattle.std.proofs.Common.{◌≡◌}
 use Rattle.asl_core.specs.Values.{Value, Exit}
 use Rattle.asl_core.specs.Plans.{Faulted, Plan, Ret, Raise, Stop, Eval, Exec, Put, Within, Nodes}
 use Rattle.asl_core.proofs.Twins.{Claims, Twins, Forms, twins_weaker}

@@ -1,8 +1,7 @@
 -- Written types with their typed trees: the expressions in them are the same, in order, and with their values the type is the one that was judged.
-use Rattle.std.proofs.Common.{◌≡◌, ℕ, ℤ, pos, negsuc, ◌&&◌, ◌||◌, cond, Bool, true, false, List, [], ◌∷◌, ◌++◌, length, Option, Some, None, option_map, Result, Ok, refl, sym, ap, ◌∙◌, subst, map, append_assoc}
+use Rattle.std.proofs.Common.{◌≡◌, ℕ, ℤ, pos, negsuc, ◌&&◌, ◌||◌, cond, Bool, true, false, List, [], ◌∷◌, ◌++◌, length, Option, Some, None, option_map, Ok, refl, sym, ap, ◌∙◌, subst, map, append_assoc}
 use Rattle.std.specs.Prelude.{nat_le, nat_lt, option_and_then}
 use Rattle.asl_syn.specs.declared.token.Span.{Span}
-use Rattle.asl_syn.specs.declared.code.Fault.{Fault}
 use Rattle.asl_syn.specs.declared.code.StaticCode.TheVariants.{T02, T15, T16, T19, T20}
 use Rattle.asl_syn.specs.declared.tree.Ident.{Ident}
 use Rattle.asl_syn.specs.declared.tree.Bitfield.{Bitfield, out-Bitfield}
@@ -16,18 +15,18 @@ use Rattle.asl_syn.specs.declared.tree.Bitfield.TheOpen as ex
 use Rattle.asl_syn.specs.declared.tree.Bitfield.TheFolds.{fold_out-Bitfield, fold_out-ConstraintPart, fold-roll-TypeExpr, para-roll-TypeExpr, map-TypeExpr, ind-TypeExpr}
 use Rattle.asl_syn.specs.Layers.{TypeLayer}
 use Rattle.asl_poly.specs.Terms.{Polynomial}
-use Rattle.asl_poly.specs.Poly.{constant_value, constant_map}
+use Rattle.asl_poly.specs.Poly.{constant_value}
 use Rattle.asl_cons.proofs.Covering.{value_constant_map}
 use Rattle.asl_cons.specs.declared.Part.{Part}
 use Rattle.asl_cons.specs.Arithmetic as cons
 use Rattle.asl_core.specs.Faults.{need, found_or, fault_of}
-use Rattle.asl_core.specs.Plans.{Good, Bad}
+use Rattle.asl_core.specs.Plans.{Good}
 use Rattle.asl_core.specs.Pures.{◌>>=◌}
 use Rattle.asl_core.specs.Tests.{Tests, IsRight}
-use Rattle.asl_core.specs.Types.{Ty, Parts, View, BitField, integer_of, boolean, bits_of, tuple_of, array_of, no_part, part, kind, bits_wide}
+use Rattle.asl_core.specs.Types.{Ty, Parts, View, BitField, integer_of, boolean, bits_of, tuple_of, array_of, bits_wide}
 use Rattle.asl_core.specs.Closed as cl
 use Rattle.asl_core.specs.Closed.{Assignment, Closed, ClosedParts, Range, width_at, end_at, ranges_at, constraint_at, type_with, parts_with, closed, kind_at, first_in}
-use Rattle.asl_core.specs.Scopes.{Scope, Entry, Signature, type_of_name}
+use Rattle.asl_core.specs.Scopes.{Entry, Signature, type_of_name}
 use Rattle.asl_core.specs.WellFormed.{Fixed}
 use Rattle.asl_core.specs.Widths.{bounded, length_of}
 use Rattle.asl_core.specs.Shapes as shapes
@@ -35,7 +34,7 @@ use Rattle.asl_core.specs.Shapes.{PartShape, BitfieldShape, TypeShape, TypeShape
 use Rattle.asl_core.specs.Shaped as shaped
 use Rattle.asl_core.specs.Shaped.{Shaped, Named, TypeOver, Unread, part_layer, bitfield_layer, type_layer, itself, bitfield_parts, range_parts, type_parts, exprs_in, shapes_in, first_shape}
 use Rattle.asl_core.specs.Trees.{Tree}
-use Rattle.asl_core.specs.Typing.{Found, Width, Number}
+use Rattle.asl_core.specs.Typing.{Found}
 use Rattle.asl_core.specs.Slicing.{FoundSlice}
 use Rattle.asl_core.specs.Patterns.{FoundPattern}
 use Rattle.asl_cons.specs.declared.End.TheVariants.{Int}
@@ -52,9 +51,8 @@ use Rattle.asl_cons.proofs.Results.{constant_is}
 use Rattle.asl_core.proofs.Opening.{found_part, found_bitfield, part_opened, bitfield_opened, type_opened, bounded_ok}
 use Rattle.asl_core.proofs.Claims.{Here, Asked, of_type, of_pure, of_width, of_number, of_known, GivesAsked}
 use Rattle.asl_core.proofs.TreePlans.{AllAsked, AllGive}
-use Rattle.asl_core.proofs.MatchForms.{Split, split, asks_both, one_value, two_values, one_first}
+use Rattle.asl_core.proofs.MatchForms.{split, asks_both, one_value, two_values, one_first}
 use Rattle.asl_core.proofs.KindOf.{kind_same}
-use Rattle.asl_core.proofs.WidthTrees.{int_same}
 
 abbrev own_expr : Expr × Unread → Expr
 own_expr e = e.0

@@ -1,9 +1,9 @@
 -- Slices with their typed trees: the expressions in them are the same, in order, and their widths together are that of the result.
-use Rattle.std.proofs.Common.{◌≡◌, ℕ, ℤ, pos, ◌⊎◌, inl, inr, ◌&&◌, ◌||◌, cond, Bool, true, false, List, [], ◌∷◌, ◌++◌, Option, Some, None, Ok, refl, sym, ap, ◌∙◌, subst, map, append_assoc, arith}
+use Rattle.std.proofs.Common.{◌≡◌, ℤ, pos, ◌⊎◌, inl, inr, ◌&&◌, ◌||◌, Bool, true, false, List, [], ◌∷◌, ◌++◌, Some, Ok, refl, sym, ap, ◌∙◌, subst, map, arith}
 use Rattle.std.specs.Prelude.{◌+ℤ◌, ◌-ℤ◌, ◌*ℤ◌}
 use Rattle.std.proofs.lemmas.Int.{ints}
 use Rattle.asl_syn.specs.declared.token.Span.{Span}
-use Rattle.asl_syn.specs.declared.code.StaticCode.TheVariants.{T08, T20}
+use Rattle.asl_syn.specs.declared.code.StaticCode.TheVariants.{T08}
 use Rattle.asl_syn.specs.declared.tree.Bitfield.{Bitfield}
 use Rattle.asl_syn.specs.declared.tree.ConstraintPart.{ConstraintPart}
 use Rattle.asl_syn.specs.declared.tree.Expr.{Expr}
@@ -17,20 +17,18 @@ use Rattle.asl_syn.specs.declared.tree.Decl.{Decl}
 use Rattle.asl_poly.specs.Terms.{Polynomial}
 use Rattle.asl_poly.specs.Poly.{constant_map, sum_map, difference_map}
 use Rattle.asl_cons.proofs.Covering.{value_constant_map}
-use Rattle.asl_core.specs.declared.effect.Effect.{Effect}
 use Rattle.asl_core.specs.declared.effect.Effect.TheVariants.{Pure}
 use Rattle.asl_core.specs.Effects.{all_together, greatest}
-use Rattle.asl_core.specs.Faults.{◌>>=◌, ◌>>◌, need}
 use Rattle.asl_core.specs.Tests.{Tests, IsRight}
 use Rattle.asl_core.specs.Types.{Ty, bits_of, is_bits, is_integer}
 use Rattle.asl_core.specs.Closed.{Assignment, width_at}
-use Rattle.asl_core.specs.Scopes.{Scope, Entry, Signature}
+use Rattle.asl_core.specs.Scopes.{Entry, Signature}
 use Rattle.asl_core.specs.Shapes.{SliceShape, at_bit, high_low, low_width, factor_width}
 use Rattle.asl_core.specs.Shaped.{Shaped, slice_layer, slice_parts, exprs_in, shapes_in, itself}
 use Rattle.asl_core.specs.Trees as tree
 use Rattle.asl_core.specs.Trees.{Tree, Note, TreeFunc}
-use Rattle.asl_core.specs.Widths.{Total, plus, minus, plus_number, totalled}
-use Rattle.asl_core.specs.Typing.{Found, Typed, Width, Operand, operand as operand_at, operands, effects_of, trees_in, trees_of, note}
+use Rattle.asl_core.specs.Widths.{Total, plus, minus, plus_number}
+use Rattle.asl_core.specs.Typing.{Found, Typed, Operand, operand as operand_at, operands, effects_of, trees_in, trees_of}
 use Rattle.asl_core.specs.Slicing.{FoundSlice, all_operands, shapes_of, all_integers, no_width, all_add, sliced_width, sliceable, slices_rule}
 use Rattle.asl_core.specs.Writing.{FoundPart, FoundBitfield, FoundType}
 use Rattle.asl_core.specs.Patterns.{FoundPattern}
@@ -39,11 +37,9 @@ use Rattle.asl_core.specs.Values.{Value, int}
 use Rattle.asl_core.specs.States.{Core}
 use Rattle.asl_core.specs.Belonging.{InType}
 use Rattle.asl_core.specs.Agreement.{types_in}
-use Rattle.asl_core.specs.Vectors.{Slicing, Sliced, sliced, first_slicing, slicings, slices_of}
+use Rattle.asl_core.specs.Vectors.{Slicing, sliced, first_slicing, slicings, slices_of}
 use Rattle.asl_core.specs.Plans.{Pure as PureOf}
 use Rattle.asl_core.specs.Forms.{behind_more}
-use Rattle.asl_core.specs.Evaluation.{Does, expr_node}
-use Rattle.asl_core.specs.TypedMeaning.{list_of, tree_node}
 use Rattle.asl_core.specs.Erasure.{erased}
 use Rattle.asl_core.proofs.Inversions.{ok_ok, bind_ok, then_ok, need_ok}
 use Rattle.asl_core.proofs.Tests.{both}
@@ -51,10 +47,10 @@ use Rattle.asl_cons.proofs.Results.{value_sum_map, value_difference_map}
 use Rattle.asl_core.proofs.OperatorForms.{Gives, is_int}
 use Rattle.asl_core.proofs.Naming.{WellNamed}
 use Rattle.asl_core.proofs.Opening.{found_field, found_bitfield, found_part, finish_is}
-use Rattle.asl_core.proofs.Claims.{Here, Asked, of_type, of_known, tree_asked, Answers, GivesAsked, At}
+use Rattle.asl_core.proofs.Claims.{Here, Asked, of_type, of_known, GivesAsked, At}
 use Rattle.asl_core.proofs.TreePlans.{Same, Out, AllAsked, AllGive, list_from, behind_more_same}
-use Rattle.asl_core.proofs.MatchForms.{asks_both, Split, split}
-use Rattle.asl_core.proofs.ExprForms.{env, program, Formed, formed}
+use Rattle.asl_core.proofs.MatchForms.{asks_both, split}
+use Rattle.asl_core.proofs.ExprForms.{Formed, formed}
 use Rattle.asl_core.proofs.Sliced.{all_widths, slices_give}
 
 abbrev SliceLayer : Type 0

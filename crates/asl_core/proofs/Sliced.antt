@@ -1,5 +1,5 @@
 -- Slices of values: as many bits as the widths of the slices say together, or a fault.
-use Rattle.std.proofs.Common.{◌≡◌, ℕ, ◌+◌, ◌-◌, ◌≤◌, min, ℤ, pos, negsuc, ◌⊎◌, inl, inr, cond, Bool, true, false, List, [], ◌∷◌, ◌++◌, length, take, drop, Option, Some, None, refl, sym, ap, ◌∙◌, subst, arith}
+use Rattle.std.proofs.Common.{◌≡◌, ℕ, ◌+◌, ◌-◌, ◌≤◌, min, ℤ, pos, negsuc, ◌⊎◌, inl, inr, cond, Bool, true, false, List, [], ◌∷◌, length, drop, Option, Some, None, refl, sym, ap, ◌∙◌, subst, arith}
 use Rattle.std.specs.Prelude.{◌+ℤ◌, nat_le}
 use Rattle.std.proofs.lemmas.List.{length-take, length-drop, length-append}
 use Rattle.std.proofs.lemmas.Bool.Decides.{nat_tests}
@@ -14,12 +14,12 @@ use Rattle.asl_core.specs.Types.{Ty, bits_of, is_bits, is_integer}
 use Rattle.asl_core.specs.Closed.{Assignment, width_at}
 use Rattle.asl_core.specs.Tests.{Tests, IsRight}
 use Rattle.asl_core.specs.Shapes.{SliceShape}
-use Rattle.asl_core.specs.Values.{Value, int, bits_with, is_width}
+use Rattle.asl_core.specs.Values.{Value, is_width}
 use Rattle.asl_core.specs.Belonging.{InType}
 use Rattle.asl_core.specs.Plans.{Faulted, Stuck, Pure, Good, Bad}
 use Rattle.asl_core.specs.Pures.{◌>>=◌}
 use Rattle.asl_core.specs.Operators.{in_range, plain_bits}
-use Rattle.asl_core.specs.Vectors.{Slicing, Wide, Places, slicings, width_of, ranged_width, widths_of, ends_within, low_of, places_of, total_width, within_limit, tested, read_bits, read_int, slices_of}
+use Rattle.asl_core.specs.Vectors.{Slicing, Wide, Places, slicings, width_of, ranged_width, widths_of, ends_within, low_of, places_of, total_width, tested, read_bits, read_int, slices_of}
 use Rattle.asl_core.proofs.SameKind.{number_is}
 use Rattle.asl_core.proofs.OperatorForms.{Gives, is_int, is_bitvector}
 

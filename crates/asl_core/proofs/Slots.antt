@@ -2,15 +2,13 @@
 use Rattle.std.proofs.Common.{◌≡◌, ℕ, suc, Bool, true, false, cond, List, [], ◌∷◌, ◌++◌, Option, Some, None, option_map, refl, sym, ap, ◌∙◌}
 use Rattle.std.specs.Prelude.{slice_get}
 use Rattle.std.specs.Str.{bytes_eq}
-use Rattle.asl_syn.specs.declared.token.Span.{Span}
 use Rattle.asl_core.specs.Layouts.{place_of, number_before, slot_among, slot_of, local_name, global_name, local_names, global_names, layout_of}
 use Rattle.asl_core.specs.Types.{Ty}
 use Rattle.asl_core.specs.Closed.{Assignment}
-use Rattle.asl_core.specs.Scopes.{Entry, Standing, Stored, Subprogram, TypeName, Label, Storage, entry_names}
+use Rattle.asl_core.specs.Scopes.{Entry, Standing, Stored, Subprogram, TypeName, Label, entry_names}
 use Rattle.asl_core.specs.Values.{Value}
 use Rattle.asl_core.specs.States.{Binding, Core}
 use Rattle.asl_core.specs.Agreement.{IsPlain, AllPlain, AllMatch, global_matches, local_matches, FrameMatches, types_in, Agrees}
-use Rattle.asl_core.specs.Pures.{known}
 use Rattle.asl_core.specs.Evaluation.{value_of, or_value}
 use Rattle.asl_core.specs.TypedMeaning.{BareCore, value_at}
 use Rattle.asl_core.specs.Erasure.{values_of, erased}

@@ -1,5 +1,5 @@
 -- Calls from outside, of subprograms without parameters: the arguments are the formals, and both the body and its typed tree run in a frame of their own.
-use Rattle.std.proofs.Common.{◌≡◌, ℕ, ◌+◌, pos, Bool, true, false, List, [], ◌∷◌, ◌++◌, Option, Some, None, Ok, refl, sym, ap, ◌∙◌, subst, map, arith}
+use Rattle.std.proofs.Common.{◌≡◌, ℕ, ◌+◌, Bool, true, false, List, [], ◌∷◌, ◌++◌, Option, Some, None, Ok, refl, sym, ap, ◌∙◌, subst, map, arith}
 use Rattle.std.specs.Prelude.{slice_get}
 use Rattle.asl_syn.specs.declared.token.Span.{Span}
 use Rattle.asl_syn.specs.declared.code.StaticCode.TheVariants.{T17}
@@ -9,39 +9,39 @@ use Rattle.asl_syn.specs.declared.tree.Func.{Func}
 use Rattle.asl_syn.specs.declared.tree.Decl.{Decl}
 use Rattle.asl_core.specs.declared.effect.Effect.TheVariants.{Pure}
 use Rattle.asl_core.specs.declared.entry.Entry.{Entry as Asked}
-use Rattle.asl_core.specs.Faults.{◌>>=◌, ◌>>◌, need}
+use Rattle.asl_core.specs.Faults.{need}
 use Rattle.asl_core.specs.Tests.{Tests, IsRight}
 use Rattle.asl_core.specs.Types.{Ty, Parts, no_part, part}
-use Rattle.asl_core.specs.Closed.{Assignment, type_with}
+use Rattle.asl_core.specs.Closed.{Assignment}
 use Rattle.asl_core.specs.Values.{Value, has}
-use Rattle.asl_core.specs.Scopes.{Scope, Entry, Signature, Param, next_atom}
+use Rattle.asl_core.specs.Scopes.{Entry, Signature, Param, next_atom}
 use Rattle.asl_core.specs.Trees.{TreeFunc}
 use Rattle.asl_core.specs.Exprs.{written}
 use Rattle.asl_core.specs.Acting.{Listed, in_order}
 use Rattle.asl_core.specs.Stmts.{found_stmt}
 use Rattle.asl_core.specs.Declarations.{in_names, names_of_program}
-use Rattle.asl_core.specs.Programs.{funcs_of, Head, params_free, formals_free, param_written, params_rule, formals_rule, result_rule, limit_typed, params_are_integers, limit_rule, with_formals, signature_rule, signatures_rule, signatures, may_end, body_of, tree_func, body_rule, bodies_rule, origin, accepted, types_in as list_types}
+use Rattle.asl_core.specs.Programs.{funcs_of, Head, params_free, formals_free, param_written, params_rule, formals_rule, result_rule, limit_typed, params_are_integers, limit_rule, with_formals, signature_rule, signatures_rule, signatures, may_end, body_of, tree_func, bodies_rule, origin, accepted}
 use Rattle.asl_core.specs.Belonging.{Belong}
-use Rattle.asl_core.specs.Agreement.{types_in, no_atoms, GlobalsMatch, Agrees, SameOn}
+use Rattle.asl_core.specs.Agreement.{types_in, no_atoms, GlobalsMatch, Agrees}
 use Rattle.asl_core.specs.States.{Binding, Core, entered, restored, resting}
-use Rattle.asl_core.specs.Plans.{Pure as PureOf, Good, lift}
+use Rattle.asl_core.specs.Plans.{Good, lift}
 use Rattle.asl_core.specs.Pures as pures
 use Rattle.asl_core.specs.Pures.{known}
 use Rattle.asl_core.specs.Forms.{in_frame}
 use Rattle.asl_core.specs.StatementForms as plan
 use Rattle.asl_core.specs.Numbers.{present}
-use Rattle.asl_core.specs.Evaluation.{Does, Entering, type_at, under_written, result_at as keeps_at, params_bound, formals_bound, entering, run_body, run_with, call_of}
+use Rattle.asl_core.specs.Evaluation.{Entering, under_written, result_at as keeps_at, params_bound, formals_bound, entering, run_body, run_with, call_of}
 use Rattle.asl_core.specs.TypedMeaning as bare
 use Rattle.asl_core.specs.TypedMeaning.{BareCore, Runs, acts_of, result_seen, formals_seen, call_func, tree_call}
 use Rattle.asl_core.specs.Erasure.{erased}
 use Rattle.asl_core.specs.Soundness.{IsCall}
 use Rattle.asl_core.proofs.Inversions.{ok_ok, bind_ok, then_ok, need_ok}
-use Rattle.asl_core.proofs.Tests.{no, none_some, some_same}
+use Rattle.asl_core.proofs.Tests.{no}
 use Rattle.asl_core.proofs.Naming.{WellNamed, well_declared}
 use Rattle.asl_core.proofs.WellTyped.{FormedSubs}
 use Rattle.asl_core.proofs.WellTyped as typing
 use Rattle.asl_core.proofs.TypesOver.{Never, Over, AllOver, over_more, all_more}
-use Rattle.asl_core.proofs.OverScope.{IsAtomOf, NamesOver}
+use Rattle.asl_core.proofs.OverScope.{IsAtomOf}
 use Rattle.asl_core.proofs.ScopesOver.{never_moved, program_over, program_atoms}
 use Rattle.asl_core.proofs.BodiesOver.{signature_over, signatures_over}
 use Rattle.asl_core.proofs.ScopesKept.{head_scope}
@@ -54,7 +54,7 @@ use Rattle.asl_core.proofs.PresentNumbers.{present_agree}
 use Rattle.asl_core.proofs.PresentTypes.{type_present}
 use Rattle.asl_core.proofs.OwnCalls.{seen_by, BodyOk, body_same}
 use Rattle.asl_core.proofs.OwnFrames.{integers_of, Follows, follows, HasAll, formals_good}
-use Rattle.asl_core.proofs.SoundnessFacts.{Numbered, numbered}
+use Rattle.asl_core.proofs.SoundnessFacts.{numbered}
 use Rattle.asl_core.proofs.SoundnessEnds.{CallSame}
 use Rattle.asl_core.proofs.SoundnessHeads.{head_formed}
 

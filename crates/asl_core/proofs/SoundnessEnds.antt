@@ -1,6 +1,6 @@
 -- What soundness says of runs, where each pair of forms does the same: runs are never stuck, keep the globals, and give values of their types; each node is
 -- visited in a state that agrees with its scope; and typed trees do what the untyped trees do. What calls from outside are is a premise.
-use Rattle.std.proofs.Common.{◌≡◌, ℕ, ◌⊎◌, inl, inr, Bool, true, List, [], ◌∷◌, Option, Some, None, Ok, refl, sym, ap, ◌∙◌, subst, map}
+use Rattle.std.proofs.Common.{◌≡◌, ℕ, inl, inr, Bool, true, List, [], ◌∷◌, Option, Some, None, Ok, refl, sym, ap, ◌∙◌, subst, map}
 use Rattle.asl_syn.specs.declared.tree.Expr.{Expr}
 use Rattle.asl_syn.specs.declared.tree.Stmt.{Stmt}
 use Rattle.asl_syn.specs.declared.tree.Alternative.TheOpen as st
@@ -11,14 +11,14 @@ use Rattle.asl_syn.specs.declared.code.StaticCode.TheVariants.{T09, T18}
 use Rattle.asl_core.specs.declared.effect.Effect.TheVariants.{Pure}
 use Rattle.asl_core.specs.declared.entry.Entry.{Entry as Entered_by}
 use Rattle.asl_core.specs.Tests.{Tests, IsRight}
-use Rattle.asl_core.specs.Types.{Ty, kinds}
+use Rattle.asl_core.specs.Types.{kinds}
 use Rattle.asl_core.specs.Closed.{Assignment}
 use Rattle.asl_core.specs.Values.{Value}
 use Rattle.asl_core.specs.Scopes.{Scope, Entry, Signature, choose, with_class}
 use Rattle.asl_core.specs.Typing.{Typed, Operand, types_of}
 use Rattle.asl_core.specs.Trees.{TreeFunc, Tree, Act}
 use Rattle.asl_core.specs.Exprs.{found, typed}
-use Rattle.asl_core.specs.Faults.{◌>>=◌, ◌>>◌, fault, fault_of}
+use Rattle.asl_core.specs.Faults.{fault, fault_of}
 use Rattle.asl_core.specs.Routines.{Routine, routine_named}
 use Rattle.asl_core.specs.Stmts.{invoke_rule}
 use Rattle.asl_core.specs.Calls.{chosen, Called, call_begun, routine_taken, procedure_of, procedure_rule}
@@ -33,7 +33,7 @@ use Rattle.asl_core.specs.Machines.{most_open, run_of, visits_of}
 use Rattle.asl_core.specs.Visits.{Entered, AtExpr, AtStmt, Visit, trails}
 use Rattle.asl_core.specs.TypedMeaning.{BareCore, tree_nodes, tree_meaning, tree_call}
 use Rattle.asl_core.specs.Erasure.{erased, erased_outcome}
-use Rattle.asl_core.specs.Soundness.{NotStuck, ExprVisited, StmtVisited, NodeVisited, AllVisited, IsCall, KeepsGlobals, Soundness, trees_of, tree_run, SameMeaning}
+use Rattle.asl_core.specs.Soundness.{NotStuck, ExprVisited, NodeVisited, AllVisited, IsCall, KeepsGlobals, Soundness, trees_of, tree_run, SameMeaning}
 use Rattle.asl_core.proofs.Inversions.{err_ok, bind_ok, then_ok, found_ok}
 use Rattle.asl_core.proofs.Tests.{none_some}
 use Rattle.asl_core.proofs.Naming.{WellNamed, well_declared}

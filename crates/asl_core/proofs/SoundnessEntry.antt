@@ -1,12 +1,11 @@
 -- The entry that was asked for can be called from outside: `main` with nothing, and `decode` with any 32 bits.
-use Rattle.std.proofs.Common.{◌≡◌, ℕ, zero, suc, ◌+◌, ℤ, pos, negsuc, Bool, true, false, ◌&&◌, cond, List, [], ◌∷◌, length, Option, Some, None, Ok, refl, sym, ap, ◌∙◌, subst, arith}
-use Rattle.std.specs.Prelude.{slice_get, ◌==◌, codes}
+use Rattle.std.proofs.Common.{◌≡◌, ℕ, suc, ◌+◌, ℤ, pos, negsuc, Bool, true, false, ◌&&◌, cond, List, [], ◌∷◌, length, Option, Some, None, Ok, refl, sym, ap, ◌∙◌, subst, arith}
+use Rattle.std.specs.Prelude.{slice_get, codes}
 use Rattle.std.specs.Str.{bytes_eq}
 use Rattle.asl_syn.specs.declared.code.StaticCode.TheVariants.{T24}
 use Rattle.asl_syn.specs.declared.tree.Decl.{Decl}
 use Rattle.asl_poly.specs.Poly.{constant_value}
 use Rattle.asl_cons.proofs.Results.{constant_is}
-use Rattle.asl_core.specs.declared.entry.Entry.{Entry as Asked}
 use Rattle.asl_core.specs.declared.entry.Entry.TheVariants as entry
 use Rattle.asl_core.specs.Faults.{fault_of}
 use Rattle.asl_core.specs.Tests.{Tests}
@@ -18,7 +17,7 @@ use Rattle.asl_core.specs.Scopes.{Signature, Param, is_absent}
 use Rattle.asl_core.specs.States.{Binding}
 use Rattle.asl_core.specs.Belonging.{Belong}
 use Rattle.asl_core.specs.Agreement.{types_in, no_atoms, GlobalsMatch}
-use Rattle.asl_core.specs.Programs.{signatures, has_integer, has_no_param, has_no_formal, is_main, is_wide, has_word, is_decode, entry_from, entry_found, entry_rule, Accepted}
+use Rattle.asl_core.specs.Programs.{has_integer, has_no_param, has_no_formal, is_main, is_wide, has_word, is_decode, entry_from, entry_found, entry_rule, Accepted}
 use Rattle.asl_core.specs.Soundness.{IsCall}
 use Rattle.asl_core.proofs.Inversions.{err_ok, ok_ok}
 use Rattle.asl_core.proofs.Tests.{no, both, none_some, some_same}

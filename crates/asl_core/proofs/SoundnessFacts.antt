@@ -1,11 +1,10 @@
 -- What a program that is well formed says of its parts: its names, its signatures and its bodies, and each subprogram by its number.
-use Rattle.std.proofs.Common.{◌≡◌, ℕ, zero, suc, List, [], ◌∷◌, ◌++◌, Option, Some, None, Ok, refl, sym, ap, ◌∙◌, subst, map}
+use Rattle.std.proofs.Common.{◌≡◌, ℕ, zero, suc, List, [], ◌∷◌, Option, Some, Ok, refl, sym, ap, ◌∙◌, subst}
 use Rattle.std.specs.Prelude.{slice_get}
 use Rattle.asl_syn.specs.declared.tree.Decl.{Decl}
 use Rattle.asl_syn.specs.declared.tree.Func.{Func}
 use Rattle.asl_core.specs.declared.entry.Entry.{Entry as Asked}
-use Rattle.asl_core.specs.Faults.{◌>>=◌, ◌>>◌}
-use Rattle.asl_core.specs.Tests.{Tests, IsRight}
+use Rattle.asl_core.specs.Tests.{Tests}
 use Rattle.asl_core.specs.Served.{served_rule}
 use Rattle.asl_core.specs.Names.{names_rule, all_declared}
 use Rattle.asl_core.specs.Uses.{cycles_rule}

@@ -1,12 +1,11 @@
 -- The results of a program's subprograms are well formed.
-use Rattle.std.proofs.Common.{◌≡◌, ℕ, ◌⊎◌, inl, inr, Bool, true, false, List, [], ◌∷◌, ◌++◌, Option, Some, None, Ok, subst, map}
+use Rattle.std.proofs.Common.{◌≡◌, ℕ, inl, inr, false, List, [], ◌∷◌, ◌++◌, Option, Some, None, Ok, subst}
 use Rattle.asl_syn.specs.declared.tree.Param.{Param as WrittenParam}
 use Rattle.asl_syn.specs.declared.tree.TypeExpr.{TypeExpr}
 use Rattle.asl_syn.specs.declared.tree.Func.{Func}
-use Rattle.asl_core.specs.Faults.{◌>>=◌, ◌>>◌}
 use Rattle.asl_core.specs.Tests.{Tests, IsRight}
 use Rattle.asl_core.specs.Types.{Ty}
-use Rattle.asl_core.specs.Scopes.{Scope, Entry, Standing, Signature, Param, next_atom, standing_of}
+use Rattle.asl_core.specs.Scopes.{Entry, Param, next_atom}
 use Rattle.asl_core.specs.Exprs.{written}
 use Rattle.asl_core.specs.Declarations.{in_names}
 use Rattle.asl_core.specs.Programs.{Head, params_free, formals_free, type_or_itself, param_entry, param_written, params_rule, formals_rule, result_rule, limit_typed, params_are_integers, limit_rule, signature_rule, signatures_rule, signatures}

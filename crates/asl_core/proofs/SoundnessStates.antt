@@ -1,8 +1,8 @@
 -- States that agree with a scope are sound: each place keeps its value as it is.
-use Rattle.std.proofs.Common.{◌≡◌, ℕ, Bool, true, cond, ◌&&◌, List, [], ◌∷◌, Option, Some, None, refl, sym, ap, ◌∙◌, subst}
+use Rattle.std.proofs.Common.{◌≡◌, ℕ, true, cond, List, [], ◌∷◌, Option, Some, None, sym, ap, ◌∙◌}
 use Rattle.asl_core.specs.Types.{Ty, kind_eq}
 use Rattle.asl_core.specs.Closed.{Assignment, type_with}
-use Rattle.asl_core.specs.Values.{Value, kind_of, has}
+use Rattle.asl_core.specs.Values.{Value, kind_of}
 use Rattle.asl_core.specs.Views.{viewed, alike, adopted, same_widths}
 use Rattle.asl_core.specs.Scopes.{Entry, Standing, Stored, Subprogram, TypeName, Label}
 use Rattle.asl_core.specs.States.{Under, of_type, of_value, kept, Binding, Frame, Core}

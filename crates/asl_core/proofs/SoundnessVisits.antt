@@ -1,7 +1,7 @@
 -- The nodes that a run enters, by pairs of plans: what holds wherever a claim about a node does holds of each visit. No form of the language is named.
 use Rattle.std.proofs.Common.{◌≡◌, ℕ, zero, suc, ◌-◌, ◌==◌, Bool, true, false, List, [], ◌∷◌, ◌++◌}
-use Rattle.asl_core.specs.Values.{Value, Exit}
-use Rattle.asl_core.specs.Plans.{Meter, Faulted, Stuck, Outcome, Done, Thrown, Halt, Plan, Ret, Raise, Stop, Eval, Exec, Put, Within, Meaning, run, wrote, Nodes, meanings}
+use Rattle.asl_core.specs.Values.{Value}
+use Rattle.asl_core.specs.Plans.{Meter, Outcome, Done, Thrown, Halt, Plan, Ret, Raise, Stop, Eval, Exec, Put, Within, Meaning, run, wrote, Nodes, meanings}
 use Rattle.asl_core.specs.Visits.{Entered, AtExpr, AtStmt, Visit, Trail, after, visits, entered_at, trails}
 use Rattle.asl_core.proofs.Twins.{Claims, Twins, SameEnd, Meets, twins_run, Forms, twins}
 

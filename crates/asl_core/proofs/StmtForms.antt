@@ -1,9 +1,8 @@
 -- Statements without lists with their typed trees: both do the same, and the state agrees with the names that are visible after.
-use Rattle.std.proofs.Common.{◌≡◌, ℕ, Bool, true, false, cond, List, [], ◌∷◌, ◌++◌, Option, Some, None, Ok, Result, refl, sym, ap, ◌∙◌, subst}
+use Rattle.std.proofs.Common.{◌≡◌, Bool, true, false, List, [], ◌∷◌, Option, Some, None, Ok, Result, refl, sym, ap, ◌∙◌, subst}
 use Rattle.asl_syn.specs.declared.token.Span.{Span}
 use Rattle.asl_syn.specs.declared.code.Fault.{Fault}
-use Rattle.asl_syn.specs.declared.code.StaticCode.TheVariants.{T05, T12, T13, T18, T21}
-use Rattle.asl_syn.specs.declared.code.DynCode.TheVariants.{D15}
+use Rattle.asl_syn.specs.declared.code.StaticCode.TheVariants.{T05, T12, T13, T18}
 use Rattle.asl_syn.specs.declared.tree.Expr.{Expr}
 use Rattle.asl_syn.specs.declared.tree.PrintKind.{PrintKind}
 use Rattle.asl_syn.specs.declared.tree.PrintKind.TheVariants.{Print, PrintLine}
@@ -14,37 +13,36 @@ use Rattle.asl_syn.specs.declared.tree.Decl.{Decl}
 use Rattle.asl_syn.specs.Layers.{StmtLayer, stmt_layer_span}
 use Rattle.asl_core.specs.declared.effect.Effect.{Effect}
 use Rattle.asl_core.specs.declared.effect.Effect.TheVariants.{Pure, Writes}
-use Rattle.asl_core.specs.Faults.{◌>>=◌, ◌>>◌, need, fitted, fault_of}
+use Rattle.asl_core.specs.Faults.{◌>>◌, need, fault_of}
 use Rattle.asl_core.specs.Tests.{Tests, IsRight}
 use Rattle.asl_core.specs.Types.{Ty, is_boolean, misfit}
 use Rattle.asl_core.specs.Closed.{Assignment, type_with}
 use Rattle.asl_core.specs.Effects.{greater, greatest, all_together, at_most}
-use Rattle.asl_core.specs.Scopes.{Scope, Body, Entry, Signature}
-use Rattle.asl_core.specs.WellFormed.{WellFormed, Built}
+use Rattle.asl_core.specs.Scopes.{Scope, Entry, Signature}
+use Rattle.asl_core.specs.WellFormed.{WellFormed}
 use Rattle.asl_core.specs.Trees as tree
 use Rattle.asl_core.specs.Trees.{Act, TreeFunc, act_at}
 use Rattle.asl_core.specs.Typing.{Typed, Operand, operand as operand_at}
 use Rattle.asl_core.specs.Exprs.{found, typed}
 use Rattle.asl_core.specs.Acting.{Done, done, ended, operand_of, condition, reading_scope, fits}
 use Rattle.asl_core.specs.Stmts.{assert_rule, returned, return_rule, items_rule, printed, text_first, value_first, Printed, print_rule}
-use Rattle.asl_core.specs.Values.{Value, has, Exit, Normal, Returned}
-use Rattle.asl_core.specs.Strings.{string_text}
+use Rattle.asl_core.specs.Values.{Value, has, Exit, Returned}
 use Rattle.asl_core.specs.States.{Core}
 use Rattle.asl_core.specs.Belonging.{InType}
 use Rattle.asl_core.specs.Agreement.{types_in, Agrees, SameOn}
-use Rattle.asl_core.specs.Plans.{Faulted, Ret, Put, choose, lift}
+use Rattle.asl_core.specs.Plans.{Ret, Put, choose, lift}
 use Rattle.asl_core.specs.Operators.{truth}
 use Rattle.asl_core.specs.Texts.{value_text}
-use Rattle.asl_core.specs.StatementForms.{done_normal, asserted, assertion, return_value, print_items, end_print}
+use Rattle.asl_core.specs.StatementForms.{done_normal, asserted, print_items, end_print}
 use Rattle.asl_core.specs.Evaluation.{Does, stmt_node, item_in}
-use Rattle.asl_core.specs.TypedMeaning.{BareCore, Runs, act_node, item_of}
+use Rattle.asl_core.specs.TypedMeaning.{Runs, act_node, item_of}
 use Rattle.asl_core.specs.Erasure.{erased}
 use Rattle.asl_core.proofs.Inversions.{ok_ok, err_ok, bind_ok, then_ok, need_ok, fitted_ok}
 use Rattle.asl_core.proofs.ScopesKept.{GoodScope}
 use Rattle.asl_core.proofs.Keeping.{satisfying_keeps}
 use Rattle.asl_core.proofs.Naming.{WellNamed, well_declared, scope_good}
 use Rattle.asl_core.proofs.WellTyped.{FormedSubs, typed_formed}
-use Rattle.asl_core.proofs.Claims.{Here, Asked, of_type, StmtClaim, GivesResult, FormedResult, Handles, result_at, At, Over, Ended, Left, Ends, our}
+use Rattle.asl_core.proofs.Claims.{Here, StmtClaim, GivesResult, FormedResult, Handles, result_at, At, Ended, Left, Ends}
 use Rattle.asl_core.proofs.TreePlans.{Same, operand, truth_same, append_nil}
 use Rattle.asl_core.proofs.ExprForms.{env, program}
 

@@ -1,5 +1,5 @@
 -- `throw` with its typed tree: what is thrown belongs to a type of exceptions, which has no atoms.
-use Rattle.std.proofs.Common.{◌≡◌, ℕ, Bool, true, List, [], ◌∷◌, ◌++◌, Option, Some, None, Ok, refl, sym, ap, ◌∙◌, subst}
+use Rattle.std.proofs.Common.{◌≡◌, ℕ, Bool, true, List, [], ◌∷◌, Option, Some, None, Ok, refl, sym, ap, ◌∙◌, subst}
 use Rattle.asl_syn.specs.declared.token.Span.{Span}
 use Rattle.asl_syn.specs.declared.code.StaticCode.TheVariants.{T21}
 use Rattle.asl_syn.specs.declared.tree.Expr.{Expr}
@@ -8,16 +8,15 @@ use Rattle.asl_syn.specs.declared.tree.Decl.{Decl}
 use Rattle.asl_core.specs.declared.effect.Effect.TheVariants.{Writes}
 use Rattle.asl_core.specs.Faults.{need}
 use Rattle.asl_core.specs.Tests.{Tests, IsRight}
-use Rattle.asl_core.specs.Types.{Ty, Kind, kind, exceptions, exception_of, named}
+use Rattle.asl_core.specs.Types.{Ty, kind, exceptions, exception_of, named}
 use Rattle.asl_core.specs.Closed as cl
 use Rattle.asl_core.specs.Closed.{Assignment, type_with}
 use Rattle.asl_core.specs.Effects.{greater}
-use Rattle.asl_core.specs.Scopes.{Body, Entry, Signature}
-use Rattle.asl_core.specs.WellFormed.{WellFormed, WellDeclared, Shaped, Built}
+use Rattle.asl_core.specs.Scopes.{Entry, Signature}
+use Rattle.asl_core.specs.WellFormed.{WellFormed, WellDeclared, Shaped}
 use Rattle.asl_core.specs.Trees as tree
 use Rattle.asl_core.specs.Trees.{Act, TreeFunc}
-use Rattle.asl_core.specs.Typing.{Operand}
-use Rattle.asl_core.specs.Acting.{Done, done, operand_of}
+use Rattle.asl_core.specs.Acting.{done, operand_of}
 use Rattle.asl_core.specs.Branches.{is_exception}
 use Rattle.asl_core.specs.Stmts.{throw_rule}
 use Rattle.asl_core.specs.Values.{Value, exception_with, has}
@@ -25,7 +24,6 @@ use Rattle.asl_core.specs.Views.{viewed}
 use Rattle.asl_core.specs.States.{Core}
 use Rattle.asl_core.specs.Belonging.{InType}
 use Rattle.asl_core.specs.Agreement.{types_in, no_atoms, Raised, AllRaised, Agrees}
-use Rattle.asl_core.specs.Plans.{Raise}
 use Rattle.asl_core.specs.StatementForms.{thrown, thrown_again}
 use Rattle.asl_core.specs.Erasure.{erased}
 use Rattle.asl_core.proofs.Inversions.{bind_ok, then_ok, need_ok}

@@ -1,23 +1,20 @@
 -- Pairs of plans, of an untyped and of a typed tree, by the words that plans are made of: an operand, several operands, and what their values give.
-use Rattle.std.proofs.Common.{◌≡◌, ℕ, Bool, true, false, List, [], ◌∷◌, ◌++◌, Option, Some, None, Ok, refl, sym, ap, ◌∙◌, subst, map, append_assoc}
+use Rattle.std.proofs.Common.{◌≡◌, Bool, true, List, [], ◌∷◌, ◌++◌, Ok, refl, sym, ap, subst, map, append_assoc}
 use Rattle.asl_syn.specs.declared.token.Span.{Span}
 use Rattle.asl_syn.specs.declared.tree.Expr.{Expr}
-use Rattle.asl_syn.specs.declared.tree.Stmt.{Stmt}
-use Rattle.asl_core.specs.declared.effect.Effect.TheVariants.{Pure}
-use Rattle.asl_core.specs.Faults.{◌>>=◌}
 use Rattle.asl_core.specs.Tests.{Tests, IsRight}
 use Rattle.asl_core.specs.Types.{Ty, is_boolean}
-use Rattle.asl_core.specs.Scopes.{Scope, Entry, Signature, with_class}
-use Rattle.asl_core.specs.Trees.{Tree, Trees, Act}
-use Rattle.asl_core.specs.Typing.{Typed, Operand, operand as operand_at, operands, types_of, trees_in, trees_from}
+use Rattle.asl_core.specs.Scopes.{Scope, Entry, Signature}
+use Rattle.asl_core.specs.Trees.{Tree}
+use Rattle.asl_core.specs.Typing.{Typed, Operand, operand as operand_at, operands, trees_in, trees_from}
 use Rattle.asl_core.specs.Exprs.{found, typed}
-use Rattle.asl_core.specs.Values.{Value, Values, tuple_with}
+use Rattle.asl_core.specs.Values.{Value}
 use Rattle.asl_core.specs.States.{Core}
 use Rattle.asl_core.specs.Belonging.{InType}
 use Rattle.asl_core.specs.Agreement.{types_in}
-use Rattle.asl_core.specs.Plans.{Faulted, Stuck, Plan, Eval, Pure as PureOf, Good, Bad, lift}
+use Rattle.asl_core.specs.Plans.{Faulted, Stuck, Eval, Pure as PureOf, Good, Bad, lift}
 use Rattle.asl_core.specs.Operators.{truth}
-use Rattle.asl_core.specs.Forms.{give, at_once, behind, behind_all, behind_more, eval_all}
+use Rattle.asl_core.specs.Forms.{at_once, behind, behind_all, behind_more, eval_all}
 use Rattle.asl_core.specs.Evaluation.{Does}
 use Rattle.asl_core.specs.TypedMeaning.{BareCore, Runs, list_of}
 use Rattle.asl_core.specs.Erasure.{erased}
@@ -25,7 +22,7 @@ use Rattle.asl_core.proofs.Inversions.{ok_ok, bind_ok}
 use Rattle.asl_core.proofs.OperatorForms.{Gives, is_bool}
 use Rattle.asl_core.proofs.Twins.{Twins}
 use Rattle.asl_core.proofs.Several.{one, two}
-use Rattle.asl_core.proofs.Claims.{Here, Asked, of_type, of_pure, tree_asked, Answers, GivesAsked, At, Over, ExprIn, our}
+use Rattle.asl_core.proofs.Claims.{Here, Asked, of_type, tree_asked, Answers, GivesAsked, At, Over, our}
 
 pub append_nil : {A : Type 0} (xs : List A) → xs ++ [] ≡ xs
 append_nil [] = refl

@@ -1,5 +1,5 @@
 -- `try` with its typed tree: its list, and the catchers of what that throws, of which the first that takes it runs.
-use Rattle.std.proofs.Common.{◌≡◌, Bool, true, false, not, ◌&&◌, ◌||◌, List, [], ◌∷◌, ◌++◌, length, map, Option, Some, None, Ok, refl, sym, ap, ◌∙◌, subst}
+use Rattle.std.proofs.Common.{◌≡◌, Bool, true, false, not, ◌||◌, List, [], ◌∷◌, ◌++◌, length, map, Option, Some, None, Ok, refl, sym, ap, ◌∙◌, subst}
 use Rattle.std.specs.Prelude.{option_map}
 use Rattle.asl_syn.specs.declared.token.Span.{Span}
 use Rattle.asl_syn.specs.declared.code.StaticCode.TheVariants.{T01, T02, T21}
@@ -12,7 +12,7 @@ use Rattle.asl_syn.specs.declared.tree.ElseIf.{ElseIf}
 use Rattle.asl_syn.specs.declared.tree.Otherwise.{Otherwise, out-Otherwise}
 use Rattle.asl_syn.specs.declared.tree.Alternative.TheOpen as st
 use Rattle.asl_syn.specs.declared.tree.Alternative.TheFolds.{fold_out-Catcher, fold_out-Otherwise, map-Catcher, map-Otherwise}
-use Rattle.asl_core.specs.Faults.{◌>>=◌, ◌>>◌, need, found_or}
+use Rattle.asl_core.specs.Faults.{need, found_or}
 use Rattle.asl_core.specs.Tests.{Tests, IsRight}
 use Rattle.asl_core.specs.Types.{Ty}
 use Rattle.asl_core.specs.Closed.{Assignment, closed, type_with}

@@ -1,5 +1,5 @@
 -- Declarations of the parts of a tuple with their typed trees.
-use Rattle.std.proofs.Common.{◌≡◌, ℕ, ◌<◌, ℤ, ◌&&◌, not, Bool, true, false, cond, List, [], ◌∷◌, ◌++◌, Option, Some, None, option_map, Result, Ok, refl, sym, ap, ◌∙◌, subst, append_assoc}
+use Rattle.std.proofs.Common.{◌≡◌, ℕ, ◌&&◌, not, Bool, true, false, cond, List, [], ◌∷◌, ◌++◌, Option, Some, None, option_map, Ok, refl, sym, ap, ◌∙◌, subst, append_assoc}
 use Rattle.asl_syn.specs.declared.token.Span.{Span}
 use Rattle.asl_syn.specs.declared.code.StaticCode.TheVariants.{T01, T05}
 use Rattle.asl_syn.specs.declared.tree.Expr.{Expr}
@@ -15,7 +15,7 @@ use Rattle.asl_syn.specs.declared.tree.Decl.{Decl}
 use Rattle.asl_core.specs.Faults.{need, found_or}
 use Rattle.asl_core.specs.Tests.{Tests, IsRight}
 use Rattle.asl_core.specs.Types.{Ty, Parts, tuple_of, named, no_part, part, is_integer, tuple_parts}
-use Rattle.asl_core.specs.Closed.{Assignment, Closed, ClosedParts, type_with, parts_with, parts_at}
+use Rattle.asl_core.specs.Closed.{Assignment, ClosedParts, type_with, parts_with, parts_at}
 use Rattle.asl_core.specs.Scopes.{Entry, Signature, Counted, atom_at, next_atom, is_free, fixed}
 use Rattle.asl_core.specs.WellFormed.{WellFormed, Shaped, ShapedParts, Built, BuiltAll}
 use Rattle.asl_core.specs.Trees as tree
@@ -30,15 +30,15 @@ use Rattle.asl_core.specs.States.{Under, of_type, of_value, Core, kept}
 use Rattle.asl_core.specs.Belonging.{InType}
 use Rattle.asl_core.specs.Agreement.{types_in, IsUnder, Agrees, SameOn}
 use Rattle.asl_core.specs.Plans.{Good, lift}
-use Rattle.asl_core.specs.Pures.{◌>>=◌, there, found_type}
+use Rattle.asl_core.specs.Pures.{◌>>=◌, there}
 use Rattle.asl_core.specs.ByPlace.{seen_as, parts_seen_as, seen_where}
 use Rattle.asl_core.specs.Structures.{values_in, parts}
 use Rattle.asl_core.specs.StatementForms.{done_normal}
-use Rattle.asl_core.specs.Evaluation.{declared, unders_of_values, unders_of_parts, unders_in, unders_or, declare_each, stored_under, bound_to}
+use Rattle.asl_core.specs.Evaluation.{declared, unders_of_values, unders_of_parts, unders_in, unders_or, declare_each, bound_to}
 use Rattle.asl_core.specs.TypedMeaning as bare
 use Rattle.asl_core.specs.TypedMeaning.{BareCore, with_next, parts_taken}
 use Rattle.asl_core.specs.Erasure.{erased, values_of}
-use Rattle.asl_core.proofs.Inversions.{ok_ok, bind_ok, then_ok, found_ok}
+use Rattle.asl_core.proofs.Inversions.{bind_ok, then_ok, found_ok}
 use Rattle.asl_core.proofs.Tests.{no, both, some_same, none_some}
 use Rattle.asl_core.proofs.Viewing.{viewed_has, viewed_twice, tuple_same, same_first, same_rest}
 use Rattle.asl_core.proofs.Bare.{viewed_built}
@@ -55,11 +55,11 @@ use Rattle.asl_core.proofs.Counting.{atoms_snoc}
 use Rattle.asl_core.proofs.Moved.{in_type_moved, under_moved, extended, extended_at, extended_same}
 use Rattle.asl_core.proofs.Agreeing.{erased_declared}
 use Rattle.asl_core.proofs.SoundnessStates.{kept_as_is}
-use Rattle.asl_core.proofs.Claims.{StmtClaim, Ended, our}
+use Rattle.asl_core.proofs.Claims.{StmtClaim}
 use Rattle.asl_core.proofs.TreePlans.{operand}
-use Rattle.asl_core.proofs.Longer.{Longer, same_on_fewer, same_on_both}
+use Rattle.asl_core.proofs.Longer.{same_on_fewer, same_on_both}
 use Rattle.asl_core.proofs.StmtForms.{here, Held, OutAct, ActSame, Acted, acted, ended_is}
-use Rattle.asl_core.proofs.DeclareForms.{Way, Placed, Says, init_says, Counts, new_name, unmoved, environment_of, unannotated_in, unannotated_formed}
+use Rattle.asl_core.proofs.DeclareForms.{Way, init_says, Counts, new_name, unmoved, environment_of, unannotated_in, unannotated_formed}
 
 tuple_shaped : (d : List ℕ → Option Ty) (T : Ty) (ts : Parts) → tuple_parts T ≡ Some ts → Shaped d T → ShapedParts d ts
 tuple_shaped d (tuple_of us) ts h s = subst (ShapedParts d) (some_same us ts h) s

@@ -1,6 +1,6 @@
 -- Two kinds of trees by the shape of plans: where each pair of forms hands on the same, and what is claimed of it, two runs give
 -- the same, and what is claimed of whole runs follows. No form of the language is named.
-use Rattle.std.proofs.Common.{◌≡◌, ℕ, zero, suc, ◌-◌, ◌==◌, Bool, true, false, cond, List, refl, sym, ap, subst, ◌∙◌}
+use Rattle.std.proofs.Common.{◌≡◌, ℕ, zero, suc, ◌-◌, ◌==◌, Bool, true, false, cond, refl, ap, subst}
 use Rattle.asl_syn.specs.declared.token.Span.{Span}
 use Rattle.asl_syn.specs.declared.code.DynCode.TheVariants.{D12, D13}
 use Rattle.asl_core.specs.Values.{Value, Exit}

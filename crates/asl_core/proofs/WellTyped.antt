@@ -12,14 +12,14 @@ use Rattle.asl_syn.specs.declared.tree.BinaryOperator.TheVariants as binary
 use Rattle.asl_syn.specs.declared.tree.Bitfield.{Bitfield}
 use Rattle.asl_syn.specs.declared.tree.ConstraintPart.{ConstraintPart}
 use Rattle.asl_syn.specs.declared.tree.Expr.{Expr, roll-Expr}
-use Rattle.asl_syn.specs.declared.tree.FieldValue.{FieldValue, roll-FieldValue}
+use Rattle.asl_syn.specs.declared.tree.FieldValue.{FieldValue}
 use Rattle.asl_syn.specs.declared.tree.Pattern.{Pattern}
 use Rattle.asl_syn.specs.declared.tree.Slice.{Slice}
 use Rattle.asl_syn.specs.declared.tree.TypeExpr.{TypeExpr, roll-TypeExpr}
 use Rattle.asl_syn.specs.declared.tree.Bitfield.TheOpen as ex
 use Rattle.asl_syn.specs.declared.tree.Bitfield.TheFolds.{fold-roll-Expr, fold-roll-TypeExpr, map-Expr, map-TypeExpr, ind-Expr, ind-TypeExpr}
 use Rattle.asl_syn.specs.Layers.{ExprLayer, TypeLayer}
-use Rattle.asl_poly.specs.Terms.{Polynomial, value}
+use Rattle.asl_poly.specs.Terms.{Polynomial}
 use Rattle.asl_poly.specs.Poly.{constant_map, constant_value, substitute_map}
 use Rattle.asl_poly.specs.Substitute.{replaced, replaced_at}
 use Rattle.asl_poly.proofs.Substitution.{substituted_value}
@@ -29,7 +29,7 @@ use Rattle.asl_core.specs.declared.effect.Effect.{Effect}
 use Rattle.asl_core.specs.declared.effect.Effect.TheVariants.{Pure}
 use Rattle.asl_core.specs.Faults.{◌>>=◌, ◌>>◌, need, found_or, fault_of}
 use Rattle.asl_core.specs.Tests.{Tests, IsRight}
-use Rattle.asl_core.specs.Types.{Ty, Kinds, kinds, kinds_eq, Fields, Parts, View, BitField, Widths, integer_of, boolean, bits_of, enumeration_of, record_of, exception_of, tuple_of, array_of, named, no_field, field, no_part, part, is_integer, is_boolean, is_bits, same_kind, only_number, join, bare, width_of, bits_wide, substitute, substitute_parts, with_type, substituted, substituted_ranges, substitute_fits}
+use Rattle.asl_core.specs.Types.{Ty, Kinds, kinds, kinds_eq, Fields, Parts, View, BitField, Widths, integer_of, boolean, bits_of, enumeration_of, record_of, exception_of, tuple_of, array_of, named, no_field, field, no_part, part, is_integer, is_boolean, is_bits, same_kind, only_number, join, bare, width_of, bits_wide, substitute, substitute_parts, with_type, substituted_ranges, substitute_fits}
 use Rattle.asl_core.specs.Closed.{Assignment, width_at}
 use Rattle.asl_core.specs.Scopes.{Scope, with_class, reading, Signature, Chosen, choose, choose_from, Standing, Stored, Subprogram, TypeName, Label, standing_of, type_of_name}
 use Rattle.asl_core.specs.WellFormed.{WellFormed, WellDeclared, Shaped, ShapedFields, ShapedParts, AllInside, ShapedView}
@@ -46,14 +46,14 @@ use Rattle.asl_core.specs.Effects.{greater, together, all_together, greatest}
 use Rattle.asl_core.specs.Layouts.{slot_of, layout_of}
 use Rattle.asl_core.specs.Slicing.{FoundSlice, all_operands, sliceable, sliced_width, shapes_of}
 use Rattle.asl_core.specs.Patterns.{FoundPattern}
-use Rattle.asl_core.specs.Typing.{Found, Typed, Width, Operand, operand, operands, effects_of, types_of, trees_of, trees_from, in_class, finish}
-use Rattle.asl_core.specs.Operations.{of_integers, of_booleans, additive, bitwise, concatenated, compared, same_widths, is_comparable, comparable, binary_rule, unary_rule, operation}
+use Rattle.asl_core.specs.Typing.{Found, Typed, Operand, operand, operands, effects_of, types_of, trees_of, trees_from, in_class, finish}
+use Rattle.asl_core.specs.Operations.{of_integers, of_booleans, additive, bitwise, concatenated, compared, same_widths, comparable, binary_rule, unary_rule}
 use Rattle.asl_core.specs.Members.{Member, a_field, a_bitfield, member_type, member_tree, numbered, one_further, field_among, bitfield_in, bitfields_named, all_wide, member_of, element_in, indexed, Constructed, constructed, constructed_of, constructed_as, given_once, all_fit, places_given, texts_of}
 use Rattle.asl_core.specs.Writing.{Written, WrittenField, Numbered, FoundType, FoundPart, FoundBitfield, written_as, most_parts, parts_written, all_numbered, placed, placed_from, all_placed, names_once, view_rule, within_limits, all_parts, all_fields, types_in_order, types_written}
-use Rattle.asl_core.specs.Calls.{bits_of_first, routine_type, routine_params, polys, widths_given, routine_taken, call_tree, chosen, widths_rule, both_fit, replaced_by, function_of, function_rule, call_begun}
+use Rattle.asl_core.specs.Calls.{bits_of_first, routine_type, routine_params, polys, widths_given, routine_taken, call_tree, chosen, widths_rule, both_fit, replaced_by, function_of, call_begun}
 use Rattle.asl_core.specs.Exprs.{FoundField, values_given, names_given, found_slice, found_pattern, found, found_type, typed, written, typed_rule, written_rule, expr_rule, given_rule, slice_rule, part_rule, bitfield_rule, type_rule, pattern_rule, apart, name_of_standing, bits_rule_of}
-use Rattle.asl_core.proofs.Inversions.{ok_ok, err_ok, bind_ok, then_ok, need_ok, found_ok}
-use Rattle.asl_core.proofs.Tests.{no, both, some_same, none_some, mapped}
+use Rattle.asl_core.proofs.Inversions.{ok_ok, err_ok, bind_ok, then_ok, found_ok}
+use Rattle.asl_core.proofs.Tests.{some_same, none_some, mapped}
 use Rattle.asl_core.proofs.Joining.{join_is_well_formed}
 use Rattle.asl_core.proofs.Bare.{bare_is_well_formed}
 use Rattle.asl_core.proofs.Naming.{GoodStanding, GoodNames, type_formed}

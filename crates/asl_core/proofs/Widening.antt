@@ -1,5 +1,5 @@
 -- The type of an unannotated `var`, which has no constraint: it is well formed, and has each value of the type of its initialiser.
-use Rattle.std.proofs.Common.{◌≡◌, ℕ, ◌&&◌, Bool, true, false, List, [], ◌∷◌, Option, Some, None, refl, sym, ap, ap₂, ◌∙◌}
+use Rattle.std.proofs.Common.{◌≡◌, ℕ, true, false, List, Option, refl, ap, ap₂, ◌∙◌}
 use Rattle.asl_core.specs.Types.{Ty, Parts, integer_of, boolean, bits_of, enumeration_of, record_of, exception_of, tuple_of, array_of, named, no_part, part, widened, widened_parts}
 use Rattle.asl_core.specs.Closed.{Assignment, type_with, parts_with}
 use Rattle.asl_core.specs.Values.{Value, Values, int, tuple_with, no_value, value, has, parts_in}

@@ -18,8 +18,8 @@ use Rattle.asl_core.specs.Faults.{◌>>=◌, need, fault, fault_of}
 use Rattle.asl_core.specs.Tests.{Tests, IsRight}
 use Rattle.asl_core.specs.Types.{Ty, is_integer, integer_of, only_number}
 use Rattle.asl_core.specs.Closed.{Assignment, width_at}
-use Rattle.asl_core.specs.Scopes.{Scope, Entry, Signature, Counted, Storage, Standing, Stored, Subprogram, TypeName, Label, standing_of, known_value, reading}
-use Rattle.asl_core.specs.Widths.{width_of_number, width_of_standing, width_of_storage, width_of_counted, width_of_binary, width_sum, width_difference, width_product, number_of_standing, number_of_storage, number_of_counted, number_of_binary, held, has_width}
+use Rattle.asl_core.specs.Scopes.{Entry, Signature, Counted, Storage, Standing, Stored, Subprogram, TypeName, Label, standing_of, known_value, reading}
+use Rattle.asl_core.specs.Widths.{width_of_number, width_of_standing, width_of_counted, width_sum, width_difference, width_product, number_of_standing, number_of_counted, held, has_width}
 use Rattle.asl_core.specs.declared.effect.Effect.{Effect}
 use Rattle.asl_core.specs.declared.effect.Effect.TheVariants.{Pure}
 use Rattle.asl_core.specs.Layouts.{slot_of, layout_of}
@@ -28,14 +28,14 @@ use Rattle.asl_core.specs.Trees.{Tree, Note, TreeFunc, tree_at}
 use Rattle.asl_core.specs.Effects.{together, greater}
 use Rattle.asl_core.specs.Operations.{binary_rule, unary_rule}
 use Rattle.asl_core.specs.Typing.{Found, Typed, Width, Number, typed_as, in_class, width_as, number_as, width_note}
-use Rattle.asl_core.specs.Exprs.{found, typed, width, typed_rule, width_rule, number_rule, width_of_operation, number_of_operation, name_read, name_of_standing, operation_rule, operation_rule_of_two}
+use Rattle.asl_core.specs.Exprs.{found, typed, width, typed_rule, width_rule, number_rule, width_of_operation, number_of_operation, name_read, name_of_standing, operation_rule}
 use Rattle.asl_core.specs.Values.{Value, int}
 use Rattle.asl_core.specs.States.{Core}
 use Rattle.asl_core.specs.Agreement.{types_in, IsKnown, CountsAs}
-use Rattle.asl_core.specs.Plans.{Faulted, Eval, Pure as PureOf, Good, Bad}
+use Rattle.asl_core.specs.Plans.{Faulted, Eval, Good, Bad}
 use Rattle.asl_core.specs.Pures.{known}
-use Rattle.asl_core.specs.Operators.{in_range, integer_of as integer_value, binary_value, unary_value, strictness}
-use Rattle.asl_core.specs.Forms.{at_once, literal, behind, behind_left, operation}
+use Rattle.asl_core.specs.Operators.{in_range, integer_of as integer_value, binary_value, unary_value}
+use Rattle.asl_core.specs.Forms.{at_once, behind}
 use Rattle.asl_core.specs.Evaluation.{Does, value_of, or_value, label_in, expr_node}
 use Rattle.asl_core.specs.TypedMeaning.{BareCore, Runs, value_at, tree_node}
 use Rattle.asl_core.specs.Erasure.{erased}

@@ -6,7 +6,6 @@ use Rattle.asl_syn.specs.declared.code.DynCode.TheVariants.{D12, D13}
 use Rattle.asl_syn.specs.declared.tree.Expr.{Expr}
 use Rattle.asl_syn.specs.declared.tree.Decl.{Decl}
 use Rattle.asl_core.specs.Tests.{Tests}
-use Rattle.asl_core.specs.Values.{Value}
 use Rattle.asl_core.specs.Scopes.{standing_of}
 use Rattle.asl_core.specs.States.{Core, resting}
 use Rattle.asl_core.specs.Plans.{Meter, End, Faulted, Stuck, CallBarred, Outcome, Done, Halt, Pure, Good, Bad}

@@ -3,12 +3,12 @@
 use Rattle.std.specs.Prelude.{ℕ, List, Option, option_map}
 use Rattle.asl_syn.specs.declared.token.Span.{Span}
 use Rattle.asl_syn.specs.declared.tree.Bitfield.TheOpen as ex
-use Rattle.asl_core.specs.Closed.{Closed, closed}
+use Rattle.asl_core.specs.Closed.{closed}
 use Rattle.asl_core.specs.Shapes.{SliceShape, PatternShape, no_pattern, pattern_and}
 use Rattle.asl_core.specs.Shaped.{Shaped, Named, TypeOver, exprs_in, shapes_in}
 use Rattle.asl_core.specs.Values.{Value, bool}
 use Rattle.asl_core.specs.Scopes.{Entry, type_of_name}
-use Rattle.asl_core.specs.Plans.{Plan, Ret, Pure, Good, Bad}
+use Rattle.asl_core.specs.Plans.{Plan, Ret, Pure, Good}
 use Rattle.asl_core.specs.Pures.{◌>>=◌}
 use Rattle.asl_core.specs.Operators.{unary_value}
 use Rattle.asl_core.specs.Vectors.{literal_bits, slices_of, bitfields_of, bitfields_named}

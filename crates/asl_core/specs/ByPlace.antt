@@ -1,8 +1,8 @@
 -- The parts of values by their places: a field by its number among the fields, a bitfield by its places, and a replacement at the end of a way into a value; and
 -- what a value takes of a type that is written for it.
-use Rattle.std.specs.Prelude.{ℕ, zero, suc, pos, List, [], ◌∷◌, length, Option, Some, None, option_map, slice_get}
+use Rattle.std.specs.Prelude.{ℕ, zero, suc, List, [], ◌∷◌, Option, Some, None, option_map, slice_get}
 use Rattle.asl_syn.specs.declared.token.Span.{Span}
-use Rattle.asl_core.specs.Types.{Ty, Parts, BitField, integer_of, boolean, bits_of, enumeration_of, record_of, exception_of, tuple_of, array_of, named, no_part, part}
+use Rattle.asl_core.specs.Types.{Ty, Parts, BitField, integer_of, boolean, bits_of, enumeration_of, record_of, exception_of, tuple_of, array_of, named, part}
 use Rattle.asl_core.specs.Shapes.{SliceShape}
 use Rattle.asl_core.specs.Trees.{Shell, record_shell, exception_shell, FieldGiven}
 use Rattle.asl_core.specs.Values.{Value, FieldValues, Values, bits_with, record_with, exception_with, tuple_with, array_with, no_value_of, value_of_field, no_value, value}

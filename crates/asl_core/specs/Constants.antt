@@ -9,7 +9,7 @@ use Rattle.asl_core.specs.Shapes.{SliceShape, PatternShape, PartShape, BitfieldS
 use Rattle.asl_core.specs.Shaped.{Shaped, TypeOver, itself, given_layer, slice_layer, pattern_layer, part_layer, bitfield_layer, type_layer}
 use Rattle.asl_core.specs.Values.{Value}
 use Rattle.asl_core.specs.Scopes.{Entry, Standing, Stored, Subprogram, TypeName, Label, standing_of}
-use Rattle.asl_core.specs.Plans.{Stuck, UnknownName, NothingCaught, CallBarred, Plan, Ret, Raise, Stop, Eval, Exec, Put, Within, Pure, Good, Bad}
+use Rattle.asl_core.specs.Plans.{Stuck, NothingCaught, CallBarred, Plan, Ret, Raise, Stop, Eval, Exec, Put, Within, Pure, Good, Bad}
 use Rattle.asl_core.specs.Pures.{◌>>=◌, known}
 use Rattle.asl_core.specs.ByNames.{Asks, Views, expr_plan, types_among}
 

@@ -1,5 +1,5 @@
 -- What the names outside bodies stand for, by the declarations alone: no static rule is cited, so that what a run does doesn't hang on the verdict.
-use Rattle.std.specs.Prelude.{◌≡◌, ℕ, ℤ, List, [], ◌∷◌, Bool, if◌then◌else◌, Option, Some, None, option_map, option_and_then}
+use Rattle.std.specs.Prelude.{◌≡◌, ℕ, ℤ, List, [], ◌∷◌, if◌then◌else◌, Option, Some, None, option_map, option_and_then}
 use Rattle.asl_syn.specs.declared.tree.Expr.{Expr}
 use Rattle.asl_syn.specs.declared.tree.TypeExpr.{TypeExpr}
 use Rattle.asl_syn.specs.declared.tree.Ident.{Ident}
@@ -16,7 +16,7 @@ use Rattle.asl_core.specs.Values.{Value, label}
 use Rattle.asl_core.specs.Views.{viewed}
 use Rattle.asl_core.specs.Scopes.{Storage, standing_of, storage_of}
 use Rattle.asl_core.specs.Declarations.{labels}
-use Rattle.asl_core.specs.Plans.{Pure, Good, Bad}
+use Rattle.asl_core.specs.Plans.{Pure, Good}
 use Rattle.asl_core.specs.Pures.{◌>>=◌, found_type}
 use Rattle.asl_core.specs.Numbers.{Numbers, integer_of_value, all_numbers}
 use Rattle.asl_core.specs.Shaped.{sizes_in}

@@ -1,6 +1,6 @@
 -- What expressions and statements do, over the untyped trees: names are found by name, and no type is consulted but those
 -- that are written at places.
-use Rattle.std.specs.Prelude.{ℕ, ◌+◌, ℤ, pos, Bool, true, false, ◌&&◌, if◌then◌else◌, List, [], ◌∷◌, ◌++◌, length, take, map, slice_get, option_map, option_and_then, Option, Some, None}
+use Rattle.std.specs.Prelude.{ℕ, ◌+◌, ℤ, pos, Bool, true, false, ◌&&◌, if◌then◌else◌, List, [], ◌∷◌, ◌++◌, length, take, slice_get, option_map, option_and_then, Option, Some, None}
 use Rattle.std.specs.Str.{bytes_eq}
 use Rattle.asl_syn.specs.declared.token.Span.{Span}
 use Rattle.asl_syn.specs.declared.code.DynCode.TheVariants.{D15}
@@ -60,9 +60,9 @@ use Rattle.asl_core.specs.Written.{Sized, sized, type_of_sized, type_span, kind_
 use Rattle.asl_core.specs.Pures.{◌>>=◌, there, known, found_type}
 use Rattle.asl_core.specs.Constants.{constant}
 use Rattle.asl_core.specs.ByNames.{Asks, Views, expr_plan, types_among}
-use Rattle.asl_core.specs.Plans.{Faulted, Stuck, UnknownName, WrongKind, Immutable, Plan, Ret, Stop, Pure, Good, Bad, lift, Meaning, Nodes, meanings}
+use Rattle.asl_core.specs.Plans.{Faulted, Stuck, UnknownName, WrongKind, Immutable, Plan, Stop, Pure, Good, Bad, lift, Meaning, Nodes, meanings}
 use Rattle.asl_core.specs.Forms.{call, routine_gives, unless_full, Keeps, in_frame, procedure_gives}
-use Rattle.asl_core.specs.StatementForms.{Frames, in_order, scope, Branch, branch, branches, assertion, with_value, with_values, Ahead, ready, by_one, by_all, Store, assignment, return_value, Item, Written, Valued, print_items, done_normal, Choice, case_of, for_loop, while_loop, repeat_loop, throw, Catch, try_list}
+use Rattle.asl_core.specs.StatementForms.{Frames, in_order, Branch, branch, branches, assertion, with_value, with_values, Ahead, ready, by_one, by_all, Store, assignment, return_value, Item, Written, Valued, print_items, done_normal, Choice, case_of, for_loop, while_loop, repeat_loop, throw, Catch, try_list}
 use Rattle.asl_core.specs.Strings.{string_text}
 use Rattle.asl_core.specs.Cuts.{Cutting, cuttings}
 

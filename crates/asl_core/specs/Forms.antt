@@ -1,6 +1,6 @@
 -- The plans of the forms of expression, over any kind of state and of trees: runs over untyped trees, constants, and runs over
 -- typed trees are uses of them.
-use Rattle.std.specs.Prelude.{ℕ, ◌+◌, ◌==◌, ℤ, pos, Bool, if◌then◌else◌, List, [], ◌∷◌, ◌++◌, Option, Some, None}
+use Rattle.std.specs.Prelude.{ℕ, ◌+◌, ◌==◌, ℤ, pos, if◌then◌else◌, List, [], ◌∷◌, ◌++◌, Option, Some, None}
 use Rattle.asl_syn.specs.declared.token.Span.{Span}
 use Rattle.asl_syn.specs.declared.code.DynCode.TheVariants.{D11}
 use Rattle.asl_syn.specs.declared.tree.BinaryOperator.{BinaryOperator}

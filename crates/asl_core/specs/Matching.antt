@@ -6,7 +6,7 @@ use Rattle.asl_syn.specs.declared.tree.BinaryOperator.TheVariants as binary
 use Rattle.asl_mask.specs.Digits.{mask_matches}
 use Rattle.asl_core.specs.Closed.{not_above}
 use Rattle.asl_core.specs.Shapes.{PatternShape, PatternShapes, anything, one_of, masked, at_most, at_least, in_parts, equal_to, between, no_pattern, pattern_and}
-use Rattle.asl_core.specs.Values.{Value, int, bits_with, tuple_with}
+use Rattle.asl_core.specs.Values.{Value, int, bits_with}
 use Rattle.asl_core.specs.Plans.{Stuck, WrongKind, Pure, Good, Bad}
 use Rattle.asl_core.specs.Pures.{◌>>=◌}
 use Rattle.asl_core.specs.Operators.{binary_value, truth}

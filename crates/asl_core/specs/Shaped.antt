@@ -1,6 +1,6 @@
 -- Slices, patterns and written types taken apart: what they are without the expressions in them, and these in order. One reading
 -- serves trees and what stands for parts of trees.
-use Rattle.std.specs.Prelude.{ℕ, List, [], ◌∷◌, ◌++◌, Option, Some, None, option_map, option_and_then}
+use Rattle.std.specs.Prelude.{ℕ, List, [], ◌∷◌, ◌++◌, Option, Some, None, option_map}
 use Rattle.asl_syn.specs.declared.tree.Bitfield.{Bitfield, out-Bitfield}
 use Rattle.asl_syn.specs.declared.tree.ConstraintPart.{ConstraintPart, out-ConstraintPart}
 use Rattle.asl_syn.specs.declared.tree.Expr.{Expr}

@@ -1,5 +1,5 @@
 -- The plans of the forms of statement, over any kind of state and of trees.
-use Rattle.std.specs.Prelude.{ℕ, zero, suc, ℤ, pos, negsuc, ◌+ℤ◌, ◌-ℤ◌, Bool, true, false, List, [], ◌∷◌, ◌++◌, Option, Some, None}
+use Rattle.std.specs.Prelude.{ℕ, zero, suc, ℤ, pos, negsuc, ◌+ℤ◌, ◌-ℤ◌, Bool, false, List, [], ◌∷◌, ◌++◌, Option, Some, None}
 use Rattle.asl_syn.specs.declared.token.Span.{Span}
 use Rattle.asl_syn.specs.declared.code.DynCode.TheVariants.{D08, D09, D10}
 use Rattle.asl_syn.specs.declared.tree.Direction.{Direction}
@@ -12,7 +12,7 @@ use Rattle.asl_core.specs.Values.{Value, int, exception_with, Exit, Normal, Retu
 use Rattle.asl_core.specs.Texts.{value_text, line_feed}
 use Rattle.asl_core.specs.Plans.{Faulted, Stuck, WrongKind, NothingCaught, Plan, Ret, Raise, Stop, Eval, Exec, Put, Within, choose, follow, Pure, Good, Bad, lift}
 use Rattle.asl_core.specs.Operators.{truth, less}
-use Rattle.asl_core.specs.Forms.{eval_all, behind}
+use Rattle.asl_core.specs.Forms.{eval_all}
 
 -- how a state keeps its frame: its height, what it is when it is cut to a height, and the exceptions that are being handled in it,
 -- the innermost first

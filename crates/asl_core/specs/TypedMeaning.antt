@@ -25,7 +25,7 @@ use Rattle.asl_core.specs.Plans.{Faulted, Stuck, UnknownName, WrongKind, Plan, R
 use Rattle.asl_core.specs.Pures.{◌>>=◌, there, known, found_type}
 use Rattle.asl_core.specs.ByNames.{matched_in}
 use Rattle.asl_core.specs.Forms.{at_once, literal, behind, behind_all, behind_more, operation, conditional, element, tuple, call, function_gives, procedure_gives, routine_gives, unless_full, Keeps, in_frame}
-use Rattle.asl_core.specs.StatementForms.{Frames, done_normal, in_order, Branch, branch, branches, scope, assertion, with_value, with_values, Ahead, ready, by_one, by_all, Store, assignment, return_value, Item, Written, Valued, print_items, Choice, case_of, for_loop, while_loop, repeat_loop, throw, Catch, try_list}
+use Rattle.asl_core.specs.StatementForms.{Frames, done_normal, in_order, Branch, branch, branches, assertion, with_value, with_values, Ahead, ready, by_one, by_all, Store, assignment, return_value, Item, Written, Valued, print_items, Choice, case_of, for_loop, while_loop, repeat_loop, throw, Catch, try_list}
 
 -- ---- states
 

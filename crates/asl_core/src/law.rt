@@ -1,11 +1,12 @@
 //! The laws of the definitions, each as the contract of a function without parameters.
 #![tactic(auto)]
 
-ghost use Rattle.std.specs.Prelude.{ℕ, List};
-ghost use Rattle.asl_grammar.specs.Reading.{File};
+ghost use Rattle.std.specs.Prelude.{ℕ, List, Ok};
+ghost use Rattle.asl_grammar.specs.Reading.{File, Reads};
 ghost use Rattle.asl_core.specs.declared.entry.Entry.{Entry};
 ghost use Rattle.asl_core.specs.Answers.{OneAnswer};
-ghost use Rattle.asl_core.specs.Programs.{Environment};
+ghost use Rattle.asl_core.specs.Programs.{Environment, Accepted, ProgramOk};
+ghost use Rattle.asl_core.specs.Soundness.{Soundness, SameMeaning};
 ghost use Rattle.asl_syn.specs.declared.tree.Decl.{Decl};
 ghost use Rattle.asl_core.specs.Tests.{Tests};
 ghost use Rattle.asl_core.specs.OneRun.{OneRun};
@@ -26,4 +27,12 @@ pub fn law1()
 #[tactic(auto, using(crate::proofs::OneVerdict::one_answer))]
 pub fn law2()
     ensures { (limit : ℕ) (e : Entry) (files : List File) → OneAnswer limit e files }
+{}
+
+/// Soundness: no run of a well-formed program is stuck. Each state that it visits is sound, each node that it visits was
+/// judged in a scope with which the state agrees, an expression with a type gives values of that type, and the globals
+/// hold what was declared. Typed trees do what the trees do that they were judged from.
+#[tactic(auto)]
+pub fn law3()
+    ensures { (limit : ℕ) (e : Entry) (files : List File) (ds : List Decl) (a : Accepted) → Reads files (Ok ds) → (p : ProgramOk limit e ds a) → Soundness p.tests ds a × SameMeaning p.tests ds a }
 {}
