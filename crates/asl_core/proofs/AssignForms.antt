@@ -32,6 +32,7 @@ use Rattle.asl_core.specs.TypedMeaning.{BareCore, Runs, step_ahead}
 use Rattle.asl_core.specs.Erasure.{erased}
 use Rattle.asl_cons.proofs.Covering.{value_constant_map}
 use Rattle.asl_core.proofs.Inversions.{ok_ok, bind_ok, then_ok, need_ok, found_ok}
+use Rattle.asl_core.proofs.MemberNamed.{member_ok}
 use Rattle.asl_core.proofs.Tests.{both}
 use Rattle.asl_core.proofs.Naming.{WellNamed, well_declared}
 use Rattle.asl_core.proofs.WellTyped.{member_formed, element_formed, bits_formed}
@@ -57,7 +58,7 @@ module _ (tests : Tests) (right : IsRight tests) (ds : List Decl) (base : List E
   suffix_formed : (G : Scope) (y : TypedSuffix) (T : Ty) (b : Behind) → WellFormed (types_in base) T → behind_suffix y T G ≡ Ok b → WellFormed (types_in base) b.ty
   suffix_formed G (by_field at f) T b t h =
       let m = bind_ok (member_named f T) _ b h in
-      subst (λ (z : Behind). WellFormed (types_in base) z.ty) (ok_ok (behind (member_type m.value) (member_step at m.value)) b m.then) (member_formed tests right (types_in base) (well_declared base w) T f.text m.value t.shaped (found_ok (member_of T f.text) T15 f.span m.value m.first))
+      subst (λ (z : Behind). WellFormed (types_in base) z.ty) (ok_ok (behind (member_type m.value) (member_step at m.value)) b m.then) (member_formed tests right (types_in base) (well_declared base w) T f.text m.value t.shaped (member_ok f T m.value m.first))
   suffix_formed G (by_bitfields at fs) T b t h =
       let m = bind_ok (named_in_type at fs T) _ b h in
       subst (λ (z : Behind). WellFormed (types_in base) z.ty) (ok_ok (behind (bits_wide (all_wide m.value)) _) b m.then) (bits_formed tests right (types_in base) (well_declared base w) _)
@@ -86,7 +87,7 @@ module _ (tests : Tests) (right : IsRight tests) (ds : List Decl) (base : List E
   suffix_same {A} {B} H Q span (FieldOf f) y T b c k l t h g a next =
       let g1 : behind_suffix (by_field span f) T H.scope ≡ Ok b = subst (λ z. behind_suffix z T H.scope ≡ Ok b) (sym (ok_ok (by_field span f) y h)) g in
       let m = bind_ok (member_named f T) _ b g1 in
-      one m.value (ok_ok (behind (member_type m.value) (member_step span m.value)) b m.then) (found_ok (member_of T f.text) T15 f.span m.value m.first)
+      one m.value (ok_ok (behind (member_type m.value) (member_step span m.value)) b m.then) (member_ok f T m.value m.first)
     where
       one : (m : Member) → behind (member_type m) (member_step span m) ≡ b → member_of T f.text ≡ Some m → Same tests right base subs H Q (eval_step (step_of span (FieldOf f)) c k) (eval_step (step_ahead b.step) (erased c) l)
       one (a_field n V) e i = subst (λ (z : Behind). Same tests right base subs H Q (k (into_field span f.text) c) (eval_step (step_ahead z.step) (erased c) l)) e (next (into_field span f.text) (places.into_field span n) c (subst (λ (z : Behind). Leads H T z.ty (into_field span f.text) (places.into_field span n)) e (member_leads H T span f (a_field n V) t i)) a)

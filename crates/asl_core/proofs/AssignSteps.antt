@@ -25,9 +25,9 @@ use Rattle.asl_core.specs.States.{of_type, of_value, kept}
 use Rattle.asl_core.specs.Belonging.{has_type, fields_have, all_have, InType}
 use Rattle.asl_core.specs.Agreement.{no_atoms, types_in}
 use Rattle.asl_core.specs.Programs.{Environment}
-use Rattle.asl_core.specs.Plans.{Faulted, Stuck, Pure, Good, Bad}
+use Rattle.asl_core.specs.Plans.{Faulted, Stuck, WrongKind, Pure, Good, Bad}
 use Rattle.asl_core.specs.Pures.{◌>>=◌, there}
-use Rattle.asl_core.specs.Vectors.{Slicing, Places, slicings, tested, slice_places, with_slices, read_bits, write_bits, total_width, places_of_field, places_of_fields, bits_at, with_places, bitfield_of, with_bitfield, bitfields_of, with_bitfields, named_among, bitfields_named}
+use Rattle.asl_core.specs.Vectors.{Slicing, Places, slicings, tested, slice_places, with_slices, read_bits, write_bits, total_width, places_of_field, places_of_fields, bits_at, all_within, fill, with_places, bitfield_of, with_bitfield, bitfields_of, with_bitfields, named_among, bitfields_named}
 use Rattle.asl_core.specs.Operators.{plain_bits}
 use Rattle.asl_core.specs.ByPlace as places
 use Rattle.asl_core.specs.ByPlace.{with_field_at, with_field_in}
@@ -77,6 +77,16 @@ write_length n (p ∷ ps) r bs a e h =
     let k : length (drop t r) ≡ p.width = left_long t (length r) p.width (length (drop t r)) e (length-drop t r) in
     write_length n ps (take t r) (with_slice bs p.low (drop t r)) a.1 (taken_long t (length r) p.width (length (take t r)) e (length-take t r))
     (slice_length n p.low (drop t r) bs h (subst (λ m. p.low + m ≤ n) (sym k) (le_is (p.low + p.width) n a.0)))
+
+equal_is : (m n : ℕ) → m ≡ n → (m == n) ≡ true
+equal_is m n h = grind (arith, nat_tests)
+
+within_whole : (n : ℕ) (ps : List Places) → AllWithin (Some n) ps → all_within ps n ≡ true
+within_whole n [] a = refl
+within_whole n (p ∷ ps) a = and_true (nat_le (p.low + p.width) n) (all_within ps n) a.0 (within_whole n ps a.1)
+
+filled_whole : (m : ℕ) (ps : List Places) (n : ℕ) → m ≡ total_width ps → AllWithin (Some n) ps → fill m ps n ≡ true
+filled_whole m ps n h a = and_true (m == total_width ps) (all_within ps n) (equal_is m (total_width ps) h) (within_whole n ps a)
 
 room : (l h n : ℕ) → l ≤ h → h + 1 ≤ n → l + (h + 1 - l) ≤ n
 room l h n i j = omega arith
@@ -229,7 +239,8 @@ module _ (d : List ℕ → Option Ty) (w : WellDeclared d) (av : Assignment) (te
       let long : length c.0 ≡ total_width ps = same_number (length c.0) (total_width ps) (sym (width_is (length c.0) (width_at p av) c.3) ∙ e) in
       record {
         after = write_bits ps c.0 bs;
-        is = ap (λ z. with_places span ps z (bits_with bs v)) c.2;
+        is = ap (λ z. with_places span ps z (bits_with bs v)) c.2 ∙
+            ap (λ b. cond b (Good (bits_with (write_bits ps c.0 bs) v)) (Bad (Stuck WrongKind span))) (filled_whole (length c.0) ps (length bs) long a);
         belongs = bits_stay T bs (write_bits ps c.0 bs) v k (write_length (length bs) ps c.0 bs a long refl) i;
       }
 

@@ -9,12 +9,11 @@ use Rattle.asl_syn.specs.declared.tree.UnaryOperator.{UnaryOperator}
 use Rattle.asl_syn.specs.declared.tree.BinaryOperator.{BinaryOperator}
 use Rattle.asl_syn.specs.declared.tree.BinaryOperator.TheVariants as binary
 use Rattle.asl_syn.specs.Layers.{ExprLayer, expr_layer_span}
-use Rattle.asl_mask.specs.Digits.{fixed_bits}
 use Rattle.asl_core.specs.declared.effect.Effect.{Effect}
 use Rattle.asl_core.specs.declared.effect.Effect.TheVariants.{Pure}
 use Rattle.asl_core.specs.Faults.{◌>>◌, need, found_or, fault_of}
 use Rattle.asl_core.specs.Tests.{Tests, IsRight}
-use Rattle.asl_core.specs.Types.{Ty, integer_of, boolean, tuple_of, only_number, bits_wide, is_boolean, is_integer, join, bare}
+use Rattle.asl_core.specs.Types.{Ty, integer_of, boolean, tuple_of, bits_wide, is_boolean, is_integer, join, bare}
 use Rattle.asl_core.specs.Closed.{Assignment, parts_with}
 use Rattle.asl_core.specs.Scopes.{Entry, Signature, Storage, Standing, Stored, Subprogram, TypeName, Label, standing_of, reading}
 use Rattle.asl_core.specs.WellFormed.{WellFormed, BuiltAll}
@@ -27,13 +26,13 @@ use Rattle.asl_core.specs.Effects.{greater, together, all_together, greatest}
 use Rattle.asl_core.specs.Typing.{Typed, typed_as, note, in_class, Operand, operands, effects_of, types_of, trees_in, trees_of}
 use Rattle.asl_core.specs.Operations.{of_booleans, binary_rule, unary_rule}
 use Rattle.asl_core.specs.Members.{element_in, indexed}
-use Rattle.asl_core.specs.Exprs.{found, typed, apart, operation_rule, operation_rule_of_two, conditional_rule, tuple_rule, element_rule, name_of_standing, bits_rule_of}
+use Rattle.asl_core.specs.Exprs.{literal_type, found, typed, apart, operation_rule, operation_rule_of_two, conditional_rule, tuple_rule, element_rule, name_of_standing, bits_rule_of}
 use Rattle.asl_core.specs.Values.{Value, bool, tuple_with, is_width, value}
 use Rattle.asl_core.specs.Views.{stripped, parts_viewed}
 use Rattle.asl_core.specs.States.{Core}
 use Rattle.asl_core.specs.Belonging.{InType, has_type, parts_have}
 use Rattle.asl_core.specs.Agreement.{types_in}
-use Rattle.asl_core.specs.Vectors.{literal_digits}
+use Rattle.asl_core.specs.Vectors.{literal_of}
 use Rattle.asl_core.specs.Structures.{element_of, values_of}
 use Rattle.asl_core.specs.Plans.{Ret, choose, Good, lift}
 use Rattle.asl_core.specs.Pures.{known, there}
@@ -96,24 +95,24 @@ module _ (tests : Tests) (right : IsRight tests) (ds : List Decl) (base : List E
 
   -- ---- literals and names
 
-  pub int_formed : (H : Here) (S : Typed) (span : Span) (n : ℕ) (c : Core) → in_class H.scope.class span Pure (integer_of (only_number (pos n))) (λ m. tree.Int m n) ≡ Ok S → At tests base subs H c → Formed H S (ex.Int span n) c
+  pub int_formed : (H : Here) (S : Typed) (span : Span) (n : ℕ) (c : Core) → in_class H.scope.class span Pure (literal_type n) (λ m. tree.Int m n) ≡ Ok S → At tests base subs H c → Formed H S (ex.Int span n) c
   int_formed H S span n c h a =
-      formed H S (ex.Int span n) c span (integer_of (only_number (pos n))) Pure (λ m. tree.Int m n) (in_class_is H.scope.class span Pure (integer_of (only_number (pos n))) (λ m. tree.Int m n) S h) refl
-      (at_once_same tests right base subs H (integer_of (only_number (pos n))) (literal span n) c (literal_gives (types_in base) H.present tests right span (pos n)) a)
+      formed H S (ex.Int span n) c span (literal_type n) Pure (λ m. tree.Int m n) (in_class_is H.scope.class span Pure (literal_type n) (λ m. tree.Int m n) S h) refl
+      (at_once_same tests right base subs H (literal_type n) (literal span n) c (literal_gives (types_in base) H.present tests right span n) a)
 
   pub bool_formed : (H : Here) (S : Typed) (span : Span) (b : Bool) (c : Core) → in_class H.scope.class span Pure boolean (λ n. tree.Constant n (bool b)) ≡ Ok S → At tests base subs H c → Formed H S (ex.Bool span b) c
   bool_formed H S span b c h a =
       formed H S (ex.Bool span b) c span boolean Pure (λ n. tree.Constant n (bool b)) (in_class_is H.scope.class span Pure boolean (λ n. tree.Constant n (bool b)) S h) refl (refl, (refl, ((refl, tt, refl), a)))
 
-  bits_by : (H : Here) (S : Typed) (span : Span) (t : List ℕ) (o : Option (List Bool)) (c : Core) → fixed_bits (literal_digits t) ≡ o → bits_rule_of H.scope.class span o ≡ Ok S → At tests base subs H c → Formed H S (ex.Bits span t) c
+  bits_by : (H : Here) (S : Typed) (span : Span) (t : List ℕ) (o : Option (List Bool)) (c : Core) → literal_of tests.limit t ≡ o → bits_rule_of H.scope.class span o ≡ Ok S → At tests base subs H c → Formed H S (ex.Bits span t) c
   bits_by H S span t None c q h a = err_ok (fault_of S03 span) S h
   bits_by H S span t (Some bs) c q h a =
       formed H S (ex.Bits span t) c span (bits_wide (length bs)) Pure (λ n. tree.Constant n (plain_bits bs)) (in_class_is H.scope.class span Pure (bits_wide (length bs)) (λ n. tree.Constant n (plain_bits bs)) S h) refl
       (subst (λ o. Same tests right base subs H (Out tests right base subs H (bits_wide (length bs))) (at_once (there span (option_map plain_bits o)) c) (Ret (plain_bits bs) (erased c))) (sym q)
       (refl, (refl, ((subst (λ z. is_width (length bs) z ≡ true) (sym (value_constant_map H.present (pos (length bs)))) (number_is (length bs)), tt, refl), a))))
 
-  pub bits_formed : (H : Here) (S : Typed) (span : Span) (t : List ℕ) (c : Core) → bits_rule_of H.scope.class span (fixed_bits (literal_digits t)) ≡ Ok S → At tests base subs H c → Formed H S (ex.Bits span t) c
-  bits_formed H S span t c h a = bits_by H S span t (fixed_bits (literal_digits t)) c refl h a
+  pub bits_formed : (H : Here) (S : Typed) (span : Span) (t : List ℕ) (c : Core) → bits_rule_of H.scope.class span (literal_of tests.limit t) ≡ Ok S → At tests base subs H c → Formed H S (ex.Bits span t) c
+  bits_formed H S span t c h a = bits_by H S span t (literal_of tests.limit t) c refl h a
 
   name_by : (H : Here) (S : Typed) (span : Span) (name : List ℕ) (o : Option Standing) (c : Core) → standing_of name H.scope.names ≡ o → name_of_standing span name o H.scope ≡ Ok S → At tests base subs H c → Formed H S (ex.Name span name) c
   name_by H S span name (Some (Stored s)) c q h a =

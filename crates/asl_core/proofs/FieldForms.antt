@@ -16,7 +16,7 @@ use Rattle.asl_core.specs.Trees as tree
 use Rattle.asl_core.specs.Trees.{Note, Tree, TreeFunc}
 use Rattle.asl_core.specs.Widths.{heaviest}
 use Rattle.asl_core.specs.Typing.{Typed, in_class}
-use Rattle.asl_core.specs.Members.{Member, a_field, a_bitfield, member_type, member_tree, member_of, bitfields_in, bitfields_named as named_in_type, all_wide}
+use Rattle.asl_core.specs.Members.{member_named, Member, a_field, a_bitfield, member_type, member_tree, member_of, bitfields_in, bitfields_named as named_in_type, all_wide}
 use Rattle.asl_core.specs.Exprs.{found, typed, field_rule, bitfields_rule}
 use Rattle.asl_core.specs.States.{Core}
 use Rattle.asl_core.specs.Agreement.{types_in}
@@ -25,6 +25,7 @@ use Rattle.asl_core.specs.Pures as pure
 use Rattle.asl_core.specs.Vectors.{bitfield_of, bitfields_of, bitfields_named}
 use Rattle.asl_core.specs.ByPlace as places
 use Rattle.asl_core.proofs.Inversions.{bind_ok, then_ok, need_ok, found_ok, ok_ok}
+use Rattle.asl_core.proofs.MemberNamed.{member_ok}
 use Rattle.asl_core.proofs.Naming.{WellNamed, well_declared}
 use Rattle.asl_core.proofs.Opening.{in_class_is}
 use Rattle.asl_core.proofs.Claims.{Here, At}
@@ -44,8 +45,8 @@ module _ (tests : Tests) (right : IsRight tests) (ds : List Decl) (base : List E
   pub field_formed : (H : Here) (S : Typed) (span : Span) (e : Expr) (i : Ident) (c : Core) → ((T : Typed) → typed tests e H.scope ≡ Ok T → WellFormed (types_in base) T.ty) → field_rule span (found tests e) i H.scope ≡ Ok S → At tests base subs H c → Formed tests right ds base subs funcs w H S (ex.Field span e i) c
   field_formed H S span e i c good h a =
       let t = bind_ok (typed tests e H.scope) _ S h in
-      let m = bind_ok (found_or (member_of t.value.ty i.text) T15 i.span) _ S t.then in
-      field_by H S span e i c t.value m.value (good t.value t.first) t.first (found_ok (member_of t.value.ty i.text) T15 i.span m.value m.first) m.then a
+      let m = bind_ok (member_named i t.value.ty) _ S t.then in
+      field_by H S span e i c t.value m.value (good t.value t.first) t.first (member_ok i t.value.ty m.value m.first) m.then a
 
   pub bitfields_formed : (H : Here) (S : Typed) (span : Span) (e : Expr) (is : List Ident) (c : Core) → ((T : Typed) → typed tests e H.scope ≡ Ok T → WellFormed (types_in base) T.ty) → bitfields_rule span (found tests e) is H.scope ≡ Ok S → At tests base subs H c → Formed tests right ds base subs funcs w H S (ex.Fields span e is) c
   bitfields_formed H S span e is c good h a =

@@ -110,7 +110,7 @@ module _ (env : Environment) (c : Core) (P : Expr → Type 0) where
 
   pub layer_twin : HoldsInitial env c → (x : ExprLayer) → Needs x → Twin (expr_plan (in_state env) tree_parts x c) (expr_plan (before_runs env.limit) known_parts (known_layer env.limit x) env.names)
   layer_twin holds (ex.Int span n) w = once_same (literal span n)
-  layer_twin holds (ex.Bits span t) w = once_same (literal_bits span t)
+  layer_twin holds (ex.Bits span t) w = once_same (literal_bits env.limit span t)
   layer_twin holds (ex.Bool span b) w = (refl, refl)
   layer_twin holds (ex.Name span name) w = once_twin (known span (value_here env name c)) (known span (initial_value (standing_of name env.names))) (ap (known span) (holds name))
   layer_twin holds (ex.Unary span o a) w = behind_twin a (unary_value span o) w

@@ -65,6 +65,7 @@ pub mod FieldForms
 pub mod Twins
 pub mod TreePlans
 pub mod MemberForms
+pub mod MemberNamed
 pub mod Constructs
 pub mod ConstructForms
 pub mod WidthTrees
@@ -137,3 +138,5 @@ pub mod SoundnessEntry
 pub mod AssignForms
 pub mod AssignActs
 pub mod OwnBraces
+pub mod PlansKeep
+pub mod GlobalsKept

@@ -1,8 +1,8 @@
 -- Patterns with their typed trees: the expressions in them are the same, in order, and a value of the type that they fit is decided with their values.
-use Rattle.std.proofs.Common.{◌≡◌, ℕ, ℤ, pos, ◌&&◌, cond, Bool, true, false, List, [], ◌∷◌, ◌++◌, length, Option, Some, Ok, refl, sym, ap, ◌∙◌, subst, map, append_assoc}
+use Rattle.std.proofs.Common.{nat_le, ◌≡◌, ℕ, ℤ, pos, ◌&&◌, cond, Bool, true, false, List, [], ◌∷◌, ◌++◌, length, Option, Some, Ok, refl, sym, ap, ◌∙◌, subst, map, append_assoc}
 use Rattle.std.specs.Prelude.{◌==◌}
 use Rattle.asl_syn.specs.declared.token.Span.{Span}
-use Rattle.asl_syn.specs.declared.code.StaticCode.TheVariants.{T06, T08, T23}
+use Rattle.asl_syn.specs.declared.code.StaticCode.TheVariants.{T06, T08, T20, T23}
 use Rattle.asl_syn.specs.declared.tree.BinaryOperator.TheVariants as binary
 use Rattle.asl_syn.specs.declared.tree.Bitfield.{Bitfield}
 use Rattle.asl_syn.specs.declared.tree.ConstraintPart.{ConstraintPart}
@@ -332,8 +332,9 @@ module _ (tests : Tests) (right : IsRight tests) (base : List Entry) (subs : Lis
       })
   layer_says (ex.MaskPattern span t) T m h =
       let k = then_ok (need (is_bits T) T23 span) _ m h in
-      let l = then_ok (need (tests.same (width_of T) (constant_map (pos (length (literal_digits t))))) T06 span) (Ok (matched (masked span (literal_digits t)) [])) m k.then in
-      said _ T (matched (masked span (literal_digits t)) []) m (ok_ok (matched (masked span (literal_digits t)) []) m l.then)
+      let l = then_ok (need (tests.same (width_of T) (constant_map (pos (length (literal_digits t))))) T06 span) _ m k.then in
+      let n = then_ok (need (nat_le (length (literal_digits t)) tests.limit) T20 span) (Ok (matched (masked span (literal_digits t)) [])) m l.then in
+      said _ T (matched (masked span (literal_digits t)) []) m (ok_ok (matched (masked span (literal_digits t)) []) m n.then)
       (record {
         asked = [];
         shape_is = refl;

@@ -16,7 +16,7 @@ use Rattle.asl_bits.specs.Lists.{int_bits, bits_value, both as zipped, and_bit, 
 use Rattle.asl_bits.proofs.Lists.{length-bits_of}
 use Rattle.asl_cons.specs.declared.Part.{Part}
 use Rattle.asl_cons.specs.Constraint.{In}
-use Rattle.asl_cons.specs.Arithmetic.{sum_parts, difference_parts, product_parts, quotient_parts, modulo_parts, shifted_up_parts, shifted_down_parts}
+use Rattle.asl_cons.specs.Arithmetic.{fits, sum_parts, difference_parts, product_parts, quotient_parts, modulo_parts, shifted_up_parts, shifted_down_parts}
 use Rattle.asl_cons.specs.Arithmetic as cons
 use Rattle.asl_core.specs.Faults.{◌>>◌, need}
 use Rattle.asl_core.specs.Tests.{Tests, IsRight}
@@ -42,6 +42,7 @@ use Rattle.asl_core.specs.Widths.{width_sum}
 use Rattle.asl_core.proofs.WidthsWorth.{sum_is}
 use Rattle.asl_cons.proofs.Results.{sum_in, difference_in}
 use Rattle.asl_cons.proofs.Products.{product_in, quotient_in, modulo_in, shifted_up_in, shifted_down_in}
+use Rattle.asl_core.specs.Exprs.{literal_type}
 use Rattle.asl_core.specs.Operations.{is_comparable, same_widths, binary_rule, unary_rule}
 
 -- a value of the type, or a fault
@@ -345,8 +346,12 @@ module _ (d : List ℕ → Option Ty) (av : Assignment) (tests : Tests) (right :
       self : (z : ℤ) → z ≤ℤ z
       self z = omega (arith, ints)
 
-  pub literal_gives : (span : Span) (z : ℤ) → Gives d av (integer_of (only_number z)) (integer_value span z)
-  literal_gives span z = integer_gives (only_number z) span z (only_in z)
+  pub literal_gives : (span : Span) (n : ℕ) → Gives d av (literal_type n) (integer_value span (pos n))
+  literal_gives span n = by (fits (pos n))
+    where
+      by : (b : Bool) → Gives d av (integer_of (cond b (only_number (pos n)) [])) (integer_value span (pos n))
+      by true = integer_gives (only_number (pos n)) span (pos n) (only_in (pos n))
+      by false = integer_gives [] span (pos n) (inl refl)
 
   pub unary_gives : (span : Span) (o : UnaryOperator) (S U : Ty) (x : Value) → unary_rule span o S ≡ Ok U → InType d av x S → Gives d av U (unary_value span o x)
   unary_gives span unary.Negate S U x h i =

@@ -35,8 +35,7 @@ use Rattle.asl_core.specs.Trees as tree
 use Rattle.asl_core.specs.Trees.{Tree, Note, own, of_library}
 use Rattle.asl_core.specs.Shapes.{TypeShape}
 use Rattle.asl_syn.specs.declared.code.Fault.{Fault}
-use Rattle.asl_mask.specs.Digits.{fixed_bits}
-use Rattle.asl_core.specs.Vectors.{literal_digits}
+use Rattle.asl_core.specs.Vectors.{literal_of}
 use Rattle.asl_core.specs.Values.{bool, bits_with}
 use Rattle.asl_core.specs.Effects.{greater, together, all_together, greatest}
 use Rattle.asl_core.specs.Layouts.{slot_of, layout_of}
@@ -44,11 +43,13 @@ use Rattle.asl_core.specs.Slicing.{FoundSlice, all_operands, sliceable, sliced_w
 use Rattle.asl_core.specs.Patterns.{FoundPattern}
 use Rattle.asl_core.specs.Typing.{Found, Typed, Operand, operand, operands, effects_of, types_of, trees_of, trees_from, in_class, finish}
 use Rattle.asl_core.specs.Operations.{of_integers, of_booleans, additive, bitwise, concatenated, compared, same_widths, comparable, binary_rule, unary_rule}
-use Rattle.asl_core.specs.Members.{Member, a_field, a_bitfield, member_type, member_tree, numbered, one_further, field_among, bitfield_in, bitfields_named, all_wide, member_of, element_in, indexed, Constructed, constructed, constructed_of, given_once, all_fit, places_given, texts_of}
+use Rattle.asl_core.specs.Members.{member_named, Member, a_field, a_bitfield, member_type, member_tree, numbered, one_further, field_among, bitfield_in, bitfields_named, all_wide, member_of, element_in, indexed, Constructed, constructed, constructed_of, given_once, all_fit, places_given, texts_of}
 use Rattle.asl_core.specs.Writing.{Written, FoundType, FoundPart, FoundBitfield, written_as, most_parts, parts_written, view_rule, within_limits, all_parts, all_fields, types_in_order, types_written}
 use Rattle.asl_core.specs.Calls.{bits_of_first, routine_type, routine_params, polys, widths_given, routine_taken, call_tree, chosen, widths_rule, both_fit, replaced_by, function_of, call_begun}
-use Rattle.asl_core.specs.Exprs.{FoundField, values_given, names_given, found_slice, found_pattern, found, found_type, typed, written, typed_rule, written_rule, expr_rule, given_rule, slice_rule, part_rule, bitfield_rule, type_rule, pattern_rule, apart, name_of_standing, bits_rule_of}
+use Rattle.asl_cons.specs.Arithmetic.{fits}
+use Rattle.asl_core.specs.Exprs.{literal_type, FoundField, values_given, names_given, found_slice, found_pattern, found, found_type, typed, written, typed_rule, written_rule, expr_rule, given_rule, slice_rule, part_rule, bitfield_rule, type_rule, pattern_rule, apart, name_of_standing, bits_rule_of}
 use Rattle.asl_core.proofs.Inversions.{ok_ok, err_ok, bind_ok, then_ok, need_ok, found_ok}
+use Rattle.asl_core.proofs.MemberNamed.{member_ok}
 use Rattle.asl_core.proofs.Tests.{no, some_same, none_some}
 use Rattle.std.specs.Prelude.{◌⊎◌, if◌then◌else◌, ◌||◌}
 use Rattle.std.proofs.Common.{arith, inl, inr}
@@ -66,6 +67,7 @@ use Rattle.asl_core.specs.Operations.{arithmetic, any_parts}
 use Rattle.asl_core.specs.Slicing.{all_add, no_width}
 use Rattle.asl_core.specs.Writing.{WrittenPart, one_width, one_number, range_of_widths, range_of_numbers}
 use Rattle.asl_core.specs.Calls.{Given, given, Replacing, Giving, written_first, argument_first, widths_omitted, given_by_argument, is_width_alone, first_width, unsigned, signed}
+use Rattle.asl_cons.specs.Arithmetic.{fits}
 use Rattle.asl_core.specs.Exprs.{width}
 use Rattle.asl_core.specs.Worth.{AtomsOf}
 use Rattle.asl_core.proofs.WellTyped.{constructed_type}
@@ -527,8 +529,12 @@ module _ (A : ℕ → Type 0) (tests : Tests) where
       subst (λ l. AllOver A (types_of l)) (ok_ok (operand (found tests e.0).span s.value ∷ r.value) os r.then) (w, operands_over es G r.value g u r.first)
 
   layer_over : (y : Below) (G : Scope) (S : Typed) → NamesOver A G.names → SubsOver G.subs → typed_rule tests (opened tests (trees y)) G ≡ Ok S → Over A S.ty
-  layer_over (ex.Int span n) G S g u h = subst (Over A) (class_type G.class span Pure (integer_of (only_number (pos n))) (λ m. tree.Int m n) S h) (numbers_over A (pos n) (pos n), tt)
-  layer_over (ex.Bits span t) G S g u h = literal_over G.class span (fixed_bits (literal_digits t)) S h
+  layer_over (ex.Int span n) G S g u h = subst (Over A) (class_type G.class span Pure (literal_type n) (λ m. tree.Int m n) S h) (by (fits (pos n)))
+    where
+      by : (b : Bool) → Over A (integer_of (cond b (only_number (pos n)) []))
+      by true = (numbers_over A (pos n) (pos n), tt)
+      by false = tt
+  layer_over (ex.Bits span t) G S g u h = literal_over G.class span (literal_of tests.limit t) S h
   layer_over (ex.Bool span b) G S g u h = subst (Over A) (class_type G.class span Pure boolean (λ n. tree.Constant n (bool b)) S h) tt
   layer_over (ex.Name span name) G S g u h = standing_over span name (standing_of name G.names) G S (g.standing name) h
   layer_over (ex.Unary span o a) G S g u h =
@@ -570,8 +576,8 @@ module _ (A : ℕ → Type 0) (tests : Tests) where
       (subst (λ l. AllOver A (types_of l)) (ok_ok o.value b.value k.then) (operands_over es G o.value g u o.first)) b.then
   layer_over (ex.Field span a i) G S g u h =
       let t = bind_ok (typed tests a.0 G) _ S h in
-      let m = bind_ok (found_or (member_of t.value.ty i.text) T15 i.span) _ S t.then in
-      subst (Over A) (class_type G.class span t.value.effect (member_type m.value) (member_tree t.value.tree m.value) S m.then) (member_over t.value.ty i.text m.value (a.1 G t.value g u t.first) (found_ok (member_of t.value.ty i.text) T15 i.span m.value m.first))
+      let m = bind_ok (member_named i t.value.ty) _ S t.then in
+      subst (Over A) (class_type G.class span t.value.effect (member_type m.value) (member_tree t.value.tree m.value) S m.then) (member_over t.value.ty i.text m.value (a.1 G t.value g u t.first) (member_ok i t.value.ty m.value m.first))
   layer_over (ex.Fields span a is) G S g u h =
       let t = bind_ok (typed tests a.0 G) _ S h in
       let f = bind_ok (bitfields_named span is t.value.ty) _ S t.then in

@@ -251,7 +251,7 @@ module _ (limit : ℕ) (A B : List Entry) where
 
   layer_expr : (y : ex.Expr-F BB CC EE FF PP SS TT) → Agree A B (in_expr (noded_expr (trees_expr y))) → KnownSame (constant_layer limit (opened_expr (trees_expr y)))
   layer_expr (ex.Int span n) g = once_same span (forms.literal span n)
-  layer_expr (ex.Bits span text) g = once_same span (literal_bits span text)
+  layer_expr (ex.Bits span text) g = once_same span (literal_bits limit span text)
   layer_expr (ex.Bool span b) g = refl
   layer_expr (ex.Name span name) g = ap (λ r. settled span A (at_once r A)) (value_same span name g.0) ∙ once_same span (known span (initial_value (standing_of name B)))
   layer_expr (ex.Unary span o a) g = behind_same span (constant limit a.0) (unary_value span o) (a.1 g.1)

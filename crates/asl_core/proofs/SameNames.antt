@@ -2,7 +2,7 @@
 -- where it isn't called.
 use Rattle.std.proofs.Common.{◌≡◌, ℕ, pos, Bool, ◌&&◌, ◌||◌, List, [], ◌∷◌, ◌++◌, map, length, Option, Some, None, refl, sym, ap, ap₂, subst}
 use Rattle.asl_syn.specs.declared.token.Span.{Span}
-use Rattle.asl_syn.specs.declared.code.StaticCode.TheVariants.{S03, T19}
+use Rattle.asl_syn.specs.declared.code.StaticCode.TheVariants.{S03, T19, T20}
 use Rattle.asl_syn.specs.declared.tree.UnaryOperator.{UnaryOperator}
 use Rattle.asl_syn.specs.declared.tree.UnaryOperator.TheVariants as unary
 use Rattle.asl_syn.specs.declared.tree.Bitfield.{Bitfield, roll-Bitfield}
@@ -14,26 +14,26 @@ use Rattle.asl_syn.specs.declared.tree.Slice.{Slice, roll-Slice}
 use Rattle.asl_syn.specs.declared.tree.TypeExpr.{TypeExpr, roll-TypeExpr}
 use Rattle.asl_syn.specs.declared.tree.Bitfield.TheOpen as ex
 use Rattle.asl_syn.specs.declared.tree.Bitfield.TheFolds.{fold-Bitfield, fold-ConstraintPart, fold-FieldValue, fold-roll-Bitfield, fold-roll-ConstraintPart, fold-roll-Expr, fold-roll-FieldValue, fold-roll-Pattern, fold-roll-Slice, fold-roll-TypeExpr, map-Bitfield, map-ConstraintPart, map-Expr, map-FieldValue, map-Pattern, map-Slice, map-TypeExpr, ind-Expr, ind-TypeExpr}
-use Rattle.asl_mask.specs.Digits.{fixed_bits}
+use Rattle.asl_cons.specs.Arithmetic.{fits}
 use Rattle.asl_core.specs.declared.effect.Effect.{Effect}
 use Rattle.asl_core.specs.declared.effect.Effect.TheVariants.{Pure}
-use Rattle.asl_core.specs.Faults.{fault_of, found_or}
+use Rattle.asl_core.specs.Faults.{fault_of, found_or, need}
 use Rattle.asl_core.specs.Tests.{Tests}
-use Rattle.asl_core.specs.Types.{boolean, integer_of, only_number, bits_wide}
+use Rattle.asl_core.specs.Types.{boolean, bits_wide}
 use Rattle.asl_core.specs.Shapes as shape
 use Rattle.asl_core.specs.Trees as tree
 use Rattle.asl_core.specs.Values.{bool, bits_with}
-use Rattle.asl_core.specs.Vectors.{literal_digits}
+use Rattle.asl_core.specs.Vectors.{literal_digits, literal_of}
 use Rattle.asl_core.specs.Scopes.{Entry, Signature, standing_of}
 use Rattle.asl_core.specs.Widths.{width_of_number, has_width}
 use Rattle.asl_core.specs.Typing.{Found, width_as, number_as, width_note}
 use Rattle.asl_core.specs.Slicing.{FoundSlice}
 use Rattle.asl_core.specs.Writing.{FoundPart, FoundBitfield, FoundType, written_as}
 use Rattle.asl_core.specs.Patterns.{FoundPattern, matched}
-use Rattle.asl_core.specs.Exprs.{FoundField, found, found_type, found_slice, found_pattern, typed_rule, width_rule, number_rule, atom_rule, written_rule, expr_rule, given_rule, slice_rule, part_rule, bitfield_rule, type_rule, pattern_rule}
+use Rattle.asl_core.specs.Exprs.{literal_type, FoundField, found, found_type, found_slice, found_pattern, typed_rule, width_rule, number_rule, atom_rule, written_rule, expr_rule, given_rule, slice_rule, part_rule, bitfield_rule, type_rule, pattern_rule}
 use Rattle.asl_core.specs.Nodes.{Node, Nodes, a_call, Each, joined, in_bitfield, in_part, in_expr, in_field, in_pattern, in_slice, in_type, expr_nodes, pattern_nodes, slice_nodes, type_nodes}
 use Rattle.asl_core.specs.Uses.{used_at}
-use Rattle.asl_core.proofs.Alike.{Alike, alike_ok, alike_err, step, alike_cond, Same, Both, in_class_alike}
+use Rattle.asl_core.proofs.Alike.{Alike, alike_ok, alike_err, step, after, alike_cond, Same, Both, in_class_alike}
 use Rattle.asl_core.proofs.SameRules.{shown, AllOf, SameWidths, SameNumbers, SameWritten, TypedSame, WidthSame, OperandsSame, AddsSame, GivenSame, PartSame, BitfieldSame, WrittenSame, PatternSame, name_alike, unary_alike, binary_alike, conditional_alike, tuple_alike, construct_alike, field_alike, bitfields_alike, element_alike, name_width, name_number, name_atom, negated_width, negated_number, combined_width, combined_number, call_alike, bit_operands, bit_adds, high_low_operands, high_low_adds, low_width_operands, low_width_adds, factor_width_operands, factor_width_adds, slices_alike, set_alike, tuple_pattern_alike, mask_alike, end_alike, value_alike, range_alike, in_alike, range_part, only_part, integer_alike, one_bit_alike, bit_range_alike, bits_alike, named_alike, tuple_written_alike, array_alike, as_alike}
 
 -- ---- lists of nodes
@@ -247,8 +247,8 @@ module _ (t : Tests) (A B : List Entry) (subs : List Signature) where
   -- ---- each layer
 
   layer_typed : (y : ex.Expr-F BB CC EE FF PP SS TT) → Agree A B (in_expr (noded_expr (trees_expr y))) → Called A B (in_expr (noded_expr (trees_expr y))) → (k : Effect) → Alike Same (typed_rule t (opened_expr (trees_expr y)) (record { names = A; subs = subs; class = k })) (typed_rule t (opened_expr (trees_expr y)) (record { names = B; subs = subs; class = k }))
-  layer_typed (ex.Int span n) g l k = in_class_alike k span Pure (integer_of (only_number (pos n))) (λ m. tree.Int m n) (λ m. tree.Int m n)
-  layer_typed (ex.Bits span text) g l k = step Same (found_or (fixed_bits (literal_digits text)) S03 span) _ _ (λ bs. in_class_alike k span Pure (bits_wide (length bs)) (λ n. tree.Constant n (bits_with bs [])) (λ n. tree.Constant n (bits_with bs [])))
+  layer_typed (ex.Int span n) g l k = in_class_alike k span Pure (literal_type n) (λ m. tree.Int m n) (λ m. tree.Int m n)
+  layer_typed (ex.Bits span text) g l k = step Same (found_or (literal_of t.limit text) S03 span) _ _ (λ bs. in_class_alike k span Pure (bits_wide (length bs)) (λ n. tree.Constant n (bits_with bs [])) (λ n. tree.Constant n (bits_with bs [])))
   layer_typed (ex.Bool span b) g l k = in_class_alike k span Pure boolean (λ n. tree.Constant n (bool b)) (λ n. tree.Constant n (bool b))
   layer_typed (ex.Name span name) g l k = name_alike t A B subs span name k g.0
   layer_typed (ex.Unary span o a) g l k = unary_alike t A B subs span o (found t a.0) k ((a.1 g.1).typed_is l.1)
@@ -306,7 +306,7 @@ module _ (t : Tests) (A B : List Entry) (subs : List Signature) where
   number_unary span unary.Complement a g k = alike_err SameNumbers (fault_of T19 span)
 
   layer_number : (y : ex.Expr-F BB CC EE FF PP SS TT) → Agree A B (in_expr (noded_expr (trees_expr y))) → (k : Effect) → Alike SameNumbers (number_rule (opened_expr (trees_expr y)) (record { names = A; subs = subs; class = k })) (number_rule (opened_expr (trees_expr y)) (record { names = B; subs = subs; class = k }))
-  layer_number (ex.Int span n) g k = alike_ok SameNumbers (number_as (pos n) (tree.Int (width_note span) n)) (number_as (pos n) (tree.Int (width_note span) n)) refl
+  layer_number (ex.Int span n) g k = after SameNumbers (need (fits (pos n)) T20 span) _ _ (alike_ok SameNumbers (number_as (pos n) (tree.Int (width_note span) n)) (number_as (pos n) (tree.Int (width_note span) n)) refl)
   layer_number (ex.Name span name) g k = name_number t A B subs span name k g.0
   layer_number (ex.Unary span o a) g k = number_unary span o a g.1 k
   layer_number (ex.Binary span o a b) g k =

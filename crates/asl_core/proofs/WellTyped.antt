@@ -29,7 +29,7 @@ use Rattle.asl_core.specs.declared.effect.Effect.{Effect}
 use Rattle.asl_core.specs.declared.effect.Effect.TheVariants.{Pure}
 use Rattle.asl_core.specs.Faults.{◌>>=◌, ◌>>◌, need, found_or, fault_of}
 use Rattle.asl_core.specs.Tests.{Tests, IsRight}
-use Rattle.asl_core.specs.Types.{Ty, Kinds, kinds, kinds_eq, Fields, Parts, View, BitField, Widths, integer_of, boolean, bits_of, enumeration_of, record_of, exception_of, tuple_of, array_of, named, no_field, field, no_part, part, is_integer, is_boolean, is_bits, same_kind, only_number, join, bare, width_of, bits_wide, substitute, substitute_parts, with_type, substituted_ranges, substitute_fits}
+use Rattle.asl_core.specs.Types.{Ty, Kinds, kinds, kinds_eq, Fields, Parts, View, BitField, Widths, integer_of, boolean, bits_of, enumeration_of, record_of, exception_of, tuple_of, array_of, named, no_field, field, no_part, part, is_integer, is_boolean, is_bits, same_kind, join, bare, width_of, bits_wide, substitute, substitute_parts, with_type, substituted_ranges, substitute_fits}
 use Rattle.asl_core.specs.Closed.{Assignment, width_at}
 use Rattle.asl_core.specs.Scopes.{Scope, with_class, reading, Signature, Chosen, choose, choose_from, Standing, Stored, Subprogram, TypeName, Label, standing_of, type_of_name}
 use Rattle.asl_core.specs.WellFormed.{WellFormed, WellDeclared, Shaped, ShapedFields, ShapedParts, AllInside, ShapedView}
@@ -39,8 +39,7 @@ use Rattle.asl_core.specs.Trees as tree
 use Rattle.asl_core.specs.Trees.{Tree, Note, own, of_library}
 use Rattle.asl_core.specs.Shapes.{TypeShape}
 use Rattle.asl_syn.specs.declared.code.Fault.{Fault}
-use Rattle.asl_mask.specs.Digits.{fixed_bits}
-use Rattle.asl_core.specs.Vectors.{literal_digits}
+use Rattle.asl_core.specs.Vectors.{literal_of}
 use Rattle.asl_core.specs.Values.{bool, bits_with}
 use Rattle.asl_core.specs.Effects.{greater, together, all_together, greatest}
 use Rattle.asl_core.specs.Layouts.{slot_of, layout_of}
@@ -48,11 +47,12 @@ use Rattle.asl_core.specs.Slicing.{FoundSlice, all_operands, sliceable, sliced_w
 use Rattle.asl_core.specs.Patterns.{FoundPattern}
 use Rattle.asl_core.specs.Typing.{Found, Typed, Operand, operand, operands, effects_of, types_of, trees_of, trees_from, in_class, finish}
 use Rattle.asl_core.specs.Operations.{of_integers, of_booleans, additive, bitwise, concatenated, compared, same_widths, comparable, binary_rule, unary_rule}
-use Rattle.asl_core.specs.Members.{Member, a_field, a_bitfield, member_type, member_tree, numbered, one_further, field_among, bitfield_in, bitfields_named, all_wide, member_of, element_in, indexed, Constructed, constructed, constructed_of, constructed_as, given_once, all_fit, places_given, texts_of}
+use Rattle.asl_core.specs.Members.{member_named, Member, a_field, a_bitfield, member_type, member_tree, numbered, one_further, field_among, bitfield_in, bitfields_named, all_wide, member_of, element_in, indexed, Constructed, constructed, constructed_of, constructed_as, given_once, all_fit, places_given, texts_of}
 use Rattle.asl_core.specs.Writing.{Written, WrittenField, Numbered, FoundType, FoundPart, FoundBitfield, written_as, most_parts, parts_written, all_numbered, placed, placed_from, all_placed, names_once, view_rule, within_limits, all_parts, all_fields, types_in_order, types_written}
 use Rattle.asl_core.specs.Calls.{bits_of_first, routine_type, routine_params, polys, widths_given, routine_taken, call_tree, chosen, widths_rule, both_fit, replaced_by, function_of, call_begun}
-use Rattle.asl_core.specs.Exprs.{FoundField, values_given, names_given, found_slice, found_pattern, found, found_type, typed, written, typed_rule, written_rule, expr_rule, given_rule, slice_rule, part_rule, bitfield_rule, type_rule, pattern_rule, apart, name_of_standing, bits_rule_of}
+use Rattle.asl_core.specs.Exprs.{literal_type, FoundField, values_given, names_given, found_slice, found_pattern, found, found_type, typed, written, typed_rule, written_rule, expr_rule, given_rule, slice_rule, part_rule, bitfield_rule, type_rule, pattern_rule, apart, name_of_standing, bits_rule_of}
 use Rattle.asl_core.proofs.Inversions.{ok_ok, err_ok, bind_ok, then_ok, found_ok}
+use Rattle.asl_core.proofs.MemberNamed.{member_ok}
 use Rattle.asl_core.proofs.Tests.{some_same, none_some, mapped}
 use Rattle.asl_core.proofs.Joining.{join_is_well_formed}
 use Rattle.asl_core.proofs.Bare.{bare_is_well_formed}
@@ -369,8 +369,8 @@ module _ (tests : Tests) (right : IsRight tests) (d : List ℕ → Option Ty) (d
       subst (λ l. ShapedParts d (types_of l)) (ok_ok (operand (found tests e.0).span s.value ∷ r.value) os r.then) (w.has_name, w.shaped, operands_formed es G r.value g u r.first)
 
   layer_formed : (y : Below) (G : Scope) (S : Typed) → GoodNames d G.names → FormedSubs G.subs → typed_rule tests (opened tests (trees y)) G ≡ Ok S → WellFormed d S.ty
-  layer_formed (ex.Int span n) G S g u h = subst (WellFormed d) (class_type G.class span Pure (integer_of (only_number (pos n))) (λ m. tree.Int m n) S h) (integer_formed _)
-  layer_formed (ex.Bits span t) G S g u h = literal_layer G.class span (fixed_bits (literal_digits t)) S h
+  layer_formed (ex.Int span n) G S g u h = subst (WellFormed d) (class_type G.class span Pure (literal_type n) (λ m. tree.Int m n) S h) (integer_formed _)
+  layer_formed (ex.Bits span t) G S g u h = literal_layer G.class span (literal_of tests.limit t) S h
   layer_formed (ex.Bool span b) G S g u h = subst (WellFormed d) (class_type G.class span Pure boolean (λ n. tree.Constant n (bool b)) S h) boolean_formed
   layer_formed (ex.Name span name) G S g u h = standing_formed span name (standing_of name G.names) G S (g name) h
   layer_formed (ex.Unary span o a) G S g u h =
@@ -409,8 +409,8 @@ module _ (tests : Tests) (right : IsRight tests) (d : List ℕ → Option Ty) (d
       function_layer span i (map (found tests) (map (λ e. e.0) ps)) (map (found tests) (map (λ e. e.0) es)) G S (routine_named i.text) b.value u b.then
   layer_formed (ex.Field span a i) G S g u h =
       let t = bind_ok (typed tests a.0 G) _ S h in
-      let m = bind_ok (found_or (member_of t.value.ty i.text) T15 i.span) _ S t.then in
-      subst (WellFormed d) (class_type G.class span t.value.effect (member_type m.value) (member_tree t.value.tree m.value) S m.then) (member_formed t.value.ty i.text m.value (a.1 G t.value g u t.first).shaped (found_ok (member_of t.value.ty i.text) T15 i.span m.value m.first))
+      let m = bind_ok (member_named i t.value.ty) _ S t.then in
+      subst (WellFormed d) (class_type G.class span t.value.effect (member_type m.value) (member_tree t.value.tree m.value) S m.then) (member_formed t.value.ty i.text m.value (a.1 G t.value g u t.first).shaped (member_ok i t.value.ty m.value m.first))
   layer_formed (ex.Fields span a is) G S g u h =
       let t = bind_ok (typed tests a.0 G) _ S h in
       let f = bind_ok (bitfields_named span is t.value.ty) _ S t.then in

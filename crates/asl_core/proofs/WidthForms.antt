@@ -3,7 +3,7 @@ use Rattle.std.proofs.Common.{◌≡◌, ℕ, ℤ, pos, Bool, true, false, List,
 use Rattle.std.specs.Prelude.{if◌then◌else◌, ◌-ℤ◌}
 use Rattle.asl_syn.specs.declared.token.Span.{Span}
 use Rattle.asl_syn.specs.declared.code.Fault.{Fault}
-use Rattle.asl_syn.specs.declared.code.StaticCode.TheVariants.{T19}
+use Rattle.asl_syn.specs.declared.code.StaticCode.TheVariants.{T19, T20}
 use Rattle.asl_syn.specs.declared.tree.Expr.{Expr, roll-Expr}
 use Rattle.asl_syn.specs.declared.tree.Bitfield.{Bitfield}
 use Rattle.asl_syn.specs.declared.tree.ConstraintPart.{ConstraintPart}
@@ -20,7 +20,8 @@ use Rattle.asl_syn.specs.declared.tree.BinaryOperator.TheVariants as binary
 use Rattle.asl_syn.specs.Layers.{ExprLayer}
 use Rattle.asl_poly.specs.Terms.{Polynomial}
 use Rattle.asl_poly.specs.Poly.{constant_map}
-use Rattle.asl_core.specs.Faults.{◌>>=◌, fault_of}
+use Rattle.asl_cons.specs.Arithmetic.{fits}
+use Rattle.asl_core.specs.Faults.{◌>>=◌, need, fault_of}
 use Rattle.asl_core.specs.Tests.{Tests}
 use Rattle.asl_core.specs.Trees as tree
 use Rattle.asl_core.specs.Trees.{Tree}
@@ -31,7 +32,7 @@ use Rattle.asl_core.specs.Slicing.{FoundSlice}
 use Rattle.asl_core.specs.Writing.{FoundPart, FoundBitfield, FoundType}
 use Rattle.asl_core.specs.Patterns.{FoundPattern}
 use Rattle.asl_core.specs.Exprs.{FoundField, found, width, width_rule, number_rule, width_of_operation, number_of_operation, name_read, span_of, expr_rule, given_rule, slice_rule, type_rule, part_rule, bitfield_rule, pattern_rule}
-use Rattle.asl_core.proofs.Inversions.{ok_ok, err_ok, bind_ok}
+use Rattle.asl_core.proofs.Inversions.{ok_ok, err_ok, bind_ok, then_ok}
 use Rattle.asl_core.proofs.Opening.{opened}
 
 -- what is refused under a test isn't refused
@@ -164,7 +165,7 @@ module _ (t : Tests) (P : Expr → Scope → ℤ → Type 0) (forms : NumberForm
   number_both span o e f G w h = err_ok (fault_of T19 span) w h
 
   number_at : (y : Under) (G : Scope) (w : Number) → number_rule (opened t (parts y)) G ≡ Ok w → P (roll-Expr (parts y)) G w.number
-  number_at (ex.Int span n) G w h = subst (P (roll-Expr (ex.Int span n)) G) (ap (λ (v : Number). v.number) (ok_ok (number_as (pos n) (tree.Int (width_note span) n)) w h)) (forms.whole span n G)
+  number_at (ex.Int span n) G w h = subst (P (roll-Expr (ex.Int span n)) G) (ap (λ (v : Number). v.number) (ok_ok (number_as (pos n) (tree.Int (width_note span) n)) w (then_ok (need (fits (pos n)) T20 span) _ w h).then)) (forms.whole span n G)
   number_at (ex.Name span name) G w h =
       number_made (number_of_standing span (standing_of name G.names)) (name_read span name G) w (P (roll-Expr (ex.Name span name)) G) (λ z e. forms.name span name G z e) h
   number_at (ex.Unary span o e) G w h = number_negation span o e G w h

@@ -2,7 +2,7 @@
 use Rattle.std.proofs.Common.{◌≡◌, ℕ, ℤ, pos, cond, Bool, true, false, List, Option, Some, None, Ok, refl, sym, ap, ◌∙◌, subst}
 use Rattle.std.specs.Prelude.{◌+ℤ◌, ◌-ℤ◌, ◌*ℤ◌}
 use Rattle.asl_syn.specs.declared.token.Span.{Span}
-use Rattle.asl_syn.specs.declared.code.StaticCode.TheVariants.{T02, T05, T19}
+use Rattle.asl_syn.specs.declared.code.StaticCode.TheVariants.{T02, T05, T19, T20}
 use Rattle.asl_syn.specs.declared.code.DynCode.TheVariants.{D01}
 use Rattle.asl_syn.specs.declared.tree.Expr.{Expr, out-Expr}
 use Rattle.asl_syn.specs.declared.tree.Bitfield.TheOpen as ex
@@ -16,7 +16,7 @@ use Rattle.asl_poly.specs.Poly.{constant_map}
 use Rattle.asl_cons.proofs.Covering.{value_constant_map}
 use Rattle.asl_core.specs.Faults.{◌>>=◌, need, fault, fault_of}
 use Rattle.asl_core.specs.Tests.{Tests, IsRight}
-use Rattle.asl_core.specs.Types.{Ty, is_integer, integer_of, only_number}
+use Rattle.asl_core.specs.Types.{Ty, is_integer}
 use Rattle.asl_core.specs.Closed.{Assignment, width_at}
 use Rattle.asl_core.specs.Scopes.{Entry, Signature, Counted, Storage, Standing, Stored, Subprogram, TypeName, Label, standing_of, known_value, reading}
 use Rattle.asl_core.specs.Widths.{width_of_number, width_of_standing, width_of_counted, width_sum, width_difference, width_product, number_of_standing, number_of_counted, held, has_width}
@@ -28,7 +28,8 @@ use Rattle.asl_core.specs.Trees.{Tree, Note, TreeFunc, tree_at}
 use Rattle.asl_core.specs.Effects.{together, greater}
 use Rattle.asl_core.specs.Operations.{binary_rule, unary_rule}
 use Rattle.asl_core.specs.Typing.{Found, Typed, Width, Number, typed_as, in_class, width_as, number_as, width_note}
-use Rattle.asl_core.specs.Exprs.{found, typed, width, typed_rule, width_rule, number_rule, width_of_operation, number_of_operation, name_read, name_of_standing, operation_rule}
+use Rattle.asl_cons.specs.Arithmetic.{fits}
+use Rattle.asl_core.specs.Exprs.{literal_type, found, typed, width, typed_rule, width_rule, number_rule, width_of_operation, number_of_operation, name_read, name_of_standing, operation_rule}
 use Rattle.asl_core.specs.Values.{Value, int}
 use Rattle.asl_core.specs.States.{Core}
 use Rattle.asl_core.specs.Agreement.{types_in, IsKnown, CountsAs}
@@ -247,7 +248,7 @@ module _ (tests : Tests) (right : IsRight tests) (ds : List Decl) (base : List E
 
   number_layer : (H : Here) (N : Number) (layer : ExprLayer) (c : Core) → number_rule (opened tests layer) H.scope ≡ Ok N → At tests base subs H c → Widened H (of_number N) layer c
   number_layer H N (ex.Int span n) c h a =
-      number_of H N (ex.Int span n) c (pos n) (tree.Int (width_note span) n) (ok_ok (number_as (pos n) (tree.Int (width_note span) n)) N h) refl (integer_same H (pos n) (pos n) span c refl a)
+      number_of H N (ex.Int span n) c (pos n) (tree.Int (width_note span) n) (ok_ok (number_as (pos n) (tree.Int (width_note span) n)) N (then_ok (need (fits (pos n)) T20 span) _ N h).then) refl (integer_same H (pos n) (pos n) span c refl a)
   number_layer H N (ex.Name span name) c h a =
       let u = bind_ok (number_of_standing span (standing_of name H.scope.names)) _ N h in
       number_of H N (ex.Name span name) c u.value (name_read span name H.scope) (ok_ok (number_as u.value (name_read span name H.scope)) N u.then) refl (number_by H span name (standing_of name H.scope.names) u.value c refl u.first a)
@@ -288,10 +289,10 @@ module _ (tests : Tests) (right : IsRight tests) (ds : List Decl) (base : List E
       Same tests right base subs H (OutInt H (width_at p H.present)) (expr_node (env tests right ds base subs funcs w) layer c) (tree_node (program tests right ds base subs funcs w) (typed_as span U k make).tree (erased c)) → Widened H (of_known S W) layer c
   known_of H S W layer c span U k make p t e f at d = subst (λ (z : Width). Widened H (of_known S z) layer c) f (subst (λ (z : Typed). Widened H (of_known z (width_as p t)) layer c) e (record { at = at; does = d }))
 
-  known_int : (H : Here) (S : Typed) (W : Width) (span : Span) (n : ℕ) (c : Core) → in_class H.scope.class span Pure (integer_of (only_number (pos n))) (λ m. tree.Int m n) ≡ Ok S → (width_of_number span (pos n) >>= λ p. Ok (width_as p (tree.Int (width_note span) n))) ≡ Ok W → At tests base subs H c → Widened H (of_known S W) (ex.Int span n) c
+  known_int : (H : Here) (S : Typed) (W : Width) (span : Span) (n : ℕ) (c : Core) → in_class H.scope.class span Pure (literal_type n) (λ m. tree.Int m n) ≡ Ok S → (width_of_number span (pos n) >>= λ p. Ok (width_as p (tree.Int (width_note span) n))) ≡ Ok W → At tests base subs H c → Widened H (of_known S W) (ex.Int span n) c
   known_int H S W span n c h k a =
       let u = bind_ok (width_of_number span (pos n)) _ W k in
-      known_of H S W (ex.Int span n) c span (integer_of (only_number (pos n))) Pure (λ m. tree.Int m n) u.value (tree.Int (width_note span) n) (in_class_is H.scope.class span Pure (integer_of (only_number (pos n))) (λ m. tree.Int m n) S h) (ok_ok (width_as u.value (tree.Int (width_note span) n)) W u.then) refl
+      known_of H S W (ex.Int span n) c span (literal_type n) Pure (λ m. tree.Int m n) u.value (tree.Int (width_note span) n) (in_class_is H.scope.class span Pure (literal_type n) (λ m. tree.Int m n) S h) (ok_ok (width_as u.value (tree.Int (width_note span) n)) W u.then) refl
       (integer_same H (pos n) (width_at u.value H.present) span c (sym (widths.number_is H.present span (pos n) u.value u.first)) a)
 
   known_by : (H : Here) (S : Typed) (W : Width) (span : Span) (name : List ℕ) (o : Option Standing) (p : Polynomial) (c : Core) → standing_of name H.scope.names ≡ o → name_of_standing span name o H.scope ≡ Ok S → width_of_standing span o ≡ Ok p → width_as p (name_read span name H.scope) ≡ W → At tests base subs H c → Widened H (of_known S W) (ex.Name span name) c

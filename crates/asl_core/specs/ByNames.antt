@@ -42,7 +42,7 @@ matched_in limit p zs x = is_matched limit (pattern_and p no_pattern) zs x >>= �
 
 abbrev pub expr_plan : {B I F L P T C E S : Type 0} → Asks C E S → Views E F L P T → ex.Expr-F B I E F P L T → C → Plan C E S Value
 expr_plan q v (ex.Int span n) c = at_once (literal span n) c
-expr_plan q v (ex.Bits span t) c = at_once (literal_bits span t) c
+expr_plan q v (ex.Bits span t) c = at_once (literal_bits q.limit span t) c
 expr_plan q v (ex.Bool span b) c = Ret (bool b) c
 expr_plan q v (ex.Name span name) c = at_once (q.value span name c) c
 expr_plan q v (ex.Unary span o a) c = behind a c (unary_value span o)

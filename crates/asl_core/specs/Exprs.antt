@@ -4,7 +4,7 @@ use Rattle.std.specs.Prelude.{ℕ, pos, ◌-ℤ◌, Bool, false, ◌&&◌, ◌||
 use Rattle.asl_syn.specs.declared.token.Span.{Span}
 use Rattle.asl_syn.specs.declared.code.Fault.{Fault}
 use Rattle.asl_syn.specs.declared.code.StaticCode.{StaticCode}
-use Rattle.asl_syn.specs.declared.code.StaticCode.TheVariants.{S03, T02, T05, T06, T19}
+use Rattle.asl_syn.specs.declared.code.StaticCode.TheVariants.{S03, T02, T05, T06, T19, T20}
 use Rattle.asl_syn.specs.declared.tree.Expr.{Expr}
 use Rattle.asl_syn.specs.declared.tree.Bitfield.TheOpen as ex
 use Rattle.asl_syn.specs.declared.tree.Bitfield.TheFolds.{fold-Expr, fold-TypeExpr, fold-Slice, fold-Pattern}
@@ -15,15 +15,15 @@ use Rattle.asl_syn.specs.declared.tree.UnaryOperator.{UnaryOperator}
 use Rattle.asl_syn.specs.declared.tree.UnaryOperator.TheVariants as unary
 use Rattle.asl_syn.specs.declared.tree.BinaryOperator.{BinaryOperator}
 use Rattle.asl_syn.specs.declared.tree.Ident.{Ident}
-use Rattle.asl_mask.specs.Digits.{fixed_bits}
 use Rattle.asl_poly.specs.Poly.{constant_map}
+use Rattle.asl_cons.specs.Arithmetic.{fits}
 use Rattle.asl_core.specs.declared.effect.Effect.{Effect}
 use Rattle.asl_core.specs.declared.effect.Effect.TheVariants.{Pure}
 use Rattle.asl_core.specs.Faults.{◌>>=◌, ◌>>◌, need, fault, found_or}
 use Rattle.asl_core.specs.Values.{bool, bits_with}
-use Rattle.asl_core.specs.Vectors.{literal_digits}
+use Rattle.asl_core.specs.Vectors.{literal_digits, literal_of}
 use Rattle.asl_core.specs.Tests.{Tests}
-use Rattle.asl_core.specs.Types.{Ty, integer_of, boolean, tuple_of, is_boolean, is_bits, only_number, bits_wide, join, bare}
+use Rattle.asl_core.specs.Types.{Ty, boolean, tuple_of, is_boolean, is_bits, integer_of, only_number, bits_wide, join, bare}
 use Rattle.asl_core.specs.Shapes as shape
 use Rattle.asl_core.specs.Trees as tree
 use Rattle.asl_core.specs.Trees.{Tree}
@@ -45,6 +45,10 @@ pub record FoundField : Type 0 where
   pub value : Found
 
 -- ---- literals and names
+
+-- the type of an integer literal: its number alone, and any integer where it isn't within 128 bits
+abbrev pub literal_type : ℕ → Ty
+literal_type n = integer_of (if fits (pos n) then only_number (pos n) else [])
 
 abbrev pub bits_literal : Effect → Span → List Bool → Result Typed Fault
 bits_literal class span bs = in_class class span Pure (bits_wide (length bs)) (λ n. tree.Constant n (bits_with bs []))
@@ -141,8 +145,8 @@ span_of (ex.As span a t) = span
 span_of (ex.In span a p) = span
 
 abbrev pub typed_rule : Tests → ExprOf → Scope → Result Typed Fault
-typed_rule t (ex.Int span n) G = in_class G.class span Pure (integer_of (only_number (pos n))) (λ m. tree.Int m n)
-typed_rule t (ex.Bits span text) G = bits_rule_of G.class span (fixed_bits (literal_digits text))
+typed_rule t (ex.Int span n) G = in_class G.class span Pure (literal_type n) (λ m. tree.Int m n)
+typed_rule t (ex.Bits span text) G = bits_rule_of G.class span (literal_of t.limit text)
 typed_rule t (ex.Bool span b) G = in_class G.class span Pure boolean (λ n. tree.Constant n (bool b))
 typed_rule t (ex.Name span name) G = name_rule span name G
 typed_rule t (ex.Unary span o a) G = operation_rule span o a G
@@ -193,7 +197,7 @@ number_of_operation span o y z = number_of_binary span o y.number z.number >>= �
 
 -- the number of a width expression that names no atom
 abbrev pub number_rule : ExprOf → Scope → Result Number Fault
-number_rule (ex.Int span n) G = Ok (number_as (pos n) (tree.Int (width_note span) n))
+number_rule (ex.Int span n) G = need (fits (pos n)) T20 span >> Ok (number_as (pos n) (tree.Int (width_note span) n))
 number_rule (ex.Bits span text) G = fault T19 span
 number_rule (ex.Bool span b) G = fault T19 span
 number_rule (ex.Name span name) G = number_of_standing span (standing_of name G.names) >>= λ z. Ok (number_as z (name_read span name G))

@@ -76,9 +76,14 @@ abbrev pub member_step : Span → Member → TreeStep
 member_step at (a_field i T) = into_field at i
 member_step at (a_bitfield f) = into_bitfield at f
 
--- T15 at the name where there is none
+-- a bitfield has no more places than the limit of widths
+abbrev pub has_room : Member → Bool
+has_room (a_field n T) = true
+has_room (a_bitfield f) = nat_le (bitfield_width f) heaviest
+
+-- T15 at the name where there is none, and T20 past the limit of widths
 abbrev pub member_named : Ident → Ty → Result Member Fault
-member_named i T = found_or (member_of T i.text) T15 i.span
+member_named i T = found_or (member_of T i.text) T15 i.span >>= λ m. need (has_room m) T20 i.span >> Ok m
 
 abbrev pub field_behind : Effect → Span → Ident → Typed → Result Typed Fault
 field_behind class span i S = member_named i S.ty >>= λ m. in_class class span S.effect (member_type m) (member_tree S.tree m)

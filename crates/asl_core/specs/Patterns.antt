@@ -1,8 +1,8 @@
 -- Patterns against a type: whether they fit what is held against them, with their shapes and the trees of the expressions in them.
-use Rattle.std.specs.Prelude.{pos, Bool, true, false, ◌&&◌, List, [], ◌∷◌, ◌++◌, length, Option, Result, Ok}
+use Rattle.std.specs.Prelude.{pos, nat_le, Bool, true, false, ◌&&◌, List, [], ◌∷◌, ◌++◌, length, Option, Result, Ok}
 use Rattle.asl_syn.specs.declared.token.Span.{Span}
 use Rattle.asl_syn.specs.declared.code.Fault.{Fault}
-use Rattle.asl_syn.specs.declared.code.StaticCode.TheVariants.{T06, T23}
+use Rattle.asl_syn.specs.declared.code.StaticCode.TheVariants.{T06, T20, T23}
 use Rattle.asl_poly.specs.Poly.{constant_map}
 use Rattle.asl_core.specs.declared.effect.Effect.{Effect}
 use Rattle.asl_core.specs.declared.effect.Effect.TheVariants.{Pure}
@@ -57,9 +57,11 @@ pattern_trees (m ∷ ms) = m.trees ++ pattern_trees ms
 abbrev pub set_matched : Bool → List Matched → Matched
 set_matched b ms = matched (one_of b (pattern_shapes ms)) (pattern_trees ms)
 
+-- a mask has no more digits than the width limit
 abbrev pub mask_matched : Tests → Span → List (Option Bool) → Ty → Result Matched Fault
 mask_matched t span digits T =
-    need (is_bits T) T23 span >> need (t.same (width_of T) (constant_map (pos (length digits)))) T06 span >> Ok (matched (masked span digits) [])
+    need (is_bits T) T23 span >> need (t.same (width_of T) (constant_map (pos (length digits)))) T06 span >> need (nat_le (length digits) t.limit) T20 span >>
+    Ok (matched (masked span digits) [])
 
 -- below or above an end
 abbrev pub end_matched : Span → PatternShape → Ty → Typed → Result Matched Fault

@@ -1,5 +1,5 @@
 -- Bits by their places: literals, slices and bitfields, read and written.
-use Rattle.std.specs.Prelude.{ℕ, ◌+◌, ◌^◌, ℤ, pos, negsuc, ◌+ℤ◌, ◌-ℤ◌, ◌*ℤ◌, Bool, true, if◌then◌else◌, nat_le, List, [], ◌∷◌, ◌++◌, take, drop, length, Option, Some, None, option_map}
+use Rattle.std.specs.Prelude.{ℕ, ◌+◌, ◌^◌, ◌==◌, ℤ, pos, negsuc, ◌+ℤ◌, ◌-ℤ◌, ◌*ℤ◌, Bool, true, ◌&&◌, if◌then◌else◌, nat_le, List, [], ◌∷◌, ◌++◌, take, drop, length, Option, Some, None, option_map}
 use Rattle.std.specs.Str.{bytes_eq}
 use Rattle.asl_syn.specs.declared.token.Span.{Span}
 use Rattle.asl_syn.specs.declared.code.DynCode.TheVariants.{D01, D05, D14}
@@ -22,8 +22,12 @@ abbrev pub literal_digits : List ℕ → List (Option Bool)
 literal_digits [] = []
 literal_digits (quote ∷ rest) = mask_of rest
 
-abbrev pub literal_bits : Span → List ℕ → Pure Value
-literal_bits span t = there span (option_map plain_bits (fixed_bits (literal_digits t)))
+-- the bits of a literal: none where a digit is free, or past the width limit
+abbrev pub literal_of : ℕ → List ℕ → Option (List Bool)
+literal_of limit t = if nat_le (length (literal_digits t)) limit then fixed_bits (literal_digits t) else None
+
+abbrev pub literal_bits : ℕ → Span → List ℕ → Pure Value
+literal_bits limit span t = there span (option_map plain_bits (literal_of limit t))
 
 -- ---- places among bits
 
@@ -133,9 +137,18 @@ abbrev pub write_bits : List Places → List Bool → List Bool → List Bool
 write_bits [] r bs = bs
 write_bits (p ∷ ps) r bs = write_bits ps (take (total_width ps) r) (with_slice bs p.low (drop (total_width ps) r))
 
--- bits with others in these places
+-- so many places hold all of these
+abbrev pub all_within : List Places → ℕ → Bool
+all_within [] n = true
+all_within (p ∷ ps) n = nat_le (p.low + p.width) n && all_within ps n
+
+-- so many bits fill these places, of so many
+abbrev pub fill : ℕ → List Places → ℕ → Bool
+fill m ps n = (m == total_width ps) && all_within ps n
+
+-- bits with others in these places, which they fill
 abbrev pub with_places : Span → List Places → Value → Value → Pure Value
-with_places span ps (bits_with r u) (bits_with bs v) = Good (bits_with (write_bits ps r bs) v)
+with_places span ps (bits_with r u) (bits_with bs v) = if fill (length r) ps (length bs) then Good (bits_with (write_bits ps r bs) v) else Bad (Stuck WrongKind span)
 with_places span ps y x = Bad (Stuck WrongKind span)
 
 -- the places of slices of bits alone

@@ -1,10 +1,14 @@
 pub mod Building
+pub mod ChainLemmas
 pub mod Falling
 pub mod KindLemmas
 pub mod MemberLemmas
 pub mod NumberLemmas
 pub mod Rest
 pub mod ScopeLemmas
+pub mod Seen
 pub mod SizeLemmas
 pub mod SubstituteLemmas
 pub mod TestLemmas
+pub mod TotalLemmas
+pub mod WidthLemmas

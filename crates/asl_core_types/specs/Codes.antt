@@ -1,6 +1,6 @@
 -- The types of the rules as plain data of the code, by which one can be told from another.
 use Rattle.std.specs.Prelude.{◌≡◌, ℕ, List, [], ◌∷◌, map, refl}
-use Rattle.std.specs.Coded.{Coded, code_by}
+use Rattle.std.specs.Coded.{Coded, code_by, coded_list}
 use Rattle.std.proofs.Common.{ap, ◌∙◌}
 use Rattle.asl_core_types.specs.declared.plain.Plain.{Plain, roll-Plain}
 use Rattle.asl_core_types.specs.declared.plain.PlainField.{PlainField, roll-PlainField}
@@ -86,3 +86,6 @@ mutual
 
 abbrev pub ty_code : Coded rules.Ty
 ty_code = code_by Plain plain_in_code.the_row.coded plain ty_of again
+
+abbrev pub parts_code : Coded rules.Parts
+parts_code = code_by (List Plain) (coded_list plain_in_code.the_row.coded) plain_parts (λ ps. parts_of (map ty_of ps)) parts_again

@@ -1,9 +1,8 @@
 -- The values and the entries of the rules as data of the code, by which one can be told from another.
-use Rattle.std.specs.Prelude.{◌≡◌, ℕ, ℤ, Bool, List, [], ◌∷◌, map, Option, Some, None, refl}
+use Rattle.std.specs.Prelude.{◌≡◌, ℕ, ℤ, Bool, List, [], ◌∷◌, Option, Some, None, refl}
 use Rattle.std.specs.Coded.{Coded, code_by, coded×, coded⊎, coded_bool, coded_ℕ, coded_ℤ, coded_list, coded_option}
 use Rattle.std.proofs.Common.{ap, ◌∙◌, ◌⊎◌, inl, inr}
 use Rattle.asl_poly.specs.Terms.{Polynomial, Summand}
-use Rattle.asl_core_value.specs.declared.value.BitField.{BitField}
 use Rattle.asl_core_value.specs.declared.value.Kind.{Kind, roll-Kind}
 use Rattle.asl_core_value.specs.declared.value.Kind.TheOpen as k
 use Rattle.asl_core_value.specs.declared.value.Kind.TheFolds.{fold-roll-Kind}
@@ -13,10 +12,12 @@ use Rattle.asl_core_value.specs.declared.value.FieldValue.TheOpen as v
 use Rattle.asl_core_value.specs.declared.value.FieldValue.TheFolds.{fold-roll-Value, fold-roll-FieldValue}
 use Rattle.asl_core_value.specs.contracts.value.Value as value_in_code
 use Rattle.asl_core_value.specs.View as values
+use Rattle.asl_core.specs.declared.effect.Effect.{Effect}
+use Rattle.asl_core.specs.contracts.effect.Effect as effect_in_code
 use Rattle.asl_core.specs.Types as types
 use Rattle.asl_core.specs.Values as rules
-use Rattle.asl_core.specs.Scopes.{Counted, Storage, Standing, Stored, Subprogram, TypeName, Label, Entry}
-use Rattle.asl_core_types.specs.Codes.{ty_code}
+use Rattle.asl_core.specs.Scopes.{Counted, Storage, Standing, Stored, Subprogram, TypeName, Label, Entry, Param, Signature}
+use Rattle.asl_core_types.specs.Codes.{ty_code, parts_code}
 
 -- ---- kinds
 
@@ -52,18 +53,11 @@ mutual
 
 -- ---- values
 
-abbrev pub bitfield_back : types.BitField → BitField
-bitfield_back f = record { name = f.name; high = f.high; low = f.low }
-
-pub bitfields_again : (fs : types.View) → values.all_bitfields (map bitfield_back fs) ≡ fs
-bitfields_again [] = refl
-bitfields_again (f ∷ fs) = ap (λ gs. f ∷ gs) (bitfields_again fs)
-
 abbrev mutual
   pub value_back : rules.Value → Value
   value_back (rules.int z) = roll-Value (v.Int z)
   value_back (rules.bool b) = roll-Value (v.Bool b)
-  value_back (rules.bits_with bs u) = roll-Value (v.Bits bs (Some (map bitfield_back u)))
+  value_back (rules.bits_with bs u) = roll-Value (v.Bits bs (Some u))
   value_back (rules.label name l) = roll-Value (v.Label name l)
   value_back (rules.record_with name xs) = roll-Value (v.Record name (fields_back xs))
   value_back (rules.exception_with own supers name xs) = roll-Value (v.Exception own supers name (fields_back xs))
@@ -82,7 +76,7 @@ mutual
   pub value_again : (x : rules.Value) → values.value_of (value_back x) ≡ x
   value_again (rules.int z) = fold-roll-Value values.Of rules.Value values.field_rule values.value_rule (v.Int z)
   value_again (rules.bool b) = fold-roll-Value values.Of rules.Value values.field_rule values.value_rule (v.Bool b)
-  value_again (rules.bits_with bs u) = fold-roll-Value values.Of rules.Value values.field_rule values.value_rule (v.Bits bs (Some (map bitfield_back u))) ∙ ap (λ w. rules.bits_with bs w) (bitfields_again u)
+  value_again (rules.bits_with bs u) = fold-roll-Value values.Of rules.Value values.field_rule values.value_rule (v.Bits bs (Some u))
   value_again (rules.label n l) = fold-roll-Value values.Of rules.Value values.field_rule values.value_rule (v.Label n l)
   value_again (rules.record_with n xs) = fold-roll-Value values.Of rules.Value values.field_rule values.value_rule (v.Record n (fields_back xs)) ∙ ap (λ ys. rules.record_with n ys) (field_values_again xs)
   value_again (rules.exception_with own supers n xs) = fold-roll-Value values.Of rules.Value values.field_rule values.value_rule (v.Exception own supers n (fields_back xs)) ∙ ap (λ ys. rules.exception_with own supers n ys) (field_values_again xs)
@@ -148,3 +142,18 @@ entry_code = code_by (List ℕ × Standing) (coded× (coded_list coded_ℕ) stan
 
 abbrev pub entries_code : Coded (List Entry)
 entries_code = coded_list entry_code
+
+-- ---- subprograms
+
+abbrev pub param_code : Coded Param
+param_code = code_by (ℕ × Option types.Ty) (coded× coded_ℕ (coded_option ty_code)) (λ p. (p.atom, p.ty)) (λ q. record { atom = q.0; ty = q.1 }) (λ _. refl)
+
+abbrev pub signature_code : Coded Signature
+signature_code =
+    code_by (List ℕ × (Effect × (List Param × (types.Parts × (Option types.Ty × ℤ)))))
+    (coded× (coded_list coded_ℕ) (coded× effect_in_code.the_row.coded (coded× (coded_list param_code) (coded× parts_code (coded× (coded_option ty_code) coded_ℤ)))))
+    (λ f. (f.name, (f.class, (f.params, (f.formals, (f.result, f.limit))))))
+    (λ q. record { name = q.0; class = q.1.0; params = q.1.1.0; formals = q.1.1.1.0; result = q.1.1.1.1.0; limit = q.1.1.1.1.1 }) (λ _. refl)
+
+abbrev pub signatures_code : Coded (List Signature)
+signatures_code = coded_list signature_code

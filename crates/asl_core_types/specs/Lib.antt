@@ -1,9 +1,16 @@
 pub mod Answers
+pub mod Bits
+pub mod Chains
 pub mod Codes
+pub mod ContextView
 pub mod EntryCodes
 pub mod Heights
 pub mod HeightsFall
+pub mod Limited
 pub mod MemberView
 pub mod Parts
+pub mod Seeing
 pub mod Standings
+pub mod Suits
+pub mod Totals
 pub mod View

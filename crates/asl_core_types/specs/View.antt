@@ -1,10 +1,11 @@
 -- The types of the rules that those of the code stand for.
-use Rattle.std.specs.Prelude.{◌≡◌, ℕ, List, [], ◌∷◌, min}
+use Rattle.std.specs.Prelude.{◌≡◌, ℕ, Bool, List, [], ◌∷◌, min}
 use Rattle.asl_core_types.specs.declared.ty.FieldType.{FieldType}
 use Rattle.asl_core_types.specs.declared.ty.FieldType.TheVariants as f
 use Rattle.asl_core_types.specs.declared.ty.Form.{Form}
 use Rattle.asl_core_types.specs.declared.ty.Form.TheVariants as t
 use Rattle.asl_core.specs.Types as rules
+use Rattle.asl_core_types.specs.Bits.{holds_bits}
 
 abbrev pub parts_of : List rules.Ty → rules.Parts
 parts_of [] = rules.no_part
@@ -25,7 +26,8 @@ form_view (t.Tuple Ts) = rules.tuple_of (parts_of Ts)
 form_view (t.Array n T) = rules.array_of n T
 form_view (t.Named n ns T) = rules.named n ns T
 
--- these are the size and the depth of a type, up to a number past the limits
-pub record Counted (s d : ℕ) (T : rules.Ty) : Type 0 where
+-- these are the size and the depth of a type, up to a number past the limits, and whether bits occur in it
+pub record Counted (s d : ℕ) (b : Bool) (T : rules.Ty) : Type 0 where
   pub sized : s ≡ min (rules.size T) 65537
   pub deep : d ≡ min (rules.depth T) 101
+  pub held : b ≡ holds_bits T

@@ -4,9 +4,9 @@ ghost use Rattle.std.specs.Prelude.{◌≡◌, [], IfOk};
 ghost use Rattle.asl_core.specs.Types as rules;
 ghost use Rattle.asl_core_types.specs.View.{parts_of};
 
-use crate::bitfield::View;
 use crate::ty::{Form, Ty};
 use asl_cons::Cons;
+use asl_core_value::View;
 use asl_poly::Poly;
 use asl_shared::Shared;
 use sqlite_items::Items;

@@ -31,7 +31,7 @@ pub fn kind(alloc: Global, ty: &Ty) -> Result<Kind, AllocError>
         }
         Form::Array(length, element) => {
             let element = kind(alloc, element.get())?;
-            Ok(Kind::Arrays(*length, Shared::new(alloc, element)?))
+            Ok(Kind::Arrays(u128::from(*length), Shared::new(alloc, element)?))
         }
         Form::Named(_, _, inner) => kind(alloc, inner.get()),
     }
@@ -161,7 +161,7 @@ fn is_array(length: u32, element: &Ty, ty: &Ty) -> bool
 
 /// Whether there are as many of both parts, of the same kinds one by one.
 #[cycle(same_kind)]
-fn same_kinds(parts: &[Ty], others: &[Ty]) -> bool
+pub fn same_kinds(parts: &[Ty], others: &[Ty]) -> bool
     ensures { result ≡ rules.kinds_eq (rules.kinds (parts_of parts.now)) (rules.kinds (parts_of others.now)) }
 {
     let mut rest = others;

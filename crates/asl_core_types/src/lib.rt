@@ -3,19 +3,27 @@
 
 pub mod answer;
 pub mod baring;
-mod bitfield;
+mod context;
 pub mod effects;
 pub mod fits;
+pub mod integers;
 pub mod kinds;
 pub mod members;
 mod plain;
 mod scope;
+pub mod seeing;
 pub mod sizes;
 pub mod structure;
+mod subprograms;
 pub mod substitute;
 pub mod tests;
+mod totals;
 mod ty;
+pub mod widths;
 
-pub use bitfield::{BitField, View};
+pub use asl_core_value::{BitField, View};
+pub use context::Context;
 pub use scope::{Counted, Scope, Standing, Storage, reading, writing};
+pub use subprograms::{Param, Signature, Subprograms};
+pub use totals::Total;
 pub use ty::{FieldType, Form, Ty};

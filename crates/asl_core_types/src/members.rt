@@ -5,9 +5,8 @@ ghost use Rattle.asl_core.specs.Members as rules;
 ghost use Rattle.asl_core_types.specs.MemberView.{member_view};
 ghost use Rattle.asl_core_types.specs.View.{fields_of};
 
-use crate::bitfield::BitField;
 use crate::ty::{FieldType, Form, Ty};
-use asl_core_value::same_name;
+use asl_core_value::{BitField, same_name};
 
 /// The first of these fields that has this name: its place, from 0, and its type.
 #[tactic(auto, using(crate::proofs::MemberLemmas::field_here, crate::proofs::MemberLemmas::field_later, crate::proofs::MemberLemmas::field_none, crate::proofs::MemberLemmas::field_first))]

@@ -1,8 +1,7 @@
 //! Types as plain data, by which contracts tell one from another. No call makes any.
 
-use crate::bitfield::BitField;
 use asl_cons::Part;
-use asl_core_value::{Name, Names};
+use asl_core_value::{BitField, Name, Names};
 use asl_poly::Poly;
 use asl_shared::Shared;
 use sqlite_items::Items;

@@ -4,6 +4,7 @@ ghost use Rattle.std.specs.Prelude.{◌≡◌, ◌≤◌, ◌*◌, ◌&&◌, min
 ghost use Rattle.asl_core.specs.Types as rules;
 ghost use Rattle.asl_core.specs.Widths as limits;
 ghost use Rattle.asl_core_types.specs.Answers.{Agrees};
+ghost use Rattle.asl_core_types.specs.Bits as bits;
 ghost use Rattle.asl_core_types.specs.View.{parts_of, fields_of};
 
 use crate::answer::fault;
@@ -79,6 +80,18 @@ pub(crate) fn depth_of_parts(parts: &[Ty]) -> u32
         deepest = deepest.max(part.depth());
     }
     deepest
+}
+
+/// Whether bits occur in a part outside the fields of records and exceptions.
+pub(crate) fn parts_hold_bits(parts: &[Ty]) -> bool
+    ensures { result ≡ bits.parts_hold_bits (parts_of parts.now) }
+{
+    for part in parts {
+        if part.holds_bits() {
+            return true;
+        }
+    }
+    false
 }
 
 /// Whether the type is within the limits: a size of at most 65,536 and a depth of at most 100.

@@ -8,9 +8,9 @@ ghost use Rattle.asl_core.specs.Types as rules;
 ghost use Rattle.asl_core_types.specs.Parts as parts;
 ghost use Rattle.asl_core_types.specs.View.{parts_of, fields_of};
 
-use crate::bitfield::BitField;
 use crate::ty::{FieldType, Form, Ty};
 use asl_cons::Cons;
+use asl_core_value::BitField;
 use asl_poly::Poly;
 
 /// What a declared name stands for, and any other type itself.

@@ -5,6 +5,7 @@ ghost use Rattle.asl_cons.specs.Arithmetic as cons;
 ghost use Rattle.asl_core.specs.Types as rules;
 ghost use Rattle.asl_core_types.specs.View.{parts_of};
 
+use crate::integers::shown;
 use crate::ty::{Form, Ty};
 use asl_cons::{Cons, End, Part};
 use asl_poly::{Atom, Poly, PolyRefused};
@@ -25,16 +26,6 @@ pub fn substituted(
         Ok(p) => Ok(Some(p)),
         Err(PolyRefused::TooLarge) => Ok(None),
         Err(PolyRefused::NoMemory) => Err(AllocError),
-    }
-}
-
-/// A width as an end, which is an integer where it has no atom.
-fn shown(width: Poly) -> End
-    ensures { result ≡ cons.shown width }
-{
-    match width.as_constant() {
-        Some(c) => End::Int(c),
-        None => End::Width(width),
     }
 }
 

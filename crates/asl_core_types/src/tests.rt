@@ -10,7 +10,7 @@ use asl_cons::Cons;
 use asl_poly::Poly;
 
 /// A width is a polynomial within the limits. This says so of it, and does nothing.
-fn within_limits(p: &Poly)
+pub(crate) fn within_limits(p: &Poly)
     ensures { IsPolynomial p.now }
 {
     let _ = p.terms();

@@ -1,25 +1,29 @@
 //! Types. Their parts may have several owners, so that a further owner of a type costs no copy of it.
 ghost use Rattle.std.specs.Prelude.{◌≡◌, IfOk, min};
 ghost use Rattle.asl_core.specs.Types as rules;
+ghost use Rattle.asl_core_types.specs.Bits as bits;
 ghost use Rattle.asl_core_types.specs.View.{form_view, parts_of, fields_of};
 
-use crate::bitfield::View;
-use crate::sizes::{depth_of_fields, depth_of_parts, size_of_array, size_of_fields, size_of_parts};
+use crate::sizes::{
+    depth_of_fields, depth_of_parts, parts_hold_bits, size_of_array, size_of_fields, size_of_parts,
+};
 use asl_cons::Cons;
-use asl_core_value::{Name, Names};
+use asl_core_value::{Name, Names, View};
 use asl_poly::Poly;
 use asl_shared::Shared;
 use sqlite_items::Items;
 use std::alloc::AllocError;
 use std::marker::Model;
 
-/// A type. It knows its size, up to 65,537, and its depth, up to 101.
+/// A type. It knows its size, up to 65,537, its depth, up to 101, and whether bits occur in it outside the fields of records
+/// and exceptions.
 #[cycle(types)]
 #[derive(Drop)]
 pub struct Ty {
     form: Form,
     size: u32,
     depth: u32,
+    holds_bits: bool,
 }
 
 /// What a type is made of.
@@ -64,7 +68,7 @@ impl Model for Ty {
 
     ghost view = { λ t. form_view t.form };
 
-    ghost invariant = { λ t. Counted t.size t.depth (form_view t.form) };
+    ghost invariant = { λ t. Counted t.size t.depth t.holds_bits (form_view t.form) };
 
     ghost use Rattle.asl_core_types.specs.Heights.{height};
 
@@ -98,6 +102,13 @@ impl Ty {
         self.depth
     }
 
+    /// Whether bits occur in it outside the fields of records and exceptions.
+    pub fn holds_bits(&self) -> bool
+        ensures { result ≡ bits.holds_bits self.now }
+    {
+        self.holds_bits
+    }
+
     /// Integers in a constraint.
     pub fn integer(constraint: Shared<Cons>) -> Ty
         ensures { result ≡ rules.integer_of constraint }
@@ -106,6 +117,7 @@ impl Ty {
             form: Form::Integer(constraint),
             size: 1,
             depth: 1,
+            holds_bits: false,
         }
     }
 
@@ -117,6 +129,7 @@ impl Ty {
             form: Form::Boolean,
             size: 1,
             depth: 1,
+            holds_bits: false,
         }
     }
 
@@ -128,6 +141,7 @@ impl Ty {
             form: Form::Bits(width, view),
             size: 1,
             depth: 1,
+            holds_bits: true,
         }
     }
 
@@ -139,6 +153,7 @@ impl Ty {
             form: Form::Enumeration(name, labels),
             size: 1,
             depth: 1,
+            holds_bits: false,
         }
     }
 
@@ -152,6 +167,7 @@ impl Ty {
             form: Form::Record(name, fields),
             size,
             depth,
+            holds_bits: false,
         }
     }
 
@@ -165,6 +181,7 @@ impl Ty {
             form: Form::Exception(name, fields),
             size,
             depth,
+            holds_bits: false,
         }
     }
 
@@ -174,10 +191,12 @@ impl Ty {
     {
         let size = size_of_parts(parts.get().as_slice());
         let depth = (depth_of_parts(parts.get().as_slice()) + 1).min(101);
+        let holds_bits = parts_hold_bits(parts.get().as_slice());
         Ty {
             form: Form::Tuple(parts),
             size,
             depth,
+            holds_bits,
         }
     }
 
@@ -187,10 +206,12 @@ impl Ty {
     {
         let size = size_of_array(length, element.get());
         let depth = (element.get().depth() + 1).min(101);
+        let holds_bits = element.get().holds_bits();
         Ty {
             form: Form::Array(length, element),
             size,
             depth,
+            holds_bits,
         }
     }
 
@@ -200,10 +221,12 @@ impl Ty {
     {
         let size = inner.get().size();
         let depth = inner.get().depth();
+        let holds_bits = inner.get().holds_bits();
         Ty {
             form: Form::Named(name, supers, inner),
             size,
             depth,
+            holds_bits,
         }
     }
 
@@ -215,6 +238,7 @@ impl Ty {
             form: copy_form(&self.form)?,
             size: self.size,
             depth: self.depth,
+            holds_bits: self.holds_bits,
         })
     }
 }

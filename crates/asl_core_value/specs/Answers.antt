@@ -1,6 +1,6 @@
 -- How the answers of operations on values are related to the rules.
 use Rattle.std.specs.Prelude.{◌≡◌, Result, Ok, Err}
-use Rattle.asl_core.specs.Plans.{Faulted, Stuck, WrongKind, Pure, Good, Bad}
+use Rattle.asl_core.specs.Plans.{Faulted, Stuck, WrongKind, UnknownType, Pure, Good, Bad}
 use Rattle.asl_core.specs.Values as rules
 use Rattle.asl_core_value.specs.declared.failure.Failure.{Failure}
 use Rattle.asl_core_value.specs.declared.failure.Failure.TheVariants as failure
@@ -12,6 +12,7 @@ abbrev pub Is : {A B : Type 0} → (A → B) → Result A Failure → Pure B →
 Is view (Ok x) r = r ≡ Good (view x)
 Is view (Err (failure.Fault code span)) r = r ≡ Bad (Faulted code span)
 Is view (Err (failure.WrongKind span)) r = r ≡ Bad (Stuck WrongKind span)
+Is view (Err (failure.UnknownType span)) r = r ≡ Bad (Stuck UnknownType span)
 Is view (Err failure.NoMemory) r = Unit {0}
 
 -- a value was changed into what the rules give, or they give none and it is the same, or memory was wanting
@@ -19,4 +20,5 @@ abbrev pub Changes : Result (Unit {0}) Failure → Pure rules.Value → Value �
 Changes (Ok x) r old new = r ≡ Good (value_of new)
 Changes (Err (failure.Fault code span)) r old new = (r ≡ Bad (Faulted code span)) × (new ≡ old)
 Changes (Err (failure.WrongKind span)) r old new = (r ≡ Bad (Stuck WrongKind span)) × (new ≡ old)
+Changes (Err (failure.UnknownType span)) r old new = (r ≡ Bad (Stuck UnknownType span)) × (new ≡ old)
 Changes (Err failure.NoMemory) r old new = Unit {0}

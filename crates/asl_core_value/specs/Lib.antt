@@ -1,8 +1,8 @@
 pub mod View
-pub mod Sights
-pub mod Seeing
 pub mod Keeping
+pub mod Cutting
 pub mod Fields
+pub mod Literals
 pub mod Numbers
 pub mod Forms
 pub mod Pieces

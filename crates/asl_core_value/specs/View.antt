@@ -1,6 +1,5 @@
 -- The kinds and the values of the rules that those of the code stand for.
-use Rattle.std.specs.Prelude.{ℕ, List, [], ◌∷◌, map, Option, Some, None}
-use Rattle.asl_core_value.specs.declared.value.BitField.{BitField}
+use Rattle.std.specs.Prelude.{ℕ, Bool, List, [], ◌∷◌, map, Option, Some, None}
 use Rattle.asl_core_value.specs.declared.value.Kind.{Kind}
 use Rattle.asl_core_value.specs.declared.value.Kind.TheOpen as k
 use Rattle.asl_core_value.specs.declared.value.Kind.TheFolds.{fold-Kind}
@@ -8,6 +7,11 @@ use Rattle.asl_core_value.specs.declared.value.Value.{Value}
 use Rattle.asl_core_value.specs.declared.value.FieldValue.{FieldValue}
 use Rattle.asl_core_value.specs.declared.value.FieldValue.TheOpen as v
 use Rattle.asl_core_value.specs.declared.value.FieldValue.TheFolds.{fold-Value, fold-FieldValue}
+use Rattle.asl_core_value.specs.declared.literals.MaskDigits.{MaskDigits}
+use Rattle.asl_core_value.specs.declared.literals.MaskDigits.TheVariants as d
+use Rattle.asl_core_value.specs.declared.slices.SliceShape.{SliceShape}
+use Rattle.asl_core_value.specs.declared.slices.SliceShape.TheVariants as s
+use Rattle.asl_core.specs.Shapes as shapes
 use Rattle.asl_core.specs.Types as types
 use Rattle.asl_core.specs.Values as rules
 
@@ -35,15 +39,10 @@ all_kinds ks = kinds_of (map kind_of ks)
 
 -- ---- bitfields
 
-abbrev pub bitfield_of : BitField → types.BitField
-bitfield_of f = record { name = f.name; high = f.high; low = f.low }
-
-abbrev pub all_bitfields : List BitField → types.View
-all_bitfields fs = map bitfield_of fs
-
-abbrev pub view_of : Option (List BitField) → types.View
+-- none are no bitfields
+abbrev pub view_of : Option types.View → types.View
 view_of None = []
-view_of (Some fs) = all_bitfields fs
+view_of (Some fs) = fs
 
 -- ---- values
 
@@ -84,3 +83,21 @@ all_values xs = values_of (map value_of xs)
 
 abbrev pub all_fields : List FieldValue → rules.FieldValues
 all_fields xs = fields_of (map field_of xs)
+
+-- ---- literals
+
+-- digits, lowest first
+abbrev pub digits_of : MaskDigits → List (Option Bool)
+digits_of (d.Narrow mask) = mask
+digits_of (d.Wide digits) = digits
+
+-- ---- slices
+
+abbrev pub slice_of : SliceShape → shapes.SliceShape
+slice_of s.AtBit = shapes.at_bit
+slice_of s.HighLow = shapes.high_low
+slice_of s.LowWidth = shapes.low_width
+slice_of s.FactorWidth = shapes.factor_width
+
+abbrev pub all_slices : List SliceShape → List shapes.SliceShape
+all_slices ss = map slice_of ss

@@ -11,6 +11,8 @@ pub enum Failure {
     Fault(DynCode, Span),
     /// A value of another kind than is asked for here. No run of a checked program meets one.
     WrongKind(Span),
+    /// A written type whose numbers are none here. No run of a checked program meets one.
+    UnknownType(Span),
     /// Memory was wanting.
     NoMemory,
 }

@@ -1,19 +1,14 @@
 //! Parts of values, and values made of parts.
-ghost use Rattle.std.specs.Prelude.{◌≡◌, ◌<◌, List, length, map, option_map, IfOk, OnOk, IfSome};
+ghost use Rattle.std.specs.Prelude.{◌≡◌, ◌<◌, length, map, option_map, IfOk, OnOk, IfSome};
 ghost use Rattle.asl_core.specs.Structures as rules;
 ghost use Rattle.asl_core.specs.Values.{int, array_with, tuple_with};
 ghost use Rattle.asl_core_value.specs.Answers.{Is};
-ghost use Rattle.asl_core_value.specs.Forms.{shell_of, all_given, all_wanted};
 ghost use Rattle.asl_core.specs.ByPlace as places;
 ghost use Rattle.asl_core.specs.Pures.{there};
-ghost use Rattle.asl_core.specs.Trees.{FieldGiven};
-ghost use Rattle.asl_core_value.specs.Sights as sights;
-ghost use Rattle.asl_core_value.specs.Seeing.{sight_as};
 ghost use Rattle.asl_core_value.specs.Reaching as reaching;
 ghost use Rattle.asl_core_value.specs.View.{kind_of, value_of, field_of, all_values, all_fields};
 
 use crate::failure::Failure;
-use crate::sights::{Sight, see};
 use crate::value::{FieldValue, Kind, Name, Names, Value, copy};
 use asl_shared::Shared;
 use asl_syn::code::DynCode;
@@ -29,17 +24,6 @@ pub enum Shell {
     /// An exception: the name that it is built with, the names that this reaches, and the name of the declaration that writes
     /// its type.
     Exception(Name, Names, Name),
-}
-
-/// A field of a construction, in the order of the type.
-#[derive(Debug, Drop)]
-pub struct GivenField {
-    /// Its name.
-    pub name: Name,
-    /// What its type adds to its value.
-    pub sight: Sight,
-    /// The place of its value among those that are given, from 0.
-    pub place: usize,
 }
 
 /// The element of an array at an index, over the same parts: D06 where there is none.
@@ -144,81 +128,6 @@ fn value_at(place: usize, values: &[Value]) -> Option<&Value>
     ensures { option_map (λ x. value_of x.now) result ≡ rules.value_at place (all_values values.now) }
 {
     sqlite_items::at(values, place)
-}
-
-/// The record or the exception with the fields that are given, each with what its type adds: for all fields of the rules
-/// that have these names, places and bitfields.
-pub fn construct(
-    alloc: Global,
-    span: Span,
-    shell: &Shell,
-    fields: &[GivenField],
-    values: &[Value],
-) -> Result<Value, Failure>
-    ensures { (wanted : List FieldGiven) → all_given fields.now ≡ all_wanted wanted → Is value_of result
-        (places.constructed span (shell_of shell.now) wanted (map value_of values.now)) }
-{
-    constructed(alloc, span, shell, fields, values)
-}
-
-/// The record or the exception with the fields that are given, each with what is added to it.
-fn constructed(
-    alloc: Global,
-    span: Span,
-    shell: &Shell,
-    fields: &[GivenField],
-    values: &[Value],
-) -> Result<Value, Failure>
-    ensures { Is value_of result
-        (sights.constructed span (shell_of shell.now) (all_given fields.now) (map value_of values.now)) }
-{
-    let made = given_fields(alloc, span, fields, values)?;
-    Ok(in_shell(shell, Shared::new(alloc, made)?)?)
-}
-
-/// The fields with the values that are given.
-#[tactic(auto, using(crate::proofs::Givens::field_given, crate::proofs::Givens::field_missing, crate::proofs::Givens::none_given, crate::proofs::Givens::all_fields_given))]
-fn given_fields(
-    alloc: Global,
-    span: Span,
-    fields: &[GivenField],
-    values: &[Value],
-) -> Result<Items<FieldValue>, Failure>
-    ensures { Is all_fields result
-        (there span (sights.fields_from (all_given fields.now) (map value_of values.now))) }
-{
-    let mut made = Items::new(alloc);
-    for field in fields {
-        if field.place >= values.len() {
-            return Err(Failure::WrongKind(span));
-        }
-        made.push(given(alloc, field, &values[field.place])?)?;
-    }
-    Ok(made)
-}
-
-/// A field with this value, and what its type adds.
-fn given(alloc: Global, field: &GivenField, value: &Value) -> Result<FieldValue, AllocError>
-    ensures name { IfOk result (λ it. (field_of it).name ≡ field.now.name) }
-    ensures value { IfOk result
-        (λ it. (field_of it).value ≡ sights.seen (sight_as field.now.sight) (value_of value.now)) }
-{
-    Ok(FieldValue::Given(field.name.share()?, see(alloc, &field.sight, value)?))
-}
-
-/// A record or an exception with these fields.
-fn in_shell(shell: &Shell, fields: Shared<Items<FieldValue>>) -> Result<Value, AllocError>
-    ensures { IfOk result (λ it. value_of it ≡ places.in_shell (shell_of shell.now) (all_fields fields)) }
-{
-    match shell {
-        Shell::Record(name) => Ok(Value::Record(name.share()?, fields)),
-        Shell::Exception(own, supers, name) => Ok(Value::Exception(
-            own.share()?,
-            supers.share()?,
-            name.share()?,
-            fields,
-        )),
-    }
 }
 
 /// The tuple of these parts.

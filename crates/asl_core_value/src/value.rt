@@ -1,6 +1,7 @@
 //! Values and their kinds.
 ghost use Rattle.std.specs.Prelude.{◌≡◌, IfOk};
 
+use crate::views::View;
 use asl_bits::Bits;
 use asl_shared::Shared;
 use sqlite_items::Items;
@@ -11,20 +12,6 @@ pub type Name = Shared<Items<u8>>;
 
 /// Several names.
 pub type Names = Shared<Items<Name>>;
-
-/// Several bitfields.
-pub type View = Shared<Items<BitField>>;
-
-/// A bitfield that bits are seen with.
-#[derive(Debug, Drop)]
-pub struct BitField {
-    /// Its name.
-    pub name: Name,
-    /// Its highest place.
-    pub high: u32,
-    /// Its lowest place.
-    pub low: u32,
-}
 
 /// The kind of a value: of a label, a record and an exception it is the declaration that writes their type, by its name.
 #[cycle(kinds)]
@@ -38,7 +25,7 @@ pub enum Kind {
     Exceptions(Name),
     Tuples(Shared<Items<Kind>>),
     /// The length and the kind of the elements.
-    Arrays(u32, Shared<Kind>),
+    Arrays(u128, Shared<Kind>),
 }
 
 /// A value. Its parts may have several owners, so that a copy of it takes no time that grows with them.

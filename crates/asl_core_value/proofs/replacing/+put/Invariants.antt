@@ -19,3 +19,12 @@ decreases-put_in_elements l = 4 * length l.rest.now + 2
 
 abbrev pub decreases-put_in_place : goal.decreases-put_in_place
 decreases-put_in_place l = 4 * length l.rest.now + 1
+
+abbrev pub decreases-put_bitfield : goal.decreases-put_bitfield
+decreases-put_bitfield l = 4 * length l.rest.now + 3
+
+abbrev pub decreases-put_bitfields : goal.decreases-put_bitfields
+decreases-put_bitfields l = 4 * length l.rest.now + 3
+
+abbrev pub decreases-put_slices : goal.decreases-put_slices
+decreases-put_slices l = 4 * length l.rest.now + 3

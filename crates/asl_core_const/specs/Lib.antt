@@ -1,0 +1,4 @@
+pub mod Unknowns
+pub mod Finds
+pub mod Firsts
+pub mod Giving

@@ -1,0 +1,13 @@
+//! What the declarations of a program bring, before its bodies are checked.
+#![tactic(auto)]
+
+mod bodies;
+mod entry;
+mod free;
+mod served;
+mod table;
+
+pub use bodies::enter_body;
+pub use entry::find_entry;
+pub use served::check_served;
+pub use table::Table;

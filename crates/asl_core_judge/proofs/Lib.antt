@@ -1,0 +1,11 @@
+mod DefinitionLemmas
+mod Judgements
+mod Keeping
+mod LibraryNames
+mod OnceLemmas
+mod Passing
+mod PhaseLemmas
+mod Scoping
+mod Serves
+mod Serving
+mod ValueLemmas

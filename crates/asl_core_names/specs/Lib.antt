@@ -1,0 +1,8 @@
+pub mod Answers
+pub mod Components
+pub mod Cycles
+pub mod Firsts
+pub mod Graphs
+pub mod Known
+pub mod NodeView
+pub mod Orders

@@ -1,0 +1,10 @@
+pub mod Frames
+pub mod Indices
+pub mod Pieces
+pub mod Placing
+pub mod Printing
+pub mod Rounds
+pub mod Slots
+pub mod Storing
+pub mod Turns
+pub mod Entries

@@ -1,0 +1,3 @@
+pub mod View
+pub mod Acts
+pub mod Sealed
