@@ -1,9 +1,0 @@
-use Rattle.std.proofs.Common.{arith, ap, sym, ◌∙◌, ◌++◌, [], ◌∷◌}
-use Rattle.asl_core_expr.proofs.FitLemmas.{pairs_next, pairs_short, pairs_last}
-use Rattle.asl_core_expr.proofs.call_fits.replaced_by.Goals as goal
-
-pub loop-i-preserved : goal.loop-i-preserved
-loop-i-preserved c =
-    pairs_next c.args.params.now c.args.given.now c.loop-i.i c.index-params-i.result c.index-given-i.result c.loop-i.by.items c.push.new.self.items _
-    (omega (arith, c.loop-i-test.true)) (omega (arith, c.if-i-given.false)) c.index-params-i.is c.index-given-i.is
-    (c.in_ok-push.ensures.items ∙ (λ j. c.loop-i.by.items ++ (c.atom.ensures j, c.in_ok-width.ensures j) ∷ [])) c.loop-i.invariant

@@ -1,8 +1,0 @@
-use Rattle.std.proofs.Common.{arith}
-use Rattle.asl_core_expr.proofs.SliceLemmas.{shapes_next}
-use Rattle.asl_core_expr.proofs.slices.slice_shapes.Goals as goal
-
-pub loop-s-preserved : goal.loop-s-preserved
-loop-s-preserved c t =
-    shapes_next t _ c.args.slices.now c.loop-s.s-index c.s-item.result c.loop-s.shapes c.push.new.self c.shape.result
-    (omega (arith, c.loop-s-test.true)) c.s-item.is (c.shape.ensures t) c.in_ok-push.ensures.ok (c.loop-s.invariant t)
