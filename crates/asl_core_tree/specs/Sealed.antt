@@ -5,6 +5,7 @@ use Rattle.asl_syn.specs.declared.tree.Decl.{Decl}
 use Rattle.asl_syn.specs.contracts.tree.Decl.{the_row}
 use Rattle.asl_core.specs.declared.entry.Entry.{Entry}
 use Rattle.asl_core.specs.contracts.entry.Entry as entry
+use Rattle.asl_core.specs.Grown.{AreGrown}
 use Rattle.asl_core.specs.Tests.{Tests}
 use Rattle.asl_core.specs.Scopes.{Signature}
 use Rattle.asl_core.specs.Scopes as scopes
@@ -46,11 +47,12 @@ cell_of g = record { name = g.name; value = value_of g.value; is_mutable = g.is_
 abbrev pub cells_of : List Global → List Cell
 cells_of gs = map cell_of gs
 
--- the declarations are well formed with this entry, the trees are those of their subprograms, and the globals are those that a run begins with, each in
--- source order
+-- the declarations are such as texts give, and well formed with this entry, the trees are those of their subprograms, and the globals are those that a run
+-- begins with, each in source order
 pub record IsMade (t : Tests) (ds : List Decl) (asked : Entry) (main : Option ℕ) (funcs : List TreeFunc) (globals : List Global) : Type 0 where
   pub signatures : List Signature
   pub names : List scopes.Entry
+  pub grown : AreGrown t.limit ds
   pub accepts : verdict asked ds t ≡ Ok (accepted asked main signatures (all_funcs funcs) names)
   pub begins : cells_of globals ≡ cells_in (initial_globals (environment t ds))
 

@@ -6,6 +6,7 @@ use crate::act::TreeFunc;
 use asl_core::entry::Entry;
 use asl_core_value::{Name, Value};
 use asl_syn::tree::Program;
+use sqlite_items::Items;
 use std::marker::Model;
 
 /// The number of a subprogram in source order, from 0.
@@ -53,7 +54,7 @@ pub struct Checked {
     program: Program,
     asked: Entry,
     main: Option<SubId>,
-    funcs: Vec<TreeFunc>,
+    funcs: Items<TreeFunc>,
     globals: Vec<Global>,
 }
 
@@ -66,7 +67,7 @@ impl Model for Checked {
 
     ghost view = { λ c. record { decls = c.program.decls; asked = c.asked; main = c.main } };
 
-    ghost invariant = { λ c. IsSealed c.program.decls c.asked c.main c.funcs.items c.globals.items };
+    ghost invariant = { λ c. IsSealed c.program.decls c.asked c.main c.funcs c.globals.items };
 }
 
 impl Checked {
@@ -76,10 +77,10 @@ impl Checked {
         program: Program,
         asked: Entry,
         main: Option<SubId>,
-        funcs: Vec<TreeFunc>,
+        funcs: Items<TreeFunc>,
         globals: Vec<Global>,
     ) -> Checked
-        requires { IsSealed program.decls asked main funcs.items globals.items }
+        requires { IsSealed program.decls asked main funcs globals.items }
         ensures { result ≡ record { decls = program.decls; asked = asked; main = main } }
     {
         Checked {
@@ -113,9 +114,9 @@ impl Checked {
     }
 
     /// The typed trees of the subprograms and the globals, each in source order.
-    pub fn parts(&self) -> (&[TreeFunc], &[Global])
+    pub fn parts(&self) -> (&Items<TreeFunc>, &[Global])
         ensures { IsSealed self.now.decls self.now.asked self.now.main result.0.now result.1.now }
     {
-        (self.funcs.as_slice(), self.globals.as_slice())
+        (&self.funcs, self.globals.as_slice())
     }
 }

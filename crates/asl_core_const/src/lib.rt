@@ -1,0 +1,14 @@
+//! The values of constants.
+#![tactic(auto)]
+
+mod applying;
+mod constants;
+mod constructing;
+mod conversions;
+mod failure;
+mod fields;
+mod firsts;
+mod inside;
+mod shapes;
+
+pub use constants::known;

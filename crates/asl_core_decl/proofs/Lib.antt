@@ -1,0 +1,10 @@
+mod ApartLemmas
+mod FreeLemmas
+mod HeadLemmas
+mod LimitLemmas
+mod NoneTwice
+mod Outside
+mod SameHeads
+mod SignatureLemmas
+mod TableLemmas
+mod WordLemmas

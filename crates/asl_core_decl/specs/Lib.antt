@@ -1,0 +1,6 @@
+pub mod Free
+pub mod Heads
+pub mod HeadTypes
+pub mod HeadViews
+pub mod Limits
+pub mod Signatures

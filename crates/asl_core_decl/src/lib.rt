@@ -1,0 +1,17 @@
+//! What the declarations of a program bring, before its bodies are checked.
+#![tactic(auto)]
+
+mod apart;
+mod bodies;
+mod entry;
+mod free;
+mod heads;
+mod limit;
+mod served;
+mod signatures;
+mod table;
+
+pub use bodies::enter_body;
+pub use entry::find_entry;
+pub use served::check_served;
+pub use table::Table;

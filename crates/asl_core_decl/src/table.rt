@@ -1,0 +1,56 @@
+//! What the declarations of a program bring.
+
+ghost use Rattle.std.specs.Prelude.{◌≡◌, length, map, IfOk};
+ghost use Rattle.asl_core.specs.Tests.{Tests};
+ghost use Rattle.asl_core_types.specs.Answers.{Met};
+ghost use Rattle.asl_core_types.specs.Suits.{Suits};
+ghost use Rattle.asl_core_decl.specs.Heads.{declared_of, declared_rule};
+ghost use Rattle.asl_core_decl.specs.Signatures.{declared_found};
+
+use crate::apart::{check_apart, funcs_of};
+use crate::signatures::find_signatures;
+use asl_core_judge::phases::judge_names;
+use asl_core_types::{Scope, Subprograms};
+use asl_syn::code::Refused;
+use asl_syn::tree::{Decl, Func};
+use sqlite_items::Items;
+use std::alloc::Global;
+
+/// What the declarations of a program bring: the names that are visible in all bodies, and its subprograms in source order
+/// with their signatures.
+#[derive(Drop)]
+pub struct Table<'a> {
+    pub names: Scope<'a>,
+    pub funcs: Items<&'a Func>,
+    pub subs: Subprograms,
+}
+
+/// The names outside bodies, and these subprograms, each with its signature over these names: the fault of the first
+/// signature that has one, and then T10 at the first name of a subprogram that one before it has.
+fn with_funcs<'a>(
+    alloc: Global,
+    names: Scope<'a>,
+    funcs: Items<&'a Func>,
+) -> Result<Table<'a>, Refused>
+    ensures rule { (t : Tests) → Suits t → Met declared_of result (declared_found t (map (λ f. f.now) funcs.entry) names.entry) }
+    ensures many { IfOk result (λ x. length x.funcs ≡ length x.subs) }
+{
+    let mut names = names;
+    let subs = find_signatures(alloc, &mut names, funcs.as_slice())?;
+    check_apart(alloc, funcs.as_slice())?;
+    Ok(Table { names, funcs, subs })
+}
+
+impl<'a> Table<'a> {
+    /// What the declarations bring. The phases before bodies come in order: names (T01), declarations that reach
+    /// themselves (T03), the fault of the first declaration that has one where all that it uses is well formed, the
+    /// signatures of subprograms, and subprograms of one name (T10). Want of memory says nothing.
+    pub fn build(alloc: Global, decls: &'a [Decl]) -> Result<Table<'a>, Refused>
+        ensures rule { (t : Tests) → Suits t → Met declared_of result (declared_rule t decls.now) }
+        ensures many { IfOk result (λ x. length x.funcs ≡ length x.subs) }
+    {
+        let names = judge_names(alloc, decls)?;
+        let funcs = funcs_of(alloc, decls)?;
+        with_funcs(alloc, names, funcs)
+    }
+}

@@ -1,0 +1,16 @@
+pub mod Below
+pub mod BitsWidths
+pub mod CallViews
+pub mod Conditionals
+pub mod Constraints
+pub mod Constructs
+pub mod Ends
+pub mod Firsts
+pub mod FoundMembers
+pub mod PatternViews
+pub mod SliceViews
+pub mod Steps
+pub mod WidthViews
+pub mod WrittenFields
+pub mod WrittenTypes
+pub mod WrittenViews

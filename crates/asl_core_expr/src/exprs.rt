@@ -1,0 +1,87 @@
+//! The types and the effects of expressions, and their typed trees.
+
+ghost use Rattle.std.specs.Prelude.{◌≡◌, map};
+ghost use Rattle.asl_core.specs.Acting as acting;
+ghost use Rattle.asl_core.specs.Exprs as rules;
+ghost use Rattle.asl_core.specs.Exprs.{found};
+ghost use Rattle.asl_core.specs.Tests.{Tests};
+ghost use Rattle.asl_core.specs.Typing.{operands};
+ghost use Rattle.asl_core_types.specs.Answers.{Met};
+ghost use Rattle.asl_core_types.specs.ContextView.{scope_of};
+ghost use Rattle.asl_core_types.specs.Suits.{Suits};
+ghost use Rattle.asl_core_tree.specs.View.{typed_of, operand_of, all_operands};
+
+use crate::below::Below;
+use crate::expr_nodes::type_node;
+use crate::operand_lists::operands_below;
+use crate::patterns::match_pattern;
+use asl_core_tree::tree::Tree;
+use asl_core_types::Context;
+use asl_syn::code::Refused;
+use asl_syn::token::Span;
+use asl_syn::tree::Expr;
+use sqlite_items::{Boxed, Items};
+use std::alloc::Global;
+
+/// Where an expression stands.
+pub fn place(e: &Expr) -> Span
+    ensures { (t : Tests) → result ≡ (rules.found t e.now).span }
+{
+    match e {
+        Expr::Int(span, _) => *span,
+        Expr::Bits(span, _) => *span,
+        Expr::Bool(span, _) => *span,
+        Expr::Name(span, _) => *span,
+        Expr::Unary(span, _, _) => *span,
+        Expr::Binary(span, _, _, _) => *span,
+        Expr::Conditional(span, _, _, _) => *span,
+        Expr::Tuple(span, _) => *span,
+        Expr::Construct(span, _, _) => *span,
+        Expr::Call(span, _, _, _) => *span,
+        Expr::Field(span, _, _) => *span,
+        Expr::Fields(span, _, _) => *span,
+        Expr::Slices(span, _, _) => *span,
+        Expr::Element(span, _, _) => *span,
+        Expr::As(span, _, _) => *span,
+        Expr::In(span, _, _) => *span,
+    }
+}
+
+/// The typed tree of an expression, or its one fault: its operands in order, and then its own conditions.
+#[cycle(exprs)]
+pub fn type_expr(alloc: Global, context: Context, e: &Expr) -> Result<Boxed<Tree>, Refused>
+    ensures { (t : Tests) → Suits t → Met typed_of result (rules.typed t e.now (scope_of context.entry)) }
+{
+    type_node(
+        &Below {
+            alloc,
+            context,
+            typing: type_expr,
+            matching: match_pattern,
+        },
+        e,
+    )
+}
+
+/// The typed tree of an expression, which stands where the expression does, or its one fault.
+pub fn type_operand(alloc: Global, context: Context, e: &Expr) -> Result<Boxed<Tree>, Refused>
+    ensures { (t : Tests) → Suits t → Met operand_of result (acting.operand_of t e.now (scope_of context.entry)) }
+{
+    let tree = type_expr(alloc, context, e)?;
+    Ok(tree)
+}
+
+/// The typed trees of expressions in order, or the first fault.
+pub fn type_all(alloc: Global, context: Context, es: &[Expr]) -> Result<Items<Tree>, Refused>
+    ensures { (t : Tests) → Suits t → Met all_operands result (operands (map (found t) es.now) (scope_of context.entry)) }
+{
+    operands_below(
+        &Below {
+            alloc,
+            context,
+            typing: type_expr,
+            matching: match_pattern,
+        },
+        es,
+    )
+}

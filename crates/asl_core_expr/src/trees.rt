@@ -1,0 +1,157 @@
+//! Typed trees of expressions, made of the trees of their parts.
+
+ghost use Rattle.std.specs.Prelude.{◌≡◌, IfOk};
+ghost use Rattle.asl_core.specs.Trees as rules;
+ghost use Rattle.asl_core.specs.Typing.{trees_of};
+ghost use Rattle.asl_core_value.specs.View.{value_of};
+ghost use Rattle.asl_core_value.specs.Forms.{shell_of};
+ghost use Rattle.asl_core_shape.specs.View.{all_given};
+ghost use Rattle.asl_core_tree.specs.View.{note_view, tree_of, all_trees, all_operands};
+
+use asl_core::slot::Slot;
+use asl_core_shape::FieldGiven;
+use asl_core_tree::tree::{Note, Tree};
+use asl_core_types::BitField;
+use asl_core_value::{Shell, Value};
+use asl_syn::tree::{BinaryOperator, UnaryOperator};
+use sqlite_items::{Boxed, Items};
+use std::alloc::{AllocError, Global};
+
+pub(crate) fn int(alloc: Global, note: Note, n: u128) -> Result<Boxed<Tree>, AllocError>
+    ensures { IfOk result (λ t. tree_of t ≡ rules.Int (note_view note) n) }
+{
+    Boxed::new(alloc, Tree::Int(note, n))
+}
+
+pub(crate) fn constant(alloc: Global, note: Note, value: Value) -> Result<Boxed<Tree>, AllocError>
+    ensures { IfOk result (λ t. tree_of t ≡ rules.Constant (note_view note) (value_of value)) }
+{
+    Boxed::new(alloc, Tree::Constant(note, value))
+}
+
+pub(crate) fn read(alloc: Global, note: Note, slot: Slot) -> Result<Boxed<Tree>, AllocError>
+    ensures { IfOk result (λ t. tree_of t ≡ rules.Read (note_view note) slot) }
+{
+    Boxed::new(alloc, Tree::Read(note, slot))
+}
+
+pub(crate) fn unary(
+    alloc: Global,
+    note: Note,
+    op: UnaryOperator,
+    a: Boxed<Tree>,
+) -> Result<Boxed<Tree>, AllocError>
+    ensures { IfOk result (λ t. tree_of t ≡ rules.Unary (note_view note) op (tree_of a)) }
+{
+    Boxed::new(alloc, Tree::Unary(note, op, a))
+}
+
+pub(crate) fn binary(
+    alloc: Global,
+    note: Note,
+    op: BinaryOperator,
+    a: Boxed<Tree>,
+    b: Boxed<Tree>,
+) -> Result<Boxed<Tree>, AllocError>
+    ensures { IfOk result (λ t. tree_of t ≡ rules.Binary (note_view note) op (tree_of a) (tree_of b)) }
+{
+    Boxed::new(alloc, Tree::Binary(note, op, a, b))
+}
+
+pub(crate) fn conditional(
+    alloc: Global,
+    note: Note,
+    condition: Boxed<Tree>,
+    a: Boxed<Tree>,
+    b: Boxed<Tree>,
+) -> Result<Boxed<Tree>, AllocError>
+    ensures { IfOk result (λ t. tree_of t ≡ rules.Conditional (note_view note) (tree_of condition) (tree_of a) (tree_of b)) }
+{
+    Boxed::new(alloc, Tree::Conditional(note, condition, a, b))
+}
+
+/// A tuple, by the trees of its parts.
+fn tuple_of(alloc: Global, note: Note, parts: Items<Tree>) -> Result<Boxed<Tree>, AllocError>
+    ensures { IfOk result (λ t. tree_of t ≡ rules.Tuple (note_view note) (all_trees parts)) }
+{
+    Boxed::new(alloc, Tree::Tuple(note, parts))
+}
+
+pub(crate) fn tuple(
+    alloc: Global,
+    note: Note,
+    parts: Items<Tree>,
+) -> Result<Boxed<Tree>, AllocError>
+    ensures { IfOk result (λ t. tree_of t ≡ rules.Tuple (note_view note) (trees_of (all_operands parts))) }
+{
+    tuple_of(alloc, note, parts)
+}
+
+/// A construction, by the trees of its values.
+fn construction_of(
+    alloc: Global,
+    note: Note,
+    shell: Shell,
+    fields: Items<FieldGiven>,
+    values: Items<Tree>,
+) -> Result<Boxed<Tree>, AllocError>
+    ensures { IfOk result (λ t. tree_of t ≡ rules.Construct (note_view note) (shell_of shell) (all_given fields) (all_trees values)) }
+{
+    Boxed::new(alloc, Tree::Construct(note, shell, fields, values))
+}
+
+pub(crate) fn construct(
+    alloc: Global,
+    note: Note,
+    shell: Shell,
+    fields: Items<FieldGiven>,
+    values: Items<Tree>,
+) -> Result<Boxed<Tree>, AllocError>
+    ensures { IfOk result (λ t. tree_of t ≡ rules.Construct (note_view note) (shell_of shell) (all_given fields) (trees_of (all_operands values))) }
+{
+    construction_of(alloc, note, shell, fields, values)
+}
+
+pub(crate) fn field(
+    alloc: Global,
+    note: Note,
+    a: Boxed<Tree>,
+    place: usize,
+) -> Result<Boxed<Tree>, AllocError>
+    ensures { IfOk result (λ t. tree_of t ≡ rules.Field (note_view note) (tree_of a) place) }
+{
+    Boxed::new(alloc, Tree::Field(note, a, place))
+}
+
+pub(crate) fn bitfield(
+    alloc: Global,
+    note: Note,
+    a: Boxed<Tree>,
+    field: BitField,
+) -> Result<Boxed<Tree>, AllocError>
+    ensures { IfOk result (λ t. tree_of t ≡ rules.Bitfield (note_view note) (tree_of a) field) }
+{
+    Boxed::new(alloc, Tree::Bitfield(note, a, field))
+}
+
+pub(crate) fn bitfields(
+    alloc: Global,
+    note: Note,
+    a: Boxed<Tree>,
+    fields: Items<BitField>,
+) -> Result<Boxed<Tree>, AllocError>
+    ensures { IfOk result (λ t. tree_of t ≡ rules.Bitfields (note_view note) (tree_of a) fields) }
+{
+    Boxed::new(alloc, Tree::Bitfields(note, a, fields))
+}
+
+pub(crate) fn element(
+    alloc: Global,
+    note: Note,
+    a: Boxed<Tree>,
+    index: Boxed<Tree>,
+) -> Result<Boxed<Tree>, AllocError>
+    ensures { IfOk result (λ t. tree_of t ≡ rules.Element (note_view note) (tree_of a) (tree_of index)) }
+{
+    Boxed::new(alloc, Tree::Element(note, a, index))
+}

@@ -1,0 +1,13 @@
+pub mod DefinitionLemmas
+pub mod Judgements
+pub mod Keeping
+pub mod LibraryNames
+pub mod OnceLemmas
+pub mod Passing
+pub mod PhaseLemmas
+pub mod Scoping
+pub mod Serves
+pub mod Serving
+pub mod StorageLemmas
+pub mod Turns
+pub mod ValueLemmas

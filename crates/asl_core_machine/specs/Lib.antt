@@ -1,0 +1,4 @@
+pub mod Storage
+pub mod Stages
+pub mod Work
+pub mod Memory

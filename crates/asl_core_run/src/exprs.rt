@@ -1,0 +1,431 @@
+//! Expressions: each function does what the rules say of a node. Its answer is `Stuck` exactly where they give no outcome.
+ghost use Rattle.std.specs.Prelude.{◌≡◌, map};
+ghost use Rattle.asl_bits.specs.declared.TheConstants.{WIDTH_LIMIT};
+ghost use Rattle.asl_core.specs.Forms as forms;
+ghost use Rattle.asl_core.specs.Operators as operators;
+ghost use Rattle.asl_core.specs.TypedMeaning.{list_of, tree_node};
+ghost use Rattle.asl_core_tree.specs.View.{tree_of, all_trees};
+ghost use Rattle.asl_core_value.specs.View.{value_of};
+ghost use Rattle.asl_core_run.specs.Below.{Evals, Execs};
+ghost use Rattle.asl_core_run.specs.Meets.{Counts, Keeps, Runs};
+ghost use Rattle.asl_core_run.specs.Operations.{evaluated, one_given, many_given, more_given};
+ghost use Rattle.asl_core_run.specs.View.{program_of};
+
+use crate::below::eval;
+use crate::calls::{Call, eval_call};
+use crate::operations::{Many, More, One, many_value, more_value, one_value};
+use crate::places::read;
+use crate::run::Run;
+use crate::setting::{Nodes, Setting};
+use crate::stop::{Exit, Stop};
+use asl_core_tree::act::Act;
+use asl_core_tree::tree::Tree;
+use asl_core_value::{Value, binary, copy, element_of, literal, strip, truth};
+use asl_io::Sink;
+use asl_shared::Held;
+use asl_syn::token::Span;
+use asl_syn::tree::BinaryOperator;
+use sqlite_items::Items;
+
+/// An operator with its operands.
+#[derive(Clone, Copy)]
+pub struct Operation<'r> {
+    pub span: Span,
+    pub operator: BinaryOperator,
+    pub right: &'r Tree,
+}
+
+/// What an expression does once it is entered.
+pub fn eval_node<
+    K: Sink,
+    E: Fn(Setting, &mut Run, &mut K, &Tree) -> Result<Value, Stop>,
+    X: Fn(Setting, &mut Run, &mut K, &Items<Act>) -> Result<Exit, Stop>,
+>(here: &Nodes<E, X>, run: &mut Run, sink: &mut K, e: &Tree) -> Result<Value, Stop>
+    requires evals { Evals K.written K.faults K.full here.now.setting.funcs.now here.now.setting.depth (E.pre here.now.eval here.now.setting) (E.post here.now.eval here.now.setting) }
+    requires execs { Execs K.written K.faults K.full here.now.setting.funcs.now here.now.setting.depth (X.pre here.now.exec here.now.setting) (X.post here.now.exec here.now.setting) }
+    ensures meets { Runs value_of result here.now.setting.funcs.now here.now.setting.depth
+        (tree_node (program_of here.now.setting.funcs.now) (tree_of e.now))
+        run.old (K.written sink.old) run.new (K.written sink.new) }
+    ensures counts { Counts result (K.faults sink.old) (K.faults sink.new) }
+    ensures same_full { K.full sink.new ≡ K.full sink.old }
+    ensures keeps { Keeps result run.old run.new }
+{
+    match e {
+        Tree::Int(note, n) => Ok(literal(note.span, *n)?),
+        Tree::Constant(_, x) => Ok(copy(x)?),
+        Tree::Read(note, slot) => read(run, note.span, *slot),
+        Tree::Unary(note, operator, a) => eval_one(
+            here,
+            run,
+            sink,
+            note.span,
+            a.get(),
+            One::Unary(*operator),
+        ),
+        Tree::Binary(note, operator, a, b) => eval_binary(
+            here,
+            run,
+            sink,
+            a.get(),
+            Operation {
+                span: note.span,
+                operator: *operator,
+                right: b.get(),
+            },
+        ),
+        Tree::Conditional(note, e, a, b) => eval_conditional(
+            here,
+            run,
+            sink,
+            Conditional {
+                span: note.span,
+                condition: e.get(),
+                first: a.get(),
+                second: b.get(),
+            },
+        ),
+        Tree::Tuple(note, es) => {
+            eval_many(here, run, sink, note.span, es.as_slice(), Many::Tuple)
+        }
+        Tree::Construct(note, shell, fields, es) => eval_many(
+            here,
+            run,
+            sink,
+            note.span,
+            es.as_slice(),
+            Many::Construct(shell, fields.as_slice()),
+        ),
+        Tree::Call(note, callee, widths, params, args) => eval_call(
+            here,
+            run,
+            sink,
+            Call {
+                span: note.span,
+                callee: *callee,
+                widths: widths.as_slice(),
+                params: params.as_slice(),
+                args: args.as_slice(),
+            },
+        ),
+        Tree::Field(note, a, place) => {
+            eval_one(here, run, sink, note.span, a.get(), One::Field(*place))
+        }
+        Tree::Bitfield(note, a, field) => {
+            eval_one(here, run, sink, note.span, a.get(), One::Bitfield(field))
+        }
+        Tree::Bitfields(note, a, fields) => eval_one(
+            here,
+            run,
+            sink,
+            note.span,
+            a.get(),
+            One::Bitfields(fields.as_slice()),
+        ),
+        Tree::Slices(note, a, shapes, es) => eval_more(
+            here,
+            run,
+            sink,
+            a.get(),
+            es.as_slice(),
+            Behind {
+                span: note.span,
+                more: More::Slices(shapes.as_slice()),
+            },
+        ),
+        Tree::Element(note, a, i) => { eval_element(here, run, sink, note.span, a.get(), i.get()) }
+        Tree::As(note, a, shape, es) => eval_more(
+            here,
+            run,
+            sink,
+            a.get(),
+            es.as_slice(),
+            Behind {
+                span: note.span,
+                more: More::As(shape),
+            },
+        ),
+        Tree::In(note, a, shape, es) => eval_more(
+            here,
+            run,
+            sink,
+            a.get(),
+            es.as_slice(),
+            Behind {
+                span: note.span,
+                more: More::In(shape),
+            },
+        ),
+    }
+}
+
+fn eval_one<K: Sink, E: Fn(Setting, &mut Run, &mut K, &Tree) -> Result<Value, Stop>, X>(
+    here: &Nodes<E, X>,
+    run: &mut Run,
+    sink: &mut K,
+    span: Span,
+    operand: &Tree,
+    one: One,
+) -> Result<Value, Stop>
+    requires evals { Evals K.written K.faults K.full here.now.setting.funcs.now here.now.setting.depth (E.pre here.now.eval here.now.setting) (E.post here.now.eval here.now.setting) }
+    ensures meets { Runs value_of result here.now.setting.funcs.now here.now.setting.depth
+        (λ c. forms.behind (tree_of operand.now) c (one_given span one.entry))
+        run.old (K.written sink.old) run.new (K.written sink.new) }
+    ensures counts { Counts result (K.faults sink.old) (K.faults sink.new) }
+    ensures same_full { K.full sink.new ≡ K.full sink.old }
+    ensures keeps { Keeps result run.old run.new }
+{
+    let x = Held::new(eval(here, run, sink, operand)?);
+    one_value(here.setting.alloc, span, one, x.get())
+}
+
+fn eval_binary<K: Sink, E: Fn(Setting, &mut Run, &mut K, &Tree) -> Result<Value, Stop>, X>(
+    here: &Nodes<E, X>,
+    run: &mut Run,
+    sink: &mut K,
+    left: &Tree,
+    operation: Operation,
+) -> Result<Value, Stop>
+    requires evals { Evals K.written K.faults K.full here.now.setting.funcs.now here.now.setting.depth (E.pre here.now.eval here.now.setting) (E.post here.now.eval here.now.setting) }
+    ensures meets { Runs value_of result here.now.setting.funcs.now here.now.setting.depth
+        (forms.operation WIDTH_LIMIT operation.entry.span operation.entry.operator (tree_of left.now) (tree_of operation.entry.right.now))
+        run.old (K.written sink.old) run.new (K.written sink.new) }
+    ensures counts { Counts result (K.faults sink.old) (K.faults sink.new) }
+    ensures same_full { K.full sink.new ≡ K.full sink.old }
+    ensures keeps { Keeps result run.old run.new }
+{
+    let x = Held::new(eval(here, run, sink, left)?);
+    eval_behind(here, run, sink, operation, x.get())
+}
+
+/// What an operator does behind its left operand: `&&`, `||` and `-->` may be decided by it.
+fn eval_behind<K: Sink, E: Fn(Setting, &mut Run, &mut K, &Tree) -> Result<Value, Stop>, X>(
+    here: &Nodes<E, X>,
+    run: &mut Run,
+    sink: &mut K,
+    operation: Operation,
+    x: &Value,
+) -> Result<Value, Stop>
+    requires evals { Evals K.written K.faults K.full here.now.setting.funcs.now here.now.setting.depth (E.pre here.now.eval here.now.setting) (E.post here.now.eval here.now.setting) }
+    ensures meets { Runs value_of result here.now.setting.funcs.now here.now.setting.depth
+        (forms.behind_left WIDTH_LIMIT operation.entry.span operation.entry.operator (tree_of operation.entry.right.now) (value_of x.now) (operators.strictness operation.entry.operator))
+        run.old (K.written sink.old) run.new (K.written sink.new) }
+    ensures counts { Counts result (K.faults sink.old) (K.faults sink.new) }
+    ensures same_full { K.full sink.new ≡ K.full sink.old }
+    ensures keeps { Keeps result run.old run.new }
+{
+    match operation.operator {
+        BinaryOperator::LogicalAnd => {
+            if truth(operation.span, x)? {
+                eval_right(here, run, sink, operation, x)
+            } else {
+                Ok(Value::Bool(false))
+            }
+        }
+        BinaryOperator::LogicalOr => {
+            if truth(operation.span, x)? {
+                Ok(Value::Bool(true))
+            } else {
+                eval_right(here, run, sink, operation, x)
+            }
+        }
+        BinaryOperator::Implies => {
+            if truth(operation.span, x)? {
+                eval_right(here, run, sink, operation, x)
+            } else {
+                Ok(Value::Bool(true))
+            }
+        }
+        _ => eval_right(here, run, sink, operation, x),
+    }
+}
+
+fn eval_right<K: Sink, E: Fn(Setting, &mut Run, &mut K, &Tree) -> Result<Value, Stop>, X>(
+    here: &Nodes<E, X>,
+    run: &mut Run,
+    sink: &mut K,
+    operation: Operation,
+    x: &Value,
+) -> Result<Value, Stop>
+    requires evals { Evals K.written K.faults K.full here.now.setting.funcs.now here.now.setting.depth (E.pre here.now.eval here.now.setting) (E.post here.now.eval here.now.setting) }
+    ensures meets { Runs value_of result here.now.setting.funcs.now here.now.setting.depth
+        (forms.ask_right WIDTH_LIMIT operation.entry.span operation.entry.operator (tree_of operation.entry.right.now) (value_of x.now))
+        run.old (K.written sink.old) run.new (K.written sink.new) }
+    ensures counts { Counts result (K.faults sink.old) (K.faults sink.new) }
+    ensures same_full { K.full sink.new ≡ K.full sink.old }
+    ensures keeps { Keeps result run.old run.new }
+{
+    let y = Held::new(eval(here, run, sink, operation.right)?);
+    Ok(binary(
+        here.setting.alloc,
+        operation.span,
+        operation.operator,
+        x,
+        y.get(),
+    )?)
+}
+
+/// `if e then e else e`
+#[derive(Clone, Copy)]
+pub struct Conditional<'r> {
+    pub span: Span,
+    pub condition: &'r Tree,
+    pub first: &'r Tree,
+    pub second: &'r Tree,
+}
+
+fn eval_conditional<K: Sink, E: Fn(Setting, &mut Run, &mut K, &Tree) -> Result<Value, Stop>, X>(
+    here: &Nodes<E, X>,
+    run: &mut Run,
+    sink: &mut K,
+    it: Conditional,
+) -> Result<Value, Stop>
+    requires evals { Evals K.written K.faults K.full here.now.setting.funcs.now here.now.setting.depth (E.pre here.now.eval here.now.setting) (E.post here.now.eval here.now.setting) }
+    ensures meets { Runs value_of result here.now.setting.funcs.now here.now.setting.depth
+        (forms.conditional it.entry.span (tree_of it.entry.condition.now) (tree_of it.entry.first.now) (tree_of it.entry.second.now))
+        run.old (K.written sink.old) run.new (K.written sink.new) }
+    ensures counts { Counts result (K.faults sink.old) (K.faults sink.new) }
+    ensures same_full { K.full sink.new ≡ K.full sink.old }
+    ensures keeps { Keeps result run.old run.new }
+{
+    let x = Held::new(eval(here, run, sink, it.condition)?);
+    if truth(it.span, x.get())? {
+        eval_branch(here, run, sink, it.first)
+    } else {
+        eval_branch(here, run, sink, it.second)
+    }
+}
+
+/// The branch that is taken, whose bits lose their bitfields.
+fn eval_branch<K: Sink, E: Fn(Setting, &mut Run, &mut K, &Tree) -> Result<Value, Stop>, X>(
+    here: &Nodes<E, X>,
+    run: &mut Run,
+    sink: &mut K,
+    e: &Tree,
+) -> Result<Value, Stop>
+    requires evals { Evals K.written K.faults K.full here.now.setting.funcs.now here.now.setting.depth (E.pre here.now.eval here.now.setting) (E.post here.now.eval here.now.setting) }
+    ensures meets { Runs value_of result here.now.setting.funcs.now here.now.setting.depth (forms.branch_value (tree_of e.now))
+        run.old (K.written sink.old) run.new (K.written sink.new) }
+    ensures counts { Counts result (K.faults sink.old) (K.faults sink.new) }
+    ensures same_full { K.full sink.new ≡ K.full sink.old }
+    ensures keeps { Keeps result run.old run.new }
+{
+    let x = Held::new(eval(here, run, sink, e)?);
+    Ok(strip(here.setting.alloc, x.get())?)
+}
+
+/// The values of expressions in order.
+pub fn eval_all<K: Sink, E: Fn(Setting, &mut Run, &mut K, &Tree) -> Result<Value, Stop>, X>(
+    here: &Nodes<E, X>,
+    run: &mut Run,
+    sink: &mut K,
+    es: &[Tree],
+) -> Result<Items<Value>, Stop>
+    requires evals { Evals K.written K.faults K.full here.now.setting.funcs.now here.now.setting.depth (E.pre here.now.eval here.now.setting) (E.post here.now.eval here.now.setting) }
+    ensures meets { Runs (map value_of) result here.now.setting.funcs.now here.now.setting.depth (evaluated es.now)
+        run.old (K.written sink.old) run.new (K.written sink.new) }
+    ensures counts { Counts result (K.faults sink.old) (K.faults sink.new) }
+    ensures same_full { K.full sink.new ≡ K.full sink.old }
+    ensures keeps { Keeps result run.old run.new }
+{
+    let mut xs = Items::new(here.setting.alloc);
+    for e in es {
+        let x = eval(here, run, sink, e)?;
+        xs.push(x)?;
+    }
+    Ok(xs)
+}
+
+fn eval_many<K: Sink, E: Fn(Setting, &mut Run, &mut K, &Tree) -> Result<Value, Stop>, X>(
+    here: &Nodes<E, X>,
+    run: &mut Run,
+    sink: &mut K,
+    span: Span,
+    es: &[Tree],
+    many: Many,
+) -> Result<Value, Stop>
+    requires evals { Evals K.written K.faults K.full here.now.setting.funcs.now here.now.setting.depth (E.pre here.now.eval here.now.setting) (E.post here.now.eval here.now.setting) }
+    ensures meets { Runs value_of result here.now.setting.funcs.now here.now.setting.depth
+        (λ c. forms.behind_all (list_of (all_trees es.now)) c (many_given span many.entry))
+        run.old (K.written sink.old) run.new (K.written sink.new) }
+    ensures counts { Counts result (K.faults sink.old) (K.faults sink.new) }
+    ensures same_full { K.full sink.new ≡ K.full sink.old }
+    ensures keeps { Keeps result run.old run.new }
+{
+    let xs = eval_all(here, run, sink, es)?;
+    many_value(here.setting.alloc, span, many, xs)
+}
+
+/// What is done with an operand and with those behind it.
+#[derive(Clone, Copy)]
+pub struct Behind<'r> {
+    pub span: Span,
+    pub more: More<'r>,
+}
+
+fn eval_more<K: Sink, E: Fn(Setting, &mut Run, &mut K, &Tree) -> Result<Value, Stop>, X>(
+    here: &Nodes<E, X>,
+    run: &mut Run,
+    sink: &mut K,
+    operand: &Tree,
+    es: &[Tree],
+    behind: Behind,
+) -> Result<Value, Stop>
+    requires evals { Evals K.written K.faults K.full here.now.setting.funcs.now here.now.setting.depth (E.pre here.now.eval here.now.setting) (E.post here.now.eval here.now.setting) }
+    ensures meets { Runs value_of result here.now.setting.funcs.now here.now.setting.depth
+        (λ c. forms.behind_more (tree_of operand.now) (list_of (all_trees es.now)) c (more_given behind.entry.span behind.entry.more))
+        run.old (K.written sink.old) run.new (K.written sink.new) }
+    ensures counts { Counts result (K.faults sink.old) (K.faults sink.new) }
+    ensures same_full { K.full sink.new ≡ K.full sink.old }
+    ensures keeps { Keeps result run.old run.new }
+{
+    let x = Held::new(eval(here, run, sink, operand)?);
+    eval_behind_one(here, run, sink, x.get(), es, behind)
+}
+
+/// The operands behind the first.
+fn eval_behind_one<K: Sink, E: Fn(Setting, &mut Run, &mut K, &Tree) -> Result<Value, Stop>, X>(
+    here: &Nodes<E, X>,
+    run: &mut Run,
+    sink: &mut K,
+    x: &Value,
+    es: &[Tree],
+    behind: Behind,
+) -> Result<Value, Stop>
+    requires evals { Evals K.written K.faults K.full here.now.setting.funcs.now here.now.setting.depth (E.pre here.now.eval here.now.setting) (E.post here.now.eval here.now.setting) }
+    ensures meets { Runs value_of result here.now.setting.funcs.now here.now.setting.depth
+        (λ c. forms.behind_all (list_of (all_trees es.now)) c (more_given behind.entry.span behind.entry.more (value_of x.now)))
+        run.old (K.written sink.old) run.new (K.written sink.new) }
+    ensures counts { Counts result (K.faults sink.old) (K.faults sink.new) }
+    ensures same_full { K.full sink.new ≡ K.full sink.old }
+    ensures keeps { Keeps result run.old run.new }
+{
+    let zs = eval_all(here, run, sink, es)?;
+    more_value(
+        here.setting.alloc,
+        behind.span,
+        behind.more,
+        x,
+        zs.as_slice(),
+    )
+}
+
+fn eval_element<K: Sink, E: Fn(Setting, &mut Run, &mut K, &Tree) -> Result<Value, Stop>, X>(
+    here: &Nodes<E, X>,
+    run: &mut Run,
+    sink: &mut K,
+    span: Span,
+    array: &Tree,
+    index: &Tree,
+) -> Result<Value, Stop>
+    requires evals { Evals K.written K.faults K.full here.now.setting.funcs.now here.now.setting.depth (E.pre here.now.eval here.now.setting) (E.post here.now.eval here.now.setting) }
+    ensures meets { Runs value_of result here.now.setting.funcs.now here.now.setting.depth
+        (forms.element span (tree_of array.now) (tree_of index.now))
+        run.old (K.written sink.old) run.new (K.written sink.new) }
+    ensures counts { Counts result (K.faults sink.old) (K.faults sink.new) }
+    ensures same_full { K.full sink.new ≡ K.full sink.old }
+    ensures keeps { Keeps result run.old run.new }
+{
+    let x = Held::new(eval(here, run, sink, array)?);
+    let y = Held::new(eval(here, run, sink, index)?);
+    Ok(element_of(span, x.get(), y.get())?)
+}

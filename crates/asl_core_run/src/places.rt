@@ -1,0 +1,104 @@
+//! The places of a state.
+ghost use Rattle.std.specs.Prelude.{◌≡◌, ◌∷◌, [], OnOk, map, option_map};
+ghost use Rattle.std.specs.Option.{option_copied};
+ghost use Rattle.asl_bits.specs.declared.TheConstants.{WIDTH_LIMIT};
+ghost use Rattle.asl_core.specs.Plans.{lift};
+ghost use Rattle.asl_core.specs.Pures.{known};
+ghost use Rattle.asl_core.specs.StatementForms.{done_normal};
+ghost use Rattle.asl_core.specs.TypedMeaning as rules;
+ghost use Rattle.asl_core_value.specs.Forms.{all_steps};
+ghost use Rattle.asl_core_value.specs.View.{value_of};
+ghost use Rattle.asl_core_run.specs.Meets.{Acts, Is, Keeps, NoneRefused, SameBut, Stores};
+ghost use Rattle.asl_core_run.specs.Storing.{stored_in};
+ghost use Rattle.asl_core_run.specs.View.{core_of};
+
+use crate::run::Run;
+use crate::stop::{Exit, Mistake, Stop};
+use asl_core::slot::Slot;
+use asl_core_value::{Step, Value, copy, replace};
+use asl_syn::token::Span;
+use std::alloc::{AllocError, Global};
+
+// ---- reading
+
+/// The value in a place.
+#[tactic(auto, using(crate::proofs::Slots::value_at_place))]
+fn value_at(run: &Run, slot: Slot) -> Option<&Value>
+    ensures { option_map value_of (option_copied result) ≡ rules.value_at slot (core_of run.now) }
+{
+    match slot {
+        Slot::Local(i) => run.frame.get(i),
+        Slot::Global(i) => run.globals.get(i),
+    }
+}
+
+/// A copy of the value in a place, over the same parts.
+pub fn read(run: &Run, span: Span, slot: Slot) -> Result<Value, Stop>
+    ensures { Is value_of result (known span (rules.value_at slot (core_of run.now))) }
+{
+    match value_at(run, slot) {
+        Some(value) => Ok(copy(value)?),
+        None => Err(Stop::Stuck(Mistake::UnknownName, span)),
+    }
+}
+
+// ---- storing
+
+/// A store at the end of these steps from one of the values, in place where each part on the way has one owner.
+fn store_in(
+    alloc: Global,
+    values: &mut Vec<Value>,
+    span: Span,
+    at: usize,
+    steps: &[Step],
+    value: Value,
+) -> Result<(), Stop>
+    ensures stores { Stores result
+        (stored_in span at (all_steps steps.now) (value_of value) (map value_of values.old.items))
+        values.old.items values.new.items }
+{
+    if at >= values.len() {
+        drop(value);
+        return Err(Stop::Stuck(Mistake::UnknownName, span));
+    }
+    replace(alloc, &mut values[at], steps, value)?;
+    Ok(())
+}
+
+/// A store at the end of these steps from a place. At a fault the place holds what it held.
+pub fn assign_at(
+    alloc: Global,
+    run: &mut Run,
+    span: Span,
+    slot: Slot,
+    steps: &[Step],
+    value: Value,
+) -> Result<Exit, Stop>
+    ensures acts { Acts result
+        (λ c. lift (rules.stored WIDTH_LIMIT span slot (value_of value) (all_steps steps.now) c) c done_normal)
+        run.old run.new }
+    ensures none_refused { NoneRefused result }
+    ensures keeps { Keeps result run.old run.new }
+{
+    match slot {
+        Slot::Local(i) => {
+            store_in(alloc, &mut run.frame, span, i, steps, value)?;
+            Ok(Exit::Normal)
+        }
+        Slot::Global(i) => {
+            store_in(alloc, &mut run.globals, span, i, steps, value)?;
+            Ok(Exit::Normal)
+        }
+    }
+}
+
+// ---- declaring
+
+/// The next place of the frame takes a value.
+pub fn push(run: &mut Run, value: Value) -> Result<(), AllocError>
+    ensures ok { OnOk result (core_of run.new ≡ rules.with_next (value_of value ∷ []) (core_of run.old)) }
+    ensures round { SameBut run.old run.new }
+{
+    run.frame.push(value)?;
+    Ok(())
+}
