@@ -1,10 +1,10 @@
 -- The branches of an `if`, one by one.
-use Rattle.std.proofs.Common.{◌≡◌, ℕ, ◌+◌, ◌<◌, ◌≤◌, Bool, true, false, List, [], ◌∷◌, length, get_or, drop, Err, sym, ap, ◌∙◌, subst}
+use Rattle.std.proofs.Common.{◌≡◌, ℕ, ◌+◌, ◌<◌, ◌≤◌, Bool, List, ◌∷◌, length, get_or, drop, Err, sym, ap, ◌∙◌, subst}
 use Rattle.std.proofs.lemmas.List.{at_drop_all}
 use Rattle.asl_syn.specs.declared.token.Span.{Span}
 use Rattle.asl_core.specs.Cuts.{cuts}
 use Rattle.asl_core.specs.Operators.{truth}
-use Rattle.asl_core.specs.Plans.{Meter, Done, Ret, Eval, Good, choose, lift, run, ◌>>=◌}
+use Rattle.asl_core.specs.Plans.{Meter, Done, Good, choose, lift, run}
 use Rattle.asl_core.specs.StatementForms.{branch, branches, scope}
 use Rattle.asl_core.specs.Trees as rules
 use Rattle.asl_core.specs.Trees.{Act, Tree}
@@ -22,7 +22,6 @@ use Rattle.asl_core_tree.specs.declared.tree.Tree.{Tree as Asked}
 use Rattle.asl_core_value.specs.Answers as answers
 use Rattle.asl_core_value.specs.View.{value_of}
 use Rattle.asl_core_value.specs.declared.failure.Failure.{Failure}
-use Rattle.asl_core_value.specs.declared.value.Value.{Value as Stored}
 use Rattle.asl_core_run.specs.declared.stop.Stop.{Stop as Stopped}
 use Rattle.asl_core_run.specs.Meets.{Left, Meets}
 use Rattle.asl_core_run.specs.View.{exit_of, stop_of, meaning_of, cutting_of}

@@ -8,7 +8,7 @@ use Rattle.asl_core.specs.Matching.{is_matched}
 use Rattle.asl_core.specs.Operators.{truth}
 use Rattle.asl_core.specs.Plans.{Meter, Done, Ret, choose, lift, run}
 use Rattle.asl_core.specs.Shapes.{PatternShapes}
-use Rattle.asl_core.specs.StatementForms.{Choice, alternative, alternatives, guarded, no_match, scope}
+use Rattle.asl_core.specs.StatementForms.{alternative, alternatives, guarded, no_match, scope}
 use Rattle.asl_core.specs.Trees as rules
 use Rattle.asl_core.specs.Trees.{Tree, Trees, Act}
 use Rattle.asl_core.specs.TypedMeaning.{BareCore, Runs, acts_of, choices_of, in_bare, itself, list_of}

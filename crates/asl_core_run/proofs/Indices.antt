@@ -1,6 +1,6 @@
 -- The index of a loop, and the next.
 use Rattle.std.proofs.Common.{◌≡◌, ◌≢◌, true, false, arith}
-use Rattle.std.specs.Prelude.{ℤ, pos, negsuc, ◌+ℤ◌, ◌-ℤ◌}
+use Rattle.std.specs.Prelude.{ℤ, pos, ◌+ℤ◌, ◌-ℤ◌}
 use Rattle.std.proofs.lemmas.Int.{ints}
 use Rattle.asl_core.specs.Operators.{less}
 

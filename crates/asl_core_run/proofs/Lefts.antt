@@ -1,12 +1,11 @@
 -- What is left of a plan once its first part is done, and where that part stops the whole.
-use Rattle.std.proofs.Common.{◌≡◌, ℕ, Bool, true, false, ◌⊎◌, inl, inr, List, Option, Result, Ok, Err, refl, sym, ap, ◌∙◌, subst}
-use Rattle.asl_core.specs.Cuts.{rest, within, cuts}
+use Rattle.std.proofs.Common.{◌≡◌, ℕ, inl, inr, List, Err, refl, sym, ap, subst}
+use Rattle.asl_core.specs.Cuts.{rest, cuts}
 use Rattle.asl_core.specs.Plans.{Meter, Outcome, Done, Thrown, Halt, Raise, Within, follow, run, ◌>>=◌, handle}
 use Rattle.asl_core.specs.TypedMeaning.{BareCore, Runs}
 use Rattle.asl_core.specs.Values as rules
 use Rattle.asl_core_tree.specs.declared.act.TreeFunc.{TreeFunc}
 use Rattle.asl_core_value.specs.declared.value.Value.{Value}
-use Rattle.asl_core_value.specs.View.{value_of}
 use Rattle.asl_core_run.specs.declared.stop.Stop.{Stop as Stopped}
 use Rattle.asl_core_run.specs.declared.stop.Stop.TheVariants as stop
 use Rattle.asl_core_run.specs.Meets.{Meets, Left}

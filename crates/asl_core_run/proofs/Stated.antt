@@ -3,7 +3,7 @@ use Rattle.std.proofs.Common.{◌≡◌, ℕ, List, sym, ap, ◌∙◌}
 use Rattle.asl_syn.specs.declared.token.Span.{Span}
 use Rattle.asl_core.specs.Trees as rules
 use Rattle.asl_core_tree.specs.Acts.{simple_of}
-use Rattle.asl_core_tree.specs.View.{callee_of, tree_of, all_trees}
+use Rattle.asl_core_tree.specs.View.{callee_of, all_trees}
 use Rattle.asl_core_tree.specs.declared.act.Simple.{Simple}
 use Rattle.asl_core_tree.specs.declared.act.Simple.TheVariants as simple
 use Rattle.asl_core_tree.specs.declared.tree.Callee.{Callee}

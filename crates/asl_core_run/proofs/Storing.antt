@@ -1,5 +1,5 @@
 -- Steps and stores, one by one.
-use Rattle.std.proofs.Common.{◌≡◌, ℕ, zero, suc, ◌+◌, ◌<◌, ◌≤◌, inl, List, [], ◌∷◌, ◌++◌, length, get_or, drop, map, Err, refl, sym, ap, ◌∙◌, subst, arith, append_assoc, append-nil}
+use Rattle.std.proofs.Common.{◌≡◌, ℕ, suc, ◌+◌, ◌<◌, ◌≤◌, inl, List, [], ◌∷◌, ◌++◌, length, get_or, drop, map, Err, refl, sym, ap, ◌∙◌, subst, arith, append_assoc, append-nil}
 use Rattle.std.proofs.Math.Seq.{drop-cons}
 use Rattle.std.proofs.lemmas.List.{at_drop_all, map-append}
 use Rattle.asl_bits.specs.declared.TheConstants.{WIDTH_LIMIT}
@@ -7,8 +7,7 @@ use Rattle.asl_core.specs.Cuts.{cuts}
 use Rattle.asl_core.specs.Plans.{Meter, End, Done, Ret, Pure, Good, Bad, run}
 use Rattle.asl_core.specs.Pures.{◌>>=◌}
 use Rattle.asl_core.specs.ByPlace.{Step, part_in}
-use Rattle.asl_core.specs.StatementForms.{Store, store_each}
-use Rattle.asl_core.specs.Trees.{Tree}
+use Rattle.asl_core.specs.StatementForms.{store_each}
 use Rattle.asl_core.specs.TypedMeaning.{BareCore, Runs, step_ahead, stores}
 use Rattle.asl_core.specs.Values.{Value, Exit, Normal}
 use Rattle.asl_core_tree.specs.Acts.{all_places, step_of}

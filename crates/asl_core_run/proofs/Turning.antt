@@ -1,9 +1,9 @@
 -- Loops, turn by turn: what is left after a turn, and where a turn stops the whole.
-use Rattle.std.proofs.Common.{◌≡◌, ℕ, ◌-◌, ◌<◌, Bool, true, false, inl, inr, List, Option, Ok, Err, sym, ap, ◌∙◌, subst}
+use Rattle.std.proofs.Common.{◌≡◌, ℕ, ◌-◌, ◌<◌, Bool, true, false, inl, inr, List, Option, Err, sym, ap, ◌∙◌, subst}
 use Rattle.std.specs.Prelude.{ℤ}
 use Rattle.asl_syn.specs.declared.token.Span.{Span}
 use Rattle.asl_syn.specs.declared.tree.Direction.{Direction}
-use Rattle.asl_core.specs.Cuts.{rest, cuts}
+use Rattle.asl_core.specs.Cuts.{cuts}
 use Rattle.asl_core.specs.Operators.{truth}
 use Rattle.asl_core.specs.Plans.{Meter, Done, Ret, Eval, Good, choose, follow, lift, run, ◌>>=◌}
 use Rattle.asl_core.specs.StatementForms.{asked, done_normal, go_on, index_turn, is_past, next_index, repeat_turn, scope, scope_with, while_turn}

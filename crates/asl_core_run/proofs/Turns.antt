@@ -1,7 +1,5 @@
 -- A part of a plan, and what goes on behind it: the whole gives what goes on gives where the part is done.
-use Rattle.std.proofs.Common.{◌≡◌, ℕ, Bool, true, false, ◌⊎◌, inl, inr, List, [], ◌∷◌, ◌++◌, Option, None, Some, Result, Ok, Err, refl, sym, ap, ◌∙◌, subst}
-use Rattle.asl_bits.specs.declared.TheConstants.{WIDTH_LIMIT}
-use Rattle.asl_syn.specs.declared.token.Span.{Span}
+use Rattle.std.proofs.Common.{◌≡◌, ℕ, ◌⊎◌, inl, inr, List, [], ◌∷◌, ◌++◌, Result, Ok, Err, refl, sym, ap, ◌∙◌, subst}
 use Rattle.asl_core.specs.Cuts.{rest, cuts}
 use Rattle.asl_core.specs.Forms.{eval_all, at_once}
 use Rattle.asl_core.specs.Plans.{Meter, Outcome, Done, Thrown, Halt, Ret, Eval, Pure, Good, Bad, lift, run, ◌>>=◌}

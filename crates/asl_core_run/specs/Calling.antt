@@ -1,5 +1,5 @@
 -- Calls as parts of a run.
-use Rattle.std.specs.Prelude.{◌≡◌, ℕ, List, [], ◌∷◌, ◌++◌, Option, None, Some, map, reverse}
+use Rattle.std.specs.Prelude.{◌≡◌, ℕ, List, [], ◌∷◌, ◌++◌, Option, None, Some, map}
 use Rattle.asl_syn.specs.declared.token.Span.{Span}
 use Rattle.asl_core.specs.Forms as forms
 use Rattle.asl_core.specs.Forms.{Keeps}

@@ -1,5 +1,5 @@
 -- The choice of an alternative of a `case`, as a part of a run.
-use Rattle.std.specs.Prelude.{Bool, true, false, List, [], Option, None, Some}
+use Rattle.std.specs.Prelude.{Bool, true, false, [], Option, None, Some}
 use Rattle.asl_bits.specs.declared.TheConstants.{WIDTH_LIMIT}
 use Rattle.asl_syn.specs.declared.token.Span.{Span}
 use Rattle.asl_core.specs.Forms.{eval_all}

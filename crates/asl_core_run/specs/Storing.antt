@@ -1,13 +1,12 @@
 -- Assignments as parts of a run.
-use Rattle.std.specs.Prelude.{ℕ, List, [], ◌∷◌, ◌++◌, Option, Some, None, map, slice_get}
+use Rattle.std.specs.Prelude.{ℕ, List, [], ◌∷◌, ◌++◌, map, slice_get}
 use Rattle.asl_bits.specs.declared.TheConstants.{WIDTH_LIMIT}
 use Rattle.asl_syn.specs.declared.token.Span.{Span}
 use Rattle.asl_core.specs.ByPlace.{Step, updated, part_in}
-use Rattle.asl_core.specs.Plans.{Stuck, UnknownName, Ret, Pure, Good, Bad}
+use Rattle.asl_core.specs.Plans.{Ret, Pure, Good}
 use Rattle.asl_core.specs.Pures.{◌>>=◌, known}
 use Rattle.asl_core.specs.StatementForms as forms
 use Rattle.asl_core.specs.StatementForms.{Store}
-use Rattle.asl_core.specs.Trees as trees
 use Rattle.asl_core.specs.Trees.{Tree}
 use Rattle.asl_core.specs.TypedMeaning.{BareCore, Runs, set_at, step_ahead, stored}
 use Rattle.asl_core.specs.Values.{Value}

@@ -6,7 +6,7 @@ use Rattle.asl_core.specs.Plans.{Meter, Meaning, meanings}
 use Rattle.asl_core.specs.Plans as plans
 use Rattle.asl_core.specs.Cuts.{Cutting, cuttings}
 use Rattle.asl_core.specs.Trees.{Tree, Act}
-use Rattle.asl_core.specs.TypedMeaning.{BareCore, BareFrame, TreeProgram, tree_nodes, tree_meaning}
+use Rattle.asl_core.specs.TypedMeaning.{BareCore, BareFrame, TreeProgram, tree_nodes}
 use Rattle.asl_core_tree.specs.declared.act.TreeFunc.{TreeFunc}
 use Rattle.asl_core_tree.specs.Acts.{all_funcs}
 use Rattle.asl_core_value.specs.View.{value_of}

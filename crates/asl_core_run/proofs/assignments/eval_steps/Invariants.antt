@@ -1,4 +1,4 @@
-use Rattle.std.proofs.Common.{◌≡◌, ◌-◌, drop, []}
+use Rattle.std.proofs.Common.{◌≡◌, drop, []}
 use Rattle.asl_core_value.specs.Forms.{all_steps}
 use Rattle.asl_core_run.specs.Meets.{Left, SameRound}
 use Rattle.asl_core_run.specs.Storing.{all_stepped}

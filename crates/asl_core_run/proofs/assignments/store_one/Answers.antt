@@ -1,7 +1,6 @@
 use Rattle.std.proofs.Common.{◌≡◌, [], Err, rules, subst}
 use Rattle.std.proofs.lemmas.Result.{err_from_is_err_and}
 use Rattle.asl_bits.specs.declared.TheConstants.{WIDTH_LIMIT}
-use Rattle.asl_core.specs.ByPlace.{Step}
 use Rattle.asl_core.specs.Cuts.{cuts}
 use Rattle.asl_core.specs.Plans.{Done, Ret, lift, run}
 use Rattle.asl_core.specs.TypedMeaning.{stored}

@@ -4,7 +4,7 @@ use Rattle.asl_core.specs.Plans.{Ret}
 use Rattle.asl_core.specs.TypedMeaning.{list_of}
 use Rattle.asl_core_tree.specs.View.{all_trees}
 use Rattle.asl_core_value.specs.View.{value_of}
-use Rattle.asl_core_run.specs.Calling.{Operands, given_of}
+use Rattle.asl_core_run.specs.Calling.{given_of}
 use Rattle.asl_core_run.specs.View.{core_of, meter_of}
 use Rattle.asl_core_run.proofs.Turns.{all_evaluated, goes_failed, goes_on}
 use Rattle.asl_core_run.proofs.calls.behind_params.Goals as goal

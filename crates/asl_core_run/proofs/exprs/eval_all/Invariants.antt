@@ -1,4 +1,4 @@
-use Rattle.std.proofs.Common.{◌≡◌, ◌-◌, drop, map}
+use Rattle.std.proofs.Common.{◌≡◌, drop, map}
 use Rattle.asl_core.specs.Forms.{eval_all}
 use Rattle.asl_core.specs.Plans.{Ret}
 use Rattle.asl_core.specs.TypedMeaning.{list_of}

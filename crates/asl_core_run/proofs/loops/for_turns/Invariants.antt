@@ -1,4 +1,4 @@
-use Rattle.std.proofs.Common.{◌≡◌, ◌-◌, false}
+use Rattle.std.proofs.Common.{◌≡◌, false}
 use Rattle.asl_core.specs.StatementForms as forms
 use Rattle.asl_core.specs.TypedMeaning.{in_bare, indexed, acts_of}
 use Rattle.asl_core_tree.specs.Acts.{all_acts}

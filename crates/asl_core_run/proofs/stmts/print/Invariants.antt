@@ -1,4 +1,4 @@
-use Rattle.std.proofs.Common.{◌≡◌, ◌-◌, drop}
+use Rattle.std.proofs.Common.{◌≡◌, drop}
 use Rattle.asl_core.specs.StatementForms as forms
 use Rattle.asl_core.specs.TypedMeaning as rules
 use Rattle.asl_core_tree.specs.Acts.{all_items}
