@@ -1,0 +1,4 @@
+pub mod Ends
+pub mod Model
+pub mod Report
+pub mod Writes

@@ -1,0 +1,36 @@
+-- What the values of the program stand for.
+use Rattle.std.specs.Prelude.{◌≡◌, ◌≤◌, ◌<◌, ⊤, All, List, length, map, string_bytes}
+use Rattle.asl_syn.specs.declared.place.Source.{Source}
+pub use Rattle.asl_grammar.specs.Reading.{file_of}
+use Rattle.asl_core.specs.Texts.{Text}
+use Rattle.asl_core.specs.Report.{Reading as Came, all, long, many}
+use Rattle.asl_core_cmd.specs.declared.reading.One.{One}
+use Rattle.asl_core_cmd.specs.declared.reading.One.TheVariants as one
+use Rattle.asl_core_cmd.specs.declared.reading.Reading.{Reading}
+use Rattle.asl_core_cmd.specs.declared.reading.Reading.TheVariants as reading
+
+-- each file has at most 1,048,576 bytes
+abbrev pub AreShort : List Source → Type 0
+AreShort sources = All (λ s. length s.bytes.items ≤ 1048576) sources
+
+-- what came of the reading
+abbrev pub reading_of : Reading → Came
+reading_of (reading.All sources) = all (map file_of sources.items)
+reading_of (reading.Long name) = long (string_bytes name)
+reading_of reading.Many = many
+
+-- the files that were read are few and short
+abbrev pub IsShort : Reading → Type 0
+IsShort (reading.All sources) = (length sources.items ≤ 64) × AreShort sources.items
+IsShort (reading.Long name) = ⊤
+IsShort reading.Many = ⊤
+
+-- what came of one file with this name and these bytes
+abbrev pub IsOne : Text → Text → One → Type 0
+IsOne name bytes (one.File s) = (file_of s ≡ (name, bytes)) × (length bytes ≤ 1048576)
+IsOne name bytes (one.TooLong n) = (string_bytes n ≡ name) × (1048576 < length bytes)
+
+-- a file that was read is short
+abbrev pub IsShortOne : One → Type 0
+IsShortOne (one.File s) = length s.bytes.items ≤ 1048576
+IsShortOne (one.TooLong n) = ⊤

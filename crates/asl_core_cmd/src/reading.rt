@@ -1,0 +1,98 @@
+//! The reading of the files that a command names.
+ghost use Rattle.std.specs.Prelude.{◌≡◌, ◌<◌, All, IfOk, IfSome, IsErrOf, IsTrue, map, string_bytes, ◌≤◌, length};
+ghost use Rattle.asl_syn.specs.Command.{names_of};
+ghost use Rattle.asl_core.specs.Report.{read_by, read_for};
+ghost use Rattle.asl_line.specs.Model.{meaning_of};
+ghost use Rattle.asl_core_cmd.specs.Model.{reading_of, IsShort, IsOne, IsShortOne};
+ghost use Rattle.asl_core_cmd.specs.Writes.{HasCause};
+
+use crate::status::Stop;
+use asl_io::{Files, ReadAnswer, read_file};
+use asl_line::Line;
+use asl_syn::place::{MAX_BYTES, Source};
+use std::alloc::Global;
+
+/// The greatest number of files of a command.
+const MAX_FILES: usize = 64;
+
+/// What came of the reading.
+#[derive(Drop)]
+pub enum Reading {
+    /// All files were read, in the order of the words.
+    All(Vec<Source>),
+    /// The file of this name is the first that is too long.
+    Long(String),
+    /// There are more than 64 files; none was opened.
+    Many,
+}
+
+/// What came of one file.
+#[derive(Drop)]
+enum One {
+    File(Source),
+    TooLong(String),
+}
+
+/// Reads one file.
+fn read_one<F: Files>(alloc: Global, name: &str, files: &mut F) -> Result<One, Stop>
+    ensures one { IfOk result (λ one. IfSome (F.held files.old) (λ held. IsOne name.now (held name.now) one)) }
+    ensures short { IfOk result IsShortOne }
+    ensures cause { HasCause result (F.faults files.old) (F.faults files.new) }
+    ensures same_held { F.held files.new ≡ F.held files.old }
+    ensures same_sure { F.sure files.new ≡ F.sure files.old }
+    ensures sure { IsTrue (F.sure files.old name.now) → IsErrOf result Stop.Fault → ⊥ }
+{
+    match read_file(alloc, files, name, MAX_BYTES) {
+        Ok(bytes) => {
+            let name = String::from_str(alloc, name)?;
+            Ok(One::File(Source { name, bytes }))
+        }
+        Err(ReadAnswer::TooLong) => Ok(One::TooLong(String::from_str(alloc, name)?)),
+        Err(ReadAnswer::Fault) => Err(Stop::Fault),
+        Err(ReadAnswer::NoMemory) => Err(Stop::NoMemory),
+    }
+}
+
+/// Reads the files in order, up to the first that is too long.
+fn read_all<F: Files>(alloc: Global, names: &[String], files: &mut F) -> Result<Reading, Stop>
+    requires { length names.now ≤ 64 }
+    ensures reading { IfOk result (λ reading. IfSome (F.held files.old) (λ held. reading_of reading ≡ read_by held (map string_bytes names.now))) }
+    ensures short { IfOk result IsShort }
+    ensures cause { HasCause result (F.faults files.old) (F.faults files.new) }
+    ensures same_held { F.held files.new ≡ F.held files.old }
+    ensures sure { All (λ name. IsTrue (F.sure files.old (string_bytes name))) names.now → IsErrOf result Stop.Fault → ⊥ }
+{
+    let mut sources = Vec::new(alloc);
+    for name in names {
+        match read_one(alloc, name.as_str(), files)? {
+            One::File(source) => sources.push(source)?,
+            One::TooLong(name) => return Ok(Reading::Long(name)),
+        }
+    }
+    Ok(Reading::All(sources))
+}
+
+/// The names that a command reads, in order.
+fn names(line: &Line) -> &[String]
+    ensures { map string_bytes result.now ≡ names_of (meaning_of line.now) }
+{
+    match line {
+        Line::Usage => &[],
+        Line::Check { files } | Line::Run { files, .. } => files.as_slice(),
+    }
+}
+
+/// Reads what the command names.
+pub fn read_line<F: Files>(alloc: Global, line: &Line, files: &mut F) -> Result<Reading, Stop>
+    ensures reading { IfOk result (λ reading. IfSome (F.held files.old) (λ held. reading_of reading ≡ read_for (meaning_of line.now) held)) }
+    ensures short { IfOk result IsShort }
+    ensures cause { HasCause result (F.faults files.old) (F.faults files.new) }
+    ensures same_held { F.held files.new ≡ F.held files.old }
+    ensures sure { All (λ name. IsTrue (F.sure files.old name)) (names_of (meaning_of line.now)) → IsErrOf result Stop.Fault → ⊥ }
+{
+    let names = names(line);
+    if names.len() > MAX_FILES {
+        return Ok(Reading::Many);
+    }
+    read_all(alloc, names, files)
+}
