@@ -1,4 +1,0 @@
-pub mod Ends
-pub mod Model
-pub mod Report
-pub mod Writes
