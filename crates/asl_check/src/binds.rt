@@ -1,56 +1,80 @@
 //! Declarations that bind the parts of a tuple.
 
-ghost use Rattle.std.specs.Prelude.{◌≡◌, true, ◌&&◌, map, IfOk};
-ghost use Rattle.asl_rules.specs.Stmts as rules;
-ghost use Rattle.asl_rules.specs.Stmts.{done};
-ghost use Rattle.asl_tree.specs.declared.typed.Binds.TheVariants as binds;
-ghost use Rattle.asl_tree.specs.declared.typed.TypedStmt.TheVariants as tree;
-ghost use Rattle.asl_tree.specs.Elaboration.{elaborated, is_bound};
+ghost use Rattle.std.specs.Prelude.{◌≡◌, ◌&&◌, Ok, IfOk, option_map};
+ghost use Rattle.std.specs.Prelude.{◌++◌, ◌∷◌, []};
+ghost use Rattle.asl_rules.specs.Locals as rules;
+ghost use Rattle.asl_rules.specs.Scopes as scopes;
+ghost use Rattle.asl_rules.specs.Types as types;
 ghost use Rattle.asl_types.specs.Answers.{Met};
-ghost use Rattle.asl_check.specs.Views.{scope_of};
-ghost use Rattle.asl_types.specs.View.{ty_of, all_parts};
+ghost use Rattle.asl_types.specs.View.{parts_of};
+ghost use Rattle.asl_types.specs.Standings.{with_entry};
 ghost use Rattle.asl_check.specs.Walks as walks;
+ghost use Rattle.asl_check.specs.Walks.{after, binding};
 
-use crate::body::Body;
-use crate::steps::ended;
-use crate::typing::{type_in, written_in};
-use asl_expr::exprs::place;
-use asl_rules::effect::Effect;
-use asl_shared::Held;
+use asl_decl::itself;
 use asl_syn::code::{Refused, StaticCode};
-use asl_syn::token::Span;
-use asl_syn::tree::{Binder, Expr, LocalKind, TypeExpr};
-use asl_tree::typed::{Binds, TypedExpr, TypedStmt};
+use asl_syn::tree::{Binder, LocalKind};
 use asl_types::answer::fault;
-use asl_types::fits::misfit;
+use asl_types::baring::widened;
 use asl_types::structure::tuple_parts;
-use asl_types::{Scope, Ty};
+use asl_types::{Counted, Scope, Ty};
 use sqlite_items::Items;
 use std::alloc::{AllocError, Global};
 
-/// Whether the names of a declaration may be assigned.
-pub(crate) fn is_var(kind: LocalKind) -> bool
-    ensures { result ≡ rules.is_var kind }
+/// A name of a body becomes visible, where it isn't, as its declaration asks for.
+pub(crate) fn declare_local<'a>(
+    names: &mut Scope<'a>,
+    kind: LocalKind,
+    name: &'a [u8],
+    ty: Ty,
+    counted: Option<Counted>,
+) -> Result<(), Refused>
+    ensures { Met (λ _. names.new) result (Ok (with_entry (rules.declared kind name.now ty counted) names.old)) }
 {
     match kind {
-        LocalKind::Let => false,
-        LocalKind::Var => true,
+        LocalKind::Let => names.declare_fixed(name, ty, counted),
+        LocalKind::Var => names.declare_variable(name, ty),
     }
 }
 
-/// The first of these types, else the integers.
-fn first_or_integer(parts: &[Ty]) -> Result<Ty, AllocError>
-    ensures { IfOk result (λ ty. ty_of ty ≡ walks.first_part (all_parts parts.now)) }
+/// The type that a declaration without a written type gives its names: that of a `var` has no constraint.
+pub(crate) fn unannotated(alloc: Global, kind: LocalKind, ty: &Ty) -> Result<Ty, AllocError>
+    ensures { IfOk result (λ it. it ≡ rules.unannotated kind ty.now) }
+{
+    match kind {
+        LocalKind::Let => ty.copy(),
+        LocalKind::Var => widened(alloc, ty),
+    }
+}
+
+/// The type that a declaration gives the name of a part.
+fn part_declared(
+    alloc: Global,
+    kind: LocalKind,
+    written: &Option<Ty>,
+    part: &Ty,
+) -> Result<Ty, AllocError>
+    ensures { IfOk result (λ it. it ≡ rules.part_declared kind written.now part.now) }
+{
+    match written {
+        None => unannotated(alloc, kind, part),
+        Some(_) => part.copy(),
+    }
+}
+
+/// The first of these types, else the booleans.
+fn first_part(parts: &[Ty]) -> Result<Ty, AllocError>
+    ensures { IfOk result (λ ty. ty ≡ walks.first_part (parts_of parts.now)) }
 {
     match parts.split_first() {
-        None => Ok(Ty::Integer),
+        None => Ok(Ty::boolean()),
         Some((first, _)) => first.copy(),
     }
 }
 
 /// The types behind the first.
-fn behind_first(parts: &[Ty]) -> &[Ty]
-    ensures { all_parts result.now ≡ walks.other_parts (all_parts parts.now) }
+fn other_parts(parts: &[Ty]) -> &[Ty]
+    ensures { parts_of result.now ≡ walks.other_parts (parts_of parts.now) }
 {
     match parts.split_first() {
         None => parts,
@@ -60,7 +84,7 @@ fn behind_first(parts: &[Ty]) -> &[Ty]
 
 /// Whether there were as many parts so far, and there is one more.
 fn has_one_more(as_many: bool, parts: &[Ty]) -> bool
-    ensures { result ≡ (as_many && walks.has_part (all_parts parts.now)) }
+    ensures { result ≡ (as_many && walks.has_part (parts_of parts.now)) }
 {
     match parts.split_first() {
         None => false,
@@ -70,7 +94,7 @@ fn has_one_more(as_many: bool, parts: &[Ty]) -> bool
 
 /// Whether there were as many parts, and none is left.
 fn has_no_more(as_many: bool, parts: &[Ty]) -> bool
-    ensures { result ≡ (as_many && walks.has_none (all_parts parts.now)) }
+    ensures { result ≡ (as_many && walks.has_none (parts_of parts.now)) }
 {
     match parts.split_first() {
         None => as_many,
@@ -78,14 +102,15 @@ fn has_no_more(as_many: bool, parts: &[Ty]) -> bool
     }
 }
 
-/// One more binder, with the type of its part: T01 where its name is visible.
+/// One more binder of a part of this type: T01 where its name is visible.
 fn declare_binder<'a>(
+    alloc: Global,
     names: &mut Scope<'a>,
-    binder: &'a Binder,
-    is_mutable: bool,
+    kind: LocalKind,
     ty: Ty,
+    binder: &'a Binder,
 ) -> Result<(), Refused>
-    ensures { Met (λ _. names.new) result (walks.after_binder binder.now is_mutable (ty_of ty) names.old) }
+    ensures { Met (λ _. names.new) result (walks.binder_declared kind ty binder.now names.old) }
 {
     match binder {
         Binder::Bound(name) => {
@@ -93,7 +118,8 @@ fn declare_binder<'a>(
             if !names.is_free(text) {
                 return fault(StaticCode::T01, name.span);
             }
-            names.declare_local(text, ty, is_mutable)
+            let counted = itself(alloc, &ty, names)?;
+            declare_local(names, kind, text, ty, counted)
         }
         Binder::Unbound(_) => Ok(()),
     }
@@ -101,135 +127,54 @@ fn declare_binder<'a>(
 
 /// Binders in order with the types of the parts: T01 at the first whose name is visible. Whether there are as many of both.
 fn declare_binders<'a>(
+    alloc: Global,
     names: &mut Scope<'a>,
     binders: &'a [Binder],
-    is_mutable: bool,
+    kind: LocalKind,
+    written: &Option<Ty>,
     parts: &[Ty],
 ) -> Result<bool, Refused>
-    ensures { Met (λ as_many. (names.new, as_many)) result (walks.after_binders binders.now is_mutable (all_parts parts.now) true names.old) }
+    ensures { Met (λ as_many. (names.new, as_many)) result (walks.parts_walk binders.now kind written.now (parts_of parts.now) names.old) }
 {
     let mut rest = parts;
     let mut as_many = true;
     for binder in binders {
         as_many = has_one_more(as_many, rest);
-        let ty = first_or_integer(rest)?;
-        declare_binder(names, binder, is_mutable, ty)?;
-        rest = behind_first(rest);
+        let part = first_part(rest)?;
+        let ty = part_declared(alloc, kind, written, &part)?;
+        declare_binder(alloc, names, kind, ty, binder)?;
+        rest = other_parts(rest);
     }
     Ok(has_no_more(as_many, rest))
 }
 
-/// Binders in order with the parts of a type.
-fn declare_parts<'a>(
+/// Binders in order with the parts of a type: T01 at the first whose name is visible. Whether there are as many of both.
+pub(crate) fn declare_parts<'a>(
+    alloc: Global,
     names: &mut Scope<'a>,
     binders: &'a [Binder],
-    is_mutable: bool,
+    kind: LocalKind,
+    written: &Option<Ty>,
     ty: &Ty,
 ) -> Result<bool, Refused>
-    ensures { Met (λ as_many. (names.new, as_many)) result (walks.after_parts binders.now is_mutable (rules.tuple_parts (ty_of ty.now)) names.old) }
+    ensures { Met (λ as_many. (names.new, as_many)) result (walks.binders_walk binders.now kind written.now (types.tuple_parts ty.now) names.old) }
 {
     match tuple_parts(ty) {
         None => {
-            declare_binders(names, binders, is_mutable, &[])?;
+            declare_binders(alloc, names, binders, kind, written, &[])?;
             Ok(false)
         }
-        Some(parts) => declare_binders(names, binders, is_mutable, parts),
+        Some(parts) => declare_binders(alloc, names, binders, kind, written, parts),
     }
 }
 
-/// The end of a tuple bind: the names, then the fit, then the count.
-fn bind_parts<'a>(
-    names: &mut Scope<'a>,
-    class: Effect,
-    span: Span,
-    kind: LocalKind,
-    binders: &'a [Binder],
-    ty: &Ty,
-    misfit: Option<StaticCode>,
-    e: &Expr,
-    effect: Effect,
-) -> Result<Effect, Refused>
-    ensures { Met (λ k. done names.new k) result (walks.several_walk span kind binders.now (ty_of ty.now) misfit e.now effect class names.old) }
+/// Which parts are taken.
+pub(crate) fn taken_parts(alloc: Global, binders: &[Binder]) -> Result<Items<bool>, AllocError>
+    ensures { IfOk result (λ bs. bs ≡ rules.taken binders.now) }
 {
-    let as_many = declare_parts(names, binders, is_var(kind), ty)?;
-    if let Some(code) = misfit {
-        return fault(code, place(e));
-    }
-    if !as_many {
-        return fault(StaticCode::T05, span);
-    }
-    ended(class, span, true, effect)
-}
-
-/// Which parts are bound.
-fn bound_parts(alloc: Global, binders: &[Binder]) -> Result<Items<bool>, AllocError>
-    ensures { IfOk result (λ bs. bs ≡ map is_bound binders.now) }
-{
-    let mut bound = Items::new(alloc);
+    let mut taken = Items::new(alloc);
     for binder in binders {
-        bound.push(matches!(binder, Binder::Bound(_)))?;
+        taken.push(matches!(binder, Binder::Bound(_)))?;
     }
-    Ok(bound)
-}
-
-/// The initialiser of a tuple bind, and then its names: its typed tree, held, and its effect.
-fn bind_several<'a>(
-    alloc: Global,
-    names: &mut Scope<'a>,
-    body: &Body,
-    span: Span,
-    kind: LocalKind,
-    binders: &'a [Binder],
-    ty: &Option<TypeExpr>,
-    e: &Expr,
-) -> Result<(Held<TypedExpr>, Effect), Refused>
-    ensures rule { Met (λ p. done names.new p.1) result (walks.several_rule_walk span kind binders.now ty.now e.now (scope_of names.old body.now)) }
-    ensures tree { IfOk result (λ p. p.0 ≡ elaborated e.now (scope_of names.old body.now)) }
-{
-    match ty {
-        None => {
-            let (tree, s) = type_in(alloc, names, body, e)?;
-            let k = bind_parts(
-                names, body.class, span, kind, binders, &s.ty, None, e, s.effect,
-            )?;
-            Ok((tree, k))
-        }
-        Some(t) => {
-            let to = written_in(alloc, names, body, t)?;
-            let (tree, s) = type_in(alloc, names, body, e)?;
-            let code = misfit(&s.ty, to.get());
-            let k = bind_parts(
-                names,
-                body.class,
-                span,
-                kind,
-                binders,
-                to.get(),
-                code,
-                e,
-                s.effect,
-            )?;
-            Ok((tree, k))
-        }
-    }
-}
-
-/// A declaration of the parts of a tuple with its initialiser.
-pub(crate) fn check_several<'a>(
-    alloc: Global,
-    names: &mut Scope<'a>,
-    body: &Body,
-    span: Span,
-    kind: LocalKind,
-    binders: &'a [Binder],
-    ty: &Option<TypeExpr>,
-    e: &Expr,
-) -> Result<(TypedStmt, Effect), Refused>
-    ensures rule { Met (λ p. done names.new p.1) result (walks.several_rule_walk span kind binders.now ty.now e.now (scope_of names.old body.now)) }
-    ensures tree { IfOk result (λ p. p.0 ≡ tree.Declare span (binds.Parts (map is_bound binders.now)) (elaborated e.now (scope_of names.old body.now))) }
-{
-    let (tree, effect) = bind_several(alloc, names, body, span, kind, binders, ty, e)?;
-    let bound = bound_parts(alloc, binders)?;
-    let tree = TypedStmt::Declare(span, Binds::Parts(bound), tree.into_inner());
-    Ok((tree, effect))
+    Ok(taken)
 }

@@ -1,85 +1,150 @@
 //! The bodies of subprograms.
 
-ghost use Rattle.std.specs.Prelude.{◌≡◌, map, OnOk, IfOk};
-ghost use Rattle.std.specs.Option.{option_map};
+ghost use Rattle.std.specs.Prelude.{◌≡◌, List, map, IfOk, OnOk};
 ghost use Rattle.asl_rules.specs.Programs as rules;
-ghost use Rattle.asl_tree.specs.Elaboration.{elaborated_func};
+ghost use Rattle.asl_rules.specs.Scopes.{Entry};
+ghost use Rattle.asl_rules.specs.Tests.{Tests};
 ghost use Rattle.asl_types.specs.Answers.{Met};
-ghost use Rattle.asl_types.specs.View.{ty_of};
+ghost use Rattle.asl_types.specs.Suits.{Suits};
+ghost use Rattle.asl_tree.specs.Acts.{func_of, all_funcs, all_acts};
+ghost use Rattle.asl_decl.specs.Heads.{head_of, heads_of};
 
-use crate::body::Body;
-use crate::stmts::check_stmts;
-use asl_decl::result_type;
-use asl_expr::falls_through;
-use asl_rules::effect::Effect;
+use crate::body::{Body, Listed};
+use crate::falls::falls_through;
+use crate::lists::check_stmts;
+use asl_decl::enter_body;
 use asl_syn::code::{Refused, StaticCode};
-use asl_syn::tree::{Decl, Func, Qualifier};
-use asl_tree::typed::TypedFunc;
+use asl_syn::tree::Func;
+use asl_tree::act::TreeFunc;
 use asl_types::answer::fault;
-use asl_types::{Scope, Ty};
-use std::alloc::Global;
+use asl_types::{Param, Scope, Signature, Subprograms, Ty};
+use sqlite_items::Items;
+use std::alloc::{AllocError, Global};
 
-/// The greatest effect that is allowed in a body.
-fn class_of(qualifier: Qualifier) -> Effect
-    ensures { result ≡ rules.class_of qualifier }
+/// The types of parameters, where they are written.
+fn param_types(alloc: Global, params: &[Param]) -> Result<Items<Option<Ty>>, AllocError>
+    ensures { IfOk result (λ types. types ≡ rules.param_types params.now) }
 {
-    match qualifier {
-        Qualifier::Unqualified => Effect::Writes,
-        Qualifier::Pure => Effect::Pure,
-        Qualifier::Readonly => Effect::Readonly,
+    let mut types = Items::new(alloc);
+    for p in params {
+        let ty = match p.ty() {
+            None => None,
+            Some(ty) => Some(ty.copy()?),
+        };
+        types.push(ty)?;
+    }
+    Ok(types)
+}
+
+/// The same types again.
+fn copy_types(alloc: Global, types: &[Ty]) -> Result<Items<Ty>, AllocError>
+    ensures { IfOk result (λ copies. copies ≡ types.now) }
+{
+    let mut copies = Items::new(alloc);
+    for ty in types {
+        copies.push(ty.copy()?)?;
+    }
+    Ok(copies)
+}
+
+/// The types of the formals of a signature.
+fn formals_of(alloc: Global, signature: &Signature) -> Result<Items<Ty>, AllocError>
+    ensures { IfOk result (λ types. types ≡ rules.types_in signature.now.formals) }
+{
+    let copies = copy_types(alloc, signature.formals())?;
+    Ok(copies)
+}
+
+/// The result of a signature.
+fn result_of(signature: &Signature) -> Result<Option<Ty>, AllocError>
+    ensures { IfOk result (λ ty. ty ≡ signature.now.result) }
+{
+    match signature.result() {
+        None => Ok(None),
+        Some(ty) => Ok(Some(ty.copy()?)),
     }
 }
 
 /// Whether the end of a body may be reached, as it stands: always in a procedure.
-fn may_end(returns: &Option<Ty>, f: &Func) -> bool
-    ensures { result ≡ rules.may_end (option_map ty_of returns.now) f.now }
+fn may_end(signature: &Signature, f: &Func) -> bool
+    ensures { result ≡ rules.may_end signature.now.result f.now }
 {
-    match returns {
+    match signature.result() {
         None => true,
         Some(_) => !falls_through(f.body.as_slice()),
     }
 }
 
-/// The subprogram with the typed trees of its body: the statements are judged in order, then T17 comes at its name where
-/// the end of a function can be reached.
-fn check_body<'a>(alloc: Global, names: &mut Scope<'a>, f: &'a Func) -> Result<TypedFunc, Refused>
-    ensures rule { Met (λ _. tt) result (rules.body_rule names.old f.now) }
-    ensures kept { OnOk result (names.new ≡ names.old) }
-    ensures tree { IfOk result (λ t. t ≡ elaborated_func names.old f.now) }
+/// The subprogram of this signature with the typed trees of its body.
+fn tree_func(
+    alloc: Global,
+    f: &Func,
+    signature: &Signature,
+    list: Listed,
+) -> Result<TreeFunc, AllocError>
+    ensures { (names : List Entry) → IfOk result (λ func. func_of func ≡ rules.tree_func (head_of names f.now signature.now) (all_acts list.acts)) }
 {
-    let returns = result_type(alloc, names, &f.result)?;
-    let body = Body {
-        returns,
-        class: class_of(f.qualifier),
-    };
-    let height = names.len();
-    let (trees, _) = check_stmts(alloc, names, &body, f.body.as_slice())?;
-    names.truncate(height);
-    if !may_end(&body.returns, f) {
-        return fault(StaticCode::T17, f.name.span);
-    }
-    Ok(TypedFunc {
+    let Listed { acts, effect: _ } = list;
+    let params = param_types(alloc, signature.params())?;
+    let formals = formals_of(alloc, signature)?;
+    let result = result_of(signature)?;
+    Ok(TreeFunc {
         span: f.name.span,
-        is_function: f.result.is_some(),
-        body: trees,
+        params,
+        formals,
+        result,
+        limit: signature.limit(),
+        body: acts,
     })
 }
 
-/// The bodies of all subprograms, in source order, and what is made of them.
+/// A subprogram with the typed trees of its body: the statements are judged in order, and then T17 comes at its name where
+/// the end of a function can be reached.
+fn check_body<'a>(
+    alloc: Global,
+    names: &mut Scope<'a>,
+    subs: &Subprograms,
+    f: &'a Func,
+    signature: &Signature,
+) -> Result<TreeFunc, Refused>
+    ensures rule { (t : Tests) → Suits t → Met func_of result (rules.body_rule t subs.now (head_of names.old f.now signature.now)) }
+    ensures kept { OnOk result (names.new ≡ names.old) }
+{
+    let height = names.len();
+    enter_body(alloc, names, f, signature)?;
+    let body = Body {
+        alloc,
+        subs,
+        class: signature.class(),
+        result: result_of(signature)?,
+        handles: false,
+    };
+    let list = check_stmts(names, &body, f.body.as_slice())?;
+    names.truncate(height);
+    if !may_end(signature, f) {
+        return fault(StaticCode::T17, f.name.span);
+    }
+    Ok(tree_func(alloc, f, signature, list)?)
+}
+
+/// The bodies of subprograms with these signatures, in source order.
 pub(crate) fn check_bodies<'a>(
     alloc: Global,
     names: &mut Scope<'a>,
-    decls: &'a [Decl],
-) -> Result<Vec<TypedFunc>, Refused>
-    ensures rule { Met (λ _. tt) result (rules.bodies_rule names.old (rules.funcs_of decls.now)) }
+    subs: &Subprograms,
+    funcs: &[&'a Func],
+) -> Result<Items<TreeFunc>, Refused>
+    ensures rule { (t : Tests) → Suits t → Met all_funcs result (rules.bodies_rule t subs.now (heads_of names.old (map (λ f. f.now) funcs.now) subs.now)) }
     ensures kept { OnOk result (names.new ≡ names.old) }
-    ensures tree { IfOk result (λ fs. fs.items ≡ map (elaborated_func names.old) (rules.funcs_of decls.now)) }
 {
-    let mut funcs = Vec::new(alloc);
-    for d in decls {
-        if let Decl::Func(f) = d {
-            funcs.push(check_body(alloc, names, f)?)?;
-        }
+    let mut trees = Items::new(alloc);
+    let mut rest = subs.signatures();
+    for f in funcs {
+        let Some((signature, more)) = rest.split_first() else {
+            return Ok(trees);
+        };
+        trees.push(check_body(alloc, names, subs, f, signature)?)?;
+        rest = more;
     }
-    Ok(funcs)
+    Ok(trees)
 }

@@ -1,22 +1,28 @@
-//! The checker: a program is well formed with the entry that is asked for, or has its one fault.
+//! Statements and bodies, and so the checker.
 #![tactic(auto)]
 
 mod binds;
 mod bodies;
 mod body;
 mod branches;
+mod cases;
+mod catchers;
+mod counted;
+mod falls;
+mod globals;
+mod lists;
 mod locals;
-mod main_entry;
-mod operands;
+mod loops;
+mod otherwise;
 mod prints;
 mod program;
-mod served;
 mod simple;
-mod sizes;
 mod steps;
 mod stmts;
+mod stores;
 mod suffixes;
 mod targets;
 mod typing;
+mod within;
 
-pub use program::check;
+pub use program::{Accepted, check, check_decls};

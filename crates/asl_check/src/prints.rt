@@ -1,70 +1,89 @@
 //! `print` and `println`.
 
-ghost use Rattle.std.specs.Prelude.{◌≡◌, true, IfOk};
-ghost use Rattle.asl_rules.specs.declared.effect.Effect.TheVariants.{Pure};
-ghost use Rattle.asl_rules.specs.Stmts.{done};
-ghost use Rattle.asl_tree.specs.declared.typed.TypedStmt.TheVariants as tree;
-ghost use Rattle.asl_tree.specs.Elaboration.{items_of};
+ghost use Rattle.std.specs.Prelude.{◌≡◌, [], map};
+ghost use Rattle.asl_rules.specs.Stmts.{printed};
+ghost use Rattle.asl_rules.specs.Tests.{Tests};
 ghost use Rattle.asl_types.specs.Answers.{Met};
-ghost use Rattle.asl_check.specs.Views.{operands_of, scope_of};
+ghost use Rattle.asl_types.specs.Suits.{Suits};
+ghost use Rattle.asl_check.specs.PrintViews.{printed_of};
+ghost use Rattle.asl_check.specs.Views.{body_of, done_of};
 ghost use Rattle.asl_check.specs.Walks as walks;
+ghost use Rattle.asl_check.specs.Walks.{after};
 
-use crate::body::Body;
-use crate::operands::{Operands, no_operands, with_operand};
-use crate::steps::ended;
-use crate::typing::type_in;
-use asl_expr::effects::greater;
+use crate::body::{Body, Done, context};
+use crate::steps::end_simple;
+use asl_expr::exprs::type_expr;
 use asl_rules::effect::Effect;
 use asl_syn::code::Refused;
 use asl_syn::token::Span;
 use asl_syn::tree::{PrintItem, PrintKind};
-use asl_tree::typed::{TypedItem, TypedStmt};
+use asl_tree::act::{Simple, TreeItem};
 use asl_types::Scope;
+use asl_types::effects::{all_together, greater, greatest};
 use sqlite_items::Items;
-use std::alloc::Global;
 
-/// What is printed, in order: the typed trees, and what they do together.
-fn check_items(
-    alloc: Global,
+/// What is printed: the effects of the expressions, and the typed trees.
+#[derive(Drop)]
+struct Printed {
+    effects: Items<Effect>,
+    items: Items<TreeItem>,
+}
+
+/// One thing that is printed, behind those before.
+fn check_item(
     names: &Scope,
     body: &Body,
-    items: &[PrintItem],
-) -> Result<(Items<TypedItem>, Operands), Refused>
-    ensures rule { Met (λ p. operands_of p.1) result (walks.after_items items.now walks.no_operands (scope_of names.now body.now)) }
-    ensures tree { IfOk result (λ p. p.0 ≡ items_of items.now (scope_of names.now body.now)) }
+    item: &PrintItem,
+    so_far: &mut Printed,
+) -> Result<(), Refused>
+    ensures { (t : Tests) → Suits t → Met (λ _. printed_of so_far.new) result (walks.item_step t (body_of names.now body.now).scope item.now (printed_of so_far.old)) }
 {
-    let mut trees = Items::new(alloc);
-    let mut so_far = no_operands();
-    for item in items {
-        match item {
-            PrintItem::Verbatim(_, text) => {
-                let text = Items::from_slice(alloc, text.as_slice())?;
-                trees.push(TypedItem::Verbatim(text))?;
-            }
-            PrintItem::Shown(e) => {
-                let (tree, s) = type_in(alloc, names, body, e)?;
-                trees.push(TypedItem::Shown(tree.into_inner()))?;
-                so_far = with_operand(so_far, s.effect);
-            }
+    match item {
+        PrintItem::Verbatim(_, text) => {
+            let text = Items::from_slice(body.alloc, text.as_slice())?;
+            so_far.items.push(TreeItem::Verbatim(text))?;
+        }
+        PrintItem::Shown(e) => {
+            let shown = type_expr(body.alloc, context(names, body), e)?;
+            so_far.effects.push(shown.get().effect())?;
+            so_far.items.push(TreeItem::Shown(shown.into_inner()))?;
         }
     }
-    Ok((trees, so_far))
+    Ok(())
+}
+
+/// What is printed, in order.
+fn check_items(names: &Scope, body: &Body, items: &[PrintItem]) -> Result<Printed, Refused>
+    ensures { (t : Tests) → Suits t → Met printed_of result (after (walks.item_step t (body_of names.now body.now).scope) items.now (printed [] [])) }
+{
+    let mut so_far = Printed {
+        effects: Items::new(body.alloc),
+        items: Items::new(body.alloc),
+    };
+    for item in items {
+        check_item(names, body, item, &mut so_far)?;
+    }
+    Ok(so_far)
 }
 
 /// What is printed in order; printing writes.
 pub(crate) fn check_print(
-    alloc: Global,
     names: &Scope,
     body: &Body,
     span: Span,
     kind: PrintKind,
     items: &[PrintItem],
-) -> Result<(TypedStmt, Effect), Refused>
-    ensures rule { Met (λ p. done names.now p.1) result (walks.print_walk span items.now (scope_of names.now body.now)) }
-    ensures tree { IfOk result (λ p. p.0 ≡ tree.Print span kind (items_of items.now (scope_of names.now body.now))) }
+) -> Result<Done, Refused>
+    ensures { (t : Tests) → Suits t → Met (done_of names.now) result (walks.print_walk t span kind items.now (body_of names.now body.now).scope) }
 {
-    let (trees, shown) = check_items(alloc, names, body, items)?;
-    let k = greater(shown.effect, Effect::Writes);
-    let effect = ended(body.class, span, shown.is_together, k)?;
-    Ok((TypedStmt::Print(span, kind, trees), effect))
+    let Printed { effects, items } = check_items(names, body, items)?;
+    let is_together = all_together(Effect::Pure, effects.as_slice());
+    let effect = greater(greatest(Effect::Pure, effects.as_slice()), Effect::Writes);
+    end_simple(
+        body.class,
+        span,
+        is_together,
+        effect,
+        Simple::Print(span, kind, items),
+    )
 }

@@ -1,58 +1,140 @@
 //! Whole programs.
 
-ghost use Rattle.std.specs.Prelude.{IfOk};
+ghost use Rattle.std.specs.Prelude.{◌≡◌, length, map, IfOk};
+ghost use Rattle.asl_bits.specs.declared.TheConstants.{WIDTH_LIMIT};
+ghost use Rattle.asl_rules.specs.Grown.{AreGrown};
+ghost use Rattle.asl_tree.specs.Sealed.{IsSealed};
 ghost use Rattle.asl_rules.specs.Programs.{verdict};
-ghost use Rattle.asl_tree.specs.Accepted.{IsElaborated, IsInitial};
+ghost use Rattle.asl_decl.specs.Heads.{declared_with, heads_of};
+ghost use Rattle.asl_check.specs.Bringing.{with_bodies, with_entry_found};
+ghost use Rattle.asl_rules.specs.Tests.{Tests};
 ghost use Rattle.asl_types.specs.Answers.{Met};
-ghost use Rattle.asl_check.specs.Verdicts.{IsVerdict};
+ghost use Rattle.asl_types.specs.Suits.{Suits};
+ghost use Rattle.asl_check.specs.Verdicts.{accepted_of, HasMain, IsVerdict};
 
 use crate::bodies::check_bodies;
-use crate::main_entry::find_entry;
-use crate::served::check_served;
-use asl_decl::Table;
+use crate::globals::find_globals;
+use asl_decl::{Table, find_entry};
 use asl_rules::entry::Entry;
 use asl_syn::code::Refused;
-use asl_syn::tree::{Decl, Program};
-use asl_tree::typed::TypedFunc;
-use asl_tree::{Checked, SubId};
-use asl_types::Binding;
+use asl_syn::tree::{Decl, Func, Program};
+use asl_tree::act::TreeFunc;
+use asl_tree::{Checked, Global as Cell, SubId};
+use asl_types::{Scope, Subprograms};
+use sqlite_items::Items;
 use std::alloc::Global;
 
-/// What is made of a program that is well formed: its subprograms, its globals, and its entry.
+/// A program that is well formed with its entry.
 #[derive(Drop)]
-struct Made {
-    funcs: Vec<TypedFunc>,
-    globals: Vec<Binding>,
-    entry: Option<SubId>,
+pub struct Accepted<'a> {
+    /// The names that are visible outside bodies.
+    pub names: Scope<'a>,
+    /// The signatures of its subprograms, in source order.
+    pub subs: Subprograms,
+    /// Its subprograms with the typed trees of their bodies, in source order.
+    pub funcs: Items<TreeFunc>,
+    /// The subprogram that is the entry, by its number in source order, from 0, where one is asked for.
+    pub main: Option<usize>,
 }
 
-/// The phases in order: forms that are served, names, cycles, declarations, signatures, overloads, bodies, the entry.
-#[tactic(auto, using(crate::proofs::Programs::verdict_is))]
-fn phases(alloc: Global, entry: Entry, decls: &[Decl]) -> Result<Made, Refused>
-    ensures rule { Met (λ made. made.entry) result (verdict entry decls.now) }
-    ensures tree { IfOk result (λ made. IsElaborated decls.now made.funcs.items) }
-    ensures initial { IfOk result (λ made. IsInitial decls.now made.globals.items) }
+/// The bodies of a program with these signatures, and its entry.
+fn judge_bodies<'a>(
+    alloc: Global,
+    names: Scope<'a>,
+    subs: Subprograms,
+    funcs: &[&'a Func],
+    entry: Entry,
+) -> Result<Accepted<'a>, Refused>
+    ensures { (t : Tests) → Suits t → Met (accepted_of entry) result (with_bodies entry names.entry (heads_of names.entry (map (λ f. f.now) funcs.now) subs) subs t) }
 {
-    check_served(decls)?;
-    let Table { mut names, globals } = Table::build(alloc, decls)?;
-    let funcs = check_bodies(alloc, &mut names, decls)?;
-    let main = find_entry(alloc, entry, &names, decls)?;
-    Ok(Made {
-        funcs,
-        globals,
-        entry: main,
+    let mut names = names;
+    let trees = check_bodies(alloc, &mut names, &subs, funcs)?;
+    let main = find_entry(entry, &subs)?;
+    Ok(Accepted {
+        names,
+        subs,
+        funcs: trees,
+        main,
     })
 }
 
-/// Checks a program. It is accepted exactly where it is well formed with the entry that is asked for, and otherwise refused
-/// at its one fault.
+/// The bodies of a program whose declarations are well formed, and its entry.
+fn find_bodies<'a>(
+    alloc: Global,
+    names: Scope<'a>,
+    subs: Subprograms,
+    funcs: &[&'a Func],
+    entry: Entry,
+) -> Result<Accepted<'a>, Refused>
+    requires { length funcs.now ≡ length subs }
+    ensures { (t : Tests) → Suits t → Met (accepted_of entry) result (with_entry_found entry (declared_with names.entry (heads_of names.entry (map (λ f. f.now) funcs.now) subs)) t) }
+{
+    judge_bodies(alloc, names, subs, funcs, entry)
+}
+
+/// Checks declarations. They are accepted exactly where they are well formed with the entry that is asked for, and otherwise
+/// refused at their one fault. The phases come in order: names, storage, signatures, bodies, the entry.
+/// Want of memory says nothing.
+#[tactic(auto, using(crate::proofs::BodyTurns::verdict_is))]
+pub fn check_decls<'a>(
+    alloc: Global,
+    decls: &'a [Decl],
+    entry: Entry,
+) -> Result<Accepted<'a>, Refused>
+    ensures { (t : Tests) → Suits t → Met (accepted_of entry) result (verdict entry decls.now t) }
+{
+    let Table { names, funcs, subs } = Table::build(alloc, decls)?;
+    find_bodies(alloc, names, subs, funcs.as_slice(), entry)
+}
+
+/// What is made of a program that is well formed: its subprograms with their typed trees, its globals, and its entry.
+#[derive(Drop)]
+struct Made {
+    funcs: Items<TreeFunc>,
+    globals: Vec<Cell>,
+    main: Option<SubId>,
+}
+
+/// A subprogram by its number, where there is one.
+fn numbered(main: Option<usize>) -> Option<SubId>
+    ensures { result ≡ main }
+{
+    match main {
+        None => None,
+        Some(number) => Some(SubId::new(number)),
+    }
+}
+
+/// What is made of declarations such as texts give, where they are well formed.
+fn make(alloc: Global, decls: &[Decl], entry: Entry) -> Result<Made, Refused>
+    requires { AreGrown WIDTH_LIMIT decls.now }
+    ensures rule { (t : Tests) → Suits t → HasMain (λ made. made.main) result (verdict entry decls.now t) }
+    ensures sealed { IfOk result (λ made. IsSealed decls.now entry made.main made.funcs made.globals.items) }
+{
+    let Accepted {
+        names,
+        subs: _subs,
+        funcs,
+        main,
+    } = check_decls(alloc, decls, entry)?;
+    let globals = find_globals(alloc, decls, &names)?;
+    Ok(Made {
+        funcs,
+        globals,
+        main: numbered(main),
+    })
+}
+
+/// Checks a program such as texts give. It is accepted, and sealed, exactly where it is well formed with the entry that is asked
+/// for, and otherwise refused at its one fault, by any right tests under the width limit. Want of memory says nothing.
 pub fn check(alloc: Global, program: Program, entry: Entry) -> Result<Checked, Refused>
-    ensures { IsVerdict entry program.decls result }
+    requires { AreGrown WIDTH_LIMIT program.decls }
+    ensures { (t : Tests) → Suits t → IsVerdict t entry program.decls result }
 {
     let Made {
         funcs,
         globals,
-        entry,
-    } = phases(alloc, entry, program.decls.as_slice())?;
-    Ok(Checked::seal(program, entry, funcs, globals))
+        main,
+    } = make(alloc, program.decls.as_slice(), entry)?;
+    Ok(Checked::seal(program, entry, main, funcs, globals))
 }

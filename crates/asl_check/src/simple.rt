@@ -1,149 +1,153 @@
 //! Statements that declare nothing and have no lists.
 
-ghost use Rattle.std.specs.Prelude.{◌≡◌, [], IfOk};
-ghost use Rattle.std.specs.Option.{option_map};
+ghost use Rattle.std.specs.Prelude.{◌≡◌, List, Some};
+ghost use Rattle.asl_rules.specs.Acting as acting;
+ghost use Rattle.asl_rules.specs.Branches as branches;
 ghost use Rattle.asl_rules.specs.Stmts as rules;
-ghost use Rattle.asl_rules.specs.Stmts.{done};
-ghost use Rattle.asl_tree.specs.declared.typed.TypedStmt.TheVariants as tree;
-ghost use Rattle.asl_tree.specs.Elaboration.{elaborated, elaborated_value, reading_only, placing};
-ghost use Rattle.asl_types.specs.Answers.{Met, Agrees};
-ghost use Rattle.asl_expr.specs.Views.{typed_of};
-ghost use Rattle.asl_check.specs.Views.{operands_of, scope_of};
-ghost use Rattle.asl_types.specs.View.{ty_of};
-ghost use Rattle.asl_check.specs.Walks as walks;
+ghost use Rattle.asl_rules.specs.Scopes.{Entry};
+ghost use Rattle.asl_rules.specs.Tests.{Tests};
+ghost use Rattle.asl_types.specs.Answers.{Met};
+ghost use Rattle.asl_types.specs.Suits.{Suits};
+ghost use Rattle.asl_tree.specs.Acts.{simple_of};
+ghost use Rattle.asl_check.specs.Views.{body_of, done_of};
 
-use crate::body::Body;
-use crate::operands::{Operands, no_operands, with_operand};
-use crate::steps::{check_fit, ended};
-use crate::targets::{check_fits, counts, place_target, type_operands};
-use crate::typing::type_in;
-use asl_expr::effects::{greater, lesser};
-use asl_expr::exprs::{place, type_expr};
-use asl_expr::typed::Typed;
+use crate::body::{Body, Done, context};
+use crate::steps::{check_condition, check_fits, end_simple};
+use crate::typing::{type_in, type_reading};
+use asl_expr::calls::type_procedure;
 use asl_rules::effect::Effect;
 use asl_shared::Held;
 use asl_syn::code::{Refused, StaticCode};
 use asl_syn::token::Span;
-use asl_syn::tree::{Expr, Target};
-use asl_tree::typed::{TypedPlace, TypedStmt};
+use asl_syn::tree::{Expr, Ident};
+use asl_tree::act::{Act, Simple};
 use asl_types::answer::fault;
-use asl_types::kinds::is_boolean;
-use asl_types::{Scope, Ty};
-use sqlite_items::Items;
-use std::alloc::Global;
+use asl_types::effects::greater;
+use asl_types::{Form, Scope, Ty};
+
+/// A statement of this tree and this effect.
+pub(crate) fn simply(act: Simple, effect: Effect) -> Done
+    ensures { (names : List Entry) → done_of names result ≡ acting.done names effect (simple_of act) }
+{
+    Done {
+        act: Held::new(Act::Simple(act)),
+        effect,
+    }
+}
 
 /// `assert`: a boolean that at most reads.
 pub(crate) fn check_assert(
-    alloc: Global,
     names: &Scope,
     body: &Body,
     span: Span,
     e: &Expr,
-) -> Result<(TypedStmt, Effect), Refused>
-    ensures rule { Met (λ p. done names.now p.1) result (rules.assert_rule span e.now (scope_of names.now body.now)) }
-    ensures tree { IfOk result (λ p. p.0 ≡ tree.Assert span (elaborated e.now (reading_only (scope_of names.now body.now)))) }
+) -> Result<Done, Refused>
+    ensures { (t : Tests) → Suits t → Met (done_of names.now) result (rules.assert_rule t span e.now (body_of names.now body.now).scope) }
 {
-    let class = lesser(body.class, Effect::Readonly);
-    let (tree, s) = type_expr(alloc, names, class, e)?;
-    let tree = Held::new(tree);
-    if !is_boolean(&s.ty) {
-        return fault(StaticCode::T05, place(e));
-    }
-    let effect = ended(body.class, span, true, s.effect)?;
-    Ok((TypedStmt::Assert(span, tree.into_inner()), effect))
+    let condition = type_reading(names, body, e)?;
+    check_condition(condition.get())?;
+    let effect = condition.get().effect();
+    let act = Simple::Assert(span, condition.into_inner());
+    end_simple(body.class, span, true, effect, act)
 }
 
-/// `return`: of the form that the body asks for, and what it gives fits the result.
+/// A call of a procedure.
+pub(crate) fn check_invoke(
+    names: &Scope,
+    body: &Body,
+    span: Span,
+    name: &Ident,
+    params: &[Expr],
+    arguments: &[Expr],
+) -> Result<Done, Refused>
+    ensures { (t : Tests) → Suits t → Met (done_of names.now) result (rules.invoke_rule t span name.now params.now arguments.now (body_of names.now body.now).scope) }
+{
+    let called = type_procedure(
+        body.alloc,
+        context(names, body),
+        span,
+        name,
+        params,
+        arguments,
+    )?;
+    let (effect, callee, places, params, arguments) = called.into_parts();
+    let act = Simple::Invoke(span, callee, places, params, arguments);
+    Ok(simply(act, effect))
+}
+
+/// `return e`: T18 in a procedure, else what it gives fits the result.
+fn return_value(names: &Scope, body: &Body, span: Span, e: &Expr) -> Result<Done, Refused>
+    ensures { (t : Tests) → Suits t → Met (done_of names.now) result (rules.return_rule t span (Some e.now) (body_of names.now body.now).scope (body_of names.now body.now).result) }
+{
+    let value = type_in(names, body, e)?;
+    let Some(to) = &body.result else {
+        return fault(StaticCode::T18, span);
+    };
+    check_fits(to, value.get())?;
+    let effect = value.get().effect();
+    let act = Simple::Return(span, Some(value.into_inner()));
+    end_simple(body.class, span, true, effect, act)
+}
+
+/// `return`: of the form that the body asks for.
 pub(crate) fn check_return(
-    alloc: Global,
     names: &Scope,
     body: &Body,
     span: Span,
     value: &Option<Expr>,
-) -> Result<(TypedStmt, Effect), Refused>
-    ensures rule { Met (λ p. done names.now p.1) result (rules.return_rule span value.now (scope_of names.now body.now) (option_map ty_of body.now.returns)) }
-    ensures tree { IfOk result (λ p. p.0 ≡ tree.Return span (elaborated_value value.now (scope_of names.now body.now))) }
+) -> Result<Done, Refused>
+    ensures { (t : Tests) → Suits t → Met (done_of names.now) result (rules.return_rule t span value.now (body_of names.now body.now).scope (body_of names.now body.now).result) }
 {
     match value {
-        None => match &body.returns {
-            None => Ok((TypedStmt::Return(span, None), Effect::Pure)),
+        None => match &body.result {
+            None => Ok(simply(Simple::Return(span, None), Effect::Pure)),
             Some(_) => fault(StaticCode::T18, span),
         },
-        Some(e) => match &body.returns {
-            None => {
-                type_in(alloc, names, body, e)?;
-                fault(StaticCode::T18, span)
-            }
-            Some(to) => {
-                let (tree, k) = check_fit(alloc, names, body, to, e)?;
-                let effect = ended(body.class, span, true, k)?;
-                Ok((TypedStmt::Return(span, Some(tree.into_inner())), effect))
-            }
-        },
+        Some(e) => return_value(names, body, span, e),
     }
 }
 
-/// The end of an assignment: the fits, then the counts, and then its own conditions.
-fn end_assign(
-    alloc: Global,
-    names: &Scope,
-    body: &Body,
-    span: Span,
-    target: &Target,
-    ty: &Ty,
-    at: Span,
-    all: Operands,
-    stores: Effect,
-) -> Result<Effect, Refused>
-    ensures { Agrees result (walks.end_walk span (rules.found_target target.now) (ty_of ty.now) at (operands_of all) stores (scope_of names.now body.now)) }
+/// Whether a type is one of exceptions.
+pub(crate) fn is_exception(ty: &Ty) -> bool
+    ensures { result ≡ branches.is_exception ty.now }
 {
-    check_fits(alloc, names, body, target, ty, at)?;
-    if !counts(target, ty) {
-        return fault(StaticCode::T05, span);
+    match ty.form() {
+        Form::Exception(_, _) => true,
+        Form::Named(_, _, inner) => is_exception(inner.get()),
+        _ => false,
     }
-    ended(
-        body.class,
-        span,
-        all.is_together,
-        greater(all.effect, stores),
-    )
 }
 
-/// The places of an assignment whose right side was typed, and its effect.
-fn check_stores(
-    alloc: Global,
+/// `throw e`: of an exception.
+fn throw_value(names: &Scope, body: &Body, span: Span, e: &Expr) -> Result<Done, Refused>
+    ensures { (t : Tests) → Suits t → Met (done_of names.now) result (rules.throw_rule t span (Some e.now) (body_of names.now body.now)) }
+{
+    let value = type_in(names, body, e)?;
+    if !is_exception(value.get().ty()) {
+        return fault(StaticCode::T21, value.get().span());
+    }
+    let effect = greater(value.get().effect(), Effect::Writes);
+    let act = Simple::Throw(span, Some(value.into_inner()));
+    end_simple(body.class, span, true, effect, act)
+}
+
+/// `throw`: of an exception, or of the one that is being handled.
+pub(crate) fn check_throw(
     names: &Scope,
     body: &Body,
     span: Span,
-    target: &Target,
-    s: &Typed,
-    at: Span,
-    before: Operands,
-) -> Result<(Items<TypedPlace>, Effect), Refused>
-    ensures rule { Met (λ p. p.1) result (walks.stores_walk span (rules.found_target target.now) (typed_of s.now) at (operands_of before) (scope_of names.now body.now)) }
-    ensures tree { IfOk result (λ p. p.0 ≡ placing target.now [] (scope_of names.now body.now)) }
+    value: &Option<Expr>,
+) -> Result<Done, Refused>
+    ensures { (t : Tests) → Suits t → Met (done_of names.now) result (rules.throw_rule t span value.now (body_of names.now body.now)) }
 {
-    let mut places = Items::new(alloc);
-    let stores = place_target(alloc, names, body, target, &[], &mut places)?;
-    let all = with_operand(before, s.effect);
-    let effect = end_assign(alloc, names, body, span, target, &s.ty, at, all, stores)?;
-    Ok((places, effect))
-}
-
-/// An assignment: the operands of its targets and the right side, then each target in turn, then the fits, then the counts.
-pub(crate) fn check_assign(
-    alloc: Global,
-    names: &Scope,
-    body: &Body,
-    span: Span,
-    target: &Target,
-    e: &Expr,
-) -> Result<(TypedStmt, Effect), Refused>
-    ensures rule { Met (λ p. done names.now p.1) result (walks.assign_walk span (rules.found_target target.now) e.now (scope_of names.now body.now)) }
-    ensures tree { IfOk result (λ p. p.0 ≡ walks.assign_tree span target.now e.now (scope_of names.now body.now)) }
-{
-    let before = type_operands(alloc, names, body, target, no_operands())?;
-    let (tree, s) = type_in(alloc, names, body, e)?;
-    let (places, effect) = check_stores(alloc, names, body, span, target, &s, place(e), before)?;
-    Ok((TypedStmt::Assign(span, places, tree.into_inner()), effect))
+    match value {
+        None => {
+            if !body.handles {
+                return fault(StaticCode::T21, span);
+            }
+            let act = Simple::Throw(span, None);
+            end_simple(body.class, span, true, Effect::Writes, act)
+        }
+        Some(e) => throw_value(names, body, span, e),
+    }
 }

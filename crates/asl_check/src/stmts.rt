@@ -1,174 +1,114 @@
-//! Statements and lists of them.
+//! Statements.
 
-ghost use Rattle.std.specs.Prelude.{◌≡◌, map, OnOk, IfOk};
-ghost use Rattle.asl_rules.specs.declared.effect.Effect.TheVariants.{Pure};
-ghost use Rattle.asl_rules.specs.Stmts as rules;
-ghost use Rattle.asl_rules.specs.Stmts.{done};
-ghost use Rattle.asl_tree.specs.Elaboration.{elaborated_stmt, elaborated_branch, trees_of, branches_of};
+ghost use Rattle.std.specs.Prelude.{◌≡◌};
+ghost use Rattle.asl_rules.specs.Tests.{Tests};
 ghost use Rattle.asl_types.specs.Answers.{Met};
-ghost use Rattle.asl_check.specs.Views.{scope_of};
-ghost use Rattle.asl_check.specs.Walks as walks;
+ghost use Rattle.asl_types.specs.Suits.{Suits};
+ghost use Rattle.asl_check.specs.Blocks.{Blocks};
+ghost use Rattle.asl_check.specs.Sizes.{stmt_size};
+ghost use Rattle.asl_check.specs.Views.{body_of, done_of};
+ghost use Rattle.asl_check.specs.Walks.{walk_stmt};
 
-use crate::body::Body;
-use crate::branches::{Branches, after_branch, end_if, type_condition};
-use crate::locals::{check_bind, check_vars};
+use crate::body::{Body, Done, Listed};
+use crate::branches::{Branching, check_if};
+use crate::cases::{Choosing, check_case};
+use crate::catchers::{Trying, check_try};
+use crate::locals::{Declaration, check_bind, check_vars};
+use crate::loops::{Counting, check_for, check_repeat, check_while};
 use crate::prints::check_print;
-use crate::simple::{check_assert, check_assign, check_return};
-use asl_expr::effects::greater;
+use crate::simple::{check_assert, check_invoke, check_return, check_throw, simply};
+use crate::stores::check_assign;
+use crate::within::Within;
 use asl_rules::effect::Effect;
-use asl_syn::code::{Refused, StaticCode};
-use asl_syn::tree::{ElseIf, Stmt};
-use asl_tree::typed::{TypedBranch, TypedStmt};
+use asl_syn::code::Refused;
+use asl_syn::tree::Stmt;
+use asl_tree::act::Simple;
 use asl_types::Scope;
-use asl_types::answer::fault;
-use sqlite_items::Items;
-use std::alloc::Global;
 
-/// A statement: the names that are visible after it, its typed tree and its effect.
-#[cycle(stmts)]
-fn check_stmt<'a>(
-    alloc: Global,
+/// A statement: the names that are visible after it, its typed tree and its effect. The lists inside it are checked by the
+/// function that is given.
+pub(crate) fn check_node<'a, L: Fn(&mut Scope<'a>, &Body, &'a [Stmt]) -> Result<Listed, Refused>>(
+    here: &Within<'a, L>,
     names: &mut Scope<'a>,
     body: &Body,
-    s: &'a Stmt,
-) -> Result<(TypedStmt, Effect), Refused>
-    ensures rule { Met (λ p. done names.new p.1) result (walks.walk_stmt s.now (scope_of names.old body.now)) }
-    ensures tree { IfOk result (λ p. p.0 ≡ (elaborated_stmt s.now).tree (scope_of names.old body.now)) }
+) -> Result<Done, Refused>
+    requires blocks { Blocks (stmt_size here.now.stmt.now) (L.pre here.now.list) (L.post here.now.list) }
+    ensures { (t : Tests) → Suits t → Met (done_of names.new) result (walk_stmt t here.now.stmt.now (body_of names.old body.now)) }
 {
-    match s {
-        Stmt::Pass(span) => Ok((TypedStmt::Pass(*span), Effect::Pure)),
-        Stmt::Unreachable(span) => fault(StaticCode::S03, *span),
-        Stmt::Assert(span, e) => check_assert(alloc, names, body, *span, e),
-        Stmt::Local(span, kind, bind, ty, e) => {
-            check_bind(alloc, names, body, *span, *kind, bind, ty, e)
+    match here.stmt {
+        Stmt::Pass(span) => Ok(simply(Simple::Pass(*span), Effect::Pure)),
+        Stmt::Unreachable(span) => Ok(simply(Simple::Unreachable(*span), Effect::Pure)),
+        Stmt::Assert(span, e) => check_assert(names, body, *span, e),
+        Stmt::Local(span, kind, bind, ty, value) => {
+            let declaration = Declaration {
+                span: *span,
+                kind: *kind,
+                bind,
+                ty,
+                value,
+            };
+            check_bind(names, body, &declaration)
         }
-        Stmt::LocalVars(span, idents, ty) => check_vars(
-            alloc,
+        Stmt::LocalVars(span, idents, ty) => {
+            check_vars(names, body, *span, idents.as_slice(), ty)
+        }
+        Stmt::Assign(span, target, e) => check_assign(names, body, *span, target, e),
+        Stmt::Invoke(span, name, params, arguments) => check_invoke(
             names,
             body,
             *span,
-            idents.as_slice(),
-            ty,
+            name,
+            params.as_slice(),
+            arguments.as_slice(),
         ),
-        Stmt::Assign(span, target, e) => check_assign(alloc, names, body, *span, target, e),
-        Stmt::Invoke(span, _, _, _) => fault(StaticCode::S03, *span),
         Stmt::If(span, condition, first, others, last) => {
-            let (c, typed) = type_condition(alloc, names, body, condition, None)?;
-            let (first, k) = check_block(alloc, names, body, first.as_slice())?;
-            let start = after_branch(Effect::Pure, typed, k);
-            let (others, all) = check_branches(alloc, names, body, others.as_slice(), start)?;
-            let (last, l) = check_block(alloc, names, body, last.as_slice())?;
-            let effect = end_if(body.class, *span, all, l)?;
-            let c = c.into_inner();
-            Ok((TypedStmt::If(*span, c, first, others, last), effect))
+            let branching = Branching {
+                span: *span,
+                condition,
+                first: first.as_slice(),
+                others: others.as_slice(),
+                last: last.as_slice(),
+            };
+            check_if(here, names, body, &branching)
         }
-        Stmt::Case(span, _, _, _) => fault(StaticCode::S03, *span),
-        Stmt::For(span, _, _, _, _, _, _) => fault(StaticCode::S03, *span),
-        Stmt::While(span, _, _, _) => fault(StaticCode::S03, *span),
-        Stmt::Repeat(span, _, _, _) => fault(StaticCode::S03, *span),
-        Stmt::Return(span, value) => check_return(alloc, names, body, *span, value),
-        Stmt::Throw(span, _) => fault(StaticCode::S03, *span),
-        Stmt::Try(span, _, _, _) => fault(StaticCode::S03, *span),
+        Stmt::Case(span, value, alternatives, last) => {
+            let choosing = Choosing {
+                span: *span,
+                value,
+                alternatives: alternatives.as_slice(),
+                last,
+            };
+            check_case(here, names, body, &choosing)
+        }
+        Stmt::For(span, index, from, direction, to, limit, stmts) => {
+            let counting = Counting {
+                span: *span,
+                index,
+                from,
+                direction: *direction,
+                to,
+            };
+            check_for(here, names, body, stmts.as_slice(), &counting, limit)
+        }
+        Stmt::While(span, condition, limit, stmts) => {
+            check_while(here, names, body, stmts.as_slice(), *span, condition, limit)
+        }
+        Stmt::Repeat(span, stmts, condition, limit) => {
+            check_repeat(here, names, body, stmts.as_slice(), *span, condition, limit)
+        }
+        Stmt::Return(span, value) => check_return(names, body, *span, value),
+        Stmt::Throw(span, value) => check_throw(names, body, *span, value),
+        Stmt::Try(span, stmts, catchers, last) => {
+            let trying = Trying {
+                span: *span,
+                stmts: stmts.as_slice(),
+                catchers: catchers.as_slice(),
+                last,
+            };
+            check_try(here, names, body, &trying)
+        }
         Stmt::Print(span, kind, items) => {
-            check_print(alloc, names, body, *span, *kind, items.as_slice())
+            check_print(names, body, *span, *kind, items.as_slice())
         }
     }
-}
-
-/// The branches of an `if` behind the first, in order.
-#[cycle(stmts)]
-fn check_branches<'a>(
-    alloc: Global,
-    names: &mut Scope<'a>,
-    body: &Body,
-    others: &'a [ElseIf],
-    before: Branches,
-) -> Result<(Items<TypedBranch>, Branches), Refused>
-    ensures rule { Met (λ p. (p.1.misplaced, p.1.effect)) result (walks.after_branches (map walks.walk_branch others.now) before.misplaced before.effect (scope_of names.old body.now)) }
-    ensures kept { OnOk result (names.new ≡ names.old) }
-    ensures tree { IfOk result (λ p. p.0 ≡ branches_of (map elaborated_branch others.now) (scope_of names.old body.now)) }
-{
-    let mut trees = Items::new(alloc);
-    let mut so_far = before;
-    for b in others {
-        let (tree, after) = check_branch(alloc, names, body, b, so_far)?;
-        trees.push(tree)?;
-        so_far = after;
-    }
-    Ok((trees, so_far))
-}
-
-/// One branch: its condition and its list.
-#[cycle(stmts)]
-fn check_branch<'a>(
-    alloc: Global,
-    names: &mut Scope<'a>,
-    body: &Body,
-    b: &'a ElseIf,
-    before: Branches,
-) -> Result<(TypedBranch, Branches), Refused>
-    ensures rule { Met (λ p. (p.1.misplaced, p.1.effect)) result (walks.after_branch (walks.walk_branch b.now) before.misplaced before.effect (scope_of names.old body.now)) }
-    ensures kept { OnOk result (names.new ≡ names.old) }
-    ensures tree { IfOk result (λ p. p.0 ≡ elaborated_branch b.now (scope_of names.old body.now)) }
-{
-    match b {
-        ElseIf::ElseIf(condition, stmts) => {
-            let (c, typed) = type_condition(alloc, names, body, condition, before.misplaced)?;
-            let (trees, k) = check_block(alloc, names, body, stmts.as_slice())?;
-            let after = after_branch(before.effect, typed, k);
-            Ok((TypedBranch::Branch(c.into_inner(), trees), after))
-        }
-    }
-}
-
-/// Statements in order. The names that they declare stay.
-#[cycle(stmts)]
-fn check_list<'a>(
-    alloc: Global,
-    names: &mut Scope<'a>,
-    body: &Body,
-    stmts: &'a [Stmt],
-) -> Result<(Items<TypedStmt>, Effect), Refused>
-    ensures rule { Met (λ p. done names.new p.1) result (rules.in_order (map walks.walk_stmt stmts.now) Pure (scope_of names.old body.now)) }
-    ensures tree { IfOk result (λ p. p.0 ≡ trees_of (map elaborated_stmt stmts.now) (scope_of names.old body.now)) }
-{
-    let mut trees = Items::new(alloc);
-    let mut effect = Effect::Pure;
-    for s in stmts {
-        let (tree, k) = check_stmt(alloc, names, body, s)?;
-        trees.push(tree)?;
-        effect = greater(effect, k);
-    }
-    Ok((trees, effect))
-}
-
-/// A list with a scope of its own: its names are visible no more behind it.
-#[cycle(stmts)]
-fn check_block<'a>(
-    alloc: Global,
-    names: &mut Scope<'a>,
-    body: &Body,
-    stmts: &'a [Stmt],
-) -> Result<(Items<TypedStmt>, Effect), Refused>
-    ensures rule { Met (λ p. done names.new p.1) result (rules.block (map walks.walk_stmt stmts.now) (scope_of names.old body.now)) }
-    ensures kept { OnOk result (names.new ≡ names.old) }
-    ensures tree { IfOk result (λ p. p.0 ≡ trees_of (map elaborated_stmt stmts.now) (scope_of names.old body.now)) }
-{
-    let height = names.len();
-    let (trees, effect) = check_list(alloc, names, body, stmts)?;
-    names.truncate(height);
-    Ok((trees, effect))
-}
-
-/// The statements of a body in order. The names that they declare stay.
-pub(crate) fn check_stmts<'a>(
-    alloc: Global,
-    names: &mut Scope<'a>,
-    body: &Body,
-    stmts: &'a [Stmt],
-) -> Result<(Items<TypedStmt>, Effect), Refused>
-    ensures rule { Met (λ p. done names.new p.1) result (rules.in_order (map rules.found_stmt stmts.now) Pure (scope_of names.old body.now)) }
-    ensures tree { IfOk result (λ p. p.0 ≡ trees_of (map elaborated_stmt stmts.now) (scope_of names.old body.now)) }
-{
-    check_list(alloc, names, body, stmts)
 }

@@ -5,3 +5,5 @@ pub mod Reports
 pub mod Roomy
 pub mod RunLemmas
 pub mod Statuses
+pub mod Grown
+pub mod Programs

@@ -2,33 +2,33 @@
 use Rattle.std.proofs.Common.{◌≡◌, ◌∙◌, ℕ, Bool, false, List, [], ◌∷◌, ◌++◌, map, Option, Some, Result, Ok, Err, refl, sym, ap, subst, append_assoc, append-nil}
 use Rattle.std.specs.Prelude.{if◌then◌else◌}
 use Rattle.asl_io.specs.Told.{TakesPrefix}
-use Rattle.asl_rules.specs.declared.entry.Entry.TheVariants as entry
 use Rattle.asl_rules.specs.Told.{open_after}
 use Rattle.asl_rules.specs.States.{Binding, Core}
 use Rattle.asl_rules.specs.Values.{Value}
 use Rattle.asl_rules.specs.Plans.{starting, Outcome, Done, Thrown, Halt, Faulted, Stuck, final}
-use Rattle.asl_rules.specs.Programs.{verdict}
+use Rattle.asl_rules.specs.Programs.{Environment, environment}
+use Rattle.asl_rules.specs.Tests.{Tests}
 use Rattle.asl_rules.specs.Machines.{GivenUp, run_of, text_of_run}
 use Rattle.asl_rules.specs.Evaluation.{initial_globals}
 use Rattle.asl_rules.specs.Texts.{Text, File, is_open, closing, line_feed, dynamic_line, uncaught_line}
 use Rattle.asl_rules.specs.Report.{answer, behind, told_text, outcome_line, globals_text, run_answer, started}
-use Rattle.asl_rules.proofs.Shift.{own_text}
-use Rattle.asl_tree.specs.Accepted.{Accepted}
+use Rattle.asl_rules.proofs.runs.Shift.{own_text}
+use Rattle.asl_tree.specs.Sealed.{Sealed}
+use Rattle.asl_types.specs.Suits.{Suits}
 use Rattle.asl_value.specs.declared.value.Value.{Value as Given}
 use Rattle.asl_value.specs.View.{value_of}
-use Rattle.asl_types.specs.Bindings.{bindings_of}
-use Rattle.asl_run.specs.declared.machine.Outcome.{Outcome as Ended}
-use Rattle.asl_run.specs.declared.machine.RunRefused.{RunRefused}
-use Rattle.asl_run.specs.declared.machine.RunRefused.TheVariants as refused
-use Rattle.asl_run.specs.declared.machine.Stage.{Stage}
-use Rattle.asl_run.specs.declared.machine.Stage.TheVariants as stage
-use Rattle.asl_run.specs.Stages.{Ends, OnReady, OnRefused, answer_of, Counted}
-use Rattle.asl_run.specs.Work.{Work, IsNew, IsCallable, EndsWith, run_with, text_with}
-use Rattle.asl_run.proofs.Entries.{entry_is_callable}
-use Rattle.asl_run.proofs.OwnRuns.{own_run, own_part}
+use Rattle.asl_machine.specs.declared.stage.Outcome.{Outcome as Ended}
+use Rattle.asl_machine.specs.declared.stage.RunRefused.{RunRefused}
+use Rattle.asl_machine.specs.declared.stage.RunRefused.TheVariants as refused
+use Rattle.asl_machine.specs.declared.stage.Stage.{Stage}
+use Rattle.asl_machine.specs.declared.stage.Stage.TheVariants as stage
+use Rattle.asl_machine.specs.Stages.{Ends, OnReady, OnRefused, answer_of, Counted}
+use Rattle.asl_machine.specs.Work.{Work, IsNew, IsCallable, EndsWith, globals_of, globals_with, run_with, text_with}
+use Rattle.asl_machine.proofs.Entries.{main_callable}
+use Rattle.asl_machine.proofs.OwnRuns.{own_run, own_part}
 use Rattle.asl_cmd.specs.declared.status.Stop.{Stop}
 use Rattle.asl_cmd.specs.declared.status.Status.{Status}
-use Rattle.asl_cmd.specs.Ends.{end_status, ending}
+use Rattle.asl_cmd.specs.Ends.{end_status, ending, globals_ending, Starts}
 use Rattle.asl_cmd.specs.Writes.{Answers}
 use Rattle.asl_cmd.proofs.Answering.{Answers-after}
 
@@ -63,57 +63,70 @@ answer_begins files (Thrown x c h) text told = line_behind text h.told (uncaught
 answer_begins files (Halt (Faulted code span) c h) text told = line_behind text h.told (dynamic_line files code span ++ globals_text c.globals) told
 answer_begins files (Halt (Stuck mistake span) c h) text told = ([], ap told_text told ∙ sym (append-nil text))
 
--- what a new machine runs from its entry
-started_run : (checked : Accepted) (main n steps : ℕ) (old : Option (List ℕ)) (w : Work) (args : List Given) → IsNew w checked n → n ≡ steps → args ≡ []
-    → run_with w main (map value_of args) old ≡ run_of checked.decls main [] (initial_globals checked.decls) (starting steps old)
-started_run checked main n steps old w args new same none =
-    ap (λ (a : Accepted). run_of a.decls main (map value_of args) (bindings_of w.globals) (starting w.steps old)) new.checked_is
-    ∙ ap (λ (xs : List Given). run_of checked.decls main (map value_of xs) (bindings_of w.globals) (starting w.steps old)) none
-    ∙ ap (λ bs. run_of checked.decls main [] bs (starting w.steps old)) new.globals_are
-    ∙ ap (λ k. run_of checked.decls main [] (initial_globals checked.decls) (starting k old)) (new.steps_are ∙ same)
+-- ---- a machine that is new
 
-pub main_callable : (checked : Accepted) (main n : ℕ) (w : Work) (args : List Given) → IsNew w checked n → args ≡ [] → Some main ≡ checked.entry → verdict entry.Main checked.decls ≡ Ok checked.entry → IsCallable w.checked.decls main (map value_of args)
-main_callable checked main n w args new none entered accepted =
-    let callable : IsCallable checked.decls main [] = entry_is_callable entry.Main checked.decls main (accepted ∙ ap Ok (sym entered)) in
-    subst (λ (a : Accepted). IsCallable a.decls main (map value_of args)) (sym new.checked_is)
-    (subst (λ (xs : List Given). IsCallable checked.decls main (map value_of xs)) (sym none) callable)
+module _ (t : Tests) (u : Suits t) (files : List File) (checked : Sealed) (main n steps : ℕ) (w : Work) (args : List Given) (new : IsNew w checked n) (same : n ≡ steps) (none : args ≡ []) (entered : Some main ≡ checked.main) where
+  env : Environment
+  env = environment t checked.decls
 
--- a call that ended, and the line of its end behind its text
-pub main_ended : (files : List File) (checked : Accepted) (main n steps : ℕ) (old mid last : Option (List ℕ)) (w after : Work) (args : List Given) (o : Ended) (result : Result Status Stop) → IsNew w checked n → n ≡ steps → args ≡ [] → Some main ≡ checked.entry
-    → Ok o ≡ answer_of after.stage
-    → OnReady w.stage (EndsWith after mid (run_with w main (map value_of args) old))
-    → Answers result mid last (answer ((if after.text_open then line_feed else []) ++ ending files after.stage (bindings_of after.globals)) (end_status after.stage))
-    → Answers result old last (started files checked.decls steps checked.entry)
-main_ended files checked main n steps old mid last w after args o result new same none entered ok ends written =
-    let went = went_on after.stage o ok in
-    let here : EndsWith after mid (run_with w main (map value_of args) old) = subst (λ s. OnReady s (EndsWith after mid (run_with w main (map value_of args) old))) new.stage_is ends in
-    let over = subst (EndsWith after mid) (started_run checked main n steps old w args new same none) here in
-    let own = own_run checked.decls main [] (initial_globals checked.decls) steps after old mid went over in
-    let r = run_of checked.decls main [] (initial_globals checked.decls) (starting steps (Some [])) in
-    let shown = answer_ends files after.stage (bindings_of after.globals) after.steps after.text_open own.text r went own.ends in
-    let line = ending files after.stage (bindings_of after.globals) in
-    let behind_it = Answers-after result old mid last own.text ((if after.text_open then line_feed else []) ++ line) (end_status after.stage) own.written written in
-    subst (λ e. Answers result old last (started files checked.decls steps e)) entered
-    (subst (Answers result old last) (sym shown)
-    (subst (λ b. Answers result old last (answer (own.text ++ ((if b then line_feed else []) ++ line)) (end_status after.stage))) (own.is_open ∙ open_is own.text) behind_it))
+  begun : List Binding
+  begun = initial_globals env
 
--- a call that was given up wrote a prefix of the answer
-pub main_given_up : (files : List File) (checked : Accepted) (main n steps entered_nodes : ℕ) (old mid : Option (List ℕ)) (w : Work) (args : List Given) → IsNew w checked n → n ≡ steps → args ≡ [] → Some main ≡ checked.entry
-    → OnReady w.stage (GivenUp (text_with w main (map value_of args) old) old mid w.steps entered_nodes)
-    → TakesPrefix old mid (started files checked.decls steps checked.entry).text
-main_given_up files checked main n steps entered_nodes old mid w args new same none entered given =
-    let globals = initial_globals checked.decls in
-    let here : GivenUp (text_with w main (map value_of args) old) old mid w.steps entered_nodes = subst (λ s. OnReady s (GivenUp (text_with w main (map value_of args) old) old mid w.steps entered_nodes)) new.stage_is given in
-    let of_program : GivenUp (text_of_run checked.decls main (map value_of args) (bindings_of w.globals) old) old mid w.steps entered_nodes = subst (λ (a : Accepted). GivenUp (text_of_run a.decls main (map value_of args) (bindings_of w.globals) old) old mid w.steps entered_nodes) new.checked_is here in
-    let of_none : GivenUp (text_of_run checked.decls main [] (bindings_of w.globals) old) old mid w.steps entered_nodes = subst (λ (xs : List Given). GivenUp (text_of_run checked.decls main (map value_of xs) (bindings_of w.globals) old) old mid w.steps entered_nodes) none of_program in
-    let at_start : GivenUp (text_of_run checked.decls main [] globals old) old mid w.steps entered_nodes = subst (λ bs. GivenUp (text_of_run checked.decls main [] bs old) old mid w.steps entered_nodes) new.globals_are of_none in
-    let with_steps : GivenUp (text_of_run checked.decls main [] globals old) old mid steps entered_nodes = subst (λ k. GivenUp (text_of_run checked.decls main [] globals old) old mid k entered_nodes) (new.steps_are ∙ same) at_start in
-    let part = own_part checked.decls main [] globals steps entered_nodes old mid with_steps in
-    let own = own_text checked.decls main [] globals steps in
-    let more = answer_begins files (run_of checked.decls main [] globals (starting steps (Some []))) own.text own.told in
-    let whole = more.1 ∙ ap (λ t. t ++ more.0) part.whole ∙ append_assoc part.taken part.rest more.0 in
-    subst (λ e. TakesPrefix old mid (started files checked.decls steps e).text) entered
-    (part.taken, part.rest ++ more.0, whole, part.is)
+  globals_are : globals_of t w ≡ begun
+  unfolding env begun
+  globals_are = ap (λ (c : Sealed). globals_with t c w.storage) new.checked_is ∙ new.globals_are t u
+
+  -- what it runs from its entry
+  started_run : (old : Option (List ℕ)) → run_with t w main (map value_of args) old ≡ run_of env main [] begun (starting steps old)
+  unfolding env begun
+  started_run old =
+      ap (λ (c : Sealed). run_of (environment t c.decls) main (map value_of args) (globals_of t w) (starting w.steps old)) new.checked_is
+      ∙ ap (λ (xs : List Given). run_of env main (map value_of xs) (globals_of t w) (starting w.steps old)) none
+      ∙ ap (λ bs. run_of env main [] bs (starting w.steps old)) globals_are
+      ∙ ap (λ k. run_of env main [] begun (starting k old)) (new.steps_are ∙ same)
+
+  pub callable : Starts t checked → IsCallable t w.checked main (map value_of args)
+  callable s =
+      subst (λ (c : Sealed). IsCallable t c main (map value_of args)) (sym new.checked_is)
+      (subst (λ (xs : List Given). IsCallable t checked main (map value_of xs)) (sym none)
+      (main_callable t u checked s.grown s.accepted s.is s.asked main (s.main ∙ sym entered)))
+
+  -- a call that ended, and the line of its end behind its text
+  pub ended : (old mid last : Option (List ℕ)) (after : Work) (o : Ended) (result : Result Status Stop) → Ok o ≡ answer_of after.stage
+      → OnReady w.stage (EndsWith t after mid (run_with t w main (map value_of args) old))
+      → Answers result mid last (answer ((if after.text_open then line_feed else []) ++ globals_ending t files after) (end_status after.stage))
+      → Answers result old last (started files (environment t checked.decls) steps checked.main)
+  unfolding env begun
+  ended old mid last after o result ok ends written =
+      let went = went_on after.stage o ok in
+      let here : EndsWith t after mid (run_with t w main (map value_of args) old) = subst (λ s. OnReady s (EndsWith t after mid (run_with t w main (map value_of args) old))) new.stage_is ends in
+      let over = subst (EndsWith t after mid) (started_run old) here in
+      let own = own_run env main [] begun (globals_of t after) steps after.stage after.steps after.text_open old mid went over in
+      let r = run_of env main [] begun (starting steps (Some [])) in
+      let shown = answer_ends files after.stage (globals_of t after) after.steps after.text_open own.text r went own.ends in
+      let line = globals_ending t files after in
+      let behind_it = Answers-after result old mid last own.text ((if after.text_open then line_feed else []) ++ line) (end_status after.stage) own.written written in
+      subst (λ e. Answers result old last (started files env steps e)) entered
+      (subst (Answers result old last) (sym shown)
+      (subst (λ b. Answers result old last (answer (own.text ++ ((if b then line_feed else []) ++ line)) (end_status after.stage))) (own.is_open ∙ open_is own.text) behind_it))
+
+  -- a call that was given up wrote a prefix of the answer
+  pub was_given_up : (entered_nodes : ℕ) (old mid : Option (List ℕ)) → OnReady w.stage (GivenUp (text_with t w main (map value_of args) old) old mid w.steps entered_nodes)
+      → TakesPrefix old mid (started files (environment t checked.decls) steps checked.main).text
+  unfolding env begun
+  was_given_up entered_nodes old mid given =
+      let here : GivenUp (text_with t w main (map value_of args) old) old mid w.steps entered_nodes = subst (λ s. OnReady s (GivenUp (text_with t w main (map value_of args) old) old mid w.steps entered_nodes)) new.stage_is given in
+      let of_program : GivenUp (text_of_run env main (map value_of args) (globals_of t w) old) old mid w.steps entered_nodes =
+      subst (λ (c : Sealed). GivenUp (text_of_run (environment t c.decls) main (map value_of args) (globals_of t w) old) old mid w.steps entered_nodes) new.checked_is here in
+      let of_none : GivenUp (text_of_run env main [] (globals_of t w) old) old mid w.steps entered_nodes = subst (λ (xs : List Given). GivenUp (text_of_run env main (map value_of xs) (globals_of t w) old) old mid w.steps entered_nodes) none of_program in
+      let at_start : GivenUp (text_of_run env main [] begun old) old mid w.steps entered_nodes = subst (λ bs. GivenUp (text_of_run env main [] bs old) old mid w.steps entered_nodes) globals_are of_none in
+      let with_steps : GivenUp (text_of_run env main [] begun old) old mid steps entered_nodes = subst (λ k. GivenUp (text_of_run env main [] begun old) old mid k entered_nodes) (new.steps_are ∙ same) at_start in
+      let part = own_part env main [] begun steps entered_nodes old mid with_steps in
+      let own = own_text env main [] begun steps in
+      let more = answer_begins files (run_of env main [] begun (starting steps (Some []))) own.text own.told in
+      let whole : (run_answer files (run_of env main [] begun (starting steps (Some [])))).text ≡ part.taken ++ (part.rest ++ more.0) = more.1 ∙ ap (λ z. z ++ more.0) part.whole ∙ append_assoc part.taken part.rest more.0 in
+      subst (λ e. TakesPrefix old mid (started files env steps e).text) entered
+      (part.taken, part.rest ++ more.0, whole, part.is)
 
 refused_as : (s : Stage) (e : RunRefused) (before after : ℕ) → Err e ≡ answer_of s → Counted s before after → Counted (stage.Refused e) before after
 refused_as (stage.Ready x) e before after h counts = absurd cc
@@ -124,14 +137,14 @@ refused_as (stage.Refused f) e before after h counts =
     subst (λ r. Counted (stage.Refused r) before after) same counts
 
 -- a call of a new machine that was given up: the sink's count of faults rose where a write was refused
-pub refused_fault : (checked : Accepted) (n : ℕ) (w : Work) (s : Stage) (e : RunRefused) (before after : ℕ) → IsNew w checked n → Err e ≡ answer_of s
+pub refused_fault : (checked : Sealed) (n : ℕ) (w : Work) (s : Stage) (e : RunRefused) (before after : ℕ) → IsNew w checked n → Err e ≡ answer_of s
     → OnReady w.stage (Counted s before after) → e ≡ refused.SinkFault → Counted (stage.Refused refused.SinkFault) before after
 refused_fault checked n w s e before after new is counts why =
     let here : Counted s before after = subst (λ t. OnReady t (Counted s before after)) new.stage_is counts in
     subst (λ r. Counted (stage.Refused r) before after) why (refused_as s e before after is here)
 
 -- and is as it was where memory was wanting
-pub refused_memory : (checked : Accepted) (n : ℕ) (w : Work) (s : Stage) (e : RunRefused) (before after : ℕ) → IsNew w checked n → Err e ≡ answer_of s
+pub refused_memory : (checked : Sealed) (n : ℕ) (w : Work) (s : Stage) (e : RunRefused) (before after : ℕ) → IsNew w checked n → Err e ≡ answer_of s
     → OnReady w.stage (Counted s before after) → e ≡ refused.NoMemory → after ≡ before
 refused_memory checked n w s e before after new is counts why =
     let here : Counted s before after = subst (λ t. OnReady t (Counted s before after)) new.stage_is counts in

@@ -1,11 +1,18 @@
 -- The lines that end the answer of a run, by where the machine stands then.
-use Rattle.std.specs.Prelude.{ℕ, List, [], ◌++◌, option_map}
-use Rattle.asl_rules.specs.Texts.{Text, File, dynamic_line, uncaught_line}
+use Rattle.std.specs.Prelude.{◌≡◌, ℕ, List, [], ◌∷◌, ◌++◌, option_map, Ok}
+use Rattle.asl_rules.specs.Texts.{Text, File, dynamic_line, uncaught_line, global_line}
 use Rattle.asl_rules.specs.States.{Binding}
+use Rattle.asl_rules.specs.Grown.{AreGrown}
+use Rattle.asl_rules.specs.Programs.{Accepted, verdict}
 use Rattle.asl_rules.specs.Report.{outcome_line, globals_text}
+use Rattle.asl_rules.specs.Tests.{Tests}
+use Rattle.asl_rules.specs.declared.entry.Entry.TheVariants.{Main}
+use Rattle.asl_tree.specs.Sealed.{Sealed}
+use Rattle.asl_machine.specs.Storage.{Var}
+use Rattle.asl_machine.specs.Work.{Work, globals_of}
 use Rattle.asl_value.specs.View.{value_of}
-use Rattle.asl_run.specs.declared.machine.Stage.{Stage}
-use Rattle.asl_run.specs.declared.machine.Stage.TheVariants as stage
+use Rattle.asl_machine.specs.declared.stage.Stage.{Stage}
+use Rattle.asl_machine.specs.declared.stage.Stage.TheVariants as stage
 
 -- the value that was returned or thrown, or the fault; nothing of a run that was given up
 abbrev pub end_line : List File → Stage → Text
@@ -24,3 +31,20 @@ end_status (stage.Ready x) = 0
 end_status (stage.Uncaught x) = 3
 end_status (stage.Fault code span) = 4
 end_status (stage.Refused e) = 7
+
+-- a line for each variable
+abbrev pub vars_text : List Var → Text
+vars_text [] = []
+vars_text (v ∷ vs) = global_line v.name v.value ++ vars_text vs
+
+-- the end of a run that leaves a machine so
+abbrev pub globals_ending : Tests → List File → Work → Text
+globals_ending t files w = ending files w.stage (globals_of t w)
+
+-- a program that was accepted with the entry `main`
+pub record Starts (t : Tests) (c : Sealed) : Type 0 where
+  pub grown : AreGrown t.limit c.decls
+  pub asked : c.asked ≡ Main
+  pub accepted : Accepted
+  pub is : verdict c.asked c.decls t ≡ Ok accepted
+  pub main : accepted.main ≡ c.main

@@ -2,6 +2,10 @@
 ghost use Rattle.std.specs.Prelude.{◌≡◌, ◌≤◌, List, length, map};
 ghost use Rattle.asl_line.specs.Model.{meaning_of};
 ghost use Rattle.asl_syn.specs.Command.{check as check_command, run as run_command};
+ghost use Rattle.asl_bits.specs.declared.TheConstants.{WIDTH_LIMIT};
+ghost use Rattle.asl_rules.specs.Grown.{AreGrown};
+ghost use Rattle.asl_rules.specs.Tests.{Tests};
+ghost use Rattle.asl_types.specs.Suits.{Suits};
 ghost use Rattle.asl_rules.specs.Texts.{Text, fault_line};
 ghost use Rattle.asl_grammar.specs.Reading.{Reader, IsReading};
 ghost use Rattle.asl_rules.specs.Report.{answer, on_program, on_texts};
@@ -48,7 +52,8 @@ fn check_program<K: Sink>(
     out: &mut K,
 ) -> Result<Status, Stop>
     requires short { AreShort sources.now }
-    ensures answer { (names : List Text) → Answers result (K.written out.old) (K.written out.new) (on_program (check_command names) (map file_of sources.now) program.decls) }
+    requires grown { AreGrown WIDTH_LIMIT program.decls }
+    ensures answer { (t : Tests) → Suits t → (names : List Text) → Answers result (K.written out.old) (K.written out.new) (on_program t (check_command names) (map file_of sources.now) program.decls) }
     ensures cause { HasCause result (K.faults out.old) (K.faults out.new) }
     ensures same_full { K.full out.new ≡ K.full out.old }
 {
@@ -72,7 +77,8 @@ fn check_and_run<K: Sink>(
     out: &mut K,
 ) -> Result<Status, Stop>
     requires short { AreShort sources.now }
-    ensures answer { (names : List Text) → Answers result (K.written out.old) (K.written out.new) (on_program (run_command steps names) (map file_of sources.now) program.decls) }
+    requires grown { AreGrown WIDTH_LIMIT program.decls }
+    ensures answer { (t : Tests) → Suits t → (names : List Text) → Answers result (K.written out.old) (K.written out.new) (on_program t (run_command steps names) (map file_of sources.now) program.decls) }
     ensures cause { HasCause result (K.faults out.old) (K.faults out.new) }
     ensures same_full { K.full out.new ≡ K.full out.old }
 {
@@ -84,10 +90,11 @@ fn check_and_run<K: Sink>(
 }
 
 /// Checks the files without an entry, and writes the answer.
+#[tactic(auto, using(crate::proofs::Grown::grown))]
 fn check_files<K: Sink>(alloc: Global, sources: &[Source], out: &mut K) -> Result<Status, Stop>
     requires few { length sources.now ≤ 64 }
     requires short { AreShort sources.now }
-    ensures answer { (read : Reader) → IsReading read → (names : List Text) → Answers result (K.written out.old) (K.written out.new) (on_texts (check_command names) (map file_of sources.now) (read (map file_of sources.now))) }
+    ensures answer { (t : Tests) → Suits t → (read : Reader) → IsReading read → (names : List Text) → Answers result (K.written out.old) (K.written out.new) (on_texts t (check_command names) (map file_of sources.now) (read (map file_of sources.now))) }
     ensures cause { HasCause result (K.faults out.old) (K.faults out.new) }
     ensures same_full { K.full out.new ≡ K.full out.old }
 {
@@ -99,6 +106,7 @@ fn check_files<K: Sink>(alloc: Global, sources: &[Source], out: &mut K) -> Resul
 }
 
 /// Checks the files with the entry `main`, runs them with so many steps, and writes the answer.
+#[tactic(auto, using(crate::proofs::Grown::grown))]
 fn run_files<K: Sink>(
     alloc: Global,
     sources: &[Source],
@@ -107,7 +115,7 @@ fn run_files<K: Sink>(
 ) -> Result<Status, Stop>
     requires few { length sources.now ≤ 64 }
     requires short { AreShort sources.now }
-    ensures answer { (read : Reader) → IsReading read → (names : List Text) → Answers result (K.written out.old) (K.written out.new) (on_texts (run_command steps names) (map file_of sources.now) (read (map file_of sources.now))) }
+    ensures answer { (t : Tests) → Suits t → (read : Reader) → IsReading read → (names : List Text) → Answers result (K.written out.old) (K.written out.new) (on_texts t (run_command steps names) (map file_of sources.now) (read (map file_of sources.now))) }
     ensures cause { HasCause result (K.faults out.old) (K.faults out.new) }
     ensures same_full { K.full out.new ≡ K.full out.old }
 {
@@ -128,7 +136,7 @@ fn answer_sources<K: Sink>(
 ) -> Result<Status, Stop>
     requires few { length sources.now ≤ 64 }
     requires short { AreShort sources.now }
-    ensures answer { (read : Reader) → IsReading read → Answers result (K.written out.old) (K.written out.new) (answer_on_sources read (meaning_of line.now) (map file_of sources.now)) }
+    ensures answer { (t : Tests) → Suits t → (read : Reader) → IsReading read → Answers result (K.written out.old) (K.written out.new) (answer_on_sources t read (meaning_of line.now) (map file_of sources.now)) }
     ensures cause { HasCause result (K.faults out.old) (K.faults out.new) }
     ensures same_full { K.full out.new ≡ K.full out.old }
 {
@@ -151,7 +159,7 @@ pub fn write_answer<K: Sink>(
     out: &mut K,
 ) -> Result<Status, Stop>
     requires { IsShort reading.now }
-    ensures answer { (read : Reader) → IsReading read → Answers result (K.written out.old) (K.written out.new) (answer_of read (meaning_of line.now) (reading_of reading.now)) }
+    ensures answer { (t : Tests) → Suits t → (read : Reader) → IsReading read → Answers result (K.written out.old) (K.written out.new) (answer_of t read (meaning_of line.now) (reading_of reading.now)) }
     ensures cause { HasCause result (K.faults out.old) (K.faults out.new) }
     ensures same_full { K.full out.new ≡ K.full out.old }
 {

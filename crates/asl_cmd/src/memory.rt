@@ -3,6 +3,8 @@ ghost use Rattle.std.specs.Prelude.{◌≡◌, ◌<◌, ◌⊎◌, Some, IfOk, l
 ghost use Rattle.asl_io.specs.Shelf.{held_of};
 ghost use Rattle.asl_line.specs.Line.{line_of};
 ghost use Rattle.asl_grammar.specs.Reading.{Reader, IsReading};
+ghost use Rattle.asl_rules.specs.Tests.{Tests};
+ghost use Rattle.asl_types.specs.Suits.{Suits};
 ghost use Rattle.asl_cmd.specs.Report.{report_of};
 ghost use Rattle.asl_cmd.specs.Writes.{code_of};
 
@@ -22,8 +24,8 @@ pub fn asl_in_memory(
     held: Vec<(String, Vec<u8>)>,
     room: usize,
 ) -> Result<(MemSink, Status), AllocError>
-    ensures { IfOk result (λ r. (read : Reader) → IsReading read → length (report_of read (line_of (map string_bytes words.now)) (held_of held.items)).text < room
-        → (r.1 ≡ Status.NoMemory) ⊎ (let report = report_of read (line_of (map string_bytes words.now)) (held_of held.items) in
+    ensures { IfOk result (λ r. (t : Tests) → Suits t → (read : Reader) → IsReading read → length (report_of t read (line_of (map string_bytes words.now)) (held_of held.items)).text < room
+        → (r.1 ≡ Status.NoMemory) ⊎ (let report = report_of t read (line_of (map string_bytes words.now)) (held_of held.items) in
         (⟦<MemSink as Sink>⟧.written r.0 ≡ Some report.text) × (code_of r.1 ≡ report.status))) }
 {
     let mut files = SureFiles::new(held);

@@ -1,13 +1,14 @@
 //! The run of a checked program, and the lines of its end.
-ghost use Rattle.std.specs.Prelude.{◌≡◌, ◌++◌, [], None, Ok, map, if◌then◌else◌};
-ghost use Rattle.asl_rules.specs.declared.entry.Entry.TheVariants.{Main};
-ghost use Rattle.asl_rules.specs.Programs.{verdict};
-ghost use Rattle.asl_rules.specs.Report.{answer, globals_text, started};
+ghost use Rattle.std.specs.Prelude.{◌≡◌, ◌++◌, [], Ok, map, if◌then◌else◌};
+ghost use Rattle.asl_rules.specs.Programs.{environment};
+ghost use Rattle.asl_rules.specs.Report.{answer, started};
+ghost use Rattle.asl_rules.specs.Tests.{Tests};
 ghost use Rattle.asl_rules.specs.Texts.{global_line, line_feed, value_text};
-ghost use Rattle.asl_types.specs.Bindings.{bindings_of};
+ghost use Rattle.asl_types.specs.Suits.{Suits};
 ghost use Rattle.asl_value.specs.View.{value_of};
-ghost use Rattle.asl_run.specs.Stages.{answer_of};
-ghost use Rattle.asl_cmd.specs.Ends.{end_line, end_status, ending};
+ghost use Rattle.asl_machine.specs.Stages.{answer_of};
+ghost use Rattle.asl_machine.specs.Storage.{var_of};
+ghost use Rattle.asl_cmd.specs.Ends.{end_line, end_status, globals_ending, vars_text, Starts};
 ghost use Rattle.asl_cmd.specs.Model.{file_of, AreShort};
 ghost use Rattle.asl_cmd.specs.Writes.{Writes, Answers, HasCause, code_of};
 
@@ -15,7 +16,7 @@ use crate::status::{Status, Stop};
 use crate::texts::dynamic_text;
 use crate::writing::{close, put, say};
 use asl_io::Sink;
-use asl_run::{GlobalVar, Machine, Outcome, RunRefused};
+use asl_machine::{GlobalVar, Machine, Outcome, RunRefused};
 use asl_syn::place::Source;
 use asl_tree::Checked;
 use asl_value::{Value, show};
@@ -98,16 +99,14 @@ fn put_global<K: Sink>(out: &mut K, global: &GlobalVar) -> Result<(), Stop>
     put(out, b"\n")
 }
 
-/// Writes a line for each global that can be assigned, in source order.
+/// Writes a line for each global, in order.
 fn put_globals<K: Sink>(out: &mut K, globals: &[GlobalVar]) -> Result<(), Stop>
-    ensures text { Writes result (K.written out.old) (K.written out.new) (globals_text (bindings_of globals.now)) }
+    ensures text { Writes result (K.written out.old) (K.written out.new) (vars_text (map var_of globals.now)) }
     ensures cause { HasCause result (K.faults out.old) (K.faults out.new) }
     ensures same_full { K.full out.new ≡ K.full out.old }
 {
     for global in globals {
-        if global.is_mutable {
-            put_global(out, global)?;
-        }
+        put_global(out, global)?;
     }
     Ok(())
 }
@@ -122,7 +121,7 @@ fn say_ending<K: Sink>(
 ) -> Result<Status, Stop>
     requires short { AreShort sources.now }
     requires ended { answer_of machine.now.stage ≡ Ok outcome }
-    ensures answer { Answers result (K.written out.old) (K.written out.new) (answer (ending (map file_of sources.now) machine.now.stage (bindings_of machine.now.globals)) (end_status machine.now.stage)) }
+    ensures answer { (t : Tests) → Suits t → Answers result (K.written out.old) (K.written out.new) (answer (globals_ending t (map file_of sources.now) machine.now) (end_status machine.now.stage)) }
     ensures cause { HasCause result (K.faults out.old) (K.faults out.new) }
     ensures same_full { K.full out.new ≡ K.full out.old }
 {
@@ -141,7 +140,7 @@ fn finish<K: Sink>(
 ) -> Result<Status, Stop>
     requires short { AreShort sources.now }
     requires ended { answer_of machine.now.stage ≡ Ok outcome }
-    ensures answer { Answers result (K.written out.old) (K.written out.new) (answer ((if machine.now.text_open then line_feed else []) ++ ending (map file_of sources.now) machine.now.stage (bindings_of machine.now.globals)) (end_status machine.now.stage)) }
+    ensures answer { (t : Tests) → Suits t → Answers result (K.written out.old) (K.written out.new) (answer ((if machine.now.text_open then line_feed else []) ++ globals_ending t (map file_of sources.now) machine.now) (end_status machine.now.stage)) }
     ensures cause { HasCause result (K.faults out.old) (K.faults out.new) }
     ensures same_full { K.full out.new ≡ K.full out.old }
 {
@@ -159,8 +158,8 @@ pub fn run_program<K: Sink>(
     out: &mut K,
 ) -> Result<Status, Stop>
     requires short { AreShort sources.now }
-    requires accepted { verdict Main checked.decls ≡ Ok checked.entry }
-    ensures answer { Answers result (K.written out.old) (K.written out.new) (started (map file_of sources.now) checked.decls steps checked.entry) }
+    requires accepted { (t : Tests) → Suits t → Starts t checked }
+    ensures answer { (t : Tests) → Suits t → Answers result (K.written out.old) (K.written out.new) (started (map file_of sources.now) (environment t checked.decls) steps checked.main) }
     ensures cause { HasCause result (K.faults out.old) (K.faults out.new) }
     ensures same_full { K.full out.new ≡ K.full out.old }
 {

@@ -5,6 +5,8 @@ ghost use Rattle.asl_io.specs.Told.{Takes, TakesPrefix};
 ghost use Rattle.asl_syn.specs.Command.{usage, names_of};
 ghost use Rattle.asl_line.specs.Line.{line_of};
 ghost use Rattle.asl_grammar.specs.Reading.{Reader, IsReading};
+ghost use Rattle.asl_rules.specs.Tests.{Tests};
+ghost use Rattle.asl_types.specs.Suits.{Suits};
 ghost use Rattle.asl_cmd.specs.Report.{report_of};
 ghost use Rattle.asl_cmd.specs.Writes.{code_of};
 
@@ -21,20 +23,20 @@ use std::alloc::Global;
 pub fn asl<F: Files, K: Sink>(alloc: Global, words: &[String], files: &mut F, out: &mut K) -> Status
     // Where the files tell their bytes and neither count rose, the status is the report's, and where the sink tells
     // its bytes, the report's text was written; or memory was wanting.
-    ensures report { (read : Reader) → IsReading read → (held : List ℕ → List ℕ) → F.held files.old ≡ Some held
+    ensures report { (t : Tests) → Suits t → (read : Reader) → IsReading read → (held : List ℕ → List ℕ) → F.held files.old ≡ Some held
         → (Rises (F.faults files.old) (F.faults files.new) → ⊥) → (Rises (K.faults out.old) (K.faults out.new) → ⊥)
-        → (result ≡ Status.NoMemory) ⊎ (let report = report_of read (line_of (map string_bytes words.now)) held in
+        → (result ≡ Status.NoMemory) ⊎ (let report = report_of t read (line_of (map string_bytes words.now)) held in
         Takes (K.written out.old) (K.written out.new) report.text × (code_of result ≡ report.status)) }
 
     // So it is after every status but these three, whatever the counts.
-    ensures whole { (read : Reader) → IsReading read → (held : List ℕ → List ℕ) → F.held files.old ≡ Some held
+    ensures whole { (t : Tests) → Suits t → (read : Reader) → IsReading read → (held : List ℕ → List ℕ) → F.held files.old ≡ Some held
         → (result ≡ Status.ReadFault → ⊥) → (result ≡ Status.WriteFault → ⊥) → (result ≡ Status.NoMemory → ⊥)
-        → let report = report_of read (line_of (map string_bytes words.now)) held in
+        → let report = report_of t read (line_of (map string_bytes words.now)) held in
         Takes (K.written out.old) (K.written out.new) report.text × (code_of result ≡ report.status) }
 
     // After every status but a read fault, a prefix of the report's text was written; after a read fault, nothing.
-    ensures prefix { (read : Reader) → IsReading read → (held : List ℕ → List ℕ) → F.held files.old ≡ Some held → (result ≡ Status.ReadFault → ⊥)
-        → TakesPrefix (K.written out.old) (K.written out.new) (report_of read (line_of (map string_bytes words.now)) held).text }
+    ensures prefix { (t : Tests) → Suits t → (read : Reader) → IsReading read → (held : List ℕ → List ℕ) → F.held files.old ≡ Some held → (result ≡ Status.ReadFault → ⊥)
+        → TakesPrefix (K.written out.old) (K.written out.new) (report_of t read (line_of (map string_bytes words.now)) held).text }
     ensures nothing { result ≡ Status.ReadFault → K.written out.new ≡ K.written out.old }
 
     // The causes that the report doesn't show.

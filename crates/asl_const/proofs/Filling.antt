@@ -1,17 +1,29 @@
 -- The fields of a type with the values that are given, one by one.
-use Rattle.std.proofs.Common.{◌≡◌, ℕ, List, [], ◌∷◌, ◌++◌, map, Option, Some, None, refl, sym, ap, ◌∙◌}
-use Rattle.std.specs.Prelude.{option_map}
+use Rattle.std.proofs.Common.{◌≡◌, ℕ, true, false, cond, List, [], ◌∷◌, ◌++◌, map, Option, Some, None, refl, sym, ap, ◌∙◌}
+use Rattle.std.specs.Prelude.{pos, option_map, option_and_then}
 use Rattle.asl_syn.specs.declared.token.Span.{Span}
+use Rattle.asl_rules.specs.ByPlace.{seen_as}
+use Rattle.asl_rules.specs.Closed.{closed, fields_with}
 use Rattle.asl_rules.specs.Plans.{End, Pure, Good, Bad}
+use Rattle.asl_rules.specs.Pures.{◌>>=◌, there}
+use Rattle.asl_rules.specs.Structures.{given_value, with_given, fields_given}
+use Rattle.asl_rules.specs.Types.{Ty}
 use Rattle.asl_rules.specs.Values as rules
-use Rattle.asl_rules.specs.Values.{FieldValues, value_of_field}
-use Rattle.asl_rules.specs.Structures.{Given, given_value, filled, fields_given, there}
-use Rattle.asl_rules.specs.Constants.{◌>>=◌}
+use Rattle.asl_rules.specs.Values.{FieldValues, value_of_field, has}
+use Rattle.asl_rules.specs.Views.{viewed}
+use Rattle.asl_rules.proofs.values.Constructs.{seen_is}
 use Rattle.asl_value.specs.declared.value.FieldValue.{FieldValue}
 use Rattle.asl_value.specs.View.{Of, fields_of, field_of}
 use Rattle.asl_types.specs.declared.ty.FieldType.{FieldType}
+use Rattle.asl_types.specs.declared.ty.FieldType.TheVariants as f
 use Rattle.asl_types.specs.View as types
-use Rattle.asl_const.specs.Finds.{of_value, filled_after}
+use Rattle.asl_const.specs.Giving.{of_value, kept_in, filled_after}
+
+pub kept_there : (T : Ty) (x y : rules.Value) → has x (closed T) ≡ true → y ≡ seen_as T x → Some y ≡ kept_in T x
+kept_there T x y h e = ap Some (e ∙ seen_is (λ n. pos 0) T x) ∙ sym (ap (λ b. cond b (Some (viewed (closed T) x)) None) h)
+
+pub kept_none : (T : Ty) (x : rules.Value) → has x (closed T) ≡ false → None ≡ kept_in T x
+kept_none T x h = sym (ap (λ b. cond b (Some (viewed (closed T) x)) None) h)
 
 pub more_fields : (xs : List FieldValue) (x : FieldValue) → map field_of (xs ++ x ∷ []) ≡ map field_of xs ++ field_of x ∷ []
 more_fields [] x = refl
@@ -35,39 +47,38 @@ made W xs = Good (W (fields_of xs))
 abbrev behind : {A : Type 0} → Span → (FieldValues → A) → List Of → Option FieldValues → Pure A
 behind span W xs o = there span (option_map (λ ys. W (before xs ys)) o)
 
-step : {A : Type 0} (span : Span) (W : FieldValues → A) (xs : List Of) (f : List ℕ) (x : rules.Value) (o : Option FieldValues) →
-    behind span W (xs ++ of_value f x ∷ []) o ≡ behind span W xs (filled (Some x) f o)
-step span W xs f x None = refl
-step span W xs f x (Some ys) = ap (λ zs. Good (W zs)) (before_one xs (of_value f x) ys)
+step : {A : Type 0} (span : Span) (W : FieldValues → A) (xs : List Of) (n : List ℕ) (x : rules.Value) (o : Option FieldValues) →
+    behind span W (xs ++ of_value n x ∷ []) o ≡ behind span W xs (with_given n (Some x) o)
+step span W xs n x None = refl
+step span W xs n x (Some ys) = ap (λ zs. Good (W zs)) (before_one xs (of_value n x) ys)
 
-by_value : {A : Type 0} (span : Span) (W : FieldValues → A) (xs : List Of) (f : List ℕ) (o : Option rules.Value) (fs : List types.Of) (gs : List Given) →
-    ((x : Of) → (filled_after span (xs ++ x ∷ []) fs gs >>= made W) ≡ behind span W (xs ++ x ∷ []) (fields_given (types.fields_of fs) gs)) →
-    ((there span (option_map (of_value f) o) >>= λ x. filled_after span (xs ++ x ∷ []) fs gs) >>= made W) ≡ behind span W xs (filled o f (fields_given (types.fields_of fs) gs))
-by_value span W xs f None fs gs h = by (fields_given (types.fields_of fs) gs)
-  where
-    by : (p : Option FieldValues) → ((there span (option_map (of_value f) None) >>= λ x. filled_after span (xs ++ x ∷ []) fs gs) >>= made W) ≡ behind span W xs (filled None f p)
-    by None = refl
-    by (Some ys) = refl
-by_value span W xs f (Some x) fs gs h = h (of_value f x) ∙ step span W xs f x (fields_given (types.fields_of fs) gs)
+abbrev given_for : List FieldType → List (List ℕ) → List rules.Value → Option FieldValues
+given_for fs gs ys = fields_given (fields_with (types.fields_of fs) (λ n. pos 0)) gs ys
 
-filled_behind : {A : Type 0} (span : Span) (W : FieldValues → A) (fs : List types.Of) (xs : List Of) (gs : List Given) →
-    (filled_after span xs fs gs >>= made W) ≡ behind span W xs (fields_given (types.fields_of fs) gs)
-filled_behind span W [] xs gs = ap (λ zs. Good (W zs)) (before_none xs)
-filled_behind span W (f ∷ fs) xs gs = by_value span W xs f.name (given_value f.name gs) fs gs (λ x. filled_behind span W fs (xs ++ x ∷ []) gs)
+by_value : {A : Type 0} (span : Span) (W : FieldValues → A) (xs : List Of) (n : List ℕ) (o : Option rules.Value) (fs : List FieldType) (gs : List (List ℕ)) (ys : List rules.Value) →
+    ((x : Of) → (filled_after span (xs ++ x ∷ []) fs gs ys >>= made W) ≡ behind span W (xs ++ x ∷ []) (given_for fs gs ys)) →
+    ((there span (option_map (of_value n) o) >>= λ x. filled_after span (xs ++ x ∷ []) fs gs ys) >>= made W) ≡ behind span W xs (with_given n o (given_for fs gs ys))
+by_value span W xs n None fs gs ys h = refl
+by_value span W xs n (Some x) fs gs ys h = h (of_value n x) ∙ step span W xs n x (given_for fs gs ys)
+
+filled_behind : {A : Type 0} (span : Span) (W : FieldValues → A) (fs : List FieldType) (xs : List Of) (gs : List (List ℕ)) (ys : List rules.Value) →
+    (filled_after span xs fs gs ys >>= made W) ≡ behind span W xs (given_for fs gs ys)
+filled_behind span W [] xs gs ys = ap (λ zs. Good (W zs)) (before_none xs)
+filled_behind span W (f.Field n T ∷ fs) xs gs ys = by_value span W xs n (option_and_then (kept_in T) (given_value n gs ys)) fs gs ys (λ x. filled_behind span W fs (xs ++ x ∷ []) gs ys)
 
 same_option : {A : Type 0} (span : Span) (W : FieldValues → A) (o : Option FieldValues) → behind span W [] o ≡ there span (option_map W o)
 same_option span W None = refl
 same_option span W (Some ys) = refl
 
-type_is : {A : Type 0} (span : Span) (W : FieldValues → A) (fs : List FieldType) (gs : List Given) →
-    there span (option_map W (fields_given (types.all_fields fs) gs)) ≡ (filled_after span [] (map types.field_of fs) gs >>= made W)
-type_is span W fs gs = sym (filled_behind span W (map types.field_of fs) [] gs ∙ same_option span W (fields_given (types.all_fields fs) gs))
+type_is : {A : Type 0} (span : Span) (W : FieldValues → A) (fs : List FieldType) (gs : List (List ℕ)) (ys : List rules.Value) →
+    there span (option_map W (given_for fs gs ys)) ≡ (filled_after span [] fs gs ys >>= made W)
+type_is span W fs gs ys = sym (filled_behind span W fs [] gs ys ∙ same_option span W (given_for fs gs ys))
 
 -- what is made of the fields of a type, by its fields one by one
-pub type_good : {A : Type 0} (span : Span) (W : FieldValues → A) (fs : List FieldType) (gs : List Given) (xs : List Of) → filled_after span [] (map types.field_of fs) gs ≡ Good xs →
-    there span (option_map W (fields_given (types.all_fields fs) gs)) ≡ Good (W (fields_of xs))
-type_good span W fs gs xs h = type_is span W fs gs ∙ ap (λ p. p >>= made W) h
+pub type_good : {A : Type 0} (span : Span) (W : FieldValues → A) (fs : List FieldType) (gs : List (List ℕ)) (ys : List rules.Value) (xs : List Of) → filled_after span [] fs gs ys ≡ Good xs →
+    there span (option_map W (fields_given (fields_with (types.fields_of fs) (λ n. pos 0)) gs ys)) ≡ Good (W (fields_of xs))
+type_good span W fs gs ys xs h = type_is span W fs gs ys ∙ ap (λ p. p >>= made W) h
 
-pub type_bad : {A : Type 0} (span : Span) (W : FieldValues → A) (fs : List FieldType) (gs : List Given) (e : End) → filled_after span [] (map types.field_of fs) gs ≡ Bad e →
-    there span (option_map W (fields_given (types.all_fields fs) gs)) ≡ Bad e
-type_bad span W fs gs e h = type_is span W fs gs ∙ ap (λ p. p >>= made W) h
+pub type_bad : {A : Type 0} (span : Span) (W : FieldValues → A) (fs : List FieldType) (gs : List (List ℕ)) (ys : List rules.Value) (e : End) → filled_after span [] fs gs ys ≡ Bad e →
+    there span (option_map W (fields_given (fields_with (types.fields_of fs) (λ n. pos 0)) gs ys)) ≡ Bad e
+type_bad span W fs gs ys e h = type_is span W fs gs ys ∙ ap (λ p. p >>= made W) h

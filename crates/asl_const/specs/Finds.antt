@@ -1,24 +1,32 @@
 -- How the answers of the evaluation of constants are related to the rules.
-use Rattle.std.specs.Prelude.{◌≡◌, ℕ, Bool, List, [], ◌∷◌, ◌++◌, map, option_map, Option, Result, Ok, Err}
-use Rattle.std.specs.Borrow.{Bor}
+use Rattle.std.specs.Prelude.{◌≡◌, ℕ, Bool, List, [], ◌∷◌, ◌++◌, Option, Some, option_and_then, Result, Ok, Err}
+use Rattle.asl_bits.specs.declared.TheConstants.{WIDTH_LIMIT}
 use Rattle.asl_syn.specs.declared.token.Span.{Span}
+use Rattle.asl_syn.specs.declared.tree.Bitfield.{Bitfield}
+use Rattle.asl_syn.specs.declared.tree.ConstraintPart.{ConstraintPart}
 use Rattle.asl_syn.specs.declared.tree.FieldValue.{FieldValue}
-use Rattle.asl_syn.specs.declared.tree.Bitfield.TheFolds.{fold-FieldValue}
-use Rattle.asl_rules.specs.Plans.{Faulted, Stuck, Pure, Good, Bad}
-use Rattle.asl_rules.specs.Types as rules
-use Rattle.asl_rules.specs.Values.{Value}
+use Rattle.asl_syn.specs.declared.tree.Ident.{Ident}
+use Rattle.asl_syn.specs.declared.tree.Pattern.{Pattern}
+use Rattle.asl_syn.specs.declared.tree.Slice.{Slice}
+use Rattle.asl_syn.specs.declared.tree.TypeExpr.{TypeExpr}
+use Rattle.asl_syn.specs.declared.tree.Bitfield.TheFolds.{fold-Bitfield, fold-ConstraintPart, fold-FieldValue, fold-Pattern, fold-Slice, fold-TypeExpr}
+use Rattle.asl_rules.specs.Constants.{Known, constant_layer, settled}
+use Rattle.asl_rules.specs.Forms.{behind_all}
 use Rattle.asl_rules.specs.Operators.{truth, Decided, Already, ByRight, Strictness, Strict, Lazy}
+use Rattle.asl_rules.specs.Plans.{Faulted, Stuck, Pure, Good, Bad}
+use Rattle.asl_rules.specs.Pures.{◌>>=◌}
+use Rattle.asl_rules.specs.Scopes.{Entry}
+use Rattle.asl_rules.specs.Shaped.{Shaped, Named, TypeOver, itself, bitfield_layer, part_layer, given_layer, pattern_layer, slice_layer, type_layer}
+use Rattle.asl_rules.specs.Shapes.{SliceShape, PatternShape, PartShape, BitfieldShape, TypeShape}
+use Rattle.asl_rules.specs.Types.{BitField, View}
+use Rattle.asl_rules.specs.Values.{Value}
+use Rattle.asl_rules.specs.Vectors.{bitfield_named}
+use Rattle.asl_value.specs.View.{value_of}
 use Rattle.asl_const.specs.declared.failure.Unknown.{Unknown}
 use Rattle.asl_const.specs.declared.failure.Unknown.TheVariants as unknown
-use Rattle.asl_const.specs.Unknowns.{mistake_of}
-use Rattle.asl_value.specs.View.{Of, value_of}
-use Rattle.asl_types.specs.declared.ty.Ty.{Ty}
-use Rattle.asl_types.specs.View as types
 use Rattle.asl_const.specs.declared.applying.Decision.{Decision}
 use Rattle.asl_const.specs.declared.applying.Decision.TheVariants as decision
-use Rattle.asl_rules.specs.Scopes.{Entry}
-use Rattle.asl_rules.specs.Structures.{Given, given_value, there}
-use Rattle.asl_rules.specs.Constants.{◌>>=◌, Unread, Known, KnownField, constant_rule, given_rule}
+use Rattle.asl_const.specs.Unknowns.{mistake_of}
 
 -- an answer is what the rules give, or memory was wanting
 abbrev pub Finds : {A B : Type 0} → (A → B) → Result A Unknown → Pure B → Type 0
@@ -27,42 +35,52 @@ Finds view (Err unknown.NoMemory) r = Unit {0}
 Finds view (Err (unknown.Fault code span)) r = r ≡ Bad (Faulted code span)
 Finds view (Err (unknown.Stuck mistake span)) r = r ≡ Bad (Stuck (mistake_of mistake) span)
 
--- what is known at a field of a construction
-abbrev pub known_field : FieldValue → KnownField
-known_field = fold-FieldValue Unread Unread Known KnownField Unread Unread Unread (λ _. tt) (λ _. tt) constant_rule given_rule (λ _. tt) (λ _. tt) (λ _. tt)
+-- ---- parts of expressions, with the values that their expressions have
 
--- names with values in order
-abbrev pub given_by : List (List ℕ) → List Value → List Given
-given_by [] xs = []
-given_by (n ∷ ns) [] = []
-given_by (n ∷ ns) (x ∷ xs) = record { name = n; value = x } ∷ given_by ns xs
+abbrev pub known_given : FieldValue → Shaped (List ℕ) Known
+known_given = fold-FieldValue (Shaped BitfieldShape Known) (Shaped PartShape Known) Known (Shaped (List ℕ) Known) (Shaped PatternShape Known) (Shaped SliceShape Known) (Shaped TypeOver Known)
+    (bitfield_layer itself) (part_layer itself) (constant_layer WIDTH_LIMIT) (given_layer itself) (pattern_layer itself itself) (slice_layer itself) (type_layer itself itself itself itself)
 
-abbrev pub given_names : List FieldValue → List (List ℕ)
-given_names fs = map (λ f. (known_field f).name.text) fs
+abbrev pub known_slice : Slice → Shaped SliceShape Known
+known_slice = fold-Slice (Shaped BitfieldShape Known) (Shaped PartShape Known) Known (Shaped (List ℕ) Known) (Shaped PatternShape Known) (Shaped SliceShape Known) (Shaped TypeOver Known)
+    (bitfield_layer itself) (part_layer itself) (constant_layer WIDTH_LIMIT) (given_layer itself) (pattern_layer itself itself) (slice_layer itself) (type_layer itself itself itself itself)
+
+abbrev pub known_pattern : Pattern → Shaped PatternShape Known
+known_pattern = fold-Pattern (Shaped BitfieldShape Known) (Shaped PartShape Known) Known (Shaped (List ℕ) Known) (Shaped PatternShape Known) (Shaped SliceShape Known) (Shaped TypeOver Known)
+    (bitfield_layer itself) (part_layer itself) (constant_layer WIDTH_LIMIT) (given_layer itself) (pattern_layer itself itself) (slice_layer itself) (type_layer itself itself itself itself)
+
+abbrev pub known_part : ConstraintPart → Shaped PartShape Known
+known_part = fold-ConstraintPart (Shaped BitfieldShape Known) (Shaped PartShape Known) Known (Shaped (List ℕ) Known) (Shaped PatternShape Known) (Shaped SliceShape Known) (Shaped TypeOver Known)
+    (bitfield_layer itself) (part_layer itself) (constant_layer WIDTH_LIMIT) (given_layer itself) (pattern_layer itself itself) (slice_layer itself) (type_layer itself itself itself itself)
+
+abbrev pub known_bitfield : Bitfield → Shaped BitfieldShape Known
+known_bitfield = fold-Bitfield (Shaped BitfieldShape Known) (Shaped PartShape Known) Known (Shaped (List ℕ) Known) (Shaped PatternShape Known) (Shaped SliceShape Known) (Shaped TypeOver Known)
+    (bitfield_layer itself) (part_layer itself) (constant_layer WIDTH_LIMIT) (given_layer itself) (pattern_layer itself itself) (slice_layer itself) (type_layer itself itself itself itself)
+
+abbrev pub known_type : TypeExpr → Shaped TypeOver Known
+known_type = fold-TypeExpr (Shaped BitfieldShape Known) (Shaped PartShape Known) Known (Shaped (List ℕ) Known) (Shaped PatternShape Known) (Shaped SliceShape Known) (Shaped TypeOver Known)
+    (bitfield_layer itself) (part_layer itself) (constant_layer WIDTH_LIMIT) (given_layer itself) (pattern_layer itself itself) (slice_layer itself) (type_layer itself itself itself itself)
+
+-- the shapes of written types, behind those before, where all are known
+abbrev pub types_after : List TypeShape → Named → List TypeOver → Option (List TypeShape)
+types_after xs types [] = Some xs
+types_after xs types (t ∷ ts) = option_and_then (λ s. types_after (xs ++ s ∷ []) types ts) (t types)
+
+-- the bitfields of these names, behind those before
+abbrev pub named_after : Span → List BitField → List Ident → View → Pure (List BitField)
+named_after span xs [] v = Good xs
+named_after span xs (i ∷ is) v = bitfield_named span i.text v >>= λ f. named_after span (xs ++ f ∷ []) is v
+
+-- ---- expressions in order
 
 -- the values of expressions in order, behind those before
 abbrev pub known_after : List Value → List Known → List Entry → Pure (List Value)
 known_after xs [] names = Good xs
 known_after xs (e ∷ es) names = e names >>= λ x. known_after (xs ++ x ∷ []) es names
 
-abbrev pub value_known : FieldValue → Known
-value_known f = (known_field f).value
-
--- a type behind a reference, where there is one
-abbrev pub type_behind : Option (Bor Ty) → Option rules.Ty
-type_behind o = option_map (λ t. types.ty_of t.now) o
-
--- a field of a type with the value that is given for it
-abbrev pub of_value : List ℕ → Value → Of
-of_value f x = record { name = f; value = x }
-
-abbrev pub filled_one : Span → types.Of → List Given → Pure Of
-filled_one span f gs = there span (option_map (of_value f.name) (given_value f.name gs))
-
--- the fields of a type with the values that are given for them, behind those before
-abbrev pub filled_after : Span → List Of → List types.Of → List Given → Pure (List Of)
-filled_after span xs [] gs = Good xs
-filled_after span xs (f ∷ fs) gs = filled_one span f gs >>= λ x. filled_after span (xs ++ x ∷ []) fs gs
+-- what is done with the values of expressions in order
+abbrev pub with_all : {A : Type 0} → Span → List Known → List Entry → (List Value → Pure A) → Pure A
+with_all span es names f = settled span names (behind_all es names f)
 
 -- ---- operations
 

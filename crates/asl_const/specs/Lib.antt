@@ -1,2 +1,4 @@
 pub mod Unknowns
 pub mod Finds
+pub mod Giving
+pub mod Weights

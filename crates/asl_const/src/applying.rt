@@ -1,21 +1,29 @@
-//! What operators, fields and elements give of values that were evaluated.
+//! What operators, bitfields, elements, slices and patterns give of values that were evaluated.
 ghost use Rattle.std.specs.Prelude.{◌≡◌, List, [], map, Err};
-ghost use Rattle.asl_value.specs.View.{value_of};
+ghost use Rattle.asl_bits.specs.declared.TheConstants.{WIDTH_LIMIT};
 ghost use Rattle.asl_syn.specs.declared.tree.BinaryOperator.TheVariants as logical;
+ghost use Rattle.asl_rules.specs.ByNames.{matched_in as matched_in_one};
+ghost use Rattle.asl_rules.specs.Constants.{Known, settled};
+ghost use Rattle.asl_rules.specs.Forms as forms;
 ghost use Rattle.asl_rules.specs.Operators as operators;
-ghost use Rattle.asl_rules.specs.Structures as structures;
-ghost use Rattle.asl_rules.specs.Constants.{◌>>=◌ as ◌then◌, Known, all_known, behind_left};
-ghost use Rattle.asl_rules.specs.Plans.{Pure, Good};
+ghost use Rattle.asl_rules.specs.Plans.{Pure, Good, Bad, Stuck, CallBarred};
+ghost use Rattle.asl_rules.specs.Pures.{◌>>=◌ as ◌then◌};
 ghost use Rattle.asl_rules.specs.Scopes.{Entry};
+ghost use Rattle.asl_rules.specs.Shaped.{itself, shapes_in};
+ghost use Rattle.asl_rules.specs.Structures as structures;
 ghost use Rattle.asl_rules.specs.Values.{Value as TheValue, tuple_with};
-ghost use Rattle.asl_const.specs.Finds.{Finds, decision_of, decided_by, known_after};
+ghost use Rattle.asl_rules.specs.Vectors as vectors;
+ghost use Rattle.asl_rules.specs.Views.{stripped};
+ghost use Rattle.asl_value.specs.View.{value_of};
+ghost use Rattle.asl_const.specs.Finds.{Finds, decision_of, decided_by, known_after, known_pattern, known_slice, with_all};
 
 use crate::failure::{Mistake, Unknown};
-use crate::structures::field_among;
+use crate::shapes::{pattern_shape, slice_shapes};
+use asl_shape::matched_in;
 use asl_shared::Held;
 use asl_syn::token::Span;
-use asl_syn::tree::{BinaryOperator, UnaryOperator};
-use asl_value::{Value, binary, element_of, truth, tuple, unary};
+use asl_syn::tree::{BinaryOperator, Pattern, Slice, UnaryOperator};
+use asl_value::{Value, binary, element_of, slices_of, strip, truth, tuple, unary};
 use sqlite_items::Items;
 use std::alloc::Global;
 
@@ -35,18 +43,31 @@ pub(crate) fn truth_of(span: Span, x: Value) -> Result<bool, Unknown>
 }
 
 /// An operation on one value.
-pub(crate) fn of_one(span: Span, op: UnaryOperator, x: Value) -> Result<Value, Unknown>
-    ensures { Finds value_of result (operators.unary_value span op (value_of x)) }
+pub(crate) fn of_one(
+    alloc: Global,
+    span: Span,
+    operator: UnaryOperator,
+    x: Value,
+) -> Result<Value, Unknown>
+    ensures { Finds value_of result (operators.unary_value span operator (value_of x)) }
 {
     let x = Held::new(x);
-    Ok(unary(span, op, x.get())?)
+    Ok(unary(alloc, span, operator, x.get())?)
+}
+
+/// The branch that was taken, whose bits lose their bitfields.
+pub(crate) fn branch(alloc: Global, x: Result<Value, Unknown>) -> Result<Value, Unknown>
+    ensures { (r : Pure TheValue) → Finds value_of x r → Finds value_of result (r then λ y. Good (stripped y)) }
+{
+    let x = Held::new(x?);
+    Ok(strip(alloc, x.get())?)
 }
 
 /// How an operation goes on behind its left operand: `&&`, `||` and `-->` may be decided by it.
-pub(crate) fn decide(span: Span, op: BinaryOperator, x: Value) -> Result<Decision, Unknown>
-    ensures { Finds decision_of result (decided_by span (value_of x) (operators.strictness op)) }
+pub(crate) fn decide(span: Span, operator: BinaryOperator, x: Value) -> Result<Decision, Unknown>
+    ensures { Finds decision_of result (decided_by span (value_of x) (operators.strictness operator)) }
 {
-    match op {
+    match operator {
         BinaryOperator::LogicalAnd => decide_and(span, x),
         BinaryOperator::LogicalOr => decide_or(span, x),
         BinaryOperator::Implies => decide_implies(span, x),
@@ -90,16 +111,17 @@ fn decide_implies(span: Span, x: Value) -> Result<Decision, Unknown>
 /// An operation on two values, of which the left one asked for the right one.
 #[tactic(auto, using(crate::proofs::Deciding::asked_good, crate::proofs::Deciding::asked_bad))]
 pub(crate) fn of_two(
+    alloc: Global,
     span: Span,
-    op: BinaryOperator,
+    operator: BinaryOperator,
     x: Value,
     y: Result<Value, Unknown>,
 ) -> Result<Value, Unknown>
-    ensures { (left : TheValue) (b : Known) (names : List Entry) → decided_by span left (operators.strictness op) ≡ Good (Err (value_of x)) → Finds value_of y (b names) → Finds value_of result (behind_left span op left b names (operators.strictness op)) }
+    ensures { (left : TheValue) (b : Known) (names : List Entry) → decided_by span left (operators.strictness operator) ≡ Good (Err (value_of x)) → Finds value_of y (b names) → Finds value_of result (settled span names (forms.behind_left WIDTH_LIMIT span operator b left (operators.strictness operator) names)) }
 {
     let x = Held::new(x);
     let y = Held::new(y?);
-    Ok(binary(span, op, x.get(), y.get())?)
+    Ok(binary(alloc, span, operator, x.get(), y.get())?)
 }
 
 /// The tuple of these parts, which are the values of expressions in order.
@@ -108,28 +130,69 @@ pub(crate) fn tuple_of(
     alloc: Global,
     parts: Result<Items<Value>, Unknown>,
 ) -> Result<Value, Unknown>
-    ensures { (es : List Known) (names : List Entry) → Finds (map value_of) parts (known_after [] es names) → Finds value_of result (all_known es names then λ xs. Good (tuple_with (structures.values_of xs))) }
+    ensures { (span : Span) (es : List Known) (names : List Entry) → Finds (map value_of) parts (known_after [] es names) → Finds value_of result (with_all span es names (λ xs. Good (tuple_with (structures.values_of xs)))) }
 {
     Ok(tuple(alloc, parts?)?)
 }
 
 /// The element of an array at an index.
+#[tactic(auto, using(crate::proofs::Deciding::element_good, crate::proofs::Deciding::element_bad))]
 pub(crate) fn element(span: Span, x: Value, y: Result<Value, Unknown>) -> Result<Value, Unknown>
-    ensures { (r : Pure TheValue) → Finds value_of y r → Finds value_of result (r then λ i. structures.element_of span (value_of x) i) }
+    ensures { (e : Known) (names : List Entry) → Finds value_of y (e names) → Finds value_of result (settled span names (forms.behind e names (structures.element_of span (value_of x)))) }
 {
     let x = Held::new(x);
     let y = Held::new(y?);
     Ok(element_of(span, x.get(), y.get())?)
 }
 
-/// The value of a field.
-pub(crate) fn field_of(span: Span, name: &[u8], x: Value) -> Result<Value, Unknown>
-    ensures { Finds value_of result (structures.field_of span name.now (value_of x)) }
+/// The bits of slices of a value, whose expressions have these values in order.
+#[tactic(auto, using(crate::proofs::InOrder::all_good, crate::proofs::InOrder::all_bad))]
+pub(crate) fn sliced(
+    alloc: Global,
+    span: Span,
+    slices: &[Slice],
+    x: Value,
+    values: Result<Items<Value>, Unknown>,
+) -> Result<Value, Unknown>
+    ensures { (es : List Known) (names : List Entry) → Finds (map value_of) values (known_after [] es names) → Finds value_of result (with_all span es names (λ zs. vectors.slices_of WIDTH_LIMIT span (shapes_in itself (map known_slice slices.now)) zs (value_of x))) }
 {
     let x = Held::new(x);
-    match x.get() {
-        Value::Record(_, fields) => field_among(span, name, fields.get().as_slice()),
-        Value::Exception(_, _, _, fields) => field_among(span, name, fields.get().as_slice()),
-        _ => Err(Unknown::Stuck(Mistake::WrongKind, span)),
-    }
+    let values = Held::new(values?);
+    let shapes = slice_shapes(alloc, slices)?;
+    Ok(slices_of(
+        alloc,
+        span,
+        shapes.as_slice(),
+        values.get().as_slice(),
+        x.get(),
+    )?)
+}
+
+/// Whether a value matches a pattern, whose expressions have these values in order.
+#[tactic(auto, using(crate::proofs::InOrder::all_good, crate::proofs::InOrder::all_bad))]
+pub(crate) fn is_in(
+    alloc: Global,
+    pattern: &Pattern,
+    x: Value,
+    values: Result<Items<Value>, Unknown>,
+) -> Result<Value, Unknown>
+    ensures { (span : Span) (es : List Known) (names : List Entry) → Finds (map value_of) values (known_after [] es names) → Finds value_of result (with_all span es names (λ zs. matched_in_one WIDTH_LIMIT (known_pattern pattern.now).shape zs (value_of x))) }
+{
+    let x = Held::new(x);
+    let values = Held::new(values?);
+    let shape = Held::new(pattern_shape(alloc, pattern)?);
+    Ok(matched_in(alloc, shape.get(), values.get().as_slice(), x.get())?)
+}
+
+/// A call, which has no value before any run, behind its parameters and its arguments.
+pub(crate) fn barred(
+    span: Span,
+    params: Result<Items<Value>, Unknown>,
+    args: Result<Items<Value>, Unknown>,
+) -> Result<Value, Unknown>
+    ensures { (r s : Pure (List TheValue)) → Finds (map value_of) params r → Finds (map value_of) args s → Finds value_of result (r then λ ys. s then λ xs. Bad (Stuck CallBarred span)) }
+{
+    drop(params?);
+    drop(args?);
+    Err(Unknown::Stuck(Mistake::CallBarred, span))
 }

@@ -5,15 +5,17 @@ use asl_syn::token::Span;
 use asl_value::Failure;
 use std::alloc::{AllocError, AllocFailed};
 
-/// Why the rules give an expression no value. No expression that has a type meets one.
+/// Why the rules give an expression no value. No expression that has a type meets one but a name without a value, or a call.
 #[derive(Clone, Copy)]
 pub(crate) enum Mistake {
     /// A name without a value, or no type.
     UnknownName,
-    /// A form that isn't served.
-    UnservedForm,
     /// A value of another kind than is asked for.
     WrongKind,
+    /// A written type that is none.
+    UnknownType,
+    /// A call.
+    CallBarred,
 }
 
 /// Why an evaluation ends without a value.
@@ -59,6 +61,7 @@ impl From<Failure> for Unknown {
         match failure {
             Failure::Fault(code, span) => Unknown::Fault(code, span),
             Failure::WrongKind(span) => Unknown::Stuck(Mistake::WrongKind, span),
+            Failure::UnknownType(span) => Unknown::Stuck(Mistake::UnknownType, span),
             Failure::NoMemory => Unknown::NoMemory,
         }
     }

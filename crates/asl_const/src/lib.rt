@@ -1,9 +1,13 @@
-//! The values of expressions that are known before any run.
+//! The values of constants.
 #![tactic(auto)]
 
 mod applying;
-mod evaluate;
+mod constants;
+mod constructing;
+mod conversions;
 mod failure;
-mod structures;
+mod fields;
+mod inside;
+mod shapes;
 
-pub use evaluate::eval_const;
+pub use constants::known;

@@ -1,24 +1,10 @@
-pub mod Settling
-pub mod SameNames
-pub mod Rounds
-pub mod Reaching
-pub mod Walks
-pub mod KnownLemmas
-pub mod Declaring
-pub mod Marks
-pub mod Bridge
-pub mod Passing
-pub mod Ways
-pub mod CycleLemmas
-pub mod UsedForms
-pub mod Scoping
-pub mod NoneTwice
-pub mod Serving
-pub mod Judgements
-pub mod TableLemmas
-pub mod Keeping
-pub mod GlobalLemmas
-pub mod LibraryNames
-pub mod DefinitionLemmas
-pub mod KindLemmas
-pub mod OnceLemmas
+mod ApartLemmas
+mod FreeLemmas
+mod HeadLemmas
+mod LimitLemmas
+mod NoneTwice
+mod Outside
+mod SameHeads
+mod SignatureLemmas
+mod TableLemmas
+mod WordLemmas

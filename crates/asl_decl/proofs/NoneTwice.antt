@@ -1,72 +1,24 @@
 -- Where no subprograms share a name either, the scope of all bodies has each name once.
-use Rattle.std.proofs.Common.{◌≡◌, ℕ, Bool, true, false, not, cond, List, [], ◌∷◌, ◌++◌, Some, None, Ok, refl, sym, ap, ◌∙◌, subst, map}
-use Rattle.std.specs.Prelude.{if◌then◌else◌}
+use Rattle.std.proofs.Common.{◌≡◌, ℕ, suc, Bool, true, false, cond, List, [], ◌∷◌, ◌++◌, length, Some, None, Ok, refl, sym, ap, ◌∙◌, subst, map}
 use Rattle.std.proofs.lemmas.List.{append-nil}
 use Rattle.std.specs.Str.{bytes_eq}
-use Rattle.asl_syn.specs.declared.code.StaticCode.TheVariants.{T10}
 use Rattle.asl_syn.specs.declared.tree.Ident.{Ident}
 use Rattle.asl_syn.specs.declared.tree.Decl.{Decl}
 use Rattle.asl_syn.specs.declared.tree.Decl.TheVariants as dc
-use Rattle.asl_syn.specs.declared.tree.Func.{Func}
-use Rattle.asl_rules.specs.Faults.{need}
+use Rattle.asl_rules.specs.Tests.{Tests}
 use Rattle.asl_rules.specs.Names.{library, Declared, declared_as, labels_of, declared_by, names_rule, all_declared}
 use Rattle.asl_rules.specs.Scopes.{Entry, subprogram, standing_of}
 use Rattle.asl_rules.specs.Declarations.{Judged, Waiting, Fine, Faulty, entries_of, entries, final, names_of_program}
-use Rattle.asl_rules.specs.Programs.{funcs_of, has_name, overloads_rule}
-use Rattle.asl_rules.proofs.Inversions.{then_ok, need_ok}
-use Rattle.asl_rules.proofs.Tests.{no, same_name, name_is}
-use Rattle.asl_rules.proofs.Lookups.{behind}
-use Rattle.asl_rules.proofs.Distinct.{Distinct, ApartFrom, NotIn, AllNamed, distinct_of, differs, apart_later, behind_library}
-use Rattle.asl_decl.proofs.Rounds.{Named, final_named}
-use Rattle.asl_decl.proofs.Passing.{with_all}
-use Rattle.asl_decl.proofs.Scoping.{AllNew, all_kept}
-
--- ---- subprograms of distinct names
-
-abbrev NoFunc : List ℕ → List Func → Type 0
-NoFunc n [] = Unit {0}
-NoFunc n (g ∷ gs) = (bytes_eq g.name.text n ≡ false) × NoFunc n gs
-
-abbrev FuncsApart : List Func → Type 0
-FuncsApart [] = Unit {0}
-FuncsApart (f ∷ fs) = NoFunc f.name.text fs × FuncsApart fs
-
-has_more : (b : Bool) (p q : Bool) → (p ≡ true → q ≡ true) → (if b then true else p) ≡ true → (if b then true else q) ≡ true
-has_more true p q f h = refl
-has_more false p q f h = f h
-
-has_before : (before : List Func) (f : Func) (n : List ℕ) → has_name before n ≡ true → has_name (before ++ f ∷ []) n ≡ true
-has_before [] f n h = no h
-has_before (g ∷ before) f n h = has_more (bytes_eq g.name.text n) (has_name before n) (has_name (before ++ f ∷ []) n) (has_before before f n) h
-
-has_here : (b q : Bool) → q ≡ true → (if b then true else q) ≡ true
-has_here true q h = refl
-has_here false q h = h
-
-has_last : (before : List Func) (f : Func) → has_name (before ++ f ∷ []) f.name.text ≡ true
-has_last [] f = ap (λ b. if b then true else false) (name_is f.name.text)
-has_last (g ∷ before) f = has_here (bytes_eq g.name.text f.name.text) (has_name (before ++ f ∷ []) f.name.text) (has_last before f)
-
-not_true : (b : Bool) → not b ≡ true → b ≡ false
-not_true true h = no h
-not_true false h = refl
-
-no_func : (fs before : List Func) (n : List ℕ) → overloads_rule before fs ≡ Ok tt → has_name before n ≡ true → NoFunc n fs
-no_func [] before n k h = tt
-no_func (g ∷ gs) before n k h =
-    let p = then_ok (need (not (has_name before g.name.text)) T10 g.name.span) (overloads_rule (before ++ g ∷ []) gs) tt k in
-    let free = not_true (has_name before g.name.text) (need_ok (not (has_name before g.name.text)) T10 g.name.span tt p.first) in
-    (by (bytes_eq g.name.text n) refl free, no_func gs (before ++ g ∷ []) n p.then (has_before before g n h))
-  where
-    by : (b : Bool) → bytes_eq g.name.text n ≡ b → has_name before g.name.text ≡ false → b ≡ false
-    by false e f = refl
-    by true e f = no (sym (ap (has_name before) (sym (same_name g.name.text n e)) ∙ f) ∙ h)
-
-funcs_apart : (fs before : List Func) → overloads_rule before fs ≡ Ok tt → FuncsApart fs
-funcs_apart [] before k = tt
-funcs_apart (f ∷ fs) before k =
-    let p = then_ok (need (not (has_name before f.name.text)) T10 f.name.span) (overloads_rule (before ++ f ∷ []) fs) tt k in
-    (no_func fs (before ++ f ∷ []) f.name.text p.then (has_last before f), funcs_apart fs (before ++ f ∷ []) p.then)
+use Rattle.asl_rules.specs.Programs.{funcs_of}
+use Rattle.asl_rules.proofs.basics.Tests.{no, same_name, name_is}
+use Rattle.asl_rules.proofs.scopes.Lookups.{behind}
+use Rattle.asl_rules.proofs.verdict.Distinct.{Distinct, ApartFrom, NotIn, AllNamed, distinct_of, differs, apart_later, behind_library}
+use Rattle.asl_rules.proofs.verdict.Settled.{named_at}
+use Rattle.asl_judge.proofs.Serves.{Named}
+use Rattle.asl_judge.proofs.Passing.{with_all}
+use Rattle.asl_judge.proofs.Scoping.{AllNew, all_kept}
+use Rattle.asl_decl.specs.Signatures.{apart_rule}
+use Rattle.asl_decl.proofs.ApartLemmas.{NoFunc, FuncsApart, funcs_apart}
 
 -- ---- declared names that stand once
 
@@ -169,7 +121,8 @@ none_library [] d = tt
 none_library (x ∷ xs) d = (sym (ap (standing_of x.name.text) (append-nil (map subprogram library))) ∙ behind_library x.name.text [] d.0, none_library xs d.2)
 
 -- where names are distinct and no subprograms share one, the names that are kept are those of the program
-pub scope_is : (ds : List Decl) → names_rule [] (all_declared ds) ≡ Ok tt → overloads_rule [] (funcs_of ds) ≡ Ok tt → with_all (entries (final ds) ds) (map subprogram library) ≡ names_of_program ds
-scope_is ds h o =
+pub scope_is : (t : Tests) (ds : List Decl) → names_rule [] (all_declared ds) ≡ Ok tt → apart_rule (funcs_of ds) ≡ Ok tt → with_all (entries (final t ds) ds) (map subprogram library) ≡ names_of_program t ds
+scope_is t ds h o =
     let d = distinct_of (all_declared ds) [] h in
-    all_kept (entries (final ds) ds) (map subprogram library) (new_entries (final ds) (final_named ds d) ds (map subprogram library) (none_library (all_declared ds) d) (strict ds d (funcs_apart (funcs_of ds) [] o)))
+    all_kept (entries (final t ds) ds) (map subprogram library)
+    (new_entries (final t ds) (named_at t ds d (suc (length ds))) ds (map subprogram library) (none_library (all_declared ds) d) (strict ds d (funcs_apart (funcs_of ds) o)))

@@ -1,31 +1,33 @@
--- The judgements of all declarations are the rule of their faults, and the scope of all bodies.
+-- What declarations bring, from the judgements of all and the signatures over the names that are kept.
 use Rattle.std.proofs.Common.{◌≡◌, List, [], ◌∷◌, ◌++◌, map, Result, Ok, Err, refl, sym, ap, ◌∙◌}
 use Rattle.asl_syn.specs.declared.code.Fault.{Fault}
 use Rattle.asl_syn.specs.declared.tree.Decl.{Decl}
+use Rattle.asl_syn.specs.declared.tree.Func.{Func}
 use Rattle.asl_rules.specs.Faults.{◌>>=◌, ◌>>◌}
+use Rattle.asl_rules.specs.Tests.{Tests}
 use Rattle.asl_rules.specs.Names.{library, names_rule, all_declared}
 use Rattle.asl_rules.specs.Uses.{cycles_rule}
-use Rattle.asl_rules.specs.Scopes.{Entry, subprogram}
-use Rattle.asl_rules.specs.States.{Binding}
-use Rattle.asl_rules.specs.Declarations.{Judged, entries_of, entries, faulty, final, faults_rule, names_of_program}
-use Rattle.asl_rules.specs.Programs.{funcs_of, signatures_rule, overloads_rule}
-use Rattle.asl_rules.specs.Evaluation.{globals_among, initial_globals}
-use Rattle.asl_decl.specs.Brought.{with_entries}
-use Rattle.asl_decl.specs.Cycles.{order_rule}
-use Rattle.asl_decl.specs.Passes.{first_fault, with_judgements, names_judged}
-use Rattle.asl_decl.specs.Tables.{table_rule, declarations_rule, subprograms_rule}
-use Rattle.asl_rules.proofs.Inversions.{then_ok}
-use Rattle.asl_decl.proofs.Passing.{with_free, with_all}
-use Rattle.asl_decl.proofs.Scoping.{with_all_same, signatures_same}
+use Rattle.asl_rules.specs.Scopes.{Entry, Signature, subprogram}
+use Rattle.asl_rules.specs.Declarations.{Judged, entries_of, entries, final, faults_rule, names_of_program}
+use Rattle.asl_rules.specs.Programs.{Head, funcs_of, signatures_rule, overloads_rule}
+use Rattle.asl_rules.proofs.basics.Inversions.{then_ok}
+use Rattle.asl_names.specs.Cycles.{order_rule}
+use Rattle.asl_judge.specs.Brought.{with_entries}
+use Rattle.asl_judge.specs.Passes.{with_judgements, names_judged}
+use Rattle.asl_judge.specs.Tables.{declarations_rule}
+use Rattle.asl_judge.proofs.Passing.{with_free, with_all}
+use Rattle.asl_judge.proofs.PhaseLemmas.{names_first}
+use Rattle.asl_judge.proofs.Scoping.{with_all_same}
+use Rattle.asl_judge.proofs.Serving.{entries_all}
+use Rattle.asl_decl.specs.Heads.{heads_of, Declared, declared_with, declared_rule}
+use Rattle.asl_decl.specs.Signatures.{signatures_found, signatures_after, apart_rule, declared_found}
+use Rattle.asl_decl.proofs.ApartLemmas.{overloads_are}
 use Rattle.asl_decl.proofs.NoneTwice.{scope_is}
-use Rattle.asl_decl.proofs.Serving.{entries_all}
+use Rattle.asl_decl.proofs.Outside.{names_atoms, kept_atoms}
+use Rattle.asl_decl.proofs.SameHeads.{SameNames, signatures_same}
+use Rattle.asl_decl.proofs.SignatureLemmas.{heads_are, signed, signatures_are}
 
--- the first fault in source order
-pub first_is : (all ds : List Decl) → first_fault (map (final all) ds) ≡ faults_rule all ds
-first_is all [] = refl
-first_is all (d ∷ ds) = ap (λ r. faulty (final all d) >> r) (first_is all ds)
-
--- ---- the scope
+-- ---- the names
 
 all_both : (xs ys es : List Entry) → with_all (xs ++ ys) es ≡ with_all ys (with_all xs es)
 all_both [] ys es = refl
@@ -38,60 +40,76 @@ with_all_judged f (d ∷ ds) es =
     ∙ ap (with_all (entries f ds)) (entries_all (entries_of (f d)) es)
     ∙ sym (all_both (entries_of (f d)) (entries f ds) es)
 
--- ---- the rule, in two steps
+module _ (t : Tests) (ds : List Decl) where
+  abbrev kept_names : List Entry
+  kept_names = with_all (entries (final t ds) ds) (map subprogram library)
 
-three_steps : (a b c : Result (Unit {0}) Fault) (names : List Entry) (rest : List Entry → Result (List Entry) Fault) → (a >> (b >> ((c >> Ok names) >>= rest))) ≡ (((a >> b) >> c) >> rest names)
-three_steps (Ok x) (Ok y) (Ok z) names rest = refl
-three_steps (Ok x) (Ok y) (Err f) names rest = refl
-three_steps (Ok x) (Err f) c names rest = refl
-three_steps (Err f) b c names rest = refl
+  names_kept : (names : List Entry) → names ≡ names_judged t ds → names ≡ kept_names
+  names_kept names n = n ∙ with_all_judged (final t ds) ds (map subprogram library)
 
-two_steps : (s o : Result (Unit {0}) Fault) (names : List Entry) → (s >> (o >> Ok names)) ≡ ((s >> o) >> Ok names)
-two_steps (Ok x) o names = refl
-two_steps (Err f) o names = refl
+  names_same : SameNames (names_of_program t ds) kept_names
+  names_same = record {
+    stands = with_all_same (entries (final t ds) ds) (map subprogram library);
+    atoms = names_atoms t ds ∙ sym (kept_atoms t ds);
+  }
 
-table_is : (ds : List Decl) → table_rule ds ≡ (declarations_rule ds >> (subprograms_rule (names_of_program ds) ds >> Ok (names_of_program ds)))
-table_is ds =
-    three_steps (names_rule [] (all_declared ds)) (cycles_rule ds ds) (faults_rule ds ds) (names_of_program ds) (λ names. signatures_rule names (funcs_of ds) >> (overloads_rule [] (funcs_of ds) >> Ok names))
-    ∙ ap (λ r. declarations_rule ds >> r) (two_steps (signatures_rule (names_of_program ds) (funcs_of ds)) (overloads_rule [] (funcs_of ds)) (names_of_program ds))
+  -- ---- the rule, in two steps
 
-pub table_stop : (ds : List Decl) (f : Fault) → declarations_rule ds ≡ Err f → table_rule ds ≡ Err f
-table_stop ds f h = table_is ds ∙ ap (λ r. r >> (subprograms_rule (names_of_program ds) ds >> Ok (names_of_program ds))) h
+  abbrev subprograms_rule : List Entry → Result Declared Fault
+  subprograms_rule N = signatures_rule t N (funcs_of ds) >>= λ hs. overloads_rule [] hs >> Ok (declared_with N hs)
 
-table_then : (ds : List Decl) (r : Result (Unit {0}) Fault) → declarations_rule ds ≡ Ok tt → subprograms_rule (names_of_program ds) ds ≡ r → table_rule ds ≡ (r >> Ok (names_of_program ds))
-table_then ds r h k = table_is ds ∙ ap (λ q. q >> (subprograms_rule (names_of_program ds) ds >> Ok (names_of_program ds))) h ∙ ap (λ q. q >> Ok (names_of_program ds)) k
+  three_steps : (a b c : Result (Unit {0}) Fault) (N : List Entry) → (a >> b >> (c >> Ok N) >>= subprograms_rule) ≡ (((a >> b) >> c) >> subprograms_rule N)
+  three_steps (Ok x) (Ok y) (Ok z) N = refl
+  three_steps (Ok x) (Ok y) (Err f) N = refl
+  three_steps (Ok x) (Err f) c N = refl
+  three_steps (Err f) b c N = refl
 
--- ---- the names of these judgements
+  declared_is : declared_rule t ds ≡ (declarations_rule t ds >> subprograms_rule (names_of_program t ds))
+  declared_is = three_steps (names_rule [] (all_declared ds)) (cycles_rule ds ds) (faults_rule t ds ds) (names_of_program t ds)
 
-same_names : (ds : List Decl) (names : List Entry) → names ≡ names_judged ds → names ≡ with_all (entries (final ds) ds) (map subprogram library)
-same_names ds names n = n ∙ with_all_judged (final ds) ds (map subprogram library)
+  then_subprograms : declarations_rule t ds ≡ Ok tt → declared_rule t ds ≡ subprograms_rule (names_of_program t ds)
+  then_subprograms h = declared_is ∙ ap (λ r. r >> subprograms_rule (names_of_program t ds)) h
 
-subprograms_same : (ds : List Decl) (names : List Entry) → names ≡ with_all (entries (final ds) ds) (map subprogram library) → subprograms_rule (names_of_program ds) ds ≡ subprograms_rule names ds
-subprograms_same ds names e =
-    ap (λ r. r >> overloads_rule [] (funcs_of ds))
-    (signatures_same (names_of_program ds) (with_all (entries (final ds) ds) (map subprogram library)) (with_all_same (entries (final ds) ds) (map subprogram library)) (funcs_of ds))
-    ∙ ap (λ l. subprograms_rule l ds) (sym e)
+  -- ---- subprograms
 
-pub names_first : (ds : List Decl) → order_rule ds ≡ Ok tt → names_rule [] (all_declared ds) ≡ Ok tt
-names_first ds h = (then_ok (names_rule [] (all_declared ds)) (cycles_rule ds ds) tt h).first
+  found_same : (names : List Entry) → names ≡ names_judged t ds → signatures_found t (funcs_of ds) (names_of_program t ds) ≡ signatures_after t [] (funcs_of ds) names
+  found_same names n =
+      signatures_same t (funcs_of ds) (names_of_program t ds) kept_names names_same
+      ∙ ap (signatures_found t (funcs_of ds)) (sym (names_kept names n))
+      ∙ sym (signatures_are t (funcs_of ds) names)
 
-pub declarations_stop : (ds : List Decl) (f : Fault) → order_rule ds ≡ Err f → declarations_rule ds ≡ Err f
-declarations_stop ds f h = ap (λ r. r >> faults_rule ds ds) h
+  abbrev by_heads : List Entry → Result (List Signature) Fault → Result Declared Fault
+  by_heads N r = (r >>= λ ss. Ok (heads_of N (funcs_of ds) ss)) >>= λ (hs : List Head). overloads_rule [] hs >> Ok (declared_with N hs)
 
-pub declarations_then : (ds : List Decl) (js : List Judged) (r : Result (Unit {0}) Fault) → order_rule ds ≡ Ok tt → js ≡ map (final ds) ds → first_fault js ≡ r → declarations_rule ds ≡ r
-declarations_then ds js r h j k = ap (λ q. q >> faults_rule ds ds) h ∙ sym (first_is ds ds) ∙ ap first_fault (sym j) ∙ k
+  subprograms_are : (names : List Entry) (r : Result (List Signature) Fault) → names ≡ names_judged t ds → signatures_after t [] (funcs_of ds) names ≡ r → subprograms_rule (names_of_program t ds) ≡ by_heads (names_of_program t ds) r
+  subprograms_are names r n k =
+      ap (λ (q : Result (List Head) Fault). q >>= λ hs. overloads_rule [] hs >> Ok (declared_with (names_of_program t ds) hs)) (heads_are t (funcs_of ds) (names_of_program t ds))
+      ∙ ap (by_heads (names_of_program t ds)) (found_same names n ∙ k)
 
-pub table_faulty : (ds : List Decl) (names : List Entry) (f : Fault) → declarations_rule ds ≡ Ok tt → names ≡ names_judged ds → subprograms_rule names ds ≡ Err f → table_rule ds ≡ Err f
-table_faulty ds names f h n k = table_then ds (Err f) h (subprograms_same ds names (same_names ds names n) ∙ k)
+  overloads_at : (ss : List Signature) → signatures_found t (funcs_of ds) (names_of_program t ds) ≡ Ok ss → overloads_rule [] (heads_of (names_of_program t ds) (funcs_of ds) ss) ≡ apart_rule (funcs_of ds)
+  overloads_at ss k = overloads_are (names_of_program t ds) (funcs_of ds) ss (signed t (funcs_of ds) (names_of_program t ds) ss k)
 
-names_are : (ds : List Decl) (names : List Entry) → declarations_rule ds ≡ Ok tt → names ≡ names_judged ds → subprograms_rule names ds ≡ Ok tt → names ≡ names_of_program ds
-names_are ds names h n k =
-    let first = names_first ds (then_ok (order_rule ds) (faults_rule ds ds) tt h).first in
-    let last = (then_ok (signatures_rule names (funcs_of ds)) (overloads_rule [] (funcs_of ds)) tt k).then in
-    same_names ds names n ∙ scope_is ds first last
+  names_are : (names : List Entry) → declarations_rule t ds ≡ Ok tt → names ≡ names_judged t ds → apart_rule (funcs_of ds) ≡ Ok tt → names_of_program t ds ≡ names
+  names_are names h n o = sym (names_kept names n ∙ scope_is t ds (names_first ds (then_ok (order_rule ds) (faults_rule t ds ds) tt h).first) o)
 
-pub table_whole : (ds : List Decl) (names : List Entry) → declarations_rule ds ≡ Ok tt → names ≡ names_judged ds → subprograms_rule names ds ≡ Ok tt → table_rule ds ≡ Ok names
-table_whole ds names h n k = table_then ds (Ok tt) h (subprograms_same ds names (same_names ds names n) ∙ k) ∙ ap Ok (sym (names_are ds names h n k))
+  by_found : (names : List Entry) (r : Result (List Signature) Fault) → declarations_rule t ds ≡ Ok tt → names ≡ names_judged t ds → signatures_found t (funcs_of ds) (names_of_program t ds) ≡ r →
+      by_heads (names_of_program t ds) r ≡ (r >>= λ ss. apart_rule (funcs_of ds) >> Ok (declared_with names (heads_of names (funcs_of ds) ss)))
+  by_found names (Err f) h n k = refl
+  by_found names (Ok ss) h n k =
+      ap (λ (q : Result (Unit {0}) Fault). q >> Ok (declared_with (names_of_program t ds) (heads_of (names_of_program t ds) (funcs_of ds) ss))) (overloads_at ss k)
+      ∙ by (apart_rule (funcs_of ds)) refl (names_are names h n)
+    where
+      by : (q : Result (Unit {0}) Fault) → apart_rule (funcs_of ds) ≡ q → (apart_rule (funcs_of ds) ≡ Ok tt → names_of_program t ds ≡ names) →
+          (q >> Ok (declared_with (names_of_program t ds) (heads_of (names_of_program t ds) (funcs_of ds) ss))) ≡ (q >> Ok (declared_with names (heads_of names (funcs_of ds) ss)))
+      by (Err f) o e = refl
+      by (Ok tt) o e = ap (λ N. Ok (declared_with N (heads_of N (funcs_of ds) ss))) (e o)
 
-pub initial_is : (ds : List Decl) (names : List Entry) (bs : List Binding) → declarations_rule ds ≡ Ok tt → names ≡ names_judged ds → subprograms_rule names ds ≡ Ok tt → bs ≡ globals_among ds names → bs ≡ initial_globals ds
-initial_is ds names bs h n k e = e ∙ ap (globals_among ds) (names_are ds names h n k)
+  found_is : (names : List Entry) → declarations_rule t ds ≡ Ok tt → names ≡ names_judged t ds → declared_rule t ds ≡ declared_found t (funcs_of ds) names
+  found_is names h n =
+      then_subprograms h ∙ subprograms_are names (signatures_found t (funcs_of ds) (names_of_program t ds)) n (sym (found_same names n))
+      ∙ by_found names (signatures_found t (funcs_of ds) (names_of_program t ds)) h n refl
+      ∙ ap (λ (r : Result (List Signature) Fault). r >>= λ ss. apart_rule (funcs_of ds) >> Ok (declared_with names (heads_of names (funcs_of ds) ss))) (found_same names n)
+
+  -- where names, order, types and storage are well formed, what is left is found over the names that are kept
+  pub table_then : (names : List Entry) (fs : List Func) → declarations_rule t ds ≡ Ok tt → names ≡ names_judged t ds → fs ≡ funcs_of ds → declared_rule t ds ≡ declared_found t fs names
+  table_then names fs h n e = found_is names h n ∙ ap (λ gs. declared_found t gs names) (sym e)

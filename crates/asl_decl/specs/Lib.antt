@@ -1,10 +1,6 @@
-pub mod Brought
-pub mod Known
-pub mod Graphs
-pub mod Orders
-pub mod Cycles
-pub mod Passes
-pub mod Progresses
-pub mod Tables
-pub mod Barred
-pub mod Definitions
+pub mod Free
+pub mod Heads
+pub mod HeadTypes
+pub mod HeadViews
+pub mod Limits
+pub mod Signatures

@@ -1,28 +1,17 @@
-//! Declarations of types and of storage, in any order.
+//! What the declarations of a program bring, before its bodies are checked.
 #![tactic(auto)]
 
-mod barred;
-mod cycles;
-mod declarers;
-mod definitions;
-mod globals;
-mod graph;
-mod judging;
-mod library;
-mod listed;
-mod names;
-mod order;
-mod ordered;
-mod outcome;
-mod overloads;
-mod pass;
-mod reach;
+mod apart;
+mod bodies;
+mod counting;
+mod entry;
+mod free;
+mod heads;
+mod limit;
 mod signatures;
-mod storage;
 mod table;
-mod used;
-mod value_kind;
-mod visible;
 
-pub use signatures::result_type;
+pub use bodies::enter_body;
+pub use counting::{itself, next_itself};
+pub use entry::find_entry;
 pub use table::Table;

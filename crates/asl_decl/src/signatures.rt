@@ -1,41 +1,83 @@
-//! The results of subprograms.
+//! The signatures of subprograms, in source order.
 
-ghost use Rattle.std.specs.Option.{option_map};
-ghost use Rattle.asl_rules.specs.Programs as rules;
-ghost use Rattle.asl_types.specs.Answers.{Met, Agrees};
-ghost use Rattle.asl_types.specs.View.{ty_of};
+ghost use Rattle.std.specs.Prelude.{◌≡◌, [], length, map, IfOk};
+ghost use Rattle.asl_rules.specs.Programs as programs;
+ghost use Rattle.asl_rules.specs.Tests.{Tests};
+ghost use Rattle.asl_types.specs.Answers.{Agrees};
+ghost use Rattle.asl_types.specs.Suits.{Suits};
+ghost use Rattle.asl_types.specs.View.{parts_of};
+ghost use Rattle.asl_decl.specs.HeadViews.{types_of};
+ghost use Rattle.asl_decl.specs.Signatures as rules;
 
-use crate::definitions::written;
+use crate::free::check_free;
+use crate::heads::{HeadTypes, head_types};
+use crate::limit::limit_of;
+use asl_judge::name_of;
+use asl_rules::effect::Effect;
 use asl_syn::code::Refused;
-use asl_syn::tree::{Decl, TypeExpr};
-use asl_types::{Scope, Ty};
-use std::alloc::Global;
+use asl_syn::tree::{Func, Qualifier};
+use asl_types::{Scope, Signature, Subprograms};
+use asl_value::Name;
+use std::alloc::{AllocError, Global};
 
-/// The type of what a body returns, none in a procedure.
-pub fn result_type(
-    alloc: Global,
-    names: &Scope,
-    t: &Option<TypeExpr>,
-) -> Result<Option<Ty>, Refused>
-    ensures { Met (option_map ty_of) result (rules.result_rule names.now t.now) }
+/// The greatest effect in a body.
+fn class_of(qualifier: Qualifier) -> Effect
+    ensures { result ≡ programs.class_of qualifier }
 {
-    match t {
-        None => Ok(None),
-        Some(t) => {
-            let result = written(alloc, t, names)?;
-            Ok(Some(result))
-        }
+    match qualifier {
+        Qualifier::Unqualified => Effect::Writes,
+        Qualifier::Pure => Effect::Pure,
+        Qualifier::Readonly => Effect::Readonly,
     }
 }
 
-/// The signatures of all subprograms, in source order.
-pub(crate) fn check_signatures(alloc: Global, names: &Scope, decls: &[Decl]) -> Result<(), Refused>
-    ensures { Agrees result (rules.signatures_rule names.now (rules.funcs_of decls.now)) }
+/// The signature of these types.
+fn with_types(name: Name, class: Effect, types: HeadTypes, limit: i128) -> Signature
+    ensures { result ≡ record { name = name; class = class; params = types.params; formals = parts_of types.formals; result = types.result; limit = limit } }
 {
-    for d in decls {
-        if let Decl::Func(f) = d {
-            result_type(alloc, names, &f.result)?;
-        }
+    Signature::new(
+        name,
+        class,
+        types.params,
+        types.formals,
+        types.result,
+        limit,
+    )
+}
+
+/// The signature of a subprogram, over the names outside bodies.
+fn find_signature<'a>(
+    alloc: Global,
+    names: &mut Scope<'a>,
+    none: &Subprograms,
+    f: &'a Func,
+) -> Result<Signature, Refused>
+    requires { none.now ≡ [] }
+    ensures rule { (t : Tests) → Suits t → Agrees result (rules.signature_found t f.now names.old) }
+    ensures names { IfOk result (λ _. names.new ≡ names.old) }
+{
+    check_free(alloc, f, names)?;
+    let name = name_of(alloc, f.name.text.as_slice())?;
+    let types = head_types(alloc, names, none, f)?;
+    let limit = limit_of(alloc, names, none, f, types.params.as_slice())?;
+    Ok(with_types(name, class_of(f.qualifier), types, limit))
+}
+
+/// The signatures of subprograms in order, over the names outside bodies: the fault of the first that has one.
+pub(crate) fn find_signatures<'a>(
+    alloc: Global,
+    names: &mut Scope<'a>,
+    funcs: &[&'a Func],
+) -> Result<Subprograms, Refused>
+    ensures rule { (t : Tests) → Suits t → Agrees result (rules.signatures_after t [] (map (λ f. f.now) funcs.now) names.old) }
+    ensures names { IfOk result (λ _. names.new ≡ names.old) }
+    ensures many { IfOk result (λ subs. length subs ≡ length funcs.now) }
+{
+    let none = Subprograms::new(alloc);
+    let mut subs = Subprograms::new(alloc);
+    for f in funcs {
+        let signature = find_signature(alloc, names, &none, f)?;
+        subs.push(signature)?;
     }
-    Ok(())
+    Ok(subs)
 }

@@ -1,45 +1,81 @@
 //! Constructions of records and exceptions. The fields of the type and those that are given are found by the first places
 //! of their names, so that a construction takes no walk over the others for each field.
 
-ghost use Rattle.std.specs.Prelude.{◌≡◌, ℕ, List, [], map, take, slice_get, Option, Some, IfOk};
-ghost use Rattle.std.specs.Option.{option_map};
-ghost use Rattle.asl_rules.specs.Exprs as rules;
-ghost use Rattle.asl_rules.specs.Exprs.{names_given, values_given, has_name};
-ghost use Rattle.asl_rules.specs.Scopes.{type_of_name};
-ghost use Rattle.asl_rules.specs.Types as types;
-ghost use Rattle.asl_tree.specs.declared.typed.TypedExpr.{TypedExpr, roll-TypedExpr};
+ghost use Rattle.std.specs.Prelude.{◌≡◌, ℕ, List, [], take, slice_get, Some, option_map, IfOk};
 ghost use Rattle.asl_rules.specs.Faults.{found_or};
-ghost use Rattle.asl_tree.specs.declared.typed.TypedExpr.TheOpen as te;
-ghost use Rattle.asl_tree.specs.Elaboration as elaboration;
+ghost use Rattle.asl_rules.specs.Layouts.{place_of};
+ghost use Rattle.asl_rules.specs.Members as rules;
+ghost use Rattle.asl_rules.specs.Members.{has_name, numbered};
+ghost use Rattle.asl_rules.specs.Tests.{Tests, IsRight};
+ghost use Rattle.asl_rules.specs.Trees.{record_shell, exception_shell};
+ghost use Rattle.asl_value.specs.Forms.{shell_of};
+ghost use Rattle.asl_shape.specs.View.{given_view, all_given};
 ghost use Rattle.asl_types.specs.Answers.{Met};
-ghost use Rattle.asl_types.specs.Firsts.{placed};
-ghost use Rattle.asl_types.specs.Judged.{scope_in};
-ghost use Rattle.asl_types.specs.Places.{place_of};
-ghost use Rattle.asl_types.specs.View.{ty_of, field_of, all_fields};
-ghost use Rattle.asl_expr.specs.Constructs.{found_field, found_fields, names_of_fields, construction, construction_of, given_type, given_fit, construct_of};
-ghost use Rattle.asl_expr.specs.Views.{typed_of, all_operands};
+ghost use Rattle.asl_types.specs.ContextView.{scope_of};
+ghost use Rattle.asl_types.specs.View.{fields_of};
+ghost use Rattle.asl_tree.specs.View.{typed_of, all_operands};
+ghost use Rattle.asl_rules.specs.Scopes.{type_of_name};
+ghost use Rattle.asl_expr.specs.Constructs.{given_name, given_names, given_texts, field_name, field_ty, field_names, making, made_as, made_of, built_view, given_type, given_fit, construction_of};
+ghost use Rattle.asl_names.specs.Firsts.{placed};
 
-use crate::ends::finish_all;
+use crate::ends::{all_together, greatest, keep_class, stand_together};
 use crate::trees;
-use crate::typed::{Operand, Typed};
+use asl_names::firsts::Firsts;
 use asl_rules::effect::Effect;
+use asl_shape::FieldGiven;
 use asl_shared::Shared;
 use asl_syn::code::{Refused, StaticCode};
 use asl_syn::token::Span;
 use asl_syn::tree::{FieldValue, Ident};
-use asl_tree::typed::TypedExpr;
+use asl_tree::tree::{Note, Tree};
 use asl_types::answer::fault;
-use asl_types::firsts::Firsts;
+use asl_types::effects::greater;
 use asl_types::fits::misfit;
-use asl_types::structure::fields_of;
-use asl_types::{FieldType, Scope, Ty};
-use asl_value::{GivenField, Name, Names, Shell};
-use sqlite_items::Items;
+use asl_types::{Context, FieldType, Form, Ty};
+use asl_value::{Name, Names, Shell};
+use sqlite_items::{Boxed, Items};
 use std::alloc::{AllocError, Global};
+
+/// What is constructed: where, by which name, and with which fields.
+#[derive(Clone, Copy)]
+pub(crate) struct Site<'g> {
+    pub span: Span,
+    pub name: &'g Ident,
+    pub given: &'g [FieldValue],
+}
+
+/// What is built: what it is made by, and the fields of its type.
+pub(crate) struct Built<'t> {
+    shell: Shell,
+    fields: &'t [FieldType],
+}
+
+// By hand, so that a drop of one is a call, as `Held` of asl_shared says.
+impl<'t> Drop for Built<'t> {
+    fn drop(self) {
+        let Built {
+            shell: _shell,
+            fields: _fields,
+        } = self;
+    }
+}
+
+impl<'t> Built<'t> {
+    /// What it is made by.
+    fn into_shell(self) -> Shell
+        ensures { shell_of result ≡ (built_view self.entry).shell }
+    {
+        let Built {
+            shell,
+            fields: _fields,
+        } = self;
+        shell
+    }
+}
 
 /// The name of a field of a type.
 fn name_of(field: &FieldType) -> &Name
-    ensures { result.now ≡ (field_of field.now).name }
+    ensures { result.now ≡ field_name field.now }
 {
     match field {
         FieldType::Field(name, _) => name,
@@ -48,7 +84,7 @@ fn name_of(field: &FieldType) -> &Name
 
 /// The type of a field of a type.
 fn type_in(field: &FieldType) -> &Ty
-    ensures { ty_of result.now ≡ (field_of field.now).ty }
+    ensures { result.now ≡ field_ty field.now }
 {
     match field {
         FieldType::Field(_, ty) => ty,
@@ -57,7 +93,7 @@ fn type_in(field: &FieldType) -> &Ty
 
 /// The name of a field that is given.
 fn name_given(field: &FieldValue) -> &Ident
-    ensures { result.now ≡ (found_field field.now).name }
+    ensures { result.now ≡ given_name field.now }
 {
     match field {
         FieldValue::Given(name, _) => name,
@@ -66,7 +102,7 @@ fn name_given(field: &FieldValue) -> &Ident
 
 /// The names of the fields of a type, with the places at which they stand first.
 fn firsts_of_fields(alloc: Global, fields: &[FieldType]) -> Result<Firsts<'_>, AllocError>
-    ensures { IfOk result (λ firsts. firsts ≡ placed (names_of_fields fields.now) 0 []) }
+    ensures { IfOk result (λ firsts. firsts ≡ placed (field_names fields.now) 0 []) }
 {
     let mut firsts = Firsts::new(alloc);
     for (place, field) in fields.iter().enumerate() {
@@ -77,7 +113,7 @@ fn firsts_of_fields(alloc: Global, fields: &[FieldType]) -> Result<Firsts<'_>, A
 
 /// The names of the fields that are given, with the places at which they stand first.
 fn firsts_of_given(alloc: Global, given: &[FieldValue]) -> Result<Firsts<'_>, AllocError>
-    ensures { IfOk result (λ firsts. firsts ≡ placed (names_given (found_fields given.now)) 0 []) }
+    ensures { IfOk result (λ firsts. firsts ≡ placed (given_texts given.now) 0 []) }
 {
     let mut firsts = Firsts::new(alloc);
     for (place, field) in given.iter().enumerate() {
@@ -97,8 +133,8 @@ fn place_in(firsts: &Firsts, name: &[u8]) -> Option<usize>
 /// Whether a name is also that of a field that is given before this place.
 #[tactic(auto, using(crate::proofs::GivenLemmas::repeated_none, crate::proofs::GivenLemmas::repeated_some))]
 fn is_repeated(firsts: &Firsts, given: &[FieldValue], name: &[u8], place: usize) -> bool
-    requires { firsts.now ≡ placed (names_given (found_fields given.now)) 0 [] }
-    ensures { result ≡ has_name name.now (take place (names_given (found_fields given.now))) }
+    requires { firsts.now ≡ placed (given_texts given.now) 0 [] }
+    ensures { result ≡ has_name name.now (take place (given_texts given.now)) }
 {
     match place_in(firsts, name) {
         None => false,
@@ -106,21 +142,9 @@ fn is_repeated(firsts: &Firsts, given: &[FieldValue], name: &[u8], place: usize)
     }
 }
 
-/// The type of the first field of a name.
-#[tactic(auto, using(crate::proofs::GivenLemmas::type_missing, crate::proofs::GivenLemmas::type_there))]
-fn type_of_field<'t>(firsts: &Firsts, fields: &'t [FieldType], name: &[u8]) -> Option<&'t Ty>
-    requires { firsts.now ≡ placed (names_of_fields fields.now) 0 [] }
-    ensures { option_map (λ ty. ty_of ty.now) result ≡ rules.field_type name.now (all_fields fields.now) }
-{
-    match place_in(firsts, name) {
-        None => None,
-        Some(place) => type_at(fields, place),
-    }
-}
-
 /// The type of the field in this place.
 fn type_at(fields: &[FieldType], place: usize) -> Option<&Ty>
-    ensures { option_map (λ ty. ty_of ty.now) result ≡ option_map (λ field. (field_of field).ty) (slice_get fields.now place) }
+    ensures { option_map (λ ty. ty.now) result ≡ option_map (λ field. field_ty field) (slice_get fields.now place) }
 {
     match fields.get(place) {
         None => None,
@@ -128,70 +152,16 @@ fn type_at(fields: &[FieldType], place: usize) -> Option<&Ty>
     }
 }
 
-/// Whether each value fits its field: the first fault of those that don't.
-fn all_fit(operands: &[Operand], types: &[Ty]) -> Result<(), Refused>
-    ensures { Met (λ u. u) result (rules.all_fit (all_operands operands.now) (map ty_of types.now)) }
-{
-    let mut rest = types;
-    for o in operands {
-        match rest.split_first() {
-            None => return Ok(()),
-            Some((ty, more)) => {
-                if let Some(code) = misfit(&o.typed.ty, ty) {
-                    return fault(code, o.span);
-                }
-                rest = more;
-            }
-        }
-    }
-    Ok(())
-}
-
-/// Whether a field of this name is given.
-#[tactic(auto, using(crate::proofs::GivenLemmas::given_none, crate::proofs::GivenLemmas::given_some))]
-fn is_given(firsts: &Firsts, given: &[FieldValue], name: &[u8]) -> bool
-    requires { firsts.now ≡ placed (names_given (found_fields given.now)) 0 [] }
-    ensures { result ≡ has_name name.now (names_given (found_fields given.now)) }
+/// The type of the first field of a name.
+#[tactic(auto, using(crate::proofs::GivenLemmas::type_missing, crate::proofs::GivenLemmas::type_there))]
+fn type_of_field<'t>(firsts: &Firsts, fields: &'t [FieldType], name: &[u8]) -> Option<&'t Ty>
+    requires { firsts.now ≡ placed (field_names fields.now) 0 [] }
+    ensures { option_map (λ ty. ty.now) result ≡ option_map (λ p. p.1) (numbered name.now (fields_of fields.now)) }
 {
     match place_in(firsts, name) {
-        None => false,
-        Some(_) => true,
+        None => None,
+        Some(place) => type_at(fields, place),
     }
-}
-
-/// Whether each field of the type is given.
-fn none_missing(firsts: &Firsts, given: &[FieldValue], fields: &[FieldType]) -> bool
-    requires { firsts.now ≡ placed (names_given (found_fields given.now)) 0 [] }
-    ensures { result ≡ rules.none_missing (all_fields fields.now) (names_given (found_fields given.now)) }
-{
-    for field in fields {
-        if !is_given(firsts, given, name_of(field).get().as_slice()) {
-            return false;
-        }
-    }
-    true
-}
-
-/// The types of the fields that are given, in order: T15 at a name that stood before, or that is no field's.
-#[tactic(auto, using(crate::proofs::FieldLemmas::types_first, crate::proofs::FieldLemmas::types_last))]
-fn types_given(
-    alloc: Global,
-    given: &[FieldValue],
-    given_firsts: &Firsts,
-    fields: &[FieldType],
-    firsts: &Firsts,
-) -> Result<Items<Ty>, Refused>
-    requires given { given_firsts.now ≡ placed (names_given (found_fields given.now)) 0 [] }
-    requires fields { firsts.now ≡ placed (names_of_fields fields.now) 0 [] }
-    ensures { Met (λ tys. map ty_of tys) result (rules.given_once (found_fields given.now) [] (all_fields fields.now)) }
-{
-    let mut types = Items::new(alloc);
-    for (place, field) in given.iter().enumerate() {
-        let name = name_given(field);
-        let ty = type_given(given, given_firsts, fields, firsts, name, place)?;
-        types.push(ty)?;
-    }
-    Ok(types)
 }
 
 /// The type of the field of this name, which is given in this place.
@@ -200,12 +170,12 @@ fn type_given(
     given_firsts: &Firsts,
     fields: &[FieldType],
     firsts: &Firsts,
-    name: &Ident,
     place: usize,
+    name: &Ident,
 ) -> Result<Ty, Refused>
-    requires given { given_firsts.now ≡ placed (names_given (found_fields given.now)) 0 [] }
-    requires fields { firsts.now ≡ placed (names_of_fields fields.now) 0 [] }
-    ensures { Met ty_of result (given_type name.now (take place (names_given (found_fields given.now))) (all_fields fields.now)) }
+    requires given { given_firsts.now ≡ placed (given_texts given.now) 0 [] }
+    requires fields { firsts.now ≡ placed (field_names fields.now) 0 [] }
+    ensures { Met (λ ty. ty) result (given_type name.now (take place (given_texts given.now)) (fields_of fields.now)) }
 {
     if is_repeated(given_firsts, given, name.text.as_slice(), place) {
         return fault(StaticCode::T15, name.span);
@@ -216,37 +186,103 @@ fn type_given(
     }
 }
 
-/// The first place of a name among those that are given, 0 where it isn't.
-fn place_or_first(firsts: &Firsts, given: &[FieldValue], name: &[u8]) -> usize
-    requires { firsts.now ≡ placed (names_given (found_fields given.now)) 0 [] }
-    ensures { result ≡ elaboration.or_first (place_of name.now (names_given (found_fields given.now))) }
+/// The types of the fields that are given, in order: T15 at a name that stood before, or that is no field's.
+#[tactic(auto, using(crate::proofs::GivenTypes::types_first, crate::proofs::GivenTypes::types_last))]
+fn types_given(
+    alloc: Global,
+    given: &[FieldValue],
+    given_firsts: &Firsts,
+    fields: &[FieldType],
+    firsts: &Firsts,
+) -> Result<Items<Ty>, Refused>
+    requires given { given_firsts.now ≡ placed (given_texts given.now) 0 [] }
+    requires fields { firsts.now ≡ placed (field_names fields.now) 0 [] }
+    ensures { Met (λ tys. tys) result (rules.given_once (given_names given.now) [] (fields_of fields.now)) }
 {
-    match place_in(firsts, name) {
-        None => 0,
-        Some(place) => place,
+    let mut types = Items::new(alloc);
+    for (place, field) in given.iter().enumerate() {
+        let ty = type_given(
+            given,
+            given_firsts,
+            fields,
+            firsts,
+            place,
+            name_given(field),
+        )?;
+        types.push(ty)?;
     }
+    Ok(types)
 }
 
-/// Each field of the type with the place of its value among those that are given.
+/// Whether each value fits its field: the first fault of those that don't.
+fn all_fit(operands: &[Tree], types: &[Ty]) -> Result<(), Refused>
+    ensures { (t : Tests) → IsRight t → Met (λ u. u) result (rules.all_fit t (all_operands operands.now) types.now) }
+{
+    let mut rest = types;
+    for operand in operands {
+        match rest.split_first() {
+            None => return Ok(()),
+            Some((ty, more)) => {
+                if let Some(code) = misfit(operand.ty(), ty) {
+                    return fault(code, operand.span());
+                }
+                rest = more;
+            }
+        }
+    }
+    Ok(())
+}
+
+/// A field of a type with the place of its value.
+fn field_placed(field: &FieldType, place: usize) -> Result<FieldGiven, AllocError>
+    ensures { IfOk result (λ g. given_view g ≡ record { name = field_name field.now; ty = field_ty field.now; place = place }) }
+{
+    Ok(FieldGiven {
+        name: name_of(field).share()?,
+        ty: type_in(field).copy()?,
+        place,
+    })
+}
+
+/// Each field of the type with the place of its value among those that are given: `None` where one is missing.
+#[tactic(auto, using(crate::proofs::GivenPlaces::places_first, crate::proofs::GivenPlaces::places_next, crate::proofs::GivenPlaces::places_missing, crate::proofs::GivenPlaces::places_last))]
 fn places_given(
     alloc: Global,
     fields: &[FieldType],
     given: &[FieldValue],
     firsts: &Firsts,
-) -> Result<Items<GivenField>, AllocError>
-    requires { firsts.now ≡ placed (names_given (found_fields given.now)) 0 [] }
-    ensures { IfOk result (λ gs. gs ≡ elaboration.places_given (all_fields fields.now) (names_given (found_fields given.now))) }
+) -> Result<Option<Items<FieldGiven>>, AllocError>
+    requires { firsts.now ≡ placed (given_texts given.now) 0 [] }
+    ensures { IfOk result (λ o. option_map all_given o ≡ rules.places_given (fields_of fields.now) (given_texts given.now)) }
 {
     let mut places = Items::new(alloc);
     for field in fields {
-        let name = name_of(field);
-        let place = place_or_first(firsts, given, name.get().as_slice());
-        places.push(GivenField {
-            name: name.share()?,
-            place,
-        })?;
+        match place_in(firsts, name_of(field).get().as_slice()) {
+            None => return Ok(None),
+            Some(place) => places.push(field_placed(field, place)?)?,
+        }
     }
-    Ok(places)
+    Ok(Some(places))
+}
+
+/// The conditions on the fields of a construction, in order, with the places of those that are given.
+fn fields_fit(
+    alloc: Global,
+    span: Span,
+    fields: &[FieldType],
+    given: &[FieldValue],
+    values: &[Tree],
+) -> Result<Items<FieldGiven>, Refused>
+    ensures { (t : Tests) → IsRight t → Met all_given result (given_fit t span (given_names given.now) (all_operands values.now) (fields_of fields.now)) }
+{
+    let firsts = firsts_of_fields(alloc, fields)?;
+    let given_firsts = firsts_of_given(alloc, given)?;
+    let types = types_given(alloc, given, &given_firsts, fields, &firsts)?;
+    all_fit(values, types.as_slice())?;
+    match places_given(alloc, fields, given, &given_firsts)? {
+        None => fault(StaticCode::T15, span),
+        Some(places) => Ok(places),
+    }
 }
 
 /// A name with no bytes.
@@ -256,154 +292,129 @@ fn no_name(alloc: Global) -> Result<Name, AllocError>
     Shared::new(alloc, Items::new(alloc))
 }
 
-/// Names that no name reaches.
+/// No names.
 fn no_names(alloc: Global) -> Result<Names, AllocError>
     ensures { IfOk result (λ ns. ns ≡ []) }
 {
     Shared::new(alloc, Items::new(alloc))
 }
 
-/// What a construction makes of a type that is built with this name, which reaches these.
-fn shell_in(alloc: Global, own: &Name, supers: &Names, ty: &Ty) -> Result<Shell, AllocError>
-    ensures { IfOk result (λ s. s ≡ elaboration.shell_in own.now supers.now (ty_of ty.now)) }
+/// A record of the declaration of this name.
+fn record_built<'t>(name: &Name, fields: &'t [FieldType]) -> Result<Option<Built<'t>>, AllocError>
+    ensures { IfOk result (λ o. option_map built_view o ≡ Some (making (record_shell name.now) (fields_of fields.now))) }
 {
-    match ty {
-        Ty::Record(name, _) => Ok(Shell::Record(name.share()?)),
-        Ty::Exception(name, _) => {
-            Ok(Shell::Exception(own.share()?, supers.share()?, name.share()?))
-        }
-        Ty::Named(_, _, inner) => shell_in(alloc, own, supers, inner.get()),
-        Ty::Integer => Ok(Shell::Record(no_name(alloc)?)),
-        Ty::Boolean => Ok(Shell::Record(no_name(alloc)?)),
-        Ty::Enumeration(_, _) => Ok(Shell::Record(no_name(alloc)?)),
-        Ty::Tuple(_) => Ok(Shell::Record(no_name(alloc)?)),
-        Ty::Array(_, _) => Ok(Shell::Record(no_name(alloc)?)),
-    }
+    Ok(Some(Built {
+        shell: Shell::Record(name.share()?),
+        fields,
+    }))
 }
 
-/// What a construction of a type makes.
-fn shell_of(alloc: Global, ty: &Ty) -> Result<Shell, AllocError>
-    ensures { IfOk result (λ s. s ≡ elaboration.shell_of_type (ty_of ty.now)) }
+/// An exception of the declaration of this name, which is built with one that reaches these.
+fn exception_built<'t>(
+    own: &Name,
+    supers: &Names,
+    name: &Name,
+    fields: &'t [FieldType],
+) -> Result<Option<Built<'t>>, AllocError>
+    ensures { IfOk result (λ o. option_map built_view o ≡ Some (making (exception_shell own.now supers.now name.now) (fields_of fields.now))) }
 {
-    match ty {
-        Ty::Named(name, supers, inner) => shell_in(alloc, name, supers, inner.get()),
-        Ty::Record(_, _) => shell_bare(alloc, ty),
-        Ty::Exception(_, _) => shell_bare(alloc, ty),
-        Ty::Integer => shell_bare(alloc, ty),
-        Ty::Boolean => shell_bare(alloc, ty),
-        Ty::Enumeration(_, _) => shell_bare(alloc, ty),
-        Ty::Tuple(_) => shell_bare(alloc, ty),
-        Ty::Array(_, _) => shell_bare(alloc, ty),
+    Ok(Some(Built {
+        shell: Shell::Exception(own.share()?, supers.share()?, name.share()?),
+        fields,
+    }))
+}
+
+/// What a construction makes of a type that is built with this name, which reaches these: `None` where it is no record and no
+/// exception.
+fn built_as<'t>(own: &Name, supers: &Names, ty: &'t Ty) -> Result<Option<Built<'t>>, AllocError>
+    ensures { IfOk result (λ o. option_map built_view o ≡ made_as own.now supers.now ty.now) }
+{
+    match ty.form() {
+        Form::Integer(_) => Ok(None),
+        Form::Boolean => Ok(None),
+        Form::Bits(_, _) => Ok(None),
+        Form::Enumeration(_, _) => Ok(None),
+        Form::Record(name, fields) => record_built(name, fields.get().as_slice()),
+        Form::Exception(name, fields) => {
+            exception_built(own, supers, name, fields.get().as_slice())
+        }
+        Form::Tuple(_) => Ok(None),
+        Form::Array(_, _) => Ok(None),
+        Form::Named(_, _, inner) => built_as(own, supers, inner.get()),
     }
 }
 
 /// What a construction makes of a type that no declared name stands for.
-fn shell_bare(alloc: Global, ty: &Ty) -> Result<Shell, AllocError>
-    ensures { IfOk result (λ s. s ≡ elaboration.shell_in [] [] (ty_of ty.now)) }
+fn built_bare(alloc: Global, ty: &Ty) -> Result<Option<Built<'_>>, AllocError>
+    ensures { IfOk result (λ o. option_map built_view o ≡ made_as [] [] ty.now) }
 {
     let own = no_name(alloc)?;
     let supers = no_names(alloc)?;
-    shell_in(alloc, &own, &supers, ty)
+    built_as(&own, &supers, ty)
 }
 
-/// The fields of a type that a construction names: T05 where it is no record or exception.
-fn fields_in<'t>(name: &Ident, ty: &'t Ty) -> Result<&'t [FieldType], Refused>
-    ensures found { IfOk result (λ fs. rules.fields_of (ty_of ty.now) ≡ Some (all_fields fs.now)) }
-    ensures rule { Met (λ fs. all_fields fs.now) result (found_or (rules.fields_of (ty_of ty.now)) StaticCode.T05 name.now.span) }
+/// What a construction makes of a type: `None` where it is no record and no exception.
+fn built_of(alloc: Global, ty: &Ty) -> Result<Option<Built<'_>>, AllocError>
+    ensures { IfOk result (λ o. option_map built_view o ≡ made_of ty.now) }
 {
-    match fields_of(ty) {
+    match ty.form() {
+        Form::Integer(_) => built_bare(alloc, ty),
+        Form::Boolean => built_bare(alloc, ty),
+        Form::Bits(_, _) => built_bare(alloc, ty),
+        Form::Enumeration(_, _) => built_bare(alloc, ty),
+        Form::Record(_, _) => built_bare(alloc, ty),
+        Form::Exception(_, _) => built_bare(alloc, ty),
+        Form::Tuple(_) => built_bare(alloc, ty),
+        Form::Array(_, _) => built_bare(alloc, ty),
+        Form::Named(name, supers, inner) => built_as(name, supers, inner.get()),
+    }
+}
+
+/// What a construction of a type makes: T05 at its name where it is no record and no exception.
+fn built_named<'t>(alloc: Global, name: &Ident, ty: &'t Ty) -> Result<Built<'t>, Refused>
+    ensures { Met built_view result (found_or (made_of ty.now) StaticCode.T05 name.now.span) }
+{
+    match built_of(alloc, ty)? {
         None => fault(StaticCode::T05, name.span),
-        Some(fields) => Ok(fields),
+        Some(made) => Ok(made),
     }
-}
-
-/// The conditions on the fields of a construction, in order, with the places of those that are given.
-fn fields_fit(
-    alloc: Global,
-    span: Span,
-    fields: &[FieldType],
-    given: &[FieldValue],
-    operands: &[Operand],
-) -> Result<Items<GivenField>, Refused>
-    ensures rule { Met (λ _. tt) result (given_fit span (all_fields fields.now) (found_fields given.now) (all_operands operands.now)) }
-    ensures places { IfOk result (λ gs. gs ≡ elaboration.places_given (all_fields fields.now) (names_given (found_fields given.now))) }
-{
-    let firsts = firsts_of_fields(alloc, fields)?;
-    let given_firsts = firsts_of_given(alloc, given)?;
-    let types = types_given(alloc, given, &given_firsts, fields, &firsts)?;
-    all_fit(operands, types.as_slice())?;
-    if !none_missing(&given_firsts, given, fields) {
-        return fault(StaticCode::T15, span);
-    }
-    Ok(places_given(alloc, fields, given, &given_firsts)?)
 }
 
 /// A construction of this type whose values were typed.
-#[tactic(auto, using(crate::proofs::ConstructRows::places_there))]
 fn construct(
     alloc: Global,
     class: Effect,
-    span: Span,
-    name: &Ident,
+    site: Site,
     ty: &Ty,
-    given: &[FieldValue],
-    operands: &[Operand],
-    values: Items<TypedExpr>,
-) -> Result<(TypedExpr, Typed), Refused>
-    ensures rule { Met (λ p. typed_of p.1) result (construction_of class span name.now (ty_of ty.now) (found_fields given.now) (all_operands operands.now)) }
-    ensures tree { IfOk result (λ p. p.0 ≡ roll-TypedExpr (te.Construct span (elaboration.shell_of_type (ty_of ty.now)) (elaboration.places_in_type (rules.fields_of (ty_of ty.now)) (names_given (found_fields given.now))) values)) }
+    values: Items<Tree>,
+) -> Result<Boxed<Tree>, Refused>
+    ensures { (t : Tests) → IsRight t → Met typed_of result (construction_of t class site.entry.span site.entry.name.now ty.now (given_names site.entry.given.now) (all_operands values)) }
 {
-    let fields = fields_in(name, ty)?;
-    let places = fields_fit(alloc, span, fields, given, operands)?;
-    let typed = finish_all(alloc, class, span, operands, ty.copy()?)?;
-    let shell = shell_of(alloc, ty)?;
-    Ok((trees::construct(span, shell, places, values), typed))
+    let made = built_named(alloc, site.name, ty)?;
+    let places = fields_fit(alloc, site.span, made.fields, site.given, values.as_slice())?;
+    stand_together(site.span, all_together(Effect::Pure, values.as_slice()))?;
+    let effect = greater(greatest(Effect::Pure, values.as_slice()), Effect::Pure);
+    keep_class(class, site.span, effect)?;
+    let note = Note {
+        span: site.span,
+        ty: ty.copy()?,
+        effect,
+    };
+    Ok(trees::construct(alloc, note, made.into_shell(), places, values)?)
 }
 
-/// A construction whose values were typed, of the type of a name: T02 where that is none.
-#[tactic(auto, using(crate::proofs::ConstructRows::row_of))]
-fn construct_declared(
+/// A construction whose values were typed, of the type of its name: T02 where that is none.
+#[tactic(auto, using(crate::proofs::ConstructRows::row_missing, crate::proofs::ConstructRows::row_of))]
+pub(crate) fn type_construction(
     alloc: Global,
-    class: Effect,
-    span: Span,
-    name: &Ident,
-    declared: Option<&Ty>,
-    given: &[FieldValue],
-    operands: &[Operand],
-    values: Items<TypedExpr>,
-) -> Result<(TypedExpr, Typed), Refused>
-    ensures rule { Met (λ p. typed_of p.1) result (construction class span name.now (option_map (λ ty. ty_of ty.now) declared.entry) (found_fields given.now) (all_operands operands.now)) }
-    ensures tree { IfOk result (λ p. p.0 ≡ roll-TypedExpr (construct_of span (option_map (λ ty. ty_of ty.now) declared.entry) (names_given (found_fields given.now)) values)) }
+    context: Context,
+    site: Site,
+    values: Items<Tree>,
+) -> Result<Boxed<Tree>, Refused>
+    ensures { (t : Tests) → IsRight t → Met typed_of result (rules.construction t (scope_of context.entry).class site.entry.span site.entry.name.now (type_of_name site.entry.name.now.text (scope_of context.entry).names) (given_names site.entry.given.now) (all_operands values)) }
 {
-    match declared {
-        None => fault(StaticCode::T02, name.span),
-        Some(ty) => construct(alloc, class, span, name, ty, given, operands, values),
+    match context.names.type_of_name(site.name.text.as_slice()) {
+        None => fault(StaticCode::T02, site.name.span),
+        Some(ty) => construct(alloc, context.class, site, ty, values),
     }
-}
-
-/// A construction of the type of a name, with the answer for its values in order: their trees, and what is found at each.
-pub(crate) fn type_construct(
-    alloc: Global,
-    names: &Scope,
-    class: Effect,
-    span: Span,
-    name: &Ident,
-    given: &[FieldValue],
-    values: Result<(Items<TypedExpr>, Items<Operand>), Refused>,
-) -> Result<(TypedExpr, Typed), Refused>
-    ensures rule { (returns : Option types.Ty) → Met (λ p. all_operands p.1) values (rules.operands (values_given (found_fields given.now)) (scope_in names.now returns class)) → Met (λ p. typed_of p.1) result (rules.construct_rule span name.now (found_fields given.now) (scope_in names.now returns class)) }
-    ensures tree { (ts : List TypedExpr) → IfOk values (λ p. p.0 ≡ ts) → IfOk result (λ p. p.0 ≡ roll-TypedExpr (construct_of span (type_of_name name.now.text names.now) (names_given (found_fields given.now)) ts)) }
-{
-    let (trees, operands) = values?;
-    let declared = names.type_of_name(name.text.as_slice());
-    construct_declared(
-        alloc,
-        class,
-        span,
-        name,
-        declared,
-        given,
-        operands.as_slice(),
-        trees,
-    )
 }

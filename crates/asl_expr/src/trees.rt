@@ -1,126 +1,157 @@
 //! Typed trees of expressions, made of the trees of their parts.
 
 ghost use Rattle.std.specs.Prelude.{◌≡◌, IfOk};
+ghost use Rattle.asl_rules.specs.Trees as rules;
+ghost use Rattle.asl_rules.specs.Typing.{trees_of};
 ghost use Rattle.asl_value.specs.View.{value_of};
-ghost use Rattle.asl_tree.specs.declared.typed.TypedExpr.{roll-TypedExpr};
-ghost use Rattle.asl_tree.specs.declared.typed.TypedExpr.TheOpen as te;
-ghost use Rattle.asl_tree.specs.Elaboration.{label_layer};
+ghost use Rattle.asl_value.specs.Forms.{shell_of};
+ghost use Rattle.asl_shape.specs.View.{all_given};
+ghost use Rattle.asl_tree.specs.View.{note_view, tree_of, all_trees, all_operands};
 
-use asl_shared::{three_boxes, two_boxes};
-use asl_syn::token::Span;
+use asl_rules::slot::Slot;
+use asl_shape::FieldGiven;
 use asl_syn::tree::{BinaryOperator, UnaryOperator};
-use asl_tree::typed::TypedExpr;
-use asl_types::Slot;
-use asl_value::{GivenField, Shell, Value};
+use asl_tree::tree::{Note, Tree};
+use asl_types::BitField;
+use asl_value::{Shell, Value};
 use sqlite_items::{Boxed, Items};
 use std::alloc::{AllocError, Global};
 
-pub(crate) fn int(span: Span, n: u128) -> TypedExpr
-    ensures { result ≡ roll-TypedExpr (te.Int span n) }
+pub(crate) fn int(alloc: Global, note: Note, n: u128) -> Result<Boxed<Tree>, AllocError>
+    ensures { IfOk result (λ t. tree_of t ≡ rules.Int (note_view note) n) }
 {
-    TypedExpr::Int(span, n)
+    Boxed::new(alloc, Tree::Int(note, n))
 }
 
-pub(crate) fn boolean(span: Span, b: bool) -> TypedExpr
-    ensures { result ≡ roll-TypedExpr (te.Bool span b) }
+pub(crate) fn constant(alloc: Global, note: Note, value: Value) -> Result<Boxed<Tree>, AllocError>
+    ensures { IfOk result (λ t. tree_of t ≡ rules.Constant (note_view note) (value_of value)) }
 {
-    TypedExpr::Bool(span, b)
+    Boxed::new(alloc, Tree::Constant(note, value))
 }
 
-pub(crate) fn read(span: Span, slot: Slot) -> TypedExpr
-    ensures { result ≡ roll-TypedExpr (te.Read span slot) }
+pub(crate) fn read(alloc: Global, note: Note, slot: Slot) -> Result<Boxed<Tree>, AllocError>
+    ensures { IfOk result (λ t. tree_of t ≡ rules.Read (note_view note) slot) }
 {
-    TypedExpr::Read(span, slot)
-}
-
-/// The tree of a label, whose value this is.
-pub(crate) fn label(span: Span, value: &Value) -> Result<TypedExpr, AllocError>
-    ensures { IfOk result (λ t. t ≡ roll-TypedExpr (label_layer span (value_of value.now))) }
-{
-    match value {
-        Value::Int(_) => Ok(TypedExpr::Bool(span, false)),
-        Value::Bool(_) => Ok(TypedExpr::Bool(span, false)),
-        Value::Label(name, own) => Ok(TypedExpr::Label(span, name.share()?, own.share()?)),
-        Value::Record(_, _) => Ok(TypedExpr::Bool(span, false)),
-        Value::Exception(_, _, _, _) => Ok(TypedExpr::Bool(span, false)),
-        Value::Tuple(_) => Ok(TypedExpr::Bool(span, false)),
-        Value::Array(_, _) => Ok(TypedExpr::Bool(span, false)),
-    }
+    Boxed::new(alloc, Tree::Read(note, slot))
 }
 
 pub(crate) fn unary(
     alloc: Global,
-    span: Span,
+    note: Note,
     op: UnaryOperator,
-    a: TypedExpr,
-) -> Result<TypedExpr, AllocError>
-    ensures { IfOk result (λ t. t ≡ roll-TypedExpr (te.Unary span op a)) }
+    a: Boxed<Tree>,
+) -> Result<Boxed<Tree>, AllocError>
+    ensures { IfOk result (λ t. tree_of t ≡ rules.Unary (note_view note) op (tree_of a)) }
 {
-    Ok(TypedExpr::Unary(span, op, Boxed::new(alloc, a)?))
+    Boxed::new(alloc, Tree::Unary(note, op, a))
 }
 
 pub(crate) fn binary(
     alloc: Global,
-    span: Span,
+    note: Note,
     op: BinaryOperator,
-    a: TypedExpr,
-    b: TypedExpr,
-) -> Result<TypedExpr, AllocError>
-    ensures { IfOk result (λ t. t ≡ roll-TypedExpr (te.Binary span op a b)) }
+    a: Boxed<Tree>,
+    b: Boxed<Tree>,
+) -> Result<Boxed<Tree>, AllocError>
+    ensures { IfOk result (λ t. tree_of t ≡ rules.Binary (note_view note) op (tree_of a) (tree_of b)) }
 {
-    let (a, b) = two_boxes(alloc, a, b)?;
-    Ok(TypedExpr::Binary(span, op, a, b))
+    Boxed::new(alloc, Tree::Binary(note, op, a, b))
 }
 
 pub(crate) fn conditional(
     alloc: Global,
-    span: Span,
-    condition: TypedExpr,
-    a: TypedExpr,
-    b: TypedExpr,
-) -> Result<TypedExpr, AllocError>
-    ensures { IfOk result (λ t. t ≡ roll-TypedExpr (te.Conditional span condition a b)) }
+    note: Note,
+    condition: Boxed<Tree>,
+    a: Boxed<Tree>,
+    b: Boxed<Tree>,
+) -> Result<Boxed<Tree>, AllocError>
+    ensures { IfOk result (λ t. tree_of t ≡ rules.Conditional (note_view note) (tree_of condition) (tree_of a) (tree_of b)) }
 {
-    let (condition, a, b) = three_boxes(alloc, condition, a, b)?;
-    Ok(TypedExpr::Conditional(span, condition, a, b))
+    Boxed::new(alloc, Tree::Conditional(note, condition, a, b))
 }
 
-pub(crate) fn tuple(span: Span, parts: Items<TypedExpr>) -> TypedExpr
-    ensures { result ≡ roll-TypedExpr (te.Tuple span parts) }
+/// A tuple, by the trees of its parts.
+fn tuple_of(alloc: Global, note: Note, parts: Items<Tree>) -> Result<Boxed<Tree>, AllocError>
+    ensures { IfOk result (λ t. tree_of t ≡ rules.Tuple (note_view note) (all_trees parts)) }
 {
-    TypedExpr::Tuple(span, parts)
+    Boxed::new(alloc, Tree::Tuple(note, parts))
+}
+
+pub(crate) fn tuple(
+    alloc: Global,
+    note: Note,
+    parts: Items<Tree>,
+) -> Result<Boxed<Tree>, AllocError>
+    ensures { IfOk result (λ t. tree_of t ≡ rules.Tuple (note_view note) (trees_of (all_operands parts))) }
+{
+    tuple_of(alloc, note, parts)
+}
+
+/// A construction, by the trees of its values.
+fn construction_of(
+    alloc: Global,
+    note: Note,
+    shell: Shell,
+    fields: Items<FieldGiven>,
+    values: Items<Tree>,
+) -> Result<Boxed<Tree>, AllocError>
+    ensures { IfOk result (λ t. tree_of t ≡ rules.Construct (note_view note) (shell_of shell) (all_given fields) (all_trees values)) }
+{
+    Boxed::new(alloc, Tree::Construct(note, shell, fields, values))
+}
+
+pub(crate) fn construct(
+    alloc: Global,
+    note: Note,
+    shell: Shell,
+    fields: Items<FieldGiven>,
+    values: Items<Tree>,
+) -> Result<Boxed<Tree>, AllocError>
+    ensures { IfOk result (λ t. tree_of t ≡ rules.Construct (note_view note) (shell_of shell) (all_given fields) (trees_of (all_operands values))) }
+{
+    construction_of(alloc, note, shell, fields, values)
 }
 
 pub(crate) fn field(
     alloc: Global,
-    span: Span,
-    a: TypedExpr,
+    note: Note,
+    a: Boxed<Tree>,
     place: usize,
-) -> Result<TypedExpr, AllocError>
-    ensures { IfOk result (λ t. t ≡ roll-TypedExpr (te.Field span a place)) }
+) -> Result<Boxed<Tree>, AllocError>
+    ensures { IfOk result (λ t. tree_of t ≡ rules.Field (note_view note) (tree_of a) place) }
 {
-    Ok(TypedExpr::Field(span, Boxed::new(alloc, a)?, place))
+    Boxed::new(alloc, Tree::Field(note, a, place))
+}
+
+pub(crate) fn bitfield(
+    alloc: Global,
+    note: Note,
+    a: Boxed<Tree>,
+    field: BitField,
+) -> Result<Boxed<Tree>, AllocError>
+    ensures { IfOk result (λ t. tree_of t ≡ rules.Bitfield (note_view note) (tree_of a) field) }
+{
+    Boxed::new(alloc, Tree::Bitfield(note, a, field))
+}
+
+pub(crate) fn bitfields(
+    alloc: Global,
+    note: Note,
+    a: Boxed<Tree>,
+    fields: Items<BitField>,
+) -> Result<Boxed<Tree>, AllocError>
+    ensures { IfOk result (λ t. tree_of t ≡ rules.Bitfields (note_view note) (tree_of a) fields) }
+{
+    Boxed::new(alloc, Tree::Bitfields(note, a, fields))
 }
 
 pub(crate) fn element(
     alloc: Global,
-    span: Span,
-    a: TypedExpr,
-    i: TypedExpr,
-) -> Result<TypedExpr, AllocError>
-    ensures { IfOk result (λ t. t ≡ roll-TypedExpr (te.Element span a i)) }
+    note: Note,
+    a: Boxed<Tree>,
+    index: Boxed<Tree>,
+) -> Result<Boxed<Tree>, AllocError>
+    ensures { IfOk result (λ t. tree_of t ≡ rules.Element (note_view note) (tree_of a) (tree_of index)) }
 {
-    let (a, i) = two_boxes(alloc, a, i)?;
-    Ok(TypedExpr::Element(span, a, i))
-}
-
-pub(crate) fn construct(
-    span: Span,
-    shell: Shell,
-    places: Items<GivenField>,
-    values: Items<TypedExpr>,
-) -> TypedExpr
-    ensures { result ≡ roll-TypedExpr (te.Construct span shell places values) }
-{
-    TypedExpr::Construct(span, shell, places, values)
+    Boxed::new(alloc, Tree::Element(note, a, index))
 }

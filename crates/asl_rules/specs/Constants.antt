@@ -1,87 +1,77 @@
--- The values of expressions that are known before any run: they are evaluated without steps, over the values of the names.
-use Rattle.std.specs.Prelude.{pos, Bool, true, false, List, [], ◌∷◌, Option, Some, None}
+-- The values of expressions that are known before any run: the plans of expressions over the visible names, where a part stands for
+-- its value, and no step is counted.
+use Rattle.std.specs.Prelude.{ℕ, List, Option, Some, None}
 use Rattle.asl_syn.specs.declared.token.Span.{Span}
 use Rattle.asl_syn.specs.declared.tree.Expr.{Expr}
-use Rattle.asl_syn.specs.declared.tree.BinaryOperator.{BinaryOperator}
-use Rattle.asl_syn.specs.declared.tree.Ident.{Ident}
 use Rattle.asl_syn.specs.declared.tree.Bitfield.TheOpen as ex
 use Rattle.asl_syn.specs.declared.tree.Bitfield.TheFolds.{fold-Expr}
-use Rattle.asl_rules.specs.Types.{Ty}
-use Rattle.asl_rules.specs.Values.{Value, bool, tuple_with}
-use Rattle.asl_rules.specs.Scopes.{Entry, Standing, Stored, Label, standing_of, type_of_name}
-use Rattle.asl_rules.specs.Plans.{Stuck, UnknownName, UnservedForm, Pure, Good, Bad}
-use Rattle.asl_rules.specs.Operators.{integer_of, binary_value, unary_value, truth, Decided, Already, ByRight, Strictness, Strict, Lazy, strictness}
-use Rattle.asl_rules.specs.Structures.{element_of, field_of, Given, construct, values_of}
-
-infixl 10 ◌>>=◌
-abbrev pub ◌>>=◌ : {A B : Type 0} → Pure A → (A → Pure B) → Pure B
-(Good x) >>= f = f x
-(Bad e) >>= f = Bad e
+use Rattle.asl_rules.specs.Shapes.{SliceShape, PatternShape, PartShape, BitfieldShape}
+use Rattle.asl_rules.specs.Shaped.{Shaped, TypeOver, itself, given_layer, slice_layer, pattern_layer, part_layer, bitfield_layer, type_layer}
+use Rattle.asl_rules.specs.Values.{Value}
+use Rattle.asl_rules.specs.Scopes.{Entry, Standing, Stored, Subprogram, TypeName, Label, standing_of}
+use Rattle.asl_rules.specs.Plans.{Stuck, NothingCaught, CallBarred, Plan, Ret, Raise, Stop, Eval, Exec, Put, Within, Pure, Good, Bad}
+use Rattle.asl_rules.specs.Pures.{◌>>=◌, known}
+use Rattle.asl_rules.specs.ByNames.{Asks, Views, expr_plan, types_among}
 
 -- the value of an expression where these names are visible
 abbrev pub Known : Type 0
 Known = List Entry → Pure Value
 
-pub record KnownField : Type 0 where
-  pub name : Ident
-  pub value : Known
+-- storage outside bodies has the value that it begins with
+abbrev pub initial_value : Option Standing → Option Value
+initial_value None = None
+initial_value (Some (Stored s)) = s.initial
+initial_value (Some Subprogram) = None
+initial_value (Some (TypeName T)) = None
+initial_value (Some (Label T x)) = Some x
 
-abbrev pub known_or : Span → Option Value → Pure Value
-known_or span None = Bad (Stuck UnknownName span)
-known_or span (Some x) = Good x
+-- what expressions ask before any run; they hold no call
+abbrev pub before_runs : ℕ → Asks (List Entry) Known Known
+before_runs limit = record {
+  limit = limit;
+  value = λ span name names. known span (initial_value (standing_of name names));
+  types = types_among;
+  call = λ span name ps xs names. Stop (Stuck CallBarred span) names;
+}
 
-abbrev pub value_of_standing : Span → Option Standing → Pure Value
-value_of_standing span (Some (Stored s)) = known_or span s.initial
-value_of_standing span (Some (Label T x)) = Good x
-value_of_standing span o = Bad (Stuck UnknownName span)
+abbrev pub known_parts : Views Known (Shaped (List ℕ) Known) (Shaped SliceShape Known) (Shaped PatternShape Known) (Shaped TypeOver Known)
+known_parts = record { given = itself; slice = itself; pattern = itself; written = itself }
 
-abbrev pub unless_decided : Span → BinaryOperator → Value → Known → List Entry → Decided → Pure Value
-unless_decided span o x b names (Already r) = Good (bool r)
-unless_decided span o x b names ByRight = b names >>= λ y. binary_value span o x y
+-- what a plan gives whose parts are such values; no form of expression throws or executes a statement
+abbrev pub settled : {A : Type 0} → Span → List Entry → Plan (List Entry) Known Known A → Pure A
+settled span names (Ret x c) = Good x
+settled span names (Raise x c) = Bad (Stuck NothingCaught span)
+settled span names (Stop e c) = Bad e
+settled span names (Eval e c k) = e names >>= λ x. settled span names (k x names)
+settled span names (Exec s c k) = Bad (Stuck CallBarred span)
+settled span names (Put bytes q) = settled span names q
+settled span names (Within q f g) = settled span names q >>= λ x. settled span names (f x names)
 
-abbrev pub behind_left : Span → BinaryOperator → Value → Known → List Entry → Strictness → Pure Value
-behind_left span o x b names Strict = b names >>= λ y. binary_value span o x y
-behind_left span o x b names (Lazy f) = truth span x >>= λ p. unless_decided span o x b names (f p)
+-- where an expression stands
+abbrev pub layer_at : {B I E F P L T : Type 0} → ex.Expr-F B I E F P L T → Span
+layer_at (ex.Int span n) = span
+layer_at (ex.Bits span t) = span
+layer_at (ex.Bool span b) = span
+layer_at (ex.Name span t) = span
+layer_at (ex.Unary span o a) = span
+layer_at (ex.Binary span o a b) = span
+layer_at (ex.Conditional span c a b) = span
+layer_at (ex.Tuple span xs) = span
+layer_at (ex.Construct span i fs) = span
+layer_at (ex.Call span i ps xs) = span
+layer_at (ex.Field span a i) = span
+layer_at (ex.Fields span a iss) = span
+layer_at (ex.Slices span a ss) = span
+layer_at (ex.Element span a i) = span
+layer_at (ex.As span a t) = span
+layer_at (ex.In span a p) = span
 
-abbrev pub chosen : Bool → Pure Value → Pure Value → Pure Value
-chosen true p q = p
-chosen false p q = q
+abbrev pub ConstantLayer : Type 0
+ConstantLayer = ex.Expr-F (Shaped BitfieldShape Known) (Shaped PartShape Known) Known (Shaped (List ℕ) Known) (Shaped PatternShape Known) (Shaped SliceShape Known) (Shaped TypeOver Known)
 
-abbrev pub all_known : List Known → List Entry → Pure (List Value)
-all_known [] names = Good []
-all_known (e ∷ es) names = e names >>= λ x. all_known es names >>= λ xs. Good (x ∷ xs)
+abbrev pub constant_layer : ℕ → ConstantLayer → Known
+constant_layer limit layer names = settled (layer_at layer) names (expr_plan (before_runs limit) known_parts layer names)
 
-abbrev pub all_given : List KnownField → List Entry → Pure (List Given)
-all_given [] names = Good []
-all_given (g ∷ gs) names = g.value names >>= λ x. all_given gs names >>= λ xs. Good (record { name = g.name.text; value = x } ∷ xs)
-
-abbrev pub constructed : Span → Option Ty → List Given → Pure Value
-constructed span None gs = Bad (Stuck UnknownName span)
-constructed span (Some T) gs = construct span T gs
-
-abbrev pub Unread : Type 0
-Unread = Unit {0}
-
-abbrev pub constant_rule : ex.Expr-F Unread Unread Known KnownField Unread Unread Unread → Known
-constant_rule (ex.Int span n) names = integer_of span (pos n)
-constant_rule (ex.Bool span b) names = Good (bool b)
-constant_rule (ex.Name span name) names = value_of_standing span (standing_of name names)
-constant_rule (ex.Unary span o a) names = a names >>= λ x. unary_value span o x
-constant_rule (ex.Binary span o a b) names = a names >>= λ x. behind_left span o x b names (strictness o)
-constant_rule (ex.Conditional span c a b) names = c names >>= λ x. truth span x >>= λ p. chosen p (a names) (b names)
-constant_rule (ex.Tuple span es) names = all_known es names >>= λ xs. Good (tuple_with (values_of xs))
-constant_rule (ex.Construct span i gs) names = all_given gs names >>= λ xs. constructed span (type_of_name i.text names) xs
-constant_rule (ex.Field span a i) names = a names >>= λ x. field_of span i.text x
-constant_rule (ex.Element span a i) names = a names >>= λ x. i names >>= λ y. element_of span x y
-constant_rule (ex.Bits span t) names = Bad (Stuck UnservedForm span)
-constant_rule (ex.Call span i ps es) names = Bad (Stuck UnservedForm span)
-constant_rule (ex.Fields span a iss) names = Bad (Stuck UnservedForm span)
-constant_rule (ex.Slices span a ss) names = Bad (Stuck UnservedForm span)
-constant_rule (ex.As span a t) names = Bad (Stuck UnservedForm span)
-constant_rule (ex.In span a p) names = Bad (Stuck UnservedForm span)
-
-abbrev pub given_rule : ex.FieldValue-F Unread Unread Known KnownField Unread Unread Unread → KnownField
-given_rule (ex.Given i e) = record { name = i; value = e }
-
-abbrev pub constant : Expr → Known
-constant = fold-Expr Unread Unread Known KnownField Unread Unread Unread (λ _. tt) (λ _. tt) constant_rule given_rule (λ _. tt) (λ _. tt) (λ _. tt)
+abbrev pub constant : ℕ → Expr → Known
+constant limit = fold-Expr (Shaped BitfieldShape Known) (Shaped PartShape Known) Known (Shaped (List ℕ) Known) (Shaped PatternShape Known) (Shaped SliceShape Known) (Shaped TypeOver Known)
+    (bitfield_layer itself) (part_layer itself) (constant_layer limit) (given_layer itself) (pattern_layer itself itself) (slice_layer itself) (type_layer itself itself itself itself)

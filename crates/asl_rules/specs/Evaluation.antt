@@ -1,19 +1,15 @@
 -- What expressions and statements do, over the untyped trees: names are found by name, and no type is consulted but those
 -- that are written at places.
-use Rattle.std.specs.Prelude.{ℕ, pos, Bool, true, false, if◌then◌else◌, List, [], ◌∷◌, ◌++◌, length, take, slice_get, option_map, Option, Some, None, Result, Ok, Err}
+use Rattle.std.specs.Prelude.{ℕ, ◌+◌, ℤ, pos, Bool, true, false, ◌&&◌, if◌then◌else◌, List, [], ◌∷◌, ◌++◌, length, take, slice_get, option_map, option_and_then, Option, Some, None}
 use Rattle.std.specs.Str.{bytes_eq}
 use Rattle.asl_syn.specs.declared.token.Span.{Span}
-use Rattle.asl_syn.specs.declared.code.DynCode.TheVariants.{D08}
-use Rattle.asl_syn.specs.declared.tree.BinaryOperator.{BinaryOperator}
-use Rattle.asl_syn.specs.declared.tree.Bitfield.{Bitfield}
-use Rattle.asl_syn.specs.declared.tree.ConstraintPart.{ConstraintPart}
+use Rattle.asl_syn.specs.declared.code.DynCode.TheVariants.{D15}
 use Rattle.asl_syn.specs.declared.tree.Expr.{Expr, out-Expr}
-use Rattle.asl_syn.specs.declared.tree.FieldValue.{FieldValue, out-FieldValue}
+use Rattle.asl_syn.specs.declared.tree.FieldValue.{FieldValue}
 use Rattle.asl_syn.specs.declared.tree.Pattern.{Pattern}
 use Rattle.asl_syn.specs.declared.tree.Slice.{Slice}
 use Rattle.asl_syn.specs.declared.tree.Bitfield.TheOpen as ex
-use Rattle.asl_syn.specs.declared.tree.Bitfield.TheFolds.{fold-TypeExpr, para-TypeExpr}
-use Rattle.asl_syn.specs.declared.tree.TypeExpr.{TypeExpr}
+use Rattle.asl_syn.specs.declared.tree.TypeExpr.{TypeExpr, out-TypeExpr}
 use Rattle.asl_syn.specs.declared.tree.Ident.{Ident}
 use Rattle.asl_syn.specs.declared.tree.Binder.{Binder}
 use Rattle.asl_syn.specs.declared.tree.Binder.TheVariants.{Bound, Unbound}
@@ -24,13 +20,11 @@ use Rattle.asl_syn.specs.declared.tree.Suffix.{Suffix}
 use Rattle.asl_syn.specs.declared.tree.Suffix.TheVariants.{FieldOf, FieldsOf, SlicesOf, ElementOf}
 use Rattle.asl_syn.specs.declared.tree.Target.{Target, fold-Target}
 use Rattle.asl_syn.specs.declared.tree.Target.TheOpen as tg
-use Rattle.asl_syn.specs.declared.tree.PrintKind.{PrintKind}
-use Rattle.asl_syn.specs.declared.tree.PrintKind.TheVariants.{Print, PrintLine}
 use Rattle.asl_syn.specs.declared.tree.PrintItem.{PrintItem}
 use Rattle.asl_syn.specs.declared.tree.PrintItem.TheVariants.{Verbatim, Shown}
-use Rattle.asl_syn.specs.declared.tree.Alternative.{Alternative}
-use Rattle.asl_syn.specs.declared.tree.Catcher.{Catcher}
-use Rattle.asl_syn.specs.declared.tree.Otherwise.{Otherwise}
+use Rattle.asl_syn.specs.declared.tree.Alternative.{Alternative, out-Alternative}
+use Rattle.asl_syn.specs.declared.tree.Catcher.{Catcher, out-Catcher}
+use Rattle.asl_syn.specs.declared.tree.Otherwise.{Otherwise, out-Otherwise}
 use Rattle.asl_syn.specs.declared.tree.ElseIf.{ElseIf, out-ElseIf}
 use Rattle.asl_syn.specs.declared.tree.Stmt.{Stmt, out-Stmt}
 use Rattle.asl_syn.specs.declared.tree.Alternative.TheOpen as st
@@ -38,31 +32,42 @@ use Rattle.asl_syn.specs.declared.tree.StorageDecl.{StorageDecl}
 use Rattle.asl_syn.specs.declared.tree.Decl.{Decl}
 use Rattle.asl_syn.specs.declared.tree.Decl.TheVariants as dc
 use Rattle.asl_syn.specs.declared.tree.Formal.{Formal}
+use Rattle.asl_syn.specs.declared.tree.Param.{Param}
 use Rattle.asl_syn.specs.declared.tree.Func.{Func}
-use Rattle.asl_syn.specs.declared.code.Fault.{Fault}
-use Rattle.asl_syn.specs.Layers.{ExprLayer, StmtLayer, expr_layer_span, stmt_layer_span, expr_span, stmt_span}
-use Rattle.asl_rules.specs.Types.{Ty, Parts, Kinds, integer, boolean, tuple_of, array_of, no_part, part, tuples, no_kind, one_more}
-use Rattle.asl_rules.specs.Scopes.{Entry, Standing, Label, Storage, standing_of, storage_of, type_of_name}
-use Rattle.asl_rules.specs.Exprs.{written}
+use Rattle.asl_syn.specs.Layers.{ExprLayer, TypeLayer, StmtLayer, expr_span, stmt_span}
+use Rattle.asl_poly.specs.Poly.{constant_map, atom_map}
+use Rattle.asl_rules.specs.Types.{Ty, Kind, kind_eq}
+use Rattle.asl_rules.specs.Closed as cl
+use Rattle.asl_rules.specs.Closed.{Closed, ClosedParts, closed, parts_at}
+use Rattle.asl_rules.specs.Scopes.{Entry, Standing, Stored, Subprogram, TypeName, Label, Storage, standing_of, storage_of}
 use Rattle.asl_rules.specs.Declarations as programs
-use Rattle.asl_rules.specs.Declarations.{in_names, names_of_program}
-use Rattle.asl_rules.specs.Programs.{funcs_of, origin}
-use Rattle.asl_rules.specs.Stmts.{is_var, tuple_parts, up_to}
-use Rattle.asl_rules.specs.Values.{Value, int, bool, tuple_with, kind_of, initial_value, Exit, Normal, Returned}
-use Rattle.asl_rules.specs.States.{Under, of_type, of_kind, belongs, Binding, Core}
-use Rattle.asl_rules.specs.Structures.{element_of, with_element, field_of, with_field, there, Given, construct, values_of, parts}
-use Rattle.asl_rules.specs.Constants.{◌>>=◌}
-use Rattle.asl_rules.specs.Plans.{Faulted, Stuck, UnknownName, WrongKind, Immutable, EndReached, UnservedForm, Plan, Ret, Raise, Stop, Eval, Exec, Put, Within, choose, follow, Pure, Good, Bad, lift, Meaning, Nodes, meanings}
-use Rattle.asl_rules.specs.Operators.{integer_of, binary_value, unary_value, truth, Decided, Already, ByRight, Strictness, Strict, Lazy, strictness}
+use Rattle.asl_rules.specs.Programs.{Environment, funcs_of, origin}
+use Rattle.asl_rules.specs.Locals.{is_var}
+use Rattle.asl_rules.specs.Targets.{up_to}
+use Rattle.asl_rules.specs.Limits.{most_activations}
+use Rattle.asl_rules.specs.Values.{Value, Values, int, bits_with, tuple_with, no_value, value, kind_of, Exit}
+use Rattle.asl_rules.specs.Shapes.{SliceShape}
+use Rattle.asl_rules.specs.Shaped.{Named, exprs_in, shapes_in, given_parts, slice_parts, pattern_parts, type_parts, exprs_in_patterns, shapes_of_patterns, sizes_in, shape_of}
+use Rattle.asl_rules.specs.States.{Under, of_type, of_value, kept, Binding, Core, entered, restored}
+use Rattle.asl_rules.specs.Structures.{element_of, with_element, field_of, with_field, parts}
+use Rattle.asl_rules.specs.Vectors.{slice_places, with_slices, bitfields_named, bitfields_of, with_bitfields, bits_at}
+use Rattle.asl_rules.specs.Matching.{is_matched}
+use Rattle.asl_rules.specs.Routines.{Routine, routine_named}
+use Rattle.asl_rules.specs.Library.{routine_value}
+use Rattle.asl_rules.specs.Numbers.{Numbers, present, outside, all_numbers}
+use Rattle.asl_rules.specs.Alone.{Polynomials, polynomial, is_alone}
+use Rattle.asl_rules.specs.Written.{Sized, sized, type_of_sized, type_span, kind_written}
+use Rattle.asl_rules.specs.Pures.{◌>>=◌, there, known, found_type}
+use Rattle.asl_rules.specs.Constants.{constant}
+use Rattle.asl_rules.specs.ByNames.{Asks, Views, expr_plan, types_among}
+use Rattle.asl_rules.specs.Plans.{Faulted, Stuck, UnknownName, WrongKind, Immutable, Plan, Stop, Pure, Good, Bad, lift, Meaning, Nodes, meanings}
+use Rattle.asl_rules.specs.Forms.{call, routine_gives, unless_full, Keeps, in_frame, procedure_gives}
+use Rattle.asl_rules.specs.StatementForms.{Frames, in_order, Branch, branch, branches, assertion, with_value, with_values, Ahead, ready, by_one, by_all, Store, assignment, return_value, Item, Written, Valued, print_items, done_normal, Choice, case_of, for_loop, while_loop, repeat_loop, throw, Catch, try_list}
 use Rattle.asl_rules.specs.Strings.{string_text}
-use Rattle.asl_rules.specs.Texts.{value_text}
 use Rattle.asl_rules.specs.Cuts.{Cutting, cuttings}
 
 abbrev pub Does : Type 0 → Type 1
 Does A = Plan Core Expr Stmt A
-
-abbrev pub give : {A : Type 0} → Core → A → Does A
-give c x = Ret x c
 
 -- ---- names
 
@@ -75,17 +80,13 @@ abbrev pub or_value : Option Value → Option Value → Option Value
 or_value None o = o
 or_value (Some x) o = Some x
 
-abbrev pub known : Span → Option Value → Pure Value
-known span None = Bad (Stuck UnknownName span)
-known span (Some x) = Good x
+-- the value of a name, in the frame or else among the globals
+abbrev pub held : Span → List ℕ → Core → Pure Value
+held span name c = known span (or_value (value_of name c.frame) (value_of name c.globals))
 
--- a name's value, in the frame or else among the globals
-abbrev pub named : Span → List ℕ → Core → Pure Value
-named span name c = known span (or_value (value_of name c.frame) (value_of name c.globals))
-
--- a store in a place that was declared: it can be assigned, and holds such values
+-- a store in a place that was declared: it can be assigned, and keeps the value
 abbrev pub put_value : Span → Value → Binding → Pure Binding
-put_value span x b = if b.is_mutable then (if belongs x b.under then Good (record b { value = x }) else Bad (Stuck WrongKind span)) else Bad (Stuck Immutable span)
+put_value span x b = if b.is_mutable then (there span (kept b.under x) >>= λ y. Good (record b { value = y })) else Bad (Stuck Immutable span)
 
 abbrev pub map_pure : {A B : Type 0} → (A → B) → Pure A → Pure B
 map_pure f (Good x) = Good (f x)
@@ -111,20 +112,30 @@ store span name x c = first_store span (λ bs. record c { frame = bs }) (λ bs. 
 
 -- the value of a label
 abbrev pub label_in : Option Standing → Option Value
+label_in None = None
+label_in (Some (Stored s)) = None
+label_in (Some Subprogram) = None
+label_in (Some (TypeName T)) = None
 label_in (Some (Label T x)) = Some x
-label_in o = None
 
 -- the value of a name: in the frame, or else among the globals, or else a label
-abbrev pub value_or_label : List Decl → Span → List ℕ → Core → Pure Value
-value_or_label ds span name c = known span (or_value (value_of name c.frame) (or_value (value_of name c.globals) (label_in (standing_of name (names_of_program ds)))))
+abbrev pub value_here : Environment → List ℕ → Core → Option Value
+value_here env name c = or_value (value_of name c.frame) (or_value (value_of name c.globals) (label_in (standing_of name env.names)))
 
-abbrev pub good_type : Result Ty Fault → Option Ty
-good_type (Ok T) = Some T
-good_type (Err f) = None
+abbrev pub value_or_label : Environment → Span → List ℕ → Core → Pure Value
+value_or_label env span name c = known span (value_here env name c)
 
--- the type that is written, over the names of the program
-abbrev pub type_written : List Decl → TypeExpr → Option Ty
-type_written ds t = good_type (written t (in_names (names_of_program ds)))
+-- what declared names stand for
+abbrev pub types_of : Environment → Named
+types_of env = types_among env.names
+
+-- a written type with the values of its expressions
+abbrev pub sized_at : Environment → TypeExpr → List Value → Option Sized
+sized_at env t zs = sized env.limit (type_span t) zs (shape_of (types_of env) t)
+
+-- the type that is written, where names stand for these integers
+abbrev pub type_at : Environment → Numbers → TypeExpr → Option Closed
+type_at env f t = option_and_then (λ zs. type_of_sized (sized_at env t zs)) (all_numbers f (sizes_in t))
 
 -- ---- declarations
 
@@ -132,43 +143,33 @@ type_written ds t = good_type (written t (in_names (names_of_program ds)))
 abbrev pub declared : List ℕ → Value → Under → Bool → Core → Core
 declared name x u is_mutable c = record c { frame = c.frame ++ record { name = name; value = x; under = u; is_mutable = is_mutable } ∷ [] }
 
-abbrev pub type_under : Option Ty → Option Under
-type_under None = None
-type_under (Some T) = Some (of_type T)
+abbrev pub type_under : Option Closed → Option Under
+type_under o = option_map (λ T. of_type T) o
 
--- a place without a written type keeps the kind of the value that it was declared with
-abbrev pub stored_under : List Decl → Option TypeExpr → Value → Option Under
-stored_under ds None x = Some (of_kind (kind_of x))
-stored_under ds (Some t) x = type_under (type_written ds t)
-
--- a value where it belongs
-abbrev pub under : Span → Under → Value → Pure Value
-under span u x = if belongs x u then Good x else Bad (Stuck WrongKind span)
+-- a place without a written type keeps what the value that it was declared with shows
+abbrev pub stored_under : Environment → Core → Option TypeExpr → Value → Option Under
+stored_under env c None x = Some (of_value x)
+stored_under env c (Some t) x = type_under (type_at env (present c) t)
 
 abbrev pub declare : Span → List ℕ → Bool → Option Under → Value → Core → Pure Core
-declare span name is_mutable None x c = Bad (Stuck UnservedForm span)
-declare span name is_mutable (Some u) x c = map_pure (λ y. declared name y u is_mutable c) (under span u x)
+declare span name is_mutable o x c = found_type span o >>= λ u. there span (kept u x) >>= λ y. Good (declared name y u is_mutable c)
 
 -- what the parts of a tuple are stored under
-abbrev pub part_under : Under → Under → Under
-part_under u v = u
+abbrev pub unders_of_values : Values → List Under
+unders_of_values no_value = []
+unders_of_values (value x xs) = of_value x ∷ unders_of_values xs
 
-abbrev pub unders_of_kinds : Kinds → List Under
-unders_of_kinds no_kind = []
-unders_of_kinds (one_more k ks) = of_kind k ∷ unders_of_kinds ks
+abbrev pub unders_of_parts : ClosedParts → List Under
+unders_of_parts cl.no_part = []
+unders_of_parts (cl.part T ts) = of_type T ∷ unders_of_parts ts
 
-abbrev pub unders_of_parts : Parts → List Under
-unders_of_parts no_part = []
-unders_of_parts (part T ts) = of_type T ∷ unders_of_parts ts
-
-abbrev pub unders_of_type : Option Parts → Option (List Under)
-unders_of_type None = None
-unders_of_type (Some ts) = Some (unders_of_parts ts)
+abbrev pub values_of_tuple : Value → Option Values
+values_of_tuple (tuple_with xs) = Some xs
+values_of_tuple x = None
 
 abbrev pub unders_in : Under → Option (List Under)
-unders_in (of_type T) = unders_of_type (tuple_parts T)
-unders_in (of_kind (tuples ks)) = Some (unders_of_kinds ks)
-unders_in (of_kind k) = None
+unders_in (of_type T) = option_map unders_of_parts (parts_at T)
+unders_in (of_value x) = option_map unders_of_values (values_of_tuple x)
 
 -- each name of a tuple bind with its part, where there are as many
 abbrev pub declare_each : Span → List Binder → Bool → List Under → List Value → Core → Pure Core
@@ -178,343 +179,319 @@ declare_each span (Unbound at ∷ bs) is_mutable (u ∷ us) (x ∷ xs) c = decla
 declare_each span bs is_mutable us xs c = Bad (Stuck WrongKind span)
 
 abbrev pub unders_or : Span → Option Under → Pure (List Under)
-unders_or span None = Bad (Stuck UnservedForm span)
-unders_or span (Some u) = there span (unders_in u)
+unders_or span o = found_type span o >>= λ u. there span (unders_in u)
 
-abbrev pub bound_to : List Decl → Span → Bind → Bool → Option TypeExpr → Value → Core → Pure Core
-bound_to ds span (Single (Bound i)) is_mutable t x c = declare span i.text is_mutable (stored_under ds t x) x c
-bound_to ds span (Single (Unbound at)) is_mutable t x c = Good c
-bound_to ds span (Several at bs) is_mutable t x c = unders_or span (stored_under ds t x) >>= λ us. parts span x >>= λ xs. declare_each span bs is_mutable us xs c
+abbrev pub bound_to : Environment → Span → Bind → Bool → Option TypeExpr → Value → Core → Pure Core
+bound_to env span (Single (Bound i)) is_mutable t x c = declare span i.text is_mutable (stored_under env c t x) x c
+bound_to env span (Single (Unbound at)) is_mutable t x c = Good c
+bound_to env span (Several at bs) is_mutable t x c = unders_or span (stored_under env c t x) >>= λ us. parts span x >>= λ xs. declare_each span bs is_mutable us xs c
 
-abbrev pub declare_all : List Ident → Ty → Value → Core → Core
+-- without an initialiser each name starts with the first value of the type, whose expressions are evaluated once
+abbrev pub declare_all : List Ident → Closed → Value → Core → Core
 declare_all [] T x c = c
 declare_all (i ∷ is) T x c = declare_all is T x (declared i.text x (of_type T) true c)
 
--- ---- expressions
+abbrev pub declare_first : Environment → Span → List Ident → TypeExpr → List Value → Core → Pure Core
+declare_first env span is t zs c = found_type span (sized_at env t zs) >>= λ s. s.first >>= λ x. Good (declare_all is s.type_is x c)
 
--- an integer literal stands for its number
-abbrev pub literal : Span → ℕ → Pure Value
-literal span n = integer_of span (pos n)
+-- ---- calls
 
--- the right operand, where the left one doesn't decide
-abbrev pub ask_right : Span → BinaryOperator → Expr → Value → Core → Does Value
-ask_right span o b x c = Eval b c (λ y c1. lift (binary_value span o x y) c1 (give c1))
+-- what a function's body gives belongs to the type that is written, over the globals and the parameters; a procedure gives nothing
+abbrev pub under_written : Span → Option Closed → Value → Pure Value
+under_written span o x = found_type span o >>= λ T. there span (kept (of_type T) x)
 
-abbrev pub unless_decided : Span → BinaryOperator → Expr → Value → Core → Decided → Does Value
-unless_decided span o b x c (Already r) = Ret (bool r) c
-unless_decided span o b x c ByRight = ask_right span o b x c
+abbrev pub result_at : Environment → Span → Numbers → Option TypeExpr → Keeps
+result_at env span f None = None
+result_at env span f (Some t) = Some (under_written span (type_at env f t))
 
-abbrev pub behind_left : Span → BinaryOperator → Expr → Value → Strictness → Core → Does Value
-behind_left span o b x Strict c = ask_right span o b x c
-behind_left span o b x (Lazy f) c = lift (truth span x) c (λ p. unless_decided span o b x c (f p))
+-- parameters in order, each over the globals and those before it; one without a type holds its own value
+abbrev pub param_under : Environment → Core → Option TypeExpr → Value → Option Under
+param_under env c None x = Some (of_value x)
+param_under env c (Some t) x = type_under (type_at env (present c) t)
 
--- expressions in order, and what comes with their values
-abbrev pub eval_all : List Expr → List Value → Core → (List Value → Core → Does Value) → Does Value
-eval_all [] xs c k = k xs c
-eval_all (e ∷ es) xs c k = Eval e c (λ x c1. eval_all es (xs ++ x ∷ []) c1 k)
+abbrev pub params_bound : Environment → Span → List Param → List Value → Core → Pure Core
+params_bound env span [] [] c = Good c
+params_bound env span [] (x ∷ xs) c = Bad (Stuck WrongKind span)
+params_bound env span (p ∷ ps) [] c = Bad (Stuck WrongKind span)
+params_bound env span (p ∷ ps) (x ∷ xs) c = declare span p.name.text false (param_under env c p.ty x) x c >>= λ c1. params_bound env span ps xs c1
 
-abbrev pub given_layer : ex.FieldValue-F Bitfield ConstraintPart Expr FieldValue Pattern Slice TypeExpr → Ident × Expr
-given_layer (ex.Given i e) = (i, e)
+-- formals in order, their types over the globals and the parameters
+abbrev pub formals_bound : Environment → Span → Numbers → List Formal → List Value → Core → Pure Core
+formals_bound env span f [] [] c = Good c
+formals_bound env span f [] (x ∷ xs) c = Bad (Stuck WrongKind span)
+formals_bound env span f (g ∷ gs) [] c = Bad (Stuck WrongKind span)
+formals_bound env span f (g ∷ gs) (x ∷ xs) c = declare span g.name.text false (type_under (type_at env f g.ty)) x c >>= λ c1. formals_bound env span f gs xs c1
 
-abbrev pub eval_given : List FieldValue → List Given → Core → (List Given → Core → Does Value) → Does Value
-eval_given [] gs c k = k gs c
-eval_given (f ∷ fs) gs c k = let p = given_layer (out-FieldValue f) in Eval p.1 c (λ x c1. eval_given fs (gs ++ record { name = p.0.text; value = x } ∷ []) c1 k)
+-- the states in which a body begins: with its parameters, and with its formals behind them
+pub record Entering : Type 0 where
+  pub params : Core
+  pub inner : Core
 
-abbrev pub constructed : Span → Option Ty → List Given → Pure Value
-constructed span None gs = Bad (Stuck UnknownName span)
-constructed span (Some T) gs = construct span T gs
+abbrev pub entering : Environment → Span → ℕ → Func → List Value → List Value → Core → Pure Entering
+entering env span id f ps xs c =
+    params_bound env span f.params ps (entered id c) >>= λ c1.
+    formals_bound env span (present c1) f.formals xs c1 >>= λ c2.
+    Good (record { params = c1; inner = c2 })
 
-abbrev pub expr_node : List Decl → ExprLayer → Core → Does Value
-expr_node ds (ex.Int span n) c = lift (literal span n) c (give c)
-expr_node ds (ex.Bool span b) c = Ret (bool b) c
-expr_node ds (ex.Name span name) c = lift (value_or_label ds span name c) c (give c)
-expr_node ds (ex.Unary span o a) c = Eval a c (λ x c1. lift (unary_value span o x) c1 (give c1))
-expr_node ds (ex.Binary span o a b) c = Eval a c (λ x c1. behind_left span o b x (strictness o) c1)
-expr_node ds (ex.Conditional span e a b) c = Eval e c (λ x c1. lift (truth span x) c1 (λ p. choose p (Eval a c1 (λ y c2. Ret y c2)) (Eval b c1 (λ y c2. Ret y c2))))
-expr_node ds (ex.Tuple span es) c = eval_all es [] c (λ xs c1. Ret (tuple_with (values_of xs)) c1)
-expr_node ds (ex.Construct span i fs) c = eval_given fs [] c (λ gs c1. lift (constructed span (type_of_name i.text (names_of_program ds)) gs) c1 (give c1))
-expr_node ds (ex.Field span a i) c = Eval a c (λ x c1. lift (field_of span i.text x) c1 (give c1))
-expr_node ds (ex.Element span a i) c = Eval a c (λ x c1. Eval i c1 (λ y c2. lift (element_of span x y) c2 (give c2)))
-expr_node ds layer c = Stop (Stuck UnservedForm (expr_layer_span layer)) c
+-- a body in a frame of its own, and the caller's frame again at its end
+abbrev pub run_body : Environment → Func → Core → Entering → Does (Option Value)
+run_body env f c e = in_frame f.name.span (result_at env f.name.span (present e.params) f.result) (restored c) (in_order f.body e.inner)
 
--- ---- statements
+abbrev pub run_with : Environment → Span → ℕ → Func → List Value → List Value → Core → Does (Option Value)
+run_with env span id f ps xs c = lift (entering env span id f ps xs c) c (run_body env f c)
 
--- statements in order, up to one that returns
-abbrev pub go_on : Exit → Core → (Core → Does Exit) → Does Exit
-go_on Normal c go = go c
-go_on (Returned x) c go = Ret (Returned x) c
+-- the widths of bits
+abbrev pub width_of_bits : Value → Option Value
+width_of_bits (bits_with bs v) = Some (int (pos (length bs)))
+width_of_bits x = None
 
-abbrev pub in_order : List Stmt → Core → Does Exit
-in_order [] c = Ret Normal c
-in_order (s ∷ ss) c = Exec s c (λ x c1. go_on x c1 (in_order ss))
+-- what names stand for in the width of a formal: the parameters for themselves, each by its atom, and what is outside bodies for its number
+abbrev pub width_over : Numbers → List Param → ℕ → Polynomials
+width_over f [] n name = option_map constant_map (f name)
+width_over f (p ∷ ps) n name = if bytes_eq p.name.text name then Some (atom_map n) else width_over f ps (n + 2) name
+
+-- a formal that is written `bits(P)` with the parameter P alone
+abbrev pub is_width_alone : Polynomials → ℕ → TypeLayer → Bool
+is_width_alone f n (ex.IntegerType span ps) = false
+is_width_alone f n (ex.BooleanType span) = false
+is_width_alone f n (ex.BitType span) = false
+is_width_alone f n (ex.NamedType span name) = false
+is_width_alone f n (ex.BitsType span e fs) = is_alone n (polynomial e f)
+is_width_alone f n (ex.TupleType span ts) = false
+is_width_alone f n (ex.ArrayType span e t) = false
+
+-- a parameter that is omitted is the width of the first argument whose formal it is alone
+abbrev pub given_by : Polynomials → ℕ → List Formal → List Value → Option Value
+given_by f n [] xs = None
+given_by f n (g ∷ gs) [] = None
+given_by f n (g ∷ gs) (x ∷ xs) = if is_width_alone f n (out-TypeExpr g.ty) then width_of_bits x else given_by f n gs xs
+
+abbrev pub omitted : Span → Polynomials → ℕ → List Param → List Formal → List Value → Pure (List Value)
+omitted span f n [] gs xs = Good []
+omitted span f n (p ∷ ps) gs xs = there span (given_by f n gs xs) >>= λ y. omitted span f (n + 2) ps gs xs >>= λ ys. Good (y ∷ ys)
+
+-- the parameters: those that are given, or else the widths of the arguments
+abbrev pub params_of : Span → Numbers → Func → List Value → List Value → Pure (List Value)
+params_of span f g [] xs = omitted span (width_over f g.params 0) 0 g.params g.formals xs
+params_of span f g (p ∷ ps) xs = Good (p ∷ ps)
+
+-- how often a subprogram may be active
+abbrev pub limit_in : Span → Value → Pure ℤ
+limit_in span (int z) = Good z
+limit_in span x = Bad (Stuck WrongKind span)
+
+abbrev pub limit_of : Environment → Span → Option Expr → Pure ℤ
+limit_of env span None = Good (pos most_activations)
+limit_of env span (Some e) = constant env.limit e env.names >>= λ x. limit_in span x
+
+-- a subprogram of the program, with its number
+pub record Numbered : Type 0 where
+  pub id : ℕ
+  pub func : Func
+
+abbrev pub is_kind : Value → Option Kind → Bool
+is_kind x None = false
+is_kind x (Some k) = kind_eq k (kind_of x)
+
+abbrev pub takes : Environment → Polynomials → List Formal → List Value → Bool
+takes env f [] [] = true
+takes env f [] (x ∷ xs) = false
+takes env f (g ∷ gs) [] = false
+takes env f (g ∷ gs) (x ∷ xs) = is_kind x (kind_written (types_of env) f g.ty) && takes env f gs xs
+
+-- the first of the name whose formals are of the kinds of the arguments, counted from n
+abbrev pub overload : Environment → Numbers → ℕ → List Func → List ℕ → List Value → Option Numbered
+overload env f n [] name xs = None
+overload env f n (g ∷ gs) name xs = if bytes_eq g.name.text name && takes env (width_over f g.params 0) g.formals xs then Some (record { id = n; func = g }) else overload env f (n + 1) gs name xs
+
+-- a subprogram of the program: D11 where it is as often active as it may be, then its parameters, and its body
+abbrev pub call_one : Environment → Span → List Value → List Value → Numbered → Core → Does (Option Value)
+call_one env span ps xs s c =
+    lift (limit_of env span s.func.limit) c (λ limit. unless_full span s.id c.live limit
+    (lift (params_of span (outside c) s.func ps xs) c (λ qs. run_with env span s.id s.func qs xs c)) c)
+
+-- a subprogram of the library, or else one of the program
+abbrev pub call_named : Environment → Span → List ℕ → List Value → List Value → Core → Option Routine → Does (Option Value)
+call_named env span name ps xs c (Some r) = routine_gives (routine_value env.limit span r ps xs) c
+call_named env span name ps xs c None = lift (known span (overload env (outside c) 0 (funcs_of env.decls) name xs)) c (λ s. call_one env span ps xs s c)
+
+abbrev pub called : Environment → Span → List ℕ → List Value → List Value → Core → Does (Option Value)
+called env span name ps xs c = call_named env span name ps xs c (routine_named name)
+
+-- ---- all expressions
+
+-- what expressions ask of a state
+abbrev pub in_state : Environment → Asks Core Expr Stmt
+in_state env = record { limit = env.limit; value = value_or_label env; types = λ c. types_of env; call = called env }
+
+abbrev pub tree_parts : Views Expr FieldValue Slice Pattern TypeExpr
+tree_parts = record { given = given_parts; slice = slice_parts; pattern = pattern_parts; written = type_parts }
+
+abbrev pub expr_node : Environment → ExprLayer → Core → Does Value
+expr_node env layer c = expr_plan (in_state env) tree_parts layer c
+
+-- ---- statements, taken apart
 
 abbrev pub cut : ℕ → Core → Core
 cut n c = record c { frame = take n c.frame }
 
-abbrev pub leave : ℕ → Exit → Core → Does Exit
-leave n x c = Ret x (cut n c)
+abbrev pub frames : Frames Core
+frames = record { height = λ c. length c.frame; cut = cut; handled = λ c. c.handled; with_handled = λ xs c. record c { handled = xs } }
 
--- a list with a scope of its own
-abbrev pub scope : List Stmt → Core → Does Exit
-scope ss c = follow (in_order ss c) (leave (length c.frame))
+abbrev pub branch_layer : st.ElseIf-F Alternative Catcher ElseIf Otherwise Stmt → Branch Expr Stmt
+branch_layer (st.ElseIf e ss) = record { condition = e; body = ss }
 
--- a branch whose condition is asked, and what comes where it is FALSE
-abbrev pub branch : Span → Expr → List Stmt → (Core → Does Exit) → Core → Does Exit
-branch span e ss rest c = Eval e c (λ x c1. lift (truth span x) c1 (λ b. choose b (scope ss c1) (rest c1)))
+abbrev pub branch_in : ElseIf → Branch Expr Stmt
+branch_in b = branch_layer (out-ElseIf b)
 
-abbrev pub else_if : Span → st.ElseIf-F Alternative Catcher ElseIf Otherwise Stmt → (Core → Does Exit) → Core → Does Exit
-else_if span (st.ElseIf e ss) rest c = branch span e ss rest c
+abbrev pub choice_layer : Environment → st.Alternative-F Alternative Catcher ElseIf Otherwise Stmt → Choice Expr Stmt
+choice_layer env (st.When ps e ss) = record { exprs = exprs_in_patterns ps; matches = is_matched env.limit (shapes_of_patterns ps); condition = e; body = ss }
 
-abbrev pub branches : Span → List ElseIf → List Stmt → Core → Does Exit
-branches span [] last c = scope last c
-branches span (b ∷ bs) last c = else_if span (out-ElseIf b) (branches span bs last) c
+abbrev pub choice_in : Environment → Alternative → Choice Expr Stmt
+choice_in env a = choice_layer env (out-Alternative a)
 
-abbrev pub asserted : Span → Bool → Core → Does Exit
-asserted span true c = Ret Normal c
-asserted span false c = Stop (Faulted D08 span) c
+abbrev pub otherwise_layer : st.Otherwise-F Alternative Catcher ElseIf Otherwise Stmt → Option (List Stmt)
+otherwise_layer st.NoOtherwise = None
+otherwise_layer (st.Otherwise ss) = Some ss
+
+abbrev pub otherwise_in : Otherwise → Option (List Stmt)
+otherwise_in o = otherwise_layer (out-Otherwise o)
+
+-- the exception gets the name of its catcher, under the type that the catcher names
+abbrev pub caught_as : Environment → Ident → List ℕ → Value → Core → Pure Core
+caught_as env i name x c = known i.span (types_of env name) >>= λ T. declare i.span i.text false (Some (of_type T)) x c
+
+abbrev pub catch_layer : Environment → st.Catcher-F Alternative Catcher ElseIf Otherwise Stmt → Catch Core Stmt
+catch_layer env (st.Catch o t ss) = record { caught = t.text; named = option_map (λ i. caught_as env i t.text) o; body = ss }
+
+abbrev pub catch_in : Environment → Catcher → Catch Core Stmt
+catch_in env h = catch_layer env (out-Catcher h)
+
+abbrev pub item_in : PrintItem → Item Expr
+item_in (Verbatim span t) = Written (string_text t)
+item_in (Shown e) = Valued e
+
+-- the index of a loop holds integers, and can't be assigned
+abbrev pub with_index : Ident → Value → Core → Pure Core
+with_index i x c = declare i.span i.text false (Some (of_value x)) x c
 
 -- ---- assignments
 
 -- a step into a value, with the place of its faults
 pub data Step : Type 0 where
   into_field : Span → List ℕ → Step
+  into_fields : Span → List Ident → Step
+  into_slices : Span → List SliceShape → List Value → Step
   into_element : Span → Value → Step
 
--- a value with another at the end of these steps
-abbrev pub updated : List Step → Value → Value → Pure Value
-updated [] y x = Good y
-updated (into_field span f ∷ ss) y x = field_of span f x >>= λ q. updated ss y q >>= λ r. with_field span f r x
-updated (into_element span i ∷ ss) y x = element_of span x i >>= λ q. updated ss y q >>= λ r. with_element span r x i
-
--- the value of a name, in the frame or else among the globals
-abbrev pub held : Span → List ℕ → Core → Pure Value
-held span name c = known span (or_value (value_of name c.frame) (value_of name c.globals))
+-- a value with another at the end of these steps, which is stored as what it replaces was
+abbrev pub updated : Environment → Span → List Step → Value → Value → Pure Value
+updated env at [] y x = there at (kept (of_value x) y)
+updated env at (into_field span f ∷ ss) y x = field_of span f x >>= λ q. updated env at ss y q >>= λ r. with_field (types_of env) span f r x
+updated env at (into_fields span is ∷ ss) y x = bitfields_named span is x >>= λ fs. bitfields_of env.limit span fs x >>= λ q. updated env at ss y q >>= λ r. with_bitfields env.limit span fs r x
+updated env at (into_slices span sl zs ∷ ss) y x = slice_places env.limit span sl zs x >>= λ ps. bits_at span ps x >>= λ q. updated env at ss y q >>= λ r. with_slices env.limit span sl zs r x
+updated env at (into_element span i ∷ ss) y x = element_of span x i >>= λ q. updated env at ss y q >>= λ r. with_element span r x i
 
 -- a store at the end of these steps into a name
-abbrev pub store_at : Span → List ℕ → List Step → Value → Core → Pure Core
-store_at span name ss y c = held span name c >>= λ x. updated ss y x >>= λ z. store span name z c
+abbrev pub store_at : Environment → Ident → Value → List Step → Core → Pure Core
+store_at env i y ss c = held i.span i.text c >>= λ x. updated env i.span ss y x >>= λ z. store i.span i.text z c
 
-abbrev pub eval_suffix : Span → Suffix → List Step → Core → (List Step → Core → Does Exit) → Does Exit
-eval_suffix span (FieldOf f) ss c k = k (ss ++ into_field span f.text ∷ []) c
-eval_suffix span (ElementOf e) ss c k = Eval e c (λ x c1. k (ss ++ into_element span x ∷ []) c1)
-eval_suffix span (FieldsOf fs) ss c k = Stop (Stuck UnservedForm span) c
-eval_suffix span (SlicesOf sl) ss c k = Stop (Stuck UnservedForm span) c
+abbrev pub step_of : Span → Suffix → Ahead Expr Step
+step_of span (FieldOf f) = ready (into_field span f.text)
+step_of span (ElementOf e) = by_one e (λ x. into_element span x)
+step_of span (FieldsOf fs) = ready (into_fields span fs)
+step_of span (SlicesOf sl) = by_all (exprs_in slice_parts sl) (λ zs. into_slices span (shapes_in slice_parts sl) zs)
 
--- the operands of a target, and what comes with its steps
-abbrev pub eval_suffixes : Ident → List PlacedSuffix → List Step → Core → (List Step → Core → Does Exit) → Does Exit
-eval_suffixes i [] ss c k = k ss c
-eval_suffixes i (x ∷ xs) ss c k = eval_suffix (up_to i x.end) x.suffix ss c (λ ss1 c1. eval_suffixes i xs ss1 c1 k)
+-- the faults of a step stand at the target up to it
+abbrev pub steps_of : Ident → List PlacedSuffix → List (Ahead Expr Step)
+steps_of i [] = []
+steps_of i (x ∷ xs) = step_of (up_to i x.end) x.suffix ∷ steps_of i xs
 
--- a place of a target with the value that is stored there
-pub record Assigned : Type 0 where
-  pub name : Ident
-  pub suffixes : List PlacedSuffix
-  pub value : Value
+-- the stores of a value that is assigned, where a tuple has as many parts as the target
+abbrev pub Stores : Type 0
+Stores = List (Store Core Expr Step)
 
--- the places of a target in order, where its parts are as many as those of the value
 abbrev pub Assigning : Type 0
-Assigning = Span → Value → Pure (List Assigned)
+Assigning = Environment → Span → Value → Pure Stores
 
-abbrev pub assign_each : List Assigning → Span → List Value → Pure (List Assigned)
-assign_each [] span [] = Good []
-assign_each (t ∷ ts) span (x ∷ xs) = t span x >>= λ ps. assign_each ts span xs >>= λ qs. Good (ps ++ qs)
-assign_each ts span xs = Bad (Stuck WrongKind span)
+abbrev pub assign_each : List Assigning → Environment → Span → List Value → Pure Stores
+assign_each [] env span [] = Good []
+assign_each [] env span (x ∷ xs) = Bad (Stuck WrongKind span)
+assign_each (t ∷ ts) env span [] = Bad (Stuck WrongKind span)
+assign_each (t ∷ ts) env span (x ∷ xs) = t env span x >>= λ ps. assign_each ts env span xs >>= λ qs. Good (ps ++ qs)
 
 abbrev pub assigning_layer : tg.Target-F Assigning → Assigning
-assigning_layer (tg.Discarded at) span x = Good []
-assigning_layer (tg.Place at i xs) span x = Good (record { name = i; suffixes = xs; value = x } ∷ [])
-assigning_layer (tg.Targets at ts) span x = parts span x >>= λ xs. assign_each ts span xs
+assigning_layer (tg.Discarded at) env span x = Good []
+assigning_layer (tg.Place at i xs) env span x = Good (record { steps = steps_of i xs; put = store_at env i x } ∷ [])
+assigning_layer (tg.Targets at ts) env span x = parts span x >>= λ xs. assign_each ts env span xs
 
 abbrev pub assigned : Target → Assigning
 assigned = fold-Target Assigning assigning_layer
 
--- places in turn, each its operands and then its store
-abbrev pub store_each : List Assigned → Core → Does Exit
-store_each [] c = Ret Normal c
-store_each (p ∷ ps) c = eval_suffixes p.name p.suffixes [] c (λ ss c1. lift (store_at p.name.span p.name.text ss p.value c1) c1 (λ c2. store_each ps c2))
+-- ---- all statements
 
--- ---- declarations without an initialiser: the expressions in the written type are evaluated once
-
-abbrev pub Unread : Type 0
-Unread = Unit {0}
-
-abbrev pub all_sizes : List (TypeExpr × List Expr) → List Expr
-all_sizes [] = []
-all_sizes (t ∷ ts) = t.1 ++ all_sizes ts
-
--- the expressions in a written type, in order
-abbrev pub sizes_layer : ex.TypeExpr-F (Bitfield × Unread) (ConstraintPart × Unread) (Expr × Unread) (FieldValue × Unread) (Pattern × Unread) (Slice × Unread) (TypeExpr × List Expr) → List Expr
-sizes_layer (ex.TupleType span ts) = all_sizes ts
-sizes_layer (ex.ArrayType span e t) = e.0 ∷ t.1
-sizes_layer layer = []
-
-abbrev pub sizes_in : TypeExpr → List Expr
-sizes_in = para-TypeExpr Unread Unread Unread Unread Unread Unread (List Expr) (λ _. tt) (λ _. tt) (λ _. tt) (λ _. tt) (λ _. tt) (λ _. tt) sizes_layer
-
--- a type with its sizes, in order, and the sizes that are left
-abbrev pub Sized : Type 0
-Sized = List Value → Option (Ty × List Value)
-
-pub record SizedParts : Type 0 where
-  pub parts : Parts
-  pub left : List Value
-
-abbrev pub with_part : Ty → Option SizedParts → Option SizedParts
-with_part T None = None
-with_part T (Some q) = Some (record q { parts = part T q.parts })
-
-abbrev pub first_part : Option (Ty × List Value) → (List Value → Option SizedParts) → Option SizedParts
-first_part None rest = None
-first_part (Some p) rest = with_part p.0 (rest p.1)
-
-abbrev pub sized_parts : List Sized → List Value → Option SizedParts
-sized_parts [] zs = Some (record { parts = no_part; left = zs })
-sized_parts (t ∷ ts) zs = first_part (t zs) (sized_parts ts)
-
-abbrev pub tuple_sized : Option SizedParts → Option (Ty × List Value)
-tuple_sized None = None
-tuple_sized (Some p) = Some (tuple_of p.parts, p.left)
-
-abbrev pub array_sized : ℕ → Option (Ty × List Value) → Option (Ty × List Value)
-array_sized n None = None
-array_sized n (Some p) = Some (array_of n p.0, p.1)
-
-abbrev pub by_size : Sized → List Value → Option (Ty × List Value)
-by_size t (int (pos n) ∷ zs) = array_sized n (t zs)
-by_size t zs = None
-
-abbrev pub named_type : Option Ty → List Value → Option (Ty × List Value)
-named_type None zs = None
-named_type (Some T) zs = Some (T, zs)
-
-abbrev pub sized_layer : List Decl → ex.TypeExpr-F Unread Unread Unread Unread Unread Unread Sized → Sized
-sized_layer ds (ex.IntegerType span []) zs = Some (integer, zs)
-sized_layer ds (ex.BooleanType span) zs = Some (boolean, zs)
-sized_layer ds (ex.NamedType span name) zs = named_type (type_of_name name (names_of_program ds)) zs
-sized_layer ds (ex.TupleType span ts) zs = tuple_sized (sized_parts ts zs)
-sized_layer ds (ex.ArrayType span e t) zs = by_size t zs
-sized_layer ds layer zs = None
-
-abbrev pub sized : List Decl → TypeExpr → Sized
-sized ds = fold-TypeExpr Unread Unread Unread Unread Unread Unread Sized (λ _. tt) (λ _. tt) (λ _. tt) (λ _. tt) (λ _. tt) (λ _. tt) (sized_layer ds)
-
-abbrev pub first_of_pair : Option (Ty × List Value) → Option Ty
-first_of_pair None = None
-first_of_pair (Some p) = Some p.0
-
-abbrev pub eval_sizes : List Expr → List Value → Core → (List Value → Core → Does Exit) → Does Exit
-eval_sizes [] zs c k = k zs c
-eval_sizes (e ∷ es) zs c k = Eval e c (λ z c1. eval_sizes es (zs ++ z ∷ []) c1 k)
-
--- each name starts with the first value of the type
-abbrev pub declare_vars : Span → List Ident → Option Ty → Core → Does Exit
-declare_vars span is None c = Stop (Stuck UnservedForm span) c
-declare_vars span is (Some T) c = Ret Normal (declare_all is T (initial_value T) c)
-
--- items, each written when it is evaluated
-abbrev pub print_items : PrintKind → List PrintItem → Core → Does Exit
-print_items Print [] c = Ret Normal c
-print_items PrintLine [] c = Put (10 ∷ []) (Ret Normal c)
-print_items kind (Verbatim span t ∷ is) c = Put (string_text t) (print_items kind is c)
-print_items kind (Shown e ∷ is) c = Eval e c (λ x c1. Put (value_text x) (print_items kind is c1))
-
-abbrev pub stmt_node : List Decl → StmtLayer → Core → Does Exit
-stmt_node ds (st.Pass span) c = Ret Normal c
-stmt_node ds (st.Assert span e) c = Eval e c (λ x c1. lift (truth span x) c1 (λ b. asserted span b c1))
-stmt_node ds (st.Local span kind b t e) c = Eval e c (λ x c1. lift (bound_to ds span b (is_var kind) t x c1) c1 (λ c2. Ret Normal c2))
-stmt_node ds (st.LocalVars span iss t) c = eval_sizes (sizes_in t) [] c (λ zs c1. declare_vars span iss (first_of_pair (sized ds t zs)) c1)
-stmt_node ds (st.Assign span t e) c = Eval e c (λ x c1. lift (assigned t span x) c1 (λ ps. store_each ps c1))
-stmt_node ds (st.If span c first others last) k = branch span c first (branches span others last) k
-stmt_node ds (st.Return span None) c = Ret (Returned None) c
-stmt_node ds (st.Return span (Some e)) c = Eval e c (λ x c1. Ret (Returned (Some x)) c1)
-stmt_node ds (st.Print span kind iss) c = print_items kind iss c
-stmt_node ds layer c = Stop (Stuck UnservedForm (stmt_layer_span layer)) c
+abbrev pub stmt_node : Environment → StmtLayer → Core → Does Exit
+stmt_node env (st.Pass span) c = done_normal c
+stmt_node env (st.Unreachable span) c = Stop (Faulted D15 span) c
+stmt_node env (st.Assert span e) c = assertion span e c
+stmt_node env (st.Local span kind b t e) c = with_value e (bound_to env span b (is_var kind) t) c
+stmt_node env (st.LocalVars span iss t) c = with_values (sizes_in t) (declare_first env span iss t) c
+stmt_node env (st.Assign span t e) c = assignment e (assigned t env span) c
+stmt_node env (st.Invoke span i ps es) c = call ps es c (called env span i.text) (procedure_gives span)
+stmt_node env (st.If span e ss others last) c = branch frames span e ss (branches frames branch_in span others last) c
+stmt_node env (st.Case span e alts o) c = case_of frames (choice_in env) span e alts (otherwise_in o) c
+stmt_node env (st.For span i a d b l ss) c = for_loop frames (with_index i) span a d b l ss c
+stmt_node env (st.While span e l ss) c = while_loop frames span e l ss c
+stmt_node env (st.Repeat span ss e l) c = repeat_loop frames span ss e l c
+stmt_node env (st.Return span o) c = return_value o c
+stmt_node env (st.Throw span o) c = throw frames span o c
+stmt_node env (st.Try span ss hs o) c = try_list frames (catch_in env) ss hs (otherwise_in o) c
+stmt_node env (st.Print span kind iss) c = print_items item_in kind iss c
 
 -- what the nodes of a program do, and what they mean where at most d more may be open
-abbrev pub nodes : List Decl → Nodes Core Expr Stmt
-nodes ds = record {
+abbrev pub nodes : Environment → Nodes Core Expr Stmt
+nodes env = record {
   expr_at = expr_span;
   stmt_at = stmt_span;
-  expr = λ e c. expr_node ds (out-Expr e) c;
-  stmt = λ s c. stmt_node ds (out-Stmt s) c;
+  expr = λ e c. expr_node env (out-Expr e) c;
+  stmt = λ s c. stmt_node env (out-Stmt s) c;
 }
 
-abbrev pub meaning : List Decl → ℕ → Meaning Core Expr Stmt
-meaning ds d = meanings (nodes ds) d
+abbrev pub meaning : Environment → ℕ → Meaning Core Expr Stmt
+meaning env d = meanings (nodes env) d
 
-abbrev pub cutting : List Decl → ℕ → Cutting Core Expr Stmt
-cutting ds d = cuttings (nodes ds) d
+abbrev pub cutting : Environment → ℕ → Cutting Core Expr Stmt
+cutting env d = cuttings (nodes env) d
 
--- ---- subprograms
+-- ---- calls from outside
 
--- the caller has its own frame again
-abbrev pub restored : Core → Core → Core
-restored c c1 = record c1 { frame = c.frame; live = take (length c.live) c1.live }
-
--- a value that is returned belongs to the type that is written
-abbrev pub under_written : Span → Option Ty → Value → Pure Value
-under_written span None x = Bad (Stuck UnservedForm span)
-under_written span (Some T) x = under span (of_type T) x
-
-abbrev pub returned : List Decl → Span → Option TypeExpr → Option Value → Pure (Option Value)
-returned ds span None None = Good None
-returned ds span None (Some x) = Bad (Stuck WrongKind span)
-returned ds span (Some t) None = Bad (Stuck WrongKind span)
-returned ds span (Some t) (Some x) = map_pure (λ y. Some y) (under_written span (type_written ds t) x)
-
--- the end of a body: a function gives the value that it returned, and a procedure ends
-abbrev pub at_end : List Decl → Option TypeExpr → Span → Core → Exit → Core → Does (Option Value)
-at_end ds result span c (Returned o) c1 = lift (returned ds span result o) c1 (λ x. Ret x (restored c c1))
-at_end ds None span c Normal c1 = Ret None (restored c c1)
-at_end ds (Some t) span c Normal c1 = Stop (Stuck EndReached span) c1
-
--- a subprogram is active while its body runs
-abbrev pub run_body : List Decl → ℕ → Func → Core → List Binding → Does (Option Value)
-run_body ds id f c frame = Within (in_order f.body (record c { frame = frame; live = c.live ++ id ∷ [] }))
-    (at_end ds f.result f.name.span c) (λ x c1. Raise x (restored c c1))
-
--- the frame that formals and arguments make, where there are as many
-abbrev pub bound : List Formal → List Value → Option (List Binding)
-bound [] [] = Some []
-bound [] (x ∷ xs) = None
-bound (f ∷ fs) xs = None
-
-abbrev pub run_bound : List Decl → ℕ → Func → Core → Option (List Binding) → Does (Option Value)
-run_bound ds id f c None = Stop (Stuck UnknownName f.name.span) c
-run_bound ds id f c (Some frame) = run_body ds id f c frame
-
-abbrev pub call_func : List Decl → ℕ → Option Func → List Value → Core → Does (Option Value)
-call_func ds id None args c = Stop (Stuck UnknownName origin) c
-call_func ds id (Some f) args c = run_bound ds id f c (bound f.formals args)
-
--- a call from outside, which no limit refuses
-abbrev pub call_of : List Decl → ℕ → List Value → Core → Does (Option Value)
-call_of ds id args c = call_func ds id (slice_get (funcs_of ds) id) args c
+-- a call from outside, of a subprogram without parameters, which no limit refuses
+abbrev pub call_of : Environment → ℕ → List Value → Core → Does (Option Value)
+call_of env id args c = lift (known origin (slice_get (funcs_of env.decls) id)) c (λ f. run_with env f.name.span id f [] args c)
 
 -- ---- globals
 
 -- what global storage holds
 abbrev pub global_under : Option TypeExpr → Ty → Value → Under
-global_under None T x = of_kind (kind_of x)
-global_under (Some t) T x = of_type T
+global_under None T x = of_value x
+global_under (Some t) T x = of_type (closed T)
 
 abbrev pub global_with : StorageDecl → Ty → Value → Binding
 global_with d T x = record { name = d.name.text; value = x; under = global_under d.ty T x; is_mutable = programs.is_var d.kind }
 
-abbrev pub global_in : StorageDecl → Option Storage → List Binding → List Binding
-global_in d None rest = rest
-global_in d (Some s) rest = global_of_initial d s.ty s.initial rest
-  where
-    global_of_initial : StorageDecl → Ty → Option Value → List Binding → List Binding
-    global_of_initial d T None rest = rest
-    global_of_initial d T (Some x) rest = global_with d T x ∷ rest
+abbrev pub global_in : StorageDecl → Option Storage → Option Binding
+global_in d o = option_and_then (λ (s : Storage). option_map (global_with d s.ty) s.initial) o
+
+abbrev pub cons_some : Option Binding → List Binding → List Binding
+cons_some None bs = bs
+cons_some (Some b) bs = b ∷ bs
 
 abbrev pub globals_among : List Decl → List Entry → List Binding
 globals_among [] names = []
 globals_among (dc.Type d ∷ ds) names = globals_among ds names
-globals_among (dc.Storage d ∷ ds) names = global_in d (storage_of d.name.text names) (globals_among ds names)
+globals_among (dc.Storage d ∷ ds) names = cons_some (global_in d (storage_of d.name.text names)) (globals_among ds names)
 globals_among (dc.Func f ∷ ds) names = globals_among ds names
 
 -- the globals before the first call, in source order
-abbrev pub initial_globals : List Decl → List Binding
-initial_globals ds = globals_among ds (names_of_program ds)
+abbrev pub initial_globals : Environment → List Binding
+initial_globals env = globals_among env.decls env.names

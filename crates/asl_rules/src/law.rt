@@ -1,35 +1,38 @@
 //! The laws of the definitions, each as the contract of a function without parameters.
 #![tactic(auto)]
 
-ghost use Rattle.std.specs.Prelude.{◌≡◌, ℕ, ◌⊎◌, List, Option, Result, Err};
-ghost use Rattle.asl_syn.specs.declared.code.Fault.{Fault};
-ghost use Rattle.asl_grammar.specs.Reading.{File, Reads, Reader, IsReading};
-ghost use Rattle.asl_syn.specs.declared.tree.Decl.{Decl};
+ghost use Rattle.std.specs.Prelude.{ℕ, List, Ok};
+ghost use Rattle.asl_grammar.specs.Reading.{File, Reads};
 ghost use Rattle.asl_rules.specs.declared.entry.Entry.{Entry};
-ghost use Rattle.asl_rules.specs.Programs.{verdict, ProgramOk};
+ghost use Rattle.asl_rules.specs.Answers.{OneAnswer};
+ghost use Rattle.asl_rules.specs.Programs.{Environment, Accepted, ProgramOk};
+ghost use Rattle.asl_rules.specs.Soundness.{Soundness, SameMeaning};
+ghost use Rattle.asl_syn.specs.declared.tree.Decl.{Decl};
+ghost use Rattle.asl_rules.specs.Tests.{Tests};
 ghost use Rattle.asl_rules.specs.OneRun.{OneRun};
-ghost use Rattle.asl_rules.specs.Scopes.{Entry as Visible};
-ghost use Rattle.asl_rules.specs.Soundness.{NamesOf, Soundness};
+ghost use Rattle.asl_rules.specs.BeforeRuns.{BeginsSo};
 
 /// One run: for each program, state and node there is exactly one outcome, with one state, one number of steps left and
-/// one text after it.
-#[tactic(auto, using(crate::proofs::OneOutcome::one_run))]
+/// one text after it. A call takes one step for each node that it enters, and never are more than 2,000 nodes open. An
+/// expression gives in a run what it gives before any run, where each name has the value that it has then: as it has when
+/// a run begins.
+#[tactic(auto)]
 pub fn law1()
-    ensures { (ds : List Decl) → OneRun ds }
+    ensures one { (env : Environment) → OneRun env }
+    ensures start { (t : Tests) (ds : List Decl) → BeginsSo t ds }
 {}
 
-/// One reading and one verdict: files are read to one answer, the declarations or the fault, and declarations have one
-/// verdict, the entry or the fault.
+/// One answer: files, each entry and each width limit have exactly one of these, a program that is well formed or one
+/// single fault.
+#[tactic(auto, using(crate::proofs::verdict::OneVerdict::one_answer))]
 pub fn law2()
-    ensures one { (files : List File) (r s : Result (List Decl) Fault) → Reads files r → Reads files s → r ≡ s }
-    ensures some { (read : Reader) × IsReading read }
-    ensures entry { (e : Entry) (ds : List Decl) (m n : Option ℕ) → ProgramOk e ds m → ProgramOk e ds n → m ≡ n }
-    ensures fault { (e : Entry) (ds : List Decl) (m : Option ℕ) (f : Fault) → ProgramOk e ds m → verdict e ds ≡ Err f → ⊥ }
-    ensures verdict { (e : Entry) (ds : List Decl) → ((m : Option ℕ) × ProgramOk e ds m) ⊎ ((f : Fault) × (verdict e ds ≡ Err f)) }
+    ensures { (limit : ℕ) (e : Entry) (files : List File) → OneAnswer limit e files }
 {}
 
-/// Soundness: no run of a well-formed program is stuck, each state that it visits is sound, and an expression with a type
-/// gives values of that type.
+/// Soundness: no run of a well-formed program is stuck. Each state that it visits is sound, each node that it visits was
+/// judged in a scope with which the state agrees, an expression with a type gives values of that type, and the globals
+/// hold what was declared. Typed trees do what the trees do that they were judged from.
+#[tactic(auto)]
 pub fn law3()
-    ensures { (e : Entry) (ds : List Decl) (main : Option ℕ) → ProgramOk e ds main → (names : List Visible) × NamesOf ds names × Soundness ds names }
+    ensures { (limit : ℕ) (e : Entry) (files : List File) (ds : List Decl) (a : Accepted) → Reads files (Ok ds) → (p : ProgramOk limit e ds a) → Soundness p.tests ds a × SameMeaning p.tests ds a }
 {}

@@ -1,87 +1,87 @@
--- The entry of a well-formed program can be called without arguments.
-use Rattle.std.proofs.Common.{◌≡◌, ℕ, ◌+◌, suc, Bool, true, false, cond, ◌&&◌, List, [], ◌∷◌, Option, Some, None, Ok, refl, sym, subst, arith}
-use Rattle.std.specs.Prelude.{slice_get, codes}
-use Rattle.std.specs.Str.{bytes_eq}
-use Rattle.std.proofs.lemmas.Option.{none-some, same_Some}
-use Rattle.asl_syn.specs.declared.tree.Decl.{Decl}
-use Rattle.asl_syn.specs.declared.tree.Func.{Func}
-use Rattle.asl_rules.specs.declared.entry.Entry.{Entry}
-use Rattle.asl_rules.specs.declared.entry.Entry.TheVariants as entry
-use Rattle.asl_rules.specs.Faults.{◌>>=◌, ◌>>◌}
-use Rattle.asl_rules.specs.Served.{is_empty, served_rule}
-use Rattle.asl_rules.specs.Names.{names_rule, all_declared}
-use Rattle.asl_rules.specs.Uses.{cycles_rule}
-use Rattle.asl_rules.specs.Scopes.{Entry as Visible}
-use Rattle.asl_rules.specs.Declarations.{globals_rule}
-use Rattle.asl_rules.specs.Programs.{ProgramOk, verdict, funcs_of, signatures_rule, overloads_rule, bodies_rule, result_rule, entry_rule, has_integer, is_main, main_from, main_of, entry_found}
-use Rattle.asl_rules.specs.Belonging.{Belong}
-use Rattle.asl_rules.proofs.Inversions.{bind_ok, then_ok}
-use Rattle.asl_run.specs.Work.{IsCallable}
+-- The entry into a node.
+use Rattle.std.proofs.Common.{◌≡◌, ℕ, zero, suc, ◌-◌, ◌<◌, ◌==◌, Bool, true, false, if◌then◌else◌, List, Result, Ok, Err, sym, ap, ◌∙◌, subst, arith}
+use Rattle.asl_syn.specs.declared.token.Span.{Span}
+use Rattle.asl_syn.specs.declared.code.DynCode.TheVariants.{D12, D13}
+use Rattle.asl_rules.specs.Cuts as cut
+use Rattle.asl_rules.specs.Cuts.{cuts}
+use Rattle.asl_rules.specs.Plans.{Meter, Outcome, Halt, Faulted, enter, run}
+use Rattle.asl_rules.specs.Trees.{Tree, Act, tree_at, act_at}
+use Rattle.asl_rules.specs.TypedMeaning.{BareCore, tree_node, act_node}
+use Rattle.asl_tree.specs.declared.act.TreeFunc.{TreeFunc}
+use Rattle.asl_value.specs.declared.value.Value.{Value}
+use Rattle.asl_value.specs.View.{value_of}
+use Rattle.asl_run.specs.declared.stop.Exit.{Exit}
+use Rattle.asl_run.specs.declared.stop.Stop.{Stop as Stopped}
+use Rattle.asl_run.specs.declared.stop.Stop.TheVariants as stop
+use Rattle.asl_run.specs.Meets.{Meets}
+use Rattle.asl_run.specs.View.{exit_of, program_of, meaning_of, cutting_of}
 
-empty_is : {A : Type 0} (xs : List A) → is_empty xs ≡ true → xs ≡ []
-empty_is [] h = refl
-empty_is (x ∷ xs) h = cc
+-- an answer that one part has, another has that gives the same
+meets_same : {A B : Type 0} (w : A → B) (r : Result A Stopped) (c : BareCore) (h : Meter) (p q : Outcome BareCore B) (C D : Meter → Type 0) → p ≡ q → ((u : Meter) → C u → D u) → Meets w r c h p C → Meets w r c h q D
+meets_same w (Ok x) c h p q C D e k m = sym e ∙ m
+meets_same w (Err stop.NoMemory) c h p q C D e k m = k h m
+meets_same w (Err stop.SinkFault) c h p q C D e k m = k h m
+meets_same w (Err (stop.Thrown x)) c h p q C D e k m = sym e ∙ m
+meets_same w (Err (stop.Fault code span)) c h p q C D e k m = sym e ∙ m
+meets_same w (Err (stop.Stuck mistake span)) c h p q C D e k m = sym e ∙ m
 
-and_left : (a b : Bool) → (a && b) ≡ true → a ≡ true
-and_left true b h = refl
-and_left false b h = h
+-- ---- any node
 
-and_right : (a b : Bool) → (a && b) ≡ true → b ≡ true
-and_right true b h = h
-and_right false b h = cc
+-- no step is left
+stepless : {A : Type 0} (span : Span) (deep : Bool) (c : BareCore) (h : Meter) (go : Meter → Outcome BareCore A) → h.steps ≡ 0 → enter span deep c h go ≡ Halt (Faulted D13 span) c h
+stepless span deep c h go spent = ap (λ n. if n == 0 then Halt (Faulted D13 span) c h else (if deep then Halt (Faulted D12 span) c h else go (record h { steps = h.steps - 1 }))) spent
 
--- a function that a run can begin with stands at this place, counted from k
-pub record MainAt (names : List Visible) (fs : List Func) (k n : ℕ) : Type 0 where
-  pub func : Func
-  pub place : ℕ
-  pub at : n ≡ place + k
-  pub is : slice_get fs place ≡ Some func
-  pub main : is_main names func ≡ true
+-- one is left
+above : (n : ℕ) → 0 < n → (n == 0) ≡ false
+above n h = grind arith
 
-main_at : (names : List Visible) (k : ℕ) (fs : List Func) (n : ℕ) → main_from names k fs ≡ Some n → MainAt names fs k n
-main_at names k [] n h = absurd (none-some n h)
-main_at names k (f ∷ fs) n h = first_or (λ q. main_at names (k + 1) fs n q) (is_main names f) refl h
-  where
-    first_or : (main_from names (k + 1) fs ≡ Some n → MainAt names fs (k + 1) n) → (b : Bool) → is_main names f ≡ b → cond b (Some k) (main_from names (k + 1) fs) ≡ Some n → MainAt names (f ∷ fs) k n
-    first_or later true e h = let same : k ≡ n = same_Some k n h in record { func = f; place = 0; at = omega (arith, same); is = refl; main = e }
-    first_or later false e h = let r = later h in let at : n ≡ r.place + (k + 1) = r.at in record { func = r.func; place = suc r.place; at = omega (arith, at); is = r.is; main = r.main }
+some : {A : Type 0} (n : ℕ) (a b : A) → 0 < n → (if n == 0 then a else b) ≡ b
+some n a b h = ap (λ (t : Bool). if t then a else b) (above n h)
 
-found_is : (o : Option ℕ) (n : ℕ) → entry_found o ≡ Ok (Some n) → o ≡ Some n
-found_is None n h = cc
-found_is (Some m) n h = cc
+stepped : {A : Type 0} (span : Span) (deep : Bool) (c : BareCore) (h : Meter) (go : Meter → Outcome BareCore A) → 0 < h.steps → enter span deep c h go ≡ (if deep then Halt (Faulted D12 span) c h else go (record h { steps = h.steps - 1 }))
+stepped span deep c h go has = some h.steps (Halt (Faulted D13 span) c h) (if deep then Halt (Faulted D12 span) c h else go (record h { steps = h.steps - 1 })) has
 
-entry_is : (e : Entry) (names : List Visible) (ds : List Decl) (n : ℕ) → entry_rule e names ds ≡ Ok (Some n) → main_of names ds ≡ Some n
-entry_is entry.None names ds n h = cc
-entry_is entry.Main names ds n h = found_is (main_of names ds) n h
+cut_later : (n : ℕ) (P : Type 0) → 0 < n → P → cut.entered (n == 0) P
+cut_later n P h p = subst (λ t. cut.entered t P) (sym (above n h)) p
 
--- the names that are visible in all bodies, where the entry was found
-record EntryIn (e : Entry) (ds : List Decl) (n : ℕ) : Type 0 where
-  names : List Visible
-  is : entry_rule e names ds ≡ Ok (Some n)
+-- ---- expressions
 
-verdict_is : (e : Entry) (ds : List Decl) (n : ℕ) → verdict e ds ≡ Ok (Some n) → EntryIn e ds n
-unfolding verdict
-verdict_is e ds n h =
-    let w = then_ok (served_rule ds) _ (Some n) h in
-    let a = then_ok (names_rule [] (all_declared ds)) (cycles_rule ds ds >> globals_rule ds >>= λ names. signatures_rule names (funcs_of ds) >> overloads_rule [] (funcs_of ds) >> bodies_rule names (funcs_of ds) >> entry_rule e names ds) (Some n) w.then in
-    let y = then_ok (cycles_rule ds ds) (globals_rule ds >>= λ names. signatures_rule names (funcs_of ds) >> overloads_rule [] (funcs_of ds) >> bodies_rule names (funcs_of ds) >> entry_rule e names ds) (Some n) a.then in
-    let g = bind_ok (globals_rule ds) (λ names. signatures_rule names (funcs_of ds) >> overloads_rule [] (funcs_of ds) >> bodies_rule names (funcs_of ds) >> entry_rule e names ds) (Some n) y.then in
-    let s = then_ok (signatures_rule g.value (funcs_of ds)) (overloads_rule [] (funcs_of ds) >> bodies_rule g.value (funcs_of ds) >> entry_rule e g.value ds) (Some n) g.then in
-    let o = then_ok (overloads_rule [] (funcs_of ds)) (bodies_rule g.value (funcs_of ds) >> entry_rule e g.value ds) (Some n) s.then in
-    record { names = g.value; is = (then_ok (bodies_rule g.value (funcs_of ds)) (entry_rule e g.value ds) (Some n) o.then).then }
+pub expr_stepless : (fs : List TreeFunc) (d : ℕ) (e : Tree) (c : BareCore) (h : Meter) → h.steps ≡ 0 → (meaning_of fs d).expr e c h ≡ Halt (Faulted D13 (tree_at e)) c h
+expr_stepless fs zero e c h spent = stepless (tree_at e) true c h (λ h1. Halt (Faulted D12 (tree_at e)) c h1) spent
+expr_stepless fs (suc d) e c h spent = stepless (tree_at e) false c h (run (meaning_of fs d) (tree_node (program_of fs) e c)) spent
 
-pub entry_is_callable : (e : Entry) (ds : List Decl) (n : ℕ) → ProgramOk e ds (Some n) → IsCallable ds n []
-entry_is_callable e ds n ok =
-    let v = verdict_is e ds n ok in
-    let r = main_at v.names 0 (funcs_of ds) n (entry_is e v.names ds n v.is) in
-    let at : n ≡ r.place + 0 = r.at in
-    let same : r.place ≡ n = omega (arith, at) in
-    let f = r.func in
-    let rest = and_right (bytes_eq f.name.text (codes "main")) (is_empty f.params && (is_empty f.formals && has_integer (result_rule v.names f.result))) r.main in
-    let formals = and_left (is_empty f.formals) (has_integer (result_rule v.names f.result)) (and_right (is_empty f.params) (is_empty f.formals && has_integer (result_rule v.names f.result)) rest) in
-    record {
-      func = f;
-      is = subst (λ k. slice_get (funcs_of ds) k ≡ Some f) same r.is;
-      no_params = empty_is f.params (and_left (is_empty f.params) (is_empty f.formals && has_integer (result_rule v.names f.result)) rest);
-      args_belong = subst (λ fs. Belong [] fs) (sym (empty_is f.formals formals)) tt;
-    }
+pub expr_deep : (fs : List TreeFunc) (d : ℕ) (e : Tree) (c : BareCore) (h : Meter) → d ≡ 0 → 0 < h.steps → (meaning_of fs d).expr e c h ≡ Halt (Faulted D12 (tree_at e)) c h
+expr_deep fs zero e c h none has = stepped (tree_at e) true c h (λ h1. Halt (Faulted D12 (tree_at e)) c h1) has
+expr_deep fs (suc d) e c h none has = absurd (omega (arith, none))
+
+pub expr_entered : (fs : List TreeFunc) (d : ℕ) (e : Tree) (r : Result Value Stopped) (c c1 : BareCore) (h h1 : Meter) → 0 < d → 0 < h.steps →
+    Meets value_of r c1 h1 (run (meaning_of fs (d - 1)) (tree_node (program_of fs) e c) (record h { steps = h.steps - 1 })) (cuts (meaning_of fs (d - 1)) (cutting_of fs (d - 1)) (tree_node (program_of fs) e c) (record h { steps = h.steps - 1 })) →
+    Meets value_of r c1 h1 ((meaning_of fs d).expr e c h) ((cutting_of fs d).expr e c h)
+expr_entered fs zero e r c c1 h h1 deep has m = absurd (omega (arith, deep))
+expr_entered fs (suc d) e r c c1 h h1 deep has m =
+    let one : suc d - 1 ≡ d = omega arith in
+    meets_same value_of r c1 h1 _ ((meaning_of fs (suc d)).expr e c h) _ ((cutting_of fs (suc d)).expr e c h)
+    (ap (λ n. run (meaning_of fs n) (tree_node (program_of fs) e c) (record h { steps = h.steps - 1 })) one ∙ sym (stepped (tree_at e) false c h (run (meaning_of fs d) (tree_node (program_of fs) e c)) has))
+    (λ u w. cut_later h.steps (cuts (meaning_of fs d) (cutting_of fs d) (tree_node (program_of fs) e c) (record h { steps = h.steps - 1 }) u) has
+    (subst (λ n. cuts (meaning_of fs n) (cutting_of fs n) (tree_node (program_of fs) e c) (record h { steps = h.steps - 1 }) u) one w)) m
+
+-- ---- statements
+
+pub stmt_stepless : (fs : List TreeFunc) (d : ℕ) (t : Act) (c : BareCore) (h : Meter) → h.steps ≡ 0 → (meaning_of fs d).stmt t c h ≡ Halt (Faulted D13 (act_at t)) c h
+stmt_stepless fs zero t c h spent = stepless (act_at t) true c h (λ h1. Halt (Faulted D12 (act_at t)) c h1) spent
+stmt_stepless fs (suc d) t c h spent = stepless (act_at t) false c h (run (meaning_of fs d) (act_node (program_of fs) t c)) spent
+
+pub stmt_deep : (fs : List TreeFunc) (d : ℕ) (t : Act) (c : BareCore) (h : Meter) → d ≡ 0 → 0 < h.steps → (meaning_of fs d).stmt t c h ≡ Halt (Faulted D12 (act_at t)) c h
+stmt_deep fs zero t c h none has = stepped (act_at t) true c h (λ h1. Halt (Faulted D12 (act_at t)) c h1) has
+stmt_deep fs (suc d) t c h none has = absurd (omega (arith, none))
+
+pub stmt_entered : (fs : List TreeFunc) (d : ℕ) (t : Act) (r : Result Exit Stopped) (c c1 : BareCore) (h h1 : Meter) → 0 < d → 0 < h.steps →
+    Meets exit_of r c1 h1 (run (meaning_of fs (d - 1)) (act_node (program_of fs) t c) (record h { steps = h.steps - 1 })) (cuts (meaning_of fs (d - 1)) (cutting_of fs (d - 1)) (act_node (program_of fs) t c) (record h { steps = h.steps - 1 })) →
+    Meets exit_of r c1 h1 ((meaning_of fs d).stmt t c h) ((cutting_of fs d).stmt t c h)
+stmt_entered fs zero t r c c1 h h1 deep has m = absurd (omega (arith, deep))
+stmt_entered fs (suc d) t r c c1 h h1 deep has m =
+    let one : suc d - 1 ≡ d = omega arith in
+    meets_same exit_of r c1 h1 _ ((meaning_of fs (suc d)).stmt t c h) _ ((cutting_of fs (suc d)).stmt t c h)
+    (ap (λ n. run (meaning_of fs n) (act_node (program_of fs) t c) (record h { steps = h.steps - 1 })) one ∙ sym (stepped (act_at t) false c h (run (meaning_of fs d) (act_node (program_of fs) t c)) has))
+    (λ u w. cut_later h.steps (cuts (meaning_of fs d) (cutting_of fs d) (act_node (program_of fs) t c) (record h { steps = h.steps - 1 }) u) has
+    (subst (λ n. cuts (meaning_of fs n) (cutting_of fs n) (act_node (program_of fs) t c) (record h { steps = h.steps - 1 }) u) one w)) m

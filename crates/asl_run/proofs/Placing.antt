@@ -1,26 +1,26 @@
 -- Stores among values and in places.
 use Rattle.std.proofs.Common.{◌≡◌, ℕ, zero, suc, ◌<◌, inl, List, [], ◌∷◌, length, get_or, map, Option, Some, None, Err, refl, sym, ap, ◌∙◌, arith}
 use Rattle.std.specs.Prelude.{option_map, slice_get, slice_set}
+use Rattle.asl_bits.specs.declared.TheConstants.{WIDTH_LIMIT}
 use Rattle.asl_syn.specs.declared.token.Span.{Span}
-use Rattle.asl_rules.specs.Constants.{◌>>=◌}
+use Rattle.asl_rules.specs.ByPlace.{Step, updated}
 use Rattle.asl_rules.specs.Cuts.{cuts}
-use Rattle.asl_rules.specs.Evaluation.{known}
 use Rattle.asl_rules.specs.Plans.{Meter, End, Faulted, Stuck, Halt, Pure, Good, Bad, lift, run}
+use Rattle.asl_rules.specs.Pures.{◌>>=◌, known}
 use Rattle.asl_rules.specs.Values as rules
-use Rattle.asl_types.specs.declared.slot.Slot.TheVariants.{Local, Global}
-use Rattle.asl_tree.specs.declared.typed.TypedFunc.{TypedFunc}
-use Rattle.asl_tree.specs.TypedMeaning.{BareCore, DoesBare, typed_meaning, typed_cutting, set_at, held, put_at}
+use Rattle.asl_rules.specs.declared.slot.Slot.TheVariants.{Local, Global}
+use Rattle.asl_rules.specs.TypedMeaning.{BareCore, Runs, set_at, stored}
+use Rattle.asl_tree.specs.declared.act.TreeFunc.{TreeFunc}
 use Rattle.asl_value.specs.declared.failure.Failure.{Failure}
 use Rattle.asl_value.specs.declared.failure.Failure.TheVariants as failure
 use Rattle.asl_value.specs.declared.value.Value.{Value}
 use Rattle.asl_value.specs.Answers.{Changes}
-use Rattle.asl_value.specs.Places.{Step, updated}
 use Rattle.asl_value.specs.View.{value_of}
 use Rattle.asl_run.specs.declared.stop.Stop.{Stop}
 use Rattle.asl_run.specs.declared.stop.Stop.TheVariants as stop
 use Rattle.asl_run.specs.Meets.{Meets, Stores}
-use Rattle.asl_run.specs.Stores.{there, stored_in}
-use Rattle.asl_run.specs.View.{exit_of, mistake_of, stop_of}
+use Rattle.asl_run.specs.Storing.{stored_in}
+use Rattle.asl_run.specs.View.{exit_of, mistake_of, stop_of, meaning_of, cutting_of}
 use Rattle.asl_run.proofs.Slots.{set_within}
 
 -- ---- among values
@@ -36,84 +36,74 @@ same_set (y ∷ ys) zero x e = ap (λ z. z ∷ ys) e
 same_set (y ∷ ys) (suc i) x e = ap (λ zs. y ∷ zs) (same_set ys i x e)
 
 stored_as : (span : Span) (i : ℕ) (ss : List Step) (y : rules.Value) (xs : List Value) (x : Value) → i < length xs → x ≡ get_or xs i x →
-    stored_in span i ss y (map value_of xs) ≡ (updated ss y (value_of x) >>= λ z. there span (set_at i z (map value_of xs)))
-stored_as span i ss y xs x h e = ap (λ o. known span o >>= λ q. updated ss y q >>= λ z. there span (set_at i z (map value_of xs))) (read_there xs i x h e)
+    stored_in span i ss y (map value_of xs) ≡ (updated WIDTH_LIMIT ss y (value_of x) >>= λ z. known span (set_at i z (map value_of xs)))
+stored_as span i ss y xs x h e = ap (λ o. known span o >>= λ q. updated WIDTH_LIMIT ss y q >>= λ z. known span (set_at i z (map value_of xs))) (read_there xs i x h e)
 
-pub stored_good : (span : Span) (i : ℕ) (ss : List Step) (y : rules.Value) (xs : List Value) (x z : Value) → i < length xs → x ≡ get_or xs i x → updated ss y (value_of x) ≡ Good (value_of z) →
+pub stored_good : (span : Span) (i : ℕ) (ss : List Step) (y : rules.Value) (xs : List Value) (x z : Value) → i < length xs → x ≡ get_or xs i x → updated WIDTH_LIMIT ss y (value_of x) ≡ Good (value_of z) →
     stored_in span i ss y (map value_of xs) ≡ Good (map value_of (slice_set xs i z))
 stored_good span i ss y xs x z h e u =
-    stored_as span i ss y xs x h e ∙ ap (λ r. r >>= λ q. there span (set_at i q (map value_of xs))) u ∙ ap (there span) (set_within xs i z h)
+    stored_as span i ss y xs x h e ∙ ap (λ r. r >>= λ q. known span (set_at i q (map value_of xs))) u ∙ ap (known span) (set_within xs i z h)
 
-stored_bad : (span : Span) (i : ℕ) (ss : List Step) (y : rules.Value) (xs : List Value) (x : Value) (end : End) → i < length xs → x ≡ get_or xs i x → updated ss y (value_of x) ≡ Bad end →
+stored_bad : (span : Span) (i : ℕ) (ss : List Step) (y : rules.Value) (xs : List Value) (x : Value) (end : End) → i < length xs → x ≡ get_or xs i x → updated WIDTH_LIMIT ss y (value_of x) ≡ Bad end →
     stored_in span i ss y (map value_of xs) ≡ Bad end
-stored_bad span i ss y xs x end h e u = stored_as span i ss y xs x h e ∙ ap (λ r. r >>= λ q. there span (set_at i q (map value_of xs))) u
+stored_bad span i ss y xs x end h e u = stored_as span i ss y xs x h e ∙ ap (λ r. r >>= λ q. known span (set_at i q (map value_of xs))) u
 
 -- a value that stayed the same leaves them the same
-pub stores_failed : (f : Failure) (span : Span) (i : ℕ) (ss : List Step) (y : rules.Value) (xs : List Value) (x z : Value) → i < length xs → x ≡ get_or xs i x → Changes (Err f) (updated ss y (value_of x)) x z →
+pub stores_failed : (f : Failure) (span : Span) (i : ℕ) (ss : List Step) (y : rules.Value) (xs : List Value) (x z : Value) → i < length xs → x ≡ get_or xs i x → Changes (Err f) (updated WIDTH_LIMIT ss y (value_of x)) x z →
     Stores (Err (stop_of f)) (stored_in span i ss y (map value_of xs)) xs (slice_set xs i z)
 stores_failed (failure.Fault code at) span i ss y xs x z h e u = (stored_bad span i ss y xs x _ h e u.0, ap (slice_set xs i) u.1 ∙ same_set xs i x e)
 stores_failed (failure.WrongKind at) span i ss y xs x z h e u = (stored_bad span i ss y xs x _ h e u.0, ap (slice_set xs i) u.1 ∙ same_set xs i x e)
+stores_failed (failure.UnknownType at) span i ss y xs x z h e u = (stored_bad span i ss y xs x _ h e u.0, ap (slice_set xs i) u.1 ∙ same_set xs i x e)
 stores_failed failure.NoMemory span i ss y xs x z h e u = tt
 
 -- ---- in places
-
-none_set : (i : ℕ) (y : rules.Value) (xs : List rules.Value) → slice_get xs i ≡ None → set_at i y xs ≡ None
-none_set i y [] e = refl
-none_set zero y (x ∷ xs) e = cc
-none_set (suc i) y (x ∷ xs) e = ap (option_map (λ zs. x ∷ zs)) (none_set i y xs e)
 
 -- what a store among values makes of a state
 abbrev made : (List rules.Value → BareCore) → Pure (List rules.Value) → Pure BareCore
 made f r = r >>= λ xs. Good (f xs)
 
-made_there : (span : Span) (f : List rules.Value → BareCore) (o : Option (List rules.Value)) → made f (there span o) ≡ held span (option_map f o)
-made_there span f None = refl
-made_there span f (Some xs) = refl
+made_known : (span : Span) (f : List rules.Value → BareCore) (o : Option (List rules.Value)) → made f (known span o) ≡ known span (option_map f o)
+made_known span f None = refl
+made_known span f (Some xs) = refl
 
-plainly : (span : Span) (i : ℕ) (y : rules.Value) (xs : List rules.Value) (f : List rules.Value → BareCore) (o : Option rules.Value) → slice_get xs i ≡ o → made f (known span o >>= λ x. there span (set_at i y xs)) ≡ held span (option_map f (set_at i y xs))
-plainly span i y xs f (Some x) e = made_there span f (set_at i y xs)
-plainly span i y xs f None e = ap (λ o. held span (option_map f o)) (sym (none_set i y xs e))
-
-behind_steps : (span : Span) (i : ℕ) (xs : List rules.Value) (f : List rules.Value → BareCore) (r : Pure rules.Value) → made f (r >>= λ z. there span (set_at i z xs)) ≡ (r >>= λ z. held span (option_map f (set_at i z xs)))
-behind_steps span i xs f (Good z) = made_there span f (set_at i z xs)
+behind_steps : (span : Span) (i : ℕ) (xs : List rules.Value) (f : List rules.Value → BareCore) (r : Pure rules.Value) → made f (r >>= λ z. known span (set_at i z xs)) ≡ (r >>= λ z. known span (option_map f (set_at i z xs)))
+behind_steps span i xs f (Good z) = made_known span f (set_at i z xs)
 behind_steps span i xs f (Bad e) = refl
 
 behind_value : (span : Span) (i : ℕ) (ss : List Step) (y : rules.Value) (xs : List rules.Value) (f : List rules.Value → BareCore) (o : Option rules.Value) →
-    made f (known span o >>= λ x. updated ss y x >>= λ z. there span (set_at i z xs)) ≡ (known span o >>= λ x. updated ss y x >>= λ z. held span (option_map f (set_at i z xs)))
-behind_value span i ss y xs f (Some x) = behind_steps span i xs f (updated ss y x)
+    made f (known span o >>= λ x. updated WIDTH_LIMIT ss y x >>= λ z. known span (set_at i z xs)) ≡ (known span o >>= λ x. updated WIDTH_LIMIT ss y x >>= λ z. known span (option_map f (set_at i z xs)))
+behind_value span i ss y xs f (Some x) = behind_steps span i xs f (updated WIDTH_LIMIT ss y x)
 behind_value span i ss y xs f None = refl
 
-local_put : (span : Span) (i : ℕ) (ss : List Step) (y : rules.Value) (c : BareCore) → put_at span (Local i) ss y c ≡ made (λ xs. record c { frame = xs }) (stored_in span i ss y c.frame)
-local_put span i [] y c = sym (plainly span i y c.frame (λ xs. record c { frame = xs }) (slice_get c.frame i) refl)
-local_put span i (t ∷ ts) y c = sym (behind_value span i (t ∷ ts) y c.frame (λ xs. record c { frame = xs }) (slice_get c.frame i))
+pub local_put : (span : Span) (i : ℕ) (ss : List Step) (y : rules.Value) (c : BareCore) → stored WIDTH_LIMIT span (Local i) y ss c ≡ (stored_in span i ss y c.frame >>= λ xs. Good (record c { frame = xs }))
+local_put span i ss y c = sym (behind_value span i ss y c.frame (λ xs. record c { frame = xs }) (slice_get c.frame i))
 
-global_put : (span : Span) (i : ℕ) (ss : List Step) (y : rules.Value) (c : BareCore) → put_at span (Global i) ss y c ≡ made (λ xs. record c { globals = xs }) (stored_in span i ss y c.globals)
-global_put span i [] y c = sym (plainly span i y c.globals (λ xs. record c { globals = xs }) (slice_get c.globals i) refl)
-global_put span i (t ∷ ts) y c = sym (behind_value span i (t ∷ ts) y c.globals (λ xs. record c { globals = xs }) (slice_get c.globals i))
+pub global_put : (span : Span) (i : ℕ) (ss : List Step) (y : rules.Value) (c : BareCore) → stored WIDTH_LIMIT span (Global i) y ss c ≡ (stored_in span i ss y c.globals >>= λ xs. Good (record c { globals = xs }))
+global_put span i ss y c = sym (behind_value span i ss y c.globals (λ xs. record c { globals = xs }) (slice_get c.globals i))
 
 -- a store that failed leaves the state as it was
-failed : (fs : List TypedFunc) (d : ℕ) (f : List rules.Value → BareCore) (old new : List Value) (r : Pure (List rules.Value)) (p : Pure BareCore) (k : BareCore → DoesBare rules.Exit) (h : Meter) (e : Stop) → p ≡ made f r → Stores (Err e) r old new →
-    Meets exit_of (Err e) (f (map value_of new)) h (run (typed_meaning fs d) (lift p (f (map value_of old)) k) h) (cuts (typed_meaning fs d) (typed_cutting fs d) (lift p (f (map value_of old)) k) h)
+failed : (fs : List TreeFunc) (d : ℕ) (f : List rules.Value → BareCore) (old new : List Value) (r : Pure (List rules.Value)) (p : Pure BareCore) (k : BareCore → Runs rules.Exit) (h : Meter) (e : Stop) → p ≡ made f r → Stores (Err e) r old new →
+    Meets exit_of (Err e) (f (map value_of new)) h (run (meaning_of fs d) (lift p (f (map value_of old)) k) h) (cuts (meaning_of fs d) (cutting_of fs d) (lift p (f (map value_of old)) k) h)
 failed fs d f old new r p k h stop.NoMemory e s = inl refl
 failed fs d f old new r p k h stop.SinkFault e s = absurd s
 failed fs d f old new r p k h (stop.Thrown x) e s = absurd s
 failed fs d f old new r p k h (stop.Fault code span) e s =
-    ap (λ q. run (typed_meaning fs d) (lift q (f (map value_of old)) k) h) (e ∙ ap (made f) s.0) ∙ ap (λ (c : BareCore). Halt (Faulted code span) c h) (ap (λ xs. f (map value_of xs)) (sym s.1))
+    ap (λ q. run (meaning_of fs d) (lift q (f (map value_of old)) k) h) (e ∙ ap (made f) s.0) ∙ ap (λ (c : BareCore). Halt (Faulted code span) c h) (ap (λ xs. f (map value_of xs)) (sym s.1))
 failed fs d f old new r p k h (stop.Stuck mistake span) e s =
-    ap (λ q. run (typed_meaning fs d) (lift q (f (map value_of old)) k) h) (e ∙ ap (made f) s.0) ∙ ap (λ (c : BareCore). Halt (Stuck (mistake_of mistake) span) c h) (ap (λ xs. f (map value_of xs)) (sym s.1))
+    ap (λ q. run (meaning_of fs d) (lift q (f (map value_of old)) k) h) (e ∙ ap (made f) s.0) ∙ ap (λ (c : BareCore). Halt (Stuck (mistake_of mistake) span) c h) (ap (λ xs. f (map value_of xs)) (sym s.1))
 
-pub local_failed : (fs : List TypedFunc) (d : ℕ) (span : Span) (i : ℕ) (ss : List Step) (y : rules.Value) (globals frame : List Value) (live : List ℕ) (new : List Value) (k : BareCore → DoesBare rules.Exit) (h : Meter) (e : Stop) →
+pub local_failed : (fs : List TreeFunc) (d : ℕ) (span : Span) (i : ℕ) (ss : List Step) (y : rules.Value) (c : BareCore) (frame new : List Value) (k : BareCore → Runs rules.Exit) (h : Meter) (e : Stop) →
     Stores (Err e) (stored_in span i ss y (map value_of frame)) frame new →
-    Meets exit_of (Err e) (record { globals = map value_of globals; frame = map value_of new; live = live }) h
-    (run (typed_meaning fs d) (lift (put_at span (Local i) ss y (record { globals = map value_of globals; frame = map value_of frame; live = live })) (record { globals = map value_of globals; frame = map value_of frame; live = live }) k) h)
-    (cuts (typed_meaning fs d) (typed_cutting fs d) (lift (put_at span (Local i) ss y (record { globals = map value_of globals; frame = map value_of frame; live = live })) (record { globals = map value_of globals; frame = map value_of frame; live = live }) k) h)
-local_failed fs d span i ss y globals frame live new k h e s =
-    failed fs d (λ xs. record { globals = map value_of globals; frame = xs; live = live }) frame new (stored_in span i ss y (map value_of frame)) _ k h e (local_put span i ss y (record { globals = map value_of globals; frame = map value_of frame; live = live })) s
+    Meets exit_of (Err e) (record c { frame = map value_of new }) h
+    (run (meaning_of fs d) (lift (stored WIDTH_LIMIT span (Local i) y ss (record c { frame = map value_of frame })) (record c { frame = map value_of frame }) k) h)
+    (cuts (meaning_of fs d) (cutting_of fs d) (lift (stored WIDTH_LIMIT span (Local i) y ss (record c { frame = map value_of frame })) (record c { frame = map value_of frame }) k) h)
+local_failed fs d span i ss y c frame new k h e s =
+    failed fs d (λ xs. record c { frame = xs }) frame new (stored_in span i ss y (map value_of frame)) _ k h e (local_put span i ss y (record c { frame = map value_of frame })) s
 
-pub global_failed : (fs : List TypedFunc) (d : ℕ) (span : Span) (i : ℕ) (ss : List Step) (y : rules.Value) (globals frame : List Value) (live : List ℕ) (new : List Value) (k : BareCore → DoesBare rules.Exit) (h : Meter) (e : Stop) →
+pub global_failed : (fs : List TreeFunc) (d : ℕ) (span : Span) (i : ℕ) (ss : List Step) (y : rules.Value) (c : BareCore) (globals new : List Value) (k : BareCore → Runs rules.Exit) (h : Meter) (e : Stop) →
     Stores (Err e) (stored_in span i ss y (map value_of globals)) globals new →
-    Meets exit_of (Err e) (record { globals = map value_of new; frame = map value_of frame; live = live }) h
-    (run (typed_meaning fs d) (lift (put_at span (Global i) ss y (record { globals = map value_of globals; frame = map value_of frame; live = live })) (record { globals = map value_of globals; frame = map value_of frame; live = live }) k) h)
-    (cuts (typed_meaning fs d) (typed_cutting fs d) (lift (put_at span (Global i) ss y (record { globals = map value_of globals; frame = map value_of frame; live = live })) (record { globals = map value_of globals; frame = map value_of frame; live = live }) k) h)
-global_failed fs d span i ss y globals frame live new k h e s =
-    failed fs d (λ xs. record { globals = xs; frame = map value_of frame; live = live }) globals new (stored_in span i ss y (map value_of globals)) _ k h e (global_put span i ss y (record { globals = map value_of globals; frame = map value_of frame; live = live })) s
+    Meets exit_of (Err e) (record c { globals = map value_of new }) h
+    (run (meaning_of fs d) (lift (stored WIDTH_LIMIT span (Global i) y ss (record c { globals = map value_of globals })) (record c { globals = map value_of globals }) k) h)
+    (cuts (meaning_of fs d) (cutting_of fs d) (lift (stored WIDTH_LIMIT span (Global i) y ss (record c { globals = map value_of globals })) (record c { globals = map value_of globals }) k) h)
+global_failed fs d span i ss y c globals new k h e s =
+    failed fs d (λ xs. record c { globals = xs }) globals new (stored_in span i ss y (map value_of globals)) _ k h e (global_put span i ss y (record c { globals = map value_of globals })) s

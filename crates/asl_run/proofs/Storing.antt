@@ -1,127 +1,148 @@
 -- Steps and stores, one by one.
-use Rattle.std.proofs.Common.{◌≡◌, ℕ, suc, ◌+◌, ◌<◌, List, [], ◌∷◌, ◌++◌, length, get_or, drop, Some, Result, Err, refl, sym, ap, ◌∙◌, subst, arith}
+use Rattle.std.proofs.Common.{◌≡◌, ℕ, suc, ◌+◌, ◌<◌, ◌≤◌, inl, List, [], ◌∷◌, ◌++◌, length, get_or, drop, map, Err, refl, sym, ap, ◌∙◌, subst, arith, append_assoc, append-nil}
 use Rattle.std.proofs.Math.Seq.{drop-cons}
-use Rattle.std.proofs.lemmas.List.{map-append}
-use Rattle.asl_syn.specs.declared.token.Span.{Span}
+use Rattle.std.proofs.lemmas.List.{at_drop_all, map-append}
+use Rattle.asl_bits.specs.declared.TheConstants.{WIDTH_LIMIT}
 use Rattle.asl_rules.specs.Cuts.{cuts}
-use Rattle.asl_rules.specs.Plans.{Meter, Done, Ret, Pure, Good, lift, run}
-use Rattle.asl_rules.specs.Values as rules
-use Rattle.asl_rules.specs.Values.{Normal}
-use Rattle.asl_tree.specs.declared.typed.TypedFunc.{TypedFunc}
-use Rattle.asl_tree.specs.declared.typed.TypedPlace.{TypedPlace}
-use Rattle.asl_tree.specs.declared.typed.TypedStep.{TypedStep}
-use Rattle.asl_tree.specs.declared.typed.TypedStep.TheVariants as step
-use Rattle.asl_tree.specs.TypedMeaning.{BareCore, DoesBare, typed_meaning, typed_cutting, eval_steps, put, put_at, store_each}
-use Rattle.asl_value.specs.declared.replacing.Step.{Step}
-use Rattle.asl_value.specs.declared.replacing.Step.TheVariants as found
-use Rattle.asl_value.specs.Forms.{step_of, all_steps}
-use Rattle.asl_value.specs.Places as places
-use Rattle.asl_value.specs.Places.{part_in}
-use Rattle.asl_run.specs.declared.stop.Exit.{Exit}
-use Rattle.asl_run.specs.declared.stop.Stop.{Stop}
-use Rattle.asl_run.specs.Meets.{Meets, Left}
-use Rattle.asl_run.specs.Stores.{stepped, plain, single}
-use Rattle.asl_run.specs.View.{exit_of}
-use Rattle.asl_run.proofs.Turns.{all_stepped, goes_failed, goes_on, meets_left, one_stored}
+use Rattle.asl_rules.specs.Plans.{Meter, End, Done, Ret, Pure, Good, Bad, run}
+use Rattle.asl_rules.specs.Pures.{◌>>=◌}
+use Rattle.asl_rules.specs.ByPlace.{Step, part_in}
+use Rattle.asl_rules.specs.StatementForms.{store_each}
+use Rattle.asl_rules.specs.TypedMeaning.{BareCore, Runs, step_ahead, stores}
+use Rattle.asl_rules.specs.Values.{Value, Exit, Normal}
+use Rattle.asl_tree.specs.Acts.{all_places, step_of}
+use Rattle.asl_tree.specs.declared.act.TreeFunc.{TreeFunc}
+use Rattle.asl_tree.specs.declared.act.TreePlace.{TreePlace}
+use Rattle.asl_tree.specs.declared.act.TreeStep.{TreeStep}
+use Rattle.asl_value.specs.Answers as answers
+use Rattle.asl_value.specs.declared.failure.Failure.{Failure}
+use Rattle.asl_value.specs.declared.failure.Failure.TheVariants as failure
+use Rattle.asl_value.specs.declared.replacing.Step.{Step as StoredStep}
+use Rattle.asl_value.specs.declared.value.Value.{Value as Stored}
+use Rattle.asl_value.specs.Forms.{step_of as stored_step, all_steps}
+use Rattle.asl_value.specs.View.{value_of}
+use Rattle.asl_run.specs.declared.stop.Stop.{Stop as Stopped}
+use Rattle.asl_run.specs.Meets.{Is, Left, Meets}
+use Rattle.asl_run.specs.Storing.{parts_in, parts_behind, taking, all_taking, stepped, all_stepped}
+use Rattle.asl_run.specs.View.{exit_of, stop_of, meaning_of, cutting_of}
+use Rattle.asl_run.proofs.Turns.{goes_failed, goes_on, left_left, meets_left, one_stepped, one_stored}
 
-at_front : {A : Type 0} (xs : List A) (k : ℕ) (x : A) → k < length xs → x ≡ get_or xs k x → drop k xs ≡ x ∷ drop (k + 1) xs
+pub at_front : {A : Type 0} (xs : List A) (k : ℕ) (x : A) → k < length xs → x ≡ get_or xs k x → drop k xs ≡ x ∷ drop (k + 1) xs
 at_front xs k x within here =
     let up : suc k ≡ k + 1 = omega arith in
     drop-cons xs k x within ∙ ap (λ n. get_or xs k x ∷ drop n xs) up ∙ ap (λ y. y ∷ drop (k + 1) xs) (sym here)
 
+-- the stores of the parts
+pub stores_are : (ps : List TreePlace) (x : Value) → stores WIDTH_LIMIT (all_places ps) x ≡ (parts_in ps x >>= λ ys. Good (all_taking ps ys))
+stores_are [] x = refl
+stores_are (p ∷ ps) x = first (part_in p.span p.way x) (stores_are ps x)
+  where
+    behind : (y : Value) (r : Pure (List Value)) → stores WIDTH_LIMIT (all_places ps) x ≡ (r >>= λ ys. Good (all_taking ps ys)) →
+        (stores WIDTH_LIMIT (all_places ps) x >>= λ ss. Good (taking p y ∷ ss)) ≡ ((r >>= λ ys. Good (y ∷ ys)) >>= λ ys. Good (all_taking (p ∷ ps) ys))
+    behind y (Good ys) e = ap (λ q. q >>= λ ss. Good (taking p y ∷ ss)) e
+    behind y (Bad end) e = ap (λ q. q >>= λ ss. Good (taking p y ∷ ss)) e
+
+    first : (r : Pure Value) → stores WIDTH_LIMIT (all_places ps) x ≡ (parts_in ps x >>= λ ys. Good (all_taking ps ys)) →
+        (r >>= λ y. stores WIDTH_LIMIT (all_places ps) x >>= λ ss. Good (taking p y ∷ ss)) ≡ ((r >>= λ y. parts_in ps x >>= λ ys. Good (y ∷ ys)) >>= λ ys. Good (all_taking (p ∷ ps) ys))
+    first (Good y) e = behind y (parts_in ps x) e
+    first (Bad end) e = refl
+
+-- ---- parts
+
+-- the part in front was found, and comes behind those before it
+pub part_found : (ps : List TreePlace) (x : Value) (k : ℕ) (p : TreePlace) (ys zs : List Stored) (y : Stored) → k < length ps → p ≡ get_or ps k p → part_in p.span p.way x ≡ Good (value_of y) → zs ≡ ys ++ y ∷ [] →
+    parts_behind (map value_of zs) (drop (k + 1) ps) x ≡ parts_behind (map value_of ys) (drop k ps) x
+part_found ps x k p ys zs y within here found more =
+    ap (λ l. parts_behind l (drop (k + 1) ps) x) (ap (map value_of) more ∙ map-append value_of ys (y ∷ []))
+    ∙ behind (map value_of ys) (value_of y) (parts_in (drop (k + 1) ps) x)
+    ∙ ap (λ r. (r >>= λ v. parts_in (drop (k + 1) ps) x >>= λ vs. Good (v ∷ vs)) >>= λ vs. Good (map value_of ys ++ vs)) (sym found)
+    ∙ ap (λ l. parts_behind (map value_of ys) l x) (sym (at_front ps k p within here))
+  where
+    behind : (us : List Value) (v : Value) (r : Pure (List Value)) → (r >>= λ ws. Good ((us ++ v ∷ []) ++ ws)) ≡ ((r >>= λ ws. Good (v ∷ ws)) >>= λ ws. Good (us ++ ws))
+    behind us v (Good ws) = ap Good (append_assoc us (v ∷ []) ws)
+    behind us v (Bad e) = refl
+
+-- no part is left
+pub parts_ended : (ps : List TreePlace) (x : Value) (k : ℕ) (ys : List Value) → length ps ≤ k → parts_behind ys (drop k ps) x ≡ Good ys
+parts_ended ps x k ys h = at_drop_all (λ l. parts_behind ys l x) ps k h ∙ ap Good (append-nil ys)
+
+-- there is none
+part_none : (ps : List TreePlace) (x : Value) (k : ℕ) (p : TreePlace) (ys : List Value) (end : End) → k < length ps → p ≡ get_or ps k p → parts_behind ys (drop k ps) x ≡ parts_in ps x → part_in p.span p.way x ≡ Bad end → parts_in ps x ≡ Bad end
+part_none ps x k p ys end within here left none =
+    sym left ∙ ap (λ l. parts_behind ys l x) (at_front ps k p within here) ∙ ap (λ r. (r >>= λ v. parts_in (drop (k + 1) ps) x >>= λ vs. Good (v ∷ vs)) >>= λ vs. Good (ys ++ vs)) none
+
+pub part_failed : (f : Failure) (ps : List TreePlace) (x : Value) (k : ℕ) (p : TreePlace) (ys : List Value) → k < length ps → p ≡ get_or ps k p → parts_behind ys (drop k ps) x ≡ parts_in ps x → answers.Is value_of (Err f) (part_in p.span p.way x) →
+    Is (map value_of) (Err (stop_of f)) (parts_in ps x)
+part_failed (failure.Fault code span) ps x k p ys within here left e = part_none ps x k p ys _ within here left e
+part_failed (failure.WrongKind span) ps x k p ys within here left e = part_none ps x k p ys _ within here left e
+part_failed (failure.UnknownType span) ps x k p ys within here left e = part_none ps x k p ys _ within here left e
+part_failed failure.NoMemory ps x k p ys within here left e = tt
+
 -- ---- steps
 
--- the step of a field was found, and the steps behind it are left
-pub field_stepped : (fs : List TypedFunc) (d : ℕ) (ts : List TypedStep) (k : ℕ) (t : TypedStep) (span : Span) (i : ℕ) (before after : List Step) (c : BareCore) (h : Meter) (q0 : DoesBare (List places.Step)) (h0 : Meter) →
-    k < length ts → t ≡ get_or ts k t → t ≡ step.Field span i → after ≡ before ++ found.Field span i ∷ [] →
-    Left fs d (stepped (drop k ts) (all_steps before) c) h q0 h0 → Left fs d (stepped (drop (k + 1) ts) (all_steps after) c) h q0 h0
-field_stepped fs d ts k t span i before after c h q0 h0 within here is more l =
-    let front : drop k ts ≡ step.Field span i ∷ drop (k + 1) ts = at_front ts k t within here ∙ ap (λ s. s ∷ drop (k + 1) ts) is in
-    let behind : all_steps before ++ step_of (found.Field span i) ∷ [] ≡ all_steps after = sym (ap all_steps more ∙ map-append step_of before (found.Field span i ∷ [])) in
-    subst (λ ss. Left fs d (stepped (drop (k + 1) ts) ss c) h q0 h0) behind (subst (λ rest. Left fs d (stepped rest (all_steps before) c) h q0 h0) front l)
+abbrev one_left : List TreeStep → List Step → Step → BareCore → Runs (List Step)
+one_left ts ss n c = all_stepped ts (ss ++ n ∷ []) c
 
--- the store of a part at the end of these steps, and the operands before it
-abbrev store_of : TypedPlace → rules.Value → List places.Step → BareCore → DoesBare rules.Exit
-store_of p y ss c = lift (put_at p.span p.slot ss y c) c (λ c1. Ret Normal c1)
+-- the step in front was found, and the steps behind it are left
+pub step_next : (fs : List TreeFunc) (d : ℕ) (ts : List TreeStep) (k : ℕ) (t : TreeStep) (before after : List StoredStep) (s : StoredStep) (c : BareCore) (h : Meter) (c1 : BareCore) (h1 : Meter) (q0 : Runs (List Step)) (h0 : Meter) →
+    k < length ts → t ≡ get_or ts k t → run (meaning_of fs d) (stepped t c) h ≡ Done (stored_step s) c1 h1 → after ≡ before ++ s ∷ [] →
+    Left fs d (all_stepped (drop k ts) (all_steps before) c) h q0 h0 → Left fs d (all_stepped (drop (k + 1) ts) (all_steps after) c1) h1 q0 h0
+step_next fs d ts k t before after s c h c1 h1 q0 h0 within here done more l =
+    let rest = drop (k + 1) ts in
+    let behind : all_steps before ++ stored_step s ∷ [] ≡ all_steps after = sym (ap all_steps more ∙ map-append stored_step before (s ∷ [])) in
+    subst (λ ss. Left fs d (all_stepped rest ss c1) h1 q0 h0) behind
+    (left_left fs d (all_stepped rest (all_steps before ++ stored_step s ∷ []) c1) (all_stepped (t ∷ rest) (all_steps before) c) q0 h h1 h0
+    (goes_on fs d (stepped t c) (all_stepped (t ∷ rest) (all_steps before) c) (one_left rest (all_steps before)) (one_stepped fs d (step_ahead (step_of t)) c (one_left rest (all_steps before))) h (stored_step s) c1 h1 done)
+    (subst (λ us. Left fs d (all_stepped us (all_steps before) c) h q0 h0) (at_front ts k t within here) l))
 
-abbrev behind : TypedPlace → rules.Value → BareCore → DoesBare rules.Exit
-behind p y c = eval_steps p.steps [] c (store_of p y)
+-- the step in front stopped the run
+pub step_failed : (fs : List TreeFunc) (d : ℕ) (ts : List TreeStep) (k : ℕ) (t : TreeStep) (before : List StoredStep) (c : BareCore) (h : Meter) (e : Stopped) (c1 : BareCore) (h1 : Meter) (q0 : Runs (List Step)) (h0 : Meter) →
+    k < length ts → t ≡ get_or ts k t → Meets stored_step (Err e) c1 h1 (run (meaning_of fs d) (stepped t c) h) (cuts (meaning_of fs d) (cutting_of fs d) (stepped t c) h) →
+    Left fs d (all_stepped (drop k ts) (all_steps before) c) h q0 h0 → Meets all_steps (Err e) c1 h1 (run (meaning_of fs d) q0 h0) (cuts (meaning_of fs d) (cutting_of fs d) q0 h0)
+step_failed fs d ts k t before c h e c1 h1 q0 h0 within here m l =
+    let rest = drop (k + 1) ts in
+    meets_left all_steps fs d (all_stepped (t ∷ rest) (all_steps before) c) q0 h0 h (subst (λ us. Left fs d (all_stepped us (all_steps before) c) h q0 h0) (at_front ts k t within here) l) (Err e) c1 h1
+    (goes_failed stored_step all_steps fs d (stepped t c) (all_stepped (t ∷ rest) (all_steps before) c) (one_left rest (all_steps before)) (one_stepped fs d (step_ahead (step_of t)) c (one_left rest (all_steps before))) h e c1 h1 m)
 
--- ---- one place
-
--- a place whose part was found is stored as its steps and its store are
-at_part : (fs : List TypedFunc) (d : ℕ) (p : TypedPlace) (x y : rules.Value) (c : BareCore) (h : Meter) (r : Result Exit Stop) (c1 : BareCore) (h1 : Meter) → part_in p.span p.way x ≡ Good y →
-    Meets exit_of r c1 h1 (run (typed_meaning fs d) (behind p y c) h) (cuts (typed_meaning fs d) (typed_cutting fs d) (behind p y c) h) →
-    Meets exit_of r c1 h1 (run (typed_meaning fs d) (store_each (p ∷ []) x c) h) (cuts (typed_meaning fs d) (typed_cutting fs d) (store_each (p ∷ []) x c) h)
-at_part fs d p x y c h r c1 h1 e m =
-    subst (λ (q : Pure rules.Value). Meets exit_of r c1 h1 (run (typed_meaning fs d) (lift q c (λ z. behind p z c)) h) (cuts (typed_meaning fs d) (typed_cutting fs d) (lift q c (λ z. behind p z c)) h)) (sym e) m
-
--- the operands of its steps stopped the run
-pub steps_failed : (fs : List TypedFunc) (d : ℕ) (p : TypedPlace) (x y : rules.Value) (c : BareCore) (h : Meter) (e : Stop) (c1 : BareCore) (h1 : Meter) → part_in p.span p.way x ≡ Good y →
-    Meets all_steps (Err e) c1 h1 (run (typed_meaning fs d) (stepped p.steps [] c) h) (cuts (typed_meaning fs d) (typed_cutting fs d) (stepped p.steps [] c) h) →
-    Meets exit_of (Err e) c1 h1 (run (typed_meaning fs d) (store_each (p ∷ []) x c) h) (cuts (typed_meaning fs d) (typed_cutting fs d) (store_each (p ∷ []) x c) h)
-steps_failed fs d p x y c h e c1 h1 found m =
-    at_part fs d p x y c h (Err e) c1 h1 found
-    (goes_failed all_steps exit_of fs d (stepped p.steps [] c) (behind p y c) (store_of p y) (all_stepped fs d p.steps [] c (store_of p y)) h e c1 h1 m)
-
--- they were evaluated, and then the store was made or not
-pub steps_done : (fs : List TypedFunc) (d : ℕ) (p : TypedPlace) (x y : rules.Value) (c : BareCore) (h : Meter) (ss : List places.Step) (c1 : BareCore) (h1 : Meter) (r : Result Exit Stop) (c2 : BareCore) (h2 : Meter) → part_in p.span p.way x ≡ Good y →
-    run (typed_meaning fs d) (stepped p.steps [] c) h ≡ Done ss c1 h1 →
-    Meets exit_of r c2 h2 (run (typed_meaning fs d) (store_of p y ss c1) h1) (cuts (typed_meaning fs d) (typed_cutting fs d) (store_of p y ss c1) h1) →
-    Meets exit_of r c2 h2 (run (typed_meaning fs d) (store_each (p ∷ []) x c) h) (cuts (typed_meaning fs d) (typed_cutting fs d) (store_each (p ∷ []) x c) h)
-steps_done fs d p x y c h ss c1 h1 r c2 h2 found done m =
-    at_part fs d p x y c h r c2 h2 found
-    (meets_left exit_of fs d (store_of p y ss c1) (behind p y c) h h1 (goes_on fs d (stepped p.steps [] c) (behind p y c) (store_of p y) (all_stepped fs d p.steps [] c (store_of p y)) h ss c1 h1 done) r c2 h2 m)
+-- no memory was left for it
+pub step_given_up : (fs : List TreeFunc) (d : ℕ) (ts : List TreeStep) (k : ℕ) (t : TreeStep) (before : List StoredStep) (n : Step) (c : BareCore) (h : Meter) (c1 : BareCore) (h1 : Meter) (q0 : Runs (List Step)) (h0 : Meter) →
+    k < length ts → t ≡ get_or ts k t → run (meaning_of fs d) (stepped t c) h ≡ Done n c1 h1 →
+    Left fs d (all_stepped (drop k ts) (all_steps before) c) h q0 h0 → cuts (meaning_of fs d) (cutting_of fs d) q0 h0 h1
+step_given_up fs d ts k t before n c h c1 h1 q0 h0 within here done l =
+    let rest = drop (k + 1) ts in
+    (left_left fs d (all_stepped rest (all_steps before ++ n ∷ []) c1) (all_stepped (t ∷ rest) (all_steps before) c) q0 h h1 h0
+    (goes_on fs d (stepped t c) (all_stepped (t ∷ rest) (all_steps before) c) (one_left rest (all_steps before)) (one_stepped fs d (step_ahead (step_of t)) c (one_left rest (all_steps before))) h n c1 h1 done)
+    (subst (λ us. Left fs d (all_stepped us (all_steps before) c) h q0 h0) (at_front ts k t within here) l)).given_up h1 (inl refl)
 
 -- ---- places in turn
 
-left_left : {A : Type 0} (fs : List TypedFunc) (d : ℕ) (p : DoesBare A) (q : DoesBare A) (q0 : DoesBare A) (h h1 h0 : Meter) → Left fs d p h1 q h → Left fs d q h q0 h0 → Left fs d p h1 q0 h0
-left_left fs d p q q0 h h1 h0 a b = record { same = a.same ∙ b.same; given_up = λ u w. b.given_up u (a.given_up u w) }
+-- two lists at the same place
+both_front : (ps : List TreePlace) (ys : List Stored) (k : ℕ) (p : TreePlace) (y : Stored) → k < length ps → k < length ys → p ≡ get_or ps k p → y ≡ get_or ys k y →
+    all_taking (drop k ps) (map value_of (drop k ys)) ≡ taking p (value_of y) ∷ all_taking (drop (k + 1) ps) (map value_of (drop (k + 1) ys))
+both_front ps ys k p y i j a b = ap (λ l. all_taking l (map value_of (drop k ys))) (at_front ps k p i a) ∙ ap (λ l. all_taking (p ∷ drop (k + 1) ps) (map value_of l)) (at_front ys k y j b)
 
 -- a place was stored, and the places behind it are left
-pub target_stored : (fs : List TypedFunc) (d : ℕ) (ps : List TypedPlace) (k : ℕ) (p : TypedPlace) (x : rules.Value) (c : BareCore) (h : Meter) (y : rules.Exit) (c1 : BareCore) (h1 : Meter) (q0 : DoesBare rules.Exit) (h0 : Meter) →
-    k < length ps → p ≡ get_or ps k p → run (typed_meaning fs d) (store_each (p ∷ []) x c) h ≡ Done y c1 h1 → Left fs d (store_each (drop k ps) x c) h q0 h0 → Left fs d (store_each (drop (k + 1) ps) x c1) h1 q0 h0
-target_stored fs d ps k p x c h y c1 h1 q0 h0 within here done l =
-    let rest = drop (k + 1) ps in
-    left_left fs d (store_each rest x c1) (store_each (p ∷ rest) x c) q0 h h1 h0
-    (goes_on fs d (store_each (p ∷ []) x c) (store_each (p ∷ rest) x c) (λ z c2. store_each rest x c2) (one_stored fs d p rest x c) h y c1 h1 done)
-    (subst (λ qs. Left fs d (store_each qs x c) h q0 h0) (at_front ps k p within here) l)
+pub store_next : (fs : List TreeFunc) (d : ℕ) (ps : List TreePlace) (ys : List Stored) (k : ℕ) (p : TreePlace) (y : Stored) (x : Exit) (c : BareCore) (h : Meter) (c1 : BareCore) (h1 : Meter) (q0 : Runs Exit) (h0 : Meter) →
+    k < length ps → k < length ys → p ≡ get_or ps k p → y ≡ get_or ys k y → run (meaning_of fs d) (store_each (taking p (value_of y) ∷ []) c) h ≡ Done x c1 h1 →
+    Left fs d (store_each (all_taking (drop k ps) (map value_of (drop k ys))) c) h q0 h0 → Left fs d (store_each (all_taking (drop (k + 1) ps) (map value_of (drop (k + 1) ys))) c1) h1 q0 h0
+store_next fs d ps ys k p y x c h c1 h1 q0 h0 i j a b done l =
+    let s = taking p (value_of y) in
+    let rest = all_taking (drop (k + 1) ps) (map value_of (drop (k + 1) ys)) in
+    left_left fs d (store_each rest c1) (store_each (s ∷ rest) c) q0 h h1 h0
+    (goes_on fs d (store_each (s ∷ []) c) (store_each (s ∷ rest) c) (λ z c2. store_each rest c2) (one_stored fs d s rest c) h x c1 h1 done)
+    (subst (λ ss. Left fs d (store_each ss c) h q0 h0) (both_front ps ys k p y i j a b) l)
 
 -- a place was not stored
-pub target_failed : (fs : List TypedFunc) (d : ℕ) (ps : List TypedPlace) (k : ℕ) (p : TypedPlace) (x : rules.Value) (c : BareCore) (h : Meter) (e : Stop) (c1 : BareCore) (h1 : Meter) (q0 : DoesBare rules.Exit) (h0 : Meter) →
-    k < length ps → p ≡ get_or ps k p → Meets exit_of (Err e) c1 h1 (run (typed_meaning fs d) (store_each (p ∷ []) x c) h) (cuts (typed_meaning fs d) (typed_cutting fs d) (store_each (p ∷ []) x c) h) →
-    Left fs d (store_each (drop k ps) x c) h q0 h0 → Meets exit_of (Err e) c1 h1 (run (typed_meaning fs d) q0 h0) (cuts (typed_meaning fs d) (typed_cutting fs d) q0 h0)
-target_failed fs d ps k p x c h e c1 h1 q0 h0 within here m l =
-    let rest = drop (k + 1) ps in
-    meets_left exit_of fs d (store_each (p ∷ rest) x c) q0 h0 h (subst (λ qs. Left fs d (store_each qs x c) h q0 h0) (at_front ps k p within here) l) (Err e) c1 h1
-    (goes_failed exit_of exit_of fs d (store_each (p ∷ []) x c) (store_each (p ∷ rest) x c) (λ z c2. store_each rest x c2) (one_stored fs d p rest x c) h e c1 h1 m)
+pub store_failed : (fs : List TreeFunc) (d : ℕ) (ps : List TreePlace) (ys : List Stored) (k : ℕ) (p : TreePlace) (y : Stored) (c : BareCore) (h : Meter) (e : Stopped) (c1 : BareCore) (h1 : Meter) (q0 : Runs Exit) (h0 : Meter) →
+    k < length ps → k < length ys → p ≡ get_or ps k p → y ≡ get_or ys k y → Meets exit_of (Err e) c1 h1 (run (meaning_of fs d) (store_each (taking p (value_of y) ∷ []) c) h) (cuts (meaning_of fs d) (cutting_of fs d) (store_each (taking p (value_of y) ∷ []) c) h) →
+    Left fs d (store_each (all_taking (drop k ps) (map value_of (drop k ys))) c) h q0 h0 → Meets exit_of (Err e) c1 h1 (run (meaning_of fs d) q0 h0) (cuts (meaning_of fs d) (cutting_of fs d) q0 h0)
+store_failed fs d ps ys k p y c h e c1 h1 q0 h0 i j a b m l =
+    let s = taking p (value_of y) in
+    let rest = all_taking (drop (k + 1) ps) (map value_of (drop (k + 1) ys)) in
+    meets_left exit_of fs d (store_each (s ∷ rest) c) q0 h0 h (subst (λ ss. Left fs d (store_each ss c) h q0 h0) (both_front ps ys k p y i j a b) l) (Err e) c1 h1
+    (goes_failed exit_of exit_of fs d (store_each (s ∷ []) c) (store_each (s ∷ rest) c) (λ z c2. store_each rest c2) (one_stored fs d s rest c) h e c1 h1 m)
 
--- ---- a single name
-
-record Plain (way : List ℕ) (steps : List TypedStep) (p q : TypedPlace) : Type 0 where
-  no_way : way ≡ []
-  no_steps : steps ≡ []
-  same : p ≡ q
-
-plain_is : (way : List ℕ) (steps : List TypedStep) (p q : TypedPlace) → plain way steps p ≡ Some q → Plain way steps p q
-plain_is [] [] p q e = record { no_way = refl; no_steps = refl; same = cc }
-plain_is [] (t ∷ ts) p q e = cc
-plain_is (i ∷ is) [] p q e = cc
-plain_is (i ∷ is) (t ∷ ts) p q e = cc
-
--- a store in a place, by this way to its part and these steps
-abbrev placed : TypedPlace → rules.Value → BareCore → List ℕ → List TypedStep → DoesBare rules.Exit
-placed p x c way ts = lift (part_in p.span way x) c (λ y. eval_steps ts [] c (λ ss c2. lift (put_at p.span p.slot ss y c2) c2 (λ c3. store_each [] x c3)))
-
--- a store in the one place, where it takes the whole value
-pub single_stored : (fs : List TypedFunc) (d : ℕ) (ps : List TypedPlace) (q : TypedPlace) (x : rules.Value) (c : BareCore) (h : Meter) (r : Result Exit Stop) (c1 : BareCore) (h1 : Meter) → single ps ≡ Some q →
-    Meets exit_of r c1 h1 (run (typed_meaning fs d) (lift (put q.span q.slot x c) c (λ c2. Ret Normal c2)) h) (cuts (typed_meaning fs d) (typed_cutting fs d) (lift (put q.span q.slot x c) c (λ c2. Ret Normal c2)) h) →
-    Meets exit_of r c1 h1 (run (typed_meaning fs d) (store_each ps x c) h) (cuts (typed_meaning fs d) (typed_cutting fs d) (store_each ps x c) h)
-single_stored fs d [] q x c h r c1 h1 e m = cc
-single_stored fs d (p ∷ o ∷ ps) q x c h r c1 h1 e m = cc
-single_stored fs d (p ∷ []) q x c h r c1 h1 e m =
-    let s = plain_is p.way p.steps p q e in
-    let whole : Meets exit_of r c1 h1 (run (typed_meaning fs d) (lift (put p.span p.slot x c) c (λ c2. Ret Normal c2)) h) (cuts (typed_meaning fs d) (typed_cutting fs d) (lift (put p.span p.slot x c) c (λ c2. Ret Normal c2)) h) =
-    subst (λ (o : TypedPlace). Meets exit_of r c1 h1 (run (typed_meaning fs d) (lift (put o.span o.slot x c) c (λ c2. Ret Normal c2)) h) (cuts (typed_meaning fs d) (typed_cutting fs d) (lift (put o.span o.slot x c) c (λ c2. Ret Normal c2)) h)) (sym s.same) m in
-    subst (λ (way : List ℕ). Meets exit_of r c1 h1 (run (typed_meaning fs d) (placed p x c way p.steps) h) (cuts (typed_meaning fs d) (typed_cutting fs d) (placed p x c way p.steps) h)) (sym s.no_way)
-    (subst (λ (ts : List TypedStep). Meets exit_of r c1 h1 (run (typed_meaning fs d) (placed p x c [] ts) h) (cuts (typed_meaning fs d) (typed_cutting fs d) (placed p x c [] ts) h)) (sym s.no_steps) whole)
+-- no place is left
+pub stores_ended : (fs : List TreeFunc) (d : ℕ) (ps : List TreePlace) (zs : List Value) (k : ℕ) (c : BareCore) (h : Meter) (q0 : Runs Exit) (h0 : Meter) → length ps ≤ k →
+    Left fs d (store_each (all_taking (drop k ps) zs) c) h q0 h0 → Left fs d (Ret Normal c) h q0 h0
+stores_ended fs d ps zs k c h q0 h0 e l = subst (λ us. Left fs d (store_each (all_taking us zs) c) h q0 h0) (at_drop_all (λ us. us) ps k e) l

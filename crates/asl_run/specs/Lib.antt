@@ -1,7 +1,9 @@
 pub mod View
-pub mod Globals
 pub mod Meets
+pub mod Operations
+pub mod Finishes
+pub mod Calling
+pub mod Choosing
+pub mod Storing
 pub mod Pieces
-pub mod Stages
-pub mod Stores
-pub mod Work
+pub mod Below

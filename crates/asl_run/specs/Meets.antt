@@ -1,21 +1,23 @@
 -- How the interpreter's answers are related to the rules.
 use Rattle.std.specs.Prelude.{◌≡◌, ◌≤◌, ℕ, Bool, List, ◌++◌, map, Option, Result, Ok, Err}
 use Rattle.asl_io.specs.Faults.{Rises}
-use Rattle.asl_tree.specs.declared.typed.TypedExpr.{TypedExpr}
-use Rattle.asl_tree.specs.declared.typed.TypedFunc.{TypedFunc}
-use Rattle.asl_tree.specs.declared.typed.TypedStmt.{TypedStmt}
 use Rattle.asl_rules.specs.Plans.{Meter, Faulted, Stuck, Outcome, Done, Thrown, Halt, run, Pure, Good, Bad}
 use Rattle.asl_rules.specs.Cuts.{cuts}
 use Rattle.asl_rules.specs.Told.{appended, open_after, Part}
-use Rattle.asl_tree.specs.TypedMeaning.{BareCore, DoesBare, typed_meaning, typed_cutting}
+use Rattle.asl_rules.specs.TypedMeaning.{BareCore, Runs as Plans}
 use Rattle.asl_rules.specs.Values as rules
+use Rattle.asl_tree.specs.Acts.{act_of}
+use Rattle.asl_tree.specs.View.{tree_of}
+use Rattle.asl_tree.specs.declared.act.Act.{Act}
+use Rattle.asl_tree.specs.declared.act.TreeFunc.{TreeFunc}
+use Rattle.asl_tree.specs.declared.tree.Tree.{Tree}
 use Rattle.asl_value.specs.declared.value.Value.{Value}
 use Rattle.asl_value.specs.View.{value_of}
-use Rattle.asl_run.specs.declared.places.Places.{Places}
+use Rattle.asl_run.specs.declared.run.Run.{Run}
 use Rattle.asl_run.specs.declared.stop.Exit.{Exit}
 use Rattle.asl_run.specs.declared.stop.Stop.{Stop}
 use Rattle.asl_run.specs.declared.stop.Stop.TheVariants as stop
-use Rattle.asl_run.specs.View.{exit_of, mistake_of, core_of, meter_of}
+use Rattle.asl_run.specs.View.{exit_of, mistake_of, core_of, meter_of, meaning_of, cutting_of}
 
 -- an answer, with what stands after it, is what the rules give; or the run was given up at one of these meters
 abbrev pub Meets : {A B : Type 0} → (A → B) → Result A Stop → BareCore → Meter → Outcome BareCore B → (Meter → Type 0) → Type 0
@@ -26,24 +28,24 @@ Meets view (Err (stop.Thrown x)) c h r C = r ≡ Thrown (value_of x) c h
 Meets view (Err (stop.Fault code span)) c h r C = r ≡ Halt (Faulted code span) c h
 Meets view (Err (stop.Stuck mistake span)) c h r C = r ≡ Halt (Stuck (mistake_of mistake) span) c h
 
--- from the places and told text before to those after, an answer is that of a plan, where d nodes more may be open
-abbrev pub Runs : {A B : Type 0} → (A → B) → Result A Stop → List TypedFunc → ℕ → (BareCore → DoesBare B) → Places → Option (List ℕ) → Places → Option (List ℕ) → Type 0
+-- from the state and told text before to those after, an answer is that of a plan, where d nodes more may be open
+abbrev pub Runs : {A B : Type 0} → (A → B) → Result A Stop → List TreeFunc → ℕ → (BareCore → Plans B) → Run → Option (List ℕ) → Run → Option (List ℕ) → Type 0
 Runs view result fs d q s told s1 told1 =
-    Meets view result (core_of s1) (meter_of s1 told1) (run (typed_meaning fs d) (q (core_of s)) (meter_of s told)) (cuts (typed_meaning fs d) (typed_cutting fs d) (q (core_of s)) (meter_of s told))
+    Meets view result (core_of s1) (meter_of s1 told1) (run (meaning_of fs d) (q (core_of s)) (meter_of s told)) (cuts (meaning_of fs d) (cutting_of fs d) (q (core_of s)) (meter_of s told))
 
 -- that of an expression
-abbrev pub Evaluates : Result Value Stop → List TypedFunc → ℕ → TypedExpr → Places → Option (List ℕ) → Places → Option (List ℕ) → Type 0
+abbrev pub Evaluates : Result Value Stop → List TreeFunc → ℕ → Tree → Run → Option (List ℕ) → Run → Option (List ℕ) → Type 0
 Evaluates result fs d e s told s1 told1 =
-    Meets value_of result (core_of s1) (meter_of s1 told1) ((typed_meaning fs d).expr e (core_of s) (meter_of s told)) ((typed_cutting fs d).expr e (core_of s) (meter_of s told))
+    Meets value_of result (core_of s1) (meter_of s1 told1) ((meaning_of fs d).expr (tree_of e) (core_of s) (meter_of s told)) ((cutting_of fs d).expr (tree_of e) (core_of s) (meter_of s told))
 
 -- that of a statement
-abbrev pub Executes : Result Exit Stop → List TypedFunc → ℕ → TypedStmt → Places → Option (List ℕ) → Places → Option (List ℕ) → Type 0
+abbrev pub Executes : Result Exit Stop → List TreeFunc → ℕ → Act → Run → Option (List ℕ) → Run → Option (List ℕ) → Type 0
 Executes result fs d t s told s1 told1 =
-    Meets exit_of result (core_of s1) (meter_of s1 told1) ((typed_meaning fs d).stmt t (core_of s) (meter_of s told)) ((typed_cutting fs d).stmt t (core_of s) (meter_of s told))
+    Meets exit_of result (core_of s1) (meter_of s1 told1) ((meaning_of fs d).stmt (act_of t) (core_of s) (meter_of s told)) ((cutting_of fs d).stmt (act_of t) (core_of s) (meter_of s told))
 
 -- an answer is that of a plan which enters no node and writes nothing
-abbrev pub Acts : Result Exit Stop → (BareCore → DoesBare rules.Exit) → Places → Places → Type 0
-Acts result q s s1 = (fs : List TypedFunc) (d : ℕ) (told : Option (List ℕ)) → Runs exit_of result fs d q s told s1 told
+abbrev pub Acts : Result Exit Stop → (BareCore → Plans rules.Exit) → Run → Run → Type 0
+Acts result q s s1 = (fs : List TreeFunc) (d : ℕ) (told : Option (List ℕ)) → Runs exit_of result fs d q s told s1 told
 
 -- an operator's answer, or want of memory
 abbrev pub Is : {A B : Type 0} → (A → B) → Result A Stop → Pure B → Type 0
@@ -88,10 +90,33 @@ Counts (Err (stop.Thrown x)) before after = after ≡ before
 Counts (Err (stop.Fault code span)) before after = after ≡ before
 Counts (Err (stop.Stuck mistake span)) before after = after ≡ before
 
+-- what stands round the present frame is the same
+pub record SameRound (s s1 : Run) : Type 0 where
+  pub handled : s1.handled.items ≡ s.handled.items
+  pub callers : s1.callers.items ≡ s.callers.items
+  pub live : s1.live.items ≡ s.live.items
+
+-- all is the same but the values in places
+pub record SameBut (s s1 : Run) : Type 0 where
+  pub handled : s1.handled.items ≡ s.handled.items
+  pub callers : s1.callers.items ≡ s.callers.items
+  pub live : s1.live.items ≡ s.live.items
+  pub steps : s1.steps ≡ s.steps
+  pub text_open : s1.text_open ≡ s.text_open
+
+-- it is after an answer or a throw
+abbrev pub Keeps : {A : Type 0} → Result A Stop → Run → Run → Type 0
+Keeps (Ok x) s s1 = SameRound s s1
+Keeps (Err stop.NoMemory) s s1 = Unit {0}
+Keeps (Err stop.SinkFault) s s1 = Unit {0}
+Keeps (Err (stop.Thrown x)) s s1 = SameRound s s1
+Keeps (Err (stop.Fault code span)) s s1 = Unit {0}
+Keeps (Err (stop.Stuck mistake span)) s s1 = Unit {0}
+
 -- what is left to do has the result of what there was to do at first, and is given up where that may be
-pub record Left {A : Type 0} (fs : List TypedFunc) (d : ℕ) (q : DoesBare A) (h : Meter) (q0 : DoesBare A) (h0 : Meter) : Type 0 where
-  pub same : run (typed_meaning fs d) q h ≡ run (typed_meaning fs d) q0 h0
-  pub given_up : (u : Meter) → cuts (typed_meaning fs d) (typed_cutting fs d) q h u → cuts (typed_meaning fs d) (typed_cutting fs d) q0 h0 u
+pub record Left {A : Type 0} (fs : List TreeFunc) (d : ℕ) (q : Plans A) (h : Meter) (q0 : Plans A) (h0 : Meter) : Type 0 where
+  pub same : run (meaning_of fs d) q h ≡ run (meaning_of fs d) q0 h0
+  pub given_up : (u : Meter) → cuts (meaning_of fs d) (cutting_of fs d) q h u → cuts (meaning_of fs d) (cutting_of fs d) q0 h0 u
 
 -- no write was refused
 abbrev pub NoneRefused : {A : Type 0} → Result A Stop → Type 0

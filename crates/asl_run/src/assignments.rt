@@ -1,73 +1,136 @@
 //! Assignments: a value, or parts of it, stored at places.
-ghost use Rattle.std.specs.Prelude.{◌≡◌, [], ◌∷◌};
-ghost use Rattle.std.specs.Option.{option_copied};
-ghost use Rattle.asl_tree.specs.TypedMeaning as rules;
-ghost use Rattle.asl_value.specs.Forms.{all_steps};
-ghost use Rattle.asl_value.specs.View.{value_of};
-ghost use Rattle.asl_run.specs.Meets.{Counts, Runs};
-ghost use Rattle.asl_run.specs.Stores as stores;
+ghost use Rattle.std.specs.Prelude.{◌≡◌, [], ◌∷◌, length, map, IfOk};
+ghost use Rattle.asl_bits.specs.declared.TheConstants.{WIDTH_LIMIT};
+ghost use Rattle.asl_rules.specs.ByPlace.{into_slices};
+ghost use Rattle.asl_rules.specs.Forms.{eval_all as in_turn};
+ghost use Rattle.asl_rules.specs.Plans.{Ret, lift};
+ghost use Rattle.asl_rules.specs.StatementForms as forms;
+ghost use Rattle.asl_rules.specs.TypedMeaning as rules;
+ghost use Rattle.asl_rules.specs.TypedMeaning.{list_of};
+ghost use Rattle.asl_tree.specs.Acts.{all_places};
+ghost use Rattle.asl_tree.specs.View.{tree_of, all_trees};
+ghost use Rattle.asl_value.specs.Forms.{step_of, all_steps};
+ghost use Rattle.asl_value.specs.View.{value_of, all_slices};
+ghost use Rattle.asl_run.specs.Below.{Evals};
+ghost use Rattle.asl_run.specs.Meets.{Counts, Is, Keeps, Runs};
+ghost use Rattle.asl_run.specs.Storing.{stepped, all_stepped, parts_in, taking, all_taking};
 ghost use Rattle.asl_run.specs.View.{exit_of};
 
-use crate::exprs::eval;
-use crate::places::{Places, assign, assign_at};
+use crate::below::eval;
+use crate::exprs::eval_all;
+use crate::places::assign_at;
+use crate::run::Run;
+use crate::setting::{Nodes, Setting};
 use crate::stop::{Exit, Stop};
 use asl_io::Sink;
 use asl_shared::Held;
-use asl_tree::typed::{TypedFunc, TypedPlace, TypedStep};
-use asl_value::{Step, Value, part_in};
+use asl_syn::token::Span;
+use asl_tree::act::{TreePlace, TreeStep};
+use asl_tree::tree::Tree;
+use asl_value::{BitField, SliceShape, Step, Value, copy, part_in};
 use sqlite_items::Items;
-use std::alloc::Global;
+use std::alloc::{AllocError, Global};
 
-/// The steps of a place, the operands evaluated in order.
-fn eval_steps<K: Sink>(
-    alloc: Global,
-    funcs: &[TypedFunc],
-    places: &mut Places,
+/// An expression, and the stores of its value.
+pub fn exec_assign<K: Sink, E: Fn(Setting, &mut Run, &mut K, &Tree) -> Result<Value, Stop>, X>(
+    here: &Nodes<E, X>,
+    run: &mut Run,
     sink: &mut K,
-    depth: u32,
-    steps: &[TypedStep],
-) -> Result<Items<Step>, Stop>
-    ensures meets { Runs all_steps result funcs.now depth
-        (stores.stepped steps.now [])
-        places.old (K.written sink.old) places.new (K.written sink.new) }
+    targets: &[TreePlace],
+    e: &Tree,
+) -> Result<Exit, Stop>
+    requires evals { Evals K.written K.faults K.full here.now.setting.funcs.now here.now.setting.depth (E.pre here.now.eval here.now.setting) (E.post here.now.eval here.now.setting) }
+    ensures meets { Runs exit_of result here.now.setting.funcs.now here.now.setting.depth
+        (forms.assignment (tree_of e.now) (rules.stores WIDTH_LIMIT (all_places targets.now)))
+        run.old (K.written sink.old) run.new (K.written sink.new) }
     ensures counts { Counts result (K.faults sink.old) (K.faults sink.new) }
     ensures same_full { K.full sink.new ≡ K.full sink.old }
+    ensures keeps { Keeps result run.old run.new }
 {
-    let mut found = Items::new(alloc);
-    for step in steps {
-        match step {
-            TypedStep::Field(span, place) => found.push(Step::Field(*span, *place))?,
-            TypedStep::Element(span, e) => {
-                let x = eval(alloc, funcs, places, sink, depth, e)?;
-                found.push(Step::Element(*span, x))?;
-            }
-        }
-    }
-    Ok(found)
+    let x = eval(here, run, sink, e)?;
+    store(here, run, sink, targets, x)
 }
 
-/// A place takes its part of the value: the operands of its steps are evaluated, and then it is stored.
-fn store_one<K: Sink>(
-    alloc: Global,
-    funcs: &[TypedFunc],
-    places: &mut Places,
+/// Stores a value at these places, each its part.
+#[tactic(auto, using(crate::proofs::Storing::stores_are))]
+fn store<K: Sink, E: Fn(Setting, &mut Run, &mut K, &Tree) -> Result<Value, Stop>, X>(
+    here: &Nodes<E, X>,
+    run: &mut Run,
     sink: &mut K,
-    depth: u32,
-    target: &TypedPlace,
-    value: &Value,
+    targets: &[TreePlace],
+    value: Value,
 ) -> Result<Exit, Stop>
-    ensures meets { Runs exit_of result funcs.now depth
-        (rules.store_each (target.now ∷ []) (value_of value.now))
-        places.old (K.written sink.old) places.new (K.written sink.new) }
+    requires evals { Evals K.written K.faults K.full here.now.setting.funcs.now here.now.setting.depth (E.pre here.now.eval here.now.setting) (E.post here.now.eval here.now.setting) }
+    ensures meets { Runs exit_of result here.now.setting.funcs.now here.now.setting.depth
+        (λ c. lift (rules.stores WIDTH_LIMIT (all_places targets.now) (value_of value)) c (λ ss. forms.store_each ss c))
+        run.old (K.written sink.old) run.new (K.written sink.new) }
     ensures counts { Counts result (K.faults sink.old) (K.faults sink.new) }
     ensures same_full { K.full sink.new ≡ K.full sink.old }
+    ensures keeps { Keeps result run.old run.new }
 {
-    let part = part_in(target.span, target.way.as_slice(), value)?;
-    let part = Held::new(part);
-    let steps = eval_steps(alloc, funcs, places, sink, depth, target.steps.as_slice())?;
+    let parts = parts_of(here.setting.alloc, targets, value)?;
+    store_all(here, run, sink, targets, parts.as_slice())
+}
+
+/// The parts of a value that places take, in order.
+fn parts_of(alloc: Global, targets: &[TreePlace], value: Value) -> Result<Items<Value>, Stop>
+    ensures parts { Is (map value_of) result (parts_in targets.now (value_of value)) }
+    ensures as_many { IfOk result (λ parts. length parts ≡ length targets.now) }
+{
+    let value = Held::new(value);
+    let mut parts = Items::new(alloc);
+    for target in targets {
+        parts.push(part_in(target.span, target.way.as_slice(), value.get())?)?;
+    }
+    Ok(parts)
+}
+
+/// Places in turn.
+fn store_all<K: Sink, E: Fn(Setting, &mut Run, &mut K, &Tree) -> Result<Value, Stop>, X>(
+    here: &Nodes<E, X>,
+    run: &mut Run,
+    sink: &mut K,
+    targets: &[TreePlace],
+    parts: &[Value],
+) -> Result<Exit, Stop>
+    requires evals { Evals K.written K.faults K.full here.now.setting.funcs.now here.now.setting.depth (E.pre here.now.eval here.now.setting) (E.post here.now.eval here.now.setting) }
+    requires as_many { length parts.now ≡ length targets.now }
+    ensures meets { Runs exit_of result here.now.setting.funcs.now here.now.setting.depth
+        (forms.store_each (all_taking targets.now (map value_of parts.now)))
+        run.old (K.written sink.old) run.new (K.written sink.new) }
+    ensures counts { Counts result (K.faults sink.old) (K.faults sink.new) }
+    ensures same_full { K.full sink.new ≡ K.full sink.old }
+    ensures keeps { Keeps result run.old run.new }
+{
+    let mut i = 0;
+    while i < targets.len() {
+        store_one(here, run, sink, &targets[i], &parts[i])?;
+        i += 1;
+    }
+    Ok(Exit::Normal)
+}
+
+/// A place takes a value: the operands of its steps are evaluated, and then it is stored.
+fn store_one<K: Sink, E: Fn(Setting, &mut Run, &mut K, &Tree) -> Result<Value, Stop>, X>(
+    here: &Nodes<E, X>,
+    run: &mut Run,
+    sink: &mut K,
+    target: &TreePlace,
+    part: &Value,
+) -> Result<Exit, Stop>
+    requires evals { Evals K.written K.faults K.full here.now.setting.funcs.now here.now.setting.depth (E.pre here.now.eval here.now.setting) (E.post here.now.eval here.now.setting) }
+    ensures meets { Runs exit_of result here.now.setting.funcs.now here.now.setting.depth
+        (forms.store_each (taking target.now (value_of part.now) ∷ []))
+        run.old (K.written sink.old) run.new (K.written sink.new) }
+    ensures counts { Counts result (K.faults sink.old) (K.faults sink.new) }
+    ensures same_full { K.full sink.new ≡ K.full sink.old }
+    ensures keeps { Keeps result run.old run.new }
+{
+    let part = Held::new(copy(part)?);
+    let steps = eval_steps(here, run, sink, target.steps.as_slice())?;
     assign_at(
-        alloc,
-        places,
+        here.setting.alloc,
+        run,
         target.span,
         target.slot,
         steps.as_slice(),
@@ -75,63 +138,97 @@ fn store_one<K: Sink>(
     )
 }
 
-/// Places in turn.
-fn store_all<K: Sink>(
-    alloc: Global,
-    funcs: &[TypedFunc],
-    places: &mut Places,
+/// The steps of a place, the operands evaluated in order.
+fn eval_steps<K: Sink, E: Fn(Setting, &mut Run, &mut K, &Tree) -> Result<Value, Stop>, X>(
+    here: &Nodes<E, X>,
+    run: &mut Run,
     sink: &mut K,
-    depth: u32,
-    targets: &[TypedPlace],
-    value: &Value,
-) -> Result<Exit, Stop>
-    ensures meets { Runs exit_of result funcs.now depth
-        (rules.store_each targets.now (value_of value.now))
-        places.old (K.written sink.old) places.new (K.written sink.new) }
+    steps: &[TreeStep],
+) -> Result<Items<Step>, Stop>
+    requires evals { Evals K.written K.faults K.full here.now.setting.funcs.now here.now.setting.depth (E.pre here.now.eval here.now.setting) (E.post here.now.eval here.now.setting) }
+    ensures meets { Runs all_steps result here.now.setting.funcs.now here.now.setting.depth (all_stepped steps.now [])
+        run.old (K.written sink.old) run.new (K.written sink.new) }
     ensures counts { Counts result (K.faults sink.old) (K.faults sink.new) }
     ensures same_full { K.full sink.new ≡ K.full sink.old }
+    ensures keeps { Keeps result run.old run.new }
 {
-    for target in targets {
-        store_one(alloc, funcs, places, sink, depth, target, value)?;
+    let mut found = Items::new(here.setting.alloc);
+    for step in steps {
+        let it = eval_step(here, run, sink, step)?;
+        found.push(it)?;
     }
-    Ok(Exit::Normal)
+    Ok(found)
 }
 
-/// A place that takes the whole value, where it is the only one and has no steps.
-fn single(targets: &[TypedPlace]) -> Option<&TypedPlace>
-    ensures { option_copied result ≡ stores.single targets.now }
+/// A step, its operands evaluated in order.
+fn eval_step<K: Sink, E: Fn(Setting, &mut Run, &mut K, &Tree) -> Result<Value, Stop>, X>(
+    here: &Nodes<E, X>,
+    run: &mut Run,
+    sink: &mut K,
+    step: &TreeStep,
+) -> Result<Step, Stop>
+    requires evals { Evals K.written K.faults K.full here.now.setting.funcs.now here.now.setting.depth (E.pre here.now.eval here.now.setting) (E.post here.now.eval here.now.setting) }
+    ensures meets { Runs step_of result here.now.setting.funcs.now here.now.setting.depth (stepped step.now)
+        run.old (K.written sink.old) run.new (K.written sink.new) }
+    ensures counts { Counts result (K.faults sink.old) (K.faults sink.new) }
+    ensures same_full { K.full sink.new ≡ K.full sink.old }
+    ensures keeps { Keeps result run.old run.new }
 {
-    match targets {
-        [target] => {
-            if target.way.is_empty() && target.steps.is_empty() {
-                Some(target)
-            } else {
-                None
-            }
+    match step {
+        TreeStep::Field(span, place) => Ok(Step::Field(*span, *place)),
+        TreeStep::Bitfield(span, field) => Ok(Step::Bitfield(*span, field.share()?)),
+        TreeStep::Bitfields(span, fields) => {
+            let fields = shared_fields(here.setting.alloc, fields.as_slice())?;
+            Ok(Step::Bitfields(*span, fields))
         }
-        _ => None,
+        TreeStep::Slices(span, shapes, es) => {
+            eval_slices(here, run, sink, *span, shapes.as_slice(), es.as_slice())
+        }
+        TreeStep::Element(span, e) => {
+            let x = eval(here, run, sink, e)?;
+            Ok(Step::Element(*span, x))
+        }
     }
 }
 
-/// Stores a value at these places.
-pub fn store<K: Sink>(
-    alloc: Global,
-    funcs: &[TypedFunc],
-    places: &mut Places,
+/// The expressions of slices in order.
+fn eval_slices<K: Sink, E: Fn(Setting, &mut Run, &mut K, &Tree) -> Result<Value, Stop>, X>(
+    here: &Nodes<E, X>,
+    run: &mut Run,
     sink: &mut K,
-    depth: u32,
-    targets: &[TypedPlace],
-    value: Value,
-) -> Result<Exit, Stop>
-    ensures meets { Runs exit_of result funcs.now depth
-        (rules.store_each targets.now (value_of value))
-        places.old (K.written sink.old) places.new (K.written sink.new) }
+    span: Span,
+    shapes: &[SliceShape],
+    es: &[Tree],
+) -> Result<Step, Stop>
+    requires evals { Evals K.written K.faults K.full here.now.setting.funcs.now here.now.setting.depth (E.pre here.now.eval here.now.setting) (E.post here.now.eval here.now.setting) }
+    ensures meets { Runs step_of result here.now.setting.funcs.now here.now.setting.depth
+        (λ c. in_turn (list_of (all_trees es.now)) [] c (λ xs c1. Ret (into_slices span (all_slices shapes.now) xs) c1))
+        run.old (K.written sink.old) run.new (K.written sink.new) }
     ensures counts { Counts result (K.faults sink.old) (K.faults sink.new) }
     ensures same_full { K.full sink.new ≡ K.full sink.old }
+    ensures keeps { Keeps result run.old run.new }
 {
-    let value = Held::new(value);
-    match single(targets) {
-        Some(target) => assign(places, target.span, target.slot, value.into_inner()),
-        None => store_all(alloc, funcs, places, sink, depth, targets, value.get()),
+    let zs = eval_all(here, run, sink, es)?;
+    let shapes = same_shapes(here.setting.alloc, shapes)?;
+    Ok(Step::Slices(span, shapes, zs))
+}
+
+fn shared_fields(alloc: Global, fields: &[BitField]) -> Result<Items<BitField>, AllocError>
+    ensures { IfOk result (λ same. same ≡ fields.now) }
+{
+    let mut same = Items::new(alloc);
+    for field in fields {
+        same.push(field.share()?)?;
     }
+    Ok(same)
+}
+
+fn same_shapes(alloc: Global, shapes: &[SliceShape]) -> Result<Items<SliceShape>, AllocError>
+    ensures { IfOk result (λ same. same ≡ shapes.now) }
+{
+    let mut same = Items::new(alloc);
+    for shape in shapes {
+        same.push(*shape)?;
+    }
+    Ok(same)
 }

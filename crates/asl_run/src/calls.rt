@@ -1,124 +1,441 @@
 //! Calls of subprograms.
-ghost use Rattle.std.specs.Prelude.{◌≡◌, [], false, map, option_map};
-ghost use Rattle.asl_rules.specs.Cuts.{cuts};
-ghost use Rattle.asl_rules.specs.Machines.{most_open};
-ghost use Rattle.asl_rules.specs.Plans.{starting};
-ghost use Rattle.asl_tree.specs.TypedMeaning.{run_body as body_plan, typed_call_of, typed_meaning, typed_cutting, typed_run_of, bare_resting};
+ghost use Rattle.std.specs.Prelude.{◌≡◌, ◌++◌, pos, map, option_map, reverse, slice_get, Some, IfOk, OnOk};
+ghost use Rattle.asl_rules.specs.Forms as forms;
+ghost use Rattle.asl_rules.specs.Operators.{less};
+ghost use Rattle.asl_rules.specs.Plans.{follow};
+ghost use Rattle.asl_rules.specs.TypedMeaning as rules;
+ghost use Rattle.asl_rules.specs.TypedMeaning.{list_of};
+ghost use Rattle.asl_tree.specs.Acts.{all_funcs, func_of};
+ghost use Rattle.asl_tree.specs.View.{all_trees};
 ghost use Rattle.asl_value.specs.View.{value_of};
-ghost use Rattle.asl_run.specs.Meets.{Counts, Meets, Runs};
-ghost use Rattle.asl_run.specs.View.{core_of, meter_of};
+ghost use Rattle.asl_run.specs.Below.{Evals, Execs};
+ghost use Rattle.asl_run.specs.Calling.{given_of, both_evaluated, args_evaluated, body_of, ended, frame_called, frame_given, in_own_frame, Enters, Leaves};
+ghost use Rattle.asl_run.specs.Meets.{Counts, Is, Keeps, Runs};
+ghost use Rattle.asl_run.specs.View.{exit_of};
 
-use crate::places::Places;
-use crate::stmts::exec_all;
+use crate::below::exec_all;
+use crate::exprs::eval_all;
+use crate::run::{Caller, Run};
+use crate::setting::{Nodes, Setting};
 use crate::stop::{Exit, Mistake, Stop};
 use asl_io::Sink;
+use asl_shape::{params_of, routine};
+use asl_syn::code::DynCode;
 use asl_syn::token::Span;
-use asl_tree::SubId;
-use asl_tree::typed::TypedFunc;
-use asl_value::Value;
-use std::alloc::Global;
+use asl_tree::act::{Act, TreeFunc};
+use asl_tree::tree::{Callee, Tree};
+use asl_types::Ty;
+use asl_types::seeing::see;
+use asl_value::{Value, copy};
+use sqlite_items::Items;
+use std::alloc::{AllocError, Global};
 use std::mem;
 
-const ORIGIN: Span = Span {
-    file: 0,
-    start: 0,
-    len: 0,
-};
+/// A call: what is called, the places of the arguments whose widths stand for parameters that are omitted, the parameters in
+/// braces, and the arguments.
+#[derive(Clone, Copy)]
+pub struct Call<'r> {
+    pub span: Span,
+    pub callee: Callee,
+    pub widths: &'r [usize],
+    pub params: &'r [Tree],
+    pub args: &'r [Tree],
+}
 
-/// Calls a subprogram from outside: no limit refuses it, and it enters no node of its own.
-fn call<K: Sink>(
-    alloc: Global,
-    funcs: &[TypedFunc],
-    places: &mut Places,
-    sink: &mut K,
-    depth: u32,
-    id: SubId,
-    args: Vec<Value>,
-) -> Result<Option<Value>, Stop>
-    ensures meets { Runs (option_map value_of) result funcs.now depth
-        (typed_call_of funcs.now id (map value_of args.items))
-        places.old (K.written sink.old) places.new (K.written sink.new) }
-    ensures counts { Counts result (K.faults sink.old) (K.faults sink.new) }
-    ensures same_full { K.full sink.new ≡ K.full sink.old }
+/// A subprogram that is called: where the call stands, its number, and its tree.
+#[derive(Clone, Copy)]
+pub struct Called<'r> {
+    pub span: Span,
+    pub id: usize,
+    pub func: &'r TreeFunc,
+}
+
+// ---- values
+
+/// How often a subprogram is active.
+fn activations(id: usize, live: &[usize]) -> usize
+    ensures { result ≡ forms.activations id (reverse live.now) }
 {
-    match funcs.get(id.number()) {
-        None => Err(Stop::Stuck(Mistake::UnknownName, ORIGIN)),
-        Some(f) => run_body(alloc, funcs, places, sink, depth, id, f, args),
+    let mut count = 0;
+    for other in live {
+        if *other == id {
+            count += 1;
+        }
+    }
+    count
+}
+
+/// Whether a subprogram may be active once more.
+fn has_room(id: usize, live: &[usize], limit: i128) -> bool
+    ensures { result ≡ less (pos (forms.activations id (reverse live.now))) limit }
+{
+    (activations(id, live) as i128) < limit
+}
+
+/// Copies of values in a list of their own.
+fn listed(alloc: Global, values: &[Value]) -> Result<Vec<Value>, AllocError>
+    ensures { IfOk result (λ list. list.items ≡ values.now) }
+{
+    let mut list = Vec::new(alloc);
+    for x in values {
+        list.push(copy(x)?)?;
+    }
+    Ok(list)
+}
+
+/// The first places of a frame, with the parameters of the call: those in braces, or else the widths of arguments.
+fn frame_for(
+    alloc: Global,
+    span: Span,
+    widths: &[usize],
+    formals: &[Ty],
+    given: Given,
+) -> Result<Vec<Value>, Stop>
+    ensures { Is (λ frame. map value_of frame.items) result
+        (frame_called span widths.now formals.now (map value_of given.params) (map value_of given.args)) }
+{
+    let params = listed(alloc, given.params.as_slice())?;
+    let params = params_of(alloc, span, widths, params, given.args.as_slice())?;
+    frame_of(alloc, span, formals, params, given.args.as_slice())
+}
+
+/// Parameters, and behind them the formals, each with the bitfields of its type: the first places of a frame.
+pub(crate) fn frame_of(
+    alloc: Global,
+    span: Span,
+    formals: &[Ty],
+    params: Vec<Value>,
+    args: &[Value],
+) -> Result<Vec<Value>, Stop>
+    ensures { Is (λ frame. map value_of frame.items) result
+        (frame_given span formals.now (map value_of params.items) (map value_of args.now)) }
+{
+    if formals.len() != args.len() {
+        return Err(Stop::Stuck(Mistake::WrongKind, span));
+    }
+    let mut frame = params;
+    let mut i = 0;
+    while i < formals.len() {
+        frame.push(see(alloc, &formals[i], &args[i])?)?;
+        i += 1;
+    }
+    Ok(frame)
+}
+
+/// What a body gives: in a function a value, as the type of the result keeps it, and none in a procedure.
+fn body_gives(alloc: Global, func: &TreeFunc, exit: Exit) -> Result<Option<Value>, Stop>
+    ensures { Is (option_map value_of) result
+        (ended func.now.span (rules.result_seen func.now.result) (exit_of exit)) }
+{
+    match exit {
+        Exit::Returned(given) => returned(alloc, func.span, &func.result, given),
+        Exit::Normal => match &func.result {
+            None => Ok(None),
+            Some(_) => Err(Stop::Stuck(Mistake::EndReached, func.span)),
+        },
     }
 }
 
-/// Runs the body of a subprogram, which is active meanwhile. Its first places are the arguments.
-fn run_body<K: Sink>(
+fn returned(
     alloc: Global,
-    funcs: &[TypedFunc],
-    places: &mut Places,
-    sink: &mut K,
-    depth: u32,
-    id: SubId,
-    f: &TypedFunc,
-    args: Vec<Value>,
+    span: Span,
+    ty: &Option<Ty>,
+    given: Option<Value>,
 ) -> Result<Option<Value>, Stop>
-    ensures meets { Runs (option_map value_of) result funcs.now depth
-        (λ c. body_plan id f.now c (map value_of args.items))
-        places.old (K.written sink.old) places.new (K.written sink.new) }
+    ensures { Is (option_map value_of) result
+        (forms.returned span (rules.result_seen ty.now) (option_map value_of given)) }
+{
+    match (ty, given) {
+        (None, None) => Ok(None),
+        (Some(ty), Some(x)) => Ok(Some(see(alloc, ty, &x)?)),
+        (None, Some(_)) => Err(Stop::Stuck(Mistake::WrongKind, span)),
+        (Some(_), None) => Err(Stop::Stuck(Mistake::WrongKind, span)),
+    }
+}
+
+// ---- frames
+
+/// Enters the frame of a callee.
+fn enter(alloc: Global, run: &mut Run, id: usize, frame: Vec<Value>) -> Result<(), AllocError>
+    ensures enters { OnOk result (Enters run.old run.new id (map value_of frame.items)) }
+    ensures steps { run.new.steps ≡ run.old.steps }
+    ensures text_open { run.new.text_open ≡ run.old.text_open }
+{
+    let caller = Caller {
+        values: mem::replace(&mut run.frame, frame),
+        handled: mem::replace(&mut run.handled, Vec::new(alloc)),
+    };
+    run.callers.push(caller)?;
+    run.live.push(id)?;
+    Ok(())
+}
+
+/// Leaves the frame of a callee.
+fn leave(run: &mut Run)
+    ensures { Leaves run.old run.new }
+{
+    if let Some(caller) = run.callers.pop() {
+        run.frame = caller.values;
+        run.handled = caller.handled;
+    }
+    let _id = run.live.pop();
+}
+
+// ---- calls
+
+/// The values of parameters and of arguments.
+#[derive(Drop)]
+pub struct Given {
+    pub params: Items<Value>,
+    pub args: Items<Value>,
+}
+
+/// The values of the parameters in braces and of the arguments.
+fn operands<K: Sink, E: Fn(Setting, &mut Run, &mut K, &Tree) -> Result<Value, Stop>, X>(
+    here: &Nodes<E, X>,
+    run: &mut Run,
+    sink: &mut K,
+    params: &[Tree],
+    args: &[Tree],
+) -> Result<Given, Stop>
+    requires evals { Evals K.written K.faults K.full here.now.setting.funcs.now here.now.setting.depth (E.pre here.now.eval here.now.setting) (E.post here.now.eval here.now.setting) }
+    ensures meets { Runs given_of result here.now.setting.funcs.now here.now.setting.depth (both_evaluated params.now args.now)
+        run.old (K.written sink.old) run.new (K.written sink.new) }
     ensures counts { Counts result (K.faults sink.old) (K.faults sink.new) }
     ensures same_full { K.full sink.new ≡ K.full sink.old }
+    ensures keeps { Keeps result run.old run.new }
 {
-    let height = places.live.len();
-    places.live.push(id)?;
-    let saved = mem::replace(&mut places.frame, args);
-    match exec_all(alloc, funcs, places, sink, depth, f.body.as_slice()) {
-        Ok(Exit::Returned(x)) => {
-            places.frame = saved;
-            places.live.truncate(height);
-            Ok(x)
-        }
-        Ok(Exit::Normal) => {
-            if f.is_function {
-                return Err(Stop::Stuck(Mistake::EndReached, f.span));
-            }
-            places.frame = saved;
-            places.live.truncate(height);
-            Ok(None)
+    let params = eval_all(here, run, sink, params)?;
+    behind_params(here, run, sink, params, args)
+}
+
+/// The values of the arguments, behind those of the parameters.
+fn behind_params<K: Sink, E: Fn(Setting, &mut Run, &mut K, &Tree) -> Result<Value, Stop>, X>(
+    here: &Nodes<E, X>,
+    run: &mut Run,
+    sink: &mut K,
+    params: Items<Value>,
+    args: &[Tree],
+) -> Result<Given, Stop>
+    requires evals { Evals K.written K.faults K.full here.now.setting.funcs.now here.now.setting.depth (E.pre here.now.eval here.now.setting) (E.post here.now.eval here.now.setting) }
+    ensures meets { Runs given_of result here.now.setting.funcs.now here.now.setting.depth
+        (args_evaluated (map value_of params) args.now)
+        run.old (K.written sink.old) run.new (K.written sink.new) }
+    ensures counts { Counts result (K.faults sink.old) (K.faults sink.new) }
+    ensures same_full { K.full sink.new ≡ K.full sink.old }
+    ensures keeps { Keeps result run.old run.new }
+{
+    let args = eval_all(here, run, sink, args)?;
+    Ok(Given { params, args })
+}
+
+/// The value of a call.
+pub fn eval_call<
+    K: Sink,
+    E: Fn(Setting, &mut Run, &mut K, &Tree) -> Result<Value, Stop>,
+    X: Fn(Setting, &mut Run, &mut K, &Items<Act>) -> Result<Exit, Stop>,
+>(here: &Nodes<E, X>, run: &mut Run, sink: &mut K, call: Call) -> Result<Value, Stop>
+    requires evals { Evals K.written K.faults K.full here.now.setting.funcs.now here.now.setting.depth (E.pre here.now.eval here.now.setting) (E.post here.now.eval here.now.setting) }
+    requires execs { Execs K.written K.faults K.full here.now.setting.funcs.now here.now.setting.depth (X.pre here.now.exec here.now.setting) (X.post here.now.exec here.now.setting) }
+    ensures meets { Runs value_of result here.now.setting.funcs.now here.now.setting.depth
+        (λ c. forms.call (list_of (all_trees call.entry.params.now)) (list_of (all_trees call.entry.args.now)) c
+        (body_of here.now.setting.funcs.now call.entry) (forms.function_gives call.entry.span))
+        run.old (K.written sink.old) run.new (K.written sink.new) }
+    ensures counts { Counts result (K.faults sink.old) (K.faults sink.new) }
+    ensures same_full { K.full sink.new ≡ K.full sink.old }
+    ensures keeps { Keeps result run.old run.new }
+{
+    let given = operands(here, run, sink, call.params, call.args)?;
+    call_function(here, run, sink, call, given)
+}
+
+fn call_function<K: Sink, E, X: Fn(Setting, &mut Run, &mut K, &Items<Act>) -> Result<Exit, Stop>>(
+    here: &Nodes<E, X>,
+    run: &mut Run,
+    sink: &mut K,
+    call: Call,
+    given: Given,
+) -> Result<Value, Stop>
+    requires execs { Execs K.written K.faults K.full here.now.setting.funcs.now here.now.setting.depth (X.pre here.now.exec here.now.setting) (X.post here.now.exec here.now.setting) }
+    ensures meets { Runs value_of result here.now.setting.funcs.now here.now.setting.depth
+        (λ c. follow (body_of here.now.setting.funcs.now call.entry (map value_of given.params) (map value_of given.args) c)
+        (forms.function_gives call.entry.span))
+        run.old (K.written sink.old) run.new (K.written sink.new) }
+    ensures counts { Counts result (K.faults sink.old) (K.faults sink.new) }
+    ensures same_full { K.full sink.new ≡ K.full sink.old }
+    ensures keeps { Keeps result run.old run.new }
+{
+    match call_with(here, run, sink, call, given)? {
+        Some(x) => Ok(x),
+        None => Err(Stop::Stuck(Mistake::WrongKind, call.span)),
+    }
+}
+
+/// Executes a call.
+pub fn exec_invoke<
+    K: Sink,
+    E: Fn(Setting, &mut Run, &mut K, &Tree) -> Result<Value, Stop>,
+    X: Fn(Setting, &mut Run, &mut K, &Items<Act>) -> Result<Exit, Stop>,
+>(here: &Nodes<E, X>, run: &mut Run, sink: &mut K, call: Call) -> Result<Exit, Stop>
+    requires evals { Evals K.written K.faults K.full here.now.setting.funcs.now here.now.setting.depth (E.pre here.now.eval here.now.setting) (E.post here.now.eval here.now.setting) }
+    requires execs { Execs K.written K.faults K.full here.now.setting.funcs.now here.now.setting.depth (X.pre here.now.exec here.now.setting) (X.post here.now.exec here.now.setting) }
+    ensures meets { Runs exit_of result here.now.setting.funcs.now here.now.setting.depth
+        (λ c. forms.call (list_of (all_trees call.entry.params.now)) (list_of (all_trees call.entry.args.now)) c
+        (body_of here.now.setting.funcs.now call.entry) (forms.procedure_gives call.entry.span))
+        run.old (K.written sink.old) run.new (K.written sink.new) }
+    ensures counts { Counts result (K.faults sink.old) (K.faults sink.new) }
+    ensures same_full { K.full sink.new ≡ K.full sink.old }
+    ensures keeps { Keeps result run.old run.new }
+{
+    let given = operands(here, run, sink, call.params, call.args)?;
+    call_procedure(here, run, sink, call, given)
+}
+
+fn call_procedure<K: Sink, E, X: Fn(Setting, &mut Run, &mut K, &Items<Act>) -> Result<Exit, Stop>>(
+    here: &Nodes<E, X>,
+    run: &mut Run,
+    sink: &mut K,
+    call: Call,
+    given: Given,
+) -> Result<Exit, Stop>
+    requires execs { Execs K.written K.faults K.full here.now.setting.funcs.now here.now.setting.depth (X.pre here.now.exec here.now.setting) (X.post here.now.exec here.now.setting) }
+    ensures meets { Runs exit_of result here.now.setting.funcs.now here.now.setting.depth
+        (λ c. follow (body_of here.now.setting.funcs.now call.entry (map value_of given.params) (map value_of given.args) c)
+        (forms.procedure_gives call.entry.span))
+        run.old (K.written sink.old) run.new (K.written sink.new) }
+    ensures counts { Counts result (K.faults sink.old) (K.faults sink.new) }
+    ensures same_full { K.full sink.new ≡ K.full sink.old }
+    ensures keeps { Keeps result run.old run.new }
+{
+    match call_with(here, run, sink, call, given)? {
+        None => Ok(Exit::Normal),
+        Some(_x) => Err(Stop::Stuck(Mistake::WrongKind, call.span)),
+    }
+}
+
+/// What the callee gives.
+fn call_with<K: Sink, E, X: Fn(Setting, &mut Run, &mut K, &Items<Act>) -> Result<Exit, Stop>>(
+    here: &Nodes<E, X>,
+    run: &mut Run,
+    sink: &mut K,
+    call: Call,
+    given: Given,
+) -> Result<Option<Value>, Stop>
+    requires execs { Execs K.written K.faults K.full here.now.setting.funcs.now here.now.setting.depth (X.pre here.now.exec here.now.setting) (X.post here.now.exec here.now.setting) }
+    ensures meets { Runs (option_map value_of) result here.now.setting.funcs.now here.now.setting.depth
+        (body_of here.now.setting.funcs.now call.entry (map value_of given.params) (map value_of given.args))
+        run.old (K.written sink.old) run.new (K.written sink.new) }
+    ensures counts { Counts result (K.faults sink.old) (K.faults sink.new) }
+    ensures same_full { K.full sink.new ≡ K.full sink.old }
+    ensures keeps { Keeps result run.old run.new }
+{
+    match call.callee {
+        Callee::Own(id) => call_own(here, run, sink, call, id, given),
+        Callee::OfLibrary(which) => Ok(Some(routine(
+            here.setting.alloc,
+            call.span,
+            which,
+            given.params.as_slice(),
+            given.args.as_slice(),
+        )?)),
+    }
+}
+
+/// A call of a subprogram of the program.
+fn call_own<K: Sink, E, X: Fn(Setting, &mut Run, &mut K, &Items<Act>) -> Result<Exit, Stop>>(
+    here: &Nodes<E, X>,
+    run: &mut Run,
+    sink: &mut K,
+    call: Call,
+    id: usize,
+    given: Given,
+) -> Result<Option<Value>, Stop>
+    requires execs { Execs K.written K.faults K.full here.now.setting.funcs.now here.now.setting.depth (X.pre here.now.exec here.now.setting) (X.post here.now.exec here.now.setting) }
+    ensures meets { Runs (option_map value_of) result here.now.setting.funcs.now here.now.setting.depth
+        (λ c. rules.called call.entry.span id call.entry.widths.now (map value_of given.params) (map value_of given.args) c
+        (slice_get (all_funcs here.now.setting.funcs.now) id))
+        run.old (K.written sink.old) run.new (K.written sink.new) }
+    ensures counts { Counts result (K.faults sink.old) (K.faults sink.new) }
+    ensures same_full { K.full sink.new ≡ K.full sink.old }
+    ensures keeps { Keeps result run.old run.new }
+{
+    match here.setting.funcs.as_slice().get(id) {
+        None => Err(Stop::Stuck(Mistake::UnknownName, call.span)),
+        Some(func) => call_limited(
+            here,
+            run,
+            sink,
+            Called {
+                span: call.span,
+                id,
+                func,
+            },
+            call.widths,
+            given,
+        ),
+    }
+}
+
+/// D11 where it is as often active as it may be.
+#[tactic(auto, using(crate::proofs::Frames::called_frame))]
+fn call_limited<K: Sink, E, X: Fn(Setting, &mut Run, &mut K, &Items<Act>) -> Result<Exit, Stop>>(
+    here: &Nodes<E, X>,
+    run: &mut Run,
+    sink: &mut K,
+    called: Called,
+    widths: &[usize],
+    given: Given,
+) -> Result<Option<Value>, Stop>
+    requires execs { Execs K.written K.faults K.full here.now.setting.funcs.now here.now.setting.depth (X.pre here.now.exec here.now.setting) (X.post here.now.exec here.now.setting) }
+    ensures meets { Runs (option_map value_of) result here.now.setting.funcs.now here.now.setting.depth
+        (λ c. rules.called called.entry.span called.entry.id widths.now (map value_of given.params) (map value_of given.args) c
+        (Some (func_of called.entry.func.now)))
+        run.old (K.written sink.old) run.new (K.written sink.new) }
+    ensures counts { Counts result (K.faults sink.old) (K.faults sink.new) }
+    ensures same_full { K.full sink.new ≡ K.full sink.old }
+    ensures keeps { Keeps result run.old run.new }
+{
+    if !has_room(called.id, run.live.as_slice(), called.func.limit) {
+        return Err(Stop::Fault(DynCode::D11, called.span));
+    }
+    let formals = called.func.formals.as_slice();
+    let frame = frame_for(here.setting.alloc, called.span, widths, formals, given)?;
+    run_body(here, run, sink, called.id, called.func, frame)
+}
+
+/// Runs the body of a subprogram in a frame of its own.
+#[tactic(auto, using(crate::proofs::Frames::entered_core))]
+pub(crate) fn run_body<
+    K: Sink,
+    E,
+    X: Fn(Setting, &mut Run, &mut K, &Items<Act>) -> Result<Exit, Stop>,
+>(
+    here: &Nodes<E, X>,
+    run: &mut Run,
+    sink: &mut K,
+    id: usize,
+    func: &TreeFunc,
+    frame: Vec<Value>,
+) -> Result<Option<Value>, Stop>
+    requires execs { Execs K.written K.faults K.full here.now.setting.funcs.now here.now.setting.depth (X.pre here.now.exec here.now.setting) (X.post here.now.exec here.now.setting) }
+    ensures meets { Runs (option_map value_of) result here.now.setting.funcs.now here.now.setting.depth
+        (in_own_frame id (func_of func.now) (map value_of frame.items))
+        run.old (K.written sink.old) run.new (K.written sink.new) }
+    ensures counts { Counts result (K.faults sink.old) (K.faults sink.new) }
+    ensures same_full { K.full sink.new ≡ K.full sink.old }
+    ensures keeps { Keeps result run.old run.new }
+{
+    enter(here.setting.alloc, run, id, frame)?;
+    match exec_all(here, run, sink, &func.body) {
+        Ok(exit) => {
+            let given = body_gives(here.setting.alloc, func, exit)?;
+            leave(run);
+            Ok(given)
         }
         Err(Stop::Thrown(x)) => {
-            places.frame = saved;
-            places.live.truncate(height);
+            leave(run);
             Err(Stop::Thrown(x))
         }
         Err(stop) => Err(stop),
     }
-}
-
-/// One call, on places between two calls.
-#[tactic(auto, unfolding(asl_tree::specs::TypedMeaning::typed_run_of))]
-pub fn run<K: Sink>(
-    alloc: Global,
-    funcs: &[TypedFunc],
-    places: &mut Places,
-    sink: &mut K,
-    sub: SubId,
-    args: Vec<Value>,
-) -> Result<Option<Value>, Stop>
-    requires frame { places.old.frame.items ≡ [] }
-    requires live { places.old.live.items ≡ [] }
-    requires text { places.old.text_open ≡ false }
-    ensures meets { Meets (option_map value_of) result
-        (core_of places.new) (meter_of places.new (K.written sink.new))
-        (typed_run_of funcs.now sub (map value_of args.items) (map value_of places.old.globals.items)
-        (starting places.old.steps (K.written sink.old)))
-        (cuts (typed_meaning funcs.now most_open) (typed_cutting funcs.now most_open)
-        (typed_call_of funcs.now sub (map value_of args.items) (bare_resting (map value_of places.old.globals.items)))
-        (starting places.old.steps (K.written sink.old))) }
-    ensures counts { Counts result (K.faults sink.old) (K.faults sink.new) }
-    ensures same_full { K.full sink.new ≡ K.full sink.old }
-{
-    call(alloc, funcs, places, sink, open_limit(), sub, args)
-}
-
-#[tactic(auto, unfolding(asl_rules::specs::Machines::most_open))]
-fn open_limit() -> u32
-    ensures { result ≡ most_open }
-{
-    2000
 }

@@ -1,401 +1,431 @@
 //! Expressions: each function does what the rules say of a node. Its answer is `Stuck` exactly where they give no outcome.
-ghost use Rattle.std.specs.Prelude.{◌≡◌, [], map};
-ghost use Rattle.asl_tree.specs.declared.typed.TypedExpr.{out-TypedExpr};
+ghost use Rattle.std.specs.Prelude.{◌≡◌, map};
+ghost use Rattle.asl_bits.specs.declared.TheConstants.{WIDTH_LIMIT};
+ghost use Rattle.asl_rules.specs.Forms as forms;
 ghost use Rattle.asl_rules.specs.Operators as operators;
-ghost use Rattle.asl_rules.specs.Plans.{Eval, Good, Ret, choose, lift};
-ghost use Rattle.asl_rules.specs.Structures.{element_of as element_in, values_of};
-ghost use Rattle.asl_rules.specs.Values.{tuple_with};
-ghost use Rattle.asl_rules.specs.Values as values;
-ghost use Rattle.asl_tree.specs.TypedMeaning as rules;
-ghost use Rattle.asl_value.specs.Forms.{all_given, shell_of};
-ghost use Rattle.asl_value.specs.Places as parts;
+ghost use Rattle.asl_rules.specs.TypedMeaning.{list_of, tree_node};
+ghost use Rattle.asl_tree.specs.View.{tree_of, all_trees};
 ghost use Rattle.asl_value.specs.View.{value_of};
-ghost use Rattle.asl_run.specs.Meets.{Counts, Evaluates, Is, Runs};
-ghost use Rattle.asl_run.specs.Stores.{evaluated};
+ghost use Rattle.asl_run.specs.Below.{Evals, Execs};
+ghost use Rattle.asl_run.specs.Meets.{Counts, Keeps, Runs};
+ghost use Rattle.asl_run.specs.Operations.{evaluated, one_given, many_given, more_given};
+ghost use Rattle.asl_run.specs.View.{program_of};
 
-use crate::places::{Places, read};
-use crate::stop::Stop;
+use crate::below::eval;
+use crate::calls::{Call, eval_call};
+use crate::operations::{Many, More, One, many_value, more_value, one_value};
+use crate::places::read;
+use crate::run::Run;
+use crate::setting::{Nodes, Setting};
+use crate::stop::{Exit, Stop};
 use asl_io::Sink;
 use asl_shared::Held;
-use asl_syn::code::DynCode;
 use asl_syn::token::Span;
-use asl_syn::tree::{BinaryOperator, UnaryOperator};
-use asl_tree::typed::{TypedExpr, TypedFunc};
-use asl_value::{
-    GivenField, Name, Shell, Value, binary, construct, element_of, field_in, literal, truth, tuple,
-    unary,
-};
+use asl_syn::tree::BinaryOperator;
+use asl_tree::act::Act;
+use asl_tree::tree::Tree;
+use asl_value::{Value, binary, copy, element_of, literal, strip, truth};
 use sqlite_items::Items;
-use std::alloc::Global;
 
-fn expr_span(e: &TypedExpr) -> Span
-    ensures { result ≡ rules.typed_expr_layer_span (out-TypedExpr e.now) }
-{
-    match e {
-        TypedExpr::Int(span, _) => *span,
-        TypedExpr::Bool(span, _) => *span,
-        TypedExpr::Label(span, _, _) => *span,
-        TypedExpr::Read(span, _) => *span,
-        TypedExpr::Unary(span, _, _) => *span,
-        TypedExpr::Binary(span, _, _, _) => *span,
-        TypedExpr::Conditional(span, _, _, _) => *span,
-        TypedExpr::Tuple(span, _) => *span,
-        TypedExpr::Construct(span, _, _, _) => *span,
-        TypedExpr::Field(span, _, _) => *span,
-        TypedExpr::Element(span, _, _) => *span,
-    }
+/// An operator with its operands.
+#[derive(Clone, Copy)]
+pub struct Operation<'r> {
+    pub span: Span,
+    pub operator: BinaryOperator,
+    pub right: &'r Tree,
 }
 
-/// The value of an expression, where `depth` nodes more may be open.
-#[cycle(eval)]
-pub fn eval<K: Sink>(
-    alloc: Global,
-    funcs: &[TypedFunc],
-    places: &mut Places,
-    sink: &mut K,
-    depth: u32,
-    e: &TypedExpr,
-) -> Result<Value, Stop>
-    ensures meets { Evaluates result funcs.now depth e.now
-        places.old (K.written sink.old) places.new (K.written sink.new) }
+/// What an expression does once it is entered.
+pub fn eval_node<
+    K: Sink,
+    E: Fn(Setting, &mut Run, &mut K, &Tree) -> Result<Value, Stop>,
+    X: Fn(Setting, &mut Run, &mut K, &Items<Act>) -> Result<Exit, Stop>,
+>(here: &Nodes<E, X>, run: &mut Run, sink: &mut K, e: &Tree) -> Result<Value, Stop>
+    requires evals { Evals K.written K.faults K.full here.now.setting.funcs.now here.now.setting.depth (E.pre here.now.eval here.now.setting) (E.post here.now.eval here.now.setting) }
+    requires execs { Execs K.written K.faults K.full here.now.setting.funcs.now here.now.setting.depth (X.pre here.now.exec here.now.setting) (X.post here.now.exec here.now.setting) }
+    ensures meets { Runs value_of result here.now.setting.funcs.now here.now.setting.depth
+        (tree_node (program_of here.now.setting.funcs.now) (tree_of e.now))
+        run.old (K.written sink.old) run.new (K.written sink.new) }
     ensures counts { Counts result (K.faults sink.old) (K.faults sink.new) }
     ensures same_full { K.full sink.new ≡ K.full sink.old }
-{
-    if places.steps == 0 {
-        return Err(Stop::Fault(DynCode::D13, expr_span(e)));
-    }
-    if depth == 0 {
-        return Err(Stop::Fault(DynCode::D12, expr_span(e)));
-    }
-    places.steps -= 1;
-    eval_node(alloc, funcs, places, sink, depth - 1, e)
-}
-
-#[cycle(eval)]
-fn eval_node<K: Sink>(
-    alloc: Global,
-    funcs: &[TypedFunc],
-    places: &mut Places,
-    sink: &mut K,
-    depth: u32,
-    e: &TypedExpr,
-) -> Result<Value, Stop>
-    ensures meets { Runs value_of result funcs.now depth
-        (rules.typed_expr_node funcs.now (out-TypedExpr e.now))
-        places.old (K.written sink.old) places.new (K.written sink.new) }
-    ensures counts { Counts result (K.faults sink.old) (K.faults sink.new) }
-    ensures same_full { K.full sink.new ≡ K.full sink.old }
+    ensures keeps { Keeps result run.old run.new }
 {
     match e {
-        TypedExpr::Int(span, n) => Ok(literal(*span, *n)?),
-        TypedExpr::Bool(_, b) => Ok(Value::Bool(*b)),
-        TypedExpr::Label(_, name, label) => label_of(name, label),
-        TypedExpr::Read(span, slot) => read(places, *span, *slot),
-        TypedExpr::Unary(span, operator, a) => {
-            eval_unary(alloc, funcs, places, sink, depth, *span, *operator, a.get())
+        Tree::Int(note, n) => Ok(literal(note.span, *n)?),
+        Tree::Constant(_, x) => Ok(copy(x)?),
+        Tree::Read(note, slot) => read(run, note.span, *slot),
+        Tree::Unary(note, operator, a) => eval_one(
+            here,
+            run,
+            sink,
+            note.span,
+            a.get(),
+            One::Unary(*operator),
+        ),
+        Tree::Binary(note, operator, a, b) => eval_binary(
+            here,
+            run,
+            sink,
+            a.get(),
+            Operation {
+                span: note.span,
+                operator: *operator,
+                right: b.get(),
+            },
+        ),
+        Tree::Conditional(note, e, a, b) => eval_conditional(
+            here,
+            run,
+            sink,
+            Conditional {
+                span: note.span,
+                condition: e.get(),
+                first: a.get(),
+                second: b.get(),
+            },
+        ),
+        Tree::Tuple(note, es) => {
+            eval_many(here, run, sink, note.span, es.as_slice(), Many::Tuple)
         }
-        TypedExpr::Binary(span, operator, a, b) => eval_binary(
-            alloc,
-            funcs,
-            places,
+        Tree::Construct(note, shell, fields, es) => eval_many(
+            here,
+            run,
             sink,
-            depth,
-            *span,
-            *operator,
-            a.get(),
-            b.get(),
-        ),
-        TypedExpr::Conditional(span, e, a, b) => eval_conditional(
-            alloc,
-            funcs,
-            places,
-            sink,
-            depth,
-            *span,
-            e.get(),
-            a.get(),
-            b.get(),
-        ),
-        TypedExpr::Tuple(_, es) => eval_tuple(alloc, funcs, places, sink, depth, es.as_slice()),
-        TypedExpr::Construct(span, shell, fields, es) => eval_construct(
-            alloc,
-            funcs,
-            places,
-            sink,
-            depth,
-            *span,
-            shell,
-            fields.as_slice(),
+            note.span,
             es.as_slice(),
+            Many::Construct(shell, fields.as_slice()),
         ),
-        TypedExpr::Field(span, a, place) => {
-            eval_field(alloc, funcs, places, sink, depth, *span, a.get(), *place)
+        Tree::Call(note, callee, widths, params, args) => eval_call(
+            here,
+            run,
+            sink,
+            Call {
+                span: note.span,
+                callee: *callee,
+                widths: widths.as_slice(),
+                params: params.as_slice(),
+                args: args.as_slice(),
+            },
+        ),
+        Tree::Field(note, a, place) => {
+            eval_one(here, run, sink, note.span, a.get(), One::Field(*place))
         }
-        TypedExpr::Element(span, a, i) => {
-            eval_element(alloc, funcs, places, sink, depth, *span, a.get(), i.get())
+        Tree::Bitfield(note, a, field) => {
+            eval_one(here, run, sink, note.span, a.get(), One::Bitfield(field))
         }
+        Tree::Bitfields(note, a, fields) => eval_one(
+            here,
+            run,
+            sink,
+            note.span,
+            a.get(),
+            One::Bitfields(fields.as_slice()),
+        ),
+        Tree::Slices(note, a, shapes, es) => eval_more(
+            here,
+            run,
+            sink,
+            a.get(),
+            es.as_slice(),
+            Behind {
+                span: note.span,
+                more: More::Slices(shapes.as_slice()),
+            },
+        ),
+        Tree::Element(note, a, i) => { eval_element(here, run, sink, note.span, a.get(), i.get()) }
+        Tree::As(note, a, shape, es) => eval_more(
+            here,
+            run,
+            sink,
+            a.get(),
+            es.as_slice(),
+            Behind {
+                span: note.span,
+                more: More::As(shape),
+            },
+        ),
+        Tree::In(note, a, shape, es) => eval_more(
+            here,
+            run,
+            sink,
+            a.get(),
+            es.as_slice(),
+            Behind {
+                span: note.span,
+                more: More::In(shape),
+            },
+        ),
     }
 }
 
-/// The value of a label.
-fn label_of(name: &Name, label: &Name) -> Result<Value, Stop>
-    ensures { Is value_of result (Good (values.label name.now label.now)) }
-{
-    Ok(Value::Label(name.share()?, label.share()?))
-}
-
-#[cycle(eval)]
-fn eval_unary<K: Sink>(
-    alloc: Global,
-    funcs: &[TypedFunc],
-    places: &mut Places,
+fn eval_one<K: Sink, E: Fn(Setting, &mut Run, &mut K, &Tree) -> Result<Value, Stop>, X>(
+    here: &Nodes<E, X>,
+    run: &mut Run,
     sink: &mut K,
-    depth: u32,
     span: Span,
-    operator: UnaryOperator,
-    operand: &TypedExpr,
+    operand: &Tree,
+    one: One,
 ) -> Result<Value, Stop>
-    ensures meets { Runs value_of result funcs.now depth
-        (λ c. Eval operand.now c (λ x c1. lift (operators.unary_value span operator x) c1 (rules.give c1)))
-        places.old (K.written sink.old) places.new (K.written sink.new) }
+    requires evals { Evals K.written K.faults K.full here.now.setting.funcs.now here.now.setting.depth (E.pre here.now.eval here.now.setting) (E.post here.now.eval here.now.setting) }
+    ensures meets { Runs value_of result here.now.setting.funcs.now here.now.setting.depth
+        (λ c. forms.behind (tree_of operand.now) c (one_given span one.entry))
+        run.old (K.written sink.old) run.new (K.written sink.new) }
     ensures counts { Counts result (K.faults sink.old) (K.faults sink.new) }
     ensures same_full { K.full sink.new ≡ K.full sink.old }
+    ensures keeps { Keeps result run.old run.new }
 {
-    let x = Held::new(eval(alloc, funcs, places, sink, depth, operand)?);
-    Ok(unary(span, operator, x.get())?)
+    let x = Held::new(eval(here, run, sink, operand)?);
+    one_value(here.setting.alloc, span, one, x.get())
 }
 
-#[cycle(eval)]
-fn eval_binary<K: Sink>(
-    alloc: Global,
-    funcs: &[TypedFunc],
-    places: &mut Places,
+fn eval_binary<K: Sink, E: Fn(Setting, &mut Run, &mut K, &Tree) -> Result<Value, Stop>, X>(
+    here: &Nodes<E, X>,
+    run: &mut Run,
     sink: &mut K,
-    depth: u32,
-    span: Span,
-    operator: BinaryOperator,
-    left: &TypedExpr,
-    right: &TypedExpr,
+    left: &Tree,
+    operation: Operation,
 ) -> Result<Value, Stop>
-    ensures meets { Runs value_of result funcs.now depth
-        (λ c. Eval left.now c (λ x c1. rules.behind_left span operator right.now x (operators.strictness operator) c1))
-        places.old (K.written sink.old) places.new (K.written sink.new) }
+    requires evals { Evals K.written K.faults K.full here.now.setting.funcs.now here.now.setting.depth (E.pre here.now.eval here.now.setting) (E.post here.now.eval here.now.setting) }
+    ensures meets { Runs value_of result here.now.setting.funcs.now here.now.setting.depth
+        (forms.operation WIDTH_LIMIT operation.entry.span operation.entry.operator (tree_of left.now) (tree_of operation.entry.right.now))
+        run.old (K.written sink.old) run.new (K.written sink.new) }
     ensures counts { Counts result (K.faults sink.old) (K.faults sink.new) }
     ensures same_full { K.full sink.new ≡ K.full sink.old }
+    ensures keeps { Keeps result run.old run.new }
 {
-    let x = Held::new(eval(alloc, funcs, places, sink, depth, left)?);
-    eval_behind(
-        alloc,
-        funcs,
-        places,
-        sink,
-        depth,
-        span,
-        operator,
-        x.get(),
-        right,
-    )
+    let x = Held::new(eval(here, run, sink, left)?);
+    eval_behind(here, run, sink, operation, x.get())
 }
 
 /// What an operator does behind its left operand: `&&`, `||` and `-->` may be decided by it.
-#[cycle(eval)]
-fn eval_behind<K: Sink>(
-    alloc: Global,
-    funcs: &[TypedFunc],
-    places: &mut Places,
+fn eval_behind<K: Sink, E: Fn(Setting, &mut Run, &mut K, &Tree) -> Result<Value, Stop>, X>(
+    here: &Nodes<E, X>,
+    run: &mut Run,
     sink: &mut K,
-    depth: u32,
-    span: Span,
-    operator: BinaryOperator,
+    operation: Operation,
     x: &Value,
-    b: &TypedExpr,
 ) -> Result<Value, Stop>
-    ensures meets { Runs value_of result funcs.now depth
-        (rules.behind_left span operator b.now (value_of x.now) (operators.strictness operator))
-        places.old (K.written sink.old) places.new (K.written sink.new) }
+    requires evals { Evals K.written K.faults K.full here.now.setting.funcs.now here.now.setting.depth (E.pre here.now.eval here.now.setting) (E.post here.now.eval here.now.setting) }
+    ensures meets { Runs value_of result here.now.setting.funcs.now here.now.setting.depth
+        (forms.behind_left WIDTH_LIMIT operation.entry.span operation.entry.operator (tree_of operation.entry.right.now) (value_of x.now) (operators.strictness operation.entry.operator))
+        run.old (K.written sink.old) run.new (K.written sink.new) }
     ensures counts { Counts result (K.faults sink.old) (K.faults sink.new) }
     ensures same_full { K.full sink.new ≡ K.full sink.old }
+    ensures keeps { Keeps result run.old run.new }
 {
-    match operator {
+    match operation.operator {
         BinaryOperator::LogicalAnd => {
-            if truth(span, x)? {
-                eval_right(alloc, funcs, places, sink, depth, span, operator, x, b)
+            if truth(operation.span, x)? {
+                eval_right(here, run, sink, operation, x)
             } else {
                 Ok(Value::Bool(false))
             }
         }
         BinaryOperator::LogicalOr => {
-            if truth(span, x)? {
+            if truth(operation.span, x)? {
                 Ok(Value::Bool(true))
             } else {
-                eval_right(alloc, funcs, places, sink, depth, span, operator, x, b)
+                eval_right(here, run, sink, operation, x)
             }
         }
         BinaryOperator::Implies => {
-            if truth(span, x)? {
-                eval_right(alloc, funcs, places, sink, depth, span, operator, x, b)
+            if truth(operation.span, x)? {
+                eval_right(here, run, sink, operation, x)
             } else {
                 Ok(Value::Bool(true))
             }
         }
-        _ => eval_right(alloc, funcs, places, sink, depth, span, operator, x, b),
+        _ => eval_right(here, run, sink, operation, x),
     }
 }
 
-#[cycle(eval)]
-fn eval_right<K: Sink>(
-    alloc: Global,
-    funcs: &[TypedFunc],
-    places: &mut Places,
+fn eval_right<K: Sink, E: Fn(Setting, &mut Run, &mut K, &Tree) -> Result<Value, Stop>, X>(
+    here: &Nodes<E, X>,
+    run: &mut Run,
     sink: &mut K,
-    depth: u32,
-    span: Span,
-    operator: BinaryOperator,
+    operation: Operation,
     x: &Value,
-    b: &TypedExpr,
 ) -> Result<Value, Stop>
-    ensures meets { Runs value_of result funcs.now depth
-        (rules.ask_right span operator b.now (value_of x.now))
-        places.old (K.written sink.old) places.new (K.written sink.new) }
+    requires evals { Evals K.written K.faults K.full here.now.setting.funcs.now here.now.setting.depth (E.pre here.now.eval here.now.setting) (E.post here.now.eval here.now.setting) }
+    ensures meets { Runs value_of result here.now.setting.funcs.now here.now.setting.depth
+        (forms.ask_right WIDTH_LIMIT operation.entry.span operation.entry.operator (tree_of operation.entry.right.now) (value_of x.now))
+        run.old (K.written sink.old) run.new (K.written sink.new) }
     ensures counts { Counts result (K.faults sink.old) (K.faults sink.new) }
     ensures same_full { K.full sink.new ≡ K.full sink.old }
+    ensures keeps { Keeps result run.old run.new }
 {
-    let y = Held::new(eval(alloc, funcs, places, sink, depth, b)?);
-    Ok(binary(span, operator, x, y.get())?)
+    let y = Held::new(eval(here, run, sink, operation.right)?);
+    Ok(binary(
+        here.setting.alloc,
+        operation.span,
+        operation.operator,
+        x,
+        y.get(),
+    )?)
 }
 
-#[cycle(eval)]
-fn eval_conditional<K: Sink>(
-    alloc: Global,
-    funcs: &[TypedFunc],
-    places: &mut Places,
+/// `if e then e else e`
+#[derive(Clone, Copy)]
+pub struct Conditional<'r> {
+    pub span: Span,
+    pub condition: &'r Tree,
+    pub first: &'r Tree,
+    pub second: &'r Tree,
+}
+
+fn eval_conditional<K: Sink, E: Fn(Setting, &mut Run, &mut K, &Tree) -> Result<Value, Stop>, X>(
+    here: &Nodes<E, X>,
+    run: &mut Run,
     sink: &mut K,
-    depth: u32,
-    span: Span,
-    e: &TypedExpr,
-    a: &TypedExpr,
-    b: &TypedExpr,
+    it: Conditional,
 ) -> Result<Value, Stop>
-    ensures meets { Runs value_of result funcs.now depth
-        (λ c. Eval e.now c (λ x c1. lift (operators.truth span x) c1
-        (λ p. choose p (Eval a.now c1 (λ y c2. Ret y c2)) (Eval b.now c1 (λ y c2. Ret y c2)))))
-        places.old (K.written sink.old) places.new (K.written sink.new) }
+    requires evals { Evals K.written K.faults K.full here.now.setting.funcs.now here.now.setting.depth (E.pre here.now.eval here.now.setting) (E.post here.now.eval here.now.setting) }
+    ensures meets { Runs value_of result here.now.setting.funcs.now here.now.setting.depth
+        (forms.conditional it.entry.span (tree_of it.entry.condition.now) (tree_of it.entry.first.now) (tree_of it.entry.second.now))
+        run.old (K.written sink.old) run.new (K.written sink.new) }
     ensures counts { Counts result (K.faults sink.old) (K.faults sink.new) }
     ensures same_full { K.full sink.new ≡ K.full sink.old }
+    ensures keeps { Keeps result run.old run.new }
 {
-    let x = Held::new(eval(alloc, funcs, places, sink, depth, e)?);
-    if truth(span, x.get())? {
-        Ok(eval(alloc, funcs, places, sink, depth, a)?)
+    let x = Held::new(eval(here, run, sink, it.condition)?);
+    if truth(it.span, x.get())? {
+        eval_branch(here, run, sink, it.first)
     } else {
-        Ok(eval(alloc, funcs, places, sink, depth, b)?)
+        eval_branch(here, run, sink, it.second)
     }
+}
+
+/// The branch that is taken, whose bits lose their bitfields.
+fn eval_branch<K: Sink, E: Fn(Setting, &mut Run, &mut K, &Tree) -> Result<Value, Stop>, X>(
+    here: &Nodes<E, X>,
+    run: &mut Run,
+    sink: &mut K,
+    e: &Tree,
+) -> Result<Value, Stop>
+    requires evals { Evals K.written K.faults K.full here.now.setting.funcs.now here.now.setting.depth (E.pre here.now.eval here.now.setting) (E.post here.now.eval here.now.setting) }
+    ensures meets { Runs value_of result here.now.setting.funcs.now here.now.setting.depth (forms.branch_value (tree_of e.now))
+        run.old (K.written sink.old) run.new (K.written sink.new) }
+    ensures counts { Counts result (K.faults sink.old) (K.faults sink.new) }
+    ensures same_full { K.full sink.new ≡ K.full sink.old }
+    ensures keeps { Keeps result run.old run.new }
+{
+    let x = Held::new(eval(here, run, sink, e)?);
+    Ok(strip(here.setting.alloc, x.get())?)
 }
 
 /// The values of expressions in order.
-#[cycle(eval)]
-pub fn eval_all<K: Sink>(
-    alloc: Global,
-    funcs: &[TypedFunc],
-    places: &mut Places,
+pub fn eval_all<K: Sink, E: Fn(Setting, &mut Run, &mut K, &Tree) -> Result<Value, Stop>, X>(
+    here: &Nodes<E, X>,
+    run: &mut Run,
     sink: &mut K,
-    depth: u32,
-    es: &[TypedExpr],
+    es: &[Tree],
 ) -> Result<Items<Value>, Stop>
-    ensures meets { Runs (map value_of) result funcs.now depth
-        (evaluated es.now)
-        places.old (K.written sink.old) places.new (K.written sink.new) }
+    requires evals { Evals K.written K.faults K.full here.now.setting.funcs.now here.now.setting.depth (E.pre here.now.eval here.now.setting) (E.post here.now.eval here.now.setting) }
+    ensures meets { Runs (map value_of) result here.now.setting.funcs.now here.now.setting.depth (evaluated es.now)
+        run.old (K.written sink.old) run.new (K.written sink.new) }
     ensures counts { Counts result (K.faults sink.old) (K.faults sink.new) }
     ensures same_full { K.full sink.new ≡ K.full sink.old }
+    ensures keeps { Keeps result run.old run.new }
 {
-    let mut xs = Items::new(alloc);
+    let mut xs = Items::new(here.setting.alloc);
     for e in es {
-        let x = eval(alloc, funcs, places, sink, depth, e)?;
+        let x = eval(here, run, sink, e)?;
         xs.push(x)?;
     }
     Ok(xs)
 }
 
-#[cycle(eval)]
-fn eval_tuple<K: Sink>(
-    alloc: Global,
-    funcs: &[TypedFunc],
-    places: &mut Places,
+fn eval_many<K: Sink, E: Fn(Setting, &mut Run, &mut K, &Tree) -> Result<Value, Stop>, X>(
+    here: &Nodes<E, X>,
+    run: &mut Run,
     sink: &mut K,
-    depth: u32,
-    es: &[TypedExpr],
+    span: Span,
+    es: &[Tree],
+    many: Many,
 ) -> Result<Value, Stop>
-    ensures meets { Runs value_of result funcs.now depth
-        (λ c. rules.eval_all es.now [] c (λ xs c1. Ret (tuple_with (values_of xs)) c1))
-        places.old (K.written sink.old) places.new (K.written sink.new) }
+    requires evals { Evals K.written K.faults K.full here.now.setting.funcs.now here.now.setting.depth (E.pre here.now.eval here.now.setting) (E.post here.now.eval here.now.setting) }
+    ensures meets { Runs value_of result here.now.setting.funcs.now here.now.setting.depth
+        (λ c. forms.behind_all (list_of (all_trees es.now)) c (many_given span many.entry))
+        run.old (K.written sink.old) run.new (K.written sink.new) }
     ensures counts { Counts result (K.faults sink.old) (K.faults sink.new) }
     ensures same_full { K.full sink.new ≡ K.full sink.old }
+    ensures keeps { Keeps result run.old run.new }
 {
-    let xs = eval_all(alloc, funcs, places, sink, depth, es)?;
-    Ok(tuple(alloc, xs)?)
+    let xs = eval_all(here, run, sink, es)?;
+    many_value(here.setting.alloc, span, many, xs)
 }
 
-#[cycle(eval)]
-fn eval_construct<K: Sink>(
-    alloc: Global,
-    funcs: &[TypedFunc],
-    places: &mut Places,
-    sink: &mut K,
-    depth: u32,
-    span: Span,
-    shell: &Shell,
-    fields: &[GivenField],
-    es: &[TypedExpr],
-) -> Result<Value, Stop>
-    ensures meets { Runs value_of result funcs.now depth
-        (λ c. rules.eval_all es.now [] c
-        (λ xs c1. lift (parts.constructed span (shell_of shell.now) (all_given fields.now) xs) c1 (rules.give c1)))
-        places.old (K.written sink.old) places.new (K.written sink.new) }
-    ensures counts { Counts result (K.faults sink.old) (K.faults sink.new) }
-    ensures same_full { K.full sink.new ≡ K.full sink.old }
-{
-    let xs = eval_all(alloc, funcs, places, sink, depth, es)?;
-    Ok(construct(alloc, span, shell, fields, xs.as_slice())?)
+/// What is done with an operand and with those behind it.
+#[derive(Clone, Copy)]
+pub struct Behind<'r> {
+    pub span: Span,
+    pub more: More<'r>,
 }
 
-#[cycle(eval)]
-fn eval_field<K: Sink>(
-    alloc: Global,
-    funcs: &[TypedFunc],
-    places: &mut Places,
+fn eval_more<K: Sink, E: Fn(Setting, &mut Run, &mut K, &Tree) -> Result<Value, Stop>, X>(
+    here: &Nodes<E, X>,
+    run: &mut Run,
     sink: &mut K,
-    depth: u32,
-    span: Span,
-    a: &TypedExpr,
-    place: usize,
+    operand: &Tree,
+    es: &[Tree],
+    behind: Behind,
 ) -> Result<Value, Stop>
-    ensures meets { Runs value_of result funcs.now depth
-        (λ c. Eval a.now c (λ x c1. lift (parts.field_in span place x) c1 (rules.give c1)))
-        places.old (K.written sink.old) places.new (K.written sink.new) }
+    requires evals { Evals K.written K.faults K.full here.now.setting.funcs.now here.now.setting.depth (E.pre here.now.eval here.now.setting) (E.post here.now.eval here.now.setting) }
+    ensures meets { Runs value_of result here.now.setting.funcs.now here.now.setting.depth
+        (λ c. forms.behind_more (tree_of operand.now) (list_of (all_trees es.now)) c (more_given behind.entry.span behind.entry.more))
+        run.old (K.written sink.old) run.new (K.written sink.new) }
     ensures counts { Counts result (K.faults sink.old) (K.faults sink.new) }
     ensures same_full { K.full sink.new ≡ K.full sink.old }
+    ensures keeps { Keeps result run.old run.new }
 {
-    let x = Held::new(eval(alloc, funcs, places, sink, depth, a)?);
-    Ok(field_in(span, place, x.get())?)
+    let x = Held::new(eval(here, run, sink, operand)?);
+    eval_behind_one(here, run, sink, x.get(), es, behind)
 }
 
-#[cycle(eval)]
-fn eval_element<K: Sink>(
-    alloc: Global,
-    funcs: &[TypedFunc],
-    places: &mut Places,
+/// The operands behind the first.
+fn eval_behind_one<K: Sink, E: Fn(Setting, &mut Run, &mut K, &Tree) -> Result<Value, Stop>, X>(
+    here: &Nodes<E, X>,
+    run: &mut Run,
     sink: &mut K,
-    depth: u32,
-    span: Span,
-    a: &TypedExpr,
-    i: &TypedExpr,
+    x: &Value,
+    es: &[Tree],
+    behind: Behind,
 ) -> Result<Value, Stop>
-    ensures meets { Runs value_of result funcs.now depth
-        (λ c. Eval a.now c (λ x c1. Eval i.now c1 (λ y c2. lift (element_in span x y) c2 (rules.give c2))))
-        places.old (K.written sink.old) places.new (K.written sink.new) }
+    requires evals { Evals K.written K.faults K.full here.now.setting.funcs.now here.now.setting.depth (E.pre here.now.eval here.now.setting) (E.post here.now.eval here.now.setting) }
+    ensures meets { Runs value_of result here.now.setting.funcs.now here.now.setting.depth
+        (λ c. forms.behind_all (list_of (all_trees es.now)) c (more_given behind.entry.span behind.entry.more (value_of x.now)))
+        run.old (K.written sink.old) run.new (K.written sink.new) }
     ensures counts { Counts result (K.faults sink.old) (K.faults sink.new) }
     ensures same_full { K.full sink.new ≡ K.full sink.old }
+    ensures keeps { Keeps result run.old run.new }
 {
-    let x = Held::new(eval(alloc, funcs, places, sink, depth, a)?);
-    let y = Held::new(eval(alloc, funcs, places, sink, depth, i)?);
+    let zs = eval_all(here, run, sink, es)?;
+    more_value(
+        here.setting.alloc,
+        behind.span,
+        behind.more,
+        x,
+        zs.as_slice(),
+    )
+}
+
+fn eval_element<K: Sink, E: Fn(Setting, &mut Run, &mut K, &Tree) -> Result<Value, Stop>, X>(
+    here: &Nodes<E, X>,
+    run: &mut Run,
+    sink: &mut K,
+    span: Span,
+    array: &Tree,
+    index: &Tree,
+) -> Result<Value, Stop>
+    requires evals { Evals K.written K.faults K.full here.now.setting.funcs.now here.now.setting.depth (E.pre here.now.eval here.now.setting) (E.post here.now.eval here.now.setting) }
+    ensures meets { Runs value_of result here.now.setting.funcs.now here.now.setting.depth
+        (forms.element span (tree_of array.now) (tree_of index.now))
+        run.old (K.written sink.old) run.new (K.written sink.new) }
+    ensures counts { Counts result (K.faults sink.old) (K.faults sink.new) }
+    ensures same_full { K.full sink.new ≡ K.full sink.old }
+    ensures keeps { Keeps result run.old run.new }
+{
+    let x = Held::new(eval(here, run, sink, array)?);
+    let y = Held::new(eval(here, run, sink, index)?);
     Ok(element_of(span, x.get(), y.get())?)
 }

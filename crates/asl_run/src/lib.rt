@@ -1,19 +1,28 @@
-//! The interpreter, and the machine that runs checked programs.
+//! The interpreter of typed trees. Each form of node has a function of its own, which takes the functions that run the nodes
+//! below it as parameters (`Nodes`): so it is proved by itself, over what those ensure (`specs/Below.antt`). Only the three
+//! functions that begin nodes call one another (`knot.rt`), and how many nodes more may be open falls each time.
 #![tactic(auto)]
 
 mod assignments;
+mod below;
 mod calls;
+mod catches;
+mod choices;
 mod exprs;
-mod globals;
-mod machine;
+mod finishes;
+mod knot;
+mod loops;
+mod operations;
 mod output;
+mod outside;
 mod places;
+mod run;
+mod setting;
 mod stmts;
 mod stop;
 
-pub use machine::{GlobalVar, Machine, Outcome, RunRefused};
-
-// What a machine stands on is public for the tests of the native stack, which run trees that no text has.
-pub use calls::run;
-pub use places::Places;
-pub use stop::Stop;
+pub use knot::{eval, exec, exec_all};
+pub use outside::call;
+pub use run::{Caller, Run};
+pub use setting::Setting;
+pub use stop::{Exit, Mistake, Stop};

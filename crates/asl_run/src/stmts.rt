@@ -1,351 +1,346 @@
 //! Statements: each function does what the rules say of a node, or of statements in order. Its answer is `Stuck` exactly
 //! where they give no outcome.
 ghost use Rattle.std.specs.Prelude.{◌≡◌, []};
-ghost use Rattle.asl_tree.specs.declared.typed.TypedStmt.{out-TypedStmt};
-ghost use Rattle.asl_rules.specs.Plans.{Eval, Ret, lift};
-ghost use Rattle.asl_rules.specs.Values.{Normal, Returned};
-ghost use Rattle.asl_rules.specs.Operators as operators;
-ghost use Rattle.asl_tree.specs.TypedMeaning as rules;
+ghost use Rattle.asl_rules.specs.Forms.{eval_all as in_turn};
+ghost use Rattle.asl_rules.specs.Plans.{Eval};
+ghost use Rattle.asl_rules.specs.StatementForms as forms;
+ghost use Rattle.asl_rules.specs.Trees.{act_at};
+ghost use Rattle.asl_rules.specs.TypedMeaning as rules;
+ghost use Rattle.asl_rules.specs.TypedMeaning.{list_of, acts_of, in_bare, itself};
+ghost use Rattle.asl_tree.specs.Acts.{act_of, simple_of, all_acts, all_branches, all_items};
+ghost use Rattle.asl_tree.specs.View.{tree_of, all_trees};
+ghost use Rattle.asl_tree.specs.declared.act.Branch.TheVariants.{Elsif};
 ghost use Rattle.asl_value.specs.View.{value_of};
-ghost use Rattle.asl_run.specs.Meets.{Counts, Executes, Runs};
-ghost use Rattle.asl_run.specs.View.{exit_of};
+ghost use Rattle.asl_run.specs.Below.{Evals, Execs};
+ghost use Rattle.asl_run.specs.Finishes.{finished, begun};
+ghost use Rattle.asl_run.specs.Meets.{Counts, Keeps, Runs};
+ghost use Rattle.asl_run.specs.View.{exit_of, program_of};
 
-use crate::assignments::store;
-use crate::exprs::{eval, eval_all};
+use crate::assignments::exec_assign;
+use crate::below::{eval, exec_all};
+use crate::calls::{Call, exec_invoke};
+use crate::catches::{Try, exec_try, throw_again};
+use crate::choices::{Case, exec_case};
+use crate::exprs::eval_all;
+use crate::finishes::{After, First, begin, finish};
+use crate::loops::{exec_for, exec_repeat, exec_while};
 use crate::output::{put, put_string, put_value};
-use crate::places::{Places, declare, declare_first};
+use crate::places::push;
+use crate::run::Run;
+use crate::setting::{Nodes, Setting};
 use crate::stop::{Exit, Stop};
 use asl_io::Sink;
 use asl_shared::Held;
 use asl_syn::code::DynCode;
 use asl_syn::token::Span;
 use asl_syn::tree::PrintKind;
-use asl_tree::typed::{Binds, TypedBranch, TypedExpr, TypedFunc, TypedItem, TypedPlace, TypedStmt};
+use asl_tree::act::{Act, Branch, Simple, TreeItem};
+use asl_tree::tree::Tree;
 use asl_value::{Value, truth};
-use std::alloc::Global;
+use sqlite_items::Items;
 
-fn stmt_span(s: &TypedStmt) -> Span
-    ensures { result ≡ rules.typed_stmt_layer_span (out-TypedStmt s.now) }
+pub fn act_span(s: &Act) -> Span
+    ensures { result ≡ act_at (act_of s.now) }
 {
     match s {
-        TypedStmt::Pass(span) => *span,
-        TypedStmt::Assert(span, _) => *span,
-        TypedStmt::Declare(span, _, _) => *span,
-        TypedStmt::DeclareFirst(span, _, _, _) => *span,
-        TypedStmt::Assign(span, _, _) => *span,
-        TypedStmt::If(span, _, _, _, _) => *span,
-        TypedStmt::Return(span, _) => *span,
-        TypedStmt::Print(span, _, _) => *span,
+        Act::Simple(s) => simple_span(s),
+        Act::If(span, _, _, _, _) => *span,
+        Act::Case(span, _, _, _) => *span,
+        Act::For(span, _, _) => *span,
+        Act::While(span, _, _) => *span,
+        Act::Repeat(span, _, _) => *span,
+        Act::Try(span, _, _, _) => *span,
     }
 }
 
-/// Runs a statement, where `depth` nodes more may be open.
-#[cycle(exec)]
-pub fn exec<K: Sink>(
-    alloc: Global,
-    funcs: &[TypedFunc],
-    places: &mut Places,
-    sink: &mut K,
-    depth: u32,
-    s: &TypedStmt,
-) -> Result<Exit, Stop>
-    ensures meets { Executes result funcs.now depth s.now
-        places.old (K.written sink.old) places.new (K.written sink.new) }
-    ensures counts { Counts result (K.faults sink.old) (K.faults sink.new) }
-    ensures same_full { K.full sink.new ≡ K.full sink.old }
-{
-    if places.steps == 0 {
-        return Err(Stop::Fault(DynCode::D13, stmt_span(s)));
-    }
-    if depth == 0 {
-        return Err(Stop::Fault(DynCode::D12, stmt_span(s)));
-    }
-    places.steps -= 1;
-    exec_node(alloc, funcs, places, sink, depth - 1, s)
-}
-
-#[cycle(exec)]
-fn exec_node<K: Sink>(
-    alloc: Global,
-    funcs: &[TypedFunc],
-    places: &mut Places,
-    sink: &mut K,
-    depth: u32,
-    s: &TypedStmt,
-) -> Result<Exit, Stop>
-    ensures meets { Runs exit_of result funcs.now depth (rules.typed_stmt_node funcs.now (out-TypedStmt s.now))
-        places.old (K.written sink.old) places.new (K.written sink.new) }
-    ensures counts { Counts result (K.faults sink.old) (K.faults sink.new) }
-    ensures same_full { K.full sink.new ≡ K.full sink.old }
+fn simple_span(s: &Simple) -> Span
+    ensures { result ≡ act_at (simple_of s.now) }
 {
     match s {
-        TypedStmt::Pass(_) => Ok(Exit::Normal),
-        TypedStmt::Assert(span, e) => exec_assert(alloc, funcs, places, sink, depth, *span, e),
-        TypedStmt::Declare(span, binds, e) => {
-            exec_declare(alloc, funcs, places, sink, depth, *span, binds, e)
+        Simple::Pass(span) => *span,
+        Simple::Unreachable(span) => *span,
+        Simple::Assert(span, _) => *span,
+        Simple::Declare(span, _, _, _) => *span,
+        Simple::DeclareFirst(span, _, _, _, _) => *span,
+        Simple::Assign(span, _, _) => *span,
+        Simple::Invoke(span, _, _, _, _) => *span,
+        Simple::Return(span, _) => *span,
+        Simple::Throw(span, _) => *span,
+        Simple::Print(span, _, _) => *span,
+    }
+}
+
+/// What a statement does once it is entered.
+pub fn exec_node<
+    K: Sink,
+    E: Fn(Setting, &mut Run, &mut K, &Tree) -> Result<Value, Stop>,
+    X: Fn(Setting, &mut Run, &mut K, &Items<Act>) -> Result<Exit, Stop>,
+>(here: &Nodes<E, X>, run: &mut Run, sink: &mut K, s: &Act) -> Result<Exit, Stop>
+    requires evals { Evals K.written K.faults K.full here.now.setting.funcs.now here.now.setting.depth (E.pre here.now.eval here.now.setting) (E.post here.now.eval here.now.setting) }
+    requires execs { Execs K.written K.faults K.full here.now.setting.funcs.now here.now.setting.depth (X.pre here.now.exec here.now.setting) (X.post here.now.exec here.now.setting) }
+    ensures meets { Runs exit_of result here.now.setting.funcs.now here.now.setting.depth
+        (rules.act_node (program_of here.now.setting.funcs.now) (act_of s.now))
+        run.old (K.written sink.old) run.new (K.written sink.new) }
+    ensures counts { Counts result (K.faults sink.old) (K.faults sink.new) }
+    ensures same_full { K.full sink.new ≡ K.full sink.old }
+    ensures keeps { Keeps result run.old run.new }
+{
+    match s {
+        Act::Simple(s) => exec_simple(here, run, sink, s),
+        Act::If(span, e, first, others, last) => {
+            let x = Held::new(eval(here, run, sink, e)?);
+            if truth(*span, x.get())? {
+                exec_scope(here, run, sink, first)
+            } else {
+                exec_branches(here, run, sink, *span, others.as_slice(), last)
+            }
         }
-        TypedStmt::DeclareFirst(_, sizes, count, value) => exec_declare_first(
-            alloc,
-            funcs,
-            places,
+        Act::Case(span, e, others, last) => exec_case(
+            here,
+            run,
             sink,
-            depth,
-            sizes.as_slice(),
-            *count,
-            value,
-        ),
-        TypedStmt::Assign(_, targets, e) => {
-            exec_assign(alloc, funcs, places, sink, depth, targets.as_slice(), e)
-        }
-        TypedStmt::If(span, e, first, others, last) => exec_if(
-            alloc,
-            funcs,
-            places,
-            sink,
-            depth,
-            *span,
             e,
-            first.as_slice(),
-            others.as_slice(),
-            last.as_slice(),
+            Case {
+                span: *span,
+                others: others.as_slice(),
+                last,
+            },
         ),
-        TypedStmt::Return(_, None) => Ok(Exit::Returned(None)),
-        TypedStmt::Return(_, Some(e)) => exec_return(alloc, funcs, places, sink, depth, e),
-        TypedStmt::Print(_, kind, items) => {
-            print(alloc, funcs, places, sink, depth, *kind, items.as_slice())
+        Act::For(span, bounds, body) => exec_for(here, run, sink, *span, bounds, body),
+        Act::While(span, guard, body) => exec_while(here, run, sink, *span, guard, body),
+        Act::Repeat(span, body, guard) => exec_repeat(here, run, sink, *span, guard, body),
+        Act::Try(_, list, catchers, last) => exec_try(
+            here,
+            run,
+            sink,
+            list,
+            Try {
+                catchers: catchers.as_slice(),
+                last,
+            },
+        ),
+    }
+}
+
+/// A statement without lists.
+fn exec_simple<
+    K: Sink,
+    E: Fn(Setting, &mut Run, &mut K, &Tree) -> Result<Value, Stop>,
+    X: Fn(Setting, &mut Run, &mut K, &Items<Act>) -> Result<Exit, Stop>,
+>(here: &Nodes<E, X>, run: &mut Run, sink: &mut K, s: &Simple) -> Result<Exit, Stop>
+    requires evals { Evals K.written K.faults K.full here.now.setting.funcs.now here.now.setting.depth (E.pre here.now.eval here.now.setting) (E.post here.now.eval here.now.setting) }
+    requires execs { Execs K.written K.faults K.full here.now.setting.funcs.now here.now.setting.depth (X.pre here.now.exec here.now.setting) (X.post here.now.exec here.now.setting) }
+    ensures meets { Runs exit_of result here.now.setting.funcs.now here.now.setting.depth
+        (rules.act_node (program_of here.now.setting.funcs.now) (simple_of s.now))
+        run.old (K.written sink.old) run.new (K.written sink.new) }
+    ensures counts { Counts result (K.faults sink.old) (K.faults sink.new) }
+    ensures same_full { K.full sink.new ≡ K.full sink.old }
+    ensures keeps { Keeps result run.old run.new }
+{
+    match s {
+        Simple::Pass(_) => Ok(Exit::Normal),
+        Simple::Unreachable(span) => Err(Stop::Fault(DynCode::D15, *span)),
+        Simple::Assert(span, e) => exec_after(here, run, sink, e, After::Assert(*span)),
+        Simple::Declare(span, ty, taken, e) => {
+            exec_after(here, run, sink, e, After::Declare(*span, ty, taken))
         }
+        Simple::DeclareFirst(span, count, whole, shape, es) => exec_declare_first(
+            here,
+            run,
+            sink,
+            First {
+                span: *span,
+                count: *count,
+                whole: *whole,
+                shape,
+            },
+            es.as_slice(),
+        ),
+        Simple::Assign(_, targets, e) => exec_assign(here, run, sink, targets.as_slice(), e),
+        Simple::Invoke(span, callee, widths, params, args) => exec_invoke(
+            here,
+            run,
+            sink,
+            Call {
+                span: *span,
+                callee: *callee,
+                widths: widths.as_slice(),
+                params: params.as_slice(),
+                args: args.as_slice(),
+            },
+        ),
+        Simple::Return(_, None) => Ok(Exit::Returned(None)),
+        Simple::Return(_, Some(e)) => exec_after(here, run, sink, e, After::Return),
+        Simple::Throw(span, None) => throw_again(run, *span),
+        Simple::Throw(span, Some(e)) => exec_after(here, run, sink, e, After::Throw(*span)),
+        Simple::Print(_, kind, items) => print(here, run, sink, *kind, items.as_slice()),
     }
 }
 
-fn exec_assert<K: Sink>(
-    alloc: Global,
-    funcs: &[TypedFunc],
-    places: &mut Places,
+/// An expression, and what is done with its value.
+fn exec_after<K: Sink, E: Fn(Setting, &mut Run, &mut K, &Tree) -> Result<Value, Stop>, X>(
+    here: &Nodes<E, X>,
+    run: &mut Run,
     sink: &mut K,
-    depth: u32,
-    span: Span,
-    e: &TypedExpr,
+    e: &Tree,
+    after: After,
 ) -> Result<Exit, Stop>
-    ensures meets { Runs exit_of result funcs.now depth
-        (λ c. Eval e.now c (λ x c1. lift (operators.truth span x) c1 (λ b. rules.asserted span b c1)))
-        places.old (K.written sink.old) places.new (K.written sink.new) }
+    requires evals { Evals K.written K.faults K.full here.now.setting.funcs.now here.now.setting.depth (E.pre here.now.eval here.now.setting) (E.post here.now.eval here.now.setting) }
+    ensures meets { Runs exit_of result here.now.setting.funcs.now here.now.setting.depth
+        (λ c. Eval (tree_of e.now) c (finished after.entry))
+        run.old (K.written sink.old) run.new (K.written sink.new) }
     ensures counts { Counts result (K.faults sink.old) (K.faults sink.new) }
     ensures same_full { K.full sink.new ≡ K.full sink.old }
+    ensures keeps { Keeps result run.old run.new }
 {
-    let x = Held::new(eval(alloc, funcs, places, sink, depth, e)?);
-    if truth(span, x.get())? {
-        Ok(Exit::Normal)
-    } else {
-        Err(Stop::Fault(DynCode::D08, span))
-    }
-}
-
-fn exec_declare<K: Sink>(
-    alloc: Global,
-    funcs: &[TypedFunc],
-    places: &mut Places,
-    sink: &mut K,
-    depth: u32,
-    span: Span,
-    binds: &Binds,
-    e: &TypedExpr,
-) -> Result<Exit, Stop>
-    ensures meets { Runs exit_of result funcs.now depth
-        (λ c. Eval e.now c (λ x c1. lift (rules.taken span binds.now x c1) c1 (λ c2. Ret Normal c2)))
-        places.old (K.written sink.old) places.new (K.written sink.new) }
-    ensures counts { Counts result (K.faults sink.old) (K.faults sink.new) }
-    ensures same_full { K.full sink.new ≡ K.full sink.old }
-{
-    let x = eval(alloc, funcs, places, sink, depth, e)?;
-    declare(places, span, binds, x)
+    let x = eval(here, run, sink, e)?;
+    finish(here.setting.alloc, run, after, x)
 }
 
 /// The sizes in a type are evaluated, and then so many places take its first value.
-fn exec_declare_first<K: Sink>(
-    alloc: Global,
-    funcs: &[TypedFunc],
-    places: &mut Places,
+fn exec_declare_first<K: Sink, E: Fn(Setting, &mut Run, &mut K, &Tree) -> Result<Value, Stop>, X>(
+    here: &Nodes<E, X>,
+    run: &mut Run,
     sink: &mut K,
-    depth: u32,
-    sizes: &[TypedExpr],
-    count: usize,
-    value: &Value,
+    first: First,
+    sizes: &[Tree],
 ) -> Result<Exit, Stop>
-    ensures meets { Runs exit_of result funcs.now depth
-        (λ c. rules.eval_all sizes.now [] c (λ zs c1. Ret Normal (rules.pushed_times count (value_of value.now) c1)))
-        places.old (K.written sink.old) places.new (K.written sink.new) }
+    requires evals { Evals K.written K.faults K.full here.now.setting.funcs.now here.now.setting.depth (E.pre here.now.eval here.now.setting) (E.post here.now.eval here.now.setting) }
+    ensures meets { Runs exit_of result here.now.setting.funcs.now here.now.setting.depth
+        (λ c. in_turn (list_of (all_trees sizes.now)) [] c (begun first.entry))
+        run.old (K.written sink.old) run.new (K.written sink.new) }
     ensures counts { Counts result (K.faults sink.old) (K.faults sink.new) }
     ensures same_full { K.full sink.new ≡ K.full sink.old }
+    ensures keeps { Keeps result run.old run.new }
 {
-    let _sizes = eval_all(alloc, funcs, places, sink, depth, sizes)?;
-    declare_first(places, count, value)
-}
-
-fn exec_assign<K: Sink>(
-    alloc: Global,
-    funcs: &[TypedFunc],
-    places: &mut Places,
-    sink: &mut K,
-    depth: u32,
-    targets: &[TypedPlace],
-    e: &TypedExpr,
-) -> Result<Exit, Stop>
-    ensures meets { Runs exit_of result funcs.now depth
-        (λ c. Eval e.now c (λ x c1. rules.store_each targets.now x c1))
-        places.old (K.written sink.old) places.new (K.written sink.new) }
-    ensures counts { Counts result (K.faults sink.old) (K.faults sink.new) }
-    ensures same_full { K.full sink.new ≡ K.full sink.old }
-{
-    let x = eval(alloc, funcs, places, sink, depth, e)?;
-    store(alloc, funcs, places, sink, depth, targets, x)
-}
-
-fn exec_return<K: Sink>(
-    alloc: Global,
-    funcs: &[TypedFunc],
-    places: &mut Places,
-    sink: &mut K,
-    depth: u32,
-    e: &TypedExpr,
-) -> Result<Exit, Stop>
-    ensures meets { Runs exit_of result funcs.now depth (λ c. Eval e.now c (λ x c1. Ret (Returned (Some x)) c1))
-        places.old (K.written sink.old) places.new (K.written sink.new) }
-    ensures counts { Counts result (K.faults sink.old) (K.faults sink.new) }
-    ensures same_full { K.full sink.new ≡ K.full sink.old }
-{
-    let x = eval(alloc, funcs, places, sink, depth, e)?;
-    Ok(Exit::Returned(Some(x)))
+    let zs = eval_all(here, run, sink, sizes)?;
+    begin(here.setting.alloc, run, first, zs.as_slice())
 }
 
 /// Items, each written when it is evaluated, and the end of the line where it is asked for.
-fn print<K: Sink>(
-    alloc: Global,
-    funcs: &[TypedFunc],
-    places: &mut Places,
+fn print<K: Sink, E: Fn(Setting, &mut Run, &mut K, &Tree) -> Result<Value, Stop>, X>(
+    here: &Nodes<E, X>,
+    run: &mut Run,
     sink: &mut K,
-    depth: u32,
     kind: PrintKind,
-    items: &[TypedItem],
+    items: &[TreeItem],
 ) -> Result<Exit, Stop>
-    ensures meets { Runs exit_of result funcs.now depth (rules.print_items kind items.now)
-        places.old (K.written sink.old) places.new (K.written sink.new) }
+    requires evals { Evals K.written K.faults K.full here.now.setting.funcs.now here.now.setting.depth (E.pre here.now.eval here.now.setting) (E.post here.now.eval here.now.setting) }
+    ensures meets { Runs exit_of result here.now.setting.funcs.now here.now.setting.depth
+        (forms.print_items rules.item_of kind (all_items items.now))
+        run.old (K.written sink.old) run.new (K.written sink.new) }
     ensures counts { Counts result (K.faults sink.old) (K.faults sink.new) }
     ensures same_full { K.full sink.new ≡ K.full sink.old }
+    ensures keeps { Keeps result run.old run.new }
 {
     for item in items {
         let e = match item {
-            TypedItem::Verbatim(text) => {
-                put_string(&mut places.text_open, sink, text.as_slice())?;
+            TreeItem::Verbatim(text) => {
+                put_string(&mut run.text_open, sink, text.as_slice())?;
                 continue;
             }
-            TypedItem::Shown(e) => e,
+            TreeItem::Shown(e) => e,
         };
-        let x = eval(alloc, funcs, places, sink, depth, e)?;
-        put_value(&mut places.text_open, sink, &x)?;
+        let x = eval(here, run, sink, e)?;
+        put_value(&mut run.text_open, sink, &x)?;
     }
     match kind {
         PrintKind::Print => {}
-        PrintKind::PrintLine => put(&mut places.text_open, sink, b"\n")?,
+        PrintKind::PrintLine => put(&mut run.text_open, sink, b"\n")?,
     }
     Ok(Exit::Normal)
 }
 
-#[cycle(exec)]
-fn exec_if<K: Sink>(
-    alloc: Global,
-    funcs: &[TypedFunc],
-    places: &mut Places,
-    sink: &mut K,
-    depth: u32,
-    span: Span,
-    e: &TypedExpr,
-    first: &[TypedStmt],
-    others: &[TypedBranch],
-    last: &[TypedStmt],
-) -> Result<Exit, Stop>
-    ensures meets { Runs exit_of result funcs.now depth
-        (rules.branch span e.now first.now (rules.branches span others.now last.now))
-        places.old (K.written sink.old) places.new (K.written sink.new) }
-    ensures counts { Counts result (K.faults sink.old) (K.faults sink.new) }
-    ensures same_full { K.full sink.new ≡ K.full sink.old }
-{
-    let x = Held::new(eval(alloc, funcs, places, sink, depth, e)?);
-    if truth(span, x.get())? {
-        exec_scope(alloc, funcs, places, sink, depth, first)
-    } else {
-        exec_branches(alloc, funcs, places, sink, depth, span, others, last)
-    }
-}
+// ---- `if`
 
 /// The first branch whose condition is `TRUE`, or else the last.
-#[cycle(exec)]
-fn exec_branches<K: Sink>(
-    alloc: Global,
-    funcs: &[TypedFunc],
-    places: &mut Places,
+fn exec_branches<
+    K: Sink,
+    E: Fn(Setting, &mut Run, &mut K, &Tree) -> Result<Value, Stop>,
+    X: Fn(Setting, &mut Run, &mut K, &Items<Act>) -> Result<Exit, Stop>,
+>(
+    here: &Nodes<E, X>,
+    run: &mut Run,
     sink: &mut K,
-    depth: u32,
     span: Span,
-    branches: &[TypedBranch],
-    last: &[TypedStmt],
+    others: &[Branch],
+    last: &Items<Act>,
 ) -> Result<Exit, Stop>
-    ensures meets { Runs exit_of result funcs.now depth (rules.branches span branches.now last.now)
-        places.old (K.written sink.old) places.new (K.written sink.new) }
+    requires evals { Evals K.written K.faults K.full here.now.setting.funcs.now here.now.setting.depth (E.pre here.now.eval here.now.setting) (E.post here.now.eval here.now.setting) }
+    requires execs { Execs K.written K.faults K.full here.now.setting.funcs.now here.now.setting.depth (X.pre here.now.exec here.now.setting) (X.post here.now.exec here.now.setting) }
+    ensures meets { Runs exit_of result here.now.setting.funcs.now here.now.setting.depth
+        (forms.branches in_bare itself span (rules.branches_of (all_branches others.now)) (acts_of (all_acts last.now)))
+        run.old (K.written sink.old) run.new (K.written sink.new) }
     ensures counts { Counts result (K.faults sink.old) (K.faults sink.new) }
     ensures same_full { K.full sink.new ≡ K.full sink.old }
+    ensures keeps { Keeps result run.old run.new }
 {
-    for branch in branches {
-        let TypedBranch::Branch(e, list) = branch;
-        let x = Held::new(eval(alloc, funcs, places, sink, depth, e)?);
+    for branch in others {
+        let (e, list) = branch_parts(branch);
+        let x = Held::new(eval(here, run, sink, e)?);
         if truth(span, x.get())? {
-            return exec_scope(alloc, funcs, places, sink, depth, list.as_slice());
+            return exec_scope(here, run, sink, list);
         }
     }
-    exec_scope(alloc, funcs, places, sink, depth, last)
+    exec_scope(here, run, sink, last)
 }
 
+/// A condition and its list.
+fn branch_parts(branch: &Branch) -> (&Tree, &Items<Act>)
+    ensures { branch.now ≡ Elsif result.0.now result.1.now }
+{
+    let Branch::Elsif(e, list) = branch;
+    (e, list)
+}
+
+// ---- lists
+
 /// Statements with a scope of their own.
-#[cycle(exec)]
 #[tactic(auto, using(crate::proofs::Slots::cut_values))]
-fn exec_scope<K: Sink>(
-    alloc: Global,
-    funcs: &[TypedFunc],
-    places: &mut Places,
+pub fn exec_scope<K: Sink, E, X: Fn(Setting, &mut Run, &mut K, &Items<Act>) -> Result<Exit, Stop>>(
+    here: &Nodes<E, X>,
+    run: &mut Run,
     sink: &mut K,
-    depth: u32,
-    list: &[TypedStmt],
+    list: &Items<Act>,
 ) -> Result<Exit, Stop>
-    ensures meets { Runs exit_of result funcs.now depth (rules.scope list.now)
-        places.old (K.written sink.old) places.new (K.written sink.new) }
+    requires execs { Execs K.written K.faults K.full here.now.setting.funcs.now here.now.setting.depth (X.pre here.now.exec here.now.setting) (X.post here.now.exec here.now.setting) }
+    ensures meets { Runs exit_of result here.now.setting.funcs.now here.now.setting.depth
+        (forms.scope in_bare (acts_of (all_acts list.now)))
+        run.old (K.written sink.old) run.new (K.written sink.new) }
     ensures counts { Counts result (K.faults sink.old) (K.faults sink.new) }
     ensures same_full { K.full sink.new ≡ K.full sink.old }
+    ensures keeps { Keeps result run.old run.new }
 {
-    let height = places.frame.len();
-    let exit = exec_all(alloc, funcs, places, sink, depth, list)?;
-    places.frame.truncate(height);
+    let height = run.frame.len();
+    let exit = exec_all(here, run, sink, list)?;
+    run.frame.truncate(height);
     Ok(exit)
 }
 
-/// Statements in order, up to one that returns.
-#[cycle(exec)]
-pub fn exec_all<K: Sink>(
-    alloc: Global,
-    funcs: &[TypedFunc],
-    places: &mut Places,
+/// Statements in whose scope a value stands before them.
+#[tactic(auto, using(crate::proofs::Slots::cut_values))]
+pub fn exec_scope_with<
+    K: Sink,
+    E,
+    X: Fn(Setting, &mut Run, &mut K, &Items<Act>) -> Result<Exit, Stop>,
+>(
+    here: &Nodes<E, X>,
+    run: &mut Run,
     sink: &mut K,
-    depth: u32,
-    list: &[TypedStmt],
+    x: Value,
+    list: &Items<Act>,
 ) -> Result<Exit, Stop>
-    ensures meets { Runs exit_of result funcs.now depth (rules.in_order list.now)
-        places.old (K.written sink.old) places.new (K.written sink.new) }
+    requires execs { Execs K.written K.faults K.full here.now.setting.funcs.now here.now.setting.depth (X.pre here.now.exec here.now.setting) (X.post here.now.exec here.now.setting) }
+    ensures meets { Runs exit_of result here.now.setting.funcs.now here.now.setting.depth
+        (forms.scope_with in_bare (rules.indexed (value_of x)) (acts_of (all_acts list.now)))
+        run.old (K.written sink.old) run.new (K.written sink.new) }
     ensures counts { Counts result (K.faults sink.old) (K.faults sink.new) }
     ensures same_full { K.full sink.new ≡ K.full sink.old }
+    ensures keeps { Keeps result run.old run.new }
 {
-    for s in list {
-        match exec(alloc, funcs, places, sink, depth, s)? {
-            Exit::Normal => {}
-            Exit::Returned(x) => return Ok(Exit::Returned(x)),
-        }
-    }
-    Ok(Exit::Normal)
+    let height = run.frame.len();
+    push(run, x)?;
+    let exit = exec_all(here, run, sink, list)?;
+    run.frame.truncate(height);
+    Ok(exit)
 }

@@ -22,6 +22,10 @@ pub enum Mistake {
     WrongKind,
     /// The end of a function.
     EndReached,
+    /// A written type that is none.
+    UnknownType,
+    /// Nothing was caught that could be thrown again.
+    NothingCaught,
 }
 
 /// Why a run stops.
@@ -82,6 +86,7 @@ impl From<Failure> for Stop {
         match failure {
             Failure::Fault(code, span) => Stop::Fault(code, span),
             Failure::WrongKind(span) => Stop::Stuck(Mistake::WrongKind, span),
+            Failure::UnknownType(span) => Stop::Stuck(Mistake::UnknownType, span),
             Failure::NoMemory => Stop::NoMemory,
         }
     }

@@ -1,12 +1,8 @@
-//! Declarations and statements of forms that no accepted text has.
-use asl_decl::{Table, result_type};
-use asl_expr::falls_through;
+//! Declarations of forms that no accepted text has.
+use asl_decl::Table;
 use asl_syn::code::{Fault, Refused, StaticCode};
 use asl_syn::token::Span;
-use asl_syn::tree::{
-    Decl, ElseIf, Expr, Func, Ident, Qualifier, Stmt, StorageDecl, StorageKind, Text, TypeExpr,
-};
-use asl_types::Scope;
+use asl_syn::tree::{Decl, Expr, Func, Ident, Qualifier, StorageDecl, StorageKind, Text, TypeExpr};
 use sqlite_items::Items;
 use std::alloc::{AllocError, Global};
 
@@ -78,6 +74,17 @@ fn fault_of(alloc: Global, decls: &[Decl]) -> Option<Fault> {
     }
 }
 
+/// Whether these declarations bring a subprogram first that has no result.
+fn is_without_result(alloc: Global, decls: &[Decl]) -> bool {
+    match Table::build(alloc, decls) {
+        Ok(table) => match table.subs.signatures().split_first() {
+            Some((f, _)) => f.result().is_none(),
+            None => false,
+        },
+        Err(_) => false,
+    }
+}
+
 #[test]
 fn storage_calls_nothing(rt: HostRuntime) {
     let alloc = rt.alloc();
@@ -90,23 +97,6 @@ fn storage_calls_nothing(rt: HostRuntime) {
         let decls = calling(alloc, ty).expect(&rt, "memory");
         assert_eq!(rt; fault_of(alloc, decls.as_slice()), Some(want));
     }
-    assert!(rt; matches!(result_type(alloc, &Scope::new(alloc), &None), Ok(None)));
-}
-
-/// `if TRUE then return; else unreachable; end;`
-fn ending(alloc: Global) -> Result<Stmt, AllocError> {
-    let mut first = Items::new(alloc);
-    first.push(Stmt::Return(at(1), None))?;
-    let mut last = Items::new(alloc);
-    last.push(Stmt::Unreachable(at(2)))?;
-    let others: Items<ElseIf> = Items::new(alloc);
-    Ok(Stmt::If(at(0), Expr::Bool(at(0), true), first, others, last))
-}
-
-#[test]
-fn what_is_unreachable_ends_a_list(rt: HostRuntime) {
-    let alloc = rt.alloc();
-    let stmts = [Stmt::Pass(at(0)), ending(alloc).expect(&rt, "memory")];
-    assert!(rt; !falls_through(&stmts));
-    assert!(rt; falls_through(&stmts[..1]));
+    let alone = [procedure(alloc).expect(&rt, "memory")];
+    assert!(rt; is_without_result(alloc, &alone));
 }

@@ -21,8 +21,6 @@ mod outside;
 #[cfg(test)]
 mod polynomials;
 #[cfg(test)]
-mod stack;
-#[cfg(test)]
 mod types;
 #[cfg(test)]
 mod values;

@@ -1,10 +1,11 @@
 //! Types that no text writes: an enumeration without the name that declares it, and two records of one name.
+use asl_cons::Cons;
 use asl_shared::Shared;
 use asl_syn::code::{Refused, StaticCode};
 use asl_syn::token::Span;
 use asl_types::fits::{join, misfit};
-use asl_types::sizes::{bounded, depth, is_bounded, size};
-use asl_types::{FieldType, Ty};
+use asl_types::sizes::{bounded, is_bounded};
+use asl_types::{FieldType, Form, Ty};
 use asl_value::Name;
 use sqlite_items::Items;
 use std::alloc::{AllocError, Global};
@@ -19,34 +20,38 @@ fn name(alloc: Global, text: &str) -> Result<Name, AllocError> {
     Shared::new(alloc, Items::from_slice(alloc, text.as_bytes())?)
 }
 
+fn integers(alloc: Global) -> Result<Ty, AllocError> {
+    Ok(Ty::integer(Shared::new(alloc, Cons::whole(alloc))?))
+}
+
 fn colour(alloc: Global) -> Result<Ty, AllocError> {
     let mut labels = Items::new(alloc);
     labels.push(name(alloc, "RED")?)?;
     labels.push(name(alloc, "GREEN")?)?;
-    Ok(Ty::Enumeration(name(alloc, "Colour")?, Shared::new(alloc, labels)?))
+    Ok(Ty::enumeration(name(alloc, "Colour")?, Shared::new(alloc, labels)?))
 }
 
 /// A name for a type, which reaches nothing.
 fn named(alloc: Global, text: &str, inner: Ty) -> Result<Ty, AllocError> {
     let inner = Shared::new(alloc, inner)?;
     let reached = Shared::new(alloc, Items::new(alloc))?;
-    Ok(Ty::Named(name(alloc, text)?, reached, inner))
+    Ok(Ty::named(name(alloc, text)?, reached, inner))
 }
 
 /// A record `R` with this field.
 fn record(alloc: Global, field: Ty) -> Result<Ty, AllocError> {
     let mut fields = Items::new(alloc);
     fields.push(FieldType::Field(name(alloc, "a")?, field))?;
-    Ok(Ty::Record(name(alloc, "R")?, Shared::new(alloc, fields)?))
+    Ok(Ty::record_of(name(alloc, "R")?, Shared::new(alloc, fields)?))
 }
 
 /// An array of pairs.
 fn pairs(alloc: Global, length: u32) -> Result<Ty, AllocError> {
     let mut parts = Items::new(alloc);
-    parts.push(Ty::Integer)?;
-    parts.push(Ty::Boolean)?;
-    let pair = Ty::Tuple(Shared::new(alloc, parts)?);
-    Ok(Ty::Array(length, Shared::new(alloc, pair)?))
+    parts.push(integers(alloc)?)?;
+    parts.push(Ty::boolean())?;
+    let pair = Ty::tuple(Shared::new(alloc, parts)?);
+    Ok(Ty::array(length, Shared::new(alloc, pair)?))
 }
 
 /// Whether each of two types fits the other.
@@ -60,12 +65,13 @@ fn types_fit_by_their_declaration(rt: HostRuntime) {
     let plain = colour(alloc).expect(&rt, "memory");
     let paint = named(alloc, "Paint", colour(alloc).expect(&rt, "memory")).expect(&rt, "memory");
     assert!(rt; fit_each_other(&plain, &paint));
-    let joined = join(&plain, &paint).expect(&rt, "memory");
-    assert!(rt; matches!(joined, Some(Ty::Named(_, _, _))));
-    let integers = record(alloc, Ty::Integer).expect(&rt, "memory");
-    let booleans = record(alloc, Ty::Boolean).expect(&rt, "memory");
-    assert!(rt; fit_each_other(&integers, &booleans));
-    assert_eq!(rt; misfit(&plain, &integers), Some(StaticCode::T05));
+    let joined = join(alloc, &plain, &paint).expect(&rt, "memory");
+    let joined = joined.expect(&rt, "a type");
+    assert!(rt; matches!(joined.form(), Form::Named(_, _, _)));
+    let whole = record(alloc, integers(alloc).expect(&rt, "memory")).expect(&rt, "memory");
+    let truths = record(alloc, Ty::boolean()).expect(&rt, "memory");
+    assert!(rt; fit_each_other(&whole, &truths));
+    assert_eq!(rt; misfit(&plain, &whole), Some(StaticCode::T05));
 }
 
 #[test]
@@ -78,8 +84,8 @@ fn sizes_past_the_limit_are_one_number(rt: HostRuntime) {
         (4294967295, 65537, false),
     ] {
         let ty = pairs(alloc, length).expect(&rt, "memory");
-        assert_eq!(rt; size(&ty), count);
-        assert_eq!(rt; depth(&ty), 3);
+        assert_eq!(rt; ty.size(), count);
+        assert_eq!(rt; ty.depth(), 3);
         assert_eq!(rt; is_bounded(&ty), is_within);
         match bounded(HERE, ty) {
             Err(Refused::At(fault)) => assert!(rt; fault.code == StaticCode::T20 && !is_within),

@@ -1,12 +1,16 @@
 //! The texts of values, which come from outside, operators on labels, and replacements in values with one owner and several.
+use asl_bits::Bits;
+use asl_cons::Cons;
 use asl_io::MemSink;
+use asl_shape::{FieldGiven, construct};
 use asl_shared::Shared;
 use asl_syn::code::DynCode;
 use asl_syn::token::Span;
 use asl_syn::tree::{BinaryOperator, UnaryOperator};
+use asl_types::Ty;
 use asl_value::{
-    Failure, FieldValue, GivenField, Kind, Name, Shell, Step, Value, binary, construct, copy,
-    element_of, field_in, leaves_open, literal, part_in, replace, show, truth, tuple, unary,
+    Failure, FieldValue, Kind, Name, Shell, Step, Value, binary, copy, element_of, field_in,
+    leaves_open, literal, literal_bits, part_in, plain_bits, replace, show, truth, tuple, unary,
 };
 use sqlite_items::Items;
 use std::alloc::{AllocError, Global};
@@ -108,6 +112,35 @@ fn values_are_written(rt: HostRuntime) {
     assert!(rt; gives(alloc, nested(alloc), "(Point{x=[3, 4], y=-2}, TRUE)"));
 }
 
+/// The bits of a number, and the value of a literal of bits.
+fn both_written(
+    alloc: Global,
+    number: i128,
+    width: i128,
+    text: &[u8],
+) -> Result<(Value, Value), Failure> {
+    match Bits::from_int(number, width) {
+        Ok(bits) => Ok((plain_bits(alloc, bits)?, literal_bits(alloc, HERE, text)?)),
+        Err(_) => Err(Failure::WrongKind(HERE)),
+    }
+}
+
+#[test]
+fn bits_are_written_from_the_highest(rt: HostRuntime) {
+    let alloc = rt.alloc();
+    for (number, width, read, text) in [
+        (0, 0, "''", "''"),
+        (10, 4, "'10 10'", "'1010'"),
+        (1, 4, "'0 001'", "'0001'"),
+        (-2, 3, "'110'", "'110'"),
+    ] {
+        let found = both_written(alloc, number, width, read.as_bytes());
+        let (value, literal) = found.ok().expect(&rt, "two values of bits");
+        assert!(rt; has(alloc, &value, text), "{text}");
+        assert!(rt; has(alloc, &literal, text), "{read}");
+    }
+}
+
 /// What an operator gives of two labels.
 fn compared(
     alloc: Global,
@@ -117,7 +150,7 @@ fn compared(
 ) -> Result<bool, Failure> {
     let red = label(alloc, "Colour", "RED")?;
     let other = label(alloc, enumeration, own)?;
-    truth(HERE, &binary(HERE, operator, &red, &other)?)
+    truth(HERE, &binary(alloc, HERE, operator, &red, &other)?)
 }
 
 #[test]
@@ -133,20 +166,34 @@ fn operators_are_applied(rt: HostRuntime) {
         )
     );
     let seven = literal(HERE, 7).ok().expect(&rt, "an integer");
-    assert!(rt; gives(alloc, unary(HERE, UnaryOperator::Negate, &seven), "-7"));
+    assert!(rt;
+        gives(
+            alloc,
+            unary(alloc, HERE, UnaryOperator::Negate, &seven),
+            "-7"
+        )
+    );
 }
 
-fn given(alloc: Global, text: &str, place: usize) -> Result<GivenField, AllocError> {
-    Ok(GivenField {
+fn given(alloc: Global, text: &str, ty: Ty, place: usize) -> Result<FieldGiven, AllocError> {
+    Ok(FieldGiven {
         name: name(alloc, text)?,
+        ty,
         place,
     })
+}
+
+fn integers(alloc: Global) -> Result<Ty, AllocError> {
+    Ok(Ty::integer(Shared::new(alloc, Cons::whole(alloc))?))
 }
 
 /// A record whose fields are given the other way round.
 fn constructed(alloc: Global) -> Result<Value, Failure> {
     let shell = Shell::Record(name(alloc, "Point")?);
-    let fields = [given(alloc, "x", 1)?, given(alloc, "y", 0)?];
+    let fields = [
+        given(alloc, "x", integers(alloc)?, 1)?,
+        given(alloc, "y", Ty::boolean(), 0)?,
+    ];
     let values = [Value::Bool(true), Value::Int(1)];
     construct(alloc, HERE, &shell, &fields, &values)
 }

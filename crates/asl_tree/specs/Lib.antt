@@ -1,4 +1,3 @@
-pub mod Elaboration
-pub mod TypedMeaning
-pub mod Erasure
-pub mod Accepted
+pub mod View
+pub mod Acts
+pub mod Sealed

@@ -1,12 +1,12 @@
 //! Programs that are well formed.
-ghost use Rattle.std.specs.Prelude.{◌≡◌, ℕ, Option};
-ghost use Rattle.asl_types.specs.Bindings.{bindings_of};
-ghost use Rattle.asl_rules.specs.Evaluation.{initial_globals};
-ghost use Rattle.asl_tree.specs.Accepted.{Accepted, IsWellFormed, IsElaborated, IsInitial};
+ghost use Rattle.std.specs.Prelude.{◌≡◌, ℕ};
+ghost use Rattle.asl_tree.specs.Sealed.{Sealed, IsSealed};
 
-use crate::typed::TypedFunc;
+use crate::act::TreeFunc;
+use asl_rules::entry::Entry;
 use asl_syn::tree::Program;
-use asl_types::Binding;
+use asl_value::{Name, Value};
+use sqlite_items::Items;
 use std::marker::Model;
 
 /// The number of a subprogram in source order, from 0.
@@ -39,78 +39,84 @@ impl SubId {
     }
 }
 
-/// A program that is well formed with its entry, the typed trees of its subprograms, and its globals with their initial
-/// values. Contracts see its declarations and the number of the entry: the declarations determine the typed trees and the
-/// globals.
+/// Global storage: its name, the value that a run begins with, and whether it can be assigned.
+#[derive(Drop)]
+pub struct Global {
+    pub name: Name,
+    pub value: Value,
+    pub is_mutable: bool,
+}
+
+/// A program that is well formed with the entry that was asked for, the typed trees of its subprograms, and its globals.
+/// Contracts see its declarations and the entry: they determine the trees and the globals.
 #[derive(Drop)]
 pub struct Checked {
     program: Program,
-    entry: Option<SubId>,
-    funcs: Vec<TypedFunc>,
-    globals: Vec<Binding>,
+    asked: Entry,
+    main: Option<SubId>,
+    funcs: Items<TreeFunc>,
+    globals: Vec<Global>,
 }
 
 impl Model for Checked {
-    ghost use Rattle.asl_tree.specs.Accepted.{Accepted, accepted_code, IsWellFormed, IsElaborated, IsInitial};
+    ghost use Rattle.asl_tree.specs.Sealed.{Sealed, sealed_code, IsSealed};
 
-    ghost Value = { Accepted };
+    ghost Value = { Sealed };
 
-    ghost coded = { accepted_code };
+    ghost coded = { sealed_code };
 
-    ghost view = { λ c. record { decls = c.program.decls; entry = c.entry } };
+    ghost view = { λ c. record { decls = c.program.decls; asked = c.asked; main = c.main } };
 
-    ghost invariant = { λ c. IsWellFormed c.program.decls c.entry × IsElaborated c.program.decls c.funcs.items × IsInitial c.program.decls c.globals.items };
+    ghost invariant = { λ c. IsSealed c.program.decls c.asked c.main c.funcs c.globals.items };
 }
 
 impl Checked {
-    /// Seals a program that is well formed with this entry, none where it was checked without one, with the typed trees of
-    /// its subprograms and its globals with their initial values, each in source order.
+    /// Seals a program that is well formed with this entry, which is this subprogram, with the typed trees of its subprograms
+    /// and its globals, each in source order.
     pub fn seal(
         program: Program,
-        entry: Option<SubId>,
-        funcs: Vec<TypedFunc>,
-        globals: Vec<Binding>,
+        asked: Entry,
+        main: Option<SubId>,
+        funcs: Items<TreeFunc>,
+        globals: Vec<Global>,
     ) -> Checked
-        requires well_formed { IsWellFormed program.decls entry }
-        requires elaborated { IsElaborated program.decls funcs.items }
-        requires initial { IsInitial program.decls globals.items }
-        ensures { result ≡ record { decls = program.decls; entry = entry } }
+        requires { IsSealed program.decls asked main funcs globals.items }
+        ensures { result ≡ record { decls = program.decls; asked = asked; main = main } }
     {
         Checked {
             program,
-            entry,
+            asked,
+            main,
             funcs,
             globals,
         }
     }
 
-    /// The subprogram that a run begins with: none exactly where the program was checked without an entry.
-    pub fn entry(&self) -> Option<SubId>
-        ensures { result ≡ self.now.entry }
+    /// The entry that was asked for.
+    pub fn asked(&self) -> Entry
+        ensures { result ≡ self.now.asked }
     {
-        self.entry
+        self.asked
     }
 
-    /// The trees of the program.
+    /// The subprogram that a run begins with: none exactly where no entry was asked for.
+    pub fn entry(&self) -> Option<SubId>
+        ensures { result ≡ self.now.main }
+    {
+        self.main
+    }
+
+    /// The trees of the program, as they were written.
     pub fn program(&self) -> &Program
-        ensures is { result.now.decls ≡ self.now.decls }
-        ensures well_formed { IsWellFormed self.now.decls self.now.entry }
+        ensures { result.now.decls ≡ self.now.decls }
     {
         &self.program
     }
 
-    /// The typed trees of the subprograms, in source order.
-    pub fn funcs(&self) -> &[TypedFunc]
-        ensures elaborated { IsElaborated self.now.decls result.now }
-        ensures well_formed { IsWellFormed self.now.decls self.now.entry }
+    /// The typed trees of the subprograms and the globals, each in source order.
+    pub fn parts(&self) -> (&Items<TreeFunc>, &[Global])
+        ensures { IsSealed self.now.decls self.now.asked self.now.main result.0.now result.1.now }
     {
-        self.funcs.as_slice()
-    }
-
-    /// The globals with their initial values, in source order.
-    pub fn globals(&self) -> &[Binding]
-        ensures initial { bindings_of result.now ≡ initial_globals self.now.decls }
-    {
-        self.globals.as_slice()
+        (&self.funcs, self.globals.as_slice())
     }
 }

@@ -1,8 +1,8 @@
-//! What the checker makes of a program: its typed trees, and the checked program that a run stands on.
+//! Typed trees, which the checker makes of bodies that are well formed and a run goes through, and programs that were checked.
 #![tactic(auto)]
 
+pub mod act;
 mod checked;
-pub mod law;
-pub mod typed;
+pub mod tree;
 
-pub use checked::{Checked, SubId};
+pub use checked::{Checked, Global, SubId};

@@ -1,20 +1,22 @@
 -- The numbers that stand with the names in the map are those of their places.
-use Rattle.std.proofs.Common.{◌≡◌, ℕ, zero, suc, ◌+◌, ◌-◌, ◌≤◌, ◌<◌, Bool, true, false, List, [], ◌∷◌, ◌++◌, length, take, cond, Option, Some, None, option_map, Bor, refl, sym, ap, subst, ◌∙◌, slice_get, arith}
+use Rattle.std.proofs.Common.{◌≡◌, ℕ, zero, suc, ◌+◌, ◌-◌, ◌*◌, ◌≤◌, ◌<◌, Bool, true, false, List, [], ◌∷◌, ◌++◌, length, take, cond, Option, Some, None, option_map, Bor, refl, sym, ap, subst, ◌∙◌, slice_get, arith}
+use Rattle.std.specs.Prelude.{not}
 use Rattle.std.specs.Str.{bytes_eq}
 use Rattle.std.specs.List.{AllByRecursion, IsDistinct}
 use Rattle.std.specs.Map.{lookup, keys_of}
 use Rattle.std.specs.Cmp.Lexicographic.{bytes_decides, nat_list_eq_equiv}
 use Rattle.std.proofs.lemmas.Map.Keys.{IsDistinct-head, IsDistinct-tail}
 use Rattle.indexmap.specs.IndexMap.{IndexMap, insert_entry}
-use Rattle.asl_types.specs.declared.slot.Slot.TheVariants as slot
-use Rattle.asl_rules.specs.Scopes.{Entry, is_free}
+use Rattle.asl_rules.specs.declared.slot.Slot.TheVariants as slot
+use Rattle.asl_rules.specs.Scopes as scopes
+use Rattle.asl_rules.specs.Scopes.{Entry, is_free, is_local, next_atom}
 use Rattle.asl_types.specs.declared.scope.Form.{Form}
 use Rattle.asl_types.specs.declared.scope.Form.TheVariants.{Local, Global, Subprogram, TypeName, Label}
 use Rattle.asl_types.specs.declared.scope.Standing.{Standing}
 use Rattle.asl_types.specs.declared.scope.Standing.TheVariants as standing
 use Rattle.asl_types.specs.declared.scope.Declared.{Declared}
 use Rattle.asl_types.specs.Standings.{form_view, standing_view, slot_by, HasSlot, entries_of, more_locals, more_globals, Numbered, same_name, IsKept}
-use Rattle.asl_types.specs.Places.{place_of, slot_among, slot_of, local_name, global_name, local_names, global_names, layout_of}
+use Rattle.asl_rules.specs.Layouts.{place_of, number_before, slot_among, slot_of, local_name, global_name, local_names, global_names, layout_of}
 use Rattle.asl_types.proofs.ScopeLemmas.{map-new}
 
 abbrev Held : Type 0
@@ -28,7 +30,7 @@ At l p n = (i : ℕ) × (p ≡ Some i) × (l + i ≡ n)
 
 -- what was declared so has these places among the names behind so many of local and of global storage
 Placed : Form → ℕ → ℕ → ℕ → ℕ → Option ℕ → Option ℕ → Type 0
-Placed (Local T m) dl dg l g p q = At l p dl
+Placed (Local T m c) dl dg l g p q = At l p dl
 Placed (Global T m x) dl dg l g p q = (p ≡ None) × At g q dg
 Placed Subprogram dl dg l g p q = Unit {0}
 Placed (TypeName T) dl dg l g p q = Unit {0}
@@ -44,7 +46,7 @@ at_later l p n h = let e : suc l + h.0 ≡ n = h.2 in (suc h.0, ap (option_map (
 
 local_later : (f : Form) (dl dg l g : ℕ) (p q : Option ℕ) → Placed f dl dg (suc l) g p q → Placed f dl dg l g (option_map (λ i. suc i) p) q
 unfolding Placed
-local_later (Local T m) dl dg l g p q h = at_later l p dl h
+local_later (Local T m c) dl dg l g p q h = at_later l p dl h
 local_later (Global T m x) dl dg l g p q h = (ap (option_map (λ i. suc i)) h.0, h.1)
 local_later Subprogram dl dg l g p q h = tt
 local_later (TypeName T) dl dg l g p q h = tt
@@ -52,7 +54,7 @@ local_later (Label T x) dl dg l g p q h = tt
 
 global_later : (f : Form) (dl dg l g : ℕ) (p q : Option ℕ) → Placed f dl dg l (suc g) p q → Placed f dl dg l g p (option_map (λ i. suc i) q)
 unfolding Placed
-global_later (Local T m) dl dg l g p q h = h
+global_later (Local T m c) dl dg l g p q h = h
 global_later (Global T m x) dl dg l g p q h = (h.0, at_later g q dg h.1)
 global_later Subprogram dl dg l g p q h = tt
 global_later (TypeName T) dl dg l g p q h = tt
@@ -71,7 +73,7 @@ found_global l g (Some d) p q h = global_later d.form d.before.locals d.before.g
 -- another name before
 later : (f : Form) (k name : List ℕ) (ps qs : List (List ℕ)) (l g : ℕ) (o : Option Declared) → bytes_eq k name ≡ false →
     FoundAt (more_locals f l) (more_globals f g) o (place_of name ps) (place_of name qs) → FoundAt l g o (place_of name (local_name k (form_view f) ps)) (place_of name (global_name k (form_view f) qs))
-later (Local T m) k name ps qs l g o e h =
+later (Local T m c) k name ps qs l g o e h =
     subst (λ (b : Bool). FoundAt l g o (cond b (Some 0) (option_map (λ i. suc i) (place_of name ps))) (place_of name qs)) (sym e) (found_local l g o (place_of name ps) (place_of name qs) h)
 later (Global T m x) k name ps qs l g o e h =
     subst (λ (b : Bool). FoundAt l g o (place_of name ps) (cond b (Some 0) (option_map (λ i. suc i) (place_of name qs)))) (sym e) (found_global l g o (place_of name ps) (place_of name qs) h)
@@ -83,14 +85,14 @@ later (Label T x) k name ps qs l g o e h = h
 here : (f : Form) (dl dg l g : ℕ) (k name : List ℕ) (ps qs : List (List ℕ)) → dl ≡ l → dg ≡ g → bytes_eq k name ≡ true → place_of name ps ≡ None →
     Placed f dl dg l g (place_of name (local_name k (form_view f) ps)) (place_of name (global_name k (form_view f) qs))
 unfolding Placed At
-here (Local T m) dl dg l g k name ps qs a b e none = (0, ap (λ t. cond t (Some 0) (option_map (λ i. suc i) (place_of name ps))) e, omega arith)
+here (Local T m c) dl dg l g k name ps qs a b e none = (0, ap (λ t. cond t (Some 0) (option_map (λ i. suc i) (place_of name ps))) e, omega arith)
 here (Global T m x) dl dg l g k name ps qs a b e none = (none, (0, ap (λ t. cond t (Some 0) (option_map (λ i. suc i) (place_of name qs))) e, omega arith))
 here Subprogram dl dg l g k name ps qs a b e none = tt
 here (TypeName T) dl dg l g k name ps qs a b e none = tt
 here (Label T x) dl dg l g k name ps qs a b e none = tt
 
 absent_one : (f : Form) (k name : List ℕ) (ps : List (List ℕ)) → bytes_eq k name ≡ false → place_of name ps ≡ None → place_of name (local_name k (form_view f) ps) ≡ None
-absent_one (Local T m) k name ps e h = ap (λ t. cond t (Some 0) (option_map (λ i. suc i) (place_of name ps))) e ∙ ap (option_map (λ i. suc i)) h
+absent_one (Local T m c) k name ps e h = ap (λ t. cond t (Some 0) (option_map (λ i. suc i) (place_of name ps))) e ∙ ap (option_map (λ i. suc i)) h
 absent_one (Global T m x) k name ps e h = h
 absent_one Subprogram k name ps e h = h
 absent_one (TypeName T) k name ps e h = h
@@ -116,40 +118,52 @@ found-at (e ∷ es) name l g n d = by (bytes_eq name e.0.now) refl (found-at es 
     by false h rest =
         later e.1.form e.0.now name (local_names (entries_of es)) (global_names (entries_of es)) l g (lookup (λ k. bytes_eq name k.now) es) (nat_list_eq_equiv.symm e.0.now name ∙ h) rest
 
-placed_slot : (f : Form) (dl dg : ℕ) (p q : Option ℕ) (s : Standing) → Placed f dl dg 0 0 p q → standing_view s ≡ form_view f → HasSlot s (slot_by f dl dg) → HasSlot s (slot_among p q)
+number_of : (b : Bool) (o : Option ℕ) (k i : ℕ) → ((j : ℕ) → o ≡ Some j → k ≡ j) → cond b (Some 0) (option_map (λ n. suc n) o) ≡ Some i → cond b 0 (suc k) ≡ i
+number_of true o k i h e = cc e
+number_of false None k i h e = cc e
+number_of false (Some j) k i h e = ap (λ n. suc n) (h j refl) ∙ some_number (suc j) i e
+  where
+    some_number : (m n : ℕ) → (let o : Option ℕ = Some m in o) ≡ Some n → m ≡ n
+    some_number m n e = cc e
+
+number_is : (name : List ℕ) (ns : List (List ℕ)) (i : ℕ) → place_of name ns ≡ Some i → number_before name ns ≡ i
+number_is name [] i h = cc h
+number_is name (n ∷ ns) i h = number_of (bytes_eq n name) (place_of name ns) (number_before name ns) i (λ j e. number_is name ns j e) h
+
+placed_slot : (f : Form) (dl dg : ℕ) (p : Option ℕ) (name : List ℕ) (qs : List (List ℕ)) (s : Standing) → Placed f dl dg 0 0 p (place_of name qs) → standing_view s ≡ form_view f → HasSlot s (slot_by f dl dg) → HasSlot s (slot_among p name qs)
 unfolding Placed At
-placed_slot (Local T m) dl dg p q (standing.Stored s) h v is =
+placed_slot (Local T m c) dl dg p name qs (standing.Stored s) h v is =
     let e : 0 + h.0 ≡ dl = h.2 in let k : dl ≡ h.0 = omega arith in
-    is ∙ ap (λ i. slot.Local i) k ∙ sym (ap (λ o. slot_among o q) h.1)
-placed_slot (Global T m x) dl dg p q (standing.Stored s) h v is =
+    is ∙ ap (λ i. slot.Local i) k ∙ sym (ap (λ o. slot_among o name qs) h.1)
+placed_slot (Global T m x) dl dg p name qs (standing.Stored s) h v is =
     let e : 0 + h.1.0 ≡ dg = h.1.2 in let k : dg ≡ h.1.0 = omega arith in
-    is ∙ ap (λ i. slot.Global i) k ∙ sym (ap (λ o. slot_among o q) h.0 ∙ ap (λ o. slot_among None o) h.1.1)
-placed_slot Subprogram dl dg p q (standing.Stored s) h v is = cc v
-placed_slot (TypeName T) dl dg p q (standing.Stored s) h v is = cc v
-placed_slot (Label T x) dl dg p q (standing.Stored s) h v is = cc v
-placed_slot f dl dg p q standing.Subprogram h v is = tt
-placed_slot f dl dg p q (standing.TypeName T) h v is = tt
-placed_slot f dl dg p q (standing.Label T x) h v is = tt
+    is ∙ ap (λ i. slot.Global i) (k ∙ sym (number_is name qs h.1.0 h.1.1)) ∙ sym (ap (λ o. slot_among o name qs) h.0)
+placed_slot Subprogram dl dg p name qs (standing.Stored s) h v is = cc v
+placed_slot (TypeName T) dl dg p name qs (standing.Stored s) h v is = cc v
+placed_slot (Label T x) dl dg p name qs (standing.Stored s) h v is = cc v
+placed_slot f dl dg p name qs standing.Subprogram h v is = tt
+placed_slot f dl dg p name qs (standing.TypeName T) h v is = tt
+placed_slot f dl dg p name qs (standing.Label T x) h v is = tt
 
 -- what is found for a name is held in the slot of the name
 pub slot-found : (es : Held) (name : List ℕ) (d : Declared) (s : Standing) → IsKept es → lookup (λ k. bytes_eq name k.now) es ≡ Some d →
     standing_view s ≡ form_view d.form → HasSlot s (slot_by d.form d.before.locals d.before.globals) → HasSlot s (slot_of name (layout_of (entries_of es)))
 unfolding FoundAt
 slot-found es name d s k h v is =
-    placed_slot d.form d.before.locals d.before.globals (place_of name (local_names (entries_of es))) (place_of name (global_names (entries_of es))) s
+    placed_slot d.form d.before.locals d.before.globals (place_of name (local_names (entries_of es))) name (global_names (entries_of es)) s
     (subst (λ (o : Option Declared). FoundAt 0 0 o (place_of name (local_names (entries_of es))) (place_of name (global_names (entries_of es)))) h (found-at es name 0 0 k.numbered k.distinct)) v is
 
 -- ---- the numbers behind all names
 
 locals_one : (f : Form) (l : ℕ) (k : List ℕ) (ps : List (List ℕ)) → l + length (local_name k (form_view f) ps) ≡ more_locals f l + length ps
-locals_one (Local T m) l k ps = omega arith
+locals_one (Local T m c) l k ps = omega arith
 locals_one (Global T m x) l k ps = refl
 locals_one Subprogram l k ps = refl
 locals_one (TypeName T) l k ps = refl
 locals_one (Label T x) l k ps = refl
 
 globals_one : (f : Form) (g : ℕ) (k : List ℕ) (ps : List (List ℕ)) → g + length (global_name k (form_view f) ps) ≡ more_globals f g + length ps
-globals_one (Local T m) g k ps = refl
+globals_one (Local T m c) g k ps = refl
 globals_one (Global T m x) g k ps = omega arith
 globals_one Subprogram g k ps = refl
 globals_one (TypeName T) g k ps = refl
@@ -202,7 +216,7 @@ numbers-last (x ∷ es) names e f k v h t =
     )
 
 more_within : (f : Form) (l g n : ℕ) → (l ≤ n) × (g ≤ n) → (more_locals f l ≤ suc n) × (more_globals f g ≤ suc n)
-more_within (Local T m) l g n h = (omega arith, omega arith)
+more_within (Local T m c) l g n h = (omega arith, omega arith)
 more_within (Global T m x) l g n h = (omega arith, omega arith)
 more_within Subprogram l g n h = (omega arith, omega arith)
 more_within (TypeName T) l g n h = (omega arith, omega arith)
@@ -258,3 +272,20 @@ kept-same es fs kept h = subst IsKept (sym h) kept
 
 pub kept-none : (fs : Held) → fs ≡ [] → IsDistinct same_name (keys_of fs) → IsKept fs
 kept-none fs h distinct = record { numbered = subst (Numbered 0 0) (sym h) tt; distinct = distinct }
+
+-- ---- atoms
+
+atom_one : (k : List ℕ) (s : scopes.Standing) (n : ℕ) (ps : List (List ℕ)) → n ≡ 2 * length ps → cond (is_local s) (suc (suc n)) n ≡ 2 * length (local_name k s ps)
+atom_one k (scopes.Stored s) n ps h = by s.is_global
+  where
+    by : (b : Bool) → cond (not b) (suc (suc n)) n ≡ 2 * length (cond b ps (k ∷ ps))
+    by true = h
+    by false = omega arith
+atom_one k scopes.Subprogram n ps h = h
+atom_one k (scopes.TypeName T) n ps h = h
+atom_one k (scopes.Label T x) n ps h = h
+
+-- the next atom is twice the number of names of bodies
+pub atoms : (es : List Entry) → next_atom es ≡ 2 * length (local_names es)
+atoms [] = refl
+atoms (e ∷ es) = atom_one e.name e.standing (next_atom es) (local_names es) (atoms es)

@@ -3,20 +3,27 @@
 
 pub mod answer;
 pub mod baring;
-mod binding;
-pub mod firsts;
+mod context;
+pub mod effects;
 pub mod fits;
-pub mod initial;
+pub mod integers;
 pub mod kinds;
+pub mod members;
+mod plain;
 mod scope;
+pub mod seeing;
 pub mod sizes;
-mod slot;
 pub mod structure;
+mod subprograms;
+pub mod substitute;
+pub mod tests;
+mod totals;
 mod ty;
 pub mod widths;
-pub mod written;
 
-pub use binding::{Binding, Under};
-pub use scope::{Scope, Standing, Storage, reading, writing};
-pub use slot::Slot;
-pub use ty::{FieldType, Ty};
+pub use asl_value::{BitField, View};
+pub use context::Context;
+pub use scope::{Counted, Scope, Standing, Storage, reading, writing};
+pub use subprograms::{Param, Signature, Subprograms};
+pub use totals::Total;
+pub use ty::{FieldType, Form, Ty};

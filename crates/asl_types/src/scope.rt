@@ -1,29 +1,80 @@
 //! The visible names and what they stand for.
 
-ghost use Rattle.std.specs.Prelude.{◌≡◌, true, false, [], length, take, OnOk, IfErr, IfSome};
+ghost use Rattle.std.specs.Prelude.{◌≡◌, ◌≤◌, ◌*◌, ◌^◌, true, false, [], length, take, IfOk, OnOk, IfErr, IfSome, MatchOption};
 ghost use Rattle.std.specs.Option.{option_map};
 ghost use Rattle.asl_value.specs.View.{value_of};
 ghost use Rattle.asl_rules.specs.Scopes as rules;
-ghost use Rattle.asl_types.specs.Places.{slot_of, local_names, global_names, layout_of};
+ghost use Rattle.asl_rules.specs.Layouts.{slot_of, local_names, global_names, layout_of};
 ghost use Rattle.asl_types.specs.Standings.{storage_view, standing_view, value_behind, form_view, entry_view, with_entry, slot_by, HasSlot};
-ghost use Rattle.asl_types.specs.View.{ty_of};
 
-use crate::slot::Slot;
 use crate::ty::Ty;
+use asl_poly::{Atom, Poly};
 use asl_rules::effect::Effect;
+use asl_rules::slot::Slot;
+use asl_shared::Shared;
 use asl_syn::code::Refused;
 use asl_value::Value;
 use indexmap::IndexMap;
-use std::alloc::Global;
+use std::alloc::{AllocError, Global};
 use std::marker::Model;
 
-/// Storage: its type, where it is held, whether it can be assigned, and the value that global storage begins with.
+/// What a name of a body counts as in widths: a polynomial, and whether the text that it stands for names an atom.
+#[derive(Drop)]
+pub struct Counted {
+    poly: Shared<Poly>,
+    has_atom: bool,
+}
+
+impl Model for Counted {
+    ghost use Rattle.asl_rules.specs.Scopes.{Counted};
+
+    ghost Value = { Counted };
+
+    ghost view = { λ c. record { poly = c.poly; has_atom = c.has_atom } };
+}
+
+impl Counted {
+    /// What counts as this polynomial.
+    pub fn new(poly: Shared<Poly>, has_atom: bool) -> Counted
+        ensures { result ≡ record { poly = poly; has_atom = has_atom } }
+    {
+        Counted { poly, has_atom }
+    }
+
+    /// The polynomial.
+    pub fn poly(&self) -> &Poly
+        ensures { result.now ≡ self.now.poly }
+    {
+        self.poly.get()
+    }
+
+    /// Whether the text that it stands for names an atom.
+    pub fn has_atom(&self) -> bool
+        ensures { result ≡ self.now.has_atom }
+    {
+        self.has_atom
+    }
+
+    /// The same, over the same polynomial.
+    pub fn copy(&self) -> Result<Counted, AllocError>
+        ensures { IfOk result (λ c. c ≡ self.now) }
+    {
+        Ok(Counted {
+            poly: self.poly.share()?,
+            has_atom: self.has_atom,
+        })
+    }
+}
+
+/// Storage: its type, where it is held, whether it can be assigned, the value that global storage begins with, and what an
+/// immutable integer of a body counts as in widths.
 #[derive(Clone, Copy)]
 pub struct Storage<'s> {
     pub ty: &'s Ty,
     pub slot: Slot,
     pub is_mutable: bool,
     pub initial: Option<&'s Value>,
+    pub counted: Option<&'s Counted>,
 }
 
 /// What a name stands for.
@@ -37,11 +88,11 @@ pub enum Standing<'s> {
     Label(&'s Ty, &'s Value),
 }
 
-/// What a name is declared as: storage of a body or outside bodies, with its type, whether it can be assigned and its
-/// first value, a subprogram, a type, or a label.
+/// What a name is declared as: storage of a body with its type, whether it can be assigned and what it counts as, storage
+/// outside bodies with its first value, a subprogram, a type, or a label.
 #[derive(Drop)]
 enum Form {
-    Local(Ty, bool),
+    Local(Ty, bool, Option<Counted>),
     Global(Ty, bool, Value),
     Subprogram,
     TypeName(Ty),
@@ -68,21 +119,34 @@ fn standing_for(d: &Declared) -> Standing<'_>
     ensures slot { HasSlot result (slot_by d.now.form d.now.before.locals d.now.before.globals) }
 {
     match &d.form {
-        Form::Local(ty, is_mutable) => Standing::Stored(Storage {
+        Form::Local(ty, is_mutable, counted) => Standing::Stored(Storage {
             ty,
             slot: Slot::Local(d.before.locals),
             is_mutable: *is_mutable,
             initial: None,
+            counted: counted.as_ref(),
         }),
         Form::Global(ty, is_mutable, value) => Standing::Stored(Storage {
             ty,
             slot: Slot::Global(d.before.globals),
             is_mutable: *is_mutable,
             initial: Some(value),
+            counted: None,
         }),
         Form::Subprogram => Standing::Subprogram,
         Form::TypeName(ty) => Standing::TypeName(ty),
         Form::Label(ty, value) => Standing::Label(ty, value),
+    }
+}
+
+/// The atom of the name behind so many names of bodies, `None` past 32 bits.
+fn atom_behind(locals: usize) -> Option<Atom>
+    ensures { MatchOption result (2 ^ 32 ≤ 2 * locals) (λ n. n ≡ 2 * locals) }
+{
+    if locals < 2_147_483_648 {
+        Some(Atom(2 * locals as u32))
+    } else {
+        None
     }
 }
 
@@ -104,7 +168,7 @@ impl<'a> Drop for Scope<'a> {
 impl<'a> Model for Scope<'a> {
     ghost use Rattle.std.specs.Prelude.{List};
     ghost use Rattle.asl_rules.specs.Scopes.{Entry};
-    ghost use Rattle.asl_types.specs.Codes.{entries_code};
+    ghost use Rattle.asl_types.specs.EntryCodes.{entries_code};
 
     ghost Value = { List Entry };
 
@@ -149,7 +213,7 @@ impl<'a> Scope<'a> {
         prove!(d.before.locals < len);
         prove!(d.before.globals < len);
         match &d.form {
-            Form::Local(_, _) => Numbers {
+            Form::Local(_, _, _) => Numbers {
                 locals: d.before.locals + 1,
                 globals: d.before.globals,
             },
@@ -161,6 +225,13 @@ impl<'a> Scope<'a> {
             Form::TypeName(_) => d.before,
             Form::Label(_, _) => d.before,
         }
+    }
+
+    /// The atom of the next name of a body, `None` past 32 bits.
+    pub fn next_atom(&self) -> Option<Atom>
+        ensures { MatchOption result (2 ^ 32 ≤ rules.next_atom self.now) (λ n. n ≡ rules.next_atom self.now) }
+    {
+        atom_behind(self.numbers().locals)
     }
 
     /// What a name stands for, where it is visible. Storage has the slot of its name.
@@ -200,7 +271,7 @@ impl<'a> Scope<'a> {
 
     /// The type of a declared name, where it is one.
     pub fn type_of_name(&self, name: &[u8]) -> Option<&Ty>
-        ensures { option_map (λ ty. ty_of ty.now) result ≡ rules.type_of_name name.now self.now }
+        ensures { option_map (λ ty. ty.now) result ≡ rules.type_of_name name.now self.now }
     {
         match self.standing_of(name) {
             None => None,
@@ -225,12 +296,25 @@ impl<'a> Scope<'a> {
         Ok(())
     }
 
-    /// A name becomes visible, where it isn't, as storage of a body.
-    pub fn declare_local(&mut self, name: &'a [u8], ty: Ty, is_mutable: bool) -> Result<(), Refused>
-        ensures declared { OnOk result (self.new ≡ with_entry (rules.stored name.now (ty_of ty) is_mutable) self.old) }
+    /// A name becomes visible, where it isn't, as storage of a body that can be assigned.
+    pub fn declare_variable(&mut self, name: &'a [u8], ty: Ty) -> Result<(), Refused>
+        ensures declared { OnOk result (self.new ≡ with_entry (rules.variable name.now ty) self.old) }
         ensures memory { IfErr result (λ e. e ≡ Refused.NoMemory) }
     {
-        self.declare(name, Form::Local(ty, is_mutable))
+        self.declare(name, Form::Local(ty, true, None))
+    }
+
+    /// A name becomes visible, where it isn't, as storage of a body that can't be assigned.
+    pub fn declare_fixed(
+        &mut self,
+        name: &'a [u8],
+        ty: Ty,
+        counted: Option<Counted>,
+    ) -> Result<(), Refused>
+        ensures declared { OnOk result (self.new ≡ with_entry (rules.fixed name.now ty counted) self.old) }
+        ensures memory { IfErr result (λ e. e ≡ Refused.NoMemory) }
+    {
+        self.declare(name, Form::Local(ty, false, counted))
     }
 
     /// A name becomes visible, where it isn't, as storage outside bodies that begins with this value.
@@ -241,7 +325,7 @@ impl<'a> Scope<'a> {
         is_mutable: bool,
         value: Value,
     ) -> Result<(), Refused>
-        ensures declared { OnOk result (self.new ≡ with_entry (rules.global name.now (ty_of ty) is_mutable (value_of value)) self.old) }
+        ensures declared { OnOk result (self.new ≡ with_entry (rules.global name.now ty is_mutable (value_of value)) self.old) }
         ensures memory { IfErr result (λ e. e ≡ Refused.NoMemory) }
     {
         self.declare(name, Form::Global(ty, is_mutable, value))
@@ -257,7 +341,7 @@ impl<'a> Scope<'a> {
 
     /// A name becomes visible, where it isn't, as a type.
     pub fn declare_type(&mut self, name: &'a [u8], ty: Ty) -> Result<(), Refused>
-        ensures declared { OnOk result (self.new ≡ with_entry (rules.type_name name.now (ty_of ty)) self.old) }
+        ensures declared { OnOk result (self.new ≡ with_entry (rules.type_name name.now ty) self.old) }
         ensures memory { IfErr result (λ e. e ≡ Refused.NoMemory) }
     {
         self.declare(name, Form::TypeName(ty))
@@ -265,7 +349,7 @@ impl<'a> Scope<'a> {
 
     /// A name becomes visible, where it isn't, as a label of an enumeration.
     pub fn declare_label(&mut self, name: &'a [u8], ty: Ty, value: Value) -> Result<(), Refused>
-        ensures declared { OnOk result (self.new ≡ with_entry (rules.label_name name.now (ty_of ty) (value_of value)) self.old) }
+        ensures declared { OnOk result (self.new ≡ with_entry (rules.label_name name.now ty (value_of value)) self.old) }
         ensures memory { IfErr result (λ e. e ≡ Refused.NoMemory) }
     {
         self.declare(name, Form::Label(ty, value))

@@ -1,18 +1,19 @@
 -- Elements and fields by their places.
-use Rattle.std.proofs.Common.{◌≡◌, ℕ, zero, suc, ◌+◌, ◌<◌, ◌≤◌, Bool, true, false, cond, List, [], ◌∷◌, length, get_or, Option, Some, None, refl, sym, ap, ◌∙◌, arith}
-use Rattle.std.specs.Prelude.{ℤ, pos, negsuc, ◌≤ℤ◌, ◌<ℤ◌, option_map, slice_get, slice_set, nat_lt}
+use Rattle.std.proofs.Common.{◌≡◌, ℕ, zero, suc, ◌<◌, ◌≤◌, Bool, true, false, cond, List, [], ◌∷◌, length, get_or, Option, Some, None, refl, sym, ap, ◌∙◌, arith}
+use Rattle.std.specs.Prelude.{ℤ, pos, negsuc, ◌≤ℤ◌, ◌<ℤ◌, option_map, slice_get, nat_lt}
 use Rattle.std.proofs.lemmas.Int.{ints}
 use Rattle.asl_syn.specs.declared.token.Span.{Span}
 use Rattle.asl_syn.specs.declared.code.DynCode.TheVariants.{D06}
 use Rattle.asl_rules.specs.Types.{Kind}
 use Rattle.asl_rules.specs.Values as rules
-use Rattle.asl_rules.specs.Structures.{value_at, with_value_at, element_of, inside, there}
-use Rattle.asl_rules.specs.Plans.{Faulted, Stuck, WrongKind, Pure, Good, Bad}
+use Rattle.asl_rules.specs.Structures.{value_at, element_of, inside}
+use Rattle.asl_rules.specs.Pures.{there}
+use Rattle.asl_rules.specs.Plans.{Faulted, Stuck, WrongKind, Good, Bad}
 use Rattle.asl_value.specs.declared.value.Value.{Value}
 use Rattle.asl_value.specs.declared.value.FieldValue.{FieldValue}
-use Rattle.asl_value.specs.Places.{field_at, with_field_at}
+use Rattle.asl_rules.specs.ByPlace.{field_at}
 use Rattle.asl_value.specs.Reaching.{index_in}
-use Rattle.asl_value.specs.View.{Of, value_of, field_of, all_values, all_fields}
+use Rattle.asl_value.specs.View.{value_of, field_of, all_values, all_fields}
 
 twice : {A B C : Type 0} (f : A → B) (g : B → C) (o : Option A) → option_map (λ x. g (f x)) o ≡ option_map g (option_map f o)
 twice f g None = refl

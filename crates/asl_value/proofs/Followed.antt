@@ -1,28 +1,24 @@
 -- Ways into values that can be followed.
-use Rattle.std.proofs.Common.{◌≡◌, ℕ, zero, suc, Bool, true, List, [], ◌∷◌, Option, Some, None, refl, sym, ap, ◌∙◌}
-use Rattle.std.specs.Prelude.{ℤ, pos, negsuc, option_map, Result, Ok, Err}
+use Rattle.std.proofs.Common.{◌≡◌, ℕ, zero, suc, true, List, ◌∷◌, Option, Some, None, refl, sym, ap, ◌∙◌, subst}
+use Rattle.std.specs.Prelude.{pos, negsuc, option_map, Result, Ok, Err}
 use Rattle.std.specs.Option.{is_some}
 use Rattle.asl_syn.specs.declared.token.Span.{Span}
 use Rattle.asl_rules.specs.Values as rules
 use Rattle.asl_rules.specs.Values.{Value, Values, FieldValues, no_value_of, value_of_field, no_value, value}
-use Rattle.asl_rules.specs.Constants.{◌>>=◌}
-use Rattle.asl_rules.specs.Structures.{value_at, with_value_at, with_element, inside, there}
-use Rattle.asl_rules.specs.Plans.{End, Faulted, Stuck, WrongKind, Pure, Good, Bad}
+use Rattle.asl_rules.specs.Pures.{◌>>=◌, there}
+use Rattle.asl_rules.specs.Structures.{value_at, with_value_at, with_element, inside}
+use Rattle.asl_rules.specs.Plans.{Pure, Good, Bad}
 use Rattle.asl_value.specs.declared.value.Value as code
 use Rattle.asl_value.specs.declared.failure.Failure.{Failure}
 use Rattle.asl_value.specs.declared.failure.Failure.TheVariants as failure
 use Rattle.asl_value.specs.Answers.{Is, Changes}
-use Rattle.asl_value.specs.Places.{Step, into_place, into_element, field_at, with_field_at, with_field_in, updated}
-use Rattle.asl_value.specs.Reaching.{step_in, is_good, Reaches}
-
--- the value with another part behind a step
-abbrev back : Step → Value → Value → Pure Value
-back (into_place span i) r x = with_field_in span i r x
-back (into_element span z) r x = with_element span r x z
-
-stepped : (s : Step) (ss : List Step) (y x q : Value) → step_in s x ≡ Good q → updated (s ∷ ss) y x ≡ (updated ss y q >>= λ r. back s r x)
-stepped (into_place span i) ss y x q h = ap (λ p. p >>= λ a. updated ss y a >>= λ r. with_field_in span i r x) h
-stepped (into_element span z) ss y x q h = ap (λ p. p >>= λ a. updated ss y a >>= λ r. with_element span r x z) h
+use Rattle.asl_rules.specs.ByPlace.{Step, field_at, with_field_at, with_field_in, updated}
+use Rattle.asl_rules.specs.ByPlace.{into_field, into_slices, into_element, field_in}
+use Rattle.asl_rules.specs.Structures.{element_of}
+use Rattle.asl_rules.specs.Shapes.{SliceShape}
+use Rattle.asl_rules.specs.Vectors.{Places, slice_places, bits_at, with_places, with_slices}
+use Rattle.asl_value.specs.Reaching.{is_good, Reaches}
+use Rattle.asl_value.specs.View.{value_of}
 
 there_good : (span : Span) (o : Option Value) (p : Option FieldValues) (f : FieldValues → Value) (q : Value) → is_some o ≡ is_some p → there span o ≡ Good q → is_good (there span (option_map f p)) ≡ true
 there_good span None p f q e h = cc
@@ -48,18 +44,20 @@ same_values i r no_value = refl
 same_values zero r (value x xs) = refl
 same_values (suc i) r (value x xs) = same_values i r xs ∙ kept (value x) (with_value_at i r xs)
 
-good_field : (span : Span) (i : ℕ) (x q r : Value) → step_in (into_place span i) x ≡ Good q → is_good (with_field_in span i r x) ≡ true
+good_field : (span : Span) (i : ℕ) (x q r : Value) → field_in span i x ≡ Good q → is_good (with_field_in span i r x) ≡ true
 good_field span i (rules.int z) q r h = cc
 good_field span i (rules.bool b) q r h = cc
+good_field span i (rules.bits_with bs u) q r h = cc
 good_field span i (rules.label n l) q r h = cc
 good_field span i (rules.record_with n xs) q r h = there_good span (field_at i xs) (with_field_at i r xs) (rules.record_with n) q (same_fields i r xs) h
 good_field span i (rules.exception_with o s n xs) q r h = there_good span (field_at i xs) (with_field_at i r xs) (rules.exception_with o s n) q (same_fields i r xs) h
 good_field span i (rules.tuple_with xs) q r h = cc
 good_field span i (rules.array_with k xs) q r h = cc
 
-good_element : (span : Span) (z x q r : Value) → step_in (into_element span z) x ≡ Good q → is_good (with_element span r x z) ≡ true
+good_element : (span : Span) (z x q r : Value) → element_of span x z ≡ Good q → is_good (with_element span r x z) ≡ true
 good_element span z (rules.int i) q r h = cc
 good_element span z (rules.bool b) q r h = cc
+good_element span z (rules.bits_with bs u) q r h = cc
 good_element span z (rules.label n l) q r h = cc
 good_element span z (rules.record_with n xs) q r h = cc
 good_element span z (rules.exception_with o s n xs) q r h = cc
@@ -67,38 +65,84 @@ good_element span z (rules.tuple_with xs) q r h = cc
 good_element span (rules.int (pos i)) (rules.array_with k xs) q r h = inside_good span (value_at i xs) (with_value_at i r xs) (rules.array_with k) q (same_values i r xs) h
 good_element span (rules.int (negsuc i)) (rules.array_with k xs) q r h = cc
 good_element span (rules.bool b) (rules.array_with k xs) q r h = cc
+good_element span (rules.bits_with bs u) (rules.array_with k xs) q r h = cc
 good_element span (rules.label n l) (rules.array_with k xs) q r h = cc
 good_element span (rules.record_with n ys) (rules.array_with k xs) q r h = cc
 good_element span (rules.exception_with o s n ys) (rules.array_with k xs) q r h = cc
 good_element span (rules.tuple_with ys) (rules.array_with k xs) q r h = cc
 good_element span (rules.array_with l ys) (rules.array_with k xs) q r h = cc
 
-good_back : (s : Step) (x q r : Value) → step_in s x ≡ Good q → is_good (back s r x) ≡ true
-good_back (into_place span i) x q r h = good_field span i x q r h
-good_back (into_element span z) x q r h = good_element span z x q r h
-
 good_then : (p : Pure Value) (f : Value → Pure Value) → is_good p ≡ true → ((r : Value) → is_good (f r) ≡ true) → is_good (p >>= f) ≡ true
 good_then (Good r) f h k = k r
 good_then (Bad e) f h k = h
 
-pub reaches_on : (result : Result (Unit {0}) Failure) (s : Step) (ss : List Step) (x q : Value) → step_in s x ≡ Good q → Reaches result (λ y. updated ss y q) → Reaches result (λ y. updated (s ∷ ss) y x)
-reaches_on (Ok u) s ss x q h k = λ y. ap is_good (stepped s ss y x q h) ∙ good_then (updated ss y q) (λ r. back s r x) (k y) (λ r. good_back s x q r h)
-reaches_on (Err (failure.Fault code span)) s ss x q h k = λ y. stepped s ss y x q h ∙ ap (λ p. p >>= λ r. back s r x) (k y)
-reaches_on (Err (failure.WrongKind span)) s ss x q h k = λ y. stepped s ss y x q h ∙ ap (λ p. p >>= λ r. back s r x) (k y)
-reaches_on (Err failure.NoMemory) s ss x q h k = tt
+-- what is behind a part decides, where that can be put back
+behind : (result : Result (Unit {0}) Failure) (p : Pure Value) (f : Value → Pure Value) → ((r : Value) → is_good (f r) ≡ true) → Reaches result p → Reaches result (p >>= f)
+behind (Ok u) p f g k = good_then p f k g
+behind (Err (failure.Fault code span)) p f g k = ap (λ q. q >>= f) k
+behind (Err (failure.WrongKind span)) p f g k = ap (λ q. q >>= f) k
+behind (Err (failure.UnknownType span)) p f g k = ap (λ q. q >>= f) k
+behind (Err failure.NoMemory) p f g k = tt
 
--- a step that isn't there
-lost : (s : Step) (ss : List Step) (y x : Value) (e : End) → step_in s x ≡ Bad e → updated (s ∷ ss) y x ≡ Bad e
-lost (into_place span i) ss y x e h = ap (λ p. p >>= λ a. updated ss y a >>= λ r. with_field_in span i r x) h
-lost (into_element span z) ss y x e h = ap (λ p. p >>= λ a. updated ss y a >>= λ r. with_element span r x z) h
+pub field_on : (limit : ℕ) (result : Result (Unit {0}) Failure) (span : Span) (i : ℕ) (ss : List Step) (y x q : Value) → field_in span i x ≡ Good q → Reaches result (updated limit ss y q) → Reaches result (updated limit (into_field span i ∷ ss) y x)
+field_on limit result span i ss y x q h k = subst (Reaches result) (sym (ap (λ p. p >>= λ a. updated limit ss y a >>= λ r. with_field_in span i r x) h)) (behind result (updated limit ss y q) (λ r. with_field_in span i r x) (λ r. good_field span i x q r h) k)
 
-pub reaches_off : (e : Failure) (s : Step) (ss : List Step) (x : Value) → Is {A = Value} (λ v. v) (Err e) (step_in s x) → Reaches (Err e) (λ y. updated (s ∷ ss) y x)
-reaches_off (failure.Fault code span) s ss x h = λ y. lost s ss y x (Faulted code span) h
-reaches_off (failure.WrongKind span) s ss x h = λ y. lost s ss y x (Stuck WrongKind span) h
-reaches_off failure.NoMemory s ss x h = tt
+pub element_on : (limit : ℕ) (result : Result (Unit {0}) Failure) (span : Span) (z : Value) (ss : List Step) (y x q : Value) → element_of span x z ≡ Good q → Reaches result (updated limit ss y q) → Reaches result (updated limit (into_element span z ∷ ss) y x)
+element_on limit result span z ss y x q h k = subst (Reaches result) (sym (ap (λ p. p >>= λ a. updated limit ss y a >>= λ r. with_element span r x z) h)) (behind result (updated limit ss y q) (λ r. with_element span r x z) (λ r. good_element span z x q r h) k)
 
--- a way that can't be followed changes nothing
-pub unchanged : (e : Failure) (f : Value → Pure Value) (y : Value) (old : code.Value) → Reaches (Err e) f → Changes (Err e) (f y) old old
-unchanged (failure.Fault code span) f y old h = (h y, refl)
-unchanged (failure.WrongKind span) f y old h = (h y, refl)
-unchanged failure.NoMemory f y old h = tt
+-- a failure is one of what it is behind
+off : {A B : Type 0} (view : A → B) (e : Failure) (p : Pure B) (f : B → Pure Value) → Is view (Err e) p → Reaches (Err e) (p >>= f)
+off view (failure.Fault code span) p f h = ap (λ q. q >>= f) h
+off view (failure.WrongKind span) p f h = ap (λ q. q >>= f) h
+off view (failure.UnknownType span) p f h = ap (λ q. q >>= f) h
+off view failure.NoMemory p f h = tt
+
+pub field_off : (limit : ℕ) (e : Failure) (span : Span) (i : ℕ) (ss : List Step) (y x : Value) → Is value_of (Err e) (field_in span i x) → Reaches (Err e) (updated limit (into_field span i ∷ ss) y x)
+field_off limit e span i ss y x h = off value_of e (field_in span i x) (λ a. updated limit ss y a >>= λ r. with_field_in span i r x) h
+
+pub element_off : (limit : ℕ) (e : Failure) (span : Span) (z : Value) (ss : List Step) (y x : Value) → Is value_of (Err e) (element_of span x z) → Reaches (Err e) (updated limit (into_element span z ∷ ss) y x)
+element_off limit e span z ss y x h = off value_of e (element_of span x z) (λ a. updated limit ss y a >>= λ r. with_element span r x z) h
+
+pub made_off : (e : Failure) (p : Pure Value) → Is value_of (Err e) p → Reaches (Err e) p
+made_off (failure.Fault code span) p h = h
+made_off (failure.WrongKind span) p h = h
+made_off (failure.UnknownType span) p h = h
+made_off failure.NoMemory p h = tt
+
+-- what fails changes nothing
+pub unchanged : (e : Failure) (p : Pure Value) (old : code.Value) → Reaches (Err e) p → Changes (Err e) p old old
+unchanged (failure.Fault code span) p old h = (h, refl)
+unchanged (failure.WrongKind span) p old h = (h, refl)
+unchanged (failure.UnknownType span) p old h = (h, refl)
+unchanged failure.NoMemory p old h = tt
+
+pub unchanged_is : (e : Failure) (p : Pure Value) (old : code.Value) → Is value_of (Err e) p → Changes (Err e) p old old
+unchanged_is e p old h = unchanged e p old (made_off e p h)
+
+-- ---- slices
+
+pub slices_put : (limit : ℕ) (result : Result code.Value Failure) (span : Span) (shapes : List SliceShape) (zs : List Value) (ss : List Step) (y x q r : Value) (ps : List Places) → slice_places limit span shapes zs x ≡ Good ps → bits_at span ps x ≡ Good q → updated limit ss y q ≡ Good r → Is value_of result (with_places span ps r x) → Is value_of result (updated limit (into_slices span shapes zs ∷ ss) y x)
+slices_put limit result span shapes zs ss y x q r ps a b c h = subst (Is value_of result) (sym (
+    ap (λ p. p >>= λ ps1. bits_at span ps1 x >>= λ q1. updated limit ss y q1 >>= λ r1. with_slices limit span shapes zs r1 x) a ∙
+    ap (λ p. p >>= λ q1. updated limit ss y q1 >>= λ r1. with_slices limit span shapes zs r1 x) b ∙
+    ap (λ p. p >>= λ r1. with_slices limit span shapes zs r1 x) c ∙
+    ap (λ p. p >>= λ ps1. with_places span ps1 r x) a)) h
+
+fails : {A B : Type 0} (view : A → B) (e : Failure) (p : Pure B) (f : B → Pure Value) → Is view (Err e) p → Is {A = code.Value} value_of (Err e) (p >>= f)
+fails view (failure.Fault code span) p f h = ap (λ q. q >>= f) h
+fails view (failure.WrongKind span) p f h = ap (λ q. q >>= f) h
+fails view (failure.UnknownType span) p f h = ap (λ q. q >>= f) h
+fails view failure.NoMemory p f h = tt
+
+pub slices_off : (limit : ℕ) (e : Failure) (span : Span) (shapes : List SliceShape) (zs : List Value) (ss : List Step) (y x : Value) → Is {A = List Places} (λ ps. ps) (Err e) (slice_places limit span shapes zs x) → Is {A = code.Value} value_of (Err e) (updated limit (into_slices span shapes zs ∷ ss) y x)
+slices_off limit e span shapes zs ss y x h = fails (λ ps. ps) e (slice_places limit span shapes zs x) (λ ps. bits_at span ps x >>= λ q. updated limit ss y q >>= λ r. with_slices limit span shapes zs r x) h
+
+pub read_off : (limit : ℕ) (e : Failure) (span : Span) (shapes : List SliceShape) (zs : List Value) (ss : List Step) (y x : Value) (ps : List Places) → slice_places limit span shapes zs x ≡ Good ps → Is {A = code.Value} value_of (Err e) (bits_at span ps x) → Is {A = code.Value} value_of (Err e) (updated limit (into_slices span shapes zs ∷ ss) y x)
+read_off limit e span shapes zs ss y x ps a h = subst (Is value_of (Err e)) (sym (ap (λ p. p >>= λ ps1. bits_at span ps1 x >>= λ q1. updated limit ss y q1 >>= λ r1. with_slices limit span shapes zs r1 x) a))
+    (fails value_of e (bits_at span ps x) (λ q. updated limit ss y q >>= λ r. with_slices limit span shapes zs r x) h)
+
+pub part_off : (limit : ℕ) (e : Failure) (span : Span) (shapes : List SliceShape) (zs : List Value) (ss : List Step) (y x q : Value) (ps : List Places) → slice_places limit span shapes zs x ≡ Good ps → bits_at span ps x ≡ Good q → Is {A = code.Value} value_of (Err e) (updated limit ss y q) → Is {A = code.Value} value_of (Err e) (updated limit (into_slices span shapes zs ∷ ss) y x)
+part_off limit e span shapes zs ss y x q ps a b h = subst (Is value_of (Err e)) (sym (
+    ap (λ p. p >>= λ ps1. bits_at span ps1 x >>= λ q1. updated limit ss y q1 >>= λ r1. with_slices limit span shapes zs r1 x) a ∙
+    ap (λ p. p >>= λ q1. updated limit ss y q1 >>= λ r1. with_slices limit span shapes zs r1 x) b))
+    (fails value_of e (updated limit ss y q) (λ r. with_slices limit span shapes zs r x) h)

@@ -1,12 +1,10 @@
 -- Ways into tuples.
-use Rattle.std.proofs.Common.{◌≡◌, ℕ, zero, suc, ◌+◌, ◌<◌, ◌≤◌, List, [], ◌∷◌, length, get_or, drop, Option, Some, None, refl, sym, ap, ◌∙◌, arith}
-use Rattle.std.specs.Prelude.{option_map}
+use Rattle.std.proofs.Common.{◌≡◌, ℕ, suc, ◌+◌, ◌<◌, ◌≤◌, List, ◌∷◌, length, get_or, drop, Some, None, refl, ap, ◌∙◌, arith}
 use Rattle.asl_syn.specs.declared.token.Span.{Span}
 use Rattle.asl_rules.specs.Values as rules
-use Rattle.asl_rules.specs.Structures.{there}
-use Rattle.asl_rules.specs.Constants.{◌>>=◌}
-use Rattle.asl_rules.specs.Plans.{Stuck, WrongKind, Pure, Good, Bad}
-use Rattle.asl_value.specs.Places.{part_in}
+use Rattle.asl_rules.specs.Pures.{◌>>=◌, there}
+use Rattle.asl_rules.specs.Plans.{Stuck, WrongKind, Good, Bad}
+use Rattle.asl_rules.specs.ByPlace.{part_in}
 use Rattle.asl_value.specs.Reaching.{part_of_tuple}
 use Rattle.asl_value.proofs.Among.{none_after}
 use Rattle.std.proofs.Math.Seq.{drop-cons}
@@ -14,6 +12,7 @@ use Rattle.std.proofs.Math.Seq.{drop-cons}
 one_step : (span : Span) (i : ℕ) (is : List ℕ) (x : rules.Value) → part_in span (i ∷ is) x ≡ (there span (part_of_tuple i x) >>= λ y. part_in span is y)
 one_step span i is (rules.int z) = refl
 one_step span i is (rules.bool b) = refl
+one_step span i is (rules.bits_with bs u) = refl
 one_step span i is (rules.label n l) = refl
 one_step span i is (rules.record_with n xs) = refl
 one_step span i is (rules.exception_with o s n xs) = refl

@@ -1,19 +1,26 @@
 //! Operators on values, and the values that literals stand for.
-ghost use Rattle.std.specs.Prelude.{◌≡◌};
-ghost use Rattle.asl_rules.specs.Evaluation.{literal as value_of_literal};
+ghost use Rattle.std.specs.Prelude.{◌≡◌, ◌≤◌, ◌==◌, ℤ, pos, ◌+ℤ◌, ◌-ℤ◌, if◌then◌else◌, length, IfOk};
+ghost use Rattle.asl_bits.specs.declared.TheConstants.{WIDTH_LIMIT};
+ghost use Rattle.asl_rules.specs.Forms.{literal as value_of_literal};
+ghost use Rattle.asl_bits.specs.Lists.{bits_value, int_bits};
 ghost use Rattle.asl_rules.specs.Operators as rules;
+ghost use Rattle.asl_rules.specs.Plans.{Stuck, WrongKind, Bad};
 ghost use Rattle.asl_value.specs.Answers.{Is};
 ghost use Rattle.asl_value.specs.Numbers.{answer_of, fault_code};
 ghost use Rattle.asl_value.specs.View.{value_of};
 
 use crate::failure::Failure;
+use crate::keeping::one_width;
 use crate::names::same_name;
 use crate::value::Value;
+use asl_bits::Bits;
 use asl_num as num;
 use asl_num::NumFault;
+use asl_shared::Shared;
 use asl_syn::code::DynCode;
 use asl_syn::token::Span;
 use asl_syn::tree::{BinaryOperator, UnaryOperator};
+use std::alloc::{AllocError, Global};
 
 /// The value of an integer literal: D01 beyond the range.
 pub fn literal(span: Span, n: u128) -> Result<Value, Failure>
@@ -37,24 +44,40 @@ pub fn truth(span: Span, value: &Value) -> Result<bool, Failure>
 
 /// The value of an operator with one operand.
 #[tactic(auto, using(crate::proofs::Integers::negated))]
-pub fn unary(span: Span, operator: UnaryOperator, x: &Value) -> Result<Value, Failure>
+pub fn unary(
+    alloc: Global,
+    span: Span,
+    operator: UnaryOperator,
+    x: &Value,
+) -> Result<Value, Failure>
     ensures { Is value_of result (rules.unary_value span operator (value_of x.now)) }
 {
     match (operator, x) {
         (UnaryOperator::Negate, Value::Int(a)) => number(span, num::neg(*a)),
         (UnaryOperator::Not, Value::Bool(a)) => Ok(Value::Bool(!*a)),
+        (UnaryOperator::Complement, Value::Bits(a, _)) => Ok(plain_bits(alloc, a.get().not())?),
         _ => Err(Failure::WrongKind(span)),
     }
 }
 
 /// The value of an operator with two operands, both of which were evaluated. Labels are the same where both their names and
-/// those of their enumerations are.
-pub fn binary(span: Span, operator: BinaryOperator, x: &Value, y: &Value) -> Result<Value, Failure>
-    ensures { Is value_of result (rules.binary_value span operator (value_of x.now) (value_of y.now)) }
+/// those of their enumerations are. Bits are of at most `WIDTH_LIMIT` places: D14 past it.
+pub fn binary(
+    alloc: Global,
+    span: Span,
+    operator: BinaryOperator,
+    x: &Value,
+    y: &Value,
+) -> Result<Value, Failure>
+    ensures { Is value_of result (rules.binary_value WIDTH_LIMIT span operator (value_of x.now) (value_of y.now)) }
 {
     match (x, y) {
         (Value::Int(a), Value::Int(b)) => of_integers(span, operator, *a, *b),
         (Value::Bool(a), Value::Bool(b)) => of_booleans(span, operator, *a, *b),
+        (Value::Bits(a, _), Value::Bits(b, _)) => of_bits(alloc, span, operator, a.get(), b.get()),
+        (Value::Bits(a, _), Value::Int(z)) => {
+            of_bits_and_integer(alloc, span, operator, a.get(), *z)
+        }
         (Value::Label(m, a), Value::Label(n, b)) => of_one_enumeration(
             span,
             operator,
@@ -164,5 +187,141 @@ fn code_of(fault: NumFault) -> DynCode
         NumFault::Divisor => DynCode::D02,
         NumFault::Inexact => DynCode::D03,
         NumFault::Negative => DynCode::D04,
+    }
+}
+
+// ---- bits
+
+/// Bits without bitfields.
+pub fn plain_bits(alloc: Global, bits: Bits) -> Result<Value, AllocError>
+    ensures { IfOk result (λ it. value_of it ≡ rules.plain_bits bits) }
+{
+    Ok(Value::Bits(Shared::new(alloc, bits)?, None))
+}
+
+fn of_bits(
+    alloc: Global,
+    span: Span,
+    operator: BinaryOperator,
+    a: &Bits,
+    b: &Bits,
+) -> Result<Value, Failure>
+    ensures { Is value_of result (rules.of_bits WIDTH_LIMIT span operator a.now b.now) }
+{
+    match operator {
+        BinaryOperator::Concatenate => concatenated(alloc, span, a, b),
+        _ => of_widths(alloc, span, operator, a, b),
+    }
+}
+
+/// The second behind the first, which is on top.
+#[tactic(auto, using(crate::proofs::Bits::joined, crate::proofs::Bits::too_wide))]
+fn concatenated(alloc: Global, span: Span, a: &Bits, b: &Bits) -> Result<Value, Failure>
+    ensures { Is value_of result (rules.concatenated WIDTH_LIMIT span a.now b.now) }
+{
+    match a.concat(b) {
+        Ok(bits) => Ok(plain_bits(alloc, bits)?),
+        Err(_) => Err(Failure::Fault(DynCode::D14, span)),
+    }
+}
+
+/// An operator that wants bits of one width.
+fn of_widths(
+    alloc: Global,
+    span: Span,
+    operator: BinaryOperator,
+    a: &Bits,
+    b: &Bits,
+) -> Result<Value, Failure>
+    ensures { Is value_of result
+        (if length a.now == length b.now then rules.of_one_width span operator a.now b.now else Bad (Stuck WrongKind span)) }
+{
+    if one_width(a, b) {
+        of_one_width(alloc, span, operator, a, b)
+    } else {
+        Err(Failure::WrongKind(span))
+    }
+}
+
+fn of_one_width(
+    alloc: Global,
+    span: Span,
+    operator: BinaryOperator,
+    a: &Bits,
+    b: &Bits,
+) -> Result<Value, Failure>
+    requires { length a.now ≡ length b.now }
+    ensures { Is value_of result (rules.of_one_width span operator a.now b.now) }
+{
+    match operator {
+        BinaryOperator::Equal => Ok(Value::Bool(are_same(a, b))),
+        BinaryOperator::NotEqual => Ok(Value::Bool(!are_same(a, b))),
+        BinaryOperator::Add => Ok(plain_bits(alloc, sum(a, b))?),
+        BinaryOperator::Subtract => Ok(plain_bits(alloc, a.sub(b))?),
+        BinaryOperator::BitAnd => Ok(plain_bits(alloc, a.and(b))?),
+        BinaryOperator::BitOr => Ok(plain_bits(alloc, a.or(b))?),
+        BinaryOperator::BitXor => Ok(plain_bits(alloc, a.xor(b))?),
+        _ => Err(Failure::WrongKind(span)),
+    }
+}
+
+/// An operator on bits and an integer, which counts modulo 2 to the power of the width.
+fn of_bits_and_integer(
+    alloc: Global,
+    span: Span,
+    operator: BinaryOperator,
+    a: &Bits,
+    z: i128,
+) -> Result<Value, Failure>
+    ensures { Is value_of result (rules.of_bits_and_integer span operator a.now z) }
+{
+    match operator {
+        BinaryOperator::Add => Ok(plain_bits(alloc, raised(a, z))?),
+        BinaryOperator::Subtract => Ok(plain_bits(alloc, lowered(a, z))?),
+        _ => Err(Failure::WrongKind(span)),
+    }
+}
+
+#[tactic(auto, using(crate::proofs::Bits::same_is))]
+fn are_same(a: &Bits, b: &Bits) -> bool
+    requires { length a.now ≡ length b.now }
+    ensures { result ≡ rules.same_bits a.now b.now }
+{
+    a.same(b)
+}
+
+/// The sum of bits of one width.
+#[tactic(auto, using(crate::proofs::Bits::sum_is))]
+fn sum(a: &Bits, b: &Bits) -> Bits
+    requires { length a.now ≡ length b.now }
+    ensures { result ≡ int_bits (length a.now) (pos (bits_value a.now) +ℤ pos (bits_value b.now)) }
+{
+    a.add(b)
+}
+
+/// The sum of bits and an integer.
+#[tactic(auto, using(crate::proofs::Bits::raised_is, crate::proofs::Bits::width_of_integer))]
+fn raised(a: &Bits, z: i128) -> Bits
+    ensures { result ≡ int_bits (length a.now) (pos (bits_value a.now) +ℤ z) }
+{
+    a.add(&of_integer(z, a.width()))
+}
+
+/// The difference of bits and an integer.
+#[tactic(auto, using(crate::proofs::Bits::lowered_is, crate::proofs::Bits::width_of_integer))]
+fn lowered(a: &Bits, z: i128) -> Bits
+    ensures { result ≡ int_bits (length a.now) (pos (bits_value a.now) -ℤ z) }
+{
+    a.sub(&of_integer(z, a.width()))
+}
+
+/// The lowest bits of an integer.
+pub(crate) fn of_integer(z: i128, width: u32) -> Bits
+    requires { width ≤ WIDTH_LIMIT }
+    ensures { result ≡ int_bits width z }
+{
+    match Bits::from_int(z, width as i128) {
+        Ok(bits) => bits,
+        Err(_) => unreachable!(),
     }
 }

@@ -3,8 +3,8 @@ ghost use Rattle.std.specs.Prelude.{◌≡◌, ◌<◌, length, map, option_map,
 ghost use Rattle.asl_rules.specs.Structures as rules;
 ghost use Rattle.asl_rules.specs.Values.{int, array_with, tuple_with};
 ghost use Rattle.asl_value.specs.Answers.{Is};
-ghost use Rattle.asl_value.specs.Forms.{shell_of, all_given};
-ghost use Rattle.asl_value.specs.Places as places;
+ghost use Rattle.asl_rules.specs.ByPlace as places;
+ghost use Rattle.asl_rules.specs.Pures.{there};
 ghost use Rattle.asl_value.specs.Reaching as reaching;
 ghost use Rattle.asl_value.specs.View.{kind_of, value_of, field_of, all_values, all_fields};
 
@@ -24,15 +24,6 @@ pub enum Shell {
     /// An exception: the name that it is built with, the names that this reaches, and the name of the declaration that writes
     /// its type.
     Exception(Name, Names, Name),
-}
-
-/// A field of a construction, in the order of the type.
-#[derive(Debug, Drop)]
-pub struct GivenField {
-    /// Its name.
-    pub name: Name,
-    /// The place of its value among those that are given, from 0.
-    pub place: usize,
 }
 
 /// The element of an array at an index, over the same parts: D06 where there is none.
@@ -88,7 +79,7 @@ pub fn field_in(span: Span, place: usize, value: &Value) -> Result<Value, Failur
 /// The value of the field in a place.
 #[tactic(auto, using(crate::proofs::Elements::field_there, crate::proofs::Elements::field_none))]
 pub(crate) fn field_at(span: Span, place: usize, fields: &[FieldValue]) -> Result<Value, Failure>
-    ensures value { Is value_of result (rules.there span (places.field_at place (all_fields fields.now))) }
+    ensures value { Is value_of result (there span (places.field_at place (all_fields fields.now))) }
     ensures within { OnOk result (place < length fields.now) }
 {
     if place < fields.len() {
@@ -137,65 +128,6 @@ fn value_at(place: usize, values: &[Value]) -> Option<&Value>
     ensures { option_map (λ x. value_of x.now) result ≡ rules.value_at place (all_values values.now) }
 {
     sqlite_items::at(values, place)
-}
-
-/// The record or the exception with the fields that are given.
-pub fn construct(
-    alloc: Global,
-    span: Span,
-    shell: &Shell,
-    fields: &[GivenField],
-    values: &[Value],
-) -> Result<Value, Failure>
-    ensures { Is value_of result
-        (places.constructed span (shell_of shell.now) (all_given fields.now) (map value_of values.now)) }
-{
-    let made = given_fields(alloc, span, fields, values)?;
-    Ok(in_shell(shell, Shared::new(alloc, made)?)?)
-}
-
-/// The fields with the values that are given.
-#[tactic(auto, using(crate::proofs::Givens::field_given, crate::proofs::Givens::field_missing, crate::proofs::Givens::none_given, crate::proofs::Givens::all_fields_given))]
-fn given_fields(
-    alloc: Global,
-    span: Span,
-    fields: &[GivenField],
-    values: &[Value],
-) -> Result<Items<FieldValue>, Failure>
-    ensures { Is all_fields result
-        (rules.there span (places.fields_from (all_given fields.now) (map value_of values.now))) }
-{
-    let mut made = Items::new(alloc);
-    for field in fields {
-        if field.place >= values.len() {
-            return Err(Failure::WrongKind(span));
-        }
-        made.push(given(&field.name, &values[field.place])?)?;
-    }
-    Ok(made)
-}
-
-/// A field of this name with this value, over the same parts.
-fn given(name: &Name, value: &Value) -> Result<FieldValue, AllocError>
-    ensures name { IfOk result (λ it. (field_of it).name ≡ name.now) }
-    ensures value { IfOk result (λ it. (field_of it).value ≡ value_of value.now) }
-{
-    Ok(FieldValue::Given(name.share()?, copy(value)?))
-}
-
-/// A record or an exception with these fields.
-fn in_shell(shell: &Shell, fields: Shared<Items<FieldValue>>) -> Result<Value, AllocError>
-    ensures { IfOk result (λ it. value_of it ≡ places.in_shell (shell_of shell.now) (all_fields fields)) }
-{
-    match shell {
-        Shell::Record(name) => Ok(Value::Record(name.share()?, fields)),
-        Shell::Exception(own, supers, name) => Ok(Value::Exception(
-            own.share()?,
-            supers.share()?,
-            name.share()?,
-            fields,
-        )),
-    }
 }
 
 /// The tuple of these parts.

@@ -1,15 +1,21 @@
 //! Parts of values replaced: in place where they have one owner, and else in a copy of their list, over the same parts.
-ghost use Rattle.std.specs.Prelude.{◌≡◌, ◌<◌, ◌∷◌, pos, length, IfOk, OnOk};
+ghost use Rattle.std.specs.Prelude.{◌≡◌, ◌<◌, ◌∷◌, map, pos, length, IfOk, OnOk};
 ghost use Rattle.asl_rules.specs.Structures as rules;
 ghost use Rattle.asl_value.specs.Answers.{Is, Changes};
-ghost use Rattle.asl_value.specs.Forms.{step_of, all_steps};
-ghost use Rattle.asl_value.specs.Places as places;
-ghost use Rattle.asl_value.specs.Reaching.{step_in, put_into_fields, put_into_elements, Reaches};
-ghost use Rattle.asl_value.specs.View.{value_of, field_of, all_values, all_fields};
+ghost use Rattle.asl_value.specs.Forms.{all_steps};
+ghost use Rattle.asl_bits.specs.declared.TheConstants.{WIDTH_LIMIT};
+ghost use Rattle.asl_rules.specs.ByPlace as places;
+ghost use Rattle.asl_rules.specs.Pures.{there};
+ghost use Rattle.asl_value.specs.Reaching.{put_into_fields, put_into_elements, Reaches};
+ghost use Rattle.asl_value.specs.View.{value_of, field_of, all_values, all_fields, all_slices};
 
 use crate::failure::Failure;
+use crate::keeping::adopt;
 use crate::parts::{element_of, field_at, field_in, index_in};
+use crate::slices::{Cuts, SliceShape, slice_places};
 use crate::value::{FieldValue, Value, copy};
+use crate::vectors::{bitfield, bitfields, bits_at, with_bitfield, with_bitfields, with_places};
+use crate::views::BitField;
 use asl_shared::{Held, Shared};
 use asl_syn::code::DynCode;
 use asl_syn::token::Span;
@@ -18,22 +24,60 @@ use std::alloc::{AllocError, Global};
 use std::mem;
 
 /// A step into a value, with the place of its failures.
-#[derive(Debug, Drop)]
+#[derive(Drop)]
 pub enum Step {
     /// Into the field in a place, from 0.
     Field(Span, usize),
+    /// Into a bitfield.
+    Bitfield(Span, BitField),
+    /// Into several bitfields taken together.
+    Bitfields(Span, Items<BitField>),
+    /// Into slices, with the values of their expressions in order.
+    Slices(Span, Items<SliceShape>, Items<Value>),
     /// Into the element at an index.
     Element(Span, Value),
 }
 
-/// Replaces what stands at the end of these steps; with no step it is the value itself. Where a step isn't there the value
-/// stays the same. Where memory is wanting nothing is said of it.
-#[tactic(auto, using(crate::proofs::Followed::unchanged))]
+/// Replaces what stands at the end of these steps; with no step it is the value itself. The new value takes the bitfields of
+/// the one that it replaces. Where a step isn't there, or new bits don't fill the places of the old ones, the value stays the
+/// same. Where memory is wanting nothing is said of it.
 pub fn replace(alloc: Global, value: &mut Value, steps: &[Step], new: Value) -> Result<(), Failure>
-    ensures { Changes result (places.updated (all_steps steps.now) (value_of new) (value_of value.old)) value.old value.new }
+    ensures { Changes result (places.updated WIDTH_LIMIT (all_steps steps.now) (value_of new) (value_of value.old)) value.old value.new }
 {
     let new = Held::new(new);
-    reach(value, steps)?;
+    if is_among_bits(steps) {
+        replace_bits(alloc, value, steps, new)
+    } else {
+        replace_part(alloc, value, steps, new)
+    }
+}
+
+/// Replaces what stands at the end of steps, in a copy that takes the value's place.
+#[tactic(auto, using(crate::proofs::Followed::unchanged_is))]
+fn replace_bits(
+    alloc: Global,
+    value: &mut Value,
+    steps: &[Step],
+    new: Held<Value>,
+) -> Result<(), Failure>
+    ensures { Changes result (places.updated WIDTH_LIMIT (all_steps steps.now) (value_of new) (value_of value.old)) value.old value.new }
+{
+    let changed = put(alloc, copy(value)?, steps, new)?;
+    *value = changed;
+    Ok(())
+}
+
+/// Replaces what stands at the end of steps, in place where that has one owner.
+#[tactic(auto, using(crate::proofs::Followed::unchanged))]
+fn replace_part(
+    alloc: Global,
+    value: &mut Value,
+    steps: &[Step],
+    new: Held<Value>,
+) -> Result<(), Failure>
+    ensures { Changes result (places.updated WIDTH_LIMIT (all_steps steps.now) (value_of new) (value_of value.old)) value.old value.new }
+{
+    reach(alloc, value, steps, new.get())?;
     let old = mem::replace(value, Value::Bool(false));
     match put(alloc, old, steps, new) {
         Ok(changed) => {
@@ -44,42 +88,169 @@ pub fn replace(alloc: Global, value: &mut Value, steps: &[Step], new: Value) -> 
     }
 }
 
-/// Whether each of these steps is there.
-#[tactic(auto, using(crate::proofs::Followed::reaches_on, crate::proofs::Followed::reaches_off))]
-fn reach(value: &Value, steps: &[Step]) -> Result<(), Failure>
-    ensures { Reaches result (λ y. places.updated (all_steps steps.now) y (value_of value.now)) }
-{
+/// Whether the first step leads to some of the bits of a value.
+fn is_among_bits(steps: &[Step]) -> bool {
     match steps.split_first() {
-        None => Ok(()),
-        Some((step, rest)) => {
-            let part = step_in(value, step)?;
-            reach(&part, rest)
-        }
+        None => false,
+        Some((step, _)) => match step {
+            Step::Field(_, _) => false,
+            Step::Bitfield(_, _) => true,
+            Step::Bitfields(_, _) => true,
+            Step::Slices(_, _, _) => true,
+            Step::Element(_, _) => false,
+        },
     }
 }
 
-/// The part that a step leads to, over the same parts.
-fn step_in(value: &Value, step: &Step) -> Result<Value, Failure>
-    ensures { Is value_of result (step_in (step_of step.now) (value_of value.now)) }
+/// Whether there is a value with another at the end of these steps.
+#[cycle(reach)]
+fn reach(alloc: Global, value: &Value, steps: &[Step], new: &Value) -> Result<(), Failure>
+    ensures { Reaches result (places.updated WIDTH_LIMIT (all_steps steps.now) (value_of new.now) (value_of value.now)) }
 {
-    match step {
-        Step::Field(span, place) => field_in(*span, *place, value),
-        Step::Element(span, index) => element_of(*span, value, index),
+    match steps.split_first() {
+        None => Ok(()),
+        Some((step, rest)) => match step {
+            Step::Field(span, place) => reach_field(alloc, value, *span, *place, rest, new),
+            Step::Bitfield(_, _) => reach_bits(alloc, value, steps, new),
+            Step::Bitfields(_, _) => reach_bits(alloc, value, steps, new),
+            Step::Slices(_, _, _) => reach_bits(alloc, value, steps, new),
+            Step::Element(span, index) => reach_element(alloc, value, *span, index, rest, new),
+        },
     }
+}
+
+/// Whether there is one behind a field.
+#[cycle(reach)]
+#[tactic(auto, using(crate::proofs::Followed::field_on, crate::proofs::Followed::field_off))]
+fn reach_field(
+    alloc: Global,
+    value: &Value,
+    span: Span,
+    place: usize,
+    rest: &[Step],
+    new: &Value,
+) -> Result<(), Failure>
+    ensures { Reaches result (places.updated WIDTH_LIMIT (places.into_field span place ∷ all_steps rest.now) (value_of new.now) (value_of value.now)) }
+{
+    let part = Held::new(field_in(span, place, value)?);
+    reach(alloc, part.get(), rest, new)
+}
+
+/// Whether there is one behind an element.
+#[cycle(reach)]
+#[tactic(auto, using(crate::proofs::Followed::element_on, crate::proofs::Followed::element_off))]
+fn reach_element(
+    alloc: Global,
+    value: &Value,
+    span: Span,
+    index: &Value,
+    rest: &[Step],
+    new: &Value,
+) -> Result<(), Failure>
+    ensures { Reaches result (places.updated WIDTH_LIMIT (places.into_element span (value_of index.now) ∷ all_steps rest.now) (value_of new.now) (value_of value.now)) }
+{
+    let part = Held::new(element_of(span, value, index)?);
+    reach(alloc, part.get(), rest, new)
+}
+
+/// Whether there is one, which is made for that.
+#[tactic(auto, using(crate::proofs::Followed::made_off))]
+fn reach_bits(alloc: Global, value: &Value, steps: &[Step], new: &Value) -> Result<(), Failure>
+    ensures { Reaches result (places.updated WIDTH_LIMIT (all_steps steps.now) (value_of new.now) (value_of value.now)) }
+{
+    let new = Held::new(copy(new)?);
+    let _made = Held::new(put(alloc, copy(value)?, steps, new)?);
+    Ok(())
 }
 
 /// The value with another at the end of these steps.
 #[cycle(put)]
 fn put(alloc: Global, value: Value, steps: &[Step], new: Held<Value>) -> Result<Value, Failure>
-    ensures { Is value_of result (places.updated (all_steps steps.now) (value_of new) (value_of value)) }
+    ensures { Is value_of result (places.updated WIDTH_LIMIT (all_steps steps.now) (value_of new) (value_of value)) }
 {
     match steps.split_first() {
-        None => Ok(new.into_inner()),
+        None => Ok(adopt(alloc, &value, new.get())?),
         Some((step, rest)) => match step {
             Step::Field(span, place) => put_field(alloc, value, *span, *place, rest, new),
+            Step::Bitfield(span, field) => put_bitfield(alloc, value, *span, field, rest, new),
+            Step::Bitfields(span, fields) => {
+                put_bitfields(alloc, value, *span, fields.as_slice(), rest, new)
+            }
+            Step::Slices(span, shapes, given) => {
+                let cuts = Cuts {
+                    span: *span,
+                    shapes: shapes.as_slice(),
+                    given: given.as_slice(),
+                };
+                put_slices(alloc, value, cuts, rest, new)
+            }
             Step::Element(span, index) => put_element(alloc, value, *span, index, rest, new),
         },
     }
+}
+
+/// The bits with others at the end of the steps behind a bitfield.
+#[cycle(put)]
+fn put_bitfield(
+    alloc: Global,
+    value: Value,
+    span: Span,
+    field: &BitField,
+    rest: &[Step],
+    new: Held<Value>,
+) -> Result<Value, Failure>
+    ensures { Is value_of result
+        (places.updated WIDTH_LIMIT (places.into_bitfield span field.now ∷ all_steps rest.now) (value_of new) (value_of value)) }
+{
+    let value = Held::new(value);
+    let part = bitfield(alloc, span, field, value.get())?;
+    let changed = Held::new(put(alloc, part, rest, new)?);
+    with_bitfield(alloc, span, field, changed.get(), value.get())
+}
+
+/// The bits with others at the end of the steps behind several bitfields taken together.
+#[cycle(put)]
+fn put_bitfields(
+    alloc: Global,
+    value: Value,
+    span: Span,
+    fields: &[BitField],
+    rest: &[Step],
+    new: Held<Value>,
+) -> Result<Value, Failure>
+    ensures { Is value_of result
+        (places.updated WIDTH_LIMIT (places.into_bitfields span fields.now ∷ all_steps rest.now) (value_of new) (value_of value)) }
+{
+    let value = Held::new(value);
+    let part = bitfields(alloc, span, fields, value.get())?;
+    let changed = Held::new(put(alloc, part, rest, new)?);
+    with_bitfields(alloc, span, fields, changed.get(), value.get())
+}
+
+/// The bits with others at the end of the steps behind slices.
+#[cycle(put)]
+#[tactic(auto, using(crate::proofs::Followed::slices_put, crate::proofs::Followed::slices_off, crate::proofs::Followed::read_off, crate::proofs::Followed::part_off))]
+fn put_slices(
+    alloc: Global,
+    value: Value,
+    cuts: Cuts,
+    rest: &[Step],
+    new: Held<Value>,
+) -> Result<Value, Failure>
+    ensures { Is value_of result
+        (places.updated WIDTH_LIMIT (places.into_slices cuts.entry.span (all_slices cuts.entry.shapes.now) (map value_of cuts.entry.given.now) ∷ all_steps rest.now) (value_of new) (value_of value)) }
+{
+    let value = Held::new(value);
+    let places = slice_places(alloc, cuts, value.get())?;
+    let part = bits_at(alloc, cuts.span, places.as_slice(), value.get())?;
+    let changed = Held::new(put(alloc, part, rest, new)?);
+    with_places(
+        alloc,
+        cuts.span,
+        places.as_slice(),
+        changed.get(),
+        value.get(),
+    )
 }
 
 /// The record or the exception with another value at the end of the steps behind the field in a place.
@@ -93,7 +264,7 @@ fn put_field(
     new: Held<Value>,
 ) -> Result<Value, Failure>
     ensures { Is value_of result
-        (places.updated (places.into_place span place ∷ all_steps rest.now) (value_of new) (value_of value)) }
+        (places.updated WIDTH_LIMIT (places.into_field span place ∷ all_steps rest.now) (value_of new) (value_of value)) }
 {
     match value {
         Value::Record(name, fields) => {
@@ -119,7 +290,7 @@ fn put_in_fields(
     new: Held<Value>,
 ) -> Result<Shared<Items<FieldValue>>, Failure>
     ensures { Is all_fields result
-        (put_into_fields span place (all_steps rest.now) (value_of new) (all_fields fields)) }
+        (put_into_fields WIDTH_LIMIT span place (all_steps rest.now) (value_of new) (all_fields fields)) }
 {
     let part = field_at(span, place, fields.get().as_slice())?;
     let part = Held::new(part);
@@ -141,7 +312,7 @@ fn put_element(
     new: Held<Value>,
 ) -> Result<Value, Failure>
     ensures { Is value_of result
-        (places.updated (places.into_element span (value_of index.now) ∷ all_steps rest.now) (value_of new) (value_of value)) }
+        (places.updated WIDTH_LIMIT (places.into_element span (value_of index.now) ∷ all_steps rest.now) (value_of new) (value_of value)) }
 {
     match (value, index) {
         (Value::Array(kind, elements), Value::Int(i)) => {
@@ -163,7 +334,7 @@ fn put_in_elements(
     new: Held<Value>,
 ) -> Result<Shared<Items<Value>>, Failure>
     ensures { Is all_values result
-        (put_into_elements span index (all_steps rest.now) (value_of new) (all_values elements)) }
+        (put_into_elements WIDTH_LIMIT span index (all_steps rest.now) (value_of new) (all_values elements)) }
 {
     match index_in(index, elements.get().len()) {
         Some(at) => put_in_place(alloc, elements, span, at, rest, new),
@@ -182,7 +353,7 @@ fn put_in_place(
     new: Held<Value>,
 ) -> Result<Shared<Items<Value>>, Failure>
     ensures { Is all_values result
-        (put_into_elements span (pos at) (all_steps rest.now) (value_of new) (all_values elements)) }
+        (put_into_elements WIDTH_LIMIT span (pos at) (all_steps rest.now) (value_of new) (all_values elements)) }
 {
     let part = value_at(span, at, elements.get().as_slice())?;
     let part = Held::new(part);

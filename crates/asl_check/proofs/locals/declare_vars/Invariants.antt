@@ -1,7 +1,6 @@
 use Rattle.std.proofs.Common.{◌≡◌, drop}
-use Rattle.asl_rules.specs.Stmts.{names_rule}
-use Rattle.asl_types.specs.View.{ty_of}
+use Rattle.asl_rules.specs.Locals.{names_rule}
 use Rattle.asl_check.proofs.locals.declare_vars.Given as goal
 
 abbrev pub invariant-loop-name : goal.invariant-loop-name
-invariant-loop-name l = names_rule (drop l.name-index l.idents) (ty_of l.ty) l.names ≡ names_rule l.idents (ty_of l.ty) l.fn.names
+invariant-loop-name l = names_rule (drop l.name-index l.idents) l.ty l.names ≡ names_rule l.idents l.ty l.fn.names

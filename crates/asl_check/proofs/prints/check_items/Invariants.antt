@@ -1,11 +1,12 @@
-use Rattle.std.proofs.Common.{◌≡◌, ◌++◌, drop}
-use Rattle.asl_tree.specs.Elaboration.{items_of}
-use Rattle.asl_check.specs.Views.{scope_of, operands_of}
-use Rattle.asl_check.specs.Walks.{no_operands, after_items}
+use Rattle.std.proofs.Common.{◌≡◌, drop, []}
+use Rattle.asl_rules.specs.Stmts.{printed}
+use Rattle.asl_rules.specs.Tests.{Tests}
+use Rattle.asl_types.specs.Suits.{Suits}
+use Rattle.asl_check.specs.PrintViews.{printed_of}
+use Rattle.asl_check.specs.Views.{body_of}
+use Rattle.asl_check.specs.Walks.{after, item_step}
 use Rattle.asl_check.proofs.prints.check_items.Given as goal
 
 abbrev pub invariant-loop-item : goal.invariant-loop-item
-invariant-loop-item l = record {
-  rule : after_items (drop l.item-index l.items) (operands_of l.so_far) (scope_of l.names l.body) ≡ after_items l.items no_operands (scope_of l.names l.body);
-  trees : l.trees ++ items_of (drop l.item-index l.items) (scope_of l.names l.body) ≡ items_of l.items (scope_of l.names l.body);
-}
+invariant-loop-item l = (t : Tests) → Suits t →
+    after (item_step t (body_of l.names l.body).scope) (drop l.item-index l.items) (printed_of l.so_far) ≡ after (item_step t (body_of l.names l.body).scope) l.items (printed [] [])

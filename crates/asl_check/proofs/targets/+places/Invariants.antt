@@ -1,13 +1,14 @@
 use Rattle.std.proofs.Common.{◌≡◌, ◌++◌, drop, map, Ok}
 use Rattle.asl_rules.specs.Faults.{◌>>=◌}
-use Rattle.asl_rules.specs.Effects.{greater}
-use Rattle.asl_rules.specs.Stmts.{found_target, all_places}
-use Rattle.asl_tree.specs.Elaboration.{placing, places_of}
-use Rattle.asl_check.specs.Views.{scope_of}
+use Rattle.asl_rules.specs.Targets.{found_target, all_places}
+use Rattle.asl_rules.specs.Tests.{Tests}
+use Rattle.asl_types.specs.Suits.{Suits}
+use Rattle.asl_check.specs.TargetViews.{place_of}
+use Rattle.asl_check.specs.Views.{body_of}
+use Rattle.asl_check.specs.Walks.{led}
 use Rattle.asl_check.proofs.targets.+places.Given as goal
 
-abbrev pub invariant-place_targets-loop-part : goal.invariant-place_targets-loop-part
-invariant-place_targets-loop-part l = record {
-  rule : (all_places (map found_target (drop l.part l.targets)) (scope_of l.names l.body) >>= λ k. Ok (greater l.effect k)) ≡ all_places (map found_target l.targets) (scope_of l.names l.body);
-  trees : l.places ++ places_of (map placing (drop l.part l.targets)) l.part l.way (scope_of l.names l.body) ≡ l.fn.places ++ places_of (map placing l.targets) 0 l.way (scope_of l.names l.body);
-}
+abbrev pub invariant-type_targets-loop-part : goal.invariant-type_targets-loop-part
+invariant-type_targets-loop-part l = (t : Tests) → Suits t →
+    (all_places l.part (map (found_target t) (drop l.part l.targets)) (body_of l.names l.body).scope >>= λ ps. Ok (map (place_of t) l.places.items ++ led l.way ps))
+    ≡ (all_places 0 (map (found_target t) l.targets) (body_of l.names l.body).scope >>= λ ps. Ok (map (place_of t) l.fn.places.items ++ led l.way ps))

@@ -1,30 +1,29 @@
-use Rattle.std.proofs.Common.{rules, arith}
+use Rattle.std.proofs.Common.{map, rules, arith}
 use Rattle.std.proofs.lemmas.Result.{err_from_is_err_and}
-use Rattle.asl_tree.specs.TypedMeaning.{store_each}
+use Rattle.asl_rules.specs.StatementForms.{store_each}
 use Rattle.asl_value.specs.View.{value_of}
+use Rattle.asl_run.specs.Storing.{all_taking}
 use Rattle.asl_run.specs.View.{core_of, meter_of}
-use Rattle.asl_run.proofs.Storing.{target_failed, target_stored}
+use Rattle.asl_run.proofs.Storing.{store_failed, store_next}
 use Rattle.asl_run.proofs.assignments.store_all.Goals as goal
 
 pub returns-in_err-store_one-clause-meets : goal.returns-in_err-store_one-clause-meets
 returns-in_err-store_one-clause-meets g c =
     let p = err_from_is_err_and c.from_residual.result c.from_residual.ensures.1 in
-    let x = value_of c.args.value.now in
-    rw (p.1, p.2) (target_failed c.args.funcs.now c.args.depth c.args.targets.now c.loop-target.target-index c.target-item.result x
-    (core_of c.loop-target.places) (meter_of c.loop-target.places (g.K.Sink.written c.loop-target.sink)) c.in_err-store_one.field-0.0
-    (core_of c.store_one.new.places) (meter_of c.store_one.new.places (g.K.Sink.written c.store_one.new.sink))
-    (store_each c.args.targets.now x (core_of c.args.places.now)) (meter_of c.args.places.now (g.K.Sink.written c.args.sink.now))
-    (omega (arith, c.loop-target-test.true)) c.target-item.is c.in_err-store_one.ensures.meets c.loop-target.invariant.left)
+    rw (p.1, p.2) (store_failed c.args.here.now.setting.funcs.now c.args.here.now.setting.depth c.args.targets.now c.args.parts.now c.loop-i.i c.index-targets-i.result c.index-parts-i.result
+    (core_of c.loop-i.run) (meter_of c.loop-i.run (g.K.Sink.written c.loop-i.sink)) c.in_err-store_one.field-0.0
+    (core_of c.store_one.new.run) (meter_of c.store_one.new.run (g.K.Sink.written c.store_one.new.sink))
+    (store_each (all_taking c.args.targets.now (map value_of c.args.parts.now)) (core_of c.args.run.now)) (meter_of c.args.run.now (g.K.Sink.written c.args.sink.now))
+    (omega (arith, c.loop-i-test.true)) (omega (arith, c.loop-i-test.true)) c.index-targets-i.is c.index-parts-i.is c.in_err-store_one.ensures.meets c.loop-i.invariant.left)
 
-pub loop-target-preserved : goal.loop-target-preserved
-loop-target-preserved g c =
-    let x = value_of c.args.value.now in
-    record {
-      left = target_stored c.args.funcs.now c.args.depth c.args.targets.now c.loop-target.target-index c.target-item.result x
-          (core_of c.loop-target.places) (meter_of c.loop-target.places (g.K.Sink.written c.loop-target.sink)) _
-          (core_of c.store_one.new.places) (meter_of c.store_one.new.places (g.K.Sink.written c.store_one.new.sink))
-          (store_each c.args.targets.now x (core_of c.args.places.now)) (meter_of c.args.places.now (g.K.Sink.written c.args.sink.now))
-          (omega (arith, c.loop-target-test.true)) c.target-item.is c.in_ok-store_one.ensures.meets c.loop-target.invariant.left;
-      count = search rules;
-      full = search rules;
-    }
+pub loop-i-preserved : goal.loop-i-preserved
+loop-i-preserved g c = record {
+  left = store_next c.args.here.now.setting.funcs.now c.args.here.now.setting.depth c.args.targets.now c.args.parts.now c.loop-i.i c.index-targets-i.result c.index-parts-i.result _
+      (core_of c.loop-i.run) (meter_of c.loop-i.run (g.K.Sink.written c.loop-i.sink))
+      (core_of c.store_one.new.run) (meter_of c.store_one.new.run (g.K.Sink.written c.store_one.new.sink))
+      (store_each (all_taking c.args.targets.now (map value_of c.args.parts.now)) (core_of c.args.run.now)) (meter_of c.args.run.now (g.K.Sink.written c.args.sink.now))
+      (omega (arith, c.loop-i-test.true)) (omega (arith, c.loop-i-test.true)) c.index-targets-i.is c.index-parts-i.is c.in_ok-store_one.ensures.meets c.loop-i.invariant.left;
+  count = search rules;
+  full = search rules;
+  round = search rules;
+}

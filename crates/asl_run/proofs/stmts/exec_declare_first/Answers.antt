@@ -1,29 +1,38 @@
-use Rattle.std.proofs.Common.{map}
 use Rattle.std.proofs.lemmas.Result.{err_from_is_err_and}
-use Rattle.asl_rules.specs.Plans.{Ret}
-use Rattle.asl_rules.specs.Values.{Normal}
-use Rattle.asl_tree.specs.TypedMeaning.{pushed_times}
+use Rattle.std.proofs.Common.{◌≡◌, map, rules, subst}
+use Rattle.asl_rules.specs.Cuts.{cuts}
+use Rattle.asl_rules.specs.Plans.{run}
+use Rattle.asl_rules.specs.TypedMeaning.{list_of}
+use Rattle.asl_tree.specs.View.{all_trees}
 use Rattle.asl_value.specs.View.{value_of}
-use Rattle.asl_run.specs.View.{core_of, exit_of, meter_of}
-use Rattle.asl_run.proofs.Turns.{all_evaluated, goes_failed, goes_on, meets_left}
+use Rattle.asl_run.specs.Finishes.{begun}
+use Rattle.asl_run.specs.Meets.{Meets}
+use Rattle.asl_run.specs.View.{core_of, exit_of, meter_of, meaning_of, cutting_of}
+use Rattle.asl_run.proofs.Turns.{all_evaluated, goes_failed, goes_met}
 use Rattle.asl_run.proofs.stmts.exec_declare_first.Goals as goal
 
-pub returns-in_err-_sizes-clause-meets : goal.returns-in_err-_sizes-clause-meets
-returns-in_err-_sizes-clause-meets g c =
-    let fs = c.args.funcs.now in
-    let d = c.args.depth in
+pub returns-in_err-zs-clause-meets : goal.returns-in_err-zs-clause-meets
+returns-in_err-zs-clause-meets g c =
+    let fs = c.args.here.now.setting.funcs.now in
+    let d = c.args.here.now.setting.depth in
+    let c0 = core_of c.args.run.now in
+    let h0 = meter_of c.args.run.now (g.K.Sink.written c.args.sink.now) in
+    let c1 = core_of c.eval_all.new.run in
+    let h1 = meter_of c.eval_all.new.run (g.K.Sink.written c.eval_all.new.sink) in
     let p = err_from_is_err_and c.from_residual.result c.from_residual.ensures.1 in
-    rw (p.1, p.2) (goes_failed (map value_of) exit_of fs d _ _ _ (all_evaluated fs d c.args.sizes.now (core_of c.args.places.now) (λ zs c1. Ret Normal (pushed_times c.args.count (value_of c.args.value.now) c1)))
-    (meter_of c.args.places.now (g.K.Sink.written c.args.sink.now)) c.in_err-_sizes.field-0.0 (core_of c.eval_all.new.places) (meter_of c.eval_all.new.places (g.K.Sink.written c.eval_all.new.sink)) c.in_err-_sizes.ensures.meets)
+    rw (p.1, p.2) (goes_failed (map value_of) exit_of fs d _ _ _ (all_evaluated fs d (list_of (all_trees c.args.sizes.now)) c0 (begun c.args.first)) h0 c.in_err-zs.field-0.0 c1 h1 c.in_err-zs.ensures.meets)
 
 pub returns-clause-meets : goal.returns-clause-meets
 returns-clause-meets g c =
-    let fs = c.args.funcs.now in
-    let d = c.args.depth in
-    let c0 = core_of c.args.places.now in
-    let h0 = meter_of c.args.places.now (g.K.Sink.written c.args.sink.now) in
-    let c1 = core_of c.eval_all.new.places in
+    let fs = c.args.here.now.setting.funcs.now in
+    let d = c.args.here.now.setting.depth in
+    let c0 = core_of c.args.run.now in
+    let h0 = meter_of c.args.run.now (g.K.Sink.written c.args.sink.now) in
+    let c1 = core_of c.eval_all.new.run in
+    let h1 = meter_of c.eval_all.new.run (g.K.Sink.written c.eval_all.new.sink) in
     let told = g.K.Sink.written c.eval_all.new.sink in
-    let h1 = meter_of c.eval_all.new.places told in
-    let left = goes_on fs d _ _ _ (all_evaluated fs d c.args.sizes.now c0 (λ zs c1. Ret Normal (pushed_times c.args.count (value_of c.args.value.now) c1))) h0 _ c1 h1 c.in_ok-_sizes.ensures.meets in
-    meets_left exit_of fs d _ _ h0 h1 left c.declare_first.result (core_of c.declare_first.new.places) (meter_of c.declare_first.new.places told) (c.declare_first.ensures.acts fs d told)
+    let c2 = core_of c.begin.new.run in
+    let h2 = meter_of c.begin.new.run told in
+    let here : c.as_slice.result.now ≡ c.in_ok-zs.zs = search rules in
+    goes_met exit_of fs d _ _ _ (all_evaluated fs d (list_of (all_trees c.args.sizes.now)) c0 (begun c.args.first)) h0 (map value_of c.in_ok-zs.zs) c1 h1 c.in_ok-zs.ensures.meets c.begin.result c2 h2
+    (subst (λ zs. Meets exit_of c.begin.result c2 h2 (run (meaning_of fs d) (begun c.args.first (map value_of zs) c1) h1) (cuts (meaning_of fs d) (cutting_of fs d) (begun c.args.first (map value_of zs) c1) h1)) here (c.begin.ensures.acts fs d told))

@@ -1,0 +1,16 @@
+-- What is known of declarations that were read, and right tests.
+use Rattle.std.proofs.Common.{ℕ, List, Ok}
+use Rattle.asl_bits.specs.declared.TheConstants.{WIDTH_LIMIT}
+use Rattle.asl_syn.specs.declared.tree.Decl.{Decl}
+use Rattle.asl_grammar.specs.Reading.{File, Reads}
+use Rattle.asl_rules.specs.Grown.{AreGrown}
+use Rattle.asl_rules.specs.Tests.{Tests}
+use Rattle.asl_rules.proofs.scopes.GrownTexts.{read_grown}
+use Rattle.asl_rules.proofs.verdict.SomeTests.{some_tests}
+use Rattle.asl_types.specs.Suits.{Suits}
+
+pub grown : (files : List File) (ds : List Decl) → Reads files (Ok ds) → AreGrown WIDTH_LIMIT ds
+grown files ds r = read_grown WIDTH_LIMIT files ds r
+
+pub some_suits : (t : Tests) × Suits t
+some_suits = let s = some_tests WIDTH_LIMIT in (s.tests, record { right = s.right; limit = s.within })

@@ -1,0 +1,277 @@
+//! The expressions inside slices, fields, patterns and written types, in source order. They are gathered before any is
+//! evaluated, so that an evaluation calls itself for expressions alone.
+ghost use Rattle.std.specs.Prelude.{◌≡◌, [], ◌∷◌, ◌++◌, map, IfOk};
+ghost use Rattle.asl_bits.specs.declared.TheConstants.{WIDTH_LIMIT};
+ghost use Rattle.asl_rules.specs.Constants.{constant};
+ghost use Rattle.asl_rules.specs.Shaped.{exprs_in, itself};
+ghost use Rattle.asl_const.specs.Finds.{known_bitfield, known_given, known_part, known_pattern, known_slice, known_type};
+ghost use Rattle.asl_const.specs.Weights.{constants, weight, weighed_bitfield, weighed_given, weighed_part, weighed_pattern, weighed_slice, weighed_type, weights};
+
+use asl_syn::tree::{Bitfield, ConstraintPart, Expr, FieldValue, Pattern, Slice, TypeExpr};
+use sqlite_items::Items;
+use std::alloc::{AllocError, Global};
+
+// ---- for callers: each gathers from the beginning
+
+/// The expressions of a list.
+pub(crate) fn of_list(alloc: Global, es: &[Expr]) -> Result<Items<&Expr>, AllocError>
+    ensures values { IfOk result (λ all. constants all ≡ map (constant WIDTH_LIMIT) es.now) }
+    ensures weights { IfOk result (λ all. weights all ≡ map weight es.now) }
+{
+    with_list(Items::new(alloc), es)
+}
+
+/// Those of fields that are given.
+pub(crate) fn of_fields(alloc: Global, fields: &[FieldValue]) -> Result<Items<&Expr>, AllocError>
+    ensures values { IfOk result (λ es. constants es ≡ exprs_in itself (map known_given fields.now)) }
+    ensures weights { IfOk result (λ es. weights es ≡ exprs_in itself (map weighed_given fields.now)) }
+{
+    with_fields(Items::new(alloc), fields)
+}
+
+/// Those of slices.
+pub(crate) fn of_slices(alloc: Global, slices: &[Slice]) -> Result<Items<&Expr>, AllocError>
+    ensures values { IfOk result (λ es. constants es ≡ exprs_in itself (map known_slice slices.now)) }
+    ensures weights { IfOk result (λ es. weights es ≡ exprs_in itself (map weighed_slice slices.now)) }
+{
+    with_slices(Items::new(alloc), slices)
+}
+
+/// Those of a pattern.
+pub(crate) fn of_pattern(alloc: Global, pattern: &Pattern) -> Result<Items<&Expr>, AllocError>
+    ensures values { IfOk result (λ es. constants es ≡ (known_pattern pattern.now).exprs) }
+    ensures weights { IfOk result (λ es. weights es ≡ (weighed_pattern pattern.now).exprs) }
+{
+    with_pattern(Items::new(alloc), pattern)
+}
+
+/// Those of a written type.
+pub(crate) fn of_type(alloc: Global, ty: &TypeExpr) -> Result<Items<&Expr>, AllocError>
+    ensures values { IfOk result (λ es. constants es ≡ (known_type ty.now).exprs) }
+    ensures weights { IfOk result (λ es. weights es ≡ (weighed_type ty.now).exprs) }
+{
+    with_type(Items::new(alloc), ty)
+}
+
+// ---- each gathers behind those that it is given
+
+/// An expression.
+fn with_one<'e>(into: Items<&'e Expr>, e: &'e Expr) -> Result<Items<&'e Expr>, AllocError>
+    ensures values { IfOk result (λ all. constants all ≡ constants into.entry ++ constant WIDTH_LIMIT e.now ∷ []) }
+    ensures weights { IfOk result (λ all. weights all ≡ weights into.entry ++ weight e.now ∷ []) }
+{
+    let mut all = into;
+    all.push(e)?;
+    Ok(all)
+}
+
+/// Two expressions.
+fn with_two<'e>(
+    into: Items<&'e Expr>,
+    a: &'e Expr,
+    b: &'e Expr,
+) -> Result<Items<&'e Expr>, AllocError>
+    ensures values { IfOk result (λ all. constants all ≡ constants into.entry ++ constant WIDTH_LIMIT a.now ∷ constant WIDTH_LIMIT b.now ∷ []) }
+    ensures weights { IfOk result (λ all. weights all ≡ weights into.entry ++ weight a.now ∷ weight b.now ∷ []) }
+{
+    with_one(with_one(into, a)?, b)
+}
+
+/// The expressions of a list.
+fn with_list<'e>(into: Items<&'e Expr>, es: &'e [Expr]) -> Result<Items<&'e Expr>, AllocError>
+    ensures values { IfOk result (λ all. constants all ≡ constants into.entry ++ map (constant WIDTH_LIMIT) es.now) }
+    ensures weights { IfOk result (λ all. weights all ≡ weights into.entry ++ map weight es.now) }
+{
+    let mut all = into;
+    for e in es {
+        all = with_one(all, e)?;
+    }
+    Ok(all)
+}
+
+/// The expression of a field.
+fn with_field<'e>(
+    into: Items<&'e Expr>,
+    field: &'e FieldValue,
+) -> Result<Items<&'e Expr>, AllocError>
+    ensures values { IfOk result (λ all. constants all ≡ constants into.entry ++ (known_given field.now).exprs) }
+    ensures weights { IfOk result (λ all. weights all ≡ weights into.entry ++ (weighed_given field.now).exprs) }
+{
+    let FieldValue::Given(_, e) = field;
+    with_one(into, e)
+}
+
+/// The expressions of fields.
+fn with_fields<'e>(
+    into: Items<&'e Expr>,
+    fields: &'e [FieldValue],
+) -> Result<Items<&'e Expr>, AllocError>
+    ensures values { IfOk result (λ all. constants all ≡ constants into.entry ++ exprs_in itself (map known_given fields.now)) }
+    ensures weights { IfOk result (λ all. weights all ≡ weights into.entry ++ exprs_in itself (map weighed_given fields.now)) }
+{
+    let mut all = into;
+    for field in fields {
+        all = with_field(all, field)?;
+    }
+    Ok(all)
+}
+
+/// The expressions of a slice.
+fn with_slice<'e>(into: Items<&'e Expr>, slice: &'e Slice) -> Result<Items<&'e Expr>, AllocError>
+    ensures values { IfOk result (λ all. constants all ≡ constants into.entry ++ (known_slice slice.now).exprs) }
+    ensures weights { IfOk result (λ all. weights all ≡ weights into.entry ++ (weighed_slice slice.now).exprs) }
+{
+    match slice {
+        Slice::BitAt(i) => with_one(into, i),
+        Slice::HighLow(high, low) => with_two(into, high, low),
+        Slice::LowWidth(low, width) => with_two(into, low, width),
+        Slice::FactorWidth(factor, width) => with_two(into, factor, width),
+    }
+}
+
+/// The expressions of slices.
+fn with_slices<'e>(
+    into: Items<&'e Expr>,
+    slices: &'e [Slice],
+) -> Result<Items<&'e Expr>, AllocError>
+    ensures values { IfOk result (λ all. constants all ≡ constants into.entry ++ exprs_in itself (map known_slice slices.now)) }
+    ensures weights { IfOk result (λ all. weights all ≡ weights into.entry ++ exprs_in itself (map weighed_slice slices.now)) }
+{
+    let mut all = into;
+    for slice in slices {
+        all = with_slice(all, slice)?;
+    }
+    Ok(all)
+}
+
+/// The expressions of a pattern.
+#[cycle(inside_patterns)]
+fn with_pattern<'e>(
+    into: Items<&'e Expr>,
+    pattern: &'e Pattern,
+) -> Result<Items<&'e Expr>, AllocError>
+    ensures values { IfOk result (λ all. constants all ≡ constants into.entry ++ (known_pattern pattern.now).exprs) }
+    ensures weights { IfOk result (λ all. weights all ≡ weights into.entry ++ (weighed_pattern pattern.now).exprs) }
+{
+    match pattern {
+        Pattern::AnyPattern(_) => Ok(into),
+        Pattern::SetPattern(_, _, patterns) => with_patterns(into, patterns.as_slice()),
+        Pattern::MaskPattern(_, _) => Ok(into),
+        Pattern::AtMost(_, e) => with_one(into, e),
+        Pattern::AtLeast(_, e) => with_one(into, e),
+        Pattern::TuplePattern(_, patterns) => with_patterns(into, patterns.as_slice()),
+        Pattern::ValuePattern(_, e) => with_one(into, e),
+        Pattern::RangePattern(_, low, high) => with_two(into, low, high),
+    }
+}
+
+/// The expressions of patterns.
+#[cycle(inside_patterns)]
+fn with_patterns<'e>(
+    into: Items<&'e Expr>,
+    patterns: &'e [Pattern],
+) -> Result<Items<&'e Expr>, AllocError>
+    ensures values { IfOk result (λ all. constants all ≡ constants into.entry ++ exprs_in itself (map known_pattern patterns.now)) }
+    ensures weights { IfOk result (λ all. weights all ≡ weights into.entry ++ exprs_in itself (map weighed_pattern patterns.now)) }
+{
+    let mut all = into;
+    for pattern in patterns {
+        all = with_pattern(all, pattern)?;
+    }
+    Ok(all)
+}
+
+/// The expressions of a part of a constraint.
+fn with_part<'e>(
+    into: Items<&'e Expr>,
+    part: &'e ConstraintPart,
+) -> Result<Items<&'e Expr>, AllocError>
+    ensures values { IfOk result (λ all. constants all ≡ constants into.entry ++ (known_part part.now).exprs) }
+    ensures weights { IfOk result (λ all. weights all ≡ weights into.entry ++ (weighed_part part.now).exprs) }
+{
+    match part {
+        ConstraintPart::Only(e) => with_one(into, e),
+        ConstraintPart::FromTo(low, high) => with_two(into, low, high),
+    }
+}
+
+/// The expressions of a constraint.
+fn with_parts<'e>(
+    into: Items<&'e Expr>,
+    parts: &'e [ConstraintPart],
+) -> Result<Items<&'e Expr>, AllocError>
+    ensures values { IfOk result (λ all. constants all ≡ constants into.entry ++ exprs_in itself (map known_part parts.now)) }
+    ensures weights { IfOk result (λ all. weights all ≡ weights into.entry ++ exprs_in itself (map weighed_part parts.now)) }
+{
+    let mut all = into;
+    for part in parts {
+        all = with_part(all, part)?;
+    }
+    Ok(all)
+}
+
+/// The expressions of a bitfield.
+fn with_bitfield<'e>(
+    into: Items<&'e Expr>,
+    field: &'e Bitfield,
+) -> Result<Items<&'e Expr>, AllocError>
+    ensures values { IfOk result (λ all. constants all ≡ constants into.entry ++ (known_bitfield field.now).exprs) }
+    ensures weights { IfOk result (λ all. weights all ≡ weights into.entry ++ (weighed_bitfield field.now).exprs) }
+{
+    match field {
+        Bitfield::OneBit(place, _) => with_one(into, place),
+        Bitfield::BitRange(high, low, _) => with_two(into, high, low),
+    }
+}
+
+/// The expressions of bitfields.
+fn with_bitfields<'e>(
+    into: Items<&'e Expr>,
+    fields: &'e [Bitfield],
+) -> Result<Items<&'e Expr>, AllocError>
+    ensures values { IfOk result (λ all. constants all ≡ constants into.entry ++ exprs_in itself (map known_bitfield fields.now)) }
+    ensures weights { IfOk result (λ all. weights all ≡ weights into.entry ++ exprs_in itself (map weighed_bitfield fields.now)) }
+{
+    let mut all = into;
+    for field in fields {
+        all = with_bitfield(all, field)?;
+    }
+    Ok(all)
+}
+
+/// The expressions of a written type.
+#[cycle(inside_types)]
+fn with_type<'e>(into: Items<&'e Expr>, ty: &'e TypeExpr) -> Result<Items<&'e Expr>, AllocError>
+    ensures values { IfOk result (λ all. constants all ≡ constants into.entry ++ (known_type ty.now).exprs) }
+    ensures weights { IfOk result (λ all. weights all ≡ weights into.entry ++ (weighed_type ty.now).exprs) }
+{
+    match ty {
+        TypeExpr::IntegerType(_, parts) => with_parts(into, parts.as_slice()),
+        TypeExpr::BooleanType(_) => Ok(into),
+        TypeExpr::BitType(_) => Ok(into),
+        TypeExpr::NamedType(_, _) => Ok(into),
+        TypeExpr::BitsType(_, width, fields) => {
+            with_bitfields(with_one(into, width.get())?, fields.as_slice())
+        }
+        TypeExpr::TupleType(_, parts) => with_types(into, parts.as_slice()),
+        TypeExpr::ArrayType(_, length, element) => {
+            with_type(with_one(into, length.get())?, element.get())
+        }
+    }
+}
+
+/// The expressions of written types.
+#[cycle(inside_types)]
+fn with_types<'e>(
+    into: Items<&'e Expr>,
+    types: &'e [TypeExpr],
+) -> Result<Items<&'e Expr>, AllocError>
+    ensures values { IfOk result (λ all. constants all ≡ constants into.entry ++ exprs_in itself (map known_type types.now)) }
+    ensures weights { IfOk result (λ all. weights all ≡ weights into.entry ++ exprs_in itself (map weighed_type types.now)) }
+{
+    let mut all = into;
+    for ty in types {
+        all = with_type(all, ty)?;
+    }
+    Ok(all)
+}

@@ -1,9 +1,0 @@
-use Rattle.std.proofs.Common.{◌≡◌, [], drop, map}
-use Rattle.asl_core.specs.ByNames.{types_among}
-use Rattle.asl_core.specs.Shaped.{itself, shapes_in}
-use Rattle.asl_core_shape.specs.View.{type_of}
-use Rattle.asl_core_const.specs.Finds.{types_after, known_type}
-use Rattle.asl_core_const.proofs.shapes.+types.Given as goal
-
-abbrev pub invariant-type_shapes-loop-ty : goal.invariant-type_shapes-loop-ty
-invariant-type_shapes-loop-ty l = types_after (map type_of l.shapes) (types_among l.names) (shapes_in itself (map known_type (drop l.ty-index l.types))) ≡ types_after [] (types_among l.names) (shapes_in itself (map known_type l.types))

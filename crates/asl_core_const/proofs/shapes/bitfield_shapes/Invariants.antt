@@ -1,8 +1,0 @@
-use Rattle.std.proofs.Common.{◌≡◌, ◌++◌, drop, map}
-use Rattle.asl_core.specs.Shaped.{itself, shapes_in}
-use Rattle.asl_core_shape.specs.View.{all_bitfields}
-use Rattle.asl_core_const.specs.Finds.{known_bitfield}
-use Rattle.asl_core_const.proofs.shapes.bitfield_shapes.Given as goal
-
-abbrev pub invariant-loop-field : goal.invariant-loop-field
-invariant-loop-field l = all_bitfields l.shapes ++ shapes_in itself (map known_bitfield (drop l.field-index l.fields)) ≡ shapes_in itself (map known_bitfield l.fields)

@@ -1,6 +1,0 @@
-use Rattle.std.proofs.Common.{◌≡◌, drop}
-use Rattle.asl_core.specs.Programs.{is_main, entry_from}
-use Rattle.asl_core_decl.proofs.entry.find_main.Given as goal
-
-abbrev pub invariant-loop-number : goal.invariant-loop-number
-invariant-loop-number l = entry_from is_main l.number (drop l.number l.signatures) ≡ entry_from is_main 0 l.signatures

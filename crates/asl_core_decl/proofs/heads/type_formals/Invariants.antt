@@ -1,9 +1,0 @@
-use Rattle.std.proofs.Common.{◌≡◌, [], drop}
-use Rattle.asl_core.specs.Tests.{Tests}
-use Rattle.asl_core_types.specs.ContextView.{scope_of}
-use Rattle.asl_core_types.specs.Suits.{Suits}
-use Rattle.asl_core_decl.specs.HeadTypes.{formals_after}
-use Rattle.asl_core_decl.proofs.heads.type_formals.Given as goal
-
-abbrev pub invariant-loop-f : goal.invariant-loop-f
-invariant-loop-f l = (t : Tests) → Suits t → formals_after t l.types (drop l.f-index l.formals) (scope_of l.context) ≡ formals_after t [] l.formals (scope_of l.context)

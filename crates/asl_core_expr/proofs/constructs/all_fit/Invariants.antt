@@ -1,8 +1,0 @@
-use Rattle.std.proofs.Common.{◌≡◌, drop}
-use Rattle.asl_core.specs.Members as rules
-use Rattle.asl_core.specs.Tests.{Tests, IsRight}
-use Rattle.asl_core_tree.specs.View.{all_operands}
-use Rattle.asl_core_expr.proofs.constructs.all_fit.Given as goal
-
-abbrev pub invariant-loop-operand : goal.invariant-loop-operand
-invariant-loop-operand l = (t : Tests) → IsRight t → rules.all_fit t (all_operands (drop l.operand-index l.operands)) l.rest ≡ rules.all_fit t (all_operands l.operands) l.types

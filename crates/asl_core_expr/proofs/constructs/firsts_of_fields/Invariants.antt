@@ -1,7 +1,0 @@
-use Rattle.std.proofs.Common.{◌≡◌, [], drop}
-use Rattle.asl_core_expr.specs.Constructs.{field_names}
-use Rattle.asl_core_expr.specs.Firsts.{placed}
-use Rattle.asl_core_expr.proofs.constructs.firsts_of_fields.Given as goal
-
-abbrev pub invariant-loop-place : goal.invariant-loop-place
-invariant-loop-place l = placed (field_names (drop l.place l.fields)) l.place l.firsts ≡ placed (field_names l.fields) 0 []

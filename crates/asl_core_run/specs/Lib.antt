@@ -1,9 +1,0 @@
-pub mod View
-pub mod Meets
-pub mod Operations
-pub mod Finishes
-pub mod Calling
-pub mod Choosing
-pub mod Storing
-pub mod Pieces
-pub mod Below

@@ -1,7 +1,0 @@
-use Rattle.std.proofs.Common.{◌≡◌, drop}
-use Rattle.asl_core.specs.Closed.{lowest}
-use Rattle.asl_core_shape.proofs.Ranges.{ranges}
-use Rattle.asl_core_shape.proofs.numbers.lowest.Given as goal
-
-abbrev pub invariant-loop-part : goal.invariant-loop-part
-invariant-loop-part l = lowest (ranges l.parts) ≡ lowest (ranges (drop l.part-index l.parts))

@@ -1,3 +1,0 @@
-pub mod View
-pub mod Acts
-pub mod Sealed

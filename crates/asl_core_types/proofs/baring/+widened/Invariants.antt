@@ -1,6 +1,0 @@
-use Rattle.std.proofs.Common.{◌≡◌, map, take}
-use Rattle.asl_core.specs.Types.{widened}
-use Rattle.asl_core_types.proofs.baring.+widened.Given as goal
-
-abbrev pub invariant-widened_parts-loop-part : goal.invariant-widened_parts-loop-part
-invariant-widened_parts-loop-part l = l.wide ≡ map widened (take l.part-index l.parts)

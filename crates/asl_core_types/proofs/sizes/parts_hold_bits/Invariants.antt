@@ -1,7 +1,0 @@
-use Rattle.std.proofs.Common.{◌≡◌, drop}
-use Rattle.asl_core_types.specs.Bits as bits
-use Rattle.asl_core_types.specs.View.{parts_of}
-use Rattle.asl_core_types.proofs.sizes.parts_hold_bits.Given as goal
-
-abbrev pub invariant-loop-part : goal.invariant-loop-part
-invariant-loop-part l = bits.parts_hold_bits (parts_of (drop l.part-index l.parts)) ≡ bits.parts_hold_bits (parts_of l.parts)

@@ -1,6 +1,0 @@
-use Rattle.std.proofs.Common.{refl}
-use Rattle.asl_core_types.proofs.TotalLemmas.{nothing}
-use Rattle.asl_core_types.proofs.totals.Total.new.Goals as goal
-
-pub returns : goal.returns
-returns c = nothing (record { sum = c.in_ok-constant_width.field-0; weight = 0; atoms = c.new.result }) c.in_ok-constant_width.ensures refl c.new.ensures

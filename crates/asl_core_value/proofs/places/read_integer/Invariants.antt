@@ -1,6 +1,0 @@
-use Rattle.asl_core_value.proofs.InPlaces.{Read, in_integer}
-use Rattle.asl_core_value.proofs.places.read_integer.Given as goal
-
--- those that were read stand on top of those left
-abbrev pub invariant-loop-place : goal.invariant-loop-place
-invariant-loop-place l = Read (in_integer l.z) l.places l.place-index l.made

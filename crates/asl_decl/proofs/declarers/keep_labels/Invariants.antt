@@ -1,6 +1,0 @@
-use Rattle.std.proofs.Common.{◌≡◌, drop}
-use Rattle.asl_decl.specs.Graphs.{named_at, all_kept}
-use Rattle.asl_decl.proofs.declarers.keep_labels.Given as goal
-
-abbrev pub invariant-loop-label : goal.invariant-loop-label
-invariant-loop-label l = all_kept (named_at l.place (drop l.label-index l.labels)) l.table ≡ all_kept (named_at l.place l.labels) l.fn.table

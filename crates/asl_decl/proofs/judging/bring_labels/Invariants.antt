@@ -1,7 +1,0 @@
-use Rattle.std.proofs.Common.{◌≡◌, drop}
-use Rattle.asl_types.specs.View.{ty_of}
-use Rattle.asl_decl.specs.Brought.{labels_brought, with_entries}
-use Rattle.asl_decl.proofs.judging.bring_labels.Given as goal
-
-abbrev pub invariant-loop-label : goal.invariant-loop-label
-invariant-loop-label l = with_entries (labels_brought (drop l.label-index l.labels) l.name (ty_of l.ty)) l.names ≡ with_entries (labels_brought l.labels l.name (ty_of l.ty)) l.fn.names

@@ -1,6 +1,0 @@
-use Rattle.std.proofs.Common.{◌≡◌, drop, map}
-use Rattle.asl_rules.specs.Names.{is_listed}
-use Rattle.asl_decl.proofs.library.is_among.Given as goal
-
-abbrev pub invariant-loop-n : goal.invariant-loop-n
-invariant-loop-n l = is_listed (map (λ n. n.now) (drop l.n-index l.names)) l.name ≡ is_listed (map (λ n. n.now) l.names) l.name

@@ -1,6 +1,0 @@
-use Rattle.std.proofs.Common.{◌≡◌, drop}
-use Rattle.asl_decl.specs.Passes.{all_judged, first_fault}
-use Rattle.asl_decl.proofs.outcome.check_all.Given as goal
-
-abbrev pub invariant-loop-outcome : goal.invariant-loop-outcome
-invariant-loop-outcome l = first_fault (all_judged (drop l.outcome-index l.outcomes)) ≡ first_fault (all_judged l.outcomes)

@@ -1,0 +1,60 @@
+-- Signatures in source order, and the names of subprograms, which stand once, as the checker finds them.
+use Rattle.std.specs.Prelude.{ℕ, suc, ℤ, List, [], ◌∷◌, ◌++◌, Result, Ok}
+use Rattle.asl_syn.specs.declared.code.Fault.{Fault}
+use Rattle.asl_syn.specs.declared.code.StaticCode.TheVariants.{T10}
+use Rattle.asl_syn.specs.declared.tree.Decl.{Decl}
+use Rattle.asl_syn.specs.declared.tree.Decl.TheVariants as dc
+use Rattle.asl_syn.specs.declared.tree.Func.{Func}
+use Rattle.asl_rules.specs.Faults.{◌>>=◌, ◌>>◌, need}
+use Rattle.asl_rules.specs.Tests.{Tests}
+use Rattle.asl_rules.specs.Scopes.{Entry, Signature, is_absent}
+use Rattle.asl_rules.specs.Programs.{class_of}
+use Rattle.asl_types.specs.View.{parts_of}
+use Rattle.asl_names.specs.Firsts.{Places, first_place, kept}
+use Rattle.asl_decl.specs.Free.{free_rule}
+use Rattle.asl_decl.specs.Heads.{Declared, declared_with, heads_of}
+use Rattle.asl_decl.specs.HeadTypes.{HeadTypes, head_types}
+use Rattle.asl_decl.specs.Limits.{limit_after}
+
+abbrev pub signature_with : Func → HeadTypes → ℤ → Signature
+signature_with f H limit = record { name = f.name.text; class = class_of f.qualifier; params = H.params; formals = parts_of H.formals; result = H.result; limit = limit }
+
+-- the signature of a subprogram, over the names outside bodies
+abbrev pub signature_found : Tests → Func → List Entry → Result Signature Fault
+signature_found t f names =
+    free_rule f names >>
+    head_types t f names >>= λ H.
+    limit_after t f H.params names >>= λ limit.
+    Ok (signature_with f H limit)
+
+-- those of several, and behind those before
+abbrev pub signatures_found : Tests → List Func → List Entry → Result (List Signature) Fault
+signatures_found t [] names = Ok []
+signatures_found t (f ∷ fs) names = signature_found t f names >>= λ s. signatures_found t fs names >>= λ ss. Ok (s ∷ ss)
+
+abbrev pub signatures_after : Tests → List Signature → List Func → List Entry → Result (List Signature) Fault
+signatures_after t before [] names = Ok before
+signatures_after t before (f ∷ fs) names = signature_found t f names >>= λ s. signatures_after t (before ++ s ∷ []) fs names
+
+-- ---- the subprograms of a program
+
+-- the subprograms, behind those before
+abbrev pub funcs_after : List Func → List Decl → List Func
+funcs_after before [] = before
+funcs_after before (dc.Type d ∷ ds) = funcs_after before ds
+funcs_after before (dc.Storage d ∷ ds) = funcs_after before ds
+funcs_after before (dc.Func f ∷ ds) = funcs_after (before ++ f ∷ []) ds
+
+-- T10 at the first name of a subprogram that is among those before it, with the places of these
+abbrev pub apart_beside : List Func → ℕ → Places → Result (Unit {0}) Fault
+apart_beside [] n ps = Ok tt
+apart_beside (f ∷ fs) n ps = need (is_absent (first_place f.name.text ps)) T10 f.name.span >> apart_beside fs (suc n) (kept f.name.text n ps)
+
+abbrev pub apart_rule : List Func → Result (Unit {0}) Fault
+apart_rule fs = apart_beside fs 0 []
+
+-- ---- what declarations bring
+
+-- the subprograms with their signatures over these names outside bodies, which have names of their own
+abbrev pub declared_found : Tests → List Func → List Entry → Result Declared Fault
+declared_found t fs names = signatures_after t [] fs names >>= λ ss. apart_rule fs >> Ok (declared_with names (heads_of names fs ss))

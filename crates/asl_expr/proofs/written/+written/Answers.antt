@@ -1,0 +1,19 @@
+use Rattle.std.proofs.Common.{rules, Result, sym, subst}
+use Rattle.asl_syn.specs.declared.code.Fault.{Fault}
+use Rattle.asl_rules.specs.Writing as rule
+use Rattle.asl_types.specs.Answers.{Met}
+use Rattle.asl_types.specs.ContextView.{scope_of}
+use Rattle.asl_expr.specs.WrittenViews.{written_of}
+use Rattle.asl_expr.proofs.WrittenLemmas.{integer_type, tuple_by}
+use Rattle.asl_expr.proofs.written.+written.Goals as goal
+
+pub type_written-returns-in-IntegerType : goal.type_written-returns-in-IntegerType
+type_written-returns-in-IntegerType t c t' suits =
+    integer_type t' c.args.ty.now c.in-IntegerType.span c.in-IntegerType.parts c.as_slice.result.now c.args.outside (scope_of c.args.context) c.integer_written.result
+    c.in-IntegerType.is c.as_slice.ensures (c.integer_written.ensures t')
+
+pub type_written-returns-in_ok-made-in-TupleType : goal.type_written-returns-in_ok-made-in-TupleType
+type_written-returns-in_ok-made-in-TupleType t c t' suits =
+    let here = c.in_ok-made-in-TupleType.ensures t' suits in
+    subst (λ (z : Result rule.Written Fault). Met written_of c.tuple_written.result z)
+    (sym (tuple_by t' c.args.ty.now c.in-TupleType.span c.in-TupleType.parts c.as_slice-in-TupleType.result.now c.args.outside (scope_of c.args.context) c.in-TupleType.is c.as_slice-in-TupleType.ensures)) (search rules)

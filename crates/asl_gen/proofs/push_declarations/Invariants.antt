@@ -1,0 +1,9 @@
+use Rattle.std.proofs.Common.{◌≡◌, ◌*◌, ◌++◌}
+use Rattle.asl_gen.specs.Program.{declarations, drawn}
+use Rattle.asl_gen.proofs.push_declarations.Given as goal
+
+abbrev pub invariant-loop-before : goal.invariant-loop-before
+invariant-loop-before l = record {
+  drawn_so_far : l.last ≡ drawn l.number (2 * l.before);
+  added : l.text.items ≡ l.fn.text.items ++ declarations l.number l.before;
+}

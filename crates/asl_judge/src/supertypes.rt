@@ -1,0 +1,124 @@
+//! The names that declared types reach by `subtypes`.
+
+ghost use Rattle.std.specs.Prelude.{◌≡◌, ◌∷◌, [], IfOk};
+ghost use Rattle.asl_rules.specs.Declarations as rules;
+ghost use Rattle.asl_rules.specs.Faults.{need, found_or};
+ghost use Rattle.asl_rules.specs.Tests.{Tests};
+ghost use Rattle.asl_rules.specs.Types.{misfit, structure, named};
+ghost use Rattle.asl_rules.specs.Scopes.{type_of_name};
+ghost use Rattle.asl_types.specs.Answers.{Agrees};
+ghost use Rattle.asl_types.specs.ContextView.{scope_of};
+ghost use Rattle.asl_types.specs.Suits.{Suits};
+ghost use Rattle.asl_judge.specs.Definitions.{names_after};
+
+use crate::definitions::name_of;
+use asl_shared::{Held, Shared};
+use asl_syn::code::{Refused, StaticCode};
+use asl_syn::token::Span;
+use asl_syn::tree::Ident;
+use asl_types::answer::fault;
+use asl_types::fits::misfit;
+use asl_types::structure::structure;
+use asl_types::{Context, Form, Scope, Ty};
+use asl_value::Name;
+use sqlite_items::Items;
+use std::alloc::{AllocError, Global};
+
+/// Names behind one.
+fn names_behind(alloc: Global, name: &Name, supers: &[Name]) -> Result<Items<Name>, AllocError>
+    ensures { IfOk result (λ names. names ≡ names_after (name.now ∷ []) supers.now) }
+{
+    let mut names = Items::new(alloc);
+    names.push(name.share()?)?;
+    for other in supers {
+        names.push(other.share()?)?;
+    }
+    Ok(names)
+}
+
+/// A name, and the names that it reaches.
+fn with_reached(alloc: Global, name: &Name, supers: &[Name]) -> Result<Items<Name>, AllocError>
+    ensures { IfOk result (λ names. names ≡ name.now ∷ supers.now) }
+{
+    let names = names_behind(alloc, name, supers)?;
+    Ok(names)
+}
+
+fn only(alloc: Global, name: &[u8]) -> Result<Items<Name>, AllocError>
+    ensures { IfOk result (λ names. names ≡ name.now ∷ []) }
+{
+    let mut names = Items::new(alloc);
+    names.push(name_of(alloc, name)?)?;
+    Ok(names)
+}
+
+/// The names that a declared type of this name reaches, itself first.
+fn reached(alloc: Global, name: &[u8], ty: &Ty) -> Result<Items<Name>, AllocError>
+    ensures { IfOk result (λ names. names ≡ rules.reached name.now ty.now) }
+{
+    match ty.form() {
+        Form::Named(own, supers, _) => with_reached(alloc, own, supers.get().as_slice()),
+        Form::Integer(_) => only(alloc, name),
+        Form::Boolean => only(alloc, name),
+        Form::Bits(_, _) => only(alloc, name),
+        Form::Enumeration(_, _) => only(alloc, name),
+        Form::Record(_, _) => only(alloc, name),
+        Form::Exception(_, _) => only(alloc, name),
+        Form::Tuple(_) => only(alloc, name),
+        Form::Array(_, _) => only(alloc, name),
+    }
+}
+
+/// T25 at this place where the structure of a type doesn't fit that of the other.
+fn check_subtype(span: Span, ty: &Ty, other: &Ty) -> Result<(), Refused>
+    ensures { (t : Tests) → Suits t → Agrees result (need (rules.is_none (misfit t (structure ty.now) (structure other.now))) StaticCode.T25 span) }
+{
+    match misfit(structure(ty), structure(other)) {
+        None => Ok(()),
+        Some(_) => fault(StaticCode::T25, span),
+    }
+}
+
+/// The type that is declared under a name: T02 where none is.
+fn declared(name: &Ident, names: &Scope) -> Result<Ty, Refused>
+    ensures { Agrees result (found_or (type_of_name name.now.text names.now) StaticCode.T02 name.now.span) }
+{
+    match names.type_of_name(name.text.as_slice()) {
+        None => fault(StaticCode::T02, name.span),
+        Some(ty) => Ok(ty.copy()?),
+    }
+}
+
+/// The names that a declared type reaches by its `subtypes`, where its structure fits that of the type there.
+pub(crate) fn supertypes(
+    alloc: Global,
+    context: Context,
+    supertype: &Option<Ident>,
+    ty: &Ty,
+) -> Result<Items<Name>, Refused>
+    ensures { (t : Tests) → Suits t → Agrees result (rules.supertype_rule t supertype.now ty.now (scope_of context.entry)) }
+{
+    match supertype {
+        None => Ok(Items::new(alloc)),
+        Some(name) => {
+            let other = Held::new(declared(name, context.names)?);
+            check_subtype(name.span, ty, other.get())?;
+            Ok(reached(alloc, name.text.as_slice(), other.get())?)
+        }
+    }
+}
+
+/// The type of a declared name, which reaches these others, with the structure that it stands for.
+pub(crate) fn named_with(
+    alloc: Global,
+    name: &[u8],
+    supers: Items<Name>,
+    ty: &Ty,
+) -> Result<Ty, AllocError>
+    ensures { IfOk result (λ it. it ≡ named name.now supers (structure ty.now)) }
+{
+    let name = name_of(alloc, name)?;
+    let supers = Shared::new(alloc, supers)?;
+    let inner = structure(ty).copy()?;
+    Ok(Ty::named(name, supers, Shared::new(alloc, inner)?))
+}

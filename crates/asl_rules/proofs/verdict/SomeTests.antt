@@ -1,0 +1,280 @@
+-- Right tests exist: whether two widths are the same, and whether a constraint is below another, is decided.
+use Rattle.std.proofs.Common.{◌≡◌, ◌⊎◌, inl, inr, ℕ, zero, suc, ◌^◌, List, [], ◌∷◌, length, Option, Some, None, refl, ap, sym, ◌∙◌, arith}
+use Rattle.std.specs.Prelude.{◌≤ℤ◌, ◌<ℤ◌, MatchOption, unsigned_abs}
+use Rattle.std.specs.declared.cmp.Ordering.{Ordering}
+use Rattle.std.specs.declared.cmp.Ordering.TheVariants.{Less, Equal, Greater}
+use Rattle.std.proofs.Math.IntN.{ℤ, pos, ◌+ℤ◌, ◌-ℤ◌}
+use Rattle.std.proofs.lemmas.Int.{ints}
+use Rattle.asl_poly.specs.Terms.{Summand, Polynomial, value, order, AllUpTo, Falls, AllBelow, IsTerm, Sorted}
+use Rattle.asl_poly.specs.Limits.{weight, atoms_of, IsMap}
+use Rattle.asl_poly.specs.Operations.{constant_of, varying_part, constant_part}
+use Rattle.asl_poly.specs.Poly.{IsOffset}
+use Rattle.asl_poly.proofs.DistinctValues.{same_term}
+use Rattle.asl_poly.proofs.Maps.{same_map, one_value}
+use Rattle.asl_poly.proofs.Offset.{differ_bodies, bodies_differ}
+use Rattle.asl_cons.specs.declared.End.{End}
+use Rattle.asl_cons.specs.declared.End.TheVariants.{Int, Width}
+use Rattle.asl_cons.specs.declared.Part.{Part}
+use Rattle.asl_cons.specs.Constraint.{IsEnd, AllEnds, HasEnd, IsFixed, Holds, InFixed, IsAbove, Held, IsCovered, AllCovered, Below}
+use Rattle.asl_cons.proofs.Covering.{int_end, not_above_free, free_not_above, differ_not, not_holds, free_not_holds, covered_fixed, covered_free}
+use Rattle.asl_rules.specs.Tests.{Tests, SameWidth, Inside, IsRight}
+use Rattle.asl_rules.proofs.basics.Deciding.{Dec, yes, yes_holds, holds_yes, as_well, both, either, neither, nats, at_most, integers, at_most_z, lists}
+
+-- ---- polynomials
+
+less : (o : Ordering) → Dec (o ≡ Less)
+less Less = inl refl
+less Equal = inr (λ h. cc)
+less Greater = inr (λ h. cc)
+
+up_to : (n : ℕ) (xs : List ℕ) → Dec (AllUpTo n xs)
+up_to n [] = inl tt
+up_to n (x ∷ xs) = both (at_most x n) (up_to n xs)
+
+falls : (xs : List ℕ) → Dec (Falls xs)
+falls [] = inl tt
+falls (x ∷ xs) = both (up_to x xs) (falls xs)
+
+below_all : (ms : List ℕ) (ts : List Summand) → Dec (AllBelow ms ts)
+below_all ms [] = inl tt
+below_all ms (t ∷ ts) = both (less (order t.factors ms)) (below_all ms ts)
+
+term : (t : Summand) → Dec (IsTerm t)
+term t =
+    as_well (λ p. record { counts = p.0; falls = p.1.0; degree = p.1.1 }) (λ h. (h.counts, (h.falls, h.degree)))
+    (both (neither (integers t.coefficient (pos 0))) (both (falls t.factors) (at_most (length t.factors) 4)))
+
+sorted : (ts : List Summand) → Dec (Sorted ts)
+sorted [] = inl tt
+sorted (t ∷ ts) = as_well (λ p. (p.0, p.1.0, p.1.1)) (λ h. (h.0, (h.1, h.2))) (both (term t) (both (below_all t.factors ts) (sorted ts)))
+
+is_map : (ts : List Summand) → Dec (IsMap ts)
+is_map ts =
+    as_well (λ p. record { sorted = p.0; light = p.1.0; few = p.1.1 }) (λ h. (h.sorted, (h.light, h.few)))
+    (both (sorted ts) (both (at_most (weight ts) (2 ^ 62)) (at_most (length (atoms_of ts)) 8)))
+
+same_summand : (s t : Summand) → Dec (s ≡ t)
+same_summand s t = as_well (λ p. same_term s t p.0 p.1) (λ h. (ap (λ u. u.coefficient) h, ap (λ u. u.factors) h)) (both (integers s.coefficient t.coefficient) (lists nats s.factors t.factors))
+
+same_terms : (ss ts : List Summand) → Dec (ss ≡ ts)
+same_terms = lists same_summand
+
+same_width : (p q : Polynomial) → Dec (SameWidth p q)
+same_width p q =
+    as_well (λ m. record { left = m.0; right = m.1.0; same = λ a. ap (value a) m.1.1 }) (λ h. (h.left, (h.right, same_map p.terms q.terms h.left h.right h.same)))
+    (both (is_map p.terms) (both (is_map q.terms) (same_terms p.terms q.terms)))
+
+-- ---- ends
+
+is_end : (e : End) → Dec (IsEnd e)
+is_end (Int z) = inl tt
+is_end (Width p) = is_map p.terms
+
+ends : (ps : List Part) → Dec (AllEnds ps)
+ends [] = inl tt
+ends (p ∷ ps) = both (both (is_end p.low) (is_end p.high)) (ends ps)
+
+abbrev Number : End → Type 0
+Number e = ((c : ℤ) × HasEnd e c) ⊎ ((c : ℤ) → HasEnd e c → ⊥)
+
+found : (p : Polynomial) (r : Option ℤ) → MatchOption r ((c : ℤ) → ((a : ℕ → ℤ) → value a p.terms ≡ c) → ⊥) (λ c. (a : ℕ → ℤ) → value a p.terms ≡ c) → Number (Width p)
+found p None m = inr m
+found p (Some c) m = inl (c, m)
+
+number : (e : End) → IsEnd e → Number e
+number (Int z) h = inl (z, int_end z)
+number (Width p) h = found p (constant_of p.terms) (one_value p.terms (constant_of p.terms) h refl)
+
+abbrev Fixed : Part → Type 0
+Fixed p = ((l : ℤ) × (h : ℤ) × IsFixed p l h) ⊎ ((l h : ℤ) → IsFixed p l h → ⊥)
+
+fixed_by : (p : Part) → Number p.low → Number p.high → Fixed p
+fixed_by p (inl (l, f)) (inl (h, g)) = inl (l, h, record { low = f; high = g })
+fixed_by p (inl x) (inr n) = inr (λ l h f. n h f.high)
+fixed_by p (inr n) y = inr (λ l h f. n l f.low)
+
+fixed : (p : Part) → IsEnd p.low → IsEnd p.high → Fixed p
+fixed p e f = fixed_by p (number p.low e) (number p.high f)
+
+-- ---- one end above another
+
+nowhere : ℕ → ℤ
+nowhere n = pos 0
+
+back : (x y : ℤ) → x ≡ y +ℤ (x -ℤ y)
+back x y = omega (arith, ints)
+
+least_of : (x y : ℤ) → y ≤ℤ x → pos 0 ≤ℤ (x -ℤ y)
+least_of x y h = grind (arith, ints)
+
+least_back : (x y z : ℤ) → x ≡ y +ℤ z → pos 0 ≤ℤ z → y ≤ℤ x
+least_back x y z e h = grind (arith, ints)
+
+both_fixed : (e f : End) (x y : ℤ) → HasEnd e x → HasEnd f y → Dec (IsAbove e f)
+both_fixed e f x y hx hy =
+    as_well (λ l. record { by = x -ℤ y; least = least_of x y l; apart = λ a. hx a ∙ back x y ∙ ap (λ z. z +ℤ (x -ℤ y)) (sym (hy a)) })
+    (λ h. least_back x y h.by (sym (hx nowhere) ∙ h.apart nowhere ∙ ap (λ z. z +ℤ h.by) (hy nowhere)) h.least)
+    (at_most_z y x)
+
+-- a distance is one number
+one_distance : (x c d : ℤ) → x +ℤ c ≡ x +ℤ d → c ≡ d
+one_distance x c d e = omega (arith, ints)
+
+at_distance : (p q : Polynomial) (c : ℤ) → IsOffset p q c → Dec (IsAbove (Width p) (Width q))
+at_distance p q c d =
+    as_well (λ l. record { by = c; least = l; apart = d })
+    (λ h. let e : h.by ≡ c = one_distance (value nowhere q.terms) h.by c (sym (h.apart nowhere) ∙ d nowhere) in let l : pos 0 ≤ℤ h.by = h.least in rw e at l)
+    (at_most_z (pos 0) c)
+
+free_above : (p q : Polynomial) → IsMap p.terms → IsMap q.terms → Dec (varying_part p.terms ≡ varying_part q.terms) → Dec (IsAbove (Width p) (Width q))
+free_above p q m n (inl e) = at_distance p q (constant_part p.terms -ℤ constant_part q.terms) (bodies_differ p.terms q.terms m n e)
+free_above p q m n (inr w) = inr (differ_not (Width p) (Width q) p q refl refl (λ c d. w (differ_bodies p.terms q.terms c m n d)))
+
+none_fixed : (e f : End) → IsEnd e → IsEnd f → ((c : ℤ) → HasEnd e c → ⊥) → ((c : ℤ) → HasEnd f c → ⊥) → Dec (IsAbove e f)
+none_fixed (Int z) f m n v w = absurd (v z (int_end z))
+none_fixed (Width p) (Int z) m n v w = absurd (w z (int_end z))
+none_fixed (Width p) (Width q) m n v w = free_above p q m n (same_terms (varying_part p.terms) (varying_part q.terms))
+
+above_by : (e f : End) → IsEnd e → IsEnd f → Number e → Number f → Dec (IsAbove e f)
+above_by e f m n (inl (x, hx)) (inl (y, hy)) = both_fixed e f x y hx hy
+above_by e f m n (inl (x, hx)) (inr w) = inr (not_above_free e f x hx w)
+above_by e f m n (inr v) (inl (y, hy)) = inr (free_not_above e f y hy v)
+above_by e f m n (inr v) (inr w) = none_fixed e f m n v w
+
+above : (e f : End) → IsEnd e → IsEnd f → Dec (IsAbove e f)
+above e f m n = above_by e f m n (number e m) (number f n)
+
+held : (p : Part) (qs : List Part) → IsEnd p.low → IsEnd p.high → AllEnds qs → Dec (Held p qs)
+held p [] l h m = inr (λ x. x)
+held p (q ∷ qs) l h m = either (both (above p.low q.low l m.0.0) (above q.high p.high m.0.1 h)) (held p qs l h m.1)
+
+-- ---- coverage
+
+holds_by : (q : Part) (i : ℤ) → Fixed q → Dec (Holds q i)
+holds_by q i (inl (l, h, f)) = elim (both (at_most_z l i) (at_most_z i h)) [
+  | inl p ↦ inl (record { l = l; h = h; fixed = f; least = p.0; most = p.1 })
+  | inr n ↦ inr (not_holds q l h i f n)
+]
+holds_by q i (inr n) = inr (free_not_holds q i n)
+
+inside : (i : ℤ) (qs : List Part) → AllEnds qs → Dec (InFixed i qs)
+inside i [] m = inr (λ x. x)
+inside i (q ∷ qs) m = either (holds_by q i (fixed q m.0.0 m.0.1)) (inside i qs m.1)
+
+-- all from l on, n of them
+abbrev AllIn : List Part → ℕ → ℤ → Type 0
+AllIn qs n l = (i : ℤ) → l ≤ℤ i → i <ℤ (l +ℤ pos n) → InFixed i qs
+
+none_there : (l i : ℤ) → l ≤ℤ i → i <ℤ (l +ℤ pos 0) → ⊥
+none_there l i a b = grind (arith, ints)
+
+first_there : (l : ℤ) (n : ℕ) → l <ℤ (l +ℤ pos (suc n))
+first_there l n = grind (arith, ints)
+
+refl_le : (l : ℤ) → l ≤ℤ l
+refl_le l = grind (arith, ints)
+
+next_there : (l i : ℤ) (n : ℕ) → i <ℤ (l +ℤ pos (suc n)) → i <ℤ ((l +ℤ pos 1) +ℤ pos n)
+next_there l i n h = grind (arith, ints)
+
+there_next : (l i : ℤ) (n : ℕ) → i <ℤ ((l +ℤ pos 1) +ℤ pos n) → i <ℤ (l +ℤ pos (suc n))
+there_next l i n h = grind (arith, ints)
+
+one_more : (l i : ℤ) → (l +ℤ pos 1) ≤ℤ i → l ≤ℤ i
+one_more l i h = grind (arith, ints)
+
+first_or_more : (l i : ℤ) → l ≤ℤ i → (l ≡ i → ⊥) → (l +ℤ pos 1) ≤ℤ i
+first_or_more l i h n = grind (arith, ints)
+
+with_first : (qs : List Part) (n : ℕ) (l : ℤ) → InFixed l qs → AllIn qs n (l +ℤ pos 1) → AllIn qs (suc n) l
+with_first qs n l f g i a b = elim (integers l i) [ inl e ↦ rw (← e) f | inr w ↦ g i (first_or_more l i a w) (next_there l i n b) ]
+
+all_in : (qs : List Part) → AllEnds qs → (n : ℕ) (l : ℤ) → Dec (AllIn qs n l)
+all_in qs m zero l = inl (λ i a b. absurd (none_there l i a b))
+all_in qs m (suc n) l =
+    as_well (λ p. with_first qs n l p.0 p.1) (λ h. (h l (refl_le l) (first_there l n), λ i a b. h i (one_more l i a) (there_next l i n b)))
+    (both (inside l qs m) (all_in qs m n (l +ℤ pos 1)))
+
+abbrev Covers : List Part → ℤ → ℤ → Type 0
+Covers qs l h = (i : ℤ) → l ≤ℤ i → i ≤ℤ h → InFixed i qs
+
+count_of : ℤ → ℤ → ℕ
+count_of l h = unsigned_abs ((h -ℤ l) +ℤ pos 1)
+
+counted : (l h i : ℤ) → l ≤ℤ h → i ≤ℤ h → i <ℤ (l +ℤ pos (count_of l h))
+unfolding count_of
+counted l h i a b = grind (arith, ints)
+
+counted_back : (l h i : ℤ) → l ≤ℤ h → i <ℤ (l +ℤ pos (count_of l h)) → i ≤ℤ h
+unfolding count_of
+counted_back l h i a b = grind (arith, ints)
+
+through : (l i h : ℤ) → l ≤ℤ i → i ≤ℤ h → l ≤ℤ h
+through l i h a b = grind (arith, ints)
+
+empty : (l h i : ℤ) → (l ≤ℤ h → ⊥) → l ≤ℤ i → i ≤ℤ h → ⊥
+empty l h i n a b = n (through l i h a b)
+
+covers_by : (qs : List Part) → AllEnds qs → (l h : ℤ) → Dec (l ≤ℤ h) → Dec (Covers qs l h)
+covers_by qs m l h (inl a) =
+    as_well (λ k i b c. k i b (counted l h i a c)) (λ k i b c. k i b (counted_back l h i a c)) (all_in qs m (count_of l h) l)
+covers_by qs m l h (inr n) = inl (λ i b c. absurd (empty l h i n b c))
+
+covered_by : (p : Part) (qs : List Part) → IsEnd p.low → IsEnd p.high → AllEnds qs → Fixed p → Dec (IsCovered qs p)
+covered_by p qs e f m (inl (l, h, g)) = as_well ((covered_fixed p qs l h g).0) ((covered_fixed p qs l h g).1) (covers_by qs m l h (at_most_z l h))
+covered_by p qs e f m (inr n) = as_well ((covered_free p qs n).0) ((covered_free p qs n).1) (held p qs e f m)
+
+all_covered : (ps qs : List Part) → AllEnds ps → AllEnds qs → Dec (AllCovered ps qs)
+all_covered [] qs k m = inl tt
+all_covered (p ∷ ps) qs k m = both (covered_by p qs k.0.0 k.0.1 m (fixed p k.0.0 k.0.1)) (all_covered ps qs k.1 m)
+
+nil_cons : (q : Part) (qs : List Part) → q ∷ qs ≡ [] → ⊥
+nil_cons q qs h = cc
+
+nothing_below : (q : Part) (qs : List Part) → Below [] (q ∷ qs) → ⊥
+nothing_below q qs (inl e) = nil_cons q qs e
+nothing_below q qs (inr k) = k.0 refl
+
+covered_below : (p : Part) (ps : List Part) (q : Part) (qs : List Part) → Below (p ∷ ps) (q ∷ qs) → AllCovered (p ∷ ps) (q ∷ qs)
+covered_below p ps q qs (inl e) = absurd (nil_cons q qs e)
+covered_below p ps q qs (inr k) = k.1
+
+below : (ps qs : List Part) → AllEnds ps → AllEnds qs → Dec (Below ps qs)
+below ps [] k m = inl (inl refl)
+below [] (q ∷ qs) k m = inr (nothing_below q qs)
+below (p ∷ ps) (q ∷ qs) k m = as_well (λ c. inr (nil_cons p ps, c)) (covered_below p ps q qs) (all_covered (p ∷ ps) (q ∷ qs) k m)
+
+inside_by : (ps qs : List Part) → Dec (AllEnds ps) → Dec (AllEnds qs) → Dec (Inside ps qs)
+inside_by ps qs (inl k) (inl m) = as_well (λ b. record { left = k; right = m; below = b }) (λ h. h.below) (below ps qs k m)
+inside_by ps qs (inl k) (inr n) = inr (λ h. n h.right)
+inside_by ps qs (inr n) e = inr (λ h. n h.left)
+
+is_inside : (ps qs : List Part) → Dec (Inside ps qs)
+is_inside ps qs = inside_by ps qs (ends ps) (ends qs)
+
+-- ---- tests
+
+tests : ℕ → Tests
+tests limit = record { limit = limit; same = λ p q. yes (same_width p q); below = λ ps qs. yes (is_inside ps qs) }
+
+right : (limit : ℕ) → IsRight (tests limit)
+unfolding tests
+right limit = record {
+  same_yes = λ p q h. yes_holds (same_width p q) h;
+  same_all = λ p q h. holds_yes (same_width p q) h;
+  below_yes = λ ps qs h. yes_holds (is_inside ps qs) h;
+  below_all = λ ps qs h. holds_yes (is_inside ps qs) h;
+}
+
+within : (limit : ℕ) → (tests limit).limit ≡ limit
+unfolding tests
+within limit = refl
+
+-- right tests with a width limit
+pub record SomeTests (limit : ℕ) : Type 0 where
+  pub tests : Tests
+  pub right : IsRight tests
+  pub within : tests.limit ≡ limit
+
+pub some_tests : (limit : ℕ) → SomeTests limit
+some_tests limit = record { tests = tests limit; right = right limit; within = within limit }

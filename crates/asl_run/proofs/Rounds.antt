@@ -1,0 +1,49 @@
+-- The turns of loops, one by one.
+use Rattle.std.proofs.Common.{◌≡◌, ℕ, zero, suc, ◌-◌, ◌<◌, ◌≤◌, List, refl, ap, arith}
+use Rattle.std.specs.Prelude.{ℤ}
+use Rattle.asl_syn.specs.declared.token.Span.{Span}
+use Rattle.asl_syn.specs.declared.code.DynCode.TheVariants.{D10}
+use Rattle.asl_syn.specs.declared.tree.Direction.{Direction}
+use Rattle.asl_rules.specs.Plans.{Faulted, Stop, Ret, choose, follow}
+use Rattle.asl_rules.specs.StatementForms.{go_on, asked, done_normal, scope, scope_with, is_past, next_index, index_turn, while_turn, repeat_turn}
+use Rattle.asl_rules.specs.Trees.{Tree, Act}
+use Rattle.asl_rules.specs.TypedMeaning.{BareCore, in_bare, indexed}
+use Rattle.asl_rules.specs.Values.{Normal, int}
+
+pub while_more : (span : Span) (e : Tree) (ss : List Act) (n : ℕ) (c : BareCore) → 0 < n →
+    while_turn in_bare span e ss n c ≡ follow (scope in_bare ss c) (λ x c1. go_on x c1 (λ c2. asked span e c2 (while_turn in_bare span e ss (n - 1)) done_normal))
+while_more span e ss zero c h = absurd (omega (arith, h))
+while_more span e ss (suc n) c h = ap (λ k. follow (scope in_bare ss c) (λ x c1. go_on x c1 (λ c2. asked span e c2 (while_turn in_bare span e ss k) done_normal))) one
+  where
+    one : n ≡ suc n - 1
+    one = omega arith
+
+pub while_none : (span : Span) (e : Tree) (ss : List Act) (n : ℕ) (c : BareCore) → n ≡ 0 → while_turn in_bare span e ss n c ≡ Stop (Faulted D10 span) c
+while_none span e ss zero c h = refl
+while_none span e ss (suc n) c h = absurd (omega (arith, h))
+
+pub repeat_more : (span : Span) (e : Tree) (ss : List Act) (n : ℕ) (c : BareCore) → 0 < n →
+    repeat_turn in_bare span e ss n c ≡ follow (scope in_bare ss c) (λ x c1. go_on x c1 (λ c2. asked span e c2 done_normal (repeat_turn in_bare span e ss (n - 1))))
+repeat_more span e ss zero c h = absurd (omega (arith, h))
+repeat_more span e ss (suc n) c h = ap (λ k. follow (scope in_bare ss c) (λ x c1. go_on x c1 (λ c2. asked span e c2 done_normal (repeat_turn in_bare span e ss k)))) one
+  where
+    one : n ≡ suc n - 1
+    one = omega arith
+
+pub repeat_none : (span : Span) (e : Tree) (ss : List Act) (n : ℕ) (c : BareCore) → n ≤ 0 → repeat_turn in_bare span e ss n c ≡ Stop (Faulted D10 span) c
+repeat_none span e ss zero c h = refl
+repeat_none span e ss (suc n) c h = absurd (omega (arith, h))
+
+pub index_more : (span : Span) (d : Direction) (last : ℤ) (ss : List Act) (n : ℕ) (i : ℤ) (c : BareCore) → 0 < n →
+    index_turn {E = Tree} in_bare indexed span d last ss n i c ≡ follow (scope_with in_bare (indexed (int i)) ss c) (λ x c1. go_on x c1 (λ c2.
+    choose (is_past d last (next_index d i)) (Ret Normal c2) (index_turn in_bare indexed span d last ss (n - 1) (next_index d i) c2)))
+index_more span d last ss zero i c h = absurd (omega (arith, h))
+index_more span d last ss (suc n) i c h = ap (λ k. follow (scope_with in_bare (indexed (int i)) ss c) (λ x c1. go_on x c1 (λ c2.
+    choose (is_past d last (next_index d i)) (Ret Normal c2) (index_turn in_bare indexed span d last ss k (next_index d i) c2)))) one
+  where
+    one : n ≡ suc n - 1
+    one = omega arith
+
+pub index_none : (span : Span) (d : Direction) (last : ℤ) (ss : List Act) (n : ℕ) (i : ℤ) (c : BareCore) → n ≤ 0 → index_turn {E = Tree} in_bare indexed span d last ss n i c ≡ Stop (Faulted D10 span) c
+index_none span d last ss zero i c h = refl
+index_none span d last ss (suc n) i c h = absurd (omega (arith, h))

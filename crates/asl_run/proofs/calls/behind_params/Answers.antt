@@ -1,0 +1,31 @@
+use Rattle.std.proofs.lemmas.Result.{err_from_is_err_and}
+use Rattle.std.proofs.Common.{map, sym}
+use Rattle.asl_rules.specs.Plans.{Ret}
+use Rattle.asl_rules.specs.TypedMeaning.{list_of}
+use Rattle.asl_tree.specs.View.{all_trees}
+use Rattle.asl_value.specs.View.{value_of}
+use Rattle.asl_run.specs.Calling.{given_of}
+use Rattle.asl_run.specs.View.{core_of, meter_of}
+use Rattle.asl_run.proofs.Turns.{all_evaluated, goes_failed, goes_on}
+use Rattle.asl_run.proofs.calls.behind_params.Goals as goal
+
+pub returns-in_err-args-clause-meets : goal.returns-in_err-args-clause-meets
+returns-in_err-args-clause-meets g c =
+    let fs = c.args.here.now.setting.funcs.now in
+    let d = c.args.here.now.setting.depth in
+    let c0 = core_of c.args.run.now in
+    let h0 = meter_of c.args.run.now (g.K.Sink.written c.args.sink.now) in
+    let c1 = core_of c.eval_all.new.run in
+    let h1 = meter_of c.eval_all.new.run (g.K.Sink.written c.eval_all.new.sink) in
+    let p = err_from_is_err_and c.from_residual.result c.from_residual.ensures.1 in
+    rw (p.1, p.2) (goes_failed (map value_of) given_of fs d _ _ _ (all_evaluated fs d (list_of (all_trees c.args.args.now)) c0 (λ xs c1. Ret (record { params = map value_of c.args.params; args = xs }) c1)) h0 c.in_err-args.field-0.0 c1 h1 c.in_err-args.ensures.meets)
+
+pub returns-clause-meets : goal.returns-clause-meets
+returns-clause-meets g c =
+    let fs = c.args.here.now.setting.funcs.now in
+    let d = c.args.here.now.setting.depth in
+    let c0 = core_of c.args.run.now in
+    let h0 = meter_of c.args.run.now (g.K.Sink.written c.args.sink.now) in
+    let c1 = core_of c.eval_all.new.run in
+    let h1 = meter_of c.eval_all.new.run (g.K.Sink.written c.eval_all.new.sink) in
+    sym (goes_on fs d _ _ _ (all_evaluated fs d (list_of (all_trees c.args.args.now)) c0 (λ xs c1. Ret (record { params = map value_of c.args.params; args = xs }) c1)) h0 (map value_of c.in_ok-args.args) c1 h1 c.in_ok-args.ensures.meets).same

@@ -1,0 +1,19 @@
+use Rattle.std.proofs.Common.{◌≡◌, drop, map}
+use Rattle.asl_rules.specs.Forms.{eval_all}
+use Rattle.asl_rules.specs.Plans.{Ret}
+use Rattle.asl_rules.specs.TypedMeaning.{list_of}
+use Rattle.asl_tree.specs.View.{all_trees}
+use Rattle.asl_value.specs.View.{value_of}
+use Rattle.asl_run.specs.Meets.{Left, SameRound}
+use Rattle.asl_run.specs.Operations.{evaluated}
+use Rattle.asl_run.specs.View.{core_of, meter_of}
+use Rattle.asl_run.proofs.exprs.eval_all.Given as goal
+
+abbrev pub invariant-loop-e : goal.invariant-loop-e
+invariant-loop-e g l = record {
+  left : Left l.here.setting.funcs.now l.here.setting.depth (eval_all (list_of (all_trees (drop l.e-index l.es))) (map value_of l.xs) (core_of l.run) (λ xs c1. Ret xs c1)) (meter_of l.run (g.K.Sink.written l.sink))
+      (evaluated l.es (core_of l.fn.run)) (meter_of l.fn.run (g.K.Sink.written l.fn.sink));
+  count : g.K.Sink.faults l.sink ≡ g.K.Sink.faults l.fn.sink;
+  full : g.K.Sink.full l.sink ≡ g.K.Sink.full l.fn.sink;
+  round : SameRound l.fn.run l.run;
+}

@@ -1,0 +1,17 @@
+use Rattle.std.proofs.Common.{◌≡◌, ◌-◌, drop, length, map}
+use Rattle.asl_syn.specs.declared.token.Span.{Span}
+use Rattle.asl_value.specs.View.{value_of}
+use Rattle.asl_run.specs.Finishes.{parts_pushed}
+use Rattle.asl_run.specs.Meets.{SameBut}
+use Rattle.asl_run.specs.View.{core_of}
+use Rattle.asl_run.proofs.finishes.push_named.Given as goal
+
+-- what is taken of the parts that are left is still to be pushed
+abbrev pub invariant-loop-i : goal.invariant-loop-i
+invariant-loop-i l = record {
+  pushed : (span : Span) → parts_pushed span (drop l.i l.named) (map value_of (drop l.i l.parts)) (core_of l.run) ≡ parts_pushed span l.named (map value_of l.parts) (core_of l.fn.run);
+  round : SameBut l.fn.run l.run;
+}
+
+abbrev pub decreases-loop-i : goal.decreases-loop-i
+decreases-loop-i l = length l.parts - l.i

@@ -1,0 +1,37 @@
+use Rattle.std.proofs.Common.{◌≡◌, rules, arith, subst, sym, ap, ◌∙◌, ◌<◌}
+use Rattle.std.proofs.lemmas.Result.{err_from_is_err_and}
+use Rattle.asl_rules.specs.Plans.{Done, Good, run}
+use Rattle.asl_rules.specs.StatementForms as forms
+use Rattle.asl_rules.specs.TypedMeaning.{acts_of, in_bare}
+use Rattle.asl_tree.specs.Acts.{all_acts}
+use Rattle.asl_tree.specs.View.{tree_of}
+use Rattle.asl_value.specs.View.{value_of}
+use Rattle.asl_run.specs.View.{core_of, exit_of, meter_of, meaning_of}
+use Rattle.asl_run.proofs.Turning.{while_left, while_list_failed, while_turned}
+use Rattle.asl_run.proofs.loops.while_turns.Goals as goal
+
+pub returns-in_err-exec_scope-clause-meets : goal.returns-in_err-exec_scope-clause-meets
+returns-in_err-exec_scope-clause-meets g c =
+    let p = err_from_is_err_and c.from_residual-in_err-exec_scope.result c.from_residual-in_err-exec_scope.ensures.1 in
+    let here : c.get.result.now ≡ c.in_ok-eval.field-0 = search rules in
+    let has : 0 < c.loop-x.left = omega arith in
+    rw (p.1, p.2) (while_list_failed c.args.here.now.setting.funcs.now c.args.here.now.setting.depth c.args.it.span (tree_of c.args.condition.now) (acts_of (all_acts c.args.body.now)) c.loop-x.left (core_of c.loop-x.run) (meter_of c.loop-x.run (g.K.Sink.written c.loop-x.sink)) (value_of c.get.result.now) (core_of c.eval.new.run) (meter_of c.eval.new.run (g.K.Sink.written c.eval.new.sink)) c.in_err-exec_scope.field-0.0 (core_of c.exec_scope.new.run) (meter_of c.exec_scope.new.run (g.K.Sink.written c.exec_scope.new.sink))
+    (while_left c.args.it.span (tree_of c.args.condition.now) (acts_of (all_acts c.args.body.now)) c.args.it.count (core_of c.args.run.now)) (meter_of c.args.run.now (g.K.Sink.written c.args.sink.now)) has
+    (subst (λ v. (meaning_of c.args.here.now.setting.funcs.now c.args.here.now.setting.depth).expr (tree_of c.args.condition.now) (core_of c.loop-x.run) (meter_of c.loop-x.run (g.K.Sink.written c.loop-x.sink)) ≡ Done (value_of v) (core_of c.eval.new.run) (meter_of c.eval.new.run (g.K.Sink.written c.eval.new.sink))) (sym here) c.in_ok-eval.ensures.meets)
+    (c.in_ok-truth.ensures ∙ ap Good c.if-not-branch.false) c.in_err-exec_scope.ensures.meets c.loop-x.invariant.left)
+
+pub loop-x-preserved : goal.loop-x-preserved
+loop-x-preserved g c =
+    let here : c.get.result.now ≡ c.in_ok-eval.field-0 = search rules in
+    let has : 0 < c.loop-x.left = omega arith in
+    record {
+      left = while_turned c.args.here.now.setting.funcs.now c.args.here.now.setting.depth c.args.it.span (tree_of c.args.condition.now) (acts_of (all_acts c.args.body.now)) c.loop-x.left (core_of c.loop-x.run) (meter_of c.loop-x.run (g.K.Sink.written c.loop-x.sink)) (value_of c.get.result.now) (core_of c.eval.new.run) (meter_of c.eval.new.run (g.K.Sink.written c.eval.new.sink)) (core_of c.exec_scope.new.run) (meter_of c.exec_scope.new.run (g.K.Sink.written c.exec_scope.new.sink))
+          (while_left c.args.it.span (tree_of c.args.condition.now) (acts_of (all_acts c.args.body.now)) c.args.it.count (core_of c.args.run.now)) (meter_of c.args.run.now (g.K.Sink.written c.args.sink.now)) has
+          (subst (λ v. (meaning_of c.args.here.now.setting.funcs.now c.args.here.now.setting.depth).expr (tree_of c.args.condition.now) (core_of c.loop-x.run) (meter_of c.loop-x.run (g.K.Sink.written c.loop-x.sink)) ≡ Done (value_of v) (core_of c.eval.new.run) (meter_of c.eval.new.run (g.K.Sink.written c.eval.new.sink))) (sym here) c.in_ok-eval.ensures.meets)
+          (c.in_ok-truth.ensures ∙ ap Good c.if-not-branch.false)
+          (subst (λ x. run (meaning_of c.args.here.now.setting.funcs.now c.args.here.now.setting.depth) (forms.scope in_bare (acts_of (all_acts c.args.body.now)) (core_of c.eval.new.run)) (meter_of c.eval.new.run (g.K.Sink.written c.eval.new.sink)) ≡ Done (exit_of x) (core_of c.exec_scope.new.run) (meter_of c.exec_scope.new.run (g.K.Sink.written c.exec_scope.new.sink))) c.in-Normal.is c.in_ok-exec_scope.ensures.meets)
+          c.loop-x.invariant.left;
+      count = search rules;
+      full = search rules;
+      round = search rules;
+    }

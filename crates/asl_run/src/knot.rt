@@ -1,0 +1,109 @@
+//! The entry into a node: it takes a step, and is refused where none is left (D13) or where no node more may be open (D12).
+ghost use Rattle.std.specs.Prelude.{◌≡◌};
+ghost use Rattle.asl_rules.specs.StatementForms as forms;
+ghost use Rattle.asl_rules.specs.TypedMeaning.{acts_of};
+ghost use Rattle.asl_tree.specs.Acts.{all_acts};
+ghost use Rattle.asl_run.specs.Meets.{Counts, Evaluates, Executes, Keeps, Runs};
+ghost use Rattle.asl_run.specs.View.{exit_of};
+
+use crate::exprs::eval_node;
+use crate::run::Run;
+use crate::setting::{Nodes, Setting};
+use crate::stmts::{act_span, exec_node};
+use crate::stop::{Exit, Stop};
+use asl_io::Sink;
+use asl_syn::code::DynCode;
+use asl_tree::act::Act;
+use asl_tree::tree::Tree;
+use asl_value::Value;
+use sqlite_items::Items;
+
+/// The value of an expression.
+#[cycle(run)]
+#[tactic(auto, using(crate::proofs::Entries::expr_stepless, crate::proofs::Entries::expr_deep, crate::proofs::Entries::expr_entered))]
+pub fn eval<K: Sink>(here: Setting, run: &mut Run, sink: &mut K, e: &Tree) -> Result<Value, Stop>
+    ensures meets { Evaluates result here.entry.funcs.now here.entry.depth e.now
+        run.old (K.written sink.old) run.new (K.written sink.new) }
+    ensures counts { Counts result (K.faults sink.old) (K.faults sink.new) }
+    ensures same_full { K.full sink.new ≡ K.full sink.old }
+    ensures keeps { Keeps result run.old run.new }
+{
+    if run.steps == 0 {
+        return Err(Stop::Fault(DynCode::D13, e.span()));
+    }
+    if here.depth == 0 {
+        return Err(Stop::Fault(DynCode::D12, e.span()));
+    }
+    run.steps -= 1;
+    eval_node(
+        &Nodes {
+            setting: Setting {
+                alloc: here.alloc,
+                funcs: here.funcs,
+                depth: here.depth - 1,
+            },
+            eval: eval::<K>,
+            exec: exec_all::<K>,
+        },
+        run,
+        sink,
+        e,
+    )
+}
+
+/// Executes a statement.
+#[cycle(run)]
+#[tactic(auto, using(crate::proofs::Entries::stmt_stepless, crate::proofs::Entries::stmt_deep, crate::proofs::Entries::stmt_entered))]
+pub fn exec<K: Sink>(here: Setting, run: &mut Run, sink: &mut K, s: &Act) -> Result<Exit, Stop>
+    ensures meets { Executes result here.entry.funcs.now here.entry.depth s.now
+        run.old (K.written sink.old) run.new (K.written sink.new) }
+    ensures counts { Counts result (K.faults sink.old) (K.faults sink.new) }
+    ensures same_full { K.full sink.new ≡ K.full sink.old }
+    ensures keeps { Keeps result run.old run.new }
+{
+    if run.steps == 0 {
+        return Err(Stop::Fault(DynCode::D13, act_span(s)));
+    }
+    if here.depth == 0 {
+        return Err(Stop::Fault(DynCode::D12, act_span(s)));
+    }
+    run.steps -= 1;
+    exec_node(
+        &Nodes {
+            setting: Setting {
+                alloc: here.alloc,
+                funcs: here.funcs,
+                depth: here.depth - 1,
+            },
+            eval: eval::<K>,
+            exec: exec_all::<K>,
+        },
+        run,
+        sink,
+        s,
+    )
+}
+
+/// Executes statements in order, up to one that returns.
+#[cycle(run)]
+pub fn exec_all<K: Sink>(
+    here: Setting,
+    run: &mut Run,
+    sink: &mut K,
+    list: &Items<Act>,
+) -> Result<Exit, Stop>
+    ensures meets { Runs exit_of result here.entry.funcs.now here.entry.depth
+        (forms.in_order (acts_of (all_acts list.now)))
+        run.old (K.written sink.old) run.new (K.written sink.new) }
+    ensures counts { Counts result (K.faults sink.old) (K.faults sink.new) }
+    ensures same_full { K.full sink.new ≡ K.full sink.old }
+    ensures keeps { Keeps result run.old run.new }
+{
+    for s in list.as_slice() {
+        match exec(here, run, sink, s)? {
+            Exit::Normal => {}
+            Exit::Returned(x) => return Ok(Exit::Returned(x)),
+        }
+    }
+    Ok(Exit::Normal)
+}

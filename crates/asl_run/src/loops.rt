@@ -1,0 +1,428 @@
+//! Loops.
+ghost use Rattle.std.specs.Prelude.{◌≡◌, true, false, IfNone, IfSome, OnSome};
+ghost use Rattle.asl_rules.specs.Limits.{most_turns};
+ghost use Rattle.asl_rules.specs.Operators.{less};
+ghost use Rattle.asl_rules.specs.Plans.{lift};
+ghost use Rattle.asl_rules.specs.StatementForms as forms;
+ghost use Rattle.asl_rules.specs.TypedMeaning.{acts_of, in_bare, indexed};
+ghost use Rattle.asl_rules.specs.Values.{int};
+ghost use Rattle.asl_tree.specs.Acts.{all_acts, maybe_tree};
+ghost use Rattle.asl_tree.specs.View.{tree_of};
+ghost use Rattle.asl_value.specs.View.{value_of};
+ghost use Rattle.asl_run.specs.Below.{Evals, Execs};
+ghost use Rattle.asl_run.specs.Meets.{Counts, Is, Keeps, Runs};
+ghost use Rattle.asl_run.specs.View.{exit_of};
+
+use crate::below::eval;
+use crate::run::Run;
+use crate::setting::{Nodes, Setting};
+use crate::stmts::{exec_scope, exec_scope_with};
+use crate::stop::{Exit, Mistake, Stop};
+use asl_io::Sink;
+use asl_shared::Held;
+use asl_syn::code::DynCode;
+use asl_syn::token::Span;
+use asl_syn::tree::Direction;
+use asl_tree::act::{Act, Bounds, Guard};
+use asl_tree::tree::Tree;
+use asl_value::{Value, truth};
+use sqlite_items::Items;
+
+// ---- what a loop has
+
+/// The values of the bounds of an index, and how many turns the limit lets through.
+#[derive(Clone, Copy)]
+pub struct Between<'r> {
+    pub span: Span,
+    pub first: &'r Value,
+    pub direction: Direction,
+    pub last: &'r Value,
+    pub count: u128,
+}
+
+/// The turns from an index to the last one, and how many the limit lets through.
+#[derive(Clone, Copy)]
+pub struct Turns {
+    pub span: Span,
+    pub first: i128,
+    pub direction: Direction,
+    pub last: i128,
+    pub count: u128,
+}
+
+/// Where a loop stands, and how many turns its limit lets through.
+#[derive(Clone, Copy)]
+pub struct Limited {
+    pub span: Span,
+    pub count: u128,
+}
+
+// ---- limits
+
+/// The turns that a loop has where no other number is written.
+#[tactic(auto, unfolding(asl_rules::specs::Limits::most_turns))]
+fn usual_turns() -> u128
+    ensures { result ≡ most_turns }
+{
+    1048576
+}
+
+/// How many turns a limit lets through.
+fn turns_in(z: i128) -> u128
+    ensures { result ≡ forms.turns_in z }
+{
+    if z < 0 { 0 } else { z as u128 }
+}
+
+/// An integer.
+fn whole_number(span: Span, x: &Value) -> Result<i128, Stop>
+    ensures { Is (λ z. z) result (forms.whole_number span (value_of x.now)) }
+{
+    match x {
+        Value::Int(z) => Ok(*z),
+        _ => Err(Stop::Stuck(Mistake::WrongKind, span)),
+    }
+}
+
+// ---- `for`
+
+/// The bounds and then the limit, once.
+pub fn exec_for<
+    K: Sink,
+    E: Fn(Setting, &mut Run, &mut K, &Tree) -> Result<Value, Stop>,
+    X: Fn(Setting, &mut Run, &mut K, &Items<Act>) -> Result<Exit, Stop>,
+>(
+    here: &Nodes<E, X>,
+    run: &mut Run,
+    sink: &mut K,
+    span: Span,
+    it: &Bounds,
+    body: &Items<Act>,
+) -> Result<Exit, Stop>
+    requires evals { Evals K.written K.faults K.full here.now.setting.funcs.now here.now.setting.depth (E.pre here.now.eval here.now.setting) (E.post here.now.eval here.now.setting) }
+    requires execs { Execs K.written K.faults K.full here.now.setting.funcs.now here.now.setting.depth (X.pre here.now.exec here.now.setting) (X.post here.now.exec here.now.setting) }
+    ensures meets { Runs exit_of result here.now.setting.funcs.now here.now.setting.depth
+        (forms.for_loop in_bare indexed span (tree_of it.now.from) it.now.direction (tree_of it.now.to) (maybe_tree it.now.limit) (acts_of (all_acts body.now)))
+        run.old (K.written sink.old) run.new (K.written sink.new) }
+    ensures counts { Counts result (K.faults sink.old) (K.faults sink.new) }
+    ensures same_full { K.full sink.new ≡ K.full sink.old }
+    ensures keeps { Keeps result run.old run.new }
+{
+    let x = Held::new(eval(here, run, sink, &it.from)?);
+    let y = Held::new(eval(here, run, sink, &it.to)?);
+    match &it.limit {
+        None => for_bounds(
+            here,
+            run,
+            sink,
+            Between {
+                span,
+                first: x.get(),
+                direction: it.direction,
+                last: y.get(),
+                count: usual_turns(),
+            },
+            body,
+        ),
+        Some(e) => {
+            let z = Held::new(eval(here, run, sink, e)?);
+            let count = turns_in(whole_number(span, z.get())?);
+            for_bounds(
+                here,
+                run,
+                sink,
+                Between {
+                    span,
+                    first: x.get(),
+                    direction: it.direction,
+                    last: y.get(),
+                    count,
+                },
+                body,
+            )
+        }
+    }
+}
+
+/// The bounds as integers.
+fn for_bounds<K: Sink, E, X: Fn(Setting, &mut Run, &mut K, &Items<Act>) -> Result<Exit, Stop>>(
+    here: &Nodes<E, X>,
+    run: &mut Run,
+    sink: &mut K,
+    it: Between,
+    body: &Items<Act>,
+) -> Result<Exit, Stop>
+    requires execs { Execs K.written K.faults K.full here.now.setting.funcs.now here.now.setting.depth (X.pre here.now.exec here.now.setting) (X.post here.now.exec here.now.setting) }
+    ensures meets { Runs exit_of result here.now.setting.funcs.now here.now.setting.depth
+        (λ c. lift (forms.whole_number it.entry.span (value_of it.entry.first.now)) c
+        (λ first. lift (forms.whole_number it.entry.span (value_of it.entry.last.now)) c
+        (λ last. forms.index_turns in_bare indexed it.entry.span it.entry.direction last (acts_of (all_acts body.now)) it.entry.count first c)))
+        run.old (K.written sink.old) run.new (K.written sink.new) }
+    ensures counts { Counts result (K.faults sink.old) (K.faults sink.new) }
+    ensures same_full { K.full sink.new ≡ K.full sink.old }
+    ensures keeps { Keeps result run.old run.new }
+{
+    let first = whole_number(it.span, it.first)?;
+    let last = whole_number(it.span, it.last)?;
+    if is_past(it.direction, last, first) {
+        return Ok(Exit::Normal);
+    }
+    let turns = Turns {
+        span: it.span,
+        first,
+        direction: it.direction,
+        last,
+        count: it.count,
+    };
+    for_turns(here, run, sink, turns, body)
+}
+
+/// Whether the index is past its last value.
+fn is_past(direction: Direction, last: i128, i: i128) -> bool
+    ensures { result ≡ forms.is_past direction last i }
+{
+    match direction {
+        Direction::Up => is_less(last, i),
+        Direction::Down => is_less(i, last),
+    }
+}
+
+/// The next index, none where it would be past the last.
+#[tactic(auto, using(crate::proofs::Indices::next_up, crate::proofs::Indices::next_down, crate::proofs::Indices::no_next, crate::proofs::Indices::no_former))]
+fn next_index(direction: Direction, last: i128, i: i128) -> Option<i128>
+    requires { forms.is_past direction last i ≡ false }
+    ensures some { OnSome result (forms.is_past direction last (forms.next_index direction i) ≡ false) }
+    ensures next { IfSome result (λ j. j ≡ forms.next_index direction i) }
+    ensures none { IfNone result (forms.is_past direction last (forms.next_index direction i) ≡ true) }
+{
+    if i == last {
+        return None;
+    }
+    match direction {
+        Direction::Up => Some(i + 1),
+        Direction::Down => Some(i - 1),
+    }
+}
+
+/// Turns with an index, as many as the limit lets through (D10). The first index isn't past the last.
+#[tactic(auto, using(crate::proofs::Rounds::index_more, crate::proofs::Rounds::index_none))]
+fn for_turns<K: Sink, E, X: Fn(Setting, &mut Run, &mut K, &Items<Act>) -> Result<Exit, Stop>>(
+    here: &Nodes<E, X>,
+    run: &mut Run,
+    sink: &mut K,
+    it: Turns,
+    body: &Items<Act>,
+) -> Result<Exit, Stop>
+    requires execs { Execs K.written K.faults K.full here.now.setting.funcs.now here.now.setting.depth (X.pre here.now.exec here.now.setting) (X.post here.now.exec here.now.setting) }
+    requires within { forms.is_past it.direction it.last it.first ≡ false }
+    ensures meets { Runs exit_of result here.now.setting.funcs.now here.now.setting.depth
+        (forms.index_turn in_bare indexed it.span it.direction it.last (acts_of (all_acts body.now)) it.count it.first)
+        run.old (K.written sink.old) run.new (K.written sink.new) }
+    ensures counts { Counts result (K.faults sink.old) (K.faults sink.new) }
+    ensures same_full { K.full sink.new ≡ K.full sink.old }
+    ensures keeps { Keeps result run.old run.new }
+{
+    let mut i = it.first;
+    let mut left = it.count;
+    while left > 0 {
+        match exec_turn(here, run, sink, i, body)? {
+            Exit::Normal => {}
+            Exit::Returned(x) => return Ok(Exit::Returned(x)),
+        }
+        match next_index(it.direction, it.last, i) {
+            None => return Ok(Exit::Normal),
+            Some(j) => i = j,
+        }
+        left -= 1;
+    }
+    Err(Stop::Fault(DynCode::D10, it.span))
+}
+
+/// A turn with its index.
+fn exec_turn<K: Sink, E, X: Fn(Setting, &mut Run, &mut K, &Items<Act>) -> Result<Exit, Stop>>(
+    here: &Nodes<E, X>,
+    run: &mut Run,
+    sink: &mut K,
+    i: i128,
+    body: &Items<Act>,
+) -> Result<Exit, Stop>
+    requires execs { Execs K.written K.faults K.full here.now.setting.funcs.now here.now.setting.depth (X.pre here.now.exec here.now.setting) (X.post here.now.exec here.now.setting) }
+    ensures meets { Runs exit_of result here.now.setting.funcs.now here.now.setting.depth
+        (forms.scope_with in_bare (indexed (int i)) (acts_of (all_acts body.now)))
+        run.old (K.written sink.old) run.new (K.written sink.new) }
+    ensures counts { Counts result (K.faults sink.old) (K.faults sink.new) }
+    ensures same_full { K.full sink.new ≡ K.full sink.old }
+    ensures keeps { Keeps result run.old run.new }
+{
+    exec_scope_with(here, run, sink, Value::Int(i), body)
+}
+
+// ---- `while`
+
+pub fn exec_while<
+    K: Sink,
+    E: Fn(Setting, &mut Run, &mut K, &Tree) -> Result<Value, Stop>,
+    X: Fn(Setting, &mut Run, &mut K, &Items<Act>) -> Result<Exit, Stop>,
+>(
+    here: &Nodes<E, X>,
+    run: &mut Run,
+    sink: &mut K,
+    span: Span,
+    it: &Guard,
+    body: &Items<Act>,
+) -> Result<Exit, Stop>
+    requires evals { Evals K.written K.faults K.full here.now.setting.funcs.now here.now.setting.depth (E.pre here.now.eval here.now.setting) (E.post here.now.eval here.now.setting) }
+    requires execs { Execs K.written K.faults K.full here.now.setting.funcs.now here.now.setting.depth (X.pre here.now.exec here.now.setting) (X.post here.now.exec here.now.setting) }
+    ensures meets { Runs exit_of result here.now.setting.funcs.now here.now.setting.depth
+        (forms.while_loop in_bare span (tree_of it.now.condition) (maybe_tree it.now.limit) (acts_of (all_acts body.now)))
+        run.old (K.written sink.old) run.new (K.written sink.new) }
+    ensures counts { Counts result (K.faults sink.old) (K.faults sink.new) }
+    ensures same_full { K.full sink.new ≡ K.full sink.old }
+    ensures keeps { Keeps result run.old run.new }
+{
+    match &it.limit {
+        None => {
+            let limited = Limited {
+                span,
+                count: usual_turns(),
+            };
+            while_turns(here, run, sink, limited, &it.condition, body)
+        }
+        Some(e) => {
+            let z = Held::new(eval(here, run, sink, e)?);
+            let limited = Limited {
+                span,
+                count: turns_in(whole_number(span, z.get())?),
+            };
+            while_turns(here, run, sink, limited, &it.condition, body)
+        }
+    }
+}
+
+/// Turns as long as the condition holds, as many as the limit lets through (D10).
+#[tactic(auto, using(crate::proofs::Rounds::while_more, crate::proofs::Rounds::while_none))]
+fn while_turns<
+    K: Sink,
+    E: Fn(Setting, &mut Run, &mut K, &Tree) -> Result<Value, Stop>,
+    X: Fn(Setting, &mut Run, &mut K, &Items<Act>) -> Result<Exit, Stop>,
+>(
+    here: &Nodes<E, X>,
+    run: &mut Run,
+    sink: &mut K,
+    it: Limited,
+    condition: &Tree,
+    body: &Items<Act>,
+) -> Result<Exit, Stop>
+    requires evals { Evals K.written K.faults K.full here.now.setting.funcs.now here.now.setting.depth (E.pre here.now.eval here.now.setting) (E.post here.now.eval here.now.setting) }
+    requires execs { Execs K.written K.faults K.full here.now.setting.funcs.now here.now.setting.depth (X.pre here.now.exec here.now.setting) (X.post here.now.exec here.now.setting) }
+    ensures meets { Runs exit_of result here.now.setting.funcs.now here.now.setting.depth
+        (λ c. forms.asked it.span (tree_of condition.now) c
+        (forms.while_turn in_bare it.span (tree_of condition.now) (acts_of (all_acts body.now)) it.count) forms.done_normal)
+        run.old (K.written sink.old) run.new (K.written sink.new) }
+    ensures counts { Counts result (K.faults sink.old) (K.faults sink.new) }
+    ensures same_full { K.full sink.new ≡ K.full sink.old }
+    ensures keeps { Keeps result run.old run.new }
+{
+    let mut left = it.count;
+    loop {
+        let x = Held::new(eval(here, run, sink, condition)?);
+        if !truth(it.span, x.get())? {
+            return Ok(Exit::Normal);
+        }
+        if left == 0 {
+            return Err(Stop::Fault(DynCode::D10, it.span));
+        }
+        left -= 1;
+        match exec_scope(here, run, sink, body)? {
+            Exit::Normal => {}
+            Exit::Returned(y) => return Ok(Exit::Returned(y)),
+        }
+    }
+}
+
+// ---- `repeat`
+
+pub fn exec_repeat<
+    K: Sink,
+    E: Fn(Setting, &mut Run, &mut K, &Tree) -> Result<Value, Stop>,
+    X: Fn(Setting, &mut Run, &mut K, &Items<Act>) -> Result<Exit, Stop>,
+>(
+    here: &Nodes<E, X>,
+    run: &mut Run,
+    sink: &mut K,
+    span: Span,
+    it: &Guard,
+    body: &Items<Act>,
+) -> Result<Exit, Stop>
+    requires evals { Evals K.written K.faults K.full here.now.setting.funcs.now here.now.setting.depth (E.pre here.now.eval here.now.setting) (E.post here.now.eval here.now.setting) }
+    requires execs { Execs K.written K.faults K.full here.now.setting.funcs.now here.now.setting.depth (X.pre here.now.exec here.now.setting) (X.post here.now.exec here.now.setting) }
+    ensures meets { Runs exit_of result here.now.setting.funcs.now here.now.setting.depth
+        (forms.repeat_loop in_bare span (acts_of (all_acts body.now)) (tree_of it.now.condition) (maybe_tree it.now.limit))
+        run.old (K.written sink.old) run.new (K.written sink.new) }
+    ensures counts { Counts result (K.faults sink.old) (K.faults sink.new) }
+    ensures same_full { K.full sink.new ≡ K.full sink.old }
+    ensures keeps { Keeps result run.old run.new }
+{
+    match &it.limit {
+        None => {
+            let limited = Limited {
+                span,
+                count: usual_turns(),
+            };
+            repeat_turns(here, run, sink, limited, &it.condition, body)
+        }
+        Some(e) => {
+            let z = Held::new(eval(here, run, sink, e)?);
+            let limited = Limited {
+                span,
+                count: turns_in(whole_number(span, z.get())?),
+            };
+            repeat_turns(here, run, sink, limited, &it.condition, body)
+        }
+    }
+}
+
+/// Turns until the condition holds, as many as the limit lets through (D10).
+#[tactic(auto, using(crate::proofs::Rounds::repeat_more, crate::proofs::Rounds::repeat_none))]
+fn repeat_turns<
+    K: Sink,
+    E: Fn(Setting, &mut Run, &mut K, &Tree) -> Result<Value, Stop>,
+    X: Fn(Setting, &mut Run, &mut K, &Items<Act>) -> Result<Exit, Stop>,
+>(
+    here: &Nodes<E, X>,
+    run: &mut Run,
+    sink: &mut K,
+    it: Limited,
+    condition: &Tree,
+    body: &Items<Act>,
+) -> Result<Exit, Stop>
+    requires evals { Evals K.written K.faults K.full here.now.setting.funcs.now here.now.setting.depth (E.pre here.now.eval here.now.setting) (E.post here.now.eval here.now.setting) }
+    requires execs { Execs K.written K.faults K.full here.now.setting.funcs.now here.now.setting.depth (X.pre here.now.exec here.now.setting) (X.post here.now.exec here.now.setting) }
+    ensures meets { Runs exit_of result here.now.setting.funcs.now here.now.setting.depth
+        (forms.repeat_turn in_bare it.span (tree_of condition.now) (acts_of (all_acts body.now)) it.count)
+        run.old (K.written sink.old) run.new (K.written sink.new) }
+    ensures counts { Counts result (K.faults sink.old) (K.faults sink.new) }
+    ensures same_full { K.full sink.new ≡ K.full sink.old }
+    ensures keeps { Keeps result run.old run.new }
+{
+    let mut left = it.count;
+    while left > 0 {
+        match exec_scope(here, run, sink, body)? {
+            Exit::Normal => {}
+            Exit::Returned(x) => return Ok(Exit::Returned(x)),
+        }
+        let x = Held::new(eval(here, run, sink, condition)?);
+        if truth(it.span, x.get())? {
+            return Ok(Exit::Normal);
+        }
+        left -= 1;
+    }
+    Err(Stop::Fault(DynCode::D10, it.span))
+}
+
+#[tactic(auto, using(asl_value::proofs::Integers::less_is))]
+fn is_less(a: i128, b: i128) -> bool
+    ensures { result ≡ less a b }
+{
+    a < b
+}

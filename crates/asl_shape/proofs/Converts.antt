@@ -1,0 +1,25 @@
+-- What is done with a written type, with the values of its expressions.
+use Rattle.std.proofs.Common.{◌≡◌, ℕ, List, Some, None, sym, ap, ◌∙◌}
+use Rattle.std.specs.Prelude.{option_map}
+use Rattle.asl_syn.specs.declared.token.Span.{Span}
+use Rattle.asl_rules.specs.Shapes.{TypeShape}
+use Rattle.asl_rules.specs.Values.{Value}
+use Rattle.asl_rules.specs.Written.{converted, type_of_sized, of_kind_of}
+use Rattle.asl_rules.specs.Plans.{Stuck, UnknownType, Bad}
+use Rattle.asl_rules.specs.Pures.{◌>>=◌, found_type}
+use Rattle.asl_shape.specs.Filled.{Filled, closed_of, first_filled}
+use Rattle.asl_shape.specs.Filling.{Taken, filling}
+use Rattle.asl_shape.specs.First.{first_written}
+use Rattle.asl_shape.proofs.FilledBy.{type_is, filled_is}
+
+pub converted_is : (limit : ℕ) (span : Span) (T : TypeShape) (zs : List Value) (x : Value) (t : Taken Filled) → Some t ≡ filling T zs → converted limit span (Some T) zs x ≡ of_kind_of span (closed_of t.made) x
+converted_is limit span T zs x t h = ap (λ o. found_type span (type_of_sized o) >>= λ U. of_kind_of span U x) (filled_is limit span T zs ∙ ap (option_map (type_is limit span)) (sym h))
+
+pub no_type : (limit : ℕ) (span : Span) (T : TypeShape) (zs : List Value) (x : Value) → None ≡ filling T zs → converted limit span (Some T) zs x ≡ Bad (Stuck UnknownType span)
+no_type limit span T zs x h = ap (λ o. found_type span (type_of_sized o) >>= λ U. of_kind_of span U x) (filled_is limit span T zs ∙ ap (option_map (type_is limit span)) (sym h))
+
+pub first_is : (limit : ℕ) (span whole : Span) (T : TypeShape) (zs : List Value) (t : Taken Filled) → Some t ≡ filling T zs → first_written limit span whole T zs ≡ first_filled limit whole t.made
+first_is limit span whole T zs t h = ap (λ o. found_type span o >>= λ s. s.first) (filled_is limit whole T zs ∙ ap (option_map (type_is limit whole)) (sym h))
+
+pub no_first : (limit : ℕ) (span whole : Span) (T : TypeShape) (zs : List Value) → None ≡ filling T zs → first_written limit span whole T zs ≡ Bad (Stuck UnknownType span)
+no_first limit span whole T zs h = ap (λ o. found_type span o >>= λ s. s.first) (filled_is limit whole T zs ∙ ap (option_map (type_is limit whole)) (sym h))

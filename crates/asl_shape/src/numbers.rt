@@ -1,0 +1,104 @@
+//! Types in which no name of a body stands: their widths and constraints as numbers.
+ghost use Rattle.std.specs.Prelude.{◌≡◌, pos};
+ghost use Rattle.asl_rules.specs.Closed as rules;
+ghost use Rattle.asl_shape.specs.Numbers.{last_number, range};
+
+use crate::matching::is_at_most;
+use asl_cons::{End, Part};
+use asl_poly::{Atom, Poly};
+
+/// The number that a width stands for.
+#[tactic(auto, using(crate::proofs::AtZero::last_is, crate::proofs::AtZero::none_is))]
+pub(crate) fn number_of(width: &Poly) -> i128
+    ensures { result ≡ rules.width_at width.now (λ n. pos 0) }
+{
+    let count = width.terms();
+    if count == 0 {
+        return 0;
+    }
+    match width.term(count - 1) {
+        Some((coefficient, factors)) => number_in(coefficient, factors),
+        None => 0,
+    }
+}
+
+/// The number in the last term, which has no factors where there is one.
+fn number_in(coefficient: i128, factors: &[Atom]) -> i128
+    ensures { result ≡ last_number coefficient factors.now }
+{
+    match factors.split_first() {
+        None => coefficient,
+        Some((_, _)) => 0,
+    }
+}
+
+/// The number at an end of a part.
+fn end_of(end: &End) -> i128
+    ensures { result ≡ rules.end_at end.now (λ n. pos 0) }
+{
+    match end {
+        End::Int(z) => *z,
+        End::Width(width) => number_of(width),
+    }
+}
+
+/// Whether an integer lies between two.
+fn is_in_one(z: i128, low: i128, high: i128) -> bool
+    ensures { result ≡ rules.in_one z (range low high) }
+{
+    is_at_most(low, z) && is_at_most(z, high)
+}
+
+/// Whether an integer lies in one of some parts.
+#[tactic(auto, using(crate::proofs::Ranges::in_here, crate::proofs::Ranges::in_later, crate::proofs::Ranges::in_none))]
+fn is_in_some(z: i128, parts: &[Part]) -> bool
+    ensures { result ≡ rules.in_some z (rules.ranges_at parts.now (λ n. pos 0)) }
+{
+    for part in parts {
+        if is_in_one(z, end_of(&part.low), end_of(&part.high)) {
+            return true;
+        }
+    }
+    false
+}
+
+/// Whether an integer lies in a constraint, which is whole where it has no parts.
+#[tactic(auto, using(crate::proofs::Ranges::whole_has, crate::proofs::Ranges::parts_have))]
+pub(crate) fn is_in(z: i128, parts: &[Part]) -> bool
+    ensures { result ≡ rules.is_in z (rules.constraint_at parts.now (λ n. pos 0)) }
+{
+    if parts.is_empty() {
+        true
+    } else {
+        is_in_some(z, parts)
+    }
+}
+
+/// The first integer of the first part that isn't empty.
+#[tactic(auto, using(crate::proofs::Ranges::lowest_here, crate::proofs::Ranges::lowest_later, crate::proofs::Ranges::lowest_none))]
+fn lowest(parts: &[Part]) -> Option<i128>
+    ensures { result ≡ rules.lowest (rules.ranges_at parts.now (λ n. pos 0)) }
+{
+    for part in parts {
+        let low = end_of(&part.low);
+        if is_at_most(low, end_of(&part.high)) {
+            return Some(low);
+        }
+    }
+    None
+}
+
+/// The integer that a variable in a constraint begins with, where there is one: 0 where it may be, else the lowest of the first
+/// part that isn't empty.
+#[tactic(auto, using(crate::proofs::Ranges::first_whole, crate::proofs::Ranges::first_zero, crate::proofs::Ranges::first_lowest))]
+pub(crate) fn first_in(parts: &[Part]) -> Option<i128>
+    ensures { result ≡ rules.first_in (rules.constraint_at parts.now (λ n. pos 0)) }
+{
+    if parts.is_empty() {
+        return Some(0);
+    }
+    if is_in_some(0, parts) {
+        return Some(0);
+    }
+    lowest(parts)
+}

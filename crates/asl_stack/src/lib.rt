@@ -1,0 +1,5 @@
+//! The native stack of a run. It is a crate of its own, since its tests make typed trees, and are dear to prove.
+#![tactic(auto)]
+
+#[cfg(test)]
+mod stack;

@@ -1,0 +1,61 @@
+-- What is known of a program that was checked.
+use Rattle.std.specs.Prelude.{◌≡◌, ℕ, Bool, List, [], ◌∷◌, map, Option, Ok, refl}
+use Rattle.std.specs.Coded.{Coded, code_by, coded×, coded_ℕ, coded_list, coded_option}
+use Rattle.asl_syn.specs.declared.tree.Decl.{Decl}
+use Rattle.asl_syn.specs.contracts.tree.Decl.{the_row}
+use Rattle.asl_rules.specs.declared.entry.Entry.{Entry}
+use Rattle.asl_rules.specs.contracts.entry.Entry as entry
+use Rattle.asl_rules.specs.Grown.{AreGrown}
+use Rattle.asl_rules.specs.Tests.{Tests}
+use Rattle.asl_rules.specs.Scopes.{Signature}
+use Rattle.asl_rules.specs.Scopes as scopes
+use Rattle.asl_rules.specs.Programs.{verdict, accepted, environment}
+use Rattle.asl_rules.specs.Values as values
+use Rattle.asl_rules.specs.States.{Binding}
+use Rattle.asl_rules.specs.Evaluation.{initial_globals}
+use Rattle.asl_value.specs.View.{value_of}
+use Rattle.asl_types.specs.Suits.{Suits}
+use Rattle.asl_tree.specs.Acts.{all_funcs}
+use Rattle.asl_tree.specs.declared.act.TreeFunc.{TreeFunc}
+use Rattle.asl_tree.specs.declared.checked.Global.{Global}
+
+-- the declarations, the entry that was asked for, and the number of the subprogram that it is, where one was asked for
+pub record Sealed : Type 0 where
+  pub decls : List Decl
+  pub asked : Entry
+  pub main : Option ℕ
+
+abbrev pub sealed_code : Coded Sealed
+sealed_code = code_by (List Decl × (Entry × Option ℕ)) (coded× (coded_list the_row.coded) (coded× entry.the_row.coded (coded_option coded_ℕ)))
+    (λ s. (s.decls, (s.asked, s.main))) (λ p. record { decls = p.0; asked = p.1.0; main = p.1.1 }) (λ _. refl)
+
+-- global storage: its name, its value, and whether it can be assigned
+pub record Cell : Type 0 where
+  pub name : List ℕ
+  pub value : values.Value
+  pub is_mutable : Bool
+
+abbrev pub cell_in : Binding → Cell
+cell_in b = record { name = b.name; value = b.value; is_mutable = b.is_mutable }
+
+abbrev pub cells_in : List Binding → List Cell
+cells_in bs = map cell_in bs
+
+abbrev pub cell_of : Global → Cell
+cell_of g = record { name = g.name; value = value_of g.value; is_mutable = g.is_mutable }
+
+abbrev pub cells_of : List Global → List Cell
+cells_of gs = map cell_of gs
+
+-- the declarations are such as texts give, and well formed with this entry, the trees are those of their subprograms, and the globals are those that a run
+-- begins with, each in source order
+pub record IsMade (t : Tests) (ds : List Decl) (asked : Entry) (main : Option ℕ) (funcs : List TreeFunc) (globals : List Global) : Type 0 where
+  pub signatures : List Signature
+  pub names : List scopes.Entry
+  pub grown : AreGrown t.limit ds
+  pub accepts : verdict asked ds t ≡ Ok (accepted asked main signatures (all_funcs funcs) names)
+  pub begins : cells_of globals ≡ cells_in (initial_globals (environment t ds))
+
+-- by right tests
+abbrev pub IsSealed : List Decl → Entry → Option ℕ → List TreeFunc → List Global → Type 0
+IsSealed ds asked main funcs globals = (t : Tests) → Suits t → ∥ IsMade t ds asked main funcs globals ∥₁

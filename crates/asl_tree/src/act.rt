@@ -1,0 +1,173 @@
+//! Typed trees of statements and of subprograms: what a run needs of a body that is well formed.
+
+use crate::tree::{Callee, Tree};
+use asl_rules::slot::Slot;
+use asl_shape::{PatternShape, TypeShape};
+use asl_syn::token::Span;
+use asl_syn::tree::{Direction, PrintKind, Text};
+use asl_types::{BitField, Ty};
+use asl_value::{Name, SliceShape};
+use sqlite_items::Items;
+
+/// A step from a place into its value, with the place of its faults.
+#[derive(Drop)]
+pub enum TreeStep {
+    /// `.f`: the place of the field among those of the type, from 0.
+    Field(Span, usize),
+    /// `.f`, where `f` is a bitfield.
+    Bitfield(Span, BitField),
+    /// `.[f, g]`
+    Bitfields(Span, Items<BitField>),
+    /// `[..]`: the expressions of the slices in order.
+    Slices(Span, Items<SliceShape>, Items<Tree>),
+    /// `[[e]]`
+    Element(Span, Tree),
+}
+
+/// A place of an assignment.
+#[derive(Drop)]
+pub struct TreePlace {
+    /// Where its name stands.
+    pub span: Span,
+    /// Which part of the assigned value it takes: the number of a part of the tuple, from 0, and so on into that part. The
+    /// whole value takes no step.
+    pub way: Items<usize>,
+    /// Where its name is held.
+    pub slot: Slot,
+    /// The way into the value of the name.
+    pub steps: Items<TreeStep>,
+}
+
+/// What a declaration takes of its value, each in the next place of the frame.
+#[derive(Drop)]
+pub enum Taken {
+    /// `- = e`
+    Nothing,
+    /// `x = e`
+    Whole,
+    /// `(x, -) = e`: for each part of the tuple, whether it is taken.
+    InParts(Items<bool>),
+}
+
+/// One thing that is printed.
+#[derive(Drop)]
+pub enum TreeItem {
+    /// A string, its text with the quotes.
+    Verbatim(Text),
+    Shown(Tree),
+}
+
+/// A statement without lists. Each has its span first.
+#[derive(Drop)]
+pub enum Simple {
+    /// `pass;`
+    Pass(Span),
+    /// `unreachable;`
+    Unreachable(Span),
+    /// `assert e;`
+    Assert(Span, Tree),
+    /// `let` or `var` with an initialiser: the type that is written, where one is.
+    Declare(Span, Option<Ty>, Taken, Tree),
+    /// `var x, y: T;`: how many names it declares, where its type is written, the type, and the expressions of the type in
+    /// order.
+    DeclareFirst(Span, usize, Span, TypeShape, Items<Tree>),
+    /// `x.f[[e]] = e;` or `(x, -, y) = e;`: the places in order. What is discarded has none.
+    Assign(Span, Items<TreePlace>, Tree),
+    /// `f{e}(e);`: as a call in an expression.
+    Invoke(Span, Callee, Items<usize>, Items<Tree>, Items<Tree>),
+    /// `return e;` or `return;`
+    Return(Span, Option<Tree>),
+    /// `throw e;` or `throw;`
+    Throw(Span, Option<Tree>),
+    /// `print(..);` or `println(..);`
+    Print(Span, PrintKind, Items<TreeItem>),
+}
+
+/// What a `for` counts: `e to e looplimit e` or `e downto e looplimit e`.
+#[derive(Drop)]
+pub struct Bounds {
+    pub from: Tree,
+    pub direction: Direction,
+    pub to: Tree,
+    pub limit: Option<Tree>,
+}
+
+/// The condition of a `while` or a `repeat`, and its limit.
+#[derive(Drop)]
+pub struct Guard {
+    pub condition: Tree,
+    pub limit: Option<Tree>,
+}
+
+/// What an alternative asks for: `p, q where e`, with the expressions in the patterns in order.
+#[derive(Drop)]
+pub struct Choice {
+    pub patterns: Items<PatternShape>,
+    pub trees: Items<Tree>,
+    pub condition: Option<Tree>,
+}
+
+/// A statement. Each with lists has its span first.
+#[cycle(acts)]
+#[derive(Drop)]
+pub enum Act {
+    /// One without lists.
+    Simple(Simple),
+    /// `if e then .. elsif e then .. else .. end;`
+    If(Span, Tree, Items<Act>, Items<Branch>, Items<Act>),
+    /// `case e of when .. otherwise .. end;`
+    Case(Span, Tree, Items<Alternative>, Last),
+    /// `for i = e to e looplimit e do .. end;`
+    For(Span, Bounds, Items<Act>),
+    /// `while e looplimit e do .. end;`
+    While(Span, Guard, Items<Act>),
+    /// `repeat .. until e looplimit e;`
+    Repeat(Span, Items<Act>, Guard),
+    /// `try .. catch when .. otherwise .. end;`
+    Try(Span, Items<Act>, Items<Catcher>, Last),
+}
+
+/// `elsif e then ..`
+#[cycle(acts)]
+#[derive(Drop)]
+pub enum Branch {
+    Elsif(Tree, Items<Act>),
+}
+
+/// `when p, q where e => ..`
+#[cycle(acts)]
+#[derive(Drop)]
+pub enum Alternative {
+    When(Choice, Items<Act>),
+}
+
+/// `when x: T => ..`: whether the exception has a name there, and the name of the type.
+#[cycle(acts)]
+#[derive(Drop)]
+pub enum Catcher {
+    Catch(bool, Name, Items<Act>),
+}
+
+/// `otherwise => ..`
+#[cycle(acts)]
+#[derive(Drop)]
+pub enum Last {
+    None,
+    Otherwise(Items<Act>),
+}
+
+/// A subprogram.
+#[derive(Drop)]
+pub struct TreeFunc {
+    /// Where its name stands.
+    pub span: Span,
+    /// The types of its parameters, where they are written.
+    pub params: Items<Option<Ty>>,
+    /// The types of its formals.
+    pub formals: Items<Ty>,
+    /// The type of its result, none in a procedure.
+    pub result: Option<Ty>,
+    /// How often it may be active at one time.
+    pub limit: i128,
+    pub body: Items<Act>,
+}

@@ -1,0 +1,205 @@
+//! Sums of many widths, whose weights and atoms all count together, before any terms cancel.
+
+ghost use Rattle.std.specs.Prelude.{◌≡◌, ◌≤◌, ◌^◌, ◌<◌, length, IfOk};
+ghost use Rattle.asl_poly.specs.Limits as limits;
+ghost use Rattle.asl_poly.specs.Poly.{SumFits, Gives};
+ghost use Rattle.asl_rules.specs.Slicing.{no_width};
+ghost use Rattle.asl_rules.specs.Widths as rules;
+ghost use Rattle.asl_types.specs.Answers.{Agrees};
+ghost use Rattle.asl_types.specs.Totals.{IsTotal, IsWithin, adds, added};
+
+use crate::answer::fault;
+use crate::integers::constant_width;
+use crate::tests::within_limits;
+use asl_poly::{Atom, Poly, PolyRefused};
+use asl_syn::code::{Refused, StaticCode};
+use asl_syn::token::Span;
+use sqlite_items::Items;
+use std::alloc::{AllocError, Global};
+
+/// The heaviest width.
+const HEAVIEST: u64 = 4_611_686_018_427_387_904;
+
+/// The most atoms of a width.
+const MOST_ATOMS: usize = 8;
+
+/// A sum within the limits: the width, the weights of all that was added, and their atoms, each once.
+#[derive(Drop)]
+struct Within {
+    sum: Poly,
+    weight: u64,
+    atoms: Items<Atom>,
+}
+
+/// A sum of many widths. Once it is past the limits it stays so.
+#[derive(Drop)]
+pub struct Total {
+    within: Option<Within>,
+}
+
+/// Whether a width is added or taken away.
+#[derive(Clone, Copy)]
+enum Sign {
+    Plus,
+    Minus,
+}
+
+/// The weight of a width: the sum of the absolute values of its coefficients.
+#[tactic(auto, using(crate::proofs::TotalLemmas::weight_last))]
+fn weight_of(p: &Poly) -> u64
+    ensures is { result ≡ limits.weight p.now.terms }
+    ensures light { result ≤ 2 ^ 62 }
+{
+    within_limits(p);
+    let mut total: u64 = 0;
+    for place in 0..p.terms() {
+        match p.term(place) {
+            Some((coefficient, _)) => total += coefficient.unsigned_abs() as u64,
+            None => {}
+        }
+    }
+    total
+}
+
+/// Whether an atom is among these.
+fn is_noted(atom: Atom, atoms: &[Atom]) -> bool
+    ensures { result ≡ limits.has_atom atom atoms.now }
+{
+    for other in atoms {
+        if atom.0 == other.0 {
+            return true;
+        }
+    }
+    false
+}
+
+/// The atoms with these behind them, each once.
+fn note_factors(atoms: &mut Items<Atom>, factors: &[Atom]) -> Result<(), AllocError>
+    ensures { IfOk result (λ _. atoms.new ≡ limits.note_factors atoms.old factors.now) }
+{
+    for factor in factors {
+        if !is_noted(*factor, atoms.as_slice()) {
+            atoms.push(*factor)?;
+        }
+    }
+    Ok(())
+}
+
+/// The atoms with those of a width behind them, each once.
+#[tactic(auto, using(crate::proofs::TotalLemmas::noted_last))]
+fn note_width(atoms: &mut Items<Atom>, p: &Poly) -> Result<(), AllocError>
+    ensures { IfOk result (λ _. atoms.new ≡ limits.note_terms atoms.old p.now.terms) }
+{
+    for place in 0..p.terms() {
+        match p.term(place) {
+            Some((_, factors)) => note_factors(atoms, factors)?,
+            None => {}
+        }
+    }
+    Ok(())
+}
+
+/// The sum or the difference of two widths.
+fn added(alloc: Global, sign: Sign, p: &Poly, q: &Poly) -> Result<Poly, PolyRefused>
+    ensures { Gives (SumFits p.now q.now) (added sign p.now q.now) result }
+{
+    match sign {
+        Sign::Plus => p.add(alloc, q),
+        Sign::Minus => p.sub(alloc, q),
+    }
+}
+
+/// A sum within the limits with one more width.
+fn more(alloc: Global, within: Within, sign: Sign, p: &Poly) -> Result<Total, AllocError>
+    ensures { (x : rules.Total) → IsWithin within x → IfOk result (λ t. IsTotal t (adds sign x p.now)) }
+{
+    let Within {
+        sum,
+        weight,
+        mut atoms,
+    } = within;
+    if weight > HEAVIEST {
+        return Ok(Total { within: None });
+    }
+    let weight = weight + weight_of(p);
+    note_width(&mut atoms, p)?;
+    if weight > HEAVIEST || atoms.len() > MOST_ATOMS {
+        return Ok(Total { within: None });
+    }
+    match added(alloc, sign, &sum, p) {
+        Ok(sum) => Ok(Total {
+            within: Some(Within { sum, weight, atoms }),
+        }),
+        Err(PolyRefused::TooLarge) => Ok(Total { within: None }),
+        Err(PolyRefused::NoMemory) => Err(AllocError),
+    }
+}
+
+/// The sum with one more width.
+#[tactic(auto, using(crate::proofs::TotalLemmas::past_stays))]
+fn with_width(alloc: Global, total: Total, sign: Sign, p: &Poly) -> Result<Total, AllocError>
+    ensures { (x : rules.Total) → IsTotal total x → IfOk result (λ t. IsTotal t (adds sign x p.now)) }
+{
+    let Total { within } = total;
+    match within {
+        None => Ok(Total { within: None }),
+        Some(within) => more(alloc, within, sign, p),
+    }
+}
+
+impl Total {
+    /// The sum of no widths.
+    pub fn new(alloc: Global) -> Result<Total, AllocError>
+        ensures { IfOk result (λ t. IsTotal t no_width) }
+    {
+        Ok(Total {
+            within: Some(Within {
+                sum: constant_width(alloc, 0)?,
+                weight: 0,
+                atoms: Items::new(alloc),
+            }),
+        })
+    }
+
+    /// The sum with one more width added.
+    pub fn plus(self, alloc: Global, p: &Poly) -> Result<Total, AllocError>
+        ensures { (x : rules.Total) → IsTotal self x → IfOk result (λ t. IsTotal t (rules.plus x p.now)) }
+    {
+        with_width(alloc, self, Sign::Plus, p)
+    }
+
+    /// The sum with one more width taken away.
+    pub fn minus(self, alloc: Global, p: &Poly) -> Result<Total, AllocError>
+        ensures { (x : rules.Total) → IsTotal self x → IfOk result (λ t. IsTotal t (rules.minus x p.now)) }
+    {
+        with_width(alloc, self, Sign::Minus, p)
+    }
+
+    /// The sum with a number added.
+    #[tactic(auto, using(crate::proofs::TotalLemmas::number_is))]
+    pub fn plus_number(self, alloc: Global, number: u32) -> Result<Total, AllocError>
+        ensures { (x : rules.Total) → IsTotal self x → IfOk result (λ t. IsTotal t (rules.plus_number x number)) }
+    {
+        let p = constant_width(alloc, u64::from(number))?;
+        with_width(alloc, self, Sign::Plus, &p)
+    }
+
+    /// The width that the sum is: T20 at this place past the limits.
+    #[tactic(auto, using(crate::proofs::TotalLemmas::over))]
+    pub fn into_width(self, span: Span) -> Result<Poly, Refused>
+        ensures { (x : rules.Total) → IsTotal self x → Agrees result (rules.totalled span x) }
+    {
+        let Total { within } = self;
+        match within {
+            None => fault(StaticCode::T20, span),
+            Some(within) => {
+                let Within {
+                    sum,
+                    weight: _,
+                    atoms: _atoms,
+                } = within;
+                Ok(sum)
+            }
+        }
+    }
+}

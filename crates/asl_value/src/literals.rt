@@ -1,0 +1,194 @@
+//! Literals of bits and of masks.
+ghost use Rattle.std.specs.Prelude.{◌≡◌, ◌==◌, ◌<◌, ◌≤◌, length, map, reverse, if◌then◌else◌, Ok, Some, None, IfOk};
+ghost use Rattle.asl_bits.specs.declared.TheConstants.{WIDTH_LIMIT};
+ghost use Rattle.asl_mask.specs.Digits.{mask_matches};
+ghost use Rattle.asl_rules.specs.Vectors as rules;
+ghost use Rattle.asl_value.specs.Answers.{Is};
+ghost use Rattle.asl_value.specs.Literals.{digit_byte};
+ghost use Rattle.asl_quote.specs.Quotes.{content_digits};
+ghost use Rattle.asl_quote.specs.declared.QuoteState.TheVariants as at;
+ghost use Rattle.asl_value.specs.View.{value_of, digits_of};
+
+use crate::failure::Failure;
+use crate::operators::plain_bits;
+use crate::value::Value;
+use asl_bits::{Bits, WIDTH_LIMIT};
+use asl_mask::Mask;
+use asl_quote::QuoteState;
+use asl_syn::token::Span;
+use sqlite_items::Items;
+use std::alloc::{AllocError, Global};
+use std::marker::Model;
+
+/// The digits of a literal: a bit where the place is fixed, `None` where it is free.
+#[derive(Drop)]
+pub enum MaskDigits {
+    /// At most as many as the widest bits have places.
+    Narrow(Mask),
+    /// More. No text that is read has them.
+    Wide(WideDigits),
+}
+
+/// More digits than the widest bits have places.
+#[derive(Drop)]
+pub struct WideDigits {
+    /// The highest first.
+    digits: Items<Option<bool>>,
+}
+
+impl Model for WideDigits {
+    ghost use Rattle.std.specs.Prelude.{◌<◌, List, Option, Bool, length, reverse};
+    ghost use Rattle.asl_bits.specs.declared.TheConstants.{WIDTH_LIMIT};
+
+    ghost Value = { List (Option Bool) };
+
+    ghost view = { λ d. reverse d.digits };
+
+    ghost invariant = { λ d. WIDTH_LIMIT < length d.digits };
+}
+
+impl WideDigits {
+    /// How many there are.
+    #[tactic(auto, using(crate::proofs::LiteralLemmas::as_long))]
+    pub fn len(&self) -> usize
+        ensures value { result ≡ length self.now }
+        ensures wide { WIDTH_LIMIT < result }
+    {
+        self.digits.len()
+    }
+}
+
+impl MaskDigits {
+    /// The digits of a literal of bits or of a mask, whose text has its quotes.
+    pub fn of_literal(alloc: Global, text: &[u8]) -> Result<MaskDigits, AllocError>
+        ensures { IfOk result (λ it. digits_of it ≡ rules.literal_digits text.now) }
+    {
+        let digits = digits_in(alloc, text)?;
+        if digits.len() > WIDTH_LIMIT as usize {
+            return Ok(MaskDigits::Wide(WideDigits { digits }));
+        }
+        Ok(MaskDigits::Narrow(mask_of(alloc, digits.as_slice())?))
+    }
+
+    /// How many there are.
+    pub fn len(&self) -> usize
+        ensures { result ≡ length (digits_of self.now) }
+    {
+        match self {
+            MaskDigits::Narrow(mask) => mask.width() as usize,
+            MaskDigits::Wide(digits) => digits.len(),
+        }
+    }
+
+    /// Whether bits match the digits, where there are as many.
+    #[tactic(auto, using(crate::proofs::LiteralLemmas::apart, crate::proofs::LiteralLemmas::matched))]
+    pub fn matches(&self, bits: &Bits) -> Option<bool>
+        ensures { result ≡ (if length (digits_of self.now) == length bits.now then Some (mask_matches (digits_of self.now) bits.now) else None) }
+    {
+        match self {
+            MaskDigits::Narrow(mask) => {
+                if mask.width() == bits.width() {
+                    Some(mask.matches(bits))
+                } else {
+                    None
+                }
+            }
+            MaskDigits::Wide(digits) => {
+                let _most = bits.width();
+                let _count = digits.len();
+                None
+            }
+        }
+    }
+}
+
+/// The bits of a literal, whose text has its quotes: none where a digit is free, or past `WIDTH_LIMIT`.
+#[tactic(auto, using(crate::proofs::LiteralLemmas::too_long, crate::proofs::LiteralLemmas::short))]
+pub fn bits_of_literal(alloc: Global, text: &[u8]) -> Result<Option<Bits>, AllocError>
+    ensures { IfOk result (λ it. it ≡ rules.literal_of WIDTH_LIMIT text.now) }
+{
+    let digits = digits_in(alloc, text)?;
+    if digits.len() > WIDTH_LIMIT as usize {
+        return Ok(None);
+    }
+    Ok(mask_of(alloc, digits.as_slice())?.value())
+}
+
+/// The value of a literal of bits, whose text has its quotes, without bitfields. It must be one: else it is of the wrong kind,
+/// and no text that is read has it.
+pub fn literal_bits(alloc: Global, span: Span, text: &[u8]) -> Result<Value, Failure>
+    ensures { Is value_of result (rules.literal_bits WIDTH_LIMIT span text.now) }
+{
+    match bits_of_literal(alloc, text)? {
+        Some(bits) => Ok(plain_bits(alloc, bits)?),
+        None => Err(Failure::WrongKind(span)),
+    }
+}
+
+/// The digits of a literal in the order of its text, so the highest first.
+#[tactic(auto, using(crate::proofs::LiteralLemmas::no_text, crate::proofs::LiteralLemmas::content_of))]
+fn digits_in(alloc: Global, text: &[u8]) -> Result<Items<Option<bool>>, AllocError>
+    ensures { IfOk result (λ it. reverse it ≡ rules.literal_digits text.now) }
+{
+    match text.split_first() {
+        None => Ok(Items::new(alloc)),
+        Some((_, rest)) => digits_of_content(alloc, rest),
+    }
+}
+
+/// The digits that are written by the bytes behind an opening quote, in their order.
+#[tactic(auto, using(crate::proofs::LiteralLemmas::no_digits, crate::proofs::LiteralLemmas::one_digit, crate::proofs::LiteralLemmas::no_digit, crate::proofs::LiteralLemmas::end_of_content, crate::proofs::LiteralLemmas::all_digits))]
+fn digits_of_content(alloc: Global, bytes: &[u8]) -> Result<Items<Option<bool>>, AllocError>
+    ensures { IfOk result (λ it. it ≡ content_digits at.Bits bytes.now) }
+{
+    let mut digits = Items::new(alloc);
+    let mut state = QuoteState::Bits;
+    for byte in bytes {
+        match state.content_step(*byte) {
+            None => return Ok(digits),
+            Some(next) => {
+                if let Some(digit) = state.digit(*byte) {
+                    digits.push(digit)?;
+                }
+                state = next;
+            }
+        }
+    }
+    Ok(digits)
+}
+
+/// The mask of these digits, of which the highest is first.
+#[tactic(auto, using(crate::proofs::LiteralLemmas::mask_read))]
+fn mask_of(alloc: Global, digits: &[Option<bool>]) -> Result<Mask, AllocError>
+    requires { length digits.now ≤ WIDTH_LIMIT }
+    ensures { IfOk result (λ it. it ≡ reverse digits.now) }
+{
+    let text = text_of(alloc, digits)?;
+    match Mask::read(text.as_slice()) {
+        Ok(mask) => Ok(mask),
+        Err(_) => unreachable!(),
+    }
+}
+
+/// Digits as the bytes that write them.
+#[tactic(auto, using(crate::proofs::LiteralLemmas::none_written, crate::proofs::LiteralLemmas::one_written, crate::proofs::LiteralLemmas::all_written))]
+fn text_of(alloc: Global, digits: &[Option<bool>]) -> Result<Items<u8>, AllocError>
+    ensures { IfOk result (λ it. it ≡ map digit_byte digits.now) }
+{
+    let mut bytes = Items::new(alloc);
+    for digit in digits {
+        bytes.push(byte_of(*digit))?;
+    }
+    Ok(bytes)
+}
+
+/// The byte that writes a digit.
+fn byte_of(digit: Option<bool>) -> u8
+    ensures { result ≡ digit_byte digit }
+{
+    match digit {
+        None => b'x',
+        Some(true) => b'1',
+        Some(false) => b'0',
+    }
+}
