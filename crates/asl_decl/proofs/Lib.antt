@@ -2,6 +2,9 @@ mod ApartLemmas
 mod FreeLemmas
 mod HeadLemmas
 mod LimitLemmas
+mod NoneTwice
+mod Outside
+mod SameHeads
 mod SignatureLemmas
 mod TableLemmas
 mod WordLemmas

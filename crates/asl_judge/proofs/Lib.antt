@@ -5,6 +5,7 @@ pub mod LibraryNames
 pub mod OnceLemmas
 pub mod Passing
 pub mod PhaseLemmas
+pub mod Scoping
 pub mod Serves
 pub mod Serving
 pub mod StorageLemmas

@@ -9,4 +9,3 @@ pub mod OneOutcome
 pub mod Several
 pub mod PlansKeep
 pub mod GlobalsKept
-pub mod WordRuns

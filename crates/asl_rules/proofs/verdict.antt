@@ -12,5 +12,4 @@ pub mod Settling
 pub mod Reaching
 pub mod AllJudged
 pub mod Settled
-pub mod SharedNames
 pub mod OneJudgement

@@ -28,6 +28,7 @@ pub mod Written
 pub mod Scopes
 pub mod Widths
 pub mod Names
+pub mod Stages
 pub mod Layouts
 pub mod Typing
 pub mod Calls
@@ -57,8 +58,6 @@ pub mod Programs
 pub mod Answers
 pub mod Worth
 pub mod Strings
-pub mod WordList
-pub mod Made
 pub mod Texts
 pub mod Evaluation
 pub mod Machines

@@ -4,9 +4,8 @@ ghost use Rattle.std.specs.Prelude.{◌≡◌, ◌≤◌, ◌*◌, ◌^◌, true
 ghost use Rattle.std.specs.Option.{option_map};
 ghost use Rattle.asl_value.specs.View.{value_of};
 ghost use Rattle.asl_rules.specs.Scopes as rules;
-ghost use Rattle.asl_rules.specs.Scopes.{with_entry};
 ghost use Rattle.asl_rules.specs.Layouts.{slot_of, local_names, global_names, layout_of};
-ghost use Rattle.asl_types.specs.Standings.{storage_view, standing_view, value_behind, form_view, entry_view, slot_by, HasSlot};
+ghost use Rattle.asl_types.specs.Standings.{storage_view, standing_view, value_behind, form_view, entry_view, with_entry, slot_by, HasSlot};
 
 use crate::ty::Ty;
 use asl_poly::{Atom, Poly};

@@ -1,6 +1,4 @@
 -- `word_of` cites Words; `first_line` and `read_words` Lines, where `answer_from` says what is left to answer. The other functions need
 -- no lemma, and `without_end` an invariant.
--- `put_line` cites Writing.
 pub mod Lines
 pub mod Words
-pub mod Writing
