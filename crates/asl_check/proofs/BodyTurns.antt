@@ -14,7 +14,7 @@ use Rattle.asl_rules.specs.Tests.{Tests}
 use Rattle.asl_rules.specs.Types.{Ty, Parts, no_part, part}
 use Rattle.asl_types.specs.View.{parts_of}
 use Rattle.asl_rules.specs.Trees.{TreeFunc}
-use Rattle.asl_rules.specs.Scopes.{Scope, Body, Entry, Signature, Param, is_free, fixed}
+use Rattle.asl_rules.specs.Scopes.{Scope, Body, Entry, Signature, Param, is_free, fixed, with_entry}
 use Rattle.asl_rules.specs.Locals.{itself}
 use Rattle.asl_rules.specs.Acting.{Listed, in_order}
 use Rattle.asl_rules.specs.Stmts.{found_stmt}
@@ -25,7 +25,6 @@ use Rattle.asl_rules.specs.Uses.{cycles_rule}
 use Rattle.asl_rules.specs.Declarations.{globals_rule}
 use Rattle.asl_syn.specs.declared.tree.Decl.{Decl}
 use Rattle.asl_rules.proofs.scopes.Longer.{Longer, longer_self, longer_on, list_longer}
-use Rattle.asl_types.specs.Standings.{with_entry}
 use Rattle.asl_decl.specs.Heads.{Declared, declared_with, declared_rule, params_declared, formals_declared, names_of_body, head_of, heads_of}
 use Rattle.asl_check.specs.Bringing.{with_entry_found}
 use Rattle.asl_check.proofs.Chains.{then_same, then_then, then_itself, append_nothing, next_of}

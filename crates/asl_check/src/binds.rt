@@ -4,10 +4,10 @@ ghost use Rattle.std.specs.Prelude.{◌≡◌, ◌&&◌, Ok, IfOk, option_map};
 ghost use Rattle.std.specs.Prelude.{◌++◌, ◌∷◌, []};
 ghost use Rattle.asl_rules.specs.Locals as rules;
 ghost use Rattle.asl_rules.specs.Scopes as scopes;
+ghost use Rattle.asl_rules.specs.Scopes.{with_entry};
 ghost use Rattle.asl_rules.specs.Types as types;
 ghost use Rattle.asl_types.specs.Answers.{Met};
 ghost use Rattle.asl_types.specs.View.{parts_of};
-ghost use Rattle.asl_types.specs.Standings.{with_entry};
 ghost use Rattle.asl_check.specs.Walks as walks;
 ghost use Rattle.asl_check.specs.Walks.{after, binding};
 

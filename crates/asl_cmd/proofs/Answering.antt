@@ -5,7 +5,7 @@ use Rattle.asl_io.proofs.ToldLemmas.{TakesPrefix-after, Takes-join}
 use Rattle.asl_rules.specs.Report.{answer}
 use Rattle.asl_cmd.specs.declared.status.Stop.{Stop}
 use Rattle.asl_cmd.specs.declared.status.Status.{Status}
-use Rattle.asl_cmd.specs.Writes.{Writes, Answers, TakesFront}
+use Rattle.asl_cmd.specs.Writes.{Writes, Answers}
 
 -- an answer whose text begins with what was taken before
 pub Answers-after : (r : Result Status Stop) (a b c : Option (List ℕ)) (x y : List ℕ) (n : ℕ) → Takes a b x → Answers r b c (answer y n) → Answers r a c (answer (x ++ y) n)

@@ -1,5 +1,5 @@
 -- The lines of globals, one behind another.
-use Rattle.std.proofs.Common.{◌≡◌, ℕ, suc, ◌+◌, ◌<◌, Bool, true, false, List, [], ◌∷◌, ◌++◌, length, get_or, drop, map, Option, Ok, refl, sym, ap, ◌∙◌, subst, arith, append_assoc, append-nil}
+use Rattle.std.proofs.Common.{◌≡◌, ℕ, suc, ◌+◌, ◌<◌, Bool, true, false, List, [], ◌∷◌, ◌++◌, length, get_or, drop, map, Option, Some, Ok, refl, sym, ap, ◌∙◌, subst, arith, append_assoc, append-nil}
 use Rattle.std.proofs.Math.Seq.{drop-cons}
 use Rattle.asl_io.specs.Told.{Takes, TakesPrefix}
 use Rattle.asl_io.proofs.ToldLemmas.{Takes-join, Takes-none, TakesPrefix-after, TakesPrefix-more}
@@ -13,6 +13,8 @@ use Rattle.asl_machine.specs.declared.memory.GlobalVar.{GlobalVar}
 use Rattle.asl_machine.specs.declared.stage.Outcome.{Outcome}
 use Rattle.asl_machine.specs.declared.stage.Stage.{Stage}
 use Rattle.asl_machine.specs.declared.stage.Stage.TheVariants as stage
+use Rattle.asl_words.specs.declared.running.ExecEnd.{ExecEnd}
+use Rattle.asl_words.specs.Runs.{end_of}
 use Rattle.asl_cmd.specs.Ends.{vars_text}
 use Rattle.asl_cmd.specs.Writes.{TakesFront}
 
@@ -72,3 +74,10 @@ shown (stage.Ready x) o vs bs e h = ap vars_text h ∙ vars_text_is bs
 shown (stage.Uncaught x) o vs bs e h = ap vars_text h ∙ vars_text_is bs
 shown (stage.Fault code span) o vs bs e h = ap vars_text h ∙ vars_text_is bs
 shown (stage.Refused r) o vs bs e h = cc
+
+-- and where its words ended
+pub shown_words : (n : ℕ) (s : Stage) (e : ExecEnd) (vs : List Var) (bs : List Binding) → end_of n s ≡ Some e → OnRun s (vs ≡ vars_in bs) → vars_text vs ≡ globals_text bs
+shown_words n (stage.Ready x) e vs bs ended h = ap vars_text h ∙ vars_text_is bs
+shown_words n (stage.Uncaught x) e vs bs ended h = ap vars_text h ∙ vars_text_is bs
+shown_words n (stage.Fault code span) e vs bs ended h = ap vars_text h ∙ vars_text_is bs
+shown_words n (stage.Refused r) e vs bs ended h = cc

@@ -1,5 +1,5 @@
 -- What is known of declarations that were read, and right tests.
-use Rattle.std.proofs.Common.{ℕ, List, Ok}
+use Rattle.std.proofs.Common.{List, Ok}
 use Rattle.asl_bits.specs.declared.TheConstants.{WIDTH_LIMIT}
 use Rattle.asl_syn.specs.declared.tree.Decl.{Decl}
 use Rattle.asl_grammar.specs.Reading.{File, Reads}

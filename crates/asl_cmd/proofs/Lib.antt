@@ -7,3 +7,5 @@ pub mod RunLemmas
 pub mod Statuses
 pub mod Grown
 pub mod Programs
+pub mod WordRuns
+pub mod WordLemmas

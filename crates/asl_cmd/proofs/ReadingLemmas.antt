@@ -1,10 +1,11 @@
 -- The files one after another, and what any reader makes of them.
-use Rattle.std.proofs.Common.{◌≡◌, ◌∙◌, ℕ, ◌+◌, ◌<◌, ◌≤◌, List, ◌++◌, [], ◌∷◌, map, drop, length, get_or, Option, Some, None, refl, sym, ap, subst, String, string_bytes, lt-ltb, le-ltb, add-one, drop-cons, append-nil, length-append, arith, drop_of_length-le, Global, Result}
+use Rattle.std.proofs.Common.{◌≡◌, ◌∙◌, ℕ, zero, suc, ◌+◌, ◌<◌, ◌≤◌, List, ◌++◌, [], ◌∷◌, map, drop, length, get_or, Option, Some, None, refl, sym, ap, subst, String, string_bytes, lt-ltb, le-ltb, add-one, drop-cons, append-nil, length-append, arith, drop_of_length-le, Global, Result}
 use Rattle.std.specs.Prelude.{IfSome}
 use Rattle.std.specs.List.{All}
 use Rattle.std.proofs.lemmas.List.{get_or-map, length-map}
 use Rattle.std.proofs.lemmas.List.{map-append}
 use Rattle.std.proofs.lemmas.List.Elements.{All-append}
+use Rattle.asl_syn.specs.Command.{Command, usage, check, run, exec, self, names_of, sources_of}
 use Rattle.asl_syn.specs.declared.code.Fault.{Fault}
 use Rattle.asl_syn.specs.declared.place.Source.{Source}
 use Rattle.asl_syn.specs.declared.tree.Decl.{Decl}
@@ -125,3 +126,22 @@ all_within k i n p q r = omega (arith, p, q, r)
 
 pub read_as : (files : List File) (r : Result (List Decl) Fault) → Reads files r → (read : Reader) → IsReading read → read files ≡ r
 read_as files r it read is = one_answer files (read files) r (is files) it
+
+-- ---- the names that are sure
+
+all_front : (P : Text → Type 0) (xs ys : List Text) → All P (xs ++ ys) → All P xs
+all_front P [] ys h k d lt = absurd (omega (arith, lt))
+all_front P (x ∷ xs) ys h zero d lt = h zero d (omega arith)
+all_front P (x ∷ xs) ys h (suc k) d lt = all_front P xs ys (λ j e l. h (suc j) e (omega (arith, l))) k d (omega (arith, lt))
+
+pub all_last : (P : Text → Type 0) (xs : List Text) (y : Text) → All P (xs ++ y ∷ []) → P y
+all_last P [] y h = h zero y (omega arith)
+all_last P (x ∷ xs) y h = all_last P xs y (λ j e l. h (suc j) e (omega (arith, l)))
+
+-- the names of the source files are among those of all files
+pub sources_sure : (P : Text → Type 0) (k : Command) → All P (names_of k) → All P (sources_of k)
+sources_sure P usage h = h
+sources_sure P (check names) h = h
+sources_sure P (run steps names) h = h
+sources_sure P (exec steps list names) h = all_front P names (list ∷ []) h
+sources_sure P (self number size) h = h

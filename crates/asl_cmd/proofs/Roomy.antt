@@ -1,5 +1,5 @@
 -- A sink in memory with room for a text takes all of it.
-use Rattle.std.proofs.Common.{◌≡◌, ℕ, ◌<◌, ◌≤◌, ◌+◌, ◌++◌, ◌⊎◌, inl, inr, List, [], length, Option, Some, option_map, refl, sym, ap, ◌∙◌, arith, length-append}
+use Rattle.std.proofs.Common.{◌≡◌, ℕ, ◌<◌, ◌≤◌, ◌+◌, ◌++◌, ◌⊎◌, inl, inr, List, [], length, Option, Some, option_map, refl, ap, ◌∙◌, arith, length-append}
 use Rattle.asl_io.specs.Faults.{Rises, room_where_none_fails}
 use Rattle.asl_io.specs.Filled.{filled_room}
 use Rattle.asl_io.specs.Told.{Takes, TakesPrefix}

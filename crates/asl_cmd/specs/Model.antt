@@ -3,27 +3,39 @@ use Rattle.std.specs.Prelude.{◌≡◌, ◌≤◌, ◌<◌, ⊤, All, List, len
 use Rattle.asl_syn.specs.declared.place.Source.{Source}
 pub use Rattle.asl_grammar.specs.Reading.{file_of}
 use Rattle.asl_rules.specs.Texts.{Text}
-use Rattle.asl_rules.specs.Report.{Reading as Came, all, long, many}
+use Rattle.asl_rules.specs.Report.{Reading as Files, all, long}
+use Rattle.asl_cmd.specs.Report.{Came, whole, too_long, too_many}
 use Rattle.asl_cmd.specs.declared.reading.One.{One}
 use Rattle.asl_cmd.specs.declared.reading.One.TheVariants as one
 use Rattle.asl_cmd.specs.declared.reading.Reading.{Reading}
 use Rattle.asl_cmd.specs.declared.reading.Reading.TheVariants as reading
+use Rattle.asl_cmd.specs.declared.reading.Sources.{Sources}
+use Rattle.asl_cmd.specs.declared.reading.Sources.TheVariants as sources
 
 -- each file has at most 1,048,576 bytes
 abbrev pub AreShort : List Source → Type 0
 AreShort sources = All (λ s. length s.bytes.items ≤ 1048576) sources
 
 -- what came of the reading
-abbrev pub reading_of : Reading → Came
-reading_of (reading.All sources) = all (map file_of sources.items)
-reading_of (reading.Long name) = long (string_bytes name)
-reading_of reading.Many = many
+abbrev pub came_in : Reading → Came
+came_in (reading.All sources list) = whole (map file_of sources.items) list.items
+came_in (reading.Long name) = too_long (string_bytes name)
+came_in reading.Many = too_many
 
--- the files that were read are few and short
+-- the source files that were read are few and short
 abbrev pub IsShort : Reading → Type 0
-IsShort (reading.All sources) = (length sources.items ≤ 64) × AreShort sources.items
+IsShort (reading.All sources list) = (length sources.items ≤ 64) × AreShort sources.items
 IsShort (reading.Long name) = ⊤
 IsShort reading.Many = ⊤
+
+-- the same of the source files alone
+abbrev pub reading_of : Sources → Files
+reading_of (sources.Whole files) = all (map file_of files.items)
+reading_of (sources.Long name) = long (string_bytes name)
+
+abbrev pub AreShortSources : Sources → Type 0
+AreShortSources (sources.Whole files) = (length files.items ≤ 64) × AreShort files.items
+AreShortSources (sources.Long name) = ⊤
 
 -- what came of one file with this name and these bytes
 abbrev pub IsOne : Text → Text → One → Type 0

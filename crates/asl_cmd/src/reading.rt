@@ -1,9 +1,11 @@
 //! The reading of the files that a command names.
 ghost use Rattle.std.specs.Prelude.{◌≡◌, ◌<◌, All, IfOk, IfSome, IsErrOf, IsTrue, map, string_bytes, ◌≤◌, length};
-ghost use Rattle.asl_syn.specs.Command.{names_of};
-ghost use Rattle.asl_rules.specs.Report.{read_by, read_for};
+ghost use Rattle.asl_syn.specs.Command.{names_of, sources_of};
+ghost use Rattle.asl_rules.specs.Report.{read_by};
 ghost use Rattle.asl_line.specs.Model.{meaning_of};
-ghost use Rattle.asl_cmd.specs.Model.{reading_of, IsShort, IsOne, IsShortOne};
+ghost use Rattle.asl_cmd.specs.Model.{came_in, reading_of, AreShortSources, IsShort, IsOne, IsShortOne};
+ghost use Rattle.asl_cmd.specs.Report.{came_of, list_behind};
+ghost use Rattle.asl_cmd.specs.Report as report;
 ghost use Rattle.asl_cmd.specs.Writes.{HasCause};
 
 use crate::status::Stop;
@@ -12,18 +14,25 @@ use asl_line::Line;
 use asl_syn::place::{MAX_BYTES, Source};
 use std::alloc::Global;
 
-/// The greatest number of files of a command.
+/// The greatest number of source files of a command.
 const MAX_FILES: usize = 64;
 
 /// What came of the reading.
 #[derive(Drop)]
 pub enum Reading {
-    /// All files were read, in the order of the words.
-    All(Vec<Source>),
+    /// All files were read: the source files, in the order of the words, and the bytes of the word list, none where the command has none.
+    All(Vec<Source>, Vec<u8>),
     /// The file of this name is the first that is too long.
     Long(String),
-    /// There are more than 64 files; none was opened.
+    /// There are more than 64 source files; none was opened.
     Many,
+}
+
+/// What came of the source files.
+#[derive(Drop)]
+pub enum Sources {
+    Whole(Vec<Source>),
+    Long(String),
 }
 
 /// What came of one file.
@@ -54,45 +63,87 @@ fn read_one<F: Files>(alloc: Global, name: &str, files: &mut F) -> Result<One, S
 }
 
 /// Reads the files in order, up to the first that is too long.
-fn read_all<F: Files>(alloc: Global, names: &[String], files: &mut F) -> Result<Reading, Stop>
+fn read_all<F: Files>(alloc: Global, names: &[String], files: &mut F) -> Result<Sources, Stop>
     requires { length names.now ≤ 64 }
     ensures reading { IfOk result (λ reading. IfSome (F.held files.old) (λ held. reading_of reading ≡ read_by held (map string_bytes names.now))) }
-    ensures short { IfOk result IsShort }
+    ensures short { IfOk result AreShortSources }
     ensures cause { HasCause result (F.faults files.old) (F.faults files.new) }
     ensures same_held { F.held files.new ≡ F.held files.old }
+    ensures same_sure { F.sure files.new ≡ F.sure files.old }
     ensures sure { All (λ name. IsTrue (F.sure files.old (string_bytes name))) names.now → IsErrOf result Stop.Fault → ⊥ }
 {
     let mut sources = Vec::new(alloc);
     for name in names {
         match read_one(alloc, name.as_str(), files)? {
             One::File(source) => sources.push(source)?,
-            One::TooLong(name) => return Ok(Reading::Long(name)),
+            One::TooLong(name) => return Ok(Sources::Long(name)),
         }
     }
-    Ok(Reading::All(sources))
+    Ok(Sources::Whole(sources))
 }
 
-/// The names that a command reads, in order.
-fn names(line: &Line) -> &[String]
-    ensures { map string_bytes result.now ≡ names_of (meaning_of line.now) }
+/// The names of the source files of a command, in order.
+fn source_names(line: &Line) -> &[String]
+    ensures { map string_bytes result.now ≡ sources_of (meaning_of line.now) }
 {
     match line {
-        Line::Usage => &[],
-        Line::Check { files } | Line::Run { files, .. } => files.as_slice(),
+        Line::Usage | Line::Generate { .. } => &[],
+        Line::Check { files } | Line::Run { files, .. } | Line::Exec { files, .. } => {
+            files.as_slice()
+        }
     }
 }
 
-/// Reads what the command names.
+/// Reads the word list behind the source files, where all of these were read.
+fn read_list<F: Files>(
+    alloc: Global,
+    sources: Sources,
+    list: &str,
+    files: &mut F,
+) -> Result<Reading, Stop>
+    requires { AreShortSources sources }
+    ensures reading { IfOk result (λ reading. IfSome (F.held files.old) (λ held. came_in reading ≡ list_behind list.now (held list.now) (reading_of sources))) }
+    ensures short { IfOk result IsShort }
+    ensures cause { HasCause result (F.faults files.old) (F.faults files.new) }
+    ensures same_held { F.held files.new ≡ F.held files.old }
+    ensures sure { IsTrue (F.sure files.old list.now) → IsErrOf result Stop.Fault → ⊥ }
+{
+    match sources {
+        Sources::Whole(sources) => match read_one(alloc, list, files)? {
+            One::File(list) => Ok(Reading::All(sources, list.bytes)),
+            One::TooLong(list) => Ok(Reading::Long(list)),
+        },
+        Sources::Long(name) => Ok(Reading::Long(name)),
+    }
+}
+
+/// The source files without a word list.
+fn without_list(alloc: Global, sources: Sources) -> Reading
+    requires { AreShortSources sources }
+    ensures reading { came_in result ≡ report.without_list (reading_of sources) }
+    ensures short { IsShort result }
+{
+    match sources {
+        Sources::Whole(sources) => Reading::All(sources, Vec::new(alloc)),
+        Sources::Long(name) => Reading::Long(name),
+    }
+}
+
+/// Reads what the command names: the source files in order, and then the word list.
 pub fn read_line<F: Files>(alloc: Global, line: &Line, files: &mut F) -> Result<Reading, Stop>
-    ensures reading { IfOk result (λ reading. IfSome (F.held files.old) (λ held. reading_of reading ≡ read_for (meaning_of line.now) held)) }
+    ensures reading { IfOk result (λ reading. IfSome (F.held files.old) (λ held. came_in reading ≡ came_of (meaning_of line.now) held)) }
     ensures short { IfOk result IsShort }
     ensures cause { HasCause result (F.faults files.old) (F.faults files.new) }
     ensures same_held { F.held files.new ≡ F.held files.old }
     ensures sure { All (λ name. IsTrue (F.sure files.old name)) (names_of (meaning_of line.now)) → IsErrOf result Stop.Fault → ⊥ }
 {
-    let names = names(line);
+    let names = source_names(line);
     if names.len() > MAX_FILES {
         return Ok(Reading::Many);
     }
-    read_all(alloc, names, files)
+    let sources = read_all(alloc, names, files)?;
+    match line {
+        Line::Exec { list, .. } => read_list(alloc, sources, list.as_str(), files),
+        _ => Ok(without_list(alloc, sources)),
+    }
 }

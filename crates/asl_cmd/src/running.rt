@@ -1,26 +1,33 @@
-//! The run of a checked program, and the lines of its end.
-ghost use Rattle.std.specs.Prelude.{◌≡◌, ◌++◌, [], Ok, map, if◌then◌else◌};
+//! The runs of checked programs, and the lines of their ends.
+ghost use Rattle.std.specs.Prelude.{◌≡◌, ◌≤◌, ◌++◌, [], Ok, Some, length, map, if◌then◌else◌};
+ghost use Rattle.asl_syn.specs.Command.{default_steps};
+ghost use Rattle.asl_words.specs.declared.TheConstants.{MOST_WORDS};
+ghost use Rattle.asl_words.specs.Runs.{end_of};
 ghost use Rattle.asl_rules.specs.Programs.{environment};
-ghost use Rattle.asl_rules.specs.Report.{answer, started};
+ghost use Rattle.asl_rules.specs.Report.{answer, begun, made_answer, started, worked};
 ghost use Rattle.asl_rules.specs.Tests.{Tests};
 ghost use Rattle.asl_rules.specs.Texts.{global_line, line_feed, value_text};
 ghost use Rattle.asl_types.specs.Suits.{Suits};
 ghost use Rattle.asl_value.specs.View.{value_of};
 ghost use Rattle.asl_machine.specs.Stages.{answer_of};
 ghost use Rattle.asl_machine.specs.Storage.{var_of};
-ghost use Rattle.asl_cmd.specs.Ends.{end_line, end_status, globals_ending, vars_text, Starts};
+ghost use Rattle.asl_cmd.specs.Ends.{end_line, end_status, globals_ending, made_line, vars_text, where_returned, words_ending, words_line, Decodes, Starts};
 ghost use Rattle.asl_cmd.specs.Model.{file_of, AreShort};
 ghost use Rattle.asl_cmd.specs.Writes.{Writes, Answers, HasCause, code_of};
 
 use crate::status::{Status, Stop};
-use crate::texts::dynamic_text;
+use crate::texts::{done_text, dynamic_text};
 use crate::writing::{close, put, say};
 use asl_io::Sink;
 use asl_machine::{GlobalVar, Machine, Outcome, RunRefused};
 use asl_syn::place::Source;
 use asl_tree::Checked;
 use asl_value::{Value, show};
+use asl_words::{ExecEnd, exec};
 use std::alloc::Global;
+
+/// The steps of a run where no number is given.
+const DEFAULT_STEPS: u32 = 1_000_000;
 
 /// Writes a value.
 fn put_value<K: Sink>(out: &mut K, value: &Value) -> Result<(), Stop>
@@ -169,6 +176,143 @@ pub fn run_program<K: Sink>(
     let mut machine = Machine::new(alloc, checked, u64::from(steps))?;
     match machine.call(alloc, main, Vec::new(alloc), out) {
         Ok(outcome) => finish(alloc, sources, &machine, outcome, out),
+        Err(RunRefused::SinkFault) => Err(Stop::Fault),
+        Err(RunRefused::NoMemory) => Err(Stop::NoMemory),
+    }
+}
+
+/// Writes the line of the end of a run over words, and answers its status.
+fn say_words_end<K: Sink>(
+    alloc: Global,
+    sources: &[Source],
+    machine: &Machine,
+    end: ExecEnd,
+    count: usize,
+    out: &mut K,
+) -> Result<Status, Stop>
+    requires short { AreShort sources.now }
+    requires ended { end_of count machine.now.stage ≡ Some end }
+    ensures answer { Answers result (K.written out.old) (K.written out.new) (answer (words_line (map file_of sources.now) count machine.now.stage) (end_status machine.now.stage)) }
+    ensures cause { HasCause result (K.faults out.old) (K.faults out.new) }
+    ensures same_full { K.full out.new ≡ K.full out.old }
+{
+    match end {
+        ExecEnd::Done(words) => {
+            let text = done_text(alloc, words)?;
+            say(out, text.as_bytes(), Status::Done)
+        }
+        ExecEnd::Uncaught => match machine.uncaught() {
+            Some(value) => say_value(out, b"uncaught ", value, Status::Uncaught),
+            None => unreachable!(),
+        },
+        ExecEnd::Fault(code, span) => {
+            let text = dynamic_text(alloc, sources, code, span)?;
+            say(out, text.as_bytes(), Status::Dynamic)
+        }
+    }
+}
+
+/// Closes the printed text of a run over words where it is open, and writes the line of its end and those of the globals.
+fn finish_words<K: Sink>(
+    alloc: Global,
+    sources: &[Source],
+    machine: &Machine,
+    end: ExecEnd,
+    count: usize,
+    out: &mut K,
+) -> Result<Status, Stop>
+    requires short { AreShort sources.now }
+    requires ended { end_of count machine.now.stage ≡ Some end }
+    ensures answer { (t : Tests) → Suits t → Answers result (K.written out.old) (K.written out.new) (answer ((if machine.now.text_open then line_feed else []) ++ words_ending t (map file_of sources.now) count machine.now) (end_status machine.now.stage)) }
+    ensures cause { HasCause result (K.faults out.old) (K.faults out.new) }
+    ensures same_full { K.full out.new ≡ K.full out.old }
+{
+    close(out, machine.text_open())?;
+    let status = say_words_end(alloc, sources, machine, end, count, out)?;
+    put_globals(out, machine.globals())?;
+    Ok(status)
+}
+
+/// Runs a program from its entry on each of the words with so many steps: the lines of the words and the printed text go to the sink as
+/// they come, and then the lines of its end.
+pub fn exec_program<K: Sink>(
+    alloc: Global,
+    sources: &[Source],
+    checked: Checked,
+    steps: u32,
+    words: &[u32],
+    out: &mut K,
+) -> Result<Status, Stop>
+    requires short { AreShort sources.now }
+    requires accepted { (t : Tests) → Suits t → Decodes t checked }
+    requires few { length words.now ≤ MOST_WORDS }
+    ensures answer { (t : Tests) → Suits t → Answers result (K.written out.old) (K.written out.new) (worked (map file_of sources.now) (environment t checked.decls) steps words.now checked.main) }
+    ensures cause { HasCause result (K.faults out.old) (K.faults out.new) }
+    ensures same_full { K.full out.new ≡ K.full out.old }
+{
+    let mut machine = Machine::new(alloc, checked, u64::from(steps))?;
+    match exec(alloc, &mut machine, words, out) {
+        Ok(end) => finish_words(alloc, sources, &machine, end, words.len(), out),
+        Err(RunRefused::SinkFault) => Err(Stop::Fault),
+        Err(RunRefused::NoMemory) => Err(Stop::NoMemory),
+    }
+}
+
+/// Writes these words where a run returned.
+fn put_where_returned<K: Sink>(out: &mut K, words: &[u8], outcome: Outcome) -> Result<(), Stop>
+    ensures text { Writes result (K.written out.old) (K.written out.new) (where_returned words.now outcome) }
+    ensures cause { HasCause result (K.faults out.old) (K.faults out.new) }
+    ensures same_full { K.full out.new ≡ K.full out.old }
+{
+    match outcome {
+        Outcome::Returned => put(out, words),
+        Outcome::Uncaught => Ok(()),
+        Outcome::Fault(_, _) => Ok(()),
+    }
+}
+
+/// Closes the printed text of the run of a made text where it is open, and writes the line of its end: where the run returned, these words
+/// stand before the value.
+fn finish_made<K: Sink>(
+    alloc: Global,
+    sources: &[Source],
+    machine: &Machine,
+    outcome: Outcome,
+    words: &[u8],
+    out: &mut K,
+) -> Result<Status, Stop>
+    requires short { AreShort sources.now }
+    requires ended { answer_of machine.now.stage ≡ Ok outcome }
+    ensures answer { Answers result (K.written out.old) (K.written out.new) (answer ((if machine.now.text_open then line_feed else []) ++ made_line words.now (map file_of sources.now) machine.now.stage) (end_status machine.now.stage)) }
+    ensures cause { HasCause result (K.faults out.old) (K.faults out.new) }
+    ensures same_full { K.full out.new ≡ K.full out.old }
+{
+    close(out, machine.text_open())?;
+    put_where_returned(out, words, outcome)?;
+    say_end(alloc, sources, machine, outcome, out)
+}
+
+/// Runs a program that was made from its entry, and writes its printed text and the line of its end: where it returned, these words stand
+/// before the value.
+pub fn run_made<K: Sink>(
+    alloc: Global,
+    sources: &[Source],
+    checked: Checked,
+    words: &[u8],
+    out: &mut K,
+) -> Result<Status, Stop>
+    requires short { AreShort sources.now }
+    requires accepted { (t : Tests) → Suits t → Starts t checked }
+    ensures answer { (t : Tests) → Suits t → Answers result (K.written out.old) (K.written out.new) (begun (made_answer words.now (map file_of sources.now)) (environment t checked.decls) default_steps checked.main) }
+    ensures cause { HasCause result (K.faults out.old) (K.faults out.new) }
+    ensures same_full { K.full out.new ≡ K.full out.old }
+{
+    let Some(main) = checked.entry() else {
+        return Ok(Status::Done);
+    };
+    let mut machine = Machine::new(alloc, checked, u64::from(DEFAULT_STEPS))?;
+    match machine.call(alloc, main, Vec::new(alloc), out) {
+        Ok(outcome) => finish_made(alloc, sources, &machine, outcome, words, out),
         Err(RunRefused::SinkFault) => Err(Stop::Fault),
         Err(RunRefused::NoMemory) => Err(Stop::NoMemory),
     }

@@ -1,18 +1,22 @@
 //! The exact texts: fault lines, and the lines that end an answer.
-ghost use Rattle.std.specs.Prelude.{◌≡◌, ◌<◌, IfOk, map, string_bytes};
-ghost use Rattle.asl_rules.specs.Texts.{placed, line_at, fault_line, dynamic_line, long_line, accepted_line};
+ghost use Rattle.std.specs.Prelude.{◌≡◌, ◌<◌, ℕ, List, Result, Err, IfOk, map, string_bytes};
+ghost use Rattle.asl_rules.specs.Texts.{placed, line_at, fault_line, dynamic_line, long_line, accepted_line, done_line, made_words};
+ghost use Rattle.asl_rules.specs.Report.{Answer, answer, on_words_read};
+ghost use Rattle.asl_rules.specs.WordList.{ListFault};
+ghost use Rattle.asl_words.specs.Faults.{Says};
 ghost use Rattle.asl_cmd.specs.Model.{file_of, AreShort};
 
-use asl_syn::code::{DynCode, Fault};
+use asl_syn::code::{DynCode, Fault, StaticCode};
 use asl_syn::place::{Source, place};
 use asl_syn::token::Span;
+use asl_words::WordFault;
 use std::alloc::{AllocError, Global};
 
 /// A place in a file, and a code.
 fn placed_text(
     alloc: Global,
     name: &str,
-    line: u32,
+    line: usize,
     column: u32,
     len: u32,
     code: &str,
@@ -36,7 +40,8 @@ fn text_at(alloc: Global, sources: &[Source], span: Span, code: &str) -> Result<
                 len: 0,
             };
             let (line, column) = place(sources, first);
-            placed_text(alloc, source.name.as_str(), line, column, span.len, code)
+            let name = source.name.as_str();
+            placed_text(alloc, name, line as usize, column, span.len, code)
         }
         None => placed_text(alloc, "", 1, 1, span.len, code),
     }
@@ -76,6 +81,48 @@ pub fn long_text(alloc: Global, name: &str) -> Result<String, AllocError>
     ensures { IfOk result (λ text. string_bytes text ≡ long_line name.now) }
 {
     format!(in alloc; "{name}:1:1+0: M01\n")
+}
+
+/// The code of a word list's fault, and the number of its line.
+fn code_and_line(fault: WordFault) -> (StaticCode, usize)
+    requires { fault ≡ WordFault.NoMemory → ⊥ }
+    ensures { (r : Result (List ℕ) ListFault) → Says fault r → r ≡ Err (record { code = result.0; line = result.1 }) }
+{
+    match fault {
+        WordFault::Length(line) => (StaticCode::N01, line),
+        WordFault::Digit(line) => (StaticCode::N02, line),
+        WordFault::TooMany(line) => (StaticCode::N03, line),
+        WordFault::NoMemory => unreachable!(),
+    }
+}
+
+/// The line of a word list's fault, at the beginning of its line.
+pub fn list_fault_text(alloc: Global, name: &str, fault: WordFault) -> Result<String, AllocError>
+    requires { fault ≡ WordFault.NoMemory → ⊥ }
+    ensures { IfOk result (λ text. (r : Result (List ℕ) ListFault) → Says fault r → (go : List ℕ → Answer) → on_words_read name.now r go ≡ answer (string_bytes text) 1) }
+{
+    let (code, line) = code_and_line(fault);
+    placed_text(alloc, name, line, 1, 0, code.text())
+}
+
+/// The line of words that all returned, by their number.
+pub fn done_text(alloc: Global, words: u32) -> Result<String, AllocError>
+    ensures { IfOk result (λ text. string_bytes text ≡ done_line words) }
+{
+    format!(in alloc; "done {words}\n")
+}
+
+/// What stands before the value that a made text returned.
+pub fn made_words(
+    alloc: Global,
+    number: u32,
+    size: u32,
+    bytes: usize,
+    declarations: usize,
+) -> Result<String, AllocError>
+    ensures { IfOk result (λ text. string_bytes text ≡ made_words number size bytes declarations) }
+{
+    format!(in alloc; "self {number} {size}: {bytes} bytes, {declarations} declarations, ")
 }
 
 /// The line of a check that accepts so many declarations.

@@ -7,7 +7,7 @@ ghost use Rattle.asl_line.specs.Line.{line_of};
 ghost use Rattle.asl_grammar.specs.Reading.{Reader, IsReading};
 ghost use Rattle.asl_rules.specs.Tests.{Tests};
 ghost use Rattle.asl_types.specs.Suits.{Suits};
-ghost use Rattle.asl_cmd.specs.Report.{report_of};
+ghost use Rattle.asl_rules.specs.Report.{report_of};
 ghost use Rattle.asl_cmd.specs.Writes.{code_of};
 
 use crate::answer::write_answer;
@@ -19,7 +19,6 @@ use std::alloc::Global;
 
 /// Does what the words of the command line ask for, the name of the program first: reads the files that they
 /// name, writes the report to the sink and gives its status. Want of memory may be answered at any point.
-#[tactic(auto, unfolding(crate::specs::Report::report_of))]
 pub fn asl<F: Files, K: Sink>(alloc: Global, words: &[String], files: &mut F, out: &mut K) -> Status
     // Where the files tell their bytes and neither count rose, the status is the report's, and where the sink tells
     // its bytes, the report's text was written; or memory was wanting.

@@ -15,11 +15,10 @@ use Rattle.asl_rules.specs.Writing.{Written}
 use Rattle.asl_rules.specs.Members.{has_name}
 use Rattle.asl_rules.specs.Exprs.{written}
 use Rattle.asl_rules.specs.Locals.{itself}
-use Rattle.asl_rules.specs.Scopes.{Entry, Param, Standing, standing_of, is_free, is_absent, fixed, next_atom}
+use Rattle.asl_rules.specs.Scopes.{Entry, Param, Standing, standing_of, is_free, is_absent, fixed, next_atom, with_entry}
 use Rattle.asl_rules.specs.Declarations.{in_names}
 use Rattle.asl_rules.specs.Programs.{params_free, formals_free, param_written, result_rule, param_entry, params_rule, with_formals}
 use Rattle.asl_rules.proofs.basics.Inversions.{ok_ok, bind_ok, then_ok, need_ok}
-use Rattle.asl_types.specs.Standings.{with_entry}
 use Rattle.asl_decl.specs.Heads.{params_declared, formals_declared}
 use Rattle.asl_decl.specs.HeadTypes.{maybe_written, params_after, IsFront}
 

@@ -2,9 +2,6 @@ mod ApartLemmas
 mod FreeLemmas
 mod HeadLemmas
 mod LimitLemmas
-mod NoneTwice
-mod Outside
-mod SameHeads
 mod SignatureLemmas
 mod TableLemmas
 mod WordLemmas

@@ -1,5 +1,5 @@
 -- Signatures as the checker finds them are those of the rule, with the names that bodies begin with.
-use Rattle.std.proofs.Common.{◌≡◌, ℕ, false, List, [], ◌∷◌, ◌++◌, Option, Result, Ok, Err, refl, sym, ap, ap₂, ◌∙◌, subst, append_assoc}
+use Rattle.std.proofs.Common.{◌≡◌, ℕ, false, List, [], ◌∷◌, ◌++◌, Option, Result, Ok, Err, refl, sym, ap, ap₂, ◌∙◌, append_assoc}
 use Rattle.std.specs.Prelude.{ℤ}
 use Rattle.std.proofs.lemmas.List.{append-nil}
 use Rattle.asl_syn.specs.declared.code.Fault.{Fault}
@@ -16,14 +16,11 @@ use Rattle.asl_rules.specs.Exprs.{written}
 use Rattle.asl_rules.specs.Scopes.{Entry, Param, Signature}
 use Rattle.asl_rules.specs.Declarations.{in_names}
 use Rattle.asl_rules.specs.Programs.{Head, funcs_of, params_free, formals_free, params_rule, formals_rule, result_rule, limit_typed, params_are_integers, limit_rule, with_formals, class_of, signature_rule, signatures_rule}
-use Rattle.asl_rules.proofs.basics.Inversions.{ok_ok, bind_ok, then_ok}
 use Rattle.asl_types.specs.View.{parts_of}
-use Rattle.asl_decl.specs.Free.{free_rule}
 use Rattle.asl_decl.specs.Heads.{params_declared, formals_declared, head_of, heads_of}
 use Rattle.asl_decl.specs.HeadTypes.{maybe_written, params_after, formals_after, HeadTypes, types_with, head_types}
 use Rattle.asl_decl.specs.Limits.{limit_after}
 use Rattle.asl_decl.specs.Signatures.{signature_with, signature_found, signatures_found, signatures_after, funcs_after}
-use Rattle.asl_decl.proofs.ApartLemmas.{Signed}
 use Rattle.asl_decl.proofs.HeadLemmas.{none_before, params_same, params_end, formals_same, params_are, result_is}
 
 -- ---- the types of formals
@@ -172,20 +169,6 @@ heads_are t (f ∷ fs) N =
     by (Ok s) (Ok ss) = refl
     by (Ok s) (Err x) = refl
     by (Err x) k = refl
-
-signature_named : (t : Tests) (f : Func) (N : List Entry) (s : Signature) → signature_found t f N ≡ Ok s → s.name ≡ f.name.text
-signature_named t f N s h =
-    let p = then_ok (free_rule f N) (head_types t f N >>= λ H. limit_after t f H.params N >>= λ limit. Ok (signature_with f H limit)) s h in
-    let q = bind_ok (head_types t f N) (λ H. limit_after t f H.params N >>= λ limit. Ok (signature_with f H limit)) s p.then in
-    let r = bind_ok (limit_after t f q.value.params N) (λ limit. Ok (signature_with f q.value limit)) s q.then in
-    ap (λ (z : Signature). z.name) (sym (ok_ok (signature_with f q.value r.value) s r.then))
-
-pub signed : (t : Tests) (fs : List Func) (N : List Entry) (ss : List Signature) → signatures_found t fs N ≡ Ok ss → Signed fs ss
-signed t [] N ss h = subst (λ zs. Signed [] zs) (ok_ok [] ss h) tt
-signed t (f ∷ fs) N ss h =
-    let p = bind_ok (signature_found t f N) (λ s. signatures_found t fs N >>= λ zs. Ok (s ∷ zs)) ss h in
-    let q = bind_ok (signatures_found t fs N) (λ zs. Ok (p.value ∷ zs)) ss p.then in
-    subst (λ zs. Signed (f ∷ fs) zs) (ok_ok (p.value ∷ q.value) ss q.then) (signature_named t f N p.value p.first, signed t fs N q.value q.first)
 
 -- ---- one by one
 

@@ -8,10 +8,9 @@ use Rattle.asl_syn.specs.declared.tree.TypeExpr.{TypeExpr}
 use Rattle.asl_rules.specs.Faults.{◌>>=◌}
 use Rattle.asl_rules.specs.Tests.{Tests}
 use Rattle.asl_rules.specs.Types.{Ty}
-use Rattle.asl_rules.specs.Scopes.{Scope, Entry, Param, next_atom}
+use Rattle.asl_rules.specs.Scopes.{Scope, Entry, Param, next_atom, with_entry}
 use Rattle.asl_rules.specs.Declarations.{in_names}
 use Rattle.asl_rules.specs.Programs.{param_entry}
-use Rattle.asl_types.specs.Standings.{with_entry}
 use Rattle.asl_judge.specs.Definitions.{type_written}
 
 -- the type that is written, where one is

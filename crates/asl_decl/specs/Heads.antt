@@ -11,10 +11,9 @@ use Rattle.asl_rules.specs.Types.{Parts, part}
 use Rattle.asl_rules.specs.Names.{names_rule, all_declared}
 use Rattle.asl_rules.specs.Uses.{cycles_rule}
 use Rattle.asl_rules.specs.Declarations.{globals_rule}
-use Rattle.asl_rules.specs.Scopes.{Entry, Signature, Param, fixed}
+use Rattle.asl_rules.specs.Scopes.{Entry, Signature, Param, fixed, with_entry}
 use Rattle.asl_rules.specs.Locals.{itself}
 use Rattle.asl_rules.specs.Programs.{Head, funcs_of, param_entry, signatures_rule, overloads_rule}
-use Rattle.asl_types.specs.Standings.{with_entry}
 use Rattle.asl_decl.specs.declared.table.Table.{Table}
 
 -- ---- the names of a body
@@ -51,7 +50,7 @@ abbrev pub declared_with : List Entry → List Head → Declared
 declared_with names heads = record { names = names; heads = heads }
 
 -- what declarations bring that are well formed, with the signatures of their subprograms: names, declarations that reach themselves, types and storage,
--- signatures, and subprograms of one name
+-- signatures, and subprograms of one name whose formals have the same kinds
 abbrev pub declared_rule : Tests → List Decl → Result Declared Fault
 declared_rule t ds =
     names_rule [] (all_declared ds) >>

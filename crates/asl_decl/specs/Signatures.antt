@@ -1,5 +1,5 @@
--- Signatures in source order, and the names of subprograms, which stand once, as the checker finds them.
-use Rattle.std.specs.Prelude.{ℕ, suc, ℤ, List, [], ◌∷◌, ◌++◌, Result, Ok}
+-- Signatures in source order, and subprograms of one name, as the checker finds them.
+use Rattle.std.specs.Prelude.{ℕ, suc, nat_lt, ℤ, Bool, true, false, not, List, [], ◌∷◌, ◌++◌, slice_get, Option, Some, None, Result, Ok}
 use Rattle.asl_syn.specs.declared.code.Fault.{Fault}
 use Rattle.asl_syn.specs.declared.code.StaticCode.TheVariants.{T10}
 use Rattle.asl_syn.specs.declared.tree.Decl.{Decl}
@@ -7,10 +7,10 @@ use Rattle.asl_syn.specs.declared.tree.Decl.TheVariants as dc
 use Rattle.asl_syn.specs.declared.tree.Func.{Func}
 use Rattle.asl_rules.specs.Faults.{◌>>=◌, ◌>>◌, need}
 use Rattle.asl_rules.specs.Tests.{Tests}
-use Rattle.asl_rules.specs.Scopes.{Entry, Signature, is_absent}
+use Rattle.asl_rules.specs.Types.{kinds}
+use Rattle.asl_rules.specs.Scopes.{Entry, Signature, Chosen, choose}
 use Rattle.asl_rules.specs.Programs.{class_of}
 use Rattle.asl_types.specs.View.{parts_of}
-use Rattle.asl_names.specs.Firsts.{Places, first_place, kept}
 use Rattle.asl_decl.specs.Free.{free_rule}
 use Rattle.asl_decl.specs.Heads.{Declared, declared_with, heads_of}
 use Rattle.asl_decl.specs.HeadTypes.{HeadTypes, head_types}
@@ -45,16 +45,26 @@ funcs_after before (dc.Type d ∷ ds) = funcs_after before ds
 funcs_after before (dc.Storage d ∷ ds) = funcs_after before ds
 funcs_after before (dc.Func f ∷ ds) = funcs_after (before ++ f ∷ []) ds
 
--- T10 at the first name of a subprogram that is among those before it, with the places of these
-abbrev pub apart_beside : List Func → ℕ → Places → Result (Unit {0}) Fault
-apart_beside [] n ps = Ok tt
-apart_beside (f ∷ fs) n ps = need (is_absent (first_place f.name.text ps)) T10 f.name.span >> apart_beside fs (suc n) (kept f.name.text n ps)
+-- the overload that is chosen stands before this number
+abbrev pub is_before : ℕ → Option Chosen → Bool
+is_before n None = false
+is_before n (Some c) = nat_lt c.number n
 
-abbrev pub apart_rule : List Func → Result (Unit {0}) Fault
-apart_rule fs = apart_beside fs 0 []
+-- none before the signature of this number has its name, and formals of its kinds
+abbrev pub is_apart : ℕ → Option Signature → List Signature → Bool
+is_apart n None ss = true
+is_apart n (Some s) ss = not (is_before n (choose s.name (kinds s.formals) ss))
+
+-- T10 at the first name of a subprogram that one before it has, with formals of the same kinds; the first has this number
+abbrev pub apart_from : ℕ → List Func → List Signature → Result (Unit {0}) Fault
+apart_from n [] ss = Ok tt
+apart_from n (f ∷ fs) ss = need (is_apart n (slice_get ss n) ss) T10 f.name.span >> apart_from (suc n) fs ss
+
+abbrev pub apart_rule : List Func → List Signature → Result (Unit {0}) Fault
+apart_rule fs ss = apart_from 0 fs ss
 
 -- ---- what declarations bring
 
--- the subprograms with their signatures over these names outside bodies, which have names of their own
+-- the subprograms with their signatures over these names outside bodies
 abbrev pub declared_found : Tests → List Func → List Entry → Result Declared Fault
-declared_found t fs names = signatures_after t [] fs names >>= λ ss. apart_rule fs >> Ok (declared_with names (heads_of names fs ss))
+declared_found t fs names = signatures_after t [] fs names >>= λ ss. apart_rule fs ss >> Ok (declared_with names (heads_of names fs ss))

@@ -1,17 +1,18 @@
-//! The subprograms of a program, which have names of their own.
+//! The subprograms of a program: those of one name have formals of different kinds.
 
-ghost use Rattle.std.specs.Prelude.{◌≡◌, [], map, IfOk};
+ghost use Rattle.std.specs.Prelude.{◌≡◌, [], map, slice_get, IfOk};
 ghost use Rattle.asl_rules.specs.Faults.{need};
 ghost use Rattle.asl_rules.specs.Programs as programs;
-ghost use Rattle.asl_rules.specs.Scopes.{is_absent};
-ghost use Rattle.asl_names.specs.Firsts.{first_place};
+ghost use Rattle.asl_rules.specs.Scopes as scopes;
+ghost use Rattle.asl_rules.specs.Types as types;
 ghost use Rattle.asl_types.specs.Answers.{Agrees};
+ghost use Rattle.asl_types.specs.View.{parts_of};
 ghost use Rattle.asl_decl.specs.Signatures as rules;
 
-use asl_names::firsts::Firsts;
 use asl_syn::code::{Refused, StaticCode};
 use asl_syn::tree::{Decl, Func};
 use asl_types::answer::fault;
+use asl_types::{Subprograms, Ty};
 use sqlite_items::Items;
 use std::alloc::{AllocError, Global};
 
@@ -39,24 +40,44 @@ pub(crate) fn funcs_of<'a>(alloc: Global, decls: &'a [Decl]) -> Result<Items<&'a
     Ok(funcs)
 }
 
-/// T10 at the name of a subprogram that is among those before it.
-fn check_new(f: &Func, before: &Firsts<'_>) -> Result<(), Refused>
-    ensures { Agrees result (need (is_absent (first_place f.now.name.text before.now)) StaticCode.T10 f.now.name.span) }
+/// Whether the overload of this name and formals of these kinds stands before this number.
+fn is_before(subs: &Subprograms, name: &[u8], formals: &[Ty], number: usize) -> bool
+    ensures { result ≡ rules.is_before number (scopes.choose name.now (types.kinds (parts_of formals.now)) subs.now) }
 {
-    match before.place_of(f.name.text.as_slice()) {
-        None => Ok(()),
-        Some(_) => fault(StaticCode::T10, f.name.span),
+    match subs.choose(name, formals) {
+        None => false,
+        Some(first) => first.0 < number,
     }
 }
 
-/// T10 at the first name of a subprogram that one before it has.
-pub(crate) fn check_apart(alloc: Global, funcs: &[&Func]) -> Result<(), Refused>
-    ensures { Agrees result (rules.apart_rule (map (λ f. f.now) funcs.now)) }
+/// Whether none before the subprogram of this number has its name, and formals of its kinds.
+fn is_apart(subs: &Subprograms, number: usize) -> bool
+    ensures { result ≡ rules.is_apart number (slice_get subs.now number) subs.now }
 {
-    let mut before = Firsts::new(alloc);
-    for (place, f) in funcs.iter().enumerate() {
-        check_new(f, &before)?;
-        before.keep(f.name.text.as_slice(), place)?;
+    match subs.signatures().get(number) {
+        None => true,
+        Some(s) => !is_before(subs, s.name().get().as_slice(), s.formals(), number),
+    }
+}
+
+/// T10 at the name of the subprogram of this number, where one before it has the name, and formals of the same kinds.
+fn check_one(f: &Func, subs: &Subprograms, number: usize) -> Result<(), Refused>
+    ensures { Agrees result (need (rules.is_apart number (slice_get subs.now number) subs.now) StaticCode.T10 f.now.name.span) }
+{
+    if is_apart(subs, number) {
+        Ok(())
+    } else {
+        fault(StaticCode::T10, f.name.span)
+    }
+}
+
+/// T10 at the first name of a subprogram that one before it has, with formals of the same kinds. Those of one name are
+/// compared without a walk over the others.
+pub(crate) fn check_apart(funcs: &[&Func], subs: &Subprograms) -> Result<(), Refused>
+    ensures { Agrees result (rules.apart_rule (map (λ f. f.now) funcs.now) subs.now) }
+{
+    for (number, f) in funcs.iter().enumerate() {
+        check_one(f, subs, number)?;
     }
     Ok(())
 }

@@ -33,10 +33,7 @@ pub(crate) fn counted_at(alloc: Global, number: Atom) -> Result<Counted, AllocEr
 pub fn next_itself(alloc: Global, names: &Scope) -> Result<Counted, AllocError>
     ensures { IfOk result (λ c. c ≡ scopes.atom_at (scopes.next_atom names.now)) }
 {
-    match names.next_atom() {
-        None => Err(AllocError),
-        Some(number) => counted_at(alloc, number),
-    }
+    counted_at(alloc, names.next_atom())
 }
 
 /// What a name of this type counts as where it stands for itself, as a formal does: an integer as the next atom, and no

@@ -60,9 +60,7 @@ fn type_params<'a>(
     let mut typed = Items::new(alloc);
     for p in params {
         let ty = maybe_written(alloc, in_names(names, none), &p.ty)?;
-        let Some(atom) = names.next_atom() else {
-            return Err(Refused::NoMemory);
-        };
+        let atom = names.next_atom();
         let param = Param::new(atom, ty);
         declare_param(alloc, names, p.name.text.as_slice(), &param)?;
         typed.push(param)?;

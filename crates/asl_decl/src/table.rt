@@ -26,7 +26,8 @@ pub struct Table<'a> {
 }
 
 /// The names outside bodies, and these subprograms, each with its signature over these names: the fault of the first
-/// signature that has one, and then T10 at the first name of a subprogram that one before it has.
+/// signature that has one, and then T10 at the first name of a subprogram that one before it has, with formals of the same
+/// kinds.
 fn with_funcs<'a>(
     alloc: Global,
     names: Scope<'a>,
@@ -37,14 +38,14 @@ fn with_funcs<'a>(
 {
     let mut names = names;
     let subs = find_signatures(alloc, &mut names, funcs.as_slice())?;
-    check_apart(alloc, funcs.as_slice())?;
+    check_apart(funcs.as_slice(), &subs)?;
     Ok(Table { names, funcs, subs })
 }
 
 impl<'a> Table<'a> {
     /// What the declarations bring. The phases before bodies come in order: names (T01), declarations that reach
     /// themselves (T03), the fault of the first declaration that has one where all that it uses is well formed, the
-    /// signatures of subprograms, and subprograms of one name (T10). Want of memory says nothing.
+    /// signatures of subprograms, and those of one name whose formals have the same kinds (T10). Want of memory says nothing.
     pub fn build(alloc: Global, decls: &'a [Decl]) -> Result<Table<'a>, Refused>
         ensures rule { (t : Tests) → Suits t → Met declared_of result (declared_rule t decls.now) }
         ensures many { IfOk result (λ x. length x.funcs ≡ length x.subs) }

@@ -1,7 +1,7 @@
 -- How long the text is at most.
 use Rattle.std.proofs.Common.{ℕ, zero, suc, ◌*◌, ◌^◌, ◌<◌, ◌≤◌, length, decimal, arith, length-append}
 use Rattle.std.proofs.lemmas.Fmt.{length-decimal-le}
-use Rattle.asl_gen.specs.Program.{call_line, declarations, first_value, function_line, global_line, program, statements, sum_line, widening}
+use Rattle.asl_rules.specs.Made.{call_line, declarations, first_value, function_line, global_line, made_text, statements, sum_line, widening}
 
 -- a small number has few digits
 length-small : (n : ℕ) → n < 10 ^ 4 → length (decimal n) ≤ 4
@@ -53,8 +53,8 @@ length-statements number (suc n) h =
     simp length-append (omega (arith, before, one, two))
 
 -- the text is no longer than a file may be
-pub length-program : (number size : ℕ) → size ≤ 2000 → length (program number size) ≤ 1048576
-unfolding program
+pub length-program : (number size : ℕ) → size ≤ 2000 → length (made_text number size) ≤ 1048576
+unfolding made_text
 length-program number size h =
     let one = length-declarations number size h in
     let two = length-statements number size h in

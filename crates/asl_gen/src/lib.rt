@@ -3,7 +3,7 @@
 #![tactic(auto)]
 
 ghost use Rattle.std.specs.Prelude.{◌≡◌, ◌*◌, ◌++◌, ◌<◌, ◌≤◌, ◌%◌, ◌^◌, IfOk, OnOk, decimal, vec_len};
-ghost use Rattle.asl_gen.specs.Program.{call_line, declarations, drawn, function_line, global_line, next, program, statements, sum_line, value_in, widening_in};
+ghost use Rattle.asl_rules.specs.Made.{call_line, declarations, drawn, function_line, global_line, made_text, next, statements, sum_line, value_in, widening_in};
 
 use itoa::Buffer;
 use std::alloc::{AllocError, Global};
@@ -16,7 +16,7 @@ pub const MOST_SIZE: u32 = 2_000;
 pub fn program(alloc: Global, number: u32, size: u32) -> Result<Vec<u8>, AllocError>
     requires some { 1 ≤ size }
     requires few { size ≤ MOST_SIZE }
-    ensures text { IfOk result (λ text. text.items ≡ program number size) }
+    ensures text { IfOk result (λ text. text.items ≡ made_text number size) }
     ensures short { IfOk result (λ text. vec_len text ≤ 1048576) }
 {
     let mut text = Vec::new(alloc);
@@ -57,7 +57,7 @@ fn push_statements(text: &mut Vec<u8>, number: u32, size: u32) -> Result<(), All
 }
 
 /// The number that is drawn first.
-#[tactic(auto, unfolding(crate::specs::Program::drawn))]
+#[tactic(auto, unfolding(asl_rules::specs::Made::drawn))]
 fn first_drawn(number: u32) -> u32
     ensures { result ≡ drawn number 0 }
 {

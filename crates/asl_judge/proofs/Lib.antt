@@ -5,7 +5,6 @@ pub mod LibraryNames
 pub mod OnceLemmas
 pub mod Passing
 pub mod PhaseLemmas
-pub mod Scoping
 pub mod Serves
 pub mod Serving
 pub mod StorageLemmas

@@ -1,27 +1,25 @@
 -- A pass over declarations in an order: each is judged once, where all that it uses was, and as after all rounds.
-use Rattle.std.proofs.Common.{◌≡◌, ℕ, suc, length, ◌⊎◌, inl, inr, Bool, true, false, cond, List, [], ◌∷◌, ◌++◌, Option, Some, None, map, refl, sym, ap, ◌∙◌, subst}
+use Rattle.std.proofs.Common.{◌≡◌, ℕ, suc, length, ◌⊎◌, inl, inr, Bool, true, false, cond, List, [], ◌++◌, Option, Some, None, map, refl, sym, ap, ◌∙◌, subst}
 use Rattle.asl_syn.specs.declared.tree.Decl.{Decl}
 use Rattle.asl_rules.specs.Tests.{Tests}
 use Rattle.asl_rules.specs.Names.{library, is_listed, declared_by, all_declared}
-use Rattle.asl_rules.specs.Scopes.{Entry, Standing, Stored, Subprogram, TypeName, Label, subprogram, standing_of, is_free}
+use Rattle.asl_rules.specs.Scopes.{Entry, Standing, Stored, Subprogram, TypeName, Label, subprogram, standing_of}
 use Rattle.asl_rules.specs.Uses.{uses, uses_one_of}
-use Rattle.asl_rules.specs.Declarations.{in_names, decl_rule, Judged, Waiting, Fine, Faulty, judged, is_fine, entries, all_fine, final, names_of_program}
+use Rattle.asl_rules.specs.Declarations.{in_names, decl_rule, Judged, Waiting, Fine, Faulty, judged, is_fine, entries, all_fine, final}
 use Rattle.asl_rules.proofs.basics.Tests.{no}
 use Rattle.asl_rules.proofs.scopes.Lookups.{behind, before_is}
 use Rattle.asl_rules.proofs.verdict.Distinct.{In, Distinct, IsPlain, plain_in, plain_named, plain_new, only_subprograms, FoundAt, own_found}
 use Rattle.asl_judge.proofs.LibraryNames.{library_listed}
 use Rattle.asl_rules.proofs.verdict.SameDeclarations.{decl_same}
 use Rattle.asl_judge.proofs.Serves.{Named, Serves, serve_agree, all_serve, all_fine_is, is_all_fine}
+use Rattle.asl_rules.proofs.scopes.EachOnce.{SameStandings}
 use Rattle.asl_rules.proofs.verdict.Settled.{named_at}
+use Rattle.asl_rules.proofs.verdict.SharedNames.{all_names}
 use Rattle.asl_rules.proofs.verdict.OneJudgement.{final_judged}
 
 -- subprograms aside, only the library has names
 abbrev pub OnlyLibrary : List Entry → Type 0
 OnlyLibrary N = (n : List ℕ) → standing_of n N ≡ Some Subprogram → is_listed library n ≡ true
-
--- the names stand for the same
-abbrev pub SameStandings : List Entry → List Entry → Type 0
-SameStandings N M = (n : List ℕ) → standing_of n N ≡ standing_of n M
 
 module _ (t : Tests) (ds : List Decl) (distinct : Distinct (all_declared ds)) where
   abbrev pub Serving : (Decl → Type 0) → List Entry → Type 0
@@ -55,12 +53,12 @@ module _ (t : Tests) (ds : List Decl) (distinct : Distinct (all_declared ds)) wh
   judged_here D N d s i r =
       let all = all_serve t (final t ds) ds (named_at t ds distinct (suc (length ds))) distinct D in
       final_judged t ds distinct d i
-      ∙ ap (λ b. cond b (judged (decl_rule t d (in_names (names_of_program t ds)))) Waiting) (is_all_fine (final t ds) (uses d) ds (λ e j u. (r e j u).1))
-      ∙ ap judged (sym (decl_same t N (names_of_program t ds) d (serve_agree t (final t ds) ds (named_at t ds distinct (suc (length ds))) D D N (names_of_program t ds) s.0 all (uses d) (λ e j u. ((r e j u).0, (r e j u).0)))))
+      ∙ ap (λ b. cond b (judged (decl_rule t d (in_names (all_names t ds)))) Waiting) (is_all_fine (final t ds) (uses d) ds (λ e j u. (r e j u).1))
+      ∙ ap judged (sym (decl_same t N (all_names t ds) d (serve_agree t (final t ds) ds (named_at t ds distinct (suc (length ds))) D D N (all_names t ds) s.0 all (uses d) (λ e j u. ((r e j u).0, (r e j u).0)))))
 
   -- and one that uses another which isn't well formed waits
   pub waits_here : (d e : Decl) → In d ds → In e ds → uses_one_of d e ≡ true → is_fine (final t ds e) ≡ false → final t ds d ≡ Waiting
-  waits_here d e i j u h = final_judged t ds distinct d i ∙ ap (λ b. cond b (judged (decl_rule t d (in_names (names_of_program t ds)))) Waiting) (by (all_fine (final t ds) (uses d) ds) refl)
+  waits_here d e i j u h = final_judged t ds distinct d i ∙ ap (λ b. cond b (judged (decl_rule t d (in_names (all_names t ds)))) Waiting) (by (all_fine (final t ds) (uses d) ds) refl)
     where
       by : (b : Bool) → all_fine (final t ds) (uses d) ds ≡ b → b ≡ false
       by false q = refl
@@ -141,13 +139,3 @@ module _ (t : Tests) (ds : List Decl) (distinct : Distinct (all_declared ds)) wh
       by : (e : Decl) (es : List Entry) (n : List ℕ) (st : Standing) → In e ds → final t ds e ≡ Fine es → standing_of n es ≡ Some st → IsPlain st → D e ⊎ (e ≡ d) → standing_of n N ≡ Some st
       by e es n st i g h p (inl m) = s.0.whole e es n st i m g h p
       by e es n st i g h p (inr q) = no (sym f ∙ (ap (λ z. is_fine (final t ds z)) (sym q) ∙ ap is_fine g))
-
--- ---- names that are kept where they are free
-
--- the names with more, each where it isn't visible
-abbrev pub with_free : Entry → List Entry → List Entry
-with_free e es = cond (is_free e.name es) (es ++ e ∷ []) es
-
-abbrev pub with_all : List Entry → List Entry → List Entry
-with_all [] es = es
-with_all (x ∷ xs) es = with_all xs (with_free x es)

@@ -12,21 +12,20 @@ use Rattle.asl_syn.specs.declared.tree.Decl.{Decl}
 use Rattle.asl_syn.specs.declared.tree.Decl.TheVariants as dc
 use Rattle.asl_rules.specs.Tests.{Tests}
 use Rattle.asl_rules.specs.Names.{declared_as, labels_of, declared_by, all_declared, library}
-use Rattle.asl_rules.specs.Scopes.{Entry, Standing, Subprogram, subprogram, standing_of}
+use Rattle.asl_rules.specs.Scopes.{Entry, Standing, Subprogram, subprogram, standing_of, with_entries}
 use Rattle.asl_rules.specs.Declarations.{in_names, decl_rule, Judged, Waiting, Fine, Faulty, judged, is_fine, entries_of, final}
-use Rattle.asl_judge.specs.Brought.{with_entries}
 use Rattle.asl_names.specs.Graphs.{graph_of}
 use Rattle.asl_names.specs.Orders.{row, has_mark, all_marked, is_among, all_among, each_behind, IsOrder}
 use Rattle.asl_judge.specs.Passes.{Pass, judged_over, names_after, with_judged, after_at, after_all, before_all}
 use Rattle.asl_rules.proofs.basics.Tests.{no, some_same, both, either}
 use Rattle.asl_rules.proofs.basics.Tests.{none_some}
+use Rattle.asl_rules.proofs.scopes.EachOnce.{entries_same}
 use Rattle.asl_rules.proofs.verdict.Distinct.{In, Distinct, AllNamed, IsPlain, Plain, plain_named}
 use Rattle.asl_rules.proofs.verdict.Settled.{named_at}
 use Rattle.asl_names.proofs.Bridge.{At, at_in, in_at, edge_is, edge_at, among_all, one_unmarked}
 use Rattle.asl_names.proofs.Ways.{among_marked, among_split}
 use Rattle.asl_names.proofs.CycleLemmas.{at_one}
-use Rattle.asl_judge.proofs.Passing.{Serving, none_serve, same_serve, Ready, judged_here, waits_here, more_serve, skip_serve, with_free, with_all}
-use Rattle.asl_judge.proofs.Scoping.{with_all_same}
+use Rattle.asl_judge.proofs.Passing.{Serving, none_serve, same_serve, Ready, judged_here, waits_here, more_serve, skip_serve}
 
 -- ---- places of lists
 
@@ -51,10 +50,6 @@ lists_same f (x ∷ xs) (y ∷ ys) l h =
     ap (λ z. z ∷ ys) (some_same y (f x) (h 0 x refl)) ∙ ap (λ zs. f x ∷ zs) (lists_same f xs ys q (λ k z a. h (suc k) z a))
 
 -- ---- what declarations bring
-
-pub entries_all : (xs es : List Entry) → with_entries xs es ≡ with_all xs es
-entries_all [] es = refl
-entries_all (x ∷ xs) es = entries_all xs (with_free x es)
 
 -- what brings no subprogram
 no_subprogram : (m : List ℕ) (is : List Ident) (es : List Entry) → AllNamed (map (declared_as false) is) es → standing_of m es ≡ Some Subprogram → ⊥
@@ -125,7 +120,7 @@ module _ (t : Tests) (ds : List Decl) (distinct : Distinct (all_declared ds)) wh
       by (Fine es) q =
           let named = subst (λ l. AllNamed l es) b (named_at t ds distinct (suc (length ds)) d es q) in
           let more = more_serve t ds distinct D E N d es s i q (λ m. no_subprogram m is es named) o in
-          subst (Serving t ds distinct E) (sym (entries_all es N)) (same_serve t ds distinct E (N ++ es) (with_all es N) (with_all_same es N) more)
+          same_serve t ds distinct E (N ++ es) (with_entries es N) (entries_same es N) more
 
   -- a subprogram is used by no declaration
   func_serve : (D E : Decl → Type 0) (N : List Entry) (f : Func) → Serving t ds distinct D N → ((e : Decl) → E e → D e ⊎ (e ≡ dc.Func f)) → Serving t ds distinct E N

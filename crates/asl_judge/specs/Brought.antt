@@ -2,7 +2,6 @@
 use Rattle.std.specs.Prelude.{ℕ, List, [], ◌∷◌, map}
 use Rattle.asl_syn.specs.declared.tree.Ident.{Ident}
 use Rattle.asl_value.specs.View.{value_of}
-use Rattle.asl_types.specs.Standings.{with_entry}
 use Rattle.asl_rules.specs.Types.{Ty}
 use Rattle.asl_rules.specs.Values.{label}
 use Rattle.asl_rules.specs.Scopes.{Entry, global, subprogram, type_name, label_name}
@@ -24,8 +23,3 @@ abbrev pub brought_of : Brought → List Entry
 brought_of (brought.Type name T is) = type_name name.now T ∷ labels_brought is.now name.now T
 brought_of (brought.Storage name T m x) = global name.now T m (value_of x) ∷ []
 brought_of (brought.Subprogram name) = subprogram name.now ∷ []
-
--- the names with several more in order, each where it isn't visible
-abbrev pub with_entries : List Entry → List Entry → List Entry
-with_entries [] names = names
-with_entries (e ∷ es) names = with_entries es (with_entry e names)

@@ -8,11 +8,11 @@ use Rattle.asl_syn.specs.declared.tree.Decl.TheVariants as dc
 use Rattle.asl_rules.specs.Faults.{◌>>◌}
 use Rattle.asl_rules.specs.Tests.{Tests}
 use Rattle.asl_rules.specs.Names.{library}
-use Rattle.asl_rules.specs.Scopes.{Entry, subprogram}
+use Rattle.asl_rules.specs.Scopes.{Entry, subprogram, with_entries}
 use Rattle.asl_rules.specs.Declarations.{in_names, decl_rule, Judged, Waiting, Fine, Faulty, judged, is_fine, entries_of, faulty, final}
 use Rattle.asl_judge.specs.declared.outcome.Outcome.{Outcome}
 use Rattle.asl_judge.specs.declared.outcome.Outcome.TheVariants as outcome
-use Rattle.asl_judge.specs.Brought.{brought_of, with_entries}
+use Rattle.asl_judge.specs.Brought.{brought_of}
 use Rattle.asl_names.specs.Orders.{Graph, row, all_marked}
 
 -- what came of a declaration, in the rules

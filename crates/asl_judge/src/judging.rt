@@ -2,6 +2,7 @@
 
 ghost use Rattle.std.specs.Prelude.{◌≡◌, ℕ, List, IfOk, IfErr, OnOk};
 ghost use Rattle.asl_rules.specs.Declarations as rules;
+ghost use Rattle.asl_rules.specs.Scopes.{with_entries};
 ghost use Rattle.asl_rules.specs.Tests.{Tests};
 ghost use Rattle.asl_rules.specs.Types as types;
 ghost use Rattle.asl_rules.specs.Values as values;
@@ -9,7 +10,7 @@ ghost use Rattle.asl_value.specs.View.{value_of};
 ghost use Rattle.asl_types.specs.Answers.{Met};
 ghost use Rattle.asl_types.specs.ContextView.{scope_of};
 ghost use Rattle.asl_types.specs.Suits.{Suits};
-ghost use Rattle.asl_judge.specs.Brought.{brought_of, labels_brought, with_entries};
+ghost use Rattle.asl_judge.specs.Brought.{brought_of, labels_brought};
 
 use crate::definitions::{define, name_of};
 use crate::storage::{initial_storage, is_var};

@@ -3,10 +3,10 @@
 ghost use Rattle.std.specs.Prelude.{◌≡◌, IfOk, IfErr, OnOk};
 ghost use Rattle.asl_rules.specs.Declarations as rules;
 ghost use Rattle.asl_rules.specs.Tests.{Tests};
+ghost use Rattle.asl_rules.specs.Scopes.{with_entries};
 ghost use Rattle.asl_types.specs.Answers.{Met};
 ghost use Rattle.asl_types.specs.ContextView.{scope_of};
 ghost use Rattle.asl_types.specs.Suits.{Suits};
-ghost use Rattle.asl_judge.specs.Brought.{with_entries};
 ghost use Rattle.asl_judge.specs.Passes.{judged_of, all_judged, first_fault};
 
 use crate::judging::{Brought, judge};

@@ -2,8 +2,7 @@
 
 ghost use Rattle.std.specs.Prelude.{◌≡◌, map, IfOk, IfErr, OnOk};
 ghost use Rattle.asl_rules.specs.Names as rules;
-ghost use Rattle.asl_rules.specs.Scopes.{subprogram};
-ghost use Rattle.asl_judge.specs.Brought.{with_entries};
+ghost use Rattle.asl_rules.specs.Scopes.{subprogram, with_entries};
 ghost use Rattle.asl_judge.specs.Passes.{all_judged, with_judgements};
 
 use crate::outcome::Outcome;

@@ -99,7 +99,7 @@ fn add_head<'a>(nodes: &mut Items<Node<'a>>, f: &'a Func) -> Result<(), AllocErr
 fn add_func<'a>(nodes: &mut Items<Node<'a>>, f: &'a Func) -> Result<(), AllocError>
     ensures { OnOk result (all_nodes nodes.new ≡ all_nodes nodes.old ++ rules.decl_nodes (decl.Func f.now)) }
 {
-    add(nodes, Node::Subprogram(f.span, f))?;
+    add(nodes, Node::Subprogram(f.span))?;
     add_head(nodes, f)?;
     add_body(nodes, f.body.as_slice())
 }

@@ -1,7 +1,7 @@
 //! What stands at a node of a tree.
 
 use asl_syn::token::Span;
-use asl_syn::tree::{BinaryOperator, Func, LocalKind, StorageKind, Target, UnaryOperator};
+use asl_syn::tree::{BinaryOperator, LocalKind, StorageKind, UnaryOperator};
 
 /// What stands at a node of a tree, without what stands inside it: where it stands, of a number the value, of a name or of
 /// another literal the text, and of a list how many parts it has.
@@ -43,8 +43,7 @@ pub enum Node<'a> {
     Assertion(Span),
     Local(Span, LocalKind),
     LocalList(Span, usize),
-    /// An assignment, with the target, whose forms it has.
-    Assignment(Span, &'a Target),
+    Assignment(Span),
     Invocation(Span, &'a [u8]),
     If(Span),
     Case(Span, usize),
@@ -63,8 +62,7 @@ pub enum Node<'a> {
     Exception(Span),
     /// Storage outside bodies: whether a type is written, and whether there is an initialiser.
     Storage(Span, StorageKind, bool, bool),
-    /// A subprogram, whose outline it has.
-    Subprogram(Span, &'a Func),
+    Subprogram(Span),
     /// The name of a target.
     TargetName(Span, &'a [u8]),
     /// The name of the type that a catcher catches.

@@ -163,7 +163,7 @@ fn add_stmt<'a>(nodes: &mut Items<Node<'a>>, s: &'a Stmt) -> Result<(), AllocErr
             add_type(nodes, ty)
         }
         Stmt::Assign(span, target, e) => {
-            add(nodes, Node::Assignment(*span, target))?;
+            add(nodes, Node::Assignment(*span))?;
             add_target(nodes, target)?;
             add_expr(nodes, e)
         }

@@ -24,7 +24,7 @@ use thiserror::Error;
 
 /// An unknown integer, named by a number.
 #[derive(Clone, Copy, Debug, PartialEq, Eq)]
-pub struct Atom(pub u32);
+pub struct Atom(pub u128);
 
 impl Model for Atom {
     ghost use Rattle.std.specs.Prelude.{ℕ};

@@ -27,19 +27,20 @@ fn words_of(alloc: Global, text: &str) -> Result<Vec<String>, AllocError> {
     Ok(words)
 }
 
-/// Adds a piece so often as the number before it says.
-fn push_often(text: &mut Vec<u8>, told: &str) -> Result<()> {
+/// Adds a piece, with this end, so often as the number before it says.
+fn push_often(text: &mut Vec<u8>, told: &str, end: &[u8]) -> Result<()> {
     let Some((count, piece)) = told.split_once(' ') else {
         bail!("no number and piece");
     };
     for _ in 0..count.parse::<usize>()? {
         text.extend_from_slice(piece.as_bytes())?;
+        text.extend_from_slice(end)?;
     }
     Ok(())
 }
 
-/// Adds a line to a text: with its line feed behind `|`, without one behind `>`, a piece that stands often behind `+`, and
-/// bytes in hexadecimal digits behind `=`.
+/// Adds a line to a text: with its line feed behind `|`, without one behind `>`, a piece that stands often behind `+`, a line
+/// that stands often behind `*`, and bytes in hexadecimal digits behind `=`.
 fn push_line(alloc: Global, text: &mut Vec<u8>, line: &str) -> Result<()> {
     if let Some(rest) = line.strip_prefix('|') {
         text.extend_from_slice(rest.as_bytes())?;
@@ -47,7 +48,9 @@ fn push_line(alloc: Global, text: &mut Vec<u8>, line: &str) -> Result<()> {
     } else if let Some(rest) = line.strip_prefix('>') {
         text.extend_from_slice(rest.as_bytes())?;
     } else if let Some(rest) = line.strip_prefix('+') {
-        push_often(text, rest)?;
+        push_often(text, rest, b"")?;
+    } else if let Some(rest) = line.strip_prefix('*') {
+        push_often(text, rest, b"\n")?;
     } else if let Some(rest) = line.strip_prefix('=') {
         text.extend_from_slice(hex::decode(alloc, rest)?.as_slice())?;
     } else {
@@ -96,7 +99,7 @@ fn read_line(alloc: Global, rows: &mut Vec<Row>, line: &str) -> Result<()> {
     let Some(row) = rows.last_mut() else {
         bail!("no row yet");
     };
-    if line.starts_with(['|', '>', '+', '=']) {
+    if line.starts_with(['|', '>', '+', '*', '=']) {
         return add_line(alloc, row, line);
     }
     let (word, rest) = line.split_once(' ').unwrap_or((line, ""));

@@ -9,3 +9,4 @@ pub mod OneOutcome
 pub mod Several
 pub mod PlansKeep
 pub mod GlobalsKept
+pub mod WordRuns

@@ -12,4 +12,5 @@ pub mod Settling
 pub mod Reaching
 pub mod AllJudged
 pub mod Settled
+pub mod SharedNames
 pub mod OneJudgement

@@ -28,7 +28,6 @@ pub mod Written
 pub mod Scopes
 pub mod Widths
 pub mod Names
-pub mod Stages
 pub mod Layouts
 pub mod Typing
 pub mod Calls
@@ -58,6 +57,8 @@ pub mod Programs
 pub mod Answers
 pub mod Worth
 pub mod Strings
+pub mod WordList
+pub mod Made
 pub mod Texts
 pub mod Evaluation
 pub mod Machines

@@ -28,27 +28,8 @@ use Rattle.asl_syn.specs.declared.tree.TypeDef.{TypeDef}
 use Rattle.asl_syn.specs.declared.tree.TypeDef.TheVariants as td
 use Rattle.asl_syn.specs.declared.tree.StorageKind.{StorageKind}
 use Rattle.asl_syn.specs.declared.tree.Func.{Func}
-use Rattle.asl_syn.specs.declared.tree.Qualifier.{Qualifier}
 use Rattle.asl_syn.specs.declared.tree.Decl.{Decl}
 use Rattle.asl_syn.specs.declared.tree.Decl.TheVariants as dc
-
--- the forms of a target, in source order
-pub data TargetForm : Type 0 where
-  discarded : TargetForm
-  a_place : TargetForm
-  some_targets : ℕ → TargetForm
-  by_field : TargetForm
-  by_fields : ℕ → TargetForm
-  by_slices : ℕ → TargetForm
-  by_element : TargetForm
-
--- what a subprogram has before its body
-pub record Outline : Type 0 where
-  pub qualifier : Qualifier
-  pub params : ℕ
-  pub formals : ℕ
-  pub has_result : Bool
-  pub has_limit : Bool
 
 -- a number with its value, a name or another literal with its text, a list with its length
 pub data Node : Type 0 where
@@ -92,7 +73,7 @@ pub data Node : Type 0 where
   an_assertion : Span → Node
   a_local : Span → LocalKind → Node
   a_local_list : Span → ℕ → Node
-  an_assignment : Span → List TargetForm → Node
+  an_assignment : Span → Node
   an_invocation : Span → List ℕ → Node
   an_if : Span → Node
   a_case : Span → ℕ → Node
@@ -109,7 +90,7 @@ pub data Node : Type 0 where
   a_record : Span → Node
   an_exception : Span → Node
   a_storage : Span → StorageKind → Bool → Bool → Node
-  a_subprogram : Span → Outline → Node
+  a_subprogram : Span → Node
   -- names that stand by themselves: of a target, of the type that a catcher catches, of a declared supertype
   a_target_name : Span → List ℕ → Node
   a_caught_name : Span → List ℕ → Node
@@ -243,28 +224,6 @@ maybe_type_nodes (Some t) = type_nodes t
 
 -- ---- targets
 
-abbrev pub suffix_form : Suffix → TargetForm
-suffix_form (FieldOf f) = by_field
-suffix_form (FieldsOf fs) = by_fields (length fs)
-suffix_form (SlicesOf ss) = by_slices (length ss)
-suffix_form (ElementOf e) = by_element
-
-abbrev pub suffix_forms : List PlacedSuffix → List TargetForm
-suffix_forms [] = []
-suffix_forms (x ∷ xs) = suffix_form x.suffix ∷ suffix_forms xs
-
-abbrev pub all_forms : List (List TargetForm) → List TargetForm
-all_forms [] = []
-all_forms (fs ∷ rest) = fs ++ all_forms rest
-
-abbrev pub in_target_form : tg.Target-F (List TargetForm) → List TargetForm
-in_target_form (tg.Discarded at) = discarded ∷ []
-in_target_form (tg.Place at i suffixes) = a_place ∷ suffix_forms suffixes
-in_target_form (tg.Targets at ts) = some_targets (length ts) ∷ all_forms ts
-
-abbrev pub target_forms : Target → List TargetForm
-target_forms = fold-Target (List TargetForm) in_target_form
-
 abbrev pub suffix_nodes : Suffix → Nodes
 suffix_nodes (FieldOf f) = []
 suffix_nodes (FieldsOf fs) = []
@@ -299,7 +258,7 @@ in_stmt (st.Unreachable span) = an_unreachable span ∷ []
 in_stmt (st.Assert span e) = an_assertion span ∷ expr_nodes e
 in_stmt (st.Local span kind b t e) = a_local span kind ∷ (maybe_type_nodes t ++ expr_nodes e)
 in_stmt (st.LocalVars span is t) = a_local_list span (length is) ∷ type_nodes t
-in_stmt (st.Assign span t e) = an_assignment span (target_forms t) ∷ (target_nodes t ++ expr_nodes e)
+in_stmt (st.Assign span t e) = an_assignment span ∷ (target_nodes t ++ expr_nodes e)
 in_stmt (st.Invoke span i ps es) = an_invocation span i.text ∷ (all_expr_nodes ps ++ all_expr_nodes es)
 in_stmt (st.If span c first others last) = an_if span ∷ (expr_nodes c ++ (joined first ++ (joined others ++ joined last)))
 in_stmt (st.Case span e alternatives otherwise) = a_case span (length alternatives) ∷ (expr_nodes e ++ (joined alternatives ++ otherwise))
@@ -358,14 +317,11 @@ abbrev pub supertype_nodes : Option Ident → Nodes
 supertype_nodes None = []
 supertype_nodes (Some i) = a_supertype_name i.span i.text ∷ []
 
-abbrev pub outline : Func → Outline
-outline f = record { qualifier = f.qualifier; params = length f.params; formals = length f.formals; has_result = is_some f.result; has_limit = is_some f.limit }
-
 -- the nodes of a declaration itself, and those of the types, the expressions and the statements in it
 abbrev pub own_nodes : Decl → Nodes
 own_nodes (dc.Type d) = a_type_declaration d.span ∷ own_node d.def
 own_nodes (dc.Storage d) = a_storage d.span d.kind (is_some d.ty) (is_some d.init) ∷ []
-own_nodes (dc.Func f) = a_subprogram f.span (outline f) ∷ []
+own_nodes (dc.Func f) = a_subprogram f.span ∷ []
 
 abbrev pub inner_nodes : Decl → Nodes
 inner_nodes (dc.Type d) = def_parts d.def ++ supertype_nodes d.supertype

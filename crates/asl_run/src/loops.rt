@@ -174,7 +174,7 @@ fn for_bounds<K: Sink, E, X: Fn(Setting, &mut Run, &mut K, &Items<Act>) -> Resul
         last,
         count: it.count,
     };
-    for_turns(here, run, sink, turns, body)
+    for_indices(here, run, sink, turns, body)
 }
 
 /// Whether the index is past its last value.
@@ -201,6 +201,34 @@ fn next_index(direction: Direction, last: i128, i: i128) -> Option<i128>
     match direction {
         Direction::Up => Some(i + 1),
         Direction::Down => Some(i - 1),
+    }
+}
+
+/// Turns with an index, or for an empty body, which takes no step, their number alone: the last index may be 2^128 - 1 turns
+/// later. The first index isn't past the last.
+fn for_indices<K: Sink, E, X: Fn(Setting, &mut Run, &mut K, &Items<Act>) -> Result<Exit, Stop>>(
+    here: &Nodes<E, X>,
+    run: &mut Run,
+    sink: &mut K,
+    it: Turns,
+    body: &Items<Act>,
+) -> Result<Exit, Stop>
+    requires execs { Execs K.written K.faults K.full here.now.setting.funcs.now here.now.setting.depth (X.pre here.now.exec here.now.setting) (X.post here.now.exec here.now.setting) }
+    requires within { forms.is_past it.direction it.last it.first ≡ false }
+    ensures meets { Runs exit_of result here.now.setting.funcs.now here.now.setting.depth
+        (forms.index_turn in_bare indexed it.span it.direction it.last (acts_of (all_acts body.now)) it.count it.first)
+        run.old (K.written sink.old) run.new (K.written sink.new) }
+    ensures counts { Counts result (K.faults sink.old) (K.faults sink.new) }
+    ensures same_full { K.full sink.new ≡ K.full sink.old }
+    ensures keeps { Keeps result run.old run.new }
+{
+    if !body.is_empty() {
+        return for_turns(here, run, sink, it, body);
+    }
+    if it.last.abs_diff(it.first) < it.count {
+        Ok(Exit::Normal)
+    } else {
+        Err(Stop::Fault(DynCode::D10, it.span))
     }
 }
 

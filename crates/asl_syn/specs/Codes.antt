@@ -1,7 +1,7 @@
 -- The bytes that are printed for each code.
 use Rattle.std.specs.Prelude.{ℕ, List, codes}
 use Rattle.asl_syn.specs.declared.code.StaticCode.{StaticCode}
-use Rattle.asl_syn.specs.declared.code.StaticCode.TheVariants.{L01, L02, L03, L04, L05, S01, S02, S03, M01, M02, M03, T01, T02, T03, T04, T05, T06, T07, T08, T09, T10, T11, T12, T13, T14, T15, T16, T17, T18, T19, T20, T21, T23, T24, T25}
+use Rattle.asl_syn.specs.declared.code.StaticCode.TheVariants.{L01, L02, L03, L04, L05, S01, S02, S03, M01, M02, M03, N01, N02, N03, T01, T02, T03, T04, T05, T06, T07, T08, T09, T10, T11, T12, T13, T14, T15, T16, T17, T18, T19, T20, T21, T23, T24, T25}
 use Rattle.asl_syn.specs.declared.code.DynCode.{DynCode}
 use Rattle.asl_syn.specs.declared.code.DynCode.TheVariants.{D01, D02, D03, D04, D05, D06, D07, D08, D09, D10, D11, D12, D13, D14, D15, D16}
 
@@ -17,6 +17,9 @@ static_text S03 = codes "S03"
 static_text M01 = codes "M01"
 static_text M02 = codes "M02"
 static_text M03 = codes "M03"
+static_text N01 = codes "N01"
+static_text N02 = codes "N02"
+static_text N03 = codes "N03"
 static_text T01 = codes "T01"
 static_text T02 = codes "T02"
 static_text T03 = codes "T03"

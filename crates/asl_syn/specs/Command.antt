@@ -1,14 +1,31 @@
 -- What a command line asks for. The crates that read the command line, answer it and state the answer share it.
-use Rattle.std.specs.Prelude.{ℕ, List, []}
+use Rattle.std.specs.Prelude.{ℕ, List, [], ◌∷◌, ◌++◌}
 
--- a command with the names of its files, where `run` also has the number of steps; `usage` where the words are no command
+-- `usage` where the words are no command; `check` with the names of the source files; `run` with the number of steps before these; `exec` with the number of
+-- steps and the name of the word list before these; `self` with the number and the size of the text that is made
 pub data Command : Type 0 where
   usage : Command
   check : List (List ℕ) → Command
   run : ℕ → List (List ℕ) → Command
+  exec : ℕ → List ℕ → List (List ℕ) → Command
+  self : ℕ → ℕ → Command
 
--- the names of the files that a command reads, in order
+-- the steps of a run where the words give no number
+abbrev pub default_steps : ℕ
+default_steps = 1000000
+
+-- the names of the source files of a command, in order
+abbrev pub sources_of : Command → List (List ℕ)
+sources_of usage = []
+sources_of (check names) = names
+sources_of (run steps names) = names
+sources_of (exec steps list names) = names
+sources_of (self number size) = []
+
+-- the names of all files that a command reads, in order: a word list is the last
 abbrev pub names_of : Command → List (List ℕ)
 names_of usage = []
 names_of (check names) = names
 names_of (run steps names) = names
+names_of (exec steps list names) = names ++ list ∷ []
+names_of (self number size) = []

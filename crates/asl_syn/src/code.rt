@@ -29,6 +29,12 @@ pub enum StaticCode {
     M02,
     /// The 200,001st token of a file.
     M03,
+    /// A word of a word list whose length is not 8.
+    N01,
+    /// A byte in a word of a word list that is no digit.
+    N02,
+    /// The 65,537th word of a word list.
+    N03,
     /// Declared twice, or shadows a visible name.
     T01,
     /// An unknown name, or a name that stands for another sort of thing.
@@ -99,6 +105,9 @@ impl StaticCode {
             StaticCode::M01 => "M01",
             StaticCode::M02 => "M02",
             StaticCode::M03 => "M03",
+            StaticCode::N01 => "N01",
+            StaticCode::N02 => "N02",
+            StaticCode::N03 => "N03",
             StaticCode::T01 => "T01",
             StaticCode::T02 => "T02",
             StaticCode::T03 => "T03",

@@ -25,8 +25,15 @@ fn lines(rt: HostRuntime) {
         ("asl run --steps 5 --steps 6 a", "Usage"),
         ("asl check --steps 5 a", "Usage"),
         ("asl run -a", "Usage"),
-        ("asl exec --words w a", "Usage"),
-        ("asl self 1 1", "Usage"),
+        ("asl exec a", "Usage"),
+        ("asl exec --words w", "Usage"),
+        ("asl exec --words w --words w a", "Usage"),
+        ("asl run --words w a", "Usage"),
+        ("asl self 1", "Usage"),
+        ("asl self 1 0", "Usage"),
+        ("asl self 1 2001", "Usage"),
+        ("asl self 4294967296 1", "Usage"),
+        ("asl self --steps 5 1 1", "Usage"),
         (
             "asl run a --steps 5 b",
             "Run { steps: 5, files: [\"a\", \"b\"] }",
@@ -36,6 +43,19 @@ fn lines(rt: HostRuntime) {
             "Run { steps: 5, files: [\"a\", \"a\"] }",
         ),
         ("asl run -- -a", "Run { steps: 1000000, files: [\"-a\"] }"),
+        (
+            "asl exec --words w a b",
+            "Exec { steps: 1000000, list: \"w\", files: [\"a\", \"b\"] }",
+        ),
+        (
+            "asl exec a --steps 5 --words=w",
+            "Exec { steps: 5, list: \"w\", files: [\"a\"] }",
+        ),
+        ("asl self +7 05", "Generate { number: 7, size: 5 }"),
+        (
+            "asl self 4294967295 2000",
+            "Generate { number: 4294967295, size: 2000 }",
+        ),
         ("asl check a b c", "Check { files: [\"a\", \"b\", \"c\"] }"),
     ] {
         let got = shown(rt.alloc(), text).expect(&rt, "memory");

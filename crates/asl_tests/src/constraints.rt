@@ -119,12 +119,12 @@ fn constant_parts_are_included(rt: HostRuntime) {
 }
 
 /// An atom and an integer.
-fn atom_and(alloc: Global, atom: u32, more: i128) -> Result<Poly, PolyRefused> {
+fn atom_and(alloc: Global, atom: u128, more: i128) -> Result<Poly, PolyRefused> {
     Poly::atom(alloc, Atom(atom))?.add(alloc, &Poly::constant(alloc, more)?)
 }
 
 /// The constraint from an integer to an atom and an integer.
-fn up_to(alloc: Global, low: i128, atom: u32, more: i128) -> Option<Cons> {
+fn up_to(alloc: Global, low: i128, atom: u128, more: i128) -> Option<Cons> {
     let high = End::Width(atom_and(alloc, atom, more).ok()?);
     let low = End::Int(low);
     let parts = Vec::from_array(alloc, [Part { low, high }]).ok()?;
@@ -132,7 +132,7 @@ fn up_to(alloc: Global, low: i128, atom: u32, more: i128) -> Option<Cons> {
 }
 
 /// Whether a constraint is one part, from an integer to an atom and an integer.
-fn goes_up_to(alloc: Global, found: &Cons, low: i128, atom: u32, more: i128) -> bool {
+fn goes_up_to(alloc: Global, found: &Cons, low: i128, atom: u128, more: i128) -> bool {
     match up_to(alloc, low, atom, more) {
         Some(wanted) => { found.parts().len() == 1 && found.below(&wanted) && wanted.below(found) }
         None => false,

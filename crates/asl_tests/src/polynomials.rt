@@ -3,7 +3,7 @@ use asl_poly::{Atom, Poly, PolyRefused, law4};
 use std::alloc::Global;
 
 /// The sum of the first `count` atoms and `constant`.
-fn sum_of(alloc: Global, count: u32, constant: i128) -> Result<Poly, PolyRefused> {
+fn sum_of(alloc: Global, count: u128, constant: i128) -> Result<Poly, PolyRefused> {
     let mut sum = Poly::constant(alloc, constant)?;
     for i in 0..count {
         let atom = Poly::atom(alloc, Atom(i))?;

@@ -1,5 +1,5 @@
 -- What names stand for, in the rules and in code.
-use Rattle.std.specs.Prelude.{◌≡◌, ℕ, suc, Bool, true, false, if◌then◌else◌, List, [], ◌∷◌, ◌++◌, Option, None, Some, map}
+use Rattle.std.specs.Prelude.{◌≡◌, ℕ, suc, Bool, true, false, List, [], ◌∷◌, Option, None, Some, map}
 use Rattle.std.specs.Option.{option_map}
 use Rattle.std.specs.Borrow.{Bor}
 use Rattle.std.specs.Str.{bytes_eq}
@@ -47,10 +47,6 @@ form_view (form.Label T x) = rules.Label T (value_of x)
 
 abbrev pub entry_view : List ℕ → Form → rules.Entry
 entry_view name f = record { name = name; standing = form_view f }
-
--- the names with one more, where it isn't visible
-abbrev pub with_entry : rules.Entry → List rules.Entry → List rules.Entry
-with_entry e es = if rules.is_free e.name es then es ++ e ∷ [] else es
 
 -- ---- the map of the names
 

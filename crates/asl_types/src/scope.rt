@@ -1,11 +1,12 @@
 //! The visible names and what they stand for.
 
-ghost use Rattle.std.specs.Prelude.{◌≡◌, ◌≤◌, ◌*◌, ◌^◌, true, false, [], length, take, IfOk, OnOk, IfErr, IfSome, MatchOption};
+ghost use Rattle.std.specs.Prelude.{◌≡◌, ◌*◌, true, false, [], length, take, IfOk, OnOk, IfErr, IfSome};
 ghost use Rattle.std.specs.Option.{option_map};
 ghost use Rattle.asl_value.specs.View.{value_of};
 ghost use Rattle.asl_rules.specs.Scopes as rules;
+ghost use Rattle.asl_rules.specs.Scopes.{with_entry};
 ghost use Rattle.asl_rules.specs.Layouts.{slot_of, local_names, global_names, layout_of};
-ghost use Rattle.asl_types.specs.Standings.{storage_view, standing_view, value_behind, form_view, entry_view, with_entry, slot_by, HasSlot};
+ghost use Rattle.asl_types.specs.Standings.{storage_view, standing_view, value_behind, form_view, entry_view, slot_by, HasSlot};
 
 use crate::ty::Ty;
 use asl_poly::{Atom, Poly};
@@ -139,15 +140,11 @@ fn standing_for(d: &Declared) -> Standing<'_>
     }
 }
 
-/// The atom of the name behind so many names of bodies, `None` past 32 bits.
-fn atom_behind(locals: usize) -> Option<Atom>
-    ensures { MatchOption result (2 ^ 32 ≤ 2 * locals) (λ n. n ≡ 2 * locals) }
+/// The atom of the name behind so many names of bodies.
+fn atom_behind(locals: usize) -> Atom
+    ensures { result ≡ 2 * locals }
 {
-    if locals < 2_147_483_648 {
-        Some(Atom(2 * locals as u32))
-    } else {
-        None
-    }
+    Atom(2 * locals as u128)
 }
 
 /// The visible names, each once, the oldest first, and what they stand for. Contracts see the list of them. A name is
@@ -227,9 +224,9 @@ impl<'a> Scope<'a> {
         }
     }
 
-    /// The atom of the next name of a body, `None` past 32 bits.
-    pub fn next_atom(&self) -> Option<Atom>
-        ensures { MatchOption result (2 ^ 32 ≤ rules.next_atom self.now) (λ n. n ≡ rules.next_atom self.now) }
+    /// The atom of the next name of a body.
+    pub fn next_atom(&self) -> Atom
+        ensures { result ≡ rules.next_atom self.now }
     {
         atom_behind(self.numbers().locals)
     }

@@ -7,27 +7,29 @@ use Rattle.std.proofs.lemmas.Bool.{cases_lt}
 use Rattle.std.proofs.lemmas.List.{append_assoc, append-nil, drop_all, length-drop, length_push, take_all}
 use Rattle.std.proofs.lemmas.List.Splits.{slice_split_first, slice_split_none}
 use Rattle.std.proofs.lemmas.List.Sums.{fails_before_first, position_or_len_is}
-use Rattle.asl_words.specs.WordList.{fault_of, is_line_end, is_passed_over, without_end, words_read, words_unless}
+use Rattle.asl_rules.specs.WordList.{ListFault, fault_of, is_line_end, is_passed_over, without_end, words_read, words_unless}
 use Rattle.asl_words.specs.Steps.{pushed, with_line, word_unless}
+use Rattle.asl_words.specs.Faults.{Says}
 use Rattle.asl_words.specs.declared.WordFault.{WordFault}
+use Rattle.asl_words.specs.declared.WordFault.TheVariants.{Length, Digit, TooMany, NoMemory}
 
 -- the answer, from the words so far and the lines that write the others
-abbrev pub answer_of : List ℕ → List (ℕ × List ℕ) → Result (List ℕ) WordFault
+abbrev pub answer_of : List ℕ → List (ℕ × List ℕ) → Result (List ℕ) ListFault
 answer_of words lines =
     words_unless (filter_map (λ nth. fault_of nth.0 nth.1) (enumerate_from (length words + 1) lines)) (words ++ map (λ line. digits_value 16 line.1) lines)
 
 -- the answer, from the words so far, the number of the next line and the text's parts from there on
-abbrev pub answer_from : List ℕ → ℕ → List (List ℕ) → Result (List ℕ) WordFault
+abbrev pub answer_from : List ℕ → ℕ → List (List ℕ) → Result (List ℕ) ListFault
 answer_from words number parts =
     answer_of words (filter (λ line. not (is_passed_over line.1)) (enumerate_from number (map without_end parts)))
 
 -- the answer behind a line
-abbrev pub answer_behind : Result (List ℕ) WordFault → ℕ → List (List ℕ) → Result (List ℕ) WordFault
+abbrev pub answer_behind : Result (List ℕ) ListFault → ℕ → List (List ℕ) → Result (List ℕ) ListFault
 answer_behind (Ok words) number parts = answer_from words number parts
 answer_behind (Err fault) number parts = Err fault
 
 -- behind a line with this fault, or none, and this word
-answer_of-word : (words : List ℕ) (number word : ℕ) (parts : List (List ℕ)) (o : Option WordFault)
+answer_of-word : (words : List ℕ) (number word : ℕ) (parts : List (List ℕ)) (o : Option ListFault)
     → words_unless (cons_option o (filter_map (λ nth. fault_of nth.0 nth.1) (enumerate_from (length words + 1 + 1) (filter (λ line. not (is_passed_over line.1)) (enumerate_from number (map without_end parts))))))
     (words ++ (word ∷ map (λ line. digits_value 16 line.1) (filter (λ line. not (is_passed_over line.1)) (enumerate_from number (map without_end parts)))))
     ≡ answer_behind (pushed words (word_unless o word)) number parts
@@ -49,7 +51,7 @@ answer_from-line words part number parts =
     answer_of-line words (without_end part) number parts (is_passed_over (without_end part))
 
 -- a blank line more changes nothing
-answer_behind-blank : (r : Result (List ℕ) WordFault) (number : ℕ) → answer_behind r number ([] ∷ []) ≡ answer_behind r number []
+answer_behind-blank : (r : Result (List ℕ) ListFault) (number : ℕ) → answer_behind r number ([] ∷ []) ≡ answer_behind r number []
 answer_behind-blank (Ok words) number = refl
 answer_behind-blank (Err fault) number = refl
 
@@ -75,6 +77,7 @@ answer_from-first words text number =
 
 -- the whole text
 pub answer_from-start : (text : List ℕ) → words_read text ≡ answer_from [] 1 (slice_split is_line_end text)
+unfolding words_read
 answer_from-start text = refl
 
 -- the end of the text
@@ -110,9 +113,17 @@ read_more bytes rest line more cut words ws number inv el em ec ok =
     rw em (inv ∙ answer_from-first words rest (number + 1) ∙ rw step refl)
 
 -- the fault of a line is that of the text
-pub read_fault : (bytes rest line cut words : List ℕ) (number : ℕ) (fault : WordFault) → words_read bytes ≡ answer_from words (number + 1) (slice_split is_line_end rest)
+read_fault : (bytes rest line cut words : List ℕ) (number : ℕ) (fault : ListFault) → words_read bytes ≡ answer_from words (number + 1) (slice_split is_line_end rest)
     → line ≡ before_first is_line_end rest → cut ≡ without_end line → with_line words cut (number + 1) ≡ Err fault
     → words_read bytes ≡ Err fault
 read_fault bytes rest line cut words number fault inv el ec bad =
     let step : with_line words (without_end (before_first is_line_end rest)) (number + 1) ≡ Err fault = rw (← el, ← ec) bad in
     inv ∙ answer_from-first words rest (number + 1) ∙ rw step refl
+
+-- what the fault of a line says of it, it says of the text
+pub says_fault : (bytes rest line cut words : List ℕ) (number : ℕ) (fault : WordFault) → words_read bytes ≡ answer_from words (number + 1) (slice_split is_line_end rest)
+    → line ≡ before_first is_line_end rest → cut ≡ without_end line → Says fault (with_line words cut (number + 1)) → Says fault (words_read bytes)
+says_fault bytes rest line cut words number (Length n) inv el ec h = read_fault bytes rest line cut words number _ inv el ec h
+says_fault bytes rest line cut words number (Digit n) inv el ec h = read_fault bytes rest line cut words number _ inv el ec h
+says_fault bytes rest line cut words number (TooMany n) inv el ec h = read_fault bytes rest line cut words number _ inv el ec h
+says_fault bytes rest line cut words number NoMemory inv el ec h = tt

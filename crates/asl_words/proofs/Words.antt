@@ -10,9 +10,9 @@ use Rattle.std.proofs.lemmas.List.Sums.{AllPass-from_list_all, list_all-from_All
 use Rattle.hex.proofs.HexLemmas.{IsOk-decode_sized, decode_of-even, decode_pairs-ok, decode_sized-twice}
 use Rattle.hex.specs.Hex.{decode_pairs, decode_sized, digit_or_error, hex_digit_value, is_hex_digit, ◌>>=◌}
 use Rattle.hex.specs.declared.error.FromHexError.{FromHexError}
-use Rattle.asl_words.specs.WordList.{is_digit}
+use Rattle.asl_syn.specs.declared.code.StaticCode.TheVariants.{N02, N03}
+use Rattle.asl_rules.specs.WordList.{is_digit}
 use Rattle.asl_words.specs.Steps.{word_of}
-use Rattle.asl_words.specs.declared.WordFault.TheVariants.{Digit, TooMany}
 
 -- both crates have the same digits
 is_hex_digit-is : (c : ℕ) → is_hex_digit c ≡ is_digit c
@@ -85,14 +85,14 @@ decode_sized-digits line h =
 
 -- a line of eight bytes that doesn't decode
 pub word_of-digit : (line : List ℕ) (number before : ℕ) (e : FromHexError) → length line ≡ 8 → Err e ≡ decode_sized line 4
-    → Err (Digit number) ≡ word_of line number before
+    → word_of line number before ≡ Err (record { code = N02; line = number })
 word_of-digit line number before e len read =
     let none : list_all is_digit line ≡ false = not_all (list_all is_digit line) (λ all. cc (read ∙ (ok_is (decode_sized line 4) ((decode_sized-digits line len).1 all)).1)) in
     rw (len, none) refl
 
 -- a line of eight digits that is a word too many
 pub word_of-many : (line bytes : List ℕ) (number before : ℕ) → length line ≡ 8 → Ok bytes ≡ decode_sized line 4 → 65536 ≤ before
-    → Err (TooMany number) ≡ word_of line number before
+    → word_of line number before ≡ Err (record { code = N03; line = number })
 word_of-many line bytes number before len read many =
     let all = (decode_sized-digits line len).0 (rw (← read) refl) in
     let above : nat_lt 65536 (before + 1) ≡ true = grind (arith, nat_tests) in
@@ -100,11 +100,11 @@ word_of-many line bytes number before len read many =
 
 -- a line of eight digits that is none too many
 pub word_of-read : (line bytes : List ℕ) (number before word : ℕ) → length line ≡ 8 → Ok bytes ≡ decode_sized line 4 → before < 65536
-    → word ≡ from_be_bytes w32 bytes → Ok word ≡ word_of line number before
+    → word ≡ from_be_bytes w32 bytes → word_of line number before ≡ Ok word
 word_of-read line bytes number before word len read few packed =
     let all = (decode_sized-digits line len).0 (rw (← read) refl) in
     let within : nat_lt 65536 (before + 1) ≡ false = grind (arith, nat_tests) in
     let even : length line % 2 ≡ 0 = omega arith in
     let pairs : decode_pairs 0 line ≡ Ok bytes = sym (decode_of-even line even) ∙ sym (decode_sized-twice line 4 len) ∙ sym read in
     let four : length bytes ≡ 4 = omega (arith, (decode_pairs-ok 0 line bytes pairs).1) in
-    rw (len, all, within) (ap Ok (packed ∙ from_be_bytes-is bytes four ∙ sym (digits_value_after-is 0 0 line bytes pairs)))
+    rw (len, all, within) (ap Ok (sym (packed ∙ from_be_bytes-is bytes four ∙ sym (digits_value_after-is 0 0 line bytes pairs))))

@@ -1,15 +1,20 @@
 //! Lists of instruction words, as text: on each line a word in 8 hexadecimal digits.
 //!
 //! A line ends in LF, the last one also without. Tabs, CRs and spaces at the end of a line are dropped. A line that is blank then,
-//! or begins with `//`, is passed over.
+//! or begins with `//`, is passed over. And runs over such words.
 #![tactic(auto)]
 
-ghost use Rattle.std.specs.Prelude.{◌≡◌, ◌<◌, ◌≤◌, ◌⊎◌, IfErr, IfOk, Ok, Err, length, OnOk, vec_len};
+mod line;
+mod running;
+
+ghost use Rattle.std.specs.Prelude.{◌≡◌, ◌<◌, ◌≤◌, IfErr, IfOk, Ok, Err, length, OnOk, vec_len};
 ghost use Rattle.std.specs.List.{after_first, before_first};
-ghost use Rattle.asl_words.specs.WordList.{is_dropped, is_line_end, is_passed_over, without_end, words_read};
+ghost use Rattle.asl_rules.specs.WordList.{is_dropped, is_line_end, is_passed_over, without_end, words_read};
+ghost use Rattle.asl_words.specs.Faults.{Says};
 ghost use Rattle.asl_words.specs.Steps.{with_line, word_of};
 
 use hex::FromHex;
+pub use running::{ExecEnd, exec};
 use std::alloc::Global;
 use thiserror::Error;
 
@@ -37,8 +42,7 @@ pub enum WordFault {
 /// Reads the words of a text, or its first fault.
 pub fn read_words(alloc: Global, bytes: &[u8]) -> Result<Vec<u32>, WordFault>
     ensures words { IfOk result (λ words. words_read bytes.now ≡ Ok words.items) }
-    ensures fault { IfErr result
-        (λ fault. (fault ≡ WordFault.NoMemory) ⊎ (words_read bytes.now ≡ Err fault)) }
+    ensures fault { IfErr result (λ fault. Says fault (words_read bytes.now)) }
     ensures few { IfOk result (λ words. vec_len words ≤ MOST_WORDS) }
 {
     let mut words = Vec::new(alloc);
@@ -87,8 +91,7 @@ fn is_dropped(byte: u8) -> bool
 /// Adds the word of a line, where it writes one.
 fn read_line(words: &mut Vec<u32>, line: &[u8], number: usize) -> Result<(), WordFault>
     ensures read { OnOk result (with_line words.old.items line.now number ≡ Ok words.new.items) }
-    ensures fault { IfErr result
-        (λ fault. (fault ≡ WordFault.NoMemory) ⊎ (with_line words.old.items line.now number ≡ Err fault)) }
+    ensures fault { IfErr result (λ fault. Says fault (with_line words.old.items line.now number)) }
     ensures few { OnOk result (vec_len words.old ≤ MOST_WORDS → vec_len words.new ≤ MOST_WORDS) }
 {
     if is_passed_over(line) {
@@ -107,7 +110,8 @@ fn is_passed_over(line: &[u8]) -> bool
 
 /// The word of a line, where so many words stand before it.
 fn word_of(line: &[u8], number: usize, before: usize) -> Result<u32, WordFault>
-    ensures word { result ≡ word_of line.now number before }
+    ensures word { IfOk result (λ word. word_of line.now number before ≡ Ok word) }
+    ensures fault { IfErr result (λ fault. Says fault (word_of line.now number before)) }
     ensures few { OnOk result (before < MOST_WORDS) }
 {
     if line.len() != 8 {

@@ -1,11 +1,11 @@
 use Rattle.std.proofs.Common.{ap, arith, codes, length}
-use Rattle.asl_gen.specs.Program.{declarations, program, statements}
+use Rattle.asl_rules.specs.Made.{declarations, made_text, statements}
 use Rattle.asl_gen.proofs.Lengths.{length-program}
 use Rattle.asl_gen.proofs.Pieces.{four}
 use Rattle.asl_gen.proofs.program.Goals as goal
 
 pub returns-clause-text : goal.returns-clause-text
-unfolding program
+unfolding made_text
 returns-clause-text c =
     four _ _ _ _ _ (declarations c.args.number c.args.size) (codes "func main() => integer begin\nvar s = 0;\n") (statements c.args.number c.args.size) (codes "return s;\nend;\n")
     c.new-text.ensures.items c.in_ok-push_declarations.ensures c.in_ok-extend_from_slice.ensures.items c.in_ok-push_statements.ensures c.in_ok-extend_from_slice-2.ensures.items

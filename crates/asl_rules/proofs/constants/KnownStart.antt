@@ -15,7 +15,7 @@ use Rattle.asl_rules.specs.Types.{Ty, named, structure}
 use Rattle.asl_rules.specs.Values.{Value}
 use Rattle.asl_rules.specs.Names.{library}
 use Rattle.asl_rules.specs.Scopes.{Entry, Standing, Stored, Subprogram, TypeName, Label, Storage, Scope, standing_of, storage_in, storage_of, subprogram}
-use Rattle.asl_rules.specs.Declarations.{Judged, Waiting, Fine, Faulty, judged, entries_of, entries, all_fine, def_rule, supertype_rule, label_entries, type_entries, storage_rule, decl_rule, in_names, judged_by, still, judgement}
+use Rattle.asl_rules.specs.Declarations.{Judged, Waiting, Fine, Faulty, judged, entries_of, entries, all_fine, def_rule, supertype_rule, label_entries, type_entries, storage_rule, decl_rule, in_names, judged_by, still, judgement, final, names_of_program}
 use Rattle.asl_rules.specs.Declarations as decl
 use Rattle.asl_rules.specs.Uses.{uses}
 use Rattle.asl_rules.specs.States.{Binding, resting}
@@ -23,6 +23,7 @@ use Rattle.asl_rules.specs.Constants.{initial_value}
 use Rattle.asl_rules.specs.Evaluation.{value_of, or_value, label_in, global_with, global_in, cons_some, globals_among}
 use Rattle.asl_rules.specs.BeforeRuns.{HoldsInitial, BeginsSo}
 use Rattle.asl_rules.proofs.basics.Tests.{same_name, name_is, some_same, none_some, no}
+use Rattle.asl_rules.proofs.scopes.EachOnce.{entries_keep}
 
 -- ---- what stands for storage has a name with P
 
@@ -216,4 +217,7 @@ starts_at t n ds name =
     each names ds from name (standing_of name names) refl
 
 pub starts : (t : Tests) (ds : List Decl) → BeginsSo t ds
-starts t ds = starts_at t (suc (length ds)) ds
+starts t ds name =
+    let own = entries_from (final t ds) (judgement_from t (suc (length ds)) ds) ds in
+    let from = entries_keep (From (HasStorage ds)) (from_append (HasStorage ds)) (λ e es h. ((h.0, tt), h.1)) (entries (final t ds) ds) (map subprogram library) own (from_library (HasStorage ds) library) in
+    each (names_of_program t ds) ds from name (standing_of name (names_of_program t ds)) refl

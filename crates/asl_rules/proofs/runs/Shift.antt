@@ -72,7 +72,7 @@ behind_commutes None t bytes = refl
 behind_commutes (Some old) None bytes = refl
 behind_commutes (Some old) (Some own) bytes = ap Some (sym (append_assoc old own bytes))
 
-behind_nothing : (old : Option (List ℕ)) → behind old (Some []) ≡ old
+pub behind_nothing : (old : Option (List ℕ)) → behind old (Some []) ≡ old
 behind_nothing None = refl
 behind_nothing (Some old) = ap Some (append_nil old)
 
@@ -138,7 +138,7 @@ open_after_twice : (b : Bool) (xs ys : List ℕ) → open_after (open_after b xs
 open_after_twice b [] ys = refl
 open_after_twice b (x ∷ xs) ys = open_after_twice (not (x == 10)) xs ys
 
-own_text_kept : IsKept OwnText
+pub own_text_kept : IsKept OwnText
 own_text_kept = record {
   steps = λ h n p. record { text = p.text; told = p.told; text_open = p.text_open };
   wrote = λ h bytes p. record {

@@ -1,6 +1,6 @@
 -- The names that a program declares are well formed, and the globals as a run begins hold its storage: in the rounds in which declarations are judged, where
 -- constants belong to their types in each round.
-use Rattle.std.proofs.Common.{◌≡◌, ℕ, zero, suc, inl, inr, ⊎_elim, Bool, true, false, cond, List, [], ◌∷◌, ◌++◌, Option, Some, None, Ok, refl, sym, ap, ◌∙◌, subst, length, map}
+use Rattle.std.proofs.Common.{◌≡◌, ℕ, zero, suc, inl, inr, ⊎_elim, Bool, true, false, cond, List, [], ◌∷◌, ◌++◌, Option, Some, None, Ok, refl, sym, ap, ap₂, ◌∙◌, subst, length, map}
 use Rattle.asl_syn.specs.declared.tree.Expr.{Expr}
 use Rattle.asl_syn.specs.declared.tree.TypeExpr.{TypeExpr}
 use Rattle.asl_syn.specs.declared.tree.Ident.{Ident}
@@ -33,7 +33,7 @@ use Rattle.asl_rules.specs.Declarations.{in_names, def_rule, supertype_rule, lab
 use Rattle.asl_rules.specs.Evaluation.{global_under, global_with, global_in, cons_some, globals_among, initial_globals}
 use Rattle.asl_rules.proofs.basics.Inversions.{ok_ok, bind_ok, then_ok}
 use Rattle.asl_rules.proofs.basics.Tests.{no, some_same, none_some, name_is}
-use Rattle.asl_rules.proofs.scopes.Naming.{GoodNames, WellNamed}
+use Rattle.asl_rules.proofs.scopes.Naming.{GoodStanding, GoodNames, WellNamed}
 use Rattle.asl_rules.proofs.scopes.Slots.{IsOutside, AllOutside}
 use Rattle.asl_rules.proofs.scopes.OverScope.{NamesOver}
 use Rattle.asl_rules.proofs.widths.TypesOver.{Never}
@@ -42,6 +42,8 @@ use Rattle.asl_rules.proofs.verdict.Distinct.{Distinct, distinct_of, IsPlain, In
 use Rattle.asl_rules.proofs.constants.KnownStart.{starts_at}
 use Rattle.asl_rules.proofs.verdict.Settled.{not_waiting, by_test, still_is, names_at, named_at, own_at}
 use Rattle.asl_rules.proofs.scopes.DeclWell.{StandsWell, AllWell, well_at, well_grows, Ready, LabelsIn, HasLabels, decl_well}
+use Rattle.asl_rules.proofs.scopes.EachOnce.{SameStandings, entries_keep, once_apart, passed_over}
+use Rattle.asl_rules.proofs.verdict.SharedNames.{names_stand, names_once, names_shared}
 
 type_standing : (o : Option Standing) (T : Ty) → type_in o ≡ Some T → o ≡ Some (TypeName T)
 type_standing (Some (TypeName U)) T h = ap (λ V. Some (TypeName V)) (some_same U T h)
@@ -111,6 +113,13 @@ outside_brought (dc.Func f) es b = outside_none es b
 outside_library : (ns : List (List ℕ)) → AllOutside (map subprogram ns)
 outside_library [] = tt
 outside_library (n ∷ ns) = (tt, outside_library ns)
+
+-- storage begins alike where names stand for the same
+among_same : (N M : List Entry) → SameStandings N M → (ds : List Decl) → globals_among ds N ≡ globals_among ds M
+among_same N M s [] = refl
+among_same N M s (dc.Type t ∷ ds) = among_same N M s ds
+among_same N M s (dc.Storage d ∷ ds) = ap₂ (λ o bs. cons_some (global_in d (storage_in o)) bs) (s d.name.text) (among_same N M s ds)
+among_same N M s (dc.Func f ∷ ds) = among_same N M s ds
 
 -- ---- types without atoms
 
@@ -278,11 +287,29 @@ module _ (tests : Tests) (right : IsRight tests) (ds : List Decl) (distinct : Di
   abbrev last : ℕ
   last = suc (length ds)
 
+  -- ---- all names, each once
+
+  types_same : types_at last ≡ types_in (names_of_program tests ds)
+  types_same = λ i name. type_in (names_stand tests ds name i)
+
   pub names_good : WellNamed (names_of_program tests ds)
-  names_good = well_named_at last (well_after last)
+  names_good = record {
+    good = λ name st h. subst (λ D. GoodStanding D st) types_same (good_at last (well_after last) name st (names_stand tests ds name ∙ h));
+    apart = once_apart (names_of_program tests ds) (names_once tests ds);
+    outside = entries_keep AllOutside outside_append (λ e es h. ((h.0, tt), h.1)) (entries (judgement tests last ds) ds) (map subprogram library) (outside_entries last ds) (outside_library library);
+  }
+
+  -- a name that stands for no storage is passed over
+  match_same : (D : List ℕ → Option Ty) → AllMatch D (names_of_program tests ds) ≡ AllMatch D (at_round last)
+  match_same D =
+      passed_over (AllMatch D) (λ e P bs. global_matches D e.name e.standing bs P) (λ e es. refl) (λ e P h. ap (λ st bs. global_matches D e.name st bs P) h)
+      (entries (judgement tests last ds) ds) (map subprogram library) (names_shared tests ds distinct)
 
   pub globals_good : GlobalsMatch (names_of_program tests ds) (initial_globals (environment tests ds))
-  globals_good = globals_match_at last (well_after last)
+  globals_good =
+      subst (AllMatch (types_in (names_of_program tests ds)) (names_of_program tests ds)) (among_same (at_round last) (names_of_program tests ds) (names_stand tests ds) ds)
+      (subst (λ P. P (globals_among ds (at_round last))) (sym (match_same (types_in (names_of_program tests ds))))
+      (subst (λ D. AllMatch D (at_round last) (globals_among ds (at_round last))) types_same (globals_match_at last (well_after last))))
 
 -- ---- of a program
 

@@ -39,6 +39,7 @@ use Rattle.asl_rules.proofs.basics.Opening.{bounded_ok}
 use Rattle.asl_rules.proofs.widths.Counting.{stored_of}
 use Rattle.asl_rules.proofs.widths.TypesOver.{EndOver, PartsOver, Never, Over, FieldsOver, AllOver, over_any, widened_over}
 use Rattle.asl_rules.proofs.scopes.OverScope.{StandingOver, CountedOver, EachOver, NamesOver, typed_over, written_over}
+use Rattle.asl_rules.proofs.scopes.EachOnce.{entries_keep}
 
 -- ---- a type for assignments that agree on its atoms
 
@@ -290,13 +291,16 @@ module _ (t : Tests) where
   pub rounds_over : (A : ℕ → Type 0) (n : ℕ) (ds : List Decl) → NamesOver A (map subprogram library ++ entries (judgement t n ds) ds)
   rounds_over A n ds = clean_over A (map subprogram library ++ entries (judgement t n ds) ds) (with_library (judgement t n ds) (λ d. judgement_clean n ds d) ds)
 
+  program_clean : (ds : List Decl) → AllClean (names_of_program t ds)
+  program_clean ds = entries_keep AllClean more_clean (λ e es h. ((h.0, tt), h.1)) (entries (final t ds) ds) (map subprogram library) (entries_clean (final t ds) (λ d. judgement_clean (suc (length ds)) ds d) ds) (library_clean library)
+
   -- the names that are visible in all bodies have no atoms
   pub program_over : (A : ℕ → Type 0) (ds : List Decl) → NamesOver A (names_of_program t ds)
-  program_over A ds = rounds_over A (suc (length ds)) ds
+  program_over A ds = clean_over A (names_of_program t ds) (program_clean ds)
 
   -- and none of them is the name of a body
   pub program_atoms : (ds : List Decl) → next_atom (names_of_program t ds) ≡ 0
-  program_atoms ds = no_local (names_of_program t ds) (with_library (final t ds) (λ d. judgement_clean (suc (length ds)) ds d) ds)
+  program_atoms ds = no_local (names_of_program t ds) (program_clean ds)
     where
       outside : (x : Standing) → Clean x → is_local x ≡ false
       outside (Stored s) c = ap not c.1.0

@@ -1,17 +1,16 @@
--- The report is the same, whichever right tests of one width limit are taken.
-use Rattle.std.proofs.Common.{◌≡◌, ℕ, List, Result, ap}
+-- The report is the same, whichever right tests of one width limit are taken, and by whatever files are read.
+use Rattle.std.proofs.Common.{◌≡◌, ap₂}
 use Rattle.asl_syn.specs.Command.{Command}
-use Rattle.asl_syn.specs.declared.code.Fault.{Fault}
-use Rattle.asl_syn.specs.declared.tree.Decl.{Decl}
+use Rattle.asl_grammar.specs.Reading.{Reader, IsReading}
+use Rattle.asl_grammar.proofs.OneProgram.{one_answer}
 use Rattle.asl_rules.specs.Tests.{Tests, IsRight}
-use Rattle.asl_rules.specs.Texts.{File}
-use Rattle.asl_rules.specs.Report.{on_texts, words_on_texts}
+use Rattle.asl_rules.specs.Texts.{Text}
+use Rattle.asl_rules.specs.Report.{report_of}
 use Rattle.asl_rules.proofs.verdict.OneVerdict.{one_test}
 
-pub one_report : (t u : Tests) → IsRight t → IsRight u → t.limit ≡ u.limit → (command : Command) (files : List File) (r : Result (List Decl) Fault) →
-    on_texts t command files r ≡ on_texts u command files r
-one_report t u p q l command files r = ap (λ v. on_texts v command files r) (one_test t u p q l)
+one_reader : (read seen : Reader) → IsReading read → IsReading seen → read ≡ seen
+one_reader read seen a b = λ i files. one_answer files (read files) (seen files) (a files) (b files) i
 
-pub one_report_of_words : (t u : Tests) → IsRight t → IsRight u → t.limit ≡ u.limit → (steps : ℕ) (words : List ℕ) (files : List File) (r : Result (List Decl) Fault) →
-    words_on_texts t steps words files r ≡ words_on_texts u steps words files r
-one_report_of_words t u p q l steps words files r = ap (λ v. words_on_texts v steps words files r) (one_test t u p q l)
+pub one_report : (t u : Tests) → IsRight t → IsRight u → t.limit ≡ u.limit → (read seen : Reader) → IsReading read → IsReading seen
+    → (command : Command) (held : Text → Text) → report_of t read command held ≡ report_of u seen command held
+one_report t u p q l read seen a b command held = ap₂ (λ v r. report_of v r command held) (one_test t u p q l) (one_reader read seen a b)

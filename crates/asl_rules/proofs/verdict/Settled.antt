@@ -23,6 +23,7 @@ use Rattle.asl_rules.proofs.verdict.Distinct.{Distinct, distinct_of, Plain, plai
 use Rattle.asl_rules.proofs.verdict.SameRules.{shown}
 use Rattle.asl_rules.proofs.verdict.SameDeclarations.{AllShow, decl_same}
 use Rattle.asl_rules.proofs.verdict.AllJudged.{all_well}
+use Rattle.asl_rules.proofs.scopes.EachOnce.{SameStandings, entries_same}
 
 -- ---- what a declaration brings has the names that it declares
 
@@ -200,9 +201,15 @@ module _ (t : Tests) (ds : List Decl) (distinct : Distinct (all_declared ds)) wh
       subst (λ n. decl_rule t d (in_names (names_at n)) ≡ Ok es) s.is
       (sym (decl_same t (names_at s.round) (names_at (later (suc s.more) s.round)) d (all_show (suc s.more) s.round (uses d) (uses d) (λ u i. i) s.ready)) ∙ s.gives)
 
+show_all : (t : Tests) (N M : List Entry) → SameStandings N M → (us : Used) → AllShow t N M us
+show_all t N M s [] = tt
+show_all t N M s (u ∷ us) = (ap shown (s u), show_all t N M s us)
+
 -- a declaration that is well formed brings what its rule gives in the scope of all names
 pub in_all : (t : Tests) (ds : List Decl) (d : Decl) (es : List Entry) → names_rule [] (all_declared ds) ≡ Ok tt → final t ds d ≡ Fine es → decl_rule t d (in_names (names_of_program t ds)) ≡ Ok es
-in_all t ds d es n h = in_round t ds (distinct_of (all_declared ds) [] n) (suc (length ds)) d es h
+in_all t ds d es n h =
+    sym (decl_same t (map subprogram library ++ entries (final t ds) ds) (names_of_program t ds) d (show_all t (map subprogram library ++ entries (final t ds) ds) (names_of_program t ds) (entries_same (entries (final t ds) ds) (map subprogram library)) (uses d)))
+    ∙ in_round t ds (distinct_of (all_declared ds) [] n) (suc (length ds)) d es h
 
 -- what a declaration brings to a program whose declarations are all well formed
 pub record Brought (t : Tests) (ds : List Decl) (d : Decl) : Type 0 where

@@ -44,6 +44,7 @@ use Rattle.asl_rules.proofs.basics.Inversions.{ok_ok, bind_ok, then_ok, need_ok,
 use Rattle.asl_rules.proofs.basics.Tests.{no, none_some, some_same, both}
 use Rattle.asl_rules.proofs.widths.Counting.{NewCounted, stored_of, well_kept, variable_counts, let_counts, atom_counts}
 use Rattle.asl_rules.proofs.widths.WidthAtoms.{width_is_alone}
+use Rattle.asl_rules.proofs.scopes.EachOnce.{entries_keep}
 
 -- ---- names outside bodies count as nothing
 
@@ -145,7 +146,7 @@ library_uncounted (n ∷ ns) = (tt, library_uncounted ns)
 pub names_counted : (t : Tests) (ds : List Decl) → WellCounted (names_of_program t ds)
 names_counted t ds =
     well_uncounted (names_of_program t ds)
-    (uncounted_more (map subprogram library) (entries (final t ds) ds) (library_uncounted library) (entries_uncounted (final t ds) (λ d. judgement_uncounted t (suc (length ds)) ds d) ds))
+    (entries_keep AllUncounted uncounted_more (λ e es h. ((h.0, tt), h.1)) (entries (final t ds) ds) (map subprogram library) (entries_uncounted (final t ds) (λ d. judgement_uncounted t (suc (length ds)) ds d) ds) (library_uncounted library))
 
 -- ---- names that aren't visible yet
 

@@ -1,6 +1,6 @@
-use Rattle.std.proofs.Common.{◌≡◌, [], drop, map}
-use Rattle.asl_decl.specs.Signatures.{apart_beside}
+use Rattle.std.proofs.Common.{◌≡◌, drop, map}
+use Rattle.asl_decl.specs.Signatures.{apart_from}
 use Rattle.asl_decl.proofs.apart.check_apart.Given as goal
 
-abbrev pub invariant-loop-place : goal.invariant-loop-place
-invariant-loop-place l = apart_beside (map (λ f. f.now) (drop l.place l.funcs)) l.place l.before ≡ apart_beside (map (λ f. f.now) l.funcs) 0 []
+abbrev pub invariant-loop-number : goal.invariant-loop-number
+invariant-loop-number l = apart_from l.number (map (λ f. f.now) (drop l.number l.funcs)) l.subs ≡ apart_from 0 (map (λ f. f.now) l.funcs) l.subs

@@ -21,19 +21,19 @@ refused : (k : ErrorKind) (ks : Kinds) (found : Option (Text × List Row)) → I
 refused k [] found h = absurd h
 refused k (x ∷ xs) found h = refl
 
-pub returns-in-Ok : goal.returns-in-Ok
+pub returns-in-Ok-clause-meaning : goal.returns-in-Ok-clause-meaning
 unfolding line_of
-returns-in-Ok c =
+returns-in-Ok-clause-meaning c =
     let app = c.in_ok-command.ensures in
     let words : List Text = map string_bytes c.args.words.now in
     let none : fault_of asl_app words ≡ [] = subst (λ (a : App). fault_of a words ≡ []) app (c.in-Ok.ensures.kinds (ap is_simple_and_free app ∙ free)) in
     let found : subcommand_rows_of c.in-Ok.matches ≡ subcommand_of asl_app words = (c.in-Ok.ensures.matches (ap is_simple app ∙ simple)).1 ∙ ap (λ (a : App). subcommand_of a words) app in
     let line : line_of words ≡ command_from (subcommand_rows_of c.in-Ok.matches) = ap₂ command_unless none (sym found) in
-    IfOk-weaker c.line_from.result _ _ (λ l h. h ∙ sym line) c.line_from.ensures
+    IfOk-weaker c.line_from.result _ _ (λ l h. h ∙ sym line) c.line_from.ensures.meaning
 
-pub returns-else-eq : goal.returns-else-eq
+pub returns-else-eq-clause-meaning : goal.returns-else-eq-clause-meaning
 unfolding line_of
-returns-else-eq c =
+returns-else-eq-clause-meaning c =
     let app = c.in_ok-command.ensures in
     let words : List Text = map string_bytes c.args.words.now in
     let kinds = c.in-Err.ensures.kinds (ap is_simple_and_free app ∙ free) in

@@ -1,5 +1,7 @@
--- The text of the program of a number and a size.
-use Rattle.std.specs.Prelude.{ℕ, suc, zero, ◌+◌, ◌-◌, ◌*◌, ◌/◌, ◌%◌, ◌^◌, List, [], ◌++◌, codes, decimal}
+-- The text that is made of a number and a size: for each place from 1 to the size a subprogram and a global, and a `main` that calls each subprogram.
+use Rattle.std.specs.Prelude.{ℕ, suc, zero, ◌+◌, ◌-◌, ◌*◌, ◌/◌, ◌%◌, ◌^◌, [], ◌++◌, codes}
+use Rattle.std.specs.Fmt.{decimal}
+use Rattle.asl_grammar.specs.Reading.{Text}
 
 -- the numbers that are drawn: the 0th is `number` modulo 2^31, and each other comes of the last one
 abbrev pub next : ℕ → ℕ
@@ -25,32 +27,32 @@ abbrev pub first_value : ℕ → ℕ → ℕ
 first_value number place = value_in (drawn number (2 * place))
 
 -- the lines, each with the LF that ends it
-unfoldable pub function_line : ℕ → ℕ → List ℕ
+unfoldable pub function_line : ℕ → ℕ → Text
 function_line place wider =
     codes "pure func f" ++ decimal place ++ codes "{N}(x: bits(N)) => bits(N+" ++ decimal wider ++ codes ") begin return x :: Ones{" ++ decimal wider ++ codes "}(); end;\n"
 
-unfoldable pub global_line : ℕ → ℕ → List ℕ
+unfoldable pub global_line : ℕ → ℕ → Text
 global_line place value = codes "var g" ++ decimal place ++ codes ": integer = " ++ decimal value ++ codes ";\n"
 
-unfoldable pub call_line : ℕ → ℕ → List ℕ
+unfoldable pub call_line : ℕ → ℕ → Text
 call_line place wider =
     codes "g" ++ decimal place ++ codes " = g" ++ decimal place ++ codes " + UInt(f" ++ decimal place ++ codes "{" ++ decimal wider ++ codes "}(Zeros{" ++ decimal wider ++ codes "}()));\n"
 
-unfoldable pub sum_line : ℕ → List ℕ
+unfoldable pub sum_line : ℕ → Text
 sum_line place = codes "s = s + g" ++ decimal place ++ codes ";\n"
 
 -- the lines for each place from 1 to n, in this order
-unfoldable pub declarations : ℕ → ℕ → List ℕ
+unfoldable pub declarations : ℕ → ℕ → Text
 declarations number zero = []
 declarations number (suc n) =
     declarations number n ++ function_line (suc n) (widening number (suc n)) ++ global_line (suc n) (first_value number (suc n))
 
-unfoldable pub statements : ℕ → ℕ → List ℕ
+unfoldable pub statements : ℕ → ℕ → Text
 statements number zero = []
 statements number (suc n) =
     statements number n ++ call_line (suc n) (widening number (suc n)) ++ sum_line (suc n)
 
 -- the whole text
-unfoldable pub program : ℕ → ℕ → List ℕ
-program number size =
+unfoldable pub made_text : ℕ → ℕ → Text
+made_text number size =
     declarations number size ++ codes "func main() => integer begin\nvar s = 0;\n" ++ statements number size ++ codes "return s;\nend;\n"

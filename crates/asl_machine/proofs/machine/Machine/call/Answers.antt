@@ -1,0 +1,20 @@
+use Rattle.std.proofs.Common.{◌≡◌, ◌-◌, List, map, subst, rules}
+use Rattle.asl_rules.specs.Machines.{GivenUp}
+use Rattle.asl_value.specs.View.{value_of}
+use Rattle.asl_value.specs.declared.value.Value.{Value}
+use Rattle.asl_machine.specs.Memory.{storage_of}
+use Rattle.asl_machine.specs.Work.{Work, text_over, text_with}
+use Rattle.asl_machine.proofs.Answered.{given_up}
+use Rattle.asl_machine.proofs.machine.Machine.call.Goals as goal
+
+pub returns-clause-given_up : goal.returns-clause-given_up
+returns-clause-given_up g c t suits =
+    let told = g.K.Sink.written c.args.sink.now in
+    let new = g.K.Sink.written c.run_checked.new.sink in
+    let left = c.run_checked.new.memory.steps in
+    let m = c.self.inside.memory in
+    let same : c.as_slice-args.result.now ≡ c.args.args.items = search rules in
+    given_up c.args.self.now.stage c.run_checked.result c.answer-2.result _ _ c.answer-2.ensures
+    (λ p. subst (λ (w : Work). GivenUp (text_with t w c.args.sub (map value_of c.args.args.items) told) told new w.steps (w.steps - left)) c.self.view_is
+    (subst (λ (xs : List Value). GivenUp (text_over t c.self.inside.checked c.args.sub (map value_of xs) (storage_of m) told) told new m.steps (m.steps - left)) same p))
+    (c.run_checked.ensures.given_up t suits)

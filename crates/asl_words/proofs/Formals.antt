@@ -1,0 +1,108 @@
+-- The formal of `decode`, and a word in its type: of a program that was accepted with this entry.
+use Rattle.std.proofs.Common.{◌≡◌, ℕ, Bool, List, [], ◌∷◌, length, map, Option, Some, None, Ok, refl, sym, ap, ◌∙◌, subst}
+use Rattle.std.specs.Prelude.{slice_get}
+use Rattle.asl_syn.specs.declared.code.StaticCode.TheVariants.{T17, T24}
+use Rattle.asl_syn.specs.declared.tree.Decl.{Decl}
+use Rattle.asl_bits.specs.Lists.{bits_of}
+use Rattle.asl_bits.proofs.Lists.{length-bits_of}
+use Rattle.asl_rules.specs.declared.entry.Entry.TheVariants as entry
+use Rattle.asl_rules.specs.declared.effect.Effect.TheVariants.{Pure}
+use Rattle.asl_rules.specs.Acting.{in_order}
+use Rattle.asl_rules.specs.Agreement.{types_in, no_atoms}
+use Rattle.asl_rules.specs.Belonging.{InType, Belong}
+use Rattle.asl_rules.specs.Closed.{type_with}
+use Rattle.asl_rules.specs.Declarations.{names_of_program}
+use Rattle.asl_rules.specs.Evaluation.{initial_globals}
+use Rattle.asl_rules.specs.Faults.{need, fault_of}
+use Rattle.asl_rules.specs.Grown.{AreGrown}
+use Rattle.asl_rules.specs.Programs.{funcs_of, Head, may_end, body_of, tree_func, body_rule, signatures, types_in as list_types, verdict, Accepted, environment, entry_rule, entry_found, entry_from, is_decode, origin}
+use Rattle.asl_rules.specs.Scopes.{Signature}
+use Rattle.asl_rules.specs.Stmts.{found_stmt}
+use Rattle.asl_rules.specs.Tests.{Tests, IsRight}
+use Rattle.asl_rules.specs.Trees.{TreeFunc}
+use Rattle.asl_rules.specs.Types.{Ty, Parts, no_part, part}
+use Rattle.asl_rules.specs.Values.{bits_with}
+use Rattle.asl_rules.specs.Views.{viewed}
+use Rattle.asl_rules.proofs.basics.Inversions.{ok_ok, err_ok, bind_ok, then_ok}
+use Rattle.asl_rules.proofs.basics.Tests.{some_same, some_none}
+use Rattle.asl_rules.proofs.soundness.Soundness.{soundness}
+use Rattle.asl_rules.proofs.soundness.SoundnessEntry.{word_for, decode_call}
+use Rattle.asl_rules.proofs.soundness.SoundnessFacts.{Facts, facts_of, numbered}
+
+-- a tree has the formals of its signature
+formals_of_tree : (t : Tests) (subs : List Signature) (h : Head) (f : TreeFunc) → body_rule t subs h ≡ Ok f → f.formals ≡ list_types h.signature.formals
+formals_of_tree t subs h f ok =
+    let l = bind_ok (in_order (map (found_stmt t) h.func.body) Pure (body_of subs h)) _ f ok in
+    let d = then_ok (need (may_end h.signature.result h.func) T17 h.func.name.span) (Ok (tree_func h l.value.acts)) f l.then in
+    ap (λ (z : TreeFunc). z.formals) (sym (ok_ok (tree_func h l.value.acts) f d.then))
+
+-- the tree of a subprogram has the formals of its signature
+record Treed (a : Accepted) (id : ℕ) (s : Signature) : Type 0 where
+  tree : TreeFunc
+  stands : slice_get a.funcs id ≡ Some tree
+  formals_are : tree.formals ≡ list_types s.formals
+
+treed : (t : Tests) (ds : List Decl) (a : Accepted) → Facts t ds a → (id : ℕ) (s : Signature) → slice_get a.signatures id ≡ Some s → Treed a id s
+treed t ds a f id s is =
+    let n = numbered t (names_of_program t ds) (signatures f.heads) (funcs_of ds) f.heads f.trees id s f.heads_are f.bodies (subst (λ (z : Accepted). slice_get z.signatures id ≡ Some s) (sym f.is) is) in
+    record {
+      tree = n.tree;
+      stands = subst (λ (z : Accepted). slice_get z.funcs id ≡ Some n.tree) f.is n.is_tree;
+      formals_are = formals_of_tree t (signatures f.heads) n.head n.tree n.body ∙ ap (λ (z : Signature). list_types z.formals) n.is_signature;
+    }
+
+-- one formal alone takes one value
+record Alone (d : List ℕ → Option Ty) (bs : List Bool) (Ts : Parts) : Type 0 where
+  formal : Ty
+  is : Ts ≡ part formal no_part
+  belongs : InType d no_atoms (viewed (type_with formal no_atoms) (bits_with bs [])) formal
+
+alone : (d : List ℕ → Option Ty) (bs : List Bool) (Ts : Parts) → Belong d no_atoms (word_for Ts bs ∷ []) Ts → Alone d bs Ts
+alone d bs no_part b = absurd b
+alone d bs (part T no_part) b = record { formal = T; is = refl; belongs = b.0 }
+alone d bs (part T (part U Ts)) b = absurd b.1
+
+-- the one formal of `decode`, in the signature and in the tree, and a word in its type
+pub record DecodeFormal (a : Accepted) (id : ℕ) (bs : List Bool) : Type 0 where
+  pub formal : Ty
+  pub signature : Signature
+  pub called : slice_get a.signatures id ≡ Some signature
+  pub no_params : signature.params ≡ []
+  pub alone_is : signature.formals ≡ part formal no_part
+  pub tree : TreeFunc
+  pub stands : slice_get a.funcs id ≡ Some tree
+  pub formals_are : tree.formals ≡ formal ∷ []
+  pub belongs : InType (types_in a.names) no_atoms (viewed (type_with formal no_atoms) (bits_with bs [])) formal
+
+pub decode_formal : (t : Tests) → IsRight t → (ds : List Decl) (a : Accepted) → AreGrown t.limit ds → verdict entry.Decode ds t ≡ Ok a → a.asked ≡ entry.Decode → (id : ℕ) → a.main ≡ Some id → (bs : List Bool) → length bs ≡ 32 → DecodeFormal a id bs
+decode_formal t right ds a grown ok asked id is bs n =
+    let f = facts_of t entry.Decode ds a ok in
+    let s = soundness t right ds a f grown in
+    let d = decode_call t ds a f id (initial_globals (environment t ds)) s.0.initial is asked bs n in
+    let same : d.signature ≡ d.call.signature = some_same d.signature d.call.signature (sym d.stands ∙ d.call.is) in
+    let one = alone (types_in a.names) bs d.call.signature.formals (subst (λ (z : Signature). Belong (types_in a.names) no_atoms (word_for z.formals bs ∷ []) d.call.signature.formals) same d.call.args_belong) in
+    let u = treed t ds a f id d.call.signature d.call.is in
+    record {
+      formal = one.formal;
+      signature = d.call.signature;
+      called = d.call.is;
+      no_params = d.call.no_params;
+      alone_is = one.is;
+      tree = u.tree;
+      stands = u.stands;
+      formals_are = u.formals_are ∙ ap list_types one.is;
+      belongs = one.belongs;
+    }
+
+-- a program that was accepted with this entry has it
+found_there : (o : Option ℕ) → entry_found o ≡ Ok None → ⊥
+found_there None h = err_ok (fault_of T24 origin) None h
+found_there (Some n) h = some_none n (ok_ok (Some n) None h)
+
+pub decode_there : (t : Tests) (ds : List Decl) (a : Accepted) → Facts t ds a → a.asked ≡ entry.Decode → a.main ≡ None → ⊥
+decode_there t ds a f asked none =
+    let with_entry : entry_rule entry.Decode (signatures f.heads) ≡ Ok f.main = subst (λ e. entry_rule e (signatures f.heads) ≡ Ok f.main) (ap (λ (z : Accepted). z.asked) f.is ∙ asked) f.entry in
+    found_there (entry_from is_decode 0 (signatures f.heads)) (with_entry ∙ ap Ok (ap (λ (z : Accepted). z.main) f.is ∙ none))
+
+pub word_width : (n : ℕ) → length (bits_of 32 n) ≡ 32
+word_width n = length-bits_of 32 n
