@@ -130,14 +130,14 @@ fn record_with(alloc: Global, name: &[u8], fields: Items<FieldType>) -> Result<T
     ensures { IfOk result (λ ty. ty ≡ record_of name.now (fields_of fields)) }
 {
     let name = name_of(alloc, name)?;
-    Ok(Ty::record_of(name, Shared::new(alloc, fields)?))
+    Ty::record_of(alloc, name, Shared::new(alloc, fields)?)
 }
 
 fn exception_with(alloc: Global, name: &[u8], fields: Items<FieldType>) -> Result<Ty, AllocError>
     ensures { IfOk result (λ ty. ty ≡ exception_of name.now (fields_of fields)) }
 {
     let name = name_of(alloc, name)?;
-    Ok(Ty::exception_of(name, Shared::new(alloc, fields)?))
+    Ty::exception_of(alloc, name, Shared::new(alloc, fields)?)
 }
 
 /// A record of these fields, each of which stands once, within the limits.

@@ -42,7 +42,7 @@ fn named(alloc: Global, text: &str, inner: Ty) -> Result<Ty, AllocError> {
 fn record(alloc: Global, field: Ty) -> Result<Ty, AllocError> {
     let mut fields = Items::new(alloc);
     fields.push(FieldType::Field(name(alloc, "a")?, field))?;
-    Ok(Ty::record_of(name(alloc, "R")?, Shared::new(alloc, fields)?))
+    Ty::record_of(alloc, name(alloc, "R")?, Shared::new(alloc, fields)?)
 }
 
 /// An array of pairs.

@@ -207,13 +207,13 @@ none_linked es h = record {
   links = λ i f e. cc e;
 }
 
-two_alike : (b c : Bool) (v w : ℕ) (o : Option ℕ) → b ≡ c → cond c (Some v) o ≡ cond b (Some v) (cond c (Some w) o)
+pub two_alike : (b c : Bool) (v w : ℕ) (o : Option ℕ) → b ≡ c → cond c (Some v) o ≡ cond b (Some v) (cond c (Some w) o)
 two_alike true true v w o h = refl
 two_alike false false v w o h = refl
 two_alike true false v w o h = cc h
 two_alike false true v w o h = cc h
 
-two_apart : (b c : Bool) (v w : ℕ) (o : Option ℕ) → (c ≡ true → b ≡ true → ⊥) → cond c (Some w) (cond b (Some v) o) ≡ cond b (Some v) (cond c (Some w) o)
+pub two_apart : (b c : Bool) (v w : ℕ) (o : Option ℕ) → (c ≡ true → b ≡ true → ⊥) → cond c (Some w) (cond b (Some v) o) ≡ cond b (Some v) (cond c (Some w) o)
 two_apart true true v w o h = absurd (h refl refl)
 two_apart false true v w o h = refl
 two_apart true false v w o h = refl

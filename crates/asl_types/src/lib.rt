@@ -9,6 +9,7 @@ pub mod fits;
 pub mod integers;
 pub mod kinds;
 pub mod members;
+mod places;
 mod plain;
 mod scope;
 pub mod seeing;

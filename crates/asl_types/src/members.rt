@@ -3,27 +3,9 @@
 ghost use Rattle.std.specs.Prelude.{◌≡◌, option_map};
 ghost use Rattle.asl_rules.specs.Members as rules;
 ghost use Rattle.asl_types.specs.MemberView.{member_view};
-ghost use Rattle.asl_types.specs.View.{fields_of};
 
-use crate::ty::{FieldType, Form, Ty};
+use crate::ty::{Form, Ty};
 use asl_value::{BitField, same_name};
-
-/// The first of these fields that has this name: its place, from 0, and its type.
-#[tactic(auto, using(crate::proofs::MemberLemmas::field_here, crate::proofs::MemberLemmas::field_later, crate::proofs::MemberLemmas::field_none, crate::proofs::MemberLemmas::field_first))]
-pub fn field_among<'a>(fields: &'a [FieldType], name: &[u8]) -> Option<(usize, &'a Ty)>
-    ensures { option_map (λ p. (p.0, p.1.now)) result ≡ rules.numbered name.now (fields_of fields.now) }
-{
-    for place in 0..fields.len() {
-        match &fields[place] {
-            FieldType::Field(other, ty) => {
-                if same_name(other.get().as_slice(), name) {
-                    return Some((place, ty));
-                }
-            }
-        }
-    }
-    None
-}
 
 /// The first of these bitfields that has this name.
 #[tactic(auto, using(crate::proofs::MemberLemmas::bitfield_here, crate::proofs::MemberLemmas::bitfield_later, crate::proofs::MemberLemmas::bitfield_none))]
@@ -73,8 +55,8 @@ pub fn member_of<'t>(ty: &'t Ty, name: &[u8]) -> Option<Member<'t>>
         Form::Boolean => None,
         Form::Bits(_, view) => bitfield_member(bitfield_among(view.get().as_slice(), name)),
         Form::Enumeration(_, _) => None,
-        Form::Record(_, fields) => field_member(field_among(fields.get().as_slice(), name)),
-        Form::Exception(_, fields) => field_member(field_among(fields.get().as_slice(), name)),
+        Form::Record(_, _) => field_member(ty.field_named(name)),
+        Form::Exception(_, _) => field_member(ty.field_named(name)),
         Form::Tuple(_) => None,
         Form::Array(_, _) => None,
         Form::Named(_, _, inner) => member_of(inner.get(), name),
