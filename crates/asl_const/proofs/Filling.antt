@@ -1,5 +1,5 @@
 -- The fields of a type with the values that are given, one by one.
-use Rattle.std.proofs.Common.{◌≡◌, ℕ, true, false, cond, List, [], ◌∷◌, ◌++◌, map, Option, Some, None, refl, sym, ap, ◌∙◌}
+use Rattle.std.proofs.Common.{◌≡◌, ℕ, true, false, cond, List, [], ◌∷◌, ◌++◌, Option, Some, None, refl, sym, ap, ◌∙◌}
 use Rattle.std.specs.Prelude.{pos, option_map, option_and_then}
 use Rattle.asl_syn.specs.declared.token.Span.{Span}
 use Rattle.asl_rules.specs.ByPlace.{seen_as}
@@ -12,8 +12,7 @@ use Rattle.asl_rules.specs.Values as rules
 use Rattle.asl_rules.specs.Values.{FieldValues, value_of_field, has}
 use Rattle.asl_rules.specs.Views.{viewed}
 use Rattle.asl_rules.proofs.values.Constructs.{seen_is}
-use Rattle.asl_value.specs.declared.value.FieldValue.{FieldValue}
-use Rattle.asl_value.specs.View.{Of, fields_of, field_of}
+use Rattle.asl_value.specs.View.{Of, fields_of}
 use Rattle.asl_types.specs.declared.ty.FieldType.{FieldType}
 use Rattle.asl_types.specs.declared.ty.FieldType.TheVariants as f
 use Rattle.asl_types.specs.View as types
@@ -24,10 +23,6 @@ kept_there T x y h e = ap Some (e ∙ seen_is (λ n. pos 0) T x) ∙ sym (ap (λ
 
 pub kept_none : (T : Ty) (x : rules.Value) → has x (closed T) ≡ false → None ≡ kept_in T x
 kept_none T x h = sym (ap (λ b. cond b (Some (viewed (closed T) x)) None) h)
-
-pub more_fields : (xs : List FieldValue) (x : FieldValue) → map field_of (xs ++ x ∷ []) ≡ map field_of xs ++ field_of x ∷ []
-more_fields [] x = refl
-more_fields (y ∷ xs) x = ap (λ zs. field_of y ∷ zs) (more_fields xs x)
 
 abbrev before : List Of → FieldValues → FieldValues
 before [] ys = ys

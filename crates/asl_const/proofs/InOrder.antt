@@ -1,5 +1,5 @@
 -- Expressions in order, and what comes with their values.
-use Rattle.std.proofs.Common.{◌≡◌, List, [], ◌∷◌, ◌++◌, map, refl, ap, ◌∙◌}
+use Rattle.std.proofs.Common.{◌≡◌, List, [], ◌∷◌, ◌++◌, refl, ap, ◌∙◌}
 use Rattle.asl_syn.specs.declared.token.Span.{Span}
 use Rattle.asl_rules.specs.Constants.{Known, settled}
 use Rattle.asl_rules.specs.Forms.{eval_all, at_once}
@@ -7,16 +7,8 @@ use Rattle.asl_rules.specs.Plans.{End, Pure, Good, Bad}
 use Rattle.asl_rules.specs.Pures.{◌>>=◌}
 use Rattle.asl_rules.specs.Scopes.{Entry}
 use Rattle.asl_rules.specs.Values.{Value}
-use Rattle.asl_value.specs.declared.value.Value as code
-use Rattle.asl_value.specs.View.{value_of}
 use Rattle.asl_const.specs.Finds.{known_after, with_all}
 use Rattle.asl_const.proofs.Deciding.{given_at_once}
-
-pub more_values : (xs : List code.Value) (x : code.Value) → map value_of (xs ++ x ∷ []) ≡ map value_of xs ++ value_of x ∷ []
-more_values [] x = refl
-more_values (y ∷ xs) x = ap (λ zs. value_of y ∷ zs) (more_values xs x)
-
--- ---- what is done with all
 
 settled_all : {A : Type 0} (span : Span) (es : List Known) (xs : List Value) (names : List Entry) (f : List Value → Pure A) →
     settled span names (eval_all es xs names (λ ys c. at_once (f ys) c)) ≡ (known_after xs es names >>= f)

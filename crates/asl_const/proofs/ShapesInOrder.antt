@@ -1,7 +1,6 @@
 -- Shapes one behind another.
 use Rattle.std.proofs.Common.{◌≡◌, ℕ, List, [], ◌∷◌, ◌++◌, map, Option, Some, None, refl, sym, ap, ◌∙◌}
 use Rattle.std.specs.Prelude.{option_map, option_and_then}
-use Rattle.std.proofs.lemmas.List.{map-append}
 use Rattle.asl_bits.specs.declared.TheConstants.{WIDTH_LIMIT}
 use Rattle.asl_syn.specs.declared.token.Span.{Span}
 use Rattle.asl_syn.specs.declared.tree.Bitfield.TheOpen as ex
@@ -11,29 +10,9 @@ use Rattle.asl_syn.specs.declared.tree.TypeExpr.TheVariants as tv
 use Rattle.asl_rules.specs.Constants.{Known, constant_layer}
 use Rattle.asl_rules.specs.Shaped.{Shaped, Named, TypeOver, itself, shapes_in, bitfield_layer, part_layer, given_layer, pattern_layer, slice_layer, type_layer, pattern_shapes, type_shapes, first_shape}
 use Rattle.asl_rules.specs.Shapes as rules
-use Rattle.asl_value.specs.declared.slices.SliceShape.{SliceShape}
-use Rattle.asl_value.specs.View.{slice_of}
-use Rattle.asl_shape.specs.declared.shapes.PartShape.{PartShape}
-use Rattle.asl_shape.specs.declared.shapes.BitfieldShape.{BitfieldShape}
-use Rattle.asl_shape.specs.declared.shapes.PatternShape.{PatternShape}
 use Rattle.asl_shape.specs.declared.shapes.TypeShape.{TypeShape}
-use Rattle.asl_shape.specs.View.{patterns_from, types_from, all_types, pattern_of, part_of, bitfield_of, type_of}
+use Rattle.asl_shape.specs.View.{patterns_from, types_from, all_types, type_of}
 use Rattle.asl_const.specs.Finds.{types_after, known_type}
-
-pub more_slices : (xs : List SliceShape) (x : SliceShape) → map slice_of (xs ++ x ∷ []) ≡ map slice_of xs ++ slice_of x ∷ []
-more_slices xs x = map-append slice_of xs (x ∷ [])
-
-pub more_patterns : (xs : List PatternShape) (x : PatternShape) → map pattern_of (xs ++ x ∷ []) ≡ map pattern_of xs ++ pattern_of x ∷ []
-more_patterns xs x = map-append pattern_of xs (x ∷ [])
-
-pub more_parts : (xs : List PartShape) (x : PartShape) → map part_of (xs ++ x ∷ []) ≡ map part_of xs ++ part_of x ∷ []
-more_parts xs x = map-append part_of xs (x ∷ [])
-
-pub more_bitfields : (xs : List BitfieldShape) (x : BitfieldShape) → map bitfield_of (xs ++ x ∷ []) ≡ map bitfield_of xs ++ bitfield_of x ∷ []
-more_bitfields xs x = map-append bitfield_of xs (x ∷ [])
-
-pub more_types : (xs : List TypeShape) (x : TypeShape) → map type_of (xs ++ x ∷ []) ≡ map type_of xs ++ type_of x ∷ []
-more_types xs x = map-append type_of xs (x ∷ [])
 
 -- patterns in order
 pub same_patterns : (ps qs : List rules.PatternShape) → ps ≡ qs → patterns_from ps ≡ pattern_shapes qs

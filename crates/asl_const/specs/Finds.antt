@@ -9,14 +9,13 @@ use Rattle.asl_syn.specs.declared.tree.Ident.{Ident}
 use Rattle.asl_syn.specs.declared.tree.Pattern.{Pattern}
 use Rattle.asl_syn.specs.declared.tree.Slice.{Slice}
 use Rattle.asl_syn.specs.declared.tree.TypeExpr.{TypeExpr}
-use Rattle.asl_syn.specs.declared.tree.Bitfield.TheFolds.{fold-Bitfield, fold-ConstraintPart, fold-FieldValue, fold-Pattern, fold-Slice, fold-TypeExpr}
 use Rattle.asl_rules.specs.Constants.{Known, constant_layer, settled}
 use Rattle.asl_rules.specs.Forms.{behind_all}
 use Rattle.asl_rules.specs.Operators.{truth, Decided, Already, ByRight, Strictness, Strict, Lazy}
 use Rattle.asl_rules.specs.Plans.{Faulted, Stuck, Pure, Good, Bad}
 use Rattle.asl_rules.specs.Pures.{◌>>=◌}
 use Rattle.asl_rules.specs.Scopes.{Entry}
-use Rattle.asl_rules.specs.Shaped.{Shaped, Named, TypeOver, itself, bitfield_layer, part_layer, given_layer, pattern_layer, slice_layer, type_layer}
+use Rattle.asl_rules.specs.Shaped.{Shaped, Named, TypeOver}
 use Rattle.asl_rules.specs.Shapes.{SliceShape, PatternShape, PartShape, BitfieldShape, TypeShape}
 use Rattle.asl_rules.specs.Types.{BitField, View}
 use Rattle.asl_rules.specs.Values.{Value}
@@ -26,6 +25,7 @@ use Rattle.asl_const.specs.declared.failure.Unknown.{Unknown}
 use Rattle.asl_const.specs.declared.failure.Unknown.TheVariants as unknown
 use Rattle.asl_const.specs.declared.applying.Decision.{Decision}
 use Rattle.asl_const.specs.declared.applying.Decision.TheVariants as decision
+use Rattle.asl_const.specs.Parts.{bitfield_by, given_by, part_by, pattern_by, slice_by, type_by}
 use Rattle.asl_const.specs.Unknowns.{mistake_of}
 
 -- an answer is what the rules give, or memory was wanting
@@ -38,28 +38,22 @@ Finds view (Err (unknown.Stuck mistake span)) r = r ≡ Bad (Stuck (mistake_of m
 -- ---- parts of expressions, with the values that their expressions have
 
 abbrev pub known_given : FieldValue → Shaped (List ℕ) Known
-known_given = fold-FieldValue (Shaped BitfieldShape Known) (Shaped PartShape Known) Known (Shaped (List ℕ) Known) (Shaped PatternShape Known) (Shaped SliceShape Known) (Shaped TypeOver Known)
-    (bitfield_layer itself) (part_layer itself) (constant_layer WIDTH_LIMIT) (given_layer itself) (pattern_layer itself itself) (slice_layer itself) (type_layer itself itself itself itself)
+known_given = given_by (constant_layer WIDTH_LIMIT)
 
 abbrev pub known_slice : Slice → Shaped SliceShape Known
-known_slice = fold-Slice (Shaped BitfieldShape Known) (Shaped PartShape Known) Known (Shaped (List ℕ) Known) (Shaped PatternShape Known) (Shaped SliceShape Known) (Shaped TypeOver Known)
-    (bitfield_layer itself) (part_layer itself) (constant_layer WIDTH_LIMIT) (given_layer itself) (pattern_layer itself itself) (slice_layer itself) (type_layer itself itself itself itself)
+known_slice = slice_by (constant_layer WIDTH_LIMIT)
 
 abbrev pub known_pattern : Pattern → Shaped PatternShape Known
-known_pattern = fold-Pattern (Shaped BitfieldShape Known) (Shaped PartShape Known) Known (Shaped (List ℕ) Known) (Shaped PatternShape Known) (Shaped SliceShape Known) (Shaped TypeOver Known)
-    (bitfield_layer itself) (part_layer itself) (constant_layer WIDTH_LIMIT) (given_layer itself) (pattern_layer itself itself) (slice_layer itself) (type_layer itself itself itself itself)
+known_pattern = pattern_by (constant_layer WIDTH_LIMIT)
 
 abbrev pub known_part : ConstraintPart → Shaped PartShape Known
-known_part = fold-ConstraintPart (Shaped BitfieldShape Known) (Shaped PartShape Known) Known (Shaped (List ℕ) Known) (Shaped PatternShape Known) (Shaped SliceShape Known) (Shaped TypeOver Known)
-    (bitfield_layer itself) (part_layer itself) (constant_layer WIDTH_LIMIT) (given_layer itself) (pattern_layer itself itself) (slice_layer itself) (type_layer itself itself itself itself)
+known_part = part_by (constant_layer WIDTH_LIMIT)
 
 abbrev pub known_bitfield : Bitfield → Shaped BitfieldShape Known
-known_bitfield = fold-Bitfield (Shaped BitfieldShape Known) (Shaped PartShape Known) Known (Shaped (List ℕ) Known) (Shaped PatternShape Known) (Shaped SliceShape Known) (Shaped TypeOver Known)
-    (bitfield_layer itself) (part_layer itself) (constant_layer WIDTH_LIMIT) (given_layer itself) (pattern_layer itself itself) (slice_layer itself) (type_layer itself itself itself itself)
+known_bitfield = bitfield_by (constant_layer WIDTH_LIMIT)
 
 abbrev pub known_type : TypeExpr → Shaped TypeOver Known
-known_type = fold-TypeExpr (Shaped BitfieldShape Known) (Shaped PartShape Known) Known (Shaped (List ℕ) Known) (Shaped PatternShape Known) (Shaped SliceShape Known) (Shaped TypeOver Known)
-    (bitfield_layer itself) (part_layer itself) (constant_layer WIDTH_LIMIT) (given_layer itself) (pattern_layer itself itself) (slice_layer itself) (type_layer itself itself itself itself)
+known_type = type_by (constant_layer WIDTH_LIMIT)
 
 -- the shapes of written types, behind those before, where all are known
 abbrev pub types_after : List TypeShape → Named → List TypeOver → Option (List TypeShape)

@@ -1,4 +1,5 @@
 pub mod Unknowns
+pub mod Parts
 pub mod Finds
 pub mod Giving
 pub mod Weights

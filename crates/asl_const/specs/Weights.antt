@@ -10,13 +10,13 @@ use Rattle.asl_syn.specs.declared.tree.Pattern.{Pattern}
 use Rattle.asl_syn.specs.declared.tree.Slice.{Slice}
 use Rattle.asl_syn.specs.declared.tree.TypeExpr.{TypeExpr}
 use Rattle.asl_syn.specs.declared.tree.Bitfield.TheOpen as ex
-use Rattle.asl_syn.specs.declared.tree.Bitfield.TheFolds.{fold-Bitfield, fold-ConstraintPart, fold-Expr, fold-FieldValue, fold-Pattern, fold-Slice, fold-TypeExpr}
 use Rattle.asl_rules.specs.Constants.{Known, constant}
-use Rattle.asl_rules.specs.Shaped.{Shaped, TypeOver, itself, exprs_in, bitfield_layer, part_layer, given_layer, pattern_layer, slice_layer, type_layer}
+use Rattle.asl_rules.specs.Shaped.{Shaped, TypeOver, itself, exprs_in}
 use Rattle.asl_rules.specs.Shapes.{SliceShape, PatternShape, PartShape, BitfieldShape}
+use Rattle.asl_const.specs.Parts.{Layer, bitfield_by, expr_by, given_by, part_by, pattern_by, slice_by, type_by}
 
 -- an expression has one node more than those below it
-abbrev pub weight_layer : ex.Expr-F (Shaped BitfieldShape ℕ) (Shaped PartShape ℕ) ℕ (Shaped (List ℕ) ℕ) (Shaped PatternShape ℕ) (Shaped SliceShape ℕ) (Shaped TypeOver ℕ) → ℕ
+abbrev pub weight_layer : Layer ℕ → ℕ
 weight_layer (ex.Int span n) = 1
 weight_layer (ex.Bits span t) = 1
 weight_layer (ex.Bool span b) = 1
@@ -35,34 +35,27 @@ weight_layer (ex.As span a t) = 1 + (a + sum t.exprs)
 weight_layer (ex.In span a p) = 1 + (a + sum p.exprs)
 
 abbrev pub weight : Expr → ℕ
-weight = fold-Expr (Shaped BitfieldShape ℕ) (Shaped PartShape ℕ) ℕ (Shaped (List ℕ) ℕ) (Shaped PatternShape ℕ) (Shaped SliceShape ℕ) (Shaped TypeOver ℕ)
-    (bitfield_layer itself) (part_layer itself) weight_layer (given_layer itself) (pattern_layer itself itself) (slice_layer itself) (type_layer itself itself itself itself)
+weight = expr_by weight_layer
 
 -- parts, with the weights of the expressions in them
 
 abbrev pub weighed_given : FieldValue → Shaped (List ℕ) ℕ
-weighed_given = fold-FieldValue (Shaped BitfieldShape ℕ) (Shaped PartShape ℕ) ℕ (Shaped (List ℕ) ℕ) (Shaped PatternShape ℕ) (Shaped SliceShape ℕ) (Shaped TypeOver ℕ)
-    (bitfield_layer itself) (part_layer itself) weight_layer (given_layer itself) (pattern_layer itself itself) (slice_layer itself) (type_layer itself itself itself itself)
+weighed_given = given_by weight_layer
 
 abbrev pub weighed_slice : Slice → Shaped SliceShape ℕ
-weighed_slice = fold-Slice (Shaped BitfieldShape ℕ) (Shaped PartShape ℕ) ℕ (Shaped (List ℕ) ℕ) (Shaped PatternShape ℕ) (Shaped SliceShape ℕ) (Shaped TypeOver ℕ)
-    (bitfield_layer itself) (part_layer itself) weight_layer (given_layer itself) (pattern_layer itself itself) (slice_layer itself) (type_layer itself itself itself itself)
+weighed_slice = slice_by weight_layer
 
 abbrev pub weighed_pattern : Pattern → Shaped PatternShape ℕ
-weighed_pattern = fold-Pattern (Shaped BitfieldShape ℕ) (Shaped PartShape ℕ) ℕ (Shaped (List ℕ) ℕ) (Shaped PatternShape ℕ) (Shaped SliceShape ℕ) (Shaped TypeOver ℕ)
-    (bitfield_layer itself) (part_layer itself) weight_layer (given_layer itself) (pattern_layer itself itself) (slice_layer itself) (type_layer itself itself itself itself)
+weighed_pattern = pattern_by weight_layer
 
 abbrev pub weighed_part : ConstraintPart → Shaped PartShape ℕ
-weighed_part = fold-ConstraintPart (Shaped BitfieldShape ℕ) (Shaped PartShape ℕ) ℕ (Shaped (List ℕ) ℕ) (Shaped PatternShape ℕ) (Shaped SliceShape ℕ) (Shaped TypeOver ℕ)
-    (bitfield_layer itself) (part_layer itself) weight_layer (given_layer itself) (pattern_layer itself itself) (slice_layer itself) (type_layer itself itself itself itself)
+weighed_part = part_by weight_layer
 
 abbrev pub weighed_bitfield : Bitfield → Shaped BitfieldShape ℕ
-weighed_bitfield = fold-Bitfield (Shaped BitfieldShape ℕ) (Shaped PartShape ℕ) ℕ (Shaped (List ℕ) ℕ) (Shaped PatternShape ℕ) (Shaped SliceShape ℕ) (Shaped TypeOver ℕ)
-    (bitfield_layer itself) (part_layer itself) weight_layer (given_layer itself) (pattern_layer itself itself) (slice_layer itself) (type_layer itself itself itself itself)
+weighed_bitfield = bitfield_by weight_layer
 
 abbrev pub weighed_type : TypeExpr → Shaped TypeOver ℕ
-weighed_type = fold-TypeExpr (Shaped BitfieldShape ℕ) (Shaped PartShape ℕ) ℕ (Shaped (List ℕ) ℕ) (Shaped PatternShape ℕ) (Shaped SliceShape ℕ) (Shaped TypeOver ℕ)
-    (bitfield_layer itself) (part_layer itself) weight_layer (given_layer itself) (pattern_layer itself itself) (slice_layer itself) (type_layer itself itself itself itself)
+weighed_type = type_by weight_layer
 
 -- ---- expressions behind references
 

@@ -66,9 +66,9 @@ fn eval_name(names: &Scope, span: Span, name: &[u8]) -> Result<Value, Unknown>
             None => Err(Unknown::Stuck(Mistake::UnknownName, span)),
         },
         Some(Standing::Label(_, value)) => Ok(copy(value)?),
-        Some(Standing::Subprogram) => Err(Unknown::Stuck(Mistake::UnknownName, span)),
-        Some(Standing::TypeName(_)) => Err(Unknown::Stuck(Mistake::UnknownName, span)),
-        None => Err(Unknown::Stuck(Mistake::UnknownName, span)),
+        Some(Standing::Subprogram) | Some(Standing::TypeName(_)) | None => {
+            Err(Unknown::Stuck(Mistake::UnknownName, span))
+        }
     }
 }
 
@@ -156,7 +156,6 @@ fn eval(alloc: Global, names: &Scope, e: &Expr) -> Result<Value, Unknown>
 
 /// The values of expressions in order.
 #[cycle(eval)]
-#[tactic(auto, using(crate::proofs::InOrder::more_values))]
 fn eval_all(alloc: Global, names: &Scope, es: &[&Expr]) -> Result<Items<Value>, Unknown>
     ensures { Finds (map value_of) result (known_after [] (constants es.now) names.now) }
 {

@@ -107,7 +107,6 @@ fn fill(alloc: Global, given: Given, field: &FieldType) -> Result<ValueOfField, 
 }
 
 /// The fields of a type with the values that are given for them.
-#[tactic(auto, using(crate::proofs::Filling::more_fields))]
 fn filled(alloc: Global, given: Given, fields: &[FieldType]) -> Result<Items<ValueOfField>, Unknown>
     requires { given.firsts.now ≡ placed (given_names given.fields.now) 0 [] }
     ensures { Finds (map field_of) result (filled_after given.entry.span [] fields.now (given_names given.entry.fields.now) (map value_of given.entry.values.now)) }
@@ -184,12 +183,12 @@ fn built(alloc: Global, given: Given, own: &Name, supers: &Names, ty: &Ty) -> Re
             built_exception(alloc, given, own, supers, name, fields.get().as_slice())
         }
         Form::Named(_, _, inner) => built(alloc, given, own, supers, inner.get()),
-        Form::Integer(_) => Err(Unknown::Stuck(Mistake::WrongKind, given.span)),
-        Form::Boolean => Err(Unknown::Stuck(Mistake::WrongKind, given.span)),
-        Form::Bits(_, _) => Err(Unknown::Stuck(Mistake::WrongKind, given.span)),
-        Form::Enumeration(_, _) => Err(Unknown::Stuck(Mistake::WrongKind, given.span)),
-        Form::Tuple(_) => Err(Unknown::Stuck(Mistake::WrongKind, given.span)),
-        Form::Array(_, _) => Err(Unknown::Stuck(Mistake::WrongKind, given.span)),
+        Form::Integer(_)
+        | Form::Boolean
+        | Form::Bits(_, _)
+        | Form::Enumeration(_, _)
+        | Form::Tuple(_)
+        | Form::Array(_, _) => Err(Unknown::Stuck(Mistake::WrongKind, given.span)),
     }
 }
 
@@ -210,14 +209,13 @@ fn construct(alloc: Global, given: Given, ty: &Ty) -> Result<Value, Unknown>
 {
     match ty.form() {
         Form::Named(name, supers, inner) => built(alloc, given, name, supers, inner.get()),
-        Form::Record(_, _) => built_plain(alloc, given, ty),
-        Form::Exception(_, _) => built_plain(alloc, given, ty),
-        Form::Integer(_) => Err(Unknown::Stuck(Mistake::WrongKind, given.span)),
-        Form::Boolean => Err(Unknown::Stuck(Mistake::WrongKind, given.span)),
-        Form::Bits(_, _) => Err(Unknown::Stuck(Mistake::WrongKind, given.span)),
-        Form::Enumeration(_, _) => Err(Unknown::Stuck(Mistake::WrongKind, given.span)),
-        Form::Tuple(_) => Err(Unknown::Stuck(Mistake::WrongKind, given.span)),
-        Form::Array(_, _) => Err(Unknown::Stuck(Mistake::WrongKind, given.span)),
+        Form::Record(_, _) | Form::Exception(_, _) => built_plain(alloc, given, ty),
+        Form::Integer(_)
+        | Form::Boolean
+        | Form::Bits(_, _)
+        | Form::Enumeration(_, _)
+        | Form::Tuple(_)
+        | Form::Array(_, _) => Err(Unknown::Stuck(Mistake::WrongKind, given.span)),
     }
 }
 

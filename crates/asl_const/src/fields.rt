@@ -62,14 +62,15 @@ pub(crate) fn field_of(alloc: Global, span: Span, name: &[u8], x: Value) -> Resu
 {
     let x = Held::new(x);
     match x.get() {
-        Value::Record(_, fields) => field_among(span, name, fields.get().as_slice()),
-        Value::Exception(_, _, _, fields) => field_among(span, name, fields.get().as_slice()),
+        Value::Record(_, fields) | Value::Exception(_, _, _, fields) => {
+            field_among(span, name, fields.get().as_slice())
+        }
         Value::Bits(_, view) => bits_of_field(alloc, span, name, bitfields_in(view), x.get()),
-        Value::Int(_) => Err(Unknown::Stuck(Mistake::WrongKind, span)),
-        Value::Bool(_) => Err(Unknown::Stuck(Mistake::WrongKind, span)),
-        Value::Label(_, _) => Err(Unknown::Stuck(Mistake::WrongKind, span)),
-        Value::Tuple(_) => Err(Unknown::Stuck(Mistake::WrongKind, span)),
-        Value::Array(_, _) => Err(Unknown::Stuck(Mistake::WrongKind, span)),
+        Value::Int(_)
+        | Value::Bool(_)
+        | Value::Label(_, _)
+        | Value::Tuple(_)
+        | Value::Array(_, _) => Err(Unknown::Stuck(Mistake::WrongKind, span)),
     }
 }
 
@@ -127,12 +128,12 @@ pub(crate) fn bits_of_fields(
     let x = Held::new(x);
     match x.get() {
         Value::Bits(_, view) => bits_of_named(alloc, span, names, bitfields_in(view), x.get()),
-        Value::Int(_) => Err(Unknown::Stuck(Mistake::WrongKind, span)),
-        Value::Bool(_) => Err(Unknown::Stuck(Mistake::WrongKind, span)),
-        Value::Label(_, _) => Err(Unknown::Stuck(Mistake::WrongKind, span)),
-        Value::Record(_, _) => Err(Unknown::Stuck(Mistake::WrongKind, span)),
-        Value::Exception(_, _, _, _) => Err(Unknown::Stuck(Mistake::WrongKind, span)),
-        Value::Tuple(_) => Err(Unknown::Stuck(Mistake::WrongKind, span)),
-        Value::Array(_, _) => Err(Unknown::Stuck(Mistake::WrongKind, span)),
+        Value::Int(_)
+        | Value::Bool(_)
+        | Value::Label(_, _)
+        | Value::Record(_, _)
+        | Value::Exception(_, _, _, _)
+        | Value::Tuple(_)
+        | Value::Array(_, _) => Err(Unknown::Stuck(Mistake::WrongKind, span)),
     }
 }

@@ -18,7 +18,11 @@ pub(crate) fn of_list(alloc: Global, es: &[Expr]) -> Result<Items<&Expr>, AllocE
     ensures values { IfOk result (λ all. constants all ≡ map (constant WIDTH_LIMIT) es.now) }
     ensures weights { IfOk result (λ all. weights all ≡ map weight es.now) }
 {
-    with_list(Items::new(alloc), es)
+    let mut all = Items::new(alloc);
+    for e in es {
+        all.push(e)?;
+    }
+    Ok(all)
 }
 
 /// Those of fields that are given.
@@ -26,7 +30,12 @@ pub(crate) fn of_fields(alloc: Global, fields: &[FieldValue]) -> Result<Items<&E
     ensures values { IfOk result (λ es. constants es ≡ exprs_in itself (map known_given fields.now)) }
     ensures weights { IfOk result (λ es. weights es ≡ exprs_in itself (map weighed_given fields.now)) }
 {
-    with_fields(Items::new(alloc), fields)
+    let mut all = Items::new(alloc);
+    for field in fields {
+        let FieldValue::Given(_, e) = field;
+        all.push(e)?;
+    }
+    Ok(all)
 }
 
 /// Those of slices.
@@ -34,7 +43,11 @@ pub(crate) fn of_slices(alloc: Global, slices: &[Slice]) -> Result<Items<&Expr>,
     ensures values { IfOk result (λ es. constants es ≡ exprs_in itself (map known_slice slices.now)) }
     ensures weights { IfOk result (λ es. weights es ≡ exprs_in itself (map weighed_slice slices.now)) }
 {
-    with_slices(Items::new(alloc), slices)
+    let mut all = Items::new(alloc);
+    for slice in slices {
+        all = with_slice(all, slice)?;
+    }
+    Ok(all)
 }
 
 /// Those of a pattern.
@@ -77,45 +90,6 @@ fn with_two<'e>(
     with_one(with_one(into, a)?, b)
 }
 
-/// The expressions of a list.
-fn with_list<'e>(into: Items<&'e Expr>, es: &'e [Expr]) -> Result<Items<&'e Expr>, AllocError>
-    ensures values { IfOk result (λ all. constants all ≡ constants into.entry ++ map (constant WIDTH_LIMIT) es.now) }
-    ensures weights { IfOk result (λ all. weights all ≡ weights into.entry ++ map weight es.now) }
-{
-    let mut all = into;
-    for e in es {
-        all = with_one(all, e)?;
-    }
-    Ok(all)
-}
-
-/// The expression of a field.
-fn with_field<'e>(
-    into: Items<&'e Expr>,
-    field: &'e FieldValue,
-) -> Result<Items<&'e Expr>, AllocError>
-    ensures values { IfOk result (λ all. constants all ≡ constants into.entry ++ (known_given field.now).exprs) }
-    ensures weights { IfOk result (λ all. weights all ≡ weights into.entry ++ (weighed_given field.now).exprs) }
-{
-    let FieldValue::Given(_, e) = field;
-    with_one(into, e)
-}
-
-/// The expressions of fields.
-fn with_fields<'e>(
-    into: Items<&'e Expr>,
-    fields: &'e [FieldValue],
-) -> Result<Items<&'e Expr>, AllocError>
-    ensures values { IfOk result (λ all. constants all ≡ constants into.entry ++ exprs_in itself (map known_given fields.now)) }
-    ensures weights { IfOk result (λ all. weights all ≡ weights into.entry ++ exprs_in itself (map weighed_given fields.now)) }
-{
-    let mut all = into;
-    for field in fields {
-        all = with_field(all, field)?;
-    }
-    Ok(all)
-}
-
 /// The expressions of a slice.
 fn with_slice<'e>(into: Items<&'e Expr>, slice: &'e Slice) -> Result<Items<&'e Expr>, AllocError>
     ensures values { IfOk result (λ all. constants all ≡ constants into.entry ++ (known_slice slice.now).exprs) }
@@ -123,25 +97,10 @@ fn with_slice<'e>(into: Items<&'e Expr>, slice: &'e Slice) -> Result<Items<&'e E
 {
     match slice {
         Slice::BitAt(i) => with_one(into, i),
-        Slice::HighLow(high, low) => with_two(into, high, low),
-        Slice::LowWidth(low, width) => with_two(into, low, width),
-        Slice::FactorWidth(factor, width) => with_two(into, factor, width),
+        Slice::HighLow(a, b) | Slice::LowWidth(a, b) | Slice::FactorWidth(a, b) => {
+            with_two(into, a, b)
+        }
     }
-}
-
-/// The expressions of slices.
-fn with_slices<'e>(
-    into: Items<&'e Expr>,
-    slices: &'e [Slice],
-) -> Result<Items<&'e Expr>, AllocError>
-    ensures values { IfOk result (λ all. constants all ≡ constants into.entry ++ exprs_in itself (map known_slice slices.now)) }
-    ensures weights { IfOk result (λ all. weights all ≡ weights into.entry ++ exprs_in itself (map weighed_slice slices.now)) }
-{
-    let mut all = into;
-    for slice in slices {
-        all = with_slice(all, slice)?;
-    }
-    Ok(all)
 }
 
 /// The expressions of a pattern.
@@ -154,14 +113,14 @@ fn with_pattern<'e>(
     ensures weights { IfOk result (λ all. weights all ≡ weights into.entry ++ (weighed_pattern pattern.now).exprs) }
 {
     match pattern {
-        Pattern::AnyPattern(_) => Ok(into),
-        Pattern::SetPattern(_, _, patterns) => with_patterns(into, patterns.as_slice()),
-        Pattern::MaskPattern(_, _) => Ok(into),
-        Pattern::AtMost(_, e) => with_one(into, e),
-        Pattern::AtLeast(_, e) => with_one(into, e),
-        Pattern::TuplePattern(_, patterns) => with_patterns(into, patterns.as_slice()),
-        Pattern::ValuePattern(_, e) => with_one(into, e),
+        Pattern::AnyPattern(_) | Pattern::MaskPattern(_, _) => Ok(into),
+        Pattern::AtMost(_, e) | Pattern::AtLeast(_, e) | Pattern::ValuePattern(_, e) => {
+            with_one(into, e)
+        }
         Pattern::RangePattern(_, low, high) => with_two(into, low, high),
+        Pattern::SetPattern(_, _, patterns) | Pattern::TuplePattern(_, patterns) => {
+            with_patterns(into, patterns.as_slice())
+        }
     }
 }
 
@@ -246,10 +205,8 @@ fn with_type<'e>(into: Items<&'e Expr>, ty: &'e TypeExpr) -> Result<Items<&'e Ex
     ensures weights { IfOk result (λ all. weights all ≡ weights into.entry ++ (weighed_type ty.now).exprs) }
 {
     match ty {
+        TypeExpr::BooleanType(_) | TypeExpr::BitType(_) | TypeExpr::NamedType(_, _) => Ok(into),
         TypeExpr::IntegerType(_, parts) => with_parts(into, parts.as_slice()),
-        TypeExpr::BooleanType(_) => Ok(into),
-        TypeExpr::BitType(_) => Ok(into),
-        TypeExpr::NamedType(_, _) => Ok(into),
         TypeExpr::BitsType(_, width, fields) => {
             with_bitfields(with_one(into, width.get())?, fields.as_slice())
         }

@@ -29,7 +29,6 @@ fn slice_shape(slice: &Slice) -> SliceShape
 }
 
 /// Slices in order.
-#[tactic(auto, using(crate::proofs::ShapesInOrder::more_slices))]
 pub(crate) fn slice_shapes(alloc: Global, slices: &[Slice]) -> Result<Items<SliceShape>, AllocError>
     ensures { IfOk result (λ ss. all_slices ss ≡ shapes_in itself (map known_slice slices.now)) }
 {
@@ -69,7 +68,6 @@ pub(crate) fn pattern_shape(alloc: Global, pattern: &Pattern) -> Result<PatternS
 
 /// Patterns in order.
 #[cycle(patterns)]
-#[tactic(auto, using(crate::proofs::ShapesInOrder::more_patterns))]
 fn pattern_shapes(alloc: Global, patterns: &[Pattern]) -> Result<Items<PatternShape>, AllocError>
     ensures { IfOk result (λ ss. map pattern_of ss ≡ shapes_in itself (map known_pattern patterns.now)) }
 {
@@ -91,7 +89,6 @@ fn part_shape(part: &ConstraintPart) -> PartShape
 }
 
 /// The parts of a constraint in order.
-#[tactic(auto, using(crate::proofs::ShapesInOrder::more_parts))]
 fn part_shapes(alloc: Global, parts: &[ConstraintPart]) -> Result<Items<PartShape>, AllocError>
     ensures { IfOk result (λ ss. all_parts ss ≡ shapes_in itself (map known_part parts.now)) }
 {
@@ -121,7 +118,6 @@ fn bitfield_shape(alloc: Global, field: &Bitfield) -> Result<BitfieldShape, Allo
 }
 
 /// Bitfields in order.
-#[tactic(auto, using(crate::proofs::ShapesInOrder::more_bitfields))]
 fn bitfield_shapes(alloc: Global, fields: &[Bitfield]) -> Result<Items<BitfieldShape>, AllocError>
     ensures { IfOk result (λ ss. all_bitfields ss ≡ shapes_in itself (map known_bitfield fields.now)) }
 {
@@ -177,7 +173,6 @@ fn tuple_shape(parts: Option<Items<TypeShape>>) -> Option<TypeShape>
 
 /// Written types in order, `None` where a name in one is no type's.
 #[cycle(types)]
-#[tactic(auto, using(crate::proofs::ShapesInOrder::more_types))]
 fn type_shapes(
     alloc: Global,
     names: &Scope,
