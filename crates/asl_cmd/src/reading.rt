@@ -144,6 +144,8 @@ pub fn read_line<F: Files>(alloc: Global, line: &Line, files: &mut F) -> Result<
     let sources = read_all(alloc, names, files)?;
     match line {
         Line::Exec { list, .. } => read_list(alloc, sources, list.as_str(), files),
-        _ => Ok(without_list(alloc, sources)),
+        Line::Usage | Line::Check { .. } | Line::Run { .. } | Line::Generate { .. } => {
+            Ok(without_list(alloc, sources))
+        }
     }
 }
