@@ -4,9 +4,10 @@ use Rattle.asl_syn.specs.declared.token.Span.{Span}
 use Rattle.asl_syn.specs.declared.code.DynCode.TheVariants.{D12, D13}
 use Rattle.asl_rules.specs.Cuts as cut
 use Rattle.asl_rules.specs.Cuts.{cuts}
-use Rattle.asl_rules.specs.Plans.{Meter, Outcome, Halt, Faulted, enter, run}
+use Rattle.asl_rules.specs.Plans.{Meter, Outcome, Done, Halt, Faulted, enter, run}
 use Rattle.asl_rules.specs.Trees.{Tree, Act, tree_at, act_at}
 use Rattle.asl_rules.specs.TypedMeaning.{BareCore, tree_node, act_node}
+use Rattle.asl_rules.specs.Values as rules
 use Rattle.asl_tree.specs.declared.act.TreeFunc.{TreeFunc}
 use Rattle.asl_value.specs.declared.value.Value.{Value}
 use Rattle.asl_value.specs.View.{value_of}
@@ -65,6 +66,15 @@ expr_entered fs (suc d) e r c c1 h h1 deep has m =
     (λ u w. cut_later h.steps (cuts (meaning_of fs d) (cutting_of fs d) (tree_node (program_of fs) e c) (record h { steps = h.steps - 1 }) u) has
     (subst (λ n. cuts (meaning_of fs n) (cutting_of fs n) (tree_node (program_of fs) e c) (record h { steps = h.steps - 1 }) u) one w)) m
 
+-- what an expression gives once it is entered
+pub expr_done : (fs : List TreeFunc) (d : ℕ) (e : Tree) (x : rules.Value) (c c1 : BareCore) (h h1 : Meter) → 0 < d → 0 < h.steps →
+    run (meaning_of fs (d - 1)) (tree_node (program_of fs) e c) (record h { steps = h.steps - 1 }) ≡ Done x c1 h1 → (meaning_of fs d).expr e c h ≡ Done x c1 h1
+expr_done fs zero e x c c1 h h1 deep has m = absurd (omega (arith, deep))
+expr_done fs (suc d) e x c c1 h h1 deep has m =
+    let one : d ≡ suc d - 1 = omega arith in
+    stepped (tree_at e) false c h (run (meaning_of fs d) (tree_node (program_of fs) e c)) has ∙
+    ap (λ n. run (meaning_of fs n) (tree_node (program_of fs) e c) (record h { steps = h.steps - 1 })) one ∙ m
+
 -- ---- statements
 
 pub stmt_stepless : (fs : List TreeFunc) (d : ℕ) (t : Act) (c : BareCore) (h : Meter) → h.steps ≡ 0 → (meaning_of fs d).stmt t c h ≡ Halt (Faulted D13 (act_at t)) c h
@@ -85,3 +95,12 @@ stmt_entered fs (suc d) t r c c1 h h1 deep has m =
     (ap (λ n. run (meaning_of fs n) (act_node (program_of fs) t c) (record h { steps = h.steps - 1 })) one ∙ sym (stepped (act_at t) false c h (run (meaning_of fs d) (act_node (program_of fs) t c)) has))
     (λ u w. cut_later h.steps (cuts (meaning_of fs d) (cutting_of fs d) (act_node (program_of fs) t c) (record h { steps = h.steps - 1 }) u) has
     (subst (λ n. cuts (meaning_of fs n) (cutting_of fs n) (act_node (program_of fs) t c) (record h { steps = h.steps - 1 }) u) one w)) m
+
+-- how a statement ends once it is entered
+pub stmt_done : (fs : List TreeFunc) (d : ℕ) (t : Act) (x : rules.Exit) (c c1 : BareCore) (h h1 : Meter) → 0 < d → 0 < h.steps →
+    run (meaning_of fs (d - 1)) (act_node (program_of fs) t c) (record h { steps = h.steps - 1 }) ≡ Done x c1 h1 → (meaning_of fs d).stmt t c h ≡ Done x c1 h1
+stmt_done fs zero t x c c1 h h1 deep has m = absurd (omega (arith, deep))
+stmt_done fs (suc d) t x c c1 h h1 deep has m =
+    let one : d ≡ suc d - 1 = omega arith in
+    stepped (act_at t) false c h (run (meaning_of fs d) (act_node (program_of fs) t c)) has ∙
+    ap (λ n. run (meaning_of fs n) (act_node (program_of fs) t c) (record h { steps = h.steps - 1 })) one ∙ m

@@ -1,5 +1,5 @@
 -- The turns of loops, one by one.
-use Rattle.std.proofs.Common.{◌≡◌, ℕ, zero, suc, ◌-◌, ◌<◌, ◌≤◌, List, refl, ap, arith}
+use Rattle.std.proofs.Common.{◌≡◌, ℕ, zero, suc, ◌-◌, ◌<◌, ◌≤◌, Bool, true, false, List, refl, ap, arith}
 use Rattle.std.specs.Prelude.{ℤ}
 use Rattle.asl_syn.specs.declared.token.Span.{Span}
 use Rattle.asl_syn.specs.declared.code.DynCode.TheVariants.{D10}
@@ -7,10 +7,11 @@ use Rattle.asl_syn.specs.declared.tree.Direction.{Direction}
 use Rattle.asl_rules.specs.Plans.{Faulted, Stop, Ret, choose, follow}
 use Rattle.asl_rules.specs.StatementForms.{go_on, asked, done_normal, scope, scope_with, is_past, next_index, index_turn, while_turn, repeat_turn}
 use Rattle.asl_rules.specs.Trees.{Tree, Act}
-use Rattle.asl_rules.specs.TypedMeaning.{BareCore, in_bare, indexed}
-use Rattle.asl_rules.specs.Values.{Normal, int}
+use Rattle.asl_rules.specs.TypedMeaning.{BareCore, Runs, in_bare, indexed}
+use Rattle.asl_rules.specs.Values.{Exit, Normal, int}
+use Rattle.asl_run.specs.Looping.{turn_until}
 
-pub while_more : (span : Span) (e : Tree) (ss : List Act) (n : ℕ) (c : BareCore) → 0 < n →
+while_more : (span : Span) (e : Tree) (ss : List Act) (n : ℕ) (c : BareCore) → 0 < n →
     while_turn in_bare span e ss n c ≡ follow (scope in_bare ss c) (λ x c1. go_on x c1 (λ c2. asked span e c2 (while_turn in_bare span e ss (n - 1)) done_normal))
 while_more span e ss zero c h = absurd (omega (arith, h))
 while_more span e ss (suc n) c h = ap (λ k. follow (scope in_bare ss c) (λ x c1. go_on x c1 (λ c2. asked span e c2 (while_turn in_bare span e ss k) done_normal))) one
@@ -18,11 +19,11 @@ while_more span e ss (suc n) c h = ap (λ k. follow (scope in_bare ss c) (λ x c
     one : n ≡ suc n - 1
     one = omega arith
 
-pub while_none : (span : Span) (e : Tree) (ss : List Act) (n : ℕ) (c : BareCore) → n ≡ 0 → while_turn in_bare span e ss n c ≡ Stop (Faulted D10 span) c
+while_none : (span : Span) (e : Tree) (ss : List Act) (n : ℕ) (c : BareCore) → n ≤ 0 → while_turn in_bare span e ss n c ≡ Stop (Faulted D10 span) c
 while_none span e ss zero c h = refl
 while_none span e ss (suc n) c h = absurd (omega (arith, h))
 
-pub repeat_more : (span : Span) (e : Tree) (ss : List Act) (n : ℕ) (c : BareCore) → 0 < n →
+repeat_more : (span : Span) (e : Tree) (ss : List Act) (n : ℕ) (c : BareCore) → 0 < n →
     repeat_turn in_bare span e ss n c ≡ follow (scope in_bare ss c) (λ x c1. go_on x c1 (λ c2. asked span e c2 done_normal (repeat_turn in_bare span e ss (n - 1))))
 repeat_more span e ss zero c h = absurd (omega (arith, h))
 repeat_more span e ss (suc n) c h = ap (λ k. follow (scope in_bare ss c) (λ x c1. go_on x c1 (λ c2. asked span e c2 done_normal (repeat_turn in_bare span e ss k)))) one
@@ -30,9 +31,25 @@ repeat_more span e ss (suc n) c h = ap (λ k. follow (scope in_bare ss c) (λ x 
     one : n ≡ suc n - 1
     one = omega arith
 
-pub repeat_none : (span : Span) (e : Tree) (ss : List Act) (n : ℕ) (c : BareCore) → n ≤ 0 → repeat_turn in_bare span e ss n c ≡ Stop (Faulted D10 span) c
+repeat_none : (span : Span) (e : Tree) (ss : List Act) (n : ℕ) (c : BareCore) → n ≤ 0 → repeat_turn in_bare span e ss n c ≡ Stop (Faulted D10 span) c
 repeat_none span e ss zero c h = refl
 repeat_none span e ss (suc n) c h = absurd (omega (arith, h))
+
+-- what comes after a turn, where the loop ends at this condition and it is that
+abbrev pub turn_after : Bool → Bool → Span → Tree → List Act → ℕ → BareCore → Runs Exit
+turn_after true true span e ss n = done_normal
+turn_after true false span e ss n = turn_until true span e ss n
+turn_after false true span e ss n = turn_until false span e ss n
+turn_after false false span e ss n = done_normal
+
+pub until_more : (b : Bool) (span : Span) (e : Tree) (ss : List Act) (n : ℕ) (c : BareCore) → 0 < n →
+    turn_until b span e ss n c ≡ follow (scope in_bare ss c) (λ x c1. go_on x c1 (λ c2. asked span e c2 (turn_after b true span e ss (n - 1)) (turn_after b false span e ss (n - 1))))
+until_more true span e ss n c h = repeat_more span e ss n c h
+until_more false span e ss n c h = while_more span e ss n c h
+
+pub until_none : (b : Bool) (span : Span) (e : Tree) (ss : List Act) (n : ℕ) (c : BareCore) → n ≤ 0 → turn_until b span e ss n c ≡ Stop (Faulted D10 span) c
+until_none true span e ss n c h = repeat_none span e ss n c h
+until_none false span e ss n c h = while_none span e ss n c h
 
 pub index_more : (span : Span) (d : Direction) (last : ℤ) (ss : List Act) (n : ℕ) (i : ℤ) (c : BareCore) → 0 < n →
     index_turn {E = Tree} in_bare indexed span d last ss n i c ≡ follow (scope_with in_bare (indexed (int i)) ss c) (λ x c1. go_on x c1 (λ c2.

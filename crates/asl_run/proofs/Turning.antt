@@ -1,12 +1,14 @@
 -- Loops, turn by turn: what is left after a turn, and where a turn stops the whole.
-use Rattle.std.proofs.Common.{◌≡◌, ℕ, ◌-◌, ◌<◌, Bool, true, false, inl, inr, List, Option, Err, sym, ap, ◌∙◌, subst}
+use Rattle.std.proofs.Common.{◌≡◌, ℕ, ◌-◌, ◌<◌, Bool, true, false, inl, inr, List, Option, None, Some, Err, refl, sym, ap, ◌∙◌, subst}
 use Rattle.std.specs.Prelude.{ℤ}
+use mathlib.Core.Bool.{beq}
 use Rattle.asl_syn.specs.declared.token.Span.{Span}
 use Rattle.asl_syn.specs.declared.tree.Direction.{Direction}
 use Rattle.asl_rules.specs.Cuts.{cuts}
 use Rattle.asl_rules.specs.Operators.{truth}
 use Rattle.asl_rules.specs.Plans.{Meter, Done, Ret, Eval, Good, choose, follow, lift, run, ◌>>=◌}
-use Rattle.asl_rules.specs.StatementForms.{asked, done_normal, go_on, index_turn, is_past, next_index, repeat_turn, scope, scope_with, while_turn}
+use Rattle.asl_rules.specs.Limits.{most_turns}
+use Rattle.asl_rules.specs.StatementForms.{asked, go_on, index_turn, is_past, limited, next_index, scope, scope_with, turns_in, whole_number}
 use Rattle.asl_rules.specs.Trees.{Tree, Act}
 use Rattle.asl_rules.specs.TypedMeaning.{BareCore, Runs, in_bare, indexed}
 use Rattle.asl_rules.specs.Values.{Value, Exit, Normal, Returned, int}
@@ -21,11 +23,12 @@ use Rattle.asl_value.specs.View as view
 use Rattle.asl_value.specs.View.{value_of}
 use Rattle.asl_run.specs.declared.stop.Stop.{Stop as Stopped}
 use Rattle.asl_run.specs.declared.stop.Stop.TheVariants as stop
+use Rattle.asl_run.specs.Looping.{limit_asked, turn_until}
 use Rattle.asl_run.specs.Meets.{Is, Left, Meets}
 use Rattle.asl_run.specs.View.{exit_of, stop_of, meaning_of, cutting_of}
 use Rattle.asl_run.proofs.Lefts.{goes_follow}
-use Rattle.asl_run.proofs.Rounds.{index_more, repeat_more, while_more}
-use Rattle.asl_run.proofs.Turns.{goes_failed, goes_on, left_left, lift_meets, meets_left, one_evaluated}
+use Rattle.asl_run.proofs.Rounds.{index_more, turn_after, until_more}
+use Rattle.asl_run.proofs.Turns.{Goes, goes_eval, goes_failed, goes_lift, goes_on, goes_ret, left_left, lift_meets, meets_left, one_evaluated}
 
 -- ---- a list, and what comes behind it
 
@@ -47,12 +50,21 @@ eval_failed fs d e c k h (stop.Thrown x) c1 h1 m = ap (λ r. r >>= λ x c1 h1. r
 eval_failed fs d e c k h (stop.Fault code span) c1 h1 m = ap (λ r. r >>= λ x c1 h1. run (meaning_of fs d) (k x c1) h1) m
 eval_failed fs d e c k h (stop.Stuck mistake span) c1 h1 m = ap (λ r. r >>= λ x c1 h1. run (meaning_of fs d) (k x c1) h1) m
 
+-- its value is there
+pub eval_next : (fs : List TreeFunc) (d : ℕ) (e : Tree) (c : BareCore) (k : Value → BareCore → Runs Exit) (h : Meter) (v : Value) (c1 : BareCore) (h1 : Meter) → (meaning_of fs d).expr e c h ≡ Done v c1 h1 → Left fs d (k v c1) h1 (Eval e c k) h
+eval_next fs d e c k h v c1 h1 done = goes_on fs d (Eval e c (λ y c2. Ret y c2)) (Eval e c k) k (one_evaluated fs d e c k) h v c1 h1 (ap (λ r. r >>= λ y c2 h3. Done y c2 h3) done)
+
+-- the values of two are
+pub both_next : (fs : List TreeFunc) (d : ℕ) (a b : Tree) (c : BareCore) (k : Value → Value → BareCore → Runs Exit) (h : Meter) (v : Value) (c1 : BareCore) (h1 : Meter) (w : Value) (c2 : BareCore) (h2 : Meter) →
+    (meaning_of fs d).expr a c h ≡ Done v c1 h1 → (meaning_of fs d).expr b c1 h1 ≡ Done w c2 h2 → Left fs d (k v w c2) h2 (Eval a c (λ x c3. Eval b c3 (k x))) h
+both_next fs d a b c k h v c1 h1 w c2 h2 first second =
+    left_left fs d (k v w c2) (Eval b c1 (k v)) (Eval a c (λ x c3. Eval b c3 (k x))) h1 h2 h (eval_next fs d b c1 (k v) h1 w c2 h2 second) (eval_next fs d a c (λ x c3. Eval b c3 (k x)) h v c1 h1 first)
+
 pub asked_next : (fs : List TreeFunc) (d : ℕ) (span : Span) (e : Tree) (c : BareCore) (f g : BareCore → Runs Exit) (h : Meter) (v : Value) (c1 : BareCore) (h1 : Meter) (q0 : Runs Exit) (h0 : Meter) → (meaning_of fs d).expr e c h ≡ Done v c1 h1 →
     Left fs d (asked span e c f g) h q0 h0 → Left fs d (lift (truth span v) c1 (λ b. choose b (f c1) (g c1))) h1 q0 h0
 asked_next fs d span e c f g h v c1 h1 q0 h0 done l =
     let go : Value → BareCore → Runs Exit = λ x c2. lift (truth span x) c2 (λ b. choose b (f c2) (g c2)) in
-    left_left fs d (go v c1) (Eval e c go) q0 h h1 h0
-    (goes_on fs d (Eval e c (λ y c2. Ret y c2)) (Eval e c go) go (one_evaluated fs d e c go) h v c1 h1 (ap (λ r. r >>= λ y c2 h3. Done y c2 h3) done)) l
+    left_left fs d (go v c1) (Eval e c go) q0 h h1 h0 (eval_next fs d e c go h v c1 h1 done) l
 
 pub chosen_next : (fs : List TreeFunc) (d : ℕ) (span : Span) (v : Value) (b : Bool) (c : BareCore) (f g : BareCore → Runs Exit) (h : Meter) (q0 : Runs Exit) (h0 : Meter) → truth span v ≡ Good b →
     Left fs d (lift (truth span v) c (λ b. choose b (f c) (g c))) h q0 h0 → Left fs d (choose b (f c) (g c)) h q0 h0
@@ -70,61 +82,76 @@ truth_failed fs d span v t c f g h q0 h0 e l =
     meets_left exit_of fs d (lift (truth span v) c (λ b. choose b (f c) (g c))) q0 h0 h l (Err (stop_of t)) c h
     (lift_meets (λ (b : Bool). b) exit_of fs d (stop_of t) (truth span v) (is_of t span v e) c h (λ b. choose b (f c) (g c)))
 
--- ---- `repeat`
+-- ---- `while` and `repeat`
 
-abbrev repeat_behind : Span → Tree → List Act → ℕ → Exit → BareCore → Runs Exit
-repeat_behind span e ss n x c1 = go_on x c1 (λ c2. asked span e c2 done_normal (repeat_turn in_bare span e ss (n - 1)))
+abbrev until_behind : Bool → Span → Tree → List Act → ℕ → Exit → BareCore → Runs Exit
+until_behind b span e ss n x c1 = go_on x c1 (λ c2. asked span e c2 (turn_after b true span e ss (n - 1)) (turn_after b false span e ss (n - 1)))
 
-at_repeat : (fs : List TreeFunc) (d : ℕ) (span : Span) (e : Tree) (ss : List Act) (n : ℕ) (c : BareCore) (h : Meter) (q0 : Runs Exit) (h0 : Meter) → 0 < n →
-    Left fs d (repeat_turn in_bare span e ss n c) h q0 h0 → Left fs d (follow (scope in_bare ss c) (repeat_behind span e ss n)) h q0 h0
-at_repeat fs d span e ss n c h q0 h0 has l = subst (λ (q : Runs Exit). Left fs d q h q0 h0) (repeat_more span e ss n c has) l
+at_until : (fs : List TreeFunc) (d : ℕ) (b : Bool) (span : Span) (e : Tree) (ss : List Act) (n : ℕ) (c : BareCore) (h : Meter) (q0 : Runs Exit) (h0 : Meter) → 0 < n →
+    Left fs d (turn_until b span e ss n c) h q0 h0 → Left fs d (follow (scope in_bare ss c) (until_behind b span e ss n)) h q0 h0
+at_until fs d b span e ss n c h q0 h0 has l = subst (λ (q : Runs Exit). Left fs d q h q0 h0) (until_more b span e ss n c has) l
 
-pub repeat_list_failed : (fs : List TreeFunc) (d : ℕ) (span : Span) (e : Tree) (ss : List Act) (n : ℕ) (c : BareCore) (h : Meter) (r : Stopped) (c1 : BareCore) (h1 : Meter) (q0 : Runs Exit) (h0 : Meter) → 0 < n →
-    Meets exit_of (Err r) c1 h1 (run (meaning_of fs d) (scope in_bare ss c) h) (cuts (meaning_of fs d) (cutting_of fs d) (scope in_bare ss c) h) → Left fs d (repeat_turn in_bare span e ss n c) h q0 h0 →
+pub until_list_failed : (fs : List TreeFunc) (d : ℕ) (b : Bool) (span : Span) (e : Tree) (ss : List Act) (n : ℕ) (c : BareCore) (h : Meter) (r : Stopped) (c1 : BareCore) (h1 : Meter) (q0 : Runs Exit) (h0 : Meter) → 0 < n →
+    Meets exit_of (Err r) c1 h1 (run (meaning_of fs d) (scope in_bare ss c) h) (cuts (meaning_of fs d) (cutting_of fs d) (scope in_bare ss c) h) → Left fs d (turn_until b span e ss n c) h q0 h0 →
     Meets exit_of (Err r) c1 h1 (run (meaning_of fs d) q0 h0) (cuts (meaning_of fs d) (cutting_of fs d) q0 h0)
-repeat_list_failed fs d span e ss n c h r c1 h1 q0 h0 has m l = list_failed fs d (scope in_bare ss c) (repeat_behind span e ss n) h r c1 h1 q0 h0 m (at_repeat fs d span e ss n c h q0 h0 has l)
+until_list_failed fs d b span e ss n c h r c1 h1 q0 h0 has m l = list_failed fs d (scope in_bare ss c) (until_behind b span e ss n) h r c1 h1 q0 h0 m (at_until fs d b span e ss n c h q0 h0 has l)
 
-repeat_asks : (fs : List TreeFunc) (d : ℕ) (span : Span) (e : Tree) (ss : List Act) (n : ℕ) (c : BareCore) (h : Meter) (c1 : BareCore) (h1 : Meter) (v : Value) (c2 : BareCore) (h2 : Meter) (q0 : Runs Exit) (h0 : Meter) → 0 < n →
-    run (meaning_of fs d) (scope in_bare ss c) h ≡ Done Normal c1 h1 → (meaning_of fs d).expr e c1 h1 ≡ Done v c2 h2 → Left fs d (repeat_turn in_bare span e ss n c) h q0 h0 →
-    Left fs d (lift (truth span v) c2 (λ b. choose b (done_normal c2) (repeat_turn in_bare span e ss (n - 1) c2))) h2 q0 h0
-repeat_asks fs d span e ss n c h c1 h1 v c2 h2 q0 h0 has done asks l =
-    asked_next fs d span e c1 done_normal (repeat_turn in_bare span e ss (n - 1)) h1 v c2 h2 q0 h0 asks
-    (list_next fs d (scope in_bare ss c) (repeat_behind span e ss n) h Normal c1 h1 q0 h0 done (at_repeat fs d span e ss n c h q0 h0 has l))
+until_asks : (fs : List TreeFunc) (d : ℕ) (b : Bool) (span : Span) (e : Tree) (ss : List Act) (n : ℕ) (c : BareCore) (h : Meter) (c1 : BareCore) (h1 : Meter) (v : Value) (c2 : BareCore) (h2 : Meter) (q0 : Runs Exit) (h0 : Meter) → 0 < n →
+    run (meaning_of fs d) (scope in_bare ss c) h ≡ Done Normal c1 h1 → (meaning_of fs d).expr e c1 h1 ≡ Done v c2 h2 → Left fs d (turn_until b span e ss n c) h q0 h0 →
+    Left fs d (lift (truth span v) c2 (λ t. choose t (turn_after b true span e ss (n - 1) c2) (turn_after b false span e ss (n - 1) c2))) h2 q0 h0
+until_asks fs d b span e ss n c h c1 h1 v c2 h2 q0 h0 has done asks l =
+    asked_next fs d span e c1 (turn_after b true span e ss (n - 1)) (turn_after b false span e ss (n - 1)) h1 v c2 h2 q0 h0 asks
+    (list_next fs d (scope in_bare ss c) (until_behind b span e ss n) h Normal c1 h1 q0 h0 done (at_until fs d b span e ss n c h q0 h0 has l))
 
-pub repeat_truth_failed : (fs : List TreeFunc) (d : ℕ) (span : Span) (e : Tree) (ss : List Act) (n : ℕ) (c : BareCore) (h : Meter) (c1 : BareCore) (h1 : Meter) (v : Value) (c2 : BareCore) (h2 : Meter) (t : Failure) (q0 : Runs Exit) (h0 : Meter) → 0 < n →
-    run (meaning_of fs d) (scope in_bare ss c) h ≡ Done Normal c1 h1 → (meaning_of fs d).expr e c1 h1 ≡ Done v c2 h2 → answers.Is (λ (b : Bool). b) (Err t) (truth span v) → Left fs d (repeat_turn in_bare span e ss n c) h q0 h0 →
+pub until_truth_failed : (fs : List TreeFunc) (d : ℕ) (b : Bool) (span : Span) (e : Tree) (ss : List Act) (n : ℕ) (c : BareCore) (h : Meter) (c1 : BareCore) (h1 : Meter) (v : Value) (c2 : BareCore) (h2 : Meter) (t : Failure) (q0 : Runs Exit) (h0 : Meter) → 0 < n →
+    run (meaning_of fs d) (scope in_bare ss c) h ≡ Done Normal c1 h1 → (meaning_of fs d).expr e c1 h1 ≡ Done v c2 h2 → answers.Is (λ (b : Bool). b) (Err t) (truth span v) → Left fs d (turn_until b span e ss n c) h q0 h0 →
     Meets exit_of (Err (stop_of t)) c2 h2 (run (meaning_of fs d) q0 h0) (cuts (meaning_of fs d) (cutting_of fs d) q0 h0)
-repeat_truth_failed fs d span e ss n c h c1 h1 v c2 h2 t q0 h0 has done asks fails l =
-    truth_failed fs d span v t c2 done_normal (repeat_turn in_bare span e ss (n - 1)) h2 q0 h0 fails (repeat_asks fs d span e ss n c h c1 h1 v c2 h2 q0 h0 has done asks l)
+until_truth_failed fs d b span e ss n c h c1 h1 v c2 h2 t q0 h0 has done asks fails l =
+    truth_failed fs d span v t c2 (turn_after b true span e ss (n - 1)) (turn_after b false span e ss (n - 1)) h2 q0 h0 fails (until_asks fs d b span e ss n c h c1 h1 v c2 h2 q0 h0 has done asks l)
 
-pub repeat_turned : (fs : List TreeFunc) (d : ℕ) (span : Span) (e : Tree) (ss : List Act) (n : ℕ) (c : BareCore) (h : Meter) (c1 : BareCore) (h1 : Meter) (v : Value) (c2 : BareCore) (h2 : Meter) (q0 : Runs Exit) (h0 : Meter) → 0 < n →
-    run (meaning_of fs d) (scope in_bare ss c) h ≡ Done Normal c1 h1 → (meaning_of fs d).expr e c1 h1 ≡ Done v c2 h2 → truth span v ≡ Good false → Left fs d (repeat_turn in_bare span e ss n c) h q0 h0 →
-    Left fs d (repeat_turn in_bare span e ss (n - 1) c2) h2 q0 h0
-repeat_turned fs d span e ss n c h c1 h1 v c2 h2 q0 h0 has done asks fails l =
-    chosen_next fs d span v false c2 done_normal (repeat_turn in_bare span e ss (n - 1)) h2 q0 h0 fails (repeat_asks fs d span e ss n c h c1 h1 v c2 h2 q0 h0 has done asks l)
+-- what comes after a turn, by what its condition is
+after_is : (b t : Bool) (span : Span) (e : Tree) (ss : List Act) (n : ℕ) (c : BareCore) → choose t (turn_after b true span e ss n c) (turn_after b false span e ss n c) ≡ turn_after b t span e ss n c
+after_is b true span e ss n c = refl
+after_is b false span e ss n c = refl
 
--- ---- `while`
+until_answered : (fs : List TreeFunc) (d : ℕ) (b : Bool) (span : Span) (e : Tree) (ss : List Act) (n : ℕ) (c : BareCore) (h : Meter) (c1 : BareCore) (h1 : Meter) (v : Value) (t : Bool) (c2 : BareCore) (h2 : Meter) (q0 : Runs Exit) (h0 : Meter) → 0 < n →
+    run (meaning_of fs d) (scope in_bare ss c) h ≡ Done Normal c1 h1 → (meaning_of fs d).expr e c1 h1 ≡ Done v c2 h2 → truth span v ≡ Good t → Left fs d (turn_until b span e ss n c) h q0 h0 → Left fs d (turn_after b t span e ss (n - 1) c2) h2 q0 h0
+until_answered fs d b span e ss n c h c1 h1 v t c2 h2 q0 h0 has done asks is l =
+    subst (λ (q : Runs Exit). Left fs d q h2 q0 h0) (after_is b t span e ss (n - 1) c2)
+    (chosen_next fs d span v t c2 (turn_after b true span e ss (n - 1)) (turn_after b false span e ss (n - 1)) h2 q0 h0 is (until_asks fs d b span e ss n c h c1 h1 v c2 h2 q0 h0 has done asks l))
 
-abbrev while_behind : Span → Tree → List Act → ℕ → Exit → BareCore → Runs Exit
-while_behind span e ss n x c1 = go_on x c1 (λ c2. asked span e c2 (while_turn in_bare span e ss (n - 1)) done_normal)
+-- the condition ends the loop
+ends : (b t : Bool) (span : Span) (e : Tree) (ss : List Act) (n : ℕ) (c : BareCore) → beq t b ≡ true → turn_after b t span e ss n c ≡ Ret Normal c
+ends true true span e ss n c is = refl
+ends true false span e ss n c is = cc
+ends false true span e ss n c is = cc
+ends false false span e ss n c is = refl
 
-abbrev pub while_left : Span → Tree → List Act → ℕ → BareCore → Runs Exit
-while_left span e ss n c = asked span e c (while_turn in_bare span e ss n) done_normal
+pub until_ended : (fs : List TreeFunc) (d : ℕ) (b : Bool) (span : Span) (e : Tree) (ss : List Act) (n : ℕ) (c : BareCore) (h : Meter) (c1 : BareCore) (h1 : Meter) (v : Value) (t : Bool) (c2 : BareCore) (h2 : Meter) (q0 : Runs Exit) (h0 : Meter) → 0 < n →
+    run (meaning_of fs d) (scope in_bare ss c) h ≡ Done Normal c1 h1 → (meaning_of fs d).expr e c1 h1 ≡ Done v c2 h2 → truth span v ≡ Good t → beq t b ≡ true → Left fs d (turn_until b span e ss n c) h q0 h0 → run (meaning_of fs d) q0 h0 ≡ Done Normal c2 h2
+until_ended fs d b span e ss n c h c1 h1 v t c2 h2 q0 h0 has done asks answers is l =
+    sym (until_answered fs d b span e ss n c h c1 h1 v t c2 h2 q0 h0 has done asks answers l).same ∙ ap (λ (q : Runs Exit). run (meaning_of fs d) q h2) (ends b t span e ss (n - 1) c2 is)
 
-at_while : (fs : List TreeFunc) (d : ℕ) (span : Span) (e : Tree) (ss : List Act) (n : ℕ) (c : BareCore) (h : Meter) (v : Value) (c1 : BareCore) (h1 : Meter) (q0 : Runs Exit) (h0 : Meter) → 0 < n → (meaning_of fs d).expr e c h ≡ Done v c1 h1 → truth span v ≡ Good true →
-    Left fs d (while_left span e ss n c) h q0 h0 → Left fs d (follow (scope in_bare ss c1) (while_behind span e ss n)) h1 q0 h0
-at_while fs d span e ss n c h v c1 h1 q0 h0 has asks holds l =
-    subst (λ (q : Runs Exit). Left fs d q h1 q0 h0) (while_more span e ss n c1 has)
-    (chosen_next fs d span v true c1 (while_turn in_bare span e ss n) done_normal h1 q0 h0 holds (asked_next fs d span e c (while_turn in_bare span e ss n) done_normal h v c1 h1 q0 h0 asks l))
+-- it doesn't
+goes_round : (b t : Bool) (span : Span) (e : Tree) (ss : List Act) (n : ℕ) (c : BareCore) → beq t b ≡ false → turn_after b t span e ss n c ≡ turn_until b span e ss n c
+goes_round true true span e ss n c isnt = cc
+goes_round true false span e ss n c isnt = refl
+goes_round false true span e ss n c isnt = refl
+goes_round false false span e ss n c isnt = cc
 
-pub while_list_failed : (fs : List TreeFunc) (d : ℕ) (span : Span) (e : Tree) (ss : List Act) (n : ℕ) (c : BareCore) (h : Meter) (v : Value) (c1 : BareCore) (h1 : Meter) (r : Stopped) (c2 : BareCore) (h2 : Meter) (q0 : Runs Exit) (h0 : Meter) → 0 < n → (meaning_of fs d).expr e c h ≡ Done v c1 h1 → truth span v ≡ Good true →
-    Meets exit_of (Err r) c2 h2 (run (meaning_of fs d) (scope in_bare ss c1) h1) (cuts (meaning_of fs d) (cutting_of fs d) (scope in_bare ss c1) h1) → Left fs d (while_left span e ss n c) h q0 h0 →
-    Meets exit_of (Err r) c2 h2 (run (meaning_of fs d) q0 h0) (cuts (meaning_of fs d) (cutting_of fs d) q0 h0)
-while_list_failed fs d span e ss n c h v c1 h1 r c2 h2 q0 h0 has asks holds m l = list_failed fs d (scope in_bare ss c1) (while_behind span e ss n) h1 r c2 h2 q0 h0 m (at_while fs d span e ss n c h v c1 h1 q0 h0 has asks holds l)
+pub until_turned : (fs : List TreeFunc) (d : ℕ) (b : Bool) (span : Span) (e : Tree) (ss : List Act) (n : ℕ) (c : BareCore) (h : Meter) (c1 : BareCore) (h1 : Meter) (v : Value) (t : Bool) (c2 : BareCore) (h2 : Meter) (q0 : Runs Exit) (h0 : Meter) → 0 < n →
+    run (meaning_of fs d) (scope in_bare ss c) h ≡ Done Normal c1 h1 → (meaning_of fs d).expr e c1 h1 ≡ Done v c2 h2 → truth span v ≡ Good t → beq t b ≡ false → Left fs d (turn_until b span e ss n c) h q0 h0 → Left fs d (turn_until b span e ss (n - 1) c2) h2 q0 h0
+until_turned fs d b span e ss n c h c1 h1 v t c2 h2 q0 h0 has done asks answers isnt l =
+    subst (λ (q : Runs Exit). Left fs d q h2 q0 h0) (goes_round b t span e ss (n - 1) c2 isnt) (until_answered fs d b span e ss n c h c1 h1 v t c2 h2 q0 h0 has done asks answers l)
 
-pub while_turned : (fs : List TreeFunc) (d : ℕ) (span : Span) (e : Tree) (ss : List Act) (n : ℕ) (c : BareCore) (h : Meter) (v : Value) (c1 : BareCore) (h1 : Meter) (c2 : BareCore) (h2 : Meter) (q0 : Runs Exit) (h0 : Meter) → 0 < n → (meaning_of fs d).expr e c h ≡ Done v c1 h1 → truth span v ≡ Good true →
-    run (meaning_of fs d) (scope in_bare ss c1) h1 ≡ Done Normal c2 h2 → Left fs d (while_left span e ss n c) h q0 h0 → Left fs d (while_left span e ss (n - 1) c2) h2 q0 h0
-while_turned fs d span e ss n c h v c1 h1 c2 h2 q0 h0 has asks holds done l = list_next fs d (scope in_bare ss c1) (while_behind span e ss n) h1 Normal c2 h2 q0 h0 done (at_while fs d span e ss n c h v c1 h1 q0 h0 has asks holds l)
+-- ---- a limit
+
+-- a limit, and what comes with the count of turns that it lets through
+pub limit_evaluated : {B : Type 0} (fs : List TreeFunc) (d : ℕ) (span : Span) (l : Option Tree) (c : BareCore) (k : ℕ → BareCore → Runs B) → Goes fs d (limit_asked span l c) (limited span l c k) k
+limit_evaluated fs d span None c k = goes_ret fs d most_turns c k
+limit_evaluated fs d span (Some e) c k =
+    goes_eval fs d e c (λ x c1. lift (whole_number span x) c1 (λ z. Ret (turns_in z) c1)) (λ x c1. lift (whole_number span x) c1 (λ z. k (turns_in z) c1)) k
+    (λ x c1. goes_lift fs d (whole_number span x) c1 (λ z. Ret (turns_in z) c1) (λ z. k (turns_in z) c1) k (λ z. goes_ret fs d (turns_in z) c1 k))
 
 -- ---- `for`
 

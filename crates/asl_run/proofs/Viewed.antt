@@ -1,6 +1,9 @@
 -- What the nodes of expressions stand for that have several parts.
 use Rattle.std.proofs.Common.{◌≡◌, ℕ, List, sym, ap, ◌∙◌}
+use Rattle.asl_syn.specs.declared.tree.BinaryOperator.{BinaryOperator}
+use Rattle.asl_syn.specs.declared.tree.UnaryOperator.{UnaryOperator}
 use Rattle.asl_rules.specs.Trees as rules
+use Rattle.asl_rules.specs.declared.slot.Slot.{Slot}
 use Rattle.asl_shape.specs.View.{all_given, type_of, pattern_of}
 use Rattle.asl_shape.specs.declared.shapes.PatternShape.{PatternShape}
 use Rattle.asl_shape.specs.declared.shapes.TypeShape.{TypeShape}
@@ -16,6 +19,25 @@ use Rattle.asl_value.specs.Forms.{shell_of}
 use Rattle.asl_value.specs.View.{all_slices}
 use Rattle.asl_value.specs.declared.parts.Shell.{Shell}
 use Rattle.asl_value.specs.declared.slices.SliceShape.{SliceShape}
+
+pub read_is : (e : Tree) (n : Note) (s : Slot) → e ≡ node.Read n s → tree_of e ≡ rules.Read (note_view n) s
+read_is e n s is = ap tree_of (is ∙ sym (node.rolls-Read n s)) ∙ fold-roll-Tree rules.Tree tree_rule (layers.Read n s)
+
+pub unary_is : (e : Tree) (n : Note) (o : UnaryOperator) (a a1 : Tree) → e ≡ node.Unary n o a → a1 ≡ a → tree_of e ≡ rules.Unary (note_view n) o (tree_of a1)
+unary_is e n o a a1 is b =
+    ap tree_of (is ∙ sym (node.rolls-Unary n o a)) ∙ fold-roll-Tree rules.Tree tree_rule (layers.Unary n o a)
+    ∙ ap (λ u. rules.Unary (note_view n) o (tree_of u)) (sym b)
+
+pub binary_is : (e : Tree) (n : Note) (o : BinaryOperator) (a a1 b b1 : Tree) → e ≡ node.Binary n o a b → a1 ≡ a → b1 ≡ b → tree_of e ≡ rules.Binary (note_view n) o (tree_of a1) (tree_of b1)
+binary_is e n o a a1 b b1 is l r =
+    ap tree_of (is ∙ sym (node.rolls-Binary n o a b)) ∙ fold-roll-Tree rules.Tree tree_rule (layers.Binary n o a b)
+    ∙ ap (λ u. rules.Binary (note_view n) o (tree_of u) (tree_of b)) (sym l) ∙ ap (λ u. rules.Binary (note_view n) o (tree_of a1) (tree_of u)) (sym r)
+
+pub element_is : (e : Tree) (n m : Note) (s : Slot) (a a1 i i1 : Tree) → e ≡ node.Element n a i → a1 ≡ a → a1 ≡ node.Read m s → i1 ≡ i → tree_of e ≡ rules.Element (note_view n) (rules.Read (note_view m) s) (tree_of i1)
+element_is e n m s a a1 i i1 is l read r =
+    ap tree_of (is ∙ sym (node.rolls-Element n a i)) ∙ fold-roll-Tree rules.Tree tree_rule (layers.Element n a i)
+    ∙ ap (λ u. rules.Element (note_view n) (tree_of u) (tree_of i)) (sym l) ∙ ap (λ u. rules.Element (note_view n) u (tree_of i)) (read_is a1 m s read)
+    ∙ ap (λ u. rules.Element (note_view n) (rules.Read (note_view m) s) (tree_of u)) (sym r)
 
 pub construct_is : (e : Tree) (n : Note) (s : Shell) (gs gs1 : List FieldGiven) (es es1 : List Tree) → e ≡ node.Construct n s gs es → gs1 ≡ gs → es1 ≡ es → tree_of e ≡ rules.Construct (note_view n) (shell_of s) (all_given gs1) (all_trees es1)
 construct_is e n s gs gs1 es es1 is g h =

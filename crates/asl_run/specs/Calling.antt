@@ -3,7 +3,7 @@ use Rattle.std.specs.Prelude.{◌≡◌, ℕ, List, [], ◌∷◌, ◌++◌, Opt
 use Rattle.asl_syn.specs.declared.token.Span.{Span}
 use Rattle.asl_rules.specs.Forms as forms
 use Rattle.asl_rules.specs.Forms.{Keeps}
-use Rattle.asl_rules.specs.Plans.{Stuck, EndReached, Ret, Pure, Good, Bad}
+use Rattle.asl_rules.specs.Plans.{Stuck, EndReached, Pure, Good, Bad}
 use Rattle.asl_rules.specs.Pures.{◌>>=◌}
 use Rattle.asl_rules.specs.StatementForms.{in_order}
 use Rattle.asl_rules.specs.Trees as trees
@@ -13,29 +13,13 @@ use Rattle.asl_rules.specs.TypedMeaning.{BareCore, Runs, list_of, acts_of}
 use Rattle.asl_rules.specs.Values.{Value, Exit, Normal, Returned}
 use Rattle.asl_tree.specs.View.{all_trees, callee_of}
 use Rattle.asl_tree.specs.declared.act.TreeFunc.{TreeFunc}
-use Rattle.asl_tree.specs.declared.tree.Tree.{Tree}
 use Rattle.asl_value.specs.View.{value_of}
 use Rattle.asl_run.specs.declared.calls.Call.{Call}
-use Rattle.asl_run.specs.declared.calls.Given.{Given}
 use Rattle.asl_run.specs.declared.run.Caller.{Caller}
 use Rattle.asl_run.specs.declared.run.Run.{Run}
 use Rattle.asl_run.specs.View.{program_of}
 
--- ---- operands
-
--- the values of parameters and of arguments
-pub record Operands : Type 0 where
-  pub params : List Value
-  pub args : List Value
-
-abbrev pub given_of : Given → Operands
-given_of g = record { params = map value_of g.params; args = map value_of g.args }
-
-abbrev pub args_evaluated : List Value → List Tree → BareCore → Runs Operands
-args_evaluated ps es c = forms.eval_all (list_of (all_trees es)) [] c (λ xs c1. Ret (record { params = ps; args = xs }) c1)
-
-abbrev pub both_evaluated : List Tree → List Tree → BareCore → Runs Operands
-both_evaluated ps es c = forms.eval_all (list_of (all_trees ps)) [] c (λ ys c1. args_evaluated ys es c1)
+-- ---- the first places of a frame
 
 -- parameters, and behind them the formals
 abbrev pub frame_given : Span → List Ty → List Value → List Value → Pure (List Value)
@@ -50,6 +34,10 @@ frame_called span is Ts ps xs = rules.params_of span is ps xs >>= λ qs. frame_g
 -- what the callee does with the values of the parameters and of the arguments
 abbrev pub body_of : List TreeFunc → Call → List Value → List Value → BareCore → Runs (Option Value)
 body_of fs a ps xs c = rules.call_of (program_of fs) a.span (callee_of a.callee) a.widths.now ps xs c
+
+-- the parameters in braces, the arguments, and what the callee does with their values
+abbrev pub call_given : List TreeFunc → Call → BareCore → Runs (Option Value)
+call_given fs a c = forms.eval_all (list_of (all_trees a.params.now)) [] c (λ ys c1. forms.eval_all (list_of (all_trees a.args.now)) [] c1 (body_of fs a ys))
 
 -- what a body gives that ended so
 abbrev pub ended : Span → Keeps → Exit → Pure (Option Value)

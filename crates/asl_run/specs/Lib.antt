@@ -7,3 +7,5 @@ pub mod Choosing
 pub mod Storing
 pub mod Pieces
 pub mod Below
+pub mod AtOnce
+pub mod Looping

@@ -2,14 +2,13 @@
 ghost use Rattle.std.specs.Prelude.{◌≡◌, ◌++◌, pos, map, option_map, reverse, slice_get, Some, IfOk, OnOk};
 ghost use Rattle.asl_rules.specs.Forms as forms;
 ghost use Rattle.asl_rules.specs.Operators.{less};
-ghost use Rattle.asl_rules.specs.Plans.{follow};
 ghost use Rattle.asl_rules.specs.TypedMeaning as rules;
 ghost use Rattle.asl_rules.specs.TypedMeaning.{list_of};
 ghost use Rattle.asl_tree.specs.Acts.{all_funcs, func_of};
 ghost use Rattle.asl_tree.specs.View.{all_trees};
 ghost use Rattle.asl_value.specs.View.{value_of};
 ghost use Rattle.asl_run.specs.Below.{Evals, Execs};
-ghost use Rattle.asl_run.specs.Calling.{given_of, both_evaluated, args_evaluated, body_of, ended, frame_called, frame_given, in_own_frame, Enters, Leaves};
+ghost use Rattle.asl_run.specs.Calling.{body_of, call_given, ended, frame_called, frame_given, in_own_frame, Enters, Leaves};
 ghost use Rattle.asl_run.specs.Meets.{Counts, Is, Keeps, Runs};
 ghost use Rattle.asl_run.specs.View.{exit_of};
 
@@ -190,45 +189,6 @@ pub struct Given {
     pub args: Items<Value>,
 }
 
-/// The values of the parameters in braces and of the arguments.
-fn operands<K: Sink, E: Fn(Setting, &mut Run, &mut K, &Tree) -> Result<Value, Stop>, X>(
-    here: &Nodes<E, X>,
-    run: &mut Run,
-    sink: &mut K,
-    params: &[Tree],
-    args: &[Tree],
-) -> Result<Given, Stop>
-    requires evals { Evals K.written K.faults K.full here.now.setting.funcs.now here.now.setting.depth (E.pre here.now.eval here.now.setting) (E.post here.now.eval here.now.setting) }
-    ensures meets { Runs given_of result here.now.setting.funcs.now here.now.setting.depth (both_evaluated params.now args.now)
-        run.old (K.written sink.old) run.new (K.written sink.new) }
-    ensures counts { Counts result (K.faults sink.old) (K.faults sink.new) }
-    ensures same_full { K.full sink.new ≡ K.full sink.old }
-    ensures keeps { Keeps result run.old run.new }
-{
-    let params = eval_all(here, run, sink, params)?;
-    behind_params(here, run, sink, params, args)
-}
-
-/// The values of the arguments, behind those of the parameters.
-fn behind_params<K: Sink, E: Fn(Setting, &mut Run, &mut K, &Tree) -> Result<Value, Stop>, X>(
-    here: &Nodes<E, X>,
-    run: &mut Run,
-    sink: &mut K,
-    params: Items<Value>,
-    args: &[Tree],
-) -> Result<Given, Stop>
-    requires evals { Evals K.written K.faults K.full here.now.setting.funcs.now here.now.setting.depth (E.pre here.now.eval here.now.setting) (E.post here.now.eval here.now.setting) }
-    ensures meets { Runs given_of result here.now.setting.funcs.now here.now.setting.depth
-        (args_evaluated (map value_of params) args.now)
-        run.old (K.written sink.old) run.new (K.written sink.new) }
-    ensures counts { Counts result (K.faults sink.old) (K.faults sink.new) }
-    ensures same_full { K.full sink.new ≡ K.full sink.old }
-    ensures keeps { Keeps result run.old run.new }
-{
-    let args = eval_all(here, run, sink, args)?;
-    Ok(Given { params, args })
-}
-
 /// The value of a call.
 pub fn eval_call<
     K: Sink,
@@ -245,27 +205,7 @@ pub fn eval_call<
     ensures same_full { K.full sink.new ≡ K.full sink.old }
     ensures keeps { Keeps result run.old run.new }
 {
-    let given = operands(here, run, sink, call.params, call.args)?;
-    call_function(here, run, sink, call, given)
-}
-
-fn call_function<K: Sink, E, X: Fn(Setting, &mut Run, &mut K, &Items<Act>) -> Result<Exit, Stop>>(
-    here: &Nodes<E, X>,
-    run: &mut Run,
-    sink: &mut K,
-    call: Call,
-    given: Given,
-) -> Result<Value, Stop>
-    requires execs { Execs K.written K.faults K.full here.now.setting.funcs.now here.now.setting.depth (X.pre here.now.exec here.now.setting) (X.post here.now.exec here.now.setting) }
-    ensures meets { Runs value_of result here.now.setting.funcs.now here.now.setting.depth
-        (λ c. follow (body_of here.now.setting.funcs.now call.entry (map value_of given.params) (map value_of given.args) c)
-        (forms.function_gives call.entry.span))
-        run.old (K.written sink.old) run.new (K.written sink.new) }
-    ensures counts { Counts result (K.faults sink.old) (K.faults sink.new) }
-    ensures same_full { K.full sink.new ≡ K.full sink.old }
-    ensures keeps { Keeps result run.old run.new }
-{
-    match call_with(here, run, sink, call, given)? {
+    match call_subprogram(here, run, sink, call)? {
         Some(x) => Ok(x),
         None => Err(Stop::Stuck(Mistake::WrongKind, call.span)),
     }
@@ -287,30 +227,29 @@ pub fn exec_invoke<
     ensures same_full { K.full sink.new ≡ K.full sink.old }
     ensures keeps { Keeps result run.old run.new }
 {
-    let given = operands(here, run, sink, call.params, call.args)?;
-    call_procedure(here, run, sink, call, given)
+    match call_subprogram(here, run, sink, call)? {
+        None => Ok(Exit::Normal),
+        Some(_x) => Err(Stop::Stuck(Mistake::WrongKind, call.span)),
+    }
 }
 
-fn call_procedure<K: Sink, E, X: Fn(Setting, &mut Run, &mut K, &Items<Act>) -> Result<Exit, Stop>>(
-    here: &Nodes<E, X>,
-    run: &mut Run,
-    sink: &mut K,
-    call: Call,
-    given: Given,
-) -> Result<Exit, Stop>
+/// The parameters in braces, the arguments, and what the callee gives for their values: a function a value, a procedure none.
+fn call_subprogram<
+    K: Sink,
+    E: Fn(Setting, &mut Run, &mut K, &Tree) -> Result<Value, Stop>,
+    X: Fn(Setting, &mut Run, &mut K, &Items<Act>) -> Result<Exit, Stop>,
+>(here: &Nodes<E, X>, run: &mut Run, sink: &mut K, call: Call) -> Result<Option<Value>, Stop>
+    requires evals { Evals K.written K.faults K.full here.now.setting.funcs.now here.now.setting.depth (E.pre here.now.eval here.now.setting) (E.post here.now.eval here.now.setting) }
     requires execs { Execs K.written K.faults K.full here.now.setting.funcs.now here.now.setting.depth (X.pre here.now.exec here.now.setting) (X.post here.now.exec here.now.setting) }
-    ensures meets { Runs exit_of result here.now.setting.funcs.now here.now.setting.depth
-        (λ c. follow (body_of here.now.setting.funcs.now call.entry (map value_of given.params) (map value_of given.args) c)
-        (forms.procedure_gives call.entry.span))
+    ensures meets { Runs (option_map value_of) result here.now.setting.funcs.now here.now.setting.depth (call_given here.now.setting.funcs.now call.entry)
         run.old (K.written sink.old) run.new (K.written sink.new) }
     ensures counts { Counts result (K.faults sink.old) (K.faults sink.new) }
     ensures same_full { K.full sink.new ≡ K.full sink.old }
     ensures keeps { Keeps result run.old run.new }
 {
-    match call_with(here, run, sink, call, given)? {
-        None => Ok(Exit::Normal),
-        Some(_x) => Err(Stop::Stuck(Mistake::WrongKind, call.span)),
-    }
+    let params = eval_all(here, run, sink, call.params)?;
+    let args = eval_all(here, run, sink, call.args)?;
+    call_with(here, run, sink, call, Given { params, args })
 }
 
 /// What the callee gives.

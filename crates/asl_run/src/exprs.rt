@@ -36,6 +36,7 @@ pub struct Operation<'r> {
 }
 
 /// What an expression does once it is entered.
+#[inline(never)]
 pub fn eval_node<
     K: Sink,
     E: Fn(Setting, &mut Run, &mut K, &Tree) -> Result<Value, Stop>,
@@ -235,7 +236,26 @@ fn eval_behind<K: Sink, E: Fn(Setting, &mut Run, &mut K, &Tree) -> Result<Value,
                 Ok(Value::Bool(true))
             }
         }
-        _ => eval_right(here, run, sink, operation, x),
+        BinaryOperator::Equivalent
+        | BinaryOperator::Equal
+        | BinaryOperator::NotEqual
+        | BinaryOperator::Less
+        | BinaryOperator::LessEqual
+        | BinaryOperator::Greater
+        | BinaryOperator::GreaterEqual
+        | BinaryOperator::Add
+        | BinaryOperator::Subtract
+        | BinaryOperator::BitAnd
+        | BinaryOperator::BitOr
+        | BinaryOperator::BitXor
+        | BinaryOperator::Concatenate
+        | BinaryOperator::Multiply
+        | BinaryOperator::DivideExact
+        | BinaryOperator::DivideFloor
+        | BinaryOperator::Modulo
+        | BinaryOperator::ShiftLeft
+        | BinaryOperator::ShiftRight
+        | BinaryOperator::Power => eval_right(here, run, sink, operation, x),
     }
 }
 

@@ -1,4 +1,5 @@
 //! The entry into a node: it takes a step, and is refused where none is left (D13) or where no node more may be open (D12).
+//! What is evaluated or executed at once isn't entered so.
 ghost use Rattle.std.specs.Prelude.{◌≡◌};
 ghost use Rattle.asl_rules.specs.StatementForms as forms;
 ghost use Rattle.asl_rules.specs.TypedMeaning.{acts_of};
@@ -6,6 +7,7 @@ ghost use Rattle.asl_tree.specs.Acts.{all_acts};
 ghost use Rattle.asl_run.specs.Meets.{Counts, Evaluates, Executes, Keeps, Runs};
 ghost use Rattle.asl_run.specs.View.{exit_of};
 
+use crate::at_once::{AtOnce, evaluated, executed};
 use crate::exprs::eval_node;
 use crate::run::Run;
 use crate::setting::{Nodes, Setting};
@@ -20,8 +22,31 @@ use sqlite_items::Items;
 
 /// The value of an expression.
 #[cycle(run)]
-#[tactic(auto, using(crate::proofs::Entries::expr_stepless, crate::proofs::Entries::expr_deep, crate::proofs::Entries::expr_entered))]
 pub fn eval<K: Sink>(here: Setting, run: &mut Run, sink: &mut K, e: &Tree) -> Result<Value, Stop>
+    ensures meets { Evaluates result here.entry.funcs.now here.entry.depth e.now
+        run.old (K.written sink.old) run.new (K.written sink.new) }
+    ensures counts { Counts result (K.faults sink.old) (K.faults sink.new) }
+    ensures same_full { K.full sink.new ≡ K.full sink.old }
+    ensures keeps { Keeps result run.old run.new }
+{
+    let mut left = run.steps;
+    match evaluated(run, &mut left, here.depth, e) {
+        AtOnce::Integer(z) => {
+            run.steps = left;
+            Ok(Value::Int(z))
+        }
+        AtOnce::Truth(b) => {
+            run.steps = left;
+            Ok(Value::Bool(b))
+        }
+        AtOnce::Neither => enter_expr(here, run, sink, e),
+    }
+}
+
+/// The value of an expression whose node is entered.
+#[cycle(run)]
+#[tactic(auto, using(crate::proofs::Entries::expr_stepless, crate::proofs::Entries::expr_deep, crate::proofs::Entries::expr_entered))]
+fn enter_expr<K: Sink>(here: Setting, run: &mut Run, sink: &mut K, e: &Tree) -> Result<Value, Stop>
     ensures meets { Evaluates result here.entry.funcs.now here.entry.depth e.now
         run.old (K.written sink.old) run.new (K.written sink.new) }
     ensures counts { Counts result (K.faults sink.old) (K.faults sink.new) }
@@ -53,8 +78,24 @@ pub fn eval<K: Sink>(here: Setting, run: &mut Run, sink: &mut K, e: &Tree) -> Re
 
 /// Executes a statement.
 #[cycle(run)]
-#[tactic(auto, using(crate::proofs::Entries::stmt_stepless, crate::proofs::Entries::stmt_deep, crate::proofs::Entries::stmt_entered))]
 pub fn exec<K: Sink>(here: Setting, run: &mut Run, sink: &mut K, s: &Act) -> Result<Exit, Stop>
+    ensures meets { Executes result here.entry.funcs.now here.entry.depth s.now
+        run.old (K.written sink.old) run.new (K.written sink.new) }
+    ensures counts { Counts result (K.faults sink.old) (K.faults sink.new) }
+    ensures same_full { K.full sink.new ≡ K.full sink.old }
+    ensures keeps { Keeps result run.old run.new }
+{
+    if executed(run, here.depth, s) {
+        Ok(Exit::Normal)
+    } else {
+        enter_stmt(here, run, sink, s)
+    }
+}
+
+/// Executes a statement whose node is entered.
+#[cycle(run)]
+#[tactic(auto, using(crate::proofs::Entries::stmt_stepless, crate::proofs::Entries::stmt_deep, crate::proofs::Entries::stmt_entered))]
+fn enter_stmt<K: Sink>(here: Setting, run: &mut Run, sink: &mut K, s: &Act) -> Result<Exit, Stop>
     ensures meets { Executes result here.entry.funcs.now here.entry.depth s.now
         run.old (K.written sink.old) run.new (K.written sink.new) }
     ensures counts { Counts result (K.faults sink.old) (K.faults sink.new) }

@@ -4,6 +4,7 @@
 #![tactic(auto)]
 
 mod assignments;
+mod at_once;
 mod below;
 mod calls;
 mod catches;

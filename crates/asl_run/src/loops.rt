@@ -2,7 +2,6 @@
 ghost use Rattle.std.specs.Prelude.{◌≡◌, true, false, IfNone, IfSome, OnSome};
 ghost use Rattle.asl_rules.specs.Limits.{most_turns};
 ghost use Rattle.asl_rules.specs.Operators.{less};
-ghost use Rattle.asl_rules.specs.Plans.{lift};
 ghost use Rattle.asl_rules.specs.StatementForms as forms;
 ghost use Rattle.asl_rules.specs.TypedMeaning.{acts_of, in_bare, indexed};
 ghost use Rattle.asl_rules.specs.Values.{int};
@@ -10,6 +9,7 @@ ghost use Rattle.asl_tree.specs.Acts.{all_acts, maybe_tree};
 ghost use Rattle.asl_tree.specs.View.{tree_of};
 ghost use Rattle.asl_value.specs.View.{value_of};
 ghost use Rattle.asl_run.specs.Below.{Evals, Execs};
+ghost use Rattle.asl_run.specs.Looping.{between, limit_asked, turn_until};
 ghost use Rattle.asl_run.specs.Meets.{Counts, Is, Keeps, Runs};
 ghost use Rattle.asl_run.specs.View.{exit_of};
 
@@ -50,11 +50,12 @@ pub struct Turns {
     pub count: u128,
 }
 
-/// Where a loop stands, and how many turns its limit lets through.
+/// Where a loop stands, how many turns its limit lets through, and what its condition is where it ends.
 #[derive(Clone, Copy)]
 pub struct Limited {
     pub span: Span,
     pub count: u128,
+    pub until: bool,
 }
 
 // ---- limits
@@ -84,6 +85,30 @@ fn whole_number(span: Span, x: &Value) -> Result<i128, Stop>
     }
 }
 
+/// How many turns a loop has at most: what its limit lets through, which is evaluated once.
+fn turns_of<K: Sink, E: Fn(Setting, &mut Run, &mut K, &Tree) -> Result<Value, Stop>, X>(
+    here: &Nodes<E, X>,
+    run: &mut Run,
+    sink: &mut K,
+    span: Span,
+    limit: &Option<Tree>,
+) -> Result<u128, Stop>
+    requires evals { Evals K.written K.faults K.full here.now.setting.funcs.now here.now.setting.depth (E.pre here.now.eval here.now.setting) (E.post here.now.eval here.now.setting) }
+    ensures meets { Runs (λ n. n) result here.now.setting.funcs.now here.now.setting.depth (limit_asked span (maybe_tree limit.now))
+        run.old (K.written sink.old) run.new (K.written sink.new) }
+    ensures counts { Counts result (K.faults sink.old) (K.faults sink.new) }
+    ensures same_full { K.full sink.new ≡ K.full sink.old }
+    ensures keeps { Keeps result run.old run.new }
+{
+    match limit {
+        None => Ok(usual_turns()),
+        Some(e) => {
+            let z = Held::new(eval(here, run, sink, e)?);
+            Ok(turns_in(whole_number(span, z.get())?))
+        }
+    }
+}
+
 // ---- `for`
 
 /// The bounds and then the limit, once.
@@ -110,38 +135,15 @@ pub fn exec_for<
 {
     let x = Held::new(eval(here, run, sink, &it.from)?);
     let y = Held::new(eval(here, run, sink, &it.to)?);
-    match &it.limit {
-        None => for_bounds(
-            here,
-            run,
-            sink,
-            Between {
-                span,
-                first: x.get(),
-                direction: it.direction,
-                last: y.get(),
-                count: usual_turns(),
-            },
-            body,
-        ),
-        Some(e) => {
-            let z = Held::new(eval(here, run, sink, e)?);
-            let count = turns_in(whole_number(span, z.get())?);
-            for_bounds(
-                here,
-                run,
-                sink,
-                Between {
-                    span,
-                    first: x.get(),
-                    direction: it.direction,
-                    last: y.get(),
-                    count,
-                },
-                body,
-            )
-        }
-    }
+    let count = turns_of(here, run, sink, span, &it.limit)?;
+    let between = Between {
+        span,
+        first: x.get(),
+        direction: it.direction,
+        last: y.get(),
+        count,
+    };
+    for_bounds(here, run, sink, between, body)
 }
 
 /// The bounds as integers.
@@ -154,9 +156,7 @@ fn for_bounds<K: Sink, E, X: Fn(Setting, &mut Run, &mut K, &Items<Act>) -> Resul
 ) -> Result<Exit, Stop>
     requires execs { Execs K.written K.faults K.full here.now.setting.funcs.now here.now.setting.depth (X.pre here.now.exec here.now.setting) (X.post here.now.exec here.now.setting) }
     ensures meets { Runs exit_of result here.now.setting.funcs.now here.now.setting.depth
-        (λ c. lift (forms.whole_number it.entry.span (value_of it.entry.first.now)) c
-        (λ first. lift (forms.whole_number it.entry.span (value_of it.entry.last.now)) c
-        (λ last. forms.index_turns in_bare indexed it.entry.span it.entry.direction last (acts_of (all_acts body.now)) it.entry.count first c)))
+        (between it.entry.span it.entry.direction (value_of it.entry.first.now) (value_of it.entry.last.now) (acts_of (all_acts body.now)) it.entry.count)
         run.old (K.written sink.old) run.new (K.written sink.new) }
     ensures counts { Counts result (K.faults sink.old) (K.faults sink.new) }
     ensures same_full { K.full sink.new ≡ K.full sink.old }
@@ -308,27 +308,16 @@ pub fn exec_while<
     ensures same_full { K.full sink.new ≡ K.full sink.old }
     ensures keeps { Keeps result run.old run.new }
 {
-    match &it.limit {
-        None => {
-            let limited = Limited {
-                span,
-                count: usual_turns(),
-            };
-            while_turns(here, run, sink, limited, &it.condition, body)
-        }
-        Some(e) => {
-            let z = Held::new(eval(here, run, sink, e)?);
-            let limited = Limited {
-                span,
-                count: turns_in(whole_number(span, z.get())?),
-            };
-            while_turns(here, run, sink, limited, &it.condition, body)
-        }
-    }
+    let count = turns_of(here, run, sink, span, &it.limit)?;
+    let limited = Limited {
+        span,
+        count,
+        until: false,
+    };
+    while_turns(here, run, sink, limited, &it.condition, body)
 }
 
-/// Turns as long as the condition holds, as many as the limit lets through (D10).
-#[tactic(auto, using(crate::proofs::Rounds::while_more, crate::proofs::Rounds::while_none))]
+/// The condition, and turns where it holds.
 fn while_turns<
     K: Sink,
     E: Fn(Setting, &mut Run, &mut K, &Tree) -> Result<Value, Stop>,
@@ -345,26 +334,17 @@ fn while_turns<
     requires execs { Execs K.written K.faults K.full here.now.setting.funcs.now here.now.setting.depth (X.pre here.now.exec here.now.setting) (X.post here.now.exec here.now.setting) }
     ensures meets { Runs exit_of result here.now.setting.funcs.now here.now.setting.depth
         (λ c. forms.asked it.span (tree_of condition.now) c
-        (forms.while_turn in_bare it.span (tree_of condition.now) (acts_of (all_acts body.now)) it.count) forms.done_normal)
+        (turn_until it.until it.span (tree_of condition.now) (acts_of (all_acts body.now)) it.count) forms.done_normal)
         run.old (K.written sink.old) run.new (K.written sink.new) }
     ensures counts { Counts result (K.faults sink.old) (K.faults sink.new) }
     ensures same_full { K.full sink.new ≡ K.full sink.old }
     ensures keeps { Keeps result run.old run.new }
 {
-    let mut left = it.count;
-    loop {
-        let x = Held::new(eval(here, run, sink, condition)?);
-        if !truth(it.span, x.get())? {
-            return Ok(Exit::Normal);
-        }
-        if left == 0 {
-            return Err(Stop::Fault(DynCode::D10, it.span));
-        }
-        left -= 1;
-        match exec_scope(here, run, sink, body)? {
-            Exit::Normal => {}
-            Exit::Returned(y) => return Ok(Exit::Returned(y)),
-        }
+    let x = Held::new(eval(here, run, sink, condition)?);
+    if truth(it.span, x.get())? {
+        exec_turns(here, run, sink, it, condition, body)
+    } else {
+        Ok(Exit::Normal)
     }
 }
 
@@ -391,28 +371,20 @@ pub fn exec_repeat<
     ensures same_full { K.full sink.new ≡ K.full sink.old }
     ensures keeps { Keeps result run.old run.new }
 {
-    match &it.limit {
-        None => {
-            let limited = Limited {
-                span,
-                count: usual_turns(),
-            };
-            repeat_turns(here, run, sink, limited, &it.condition, body)
-        }
-        Some(e) => {
-            let z = Held::new(eval(here, run, sink, e)?);
-            let limited = Limited {
-                span,
-                count: turns_in(whole_number(span, z.get())?),
-            };
-            repeat_turns(here, run, sink, limited, &it.condition, body)
-        }
-    }
+    let count = turns_of(here, run, sink, span, &it.limit)?;
+    let limited = Limited {
+        span,
+        count,
+        until: true,
+    };
+    exec_turns(here, run, sink, limited, &it.condition, body)
 }
 
-/// Turns until the condition holds, as many as the limit lets through (D10).
-#[tactic(auto, using(crate::proofs::Rounds::repeat_more, crate::proofs::Rounds::repeat_none))]
-fn repeat_turns<
+// ---- turns of `while` and `repeat`
+
+/// Turns, each the statements and then the condition, up to one where it is `until`, as many as the limit lets through (D10).
+#[tactic(auto, using(crate::proofs::Rounds::until_more, crate::proofs::Rounds::until_none))]
+fn exec_turns<
     K: Sink,
     E: Fn(Setting, &mut Run, &mut K, &Tree) -> Result<Value, Stop>,
     X: Fn(Setting, &mut Run, &mut K, &Items<Act>) -> Result<Exit, Stop>,
@@ -427,7 +399,7 @@ fn repeat_turns<
     requires evals { Evals K.written K.faults K.full here.now.setting.funcs.now here.now.setting.depth (E.pre here.now.eval here.now.setting) (E.post here.now.eval here.now.setting) }
     requires execs { Execs K.written K.faults K.full here.now.setting.funcs.now here.now.setting.depth (X.pre here.now.exec here.now.setting) (X.post here.now.exec here.now.setting) }
     ensures meets { Runs exit_of result here.now.setting.funcs.now here.now.setting.depth
-        (forms.repeat_turn in_bare it.span (tree_of condition.now) (acts_of (all_acts body.now)) it.count)
+        (turn_until it.until it.span (tree_of condition.now) (acts_of (all_acts body.now)) it.count)
         run.old (K.written sink.old) run.new (K.written sink.new) }
     ensures counts { Counts result (K.faults sink.old) (K.faults sink.new) }
     ensures same_full { K.full sink.new ≡ K.full sink.old }
@@ -440,13 +412,16 @@ fn repeat_turns<
             Exit::Returned(x) => return Ok(Exit::Returned(x)),
         }
         let x = Held::new(eval(here, run, sink, condition)?);
-        if truth(it.span, x.get())? {
+        let holds = truth(it.span, x.get())?;
+        if holds == it.until {
             return Ok(Exit::Normal);
         }
         left -= 1;
     }
     Err(Stop::Fault(DynCode::D10, it.span))
 }
+
+// ---- integers
 
 #[tactic(auto, using(asl_value::proofs::Integers::less_is))]
 fn is_less(a: i128, b: i128) -> bool

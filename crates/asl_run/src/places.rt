@@ -23,7 +23,7 @@ use std::alloc::{AllocError, Global};
 
 /// The value in a place.
 #[tactic(auto, using(crate::proofs::Slots::value_at_place))]
-fn value_at(run: &Run, slot: Slot) -> Option<&Value>
+pub fn value_at(run: &Run, slot: Slot) -> Option<&Value>
     ensures { option_map value_of (option_copied result) ≡ rules.value_at slot (core_of run.now) }
 {
     match slot {

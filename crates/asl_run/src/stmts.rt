@@ -71,6 +71,7 @@ fn simple_span(s: &Simple) -> Span
 }
 
 /// What a statement does once it is entered.
+#[inline(never)]
 pub fn exec_node<
     K: Sink,
     E: Fn(Setting, &mut Run, &mut K, &Tree) -> Result<Value, Stop>,

@@ -1,11 +1,18 @@
-use Rattle.std.proofs.Common.{◌≡◌, ◌<◌, length, get_or, rules, subst}
+use Rattle.std.proofs.Common.{◌≡◌, ◌<◌, ◌∙◌, ap, length, get_or, of_z, rules, subst, to_z}
+use Rattle.std.specs.Int.{w128}
 use Rattle.asl_rules.specs.Plans.{Done}
 use Rattle.asl_rules.specs.StatementForms.{in_order}
 use Rattle.asl_rules.specs.TypedMeaning.{acts_of}
-use Rattle.asl_rules.specs.Values.{Normal}
+use Rattle.asl_rules.specs.Values.{Normal, bool, int}
 use Rattle.asl_tree.specs.Acts.{act_of, all_acts}
+use Rattle.asl_value.specs.declared.value.Value.TheVariants as variants
+use Rattle.asl_value.specs.View.{value_of}
+use Rattle.asl_run.specs.AtOnce.{Did, found}
+use Rattle.asl_run.specs.Meets.{Executes}
 use Rattle.asl_run.specs.View.{core_of, exit_of, meter_of, meaning_of}
+use Rattle.asl_run.proofs.AtOnce.{answered, truth_there}
 use Rattle.asl_run.proofs.Listing.{act_next}
+use Rattle.asl_run.proofs.Turning.{int_there}
 use Rattle.asl_run.proofs.knot.+run.Goals as goal
 
 pub exec_all-loop-s-preserved : goal.exec_all-loop-s-preserved
@@ -22,3 +29,24 @@ exec_all-loop-s-preserved g t c =
       full = search rules;
       round = search rules;
     }
+
+pub eval-returns-in-Integer-clause-meets : goal.eval-returns-in-Integer-clause-meets
+eval-returns-in-Integer-clause-meets g t c =
+    let kept : to_z w128 (of_z w128 c.in-Integer.z) ≡ c.in-Integer.z = search rules in
+    answered c.evaluated.result (int c.in-Integer.z) (value_of (variants.Int (to_z w128 (of_z w128 c.in-Integer.z)))) c.args.here.funcs.now c.args.here.depth c.args.e.now c.args.run.now c.evaluated.new.left (g.K.Sink.written c.args.sink.now)
+    (ap found c.in-Integer.is) (ap (λ z. value_of (variants.Int z)) kept ∙ int_there c.in-Integer.z) c.evaluated.ensures
+
+pub eval-returns-in-Truth-clause-meets : goal.eval-returns-in-Truth-clause-meets
+eval-returns-in-Truth-clause-meets g t c =
+    answered c.evaluated.result (bool c.in-Truth.b) (value_of (variants.Bool c.in-Truth.b)) c.args.here.funcs.now c.args.here.depth c.args.e.now c.args.run.now c.evaluated.new.left (g.K.Sink.written c.args.sink.now)
+    (ap found c.in-Truth.is) (truth_there c.in-Truth.b) c.evaluated.ensures
+
+pub exec-returns-then-executed-clause-meets : goal.exec-returns-then-executed-clause-meets
+exec-returns-then-executed-clause-meets g t c =
+    subst (λ b. Did b c.args.here.funcs.now c.args.here.depth c.args.s.now c.args.run.now c.executed.new.run) c.if-executed.true
+    (c.executed.ensures.meets c.args.here.funcs.now) (g.K.Sink.written c.args.sink.now)
+
+pub exec-returns-else-executed-clause-meets : goal.exec-returns-else-executed-clause-meets
+exec-returns-else-executed-clause-meets g t c =
+    let same = subst (λ b. Did b c.args.here.funcs.now c.args.here.depth c.args.s.now c.args.run.now c.executed.new.run) c.if-executed.false (c.executed.ensures.meets c.args.here.funcs.now) in
+    subst (λ s. Executes c.enter_stmt.result c.args.here.funcs.now c.args.here.depth c.args.s.now s (g.K.Sink.written c.args.sink.now) c.enter_stmt.new.run (g.K.Sink.written c.enter_stmt.new.sink)) same c.enter_stmt.ensures.meets

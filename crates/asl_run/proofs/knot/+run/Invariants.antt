@@ -7,15 +7,22 @@ use Rattle.asl_run.specs.View.{core_of, meter_of}
 use Rattle.asl_run.proofs.knot.+run.Given as goal
 
 -- a node is entered one level deeper
+abbrev pub decreases-enter_expr : goal.decreases-enter_expr
+decreases-enter_expr g l = 3 * l.here.depth
+
+abbrev pub decreases-enter_stmt : goal.decreases-enter_stmt
+decreases-enter_stmt g l = 3 * l.here.depth
+
+-- what isn't done at once is entered
 abbrev pub decreases-eval : goal.decreases-eval
-decreases-eval g l = 2 * l.here.depth
+decreases-eval g l = 3 * l.here.depth + 1
 
 abbrev pub decreases-exec : goal.decreases-exec
-decreases-exec g l = 2 * l.here.depth
+decreases-exec g l = 3 * l.here.depth + 1
 
 -- a list stands above its statements
 abbrev pub decreases-exec_all : goal.decreases-exec_all
-decreases-exec_all g l = 2 * l.here.depth + 1
+decreases-exec_all g l = 3 * l.here.depth + 2
 
 abbrev pub invariant-exec_all-loop-s : goal.invariant-exec_all-loop-s
 invariant-exec_all-loop-s g l = record {

@@ -1,0 +1,15 @@
+use Rattle.std.proofs.Common.{◌≡◌, ◌-◌, ◌<◌, arith, subst, sym}
+use Rattle.asl_rules.specs.TypedMeaning.{act_node}
+use Rattle.asl_run.specs.AtOnce.{Executed}
+use Rattle.asl_run.specs.View.{program_of}
+use Rattle.asl_run.proofs.AtOnce.{entered}
+use Rattle.asl_run.proofs.Stated.{simple_is}
+use Rattle.asl_run.proofs.at_once.executed.Goals as goal
+
+pub returns-in-Simple-clause-meets : goal.returns-in-Simple-clause-meets
+returns-in-Simple-clause-meets c = λ fs.
+    let has : 0 < c.args.run.now.steps = omega (arith, c.if-steps-eq0.false) in
+    let deep : 0 < c.args.depth = omega (arith, c.if-depth-eq0.false) in
+    entered c.simple.result fs c.args.depth c.args.s.now c.args.run.now c.simple.new.run has deep
+    (subst (λ t. Executed c.simple.result fs (c.args.depth - 1) (act_node (program_of fs) t) c.args.run.now (c.args.run.now.steps - 1) c.simple.new.run)
+    (sym (simple_is c.args.s.now c.in-Simple.s c.in-Simple.is)) (c.simple.ensures.meets fs))

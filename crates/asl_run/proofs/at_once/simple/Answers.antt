@@ -1,0 +1,11 @@
+use Rattle.std.proofs.Common.{subst, sym}
+use Rattle.asl_rules.specs.TypedMeaning.{act_node}
+use Rattle.asl_run.specs.AtOnce.{Executed}
+use Rattle.asl_run.specs.View.{program_of}
+use Rattle.asl_run.proofs.Stated.{assign_is}
+use Rattle.asl_run.proofs.at_once.simple.Goals as goal
+
+pub returns-in-Assign-clause-meets : goal.returns-in-Assign-clause-meets
+returns-in-Assign-clause-meets c = λ fs.
+    subst (λ t. Executed c.assign_one.result fs c.args.depth (act_node (program_of fs) t) c.args.run.now c.args.steps c.assign_one.new.run)
+    (sym (assign_is c.args.s.now c.in-Assign.field-0 c.in-Assign.targets c.as_slice.result.now c.in-Assign.e c.in-Assign.is c.as_slice.ensures)) (c.assign_one.ensures.meets fs)
