@@ -1,5 +1,5 @@
 //! The nodes below a node. A node is run by functions that take those which run the nodes below it as parameters, so that
-//! each is proved by itself, and only the three that begin nodes (`knot.rt`) call one another.
+//! each is proved by itself, and only the five of `knot.rt` call one another.
 ghost use Rattle.std.specs.Prelude.{◌≡◌};
 ghost use Rattle.asl_rules.specs.StatementForms as forms;
 ghost use Rattle.asl_rules.specs.TypedMeaning.{acts_of};

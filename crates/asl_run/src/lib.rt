@@ -1,6 +1,6 @@
 //! The interpreter of typed trees. Each form of node has a function of its own, which takes the functions that run the nodes
-//! below it as parameters (`Nodes`): so it is proved by itself, over what those ensure (`specs/Below.antt`). Only the three
-//! functions that begin nodes call one another (`knot.rt`), and how many nodes more may be open falls each time.
+//! below it as parameters (`Nodes`): so it is proved by itself, over what those ensure (`specs/Below.antt`). Only the five
+//! functions of `knot.rt` call one another, and how many nodes more may be open falls with each node that is entered.
 #![tactic(auto)]
 
 mod assignments;
