@@ -1,6 +1,7 @@
 -- Values and the types that they belong to.
 pub mod PresentTypes
 pub mod SameKind
+pub mod KindsByNames
 pub mod Shapes
 pub mod KindOf
 pub mod OfType

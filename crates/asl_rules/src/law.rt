@@ -1,7 +1,7 @@
 //! The laws of the definitions, each as the contract of a function without parameters.
 #![tactic(auto)]
 
-ghost use Rattle.std.specs.Prelude.{ℕ, List, Ok};
+ghost use Rattle.std.specs.Prelude.{◌≡◌, ℕ, List, Ok, Option};
 ghost use Rattle.asl_grammar.specs.Reading.{File, Reads};
 ghost use Rattle.asl_rules.specs.declared.entry.Entry.{Entry};
 ghost use Rattle.asl_rules.specs.Answers.{OneAnswer};
@@ -10,6 +10,8 @@ ghost use Rattle.asl_rules.specs.Soundness.{Soundness, SameMeaning};
 ghost use Rattle.asl_syn.specs.declared.tree.Decl.{Decl};
 ghost use Rattle.asl_rules.specs.Tests.{Tests};
 ghost use Rattle.asl_rules.specs.OneRun.{OneRun};
+ghost use Rattle.asl_rules.specs.Types.{Ty, kind, kind_eq, same_kind};
+ghost use Rattle.asl_rules.specs.WellFormed.{Shaped, WellDeclared};
 ghost use Rattle.asl_rules.specs.BeforeRuns.{BeginsSo};
 
 /// One run: for each program, state and node there is exactly one outcome, with one state, one number of steps left and
@@ -35,4 +37,11 @@ pub fn law2()
 #[tactic(auto)]
 pub fn law3()
     ensures { (limit : ℕ) (e : Entry) (files : List File) (ds : List Decl) (a : Accepted) → Reads files (Ok ds) → (p : ProgramOk limit e ds a) → Soundness p.tests ds a × SameMeaning p.tests ds a }
+{}
+
+/// Kinds by names: in a program, where each name stands for one type, comparing declared names by the names and comparing
+/// kinds by structure is the same.
+#[tactic(auto, using(crate::proofs::values::KindsByNames::kinds_by_names))]
+pub fn kinds_law()
+    ensures { (declared : List ℕ → Option Ty) → WellDeclared declared → (S T : Ty) → Shaped declared S → Shaped declared T → same_kind S T ≡ kind_eq (kind S) (kind T) }
 {}

@@ -58,27 +58,6 @@ module _ (tests : Tests) (right : IsRight tests) (ds : List Decl) (base : List E
       let n = then_ok (need (is_subprogram (standing_of i.text H.scope.names)) T02 i.span) (Ok g.value) b.value g.then in
       call_by o H S span i ps es b.value (routine_named i.text) c refl (need_ok (is_subprogram (standing_of i.text H.scope.names)) T02 i.span tt n.first) (g.first ∙ n.then) b.then a
 
-  layer_formed : Others → (H : Here) (S : Typed) (layer : ExprLayer) (c : Core) → typed_rule tests (opened tests layer) H.scope ≡ Ok S → At tests base subs H c → Formed tests right ds base subs funcs w H S layer c
-  layer_formed o H S (ex.Int span n) c h a = int_formed tests right ds base subs funcs w H S span n c h a
-  layer_formed o H S (ex.Bits span t) c h a = bits_formed tests right ds base subs funcs w H S span t c h a
-  layer_formed o H S (ex.Bool span b) c h a = bool_formed tests right ds base subs funcs w H S span b c h a
-  layer_formed o H S (ex.Name span name) c h a = name_formed tests right ds base subs funcs w H S span name c h a
-  layer_formed o H S (ex.Unary span u e) c h a = operation_formed tests right ds base subs funcs w H S span u e c h a
-  layer_formed o H S (ex.Binary span b e f) c h a = two_formed tests right ds base subs funcs w H S span b e f c h a
-  layer_formed o H S (ex.Conditional span e f g) c h a = conditional_formed tests right ds base subs funcs w H S span e f g c (good H c a) h a
-  layer_formed o H S (ex.Tuple span es) c h a = tuple_formed tests right ds base subs funcs w H S span es c h a
-  layer_formed o H S (ex.Construct span i fs) c h a = construct_formed tests right ds base subs funcs w H S span i fs c (good H c a) h a
-  layer_formed o H S (ex.Call span i ps es) c h a = call_formed o H S span i ps es c h a
-  layer_formed o H S (ex.Field span e i) c h a = field_formed tests right ds base subs funcs w H S span e i c (good H c a e) h a
-  layer_formed o H S (ex.Fields span e is) c h a = bitfields_formed tests right ds base subs funcs w H S span e is c (good H c a e) h a
-  layer_formed o H S (ex.Slices span e ss) c h a = slices_formed tests right ds base subs funcs w H S span e ss c h a
-  layer_formed o H S (ex.Element span e i) c h a = element_formed tests right ds base subs funcs w H S span e i c h a
-  layer_formed o H S (ex.As span e t) c h a = as_formed tests right ds base subs funcs w H S span e t c h a
-  layer_formed o H S (ex.In span e p) c h a = in_formed tests right ds base subs funcs w H S span e p c h a
-
-  expr_formed : Others → (H : Here) (S : Typed) (e : Expr) (c : Core) → typed tests e H.scope ≡ Ok S → At tests base subs H c → Formed tests right ds base subs funcs w H S (out-Expr e) c
-  expr_formed o H S e c h a = layer_formed o H S (out-Expr e) c (sym (ap (λ (f : Found). f.typed H.scope) (unrolled tests e)) ∙ h) a
-
   -- the class of a scope is nothing to a state
   abbrev in_pure : Here → Here
   in_pure H = record { scope = with_class H.scope Pure; present = H.present; handled = H.handled }
@@ -88,6 +67,27 @@ module _ (tests : Tests) (right : IsRight tests) (ds : List Decl) (base : List E
 
   from_pure : (H : Here) (c : Core) → At tests base subs (in_pure H) c → At tests base subs H c
   from_pure H c a = record { agrees = a.agrees; subs_are = a.subs_are; handled_are = a.handled_are }
+
+  layer_formed : Others → (H : Here) (S : Typed) (layer : ExprLayer) (c : Core) → typed_rule tests (opened tests layer) H.scope ≡ Ok S → At tests base subs H c → Formed tests right ds base subs funcs w H S layer c
+  layer_formed o H S (ex.Int span n) c h a = int_formed tests right ds base subs funcs w H S span n c h a
+  layer_formed o H S (ex.Bits span t) c h a = bits_formed tests right ds base subs funcs w H S span t c h a
+  layer_formed o H S (ex.Bool span b) c h a = bool_formed tests right ds base subs funcs w H S span b c h a
+  layer_formed o H S (ex.Name span name) c h a = name_formed tests right ds base subs funcs w H S span name c h a
+  layer_formed o H S (ex.Unary span u e) c h a = operation_formed tests right ds base subs funcs w H S span u e c h a
+  layer_formed o H S (ex.Binary span b e f) c h a = two_formed tests right ds base subs funcs w H S span b e f c (good H c a) h a
+  layer_formed o H S (ex.Conditional span e f g) c h a = conditional_formed tests right ds base subs funcs w H S span e f g c (good H c a) h a
+  layer_formed o H S (ex.Tuple span es) c h a = tuple_formed tests right ds base subs funcs w H S span es c h a
+  layer_formed o H S (ex.Construct span i fs) c h a = construct_formed tests right ds base subs funcs w H S span i fs c (good H c a) h a
+  layer_formed o H S (ex.Call span i ps es) c h a = call_formed o H S span i ps es c h a
+  layer_formed o H S (ex.Field span e i) c h a = field_formed tests right ds base subs funcs w H S span e i c (good H c a e) h a
+  layer_formed o H S (ex.Fields span e is) c h a = bitfields_formed tests right ds base subs funcs w H S span e is c (good H c a e) h a
+  layer_formed o H S (ex.Slices span e ss) c h a = slices_formed tests right ds base subs funcs w H S span e ss c h a
+  layer_formed o H S (ex.Element span e i) c h a = element_formed tests right ds base subs funcs w H S span e i c h a
+  layer_formed o H S (ex.As span e t) c h a = as_formed tests right ds base subs funcs w H S span e t c (good H c a e) h a
+  layer_formed o H S (ex.In span e p) c h a = in_formed tests right ds base subs funcs w H S span e p c (good H c a e) (good (in_pure H) c (into_pure H c a)) h a
+
+  expr_formed : Others → (H : Here) (S : Typed) (e : Expr) (c : Core) → typed tests e H.scope ≡ Ok S → At tests base subs H c → Formed tests right ds base subs funcs w H S (out-Expr e) c
+  expr_formed o H S e c h a = layer_formed o H S (out-Expr e) c (sym (ap (λ (f : Found). f.typed H.scope) (unrolled tests e)) ∙ h) a
 
   -- what is asked of an expression, where it stands and what it does
   pub record Does_asked (H : Here) (q : Asked) (e : Expr) (c : Core) : Type 0 where

@@ -12,7 +12,7 @@ use Rattle.asl_rules.specs.Tests.{Tests, IsRight}
 use Rattle.asl_rules.specs.Types.{Ty, same_kind, kind, kind_eq}
 use Rattle.asl_rules.specs.Closed.{Assignment, type_with, kind_at}
 use Rattle.asl_rules.specs.Scopes.{Entry, Signature}
-use Rattle.asl_rules.specs.WellFormed.{Built}
+use Rattle.asl_rules.specs.WellFormed.{Built, WellFormed}
 use Rattle.asl_rules.specs.Shaped.{type_parts}
 use Rattle.asl_rules.specs.Trees as tree
 use Rattle.asl_rules.specs.Trees.{Note, Tree, TreeFunc}
@@ -32,7 +32,9 @@ use Rattle.asl_rules.specs.Forms.{behind_more}
 use Rattle.asl_rules.specs.Erasure.{erased}
 use Rattle.asl_rules.proofs.basics.Inversions.{bind_ok, then_ok, need_ok}
 use Rattle.asl_rules.proofs.scopes.Lookups.{same_types}
-use Rattle.asl_rules.proofs.scopes.Naming.{WellNamed, scope_good, type_fixed}
+use Rattle.asl_rules.proofs.scopes.Naming.{WellNamed, scope_good, type_fixed, well_declared}
+use Rattle.asl_rules.proofs.scopes.WellTyped.{written_formed}
+use Rattle.asl_rules.proofs.values.KindsByNames.{one_kind}
 use Rattle.asl_rules.proofs.values.KindOf.{has_kind, kind_same}
 use Rattle.asl_rules.proofs.values.Viewing.{viewed_has, viewed_twice}
 use Rattle.asl_rules.proofs.values.Bare.{viewed_built}
@@ -49,17 +51,19 @@ module _ (tests : Tests) (right : IsRight tests) (ds : List Decl) (base : List E
   within_gives av true span T x b h = (viewed_has (type_with T av) x h, viewed_built (types_in base) (type_with T av) x b, viewed_twice (type_with T av) x)
   within_gives av false span T x b h = tt
 
-  kind_gives : (av : Assignment) (span : Span) (S T : Ty) (x : Value) → same_kind S T ≡ true → InType (types_in base) av x S → Gives (types_in base) av T (of_kind_of span (type_with T av) x)
+  kind_gives : (av : Assignment) (span : Span) (S T : Ty) (x : Value) → kind_eq (kind S) (kind T) ≡ true → InType (types_in base) av x S → Gives (types_in base) av T (of_kind_of span (type_with T av) x)
   kind_gives av span S T x k i =
       let e : kind_eq (kind_of x) (kind_at (type_with T av)) ≡ true = ap (λ m. kind_eq m (kind_at (type_with T av))) (has_kind av S x i.0) ∙ ap (kind_eq (kind S)) (kind_same T av) ∙ k in
       subst (λ b. Gives (types_in base) av T (cond b (in_type span (type_with T av) x) (Bad (Stuck WrongKind span)))) (sym e) (within_gives av (has x (type_with T av)) span T x i.1 refl)
 
-  pub as_formed : (H : Here) (S : Typed) (span : Span) (e : Expr) (t : TypeExpr) (c : Core) → as_rule span (found tests e) (found_type tests t) H.scope ≡ Ok S → At tests base subs H c → Formed tests right ds base subs funcs w H S (ex.As span e t) c
-  as_formed H S span e t c h a =
+  pub as_formed : (H : Here) (S : Typed) (span : Span) (e : Expr) (t : TypeExpr) (c : Core) → ((T : Typed) → typed tests e H.scope ≡ Ok T → WellFormed (types_in base) T.ty) → as_rule span (found tests e) (found_type tests t) H.scope ≡ Ok S → At tests base subs H c → Formed tests right ds base subs funcs w H S (ex.As span e t) c
+  as_formed H S span e t c good h a =
       let s = bind_ok (typed tests e H.scope) _ S h in
       let v = bind_ok (written tests t false H.scope) _ S s.then in
       let k = then_ok (need (same_kind s.value.ty v.value.ty) T05 span) _ S v.then in
       let names_good = scope_good H.present base H.scope.names c w a.agrees in
+      let to_well = written_formed tests right (types_in base) (well_declared base w) t false H.scope v.value names_good v.first in
+      let of_kind = one_kind (types_in base) (well_declared base w) s.value.ty v.value.ty (good s.value s.first).shaped to_well.shaped (need_ok (same_kind s.value.ty v.value.ty) T05 span tt k.first) in
       let q = type_says tests right base subs H (λ name T o. type_fixed (types_in base) H.scope.names name names_good T o) (λ name. same_types H.present base H.scope.names c name a.agrees) t false v.value v.first in
       let make : Note → Tree = λ n. tree.As n s.value.tree v.value.shape (trees_from v.value.sizes) in
       let f : Value → List Value → PureOf Value = λ x zs. converted tests.limit span ((type_parts t).shape (types_among base)) zs x in
@@ -73,4 +77,4 @@ module _ (tests : Tests) (right : IsRight tests) (ds : List Decl) (base : List E
       let e3 : g x xs ≡ of_kind_of span (type_with v.value.ty H.present) x =
       ap (λ zs. converted tests.limit span (Some v.value.shape) zs x) (sym (append_nil xs))
       ∙ ap (λ o. type_or_stuck span (type_of_sized o) >>= λ T. of_kind_of span T x) fills.is ∙ ap (λ T. of_kind_of span T x) fills.type_is in
-      (e2, subst (Gives (types_in base) H.present v.value.ty) (sym (e2 ∙ e3)) (kind_gives H.present span s.value.ty v.value.ty x (need_ok (same_kind s.value.ty v.value.ty) T05 span tt k.first) i)))))
+      (e2, subst (Gives (types_in base) H.present v.value.ty) (sym (e2 ∙ e3)) (kind_gives H.present span s.value.ty v.value.ty x of_kind i)))))

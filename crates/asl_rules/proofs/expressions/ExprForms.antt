@@ -45,9 +45,10 @@ use Rattle.asl_rules.proofs.basics.Inversions.{ok_ok, err_ok, bind_ok, then_ok, 
 use Rattle.asl_rules.proofs.basics.Tests.{both, and_true}
 use Rattle.asl_rules.proofs.values.SameKind.{number_is}
 use Rattle.asl_rules.proofs.values.Joining.{bare_join}
+use Rattle.asl_rules.proofs.values.KindsByNames.{one_kind}
 use Rattle.asl_rules.proofs.scopes.Lookups.{Finds, finds, label_value, label_outside}
 use Rattle.asl_rules.proofs.scopes.Naming.{WellNamed, well_declared}
-use Rattle.asl_rules.proofs.expressions.OperatorForms.{Gives, literal_gives, binary_gives, unary_gives}
+use Rattle.asl_rules.proofs.expressions.OperatorForms.{Gives, OneKind, literal_gives, binary_gives, unary_gives}
 use Rattle.asl_rules.proofs.expressions.ElementForms.{element_gives}
 use Rattle.asl_cons.proofs.Covering.{value_constant_map}
 use Rattle.asl_rules.proofs.scopes.Slots.{has_names, slot_is}
@@ -146,31 +147,31 @@ module _ (tests : Tests) (right : IsRight tests) (ds : List Decl) (base : List E
       formed H S (ex.Unary span o e) c span u.value t.value.effect make (in_class_is H.scope.class span t.value.effect u.value make S u.then) refl
       (behind_same tests right base subs H u.value e t.value c (unary_value span o) (unary_value span o) t.first a (λ x i. (refl, unary_gives (types_in base) H.present tests right span o t.value.ty u.value x u.first i)))
 
-  right_same : (H : Here) (span : Span) (o : BinaryOperator) (b : Expr) (x : Value) (S U : Ty) (V : Typed) (c : Core) → typed tests b H.scope ≡ Ok V → binary_rule tests span o S V.ty ≡ Ok U → InType (types_in base) H.present x S → At tests base subs H c →
+  right_same : (H : Here) (span : Span) (o : BinaryOperator) (b : Expr) (x : Value) (S U : Ty) (V : Typed) (c : Core) → OneKind S V.ty → typed tests b H.scope ≡ Ok V → binary_rule tests span o S V.ty ≡ Ok U → InType (types_in base) H.present x S → At tests base subs H c →
       Same tests right base subs H (Out tests right base subs H U) (ask_right tests.limit span o b x c) (ask_right tests.limit span o V.tree x (erased c))
-  right_same H span o b x S U V c h r i a =
-      behind_same tests right base subs H U b V c (binary_value tests.limit span o x) (binary_value tests.limit span o x) h a (λ y j. (refl, binary_gives (types_in base) H.present tests right span o S V.ty U x y r i j))
+  right_same H span o b x S U V c k h r i a =
+      behind_same tests right base subs H U b V c (binary_value tests.limit span o x) (binary_value tests.limit span o x) h a (λ y j. (refl, binary_gives (types_in base) H.present tests right span o S V.ty U x y k r i j))
 
-  decided_same : (H : Here) (span : Span) (o : BinaryOperator) (b : Expr) (x : Value) (S : Ty) (V : Typed) (c : Core) (d : Decided) → typed tests b H.scope ≡ Ok V → binary_rule tests span o S V.ty ≡ Ok boolean → InType (types_in base) H.present x S → At tests base subs H c →
+  decided_same : (H : Here) (span : Span) (o : BinaryOperator) (b : Expr) (x : Value) (S : Ty) (V : Typed) (c : Core) (d : Decided) → OneKind S V.ty → typed tests b H.scope ≡ Ok V → binary_rule tests span o S V.ty ≡ Ok boolean → InType (types_in base) H.present x S → At tests base subs H c →
       Same tests right base subs H (Out tests right base subs H boolean) (unless_decided tests.limit span o b x c d) (unless_decided tests.limit span o V.tree x (erased c) d)
-  decided_same H span o b x S V c (Already r) h q i a = (refl, (refl, ((refl, tt, refl), a)))
-  decided_same H span o b x S V c ByRight h q i a = right_same H span o b x S boolean V c h q i a
+  decided_same H span o b x S V c (Already r) k h q i a = (refl, (refl, ((refl, tt, refl), a)))
+  decided_same H span o b x S V c ByRight k h q i a = right_same H span o b x S boolean V c k h q i a
 
-  lazy_same : (H : Here) (span : Span) (o : BinaryOperator) (b : Expr) (x : Value) (S U : Ty) (V : Typed) (c : Core) (f : Bool → Decided) → typed tests b H.scope ≡ Ok V → binary_rule tests span o S V.ty ≡ Ok U → (is_boolean S ≡ true) × (boolean ≡ U) → InType (types_in base) H.present x S → At tests base subs H c →
+  lazy_same : (H : Here) (span : Span) (o : BinaryOperator) (b : Expr) (x : Value) (S U : Ty) (V : Typed) (c : Core) (f : Bool → Decided) → OneKind S V.ty → typed tests b H.scope ≡ Ok V → binary_rule tests span o S V.ty ≡ Ok U → (is_boolean S ≡ true) × (boolean ≡ U) → InType (types_in base) H.present x S → At tests base subs H c →
       Same tests right base subs H (Out tests right base subs H U) (behind_left tests.limit span o b x (Lazy f) c) (behind_left tests.limit span o V.tree x (Lazy f) (erased c))
-  lazy_same H span o b x S U V c f h q e i a =
+  lazy_same H span o b x S U V c f k h q e i a =
       subst (λ W. Same tests right base subs H (Out tests right base subs H W) (behind_left tests.limit span o b x (Lazy f) c) (behind_left tests.limit span o V.tree x (Lazy f) (erased c))) e.1
-      (truth_same tests right base subs H (Out tests right base subs H boolean) span x S c (λ p. unless_decided tests.limit span o b x c (f p)) (λ p. unless_decided tests.limit span o V.tree x (erased c) (f p)) e.0 i (λ p. decided_same H span o b x S V c (f p) h (q ∙ ap Ok (sym e.1)) i a))
+      (truth_same tests right base subs H (Out tests right base subs H boolean) span x S c (λ p. unless_decided tests.limit span o b x c (f p)) (λ p. unless_decided tests.limit span o V.tree x (erased c) (f p)) e.0 i (λ p. decided_same H span o b x S V c (f p) k h (q ∙ ap Ok (sym e.1)) i a))
 
-  left_same : (H : Here) (span : Span) (o : BinaryOperator) (b : Expr) (x : Value) (S U : Ty) (V : Typed) (c : Core) → typed tests b H.scope ≡ Ok V → binary_rule tests span o S V.ty ≡ Ok U → InType (types_in base) H.present x S → At tests base subs H c →
+  left_same : (H : Here) (span : Span) (o : BinaryOperator) (b : Expr) (x : Value) (S U : Ty) (V : Typed) (c : Core) → OneKind S V.ty → typed tests b H.scope ≡ Ok V → binary_rule tests span o S V.ty ≡ Ok U → InType (types_in base) H.present x S → At tests base subs H c →
       Same tests right base subs H (Out tests right base subs H U) (behind_left tests.limit span o b x (strictness o) c) (behind_left tests.limit span o V.tree x (strictness o) (erased c))
-  left_same H span binary.LogicalAnd b x S U V c h r i a = lazy_same H span binary.LogicalAnd b x S U V c (λ p. decides (not p) false) h r (boolean_operands span S V.ty U r) i a
-  left_same H span binary.LogicalOr b x S U V c h r i a = lazy_same H span binary.LogicalOr b x S U V c (λ p. decides p true) h r (boolean_operands span S V.ty U r) i a
-  left_same H span binary.Implies b x S U V c h r i a = lazy_same H span binary.Implies b x S U V c (λ p. decides (not p) true) h r (boolean_operands span S V.ty U r) i a
-  left_same H span o b x S U V c h r i a = right_same H span o b x S U V c h r i a
+  left_same H span binary.LogicalAnd b x S U V c k h r i a = lazy_same H span binary.LogicalAnd b x S U V c (λ p. decides (not p) false) k h r (boolean_operands span S V.ty U r) i a
+  left_same H span binary.LogicalOr b x S U V c k h r i a = lazy_same H span binary.LogicalOr b x S U V c (λ p. decides p true) k h r (boolean_operands span S V.ty U r) i a
+  left_same H span binary.Implies b x S U V c k h r i a = lazy_same H span binary.Implies b x S U V c (λ p. decides (not p) true) k h r (boolean_operands span S V.ty U r) i a
+  left_same H span o b x S U V c k h r i a = right_same H span o b x S U V c k h r i a
 
-  pub two_formed : (H : Here) (S : Typed) (span : Span) (o : BinaryOperator) (e b : Expr) (c : Core) → operation_rule_of_two tests span o (found tests e) (found tests b) H.scope ≡ Ok S → At tests base subs H c → Formed H S (ex.Binary span o e b) c
-  two_formed H S span o e b c h a =
+  pub two_formed : (H : Here) (S : Typed) (span : Span) (o : BinaryOperator) (e b : Expr) (c : Core) → ((e : Expr) (T : Typed) → typed tests e H.scope ≡ Ok T → WellFormed (types_in base) T.ty) → operation_rule_of_two tests span o (found tests e) (found tests b) H.scope ≡ Ok S → At tests base subs H c → Formed H S (ex.Binary span o e b) c
+  two_formed H S span o e b c good h a =
       let t = bind_ok (typed tests e H.scope) _ S h in
       let v = bind_ok (typed tests b H.scope) _ S t.then in
       let u = bind_ok (binary_rule tests span o t.value.ty v.value.ty) _ S v.then in
@@ -178,7 +179,7 @@ module _ (tests : Tests) (right : IsRight tests) (ds : List Decl) (base : List E
       let make : Note → Tree = λ n. tree.Binary n o t.value.tree v.value.tree in
       formed H S (ex.Binary span o e b) c span u.value k make (finish_is H.scope.class span (together t.value.effect v.value.effect) k u.value make S u.then) refl
       (operand tests right base subs H (Out tests right base subs H u.value) e t.value c (λ x c1. behind_left tests.limit span o b x (strictness o) c1) (λ x c1. behind_left tests.limit span o v.value.tree x (strictness o) c1) t.first a
-      (λ x c1 i a1. left_same H span o b x t.value.ty u.value v.value c1 v.first u.first i a1))
+      (λ x c1 i a1. left_same H span o b x t.value.ty u.value v.value c1 (one_kind (types_in base) (well_declared base w) t.value.ty v.value.ty (good e t.value t.first).shaped (good b v.value v.first).shaped) v.first u.first i a1))
 
   -- ---- elements, tuples, conditionals
 

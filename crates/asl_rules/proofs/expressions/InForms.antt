@@ -25,13 +25,14 @@ use Rattle.asl_rules.specs.ByNames.{matched_in}
 use Rattle.asl_rules.specs.Forms.{behind_more}
 use Rattle.asl_rules.specs.Erasure.{erased}
 use Rattle.asl_rules.proofs.basics.Inversions.{bind_ok}
-use Rattle.asl_rules.proofs.scopes.Naming.{WellNamed}
+use Rattle.asl_rules.proofs.scopes.Naming.{WellNamed, well_declared}
 use Rattle.asl_rules.proofs.expressions.OperatorForms.{Gives}
 use Rattle.asl_rules.proofs.basics.Opening.{in_class_is}
 use Rattle.asl_rules.proofs.expressions.Claims.{Here, At}
 use Rattle.asl_rules.proofs.expressions.TreePlans.{Out, Same, behind_more_same, append_nil, list_from}
 use Rattle.asl_rules.proofs.expressions.MatchForms.{Decided, pattern_says}
 use Rattle.asl_rules.proofs.expressions.ExprForms.{Formed, formed}
+use Rattle.asl_rules.specs.WellFormed.{WellFormed}
 
 module _ (tests : Tests) (right : IsRight tests) (ds : List Decl) (base : List Entry) (subs : List Signature) (funcs : List TreeFunc) (w : WellNamed base) where
   decided_gives : (H : Here) (r : PureOf Matched) → Decided r [] → Gives (types_in base) H.present boolean (((r >>= λ m. matched false m.left >>= λ n. matched (m.holds || n.holds) n.left) >>= λ m. Good m.holds) >>= λ b. Good (bool b))
@@ -39,11 +40,11 @@ module _ (tests : Tests) (right : IsRight tests) (ds : List Decl) (base : List E
   decided_gives H (Bad (Faulted code span)) h = tt
   decided_gives H (Bad (Stuck mistake span)) h = absurd h
 
-  pub in_formed : (H : Here) (S : Typed) (span : Span) (e : Expr) (p : Pattern) (c : Core) → in_rule span (found tests e) (found_pattern tests p) H.scope ≡ Ok S → At tests base subs H c → Formed tests right ds base subs funcs w H S (ex.In span e p) c
-  in_formed H S span e p c h a =
+  pub in_formed : (H : Here) (S : Typed) (span : Span) (e : Expr) (p : Pattern) (c : Core) → ((T : Typed) → typed tests e H.scope ≡ Ok T → WellFormed (types_in base) T.ty) → ((f : Expr) (T : Typed) → typed tests f (with_class H.scope Pure) ≡ Ok T → WellFormed (types_in base) T.ty) → in_rule span (found tests e) (found_pattern tests p) H.scope ≡ Ok S → At tests base subs H c → Formed tests right ds base subs funcs w H S (ex.In span e p) c
+  in_formed H S span e p c good pure_good h a =
       let t = bind_ok (typed tests e H.scope) _ S h in
       let m = bind_ok (found_pattern tests p t.value.ty (with_class H.scope Pure)) _ S t.then in
-      let q = pattern_says tests right base subs H p t.value.ty m.value m.first in
+      let q = pattern_says tests right base subs H p t.value.ty m.value (record { declared = well_declared base w; formed = pure_good }) (good t.value t.first).shaped m.first in
       let make : Note → Tree = λ n. tree.In n t.value.tree m.value.shape (trees_from m.value.trees) in
       let f : Value → List Value → PureOf Value = λ x zs. matched_in tests.limit (pattern_parts p).shape zs x in
       let g : Value → List Value → PureOf Value = λ x zs. matched_in tests.limit m.value.shape zs x in

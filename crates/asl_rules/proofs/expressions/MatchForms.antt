@@ -48,9 +48,11 @@ use Rattle.asl_rules.proofs.values.Shapes.{named_parts}
 use Rattle.asl_rules.proofs.values.SameKind.{same_number, number_is}
 use Rattle.asl_rules.proofs.basics.Opening.{pattern_opened}
 use Rattle.asl_rules.proofs.values.Viewing.{same_first, same_rest}
-use Rattle.asl_rules.proofs.expressions.OperatorForms.{Gives, is_int, is_bool, is_bitvector, binary_gives}
+use Rattle.asl_rules.proofs.expressions.OperatorForms.{Gives, OneKind, is_int, is_bool, is_bitvector, binary_gives}
+use Rattle.asl_rules.proofs.values.KindsByNames.{one_kind}
 use Rattle.asl_rules.proofs.expressions.Claims.{Here, Asked, of_pure, GivesAsked}
 use Rattle.asl_rules.proofs.expressions.TreePlans.{AllAsked, AllGive}
+use Rattle.asl_rules.specs.WellFormed.{Shaped as TypeShaped, ShapedParts, WellDeclared, WellFormed}
 
 -- the pattern is decided, and these values are left
 abbrev pub Decided : PureOf runs.Matched → List Value → Type 0
@@ -112,8 +114,13 @@ module _ (tests : Tests) (right : IsRight tests) (base : List Entry) (subs : Lis
     pub asks : Asks p.exprs m.trees asked
     pub decides : (x : Value) (xs rest : List Value) → InType d av x T → Give asked xs → Decided (matches tests.limit m.shape x (xs ++ rest)) rest
 
+  -- what is known of types where a pattern stands
+  pub record Known : Type 0 where
+    pub declared : WellDeclared (types_in base)
+    pub formed : (e : Expr) (S : Typed) → typed tests e (with_class H.scope Pure) ≡ Ok S → WellFormed (types_in base) S.ty
+
   abbrev pub Good_pattern : Pattern → Type 0
-  Good_pattern p = (T : Ty) (m : Matched) → found_pattern tests p T (with_class H.scope Pure) ≡ Ok m → Says (pattern_parts p) T m
+  Good_pattern p = (T : Ty) (m : Matched) → Known → TypeShaped d T → found_pattern tests p T (with_class H.scope Pure) ≡ Ok m → Says (pattern_parts p) T m
 
   abbrev Any : {A : Type 0} → A → Type 0
   Any x = Unit {0}
@@ -141,17 +148,17 @@ module _ (tests : Tests) (right : IsRight tests) (base : List Entry) (subs : Lis
     pub asks : Asks (exprs_in pattern_parts ps) (pattern_trees ms) asked
     pub decides : (x : Value) (xs rest : List Value) → InType d av x T → Give asked xs → Decided (any_match tests.limit (pattern_shapes ms) x (xs ++ rest)) rest
 
-  all_say : (ps : List ((p : Pattern) × Good_pattern p)) (T : Ty) (ms : List Matched) → all_match (map (found_pattern tests) (map (λ p. p.0) ps)) T (with_class H.scope Pure) ≡ Ok ms → AllSay (map (λ p. p.0) ps) T ms
-  all_say [] T ms h = subst (AllSay [] T) (ok_ok [] ms h) (record { asked = []; shapes_are = refl; asks = tt; decides = λ x xs rest i g. none_left xs rest g })
+  all_say : (ps : List ((p : Pattern) × Good_pattern p)) (T : Ty) (ms : List Matched) → Known → TypeShaped d T → all_match (map (found_pattern tests) (map (λ p. p.0) ps)) T (with_class H.scope Pure) ≡ Ok ms → AllSay (map (λ p. p.0) ps) T ms
+  all_say [] T ms known of_type h = subst (AllSay [] T) (ok_ok [] ms h) (record { asked = []; shapes_are = refl; asks = tt; decides = λ x xs rest i g. none_left xs rest g })
     where
       none_left : (xs rest : List Value) → Give [] xs → xs ++ rest ≡ rest
       none_left [] rest g = refl
       none_left (x ∷ xs) rest g = absurd g
-  all_say (p ∷ ps) T ms h =
+  all_say (p ∷ ps) T ms known of_type h =
       let s = bind_ok (found_pattern tests p.0 T (with_class H.scope Pure)) _ ms h in
       let r = bind_ok (all_match (map (found_pattern tests) (map (λ p. p.0) ps)) T (with_class H.scope Pure)) _ ms s.then in
-      let a = p.1 T s.value s.first in
-      let b = all_say ps T r.value r.first in
+      let a = p.1 T s.value known of_type s.first in
+      let b = all_say ps T r.value known of_type r.first in
       subst (AllSay (map (λ p. p.0) (p ∷ ps)) T) (ok_ok (s.value ∷ r.value) ms r.then)
       (record {
         asked = a.asked ++ b.asked;
@@ -171,20 +178,20 @@ module _ (tests : Tests) (right : IsRight tests) (base : List Entry) (subs : Lis
     pub asks : Asks (exprs_in pattern_parts ps) (pattern_trees ms) asked
     pub decides : (span : Span) (ys : Values) (xs rest : List Value) → InType d av (tuple_with ys) (tuple_of Ts) → Give asked xs → Decided (each_match tests.limit span (pattern_shapes ms) (values_in ys) (xs ++ rest)) rest
 
-  parts_say : (ps : List ((p : Pattern) × Good_pattern p)) (Ts : Parts) (ms : List Matched) → as_many (map (found_pattern tests) (map (λ p. p.0) ps)) Ts ≡ true → parts_match (map (found_pattern tests) (map (λ p. p.0) ps)) Ts (with_class H.scope Pure) ≡ Ok ms → PartsSay (map (λ p. p.0) ps) Ts ms
-  parts_say [] (part T Ts) ms n h = no n
-  parts_say (p ∷ ps) no_part ms n h = no n
-  parts_say [] no_part ms n h = subst (PartsSay [] no_part) (ok_ok [] ms h) (record { asked = []; shapes_are = refl; asks = tt; decides = λ span ys xs rest i g. none_left span ys xs rest i.0 g })
+  parts_say : (ps : List ((p : Pattern) × Good_pattern p)) (Ts : Parts) (ms : List Matched) → Known → ShapedParts d Ts → as_many (map (found_pattern tests) (map (λ p. p.0) ps)) Ts ≡ true → parts_match (map (found_pattern tests) (map (λ p. p.0) ps)) Ts (with_class H.scope Pure) ≡ Ok ms → PartsSay (map (λ p. p.0) ps) Ts ms
+  parts_say [] (part T Ts) ms known of_parts n h = no n
+  parts_say (p ∷ ps) no_part ms known of_parts n h = no n
+  parts_say [] no_part ms known of_parts n h = subst (PartsSay [] no_part) (ok_ok [] ms h) (record { asked = []; shapes_are = refl; asks = tt; decides = λ span ys xs rest i g. none_left span ys xs rest i.0 g })
     where
       none_left : (span : Span) (ys : Values) (xs rest : List Value) → parts_have av ys no_part ≡ true → Give [] xs → Decided (each_match tests.limit span no_pattern (values_in ys) (xs ++ rest)) rest
       none_left span no_value [] rest i g = refl
       none_left span no_value (x ∷ xs) rest i g = absurd g
       none_left span (value y ys) xs rest i g = no i
-  parts_say (p ∷ ps) (part T Ts) ms n h =
+  parts_say (p ∷ ps) (part T Ts) ms known of_parts n h =
       let s = bind_ok (found_pattern tests p.0 T (with_class H.scope Pure)) _ ms h in
       let r = bind_ok (parts_match (map (found_pattern tests) (map (λ p. p.0) ps)) Ts (with_class H.scope Pure)) _ ms s.then in
-      let a = p.1 T s.value s.first in
-      let b = parts_say ps Ts r.value n r.first in
+      let a = p.1 T s.value known of_parts.1 s.first in
+      let b = parts_say ps Ts r.value known of_parts.2 n r.first in
       subst (PartsSay (map (λ p. p.0) (p ∷ ps)) (part T Ts)) (ok_ok (s.value ∷ r.value) ms r.then)
       (record {
         asked = a.asked ++ b.asked;
@@ -281,8 +288,8 @@ module _ (tests : Tests) (right : IsRight tests) (base : List Entry) (subs : Lis
       subst (λ v. Decided (matches tests.limit (between span) v (y ∷ z ∷ rest)) rest) (sym a.1) (subst (λ v. Decided (matches tests.limit (between span) (int a.0) (v ∷ z ∷ rest)) rest) (sym b.1) (subst (λ v. Decided (matches tests.limit (between span) (int a.0) (int b.0 ∷ v ∷ rest)) rest) (sym c.1) refl))
 
   -- `==`
-  equal_decided : (span : Span) (x y : Value) (T S : Ty) (rest : List Value) → comparable tests T23 span T S ≡ Ok tt → InType d av x T → InType d av y S → Decided (value_match tests.limit span x (y ∷ rest)) rest
-  equal_decided span x y T S rest h i j = by (binary_value tests.limit span binary.Equal x y) (binary_gives d av tests right span binary.Equal T S boolean x y (compared_ok span T S h) i j)
+  equal_decided : (span : Span) (x y : Value) (T S : Ty) (rest : List Value) → OneKind T S → comparable tests T23 span T S ≡ Ok tt → InType d av x T → InType d av y S → Decided (value_match tests.limit span x (y ∷ rest)) rest
+  equal_decided span x y T S rest e h i j = by (binary_value tests.limit span binary.Equal x y) (binary_gives d av tests right span binary.Equal T S boolean x y e (compared_ok span T S h) i j)
     where
       by : (r : PureOf Value) → Gives d av boolean r → Decided (r >>= λ v. truth span v >>= λ b. runs.matched b rest) rest
       by (Good v) g = let b = is_bool d av tests right boolean v refl g in subst (λ z. Decided (truth span z >>= λ b. runs.matched b rest) rest) (sym b.1) refl
@@ -295,6 +302,11 @@ module _ (tests : Tests) (right : IsRight tests) (base : List Entry) (subs : Lis
   tuple_decided span (named n supers T) Ts ms asked x xs rest e i g k = tuple_decided span T Ts ms asked x xs rest e ((named_parts av x n supers T i.0).1, i.1, i.2) g k
   tuple_decided span (tuple_of Us) Ts ms asked x xs rest e i g k = no i.0
   tuple_decided span T Ts ms asked x xs rest e i g k = none_some Ts e
+
+  tuple_shaped : (T : Ty) (Ts : Parts) → TypeShaped d T → tuple_parts T ≡ Some Ts → ShapedParts d Ts
+  tuple_shaped (tuple_of Us) Ts s e = subst (ShapedParts d) (some_same Us Ts e) s
+  tuple_shaped (named n supers T) Ts s e = tuple_shaped T Ts s.2 e
+  tuple_shaped T Ts s e = none_some Ts e
 
   abbrev shape_with : List ((p : Pattern) × Good_pattern p) → List (Pattern × Shaped PatternShape Expr)
   shape_with ps = map (λ p. (p, pattern_parts p)) (map (λ p. p.0) ps)
@@ -318,11 +330,11 @@ module _ (tests : Tests) (right : IsRight tests) (base : List Entry) (subs : Lis
   apart y = pattern_layer own_expr own_parts (map-Pattern Bitfield ConstraintPart Expr FieldValue Pattern Slice TypeExpr (Bitfield × Unread) (ConstraintPart × Unread) (Expr × Unread) (FieldValue × Unread) (Pattern × Shaped PatternShape Expr) (Slice × Unread) (TypeExpr × Unread)
       (λ b. (b, tt)) (λ p. (p, tt)) (λ e. (e, tt)) (λ f. (f, tt)) (λ p. (p, pattern_parts p)) (λ s. (s, tt)) (λ t. (t, tt)) (trees y))
 
-  layer_says : (y : Below) (T : Ty) (m : Matched) → pattern_rule tests (pattern_opened tests (trees y)) T (with_class H.scope Pure) ≡ Ok m → Says (apart y) T m
-  layer_says (ex.AnyPattern span) T m h = said _ T (matched anything []) m (ok_ok (matched anything []) m h) (record { asked = []; shape_is = refl; asks = tt; decides = λ x xs rest i g. no_asked xs rest g })
-  layer_says (ex.SetPattern span b ps) T m h =
+  layer_says : (y : Below) (T : Ty) (m : Matched) → Known → TypeShaped d T → pattern_rule tests (pattern_opened tests (trees y)) T (with_class H.scope Pure) ≡ Ok m → Says (apart y) T m
+  layer_says (ex.AnyPattern span) T m known of_type h = said _ T (matched anything []) m (ok_ok (matched anything []) m h) (record { asked = []; shape_is = refl; asks = tt; decides = λ x xs rest i g. no_asked xs rest g })
+  layer_says (ex.SetPattern span b ps) T m known of_type h =
       let s = bind_ok (all_match (map (found_pattern tests) (map (λ p. p.0) ps)) T (with_class H.scope Pure)) _ m h in
-      let a = all_say ps T s.value s.first in
+      let a = all_say ps T s.value known of_type s.first in
       said _ T (set_matched b s.value) m (ok_ok (set_matched b s.value) m s.then)
       (record {
         asked = a.asked;
@@ -330,7 +342,7 @@ module _ (tests : Tests) (right : IsRight tests) (base : List Entry) (subs : Lis
         asks = subst (λ l. Asks l (pattern_trees s.value) a.asked) (sym (exprs_same (map (λ p. p.0) ps))) a.asks;
         decides = λ x xs rest i g. set_decided b (any_match tests.limit (pattern_shapes s.value) x (xs ++ rest)) rest (a.decides x xs rest i g);
       })
-  layer_says (ex.MaskPattern span t) T m h =
+  layer_says (ex.MaskPattern span t) T m known of_type h =
       let k = then_ok (need (is_bits T) T23 span) _ m h in
       let l = then_ok (need (tests.same (width_of T) (constant_map (pos (length (literal_digits t))))) T06 span) _ m k.then in
       let n = then_ok (need (nat_le (length (literal_digits t)) tests.limit) T20 span) (Ok (matched (masked span (literal_digits t)) [])) m l.then in
@@ -342,7 +354,7 @@ module _ (tests : Tests) (right : IsRight tests) (base : List Entry) (subs : Lis
         decides = λ x xs rest i g. subst (λ z. Decided (mask_match span (literal_digits t) x z) rest) (sym (no_asked xs rest g))
             (mask_decided span (literal_digits t) T x rest (need_ok (is_bits T) T23 span tt k.first) (need_ok (tests.same (width_of T) (constant_map (pos (length (literal_digits t))))) T06 span tt l.first) i);
       })
-  layer_says (ex.AtMost span e) T m h =
+  layer_says (ex.AtMost span e) T m known of_type h =
       let s = bind_ok (typed tests e.0 (with_class H.scope Pure)) _ m h in
       let k = then_ok (need (is_integer T && is_integer s.value.ty) T23 span) (Ok (matched (at_most span) (s.value.tree ∷ []))) m s.then in
       let q = both (is_integer T) (is_integer s.value.ty) (need_ok (is_integer T && is_integer s.value.ty) T23 span tt k.first) in
@@ -353,7 +365,7 @@ module _ (tests : Tests) (right : IsRight tests) (base : List Entry) (subs : Lis
         asks = one_asked e.0 s.value s.first;
         decides = λ x xs rest i g. one_value (λ zs. Decided (matches tests.limit (at_most span) x zs) rest) (of_pure s.value) xs rest g (λ y j. ints_decide (at_most span) x y T s.value.ty rest q.0 q.1 i j (λ a b. refl));
       })
-  layer_says (ex.AtLeast span e) T m h =
+  layer_says (ex.AtLeast span e) T m known of_type h =
       let s = bind_ok (typed tests e.0 (with_class H.scope Pure)) _ m h in
       let k = then_ok (need (is_integer T && is_integer s.value.ty) T23 span) (Ok (matched (at_least span) (s.value.tree ∷ []))) m s.then in
       let q = both (is_integer T) (is_integer s.value.ty) (need_ok (is_integer T && is_integer s.value.ty) T23 span tt k.first) in
@@ -364,11 +376,11 @@ module _ (tests : Tests) (right : IsRight tests) (base : List Entry) (subs : Lis
         asks = one_asked e.0 s.value s.first;
         decides = λ x xs rest i g. one_value (λ zs. Decided (matches tests.limit (at_least span) x zs) rest) (of_pure s.value) xs rest g (λ y j. ints_decide (at_least span) x y T s.value.ty rest q.0 q.1 i j (λ a b. refl));
       })
-  layer_says (ex.TuplePattern span ps) T m h =
+  layer_says (ex.TuplePattern span ps) T m known of_type h =
       let u = bind_ok (found_or (tuple_parts T) T23 span) _ m h in
       let k = then_ok (need (as_many (map (found_pattern tests) (map (λ p. p.0) ps)) u.value) T23 span) _ m u.then in
       let s = bind_ok (parts_match (map (found_pattern tests) (map (λ p. p.0) ps)) u.value (with_class H.scope Pure)) _ m k.then in
-      let a = parts_say ps u.value s.value (need_ok (as_many (map (found_pattern tests) (map (λ p. p.0) ps)) u.value) T23 span tt k.first) s.first in
+      let a = parts_say ps u.value s.value known (tuple_shaped T u.value of_type (found_ok (tuple_parts T) T23 span u.value u.first)) (need_ok (as_many (map (found_pattern tests) (map (λ p. p.0) ps)) u.value) T23 span tt k.first) s.first in
       said _ T (matched (in_parts span (pattern_shapes s.value)) (pattern_trees s.value)) m (ok_ok (matched (in_parts span (pattern_shapes s.value)) (pattern_trees s.value)) m s.then)
       (record {
         asked = a.asked;
@@ -376,7 +388,7 @@ module _ (tests : Tests) (right : IsRight tests) (base : List Entry) (subs : Lis
         asks = subst (λ l. Asks l (pattern_trees s.value) a.asked) (sym (exprs_same (map (λ p. p.0) ps))) a.asks;
         decides = λ x xs rest i g. tuple_decided span T u.value s.value a.asked x xs rest (found_ok (tuple_parts T) T23 span u.value u.first) i g (λ ys j. a.decides span ys xs rest j g);
       })
-  layer_says (ex.ValuePattern span e) T m h =
+  layer_says (ex.ValuePattern span e) T m known of_type h =
       let s = bind_ok (typed tests e.0 (with_class H.scope Pure)) _ m h in
       let k = then_ok (comparable tests T23 span T s.value.ty) (Ok (matched (equal_to span) (s.value.tree ∷ []))) m s.then in
       said _ T (matched (equal_to span) (s.value.tree ∷ [])) m (ok_ok (matched (equal_to span) (s.value.tree ∷ [])) m k.then)
@@ -384,9 +396,9 @@ module _ (tests : Tests) (right : IsRight tests) (base : List Entry) (subs : Lis
         asked = of_pure s.value ∷ [];
         shape_is = refl;
         asks = one_asked e.0 s.value s.first;
-        decides = λ x xs rest i g. one_value (λ zs. Decided (matches tests.limit (equal_to span) x zs) rest) (of_pure s.value) xs rest g (λ y j. equal_decided span x y T s.value.ty rest k.first i j);
+        decides = λ x xs rest i g. one_value (λ zs. Decided (matches tests.limit (equal_to span) x zs) rest) (of_pure s.value) xs rest g (λ y j. equal_decided span x y T s.value.ty rest (one_kind d known.declared T s.value.ty of_type (known.formed e.0 s.value s.first).shaped) k.first i j);
       })
-  layer_says (ex.RangePattern span e f) T m h =
+  layer_says (ex.RangePattern span e f) T m known of_type h =
       let s = bind_ok (typed tests e.0 (with_class H.scope Pure)) _ m h in
       let u = bind_ok (typed tests f.0 (with_class H.scope Pure)) _ m s.then in
       let k = then_ok (need (is_integer T && (is_integer s.value.ty && is_integer u.value.ty)) T23 span) (Ok (matched (between span) (s.value.tree ∷ u.value.tree ∷ []))) m u.then in
@@ -402,10 +414,10 @@ module _ (tests : Tests) (right : IsRight tests) (base : List Entry) (subs : Lis
       })
 
   pattern_step : (x : PatternLayer) (y : Below) → trees y ≡ x → Good_pattern (roll-Pattern x)
-  pattern_step x y is T m h =
+  pattern_step x y is T m known of_type h =
       let k : pattern_rule tests (pattern_opened tests x) T (with_class H.scope Pure) ≡ Ok m =
       sym (ap (λ (f : FoundPattern). f T (with_class H.scope Pure)) (fold-roll-Pattern FoundBitfield FoundPart Found FoundField FoundPattern FoundSlice FoundType bitfield_rule part_rule (expr_rule tests) given_rule (pattern_rule tests) slice_rule (type_rule tests) x)) ∙ h in
-      let s = layer_says y T m (ap (λ z. pattern_rule tests (pattern_opened tests z) T (with_class H.scope Pure)) is ∙ k) in
+      let s = layer_says y T m known of_type (ap (λ z. pattern_rule tests (pattern_opened tests z) T (with_class H.scope Pure)) is ∙ k) in
       subst (λ p. Says p T m) (ap (λ z. pattern_layer own_expr own_parts (map-Pattern Bitfield ConstraintPart Expr FieldValue Pattern Slice TypeExpr (Bitfield × Unread) (ConstraintPart × Unread) (Expr × Unread) (FieldValue × Unread) (Pattern × Shaped PatternShape Expr) (Slice × Unread) (TypeExpr × Unread) (λ b. (b, tt)) (λ p. (p, tt)) (λ e. (e, tt)) (λ f. (f, tt)) (λ p. (p, pattern_parts p)) (λ s. (s, tt)) (λ t. (t, tt)) z)) is
       ∙ sym (para-roll-Pattern Unread Unread Unread Unread (Shaped PatternShape Expr) Unread Unread (λ _. tt) (λ _. tt) (λ _. tt) (λ _. tt) (pattern_layer own_expr own_parts) (λ _. tt) (λ _. tt) x)) s
 

@@ -51,6 +51,10 @@ Gives d a T (Good x) = InType d a x T
 Gives d a T (Bad (Faulted code span)) = Unit {0}
 Gives d a T (Bad (Stuck mistake span)) = ⊥
 
+-- types that are found to be of one kind are
+abbrev pub OneKind : Ty → Ty → Type 0
+OneKind S T = same_kind S T ≡ true → kind_eq (kind S) (kind T) ≡ true
+
 -- ---- widths
 
 zipped_length : (f : Bool → Bool → Bool) (xs ys : List Bool) → length xs ≡ length ys → length (zipped f xs ys) ≡ length xs
@@ -210,13 +214,13 @@ module _ (d : List ℕ → Option Ty) (av : Assignment) (tests : Tests) (right :
   compare span o S T (tuple_with xs) y w c h l s k = tuple_not S xs h c
   compare span o S T (array_with j xs) y w c h l s k = array_not S j xs h c
 
-  compares : (span : Span) (o : BinaryOperator) (S T U : Ty) (x y : Value) → operations.compared tests span S T ≡ Ok U → InType d av x S → InType d av y T → Compares span o → Gives d av U (binary_value tests.limit span o x y)
-  compares span o S T U x y h i j w =
+  compares : (span : Span) (o : BinaryOperator) (S T U : Ty) (x y : Value) → OneKind S T → operations.compared tests span S T ≡ Ok U → InType d av x S → InType d av y T → Compares span o → Gives d av U (binary_value tests.limit span o x y)
+  compares span o S T U x y e h i j w =
       let p = then_ok (operations.comparable tests T08 span S T) (Ok boolean) U h in
       let r = then_ok (need (same_kind S T && is_comparable S) T08 span) (need (same_widths tests S T) T06 span) tt p.first in
       let q = both (same_kind S T) (is_comparable S) (need_ok (same_kind S T && is_comparable S) T08 span tt r.first) in
       subst (λ W. Gives d av W (binary_value tests.limit span o x y)) (ok_ok boolean U p.then)
-      (compare span o S T x y w q.1 i.0 j.0 (need_ok (same_widths tests S T) T06 span tt r.then) (has_kind av T y j.0 ∙ sym (equal_kinds (kind S) (kind T) q.0) ∙ sym (has_kind av S x i.0)))
+      (compare span o S T x y w q.1 i.0 j.0 (need_ok (same_widths tests S T) T06 span tt r.then) (has_kind av T y j.0 ∙ sym (equal_kinds (kind S) (kind T) (e q.0)) ∙ sym (has_kind av S x i.0)))
 
   equal_bits : (span : Span) (a b : List Bool) → (length a == length b) ≡ true → Gives d av boolean (of_bits tests.limit span binary.Equal a b)
   equal_bits span a b e = by_length (length a == length b) boolean (of_one_width span binary.Equal a b) _ e (refl, tt, refl)
@@ -307,38 +311,38 @@ module _ (d : List ℕ → Option Ty) (av : Assignment) (tests : Tests) (right :
 
   -- ---- operators
 
-  pub binary_gives : (span : Span) (o : BinaryOperator) (S T U : Ty) (x y : Value) → binary_rule tests span o S T ≡ Ok U → InType d av x S → InType d av y T → Gives d av U (binary_value tests.limit span o x y)
-  binary_gives span binary.LogicalAnd S T U x y h i j = on_booleans span binary.LogicalAnd S T U x y h i j (λ a b. (refl, tt, refl))
-  binary_gives span binary.LogicalOr S T U x y h i j = on_booleans span binary.LogicalOr S T U x y h i j (λ a b. (refl, tt, refl))
-  binary_gives span binary.Implies S T U x y h i j = on_booleans span binary.Implies S T U x y h i j (λ a b. (refl, tt, refl))
-  binary_gives span binary.Equivalent S T U x y h i j = on_booleans span binary.Equivalent S T U x y h i j (λ a b. (refl, tt, refl))
-  binary_gives span binary.Equal S T U x y h i j = compares span binary.Equal S T U x y h i j (record { integers = λ a b. (refl, tt, refl); booleans = λ a b. (refl, tt, refl); labels = λ b. (refl, tt, refl); bits = equal_bits span })
-  binary_gives span binary.NotEqual S T U x y h i j = compares span binary.NotEqual S T U x y h i j (record { integers = λ a b. (refl, tt, refl); booleans = λ a b. (refl, tt, refl); labels = λ b. (refl, tt, refl); bits = unequal_bits span })
-  binary_gives span binary.Less S T U x y h i j = on_integers span binary.Less S T boolean U x y h i j (λ a b k l. (refl, tt, refl))
-  binary_gives span binary.LessEqual S T U x y h i j = on_integers span binary.LessEqual S T boolean U x y h i j (λ a b k l. (refl, tt, refl))
-  binary_gives span binary.Greater S T U x y h i j = on_integers span binary.Greater S T boolean U x y h i j (λ a b k l. (refl, tt, refl))
-  binary_gives span binary.GreaterEqual S T U x y h i j = on_integers span binary.GreaterEqual S T boolean U x y h i j (λ a b k l. (refl, tt, refl))
-  binary_gives span binary.Add S T U x y h i j = adds span binary.Add cons.sum_parts S T U x y h i j (record {
+  pub binary_gives : (span : Span) (o : BinaryOperator) (S T U : Ty) (x y : Value) → OneKind S T → binary_rule tests span o S T ≡ Ok U → InType d av x S → InType d av y T → Gives d av U (binary_value tests.limit span o x y)
+  binary_gives span binary.LogicalAnd S T U x y e h i j = on_booleans span binary.LogicalAnd S T U x y h i j (λ a b. (refl, tt, refl))
+  binary_gives span binary.LogicalOr S T U x y e h i j = on_booleans span binary.LogicalOr S T U x y h i j (λ a b. (refl, tt, refl))
+  binary_gives span binary.Implies S T U x y e h i j = on_booleans span binary.Implies S T U x y h i j (λ a b. (refl, tt, refl))
+  binary_gives span binary.Equivalent S T U x y e h i j = on_booleans span binary.Equivalent S T U x y h i j (λ a b. (refl, tt, refl))
+  binary_gives span binary.Equal S T U x y e h i j = compares span binary.Equal S T U x y e h i j (record { integers = λ a b. (refl, tt, refl); booleans = λ a b. (refl, tt, refl); labels = λ b. (refl, tt, refl); bits = equal_bits span })
+  binary_gives span binary.NotEqual S T U x y e h i j = compares span binary.NotEqual S T U x y e h i j (record { integers = λ a b. (refl, tt, refl); booleans = λ a b. (refl, tt, refl); labels = λ b. (refl, tt, refl); bits = unequal_bits span })
+  binary_gives span binary.Less S T U x y e h i j = on_integers span binary.Less S T boolean U x y h i j (λ a b k l. (refl, tt, refl))
+  binary_gives span binary.LessEqual S T U x y e h i j = on_integers span binary.LessEqual S T boolean U x y h i j (λ a b k l. (refl, tt, refl))
+  binary_gives span binary.Greater S T U x y e h i j = on_integers span binary.Greater S T boolean U x y h i j (λ a b k l. (refl, tt, refl))
+  binary_gives span binary.GreaterEqual S T U x y e h i j = on_integers span binary.GreaterEqual S T boolean U x y h i j (λ a b k l. (refl, tt, refl))
+  binary_gives span binary.Add S T U x y e h i j = adds span binary.Add cons.sum_parts S T U x y h i j (record {
     integers = λ ps qs a b k l. integer_gives (sum_parts ps qs) span (a +ℤ b) (sum_in av ps qs a b k l);
     bits = λ R a b k e. by_length (length a == length b) (bits_of (width_of R) []) _ _ e (plain_gives R a (int_bits (length a) (pos (bits_value a) +ℤ pos (bits_value b))) k (length-bits_of (length a) _));
     mixed = λ R a z k. plain_gives R a (int_bits (length a) (pos (bits_value a) +ℤ z)) k (length-bits_of (length a) _);
   })
-  binary_gives span binary.Subtract S T U x y h i j = adds span binary.Subtract cons.difference_parts S T U x y h i j (record {
+  binary_gives span binary.Subtract S T U x y e h i j = adds span binary.Subtract cons.difference_parts S T U x y h i j (record {
     integers = λ ps qs a b k l. integer_gives (difference_parts ps qs) span (a -ℤ b) (difference_in av ps qs a b k l);
     bits = λ R a b k e. by_length (length a == length b) (bits_of (width_of R) []) _ _ e (plain_gives R a (int_bits (length a) (pos (bits_value a) -ℤ pos (bits_value b))) k (length-bits_of (length a) _));
     mixed = λ R a z k. plain_gives R a (int_bits (length a) (pos (bits_value a) -ℤ z)) k (length-bits_of (length a) _);
   })
-  binary_gives span binary.BitAnd S T U x y h i j = bitwise span binary.BitAnd S T U x y h i j (λ R a b k e. by_length (length a == length b) (bits_of (width_of R) []) _ _ e (plain_gives R a (zipped and_bit a b) k (zipped_length and_bit a b (number_of_lengths a b e))))
-  binary_gives span binary.BitOr S T U x y h i j = bitwise span binary.BitOr S T U x y h i j (λ R a b k e. by_length (length a == length b) (bits_of (width_of R) []) _ _ e (plain_gives R a (zipped or_bit a b) k (zipped_length or_bit a b (number_of_lengths a b e))))
-  binary_gives span binary.BitXor S T U x y h i j = bitwise span binary.BitXor S T U x y h i j (λ R a b k e. by_length (length a == length b) (bits_of (width_of R) []) _ _ e (plain_gives R a (zipped xor_bit a b) k (zipped_length xor_bit a b (number_of_lengths a b e))))
-  binary_gives span binary.DivideExact S T U x y h i j = on_integers span binary.DivideExact S T (integer_of []) U x y h i j (λ a b k l. divided_gives (integer_of []) span b (quotient span a) (λ n e p. exact_if (floor_mod a n == 0) (floor_div a n) span))
-  binary_gives span binary.Power S T U x y h i j = on_integers span binary.Power S T (integer_of []) U x y h i j (λ a b k l. raised_gives (integer_of []) span b (λ n. integer_value span (int_pow a n)) (λ n e. integer_gives [] span (int_pow a n) (inl refl)))
-  binary_gives span binary.Multiply S T U x y h i j = on_integers span binary.Multiply S T (integer_of (product_parts (constraint_of S) (constraint_of T))) U x y h i j (λ a b k l. integer_gives (product_parts (constraint_of S) (constraint_of T)) span (a *ℤ b) (product_in av (constraint_of S) (constraint_of T) a b k l))
-  binary_gives span binary.DivideFloor S T U x y h i j = on_integers span binary.DivideFloor S T (integer_of (quotient_parts (constraint_of S) (constraint_of T))) U x y h i j (λ a b k l. divided_gives (integer_of (quotient_parts (constraint_of S) (constraint_of T))) span b (λ n. Good (int (floor_div a n))) (λ n e p. (in_is_in (quotient_parts (constraint_of S) (constraint_of T)) av (floor_div a n) (subst (λ z. In av (floor_div a z) (quotient_parts (constraint_of S) (constraint_of T))) (ap unsigned_abs e) (quotient_in av (constraint_of S) (constraint_of T) a b k l)), tt, refl)))
-  binary_gives span binary.Modulo S T U x y h i j = on_integers span binary.Modulo S T (integer_of (modulo_parts (constraint_of S) (constraint_of T))) U x y h i j (λ a b k l. divided_gives (integer_of (modulo_parts (constraint_of S) (constraint_of T))) span b (λ n. Good (int (pos (floor_mod a n)))) (λ n e p. (in_is_in (modulo_parts (constraint_of S) (constraint_of T)) av (pos (floor_mod a n)) (modulo_in av (constraint_of S) (constraint_of T) a n (above n p) (subst (λ z. In av z (constraint_of T)) e l)), tt, refl)))
-  binary_gives span binary.ShiftLeft S T U x y h i j = on_integers span binary.ShiftLeft S T (integer_of (shifted_up_parts (constraint_of S) (constraint_of T))) U x y h i j (λ a b k l. raised_gives (integer_of (shifted_up_parts (constraint_of S) (constraint_of T))) span b (λ n. integer_value span (a *ℤ pos (2 ^ n))) (λ n e. integer_gives (shifted_up_parts (constraint_of S) (constraint_of T)) span (a *ℤ pos (2 ^ n)) (subst (λ z. In av (a *ℤ pos (2 ^ z)) (shifted_up_parts (constraint_of S) (constraint_of T))) (ap unsigned_abs e) (shifted_up_in av (constraint_of S) (constraint_of T) a b k l))))
-  binary_gives span binary.ShiftRight S T U x y h i j = on_integers span binary.ShiftRight S T (integer_of (shifted_down_parts (constraint_of S) (constraint_of T))) U x y h i j (λ a b k l. raised_gives (integer_of (shifted_down_parts (constraint_of S) (constraint_of T))) span b (λ n. Good (int (floor_div a (2 ^ n)))) (λ n e. (in_is_in (shifted_down_parts (constraint_of S) (constraint_of T)) av (floor_div a (2 ^ n)) (subst (λ z. In av (floor_div a (2 ^ z)) (shifted_down_parts (constraint_of S) (constraint_of T))) (ap unsigned_abs e) (shifted_down_in av (constraint_of S) (constraint_of T) a b k l)), tt, refl)))
-  binary_gives span binary.Concatenate S T U x y h i j = concatenates span S T U x y h i j
+  binary_gives span binary.BitAnd S T U x y e h i j = bitwise span binary.BitAnd S T U x y h i j (λ R a b k e. by_length (length a == length b) (bits_of (width_of R) []) _ _ e (plain_gives R a (zipped and_bit a b) k (zipped_length and_bit a b (number_of_lengths a b e))))
+  binary_gives span binary.BitOr S T U x y e h i j = bitwise span binary.BitOr S T U x y h i j (λ R a b k e. by_length (length a == length b) (bits_of (width_of R) []) _ _ e (plain_gives R a (zipped or_bit a b) k (zipped_length or_bit a b (number_of_lengths a b e))))
+  binary_gives span binary.BitXor S T U x y e h i j = bitwise span binary.BitXor S T U x y h i j (λ R a b k e. by_length (length a == length b) (bits_of (width_of R) []) _ _ e (plain_gives R a (zipped xor_bit a b) k (zipped_length xor_bit a b (number_of_lengths a b e))))
+  binary_gives span binary.DivideExact S T U x y e h i j = on_integers span binary.DivideExact S T (integer_of []) U x y h i j (λ a b k l. divided_gives (integer_of []) span b (quotient span a) (λ n e p. exact_if (floor_mod a n == 0) (floor_div a n) span))
+  binary_gives span binary.Power S T U x y e h i j = on_integers span binary.Power S T (integer_of []) U x y h i j (λ a b k l. raised_gives (integer_of []) span b (λ n. integer_value span (int_pow a n)) (λ n e. integer_gives [] span (int_pow a n) (inl refl)))
+  binary_gives span binary.Multiply S T U x y e h i j = on_integers span binary.Multiply S T (integer_of (product_parts (constraint_of S) (constraint_of T))) U x y h i j (λ a b k l. integer_gives (product_parts (constraint_of S) (constraint_of T)) span (a *ℤ b) (product_in av (constraint_of S) (constraint_of T) a b k l))
+  binary_gives span binary.DivideFloor S T U x y e h i j = on_integers span binary.DivideFloor S T (integer_of (quotient_parts (constraint_of S) (constraint_of T))) U x y h i j (λ a b k l. divided_gives (integer_of (quotient_parts (constraint_of S) (constraint_of T))) span b (λ n. Good (int (floor_div a n))) (λ n e p. (in_is_in (quotient_parts (constraint_of S) (constraint_of T)) av (floor_div a n) (subst (λ z. In av (floor_div a z) (quotient_parts (constraint_of S) (constraint_of T))) (ap unsigned_abs e) (quotient_in av (constraint_of S) (constraint_of T) a b k l)), tt, refl)))
+  binary_gives span binary.Modulo S T U x y e h i j = on_integers span binary.Modulo S T (integer_of (modulo_parts (constraint_of S) (constraint_of T))) U x y h i j (λ a b k l. divided_gives (integer_of (modulo_parts (constraint_of S) (constraint_of T))) span b (λ n. Good (int (pos (floor_mod a n)))) (λ n e p. (in_is_in (modulo_parts (constraint_of S) (constraint_of T)) av (pos (floor_mod a n)) (modulo_in av (constraint_of S) (constraint_of T) a n (above n p) (subst (λ z. In av z (constraint_of T)) e l)), tt, refl)))
+  binary_gives span binary.ShiftLeft S T U x y e h i j = on_integers span binary.ShiftLeft S T (integer_of (shifted_up_parts (constraint_of S) (constraint_of T))) U x y h i j (λ a b k l. raised_gives (integer_of (shifted_up_parts (constraint_of S) (constraint_of T))) span b (λ n. integer_value span (a *ℤ pos (2 ^ n))) (λ n e. integer_gives (shifted_up_parts (constraint_of S) (constraint_of T)) span (a *ℤ pos (2 ^ n)) (subst (λ z. In av (a *ℤ pos (2 ^ z)) (shifted_up_parts (constraint_of S) (constraint_of T))) (ap unsigned_abs e) (shifted_up_in av (constraint_of S) (constraint_of T) a b k l))))
+  binary_gives span binary.ShiftRight S T U x y e h i j = on_integers span binary.ShiftRight S T (integer_of (shifted_down_parts (constraint_of S) (constraint_of T))) U x y h i j (λ a b k l. raised_gives (integer_of (shifted_down_parts (constraint_of S) (constraint_of T))) span b (λ n. Good (int (floor_div a (2 ^ n)))) (λ n e. (in_is_in (shifted_down_parts (constraint_of S) (constraint_of T)) av (floor_div a (2 ^ n)) (subst (λ z. In av (floor_div a (2 ^ z)) (shifted_down_parts (constraint_of S) (constraint_of T))) (ap unsigned_abs e) (shifted_down_in av (constraint_of S) (constraint_of T) a b k l)), tt, refl)))
+  binary_gives span binary.Concatenate S T U x y e h i j = concatenates span S T U x y h i j
 
   only_in : (z : ℤ) → In av z (only_number z)
   only_in z = is_in_in (only_number z) av z (or_first (in_one z (record { low = z; high = z })) false (and_true (not_above z z) (not_above z z) (is_not_above z z (self z)) (is_not_above z z (self z))))

@@ -19,7 +19,7 @@ use Rattle.asl_syn.specs.declared.tree.Decl.TheVariants as dc
 use Rattle.asl_syn.specs.Layers.{TypeLayer}
 use Rattle.asl_rules.specs.Faults.{◌>>=◌, ◌>>◌, need, none_at, found_or, fitted, fault_of}
 use Rattle.asl_rules.specs.Tests.{Tests, IsRight}
-use Rattle.asl_rules.specs.Types.{Ty, Fields, Parts, integer_of, boolean, bits_of, enumeration_of, record_of, exception_of, tuple_of, array_of, named, no_field, field, no_part, part, structure, is_among, misfit, misfit_inside, misfit_of_parts, by_names, or_else, same_kind, parts_of, element_of, bits_wide}
+use Rattle.asl_rules.specs.Types.{Ty, Fields, Parts, integer_of, boolean, bits_of, enumeration_of, record_of, exception_of, tuple_of, array_of, named, no_field, field, no_part, part, structure, is_among, misfit, misfit_inside, misfit_of_parts, by_names, or_else, same_kind, parts_of, element_of, bits_wide, kind, kind_eq}
 use Rattle.asl_rules.specs.Closed.{closed}
 use Rattle.asl_rules.specs.Values.{Value, label}
 use Rattle.asl_rules.specs.Views.{viewed}
@@ -52,6 +52,9 @@ use Rattle.asl_rules.proofs.scopes.MoreNames.{well_formed_grows, shaped_grows, f
 use Rattle.asl_rules.proofs.scopes.Naming.{FieldsOnce, OnceIn, GoodNames, fields_once, type_formed}
 use Rattle.asl_rules.proofs.basics.Opening.{bounded_ok, type_opened, found_bitfield, found_part}
 use Rattle.asl_rules.proofs.scopes.WellTyped.{typed_formed, written_formed}
+use Rattle.asl_rules.proofs.values.SameKind.{equal_kinds}
+use Rattle.asl_rules.proofs.values.Satisfying.{fit_parts}
+use Rattle.asl_rules.proofs.values.KindsByNames.{kinds_by_names}
 
 -- ---- what names stand for
 
@@ -265,11 +268,16 @@ module _ (tests : Tests) (right : IsRight tests) (d D : List ℕ → Option Ty) 
       let w = type_good f.ty t.value t.first in
       subst (ShapedFields d) (ok_ok (field f.name.text t.value.ty r.value) Fs r.then) (w.has_name, w.shaped, fields_formed fs r.value r.first)
 
+  -- it is of the kind of each type that it is found to be of one kind with
+  abbrev OfKind : Ty → Type 0
+  OfKind T = (U : Ty) → Shaped d U → same_kind T U ≡ kind_eq (kind T) (kind U)
+
   -- the structure of a declared type
   record Structure (T : Ty) : Type 0 where
     pub shaped : Shaped D (structure T)
     pub unnamed : is_named (structure T) ≡ false
     pub fields_are : OnceIn (fields_of (structure T))
+    pub of_kind : OfKind (structure T)
 
   def_good : (name : List ℕ) (def : TypeDef) (T : Ty) (supers : List (List ℕ)) → def_rule tests name def G ≡ Ok T → LabelsIn def → D name ≡ Some (named name supers (structure T)) → Structure T
   def_good name (td.Alias t) T supers h u s =
@@ -277,10 +285,10 @@ module _ (tests : Tests) (right : IsRight tests) (d D : List ℕ → Option Ty) 
       let w = type_good t v.value v.first in
       let e = ok_ok v.value.ty T v.then in
       let p = structure_shaped d v.value.ty w.shaped in
-      subst Structure e (record { shaped = shaped_grows d D grow (structure v.value.ty) p.1; unnamed = p.0; fields_are = subst OnceIn (sym (same_fields v.value.ty)) (written_once t v.value v.first) })
+      subst Structure e (record { shaped = shaped_grows d D grow (structure v.value.ty) p.1; unnamed = p.0; fields_are = subst OnceIn (sym (same_fields v.value.ty)) (written_once t v.value v.first); of_kind = λ U q. kinds_by_names d ready.declared (structure v.value.ty) U p.1 q })
   def_good name (td.Labels span is) T supers h u s =
       let e = ok_ok (enumeration_of name (labels is)) T h in
-      subst Structure e (record { shaped = (record { supers = supers; stands = s ∙ ap (λ U. Some (named name supers (structure U))) (sym e) }, u); unnamed = refl; fields_are = tt })
+      subst Structure e (record { shaped = (record { supers = supers; stands = s ∙ ap (λ U. Some (named name supers (structure U))) (sym e) }, u); unnamed = refl; fields_are = tt; of_kind = λ U q. refl })
   def_good name (td.Record span fs) T supers h u s =
       let f = bind_ok (fields_written tests fs G) _ T h in
       let n = then_ok (need (once fs []) T15 span) _ T f.then in
@@ -289,6 +297,7 @@ module _ (tests : Tests) (right : IsRight tests) (d D : List ℕ → Option Ty) 
         shaped = (record { supers = supers; stands = s ∙ ap (λ U. Some (named name supers (structure U))) (sym e) }, fields_grow d D grow f.value (fields_formed fs f.value f.first));
         unnamed = refl;
         fields_are = fields_written_once tests G fs f.value [] (need_ok (once fs []) T15 span tt n.first) f.first;
+        of_kind = λ U q. refl;
       })
   def_good name (td.Exception span fs) T supers h u s =
       let f = bind_ok (fields_written tests fs G) _ T h in
@@ -298,23 +307,26 @@ module _ (tests : Tests) (right : IsRight tests) (d D : List ℕ → Option Ty) 
         shaped = (record { supers = supers; stands = s ∙ ap (λ U. Some (named name supers (structure U))) (sym e) }, fields_grow d D grow f.value (fields_formed fs f.value f.first));
         unnamed = refl;
         fields_are = fields_written_once tests G fs f.value [] (need_ok (once fs []) T15 span tt n.first) f.first;
+        of_kind = λ U q. refl;
       })
 
   -- the tests of right tests are one
   fits : (S T : Ty) → misfit tests S T ≡ None → Fits S T
   fits S T h t r = misfit_any t tests.limit S T ∙ ap (λ (q : Tests). misfit q S T) (one_test (record t { limit = tests.limit }) tests (record { same_yes = r.same_yes; same_all = r.same_all; below_yes = r.below_yes; below_all = r.below_all }) right refl) ∙ h
 
-  supers_good : (o : Option Ident) (T : Ty) (supers : List (List ℕ)) → supertype_rule tests o T G ≡ Ok supers → Nearest D (structure T) supers
-  supers_good None T supers h = subst (Nearest D (structure T)) (ok_ok [] supers h) tt
-  supers_good (Some u) T supers h =
+  supers_good : (o : Option Ident) (T : Ty) (supers : List (List ℕ)) → OfKind (structure T) → supertype_rule tests o T G ≡ Ok supers → Nearest D (structure T) supers
+  supers_good None T supers of_kind h = subst (Nearest D (structure T)) (ok_ok [] supers h) tt
+  supers_good (Some u) T supers of_kind h =
       let v = bind_ok (found_or (type_of_name u.text names) T02 u.span) (λ U. need (is_none (misfit tests (structure T) (structure U))) T25 u.span >> Ok (reached u.text U)) supers h in
       let n = then_ok (need (is_none (misfit tests (structure T) (structure v.value))) T25 u.span) (Ok (reached u.text v.value)) supers v.then in
       let stands = found_ok (type_of_name u.text names) T02 u.span v.value v.first in
       let by = ready.named_by u.text v.value stands in
       let m = none_is (misfit tests (structure T) (structure v.value)) (need_ok (is_none (misfit tests (structure T) (structure v.value))) T25 u.span tt n.first) in
       let w : WellFormed d (named u.text by.0 by.1) = subst (WellFormed d) by.2 (type_formed d names u.text ready.good v.value stands) in
+      let f : misfit tests (structure T) by.1 ≡ None = sym (ap (λ V. misfit tests (structure T) V) (ap structure by.2 ∙ structure_is by.1 w.shaped.0)) ∙ m in
+      let k : kind (structure T) ≡ kind by.1 = equal_kinds (kind (structure T)) (kind by.1) (sym (of_kind by.1 w.shaped.2) ∙ (fit_parts tests (structure T) by.1 f).0) in
       subst (Nearest D (structure T)) (sym (ap (reached u.text) by.2) ∙ ok_ok (reached u.text v.value) supers n.then)
-      (by.1, grow.kept u.text (named u.text by.0 by.1) (ready.is u.text ∙ stands ∙ ap Some by.2), fits (structure T) by.1 (sym (ap (λ V. misfit tests (structure T) V) (ap structure by.2 ∙ structure_is by.1 w.shaped.0)) ∙ m))
+      (by.1, grow.kept u.text (named u.text by.0 by.1) (ready.is u.text ∙ stands ∙ ap Some by.2), fits (structure T) by.1 f, k)
 
   labels_well : (name : List ℕ) (N : Ty) (is : List Ident) → WellFormed D N → ((l : List ℕ) → is_among l (labels is) ≡ true → InType D no_atoms (label name l) N) → AllWell D (map (λ (i : Ident). label_name i.text N (label name i.text)) is)
   labels_well name N [] w f = tt
@@ -337,7 +349,7 @@ module _ (tests : Tests) (right : IsRight tests) (d D : List ℕ → Option Ty) 
       let first : standing_of t.name.text (type_entries t N) ≡ Some (TypeName N) = ap (λ b. cond b (Some (TypeName N)) (standing_of t.name.text (label_entries t.def t.name.text N))) (name_is t.name.text) in
       let stands : D t.name.text ≡ Some N = own t.name.text N (sym (ap (standing_of t.name.text) e) ∙ first) in
       let g = def_good t.name.text t.def v.value s.value v.first u stands in
-      let w : WellFormed D N = record { shaped = (g.unnamed, record { stands = stands; nearest = supers_good t.supertype v.value s.value s.first }, g.shaped); has_name = refl } in
+      let w : WellFormed D N = record { shaped = (g.unnamed, record { stands = stands; nearest = supers_good t.supertype v.value s.value g.of_kind s.first }, g.shaped); has_name = refl } in
       subst (AllWell D) e ((w, g.fields_are, (s.value, structure v.value, refl)), def_well t.name.text t.def v.value s.value v.first w)
 
   -- ---- storage

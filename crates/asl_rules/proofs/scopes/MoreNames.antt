@@ -1,12 +1,12 @@
 -- Types stay well-formed where more names are declared, and how a new name is declared.
 use Rattle.std.proofs.Common.{◌≡◌, ℕ, ◌⊎◌, ⊎_elim, false, List, [], ◌∷◌, Option, Some, refl}
-use Rattle.asl_rules.specs.Types.{Ty, Fields, Parts, integer_of, boolean, bits_of, enumeration_of, record_of, exception_of, tuple_of, array_of, named, no_field, field, no_part, part, structure}
+use Rattle.asl_rules.specs.Types.{Ty, Fields, Parts, integer_of, boolean, bits_of, enumeration_of, record_of, exception_of, tuple_of, array_of, named, no_field, field, no_part, part, kind, structure}
 use Rattle.asl_rules.specs.Values.{Value, Values, FieldValues, int, bool, bits_with, label, record_with, exception_with, tuple_with, array_with, no_value, value, no_value_of, value_of_field}
 use Rattle.asl_rules.specs.WellFormed.{Built, BuiltAll, BuiltFields, SeenAs, Declared, Extends, Fits, Fixed, Nearest, Shaped, ShapedFields, ShapedParts, WellDeclared, WellFormed, Written, is_named}
 
 nearest_grows : (d e : List ℕ → Option Ty) → Extends d e → (T : Ty) (ns : List (List ℕ)) → Nearest d T ns → Nearest e T ns
 nearest_grows d e g T [] r = tt
-nearest_grows d e g T (n ∷ ns) r = (r.0, g.kept n (named n ns r.0) r.1, r.2)
+nearest_grows d e g T (n ∷ ns) r = (r.0, g.kept n (named n ns r.0) r.1, r.2, r.3)
 
 declared_grows : (d e : List ℕ → Option Ty) → Extends d e → (n : List ℕ) (supers : List (List ℕ)) (T : Ty) → Declared d n supers T → Declared e n supers T
 declared_grows d e g n supers T v = record { stands = g.kept n (named n supers T) v.stands; nearest = nearest_grows d e g T supers v.nearest }
@@ -65,12 +65,12 @@ mutual
 pub declares : (d e : List ℕ → Option Ty) → Extends d e → WellDeclared d → ((n : List ℕ) (T : Ty) → e n ≡ Some T → (d n ≡ Some T) ⊎ (WellFormed e T × Fixed T)) → WellDeclared e
 declares d e g w f = record { each = λ n T h. ⊎_elim (λ i. well_formed_grows d e g T (w.each n T i)) (λ i. i.0) (f n T h); fixed = λ n T h. ⊎_elim (λ i. w.fixed n T i) (λ i. i.1) (f n T h) }
 
--- a name with no supertype, and one with a supertype whose structure its own fits
+-- a name with no supertype, and one with a supertype whose structure its own fits, and of whose kind it is
 pub first_of_its_kind : (e : List ℕ → Option Ty) (n : List ℕ) (T : Ty) → e n ≡ Some (named n [] T) → is_named T ≡ false → Shaped e T → WellFormed e (named n [] T)
 first_of_its_kind e n T h u s = record { shaped = (u, record { stands = h; nearest = tt }, s); has_name = refl }
 
-pub subtype_of : (e : List ℕ → Option Ty) (n m : List ℕ) (others : List (List ℕ)) (T U : Ty) → e n ≡ Some (named n (m ∷ others) T) → e m ≡ Some (named m others U) → is_named T ≡ false → Shaped e T → Fits T U → WellFormed e (named n (m ∷ others) T)
-subtype_of e n m others T U h i u s f = record { shaped = (u, record { stands = h; nearest = (U, i, f) }, s); has_name = refl }
+pub subtype_of : (e : List ℕ → Option Ty) (n m : List ℕ) (others : List (List ℕ)) (T U : Ty) → e n ≡ Some (named n (m ∷ others) T) → e m ≡ Some (named m others U) → is_named T ≡ false → Shaped e T → Fits T U → kind T ≡ kind U → WellFormed e (named n (m ∷ others) T)
+subtype_of e n m others T U h i u s f k = record { shaped = (u, record { stands = h; nearest = (U, i, f, k) }, s); has_name = refl }
 
 -- the structure of a type
 pub structure_shaped : (d : List ℕ → Option Ty) (T : Ty) → Shaped d T → (is_named (structure T) ≡ false) × Shaped d (structure T)

@@ -21,9 +21,9 @@ use Rattle.asl_rules.specs.Shapes.{pattern_and}
 use Rattle.asl_rules.specs.Shaped.{pattern_parts, exprs_in_patterns, shapes_of_patterns}
 use Rattle.asl_rules.specs.Trees as tree
 use Rattle.asl_rules.specs.Trees.{Tree, Act, TreeFunc}
-use Rattle.asl_rules.specs.Typing.{Operand, trees_from}
+use Rattle.asl_rules.specs.Typing.{Operand, trees_from, Typed}
 use Rattle.asl_rules.specs.Patterns.{Matched, pattern_shapes, pattern_trees}
-use Rattle.asl_rules.specs.Exprs.{found_pattern}
+use Rattle.asl_rules.specs.Exprs.{found_pattern, typed}
 use Rattle.asl_rules.specs.Acting.{Done, FoundStmt, FoundOtherwise, Listed, LastListed, done, block, last_block, operand_of, reading_scope}
 use Rattle.asl_rules.specs.Branches.{FoundBranch, FoundAlternative, FoundCatcher, TypedAlternative, all_patterns, where_rule, alternative_rule, alternatives as alternatives_rule, where_condition, where_conditions, alternative_effects, alternative_trees, tree_in, case_rule}
 use Rattle.asl_rules.specs.Stmts.{found_stmt, stmt_layer_rule, alternative_found, catcher_found, branch_found, otherwise_found}
@@ -43,13 +43,15 @@ use Rattle.asl_rules.specs.TypedMeaning.{BareCore, Runs, in_bare, acts_of, list_
 use Rattle.asl_rules.specs.Erasure.{erased}
 use Rattle.asl_rules.proofs.basics.Inversions.{ok_ok, bind_ok, then_ok, need_ok}
 use Rattle.asl_rules.proofs.basics.Tests.{or_first, or_second}
-use Rattle.asl_rules.proofs.scopes.Naming.{WellNamed}
+use Rattle.asl_rules.proofs.scopes.Naming.{WellNamed, scope_good, well_declared}
 use Rattle.asl_rules.proofs.expressions.Claims.{Here, Asked, StmtClaim}
 use Rattle.asl_rules.proofs.expressions.TreePlans.{AllAsked, AllGive, operand, truth_same, all_same, list_from, append_nil}
-use Rattle.asl_rules.proofs.expressions.MatchForms.{Decided, decided_then, asks_both, split, pattern_says}
+use Rattle.asl_rules.proofs.expressions.MatchForms.{Decided, decided_then, asks_both, split, Known, pattern_says}
 use Rattle.asl_rules.proofs.expressions.ExprForms.{env}
 use Rattle.asl_rules.proofs.statements.StmtForms.{here, in_class, Held, OutAct, ActSame, Acted, acted, operand_typed, ended_is}
 use Rattle.asl_rules.proofs.statements.ListForms.{moved, block_same, fall_same}
+use Rattle.asl_rules.specs.WellFormed.{Shaped, WellFormed}
+use Rattle.asl_rules.proofs.scopes.WellTyped.{FormedSubs, typed_formed}
 
 module _ (tests : Tests) (right : IsRight tests) (base : List Entry) (subs : List Signature) (H : Here) where
   -- the patterns of an alternative
@@ -63,13 +65,13 @@ module _ (tests : Tests) (right : IsRight tests) (base : List Entry) (subs : Lis
   none_left [] rest g = refl
   none_left (x ∷ xs) rest g = absurd g
 
-  patterns_say : (ps : List Pattern) (T : Ty) (ms : List Matched) → all_patterns tests ps T H.scope ≡ Ok ms → PatternsSay ps T ms
-  patterns_say [] T ms h = subst (PatternsSay [] T) (ok_ok [] ms h) (record { asked = []; shapes_are = refl; asks = tt; decides = λ x xs rest i g. none_left xs rest g })
-  patterns_say (p ∷ ps) T ms h =
+  patterns_say : (ps : List Pattern) (T : Ty) (ms : List Matched) → Known tests right base subs H → Shaped (types_in base) T → all_patterns tests ps T H.scope ≡ Ok ms → PatternsSay ps T ms
+  patterns_say [] T ms known of_type h = subst (PatternsSay [] T) (ok_ok [] ms h) (record { asked = []; shapes_are = refl; asks = tt; decides = λ x xs rest i g. none_left xs rest g })
+  patterns_say (p ∷ ps) T ms known of_type h =
       let s = bind_ok (found_pattern tests p T (with_class H.scope Pure)) _ ms h in
       let r = bind_ok (all_patterns tests ps T H.scope) _ ms s.then in
-      let a = pattern_says tests right base subs H p T s.value s.first in
-      let b = patterns_say ps T r.value r.first in
+      let a = pattern_says tests right base subs H p T s.value known of_type s.first in
+      let b = patterns_say ps T r.value known of_type r.first in
       subst (PatternsSay (p ∷ ps) T) (ok_ok (s.value ∷ r.value) ms r.then)
       (record {
         asked = a.asked ++ b.asked;
@@ -161,15 +163,26 @@ module _ (tests : Tests) (right : IsRight tests) (ds : List Decl) (base : List E
   decided_same j b (Bad (Faulted code span)) c x y u v d h k = (refl, refl)
   decided_same j b (Bad (Stuck mistake span)) c x y u v d h k = absurd d
 
+  -- the types of expressions, and of those in patterns
+  formed_at : (j : StmtClaim) (c : Core) → HeldAt j c → (e : Expr) (S : Typed) → typed tests e j.body.scope ≡ Ok S → WellFormed (types_in base) S.ty
+  formed_at j c k e S h =
+      typed_formed tests right (types_in base) (well_declared base w) e j.body.scope S (scope_good j.present base j.body.scope.names c w k.at.agrees) (subst (FormedSubs tests right (types_in base) (well_declared base w)) (sym k.at.subs_are) k.subs_formed) h
+
+  known_at : (j : StmtClaim) (c : Core) → HeldAt j c → Known tests right base subs (spot j)
+  known_at j c k = record {
+    declared = well_declared base w;
+    formed = λ e S h. typed_formed tests right (types_in base) (well_declared base w) e (with_class j.body.scope Pure) S (scope_good j.present base j.body.scope.names c w k.at.agrees) (subst (FormedSubs tests right (types_in base) (well_declared base w)) (sym k.at.subs_are) k.subs_formed) h;
+  }
+
   -- an alternative, and those behind it
-  alternative_same : (j : StmtClaim) (b : Bool) (span : Span) (v : Value) (T : Ty) (l : st.Alternative-F Alternative Catcher ElseIf Otherwise Stmt) (x : TypedAlternative) (rest : Core → Does Exit) (others : BareCore → Runs Exit) (c : Core) → alternative_rule tests (alternative_found (alternative_opened tests l)) T j.body ≡ Ok x → where_condition x.condition ≡ Ok tt → InType (types_in base) j.present v T → HeldAt j c → j.body.scope.names ≡ j.done.names → (alternative_falls (alternative_closed l) ≡ true → b ≡ true) →
+  alternative_same : (j : StmtClaim) (b : Bool) (span : Span) (v : Value) (T : Ty) (l : st.Alternative-F Alternative Catcher ElseIf Otherwise Stmt) (x : TypedAlternative) (rest : Core → Does Exit) (others : BareCore → Runs Exit) (c : Core) → alternative_rule tests (alternative_found (alternative_opened tests l)) T j.body ≡ Ok x → where_condition x.condition ≡ Ok tt → Shaped (types_in base) T → InType (types_in base) j.present v T → HeldAt j c → j.body.scope.names ≡ j.done.names → (alternative_falls (alternative_closed l) ≡ true → b ≡ true) →
       ((c1 : Core) → HeldAt j c1 → Both j b (rest c1) (others (erased c1))) →
       Both j b (alternative frames span v (choice_layer (env tests right ds base subs funcs w) l) rest c) (alternative in_bare span v (record { exprs = list_of (trees_from (pattern_trees x.patterns)); matches = is_matched tests.limit (pattern_shapes x.patterns); condition = tree_in x.condition; body = acts_of x.body.acts }) others (erased c))
-  alternative_same j b span v T (st.When ps e ss) x rest others c h k i held names f next =
+  alternative_same j b span v T (st.When ps e ss) x rest others c h k of_type i held names f next =
       let m = bind_ok (all_patterns tests ps T j.body.scope) _ x h in
       let o = bind_ok (where_rule tests e j.body.scope) _ x m.then in
       let l = bind_ok (block (map (found_stmt tests) ss) j.body) _ x o.then in
-      let q = patterns_say tests right base subs (spot j) ps T m.value m.first in
+      let q = patterns_say tests right base subs (spot j) ps T m.value (known_at j c held) of_type m.first in
       let C : Core → Does Exit = alternative frames span v (choice_layer (env tests right ds base subs funcs w) (st.When ps e ss)) rest in
       subst (λ (z : TypedAlternative). where_condition z.condition ≡ Ok tt → Both j b (C c) (alternative in_bare span v (record { exprs = list_of (trees_from (pattern_trees z.patterns)); matches = is_matched tests.limit (pattern_shapes z.patterns); condition = tree_in z.condition; body = acts_of z.body.acts }) others (erased c))) (ok_ok (record { patterns = m.value; condition = o.value; body = l.value }) x l.then)
       (λ g. subst (λ ts. Both j b (C c) (alternative in_bare span v (record { exprs = ts; matches = is_matched tests.limit (pattern_shapes m.value); condition = tree_in o.value; body = acts_of l.value.acts }) others (erased c))) (sym (list_from (pattern_trees m.value)))
@@ -191,14 +204,14 @@ module _ (tests : Tests) (right : IsRight tests) (ds : List Decl) (base : List E
       subst (λ (z : LastListed). Both j b (no_match frames span (Some ss) c) (no_match in_bare span (last_of z.last) (erased c))) (ok_ok (record { effect = m.value.effect; last = tree.otherwise m.value.acts }) l m.then)
       (block_same tests right ds base subs funcs w j b m.value ss c m.first held names (λ g. f (fall_same ss ∙ g)))
 
-  alternatives_same : (j : StmtClaim) (b : Bool) (span : Span) (v : Value) (T : Ty) (alts : List Alternative) (xs : List TypedAlternative) (o : Otherwise) (l : LastListed) (c : Core) → alternatives_rule tests (map (found_alternative tests) alts) T j.body ≡ Ok xs → where_conditions xs ≡ Ok tt → last_block (found_otherwise tests o) j.body ≡ Ok l → InType (types_in base) j.present v T → HeldAt j c → j.body.scope.names ≡ j.done.names →
+  alternatives_same : (j : StmtClaim) (b : Bool) (span : Span) (v : Value) (T : Ty) (alts : List Alternative) (xs : List TypedAlternative) (o : Otherwise) (l : LastListed) (c : Core) → alternatives_rule tests (map (found_alternative tests) alts) T j.body ≡ Ok xs → where_conditions xs ≡ Ok tt → last_block (found_otherwise tests o) j.body ≡ Ok l → Shaped (types_in base) T → InType (types_in base) j.present v T → HeldAt j c → j.body.scope.names ≡ j.done.names →
       (any_falls (map alternative_fallen alts) ≡ true → b ≡ true) → (otherwise_fallen o ≡ true → b ≡ true) → Both j b (alternatives frames (choice_in (env tests right ds base subs funcs w)) span v alts (otherwise_in o) c) (alternatives in_bare itself span v (choices_of tests.limit (alternative_trees xs)) (last_of l.last) (erased c))
-  alternatives_same j b span v T [] xs o l c h k g i held names f n =
+  alternatives_same j b span v T [] xs o l c h k g of_type i held names f n =
       let u : found_otherwise tests o ≡ otherwise_found (otherwise_opened tests (out-Otherwise o)) = fold_out-Otherwise FoundAlternative FoundCatcher FoundBranch FoundOtherwise FoundStmt alternative_found catcher_found branch_found otherwise_found (stmt_layer_rule tests) o in
       let y : otherwise_fallen o ≡ otherwise_falls (otherwise_closed (out-Otherwise o)) = fold_out-Otherwise Bool Bool Bool Bool Bool alternative_falls catcher_falls branch_falls otherwise_falls falls_layer o in
       subst (λ z. Both j b (alternatives frames (choice_in (env tests right ds base subs funcs w)) span v [] (otherwise_in o) c) (alternatives in_bare itself span v (choices_of tests.limit (alternative_trees z)) (last_of l.last) (erased c))) (ok_ok [] xs h)
       (last_same j b span (out-Otherwise o) l c (sym (ap (λ z. last_block z j.body) u) ∙ g) held names (λ z. n (y ∙ z)))
-  alternatives_same j b span v T (a ∷ alts) xs o l c h k g i held names f n =
+  alternatives_same j b span v T (a ∷ alts) xs o l c h k g of_type i held names f n =
       let x = bind_ok (alternative_rule tests (found_alternative tests a) T j.body) _ xs h in
       let r = bind_ok (alternatives_rule tests (map (found_alternative tests) alts) T j.body) _ xs x.then in
       let u : found_alternative tests a ≡ alternative_found (alternative_opened tests (out-Alternative a)) = fold_out-Alternative FoundAlternative FoundCatcher FoundBranch FoundOtherwise FoundStmt alternative_found catcher_found branch_found otherwise_found (stmt_layer_rule tests) a in
@@ -206,8 +219,8 @@ module _ (tests : Tests) (right : IsRight tests) (ds : List Decl) (base : List E
       subst (λ z. where_conditions z ≡ Ok tt → Both j b (alternatives frames (choice_in (env tests right ds base subs funcs w)) span v (a ∷ alts) (otherwise_in o) c) (alternatives in_bare itself span v (choices_of tests.limit (alternative_trees z)) (last_of l.last) (erased c))) (ok_ok (x.value ∷ r.value) xs r.then)
       (λ q. let p = then_ok (where_condition x.value.condition) (where_conditions r.value) tt q in
       alternative_same j b span v T (out-Alternative a) x.value (alternatives frames (choice_in (env tests right ds base subs funcs w)) span v alts (otherwise_in o)) (alternatives in_bare itself span v (choices_of tests.limit (alternative_trees r.value)) (last_of l.last)) c
-      (sym (ap (λ z. alternative_rule tests z T j.body) u) ∙ x.first) p.first i held names (λ z. f (or_first (alternative_fallen a) (any_falls (map alternative_fallen alts)) (y ∙ z)))
-      (λ c1 m. alternatives_same j b span v T alts r.value o l c1 r.first p.then g i m names (λ z. f (or_second (alternative_fallen a) (any_falls (map alternative_fallen alts)) z)) n)) k
+      (sym (ap (λ z. alternative_rule tests z T j.body) u) ∙ x.first) p.first of_type i held names (λ z. f (or_first (alternative_fallen a) (any_falls (map alternative_fallen alts)) (y ∙ z)))
+      (λ c1 m. alternatives_same j b span v T alts r.value o l c1 r.first p.then g of_type i m names (λ z. f (or_second (alternative_fallen a) (any_falls (map alternative_fallen alts)) z)) n)) k
 
   pub case_acted : (j : StmtClaim) (span : Span) (e : Expr) (alts : List Alternative) (o : Otherwise) (c : Core) → case_rule tests span e (map (found_alternative tests) alts) (found_otherwise tests o) j.body ≡ Ok j.done → HeldAt j c → Acted tests right ds base subs funcs w j (any_falls (map alternative_fallen alts) || otherwise_fallen o) (st.Case span e alts o) c
   case_acted j span e alts o c h held =
@@ -223,4 +236,4 @@ module _ (tests : Tests) (right : IsRight tests) (ds : List Decl) (base : List E
       acted tests right ds base subs funcs w j b (st.Case span e alts o) c (done G.names k act) (ended_is G.class span true k G.names act j.done p.then) refl
       (λ i. let names = ap (λ (z : Done). z.names) i in
       operand tests right base subs (spot j) (OutAct tests right ds base subs funcs w j b) e S c (λ v c1. alternatives frames (choice_in (env tests right ds base subs funcs w)) span v alts (otherwise_in o) c1) (λ v c1. alternatives in_bare itself span v (choices_of tests.limit (alternative_trees xs.value)) (last_of l.value.last) c1) (operand_typed tests e G t.value t.first) held.at
-      (λ v c1 y a. alternatives_same j b span v S.ty alts xs.value o l.value c1 xs.first p.first l.first y (moved tests right ds base subs funcs w j c c1 held a) names (or_first (any_falls (map alternative_fallen alts)) (otherwise_fallen o)) (or_second (any_falls (map alternative_fallen alts)) (otherwise_fallen o))))
+      (λ v c1 y a. alternatives_same j b span v S.ty alts xs.value o l.value c1 xs.first p.first l.first (formed_at j c held e S (operand_typed tests e G t.value t.first)).shaped y (moved tests right ds base subs funcs w j c c1 held a) names (or_first (any_falls (map alternative_fallen alts)) (otherwise_fallen o)) (or_second (any_falls (map alternative_fallen alts)) (otherwise_fallen o))))

@@ -2,7 +2,7 @@
 use Rattle.std.proofs.Common.{◌≡◌, ℕ, ◌&&◌, Bool, true, false, List, [], ◌∷◌, Option, Some, None, ℤ, length, refl, sym, ap, ◌∙◌, subst}
 use Rattle.std.specs.Prelude.{◌==◌}
 use Rattle.std.specs.Str.{bytes_eq}
-use Rattle.asl_rules.specs.Types.{Ty, Fields, Parts, Kind, Kinds, integer_of, boolean, bits_of, enumeration_of, record_of, exception_of, tuple_of, array_of, named, no_part, part, integers, booleans, bitvectors, enumerations, records, exceptions, tuples, arrays, kind, kinds, kind_eq, kinds_eq, same_kind, constraint_of, width_of, is_among, reaches, by_names, parts_of, element_of, misfit_inside, misfit_of_parts, misfit}
+use Rattle.asl_rules.specs.Types.{Ty, Fields, Parts, Kind, Kinds, integer_of, boolean, bits_of, enumeration_of, record_of, exception_of, tuple_of, array_of, named, no_part, part, integers, booleans, bitvectors, enumerations, records, exceptions, tuples, arrays, kind, kinds, kind_eq, kinds_eq, constraint_of, width_of, is_among, reaches, by_names, parts_of, element_of, misfit_inside, misfit_of_parts, misfit}
 use Rattle.asl_rules.specs.Types.{View}
 use Rattle.asl_rules.specs.Closed.{is_in, width_at, constraint_at}
 use Rattle.asl_rules.specs.Tests.{Tests, IsRight}
@@ -16,29 +16,11 @@ use Rattle.asl_rules.proofs.basics.Tests.{no, some_same, both, and_true, either,
 use Rattle.asl_rules.proofs.values.SameKind.{equal_kinds, tests_equal, same_number}
 use Rattle.asl_rules.proofs.values.Shapes.{named_parts, named_from}
 use Rattle.asl_rules.proofs.values.KindOf.{has_kind}
+use Rattle.asl_rules.proofs.values.KindsByNames.{one_type, one_structure, one_supers, declared_of, reached_kind, one_kind}
 use Rattle.asl_rules.proofs.values.Satisfying.{or_both, it_holds, fit_parts}
 
 module _ (av : Assignment) (tests : Tests) (right : IsRight tests) where
   -- ---- what declarations say
-
-  stands_for : Ty → Ty
-  stands_for (named n supers T) = T
-  stands_for T = T
-
-  supers_of : Ty → List (List ℕ)
-  supers_of (named n supers T) = supers
-  supers_of T = []
-
-  pub one_type : (n : List ℕ) (s r : List (List ℕ)) (m : List ℕ) (S T : Ty) (o : Option Ty) → o ≡ Some (named n s S) → o ≡ Some (named m r T) → named n s S ≡ named m r T
-  one_type n s r m S T o g h = some_same (named n s S) (named m r T) (sym g ∙ h)
-
-  pub one_structure : (n : List ℕ) (s r : List (List ℕ)) (m : List ℕ) (S T : Ty) → named n s S ≡ named m r T → S ≡ T
-  unfolding stands_for
-  one_structure n s r m S T h = ap stands_for h
-
-  one_supers : (n : List ℕ) (s r : List (List ℕ)) (m : List ℕ) (S T : Ty) → named n s S ≡ named m r T → s ≡ r
-  unfolding supers_of
-  one_supers n s r m S T h = ap supers_of h
 
   pub written_once : (d : List ℕ → Option Ty) (n m : List ℕ) (S T : Ty) → n ≡ m → Written d n S → Written d m T → S ≡ T
   written_once d n m S T e v w = one_structure n v.supers w.supers m S T (one_type n v.supers w.supers m S T (d m) (ap d (sym e) ∙ v.stands) w.stands)
@@ -51,9 +33,6 @@ module _ (av : Assignment) (tests : Tests) (right : IsRight tests) where
     pub ty : Ty
     pub stands : d c ≡ Some (named c others ty)
     pub among : (e : List ℕ) → is_among e others ≡ true → is_among e ns ≡ true
-
-  pub declared_of : (d : List ℕ → Option Ty) → WellDeclared d → (n : List ℕ) (s : List (List ℕ)) (T : Ty) → d n ≡ Some (named n s T) → Declared d n s T
-  declared_of d w n s T e = (w.each n (named n s T) e).shaped.1
 
   reached_at : (d : List ℕ → Option Ty) → WellDeclared d → (ns : List (List ℕ)) (T : Ty) (c : List ℕ) → Nearest d T ns → is_among c ns ≡ true → Reached d ns c
   reached_at d w [] T c r h = no h
@@ -106,7 +85,7 @@ module _ (av : Assignment) (tests : Tests) (right : IsRight tests) where
   exception_belongs d T n fs x w t u k h = no k
 
   -- the structures of two names of one kind of exceptions are one
-  pub exception_inside : (d : List ℕ → Option Ty) (S T : Ty) (own : List ℕ) (s : List (List ℕ)) (i : List ℕ) (xs : FieldValues) → Shaped d S → Shaped d T → is_named S ≡ false → is_named T ≡ false → same_kind S T ≡ true → has_type av (exception_with own s i xs) S ≡ true → has_type av (exception_with own s i xs) T ≡ true
+  pub exception_inside : (d : List ℕ → Option Ty) (S T : Ty) (own : List ℕ) (s : List (List ℕ)) (i : List ℕ) (xs : FieldValues) → Shaped d S → Shaped d T → is_named S ≡ false → is_named T ≡ false → kind_eq (kind S) (kind T) ≡ true → has_type av (exception_with own s i xs) S ≡ true → has_type av (exception_with own s i xs) T ≡ true
   exception_inside d (exception_of n fs) T own s i xs v t a u k h = exception_belongs d T n fs (exception_with own s i xs) v.0 t u k h
   exception_inside d (named n supers S) T own s i xs v t a u k h = no (sym a)
   exception_inside d S T own s i xs v t a u k h = no h
@@ -151,12 +130,12 @@ module _ (av : Assignment) (tests : Tests) (right : IsRight tests) where
 
   -- ---- labels, records and exceptions
 
-  label_kept : (d : List ℕ → Option Ty) (S T : Ty) (i l : List ℕ) → Shaped d S → Shaped d T → same_kind S T ≡ true → has_type av (label i l) S ≡ true → has_type av (label i l) T ≡ true
+  label_kept : (d : List ℕ → Option Ty) (S T : Ty) (i l : List ℕ) → Shaped d S → Shaped d T → kind_eq (kind S) (kind T) ≡ true → has_type av (label i l) S ≡ true → has_type av (label i l) T ≡ true
   label_kept d (enumeration_of n labels) T i l s t k h = label_belongs d T n labels i l s.0 t k h
   label_kept d (named a supers S) T i l s t k h = label_kept d S T i l s.2 t k h
   label_kept d S T i l s t k h = no h
 
-  record_kept : (d : List ℕ → Option Ty) (S T : Ty) (i : List ℕ) (xs : FieldValues) → Shaped d S → Shaped d T → same_kind S T ≡ true → has_type av (record_with i xs) S ≡ true → has_type av (record_with i xs) T ≡ true
+  record_kept : (d : List ℕ → Option Ty) (S T : Ty) (i : List ℕ) (xs : FieldValues) → Shaped d S → Shaped d T → kind_eq (kind S) (kind T) ≡ true → has_type av (record_with i xs) S ≡ true → has_type av (record_with i xs) T ≡ true
   record_kept d (record_of n fs) T i xs s t k h = record_belongs d T n fs i xs s.0 t k h
   record_kept d (named a supers S) T i xs s t k h = record_kept d S T i xs s.2 t k h
   record_kept d S T i xs s t k h = no h
@@ -167,7 +146,7 @@ module _ (av : Assignment) (tests : Tests) (right : IsRight tests) where
       (λ e. subst (λ n. reaches own s n ≡ true) (same_name a c e) h)
       (λ e. or_second (bytes_eq own c) (is_among c s) (reaches_on d w own a c s supers b.0 S (declared_of d w own s b.0 b.1) v h e))
 
-  exception_from : (d : List ℕ → Option Ty) → WellDeclared d → (a : List ℕ) (supers : List (List ℕ)) (S T : Ty) (own : List ℕ) (s : List (List ℕ)) (i : List ℕ) (xs : FieldValues) → Shaped d (named a supers S) → Shaped d T → ((V : Ty) × (d own ≡ Some (named own s V))) → is_nameless_exception T ≡ false → kind_eq (exceptions i) (kind T) ≡ true → same_kind S T ≡ true → by_names a supers T (misfit_inside tests S T) ≡ None →
+  exception_from : (d : List ℕ → Option Ty) → WellDeclared d → (a : List ℕ) (supers : List (List ℕ)) (S T : Ty) (own : List ℕ) (s : List (List ℕ)) (i : List ℕ) (xs : FieldValues) → Shaped d (named a supers S) → Shaped d T → ((V : Ty) × (d own ≡ Some (named own s V))) → is_nameless_exception T ≡ false → kind_eq (exceptions i) (kind T) ≡ true → kind_eq (kind S) (kind T) ≡ true → by_names a supers T (misfit_inside tests S T) ≡ None →
       has_type av (exception_with own s i xs) (named a supers S) ≡ true → has_type av (exception_with own s i xs) T ≡ true
   exception_from d w a supers S (named c others U) own s i xs v t b u j k m h =
       let x = exception_with own s i xs in
@@ -176,7 +155,7 @@ module _ (av : Assignment) (tests : Tests) (right : IsRight tests) where
   exception_from d w a supers S (exception_of n fs) own s i xs v t b u j k m h = no (sym u)
   exception_from d w a supers S T own s i xs v t b u j k m h = no j
 
-  exception_kept : (d : List ℕ → Option Ty) → WellDeclared d → (S T : Ty) (own : List ℕ) (s : List (List ℕ)) (i : List ℕ) (xs : FieldValues) → Shaped d S → Shaped d T → ((V : Ty) × (d own ≡ Some (named own s V))) → is_nameless_exception S ≡ false → is_nameless_exception T ≡ false → kind_eq (exceptions i) (kind T) ≡ true → same_kind S T ≡ true → misfit_inside tests S T ≡ None →
+  exception_kept : (d : List ℕ → Option Ty) → WellDeclared d → (S T : Ty) (own : List ℕ) (s : List (List ℕ)) (i : List ℕ) (xs : FieldValues) → Shaped d S → Shaped d T → ((V : Ty) × (d own ≡ Some (named own s V))) → is_nameless_exception S ≡ false → is_nameless_exception T ≡ false → kind_eq (exceptions i) (kind T) ≡ true → kind_eq (kind S) (kind T) ≡ true → misfit_inside tests S T ≡ None →
       has_type av (exception_with own s i xs) S ≡ true → has_type av (exception_with own s i xs) T ≡ true
   exception_kept d w (named a supers S) T own s i xs v t b u g j k m h = exception_from d w a supers S T own s i xs v t b g j k m h
   exception_kept d w (exception_of n fs) T own s i xs v t b u g j k m h = no (sym u)
@@ -186,19 +165,19 @@ module _ (av : Assignment) (tests : Tests) (right : IsRight tests) where
 
   -- a step from a structure to another that it fits
   abbrev Steps : (List ℕ → Option Ty) → Value → Type 0
-  Steps d x = (S T : Ty) → is_named S ≡ false → Shaped d S → Shaped d T → same_kind S T ≡ true → misfit_inside tests S T ≡ None → has_type av x S ≡ true → has_type av x T ≡ true
+  Steps d x = (S T : Ty) → is_named S ≡ false → Shaped d S → Shaped d T → kind_eq (kind S) (kind T) ≡ true → misfit_inside tests S T ≡ None → has_type av x S ≡ true → has_type av x T ≡ true
 
   climbs : (d : List ℕ → Option Ty) → WellDeclared d → (x : Value) → Steps d x → (ns : List (List ℕ)) (S : Ty) (c : List ℕ) (others : List (List ℕ)) (U : Ty) → is_named S ≡ false → Shaped d S → Nearest d S ns → is_among c ns ≡ true → d c ≡ Some (named c others U) → has_type av x S ≡ true → has_type av x U ≡ true
   climbs d w x step [] S c others U a s r e i h = no e
   climbs d w x step (n ∷ ns) S c others U a s r e i h =
       let f = (w.each n (named n ns r.0) r.1).shaped in
       let p = fit_parts tests S r.0 (r.2 tests right) in
-      let g = step S r.0 a s f.2 p.0 p.1 h in
+      let g = step S r.0 a s f.2 (tests_equal (kind S) (kind r.0) r.3) p.1 h in
       either (bytes_eq n c) (is_among c ns) e
       (λ o. subst (λ V. has_type av x V ≡ true) (one_structure n ns others c r.0 U (one_type n ns others c r.0 U (d c) (ap d (sym (same_name n c o)) ∙ r.1) i)) g)
       (λ o. climbs d w x step ns r.0 c others U f.0 f.2 f.1.nearest o i g)
 
-  through : (d : List ℕ → Option Ty) → WellDeclared d → (x : Value) → ((name : List ℕ) → is_exception name x ≡ true) → Steps d x → (S T : Ty) → Shaped d S → Shaped d T → same_kind S T ≡ true → misfit_inside tests S T ≡ None → has_type av x S ≡ true → has_type av x T ≡ true
+  through : (d : List ℕ → Option Ty) → WellDeclared d → (x : Value) → ((name : List ℕ) → is_exception name x ≡ true) → Steps d x → (S T : Ty) → Shaped d S → Shaped d T → kind_eq (kind S) (kind T) ≡ true → misfit_inside tests S T ≡ None → has_type av x S ≡ true → has_type av x T ≡ true
   through d w x o step (named a supers S) (named c others U) s t k m h =
       let p = (named_parts av x a supers S h).1 in
       named_from av x c others U (o c)
@@ -227,7 +206,7 @@ module _ (av : Assignment) (tests : Tests) (right : IsRight tests) where
   tuple_step d xs f (named n supers S) T a s t k m h = no (sym a)
   tuple_step d xs f S T a s t k m h = no h
 
-  array_step : (d : List ℕ → Option Ty) (j : Kind) (xs : Values) → ((S T : Ty) → Shaped d S → Shaped d T → is_nameless_exception S ≡ false → is_nameless_exception T ≡ false → same_kind S T ≡ true → misfit_inside tests S T ≡ None → all_have av xs S ≡ true → all_have av xs T ≡ true) → Steps d (array_with j xs)
+  array_step : (d : List ℕ → Option Ty) (j : Kind) (xs : Values) → ((S T : Ty) → Shaped d S → Shaped d T → is_nameless_exception S ≡ false → is_nameless_exception T ≡ false → kind_eq (kind S) (kind T) ≡ true → misfit_inside tests S T ≡ None → all_have av xs S ≡ true → all_have av xs T ≡ true) → Steps d (array_with j xs)
   array_step d j xs f (array_of n S) T a s t k m h =
       let p = both (kind_eq j (kind S) && (count xs == n)) (all_have av xs S) h in
       let q = both (kind_eq j (kind S)) (count xs == n) p.0 in
@@ -238,11 +217,11 @@ module _ (av : Assignment) (tests : Tests) (right : IsRight tests) where
 
   -- ---- by value
 
-  kind_first : (S T : Ty) (x : Value) → same_kind S T ≡ true → has_type av x S ≡ true → kind_eq (kind_of x) (kind T) ≡ true
+  kind_first : (S T : Ty) (x : Value) → kind_eq (kind S) (kind T) ≡ true → has_type av x S ≡ true → kind_eq (kind_of x) (kind T) ≡ true
   kind_first S T x k h = subst (λ i. kind_eq i (kind T) ≡ true) (sym (has_kind av S x h)) k
 
   mutual
-    keeps : (d : List ℕ → Option Ty) → WellDeclared d → (x : Value) (S T : Ty) → Shaped d S → Shaped d T → Built d x → is_nameless_exception S ≡ false → is_nameless_exception T ≡ false → same_kind S T ≡ true → misfit_inside tests S T ≡ None → has_type av x S ≡ true → has_type av x T ≡ true
+    keeps : (d : List ℕ → Option Ty) → WellDeclared d → (x : Value) (S T : Ty) → Shaped d S → Shaped d T → Built d x → is_nameless_exception S ≡ false → is_nameless_exception T ≡ false → kind_eq (kind S) (kind T) ≡ true → misfit_inside tests S T ≡ None → has_type av x S ≡ true → has_type av x T ≡ true
     keeps d w (int z) S T s t b u v k m h = through d w (int z) (λ n. refl) (int_step d z) S T s t k m h
     keeps d w (bool z) S T s t b u v k m h = bool_belongs T z (kind_first S T (bool z) k h)
     keeps d w (bits_with bs i) S T s t b u v k m h = through d w (bits_with bs i) (λ n. refl) (bits_step d bs i) S T s t k m h
@@ -260,11 +239,11 @@ module _ (av : Assignment) (tests : Tests) (right : IsRight tests) where
     parts_keep d w (value x xs) (part S ss) no_part s t b k m h = no k
     parts_keep d w (value x xs) (part S ss) (part T ts) s t b k m h =
         let p = both (has_type av x S) (parts_have av xs ss) h in
-        let q = both (same_kind S T) (kinds_eq (kinds ss) (kinds ts)) k in
+        let q = both (kind_eq (kind S) (kind T)) (kinds_eq (kinds ss) (kinds ts)) k in
         let r = or_both (misfit_inside tests S T) (misfit_of_parts tests ss ts) m in
         and_true (has_type av x T) (parts_have av xs ts) (keeps d w x S T s.1 t.1 b.0 s.0 t.0 q.0 r.0 p.0) (parts_keep d w xs ss ts s.2 t.2 b.1 q.1 r.1 p.1)
 
-    all_keep : (d : List ℕ → Option Ty) → WellDeclared d → (xs : Values) (S T : Ty) → Shaped d S → Shaped d T → BuiltAll d xs → is_nameless_exception S ≡ false → is_nameless_exception T ≡ false → same_kind S T ≡ true → misfit_inside tests S T ≡ None → all_have av xs S ≡ true → all_have av xs T ≡ true
+    all_keep : (d : List ℕ → Option Ty) → WellDeclared d → (xs : Values) (S T : Ty) → Shaped d S → Shaped d T → BuiltAll d xs → is_nameless_exception S ≡ false → is_nameless_exception T ≡ false → kind_eq (kind S) (kind T) ≡ true → misfit_inside tests S T ≡ None → all_have av xs S ≡ true → all_have av xs T ≡ true
     all_keep d w no_value S T s t b u v k m h = refl
     all_keep d w (value x xs) S T s t b u v k m h =
         let p = both (has_type av x S) (all_have av xs S) h in
@@ -273,25 +252,9 @@ module _ (av : Assignment) (tests : Tests) (right : IsRight tests) where
   pub satisfying_keeps : (d : List ℕ → Option Ty) → WellDeclared d → (S T : Ty) (x : Value) → WellFormed d S → WellFormed d T → Built d x → misfit tests S T ≡ None → has_type av x S ≡ true → has_type av x T ≡ true
   satisfying_keeps d w S T x s t b m h =
       let p = fit_parts tests S T m in
-      keeps d w x S T s.shaped t.shaped b s.has_name t.has_name p.0 p.1 h
+      keeps d w x S T s.shaped t.shaped b s.has_name t.has_name (one_kind d w S T s.shaped t.shaped p.0) p.1 h
 
   -- ---- exceptions that are caught
-
-  -- the structures of a name and of one that it reaches are of one kind
-  kinds_climb : (d : List ℕ → Option Ty) → WellDeclared d → (ns : List (List ℕ)) (S : Ty) (c : List ℕ) (others : List (List ℕ)) (U : Ty) → Nearest d S ns → is_among c ns ≡ true → d c ≡ Some (named c others U) → kind S ≡ kind U
-  kinds_climb d w [] S c others U r e i = no e
-  kinds_climb d w (n ∷ ns) S c others U r e i =
-      let f = (w.each n (named n ns r.0) r.1).shaped in
-      let q : kind S ≡ kind r.0 = equal_kinds (kind S) (kind r.0) (fit_parts tests S r.0 (r.2 tests right)).0 in
-      either (bytes_eq n c) (is_among c ns) e
-      (λ o. q ∙ ap kind (one_structure n ns others c r.0 U (one_type n ns others c r.0 U (d c) (ap d (sym (same_name n c o)) ∙ r.1) i)))
-      (λ o. q ∙ kinds_climb d w ns r.0 c others U f.1.nearest o i)
-
-  reached_kind : (d : List ℕ → Option Ty) → WellDeclared d → (own : List ℕ) (s : List (List ℕ)) (T : Ty) (c : List ℕ) (others : List (List ℕ)) (U : Ty) → d own ≡ Some (named own s T) → d c ≡ Some (named c others U) → reaches own s c ≡ true → kind T ≡ kind U
-  reached_kind d w own s T c others U e i h =
-      either (bytes_eq own c) (is_among c s) h
-      (λ o. ap kind (one_structure own s others c T U (one_type own s others c T U (d c) (ap d (sym (same_name own c o)) ∙ e) i)))
-      (λ o. kinds_climb d w s T c others U (declared_of d w own s T e).nearest o i)
 
   -- an exception that reaches a name belongs to what that stands for
   pub caught_has : (d : List ℕ → Option Ty) → WellDeclared d → (a : List ℕ) (supers : List (List ℕ)) (V : Ty) (c : List ℕ) (others : List (List ℕ)) (U : Ty) (own : List ℕ) (s : List (List ℕ)) (n : List ℕ) (xs : FieldValues) →
