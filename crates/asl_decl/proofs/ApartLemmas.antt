@@ -6,7 +6,7 @@ use Rattle.std.proofs.lemmas.Option.{slice_get_past}
 use Rattle.asl_syn.specs.declared.code.StaticCode.TheVariants.{T10}
 use Rattle.asl_syn.specs.declared.tree.Func.{Func}
 use Rattle.asl_rules.specs.Faults.{◌>>◌, need}
-use Rattle.asl_rules.specs.Types.{Kinds, kinds, kinds_eq}
+use Rattle.asl_rules.specs.Types.{Parts, same_kinds}
 use Rattle.asl_rules.specs.Scopes.{Entry, Signature, choose_from}
 use Rattle.asl_rules.specs.Programs.{clashes, overloads_rule}
 use Rattle.asl_decl.specs.Heads.{heads_of}
@@ -15,21 +15,21 @@ use Rattle.asl_decl.specs.Signatures.{is_before, is_apart, apart_from, apart_rul
 -- ---- the overload that is chosen
 
 -- those from a number on have no number before it
-none_before : (ss : List Signature) (name : List ℕ) (ks : Kinds) (m n : ℕ) → n ≤ m → is_before n (choose_from m name ks ss) ≡ false
-none_before [] name ks m n h = refl
-none_before (g ∷ ss) name ks m n h = by (bytes_eq g.name name && kinds_eq (kinds g.formals) ks) (none_before ss name ks (suc m) n (omega (arith, h)))
+none_before : (ss : List Signature) (name : List ℕ) (Ts : Parts) (m n : ℕ) → n ≤ m → is_before n (choose_from m name Ts ss) ≡ false
+none_before [] name Ts m n h = refl
+none_before (g ∷ ss) name Ts m n h = by (bytes_eq g.name name && same_kinds g.formals Ts) (none_before ss name Ts (suc m) n (omega (arith, h)))
   where
-    by : (b : Bool) → is_before n (choose_from (suc m) name ks ss) ≡ false → is_before n (cond b (Some (record { number = m; signature = g })) (choose_from (suc m) name ks ss)) ≡ false
+    by : (b : Bool) → is_before n (choose_from (suc m) name Ts ss) ≡ false → is_before n (cond b (Some (record { number = m; signature = g })) (choose_from (suc m) name Ts ss)) ≡ false
     by true k = grind (arith, h)
     by false k = k
 
 -- a signature clashes with one of these where the overload of its name and kinds is among them
-clash_found : (before rest : List Signature) (s : Signature) (m n : ℕ) → n ≡ m + length before → clashes before s ≡ is_before n (choose_from m s.name (kinds s.formals) (before ++ rest))
-clash_found [] rest s m n h = sym (none_before rest s.name (kinds s.formals) m n (omega (arith, h)))
-clash_found (g ∷ before) rest s m n h = by (bytes_eq g.name s.name && kinds_eq (kinds g.formals) (kinds s.formals)) (clash_found before rest s (suc m) n (omega (arith, h)))
+clash_found : (before rest : List Signature) (s : Signature) (m n : ℕ) → n ≡ m + length before → clashes before s ≡ is_before n (choose_from m s.name s.formals (before ++ rest))
+clash_found [] rest s m n h = sym (none_before rest s.name s.formals m n (omega (arith, h)))
+clash_found (g ∷ before) rest s m n h = by (bytes_eq g.name s.name && same_kinds g.formals s.formals) (clash_found before rest s (suc m) n (omega (arith, h)))
   where
-    by : (b : Bool) → clashes before s ≡ is_before n (choose_from (suc m) s.name (kinds s.formals) (before ++ rest)) →
-        (b || clashes before s) ≡ is_before n (cond b (Some (record { number = m; signature = g })) (choose_from (suc m) s.name (kinds s.formals) (before ++ rest)))
+    by : (b : Bool) → clashes before s ≡ is_before n (choose_from (suc m) s.name s.formals (before ++ rest)) →
+        (b || clashes before s) ≡ is_before n (cond b (Some (record { number = m; signature = g })) (choose_from (suc m) s.name s.formals (before ++ rest)))
     by true k = grind (arith, h)
     by false k = k
 

@@ -7,7 +7,6 @@ use Rattle.asl_syn.specs.declared.tree.Decl.TheVariants as dc
 use Rattle.asl_syn.specs.declared.tree.Func.{Func}
 use Rattle.asl_rules.specs.Faults.{◌>>=◌, ◌>>◌, need}
 use Rattle.asl_rules.specs.Tests.{Tests}
-use Rattle.asl_rules.specs.Types.{kinds}
 use Rattle.asl_rules.specs.Scopes.{Entry, Signature, Chosen, choose}
 use Rattle.asl_rules.specs.Programs.{class_of}
 use Rattle.asl_types.specs.View.{parts_of}
@@ -53,7 +52,7 @@ is_before n (Some c) = nat_lt c.number n
 -- none before the signature of this number has its name, and formals of its kinds
 abbrev pub is_apart : ℕ → Option Signature → List Signature → Bool
 is_apart n None ss = true
-is_apart n (Some s) ss = not (is_before n (choose s.name (kinds s.formals) ss))
+is_apart n (Some s) ss = not (is_before n (choose s.name s.formals ss))
 
 -- T10 at the first name of a subprogram that one before it has, with formals of the same kinds; the first has this number
 abbrev pub apart_from : ℕ → List Func → List Signature → Result (Unit {0}) Fault

@@ -4,7 +4,6 @@ ghost use Rattle.std.specs.Prelude.{◌≡◌, [], map, slice_get, IfOk};
 ghost use Rattle.asl_rules.specs.Faults.{need};
 ghost use Rattle.asl_rules.specs.Programs as programs;
 ghost use Rattle.asl_rules.specs.Scopes as scopes;
-ghost use Rattle.asl_rules.specs.Types as types;
 ghost use Rattle.asl_types.specs.Answers.{Agrees};
 ghost use Rattle.asl_types.specs.View.{parts_of};
 ghost use Rattle.asl_decl.specs.Signatures as rules;
@@ -42,7 +41,7 @@ pub(crate) fn funcs_of<'a>(alloc: Global, decls: &'a [Decl]) -> Result<Items<&'a
 
 /// Whether the overload of this name and formals of these kinds stands before this number.
 fn is_before(subs: &Subprograms, name: &[u8], formals: &[Ty], number: usize) -> bool
-    ensures { result ≡ rules.is_before number (scopes.choose name.now (types.kinds (parts_of formals.now)) subs.now) }
+    ensures { result ≡ rules.is_before number (scopes.choose name.now (parts_of formals.now) subs.now) }
 {
     match subs.choose(name, formals) {
         None => false,

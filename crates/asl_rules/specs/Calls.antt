@@ -188,7 +188,7 @@ abbrev pub call_begun : Ident → List Found → Scope → Result (List Operand)
 call_begun i es G = operands es G >>= λ os. need (is_subprogram (standing_of i.text G.names)) T02 i.span >> Ok os
 
 abbrev pub chosen : Span → Ident → List Operand → List Signature → Result Chosen Fault
-chosen span i os subs = found_or (choose i.text (kinds (types_of os)) subs) T09 span
+chosen span i os subs = found_or (choose i.text (types_of os) subs) T09 span
 
 abbrev pub call_tree : Callee → Replacing → List Operand → tree.Note → Tree
 call_tree f r os n = tree.Call n f r.places (trees_from r.trees) (trees_of os)

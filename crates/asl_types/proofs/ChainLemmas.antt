@@ -8,7 +8,7 @@ use Rattle.std.proofs.lemmas.Bool.{cases_lt}
 use Rattle.std.proofs.lemmas.List.{take_more, take_all}
 use Rattle.std.proofs.lemmas.Option.{slice_get_within, slice_get-get_or}
 use Rattle.indexmap.specs.IndexMap.{insert_entry}
-use Rattle.asl_rules.specs.Types.{Kinds, no_kind, kinds, kinds_eq}
+use Rattle.asl_rules.specs.Types.{Parts, no_part, same_kinds}
 use Rattle.asl_rules.specs.Scopes.{Signature, Chosen, choose_from, choose}
 use Rattle.asl_types.specs.Chains.{last_from, last_of, or_found, taken, taken_by, IsLinked}
 
@@ -30,13 +30,13 @@ found_by : (b : Bool) (c : Chosen) (o p : Option Chosen) → or_found (cond b (S
 found_by true c o p = refl
 found_by false c o p = refl
 
-choose_more : (n : ℕ) (name : List ℕ) (ks : Kinds) (fs : List Signature) (f : Signature) →
-    choose_from n name ks (fs ++ f ∷ []) ≡ or_found (choose_from n name ks fs) (taken (n + length fs) name ks f)
-choose_more n name ks [] f = ap (λ m. taken m name ks f) (omega arith)
-choose_more n name ks (g ∷ fs) f =
-    ap (cond (bytes_eq g.name name && kinds_eq (kinds g.formals) ks) (Some (record { number = n; signature = g })))
-    (choose_more (suc n) name ks fs f ∙ ap (λ m. or_found (choose_from (suc n) name ks fs) (taken m name ks f)) (omega arith))
-    ∙ sym (found_by (bytes_eq g.name name && kinds_eq (kinds g.formals) ks) (record { number = n; signature = g }) (choose_from (suc n) name ks fs) (taken (n + length (g ∷ fs)) name ks f))
+choose_more : (n : ℕ) (name : List ℕ) (Ts : Parts) (fs : List Signature) (f : Signature) →
+    choose_from n name Ts (fs ++ f ∷ []) ≡ or_found (choose_from n name Ts fs) (taken (n + length fs) name Ts f)
+choose_more n name Ts [] f = ap (λ m. taken m name Ts f) (omega arith)
+choose_more n name Ts (g ∷ fs) f =
+    ap (cond (bytes_eq g.name name && same_kinds g.formals Ts) (Some (record { number = n; signature = g })))
+    (choose_more (suc n) name Ts fs f ∙ ap (λ m. or_found (choose_from (suc n) name Ts fs) (taken m name Ts f)) (omega arith))
+    ∙ sym (found_by (bytes_eq g.name name && same_kinds g.formals Ts) (record { number = n; signature = g }) (choose_from (suc n) name Ts fs) (taken (n + length (g ∷ fs)) name Ts f))
 
 length_take : {A : Type 0} (n : ℕ) (xs : List A) → n ≤ length xs → length (take n xs) ≡ n
 length_take zero xs h = refl
@@ -49,27 +49,27 @@ last_at name fs m d h =
     ∙ last_more 0 None name (take m fs) (get_or fs m d)
     ∙ ap (λ k. cond (bytes_eq (get_or fs m d).name name) (Some k) (last_of name (take m fs))) (omega (arith, length_take m fs (omega (arith, h))))
 
-choose_at : (name : List ℕ) (ks : Kinds) (fs : List Signature) (m : ℕ) (d : Signature) → m < length fs →
-    choose name ks (take (m + 1) fs) ≡ or_found (choose name ks (take m fs)) (taken m name ks (get_or fs m d))
-choose_at name ks fs m d h =
-    ap (choose name ks) (take_more fs m d h)
-    ∙ choose_more 0 name ks (take m fs) (get_or fs m d)
-    ∙ ap (λ k. or_found (choose name ks (take m fs)) (taken k name ks (get_or fs m d))) (omega (arith, length_take m fs (omega (arith, h))))
+choose_at : (name : List ℕ) (Ts : Parts) (fs : List Signature) (m : ℕ) (d : Signature) → m < length fs →
+    choose name Ts (take (m + 1) fs) ≡ or_found (choose name Ts (take m fs)) (taken m name Ts (get_or fs m d))
+choose_at name Ts fs m d h =
+    ap (choose name Ts) (take_more fs m d h)
+    ∙ choose_more 0 name Ts (take m fs) (get_or fs m d)
+    ∙ ap (λ k. or_found (choose name Ts (take m fs)) (taken k name Ts (get_or fs m d))) (omega (arith, length_take m fs (omega (arith, h))))
 
 -- ---- what the last of a name says
 
 -- it is one of the first m and has the name; what is chosen among the first m is chosen up to it
-pub record IsLast (name : List ℕ) (ks : Kinds) (fs : List Signature) (m p : ℕ) : Type 0 where
+pub record IsLast (name : List ℕ) (Ts : Parts) (fs : List Signature) (m p : ℕ) : Type 0 where
   pub before : p < m
   pub named : (d : Signature) → bytes_eq (get_or fs p d).name name ≡ true
-  pub chosen : choose name ks (take m fs) ≡ choose name ks (take (p + 1) fs)
+  pub chosen : choose name Ts (take m fs) ≡ choose name Ts (take (p + 1) fs)
 
 or_none : (o : Option Chosen) → or_found o None ≡ o
 or_none None = refl
 or_none (Some c) = refl
 
-unnamed : (m : ℕ) (name : List ℕ) (ks : Kinds) (f : Signature) → bytes_eq f.name name ≡ false → taken m name ks f ≡ None
-unnamed m name ks f e = ap (λ b. cond (b && kinds_eq (kinds f.formals) ks) (Some (record { number = m; signature = f })) None) e
+unnamed : (m : ℕ) (name : List ℕ) (Ts : Parts) (f : Signature) → bytes_eq f.name name ≡ false → taken m name Ts f ≡ None
+unnamed m name Ts f e = ap (λ b. cond (b && same_kinds f.formals Ts) (Some (record { number = m; signature = f })) None) e
 
 some_is : (m n : ℕ) → Some m ≡ Some n → m ≡ n
 some_is m n e = cc e
@@ -84,70 +84,70 @@ last_here name fs m d h =
     let up : suc m ≡ m + 1 = omega arith in
     ap (λ n. last_of name (take n fs)) up ∙ last_at name fs m d h
 
-choose_here : (name : List ℕ) (ks : Kinds) (fs : List Signature) (m : ℕ) (d : Signature) → m < length fs → bytes_eq (get_or fs m d).name name ≡ false → choose name ks (take (suc m) fs) ≡ choose name ks (take m fs)
-choose_here name ks fs m d h apart =
+choose_here : (name : List ℕ) (Ts : Parts) (fs : List Signature) (m : ℕ) (d : Signature) → m < length fs → bytes_eq (get_or fs m d).name name ≡ false → choose name Ts (take (suc m) fs) ≡ choose name Ts (take m fs)
+choose_here name Ts fs m d h apart =
     let up : suc m ≡ m + 1 = omega arith in
-    ap (λ n. choose name ks (take n fs)) up ∙ choose_at name ks fs m d h
-    ∙ ap (or_found (choose name ks (take m fs))) (unnamed m name ks (get_or fs m d) apart)
-    ∙ or_none (choose name ks (take m fs))
+    ap (λ n. choose name Ts (take n fs)) up ∙ choose_at name Ts fs m d h
+    ∙ ap (or_found (choose name Ts (take m fs))) (unnamed m name Ts (get_or fs m d) apart)
+    ∙ or_none (choose name Ts (take m fs))
 
-found_step : (name : List ℕ) (ks : Kinds) (fs : List Signature) (m p : ℕ) (d : Signature) (b : Bool) → m < length fs → bytes_eq (get_or fs m d).name name ≡ b → last_of name (take (suc m) fs) ≡ Some p →
-    (last_of name (take m fs) ≡ Some p → IsLast name ks fs m p) → IsLast name ks fs (suc m) p
-found_step name ks fs m p d true h same e rest =
+found_step : (name : List ℕ) (Ts : Parts) (fs : List Signature) (m p : ℕ) (d : Signature) (b : Bool) → m < length fs → bytes_eq (get_or fs m d).name name ≡ b → last_of name (take (suc m) fs) ≡ Some p →
+    (last_of name (take m fs) ≡ Some p → IsLast name Ts fs m p) → IsLast name Ts fs (suc m) p
+found_step name Ts fs m p d true h same e rest =
     let is : m ≡ p = some_is m p (sym (last_here name fs m d h ∙ ap (λ b. cond b (Some m) (last_of name (take m fs))) same) ∙ e) in
     record {
       before = omega (arith, is);
       named = λ c. subst (λ k. bytes_eq (get_or fs k c).name name ≡ true) is (ap (λ (g : Signature). bytes_eq g.name name) (same_default fs m c d h) ∙ same);
-      chosen = let up : suc m ≡ p + 1 = omega (arith, is) in ap (λ n. choose name ks (take n fs)) up;
+      chosen = let up : suc m ≡ p + 1 = omega (arith, is) in ap (λ n. choose name Ts (take n fs)) up;
     }
-found_step name ks fs m p d false h apart e rest =
+found_step name Ts fs m p d false h apart e rest =
     let r = rest (sym (last_here name fs m d h ∙ ap (λ b. cond b (Some m) (last_of name (take m fs))) apart) ∙ e) in
-    record { before = omega (arith, r.before); named = r.named; chosen = choose_here name ks fs m d h apart ∙ r.chosen }
+    record { before = omega (arith, r.before); named = r.named; chosen = choose_here name Ts fs m d h apart ∙ r.chosen }
 
-pub found : (name : List ℕ) (ks : Kinds) (fs : List Signature) (m p : ℕ) → m ≤ length fs → last_of name (take m fs) ≡ Some p → IsLast name ks fs m p
-found name ks fs zero p h e = cc e
-found name ks [] (suc m) p h e = absurd (omega (arith, h))
-found name ks (f ∷ fs) (suc m) p h e =
-    found_step name ks (f ∷ fs) m p f (bytes_eq (get_or (f ∷ fs) m f).name name) (omega (arith, h)) refl e (λ q. found name ks (f ∷ fs) m p (omega (arith, h)) q)
+pub found : (name : List ℕ) (Ts : Parts) (fs : List Signature) (m p : ℕ) → m ≤ length fs → last_of name (take m fs) ≡ Some p → IsLast name Ts fs m p
+found name Ts fs zero p h e = cc e
+found name Ts [] (suc m) p h e = absurd (omega (arith, h))
+found name Ts (f ∷ fs) (suc m) p h e =
+    found_step name Ts (f ∷ fs) m p f (bytes_eq (get_or (f ∷ fs) m f).name name) (omega (arith, h)) refl e (λ q. found name Ts (f ∷ fs) m p (omega (arith, h)) q)
 
-not_found_step : (name : List ℕ) (ks : Kinds) (fs : List Signature) (m : ℕ) (d : Signature) (b : Bool) → m < length fs → bytes_eq (get_or fs m d).name name ≡ b → last_of name (take (suc m) fs) ≡ None →
-    (last_of name (take m fs) ≡ None → choose name ks (take m fs) ≡ None) → choose name ks (take (suc m) fs) ≡ None
-not_found_step name ks fs m d true h same e rest =
+not_found_step : (name : List ℕ) (Ts : Parts) (fs : List Signature) (m : ℕ) (d : Signature) (b : Bool) → m < length fs → bytes_eq (get_or fs m d).name name ≡ b → last_of name (take (suc m) fs) ≡ None →
+    (last_of name (take m fs) ≡ None → choose name Ts (take m fs) ≡ None) → choose name Ts (take (suc m) fs) ≡ None
+not_found_step name Ts fs m d true h same e rest =
     let is : Some m ≡ None = sym (last_here name fs m d h ∙ ap (λ b. cond b (Some m) (last_of name (take m fs))) same) ∙ e in
     cc is
-not_found_step name ks fs m d false h apart e rest =
-    choose_here name ks fs m d h apart ∙ rest (sym (last_here name fs m d h ∙ ap (λ b. cond b (Some m) (last_of name (take m fs))) apart) ∙ e)
+not_found_step name Ts fs m d false h apart e rest =
+    choose_here name Ts fs m d h apart ∙ rest (sym (last_here name fs m d h ∙ ap (λ b. cond b (Some m) (last_of name (take m fs))) apart) ∙ e)
 
-pub not_found : (name : List ℕ) (ks : Kinds) (fs : List Signature) (m : ℕ) → m ≤ length fs → last_of name (take m fs) ≡ None → choose name ks (take m fs) ≡ None
-not_found name ks fs zero h e = refl
-not_found name ks [] (suc m) h e = absurd (omega (arith, h))
-not_found name ks (f ∷ fs) (suc m) h e =
-    not_found_step name ks (f ∷ fs) m f (bytes_eq (get_or (f ∷ fs) m f).name name) (omega (arith, h)) refl e (λ q. not_found name ks (f ∷ fs) m (omega (arith, h)) q)
+pub not_found : (name : List ℕ) (Ts : Parts) (fs : List Signature) (m : ℕ) → m ≤ length fs → last_of name (take m fs) ≡ None → choose name Ts (take m fs) ≡ None
+not_found name Ts fs zero h e = refl
+not_found name Ts [] (suc m) h e = absurd (omega (arith, h))
+not_found name Ts (f ∷ fs) (suc m) h e =
+    not_found_step name Ts (f ∷ fs) m f (bytes_eq (get_or (f ∷ fs) m f).name name) (omega (arith, h)) refl e (λ q. not_found name Ts (f ∷ fs) m (omega (arith, h)) q)
 
 -- ---- the loop over the signatures of a name, from the last
 
 -- the next to look at is the last of the name among the first m, and what is chosen among those comes before what was found
-pub record Stands (name : List ℕ) (ks : Kinds) (fs : List Signature) (at : Option ℕ) (later : Option Chosen) : Type 0 where
+pub record Stands (name : List ℕ) (Ts : Parts) (fs : List Signature) (at : Option ℕ) (later : Option Chosen) : Type 0 where
   pub many : ℕ
   pub within : many ≤ length fs
   pub last : at ≡ last_of name (take many fs)
-  pub chosen : choose name ks fs ≡ or_found (choose name ks (take many fs)) later
+  pub chosen : choose name Ts fs ≡ or_found (choose name Ts (take many fs)) later
 
-pub first : (name : List ℕ) (ks : Kinds) (fs : List Signature) (at : Option ℕ) → at ≡ last_of name fs → Stands name ks fs at None
-first name ks fs at h = record {
+pub first : (name : List ℕ) (Ts : Parts) (fs : List Signature) (at : Option ℕ) → at ≡ last_of name fs → Stands name Ts fs at None
+first name Ts fs at h = record {
   many = length fs;
   within = omega arith;
   last = h ∙ ap (last_of name) (sym (take_all (length fs) fs (omega arith)));
-  chosen = ap (choose name ks) (sym (take_all (length fs) fs (omega arith))) ∙ sym (or_none (choose name ks (take (length fs) fs)));
+  chosen = ap (choose name Ts) (sym (take_all (length fs) fs (omega arith))) ∙ sym (or_none (choose name Ts (take (length fs) fs)));
 }
 
-pub at_end : (name : List ℕ) (ks : Kinds) (fs : List Signature) (at : Option ℕ) (later : Option Chosen) → Stands name ks fs at later → at ≡ None → later ≡ choose name ks fs
-at_end name ks fs at later s none =
-    sym (s.chosen ∙ ap (λ o. or_found o later) (not_found name ks fs s.many s.within (sym s.last ∙ none)))
+pub at_end : (name : List ℕ) (Ts : Parts) (fs : List Signature) (at : Option ℕ) (later : Option Chosen) → Stands name Ts fs at later → at ≡ None → later ≡ choose name Ts fs
+at_end name Ts fs at later s none =
+    sym (s.chosen ∙ ap (λ o. or_found o later) (not_found name Ts fs s.many s.within (sym s.last ∙ none)))
 
-pub inside : (name : List ℕ) (ks : Kinds) (fs : List Signature) (at : Option ℕ) (later : Option Chosen) (p : ℕ) → Stands name ks fs at later → at ≡ Some p → p < length fs
-inside name ks fs at later p s some =
-    let f = found name ks fs s.many p s.within (sym s.last ∙ some) in
+pub inside : (name : List ℕ) (Ts : Parts) (fs : List Signature) (at : Option ℕ) (later : Option Chosen) (p : ℕ) → Stands name Ts fs at later → at ≡ Some p → p < length fs
+inside name Ts fs at later p s some =
+    let f = found name Ts fs s.many p s.within (sym s.last ∙ some) in
     omega (arith, f.before, s.within)
 
 or_or : (a b c : Option Chosen) → or_found (or_found a b) c ≡ or_found a (or_found b c)
@@ -164,11 +164,11 @@ as_taken false p f = refl
 some_same : (a b : Option ℕ) → Some a ≡ Some b → a ≡ b
 some_same a b e = cc e
 
-pub back : (name : List ℕ) (ks : Kinds) (fs : List Signature) (older : List (Option ℕ)) (at next : Option ℕ) (later more : Option Chosen) (p : ℕ) (f : Signature) → Stands name ks fs at later → at ≡ Some p → f ≡ get_or fs p f →
+pub back : (name : List ℕ) (Ts : Parts) (fs : List Signature) (older : List (Option ℕ)) (at next : Option ℕ) (later more : Option Chosen) (p : ℕ) (f : Signature) → Stands name Ts fs at later → at ≡ Some p → f ≡ get_or fs p f →
     ((i : ℕ) (g : Signature) → slice_get fs i ≡ Some g → slice_get older i ≡ Some (last_of g.name (take i fs))) → slice_get older p ≡ Some next →
-    more ≡ or_found (taken_by (kinds_eq (kinds f.formals) ks) p f) later → Stands name ks fs next more
-back name ks fs older at next later more p f s some here links there is =
-    let q = found name ks fs s.many p s.within (sym s.last ∙ some) in
+    more ≡ or_found (taken_by (same_kinds f.formals Ts) p f) later → Stands name Ts fs next more
+back name Ts fs older at next later more p f s some here links there is =
+    let q = found name Ts fs s.many p s.within (sym s.last ∙ some) in
     let in_list : p < length fs = omega (arith, q.before, s.within) in
     let named : bytes_eq f.name name ≡ true = ap (λ (g : Signature). bytes_eq g.name name) here ∙ q.named f in
     let same : f.name ≡ name = bytes_same f.name name named in
@@ -179,10 +179,10 @@ back name ks fs older at next later more p f s some here links there is =
       last = some_same next (last_of f.name (take p fs)) (sym there ∙ link) ∙ ap (λ n. last_of n (take p fs)) same;
       chosen =
           s.chosen
-          ∙ ap (λ o. or_found o later) (q.chosen ∙ choose_at name ks fs p f in_list)
-          ∙ or_or (choose name ks (take p fs)) (taken p name ks (get_or fs p f)) later
-          ∙ ap (λ o. or_found (choose name ks (take p fs)) (or_found o later)) (ap (taken p name ks) (sym here) ∙ ap (λ b. cond (b && kinds_eq (kinds f.formals) ks) (Some (record { number = p; signature = f })) None) named ∙ as_taken (kinds_eq (kinds f.formals) ks) p f)
-          ∙ ap (or_found (choose name ks (take p fs))) (sym is);
+          ∙ ap (λ o. or_found o later) (q.chosen ∙ choose_at name Ts fs p f in_list)
+          ∙ or_or (choose name Ts (take p fs)) (taken p name Ts (get_or fs p f)) later
+          ∙ ap (λ o. or_found (choose name Ts (take p fs)) (or_found o later)) (ap (taken p name Ts) (sym here) ∙ ap (λ b. cond (b && same_kinds f.formals Ts) (Some (record { number = p; signature = f })) None) named ∙ as_taken (same_kinds f.formals Ts) p f)
+          ∙ ap (or_found (choose name Ts (take p fs))) (sym is);
     }
 
 -- each older one has a smaller number
@@ -196,7 +196,7 @@ falls fs older None p f within here links there = omega arith
 falls fs older (Some q) p f within here links there =
     let link = links p f (slice_get-get_or fs p f within ∙ ap Some (sym here)) in
     let e : last_of f.name (take p fs) ≡ Some q = cc (sym there ∙ link) in
-    omega (arith, (found f.name no_kind fs p q (omega (arith, within)) e).before)
+    omega (arith, (found f.name no_part fs p q (omega (arith, within)) e).before)
 
 -- ---- links
 

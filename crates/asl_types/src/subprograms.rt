@@ -197,7 +197,7 @@ fn choose_from<'s>(
     requires many { length older.now ≡ length signatures.now }
     requires links { (i : ℕ) (g : rules.Signature) → slice_get signatures.now i ≡ Some g → slice_get older.now i ≡ Some (last_of g.name (take i signatures.now)) }
     requires last { newest ≡ last_of name.now signatures.now }
-    ensures { option_map (λ p. record { number = p.0; signature = p.1.now }) result ≡ rules.choose name.now (types.kinds (parts_of arguments.now)) signatures.now }
+    ensures { option_map (λ p. record { number = p.0; signature = p.1.now }) result ≡ rules.choose name.now (parts_of arguments.now) signatures.now }
 {
     let count = signatures.len();
     let links = older.len();
@@ -219,7 +219,7 @@ fn earlier<'s>(
     arguments: &[Ty],
     later: Option<(usize, &'s Signature)>,
 ) -> Option<(usize, &'s Signature)>
-    ensures { option_map (λ p. record { number = p.0; signature = p.1.now }) result ≡ or_found (taken_by (types.kinds_eq (types.kinds signature.now.formals) (types.kinds (parts_of arguments.now))) number signature.now) (option_map (λ p. record { number = p.0; signature = p.1.now }) later.entry) }
+    ensures { option_map (λ p. record { number = p.0; signature = p.1.now }) result ≡ or_found (taken_by (types.same_kinds signature.now.formals (parts_of arguments.now)) number signature.now) (option_map (λ p. record { number = p.0; signature = p.1.now }) later.entry) }
 {
     if same_kinds(signature.formals(), arguments) {
         Some((number, signature))
@@ -284,7 +284,7 @@ impl Subprograms {
 
     /// The overload of this name whose formals have the kinds of these types, with its number in source order, from 0.
     pub fn choose(&self, name: &[u8], arguments: &[Ty]) -> Option<(usize, &Signature)>
-        ensures { option_map (λ p. record { number = p.0; signature = p.1.now }) result ≡ rules.choose name.now (types.kinds (parts_of arguments.now)) self.now }
+        ensures { option_map (λ p. record { number = p.0; signature = p.1.now }) result ≡ rules.choose name.now (parts_of arguments.now) self.now }
     {
         let newest = self.newest.get(name).copied();
         choose_from(

@@ -9,7 +9,7 @@ use Rattle.asl_syn.specs.declared.tree.Param.{Param as WrittenParam}
 use Rattle.asl_rules.specs.declared.effect.Effect.TheVariants.{Pure}
 use Rattle.asl_rules.specs.Faults.{need}
 use Rattle.asl_rules.specs.Tests.{Tests, IsRight}
-use Rattle.asl_rules.specs.Types.{Ty, Parts, Kinds, no_part, part, kinds, kinds_eq}
+use Rattle.asl_rules.specs.Types.{Ty, Parts, no_part, part, same_kinds}
 use Rattle.asl_rules.specs.Closed.{Assignment}
 use Rattle.asl_rules.specs.Scopes.{Entry, Signature, Param, Chosen, next_atom, choose_from, fixed}
 use Rattle.asl_rules.specs.Trees.{TreeFunc}
@@ -83,10 +83,10 @@ module _ (tests : Tests) (right : IsRight tests) (ds : List Decl) (base : List E
   formed_same None h = tt
   formed_same (Some T) h = h
 
-  pub chosen_formed : (n : ℕ) (name : List ℕ) (ks : Kinds) (fs : List Signature) (c : Chosen) → FormedSubs tests right (types_in base) (well_declared base w) fs → choose_from n name ks fs ≡ Some c → FormedResult (types_in base) c.signature.result
-  chosen_formed n name ks [] c s h = none_some c h
-  chosen_formed n name ks (f ∷ fs) c s h =
-      chosen_by (bytes_eq f.name name && kinds_eq (kinds f.formals) ks) n f (choose_from (suc n) name ks fs) c (formed_same f.result s.0) (λ k. chosen_formed (suc n) name ks fs c s.1 k) h
+  pub chosen_formed : (n : ℕ) (name : List ℕ) (Ts : Parts) (fs : List Signature) (c : Chosen) → FormedSubs tests right (types_in base) (well_declared base w) fs → choose_from n name Ts fs ≡ Some c → FormedResult (types_in base) c.signature.result
+  chosen_formed n name Ts [] c s h = none_some c h
+  chosen_formed n name Ts (f ∷ fs) c s h =
+      chosen_by (bytes_eq f.name name && same_kinds f.formals Ts) n f (choose_from (suc n) name Ts fs) c (formed_same f.result s.0) (λ k. chosen_formed (suc n) name Ts fs c s.1 k) h
 
   -- the atoms of the parameters are those of names of the body
   params_below : (f : Func) (h : Head) → NamesOver (IsAtomOf []) base → HeadIs tests base f h → (n : ℕ) → IsAtomOf h.signature.params n → n < next_atom h.names

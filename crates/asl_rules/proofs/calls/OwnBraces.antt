@@ -11,7 +11,7 @@ use Rattle.asl_poly.specs.Terms.{Polynomial}
 use Rattle.asl_poly.specs.Substitute.{replaced_at}
 use Rattle.asl_rules.specs.Faults.{need, found_or}
 use Rattle.asl_rules.specs.Tests.{Tests, IsRight}
-use Rattle.asl_rules.specs.Types.{Parts, Kinds, kinds, kinds_eq}
+use Rattle.asl_rules.specs.Types.{Parts, kinds, kinds_eq, same_kinds}
 use Rattle.asl_rules.specs.Closed.{Assignment}
 use Rattle.asl_rules.specs.Values.{Value}
 use Rattle.asl_rules.specs.Scopes.{Entry, Signature, Param, Chosen, next_atom, choose_from}
@@ -98,13 +98,13 @@ in_braces a span o f places (p ∷ ps) [] xs n w h = absurd w
 in_braces a span o f places (p ∷ ps) (y ∷ ys) xs n w h = record { run_is = refl; tree_is = refl }
 
 -- the subprogram that is chosen has formals of the kinds of the arguments
-kinds_by : (b d : Bool) (n : ℕ) (f : Signature) (ks : Kinds) (o : Option Chosen) (c : Chosen) → (d && kinds_eq (kinds f.formals) ks) ≡ b → (o ≡ Some c → kinds_eq (kinds c.signature.formals) ks ≡ true) → cond b (Some (record { number = n; signature = f })) o ≡ Some c → kinds_eq (kinds c.signature.formals) ks ≡ true
-kinds_by true d n f ks o c e next h = subst (λ (z : Chosen). kinds_eq (kinds z.signature.formals) ks ≡ true) (some_same (record { number = n; signature = f }) c h) (both d (kinds_eq (kinds f.formals) ks) e).1
-kinds_by false d n f ks o c e next h = next h
+same_by : (b d : Bool) (n : ℕ) (f : Signature) (Ts : Parts) (o : Option Chosen) (c : Chosen) → (d && same_kinds f.formals Ts) ≡ b → (o ≡ Some c → same_kinds c.signature.formals Ts ≡ true) → cond b (Some (record { number = n; signature = f })) o ≡ Some c → same_kinds c.signature.formals Ts ≡ true
+same_by true d n f Ts o c e next h = subst (λ (z : Chosen). same_kinds z.signature.formals Ts ≡ true) (some_same (record { number = n; signature = f }) c h) (both d (same_kinds f.formals Ts) e).1
+same_by false d n f Ts o c e next h = next h
 
-pub chosen_kinds : (n : ℕ) (name : List ℕ) (ks : Kinds) (fs : List Signature) (c : Chosen) → choose_from n name ks fs ≡ Some c → kinds_eq (kinds c.signature.formals) ks ≡ true
-chosen_kinds n name ks [] c h = none_some c h
-chosen_kinds n name ks (f ∷ fs) c h = kinds_by (bytes_eq f.name name && kinds_eq (kinds f.formals) ks) (bytes_eq f.name name) n f ks (choose_from (suc n) name ks fs) c refl (λ k. chosen_kinds (suc n) name ks fs c k) h
+pub chosen_same : (n : ℕ) (name : List ℕ) (Ts : Parts) (fs : List Signature) (c : Chosen) → choose_from n name Ts fs ≡ Some c → same_kinds c.signature.formals Ts ≡ true
+chosen_same n name Ts [] c h = none_some c h
+chosen_same n name Ts (f ∷ fs) c h = same_by (bytes_eq f.name name && same_kinds f.formals Ts) (bytes_eq f.name name) n f Ts (choose_from (suc n) name Ts fs) c refl (λ k. chosen_same (suc n) name Ts fs c k) h
 
 -- the parameters of a call: for a run, for its typed tree, and at the integers of the frame
 pub record ParamsSo (a : Assignment) (span : Span) (f : Func) (qs : List Param) (r : Replacing) (ys xs : List Value) (c : Core) : Type 0 where

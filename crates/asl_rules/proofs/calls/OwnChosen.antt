@@ -14,7 +14,7 @@ use Rattle.asl_poly.specs.Terms.{Polynomial}
 use Rattle.asl_poly.specs.Poly.{constant_map}
 use Rattle.asl_rules.specs.Faults.{need, fault_of}
 use Rattle.asl_rules.specs.Tests.{Tests, IsRight}
-use Rattle.asl_rules.specs.Types.{Ty, Parts, no_part, part, kind, kinds, kinds_eq, kind_eq, is_integer}
+use Rattle.asl_rules.specs.Types.{Ty, Parts, no_part, part, kind, kinds, kinds_eq, kind_eq, is_integer, same_kinds}
 use Rattle.asl_rules.specs.Closed.{closed}
 use Rattle.asl_rules.specs.Values.{Value, int, bool, bits_with, label, record_with, exception_with, tuple_with, array_with, kind_of}
 use Rattle.asl_rules.specs.Scopes.{Entry, Signature, Param, Chosen, Standing, Stored, Subprogram, TypeName, Label, standing_of, type_of_name, type_in, known_value, next_atom, choose_from}
@@ -38,12 +38,14 @@ use Rattle.asl_rules.specs.Evaluation.{width_over, takes, is_kind, overload, lim
 use Rattle.asl_rules.proofs.basics.Inversions.{ok_ok, err_ok, bind_ok, then_ok}
 use Rattle.asl_rules.proofs.basics.Tests.{some_same, none_some}
 use Rattle.asl_rules.proofs.scopes.Lookups.{before_is, behind}
-use Rattle.asl_rules.proofs.scopes.Naming.{WellNamed}
+use Rattle.asl_rules.proofs.scopes.Naming.{WellNamed, well_declared}
 use Rattle.asl_rules.proofs.expressions.ExprForms.{env}
 use Rattle.asl_rules.proofs.widths.Omitted.{Outside, formal_width}
 use Rattle.asl_rules.proofs.widths.PresentNumbers.{outside_known}
 use Rattle.asl_rules.proofs.calls.OwnParams.{none_counted}
 use Rattle.asl_rules.proofs.calls.OwnKinds.{kind_is}
+use Rattle.asl_rules.specs.WellFormed.{ShapedParts}
+use Rattle.asl_rules.proofs.values.KindsByNames.{all_by_names}
 
 -- ---- a judged head, taken apart
 
@@ -242,21 +244,22 @@ module _ (tests : Tests) (right : IsRight tests) (ds : List Decl) (base : List E
   later_place : (m n : ℕ) → suc m + n ≡ m + suc n
   later_place m n = omega arith
 
-  pub chose : (c : Core) (n : ℕ) (gs : List Func) (hs : List Head) (ts : List TreeFunc) (name : List ℕ) (xs : List Value) (Ss : Parts) (chosen : Chosen) → GlobalsMatch base c.globals → next_atom base ≡ 0 → signatures_rule tests base gs ≡ Ok hs → bodies_rule tests subs hs ≡ Ok ts → ((m : ℕ) → slice_get ts m ≡ slice_get funcs (m + n)) → KindsAre xs Ss →
-      choose_from n name (kinds Ss) (signatures hs) ≡ Some chosen → Chose (outside c) n gs name xs chosen
-  chose c n [] hs ts name xs Ss chosen m z hr br at k q = none_some chosen (subst (λ l. choose_from n name (kinds Ss) (signatures l) ≡ Some chosen) (sym (ok_ok [] hs hr)) q)
-  chose c n (g ∷ gs) hs ts name xs Ss chosen m z hr br at k q =
+  pub chose : (c : Core) (n : ℕ) (gs : List Func) (hs : List Head) (ts : List TreeFunc) (name : List ℕ) (xs : List Value) (Ss : Parts) (chosen : Chosen) → GlobalsMatch base c.globals → next_atom base ≡ 0 → signatures_rule tests base gs ≡ Ok hs → bodies_rule tests subs hs ≡ Ok ts → ((m : ℕ) → slice_get ts m ≡ slice_get funcs (m + n)) → KindsAre xs Ss → ShapedParts (types_in base) Ss → ((f : Func) (h : Head) → signature_rule tests base f ≡ Ok h → ShapedParts (types_in base) h.signature.formals) →
+      choose_from n name Ss (signatures hs) ≡ Some chosen → Chose (outside c) n gs name xs chosen
+  chose c n [] hs ts name xs Ss chosen m z hr br at k shaped formals q = none_some chosen (subst (λ l. choose_from n name Ss (signatures l) ≡ Some chosen) (sym (ok_ok [] hs hr)) q)
+  chose c n (g ∷ gs) hs ts name xs Ss chosen m z hr br at k shaped formals q =
       let h = bind_ok (signature_rule tests base g) _ hs hr in
       let r = bind_ok (signatures_rule tests base gs) _ hs h.then in
       let e : h.value ∷ r.value ≡ hs = ok_ok (h.value ∷ r.value) hs r.then in
       let br2 = subst (λ l. bodies_rule tests subs l ≡ Ok ts) (sym e) br in
-      let q2 = subst (λ l. choose_from n name (kinds Ss) (signatures l) ≡ Some chosen) (sym e) q in
+      let q2 = subst (λ l. choose_from n name Ss (signatures l) ≡ Some chosen) (sym e) q in
       let b = bind_ok (body_rule tests subs h.value) _ ts br2 in
       let bs = bind_ok (bodies_rule tests subs r.value) _ ts b.then in
       let at2 : (i : ℕ) → slice_get (b.value ∷ bs.value) i ≡ slice_get funcs (i + n) = λ i. subst (λ l. slice_get l i ≡ slice_get funcs (i + n)) (sym (ok_ok (b.value ∷ bs.value) ts bs.then)) (at i) in
       let i = head_is tests base g h.value h.first in
-      let same : (bytes_eq g.name.text name && takes (env tests right ds base subs funcs w) (width_over (outside c) g.params 0) g.formals xs) ≡ (bytes_eq h.value.signature.name name && kinds_eq (kinds h.value.signature.formals) (kinds Ss)) =
-      ap (λ y. bytes_eq g.name.text name && y) (head_takes c g h.value xs Ss m z i k) ∙ ap (λ (y : Head). bytes_eq y.signature.name name && kinds_eq (kinds h.value.signature.formals) (kinds Ss)) i.is in
-      chose_by (bytes_eq h.value.signature.name name && kinds_eq (kinds h.value.signature.formals) (kinds Ss)) c n g gs h.value b.value name xs chosen (choose_from (suc n) name (kinds Ss) (signatures r.value)) same h.first b.first (sym (at2 0 ∙ ap (slice_get funcs) (first_place n))) q2
+      let same : (bytes_eq g.name.text name && takes (env tests right ds base subs funcs w) (width_over (outside c) g.params 0) g.formals xs) ≡ (bytes_eq h.value.signature.name name && same_kinds h.value.signature.formals Ss) =
+      ap (λ y. bytes_eq g.name.text name && y) (head_takes c g h.value xs Ss m z i k) ∙ ap (λ (y : Head). bytes_eq y.signature.name name && kinds_eq (kinds h.value.signature.formals) (kinds Ss)) i.is
+      ∙ ap (λ y. bytes_eq h.value.signature.name name && y) (sym (all_by_names (types_in base) (well_declared base w) h.value.signature.formals Ss (formals g h.value h.first) shaped)) in
+      chose_by (bytes_eq h.value.signature.name name && same_kinds h.value.signature.formals Ss) c n g gs h.value b.value name xs chosen (choose_from (suc n) name Ss (signatures r.value)) same h.first b.first (sym (at2 0 ∙ ap (slice_get funcs) (first_place n))) q2
       (λ o. subst (λ l. Chose (outside c) l gs name xs chosen) (after_one n)
-      (chose c (suc n) gs r.value bs.value name xs Ss chosen m z r.first bs.first (λ l. at2 (suc l) ∙ ap (slice_get funcs) (later_place l n)) k o))
+      (chose c (suc n) gs r.value bs.value name xs Ss chosen m z r.first bs.first (λ l. at2 (suc l) ∙ ap (slice_get funcs) (later_place l n)) k shaped formals o))

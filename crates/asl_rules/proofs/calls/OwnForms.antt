@@ -1,6 +1,6 @@
 -- Calls of a program's own functions and procedures with their typed trees: both choose the same subprogram, give it the same parameters and arguments, and its body
 -- does the same in a frame of its own.
-use Rattle.std.proofs.Common.{◌≡◌, ℕ, ◌+◌, true, List, [], ◌∷◌, ◌++◌, Option, Some, None, Ok, refl, sym, ap, ◌∙◌, subst, arith, map}
+use Rattle.std.proofs.Common.{◌≡◌, ℕ, suc, ◌+◌, ◌&&◌, Bool, true, false, cond, List, [], ◌∷◌, ◌++◌, Option, Some, None, Ok, refl, sym, ap, ◌∙◌, subst, arith, map}
 use Rattle.std.specs.Prelude.{slice_get}
 use Rattle.asl_syn.specs.declared.token.Span.{Span}
 use Rattle.asl_syn.specs.declared.code.StaticCode.TheVariants.{T02, T09, T12, T13, T18, T20}
@@ -16,9 +16,9 @@ use Rattle.asl_rules.specs.Effects.{all_together, greatest, greater, at_most}
 use Rattle.asl_rules.specs.Faults.{need, found_or}
 use Rattle.asl_rules.specs.Routines.{Routine, routine_named}
 use Rattle.asl_rules.specs.Tests.{Tests, IsRight}
-use Rattle.asl_rules.specs.Types.{Ty, kinds, kinds_eq, substitute}
+use Rattle.asl_rules.specs.Types.{Ty, kinds, kinds_eq, substitute, Parts, no_part, part, same_kinds}
 use Rattle.asl_rules.specs.Closed.{Assignment}
-use Rattle.asl_rules.specs.Scopes.{Entry, Signature, Chosen, choose, standing_of, is_subprogram, is_absent}
+use Rattle.asl_rules.specs.Scopes.{Entry, Signature, Chosen, choose, standing_of, is_subprogram, is_absent, choose_from}
 use Rattle.asl_rules.specs.Trees.{Tree, Note, TreeFunc, own}
 use Rattle.asl_rules.specs.Typing.{Typed, Operand, operands, effects_of, types_of, trees_in, trees_of, trees_from}
 use Rattle.asl_rules.specs.Calls as rules
@@ -38,7 +38,7 @@ use Rattle.asl_rules.specs.Evaluation.{Does, overload, called}
 use Rattle.asl_rules.specs.TypedMeaning.{BareCore, Runs, list_of, call_of}
 use Rattle.asl_rules.specs.Erasure.{erased}
 use Rattle.asl_rules.proofs.basics.Inversions.{ok_ok, err_ok, bind_ok, then_ok, need_ok, found_ok}
-use Rattle.asl_rules.proofs.basics.Tests.{no}
+use Rattle.asl_rules.proofs.basics.Tests.{no, some_same, none_some}
 use Rattle.asl_rules.proofs.scopes.Naming.{WellNamed, well_declared, scope_good}
 use Rattle.asl_rules.proofs.scopes.WellTyped.{FormedSubs}
 use Rattle.asl_rules.proofs.basics.Opening.{finish_is}
@@ -60,8 +60,11 @@ use Rattle.asl_rules.proofs.calls.OwnParams.{frames_good}
 use Rattle.asl_rules.proofs.calls.OwnArguments.{Paired, AllFormed, arguments_in, in_frame, result_in}
 use Rattle.asl_rules.proofs.calls.OwnChosen.{HeadIs, head_is, head_of, head_limit, KindsAre, chose}
 use Rattle.asl_rules.proofs.calls.OwnBodies.{chosen_formed, body_ok}
-use Rattle.asl_rules.proofs.calls.OwnBraces.{ParamsSo, ParamsAsked, params_asked, chosen_kinds}
+use Rattle.asl_rules.proofs.calls.OwnBraces.{ParamsSo, ParamsAsked, params_asked, chosen_same}
 use Rattle.asl_rules.proofs.calls.OwnGiven.{formals_formed, operands_formed, params_have}
+use Rattle.asl_rules.specs.WellFormed.{ShapedParts}
+use Rattle.asl_rules.proofs.values.KindsByNames.{all_by_names}
+use Rattle.std.specs.Str.{bytes_eq}
 
 nothing_more : (n : ℕ) → n ≡ n + 0
 nothing_more n = omega arith
@@ -135,30 +138,57 @@ module _ (tests : Tests) (right : IsRight tests) (ds : List Decl) (heads : List 
         does = own_same tests right ds base subs trees w H (Gave H av i.result) span name number h bw.list r.places ys xs c s none found_so b at (λ z c1 g a. (refl, (g, a)));
       }
 
+  -- ---- the kinds of formals and arguments
+
+  all_shaped : (Ts : Parts) → AllFormed tests right ds base subs trees w Ts → ShapedParts (types_in base) Ts
+  all_shaped no_part f = tt
+  all_shaped (part T Ts) f = (f.0.has_name, f.0.shaped, all_shaped Ts f.1)
+
+  head_formals : (f : Func) (h : Head) → signature_rule tests base f ≡ Ok h → ShapedParts (types_in base) h.signature.formals
+  head_formals f h j =
+      let i = head_is tests base f h j in
+      subst (λ (z : Head). ShapedParts (types_in base) z.signature.formals) i.is (all_shaped i.formals (formals_formed tests right ds base subs trees w f.params i.params f.formals i.formals i.params_are i.formals_are))
+
+  chosen_formals : (n : ℕ) (gs : List Func) (hs : List Head) (name : List ℕ) (Ts : Parts) (q : Chosen) → signatures_rule tests base gs ≡ Ok hs → choose_from n name Ts (signatures hs) ≡ Some q → ShapedParts (types_in base) q.signature.formals
+  chosen_formals n [] hs name Ts q h k = none_some q (subst (λ l. choose_from n name Ts (signatures l) ≡ Some q) (sym (ok_ok [] hs h)) k)
+  chosen_formals n (g ∷ gs) hs name Ts q h k =
+      let v = bind_ok (signature_rule tests base g) _ hs h in
+      let r = bind_ok (signatures_rule tests base gs) _ hs v.then in
+      by (bytes_eq v.value.signature.name name && same_kinds v.value.signature.formals Ts) v.value (choose_from (suc n) name Ts (signatures r.value)) v.first (λ o. chosen_formals (suc n) gs r.value name Ts q r.first o)
+      (subst (λ l. choose_from n name Ts (signatures l) ≡ Some q) (sym (ok_ok (v.value ∷ r.value) hs r.then)) k)
+    where
+      by : (b : Bool) (h : Head) (o : Option Chosen) → signature_rule tests base g ≡ Ok h → (o ≡ Some q → ShapedParts (types_in base) q.signature.formals) → cond b (Some (record { number = n; signature = h.signature })) o ≡ Some q → ShapedParts (types_in base) q.signature.formals
+      by true h o j next e = subst (λ (z : Chosen). ShapedParts (types_in base) z.signature.formals) (some_same (record { number = n; signature = h.signature }) q e) (head_formals g h j)
+      by false h o j next e = next e
+
+  chosen_kinds : (name : List ℕ) (Ts : Parts) (q : Chosen) → ShapedParts (types_in base) Ts → choose name Ts subs ≡ Some q → kinds_eq (kinds q.signature.formals) (kinds Ts) ≡ true
+  chosen_kinds name Ts q t h =
+      sym (all_by_names (types_in base) (well_declared base w) q.signature.formals Ts (chosen_formals 0 (funcs_of ds) heads name Ts q heads_are h) t) ∙ chosen_same 0 name Ts subs q h
+
   -- the subprogram that the rules chose
-  call_chosen : (H : Here) (span : Span) (name : List ℕ) (ps : List Expr) (os : List Operand) (r : Replacing) (ys xs : List Value) (c : Core) (q : Chosen) → routine_named name ≡ None → choose name (kinds (types_of os)) subs ≡ Some q → both_fit tests span q.signature r.given os (replaced_by q.signature.params r.given) ≡ Ok tt →
+  call_chosen : (H : Here) (span : Span) (name : List ℕ) (ps : List Expr) (os : List Operand) (r : Replacing) (ys xs : List Value) (c : Core) (q : Chosen) → routine_named name ≡ None → choose name (types_of os) subs ≡ Some q → both_fit tests span q.signature r.given os (replaced_by q.signature.params r.given) ≡ Ok tt →
       AllFormed tests right ds base subs trees w (types_of os) → AllIn (types_in base) H.present (types_of os) xs → At tests base subs H c → (k : ParamsAsked tests right base subs H span q.signature ps os r) → AllGive tests right base subs H k.asked ys → CallOk H span name q.number q.signature r ys xs c
   call_chosen H span name ps os r ys xs c q none is fit formed_os in_os at k gives =
-      let m = chose tests right ds base subs trees w c 0 (funcs_of ds) heads trees name xs (types_of os) q at.agrees.globals (program_atoms tests ds) heads_are bodies (λ n. ap (slice_get trees) (nothing_more n)) (kinds_are H.present os xs in_os) is in
+      let m = chose tests right ds base subs trees w c 0 (funcs_of ds) heads trees name xs (types_of os) q at.agrees.globals (program_atoms tests ds) heads_are bodies (λ n. ap (slice_get trees) (nothing_more n)) (kinds_are H.present os xs in_os) (all_shaped (types_of os) formed_os) head_formals is in
       let i = head_is tests base m.func m.head m.judged in
       let e : (head_at m.func m.head i).signature ≡ q.signature = ap (λ (z : Head). z.signature) i.is ∙ m.signature_is in
       subst (λ (z : Signature). FormedResult (types_in base) z.result → kinds_eq (kinds z.formals) (kinds (types_of os)) ≡ true → Paired z.params r.given → both_fit tests span z r.given os (replaced_by z.params r.given) ≡ Ok tt → ParamsSo H.present span m.func z.params r ys xs c → CallOk H span name q.number z r ys xs c) e
       (λ a1 a2 a3 a4 a5. call_head H span name q.number m.func m.head i m.tree os r ys xs c none m.found_so (subst (λ z. signature_rule tests base m.func ≡ Ok z) (sym i.is) m.judged) (subst (λ z. body_rule tests subs z ≡ Ok m.tree) (sym i.is) m.body) m.tree_is formed_os in_os at a1 a2 a3 a4 a5)
-      (chosen_formed tests right ds base subs trees w 0 name (kinds (types_of os)) subs q s is)
-      (chosen_kinds 0 name (kinds (types_of os)) subs q is)
+      (chosen_formed tests right ds base subs trees w 0 name (types_of os) subs q s is)
+      (chosen_kinds name (types_of os) q (all_shaped (types_of os) formed_os) is)
       k.paired fit (k.gives m.func m.head ys xs c i m.signature_is at.agrees.globals gives in_os)
 
   -- a call with its operands, and what follows it
   calls_same : {A : Type 0} (H : Here) (Q : A → A → Core → Type 0) (span : Span) (i : Ident) (ps es : List Expr) (os : List Operand) (c : Core) (q : Chosen) (r : Replacing) (k : Option Value → Core → Does A) (l : Option Value → BareCore → Runs A) →
-      routine_named i.text ≡ None → operands (map (found tests) es) H.scope ≡ Ok os → choose i.text (kinds (types_of os)) H.scope.subs ≡ Some q → widths_rule span q.signature (map (found tests) ps) os H.scope ≡ Ok r → both_fit tests span q.signature r.given os (replaced_by q.signature.params r.given) ≡ Ok tt → At tests base subs H c →
+      routine_named i.text ≡ None → operands (map (found tests) es) H.scope ≡ Ok os → choose i.text (types_of os) H.scope.subs ≡ Some q → widths_rule span q.signature (map (found tests) ps) os H.scope ≡ Ok r → both_fit tests span q.signature r.given os (replaced_by q.signature.params r.given) ≡ Ok tt → At tests base subs H c →
       ((a : Assignment) (x : Option Value) (c1 : Core) → ((n : ℕ) → IsAtomOf q.signature.params n → replaced_at H.present (replaced_by q.signature.params r.given) n ≡ a n) → ResultOver q.signature → GivesCall (types_in base) a q.signature.result x → At tests base subs H c1 → Same tests right base subs H Q (k x c1) (l x (erased c1))) →
       Same tests right base subs H Q (call ps es c (called (env tests right ds base subs trees w) span i.text) k) (call (list_of (trees_from r.trees)) (list_of (trees_of os)) (erased c) (call_of (program tests right ds base subs trees w) span (own q.number) r.places) l)
   calls_same H Q span i ps es os c q r k l none ops is widths fit a next =
       let f : List Value → List Value → Core → Does (Option Value) = called (env tests right ds base subs trees w) span i.text in
       let g : List Value → List Value → BareCore → Runs (Option Value) = call_of (program tests right ds base subs trees w) span (own q.number) r.places in
-      let is2 : choose i.text (kinds (types_of os)) subs ≡ Some q = subst (λ z. choose i.text (kinds (types_of os)) z ≡ Some q) a.subs_are is in
-      let asks = params_asked tests right base subs H span q.signature ps os r (program_atoms tests ds) (program_over tests Never ds) (chosen_kinds 0 i.text (kinds (types_of os)) subs q is2) widths in
+      let is2 : choose i.text (types_of os) subs ≡ Some q = subst (λ z. choose i.text (types_of os) z ≡ Some q) a.subs_are is in
       let formed_os = operands_formed tests right ds base subs trees w es H.scope os (scope_good H.present base H.scope.names c w a.agrees) (subst (FormedSubs tests right (types_in base) (well_declared base w)) (sym a.subs_are) s) ops in
+      let asks = params_asked tests right base subs H span q.signature ps os r (program_atoms tests ds) (program_over tests Never ds) (chosen_kinds i.text (types_of os) q (all_shaped (types_of os) formed_os) is2) widths in
       subst (λ ts. Same tests right base subs H Q (call ps es c f k) (call ts (list_of (trees_of os)) (erased c) g l)) (sym (list_from r.trees))
       (subst (λ us. Same tests right base subs H Q (call ps es c f k) (call r.trees us (erased c) g l)) (sym (list_from (trees_in os)))
       (called_same tests right base subs H Q ps es r.trees (trees_in os) asks.asked (asked_of tests right base subs os) c f g k l asks.asks (operands_asked tests right base subs H.scope es os ops) a
@@ -190,7 +220,7 @@ module _ (tests : Tests) (right : IsRight tests) (ds : List Decl) (heads : List 
       let k = greater (greatest Pure (effects_of os)) q.class in
       let make : Note → Tree = call_tree (own f.value.number) r.value os in
       formed tests right ds base subs trees w H S (ex.Call span i ps es) c span U.value k make (finish_is H.scope.class span (all_together Pure (effects_of os)) k U.value make S U.then) refl
-      (calls_same H (Out tests right base subs H U.value) span i ps es os c f.value r.value (function_gives span) (function_gives span) none ops (found_ok (choose i.text (kinds (types_of os)) H.scope.subs) T09 span f.value f.first) r.first fit.first a
+      (calls_same H (Out tests right base subs H U.value) span i ps es os c f.value r.value (function_gives span) (function_gives span) none ops (found_ok (choose i.text (types_of os) H.scope.subs) T09 span f.value f.first) r.first fit.first a
       (λ av x c1 same over g a1. gives_by H span T.value U.value q r.value av x c1 t u same over (subst (λ z. GivesCall (types_in base) av z x) t g) a1))
 
   -- ---- a procedure
@@ -216,7 +246,7 @@ module _ (tests : Tests) (right : IsRight tests) (ds : List Decl) (heads : List 
       let m : Called = rules.called (own f.value.number) r.value os (procedure_effect os q.class) in
       let d : Done = invoked span m G.names in
       acted tests right ds base subs trees w j true (st.Invoke span i ps es) c d (ap (λ z. invoked span z G.names) (ok_ok m p v.then) ∙ e) refl
-      (λ e2. calls_same (here tests right ds base subs trees w j) (OutAct tests right ds base subs trees w j true) span i ps es os c f.value r.value (procedure_gives span) (procedure_gives span) name ops (found_ok (choose i.text (kinds (types_of os)) G.subs) T09 span f.value f.first) r.first fit.first k.at
+      (λ e2. calls_same (here tests right ds base subs trees w j) (OutAct tests right ds base subs trees w j true) span i ps es os c f.value r.value (procedure_gives span) (procedure_gives span) name ops (found_ok (choose i.text (types_of os) G.subs) T09 span f.value f.first) r.first fit.first k.at
       (λ av x c1 same over g a1. ends_by j span av x c1 d e2 refl (subst (λ z. GivesCall (types_in base) av z x) none g) a1))
 
   pub invoke_acted : (j : StmtClaim) (span : Span) (i : Ident) (ps es : List Expr) (c : Core) → invoke_rule tests span i ps es j.body.scope ≡ Ok j.done → Held tests right ds base subs trees w j c → Acted tests right ds base subs trees w j true (st.Invoke span i ps es) c

@@ -27,7 +27,7 @@ use Rattle.asl_rules.specs.declared.effect.Effect.{Effect}
 use Rattle.asl_rules.specs.declared.effect.Effect.TheVariants.{Pure}
 use Rattle.asl_rules.specs.Faults.{◌>>=◌, ◌>>◌, need, found_or, fault_of}
 use Rattle.asl_rules.specs.Tests.{Tests}
-use Rattle.asl_rules.specs.Types.{Ty, Kinds, kinds, kinds_eq, Fields, Parts, BitField, Widths, integer_of, boolean, bits_of, record_of, exception_of, tuple_of, array_of, named, no_field, field, no_part, part, is_integer, is_boolean, is_bits, same_kind, only_number, join, bare, width_of, bits_wide, substitute}
+use Rattle.asl_rules.specs.Types.{Ty, Fields, Parts, BitField, Widths, integer_of, boolean, bits_of, record_of, exception_of, tuple_of, array_of, named, no_field, field, no_part, part, is_integer, is_boolean, is_bits, same_kind, only_number, join, bare, width_of, bits_wide, substitute, same_kinds}
 use Rattle.asl_rules.specs.Scopes.{Scope, with_class, reading, Signature, Chosen, choose, choose_from, Standing, Stored, Subprogram, TypeName, Label, standing_of, type_of_name}
 use Rattle.asl_rules.specs.Routines.{Routine, UInt, SInt, Zeros, Ones, ZeroExtend, SignExtend, IsZero, IsOnes, Len, Abs, Min, Max, routine_named}
 use Rattle.asl_rules.specs.Widths.{bounded, length_of, width_sum}
@@ -129,10 +129,10 @@ chosen_by : (b : Bool) (n : ℕ) (f : Signature) (o : Option Chosen) (c : Chosen
 chosen_by true n f o c r next h = subst (λ (z : Chosen). ResultOver z.signature) (some_same (record { number = n; signature = f }) c h) r
 chosen_by false n f o c r next h = next h
 
-chosen_over : (n : ℕ) (name : List ℕ) (ks : Kinds) (fs : List Signature) (c : Chosen) → SubsOver fs → choose_from n name ks fs ≡ Some c → ResultOver c.signature
-chosen_over n name ks [] c s h = none_some c h
-chosen_over n name ks (f ∷ fs) c s h =
-    chosen_by (bytes_eq f.name name && kinds_eq (kinds f.formals) ks) n f (choose_from (suc n) name ks fs) c s.0 (λ k. chosen_over (suc n) name ks fs c s.1 k) h
+chosen_over : (n : ℕ) (name : List ℕ) (Ts : Parts) (fs : List Signature) (c : Chosen) → SubsOver fs → choose_from n name Ts fs ≡ Some c → ResultOver c.signature
+chosen_over n name Ts [] c s h = none_some c h
+chosen_over n name Ts (f ∷ fs) c s h =
+    chosen_by (bytes_eq f.name name && same_kinds f.formals Ts) n f (choose_from (suc n) name Ts fs) c s.0 (λ k. chosen_over (suc n) name Ts fs c s.1 k) h
 
 -- ---- what stands for parameters
 
@@ -479,7 +479,7 @@ module _ (A : ℕ → Type 0) (tests : Tests) where
       let g = widths_over span f.value.signature ps os G w.value c a w.first in
       let by : Widths = replaced_by f.value.signature.params w.value.given in
       let r : Over (IsAtomOf f.value.signature.params) T.value =
-      chosen_over 0 i.text (kinds (types_of os)) G.subs f.value s (found_ok (choose i.text (kinds (types_of os)) G.subs) T09 span f.value f.first) T.value (found_ok f.value.signature.result T18 span T.value T.first) in
+      chosen_over 0 i.text (types_of os) G.subs f.value s (found_ok (choose i.text (types_of os) G.subs) T09 span f.value f.first) T.value (found_ok f.value.signature.result T18 span T.value T.first) in
       let q : Over (Replaced A by) T.value = over_more (IsAtomOf f.value.signature.params) (Replaced A by) (λ n i. covered f.value.signature.params w.value.given n g.0 g.1 i) T.value r in
       subst (Over A) (end_type G.class span (all_together Pure (effects_of os)) (greater (greatest Pure (effects_of os)) f.value.signature.class) u.value (call_tree (own f.value.number) w.value os) S u.then)
       (substitute_over A by T.value u.value q (found_ok (substitute by T.value) T20 span u.value u.first))

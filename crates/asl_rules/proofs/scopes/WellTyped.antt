@@ -29,7 +29,7 @@ use Rattle.asl_rules.specs.declared.effect.Effect.{Effect}
 use Rattle.asl_rules.specs.declared.effect.Effect.TheVariants.{Pure}
 use Rattle.asl_rules.specs.Faults.{◌>>=◌, ◌>>◌, need, found_or, fault_of}
 use Rattle.asl_rules.specs.Tests.{Tests, IsRight}
-use Rattle.asl_rules.specs.Types.{Ty, Kinds, kinds, kinds_eq, Fields, Parts, View, BitField, Widths, integer_of, boolean, bits_of, enumeration_of, record_of, exception_of, tuple_of, array_of, named, no_field, field, no_part, part, is_integer, is_boolean, is_bits, same_kind, join, bare, width_of, bits_wide, substitute, substitute_parts, with_type, substituted_ranges, substitute_fits}
+use Rattle.asl_rules.specs.Types.{Ty, Fields, Parts, View, BitField, Widths, integer_of, boolean, bits_of, enumeration_of, record_of, exception_of, tuple_of, array_of, named, no_field, field, no_part, part, is_integer, is_boolean, is_bits, same_kind, join, bare, width_of, bits_wide, substitute, substitute_parts, with_type, substituted_ranges, substitute_fits, same_kinds}
 use Rattle.asl_rules.specs.Closed.{Assignment, width_at}
 use Rattle.asl_rules.specs.Scopes.{Scope, with_class, reading, Signature, Chosen, choose, choose_from, Standing, Stored, Subprogram, TypeName, Label, standing_of, type_of_name}
 use Rattle.asl_rules.specs.WellFormed.{WellFormed, WellDeclared, Shaped, ShapedFields, ShapedParts, AllInside, ShapedView}
@@ -259,11 +259,11 @@ module _ (tests : Tests) (right : IsRight tests) (d : List ℕ → Option Ty) (d
   routine_formed Min ps Ts = integer_formed _
   routine_formed Max ps Ts = integer_formed _
 
-  chosen_formed : (n : ℕ) (name : List ℕ) (ks : Kinds) (fs : List Signature) (c : Chosen) → FormedSubs fs → choose_from n name ks fs ≡ Some c → FormedResult c.signature.result
-  chosen_formed n name ks [] c s h = none_some c h
-  chosen_formed n name ks (f ∷ fs) c s h = by (bytes_eq f.name name && kinds_eq (kinds f.formals) ks) h (λ k. chosen_formed (suc n) name ks fs c s.1 k)
+  chosen_formed : (n : ℕ) (name : List ℕ) (Ts : Parts) (fs : List Signature) (c : Chosen) → FormedSubs fs → choose_from n name Ts fs ≡ Some c → FormedResult c.signature.result
+  chosen_formed n name Ts [] c s h = none_some c h
+  chosen_formed n name Ts (f ∷ fs) c s h = by (bytes_eq f.name name && same_kinds f.formals Ts) h (λ k. chosen_formed (suc n) name Ts fs c s.1 k)
     where
-      by : (b : Bool) → cond b (Some (record { number = n; signature = f })) (choose_from (suc n) name ks fs) ≡ Some c → (choose_from (suc n) name ks fs ≡ Some c → FormedResult c.signature.result) → FormedResult c.signature.result
+      by : (b : Bool) → cond b (Some (record { number = n; signature = f })) (choose_from (suc n) name Ts fs) ≡ Some c → (choose_from (suc n) name Ts fs ≡ Some c → FormedResult c.signature.result) → FormedResult c.signature.result
       by true k next = subst (λ (z : Chosen). FormedResult z.signature.result) (some_same (record { number = n; signature = f }) c k) s.0
       by false k next = next k
 
@@ -285,7 +285,7 @@ module _ (tests : Tests) (right : IsRight tests) (d : List ℕ → Option Ty) (d
       let u = bind_ok (found_or (substitute (replaced_by f.value.signature.params w.value.given) T.value) T20 span) _ S b.then in
       subst (WellFormed d) (end_type G.class span (all_together Pure (effects_of os)) (greater (greatest Pure (effects_of os)) f.value.signature.class) u.value (call_tree (own f.value.number) w.value os) S u.then)
       (substitute_formed (replaced_by f.value.signature.params w.value.given) T.value u.value
-      (result_of f.value.signature.result T.value (chosen_formed 0 i.text (kinds (types_of os)) G.subs f.value s (found_ok (choose i.text (kinds (types_of os)) G.subs) T09 span f.value f.first)) (found_ok f.value.signature.result T18 span T.value T.first))
+      (result_of f.value.signature.result T.value (chosen_formed 0 i.text (types_of os) G.subs f.value s (found_ok (choose i.text (types_of os) G.subs) T09 span f.value f.first)) (found_ok f.value.signature.result T18 span T.value T.first))
       (found_ok (substitute (replaced_by f.value.signature.params w.value.given) T.value) T20 span u.value u.first))
 
   -- ---- bitfields that are written

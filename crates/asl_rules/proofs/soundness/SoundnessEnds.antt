@@ -11,7 +11,6 @@ use Rattle.asl_syn.specs.declared.code.StaticCode.TheVariants.{T09, T18}
 use Rattle.asl_rules.specs.declared.effect.Effect.TheVariants.{Pure}
 use Rattle.asl_rules.specs.declared.entry.Entry.{Entry as Entered_by}
 use Rattle.asl_rules.specs.Tests.{Tests, IsRight}
-use Rattle.asl_rules.specs.Types.{kinds}
 use Rattle.asl_rules.specs.Closed.{Assignment}
 use Rattle.asl_rules.specs.Values.{Value}
 use Rattle.asl_rules.specs.Scopes.{Scope, Entry, Signature, choose, with_class}
@@ -76,7 +75,7 @@ pub no_calls : (tests : Tests) (right : IsRight tests) (ds : List Decl) (base : 
 no_calls tests right ds base w = record {
   own = λ H S span i ps es os c n p o h a.
       let b = bind_ok (chosen span i os H.scope.subs) _ S h in
-      none_some b.value (found_ok (choose i.text (kinds (types_of os)) []) T09 span b.value (subst (λ fs. chosen span i os fs ≡ Ok b.value) a.subs_are b.first));
+      none_some b.value (found_ok (choose i.text (types_of os) []) T09 span b.value (subst (λ fs. chosen span i os fs ≡ Ok b.value) a.subs_are b.first));
 }
 
 -- nor is a procedure called
@@ -91,7 +90,7 @@ no_procedures tests right ds base w j span i ps es c h k =
     by (Some r) os d q = let u = then_ok (routine_taken span r os) (fault T18 span) d q in err_ok (fault_of T18 span) d u.then
     by None os d q =
         let u = bind_ok (chosen span i os j.body.scope.subs) _ d q in
-        none_some u.value (found_ok (choose i.text (kinds (types_of os)) []) T09 span u.value (subst (λ fs. chosen span i os fs ≡ Ok u.value) k.at.subs_are u.first))
+        none_some u.value (found_ok (choose i.text (types_of os) []) T09 span u.value (subst (λ fs. chosen span i os fs ≡ Ok u.value) k.at.subs_are u.first))
 
 -- ---- of a program
 

@@ -385,7 +385,7 @@ module _ (t : Tests) (A B : List Entry) (subs : List Signature) where
       (after Same (routine_taken span r os) _ _ (after Same (need (length ps == routine_params r) T11 span) _ _
       (steps SameReplacing Same (widths_given ps (first k)) (widths_given ps (second k)) _ _ (widths_alike ps h k) (with_given Same (λ w. routine_called k span r w os) (λ w. routine_called k span r w us) (λ w vs. routine_alike span r w vs k os us j)))))
   function_alike span i ps os us k None h j =
-      subst (λ Ts. Alike Same (function_of t span i ps os (first k) None) (found_or (choose i.text (kinds Ts) subs) T09 span >>= λ f. found_or f.signature.result T18 span >>= λ T. widths_rule span f.signature ps us (second k) >>= λ w. function_called t k span f T w us)) (sym (types_same os us j))
+      subst (λ Ts. Alike Same (function_of t span i ps os (first k) None) (found_or (choose i.text Ts subs) T09 span >>= λ f. found_or f.signature.result T18 span >>= λ T. widths_rule span f.signature ps us (second k) >>= λ w. function_called t k span f T w us)) (sym (types_same os us j))
       (step Same (chosen span i os subs) _ _ (λ f. step Same (found_or f.signature.result T18 span) _ _ (λ T.
       steps SameReplacing Same (widths_rule span f.signature ps os (first k)) (widths_rule span f.signature ps us (second k)) _ _ (rule_alike span f.signature ps os us k h j)
       (with_given Same (λ w. function_called t k span f T w os) (λ w. function_called t k span f T w us) (λ w vs. called_alike span f T w vs k os us j)))))
