@@ -23,7 +23,7 @@ use asl_syn::token::Span;
 use asl_syn::tree::FieldValue;
 use asl_types::seeing::see;
 use asl_types::{FieldType, Form, Scope, Ty};
-use asl_value::{FieldValue as ValueOfField, Name, Names, Value};
+use asl_value::{FieldValue as ValueOfField, Name, Supers, Value};
 use sqlite_items::Items;
 use std::alloc::{AllocError, Global};
 
@@ -130,7 +130,7 @@ fn in_record(alloc: Global, name: &Name, fields: Items<ValueOfField>) -> Result<
 fn in_exception(
     alloc: Global,
     own: &Name,
-    supers: &Names,
+    supers: &Supers,
     name: &Name,
     fields: Items<ValueOfField>,
 ) -> Result<Value, AllocError>
@@ -161,7 +161,7 @@ fn built_exception(
     alloc: Global,
     given: Given,
     own: &Name,
-    supers: &Names,
+    supers: &Supers,
     name: &Name,
     fields: &[FieldType],
 ) -> Result<Value, Unknown>
@@ -173,7 +173,13 @@ fn built_exception(
 }
 
 /// What a construction of a type makes, an exception by the name that it is built with.
-fn built(alloc: Global, given: Given, own: &Name, supers: &Names, ty: &Ty) -> Result<Value, Unknown>
+fn built(
+    alloc: Global,
+    given: Given,
+    own: &Name,
+    supers: &Supers,
+    ty: &Ty,
+) -> Result<Value, Unknown>
     requires { given.firsts.now ≡ placed (given_names given.fields.now) 0 [] }
     ensures { Finds value_of result (rules.built given.entry.span own.now supers.now (closed ty.now) (given_names given.entry.fields.now) (map value_of given.entry.values.now)) }
 {
@@ -198,7 +204,7 @@ fn built_plain(alloc: Global, given: Given, ty: &Ty) -> Result<Value, Unknown>
     ensures { Finds value_of result (rules.built given.entry.span [] [] (closed ty.now) (given_names given.entry.fields.now) (map value_of given.entry.values.now)) }
 {
     let no_name = Shared::new(alloc, Items::new(alloc))?;
-    let no_names = Shared::new(alloc, Items::new(alloc))?;
+    let no_names = Supers::none(alloc)?;
     built(alloc, given, &no_name, &no_names, ty)
 }
 

@@ -32,7 +32,7 @@ use asl_types::answer::fault;
 use asl_types::effects::greater;
 use asl_types::fits::misfit;
 use asl_types::{Context, FieldType, Form, Ty};
-use asl_value::{Name, Names, Shell};
+use asl_value::{Name, Shell, Supers};
 use sqlite_items::{Boxed, Items};
 use std::alloc::{AllocError, Global};
 
@@ -292,13 +292,6 @@ fn no_name(alloc: Global) -> Result<Name, AllocError>
     Shared::new(alloc, Items::new(alloc))
 }
 
-/// No names.
-fn no_names(alloc: Global) -> Result<Names, AllocError>
-    ensures { IfOk result (λ ns. ns ≡ []) }
-{
-    Shared::new(alloc, Items::new(alloc))
-}
-
 /// A record of the declaration of this name.
 fn record_built<'t>(name: &Name, fields: &'t [FieldType]) -> Result<Option<Built<'t>>, AllocError>
     ensures { IfOk result (λ o. option_map built_view o ≡ Some (making (record_shell name.now) (fields_of fields.now))) }
@@ -312,7 +305,7 @@ fn record_built<'t>(name: &Name, fields: &'t [FieldType]) -> Result<Option<Built
 /// An exception of the declaration of this name, which is built with one that reaches these.
 fn exception_built<'t>(
     own: &Name,
-    supers: &Names,
+    supers: &Supers,
     name: &Name,
     fields: &'t [FieldType],
 ) -> Result<Option<Built<'t>>, AllocError>
@@ -326,7 +319,7 @@ fn exception_built<'t>(
 
 /// What a construction makes of a type that is built with this name, which reaches these: `None` where it is no record and no
 /// exception.
-fn built_as<'t>(own: &Name, supers: &Names, ty: &'t Ty) -> Result<Option<Built<'t>>, AllocError>
+fn built_as<'t>(own: &Name, supers: &Supers, ty: &'t Ty) -> Result<Option<Built<'t>>, AllocError>
     ensures { IfOk result (λ o. option_map built_view o ≡ made_as own.now supers.now ty.now) }
 {
     match ty.form() {
@@ -349,7 +342,7 @@ fn built_bare(alloc: Global, ty: &Ty) -> Result<Option<Built<'_>>, AllocError>
     ensures { IfOk result (λ o. option_map built_view o ≡ made_as [] [] ty.now) }
 {
     let own = no_name(alloc)?;
-    let supers = no_names(alloc)?;
+    let supers = Supers::none(alloc)?;
     built_as(&own, &supers, ty)
 }
 

@@ -1,4 +1,4 @@
--- Fields, labels and names that are built one by one.
+-- Fields and labels that are built one by one.
 use Rattle.std.proofs.Common.{◌≡◌, ℕ, List, [], ◌∷◌, ◌++◌, true, Result, Ok, Err, refl, sym, ap, ◌∙◌}
 use Rattle.asl_syn.specs.declared.code.Fault.{Fault}
 use Rattle.asl_syn.specs.declared.tree.Formal.{Formal}
@@ -13,7 +13,7 @@ use Rattle.asl_rules.specs.Declarations.{labels, fields_written}
 use Rattle.asl_types.specs.declared.ty.FieldType.{FieldType}
 use Rattle.asl_types.specs.declared.ty.FieldType.TheVariants as field
 use Rattle.asl_types.specs.View.{fields_of}
-use Rattle.asl_judge.specs.Definitions.{fields_after, names_after, labels_after}
+use Rattle.asl_judge.specs.Definitions.{fields_after, labels_after}
 
 -- ---- fields
 
@@ -75,13 +75,6 @@ append_one (x ∷ xs) n ns = ap (λ zs. x ∷ zs) (append_one xs n ns)
 append_nil : (xs : List (List ℕ)) → xs ≡ xs ++ []
 append_nil [] = refl
 append_nil (x ∷ xs) = ap (λ zs. x ∷ zs) (append_nil xs)
-
-names_behind : (ns xs : List (List ℕ)) → names_after xs ns ≡ xs ++ ns
-names_behind [] xs = append_nil xs
-names_behind (n ∷ ns) xs = names_behind ns (xs ++ n ∷ []) ∙ append_one xs n ns
-
-pub names_all : (xs : List (List ℕ)) (n : List ℕ) (ns : List (List ℕ)) → xs ≡ names_after (n ∷ []) ns → xs ≡ n ∷ ns
-names_all xs n ns h = h ∙ names_behind ns (n ∷ [])
 
 labels_behind : (is : List Ident) (xs : List (List ℕ)) → labels_after xs is ≡ xs ++ labels is
 labels_behind [] xs = append_nil xs

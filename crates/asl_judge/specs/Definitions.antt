@@ -53,8 +53,3 @@ once_beside (f ∷ fs) n ps = is_absent (first_place f.name.text ps) && once_bes
 abbrev pub labels_after : List (List ℕ) → List Ident → List (List ℕ)
 labels_after xs [] = xs
 labels_after xs (i ∷ is) = labels_after (xs ++ i.text ∷ []) is
-
--- names behind others
-abbrev pub names_after : List (List ℕ) → List (List ℕ) → List (List ℕ)
-names_after xs [] = xs
-names_after xs (n ∷ ns) = names_after (xs ++ n ∷ []) ns

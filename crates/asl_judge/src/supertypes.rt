@@ -1,4 +1,4 @@
-//! The names that declared types reach by `subtypes`.
+//! The names that declared types reach by `subtypes`. A declared type shares those that its supertype reaches.
 
 ghost use Rattle.std.specs.Prelude.{◌≡◌, ◌∷◌, [], IfOk};
 ghost use Rattle.asl_rules.specs.Declarations as rules;
@@ -9,7 +9,6 @@ ghost use Rattle.asl_rules.specs.Scopes.{type_of_name};
 ghost use Rattle.asl_types.specs.Answers.{Agrees};
 ghost use Rattle.asl_types.specs.ContextView.{scope_of};
 ghost use Rattle.asl_types.specs.Suits.{Suits};
-ghost use Rattle.asl_judge.specs.Definitions.{names_after};
 
 use crate::definitions::name_of;
 use asl_shared::{Held, Shared};
@@ -20,44 +19,22 @@ use asl_types::answer::fault;
 use asl_types::fits::misfit;
 use asl_types::structure::structure;
 use asl_types::{Context, Form, Scope, Ty};
-use asl_value::Name;
-use sqlite_items::Items;
+use asl_value::Supers;
 use std::alloc::{AllocError, Global};
 
-/// Names behind one.
-fn names_behind(alloc: Global, name: &Name, supers: &[Name]) -> Result<Items<Name>, AllocError>
-    ensures { IfOk result (λ names. names ≡ names_after (name.now ∷ []) supers.now) }
-{
-    let mut names = Items::new(alloc);
-    names.push(name.share()?)?;
-    for other in supers {
-        names.push(other.share()?)?;
-    }
-    Ok(names)
-}
-
-/// A name, and the names that it reaches.
-fn with_reached(alloc: Global, name: &Name, supers: &[Name]) -> Result<Items<Name>, AllocError>
-    ensures { IfOk result (λ names. names ≡ name.now ∷ supers.now) }
-{
-    let names = names_behind(alloc, name, supers)?;
-    Ok(names)
-}
-
-fn only(alloc: Global, name: &[u8]) -> Result<Items<Name>, AllocError>
+fn only(alloc: Global, name: &[u8]) -> Result<Supers, AllocError>
     ensures { IfOk result (λ names. names ≡ name.now ∷ []) }
 {
-    let mut names = Items::new(alloc);
-    names.push(name_of(alloc, name)?)?;
-    Ok(names)
+    let name = name_of(alloc, name)?;
+    Supers::none(alloc)?.with(alloc, &name)
 }
 
 /// The names that a declared type of this name reaches, itself first.
-fn reached(alloc: Global, name: &[u8], ty: &Ty) -> Result<Items<Name>, AllocError>
+fn reached(alloc: Global, name: &[u8], ty: &Ty) -> Result<Supers, AllocError>
     ensures { IfOk result (λ names. names ≡ rules.reached name.now ty.now) }
 {
     match ty.form() {
-        Form::Named(own, supers, _) => with_reached(alloc, own, supers.get().as_slice()),
+        Form::Named(own, supers, _) => supers.with(alloc, own),
         Form::Integer(_) => only(alloc, name),
         Form::Boolean => only(alloc, name),
         Form::Bits(_, _) => only(alloc, name),
@@ -95,11 +72,11 @@ pub(crate) fn supertypes(
     context: Context,
     supertype: &Option<Ident>,
     ty: &Ty,
-) -> Result<Items<Name>, Refused>
+) -> Result<Supers, Refused>
     ensures { (t : Tests) → Suits t → Agrees result (rules.supertype_rule t supertype.now ty.now (scope_of context.entry)) }
 {
     match supertype {
-        None => Ok(Items::new(alloc)),
+        None => Ok(Supers::none(alloc)?),
         Some(name) => {
             let other = Held::new(declared(name, context.names)?);
             check_subtype(name.span, ty, other.get())?;
@@ -112,13 +89,12 @@ pub(crate) fn supertypes(
 pub(crate) fn named_with(
     alloc: Global,
     name: &[u8],
-    supers: Items<Name>,
+    supers: Supers,
     ty: &Ty,
 ) -> Result<Ty, AllocError>
     ensures { IfOk result (λ it. it ≡ named name.now supers (structure ty.now)) }
 {
     let name = name_of(alloc, name)?;
-    let supers = Shared::new(alloc, supers)?;
     let inner = structure(ty).copy()?;
     Ok(Ty::named(name, supers, Shared::new(alloc, inner)?))
 }

@@ -18,7 +18,7 @@ use asl_io::Sink;
 use asl_shared::Held;
 use asl_syn::token::Span;
 use asl_tree::act::{Act, Catcher, Last};
-use asl_value::{Name, Value, copy, reaches};
+use asl_value::{Name, Value, copy, reaches_somewhere};
 use sqlite_items::Items;
 
 /// The catchers of a `try`.
@@ -128,11 +128,9 @@ fn is_caught(name: &Name, x: &Value) -> bool
     ensures { result ≡ forms.is_caught name.now (value_of x.now) }
 {
     match x {
-        Value::Exception(own, supers, _, _) => reaches(
-            own.get().as_slice(),
-            supers.get().as_slice(),
-            name.get().as_slice(),
-        ),
+        Value::Exception(own, supers, _, _) => {
+            reaches_somewhere(own.get().as_slice(), supers, name.get().as_slice())
+        }
         _ => false,
     }
 }

@@ -14,7 +14,7 @@ use crate::numbers::{is_in, number_of};
 use asl_bits::Bits;
 use asl_cons::Part;
 use asl_types::{FieldType, Form, Ty};
-use asl_value::{FieldValue, Name, Value, is_among, reaches, same_name};
+use asl_value::{FieldValue, Name, Supers, Value, is_among, reaches, same_name};
 
 /// Whether a value is of the kind of a type, has its widths, lies in its constraints, and reaches its names, part by part. In
 /// the type no name of a body stands.
@@ -44,17 +44,19 @@ fn is_of(ty: &Ty, x: &Value) -> bool
         }
         Form::Tuple(parts) => tuple_belongs(parts.get().as_slice(), x),
         Form::Array(length, element) => array_belongs(*length, element.get(), x),
-        Form::Named(name, _, inner) => { may_be(x, name.get().as_slice()) && is_of(inner.get(), x) }
+        Form::Named(name, supers, inner) => {
+            may_be(x, name.get().as_slice(), supers) && is_of(inner.get(), x)
+        }
     }
 }
 
-/// Whether a value is no exception that doesn't reach this name.
-fn may_be(x: &Value, name: &[u8]) -> bool
+/// Whether a value is no exception that doesn't reach this name, which itself reaches others.
+fn may_be(x: &Value, name: &[u8], others: &Supers) -> bool
     ensures { result ≡ rules.is_exception name.now (value_of x.now) }
 {
     match x {
         Value::Exception(own, supers, _, _) => {
-            reaches(own.get().as_slice(), supers.get().as_slice(), name)
+            reaches(own.get().as_slice(), supers, name, others.len())
         }
         _ => true,
     }

@@ -18,7 +18,7 @@ use asl_syn::code::DynCode;
 use asl_syn::token::Span;
 use asl_types::kinds::kind;
 use asl_types::{FieldType, Form, Ty, View};
-use asl_value::{Failure, FieldValue, Kind, Name, Names, Value, copy};
+use asl_value::{Failure, FieldValue, Kind, Name, Supers, Value, copy};
 use sqlite_items::Items;
 use std::alloc::{AllocError, Global};
 
@@ -86,7 +86,7 @@ fn first_label(alloc: Global, labels: &[Name]) -> Result<Name, AllocError>
 }
 
 /// What an exception is that no constructed type names.
-fn named_as(name: &Name, supers: &Names, x: Value) -> Result<Value, AllocError>
+fn named_as(name: &Name, supers: &Supers, x: Value) -> Result<Value, AllocError>
     ensures { IfOk result (λ it. value_of it ≡ values.named_as name.now supers.now (value_of x)) }
 {
     match x {
@@ -127,7 +127,7 @@ fn first_exception(
         (rules.first_value WIDTH_LIMIT span (cl.exception_of name.now (cl.fields_with (fields_of fields.now) (λ n. pos 0)))) }
 {
     let fields = Shared::new(alloc, first_fields(alloc, span, fields)?)?;
-    let supers = Shared::new(alloc, Items::new(alloc))?;
+    let supers = Supers::none(alloc)?;
     Ok(Value::Exception(name.share()?, supers, name.share()?, fields))
 }
 

@@ -12,7 +12,7 @@ use asl_syn::tree::{BinaryOperator, Direction, UnaryOperator};
 use asl_tree::act::{Act, Alternative, Bounds, Catcher, Choice, Guard, Last, Simple, TreeFunc};
 use asl_tree::tree::{Callee, Note, Tree};
 use asl_types::Ty;
-use asl_value::{Kind, Name, Shell, Value};
+use asl_value::{Kind, Name, Shell, Supers, Value};
 use sqlite_items::{Boxed, Items};
 use std::alloc::{AllocError, Global};
 use std::mem;
@@ -257,7 +257,7 @@ fn in_try(alloc: Global, list: List) -> Result<List, AllocError> {
 /// `throw E{};`
 fn thrown(alloc: Global) -> Result<List, AllocError> {
     let own = named(alloc, b"E")?;
-    let supers = Shared::new(alloc, Items::new(alloc))?;
+    let supers = Supers::none(alloc)?;
     let fields = Shared::new(alloc, Items::new(alloc))?;
     let value = Value::Exception(own.share()?, supers, own, fields);
     let e = Boxed::new(alloc, Tree::Constant(note(), value))?;

@@ -6,7 +6,7 @@ use asl_syn::token::Span;
 use asl_types::fits::{join, misfit};
 use asl_types::sizes::{bounded, is_bounded};
 use asl_types::{FieldType, Form, Ty};
-use asl_value::Name;
+use asl_value::{Name, Supers};
 use sqlite_items::Items;
 use std::alloc::{AllocError, Global};
 
@@ -34,7 +34,7 @@ fn colour(alloc: Global) -> Result<Ty, AllocError> {
 /// A name for a type, which reaches nothing.
 fn named(alloc: Global, text: &str, inner: Ty) -> Result<Ty, AllocError> {
     let inner = Shared::new(alloc, inner)?;
-    let reached = Shared::new(alloc, Items::new(alloc))?;
+    let reached = Supers::none(alloc)?;
     Ok(Ty::named(name(alloc, text)?, reached, inner))
 }
 

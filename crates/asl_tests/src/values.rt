@@ -9,8 +9,9 @@ use asl_syn::token::Span;
 use asl_syn::tree::{BinaryOperator, UnaryOperator};
 use asl_types::Ty;
 use asl_value::{
-    Failure, FieldValue, Kind, Name, Shell, Step, Value, binary, copy, element_of, field_in,
-    leaves_open, literal, literal_bits, part_in, plain_bits, replace, show, truth, tuple, unary,
+    Failure, FieldValue, Kind, Name, Shell, Step, Supers, Value, binary, copy, element_of,
+    field_in, leaves_open, literal, literal_bits, part_in, plain_bits, replace, show, truth, tuple,
+    unary,
 };
 use sqlite_items::Items;
 use std::alloc::{AllocError, Global};
@@ -52,11 +53,10 @@ fn point(alloc: Global, x: Value, y: Value) -> Result<Value, AllocError> {
 fn late(alloc: Global, code: i128) -> Result<Value, AllocError> {
     let mut fields = Items::new(alloc);
     fields.push(FieldValue::Given(name(alloc, "code")?, Value::Int(code)))?;
-    let mut supers = Items::new(alloc);
-    supers.push(name(alloc, "Error")?)?;
+    let supers = Supers::none(alloc)?.with(alloc, &name(alloc, "Error")?)?;
     Ok(Value::Exception(
         name(alloc, "Late")?,
-        Shared::new(alloc, supers)?,
+        supers,
         name(alloc, "Error")?,
         Shared::new(alloc, fields)?,
     ))

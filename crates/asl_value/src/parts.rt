@@ -9,7 +9,8 @@ ghost use Rattle.asl_value.specs.Reaching as reaching;
 ghost use Rattle.asl_value.specs.View.{kind_of, value_of, field_of, all_values, all_fields};
 
 use crate::failure::Failure;
-use crate::value::{FieldValue, Kind, Name, Names, Value, copy};
+use crate::supers::Supers;
+use crate::value::{FieldValue, Kind, Name, Value, copy};
 use asl_shared::Shared;
 use asl_syn::code::DynCode;
 use asl_syn::token::Span;
@@ -23,7 +24,7 @@ pub enum Shell {
     Record(Name),
     /// An exception: the name that it is built with, the names that this reaches, and the name of the declaration that writes
     /// its type.
-    Exception(Name, Names, Name),
+    Exception(Name, Supers, Name),
 }
 
 /// The element of an array at an index, over the same parts: D06 where there is none.
