@@ -4,6 +4,7 @@ ghost use Rattle.std.specs.Prelude.{◌≡◌, ◌∷◌, ◌++◌, [], map, IfO
 ghost use Rattle.asl_rules.specs.Nodes as rules;
 ghost use Rattle.asl_names.specs.NodeView.{node_of, all_nodes, bitfield_nodes, part_nodes, given_nodes};
 
+use crate::heads::head_of_expr;
 use crate::node::Node;
 use asl_syn::token::Span;
 use asl_syn::tree::{Bitfield, ConstraintPart, Expr, FieldValue, Ident, Pattern, Slice, TypeExpr};
@@ -23,64 +24,40 @@ pub(crate) fn add<'a>(nodes: &mut Items<Node<'a>>, node: Node<'a>) -> Result<(),
 pub(crate) fn add_expr<'a>(nodes: &mut Items<Node<'a>>, e: &'a Expr) -> Result<(), AllocError>
     ensures { OnOk result (all_nodes nodes.new ≡ all_nodes nodes.old ++ rules.expr_nodes e.now) }
 {
+    add(nodes, head_of_expr(e))?;
     match e {
-        Expr::Int(span, n) => add(nodes, Node::Number(*span, *n)),
-        Expr::Bits(span, text) => add(nodes, Node::BitsLiteral(*span, text.as_slice())),
-        Expr::Bool(span, _) => add(nodes, Node::Boolean(*span)),
-        Expr::Name(span, name) => add(nodes, Node::Name(*span, name.as_slice())),
-        Expr::Unary(span, o, a) => {
-            add(nodes, Node::Unary(*span, *o))?;
-            add_expr(nodes, a.get())
-        }
-        Expr::Binary(span, o, a, b) => {
-            add(nodes, Node::Binary(*span, *o))?;
+        Expr::Int(_, _) | Expr::Bits(_, _) | Expr::Bool(_, _) | Expr::Name(_, _) => Ok(()),
+        Expr::Unary(_, _, a) => add_expr(nodes, a.get()),
+        Expr::Field(_, a, _) => add_expr(nodes, a.get()),
+        Expr::Fields(_, a, _) => add_expr(nodes, a.get()),
+        Expr::Binary(_, _, a, b) => {
             add_expr(nodes, a.get())?;
             add_expr(nodes, b.get())
         }
-        Expr::Conditional(span, c, a, b) => {
-            add(nodes, Node::Conditional(*span))?;
+        Expr::Element(_, a, i) => {
+            add_expr(nodes, a.get())?;
+            add_expr(nodes, i.get())
+        }
+        Expr::Conditional(_, c, a, b) => {
             add_expr(nodes, c.get())?;
             add_expr(nodes, a.get())?;
             add_expr(nodes, b.get())
         }
-        Expr::Tuple(span, parts) => {
-            add(nodes, Node::Tuple(*span, parts.len()))?;
-            add_exprs(nodes, parts.as_slice())
-        }
-        Expr::Construct(span, name, fields) => {
-            add(nodes, Node::Construction(*span, name.text.as_slice()))?;
-            add_fields(nodes, fields.as_slice())
-        }
-        Expr::Call(span, name, parameters, arguments) => {
-            add(nodes, Node::Call(*span, name.text.as_slice()))?;
+        Expr::Tuple(_, parts) => add_exprs(nodes, parts.as_slice()),
+        Expr::Construct(_, _, fields) => add_fields(nodes, fields.as_slice()),
+        Expr::Call(_, _, parameters, arguments) => {
             add_exprs(nodes, parameters.as_slice())?;
             add_exprs(nodes, arguments.as_slice())
         }
-        Expr::Field(span, a, _) => {
-            add(nodes, Node::Field(*span))?;
-            add_expr(nodes, a.get())
-        }
-        Expr::Fields(span, a, names) => {
-            add(nodes, Node::FieldList(*span, names.len()))?;
-            add_expr(nodes, a.get())
-        }
-        Expr::Slices(span, a, slices) => {
-            add(nodes, Node::Slicing(*span, slices.len()))?;
+        Expr::Slices(_, a, slices) => {
             add_expr(nodes, a.get())?;
             add_slices(nodes, slices.as_slice())
         }
-        Expr::Element(span, a, i) => {
-            add(nodes, Node::Element(*span))?;
-            add_expr(nodes, a.get())?;
-            add_expr(nodes, i.get())
-        }
-        Expr::As(span, a, ty) => {
-            add(nodes, Node::Conversion(*span))?;
+        Expr::As(_, a, ty) => {
             add_expr(nodes, a.get())?;
             add_type(nodes, ty.get())
         }
-        Expr::In(span, a, pattern) => {
-            add(nodes, Node::Membership(*span))?;
+        Expr::In(_, a, pattern) => {
             add_expr(nodes, a.get())?;
             add_pattern(nodes, pattern.get())
         }

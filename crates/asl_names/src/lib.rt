@@ -10,6 +10,7 @@ mod declarers;
 mod expr_nodes;
 pub mod firsts;
 mod graph;
+mod heads;
 mod library;
 pub mod listed;
 mod names;

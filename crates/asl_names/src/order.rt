@@ -158,20 +158,35 @@ fn first_ready(graph: &[Items<usize>], marks: &[bool]) -> Option<usize>
     None
 }
 
+/// The order goes on as far as it can.
+fn complete(
+    order: &mut Listed,
+    graph: &[Items<usize>],
+    left: &mut Vec<usize>,
+    users: &[Items<usize>],
+) -> Result<(), AllocError>
+    requires order { IsOrder graph.now order.old.nodes order.old.marks }
+    ensures order { OnOk result (IsOrder graph.now order.new.nodes order.new.marks) }
+    ensures stuck { OnOk result (IsStuck graph.now order.new.marks) }
+{
+    let mut at = release_from(order, graph, left, users, 0)?;
+    while let Some(node) = first_ready(graph, order.marks.as_slice()) {
+        append(order, graph, node)?;
+        at = release_from(order, graph, left, users, at)?;
+    }
+    Ok(())
+}
+
 /// An order that goes on as far as it can: each node that isn't in it uses another that isn't. It takes a time that grows
 /// with the nodes and their uses.
 pub fn order_of(alloc: Global, graph: &[Items<usize>]) -> Result<Listed, AllocError>
     ensures order { IfOk result (λ order. IsOrder graph.now order.nodes order.marks) }
     ensures stuck { IfOk result (λ order. IsStuck graph.now order.marks) }
 {
-    let mut order = Listed::new(alloc, graph.len())?;
     let users = users_of(alloc, graph)?;
     let mut left = uses_left(alloc, graph)?;
+    let mut order = Listed::new(alloc, graph.len())?;
     offer_each(&mut order, graph)?;
-    let mut at = release_from(&mut order, graph, &mut left, users.as_slice(), 0)?;
-    while let Some(node) = first_ready(graph, order.marks.as_slice()) {
-        append(&mut order, graph, node)?;
-        at = release_from(&mut order, graph, &mut left, users.as_slice(), at)?;
-    }
+    complete(&mut order, graph, &mut left, users.as_slice())?;
     Ok(order)
 }

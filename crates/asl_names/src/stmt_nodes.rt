@@ -5,6 +5,7 @@ ghost use Rattle.asl_rules.specs.Nodes as rules;
 ghost use Rattle.asl_names.specs.NodeView.{node_of, all_nodes, branch_nodes, alternative_nodes, otherwise_nodes, catcher_nodes};
 
 use crate::expr_nodes::{add, add_expr, add_pattern, add_slice, add_type};
+use crate::heads::head_of_stmt;
 use crate::node::Node;
 use asl_syn::tree::{
     Alternative, Catcher, ElseIf, Expr, Otherwise, Pattern, PlacedSuffix, PrintItem, Slice, Stmt,
@@ -141,87 +142,113 @@ fn add_items<'a>(nodes: &mut Items<Node<'a>>, items: &'a [PrintItem]) -> Result<
     Ok(())
 }
 
+/// The nodes of a type, where there is one, and of an expression.
+fn add_typed<'a>(
+    nodes: &mut Items<Node<'a>>,
+    ty: &'a Option<TypeExpr>,
+    e: &'a Expr,
+) -> Result<(), AllocError>
+    ensures { OnOk result (all_nodes nodes.new ≡ all_nodes nodes.old ++ (rules.maybe_type_nodes ty.now ++ rules.expr_nodes e.now)) }
+{
+    add_maybe_type(nodes, ty)?;
+    add_expr(nodes, e)
+}
+
+/// The nodes of a target and of what is assigned.
+fn add_assigned<'a>(
+    nodes: &mut Items<Node<'a>>,
+    target: &'a Target,
+    e: &'a Expr,
+) -> Result<(), AllocError>
+    ensures { OnOk result (all_nodes nodes.new ≡ all_nodes nodes.old ++ (rules.target_nodes target.now ++ rules.expr_nodes e.now)) }
+{
+    add_target(nodes, target)?;
+    add_expr(nodes, e)
+}
+
+/// The nodes of the parameters and the arguments of a call.
+fn add_given<'a>(
+    nodes: &mut Items<Node<'a>>,
+    parameters: &'a [Expr],
+    arguments: &'a [Expr],
+) -> Result<(), AllocError>
+    ensures { OnOk result (all_nodes nodes.new ≡ all_nodes nodes.old ++ (rules.all_expr_nodes parameters.now ++ rules.all_expr_nodes arguments.now)) }
+{
+    add_each_expr(nodes, parameters)?;
+    add_each_expr(nodes, arguments)
+}
+
+/// The nodes of the condition of a loop and of its limit, where there is one.
+fn add_guard<'a>(
+    nodes: &mut Items<Node<'a>>,
+    e: &'a Expr,
+    limit: &'a Option<Expr>,
+) -> Result<(), AllocError>
+    ensures { OnOk result (all_nodes nodes.new ≡ all_nodes nodes.old ++ (rules.expr_nodes e.now ++ rules.maybe_expr_nodes limit.now)) }
+{
+    add_expr(nodes, e)?;
+    add_maybe_expr(nodes, limit)
+}
+
+/// The nodes of the ends of a `for` and of its limit, where there is one.
+fn add_bounds<'a>(
+    nodes: &mut Items<Node<'a>>,
+    from: &'a Expr,
+    to: &'a Expr,
+    limit: &'a Option<Expr>,
+) -> Result<(), AllocError>
+    ensures { OnOk result (all_nodes nodes.new ≡ all_nodes nodes.old ++ (rules.expr_nodes from.now ++ (rules.expr_nodes to.now ++ rules.maybe_expr_nodes limit.now))) }
+{
+    add_expr(nodes, from)?;
+    add_guard(nodes, to, limit)
+}
+
 /// The nodes of a statement.
 #[cycle(stmt_nodes)]
 fn add_stmt<'a>(nodes: &mut Items<Node<'a>>, s: &'a Stmt) -> Result<(), AllocError>
     ensures { OnOk result (all_nodes nodes.new ≡ all_nodes nodes.old ++ rules.stmt_nodes s.now) }
 {
+    add(nodes, head_of_stmt(s))?;
     match s {
-        Stmt::Pass(span) => add(nodes, Node::Pass(*span)),
-        Stmt::Unreachable(span) => add(nodes, Node::Unreachable(*span)),
-        Stmt::Assert(span, e) => {
-            add(nodes, Node::Assertion(*span))?;
-            add_expr(nodes, e)
+        Stmt::Pass(_) | Stmt::Unreachable(_) => Ok(()),
+        Stmt::Assert(_, e) => add_expr(nodes, e),
+        Stmt::Local(_, _, _, ty, e) => add_typed(nodes, ty, e),
+        Stmt::LocalVars(_, _, ty) => add_type(nodes, ty),
+        Stmt::Assign(_, target, e) => add_assigned(nodes, target, e),
+        Stmt::Invoke(_, _, parameters, arguments) => {
+            add_given(nodes, parameters.as_slice(), arguments.as_slice())
         }
-        Stmt::Local(span, kind, _, ty, e) => {
-            add(nodes, Node::Local(*span, *kind))?;
-            add_maybe_type(nodes, ty)?;
-            add_expr(nodes, e)
-        }
-        Stmt::LocalVars(span, names, ty) => {
-            add(nodes, Node::LocalList(*span, names.len()))?;
-            add_type(nodes, ty)
-        }
-        Stmt::Assign(span, target, e) => {
-            add(nodes, Node::Assignment(*span))?;
-            add_target(nodes, target)?;
-            add_expr(nodes, e)
-        }
-        Stmt::Invoke(span, name, parameters, arguments) => {
-            add(nodes, Node::Invocation(*span, name.text.as_slice()))?;
-            add_each_expr(nodes, parameters.as_slice())?;
-            add_each_expr(nodes, arguments.as_slice())
-        }
-        Stmt::If(span, condition, first, others, last) => {
-            add(nodes, Node::If(*span))?;
+        Stmt::If(_, condition, first, others, last) => {
             add_expr(nodes, condition)?;
             add_stmts(nodes, first.as_slice())?;
             add_branches(nodes, others.as_slice())?;
             add_stmts(nodes, last.as_slice())
         }
-        Stmt::Case(span, e, alternatives, otherwise) => {
-            add(nodes, Node::Case(*span, alternatives.len()))?;
+        Stmt::Case(_, e, alternatives, otherwise) => {
             add_expr(nodes, e)?;
             add_alternatives(nodes, alternatives.as_slice())?;
             add_otherwise(nodes, otherwise)
         }
-        Stmt::For(span, _, from, _, to, limit, body) => {
-            add(nodes, Node::For(*span))?;
-            add_expr(nodes, from)?;
-            add_expr(nodes, to)?;
-            add_maybe_expr(nodes, limit)?;
+        Stmt::For(_, _, from, _, to, limit, body) => {
+            add_bounds(nodes, from, to, limit)?;
             add_stmts(nodes, body.as_slice())
         }
-        Stmt::While(span, e, limit, body) => {
-            add(nodes, Node::While(*span))?;
-            add_expr(nodes, e)?;
-            add_maybe_expr(nodes, limit)?;
+        Stmt::While(_, e, limit, body) => {
+            add_guard(nodes, e, limit)?;
             add_stmts(nodes, body.as_slice())
         }
-        Stmt::Repeat(span, body, e, limit) => {
-            add(nodes, Node::Repeat(*span))?;
+        Stmt::Repeat(_, body, e, limit) => {
             add_stmts(nodes, body.as_slice())?;
-            add_expr(nodes, e)?;
-            add_maybe_expr(nodes, limit)
+            add_guard(nodes, e, limit)
         }
-        Stmt::Return(span, e) => {
-            add(nodes, Node::Return(*span, e.is_some()))?;
-            add_maybe_expr(nodes, e)
-        }
-        Stmt::Throw(span, e) => {
-            add(nodes, Node::Throw(*span, e.is_some()))?;
-            add_maybe_expr(nodes, e)
-        }
-        Stmt::Try(span, body, catchers, otherwise) => {
-            add(nodes, Node::Try(*span, catchers.len()))?;
+        Stmt::Return(_, e) => add_maybe_expr(nodes, e),
+        Stmt::Throw(_, e) => add_maybe_expr(nodes, e),
+        Stmt::Try(_, body, catchers, otherwise) => {
             add_stmts(nodes, body.as_slice())?;
             add_catchers(nodes, catchers.as_slice())?;
             add_otherwise(nodes, otherwise)
         }
-        Stmt::Print(span, _, items) => {
-            add(nodes, Node::Print(*span))?;
-            add_items(nodes, items.as_slice())
-        }
+        Stmt::Print(_, _, items) => add_items(nodes, items.as_slice()),
     }
 }
 

@@ -1,5 +1,5 @@
 use Rattle.asl_names.specs.Orders.{unmarked, IsOrder}
-use Rattle.asl_names.proofs.order.order_of.Given as goal
+use Rattle.asl_names.proofs.order.complete.Given as goal
 
 abbrev pub invariant-loop-node : goal.invariant-loop-node
 invariant-loop-node l = IsOrder l.graph l.order.nodes l.order.marks
