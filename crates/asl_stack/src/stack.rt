@@ -5,7 +5,7 @@ use asl_rules::effect::Effect;
 use asl_rules::slot::Slot;
 use asl_run::{Run, Stop, call};
 use asl_shape::{FieldGiven, PartShape, PatternShape, Routine, SliceShape, TypeShape};
-use asl_shared::Shared;
+use asl_shared::{Held, Shared};
 use asl_syn::code::DynCode;
 use asl_syn::token::Span;
 use asl_syn::tree::{BinaryOperator, Direction, UnaryOperator};
@@ -89,7 +89,9 @@ fn given(alloc: Global, name: &[u8], place: usize) -> Result<FieldGiven, AllocEr
 
 /// `R{f = f, g = g}.f`
 fn first_field(alloc: Global, f: Node, g: Node) -> Result<Node, AllocError> {
-    let fields = items(alloc, [given(alloc, b"f", 0)?, given(alloc, b"g", 1)?])?;
+    let mut fields = Items::new(alloc);
+    fields.push(given(alloc, b"f", 0)?)?;
+    fields.push(given(alloc, b"g", 1)?)?;
     let shell = Shell::Record(named(alloc, b"R")?);
     let values = items(alloc, [f.into_inner(), g.into_inner()])?;
     let record = Boxed::new(alloc, Tree::Construct(note(), shell, fields, values))?;
@@ -138,21 +140,48 @@ fn called(alloc: Global, f: Callee, args: Items<Tree>) -> Result<Node, AllocErro
     Boxed::new(alloc, Tree::Call(note(), f, widths, params, args))
 }
 
+/// `-(-e)`
+fn minus_minus(alloc: Global, e: Node) -> Result<Node, AllocError> {
+    let inner = minus(alloc, e)?;
+    minus(alloc, inner)
+}
+
+/// `R{f = e, g = 1}.f`
+fn as_first_field(alloc: Global, e: Node) -> Result<Node, AllocError> {
+    let one = int(alloc, 1)?;
+    first_field(alloc, e, one)
+}
+
+/// `R{f = 1, g = (e)}.f`
+fn beside_first_field(alloc: Global, e: Node) -> Result<Node, AllocError> {
+    let other = tuple(alloc, e)?;
+    first_field(alloc, int(alloc, 1)?, other)
+}
+
 /// How many forms of expression go round another.
 const FORMS: usize = 9;
 
-/// A form of expression round another whose value is 1, with the value 1, and how many nodes it opens.
-fn wrapped(alloc: Global, form: usize, e: Node) -> Result<(Node, usize), AllocError> {
+/// A form of expression round another whose value is 1, with the value 1.
+fn wrapped(alloc: Global, form: usize, e: Node) -> Result<Node, AllocError> {
     match form {
-        0 => Ok((minus(alloc, minus(alloc, e)?)?, 2)),
-        1 => Ok((sum(alloc, e)?, 1)),
-        2 => Ok((first_field(alloc, e, int(alloc, 1)?)?, 2)),
-        3 => Ok((element_at(alloc, e)?, 1)),
-        4 => Ok((first_field(alloc, int(alloc, 1)?, tuple(alloc, e)?)?, 3)),
-        5 => Ok((converted(alloc, e)?, 1)),
-        6 => Ok((found(alloc, e)?, 2)),
-        7 => Ok((sliced(alloc, e)?, 2)),
-        _ => Ok((chosen(alloc, e)?, 1)),
+        0 => minus_minus(alloc, e),
+        1 => sum(alloc, e),
+        2 => as_first_field(alloc, e),
+        3 => element_at(alloc, e),
+        4 => beside_first_field(alloc, e),
+        5 => converted(alloc, e),
+        6 => found(alloc, e),
+        7 => sliced(alloc, e),
+        _ => chosen(alloc, e),
+    }
+}
+
+/// How many nodes a form opens.
+fn opened(form: usize) -> usize {
+    match form {
+        4 => 3,
+        0 | 2 | 6 | 7 => 2,
+        _ => 1,
     }
 }
 
@@ -165,9 +194,9 @@ fn open(alloc: Global, from: usize, step: usize, nodes: usize) -> Result<Node, A
         if left == 0 {
             break;
         }
-        let (outer, more) = wrapped(alloc, if left < 3 { FORMS } else { form }, e)?;
-        e = outer;
-        left = left.saturating_sub(more);
+        let outer = if left < 3 { FORMS } else { form };
+        e = wrapped(alloc, outer, e)?;
+        left = left.saturating_sub(opened(outer));
         form = form.wrapping_add(step) % FORMS;
     }
     Ok(e)
@@ -397,11 +426,16 @@ fn state(alloc: Global) -> Result<Run, AllocError> {
     })
 }
 
+/// Runs the first of these subprograms from this state.
+fn run_from(alloc: Global, funcs: &Items<TreeFunc>, run: &mut Run) -> Result<Option<Value>, Stop> {
+    let mut sink = MemSink::new(alloc, 1, 1, Vec::new(alloc))?;
+    call(alloc, funcs, run, &mut sink, 0, &[])
+}
+
 /// Runs the first of these subprograms.
 fn run_first(alloc: Global, funcs: Items<TreeFunc>) -> Result<Option<Value>, Stop> {
-    let mut sink = MemSink::new(alloc, 1, 1, Vec::new(alloc))?;
     let mut run = state(alloc)?;
-    let answer = call(alloc, &funcs, &mut run, &mut sink, 0, &[]);
+    let answer = run_from(alloc, &funcs, &mut run);
     // No text has a tree as deep as some here, and its `drop` needs more stack than the run.
     mem::forget(funcs);
     answer
@@ -432,8 +466,8 @@ fn run_recursion(alloc: Global, is_function: bool) -> Result<Option<Value>, Stop
 }
 
 /// Whether such a run gives 1 or nothing; not where it ends for more than 2,000 open nodes.
-fn fits(answer: &Result<Option<Value>, Stop>) -> Option<bool> {
-    match answer {
+fn fits(answer: &Held<Result<Option<Value>, Stop>>) -> Option<bool> {
+    match answer.get() {
         Ok(Some(Value::Int(1))) | Ok(None) => Some(true),
         Err(Stop::Fault(DynCode::D12, _)) => Some(false),
         _ => None,
@@ -449,19 +483,24 @@ fn nested_ends(
     nodes: usize,
     want: bool,
 ) -> bool {
-    fits(&run_nested(alloc, form, step, count, nodes)) == Some(want)
+    let answer = Held::new(run_nested(alloc, form, step, count, nodes));
+    fits(&answer) == Some(want)
 }
 
-/// Whether one node less than the most of these forms fits, and one more doesn't. The `return` is a node too.
+/// Statements round a `return`, the nodes of its expression, and whether they fit: one node less than the most does, and one
+/// more doesn't. The `return` is a node too.
+const ENDS: [(usize, usize, bool); 6] = [
+    (0, 1_999, true),
+    (1_000, 999, true),
+    (1_998, 1, true),
+    (0, 2_000, false),
+    (1_000, 1_000, false),
+    (1_999, 1, false),
+];
+
+/// Whether the most nodes of these forms fit, and one more doesn't.
 fn form_fits(alloc: Global, form: usize, step: usize) -> bool {
-    for (count, nodes, want) in [
-        (0, 1_999, true),
-        (1_000, 999, true),
-        (1_998, 1, true),
-        (0, 2_000, false),
-        (1_000, 1_000, false),
-        (1_999, 1, false),
-    ] {
+    for (count, nodes, want) in ENDS {
         if !nested_ends(alloc, form, step, count, nodes, want) {
             return false;
         }
@@ -471,12 +510,14 @@ fn form_fits(alloc: Global, form: usize, step: usize) -> bool {
 
 /// Whether so many calls in one another end so.
 fn chain_ends(alloc: Global, is_function: bool, more: usize, want: bool) -> bool {
-    fits(&run_chain(alloc, is_function, more)) == Some(want)
+    let answer = Held::new(run_chain(alloc, is_function, more));
+    fits(&answer) == Some(want)
 }
 
 /// Whether a subprogram that calls itself ends for the nodes that are open.
 fn recursion_ends(alloc: Global, is_function: bool) -> bool {
-    fits(&run_recursion(alloc, is_function)) == Some(false)
+    let answer = Held::new(run_recursion(alloc, is_function));
+    fits(&answer) == Some(false)
 }
 
 #[test]

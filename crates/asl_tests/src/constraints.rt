@@ -3,6 +3,9 @@ use asl_cons::{Cons, End, Part, Ranges, arithmetic_law, inclusion_law};
 use asl_poly::{Atom, Poly, PolyRefused};
 use std::alloc::{AllocError, Global};
 
+/// The ends of constant parts.
+type Spans = &'static [(i128, i128)];
+
 /// The constraint of these constant parts, whole where there are none.
 fn ints(alloc: Global, spans: &[(i128, i128)]) -> Result<Cons, AllocError> {
     let mut parts = Vec::new(alloc);
@@ -25,7 +28,7 @@ fn is(alloc: Global, found: &Cons, spans: &[(i128, i128)]) -> bool {
     }
 }
 
-#[derive(Clone, Copy, Debug)]
+#[derive(Clone, Copy)]
 enum Operator {
     Union,
     Add,
@@ -57,44 +60,81 @@ fn apply(
     }
 }
 
+/// Whether an operator gives these parts, and a copy of them has them too.
+fn applies(alloc: Global, row: &(Operator, Spans, Spans, Spans)) -> Result<bool, AllocError> {
+    let (operator, left, right, want) = *row;
+    let found = apply(alloc, operator, left, right)?;
+    let same = found.copy(alloc)?;
+    Ok(is(alloc, &found, want) && is(alloc, &same, want))
+}
+
+/// Operators, the constant parts on both sides, and what they give.
+const APPLIED: &[(Operator, Spans, Spans, Spans)] = &[
+    (
+        Operator::Add,
+        &[(1, 3)],
+        &[(8, 8), (3, 3)],
+        &[(9, 11), (4, 6)],
+    ),
+    (Operator::Subtract, &[(1, 3)], &[(-7, 7)], &[(-6, 10)]),
+    (Operator::Multiply, &[(-7, 7)], &[(-2, 3)], &[(-21, 21)]),
+    (Operator::Modulo, &[], &[(8, 8), (3, 3)], &[(0, 7), (0, 2)]),
+    (Operator::Modulo, &[(1, 3)], &[(0, 0)], &[]),
+    (Operator::DivideFloor, &[(-7, 7)], &[(2, 2)], &[(-4, 3)]),
+    (Operator::DivideFloor, &[(-7, 7)], &[(0, 0)], &[]),
+    (Operator::ShiftLeft, &[(1, 3)], &[(2, 2)], &[(4, 12)]),
+    (Operator::ShiftRight, &[(-7, 7)], &[(2, 2)], &[(-2, 1)]),
+    (Operator::Union, &[(1, 3)], &[(2, 2)], &[(1, 3), (2, 2)]),
+    (Operator::Union, &[], &[(2, 2)], &[]),
+    (Operator::Add, &[(i128::MAX, i128::MAX)], &[(2, 2)], &[]),
+    (
+        Operator::ShiftLeft,
+        &[(i128::MAX, i128::MAX)],
+        &[(2, 2)],
+        &[],
+    ),
+];
+
+fn applications() -> &'static [(Operator, Spans, Spans, Spans)] {
+    APPLIED
+}
+
 #[test]
 fn operators_on_constant_parts(rt: HostRuntime) {
-    let alloc = rt.alloc();
-    let greatest = [(i128::MAX, i128::MAX)];
-    for (operator, left, right, want) in [
-        (
-            Operator::Add,
-            &[(1, 3)][..],
-            &[(8, 8), (3, 3)][..],
-            &[(9, 11), (4, 6)][..],
-        ),
-        (Operator::Subtract, &[(1, 3)], &[(-7, 7)], &[(-6, 10)]),
-        (Operator::Multiply, &[(-7, 7)], &[(-2, 3)], &[(-21, 21)]),
-        (Operator::Modulo, &[], &[(8, 8), (3, 3)], &[(0, 7), (0, 2)]),
-        (Operator::Modulo, &[(1, 3)], &[(0, 0)], &[]),
-        (Operator::DivideFloor, &[(-7, 7)], &[(2, 2)], &[(-4, 3)]),
-        (Operator::DivideFloor, &[(-7, 7)], &[(0, 0)], &[]),
-        (Operator::ShiftLeft, &[(1, 3)], &[(2, 2)], &[(4, 12)]),
-        (Operator::ShiftRight, &[(-7, 7)], &[(2, 2)], &[(-2, 1)]),
-        (Operator::Union, &[(1, 3)], &[(2, 2)], &[(1, 3), (2, 2)]),
-        (Operator::Union, &[], &[(2, 2)], &[]),
-        (Operator::Add, &greatest, &[(2, 2)], &[]),
-        (Operator::ShiftLeft, &greatest, &[(2, 2)], &[]),
-        (Operator::Union, &[(1, 1); 64], &[(1, 1)], &[]),
-        (Operator::Add, &[(1, 1); 9], &[(1, 1); 8], &[]),
-    ] {
-        let found = apply(alloc, operator, left, right).expect(&rt, "memory");
-        assert!(rt; is(alloc, &found, want), "{operator:?} {left:?} {right:?}");
-        let same = found.copy(alloc).expect(&rt, "memory");
-        assert!(rt; is(alloc, &same, want), "a copy");
+    for (place, row) in applications().iter().enumerate() {
+        assert_eq!(rt; applies(rt.alloc(), row), Ok(true), "row {place}");
     }
-    assert!(rt;
-        is(
-            alloc,
-            &ints(alloc, &[(1, 1); 65]).expect(&rt, "memory"),
-            &[]
-        )
-    );
+}
+
+/// The constraint of so many parts, each of them 1.
+fn ones(alloc: Global, count: u32) -> Result<Cons, AllocError> {
+    let mut parts = Vec::new(alloc);
+    for _ in 0..count {
+        let (low, high) = (End::Int(1), End::Int(1));
+        parts.push(Part { low, high })?;
+    }
+    Cons::from_parts(alloc, parts)
+}
+
+/// How many parts the union of so many and of one has.
+fn parts_of_union(alloc: Global, count: u32) -> Result<usize, AllocError> {
+    let left = ones(alloc, count)?;
+    Ok(left.union(alloc, &ones(alloc, 1)?)?.parts().len())
+}
+
+/// How many parts the sum of so many and so many has.
+fn parts_of_sum(alloc: Global, left: u32, right: u32) -> Result<usize, AllocError> {
+    let left = ones(alloc, left)?;
+    Ok(left.add(alloc, &ones(alloc, right)?)?.parts().len())
+}
+
+/// A constraint of no parts is whole.
+#[test]
+fn more_than_64_parts_are_whole(rt: HostRuntime) {
+    let alloc = rt.alloc();
+    assert_eq!(rt; parts_of_union(alloc, 64), Ok(0));
+    assert_eq!(rt; parts_of_sum(alloc, 9, 8), Ok(0));
+    assert!(rt; ones(alloc, 65).expect(&rt, "memory").parts().is_empty());
     assert!(rt; Cons::whole(alloc).parts().is_empty());
 }
 
@@ -102,15 +142,21 @@ fn is_below(alloc: Global, left: &[(i128, i128)], right: &[(i128, i128)]) -> Opt
     Some(ints(alloc, left).ok()?.below(&ints(alloc, right).ok()?))
 }
 
+const INCLUDED: &[(Spans, Spans, bool)] = &[
+    (&[(1, 3)], &[(1, 1), (3, 3)], false),
+    (&[(1, 3)], &[(3, 9), (0, 2)], true),
+    (&[(3, 1)], &[(8, 8)], true),
+    (&[(1, 3)], &[], true),
+    (&[], &[(1, 3)], false),
+];
+
+fn inclusions() -> &'static [(Spans, Spans, bool)] {
+    INCLUDED
+}
+
 #[test]
 fn constant_parts_are_included(rt: HostRuntime) {
-    for (left, right, want) in [
-        (&[(1, 3)][..], &[(1, 1), (3, 3)][..], false),
-        (&[(1, 3)], &[(3, 9), (0, 2)], true),
-        (&[(3, 1)], &[(8, 8)], true),
-        (&[(1, 3)], &[], true),
-        (&[], &[(1, 3)], false),
-    ] {
+    for &(left, right, want) in inclusions() {
         let found = is_below(rt.alloc(), left, right);
         assert_eq!(rt; found, Some(want), "{left:?} {right:?}");
     }
@@ -140,30 +186,48 @@ fn goes_up_to(alloc: Global, found: &Cons, low: i128, atom: u128, more: i128) ->
 }
 
 #[test]
-fn parts_with_names(rt: HostRuntime) {
+fn parts_with_names_are_included(rt: HostRuntime) {
     let alloc = rt.alloc();
     let n = up_to(alloc, 0, 5, 0).expect(&rt, "memory");
     let wider = up_to(alloc, -1, 5, 2).expect(&rt, "memory");
+    let other = up_to(alloc, 0, 6, 0).expect(&rt, "memory");
     assert!(rt; n.below(&wider) && !wider.below(&n));
-    assert!(rt; !n.below(&up_to(alloc, 0, 6, 0).expect(&rt, "memory")));
-    for (by, low, more) in [(4, 4, 4), (-7, -7, -7)] {
-        let by = ints(alloc, &[(by, by)]).expect(&rt, "memory");
-        let sum = n.add(alloc, &by).expect(&rt, "memory");
-        assert!(rt; goes_up_to(alloc, &sum, low, 5, more));
-    }
-    let one = ints(alloc, &[(1, 1)]).expect(&rt, "memory");
-    assert!(rt; goes_up_to(alloc, &one.mul(alloc, &n).expect(&rt, "memory"), 0, 5, 0));
-    let minus_one = ints(alloc, &[(-1, -1)]).expect(&rt, "memory");
+    assert!(rt; !n.below(&other));
+}
+
+/// Whether `{0..n}` and an integer are the part from this integer to `n` and it.
+fn is_moved(alloc: Global, n: &Cons, by: i128) -> Result<bool, AllocError> {
+    let sum = n.add(alloc, &ints(alloc, &[(by, by)])?)?;
+    Ok(goes_up_to(alloc, &sum, by, 5, by))
+}
+
+/// Whether the sum of a constraint and an integer is whole.
+fn is_whole_with(alloc: Global, n: &Cons, by: i128) -> Result<bool, AllocError> {
+    Ok(n.add(alloc, &ints(alloc, &[(by, by)])?)?.parts().is_empty())
+}
+
+#[test]
+fn parts_with_names_are_moved(rt: HostRuntime) {
+    let alloc = rt.alloc();
+    let n = up_to(alloc, 0, 5, 0).expect(&rt, "memory");
+    assert_eq!(rt; is_moved(alloc, &n, 4), Ok(true));
+    assert_eq!(rt; is_moved(alloc, &n, -7), Ok(true));
+    assert_eq!(rt; is_whole_with(alloc, &n, 1 << 62), Ok(true));
+}
+
+/// An integer times a constraint.
+fn times(alloc: Global, by: i128, n: &Cons) -> Result<Cons, AllocError> {
+    ints(alloc, &[(by, by)])?.mul(alloc, n)
+}
+
+#[test]
+fn parts_with_names_are_multiplied(rt: HostRuntime) {
+    let alloc = rt.alloc();
+    let n = up_to(alloc, 0, 5, 0).expect(&rt, "memory");
+    let same = times(alloc, 1, &n).expect(&rt, "memory");
+    assert!(rt; goes_up_to(alloc, &same, 0, 5, 0));
     assert!(rt;
-        minus_one
-            .mul(alloc, &n)
-            .expect(&rt, "memory")
-            .parts()
-            .is_empty()
-    );
-    let heaviest = ints(alloc, &[(1 << 62, 1 << 62)]).expect(&rt, "memory");
-    assert!(rt;
-        n.add(alloc, &heaviest)
+        times(alloc, -1, &n)
             .expect(&rt, "memory")
             .parts()
             .is_empty()

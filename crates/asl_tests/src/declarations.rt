@@ -66,10 +66,17 @@ fn calling(alloc: Global, ty: Option<&str>) -> Result<Items<Decl>, AllocError> {
     Ok(decls)
 }
 
+/// A procedure alone.
+fn alone(alloc: Global) -> Result<Items<Decl>, AllocError> {
+    let mut decls = Items::new(alloc);
+    decls.push(procedure(alloc)?)?;
+    Ok(decls)
+}
+
 /// The fault of these declarations.
 fn fault_of(alloc: Global, decls: &[Decl]) -> Option<Fault> {
-    match Table::build(alloc, decls) {
-        Err(Refused::At(fault)) => Some(fault),
+    match Table::build(alloc, decls).err() {
+        Some(Refused::At(fault)) => Some(fault),
         _ => None,
     }
 }
@@ -97,6 +104,6 @@ fn storage_calls_nothing(rt: HostRuntime) {
         let decls = calling(alloc, ty).expect(&rt, "memory");
         assert_eq!(rt; fault_of(alloc, decls.as_slice()), Some(want));
     }
-    let alone = [procedure(alloc).expect(&rt, "memory")];
-    assert!(rt; is_without_result(alloc, &alone));
+    let decls = alone(alloc).expect(&rt, "memory");
+    assert!(rt; is_without_result(alloc, decls.as_slice()));
 }

@@ -48,46 +48,53 @@ fn read(alloc: Global, text: &[u8]) -> Option<String> {
     }
 }
 
+/// Texts, with their tokens or their first fault.
+const TEXTS: &[(&[u8], &str)] = &[
+    (b"", ""),
+    (b" \t\r\n// x", ""),
+    (
+        b"func f\n begin",
+        "Word(Func) 7:0+4, Name 7:5+1, Word(Begin) 7:8+5",
+    ),
+    (b"/* a **/_a1/*//*/EOR", "Name 7:8+3, Word(BitEor) 7:17+3"),
+    (
+        b"-->==>:::..",
+        "Mark(Implies) 7:0+3, Mark(Equal) 7:3+2, Mark(Greater) 7:5+1, Mark(ColonColon) 7:6+2, Mark(Colon) 7:8+1, Mark(DotDot) 7:9+2",
+    ),
+    (
+        b"12ab 0xg 1.5",
+        "Int(12) 7:0+2, Name 7:2+2, Int(0) 7:5+1, Name 7:6+2, Int(1) 7:9+1, Mark(Dot) 7:10+1, Int(5) 7:11+1",
+    ),
+    (b"0x7F_f 1__2", "Int(2047) 7:0+6, Int(12) 7:7+4"),
+    (
+        b"170141183460469231731687303715884105727",
+        "Int(170141183460469231731687303715884105727) 7:0+39",
+    ),
+    (
+        b"'' '1 0' 'x1' '(0 1)' \"a\\\"//\"",
+        "Bits 7:0+2, Bits 7:3+5, Mask 7:9+4, Mask 7:14+7, Text 7:22+7",
+    ),
+    (b"a & b", "L01 7:2+1"),
+    (b"a\x80", "L01 7:1+1"),
+    (b"a /*/ b", "L02 7:2+5"),
+    (b"'01z'", "L03 7:0+3"),
+    (b"'()'", "L03 7:0+2"),
+    (b"'(01'", "L03 7:0+4"),
+    (b" '0", "L03 7:1+2"),
+    (b"\"a\\q\"", "L03 7:0+3"),
+    (b"\"a\n\"", "L03 7:0+2"),
+    (b"170141183460469231731687303715884105728", "L04 7:0+39"),
+    (b"0x8000_0000_0000_0000_0000_0000_0000_0000", "L04 7:0+41"),
+    (b"a __b &", "L05 7:2+3"),
+];
+
+fn rows() -> &'static [(&'static [u8], &'static str)] {
+    TEXTS
+}
+
 #[test]
 fn texts_are_read(rt: HostRuntime) {
-    for (text, want) in [
-        (&b""[..], ""),
-        (b" \t\r\n// x", ""),
-        (
-            b"func f\n begin",
-            "Word(Func) 7:0+4, Name 7:5+1, Word(Begin) 7:8+5",
-        ),
-        (b"/* a **/_a1/*//*/EOR", "Name 7:8+3, Word(BitEor) 7:17+3"),
-        (
-            b"-->==>:::..",
-            "Mark(Implies) 7:0+3, Mark(Equal) 7:3+2, Mark(Greater) 7:5+1, Mark(ColonColon) 7:6+2, Mark(Colon) 7:8+1, Mark(DotDot) 7:9+2",
-        ),
-        (
-            b"12ab 0xg 1.5",
-            "Int(12) 7:0+2, Name 7:2+2, Int(0) 7:5+1, Name 7:6+2, Int(1) 7:9+1, Mark(Dot) 7:10+1, Int(5) 7:11+1",
-        ),
-        (b"0x7F_f 1__2", "Int(2047) 7:0+6, Int(12) 7:7+4"),
-        (
-            b"170141183460469231731687303715884105727",
-            "Int(170141183460469231731687303715884105727) 7:0+39",
-        ),
-        (
-            b"'' '1 0' 'x1' '(0 1)' \"a\\\"//\"",
-            "Bits 7:0+2, Bits 7:3+5, Mask 7:9+4, Mask 7:14+7, Text 7:22+7",
-        ),
-        (b"a & b", "L01 7:2+1"),
-        (b"a\x80", "L01 7:1+1"),
-        (b"a /*/ b", "L02 7:2+5"),
-        (b"'01z'", "L03 7:0+3"),
-        (b"'()'", "L03 7:0+2"),
-        (b"'(01'", "L03 7:0+4"),
-        (b" '0", "L03 7:1+2"),
-        (b"\"a\\q\"", "L03 7:0+3"),
-        (b"\"a\n\"", "L03 7:0+2"),
-        (b"170141183460469231731687303715884105728", "L04 7:0+39"),
-        (b"0x8000_0000_0000_0000_0000_0000_0000_0000", "L04 7:0+41"),
-        (b"a __b &", "L05 7:2+3"),
-    ] {
+    for &(text, want) in rows() {
         let found = read(rt.alloc(), text).expect(&rt, "memory");
         assert_eq!(rt; found.as_str(), want);
     }
@@ -112,27 +119,35 @@ fn a_literal_has_at_most_128_bits(rt: HostRuntime) {
     }
 }
 
+/// Whether a text has 200,000 tokens, and then this fault of so many bytes at its byte 400,000, again and again.
+fn ends_so(text: &[u8], code: StaticCode, len: u32) -> bool
+    requires { length text.now ≤ 1048576 }
+{
+    let mut lexer = Lexer::new(0, text);
+    for _ in 0..200_000 {
+        if !matches!(lexer.next(), Ok(Some(_))) {
+            return false;
+        }
+    }
+    let fault = Fault {
+        code,
+        inner: None,
+        span: Span {
+            file: 0,
+            start: 400_000,
+            len,
+        },
+    };
+    lexer.next() == Err(fault) && lexer.next() == Err(fault)
+}
+
 #[test]
 fn a_text_has_at_most_200_000_tokens(rt: HostRuntime) {
     let mut text = vec![in rt.alloc(); b'\''; 400_000].expect(&rt, "memory");
     for (code, len) in [(StaticCode::L03, 1), (StaticCode::M03, 2)] {
         text.push(b'\'').expect(&rt, "memory");
         assert!(rt; text.len() <= MAX_BYTES);
-        let mut lexer = Lexer::new(0, text.as_slice());
-        for _ in 0..200_000 {
-            assert!(rt; matches!(lexer.next(), Ok(Some(_))));
-        }
-        let fault = Fault {
-            code,
-            inner: None,
-            span: Span {
-                file: 0,
-                start: 400_000,
-                len,
-            },
-        };
-        assert_eq!(rt; lexer.next(), Err(fault));
-        assert_eq!(rt; lexer.next(), Err(fault));
+        assert!(rt; ends_so(text.as_slice(), code, len));
     }
 }
 

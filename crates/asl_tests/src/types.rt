@@ -1,6 +1,6 @@
 //! Types that no text writes: an enumeration without the name that declares it, and two records of one name.
 use asl_cons::Cons;
-use asl_shared::Shared;
+use asl_shared::{Held, Shared};
 use asl_syn::code::{Refused, StaticCode};
 use asl_syn::token::Span;
 use asl_types::fits::{join, misfit};
@@ -38,10 +38,15 @@ fn named(alloc: Global, text: &str, inner: Ty) -> Result<Ty, AllocError> {
     Ok(Ty::named(name(alloc, text)?, reached, inner))
 }
 
-/// A record `R` with this field.
-fn record(alloc: Global, field: Ty) -> Result<Ty, AllocError> {
+/// A field with its type.
+fn field(alloc: Global, own: &str, ty: Held<Ty>) -> Result<FieldType, AllocError> {
+    Ok(FieldType::Field(name(alloc, own)?, ty.into_inner()))
+}
+
+/// A record `R` with a field of this type.
+fn record(alloc: Global, ty: Held<Ty>) -> Result<Ty, AllocError> {
     let mut fields = Items::new(alloc);
-    fields.push(FieldType::Field(name(alloc, "a")?, field))?;
+    fields.push(field(alloc, "a", ty)?)?;
     Ty::record_of(alloc, name(alloc, "R")?, Shared::new(alloc, fields)?)
 }
 
@@ -54,42 +59,80 @@ fn pairs(alloc: Global, length: u32) -> Result<Ty, AllocError> {
     Ok(Ty::array(length, Shared::new(alloc, pair)?))
 }
 
+/// An enumeration, and the same under a name.
+fn colours(alloc: Global) -> Result<(Held<Ty>, Held<Ty>), AllocError> {
+    let plain = Held::new(colour(alloc)?);
+    let paint = named(alloc, "Paint", colour(alloc)?)?;
+    Ok((plain, Held::new(paint)))
+}
+
+/// Two records of one name, which differ in the types of their fields.
+fn records(alloc: Global) -> Result<(Held<Ty>, Held<Ty>), AllocError> {
+    let whole = Held::new(record(alloc, Held::new(integers(alloc)?))?);
+    let truths = record(alloc, Held::new(Ty::boolean()))?;
+    Ok((whole, Held::new(truths)))
+}
+
 /// Whether each of two types fits the other.
 fn fit_each_other(first: &Ty, second: &Ty) -> bool {
     misfit(first, second).is_none() && misfit(second, first).is_none()
 }
 
-#[test]
-fn types_fit_by_their_declaration(rt: HostRuntime) {
-    let alloc = rt.alloc();
-    let plain = colour(alloc).expect(&rt, "memory");
-    let paint = named(alloc, "Paint", colour(alloc).expect(&rt, "memory")).expect(&rt, "memory");
-    assert!(rt; fit_each_other(&plain, &paint));
-    let joined = join(alloc, &plain, &paint).expect(&rt, "memory");
-    let joined = joined.expect(&rt, "a type");
-    assert!(rt; matches!(joined.form(), Form::Named(_, _, _)));
-    let whole = record(alloc, integers(alloc).expect(&rt, "memory")).expect(&rt, "memory");
-    let truths = record(alloc, Ty::boolean()).expect(&rt, "memory");
-    assert!(rt; fit_each_other(&whole, &truths));
-    assert_eq!(rt; misfit(&plain, &whole), Some(StaticCode::T05));
+/// Whether the join of two types is one with a name.
+fn join_has_a_name(alloc: Global, first: &Ty, second: &Ty) -> bool {
+    match join(alloc, first, second) {
+        Ok(Some(joined)) => matches!(Held::new(joined).get().form(), Form::Named(_, _, _)),
+        _ => false,
+    }
 }
 
 #[test]
-fn sizes_past_the_limit_are_one_number(rt: HostRuntime) {
+fn types_fit_by_their_declaration(rt: HostRuntime) {
     let alloc = rt.alloc();
-    for (length, count, is_within) in [
-        (3, 6, true),
-        (32768, 65536, true),
-        (32769, 65537, false),
-        (4294967295, 65537, false),
-    ] {
-        let ty = pairs(alloc, length).expect(&rt, "memory");
-        assert_eq!(rt; ty.size(), count);
-        assert_eq!(rt; ty.depth(), 3);
-        assert_eq!(rt; is_bounded(&ty), is_within);
-        match bounded(HERE, ty) {
-            Err(Refused::At(fault)) => assert!(rt; fault.code == StaticCode::T20 && !is_within),
-            _ => assert!(rt; is_within),
-        }
+    let (plain, paint) = colours(alloc).expect(&rt, "memory");
+    assert!(rt; fit_each_other(plain.get(), paint.get()));
+    assert!(rt; join_has_a_name(alloc, plain.get(), paint.get()));
+    let (whole, truths) = records(alloc).expect(&rt, "memory");
+    assert!(rt; fit_each_other(whole.get(), truths.get()));
+    assert_eq!(rt; misfit(plain.get(), whole.get()), Some(StaticCode::T05));
+}
+
+/// Whether a type has this size, and the depth of an array of pairs.
+fn measures(ty: &Ty, size: u32, is_within: bool) -> bool {
+    ty.size() == size && ty.depth() == 3 && is_bounded(ty) == is_within
+}
+
+/// Whether a type passes the limits, or T20 says that it doesn't.
+fn passes(ty: Ty) -> Option<bool> {
+    match bounded(HERE, ty).err() {
+        None => Some(true),
+        Some(Refused::At(fault)) if fault.code == StaticCode::T20 => Some(false),
+        Some(_) => None,
+    }
+}
+
+/// Whether an array of so many pairs has this size, and passes the limits where it is within them.
+fn is_counted(alloc: Global, length: u32, size: u32, is_within: bool) -> Result<bool, AllocError> {
+    let ty = pairs(alloc, length)?;
+    let is_measured = measures(&ty, size, is_within);
+    Ok(passes(ty) == Some(is_within) && is_measured)
+}
+
+/// Lengths of arrays of pairs, their sizes, and whether these are within the limit.
+const SIZES: [(u32, u32, bool); 4] = [
+    (3, 6, true),
+    (32768, 65536, true),
+    (32769, 65537, false),
+    (4294967295, 65537, false),
+];
+
+#[test]
+fn sizes_past_the_limit_are_one_number(rt: HostRuntime) {
+    for (length, size, is_within) in SIZES {
+        assert_eq!(rt;
+            is_counted(rt.alloc(), length, size, is_within).ok(),
+            Some(true),
+            "{length}"
+        );
     }
 }
