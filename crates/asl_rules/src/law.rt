@@ -4,6 +4,7 @@
 ghost use Rattle.std.specs.Prelude.{◌≡◌, ℕ, List, Ok, Option};
 ghost use Rattle.asl_grammar.specs.Reading.{File, Reads};
 ghost use Rattle.asl_rules.specs.declared.entry.Entry.{Entry};
+ghost use Rattle.asl_rules.specs.Agreement.{types_in};
 ghost use Rattle.asl_rules.specs.Answers.{OneAnswer};
 ghost use Rattle.asl_rules.specs.Programs.{Environment, Accepted, ProgramOk};
 ghost use Rattle.asl_rules.specs.Soundness.{Soundness, SameMeaning};
@@ -39,9 +40,10 @@ pub fn law3()
     ensures { (limit : ℕ) (e : Entry) (files : List File) (ds : List Decl) (a : Accepted) → Reads files (Ok ds) → (p : ProgramOk limit e ds a) → Soundness p.tests ds a × SameMeaning p.tests ds a }
 {}
 
-/// Kinds by names: in a program, where each name stands for one type, comparing declared names by the names and comparing
-/// kinds by structure is the same.
+/// Kinds by names: each name of a well-formed program stands for one type, and what is declared agrees (`declared`). So comparing
+/// declared names by the names and comparing kinds by structure is the same (`kinds`).
 #[tactic(auto, using(crate::proofs::values::KindsByNames::kinds_by_names))]
 pub fn kinds_law()
-    ensures { (declared : List ℕ → Option Ty) → WellDeclared declared → (S T : Ty) → Shaped declared S → Shaped declared T → same_kind S T ≡ kind_eq (kind S) (kind T) }
+    ensures declared { (limit : ℕ) (e : Entry) (files : List File) (ds : List Decl) (a : Accepted) → Reads files (Ok ds) → (p : ProgramOk limit e ds a) → WellDeclared (types_in a.names) }
+    ensures kinds { (declared : List ℕ → Option Ty) → WellDeclared declared → (S T : Ty) → Shaped declared S → Shaped declared T → same_kind S T ≡ kind_eq (kind S) (kind T) }
 {}

@@ -17,6 +17,7 @@ use Rattle.asl_rules.specs.Grown.{AreGrown}
 use Rattle.asl_rules.specs.Programs.{funcs_of, signatures, Accepted, ProgramOk}
 use Rattle.asl_rules.specs.Agreement.{types_in}
 use Rattle.asl_rules.specs.Soundness.{Soundness, SameMeaning}
+use Rattle.asl_rules.specs.WellFormed.{WellDeclared}
 use Rattle.asl_rules.proofs.scopes.Naming.{WellNamed, well_declared}
 use Rattle.asl_rules.proofs.scopes.Globals.{well_named, initial_match}
 use Rattle.asl_rules.proofs.expressions.Claims.{StmtClaim}
@@ -63,3 +64,12 @@ accepted_sound limit e ds a grown p = soundness p.tests p.right ds a (facts_of p
 -- and of each program that is read from files
 pub read_sound : (limit : ℕ) (e : Asked) (files : List File) (ds : List Decl) (a : Accepted) → Reads files (Ok ds) → (p : ProgramOk limit e ds a) → Soundness p.tests ds a × SameMeaning p.tests ds a
 read_sound limit e files ds a r p = accepted_sound limit e ds a (read_grown limit files ds r) p
+
+-- the declared types of such a program agree with one another
+pub read_declared : (limit : ℕ) (e : Asked) (files : List File) (ds : List Decl) (a : Accepted) → Reads files (Ok ds) → (p : ProgramOk limit e ds a) → WellDeclared (types_in a.names)
+read_declared limit e files ds a r p =
+    let f = facts_of p.tests e ds a p.is in
+    let base = names_of_program p.tests ds in
+    let belong = belong_by_forms p.tests p.right ds (λ b w. (no_calls p.tests p.right ds b w, others_of p.tests p.right ds b [] [] w (no_procedures p.tests p.right ds b w))) in
+    let w : WellNamed base = well_named p.tests p.right ds base (subst (λ n. AreGrown n ds) (sym p.within) (read_grown limit files ds r)) f.apart f.globals belong in
+    subst (λ z. WellDeclared (types_in z.names)) f.is (well_declared base w)
