@@ -11,8 +11,7 @@ ghost use Rattle.asl_types.specs.ContextView.{scope_of};
 ghost use Rattle.asl_types.specs.Suits.{Suits};
 
 use crate::definitions::name_of;
-use asl_shape::declared_type;
-use asl_shared::Held;
+use asl_shared::{Held, Shared};
 use asl_syn::code::{Refused, StaticCode};
 use asl_syn::token::Span;
 use asl_syn::tree::Ident;
@@ -86,8 +85,7 @@ pub(crate) fn supertypes(
     }
 }
 
-/// The type of a declared name, which reaches these others, with the structure that it stands for. What its variables begin with
-/// is made here once, where that takes little.
+/// The type of a declared name, which reaches these others, with the structure that it stands for.
 pub(crate) fn named_with(
     alloc: Global,
     name: &[u8],
@@ -97,6 +95,6 @@ pub(crate) fn named_with(
     ensures { IfOk result (λ it. it ≡ named name.now supers (structure ty.now)) }
 {
     let name = name_of(alloc, name)?;
-    let ty = declared_type(alloc, name, supers, ty)?;
-    Ok(ty)
+    let inner = structure(ty).copy()?;
+    Ok(Ty::named(name, supers, Shared::new(alloc, inner)?))
 }

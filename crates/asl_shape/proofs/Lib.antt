@@ -7,7 +7,6 @@ pub mod AtZero
 pub mod Ranges
 pub mod ValueKinds
 pub mod Having
-pub mod KeptFirsts
 pub mod FirstBits
 pub mod FirstFields
 pub mod Times

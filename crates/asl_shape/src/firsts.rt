@@ -42,13 +42,10 @@ pub fn first_value(alloc: Global, span: Span, ty: &Ty) -> Result<Value, Failure>
         }
         Form::Tuple(parts) => first_tuple(alloc, span, parts.get().as_slice()),
         Form::Array(length, element) => first_array(alloc, span, *length, element.get()),
-        Form::Named(name, supers, inner) => match ty.first() {
-            Some(first) => Ok(copy(first)?),
-            None => {
-                let first = Held::new(first_value(alloc, span, inner.get())?);
-                Ok(named_as(name, supers, first.into_inner())?)
-            }
-        },
+        Form::Named(name, supers, inner) => {
+            let first = Held::new(first_value(alloc, span, inner.get())?);
+            Ok(named_as(name, supers, first.into_inner())?)
+        }
     }
 }
 
@@ -89,7 +86,7 @@ fn first_label(alloc: Global, labels: &[Name]) -> Result<Name, AllocError>
 }
 
 /// What an exception is that no constructed type names.
-pub(crate) fn named_as(name: &Name, supers: &Supers, x: Value) -> Result<Value, AllocError>
+fn named_as(name: &Name, supers: &Supers, x: Value) -> Result<Value, AllocError>
     ensures { IfOk result (λ it. value_of it ≡ values.named_as name.now supers.now (value_of x)) }
 {
     match x {

@@ -8,7 +8,6 @@ pub mod effects;
 pub mod fits;
 pub mod integers;
 pub mod kinds;
-mod known;
 pub mod members;
 mod places;
 mod plain;
@@ -25,7 +24,6 @@ pub mod widths;
 
 pub use asl_value::{BitField, View};
 pub use context::Context;
-pub use known::Known;
 pub use scope::{Counted, Scope, Standing, Storage, reading, writing};
 pub use subprograms::{Param, Signature, Subprograms};
 pub use totals::Total;
