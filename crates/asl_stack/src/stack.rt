@@ -204,22 +204,15 @@ fn open(alloc: Global, from: usize, step: usize, nodes: usize) -> Result<Node, A
 
 // ---- statements
 
-/// `return e;`
-fn returning(alloc: Global, e: Node) -> Result<List, AllocError> {
-    items(
-        alloc,
-        [Act::Simple(Simple::Return(AT, Some(e.into_inner())))],
-    )
+/// A list of one statement without others in it. Only this function and `around` handle an `Act` itself: what does is dear to
+/// prove, since so much may stand in one.
+fn one_simple(alloc: Global, simple: Simple) -> Result<List, AllocError> {
+    items(alloc, [Act::Simple(simple)])
 }
 
-/// `if FALSE then else .. end;`
-fn in_else(alloc: Global, list: List) -> Result<List, AllocError> {
-    let condition = truth(alloc, false)?;
-    let (first, others) = (Items::new(alloc), Items::new(alloc));
-    items(
-        alloc,
-        [Act::If(AT, condition.into_inner(), first, others, list)],
-    )
+/// `return e;`
+fn returning(alloc: Global, e: Node) -> Result<List, AllocError> {
+    one_simple(alloc, Simple::Return(AT, Some(e.into_inner())))
 }
 
 /// The condition `TRUE` without a limit.
@@ -229,18 +222,6 @@ fn always(alloc: Global) -> Result<Guard, AllocError> {
         condition: condition.into_inner(),
         limit: None,
     })
-}
-
-/// `while TRUE do .. end;`
-fn in_while(alloc: Global, list: List) -> Result<List, AllocError> {
-    let guard = always(alloc)?;
-    items(alloc, [Act::While(AT, guard, list)])
-}
-
-/// `repeat .. until TRUE;`
-fn in_repeat(alloc: Global, list: List) -> Result<List, AllocError> {
-    let guard = always(alloc)?;
-    items(alloc, [Act::Repeat(AT, list, guard)])
 }
 
 /// `0 to 0`
@@ -254,12 +235,6 @@ fn once(alloc: Global) -> Result<Bounds, AllocError> {
     })
 }
 
-/// `for i = 0 to 0 do .. end;`
-fn in_for(alloc: Global, list: List) -> Result<List, AllocError> {
-    let bounds = once(alloc)?;
-    items(alloc, [Act::For(AT, bounds, list)])
-}
-
 /// `-`
 fn anything(alloc: Global) -> Result<Choice, AllocError> {
     Ok(Choice {
@@ -269,18 +244,10 @@ fn anything(alloc: Global) -> Result<Choice, AllocError> {
     })
 }
 
-/// `case 1 of when - => .. end;`
-fn in_case(alloc: Global, list: List) -> Result<List, AllocError> {
-    let one = int(alloc, 1)?;
+/// `when - => ..`
+fn when_anything(alloc: Global, list: List) -> Result<Items<Alternative>, AllocError> {
     let choice = anything(alloc)?;
-    let others = items(alloc, [Alternative::When(choice, list)])?;
-    items(alloc, [Act::Case(AT, one.into_inner(), others, Last::None)])
-}
-
-/// `try .. catch end;`, without catchers.
-fn in_try(alloc: Global, list: List) -> Result<List, AllocError> {
-    let catchers = Items::new(alloc);
-    items(alloc, [Act::Try(AT, list, catchers, Last::None)])
+    items(alloc, [Alternative::When(choice, list)])
 }
 
 /// `throw E{};`
@@ -290,44 +257,43 @@ fn thrown(alloc: Global) -> Result<List, AllocError> {
     let fields = Shared::new(alloc, Items::new(alloc))?;
     let value = Value::Exception(own.share()?, supers, own, fields);
     let e = Boxed::new(alloc, Tree::Constant(note(), value))?;
-    items(
-        alloc,
-        [Act::Simple(Simple::Throw(AT, Some(e.into_inner())))],
-    )
+    one_simple(alloc, Simple::Throw(AT, Some(e.into_inner())))
 }
 
-/// `try throw E{}; catch when x: E => .. end;`
-fn in_catch(alloc: Global, list: List) -> Result<List, AllocError> {
+/// `when x: E => ..`
+fn when_thrown(alloc: Global, list: List) -> Result<Items<Catcher>, AllocError> {
     let name = named(alloc, b"E")?;
-    let throws = thrown(alloc)?;
-    let catchers = items(alloc, [Catcher::Catch(true, name, list)])?;
-    items(alloc, [Act::Try(AT, throws, catchers, Last::None)])
-}
-
-/// `try throw E{}; catch otherwise => .. end;`
-fn in_otherwise(alloc: Global, list: List) -> Result<List, AllocError> {
-    let (throws, catchers) = (thrown(alloc)?, Items::new(alloc));
-    items(
-        alloc,
-        [Act::Try(AT, throws, catchers, Last::Otherwise(list))],
-    )
+    items(alloc, [Catcher::Catch(true, name, list)])
 }
 
 /// How many forms of statement go round a list.
 const LISTS: usize = 8;
 
-/// A form of statement round a list.
+/// A form of statement round a list: `if FALSE then else .. end;`, `while TRUE do .. end;`, `repeat .. until TRUE;`,
+/// `for i = 0 to 0 do .. end;`, `case 1 of when - => .. end;`, `try .. catch end;` without catchers, and
+/// `try throw E{}; catch .. end;` with `when x: E => ..` and with `otherwise => ..`.
 fn around(alloc: Global, form: usize, list: List) -> Result<List, AllocError> {
-    match form {
-        0 => in_else(alloc, list),
-        1 => in_while(alloc, list),
-        2 => in_repeat(alloc, list),
-        3 => in_for(alloc, list),
-        4 => in_case(alloc, list),
-        5 => in_try(alloc, list),
-        6 => in_catch(alloc, list),
-        _ => in_otherwise(alloc, list),
-    }
+    let act = match form {
+        0 => {
+            let condition = truth(alloc, false)?;
+            let (first, others) = (Items::new(alloc), Items::new(alloc));
+            Act::If(AT, condition.into_inner(), first, others, list)
+        }
+        1 => Act::While(AT, always(alloc)?, list),
+        2 => Act::Repeat(AT, list, always(alloc)?),
+        3 => Act::For(AT, once(alloc)?, list),
+        4 => {
+            let others = when_anything(alloc, list)?;
+            Act::Case(AT, int(alloc, 1)?.into_inner(), others, Last::None)
+        }
+        5 => Act::Try(AT, list, Items::new(alloc), Last::None),
+        6 => {
+            let catchers = when_thrown(alloc, list)?;
+            Act::Try(AT, thrown(alloc)?, catchers, Last::None)
+        }
+        _ => Act::Try(AT, thrown(alloc)?, Items::new(alloc), Last::Otherwise(list)),
+    };
+    items(alloc, [act])
 }
 
 /// A list in so many statements, one in another, of one form after another from this one, or of this form alone.
@@ -377,10 +343,7 @@ fn calling(alloc: Global, is_function: bool, id: usize) -> Result<List, AllocErr
         returning(alloc, called(alloc, f, Items::new(alloc))?)
     } else {
         let (widths, params, args) = (Items::new(alloc), Items::new(alloc), Items::new(alloc));
-        items(
-            alloc,
-            [Act::Simple(Simple::Invoke(AT, f, widths, params, args))],
-        )
+        one_simple(alloc, Simple::Invoke(AT, f, widths, params, args))
     }
 }
 
@@ -389,7 +352,7 @@ fn last(alloc: Global, is_function: bool) -> Result<List, AllocError> {
     if is_function {
         returning(alloc, int(alloc, 1)?)
     } else {
-        items(alloc, [Act::Simple(Simple::Pass(AT))])
+        one_simple(alloc, Simple::Pass(AT))
     }
 }
 
