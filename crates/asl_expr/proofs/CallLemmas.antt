@@ -1,30 +1,11 @@
 -- The arguments that subprograms of the library take.
-use Rattle.std.proofs.Common.{◌≡◌, ℕ, suc, Bool, true, false, ◌&&◌, length, get_or, List, [], ◌∷◌, refl, sym, ap, ◌∙◌, arith}
+use Rattle.std.proofs.Common.{◌≡◌, Bool, true, false, ◌&&◌, length, get_or, List, [], ◌∷◌, refl, sym, ap, ◌∙◌, arith}
 use Rattle.asl_rules.specs.Calls.{of_bits, of_integer}
-use Rattle.asl_rules.specs.Types.{Ty, Kind, integers, booleans, bitvectors, enumerations, records, exceptions, tuples, arrays, no_kind, one_more, kind, kinds, kind_eq, kinds_eq, is_bits, is_integer}
+use Rattle.asl_rules.specs.Types.{integers, bitvectors, no_kind, one_more, kind, kinds, kind_eq, kinds_eq, is_bits, is_integer}
 use Rattle.asl_rules.specs.Typing.{types_of}
 use Rattle.asl_tree.specs.declared.tree.Tree.{Tree}
 use Rattle.asl_tree.specs.View.{typed_of, all_operands}
-
-bits_either : (k : Kind) → kind_eq k bitvectors ≡ kind_eq bitvectors k
-bits_either integers = refl
-bits_either booleans = refl
-bits_either bitvectors = refl
-bits_either (enumerations n) = refl
-bits_either (records n) = refl
-bits_either (exceptions n) = refl
-bits_either (tuples ks) = refl
-bits_either (arrays n k) = refl
-
-integers_either : (k : Kind) → kind_eq k integers ≡ kind_eq integers k
-integers_either integers = refl
-integers_either booleans = refl
-integers_either bitvectors = refl
-integers_either (enumerations n) = refl
-integers_either (records n) = refl
-integers_either (exceptions n) = refl
-integers_either (tuples ks) = refl
-integers_either (arrays n k) = refl
+use Rattle.asl_rules.proofs.values.SameKind.{tests_turned}
 
 and_true : (b : Bool) → b ≡ (b && true)
 and_true true = refl
@@ -41,7 +22,7 @@ bits_not (o ∷ p ∷ os) h = and_false (kind_eq bitvectors (kind (typed_of o).t
 
 pub bits_is : (os : List Tree) (o : Tree) → length os ≡ 1 → o ≡ get_or os 0 o → is_bits (typed_of o).ty ≡ kinds_eq of_bits (kinds (types_of (all_operands os)))
 bits_is [] o h e = absurd (omega (arith, h))
-bits_is (p ∷ []) o h e = ap (λ x. is_bits (typed_of x).ty) e ∙ bits_either (kind (typed_of p).ty) ∙ and_true (kind_eq bitvectors (kind (typed_of p).ty))
+bits_is (p ∷ []) o h e = ap (λ x. is_bits (typed_of x).ty) e ∙ tests_turned (kind (typed_of p).ty) bitvectors ∙ and_true (kind_eq bitvectors (kind (typed_of p).ty))
 bits_is (p ∷ q ∷ os) o h e = absurd (omega (arith, h))
 
 pub integer_not : (os : List Tree) → (length os ≡ 1 → ⊥) → false ≡ kinds_eq of_integer (kinds (types_of (all_operands os)))
@@ -51,7 +32,7 @@ integer_not (o ∷ p ∷ os) h = and_false (kind_eq integers (kind (typed_of o).
 
 pub integer_is : (os : List Tree) (o : Tree) → length os ≡ 1 → o ≡ get_or os 0 o → is_integer (typed_of o).ty ≡ kinds_eq of_integer (kinds (types_of (all_operands os)))
 integer_is [] o h e = absurd (omega (arith, h))
-integer_is (p ∷ []) o h e = ap (λ x. is_integer (typed_of x).ty) e ∙ integers_either (kind (typed_of p).ty) ∙ and_true (kind_eq integers (kind (typed_of p).ty))
+integer_is (p ∷ []) o h e = ap (λ x. is_integer (typed_of x).ty) e ∙ tests_turned (kind (typed_of p).ty) integers ∙ and_true (kind_eq integers (kind (typed_of p).ty))
 integer_is (p ∷ q ∷ os) o h e = absurd (omega (arith, h))
 
 pub integers_not : (os : List Tree) → (length os ≡ 2 → ⊥) → false ≡ kinds_eq (one_more integers of_integer) (kinds (types_of (all_operands os)))
@@ -67,8 +48,8 @@ pub integers_are : (os : List Tree) (o p : Tree) (b c : Bool) → length os ≡ 
 integers_are [] o p b c h e f i j = absurd (omega (arith, h))
 integers_are (x ∷ []) o p b c h e f i j = absurd (omega (arith, h))
 integers_are (x ∷ y ∷ []) o p b c h e f i j =
-    ap (λ z. z && c) (i ∙ ap (λ z. is_integer (typed_of z).ty) e ∙ integers_either (kind (typed_of x).ty))
-    ∙ ap (λ z. kind_eq integers (kind (typed_of x).ty) && z) (j ∙ ap (λ z. is_integer (typed_of z).ty) f ∙ integers_either (kind (typed_of y).ty) ∙ and_true (kind_eq integers (kind (typed_of y).ty)))
+    ap (λ z. z && c) (i ∙ ap (λ z. is_integer (typed_of z).ty) e ∙ tests_turned (kind (typed_of x).ty) integers)
+    ∙ ap (λ z. kind_eq integers (kind (typed_of x).ty) && z) (j ∙ ap (λ z. is_integer (typed_of z).ty) f ∙ tests_turned (kind (typed_of y).ty) integers ∙ and_true (kind_eq integers (kind (typed_of y).ty)))
 integers_are (x ∷ y ∷ z ∷ os) o p b c h e f i j = absurd (omega (arith, h))
 
 pub nothing_not : (os : List Tree) → (length os ≡ 0 → ⊥) → false ≡ kinds_eq no_kind (kinds (types_of (all_operands os)))

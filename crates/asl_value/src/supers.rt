@@ -100,7 +100,7 @@ impl Branch {
         }
     }
 
-    /// Whether the name in a place, from 0, is this one.
+    /// Whether the name in a place, from 0, is this one: then it is among the names, and else nothing is said.
     #[tactic(auto, using(crate::proofs::Reached::among_left, crate::proofs::Reached::among_right))]
     fn is_at(&self, place: u64, name: &[u8]) -> bool
         ensures { IsTrue result → IsTrue (rules.is_among name.now self.now) }
@@ -218,7 +218,8 @@ impl Supers {
         false
     }
 
-    /// Whether the name that so many others of these stand behind is this one. It takes no walk over the names.
+    /// Whether the name that so many others of these stand behind is this one: then it is among these, and else nothing is said. It
+    /// takes no walk over the names.
     #[tactic(auto, using(crate::proofs::Reached::reached_there))]
     pub fn has_before(&self, others: u64, name: &[u8]) -> bool
         ensures { IsTrue result → IsTrue (rules.is_among name.now self.now) }

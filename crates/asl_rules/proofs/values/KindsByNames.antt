@@ -2,10 +2,10 @@
 use Rattle.std.proofs.Common.{◌≡◌, ℕ, ◌&&◌, ◌||◌, Bool, true, false, List, [], ◌∷◌, Option, Some, refl, sym, ap, ap₂, ◌∙◌}
 use Rattle.std.specs.Prelude.{◌==◌}
 use Rattle.std.specs.Str.{bytes_eq}
-use Rattle.asl_rules.specs.Types.{Ty, Parts, Kind, integer_of, boolean, bits_of, enumeration_of, record_of, exception_of, tuple_of, array_of, named, no_part, part, integers, booleans, bitvectors, enumerations, records, exceptions, tuples, arrays, kind, kinds, kind_eq, kinds_eq, is_among, reaches, by_relation, is_tuple, is_array_of, same_kind, same_kinds, parts_of, element_of}
+use Rattle.asl_rules.specs.Types.{Ty, Parts, integer_of, boolean, bits_of, enumeration_of, record_of, exception_of, tuple_of, array_of, named, no_part, part, integers, booleans, bitvectors, tuples, arrays, kind, kinds, kind_eq, kinds_eq, is_among, reaches, by_relation, is_tuple, is_array_of, same_kind, same_kinds, parts_of, element_of}
 use Rattle.asl_rules.specs.WellFormed.{Declared, Nearest, Shaped, ShapedParts, WellDeclared}
 use Rattle.asl_rules.proofs.basics.Tests.{no, some_same, either, same_name}
-use Rattle.asl_rules.proofs.values.SameKind.{tests_equal}
+use Rattle.asl_rules.proofs.values.SameKind.{tests_equal, tests_turned}
 
 -- ---- what declarations say
 
@@ -49,36 +49,6 @@ reached_kind d w own s T c others U e i h =
 
 -- ---- the test by names
 
-integers_turned : (k : Kind) → kind_eq k integers ≡ kind_eq integers k
-integers_turned integers = refl
-integers_turned booleans = refl
-integers_turned bitvectors = refl
-integers_turned (enumerations n) = refl
-integers_turned (records n) = refl
-integers_turned (exceptions n) = refl
-integers_turned (tuples ks) = refl
-integers_turned (arrays n k) = refl
-
-booleans_turned : (k : Kind) → kind_eq k booleans ≡ kind_eq booleans k
-booleans_turned integers = refl
-booleans_turned booleans = refl
-booleans_turned bitvectors = refl
-booleans_turned (enumerations n) = refl
-booleans_turned (records n) = refl
-booleans_turned (exceptions n) = refl
-booleans_turned (tuples ks) = refl
-booleans_turned (arrays n k) = refl
-
-bitvectors_turned : (k : Kind) → kind_eq k bitvectors ≡ kind_eq bitvectors k
-bitvectors_turned integers = refl
-bitvectors_turned booleans = refl
-bitvectors_turned bitvectors = refl
-bitvectors_turned (enumerations n) = refl
-bitvectors_turned (records n) = refl
-bitvectors_turned (exceptions n) = refl
-bitvectors_turned (tuples ks) = refl
-bitvectors_turned (arrays n k) = refl
-
 by_tuple : (d : List ℕ → Option Ty) (ss : Parts) (T : Ty) → Shaped d T → ((ts : Parts) → ShapedParts d ts → same_kinds ss ts ≡ kinds_eq (kinds ss) (kinds ts)) → (is_tuple T && same_kinds ss (parts_of T)) ≡ kind_eq (tuples (kinds ss)) (kind T)
 by_tuple d ss (integer_of ps) t f = refl
 by_tuple d ss boolean t f = refl
@@ -117,9 +87,9 @@ by_name d w name supers S T rest s t e = e
 
 mutual
   pub kinds_by_names : (d : List ℕ → Option Ty) → WellDeclared d → (S T : Ty) → Shaped d S → Shaped d T → same_kind S T ≡ kind_eq (kind S) (kind T)
-  kinds_by_names d w (integer_of ps) T s t = integers_turned (kind T)
-  kinds_by_names d w boolean T s t = booleans_turned (kind T)
-  kinds_by_names d w (bits_of p view) T s t = bitvectors_turned (kind T)
+  kinds_by_names d w (integer_of ps) T s t = tests_turned (kind T) integers
+  kinds_by_names d w boolean T s t = tests_turned (kind T) booleans
+  kinds_by_names d w (bits_of p view) T s t = tests_turned (kind T) bitvectors
   kinds_by_names d w (enumeration_of n labels) T s t = refl
   kinds_by_names d w (record_of n fs) T s t = refl
   kinds_by_names d w (exception_of n fs) T s t = refl

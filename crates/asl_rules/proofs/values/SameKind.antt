@@ -1,5 +1,6 @@
 -- The test of kinds decides whether they are equal.
-use Rattle.std.proofs.Common.{◌≡◌, ℕ, true, refl, ap, ap₂, subst}
+use Rattle.std.proofs.Common.{◌≡◌, ℕ, true, refl, sym, ap, ap₂, subst}
+use Rattle.std.specs.Cmp.{both_ways}
 use Rattle.std.specs.Prelude.{◌==◌}
 use Rattle.std.proofs.lemmas.Bool.Decides.{Decides-eqb}
 use Rattle.asl_rules.specs.Types.{Kind, Kinds, integers, booleans, bitvectors, enumerations, records, exceptions, tuples, arrays, no_kind, one_more, kind_eq, kinds_eq}
@@ -49,3 +50,7 @@ mutual
 
 pub tests_equal : (k l : Kind) → k ≡ l → kind_eq k l ≡ true
 tests_equal k l h = subst (λ m. kind_eq k m ≡ true) h (kind_is k)
+
+-- the test says the same either way round
+pub tests_turned : (k l : Kind) → kind_eq k l ≡ kind_eq l k
+tests_turned k l = both_ways (kind_eq k l) (kind_eq l k) (λ h. tests_equal l k (sym (equal_kinds k l h))) (λ h. tests_equal k l (sym (equal_kinds l k h)))
