@@ -1,7 +1,6 @@
 -- The globals that a run begins with, one by one, and a program that is sealed with them.
 use Rattle.std.proofs.Common.{◌≡◌, ℕ, ◌+◌, ◌<◌, ◌≤◌, List, [], ◌∷◌, ◌++◌, length, get_or, drop, map, Option, Some, None, Ok, option_map, refl, sym, ap, ◌∙◌, subst, append_assoc}
 use Rattle.std.proofs.lemmas.List.{drop_all}
-use Rattle.asl_bits.specs.declared.TheConstants.{WIDTH_LIMIT}
 use Rattle.asl_syn.specs.declared.tree.Decl.{Decl}
 use Rattle.asl_syn.specs.declared.tree.Decl.TheVariants as dc
 use Rattle.asl_rules.specs.declared.entry.Entry.{Entry as Asked}
@@ -56,12 +55,12 @@ names_are : (t : Tests) (e : Asked) (ds : List Decl) (a : Accepted) → verdict 
 names_are t e ds a h = sym (ap (λ (x : Accepted). x.names) (facts_of t e ds a h).is)
 
 pub sealed_by : (ds : List Decl) (e : Asked) (main : Option ℕ) (funcs : List TreeFunc) (globals : List Global) (subs : List Signature) (names : List Entry) →
-    AreGrown WIDTH_LIMIT ds → ((t : Tests) → Suits t → verdict e ds t ≡ Ok (accepted e main subs (all_funcs funcs) names)) → cells_of globals ≡ cells_in (globals_among ds names) →
+    AreGrown ds → ((t : Tests) → Suits t → verdict e ds t ≡ Ok (accepted e main subs (all_funcs funcs) names)) → cells_of globals ≡ cells_in (globals_among ds names) →
     IsSealed ds e main funcs globals
 sealed_by ds e main funcs globals subs names grown v begins = λ t s. ∣ record {
   signatures = subs;
   names = names;
-  grown = subst (λ n. AreGrown n ds) (sym s.limit) grown;
+  grown = grown;
   accepts = v t s;
   begins = begins ∙ ap (λ ns. cells_in (globals_among ds ns)) (names_are t e ds _ (v t s));
 } ∣₁

@@ -1,7 +1,6 @@
 //! Whole programs.
 
 ghost use Rattle.std.specs.Prelude.{◌≡◌, length, map, IfOk};
-ghost use Rattle.asl_bits.specs.declared.TheConstants.{WIDTH_LIMIT};
 ghost use Rattle.asl_rules.specs.Grown.{AreGrown};
 ghost use Rattle.asl_tree.specs.Sealed.{IsSealed};
 ghost use Rattle.asl_rules.specs.Programs.{verdict};
@@ -107,7 +106,7 @@ fn numbered(main: Option<usize>) -> Option<SubId>
 
 /// What is made of declarations such as texts give, where they are well formed.
 fn make(alloc: Global, decls: &[Decl], entry: Entry) -> Result<Made, Refused>
-    requires { AreGrown WIDTH_LIMIT decls.now }
+    requires { AreGrown decls.now }
     ensures rule { (t : Tests) → Suits t → HasMain (λ made. made.main) result (verdict entry decls.now t) }
     ensures sealed { IfOk result (λ made. IsSealed decls.now entry made.main made.funcs made.globals.items) }
 {
@@ -128,7 +127,7 @@ fn make(alloc: Global, decls: &[Decl], entry: Entry) -> Result<Made, Refused>
 /// Checks a program such as texts give. It is accepted, and sealed, exactly where it is well formed with the entry that is asked
 /// for, and otherwise refused at its one fault, by any right tests under the width limit. Want of memory says nothing.
 pub fn check(alloc: Global, program: Program, entry: Entry) -> Result<Checked, Refused>
-    requires { AreGrown WIDTH_LIMIT program.decls }
+    requires { AreGrown program.decls }
     ensures { (t : Tests) → Suits t → IsVerdict t entry program.decls result }
 {
     let Made {

@@ -9,8 +9,8 @@ use Rattle.asl_rules.proofs.scopes.GrownTexts.{read_grown}
 use Rattle.asl_rules.proofs.verdict.SomeTests.{some_tests}
 use Rattle.asl_types.specs.Suits.{Suits}
 
-pub grown : (files : List File) (ds : List Decl) → Reads files (Ok ds) → AreGrown WIDTH_LIMIT ds
-grown files ds r = read_grown WIDTH_LIMIT files ds r
+pub grown : (files : List File) (ds : List Decl) → Reads files (Ok ds) → AreGrown ds
+grown files ds r = read_grown files ds r
 
 pub some_suits : (t : Tests) × Suits t
 some_suits = let s = some_tests WIDTH_LIMIT in (s.tests, record { right = s.right; limit = s.within })

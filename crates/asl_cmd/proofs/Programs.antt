@@ -2,7 +2,6 @@
 use Rattle.std.proofs.Common.{◌≡◌, ℕ, List, [], ◌∷◌, Option, Result, Ok, sym, ap, ◌∙◌, subst}
 use Rattle.asl_syn.specs.declared.code.Fault.{Fault}
 use Rattle.asl_syn.specs.declared.tree.Decl.{Decl}
-use Rattle.asl_bits.specs.declared.TheConstants.{WIDTH_LIMIT}
 use Rattle.asl_rules.specs.Grown.{AreGrown}
 use Rattle.asl_rules.specs.Programs.{verdict, Accepted}
 use Rattle.asl_grammar.specs.Reading.{IsReading, Reader, Reads}
@@ -33,15 +32,12 @@ accepted_with t e ds c h =
     let b = bind_ok (verdict e ds t) (λ a. Ok a.main) c.main h.1.1 in
     record { accepted = b.value; is = b.first; main_is = ok_ok b.value.main c.main b.then }
 
-grown_with : (t : Tests) → Suits t → (ds : List Decl) (c : Sealed) → AreGrown WIDTH_LIMIT ds → c.decls ≡ ds → AreGrown t.limit c.decls
-grown_with t u ds c grown same = subst (λ n. AreGrown n c.decls) (sym u.limit) (subst (AreGrown WIDTH_LIMIT) (sym same) grown)
-
 -- a program that was checked with the entry `main` can be run
-pub starts : (t : Tests) → Suits t → (ds : List Decl) (c : Sealed) → AreGrown WIDTH_LIMIT ds → IsVerdict t Main ds (Ok c) → Starts t c
+pub starts : (t : Tests) → Suits t → (ds : List Decl) (c : Sealed) → AreGrown ds → IsVerdict t Main ds (Ok c) → Starts t c
 starts t u ds c grown h =
     let a = accepted_with t Main ds c h in
     record {
-      grown = grown_with t u ds c grown h.0;
+      grown = subst AreGrown (sym h.0) grown;
       asked = h.1.0;
       accepted = a.accepted;
       is = ap (λ e. verdict e c.decls t) h.1.0 ∙ ap (λ zs. verdict Main zs t) h.0 ∙ a.is;
@@ -49,11 +45,11 @@ starts t u ds c grown h =
     }
 
 -- and one that was checked with the entry `decode` can be run on words
-pub decodes : (t : Tests) → Suits t → (ds : List Decl) (c : Sealed) → AreGrown WIDTH_LIMIT ds → IsVerdict t Decode ds (Ok c) → Decodes t c
+pub decodes : (t : Tests) → Suits t → (ds : List Decl) (c : Sealed) → AreGrown ds → IsVerdict t Decode ds (Ok c) → Decodes t c
 decodes t u ds c grown h =
     let a = accepted_with t Decode ds c h in
     record {
-      grown = grown_with t u ds c grown h.0;
+      grown = subst AreGrown (sym h.0) grown;
       asked = h.1.0;
       accepted = a.accepted;
       is = ap (λ e. verdict e c.decls t) h.1.0 ∙ ap (λ zs. verdict Decode zs t) h.0 ∙ a.is;

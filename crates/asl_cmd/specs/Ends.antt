@@ -68,7 +68,7 @@ words_ending t files n w = words_line files n w.stage ++ globals_text (globals_o
 
 -- a program that was accepted with the entry `main`
 pub record Starts (t : Tests) (c : Sealed) : Type 0 where
-  pub grown : AreGrown t.limit c.decls
+  pub grown : AreGrown c.decls
   pub asked : c.asked ≡ Main
   pub accepted : Accepted
   pub is : verdict c.asked c.decls t ≡ Ok accepted
@@ -76,7 +76,7 @@ pub record Starts (t : Tests) (c : Sealed) : Type 0 where
 
 -- a program that was accepted with the entry `decode`
 pub record Decodes (t : Tests) (c : Sealed) : Type 0 where
-  pub grown : AreGrown t.limit c.decls
+  pub grown : AreGrown c.decls
   pub asked : c.asked ≡ Decode
   pub accepted : Accepted
   pub is : verdict c.asked c.decls t ≡ Ok accepted

@@ -1,7 +1,6 @@
 //! The writing of answers.
 ghost use Rattle.std.specs.Prelude.{◌≡◌, ◌≤◌, [], ◌∷◌, length, map};
 ghost use Rattle.asl_line.specs.Model.{meaning_of, HasSize};
-ghost use Rattle.asl_bits.specs.declared.TheConstants.{WIDTH_LIMIT};
 ghost use Rattle.asl_words.specs.declared.TheConstants.{MOST_WORDS};
 ghost use Rattle.asl_rules.specs.Grown.{AreGrown};
 ghost use Rattle.asl_rules.specs.Tests.{Tests};
@@ -55,7 +54,7 @@ fn check_program<K: Sink>(
     out: &mut K,
 ) -> Result<Status, Stop>
     requires short { AreShort sources.now }
-    requires grown { AreGrown WIDTH_LIMIT program.decls }
+    requires grown { AreGrown program.decls }
     ensures answer { (t : Tests) → Suits t → Answers result (K.written out.old) (K.written out.new) (on_check t (map file_of sources.now) program.decls) }
     ensures cause { HasCause result (K.faults out.old) (K.faults out.new) }
     ensures same_full { K.full out.new ≡ K.full out.old }
@@ -80,7 +79,7 @@ fn check_and_run<K: Sink>(
     out: &mut K,
 ) -> Result<Status, Stop>
     requires short { AreShort sources.now }
-    requires grown { AreGrown WIDTH_LIMIT program.decls }
+    requires grown { AreGrown program.decls }
     ensures answer { (t : Tests) → Suits t → Answers result (K.written out.old) (K.written out.new) (on_run t steps (map file_of sources.now) program.decls) }
     ensures cause { HasCause result (K.faults out.old) (K.faults out.new) }
     ensures same_full { K.full out.new ≡ K.full out.old }
@@ -102,7 +101,7 @@ fn check_and_exec<K: Sink>(
     out: &mut K,
 ) -> Result<Status, Stop>
     requires short { AreShort sources.now }
-    requires grown { AreGrown WIDTH_LIMIT program.decls }
+    requires grown { AreGrown program.decls }
     requires few { length words.now ≤ MOST_WORDS }
     ensures answer { (t : Tests) → Suits t → Answers result (K.written out.old) (K.written out.new) (on_words t steps words.now (map file_of sources.now) program.decls) }
     ensures cause { HasCause result (K.faults out.old) (K.faults out.new) }
@@ -125,7 +124,7 @@ fn check_made<K: Sink>(
     out: &mut K,
 ) -> Result<Status, Stop>
     requires short { AreShort (source.now ∷ []) }
-    requires grown { AreGrown WIDTH_LIMIT program.decls }
+    requires grown { AreGrown program.decls }
     ensures answer { (t : Tests) → Suits t → Answers result (K.written out.old) (K.written out.new) (on_made t number size source.now.bytes.items (file_of source.now ∷ []) program.decls) }
     ensures cause { HasCause result (K.faults out.old) (K.faults out.new) }
     ensures same_full { K.full out.new ≡ K.full out.old }

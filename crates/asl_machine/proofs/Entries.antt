@@ -39,7 +39,7 @@ verdict_asked t e ds a ok =
     was_asked e m.value (signatures s.value) b.value n.value a m.then
 
 -- `main`, with nothing
-pub main_callable : (t : Tests) → Suits t → (c : Sealed) → AreGrown t.limit c.decls → (a : Accepted) → verdict c.asked c.decls t ≡ Ok a → c.asked ≡ entry.Main → (id : ℕ) → a.main ≡ Some id → IsCallable t c id []
+pub main_callable : (t : Tests) → Suits t → (c : Sealed) → AreGrown c.decls → (a : Accepted) → verdict c.asked c.decls t ≡ Ok a → c.asked ≡ entry.Main → (id : ℕ) → a.main ≡ Some id → IsCallable t c id []
 main_callable t r c grown a ok main id is =
     let f = facts_of t c.asked c.decls a ok in
     let s = soundness t r.right c.decls a f grown in

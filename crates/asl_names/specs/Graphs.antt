@@ -35,11 +35,6 @@ abbrev pub with_used : Option ℕ → List ℕ → List ℕ
 with_used None places = places
 with_used (Some n) places = places ++ n ∷ []
 
--- and then the place of this name, where there is one
-abbrev pub added_at : Places → Option (List ℕ) → List ℕ → List ℕ
-added_at table None places = places
-added_at table (Some u) places = with_used (first_place u table) places
-
 -- and then the places of these names
 abbrev pub added : Places → Used → List ℕ → List ℕ
 added table [] places = places

@@ -4,5 +4,5 @@ pub mod Cycles
 pub mod Firsts
 pub mod Graphs
 pub mod Known
-pub mod NodeView
+pub mod UseView
 pub mod Orders

@@ -1,64 +1,52 @@
 //! Which declarations use which.
 
-ghost use Rattle.std.specs.Prelude.{◌≡◌, [], IfOk, OnOk};
-ghost use Rattle.asl_rules.specs.Nodes.{decl_nodes};
+ghost use Rattle.std.specs.Prelude.{◌≡◌, [], map, IfOk, OnOk};
+ghost use Rattle.asl_rules.specs.UsedNames.{name_of};
 ghost use Rattle.asl_rules.specs.Uses as uses;
+ghost use Rattle.asl_names.specs.Firsts.{first_place};
 ghost use Rattle.asl_names.specs.Graphs as graphs;
-ghost use Rattle.asl_names.specs.NodeView.{node_of, all_nodes};
+ghost use Rattle.asl_names.specs.UseView.{use_of, all_uses};
 
-use crate::decl_nodes::nodes_of_decl;
+use crate::decl_uses::uses_in_decl;
 use crate::declarers::declared_places;
 use crate::firsts::Firsts;
-use crate::node::Node;
-use crate::used::used_at;
+use crate::name_use::Use;
 use asl_syn::tree::Decl;
 use sqlite_items::Items;
 use std::alloc::{AllocError, Global};
 
-/// The place of the declaration whose name a node uses, where there is one.
-fn use_node(table: &Firsts<'_>, node: Node<'_>, places: &mut Items<usize>) -> Result<(), AllocError>
-    ensures { OnOk result (places.new ≡ graphs.added_at table.now (uses.used_at (node_of node.entry)) places.old) }
+/// The place of the declaration whose name is used, where there is one.
+fn add_place(table: &Firsts<'_>, one: Use<'_>, places: &mut Items<usize>) -> Result<(), AllocError>
+    ensures { OnOk result (places.new ≡ graphs.with_used (first_place (name_of (use_of one.entry)) table.now) places.old) }
 {
-    if let Some(name) = used_at(node)
-        && let Some(place) = table.place_of(name)
-    {
+    if let Some(place) = table.place_of(one.name()) {
         places.push(place)?;
     }
     Ok(())
 }
 
-/// The places of the declarations whose names nodes use, in order.
-fn use_nodes(
+/// The places of the declarations whose names are used, in order.
+fn add_places(
     table: &Firsts<'_>,
-    nodes: &[Node<'_>],
+    uses: &[Use<'_>],
     places: &mut Items<usize>,
 ) -> Result<(), AllocError>
-    ensures { OnOk result (places.new ≡ graphs.added table.now (uses.used (all_nodes nodes.now)) places.old) }
+    ensures { OnOk result (places.new ≡ graphs.added table.now (map name_of (all_uses uses.now)) places.old) }
 {
-    for node in nodes {
-        use_node(table, *node, places)?;
+    for one in uses {
+        add_place(table, *one, places)?;
     }
     Ok(())
 }
 
-/// The places of the declarations that a type or storage uses.
-fn places_used(alloc: Global, table: &Firsts<'_>, d: &Decl) -> Result<Items<usize>, AllocError>
-    ensures { IfOk result (λ row. row ≡ graphs.added table.now (uses.used (decl_nodes d.now)) []) }
-{
-    let nodes = nodes_of_decl(alloc, d)?;
-    let mut places = Items::new(alloc);
-    use_nodes(table, nodes.as_slice(), &mut places)?;
-    Ok(places)
-}
-
+/// The places of the declarations that a declaration uses.
 fn row_of(alloc: Global, table: &Firsts<'_>, d: &Decl) -> Result<Items<usize>, AllocError>
     ensures { IfOk result (λ row. row ≡ graphs.added table.now (uses.uses d.now) []) }
 {
-    match d {
-        Decl::Type(_) => places_used(alloc, table, d),
-        Decl::Storage(_) => places_used(alloc, table, d),
-        Decl::Func(_) => Ok(Items::new(alloc)),
-    }
+    let uses = uses_in_decl(alloc, d)?;
+    let mut places = Items::new(alloc);
+    add_places(table, uses.as_slice(), &mut places)?;
+    Ok(places)
 }
 
 /// Of each declaration the places of those that it uses.

@@ -1,27 +1,24 @@
-//! The names of declarations: the nodes of their trees, which declarations use which, and an order
-//! in which each stands behind what it uses.
+//! The names of declarations: those that they use, which declarations use which, and an order in
+//! which each stands behind what it uses.
 #![tactic(auto)]
 
 mod answer;
 mod components;
 mod cycles;
-mod decl_nodes;
+mod decl_uses;
 mod declarers;
-mod expr_nodes;
+mod expr_uses;
 pub mod firsts;
 mod graph;
-mod heads;
 mod library;
 pub mod listed;
+mod name_use;
 mod names;
-mod node;
 pub mod order;
 mod ordered;
 mod reach;
-mod stmt_nodes;
-mod used;
 
-pub use expr_nodes::nodes_of_expr;
+pub use expr_uses::uses_in_expr;
 pub use library::LIBRARY;
-pub use node::Node;
+pub use name_use::Use;
 pub use ordered::{Ordered, in_order};

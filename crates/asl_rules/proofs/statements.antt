@@ -9,7 +9,6 @@ pub mod VarForms
 pub mod ThrowForms
 pub mod CaseForms
 pub mod AllStmts
-pub mod NodeForms
 pub mod CatchForms
 pub mod TryForms
 pub mod AssignStores

@@ -1,6 +1,6 @@
 pub mod Tests
 pub mod Faults
-pub mod Nodes
+pub mod UsedNames
 pub mod Types
 pub mod Effects
 pub mod Closed

@@ -52,7 +52,7 @@ cells_of gs = map cell_of gs
 pub record IsMade (t : Tests) (ds : List Decl) (asked : Entry) (main : Option ℕ) (funcs : List TreeFunc) (globals : List Global) : Type 0 where
   pub signatures : List Signature
   pub names : List scopes.Entry
-  pub grown : AreGrown t.limit ds
+  pub grown : AreGrown ds
   pub accepts : verdict asked ds t ≡ Ok (accepted asked main signatures (all_funcs funcs) names)
   pub begins : cells_of globals ≡ cells_in (initial_globals (environment t ds))
 

@@ -74,7 +74,7 @@ pub record DecodeFormal (a : Accepted) (id : ℕ) (bs : List Bool) : Type 0 wher
   pub formals_are : tree.formals ≡ formal ∷ []
   pub belongs : InType (types_in a.names) no_atoms (viewed (type_with formal no_atoms) (bits_with bs [])) formal
 
-pub decode_formal : (t : Tests) → IsRight t → (ds : List Decl) (a : Accepted) → AreGrown t.limit ds → verdict entry.Decode ds t ≡ Ok a → a.asked ≡ entry.Decode → (id : ℕ) → a.main ≡ Some id → (bs : List Bool) → length bs ≡ 32 → DecodeFormal a id bs
+pub decode_formal : (t : Tests) → IsRight t → (ds : List Decl) (a : Accepted) → AreGrown ds → verdict entry.Decode ds t ≡ Ok a → a.asked ≡ entry.Decode → (id : ℕ) → a.main ≡ Some id → (bs : List Bool) → length bs ≡ 32 → DecodeFormal a id bs
 decode_formal t right ds a grown ok asked id is bs n =
     let f = facts_of t entry.Decode ds a ok in
     let s = soundness t right ds a f grown in

@@ -24,8 +24,7 @@ use Rattle.asl_rules.specs.BeforeRuns.{HoldsInitial}
 use Rattle.asl_rules.specs.Belonging.{InType}
 use Rattle.asl_rules.specs.Agreement.{no_atoms, IsUnder, IsKnown, HoldsGlobal, types_in, AllMatch, GlobalsMatch, global_matches}
 use Rattle.asl_rules.specs.Uses.{uses}
-use Rattle.asl_rules.specs.Nodes.{Each, own_node, own_nodes}
-use Rattle.asl_rules.specs.Grown.{Grown, AreGrown}
+use Rattle.asl_rules.specs.Grown.{is_def_grown, is_grown, AreGrown}
 use Rattle.asl_rules.specs.Plans.{Good}
 use Rattle.asl_rules.specs.Constants.{constant}
 use Rattle.asl_rules.specs.Programs.{environment}
@@ -317,30 +316,30 @@ pub names_same : (tests : Tests) (ds : List Decl) (names : List Entry) → globa
 names_same tests ds names h = ok_ok (names_of_program tests ds) names (then_ok (faults_rule tests ds ds) (Ok (names_of_program tests ds)) names h).then
 
 -- what is read from texts has a label in each enumeration
-def_labels : (limit : ℕ) (def : TypeDef) → Each (Grown limit) (own_node def) → LabelsIn def
-def_labels limit (td.Alias t) g = tt
-def_labels limit (td.Labels span []) g = no g.0
-def_labels limit (td.Labels span (i ∷ is)) g = tt
-def_labels limit (td.Record span fs) g = tt
-def_labels limit (td.Exception span fs) g = tt
+def_labels : (def : TypeDef) → is_def_grown def ≡ true → LabelsIn def
+def_labels (td.Alias t) g = tt
+def_labels (td.Labels span []) g = no g
+def_labels (td.Labels span (i ∷ is)) g = tt
+def_labels (td.Record span fs) g = tt
+def_labels (td.Exception span fs) g = tt
 
-own_labels : (limit : ℕ) (d : Decl) → Each (Grown limit) (own_nodes d) → HasLabels d
-own_labels limit (dc.Type d) g = def_labels limit d.def g.1
-own_labels limit (dc.Storage d) g = tt
-own_labels limit (dc.Func f) g = tt
+own_labels : (d : Decl) → is_grown d ≡ true → HasLabels d
+own_labels (dc.Type d) g = def_labels d.def g
+own_labels (dc.Storage d) g = tt
+own_labels (dc.Func f) g = tt
 
-pub grown_labels : (limit : ℕ) (ds : List Decl) → AreGrown limit ds → (d : Decl) → In d ds → HasLabels d
-grown_labels limit [] g d i = absurd i
-grown_labels limit (e ∷ ds) g d (inl q) = subst HasLabels q (own_labels limit e g.0)
-grown_labels limit (e ∷ ds) g d (inr i) = grown_labels limit ds g.1 d i
+pub grown_labels : (ds : List Decl) → AreGrown ds → (d : Decl) → In d ds → HasLabels d
+grown_labels [] g d i = absurd i
+grown_labels (e ∷ ds) g d (inl q) = subst HasLabels q (own_labels e g.0)
+grown_labels (e ∷ ds) g d (inr i) = grown_labels ds g.1 d i
 
 -- constants belong to their types wherever the names are well formed and the globals hold their storage, as they begin
 abbrev pub AllBelong : Tests → List Decl → Type 0
 AllBelong tests ds = (base : List Entry) → WellNamed base → GlobalsMatch base (globals_among ds base) → HoldsInitial (record { decls = ds; names = base; limit = tests.limit }) (resting (globals_among ds base)) → ConstantsBelong tests base
 
-module _ (tests : Tests) (right : IsRight tests) (ds : List Decl) (names : List Entry) (grown : AreGrown tests.limit ds) (apart : names_rule [] (all_declared ds) ≡ Ok tt) (rule : globals_rule tests ds ≡ Ok names) (belong : AllBelong tests ds) where
+module _ (tests : Tests) (right : IsRight tests) (ds : List Decl) (names : List Entry) (grown : AreGrown ds) (apart : names_rule [] (all_declared ds) ≡ Ok tt) (rule : globals_rule tests ds ≡ Ok names) (belong : AllBelong tests ds) where
   pub well_named : WellNamed names
-  well_named = subst WellNamed (names_same tests ds names rule) (names_good tests right ds (distinct_of (all_declared ds) [] apart) (grown_labels tests.limit ds grown) belong)
+  well_named = subst WellNamed (names_same tests ds names rule) (names_good tests right ds (distinct_of (all_declared ds) [] apart) (grown_labels ds grown) belong)
 
   pub initial_match : GlobalsMatch names (initial_globals (environment tests ds))
-  initial_match = subst (λ ns. GlobalsMatch ns (initial_globals (environment tests ds))) (names_same tests ds names rule) (globals_good tests right ds (distinct_of (all_declared ds) [] apart) (grown_labels tests.limit ds grown) belong)
+  initial_match = subst (λ ns. GlobalsMatch ns (initial_globals (environment tests ds))) (names_same tests ds names rule) (globals_good tests right ds (distinct_of (all_declared ds) [] apart) (grown_labels ds grown) belong)

@@ -1,5 +1,5 @@
 -- Soundness of a well-formed program, and of its typed trees.
-use Rattle.std.proofs.Common.{◌≡◌, ℕ, true, List, [], Ok, sym, subst}
+use Rattle.std.proofs.Common.{◌≡◌, ℕ, true, List, [], Ok, subst}
 use Rattle.asl_syn.specs.declared.token.Span.{Span}
 use Rattle.asl_syn.specs.declared.tree.Decl.{Decl}
 use Rattle.asl_syn.specs.declared.tree.Ident.{Ident}
@@ -43,7 +43,7 @@ InvokesSo tests right ds base subs funcs w =
 others_of : (tests : Tests) (right : IsRight tests) (ds : List Decl) (base : List Entry) (subs : List Signature) (funcs : List TreeFunc) (w : WellNamed base) → InvokesSo tests right ds base subs funcs w → OtherStmts tests right ds base subs funcs w
 others_of tests right ds base subs funcs w i = record { invoke = i; try = λ j span ss cs o c h k. try_acted tests right ds base subs funcs w j span ss cs o c h k }
 
-pub soundness : (tests : Tests) (right : IsRight tests) (ds : List Decl) (a : Accepted) (f : Facts tests ds a) → AreGrown tests.limit ds → Soundness tests ds a × SameMeaning tests ds a
+pub soundness : (tests : Tests) (right : IsRight tests) (ds : List Decl) (a : Accepted) (f : Facts tests ds a) → AreGrown ds → Soundness tests ds a × SameMeaning tests ds a
 soundness tests right ds a f grown =
     let base = names_of_program tests ds in
     let belong = belong_by_forms tests right ds (λ b w. (no_calls tests right ds b w, others_of tests right ds b [] [] w (no_procedures tests right ds b w))) in
@@ -58,12 +58,12 @@ soundness tests right ds a f grown =
     )
 
 -- so it is of what the rules accept
-pub accepted_sound : (limit : ℕ) (e : Asked) (ds : List Decl) (a : Accepted) → AreGrown limit ds → (p : ProgramOk limit e ds a) → Soundness p.tests ds a × SameMeaning p.tests ds a
-accepted_sound limit e ds a grown p = soundness p.tests p.right ds a (facts_of p.tests e ds a p.is) (subst (λ n. AreGrown n ds) (sym p.within) grown)
+pub accepted_sound : (limit : ℕ) (e : Asked) (ds : List Decl) (a : Accepted) → AreGrown ds → (p : ProgramOk limit e ds a) → Soundness p.tests ds a × SameMeaning p.tests ds a
+accepted_sound limit e ds a grown p = soundness p.tests p.right ds a (facts_of p.tests e ds a p.is) grown
 
 -- and of each program that is read from files
 pub read_sound : (limit : ℕ) (e : Asked) (files : List File) (ds : List Decl) (a : Accepted) → Reads files (Ok ds) → (p : ProgramOk limit e ds a) → Soundness p.tests ds a × SameMeaning p.tests ds a
-read_sound limit e files ds a r p = accepted_sound limit e ds a (read_grown limit files ds r) p
+read_sound limit e files ds a r p = accepted_sound limit e ds a (read_grown files ds r) p
 
 -- the declared types of such a program agree with one another
 pub read_declared : (limit : ℕ) (e : Asked) (files : List File) (ds : List Decl) (a : Accepted) → Reads files (Ok ds) → (p : ProgramOk limit e ds a) → WellDeclared (types_in a.names)
@@ -71,5 +71,5 @@ read_declared limit e files ds a r p =
     let f = facts_of p.tests e ds a p.is in
     let base = names_of_program p.tests ds in
     let belong = belong_by_forms p.tests p.right ds (λ b w. (no_calls p.tests p.right ds b w, others_of p.tests p.right ds b [] [] w (no_procedures p.tests p.right ds b w))) in
-    let w : WellNamed base = well_named p.tests p.right ds base (subst (λ n. AreGrown n ds) (sym p.within) (read_grown limit files ds r)) f.apart f.globals belong in
+    let w : WellNamed base = well_named p.tests p.right ds base (read_grown files ds r) f.apart f.globals belong in
     subst (λ z. WellDeclared (types_in z.names)) f.is (well_declared base w)

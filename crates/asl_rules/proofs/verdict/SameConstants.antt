@@ -1,4 +1,4 @@
--- The value of an expression before any run depends on the names that its nodes use alone.
+-- The value of an expression before any run depends on the names that it uses alone.
 use Rattle.std.proofs.Common.{◌≡◌, ℕ, Bool, true, false, List, [], ◌∷◌, ◌++◌, map, refl, sym, ap, ap₂, ◌∙◌, subst}
 use Rattle.std.specs.Prelude.{option_map}
 use Rattle.asl_syn.specs.declared.token.Span.{Span}
@@ -28,9 +28,9 @@ use Rattle.asl_rules.specs.Forms as forms
 use Rattle.asl_rules.specs.Forms.{at_once, behind, behind_all, behind_more, eval_all, unless_decided, behind_left, operation}
 use Rattle.asl_rules.specs.ByNames.{types_among}
 use Rattle.asl_rules.specs.Constants.{Known, initial_value, settled, constant_layer, constant}
-use Rattle.asl_rules.specs.Nodes.{Nodes, joined, in_bitfield, in_part, in_expr, in_field, in_pattern, in_slice, in_type, expr_nodes, pattern_nodes, slice_nodes, type_nodes}
+use Rattle.asl_rules.specs.UsedNames.{Uses, joined, in_bitfield, in_part, in_expr, in_field, in_pattern, in_slice, in_type, expr_uses, pattern_uses, slice_uses, type_uses}
 use Rattle.asl_rules.proofs.verdict.SameRules.{shown, same_shown, AllOf}
-use Rattle.asl_rules.proofs.verdict.SameNames.{Agree, all_same, left, right, bitfield_nodes, part_nodes, given_nodes, noded_bitfield, noded_part, noded_expr, noded_given, noded_pattern, noded_slice, noded_type}
+use Rattle.asl_rules.proofs.verdict.SameNames.{Agree, all_same, left, right, bitfield_uses, part_uses, given_uses, using_bitfield, using_part, using_expr, using_given, using_pattern, using_slice, using_type}
 
 pure_on : {X Y : Type 0} (r : Pure X) (f g : X → Pure Y) → ((x : X) → f x ≡ g x) → (r >>= f) ≡ (r >>= g)
 pure_on (Good x) f g h = h x
@@ -148,43 +148,43 @@ module _ (limit : ℕ) (A B : List Entry) where
   BitfieldHas x = ExprsSame (known_bitfield x)
 
   abbrev pub BitfieldGood : Bitfield → Type 0
-  BitfieldGood x = Agree A B (bitfield_nodes x) → BitfieldHas x
+  BitfieldGood x = Agree A B (bitfield_uses x) → BitfieldHas x
 
   abbrev pub PartHas : ConstraintPart → Type 0
   PartHas x = ExprsSame (known_part x)
 
   abbrev pub PartGood : ConstraintPart → Type 0
-  PartGood x = Agree A B (part_nodes x) → PartHas x
+  PartGood x = Agree A B (part_uses x) → PartHas x
 
   abbrev pub ExprHas : Expr → Type 0
   ExprHas x = KnownSame (constant limit x)
 
   abbrev pub ExprGood : Expr → Type 0
-  ExprGood x = Agree A B (expr_nodes x) → ExprHas x
+  ExprGood x = Agree A B (expr_uses x) → ExprHas x
 
   abbrev pub GivenHas : FieldValue → Type 0
   GivenHas x = ExprsSame (known_given x)
 
   abbrev pub GivenGood : FieldValue → Type 0
-  GivenGood x = Agree A B (given_nodes x) → GivenHas x
+  GivenGood x = Agree A B (given_uses x) → GivenHas x
 
   abbrev pub PatternHas : Pattern → Type 0
   PatternHas x = ExprsSame (known_pattern x)
 
   abbrev pub PatternGood : Pattern → Type 0
-  PatternGood x = Agree A B (pattern_nodes x) → PatternHas x
+  PatternGood x = Agree A B (pattern_uses x) → PatternHas x
 
   abbrev pub SliceHas : Slice → Type 0
   SliceHas x = ExprsSame (known_slice x)
 
   abbrev pub SliceGood : Slice → Type 0
-  SliceGood x = Agree A B (slice_nodes x) → SliceHas x
+  SliceGood x = Agree A B (slice_uses x) → SliceHas x
 
   abbrev pub TypeHas : TypeExpr → Type 0
   TypeHas x = ShapeSame (known_type x)
 
   abbrev pub TypeGood : TypeExpr → Type 0
-  TypeGood x = Agree A B (type_nodes x) → TypeHas x
+  TypeGood x = Agree A B (type_uses x) → TypeHas x
 
   abbrev BB : Type 0
   BB = (x : Bitfield) × BitfieldGood x
@@ -249,138 +249,138 @@ module _ (limit : ℕ) (A B : List Entry) where
   abbrev trees_type : ex.TypeExpr-F BB CC EE FF PP SS TT → ex.TypeExpr-F Bitfield ConstraintPart Expr FieldValue Pattern Slice TypeExpr
   trees_type = map-TypeExpr BB CC EE FF PP SS TT Bitfield ConstraintPart Expr FieldValue Pattern Slice TypeExpr (λ x. x.0) (λ x. x.0) (λ x. x.0) (λ x. x.0) (λ x. x.0) (λ x. x.0) (λ x. x.0)
 
-  layer_expr : (y : ex.Expr-F BB CC EE FF PP SS TT) → Agree A B (in_expr (noded_expr (trees_expr y))) → KnownSame (constant_layer limit (opened_expr (trees_expr y)))
+  layer_expr : (y : ex.Expr-F BB CC EE FF PP SS TT) → Agree A B (in_expr (using_expr (trees_expr y))) → KnownSame (constant_layer limit (opened_expr (trees_expr y)))
   layer_expr (ex.Int span n) g = once_same span (forms.literal span n)
   layer_expr (ex.Bits span text) g = once_same span (literal_bits limit span text)
   layer_expr (ex.Bool span b) g = refl
   layer_expr (ex.Name span name) g = ap (λ r. settled span A (at_once r A)) (value_same span name g.0) ∙ once_same span (known span (initial_value (standing_of name B)))
-  layer_expr (ex.Unary span o a) g = behind_same span (constant limit a.0) (unary_value span o) (a.1 g.1)
+  layer_expr (ex.Unary span o a) g = behind_same span (constant limit a.0) (unary_value span o) (a.1 g)
   layer_expr (ex.Binary span o a b) g =
-      pure_same (constant limit a.0 A) (constant limit a.0 B) _ _ (a.1 (left A B (expr_nodes a.0) (expr_nodes b.0) g.1))
-      (λ x. behind_left_same span span o (constant limit b.0) x (strictness o) (b.1 (right A B (expr_nodes a.0) (expr_nodes b.0) g.1)))
+      pure_same (constant limit a.0 A) (constant limit a.0 B) _ _ (a.1 (left A B (expr_uses a.0) (expr_uses b.0) g))
+      (λ x. behind_left_same span span o (constant limit b.0) x (strictness o) (b.1 (right A B (expr_uses a.0) (expr_uses b.0) g)))
   layer_expr (ex.Conditional span c a b) g =
-      let h = right A B (expr_nodes c.0) (expr_nodes a.0 ++ expr_nodes b.0) g.1 in
-      pure_same (constant limit c.0 A) (constant limit c.0 B) _ _ (c.1 (left A B (expr_nodes c.0) (expr_nodes a.0 ++ expr_nodes b.0) g.1))
-      (λ x. taken_same span (constant limit a.0) (constant limit b.0) (truth span x) (a.1 (left A B (expr_nodes a.0) (expr_nodes b.0) h)) (b.1 (right A B (expr_nodes a.0) (expr_nodes b.0) h)))
-  layer_expr (ex.Tuple span es) g = behind_all_same span (map (constant limit) (map (λ e. e.0) es)) (λ xs. Good (tuple_with (values_of xs))) (all_same A B expr_nodes (constant limit) ExprHas KnownSame es (λ e h. h) g.1)
+      let h = right A B (expr_uses c.0) (expr_uses a.0 ++ expr_uses b.0) g in
+      pure_same (constant limit c.0 A) (constant limit c.0 B) _ _ (c.1 (left A B (expr_uses c.0) (expr_uses a.0 ++ expr_uses b.0) g))
+      (λ x. taken_same span (constant limit a.0) (constant limit b.0) (truth span x) (a.1 (left A B (expr_uses a.0) (expr_uses b.0) h)) (b.1 (right A B (expr_uses a.0) (expr_uses b.0) h)))
+  layer_expr (ex.Tuple span es) g = behind_all_same span (map (constant limit) (map (λ e. e.0) es)) (λ xs. Good (tuple_with (values_of xs))) (all_same A B expr_uses (constant limit) ExprHas KnownSame es (λ e h. h) g)
   layer_expr (ex.Construct span i fs) g =
       let ks = map known_given (map (λ e. e.0) fs) in
-      let h = exprs_same ks (all_same A B given_nodes known_given GivenHas ExprsSame fs (λ e h. h) g.1) in
+      let h = exprs_same ks (all_same A B given_uses known_given GivenHas ExprsSame fs (λ e h. h) g.1) in
       ap (λ o. settled span A (behind_all (exprs_in itself ks) A (constructed span o (shapes_in itself ks)))) (type_same i.text g.0) ∙ behind_all_same span (exprs_in itself ks) (constructed span (types_among B i.text) (shapes_in itself ks)) h
   layer_expr (ex.Call span i ps es) g =
-      let ms = joined (map expr_nodes (map (λ e. e.0) ps)) in
-      let ns = joined (map expr_nodes (map (λ e. e.0) es)) in
-      eval_all_same span (map (constant limit) (map (λ e. e.0) ps)) [] _ _ (all_same A B expr_nodes (constant limit) ExprHas KnownSame ps (λ e h. h) (left A B ms ns g.1))
-      (λ ys. eval_all_same span (map (constant limit) (map (λ e. e.0) es)) [] _ _ (all_same A B expr_nodes (constant limit) ExprHas KnownSame es (λ e h. h) (right A B ms ns g.1)) (λ xs. refl))
-  layer_expr (ex.Field span a i) g = behind_same span (constant limit a.0) _ (a.1 g.1)
-  layer_expr (ex.Fields span a is) g = behind_same span (constant limit a.0) _ (a.1 g.1)
+      let ms = joined (map expr_uses (map (λ e. e.0) ps)) in
+      let ns = joined (map expr_uses (map (λ e. e.0) es)) in
+      eval_all_same span (map (constant limit) (map (λ e. e.0) ps)) [] _ _ (all_same A B expr_uses (constant limit) ExprHas KnownSame ps (λ e h. h) (left A B ms ns g.1))
+      (λ ys. eval_all_same span (map (constant limit) (map (λ e. e.0) es)) [] _ _ (all_same A B expr_uses (constant limit) ExprHas KnownSame es (λ e h. h) (right A B ms ns g.1)) (λ xs. refl))
+  layer_expr (ex.Field span a i) g = behind_same span (constant limit a.0) _ (a.1 g)
+  layer_expr (ex.Fields span a is) g = behind_same span (constant limit a.0) _ (a.1 g)
   layer_expr (ex.Slices span a ss) g =
       let ks = map known_slice (map (λ e. e.0) ss) in
-      let ns = joined (map slice_nodes (map (λ e. e.0) ss)) in
-      behind_more_same span (constant limit a.0) (exprs_in itself ks) _ (a.1 (left A B (expr_nodes a.0) ns g.1)) (exprs_same ks (all_same A B slice_nodes known_slice SliceHas ExprsSame ss (λ e h. h) (right A B (expr_nodes a.0) ns g.1)))
+      let ns = joined (map slice_uses (map (λ e. e.0) ss)) in
+      behind_more_same span (constant limit a.0) (exprs_in itself ks) _ (a.1 (left A B (expr_uses a.0) ns g)) (exprs_same ks (all_same A B slice_uses known_slice SliceHas ExprsSame ss (λ e h. h) (right A B (expr_uses a.0) ns g)))
   layer_expr (ex.Element span a i) g =
-      pure_same (constant limit a.0 A) (constant limit a.0 B) _ _ (a.1 (left A B (expr_nodes a.0) (expr_nodes i.0) g.1)) (λ x. behind_same span (constant limit i.0) _ (i.1 (right A B (expr_nodes a.0) (expr_nodes i.0) g.1)))
+      pure_same (constant limit a.0 A) (constant limit a.0 B) _ _ (a.1 (left A B (expr_uses a.0) (expr_uses i.0) g)) (λ x. behind_same span (constant limit i.0) _ (i.1 (right A B (expr_uses a.0) (expr_uses i.0) g)))
   layer_expr (ex.As span a w) g =
-      let h = w.1 (right A B (expr_nodes a.0) (type_nodes w.0) g.1) in
+      let h = w.1 (right A B (expr_uses a.0) (type_uses w.0) g) in
       let s = known_type w.0 in
       ap (λ o. settled span A (behind_more (constant limit a.0) s.exprs A (λ x zs. converted limit span o zs x))) h.shape_is
-      ∙ behind_more_same span (constant limit a.0) s.exprs (λ x zs. converted limit span (s.shape (types_among B)) zs x) (a.1 (left A B (expr_nodes a.0) (type_nodes w.0) g.1)) h.exprs_are
-  layer_expr (ex.In span a p) g = behind_more_same span (constant limit a.0) (known_pattern p.0).exprs _ (a.1 (left A B (expr_nodes a.0) (pattern_nodes p.0) g.1)) (p.1 (right A B (expr_nodes a.0) (pattern_nodes p.0) g.1))
+      ∙ behind_more_same span (constant limit a.0) s.exprs (λ x zs. converted limit span (s.shape (types_among B)) zs x) (a.1 (left A B (expr_uses a.0) (type_uses w.0) g)) h.exprs_are
+  layer_expr (ex.In span a p) g = behind_more_same span (constant limit a.0) (known_pattern p.0).exprs _ (a.1 (left A B (expr_uses a.0) (pattern_uses p.0) g)) (p.1 (right A B (expr_uses a.0) (pattern_uses p.0) g))
 
-  layer_given : (y : ex.FieldValue-F BB CC EE FF PP SS TT) → Agree A B (in_field (noded_given (trees_given y))) → ExprsSame (given_layer itself (opened_given (trees_given y)))
+  layer_given : (y : ex.FieldValue-F BB CC EE FF PP SS TT) → Agree A B (in_field (using_given (trees_given y))) → ExprsSame (given_layer itself (opened_given (trees_given y)))
   layer_given (ex.Given i e) g = (e.1 g, tt)
 
-  layer_slice : (y : ex.Slice-F BB CC EE FF PP SS TT) → Agree A B (in_slice (noded_slice (trees_slice y))) → ExprsSame (slice_layer itself (opened_slice (trees_slice y)))
+  layer_slice : (y : ex.Slice-F BB CC EE FF PP SS TT) → Agree A B (in_slice (using_slice (trees_slice y))) → ExprsSame (slice_layer itself (opened_slice (trees_slice y)))
   layer_slice (ex.BitAt e) g = (e.1 g, tt)
-  layer_slice (ex.HighLow a b) g = (a.1 (left A B (expr_nodes a.0) (expr_nodes b.0) g), (b.1 (right A B (expr_nodes a.0) (expr_nodes b.0) g), tt))
-  layer_slice (ex.LowWidth a b) g = (a.1 (left A B (expr_nodes a.0) (expr_nodes b.0) g), (b.1 (right A B (expr_nodes a.0) (expr_nodes b.0) g), tt))
-  layer_slice (ex.FactorWidth a b) g = (a.1 (left A B (expr_nodes a.0) (expr_nodes b.0) g), (b.1 (right A B (expr_nodes a.0) (expr_nodes b.0) g), tt))
+  layer_slice (ex.HighLow a b) g = (a.1 (left A B (expr_uses a.0) (expr_uses b.0) g), (b.1 (right A B (expr_uses a.0) (expr_uses b.0) g), tt))
+  layer_slice (ex.LowWidth a b) g = (a.1 (left A B (expr_uses a.0) (expr_uses b.0) g), (b.1 (right A B (expr_uses a.0) (expr_uses b.0) g), tt))
+  layer_slice (ex.FactorWidth a b) g = (a.1 (left A B (expr_uses a.0) (expr_uses b.0) g), (b.1 (right A B (expr_uses a.0) (expr_uses b.0) g), tt))
 
-  layer_part : (y : ex.ConstraintPart-F BB CC EE FF PP SS TT) → Agree A B (in_part (noded_part (trees_part y))) → ExprsSame (part_layer itself (opened_part (trees_part y)))
+  layer_part : (y : ex.ConstraintPart-F BB CC EE FF PP SS TT) → Agree A B (in_part (using_part (trees_part y))) → ExprsSame (part_layer itself (opened_part (trees_part y)))
   layer_part (ex.Only e) g = (e.1 g, tt)
-  layer_part (ex.FromTo a b) g = (a.1 (left A B (expr_nodes a.0) (expr_nodes b.0) g), (b.1 (right A B (expr_nodes a.0) (expr_nodes b.0) g), tt))
+  layer_part (ex.FromTo a b) g = (a.1 (left A B (expr_uses a.0) (expr_uses b.0) g), (b.1 (right A B (expr_uses a.0) (expr_uses b.0) g), tt))
 
-  layer_bitfield : (y : ex.Bitfield-F BB CC EE FF PP SS TT) → Agree A B (in_bitfield (noded_bitfield (trees_bitfield y))) → ExprsSame (bitfield_layer itself (opened_bitfield (trees_bitfield y)))
+  layer_bitfield : (y : ex.Bitfield-F BB CC EE FF PP SS TT) → Agree A B (in_bitfield (using_bitfield (trees_bitfield y))) → ExprsSame (bitfield_layer itself (opened_bitfield (trees_bitfield y)))
   layer_bitfield (ex.OneBit e i) g = (e.1 g, tt)
-  layer_bitfield (ex.BitRange a b i) g = (a.1 (left A B (expr_nodes a.0) (expr_nodes b.0) g), (b.1 (right A B (expr_nodes a.0) (expr_nodes b.0) g), tt))
+  layer_bitfield (ex.BitRange a b i) g = (a.1 (left A B (expr_uses a.0) (expr_uses b.0) g), (b.1 (right A B (expr_uses a.0) (expr_uses b.0) g), tt))
 
-  layer_pattern : (y : ex.Pattern-F BB CC EE FF PP SS TT) → Agree A B (in_pattern (noded_pattern (trees_pattern y))) → ExprsSame (pattern_layer itself itself (opened_pattern (trees_pattern y)))
+  layer_pattern : (y : ex.Pattern-F BB CC EE FF PP SS TT) → Agree A B (in_pattern (using_pattern (trees_pattern y))) → ExprsSame (pattern_layer itself itself (opened_pattern (trees_pattern y)))
   layer_pattern (ex.AnyPattern span) g = tt
-  layer_pattern (ex.SetPattern span b ps) g = exprs_same (map known_pattern (map (λ e. e.0) ps)) (all_same A B pattern_nodes known_pattern PatternHas ExprsSame ps (λ e h. h) g.1)
+  layer_pattern (ex.SetPattern span b ps) g = exprs_same (map known_pattern (map (λ e. e.0) ps)) (all_same A B pattern_uses known_pattern PatternHas ExprsSame ps (λ e h. h) g)
   layer_pattern (ex.MaskPattern span text) g = tt
-  layer_pattern (ex.AtMost span e) g = (e.1 g.1, tt)
-  layer_pattern (ex.AtLeast span e) g = (e.1 g.1, tt)
-  layer_pattern (ex.TuplePattern span ps) g = exprs_same (map known_pattern (map (λ e. e.0) ps)) (all_same A B pattern_nodes known_pattern PatternHas ExprsSame ps (λ e h. h) g.1)
-  layer_pattern (ex.ValuePattern span e) g = (e.1 g.1, tt)
-  layer_pattern (ex.RangePattern span a b) g = (a.1 (left A B (expr_nodes a.0) (expr_nodes b.0) g.1), (b.1 (right A B (expr_nodes a.0) (expr_nodes b.0) g.1), tt))
+  layer_pattern (ex.AtMost span e) g = (e.1 g, tt)
+  layer_pattern (ex.AtLeast span e) g = (e.1 g, tt)
+  layer_pattern (ex.TuplePattern span ps) g = exprs_same (map known_pattern (map (λ e. e.0) ps)) (all_same A B pattern_uses known_pattern PatternHas ExprsSame ps (λ e h. h) g)
+  layer_pattern (ex.ValuePattern span e) g = (e.1 g, tt)
+  layer_pattern (ex.RangePattern span a b) g = (a.1 (left A B (expr_uses a.0) (expr_uses b.0) g), (b.1 (right A B (expr_uses a.0) (expr_uses b.0) g), tt))
 
-  layer_type : (y : ex.TypeExpr-F BB CC EE FF PP SS TT) → Agree A B (in_type (noded_type (trees_type y))) → ShapeSame (type_layer itself itself itself itself (opened_type (trees_type y)))
-  layer_type (ex.IntegerType span ps) g = record { exprs_are = exprs_same (map known_part (map (λ e. e.0) ps)) (all_same A B part_nodes known_part PartHas ExprsSame ps (λ e h. h) g.1); shape_is = refl }
+  layer_type : (y : ex.TypeExpr-F BB CC EE FF PP SS TT) → Agree A B (in_type (using_type (trees_type y))) → ShapeSame (type_layer itself itself itself itself (opened_type (trees_type y)))
+  layer_type (ex.IntegerType span ps) g = record { exprs_are = exprs_same (map known_part (map (λ e. e.0) ps)) (all_same A B part_uses known_part PartHas ExprsSame ps (λ e h. h) g); shape_is = refl }
   layer_type (ex.BooleanType span) g = record { exprs_are = tt; shape_is = refl }
   layer_type (ex.BitType span) g = record { exprs_are = tt; shape_is = refl }
   layer_type (ex.NamedType span name) g = record { exprs_are = tt; shape_is = ap (λ o. option_map (λ T. shapes.known T) o) (type_same name g.0) }
   layer_type (ex.BitsType span e fs) g =
-      let ns = joined (map bitfield_nodes (map (λ e. e.0) fs)) in
-      record { exprs_are = (e.1 (left A B (expr_nodes e.0) ns g.1), exprs_same (map known_bitfield (map (λ e. e.0) fs)) (all_same A B bitfield_nodes known_bitfield BitfieldHas ExprsSame fs (λ e h. h) (right A B (expr_nodes e.0) ns g.1))); shape_is = refl }
+      let ns = joined (map bitfield_uses (map (λ e. e.0) fs)) in
+      record { exprs_are = (e.1 (left A B (expr_uses e.0) ns g), exprs_same (map known_bitfield (map (λ e. e.0) fs)) (all_same A B bitfield_uses known_bitfield BitfieldHas ExprsSame fs (λ e h. h) (right A B (expr_uses e.0) ns g))); shape_is = refl }
   layer_type (ex.TupleType span ts) g =
-      let h = all_same A B type_nodes known_type TypeHas ShapeSame ts (λ e h. h) g.1 in
+      let h = all_same A B type_uses known_type TypeHas ShapeSame ts (λ e h. h) g in
       let ks = map known_type (map (λ e. e.0) ts) in
       record { exprs_are = written_exprs ks h; shape_is = ap (λ o. option_map (λ ss. shapes.tuple_of ss) o) (shapes_same ks h) }
   layer_type (ex.ArrayType span e w) g =
-      let h = w.1 (right A B (expr_nodes e.0) (type_nodes w.0) g.1) in
-      record { exprs_are = (e.1 (left A B (expr_nodes e.0) (type_nodes w.0) g.1), h.exprs_are); shape_is = ap (λ o. option_map (λ s. shapes.array_of s) o) h.shape_is }
+      let h = w.1 (right A B (expr_uses e.0) (type_uses w.0) g) in
+      record { exprs_are = (e.1 (left A B (expr_uses e.0) (type_uses w.0) g), h.exprs_are); shape_is = ap (λ o. option_map (λ s. shapes.array_of s) o) h.shape_is }
 
   -- ---- by induction over trees
 
   step_bitfield : (x : ex.Bitfield-F Bitfield ConstraintPart Expr FieldValue Pattern Slice TypeExpr) (y : ex.Bitfield-F BB CC EE FF PP SS TT) → trees_bitfield y ≡ x → BitfieldGood (roll-Bitfield x)
   step_bitfield x y is g =
       let e = fold-roll-Bitfield (Shaped BitfieldShape Known) (Shaped PartShape Known) Known (Shaped (List ℕ) Known) (Shaped PatternShape Known) (Shaped SliceShape Known) (Shaped TypeOver Known) (bitfield_layer itself) (part_layer itself) (constant_layer limit) (given_layer itself) (pattern_layer itself itself) (slice_layer itself) (type_layer itself itself itself itself) x in
-      let n = fold-roll-Bitfield Nodes Nodes Nodes Nodes Nodes Nodes Nodes in_bitfield in_part in_expr in_field in_pattern in_slice in_type x in
-      let h : Agree A B (in_bitfield (noded_bitfield (trees_bitfield y))) = subst (λ z. Agree A B (in_bitfield (noded_bitfield z))) (sym is) (subst (Agree A B) n g) in
+      let n = fold-roll-Bitfield Uses Uses Uses Uses Uses Uses Uses in_bitfield in_part in_expr in_field in_pattern in_slice in_type x in
+      let h : Agree A B (in_bitfield (using_bitfield (trees_bitfield y))) = subst (λ z. Agree A B (in_bitfield (using_bitfield z))) (sym is) (subst (Agree A B) n g) in
       subst ExprsSame (sym e) (subst (λ z. ExprsSame (bitfield_layer itself (opened_bitfield z))) is (layer_bitfield y h))
 
   step_part : (x : ex.ConstraintPart-F Bitfield ConstraintPart Expr FieldValue Pattern Slice TypeExpr) (y : ex.ConstraintPart-F BB CC EE FF PP SS TT) → trees_part y ≡ x → PartGood (roll-ConstraintPart x)
   step_part x y is g =
       let e = fold-roll-ConstraintPart (Shaped BitfieldShape Known) (Shaped PartShape Known) Known (Shaped (List ℕ) Known) (Shaped PatternShape Known) (Shaped SliceShape Known) (Shaped TypeOver Known) (bitfield_layer itself) (part_layer itself) (constant_layer limit) (given_layer itself) (pattern_layer itself itself) (slice_layer itself) (type_layer itself itself itself itself) x in
-      let n = fold-roll-ConstraintPart Nodes Nodes Nodes Nodes Nodes Nodes Nodes in_bitfield in_part in_expr in_field in_pattern in_slice in_type x in
-      let h : Agree A B (in_part (noded_part (trees_part y))) = subst (λ z. Agree A B (in_part (noded_part z))) (sym is) (subst (Agree A B) n g) in
+      let n = fold-roll-ConstraintPart Uses Uses Uses Uses Uses Uses Uses in_bitfield in_part in_expr in_field in_pattern in_slice in_type x in
+      let h : Agree A B (in_part (using_part (trees_part y))) = subst (λ z. Agree A B (in_part (using_part z))) (sym is) (subst (Agree A B) n g) in
       subst ExprsSame (sym e) (subst (λ z. ExprsSame (part_layer itself (opened_part z))) is (layer_part y h))
 
   step_expr : (x : ex.Expr-F Bitfield ConstraintPart Expr FieldValue Pattern Slice TypeExpr) (y : ex.Expr-F BB CC EE FF PP SS TT) → trees_expr y ≡ x → ExprGood (roll-Expr x)
   step_expr x y is g =
       let e = fold-roll-Expr (Shaped BitfieldShape Known) (Shaped PartShape Known) Known (Shaped (List ℕ) Known) (Shaped PatternShape Known) (Shaped SliceShape Known) (Shaped TypeOver Known) (bitfield_layer itself) (part_layer itself) (constant_layer limit) (given_layer itself) (pattern_layer itself itself) (slice_layer itself) (type_layer itself itself itself itself) x in
-      let n = fold-roll-Expr Nodes Nodes Nodes Nodes Nodes Nodes Nodes in_bitfield in_part in_expr in_field in_pattern in_slice in_type x in
-      let h : Agree A B (in_expr (noded_expr (trees_expr y))) = subst (λ z. Agree A B (in_expr (noded_expr z))) (sym is) (subst (Agree A B) n g) in
+      let n = fold-roll-Expr Uses Uses Uses Uses Uses Uses Uses in_bitfield in_part in_expr in_field in_pattern in_slice in_type x in
+      let h : Agree A B (in_expr (using_expr (trees_expr y))) = subst (λ z. Agree A B (in_expr (using_expr z))) (sym is) (subst (Agree A B) n g) in
       subst KnownSame (sym e) (subst (λ z. KnownSame (constant_layer limit (opened_expr z))) is (layer_expr y h))
 
   step_given : (x : ex.FieldValue-F Bitfield ConstraintPart Expr FieldValue Pattern Slice TypeExpr) (y : ex.FieldValue-F BB CC EE FF PP SS TT) → trees_given y ≡ x → GivenGood (roll-FieldValue x)
   step_given x y is g =
       let e = fold-roll-FieldValue (Shaped BitfieldShape Known) (Shaped PartShape Known) Known (Shaped (List ℕ) Known) (Shaped PatternShape Known) (Shaped SliceShape Known) (Shaped TypeOver Known) (bitfield_layer itself) (part_layer itself) (constant_layer limit) (given_layer itself) (pattern_layer itself itself) (slice_layer itself) (type_layer itself itself itself itself) x in
-      let n = fold-roll-FieldValue Nodes Nodes Nodes Nodes Nodes Nodes Nodes in_bitfield in_part in_expr in_field in_pattern in_slice in_type x in
-      let h : Agree A B (in_field (noded_given (trees_given y))) = subst (λ z. Agree A B (in_field (noded_given z))) (sym is) (subst (Agree A B) n g) in
+      let n = fold-roll-FieldValue Uses Uses Uses Uses Uses Uses Uses in_bitfield in_part in_expr in_field in_pattern in_slice in_type x in
+      let h : Agree A B (in_field (using_given (trees_given y))) = subst (λ z. Agree A B (in_field (using_given z))) (sym is) (subst (Agree A B) n g) in
       subst ExprsSame (sym e) (subst (λ z. ExprsSame (given_layer itself (opened_given z))) is (layer_given y h))
 
   step_pattern : (x : ex.Pattern-F Bitfield ConstraintPart Expr FieldValue Pattern Slice TypeExpr) (y : ex.Pattern-F BB CC EE FF PP SS TT) → trees_pattern y ≡ x → PatternGood (roll-Pattern x)
   step_pattern x y is g =
       let e = fold-roll-Pattern (Shaped BitfieldShape Known) (Shaped PartShape Known) Known (Shaped (List ℕ) Known) (Shaped PatternShape Known) (Shaped SliceShape Known) (Shaped TypeOver Known) (bitfield_layer itself) (part_layer itself) (constant_layer limit) (given_layer itself) (pattern_layer itself itself) (slice_layer itself) (type_layer itself itself itself itself) x in
-      let n = fold-roll-Pattern Nodes Nodes Nodes Nodes Nodes Nodes Nodes in_bitfield in_part in_expr in_field in_pattern in_slice in_type x in
-      let h : Agree A B (in_pattern (noded_pattern (trees_pattern y))) = subst (λ z. Agree A B (in_pattern (noded_pattern z))) (sym is) (subst (Agree A B) n g) in
+      let n = fold-roll-Pattern Uses Uses Uses Uses Uses Uses Uses in_bitfield in_part in_expr in_field in_pattern in_slice in_type x in
+      let h : Agree A B (in_pattern (using_pattern (trees_pattern y))) = subst (λ z. Agree A B (in_pattern (using_pattern z))) (sym is) (subst (Agree A B) n g) in
       subst ExprsSame (sym e) (subst (λ z. ExprsSame (pattern_layer itself itself (opened_pattern z))) is (layer_pattern y h))
 
   step_slice : (x : ex.Slice-F Bitfield ConstraintPart Expr FieldValue Pattern Slice TypeExpr) (y : ex.Slice-F BB CC EE FF PP SS TT) → trees_slice y ≡ x → SliceGood (roll-Slice x)
   step_slice x y is g =
       let e = fold-roll-Slice (Shaped BitfieldShape Known) (Shaped PartShape Known) Known (Shaped (List ℕ) Known) (Shaped PatternShape Known) (Shaped SliceShape Known) (Shaped TypeOver Known) (bitfield_layer itself) (part_layer itself) (constant_layer limit) (given_layer itself) (pattern_layer itself itself) (slice_layer itself) (type_layer itself itself itself itself) x in
-      let n = fold-roll-Slice Nodes Nodes Nodes Nodes Nodes Nodes Nodes in_bitfield in_part in_expr in_field in_pattern in_slice in_type x in
-      let h : Agree A B (in_slice (noded_slice (trees_slice y))) = subst (λ z. Agree A B (in_slice (noded_slice z))) (sym is) (subst (Agree A B) n g) in
+      let n = fold-roll-Slice Uses Uses Uses Uses Uses Uses Uses in_bitfield in_part in_expr in_field in_pattern in_slice in_type x in
+      let h : Agree A B (in_slice (using_slice (trees_slice y))) = subst (λ z. Agree A B (in_slice (using_slice z))) (sym is) (subst (Agree A B) n g) in
       subst ExprsSame (sym e) (subst (λ z. ExprsSame (slice_layer itself (opened_slice z))) is (layer_slice y h))
 
   step_type : (x : ex.TypeExpr-F Bitfield ConstraintPart Expr FieldValue Pattern Slice TypeExpr) (y : ex.TypeExpr-F BB CC EE FF PP SS TT) → trees_type y ≡ x → TypeGood (roll-TypeExpr x)
   step_type x y is g =
       let e = fold-roll-TypeExpr (Shaped BitfieldShape Known) (Shaped PartShape Known) Known (Shaped (List ℕ) Known) (Shaped PatternShape Known) (Shaped SliceShape Known) (Shaped TypeOver Known) (bitfield_layer itself) (part_layer itself) (constant_layer limit) (given_layer itself) (pattern_layer itself itself) (slice_layer itself) (type_layer itself itself itself itself) x in
-      let n = fold-roll-TypeExpr Nodes Nodes Nodes Nodes Nodes Nodes Nodes in_bitfield in_part in_expr in_field in_pattern in_slice in_type x in
-      let h : Agree A B (in_type (noded_type (trees_type y))) = subst (λ z. Agree A B (in_type (noded_type z))) (sym is) (subst (Agree A B) n g) in
+      let n = fold-roll-TypeExpr Uses Uses Uses Uses Uses Uses Uses in_bitfield in_part in_expr in_field in_pattern in_slice in_type x in
+      let h : Agree A B (in_type (using_type (trees_type y))) = subst (λ z. Agree A B (in_type (using_type z))) (sym is) (subst (Agree A B) n g) in
       subst ShapeSame (sym e) (subst (λ z. ShapeSame (type_layer itself itself itself itself (opened_type z))) is (layer_type y h))
 
-  -- an expression has one value before any run, where the names show the same at its nodes
+  -- an expression has one value before any run, where the names that it uses show the same
   pub constant_same : (e : Expr) → ExprGood e
   constant_same = ind-Expr BitfieldGood PartGood ExprGood GivenGood PatternGood SliceGood TypeGood step_bitfield step_part step_expr step_given step_pattern step_slice step_type

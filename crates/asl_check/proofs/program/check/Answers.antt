@@ -1,5 +1,4 @@
 use Rattle.std.proofs.Common.{List, Ok, sym, ap, ◌∙◌, subst}
-use Rattle.asl_bits.specs.declared.TheConstants.{WIDTH_LIMIT}
 use Rattle.asl_syn.specs.declared.tree.Decl.{Decl}
 use Rattle.asl_rules.specs.Grown.{AreGrown}
 use Rattle.asl_rules.specs.Programs.{verdict}
@@ -8,7 +7,7 @@ use Rattle.asl_check.specs.Verdicts.{entry_in}
 use Rattle.asl_check.proofs.program.check.Goals as goal
 
 pub make-requires : goal.make-requires
-make-requires c = subst (AreGrown WIDTH_LIMIT) (sym c.as_slice.ensures) c.requires
+make-requires c = subst AreGrown (sym c.as_slice.ensures) c.requires
 
 pub seal-requires : goal.seal-requires
 seal-requires c =
