@@ -3,12 +3,15 @@
 use Rattle.std.specs.Prelude.{ℕ, List, [], ◌∷◌, ◌++◌, Option, Some, None}
 use Rattle.asl_syn.specs.declared.token.Span.{Span}
 use Rattle.asl_syn.specs.declared.tree.Ident.{Ident}
+use Rattle.asl_syn.specs.declared.tree.Bitfield.{Bitfield}
+use Rattle.asl_syn.specs.declared.tree.ConstraintPart.{ConstraintPart}
 use Rattle.asl_syn.specs.declared.tree.Expr.{Expr}
+use Rattle.asl_syn.specs.declared.tree.FieldValue.{FieldValue}
 use Rattle.asl_syn.specs.declared.tree.Pattern.{Pattern}
 use Rattle.asl_syn.specs.declared.tree.Slice.{Slice}
 use Rattle.asl_syn.specs.declared.tree.TypeExpr.{TypeExpr}
 use Rattle.asl_syn.specs.declared.tree.Bitfield.TheOpen as ex
-use Rattle.asl_syn.specs.declared.tree.Bitfield.TheFolds.{fold-Expr, fold-Pattern, fold-Slice, fold-TypeExpr}
+use Rattle.asl_syn.specs.declared.tree.Bitfield.TheFolds.{fold-Bitfield, fold-ConstraintPart, fold-Expr, fold-FieldValue, fold-Pattern, fold-Slice, fold-TypeExpr}
 use Rattle.asl_syn.specs.declared.tree.Formal.{Formal}
 use Rattle.asl_syn.specs.declared.tree.TypeDef.{TypeDef}
 use Rattle.asl_syn.specs.declared.tree.TypeDef.TheVariants as td
@@ -117,6 +120,15 @@ slice_uses = fold-Slice Uses Uses Uses Uses Uses Uses Uses in_bitfield in_part i
 abbrev pub type_uses : TypeExpr → Uses
 type_uses = fold-TypeExpr Uses Uses Uses Uses Uses Uses Uses in_bitfield in_part in_expr in_field in_pattern in_slice in_type
 
+abbrev pub bitfield_uses : Bitfield → Uses
+bitfield_uses = fold-Bitfield Uses Uses Uses Uses Uses Uses Uses in_bitfield in_part in_expr in_field in_pattern in_slice in_type
+
+abbrev pub part_uses : ConstraintPart → Uses
+part_uses = fold-ConstraintPart Uses Uses Uses Uses Uses Uses Uses in_bitfield in_part in_expr in_field in_pattern in_slice in_type
+
+abbrev pub given_uses : FieldValue → Uses
+given_uses = fold-FieldValue Uses Uses Uses Uses Uses Uses Uses in_bitfield in_part in_expr in_field in_pattern in_slice in_type
+
 -- where an expression or a type may stand
 abbrev pub maybe_expr_uses : Option Expr → Uses
 maybe_expr_uses None = []
@@ -142,7 +154,7 @@ abbrev pub supertype_uses : Option Ident → Uses
 supertype_uses None = []
 supertype_uses (Some i) = of_type i.text ∷ []
 
--- what a subprogram uses isn't asked for: no type and no storage uses a subprogram
+-- of a type or of storage; a subprogram stands in no cycle, so what it uses isn't asked for
 abbrev pub decl_uses : Decl → Uses
 decl_uses (dc.Type d) = def_uses d.def ++ supertype_uses d.supertype
 decl_uses (dc.Storage d) = maybe_type_uses d.ty ++ maybe_expr_uses d.init

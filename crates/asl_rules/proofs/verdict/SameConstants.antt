@@ -28,9 +28,9 @@ use Rattle.asl_rules.specs.Forms as forms
 use Rattle.asl_rules.specs.Forms.{at_once, behind, behind_all, behind_more, eval_all, unless_decided, behind_left, operation}
 use Rattle.asl_rules.specs.ByNames.{types_among}
 use Rattle.asl_rules.specs.Constants.{Known, initial_value, settled, constant_layer, constant}
-use Rattle.asl_rules.specs.UsedNames.{Uses, joined, in_bitfield, in_part, in_expr, in_field, in_pattern, in_slice, in_type, expr_uses, pattern_uses, slice_uses, type_uses}
+use Rattle.asl_rules.specs.UsedNames.{Uses, joined, in_bitfield, in_part, in_expr, in_field, in_pattern, in_slice, in_type, bitfield_uses, part_uses, given_uses, expr_uses, pattern_uses, slice_uses, type_uses}
 use Rattle.asl_rules.proofs.verdict.SameRules.{shown, same_shown, AllOf}
-use Rattle.asl_rules.proofs.verdict.SameNames.{Agree, all_same, left, right, bitfield_uses, part_uses, given_uses, using_bitfield, using_part, using_expr, using_given, using_pattern, using_slice, using_type}
+use Rattle.asl_rules.proofs.verdict.SameNames.{Agree, all_same, left, right, using_bitfield, using_part, using_expr, using_given, using_pattern, using_slice, using_type}
 
 pure_on : {X Y : Type 0} (r : Pure X) (f g : X → Pure Y) → ((x : X) → f x ≡ g x) → (r >>= f) ≡ (r >>= g)
 pure_on (Good x) f g h = h x

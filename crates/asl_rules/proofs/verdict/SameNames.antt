@@ -31,7 +31,7 @@ use Rattle.asl_rules.specs.Slicing.{FoundSlice}
 use Rattle.asl_rules.specs.Writing.{FoundPart, FoundBitfield, FoundType, written_as}
 use Rattle.asl_rules.specs.Patterns.{FoundPattern, matched}
 use Rattle.asl_rules.specs.Exprs.{literal_type, FoundField, found, found_type, found_slice, found_pattern, typed_rule, width_rule, number_rule, atom_rule, written_rule, expr_rule, given_rule, slice_rule, part_rule, bitfield_rule, type_rule, pattern_rule}
-use Rattle.asl_rules.specs.UsedNames.{Use, Uses, of_value, of_subprogram, of_type, name_of, Each, joined, in_bitfield, in_part, in_expr, in_field, in_pattern, in_slice, in_type, expr_uses, pattern_uses, slice_uses, type_uses}
+use Rattle.asl_rules.specs.UsedNames.{Use, Uses, of_value, of_subprogram, of_type, name_of, Each, joined, in_bitfield, in_part, in_expr, in_field, in_pattern, in_slice, in_type, bitfield_uses, part_uses, given_uses, expr_uses, pattern_uses, slice_uses, type_uses}
 use Rattle.asl_rules.proofs.verdict.Alike.{Alike, alike_ok, alike_err, step, after, alike_cond, Same, Both, in_class_alike}
 use Rattle.asl_rules.proofs.verdict.SameRules.{shown, AllOf, SameWidths, SameNumbers, SameWritten, TypedSame, WidthSame, OperandsSame, AddsSame, GivenSame, PartSame, BitfieldSame, WrittenSame, PatternSame, name_alike, unary_alike, binary_alike, conditional_alike, tuple_alike, construct_alike, field_alike, bitfields_alike, element_alike, name_width, name_number, name_atom, negated_width, negated_number, combined_width, combined_number, call_alike, bit_operands, bit_adds, high_low_operands, high_low_adds, low_width_operands, low_width_adds, factor_width_operands, factor_width_adds, slices_alike, set_alike, tuple_pattern_alike, mask_alike, end_alike, value_alike, range_alike, in_alike, range_part, only_part, integer_alike, one_bit_alike, bit_range_alike, bits_alike, named_alike, tuple_written_alike, array_alike, as_alike}
 
@@ -44,15 +44,6 @@ each_first P (m ∷ ms) ns g = (g.0, each_first P ms ns g.1)
 pub each_second : (P : Use → Type 0) (ms ns : Uses) → Each P (ms ++ ns) → Each P ns
 each_second P [] ns g = g
 each_second P (m ∷ ms) ns g = each_second P ms ns g.1
-
-abbrev pub bitfield_uses : Bitfield → Uses
-bitfield_uses = fold-Bitfield Uses Uses Uses Uses Uses Uses Uses in_bitfield in_part in_expr in_field in_pattern in_slice in_type
-
-abbrev pub part_uses : ConstraintPart → Uses
-part_uses = fold-ConstraintPart Uses Uses Uses Uses Uses Uses Uses in_bitfield in_part in_expr in_field in_pattern in_slice in_type
-
-abbrev pub given_uses : FieldValue → Uses
-given_uses = fold-FieldValue Uses Uses Uses Uses Uses Uses Uses in_bitfield in_part in_expr in_field in_pattern in_slice in_type
 
 abbrev pub using_bitfield : ex.Bitfield-F Bitfield ConstraintPart Expr FieldValue Pattern Slice TypeExpr → ex.Bitfield-F Uses Uses Uses Uses Uses Uses Uses
 using_bitfield = map-Bitfield Bitfield ConstraintPart Expr FieldValue Pattern Slice TypeExpr Uses Uses Uses Uses Uses Uses Uses bitfield_uses part_uses expr_uses given_uses pattern_uses slice_uses type_uses
