@@ -14,15 +14,18 @@ ghost use Rattle.asl_rules.specs.Widths as limits;
 ghost use Rattle.asl_rules.specs.Writing as rules;
 ghost use Rattle.asl_rules.specs.Writing.{written_as};
 ghost use Rattle.asl_rules.specs.Tests.{Tests};
+ghost use Rattle.asl_types.specs.Alike.{IsAlike};
 ghost use Rattle.asl_types.specs.Answers.{Met};
 ghost use Rattle.asl_types.specs.ContextView.{scope_of};
 ghost use Rattle.asl_types.specs.Suits.{Suits};
+ghost use Rattle.asl_types.specs.View.{parts_of};
 ghost use Rattle.asl_expr.specs.WidthViews.{width_of};
 ghost use Rattle.asl_expr.specs.WrittenFields.{found_bitfields, fields_view, bits_from};
 ghost use Rattle.asl_expr.specs.WrittenTypes.{found_types, types_view, no_types, with_type, with_types, tuple_from};
 ghost use Rattle.asl_expr.specs.WrittenViews.{written_of};
 
 use crate::constraints::integer_written;
+use crate::one_type::is_one_type;
 use crate::tree_lists::one_tree;
 use crate::widths::{Width, type_width};
 use crate::written_fields::{FieldsWritten, all_fields, fields_placed};
@@ -180,12 +183,31 @@ fn name_written(
     }
 }
 
-/// Tuples of these types, within the limits.
-fn tuple_written(alloc: Global, span: Span, made: TypesWritten) -> Result<Written, Refused>
+/// Tuples of these parts, which know where these are all one type.
+fn tuple_of(parts: Shared<Items<Ty>>, is_one: bool) -> Ty
+    requires { IsAlike is_one (parts_of parts) }
+    ensures { result ≡ types.tuple_of (parts_of parts) }
+{
+    if is_one {
+        Ty::alike(parts)
+    } else {
+        Ty::tuple(parts)
+    }
+}
+
+/// Tuples of these types, within the limits, which know where these are all one type.
+fn tuple_written(
+    alloc: Global,
+    span: Span,
+    made: TypesWritten,
+    is_one: bool,
+) -> Result<Written, Refused>
+    requires { IsAlike is_one (parts_of made.types) }
     ensures { Met written_of result (tuple_from span (types_view made)) }
 {
     let (types, shapes, sizes) = made.into_parts();
-    let ty = bounded(span, Ty::tuple(Shared::new(alloc, types)?))?;
+    let types = Shared::new(alloc, types)?;
+    let ty = bounded(span, tuple_of(types, is_one))?;
     Ok(Written {
         ty,
         shape: TypeShape::TupleOf(shapes),
@@ -333,8 +355,9 @@ pub fn type_written(
             )
         }
         TypeExpr::TupleType(span, parts) => {
-            let made = all_written(alloc, context, parts.as_slice(), outside)?;
-            tuple_written(alloc, *span, made)
+            let parts = parts.as_slice();
+            let made = all_written(alloc, context, parts, outside)?;
+            tuple_written(alloc, *span, made, is_one_type(parts))
         }
         TypeExpr::ArrayType(span, length, element) => {
             let length = type_width(alloc, context, length.get())?;

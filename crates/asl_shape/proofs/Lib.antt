@@ -8,6 +8,7 @@ pub mod Ranges
 pub mod ValueKinds
 pub mod Having
 pub mod FirstBits
+pub mod AlikeFirsts
 pub mod FirstFields
 pub mod Times
 pub mod FilledHaving

@@ -6,6 +6,7 @@ ghost use Rattle.asl_rules.specs.Closed.{closed};
 ghost use Rattle.asl_rules.specs.Types as types;
 ghost use Rattle.asl_rules.specs.Values as values;
 ghost use Rattle.asl_rules.specs.Written as rules;
+ghost use Rattle.asl_types.specs.Alike.{Alike};
 ghost use Rattle.asl_types.specs.View.{fields_of, parts_of};
 ghost use Rattle.asl_value.specs.Answers.{Is};
 ghost use Rattle.asl_value.specs.View.{kind_of, value_of, field_of, all_values, all_fields};
@@ -40,7 +41,14 @@ pub fn first_value(alloc: Global, span: Span, ty: &Ty) -> Result<Value, Failure>
         Form::Exception(name, fields) => {
             first_exception(alloc, span, name, fields.get().as_slice())
         }
-        Form::Tuple(parts) => first_tuple(alloc, span, parts.get().as_slice()),
+        Form::Tuple(parts) => {
+            let parts = parts.get().as_slice();
+            if ty.is_alike() {
+                first_alike(alloc, span, parts)
+            } else {
+                first_tuple(alloc, span, parts)
+            }
+        }
         Form::Array(length, element) => first_array(alloc, span, *length, element.get()),
         Form::Named(name, supers, inner) => {
             let first = Held::new(first_value(alloc, span, inner.get())?);
@@ -172,6 +180,32 @@ fn first_tuple(alloc: Global, span: Span, parts: &[Ty]) -> Result<Value, Failure
         (rules.first_value WIDTH_LIMIT span (cl.tuple_of (cl.parts_with (parts_of parts.now) (λ n. pos 0)))) }
 {
     Ok(Value::Tuple(Shared::new(alloc, first_parts(alloc, span, parts)?)?))
+}
+
+/// A tuple with the first values of its parts, which are all one type: they share one value.
+#[cycle(first_value)]
+#[tactic(auto, using(crate::proofs::AlikeFirsts::first_fails))]
+fn first_alike(alloc: Global, span: Span, parts: &[Ty]) -> Result<Value, Failure>
+    requires { Alike (parts_of parts.now) }
+    ensures { Is value_of result
+        (rules.first_value WIDTH_LIMIT span (cl.tuple_of (cl.parts_with (parts_of parts.now) (λ n. pos 0)))) }
+{
+    match parts.split_first() {
+        None => Ok(Value::Tuple(Shared::new(alloc, Items::new(alloc))?)),
+        Some((first, _)) => {
+            let part = Held::new(first_value(alloc, span, first)?);
+            let made = repeated(alloc, parts.len() as u128, part.get())?;
+            let all = tuple_from(alloc, made)?;
+            Ok(all)
+        }
+    }
+}
+
+/// A tuple of these.
+fn tuple_from(alloc: Global, parts: Items<Value>) -> Result<Value, AllocError>
+    ensures { IfOk result (λ it. value_of it ≡ values.tuple_with (all_values parts)) }
+{
+    Ok(Value::Tuple(Shared::new(alloc, parts)?))
 }
 
 /// The first values of parts, in order.
