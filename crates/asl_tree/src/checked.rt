@@ -49,13 +49,25 @@ pub struct Global {
 
 /// A program that is well formed with the entry that was asked for, the typed trees of its subprograms, and its globals.
 /// Contracts see its declarations and the entry: they determine the trees and the globals.
-#[derive(Drop)]
 pub struct Checked {
     program: Program,
     asked: Entry,
     main: Option<SubId>,
     funcs: Items<TreeFunc>,
     globals: Vec<Global>,
+}
+
+// By hand, so that a drop of one is a call, as `Held` of asl_shared says.
+impl Drop for Checked {
+    fn drop(self) {
+        let Checked {
+            program: _program,
+            asked: _asked,
+            main: _main,
+            funcs: _funcs,
+            globals: _globals,
+        } = self;
+    }
 }
 
 impl Model for Checked {
