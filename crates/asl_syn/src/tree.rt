@@ -4,6 +4,9 @@
 //! from its first lexeme to its last, without parentheses that stand directly round it. What is only a part of one
 //! of these (`FieldValue`, `Slice`, `ConstraintPart`, `Bitfield`, `ElseIf`, `Alternative`, `Otherwise`, `Catcher`,
 //! `Formal`, `Param`) has no span of its own: no fault is reported at it.
+//!
+//! A program, a declaration and a formal have a `Drop` of their own. So letting one go is a call, wherever it is alive at a
+//! `?`; else a case for each form that may lie in it would be written out there.
 #![tactic(auto)]
 
 use crate::token::Span;
@@ -348,17 +351,33 @@ pub enum Catcher {
 }
 
 /// A formal argument of a subprogram, or a field of a record or an exception.
-#[derive(Drop)]
 pub struct Formal {
     pub name: Ident,
     pub ty: TypeExpr,
 }
 
+impl Drop for Formal {
+    fn drop(self) {
+        let Formal {
+            name: _name,
+            ty: _ty,
+        } = self;
+    }
+}
+
 /// A parameter of a subprogram.
-#[derive(Drop)]
 pub struct Param {
     pub name: Ident,
     pub ty: Option<TypeExpr>,
+}
+
+impl Drop for Param {
+    fn drop(self) {
+        let Param {
+            name: _name,
+            ty: _ty,
+        } = self;
+    }
 }
 
 /// What a type declaration defines.
@@ -387,7 +406,6 @@ pub enum Qualifier {
 }
 
 /// `type T of .. subtypes U;`
-#[derive(Drop)]
 pub struct TypeDecl {
     pub span: Span,
     pub name: Ident,
@@ -395,8 +413,18 @@ pub struct TypeDecl {
     pub supertype: Option<Ident>,
 }
 
+impl Drop for TypeDecl {
+    fn drop(self) {
+        let TypeDecl {
+            span: _span,
+            name: _name,
+            def: _def,
+            supertype: _supertype,
+        } = self;
+    }
+}
+
 /// `constant`, `let` or `var` outside subprograms.
-#[derive(Drop)]
 pub struct StorageDecl {
     pub span: Span,
     pub kind: StorageKind,
@@ -405,8 +433,19 @@ pub struct StorageDecl {
     pub init: Option<Expr>,
 }
 
+impl Drop for StorageDecl {
+    fn drop(self) {
+        let StorageDecl {
+            span: _span,
+            kind: _kind,
+            name: _name,
+            ty: _ty,
+            init: _init,
+        } = self;
+    }
+}
+
 /// `func f{N}(x: T) => T recurselimit e begin .. end;`, a procedure where there is no result.
-#[derive(Drop)]
 pub struct Func {
     pub span: Span,
     pub qualifier: Qualifier,
@@ -418,6 +457,21 @@ pub struct Func {
     pub body: Items<Stmt>,
 }
 
+impl Drop for Func {
+    fn drop(self) {
+        let Func {
+            span: _span,
+            qualifier: _qualifier,
+            name: _name,
+            params: _params,
+            formals: _formals,
+            result: _result,
+            limit: _limit,
+            body: _body,
+        } = self;
+    }
+}
+
 /// A declaration.
 #[derive(Drop)]
 pub enum Decl {
@@ -427,7 +481,12 @@ pub enum Decl {
 }
 
 /// A program: the declarations of all its files, in the order of the files and within each as they are written.
-#[derive(Drop)]
 pub struct Program {
     pub decls: Items<Decl>,
+}
+
+impl Drop for Program {
+    fn drop(self) {
+        let Program { decls: _decls } = self;
+    }
 }
