@@ -9,6 +9,7 @@ pub mod Viewing
 pub mod Satisfying
 pub mod Constrained
 pub mod Keeping
+pub mod Bitless
 pub mod Bare
 pub mod Joining
 pub mod Constructs

@@ -6,6 +6,7 @@ pub mod Effects
 pub mod Closed
 pub mod Values
 pub mod Views
+pub mod HoldsBits
 pub mod Limits
 pub mod Told
 pub mod Plans

@@ -358,10 +358,8 @@ pub struct Formal {
 
 impl Drop for Formal {
     fn drop(self) {
-        let Formal {
-            name: _name,
-            ty: _ty,
-        } = self;
+        let Formal { name: _name, ty } = self;
+        drop(ty);
     }
 }
 
@@ -373,10 +371,8 @@ pub struct Param {
 
 impl Drop for Param {
     fn drop(self) {
-        let Param {
-            name: _name,
-            ty: _ty,
-        } = self;
+        let Param { name: _name, ty } = self;
+        drop(ty);
     }
 }
 
@@ -418,9 +414,10 @@ impl Drop for TypeDecl {
         let TypeDecl {
             span: _span,
             name: _name,
-            def: _def,
+            def,
             supertype: _supertype,
         } = self;
+        drop(def);
     }
 }
 
@@ -439,9 +436,11 @@ impl Drop for StorageDecl {
             span: _span,
             kind: _kind,
             name: _name,
-            ty: _ty,
-            init: _init,
+            ty,
+            init,
         } = self;
+        drop(ty);
+        drop(init);
     }
 }
 
@@ -465,10 +464,12 @@ impl Drop for Func {
             name: _name,
             params: _params,
             formals: _formals,
-            result: _result,
-            limit: _limit,
+            result,
+            limit,
             body: _body,
         } = self;
+        drop(result);
+        drop(limit);
     }
 }
 

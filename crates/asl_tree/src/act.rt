@@ -1,4 +1,6 @@
 //! Typed trees of statements and of subprograms: what a run needs of a body that is well formed.
+//!
+//! Where a type can have a `Drop` by hand it has one, so that a drop of one is a call, as `Held` of asl_shared says.
 
 use crate::tree::{Callee, Tree};
 use asl_rules::slot::Slot;
@@ -10,7 +12,6 @@ use asl_value::{Name, SliceShape};
 use sqlite_items::Items;
 
 /// A step from a place into its value, with the place of its faults.
-#[derive(Drop)]
 pub enum TreeStep {
     /// `.f`: the place of the field among those of the type, from 0.
     Field(Span, usize),
@@ -24,8 +25,19 @@ pub enum TreeStep {
     Element(Span, Tree),
 }
 
+impl Drop for TreeStep {
+    fn drop(self) {
+        match self {
+            TreeStep::Field(_span, _place) => {}
+            TreeStep::Bitfield(_span, _field) => {}
+            TreeStep::Bitfields(_span, _fields) => {}
+            TreeStep::Slices(_span, _shapes, _trees) => {}
+            TreeStep::Element(_span, index) => drop(index),
+        }
+    }
+}
+
 /// A place of an assignment.
-#[derive(Drop)]
 pub struct TreePlace {
     /// Where its name stands.
     pub span: Span,
@@ -36,6 +48,17 @@ pub struct TreePlace {
     pub slot: Slot,
     /// The way into the value of the name.
     pub steps: Items<TreeStep>,
+}
+
+impl Drop for TreePlace {
+    fn drop(self) {
+        let TreePlace {
+            span: _span,
+            way: _way,
+            slot: _slot,
+            steps: _steps,
+        } = self;
+    }
 }
 
 /// What a declaration takes of its value, each in the next place of the frame.
@@ -50,15 +73,22 @@ pub enum Taken {
 }
 
 /// One thing that is printed.
-#[derive(Drop)]
 pub enum TreeItem {
     /// A string, its text with the quotes.
     Verbatim(Text),
     Shown(Tree),
 }
 
+impl Drop for TreeItem {
+    fn drop(self) {
+        match self {
+            TreeItem::Verbatim(_text) => {}
+            TreeItem::Shown(tree) => drop(tree),
+        }
+    }
+}
+
 /// A statement without lists. Each has its span first.
-#[derive(Drop)]
 pub enum Simple {
     /// `pass;`
     Pass(Span),
@@ -83,8 +113,34 @@ pub enum Simple {
     Print(Span, PrintKind, Items<TreeItem>),
 }
 
+impl Drop for Simple {
+    fn drop(self) {
+        match self {
+            Simple::Pass(_span) => {}
+            Simple::Unreachable(_span) => {}
+            Simple::Assert(_span, condition) => drop(condition),
+            Simple::Declare(_span, ty, taken, value) => {
+                drop(ty);
+                drop(taken);
+                drop(value);
+            }
+            Simple::DeclareFirst(_span, _count, _whole, shape, sizes) => {
+                drop(shape);
+                drop(sizes);
+            }
+            Simple::Assign(_span, places, value) => {
+                drop(places);
+                drop(value);
+            }
+            Simple::Invoke(_span, _callee, _widths, _params, _arguments) => {}
+            Simple::Return(_span, value) => drop(value),
+            Simple::Throw(_span, value) => drop(value),
+            Simple::Print(_span, _kind, _items) => {}
+        }
+    }
+}
+
 /// What a `for` counts: `e to e looplimit e` or `e downto e looplimit e`.
-#[derive(Drop)]
 pub struct Bounds {
     pub from: Tree,
     pub direction: Direction,
@@ -92,19 +148,50 @@ pub struct Bounds {
     pub limit: Option<Tree>,
 }
 
+impl Drop for Bounds {
+    fn drop(self) {
+        let Bounds {
+            from,
+            direction: _direction,
+            to,
+            limit,
+        } = self;
+        drop(from);
+        drop(to);
+        drop(limit);
+    }
+}
+
 /// The condition of a `while` or a `repeat`, and its limit.
-#[derive(Drop)]
 pub struct Guard {
     pub condition: Tree,
     pub limit: Option<Tree>,
 }
 
+impl Drop for Guard {
+    fn drop(self) {
+        let Guard { condition, limit } = self;
+        drop(condition);
+        drop(limit);
+    }
+}
+
 /// What an alternative asks for: `p, q where e`, with the expressions in the patterns in order.
-#[derive(Drop)]
 pub struct Choice {
     pub patterns: Items<PatternShape>,
     pub trees: Items<Tree>,
     pub condition: Option<Tree>,
+}
+
+impl Drop for Choice {
+    fn drop(self) {
+        let Choice {
+            patterns: _patterns,
+            trees: _trees,
+            condition,
+        } = self;
+        drop(condition);
+    }
 }
 
 /// A statement. Each with lists has its span first.
@@ -157,7 +244,6 @@ pub enum Last {
 }
 
 /// A subprogram.
-#[derive(Drop)]
 pub struct TreeFunc {
     /// Where its name stands.
     pub span: Span,
@@ -170,4 +256,18 @@ pub struct TreeFunc {
     /// How often it may be active at one time.
     pub limit: i128,
     pub body: Items<Act>,
+}
+
+impl Drop for TreeFunc {
+    fn drop(self) {
+        let TreeFunc {
+            span: _span,
+            params: _params,
+            formals: _formals,
+            result,
+            limit: _limit,
+            body: _body,
+        } = self;
+        drop(result);
+    }
 }

@@ -40,11 +40,22 @@ impl SubId {
 }
 
 /// Global storage: its name, the value that a run begins with, and whether it can be assigned.
-#[derive(Drop)]
 pub struct Global {
     pub name: Name,
     pub value: Value,
     pub is_mutable: bool,
+}
+
+// By hand, so that a drop of one is a call, as `Held` of asl_shared says.
+impl Drop for Global {
+    fn drop(self) {
+        let Global {
+            name: _name,
+            value,
+            is_mutable: _is_mutable,
+        } = self;
+        drop(value);
+    }
 }
 
 /// A program that is well formed with the entry that was asked for, the typed trees of its subprograms, and its globals.

@@ -16,11 +16,22 @@ use asl_value::{Shell, SliceShape, Value};
 use sqlite_items::{Boxed, Items};
 
 /// Where an expression stands, its type and its effect.
-#[derive(Drop)]
 pub struct Note {
     pub span: Span,
     pub ty: Ty,
     pub effect: Effect,
+}
+
+// By hand, so that a drop of one is a call, as `Held` of asl_shared says.
+impl Drop for Note {
+    fn drop(self) {
+        let Note {
+            span: _span,
+            ty,
+            effect: _effect,
+        } = self;
+        drop(ty);
+    }
 }
 
 /// What is called: a subprogram of the program by its number in source order, from 0, or one of the library.

@@ -9,7 +9,7 @@ use Rattle.asl_rules.specs.ByPlace.{seen_as, parts_seen_as, all_seen_as}
 use Rattle.asl_value.specs.declared.value.Value.{Value}
 use Rattle.asl_value.specs.View.{value_of, all_values}
 use Rattle.asl_value.proofs.Lists.{in_front, one_made, all_made}
-use Rattle.asl_types.specs.Bits.{holds_bits, parts_hold_bits}
+use Rattle.asl_rules.specs.HoldsBits.{holds_bits, parts_hold_bits}
 use Rattle.asl_types.specs.Seeing.{part_seen}
 use Rattle.asl_types.specs.View.{parts_of}
 use Rattle.asl_types.proofs.Rest.{at_next, none_after}

@@ -5,7 +5,8 @@ use Rattle.asl_rules.specs.Values as rules
 use Rattle.asl_rules.specs.Values.{Values, no_value, value}
 use Rattle.asl_rules.specs.Views.{stripped, all_stripped, adopted, all_adopted}
 use Rattle.asl_value.specs.declared.value.Value.{Value}
-use Rattle.asl_value.specs.Keeping.{has_bits, have_bits, adopted_at}
+use Rattle.asl_rules.specs.HoldsBits.{has_bits, have_bits}
+use Rattle.asl_value.specs.Keeping.{adopted_at}
 use Rattle.asl_value.specs.View.{value_of, all_values}
 use Rattle.asl_value.proofs.Among.{at_front, none_after}
 use Rattle.asl_value.proofs.Lists.{in_front, one_made, all_made}
@@ -20,68 +21,6 @@ bits_later xs i x within here before none = before ∙ ap (λ l. have_bits (all_
 
 pub bits_none : (xs : List Value) (i : ℕ) → length xs ≤ i → have_bits (all_values xs) ≡ have_bits (all_values (drop i xs)) → have_bits (all_values xs) ≡ false
 bits_none xs i past before = before ∙ ap (λ l. have_bits (all_values l)) (none_after xs i past)
-
-neither : (a b : Bool) → (a || b) ≡ false → (a ≡ false) × (b ≡ false)
-neither true b h = cc
-neither false b h = (refl, h)
-
--- ---- a value without bits is the same
-
-mutual
-  pub nothing_to_strip : (x : rules.Value) → has_bits x ≡ false → x ≡ stripped x
-  nothing_to_strip (rules.int z) h = refl
-  nothing_to_strip (rules.bool b) h = refl
-  nothing_to_strip (rules.bits_with bs u) h = cc
-  nothing_to_strip (rules.label n l) h = refl
-  nothing_to_strip (rules.record_with n xs) h = refl
-  nothing_to_strip (rules.exception_with o s n xs) h = refl
-  nothing_to_strip (rules.tuple_with xs) h = ap rules.tuple_with (none_to_strip xs h)
-  nothing_to_strip (rules.array_with k xs) h = ap (rules.array_with k) (none_to_strip xs h)
-
-  none_to_strip : (xs : Values) → have_bits xs ≡ false → xs ≡ all_stripped xs
-  none_to_strip no_value h = refl
-  none_to_strip (value x xs) h =
-      let p = neither (has_bits x) (have_bits xs) h in
-      ap (λ y. value y xs) (nothing_to_strip x p.0) ∙ ap (value (stripped x)) (none_to_strip xs p.1)
-
-mutual
-  pub nothing_to_adopt : (x y : rules.Value) → has_bits y ≡ false → y ≡ adopted x y
-  nothing_to_adopt (rules.int z) y h = refl
-  nothing_to_adopt (rules.bool b) y h = refl
-  nothing_to_adopt (rules.label n l) y h = refl
-  nothing_to_adopt (rules.record_with n xs) y h = refl
-  nothing_to_adopt (rules.exception_with o s n xs) y h = refl
-  nothing_to_adopt (rules.bits_with bs u) (rules.int z) h = refl
-  nothing_to_adopt (rules.bits_with bs u) (rules.bool b) h = refl
-  nothing_to_adopt (rules.bits_with bs u) (rules.bits_with cs v) h = cc
-  nothing_to_adopt (rules.bits_with bs u) (rules.label n l) h = refl
-  nothing_to_adopt (rules.bits_with bs u) (rules.record_with n ys) h = refl
-  nothing_to_adopt (rules.bits_with bs u) (rules.exception_with o s n ys) h = refl
-  nothing_to_adopt (rules.bits_with bs u) (rules.tuple_with ys) h = refl
-  nothing_to_adopt (rules.bits_with bs u) (rules.array_with k ys) h = refl
-  nothing_to_adopt (rules.tuple_with xs) (rules.int z) h = refl
-  nothing_to_adopt (rules.tuple_with xs) (rules.bool b) h = refl
-  nothing_to_adopt (rules.tuple_with xs) (rules.bits_with cs v) h = refl
-  nothing_to_adopt (rules.tuple_with xs) (rules.label n l) h = refl
-  nothing_to_adopt (rules.tuple_with xs) (rules.record_with n ys) h = refl
-  nothing_to_adopt (rules.tuple_with xs) (rules.exception_with o s n ys) h = refl
-  nothing_to_adopt (rules.tuple_with xs) (rules.tuple_with ys) h = ap rules.tuple_with (none_to_adopt xs ys h)
-  nothing_to_adopt (rules.tuple_with xs) (rules.array_with k ys) h = refl
-  nothing_to_adopt (rules.array_with k xs) (rules.int z) h = refl
-  nothing_to_adopt (rules.array_with k xs) (rules.bool b) h = refl
-  nothing_to_adopt (rules.array_with k xs) (rules.bits_with cs v) h = refl
-  nothing_to_adopt (rules.array_with k xs) (rules.label n l) h = refl
-  nothing_to_adopt (rules.array_with k xs) (rules.record_with n ys) h = refl
-  nothing_to_adopt (rules.array_with k xs) (rules.exception_with o s n ys) h = refl
-  nothing_to_adopt (rules.array_with k xs) (rules.tuple_with ys) h = refl
-  nothing_to_adopt (rules.array_with k xs) (rules.array_with l ys) h = ap (rules.array_with l) (none_to_adopt xs ys h)
-
-  none_to_adopt : (xs ys : Values) → have_bits ys ≡ false → ys ≡ all_adopted xs ys
-  none_to_adopt no_value ys h = refl
-  none_to_adopt (value x xs) no_value h = refl
-  none_to_adopt (value x xs) (value y ys) h =
-      let p = neither (has_bits y) (have_bits ys) h in
-      ap (λ z. value z ys) (nothing_to_adopt x y p.0) ∙ ap (value (adopted x y)) (none_to_adopt xs ys p.1)
 
 -- ---- one item more
 

@@ -1,27 +1,11 @@
 -- What is asked of values part by part.
-use Rattle.std.specs.Prelude.{ℕ, zero, suc, Bool, true, false, ◌||◌, List, [], ◌∷◌}
+use Rattle.std.specs.Prelude.{ℕ, zero, suc, Bool, true, List, [], ◌∷◌}
 use Rattle.asl_rules.specs.Types.{kinds_eq}
 use Rattle.asl_rules.specs.Values as rules
-use Rattle.asl_rules.specs.Values.{Values, int, bool, bits_with, label, record_with, exception_with, tuple_with, array_with, no_value, value, kinds_of}
+use Rattle.asl_rules.specs.Values.{Values, kinds_of}
 use Rattle.asl_rules.specs.Views.{adopted, same_widths}
 use Rattle.asl_value.specs.declared.value.Value.{Value}
 use Rattle.asl_value.specs.View.{value_of}
-
--- there are bits in a value, other than in its fields
-abbrev mutual
-  pub has_bits : rules.Value → Bool
-  has_bits (int z) = false
-  has_bits (bool b) = false
-  has_bits (bits_with bs u) = true
-  has_bits (label name l) = false
-  has_bits (record_with name xs) = false
-  has_bits (exception_with own supers name xs) = false
-  has_bits (tuple_with xs) = have_bits xs
-  has_bits (array_with k xs) = have_bits xs
-
-  pub have_bits : Values → Bool
-  have_bits no_value = false
-  have_bits (value x xs) = has_bits x || have_bits xs
 
 -- a value over the one in its place, where there is one
 abbrev pub adopted_at : ℕ → List Value → rules.Value → rules.Value

@@ -2,6 +2,7 @@
 //! takes the value.
 ghost use Rattle.std.specs.Prelude.{◌≡◌, ◌==◌, length, IfOk};
 ghost use Rattle.asl_rules.specs.Types.{kind_eq, kinds_eq};
+ghost use Rattle.asl_rules.specs.HoldsBits as bits;
 ghost use Rattle.asl_rules.specs.Values as values;
 ghost use Rattle.asl_rules.specs.Views as rules;
 ghost use Rattle.asl_value.specs.Keeping as keeping;
@@ -19,7 +20,7 @@ use std::alloc::{AllocError, Global};
 /// Whether there are bits in a value, other than in its fields.
 #[cycle(has_bits)]
 pub fn has_bits(value: &Value) -> bool
-    ensures { result ≡ keeping.has_bits (value_of value.now) }
+    ensures { result ≡ bits.has_bits (value_of value.now) }
 {
     match value {
         Value::Int(_) => false,
@@ -36,7 +37,7 @@ pub fn has_bits(value: &Value) -> bool
 #[cycle(has_bits)]
 #[tactic(auto, using(crate::proofs::Kept::bits_here, crate::proofs::Kept::bits_later, crate::proofs::Kept::bits_none))]
 fn have_bits(values: &[Value]) -> bool
-    ensures { result ≡ keeping.have_bits (all_values values.now) }
+    ensures { result ≡ bits.have_bits (all_values values.now) }
 {
     for value in values {
         if has_bits(value) {
@@ -49,7 +50,7 @@ fn have_bits(values: &[Value]) -> bool
 // ---- values without bitfields
 
 /// The value without bitfields; bits in fields keep theirs.
-#[tactic(auto, using(crate::proofs::Kept::nothing_to_strip))]
+#[tactic(auto, using(asl_rules::proofs::values::Bitless::nothing_to_strip))]
 pub fn strip(alloc: Global, value: &Value) -> Result<Value, AllocError>
     ensures { IfOk result (λ it. value_of it ≡ rules.stripped (value_of value.now)) }
 {
@@ -93,7 +94,7 @@ fn all_stripped(alloc: Global, values: &[Value]) -> Result<Items<Value>, AllocEr
 // ---- values with the bitfields of others
 
 /// A value that is stored over another: its bits carry the bitfields of that, part by part.
-#[tactic(auto, using(crate::proofs::Kept::nothing_to_adopt))]
+#[tactic(auto, using(asl_rules::proofs::values::Bitless::nothing_to_adopt))]
 pub fn adopt(alloc: Global, old: &Value, value: &Value) -> Result<Value, AllocError>
     ensures { IfOk result (λ it. value_of it ≡ rules.adopted (value_of old.now) (value_of value.now)) }
 {
