@@ -1,14 +1,2 @@
-pub mod Chains
-pub mod Gathering
-pub mod Binding
-pub mod Assigning
-pub mod Walked
-pub mod Turns
 pub mod BodyTurns
-pub mod SizeLemmas
 pub mod GlobalTurns
-pub mod Parted
-pub mod Simples
-pub mod ActForms
-pub mod Placing
-pub mod Reported

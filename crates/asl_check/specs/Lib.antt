@@ -1,15 +1,4 @@
 pub mod Falls
-pub mod Walks
-pub mod Views
-pub mod LocalViews
-pub mod LoopViews
-pub mod PatternViews
-pub mod PrintViews
-pub mod TargetViews
-pub mod PartViews
 pub mod Verdicts
 pub mod Bringing
-pub mod Sizes
-pub mod Blocks
 pub mod GlobalViews
-pub mod SuffixWalks

@@ -9,10 +9,10 @@ ghost use Rattle.asl_types.specs.Suits.{Suits};
 ghost use Rattle.asl_tree.specs.Acts.{func_of, all_funcs, all_acts};
 ghost use Rattle.asl_decl.specs.Heads.{head_of, heads_of};
 
-use crate::body::{Body, Listed};
 use crate::falls::falls_through;
-use crate::lists::check_stmts;
 use asl_decl::enter_body;
+use asl_stmt::body::{Body, Listed};
+use asl_stmt::lists::check_stmts;
 use asl_syn::code::{Refused, StaticCode};
 use asl_syn::tree::Func;
 use asl_tree::act::TreeFunc;

@@ -9,10 +9,10 @@ ghost use Rattle.asl_rules.specs.Types.{integer_of, only_width};
 ghost use Rattle.asl_types.specs.View.{parts_of};
 ghost use Rattle.asl_decl.specs.Heads as rules;
 
-use crate::counting::{atom, counted_at, itself};
 use asl_poly::Atom;
 use asl_syn::code::Refused;
 use asl_syn::tree::{Formal, Func, Param as WrittenParam};
+use asl_types::counting::{atom, counted_at, itself};
 use asl_types::integers::{integers, only_width};
 use asl_types::{Param, Scope, Signature, Ty};
 use std::alloc::{AllocError, Global};

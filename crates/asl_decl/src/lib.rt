@@ -3,7 +3,6 @@
 
 mod apart;
 mod bodies;
-mod counting;
 mod entry;
 mod free;
 mod heads;
@@ -12,6 +11,5 @@ mod signatures;
 mod table;
 
 pub use bodies::enter_body;
-pub use counting::{itself, next_itself};
 pub use entry::find_entry;
 pub use table::Table;

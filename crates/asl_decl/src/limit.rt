@@ -17,8 +17,6 @@ ghost use Rattle.asl_judge.specs.Definitions.{type_found};
 ghost use Rattle.asl_decl.specs.Limits as limits;
 
 use crate::heads::in_names;
-use asl_expr::exprs::place;
-use asl_expr::written::type_place;
 use asl_judge::barred::check_unbarred;
 use asl_judge::values::known;
 use asl_judge::written::typed;
@@ -27,10 +25,12 @@ use asl_shared::Held;
 use asl_syn::code::{Refused, StaticCode};
 use asl_syn::token::Span;
 use asl_syn::tree::{Expr, Func, Param as WrittenParam};
+use asl_tree::places::place;
 use asl_types::answer::fault;
 use asl_types::kinds::is_integer;
 use asl_types::{Context, Param, Scope, Subprograms, Ty};
 use asl_value::Value;
+use asl_written::written::type_place;
 use std::alloc::Global;
 
 /// The activations of a subprogram at one time, where no other number is written.

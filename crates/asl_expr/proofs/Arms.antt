@@ -22,7 +22,7 @@ use Rattle.asl_rules.specs.Writing.{FoundPart, FoundBitfield, FoundType}
 use Rattle.asl_types.specs.Answers.{Met}
 use Rattle.asl_tree.specs.declared.tree.Tree.{Tree}
 use Rattle.asl_tree.specs.View.{typed_of}
-use Rattle.asl_expr.specs.Constructs.{found_fields}
+use Rattle.asl_typing.specs.Constructs.{found_fields}
 
 tuple_rolled : (t : Tests) (e : Expr) (span : Span) (es fs : List Expr) (G : Scope) → e ≡ ev.Tuple span es → fs ≡ es → tuple_rule span (map (found t) fs) G ≡ typed t e G
 tuple_rolled t e span es fs G is same =

@@ -12,7 +12,7 @@ use Rattle.asl_types.proofs.Rest.{at_next}
 use Rattle.asl_types.specs.View.{parts_of}
 use Rattle.asl_tree.specs.declared.tree.Tree.{Tree}
 use Rattle.asl_tree.specs.View.{operand_of, all_operands}
-use Rattle.asl_expr.proofs.ConstraintLemmas.{append_none}
+use Rattle.asl_written.proofs.ConstraintLemmas.{append_none}
 use Rattle.asl_expr.specs.declared.params.GivenWidth.{GivenWidth}
 use Rattle.asl_expr.specs.CallViews.{given_of, all_given}
 

@@ -23,7 +23,7 @@ use Rattle.asl_rules.specs.Types.{Ty, Parts, part, tuple_parts}
 use Rattle.asl_types.proofs.Rest.{at_next}
 use Rattle.asl_types.specs.View.{parts_of}
 use Rattle.asl_shape.specs.View.{patterns_from}
-use Rattle.asl_expr.proofs.ConstraintLemmas.{append_none}
+use Rattle.asl_written.proofs.ConstraintLemmas.{append_none}
 use Rattle.asl_expr.specs.PatternViews.{found_patterns, Seen, no_matches, with_match, all_shapes, with_matches, behind_matches, set_from, tuple_from, parts_for}
 
 abbrev Found : Type 0

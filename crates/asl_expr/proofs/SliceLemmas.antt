@@ -28,7 +28,7 @@ use Rattle.asl_value.specs.declared.slices.SliceShape.{SliceShape}
 use Rattle.asl_value.specs.View.{slice_of, all_slices}
 use Rattle.asl_tree.specs.declared.tree.Tree.{Tree}
 use Rattle.asl_tree.specs.View.{operand_of, typed_of, all_operands}
-use Rattle.asl_expr.proofs.ConstraintLemmas.{append_none}
+use Rattle.asl_written.proofs.ConstraintLemmas.{append_none}
 
 -- ---- integers
 

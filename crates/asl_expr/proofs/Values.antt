@@ -33,8 +33,8 @@ use Rattle.asl_types.specs.Answers.{Met}
 use Rattle.asl_types.proofs.Rest.{at_next}
 use Rattle.asl_tree.specs.declared.tree.Tree.{Tree}
 use Rattle.asl_tree.specs.View.{typed_of, operand_of, all_operands}
-use Rattle.asl_expr.specs.Constructs.{found_field, found_fields, value_of, given_name, given_names, name_layer}
-use Rattle.asl_expr.specs.Ends.{behind_operands}
+use Rattle.asl_typing.specs.Constructs.{found_field, found_fields, value_of, given_name, given_names, name_layer}
+use Rattle.asl_tree.specs.Ends.{behind_operands}
 
 -- ---- fields that are given
 

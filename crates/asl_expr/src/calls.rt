@@ -10,7 +10,7 @@ ghost use Rattle.asl_syn.specs.declared.tree.Ident.{Ident};
 ghost use Rattle.asl_shape.specs.View.{routine_of};
 ghost use Rattle.asl_rules.specs.Exprs.{found};
 ghost use Rattle.asl_rules.specs.Faults.{need, found_or};
-ghost use Rattle.asl_expr.specs.Steps.{and_then, after};
+ghost use Rattle.asl_written.specs.Steps.{and_then, after};
 ghost use Rattle.asl_rules.specs.Routines.{routine_named};
 ghost use Rattle.asl_rules.specs.Scopes.{standing_of, is_subprogram};
 ghost use Rattle.asl_rules.specs.Tests.{Tests};
@@ -21,10 +21,7 @@ ghost use Rattle.asl_tree.specs.View.{note_view, tree_of, callee_of, typed_of, a
 ghost use Rattle.asl_expr.specs.CallViews.{called_of, replacing_of, all_given, call_note, effect_of};
 
 use crate::call_fits::{both_fit, replaced, replaced_by};
-use crate::ends::{all_together, greatest, keep_class, stand_together};
 use crate::exprs::type_all;
-use crate::nodes;
-use crate::operations::operand_types;
 use crate::params::{Replaced, widths, widths_given};
 use crate::routine_types::{routine_params, routine_taken, routine_type};
 use asl_rules::effect::Effect;
@@ -32,10 +29,13 @@ use asl_shape::{Routine, routine_named};
 use asl_syn::code::{Refused, StaticCode};
 use asl_syn::token::Span;
 use asl_syn::tree::{Expr, Ident};
+use asl_tree::nodes;
 use asl_tree::tree::{Callee, Note, Tree};
 use asl_types::answer::fault;
 use asl_types::effects::greater;
 use asl_types::{Context, Signature, Standing, Ty};
+use asl_typing::ends::{all_together, greatest, keep_class, stand_together};
+use asl_typing::operations::operand_types;
 use sqlite_items::{Boxed, Items};
 use std::alloc::{AllocError, Global};
 
@@ -108,7 +108,7 @@ fn noted(
 }
 
 /// The typed tree of a call.
-#[tactic(auto, using(crate::proofs::Operands::trees_seen))]
+#[tactic(auto, using(asl_tree::proofs::Operands::trees_seen))]
 fn call_tree(
     alloc: Global,
     note: Note,

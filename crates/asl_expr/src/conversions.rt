@@ -2,7 +2,7 @@
 
 ghost use Rattle.std.specs.Prelude.{◌≡◌, false};
 ghost use Rattle.asl_rules.specs.Exprs as rules;
-ghost use Rattle.asl_expr.specs.Steps.{and_then};
+ghost use Rattle.asl_written.specs.Steps.{and_then};
 ghost use Rattle.asl_rules.specs.Patterns.{matching};
 ghost use Rattle.asl_rules.specs.Tests.{Tests};
 ghost use Rattle.asl_rules.specs.Writing.{converted_to};
@@ -11,20 +11,20 @@ ghost use Rattle.asl_types.specs.ContextView.{scope_of};
 ghost use Rattle.asl_types.specs.Suits.{Suits};
 ghost use Rattle.asl_tree.specs.View.{typed_of};
 ghost use Rattle.asl_expr.specs.PatternViews.{matched_of};
-ghost use Rattle.asl_expr.specs.WrittenViews.{written_of};
+ghost use Rattle.asl_written.specs.WrittenViews.{written_of};
 
-use crate::ends::keep_class;
-use crate::nodes;
 use crate::patterns::Matched;
-use crate::written::{Written, type_written};
 use asl_rules::effect::Effect;
 use asl_syn::code::{Refused, StaticCode};
 use asl_syn::token::Span;
 use asl_syn::tree::TypeExpr;
+use asl_tree::nodes;
 use asl_tree::tree::{Note, Tree};
 use asl_types::answer::fault;
 use asl_types::kinds::same_kind;
 use asl_types::{Context, Ty};
+use asl_typing::ends::keep_class;
+use asl_written::written::{Written, type_written};
 use sqlite_items::Boxed;
 use std::alloc::Global;
 

@@ -15,7 +15,7 @@ ghost use Rattle.asl_types.specs.ContextView.{scope_of};
 ghost use Rattle.asl_types.specs.Suits.{Suits};
 ghost use Rattle.asl_tree.specs.View.{typed_of};
 ghost use Rattle.asl_expr.specs.Below.{Types, Matching};
-ghost use Rattle.asl_expr.specs.Constructs.{found_fields};
+ghost use Rattle.asl_typing.specs.Constructs.{found_fields};
 ghost use Rattle.asl_syn.specs.declared.tree.Expr.{size-Expr};
 ghost use Rattle.asl_syn.specs.declared.tree.FieldValue.{size-FieldValue};
 ghost use Rattle.asl_syn.specs.declared.tree.Pattern.{size-Pattern};
@@ -23,12 +23,8 @@ ghost use Rattle.asl_syn.specs.declared.tree.Slice.{size-Slice};
 
 use crate::below::{Below, match_pure, type_below};
 use crate::calls::type_call;
-use crate::constructs::{Site, type_construction};
 use crate::conversions::{type_as, type_in};
-use crate::literals::{type_bits, type_bool, type_int, type_name};
-use crate::members::{type_bitfields, type_element, type_field};
 use crate::operand_lists::{operands_below, slices_below, values_below};
-use crate::operations::{type_conditional, type_operation, type_operation_of_one, type_tuple};
 use crate::patterns::Matched;
 use crate::slices::type_slices;
 use asl_syn::code::Refused;
@@ -38,6 +34,10 @@ use asl_syn::tree::{
 };
 use asl_tree::tree::Tree;
 use asl_types::{Context, Ty};
+use asl_typing::constructs::{Site, type_construction};
+use asl_typing::literals::{type_bits, type_bool, type_int, type_name};
+use asl_typing::members::{type_bitfields, type_element, type_field};
+use asl_typing::operations::{type_conditional, type_operation, type_operation_of_one, type_tuple};
 use sqlite_items::Boxed;
 use std::alloc::Global;
 

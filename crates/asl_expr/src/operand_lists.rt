@@ -13,16 +13,16 @@ ghost use Rattle.asl_types.specs.ContextView.{scope_of};
 ghost use Rattle.asl_types.specs.Suits.{Suits};
 ghost use Rattle.asl_tree.specs.View.{operand_of, all_operands};
 ghost use Rattle.asl_expr.specs.Below.{Types};
-ghost use Rattle.asl_expr.specs.Constructs.{found_fields, value_of};
+ghost use Rattle.asl_typing.specs.Constructs.{found_fields, value_of};
 ghost use Rattle.asl_syn.specs.declared.tree.Expr.{size-Expr};
 ghost use Rattle.asl_syn.specs.declared.tree.FieldValue.{size-FieldValue};
 ghost use Rattle.asl_syn.specs.declared.tree.FieldValue.TheVariants as value;
 ghost use Rattle.asl_syn.specs.declared.tree.Slice.{size-Slice};
 
 use crate::below::{Below, operand_below};
-use crate::tree_lists::{one_tree, two_trees};
 use asl_syn::code::Refused;
 use asl_syn::tree::{Expr, FieldValue, Ident, Slice};
+use asl_tree::lists::{one_tree, two_trees};
 use asl_tree::tree::Tree;
 use asl_types::Context;
 use sqlite_items::{Boxed, Items};

@@ -14,16 +14,16 @@ ghost use Rattle.asl_types.specs.View.{parts_of};
 ghost use Rattle.asl_tree.specs.View.{tree_of, all_operands};
 ghost use Rattle.asl_expr.specs.CallViews.{replacing_of, none_replaced, with_written, with_argument, giving_of};
 
-use crate::exprs::place;
-use crate::widths::type_width;
 use asl_poly::{Atom, Poly, PolyRefused};
 use asl_syn::code::{Refused, StaticCode};
 use asl_syn::token::Span;
 use asl_syn::tree::Expr;
+use asl_tree::places::place;
 use asl_tree::tree::Tree;
 use asl_types::answer::fault;
 use asl_types::structure::width_in;
 use asl_types::{Context, Form, Param, Signature, Ty};
+use asl_written::widths::type_width;
 use sqlite_items::{Boxed, Items};
 use std::alloc::{AllocError, Global};
 

@@ -14,7 +14,7 @@ ghost use Rattle.asl_types.specs.Suits.{Suits};
 ghost use Rattle.asl_types.specs.View.{parts_of};
 ghost use Rattle.asl_expr.specs.Below.{Types, Matching};
 ghost use Rattle.asl_expr.specs.PatternViews.{matched_of, matches_view, no_matches, with_matches, found_patterns};
-ghost use Rattle.asl_expr.specs.Steps.{and_then};
+ghost use Rattle.asl_written.specs.Steps.{and_then};
 ghost use Rattle.asl_syn.specs.declared.tree.Expr.{size-Expr};
 ghost use Rattle.asl_syn.specs.declared.tree.Pattern.{size-Pattern};
 

@@ -1,7 +1,7 @@
 //! Slices of bits and of integers.
 
 ghost use Rattle.std.specs.Prelude.{◌≡◌, ◌||◌, ◌&&◌, IfOk};
-ghost use Rattle.asl_expr.specs.Steps.{and_then, after};
+ghost use Rattle.asl_written.specs.Steps.{and_then, after};
 ghost use Rattle.asl_rules.specs.Slicing as rules;
 ghost use Rattle.asl_rules.specs.Slicing.{sliceable, slices_behind, shapes_of};
 ghost use Rattle.asl_rules.specs.Targets.{found_slices};
@@ -18,23 +18,23 @@ ghost use Rattle.asl_rules.specs.Widths as limits;
 ghost use Rattle.asl_types.specs.Totals.{IsTotal};
 
 use crate::below::Below;
-use crate::ends::{all_together, greatest, keep_class, stand_together};
 use crate::exprs::type_expr;
-use crate::nodes;
 use crate::operand_lists::slices_below;
 use crate::patterns::match_pattern;
-use crate::widths::type_width;
 use asl_poly::Poly;
 use asl_rules::effect::Effect;
 use asl_syn::code::{Refused, StaticCode};
 use asl_syn::token::Span;
 use asl_syn::tree::{Expr, Slice};
+use asl_tree::nodes;
 use asl_tree::tree::{Note, Tree};
 use asl_types::answer::fault;
 use asl_types::integers::bits_of;
 use asl_types::kinds::{is_bits, is_integer};
 use asl_types::{Context, Total};
+use asl_typing::ends::{all_together, greatest, keep_class, stand_together};
 use asl_value::SliceShape;
+use asl_written::widths::type_width;
 use sqlite_items::{Boxed, Items};
 use std::alloc::{AllocError, Global};
 

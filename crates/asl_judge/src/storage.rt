@@ -15,16 +15,16 @@ ghost use Rattle.asl_judge.specs.Definitions.{type_fitted, both_found};
 use crate::barred::check_unbarred;
 use crate::values::{first_in, known, with_view};
 use crate::written::{typed, written};
-use asl_expr::exprs::place;
-use asl_expr::written::type_place;
 use asl_shared::Held;
 use asl_syn::code::{Refused, StaticCode};
 use asl_syn::tree::{Expr, StorageDecl, StorageKind, TypeExpr};
+use asl_tree::places::place;
 use asl_types::answer::fault;
 use asl_types::baring::widened;
 use asl_types::fits::misfit;
 use asl_types::{Context, Ty};
 use asl_value::Value;
+use asl_written::written::type_place;
 use std::alloc::{AllocError, Global};
 
 /// The type of global storage, and the value that it begins with.

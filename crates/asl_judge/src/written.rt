@@ -7,10 +7,10 @@ ghost use Rattle.asl_types.specs.Suits.{Suits};
 ghost use Rattle.asl_judge.specs.Definitions as rules;
 
 use asl_expr::exprs::type_expr;
-use asl_expr::written::type_written;
 use asl_syn::code::Refused;
 use asl_syn::tree::{Expr, TypeExpr};
 use asl_types::{Context, Ty};
+use asl_written::written::type_written;
 use std::alloc::Global;
 
 /// The type that is written, outside bodies or in one.

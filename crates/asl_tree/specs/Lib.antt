@@ -1,3 +1,4 @@
 pub mod View
 pub mod Acts
 pub mod Sealed
+pub mod Ends

@@ -3,6 +3,9 @@
 
 pub mod act;
 mod checked;
+pub mod lists;
+pub mod nodes;
+pub mod places;
 pub mod tree;
 
 pub use checked::{Checked, Global, SubId};

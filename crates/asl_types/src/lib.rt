@@ -4,6 +4,7 @@
 pub mod answer;
 pub mod baring;
 mod context;
+pub mod counting;
 pub mod effects;
 pub mod fits;
 pub mod integers;

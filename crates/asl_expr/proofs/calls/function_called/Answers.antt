@@ -6,7 +6,7 @@ use Rattle.asl_rules.specs.Trees.{own}
 use Rattle.asl_rules.specs.Types.{Ty, substitute}
 use Rattle.asl_rules.specs.Typing.{finish_all}
 use Rattle.asl_types.specs.Answers.{Met}
-use Rattle.asl_expr.specs.Steps.{after}
+use Rattle.asl_written.specs.Steps.{after}
 use Rattle.asl_tree.specs.View.{typed_of, all_operands}
 use Rattle.asl_expr.specs.CallViews.{all_given, replacing_of}
 use Rattle.asl_expr.proofs.Stepping.{both_went, both_stop}

@@ -4,7 +4,7 @@ use Rattle.asl_rules.specs.Tests.{Tests}
 use Rattle.asl_rules.specs.Typing.{operands}
 use Rattle.asl_types.specs.ContextView.{scope_of}
 use Rattle.asl_types.specs.Suits.{Suits}
-use Rattle.asl_expr.specs.Ends.{behind_operands}
+use Rattle.asl_tree.specs.Ends.{behind_operands}
 use Rattle.asl_expr.proofs.operand_lists.operands_below.Given as goal
 
 abbrev pub invariant-loop-e : goal.invariant-loop-e

@@ -4,8 +4,8 @@ use Rattle.asl_rules.specs.Tests.{Tests}
 use Rattle.asl_rules.specs.Typing.{operands}
 use Rattle.asl_types.specs.ContextView.{scope_of}
 use Rattle.asl_types.specs.Suits.{Suits}
-use Rattle.asl_expr.specs.Constructs.{found_fields}
-use Rattle.asl_expr.specs.Ends.{behind_operands}
+use Rattle.asl_typing.specs.Constructs.{found_fields}
+use Rattle.asl_tree.specs.Ends.{behind_operands}
 use Rattle.asl_expr.proofs.operand_lists.values_below.Given as goal
 
 abbrev pub invariant-loop-g : goal.invariant-loop-g

@@ -4,7 +4,7 @@ use Rattle.asl_rules.specs.Calls.{Replacing}
 use Rattle.asl_types.specs.Answers.{Met}
 use Rattle.asl_types.specs.ContextView.{scope_of}
 use Rattle.asl_expr.specs.CallViews.{replacing_of}
-use Rattle.asl_expr.specs.WidthViews.{width_of}
+use Rattle.asl_written.specs.WidthViews.{width_of}
 use Rattle.asl_expr.proofs.ParamLemmas.{written_next, written_opened, written_last}
 use Rattle.asl_expr.proofs.params.widths_given.Goals as goal
 

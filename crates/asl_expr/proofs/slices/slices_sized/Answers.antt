@@ -7,7 +7,7 @@ use Rattle.asl_tree.specs.View.{tree_of, typed_of, all_operands, all_trees, note
 use Rattle.asl_types.specs.Answers.{Met}
 use Rattle.asl_expr.specs.SliceViews.{slices_note}
 use Rattle.asl_expr.proofs.CallArms.{slices_finished, slices_refused}
-use Rattle.asl_expr.proofs.Operands.{trees_seen}
+use Rattle.asl_tree.proofs.Operands.{trees_seen}
 use Rattle.asl_expr.proofs.slices.slices_sized.Goals as goal
 
 pub returns : goal.returns

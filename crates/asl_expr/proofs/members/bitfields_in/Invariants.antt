@@ -1,7 +1,0 @@
-use Rattle.std.proofs.Common.{◌≡◌, drop}
-use Rattle.asl_rules.specs.Members as rules
-use Rattle.asl_expr.specs.FoundMembers.{behind_bitfields}
-use Rattle.asl_expr.proofs.members.bitfields_in.Given as goal
-
-abbrev pub invariant-loop-name : goal.invariant-loop-name
-invariant-loop-name l = rules.bitfields_in l.names l.view ≡ behind_bitfields l.fields (rules.bitfields_in (drop l.name-index l.names) l.view)

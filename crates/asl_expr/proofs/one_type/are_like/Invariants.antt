@@ -1,6 +1,0 @@
-use Rattle.std.proofs.Common.{◌≡◌, drop}
-use Rattle.asl_expr.specs.OneType.{are_like}
-use Rattle.asl_expr.proofs.one_type.are_like.Given as goal
-
-abbrev pub invariant-loop-other : goal.invariant-loop-other
-invariant-loop-other l = are_like l.first (drop l.other-index l.others) ≡ are_like l.first l.others

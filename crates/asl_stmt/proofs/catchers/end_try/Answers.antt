@@ -1,0 +1,19 @@
+use Rattle.std.proofs.Common.{◌≡◌, rules, true, subst, ◌∙◌}
+use Rattle.asl_rules.specs.Acting.{ended}
+use Rattle.asl_rules.specs.Effects.{greater}
+use Rattle.asl_rules.specs.Trees as tree
+use Rattle.asl_tree.specs.Acts.{all_acts, all_catchers, last_of}
+use Rattle.asl_types.specs.Answers.{Met}
+use Rattle.asl_stmt.specs.Views.{done_of}
+use Rattle.asl_stmt.proofs.ActForms.{act_try}
+use Rattle.asl_stmt.proofs.catchers.end_try.Goals as goal
+
+pub returns : goal.returns
+returns c = λ names.
+    let k : c.greater-effect.result ≡ greater (greater c.args.list.effect c.args.catchers.effect) c.args.last.effect = search rules in
+    let l : c.into_inner.result ≡ c.args.last.last = search rules in
+    subst (Met (done_of names) c.ended.result)
+    (λ i. ended c.args.body.now.class c.args.span true (k i) names
+    ((act_try c.args.span c.args.list.acts c.args.catchers.trees c.into_inner.result
+    ∙ λ j. tree.Try c.args.span (all_acts c.args.list.acts) (all_catchers c.args.catchers.trees) (last_of (l j))) i))
+    (c.ended.ensures names)

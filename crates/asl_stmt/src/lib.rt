@@ -1,0 +1,22 @@
+//! Statements.
+#![tactic(auto)]
+
+mod binds;
+pub mod body;
+mod branches;
+mod cases;
+mod catchers;
+mod counted;
+pub mod lists;
+mod locals;
+mod loops;
+mod otherwise;
+mod prints;
+mod simple;
+mod steps;
+mod stmts;
+mod stores;
+mod suffixes;
+mod targets;
+mod typing;
+mod within;

@@ -1,0 +1,7 @@
+use Rattle.std.proofs.Common.{◌≡◌, [], drop}
+use Rattle.asl_typing.specs.Constructs.{field_names}
+use Rattle.asl_names.specs.Firsts.{placed}
+use Rattle.asl_typing.proofs.constructs.firsts_of_fields.Given as goal
+
+abbrev pub invariant-loop-place : goal.invariant-loop-place
+invariant-loop-place l = placed (field_names (drop l.place l.fields)) l.place l.firsts ≡ placed (field_names l.fields) 0 []

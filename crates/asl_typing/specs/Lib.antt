@@ -1,0 +1,4 @@
+pub mod BitsWidths
+pub mod Conditionals
+pub mod Constructs
+pub mod FoundMembers

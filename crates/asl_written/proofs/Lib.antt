@@ -1,0 +1,8 @@
+pub mod ConstraintLemmas
+pub mod FieldLemmas
+pub mod NameLemmas
+pub mod OneTypeLemmas
+pub mod RangeLemmas
+pub mod TypeLemmas
+pub mod WidthLemmas
+pub mod WrittenLemmas
