@@ -63,7 +63,7 @@ AllMatch declared [] [] = Unit {0}
 AllMatch declared [] (b ∷ bs) = ⊥
 AllMatch declared (e ∷ es) bs = global_matches declared e.name e.standing bs (AllMatch declared es)
 
--- the globals hold the storage that is declared outside bodies, in the same order
+-- the globals hold the storage that is declared outside bodies, in the same order; two lists that do differ in their values alone
 abbrev pub GlobalsMatch : List Entry → List Binding → Type 0
 GlobalsMatch base bs = AllMatch (types_in base) base bs
 
