@@ -7,6 +7,5 @@ pub mod Shift
 pub mod Visited
 pub mod OneOutcome
 pub mod Several
-pub mod PlansKeep
-pub mod GlobalsKept
+pub mod AtRest
 pub mod WordRuns

@@ -140,9 +140,9 @@ module _ (tests : Tests) (right : IsRight tests) (ds : List Decl) (base : List E
     pub body : BodyOk h l assignment
     pub keeps_are : keeps_at (env tests right ds base subs funcs w) h.func.name.span (present states.params) h.func.result ≡ seen_by h.func.name.span assignment h.signature.result
 
-  full_same : (H : Here) (Q : Option Value → Option Value → Core → Type 0) (b : Bool) (span : Span) (c : Core) (p : Does (Option Value)) (r : Runs (Option Value)) → Same tests right base subs H Q p r → Same tests right base subs H Q (choose b p (Stop (Faulted D11 span) c)) (choose b r (Stop (Faulted D11 span) (erased c)))
-  full_same H Q true span c p r s = s
-  full_same H Q false span c p r s = (refl, refl)
+  full_same : (H : Here) (Q : Option Value → Option Value → Core → Type 0) (b : Bool) (span : Span) (c : Core) (p : Does (Option Value)) (r : Runs (Option Value)) → At tests base subs H c → Same tests right base subs H Q p r → Same tests right base subs H Q (choose b p (Stop (Faulted D11 span) c)) (choose b r (Stop (Faulted D11 span) (erased c)))
+  full_same H Q true span c p r a s = s
+  full_same H Q false span c p r a s = (refl, refl, a.agrees.globals)
 
   run_same : (H : Here) (Q : Option Value → Option Value → Core → Type 0) (span : Span) (id : ℕ) (h : Head) (l : Listed) (places : List ℕ) (ys xs : List Value) (c : Core) → FormedSubs tests right (types_in base) (well_declared base w) subs → (b : Begins H span id h l places ys xs c) → At tests base subs H c → Gets H Q b.assignment h.signature.result →
       Same tests right base subs H Q (run_with (env tests right ds base subs funcs w) span id h.func b.params xs c) (bare.run_with span id (tree_func h l.acts) b.params xs (erased c))
@@ -171,7 +171,7 @@ module _ (tests : Tests) (right : IsRight tests) (ds : List Decl) (base : List E
       (subst (λ z. Same tests right base subs H Q (lift (known span z) c (λ m. call_one en span ys xs m c)) right_side) (sym o)
       (subst (λ z. Same tests right base subs H Q (lift z c (λ limit. unless_full span id c.live limit (lift (params_of span (outside c) h.func ys xs) c run_it) c)) right_side) (sym b.limit_is)
       (subst (λ z. Same tests right base subs H Q (unless_full span id c.live h.signature.limit (lift (params_of span (outside c) h.func ys xs) c run_it) c) (bare.called span id places ys xs (erased c) z)) (sym b.tree_is)
-      (full_same H Q (less (pos (activations id c.live)) h.signature.limit) span c (lift (params_of span (outside c) h.func ys xs) c run_it) (lift (bare.params_of span places ys xs) (erased c) bare_it)
+      (full_same H Q (less (pos (activations id c.live)) h.signature.limit) span c (lift (params_of span (outside c) h.func ys xs) c run_it) (lift (bare.params_of span places ys xs) (erased c) bare_it) a
       (subst (λ z. Same tests right base subs H Q (lift z c run_it) (lift (bare.params_of span places ys xs) (erased c) bare_it)) (sym b.params_are)
       (subst (λ z. Same tests right base subs H Q (run_it b.params) (lift z (erased c) bare_it)) (sym b.widths_are)
       (run_same H Q span id h l places ys xs c s b a q)))))))

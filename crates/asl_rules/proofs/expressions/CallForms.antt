@@ -80,7 +80,7 @@ module _ (tests : Tests) (right : IsRight tests) (base : List Entry) (subs : Lis
 
   routine_same : (U : Ty) (span : Span) (r : PureOf Value) (c : Core) → Gives (types_in base) H.present U r → At tests base subs H c → Same tests right base subs H (Out tests right base subs H U) (follow (routine_gives r c) (function_gives span)) (follow (routine_gives r (erased c)) (function_gives span))
   routine_same U span (Good x) c g a = (refl, (refl, (refl, (g, a))))
-  routine_same U span (Bad (Faulted code at)) c g a = (refl, refl)
+  routine_same U span (Bad (Faulted code at)) c g a = (refl, refl, a.agrees.globals)
   routine_same U span (Bad (Stuck mistake at)) c g a = absurd g
 
 module _ (tests : Tests) (right : IsRight tests) (ds : List Decl) (base : List Entry) (subs : List Signature) (funcs : List TreeFunc) (w : WellNamed base) where

@@ -18,7 +18,7 @@ use Rattle.asl_rules.specs.Falling.{falls}
 use Rattle.asl_rules.specs.Values.{Value, int, Exit, Normal, Returned}
 use Rattle.asl_rules.specs.States.{Core}
 use Rattle.asl_rules.specs.Belonging.{has_type, InType}
-use Rattle.asl_rules.specs.Agreement.{types_in, Raised, Agrees, SameOn}
+use Rattle.asl_rules.specs.Agreement.{types_in, GlobalsMatch, Raised, Agrees, SameOn}
 use Rattle.asl_rules.specs.TypedMeaning.{BareCore}
 use Rattle.asl_rules.specs.Erasure.{erased}
 use Rattle.asl_rules.proofs.expressions.Twins.{Claims}
@@ -151,6 +151,7 @@ module _ (tests : Tests) (base : List Entry) (subs : List Signature) where
     stmt_in = λ j s t c. StmtIn j.0 s t c × (j.1 ≡ falls s);
     stmt_out = λ j x c. Ends j.0 j.1 x c;
     stmt_thrown = λ j x c. Over j.0.body.scope.names j.0.present j.0.handled x c;
+    halted = λ c. GlobalsMatch base c.globals;
   }
 
   -- and several of them at once

@@ -55,7 +55,7 @@ module _ (tests : Tests) (right : IsRight tests) (base : List Entry) (subs : Lis
 
   pub at_once_same : (H : Here) (U : Ty) (r : PureOf Value) (c : Core) → Gives (types_in base) H.present U r → At tests base subs H c → Same H (Out H U) (at_once r c) (at_once r (erased c))
   at_once_same H U (Good x) c g a = (refl, (refl, (g, a)))
-  at_once_same H U (Bad (Faulted code span)) c g a = (refl, refl)
+  at_once_same H U (Bad (Faulted code span)) c g a = (refl, refl, a.agrees.globals)
   at_once_same H U (Bad (Stuck mistake span)) c g a = absurd g
 
   -- where the two give the same

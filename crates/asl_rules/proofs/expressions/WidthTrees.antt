@@ -90,7 +90,7 @@ module _ (tests : Tests) (right : IsRight tests) (ds : List Decl) (base : List E
 
   in_range_same : (b : Bool) (H : Here) (z : ℤ) (span : Span) (c : Core) → At tests base subs H c → Same tests right base subs H (OutInt H z) (at_once (cond b (Good (int z)) (Bad (Faulted D01 span))) c) (at_once (cond b (Good (int z)) (Bad (Faulted D01 span))) (erased c))
   in_range_same true H z span c a = (refl, (refl, (refl, a)))
-  in_range_same false H z span c a = (refl, refl)
+  in_range_same false H z span c a = (refl, refl, a.agrees.globals)
 
   integer_same : (H : Here) (y z : ℤ) (span : Span) (c : Core) → y ≡ z → At tests base subs H c → Same tests right base subs H (OutInt H z) (at_once (integer_value span y) c) (at_once (integer_value span y) (erased c))
   integer_same H y z span c e a = subst (λ v. Same tests right base subs H (OutInt H v) (at_once (integer_value span y) c) (at_once (integer_value span y) (erased c))) e (in_range_same (in_range y) H y span c a)

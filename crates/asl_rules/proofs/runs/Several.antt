@@ -45,6 +45,7 @@ module _ {C D E F S T : Type 0} (w : Claims C D E F S T) where
     stmt_out = stmt_gives;
     expr_thrown = expr_throws;
     stmt_thrown = stmt_throws;
+    halted = w.halted;
   }
 
   abbrev pub BothGive : {A B G : Type 0} → (A → B → C → Type 0) → (A → G → C → Type 0) → A → B → C → Type 0
@@ -85,6 +86,8 @@ module _ {C D E F S T : Type 0} (w : Claims C D E F S T) where
     pub stmt : (j : w.J) (s : S) (t : T) (c : C) → w.stmt_in j s t c → Twins several (λ x y c1. (x ≡ y) × w.stmt_out j x c1) (w.stmt_thrown j) (n.stmt s c) (m.stmt t (w.seen c))
     pub expr_at : (i : w.I) (e : E) (f : F) (c : C) → w.expr_in i e f c → n.expr_at e ≡ m.expr_at f
     pub stmt_at : (j : w.J) (s : S) (t : T) (c : C) → w.stmt_in j s t c → n.stmt_at s ≡ m.stmt_at t
+    pub expr_halts : (i : w.I) (e : E) (f : F) (c : C) → w.expr_in i e f c → w.halted c
+    pub stmt_halts : (j : w.J) (s : S) (t : T) (c : C) → w.stmt_in j s t c → w.halted c
 
   module _ (n : Nodes C E S) (m : Nodes D F T) (s : Singles n m) where
     expr_several : (i : Several w.I) (e : E) (f : F) (c : C) → expr_enters i e f c → Twins several (λ x y c1. (x ≡ y) × expr_gives i x c1) (expr_throws i) (n.expr e c) (m.expr f (w.seen c))
@@ -109,6 +112,14 @@ module _ {C D E F S T : Type 0} (w : Claims C D E F S T) where
     stmt_placed (one j) x t c p = s.stmt_at j x t c p
     stmt_placed (two i j) x t c p = stmt_placed i x t c p.0
 
+    expr_halting : (i : Several w.I) (e : E) (f : F) (c : C) → expr_enters i e f c → w.halted c
+    expr_halting (one i) e f c p = s.expr_halts i e f c p
+    expr_halting (two i j) e f c p = expr_halting i e f c p.0
+
+    stmt_halting : (j : Several w.J) (x : S) (t : T) (c : C) → stmt_enters j x t c → w.halted c
+    stmt_halting (one j) x t c p = s.stmt_halts j x t c p
+    stmt_halting (two i j) x t c p = stmt_halting i x t c p.0
+
     -- so with several
     pub several_forms : Forms n m several
-    several_forms = record { expr = expr_several; stmt = stmt_several; expr_at = expr_placed; stmt_at = stmt_placed }
+    several_forms = record { expr = expr_several; stmt = stmt_several; expr_at = expr_placed; stmt_at = stmt_placed; expr_halts = expr_halting; stmt_halts = stmt_halting }

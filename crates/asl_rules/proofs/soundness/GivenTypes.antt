@@ -30,10 +30,10 @@ use Rattle.asl_rules.proofs.constants.KnownTypes.{GivesTypes, resting_agrees, al
 
 module _ (tests : Tests) (base : List Entry) (subs : List Signature) where
   gives_it : (H : Here) (S : Typed) (r : Outcome Core Value) (t : Outcome BareCore Value) →
-      SameEnd erased (λ x y c. (x ≡ y) × (InType (types_in base) H.present x S.ty × At tests base subs H c)) (λ x c. Over tests base subs H.scope.names H.present H.handled x c) r t → NotStuck r × GivesType base H.scope.names H.present S.ty r
+      SameEnd erased (λ c. GlobalsMatch base c.globals) (λ x y c. (x ≡ y) × (InType (types_in base) H.present x S.ty × At tests base subs H c)) (λ x c. Over tests base subs H.scope.names H.present H.handled x c) r t → NotStuck r × GivesType base H.scope.names H.present S.ty r
   gives_it H S (Done x c h) (Done y d k) q = (tt, (q.2.1.0, q.2.1.1.agrees))
   gives_it H S (Thrown x c h) (Thrown y d k) q = (tt, (q.3.raised, q.3.agrees.globals))
-  gives_it H S (Halt (Faulted code span) c h) (Halt e d k) q = (tt, tt)
+  gives_it H S (Halt (Faulted code span) c h) (Halt e d k) q = (tt, q.3)
   gives_it H S (Halt (Stuck mistake span) c h) t q = absurd q
   gives_it H S (Done x c h) (Thrown y d k) q = absurd q
   gives_it H S (Done x c h) (Halt e d k) q = absurd q

@@ -50,22 +50,22 @@ use Rattle.asl_rules.proofs.soundness.SoundnessStates.{agrees_sound}
 
 -- ---- ends
 
-not_stuck : {A B : Type 0} (Q : A → B → Core → Type 0) (R : Value → Core → Type 0) (r : Outcome Core A) (t : Outcome BareCore B) → SameEnd erased Q R r t → NotStuck r
-not_stuck Q R (Done x c h) t w = tt
-not_stuck Q R (Thrown x c h) t w = tt
-not_stuck Q R (Halt (Faulted code span) c h) t w = tt
-not_stuck Q R (Halt (Stuck mistake span) c h) t w = w
+not_stuck : {A B : Type 0} (K : Core → Type 0) (Q : A → B → Core → Type 0) (R : Value → Core → Type 0) (r : Outcome Core A) (t : Outcome BareCore B) → SameEnd erased K Q R r t → NotStuck r
+not_stuck K Q R (Done x c h) t w = tt
+not_stuck K Q R (Thrown x c h) t w = tt
+not_stuck K Q R (Halt (Faulted code span) c h) t w = tt
+not_stuck K Q R (Halt (Stuck mistake span) c h) t w = w
 
-same_end : {A : Type 0} (Z : A → Core → Type 0) (R : Value → Core → Type 0) (r : Outcome Core A) (t : Outcome BareCore A) → SameEnd erased (λ x y c. (x ≡ y) × Z x c) R r t → t ≡ erased_outcome r
-same_end Z R (Done x c h) (Done y d k) w = ap (λ z. Done y z k) (sym w.0) ∙ ap (λ z. Done y (erased c) z) (sym w.1) ∙ ap (λ z. Done z (erased c) h) (sym w.2.0)
-same_end Z R (Thrown x c h) (Thrown y d k) w = ap (λ z. Thrown y z k) (sym w.0) ∙ ap (λ z. Thrown y (erased c) z) (sym w.1) ∙ ap (λ z. Thrown z (erased c) h) (sym w.2)
-same_end Z R (Halt (Faulted code span) c h) (Halt e d k) w = ap (λ z. Halt e z k) (sym w.0) ∙ ap (λ z. Halt e (erased c) z) (sym w.1) ∙ ap (λ z. Halt z (erased c) h) (sym w.2)
-same_end Z R r t w = absurd w
+same_end : {A : Type 0} (K : Core → Type 0) (Z : A → Core → Type 0) (R : Value → Core → Type 0) (r : Outcome Core A) (t : Outcome BareCore A) → SameEnd erased K (λ x y c. (x ≡ y) × Z x c) R r t → t ≡ erased_outcome r
+same_end K Z R (Done x c h) (Done y d k) w = ap (λ z. Done y z k) (sym w.0) ∙ ap (λ z. Done y (erased c) z) (sym w.1) ∙ ap (λ z. Done z (erased c) h) (sym w.2.0)
+same_end K Z R (Thrown x c h) (Thrown y d k) w = ap (λ z. Thrown y z k) (sym w.0) ∙ ap (λ z. Thrown y (erased c) z) (sym w.1) ∙ ap (λ z. Thrown z (erased c) h) (sym w.2)
+same_end K Z R (Halt (Faulted code span) c h) (Halt e d k) w = ap (λ z. Halt e z k) (sym w.0) ∙ ap (λ z. Halt e (erased c) z) (sym w.1) ∙ ap (λ z. Halt z (erased c) h) (sym w.2)
+same_end K Z R r t w = absurd w
 
-kept : {A B : Type 0} (base : List Entry) (r : Outcome Core A) (t : Outcome BareCore B) (Z : A → B → Core → Type 0) → SameEnd erased (λ x y c. Z x y c × GlobalsMatch base c.globals) (λ x c. GlobalsMatch base c.globals) r t → KeepsGlobals base r
+kept : {A B : Type 0} (base : List Entry) (r : Outcome Core A) (t : Outcome BareCore B) (Z : A → B → Core → Type 0) → SameEnd erased (λ c. GlobalsMatch base c.globals) (λ x y c. Z x y c × GlobalsMatch base c.globals) (λ x c. GlobalsMatch base c.globals) r t → KeepsGlobals base r
 kept base (Done x c h) (Done y d k) Z w = w.2.1
 kept base (Thrown x c h) (Thrown y d k) Z w = w.3
-kept base (Halt e c h) t Z w = tt
+kept base (Halt (Faulted code span) c h) (Halt e d k) Z w = w.3
 kept base r t Z w = absurd w
 
 -- ---- before any subprogram is judged
@@ -141,7 +141,7 @@ module _ (tests : Tests) (right : IsRight tests) (ds : List Decl) (asked : Enter
 
   module _ (o : Others tests right ds base subs funcs w s) (q : OtherStmts tests right ds base subs funcs w) (calls : (id : ℕ) (args : List Value) (globals : List Binding) → IsCall whole id args globals → CallSame id args globals) where
     ends : (id : ℕ) (args : List Value) (globals : List Binding) (h : Meter) → IsCall whole id args globals →
-        SameEnd erased (λ x y c. (x ≡ y) × GlobalsMatch base c.globals) (λ x c. GlobalsMatch base c.globals) (run_of (environment tests ds) id args globals h) (tree_run (trees_of tests whole) id args (erased (resting globals)) h)
+        SameEnd erased (λ c. GlobalsMatch base c.globals) (λ x y c. (x ≡ y) × GlobalsMatch base c.globals) (λ x c. GlobalsMatch base c.globals) (run_of (environment tests ds) id args globals h) (tree_run (trees_of tests whole) id args (erased (resting globals)) h)
     unfolding run_of
     ends id args globals h k =
         twins_run (our tests base subs) (meaning (environment tests ds) most_open) (tree_meaning (trees_of tests whole) most_open) (all_meet tests right ds base subs funcs w s o q most_open)
@@ -160,7 +160,7 @@ module _ (tests : Tests) (right : IsRight tests) (ds : List Decl) (asked : Enter
     there G p c = record { scope = G; present = p; handled = c.handled }
 
     expr_ends : (d : ℕ) (e : Expr) (G : Scope) (S : Typed) (p : Assignment) (c : Core) (h : Meter) → typed tests e G ≡ Ok S → G.subs ≡ subs → Agrees base G.names p c →
-        SameEnd erased (λ x y c1. (x ≡ y) × (InType (types_in base) p x S.ty × At tests base subs (there G p c) c1)) (λ x c1. Over tests base subs G.names p c.handled x c1) ((meaning (environment tests ds) d).expr e c h) ((tree_meaning (trees_of tests whole) d).expr S.tree (erased c) h)
+        SameEnd erased (λ c1. GlobalsMatch base c1.globals) (λ x y c1. (x ≡ y) × (InType (types_in base) p x S.ty × At tests base subs (there G p c) c1)) (λ x c1. Over tests base subs G.names p c.handled x c1) ((meaning (environment tests ds) d).expr e c h) ((tree_meaning (trees_of tests whole) d).expr S.tree (erased c) h)
     expr_ends d e G S p c h t g k =
         (all_meet tests right ds base subs funcs w s o q d).expr (one (there G p c, of_type S)) e S.tree c h (record { answers = t; is_tree = refl; at = record { agrees = k; subs_are = g; handled_are = refl } })
 
@@ -169,7 +169,7 @@ module _ (tests : Tests) (right : IsRight tests) (ds : List Decl) (asked : Enter
     pub sound_with : GlobalsMatch base (initial_globals (environment tests ds)) → Soundness tests ds whole
     sound_with m = record {
       initial = m;
-      never_stuck = λ id args globals h k. not_stuck (λ x y c. (x ≡ y) × GlobalsMatch base c.globals) (λ x c. GlobalsMatch base c.globals) _ _ (ends id args globals h k);
+      never_stuck = λ id args globals h k. not_stuck (λ c. GlobalsMatch base c.globals) (λ x y c. (x ≡ y) × GlobalsMatch base c.globals) (λ x c. GlobalsMatch base c.globals) _ _ (ends id args globals h k);
       keeps_globals = λ id args globals h k. kept base _ _ (λ x y c. x ≡ y) (ends id args globals h k);
       visited = λ id args globals h k. all_seen _ (all_at id args globals h k);
       typed_values = λ d e G S p c h t g k. typed_run tests right ds base subs funcs w s o q d e (there G p c) S c h t (record { agrees = k; subs_are = g; handled_are = refl });
@@ -177,6 +177,6 @@ module _ (tests : Tests) (right : IsRight tests) (ds : List Decl) (asked : Enter
 
     pub same_with : SameMeaning tests ds whole
     same_with = record {
-      expr = λ d e G S p c h t g k. same_end (λ x c1. InType (types_in base) p x S.ty × At tests base subs (there G p c) c1) (λ x c1. Over tests base subs G.names p c.handled x c1) _ _ (expr_ends d e G S p c h t g k);
-      call = λ id args globals h k. same_end (λ x c. GlobalsMatch base c.globals) (λ x c. GlobalsMatch base c.globals) _ _ (ends id args globals h k);
+      expr = λ d e G S p c h t g k. same_end (λ c1. GlobalsMatch base c1.globals) (λ x c1. InType (types_in base) p x S.ty × At tests base subs (there G p c) c1) (λ x c1. Over tests base subs G.names p c.handled x c1) _ _ (expr_ends d e G S p c h t g k);
+      call = λ id args globals h k. same_end (λ c. GlobalsMatch base c.globals) (λ x c. GlobalsMatch base c.globals) (λ x c. GlobalsMatch base c.globals) _ _ (ends id args globals h k);
     }

@@ -18,12 +18,12 @@ hold_entered : {C E S : Type 0} (P : Entered E S → C → Type 0) (b : Bool) (v
 hold_entered P true v rest h k = tt
 hold_entered P false v rest h k = (h, k)
 
-visited : {C D A B E S : Type 0} (P : Entered E S → C → Type 0) (seen : C → D) (Q : A → B → C → Type 0) (R : Value → C → Type 0) (r : Outcome C A) (t : Outcome D B) (f : A → C → Meter → List (Visit C E S)) (g : Value → C → Meter → List (Visit C E S)) →
-    SameEnd seen Q R r t → ((x : A) (y : B) (c : C) (h : Meter) → Q x y c → AllHold P (f x c h)) → ((x : Value) (c : C) (h : Meter) → R x c → AllHold P (g x c h)) → AllHold P (after r f g)
-visited P seen Q R (Done x c h) (Done y d k) f g w go out = go x y c h w.2
-visited P seen Q R (Thrown x c h) (Thrown y d k) f g w go out = out x c h w.3
-visited P seen Q R (Halt e c h) t f g w go out = tt
-visited P seen Q R r t f g w go out = absurd w
+visited : {C D A B E S : Type 0} (P : Entered E S → C → Type 0) (seen : C → D) (K : C → Type 0) (Q : A → B → C → Type 0) (R : Value → C → Type 0) (r : Outcome C A) (t : Outcome D B) (f : A → C → Meter → List (Visit C E S)) (g : Value → C → Meter → List (Visit C E S)) →
+    SameEnd seen K Q R r t → ((x : A) (y : B) (c : C) (h : Meter) → Q x y c → AllHold P (f x c h)) → ((x : Value) (c : C) (h : Meter) → R x c → AllHold P (g x c h)) → AllHold P (after r f g)
+visited P seen K Q R (Done x c h) (Done y d k) f g w go out = go x y c h w.2
+visited P seen K Q R (Thrown x c h) (Thrown y d k) f g w go out = out x c h w.3
+visited P seen K Q R (Halt e c h) t f g w go out = tt
+visited P seen K Q R r t f g w go out = absurd w
 
 -- the visits below nodes of which something is claimed
 pub record VisitsHold {C D E F S T : Type 0} (w : Claims C D E F S T) (t : Trail C E S) (P : Entered E S → C → Type 0) : Type 0 where
@@ -37,16 +37,16 @@ module _ {C D E F S T : Type 0} (w : Claims C D E F S T) (m : Meaning C E S) (n 
   twins_visits Q R (Stop e c) q h s = tt
   twins_visits Q R (Eval e c k) (Eval f d l) h s =
       both_hold P (t.expr e c h) _ (u.expr s.0 e f c h s.1)
-      (visited P w.seen (λ x y c1. (x ≡ y) × w.expr_out s.0 x c1) (w.expr_thrown s.0) (m.expr e c h) (n.expr f (w.seen c) h) (λ x c1 h1. visits m t (k x c1) h1) (λ x c1 h1. []) (v.expr s.0 e f c h s.1)
+      (visited P w.seen w.halted (λ x y c1. (x ≡ y) × w.expr_out s.0 x c1) (w.expr_thrown s.0) (m.expr e c h) (n.expr f (w.seen c) h) (λ x c1 h1. visits m t (k x c1) h1) (λ x c1 h1. []) (v.expr s.0 e f c h s.1)
       (λ x y c1 h1 o. twins_visits Q R (k x c1) (l x (w.seen c1)) h1 (s.3 x c1 o.1)) (λ x c1 h1 o. tt))
   twins_visits Q R (Exec e c k) (Exec f d l) h s =
       both_hold P (t.stmt e c h) _ (u.stmt s.0 e f c h s.1)
-      (visited P w.seen (λ x y c1. (x ≡ y) × w.stmt_out s.0 x c1) (w.stmt_thrown s.0) (m.stmt e c h) (n.stmt f (w.seen c) h) (λ x c1 h1. visits m t (k x c1) h1) (λ x c1 h1. []) (v.stmt s.0 e f c h s.1)
+      (visited P w.seen w.halted (λ x y c1. (x ≡ y) × w.stmt_out s.0 x c1) (w.stmt_thrown s.0) (m.stmt e c h) (n.stmt f (w.seen c) h) (λ x c1 h1. visits m t (k x c1) h1) (λ x c1 h1. []) (v.stmt s.0 e f c h s.1)
       (λ x y c1 h1 o. twins_visits Q R (k x c1) (l x (w.seen c1)) h1 (s.3 x c1 o.1)) (λ x c1 h1 o. tt))
   twins_visits Q R (Put bytes p) (Put others q) h s = twins_visits Q R p q (wrote h bytes) s.1
   twins_visits Q R (Within p f g) (Within q k l) h s =
       both_hold P (visits m t p h) _ (twins_visits (λ x y c. Twins w Q R (f x c) (k y (w.seen c))) (λ x c. Twins w Q R (g x c) (l x (w.seen c))) p q h s)
-      (visited P w.seen (λ x y c. Twins w Q R (f x c) (k y (w.seen c))) (λ x c. Twins w Q R (g x c) (l x (w.seen c))) (run m p h) (run n q h) (λ x c1 h1. visits m t (f x c1) h1) (λ x c1 h1. visits m t (g x c1) h1)
+      (visited P w.seen w.halted (λ x y c. Twins w Q R (f x c) (k y (w.seen c))) (λ x c. Twins w Q R (g x c) (l x (w.seen c))) (run m p h) (run n q h) (λ x c1 h1. visits m t (f x c1) h1) (λ x c1 h1. visits m t (g x c1) h1)
       (twins_run w m n v (λ x y c. Twins w Q R (f x c) (k y (w.seen c))) (λ x c. Twins w Q R (g x c) (l x (w.seen c))) p q h s)
       (λ x y c1 h1 o. twins_visits Q R (f x c1) (k y (w.seen c1)) h1 o) (λ x c1 h1 o. twins_visits Q R (g x c1) (l x (w.seen c1)) h1 o))
   twins_visits Q R p q h s = absurd s

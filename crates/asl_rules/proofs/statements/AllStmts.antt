@@ -137,6 +137,8 @@ module _ (tests : Tests) (right : IsRight tests) (ds : List Decl) (base : List E
         (subst (λ u. ActSame tests right ds base subs funcs w j.0 (falls x) ((nodes (env tests right ds base subs funcs w)).stmt x c) (act_node (program tests right ds base subs funcs w) u (erased c))) p.0.is_tree r.does);
     expr_at = λ i e f c p. let r = asked_formed tests right ds base subs funcs w s o i.0 i.1 e c p.answers p.at in r.at ∙ ap tree_at p.is_tree;
     stmt_at = λ j x t c p. let r = stmt_acted tests right ds base subs funcs w q j.0 x c p.0.is_found (held_in j.0 x t c p.0) in r.at ∙ ap act_at p.0.is_tree;
+    expr_halts = λ i e f c p. p.at.agrees.globals;
+    stmt_halts = λ j x t c p. p.0.at.agrees.globals;
   }
 
   -- and what is claimed of it

@@ -296,7 +296,7 @@ module _ (tests : Tests) (right : IsRight tests) (ds : List Decl) (base : List E
       Same tests right base subs H Q (lift (pure.◌>>=◌ p (λ z. store span name z c)) c k) (lift (pure.◌>>=◌ q (λ z. put span (slot_of name (layout_of G.names)) z (erased c))) (erased c) l)
   stored_by Q span name s (Bad (Stuck mistake at)) q c k l e g a h m next = absurd g
   stored_by Q span name s (Bad (Faulted code at)) q c k l e g a h m next =
-      subst (λ r. Same tests right base subs H Q (lift (pure.◌>>=◌ (Bad (Faulted code at)) (λ z. store span name z c)) c k) (lift (pure.◌>>=◌ r (λ z. put span (slot_of name (layout_of G.names)) z (erased c))) (erased c) l)) e (refl, refl)
+      subst (λ r. Same tests right base subs H Q (lift (pure.◌>>=◌ (Bad (Faulted code at)) (λ z. store span name z c)) c k) (lift (pure.◌>>=◌ r (λ z. put span (slot_of name (layout_of G.names)) z (erased c))) (erased c) l)) e (refl, refl, a.agrees.globals)
   stored_by Q span name s (Good z) q c k l e g a h m next =
       let r = store_same av base G.names c span name z s w.outside a.agrees h m g in
       subst (λ r1. Same tests right base subs H Q (lift (store span name z c) c k) (lift (pure.◌>>=◌ r1 (λ y. put span (slot_of name (layout_of G.names)) y (erased c))) (erased c) l)) e

@@ -187,7 +187,7 @@ module _ (tests : Tests) (right : IsRight tests) (ds : List Decl) (base : List E
 
   while_turn_same : (n : ℕ) (j : StmtClaim) (span : Span) (e : Expr) (o : Operand) (l : Listed) (ss : List Stmt) (c : Core) → operand_of tests e j.body.scope ≡ Ok o → condition o ≡ Ok tt → block (map (found_stmt tests) ss) j.body ≡ Ok l → HeldAt j c → j.body.scope.names ≡ j.done.names →
       Both j true (while_turn frames span e ss n c) (while_turn in_bare span o.typed.tree (acts_of l.acts) n (erased c))
-  while_turn_same zero j span e o l ss c h k g held names = (refl, refl)
+  while_turn_same zero j span e o l ss c h k g held names = (refl, refl, held.at.agrees.globals)
   while_turn_same (suc n) j span e o l ss c h k g held names =
       turn_same j l ss (λ c2. asked span e c2 (while_turn frames span e ss n) done_normal) (λ c2. asked span o.typed.tree c2 (while_turn in_bare span o.typed.tree (acts_of l.acts) n) done_normal) c g held names
       (λ later c1 a. condition_same tests right ds base subs funcs w (later_on j later) (Out (later_on j later) true) span e o c1 (while_turn frames span e ss n) done_normal (while_turn in_bare span o.typed.tree (acts_of l.acts) n) done_normal h k a.at
@@ -196,7 +196,7 @@ module _ (tests : Tests) (right : IsRight tests) (ds : List Decl) (base : List E
 
   repeat_turn_same : (n : ℕ) (j : StmtClaim) (span : Span) (e : Expr) (o : Operand) (l : Listed) (ss : List Stmt) (c : Core) → operand_of tests e j.body.scope ≡ Ok o → condition o ≡ Ok tt → block (map (found_stmt tests) ss) j.body ≡ Ok l → HeldAt j c → j.body.scope.names ≡ j.done.names →
       Both j true (repeat_turn frames span e ss n c) (repeat_turn in_bare span o.typed.tree (acts_of l.acts) n (erased c))
-  repeat_turn_same zero j span e o l ss c h k g held names = (refl, refl)
+  repeat_turn_same zero j span e o l ss c h k g held names = (refl, refl, held.at.agrees.globals)
   repeat_turn_same (suc n) j span e o l ss c h k g held names =
       turn_same j l ss (λ c2. asked span e c2 done_normal (repeat_turn frames span e ss n)) (λ c2. asked span o.typed.tree c2 done_normal (repeat_turn in_bare span o.typed.tree (acts_of l.acts) n)) c g held names
       (λ later c1 a. condition_same tests right ds base subs funcs w (later_on j later) (Out (later_on j later) true) span e o c1 done_normal (repeat_turn frames span e ss n) done_normal (repeat_turn in_bare span o.typed.tree (acts_of l.acts) n) h k a.at

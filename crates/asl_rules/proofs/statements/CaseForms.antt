@@ -44,7 +44,7 @@ use Rattle.asl_rules.specs.Erasure.{erased}
 use Rattle.asl_rules.proofs.basics.Inversions.{ok_ok, bind_ok, then_ok, need_ok}
 use Rattle.asl_rules.proofs.basics.Tests.{or_first, or_second}
 use Rattle.asl_rules.proofs.scopes.Naming.{WellNamed, scope_good, well_declared}
-use Rattle.asl_rules.proofs.expressions.Claims.{Here, Asked, StmtClaim}
+use Rattle.asl_rules.proofs.expressions.Claims.{Here, Asked, StmtClaim, At}
 use Rattle.asl_rules.proofs.expressions.TreePlans.{AllAsked, AllGive, operand, truth_same, all_same, list_from, append_nil}
 use Rattle.asl_rules.proofs.expressions.MatchForms.{Decided, decided_then, asks_both, split, Known, pattern_says}
 use Rattle.asl_rules.proofs.expressions.ExprForms.{env}
@@ -153,15 +153,15 @@ module _ (tests : Tests) (right : IsRight tests) (ds : List Decl) (base : List E
       chosen false x y u v h k = k
 
   -- a value that is decided
-  decided_same : (j : StmtClaim) (b : Bool) (r : PureOf runs.Matched) (c : Core) (first second : Does Exit) (third fourth : Runs Exit) → Decided r [] → Both j b first third → Both j b second fourth →
+  decided_same : (j : StmtClaim) (b : Bool) (r : PureOf runs.Matched) (c : Core) (first second : Does Exit) (third fourth : Runs Exit) → At tests base subs (spot j) c → Decided r [] → Both j b first third → Both j b second fourth →
       Both j b (lift (pure.◌>>=◌ r (λ m. Good m.holds)) c (λ t. choose t first second)) (lift (pure.◌>>=◌ r (λ m. Good m.holds)) (erased c) (λ t. choose t third fourth))
-  decided_same j b (Good m) c x y u v d h k = by m.holds
+  decided_same j b (Good m) c x y u v a d h k = by m.holds
     where
       by : (t : Bool) → Both j b (choose t x y) (choose t u v)
       by true = h
       by false = k
-  decided_same j b (Bad (Faulted code span)) c x y u v d h k = (refl, refl)
-  decided_same j b (Bad (Stuck mistake span)) c x y u v d h k = absurd d
+  decided_same j b (Bad (Faulted code span)) c x y u v a d h k = (refl, refl, a.agrees.globals)
+  decided_same j b (Bad (Stuck mistake span)) c x y u v a d h k = absurd d
 
   -- the types of expressions, and of those in patterns
   formed_at : (j : StmtClaim) (c : Core) → HeldAt j c → (e : Expr) (S : Typed) → typed tests e j.body.scope ≡ Ok S → WellFormed (types_in base) S.ty
@@ -192,13 +192,13 @@ module _ (tests : Tests) (right : IsRight tests) (ds : List Decl) (base : List E
       (λ zs c1 y a1.
       let n = moved tests right ds base subs funcs w j c c1 held a1 in
       subst (λ s. Both j b (lift (is_matched tests.limit s zs v) c1 (λ t. choose t (guarded frames span e ss rest c1) (rest c1))) (lift (is_matched tests.limit (pattern_shapes m.value) zs v) (erased c1) (λ t. choose t (guarded in_bare span (tree_in o.value) (acts_of l.value.acts) others (erased c1)) (others (erased c1))))) (sym q.shapes_are)
-      (decided_same j b (any_match tests.limit (pattern_shapes m.value) v zs) c1 (guarded frames span e ss rest c1) (rest c1) (guarded in_bare span (tree_in o.value) (acts_of l.value.acts) others (erased c1)) (others (erased c1))
+      (decided_same j b (any_match tests.limit (pattern_shapes m.value) v zs) c1 (guarded frames span e ss rest c1) (rest c1) (guarded in_bare span (tree_in o.value) (acts_of l.value.acts) others (erased c1)) (others (erased c1)) a1
       (subst (λ u. Decided (any_match tests.limit (pattern_shapes m.value) v u) []) (append_nil zs) (q.decides v zs [] i y))
       (where_same j b span e o.value ss l.value rest others c1 o.first g l.first n names (λ z. f (fall_same ss ∙ z)) next) (next c1 n))))) k
 
   last_same : (j : StmtClaim) (b : Bool) (span : Span) (o : st.Otherwise-F Alternative Catcher ElseIf Otherwise Stmt) (l : LastListed) (c : Core) → last_block (otherwise_found (otherwise_opened tests o)) j.body ≡ Ok l → HeldAt j c → j.body.scope.names ≡ j.done.names → (otherwise_falls (otherwise_closed o) ≡ true → b ≡ true) →
       Both j b (no_match frames span (otherwise_layer o) c) (no_match in_bare span (last_of l.last) (erased c))
-  last_same j b span st.NoOtherwise l c h held names f = subst (λ (z : LastListed). Both j b (no_match frames span None c) (no_match in_bare span (last_of z.last) (erased c))) (ok_ok (record { effect = Pure; last = tree.none_last }) l h) (refl, refl)
+  last_same j b span st.NoOtherwise l c h held names f = subst (λ (z : LastListed). Both j b (no_match frames span None c) (no_match in_bare span (last_of z.last) (erased c))) (ok_ok (record { effect = Pure; last = tree.none_last }) l h) (refl, refl, held.at.agrees.globals)
   last_same j b span (st.Otherwise ss) l c h held names f =
       let m = bind_ok (block (map (found_stmt tests) ss) j.body) _ l h in
       subst (λ (z : LastListed). Both j b (no_match frames span (Some ss) c) (no_match in_bare span (last_of z.last) (erased c))) (ok_ok (record { effect = m.value.effect; last = tree.otherwise m.value.acts }) l m.then)

@@ -199,7 +199,7 @@ module _ (tests : Tests) (right : IsRight tests) (ds : List Decl) (base : List E
 
   index_turn_same : (n : ℕ) (j : StmtClaim) (span : Span) (i : Ident) (d : Direction) (a b : Expr) (ss : List Stmt) (l : Listed) (first last z : ℤ) (c : Core) → Loop j i d a b ss l → Holds_index j.present (index_type tests d a b j.body.scope) d first last → Between d first last z → HeldAt j c →
       Both j true (index_turn frames (with_index i) span d last ss n z c) (index_turn in_bare indexed span d last (acts_of l.acts) n z (erased c))
-  index_turn_same zero j span i d a b ss l first last z c k t p held = (refl, refl)
+  index_turn_same zero j span i d a b ss l first last z c k t p held = (refl, refl, held.at.agrees.globals)
   index_turn_same (suc n) j span i d a b ss l first last z c k t p held =
       let next = next_index d z in
       after_same tests right ds base subs funcs w j

@@ -105,7 +105,7 @@ module _ (tests : Tests) (right : IsRight tests) (ds : List Decl) (base : List E
   pass_acted j span c h k = let d = done j.body.scope.names Pure (tree.Pass span) in acted j true (st.Pass span) c d (ok_ok d j.done h) refl (λ e. (refl, (refl, ends_here j c d e refl k.at)))
 
   pub unreachable_acted : (j : StmtClaim) (b : Bool) (span : Span) (c : Core) → (let r : Result Done Fault = Ok (done j.body.scope.names Pure (tree.Unreachable span)) in r) ≡ Ok j.done → Held j c → Acted j b (st.Unreachable span) c
-  unreachable_acted j b span c h k = let d = done j.body.scope.names Pure (tree.Unreachable span) in acted j b (st.Unreachable span) c d (ok_ok d j.done h) refl (λ e. (refl, refl))
+  unreachable_acted j b span c h k = let d = done j.body.scope.names Pure (tree.Unreachable span) in acted j b (st.Unreachable span) c d (ok_ok d j.done h) refl (λ e. (refl, refl, k.at.agrees.globals))
 
   -- the class of a scope is nothing to a state
   abbrev pub in_class : Here → Scope → Here
@@ -113,7 +113,7 @@ module _ (tests : Tests) (right : IsRight tests) (ds : List Decl) (base : List E
 
   assert_by : (j : StmtClaim) (span : Span) (c : Core) (b : Bool) (d : Done) → d ≡ j.done → j.body.scope.names ≡ d.names → At tests base subs (here j) c → ActSame j true (choose b (done_normal c) (asserted span c)) (choose b (done_normal (erased c)) (asserted span (erased c)))
   assert_by j span c true d e n a = (refl, (refl, ends_here j c d e n a))
-  assert_by j span c false d e n a = (refl, refl)
+  assert_by j span c false d e n a = (refl, refl, a.agrees.globals)
 
   pub assert_acted : (j : StmtClaim) (span : Span) (e : Expr) (c : Core) → assert_rule tests span e j.body.scope ≡ Ok j.done → Held j c → Acted j true (st.Assert span e) c
   assert_acted j span e c h k =

@@ -54,7 +54,7 @@ use Rattle.asl_rules.proofs.scopes.BodiesOver.{one_added, below_more}
 use Rattle.asl_rules.proofs.scopes.Agreeing.{erased_declared}
 use Rattle.asl_rules.proofs.values.FirstFilled.{Unstuck, filled_begins}
 use Rattle.asl_rules.proofs.values.FirstPresent.{first_present}
-use Rattle.asl_rules.proofs.expressions.Claims.{StmtClaim}
+use Rattle.asl_rules.proofs.expressions.Claims.{StmtClaim, At}
 use Rattle.asl_rules.proofs.expressions.TreePlans.{all_same, append_nil, list_from}
 use Rattle.asl_rules.proofs.expressions.SizeForms.{type_says}
 use Rattle.asl_rules.proofs.statements.StmtForms.{here, Held, OutAct, ActSame, Acted, acted}
@@ -103,11 +103,11 @@ module _ (tests : Tests) (right : IsRight tests) (ds : List Decl) (base : List E
   -- ---- all names
 
   -- what both begin with
-  begun_same : (j : StmtClaim) (is : List Ident) (C : Closed) (r : PureOf Value) (c : Core) → Unstuck r → ((x : Value) → r ≡ Good x → ActSame tests right ds base subs funcs w j true (done_normal (declare_all is C x c)) (done_normal (with_next (replicate (length is) x) (erased c)))) →
+  begun_same : (j : StmtClaim) (is : List Ident) (C : Closed) (r : PureOf Value) (c : Core) → At tests base subs (here tests right ds base subs funcs w j) c → Unstuck r → ((x : Value) → r ≡ Good x → ActSame tests right ds base subs funcs w j true (done_normal (declare_all is C x c)) (done_normal (with_next (replicate (length is) x) (erased c)))) →
       ActSame tests right ds base subs funcs w j true (lift (r >>= λ x. Good (declare_all is C x c)) c done_normal) (lift (r >>= λ x. Good (with_next (replicate (length is) x) (erased c))) (erased c) done_normal)
-  begun_same j is C (Good x) c u f = f x refl
-  begun_same j is C (Bad (Faulted code span)) c u f = (refl, refl)
-  begun_same j is C (Bad (Stuck mistake span)) c u f = absurd u
+  begun_same j is C (Good x) c a u f = f x refl
+  begun_same j is C (Bad (Faulted code span)) c a u f = (refl, refl, a.agrees.globals)
+  begun_same j is C (Bad (Stuck mistake span)) c a u f = absurd u
 
   pub vars_acted : (j : StmtClaim) (span : Span) (is : List Ident) (t : TypeExpr) (c : Core) → vars_rule tests span is t j.body.scope ≡ Ok j.done → Held tests right ds base subs funcs w j c → Acted tests right ds base subs funcs w j true (st.LocalVars span is t) c
   vars_acted j span is t c h held =
@@ -138,7 +138,7 @@ module _ (tests : Tests) (right : IsRight tests) (ds : List Decl) (base : List E
       subst (λ o. ActSame tests right ds base subs funcs w j true (lift (type_or_stuck span o >>= λ s. s.first >>= λ x. Good (declare_all is s.type_is x c1)) c1 done_normal) (lift (bare.declared_first span (length is) (filled tests.limit at W.shape zs) (erased c1)) (erased c1) done_normal)) (sym untyped)
       (subst (λ o. ActSame tests right ds base subs funcs w j true (lift (one.first >>= λ x. Good (declare_all is one.type_is x c1)) c1 done_normal) (lift (bare.declared_first span (length is) o (erased c1)) (erased c1) done_normal)) (sym typed)
       (subst (λ D. ActSame tests right ds base subs funcs w j true (lift (one.first >>= λ x. Good (declare_all is D x c1)) c1 done_normal) (lift (one.first >>= λ x. Good (with_next (replicate (length is) x) (erased c1))) (erased c1) done_normal)) (sym k.type_is)
-      (begun_same j is C one.first c1 b.unstuck
+      (begun_same j is C one.first c1 a b.unstuck
       (λ x e.
       let belongs = first_present j.present (types_in base) (well_declared base w) tests.limit whole W.ty wf x (ap (first_value tests.limit whole) (sym k.type_is) ∙ b.first x e) in
       let r = each_begun is W.ty j.present x G.names n.value c1 n.first held.scope_good.over over wf belongs a.agrees in
