@@ -9,8 +9,8 @@ use Rattle.asl_rules.specs.Scopes.{Entry}
 use Rattle.asl_rules.specs.States.{Core}
 use Rattle.asl_rules.specs.Plans.{Meter, Outcome, Done, Thrown, Halt, handle, Plan, Ret, Stop, Eval, Within, run, enter, Pure, Good, Bad}
 use Rattle.asl_rules.specs.Pures.{◌>>=◌}
-use Rattle.asl_rules.specs.ByNames.{expr_plan}
-use Rattle.asl_rules.specs.Constants.{Known, before_runs, known_parts, settled, layer_at, constant}
+use Rattle.asl_rules.specs.ByNames.{expr_plan, layer_at}
+use Rattle.asl_rules.specs.Constants.{Known, before_runs, known_parts, settled, constant}
 use Rattle.asl_rules.specs.Programs.{Environment}
 use Rattle.asl_rules.specs.Evaluation.{in_state, tree_parts, meaning}
 use Rattle.asl_rules.specs.BeforeRuns.{HoldsInitial, EndsSo, IsBarred, HoldsCall, Enough, OneEvaluation}
