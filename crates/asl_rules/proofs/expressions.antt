@@ -2,6 +2,7 @@
 pub mod OperatorForms
 pub mod Claims
 pub mod ElementForms
+pub mod Places
 pub mod ExprForms
 pub mod FieldForms
 pub mod Twins

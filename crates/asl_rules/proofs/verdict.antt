@@ -4,8 +4,8 @@ pub mod OneVerdict
 pub mod OneReport
 pub mod Alike
 pub mod SameRules
-pub mod SameNames
 pub mod SameConstants
+pub mod SameNames
 pub mod SameDeclarations
 pub mod Distinct
 pub mod Settling

@@ -11,7 +11,7 @@ use Rattle.asl_rules.specs.Values.{Value}
 use Rattle.asl_rules.specs.Scopes.{Entry, Standing, Stored, Subprogram, TypeName, Label, standing_of}
 use Rattle.asl_rules.specs.Plans.{Stuck, NothingCaught, CallBarred, Plan, Ret, Raise, Stop, Eval, Exec, Put, Within, Pure, Good, Bad}
 use Rattle.asl_rules.specs.Pures.{◌>>=◌, known}
-use Rattle.asl_rules.specs.ByNames.{Asks, Views, expr_plan, types_among}
+use Rattle.asl_rules.specs.ByNames.{Asks, Views, expr_plan, layer_at, types_among}
 
 -- the value of an expression where these names are visible
 abbrev pub Known : Type 0
@@ -46,25 +46,6 @@ settled span names (Eval e c k) = e names >>= λ x. settled span names (k x name
 settled span names (Exec s c k) = Bad (Stuck CallBarred span)
 settled span names (Put bytes q) = settled span names q
 settled span names (Within q f g) = settled span names q >>= λ x. settled span names (f x names)
-
--- where an expression stands
-abbrev pub layer_at : {B I E F P L T : Type 0} → ex.Expr-F B I E F P L T → Span
-layer_at (ex.Int span n) = span
-layer_at (ex.Bits span t) = span
-layer_at (ex.Bool span b) = span
-layer_at (ex.Name span t) = span
-layer_at (ex.Unary span o a) = span
-layer_at (ex.Binary span o a b) = span
-layer_at (ex.Conditional span c a b) = span
-layer_at (ex.Tuple span xs) = span
-layer_at (ex.Construct span i fs) = span
-layer_at (ex.Call span i ps xs) = span
-layer_at (ex.Field span a i) = span
-layer_at (ex.Fields span a iss) = span
-layer_at (ex.Slices span a ss) = span
-layer_at (ex.Element span a i) = span
-layer_at (ex.As span a t) = span
-layer_at (ex.In span a p) = span
 
 abbrev pub ConstantLayer : Type 0
 ConstantLayer = ex.Expr-F (Shaped BitfieldShape Known) (Shaped PartShape Known) Known (Shaped (List ℕ) Known) (Shaped PatternShape Known) (Shaped SliceShape Known) (Shaped TypeOver Known)

@@ -23,6 +23,7 @@ pub mod Structures
 pub mod Matching
 pub mod Routines
 pub mod Library
+pub mod Arithmetic
 pub mod Numbers
 pub mod Alone
 pub mod Written

@@ -1,58 +1,24 @@
 -- The numbers that width expressions stand for, where names stand for integers. They are plain integers, which no limit
 -- bounds, and to find them takes no step.
-use Rattle.std.specs.Prelude.{ℕ, ℤ, pos, ◌+ℤ◌, ◌-ℤ◌, ◌*ℤ◌, List, [], ◌∷◌, if◌then◌else◌, Option, Some, None, option_map, option_and_then}
+use Rattle.std.specs.Prelude.{ℕ, ℤ, pos, ◌+ℤ◌, ◌-ℤ◌, ◌*ℤ◌, List, [], ◌∷◌, if◌then◌else◌, Option, Some, None, option_map}
 use Rattle.std.specs.Str.{bytes_eq}
 use Rattle.asl_syn.specs.declared.tree.Expr.{Expr}
-use Rattle.asl_syn.specs.declared.tree.UnaryOperator.{UnaryOperator}
-use Rattle.asl_syn.specs.declared.tree.UnaryOperator.TheVariants as unary
-use Rattle.asl_syn.specs.declared.tree.BinaryOperator.{BinaryOperator}
-use Rattle.asl_syn.specs.declared.tree.BinaryOperator.TheVariants as binary
-use Rattle.asl_syn.specs.declared.tree.Bitfield.TheOpen as ex
-use Rattle.asl_syn.specs.declared.tree.Bitfield.TheFolds.{fold-Expr}
 use Rattle.asl_rules.specs.Values.{Value, int}
 use Rattle.asl_rules.specs.States.{Binding, Core}
+use Rattle.asl_rules.specs.Arithmetic.{Arithmetic, Named, Worth, worth}
 
 -- which integers names stand for
 abbrev pub Numbers : Type 0
-Numbers = List ℕ → Option ℤ
+Numbers = Named ℤ
 
 abbrev pub NumberOf : Type 0
-NumberOf = Numbers → Option ℤ
+NumberOf = Worth ℤ
 
-abbrev pub Unread : Type 0
-Unread = Unit {0}
-
-abbrev pub of_two : BinaryOperator → ℤ → ℤ → Option ℤ
-of_two binary.Add a b = Some (a +ℤ b)
-of_two binary.Subtract a b = Some (a -ℤ b)
-of_two binary.Multiply a b = Some (a *ℤ b)
-of_two o a b = None
-
-abbrev pub of_one : UnaryOperator → ℤ → Option ℤ
-of_one unary.Negate a = Some (pos 0 -ℤ a)
-of_one unary.Not a = None
-of_one unary.Complement a = None
-
-abbrev pub number_layer : ex.Expr-F Unread Unread NumberOf Unread Unread Unread Unread → NumberOf
-number_layer (ex.Int span n) f = Some (pos n)
-number_layer (ex.Bits span t) f = None
-number_layer (ex.Bool span b) f = None
-number_layer (ex.Name span name) f = f name
-number_layer (ex.Unary span o a) f = option_and_then (of_one o) (a f)
-number_layer (ex.Binary span o a b) f = option_and_then (λ x. option_and_then (of_two o x) (b f)) (a f)
-number_layer (ex.Conditional span c a b) f = None
-number_layer (ex.Tuple span es) f = None
-number_layer (ex.Construct span i fs) f = None
-number_layer (ex.Call span i ps es) f = None
-number_layer (ex.Field span a i) f = None
-number_layer (ex.Fields span a iss) f = None
-number_layer (ex.Slices span a ss) f = None
-number_layer (ex.Element span a i) f = None
-number_layer (ex.As span a t) f = None
-number_layer (ex.In span a p) f = None
+abbrev pub integers : Arithmetic ℤ
+integers = record { literal = pos; plus = ◌+ℤ◌; minus = ◌-ℤ◌; times = ◌*ℤ◌ }
 
 abbrev pub number : Expr → NumberOf
-number = fold-Expr Unread Unread NumberOf Unread Unread Unread Unread (λ _. tt) (λ _. tt) number_layer (λ _. tt) (λ _. tt) (λ _. tt) (λ _. tt)
+number = worth integers
 
 -- ---- the names of a state that can't be assigned
 

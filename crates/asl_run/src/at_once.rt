@@ -64,12 +64,8 @@ fn plain(value: &Value) -> AtOnce
     match value {
         Value::Int(z) => AtOnce::Integer(*z),
         Value::Bool(b) => AtOnce::Truth(*b),
-        Value::Bits(_, _) => AtOnce::Neither,
-        Value::Label(_, _) => AtOnce::Neither,
-        Value::Record(_, _) => AtOnce::Neither,
-        Value::Exception(_, _, _, _) => AtOnce::Neither,
-        Value::Tuple(_) => AtOnce::Neither,
-        Value::Array(_, _) => AtOnce::Neither,
+        // any other value may be left to the node
+        _ => AtOnce::Neither,
     }
 }
 
@@ -226,12 +222,7 @@ fn has_plain_elements(array: &Value) -> bool {
         Value::Array(kind, _) => match kind.get() {
             Kind::Integers => true,
             Kind::Booleans => true,
-            Kind::Bitvectors => false,
-            Kind::Enumerations(_) => false,
-            Kind::Records(_) => false,
-            Kind::Exceptions(_) => false,
-            Kind::Tuples(_) => false,
-            Kind::Arrays(_, _) => false,
+            _ => false,
         },
         _ => false,
     }
@@ -382,16 +373,8 @@ fn node(run: &Run, left: &mut u64, reach: Reach, e: &Tree) -> AtOnce
             _ => AtOnce::Neither,
         },
         Tree::Unary(_, operator, a) => unary(run, left, reach, *operator, a.get()),
-        Tree::Conditional(_, _, _, _) => AtOnce::Neither,
-        Tree::Tuple(_, _) => AtOnce::Neither,
-        Tree::Construct(_, _, _, _) => AtOnce::Neither,
-        Tree::Call(_, _, _, _, _) => AtOnce::Neither,
-        Tree::Field(_, _, _) => AtOnce::Neither,
-        Tree::Bitfield(_, _, _) => AtOnce::Neither,
-        Tree::Bitfields(_, _, _) => AtOnce::Neither,
-        Tree::Slices(_, _, _, _) => AtOnce::Neither,
-        Tree::As(_, _, _, _) => AtOnce::Neither,
-        Tree::In(_, _, _, _) => AtOnce::Neither,
+        // any form may be left to its node
+        _ => AtOnce::Neither,
     }
 }
 
@@ -502,15 +485,8 @@ fn simple(run: &mut Run, steps: u64, depth: u32, s: &Simple) -> bool
 {
     match s {
         Simple::Assign(_, targets, e) => assign_one(run, steps, depth, targets.as_slice(), e),
-        Simple::Pass(_) => false,
-        Simple::Unreachable(_) => false,
-        Simple::Assert(_, _) => false,
-        Simple::Declare(_, _, _, _) => false,
-        Simple::DeclareFirst(_, _, _, _, _) => false,
-        Simple::Invoke(_, _, _, _, _) => false,
-        Simple::Return(_, _) => false,
-        Simple::Throw(_, _) => false,
-        Simple::Print(_, _, _) => false,
+        // any form may be left to its node
+        _ => false,
     }
 }
 
@@ -525,11 +501,7 @@ pub fn executed(run: &mut Run, depth: u32, s: &Act) -> bool
     }
     match s {
         Act::Simple(s) => simple(run, steps - 1, depth - 1, s),
-        Act::If(_, _, _, _, _) => false,
-        Act::Case(_, _, _, _) => false,
-        Act::For(_, _, _) => false,
-        Act::While(_, _, _) => false,
-        Act::Repeat(_, _, _) => false,
-        Act::Try(_, _, _, _) => false,
+        // any form may be left to its node
+        _ => false,
     }
 }

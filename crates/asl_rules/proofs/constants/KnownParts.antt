@@ -95,16 +95,22 @@ module _ (limit : ℕ) where
 
   -- ---- fields, slices, ranges and bitfields
 
-  given_in : (x : ex.FieldValue-F Bitfield ConstraintPart Expr FieldValue Pattern Slice TypeExpr) → given_layer itself (map-FieldValue Bitfield ConstraintPart Expr FieldValue Pattern Slice TypeExpr (Shaped BitfieldShape Known) (Shaped PartShape Known) Known (Shaped (List ℕ) Known) (Shaped PatternShape Known) (Shaped SliceShape Known) (Shaped TypeOver Known)
-      known_bitfield known_part (constant limit) known_given known_pattern known_slice known_type x) ≡ with_known (given_layer itself x)
+  abbrev pub given_opened : ex.FieldValue-F Bitfield ConstraintPart Expr FieldValue Pattern Slice TypeExpr → Shaped (List ℕ) Known
+  given_opened x = given_layer itself (map-FieldValue Bitfield ConstraintPart Expr FieldValue Pattern Slice TypeExpr (Shaped BitfieldShape Known) (Shaped PartShape Known) Known (Shaped (List ℕ) Known) (Shaped PatternShape Known) (Shaped SliceShape Known) (Shaped TypeOver Known)
+      known_bitfield known_part (constant limit) known_given known_pattern known_slice known_type x)
+
+  given_in : (x : ex.FieldValue-F Bitfield ConstraintPart Expr FieldValue Pattern Slice TypeExpr) → given_opened x ≡ with_known (given_layer itself x)
   given_in (ex.Given i e) = refl
 
   pub given_known : (f : FieldValue) → known_given f ≡ with_known (given_parts f)
   given_known f = fold_out-FieldValue (Shaped BitfieldShape Known) (Shaped PartShape Known) Known (Shaped (List ℕ) Known) (Shaped PatternShape Known) (Shaped SliceShape Known) (Shaped TypeOver Known)
       (bitfield_layer itself) (part_layer itself) (constant_layer limit) (given_layer itself) (pattern_layer itself itself) (slice_layer itself) (type_layer itself itself itself itself) f ∙ given_in (out-FieldValue f)
 
-  slice_in : (x : ex.Slice-F Bitfield ConstraintPart Expr FieldValue Pattern Slice TypeExpr) → slice_layer itself (map-Slice Bitfield ConstraintPart Expr FieldValue Pattern Slice TypeExpr (Shaped BitfieldShape Known) (Shaped PartShape Known) Known (Shaped (List ℕ) Known) (Shaped PatternShape Known) (Shaped SliceShape Known) (Shaped TypeOver Known)
-      known_bitfield known_part (constant limit) known_given known_pattern known_slice known_type x) ≡ with_known (slice_layer itself x)
+  abbrev pub slice_opened : ex.Slice-F Bitfield ConstraintPart Expr FieldValue Pattern Slice TypeExpr → Shaped SliceShape Known
+  slice_opened x = slice_layer itself (map-Slice Bitfield ConstraintPart Expr FieldValue Pattern Slice TypeExpr (Shaped BitfieldShape Known) (Shaped PartShape Known) Known (Shaped (List ℕ) Known) (Shaped PatternShape Known) (Shaped SliceShape Known) (Shaped TypeOver Known)
+      known_bitfield known_part (constant limit) known_given known_pattern known_slice known_type x)
+
+  slice_in : (x : ex.Slice-F Bitfield ConstraintPart Expr FieldValue Pattern Slice TypeExpr) → slice_opened x ≡ with_known (slice_layer itself x)
   slice_in (ex.BitAt i) = refl
   slice_in (ex.HighLow h l) = refl
   slice_in (ex.LowWidth l w) = refl
@@ -114,8 +120,11 @@ module _ (limit : ℕ) where
   slice_known s = fold_out-Slice (Shaped BitfieldShape Known) (Shaped PartShape Known) Known (Shaped (List ℕ) Known) (Shaped PatternShape Known) (Shaped SliceShape Known) (Shaped TypeOver Known)
       (bitfield_layer itself) (part_layer itself) (constant_layer limit) (given_layer itself) (pattern_layer itself itself) (slice_layer itself) (type_layer itself itself itself itself) s ∙ slice_in (out-Slice s)
 
-  range_in : (x : ex.ConstraintPart-F Bitfield ConstraintPart Expr FieldValue Pattern Slice TypeExpr) → part_layer itself (map-ConstraintPart Bitfield ConstraintPart Expr FieldValue Pattern Slice TypeExpr (Shaped BitfieldShape Known) (Shaped PartShape Known) Known (Shaped (List ℕ) Known) (Shaped PatternShape Known) (Shaped SliceShape Known) (Shaped TypeOver Known)
-      known_bitfield known_part (constant limit) known_given known_pattern known_slice known_type x) ≡ with_known (part_layer itself x)
+  abbrev pub range_opened : ex.ConstraintPart-F Bitfield ConstraintPart Expr FieldValue Pattern Slice TypeExpr → Shaped PartShape Known
+  range_opened x = part_layer itself (map-ConstraintPart Bitfield ConstraintPart Expr FieldValue Pattern Slice TypeExpr (Shaped BitfieldShape Known) (Shaped PartShape Known) Known (Shaped (List ℕ) Known) (Shaped PatternShape Known) (Shaped SliceShape Known) (Shaped TypeOver Known)
+      known_bitfield known_part (constant limit) known_given known_pattern known_slice known_type x)
+
+  range_in : (x : ex.ConstraintPart-F Bitfield ConstraintPart Expr FieldValue Pattern Slice TypeExpr) → range_opened x ≡ with_known (part_layer itself x)
   range_in (ex.Only e) = refl
   range_in (ex.FromTo a b) = refl
 
@@ -123,8 +132,11 @@ module _ (limit : ℕ) where
   range_known p = fold_out-ConstraintPart (Shaped BitfieldShape Known) (Shaped PartShape Known) Known (Shaped (List ℕ) Known) (Shaped PatternShape Known) (Shaped SliceShape Known) (Shaped TypeOver Known)
       (bitfield_layer itself) (part_layer itself) (constant_layer limit) (given_layer itself) (pattern_layer itself itself) (slice_layer itself) (type_layer itself itself itself itself) p ∙ range_in (out-ConstraintPart p)
 
-  bitfield_in : (x : ex.Bitfield-F Bitfield ConstraintPart Expr FieldValue Pattern Slice TypeExpr) → bitfield_layer itself (map-Bitfield Bitfield ConstraintPart Expr FieldValue Pattern Slice TypeExpr (Shaped BitfieldShape Known) (Shaped PartShape Known) Known (Shaped (List ℕ) Known) (Shaped PatternShape Known) (Shaped SliceShape Known) (Shaped TypeOver Known)
-      known_bitfield known_part (constant limit) known_given known_pattern known_slice known_type x) ≡ with_known (bitfield_layer itself x)
+  abbrev pub bitfield_opened : ex.Bitfield-F Bitfield ConstraintPart Expr FieldValue Pattern Slice TypeExpr → Shaped BitfieldShape Known
+  bitfield_opened x = bitfield_layer itself (map-Bitfield Bitfield ConstraintPart Expr FieldValue Pattern Slice TypeExpr (Shaped BitfieldShape Known) (Shaped PartShape Known) Known (Shaped (List ℕ) Known) (Shaped PatternShape Known) (Shaped SliceShape Known) (Shaped TypeOver Known)
+      known_bitfield known_part (constant limit) known_given known_pattern known_slice known_type x)
+
+  bitfield_in : (x : ex.Bitfield-F Bitfield ConstraintPart Expr FieldValue Pattern Slice TypeExpr) → bitfield_opened x ≡ with_known (bitfield_layer itself x)
   bitfield_in (ex.OneBit e i) = refl
   bitfield_in (ex.BitRange h l i) = refl
 
@@ -144,7 +156,7 @@ module _ (limit : ℕ) where
   pattern_trees = map-Pattern ((b : Bitfield) × Any b) ((p : ConstraintPart) × Any p) ((e : Expr) × Any e) ((f : FieldValue) × Any f) ((p : Pattern) × SamePattern p) ((s : Slice) × Any s) ((t : TypeExpr) × Any t)
       Bitfield ConstraintPart Expr FieldValue Pattern Slice TypeExpr (λ b. b.0) (λ p. p.0) (λ e. e.0) (λ f. f.0) (λ p. p.0) (λ s. s.0) (λ t. t.0)
 
-  abbrev pattern_opened : PatternLayer → Shaped PatternShape Known
+  abbrev pub pattern_opened : PatternLayer → Shaped PatternShape Known
   pattern_opened x = pattern_layer itself itself (map-Pattern Bitfield ConstraintPart Expr FieldValue Pattern Slice TypeExpr (Shaped BitfieldShape Known) (Shaped PartShape Known) Known (Shaped (List ℕ) Known) (Shaped PatternShape Known) (Shaped SliceShape Known) (Shaped TypeOver Known)
       known_bitfield known_part (constant limit) known_given known_pattern known_slice known_type x)
 
@@ -189,7 +201,7 @@ module _ (limit : ℕ) where
   type_trees = map-TypeExpr ((b : Bitfield) × Any b) ((p : ConstraintPart) × Any p) ((e : Expr) × Any e) ((f : FieldValue) × Any f) ((p : Pattern) × Any p) ((s : Slice) × Any s) ((t : TypeExpr) × SameType t)
       Bitfield ConstraintPart Expr FieldValue Pattern Slice TypeExpr (λ b. b.0) (λ p. p.0) (λ e. e.0) (λ f. f.0) (λ p. p.0) (λ s. s.0) (λ t. t.0)
 
-  abbrev type_opened : TypeLayer → Shaped TypeOver Known
+  abbrev pub type_opened : TypeLayer → Shaped TypeOver Known
   type_opened x = type_layer itself itself itself itself (map-TypeExpr Bitfield ConstraintPart Expr FieldValue Pattern Slice TypeExpr (Shaped BitfieldShape Known) (Shaped PartShape Known) Known (Shaped (List ℕ) Known) (Shaped PatternShape Known) (Shaped SliceShape Known) (Shaped TypeOver Known)
       known_bitfield known_part (constant limit) known_given known_pattern known_slice known_type x)
 

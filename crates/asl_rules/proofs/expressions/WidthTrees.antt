@@ -183,8 +183,6 @@ module _ (tests : Tests) (right : IsRight tests) (ds : List Decl) (base : List E
   width_layer H W (ex.Int span n) c h a = width_int H W span n c h a
   width_layer H W (ex.Name span name) c h a = width_name H W span name c h a
   width_layer H W (ex.Unary span unary.Negate e) c h a = width_negated H W span e c h a
-  width_layer H W (ex.Unary span unary.Not e) c h a = err_ok (fault_of T19 span) W h
-  width_layer H W (ex.Unary span unary.Complement e) c h a = err_ok (fault_of T19 span) W h
   width_layer H W (ex.Binary span o e f) c h a = by (has_width o) h
     where
       by : (b : Bool) → (cond b ((found tests e).width H.scope >>= λ p. (found tests f).width H.scope >>= λ q. width_of_operation span o p q) (fault T19 span)) ≡ Ok W → Widened H (of_width W) (ex.Binary span o e f) c
@@ -193,18 +191,8 @@ module _ (tests : Tests) (right : IsRight tests) (ds : List Decl) (base : List E
           let u = bind_ok (width tests f H.scope) _ W t.then in
           width_combined H W span o e f t.value u.value c t.first u.first u.then a
       by false k = err_ok (fault_of T19 span) W k
-  width_layer H W (ex.Bits span t) c h a = err_ok (fault_of T19 span) W h
-  width_layer H W (ex.Bool span b) c h a = err_ok (fault_of T19 span) W h
-  width_layer H W (ex.Conditional span x y z) c h a = err_ok (fault_of T19 span) W h
-  width_layer H W (ex.Tuple span es) c h a = err_ok (fault_of T19 span) W h
-  width_layer H W (ex.Construct span i fs) c h a = err_ok (fault_of T19 span) W h
-  width_layer H W (ex.Call span i ps es) c h a = err_ok (fault_of T19 span) W h
-  width_layer H W (ex.Field span x i) c h a = err_ok (fault_of T19 span) W h
-  width_layer H W (ex.Fields span x is) c h a = err_ok (fault_of T19 span) W h
-  width_layer H W (ex.Slices span x ss) c h a = err_ok (fault_of T19 span) W h
-  width_layer H W (ex.Element span x i) c h a = err_ok (fault_of T19 span) W h
-  width_layer H W (ex.As span x t) c h a = err_ok (fault_of T19 span) W h
-  width_layer H W (ex.In span x p) c h a = err_ok (fault_of T19 span) W h
+  -- no other form is a width
+  width_layer H W layer c h a = err_ok (fault_of T19 _) W h
 
   -- ---- numbers
 
@@ -253,8 +241,6 @@ module _ (tests : Tests) (right : IsRight tests) (ds : List Decl) (base : List E
       let u = bind_ok (number_of_standing span (standing_of name H.scope.names)) _ N h in
       number_of H N (ex.Name span name) c u.value (name_read span name H.scope) (ok_ok (number_as u.value (name_read span name H.scope)) N u.then) refl (number_by H span name (standing_of name H.scope.names) u.value c refl u.first a)
   number_layer H N (ex.Unary span unary.Negate e) c h a = number_negated H N span e c h a
-  number_layer H N (ex.Unary span unary.Not e) c h a = err_ok (fault_of T19 span) N h
-  number_layer H N (ex.Unary span unary.Complement e) c h a = err_ok (fault_of T19 span) N h
   number_layer H N (ex.Binary span o e f) c h a = by (has_width o) h
     where
       by : (b : Bool) → (cond b ((found tests e).number H.scope >>= λ p. (found tests f).number H.scope >>= λ q. number_of_operation span o p q) (fault T19 span)) ≡ Ok N → Widened H (of_number N) (ex.Binary span o e f) c
@@ -263,18 +249,8 @@ module _ (tests : Tests) (right : IsRight tests) (ds : List Decl) (base : List E
           let u = bind_ok ((found tests f).number H.scope) _ N t.then in
           number_combined H N span o e f t.value u.value c t.first u.first u.then a
       by false k = err_ok (fault_of T19 span) N k
-  number_layer H N (ex.Bits span t) c h a = err_ok (fault_of T19 span) N h
-  number_layer H N (ex.Bool span b) c h a = err_ok (fault_of T19 span) N h
-  number_layer H N (ex.Conditional span x y z) c h a = err_ok (fault_of T19 span) N h
-  number_layer H N (ex.Tuple span es) c h a = err_ok (fault_of T19 span) N h
-  number_layer H N (ex.Construct span i fs) c h a = err_ok (fault_of T19 span) N h
-  number_layer H N (ex.Call span i ps es) c h a = err_ok (fault_of T19 span) N h
-  number_layer H N (ex.Field span x i) c h a = err_ok (fault_of T19 span) N h
-  number_layer H N (ex.Fields span x is) c h a = err_ok (fault_of T19 span) N h
-  number_layer H N (ex.Slices span x ss) c h a = err_ok (fault_of T19 span) N h
-  number_layer H N (ex.Element span x i) c h a = err_ok (fault_of T19 span) N h
-  number_layer H N (ex.As span x t) c h a = err_ok (fault_of T19 span) N h
-  number_layer H N (ex.In span x p) c h a = err_ok (fault_of T19 span) N h
+  -- no other form is a width
+  number_layer H N layer c h a = err_ok (fault_of T19 _) N h
 
   -- what is asked of an expression as a width or a number
   pub width_formed : (H : Here) (W : Width) (e : Expr) (c : Core) → width tests e H.scope ≡ Ok W → At tests base subs H c → Widened H (of_width W) (out-Expr e) c
@@ -338,8 +314,6 @@ module _ (tests : Tests) (right : IsRight tests) (ds : List Decl) (base : List E
       let u = bind_ok (width_of_standing span (standing_of name H.scope.names)) _ W k in
       known_by H S W span name (standing_of name H.scope.names) u.value c refl h u.first (ok_ok (width_as u.value (name_read span name H.scope)) W u.then) a
   known_layer H S W (ex.Unary span unary.Negate e) c h k a = known_negated H S W span e c h k a
-  known_layer H S W (ex.Unary span unary.Not e) c h k a = err_ok (fault_of T19 span) W k
-  known_layer H S W (ex.Unary span unary.Complement e) c h k a = err_ok (fault_of T19 span) W k
   known_layer H S W (ex.Binary span o e f) c h k a = by (has_width o) k
     where
       by : (b : Bool) → (cond b ((found tests e).width H.scope >>= λ p. (found tests f).width H.scope >>= λ q. width_of_operation span o p q) (fault T19 span)) ≡ Ok W → Widened H (of_known S W) (ex.Binary span o e f) c
@@ -352,18 +326,8 @@ module _ (tests : Tests) (right : IsRight tests) (ds : List Decl) (base : List E
           let i = greater m.value.effect n.value.effect in
           known_combined H S W span o e f m.value n.value t.value u.value j.value i c (finish_is H.scope.class span (together m.value.effect n.value.effect) i j.value (λ v. tree.Binary v o m.value.tree n.value.tree) S j.then) (m.first, t.first) (n.first, u.first) u.then a
       by false g = err_ok (fault_of T19 span) W g
-  known_layer H S W (ex.Bits span t) c h k a = err_ok (fault_of T19 span) W k
-  known_layer H S W (ex.Bool span b) c h k a = err_ok (fault_of T19 span) W k
-  known_layer H S W (ex.Conditional span x y z) c h k a = err_ok (fault_of T19 span) W k
-  known_layer H S W (ex.Tuple span es) c h k a = err_ok (fault_of T19 span) W k
-  known_layer H S W (ex.Construct span i fs) c h k a = err_ok (fault_of T19 span) W k
-  known_layer H S W (ex.Call span i ps es) c h k a = err_ok (fault_of T19 span) W k
-  known_layer H S W (ex.Field span x i) c h k a = err_ok (fault_of T19 span) W k
-  known_layer H S W (ex.Fields span x is) c h k a = err_ok (fault_of T19 span) W k
-  known_layer H S W (ex.Slices span x ss) c h k a = err_ok (fault_of T19 span) W k
-  known_layer H S W (ex.Element span x i) c h k a = err_ok (fault_of T19 span) W k
-  known_layer H S W (ex.As span x t) c h k a = err_ok (fault_of T19 span) W k
-  known_layer H S W (ex.In span x p) c h k a = err_ok (fault_of T19 span) W k
+  -- no other form is a width
+  known_layer H S W layer c h k a = err_ok (fault_of T19 _) W k
 
   -- what is asked of an expression of a type, whose width is known
   pub known_formed : (H : Here) (S : Typed) (W : Width) (e : Expr) (c : Core) → typed tests e H.scope ≡ Ok S → width tests e H.scope ≡ Ok W → At tests base subs H c → Widened H (of_known S W) (out-Expr e) c

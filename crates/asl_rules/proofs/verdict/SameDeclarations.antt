@@ -31,7 +31,6 @@ use Rattle.asl_rules.specs.Declarations.{in_names, fields_written, def_rule, sup
 use Rattle.asl_rules.proofs.verdict.Alike.{Equal, Same, steps, alike_equal, equal_alike}
 use Rattle.asl_rules.proofs.verdict.SameRules.{shown, same_shown, AllOf, SameWritten, type_same}
 use Rattle.asl_rules.proofs.verdict.SameNames.{Agrees, Agree, Calls, Called, left, right, expr_same, written_same}
-use Rattle.asl_rules.proofs.verdict.SameConstants.{constant_same}
 
 -- ---- steps
 
@@ -88,7 +87,7 @@ module _ (t : Tests) (A B : List Entry) where
   written_then : {X : Type 0} (w : TypeExpr) (f g : Written → Result X Fault) → Agree A B (type_uses w) → ((W V : Written) → V.ty ≡ W.ty → g V ≡ f W) → (written t w true (in_names A) >>= f) ≡ (written t w true (in_names B) >>= g)
   written_then w f g i h =
       sym (equal_alike (written t w true (in_names A) >>= f) (written t w true (in_names B) >>= g)
-      (steps SameWritten Equal (written t w true (in_names A)) (written t w true (in_names B)) f g ((written_same t A B [] w i).ty_is true Writes) (λ W V e. alike_equal (f W) (g V) (h W V e))))
+      (steps SameWritten Equal (written t w true (in_names A)) (written t w true (in_names B)) f g ((written_same t A B [] w i).written_is.ty_is true Writes) (λ W V e. alike_equal (f W) (g V) (h W V e))))
 
   typed_then : {X : Type 0} (e : Expr) (f g : Typed → Result X Fault) → Agree A B (expr_uses e) → barred e A ≡ None → ((S : Typed) (u : Tree) → g (record S { tree = u }) ≡ f S) → (typed t e (in_names A) >>= f) ≡ (typed t e (in_names B) >>= g)
   typed_then e f g i b h =
@@ -96,7 +95,7 @@ module _ (t : Tests) (A B : List Entry) where
       (steps Same Equal (typed t e (in_names A)) (typed t e (in_names B)) f g (((expr_same t A B [] e i).typed_is (uncalled (expr_uses e) b)).typed_is Writes) (λ S T k. alike_equal (f S) (g T) (ap g k ∙ h S T.tree))))
 
   known_same : (e : Expr) → Agree A B (expr_uses e) → known t e (in_names A) ≡ known t e (in_names B)
-  known_same e i = ap evaluated (constant_same t.limit A B e i)
+  known_same e i = ap evaluated (expr_same t A B [] e i).constant_is
 
   -- ---- declarations
 

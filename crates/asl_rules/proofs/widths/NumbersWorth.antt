@@ -20,10 +20,11 @@ use Rattle.asl_rules.specs.Scopes.{Counted, Scope, Storage, Standing, Stored, Su
 use Rattle.asl_rules.specs.Widths.{held, number_of_known, number_of_counted, number_of_storage, number_of_standing, number_of_binary}
 use Rattle.asl_rules.specs.Typing.{Number}
 use Rattle.asl_rules.specs.Exprs.{found}
-use Rattle.asl_rules.specs.Numbers.{of_two, number}
+use Rattle.asl_rules.specs.Arithmetic.{of_two}
+use Rattle.asl_rules.specs.Numbers.{integers, number}
 use Rattle.asl_rules.specs.Worth.{Integers, standing_for, by_place, Obeys}
 use Rattle.asl_rules.proofs.widths.WidthForms.{NumberForms, by_number_forms}
-use Rattle.asl_rules.proofs.widths.WorthForms.{number_roll, number_of_one, number_of_two}
+use Rattle.asl_rules.proofs.widths.WorthForms.{worth_roll, worth_of_one, worth_of_two}
 use Rattle.asl_rules.proofs.basics.Inversions.{ok_ok, err_ok, then_ok, found_ok}
 
 -- ---- operations
@@ -31,7 +32,7 @@ use Rattle.asl_rules.proofs.basics.Inversions.{ok_ok, err_ok, then_ok, found_ok}
 pub held_is : (span : Span) (y z : ℤ) → held span y ≡ Ok z → y ≡ z
 held_is span y z h = let u = then_ok (need (fits y) T20 span) (Ok y) z h in ok_ok y z u.then
 
-pub binary_is : (span : Span) (o : BinaryOperator) (x y z : ℤ) → number_of_binary span o x y ≡ Ok z → of_two o x y ≡ Some z
+pub binary_is : (span : Span) (o : BinaryOperator) (x y z : ℤ) → number_of_binary span o x y ≡ Ok z → of_two integers o x y ≡ Some z
 binary_is span binary.Add x y z h = ap Some (held_is span (x +ℤ y) z h)
 binary_is span binary.Subtract x y z h = ap Some (held_is span (x -ℤ y) z h)
 binary_is span binary.Multiply x y z h = ap Some (held_is span (x *ℤ y) z h)
@@ -74,10 +75,10 @@ module _ (t : Tests) where
   by_forms : NumberForms Worthy
   unfolding Worthy
   by_forms = record {
-    whole = λ span n G a g. number_roll (ex.Int span n) (standing_for a);
-    name = λ span name G z h a g. number_roll (ex.Name span name) (standing_for a) ∙ ap Some (name_is G a g span name (standing_of name G.names) z refl h);
-    negated = λ span e G y z w h a g. number_roll (ex.Unary span unary.Negate e) (standing_for a) ∙ number_of_one unary.Negate (number e (standing_for a)) y (w a g) ∙ ap Some (held_is span (pos 0 -ℤ y) z h);
-    combined = λ span o e f G x y z v w h a g. number_roll (ex.Binary span o e f) (standing_for a) ∙ number_of_two o (number e (standing_for a)) (number f (standing_for a)) x y (v a g) (w a g) ∙ binary_is span o x y z h;
+    whole = λ span n G a g. worth_roll integers (ex.Int span n) (standing_for a);
+    name = λ span name G z h a g. worth_roll integers (ex.Name span name) (standing_for a) ∙ ap Some (name_is G a g span name (standing_of name G.names) z refl h);
+    negated = λ span e G y z w h a g. worth_roll integers (ex.Unary span unary.Negate e) (standing_for a) ∙ worth_of_one integers unary.Negate (number e (standing_for a)) y (w a g) ∙ ap Some (held_is span (pos 0 -ℤ y) z h);
+    combined = λ span o e f G x y z v w h a g. worth_roll integers (ex.Binary span o e f) (standing_for a) ∙ worth_of_two integers o (number e (standing_for a)) (number f (standing_for a)) x y (v a g) (w a g) ∙ binary_is span o x y z h;
   }
 
   pub number_is_worth : (e : Expr) (G : Scope) (a : Integers) → Obeys G.names a → (w : Number) → (found t e).number G ≡ Ok w → number e (standing_for a) ≡ Some w.number

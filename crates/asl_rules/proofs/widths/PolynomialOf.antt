@@ -2,19 +2,11 @@
 -- are found alike on both sides.
 use Rattle.std.proofs.Common.{◌≡◌, ℕ, List, ℤ, pos, Option, Some, None, sym, ap, ap₂, ◌∙◌}
 use Rattle.asl_syn.specs.declared.token.Span.{Span}
-use Rattle.asl_syn.specs.declared.tree.Expr.{Expr, roll-Expr}
-use Rattle.asl_syn.specs.declared.tree.Bitfield.{Bitfield}
-use Rattle.asl_syn.specs.declared.tree.ConstraintPart.{ConstraintPart}
-use Rattle.asl_syn.specs.declared.tree.FieldValue.{FieldValue}
-use Rattle.asl_syn.specs.declared.tree.Pattern.{Pattern}
-use Rattle.asl_syn.specs.declared.tree.Slice.{Slice}
-use Rattle.asl_syn.specs.declared.tree.TypeExpr.{TypeExpr}
+use Rattle.asl_syn.specs.declared.tree.Expr.{Expr}
 use Rattle.asl_syn.specs.declared.tree.Bitfield.TheOpen as ex
-use Rattle.asl_syn.specs.declared.tree.Bitfield.TheFolds.{fold-Bitfield, fold-ConstraintPart, fold-FieldValue, fold-Pattern, fold-Slice, fold-TypeExpr, fold-roll-Expr, map-Expr}
 use Rattle.asl_syn.specs.declared.tree.UnaryOperator.TheVariants as unary
 use Rattle.asl_syn.specs.declared.tree.BinaryOperator.{BinaryOperator}
 use Rattle.asl_syn.specs.declared.tree.BinaryOperator.TheVariants as binary
-use Rattle.asl_syn.specs.Layers.{ExprLayer}
 use Rattle.asl_syn.specs.declared.code.StaticCode.TheVariants.{T02, T05, T19, T20}
 use Rattle.std.specs.Prelude.{nat_le, Ok, option_and_then}
 use Rattle.asl_poly.specs.Terms.{Polynomial}
@@ -28,7 +20,9 @@ use Rattle.asl_rules.specs.Scopes.{Counted, Scope, Standing, Stored, Subprogram,
 use Rattle.asl_rules.specs.Widths.{heaviest, weight_of, width_of_number, width_of_known, width_of_counted, width_of_standing, width_of_binary, width_difference}
 use Rattle.asl_rules.specs.Typing.{Width}
 use Rattle.asl_rules.specs.Exprs.{width}
-use Rattle.asl_rules.specs.Alone.{Polynomials, PolynomialOf, Unread, polynomial, polynomial_layer, polynomial_of_unary, polynomial_of_binary}
+use Rattle.asl_rules.specs.Arithmetic.{of_one, of_two}
+use Rattle.asl_rules.specs.Alone.{Polynomials, polynomials, polynomial}
+use Rattle.asl_rules.proofs.widths.WorthForms.{worth_roll}
 use Rattle.asl_rules.proofs.basics.Inversions.{ok_ok, err_ok, then_ok}
 use Rattle.asl_rules.proofs.widths.WidthForms.{WidthForms, by_width_forms}
 
@@ -73,26 +67,11 @@ standing_is span None p h = err_ok (fault_of T02 span) p h
 difference_is : (span : Span) (p q r : Polynomial) → width_difference span p q ≡ Ok r → r ≡ difference_map p q
 difference_is span p q r h = let u = then_ok (need (sum_fits p q) T20 span) (Ok (difference_map p q)) r h in sym (ok_ok (difference_map p q) r u.then)
 
-binary_is : (span : Span) (o : BinaryOperator) (p q r : Polynomial) → width_of_binary span o p q ≡ Ok r → polynomial_of_binary o p q ≡ Some r
+binary_is : (span : Span) (o : BinaryOperator) (p q r : Polynomial) → width_of_binary span o p q ≡ Ok r → of_two polynomials o p q ≡ Some r
 binary_is span binary.Add p q r h = let u = then_ok (need (sum_fits p q) T20 span) (Ok (sum_map p q)) r h in ap Some (ok_ok (sum_map p q) r u.then)
 binary_is span binary.Subtract p q r h = ap Some (sym (difference_is span p q r h))
 binary_is span binary.Multiply p q r h = let u = then_ok (need (product_fits p q) T20 span) (Ok (product_map p q)) r h in ap Some (ok_ok (product_map p q) r u.then)
 binary_is span o p q r h = err_ok (fault_of T19 span) r h
-
--- ---- one layer at a time
-
-abbrev drawn : ExprLayer → ex.Expr-F Unread Unread PolynomialOf Unread Unread Unread Unread
-drawn = map-Expr Bitfield ConstraintPart Expr FieldValue Pattern Slice TypeExpr Unread Unread PolynomialOf Unread Unread Unread Unread
-    (fold-Bitfield Unread Unread PolynomialOf Unread Unread Unread Unread (λ _. tt) (λ _. tt) polynomial_layer (λ _. tt) (λ _. tt) (λ _. tt) (λ _. tt))
-    (fold-ConstraintPart Unread Unread PolynomialOf Unread Unread Unread Unread (λ _. tt) (λ _. tt) polynomial_layer (λ _. tt) (λ _. tt) (λ _. tt) (λ _. tt))
-    polynomial
-    (fold-FieldValue Unread Unread PolynomialOf Unread Unread Unread Unread (λ _. tt) (λ _. tt) polynomial_layer (λ _. tt) (λ _. tt) (λ _. tt) (λ _. tt))
-    (fold-Pattern Unread Unread PolynomialOf Unread Unread Unread Unread (λ _. tt) (λ _. tt) polynomial_layer (λ _. tt) (λ _. tt) (λ _. tt) (λ _. tt))
-    (fold-Slice Unread Unread PolynomialOf Unread Unread Unread Unread (λ _. tt) (λ _. tt) polynomial_layer (λ _. tt) (λ _. tt) (λ _. tt) (λ _. tt))
-    (fold-TypeExpr Unread Unread PolynomialOf Unread Unread Unread Unread (λ _. tt) (λ _. tt) polynomial_layer (λ _. tt) (λ _. tt) (λ _. tt) (λ _. tt))
-
-drawn_roll : (x : ExprLayer) (f : Polynomials) → polynomial (roll-Expr x) f ≡ polynomial_layer (drawn x) f
-drawn_roll x f = ap (λ (g : PolynomialOf). g f) (fold-roll-Expr Unread Unread PolynomialOf Unread Unread Unread Unread (λ _. tt) (λ _. tt) polynomial_layer (λ _. tt) (λ _. tt) (λ _. tt) (λ _. tt) x)
 
 number_is : (span : Span) (z : ℤ) (p : Polynomial) → width_of_number span z ≡ Ok p → p ≡ constant_map z
 number_is span z p h = let u = then_ok (need (nat_le (weight_of z) heaviest) T20 span) (Ok (constant_map z)) p h in sym (ok_ok (constant_map z) p u.then)
@@ -108,10 +87,10 @@ module _ (t : Tests) (f : Polynomials) where
   by_forms : WidthForms Told
   unfolding Told
   by_forms = record {
-    whole = λ span n G p h g. drawn_roll (ex.Int span n) f ∙ ap Some (sym (number_is span (pos n) p h));
-    name = λ span name G p h g. drawn_roll (ex.Name span name) f ∙ g span name p h;
-    negated = λ span e G p q w h g. drawn_roll (ex.Unary span unary.Negate e) f ∙ ap (option_and_then (polynomial_of_unary unary.Negate)) (w g) ∙ ap Some (sym (difference_is span (constant_map (pos 0)) p q h));
-    combined = λ span o e k G p q r v w h g. drawn_roll (ex.Binary span o e k) f ∙ ap₂ (λ x y. option_and_then (λ a. option_and_then (polynomial_of_binary o a) y) x) (v g) (w g) ∙ binary_is span o p q r h;
+    whole = λ span n G p h g. worth_roll polynomials (ex.Int span n) f ∙ ap Some (sym (number_is span (pos n) p h));
+    name = λ span name G p h g. worth_roll polynomials (ex.Name span name) f ∙ g span name p h;
+    negated = λ span e G p q w h g. worth_roll polynomials (ex.Unary span unary.Negate e) f ∙ ap (option_and_then (of_one polynomials unary.Negate)) (w g) ∙ ap Some (sym (difference_is span (constant_map (pos 0)) p q h));
+    combined = λ span o e k G p q r v w h g. worth_roll polynomials (ex.Binary span o e k) f ∙ ap₂ (λ x y. option_and_then (λ a. option_and_then (of_two polynomials o a) y) x) (v g) (w g) ∙ binary_is span o p q r h;
   }
 
   pub polynomial_is : (e : Expr) (G : Scope) (w : Width) → AgreesOn f G → width t e G ≡ Ok w → polynomial e f ≡ Some w.poly

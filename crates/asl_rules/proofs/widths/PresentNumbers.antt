@@ -20,14 +20,14 @@ use Rattle.asl_rules.specs.Scopes.{Counted, Scope, Entry, Storage, Standing, Sto
 use Rattle.asl_rules.specs.Widths.{width_of_counted, width_of_standing, number_of_counted, number_of_standing}
 use Rattle.asl_rules.specs.Typing.{Width, Number}
 use Rattle.asl_rules.specs.Exprs.{found, width}
-use Rattle.asl_rules.specs.Numbers.{Numbers, number, integer_of_value, fixed_number, number_among, or_number, present}
+use Rattle.asl_rules.specs.Numbers.{Numbers, integers, number, integer_of_value, fixed_number, number_among, or_number, present}
 use Rattle.asl_rules.specs.States.{Binding, Core}
 use Rattle.asl_rules.specs.Agreement.{types_in, IsKnown, CountsAs, global_matches, AllMatch, local_matches, FrameMatches, GlobalsMatch, Agrees}
 use Rattle.asl_rules.specs.Evaluation.{value_of}
 use Rattle.asl_rules.proofs.basics.Inversions.{ok_ok, err_ok, then_ok, found_ok}
 use Rattle.asl_rules.proofs.basics.Tests.{some_same, some_none, none_some}
 use Rattle.asl_rules.proofs.widths.WidthForms.{WidthForms, NumberForms, by_width_forms, by_number_forms}
-use Rattle.asl_rules.proofs.widths.WorthForms.{number_roll, number_of_one, number_of_two}
+use Rattle.asl_rules.proofs.widths.WorthForms.{worth_roll, worth_of_one, worth_of_two}
 use Rattle.asl_rules.proofs.widths.WidthsWorth.{number_is, difference_is, binary_is}
 use Rattle.asl_cons.proofs.Results.{constant_is}
 use Rattle.asl_rules.proofs.widths.NumbersWorth as numbers
@@ -48,11 +48,11 @@ module _ (f : Numbers) (av : Assignment) where
   wide_forms : WidthForms Wide
   unfolding Wide
   wide_forms = record {
-    whole = λ span n G p h g. number_roll (ex.Int span n) f ∙ ap Some (sym (number_is av span (pos n) p h));
-    name = λ span name G p h g. number_roll (ex.Name span name) f ∙ g.widths span name p h;
-    negated = λ span e G p q w h g. number_roll (ex.Unary span unary.Negate e) f ∙ number_of_one unary.Negate (number e f) (value av p.terms) (w g)
+    whole = λ span n G p h g. worth_roll integers (ex.Int span n) f ∙ ap Some (sym (number_is av span (pos n) p h));
+    name = λ span name G p h g. worth_roll integers (ex.Name span name) f ∙ g.widths span name p h;
+    negated = λ span e G p q w h g. worth_roll integers (ex.Unary span unary.Negate e) f ∙ worth_of_one integers unary.Negate (number e f) (value av p.terms) (w g)
         ∙ ap Some (sym (difference_is av span (constant_map (pos 0)) p q (pos 0) (value av p.terms) (value_constant_map av (pos 0)) refl h));
-    combined = λ span o e d G p q r v w h g. number_roll (ex.Binary span o e d) f ∙ number_of_two o (number e f) (number d f) (value av p.terms) (value av q.terms) (v g) (w g) ∙ binary_is av span o p q r h;
+    combined = λ span o e d G p q r v w h g. worth_roll integers (ex.Binary span o e d) f ∙ worth_of_two integers o (number e f) (number d f) (value av p.terms) (value av q.terms) (v g) (w g) ∙ binary_is av span o p q r h;
   }
 
   Counted_so : Expr → Scope → ℤ → Type 0
@@ -61,10 +61,10 @@ module _ (f : Numbers) (av : Assignment) where
   number_forms : NumberForms Counted_so
   unfolding Counted_so
   number_forms = record {
-    whole = λ span n G g. number_roll (ex.Int span n) f;
-    name = λ span name G z h g. number_roll (ex.Name span name) f ∙ g.numbers span name z h;
-    negated = λ span e G y z w h g. number_roll (ex.Unary span unary.Negate e) f ∙ number_of_one unary.Negate (number e f) y (w g) ∙ ap Some (held_is span (pos 0 -ℤ y) z h);
-    combined = λ span o e d G x y z v w h g. number_roll (ex.Binary span o e d) f ∙ number_of_two o (number e f) (number d f) x y (v g) (w g) ∙ numbers.binary_is span o x y z h;
+    whole = λ span n G g. worth_roll integers (ex.Int span n) f;
+    name = λ span name G z h g. worth_roll integers (ex.Name span name) f ∙ g.numbers span name z h;
+    negated = λ span e G y z w h g. worth_roll integers (ex.Unary span unary.Negate e) f ∙ worth_of_one integers unary.Negate (number e f) y (w g) ∙ ap Some (held_is span (pos 0 -ℤ y) z h);
+    combined = λ span o e d G x y z v w h g. worth_roll integers (ex.Binary span o e d) f ∙ worth_of_two integers o (number e f) (number d f) x y (v g) (w g) ∙ numbers.binary_is span o x y z h;
   }
 
   pub width_has : (t : Tests) (e : Expr) (G : Scope) (w : Width) → NumbersAgree G → width t e G ≡ Ok w → number e f ≡ Some (width_at w.poly av)

@@ -22,10 +22,11 @@ use Rattle.asl_rules.specs.Scopes.{Counted, Scope, Storage, Standing, Stored, Su
 use Rattle.asl_rules.specs.Widths.{heaviest, weight_of, width_of_number, width_of_known, width_of_counted, width_of_storage, width_of_standing, width_of_binary, width_sum, width_difference, width_product}
 use Rattle.asl_rules.specs.Typing.{Width}
 use Rattle.asl_rules.specs.Exprs.{width}
-use Rattle.asl_rules.specs.Numbers.{of_two, number}
+use Rattle.asl_rules.specs.Arithmetic.{of_two}
+use Rattle.asl_rules.specs.Numbers.{integers, number}
 use Rattle.asl_rules.specs.Worth.{Integers, standing_for, by_place, Obeys}
 use Rattle.asl_rules.proofs.widths.WidthForms.{WidthForms, by_width_forms}
-use Rattle.asl_rules.proofs.widths.WorthForms.{number_roll, number_of_one, number_of_two}
+use Rattle.asl_rules.proofs.widths.WorthForms.{worth_roll, worth_of_one, worth_of_two}
 use Rattle.asl_rules.proofs.basics.Inversions.{ok_ok, err_ok, then_ok}
 
 -- ---- the operations
@@ -53,7 +54,7 @@ product_is a span p q r x y e f h =
     let u = then_ok (need (product_fits p q) T20 span) (Ok (product_map p q)) r h in
     subst (λ s. Is a s (x *ℤ y)) (ok_ok (product_map p q) r u.then) (value_product_map a p q ∙ ap (λ z. z *ℤ value a q.terms) e ∙ ap (λ z. x *ℤ z) f)
 
-pub binary_is : (a : ℕ → ℤ) (span : Span) (o : BinaryOperator) (p q r : Polynomial) → width_of_binary span o p q ≡ Ok r → of_two o (value a p.terms) (value a q.terms) ≡ Some (value a r.terms)
+pub binary_is : (a : ℕ → ℤ) (span : Span) (o : BinaryOperator) (p q r : Polynomial) → width_of_binary span o p q ≡ Ok r → of_two integers o (value a p.terms) (value a q.terms) ≡ Some (value a r.terms)
 binary_is a span binary.Add p q r h = ap Some (sym (sum_is a span p q r (value a p.terms) (value a q.terms) refl refl h))
 binary_is a span binary.Subtract p q r h = ap Some (sym (difference_is a span p q r (value a p.terms) (value a q.terms) refl refl h))
 binary_is a span binary.Multiply p q r h = ap Some (sym (product_is a span p q r (value a p.terms) (value a q.terms) refl refl h))
@@ -99,12 +100,12 @@ module _ (t : Tests) where
   by_forms : WidthForms Worthy
   unfolding Worthy
   by_forms = record {
-    whole = λ span n G p h a g. number_roll (ex.Int span n) (standing_for a) ∙ ap Some (sym (number_is (by_place G.names a) span (pos n) p h));
-    name = λ span name G p h a g. number_roll (ex.Name span name) (standing_for a) ∙ ap Some (sym (name_is G a g span name (standing_of name G.names) p refl h));
-    negated = λ span e G p q w h a g. number_roll (ex.Unary span unary.Negate e) (standing_for a) ∙ number_of_one unary.Negate (number e (standing_for a)) (value (by_place G.names a) p.terms) (w a g)
+    whole = λ span n G p h a g. worth_roll integers (ex.Int span n) (standing_for a) ∙ ap Some (sym (number_is (by_place G.names a) span (pos n) p h));
+    name = λ span name G p h a g. worth_roll integers (ex.Name span name) (standing_for a) ∙ ap Some (sym (name_is G a g span name (standing_of name G.names) p refl h));
+    negated = λ span e G p q w h a g. worth_roll integers (ex.Unary span unary.Negate e) (standing_for a) ∙ worth_of_one integers unary.Negate (number e (standing_for a)) (value (by_place G.names a) p.terms) (w a g)
         ∙ ap Some (sym (difference_is (by_place G.names a) span (constant_map (pos 0)) p q (pos 0) (value (by_place G.names a) p.terms) (value_constant_map (by_place G.names a) (pos 0)) refl h));
-    combined = λ span o e f G p q r v w h a g. number_roll (ex.Binary span o e f) (standing_for a)
-        ∙ number_of_two o (number e (standing_for a)) (number f (standing_for a)) (value (by_place G.names a) p.terms) (value (by_place G.names a) q.terms) (v a g) (w a g)
+    combined = λ span o e f G p q r v w h a g. worth_roll integers (ex.Binary span o e f) (standing_for a)
+        ∙ worth_of_two integers o (number e (standing_for a)) (number f (standing_for a)) (value (by_place G.names a) p.terms) (value (by_place G.names a) q.terms) (v a g) (w a g)
         ∙ binary_is (by_place G.names a) span o p q r h;
   }
 

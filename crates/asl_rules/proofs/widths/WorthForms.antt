@@ -1,5 +1,5 @@
--- The number of a width expression, one layer at a time.
-use Rattle.std.proofs.Common.{◌≡◌, ℤ, Option, Some, ap, ap₂}
+-- What an expression in a width is worth, one layer at a time.
+use Rattle.std.proofs.Common.{◌≡◌, Option, Some, ap, ap₂}
 use Rattle.std.specs.Prelude.{option_and_then}
 use Rattle.asl_syn.specs.declared.tree.Expr.{Expr, roll-Expr}
 use Rattle.asl_syn.specs.declared.tree.Bitfield.{Bitfield}
@@ -13,24 +13,25 @@ use Rattle.asl_syn.specs.declared.tree.Bitfield.TheFolds.{fold-Bitfield, fold-Co
 use Rattle.asl_syn.specs.Layers.{ExprLayer}
 use Rattle.asl_syn.specs.declared.tree.UnaryOperator.{UnaryOperator}
 use Rattle.asl_syn.specs.declared.tree.BinaryOperator.{BinaryOperator}
-use Rattle.asl_rules.specs.Numbers.{Numbers, NumberOf, Unread, of_one, of_two, number_layer, number}
+use Rattle.asl_rules.specs.Arithmetic.{Arithmetic, Named, Worth, Unread, of_one, of_two, worth_layer, worth}
 
-abbrev pub numbered : ExprLayer → ex.Expr-F Unread Unread NumberOf Unread Unread Unread Unread
-numbered = map-Expr Bitfield ConstraintPart Expr FieldValue Pattern Slice TypeExpr Unread Unread NumberOf Unread Unread Unread Unread
-    (fold-Bitfield Unread Unread NumberOf Unread Unread Unread Unread (λ _. tt) (λ _. tt) number_layer (λ _. tt) (λ _. tt) (λ _. tt) (λ _. tt))
-    (fold-ConstraintPart Unread Unread NumberOf Unread Unread Unread Unread (λ _. tt) (λ _. tt) number_layer (λ _. tt) (λ _. tt) (λ _. tt) (λ _. tt))
-    number
-    (fold-FieldValue Unread Unread NumberOf Unread Unread Unread Unread (λ _. tt) (λ _. tt) number_layer (λ _. tt) (λ _. tt) (λ _. tt) (λ _. tt))
-    (fold-Pattern Unread Unread NumberOf Unread Unread Unread Unread (λ _. tt) (λ _. tt) number_layer (λ _. tt) (λ _. tt) (λ _. tt) (λ _. tt))
-    (fold-Slice Unread Unread NumberOf Unread Unread Unread Unread (λ _. tt) (λ _. tt) number_layer (λ _. tt) (λ _. tt) (λ _. tt) (λ _. tt))
-    (fold-TypeExpr Unread Unread NumberOf Unread Unread Unread Unread (λ _. tt) (λ _. tt) number_layer (λ _. tt) (λ _. tt) (λ _. tt) (λ _. tt))
+module _ {N : Type 0} (ops : Arithmetic N) where
+  abbrev laid : ExprLayer → ex.Expr-F Unread Unread (Worth N) Unread Unread Unread Unread
+  laid = map-Expr Bitfield ConstraintPart Expr FieldValue Pattern Slice TypeExpr Unread Unread (Worth N) Unread Unread Unread Unread
+      (fold-Bitfield Unread Unread (Worth N) Unread Unread Unread Unread (λ _. tt) (λ _. tt) (worth_layer ops) (λ _. tt) (λ _. tt) (λ _. tt) (λ _. tt))
+      (fold-ConstraintPart Unread Unread (Worth N) Unread Unread Unread Unread (λ _. tt) (λ _. tt) (worth_layer ops) (λ _. tt) (λ _. tt) (λ _. tt) (λ _. tt))
+      (worth ops)
+      (fold-FieldValue Unread Unread (Worth N) Unread Unread Unread Unread (λ _. tt) (λ _. tt) (worth_layer ops) (λ _. tt) (λ _. tt) (λ _. tt) (λ _. tt))
+      (fold-Pattern Unread Unread (Worth N) Unread Unread Unread Unread (λ _. tt) (λ _. tt) (worth_layer ops) (λ _. tt) (λ _. tt) (λ _. tt) (λ _. tt))
+      (fold-Slice Unread Unread (Worth N) Unread Unread Unread Unread (λ _. tt) (λ _. tt) (worth_layer ops) (λ _. tt) (λ _. tt) (λ _. tt) (λ _. tt))
+      (fold-TypeExpr Unread Unread (Worth N) Unread Unread Unread Unread (λ _. tt) (λ _. tt) (worth_layer ops) (λ _. tt) (λ _. tt) (λ _. tt) (λ _. tt))
 
-pub number_roll : (x : ExprLayer) (f : Numbers) → number (roll-Expr x) f ≡ number_layer (numbered x) f
-number_roll x f = ap (λ (g : NumberOf). g f) (fold-roll-Expr Unread Unread NumberOf Unread Unread Unread Unread (λ _. tt) (λ _. tt) number_layer (λ _. tt) (λ _. tt) (λ _. tt) (λ _. tt) x)
+  pub worth_roll : (x : ExprLayer) (f : Named N) → worth ops (roll-Expr x) f ≡ worth_layer ops (laid x) f
+  worth_roll x f = ap (λ (g : Worth N). g f) (fold-roll-Expr Unread Unread (Worth N) Unread Unread Unread Unread (λ _. tt) (λ _. tt) (worth_layer ops) (λ _. tt) (λ _. tt) (λ _. tt) (λ _. tt) x)
 
--- the number of an operation, where those of its operands are known
-pub number_of_one : (o : UnaryOperator) (m : Option ℤ) (x : ℤ) → m ≡ Some x → option_and_then (of_one o) m ≡ of_one o x
-number_of_one o m x e = ap (option_and_then (of_one o)) e
+  -- the number of an operation, where those of its operands are known
+  pub worth_of_one : (o : UnaryOperator) (m : Option N) (x : N) → m ≡ Some x → option_and_then (of_one ops o) m ≡ of_one ops o x
+  worth_of_one o m x e = ap (option_and_then (of_one ops o)) e
 
-pub number_of_two : (o : BinaryOperator) (m n : Option ℤ) (x y : ℤ) → m ≡ Some x → n ≡ Some y → option_and_then (λ z. option_and_then (of_two o z) n) m ≡ of_two o x y
-number_of_two o m n x y e f = ap₂ (λ p q. option_and_then (λ z. option_and_then (of_two o z) q) p) e f
+  pub worth_of_two : (o : BinaryOperator) (m n : Option N) (x y : N) → m ≡ Some x → n ≡ Some y → option_and_then (λ z. option_and_then (of_two ops o z) n) m ≡ of_two ops o x y
+  worth_of_two o m n x y e f = ap₂ (λ p q. option_and_then (λ z. option_and_then (of_two ops o z) q) p) e f
