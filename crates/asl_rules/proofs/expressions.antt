@@ -3,6 +3,7 @@ pub mod OperatorForms
 pub mod Claims
 pub mod ElementForms
 pub mod ExprForms
+pub mod Noted
 pub mod FieldForms
 pub mod Twins
 pub mod TreePlans

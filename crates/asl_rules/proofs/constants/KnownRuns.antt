@@ -8,6 +8,7 @@ use Rattle.asl_syn.specs.declared.tree.Stmt.{Stmt}
 use Rattle.asl_syn.specs.declared.tree.Bitfield.TheOpen as ex
 use Rattle.asl_syn.specs.Layers.{ExprLayer, expr_span}
 use Rattle.asl_rules.specs.Values.{Value}
+use Rattle.asl_rules.specs.Views.{stripped}
 use Rattle.asl_rules.specs.Scopes.{Entry, standing_of}
 use Rattle.asl_rules.specs.States.{Core}
 use Rattle.asl_rules.specs.Plans.{Meter, Faulted, Outcome, Done, Thrown, Halt, handle, Plan, Ret, Stop, Eval, Within, Meaning, run, choose, Pure, Good, Bad, lift}
@@ -85,7 +86,7 @@ module _ (env : Environment) (c : Core) (P : Expr → Type 0) where
   left_twin span o b x w Strict = behind_twin b (binary_value env.limit span o x) w
   left_twin span o b x w (Lazy f) = lift_twin (truth span x) (λ p. unless_decided env.limit span o b x c (f p)) (λ p. unless_decided env.limit span o (constant env.limit b) x env.names (f p)) (λ p. decided_twin span o b x w (f p))
 
-  branch_twin : (a b : Expr) → P a → P b → (p : Bool) → Twin (choose p (branch_value a c) (branch_value b c)) (choose p (branch_value (constant env.limit a) env.names) (branch_value (constant env.limit b) env.names))
+  branch_twin : (a b : Expr) → P a → P b → (p : Bool) → Twin (choose p (branch_value stripped a c) (branch_value stripped b c)) (choose p (branch_value stripped (constant env.limit a) env.names) (branch_value stripped (constant env.limit b) env.names))
   branch_twin a b v w true = (refl, (refl, (v, λ y. (refl, refl))))
   branch_twin a b v w false = (refl, (refl, (w, λ y. (refl, refl))))
 
@@ -115,7 +116,7 @@ module _ (env : Environment) (c : Core) (P : Expr → Type 0) where
   layer_twin holds (ex.Name span name) w = once_twin (known span (value_here env name c)) (known span (initial_value (standing_of name env.names))) (ap (known span) (holds name))
   layer_twin holds (ex.Unary span o a) w = behind_twin a (unary_value span o) w
   layer_twin holds (ex.Binary span o a b) w = (refl, (refl, (w.0, λ x. left_twin span o b x w.1 (strictness o))))
-  layer_twin holds (ex.Conditional span e a b) w = (refl, (refl, (w.0, λ x. lift_twin (truth span x) (λ p. choose p (branch_value a c) (branch_value b c)) (λ p. choose p (branch_value (constant env.limit a) env.names) (branch_value (constant env.limit b) env.names)) (branch_twin a b w.1.0 w.1.1))))
+  layer_twin holds (ex.Conditional span e a b) w = (refl, (refl, (w.0, λ x. lift_twin (truth span x) (λ p. choose p (branch_value stripped a c) (branch_value stripped b c)) (λ p. choose p (branch_value stripped (constant env.limit a) env.names) (branch_value stripped (constant env.limit b) env.names)) (branch_twin a b w.1.0 w.1.1))))
   layer_twin holds (ex.Tuple span es) w = all_twin es [] _ _ w (λ xs. (refl, refl))
   layer_twin holds (ex.Construct span i fs) w = behind_all_twin (exprs_in given_parts fs) (exprs_in itself (map (known_given env.limit) fs))
       (constructed span (types_of env i.text) (shapes_in given_parts fs)) (constructed span (types_of env i.text) (shapes_in itself (map (known_given env.limit) fs)))

@@ -28,6 +28,7 @@ use Rattle.asl_rules.specs.Closed.{Closed}
 use Rattle.asl_rules.specs.Programs.{Environment, funcs_of, origin}
 use Rattle.asl_rules.specs.Locals.{is_var}
 use Rattle.asl_rules.specs.Values.{Value, Exit, Normal, Returned}
+use Rattle.asl_rules.specs.Views.{stripped}
 use Rattle.asl_rules.specs.States.{Under, of_type, of_value, kept, Binding, Core, entered, restored, resting}
 use Rattle.asl_rules.specs.Numbers.{Numbers, present, outside}
 use Rattle.asl_rules.specs.Routines.{Routine, routine_named}
@@ -268,7 +269,7 @@ module _ (old : List Binding) where
   expr_keeps env (ex.Name span name) c p = once_keeps Core Expr Stmt Kept (value_or_label env span name c) c p
   expr_keeps env (ex.Unary span o a) c p = behind_keeps Core Expr Stmt Kept a c (unary_value span o) p
   expr_keeps env (ex.Binary span o a b) c p = operation_keeps Core Expr Stmt Kept env.limit span o a b c p
-  expr_keeps env (ex.Conditional span e a b) c p = conditional_keeps Core Expr Stmt Kept span e a b c p
+  expr_keeps env (ex.Conditional span e a b) c p = conditional_keeps Core Expr Stmt Kept stripped span e a b c p
   expr_keeps env (ex.Tuple span es) c p = tuple_keeps Core Expr Stmt Kept es c p
   expr_keeps env (ex.Construct span i fs) c p = behind_all_keeps Core Expr Stmt Kept (exprs_in given_parts fs) c (constructed span (types_of env i.text) (shapes_in given_parts fs)) p
   expr_keeps env (ex.Call span i ps es) c p = call_keeps Core Expr Stmt Kept ps es c (called env span i.text) (function_gives span) p (λ ys xs c1 p1. named_keeps env span i.text ys xs c1 (routine_named i.text) p1) (λ x c1 p1. function_keeps Core Expr Stmt Kept span x c1 p1)

@@ -136,9 +136,9 @@ module _ (C E S : Type 0) (P : C → Type 0) where
   pub operation_keeps : (limit : ℕ) (span : Span) (o : BinaryOperator) (a b : E) (c : C) → P c → Keeps {S = S} P (operation limit span o a b c)
   operation_keeps limit span o a b c p = (p, λ x c1 p1. left_keeps limit span o b x (strictness o) c1 p1)
 
-  pub conditional_keeps : (span : Span) (e a b : E) (c : C) → P c → Keeps {S = S} P (conditional span e a b c)
-  conditional_keeps span e a b c p =
-      (p, λ x c1 p1. lift_keeps (truth span x) c1 (λ t. choose t (branch_value a c1) (branch_value b c1)) p1 (λ t. choose_keeps t (branch_value a c1) (branch_value b c1) (p1, λ y c2 p2. p2) (p1, λ y c2 p2. p2)))
+  pub conditional_keeps : (strip : Value → Value) (span : Span) (e a b : E) (c : C) → P c → Keeps {S = S} P (conditional strip span e a b c)
+  conditional_keeps strip span e a b c p =
+      (p, λ x c1 p1. lift_keeps (truth span x) c1 (λ t. choose t (branch_value strip a c1) (branch_value strip b c1)) p1 (λ t. choose_keeps t (branch_value strip a c1) (branch_value strip b c1) (p1, λ y c2 p2. p2) (p1, λ y c2 p2. p2)))
 
   pub element_keeps : (span : Span) (a i : E) (c : C) → P c → Keeps {S = S} P (element span a i c)
   element_keeps span a i c p = (p, λ x c1 p1. behind_keeps i c1 (element_of span x) p1)
