@@ -7,6 +7,7 @@ use Rattle.asl_rules.specs.Closed.{closed}
 use Rattle.asl_rules.specs.Shapes.{SliceShape, PatternShape, no_pattern, pattern_and}
 use Rattle.asl_rules.specs.Shaped.{Shaped, Named, TypeOver, exprs_in, shapes_in}
 use Rattle.asl_rules.specs.Values.{Value, bool}
+use Rattle.asl_rules.specs.Views.{stripped}
 use Rattle.asl_rules.specs.Scopes.{Entry, type_of_name}
 use Rattle.asl_rules.specs.Plans.{Plan, Ret, Pure, Good}
 use Rattle.asl_rules.specs.Pures.{◌>>=◌}
@@ -47,7 +48,7 @@ expr_plan q v (ex.Bool span b) c = Ret (bool b) c
 expr_plan q v (ex.Name span name) c = at_once (q.value span name c) c
 expr_plan q v (ex.Unary span o a) c = behind a c (unary_value span o)
 expr_plan q v (ex.Binary span o a b) c = operation q.limit span o a b c
-expr_plan q v (ex.Conditional span e a b) c = conditional span e a b c
+expr_plan q v (ex.Conditional span e a b) c = conditional stripped span e a b c
 expr_plan q v (ex.Tuple span es) c = tuple es c
 expr_plan q v (ex.Construct span i fs) c = behind_all (exprs_in v.given fs) c (constructed span (q.types c i.text) (shapes_in v.given fs))
 expr_plan q v (ex.Call span i ps es) c = call ps es c (q.call span i.text) (function_gives span)

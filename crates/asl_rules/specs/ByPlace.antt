@@ -1,12 +1,12 @@
 -- The parts of values by their places: a field by its number among the fields, a bitfield by its places, and a replacement at the end of a way into a value; and
 -- what a value takes of a type that is written for it.
-use Rattle.std.specs.Prelude.{ℕ, zero, suc, List, [], ◌∷◌, Option, Some, None, option_map, slice_get}
+use Rattle.std.specs.Prelude.{ℕ, zero, suc, Bool, List, [], ◌∷◌, Option, Some, None, option_map, slice_get}
 use Rattle.asl_syn.specs.declared.token.Span.{Span}
 use Rattle.asl_rules.specs.Types.{Ty, Parts, BitField, integer_of, boolean, bits_of, enumeration_of, record_of, exception_of, tuple_of, array_of, named, part}
 use Rattle.asl_rules.specs.Shapes.{SliceShape}
 use Rattle.asl_rules.specs.Trees.{Shell, record_shell, exception_shell, FieldGiven}
 use Rattle.asl_rules.specs.Values.{Value, FieldValues, Values, bits_with, record_with, exception_with, tuple_with, array_with, no_value_of, value_of_field, no_value, value}
-use Rattle.asl_rules.specs.Views.{adopted}
+use Rattle.asl_rules.specs.Views.{adopting}
 use Rattle.asl_rules.specs.Pures.{◌>>=◌, there}
 use Rattle.asl_rules.specs.Structures.{element_of, with_element, value_at}
 use Rattle.asl_rules.specs.Vectors.{bits_at, slice_places, with_slices, bitfield_of, with_bitfield, bitfields_of, with_bitfields}
@@ -77,15 +77,15 @@ pub data Step : Type 0 where
   into_slices : Span → List SliceShape → List Value → Step
   into_element : Span → Value → Step
 
--- the value with another at the end of these steps, where it takes the bitfields of the one that it replaces
-abbrev pub updated : ℕ → List Step → Value → Value → Pure Value
-updated limit [] y x = Good (adopted x y)
-updated limit (into_field span i ∷ ss) y x = field_in span i x >>= λ q. updated limit ss y q >>= λ r. with_field_in span i r x
-updated limit (into_bitfield span f ∷ ss) y x = bitfield_of span f x >>= λ q. updated limit ss y q >>= λ r. with_bitfield span f r x
-updated limit (into_bitfields span fs ∷ ss) y x = bitfields_of limit span fs x >>= λ q. updated limit ss y q >>= λ r. with_bitfields limit span fs r x
-updated limit (into_slices span shapes zs ∷ ss) y x =
-    slice_places limit span shapes zs x >>= λ ps. bits_at span ps x >>= λ q. updated limit ss y q >>= λ r. with_slices limit span shapes zs r x
-updated limit (into_element span i ∷ ss) y x = element_of span x i >>= λ q. updated limit ss y q >>= λ r. with_element span r x i
+-- the value with another at the end of these steps, where it takes the bitfields of the one that it replaces; it is known whether bits occur in its type
+abbrev pub updated : ℕ → Bool → List Step → Value → Value → Pure Value
+updated limit holds [] y x = Good (adopting holds x y)
+updated limit holds (into_field span i ∷ ss) y x = field_in span i x >>= λ q. updated limit holds ss y q >>= λ r. with_field_in span i r x
+updated limit holds (into_bitfield span f ∷ ss) y x = bitfield_of span f x >>= λ q. updated limit holds ss y q >>= λ r. with_bitfield span f r x
+updated limit holds (into_bitfields span fs ∷ ss) y x = bitfields_of limit span fs x >>= λ q. updated limit holds ss y q >>= λ r. with_bitfields limit span fs r x
+updated limit holds (into_slices span shapes zs ∷ ss) y x =
+    slice_places limit span shapes zs x >>= λ ps. bits_at span ps x >>= λ q. updated limit holds ss y q >>= λ r. with_slices limit span shapes zs r x
+updated limit holds (into_element span i ∷ ss) y x = element_of span x i >>= λ q. updated limit holds ss y q >>= λ r. with_element span r x i
 
 -- ---- parts of tuples
 

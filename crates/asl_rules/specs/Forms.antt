@@ -5,7 +5,6 @@ use Rattle.asl_syn.specs.declared.token.Span.{Span}
 use Rattle.asl_syn.specs.declared.code.DynCode.TheVariants.{D11}
 use Rattle.asl_syn.specs.declared.tree.BinaryOperator.{BinaryOperator}
 use Rattle.asl_rules.specs.Values.{Value, bool, tuple_with}
-use Rattle.asl_rules.specs.Views.{stripped}
 use Rattle.asl_rules.specs.Plans.{Faulted, Stuck, WrongKind, EndReached, Plan, Ret, Raise, Stop, Eval, Within, choose, follow, Pure, Good, Bad, lift}
 use Rattle.asl_rules.specs.Pures.{◌>>=◌}
 use Rattle.asl_rules.specs.Operators.{integer_of, binary_value, truth, less, Decided, Already, ByRight, Strictness, Strict, Lazy, strictness}
@@ -63,12 +62,12 @@ operation limit span o a b c = Eval a c (λ x c1. behind_left limit span o b x (
 
 -- ---- conditionals, elements and tuples
 
--- the branch that is taken, whose bits lose their bitfields
-abbrev pub branch_value : {C E S : Type 0} → E → C → Plan C E S Value
-branch_value a c = Eval a c (λ y c1. Ret (stripped y) c1)
+-- the branch that is taken, whose bits lose their bitfields by this function
+abbrev pub branch_value : {C E S : Type 0} → (Value → Value) → E → C → Plan C E S Value
+branch_value strip a c = Eval a c (λ y c1. Ret (strip y) c1)
 
-abbrev pub conditional : {C E S : Type 0} → Span → E → E → E → C → Plan C E S Value
-conditional span e a b c = Eval e c (λ x c1. lift (truth span x) c1 (λ p. choose p (branch_value a c1) (branch_value b c1)))
+abbrev pub conditional : {C E S : Type 0} → (Value → Value) → Span → E → E → E → C → Plan C E S Value
+conditional strip span e a b c = Eval e c (λ x c1. lift (truth span x) c1 (λ p. choose p (branch_value strip a c1) (branch_value strip b c1)))
 
 abbrev pub element : {C E S : Type 0} → Span → E → E → C → Plan C E S Value
 element span a i c = behind_two a i c (element_of span)

@@ -84,6 +84,10 @@ note_of (In n a p es) = n
 abbrev pub tree_at : Tree → Span
 tree_at t = (note_of t).span
 
+-- the type of its value
+abbrev pub tree_type : Tree → Ty
+tree_type t = (note_of t).ty
+
 -- ---- places
 
 -- a step from a place into its value, with the place of its faults

@@ -1,6 +1,6 @@
 -- What typed trees do, over a state of bare values: a name and a field are places, and nothing is asked of types or of what can be assigned. The plans are those
 -- of the untyped trees, but for names, fields, constructions and places; a value that goes into a place with a written type takes the bitfields that are written
--- there.
+-- there. Where no bits occur in the type of a value, its bitfields aren't looked for.
 use Rattle.std.specs.Prelude.{ℕ, zero, suc, Bool, true, false, List, [], ◌∷◌, ◌++◌, length, map, take, replicate, slice_get, Option, Some, None, option_map, option_and_then}
 use Rattle.asl_syn.specs.declared.token.Span.{Span}
 use Rattle.asl_syn.specs.declared.code.DynCode.TheVariants.{D15}
@@ -8,10 +8,12 @@ use Rattle.asl_rules.specs.declared.slot.Slot.{Slot}
 use Rattle.asl_rules.specs.declared.slot.Slot.TheVariants.{Local, Global}
 use Rattle.asl_rules.specs.Types.{Ty}
 use Rattle.asl_rules.specs.Trees as tree
-use Rattle.asl_rules.specs.Trees.{Tree, Trees, no_tree, tree_and, tree_at, Act, Acts, no_act, act_and, act_at, Branches, no_branch, branch_and, Alternatives, no_alternative, alternative_and, Catchers, no_catcher, catcher_and, Last, none_last, otherwise, TreeStep, TreePlace, TreeItem, Taken, Callee, own, of_library, TreeFunc}
+use Rattle.asl_rules.specs.Trees.{Tree, Trees, no_tree, tree_and, tree_at, tree_type, Act, Acts, no_act, act_and, act_at, Branches, no_branch, branch_and, Alternatives, no_alternative, alternative_and, Catchers, no_catcher, catcher_and, Last, none_last, otherwise, TreeStep, TreePlace, TreeItem, Taken, Callee, own, of_library, TreeFunc}
 use Rattle.asl_rules.specs.ByPlace as places
 use Rattle.asl_rules.specs.ByPlace.{Step, seen_as, seen_where, part_in}
 use Rattle.asl_rules.specs.Values.{Value, Exit}
+use Rattle.asl_rules.specs.Views.{stripping}
+use Rattle.asl_rules.specs.HoldsBits.{holds_bits}
 use Rattle.asl_rules.specs.Vectors.{slices_of, bitfield_of, bitfields_of}
 use Rattle.asl_rules.specs.Matching.{is_matched}
 use Rattle.asl_rules.specs.Written.{Sized, filled, converted}
@@ -165,7 +167,7 @@ tree_node p (tree.Constant n x) c = Ret x c
 tree_node p (tree.Read n s) c = at_once (known n.span (value_at s c)) c
 tree_node p (tree.Unary n o a) c = behind a c (unary_value n.span o)
 tree_node p (tree.Binary n o a b) c = operation p.limit n.span o a b c
-tree_node p (tree.Conditional n e a b) c = conditional n.span e a b c
+tree_node p (tree.Conditional n e a b) c = conditional (stripping (holds_bits n.ty)) n.span e a b c
 tree_node p (tree.Tuple n es) c = tuple (list_of es) c
 tree_node p (tree.Construct n s gs es) c = behind_all (list_of es) c (places.constructed n.span s gs)
 tree_node p (tree.Call n s is ps es) c = call (list_of ps) (list_of es) c (call_of p n.span s is) (function_gives n.span)
@@ -209,13 +211,13 @@ step_ahead (tree.into_slices span shapes es) = by_all (list_of es) (places.into_
 step_ahead (tree.into_element span e) = by_one e (places.into_element span)
 
 -- a store at the end of these steps
-abbrev pub stored : ℕ → Span → Slot → Value → List Step → BareCore → Pure BareCore
-stored limit span s y ss c = known span (value_at s c) >>= λ x. places.updated limit ss y x >>= λ z. put span s z c
+abbrev pub stored : ℕ → Bool → Span → Slot → Value → List Step → BareCore → Pure BareCore
+stored limit holds span s y ss c = known span (value_at s c) >>= λ x. places.updated limit holds ss y x >>= λ z. put span s z c
 
 -- the stores of an assignment, each of its part of the value
-abbrev pub stores : ℕ → List TreePlace → Value → Pure (List (Store BareCore Tree Step))
-stores limit [] x = Good []
-stores limit (p ∷ ps) x = part_in p.span p.way x >>= λ y. stores limit ps x >>= λ ss. Good (record { steps = map step_ahead p.steps; put = stored limit p.span p.slot y } ∷ ss)
+abbrev pub stores : ℕ → Bool → List TreePlace → Value → Pure (List (Store BareCore Tree Step))
+stores limit holds [] x = Good []
+stores limit holds (p ∷ ps) x = part_in p.span p.way x >>= λ y. stores limit holds ps x >>= λ ss. Good (record { steps = map step_ahead p.steps; put = stored limit holds p.span p.slot y } ∷ ss)
 
 -- ---- statements
 
@@ -233,7 +235,7 @@ act_node p (tree.Unreachable span) c = Stop (Faulted D15 span) c
 act_node p (tree.Assert span e) c = assertion span e c
 act_node p (tree.Declare span T b e) c = with_value e (declared span T b) c
 act_node p (tree.DeclareFirst span n at t es) c = with_values (list_of es) (λ zs. declared_first span n (filled p.limit at t zs)) c
-act_node p (tree.Assign span ps e) c = assignment e (stores p.limit ps) c
+act_node p (tree.Assign span ps e) c = assignment e (stores p.limit (holds_bits (tree_type e)) ps) c
 act_node p (tree.Invoke span s is ps es) c = call (list_of ps) (list_of es) c (call_of p span s is) (procedure_gives span)
 act_node p (tree.If span e first others last) c = branch in_bare span e (acts_of first) (branches in_bare itself span (branches_of others) (acts_of last)) c
 act_node p (tree.Case span e others last) c = case_of in_bare itself span e (choices_of p.limit others) (last_of last) c

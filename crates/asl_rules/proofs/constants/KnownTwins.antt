@@ -16,6 +16,7 @@ use Rattle.asl_rules.specs.Operators.{binary_value, unary_value, truth, Decided,
 use Rattle.asl_rules.specs.Structures.{element_of, field_of, constructed}
 use Rattle.asl_rules.specs.Vectors.{literal_bits, slices_of, bitfields_of, bitfields_named}
 use Rattle.asl_rules.specs.Written.{converted}
+use Rattle.asl_rules.specs.Views.{stripped}
 use Rattle.asl_rules.specs.Forms.{at_once, literal, behind, behind_all, behind_more, eval_all, behind_left, unless_decided, branch_value}
 use Rattle.asl_rules.specs.Shaped.{itself, exprs_in, shapes_in, given_parts, slice_parts, pattern_parts, type_parts, Shaped, TypeOver, Unread, given_layer, slice_layer, part_layer, bitfield_layer, pattern_layer, type_layer, range_parts, bitfield_parts}
 use Rattle.asl_rules.specs.ByNames.{matched_in, expr_plan}
@@ -107,7 +108,7 @@ module _ (env : Environment) (c : Core) (P : Expr → Type 0) where
   left_twin span o b x w Strict = behind_twin b (binary_value env.limit span o x) w
   left_twin span o b x w (Lazy f) = lift_twin (truth span x) (λ p. unless_decided env.limit span o b x c (f p)) (λ p. unless_decided env.limit span o (constant env.limit b) x env.names (f p)) (λ p. decided_twin span o b x w (f p))
 
-  branch_twin : (a b : Expr) → P a → P b → (p : Bool) → Twin (choose p (branch_value a c) (branch_value b c)) (choose p (branch_value (constant env.limit a) env.names) (branch_value (constant env.limit b) env.names))
+  branch_twin : (a b : Expr) → P a → P b → (p : Bool) → Twin (choose p (branch_value stripped a c) (branch_value stripped b c)) (choose p (branch_value stripped (constant env.limit a) env.names) (branch_value stripped (constant env.limit b) env.names))
   branch_twin a b v w true = (refl, (refl, (v, λ y. (refl, refl))))
   branch_twin a b v w false = (refl, (refl, (w, λ y. (refl, refl))))
 
@@ -205,7 +206,7 @@ module _ (env : Environment) (c : Core) (P : Expr → Type 0) where
   layer_twin holds (ex.Name span name) = once_twin (known span (value_here env name c)) (known span (initial_value (standing_of name env.names))) (ap (known span) (holds name))
   layer_twin holds (ex.Unary span o a) = behind_twin a.0 (unary_value span o) a.1
   layer_twin holds (ex.Binary span o a b) = (refl, (refl, (a.1, λ x. left_twin span o b.0 x b.1 (strictness o))))
-  layer_twin holds (ex.Conditional span e a b) = (refl, (refl, (e.1, λ x. lift_twin (truth span x) (λ p. choose p (branch_value a.0 c) (branch_value b.0 c)) (λ p. choose p (branch_value (constant env.limit a.0) env.names) (branch_value (constant env.limit b.0) env.names)) (branch_twin a.0 b.0 a.1 b.1))))
+  layer_twin holds (ex.Conditional span e a b) = (refl, (refl, (e.1, λ x. lift_twin (truth span x) (λ p. choose p (branch_value stripped a.0 c) (branch_value stripped b.0 c)) (λ p. choose p (branch_value stripped (constant env.limit a.0) env.names) (branch_value stripped (constant env.limit b.0) env.names)) (branch_twin a.0 b.0 a.1 b.1))))
   layer_twin holds (ex.Tuple span es) = all_twin (map (λ e. e.0) es) [] _ _ (all_here P es) (λ xs. (refl, refl))
   layer_twin holds (ex.Construct span i fs) =
       let gs = map (λ f. f.0) fs in

@@ -28,7 +28,8 @@ use Rattle.asl_rules.specs.Operations.{of_booleans, binary_rule, unary_rule}
 use Rattle.asl_rules.specs.Members.{element_in, indexed}
 use Rattle.asl_rules.specs.Exprs.{literal_type, found, typed, apart, operation_rule, operation_rule_of_two, conditional_rule, tuple_rule, element_rule, name_of_standing, bits_rule_of}
 use Rattle.asl_rules.specs.Values.{Value, bool, tuple_with, is_width, value}
-use Rattle.asl_rules.specs.Views.{stripped, parts_viewed}
+use Rattle.asl_rules.specs.Views.{stripped, stripping, parts_viewed}
+use Rattle.asl_rules.specs.HoldsBits.{holds_bits}
 use Rattle.asl_rules.specs.States.{Core}
 use Rattle.asl_rules.specs.Belonging.{InType, has_type, parts_have}
 use Rattle.asl_rules.specs.Agreement.{types_in}
@@ -44,6 +45,7 @@ use Rattle.asl_rules.specs.Erasure.{erased}
 use Rattle.asl_rules.proofs.basics.Inversions.{ok_ok, err_ok, bind_ok, then_ok, need_ok, found_ok}
 use Rattle.asl_rules.proofs.basics.Tests.{both, and_true}
 use Rattle.asl_rules.proofs.values.SameKind.{number_is}
+use Rattle.asl_rules.proofs.values.Bitless.{stripping_is}
 use Rattle.asl_rules.proofs.values.Joining.{bare_join}
 use Rattle.asl_rules.proofs.values.KindsByNames.{one_kind}
 use Rattle.asl_rules.proofs.scopes.Lookups.{Finds, finds, label_value, label_outside}
@@ -234,8 +236,8 @@ module _ (tests : Tests) (right : IsRight tests) (ds : List Decl) (base : List E
       (λ xs g. let p = parts_in H s.value xs g in (refl, (p.have, p.built, ap tuple_with p.seen))))))
 
   branch_same : (H : Here) (e : Expr) (S : Typed) (U : Ty) (c : Core) → typed tests e H.scope ≡ Ok S → At tests base subs H c → ((x : Value) → InType (types_in base) H.present x S.ty → InType (types_in base) H.present (stripped x) U) →
-      Same tests right base subs H (Out tests right base subs H U) (branch_value e c) (branch_value S.tree (erased c))
-  branch_same H e S U c h a k = operand tests right base subs H (Out tests right base subs H U) e S c (λ y c1. Ret (stripped y) c1) (λ y c1. Ret (stripped y) c1) h a (λ y c1 i a1. (refl, (refl, (k y i, a1))))
+      Same tests right base subs H (Out tests right base subs H U) (branch_value stripped e c) (branch_value (stripping (holds_bits U)) S.tree (erased c))
+  branch_same H e S U c h a k = operand tests right base subs H (Out tests right base subs H U) e S c (λ y c1. Ret (stripped y) c1) (λ y c1. Ret (stripping (holds_bits U) y) c1) h a (λ y c1 i a1. (refl, (stripping_is H.present U y (k y i).0, (k y i, a1))))
 
   chosen_same : {A B : Type 0} (H : Here) (Q : A → B → Core → Type 0) (b : Bool) (p q : Does A) (r s : Runs B) → Same tests right base subs H Q p r → Same tests right base subs H Q q s → Same tests right base subs H Q (choose b p q) (choose b r s)
   chosen_same H Q true p q r s k l = k
@@ -257,7 +259,7 @@ module _ (tests : Tests) (right : IsRight tests) (ds : List Decl) (base : List E
       let U = bare u.value in
       let join_of = bare_join H.present tests right (types_in base) (well_declared base w) F.value.ty G.value.ty u.value in
       formed H S (ex.Conditional span e f g) c span U (greatest Pure ks) make (finish_is H.scope.class span (all_together Pure ks) (greatest Pure ks) U make S u.then) refl
-      (operand tests right base subs H (Out tests right base subs H U) e C.value c (λ x c1. lift (truth span x) c1 (λ p. choose p (branch_value f c1) (branch_value g c1))) (λ x c1. lift (truth span x) c1 (λ p. choose p (branch_value F.value.tree c1) (branch_value G.value.tree c1))) C.first a
-      (λ x c1 i a1. truth_same tests right base subs H (Out tests right base subs H U) span x C.value.ty c1 (λ p. choose p (branch_value f c1) (branch_value g c1)) (λ p. choose p (branch_value F.value.tree (erased c1)) (branch_value G.value.tree (erased c1))) (need_ok (is_boolean C.value.ty) T05 (found tests e).span tt b.first) i
-      (λ p. chosen_same H (Out tests right base subs H U) p (branch_value f c1) (branch_value g c1) (branch_value F.value.tree (erased c1)) (branch_value G.value.tree (erased c1))
+      (operand tests right base subs H (Out tests right base subs H U) e C.value c (λ x c1. lift (truth span x) c1 (λ p. choose p (branch_value stripped f c1) (branch_value stripped g c1))) (λ x c1. lift (truth span x) c1 (λ p. choose p (branch_value (stripping (holds_bits U)) F.value.tree c1) (branch_value (stripping (holds_bits U)) G.value.tree c1))) C.first a
+      (λ x c1 i a1. truth_same tests right base subs H (Out tests right base subs H U) span x C.value.ty c1 (λ p. choose p (branch_value stripped f c1) (branch_value stripped g c1)) (λ p. choose p (branch_value (stripping (holds_bits U)) F.value.tree (erased c1)) (branch_value (stripping (holds_bits U)) G.value.tree (erased c1))) (need_ok (is_boolean C.value.ty) T05 (found tests e).span tt b.first) i
+      (λ p. chosen_same H (Out tests right base subs H U) p (branch_value stripped f c1) (branch_value stripped g c1) (branch_value (stripping (holds_bits U)) F.value.tree (erased c1)) (branch_value (stripping (holds_bits U)) G.value.tree (erased c1))
       (branch_same H f F.value U c1 F.first a1 (λ y v. join_of y s t v.1 j (inl v.0))) (branch_same H g G.value U c1 G.first a1 (λ y v. join_of y s t v.1 j (inr v.0))))))

@@ -1,5 +1,5 @@
 -- Assignments with their typed trees: each place of the target takes its part of the value, and the stores do the same.
-use Rattle.std.proofs.Common.{◌≡◌, ℕ, suc, ◌+◌, true, List, [], ◌∷◌, ◌++◌, Option, Some, None, Ok, refl, sym, ap, ◌∙◌, subst, map, arith}
+use Rattle.std.proofs.Common.{◌≡◌, ℕ, suc, ◌+◌, Bool, true, false, List, [], ◌∷◌, ◌++◌, Option, Some, None, Ok, refl, sym, ap, ◌∙◌, subst, map, arith}
 use Rattle.asl_syn.specs.declared.token.Span.{Span}
 use Rattle.asl_syn.specs.declared.code.StaticCode.TheVariants.{T02, T05, T14}
 use Rattle.asl_syn.specs.declared.tree.Expr.{Expr}
@@ -19,12 +19,13 @@ use Rattle.asl_rules.specs.Scopes.{Scope, Entry, Signature, Storage, Stored, sta
 use Rattle.asl_rules.specs.Layouts.{slot_of, layout_of}
 use Rattle.asl_rules.specs.WellFormed.{WellFormed, Shaped, ShapedParts, Built, BuiltAll}
 use Rattle.asl_rules.specs.Trees as tree
-use Rattle.asl_rules.specs.Trees.{Tree, Act, TreeFunc}
+use Rattle.asl_rules.specs.Trees.{Tree, Act, TreeFunc, tree_type}
 use Rattle.asl_rules.specs.Typing.{Operand}
 use Rattle.asl_rules.specs.Acting.{done, operand_of}
 use Rattle.asl_rules.specs.Targets.{TypedSuffix, typed_suffixes, Reached, behind_suffixes, TypedPlace, FoundTarget, inside, all_places, parts_count, all_count, target_layer, found_target, place_effects, Placed, assignable, placed_at, placed, all_placed, writings, tree_places, part_number, part_behind, part_of, part_fits, all_parts_fit, assign_rule}
 use Rattle.asl_rules.specs.Values.{Value, Values, tuple_with, no_value, value, Exit, Normal}
 use Rattle.asl_rules.specs.Views.{viewed, parts_viewed}
+use Rattle.asl_rules.specs.HoldsBits.{holds_bits, has_bits}
 use Rattle.asl_rules.specs.States.{Core}
 use Rattle.asl_rules.specs.Belonging.{has_type, parts_have, InType}
 use Rattle.asl_rules.specs.Agreement.{types_in}
@@ -43,6 +44,7 @@ use Rattle.asl_rules.proofs.basics.Tests.{no, both, some_same, none_some}
 use Rattle.asl_rules.proofs.values.Shapes.{named_parts}
 use Rattle.asl_rules.proofs.values.Viewing.{same_first, same_rest, tuple_same}
 use Rattle.asl_rules.proofs.values.Keeping.{satisfying_keeps}
+use Rattle.asl_rules.proofs.values.Bitless.{none_in, updated_is, part_without}
 use Rattle.asl_rules.proofs.scopes.Lookups.{finds, storage_standing}
 use Rattle.asl_rules.proofs.scopes.Naming.{WellNamed, well_declared, scope_good}
 use Rattle.asl_rules.proofs.scopes.WellTyped.{FormedSubs, typed_formed}
@@ -51,6 +53,7 @@ use Rattle.asl_rules.proofs.scopes.Slots.{has_names, slot_is}
 use Rattle.asl_rules.proofs.expressions.Claims.{Here, StmtClaim, At}
 use Rattle.asl_rules.proofs.expressions.TreePlans.{Same, operand}
 use Rattle.asl_rules.proofs.expressions.ExprForms.{env, found_at}
+use Rattle.asl_rules.proofs.expressions.Places.{tree_typed}
 use Rattle.asl_rules.proofs.statements.StmtForms.{here, Held, OutAct, Acted, acted, operand_typed, ended_is, ends_here}
 use Rattle.asl_rules.proofs.statements.AssignStores.{store_same}
 use Rattle.asl_rules.proofs.statements.AssignForms.{Ways, suffixes_formed, suffixes_same}
@@ -229,8 +232,10 @@ module _ (tests : Tests) (right : IsRight tests) (ds : List Decl) (base : List E
     pub is_mutable : storage.is_mutable ≡ true
     pub has_it : has_type av one reached.ty ≡ true
     pub built : Built d one
+    pub holds : Bool
+    pub none : holds ≡ false → has_bits one ≡ false
     pub first_is : record { steps = steps_of name suffixes; put = store_at (env tests right ds base subs funcs w) name one } ≡ u
-    pub second_is : record { steps = map step_ahead reached.steps; put = stored tests.limit name.span (slot_of name.text (layout_of G.names)) one } ≡ v
+    pub second_is : record { steps = map step_ahead reached.steps; put = stored tests.limit holds name.span (slot_of name.text (layout_of G.names)) one } ≡ v
 
   abbrev AllTwo : List StoreHere → List StoreThere → Type 0
   AllTwo [] [] = Unit {0}
@@ -243,11 +248,11 @@ module _ (tests : Tests) (right : IsRight tests) (ds : List Decl) (base : List E
     pub is : r ≡ Good list
     pub two : AllTwo us list
 
-  all_stored : (c : Core) (o : Operand) (x : Value) (ps : List TypedPlace) (qs : List Placed) (us : List StoreHere) → At tests base subs H c → AllTake o.typed.ty x ps us → all_placed ps G ≡ Ok qs → all_parts_fit tests qs o ≡ Ok tt → Stored_all us (stores tests.limit (tree_places qs) x)
-  all_stored c o x [] qs [] a t h k = subst (λ z. Stored_all [] (stores tests.limit (tree_places z) x)) (ok_ok [] qs h) (record { list = []; is = refl; two = tt })
-  all_stored c o x [] qs (u ∷ us) a t h k = absurd t
-  all_stored c o x (p ∷ ps) qs [] a t h k = absurd t
-  all_stored c o x (p ∷ ps) qs (u ∷ us) a t h k =
+  all_stored : (c : Core) (o : Operand) (x : Value) (holds : Bool) → (holds ≡ false → has_bits x ≡ false) → (ps : List TypedPlace) (qs : List Placed) (us : List StoreHere) → At tests base subs H c → AllTake o.typed.ty x ps us → all_placed ps G ≡ Ok qs → all_parts_fit tests qs o ≡ Ok tt → Stored_all us (stores tests.limit holds (tree_places qs) x)
+  all_stored c o x holds none [] qs [] a t h k = subst (λ z. Stored_all [] (stores tests.limit holds (tree_places z) x)) (ok_ok [] qs h) (record { list = []; is = refl; two = tt })
+  all_stored c o x holds none [] qs (u ∷ us) a t h k = absurd t
+  all_stored c o x holds none (p ∷ ps) qs [] a t h k = absurd t
+  all_stored c o x holds none (p ∷ ps) qs (u ∷ us) a t h k =
       let q = bind_ok (placed p G) _ qs h in
       let l = bind_ok (all_placed ps G) _ qs q.then in
       let s = bind_ok (assignable p.name G) _ q.value q.first in
@@ -263,12 +268,12 @@ module _ (tests : Tests) (right : IsRight tests) (ds : List Decl) (base : List E
       let f = then_ok (part_fits tests (part_of p.way (Some o.typed.ty)) r.value.ty o.span) _ tt k1 in
       let g : part_fits tests (Some t.0.ty) r.value.ty o.span ≡ Ok tt = subst (λ v. part_fits tests v r.value.ty o.span ≡ Ok tt) t.0.ty_is f.first in
       let formed = suffixes_formed tests right ds base subs funcs w G p.suffixes s.value.ty r.value (scope_good av base G.names c w a.agrees p.name.text (Stored s.value) stands) r.first in
-      let rest = all_stored c o x ps l.value us a t.1 l.first f.then in
-      let v : StoreThere = record { steps = map step_ahead r.value.steps; put = stored tests.limit p.name.span (slot_of p.name.text (layout_of G.names)) t.0.one } in
-      subst (λ e. Stored_all (u ∷ us) (stores tests.limit (tree_places e) x)) are
+      let rest = all_stored c o x holds none ps l.value us a t.1 l.first f.then in
+      let v : StoreThere = record { steps = map step_ahead r.value.steps; put = stored tests.limit holds p.name.span (slot_of p.name.text (layout_of G.names)) t.0.one } in
+      subst (λ e. Stored_all (u ∷ us) (stores tests.limit holds (tree_places e) x)) are
       (record {
         list = v ∷ rest.list;
-        is = ap (λ e. pure.◌>>=◌ e (λ y. pure.◌>>=◌ (stores tests.limit (tree_places l.value) x) (λ ss. Good (record { steps = map step_ahead r.value.steps; put = stored tests.limit p.name.span (slot_of p.name.text (layout_of G.names)) y } ∷ ss)))) (t.0.part_is p.name.span)
+        is = ap (λ e. pure.◌>>=◌ e (λ y. pure.◌>>=◌ (stores tests.limit holds (tree_places l.value) x) (λ ss. Good (record { steps = map step_ahead r.value.steps; put = stored tests.limit holds p.name.span (slot_of p.name.text (layout_of G.names)) y } ∷ ss)))) (t.0.part_is p.name.span)
             ∙ ap (λ e. pure.◌>>=◌ e (λ ss. Good (v ∷ ss))) rest.is;
         two = (
           record {
@@ -284,6 +289,8 @@ module _ (tests : Tests) (right : IsRight tests) (ds : List Decl) (base : List E
             is_mutable = mutable;
             has_it = satisfying_keeps av tests right d (well_declared base w) t.0.ty r.value.ty t.0.one t.0.formed formed t.0.belongs.1 (fitted_ok (misfit tests t.0.ty r.value.ty) o.span tt g) t.0.belongs.0;
             built = t.0.belongs.1;
+            holds = holds;
+            none = λ e. part_without p.name.span p.way x t.0.one (none e) (t.0.part_is p.name.span);
             first_is = t.0.is;
             second_is = refl;
           },
@@ -307,7 +314,7 @@ module _ (tests : Tests) (right : IsRight tests) (ds : List Decl) (base : List E
   -- one store, and what follows it
   store_then : {A B : Type 0} (Q : A → B → Core → Type 0) (u : StoreHere) (v : StoreThere) (t : Two u v) (ss : List Step) (ps : List places.Step) (c : Core) (k : Core → Does A) (l : BareCore → Runs B) → Ways tests right ds base subs funcs w H t.storage.ty t.reached.ty ss ps → At tests base subs H c →
       ((c1 : Core) → At tests base subs H c1 → Same tests right base subs H Q (k c1) (l (erased c1))) →
-      Same tests right base subs H Q (lift (store_at (env tests right ds base subs funcs w) t.name t.one ss c) c k) (lift (stored tests.limit t.name.span (slot_of t.name.text (layout_of G.names)) t.one ps (erased c)) (erased c) l)
+      Same tests right base subs H Q (lift (store_at (env tests right ds base subs funcs w) t.name t.one ss c) c k) (lift (stored tests.limit t.holds t.name.span (slot_of t.name.text (layout_of G.names)) t.one ps (erased c)) (erased c) l)
   store_then Q u v t ss ps c k l ways a next =
       let e = env tests right ds base subs funcs w in
       let span = t.name.span in
@@ -315,9 +322,9 @@ module _ (tests : Tests) (right : IsRight tests) (ds : List Decl) (base : List E
       let f = found_at av d t.storage (or_value (value_of t.name.text c.frame) (value_of t.name.text c.globals)) (finds av base G.names c t.name.text t.storage a.agrees t.stands) in
       let r = slot_is f.one t.name.text G.names c (has_names av base G.names c w.outside a.agrees) f.is in
       let b = ways span t.one f.one t.has_it t.built f.belongs in
-      subst (λ z. Same tests right base subs H Q (lift (pure.◌>>=◌ z (λ x. pure.◌>>=◌ (updated e span ss t.one x) (λ y. store span t.name.text y c))) c k) (lift (stored tests.limit span slot t.one ps (erased c)) (erased c) l)) (sym (ap (known span) f.is))
-      (subst (λ z. Same tests right base subs H Q (lift (pure.◌>>=◌ (updated e span ss t.one f.one) (λ y. store span t.name.text y c)) c k) (lift (pure.◌>>=◌ z (λ x. pure.◌>>=◌ (places.updated tests.limit ps t.one x) (λ y. put span slot y (erased c)))) (erased c) l)) (sym (ap (known span) r))
-      (stored_by Q span t.name.text t.storage (updated e span ss t.one f.one) (places.updated tests.limit ps t.one f.one) c k l b.0 b.1 a t.stands t.is_mutable next))
+      subst (λ z. Same tests right base subs H Q (lift (pure.◌>>=◌ z (λ x. pure.◌>>=◌ (updated e span ss t.one x) (λ y. store span t.name.text y c))) c k) (lift (stored tests.limit t.holds span slot t.one ps (erased c)) (erased c) l)) (sym (ap (known span) f.is))
+      (subst (λ z. Same tests right base subs H Q (lift (pure.◌>>=◌ (updated e span ss t.one f.one) (λ y. store span t.name.text y c)) c k) (lift (pure.◌>>=◌ z (λ x. pure.◌>>=◌ (places.updated tests.limit t.holds ps t.one x) (λ y. put span slot y (erased c)))) (erased c) l)) (sym (ap (known span) r))
+      (stored_by Q span t.name.text t.storage (updated e span ss t.one f.one) (places.updated tests.limit t.holds ps t.one f.one) c k l (b.0 ∙ updated_is tests.limit t.holds ps t.one f.one t.none) b.1 a t.stands t.is_mutable next))
 
   one_same : {A B : Type 0} (Q : A → B → Core → Type 0) (u : StoreHere) (v : StoreThere) (c : Core) (k : Core → Does A) (l : BareCore → Runs B) → Two u v → At tests base subs H c → ((c1 : Core) → At tests base subs H c1 → Same tests right base subs H Q (k c1) (l (erased c1))) →
       Same tests right base subs H Q (eval_steps u.steps [] c (λ ns c1. lift (u.put ns c1) c1 k)) (eval_steps v.steps [] (erased c) (λ ns c1. lift (v.put ns c1) c1 l))
@@ -326,7 +333,7 @@ module _ (tests : Tests) (right : IsRight tests) (ds : List Decl) (base : List E
       let slot = slot_of t.name.text (layout_of G.names) in
       subst (λ (z : StoreHere). Same tests right base subs H Q (eval_steps z.steps [] c (λ ns c1. lift (z.put ns c1) c1 k)) (eval_steps v.steps [] (erased c) (λ ns c1. lift (v.put ns c1) c1 l))) t.first_is
       (subst (λ (z : StoreThere). Same tests right base subs H Q (eval_steps (steps_of t.name t.suffixes) [] c (λ ns c1. lift (store_at e t.name t.one ns c1) c1 k)) (eval_steps z.steps [] (erased c) (λ ns c1. lift (z.put ns c1) c1 l))) t.second_is
-      (suffixes_same tests right ds base subs funcs w H Q t.name t.suffixes t.typed_list t.storage.ty t.reached [] [] c (λ ns c1. lift (store_at e t.name t.one ns c1) c1 k) (λ ns c1. lift (stored tests.limit t.name.span slot t.one ns c1) c1 l)
+      (suffixes_same tests right ds base subs funcs w H Q t.name t.suffixes t.typed_list t.storage.ty t.reached [] [] c (λ ns c1. lift (store_at e t.name t.one ns c1) c1 k) (λ ns c1. lift (stored tests.limit t.holds t.name.span slot t.one ns c1) c1 l)
       (scope_good av base G.names c w a.agrees t.name.text (Stored t.storage) t.stands) t.typed_so t.behind_is a
       (λ ss ps c1 ways a1. store_then Q u v t ss ps c1 k l ways a1 next)))
 
@@ -353,13 +360,14 @@ module _ (tests : Tests) (right : IsRight tests) (ds : List Decl) (base : List E
       let act : Act = tree.Assign span (tree_places q.value) S.tree in
       let dn = done G1.names kind act in
       let ty = operand_typed tests e G1 o.value o.first in
+      let holds = holds_bits (tree_type S.tree) in
       let formed = typed_formed tests right (types_in base) (well_declared base w) e G1 S (scope_good j.present base G1.names c w k.at.agrees) (subst (FormedSubs tests right (types_in base) (well_declared base w)) (sym k.at.subs_are) k.subs_formed) ty in
       acted tests right ds base subs funcs w j true (st.Assign span t e) c dn (ended_is G1.class span (all_together Pure ks) kind G1.names act j.done n.then) refl
-      (λ i. operand tests right base subs H1 (OutAct tests right ds base subs funcs w j true) e S c (λ x c1. lift (assigned t ev span x) c1 (λ ss. store_each ss c1)) (λ x c1. lift (stores tests.limit (tree_places q.value) x) c1 (λ ss. store_each ss c1)) ty k.at
+      (λ i. operand tests right base subs H1 (OutAct tests right ds base subs funcs w j true) e S c (λ x c1. lift (assigned t ev span x) c1 (λ ss. store_each ss c1)) (λ x c1. lift (stores tests.limit holds (tree_places q.value) x) c1 (λ ss. store_each ss c1)) ty k.at
       (λ x c1 v a1.
       let g = target_good tests right ds base subs funcs w H1 t S.ty x p.value span p.first (need_ok ((found_target tests t).counts S.ty) T05 span tt n.first) formed v in
-      let z = all_stored tests right ds base subs funcs w H1 c1 o.value x p.value q.value g.list a1 g.take q.first f.first in
-      subst (λ r. Same tests right base subs H1 (OutAct tests right ds base subs funcs w j true) (lift r c1 (λ ss. store_each ss c1)) (lift (stores tests.limit (tree_places q.value) x) (erased c1) (λ ss. store_each ss (erased c1)))) (sym g.is)
+      let z = all_stored tests right ds base subs funcs w H1 c1 o.value x holds (λ n. none_in j.present S.ty x (sym (ap holds_bits (tree_typed tests e G1 S ty)) ∙ n) v.0) p.value q.value g.list a1 g.take q.first f.first in
+      subst (λ r. Same tests right base subs H1 (OutAct tests right ds base subs funcs w j true) (lift r c1 (λ ss. store_each ss c1)) (lift (stores tests.limit holds (tree_places q.value) x) (erased c1) (λ ss. store_each ss (erased c1)))) (sym g.is)
       (subst (λ r. Same tests right base subs H1 (OutAct tests right ds base subs funcs w j true) (store_each g.list c1) (lift r (erased c1) (λ ss. store_each ss (erased c1)))) (sym z.is)
       (stores_same tests right ds base subs funcs w H1 (OutAct tests right ds base subs funcs w j true) g.list z.list c1 z.two a1
       (λ c2 a2. (refl, ends_here tests right ds base subs funcs w j c2 dn i refl a2))))))

@@ -433,7 +433,7 @@ module _ (env : Environment) (w : WellDeclared (types_in env.names)) (av : Assig
 
   -- these steps by names and by places do the same, from a value of the first type to one that fits the second
   abbrev pub Updates : Ty → Ty → List Step → List places.Step → Type 0
-  Updates T U ss ps = (at : Span) (y x : Value) → has_type av y U ≡ true → Built d y → InType d av x T → Both d av T (updated env at ss y x) (places.updated env.limit ps y x)
+  Updates T U ss ps = (at : Span) (y x : Value) → has_type av y U ≡ true → Built d y → InType d av x T → Both d av T (updated env at ss y x) (places.updated env.limit true ps y x)
 
   pub no_steps : (T : Ty) → Updates T T [] []
   no_steps T at y x h b i =
@@ -448,16 +448,16 @@ module _ (env : Environment) (w : WellDeclared (types_in env.names)) (av : Assig
   pub field_step : (T U : Ty) (span : Span) (f : List ℕ) (m : Member) (ss : List Step) (ps : List places.Step) → Shaped d T → member_of T f ≡ Some m → Updates (member_type m) U ss ps → Updates T U (into_field span f ∷ ss) (place_step span m ∷ ps)
   field_step T U span f (a_field n V) ss ps t e next at y x h b i =
       let g = member_gives d w av tests right span f T (a_field n V) x t e i in
-      both_then d av V T (field_of span f x) (places.field_in span n x) (λ q. updated env at ss y q >>= λ r. with_field (types_of env) span f r x) (λ q. places.updated env.limit ps y q >>= λ r. with_field_in span n r x) g.same g.gives (λ q u j.
+      both_then d av V T (field_of span f x) (places.field_in span n x) (λ q. updated env at ss y q >>= λ r. with_field (types_of env) span f r x) (λ q. places.updated env.limit true ps y q >>= λ r. with_field_in span n r x) g.same g.gives (λ q u j.
       let c = next at y q h b j in
-      both_then d av V T (updated env at ss y q) (places.updated env.limit ps y q) (λ r. with_field (types_of env) span f r x) (λ r. with_field_in span n r x) c.0 c.1 (λ r v k.
+      both_then d av V T (updated env at ss y q) (places.updated env.limit true ps y q) (λ r. with_field (types_of env) span f r x) (λ r. with_field_in span n r x) c.0 c.1 (λ r v k.
       put_both d w av tests right T x (with_field (types_of env) span f r x) (with_field_in span n r x) (member_put d w av tests right span f T (a_field n V) x r t e i k)))
   field_step T U span f (a_bitfield n) ss ps t e next at y x h b i =
       let V = bits_wide (bitfield_width n) in
       let g = member_gives d w av tests right span f T (a_bitfield n) x t e i in
-      both_then d av V T (field_of span f x) (bitfield_of span n x) (λ q. updated env at ss y q >>= λ r. with_field (types_of env) span f r x) (λ q. places.updated env.limit ps y q >>= λ r. with_bitfield span n r x) g.same g.gives (λ q u j.
+      both_then d av V T (field_of span f x) (bitfield_of span n x) (λ q. updated env at ss y q >>= λ r. with_field (types_of env) span f r x) (λ q. places.updated env.limit true ps y q >>= λ r. with_bitfield span n r x) g.same g.gives (λ q u j.
       let c = next at y q h b j in
-      both_then d av V T (updated env at ss y q) (places.updated env.limit ps y q) (λ r. with_field (types_of env) span f r x) (λ r. with_bitfield span n r x) c.0 c.1 (λ r v k.
+      both_then d av V T (updated env at ss y q) (places.updated env.limit true ps y q) (λ r. with_field (types_of env) span f r x) (λ r. with_bitfield span n r x) c.0 c.1 (λ r v k.
       put_both d w av tests right T x (with_field (types_of env) span f r x) (with_bitfield span n r x) (member_put d w av tests right span f T (a_bitfield n) x r t e i k)))
 
   pub bitfields_step : (T U : Ty) (span : Span) (is : List Ident) (fs : List BitField) (ss : List Step) (ps : List places.Step) → Shaped d T → is_bits T ≡ true → bitfields_in is (view_of T) ≡ Ok fs → Updates (bits_wide (all_wide fs)) U ss ps → Updates T U (into_fields span is ∷ ss) (places.into_bitfields span fs ∷ ps)
@@ -468,10 +468,10 @@ module _ (env : Environment) (w : WellDeclared (types_in env.names)) (av : Assig
       let are : bitfields_named span is x ≡ Good fs = ap (bitfields_named span is) z.is ∙ each_found d w av tests right span is z.view fs found in
       let g = bitfields_give d w av tests right env.limit span is T fs x t e k i in
       let qs = places_of_fields fs in
-      subst (λ o. Both d av T (o >>= λ gs. bitfields_of env.limit span gs x >>= λ q. updated env at ss y q >>= λ r. with_bitfields env.limit span gs r x) (places.updated env.limit (places.into_bitfields span fs ∷ ps) y x)) (sym are)
-      (both_then d av V T (bitfields_of env.limit span fs x) (bitfields_of env.limit span fs x) (λ q. updated env at ss y q >>= λ r. with_bitfields env.limit span fs r x) (λ q. places.updated env.limit ps y q >>= λ r. with_bitfields env.limit span fs r x) refl (subst (Gives d av V) g.0 g.1) (λ q u j.
+      subst (λ o. Both d av T (o >>= λ gs. bitfields_of env.limit span gs x >>= λ q. updated env at ss y q >>= λ r. with_bitfields env.limit span gs r x) (places.updated env.limit true (places.into_bitfields span fs ∷ ps) y x)) (sym are)
+      (both_then d av V T (bitfields_of env.limit span fs x) (bitfields_of env.limit span fs x) (λ q. updated env at ss y q >>= λ r. with_bitfields env.limit span fs r x) (λ q. places.updated env.limit true ps y q >>= λ r. with_bitfields env.limit span fs r x) refl (subst (Gives d av V) g.0 g.1) (λ q u j.
       let c = next at y q h b j in
-      both_then d av V T (updated env at ss y q) (places.updated env.limit ps y q) (λ r. with_bitfields env.limit span fs r x) (λ r. with_bitfields env.limit span fs r x) c.0 c.1 (λ r v l. (
+      both_then d av V T (updated env at ss y q) (places.updated env.limit true ps y q) (λ r. with_bitfields env.limit span fs r x) (λ r. with_bitfields env.limit span fs r x) c.0 c.1 (λ r v l. (
         refl,
         subst (λ u1. Gives d av T (with_bitfields env.limit span fs r u1)) (sym z.is)
             (within_put d w av tests right (nat_le (total_width qs) env.limit) T span qs r z.bits z.view
@@ -479,16 +479,16 @@ module _ (env : Environment) (w : WellDeclared (types_in env.names)) (av : Assig
       ))))
 
   slices_of_bits : (T U : Ty) (span : Span) (sl : List SliceShape) (zs : List Value) (list : List Slicing) (p : Polynomial) (ss : List Step) (ps : List places.Step) (at : Span) (y : Value) (bs : List Bool) (u : View) → is_bits T ≡ true → slicings sl zs ≡ Some list → width_at p av ≡ all_widths list → Updates (bits_of p []) U ss ps →
-      has_type av y U ≡ true → Built d y → InType d av (bits_with bs u) T → Both d av T (updated env at (into_slices span sl zs ∷ ss) y (bits_with bs u)) (places.updated env.limit (places.into_slices span sl zs ∷ ps) y (bits_with bs u))
+      has_type av y U ≡ true → Built d y → InType d av (bits_with bs u) T → Both d av T (updated env at (into_slices span sl zs ∷ ss) y (bits_with bs u)) (places.updated env.limit true (places.into_slices span sl zs ∷ ps) y (bits_with bs u))
   slices_of_bits T U span sl zs list p ss ps at y bs u k s e next h b i =
       let x = bits_with bs u in
       let V = bits_of p [] in
       both_holds d av T (λ qs. (all_widths list ≡ pos (total_width qs)) × AllWithin (Some (length bs)) qs) (slice_places env.limit span sl zs x)
-      (λ qs. bits_at span qs x >>= λ q. updated env at ss y q >>= λ r. with_slices env.limit span sl zs r x) (λ qs. bits_at span qs x >>= λ q. places.updated env.limit ps y q >>= λ r. with_slices env.limit span sl zs r x)
+      (λ qs. bits_at span qs x >>= λ q. updated env at ss y q >>= λ r. with_slices env.limit span sl zs r x) (λ qs. bits_at span qs x >>= λ q. places.updated env.limit true ps y q >>= λ r. with_slices env.limit span sl zs r x)
       (subst (λ o. Holds (λ qs. (all_widths list ≡ pos (total_width qs)) × AllWithin (Some (length bs)) qs) (tested env.limit span (Some (length bs)) o)) (sym s) (tested_places env.limit span (Some (length bs)) list)) (λ qs is a.
       let q = plain_bits (read_bits qs bs) in
       let c = next at y q h b (bits_given d av tests right p (read_bits qs bs) (total_width qs) (all_widths list) e a.0 (bits_read bs qs a.1)) in
-      both_then d av V T (updated env at ss y q) (places.updated env.limit ps y q) (λ r. with_slices env.limit span sl zs r x) (λ r. with_slices env.limit span sl zs r x) c.0 c.1 (λ r v l.
+      both_then d av V T (updated env at ss y q) (places.updated env.limit true ps y q) (λ r. with_slices env.limit span sl zs r x) (λ r. with_slices env.limit span sl zs r x) c.0 c.1 (λ r v l.
       let m = bits_put d w av tests right T span qs p r bs u k a.1 (e ∙ a.0) l i in
       (refl, subst (Gives d av T) (sym (ap (λ o. o >>= λ qs1. with_places span qs1 r x) is ∙ m.is)) m.belongs)))
 
@@ -496,12 +496,12 @@ module _ (env : Environment) (w : WellDeclared (types_in env.names)) (av : Assig
       Updates T U (into_slices span sl zs ∷ ss) (places.into_slices span sh zs ∷ ps)
   slices_step T U span sl sh zs list p ss ps same t k s e next at y x h b i =
       let z = bits_in d w av tests right T x t k i in
-      subst (λ l. Both d av T (updated env at (into_slices span l zs ∷ ss) y x) (places.updated env.limit (places.into_slices span sh zs ∷ ps) y x)) (sym same)
-      (subst (λ u. Both d av T (updated env at (into_slices span sh zs ∷ ss) y u) (places.updated env.limit (places.into_slices span sh zs ∷ ps) y u)) (sym z.is)
+      subst (λ l. Both d av T (updated env at (into_slices span l zs ∷ ss) y x) (places.updated env.limit true (places.into_slices span sh zs ∷ ps) y x)) (sym same)
+      (subst (λ u. Both d av T (updated env at (into_slices span sh zs ∷ ss) y u) (places.updated env.limit true (places.into_slices span sh zs ∷ ps) y u)) (sym z.is)
       (slices_of_bits T U span sh zs list p ss ps at y z.bits z.view k s e next h b (subst (λ u. InType d av u T) z.is i)))
 
   pub element_step : (T V I U : Ty) (span : Span) (v : Value) (ss : List Step) (ps : List places.Step) → element_in T ≡ Some V → is_integer I ≡ true → InType d av v I → Updates V U ss ps → Updates T U (into_element span v ∷ ss) (places.into_element span v ∷ ps)
   element_step T V I U span v ss ps e k n next at y x h b i =
-      both_then d av V T (element_of span x v) (element_of span x v) (λ q. updated env at ss y q >>= λ r. with_element span r x v) (λ q. places.updated env.limit ps y q >>= λ r. with_element span r x v) refl (element_gives d av tests right span T I V x v e k i n) (λ q u j.
+      both_then d av V T (element_of span x v) (element_of span x v) (λ q. updated env at ss y q >>= λ r. with_element span r x v) (λ q. places.updated env.limit true ps y q >>= λ r. with_element span r x v) refl (element_gives d av tests right span T I V x v e k i n) (λ q u j.
       let c = next at y q h b j in
-      both_then d av V T (updated env at ss y q) (places.updated env.limit ps y q) (λ r. with_element span r x v) (λ r. with_element span r x v) c.0 c.1 (λ r z m. (refl, with_element_gives d w av tests right span T V I x v r e k n i m)))
+      both_then d av V T (updated env at ss y q) (places.updated env.limit true ps y q) (λ r. with_element span r x v) (λ r. with_element span r x v) c.0 c.1 (λ r z m. (refl, with_element_gives d w av tests right span T V I x v r e k n i m)))

@@ -4,6 +4,7 @@ use Rattle.std.specs.Prelude.{option_map}
 use Rattle.asl_syn.specs.declared.token.Span.{Span}
 use Rattle.asl_syn.specs.declared.tree.BinaryOperator.{BinaryOperator}
 use Rattle.asl_rules.specs.Shaped.{Shaped, TypeOver, itself, exprs_in, shapes_in, type_shapes, first_shape}
+use Rattle.asl_rules.specs.Views.{stripped}
 use Rattle.asl_rules.specs.Closed.{closed}
 use Rattle.asl_rules.specs.Values.{Value}
 use Rattle.asl_rules.specs.Operators.{Decided, Already, ByRight, Strictness, Strict, Lazy, binary_value, truth}
@@ -68,11 +69,11 @@ module _ (limit : ℕ) (A B : List Entry) where
   behind_left_same at span o b x Strict h = behind_same at b (binary_value limit span o x) h
   behind_left_same at span o b x (Lazy f) h = truly at span o b x f (truth span x) h
 
-  branch_same : (at : Span) (a b : Known) (p : Bool) → KnownSame a → KnownSame b → settled at A (choose p (forms.branch_value a A) (forms.branch_value b A)) ≡ settled at B (choose p (forms.branch_value a B) (forms.branch_value b B))
+  branch_same : (at : Span) (a b : Known) (p : Bool) → KnownSame a → KnownSame b → settled at A (choose p (forms.branch_value stripped a A) (forms.branch_value stripped b A)) ≡ settled at B (choose p (forms.branch_value stripped a B) (forms.branch_value stripped b B))
   branch_same at a b true h i = pure_same (a A) (a B) _ _ h (λ y. refl)
   branch_same at a b false h i = pure_same (b A) (b B) _ _ i (λ y. refl)
 
-  pub taken_same : (at : Span) (a b : Known) (r : Pure Bool) → KnownSame a → KnownSame b → settled at A (lift r A (λ p. choose p (forms.branch_value a A) (forms.branch_value b A))) ≡ settled at B (lift r B (λ p. choose p (forms.branch_value a B) (forms.branch_value b B)))
+  pub taken_same : (at : Span) (a b : Known) (r : Pure Bool) → KnownSame a → KnownSame b → settled at A (lift r A (λ p. choose p (forms.branch_value stripped a A) (forms.branch_value stripped b A))) ≡ settled at B (lift r B (λ p. choose p (forms.branch_value stripped a B) (forms.branch_value stripped b B)))
   taken_same at a b (Good p) h i = branch_same at a b p h i
   taken_same at a b (Bad e) h i = refl
 
