@@ -172,25 +172,25 @@ begun (Some x) fs d e s n n1 has deep p = λ told. expr_done fs d (tree_of e) x 
 
 pub put_local : (b : Bool) (i : ℕ) (x : Value) (s s1 : Run) → Sets b i x s.frame s1.frame → s1 ≡ record s { frame = s1.frame } → Puts b (Some x) (Local i) s s1
 put_local false i x s s1 e is = is ∙ ap (λ new. record s { frame = new }) e
-put_local true i x s s1 e is = λ span.
-    local_put span i [] x (core_of s) ∙ ap (λ (r : Pure (List Value)). r >>= λ xs. Good (record (core_of s) { frame = xs })) (e span) ∙ ap (λ (t : Run). Good (core_of t)) (sym is)
+put_local true i x s s1 e is = λ holds span.
+    local_put holds span i [] x (core_of s) ∙ ap (λ (r : Pure (List Value)). r >>= λ xs. Good (record (core_of s) { frame = xs })) (e holds span) ∙ ap (λ (t : Run). Good (core_of t)) (sym is)
 
 pub put_global : (b : Bool) (i : ℕ) (x : Value) (s s1 : Run) → Sets b i x s.globals s1.globals → s1 ≡ record s { globals = s1.globals } → Puts b (Some x) (Global i) s s1
 put_global false i x s s1 e is = is ∙ ap (λ new. record s { globals = new }) e
-put_global true i x s s1 e is = λ span.
-    global_put span i [] x (core_of s) ∙ ap (λ (r : Pure (List Value)). r >>= λ xs. Good (record (core_of s) { globals = xs })) (e span) ∙ ap (λ (t : Run). Good (core_of t)) (sym is)
+put_global true i x s s1 e is = λ holds span.
+    global_put holds span i [] x (core_of s) ∙ ap (λ (r : Pure (List Value)). r >>= λ xs. Good (record (core_of s) { globals = xs })) (e holds span) ∙ ap (λ (t : Run). Good (core_of t)) (sym is)
 
 -- ---- assignments
 
 -- a value that was found is stored in a place without steps
-pub assigned : (o : Option Value) (fs : List TreeFunc) (d : ℕ) (p : TreePlace) (e : TypedTree) (s s1 : Run) (n n1 : ℕ) → p.way ≡ [] → p.steps ≡ [] → Finds o fs d e s n n1 → Puts true o p.slot s s1 → s1.text_open ≡ s.text_open →
-    Executed true fs d (assignment (tree_of e) (stores WIDTH_LIMIT (place_of p ∷ []))) s n (record s1 { steps = n1 })
-assigned None fs d p e s s1 n n1 whole direct f put same = absurd put
-assigned (Some x) fs d p e s s1 n n1 whole direct f put same = λ told.
-    ap (λ (t : Outcome BareCore Value). handle t (λ y c h. run (meaning_of fs d) (lift (stores WIDTH_LIMIT (place_of p ∷ []) y) c (λ ss. store_each ss c)) h) Thrown) (f told) ∙
-    ap (λ (w : List ℕ). run (meaning_of fs d) (lift (stores WIDTH_LIMIT ((record (place_of p) { way = w }) ∷ []) x) (core_of s) (λ ss. store_each ss (core_of s))) (meter_at n1 told s)) whole ∙
-    ap (λ (ts : List TreeStep). run (meaning_of fs d) (store_each ((record { steps = map step_ahead (map step_of ts); put = stored WIDTH_LIMIT p.span p.slot x }) ∷ []) (core_of s)) (meter_at n1 told s)) direct ∙
-    ap (λ (r : Pure BareCore). run (meaning_of fs d) (lift r (core_of s) (store_each {N = Step} [])) (meter_at n1 told s)) (put p.span) ∙
+pub assigned : (o : Option Value) (holds : Bool) (fs : List TreeFunc) (d : ℕ) (p : TreePlace) (e : TypedTree) (s s1 : Run) (n n1 : ℕ) → p.way ≡ [] → p.steps ≡ [] → Finds o fs d e s n n1 → Puts true o p.slot s s1 → s1.text_open ≡ s.text_open →
+    Executed true fs d (assignment (tree_of e) (stores WIDTH_LIMIT holds (place_of p ∷ []))) s n (record s1 { steps = n1 })
+assigned None holds fs d p e s s1 n n1 whole direct f put same = absurd put
+assigned (Some x) holds fs d p e s s1 n n1 whole direct f put same = λ told.
+    ap (λ (t : Outcome BareCore Value). handle t (λ y c h. run (meaning_of fs d) (lift (stores WIDTH_LIMIT holds (place_of p ∷ []) y) c (λ ss. store_each ss c)) h) Thrown) (f told) ∙
+    ap (λ (w : List ℕ). run (meaning_of fs d) (lift (stores WIDTH_LIMIT holds ((record (place_of p) { way = w }) ∷ []) x) (core_of s) (λ ss. store_each ss (core_of s))) (meter_at n1 told s)) whole ∙
+    ap (λ (ts : List TreeStep). run (meaning_of fs d) (store_each ((record { steps = map step_ahead (map step_of ts); put = stored WIDTH_LIMIT holds p.span p.slot x }) ∷ []) (core_of s)) (meter_at n1 told s)) direct ∙
+    ap (λ (r : Pure BareCore). run (meaning_of fs d) (lift r (core_of s) (store_each {N = Step} [])) (meter_at n1 told s)) (put holds p.span) ∙
     ap (λ (b : Bool). Done Normal (core_of s1) (record { steps = n1; told = told; text_open = b })) (sym same)
 
 -- a statement is executed one step and one level below

@@ -1,5 +1,5 @@
 -- Steps and stores, one by one.
-use Rattle.std.proofs.Common.{◌≡◌, ℕ, suc, ◌+◌, ◌<◌, ◌≤◌, inl, List, [], ◌∷◌, ◌++◌, length, get_or, drop, map, Err, refl, sym, ap, ◌∙◌, subst, arith, append_assoc, append-nil}
+use Rattle.std.proofs.Common.{◌≡◌, ℕ, suc, ◌+◌, ◌<◌, ◌≤◌, inl, Bool, List, [], ◌∷◌, ◌++◌, length, get_or, drop, map, Err, refl, sym, ap, ◌∙◌, subst, arith, append_assoc, append-nil}
 use Rattle.std.proofs.Math.Seq.{drop-cons}
 use Rattle.std.proofs.lemmas.List.{at_drop_all, map-append}
 use Rattle.asl_bits.specs.declared.TheConstants.{WIDTH_LIMIT}
@@ -33,17 +33,17 @@ at_front xs k x within here =
     drop-cons xs k x within ∙ ap (λ n. get_or xs k x ∷ drop n xs) up ∙ ap (λ y. y ∷ drop (k + 1) xs) (sym here)
 
 -- the stores of the parts
-pub stores_are : (ps : List TreePlace) (x : Value) → stores WIDTH_LIMIT (all_places ps) x ≡ (parts_in ps x >>= λ ys. Good (all_taking ps ys))
-stores_are [] x = refl
-stores_are (p ∷ ps) x = first (part_in p.span p.way x) (stores_are ps x)
+pub stores_are : (holds : Bool) (ps : List TreePlace) (x : Value) → stores WIDTH_LIMIT holds (all_places ps) x ≡ (parts_in ps x >>= λ ys. Good (all_taking holds ps ys))
+stores_are holds [] x = refl
+stores_are holds (p ∷ ps) x = first (part_in p.span p.way x) (stores_are holds ps x)
   where
-    behind : (y : Value) (r : Pure (List Value)) → stores WIDTH_LIMIT (all_places ps) x ≡ (r >>= λ ys. Good (all_taking ps ys)) →
-        (stores WIDTH_LIMIT (all_places ps) x >>= λ ss. Good (taking p y ∷ ss)) ≡ ((r >>= λ ys. Good (y ∷ ys)) >>= λ ys. Good (all_taking (p ∷ ps) ys))
-    behind y (Good ys) e = ap (λ q. q >>= λ ss. Good (taking p y ∷ ss)) e
-    behind y (Bad end) e = ap (λ q. q >>= λ ss. Good (taking p y ∷ ss)) e
+    behind : (y : Value) (r : Pure (List Value)) → stores WIDTH_LIMIT holds (all_places ps) x ≡ (r >>= λ ys. Good (all_taking holds ps ys)) →
+        (stores WIDTH_LIMIT holds (all_places ps) x >>= λ ss. Good (taking holds p y ∷ ss)) ≡ ((r >>= λ ys. Good (y ∷ ys)) >>= λ ys. Good (all_taking holds (p ∷ ps) ys))
+    behind y (Good ys) e = ap (λ q. q >>= λ ss. Good (taking holds p y ∷ ss)) e
+    behind y (Bad end) e = ap (λ q. q >>= λ ss. Good (taking holds p y ∷ ss)) e
 
-    first : (r : Pure Value) → stores WIDTH_LIMIT (all_places ps) x ≡ (parts_in ps x >>= λ ys. Good (all_taking ps ys)) →
-        (r >>= λ y. stores WIDTH_LIMIT (all_places ps) x >>= λ ss. Good (taking p y ∷ ss)) ≡ ((r >>= λ y. parts_in ps x >>= λ ys. Good (y ∷ ys)) >>= λ ys. Good (all_taking (p ∷ ps) ys))
+    first : (r : Pure Value) → stores WIDTH_LIMIT holds (all_places ps) x ≡ (parts_in ps x >>= λ ys. Good (all_taking holds ps ys)) →
+        (r >>= λ y. stores WIDTH_LIMIT holds (all_places ps) x >>= λ ss. Good (taking holds p y ∷ ss)) ≡ ((r >>= λ y. parts_in ps x >>= λ ys. Good (y ∷ ys)) >>= λ ys. Good (all_taking holds (p ∷ ps) ys))
     first (Good y) e = behind y (parts_in ps x) e
     first (Bad end) e = refl
 
@@ -117,32 +117,32 @@ step_given_up fs d ts k t before n c h c1 h1 q0 h0 within here done l =
 -- ---- places in turn
 
 -- two lists at the same place
-both_front : (ps : List TreePlace) (ys : List Stored) (k : ℕ) (p : TreePlace) (y : Stored) → k < length ps → k < length ys → p ≡ get_or ps k p → y ≡ get_or ys k y →
-    all_taking (drop k ps) (map value_of (drop k ys)) ≡ taking p (value_of y) ∷ all_taking (drop (k + 1) ps) (map value_of (drop (k + 1) ys))
-both_front ps ys k p y i j a b = ap (λ l. all_taking l (map value_of (drop k ys))) (at_front ps k p i a) ∙ ap (λ l. all_taking (p ∷ drop (k + 1) ps) (map value_of l)) (at_front ys k y j b)
+both_front : (holds : Bool) (ps : List TreePlace) (ys : List Stored) (k : ℕ) (p : TreePlace) (y : Stored) → k < length ps → k < length ys → p ≡ get_or ps k p → y ≡ get_or ys k y →
+    all_taking holds (drop k ps) (map value_of (drop k ys)) ≡ taking holds p (value_of y) ∷ all_taking holds (drop (k + 1) ps) (map value_of (drop (k + 1) ys))
+both_front holds ps ys k p y i j a b = ap (λ l. all_taking holds l (map value_of (drop k ys))) (at_front ps k p i a) ∙ ap (λ l. all_taking holds (p ∷ drop (k + 1) ps) (map value_of l)) (at_front ys k y j b)
 
 -- a place was stored, and the places behind it are left
-pub store_next : (fs : List TreeFunc) (d : ℕ) (ps : List TreePlace) (ys : List Stored) (k : ℕ) (p : TreePlace) (y : Stored) (x : Exit) (c : BareCore) (h : Meter) (c1 : BareCore) (h1 : Meter) (q0 : Runs Exit) (h0 : Meter) →
-    k < length ps → k < length ys → p ≡ get_or ps k p → y ≡ get_or ys k y → run (meaning_of fs d) (store_each (taking p (value_of y) ∷ []) c) h ≡ Done x c1 h1 →
-    Left fs d (store_each (all_taking (drop k ps) (map value_of (drop k ys))) c) h q0 h0 → Left fs d (store_each (all_taking (drop (k + 1) ps) (map value_of (drop (k + 1) ys))) c1) h1 q0 h0
-store_next fs d ps ys k p y x c h c1 h1 q0 h0 i j a b done l =
-    let s = taking p (value_of y) in
-    let rest = all_taking (drop (k + 1) ps) (map value_of (drop (k + 1) ys)) in
+pub store_next : (fs : List TreeFunc) (d : ℕ) (holds : Bool) (ps : List TreePlace) (ys : List Stored) (k : ℕ) (p : TreePlace) (y : Stored) (x : Exit) (c : BareCore) (h : Meter) (c1 : BareCore) (h1 : Meter) (q0 : Runs Exit) (h0 : Meter) →
+    k < length ps → k < length ys → p ≡ get_or ps k p → y ≡ get_or ys k y → run (meaning_of fs d) (store_each (taking holds p (value_of y) ∷ []) c) h ≡ Done x c1 h1 →
+    Left fs d (store_each (all_taking holds (drop k ps) (map value_of (drop k ys))) c) h q0 h0 → Left fs d (store_each (all_taking holds (drop (k + 1) ps) (map value_of (drop (k + 1) ys))) c1) h1 q0 h0
+store_next fs d holds ps ys k p y x c h c1 h1 q0 h0 i j a b done l =
+    let s = taking holds p (value_of y) in
+    let rest = all_taking holds (drop (k + 1) ps) (map value_of (drop (k + 1) ys)) in
     left_left fs d (store_each rest c1) (store_each (s ∷ rest) c) q0 h h1 h0
     (goes_on fs d (store_each (s ∷ []) c) (store_each (s ∷ rest) c) (λ z c2. store_each rest c2) (one_stored fs d s rest c) h x c1 h1 done)
-    (subst (λ ss. Left fs d (store_each ss c) h q0 h0) (both_front ps ys k p y i j a b) l)
+    (subst (λ ss. Left fs d (store_each ss c) h q0 h0) (both_front holds ps ys k p y i j a b) l)
 
 -- a place was not stored
-pub store_failed : (fs : List TreeFunc) (d : ℕ) (ps : List TreePlace) (ys : List Stored) (k : ℕ) (p : TreePlace) (y : Stored) (c : BareCore) (h : Meter) (e : Stopped) (c1 : BareCore) (h1 : Meter) (q0 : Runs Exit) (h0 : Meter) →
-    k < length ps → k < length ys → p ≡ get_or ps k p → y ≡ get_or ys k y → Meets exit_of (Err e) c1 h1 (run (meaning_of fs d) (store_each (taking p (value_of y) ∷ []) c) h) (cuts (meaning_of fs d) (cutting_of fs d) (store_each (taking p (value_of y) ∷ []) c) h) →
-    Left fs d (store_each (all_taking (drop k ps) (map value_of (drop k ys))) c) h q0 h0 → Meets exit_of (Err e) c1 h1 (run (meaning_of fs d) q0 h0) (cuts (meaning_of fs d) (cutting_of fs d) q0 h0)
-store_failed fs d ps ys k p y c h e c1 h1 q0 h0 i j a b m l =
-    let s = taking p (value_of y) in
-    let rest = all_taking (drop (k + 1) ps) (map value_of (drop (k + 1) ys)) in
-    meets_left exit_of fs d (store_each (s ∷ rest) c) q0 h0 h (subst (λ ss. Left fs d (store_each ss c) h q0 h0) (both_front ps ys k p y i j a b) l) (Err e) c1 h1
+pub store_failed : (fs : List TreeFunc) (d : ℕ) (holds : Bool) (ps : List TreePlace) (ys : List Stored) (k : ℕ) (p : TreePlace) (y : Stored) (c : BareCore) (h : Meter) (e : Stopped) (c1 : BareCore) (h1 : Meter) (q0 : Runs Exit) (h0 : Meter) →
+    k < length ps → k < length ys → p ≡ get_or ps k p → y ≡ get_or ys k y → Meets exit_of (Err e) c1 h1 (run (meaning_of fs d) (store_each (taking holds p (value_of y) ∷ []) c) h) (cuts (meaning_of fs d) (cutting_of fs d) (store_each (taking holds p (value_of y) ∷ []) c) h) →
+    Left fs d (store_each (all_taking holds (drop k ps) (map value_of (drop k ys))) c) h q0 h0 → Meets exit_of (Err e) c1 h1 (run (meaning_of fs d) q0 h0) (cuts (meaning_of fs d) (cutting_of fs d) q0 h0)
+store_failed fs d holds ps ys k p y c h e c1 h1 q0 h0 i j a b m l =
+    let s = taking holds p (value_of y) in
+    let rest = all_taking holds (drop (k + 1) ps) (map value_of (drop (k + 1) ys)) in
+    meets_left exit_of fs d (store_each (s ∷ rest) c) q0 h0 h (subst (λ ss. Left fs d (store_each ss c) h q0 h0) (both_front holds ps ys k p y i j a b) l) (Err e) c1 h1
     (goes_failed exit_of exit_of fs d (store_each (s ∷ []) c) (store_each (s ∷ rest) c) (λ z c2. store_each rest c2) (one_stored fs d s rest c) h e c1 h1 m)
 
 -- no place is left
-pub stores_ended : (fs : List TreeFunc) (d : ℕ) (ps : List TreePlace) (zs : List Value) (k : ℕ) (c : BareCore) (h : Meter) (q0 : Runs Exit) (h0 : Meter) → length ps ≤ k →
-    Left fs d (store_each (all_taking (drop k ps) zs) c) h q0 h0 → Left fs d (Ret Normal c) h q0 h0
-stores_ended fs d ps zs k c h q0 h0 e l = subst (λ us. Left fs d (store_each (all_taking us zs) c) h q0 h0) (at_drop_all (λ us. us) ps k e) l
+pub stores_ended : (fs : List TreeFunc) (d : ℕ) (holds : Bool) (ps : List TreePlace) (zs : List Value) (k : ℕ) (c : BareCore) (h : Meter) (q0 : Runs Exit) (h0 : Meter) → length ps ≤ k →
+    Left fs d (store_each (all_taking holds (drop k ps) zs) c) h q0 h0 → Left fs d (Ret Normal c) h q0 h0
+stores_ended fs d holds ps zs k c h q0 h0 e l = subst (λ us. Left fs d (store_each (all_taking holds us zs) c) h q0 h0) (at_drop_all (λ us. us) ps k e) l

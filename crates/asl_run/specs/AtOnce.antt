@@ -66,13 +66,13 @@ decided_as (Some r) = Already r
 -- a value was stored among values, or they are the same
 abbrev pub Sets : {Z : Type 0} → Bool → ℕ → rules.Value → Vec Value Z → Vec Value Z → Type 0
 Sets false i x old new = new ≡ old
-Sets true i x old new = (span : Span) → stored_in span i [] x (map value_of old.items) ≡ Good (map value_of new.items)
+Sets true i x old new = (holds : Bool) (span : Span) → stored_in holds span i [] x (map value_of old.items) ≡ Good (map value_of new.items)
 
 -- what was found was stored in a place, or the state is the same
 abbrev pub Puts : Bool → Option rules.Value → Slot → Run → Run → Type 0
 Puts false o slot s s1 = s1 ≡ s
 Puts true None slot s s1 = ⊥
-Puts true (Some x) slot s s1 = (span : Span) → stored WIDTH_LIMIT span slot x [] (core_of s) ≡ Good (core_of s1)
+Puts true (Some x) slot s s1 = (holds : Bool) (span : Span) → stored WIDTH_LIMIT holds span slot x [] (core_of s) ≡ Good (core_of s1)
 
 -- ---- statements
 

@@ -1,5 +1,5 @@
 -- Assignments as parts of a run.
-use Rattle.std.specs.Prelude.{ℕ, List, [], ◌∷◌, ◌++◌, map, slice_get}
+use Rattle.std.specs.Prelude.{ℕ, Bool, List, [], ◌∷◌, ◌++◌, map, slice_get}
 use Rattle.asl_bits.specs.declared.TheConstants.{WIDTH_LIMIT}
 use Rattle.asl_syn.specs.declared.token.Span.{Span}
 use Rattle.asl_rules.specs.ByPlace.{Step, updated, part_in}
@@ -17,8 +17,8 @@ use Rattle.asl_tree.specs.declared.act.TreeStep.{TreeStep}
 -- ---- a store among values
 
 -- these values with another at the end of the steps from one of them
-abbrev pub stored_in : Span → ℕ → List Step → Value → List Value → Pure (List Value)
-stored_in span i ss y xs = known span (slice_get xs i) >>= λ x. updated WIDTH_LIMIT ss y x >>= λ z. known span (set_at i z xs)
+abbrev pub stored_in : Bool → Span → ℕ → List Step → Value → List Value → Pure (List Value)
+stored_in holds span i ss y xs = known span (slice_get xs i) >>= λ x. updated WIDTH_LIMIT holds ss y x >>= λ z. known span (set_at i z xs)
 
 -- ---- steps
 
@@ -41,13 +41,13 @@ parts_in [] x = Good []
 parts_in (p ∷ ps) x = part_in p.span p.way x >>= λ y. parts_in ps x >>= λ ys. Good (y ∷ ys)
 
 -- a place that takes its part
-abbrev pub taking : TreePlace → Value → Store BareCore Tree Step
-taking p y = record { steps = map step_ahead (place_of p).steps; put = stored WIDTH_LIMIT p.span p.slot y }
+abbrev pub taking : Bool → TreePlace → Value → Store BareCore Tree Step
+taking holds p y = record { steps = map step_ahead (place_of p).steps; put = stored WIDTH_LIMIT holds p.span p.slot y }
 
-abbrev pub all_taking : List TreePlace → List Value → List (Store BareCore Tree Step)
-all_taking [] ys = []
-all_taking (p ∷ ps) [] = []
-all_taking (p ∷ ps) (y ∷ ys) = taking p y ∷ all_taking ps ys
+abbrev pub all_taking : Bool → List TreePlace → List Value → List (Store BareCore Tree Step)
+all_taking holds [] ys = []
+all_taking holds (p ∷ ps) [] = []
+all_taking holds (p ∷ ps) (y ∷ ys) = taking holds p y ∷ all_taking holds ps ys
 
 -- these parts, and behind them those that places take
 abbrev pub parts_behind : List Value → List TreePlace → Value → Pure (List Value)

@@ -4,7 +4,9 @@ ghost use Rattle.asl_bits.specs.declared.TheConstants.{WIDTH_LIMIT};
 ghost use Rattle.asl_rules.specs.ByPlace.{into_slices};
 ghost use Rattle.asl_rules.specs.Forms.{eval_all as in_turn};
 ghost use Rattle.asl_rules.specs.Plans.{Ret, lift};
+ghost use Rattle.asl_rules.specs.HoldsBits as bits;
 ghost use Rattle.asl_rules.specs.StatementForms as forms;
+ghost use Rattle.asl_rules.specs.Trees.{tree_type};
 ghost use Rattle.asl_rules.specs.TypedMeaning as rules;
 ghost use Rattle.asl_rules.specs.TypedMeaning.{list_of};
 ghost use Rattle.asl_tree.specs.Acts.{all_places};
@@ -41,35 +43,37 @@ pub fn exec_assign<K: Sink, E: Fn(Setting, &mut Run, &mut K, &Tree) -> Result<Va
 ) -> Result<Exit, Stop>
     requires evals { Evals K.written K.faults K.full here.now.setting.funcs.now here.now.setting.depth (E.pre here.now.eval here.now.setting) (E.post here.now.eval here.now.setting) }
     ensures meets { Runs exit_of result here.now.setting.funcs.now here.now.setting.depth
-        (forms.assignment (tree_of e.now) (rules.stores WIDTH_LIMIT (all_places targets.now)))
+        (forms.assignment (tree_of e.now) (rules.stores WIDTH_LIMIT (bits.holds_bits (tree_type (tree_of e.now))) (all_places targets.now)))
         run.old (K.written sink.old) run.new (K.written sink.new) }
     ensures counts { Counts result (K.faults sink.old) (K.faults sink.new) }
     ensures same_full { K.full sink.new ≡ K.full sink.old }
     ensures keeps { Keeps result run.old run.new }
 {
+    let holds_bits = e.ty().holds_bits();
     let x = eval(here, run, sink, e)?;
-    store(here, run, sink, targets, x)
+    store(here, run, sink, targets, holds_bits, x)
 }
 
-/// Stores a value at these places, each its part.
+/// Stores a value at these places, each its part; it is known whether bits occur in its type.
 #[tactic(auto, using(crate::proofs::Storing::stores_are))]
 fn store<K: Sink, E: Fn(Setting, &mut Run, &mut K, &Tree) -> Result<Value, Stop>, X>(
     here: &Nodes<E, X>,
     run: &mut Run,
     sink: &mut K,
     targets: &[TreePlace],
+    holds_bits: bool,
     value: Value,
 ) -> Result<Exit, Stop>
     requires evals { Evals K.written K.faults K.full here.now.setting.funcs.now here.now.setting.depth (E.pre here.now.eval here.now.setting) (E.post here.now.eval here.now.setting) }
     ensures meets { Runs exit_of result here.now.setting.funcs.now here.now.setting.depth
-        (λ c. lift (rules.stores WIDTH_LIMIT (all_places targets.now) (value_of value)) c (λ ss. forms.store_each ss c))
+        (λ c. lift (rules.stores WIDTH_LIMIT holds_bits (all_places targets.now) (value_of value)) c (λ ss. forms.store_each ss c))
         run.old (K.written sink.old) run.new (K.written sink.new) }
     ensures counts { Counts result (K.faults sink.old) (K.faults sink.new) }
     ensures same_full { K.full sink.new ≡ K.full sink.old }
     ensures keeps { Keeps result run.old run.new }
 {
     let parts = parts_of(here.setting.alloc, targets, value)?;
-    store_all(here, run, sink, targets, parts.as_slice())
+    store_all(here, run, sink, targets, holds_bits, parts.as_slice())
 }
 
 /// The parts of a value that places take, in order.
@@ -91,12 +95,13 @@ fn store_all<K: Sink, E: Fn(Setting, &mut Run, &mut K, &Tree) -> Result<Value, S
     run: &mut Run,
     sink: &mut K,
     targets: &[TreePlace],
+    holds_bits: bool,
     parts: &[Value],
 ) -> Result<Exit, Stop>
     requires evals { Evals K.written K.faults K.full here.now.setting.funcs.now here.now.setting.depth (E.pre here.now.eval here.now.setting) (E.post here.now.eval here.now.setting) }
     requires as_many { length parts.now ≡ length targets.now }
     ensures meets { Runs exit_of result here.now.setting.funcs.now here.now.setting.depth
-        (forms.store_each (all_taking targets.now (map value_of parts.now)))
+        (forms.store_each (all_taking holds_bits targets.now (map value_of parts.now)))
         run.old (K.written sink.old) run.new (K.written sink.new) }
     ensures counts { Counts result (K.faults sink.old) (K.faults sink.new) }
     ensures same_full { K.full sink.new ≡ K.full sink.old }
@@ -104,7 +109,7 @@ fn store_all<K: Sink, E: Fn(Setting, &mut Run, &mut K, &Tree) -> Result<Value, S
 {
     let mut i = 0;
     while i < targets.len() {
-        store_one(here, run, sink, &targets[i], &parts[i])?;
+        store_one(here, run, sink, &targets[i], holds_bits, &parts[i])?;
         i += 1;
     }
     Ok(Exit::Normal)
@@ -116,11 +121,12 @@ fn store_one<K: Sink, E: Fn(Setting, &mut Run, &mut K, &Tree) -> Result<Value, S
     run: &mut Run,
     sink: &mut K,
     target: &TreePlace,
+    holds_bits: bool,
     part: &Value,
 ) -> Result<Exit, Stop>
     requires evals { Evals K.written K.faults K.full here.now.setting.funcs.now here.now.setting.depth (E.pre here.now.eval here.now.setting) (E.post here.now.eval here.now.setting) }
     ensures meets { Runs exit_of result here.now.setting.funcs.now here.now.setting.depth
-        (forms.store_each (taking target.now (value_of part.now) ∷ []))
+        (forms.store_each (taking holds_bits target.now (value_of part.now) ∷ []))
         run.old (K.written sink.old) run.new (K.written sink.new) }
     ensures counts { Counts result (K.faults sink.old) (K.faults sink.new) }
     ensures same_full { K.full sink.new ≡ K.full sink.old }
@@ -134,6 +140,7 @@ fn store_one<K: Sink, E: Fn(Setting, &mut Run, &mut K, &Tree) -> Result<Value, S
         target.span,
         target.slot,
         steps.as_slice(),
+        holds_bits,
         part.into_inner(),
     )
 }

@@ -10,7 +10,8 @@ ghost use Rattle.asl_rules.specs.Operators as operators;
 ghost use Rattle.asl_rules.specs.Plans.{Good};
 ghost use Rattle.asl_rules.specs.Pures.{known};
 ghost use Rattle.asl_rules.specs.StatementForms.{assignment};
-ghost use Rattle.asl_rules.specs.Trees.{Note as NoteOf, Read};
+ghost use Rattle.asl_rules.specs.HoldsBits.{holds_bits};
+ghost use Rattle.asl_rules.specs.Trees.{Note as NoteOf, Read, tree_type};
 ghost use Rattle.asl_rules.specs.TypedMeaning.{act_node, stores, tree_node, value_at as held};
 ghost use Rattle.asl_rules.specs.Values.{Value as Seen, bool, int};
 ghost use Rattle.asl_rules.specs.Views.{adopted};
@@ -447,7 +448,7 @@ fn put(run: &mut Run, slot: Slot, it: AtOnce) -> bool
 
 /// An assignment to a name, where so many steps are left; whether it was executed.
 fn assign(run: &mut Run, steps: u64, depth: u32, target: &TreePlace, e: &Tree) -> bool
-    ensures meets { (fs : List TreeFunc) → Executed result fs depth (assignment (tree_of e.now) (stores WIDTH_LIMIT (place_of target.now ∷ []))) run.old steps run.new }
+    ensures meets { (fs : List TreeFunc) → Executed result fs depth (assignment (tree_of e.now) (stores WIDTH_LIMIT (holds_bits (tree_type (tree_of e.now))) (place_of target.now ∷ []))) run.old steps run.new }
     ensures keeps { SameRound run.old run.new }
 {
     if !target.way.is_empty() {
@@ -468,7 +469,7 @@ fn assign(run: &mut Run, steps: u64, depth: u32, target: &TreePlace, e: &Tree) -
 
 /// An assignment to names, where so many steps are left; whether it was executed.
 fn assign_one(run: &mut Run, steps: u64, depth: u32, targets: &[TreePlace], e: &Tree) -> bool
-    ensures meets { (fs : List TreeFunc) → Executed result fs depth (assignment (tree_of e.now) (stores WIDTH_LIMIT (all_places targets.now))) run.old steps run.new }
+    ensures meets { (fs : List TreeFunc) → Executed result fs depth (assignment (tree_of e.now) (stores WIDTH_LIMIT (holds_bits (tree_type (tree_of e.now))) (all_places targets.now))) run.old steps run.new }
     ensures keeps { SameRound run.old run.new }
 {
     if targets.len() == 1 {

@@ -1,9 +1,10 @@
 //! Expressions: each function does what the rules say of a node. Its answer is `Stuck` exactly where they give no outcome.
-ghost use Rattle.std.specs.Prelude.{◌≡◌, map};
+ghost use Rattle.std.specs.Prelude.{◌≡◌, map, IfOk};
 ghost use Rattle.asl_bits.specs.declared.TheConstants.{WIDTH_LIMIT};
 ghost use Rattle.asl_rules.specs.Forms as forms;
 ghost use Rattle.asl_rules.specs.Operators as operators;
 ghost use Rattle.asl_rules.specs.TypedMeaning.{list_of, tree_node};
+ghost use Rattle.asl_rules.specs.Views.{stripping};
 ghost use Rattle.asl_tree.specs.View.{tree_of, all_trees};
 ghost use Rattle.asl_value.specs.View.{value_of};
 ghost use Rattle.asl_run.specs.Below.{Evals, Execs};
@@ -26,6 +27,7 @@ use asl_tree::act::Act;
 use asl_tree::tree::Tree;
 use asl_value::{Value, binary, copy, element_of, literal, strip, truth};
 use sqlite_items::Items;
+use std::alloc::{AllocError, Global};
 
 /// An operator with its operands.
 #[derive(Clone, Copy)]
@@ -80,6 +82,7 @@ pub fn eval_node<
             sink,
             Conditional {
                 span: note.span,
+                holds_bits: note.ty.holds_bits(),
                 condition: e.get(),
                 first: a.get(),
                 second: b.get(),
@@ -284,10 +287,11 @@ fn eval_right<K: Sink, E: Fn(Setting, &mut Run, &mut K, &Tree) -> Result<Value, 
     )?)
 }
 
-/// `if e then e else e`
+/// `if e then e else e`, and whether bits occur in its type.
 #[derive(Clone, Copy)]
 pub struct Conditional<'r> {
     pub span: Span,
+    pub holds_bits: bool,
     pub condition: &'r Tree,
     pub first: &'r Tree,
     pub second: &'r Tree,
@@ -301,7 +305,7 @@ fn eval_conditional<K: Sink, E: Fn(Setting, &mut Run, &mut K, &Tree) -> Result<V
 ) -> Result<Value, Stop>
     requires evals { Evals K.written K.faults K.full here.now.setting.funcs.now here.now.setting.depth (E.pre here.now.eval here.now.setting) (E.post here.now.eval here.now.setting) }
     ensures meets { Runs value_of result here.now.setting.funcs.now here.now.setting.depth
-        (forms.conditional it.entry.span (tree_of it.entry.condition.now) (tree_of it.entry.first.now) (tree_of it.entry.second.now))
+        (forms.conditional (stripping it.entry.holds_bits) it.entry.span (tree_of it.entry.condition.now) (tree_of it.entry.first.now) (tree_of it.entry.second.now))
         run.old (K.written sink.old) run.new (K.written sink.new) }
     ensures counts { Counts result (K.faults sink.old) (K.faults sink.new) }
     ensures same_full { K.full sink.new ≡ K.full sink.old }
@@ -309,9 +313,9 @@ fn eval_conditional<K: Sink, E: Fn(Setting, &mut Run, &mut K, &Tree) -> Result<V
 {
     let x = Held::new(eval(here, run, sink, it.condition)?);
     if truth(it.span, x.get())? {
-        eval_branch(here, run, sink, it.first)
+        eval_branch(here, run, sink, it.holds_bits, it.first)
     } else {
-        eval_branch(here, run, sink, it.second)
+        eval_branch(here, run, sink, it.holds_bits, it.second)
     }
 }
 
@@ -320,17 +324,29 @@ fn eval_branch<K: Sink, E: Fn(Setting, &mut Run, &mut K, &Tree) -> Result<Value,
     here: &Nodes<E, X>,
     run: &mut Run,
     sink: &mut K,
+    holds_bits: bool,
     e: &Tree,
 ) -> Result<Value, Stop>
     requires evals { Evals K.written K.faults K.full here.now.setting.funcs.now here.now.setting.depth (E.pre here.now.eval here.now.setting) (E.post here.now.eval here.now.setting) }
-    ensures meets { Runs value_of result here.now.setting.funcs.now here.now.setting.depth (forms.branch_value (tree_of e.now))
+    ensures meets { Runs value_of result here.now.setting.funcs.now here.now.setting.depth (forms.branch_value (stripping holds_bits) (tree_of e.now))
         run.old (K.written sink.old) run.new (K.written sink.new) }
     ensures counts { Counts result (K.faults sink.old) (K.faults sink.new) }
     ensures same_full { K.full sink.new ≡ K.full sink.old }
     ensures keeps { Keeps result run.old run.new }
 {
     let x = Held::new(eval(here, run, sink, e)?);
-    Ok(strip(here.setting.alloc, x.get())?)
+    Ok(stripped(here.setting.alloc, holds_bits, x)?)
+}
+
+/// A value without bitfields, where it is known whether bits occur in its type.
+fn stripped(alloc: Global, holds_bits: bool, x: Held<Value>) -> Result<Value, AllocError>
+    ensures { IfOk result (λ it. value_of it ≡ stripping holds_bits (value_of x)) }
+{
+    if holds_bits {
+        strip(alloc, x.get())
+    } else {
+        Ok(x.into_inner())
+    }
 }
 
 /// The values of expressions in order.

@@ -51,17 +51,18 @@ fn store_in(
     span: Span,
     at: usize,
     steps: &[Step],
+    holds_bits: bool,
     value: Value,
 ) -> Result<(), Stop>
     ensures stores { Stores result
-        (stored_in span at (all_steps steps.now) (value_of value) (map value_of values.old.items))
+        (stored_in holds_bits span at (all_steps steps.now) (value_of value) (map value_of values.old.items))
         values.old.items values.new.items }
 {
     if at >= values.len() {
         drop(value);
         return Err(Stop::Stuck(Mistake::UnknownName, span));
     }
-    replace(alloc, &mut values[at], steps, value)?;
+    replace(alloc, &mut values[at], steps, holds_bits, value)?;
     Ok(())
 }
 
@@ -72,21 +73,22 @@ pub fn assign_at(
     span: Span,
     slot: Slot,
     steps: &[Step],
+    holds_bits: bool,
     value: Value,
 ) -> Result<Exit, Stop>
     ensures acts { Acts result
-        (λ c. lift (rules.stored WIDTH_LIMIT span slot (value_of value) (all_steps steps.now) c) c done_normal)
+        (λ c. lift (rules.stored WIDTH_LIMIT holds_bits span slot (value_of value) (all_steps steps.now) c) c done_normal)
         run.old run.new }
     ensures none_refused { NoneRefused result }
     ensures keeps { Keeps result run.old run.new }
 {
     match slot {
         Slot::Local(i) => {
-            store_in(alloc, &mut run.frame, span, i, steps, value)?;
+            store_in(alloc, &mut run.frame, span, i, steps, holds_bits, value)?;
             Ok(Exit::Normal)
         }
         Slot::Global(i) => {
-            store_in(alloc, &mut run.globals, span, i, steps, value)?;
+            store_in(alloc, &mut run.globals, span, i, steps, holds_bits, value)?;
             Ok(Exit::Normal)
         }
     }

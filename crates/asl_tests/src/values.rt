@@ -252,7 +252,7 @@ fn replace_element(
     let mut steps = Items::new(alloc);
     steps.push(Step::Field(HERE, 1))?;
     steps.push(Step::Element(HERE, Value::Int(index)))?;
-    replace(alloc, value, steps.as_slice(), Value::Int(new))
+    replace(alloc, value, steps.as_slice(), false, Value::Int(new))
 }
 
 /// A record with an array in its field `y`.
@@ -300,7 +300,7 @@ fn long(alloc: Global) -> Result<Value, AllocError> {
 fn replace_last(alloc: Global, value: &mut Value) -> Result<(), Failure> {
     let mut steps = Items::new(alloc);
     steps.push(Step::Element(HERE, Value::Int(65535)))?;
-    replace(alloc, value, steps.as_slice(), Value::Int(8))
+    replace(alloc, value, steps.as_slice(), false, Value::Int(8))
 }
 
 /// How long the text of a value is, where it is written whole.

@@ -1,5 +1,5 @@
 -- Ways into values that can be followed.
-use Rattle.std.proofs.Common.{◌≡◌, ℕ, zero, suc, true, List, ◌∷◌, Option, Some, None, refl, sym, ap, ◌∙◌, subst}
+use Rattle.std.proofs.Common.{◌≡◌, ℕ, zero, suc, Bool, true, List, ◌∷◌, Option, Some, None, refl, sym, ap, ◌∙◌, subst}
 use Rattle.std.specs.Prelude.{pos, negsuc, option_map, Result, Ok, Err}
 use Rattle.std.specs.Option.{is_some}
 use Rattle.asl_syn.specs.declared.token.Span.{Span}
@@ -84,11 +84,11 @@ behind (Err (failure.WrongKind span)) p f g k = ap (λ q. q >>= f) k
 behind (Err (failure.UnknownType span)) p f g k = ap (λ q. q >>= f) k
 behind (Err failure.NoMemory) p f g k = tt
 
-pub field_on : (limit : ℕ) (result : Result (Unit {0}) Failure) (span : Span) (i : ℕ) (ss : List Step) (y x q : Value) → field_in span i x ≡ Good q → Reaches result (updated limit ss y q) → Reaches result (updated limit (into_field span i ∷ ss) y x)
-field_on limit result span i ss y x q h k = subst (Reaches result) (sym (ap (λ p. p >>= λ a. updated limit ss y a >>= λ r. with_field_in span i r x) h)) (behind result (updated limit ss y q) (λ r. with_field_in span i r x) (λ r. good_field span i x q r h) k)
+pub field_on : (limit : ℕ) (holds : Bool) (result : Result (Unit {0}) Failure) (span : Span) (i : ℕ) (ss : List Step) (y x q : Value) → field_in span i x ≡ Good q → Reaches result (updated limit holds ss y q) → Reaches result (updated limit holds (into_field span i ∷ ss) y x)
+field_on limit holds result span i ss y x q h k = subst (Reaches result) (sym (ap (λ p. p >>= λ a. updated limit holds ss y a >>= λ r. with_field_in span i r x) h)) (behind result (updated limit holds ss y q) (λ r. with_field_in span i r x) (λ r. good_field span i x q r h) k)
 
-pub element_on : (limit : ℕ) (result : Result (Unit {0}) Failure) (span : Span) (z : Value) (ss : List Step) (y x q : Value) → element_of span x z ≡ Good q → Reaches result (updated limit ss y q) → Reaches result (updated limit (into_element span z ∷ ss) y x)
-element_on limit result span z ss y x q h k = subst (Reaches result) (sym (ap (λ p. p >>= λ a. updated limit ss y a >>= λ r. with_element span r x z) h)) (behind result (updated limit ss y q) (λ r. with_element span r x z) (λ r. good_element span z x q r h) k)
+pub element_on : (limit : ℕ) (holds : Bool) (result : Result (Unit {0}) Failure) (span : Span) (z : Value) (ss : List Step) (y x q : Value) → element_of span x z ≡ Good q → Reaches result (updated limit holds ss y q) → Reaches result (updated limit holds (into_element span z ∷ ss) y x)
+element_on limit holds result span z ss y x q h k = subst (Reaches result) (sym (ap (λ p. p >>= λ a. updated limit holds ss y a >>= λ r. with_element span r x z) h)) (behind result (updated limit holds ss y q) (λ r. with_element span r x z) (λ r. good_element span z x q r h) k)
 
 -- a failure is one of what it is behind
 off : {A B : Type 0} (view : A → B) (e : Failure) (p : Pure B) (f : B → Pure Value) → Is view (Err e) p → Reaches (Err e) (p >>= f)
@@ -97,11 +97,11 @@ off view (failure.WrongKind span) p f h = ap (λ q. q >>= f) h
 off view (failure.UnknownType span) p f h = ap (λ q. q >>= f) h
 off view failure.NoMemory p f h = tt
 
-pub field_off : (limit : ℕ) (e : Failure) (span : Span) (i : ℕ) (ss : List Step) (y x : Value) → Is value_of (Err e) (field_in span i x) → Reaches (Err e) (updated limit (into_field span i ∷ ss) y x)
-field_off limit e span i ss y x h = off value_of e (field_in span i x) (λ a. updated limit ss y a >>= λ r. with_field_in span i r x) h
+pub field_off : (limit : ℕ) (holds : Bool) (e : Failure) (span : Span) (i : ℕ) (ss : List Step) (y x : Value) → Is value_of (Err e) (field_in span i x) → Reaches (Err e) (updated limit holds (into_field span i ∷ ss) y x)
+field_off limit holds e span i ss y x h = off value_of e (field_in span i x) (λ a. updated limit holds ss y a >>= λ r. with_field_in span i r x) h
 
-pub element_off : (limit : ℕ) (e : Failure) (span : Span) (z : Value) (ss : List Step) (y x : Value) → Is value_of (Err e) (element_of span x z) → Reaches (Err e) (updated limit (into_element span z ∷ ss) y x)
-element_off limit e span z ss y x h = off value_of e (element_of span x z) (λ a. updated limit ss y a >>= λ r. with_element span r x z) h
+pub element_off : (limit : ℕ) (holds : Bool) (e : Failure) (span : Span) (z : Value) (ss : List Step) (y x : Value) → Is value_of (Err e) (element_of span x z) → Reaches (Err e) (updated limit holds (into_element span z ∷ ss) y x)
+element_off limit holds e span z ss y x h = off value_of e (element_of span x z) (λ a. updated limit holds ss y a >>= λ r. with_element span r x z) h
 
 pub made_off : (e : Failure) (p : Pure Value) → Is value_of (Err e) p → Reaches (Err e) p
 made_off (failure.Fault code span) p h = h
@@ -121,10 +121,10 @@ unchanged_is e p old h = unchanged e p old (made_off e p h)
 
 -- ---- slices
 
-pub slices_put : (limit : ℕ) (result : Result code.Value Failure) (span : Span) (shapes : List SliceShape) (zs : List Value) (ss : List Step) (y x q r : Value) (ps : List Places) → slice_places limit span shapes zs x ≡ Good ps → bits_at span ps x ≡ Good q → updated limit ss y q ≡ Good r → Is value_of result (with_places span ps r x) → Is value_of result (updated limit (into_slices span shapes zs ∷ ss) y x)
-slices_put limit result span shapes zs ss y x q r ps a b c h = subst (Is value_of result) (sym (
-    ap (λ p. p >>= λ ps1. bits_at span ps1 x >>= λ q1. updated limit ss y q1 >>= λ r1. with_slices limit span shapes zs r1 x) a ∙
-    ap (λ p. p >>= λ q1. updated limit ss y q1 >>= λ r1. with_slices limit span shapes zs r1 x) b ∙
+pub slices_put : (limit : ℕ) (holds : Bool) (result : Result code.Value Failure) (span : Span) (shapes : List SliceShape) (zs : List Value) (ss : List Step) (y x q r : Value) (ps : List Places) → slice_places limit span shapes zs x ≡ Good ps → bits_at span ps x ≡ Good q → updated limit holds ss y q ≡ Good r → Is value_of result (with_places span ps r x) → Is value_of result (updated limit holds (into_slices span shapes zs ∷ ss) y x)
+slices_put limit holds result span shapes zs ss y x q r ps a b c h = subst (Is value_of result) (sym (
+    ap (λ p. p >>= λ ps1. bits_at span ps1 x >>= λ q1. updated limit holds ss y q1 >>= λ r1. with_slices limit span shapes zs r1 x) a ∙
+    ap (λ p. p >>= λ q1. updated limit holds ss y q1 >>= λ r1. with_slices limit span shapes zs r1 x) b ∙
     ap (λ p. p >>= λ r1. with_slices limit span shapes zs r1 x) c ∙
     ap (λ p. p >>= λ ps1. with_places span ps1 r x) a)) h
 
@@ -134,15 +134,15 @@ fails view (failure.WrongKind span) p f h = ap (λ q. q >>= f) h
 fails view (failure.UnknownType span) p f h = ap (λ q. q >>= f) h
 fails view failure.NoMemory p f h = tt
 
-pub slices_off : (limit : ℕ) (e : Failure) (span : Span) (shapes : List SliceShape) (zs : List Value) (ss : List Step) (y x : Value) → Is {A = List Places} (λ ps. ps) (Err e) (slice_places limit span shapes zs x) → Is {A = code.Value} value_of (Err e) (updated limit (into_slices span shapes zs ∷ ss) y x)
-slices_off limit e span shapes zs ss y x h = fails (λ ps. ps) e (slice_places limit span shapes zs x) (λ ps. bits_at span ps x >>= λ q. updated limit ss y q >>= λ r. with_slices limit span shapes zs r x) h
+pub slices_off : (limit : ℕ) (holds : Bool) (e : Failure) (span : Span) (shapes : List SliceShape) (zs : List Value) (ss : List Step) (y x : Value) → Is {A = List Places} (λ ps. ps) (Err e) (slice_places limit span shapes zs x) → Is {A = code.Value} value_of (Err e) (updated limit holds (into_slices span shapes zs ∷ ss) y x)
+slices_off limit holds e span shapes zs ss y x h = fails (λ ps. ps) e (slice_places limit span shapes zs x) (λ ps. bits_at span ps x >>= λ q. updated limit holds ss y q >>= λ r. with_slices limit span shapes zs r x) h
 
-pub read_off : (limit : ℕ) (e : Failure) (span : Span) (shapes : List SliceShape) (zs : List Value) (ss : List Step) (y x : Value) (ps : List Places) → slice_places limit span shapes zs x ≡ Good ps → Is {A = code.Value} value_of (Err e) (bits_at span ps x) → Is {A = code.Value} value_of (Err e) (updated limit (into_slices span shapes zs ∷ ss) y x)
-read_off limit e span shapes zs ss y x ps a h = subst (Is value_of (Err e)) (sym (ap (λ p. p >>= λ ps1. bits_at span ps1 x >>= λ q1. updated limit ss y q1 >>= λ r1. with_slices limit span shapes zs r1 x) a))
-    (fails value_of e (bits_at span ps x) (λ q. updated limit ss y q >>= λ r. with_slices limit span shapes zs r x) h)
+pub read_off : (limit : ℕ) (holds : Bool) (e : Failure) (span : Span) (shapes : List SliceShape) (zs : List Value) (ss : List Step) (y x : Value) (ps : List Places) → slice_places limit span shapes zs x ≡ Good ps → Is {A = code.Value} value_of (Err e) (bits_at span ps x) → Is {A = code.Value} value_of (Err e) (updated limit holds (into_slices span shapes zs ∷ ss) y x)
+read_off limit holds e span shapes zs ss y x ps a h = subst (Is value_of (Err e)) (sym (ap (λ p. p >>= λ ps1. bits_at span ps1 x >>= λ q1. updated limit holds ss y q1 >>= λ r1. with_slices limit span shapes zs r1 x) a))
+    (fails value_of e (bits_at span ps x) (λ q. updated limit holds ss y q >>= λ r. with_slices limit span shapes zs r x) h)
 
-pub part_off : (limit : ℕ) (e : Failure) (span : Span) (shapes : List SliceShape) (zs : List Value) (ss : List Step) (y x q : Value) (ps : List Places) → slice_places limit span shapes zs x ≡ Good ps → bits_at span ps x ≡ Good q → Is {A = code.Value} value_of (Err e) (updated limit ss y q) → Is {A = code.Value} value_of (Err e) (updated limit (into_slices span shapes zs ∷ ss) y x)
-part_off limit e span shapes zs ss y x q ps a b h = subst (Is value_of (Err e)) (sym (
-    ap (λ p. p >>= λ ps1. bits_at span ps1 x >>= λ q1. updated limit ss y q1 >>= λ r1. with_slices limit span shapes zs r1 x) a ∙
-    ap (λ p. p >>= λ q1. updated limit ss y q1 >>= λ r1. with_slices limit span shapes zs r1 x) b))
-    (fails value_of e (updated limit ss y q) (λ r. with_slices limit span shapes zs r x) h)
+pub part_off : (limit : ℕ) (holds : Bool) (e : Failure) (span : Span) (shapes : List SliceShape) (zs : List Value) (ss : List Step) (y x q : Value) (ps : List Places) → slice_places limit span shapes zs x ≡ Good ps → bits_at span ps x ≡ Good q → Is {A = code.Value} value_of (Err e) (updated limit holds ss y q) → Is {A = code.Value} value_of (Err e) (updated limit holds (into_slices span shapes zs ∷ ss) y x)
+part_off limit holds e span shapes zs ss y x q ps a b h = subst (Is value_of (Err e)) (sym (
+    ap (λ p. p >>= λ ps1. bits_at span ps1 x >>= λ q1. updated limit holds ss y q1 >>= λ r1. with_slices limit span shapes zs r1 x) a ∙
+    ap (λ p. p >>= λ q1. updated limit holds ss y q1 >>= λ r1. with_slices limit span shapes zs r1 x) b))
+    (fails value_of e (updated limit holds ss y q) (λ r. with_slices limit span shapes zs r x) h)

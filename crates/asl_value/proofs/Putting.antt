@@ -56,9 +56,9 @@ fields_twice (suc i) s r (value_of_field f x xs) = fields_behind f x r i (with_f
 
 -- ---- what stands behind a place replaced
 
-pub fields_put : (limit : ℕ) (span : Span) (i : ℕ) (ss : List Step) (y s q r : rules.Value) (xs ys zs : FieldValues) → there span (field_at i xs) ≡ Good q → updated limit ss y q ≡ Good r → with_field_at i s xs ≡ Some ys → with_field_at i r ys ≡ Some zs → put_into_fields limit span i ss y xs ≡ Good zs
-fields_put limit span i ss y s q r xs ys zs at done out back =
-    ap (λ p. p >>= λ a. updated limit ss y a >>= λ b. there span (with_field_at i b xs)) at ∙
+pub fields_put : (limit : ℕ) (holds : Bool) (span : Span) (i : ℕ) (ss : List Step) (y s q r : rules.Value) (xs ys zs : FieldValues) → there span (field_at i xs) ≡ Good q → updated limit holds ss y q ≡ Good r → with_field_at i s xs ≡ Some ys → with_field_at i r ys ≡ Some zs → put_into_fields limit holds span i ss y xs ≡ Good zs
+fields_put limit holds span i ss y s q r xs ys zs at done out back =
+    ap (λ p. p >>= λ a. updated limit holds ss y a >>= λ b. there span (with_field_at i b xs)) at ∙
     ap (λ p. p >>= λ b. there span (with_field_at i b xs)) done ∙
     ap (there span) (sym (fields_twice i s r xs) ∙ ap (λ o. then o (with_field_at i r)) out ∙ back)
 
@@ -67,19 +67,19 @@ set_length [] i y = refl
 set_length (x ∷ xs) zero y = refl
 set_length (x ∷ xs) (suc i) y = ap suc (set_length xs i y)
 
-pub values_put : (limit : ℕ) (span : Span) (i : ℕ) (ss : List Step) (y q : rules.Value) (a b : Value) (xs ys zs : List Value) → inside span (value_at i (all_values xs)) ≡ Good q → updated limit ss y q ≡ Good (value_of b) → i < length xs → ys ≡ slice_set xs i a → zs ≡ slice_set ys i b
-    → put_into_elements limit span (pos i) ss y (all_values xs) ≡ Good (all_values zs)
-values_put limit span i ss y q a b xs ys zs at done within out back =
+pub values_put : (limit : ℕ) (holds : Bool) (span : Span) (i : ℕ) (ss : List Step) (y q : rules.Value) (a b : Value) (xs ys zs : List Value) → inside span (value_at i (all_values xs)) ≡ Good q → updated limit holds ss y q ≡ Good (value_of b) → i < length xs → ys ≡ slice_set xs i a → zs ≡ slice_set ys i b
+    → put_into_elements limit holds span (pos i) ss y (all_values xs) ≡ Good (all_values zs)
+values_put limit holds span i ss y q a b xs ys zs at done within out back =
     let same : length ys ≡ length xs = ap (λ l. length l) out ∙ set_length xs i a in
     let still : i < length ys = omega arith in
-    ap (λ p. p >>= λ u. updated limit ss y u >>= λ v. inside span (with_value_at i v (all_values xs))) at ∙
+    ap (λ p. p >>= λ u. updated limit holds ss y u >>= λ v. inside span (with_value_at i v (all_values xs))) at ∙
     ap (λ p. p >>= λ v. inside span (with_value_at i v (all_values xs))) done ∙
     ap (inside span) (sym (values_twice i (value_of a) (value_of b) (all_values xs)) ∙ ap (λ o. then o (with_value_at i (value_of b))) (value_set xs ys i a within out) ∙ value_set ys zs i b still back)
 
-pub elements_none : (limit : ℕ) (span : Span) (z : ℤ) (ss : List Step) (y : rules.Value) (xs : List Value) → index_in z (length xs) ≡ None → put_into_elements limit span z ss y (all_values xs) ≡ Bad (Faulted D06 span)
-elements_none limit span (negsuc k) ss y xs h = refl
-elements_none limit span (pos k) ss y xs h = by (nat_lt k (length xs)) refl h
+pub elements_none : (limit : ℕ) (holds : Bool) (span : Span) (z : ℤ) (ss : List Step) (y : rules.Value) (xs : List Value) → index_in z (length xs) ≡ None → put_into_elements limit holds span z ss y (all_values xs) ≡ Bad (Faulted D06 span)
+elements_none limit holds span (negsuc k) ss y xs h = refl
+elements_none limit holds span (pos k) ss y xs h = by (nat_lt k (length xs)) refl h
   where
-    by : (b : Bool) → nat_lt k (length xs) ≡ b → cond b (Some k) None ≡ None → put_into_elements limit span (pos k) ss y (all_values xs) ≡ Bad (Faulted D06 span)
+    by : (b : Bool) → nat_lt k (length xs) ≡ b → cond b (Some k) None ≡ None → put_into_elements limit holds span (pos k) ss y (all_values xs) ≡ Bad (Faulted D06 span)
     by true e g = cc
-    by false e g = ap (λ o. inside span o >>= λ q. updated limit ss y q >>= λ r. inside span (with_value_at k r (all_values xs))) (value_past xs k (grind arith))
+    by false e g = ap (λ o. inside span o >>= λ q. updated limit holds ss y q >>= λ r. inside span (with_value_at k r (all_values xs))) (value_past xs k (grind arith))

@@ -38,13 +38,13 @@ put_back limit (into_slices span ss zs) r x = with_slices limit span ss zs r x
 put_back limit (into_element span z) r x = with_element span r x z
 
 -- these fields with another value at the end of the steps behind the one in a place
-abbrev pub put_into_fields : ℕ → Span → ℕ → List Step → Value → FieldValues → Pure FieldValues
-put_into_fields limit span i ss y xs = there span (field_at i xs) >>= λ q. updated limit ss y q >>= λ r. there span (with_field_at i r xs)
+abbrev pub put_into_fields : ℕ → Bool → Span → ℕ → List Step → Value → FieldValues → Pure FieldValues
+put_into_fields limit holds span i ss y xs = there span (field_at i xs) >>= λ q. updated limit holds ss y q >>= λ r. there span (with_field_at i r xs)
 
 -- these elements with another value at the end of the steps behind the one at an index
-abbrev pub put_into_elements : ℕ → Span → ℤ → List Step → Value → Values → Pure Values
-put_into_elements limit span (pos i) ss y xs = inside span (value_at i xs) >>= λ q. updated limit ss y q >>= λ r. inside span (with_value_at i r xs)
-put_into_elements limit span (negsuc i) ss y xs = Bad (Faulted D06 span)
+abbrev pub put_into_elements : ℕ → Bool → Span → ℤ → List Step → Value → Values → Pure Values
+put_into_elements limit holds span (pos i) ss y xs = inside span (value_at i xs) >>= λ q. updated limit holds ss y q >>= λ r. inside span (with_value_at i r xs)
+put_into_elements limit holds span (negsuc i) ss y xs = Bad (Faulted D06 span)
 
 abbrev pub is_good : {A : Type 0} → Pure A → Bool
 is_good (Good x) = true

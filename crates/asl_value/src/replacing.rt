@@ -6,6 +6,7 @@ ghost use Rattle.asl_value.specs.Forms.{all_steps};
 ghost use Rattle.asl_bits.specs.declared.TheConstants.{WIDTH_LIMIT};
 ghost use Rattle.asl_rules.specs.ByPlace as places;
 ghost use Rattle.asl_rules.specs.Pures.{there};
+ghost use Rattle.asl_rules.specs.Views.{adopting};
 ghost use Rattle.asl_value.specs.Reaching.{put_into_fields, put_into_elements, Reaches};
 ghost use Rattle.asl_value.specs.View.{value_of, field_of, all_values, all_fields, all_slices};
 
@@ -39,16 +40,22 @@ pub enum Step {
 }
 
 /// Replaces what stands at the end of these steps; with no step it is the value itself. The new value takes the bitfields of
-/// the one that it replaces. Where a step isn't there, or new bits don't fill the places of the old ones, the value stays the
-/// same. Where memory is wanting nothing is said of it.
-pub fn replace(alloc: Global, value: &mut Value, steps: &[Step], new: Value) -> Result<(), Failure>
-    ensures { Changes result (places.updated WIDTH_LIMIT (all_steps steps.now) (value_of new) (value_of value.old)) value.old value.new }
+/// the one that it replaces; where no bits occur in its type, that isn't looked at. Where a step isn't there, or new bits don't
+/// fill the places of the old ones, the value stays the same. Where memory is wanting nothing is said of it.
+pub fn replace(
+    alloc: Global,
+    value: &mut Value,
+    steps: &[Step],
+    holds_bits: bool,
+    new: Value,
+) -> Result<(), Failure>
+    ensures { Changes result (places.updated WIDTH_LIMIT holds_bits (all_steps steps.now) (value_of new) (value_of value.old)) value.old value.new }
 {
     let new = Held::new(new);
     if is_among_bits(steps) {
-        replace_bits(alloc, value, steps, new)
+        replace_bits(alloc, value, steps, holds_bits, new)
     } else {
-        replace_part(alloc, value, steps, new)
+        replace_part(alloc, value, steps, holds_bits, new)
     }
 }
 
@@ -58,11 +65,12 @@ fn replace_bits(
     alloc: Global,
     value: &mut Value,
     steps: &[Step],
+    holds_bits: bool,
     new: Held<Value>,
 ) -> Result<(), Failure>
-    ensures { Changes result (places.updated WIDTH_LIMIT (all_steps steps.now) (value_of new) (value_of value.old)) value.old value.new }
+    ensures { Changes result (places.updated WIDTH_LIMIT holds_bits (all_steps steps.now) (value_of new) (value_of value.old)) value.old value.new }
 {
-    let changed = put(alloc, copy(value)?, steps, new)?;
+    let changed = put(alloc, copy(value)?, steps, holds_bits, new)?;
     *value = changed;
     Ok(())
 }
@@ -73,13 +81,14 @@ fn replace_part(
     alloc: Global,
     value: &mut Value,
     steps: &[Step],
+    holds_bits: bool,
     new: Held<Value>,
 ) -> Result<(), Failure>
-    ensures { Changes result (places.updated WIDTH_LIMIT (all_steps steps.now) (value_of new) (value_of value.old)) value.old value.new }
+    ensures { Changes result (places.updated WIDTH_LIMIT holds_bits (all_steps steps.now) (value_of new) (value_of value.old)) value.old value.new }
 {
-    reach(alloc, value, steps, new.get())?;
+    reach(alloc, value, steps, holds_bits, new.get())?;
     let old = mem::replace(value, Value::Bool(false));
-    match put(alloc, old, steps, new) {
+    match put(alloc, old, steps, holds_bits, new) {
         Ok(changed) => {
             *value = changed;
             Ok(())
@@ -104,17 +113,27 @@ fn is_among_bits(steps: &[Step]) -> bool {
 
 /// Whether there is a value with another at the end of these steps.
 #[cycle(reach)]
-fn reach(alloc: Global, value: &Value, steps: &[Step], new: &Value) -> Result<(), Failure>
-    ensures { Reaches result (places.updated WIDTH_LIMIT (all_steps steps.now) (value_of new.now) (value_of value.now)) }
+fn reach(
+    alloc: Global,
+    value: &Value,
+    steps: &[Step],
+    holds_bits: bool,
+    new: &Value,
+) -> Result<(), Failure>
+    ensures { Reaches result (places.updated WIDTH_LIMIT holds_bits (all_steps steps.now) (value_of new.now) (value_of value.now)) }
 {
     match steps.split_first() {
         None => Ok(()),
         Some((step, rest)) => match step {
-            Step::Field(span, place) => reach_field(alloc, value, *span, *place, rest, new),
-            Step::Bitfield(_, _) => reach_bits(alloc, value, steps, new),
-            Step::Bitfields(_, _) => reach_bits(alloc, value, steps, new),
-            Step::Slices(_, _, _) => reach_bits(alloc, value, steps, new),
-            Step::Element(span, index) => reach_element(alloc, value, *span, index, rest, new),
+            Step::Field(span, place) => reach_field(
+                alloc, value, *span, *place, rest, holds_bits, new,
+            ),
+            Step::Bitfield(_, _) => reach_bits(alloc, value, steps, holds_bits, new),
+            Step::Bitfields(_, _) => reach_bits(alloc, value, steps, holds_bits, new),
+            Step::Slices(_, _, _) => reach_bits(alloc, value, steps, holds_bits, new),
+            Step::Element(span, index) => reach_element(
+                alloc, value, *span, index, rest, holds_bits, new,
+            ),
         },
     }
 }
@@ -128,12 +147,13 @@ fn reach_field(
     span: Span,
     place: usize,
     rest: &[Step],
+    holds_bits: bool,
     new: &Value,
 ) -> Result<(), Failure>
-    ensures { Reaches result (places.updated WIDTH_LIMIT (places.into_field span place ∷ all_steps rest.now) (value_of new.now) (value_of value.now)) }
+    ensures { Reaches result (places.updated WIDTH_LIMIT holds_bits (places.into_field span place ∷ all_steps rest.now) (value_of new.now) (value_of value.now)) }
 {
     let part = Held::new(field_in(span, place, value)?);
-    reach(alloc, part.get(), rest, new)
+    reach(alloc, part.get(), rest, holds_bits, new)
 }
 
 /// Whether there is one behind an element.
@@ -145,36 +165,61 @@ fn reach_element(
     span: Span,
     index: &Value,
     rest: &[Step],
+    holds_bits: bool,
     new: &Value,
 ) -> Result<(), Failure>
-    ensures { Reaches result (places.updated WIDTH_LIMIT (places.into_element span (value_of index.now) ∷ all_steps rest.now) (value_of new.now) (value_of value.now)) }
+    ensures { Reaches result (places.updated WIDTH_LIMIT holds_bits (places.into_element span (value_of index.now) ∷ all_steps rest.now) (value_of new.now) (value_of value.now)) }
 {
     let part = Held::new(element_of(span, value, index)?);
-    reach(alloc, part.get(), rest, new)
+    reach(alloc, part.get(), rest, holds_bits, new)
 }
 
 /// Whether there is one, which is made for that.
 #[tactic(auto, using(crate::proofs::Followed::made_off))]
-fn reach_bits(alloc: Global, value: &Value, steps: &[Step], new: &Value) -> Result<(), Failure>
-    ensures { Reaches result (places.updated WIDTH_LIMIT (all_steps steps.now) (value_of new.now) (value_of value.now)) }
+fn reach_bits(
+    alloc: Global,
+    value: &Value,
+    steps: &[Step],
+    holds_bits: bool,
+    new: &Value,
+) -> Result<(), Failure>
+    ensures { Reaches result (places.updated WIDTH_LIMIT holds_bits (all_steps steps.now) (value_of new.now) (value_of value.now)) }
 {
     let new = Held::new(copy(new)?);
-    let _made = Held::new(put(alloc, copy(value)?, steps, new)?);
+    let _made = Held::new(put(alloc, copy(value)?, steps, holds_bits, new)?);
     Ok(())
 }
 
 /// The value with another at the end of these steps.
 #[cycle(put)]
-fn put(alloc: Global, value: Value, steps: &[Step], new: Held<Value>) -> Result<Value, Failure>
-    ensures { Is value_of result (places.updated WIDTH_LIMIT (all_steps steps.now) (value_of new) (value_of value)) }
+fn put(
+    alloc: Global,
+    value: Value,
+    steps: &[Step],
+    holds_bits: bool,
+    new: Held<Value>,
+) -> Result<Value, Failure>
+    ensures { Is value_of result (places.updated WIDTH_LIMIT holds_bits (all_steps steps.now) (value_of new) (value_of value)) }
 {
     match steps.split_first() {
-        None => Ok(adopt(alloc, &value, new.get())?),
+        None => Ok(placed(alloc, &value, holds_bits, new)?),
         Some((step, rest)) => match step {
-            Step::Field(span, place) => put_field(alloc, value, *span, *place, rest, new),
-            Step::Bitfield(span, field) => put_bitfield(alloc, value, *span, field, rest, new),
+            Step::Field(span, place) => put_field(
+                alloc, value, *span, *place, rest, holds_bits, new,
+            ),
+            Step::Bitfield(span, field) => put_bitfield(
+                alloc, value, *span, field, rest, holds_bits, new,
+            ),
             Step::Bitfields(span, fields) => {
-                put_bitfields(alloc, value, *span, fields.as_slice(), rest, new)
+                put_bitfields(
+                    alloc,
+                    value,
+                    *span,
+                    fields.as_slice(),
+                    rest,
+                    holds_bits,
+                    new,
+                )
             }
             Step::Slices(span, shapes, given) => {
                 let cuts = Cuts {
@@ -182,10 +227,28 @@ fn put(alloc: Global, value: Value, steps: &[Step], new: Held<Value>) -> Result<
                     shapes: shapes.as_slice(),
                     given: given.as_slice(),
                 };
-                put_slices(alloc, value, cuts, rest, new)
+                put_slices(alloc, value, cuts, rest, holds_bits, new)
             }
-            Step::Element(span, index) => put_element(alloc, value, *span, index, rest, new),
+            Step::Element(span, index) => put_element(
+                alloc, value, *span, index, rest, holds_bits, new,
+            ),
         },
+    }
+}
+
+/// What a place holds then: the new value, with the bitfields of the old one where bits may occur in it.
+fn placed(
+    alloc: Global,
+    old: &Value,
+    holds_bits: bool,
+    new: Held<Value>,
+) -> Result<Value, AllocError>
+    ensures { IfOk result (λ it. value_of it ≡ adopting holds_bits (value_of old.now) (value_of new)) }
+{
+    if holds_bits {
+        adopt(alloc, old, new.get())
+    } else {
+        Ok(new.into_inner())
     }
 }
 
@@ -197,14 +260,15 @@ fn put_bitfield(
     span: Span,
     field: &BitField,
     rest: &[Step],
+    holds_bits: bool,
     new: Held<Value>,
 ) -> Result<Value, Failure>
     ensures { Is value_of result
-        (places.updated WIDTH_LIMIT (places.into_bitfield span field.now ∷ all_steps rest.now) (value_of new) (value_of value)) }
+        (places.updated WIDTH_LIMIT holds_bits (places.into_bitfield span field.now ∷ all_steps rest.now) (value_of new) (value_of value)) }
 {
     let value = Held::new(value);
     let part = bitfield(alloc, span, field, value.get())?;
-    let changed = Held::new(put(alloc, part, rest, new)?);
+    let changed = Held::new(put(alloc, part, rest, holds_bits, new)?);
     with_bitfield(alloc, span, field, changed.get(), value.get())
 }
 
@@ -216,14 +280,15 @@ fn put_bitfields(
     span: Span,
     fields: &[BitField],
     rest: &[Step],
+    holds_bits: bool,
     new: Held<Value>,
 ) -> Result<Value, Failure>
     ensures { Is value_of result
-        (places.updated WIDTH_LIMIT (places.into_bitfields span fields.now ∷ all_steps rest.now) (value_of new) (value_of value)) }
+        (places.updated WIDTH_LIMIT holds_bits (places.into_bitfields span fields.now ∷ all_steps rest.now) (value_of new) (value_of value)) }
 {
     let value = Held::new(value);
     let part = bitfields(alloc, span, fields, value.get())?;
-    let changed = Held::new(put(alloc, part, rest, new)?);
+    let changed = Held::new(put(alloc, part, rest, holds_bits, new)?);
     with_bitfields(alloc, span, fields, changed.get(), value.get())
 }
 
@@ -235,15 +300,16 @@ fn put_slices(
     value: Value,
     cuts: Cuts,
     rest: &[Step],
+    holds_bits: bool,
     new: Held<Value>,
 ) -> Result<Value, Failure>
     ensures { Is value_of result
-        (places.updated WIDTH_LIMIT (places.into_slices cuts.entry.span (all_slices cuts.entry.shapes.now) (map value_of cuts.entry.given.now) ∷ all_steps rest.now) (value_of new) (value_of value)) }
+        (places.updated WIDTH_LIMIT holds_bits (places.into_slices cuts.entry.span (all_slices cuts.entry.shapes.now) (map value_of cuts.entry.given.now) ∷ all_steps rest.now) (value_of new) (value_of value)) }
 {
     let value = Held::new(value);
     let places = slice_places(alloc, cuts, value.get())?;
     let part = bits_at(alloc, cuts.span, places.as_slice(), value.get())?;
-    let changed = Held::new(put(alloc, part, rest, new)?);
+    let changed = Held::new(put(alloc, part, rest, holds_bits, new)?);
     with_places(
         alloc,
         cuts.span,
@@ -261,18 +327,19 @@ fn put_field(
     span: Span,
     place: usize,
     rest: &[Step],
+    holds_bits: bool,
     new: Held<Value>,
 ) -> Result<Value, Failure>
     ensures { Is value_of result
-        (places.updated WIDTH_LIMIT (places.into_field span place ∷ all_steps rest.now) (value_of new) (value_of value)) }
+        (places.updated WIDTH_LIMIT holds_bits (places.into_field span place ∷ all_steps rest.now) (value_of new) (value_of value)) }
 {
     match value {
         Value::Record(name, fields) => {
-            let changed = put_in_fields(alloc, fields, span, place, rest, new)?;
+            let changed = put_in_fields(alloc, fields, span, place, rest, holds_bits, new)?;
             Ok(Value::Record(name, changed))
         }
         Value::Exception(own, supers, name, fields) => {
-            let changed = put_in_fields(alloc, fields, span, place, rest, new)?;
+            let changed = put_in_fields(alloc, fields, span, place, rest, holds_bits, new)?;
             Ok(Value::Exception(own, supers, name, changed))
         }
         _ => Err(Failure::WrongKind(span)),
@@ -287,16 +354,17 @@ fn put_in_fields(
     span: Span,
     place: usize,
     rest: &[Step],
+    holds_bits: bool,
     new: Held<Value>,
 ) -> Result<Shared<Items<FieldValue>>, Failure>
     ensures { Is all_fields result
-        (put_into_fields WIDTH_LIMIT span place (all_steps rest.now) (value_of new) (all_fields fields)) }
+        (put_into_fields WIDTH_LIMIT holds_bits span place (all_steps rest.now) (value_of new) (all_fields fields)) }
 {
     let part = field_at(span, place, fields.get().as_slice())?;
     let part = Held::new(part);
     let mut owned = into_owned_fields(alloc, fields)?;
     set_field(&mut owned, place, Value::Bool(false))?;
-    let changed = put(alloc, part.into_inner(), rest, new)?;
+    let changed = put(alloc, part.into_inner(), rest, holds_bits, new)?;
     set_field(&mut owned, place, changed)?;
     Ok(Shared::new(alloc, owned)?)
 }
@@ -309,14 +377,15 @@ fn put_element(
     span: Span,
     index: &Value,
     rest: &[Step],
+    holds_bits: bool,
     new: Held<Value>,
 ) -> Result<Value, Failure>
     ensures { Is value_of result
-        (places.updated WIDTH_LIMIT (places.into_element span (value_of index.now) ∷ all_steps rest.now) (value_of new) (value_of value)) }
+        (places.updated WIDTH_LIMIT holds_bits (places.into_element span (value_of index.now) ∷ all_steps rest.now) (value_of new) (value_of value)) }
 {
     match (value, index) {
         (Value::Array(kind, elements), Value::Int(i)) => {
-            let changed = put_in_elements(alloc, elements, span, *i, rest, new)?;
+            let changed = put_in_elements(alloc, elements, span, *i, rest, holds_bits, new)?;
             Ok(Value::Array(kind, changed))
         }
         _ => Err(Failure::WrongKind(span)),
@@ -331,13 +400,14 @@ fn put_in_elements(
     span: Span,
     index: i128,
     rest: &[Step],
+    holds_bits: bool,
     new: Held<Value>,
 ) -> Result<Shared<Items<Value>>, Failure>
     ensures { Is all_values result
-        (put_into_elements WIDTH_LIMIT span index (all_steps rest.now) (value_of new) (all_values elements)) }
+        (put_into_elements WIDTH_LIMIT holds_bits span index (all_steps rest.now) (value_of new) (all_values elements)) }
 {
     match index_in(index, elements.get().len()) {
-        Some(at) => put_in_place(alloc, elements, span, at, rest, new),
+        Some(at) => put_in_place(alloc, elements, span, at, rest, holds_bits, new),
         None => Err(Failure::Fault(DynCode::D06, span)),
     }
 }
@@ -350,16 +420,17 @@ fn put_in_place(
     span: Span,
     at: usize,
     rest: &[Step],
+    holds_bits: bool,
     new: Held<Value>,
 ) -> Result<Shared<Items<Value>>, Failure>
     ensures { Is all_values result
-        (put_into_elements WIDTH_LIMIT span (pos at) (all_steps rest.now) (value_of new) (all_values elements)) }
+        (put_into_elements WIDTH_LIMIT holds_bits span (pos at) (all_steps rest.now) (value_of new) (all_values elements)) }
 {
     let part = value_at(span, at, elements.get().as_slice())?;
     let part = Held::new(part);
     let mut owned = into_owned(alloc, elements)?;
     owned.set(at, Value::Bool(false));
-    let changed = put(alloc, part.into_inner(), rest, new)?;
+    let changed = put(alloc, part.into_inner(), rest, holds_bits, new)?;
     owned.set(at, changed);
     Ok(Shared::new(alloc, owned)?)
 }

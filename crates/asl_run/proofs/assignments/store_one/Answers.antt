@@ -27,7 +27,7 @@ returns-in_err-steps-clause-meets g c =
     let c1 = core_of c.eval_steps.new.run in
     let h1 = meter_of c.eval_steps.new.run (g.K.Sink.written c.eval_steps.new.sink) in
     let y = value_of c.args.part.now in
-    rw (p.1, p.2) (goes_failed all_steps exit_of fs d _ _ _ (turns.all_stepped fs d (all_ahead t.steps) [] c0 (λ ns c3. lift (stored WIDTH_LIMIT t.span t.slot y ns c3) c3 (λ c4. Ret Normal c4))) h0 e c1 h1
+    rw (p.1, p.2) (goes_failed all_steps exit_of fs d _ _ _ (turns.all_stepped fs d (all_ahead t.steps) [] c0 (λ ns c3. lift (stored WIDTH_LIMIT c.args.holds_bits t.span t.slot y ns c3) c3 (λ c4. Ret Normal c4))) h0 e c1 h1
     (subst (λ ts. Meets all_steps (Err e) c1 h1 (run (meaning_of fs d) (all_stepped ts [] c0) h0) (cuts (meaning_of fs d) (cutting_of fs d) (all_stepped ts [] c0) h0)) same c.in_err-steps.ensures.meets))
 
 pub returns-clause-meets : goal.returns-clause-meets
@@ -46,8 +46,8 @@ returns-clause-meets g c =
     let c2 = core_of c.assign_at.new.run in
     let h2 = meter_of c.assign_at.new.run told in
     let y = value_of c.args.part.now in
-    goes_met exit_of fs d _ _ _ (turns.all_stepped fs d (all_ahead t.steps) [] c0 (λ ns c3. lift (stored WIDTH_LIMIT t.span t.slot y ns c3) c3 (λ c4. Ret Normal c4))) h0 (all_steps c.in_ok-steps.steps) c1 h1
+    goes_met exit_of fs d _ _ _ (turns.all_stepped fs d (all_ahead t.steps) [] c0 (λ ns c3. lift (stored WIDTH_LIMIT c.args.holds_bits t.span t.slot y ns c3) c3 (λ c4. Ret Normal c4))) h0 (all_steps c.in_ok-steps.steps) c1 h1
     (subst (λ ts. run (meaning_of fs d) (all_stepped ts [] c0) h0 ≡ Done (all_steps c.in_ok-steps.steps) c1 h1) same c.in_ok-steps.ensures.meets) c.assign_at.result c2 h2
-    (subst (λ x. Meets exit_of c.assign_at.result c2 h2 (run (meaning_of fs d) (lift (stored WIDTH_LIMIT t.span t.slot (value_of x) (all_steps c.in_ok-steps.steps) c1) c1 (λ c4. Ret Normal c4)) h1) (cuts (meaning_of fs d) (cutting_of fs d) (lift (stored WIDTH_LIMIT t.span t.slot (value_of x) (all_steps c.in_ok-steps.steps) c1) c1 (λ c4. Ret Normal c4)) h1)) held
-    (subst (λ ss. Meets exit_of c.assign_at.result c2 h2 (run (meaning_of fs d) (lift (stored WIDTH_LIMIT t.span t.slot (value_of c.into_inner.result) (all_steps ss) c1) c1 (λ c4. Ret Normal c4)) h1) (cuts (meaning_of fs d) (cutting_of fs d) (lift (stored WIDTH_LIMIT t.span t.slot (value_of c.into_inner.result) (all_steps ss) c1) c1 (λ c4. Ret Normal c4)) h1)) steps
+    (subst (λ x. Meets exit_of c.assign_at.result c2 h2 (run (meaning_of fs d) (lift (stored WIDTH_LIMIT c.args.holds_bits t.span t.slot (value_of x) (all_steps c.in_ok-steps.steps) c1) c1 (λ c4. Ret Normal c4)) h1) (cuts (meaning_of fs d) (cutting_of fs d) (lift (stored WIDTH_LIMIT c.args.holds_bits t.span t.slot (value_of x) (all_steps c.in_ok-steps.steps) c1) c1 (λ c4. Ret Normal c4)) h1)) held
+    (subst (λ ss. Meets exit_of c.assign_at.result c2 h2 (run (meaning_of fs d) (lift (stored WIDTH_LIMIT c.args.holds_bits t.span t.slot (value_of c.into_inner.result) (all_steps ss) c1) c1 (λ c4. Ret Normal c4)) h1) (cuts (meaning_of fs d) (cutting_of fs d) (lift (stored WIDTH_LIMIT c.args.holds_bits t.span t.slot (value_of c.into_inner.result) (all_steps ss) c1) c1 (λ c4. Ret Normal c4)) h1)) steps
     (c.assign_at.ensures.acts fs d told)))

@@ -1,4 +1,7 @@
 use Rattle.std.proofs.Common.{◌≡◌, [], rules}
+use Rattle.asl_rules.specs.HoldsBits.{holds_bits}
+use Rattle.asl_rules.specs.Trees.{tree_type}
+use Rattle.asl_tree.specs.View.{tree_of}
 use Rattle.asl_run.specs.AtOnce.{found}
 use Rattle.asl_run.proofs.AtOnce.{assigned}
 use Rattle.asl_run.proofs.at_once.assign.Goals as goal
@@ -7,4 +10,4 @@ pub returns-then-put-clause-meets : goal.returns-then-put-clause-meets
 returns-then-put-clause-meets c = λ fs.
     let whole : c.args.target.now.way ≡ [] = search rules in
     let direct : c.args.target.now.steps ≡ [] = search rules in
-    assigned (found c.evaluated-it.result) fs c.args.depth c.args.target.now c.args.e.now c.args.run.now c.put.new.run c.args.steps c.evaluated-it.new.left whole direct (c.evaluated-it.ensures fs) c.if-put.ensures.puts c.put.ensures.same.text_open
+    assigned (found c.evaluated-it.result) (holds_bits (tree_type (tree_of c.args.e.now))) fs c.args.depth c.args.target.now c.args.e.now c.args.run.now c.put.new.run c.args.steps c.evaluated-it.new.left whole direct (c.evaluated-it.ensures fs) c.if-put.ensures.puts c.put.ensures.same.text_open
