@@ -1,10 +1,9 @@
 -- Proofs of machines: Places (one place and one variable, exchanged), Exchange (all of them), Beginning (before the first call), After (between calls), Sets
--- and BindingSets (where equality is a proposition), SameEnds and SameRuns (a run of typed trees says how the program's own ends), MemoryCalls (a call over a memory), Entries (the entry can be called), OwnRuns
+-- (where equality is a proposition), SameEnds and SameRuns (a run of typed trees says how the program's own ends), MemoryCalls (a call over a memory), Entries (the entry can be called), OwnRuns
 -- (a call says what the run that begins with no text does), Answered (what a call answers where its run was given up).
 pub mod Places
 pub mod Exchange
 pub mod Sets
-pub mod BindingSets
 pub mod Beginning
 pub mod After
 pub mod SameEnds

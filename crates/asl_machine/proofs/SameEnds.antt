@@ -3,22 +3,20 @@
 use Rattle.std.proofs.Common.{◌≡◌, ℕ, ◌-◌, List, [], ◌∷◌, Option, Some, None, refl, sym, ap, ◌∙◌, subst}
 use Rattle.std.specs.Prelude.{slice_get}
 use Rattle.asl_syn.specs.declared.token.Span.{Span}
-use Rattle.asl_rules.specs.Agreement.{types_in, HoldsGlobal, AllMatch, GlobalsMatch, global_matches}
 use Rattle.asl_rules.specs.Cuts.{cuts, cuttings}
 use Rattle.asl_rules.specs.Erasure.{values_of, erased, erased_outcome}
 use Rattle.asl_rules.specs.Forms.{Keeps, returned, at_end}
 use Rattle.asl_rules.specs.Machines.{GivenUp, most_open, run_of, text_of_run}
 use Rattle.asl_rules.specs.Plans.{Meter, starting, Outcome, Done, Thrown, Halt, End, final, Pure, Good, Bad, Ret, lift}
 use Rattle.asl_rules.specs.Programs.{Environment}
-use Rattle.asl_rules.specs.Scopes.{Entry, Standing, Stored, Subprogram, TypeName, Label, Storage}
-use Rattle.asl_rules.specs.Soundness.{KeepsGlobals, tree_run}
+use Rattle.asl_rules.specs.Soundness.{tree_run}
 use Rattle.asl_rules.specs.StatementForms.{in_order}
 use Rattle.asl_rules.specs.States.{Binding, Core, resting}
-use Rattle.asl_rules.specs.Types.{Ty}
 use Rattle.asl_rules.specs.Trees.{Tree, Act, TreeFunc}
 use Rattle.asl_rules.specs.TypedMeaning.{BareCore, TreeProgram, Runs, acts_of, entered, restored, formals_seen, result_seen, run_with, call_func, tree_call, tree_nodes, tree_meaning}
 use Rattle.asl_rules.specs.Values.{Value, Exit, Normal, Returned}
-use Rattle.asl_rules.proofs.runs.AtRest.{AtRest}
+use Rattle.asl_rules.proofs.runs.GlobalsKept.{SameBut, Kept, AtRest}
+use Rattle.asl_rules.proofs.runs.PlansKeep.{EndsIn}
 use Rattle.asl_rules.proofs.runs.Quiet.{Quiet, given_up, carried}
 use Rattle.asl_machine.specs.Storage.{with_values}
 
@@ -75,46 +73,13 @@ gives_up_same env p id args globals steps told u same w =
     (λ k. ap (λ r. (final r).told) (same (starting k told)) ∙ ap (λ h. h.told) (final_same (run_of env id args globals (starting k told))))
     (tree_gives_up p id args (erased (resting globals)) steps told u w)
 
--- ---- the globals behind it
-
--- this holds of the state, however the run ended
-abbrev pub EndsIn : {C A : Type 0} → (C → Type 0) → Outcome C A → Type 0
-EndsIn P (Done x c h) = P c
-EndsIn P (Thrown x c h) = P c
-EndsIn P (Halt e c h) = P c
-
--- the state has these globals but for their values
-abbrev pub Kept : List Binding → Core → Type 0
-Kept old c = c.globals ≡ with_values old (values_of c.globals)
-
-one_kept : (d : List ℕ → Option Ty) (n : List ℕ) (s : Storage) (a b : Binding) → HoldsGlobal d n s a → HoldsGlobal d n s b → b ≡ record a { value = b.value }
-one_kept d n s a b h k =
-    ap (λ m. record b { name = m }) (k.holds.name_is ∙ sym h.holds.name_is)
-    ∙ ap (λ u. record b { name = a.name; under = u }) (k.stored_under ∙ sym h.stored_under)
-    ∙ ap (λ m. record a { value = b.value; is_mutable = m }) (k.holds.mutable_is ∙ sym h.holds.mutable_is)
-
-first_kept : (d : List ℕ → Option Ty) (n : List ℕ) (st : Standing) (es : List Entry) (old bs : List Binding) → ((xs ys : List Binding) → AllMatch d es xs → AllMatch d es ys → ys ≡ with_values xs (values_of ys)) →
-    global_matches d n st old (AllMatch d es) → global_matches d n st bs (AllMatch d es) → bs ≡ with_values old (values_of bs)
-first_kept d n (Stored s) es [] bs later m k = absurd m
-first_kept d n (Stored s) es (a ∷ old) [] later m k = absurd k
-first_kept d n (Stored s) es (a ∷ old) (b ∷ bs) later m k = ap (λ z. z ∷ bs) (one_kept d n s a b m.0 k.0) ∙ ap (λ zs. record a { value = b.value } ∷ zs) (later old bs m.1 k.1)
-first_kept d n Subprogram es old bs later m k = later old bs m k
-first_kept d n (TypeName T) es old bs later m k = later old bs m k
-first_kept d n (Label T x) es old bs later m k = later old bs m k
-
-all_kept : (d : List ℕ → Option Ty) (es : List Entry) (old bs : List Binding) → AllMatch d es old → AllMatch d es bs → bs ≡ with_values old (values_of bs)
-all_kept d [] [] [] m k = refl
-all_kept d [] [] (b ∷ bs) m k = absurd k
-all_kept d [] (a ∷ old) bs m k = absurd m
-all_kept d (e ∷ es) old bs m k = first_kept d e.name e.standing es old bs (λ xs ys. all_kept d es xs ys) m k
-
--- lists that hold the same storage differ in their values alone
-pub kept_all : {A : Type 0} (names : List Entry) (old : List Binding) (r : Outcome Core A) → GlobalsMatch names old → KeepsGlobals names r → EndsIn (Kept old) r
-kept_all names old (Done x c h) m k = all_kept (types_in names) names old c.globals m k
-kept_all names old (Thrown x c h) m k = all_kept (types_in names) names old c.globals m k
-kept_all names old (Halt e c h) m k = all_kept (types_in names) names old c.globals m k
-
 -- ---- how it ends
+
+with_own : (old bs : List Binding) → SameBut old bs → bs ≡ with_values old (values_of bs)
+with_own [] [] s = refl
+with_own [] (b ∷ bs) s = absurd s
+with_own (a ∷ rest) [] s = absurd s
+with_own (a ∷ rest) (b ∷ bs) s = ap (λ z. z ∷ bs) s.0 ∙ ap (λ zs. record a { value = b.value } ∷ zs) (with_own rest bs s.1)
 
 IsDone : {A : Type 0} → Outcome BareCore A → Type 0
 IsDone (Done x c h) = Unit {0}
@@ -152,7 +117,7 @@ core_in (Thrown x c h) = c
 core_in (Halt e c h) = c
 
 core_is : (globals : List Binding) (c1 : Core) (c : BareCore) → Kept globals c1 → erased c1 ≡ c → c1.globals ≡ with_values globals c.globals
-core_is globals c1 c k e = k ∙ ap (λ (b : BareCore). with_values globals b.globals) e
+core_is globals c1 c k e = with_own globals c1.globals k ∙ ap (λ (b : BareCore). with_values globals b.globals) e
 
 -- where the run of typed trees returned, the untyped run did, with these globals
 pub done_same : {A : Type 0} (globals : List Binding) (r : Outcome Core A) (x : A) (c : BareCore) (h : Meter) → EndsIn (Kept globals) r → AtRest r → erased_outcome r ≡ Done x c h → r ≡ Done x (resting (with_values globals c.globals)) h

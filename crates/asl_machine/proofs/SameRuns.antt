@@ -16,8 +16,9 @@ use Rattle.asl_rules.specs.States.{Binding, Core, resting}
 use Rattle.asl_rules.specs.Tests.{Tests}
 use Rattle.asl_rules.specs.TypedMeaning.{BareCore, TreeProgram, tree_call, tree_nodes, tree_meaning}
 use Rattle.asl_rules.specs.Values as rules
-use Rattle.asl_rules.proofs.runs.AtRest.{AtRest, run_of_rests}
+use Rattle.asl_rules.proofs.runs.GlobalsKept.{SameBut, Kept, AtRest, run_of_keeps, run_of_rests}
 use Rattle.asl_rules.proofs.basics.Inversions.{ok_ok}
+use Rattle.asl_rules.proofs.runs.PlansKeep.{EndsIn}
 use Rattle.asl_rules.proofs.soundness.Soundness.{soundness}
 use Rattle.asl_rules.proofs.soundness.SoundnessFacts.{facts_of}
 use Rattle.asl_syn.specs.declared.token.Span.{Span}
@@ -36,9 +37,8 @@ use Rattle.asl_run.specs.View.{mistake_of, core_of, meter_of, program_of, meanin
 use Rattle.asl_machine.specs.Stages.{CallMeets, Halted, IfRan}
 use Rattle.asl_machine.specs.Storage.{with_values}
 use Rattle.asl_machine.specs.Work.{initial_of, globals_with, IsHeld, HoldStorage, IsCallable, run_over, text_over}
-use Rattle.asl_machine.proofs.SameEnds.{EndsIn, Kept, kept_all, done_same, thrown_same, halt_same, gives_up_same}
+use Rattle.asl_machine.proofs.SameEnds.{done_same, thrown_same, halt_same, gives_up_same}
 use Rattle.asl_machine.proofs.Sets.{outcome_set}
-use Rattle.asl_machine.proofs.BindingSets.{bindings_set}
 
 -- ---- what is known of a program and its call
 
@@ -102,20 +102,18 @@ done_keeps names r x c k n e = subst (KeepsGlobals names) e n
 
 -- ---- the values of the globals
 
-kept_once : (bs : List Binding) (r : Outcome Core (Option rules.Value)) → IsProp (EndsIn (Kept bs) r)
-kept_once bs (Done x c h) = bindings_set _ _
-kept_once bs (Thrown x c h) = bindings_set _ _
-kept_once bs (Halt e c h) = bindings_set _ _
+unvalued : (bs cs : List Binding) (xs : List rules.Value) → SameBut (with_values bs xs) cs → SameBut bs cs
+unvalued [] [] xs s = tt
+unvalued [] (c ∷ cs) xs s = absurd s
+unvalued (b ∷ bs) [] [] s = absurd s
+unvalued (b ∷ bs) [] (x ∷ xs) s = absurd s
+unvalued (b ∷ bs) (c ∷ cs) [] s = s
+unvalued (b ∷ bs) (c ∷ cs) (x ∷ xs) s = (s.0, unvalued bs cs xs s.1)
 
--- however a call ended, the globals are the program's but for their values
-kept_always : (t : Tests) → Suits t → (c : Sealed) (fs : List TreeFunc) (gs : List Global) → IsSealed c.decls c.asked c.main fs gs → (id : ℕ) (args : List rules.Value) (values : List Value) → HoldStorage c values → IsCallable t c id args →
-    (h : Meter) → EndsIn (Kept (initial_of t c)) (run_of (environment t c.decls) id args (globals_with t c values) h)
-kept_always t r c fs gs sealed id args values held call h =
-    let o : Outcome Core (Option rules.Value) = run_of (environment t c.decls) id args (globals_with t c values) h in
-    let once = kept_once (initial_of t c) o in
-    ∥∥₁_elim (sealed t r) once (λ m. ∥∥₁_elim (held t r) once (λ d.
-    let k = known t r c fs gs id args values m d call in
-    kept_all k.accepted.names (initial_of t c) o k.sound.initial (k.sound.keeps_globals id args (globals_with t c values) h k.call)))
+kept_under : (bs : List Binding) (xs : List rules.Value) (r : Outcome Core (Option rules.Value)) → EndsIn (Kept (with_values bs xs)) r → EndsIn (Kept bs) r
+kept_under bs xs (Done x c h) k = unvalued bs c.globals xs k
+kept_under bs xs (Thrown x c h) k = unvalued bs c.globals xs k
+kept_under bs xs (Halt e c h) k = unvalued bs c.globals xs k
 
 length_with : (bs : List Binding) (xs : List rules.Value) → length (with_values bs xs) ≡ length bs
 length_with [] xs = refl
@@ -128,12 +126,11 @@ values_with [] (x ∷ xs) h = absurd (omega (arith, h))
 values_with (b ∷ bs) [] h = absurd (omega (arith, h))
 values_with (b ∷ bs) (x ∷ xs) h = ap (λ z. x ∷ z) (values_with bs xs (omega (arith, h)))
 
-length_values : (bs : List Binding) → length (values_of bs) ≡ length bs
-length_values [] = refl
-length_values (b ∷ bs) = ap suc (length_values bs)
-
-same_length : (bs cs : List Binding) → cs ≡ with_values bs (values_of cs) → length (values_of cs) ≡ length bs
-same_length bs cs e = length_values cs ∙ ap length e ∙ length_with bs (values_of cs)
+same_length : (bs cs : List Binding) → SameBut bs cs → length (values_of cs) ≡ length bs
+same_length [] [] s = refl
+same_length [] (c ∷ cs) s = absurd s
+same_length (b ∷ bs) [] s = absurd s
+same_length (b ∷ bs) (c ∷ cs) s = ap suc (same_length bs cs s.1)
 
 -- ---- how it ends
 
@@ -183,7 +180,7 @@ call_meets t r c fs gs sealed id args values held call n begun ended b after sam
     o = run_over t c id args values begun.steps told
 
     kept : EndsIn (Kept (initial_of t c)) o
-    kept = kept_always t r c fs gs sealed id args values held call (starting begun.steps told)
+    kept = kept_under (initial_of t c) (map value_of values) o (run_of_keeps (environment t c.decls) id args (globals_with t c values) (starting begun.steps told))
 
     rests : AtRest o
     rests = run_of_rests (environment t c.decls) id args (globals_with t c values) (starting begun.steps told)
@@ -240,7 +237,7 @@ room_after t r c fs gs sealed id args values held call n begun ended b told told
 
     roomy : EndsIn (λ (z : BareCore). length z.globals ≡ length (initial_of t c)) (tree_run (program_of fs) id args (core_of begun) (meter_of begun told))
     roomy = subst (EndsIn (λ (z : BareCore). length z.globals ≡ length (initial_of t c))) (sym same)
-        (room_in (initial_of t c) o (kept_always t r c fs gs sealed id args values held call (meter_of begun told)))
+        (room_in (initial_of t c) o (kept_under (initial_of t c) (map value_of values) o (run_of_keeps (environment t c.decls) id args (globals_with t c values) (meter_of begun told))))
 
     by : (result : Result (Option Value) Stop) → Runs (option_map value_of) result fs most_open (tree_call (program_of fs) id args) begun told ended told1 → IfRan result (length (map value_of ended.globals.items) ≡ length (initial_of t c))
     by (Ok x) e = subst (EndsIn (λ (z : BareCore). length z.globals ≡ length (initial_of t c))) e roomy

@@ -17,9 +17,6 @@ use Rattle.asl_machine.specs.Storage.{Var}
 coded_value : Coded Value
 coded_value = code_by values.Value rows.the_row.coded value_back value_of value_again
 
-pub value_set : IsSet Value
-value_set = Coded-set coded_value
-
 pub values_set : IsSet (List Value)
 values_set = Coded-set (coded_list coded_value)
 

@@ -7,5 +7,6 @@ pub mod Shift
 pub mod Visited
 pub mod OneOutcome
 pub mod Several
-pub mod AtRest
+pub mod PlansKeep
+pub mod GlobalsKept
 pub mod WordRuns

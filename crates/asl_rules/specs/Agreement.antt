@@ -3,7 +3,7 @@
 -- what is being handled are exceptions.
 use Rattle.std.specs.Prelude.{◌≡◌, ℕ, ◌<◌, pos, true, false, List, [], ◌∷◌, ◌++◌, Option, Some, None}
 use Rattle.asl_rules.specs.Types.{Ty, kind, exceptions}
-use Rattle.asl_rules.specs.Closed.{Assignment, closed, type_with, width_at}
+use Rattle.asl_rules.specs.Closed.{Assignment, type_with, width_at}
 use Rattle.asl_rules.specs.Values.{Value, int}
 use Rattle.asl_rules.specs.Scopes.{Counted, Entry, Standing, Stored, Subprogram, TypeName, Label, Storage, standing_of, type_of_name, known_value, next_atom}
 use Rattle.asl_rules.specs.WellFormed.{WellFormed, Fixed}
@@ -43,10 +43,8 @@ pub record Holds (declared : List ℕ → Option Ty) (a : Assignment) (name : Li
 abbrev pub no_atoms : Assignment
 no_atoms n = pos 0
 
--- global storage is stored under its type, which has no atoms
 pub record HoldsGlobal (declared : List ℕ → Option Ty) (name : List ℕ) (s : Storage) (b : Binding) : Type 0 where
   pub holds : Holds declared no_atoms name s b
-  pub stored_under : b.under ≡ of_type (closed s.ty)
   pub fixed : Fixed s.ty
   pub no_atom : s.counted ≡ None
 
@@ -63,7 +61,7 @@ AllMatch declared [] [] = Unit {0}
 AllMatch declared [] (b ∷ bs) = ⊥
 AllMatch declared (e ∷ es) bs = global_matches declared e.name e.standing bs (AllMatch declared es)
 
--- the globals hold the storage that is declared outside bodies, in the same order; two lists that do differ in their values alone
+-- the globals hold the storage that is declared outside bodies, in the same order
 abbrev pub GlobalsMatch : List Entry → List Binding → Type 0
 GlobalsMatch base bs = AllMatch (types_in base) base bs
 

@@ -471,9 +471,13 @@ call_of env id args c = lift (known origin (slice_get (funcs_of env.decls) id)) 
 
 -- ---- globals
 
--- global storage holds values of its type, written or not
+-- what global storage holds
+abbrev pub global_under : Option TypeExpr → Ty → Value → Under
+global_under None T x = of_value x
+global_under (Some t) T x = of_type (closed T)
+
 abbrev pub global_with : StorageDecl → Ty → Value → Binding
-global_with d T x = record { name = d.name.text; value = x; under = of_type (closed T); is_mutable = programs.is_var d.kind }
+global_with d T x = record { name = d.name.text; value = x; under = global_under d.ty T x; is_mutable = programs.is_var d.kind }
 
 abbrev pub global_in : StorageDecl → Option Storage → Option Binding
 global_in d o = option_and_then (λ (s : Storage). option_map (global_with d s.ty) s.initial) o

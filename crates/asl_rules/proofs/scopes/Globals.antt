@@ -2,6 +2,7 @@
 -- constants belong to their types in each round.
 use Rattle.std.proofs.Common.{◌≡◌, ℕ, zero, suc, inl, inr, ⊎_elim, Bool, true, false, cond, List, [], ◌∷◌, ◌++◌, Option, Some, None, Ok, refl, sym, ap, ap₂, ◌∙◌, subst, length, map}
 use Rattle.asl_syn.specs.declared.tree.Expr.{Expr}
+use Rattle.asl_syn.specs.declared.tree.TypeExpr.{TypeExpr}
 use Rattle.asl_syn.specs.declared.tree.Ident.{Ident}
 use Rattle.asl_syn.specs.declared.tree.TypeDef.{TypeDef}
 use Rattle.asl_syn.specs.declared.tree.TypeDef.TheVariants as td
@@ -21,14 +22,14 @@ use Rattle.asl_rules.specs.Exprs.{typed}
 use Rattle.asl_rules.specs.States.{Binding, resting}
 use Rattle.asl_rules.specs.BeforeRuns.{HoldsInitial}
 use Rattle.asl_rules.specs.Belonging.{InType}
-use Rattle.asl_rules.specs.Agreement.{no_atoms, IsKnown, HoldsGlobal, types_in, AllMatch, GlobalsMatch, global_matches}
+use Rattle.asl_rules.specs.Agreement.{no_atoms, IsUnder, IsKnown, HoldsGlobal, types_in, AllMatch, GlobalsMatch, global_matches}
 use Rattle.asl_rules.specs.Uses.{uses}
 use Rattle.asl_rules.specs.Grown.{is_def_grown, is_grown, AreGrown}
 use Rattle.asl_rules.specs.Plans.{Good}
 use Rattle.asl_rules.specs.Constants.{constant}
 use Rattle.asl_rules.specs.Programs.{environment}
 use Rattle.asl_rules.specs.Declarations.{in_names, def_rule, supertype_rule, label_entries, type_entries, Initial, storage_rule, decl_rule, is_var, Judged, Waiting, Fine, Faulty, entries_of, entries, all_fine, judged_by, still, judgement, faults_rule, names_of_program, globals_rule}
-use Rattle.asl_rules.specs.Evaluation.{global_with, global_in, cons_some, globals_among, initial_globals}
+use Rattle.asl_rules.specs.Evaluation.{global_under, global_with, global_in, cons_some, globals_among, initial_globals}
 use Rattle.asl_rules.proofs.basics.Inversions.{ok_ok, bind_ok, then_ok}
 use Rattle.asl_rules.proofs.basics.Tests.{no, some_same, none_some, name_is}
 use Rattle.asl_rules.proofs.scopes.Naming.{GoodStanding, GoodNames, WellNamed}
@@ -207,6 +208,10 @@ module _ (tests : Tests) (right : IsRight tests) (ds : List Decl) (distinct : Di
     none_match [] tail bs k m = m
     none_match (e ∷ es) tail bs k m = passed e.name e.standing (es ++ tail) bs k.0 (none_match es tail bs k.1 m)
 
+    under_written : (t : Option TypeExpr) (T : Ty) (x : Value) → InType D no_atoms x T → IsUnder D no_atoms (global_under t T x) T
+    under_written None T x i = i
+    under_written (Some t) T x i = refl
+
     known_self : (m : Bool) (x : Value) → IsKnown (cond m None (Some x)) x
     known_self true x = tt
     known_self false x = refl
@@ -222,8 +227,7 @@ module _ (tests : Tests) (right : IsRight tests) (ds : List Decl) (distinct : Di
         let k = stands_well n w s.name.text st tt h in
         let i : InType D no_atoms x T = subst (λ y. InType D no_atoms y T) (sym (some_same x k.1 k.2)) k.3 in
         record {
-          holds = record { name_is = refl; under_is = refl; mutable_is = refl; well_formed = k.0; belongs = i; known = known_self (is_var s.kind) x; counts = tt };
-          stored_under = refl;
+          holds = record { name_is = refl; under_is = under_written s.ty T x i; mutable_is = refl; well_formed = k.0; belongs = i; known = known_self (is_var s.kind) x; counts = tt };
           fixed = fixed_never T ((over_at n).standing s.name.text st h);
           no_atom = refl;
         }

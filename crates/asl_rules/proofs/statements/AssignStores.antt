@@ -144,7 +144,7 @@ module _ (av : Assignment) where
   global_by d span name n x s (Stored u) es (b ∷ bs) k h m i next =
       step av d (AllMatch d es) (λ cs. global_matches d n (Stored u) cs (AllMatch d es)) (bytes_eq n name) span name n x s u b bs (standing_of name es) refl k.0.holds.name_is h
       (λ e. (held_takes no_atoms d span n u b x k.0.holds (ap (λ (t : Storage). t.is_mutable) e ∙ m) (outside_type av d u x n b k.0 (subst (λ (t : Storage). InType d av x t.ty) (sym e) i))).put_is)
-      (λ e. (record { holds = kept_holds no_atoms d n u b x k.0.holds (ap (λ (t : Storage). t.is_mutable) e ∙ m) k.0.no_atom (outside_type av d u x n b k.0 (subst (λ (t : Storage). InType d av x t.ty) (sym e) i)); stored_under = k.0.stored_under; fixed = k.0.fixed; no_atom = k.0.no_atom }, k.1))
+      (λ e. (record { holds = kept_holds no_atoms d n u b x k.0.holds (ap (λ (t : Storage). t.is_mutable) e ∙ m) k.0.no_atom (outside_type av d u x n b k.0 (subst (λ (t : Storage). InType d av x t.ty) (sym e) i)); fixed = k.0.fixed; no_atom = k.0.no_atom }, k.1))
       (λ cs w. (k.0, w)) (next bs k.1)
 
   global_store : (d : List ℕ → Option Ty) (span : Span) (name : List ℕ) (x : Value) (s : Storage) (es : List Entry) (bs : List Binding) → AllMatch d es bs → standing_of name es ≡ Some (Stored s) → s.is_mutable ≡ true → InType d av x s.ty → StoredIn (AllMatch d es) span name x bs
