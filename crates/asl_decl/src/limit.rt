@@ -17,7 +17,7 @@ ghost use Rattle.asl_judge.specs.Definitions.{type_found};
 ghost use Rattle.asl_decl.specs.Limits as limits;
 
 use crate::heads::in_names;
-use asl_expr::exprs::place;
+use asl_expr::expr_nodes::place;
 use asl_expr::written::type_place;
 use asl_judge::barred::check_unbarred;
 use asl_judge::values::known;

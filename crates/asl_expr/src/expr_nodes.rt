@@ -41,6 +41,30 @@ use asl_types::{Context, Ty};
 use sqlite_items::Boxed;
 use std::alloc::Global;
 
+/// Where an expression stands.
+pub fn place(e: &Expr) -> Span
+    ensures { (t : Tests) → result ≡ (found t e.now).span }
+{
+    match e {
+        Expr::Int(span, _) => *span,
+        Expr::Bits(span, _) => *span,
+        Expr::Bool(span, _) => *span,
+        Expr::Name(span, _) => *span,
+        Expr::Unary(span, _, _) => *span,
+        Expr::Binary(span, _, _, _) => *span,
+        Expr::Conditional(span, _, _, _) => *span,
+        Expr::Tuple(span, _) => *span,
+        Expr::Construct(span, _, _) => *span,
+        Expr::Call(span, _, _, _) => *span,
+        Expr::Field(span, _, _) => *span,
+        Expr::Fields(span, _, _) => *span,
+        Expr::Slices(span, _, _) => *span,
+        Expr::Element(span, _, _) => *span,
+        Expr::As(span, _, _) => *span,
+        Expr::In(span, _, _) => *span,
+    }
+}
+
 /// An operation with one operand.
 fn unary_expr<E: Fn(Global, Context, &Expr) -> Result<Boxed<Tree>, Refused>, M>(
     here: &Below<E, M>,

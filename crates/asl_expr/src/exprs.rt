@@ -1,6 +1,6 @@
 //! The types and the effects of expressions, and their typed trees.
 
-ghost use Rattle.std.specs.Prelude.{◌≡◌, map};
+ghost use Rattle.std.specs.Prelude.{map};
 ghost use Rattle.asl_rules.specs.Acting as acting;
 ghost use Rattle.asl_rules.specs.Exprs as rules;
 ghost use Rattle.asl_rules.specs.Exprs.{found};
@@ -16,36 +16,11 @@ use crate::expr_nodes::type_node;
 use crate::operand_lists::operands_below;
 use crate::patterns::match_pattern;
 use asl_syn::code::Refused;
-use asl_syn::token::Span;
 use asl_syn::tree::Expr;
 use asl_tree::tree::Tree;
 use asl_types::Context;
 use sqlite_items::{Boxed, Items};
 use std::alloc::Global;
-
-/// Where an expression stands.
-pub fn place(e: &Expr) -> Span
-    ensures { (t : Tests) → result ≡ (rules.found t e.now).span }
-{
-    match e {
-        Expr::Int(span, _) => *span,
-        Expr::Bits(span, _) => *span,
-        Expr::Bool(span, _) => *span,
-        Expr::Name(span, _) => *span,
-        Expr::Unary(span, _, _) => *span,
-        Expr::Binary(span, _, _, _) => *span,
-        Expr::Conditional(span, _, _, _) => *span,
-        Expr::Tuple(span, _) => *span,
-        Expr::Construct(span, _, _) => *span,
-        Expr::Call(span, _, _, _) => *span,
-        Expr::Field(span, _, _) => *span,
-        Expr::Fields(span, _, _) => *span,
-        Expr::Slices(span, _, _) => *span,
-        Expr::Element(span, _, _) => *span,
-        Expr::As(span, _, _) => *span,
-        Expr::In(span, _, _) => *span,
-    }
-}
 
 /// The typed tree of an expression, or its one fault: its operands in order, and then its own conditions.
 #[cycle(exprs)]

@@ -14,7 +14,7 @@ ghost use Rattle.asl_types.specs.View.{parts_of};
 ghost use Rattle.asl_tree.specs.View.{tree_of, all_operands};
 ghost use Rattle.asl_expr.specs.CallViews.{replacing_of, none_replaced, with_written, with_argument, giving_of};
 
-use crate::exprs::place;
+use crate::expr_nodes::place;
 use crate::widths::type_width;
 use asl_poly::{Atom, Poly, PolyRefused};
 use asl_syn::code::{Refused, StaticCode};

@@ -12,7 +12,7 @@ ghost use Rattle.asl_types.specs.ContextView.{scope_of};
 ghost use Rattle.asl_expr.specs.WidthViews.{width_of};
 ghost use Rattle.asl_expr.specs.WrittenFields.{found_bitfield, found_bitfields, end_seen, field_seen, field_view, fields_view, no_fields, with_field, fields_seen, numbered_as, all_numbers, end_number, ends_numbered, numbered_from, placed_all, view_from};
 
-use crate::exprs::place;
+use crate::expr_nodes::place;
 use crate::tree_lists::{one_tree, two_trees};
 use crate::widths::type_width;
 use asl_names::firsts::Firsts;

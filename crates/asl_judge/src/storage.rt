@@ -15,7 +15,7 @@ ghost use Rattle.asl_judge.specs.Definitions.{type_fitted, both_found};
 use crate::barred::check_unbarred;
 use crate::values::{first_in, known, with_view};
 use crate::written::{typed, written};
-use asl_expr::exprs::place;
+use asl_expr::expr_nodes::place;
 use asl_expr::written::type_place;
 use asl_shared::Held;
 use asl_syn::code::{Refused, StaticCode};
