@@ -30,7 +30,7 @@ use Rattle.asl_value.specs.declared.value.Value as code
 use Rattle.asl_value.specs.View.{value_of}
 use Rattle.asl_const.specs.declared.failure.Unknown.{Unknown}
 use Rattle.asl_const.specs.Finds.{Finds, known_after, known_given, known_pattern, known_slice, with_all}
-use Rattle.asl_const.specs.Weights.{constants}
+use Rattle.asl_const.specs.Gathered.{constants}
 use Rattle.asl_const.proofs.Calling.{call_is}
 
 abbrev at_limit : Expr → Known

@@ -2,4 +2,4 @@ pub mod Unknowns
 pub mod Parts
 pub mod Finds
 pub mod Giving
-pub mod Weights
+pub mod Gathered

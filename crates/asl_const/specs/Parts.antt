@@ -1,14 +1,13 @@
--- Expressions and their parts, by what a layer makes of each expression: a part is read without the expressions in it, with what these come to, in order.
+-- The parts of expressions, by what a layer makes of each expression in them: a part is read without these, with what they come to, in order.
 use Rattle.std.specs.Prelude.{ℕ, List}
 use Rattle.asl_syn.specs.declared.tree.Bitfield.{Bitfield}
 use Rattle.asl_syn.specs.declared.tree.ConstraintPart.{ConstraintPart}
-use Rattle.asl_syn.specs.declared.tree.Expr.{Expr}
 use Rattle.asl_syn.specs.declared.tree.FieldValue.{FieldValue}
 use Rattle.asl_syn.specs.declared.tree.Pattern.{Pattern}
 use Rattle.asl_syn.specs.declared.tree.Slice.{Slice}
 use Rattle.asl_syn.specs.declared.tree.TypeExpr.{TypeExpr}
 use Rattle.asl_syn.specs.declared.tree.Bitfield.TheOpen as ex
-use Rattle.asl_syn.specs.declared.tree.Bitfield.TheFolds.{fold-Bitfield, fold-ConstraintPart, fold-Expr, fold-FieldValue, fold-Pattern, fold-Slice, fold-TypeExpr}
+use Rattle.asl_syn.specs.declared.tree.Bitfield.TheFolds.{fold-Bitfield, fold-ConstraintPart, fold-FieldValue, fold-Pattern, fold-Slice, fold-TypeExpr}
 use Rattle.asl_rules.specs.Shaped.{Shaped, TypeOver, itself, bitfield_layer, part_layer, given_layer, pattern_layer, slice_layer, type_layer}
 use Rattle.asl_rules.specs.Shapes.{SliceShape, PatternShape, PartShape, BitfieldShape}
 
@@ -17,10 +16,6 @@ abbrev pub Layer : Type 0 → Type 0
 Layer V = ex.Expr-F (Shaped BitfieldShape V) (Shaped PartShape V) V (Shaped (List ℕ) V) (Shaped PatternShape V) (Shaped SliceShape V) (Shaped TypeOver V)
 
 module _ {V : Type 0} (layer : Layer V → V) where
-  abbrev pub expr_by : Expr → V
-  expr_by = fold-Expr (Shaped BitfieldShape V) (Shaped PartShape V) V (Shaped (List ℕ) V) (Shaped PatternShape V) (Shaped SliceShape V) (Shaped TypeOver V)
-      (bitfield_layer itself) (part_layer itself) layer (given_layer itself) (pattern_layer itself itself) (slice_layer itself) (type_layer itself itself itself itself)
-
   abbrev pub given_by : FieldValue → Shaped (List ℕ) V
   given_by = fold-FieldValue (Shaped BitfieldShape V) (Shaped PartShape V) V (Shaped (List ℕ) V) (Shaped PatternShape V) (Shaped SliceShape V) (Shaped TypeOver V)
       (bitfield_layer itself) (part_layer itself) layer (given_layer itself) (pattern_layer itself itself) (slice_layer itself) (type_layer itself itself itself itself)

@@ -10,7 +10,7 @@ ghost use Rattle.asl_rules.specs.Values.{Value as TheValue};
 ghost use Rattle.asl_types.specs.Answers.{Met};
 ghost use Rattle.asl_value.specs.View.{value_of};
 ghost use Rattle.asl_const.specs.Finds.{Finds, known_after};
-ghost use Rattle.asl_const.specs.Weights.{constants};
+ghost use Rattle.asl_const.specs.Gathered.{constants};
 
 use crate::applying::{
     Decision, barred, branch, decide, element, is_in, of_one, of_two, sliced, truth_of, tuple_of,

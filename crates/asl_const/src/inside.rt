@@ -1,11 +1,19 @@
 //! The expressions inside slices, fields, patterns and written types, in source order. They are gathered before any is
 //! evaluated, so that an evaluation calls itself for expressions alone.
-ghost use Rattle.std.specs.Prelude.{◌≡◌, [], ◌∷◌, ◌++◌, map, IfOk};
+ghost use Rattle.std.specs.Prelude.{◌≡◌, ◌≤◌, [], ◌∷◌, ◌++◌, map, max, IfOk};
 ghost use Rattle.asl_bits.specs.declared.TheConstants.{WIDTH_LIMIT};
 ghost use Rattle.asl_rules.specs.Constants.{constant};
 ghost use Rattle.asl_rules.specs.Shaped.{exprs_in, itself};
 ghost use Rattle.asl_const.specs.Finds.{known_bitfield, known_given, known_part, known_pattern, known_slice, known_type};
-ghost use Rattle.asl_const.specs.Weights.{constants, weight, weighed_bitfield, weighed_given, weighed_part, weighed_pattern, weighed_slice, weighed_type, weights};
+ghost use Rattle.asl_const.specs.Gathered.{constants, deepest};
+ghost use Rattle.asl_syn.specs.declared.tree.Bitfield.{size-Bitfield};
+ghost use Rattle.asl_syn.specs.declared.tree.ConstraintPart.{size-ConstraintPart};
+ghost use Rattle.asl_syn.specs.declared.tree.Expr.{size-Expr};
+ghost use Rattle.asl_syn.specs.declared.tree.FieldValue.{size-FieldValue};
+ghost use Rattle.asl_syn.specs.declared.tree.Pattern.{size-Pattern};
+ghost use Rattle.asl_syn.specs.declared.tree.Slice.{size-Slice};
+ghost use Rattle.asl_syn.specs.declared.tree.TypeExpr.{size-TypeExpr};
+ghost use denote.Param.Weighed.{most};
 
 use asl_syn::tree::{Bitfield, ConstraintPart, Expr, FieldValue, Pattern, Slice, TypeExpr};
 use sqlite_items::Items;
@@ -16,7 +24,7 @@ use std::alloc::{AllocError, Global};
 /// The expressions of a list.
 pub(crate) fn of_list(alloc: Global, es: &[Expr]) -> Result<Items<&Expr>, AllocError>
     ensures values { IfOk result (λ all. constants all ≡ map (constant WIDTH_LIMIT) es.now) }
-    ensures weights { IfOk result (λ all. weights all ≡ map weight es.now) }
+    ensures depth { IfOk result (λ all. deepest all ≤ most size-Expr es.now) }
 {
     let mut all = Items::new(alloc);
     for e in es {
@@ -28,7 +36,7 @@ pub(crate) fn of_list(alloc: Global, es: &[Expr]) -> Result<Items<&Expr>, AllocE
 /// Those of fields that are given.
 pub(crate) fn of_fields(alloc: Global, fields: &[FieldValue]) -> Result<Items<&Expr>, AllocError>
     ensures values { IfOk result (λ es. constants es ≡ exprs_in itself (map known_given fields.now)) }
-    ensures weights { IfOk result (λ es. weights es ≡ exprs_in itself (map weighed_given fields.now)) }
+    ensures depth { IfOk result (λ es. deepest es ≤ most size-FieldValue fields.now) }
 {
     let mut all = Items::new(alloc);
     for field in fields {
@@ -41,7 +49,7 @@ pub(crate) fn of_fields(alloc: Global, fields: &[FieldValue]) -> Result<Items<&E
 /// Those of slices.
 pub(crate) fn of_slices(alloc: Global, slices: &[Slice]) -> Result<Items<&Expr>, AllocError>
     ensures values { IfOk result (λ es. constants es ≡ exprs_in itself (map known_slice slices.now)) }
-    ensures weights { IfOk result (λ es. weights es ≡ exprs_in itself (map weighed_slice slices.now)) }
+    ensures depth { IfOk result (λ es. deepest es ≤ most size-Slice slices.now) }
 {
     let mut all = Items::new(alloc);
     for slice in slices {
@@ -53,7 +61,7 @@ pub(crate) fn of_slices(alloc: Global, slices: &[Slice]) -> Result<Items<&Expr>,
 /// Those of a pattern.
 pub(crate) fn of_pattern(alloc: Global, pattern: &Pattern) -> Result<Items<&Expr>, AllocError>
     ensures values { IfOk result (λ es. constants es ≡ (known_pattern pattern.now).exprs) }
-    ensures weights { IfOk result (λ es. weights es ≡ (weighed_pattern pattern.now).exprs) }
+    ensures depth { IfOk result (λ es. deepest es ≤ size-Pattern pattern.now) }
 {
     with_pattern(Items::new(alloc), pattern)
 }
@@ -61,7 +69,7 @@ pub(crate) fn of_pattern(alloc: Global, pattern: &Pattern) -> Result<Items<&Expr
 /// Those of a written type.
 pub(crate) fn of_type(alloc: Global, ty: &TypeExpr) -> Result<Items<&Expr>, AllocError>
     ensures values { IfOk result (λ es. constants es ≡ (known_type ty.now).exprs) }
-    ensures weights { IfOk result (λ es. weights es ≡ (weighed_type ty.now).exprs) }
+    ensures depth { IfOk result (λ es. deepest es ≤ size-TypeExpr ty.now) }
 {
     with_type(Items::new(alloc), ty)
 }
@@ -71,7 +79,7 @@ pub(crate) fn of_type(alloc: Global, ty: &TypeExpr) -> Result<Items<&Expr>, Allo
 /// An expression.
 fn with_one<'e>(into: Items<&'e Expr>, e: &'e Expr) -> Result<Items<&'e Expr>, AllocError>
     ensures values { IfOk result (λ all. constants all ≡ constants into.entry ++ constant WIDTH_LIMIT e.now ∷ []) }
-    ensures weights { IfOk result (λ all. weights all ≡ weights into.entry ++ weight e.now ∷ []) }
+    ensures depth { IfOk result (λ all. deepest all ≤ max (deepest into.entry) (size-Expr e.now)) }
 {
     let mut all = into;
     all.push(e)?;
@@ -85,7 +93,7 @@ fn with_two<'e>(
     b: &'e Expr,
 ) -> Result<Items<&'e Expr>, AllocError>
     ensures values { IfOk result (λ all. constants all ≡ constants into.entry ++ constant WIDTH_LIMIT a.now ∷ constant WIDTH_LIMIT b.now ∷ []) }
-    ensures weights { IfOk result (λ all. weights all ≡ weights into.entry ++ weight a.now ∷ weight b.now ∷ []) }
+    ensures depth { IfOk result (λ all. deepest all ≤ max (deepest into.entry) (max (size-Expr a.now) (size-Expr b.now))) }
 {
     with_one(with_one(into, a)?, b)
 }
@@ -93,7 +101,7 @@ fn with_two<'e>(
 /// The expressions of a slice.
 fn with_slice<'e>(into: Items<&'e Expr>, slice: &'e Slice) -> Result<Items<&'e Expr>, AllocError>
     ensures values { IfOk result (λ all. constants all ≡ constants into.entry ++ (known_slice slice.now).exprs) }
-    ensures weights { IfOk result (λ all. weights all ≡ weights into.entry ++ (weighed_slice slice.now).exprs) }
+    ensures depth { IfOk result (λ all. deepest all ≤ max (deepest into.entry) (size-Slice slice.now)) }
 {
     match slice {
         Slice::BitAt(i) => with_one(into, i),
@@ -110,7 +118,7 @@ fn with_pattern<'e>(
     pattern: &'e Pattern,
 ) -> Result<Items<&'e Expr>, AllocError>
     ensures values { IfOk result (λ all. constants all ≡ constants into.entry ++ (known_pattern pattern.now).exprs) }
-    ensures weights { IfOk result (λ all. weights all ≡ weights into.entry ++ (weighed_pattern pattern.now).exprs) }
+    ensures depth { IfOk result (λ all. deepest all ≤ max (deepest into.entry) (size-Pattern pattern.now)) }
 {
     match pattern {
         Pattern::AnyPattern(_) | Pattern::MaskPattern(_, _) => Ok(into),
@@ -131,7 +139,7 @@ fn with_patterns<'e>(
     patterns: &'e [Pattern],
 ) -> Result<Items<&'e Expr>, AllocError>
     ensures values { IfOk result (λ all. constants all ≡ constants into.entry ++ exprs_in itself (map known_pattern patterns.now)) }
-    ensures weights { IfOk result (λ all. weights all ≡ weights into.entry ++ exprs_in itself (map weighed_pattern patterns.now)) }
+    ensures depth { IfOk result (λ all. deepest all ≤ max (deepest into.entry) (most size-Pattern patterns.now)) }
 {
     let mut all = into;
     for pattern in patterns {
@@ -146,7 +154,7 @@ fn with_part<'e>(
     part: &'e ConstraintPart,
 ) -> Result<Items<&'e Expr>, AllocError>
     ensures values { IfOk result (λ all. constants all ≡ constants into.entry ++ (known_part part.now).exprs) }
-    ensures weights { IfOk result (λ all. weights all ≡ weights into.entry ++ (weighed_part part.now).exprs) }
+    ensures depth { IfOk result (λ all. deepest all ≤ max (deepest into.entry) (size-ConstraintPart part.now)) }
 {
     match part {
         ConstraintPart::Only(e) => with_one(into, e),
@@ -160,7 +168,7 @@ fn with_parts<'e>(
     parts: &'e [ConstraintPart],
 ) -> Result<Items<&'e Expr>, AllocError>
     ensures values { IfOk result (λ all. constants all ≡ constants into.entry ++ exprs_in itself (map known_part parts.now)) }
-    ensures weights { IfOk result (λ all. weights all ≡ weights into.entry ++ exprs_in itself (map weighed_part parts.now)) }
+    ensures depth { IfOk result (λ all. deepest all ≤ max (deepest into.entry) (most size-ConstraintPart parts.now)) }
 {
     let mut all = into;
     for part in parts {
@@ -175,7 +183,7 @@ fn with_bitfield<'e>(
     field: &'e Bitfield,
 ) -> Result<Items<&'e Expr>, AllocError>
     ensures values { IfOk result (λ all. constants all ≡ constants into.entry ++ (known_bitfield field.now).exprs) }
-    ensures weights { IfOk result (λ all. weights all ≡ weights into.entry ++ (weighed_bitfield field.now).exprs) }
+    ensures depth { IfOk result (λ all. deepest all ≤ max (deepest into.entry) (size-Bitfield field.now)) }
 {
     match field {
         Bitfield::OneBit(place, _) => with_one(into, place),
@@ -189,7 +197,7 @@ fn with_bitfields<'e>(
     fields: &'e [Bitfield],
 ) -> Result<Items<&'e Expr>, AllocError>
     ensures values { IfOk result (λ all. constants all ≡ constants into.entry ++ exprs_in itself (map known_bitfield fields.now)) }
-    ensures weights { IfOk result (λ all. weights all ≡ weights into.entry ++ exprs_in itself (map weighed_bitfield fields.now)) }
+    ensures depth { IfOk result (λ all. deepest all ≤ max (deepest into.entry) (most size-Bitfield fields.now)) }
 {
     let mut all = into;
     for field in fields {
@@ -202,7 +210,7 @@ fn with_bitfields<'e>(
 #[cycle(inside_types)]
 fn with_type<'e>(into: Items<&'e Expr>, ty: &'e TypeExpr) -> Result<Items<&'e Expr>, AllocError>
     ensures values { IfOk result (λ all. constants all ≡ constants into.entry ++ (known_type ty.now).exprs) }
-    ensures weights { IfOk result (λ all. weights all ≡ weights into.entry ++ (weighed_type ty.now).exprs) }
+    ensures depth { IfOk result (λ all. deepest all ≤ max (deepest into.entry) (size-TypeExpr ty.now)) }
 {
     match ty {
         TypeExpr::BooleanType(_) | TypeExpr::BitType(_) | TypeExpr::NamedType(_, _) => Ok(into),
@@ -224,7 +232,7 @@ fn with_types<'e>(
     types: &'e [TypeExpr],
 ) -> Result<Items<&'e Expr>, AllocError>
     ensures values { IfOk result (λ all. constants all ≡ constants into.entry ++ exprs_in itself (map known_type types.now)) }
-    ensures weights { IfOk result (λ all. weights all ≡ weights into.entry ++ exprs_in itself (map weighed_type types.now)) }
+    ensures depth { IfOk result (λ all. deepest all ≤ max (deepest into.entry) (most size-TypeExpr types.now)) }
 {
     let mut all = into;
     for ty in types {

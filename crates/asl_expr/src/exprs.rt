@@ -1,6 +1,6 @@
 //! The types and the effects of expressions, and their typed trees.
 
-ghost use Rattle.std.specs.Prelude.{◌≡◌, map};
+ghost use Rattle.std.specs.Prelude.{map};
 ghost use Rattle.asl_rules.specs.Acting as acting;
 ghost use Rattle.asl_rules.specs.Exprs as rules;
 ghost use Rattle.asl_rules.specs.Exprs.{found};

@@ -58,22 +58,3 @@ expr_plan q v (ex.Slices span a ss) c = behind_more a (exprs_in v.slice ss) c (�
 expr_plan q v (ex.Element span a i) c = element span a i c
 expr_plan q v (ex.As span a t) c = behind_more a ((v.written t).exprs) c (λ x zs. converted q.limit span ((v.written t).shape (q.types c)) zs x)
 expr_plan q v (ex.In span a p) c = behind_more a ((v.pattern p).exprs) c (λ x zs. matched_in q.limit ((v.pattern p).shape) zs x)
-
--- where an expression stands
-abbrev pub layer_at : {B I E F P L T : Type 0} → ex.Expr-F B I E F P L T → Span
-layer_at (ex.Int span n) = span
-layer_at (ex.Bits span t) = span
-layer_at (ex.Bool span b) = span
-layer_at (ex.Name span t) = span
-layer_at (ex.Unary span o a) = span
-layer_at (ex.Binary span o a b) = span
-layer_at (ex.Conditional span c a b) = span
-layer_at (ex.Tuple span xs) = span
-layer_at (ex.Construct span i fs) = span
-layer_at (ex.Call span i ps xs) = span
-layer_at (ex.Field span a i) = span
-layer_at (ex.Fields span a iss) = span
-layer_at (ex.Slices span a ss) = span
-layer_at (ex.Element span a i) = span
-layer_at (ex.As span a t) = span
-layer_at (ex.In span a p) = span

@@ -11,7 +11,8 @@ use Rattle.asl_rules.specs.Values.{Value}
 use Rattle.asl_rules.specs.Scopes.{Entry, Standing, Stored, Subprogram, TypeName, Label, standing_of}
 use Rattle.asl_rules.specs.Plans.{Stuck, NothingCaught, CallBarred, Plan, Ret, Raise, Stop, Eval, Exec, Put, Within, Pure, Good, Bad}
 use Rattle.asl_rules.specs.Pures.{◌>>=◌, known}
-use Rattle.asl_rules.specs.ByNames.{Asks, Views, expr_plan, layer_at, types_among}
+use Rattle.asl_rules.specs.ByNames.{Asks, Views, expr_plan, types_among}
+use Rattle.asl_rules.specs.Exprs.{span_of}
 
 -- the value of an expression where these names are visible
 abbrev pub Known : Type 0
@@ -51,7 +52,7 @@ abbrev pub ConstantLayer : Type 0
 ConstantLayer = ex.Expr-F (Shaped BitfieldShape Known) (Shaped PartShape Known) Known (Shaped (List ℕ) Known) (Shaped PatternShape Known) (Shaped SliceShape Known) (Shaped TypeOver Known)
 
 abbrev pub constant_layer : ℕ → ConstantLayer → Known
-constant_layer limit layer names = settled (layer_at layer) names (expr_plan (before_runs limit) known_parts layer names)
+constant_layer limit layer names = settled (span_of layer) names (expr_plan (before_runs limit) known_parts layer names)
 
 abbrev pub constant : ℕ → Expr → Known
 constant limit = fold-Expr (Shaped BitfieldShape Known) (Shaped PartShape Known) Known (Shaped (List ℕ) Known) (Shaped PatternShape Known) (Shaped SliceShape Known) (Shaped TypeOver Known)

@@ -34,7 +34,8 @@ use Rattle.asl_syn.specs.declared.tree.Decl.TheVariants as dc
 use Rattle.asl_syn.specs.declared.tree.Formal.{Formal}
 use Rattle.asl_syn.specs.declared.tree.Param.{Param}
 use Rattle.asl_syn.specs.declared.tree.Func.{Func}
-use Rattle.asl_syn.specs.Layers.{ExprLayer, TypeLayer, StmtLayer, expr_span, stmt_span}
+use Rattle.asl_syn.specs.Layers.{ExprLayer, TypeLayer, StmtLayer}
+use Rattle.asl_rules.specs.Exprs.{span_of}
 use Rattle.asl_poly.specs.Poly.{constant_map, atom_map}
 use Rattle.asl_rules.specs.Types.{Ty, Kind, kind_eq}
 use Rattle.asl_rules.specs.Closed as cl
@@ -447,6 +448,31 @@ stmt_node env (st.Return span o) c = return_value o c
 stmt_node env (st.Throw span o) c = throw frames span o c
 stmt_node env (st.Try span ss hs o) c = try_list frames (catch_in env) ss hs (otherwise_in o) c
 stmt_node env (st.Print span kind iss) c = print_items item_in kind iss c
+
+-- where a node stands
+abbrev pub expr_span : Expr → Span
+expr_span e = span_of (out-Expr e)
+
+abbrev pub stmt_layer_span : StmtLayer → Span
+stmt_layer_span (st.Pass span) = span
+stmt_layer_span (st.Unreachable span) = span
+stmt_layer_span (st.Assert span e) = span
+stmt_layer_span (st.Local span k b t e) = span
+stmt_layer_span (st.LocalVars span iss t) = span
+stmt_layer_span (st.Assign span t e) = span
+stmt_layer_span (st.Invoke span i ps xs) = span
+stmt_layer_span (st.If span c ss es zs) = span
+stmt_layer_span (st.Case span e ass o) = span
+stmt_layer_span (st.For span i a d b l ss) = span
+stmt_layer_span (st.While span e l ss) = span
+stmt_layer_span (st.Repeat span ss e l) = span
+stmt_layer_span (st.Return span e) = span
+stmt_layer_span (st.Throw span e) = span
+stmt_layer_span (st.Try span ss cs o) = span
+stmt_layer_span (st.Print span k iss) = span
+
+abbrev pub stmt_span : Stmt → Span
+stmt_span s = stmt_layer_span (out-Stmt s)
 
 -- what the nodes of a program do, and what they mean where at most d more may be open
 abbrev pub nodes : Environment → Nodes Core Expr Stmt

@@ -123,10 +123,8 @@ element_rule span a i G = a.typed G >>= λ S. i.typed G >>= λ I. element_at G.c
 
 -- ---- all expressions
 
-abbrev pub ExprOf : Type 0
-ExprOf = ex.Expr-F FoundBitfield FoundPart Found FoundField FoundPattern FoundSlice FoundType
-
-abbrev pub span_of : ExprOf → Span
+-- where an expression stands
+abbrev pub span_of : {B I E F P L T : Type 0} → ex.Expr-F B I E F P L T → Span
 span_of (ex.Int span n) = span
 span_of (ex.Bits span t) = span
 span_of (ex.Bool span b) = span
@@ -143,6 +141,9 @@ span_of (ex.Slices span a ss) = span
 span_of (ex.Element span a i) = span
 span_of (ex.As span a t) = span
 span_of (ex.In span a p) = span
+
+abbrev pub ExprOf : Type 0
+ExprOf = ex.Expr-F FoundBitfield FoundPart Found FoundField FoundPattern FoundSlice FoundType
 
 abbrev pub typed_rule : Tests → ExprOf → Scope → Result Typed Fault
 typed_rule t (ex.Int span n) G = in_class G.class span Pure (literal_type n) (λ m. tree.Int m n)

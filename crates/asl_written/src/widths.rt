@@ -25,6 +25,7 @@ use asl_syn::code::{Refused, StaticCode};
 use asl_syn::token::Span;
 use asl_syn::tree::{BinaryOperator, Expr, UnaryOperator};
 use asl_tree::nodes;
+use asl_tree::places::place;
 use asl_tree::tree::{Note, Tree};
 use asl_types::answer::fault;
 use asl_types::integers::any_integer;
@@ -238,8 +239,6 @@ pub fn type_width(alloc: Global, context: Context, e: &Expr) -> Result<Width, Re
 {
     match e {
         Expr::Int(span, n) => literal_width(alloc, *span, *n),
-        Expr::Bits(span, _) => fault(StaticCode::T19, *span),
-        Expr::Bool(span, _) => fault(StaticCode::T19, *span),
         Expr::Name(span, name) => width_of_name(alloc, context, *span, name.as_slice()),
         Expr::Unary(span, op, a) => match op {
             UnaryOperator::Negate => {
@@ -257,16 +256,8 @@ pub fn type_width(alloc: Global, context: Context, e: &Expr) -> Result<Width, Re
             let b = type_width(alloc, context, b.get())?;
             width_operation(alloc, *span, *op, a, b)
         }
-        Expr::Conditional(span, _, _, _) => fault(StaticCode::T19, *span),
-        Expr::Tuple(span, _) => fault(StaticCode::T19, *span),
-        Expr::Construct(span, _, _) => fault(StaticCode::T19, *span),
-        Expr::Call(span, _, _, _) => fault(StaticCode::T19, *span),
-        Expr::Field(span, _, _) => fault(StaticCode::T19, *span),
-        Expr::Fields(span, _, _) => fault(StaticCode::T19, *span),
-        Expr::Slices(span, _, _) => fault(StaticCode::T19, *span),
-        Expr::Element(span, _, _) => fault(StaticCode::T19, *span),
-        Expr::As(span, _, _) => fault(StaticCode::T19, *span),
-        Expr::In(span, _, _) => fault(StaticCode::T19, *span),
+        // no other form is a width
+        _ => fault(StaticCode::T19, place(e)),
     }
 }
 
@@ -423,8 +414,6 @@ pub fn type_number(alloc: Global, context: Context, e: &Expr) -> Result<Number, 
 {
     match e {
         Expr::Int(span, n) => literal_number(alloc, *span, *n),
-        Expr::Bits(span, _) => fault(StaticCode::T19, *span),
-        Expr::Bool(span, _) => fault(StaticCode::T19, *span),
         Expr::Name(span, name) => number_of_name(alloc, context, *span, name.as_slice()),
         Expr::Unary(span, op, a) => match op {
             UnaryOperator::Negate => {
@@ -442,16 +431,8 @@ pub fn type_number(alloc: Global, context: Context, e: &Expr) -> Result<Number, 
             let b = type_number(alloc, context, b.get())?;
             number_operation(alloc, *span, *op, a, b)
         }
-        Expr::Conditional(span, _, _, _) => fault(StaticCode::T19, *span),
-        Expr::Tuple(span, _) => fault(StaticCode::T19, *span),
-        Expr::Construct(span, _, _) => fault(StaticCode::T19, *span),
-        Expr::Call(span, _, _, _) => fault(StaticCode::T19, *span),
-        Expr::Field(span, _, _) => fault(StaticCode::T19, *span),
-        Expr::Fields(span, _, _) => fault(StaticCode::T19, *span),
-        Expr::Slices(span, _, _) => fault(StaticCode::T19, *span),
-        Expr::Element(span, _, _) => fault(StaticCode::T19, *span),
-        Expr::As(span, _, _) => fault(StaticCode::T19, *span),
-        Expr::In(span, _, _) => fault(StaticCode::T19, *span),
+        // no other form is a width
+        _ => fault(StaticCode::T19, place(e)),
     }
 }
 
@@ -473,9 +454,6 @@ pub fn has_atom(context: Context, e: &Expr) -> bool
     ensures { (t : Tests) → result ≡ (rules.found t e.now).has_atom (scope_of context.entry) }
 {
     match e {
-        Expr::Int(_, _) => false,
-        Expr::Bits(_, _) => false,
-        Expr::Bool(_, _) => false,
         Expr::Name(_, name) => storage_has_atom(context.names.storage_of(name.as_slice())),
         Expr::Unary(_, op, a) => match op {
             UnaryOperator::Negate => has_atom(context, a.get()),
@@ -485,15 +463,7 @@ pub fn has_atom(context: Context, e: &Expr) -> bool
         Expr::Binary(_, op, a, b) => {
             has_width(*op) && (has_atom(context, a.get()) || has_atom(context, b.get()))
         }
-        Expr::Conditional(_, _, _, _) => false,
-        Expr::Tuple(_, _) => false,
-        Expr::Construct(_, _, _) => false,
-        Expr::Call(_, _, _, _) => false,
-        Expr::Field(_, _, _) => false,
-        Expr::Fields(_, _, _) => false,
-        Expr::Slices(_, _, _) => false,
-        Expr::Element(_, _, _) => false,
-        Expr::As(_, _, _) => false,
-        Expr::In(_, _, _) => false,
+        // no other form is a width
+        _ => false,
     }
 }

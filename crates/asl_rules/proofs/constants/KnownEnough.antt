@@ -3,21 +3,21 @@ use Rattle.std.proofs.Common.{◌≡◌, ℕ, zero, suc, ◌+◌, ◌-◌, ◌�
 use Rattle.asl_syn.specs.declared.token.Span.{Span}
 use Rattle.asl_syn.specs.declared.tree.Expr.{Expr, out-Expr}
 use Rattle.asl_syn.specs.declared.tree.Stmt.{Stmt}
-use Rattle.asl_syn.specs.Layers.{expr_span}
 use Rattle.asl_rules.specs.Values.{Value}
 use Rattle.asl_rules.specs.Scopes.{Entry}
 use Rattle.asl_rules.specs.States.{Core}
 use Rattle.asl_rules.specs.Plans.{Meter, Outcome, Done, Thrown, Halt, handle, Plan, Ret, Stop, Eval, Within, run, enter, Pure, Good, Bad}
 use Rattle.asl_rules.specs.Pures.{◌>>=◌}
-use Rattle.asl_rules.specs.ByNames.{expr_plan, layer_at}
+use Rattle.asl_rules.specs.ByNames.{expr_plan}
 use Rattle.asl_rules.specs.Constants.{Known, before_runs, known_parts, settled, constant}
 use Rattle.asl_rules.specs.Programs.{Environment}
-use Rattle.asl_rules.specs.Evaluation.{in_state, tree_parts, meaning}
+use Rattle.asl_rules.specs.Evaluation.{in_state, tree_parts, meaning, expr_span}
 use Rattle.asl_rules.specs.BeforeRuns.{HoldsInitial, EndsSo, IsBarred, HoldsCall, Enough, OneEvaluation}
 use Rattle.asl_rules.proofs.runs.Budget.{enter_some}
 use Rattle.asl_rules.proofs.constants.KnownParts.{known_layer, constant_out}
 use Rattle.asl_rules.proofs.constants.KnownTwins.{IsCall, Twin, PlansTwin, of_all}
 use Rattle.asl_rules.proofs.constants.KnownRuns.{node_before}
+use Rattle.asl_rules.specs.Exprs.{span_of}
 
 module _ (env : Environment) (c : Core) (holds : HoldsInitial env c) where
   -- a run ends as was known, and takes no more than n steps
@@ -76,7 +76,7 @@ module _ (env : Environment) (c : Core) (holds : HoldsInitial env c) where
   node_bound : (e : Expr) → PlansTwin env c Bounded (out-Expr e) → Bounded e
   node_bound e w =
       let b = subst (λ (k : Known). Bound (k env.names) (λ d h. run (meaning env d) (expr_plan (in_state env) tree_parts (out-Expr e) c) h)) (sym (constant_out env.limit e))
-      (plan_bound (layer_at (known_layer env.limit (out-Expr e))) (expr_plan (in_state env) tree_parts (out-Expr e) c) (expr_plan (before_runs env.limit) known_parts (known_layer env.limit (out-Expr e)) env.names) w) in
+      (plan_bound (span_of (known_layer env.limit (out-Expr e))) (expr_plan (in_state env) tree_parts (out-Expr e) c) (expr_plan (before_runs env.limit) known_parts (known_layer env.limit (out-Expr e)) env.names) w) in
       record { n = 1 + b.n; cost = node_cost e b }
     where
       node_cost : (e : Expr) (b : Bound (constant env.limit e env.names) (λ d h. run (meaning env d) (expr_plan (in_state env) tree_parts (out-Expr e) c) h)) (d : ℕ) (h : Meter) → 1 + b.n ≤ d → 1 + b.n ≤ h.steps → Costs (1 + b.n) (constant env.limit e env.names) h ((meaning env d).expr e c h)

@@ -4,19 +4,19 @@ use Rattle.asl_syn.specs.declared.token.Span.{Span}
 use Rattle.asl_syn.specs.declared.code.DynCode.TheVariants.{D12, D13}
 use Rattle.asl_syn.specs.declared.tree.Expr.{Expr, out-Expr}
 use Rattle.asl_syn.specs.declared.tree.Stmt.{Stmt}
-use Rattle.asl_syn.specs.Layers.{expr_span}
 use Rattle.asl_rules.specs.Values.{Value}
 use Rattle.asl_rules.specs.Scopes.{Entry}
 use Rattle.asl_rules.specs.States.{Core}
 use Rattle.asl_rules.specs.Plans.{Meter, Faulted, Outcome, Done, Thrown, Halt, handle, Plan, Ret, Stop, Eval, Within, run, Pure, Good, Bad}
 use Rattle.asl_rules.specs.Pures.{◌>>=◌}
-use Rattle.asl_rules.specs.ByNames.{expr_plan, layer_at}
+use Rattle.asl_rules.specs.ByNames.{expr_plan}
 use Rattle.asl_rules.specs.Constants.{Known, before_runs, known_parts, settled, constant}
 use Rattle.asl_rules.specs.Programs.{Environment}
-use Rattle.asl_rules.specs.Evaluation.{in_state, tree_parts, meaning}
+use Rattle.asl_rules.specs.Evaluation.{in_state, tree_parts, meaning, expr_span}
 use Rattle.asl_rules.specs.BeforeRuns.{HoldsInitial, RanOut, HoldsCall, AsBefore}
 use Rattle.asl_rules.proofs.constants.KnownParts.{known_layer, constant_out}
 use Rattle.asl_rules.proofs.constants.KnownTwins.{IsCall, Twin, PlansTwin, of_all}
+use Rattle.asl_rules.specs.Exprs.{span_of}
 
 module _ (env : Environment) (c : Core) where
   call_barred : {A B : Type 0} (span : Span) (q : Plan (List Entry) Known Known B) (f : B → Pure A) → IsCall q → HoldsCall (settled span env.names q >>= f)
@@ -60,5 +60,5 @@ module _ (env : Environment) (c : Core) where
       node e w zero h = inr (inl (full_out (expr_span e) h (Halt (Faulted D12 (expr_span e)) c (record h { steps = h.steps - 1 })) (h.steps == 0)))
       node e w (suc d) h = entered_before (constant env.limit e env.names) (expr_span e) h (run (meaning env d) (expr_plan (in_state env) tree_parts (out-Expr e) c))
           (λ h1. subst (λ k. AsBefore c (k env.names) (run (meaning env d) (expr_plan (in_state env) tree_parts (out-Expr e) c) h1)) (sym (constant_out env.limit e))
-          (run_before d (layer_at (known_layer env.limit (out-Expr e))) (expr_plan (in_state env) tree_parts (out-Expr e) c) (expr_plan (before_runs env.limit) known_parts (known_layer env.limit (out-Expr e)) env.names) w h1))
+          (run_before d (span_of (known_layer env.limit (out-Expr e))) (expr_plan (in_state env) tree_parts (out-Expr e) c) (expr_plan (before_runs env.limit) known_parts (known_layer env.limit (out-Expr e)) env.names) w h1))
           (h.steps == 0)

@@ -5,7 +5,7 @@ use Rattle.asl_syn.specs.declared.tree.Ident.{Ident}
 use Rattle.asl_syn.specs.declared.tree.Expr.{Expr, out-Expr}
 use Rattle.asl_syn.specs.declared.tree.Bitfield.TheOpen as ex
 use Rattle.asl_syn.specs.declared.tree.Decl.{Decl}
-use Rattle.asl_syn.specs.Layers.{ExprLayer, expr_layer_span}
+use Rattle.asl_syn.specs.Layers.{ExprLayer}
 use Rattle.asl_rules.specs.declared.effect.Effect.TheVariants.{Pure}
 use Rattle.asl_rules.specs.Tests.{Tests, IsRight}
 use Rattle.asl_rules.specs.Faults.{need}
@@ -15,7 +15,7 @@ use Rattle.asl_rules.specs.Trees.{TreeFunc, tree_at}
 use Rattle.asl_rules.specs.Typing.{Found, Typed, Operand, operands}
 use Rattle.asl_rules.specs.Calls.{call_begun, function_of, function_rule}
 use Rattle.asl_rules.specs.Routines.{Routine, routine_named}
-use Rattle.asl_rules.specs.Exprs.{found, typed, typed_rule}
+use Rattle.asl_rules.specs.Exprs.{found, typed, typed_rule, span_of}
 use Rattle.asl_rules.specs.States.{Core}
 use Rattle.asl_rules.specs.Agreement.{types_in}
 use Rattle.asl_rules.specs.Evaluation.{expr_node}
@@ -91,7 +91,7 @@ module _ (tests : Tests) (right : IsRight tests) (ds : List Decl) (base : List E
 
   -- what is asked of an expression, where it stands and what it does
   pub record Does_asked (H : Here) (q : Asked) (e : Expr) (c : Core) : Type 0 where
-    pub at : expr_layer_span (out-Expr e) ≡ tree_at (tree_asked q)
+    pub at : span_of (out-Expr e) ≡ tree_at (tree_asked q)
     pub does : Same tests right base subs H (λ x y c1. (x ≡ y) × (GivesAsked (types_in base) H.present q x × At tests base subs H c1)) (expr_node (env tests right ds base subs funcs w) (out-Expr e) c) (tree_node (program tests right ds base subs funcs w) (tree_asked q) (erased c))
 
   pub asked_formed : Others → (H : Here) (q : Asked) (e : Expr) (c : Core) → Answers tests q e H.scope → At tests base subs H c → Does_asked H q e c

@@ -8,7 +8,7 @@ use Rattle.asl_syn.specs.declared.tree.Decl.{Decl}
 use Rattle.asl_syn.specs.declared.tree.UnaryOperator.{UnaryOperator}
 use Rattle.asl_syn.specs.declared.tree.BinaryOperator.{BinaryOperator}
 use Rattle.asl_syn.specs.declared.tree.BinaryOperator.TheVariants as binary
-use Rattle.asl_syn.specs.Layers.{ExprLayer, expr_layer_span}
+use Rattle.asl_syn.specs.Layers.{ExprLayer}
 use Rattle.asl_rules.specs.declared.effect.Effect.{Effect}
 use Rattle.asl_rules.specs.declared.effect.Effect.TheVariants.{Pure}
 use Rattle.asl_rules.specs.Faults.{◌>>◌, need, found_or, fault_of}
@@ -26,7 +26,7 @@ use Rattle.asl_rules.specs.Effects.{greater, together, all_together, greatest}
 use Rattle.asl_rules.specs.Typing.{Typed, typed_as, note, in_class, Operand, operands, effects_of, types_of, trees_in, trees_of}
 use Rattle.asl_rules.specs.Operations.{of_booleans, binary_rule, unary_rule}
 use Rattle.asl_rules.specs.Members.{element_in, indexed}
-use Rattle.asl_rules.specs.Exprs.{literal_type, found, typed, apart, operation_rule, operation_rule_of_two, conditional_rule, tuple_rule, element_rule, name_of_standing, bits_rule_of}
+use Rattle.asl_rules.specs.Exprs.{literal_type, found, typed, apart, operation_rule, operation_rule_of_two, conditional_rule, tuple_rule, element_rule, name_of_standing, bits_rule_of, span_of}
 use Rattle.asl_rules.specs.Values.{Value, bool, tuple_with, is_width, value}
 use Rattle.asl_rules.specs.Views.{stripped, stripping, parts_viewed}
 use Rattle.asl_rules.specs.HoldsBits.{holds_bits}
@@ -89,10 +89,10 @@ module _ (tests : Tests) (right : IsRight tests) (ds : List Decl) (base : List E
 
   -- one form: where it stands, and what it does
   pub record Formed (H : Here) (S : Typed) (layer : ExprLayer) (c : Core) : Type 0 where
-    pub at : expr_layer_span layer ≡ tree_at S.tree
+    pub at : span_of layer ≡ tree_at S.tree
     pub does : Same tests right base subs H (Out tests right base subs H S.ty) (expr_node env layer c) (tree_node program S.tree (erased c))
 
-  pub formed : (H : Here) (S : Typed) (layer : ExprLayer) (c : Core) (span : Span) (U : Ty) (k : Effect) (make : Note → Tree) → typed_as span U k make ≡ S → expr_layer_span layer ≡ tree_at (typed_as span U k make).tree →
+  pub formed : (H : Here) (S : Typed) (layer : ExprLayer) (c : Core) (span : Span) (U : Ty) (k : Effect) (make : Note → Tree) → typed_as span U k make ≡ S → span_of layer ≡ tree_at (typed_as span U k make).tree →
       Same tests right base subs H (Out tests right base subs H U) (expr_node env layer c) (tree_node program (typed_as span U k make).tree (erased c)) → Formed H S layer c
   formed H S layer c span U k make e at d = subst (λ (z : Typed). Formed H z layer c) e (record { at = at; does = d })
 

@@ -10,7 +10,7 @@ use Rattle.asl_syn.specs.declared.tree.Decl.{Decl}
 use Rattle.asl_syn.specs.declared.tree.UnaryOperator.TheVariants as unary
 use Rattle.asl_syn.specs.declared.tree.BinaryOperator.{BinaryOperator}
 use Rattle.asl_syn.specs.declared.tree.BinaryOperator.TheVariants as binary
-use Rattle.asl_syn.specs.Layers.{ExprLayer, expr_layer_span}
+use Rattle.asl_syn.specs.Layers.{ExprLayer}
 use Rattle.asl_poly.specs.Terms.{Polynomial}
 use Rattle.asl_poly.specs.Poly.{constant_map}
 use Rattle.asl_cons.proofs.Covering.{value_constant_map}
@@ -29,7 +29,7 @@ use Rattle.asl_rules.specs.Effects.{together, greater}
 use Rattle.asl_rules.specs.Operations.{binary_rule, unary_rule}
 use Rattle.asl_rules.specs.Typing.{Found, Typed, Width, Number, typed_as, in_class, width_as, number_as, width_note}
 use Rattle.asl_cons.specs.Arithmetic.{fits}
-use Rattle.asl_rules.specs.Exprs.{literal_type, found, typed, width, typed_rule, width_rule, number_rule, width_of_operation, number_of_operation, name_read, name_of_standing, operation_rule}
+use Rattle.asl_rules.specs.Exprs.{literal_type, found, typed, width, typed_rule, width_rule, number_rule, width_of_operation, number_of_operation, name_read, name_of_standing, operation_rule, span_of}
 use Rattle.asl_rules.specs.Values.{Value, int}
 use Rattle.asl_rules.specs.States.{Core}
 use Rattle.asl_rules.specs.Agreement.{types_in, IsKnown, CountsAs}
@@ -115,12 +115,12 @@ module _ (tests : Tests) (right : IsRight tests) (ds : List Decl) (base : List E
 
   -- what is asked of a node, as an integer
   pub record Widened (H : Here) (q : Asked) (layer : ExprLayer) (c : Core) : Type 0 where
-    pub at : expr_layer_span layer ≡ tree_at (tree_asked q)
+    pub at : span_of layer ≡ tree_at (tree_asked q)
     pub does : Same tests right base subs H (λ x y c1. (x ≡ y) × (GivesAsked (types_in base) H.present q x × At tests base subs H c1)) (expr_node (env tests right ds base subs funcs w) layer c) (tree_node (program tests right ds base subs funcs w) (tree_asked q) (erased c))
 
   -- ---- widths
 
-  width_of : (H : Here) (W : Width) (layer : ExprLayer) (c : Core) (p : Polynomial) (t : Tree) → width_as p t ≡ W → expr_layer_span layer ≡ tree_at t →
+  width_of : (H : Here) (W : Width) (layer : ExprLayer) (c : Core) (p : Polynomial) (t : Tree) → width_as p t ≡ W → span_of layer ≡ tree_at t →
       Same tests right base subs H (OutInt H (width_at p H.present)) (expr_node (env tests right ds base subs funcs w) layer c) (tree_node (program tests right ds base subs funcs w) t (erased c)) → Widened H (of_width W) layer c
   width_of H W layer c p t e at d = subst (λ (z : Width). Widened H (of_width z) layer c) e (record { at = at; does = d })
 
@@ -196,7 +196,7 @@ module _ (tests : Tests) (right : IsRight tests) (ds : List Decl) (base : List E
 
   -- ---- numbers
 
-  number_of : (H : Here) (N : Number) (layer : ExprLayer) (c : Core) (z : ℤ) (t : Tree) → number_as z t ≡ N → expr_layer_span layer ≡ tree_at t →
+  number_of : (H : Here) (N : Number) (layer : ExprLayer) (c : Core) (z : ℤ) (t : Tree) → number_as z t ≡ N → span_of layer ≡ tree_at t →
       Same tests right base subs H (OutInt H z) (expr_node (env tests right ds base subs funcs w) layer c) (tree_node (program tests right ds base subs funcs w) t (erased c)) → Widened H (of_number N) layer c
   number_of H N layer c z t e at d = subst (λ (n : Number). Widened H (of_number n) layer c) e (record { at = at; does = d })
 
@@ -261,7 +261,7 @@ module _ (tests : Tests) (right : IsRight tests) (ds : List Decl) (base : List E
 
   -- ---- the trees of types, where the width is known
 
-  known_of : (H : Here) (S : Typed) (W : Width) (layer : ExprLayer) (c : Core) (span : Span) (U : Ty) (k : Effect) (make : Note → Tree) (p : Polynomial) (t : Tree) → typed_as span U k make ≡ S → width_as p t ≡ W → expr_layer_span layer ≡ tree_at (typed_as span U k make).tree →
+  known_of : (H : Here) (S : Typed) (W : Width) (layer : ExprLayer) (c : Core) (span : Span) (U : Ty) (k : Effect) (make : Note → Tree) (p : Polynomial) (t : Tree) → typed_as span U k make ≡ S → width_as p t ≡ W → span_of layer ≡ tree_at (typed_as span U k make).tree →
       Same tests right base subs H (OutInt H (width_at p H.present)) (expr_node (env tests right ds base subs funcs w) layer c) (tree_node (program tests right ds base subs funcs w) (typed_as span U k make).tree (erased c)) → Widened H (of_known S W) layer c
   known_of H S W layer c span U k make p t e f at d = subst (λ (z : Width). Widened H (of_known S z) layer c) f (subst (λ (z : Typed). Widened H (of_known z (width_as p t)) layer c) e (record { at = at; does = d }))
 

@@ -10,7 +10,7 @@ use Rattle.asl_syn.specs.declared.tree.PrintItem.{PrintItem}
 use Rattle.asl_syn.specs.declared.tree.PrintItem.TheVariants.{Verbatim, Shown}
 use Rattle.asl_syn.specs.declared.tree.Alternative.TheOpen as st
 use Rattle.asl_syn.specs.declared.tree.Decl.{Decl}
-use Rattle.asl_syn.specs.Layers.{StmtLayer, stmt_layer_span}
+use Rattle.asl_syn.specs.Layers.{StmtLayer}
 use Rattle.asl_rules.specs.declared.effect.Effect.{Effect}
 use Rattle.asl_rules.specs.declared.effect.Effect.TheVariants.{Pure, Writes}
 use Rattle.asl_rules.specs.Faults.{◌>>◌, need, fault_of}
@@ -34,7 +34,7 @@ use Rattle.asl_rules.specs.Plans.{Ret, Put, choose, lift}
 use Rattle.asl_rules.specs.Operators.{truth}
 use Rattle.asl_rules.specs.Texts.{value_text}
 use Rattle.asl_rules.specs.StatementForms.{done_normal, asserted, print_items, end_print}
-use Rattle.asl_rules.specs.Evaluation.{Does, stmt_node, item_in}
+use Rattle.asl_rules.specs.Evaluation.{Does, stmt_node, item_in, stmt_layer_span}
 use Rattle.asl_rules.specs.TypedMeaning.{Runs, act_node, item_of}
 use Rattle.asl_rules.specs.Erasure.{erased}
 use Rattle.asl_rules.proofs.basics.Inversions.{ok_ok, err_ok, bind_ok, then_ok, need_ok, fitted_ok}
