@@ -102,10 +102,10 @@ branch_of span names a b true = at_limit a names >>= λ y. Good (stripped y)
 branch_of span names a b false = at_limit b names >>= λ y. Good (stripped y)
 
 taken : (span : Span) (names : List Entry) (a b : Expr) (p : Pure Bool) (q : Bool) → p ≡ Good q →
-    settled span names (lift p names (λ t. choose t (branch_value (at_limit a) names) (branch_value (at_limit b) names))) ≡ branch_of span names a b q
-taken span names a b p q h = ap (λ o. settled span names (lift o names (λ t. choose t (branch_value (at_limit a) names) (branch_value (at_limit b) names)))) h ∙ by q
+    settled span names (lift p names (λ t. choose t (branch_value stripped (at_limit a) names) (branch_value stripped (at_limit b) names))) ≡ branch_of span names a b q
+taken span names a b p q h = ap (λ o. settled span names (lift o names (λ t. choose t (branch_value stripped (at_limit a) names) (branch_value stripped (at_limit b) names)))) h ∙ by q
   where
-    by : (t : Bool) → settled span names (choose t (branch_value (at_limit a) names) (branch_value (at_limit b) names)) ≡ branch_of span names a b t
+    by : (t : Bool) → settled span names (choose t (branch_value stripped (at_limit a) names) (branch_value stripped (at_limit b) names)) ≡ branch_of span names a b t
     by true = refl
     by false = refl
 
@@ -113,8 +113,8 @@ chosen : (e c d a b : Expr) (span : Span) (names : List Entry) (x : Value) (q : 
     at_limit e names ≡ branch_of span names a b q
 chosen e c d a b span names x q is one h t =
     opened e (ex.Conditional span c a b) names (is ∙ sym (ev.rolls-Conditional span c a b))
-    ∙ (ap (λ v. at_limit v names >>= λ y. settled span names (lift (truth span y) names (λ t. choose t (branch_value (at_limit a) names) (branch_value (at_limit b) names)))) (sym one)
-    ∙ (ap (λ o. o >>= λ y. settled span names (lift (truth span y) names (λ t. choose t (branch_value (at_limit a) names) (branch_value (at_limit b) names)))) h
+    ∙ (ap (λ v. at_limit v names >>= λ y. settled span names (lift (truth span y) names (λ t. choose t (branch_value stripped (at_limit a) names) (branch_value stripped (at_limit b) names)))) (sym one)
+    ∙ (ap (λ o. o >>= λ y. settled span names (lift (truth span y) names (λ t. choose t (branch_value stripped (at_limit a) names) (branch_value stripped (at_limit b) names)))) h
     ∙ taken span names a b (truth span x) q t))
 
 pub then_met : (e c d a f b : Expr) (span : Span) (names : List Entry) (x : Value) (r : Result code.Value Unknown) → e ≡ ev.Conditional span c a b → d ≡ c → at_limit d names ≡ Good x → truth span x ≡ Good true → f ≡ a →
