@@ -6,3 +6,4 @@ pub mod Bitfields
 pub mod GivenLemmas
 pub mod Filling
 pub mod Arms
+pub mod Falling

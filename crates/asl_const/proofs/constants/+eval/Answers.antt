@@ -1,4 +1,4 @@
-use Rattle.std.proofs.Common.{[], map, sym, ap, ◌∙◌}
+use Rattle.std.proofs.Common.{[], map, sym, ap, ◌∙◌, arith}
 use Rattle.asl_bits.specs.declared.TheConstants.{WIDTH_LIMIT}
 use Rattle.asl_rules.specs.Constants.{constant}
 use Rattle.asl_rules.specs.Plans.{Good}
@@ -6,6 +6,7 @@ use Rattle.asl_rules.specs.Shaped.{exprs_in, itself}
 use Rattle.asl_value.specs.View.{value_of}
 use Rattle.asl_const.specs.Finds.{known_after, known_given, known_pattern, known_slice}
 use Rattle.asl_const.proofs.Arms.{gathered, construct_met, call_met, slices_met, in_met, element_met, then_met, else_met}
+use Rattle.asl_const.proofs.Falling.{tuple_falls, construct_falls, params_fall, args_fall, slices_fall}
 use Rattle.asl_const.proofs.constants.+eval.Goals as goal
 
 pub eval-returns-then-branch : goal.eval-returns-then-branch
@@ -55,3 +56,25 @@ eval-returns-in_ok-x-in-In t c =
     (c.is_in.ensures c.in-In.field-0 ((known_pattern c.get-in-In-3.result.now).exprs) c.args.names.now
     (gathered c.eval_all-values-in-In.result c.as_slice-in-In.result.now c.in_ok-inside-in-In.inside _ c.args.names.now (cc c.as_slice-in-In.ensures)
     (c.in_ok-inside-in-In.ensures.values ∙ ap (λ p. (known_pattern p).exprs) (c.get-in-In.ensures ∙ sym c.get-in-In-3.ensures)) c.eval_all-values-in-In.ensures))
+
+-- ---- what is gathered is less deep
+
+pub eval-eval_all-requires : goal.eval-eval_all-requires
+eval-eval_all-requires t c =
+    (omega (arith, tuple_falls c.args.e.now c.in-Tuple.field-0 c.in-Tuple.parts c.as_slice-in-Tuple.result.now c.as_slice-in-Tuple-2.result.now c.in_ok-inside-in-Tuple.inside c.in-Tuple.is (cc c.as_slice-in-Tuple.ensures) (cc c.as_slice-in-Tuple-2.ensures) c.in_ok-inside-in-Tuple.ensures.depth), tt)
+
+pub eval-eval_all-values-requires : goal.eval-eval_all-values-requires
+eval-eval_all-values-requires t c =
+    (omega (arith, construct_falls c.args.e.now c.in-Construct.span c.in-Construct.name c.in-Construct.fields c.as_slice-fields.result.now c.as_slice-in-Construct.result.now c.in_ok-inside-in-Construct.inside c.in-Construct.is c.as_slice-fields.ensures (cc c.as_slice-in-Construct.ensures) c.in_ok-inside-in-Construct.ensures.depth), tt)
+
+pub eval-eval_all-params-requires : goal.eval-eval_all-params-requires
+eval-eval_all-params-requires t c =
+    (omega (arith, params_fall c.args.e.now c.in-Call.span c.in-Call.field-1 c.in-Call.params c.in-Call.args c.as_slice-in-Call.result.now c.as_slice-in-Call-3.result.now c.in_ok-params-in-Call.params c.in-Call.is c.as_slice-in-Call.ensures (cc c.as_slice-in-Call-3.ensures) c.in_ok-params-in-Call.ensures.depth), tt)
+
+pub eval-eval_all-requires-in-Call : goal.eval-eval_all-requires-in-Call
+eval-eval_all-requires-in-Call t c =
+    (omega (arith, args_fall c.args.e.now c.in-Call.span c.in-Call.field-1 c.in-Call.params c.in-Call.args c.as_slice-in-Call-2.result.now c.as_slice-in-Call-4.result.now c.in_ok-args-in-Call.args c.in-Call.is c.as_slice-in-Call-2.ensures (cc c.as_slice-in-Call-4.ensures) c.in_ok-args-in-Call.ensures.depth), tt)
+
+pub eval-eval_all-values-requires-in-Slices : goal.eval-eval_all-values-requires-in-Slices
+eval-eval_all-values-requires-in-Slices t c =
+    (omega (arith, slices_fall c.args.e.now c.in-Slices.span c.in-Slices.a c.in-Slices.slices c.as_slice-slices.result.now c.as_slice-in-Slices.result.now c.in_ok-inside-in-Slices.inside c.in-Slices.is c.as_slice-slices.ensures (cc c.as_slice-in-Slices.ensures) c.in_ok-inside-in-Slices.ensures.depth), tt)
