@@ -20,7 +20,7 @@ ghost use Rattle.asl_run.specs.View.{exit_of};
 
 use crate::below::eval;
 use crate::exprs::eval_all;
-use crate::places::assign_at;
+use crate::places::{Storing, assign_at};
 use crate::run::Run;
 use crate::setting::{Nodes, Setting};
 use crate::stop::{Exit, Stop};
@@ -134,15 +134,12 @@ fn store_one<K: Sink, E: Fn(Setting, &mut Run, &mut K, &Tree) -> Result<Value, S
 {
     let part = Held::new(copy(part)?);
     let steps = eval_steps(here, run, sink, target.steps.as_slice())?;
-    assign_at(
-        here.setting.alloc,
-        run,
-        target.span,
-        target.slot,
-        steps.as_slice(),
+    let storing = Storing {
+        span: target.span,
+        steps: steps.as_slice(),
         holds_bits,
-        part.into_inner(),
-    )
+    };
+    assign_at(here.setting.alloc, run, target.slot, &storing, part.into_inner())
 }
 
 /// The steps of a place, the operands evaluated in order.

@@ -44,51 +44,56 @@ pub fn read(run: &Run, span: Span, slot: Slot) -> Result<Value, Stop>
 
 // ---- storing
 
-/// A store at the end of these steps from one of the values, in place where each part on the way has one owner.
+/// Where in a place a value is stored: at the end of these steps. A fault stands at the span.
+#[derive(Clone, Copy)]
+pub struct Storing<'a> {
+    pub span: Span,
+    pub steps: &'a [Step],
+    /// Whether bits occur in the type of what is stored.
+    pub holds_bits: bool,
+}
+
+/// A store into one of the values, in place where each part on the way has one owner.
 fn store_in(
     alloc: Global,
     values: &mut Vec<Value>,
-    span: Span,
     at: usize,
-    steps: &[Step],
-    holds_bits: bool,
+    storing: &Storing,
     value: Value,
 ) -> Result<(), Stop>
     ensures stores { Stores result
-        (stored_in holds_bits span at (all_steps steps.now) (value_of value) (map value_of values.old.items))
+        (stored_in storing.now.holds_bits storing.now.span at (all_steps storing.now.steps.now) (value_of value) (map value_of values.old.items))
         values.old.items values.new.items }
 {
     if at >= values.len() {
         drop(value);
-        return Err(Stop::Stuck(Mistake::UnknownName, span));
+        return Err(Stop::Stuck(Mistake::UnknownName, storing.span));
     }
-    replace(alloc, &mut values[at], steps, holds_bits, value)?;
+    replace(alloc, &mut values[at], storing.steps, storing.holds_bits, value)?;
     Ok(())
 }
 
-/// A store at the end of these steps from a place. At a fault the place holds what it held.
+/// A store into a place. At a fault the place holds what it held.
 pub fn assign_at(
     alloc: Global,
     run: &mut Run,
-    span: Span,
     slot: Slot,
-    steps: &[Step],
-    holds_bits: bool,
+    storing: &Storing,
     value: Value,
 ) -> Result<Exit, Stop>
     ensures acts { Acts result
-        (λ c. lift (rules.stored WIDTH_LIMIT holds_bits span slot (value_of value) (all_steps steps.now) c) c done_normal)
+        (λ c. lift (rules.stored WIDTH_LIMIT storing.now.holds_bits storing.now.span slot (value_of value) (all_steps storing.now.steps.now) c) c done_normal)
         run.old run.new }
     ensures none_refused { NoneRefused result }
     ensures keeps { Keeps result run.old run.new }
 {
     match slot {
         Slot::Local(i) => {
-            store_in(alloc, &mut run.frame, span, i, steps, holds_bits, value)?;
+            store_in(alloc, &mut run.frame, i, storing, value)?;
             Ok(Exit::Normal)
         }
         Slot::Global(i) => {
-            store_in(alloc, &mut run.globals, span, i, steps, holds_bits, value)?;
+            store_in(alloc, &mut run.globals, i, storing, value)?;
             Ok(Exit::Normal)
         }
     }

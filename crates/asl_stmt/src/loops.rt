@@ -43,6 +43,14 @@ pub(crate) struct Counting<'a> {
     pub(crate) to: &'a Expr,
 }
 
+/// A `while` or a `repeat` without its list, as it is written.
+#[derive(Clone, Copy)]
+pub(crate) struct Turning<'a> {
+    pub(crate) span: Span,
+    pub(crate) condition: &'a Expr,
+    pub(crate) limit: &'a Option<Expr>,
+}
+
 /// The bounds of a `for` and its limit, where it has one.
 #[derive(Drop)]
 pub(crate) struct Bounds {
@@ -215,18 +223,16 @@ pub(crate) fn check_while<'a, L: Fn(&mut Scope<'a>, &Body, &'a [Stmt]) -> Result
     names: &mut Scope<'a>,
     body: &Body,
     stmts: &'a [Stmt],
-    span: Span,
-    condition: &Expr,
-    limit: &Option<Expr>,
+    turning: &Turning,
 ) -> Result<Done, Refused>
     requires blocks { Blocks (stmt_size here.now.stmt.now) (L.pre here.now.list) (L.post here.now.list) }
     requires inside { stmts_size stmts.now < stmt_size here.now.stmt.now }
-    ensures { (t : Tests) → Suits t → Met (done_of names.new) result (while_walk t span condition.now limit.now (map (walk_stmt t) stmts.now) (body_of names.old body.now)) }
+    ensures { (t : Tests) → Suits t → Met (done_of names.new) result (while_walk t turning.now.span turning.now.condition.now turning.now.limit.now (map (walk_stmt t) stmts.now) (body_of names.old body.now)) }
 {
-    let condition = type_in(names, body, condition)?;
-    let limit = type_limit(names, body, limit)?;
+    let condition = type_in(names, body, turning.condition)?;
+    let limit = type_limit(names, body, turning.limit)?;
     let list = check_inside(here, names, body, stmts)?;
-    end_while(body, span, condition, limit, list)
+    end_while(body, turning.span, condition, limit, list)
 }
 
 /// A `repeat`: its list, its condition and its limit.
@@ -235,16 +241,14 @@ pub(crate) fn check_repeat<'a, L: Fn(&mut Scope<'a>, &Body, &'a [Stmt]) -> Resul
     names: &mut Scope<'a>,
     body: &Body,
     stmts: &'a [Stmt],
-    span: Span,
-    condition: &Expr,
-    limit: &Option<Expr>,
+    turning: &Turning,
 ) -> Result<Done, Refused>
     requires blocks { Blocks (stmt_size here.now.stmt.now) (L.pre here.now.list) (L.post here.now.list) }
     requires inside { stmts_size stmts.now < stmt_size here.now.stmt.now }
-    ensures { (t : Tests) → Suits t → Met (done_of names.new) result (repeat_walk t span (map (walk_stmt t) stmts.now) condition.now limit.now (body_of names.old body.now)) }
+    ensures { (t : Tests) → Suits t → Met (done_of names.new) result (repeat_walk t turning.now.span (map (walk_stmt t) stmts.now) turning.now.condition.now turning.now.limit.now (body_of names.old body.now)) }
 {
     let list = check_inside(here, names, body, stmts)?;
-    let condition = type_in(names, body, condition)?;
-    let limit = type_limit(names, body, limit)?;
-    end_repeat(body, span, list, condition, limit)
+    let condition = type_in(names, body, turning.condition)?;
+    let limit = type_limit(names, body, turning.limit)?;
+    end_repeat(body, turning.span, list, condition, limit)
 }

@@ -14,7 +14,7 @@ use crate::branches::{Branching, check_if};
 use crate::cases::{Choosing, check_case};
 use crate::catchers::{Trying, check_try};
 use crate::locals::{Declaration, check_bind, check_vars};
-use crate::loops::{Counting, check_for, check_repeat, check_while};
+use crate::loops::{Counting, Turning, check_for, check_repeat, check_while};
 use crate::prints::check_print;
 use crate::simple::{check_assert, check_invoke, check_return, check_throw, simply};
 use crate::stores::check_assign;
@@ -91,10 +91,12 @@ pub(crate) fn check_node<'a, L: Fn(&mut Scope<'a>, &Body, &'a [Stmt]) -> Result<
             check_for(here, names, body, stmts.as_slice(), &counting, limit)
         }
         Stmt::While(span, condition, limit, stmts) => {
-            check_while(here, names, body, stmts.as_slice(), *span, condition, limit)
+            let turning = Turning { span: *span, condition, limit };
+            check_while(here, names, body, stmts.as_slice(), &turning)
         }
         Stmt::Repeat(span, stmts, condition, limit) => {
-            check_repeat(here, names, body, stmts.as_slice(), *span, condition, limit)
+            let turning = Turning { span: *span, condition, limit };
+            check_repeat(here, names, body, stmts.as_slice(), &turning)
         }
         Stmt::Return(span, value) => check_return(names, body, *span, value),
         Stmt::Throw(span, value) => check_throw(names, body, *span, value),

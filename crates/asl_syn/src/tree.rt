@@ -292,6 +292,8 @@ pub enum Stmt {
     Unreachable(Span),
     /// `assert e;`
     Assert(Span, Expr),
+    /// `print(..);` or `println(..);`
+    Print(Span, PrintKind, Items<PrintItem>),
     /// `let` or `var` with an initialiser.
     Local(Span, LocalKind, Bind, Option<TypeExpr>, Expr),
     /// `var x, y: T;`
@@ -316,8 +318,6 @@ pub enum Stmt {
     Throw(Span, Option<Expr>),
     /// `try .. catch .. end;`
     Try(Span, Items<Stmt>, Items<Catcher>, Otherwise),
-    /// `print(..);` or `println(..);`
-    Print(Span, PrintKind, Items<PrintItem>),
 }
 
 /// `elsif e then ..`
