@@ -139,7 +139,13 @@ fn store_one<K: Sink, E: Fn(Setting, &mut Run, &mut K, &Tree) -> Result<Value, S
         steps: steps.as_slice(),
         holds_bits,
     };
-    assign_at(here.setting.alloc, run, target.slot, &storing, part.into_inner())
+    assign_at(
+        here.setting.alloc,
+        run,
+        target.slot,
+        &storing,
+        part.into_inner(),
+    )
 }
 
 /// The steps of a place, the operands evaluated in order.

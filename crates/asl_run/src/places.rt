@@ -69,7 +69,13 @@ fn store_in(
         drop(value);
         return Err(Stop::Stuck(Mistake::UnknownName, storing.span));
     }
-    replace(alloc, &mut values[at], storing.steps, storing.holds_bits, value)?;
+    replace(
+        alloc,
+        &mut values[at],
+        storing.steps,
+        storing.holds_bits,
+        value,
+    )?;
     Ok(())
 }
 

@@ -91,11 +91,19 @@ pub(crate) fn check_node<'a, L: Fn(&mut Scope<'a>, &Body, &'a [Stmt]) -> Result<
             check_for(here, names, body, stmts.as_slice(), &counting, limit)
         }
         Stmt::While(span, condition, limit, stmts) => {
-            let turning = Turning { span: *span, condition, limit };
+            let turning = Turning {
+                span: *span,
+                condition,
+                limit,
+            };
             check_while(here, names, body, stmts.as_slice(), &turning)
         }
         Stmt::Repeat(span, stmts, condition, limit) => {
-            let turning = Turning { span: *span, condition, limit };
+            let turning = Turning {
+                span: *span,
+                condition,
+                limit,
+            };
             check_repeat(here, names, body, stmts.as_slice(), &turning)
         }
         Stmt::Return(span, value) => check_return(names, body, *span, value),
