@@ -8,4 +8,5 @@ pub mod SoundnessHeads
 pub mod SoundnessCalls
 pub mod Soundness
 pub mod NeverStuck
+pub mod FaultCauses
 pub mod SoundnessEntry
