@@ -15,3 +15,4 @@ pub mod LocalsCodes
 pub mod TargetsCodes
 pub mod BranchesCodes
 pub mod StmtsCodes
+pub mod StmtTreesCodes
