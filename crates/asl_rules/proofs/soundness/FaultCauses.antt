@@ -1,5 +1,5 @@
 -- Where a fault of the code T04 comes from: an evaluation stopped with a dynamic fault, or a call or a global `var` stands where it may not.
--- That the rules of expressions, of written types and of bodies have other codes is a premise.
+-- All other rules have other codes.
 use Rattle.std.proofs.Common.{◌≡◌, ℕ, zero, suc, ◌⊎◌, inl, inr, ℤ, Bool, true, false, cond, ◌&&◌, not, List, [], ◌∷◌, ◌++◌, length, Option, Some, None, Result, Ok, Err, refl, sym, ap, ◌∙◌, subst}
 use Rattle.asl_syn.specs.declared.token.Span.{Span}
 use Rattle.asl_syn.specs.declared.code.Fault.{Fault}
@@ -42,7 +42,7 @@ use Rattle.asl_rules.specs.Plans as plans
 use Rattle.asl_rules.specs.Constants.{constant}
 use Rattle.asl_rules.specs.Written.{first_value}
 use Rattle.asl_rules.specs.Declarations.{in_names, fields_written, once, def_rule, reached, supertype_rule, is_none, type_entries, type_decl_rule, evaluated, Initial, with_type, unannotated, known, first_in, storage_rule, is_var, storage_decl_rule, decl_rule, Judged, Waiting, Fine, Faulty, judged, all_fine, judged_by, still, judgement, final, faulty, faults_rule, names_of_program, globals_rule}
-use Rattle.asl_rules.specs.Programs.{funcs_of, params_free, formals_free, param_written, param_entry, params_rule, formals_rule, result_rule, limit_typed, type_is_integer, params_are_integers, as_number, limit_of_expr, limit_rule, Head, signature_rule, signatures_rule, signatures, clashes, overloads_rule, body_rule, bodies_rule, is_main, is_decode, entry_from, entry_found, entry_rule, Accepted, accepted, verdict}
+use Rattle.asl_rules.specs.Programs.{funcs_of, params_free, formals_free, param_written, param_entry, params_rule, formals_rule, result_rule, limit_typed, type_is_integer, params_are_integers, as_number, limit_of_expr, limit_rule, Head, signature_rule, signatures_rule, signatures, clashes, overloads_rule, body_rule, bodies_rule, is_main, is_decode, entry_from, entry_found, entry_rule, Accepted, accepted, verdict, FaultOf}
 use Rattle.asl_rules.specs.Grown.{AreGrown}
 use Rattle.asl_rules.specs.Evaluated.{GivesOrFaults, ConstantsGiven, names_after, Evaluates, expr_outside, StandsIn, AreVisible, BarredAt, HasCause}
 use Rattle.asl_rules.proofs.basics.Inversions.{ok_ok, err_ok, bind_ok, then_ok, need_ok}
@@ -53,76 +53,14 @@ use Rattle.asl_rules.proofs.values.KindOf.{has_kind}
 use Rattle.asl_rules.proofs.values.SameKind.{equal_kinds}
 use Rattle.asl_rules.specs.Types as types
 use Rattle.asl_rules.proofs.scopes.Globals.{names_same}
+use Rattle.asl_grammar.specs.Reading.{File, Reads}
+use Rattle.asl_rules.proofs.scopes.GrownTexts.{read_grown}
+use Rattle.asl_rules.proofs.codes.Coding.{is_t04, FreeOf, Free, fitted_free}
+use Rattle.asl_rules.proofs.codes.TreesCodes.{typed_free, written_free}
+use Rattle.asl_rules.proofs.codes.StmtTreesCodes.{body_free}
 use Rattle.asl_rules.proofs.soundness.NeverStuck.{evaluates}
 
--- ---- other codes
-
-abbrev pub is_t04 : StaticCode → Bool
-is_t04 T04 = true
-is_t04 code = false
-
--- a fault has another code
-abbrev pub Free : {A : Type 0} → Result A Fault → Type 0
-Free r = FaultHas (λ f. is_t04 f.code ≡ false) r
-
--- the rules of expressions, of written types and of bodies have other codes
-pub record RulesFree (t : Tests) : Type 0 where
-  pub typed_free : (e : Expr) (G : Scope) → Free (typed t e G)
-  pub written_free : (ty : TypeExpr) (b : Bool) (G : Scope) → Free (written t ty b G)
-  pub body_free : (subs : List Signature) (h : Head) → Free (body_rule t subs h)
-
--- types that don't fit
-abbrev OtherCode : Option StaticCode → Type 0
-OtherCode None = Unit {0}
-OtherCode (Some code) = is_t04 code ≡ false
-
-unless_other : (b : Bool) (code : StaticCode) → is_t04 code ≡ false → OtherCode (unless b code)
-unless_other true code h = tt
-unless_other false code h = h
-
-or_other : (o p : Option StaticCode) → OtherCode o → OtherCode p → OtherCode (or_else o p)
-or_other None p h k = k
-or_other (Some code) p h k = h
-
-names_other : (name : List ℕ) (supers : List (List ℕ)) (T : Ty) (rest : Option StaticCode) → OtherCode rest → OtherCode (by_names name supers T rest)
-names_other name supers (named target others T) rest h = unless_other (reaches name supers target) T05 refl
-names_other name supers (integer_of ps) rest h = h
-names_other name supers boolean rest h = h
-names_other name supers (bits_of w u) rest h = h
-names_other name supers (enumeration_of n ls) rest h = h
-names_other name supers (record_of n fs) rest h = h
-names_other name supers (exception_of n fs) rest h = h
-names_other name supers (tuple_of ts) rest h = h
-names_other name supers (array_of n T) rest h = h
-
-mutual
-  inside_other : (t : Tests) (S T : Ty) → OtherCode (misfit_inside t S T)
-  inside_other t (integer_of ps) T = unless_other (t.below ps (constraint_of T)) T07 refl
-  inside_other t (bits_of w view) T = unless_other (t.same w (width_of T)) T06 refl
-  inside_other t (tuple_of ss) T = parts_other t ss (parts_of T)
-  inside_other t (array_of n S) T = inside_other t S (element_of T)
-  inside_other t (named name supers S) T = names_other name supers T (misfit_inside t S T) (inside_other t S T)
-  inside_other t boolean T = tt
-  inside_other t (enumeration_of n ls) T = tt
-  inside_other t (record_of n fs) T = tt
-  inside_other t (exception_of n fs) T = tt
-
-  parts_other : (t : Tests) (ss ts : Parts) → OtherCode (misfit_of_parts t ss ts)
-  parts_other t no_part ts = tt
-  parts_other t (part S ss) no_part = tt
-  parts_other t (part S ss) (part T ts) = or_other (misfit_inside t S T) (misfit_of_parts t ss ts) (inside_other t S T) (parts_other t ss ts)
-
-kinds_other : (b : Bool) (o : Option StaticCode) → OtherCode o → OtherCode (cond b o (Some T05))
-kinds_other true o h = h
-kinds_other false o h = refl
-
-pub misfit_other : (t : Tests) (S T : Ty) → OtherCode (misfit t S T)
-misfit_other t S T = kinds_other (same_kind S T) (misfit_inside t S T) (inside_other t S T)
-
 -- ---- names
-
-abbrev FreeOf : Fault → Type 0
-FreeOf f = is_t04 f.code ≡ false
 
 names_free : (before es : List Declared) → Free (names_rule before es)
 names_free before [] = tt
@@ -130,7 +68,7 @@ names_free before (d ∷ es) = then_has FreeOf (need (is_new before d) T01 d.nam
 
 -- ---- the walk
 
-module _ (t : Tests) (right : IsRight t) (ds : List Decl) (given : Evaluates t ds) (free : RulesFree t) where
+module _ (t : Tests) (right : IsRight t) (ds : List Decl) (given : Evaluates t ds) where
   -- the code T04 has a cause
   abbrev Q : Fault → Type 0
   Q f = f.code ≡ T04 → HasCause t ds f
@@ -142,19 +80,19 @@ module _ (t : Tests) (right : IsRight t) (ds : List Decl) (given : Evaluates t d
   other code span h e = no (sym h ∙ ap is_t04 e)
 
   freely : {A : Type 0} (r : Result A Fault) → Free r → Has r
-  freely r h = weaker (λ f. is_t04 f.code ≡ false) Q r (λ f k e. no (sym k ∙ ap is_t04 e)) h
+  freely r h = weaker FreeOf Q r (λ f k e. no (sym k ∙ ap is_t04 e)) h
 
   needed : (b : Bool) (code : StaticCode) (span : Span) → is_t04 code ≡ false → Has (need b code span)
   needed b code span h = need_has Q b code span (other code span h)
 
   fits : (S T : Ty) (span : Span) → Has (fitted (misfit t S T) span)
-  fits S T span = fitted_has Q (misfit t S T) span (λ code e. other code span (subst OtherCode e (misfit_other t S T)))
+  fits S T span = freely (fitted (misfit t S T) span) (fitted_free t S T span)
 
   by_typed : (e : Expr) (G : Scope) → Has (typed t e G)
-  by_typed e G = freely (typed t e G) (free.typed_free e G)
+  by_typed e G = freely (typed t e G) (typed_free t e G)
 
   by_written : (ty : TypeExpr) (b : Bool) (G : Scope) → Has (written t ty b G)
-  by_written ty b G = freely (written t ty b G) (free.written_free ty b G)
+  by_written ty b G = freely (written t ty b G) (written_free t ty b G)
 
   -- ---- cycles
 
@@ -351,7 +289,7 @@ module _ (t : Tests) (right : IsRight t) (ds : List Decl) (given : Evaluates t d
 
   bodies_have : (subs : List Signature) (hs : List Head) → Has (bodies_rule t subs hs)
   bodies_have subs [] = tt
-  bodies_have subs (h ∷ hs) = bind_has Q (body_rule t subs h) _ (freely (body_rule t subs h) (free.body_free subs h)) (λ f e. bind_has Q (bodies_rule t subs hs) _ (bodies_have subs hs) (λ fs k. tt))
+  bodies_have subs (h ∷ hs) = bind_has Q (body_rule t subs h) _ (freely (body_rule t subs h) (body_free t subs h)) (λ f e. bind_has Q (bodies_rule t subs hs) _ (bodies_have subs hs) (λ fs k. tt))
 
   found_entry : (o : Option ℕ) → Has (entry_found o)
   found_entry None = other T24 _ refl
@@ -382,10 +320,14 @@ unfolding verdict
 refused t ds e g h k =
     then_has (λ f. f.code ≡ T04 → HasCause t ds f) (names_rule [] (all_declared ds)) _ (subst (FaultHas (λ f. f.code ≡ T04 → HasCause t ds f)) (sym h) (λ c. no (sym k ∙ ap is_t04 c))) (λ a. err_ok g tt (sym h ∙ a))
 
-all_caused : (t : Tests) (right : IsRight t) (ds : List Decl) → AreGrown ds → RulesFree t → (e : Asked) (r : Result (Unit {0}) Fault) → names_rule [] (all_declared ds) ≡ r → FaultHas (λ f. f.code ≡ T04 → HasCause t ds f) (verdict e ds t)
-all_caused t right ds grown free e (Ok tt) h = caused t right ds (evaluates t right ds grown h) free e h
-all_caused t right ds grown free e (Err g) h = refused t ds e g h (subst Free h (names_free [] (all_declared ds)))
+all_caused : (t : Tests) (right : IsRight t) (ds : List Decl) → AreGrown ds → (e : Asked) (r : Result (Unit {0}) Fault) → names_rule [] (all_declared ds) ≡ r → FaultHas (λ f. f.code ≡ T04 → HasCause t ds f) (verdict e ds t)
+all_caused t right ds grown e (Ok tt) h = caused t right ds (evaluates t right ds grown h) e h
+all_caused t right ds grown e (Err g) h = refused t ds e g h (subst Free h (names_free [] (all_declared ds)))
 
--- a fault of the code T04 has a cause, where the rules of expressions, of written types and of bodies have other codes
-pub has_cause : (t : Tests) (right : IsRight t) (ds : List Decl) → AreGrown ds → RulesFree t → (e : Asked) (f : Fault) → verdict e ds t ≡ Err f → f.code ≡ T04 → HasCause t ds f
-has_cause t right ds grown free e f h = of_err (λ f. f.code ≡ T04 → HasCause t ds f) (verdict e ds t) f h (all_caused t right ds grown free e (names_rule [] (all_declared ds)) refl)
+-- a fault of the code T04 has a cause
+pub has_cause : (t : Tests) (right : IsRight t) (ds : List Decl) → AreGrown ds → (e : Asked) (f : Fault) → verdict e ds t ≡ Err f → f.code ≡ T04 → HasCause t ds f
+has_cause t right ds grown e f h = of_err (λ f. f.code ≡ T04 → HasCause t ds f) (verdict e ds t) f h (all_caused t right ds grown e (names_rule [] (all_declared ds)) refl)
+
+-- so has one of declarations that are read from files
+pub read_cause : (limit : ℕ) (e : Asked) (files : List File) (ds : List Decl) (f : Fault) → Reads files (Ok ds) → (p : FaultOf limit e ds f) → f.code ≡ T04 → HasCause p.tests ds f
+read_cause limit e files ds f r p = has_cause p.tests p.right ds (read_grown files ds r) e f p.is
