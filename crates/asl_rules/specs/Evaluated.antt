@@ -8,9 +8,7 @@ use Rattle.asl_syn.specs.declared.code.Fault.{Fault}
 use Rattle.asl_syn.specs.declared.code.DynCode.{DynCode}
 use Rattle.asl_rules.specs.declared.effect.Effect.{Effect}
 use Rattle.asl_rules.specs.Tests.{Tests}
-use Rattle.asl_rules.specs.Types.{Ty}
 use Rattle.asl_rules.specs.Closed.{Closed}
-use Rattle.asl_rules.specs.Values.{Value}
 use Rattle.asl_rules.specs.Names.{library}
 use Rattle.asl_rules.specs.Scopes.{Entry, subprogram, with_class}
 use Rattle.asl_rules.specs.Typing.{Typed}

@@ -1,5 +1,5 @@
 -- What is found at statements and targets, and at bodies, has no fault of the code T04.
-use Rattle.std.proofs.Common.{◌≡◌, ℕ, suc, true, List, [], ◌∷◌, ◌++◌, map, Option, Some, None, Ok, refl, sym, subst}
+use Rattle.std.proofs.Common.{◌≡◌, ℕ, suc, List, [], ◌∷◌, ◌++◌, map, Ok, refl, sym, subst}
 use Rattle.asl_syn.specs.declared.tree.Alternative.{Alternative, roll-Alternative}
 use Rattle.asl_syn.specs.declared.tree.Catcher.{Catcher, roll-Catcher}
 use Rattle.asl_syn.specs.declared.tree.ElseIf.{ElseIf, roll-ElseIf}
@@ -9,30 +9,16 @@ use Rattle.asl_syn.specs.declared.tree.Alternative.TheFolds.{fold-Alternative, f
 use Rattle.asl_syn.specs.declared.tree.Target.{Target, roll-Target, fold-roll-Target, map-Target, ind-Target}
 use Rattle.asl_syn.specs.declared.tree.Target.TheOpen as tg
 use Rattle.asl_syn.specs.declared.token.Span.{Span}
-use Rattle.asl_syn.specs.declared.code.Fault.{Fault}
-use Rattle.asl_syn.specs.declared.code.StaticCode.TheVariants.{T18, T21}
-use Rattle.asl_syn.specs.declared.tree.Expr.{Expr}
 use Rattle.asl_syn.specs.declared.tree.Ident.{Ident}
-use Rattle.asl_syn.specs.declared.tree.PrintKind.{PrintKind}
-use Rattle.asl_syn.specs.declared.tree.PrintItem.{PrintItem}
-use Rattle.asl_syn.specs.declared.tree.PrintItem.TheVariants.{Verbatim, Shown}
 use Rattle.asl_syn.specs.declared.tree.Alternative.TheOpen as st
-use Rattle.asl_rules.specs.declared.effect.Effect.{Effect}
-use Rattle.asl_rules.specs.declared.effect.Effect.TheVariants.{Pure, Writes}
-use Rattle.asl_rules.specs.Faults.{◌>>=◌, ◌>>◌, need, fault}
+use Rattle.asl_rules.specs.declared.effect.Effect.TheVariants.{Pure}
+use Rattle.asl_rules.specs.Faults.{need}
 use Rattle.asl_rules.specs.Tests.{Tests}
-use Rattle.asl_rules.specs.Types.{Ty}
-use Rattle.asl_rules.specs.Trees as tree
-use Rattle.asl_rules.specs.Trees.{TreeItem}
-use Rattle.asl_rules.specs.Effects.{greater, all_together, greatest}
-use Rattle.asl_rules.specs.Scopes.{Scope, Body, Entry}
-use Rattle.asl_rules.specs.Typing.{Typed, Operand, trees_of, trees_from}
-use Rattle.asl_rules.specs.Calls.{Called, procedure_rule}
-use Rattle.asl_rules.specs.Exprs.{found, typed}
-use Rattle.asl_rules.specs.Acting.{Done, FoundStmt, FoundOtherwise, done, ended, ended_in, operand_of, fits, condition, reading_scope}
-use Rattle.asl_rules.specs.Locals.{bind_rule, vars_rule}
-use Rattle.asl_rules.specs.Targets.{found_target, assign_rule}
-use Rattle.asl_rules.specs.Branches.{FoundBranch, FoundAlternative, FoundCatcher, if_rule, case_rule, for_rule, while_rule, repeat_rule, try_rule, is_exception}
+use Rattle.asl_rules.specs.Scopes.{Scope, Body}
+use Rattle.asl_rules.specs.Exprs.{typed}
+use Rattle.asl_rules.specs.Acting.{FoundStmt, FoundOtherwise}
+use Rattle.asl_rules.specs.Targets.{found_target}
+use Rattle.asl_rules.specs.Branches.{FoundBranch, FoundAlternative, FoundCatcher}
 use Rattle.asl_syn.specs.declared.code.StaticCode.TheVariants.{T17}
 use Rattle.asl_rules.specs.Acting.{in_order}
 use Rattle.asl_rules.specs.Stmts.{StmtOf, stmt_layer_rule, branch_found, alternative_found, catcher_found, otherwise_found}

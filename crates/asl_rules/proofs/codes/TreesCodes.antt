@@ -1,5 +1,5 @@
 -- What is found at expressions, written types, slices and patterns has no fault of the code T04: one induction over trees.
-use Rattle.std.proofs.Common.{◌≡◌, ℕ, Bool, List, [], ◌∷◌, Option, map, refl, sym, subst}
+use Rattle.std.proofs.Common.{◌≡◌, Bool, List, [], ◌∷◌, map, refl, sym, subst}
 use Rattle.std.specs.Prelude.{pos, ◌-ℤ◌}
 use Rattle.asl_syn.specs.declared.tree.Bitfield.{Bitfield, roll-Bitfield}
 use Rattle.asl_syn.specs.declared.tree.ConstraintPart.{ConstraintPart, roll-ConstraintPart}
@@ -9,39 +9,27 @@ use Rattle.asl_syn.specs.declared.tree.Pattern.{Pattern, roll-Pattern}
 use Rattle.asl_syn.specs.declared.tree.Slice.{Slice, roll-Slice}
 use Rattle.asl_syn.specs.declared.tree.TypeExpr.{TypeExpr, roll-TypeExpr}
 use Rattle.asl_syn.specs.declared.tree.Bitfield.TheFolds.{fold-Bitfield, fold-ConstraintPart, fold-FieldValue, fold-roll-Bitfield, map-Bitfield, fold-roll-ConstraintPart, map-ConstraintPart, fold-roll-Expr, map-Expr, ind-Expr, fold-roll-FieldValue, map-FieldValue, fold-roll-Pattern, map-Pattern, ind-Pattern, fold-roll-Slice, map-Slice, ind-Slice, fold-roll-TypeExpr, map-TypeExpr, ind-TypeExpr}
-use Rattle.asl_syn.specs.declared.token.Span.{Span}
-use Rattle.asl_syn.specs.declared.code.Fault.{Fault}
-use Rattle.asl_syn.specs.declared.code.StaticCode.{StaticCode}
-use Rattle.asl_syn.specs.declared.code.StaticCode.TheVariants.{S03, T02, T05, T06, T19, T20}
+use Rattle.asl_syn.specs.declared.code.StaticCode.TheVariants.{T20}
 use Rattle.asl_syn.specs.declared.tree.Bitfield.TheOpen as ex
-use Rattle.asl_syn.specs.declared.tree.UnaryOperator.{UnaryOperator}
 use Rattle.asl_syn.specs.declared.tree.UnaryOperator.TheVariants as unary
-use Rattle.asl_syn.specs.declared.tree.BinaryOperator.{BinaryOperator}
-use Rattle.asl_syn.specs.declared.tree.Ident.{Ident}
 use Rattle.asl_poly.specs.Poly.{constant_map}
 use Rattle.asl_cons.specs.Arithmetic.{fits}
-use Rattle.asl_rules.specs.declared.effect.Effect.{Effect}
 use Rattle.asl_rules.specs.declared.effect.Effect.TheVariants.{Pure}
-use Rattle.asl_rules.specs.Faults.{◌>>=◌, ◌>>◌, need, fault, found_or}
-use Rattle.asl_rules.specs.Values.{bool, bits_with}
+use Rattle.asl_rules.specs.Faults.{need}
+use Rattle.asl_rules.specs.Values.{bool}
 use Rattle.asl_rules.specs.Vectors.{literal_digits, literal_of}
 use Rattle.asl_rules.specs.Tests.{Tests}
-use Rattle.asl_rules.specs.Types.{Ty, boolean, tuple_of, is_boolean, is_bits, integer_of, only_number, bits_wide, join, bare}
+use Rattle.asl_rules.specs.Types.{Ty, boolean}
 use Rattle.asl_rules.specs.Shapes as shape
 use Rattle.asl_rules.specs.Trees as tree
 use Rattle.asl_rules.specs.Trees.{Tree}
-use Rattle.asl_rules.specs.Effects.{all_together, greatest}
-use Rattle.asl_rules.specs.Scopes.{Scope, Standing, Stored, Subprogram, TypeName, Label, standing_of, storage_of, type_of_name, with_class, reading}
-use Rattle.asl_rules.specs.Layouts.{slot_of, layout_of}
-use Rattle.asl_rules.specs.Widths.{width_of_number, width_of_standing, width_of_binary, width_difference, number_of_standing, number_of_binary, held, storage_has_atom, has_width, bounded}
-use Rattle.asl_rules.specs.Typing.{Found, Typed, Width, Number, Operand, width_as, number_as, width_note, in_class, finish, finish_all, operands, types_of, trees_of}
-use Rattle.asl_rules.specs.Operations.{operation, operation_of_two}
-use Rattle.asl_rules.specs.Members.{construction, field_behind, bitfields_behind, element_at}
-use Rattle.asl_rules.specs.Slicing.{FoundSlice, bit_found, high_low_found, low_width_found, factor_width_found, slices_rule}
-use Rattle.asl_rules.specs.Writing.{FoundPart, FoundBitfield, FoundType, Written, written_as, range_rule, only_rule, integer_rule, one_bit_rule, bit_range_rule, bits_rule, name_written, types_in_order, tuple_written, array_rule, as_rule}
-use Rattle.asl_rules.specs.Patterns.{FoundPattern, Matched, matched, all_match, set_matched, mask_matched, end_matched, value_matched, range_matched, pure_typed, tuple_pattern_rule, in_rule}
-use Rattle.asl_rules.specs.Calls.{function_rule}
-use Rattle.asl_rules.specs.Exprs.{FoundField, literal_type, ExprOf, TypeOf, PatternOf, typed_rule, width_rule, number_rule, expr_rule, given_rule, slice_rule, part_rule, bitfield_rule, written_rule, type_rule, pattern_rule, width_of_operation, number_of_operation, found, found_type, found_slice, found_pattern, typed, written, matches}
+use Rattle.asl_rules.specs.Scopes.{Scope, standing_of, with_class}
+use Rattle.asl_rules.specs.Widths.{width_of_number, width_of_standing, width_difference, number_of_standing, held, has_width}
+use Rattle.asl_rules.specs.Typing.{Found}
+use Rattle.asl_rules.specs.Slicing.{FoundSlice}
+use Rattle.asl_rules.specs.Writing.{FoundPart, FoundBitfield, FoundType, types_in_order}
+use Rattle.asl_rules.specs.Patterns.{FoundPattern, all_match, pure_typed}
+use Rattle.asl_rules.specs.Exprs.{FoundField, literal_type, ExprOf, TypeOf, PatternOf, typed_rule, width_rule, number_rule, expr_rule, given_rule, slice_rule, part_rule, bitfield_rule, written_rule, type_rule, pattern_rule, found, found_type, found_slice, found_pattern, typed, written, matches}
 use Rattle.asl_rules.proofs.basics.Faulting.{bind_has, then_has, need_has}
 use Rattle.asl_rules.proofs.codes.Coding.{FreeOf, Free, cond_free, AllFree, FoundFree, SliceFree, PartFree, BitfieldFree, TypeFree, PatternFree, FieldFree}
 use Rattle.asl_rules.proofs.codes.TypingCodes.{in_class_free, operands_free}

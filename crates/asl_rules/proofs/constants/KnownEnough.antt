@@ -98,10 +98,13 @@ module _ (env : Environment) (c : Core) (holds : HoldsInitial env c) where
   bounded = of_all env c (Bounded env c (Unit {0})) (Unit {0}) holds tt (node_bound env c (Unit {0}))
 
   pub enough : (e : Expr) → Enough env c e
-  enough e = record { nodes = (bounded e).n; ends = λ d h i j. elim (ends_so env c (Unit {0}) e (bounded e) d h i j) [
-    | inl s ↦ inl s
-    | inr s ↦ inr s.0
-  ] }
+  enough e = record {
+    nodes = (bounded e).n;
+    ends = λ d h i j. elim (ends_so env c (Unit {0}) e (bounded e) d h i j) [
+      | inl s ↦ inl s
+      | inr s ↦ inr s.0
+    ];
+  }
 
   -- where an expression holds no call, its run ends as was known
   uncalled : (e : Expr) → NoCalls (expr_uses e) → Bounded env c ⊥ e
@@ -114,10 +117,13 @@ module _ (env : Environment) (c : Core) (holds : HoldsInitial env c) where
   pub ends_uncalled : (e : Expr) → barred e env.names ≡ None → Ends e
   ends_uncalled e b =
       let w = uncalled e (unbarred_calls e env.names b) in
-      record { nodes = w.n; so = λ h j. elim (ends_so env c ⊥ e w w.n h (omega arith) j) [
-        | inl s ↦ s
-        | inr s ↦ absurd s.1
-      ] }
+      record {
+        nodes = w.n;
+        so = λ h j. elim (ends_so env c ⊥ e w w.n h (omega arith) j) [
+          | inl s ↦ s
+          | inr s ↦ absurd s.1
+        ];
+      }
 
 pub one_evaluation : (env : Environment) → OneEvaluation env
 one_evaluation env = record { agrees = λ d e c h holds. node_before env c holds e d h; enough = λ e c holds. enough env c holds e }

@@ -1,6 +1,5 @@
 -- What two plans of the same parts give is shown of the expressions that hold no call by one induction over trees: where no name is called, none of the plans is one of a call.
 use Rattle.std.proofs.Common.{◌≡◌, List, [], ◌∷◌, ◌++◌, Option, Some, None, refl, sym, ap, subst, map, ◌∙◌}
-use Rattle.asl_syn.specs.declared.token.Span.{Span}
 use Rattle.asl_syn.specs.declared.tree.Bitfield.{Bitfield, roll-Bitfield}
 use Rattle.asl_syn.specs.declared.tree.ConstraintPart.{ConstraintPart, roll-ConstraintPart}
 use Rattle.asl_syn.specs.declared.tree.Expr.{Expr, out-Expr, roll-Expr, out-roll-Expr}

@@ -1,11 +1,10 @@
 -- Where a fault of the code T04 comes from: an evaluation stopped with a dynamic fault, or a call or a global `var` stands where it may not.
 -- All other rules have other codes.
-use Rattle.std.proofs.Common.{◌≡◌, ℕ, zero, suc, ◌⊎◌, inl, inr, ℤ, Bool, true, false, cond, ◌&&◌, not, List, [], ◌∷◌, ◌++◌, length, Option, Some, None, Result, Ok, Err, refl, sym, ap, ◌∙◌, subst}
+use Rattle.std.proofs.Common.{◌≡◌, ℕ, zero, suc, inl, inr, Bool, true, false, cond, ◌&&◌, not, List, [], ◌∷◌, ◌++◌, length, Option, Some, None, Result, Ok, Err, refl, sym, ap, ◌∙◌, subst}
 use Rattle.asl_syn.specs.declared.token.Span.{Span}
 use Rattle.asl_syn.specs.declared.code.Fault.{Fault}
 use Rattle.asl_syn.specs.declared.code.StaticCode.{StaticCode}
-use Rattle.asl_syn.specs.declared.code.StaticCode.TheVariants.{S03, T01, T02, T03, T04, T05, T06, T07, T10, T15, T17, T20, T24, T25}
-use Rattle.asl_syn.specs.declared.code.DynCode.{DynCode}
+use Rattle.asl_syn.specs.declared.code.StaticCode.TheVariants.{S03, T01, T02, T03, T04, T05, T10, T15, T20, T24, T25}
 use Rattle.asl_syn.specs.declared.tree.Expr.{Expr}
 use Rattle.asl_syn.specs.declared.tree.TypeExpr.{TypeExpr}
 use Rattle.asl_syn.specs.declared.tree.Ident.{Ident}
@@ -21,12 +20,11 @@ use Rattle.asl_syn.specs.declared.tree.Decl.TheVariants as dc
 use Rattle.asl_rules.specs.declared.effect.Effect.TheVariants.{Pure, Writes}
 use Rattle.asl_rules.specs.declared.entry.Entry.{Entry as Asked}
 use Rattle.asl_rules.specs.declared.entry.Entry.TheVariants as entry
-use Rattle.asl_rules.specs.Faults.{◌>>=◌, ◌>>◌, need, none_at, found_or, fitted, fault_of, fault}
+use Rattle.asl_rules.specs.Faults.{need, none_at, found_or, fitted, fault_of}
 use Rattle.asl_rules.specs.Tests.{Tests, IsRight}
 use Rattle.asl_rules.specs.Types.{Ty, Parts, integer_of, boolean, bits_of, enumeration_of, record_of, exception_of, tuple_of, array_of, named, no_part, part, structure, is_integer, same_kind, reaches, constraint_of, width_of, parts_of, element_of, or_else, unless, by_names, misfit_inside, misfit_of_parts, misfit}
-use Rattle.asl_rules.specs.Closed.{Closed, closed}
-use Rattle.asl_rules.specs.Values.{Value, int}
-use Rattle.asl_rules.specs.Views.{viewed}
+use Rattle.asl_rules.specs.Closed.{closed}
+use Rattle.asl_rules.specs.Values.{Value}
 use Rattle.asl_rules.specs.Names.{Declared, is_new, names_rule, all_declared}
 use Rattle.asl_rules.specs.Uses.{uses, reaches_itself, cycles_rule}
 use Rattle.asl_rules.specs.Scopes.{Scope, Entry, Signature, Param, is_free, type_of_name, with_class, next_atom}
@@ -41,13 +39,13 @@ use Rattle.asl_rules.specs.Plans.{Faulted, Stuck, Good, Bad}
 use Rattle.asl_rules.specs.Plans as plans
 use Rattle.asl_rules.specs.Constants.{constant}
 use Rattle.asl_rules.specs.Written.{first_value}
-use Rattle.asl_rules.specs.Declarations.{in_names, fields_written, once, def_rule, reached, supertype_rule, is_none, type_entries, type_decl_rule, evaluated, Initial, with_type, unannotated, known, first_in, storage_rule, is_var, storage_decl_rule, decl_rule, Judged, Waiting, Fine, Faulty, judged, all_fine, judged_by, still, judgement, final, faulty, faults_rule, names_of_program, globals_rule}
-use Rattle.asl_rules.specs.Programs.{funcs_of, params_free, formals_free, param_written, param_entry, params_rule, formals_rule, result_rule, limit_typed, type_is_integer, params_are_integers, as_number, limit_of_expr, limit_rule, Head, signature_rule, signatures_rule, signatures, clashes, overloads_rule, body_rule, bodies_rule, is_main, is_decode, entry_from, entry_found, entry_rule, Accepted, accepted, verdict, FaultOf}
+use Rattle.asl_rules.specs.Declarations.{in_names, fields_written, once, def_rule, supertype_rule, is_none, type_decl_rule, evaluated, known, first_in, storage_rule, is_var, decl_rule, Judged, Waiting, Fine, Faulty, judged, all_fine, judged_by, still, judgement, final, faulty, faults_rule, globals_rule}
+use Rattle.asl_rules.specs.Programs.{funcs_of, params_free, formals_free, param_written, param_entry, params_rule, formals_rule, result_rule, limit_typed, type_is_integer, params_are_integers, as_number, limit_of_expr, limit_rule, Head, signature_rule, signatures_rule, signatures, clashes, overloads_rule, body_rule, bodies_rule, is_main, is_decode, entry_from, entry_found, entry_rule, verdict, FaultOf}
 use Rattle.asl_rules.specs.Grown.{AreGrown}
-use Rattle.asl_rules.specs.Evaluated.{GivesOrFaults, ConstantsGiven, names_after, Evaluates, expr_outside, StandsIn, AreVisible, BarredAt, HasCause}
+use Rattle.asl_rules.specs.Evaluated.{GivesOrFaults, ConstantsGiven, names_after, Evaluates, expr_outside, StandsIn, AreVisible, HasCause}
 use Rattle.asl_rules.proofs.basics.Inversions.{ok_ok, err_ok, bind_ok, then_ok, need_ok}
 use Rattle.asl_rules.proofs.basics.Tests.{no, some_same}
-use Rattle.asl_rules.proofs.basics.Faulting.{FaultHas, weaker, of_err, bind_has, then_has, need_has, none_has, found_has, fitted_has, none_ok}
+use Rattle.asl_rules.proofs.basics.Faulting.{FaultHas, weaker, of_err, bind_has, then_has, need_has, none_has, found_has, none_ok}
 use Rattle.asl_rules.proofs.values.Shapes.{integer_is}
 use Rattle.asl_rules.proofs.values.KindOf.{has_kind}
 use Rattle.asl_rules.proofs.values.SameKind.{equal_kinds}

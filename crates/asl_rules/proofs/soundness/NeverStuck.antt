@@ -1,31 +1,26 @@
 -- No evaluation before a run is stuck: it is that of a run in the state before any call, which soundness knows not to be stuck.
-use Rattle.std.proofs.Common.{◌≡◌, ℕ, zero, suc, ◌≤◌, Bool, true, false, cond, List, [], ◌∷◌, Option, Some, None, Ok, refl, subst, length, arith}
+use Rattle.std.proofs.Common.{◌≡◌, ℕ, zero, suc, Bool, true, false, cond, List, [], Option, Some, None, Ok, refl, subst, arith}
 use Rattle.std.specs.Prelude.{ℤ, pos, negsuc, nat_le}
 use Rattle.asl_syn.specs.declared.token.Span.{Span}
 use Rattle.asl_syn.specs.declared.code.DynCode.TheVariants.{D14}
-use Rattle.asl_syn.specs.declared.tree.Expr.{Expr}
 use Rattle.asl_syn.specs.declared.tree.Decl.{Decl}
 use Rattle.asl_grammar.specs.Reading.{File, Reads}
-use Rattle.asl_rules.specs.declared.effect.Effect.{Effect}
 use Rattle.asl_rules.specs.Tests.{Tests, IsRight}
 use Rattle.asl_rules.specs.Types.{Ty, View, Kind}
 use Rattle.asl_rules.specs.Closed.{Closed, integer_in, boolean, bits_of, enumeration_of, record_of, exception_of, tuple_of, array_of, named, ClosedFields, no_field, field, ClosedParts, no_part, part, first_in}
-use Rattle.asl_rules.specs.Values.{Value, bits_with}
+use Rattle.asl_rules.specs.Values.{Value}
 use Rattle.asl_rules.specs.Names.{names_rule, all_declared}
 use Rattle.asl_rules.specs.Scopes.{Entry, with_class}
-use Rattle.asl_rules.specs.Typing.{Typed}
-use Rattle.asl_rules.specs.Exprs.{typed}
-use Rattle.asl_rules.specs.Barred.{barred}
 use Rattle.asl_rules.specs.States.{Core, resting}
 use Rattle.asl_rules.specs.Belonging.{InType}
 use Rattle.asl_rules.specs.Agreement.{no_atoms, types_in, GlobalsMatch}
-use Rattle.asl_rules.specs.Plans.{Meter, starting, Faulted, Stuck, Outcome, Halt, Pure, Good, Bad}
+use Rattle.asl_rules.specs.Plans.{Meter, starting, Faulted, Stuck, Outcome, Pure, Good, Bad}
 use Rattle.asl_rules.specs.Pures.{◌>>=◌}
 use Rattle.asl_rules.specs.Constants.{constant}
 use Rattle.asl_rules.specs.Written.{first_integer, first_bits, first_elements, first_value, first_fields, first_parts}
 use Rattle.asl_rules.specs.Declarations.{in_names, names_of_program}
 use Rattle.asl_rules.specs.Grown.{AreGrown}
-use Rattle.asl_rules.specs.Evaluation.{meaning, globals_among, initial_globals}
+use Rattle.asl_rules.specs.Evaluation.{meaning, globals_among}
 use Rattle.asl_rules.specs.BeforeRuns.{HoldsInitial, EndsSo}
 use Rattle.asl_rules.specs.Soundness.{NotStuck, GivesType}
 use Rattle.asl_rules.specs.Evaluated.{GivesOrFaults, ConstantsGiven, names_after, Evaluates}
@@ -108,7 +103,7 @@ module _ (tests : Tests) (right : IsRight tests) (ds : List Decl) (base : List E
       let u = ends_uncalled (over_names tests ds base) here holds e b in
       let full : Meter = starting u.nodes None in
       let t = typed_run tests right ds base [] [] w tt others statements u.nodes e (record { scope = with_class (in_names base) k; present = no_atoms; handled = [] }) S here full h
-          (record { agrees = resting_agrees base (globals_among ds base) m; subs_are = refl; handled_are = refl }) in
+      (record { agrees = resting_agrees base (globals_among ds base) m; subs_are = refl; handled_are = refl }) in
       given_by base here S.ty (constant tests.limit e base) ((meaning (over_names tests ds base) u.nodes).expr e here full) (u.so full (omega arith)) t.0 t.1
 
 -- ---- of declarations
