@@ -8,4 +8,5 @@ pub mod scopes
 pub mod expressions
 pub mod statements
 pub mod calls
+pub mod codes
 pub mod soundness
