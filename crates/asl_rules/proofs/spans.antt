@@ -1,0 +1,4 @@
+-- Where the faults of rules stand: at spans of the trees that are judged.
+pub mod Spans
+pub mod Standing
+pub mod ExprRows
