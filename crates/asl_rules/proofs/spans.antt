@@ -2,3 +2,4 @@
 pub mod Spans
 pub mod Standing
 pub mod ExprRows
+pub mod ExprSpans
