@@ -3,3 +3,6 @@ pub mod Spans
 pub mod Standing
 pub mod ExprRows
 pub mod ExprSpans
+pub mod StmtRows
+pub mod TargetSpans
+pub mod StmtSpans

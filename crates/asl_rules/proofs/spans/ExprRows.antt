@@ -25,7 +25,7 @@ use Rattle.asl_rules.specs.Members.{bitfields_in, constructed, given_once, all_f
 use Rattle.asl_rules.specs.Slicing.{FoundSlice, all_operands, all_add}
 use Rattle.asl_rules.specs.Writing.{WrittenField, WrittenEnd, Numbered, end_rule, FoundPart, FoundBitfield, FoundType, all_parts, all_fields, all_numbered, all_placed, view_rule, types_in_order}
 use Rattle.asl_rules.specs.Patterns.{FoundPattern, all_match, parts_match}
-use Rattle.asl_rules.specs.Calls.{Given, Giving, given_by_argument, is_width_alone, function_rule, Replacing, widths_given, widths_omitted, widths_rule, params_fit, arguments_fit, fits_written, function_of, call_begun}
+use Rattle.asl_rules.specs.Calls.{Given, Giving, given_by_argument, is_width_alone, function_rule, Replacing, widths_given, widths_omitted, widths_rule, params_fit, arguments_fit, fits_written, function_of, procedure_of, procedure_rule, call_begun}
 use Rattle.asl_rules.specs.Exprs.{FoundField, ExprOf, TypeOf, PatternOf, span_of, type_span, name_of_standing, values_given, names_given, typed_rule, width_rule, number_rule, written_rule, expr_rule, given_rule, slice_rule, part_rule, bitfield_rule, type_rule, pattern_rule}
 use Rattle.asl_rules.proofs.verdict.SameRules.{AllOf}
 use Rattle.asl_rules.proofs.spans.Standing.{Answers, Stands, then_with, then_stands, bound, next, steps, typed_there, width_there, ExprStands, SliceStands, GivenStands, PatternStands, PartStands, EndsStand, BitfieldStands, TypeStands, NamesStand, ExprLayer, SliceLayer, GivenLayer, PartLayer, BitfieldLayer, PatternLayer, TypeLayer}
@@ -119,17 +119,17 @@ module _ (t : Tests) (P : Span → Type 0) where
   constructed_stands i None p = p
   constructed_stands i (Some T) p = search steps
 
-  bitfields_stand : (is : List Ident) (view : View) → NamesStand P is → Stands P (bitfields_in is view)
+  pub bitfields_stand : (is : List Ident) (view : View) → NamesStand P is → Stands P (bitfields_in is view)
   bitfields_stand [] view h = tt
   bitfields_stand (i ∷ is) view h = search (steps, bitfields_stand is view h.1)
 
   -- ---- slices
 
-  slices_stand : (ss : List FoundSlice) (G : Scope) → AllOf (SliceStands P) ss → Stands P (all_operands ss G)
+  pub slices_stand : (ss : List FoundSlice) (G : Scope) → AllOf (SliceStands P) ss → Stands P (all_operands ss G)
   slices_stand [] G h = tt
   slices_stand (s ∷ ss) G h = search (steps, h.0.operands_at G, slices_stand ss G h.1)
 
-  adds_stand : (ss : List FoundSlice) (x : Total) (G : Scope) → AllOf (SliceStands P) ss → Stands P (all_add ss x G)
+  pub adds_stand : (ss : List FoundSlice) (x : Total) (G : Scope) → AllOf (SliceStands P) ss → Stands P (all_add ss x G)
   adds_stand [] x G h = tt
   adds_stand (s ∷ ss) x G h = bound P (s.adds x G) (λ y. all_add ss y G) (h.0.adds_at x G) (λ y. adds_stand ss y G h.1)
 
@@ -213,6 +213,14 @@ module _ (t : Tests) (P : Span → Type 0) where
 
   call_stands : (span : Span) (i : Ident) (ps es : List Found) (G : Scope) → P span → P i.span → AllOf (ExprStands P) ps → AllOf (ExprStands P) es → Stands P (function_rule t span i ps es G)
   call_stands span i ps es G p q h k = begun_there i es G _ q k (λ os l. function_stands span i ps os G (routine_named i.text) p h l)
+
+  -- a call of a procedure
+  procedure_stands : (span : Span) (i : Ident) (ps : List Found) (os : List Operand) (G : Scope) (o : Option Routine) → P span → AllOf (ExprStands P) ps → OperandsStand os → Stands P (procedure_of t span i ps os G o)
+  procedure_stands span i ps os G (Some r) p h k = search steps depth 10
+  procedure_stands span i ps os G None p h k = search (steps, replacing_there, params_stand, arguments_stand) depth 20
+
+  pub procedure_call_stands : (span : Span) (i : Ident) (ps es : List Found) (G : Scope) → P span → P i.span → AllOf (ExprStands P) ps → AllOf (ExprStands P) es → Stands P (procedure_rule t span i ps es G)
+  procedure_call_stands span i ps es G p q h k = begun_there i es G _ q k (λ os l. procedure_stands span i ps os G (routine_named i.text) p h l)
 
   -- ---- expressions
 

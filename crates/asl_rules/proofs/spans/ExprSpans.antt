@@ -24,12 +24,12 @@ use Rattle.asl_rules.proofs.spans.Standing.{ExprStands, SliceStands, GivenStands
 use Rattle.asl_rules.proofs.spans.ExprRows.{expr_stands, slice_stands, given_stands, part_stands, bitfield_stands, type_stands, pattern_stands}
 
 module _ (t : Tests) (P : Span → Type 0) where
-  names_stand : (is : List Ident) → Each P (of_names is) → NamesStand P is
+  pub names_stand : (is : List Ident) → Each P (of_names is) → NamesStand P is
   names_stand [] h = tt
   names_stand (i ∷ is) h = (h.0, names_stand is h.1)
 
   -- parts that stand there, where all spans of each do
-  all_stand : {X Y : Type 0} (spans : X → Spans) (f : X → Y) (Q : Y → Type 0) (xs : List ((x : X) × (Each P (spans x) → Q (f x)))) → Each P (joined (map spans (map (λ x. x.0) xs))) → AllOf Q (map f (map (λ x. x.0) xs))
+  pub all_stand : {X Y : Type 0} (spans : X → Spans) (f : X → Y) (Q : Y → Type 0) (xs : List ((x : X) × (Each P (spans x) → Q (f x)))) → Each P (joined (map spans (map (λ x. x.0) xs))) → AllOf Q (map f (map (λ x. x.0) xs))
   all_stand spans f Q [] h = tt
   all_stand spans f Q (x ∷ xs) h = (x.1 h.0, all_stand spans f Q xs h.1)
 

@@ -1,5 +1,5 @@
--- The spans that stand in a tree: those of its nodes and of the names in it.
-use Rattle.std.specs.Prelude.{List, [], ◌∷◌}
+-- The spans that stand in a tree: those of its nodes and of the names in it, and those of a target up to each of its suffixes.
+use Rattle.std.specs.Prelude.{ℕ, ◌-◌, List, [], ◌∷◌, map, Option, Some, None}
 use Rattle.asl_syn.specs.declared.token.Span.{Span}
 use Rattle.asl_syn.specs.declared.tree.Ident.{Ident}
 use Rattle.asl_syn.specs.declared.tree.Bitfield.{Bitfield}
@@ -9,6 +9,30 @@ use Rattle.asl_syn.specs.declared.tree.FieldValue.{FieldValue}
 use Rattle.asl_syn.specs.declared.tree.Pattern.{Pattern}
 use Rattle.asl_syn.specs.declared.tree.Slice.{Slice}
 use Rattle.asl_syn.specs.declared.tree.TypeExpr.{TypeExpr}
+use Rattle.asl_syn.specs.declared.tree.PlacedSuffix.{PlacedSuffix}
+use Rattle.asl_syn.specs.declared.tree.Suffix.{Suffix}
+use Rattle.asl_syn.specs.declared.tree.Suffix.TheVariants.{FieldOf, FieldsOf, SlicesOf, ElementOf}
+use Rattle.asl_syn.specs.declared.tree.Target.{Target, fold-Target}
+use Rattle.asl_syn.specs.declared.tree.Target.TheOpen as tg
+use Rattle.asl_syn.specs.declared.tree.Binder.{Binder}
+use Rattle.asl_syn.specs.declared.tree.Binder.TheVariants.{Bound, Unbound}
+use Rattle.asl_syn.specs.declared.tree.Bind.{Bind}
+use Rattle.asl_syn.specs.declared.tree.Bind.TheVariants.{Single, Several}
+use Rattle.asl_syn.specs.declared.tree.PrintItem.{PrintItem}
+use Rattle.asl_syn.specs.declared.tree.PrintItem.TheVariants.{Verbatim, Shown}
+use Rattle.asl_syn.specs.declared.tree.Alternative.{Alternative}
+use Rattle.asl_syn.specs.declared.tree.Catcher.{Catcher}
+use Rattle.asl_syn.specs.declared.tree.ElseIf.{ElseIf}
+use Rattle.asl_syn.specs.declared.tree.Otherwise.{Otherwise}
+use Rattle.asl_syn.specs.declared.tree.Stmt.{Stmt}
+use Rattle.asl_syn.specs.declared.tree.Alternative.TheOpen as st
+use Rattle.asl_syn.specs.declared.tree.Alternative.TheFolds.{fold-Alternative, fold-Catcher, fold-ElseIf, fold-Otherwise, fold-Stmt}
+use Rattle.asl_syn.specs.declared.tree.Formal.{Formal}
+use Rattle.asl_syn.specs.declared.tree.Param.{Param}
+use Rattle.asl_syn.specs.declared.tree.TypeDef.{TypeDef}
+use Rattle.asl_syn.specs.declared.tree.TypeDef.TheVariants as td
+use Rattle.asl_syn.specs.declared.tree.Decl.{Decl}
+use Rattle.asl_syn.specs.declared.tree.Decl.TheVariants as dc
 use Rattle.asl_syn.specs.declared.tree.Bitfield.TheOpen as ex
 use Rattle.asl_syn.specs.declared.tree.Bitfield.TheFolds.{fold-Bitfield, fold-ConstraintPart, fold-Expr, fold-FieldValue, fold-Pattern, fold-Slice, fold-TypeExpr}
 
@@ -31,6 +55,16 @@ joined (a ∷ more) = both a (joined more)
 abbrev pub of_names : List Ident → Spans
 of_names [] = no_span
 of_names (i ∷ is) = both (one i.span) (of_names is)
+
+abbrev pub all_of : {A : Type 0} → (A → Spans) → List A → Spans
+all_of f xs = joined (map f xs)
+
+abbrev pub maybe : {A : Type 0} → (A → Spans) → Option A → Spans
+maybe f None = no_span
+maybe f (Some x) = f x
+
+abbrev pub of_name : Ident → Spans
+of_name i = one i.span
 
 -- ---- expressions, written types, slices and patterns
 
@@ -108,3 +142,106 @@ part_spans = fold-ConstraintPart Spans Spans Spans Spans Spans Spans Spans in_bi
 
 abbrev pub given_spans : FieldValue → Spans
 given_spans = fold-FieldValue Spans Spans Spans Spans Spans Spans Spans in_bitfield in_part in_expr in_field in_pattern in_slice in_type
+
+-- ---- targets
+
+-- the span of a target up to this place
+abbrev pub up_to : Ident → ℕ → Span
+up_to i end = record { file = i.span.file; start = i.span.start; len = end - i.span.start }
+
+abbrev pub suffix_spans : Suffix → Spans
+suffix_spans (FieldOf f) = one f.span
+suffix_spans (FieldsOf fs) = of_names fs
+suffix_spans (SlicesOf ss) = all_of slice_spans ss
+suffix_spans (ElementOf e) = expr_spans e
+
+abbrev pub placed_spans : Ident → PlacedSuffix → Spans
+placed_spans i x = both (one (up_to i x.end)) (suffix_spans x.suffix)
+
+abbrev pub in_target : tg.Target-F Spans → Spans
+in_target (tg.Discarded at) = one at
+in_target (tg.Place at i xs) = both (one at) (both (one i.span) (all_of (placed_spans i) xs))
+in_target (tg.Targets at ts) = both (one at) (joined ts)
+
+abbrev pub target_spans : Target → Spans
+target_spans = fold-Target Spans in_target
+
+-- ---- statements
+
+abbrev pub binder_spans : Binder → Spans
+binder_spans (Bound i) = one i.span
+binder_spans (Unbound at) = one at
+
+abbrev pub bind_spans : Bind → Spans
+bind_spans (Single b) = binder_spans b
+bind_spans (Several at bs) = both (one at) (all_of binder_spans bs)
+
+abbrev pub item_spans : PrintItem → Spans
+item_spans (Verbatim span text) = one span
+item_spans (Shown e) = expr_spans e
+
+abbrev pub in_alternative : st.Alternative-F Spans Spans Spans Spans Spans → Spans
+in_alternative (st.When ps e ss) = both (all_of pattern_spans ps) (both (maybe expr_spans e) (joined ss))
+
+abbrev pub in_catcher : st.Catcher-F Spans Spans Spans Spans Spans → Spans
+in_catcher (st.Catch i ty ss) = both (maybe of_name i) (both (one ty.span) (joined ss))
+
+abbrev pub in_branch : st.ElseIf-F Spans Spans Spans Spans Spans → Spans
+in_branch (st.ElseIf c ss) = both (expr_spans c) (joined ss)
+
+abbrev pub in_otherwise : st.Otherwise-F Spans Spans Spans Spans Spans → Spans
+in_otherwise st.NoOtherwise = no_span
+in_otherwise (st.Otherwise ss) = joined ss
+
+abbrev pub in_stmt : st.Stmt-F Spans Spans Spans Spans Spans → Spans
+in_stmt (st.Pass span) = one span
+in_stmt (st.Unreachable span) = one span
+in_stmt (st.Assert span e) = both (one span) (expr_spans e)
+in_stmt (st.Print span kind is) = both (one span) (all_of item_spans is)
+in_stmt (st.Local span kind b ty e) = both (one span) (both (bind_spans b) (both (maybe type_spans ty) (expr_spans e)))
+in_stmt (st.LocalVars span is ty) = both (one span) (both (of_names is) (type_spans ty))
+in_stmt (st.Assign span target e) = both (one span) (both (target_spans target) (expr_spans e))
+in_stmt (st.Invoke span i ps es) = both (one span) (both (one i.span) (both (all_of expr_spans ps) (all_of expr_spans es)))
+in_stmt (st.If span c first others last) = both (one span) (both (expr_spans c) (both (joined first) (both (joined others) (joined last))))
+in_stmt (st.Case span e first last) = both (one span) (both (expr_spans e) (both (joined first) last))
+in_stmt (st.For span i a d b limit ss) = both (one span) (both (one i.span) (both (expr_spans a) (both (expr_spans b) (both (maybe expr_spans limit) (joined ss)))))
+in_stmt (st.While span c limit ss) = both (one span) (both (expr_spans c) (both (maybe expr_spans limit) (joined ss)))
+in_stmt (st.Repeat span ss c limit) = both (one span) (both (joined ss) (both (expr_spans c) (maybe expr_spans limit)))
+in_stmt (st.Return span e) = both (one span) (maybe expr_spans e)
+in_stmt (st.Throw span e) = both (one span) (maybe expr_spans e)
+in_stmt (st.Try span ss cs last) = both (one span) (both (joined ss) (both (joined cs) last))
+
+abbrev pub stmt_spans : Stmt → Spans
+stmt_spans = fold-Stmt Spans Spans Spans Spans Spans in_alternative in_catcher in_branch in_otherwise in_stmt
+
+abbrev pub alternative_spans : Alternative → Spans
+alternative_spans = fold-Alternative Spans Spans Spans Spans Spans in_alternative in_catcher in_branch in_otherwise in_stmt
+
+abbrev pub catcher_spans : Catcher → Spans
+catcher_spans = fold-Catcher Spans Spans Spans Spans Spans in_alternative in_catcher in_branch in_otherwise in_stmt
+
+abbrev pub branch_spans : ElseIf → Spans
+branch_spans = fold-ElseIf Spans Spans Spans Spans Spans in_alternative in_catcher in_branch in_otherwise in_stmt
+
+abbrev pub otherwise_spans : Otherwise → Spans
+otherwise_spans = fold-Otherwise Spans Spans Spans Spans Spans in_alternative in_catcher in_branch in_otherwise in_stmt
+
+-- ---- declarations
+
+abbrev pub formal_spans : Formal → Spans
+formal_spans f = both (one f.name.span) (type_spans f.ty)
+
+abbrev pub param_spans : Param → Spans
+param_spans p = both (one p.name.span) (maybe type_spans p.ty)
+
+abbrev pub def_spans : TypeDef → Spans
+def_spans (td.Alias ty) = type_spans ty
+def_spans (td.Labels span is) = both (one span) (of_names is)
+def_spans (td.Record span fs) = both (one span) (all_of formal_spans fs)
+def_spans (td.Exception span fs) = both (one span) (all_of formal_spans fs)
+
+abbrev pub decl_spans : Decl → Spans
+decl_spans (dc.Type d) = both (one d.span) (both (one d.name.span) (both (def_spans d.def) (maybe of_name d.supertype)))
+decl_spans (dc.Storage d) = both (one d.span) (both (one d.name.span) (both (maybe type_spans d.ty) (maybe expr_spans d.init)))
+decl_spans (dc.Func f) =
+    both (one f.span) (both (one f.name.span) (both (all_of param_spans f.params) (both (all_of formal_spans f.formals) (both (maybe type_spans f.result) (both (maybe expr_spans f.limit) (all_of stmt_spans f.body))))))
