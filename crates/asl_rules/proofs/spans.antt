@@ -6,3 +6,4 @@ pub mod ExprSpans
 pub mod StmtRows
 pub mod TargetSpans
 pub mod StmtSpans
+pub mod ProgramSpans

@@ -78,7 +78,7 @@ module _ (t : Tests) (P : Span → Type 0) where
 
   -- ---- lists
 
-  order_stands : (ss : List FoundStmt) (k : Effect) (B : Body) → AllOf StmtStands ss → Stands P (in_order ss k B)
+  pub order_stands : (ss : List FoundStmt) (k : Effect) (B : Body) → AllOf StmtStands ss → Stands P (in_order ss k B)
   order_stands [] k B h = tt
   order_stands (s ∷ ss) k B h = bound P (s B) _ (h.0.stmt_at B) (λ d. bound P (in_order ss _ _) _ (order_stands ss _ _ h.1) (λ l. tt))
 
