@@ -7,3 +7,5 @@ pub mod StmtRows
 pub mod TargetSpans
 pub mod StmtSpans
 pub mod ProgramSpans
+pub mod ValueEnds
+pub mod KnownSpans
