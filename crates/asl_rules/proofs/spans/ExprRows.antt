@@ -1,5 +1,5 @@
 -- Each form of expression, of written type, of slice and of pattern: its faults stand at its own spans, or at those of its parts.
-use Rattle.std.specs.Prelude.{ℕ, suc, ℤ, ◌-ℤ◌, pos, negsuc, Bool, true, false, if◌then◌else◌, List, [], ◌∷◌, ◌++◌, Option, Some, None, Result, Ok, Err}
+use Rattle.std.specs.Prelude.{ℕ, suc, ℤ, pos, negsuc, Bool, true, false, if◌then◌else◌, List, [], ◌∷◌, ◌++◌, Option, Some, None, Result, Ok}
 use Rattle.asl_syn.specs.declared.token.Span.{Span}
 use Rattle.asl_syn.specs.declared.code.Fault.{Fault}
 use Rattle.asl_syn.specs.declared.code.StaticCode.{StaticCode}
@@ -11,15 +11,14 @@ use Rattle.asl_syn.specs.declared.tree.BinaryOperator.{BinaryOperator}
 use Rattle.asl_syn.specs.declared.tree.BinaryOperator.TheVariants as binary
 use Rattle.asl_syn.specs.declared.tree.Bitfield.TheOpen as ex
 use Rattle.asl_poly.specs.Terms.{Polynomial}
-use Rattle.asl_rules.specs.declared.effect.Effect.{Effect}
-use Rattle.asl_rules.specs.Faults.{◌>>=◌, ◌>>◌, need, found_or, fitted}
+use Rattle.asl_rules.specs.Faults.{◌>>=◌, ◌>>◌, need, found_or}
 use Rattle.asl_rules.specs.Routines.{Routine, routine_named}
 use Rattle.asl_rules.specs.Tests.{Tests}
 use Rattle.asl_rules.specs.Types.{Ty, Fields, Parts, Widths, View, no_part, part}
 use Rattle.asl_rules.specs.Values.{Value, int}
-use Rattle.asl_rules.specs.Scopes.{Scope, Counted, Storage, Standing, Stored, Subprogram, TypeName, Label, Signature, Param, standing_of, known_value}
-use Rattle.asl_rules.specs.Widths.{Total, totalled, length_of, width_of_counted, width_of_known, width_of_standing, width_of_binary, number_of_counted, number_of_known, number_of_standing, number_of_binary}
-use Rattle.asl_rules.specs.Typing.{Found, Typed, Operand, operands}
+use Rattle.asl_rules.specs.Scopes.{Scope, Counted, Standing, Stored, Label, Signature, Param, standing_of}
+use Rattle.asl_rules.specs.Widths.{Total, length_of, width_of_counted, width_of_known, width_of_standing, width_of_binary, number_of_counted, number_of_known, number_of_standing, number_of_binary}
+use Rattle.asl_rules.specs.Typing.{Found, Operand, operands}
 use Rattle.asl_rules.specs.Operations.{unary_rule, binary_rule}
 use Rattle.asl_rules.specs.Members.{bitfields_in, constructed, given_once, all_fit}
 use Rattle.asl_rules.specs.Slicing.{FoundSlice, all_operands, all_add}

@@ -1,5 +1,5 @@
 -- What is found at an expression or at a written type stands at spans of its tree: its faults do in every scope.
-use Rattle.std.proofs.Common.{◌≡◌, List, [], ◌∷◌, map, Ok, sym, subst}
+use Rattle.std.proofs.Common.{◌≡◌, List, [], ◌∷◌, map, sym, subst}
 use Rattle.asl_syn.specs.declared.token.Span.{Span}
 use Rattle.asl_syn.specs.declared.tree.Ident.{Ident}
 use Rattle.asl_syn.specs.declared.tree.Bitfield.{Bitfield, roll-Bitfield}

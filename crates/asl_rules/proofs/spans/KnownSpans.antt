@@ -3,7 +3,6 @@ use Rattle.std.proofs.Common.{◌≡◌, ℕ, Bool, true, false, List, [], ◌�
 use Rattle.asl_syn.specs.declared.token.Span.{Span}
 use Rattle.asl_syn.specs.declared.code.Fault.{Fault}
 use Rattle.asl_syn.specs.declared.tree.Decl.{Decl}
-use Rattle.asl_syn.specs.declared.tree.Ident.{Ident}
 use Rattle.std.specs.Prelude.{Err}
 use Rattle.asl_syn.specs.declared.tree.BinaryOperator.{BinaryOperator}
 use Rattle.asl_syn.specs.declared.tree.Bitfield.{Bitfield, roll-Bitfield}
@@ -23,14 +22,14 @@ use Rattle.asl_rules.specs.Views.{stripped}
 use Rattle.asl_rules.specs.Values.{Value, tuple_with}
 use Rattle.asl_rules.specs.Vectors.{bitfields_named, bitfields_of, slices_of, literal_bits}
 use Rattle.asl_rules.specs.Written.{converted, first_value}
-use Rattle.asl_rules.specs.Operators.{Decided, Already, ByRight, Strictness, Strict, Lazy, strictness, unary_value, binary_value, truth}
+use Rattle.asl_rules.specs.Operators.{Decided, Already, ByRight, Strictness, Strict, Lazy, strictness, unary_value, truth}
 use Rattle.asl_rules.specs.Structures.{constructed, element_of, field_of, values_of}
 use Rattle.asl_rules.specs.Scopes as scopes
 use Rattle.asl_rules.specs.Scopes.{storage_of, standing_of}
 use Rattle.asl_rules.specs.Programs.{origin, verdict}
 use Rattle.asl_rules.specs.declared.entry.Entry.{Entry}
 use Rattle.asl_rules.specs.UsedNames.{Use, Uses, or_else, of_value, of_subprogram, of_type, first_said, Each as EachUse, joined as joined_uses, in_bitfield as uses_in_bitfield, in_part as uses_in_part, in_expr as uses_in_expr, in_field as uses_in_field, in_pattern as uses_in_pattern, in_slice as uses_in_slice, in_type as uses_in_type, bitfield_uses, part_uses, given_uses, expr_uses, pattern_uses, slice_uses, type_uses}
-use Rattle.asl_rules.specs.Barred.{is_global_var, at_var, barred_at, barred}
+use Rattle.asl_rules.specs.Barred.{is_global_var, barred_at}
 use Rattle.asl_rules.specs.Plans.{UnknownName, Plan, Pure, Good, Bad, choose, lift}
 use Rattle.asl_rules.specs.Pures.{◌>>=◌}
 use Rattle.asl_rules.specs.Forms as forms
@@ -41,7 +40,7 @@ use Rattle.asl_rules.proofs.constants.KnownParts.{known_bitfield, known_part, kn
 use Rattle.asl_rules.proofs.verdict.SameRules.{AllOf}
 use Rattle.asl_rules.proofs.spans.Spans.{Spans, Each, joined, all_of, decl_spans, in_bitfield, in_part, in_expr, in_field, in_pattern, in_slice, in_type, bitfield_spans, part_spans, expr_spans, given_spans, pattern_spans, slice_spans, type_spans}
 use Rattle.asl_rules.proofs.spans.ProgramSpans.{MaybeAt, Evaluates, fault_stands}
-use Rattle.asl_rules.proofs.spans.ValueEnds.{Ends, ends, step_ends, stuck_at, either_ends, evaluated_stands, binary_ends, unary_ends, truth_ends, element_ends, field_ends, constructed_ends, slices_end, bitfields_end, converted_ends, first_ends, ShapeStands, ShapesStand, matched_ends}
+use Rattle.asl_rules.proofs.spans.ValueEnds.{Ends, ends, step_ends, stuck_at, evaluated_stands, binary_ends, unary_ends, truth_ends, element_ends, field_ends, constructed_ends, slices_end, bitfields_end, converted_ends, first_ends, ShapeStands, ShapesStand, matched_ends}
 
 module _ (P : Span → Type 0) where
   -- ---- uses of names

@@ -1,10 +1,9 @@
 -- The fault of declarations stands at one of their spans, or, where no entry is found, at the beginning of the first file.
 use Rattle.std.proofs.Common.{◌≡◌, ℕ, zero, suc, Bool, true, false, List, [], ◌∷◌, ◌++◌, map, length, Option, Some, None, cond, subst}
-use Rattle.std.specs.Prelude.{ℤ, pos, Result, Ok, Err}
+use Rattle.std.specs.Prelude.{Result, Ok, Err}
 use Rattle.asl_syn.specs.declared.token.Span.{Span}
 use Rattle.asl_syn.specs.declared.code.Fault.{Fault}
 use Rattle.asl_syn.specs.declared.code.StaticCode.{StaticCode}
-use Rattle.asl_syn.specs.declared.code.StaticCode.TheVariants.{T04}
 use Rattle.asl_syn.specs.declared.tree.Expr.{Expr}
 use Rattle.asl_syn.specs.declared.tree.TypeExpr.{TypeExpr}
 use Rattle.asl_syn.specs.declared.tree.Ident.{Ident}
@@ -13,7 +12,6 @@ use Rattle.asl_syn.specs.declared.tree.Param.{Param as WrittenParam}
 use Rattle.asl_syn.specs.declared.tree.Stmt.{Stmt}
 use Rattle.asl_syn.specs.declared.tree.TypeDef.{TypeDef}
 use Rattle.asl_syn.specs.declared.tree.TypeDef.TheVariants as td
-use Rattle.asl_syn.specs.declared.tree.TypeDecl.{TypeDecl}
 use Rattle.asl_syn.specs.declared.tree.StorageDecl.{StorageDecl}
 use Rattle.asl_syn.specs.declared.tree.Func.{Func}
 use Rattle.asl_syn.specs.declared.tree.Decl.{Decl}
@@ -21,7 +19,7 @@ use Rattle.asl_syn.specs.declared.tree.Decl.TheVariants as dc
 use Rattle.asl_rules.specs.declared.effect.Effect.TheVariants.{Pure}
 use Rattle.asl_rules.specs.declared.entry.Entry.{Entry}
 use Rattle.asl_rules.specs.declared.entry.Entry.TheVariants as entry
-use Rattle.asl_rules.specs.Faults.{◌>>=◌, ◌>>◌, none_at}
+use Rattle.asl_rules.specs.Faults.{◌>>◌, none_at}
 use Rattle.asl_rules.specs.Tests.{Tests}
 use Rattle.asl_rules.specs.Types.{Ty}
 use Rattle.asl_rules.specs.Values.{Value, int}
@@ -31,20 +29,19 @@ use Rattle.asl_rules.specs.Scopes as scopes
 use Rattle.asl_rules.specs.Scopes.{Scope, Signature, Param, subprogram}
 use Rattle.asl_rules.specs.Typing.{Typed}
 use Rattle.asl_rules.specs.Written.{first_value}
-use Rattle.asl_rules.specs.Exprs.{found, found_type}
 use Rattle.asl_rules.specs.Uses.{cycles_rule, uses}
 use Rattle.asl_rules.specs.Barred.{barred}
 use Rattle.asl_rules.specs.Constants.{constant}
 use Rattle.asl_rules.specs.Acting.{in_order}
 use Rattle.asl_rules.specs.Stmts.{found_stmt}
-use Rattle.asl_rules.specs.Declarations.{in_names, fields_written, def_rule, supertype_rule, type_decl_rule, evaluated, known, first_in, storage_rule, storage_decl_rule, is_var, decl_rule, Judged, Waiting, Fine, Faulty, judged, entries, all_fine, judged_by, still, judgement, final, faulty, faults_rule, globals_rule}
+use Rattle.asl_rules.specs.Declarations.{in_names, fields_written, def_rule, supertype_rule, evaluated, storage_rule, is_var, decl_rule, Judged, Waiting, Fine, Faulty, judged, entries, all_fine, judged_by, still, judgement, final, faulty, faults_rule, globals_rule}
 use Rattle.asl_rules.specs.Programs.{funcs_of, params_free, formals_free, param_written, params_rule, formals_rule, result_rule, limit_typed, type_is_integer, params_are_integers, as_number, limit_of_expr, limit_rule, Head, signature_rule, signatures_rule, signatures, overloads_rule, body_rule, bodies_rule, body_of, origin, entry_found, entry_rule, verdict}
 use Rattle.asl_rules.proofs.verdict.SameRules.{AllOf}
-use Rattle.asl_rules.proofs.spans.Spans.{Spans, Each, all_of, maybe, of_name, of_names, expr_spans, type_spans, stmt_spans, formal_spans, param_spans, def_spans, decl_spans}
+use Rattle.asl_rules.proofs.spans.Spans.{Each, all_of, maybe, of_name, of_names, expr_spans, type_spans, stmt_spans, formal_spans, param_spans, def_spans, decl_spans}
 use Rattle.asl_rules.proofs.spans.Standing.{Answers, Stands, then_with, then_stands, bound, next, steps}
 use Rattle.asl_rules.proofs.spans.ExprSpans.{expr_there, type_there}
-use Rattle.asl_rules.proofs.spans.StmtRows.{MaybeThere, MaybeTypeThere, StmtStands, order_stands}
-use Rattle.asl_rules.proofs.spans.StmtSpans.{maybe_there, maybe_type_there, stmt_there}
+use Rattle.asl_rules.proofs.spans.StmtRows.{StmtStands, order_stands}
+use Rattle.asl_rules.proofs.spans.StmtSpans.{stmt_there}
 
 -- what an option holds stands at such a span
 abbrev pub MaybeAt : (Span → Type 0) → Option Span → Type 0

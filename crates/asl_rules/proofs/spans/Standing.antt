@@ -5,11 +5,11 @@ use Rattle.asl_syn.specs.declared.code.Fault.{Fault}
 use Rattle.asl_syn.specs.declared.code.StaticCode.{StaticCode}
 use Rattle.asl_syn.specs.declared.tree.Ident.{Ident}
 use Rattle.asl_syn.specs.declared.tree.Bitfield.TheOpen as ex
-use Rattle.asl_rules.specs.Faults.{◌>>=◌, ◌>>◌, need, none_at, found_or, fitted}
+use Rattle.asl_rules.specs.Faults.{◌>>=◌, ◌>>◌, need, found_or, fitted}
 use Rattle.asl_rules.specs.Types.{Ty}
 use Rattle.asl_rules.specs.Scopes.{Scope}
 use Rattle.asl_rules.specs.Widths.{Total}
-use Rattle.asl_rules.specs.Typing.{Found, Typed, Operand, operands}
+use Rattle.asl_rules.specs.Typing.{Found}
 use Rattle.asl_rules.specs.Slicing.{FoundSlice}
 use Rattle.asl_rules.specs.Writing.{WrittenField, FoundPart, FoundBitfield, FoundType}
 use Rattle.asl_rules.specs.Patterns.{FoundPattern}

@@ -1,5 +1,5 @@
 -- Each form of statement: its faults stand at its own spans, or at those of its parts.
-use Rattle.std.specs.Prelude.{ℕ, suc, Bool, true, false, List, [], ◌∷◌, ◌++◌, map, Option, Some, None, Result, Ok, Err}
+use Rattle.std.specs.Prelude.{ℕ, List, [], ◌∷◌, ◌++◌, Option, Some, None, Result}
 use Rattle.asl_syn.specs.declared.token.Span.{Span}
 use Rattle.asl_syn.specs.declared.code.Fault.{Fault}
 use Rattle.asl_syn.specs.declared.tree.Expr.{Expr}
@@ -17,7 +17,7 @@ use Rattle.asl_syn.specs.declared.tree.Bind.{Bind}
 use Rattle.asl_syn.specs.declared.tree.Bind.TheVariants.{Single, Several}
 use Rattle.asl_rules.specs.declared.effect.Effect.{Effect}
 use Rattle.asl_rules.specs.declared.effect.Effect.TheVariants.{Pure}
-use Rattle.asl_rules.specs.Faults.{◌>>=◌, ◌>>◌}
+use Rattle.asl_rules.specs.Faults.{◌>>=◌}
 use Rattle.asl_rules.specs.Tests.{Tests}
 use Rattle.asl_rules.specs.Types.{Ty}
 use Rattle.asl_rules.specs.Scopes.{Scope, Body, Entry, variable}
@@ -26,7 +26,7 @@ use Rattle.asl_rules.specs.Exprs.{found, found_type, found_pattern, typed}
 use Rattle.asl_rules.specs.Acting.{FoundStmt, FoundOtherwise, operand_of, in_order, block, last_block}
 use Rattle.asl_rules.specs.Locals.{Initialised, initialised, bound as declares, binders_free, bind_rule, names_rule, vars_rule}
 use Rattle.asl_rules.specs.Branches.{FoundBranch, TypedBranch, FoundAlternative, TypedAlternative, FoundCatcher, branch_rule, branches, branch_conditions, if_rule, all_patterns, where_rule, alternative_rule, alternatives, where_condition, where_conditions, case_rule, limit_typed, limit_fits, for_rule, while_rule, repeat_rule, with_caught, catcher_rule, catchers, try_rule}
-use Rattle.asl_rules.specs.Stmts.{assert_rule, invoke_rule, returned, return_rule, throw_rule, items_rule, print_rule}
+use Rattle.asl_rules.specs.Stmts.{assert_rule, returned, return_rule, throw_rule, items_rule, print_rule}
 use Rattle.asl_rules.proofs.verdict.SameRules.{AllOf}
 use Rattle.asl_rules.proofs.spans.Spans.{Each, all_of, binder_spans, bind_spans, item_spans}
 use Rattle.asl_rules.proofs.spans.Standing.{Answers, Stands, then_with, then_stands, bound, next, steps, ExprStands, PatternStands, TypeStands, NamesStand}

@@ -19,7 +19,7 @@ use Rattle.asl_rules.specs.Acting.{FoundStmt, FoundOtherwise}
 use Rattle.asl_rules.specs.Branches.{FoundBranch, FoundAlternative, FoundCatcher}
 use Rattle.asl_rules.specs.Stmts.{stmt_layer_rule, branch_found, alternative_found, catcher_found, otherwise_found, found_stmt}
 use Rattle.asl_rules.proofs.verdict.SameRules.{AllOf}
-use Rattle.asl_rules.proofs.spans.Spans.{Spans, Each, joined, all_of, maybe, of_name, expr_spans, type_spans, pattern_spans, in_alternative, in_catcher, in_branch, in_otherwise, in_stmt, alternative_spans, catcher_spans, branch_spans, otherwise_spans, stmt_spans}
+use Rattle.asl_rules.proofs.spans.Spans.{Spans, Each, all_of, maybe, of_name, expr_spans, type_spans, pattern_spans, in_alternative, in_catcher, in_branch, in_otherwise, in_stmt, alternative_spans, catcher_spans, branch_spans, otherwise_spans, stmt_spans}
 use Rattle.asl_rules.proofs.spans.Standing.{ExprStands, bound}
 use Rattle.asl_rules.proofs.spans.ExprRows.{procedure_call_stands}
 use Rattle.asl_rules.proofs.spans.ExprSpans.{expr_there, type_there, pattern_there, names_stand, all_stand}

@@ -1,8 +1,6 @@
 -- Assignments: their faults stand at spans of the target, up to one of its suffixes, or at those of what is assigned.
 use Rattle.std.proofs.Common.{◌≡◌, ℕ, suc, List, [], ◌∷◌, ◌++◌, map, Option, Some, None, sym, subst}
-use Rattle.std.specs.Prelude.{Result, Ok, Err}
 use Rattle.asl_syn.specs.declared.token.Span.{Span}
-use Rattle.asl_syn.specs.declared.code.Fault.{Fault}
 use Rattle.asl_syn.specs.declared.tree.Expr.{Expr}
 use Rattle.asl_syn.specs.declared.tree.Ident.{Ident}
 use Rattle.asl_syn.specs.declared.tree.Slice.{Slice}
@@ -11,16 +9,15 @@ use Rattle.asl_syn.specs.declared.tree.Suffix.{Suffix}
 use Rattle.asl_syn.specs.declared.tree.Suffix.TheVariants.{FieldOf, FieldsOf, SlicesOf, ElementOf}
 use Rattle.asl_syn.specs.declared.tree.Target.{Target, roll-Target, fold-roll-Target, map-Target, ind-Target}
 use Rattle.asl_syn.specs.declared.tree.Target.TheOpen as tg
-use Rattle.asl_rules.specs.Faults.{◌>>=◌, ◌>>◌}
 use Rattle.asl_rules.specs.Tests.{Tests}
 use Rattle.asl_rules.specs.Types.{Ty}
 use Rattle.asl_rules.specs.Scopes.{Scope}
 use Rattle.asl_rules.specs.Typing.{Operand}
-use Rattle.asl_rules.specs.Slicing.{FoundSlice, all_operands}
+use Rattle.asl_rules.specs.Slicing.{all_operands}
 use Rattle.asl_rules.specs.Exprs.{found_slice, typed}
 use Rattle.asl_rules.specs.Targets.{TypedSuffix, by_field, by_bitfields, by_slices, by_element, typed_suffix, typed_suffixes, behind_suffix, behind_suffixes, FoundTarget, TypedPlace, inside, all_places, one_place, target_layer, found_target, Placed, placed, all_placed, part_of, part_fits, all_parts_fit, assign_rule}
 use Rattle.asl_rules.proofs.verdict.SameRules.{AllOf}
-use Rattle.asl_rules.proofs.spans.Spans.{Spans, Each, joined, all_of, up_to, of_names, slice_spans, suffix_spans, placed_spans, in_target, target_spans}
+use Rattle.asl_rules.proofs.spans.Spans.{Spans, Each, joined, all_of, up_to, slice_spans, suffix_spans, placed_spans, in_target, target_spans}
 use Rattle.asl_rules.proofs.spans.Standing.{Answers, Stands, then_with, then_stands, bound, next, steps, SliceStands, NamesStand}
 use Rattle.asl_rules.proofs.spans.ExprRows.{bitfields_stand, slices_stand, adds_stand}
 use Rattle.asl_rules.proofs.spans.ExprSpans.{expr_there, slice_there, names_stand}

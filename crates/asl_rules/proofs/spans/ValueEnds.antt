@@ -1,6 +1,6 @@
 -- What operators and the other steps of evaluation give ends, where it gives no value, at the place that they are given.
 use Rattle.std.proofs.Common.{ℕ, zero, suc, Bool, true, false, List, [], ◌∷◌, Option, Some, None}
-use Rattle.std.specs.Prelude.{ℤ, pos, negsuc, if◌then◌else◌, Result, Ok, Err}
+use Rattle.std.specs.Prelude.{ℤ, pos, negsuc, if◌then◌else◌}
 use Rattle.asl_syn.specs.declared.token.Span.{Span}
 use Rattle.asl_syn.specs.declared.tree.Ident.{Ident}
 use Rattle.asl_syn.specs.declared.tree.UnaryOperator.{UnaryOperator}
@@ -9,15 +9,15 @@ use Rattle.asl_syn.specs.declared.tree.BinaryOperator.{BinaryOperator}
 use Rattle.asl_syn.specs.declared.tree.BinaryOperator.TheVariants as binary
 use Rattle.asl_rules.specs.Closed as cl
 use Rattle.asl_rules.specs.Closed.{Closed, ClosedParts}
-use Rattle.asl_rules.specs.Types.{View, BitField}
+use Rattle.asl_rules.specs.Types.{View}
 use Rattle.asl_rules.specs.Values.{Value, int, bool, bits_with, label, record_with, exception_with, tuple_with, array_with}
 use Rattle.asl_rules.specs.Types.{Kind}
 use Rattle.asl_rules.specs.Plans.{Mistake, End, Faulted, Stuck, Pure, Good, Bad}
 use Rattle.asl_rules.specs.Pures.{◌>>=◌, or_stuck}
 use Rattle.asl_rules.specs.Shapes.{SliceShape, TypeShape, PatternShape, PatternShapes, anything, one_of, masked, at_most, at_least, in_parts, equal_to, between, no_pattern, pattern_and}
-use Rattle.asl_rules.specs.Operators.{integer_of, quotient, divided, raised, of_integers, of_booleans, of_labels, of_one_enumeration, of_one_width, of_bits, of_bits_and_integer, binary_value, unary_value, truth}
+use Rattle.asl_rules.specs.Operators.{divided, raised, of_integers, of_booleans, of_labels, of_one_enumeration, of_bits, of_bits_and_integer, binary_value, unary_value, truth}
 use Rattle.asl_rules.specs.Structures.{inside, value_at, element_of, field_of, built, construct, constructed, parts}
-use Rattle.asl_rules.specs.Vectors.{Slicing, Wide, Places, width_of, ranged_width, widths_of, low_of, places_of, within_limit, tested, slicings, slices_of, bits_at, bitfields_of, each_named, bitfields_named}
+use Rattle.asl_rules.specs.Vectors.{Slicing, Wide, Places, width_of, widths_of, low_of, places_of, tested, slices_of, bits_at, bitfields_of, each_named, bitfields_named}
 use Rattle.asl_rules.specs.Written.{first_integer, first_bits, first_elements, first_value, first_fields, first_parts, converted}
 use Rattle.asl_rules.specs.Matching.{Matched, mask_match, value_match, at_most_match, at_least_match, range_match, negated_or, matches, any_match, all_match, is_matched}
 use Rattle.asl_rules.specs.ByNames.{matched_in}
@@ -87,13 +87,9 @@ module _ (P : Span → Type 0) where
   enumeration_ends span o true same p = labels_end span o same p
   enumeration_ends span o false same p = p
 
-  one_width_ends : (span : Span) (o : BinaryOperator) (a b : List Bool) → P span → Ends P (of_one_width span o a b)
-  one_width_ends span binary.Equal a b p = tt
-  one_width_ends span o a b p = search
-
   bits_end : (limit : ℕ) (span : Span) (o : BinaryOperator) (a b : List Bool) → P span → Ends P (of_bits limit span o a b)
   bits_end limit span binary.Concatenate a b p = search ends
-  bits_end limit span o a b p = search (ends, one_width_ends)
+  bits_end limit span o a b p = search ends
 
   bits_and_integer_end : (span : Span) (o : BinaryOperator) (a : List Bool) (z : ℤ) → P span → Ends P (of_bits_and_integer span o a z)
   bits_and_integer_end span binary.Add a z p = tt
