@@ -9,3 +9,4 @@ pub mod StmtSpans
 pub mod ProgramSpans
 pub mod ValueEnds
 pub mod KnownSpans
+pub mod FileSpans
