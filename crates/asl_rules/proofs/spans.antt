@@ -9,4 +9,5 @@ pub mod StmtSpans
 pub mod ProgramSpans
 pub mod ValueEnds
 pub mod KnownSpans
+pub mod ReadInside
 pub mod FileSpans
