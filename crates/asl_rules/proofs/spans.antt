@@ -10,4 +10,5 @@ pub mod ProgramSpans
 pub mod ValueEnds
 pub mod KnownSpans
 pub mod ReadInside
+pub mod ReadTrees
 pub mod FileSpans
