@@ -1,6 +1,5 @@
 -- The fault of files stands in one of them, where the spans of the trees do that the grammar reads.
-use Rattle.std.proofs.Common.{◌≡◌, ℕ, ◌+◌, ◌≤◌, ◌⊎◌, inl, inr, Bool, true, false, List, [], ◌∷◌, ◌++◌, map, length, Err, refl, sym, ap, subst, arith}
-use Rattle.std.specs.Prelude.{Ok}
+use Rattle.std.proofs.Common.{◌≡◌, ℕ, ◌+◌, ◌≤◌, inl, inr, Bool, true, false, List, [], ◌∷◌, ◌++◌, map, length, refl, sym, subst, arith}
 use Rattle.std.specs.List.{AllByRecursion}
 use Rattle.asl_syn.specs.declared.token.Span.{Span}
 use Rattle.asl_syn.specs.declared.token.Token.{Token}
@@ -11,13 +10,12 @@ use Rattle.asl_grammar.specs.lexemes.Tokens.{Tokens}
 use Rattle.asl_grammar.specs.lexemes.Texts.{HasText, LiesIn}
 use Rattle.asl_grammar.specs.lexemes.Files.{AllTokens}
 use Rattle.asl_grammar.specs.grammar.Cursor.{Lexeme, with_text}
-use Rattle.asl_grammar.specs.grammar.Faults.{Parses, NotAllowed, TooManyLevels, SyntaxFault, lexemes, place_of, refusal, last_or, opener}
-use Rattle.asl_grammar.specs.Reading.{Text, File, HasTrees, FirstSyntaxFault, AreParsed, AreRefused, Reads}
+use Rattle.asl_grammar.specs.grammar.Faults.{Parses, SyntaxFault, place_of, refusal, last_or, opener}
+use Rattle.asl_grammar.specs.Reading.{Text, File, HasTrees, FirstSyntaxFault}
 use Rattle.asl_grammar.proofs.lexemes.Placing.{tokens_stand}
 use Rattle.asl_grammar.proofs.lexemes.Faults.{first_fault_stands}
 use Rattle.asl_rules.specs.declared.entry.Entry.{Entry}
 use Rattle.asl_rules.specs.Answers.{FaultOfFiles}
-use Rattle.asl_rules.specs.Programs.{FaultOf, origin}
 use Rattle.asl_rules.proofs.verdict.SameRules.{AllOf}
 use Rattle.asl_rules.proofs.spans.Spans.{Spans, no_span, one, both, Each, all_of, decl_spans}
 use Rattle.asl_rules.proofs.spans.KnownSpans.{fault_there}

@@ -1,12 +1,11 @@
 -- What a grammar reads lies inside its file: each token does that it reads, and each extent goes from the beginning of one token to the end of one.
-use Rattle.std.proofs.Common.{◌≡◌, ℕ, zero, suc, ◌+◌, ◌-◌, ◌≤◌, ◌<◌, ◌⊎◌, inl, inr, Bool, true, false, List, [], ◌∷◌, length, Option, Some, None, refl, sym, ap, ◌∙◌, subst, arith}
-use Rattle.std.proofs.lemmas.Grind.{common_steps}
+use Rattle.std.proofs.Common.{◌≡◌, ℕ, ◌+◌, ◌≤◌, ◌⊎◌, inl, inr, true, List, [], ◌∷◌, length, Option, Some, None, refl, sym, subst, arith}
 use Rattle.asl_syn.specs.declared.token.Span.{Span}
-use Rattle.asl_grammar.specs.grammar.Cursor.{Lexeme, Extent, Cursor, Kinds, starts, past, end_of, ahead, extent, span_to, whole}
-use Rattle.asl_grammar.specs.grammar.Combinators.{G, tok, opens, into, seq, either, opt, many, by, spanned, scope, closed, trail, costs, follows, Reading, reads, reads_all, reads_opt, reads_tok, reads_then, reads_trail, reads_follows}
-use Rattle.asl_grammar.specs.grammar.Reader.{nullable, first, cont, by_one, flipped, both}
+use Rattle.asl_grammar.specs.grammar.Cursor.{Lexeme, Extent, Cursor, Kinds, starts, past, end_of, ahead, span_to, whole}
+use Rattle.asl_grammar.specs.grammar.Combinators.{G, tok, opens, into, seq, either, opt, many, by, spanned, scope, closed, trail, costs, follows, Reading, reads, reads_all, reads_opt, reads_tok, reads_then}
+use Rattle.asl_grammar.specs.grammar.Reader.{nullable, first, by_one}
 use Rattle.asl_grammar.proofs.grammar.Basics.{both_true, both_four, flipped_true}
-use Rattle.asl_grammar.proofs.grammar.Readings.{TookAs, took, took_some}
+use Rattle.asl_grammar.proofs.grammar.Readings.{took, took_some}
 use Rattle.asl_rules.proofs.verdict.SameRules.{AllOf}
 
 -- a token of this file, which lies in its text of so many bytes

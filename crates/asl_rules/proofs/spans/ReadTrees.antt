@@ -1,5 +1,5 @@
 -- The spans of the trees that the grammar of the language reads lie in the file, rule by rule.
-use Rattle.std.proofs.Common.{◌≡◌, ℕ, ◌+◌, ◌≤◌, ◌⊎◌, inl, inr, Bool, List, [], ◌∷◌, map, Option, Some, None, sym, subst, arith}
+use Rattle.std.proofs.Common.{◌≡◌, ℕ, ◌+◌, ◌≤◌, inl, inr, Bool, List, [], ◌∷◌, sym, subst, arith}
 use Rattle.asl_syn.specs.declared.token.Span.{Span}
 use Rattle.asl_syn.specs.declared.tree.Ident.{Ident}
 use Rattle.asl_syn.specs.declared.tree.UnaryOperator.{UnaryOperator}
@@ -15,16 +15,16 @@ use Rattle.asl_syn.specs.declared.tree.TypeExpr.{TypeExpr}
 use Rattle.asl_syn.specs.declared.tree.Bitfield.TheOpen as node
 use Rattle.asl_syn.specs.declared.tree.Bitfield.TheFolds.{fold-roll-Expr, map-Expr}
 use Rattle.asl_syn.specs.Layers.{ExprLayer}
-use Rattle.asl_grammar.specs.grammar.Cursor.{Lexeme, Extent, span_to, whole}
-use Rattle.asl_grammar.specs.grammar.Combinators.{many, opt, seq, by}
-use Rattle.asl_grammar.specs.grammar.Build.{int_of, Link, Links, seconds, linked, chained}
+use Rattle.asl_grammar.specs.grammar.Cursor.{Extent, span_to}
+use Rattle.asl_grammar.specs.grammar.Combinators.{many}
+use Rattle.asl_grammar.specs.grammar.Build.{int_of, Link, Links, linked, chained}
 use Rattle.asl_grammar.specs.declared.kinds.Kind.TheVariants as kind
 use Rattle.asl_grammar.specs.grammar.Kinds.{kind_of, same_kind}
 use Rattle.asl_grammar.specs.grammar.Operators.{binary_of}
-use Rattle.asl_grammar.specs.grammar.Rules.{Sym, Val, Rule, after, name, names, integer_literal, bits_literal, boolean_literal, literal, power, power_rest, unary}
+use Rattle.asl_grammar.specs.grammar.Rules.{Sym, Val, Rule, after, name, integer_literal, bits_literal, boolean_literal, literal, power_rest, unary}
 use Rattle.asl_rules.proofs.verdict.SameRules.{AllOf}
-use Rattle.asl_rules.proofs.spans.Spans.{Spans, Each, all_of, of_names, in_expr, in_bitfield, in_part, in_field, in_pattern, in_slice, in_type, bitfield_spans, part_spans, expr_spans, given_spans, pattern_spans, slice_spans, type_spans}
-use Rattle.asl_rules.proofs.spans.ReadInside.{LexIn, ExtIn, between_in, whole_in, Inside}
+use Rattle.asl_rules.proofs.spans.Spans.{Spans, Each, all_of, in_expr, in_bitfield, in_part, in_field, in_pattern, in_slice, in_type, bitfield_spans, part_spans, expr_spans, given_spans, pattern_spans, slice_spans, type_spans}
+use Rattle.asl_rules.proofs.spans.ReadInside.{ExtIn, between_in, Inside}
 
 module _ (n size : ℕ) (Q : (s : Sym) → Val s → Type 0) where
   abbrev pub P : Span → Type 0
