@@ -12,3 +12,4 @@ pub mod KnownSpans
 pub mod ReadInside
 pub mod ReadTrees
 pub mod FileSpans
+pub mod ReadFiles

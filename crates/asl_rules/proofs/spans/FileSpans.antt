@@ -29,7 +29,7 @@ Within n text span = (span.file ≡ n) × (span.start + span.len ≤ length text
 abbrev Lexed : ℕ → Text → Lexeme → Type 0
 Lexed n text t = Within n text t.span
 
-lexed : (limit n : ℕ) (text : Text) (ts : List Token) → AllByRecursion (HasText limit n text) ts → AllOf (Lexed n text) (map (with_text text) ts)
+pub lexed : (limit n : ℕ) (text : Text) (ts : List Token) → AllByRecursion (HasText limit n text) ts → AllOf (Lexed n text) (map (with_text text) ts)
 lexed limit n text [] h = tt
 lexed limit n text (t ∷ ts) h = ((h.0.file_is, h.0.fits), lexed limit n text ts h.1)
 
