@@ -279,9 +279,11 @@ module _ (t : Tests) (P : Span → Type 0) where
 
   pub bitfield_stands : (layer : ex.Bitfield-F FoundBitfield FoundPart Found FoundField FoundPattern FoundSlice FoundType) → BitfieldLayer P layer → BitfieldStands P (bitfield_rule layer)
   bitfield_stands (ex.OneBit e i) h = record { bitfield_at = λ G. then_with P (λ (x : WrittenEnd). P x.span) (EndsStand P) (end_rule e G) _ (end_stands e G h) (λ x k. (k, k)) }
-  bitfield_stands (ex.BitRange a b i) h = record { bitfield_at = λ G.
-      then_with P (λ (x : WrittenEnd). P x.span) (EndsStand P) (end_rule a G) _ (end_stands a G h.0) (λ x k.
-      then_with P (λ (x : WrittenEnd). P x.span) (EndsStand P) (end_rule b G) _ (end_stands b G h.1) (λ y l. (k, l))) }
+  bitfield_stands (ex.BitRange a b i) h = record {
+    bitfield_at = λ G.
+        then_with P (λ (x : WrittenEnd). P x.span) (EndsStand P) (end_rule a G) _ (end_stands a G h.0) (λ x k.
+        then_with P (λ (x : WrittenEnd). P x.span) (EndsStand P) (end_rule b G) _ (end_stands b G h.1) (λ y l. (k, l)));
+  }
 
   parts_stand : (ps : List FoundPart) (G : Scope) → AllOf (PartStands P) ps → Stands P (all_parts ps G)
   parts_stand [] G h = tt

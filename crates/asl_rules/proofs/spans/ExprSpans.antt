@@ -125,9 +125,11 @@ module _ (t : Tests) (P : Span → Type 0) where
   bitfield_layer : (y : ex.Bitfield-F BB CC EE FF PP SS TT) → Each P (in_bitfield (spans_of_bitfield (bitfield_trees y))) → BitfieldLayer P (bitfield_opened t (bitfield_trees y))
   bitfield_layer (ex.OneBit e i) h = e.1 h.0
   bitfield_layer (ex.BitRange a b i) h = (a.1 h.0, b.1 h.1.0)
+
   part_layer : (y : ex.ConstraintPart-F BB CC EE FF PP SS TT) → Each P (in_part (spans_of_part (part_trees y))) → PartLayer P (part_opened t (part_trees y))
   part_layer (ex.Only e) h = e.1 h
   part_layer (ex.FromTo a b) h = (a.1 h.0, b.1 h.1)
+
   expr_layer : (y : ex.Expr-F BB CC EE FF PP SS TT) → Each P (in_expr (spans_of_expr (expr_trees y))) → ExprLayer P (opened t (expr_trees y))
   expr_layer (ex.Int span n) h = h
   expr_layer (ex.Bits span text) h = h
@@ -145,8 +147,10 @@ module _ (t : Tests) (P : Span → Type 0) where
   expr_layer (ex.Element span a i) h = (h.0, a.1 h.1.0, i.1 h.1.1)
   expr_layer (ex.As span a w) h = (h.0, a.1 h.1.0, w.1 h.1.1)
   expr_layer (ex.In span a p) h = (h.0, a.1 h.1.0, p.1 h.1.1)
+
   given_layer : (y : ex.FieldValue-F BB CC EE FF PP SS TT) → Each P (in_field (spans_of_given (given_trees y))) → GivenLayer P (field_opened t (given_trees y))
   given_layer (ex.Given i e) h = (h.0, e.1 h.1)
+
   pattern_layer : (y : ex.Pattern-F BB CC EE FF PP SS TT) → Each P (in_pattern (spans_of_pattern (pattern_trees y))) → PatternLayer P (pattern_opened t (pattern_trees y))
   pattern_layer (ex.AnyPattern span) h = h
   pattern_layer (ex.SetPattern span b ps) h = (h.0, all_stand pattern_spans (found_pattern t) (PatternStands P) ps h.1)
@@ -156,11 +160,13 @@ module _ (t : Tests) (P : Span → Type 0) where
   pattern_layer (ex.TuplePattern span ps) h = (h.0, all_stand pattern_spans (found_pattern t) (PatternStands P) ps h.1)
   pattern_layer (ex.ValuePattern span e) h = (h.0, e.1 h.1)
   pattern_layer (ex.RangePattern span a b) h = (h.0, a.1 h.1.0, b.1 h.1.1)
+
   slice_layer : (y : ex.Slice-F BB CC EE FF PP SS TT) → Each P (in_slice (spans_of_slice (slice_trees y))) → SliceLayer P (slice_opened (slice_trees y))
   slice_layer (ex.BitAt e) h = e.1 h
   slice_layer (ex.HighLow a b) h = (a.1 h.0, b.1 h.1)
   slice_layer (ex.LowWidth a b) h = (a.1 h.0, b.1 h.1)
   slice_layer (ex.FactorWidth a b) h = (a.1 h.0, b.1 h.1)
+
   type_layer : (y : ex.TypeExpr-F BB CC EE FF PP SS TT) → Each P (in_type (spans_of_type (type_trees y))) → TypeLayer P (type_opened t (type_trees y))
   type_layer (ex.IntegerType span ps) h = (h.0, all_stand part_spans (found_part t) (PartStands P) ps h.1)
   type_layer (ex.BooleanType span) h = h
@@ -169,6 +175,7 @@ module _ (t : Tests) (P : Span → Type 0) where
   type_layer (ex.BitsType span e fs) h = (h.0, e.1 h.1.0, all_stand bitfield_spans (found_bitfield t) (BitfieldStands P) fs h.1.1)
   type_layer (ex.TupleType span ts) h = (h.0, all_stand type_spans (found_type t) (TypeStands P) ts h.1)
   type_layer (ex.ArrayType span e w) h = (h.0, e.1 h.1.0, w.1 h.1.1)
+
   -- ---- by induction over trees
 
   bitfield_step : (x : ex.Bitfield-F Bitfield ConstraintPart Expr FieldValue Pattern Slice TypeExpr) (y : ex.Bitfield-F BB CC EE FF PP SS TT) → bitfield_trees y ≡ x → BitfieldGood (roll-Bitfield x)

@@ -285,9 +285,11 @@ module _ (t : Tests) (P : Span → Type 0) where
   bitfield_layer_uses : (y : ex.Bitfield-F BB CC EE FF PP SS TT) → Each P (in_bitfield (spans_of_bitfield (bitfield_trees y))) → UsesAt P (uses_in_bitfield (uses_of_bitfield (bitfield_trees y)))
   bitfield_layer_uses (ex.OneBit e i) h = (e.1 h.0).uses_at
   bitfield_layer_uses (ex.BitRange a b i) h = both_uses P (expr_uses a.0) (expr_uses b.0) (a.1 h.0).uses_at (b.1 h.1.0).uses_at
+
   part_layer_uses : (y : ex.ConstraintPart-F BB CC EE FF PP SS TT) → Each P (in_part (spans_of_part (part_trees y))) → UsesAt P (uses_in_part (uses_of_part (part_trees y)))
   part_layer_uses (ex.Only e) h = (e.1 h).uses_at
   part_layer_uses (ex.FromTo a b) h = both_uses P (expr_uses a.0) (expr_uses b.0) (a.1 h.0).uses_at (b.1 h.1).uses_at
+
   expr_layer_uses : (y : ex.Expr-F BB CC EE FF PP SS TT) → Each P (in_expr (spans_of_expr (expr_trees y))) → UsesAt P (uses_in_expr (uses_of_expr (expr_trees y)))
   expr_layer_uses (ex.Int span n) h = tt
   expr_layer_uses (ex.Bits span text) h = tt
@@ -305,8 +307,10 @@ module _ (t : Tests) (P : Span → Type 0) where
   expr_layer_uses (ex.Element span a i) h = both_uses P (expr_uses a.0) (expr_uses i.0) (a.1 h.1.0).uses_at (i.1 h.1.1).uses_at
   expr_layer_uses (ex.As span a w) h = both_uses P (expr_uses a.0) (type_uses w.0) (a.1 h.1.0).uses_at (w.1 h.1.1).uses_at
   expr_layer_uses (ex.In span a p) h = both_uses P (expr_uses a.0) (pattern_uses p.0) (a.1 h.1.0).uses_at (p.1 h.1.1).uses_at
+
   given_layer_uses : (y : ex.FieldValue-F BB CC EE FF PP SS TT) → Each P (in_field (spans_of_given (given_trees y))) → UsesAt P (uses_in_field (uses_of_given (given_trees y)))
   given_layer_uses (ex.Given i e) h = (e.1 h.1).uses_at
+
   pattern_layer_uses : (y : ex.Pattern-F BB CC EE FF PP SS TT) → Each P (in_pattern (spans_of_pattern (pattern_trees y))) → UsesAt P (uses_in_pattern (uses_of_pattern (pattern_trees y)))
   pattern_layer_uses (ex.AnyPattern span) h = tt
   pattern_layer_uses (ex.SetPattern span b ps) h = uses_there pattern_uses PatternHas (map (λ x. x.0) ps) (λ x k. k.uses_at) (all_have pattern_spans PatternHas ps h.1)
@@ -316,11 +320,13 @@ module _ (t : Tests) (P : Span → Type 0) where
   pattern_layer_uses (ex.TuplePattern span ps) h = uses_there pattern_uses PatternHas (map (λ x. x.0) ps) (λ x k. k.uses_at) (all_have pattern_spans PatternHas ps h.1)
   pattern_layer_uses (ex.ValuePattern span e) h = (e.1 h.1).uses_at
   pattern_layer_uses (ex.RangePattern span a b) h = both_uses P (expr_uses a.0) (expr_uses b.0) (a.1 h.1.0).uses_at (b.1 h.1.1).uses_at
+
   slice_layer_uses : (y : ex.Slice-F BB CC EE FF PP SS TT) → Each P (in_slice (spans_of_slice (slice_trees y))) → UsesAt P (uses_in_slice (uses_of_slice (slice_trees y)))
   slice_layer_uses (ex.BitAt e) h = (e.1 h).uses_at
   slice_layer_uses (ex.HighLow a b) h = both_uses P (expr_uses a.0) (expr_uses b.0) (a.1 h.0).uses_at (b.1 h.1).uses_at
   slice_layer_uses (ex.LowWidth a b) h = both_uses P (expr_uses a.0) (expr_uses b.0) (a.1 h.0).uses_at (b.1 h.1).uses_at
   slice_layer_uses (ex.FactorWidth a b) h = both_uses P (expr_uses a.0) (expr_uses b.0) (a.1 h.0).uses_at (b.1 h.1).uses_at
+
   type_layer_uses : (y : ex.TypeExpr-F BB CC EE FF PP SS TT) → Each P (in_type (spans_of_type (type_trees y))) → UsesAt P (uses_in_type (uses_of_type (type_trees y)))
   type_layer_uses (ex.IntegerType span ps) h = uses_there part_uses PartHas (map (λ x. x.0) ps) (λ x k. k.uses_at) (all_have part_spans PartHas ps h.1)
   type_layer_uses (ex.BooleanType span) h = tt
@@ -329,14 +335,17 @@ module _ (t : Tests) (P : Span → Type 0) where
   type_layer_uses (ex.BitsType span e fs) h = both_uses P (expr_uses e.0) (joined_uses (map bitfield_uses (map (λ x. x.0) fs))) (e.1 h.1.0).uses_at (uses_there bitfield_uses BitfieldHas (map (λ x. x.0) fs) (λ x k. k.uses_at) (all_have bitfield_spans BitfieldHas fs h.1.1))
   type_layer_uses (ex.TupleType span ts) h = uses_there type_uses TypeHas (map (λ x. x.0) ts) (λ x k. k.uses_at) (all_have type_spans TypeHas ts h.1)
   type_layer_uses (ex.ArrayType span e w) h = both_uses P (expr_uses e.0) (type_uses w.0) (e.1 h.1.0).uses_at (w.1 h.1.1).uses_at
+
   -- ---- the values of each layer
 
   bitfield_layer_ends : (y : ex.Bitfield-F BB CC EE FF PP SS TT) → Each P (in_bitfield (spans_of_bitfield (bitfield_trees y))) → ExprsEnd P (bitfield_opened t.limit (bitfield_trees y))
   bitfield_layer_ends (ex.OneBit e i) h = ((e.1 h.0).known_at, tt)
   bitfield_layer_ends (ex.BitRange a b i) h = ((a.1 h.0).known_at, ((b.1 h.1.0).known_at, tt))
+
   part_layer_ends : (y : ex.ConstraintPart-F BB CC EE FF PP SS TT) → Each P (in_part (spans_of_part (part_trees y))) → ExprsEnd P (range_opened t.limit (part_trees y))
   part_layer_ends (ex.Only e) h = ((e.1 h).known_at, tt)
   part_layer_ends (ex.FromTo a b) h = ((a.1 h.0).known_at, ((b.1 h.1).known_at, tt))
+
   expr_layer_ends : (y : ex.Expr-F BB CC EE FF PP SS TT) → Each P (in_expr (spans_of_expr (expr_trees y))) → KnownEnds P (constant_layer t.limit (known_layer t.limit (expr_trees y)))
   expr_layer_ends (ex.Int span n) h names = once_ends P t.limit span names (literal span n) (search ends)
   expr_layer_ends (ex.Bits span text) h names = once_ends P t.limit span names (literal_bits t.limit span text) (search ends)
@@ -363,8 +372,10 @@ module _ (t : Tests) (P : Span → Type 0) where
       more_end P t.limit span names (constant t.limit a.0) (known_type t.limit w.0).exprs (λ x zs. converted t.limit span ((known_type t.limit w.0).shape (types_among names)) zs x) (a.1 h.1.0).known_at (w.1 h.1.1).exprs_at (λ x zs. converted_ends P t.limit span ((known_type t.limit w.0).shape (types_among names)) zs x h.0)
   expr_layer_ends (ex.In span a p) h names =
       more_end P t.limit span names (constant t.limit a.0) (known_pattern t.limit p.0).exprs (λ x zs. matched_in t.limit (known_pattern t.limit p.0).shape zs x) (a.1 h.1.0).known_at (p.1 h.1.1).exprs_at (λ x zs. matched_ends P t.limit (known_pattern t.limit p.0).shape zs x (p.1 h.1.1).shape_at)
+
   given_layer_ends : (y : ex.FieldValue-F BB CC EE FF PP SS TT) → Each P (in_field (spans_of_given (given_trees y))) → ExprsEnd P (given_opened t.limit (given_trees y))
   given_layer_ends (ex.Given i e) h = ((e.1 h.1).known_at, tt)
+
   pattern_layer_ends : (y : ex.Pattern-F BB CC EE FF PP SS TT) → Each P (in_pattern (spans_of_pattern (pattern_trees y))) → ExprsEnd P (pattern_opened t.limit (pattern_trees y))
   pattern_layer_ends (ex.AnyPattern span) h = tt
   pattern_layer_ends (ex.SetPattern span b ps) h = shaped_there pattern_spans (known_pattern t.limit) PatternHas ps (λ x k. k.exprs_at) h.1
@@ -374,11 +385,13 @@ module _ (t : Tests) (P : Span → Type 0) where
   pattern_layer_ends (ex.TuplePattern span ps) h = shaped_there pattern_spans (known_pattern t.limit) PatternHas ps (λ x k. k.exprs_at) h.1
   pattern_layer_ends (ex.ValuePattern span e) h = ((e.1 h.1).known_at, tt)
   pattern_layer_ends (ex.RangePattern span a b) h = ((a.1 h.1.0).known_at, ((b.1 h.1.1).known_at, tt))
+
   slice_layer_ends : (y : ex.Slice-F BB CC EE FF PP SS TT) → Each P (in_slice (spans_of_slice (slice_trees y))) → ExprsEnd P (slice_opened t.limit (slice_trees y))
   slice_layer_ends (ex.BitAt e) h = ((e.1 h).known_at, tt)
   slice_layer_ends (ex.HighLow a b) h = ((a.1 h.0).known_at, ((b.1 h.1).known_at, tt))
   slice_layer_ends (ex.LowWidth a b) h = ((a.1 h.0).known_at, ((b.1 h.1).known_at, tt))
   slice_layer_ends (ex.FactorWidth a b) h = ((a.1 h.0).known_at, ((b.1 h.1).known_at, tt))
+
   type_layer_ends : (y : ex.TypeExpr-F BB CC EE FF PP SS TT) → Each P (in_type (spans_of_type (type_trees y))) → ExprsEnd P (type_opened t.limit (type_trees y))
   type_layer_ends (ex.IntegerType span ps) h = shaped_there part_spans (known_part t.limit) PartHas ps (λ x k. k.exprs_at) h.1
   type_layer_ends (ex.BooleanType span) h = tt
@@ -387,6 +400,7 @@ module _ (t : Tests) (P : Span → Type 0) where
   type_layer_ends (ex.BitsType span e fs) h = ((e.1 h.1.0).known_at, shaped_there bitfield_spans (known_bitfield t.limit) BitfieldHas fs (λ x k. k.exprs_at) h.1.1)
   type_layer_ends (ex.TupleType span ts) h = shaped_there type_spans (known_type t.limit) TypeHas ts (λ x k. k.exprs_at) h.1
   type_layer_ends (ex.ArrayType span e w) h = ((e.1 h.1.0).known_at, (w.1 h.1.1).exprs_at)
+
   pattern_layer_shape : (y : ex.Pattern-F BB CC EE FF PP SS TT) → Each P (in_pattern (spans_of_pattern (pattern_trees y))) → ShapeStands P (pattern_opened t.limit (pattern_trees y)).shape
   pattern_layer_shape (ex.AnyPattern span) h = tt
   pattern_layer_shape (ex.SetPattern span b ps) h = shapes_there ps h.1

@@ -1,5 +1,5 @@
 -- The trees of a file hold what is asked of them, where each rule of the grammar makes this of parts that lie inside the file.
-use Rattle.std.proofs.Common.{◌≡◌, ℕ, zero, suc, ◌≤◌, List, length, arith}
+use Rattle.std.proofs.Common.{ℕ, zero, suc, List, length, arith}
 use Rattle.asl_syn.specs.declared.token.Token.{Token}
 use Rattle.asl_syn.specs.declared.tree.Decl.{Decl}
 use Rattle.asl_grammar.specs.lexemes.Tokens.{Tokens}

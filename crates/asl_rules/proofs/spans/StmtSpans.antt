@@ -142,13 +142,17 @@ module _ (t : Tests) (P : Span → Type 0) where
 
   alternative_layer : (y : st.Alternative-F AA CC BB OO SS) → Each P (in_alternative (spans_of_alternative (alternative_trees y))) → AlternativeStands t P (alternative_found (alternative_opened (alternative_trees y)))
   alternative_layer (st.When ps e ss) h = record { patterns_at = patterns_there ps h.0; condition_at = maybe_there e h.1.0; body_at = all_stand t P stmt_spans (found_stmt t) (StmtStands t P) ss h.1.1 }
+
   catcher_layer : (y : st.Catcher-F AA CC BB OO SS) → Each P (in_catcher (spans_of_catcher (catcher_trees y))) → CatcherStands t P (catcher_found (catcher_opened (catcher_trees y)))
   catcher_layer (st.Catch i ty ss) h = record { name_at = maybe_named i h.0; ty_at = h.1.0; body_at = all_stand t P stmt_spans (found_stmt t) (StmtStands t P) ss h.1.1 }
+
   branch_layer : (y : st.ElseIf-F AA CC BB OO SS) → Each P (in_branch (spans_of_branch (branch_trees y))) → BranchStands t P (branch_found (branch_opened (branch_trees y)))
   branch_layer (st.ElseIf c ss) h = record { condition_at = expr_there t P c h.0; body_at = all_stand t P stmt_spans (found_stmt t) (StmtStands t P) ss h.1 }
+
   otherwise_layer : (y : st.Otherwise-F AA CC BB OO SS) → Each P (in_otherwise (spans_of_otherwise (otherwise_trees y))) → LastStands t P (otherwise_found (otherwise_opened (otherwise_trees y)))
   otherwise_layer st.NoOtherwise h = tt
   otherwise_layer (st.Otherwise ss) h = all_stand t P stmt_spans (found_stmt t) (StmtStands t P) ss h
+
   stmt_layer : (y : st.Stmt-F AA CC BB OO SS) → Each P (in_stmt (spans_of_stmt (stmt_trees y))) → StmtStands t P (stmt_layer_rule t (stmt_opened (stmt_trees y)))
   stmt_layer (st.Pass span) h = record { stmt_at = λ B. tt }
   stmt_layer (st.Unreachable span) h = record { stmt_at = λ B. tt }
@@ -158,8 +162,10 @@ module _ (t : Tests) (P : Span → Type 0) where
   stmt_layer (st.LocalVars span is ty) h = record { stmt_at = λ B. vars_stand t P span is ty B.scope (names_stand t P is h.1.0) (type_there t P ty h.1.1) }
   stmt_layer (st.Assign span target e) h = record { stmt_at = λ B. assign_stands t P span target e B.scope h.0 h.1.0 (expr_there t P e h.1.1) }
   stmt_layer (st.Invoke span i ps es) h = record { stmt_at = λ B. bound P (procedure_rule t span i (map (found t) ps) (map (found t) es) B.scope) _ (procedure_call_stands t P span i (map (found t) ps) (map (found t) es) B.scope h.0 h.1.0 (exprs_there ps h.1.1.0) (exprs_there es h.1.1.1)) (λ c. tt) }
-  stmt_layer (st.If span c first others last) h = record { stmt_at = λ B. if_stands t P span c (map (found_stmt t) (map (λ x. x.0) first)) (map found_branch (map (λ x. x.0) others)) (map (found_stmt t) (map (λ x. x.0) last)) B h.0 (expr_there t P c h.1.0)
-      (all_stand t P stmt_spans (found_stmt t) (StmtStands t P) first h.1.1.0) (all_stand t P branch_spans found_branch (BranchStands t P) others h.1.1.1.0) (all_stand t P stmt_spans (found_stmt t) (StmtStands t P) last h.1.1.1.1) }
+  stmt_layer (st.If span c first others last) h = record {
+    stmt_at = λ B. if_stands t P span c (map (found_stmt t) (map (λ x. x.0) first)) (map found_branch (map (λ x. x.0) others)) (map (found_stmt t) (map (λ x. x.0) last)) B h.0 (expr_there t P c h.1.0)
+        (all_stand t P stmt_spans (found_stmt t) (StmtStands t P) first h.1.1.0) (all_stand t P branch_spans found_branch (BranchStands t P) others h.1.1.1.0) (all_stand t P stmt_spans (found_stmt t) (StmtStands t P) last h.1.1.1.1);
+  }
   stmt_layer (st.Case span e first last) h = record { stmt_at = λ B. case_stands t P span e (map found_alternative (map (λ x. x.0) first)) (found_otherwise last.0) B h.0 (expr_there t P e h.1.0) (all_stand t P alternative_spans found_alternative (AlternativeStands t P) first h.1.1.0) (last.1 h.1.1.1) }
   stmt_layer (st.For span i a d b limit ss) h = record { stmt_at = λ B. for_stands t P span i a d b limit (map (found_stmt t) (map (λ x. x.0) ss)) B h.0 h.1.0 (expr_there t P a h.1.1.0) (expr_there t P b h.1.1.1.0) (maybe_there limit h.1.1.1.1.0) (all_stand t P stmt_spans (found_stmt t) (StmtStands t P) ss h.1.1.1.1.1) }
   stmt_layer (st.While span c limit ss) h = record { stmt_at = λ B. while_stands t P span c limit (map (found_stmt t) (map (λ x. x.0) ss)) B h.0 (expr_there t P c h.1.0) (maybe_there limit h.1.1.0) (all_stand t P stmt_spans (found_stmt t) (StmtStands t P) ss h.1.1.1) }
@@ -167,6 +173,7 @@ module _ (t : Tests) (P : Span → Type 0) where
   stmt_layer (st.Return span e) h = record { stmt_at = λ B. return_stands t P span e B.scope B.result h.0 (maybe_there e h.1) }
   stmt_layer (st.Throw span e) h = record { stmt_at = λ B. throw_stands t P span e B h.0 (maybe_there e h.1) }
   stmt_layer (st.Try span ss cs last) h = record { stmt_at = λ B. try_stands t P span (map (found_stmt t) (map (λ x. x.0) ss)) (map found_catcher (map (λ x. x.0) cs)) (found_otherwise last.0) B h.0 (all_stand t P stmt_spans (found_stmt t) (StmtStands t P) ss h.1.0) (all_stand t P catcher_spans found_catcher (CatcherStands t P) cs h.1.1.0) (last.1 h.1.1.1) }
+
   -- ---- by induction over trees
 
   alternative_step : (x : st.Alternative-F Alternative Catcher ElseIf Otherwise Stmt) (y : st.Alternative-F AA CC BB OO SS) → alternative_trees y ≡ x → AlternativeGood (roll-Alternative x)
