@@ -1,6 +1,7 @@
 pub mod basics
 pub mod runs
 pub mod constants
+pub mod spans
 pub mod verdict
 pub mod widths
 pub mod values
