@@ -1,7 +1,6 @@
 pub mod basics
 pub mod runs
 pub mod constants
-pub mod spans
 pub mod verdict
 pub mod widths
 pub mod values
@@ -9,5 +8,4 @@ pub mod scopes
 pub mod expressions
 pub mod statements
 pub mod calls
-pub mod codes
 pub mod soundness

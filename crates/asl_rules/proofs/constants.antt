@@ -1,7 +1,6 @@
 -- Expressions before any run: a run gives what the evaluation of constants gives.
 pub mod KnownParts
 pub mod KnownTwins
-pub mod NoCalls
 pub mod KnownRuns
 pub mod KnownEnough
 pub mod KnownStart

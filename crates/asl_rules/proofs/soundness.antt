@@ -7,6 +7,4 @@ pub mod SoundnessEnds
 pub mod SoundnessHeads
 pub mod SoundnessCalls
 pub mod Soundness
-pub mod NeverStuck
-pub mod FaultCauses
 pub mod SoundnessEntry

@@ -68,7 +68,6 @@ pub mod Words
 pub mod Visits
 pub mod OneRun
 pub mod BeforeRuns
-pub mod Evaluated
 pub mod Described
 pub mod ByPlace
 pub mod TypedMeaning

@@ -1,19 +1,15 @@
 //! The laws of the definitions, each as the contract of a function without parameters.
 #![tactic(auto)]
 
-ghost use Rattle.std.specs.Prelude.{◌≡◌, ℕ, List, [], Ok, Option};
+ghost use Rattle.std.specs.Prelude.{◌≡◌, ℕ, List, Ok, Option};
 ghost use Rattle.asl_grammar.specs.Reading.{File, Reads};
 ghost use Rattle.asl_rules.specs.declared.entry.Entry.{Entry};
 ghost use Rattle.asl_rules.specs.Agreement.{types_in};
 ghost use Rattle.asl_rules.specs.Answers.{OneAnswer};
-ghost use Rattle.asl_rules.specs.Programs.{Environment, Accepted, ProgramOk, FaultOf};
+ghost use Rattle.asl_rules.specs.Programs.{Environment, Accepted, ProgramOk};
 ghost use Rattle.asl_rules.specs.Soundness.{Soundness, SameMeaning};
-ghost use Rattle.asl_syn.specs.declared.code.Fault.{Fault};
-ghost use Rattle.asl_syn.specs.declared.code.StaticCode.TheVariants.{T04};
 ghost use Rattle.asl_syn.specs.declared.tree.Decl.{Decl};
-ghost use Rattle.asl_rules.specs.Tests.{Tests, IsRight};
-ghost use Rattle.asl_rules.specs.Names.{names_rule, all_declared};
-ghost use Rattle.asl_rules.specs.Evaluated.{Evaluates, HasCause};
+ghost use Rattle.asl_rules.specs.Tests.{Tests};
 ghost use Rattle.asl_rules.specs.OneRun.{OneRun};
 ghost use Rattle.asl_rules.specs.Types.{Ty, kind, kind_eq, same_kind};
 ghost use Rattle.asl_rules.specs.WellFormed.{Shaped, WellDeclared};
@@ -30,14 +26,10 @@ pub fn law1()
 {}
 
 /// One answer: files, each entry and each width limit have exactly one of these, a program that is well formed or one
-/// single fault. What the rules evaluate before any run, of declarations whose names are apart, is never stuck: it gives
-/// a value of its type, or has a dynamic fault. So a fault of the code T04 that is met after reading has its dynamic code,
-/// or stands at a call or a global `var` in an initialiser or in the limit of a subprogram.
-#[tactic(auto)]
+/// single fault.
+#[tactic(auto, using(crate::proofs::verdict::OneVerdict::one_answer))]
 pub fn law2()
-    ensures one { (limit : ℕ) (e : Entry) (files : List File) → OneAnswer limit e files }
-    ensures evaluates { (t : Tests) → IsRight t → (files : List File) (ds : List Decl) → Reads files (Ok ds) → names_rule [] (all_declared ds) ≡ Ok tt → Evaluates t ds }
-    ensures cause { (limit : ℕ) (e : Entry) (files : List File) (ds : List Decl) (f : Fault) → Reads files (Ok ds) → (p : FaultOf limit e ds f) → f.code ≡ T04 → HasCause p.tests ds f }
+    ensures { (limit : ℕ) (e : Entry) (files : List File) → OneAnswer limit e files }
 {}
 
 /// Soundness: no run of a well-formed program is stuck. Each state that it visits is sound, each node that it visits was
