@@ -8,7 +8,7 @@ import os
 import re
 import sys
 
-from generate import HERE, RULES, SECTIONS
+from rules import HERE, RULES, SECTIONS
 
 PAGE = os.path.normpath(os.path.join(HERE, '..', '..', 'docs', 'grammar.md'))
 

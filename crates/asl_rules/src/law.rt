@@ -1,11 +1,10 @@
-//! The laws of the definitions, each as the contract of a function without parameters.
+//! The laws of the definitions, each as the contract of a function without parameters; law 2 is that of `asl_verdict`.
 #![tactic(auto)]
 
 ghost use Rattle.std.specs.Prelude.{◌≡◌, ℕ, List, Ok, Option};
 ghost use Rattle.asl_grammar.specs.Reading.{File, Reads};
 ghost use Rattle.asl_rules.specs.declared.entry.Entry.{Entry};
 ghost use Rattle.asl_rules.specs.Agreement.{types_in};
-ghost use Rattle.asl_rules.specs.Answers.{OneAnswer};
 ghost use Rattle.asl_rules.specs.Programs.{Environment, Accepted, ProgramOk};
 ghost use Rattle.asl_rules.specs.Soundness.{Soundness, SameMeaning};
 ghost use Rattle.asl_syn.specs.declared.tree.Decl.{Decl};
@@ -23,13 +22,6 @@ ghost use Rattle.asl_rules.specs.BeforeRuns.{BeginsSo};
 pub fn law1()
     ensures one { (env : Environment) → OneRun env }
     ensures start { (t : Tests) (ds : List Decl) → BeginsSo t ds }
-{}
-
-/// One answer: files, each entry and each width limit have exactly one of these, a program that is well formed or one
-/// single fault.
-#[tactic(auto, using(crate::proofs::verdict::OneVerdict::one_answer))]
-pub fn law2()
-    ensures { (limit : ℕ) (e : Entry) (files : List File) → OneAnswer limit e files }
 {}
 
 /// Soundness: no run of a well-formed program is stuck. Each state that it visits is sound, each node that it visits was

@@ -19,17 +19,17 @@ use Rattle.asl_rules.proofs.constants.KnownTwins.{IsCall, Twin, PlansTwin, of_al
 use Rattle.asl_rules.proofs.constants.KnownRuns.{node_before}
 use Rattle.asl_rules.specs.Exprs.{span_of}
 
-module _ (env : Environment) (c : Core) (holds : HoldsInitial env c) where
-  -- a run ends as was known, and takes no more than n steps
-  abbrev Costs : {A : Type 0} → ℕ → Pure A → Meter → Outcome Core A → Type 0
+module _ (env : Environment) (c : Core) (K : Type 0) where
+  -- a run ends as was known, and takes no more than n steps, or there is a call, which may be where K holds
+  abbrev pub Costs : {A : Type 0} → ℕ → Pure A → Meter → Outcome Core A → Type 0
   Costs n (Good x) h r = (h1 : Meter) × ((r ≡ Done x c h1) × (h.steps ≤ h1.steps + n))
-  Costs n (Bad e) h r = ((h1 : Meter) × (r ≡ Halt e c h1)) ⊎ IsBarred e
+  Costs n (Bad e) h r = ((h1 : Meter) × (r ≡ Halt e c h1)) ⊎ (IsBarred e × K)
 
-  record Bound {A : Type 0} (p : Pure A) (f : ℕ → Meter → Outcome Core A) : Type 0 where
-    n : ℕ
-    cost : (d : ℕ) (h : Meter) → n ≤ d → n ≤ h.steps → Costs n p h (f d h)
+  pub record Bound {A : Type 0} (p : Pure A) (f : ℕ → Meter → Outcome Core A) : Type 0 where
+    pub n : ℕ
+    pub cost : (d : ℕ) (h : Meter) → n ≤ d → n ≤ h.steps → Costs n p h (f d h)
 
-  abbrev Bounded : Expr → Type 0
+  abbrev pub Bounded : Expr → Type 0
   Bounded e = Bound (constant env.limit e env.names) (λ d h. (meaning env d).expr e c h)
 
   behind_steps : {A : Type 0} (p : Pure A) (h h1 : Meter) (m k : ℕ) (r : Outcome Core A) → h.steps ≤ h1.steps + m → Costs k p h1 r → Costs (m + k) p h r
@@ -53,11 +53,11 @@ module _ (env : Environment) (c : Core) (holds : HoldsInitial env c) where
     ];
   }
 
-  barred_bound : {A B : Type 0} (span : Span) (q : Plan (List Entry) Known Known B) (f : B → Pure A) (r : ℕ → Meter → Outcome Core A) → IsCall q → Bound (settled span env.names q >>= f) r
+  barred_bound : {A B : Type 0} (span : Span) (q : Plan (List Entry) Known Known B) (f : B → Pure A) (r : ℕ → Meter → Outcome Core A) → IsCall q × K → Bound (settled span env.names q >>= f) r
   barred_bound span (Stop e n) f r w = record { n = 0; cost = λ d h i j. inr w }
-  barred_bound span q f r w = absurd w
+  barred_bound span q f r w = absurd w.0
 
-  plan_bound : {A : Type 0} (span : Span) (p : Plan Core Expr Stmt A) (q : Plan (List Entry) Known Known A) → Twin env c Bounded p q → Bound (settled span env.names q) (λ d h. run (meaning env d) p h)
+  plan_bound : {A : Type 0} (span : Span) (p : Plan Core Expr Stmt A) (q : Plan (List Entry) Known Known A) → Twin env c Bounded K p q → Bound (settled span env.names q) (λ d h. run (meaning env d) p h)
   plan_bound span (Ret x s) (Ret y n) t = record { n = 0; cost = λ d h i j. (h, (ap₂ (λ a b. Done a b h) t.1 t.0, omega arith)) }
   plan_bound span (Stop e s) (Stop f n) t = record { n = 0; cost = λ d h i j. inl (h, ap₂ (λ a b. Halt a b h) t.1 t.0) }
   plan_bound span (Eval e s k) (Eval f n l) t =
@@ -73,7 +73,7 @@ module _ (env : Environment) (c : Core) (holds : HoldsInitial env c) where
       subst (λ z. Costs (1 + n) p h z) (sym (enter_some span false c h go (λ (z : h.steps ≡ 0). omega (arith, i, z))))
       (behind_steps p h (record h { steps = h.steps - 1 }) 1 n (go (record h { steps = h.steps - 1 })) (omega arith) w)
 
-  node_bound : (e : Expr) → PlansTwin env c Bounded (out-Expr e) → Bounded e
+  pub node_bound : (e : Expr) → PlansTwin env c Bounded K (out-Expr e) → Bounded e
   node_bound e w =
       let b = subst (λ (k : Known). Bound (k env.names) (λ d h. run (meaning env d) (expr_plan (in_state env) tree_parts (out-Expr e) c) h)) (sym (constant_out env.limit e))
       (plan_bound (span_of (known_layer env.limit (out-Expr e))) (expr_plan (in_state env) tree_parts (out-Expr e) c) (expr_plan (before_runs env.limit) known_parts (known_layer env.limit (out-Expr e)) env.names) w) in
@@ -83,15 +83,25 @@ module _ (env : Environment) (c : Core) (holds : HoldsInitial env c) where
       node_cost e b zero h i j = absurd (omega (arith, i))
       node_cost e b (suc d) h i j = entered_cost (constant env.limit e env.names) (expr_span e) b.n h (run (meaning env d) (expr_plan (in_state env) tree_parts (out-Expr e) c)) (omega (arith, j)) (b.cost d (record h { steps = h.steps - 1 }) (omega (arith, i)) (omega (arith, j)))
 
-  bounded : (e : Expr) → Bounded e
-  bounded = of_all env c Bounded holds node_bound
+  ends_by : {A : Type 0} (n : ℕ) (p : Pure A) (h : Meter) (r : Outcome Core A) → Costs n p h r → EndsSo c p r ⊎ (HoldsCall p × K)
+  ends_by n (Good x) h r w = inl (w.0, w.1.0)
+  ends_by n (Bad e) h r w = w
 
-  ends_so : {A : Type 0} (n : ℕ) (p : Pure A) (h : Meter) (r : Outcome Core A) → Costs n p h r → EndsSo c p r ⊎ HoldsCall p
-  ends_so n (Good x) h r w = inl (w.0, w.1.0)
-  ends_so n (Bad e) h r w = w
+  pub ends_so : (e : Expr) (b : Bounded e) (d : ℕ) (h : Meter) → b.n ≤ d → b.n ≤ h.steps → EndsSo c (constant env.limit e env.names) ((meaning env d).expr e c h) ⊎ (HoldsCall (constant env.limit e env.names) × K)
+  ends_so e b d h i j = ends_by b.n (constant env.limit e env.names) h ((meaning env d).expr e c h) (b.cost d h i j)
+
+module _ (env : Environment) (c : Core) (holds : HoldsInitial env c) where
+  bounded : (e : Expr) → Bounded env c (Unit {0}) e
+  bounded = of_all env c (Bounded env c (Unit {0})) (Unit {0}) holds tt (node_bound env c (Unit {0}))
 
   pub enough : (e : Expr) → Enough env c e
-  enough e = record { nodes = (bounded e).n; ends = λ d h i j. ends_so (bounded e).n (constant env.limit e env.names) h ((meaning env d).expr e c h) ((bounded e).cost d h i j) }
+  enough e = record {
+    nodes = (bounded e).n;
+    ends = λ d h i j. elim (ends_so env c (Unit {0}) e (bounded e) d h i j) [
+      | inl s ↦ inl s
+      | inr s ↦ inr s.0
+    ];
+  }
 
 pub one_evaluation : (env : Environment) → OneEvaluation env
 one_evaluation env = record { agrees = λ d e c h holds. node_before env c holds e d h; enough = λ e c holds. enough env c holds e }

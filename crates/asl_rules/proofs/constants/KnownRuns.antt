@@ -35,14 +35,14 @@ module _ (env : Environment) (c : Core) where
   abbrev Before : Expr → Type 0
   Before e = (d : ℕ) (h : Meter) → AsBefore c (constant env.limit e env.names) ((meaning env d).expr e c h)
 
-  run_before : (d : ℕ) {A : Type 0} (span : Span) (p : Plan Core Expr Stmt A) (q : Plan (List Entry) Known Known A) → Twin env c Before p q → (h : Meter) → AsBefore c (settled span env.names q) (run (meaning env d) p h)
+  run_before : (d : ℕ) {A : Type 0} (span : Span) (p : Plan Core Expr Stmt A) (q : Plan (List Entry) Known Known A) → Twin env c Before (Unit {0}) p q → (h : Meter) → AsBefore c (settled span env.names q) (run (meaning env d) p h)
   run_before d span (Ret x s) (Ret y n) t h = inl (h, ap₂ (λ a b. Done a b h) t.1 t.0)
   run_before d span (Stop e s) (Stop f n) t h = inl (h, ap₂ (λ a b. Halt a b h) t.1 t.0)
   run_before d span (Eval e s k) (Eval f n l) t h =
       subst (λ z. AsBefore c (settled span env.names (Eval f n l)) (run (meaning env d) (Eval e z k) h)) (sym t.0)
       (subst (λ y. AsBefore c (settled span env.names (Eval y n l)) (run (meaning env d) (Eval e c k) h)) (sym t.1.0)
       (next_before (constant env.limit e env.names) ((meaning env d).expr e c h) (λ x. settled span env.names (l x env.names)) (λ x c1 h1. run (meaning env d) (k x c1) h1) (t.1.1.0 d h) (λ x h1. run_before d span (k x c) (l x env.names) (t.1.1.1 x) h1)))
-  run_before d span (Within p f g) (Within q f1 g1) t h = inr (inr (call_barred span q (λ x. settled span env.names (f1 x env.names)) t))
+  run_before d span (Within p f g) (Within q f1 g1) t h = inr (inr (call_barred span q (λ x. settled span env.names (f1 x env.names)) t.0))
   run_before d span p q t h = absurd t
 
   full_out : {A : Type 0} (span : Span) (h : Meter) (r : Outcome Core A) (b : Bool) → RanOut (cond b (Halt (Faulted D13 span) c h) (cond true (Halt (Faulted D12 span) c h) r))
@@ -54,9 +54,9 @@ module _ (env : Environment) (c : Core) where
   entered_before p span h go k false = k (record h { steps = h.steps - 1 })
 
   pub node_before : HoldsInitial env c → (e : Expr) → Before e
-  node_before holds = of_all env c Before holds node
+  node_before holds = of_all env c Before (Unit {0}) holds tt node
     where
-      node : (e : Expr) → PlansTwin env c Before (out-Expr e) → Before e
+      node : (e : Expr) → PlansTwin env c Before (Unit {0}) (out-Expr e) → Before e
       node e w zero h = inr (inl (full_out (expr_span e) h (Halt (Faulted D12 (expr_span e)) c (record h { steps = h.steps - 1 })) (h.steps == 0)))
       node e w (suc d) h = entered_before (constant env.limit e env.names) (expr_span e) h (run (meaning env d) (expr_plan (in_state env) tree_parts (out-Expr e) c))
           (λ h1. subst (λ k. AsBefore c (k env.names) (run (meaning env d) (expr_plan (in_state env) tree_parts (out-Expr e) c) h1)) (sym (constant_out env.limit e))

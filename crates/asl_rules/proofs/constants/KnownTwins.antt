@@ -65,13 +65,13 @@ all_here : (P : Expr → Type 0) (es : List ((e : Expr) × P e)) → AllOf P (ma
 all_here P [] = tt
 all_here P (e ∷ es) = (e.1, all_here P es)
 
-module _ (env : Environment) (c : Core) (P : Expr → Type 0) where
-  -- the plan of a run, and one before any run, over the same expressions, each of which has P, where the state stays as it is
+module _ (env : Environment) (c : Core) (P : Expr → Type 0) (K : Type 0) where
+  -- the plan of a run, and one before any run, over the same expressions, each of which has P, where the state stays as it is; there are calls only where K holds
   abbrev pub Twin : {A : Type 0} → Plan Core Expr Stmt A → Plan (List Entry) Known Known A → Type 0
   Twin (Ret x d) (Ret y n) = (d ≡ c) × (x ≡ y)
   Twin (Stop e d) (Stop f n) = (d ≡ c) × (e ≡ f)
   Twin (Eval e d k) (Eval f n l) = (d ≡ c) × ((f ≡ constant env.limit e) × (P e × ((x : Value) → Twin (k x c) (l x env.names))))
-  Twin (Within p f g) (Within q f1 g1) = IsCall q
+  Twin (Within p f g) (Within q f1 g1) = IsCall q × K
   Twin p q = ⊥
 
   -- ---- the forms
@@ -118,22 +118,22 @@ module _ (env : Environment) (c : Core) (P : Expr → Type 0) where
 
   -- ---- the expressions in parts of trees have it
 
-  abbrev OfBitfield : Bitfield → Type 0
+  abbrev pub OfBitfield : Bitfield → Type 0
   OfBitfield b = AllOf P ((bitfield_parts b).exprs)
 
-  abbrev OfPart : ConstraintPart → Type 0
+  abbrev pub OfPart : ConstraintPart → Type 0
   OfPart p = AllOf P ((range_parts p).exprs)
 
-  abbrev OfField : FieldValue → Type 0
+  abbrev pub OfField : FieldValue → Type 0
   OfField f = AllOf P ((given_parts f).exprs)
 
-  abbrev OfPattern : Pattern → Type 0
+  abbrev pub OfPattern : Pattern → Type 0
   OfPattern p = AllOf P ((pattern_parts p).exprs)
 
-  abbrev OfSlice : Slice → Type 0
+  abbrev pub OfSlice : Slice → Type 0
   OfSlice s = AllOf P ((slice_parts s).exprs)
 
-  abbrev OfType : TypeExpr → Type 0
+  abbrev pub OfType : TypeExpr → Type 0
   OfType t = AllOf P ((type_parts t).exprs)
 
   abbrev BB : Type 0
@@ -157,75 +157,79 @@ module _ (env : Environment) (c : Core) (P : Expr → Type 0) where
   abbrev TT : Type 0
   TT = (x : TypeExpr) × OfType x
 
-  abbrev BitfieldBelow : Type 0
+  abbrev pub BitfieldBelow : Type 0
   BitfieldBelow = ex.Bitfield-F BB CC EE FF PP SS TT
 
-  abbrev bitfield_trees : BitfieldBelow → ex.Bitfield-F Bitfield ConstraintPart Expr FieldValue Pattern Slice TypeExpr
+  abbrev pub bitfield_trees : BitfieldBelow → ex.Bitfield-F Bitfield ConstraintPart Expr FieldValue Pattern Slice TypeExpr
   bitfield_trees = map-Bitfield BB CC EE FF PP SS TT Bitfield ConstraintPart Expr FieldValue Pattern Slice TypeExpr (λ x. x.0) (λ x. x.0) (λ x. x.0) (λ x. x.0) (λ x. x.0) (λ x. x.0) (λ x. x.0)
 
-  abbrev PartBelow : Type 0
+  abbrev pub PartBelow : Type 0
   PartBelow = ex.ConstraintPart-F BB CC EE FF PP SS TT
 
-  abbrev part_trees : PartBelow → ex.ConstraintPart-F Bitfield ConstraintPart Expr FieldValue Pattern Slice TypeExpr
+  abbrev pub part_trees : PartBelow → ex.ConstraintPart-F Bitfield ConstraintPart Expr FieldValue Pattern Slice TypeExpr
   part_trees = map-ConstraintPart BB CC EE FF PP SS TT Bitfield ConstraintPart Expr FieldValue Pattern Slice TypeExpr (λ x. x.0) (λ x. x.0) (λ x. x.0) (λ x. x.0) (λ x. x.0) (λ x. x.0) (λ x. x.0)
 
-  abbrev ExprBelow : Type 0
+  abbrev pub ExprBelow : Type 0
   ExprBelow = ex.Expr-F BB CC EE FF PP SS TT
 
-  abbrev expr_trees : ExprBelow → ex.Expr-F Bitfield ConstraintPart Expr FieldValue Pattern Slice TypeExpr
+  abbrev pub expr_trees : ExprBelow → ex.Expr-F Bitfield ConstraintPart Expr FieldValue Pattern Slice TypeExpr
   expr_trees = map-Expr BB CC EE FF PP SS TT Bitfield ConstraintPart Expr FieldValue Pattern Slice TypeExpr (λ x. x.0) (λ x. x.0) (λ x. x.0) (λ x. x.0) (λ x. x.0) (λ x. x.0) (λ x. x.0)
 
-  abbrev FieldBelow : Type 0
+  abbrev pub FieldBelow : Type 0
   FieldBelow = ex.FieldValue-F BB CC EE FF PP SS TT
 
-  abbrev field_trees : FieldBelow → ex.FieldValue-F Bitfield ConstraintPart Expr FieldValue Pattern Slice TypeExpr
+  abbrev pub field_trees : FieldBelow → ex.FieldValue-F Bitfield ConstraintPart Expr FieldValue Pattern Slice TypeExpr
   field_trees = map-FieldValue BB CC EE FF PP SS TT Bitfield ConstraintPart Expr FieldValue Pattern Slice TypeExpr (λ x. x.0) (λ x. x.0) (λ x. x.0) (λ x. x.0) (λ x. x.0) (λ x. x.0) (λ x. x.0)
 
-  abbrev PatternBelow : Type 0
+  abbrev pub PatternBelow : Type 0
   PatternBelow = ex.Pattern-F BB CC EE FF PP SS TT
 
-  abbrev pattern_trees : PatternBelow → ex.Pattern-F Bitfield ConstraintPart Expr FieldValue Pattern Slice TypeExpr
+  abbrev pub pattern_trees : PatternBelow → ex.Pattern-F Bitfield ConstraintPart Expr FieldValue Pattern Slice TypeExpr
   pattern_trees = map-Pattern BB CC EE FF PP SS TT Bitfield ConstraintPart Expr FieldValue Pattern Slice TypeExpr (λ x. x.0) (λ x. x.0) (λ x. x.0) (λ x. x.0) (λ x. x.0) (λ x. x.0) (λ x. x.0)
 
-  abbrev SliceBelow : Type 0
+  abbrev pub SliceBelow : Type 0
   SliceBelow = ex.Slice-F BB CC EE FF PP SS TT
 
-  abbrev slice_trees : SliceBelow → ex.Slice-F Bitfield ConstraintPart Expr FieldValue Pattern Slice TypeExpr
+  abbrev pub slice_trees : SliceBelow → ex.Slice-F Bitfield ConstraintPart Expr FieldValue Pattern Slice TypeExpr
   slice_trees = map-Slice BB CC EE FF PP SS TT Bitfield ConstraintPart Expr FieldValue Pattern Slice TypeExpr (λ x. x.0) (λ x. x.0) (λ x. x.0) (λ x. x.0) (λ x. x.0) (λ x. x.0) (λ x. x.0)
 
-  abbrev TypeBelow : Type 0
+  abbrev pub TypeBelow : Type 0
   TypeBelow = ex.TypeExpr-F BB CC EE FF PP SS TT
 
-  abbrev type_trees : TypeBelow → ex.TypeExpr-F Bitfield ConstraintPart Expr FieldValue Pattern Slice TypeExpr
+  abbrev pub type_trees : TypeBelow → ex.TypeExpr-F Bitfield ConstraintPart Expr FieldValue Pattern Slice TypeExpr
   type_trees = map-TypeExpr BB CC EE FF PP SS TT Bitfield ConstraintPart Expr FieldValue Pattern Slice TypeExpr (λ x. x.0) (λ x. x.0) (λ x. x.0) (λ x. x.0) (λ x. x.0) (λ x. x.0) (λ x. x.0)
 
-  layer_twin : HoldsInitial env c → (y : ExprBelow) → PlansTwin (expr_trees y)
-  layer_twin holds (ex.Int span n) = once_same (literal span n)
-  layer_twin holds (ex.Bits span t) = once_same (literal_bits env.limit span t)
-  layer_twin holds (ex.Bool span b) = (refl, refl)
-  layer_twin holds (ex.Name span name) = once_twin (known span (value_here env name c)) (known span (initial_value (standing_of name env.names))) (ap (known span) (holds name))
-  layer_twin holds (ex.Unary span o a) = behind_twin a.0 (unary_value span o) a.1
-  layer_twin holds (ex.Binary span o a b) = (refl, (refl, (a.1, λ x. left_twin span o b.0 x b.1 (strictness o))))
-  layer_twin holds (ex.Conditional span e a b) = (refl, (refl, (e.1, λ x. lift_twin (truth span x) (λ p. choose p (branch_value stripped a.0 c) (branch_value stripped b.0 c)) (λ p. choose p (branch_value stripped (constant env.limit a.0) env.names) (branch_value stripped (constant env.limit b.0) env.names)) (branch_twin a.0 b.0 a.1 b.1))))
-  layer_twin holds (ex.Tuple span es) = all_twin (map (λ e. e.0) es) [] _ _ (all_here P es) (λ xs. (refl, refl))
-  layer_twin holds (ex.Construct span i fs) =
+  abbrev pub MayCall : ExprBelow → Type 0
+  MayCall (ex.Call span i ps es) = K
+  MayCall y = Unit {0}
+
+  pub layer_twin : HoldsInitial env c → (y : ExprBelow) → MayCall y → PlansTwin (expr_trees y)
+  layer_twin holds (ex.Int span n) m = once_same (literal span n)
+  layer_twin holds (ex.Bits span t) m = once_same (literal_bits env.limit span t)
+  layer_twin holds (ex.Bool span b) m = (refl, refl)
+  layer_twin holds (ex.Name span name) m = once_twin (known span (value_here env name c)) (known span (initial_value (standing_of name env.names))) (ap (known span) (holds name))
+  layer_twin holds (ex.Unary span o a) m = behind_twin a.0 (unary_value span o) a.1
+  layer_twin holds (ex.Binary span o a b) m = (refl, (refl, (a.1, λ x. left_twin span o b.0 x b.1 (strictness o))))
+  layer_twin holds (ex.Conditional span e a b) m = (refl, (refl, (e.1, λ x. lift_twin (truth span x) (λ p. choose p (branch_value stripped a.0 c) (branch_value stripped b.0 c)) (λ p. choose p (branch_value stripped (constant env.limit a.0) env.names) (branch_value stripped (constant env.limit b.0) env.names)) (branch_twin a.0 b.0 a.1 b.1))))
+  layer_twin holds (ex.Tuple span es) m = all_twin (map (λ e. e.0) es) [] _ _ (all_here P es) (λ xs. (refl, refl))
+  layer_twin holds (ex.Construct span i fs) m =
       let gs = map (λ f. f.0) fs in
       let ks = map (known_given env.limit) gs in
       behind_all_twin (exprs_in given_parts gs) (exprs_in itself ks) (constructed span (types_of env i.text) (shapes_in given_parts gs)) (constructed span (types_of env i.text) (shapes_in itself ks))
       (all_in P given_parts fs) (parts_of env.limit (known_given env.limit) given_parts (given_known env.limit) gs) (λ xs. ap (λ hs. constructed span (types_of env i.text) hs xs) (sym (shapes_of env.limit (known_given env.limit) given_parts (given_known env.limit) gs)))
-  layer_twin holds (ex.Call span i ps es) = all_twin (map (λ e. e.0) ps) [] _ _ (all_here P ps) (λ ys. all_twin (map (λ e. e.0) es) [] _ _ (all_here P es) (λ xs. tt))
-  layer_twin holds (ex.Field span a i) = behind_twin a.0 (field_of span i.text) a.1
-  layer_twin holds (ex.Fields span a iss) = behind_twin a.0 (λ x. bitfields_named span iss x >>= λ fs. bitfields_of env.limit span fs x) a.1
-  layer_twin holds (ex.Slices span a ss) =
+  layer_twin holds (ex.Call span i ps es) m = all_twin (map (λ e. e.0) ps) [] _ _ (all_here P ps) (λ ys. all_twin (map (λ e. e.0) es) [] _ _ (all_here P es) (λ xs. (tt, m)))
+  layer_twin holds (ex.Field span a i) m = behind_twin a.0 (field_of span i.text) a.1
+  layer_twin holds (ex.Fields span a iss) m = behind_twin a.0 (λ x. bitfields_named span iss x >>= λ fs. bitfields_of env.limit span fs x) a.1
+  layer_twin holds (ex.Slices span a ss) m =
       let ts = map (λ s. s.0) ss in
       let ks = map (known_slice env.limit) ts in
       more_twin a.0 (exprs_in slice_parts ts) (exprs_in itself ks) (λ x zs. slices_of env.limit span (shapes_in slice_parts ts) zs x) (λ x zs. slices_of env.limit span (shapes_in itself ks) zs x)
       a.1 (all_in P slice_parts ss) (parts_of env.limit (known_slice env.limit) slice_parts (slice_known env.limit) ts) (λ x zs. ap (λ s. slices_of env.limit span s zs x) (sym (shapes_of env.limit (known_slice env.limit) slice_parts (slice_known env.limit) ts)))
-  layer_twin holds (ex.Element span a i) = (refl, (refl, (a.1, λ x. behind_twin i.0 (element_of span x) i.1)))
-  layer_twin holds (ex.As span a t) = more_twin a.0 ((type_parts t.0).exprs) ((known_type env.limit t.0).exprs)
+  layer_twin holds (ex.Element span a i) m = (refl, (refl, (a.1, λ x. behind_twin i.0 (element_of span x) i.1)))
+  layer_twin holds (ex.As span a t) m = more_twin a.0 ((type_parts t.0).exprs) ((known_type env.limit t.0).exprs)
       (λ x zs. converted env.limit span ((type_parts t.0).shape (types_of env)) zs x) (λ x zs. converted env.limit span ((known_type env.limit t.0).shape (types_of env)) zs x)
       a.1 t.1 (type_known env.limit t.0).exprs (λ x zs. ap (λ s. converted env.limit span s zs x) (sym ((type_known env.limit t.0).shape (types_of env))))
-  layer_twin holds (ex.In span a p) = more_twin a.0 ((pattern_parts p.0).exprs) ((known_pattern env.limit p.0).exprs)
+  layer_twin holds (ex.In span a p) m = more_twin a.0 ((pattern_parts p.0).exprs) ((known_pattern env.limit p.0).exprs)
       (λ x zs. matched_in env.limit ((pattern_parts p.0).shape) zs x) (λ x zs. matched_in env.limit ((known_pattern env.limit p.0).shape) zs x)
       a.1 p.1 (ap (λ s. s.exprs) (pattern_known env.limit p.0)) (λ x zs. ap (λ s. matched_in env.limit s zs x) (sym (ap (λ s. s.shape) (pattern_known env.limit p.0))))
 
@@ -233,20 +237,20 @@ module _ (env : Environment) (c : Core) (P : Expr → Type 0) where
   bitfield_has (ex.OneBit e i) = (e.1, tt)
   bitfield_has (ex.BitRange h l i) = (h.1, (l.1, tt))
 
-  bitfield_step : (x : ex.Bitfield-F Bitfield ConstraintPart Expr FieldValue Pattern Slice TypeExpr) (y : BitfieldBelow) → bitfield_trees y ≡ x → OfBitfield (roll-Bitfield x)
+  pub bitfield_step : (x : ex.Bitfield-F Bitfield ConstraintPart Expr FieldValue Pattern Slice TypeExpr) (y : BitfieldBelow) → bitfield_trees y ≡ x → OfBitfield (roll-Bitfield x)
   bitfield_step x y is = subst (λ l. AllOf P ((bitfield_layer itself l).exprs)) (is ∙ sym (out-roll-Bitfield x)) (bitfield_has y)
 
   part_has : (y : PartBelow) → AllOf P ((part_layer itself (part_trees y)).exprs)
   part_has (ex.Only e) = (e.1, tt)
   part_has (ex.FromTo a b) = (a.1, (b.1, tt))
 
-  part_step : (x : ex.ConstraintPart-F Bitfield ConstraintPart Expr FieldValue Pattern Slice TypeExpr) (y : PartBelow) → part_trees y ≡ x → OfPart (roll-ConstraintPart x)
+  pub part_step : (x : ex.ConstraintPart-F Bitfield ConstraintPart Expr FieldValue Pattern Slice TypeExpr) (y : PartBelow) → part_trees y ≡ x → OfPart (roll-ConstraintPart x)
   part_step x y is = subst (λ l. AllOf P ((part_layer itself l).exprs)) (is ∙ sym (out-roll-ConstraintPart x)) (part_has y)
 
   field_has : (y : FieldBelow) → AllOf P ((given_layer itself (field_trees y)).exprs)
   field_has (ex.Given i e) = (e.1, tt)
 
-  field_step : (x : ex.FieldValue-F Bitfield ConstraintPart Expr FieldValue Pattern Slice TypeExpr) (y : FieldBelow) → field_trees y ≡ x → OfField (roll-FieldValue x)
+  pub field_step : (x : ex.FieldValue-F Bitfield ConstraintPart Expr FieldValue Pattern Slice TypeExpr) (y : FieldBelow) → field_trees y ≡ x → OfField (roll-FieldValue x)
   field_step x y is = subst (λ l. AllOf P ((given_layer itself l).exprs)) (is ∙ sym (out-roll-FieldValue x)) (field_has y)
 
   slice_has : (y : SliceBelow) → AllOf P ((slice_layer itself (slice_trees y)).exprs)
@@ -255,7 +259,7 @@ module _ (env : Environment) (c : Core) (P : Expr → Type 0) where
   slice_has (ex.LowWidth l w) = (l.1, (w.1, tt))
   slice_has (ex.FactorWidth k w) = (k.1, (w.1, tt))
 
-  slice_step : (x : ex.Slice-F Bitfield ConstraintPart Expr FieldValue Pattern Slice TypeExpr) (y : SliceBelow) → slice_trees y ≡ x → OfSlice (roll-Slice x)
+  pub slice_step : (x : ex.Slice-F Bitfield ConstraintPart Expr FieldValue Pattern Slice TypeExpr) (y : SliceBelow) → slice_trees y ≡ x → OfSlice (roll-Slice x)
   slice_step x y is = subst (λ l. AllOf P ((slice_layer itself l).exprs)) (is ∙ sym (out-roll-Slice x)) (slice_has y)
 
   pattern_has : (y : PatternBelow) → AllOf P ((pattern_taken env.limit (pattern_trees y)).exprs)
@@ -268,7 +272,7 @@ module _ (env : Environment) (c : Core) (P : Expr → Type 0) where
   pattern_has (ex.ValuePattern span e) = (e.1, tt)
   pattern_has (ex.RangePattern span a b) = (a.1, (b.1, tt))
 
-  pattern_step : (x : PatternLayer) (y : PatternBelow) → pattern_trees y ≡ x → OfPattern (roll-Pattern x)
+  pub pattern_step : (x : PatternLayer) (y : PatternBelow) → pattern_trees y ≡ x → OfPattern (roll-Pattern x)
   pattern_step x y is = subst (λ (s : Shaped PatternShape Expr). AllOf P s.exprs)
       (ap (pattern_taken env.limit) is ∙ sym (para-roll-Pattern Unread Unread Unread Unread (Shaped PatternShape Expr) Unread Unread (λ _. tt) (λ _. tt) (λ _. tt) (λ _. tt) (pattern_layer (λ (e : Expr × Unread). e.0) (λ (p : Pattern × Shaped PatternShape Expr). p.1)) (λ _. tt) (λ _. tt) x))
       (pattern_has y)
@@ -282,15 +286,19 @@ module _ (env : Environment) (c : Core) (P : Expr → Type 0) where
   type_has (ex.TupleType span ts) = all_paired P type_parts ts
   type_has (ex.ArrayType span n t) = (n.1, t.1)
 
-  type_step : (x : TypeLayer) (y : TypeBelow) → type_trees y ≡ x → OfType (roll-TypeExpr x)
+  pub type_step : (x : TypeLayer) (y : TypeBelow) → type_trees y ≡ x → OfType (roll-TypeExpr x)
   type_step x y is = subst (λ (s : Shaped TypeOver Expr). AllOf P s.exprs)
       (ap (type_taken env.limit) is ∙ sym (para-roll-TypeExpr Unread Unread Unread Unread Unread Unread (Shaped TypeOver Expr) (λ _. tt) (λ _. tt) (λ _. tt) (λ _. tt) (λ _. tt) (λ _. tt)
       (type_layer (λ (e : Expr × Unread). e.0) (λ (b : Bitfield × Unread). bitfield_parts b.0) (λ (p : ConstraintPart × Unread). range_parts p.0) (λ (t : TypeExpr × Shaped TypeOver Expr). t.1)) x))
       (type_has y)
 
   -- each expression has it, where it follows from the plans of an expression
-  pub of_all : HoldsInitial env c → ((e : Expr) → PlansTwin (out-Expr e) → P e) → (e : Expr) → P e
-  of_all holds follows = ind-Expr OfBitfield OfPart P OfField OfPattern OfSlice OfType bitfield_step part_step expr_step field_step pattern_step slice_step type_step
+  pub of_all : HoldsInitial env c → K → ((e : Expr) → PlansTwin (out-Expr e) → P e) → (e : Expr) → P e
+  of_all holds all follows = ind-Expr OfBitfield OfPart P OfField OfPattern OfSlice OfType bitfield_step part_step expr_step field_step pattern_step slice_step type_step
     where
+      may_call : (y : ExprBelow) → MayCall y
+      may_call (ex.Call span i ps es) = all
+      may_call y = tt
+
       expr_step : (x : ExprLayer) (y : ExprBelow) → expr_trees y ≡ x → P (roll-Expr x)
-      expr_step x y is = follows (roll-Expr x) (subst PlansTwin (is ∙ sym (out-roll-Expr x)) (layer_twin holds y))
+      expr_step x y is = follows (roll-Expr x) (subst PlansTwin (is ∙ sym (out-roll-Expr x)) (layer_twin holds y (may_call y)))

@@ -26,25 +26,18 @@ use Rattle.asl_syn.specs.declared.tree.Func.{Func}
 use Rattle.asl_syn.specs.Layers.{ExprLayer, StmtLayer}
 use Rattle.asl_rules.specs.Closed.{Closed}
 use Rattle.asl_rules.specs.Programs.{Environment, funcs_of, origin}
-use Rattle.asl_rules.specs.Locals.{is_var}
 use Rattle.asl_rules.specs.Values.{Value, Exit, Normal, Returned}
-use Rattle.asl_rules.specs.Views.{stripped}
-use Rattle.asl_rules.specs.States.{Under, of_type, of_value, kept, Binding, Core, entered, restored, resting}
+use Rattle.asl_rules.specs.States.{Under, of_type, kept, Binding, Core, entered, restored, resting}
 use Rattle.asl_rules.specs.Numbers.{Numbers, present, outside}
 use Rattle.asl_rules.specs.Routines.{Routine, routine_named}
 use Rattle.asl_rules.specs.Library.{routine_value}
-use Rattle.asl_rules.specs.Operators.{unary_value}
-use Rattle.asl_rules.specs.Structures.{parts, field_of, constructed}
-use Rattle.asl_rules.specs.Vectors.{literal_bits, slices_of, bitfields_of, bitfields_named}
-use Rattle.asl_rules.specs.Written.{converted}
-use Rattle.asl_rules.specs.ByNames.{matched_in}
-use Rattle.asl_rules.specs.Shaped.{exprs_in, shapes_in, given_parts, slice_parts, pattern_parts, type_parts, sizes_in}
+use Rattle.asl_rules.specs.Structures.{parts}
 use Rattle.asl_rules.specs.Pures.{◌>>=◌, there, known, found_type}
 use Rattle.asl_rules.specs.Plans.{Meter, Stuck, Immutable, Outcome, Done, Thrown, Halt, Ret, Stop, Meaning, handle, run, Pure, Good, Bad, lift}
-use Rattle.asl_rules.specs.Forms.{literal, Keeps as Returns, returned, at_end, unless_full, activations, function_gives, procedure_gives}
+use Rattle.asl_rules.specs.Forms.{Keeps as Returns, returned, at_end, call, unless_full, activations, function_gives, procedure_gives}
 use Rattle.asl_rules.specs.Operators.{less}
-use Rattle.asl_rules.specs.StatementForms.{in_order, branches}
-use Rattle.asl_rules.specs.Evaluation.{put_value, map_pure, stored_in, first_store, store, held, declared, declare, declare_each, bound_to, stored_under, unders_or, declare_all, declare_first, sized_at, value_or_label, param_under, type_under, type_at, types_of, params_bound, formals_bound, Entering, entering, run_body, run_with, result_at, limit_of, params_of, overload, Numbered, call_one, call_named, called, expr_node, frames, branch_in, choice_in, otherwise_in, catch_layer, catch_in, item_in, with_index, Step, updated, store_at, Stores, Assigning, assign_each, assigning_layer, assigned, stmt_node, nodes, meaning, call_of}
+use Rattle.asl_rules.specs.StatementForms.{in_order, try_list}
+use Rattle.asl_rules.specs.Evaluation.{put_value, map_pure, stored_in, first_store, store, held, declared, declare, declare_each, bound_to, stored_under, unders_or, declare_all, declare_first, sized_at, param_under, type_under, type_at, types_of, params_bound, formals_bound, Entering, entering, run_body, run_with, result_at, limit_of, params_of, overload, Numbered, call_one, call_named, called, expr_node, frames, otherwise_in, catch_layer, catch_in, Step, updated, store_at, Stores, Assigning, assign_each, assigning_layer, assigned, stmt_node, nodes, meaning, call_of}
 use Rattle.asl_rules.specs.Machines.{most_open, run_of}
 use Rattle.asl_rules.proofs.runs.PlansKeep.{EndsIn, Keeps, FormsKeep, run_keeps, nodes_keep, Makes, AllMake, AllMade, NamedMakes, lift_keeps, once_keeps, choose_keeps, behind_keeps, behind_all_keeps, behind_more_keeps, operation_keeps, conditional_keeps, element_keeps, tuple_keeps, call_keeps, function_keeps, procedure_keeps, routine_keeps, frame_keeps, list_keeps, branch_keeps, branches_keep, assertion_keeps, value_keeps, values_keep, assignment_keeps, return_keeps, items_keep, case_keeps, for_keeps, while_keeps, repeat_keeps, throw_keeps, try_keeps}
 
@@ -262,23 +255,15 @@ module _ (old : List Binding) where
 
   -- ---- all forms
 
+  called_keeps : (env : Environment) (span : Span) (i : Ident) (ps es : List Expr) (c : Core) → Kept c → Keeps Kept (call ps es c (called env span i.text) (function_gives span))
+  called_keeps env span i ps es c p = call_keeps Core Expr Stmt Kept ps es c (called env span i.text) (function_gives span) p (λ ys xs c1 p1. named_keeps env span i.text ys xs c1 (routine_named i.text) p1) (λ x c1 p1. function_keeps Core Expr Stmt Kept span x c1 p1)
+
+  ruleset kept_values = (once_keeps, behind_keeps, behind_all_keeps, behind_more_keeps, operation_keeps, conditional_keeps, tuple_keeps, element_keeps, called_keeps)
+
+  -- each expression does: it is one of the forms of plans
   expr_keeps : (env : Environment) (layer : ExprLayer) (c : Core) → Kept c → Keeps Kept (expr_node env layer c)
-  expr_keeps env (ex.Int span n) c p = once_keeps Core Expr Stmt Kept (literal span n) c p
-  expr_keeps env (ex.Bits span t) c p = once_keeps Core Expr Stmt Kept (literal_bits env.limit span t) c p
   expr_keeps env (ex.Bool span b) c p = p
-  expr_keeps env (ex.Name span name) c p = once_keeps Core Expr Stmt Kept (value_or_label env span name c) c p
-  expr_keeps env (ex.Unary span o a) c p = behind_keeps Core Expr Stmt Kept a c (unary_value span o) p
-  expr_keeps env (ex.Binary span o a b) c p = operation_keeps Core Expr Stmt Kept env.limit span o a b c p
-  expr_keeps env (ex.Conditional span e a b) c p = conditional_keeps Core Expr Stmt Kept stripped span e a b c p
-  expr_keeps env (ex.Tuple span es) c p = tuple_keeps Core Expr Stmt Kept es c p
-  expr_keeps env (ex.Construct span i fs) c p = behind_all_keeps Core Expr Stmt Kept (exprs_in given_parts fs) c (constructed span (types_of env i.text) (shapes_in given_parts fs)) p
-  expr_keeps env (ex.Call span i ps es) c p = call_keeps Core Expr Stmt Kept ps es c (called env span i.text) (function_gives span) p (λ ys xs c1 p1. named_keeps env span i.text ys xs c1 (routine_named i.text) p1) (λ x c1 p1. function_keeps Core Expr Stmt Kept span x c1 p1)
-  expr_keeps env (ex.Field span a i) c p = behind_keeps Core Expr Stmt Kept a c (field_of span i.text) p
-  expr_keeps env (ex.Fields span a iss) c p = behind_keeps Core Expr Stmt Kept a c (λ x. bitfields_named span iss x >>= λ fs. bitfields_of env.limit span fs x) p
-  expr_keeps env (ex.Slices span a ss) c p = behind_more_keeps Core Expr Stmt Kept a (exprs_in slice_parts ss) c (λ x zs. slices_of env.limit span (shapes_in slice_parts ss) zs x) p
-  expr_keeps env (ex.Element span a i) c p = element_keeps Core Expr Stmt Kept span a i c p
-  expr_keeps env (ex.As span a t) c p = behind_more_keeps Core Expr Stmt Kept a (type_parts t).exprs c (λ x zs. converted env.limit span ((type_parts t).shape (types_of env)) zs x) p
-  expr_keeps env (ex.In span a q) c p = behind_more_keeps Core Expr Stmt Kept a (pattern_parts q).exprs c (λ x zs. matched_in env.limit (pattern_parts q).shape zs x) p
+  expr_keeps env layer c p = search (kept_values, p) depth 20
 
   -- the frame alone is cut, and what is being handled is changed
   frame_cut : (n : ℕ) (c : Core) → Kept c → Kept (frames.cut n c)
@@ -295,23 +280,18 @@ module _ (old : List Binding) where
   unfolding TargetGood
   assigns t = target_good t
 
+  invoke_keeps : (env : Environment) (span : Span) (i : Ident) (ps es : List Expr) (c : Core) → Kept c → Keeps Kept (call ps es c (called env span i.text) (procedure_gives span))
+  invoke_keeps env span i ps es c p = call_keeps Core Expr Stmt Kept ps es c (called env span i.text) (procedure_gives span) p (λ ys xs c1 p1. named_keeps env span i.text ys xs c1 (routine_named i.text) p1) (λ x c1 p1. procedure_keeps Core Expr Stmt Kept span x c1 p1)
+
+  try_list_keeps : (env : Environment) (ss : List Stmt) (hs : List Catcher) (o : Otherwise) (c : Core) → Kept c → Keeps {E = Expr} Kept (try_list frames (catch_in env) ss hs (otherwise_in o) c)
+  try_list_keeps env ss hs o c p = try_keeps Core Expr Stmt Kept frames frame_cut handled_kept (catch_in env) ss hs (otherwise_in o) c p (λ h. caught_makes env (out-Catcher h))
+
+  -- each statement does: it is one of the forms of plans, and what it makes of states are declarations and stores
+  ruleset kept_forms = (assertion_keeps, value_keeps, values_keep, assignment_keeps, branch_keeps, branches_keep, case_keeps, for_keeps, while_keeps, repeat_keeps, return_keeps, throw_keeps, items_keep, bound_makes, first_makes, assigns, declare_makes, frame_cut, handled_kept, invoke_keeps, try_list_keeps)
+
   stmt_keeps : (env : Environment) (layer : StmtLayer) (c : Core) → Kept c → Keeps Kept (stmt_node env layer c)
   stmt_keeps env (st.Pass span) c p = p
-  stmt_keeps env (st.Unreachable span) c p = p
-  stmt_keeps env (st.Assert span e) c p = assertion_keeps Core Expr Stmt Kept frames frame_cut handled_kept span e c p
-  stmt_keeps env (st.Local span kind b t e) c p = value_keeps Core Expr Stmt Kept frames frame_cut handled_kept e (bound_to env span b (is_var kind) t) c p (λ x c1 p1. bound_makes env span b (is_var kind) t x c1 p1)
-  stmt_keeps env (st.LocalVars span iss t) c p = values_keep Core Expr Stmt Kept frames frame_cut handled_kept (sizes_in t) (declare_first env span iss t) c p (λ zs c1 p1. first_makes env span iss t zs c1 p1)
-  stmt_keeps env (st.Assign span t e) c p = assignment_keeps Core Expr Stmt Kept frames frame_cut handled_kept e (assigned t env span) c p (λ x. assigns t env span x)
-  stmt_keeps env (st.Invoke span i ps es) c p = call_keeps Core Expr Stmt Kept ps es c (called env span i.text) (procedure_gives span) p (λ ys xs c1 p1. named_keeps env span i.text ys xs c1 (routine_named i.text) p1) (λ x c1 p1. procedure_keeps Core Expr Stmt Kept span x c1 p1)
-  stmt_keeps env (st.If span e ss others last) c p = branch_keeps Core Expr Stmt Kept frames frame_cut handled_kept span e ss (branches frames branch_in span others last) c p (λ c1 p1. branches_keep Core Expr Stmt Kept frames frame_cut handled_kept branch_in span others last c1 p1)
-  stmt_keeps env (st.Case span e alts o) c p = case_keeps Core Expr Stmt Kept frames frame_cut handled_kept (choice_in env) span e alts (otherwise_in o) c p
-  stmt_keeps env (st.For span i a d b l ss) c p = for_keeps Core Expr Stmt Kept frames frame_cut handled_kept (with_index i) span a d b l ss c p (λ x c1 p1. declare_makes i.span i.text false (Some (of_value x)) x c1 p1)
-  stmt_keeps env (st.While span e l ss) c p = while_keeps Core Expr Stmt Kept frames frame_cut handled_kept span e l ss c p
-  stmt_keeps env (st.Repeat span ss e l) c p = repeat_keeps Core Expr Stmt Kept frames frame_cut handled_kept span ss e l c p
-  stmt_keeps env (st.Return span o) c p = return_keeps Core Expr Stmt Kept frames frame_cut handled_kept o c p
-  stmt_keeps env (st.Throw span o) c p = throw_keeps Core Expr Stmt Kept frames frame_cut handled_kept span o c p
-  stmt_keeps env (st.Try span ss hs o) c p = try_keeps Core Expr Stmt Kept frames frame_cut handled_kept (catch_in env) ss hs (otherwise_in o) c p (λ h. caught_makes env (out-Catcher h))
-  stmt_keeps env (st.Print span kind iss) c p = items_keep Core Expr Stmt Kept frames frame_cut handled_kept item_in kind iss c p
+  stmt_keeps env layer c p = search (kept_forms, p) depth 20
 
   forms_keep : (env : Environment) → FormsKeep Kept (nodes env)
   forms_keep env = record { expr = λ e c p. expr_keeps env (out-Expr e) c p; stmt = λ s c p. stmt_keeps env (out-Stmt s) c p }

@@ -184,6 +184,79 @@ module _ (C E S : Type 0) (P : C → Type 0) where
   list_keeps [] c p = p
   list_keeps (s ∷ ss) c p = (p, λ x c1 p1. go_keeps x c1 (forms.in_order ss) p1 (list_keeps ss))
 
+  -- ---- conditions
+
+  asked_keeps : {A : Type 0} (span : Span) (e : E) (c : C) (a b : C → Plan C E S A) → P c → ((c1 : C) → P c1 → Keeps P (a c1)) → ((c1 : C) → P c1 → Keeps P (b c1)) → Keeps P (forms.asked span e c a b)
+  asked_keeps span e c a b p ka kb = (p, λ x c1 p1. lift_keeps (truth span x) c1 (λ t. choose t (a c1) (b c1)) p1 (λ t. choose_keeps t (a c1) (b c1) (ka c1 p1) (kb c1 p1)))
+
+  pub assertion_keeps : (span : Span) (e : E) (c : C) → P c → Keeps {S = S} P (forms.assertion span e c)
+  assertion_keeps span e c p = asked_keeps span e c forms.done_normal (forms.asserted span) p (λ c1 p1. p1) (λ c1 p1. p1)
+
+  -- ---- declarations, assignments, printing
+
+  pub value_keeps : (e : E) (g : Value → C → Pure C) (c : C) → P c → ((x : Value) (c1 : C) → P c1 → Makes P (g x c1)) → Keeps {S = S} P (forms.with_value e g c)
+  value_keeps e g c p m = (p, λ x c1 p1. lift_made (g x c1) c1 forms.done_normal p1 (m x c1 p1) (λ c2 p2. p2))
+
+  pub values_keep : (es : List E) (g : List Value → C → Pure C) (c : C) → P c → ((xs : List Value) (c1 : C) → P c1 → Makes P (g xs c1)) → Keeps {S = S} P (forms.with_values es g c)
+  values_keep es g c p m = all_keeps es [] c (λ xs c1. lift (g xs c1) c1 forms.done_normal) p (λ xs c1 p1. lift_made (g xs c1) c1 forms.done_normal p1 (m xs c1 p1) (λ c2 p2. p2))
+
+  step_keeps : {N A : Type 0} (s : Ahead E N) (c : C) (k : N → C → Plan C E S A) → P c → ((n : N) (c1 : C) → P c1 → Keeps P (k n c1)) → Keeps P (forms.eval_step s c k)
+  step_keeps (ready n) c k p q = q n c p
+  step_keeps (by_one e g) c k p q = (p, λ x c1 p1. q (g x) c1 p1)
+  step_keeps (by_all es g) c k p q = all_keeps es [] c (λ xs c1. k (g xs) c1) p (λ xs c1 p1. q (g xs) c1 p1)
+
+  steps_keep : {N A : Type 0} (ss : List (Ahead E N)) (ns : List N) (c : C) (k : List N → C → Plan C E S A) → P c → ((ms : List N) (c1 : C) → P c1 → Keeps P (k ms c1)) → Keeps P (forms.eval_steps ss ns c k)
+  steps_keep [] ns c k p q = q ns c p
+  steps_keep (s ∷ ss) ns c k p q = step_keeps s c (λ n c1. forms.eval_steps ss (ns ++ n ∷ []) c1 k) p (λ n c1 p1. steps_keep ss (ns ++ n ∷ []) c1 k p1 q)
+
+  pub stores_keep : {N : Type 0} (ss : List (Store C E N)) (c : C) → P c → AllMake P ss → Keeps {S = S} P (forms.store_each ss c)
+  stores_keep [] c p m = p
+  stores_keep (s ∷ ss) c p m = steps_keep s.steps [] c (λ ns c1. lift (s.put ns c1) c1 (forms.store_each ss)) p (λ ns c1 p1. lift_made (s.put ns c1) c1 (forms.store_each ss) p1 (m.0 ns c1 p1) (λ c2 p2. stores_keep ss c2 p2 m.1))
+
+  made_keep : {N : Type 0} (r : Pure (List (Store C E N))) (c : C) → P c → AllMade P r → Keeps {S = S} P (lift r c (λ ss. forms.store_each ss c))
+  made_keep (Good ss) c p m = stores_keep ss c p m
+  made_keep (Bad e) c p m = p
+
+  pub assignment_keeps : {N : Type 0} (e : E) (g : Value → Pure (List (Store C E N))) (c : C) → P c → ((x : Value) → AllMade P (g x)) → Keeps {S = S} P (forms.assignment e g c)
+  assignment_keeps e g c p m = (p, λ x c1 p1. made_keep (g x) c1 p1 (m x))
+
+  pub return_keeps : (o : Option E) (c : C) → P c → Keeps {S = S} P (forms.return_value o c)
+  return_keeps None c p = p
+  return_keeps (Some e) c p = (p, λ x c1 p1. p1)
+
+  item_keeps : (i : Item E) (c : C) (go : C → Plan C E S Exit) → P c → ((c1 : C) → P c1 → Keeps P (go c1)) → Keeps P (forms.print_item i c go)
+  item_keeps (Written bytes) c go p k = k c p
+  item_keeps (Valued e) c go p k = (p, λ x c1 p1. k c1 p1)
+
+  pub items_keep : {I : Type 0} (view : I → Item E) (kind : PrintKind) (is : List I) (c : C) → P c → Keeps {S = S} P (forms.print_items view kind is c)
+  items_keep view Print [] c p = p
+  items_keep view PrintLine [] c p = p
+  items_keep view kind (i ∷ is) c p = item_keeps (view i) c (forms.print_items view kind is) p (λ c1 p1. items_keep view kind is c1 p1)
+
+  -- ---- the limit of a loop
+
+  limited_keeps : {A : Type 0} (span : Span) (o : Option E) (c : C) (k : ℕ → C → Plan C E S A) → P c → ((n : ℕ) (c1 : C) → P c1 → Keeps P (k n c1)) → Keeps P (forms.limited span o c k)
+  limited_keeps span None c k p q = q most_turns c p
+  limited_keeps span (Some e) c k p q = (p, λ x c1 p1. lift_keeps (forms.whole_number span x) c1 (λ z. k (forms.turns_in z) c1) p1 (λ z. q (forms.turns_in z) c1 p1))
+
+  -- ---- exceptions that are thrown
+
+  thrown_keeps : (span : Span) (x : Value) (c : C) → P c → Keeps {E = E} {S = S} P (forms.thrown span x c)
+  thrown_keeps span (exception_with own supers name xs) c p = p
+  thrown_keeps span (int z) c p = p
+  thrown_keeps span (bool b) c p = p
+  thrown_keeps span (bits_with bs u) c p = p
+  thrown_keeps span (label n l) c p = p
+  thrown_keeps span (record_with n xs) c p = p
+  thrown_keeps span (tuple_with xs) c p = p
+  thrown_keeps span (array_with k xs) c p = p
+
+  again_keeps : (span : Span) (xs : List Value) (c : C) → P c → Keeps {E = E} {S = S} P (forms.thrown_again span xs c)
+  again_keeps span [] c p = p
+  again_keeps span (x ∷ xs) c p = p
+
+  -- ---- lists with a scope of their own
+
   module _ (f : Frames C) (cut : (n : ℕ) (c : C) → P c → P (f.cut n c)) (hold : (xs : List Value) (c : C) → P c → P (f.with_handled xs c)) where
     from_keeps : (n : ℕ) (ss : List S) (c : C) → P c → Keeps {E = E} P (forms.scope_from f n ss c)
     from_keeps n ss c p = (list_keeps ss c p, λ x c1 p1. cut n c1 p1, λ x c1 p1. p1)
@@ -194,59 +267,12 @@ module _ (C E S : Type 0) (P : C → Type 0) where
     with_keeps : (named : C → Pure C) (ss : List S) (c : C) → P c → ((c1 : C) → P c1 → Makes P (named c1)) → Keeps {E = E} P (forms.scope_with f named ss c)
     with_keeps named ss c p m = lift_made (named c) c (λ c1. forms.scope_from f (f.height c) ss c1) p (m c p) (λ c1 p1. from_keeps (f.height c) ss c1 p1)
 
-    asked_keeps : {A : Type 0} (span : Span) (e : E) (c : C) (a b : C → Plan C E S A) → P c → ((c1 : C) → P c1 → Keeps P (a c1)) → ((c1 : C) → P c1 → Keeps P (b c1)) → Keeps P (forms.asked span e c a b)
-    asked_keeps span e c a b p ka kb = (p, λ x c1 p1. lift_keeps (truth span x) c1 (λ t. choose t (a c1) (b c1)) p1 (λ t. choose_keeps t (a c1) (b c1) (ka c1 p1) (kb c1 p1)))
-
     pub branch_keeps : (span : Span) (e : E) (ss : List S) (rest : C → Plan C E S Exit) (c : C) → P c → ((c1 : C) → P c1 → Keeps P (rest c1)) → Keeps P (forms.branch f span e ss rest c)
     branch_keeps span e ss rest c p k = asked_keeps span e c (forms.scope f ss) rest p (scope_keeps ss) k
 
     pub branches_keep : {B : Type 0} (view : B → Branch E S) (span : Span) (bs : List B) (last : List S) (c : C) → P c → Keeps P (forms.branches f view span bs last c)
     branches_keep view span [] last c p = scope_keeps last c p
     branches_keep view span (b ∷ bs) last c p = branch_keeps span (view b).condition (view b).body (forms.branches f view span bs last) c p (branches_keep view span bs last)
-
-    pub assertion_keeps : (span : Span) (e : E) (c : C) → P c → Keeps {S = S} P (forms.assertion span e c)
-    assertion_keeps span e c p = asked_keeps span e c forms.done_normal (forms.asserted span) p (λ c1 p1. p1) (λ c1 p1. p1)
-
-    -- ---- declarations, assignments, printing
-
-    pub value_keeps : (e : E) (g : Value → C → Pure C) (c : C) → P c → ((x : Value) (c1 : C) → P c1 → Makes P (g x c1)) → Keeps {S = S} P (forms.with_value e g c)
-    value_keeps e g c p m = (p, λ x c1 p1. lift_made (g x c1) c1 forms.done_normal p1 (m x c1 p1) (λ c2 p2. p2))
-
-    pub values_keep : (es : List E) (g : List Value → C → Pure C) (c : C) → P c → ((xs : List Value) (c1 : C) → P c1 → Makes P (g xs c1)) → Keeps {S = S} P (forms.with_values es g c)
-    values_keep es g c p m = all_keeps es [] c (λ xs c1. lift (g xs c1) c1 forms.done_normal) p (λ xs c1 p1. lift_made (g xs c1) c1 forms.done_normal p1 (m xs c1 p1) (λ c2 p2. p2))
-
-    step_keeps : {N A : Type 0} (s : Ahead E N) (c : C) (k : N → C → Plan C E S A) → P c → ((n : N) (c1 : C) → P c1 → Keeps P (k n c1)) → Keeps P (forms.eval_step s c k)
-    step_keeps (ready n) c k p q = q n c p
-    step_keeps (by_one e g) c k p q = (p, λ x c1 p1. q (g x) c1 p1)
-    step_keeps (by_all es g) c k p q = all_keeps es [] c (λ xs c1. k (g xs) c1) p (λ xs c1 p1. q (g xs) c1 p1)
-
-    steps_keep : {N A : Type 0} (ss : List (Ahead E N)) (ns : List N) (c : C) (k : List N → C → Plan C E S A) → P c → ((ms : List N) (c1 : C) → P c1 → Keeps P (k ms c1)) → Keeps P (forms.eval_steps ss ns c k)
-    steps_keep [] ns c k p q = q ns c p
-    steps_keep (s ∷ ss) ns c k p q = step_keeps s c (λ n c1. forms.eval_steps ss (ns ++ n ∷ []) c1 k) p (λ n c1 p1. steps_keep ss (ns ++ n ∷ []) c1 k p1 q)
-
-    pub stores_keep : {N : Type 0} (ss : List (Store C E N)) (c : C) → P c → AllMake P ss → Keeps {S = S} P (forms.store_each ss c)
-    stores_keep [] c p m = p
-    stores_keep (s ∷ ss) c p m = steps_keep s.steps [] c (λ ns c1. lift (s.put ns c1) c1 (forms.store_each ss)) p (λ ns c1 p1. lift_made (s.put ns c1) c1 (forms.store_each ss) p1 (m.0 ns c1 p1) (λ c2 p2. stores_keep ss c2 p2 m.1))
-
-    made_keep : {N : Type 0} (r : Pure (List (Store C E N))) (c : C) → P c → AllMade P r → Keeps {S = S} P (lift r c (λ ss. forms.store_each ss c))
-    made_keep (Good ss) c p m = stores_keep ss c p m
-    made_keep (Bad e) c p m = p
-
-    pub assignment_keeps : {N : Type 0} (e : E) (g : Value → Pure (List (Store C E N))) (c : C) → P c → ((x : Value) → AllMade P (g x)) → Keeps {S = S} P (forms.assignment e g c)
-    assignment_keeps e g c p m = (p, λ x c1 p1. made_keep (g x) c1 p1 (m x))
-
-    pub return_keeps : (o : Option E) (c : C) → P c → Keeps {S = S} P (forms.return_value o c)
-    return_keeps None c p = p
-    return_keeps (Some e) c p = (p, λ x c1 p1. p1)
-
-    item_keeps : (i : Item E) (c : C) (go : C → Plan C E S Exit) → P c → ((c1 : C) → P c1 → Keeps P (go c1)) → Keeps P (forms.print_item i c go)
-    item_keeps (Written bytes) c go p k = k c p
-    item_keeps (Valued e) c go p k = (p, λ x c1 p1. k c1 p1)
-
-    pub items_keep : {I : Type 0} (view : I → Item E) (kind : PrintKind) (is : List I) (c : C) → P c → Keeps {S = S} P (forms.print_items view kind is c)
-    items_keep view Print [] c p = p
-    items_keep view PrintLine [] c p = p
-    items_keep view kind (i ∷ is) c p = item_keeps (view i) c (forms.print_items view kind is) p (λ c1 p1. items_keep view kind is c1 p1)
 
     -- ---- `case`
 
@@ -272,10 +298,6 @@ module _ (C E S : Type 0) (P : C → Type 0) where
     case_keeps view span e os last c p = (p, λ x c1 p1. alternatives_keep view span x os last c1 p1)
 
     -- ---- loops
-
-    limited_keeps : {A : Type 0} (span : Span) (o : Option E) (c : C) (k : ℕ → C → Plan C E S A) → P c → ((n : ℕ) (c1 : C) → P c1 → Keeps P (k n c1)) → Keeps P (forms.limited span o c k)
-    limited_keeps span None c k p q = q most_turns c p
-    limited_keeps span (Some e) c k p q = (p, λ x c1 p1. lift_keeps (forms.whole_number span x) c1 (λ z. k (forms.turns_in z) c1) p1 (λ z. q (forms.turns_in z) c1 p1))
 
     turn_keeps : (index : Value → C → Pure C) (span : Span) (d : Direction) (last : ℤ) (ss : List S) (n : ℕ) (i : ℤ) (c : C) → P c → ((x : Value) (c1 : C) → P c1 → Makes P (index x c1)) → Keeps {E = E} P (forms.index_turn f index span d last ss n i c)
     turn_keeps index span d last ss zero i c p m = p
@@ -317,20 +339,6 @@ module _ (C E S : Type 0) (P : C → Type 0) where
     repeat_keeps span ss e l c p = limited_keeps span l c (forms.repeat_turn f span e ss) p (λ n c1 p1. repeat_turn_keeps span e ss n c1 p1)
 
     -- ---- throwing and catching
-
-    thrown_keeps : (span : Span) (x : Value) (c : C) → P c → Keeps {E = E} {S = S} P (forms.thrown span x c)
-    thrown_keeps span (exception_with own supers name xs) c p = p
-    thrown_keeps span (int z) c p = p
-    thrown_keeps span (bool b) c p = p
-    thrown_keeps span (bits_with bs u) c p = p
-    thrown_keeps span (label n l) c p = p
-    thrown_keeps span (record_with n xs) c p = p
-    thrown_keeps span (tuple_with xs) c p = p
-    thrown_keeps span (array_with k xs) c p = p
-
-    again_keeps : (span : Span) (xs : List Value) (c : C) → P c → Keeps {E = E} {S = S} P (forms.thrown_again span xs c)
-    again_keeps span [] c p = p
-    again_keeps span (x ∷ xs) c p = p
 
     pub throw_keeps : (span : Span) (o : Option E) (c : C) → P c → Keeps {S = S} P (forms.throw f span o c)
     throw_keeps span None c p = again_keeps span (f.handled c) c p

@@ -283,6 +283,13 @@ module _ (tests : Tests) (right : IsRight tests) (ds : List Decl) (distinct : Di
       (λ k. decl_well tests right (types_at n) (types_at (suc n)) (extends n) (at_round n) (ready_at n (well_after n)) d es (judged_now n d es k) (labels d i) (λ name T s. ap type_in (own_at tests ds distinct (suc n) d es name (TypeName T) i h s tt)))
       (still_is (judgement tests n ds d) (judged_by tests (judgement tests n ds) ds d) es h)
 
+  -- after any number of rounds the names are well formed, and the globals hold their storage
+  pub round_named : (n : ℕ) → WellNamed (names_at tests ds distinct n)
+  round_named n = well_named_at n (well_after n)
+
+  pub round_match : (n : ℕ) → GlobalsMatch (names_at tests ds distinct n) (globals_among ds (names_at tests ds distinct n))
+  round_match n = globals_match_at n (well_after n)
+
   abbrev last : ℕ
   last = suc (length ds)
 

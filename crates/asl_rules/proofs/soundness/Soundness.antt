@@ -36,11 +36,11 @@ use Rattle.asl_rules.proofs.scopes.GrownTexts.{read_grown}
 -- ---- a program
 
 -- calls of procedures
-abbrev InvokesSo : (tests : Tests) (right : IsRight tests) (ds : List Decl) (base : List Entry) (subs : List Signature) (funcs : List TreeFunc) (w : WellNamed base) → Type 0
+abbrev pub InvokesSo : (tests : Tests) (right : IsRight tests) (ds : List Decl) (base : List Entry) (subs : List Signature) (funcs : List TreeFunc) (w : WellNamed base) → Type 0
 InvokesSo tests right ds base subs funcs w =
     (j : StmtClaim) (span : Span) (i : Ident) (ps es : List Expr) (c : Core) → invoke_rule tests span i ps es j.body.scope ≡ Ok j.done → Held tests right ds base subs funcs w j c → Acted tests right ds base subs funcs w j true (st.Invoke span i ps es) c
 
-others_of : (tests : Tests) (right : IsRight tests) (ds : List Decl) (base : List Entry) (subs : List Signature) (funcs : List TreeFunc) (w : WellNamed base) → InvokesSo tests right ds base subs funcs w → OtherStmts tests right ds base subs funcs w
+pub others_of : (tests : Tests) (right : IsRight tests) (ds : List Decl) (base : List Entry) (subs : List Signature) (funcs : List TreeFunc) (w : WellNamed base) → InvokesSo tests right ds base subs funcs w → OtherStmts tests right ds base subs funcs w
 others_of tests right ds base subs funcs w i = record { invoke = i; try = λ j span ss cs o c h k. try_acted tests right ds base subs funcs w j span ss cs o c h k }
 
 pub soundness : (tests : Tests) (right : IsRight tests) (ds : List Decl) (a : Accepted) (f : Facts tests ds a) → AreGrown ds → Soundness tests ds a × SameMeaning tests ds a

@@ -1,0 +1,3 @@
+pub mod spans
+pub mod reading
+pub mod evaluations

@@ -1,0 +1,17 @@
+use Rattle.asl_rules.proofs.verdict.OneVerdict.{one_answer}
+use Rattle.asl_verdict.proofs.evaluations.NeverStuck.{read_evaluates}
+use Rattle.asl_verdict.proofs.evaluations.FaultCauses.{read_cause}
+use Rattle.asl_verdict.proofs.reading.Trees.{fault_lies}
+use Rattle.asl_verdict.proofs.law.law2.Goals as goal
+
+pub returns-clause-one : goal.returns-clause-one
+returns-clause-one c = one_answer
+
+pub returns-clause-within : goal.returns-clause-within
+returns-clause-within c = fault_lies
+
+pub returns-clause-evaluates : goal.returns-clause-evaluates
+returns-clause-evaluates c = read_evaluates
+
+pub returns-clause-cause : goal.returns-clause-cause
+returns-clause-cause c = read_cause
