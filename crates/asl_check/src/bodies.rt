@@ -94,7 +94,7 @@ fn tree_func(
         formals,
         result,
         limit: signature.limit(),
-        body: acts,
+        body: acts.into_inner(),
     })
 }
 

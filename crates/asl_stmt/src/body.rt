@@ -48,7 +48,7 @@ pub(crate) struct Done {
 /// What is found at a list: the typed trees of its statements, and the greatest effect.
 #[derive(Drop)]
 pub struct Listed {
-    pub acts: Items<Act>,
+    pub acts: Held<Items<Act>>,
     pub effect: Effect,
 }
 

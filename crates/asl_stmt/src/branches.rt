@@ -67,7 +67,8 @@ impl Branches {
         let own = greater(condition.get().effect(), effect);
         self.misplaced = misplaced(self.misplaced, condition.get());
         self.effect = greater(self.effect, own);
-        self.trees.push(Branch::Elsif(condition.into_inner(), acts))
+        self.trees
+            .push(Branch::Elsif(condition.into_inner(), acts.into_inner()))
     }
 }
 
@@ -84,13 +85,9 @@ pub(crate) fn end_if(
 {
     check_placed(others.misplaced)?;
     let effect = greater(others.effect, last.effect);
-    let act = Act::If(
-        span,
-        condition.into_inner(),
-        first.acts,
-        others.trees,
-        last.acts,
-    );
+    let first = first.acts.into_inner();
+    let last = last.acts.into_inner();
+    let act = Act::If(span, condition.into_inner(), first, others.trees, last);
     ended(body.class, span, true, effect, act)
 }
 

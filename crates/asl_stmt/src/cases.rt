@@ -116,7 +116,8 @@ impl Alternatives {
             trees,
             condition: unboxed(condition),
         };
-        self.trees.push(Alternative::When(choice, acts))
+        self.trees
+            .push(Alternative::When(choice, acts.into_inner()))
     }
 }
 

@@ -66,7 +66,8 @@ impl Catchers {
         let text = Items::from_slice(alloc, ty.text.as_slice())?;
         let name = Shared::new(alloc, text)?;
         self.effect = greater(self.effect, effect);
-        self.trees.push(Catcher::Catch(has_name, name, acts))
+        self.trees
+            .push(Catcher::Catch(has_name, name, acts.into_inner()))
     }
 }
 
@@ -117,6 +118,7 @@ pub(crate) fn end_try(
     let effect = greater(greater(effect, catchers.effect), last.effect);
     let Catchers { effect: _, trees } = catchers;
     let LastListed { last, effect: _ } = last;
+    let acts = acts.into_inner();
     let act = Act::Try(span, acts, trees, last.into_inner());
     ended(body.class, span, true, effect, act)
 }

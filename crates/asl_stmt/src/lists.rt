@@ -14,6 +14,7 @@ use crate::body::{Body, Done, Listed};
 use crate::stmts::check_node;
 use crate::within::Within;
 use asl_rules::effect::Effect;
+use asl_shared::Held;
 use asl_syn::code::Refused;
 use asl_syn::tree::Stmt;
 use asl_types::Scope;
@@ -48,7 +49,10 @@ fn check_list<'a>(names: &mut Scope<'a>, body: &Body, stmts: &'a [Stmt]) -> Resu
         effect = greater(effect, done.effect);
         acts.push(done.act.into_inner())?;
     }
-    Ok(Listed { acts, effect })
+    Ok(Listed {
+        acts: Held::new(acts),
+        effect,
+    })
 }
 
 /// A list with a scope of its own: its names are visible no more behind it.

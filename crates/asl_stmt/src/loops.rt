@@ -127,6 +127,7 @@ pub(crate) fn end_for(
         to: to.into_inner(),
         limit: unboxed(limit),
     };
+    let acts = acts.into_inner();
     let act = Act::For(span, counted, acts);
     ended(body.class, span, is_together, effect, act)
 }
@@ -156,6 +157,7 @@ pub(crate) fn end_while(
     check_limit(&limit)?;
     let Listed { acts, effect } = list;
     let effect = greater(condition.get().effect(), effect);
+    let acts = acts.into_inner();
     let act = Act::While(span, guard(condition, limit), acts);
     ended(body.class, span, true, effect, act)
 }
@@ -174,6 +176,7 @@ pub(crate) fn end_repeat(
     check_limit(&limit)?;
     let Listed { acts, effect } = list;
     let effect = greater(condition.get().effect(), effect);
+    let acts = acts.into_inner();
     let act = Act::Repeat(span, acts, guard(condition, limit));
     ended(body.class, span, true, effect, act)
 }

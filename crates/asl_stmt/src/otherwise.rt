@@ -41,7 +41,7 @@ pub(crate) fn check_otherwise<
         Otherwise::Otherwise(stmts) => {
             let Listed { acts, effect } = check_inside(here, names, body, stmts.as_slice())?;
             Ok(LastListed {
-                last: Held::new(Last::Otherwise(acts)),
+                last: Held::new(Last::Otherwise(acts.into_inner())),
                 effect,
             })
         }

@@ -14,6 +14,6 @@ pub returns : goal.returns
 returns c = λ names.
     ended_after (done_of names) c.ended.result (none_at T05 c.args.others.misplaced) c.in_ok-check_placed.field-0 _ _ c.in_ok-check_placed.ensures
     (λ i. ended c.args.body.now.class c.args.span true (c.greater-effect.ensures i) names
-    ((act_if c.args.span c.into_inner.result c.args.first.acts c.args.others.trees c.args.last.acts
-    ∙ λ j. tree.If c.args.span (tree_of (c.into_inner.ensures j)) (all_acts c.args.first.acts) (all_branches c.args.others.trees) (all_acts c.args.last.acts)) i))
+    ((act_if c.args.span c.into_inner.result c.into_inner-first.result c.args.others.trees c.into_inner-last.result
+    ∙ λ j. tree.If c.args.span (tree_of (c.into_inner.ensures j)) (all_acts (c.into_inner-first.ensures j)) (all_branches c.args.others.trees) (all_acts (c.into_inner-last.ensures j))) i))
     (c.ended.ensures names)

@@ -12,8 +12,9 @@ pub returns : goal.returns
 returns c = λ names.
     let k : c.greater-effect.result ≡ greater (greater c.args.list.effect c.args.catchers.effect) c.args.last.effect = search rules in
     let l : c.into_inner.result ≡ c.args.last.last = search rules in
+    let m : c.into_inner-acts.result ≡ c.args.list.acts = search rules in
     subst (Met (done_of names) c.ended.result)
     (λ i. ended c.args.body.now.class c.args.span true (k i) names
-    ((act_try c.args.span c.args.list.acts c.args.catchers.trees c.into_inner.result
-    ∙ λ j. tree.Try c.args.span (all_acts c.args.list.acts) (all_catchers c.args.catchers.trees) (last_of (l j))) i))
+    ((act_try c.args.span c.into_inner-acts.result c.args.catchers.trees c.into_inner.result
+    ∙ λ j. tree.Try c.args.span (all_acts (m j)) (all_catchers c.args.catchers.trees) (last_of (l j))) i))
     (c.ended.ensures names)
