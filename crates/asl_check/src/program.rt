@@ -57,7 +57,8 @@ fn judge_bodies<'a>(
     })
 }
 
-/// The bodies of a program whose declarations are well formed, and its entry.
+/// The bodies of a program whose declarations are well formed, and its entry. It is `judge_bodies`, with the clause
+/// that `check_decls` needs.
 fn find_bodies<'a>(
     alloc: Global,
     names: Scope<'a>,
@@ -71,9 +72,9 @@ fn find_bodies<'a>(
     judge_bodies(alloc, names, subs, funcs, entry)
 }
 
-/// Checks declarations. They are accepted exactly where they are well formed with the entry that is asked for, and otherwise
-/// refused at their one fault. The phases come in order: names, storage, signatures, bodies, the entry.
-/// Want of memory says nothing.
+/// Checks declarations. They are accepted exactly where they are well formed with the entry that is asked for, and
+/// otherwise refused at their one fault. The phases come in order: names, declarations that reach themselves,
+/// declarations of types and storage, signatures, overloads, bodies, the entry. Want of memory says nothing.
 #[tactic(auto, using(crate::proofs::BodyTurns::verdict_is))]
 pub fn check_decls<'a>(
     alloc: Global,

@@ -45,7 +45,7 @@ fn add_copies(alloc: Global, made: &mut Vec<Part>, ps: &[Part]) -> Result<(), Al
     Ok(())
 }
 
-// The ends of all parts that are no integers are polynomials within the limits.
+// The ends of all parts that are no integers are polynomials within the limits. This says so of them, and does nothing.
 fn all_within_limits(ps: &[Part])
     ensures { AllEnds ps.now }
 {

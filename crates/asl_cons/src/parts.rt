@@ -51,6 +51,7 @@ fn integers(low: i128, high: i128) -> Part
     }
 }
 
+// The part from the sum of the low ends to that of the high ends.
 pub(crate) fn sum_part(alloc: Global, p: &Part, q: &Part) -> Result<Option<Part>, AllocError>
     ensures { IfOk result (λ r. r ≡ sum_part p.now q.now) }
 {
@@ -63,6 +64,7 @@ pub(crate) fn sum_part(alloc: Global, p: &Part, q: &Part) -> Result<Option<Part>
     Ok(Some(Part { low, high }))
 }
 
+// The part from the low end of `p` less the high end of `q` to the high end of `p` less the low end of `q`.
 pub(crate) fn difference_part(alloc: Global, p: &Part, q: &Part) -> Result<Option<Part>, AllocError>
     ensures { IfOk result (λ r. r ≡ difference_part p.now q.now) }
 {
@@ -103,6 +105,8 @@ fn scaled_part(alloc: Global, r: (i128, i128), q: &Part) -> Result<Option<Part>,
     Ok(Some(Part { low, high }))
 }
 
+// The product of two constant parts as `product_range` has it; where one alone is constant, the other times its one
+// integer as `scaled_part` has it.
 pub(crate) fn product_part(alloc: Global, p: &Part, q: &Part) -> Result<Option<Part>, AllocError>
     ensures { IfOk result (λ r. r ≡ product_part p.now q.now) }
 {
@@ -118,6 +122,7 @@ pub(crate) fn product_part(alloc: Global, p: &Part, q: &Part) -> Result<Option<P
     }
 }
 
+// The part from 0 to below the one integer of `q`, which is at least 1.
 pub(crate) fn modulo_part(q: &Part) -> Option<Part>
     ensures { result ≡ modulo_part q.now }
 {
@@ -125,6 +130,8 @@ pub(crate) fn modulo_part(q: &Part) -> Option<Part>
     Some(integers(0, m - 1))
 }
 
+// The constant part whose ends are those of `p`, divided by the one integer of `q`, which is at least 1, and rounded
+// down.
 pub(crate) fn quotient_part(p: &Part, q: &Part) -> Option<Part>
     ensures { result ≡ quotient_part p.now q.now }
 {
@@ -135,6 +142,7 @@ pub(crate) fn quotient_part(p: &Part, q: &Part) -> Option<Part>
     Some(integers(low, high))
 }
 
+// The constant part whose ends are those of `p`, shifted up by the one integer of `q`, which is at least 0.
 pub(crate) fn shifted_up_part(p: &Part, q: &Part) -> Option<Part>
     ensures { result ≡ shifted_up_part p.now q.now }
 {
@@ -145,6 +153,7 @@ pub(crate) fn shifted_up_part(p: &Part, q: &Part) -> Option<Part>
     Some(integers(low, high))
 }
 
+// The constant part whose ends are those of `p`, shifted down by the one integer of `q`, which is at least 0.
 pub(crate) fn shifted_down_part(p: &Part, q: &Part) -> Option<Part>
     ensures { result ≡ shifted_down_part p.now q.now }
 {

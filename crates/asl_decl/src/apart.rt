@@ -30,7 +30,7 @@ fn funcs_in_order<'a>(alloc: Global, decls: &'a [Decl]) -> Result<Items<&'a Func
     Ok(funcs)
 }
 
-/// The subprograms of a program, in source order.
+/// The subprograms of a program, in source order. It is `funcs_in_order`, with the clause of the rules.
 #[tactic(auto, using(crate::proofs::SignatureLemmas::funcs_all))]
 pub(crate) fn funcs_of<'a>(alloc: Global, decls: &'a [Decl]) -> Result<Items<&'a Func>, AllocError>
     ensures { IfOk result (λ fs. map (λ f. f.now) fs ≡ programs.funcs_of decls.now) }

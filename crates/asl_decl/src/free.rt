@@ -63,7 +63,8 @@ fn check_by_places(alloc: Global, f: &Func, names: &Scope) -> Result<(), Refused
     Ok(())
 }
 
-/// T01 at the first parameter, and then the first formal, whose name is visible or stands twice.
+/// T01 at the first parameter, and then the first formal, whose name is visible or stands twice. It is
+/// `check_by_places`, with the clause in the words of the rules.
 #[tactic(auto, using(crate::proofs::FreeLemmas::free_is))]
 pub(crate) fn check_free(alloc: Global, f: &Func, names: &Scope) -> Result<(), Refused>
     ensures { Agrees result (rules.free_rule f.now names.now) }

@@ -68,7 +68,8 @@ pub(crate) fn type_pure<E: Fn(Global, Context, &Expr) -> Result<Boxed<Tree>, Ref
     (here.typing)(here.alloc, pure(here.context), e)
 }
 
-/// The typed tree of an expression below, which stands where the expression does.
+/// The typed tree of an expression below, which stands where the expression does. It is `type_below`, with the clause
+/// of an operand.
 pub(crate) fn operand_below<E: Fn(Global, Context, &Expr) -> Result<Boxed<Tree>, Refused>, M>(
     here: &Below<E, M>,
     e: &Expr,

@@ -38,7 +38,8 @@ pub fn type_expr(alloc: Global, context: Context, e: &Expr) -> Result<Boxed<Tree
     )
 }
 
-/// The typed tree of an expression, which stands where the expression does, or its one fault.
+/// The typed tree of an expression, which stands where the expression does, or its one fault. It is `type_expr`, with
+/// the clause of an operand.
 pub fn type_operand(alloc: Global, context: Context, e: &Expr) -> Result<Boxed<Tree>, Refused>
     ensures { (t : Tests) → Suits t → Met operand_of result (acting.operand_of t e.now (scope_of context.entry)) }
 {

@@ -2,13 +2,14 @@
 
 use std::alloc::AllocError;
 
-/// With a place, as how many tokens there are from it on.
+/// Why there is no tree. A place is how many tokens there are from it to the end of the file.
 #[derive(Clone, Copy, Debug, PartialEq, Eq)]
 pub enum ParseError {
+    /// Memory was wanting. This says nothing of the text.
     OutOfMemory,
     /// No text goes on with the token there, or at the end.
     Syntax(usize),
-    /// The token there opens a level too many, or, where it says so, the token before.
+    /// The token there opens a level too many, or, where the `bool` is set, the token before it.
     TooDeep(usize, bool),
 }
 

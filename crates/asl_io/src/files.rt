@@ -119,7 +119,8 @@ fn take_piece<F: Files>(
     Ok(n)
 }
 
-/// Reads a whole file that has at most `limit` bytes.
+/// Reads a whole file that has at most `limit` bytes: `TooLong` where it has more, `Fault` where a call of the files
+/// fails.
 pub fn read_file<F: Files>(
     alloc: Global,
     files: &mut F,

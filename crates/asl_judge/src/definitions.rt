@@ -50,7 +50,7 @@ fn fields_in_order(
     Ok(types)
 }
 
-/// The fields of a type, with the types that are written.
+/// The fields of a type, with the types that are written. It is `fields_in_order`, with the clause of the rules.
 #[tactic(auto, using(crate::proofs::DefinitionLemmas::fields_good, crate::proofs::DefinitionLemmas::fields_bad))]
 fn fields_written(
     alloc: Global,
@@ -78,7 +78,7 @@ fn is_once_by_places(alloc: Global, fields: &[Formal]) -> Result<bool, AllocErro
     Ok(true)
 }
 
-/// Whether each field stands once.
+/// Whether each field stands once. It is `is_once_by_places`, with the clause of the rules.
 #[tactic(auto, using(crate::proofs::OnceLemmas::once_is))]
 fn is_once(alloc: Global, fields: &[Formal]) -> Result<bool, AllocError>
     ensures { IfOk result (λ once. once ≡ rules.once fields.now []) }
@@ -108,7 +108,7 @@ fn labels_in_order(alloc: Global, labels: &[Ident]) -> Result<Items<Name>, Alloc
     Ok(names)
 }
 
-/// The labels of an enumeration.
+/// The labels of an enumeration. It is `labels_in_order`, with the clause of the rules.
 #[tactic(auto, using(crate::proofs::DefinitionLemmas::labels_all))]
 fn labels_of(alloc: Global, labels: &[Ident]) -> Result<Items<Name>, AllocError>
     ensures { IfOk result (λ names. names ≡ rules.labels labels.now) }

@@ -25,6 +25,7 @@ pub(crate) enum Outcome<'a> {
 }
 
 impl<'a> Outcome<'a> {
+    /// Whether it is well formed.
     pub(crate) fn is_fine(&self) -> bool
         ensures { result ≡ rules.is_fine (judged_of self.now) }
     {

@@ -127,7 +127,8 @@ fn both_in_order(
     })
 }
 
-/// Storage of a written type, which its initialiser fits.
+/// Storage of a written type, which its initialiser fits. It is `both_in_order`, with the clause of the rules, which
+/// alone speaks of `d`.
 fn of_both(
     alloc: Global,
     context: Context,

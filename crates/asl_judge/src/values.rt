@@ -59,7 +59,8 @@ pub fn known(alloc: Global, context: Context, e: &Expr) -> Result<Value, Refused
     constants::known(alloc, context.names, e)
 }
 
-/// A value as it goes through a type: its bits carry the bitfields that are written there.
+/// A value as it goes through a type: its bits carry the bitfields that are written there. It is `see`, with a clause
+/// over the closed type.
 #[tactic(auto, using(crate::proofs::ValueLemmas::seen_in))]
 pub fn with_view(alloc: Global, ty: &Ty, value: &Value) -> Result<Value, AllocError>
     ensures { IfOk result (λ it. value_of it ≡ viewed (closed ty.now) (value_of value.now)) }

@@ -47,6 +47,7 @@ impl Drop for Stage {
     }
 }
 
+/// Whether the machine can be called.
 pub(crate) fn is_ready(stage: &Stage) -> bool
     ensures { result ≡ stages.is_ready stage.now }
 {

@@ -3,6 +3,7 @@
 ghost use Rattle.std.specs.Prelude.{◌≡◌, map};
 ghost use Rattle.asl_rules.specs.Names as rules;
 
+/// The names of the subprograms of the library, in the order of the rules.
 pub const LIBRARY: [&str; 12] = [
     "UInt",
     "SInt",

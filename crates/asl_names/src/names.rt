@@ -30,6 +30,7 @@ impl<'a> Model for Names<'a> {
 }
 
 impl<'a> Names<'a> {
+    /// No names.
     pub fn new(alloc: Global) -> Names<'a>
         ensures { result ≡ [] }
     {
@@ -117,7 +118,8 @@ fn declare_all<'a>(alloc: Global, decls: &'a [Decl]) -> Result<Names<'a>, Refuse
     Ok(names)
 }
 
-/// T01 at the first name that is taken, by one before it or by the library.
+/// T01 at the first name that is taken, by one before it or by the library. It is `declare_all` without its names, with
+/// the clause of the rules.
 #[tactic(auto, using(crate::proofs::Walks::names_walk))]
 pub(crate) fn check_names(alloc: Global, decls: &[Decl]) -> Result<(), Refused>
     ensures { Agrees result (rules.names_rule [] (rules.all_declared decls.now)) }

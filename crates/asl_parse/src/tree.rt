@@ -20,7 +20,7 @@ use asl_syn::tree::Decl;
 use sqlite_items::Items;
 use std::alloc::Global;
 
-/// So many levels may be open.
+/// How many levels may be open.
 const MAX_LEVELS: usize = 100;
 
 /// Reads all tokens of a file.

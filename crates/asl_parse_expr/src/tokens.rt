@@ -14,6 +14,7 @@ use asl_syn::token::{Span, Token};
 use asl_syn::tree::{BinaryOperator, Ident, Text, UnaryOperator};
 use std::alloc::{AllocError, Global};
 
+/// The tokens of a file that are still ahead, with how many levels may be opened and where the last one read ended.
 #[derive(Drop)]
 pub struct Tokens<'a> {
     /// The bytes of the file.

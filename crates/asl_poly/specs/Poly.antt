@@ -7,8 +7,7 @@ use Rattle.asl_poly.specs.Limits.{IsMap, weight, degree, atoms_of_both}
 use Rattle.asl_poly.specs.Operations.{constant_of, constant_terms, atom_terms, sum_terms, difference_terms, product_terms}
 use Rattle.asl_poly.specs.Substitute.{replaced, replaced_weight, replaced_degree, note_replaced, replaced_at}
 
--- ---- What a polynomial is worth, where `a` gives an integer to each atom. Crates above use these words alone, and no equation of values, so that the
--- terms can stand over a denominator one day.
+-- ---- What a polynomial is worth, where `a` gives an integer to each atom. Crates above use these words alone, and no equation of values.
 
 -- p has the value n
 abbrev pub HasWidth : Polynomial → (ℕ → ℤ) → ℤ → Type 0

@@ -135,7 +135,7 @@ impl Poly {
         equal_terms(&self.terms, &other.terms)
     }
 
-    /// The integer that this is for all integers at its atoms, None where there is none.
+    /// The integer that this is for all integers at its atoms, `None` where there is none.
     pub fn as_constant(&self) -> Option<i128>
         ensures number { result ≡ constant_value self.now }
         ensures value { MatchOption result ((c : ℤ) → IsConstant self.now c → ⊥) (λ c. IsConstant self.now c) }

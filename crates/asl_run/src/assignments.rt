@@ -89,7 +89,7 @@ fn parts_of(alloc: Global, targets: &[TreePlace], value: Value) -> Result<Items<
     Ok(parts)
 }
 
-/// Places in turn.
+/// Stores parts at their places, in turn.
 fn store_all<K: Sink, E: Fn(Setting, &mut Run, &mut K, &Tree) -> Result<Value, Stop>, X>(
     here: &Nodes<E, X>,
     run: &mut Run,

@@ -223,8 +223,10 @@ fn has_plain_elements(array: &Value) -> bool {
         Value::Array(kind, _) => match kind.get() {
             Kind::Integers => true,
             Kind::Booleans => true,
+            // an array of any elements may be left to its node
             _ => false,
         },
+        // any value may be left to its node
         _ => false,
     }
 }
@@ -371,6 +373,7 @@ fn node(run: &Run, left: &mut u64, reach: Reach, e: &Tree) -> AtOnce
         }
         Tree::Element(note, a, i) => match a.get() {
             Tree::Read(_, slot) => indexed(run, left, reach, note.span, *slot, i.get()),
+            // any form may be left to its node
             _ => AtOnce::Neither,
         },
         Tree::Unary(_, operator, a) => unary(run, left, reach, *operator, a.get()),

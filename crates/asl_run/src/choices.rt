@@ -40,6 +40,8 @@ pub struct Case<'r> {
     pub last: &'r Last,
 }
 
+/// A `case`: its value, and then the first alternative that it matches and whose condition holds, or else `otherwise`,
+/// or D09.
 pub fn exec_case<
     K: Sink,
     E: Fn(Setting, &mut Run, &mut K, &Tree) -> Result<Value, Stop>,
@@ -145,7 +147,7 @@ fn is_chosen<K: Sink, E: Fn(Setting, &mut Run, &mut K, &Tree) -> Result<Value, S
     is_guarded(here, run, sink, x, it, zs)
 }
 
-/// With the values of the expressions in the patterns.
+/// The same, with the values of the expressions in the patterns.
 fn is_guarded<K: Sink, E: Fn(Setting, &mut Run, &mut K, &Tree) -> Result<Value, Stop>, X>(
     here: &Nodes<E, X>,
     run: &mut Run,

@@ -111,7 +111,7 @@ fn turns_of<K: Sink, E: Fn(Setting, &mut Run, &mut K, &Tree) -> Result<Value, St
 
 // ---- `for`
 
-/// The bounds and then the limit, once.
+/// A `for`: its bounds and then its limit, each evaluated once, and then its turns.
 pub fn exec_for<
     K: Sink,
     E: Fn(Setting, &mut Run, &mut K, &Tree) -> Result<Value, Stop>,
@@ -287,6 +287,7 @@ fn exec_turn<K: Sink, E, X: Fn(Setting, &mut Run, &mut K, &Items<Act>) -> Result
 
 // ---- `while`
 
+/// A `while`: its limit, evaluated once, then its condition, and turns while that holds.
 pub fn exec_while<
     K: Sink,
     E: Fn(Setting, &mut Run, &mut K, &Tree) -> Result<Value, Stop>,
@@ -350,6 +351,7 @@ fn while_turns<
 
 // ---- `repeat`
 
+/// A `repeat`: its limit, evaluated once, and turns up to one behind which its condition holds.
 pub fn exec_repeat<
     K: Sink,
     E: Fn(Setting, &mut Run, &mut K, &Tree) -> Result<Value, Stop>,

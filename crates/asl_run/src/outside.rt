@@ -19,6 +19,7 @@ use asl_value::Value;
 use sqlite_items::Items;
 use std::alloc::Global;
 
+/// The place of a call from outside that finds no subprogram.
 const ORIGIN: Span = Span {
     file: 0,
     start: 0,
@@ -34,7 +35,7 @@ fn open_limit() -> u32
 }
 
 /// Calls a subprogram that has no parameters, by its number in source order: no limit refuses it, and it enters no node of
-/// its own.
+/// its own. Gives what the subprogram returns, `None` of a procedure; `Stuck` where there is no such subprogram.
 pub fn call<K: Sink>(
     alloc: Global,
     funcs: &Items<TreeFunc>,

@@ -39,6 +39,7 @@ use asl_tree::tree::Tree;
 use asl_value::{Value, truth};
 use sqlite_items::Items;
 
+/// Where a statement stands.
 pub fn act_span(s: &Act) -> Span
     ensures { result ≡ act_at (act_of s.now) }
 {

@@ -63,7 +63,7 @@ pub(crate) fn filled_kind(alloc: Global, ty: &Filled) -> Result<Kind, AllocError
     }
 }
 
-/// The kind of a declared type.
+/// The kind of a declared type. It is `kind`, with a clause over the closed type.
 #[tactic(auto, using(crate::proofs::FilledKinds::kind_known))]
 fn known_kind(alloc: Global, ty: &Ty) -> Result<Kind, AllocError>
     ensures { IfOk result (λ k. kind_of k ≡ kind_at (cl.closed ty.now)) }
@@ -185,7 +185,7 @@ pub(crate) fn filled_view(alloc: Global, ty: &Filled, x: &Value) -> Result<Value
     }
 }
 
-/// A value as it goes through a declared type.
+/// A value as it goes through a declared type. It is `see`, with a clause over the closed type.
 #[tactic(auto, using(crate::proofs::FilledViews::known_seen))]
 fn known_view(alloc: Global, ty: &Ty, x: &Value) -> Result<Value, AllocError>
     ensures { IfOk result (λ it. value_of it ≡ views.viewed (cl.closed ty.now) (value_of x.now)) }

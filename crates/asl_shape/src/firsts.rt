@@ -23,8 +23,9 @@ use asl_value::{Failure, FieldValue, Kind, Name, Supers, Value, copy};
 use sqlite_items::Items;
 use std::alloc::{AllocError, Global};
 
-/// The value that a variable of a declared type begins with: the lowest of a constraint without 0 (D16 where it has none), bits
-/// that are all 0 (D14 where there are no such bits), and so for each part. In the type no name of a body stands.
+/// The value that a variable of a declared type begins with: of integers 0 where the constraint has it, else the first
+/// integer of its first part that isn't empty (D16 where all are empty), `FALSE`, bits that are all 0 (D14 where there
+/// are no such bits), the first label, and so for each part. In the type no name of a body stands.
 #[cycle(first_value)]
 pub fn first_value(alloc: Global, span: Span, ty: &Ty) -> Result<Value, Failure>
     ensures { Is value_of result (rules.first_value WIDTH_LIMIT span (closed ty.now)) }
@@ -93,7 +94,7 @@ fn first_label(alloc: Global, labels: &[Name]) -> Result<Name, AllocError>
     }
 }
 
-/// What an exception is that no constructed type names.
+/// An exception as one that is built with this name, which reaches these; any other value itself.
 fn named_as(name: &Name, supers: &Supers, x: Value) -> Result<Value, AllocError>
     ensures { IfOk result (λ it. value_of it ≡ values.named_as name.now supers.now (value_of x)) }
 {

@@ -1,4 +1,4 @@
-//! Statements.
+//! Statements: the names that they declare, their effects and their typed trees, or the one fault.
 #![tactic(auto)]
 
 mod binds;

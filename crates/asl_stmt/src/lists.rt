@@ -67,7 +67,8 @@ fn check_block<'a>(names: &mut Scope<'a>, body: &Body, stmts: &'a [Stmt]) -> Res
     Ok(list)
 }
 
-/// The statements of a body in order. The names that they declare stay.
+/// The statements of a body in order. The names that they declare stay. It is `check_list`, with the clause of the
+/// rules.
 pub fn check_stmts<'a>(
     names: &mut Scope<'a>,
     body: &Body,

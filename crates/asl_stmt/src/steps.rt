@@ -85,7 +85,7 @@ pub(crate) fn check_integer(e: &Tree) -> Result<(), Refused>
     }
 }
 
-/// The limit of a loop is an integer.
+/// The limit of a loop is an integer, else T05 at it.
 pub(crate) fn check_limit(limit: &Option<Boxed<Tree>>) -> Result<(), Refused>
     ensures { Agrees result (branches.limit_fits (maybe_operand limit.now)) }
 {

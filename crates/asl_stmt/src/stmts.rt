@@ -1,4 +1,4 @@
-//! Statements.
+//! The forms of statements.
 
 ghost use Rattle.std.specs.Prelude.{◌≡◌};
 ghost use Rattle.asl_rules.specs.Tests.{Tests};

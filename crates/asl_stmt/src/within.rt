@@ -1,5 +1,5 @@
 //! The lists inside a statement. A statement is checked by functions that take the one which checks the lists inside it as a
-//! parameter, so that each is proved by itself, and only the three that begin lists and statements (`stmts.rt`) call one
+//! parameter, so that each is proved by itself, and only the three that begin lists and statements (`lists.rt`) call one
 //! another.
 
 ghost use Rattle.std.specs.Prelude.{◌≡◌, ◌<◌, map, OnOk};

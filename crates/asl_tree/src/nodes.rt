@@ -17,24 +17,28 @@ use asl_value::{Shell, SliceShape, Value};
 use sqlite_items::{Boxed, Items};
 use std::alloc::{AllocError, Global};
 
+/// An integer literal with its value.
 pub fn int(alloc: Global, note: Note, n: u128) -> Result<Boxed<Tree>, AllocError>
     ensures { IfOk result (λ t. tree_of t ≡ rules.Int (note_view note) n) }
 {
     Boxed::new(alloc, Tree::Int(note, n))
 }
 
+/// A boolean, bits or a label, with its value.
 pub fn constant(alloc: Global, note: Note, value: Value) -> Result<Boxed<Tree>, AllocError>
     ensures { IfOk result (λ t. tree_of t ≡ rules.Constant (note_view note) (value_of value)) }
 {
     Boxed::new(alloc, Tree::Constant(note, value))
 }
 
+/// A name of storage.
 pub fn read(alloc: Global, note: Note, slot: Slot) -> Result<Boxed<Tree>, AllocError>
     ensures { IfOk result (λ t. tree_of t ≡ rules.Read (note_view note) slot) }
 {
     Boxed::new(alloc, Tree::Read(note, slot))
 }
 
+/// `op e`.
 pub fn unary(
     alloc: Global,
     note: Note,
@@ -46,6 +50,7 @@ pub fn unary(
     Boxed::new(alloc, Tree::Unary(note, op, a))
 }
 
+/// `e op e`.
 pub fn binary(
     alloc: Global,
     note: Note,
@@ -58,6 +63,7 @@ pub fn binary(
     Boxed::new(alloc, Tree::Binary(note, op, a, b))
 }
 
+/// `if e then e else e`.
 pub fn conditional(
     alloc: Global,
     note: Note,
@@ -77,6 +83,7 @@ fn tuple_of(alloc: Global, note: Note, parts: Items<Tree>) -> Result<Boxed<Tree>
     Boxed::new(alloc, Tree::Tuple(note, parts))
 }
 
+/// A tuple of these operands. It is `tuple_of`, with a clause over operands.
 pub fn tuple(alloc: Global, note: Note, parts: Items<Tree>) -> Result<Boxed<Tree>, AllocError>
     ensures { IfOk result (λ t. tree_of t ≡ rules.Tuple (note_view note) (trees_of (all_operands parts))) }
 {
@@ -96,6 +103,8 @@ fn construction_of(
     Boxed::new(alloc, Tree::Construct(note, shell, fields, values))
 }
 
+/// A construction of these operands, to which the fields' places refer. It is `construction_of`, with a clause over
+/// operands.
 pub fn construct(
     alloc: Global,
     note: Note,
@@ -108,6 +117,7 @@ pub fn construct(
     construction_of(alloc, note, shell, fields, values)
 }
 
+/// `e.f`: the place of the field, from 0.
 pub fn field(
     alloc: Global,
     note: Note,
@@ -119,6 +129,7 @@ pub fn field(
     Boxed::new(alloc, Tree::Field(note, a, place))
 }
 
+/// `e.f`, where `f` is a bitfield.
 pub fn bitfield(
     alloc: Global,
     note: Note,
@@ -130,6 +141,7 @@ pub fn bitfield(
     Boxed::new(alloc, Tree::Bitfield(note, a, field))
 }
 
+/// `e.[f, g]`.
 pub fn bitfields(
     alloc: Global,
     note: Note,
@@ -141,6 +153,7 @@ pub fn bitfields(
     Boxed::new(alloc, Tree::Bitfields(note, a, fields))
 }
 
+/// `e[[e]]`.
 pub fn element(
     alloc: Global,
     note: Note,
@@ -152,6 +165,7 @@ pub fn element(
     Boxed::new(alloc, Tree::Element(note, a, index))
 }
 
+/// `e[..]`.
 pub fn slices(
     alloc: Global,
     note: Note,
@@ -164,6 +178,7 @@ pub fn slices(
     Boxed::new(alloc, Tree::Slices(note, a, shapes, operands))
 }
 
+/// `e as T`.
 pub fn conversion(
     alloc: Global,
     note: Note,
@@ -176,6 +191,7 @@ pub fn conversion(
     Boxed::new(alloc, Tree::As(note, a, shape, sizes))
 }
 
+/// `e IN p`.
 pub fn membership(
     alloc: Global,
     note: Note,
@@ -188,6 +204,7 @@ pub fn membership(
     Boxed::new(alloc, Tree::In(note, a, shape, trees))
 }
 
+/// A call: see `Tree::Call`.
 pub fn call(
     alloc: Global,
     note: Note,

@@ -282,7 +282,8 @@ impl Subprograms {
         self.signatures.as_slice()
     }
 
-    /// The overload of this name whose formals have the kinds of these types, with its number in source order, from 0.
+    /// The overload of this name whose formals have the kinds of these types, with its number in source order, from 0;
+    /// `None` where there is none.
     pub fn choose(&self, name: &[u8], arguments: &[Ty]) -> Option<(usize, &Signature)>
         ensures { option_map (λ p. record { number = p.0; signature = p.1.now }) result ≡ rules.choose name.now (parts_of arguments.now) self.now }
     {

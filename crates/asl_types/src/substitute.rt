@@ -13,7 +13,7 @@ use asl_shared::Shared;
 use sqlite_items::Items;
 use std::alloc::{AllocError, Global};
 
-/// A width with widths in the place of its atoms.
+/// A width with widths in the place of its atoms, and `None` where that is past the limits.
 #[tactic(auto, using(crate::proofs::SubstituteLemmas::refused))]
 pub fn substituted(
     alloc: Global,

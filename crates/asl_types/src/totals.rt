@@ -17,7 +17,7 @@ use asl_syn::token::Span;
 use sqlite_items::Items;
 use std::alloc::{AllocError, Global};
 
-/// The heaviest width.
+/// The greatest weight of a width: 2^62.
 const HEAVIEST: u64 = 4_611_686_018_427_387_904;
 
 /// The most atoms of a width.

@@ -396,7 +396,9 @@ fn construct(
     Ok(nodes::construct(alloc, note, made.into_shell(), places, values)?)
 }
 
-/// A construction whose values were typed, of the type of its name: T02 where that is none.
+/// A construction whose values were typed, of the type of its name: T02 where that is none, T05 where it is no record
+/// and no exception, T15 at a name given twice or that is no field's, the misfit of a value, T15 where a field is
+/// missing, then T13, then T12.
 #[tactic(auto, using(crate::proofs::ConstructRows::row_missing, crate::proofs::ConstructRows::row_of))]
 pub fn type_construction(
     alloc: Global,

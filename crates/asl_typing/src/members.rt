@@ -115,7 +115,7 @@ enum Found {
     Bitfield(BitField),
 }
 
-/// A part of a type by its name, on its own: T15 at the name where there is none.
+/// A part of a type by its name, on its own, with the faults of `member_named`.
 fn own_member(name: &Ident, ty: &Ty) -> Result<Found, Refused>
     ensures rule { Met found_view result (rules.member_named name.now ty.now) }
     ensures room { IfOk result (λ m. IsNarrow (found_view m)) }
@@ -126,7 +126,7 @@ fn own_member(name: &Ident, ty: &Ty) -> Result<Found, Refused>
     }
 }
 
-/// A field or a bitfield of what was typed.
+/// A field or a bitfield of what was typed: the fault of `member_named`, then T12.
 pub fn type_field(
     alloc: Global,
     class: Effect,
@@ -214,7 +214,7 @@ pub fn bitfields_named(
     Ok(fields)
 }
 
-/// Bitfields of what was typed.
+/// Bitfields of what was typed: the fault of `bitfields_named`, then T12.
 pub fn type_bitfields(
     alloc: Global,
     class: Effect,
@@ -254,7 +254,7 @@ pub fn indexed(span: Span, array: &Ty, index: &Ty) -> Result<Ty, Refused>
     }
 }
 
-/// An element of what was typed, at what was typed.
+/// An element of what was typed, at what was typed: the fault of `indexed`, then T13, then T12.
 pub fn type_element(
     alloc: Global,
     class: Effect,

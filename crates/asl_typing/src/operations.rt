@@ -33,7 +33,7 @@ use asl_types::{Ty, effects};
 use sqlite_items::{Boxed, Items};
 use std::alloc::{AllocError, Global};
 
-/// An operation with one operand.
+/// An operation with one operand: the fault of `type_unary`, then T12 where its effect passes the class of the body.
 pub fn type_operation_of_one(
     alloc: Global,
     class: Effect,
@@ -49,7 +49,7 @@ pub fn type_operation_of_one(
     Ok(nodes::unary(alloc, Note { span, ty, effect }, op, operand)?)
 }
 
-/// An operation with two operands.
+/// An operation with two operands: the fault of `type_binary`, then T13 where these may not stand together, then T12.
 pub fn type_operation(
     alloc: Global,
     class: Effect,
@@ -120,7 +120,8 @@ fn conditional_note(
     Ok(Note { span, ty, effect })
 }
 
-/// A conditional expression.
+/// A conditional expression: T05 where the condition is no boolean, T06 or T05 where the types have no join, then T13,
+/// then T12.
 pub fn type_conditional(
     alloc: Global,
     class: Effect,
@@ -155,7 +156,7 @@ fn tuple_type(alloc: Global, span: Span, parts: &[Tree]) -> Result<Ty, Refused>
     bounded(span, Ty::tuple(Shared::new(alloc, found)?))
 }
 
-/// A tuple.
+/// A tuple: T20 past the limits, then T13, then T12.
 pub fn type_tuple(
     alloc: Global,
     class: Effect,

@@ -186,9 +186,9 @@ fn first_integer(given: &[Value]) -> Option<(i128, &[Value])>
 
 // ---- tests
 
-/// The places of slices of so many bits, or of an integer, which has no end, the first on top, those past 2^127 as there:
-/// D01 for a width past the range of integers, D14 where one is below 0 or past `WIDTH_LIMIT`, D05 for places past the end or
-/// below 0.
+/// The places of slices of so many bits, or of an integer, which has no end, the first on top, a place past 2^127
+/// counted as 2^127: D01 for a width past the range of integers, D14 where one is below 0 or past `WIDTH_LIMIT`, D05
+/// for places past the end or below 0.
 #[tactic(auto, using(crate::proofs::SlicesRead::chain_on, crate::proofs::SlicesRead::chain_off))]
 pub(crate) fn places_in(
     alloc: Global,
@@ -253,7 +253,7 @@ fn places_of(
     Ok(made)
 }
 
-/// The place where a slice begins, which must lie within so many, where it has an end: D05 where it doesn't.
+/// The place where a slice begins: D05 where it is below 0, or where its places go past the end, where there is one.
 #[tactic(auto, using(crate::proofs::SlicesRead::low_there, crate::proofs::SlicesRead::low_past, crate::proofs::SlicesRead::low_below))]
 fn low_in(span: Span, top: Option<u32>, wide: Wide) -> Result<u128, Failure>
     ensures { Is (λ n. n) result (near_low (rules.low_of span top (low_of wide.low) wide.width)) }

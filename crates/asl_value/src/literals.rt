@@ -94,6 +94,7 @@ impl MaskDigits {
                 }
             }
             MaskDigits::Wide(digits) => {
+                // Their clauses say that bits are within `WIDTH_LIMIT`, and these digits past it.
                 let _most = bits.width();
                 let _count = digits.len();
                 None

@@ -32,7 +32,7 @@ pub fn literal(span: Span, n: u128) -> Result<Value, Failure>
     }
 }
 
-/// A boolean.
+/// The boolean that a value is; any other value is of the wrong kind, which no run of a checked program meets.
 pub fn truth(span: Span, value: &Value) -> Result<bool, Failure>
     ensures { Is (λ b. b) result (rules.truth span (value_of value.now)) }
 {
@@ -42,7 +42,7 @@ pub fn truth(span: Span, value: &Value) -> Result<bool, Failure>
     }
 }
 
-/// The value of an operator with one operand.
+/// The value of an operator with one operand: D01 where an integer has no opposite.
 #[tactic(auto, using(crate::proofs::Integers::negated))]
 pub fn unary(
     alloc: Global,
@@ -60,8 +60,9 @@ pub fn unary(
     }
 }
 
-/// The value of an operator with two operands, both of which were evaluated. Labels are the same where both their names and
-/// those of their enumerations are. Bits are of at most `WIDTH_LIMIT` places: D14 past it.
+/// The value of an operator with two operands, both of which were evaluated. Labels of one enumeration are the same
+/// where their names are; of two enumerations they are of the wrong kind. D01 to D04 as the operator's rule says, and
+/// D14 where bits would be wider than `WIDTH_LIMIT`.
 pub fn binary(
     alloc: Global,
     span: Span,

@@ -51,7 +51,7 @@ fn element_at(span: Span, kind: &Kind, elements: &[Value], index: i128) -> Resul
     }
 }
 
-/// An index into so many elements.
+/// The index as a place among so many elements, `None` where there is none.
 #[tactic(auto, using(crate::proofs::Elements::index_low, crate::proofs::Elements::index_high, crate::proofs::Elements::index_below))]
 pub(crate) fn index_in(index: i128, count: usize) -> Option<usize>
     ensures value { result ≡ reaching.index_in index count }
@@ -124,7 +124,7 @@ fn part_of_tuple(place: usize, value: &Value) -> Option<&Value>
     }
 }
 
-/// The value in a place.
+/// The value in a place. It is `sqlite_items::at`, with the clause of the rules.
 fn value_at(place: usize, values: &[Value]) -> Option<&Value>
     ensures { option_map (λ x. value_of x.now) result ≡ rules.value_at place (all_values values.now) }
 {

@@ -201,6 +201,7 @@ fn exactly(bits: &Bits, low: u32, width: u32) -> Bits
     requires { low + width ≤ length bits.now }
     ensures { result ≡ slice_of bits.now low width }
 {
+    // Its clause says that the width is within `WIDTH_LIMIT`.
     let _most = bits.width();
     match bits.slice(low as i128, width as i128) {
         Ok(slice) => slice,
@@ -266,6 +267,7 @@ fn with_some(bits: &Bits, place: &Places, part: &Bits, from: u32) -> Bits
     requires inside { place.now.low + place.now.width ≤ length bits.now }
     ensures { result ≡ with_slice bits.now place.now.low (slice_of part.now from place.now.width) }
 {
+    // Their clauses say that the widths are within `WIDTH_LIMIT`.
     let _most = bits.width();
     let _all = part.width();
     match place.up_to(WIDTH_LIMIT as u128) {

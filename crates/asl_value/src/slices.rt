@@ -154,8 +154,8 @@ fn places_among(
     tested_places(alloc, span, shapes, given, Some(most))
 }
 
-/// The places of slices of so many bits, or of an integer, those past 2^127 as there: D14 where they are more than
-/// `WIDTH_LIMIT`.
+/// The places of slices of so many bits, or of an integer, a place past 2^127 counted as 2^127: D14 where they are more
+/// than `WIDTH_LIMIT`.
 #[tactic(auto, using(crate::proofs::NearPlaces::tested_good, crate::proofs::NearPlaces::tested_past, crate::proofs::NearPlaces::tested_off))]
 fn tested_places(
     alloc: Global,

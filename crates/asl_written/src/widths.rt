@@ -36,7 +36,7 @@ use asl_value::Value;
 use sqlite_items::Boxed;
 use std::alloc::{AllocError, Global};
 
-/// The heaviest width.
+/// The greatest weight of a width: 2^62.
 const HEAVIEST: u128 = 4_611_686_018_427_387_904;
 
 /// The greatest integer that 128 bits hold.

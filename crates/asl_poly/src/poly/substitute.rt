@@ -20,7 +20,7 @@ use std::alloc::{AllocError, Global};
 // A weight above the limit, and small enough for the product of two such weights to fit a machine integer.
 const CAP: u128 = 1 << 63;
 
-// What stands for the atom.
+// What `by` has for the atom, and else the atom itself.
 fn map_at(alloc: Global, by: &[(Atom, Poly)], x: Atom) -> Result<Vec<Term>, AllocError>
     ensures terms { IfOk result (λ v. v.items ≡ map_at by.now x) }
     ensures map { IfOk result (λ v. IsMap v.items) }
@@ -66,7 +66,7 @@ fn capped_sum(a: u128, b: u128) -> u128
     (a + b).min(CAP)
 }
 
-// The weight of what stands for an atom.
+// The weight of what stands for an atom. It is `weight`, with a clause that bounds it.
 fn weight_of_map(q: &[Term]) -> u128
     requires { IsMap q.now }
     ensures is { result ≡ weight q.now }
@@ -102,7 +102,7 @@ fn factors_degree(alloc: Global, by: &[(Atom, Poly)], xs: &[Atom]) -> Result<usi
     Ok(sum)
 }
 
-// The degree of what stands for an atom.
+// The degree of what stands for an atom. It is `degree`, with a clause that bounds it.
 fn low_degree(q: &[Term]) -> usize
     requires { IsMap q.now }
     ensures is { result ≡ degree q.now }
@@ -174,7 +174,8 @@ fn times_maps(
     Ok(terms)
 }
 
-// The product with what stands for one atom.
+// The product with what stands for one atom. It is `multiplied`, whose bound on the second list holds of what stands for
+// an atom.
 fn times_map(alloc: Global, p: &[Term], q: &[Term]) -> Result<Vec<Term>, AllocError>
     requires left { weight p.now ≤ 2 ^ 62 }
     requires map { IsMap q.now }
