@@ -3,12 +3,15 @@
 
 ghost use Rattle.std.specs.Prelude.{◌≡◌, ℕ, List, [], ◌∷◌, map, Ok};
 ghost use Rattle.asl_grammar.specs.lexemes.Texts.{LiesIn};
-ghost use Rattle.asl_grammar.specs.Reading.{File, Reads};
+ghost use Rattle.asl_grammar.specs.Reading.{File, Reader, IsReading, Reads};
 ghost use Rattle.asl_rules.specs.declared.entry.Entry.{Entry};
 ghost use Rattle.asl_rules.specs.Answers.{FaultOfFiles, OneAnswer};
 ghost use Rattle.asl_rules.specs.Names.{names_rule, all_declared};
 ghost use Rattle.asl_rules.specs.Programs.{FaultOf};
+ghost use Rattle.asl_rules.specs.Report.{report_of};
 ghost use Rattle.asl_rules.specs.Tests.{Tests, IsRight};
+ghost use Rattle.asl_rules.specs.Texts.{Text};
+ghost use Rattle.asl_syn.specs.Command.{Command};
 ghost use Rattle.asl_syn.specs.declared.code.Fault.{Fault};
 ghost use Rattle.asl_syn.specs.declared.code.StaticCode.TheVariants.{T04};
 ghost use Rattle.asl_syn.specs.declared.tree.Decl.{Decl};
@@ -18,11 +21,13 @@ ghost use Rattle.asl_verdict.specs.Evaluated.{Evaluates, HasCause};
 /// single fault (`one`), and where there is a file at all, the fault's span lies within one of the files (`within`). What the
 /// rules evaluate before any run, of declarations whose names are apart, is never stuck: it gives a value of its type, or has
 /// a dynamic fault (`evaluates`). So a fault of the code T04 that is met after reading has its dynamic code, or stands at a
-/// call or a global `var` in an initialiser or in the limit of a subprogram (`cause`).
+/// call or a global `var` in an initialiser or in the limit of a subprogram (`cause`). A command has one report: it is the same by
+/// all right tests of one width limit, and by whatever reads files as the grammar says (`report`).
 #[tactic(auto)]
 pub fn law2()
     ensures one { (limit : ℕ) (e : Entry) (files : List File) → OneAnswer limit e files }
     ensures within { (limit : ℕ) (e : Entry) (file : File) (files : List File) (f : Fault) → FaultOfFiles limit e (file ∷ files) f → LiesIn 0 (map (λ g. g.1) (file ∷ files)) f.span }
     ensures evaluates { (t : Tests) → IsRight t → (files : List File) (ds : List Decl) → Reads files (Ok ds) → names_rule [] (all_declared ds) ≡ Ok tt → Evaluates t ds }
     ensures cause { (limit : ℕ) (e : Entry) (files : List File) (ds : List Decl) (f : Fault) → Reads files (Ok ds) → (p : FaultOf limit e ds f) → f.code ≡ T04 → HasCause p.tests ds f }
+    ensures report { (t u : Tests) → IsRight t → IsRight u → t.limit ≡ u.limit → (read other : Reader) → IsReading read → IsReading other → (command : Command) (held : Text → Text) → report_of t read command held ≡ report_of u other command held }
 {}

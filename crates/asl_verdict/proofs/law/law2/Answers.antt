@@ -1,3 +1,4 @@
+use Rattle.asl_rules.proofs.verdict.OneReport.{one_report}
 use Rattle.asl_rules.proofs.verdict.OneVerdict.{one_answer}
 use Rattle.asl_verdict.proofs.evaluations.NeverStuck.{read_evaluates}
 use Rattle.asl_verdict.proofs.evaluations.FaultCauses.{read_cause}
@@ -15,3 +16,6 @@ returns-clause-evaluates c = read_evaluates
 
 pub returns-clause-cause : goal.returns-clause-cause
 returns-clause-cause c = read_cause
+
+pub returns-clause-report : goal.returns-clause-report
+returns-clause-report c = one_report
