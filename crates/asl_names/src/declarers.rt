@@ -28,7 +28,9 @@ fn keep_decl<'a>(table: &mut Firsts<'a>, d: &'a Decl, place: usize) -> Result<()
             table.keep(t.name.text.as_slice(), place)?;
             match &t.def {
                 TypeDef::Labels(_, labels) => keep_labels(table, labels.as_slice(), place),
-                _ => Ok(()),
+                TypeDef::Alias(_) => Ok(()),
+                TypeDef::Record(_, _) => Ok(()),
+                TypeDef::Exception(_, _) => Ok(()),
             }
         }
         Decl::Storage(s) => table.keep(s.name.text.as_slice(), place),

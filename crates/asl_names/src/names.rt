@@ -94,7 +94,9 @@ fn declare_type<'a>(names: &mut Names<'a>, d: &'a TypeDecl) -> Result<(), Refuse
     declare(names, &d.name, false)?;
     match &d.def {
         TypeDef::Labels(_, labels) => declare_labels(names, labels.as_slice()),
-        _ => Ok(()),
+        TypeDef::Alias(_) => Ok(()),
+        TypeDef::Record(_, _) => Ok(()),
+        TypeDef::Exception(_, _) => Ok(()),
     }
 }
 

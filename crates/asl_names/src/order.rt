@@ -65,12 +65,18 @@ fn offer_each(order: &mut Listed, graph: &[Items<usize>]) -> Result<(), AllocErr
     Ok(())
 }
 
-/// Of each node those that use it, each as often as it does.
-fn users_of(alloc: Global, graph: &[Items<usize>]) -> Result<Vec<Items<usize>>, AllocError> {
+/// No users of each of so many nodes.
+fn no_users(alloc: Global, count: usize) -> Result<Vec<Items<usize>>, AllocError> {
     let mut users = Vec::new(alloc);
-    for _ in 0..graph.len() {
+    for _ in 0..count {
         users.push(Items::new(alloc))?;
     }
+    Ok(users)
+}
+
+/// Of each node those that use it, each as often as it does.
+fn users_of(alloc: Global, graph: &[Items<usize>]) -> Result<Vec<Items<usize>>, AllocError> {
+    let mut users = no_users(alloc, graph.len())?;
     for (node, used) in graph.iter().enumerate() {
         add_user(&mut users, node, used.as_slice())?;
     }

@@ -2,10 +2,8 @@
 //! are dropped by a call.
 #![tactic(auto)]
 
-mod boxes;
 mod held;
 mod shared;
 
-pub use boxes::{three_boxes, two_boxes};
 pub use held::Held;
 pub use shared::Shared;

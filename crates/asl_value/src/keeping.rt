@@ -1,5 +1,4 @@
-//! What a place keeps of a value: the bitfields of the value that stood there, none, or those of its type; and whether it
-//! takes the value.
+//! What a place keeps of a value: the bitfields of the value that stood there, none, or those of its type; and whether kinds are the same.
 ghost use Rattle.std.specs.Prelude.{◌≡◌, ◌==◌, length, IfOk};
 ghost use Rattle.asl_rules.specs.Types.{kind_eq, kinds_eq};
 ghost use Rattle.asl_rules.specs.HoldsBits as bits;
@@ -19,7 +18,7 @@ use std::alloc::{AllocError, Global};
 
 /// Whether there are bits in a value, other than in its fields.
 #[cycle(has_bits)]
-pub fn has_bits(value: &Value) -> bool
+fn has_bits(value: &Value) -> bool
     ensures { result ≡ bits.has_bits (value_of value.now) }
 {
     match value {
@@ -75,7 +74,11 @@ fn stripped(alloc: Global, value: &Value) -> Result<Value, AllocError>
             let made = all_stripped(alloc, elements.get().as_slice())?;
             Ok(Value::Array(kind.share()?, Shared::new(alloc, made)?))
         }
-        _ => copy(value),
+        Value::Int(_) => copy(value),
+        Value::Bool(_) => copy(value),
+        Value::Label(_, _) => copy(value),
+        Value::Record(_, _) => copy(value),
+        Value::Exception(_, _, _, _) => copy(value),
     }
 }
 
@@ -121,7 +124,15 @@ fn adopted(alloc: Global, old: &Value, value: &Value) -> Result<Value, AllocErro
             let made = all_adopted(alloc, olds.get().as_slice(), elements.get().as_slice())?;
             Ok(Value::Array(kind.share()?, Shared::new(alloc, made)?))
         }
-        _ => copy(value),
+        // over a value of another kind
+        (_, Value::Bits(_, _)) => copy(value),
+        (_, Value::Tuple(_)) => copy(value),
+        (_, Value::Array(_, _)) => copy(value),
+        (_, Value::Int(_)) => copy(value),
+        (_, Value::Bool(_)) => copy(value),
+        (_, Value::Label(_, _)) => copy(value),
+        (_, Value::Record(_, _)) => copy(value),
+        (_, Value::Exception(_, _, _, _)) => copy(value),
     }
 }
 
@@ -155,67 +166,7 @@ fn adopted_at(
     }
 }
 
-// ---- values of one kind
-
-/// Whether two values have one kind and the same widths.
-pub fn alike(x: &Value, y: &Value) -> bool
-    ensures { result ≡ rules.alike (value_of x.now) (value_of y.now) }
-{
-    same_kind(x, y) && same_widths(x, y)
-}
-
-/// Whether two values have one kind.
-#[cycle(same_kind)]
-pub fn same_kind(x: &Value, y: &Value) -> bool
-    ensures { result ≡ kind_eq (values.kind_of (value_of x.now)) (values.kind_of (value_of y.now)) }
-{
-    match (x, y) {
-        (Value::Int(_), Value::Int(_)) => true,
-        (Value::Bool(_), Value::Bool(_)) => true,
-        (Value::Bits(_, _), Value::Bits(_, _)) => true,
-        (Value::Label(m, _), Value::Label(n, _)) => same_name(
-            m.get().as_slice(),
-            n.get().as_slice(),
-        ),
-        (Value::Record(m, _), Value::Record(n, _)) => {
-            same_name(m.get().as_slice(), n.get().as_slice())
-        }
-        (Value::Exception(_, _, m, _), Value::Exception(_, _, n, _)) => {
-            same_name(m.get().as_slice(), n.get().as_slice())
-        }
-        (Value::Tuple(xs), Value::Tuple(ys)) => {
-            same_kinds(xs.get().as_slice(), ys.get().as_slice())
-        }
-        (Value::Array(k, xs), Value::Array(l, ys)) => {
-            as_many(xs.get().as_slice(), ys.get().as_slice()) && equal_kinds(k.get(), l.get())
-        }
-        _ => false,
-    }
-}
-
-/// Whether there are as many values.
-#[tactic(auto, using(crate::proofs::Pairs::as_many))]
-fn as_many(xs: &[Value], ys: &[Value]) -> bool
-    ensures { result ≡ (values.count (all_values xs.now) == values.count (all_values ys.now)) }
-{
-    xs.len() == ys.len()
-}
-
-#[cycle(same_kind)]
-#[tactic(auto, using(crate::proofs::Pairs::kinds_here, crate::proofs::Pairs::kinds_apart, crate::proofs::Pairs::kinds_end, crate::proofs::Pairs::kinds_longer))]
-fn same_kinds(xs: &[Value], ys: &[Value]) -> bool
-    ensures { result ≡ keeping.same_kinds (all_values xs.now) (all_values ys.now) }
-{
-    if xs.len() != ys.len() {
-        return false;
-    }
-    for i in 0..xs.len() {
-        if !same_kind(&xs[i], &ys[i]) {
-            return false;
-        }
-    }
-    true
-}
+// ---- kinds
 
 /// Whether two kinds are the same.
 #[cycle(equal_kinds)]
@@ -235,7 +186,14 @@ pub fn equal_kinds(k: &Kind, l: &Kind) -> bool
         }
         (Kind::Tuples(ks), Kind::Tuples(ls)) => all_equal(ks.get().as_slice(), ls.get().as_slice()),
         (Kind::Arrays(m, k), Kind::Arrays(n, l)) => *m == *n && equal_kinds(k.get(), l.get()),
-        _ => false,
+        (Kind::Integers, _) => false,
+        (Kind::Booleans, _) => false,
+        (Kind::Bitvectors, _) => false,
+        (Kind::Enumerations(_), _) => false,
+        (Kind::Records(_), _) => false,
+        (Kind::Exceptions(_), _) => false,
+        (Kind::Tuples(_), _) => false,
+        (Kind::Arrays(_, _), _) => false,
     }
 }
 
@@ -255,52 +213,9 @@ fn all_equal(ks: &[Kind], ls: &[Kind]) -> bool
     true
 }
 
-/// Whether the widths of values of one kind are the same, part by part.
-#[cycle(same_widths)]
-pub fn same_widths(x: &Value, y: &Value) -> bool
-    ensures { result ≡ rules.same_widths (value_of x.now) (value_of y.now) }
-{
-    match (x, y) {
-        (Value::Bits(a, _), Value::Bits(b, _)) => one_width(a.get(), b.get()),
-        (Value::Tuple(xs), Value::Tuple(ys)) => {
-            all_same_widths(xs.get().as_slice(), ys.get().as_slice())
-        }
-        (Value::Array(_, xs), Value::Array(_, ys)) => {
-            all_same_widths(xs.get().as_slice(), ys.get().as_slice())
-        }
-        _ => true,
-    }
-}
-
 /// Whether there are as many bits.
 pub(crate) fn one_width(a: &Bits, b: &Bits) -> bool
     ensures { result ≡ (length a.now == length b.now) }
 {
     a.width() == b.width()
-}
-
-#[cycle(same_widths)]
-#[tactic(auto, using(crate::proofs::Pairs::widths_here, crate::proofs::Pairs::widths_apart, crate::proofs::Pairs::widths_end))]
-fn all_same_widths(xs: &[Value], ys: &[Value]) -> bool
-    ensures { result ≡ rules.all_same_widths (all_values xs.now) (all_values ys.now) }
-{
-    for (i, x) in xs.iter().enumerate() {
-        if !same_width_at(x, ys, i) {
-            return false;
-        }
-    }
-    true
-}
-
-/// Whether the widths of a value are those of the one in a place, where there is one.
-#[cycle(same_widths)]
-#[tactic(auto, using(crate::proofs::Pairs::width_there, crate::proofs::Pairs::width_past))]
-fn same_width_at(x: &Value, ys: &[Value], place: usize) -> bool
-    ensures { result ≡ keeping.same_width_at (value_of x.now) place ys.now }
-{
-    if place < ys.len() {
-        same_widths(x, &ys[place])
-    } else {
-        true
-    }
 }

@@ -11,7 +11,6 @@ use crate::failure::Failure;
 use crate::operators::plain_bits;
 use crate::places::{Places, are_within, read_bits, read_integer};
 use crate::value::Value;
-use crate::vectors::with_places;
 use asl_bits::Bits;
 use asl_syn::code::DynCode;
 use asl_syn::token::Span;
@@ -81,29 +80,6 @@ fn slices_of_integer(
 {
     let places = tested_places(alloc, span, shapes, given, None)?;
     Ok(plain_bits(alloc, read_integer(integer, places.as_slice()))?)
-}
-
-/// The bits with others in place of slices of them, of which the first takes the highest, with the bitfields that they have.
-/// The faults are those of `slices_of`. The others must be as many as the slices have places.
-#[tactic(auto, using(crate::proofs::SlicesRead::chain_on, crate::proofs::SlicesRead::chain_off))]
-pub fn with_slices(
-    alloc: Global,
-    span: Span,
-    shapes: &[SliceShape],
-    given: &[Value],
-    part: &Value,
-    value: &Value,
-) -> Result<Value, Failure>
-    ensures { Is value_of result
-        (rules.with_slices WIDTH_LIMIT span (all_slices shapes.now) (map value_of given.now) (value_of part.now) (value_of value.now)) }
-{
-    let cuts = Cuts {
-        span,
-        shapes,
-        given,
-    };
-    let places = slice_places(alloc, cuts, value)?;
-    with_places(alloc, span, places.as_slice(), part, value)
 }
 
 /// Slices with the values of their expressions in order, and the place of their faults.
