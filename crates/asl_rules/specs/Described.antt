@@ -15,7 +15,7 @@ use Rattle.asl_rules.specs.Closed.{Closed, ClosedFields, closed}
 use Rattle.asl_rules.specs.Values.{Value, label}
 use Rattle.asl_rules.specs.Views.{viewed}
 use Rattle.asl_rules.specs.Scopes.{Storage, standing_of, storage_of}
-use Rattle.asl_rules.specs.Declarations.{labels}
+use Rattle.asl_rules.specs.Declarations.{labels, is_var}
 use Rattle.asl_rules.specs.Plans.{Pure, Good}
 use Rattle.asl_rules.specs.Pures.{◌>>=◌, found_type}
 use Rattle.asl_rules.specs.Numbers.{Numbers, integer_of_value, all_numbers}
@@ -110,6 +110,7 @@ HasWritten env (Some t) s = written_type env t ≡ Some (closed s.ty)
 pub record StorageDescribed (env : Environment) (d : StorageDecl) : Type 0 where
   pub storage : Storage
   pub stands : storage_of d.name.text env.names ≡ Some storage
+  pub mutable : storage.is_mutable ≡ is_var d.kind
   pub value : Value
   pub is : begins_with env d.ty d.init ≡ Some (Good value)
   pub begins : storage.initial ≡ Some value

@@ -1,3 +1,4 @@
 pub mod spans
 pub mod reading
 pub mod evaluations
+pub mod described

@@ -1,4 +1,4 @@
-//! Law 2, as the contract of a function without parameters.
+//! Law 2, and that environments are described, each as the contract of a function without parameters.
 #![tactic(auto)]
 
 ghost use Rattle.std.specs.Prelude.{◌≡◌, ℕ, List, [], ◌∷◌, map, Ok};
@@ -6,8 +6,9 @@ ghost use Rattle.asl_grammar.specs.lexemes.Texts.{LiesIn};
 ghost use Rattle.asl_grammar.specs.Reading.{File, Reader, IsReading, Reads};
 ghost use Rattle.asl_rules.specs.declared.entry.Entry.{Entry};
 ghost use Rattle.asl_rules.specs.Answers.{FaultOfFiles, OneAnswer};
+ghost use Rattle.asl_rules.specs.Described.{Describes};
 ghost use Rattle.asl_rules.specs.Names.{names_rule, all_declared};
-ghost use Rattle.asl_rules.specs.Programs.{FaultOf};
+ghost use Rattle.asl_rules.specs.Programs.{Accepted, FaultOf, ProgramOk, environment};
 ghost use Rattle.asl_rules.specs.Report.{report_of};
 ghost use Rattle.asl_rules.specs.Tests.{Tests, IsRight};
 ghost use Rattle.asl_rules.specs.Texts.{Text};
@@ -30,4 +31,13 @@ pub fn law2()
     ensures evaluates { (t : Tests) → IsRight t → (files : List File) (ds : List Decl) → Reads files (Ok ds) → names_rule [] (all_declared ds) ≡ Ok tt → Evaluates t ds }
     ensures cause { (limit : ℕ) (e : Entry) (files : List File) (ds : List Decl) (f : Fault) → Reads files (Ok ds) → (p : FaultOf limit e ds f) → f.code ≡ T04 → HasCause p.tests ds f }
     ensures report { (t u : Tests) → IsRight t → IsRight u → t.limit ≡ u.limit → (read other : Reader) → IsReading read → IsReading other → (command : Command) (held : Text → Text) → report_of t read command held ≡ report_of u other command held }
+{}
+
+/// For all files that are read to declarations which are well formed, the names of the environment are what the declarations alone
+/// describe (`described`): each declared type stands for the closed type that evaluating the written one gives, each label for its
+/// value, and storage has its written type and begins with the value of its initialiser as a constant, or with the first value of
+/// its type.
+#[tactic(auto)]
+pub fn environment_law()
+    ensures described { (limit : ℕ) (e : Entry) (files : List File) (ds : List Decl) (a : Accepted) → Reads files (Ok ds) → (p : ProgramOk limit e ds a) → Describes (environment p.tests ds) }
 {}
