@@ -2,3 +2,4 @@ pub mod spans
 pub mod reading
 pub mod evaluations
 pub mod described
+pub mod reported

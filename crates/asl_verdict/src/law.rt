@@ -1,4 +1,5 @@
-//! Law 2, and that environments are described, each as the contract of a function without parameters.
+//! Law 2, that environments are described, and that no report is put together from a stuck run, each as the contract of a function
+//! without parameters.
 #![tactic(auto)]
 
 ghost use Rattle.std.specs.Prelude.{◌≡◌, ℕ, List, [], ◌∷◌, map, Ok};
@@ -17,6 +18,7 @@ ghost use Rattle.asl_syn.specs.declared.code.Fault.{Fault};
 ghost use Rattle.asl_syn.specs.declared.code.StaticCode.TheVariants.{T04};
 ghost use Rattle.asl_syn.specs.declared.tree.Decl.{Decl};
 ghost use Rattle.asl_verdict.specs.Evaluated.{Evaluates, HasCause};
+ghost use Rattle.asl_verdict.specs.Reported.{RunsWell};
 
 /// One answer: files, each entry and each width limit have exactly one of these, a program that is well formed or one
 /// single fault (`one`), and where there is a file at all, the fault's span lies within one of the files (`within`). What the
@@ -40,4 +42,12 @@ pub fn law2()
 #[tactic(auto)]
 pub fn environment_law()
     ensures described { (limit : ℕ) (e : Entry) (files : List File) (ds : List Decl) (a : Accepted) → Reads files (Ok ds) → (p : ProgramOk limit e ds a) → Describes (environment p.tests ds) }
+{}
+
+/// No report is put together from a stuck run (`never_stuck`). Where files are read to declarations that are accepted with the entry
+/// `main` or `decode`, the entry is there; with any number of steps the run of `main`, which `run` and `self` report, isn't stuck, and
+/// for any words neither are the calls of `decode`, which `exec` reports.
+#[tactic(auto)]
+pub fn run_law()
+    ensures never_stuck { (t : Tests) → IsRight t → (files : List File) (ds : List Decl) → Reads files (Ok ds) → RunsWell t ds }
 {}
