@@ -3,3 +3,4 @@ pub mod reading
 pub mod evaluations
 pub mod described
 pub mod reported
+pub mod visited

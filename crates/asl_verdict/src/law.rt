@@ -1,5 +1,5 @@
-//! Law 2, that environments are described, and that no report is put together from a stuck run, each as the contract of a function
-//! without parameters.
+//! Law 2, that environments are described, that no report is put together from a stuck run, and that the tree of each visited node does
+//! what the node does, each as the contract of a function without parameters.
 #![tactic(auto)]
 
 ghost use Rattle.std.specs.Prelude.{◌≡◌, ℕ, List, [], ◌∷◌, map, Ok};
@@ -8,17 +8,23 @@ ghost use Rattle.asl_grammar.specs.Reading.{File, Reader, IsReading, Reads};
 ghost use Rattle.asl_rules.specs.declared.entry.Entry.{Entry};
 ghost use Rattle.asl_rules.specs.Answers.{FaultOfFiles, OneAnswer};
 ghost use Rattle.asl_rules.specs.Described.{Describes};
+ghost use Rattle.asl_rules.specs.Machines.{visits_of};
 ghost use Rattle.asl_rules.specs.Names.{names_rule, all_declared};
+ghost use Rattle.asl_rules.specs.Plans.{Meter};
 ghost use Rattle.asl_rules.specs.Programs.{Accepted, FaultOf, ProgramOk, environment};
 ghost use Rattle.asl_rules.specs.Report.{report_of};
+ghost use Rattle.asl_rules.specs.Soundness.{IsCall};
+ghost use Rattle.asl_rules.specs.States.{Binding};
 ghost use Rattle.asl_rules.specs.Tests.{Tests, IsRight};
 ghost use Rattle.asl_rules.specs.Texts.{Text};
+ghost use Rattle.asl_rules.specs.Values.{Value};
 ghost use Rattle.asl_syn.specs.Command.{Command};
 ghost use Rattle.asl_syn.specs.declared.code.Fault.{Fault};
 ghost use Rattle.asl_syn.specs.declared.code.StaticCode.TheVariants.{T04};
 ghost use Rattle.asl_syn.specs.declared.tree.Decl.{Decl};
 ghost use Rattle.asl_verdict.specs.Evaluated.{Evaluates, HasCause};
 ghost use Rattle.asl_verdict.specs.Reported.{RunsWell};
+ghost use Rattle.asl_verdict.specs.Visited.{AllSame};
 
 /// One answer: files, each entry and each width limit have exactly one of these, a program that is well formed or one
 /// single fault (`one`), and where there is a file at all, the fault's span lies within one of the files (`within`). What the
@@ -50,4 +56,12 @@ pub fn environment_law()
 #[tactic(auto)]
 pub fn run_law()
     ensures never_stuck { (t : Tests) → IsRight t → (files : List File) (ds : List Decl) → Reads files (Ok ds) → RunsWell t ds }
+{}
+
+/// Each node that a call visits, an expression or a statement, was judged in a scope with which the state agrees, and the typed tree of
+/// that judgement does, in the state without names and types, what the node does in the state, whatever number of nodes may be open and
+/// whatever the meter is (`same`).
+#[tactic(auto)]
+pub fn visit_law()
+    ensures same { (limit : ℕ) (e : Entry) (files : List File) (ds : List Decl) (a : Accepted) → Reads files (Ok ds) → (p : ProgramOk limit e ds a) → (id : ℕ) (args : List Value) (globals : List Binding) (h : Meter) → IsCall a id args globals → AllSame p.tests ds a (visits_of (environment p.tests ds) id args globals h) }
 {}
