@@ -4,3 +4,4 @@ pub mod evaluations
 pub mod described
 pub mod reported
 pub mod visited
+pub mod budgets

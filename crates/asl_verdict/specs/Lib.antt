@@ -1,3 +1,4 @@
+pub mod Budgets
 pub mod Evaluated
 pub mod Reported
 pub mod Visited

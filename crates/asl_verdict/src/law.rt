@@ -1,5 +1,5 @@
-//! Law 2, that environments are described, that no report is put together from a stuck run, and that the tree of each visited node does
-//! what the node does, each as the contract of a function without parameters.
+//! Law 2, that environments are described, that no report is put together from a stuck run, that the tree of each visited node does
+//! what the node does, and what the number of steps decides, each as the contract of a function without parameters.
 #![tactic(auto)]
 
 ghost use Rattle.std.specs.Prelude.{◌≡◌, ℕ, List, [], ◌∷◌, map, Ok};
@@ -8,20 +8,22 @@ ghost use Rattle.asl_grammar.specs.Reading.{File, Reader, IsReading, Reads};
 ghost use Rattle.asl_rules.specs.declared.entry.Entry.{Entry};
 ghost use Rattle.asl_rules.specs.Answers.{FaultOfFiles, OneAnswer};
 ghost use Rattle.asl_rules.specs.Described.{Describes};
-ghost use Rattle.asl_rules.specs.Machines.{visits_of};
+ghost use Rattle.asl_rules.specs.Machines.{run_of, visits_of};
 ghost use Rattle.asl_rules.specs.Names.{names_rule, all_declared};
 ghost use Rattle.asl_rules.specs.Plans.{Meter};
-ghost use Rattle.asl_rules.specs.Programs.{Accepted, FaultOf, ProgramOk, environment};
+ghost use Rattle.asl_rules.specs.Programs.{Accepted, Environment, FaultOf, ProgramOk, environment};
 ghost use Rattle.asl_rules.specs.Report.{report_of};
 ghost use Rattle.asl_rules.specs.Soundness.{IsCall};
 ghost use Rattle.asl_rules.specs.States.{Binding};
 ghost use Rattle.asl_rules.specs.Tests.{Tests, IsRight};
 ghost use Rattle.asl_rules.specs.Texts.{Text};
 ghost use Rattle.asl_rules.specs.Values.{Value};
+ghost use Rattle.asl_rules.specs.Words.{run_words};
 ghost use Rattle.asl_syn.specs.Command.{Command};
 ghost use Rattle.asl_syn.specs.declared.code.Fault.{Fault};
 ghost use Rattle.asl_syn.specs.declared.code.StaticCode.TheVariants.{T04};
 ghost use Rattle.asl_syn.specs.declared.tree.Decl.{Decl};
+ghost use Rattle.asl_verdict.specs.Budgets.{with_more, SameWithMore, SameWordsWithMore};
 ghost use Rattle.asl_verdict.specs.Evaluated.{Evaluates, HasCause};
 ghost use Rattle.asl_verdict.specs.Reported.{RunsWell};
 ghost use Rattle.asl_verdict.specs.Visited.{AllSame};
@@ -64,4 +66,14 @@ pub fn run_law()
 #[tactic(auto)]
 pub fn visit_law()
     ensures same { (limit : ℕ) (e : Entry) (files : List File) (ds : List Decl) (a : Accepted) → Reads files (Ok ds) → (p : ProgramOk limit e ds a) → (id : ℕ) (args : List Value) (globals : List Binding) (h : Meter) → IsCall a id args globals → AllSame p.tests ds a (visits_of (environment p.tests ds) id args globals h) }
+{}
+
+/// The number of steps decides nothing but whether a run ends for want of steps. With k steps more a call from outside has the same
+/// outcome, state and text, and k steps more left at its end, or without them it ended with the fault D13, no step left, and a text that
+/// begins the text of the longer run (`more_steps`). So do the calls for words, one after another (`words`). It holds of each
+/// environment, typed or not, and of each meter.
+#[tactic(auto)]
+pub fn budget_law()
+    ensures more_steps { (env : Environment) (id : ℕ) (args : List Value) (globals : List Binding) (h : Meter) (k : ℕ) → SameWithMore k (run_of env id args globals (with_more k h)) (run_of env id args globals h) }
+    ensures words { (env : Environment) (id : ℕ) (words : List ℕ) (globals : List Binding) (h : Meter) (k : ℕ) → SameWordsWithMore k (run_words env id words globals (with_more k h)) (run_words env id words globals h) }
 {}
