@@ -2,7 +2,7 @@
 use std::alloc::{AllocError, AllocFailed};
 
 /// What the program ends with; its number is the exit status of the process.
-#[derive(Clone, Copy, Debug, PartialEq, Eq)]
+#[derive(Clone, Copy, PartialEq, Eq)]
 pub enum Status {
     /// 0: accepted, or the run returned.
     Done,
@@ -44,7 +44,7 @@ impl Status {
 }
 
 /// Why a part of the work stopped: a call on the files or on the sink failed, or want of memory.
-#[derive(Clone, Copy, Debug, PartialEq, Eq)]
+#[derive(Clone, Copy, PartialEq, Eq)]
 pub enum Stop {
     Fault,
     NoMemory,

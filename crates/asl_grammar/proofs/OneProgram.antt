@@ -5,7 +5,7 @@ use Rattle.asl_syn.specs.declared.token.Token.{Token}
 use Rattle.asl_syn.specs.declared.tree.Decl.{Decl}
 use Rattle.asl_grammar.specs.lexemes.Refusals.{max_width}
 use Rattle.asl_grammar.specs.lexemes.Files.{AllTokens, FirstLexFault}
-use Rattle.asl_grammar.specs.Reading.{Text, File, HasTrees, FirstSyntaxFault, AreParsed, AreRefused, Parsed, Reads, Reader, IsReading}
+use Rattle.asl_grammar.specs.Reading.{Text, File, HasTrees, FirstSyntaxFault, AreParsed, AreRefused, Parsed, ReadsAt, Reads, Reader, IsReadingAt, IsReading}
 use Rattle.asl_grammar.proofs.lexemes.OneReadingOfFiles.{one_all_tokens, one_first_fault, never_both_of_files, some_reading_of_files}
 use Rattle.asl_grammar.proofs.grammar.OneFault.{one_parse, one_syntax_fault, no_tree_where_fault}
 use Rattle.asl_grammar.proofs.grammar.Ends.{Known, tree_or_fault}
@@ -47,54 +47,61 @@ some_trees n limit m [] (ts ∷ tss) a = absurd a
 some_trees n limit m (text ∷ texts) [] a = absurd a
 some_trees n limit m (text ∷ texts) (ts ∷ tss) a = with_text n text texts ts tss (tree_or_fault n text ts) (some_trees (n + 1) limit (m + 1) texts tss a.1)
 
--- ---- what the grammar says of texts
+-- ---- what the grammar says of texts, and what files are read to, under a width limit
 
-one_parsed_list : (texts : List Text) (ds es : List Decl) → AreParsed texts ds → AreParsed texts es → ds ≡ es
-one_parsed_list texts ds es a b =
-    let same : b.tokens ≡ a.tokens = one_all_tokens max_width 0 texts b.tokens a.tokens b.lexemes a.lexemes in
-    one_list texts a.tokens ds es a.trees (subst (λ tss. HasTrees texts tss es) same b.trees)
+module _ (limit : ℕ) where
+  one_parsed_list : (texts : List Text) (ds es : List Decl) → AreParsed limit texts ds → AreParsed limit texts es → ds ≡ es
+  one_parsed_list texts ds es a b =
+      let same : b.tokens ≡ a.tokens = one_all_tokens limit 0 texts b.tokens a.tokens b.lexemes a.lexemes in
+      one_list texts a.tokens ds es a.trees (subst (λ tss. HasTrees texts tss es) same b.trees)
 
-never_refused : (texts : List Text) (ds : List Decl) (f : Fault) → AreParsed texts ds → AreRefused texts f → ⊥
-never_refused texts ds f a b =
-    let same : b.tokens ≡ a.tokens = one_all_tokens max_width 0 texts b.tokens a.tokens b.lexemes a.lexemes in
-    never_both 0 texts a.tokens ds f a.trees (subst (λ tss. FirstSyntaxFault 0 texts tss f) same b.fault)
+  never_refused : (texts : List Text) (ds : List Decl) (f : Fault) → AreParsed limit texts ds → AreRefused limit texts f → ⊥
+  never_refused texts ds f a b =
+      let same : b.tokens ≡ a.tokens = one_all_tokens limit 0 texts b.tokens a.tokens b.lexemes a.lexemes in
+      never_both 0 texts a.tokens ds f a.trees (subst (λ tss. FirstSyntaxFault 0 texts tss f) same b.fault)
 
-never_parsed : (texts : List Text) (ds : List Decl) (f : Fault) → AreParsed texts ds → FirstLexFault max_width 0 texts f ⊎ AreRefused texts f → ⊥
-never_parsed texts ds f a (inl b) = never_both_of_files max_width 0 texts a.tokens f a.lexemes b
-never_parsed texts ds f a (inr b) = never_refused texts ds f a b
+  never_parsed : (texts : List Text) (ds : List Decl) (f : Fault) → AreParsed limit texts ds → FirstLexFault limit 0 texts f ⊎ AreRefused limit texts f → ⊥
+  never_parsed texts ds f a (inl b) = never_both_of_files limit 0 texts a.tokens f a.lexemes b
+  never_parsed texts ds f a (inr b) = never_refused texts ds f a b
 
-one_parsed_fault : (texts : List Text) (f g : Fault) → FirstLexFault max_width 0 texts f ⊎ AreRefused texts f → FirstLexFault max_width 0 texts g ⊎ AreRefused texts g → f ≡ g
-one_parsed_fault texts f g (inl a) (inl b) = one_first_fault max_width 0 texts f g a b
-one_parsed_fault texts f g (inl a) (inr b) = absurd (never_both_of_files max_width 0 texts b.tokens f b.lexemes a)
-one_parsed_fault texts f g (inr a) (inl b) = absurd (never_both_of_files max_width 0 texts a.tokens g a.lexemes b)
-one_parsed_fault texts f g (inr a) (inr b) =
-    let same : b.tokens ≡ a.tokens = one_all_tokens max_width 0 texts b.tokens a.tokens b.lexemes a.lexemes in
-    one_fault 0 texts a.tokens f g a.fault (subst (λ tss. FirstSyntaxFault 0 texts tss g) same b.fault)
+  one_parsed_fault : (texts : List Text) (f g : Fault) → FirstLexFault limit 0 texts f ⊎ AreRefused limit texts f → FirstLexFault limit 0 texts g ⊎ AreRefused limit texts g → f ≡ g
+  one_parsed_fault texts f g (inl a) (inl b) = one_first_fault limit 0 texts f g a b
+  one_parsed_fault texts f g (inl a) (inr b) = absurd (never_both_of_files limit 0 texts b.tokens f b.lexemes a)
+  one_parsed_fault texts f g (inr a) (inl b) = absurd (never_both_of_files limit 0 texts a.tokens g a.lexemes b)
+  one_parsed_fault texts f g (inr a) (inr b) =
+      let same : b.tokens ≡ a.tokens = one_all_tokens limit 0 texts b.tokens a.tokens b.lexemes a.lexemes in
+      one_fault 0 texts a.tokens f g a.fault (subst (λ tss. FirstSyntaxFault 0 texts tss g) same b.fault)
 
-one_parsed : (texts : List Text) (r s : Result (List Decl) Fault) → Parsed texts r → Parsed texts s → r ≡ s
-one_parsed texts (Ok ds) (Ok es) a b = ap Ok (one_parsed_list texts ds es a b)
-one_parsed texts (Ok ds) (Err g) a b = absurd (never_parsed texts ds g a b)
-one_parsed texts (Err f) (Ok es) a b = absurd (never_parsed texts es f b a)
-one_parsed texts (Err f) (Err g) a b = ap Err (one_parsed_fault texts f g a b)
+  one_parsed : (texts : List Text) (r s : Result (List Decl) Fault) → Parsed limit texts r → Parsed limit texts s → r ≡ s
+  one_parsed texts (Ok ds) (Ok es) a b = ap Ok (one_parsed_list texts ds es a b)
+  one_parsed texts (Ok ds) (Err g) a b = absurd (never_parsed texts ds g a b)
+  one_parsed texts (Err f) (Ok es) a b = absurd (never_parsed texts es f b a)
+  one_parsed texts (Err f) (Err g) a b = ap Err (one_parsed_fault texts f g a b)
 
-abbrev SomeParsed : List Text → Type 0
-SomeParsed texts = (r : Result (List Decl) Fault) × Parsed texts r
+  abbrev SomeParsed : List Text → Type 0
+  SomeParsed texts = (r : Result (List Decl) Fault) × Parsed limit texts r
 
-from_trees : (texts : List Text) (tss : List (List Token)) → AllTokens max_width 0 texts tss → Trees 0 texts tss → SomeParsed texts
-from_trees texts tss a (inl (ds, t)) = (Ok ds, record { tokens = tss; lexemes = a; trees = t })
-from_trees texts tss a (inr (f, b)) = (Err f, inr (record { tokens = tss; lexemes = a; fault = b }))
+  from_trees : (texts : List Text) (tss : List (List Token)) → AllTokens limit 0 texts tss → Trees 0 texts tss → SomeParsed texts
+  from_trees texts tss a (inl (ds, t)) = (Ok ds, record { tokens = tss; lexemes = a; trees = t })
+  from_trees texts tss a (inr (f, b)) = (Err f, inr (record { tokens = tss; lexemes = a; fault = b }))
 
-from_tokens : (texts : List Text) → ((tss : List (List Token)) × AllTokens max_width 0 texts tss) ⊎ ((f : Fault) × FirstLexFault max_width 0 texts f) → SomeParsed texts
-from_tokens texts (inl (tss, a)) = from_trees texts tss a (some_trees 0 max_width 0 texts tss a)
-from_tokens texts (inr (f, b)) = (Err f, inl b)
+  from_tokens : (texts : List Text) → ((tss : List (List Token)) × AllTokens limit 0 texts tss) ⊎ ((f : Fault) × FirstLexFault limit 0 texts f) → SomeParsed texts
+  from_tokens texts (inl (tss, a)) = from_trees texts tss a (some_trees 0 limit 0 texts tss a)
+  from_tokens texts (inr (f, b)) = (Err f, inl b)
 
--- ---- what files are read to
+  pub one_answer_at : (files : List File) (r s : Result (List Decl) Fault) → ReadsAt limit files r → ReadsAt limit files s → r ≡ s
+  one_answer_at files r s a b = one_parsed (map (λ f. f.1) files) r s a b
+
+  some_answer : (files : List File) → (r : Result (List Decl) Fault) × ReadsAt limit files r
+  some_answer files = let texts = map (λ (f : File). f.1) files in from_tokens texts (some_reading_of_files limit 0 texts)
+
+  pub some_reader_at : (read : Reader) × IsReadingAt limit read
+  some_reader_at = (λ files. (some_answer files).0, λ files. (some_answer files).1)
+
+-- ---- under the limit of the program
 
 pub one_answer : (files : List File) (r s : Result (List Decl) Fault) → Reads files r → Reads files s → r ≡ s
-one_answer files r s a b = one_parsed (map (λ f. f.1) files) r s a b
-
-some_answer : (files : List File) → (r : Result (List Decl) Fault) × Reads files r
-some_answer files = let texts = map (λ (f : File). f.1) files in from_tokens texts (some_reading_of_files max_width 0 texts)
+one_answer = one_answer_at max_width
 
 pub some_reader : (read : Reader) × IsReading read
-some_reader = (λ files. (some_answer files).0, λ files. (some_answer files).1)
+some_reader = some_reader_at max_width

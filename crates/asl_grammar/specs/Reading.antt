@@ -36,30 +36,37 @@ FirstSyntaxFault n [] tss f = ⊥
 FirstSyntaxFault n (text ∷ texts) [] f = ⊥
 FirstSyntaxFault n (text ∷ texts) (ts ∷ tss) f = SyntaxFault n text ts f ⊎ ((v : List Decl) × Parses text ts v × FirstSyntaxFault (n + 1) texts tss f)
 
--- the texts have tokens and trees, whose declarations are these
-pub record AreParsed (texts : List Text) (ds : List Decl) : Type 0 where
+-- the texts have tokens, under this width limit, and trees, whose declarations are these
+pub record AreParsed (limit : ℕ) (texts : List Text) (ds : List Decl) : Type 0 where
   pub tokens : List (List Token)
-  pub lexemes : AllTokens max_width 0 texts tokens
+  pub lexemes : AllTokens limit 0 texts tokens
   pub trees : HasTrees texts tokens ds
 
 -- the texts have tokens, and one of them a syntax fault
-pub record AreRefused (texts : List Text) (f : Fault) : Type 0 where
+pub record AreRefused (limit : ℕ) (texts : List Text) (f : Fault) : Type 0 where
   pub tokens : List (List Token)
-  pub lexemes : AllTokens max_width 0 texts tokens
+  pub lexemes : AllTokens limit 0 texts tokens
   pub fault : FirstSyntaxFault 0 texts tokens f
 
--- what the grammar says of texts
-abbrev pub Parsed : List Text → Result (List Decl) Fault → Type 0
-Parsed texts (Ok ds) = AreParsed texts ds
-Parsed texts (Err f) = FirstLexFault max_width 0 texts f ⊎ AreRefused texts f
+-- what the grammar says of texts under a width limit
+abbrev pub Parsed : ℕ → List Text → Result (List Decl) Fault → Type 0
+Parsed limit texts (Ok ds) = AreParsed limit texts ds
+Parsed limit texts (Err f) = FirstLexFault limit 0 texts f ⊎ AreRefused limit texts f
 
--- the files are read to this
+-- the files are read to this under a width limit
+abbrev pub ReadsAt : ℕ → List File → Result (List Decl) Fault → Type 0
+ReadsAt limit files r = Parsed limit (map (λ f. f.1) files) r
+
+-- and under that of the program
 abbrev pub Reads : List File → Result (List Decl) Fault → Type 0
-Reads files r = Parsed (map (λ f. f.1) files) r
+Reads files r = ReadsAt max_width files r
 
 -- what each list of files is read to
 abbrev pub Reader : Type 0
 Reader = List File → Result (List Decl) Fault
 
+abbrev pub IsReadingAt : ℕ → Reader → Type 0
+IsReadingAt limit read = (files : List File) → ReadsAt limit files (read files)
+
 abbrev pub IsReading : Reader → Type 0
-IsReading read = (files : List File) → Reads files (read files)
+IsReading read = IsReadingAt max_width read

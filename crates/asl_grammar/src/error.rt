@@ -3,7 +3,7 @@
 use std::alloc::AllocError;
 
 /// Why there is no tree. A place is how many tokens there are from it to the end of the file.
-#[derive(Clone, Copy, Debug, PartialEq, Eq)]
+#[derive(Clone, Copy, PartialEq, Eq)]
 pub enum ParseError {
     /// Memory was wanting. This says nothing of the text.
     OutOfMemory,

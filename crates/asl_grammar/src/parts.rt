@@ -34,7 +34,7 @@ pub enum VarTail {
 }
 
 /// How a slice with two expressions is written.
-#[derive(Clone, Copy, Debug, PartialEq, Eq)]
+#[derive(Clone, Copy, PartialEq, Eq)]
 pub enum SliceForm {
     /// `high:low`
     HighLow,

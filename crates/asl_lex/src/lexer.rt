@@ -70,7 +70,7 @@ fn refusal(kind: TokenKind, text: &[u8], given: u32) -> Option<StaticCode>
 }
 
 /// Reads the tokens of a file one by one. Contracts see a lexer as the `Scan` of the text that is left.
-#[derive(Debug, Drop)]
+#[derive(Drop)]
 pub struct Lexer<'a> {
     file: u32,
     place: u32,

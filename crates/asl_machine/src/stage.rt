@@ -8,7 +8,7 @@ use asl_syn::token::Span;
 use asl_value::Value;
 
 /// How a run ends.
-#[derive(Clone, Copy, Debug, PartialEq, Eq)]
+#[derive(Clone, Copy, PartialEq, Eq)]
 pub enum Outcome {
     /// The subprogram returned. `Machine::returned` has its value.
     Returned,
@@ -19,7 +19,7 @@ pub enum Outcome {
 }
 
 /// Why a run was given up.
-#[derive(Clone, Copy, Debug, PartialEq, Eq)]
+#[derive(Clone, Copy, PartialEq, Eq)]
 pub enum RunRefused {
     /// The sink refused a write.
     SinkFault,

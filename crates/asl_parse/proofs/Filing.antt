@@ -11,6 +11,7 @@ use Rattle.asl_syn.specs.declared.code.Fault.{Fault}
 use Rattle.asl_syn.specs.declared.code.Refused.{Refused}
 use Rattle.asl_syn.specs.declared.code.Refused.TheVariants.{At}
 use Rattle.asl_grammar.specs.grammar.Faults.{Parses, SyntaxFault}
+use Rattle.asl_grammar.specs.lexemes.Refusals.{max_width}
 use Rattle.asl_grammar.specs.Reading.{Text, File, text_of, file_of, HasTrees, FirstSyntaxFault, Parsed, Reads}
 
 pub one_more : (texts : List Text) (tss : List (List Token)) (ds : List Decl) (text : Text) (ts : List Token) (v : List Decl) →
@@ -72,5 +73,5 @@ texts_are : (files : List Source) → map text_of files ≡ map (λ (f : File). 
 texts_are [] = refl
 texts_are (s ∷ files) = ap (λ ts. text_of s ∷ ts) (texts_are files)
 
-pub read_to : (files : List Source) (r : Result (List Decl) Fault) → Parsed (map text_of files) r → Reads (map file_of files) r
-read_to files r p = subst (λ texts. Parsed texts r) (texts_are files) p
+pub read_to : (files : List Source) (r : Result (List Decl) Fault) → Parsed max_width (map text_of files) r → Reads (map file_of files) r
+read_to files r p = subst (λ texts. Parsed max_width texts r) (texts_are files) p

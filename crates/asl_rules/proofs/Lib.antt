@@ -2,6 +2,7 @@ pub mod basics
 pub mod runs
 pub mod constants
 pub mod verdict
+pub mod names
 pub mod widths
 pub mod values
 pub mod scopes

@@ -1,6 +1,7 @@
 pub mod Tests
 pub mod Faults
 pub mod UsedNames
+pub mod StmtUses
 pub mod Types
 pub mod Effects
 pub mod Closed

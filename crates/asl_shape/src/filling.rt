@@ -18,7 +18,7 @@ use sqlite_items::{Boxed, Items};
 use std::alloc::{AllocError, Global};
 
 /// The ends of a part, and the place of the first value that is left.
-#[derive(Clone, Copy, Debug, Drop)]
+#[derive(Clone, Copy, Drop)]
 struct Ends {
     low: i128,
     high: i128,
@@ -26,7 +26,7 @@ struct Ends {
 }
 
 /// The places of a bitfield, and the place of the first value that is left.
-#[derive(Clone, Copy, Debug, Drop)]
+#[derive(Clone, Copy, Drop)]
 struct Places {
     high: u128,
     low: u128,

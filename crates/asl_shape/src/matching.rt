@@ -23,7 +23,7 @@ use asl_value::{Failure, MaskDigits, Value, binary, truth};
 use std::alloc::Global;
 
 /// Whether a value matches, and the place of the first value that is left.
-#[derive(Clone, Copy, Debug, Drop)]
+#[derive(Clone, Copy, Drop)]
 pub(crate) struct Matched {
     holds: bool,
     next: usize,

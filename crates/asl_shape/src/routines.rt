@@ -6,7 +6,7 @@ ghost use Rattle.asl_shape.specs.View.{routine_of};
 use asl_value::same_name;
 
 /// A subprogram of the library.
-#[derive(Clone, Copy, Debug, PartialEq, Eq)]
+#[derive(Clone, Copy, PartialEq, Eq)]
 pub enum Routine {
     UInt,
     SInt,

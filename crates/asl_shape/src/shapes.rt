@@ -28,7 +28,7 @@ pub enum PatternShape {
 }
 
 /// A part of a constraint.
-#[derive(Clone, Copy, Debug, PartialEq, Eq)]
+#[derive(Clone, Copy, PartialEq, Eq)]
 pub enum PartShape {
     /// `e`
     Only,

@@ -8,7 +8,6 @@ ghost use Rattle.std.specs.Prelude.{◌≡◌};
 use std::marker::Model;
 
 /// A value that is dropped by a call, which contracts see as the value.
-#[derive(Debug)]
 pub struct Held<T: Drop> {
     inner: T,
 }

@@ -5,7 +5,7 @@ use crate::token::Span;
 use std::alloc::{AllocError, AllocFailed};
 
 /// The code of a fault that is found before the program runs.
-#[derive(Clone, Copy, Debug, PartialEq, Eq)]
+#[derive(Clone, Copy, PartialEq, Eq)]
 pub enum StaticCode {
     /// A byte that begins no lexeme or gap.
     L01,
@@ -137,7 +137,7 @@ impl StaticCode {
 }
 
 /// The code of a fault that a run can end in.
-#[derive(Clone, Copy, Debug, PartialEq, Eq)]
+#[derive(Clone, Copy, PartialEq, Eq)]
 pub enum DynCode {
     /// An integer outside -2^127 .. 2^127 - 1.
     D01,
@@ -204,7 +204,7 @@ impl DynCode {
 
 /// A fault that is found before the program runs: its code, the code that ended the evaluation of a constant (only for
 /// [`StaticCode::T04`]), and where it stands.
-#[derive(Clone, Copy, Debug, PartialEq, Eq)]
+#[derive(Clone, Copy, PartialEq, Eq)]
 pub struct Fault {
     pub code: StaticCode,
     pub inner: Option<DynCode>,
@@ -212,7 +212,7 @@ pub struct Fault {
 }
 
 /// Why a program was refused.
-#[derive(Clone, Copy, Debug, PartialEq, Eq)]
+#[derive(Clone, Copy, PartialEq, Eq)]
 pub enum Refused {
     /// Its one fault.
     At(Fault),

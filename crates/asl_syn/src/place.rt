@@ -7,7 +7,7 @@ ghost use Rattle.asl_syn.specs.Place.{line_of, column_of, IsPlaced, bytes_before
 use crate::token::Span;
 
 /// A file: its name as it was given on the command line, and its bytes.
-#[derive(Debug, Drop)]
+#[derive(Drop)]
 pub struct Source {
     pub name: String,
     pub bytes: Vec<u8>,

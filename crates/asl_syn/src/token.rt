@@ -4,7 +4,7 @@
 
 /// A run of bytes of a file: the number of the file among the program's files, the index of the first byte, both from
 /// 0, and the number of bytes.
-#[derive(Clone, Copy, Debug, PartialEq, Eq)]
+#[derive(Clone, Copy, PartialEq, Eq)]
 pub struct Span {
     pub file: u32,
     pub start: u32,
@@ -141,7 +141,7 @@ pub enum TokenKind {
 }
 
 /// A token, and where it stands.
-#[derive(Clone, Copy, Debug, PartialEq, Eq)]
+#[derive(Clone, Copy, PartialEq, Eq)]
 pub struct Token {
     pub kind: TokenKind,
     pub span: Span,

@@ -23,7 +23,7 @@ pub struct Ident {
 }
 
 /// The operators with one operand.
-#[derive(Clone, Copy, Debug, PartialEq, Eq)]
+#[derive(Clone, Copy, PartialEq, Eq)]
 pub enum UnaryOperator {
     /// `-` of an integer.
     Negate,
@@ -34,7 +34,7 @@ pub enum UnaryOperator {
 }
 
 /// The operators with two operands.
-#[derive(Clone, Copy, Debug, PartialEq, Eq)]
+#[derive(Clone, Copy, PartialEq, Eq)]
 pub enum BinaryOperator {
     /// `&&`
     LogicalAnd,
@@ -254,21 +254,21 @@ pub enum Bind {
 }
 
 /// Whether what a local declaration declares can be assigned.
-#[derive(Clone, Copy, Debug, PartialEq, Eq)]
+#[derive(Clone, Copy, PartialEq, Eq)]
 pub enum LocalKind {
     Let,
     Var,
 }
 
 /// Which way a `for` counts.
-#[derive(Clone, Copy, Debug, PartialEq, Eq)]
+#[derive(Clone, Copy, PartialEq, Eq)]
 pub enum Direction {
     Up,
     Down,
 }
 
 /// Whether a line feed follows what is printed.
-#[derive(Clone, Copy, Debug, PartialEq, Eq)]
+#[derive(Clone, Copy, PartialEq, Eq)]
 pub enum PrintKind {
     Print,
     PrintLine,
@@ -386,7 +386,7 @@ pub enum TypeDef {
 }
 
 /// The kinds of global storage.
-#[derive(Clone, Copy, Debug, PartialEq, Eq)]
+#[derive(Clone, Copy, PartialEq, Eq)]
 pub enum StorageKind {
     Constant,
     Let,
@@ -394,7 +394,7 @@ pub enum StorageKind {
 }
 
 /// The qualifier of a subprogram.
-#[derive(Clone, Copy, Debug, PartialEq, Eq)]
+#[derive(Clone, Copy, PartialEq, Eq)]
 pub enum Qualifier {
     Unqualified,
     Pure,

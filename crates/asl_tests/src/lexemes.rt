@@ -169,7 +169,7 @@ fn files_are_read_in_order(rt: HostRuntime) {
         source(alloc, b"").expect(&rt, "memory"),
         source(alloc, b" bc").expect(&rt, "memory"),
     ];
-    let tokens = tokens_of_all(alloc, &files).expect(&rt, "tokens");
+    let tokens = tokens_of_all(alloc, &files).ok().expect(&rt, "tokens");
     for (file, want) in [
         (0, "Name 0:0+1, Mark(Semicolon) 0:1+1"),
         (1, ""),

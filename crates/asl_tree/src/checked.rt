@@ -10,7 +10,7 @@ use sqlite_items::Items;
 use std::marker::Model;
 
 /// The number of a subprogram in source order, from 0.
-#[derive(Clone, Copy, Debug, PartialEq, Eq)]
+#[derive(Clone, Copy, PartialEq, Eq)]
 pub struct SubId {
     number: usize,
 }

@@ -35,7 +35,7 @@ impl Drop for Note {
 }
 
 /// What is called: a subprogram of the program by its number in source order, from 0, or one of the library.
-#[derive(Clone, Copy, Debug, PartialEq, Eq)]
+#[derive(Clone, Copy, PartialEq, Eq)]
 pub enum Callee {
     Own(usize),
     OfLibrary(Routine),

@@ -22,7 +22,7 @@ use sqlite_items::Items;
 use std::alloc::Global;
 
 /// Where a slice begins.
-#[derive(Clone, Copy, Debug)]
+#[derive(Clone, Copy)]
 pub(crate) enum Low {
     At(i128),
     /// At the product.
@@ -30,7 +30,7 @@ pub(crate) enum Low {
 }
 
 /// How wide a slice is.
-#[derive(Clone, Copy, Debug)]
+#[derive(Clone, Copy)]
 pub(crate) enum Breadth {
     Of(i128),
     /// From the first down to the second, both with it.
@@ -38,14 +38,14 @@ pub(crate) enum Breadth {
 }
 
 /// A slice with the values of its expressions.
-#[derive(Clone, Copy, Debug)]
+#[derive(Clone, Copy)]
 pub(crate) struct Slicing {
     pub low: Low,
     pub width: Breadth,
 }
 
 /// A slice whose width was tested.
-#[derive(Clone, Copy, Debug)]
+#[derive(Clone, Copy)]
 pub(crate) struct Wide {
     pub low: Low,
     pub width: u32,

@@ -18,7 +18,7 @@ use sqlite_items::Items;
 use std::alloc::{AllocError, Global};
 
 /// What a construction makes.
-#[derive(Debug, Drop)]
+#[derive(Drop)]
 pub enum Shell {
     /// A record: the name of the declaration that writes its type.
     Record(Name),

@@ -18,7 +18,7 @@ use sqlite_items::Items;
 use std::alloc::Global;
 
 /// A slice: `[i]` has one expression, the others have two.
-#[derive(Clone, Copy, Debug, PartialEq, Eq)]
+#[derive(Clone, Copy, PartialEq, Eq)]
 pub enum SliceShape {
     /// `[i]`
     AtBit,

@@ -18,7 +18,7 @@ use std::marker::Model;
 /// A tree of names, which contracts see as the list of these: its own, those of the first tree below it, and those of the
 /// second. It knows how many they are, up to 4,294,967,295.
 #[cycle(branches)]
-#[derive(Debug, Drop)]
+#[derive(Drop)]
 struct Branch {
     name: Name,
     size: u64,
@@ -27,7 +27,7 @@ struct Branch {
 
 /// What is below a name.
 #[cycle(branches)]
-#[derive(Debug, Drop)]
+#[derive(Drop)]
 enum Below {
     Nothing,
     Two(Shared<Branch>, Shared<Branch>),
@@ -124,7 +124,7 @@ impl Branch {
 
 /// The names that a type reaches by `subtypes`, from the nearest, which contracts see as the list of these. Lists share
 /// their tails, so that many of them take little memory.
-#[derive(Debug, Drop)]
+#[derive(Drop)]
 pub struct Supers {
     trees: Shared<Items<Shared<Branch>>>,
 }

@@ -5,3 +5,4 @@ pub mod described
 pub mod reported
 pub mod visited
 pub mod budgets
+pub mod wider

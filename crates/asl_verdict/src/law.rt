@@ -1,17 +1,19 @@
 //! Law 2, that environments are described, that no report is put together from a stuck run, that the tree of each visited node does
-//! what the node does, and what the number of steps decides, each as the contract of a function without parameters.
+//! what the node does, and what the number of steps decides, and what the width limit decides, each as the contract of a function without parameters.
 #![tactic(auto)]
 
-ghost use Rattle.std.specs.Prelude.{◌≡◌, ℕ, List, [], ◌∷◌, map, Ok};
+ghost use Rattle.std.specs.Prelude.{◌≡◌, ◌≤◌, ℕ, List, [], ◌∷◌, map, Ok};
+ghost use Rattle.asl_bits.specs.declared.TheConstants.{WIDTH_LIMIT};
+ghost use Rattle.asl_grammar.specs.lexemes.Refusals.{max_width};
 ghost use Rattle.asl_grammar.specs.lexemes.Texts.{LiesIn};
-ghost use Rattle.asl_grammar.specs.Reading.{File, Reader, IsReading, Reads};
+ghost use Rattle.asl_grammar.specs.Reading.{File, Reader, IsReading, IsReadingAt, Reads};
 ghost use Rattle.asl_rules.specs.declared.entry.Entry.{Entry};
-ghost use Rattle.asl_rules.specs.Answers.{FaultOfFiles, OneAnswer};
+ghost use Rattle.asl_rules.specs.Answers.{FaultOfFiles, FilesOk, OneAnswer};
 ghost use Rattle.asl_rules.specs.Described.{Describes};
 ghost use Rattle.asl_rules.specs.Machines.{run_of, visits_of};
 ghost use Rattle.asl_rules.specs.Names.{names_rule, all_declared};
 ghost use Rattle.asl_rules.specs.Plans.{Meter};
-ghost use Rattle.asl_rules.specs.Programs.{Accepted, Environment, FaultOf, ProgramOk, environment};
+ghost use Rattle.asl_rules.specs.Programs.{Accepted, Environment, FaultOf, ProgramOk, environment, verdict};
 ghost use Rattle.asl_rules.specs.Report.{report_of};
 ghost use Rattle.asl_rules.specs.Soundness.{IsCall};
 ghost use Rattle.asl_rules.specs.States.{Binding};
@@ -27,6 +29,7 @@ ghost use Rattle.asl_verdict.specs.Budgets.{with_more, SameWithMore, SameWordsWi
 ghost use Rattle.asl_verdict.specs.Evaluated.{Evaluates, HasCause};
 ghost use Rattle.asl_verdict.specs.Reported.{RunsWell};
 ghost use Rattle.asl_verdict.specs.Visited.{AllSame};
+ghost use Rattle.asl_verdict.specs.Wider.{Fits, FitsLimit, WordsFitLimit};
 
 /// One answer: files, each entry and each width limit have exactly one of these, a program that is well formed or one
 /// single fault (`one`), and where there is a file at all, the fault's span lies within one of the files (`within`). What the
@@ -76,4 +79,17 @@ pub fn visit_law()
 pub fn budget_law()
     ensures more_steps { (env : Environment) (id : ℕ) (args : List Value) (globals : List Binding) (h : Meter) (k : ℕ) → SameWithMore k (run_of env id args globals (with_more k h)) (run_of env id args globals h) }
     ensures words { (env : Environment) (id : ℕ) (words : List ℕ) (globals : List Binding) (h : Meter) (k : ℕ) → SameWordsWithMore k (run_words env id words globals (with_more k h)) (run_words env id words globals h) }
+{}
+
+/// Law 5. The width limit decides nothing but what is too wide. Files that have a derivation have the same one under each wider limit,
+/// with the same typed trees, signatures and names (`derivation`). Of declarations that are accepted, a call from outside that ends
+/// neither with the fault D14 nor stuck is the same call under a wider limit: its outcome, its state, its text and the steps left (`run`);
+/// so are the calls for words (`words`). So a command whose files are accepted, and whose run doesn't end with the fault D14, has the same
+/// report (`report`), as each command has that reads no program, for it is too long, or has no entry of its list.
+#[tactic(auto)]
+pub fn law5()
+    ensures derivation { (l m : ℕ) → l ≤ m → (e : Entry) (files : List File) (a : Accepted) → FilesOk l e files a → FilesOk m e files a }
+    ensures run { (t u : Tests) → IsRight t → IsRight u → t.limit ≤ u.limit → (e : Entry) (ds : List Decl) (a : Accepted) → verdict e ds t ≡ Ok a → (id : ℕ) (args : List Value) (globals : List Binding) (h : Meter) → FitsLimit (run_of (environment t ds) id args globals h) → run_of (environment u ds) id args globals h ≡ run_of (environment t ds) id args globals h }
+    ensures words { (t u : Tests) → IsRight t → IsRight u → t.limit ≤ u.limit → (e : Entry) (ds : List Decl) (a : Accepted) → verdict e ds t ≡ Ok a → (id : ℕ) (words : List ℕ) (globals : List Binding) (h : Meter) → WordsFitLimit (run_words (environment t ds) id words globals h) → run_words (environment u ds) id words globals h ≡ run_words (environment t ds) id words globals h }
+    ensures report { (t u : Tests) → IsRight t → IsRight u → t.limit ≤ u.limit → (read other : Reader) → IsReadingAt t.limit read → IsReadingAt u.limit other → (command : Command) (held : Text → Text) → Fits t read command held → report_of u other command held ≡ report_of t read command held }
 {}

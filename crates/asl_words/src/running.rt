@@ -32,7 +32,7 @@ use std::alloc::{AllocError, Global};
 const WORD_WIDTH: i128 = 32;
 
 /// How a run over words ends.
-#[derive(Clone, Copy, Debug, PartialEq, Eq)]
+#[derive(Clone, Copy, PartialEq, Eq)]
 pub enum ExecEnd {
     /// All calls returned; so many words there are.
     Done(u32),

@@ -1,5 +1,5 @@
 -- What the grammar gives: an enumeration has a label, and storage a type or an initialiser.
-use Rattle.std.proofs.Common.{◌≡◌, inl, inr, zero, suc, true, ◌||◌, List, [], ◌∷◌, ◌++◌, length, Option, Ok, refl, sym, subst, map}
+use Rattle.std.proofs.Common.{◌≡◌, inl, inr, ℕ, zero, suc, true, ◌||◌, List, [], ◌∷◌, ◌++◌, length, Option, Ok, refl, sym, subst, map}
 use Rattle.std.specs.Prelude.{is_some}
 use Rattle.std.proofs.Math.Bool.{or-true}
 use Rattle.asl_syn.specs.declared.token.Token.{Token}
@@ -8,7 +8,8 @@ use Rattle.asl_syn.specs.declared.tree.TypeExpr.{TypeExpr}
 use Rattle.asl_syn.specs.declared.tree.Ident.{Ident}
 use Rattle.asl_syn.specs.declared.tree.TypeDef.{TypeDef}
 use Rattle.asl_syn.specs.declared.tree.Decl.{Decl}
-use Rattle.asl_grammar.specs.Reading.{File, Text, HasTrees, Reads}
+use Rattle.asl_grammar.specs.Reading.{File, Text, HasTrees, ReadsAt, Reads}
+use Rattle.asl_grammar.specs.lexemes.Refusals.{max_width}
 use Rattle.asl_grammar.specs.grammar.Cursor.{Cursor}
 use Rattle.asl_grammar.specs.grammar.Combinators as comb
 use Rattle.asl_grammar.specs.grammar.Combinators.{Reading, reads, reads_all, either}
@@ -90,5 +91,8 @@ trees_grown (text ∷ texts) [] ds h = absurd h
 trees_grown (text ∷ texts) (ts ∷ tss) ds (v, vs, p, q, e) = subst AreGrown (sym e) (append_grown v vs (text_grown text ts v p) (trees_grown texts tss vs q))
 
 -- what files are read to is grown, as far as declarations themselves go
+pub read_grown_at : (limit : ℕ) (files : List File) (ds : List Decl) → ReadsAt limit files (Ok ds) → AreGrown ds
+read_grown_at limit files ds h = trees_grown (map (λ f. f.1) files) h.tokens ds h.trees
+
 pub read_grown : (files : List File) (ds : List Decl) → Reads files (Ok ds) → AreGrown ds
-read_grown files ds h = trees_grown (map (λ f. f.1) files) h.tokens ds h.trees
+read_grown = read_grown_at max_width

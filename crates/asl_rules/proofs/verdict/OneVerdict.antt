@@ -2,8 +2,8 @@
 use Rattle.std.proofs.Common.{◌≡◌, ℕ, ◌⊎◌, inl, inr, Bool, true, false, List, Result, Ok, Err, refl, ap, sym, ◌∙◌, subst}
 use Rattle.asl_syn.specs.declared.code.Fault.{Fault}
 use Rattle.asl_syn.specs.declared.tree.Decl.{Decl}
-use Rattle.asl_grammar.specs.Reading.{File, Reads}
-use Rattle.asl_grammar.proofs.OneProgram.{one_answer as one_reading, some_reader}
+use Rattle.asl_grammar.specs.Reading.{File, ReadsAt}
+use Rattle.asl_grammar.proofs.OneProgram.{one_answer_at as one_reading, some_reader_at}
 use Rattle.asl_rules.specs.declared.entry.Entry.{Entry}
 use Rattle.asl_rules.specs.Tests.{Tests, IsRight}
 use Rattle.asl_rules.specs.Programs.{Accepted, verdict, ProgramOk, FaultOf}
@@ -62,35 +62,35 @@ some_verdict limit e ds = decided limit (some_tests limit) e ds (verdict e ds (s
 -- ---- files
 
 -- the declarations that files are read to
-same_decls : (files : List File) (ds es : List Decl) → Reads files (Ok ds) → Reads files (Ok es) → ds ≡ es
-same_decls files ds es h k = ok_same (one_reading files (Ok ds) (Ok es) h k)
+same_decls : (limit : ℕ) (files : List File) (ds es : List Decl) → ReadsAt limit files (Ok ds) → ReadsAt limit files (Ok es) → ds ≡ es
+same_decls limit files ds es h k = ok_same (one_reading limit files (Ok ds) (Ok es) h k)
 
-no_fault : (files : List File) (ds : List Decl) (f : Fault) → Reads files (Ok ds) → Reads files (Err f) → ⊥
-no_fault files ds f h k = ok_err (one_reading files (Ok ds) (Err f) h k)
+no_fault : (limit : ℕ) (files : List File) (ds : List Decl) (f : Fault) → ReadsAt limit files (Ok ds) → ReadsAt limit files (Err f) → ⊥
+no_fault limit files ds f h k = ok_err (one_reading limit files (Ok ds) (Err f) h k)
 
 -- a fault that is met as files are read
-only_refused : (limit : ℕ) (e : Entry) (files : List File) (f : Fault) → Reads files (Err f) → (r : Result Accepted Fault) → AnsweredBy limit e files r → r ≡ Err f
-only_refused limit e files f k (Ok a) h = absurd (no_fault files h.decls f h.reads k)
-only_refused limit e files f k (Err g) (inl h) = ap Err (err_same (one_reading files (Err g) (Err f) h k))
-only_refused limit e files f k (Err g) (inr (ds, h, i)) = absurd (no_fault files ds f h k)
+only_refused : (limit : ℕ) (e : Entry) (files : List File) (f : Fault) → ReadsAt limit files (Err f) → (r : Result Accepted Fault) → AnsweredBy limit e files r → r ≡ Err f
+only_refused limit e files f k (Ok a) h = absurd (no_fault limit files h.decls f h.reads k)
+only_refused limit e files f k (Err g) (inl h) = ap Err (err_same (one_reading limit files (Err g) (Err f) h k))
+only_refused limit e files f k (Err g) (inr (ds, h, i)) = absurd (no_fault limit files ds f h k)
 
-only_accepted : (limit : ℕ) (e : Entry) (files : List File) (ds : List Decl) → Reads files (Ok ds) → (a : Accepted) → ProgramOk limit e ds a → (r : Result Accepted Fault) → AnsweredBy limit e files r → r ≡ Ok a
-only_accepted limit e files ds k a p (Ok b) h = ap Ok (one_accepted limit e ds b a (subst (λ es. ProgramOk limit e es b) (same_decls files h.decls ds h.reads k) h.ok) p)
-only_accepted limit e files ds k a p (Err g) (inl h) = absurd (no_fault files ds g k h)
-only_accepted limit e files ds k a p (Err g) (inr (es, h, i)) = absurd (not_both limit e ds a g p (subst (λ fs. FaultOf limit e fs g) (same_decls files es ds h k) i))
+only_accepted : (limit : ℕ) (e : Entry) (files : List File) (ds : List Decl) → ReadsAt limit files (Ok ds) → (a : Accepted) → ProgramOk limit e ds a → (r : Result Accepted Fault) → AnsweredBy limit e files r → r ≡ Ok a
+only_accepted limit e files ds k a p (Ok b) h = ap Ok (one_accepted limit e ds b a (subst (λ es. ProgramOk limit e es b) (same_decls limit files h.decls ds h.reads k) h.ok) p)
+only_accepted limit e files ds k a p (Err g) (inl h) = absurd (no_fault limit files ds g k h)
+only_accepted limit e files ds k a p (Err g) (inr (es, h, i)) = absurd (not_both limit e ds a g p (subst (λ fs. FaultOf limit e fs g) (same_decls limit files es ds h k) i))
 
-only_faulty : (limit : ℕ) (e : Entry) (files : List File) (ds : List Decl) → Reads files (Ok ds) → (f : Fault) → FaultOf limit e ds f → (r : Result Accepted Fault) → AnsweredBy limit e files r → r ≡ Err f
-only_faulty limit e files ds k f p (Ok b) h = absurd (not_both limit e ds b f (subst (λ es. ProgramOk limit e es b) (same_decls files h.decls ds h.reads k) h.ok) p)
-only_faulty limit e files ds k f p (Err g) (inl h) = absurd (no_fault files ds g k h)
-only_faulty limit e files ds k f p (Err g) (inr (es, h, i)) = ap Err (one_fault limit e ds g f (subst (λ fs. FaultOf limit e fs g) (same_decls files es ds h k) i) p)
+only_faulty : (limit : ℕ) (e : Entry) (files : List File) (ds : List Decl) → ReadsAt limit files (Ok ds) → (f : Fault) → FaultOf limit e ds f → (r : Result Accepted Fault) → AnsweredBy limit e files r → r ≡ Err f
+only_faulty limit e files ds k f p (Ok b) h = absurd (not_both limit e ds b f (subst (λ es. ProgramOk limit e es b) (same_decls limit files h.decls ds h.reads k) h.ok) p)
+only_faulty limit e files ds k f p (Err g) (inl h) = absurd (no_fault limit files ds g k h)
+only_faulty limit e files ds k f p (Err g) (inr (es, h, i)) = ap Err (one_fault limit e ds g f (subst (λ fs. FaultOf limit e fs g) (same_decls limit files es ds h k) i) p)
 
-judged : (limit : ℕ) (e : Entry) (files : List File) (ds : List Decl) → Reads files (Ok ds) → Judged limit e ds → OneAnswer limit e files
+judged : (limit : ℕ) (e : Entry) (files : List File) (ds : List Decl) → ReadsAt limit files (Ok ds) → Judged limit e ds → OneAnswer limit e files
 judged limit e files ds k (inl (a, p)) = record { answer = Ok a; is = record { decls = ds; reads = k; ok = p }; only = only_accepted limit e files ds k a p }
 judged limit e files ds k (inr (f, p)) = record { answer = Err f; is = inr (ds, k, p); only = only_faulty limit e files ds k f p }
 
-answered : (limit : ℕ) (e : Entry) (files : List File) (r : Result (List Decl) Fault) → Reads files r → OneAnswer limit e files
+answered : (limit : ℕ) (e : Entry) (files : List File) (r : Result (List Decl) Fault) → ReadsAt limit files r → OneAnswer limit e files
 answered limit e files (Ok ds) k = judged limit e files ds k (some_verdict limit e ds)
 answered limit e files (Err f) k = record { answer = Err f; is = inl k; only = only_refused limit e files f k }
 
 pub one_answer : (limit : ℕ) (e : Entry) (files : List File) → OneAnswer limit e files
-one_answer limit e files = answered limit e files (some_reader.0 files) (some_reader.1 files)
+one_answer limit e files = answered limit e files ((some_reader_at limit).0 files) ((some_reader_at limit).1 files)

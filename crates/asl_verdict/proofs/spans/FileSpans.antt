@@ -5,7 +5,6 @@ use Rattle.asl_syn.specs.declared.token.Span.{Span}
 use Rattle.asl_syn.specs.declared.token.Token.{Token}
 use Rattle.asl_syn.specs.declared.code.Fault.{Fault}
 use Rattle.asl_syn.specs.declared.tree.Decl.{Decl}
-use Rattle.asl_grammar.specs.lexemes.Refusals.{max_width}
 use Rattle.asl_grammar.specs.lexemes.Tokens.{Tokens}
 use Rattle.asl_grammar.specs.lexemes.Texts.{HasText, LiesIn}
 use Rattle.asl_grammar.specs.lexemes.Files.{AllTokens}
@@ -65,11 +64,11 @@ syntax_stands limit n text ts f k (inr x) =
     let all = subst (AllOf (Lexed n text)) x.is (lexed limit n text ts (tokens_stand limit n text ts k)) in
     subst (λ (y : Fault). Within n text y.span) (sym x.says) (opener_within n text x.front x.token x.late (rest_of n text x.front (x.token ∷ x.rest) all).0 (front_of n text x.front (x.token ∷ x.rest) all))
 
-first_syntax_stands : (n : ℕ) (texts : List Text) (tss : List (List Token)) (f : Fault) → AllTokens max_width n texts tss → FirstSyntaxFault n texts tss f → LiesIn n texts f.span
-first_syntax_stands n [] tss f k h = absurd h
-first_syntax_stands n (text ∷ texts) [] f k h = absurd h
-first_syntax_stands n (text ∷ texts) (ts ∷ tss) f k (inl h) = inl (syntax_stands max_width n text ts f k.0 h)
-first_syntax_stands n (text ∷ texts) (ts ∷ tss) f k (inr h) = inr (first_syntax_stands (n + 1) texts tss f k.1 h.2)
+first_syntax_stands : (limit n : ℕ) (texts : List Text) (tss : List (List Token)) (f : Fault) → AllTokens limit n texts tss → FirstSyntaxFault n texts tss f → LiesIn n texts f.span
+first_syntax_stands limit n [] tss f k h = absurd h
+first_syntax_stands limit n (text ∷ texts) [] f k h = absurd h
+first_syntax_stands limit n (text ∷ texts) (ts ∷ tss) f k (inl h) = inl (syntax_stands limit n text ts f k.0 h)
+first_syntax_stands limit n (text ∷ texts) (ts ∷ tss) f k (inr h) = inr (first_syntax_stands limit (n + 1) texts tss f k.1 h.2)
 
 -- ---- all declarations
 
@@ -82,18 +81,18 @@ abbrev pub TreesStand : Type 0
 TreesStand = (limit n : ℕ) (text : Text) (ts : List Token) (v : List Decl) → Tokens limit n text ts → Parses text ts v → Each (Within n text) (all_of decl_spans v)
 
 module _ (trees : TreesStand) where
-  all_trees : (n : ℕ) (texts : List Text) (tss : List (List Token)) (ds : List Decl) → AllTokens max_width n texts tss → HasTrees texts tss ds → Each (LiesIn n texts) (all_of decl_spans ds)
-  all_trees n [] [] ds k h = subst (λ es. Each (LiesIn n []) (all_of decl_spans es)) (sym h) tt
-  all_trees n [] (ts ∷ tss) ds k h = absurd h
-  all_trees n (text ∷ texts) [] ds k h = absurd h
-  all_trees n (text ∷ texts) (ts ∷ tss) ds k (v, vs, p, r, e) =
+  all_trees : (limit n : ℕ) (texts : List Text) (tss : List (List Token)) (ds : List Decl) → AllTokens limit n texts tss → HasTrees texts tss ds → Each (LiesIn n texts) (all_of decl_spans ds)
+  all_trees limit n [] [] ds k h = subst (λ es. Each (LiesIn n []) (all_of decl_spans es)) (sym h) tt
+  all_trees limit n [] (ts ∷ tss) ds k h = absurd h
+  all_trees limit n (text ∷ texts) [] ds k h = absurd h
+  all_trees limit n (text ∷ texts) (ts ∷ tss) ds k (v, vs, p, r, e) =
       subst (λ es. Each (LiesIn n (text ∷ texts)) (all_of decl_spans es)) (sym e) (joined_decls (LiesIn n (text ∷ texts)) v vs
-      (each_so (Within n text) (LiesIn n (text ∷ texts)) (λ span h. inl h) (all_of decl_spans v) (trees max_width n text ts v k.0 p))
-      (each_so (LiesIn (n + 1) texts) (LiesIn n (text ∷ texts)) (λ span h. inr h) (all_of decl_spans vs) (all_trees (n + 1) texts tss vs k.1 r)))
+      (each_so (Within n text) (LiesIn n (text ∷ texts)) (λ span h. inl h) (all_of decl_spans v) (trees limit n text ts v k.0 p))
+      (each_so (LiesIn (n + 1) texts) (LiesIn n (text ∷ texts)) (λ span h. inr h) (all_of decl_spans vs) (all_trees limit (n + 1) texts tss vs k.1 r)))
 
   -- the fault of files stands in one of them, where there is a file at all
   pub files_fault_stands : (limit : ℕ) (e : Entry) (file : File) (files : List File) (f : Fault) → FaultOfFiles limit e (file ∷ files) f → LiesIn 0 (map (λ g. g.1) (file ∷ files)) f.span
-  files_fault_stands limit e file files f (inl (inl h)) = first_fault_stands max_width 0 (map (λ g. g.1) (file ∷ files)) f h
-  files_fault_stands limit e file files f (inl (inr h)) = first_syntax_stands 0 (map (λ g. g.1) (file ∷ files)) h.tokens f h.lexemes h.fault
+  files_fault_stands limit e file files f (inl (inl h)) = first_fault_stands limit 0 (map (λ g. g.1) (file ∷ files)) f h
+  files_fault_stands limit e file files f (inl (inr h)) = first_syntax_stands limit 0 (map (λ g. g.1) (file ∷ files)) h.tokens f h.lexemes h.fault
   files_fault_stands limit e file files f (inr (ds, r, h)) =
-      fault_there h.tests (LiesIn 0 (map (λ g. g.1) (file ∷ files))) e ds f (inl (refl, omega arith)) (all_trees 0 (map (λ g. g.1) (file ∷ files)) r.tokens ds r.lexemes r.trees) h.is
+      fault_there h.tests (LiesIn 0 (map (λ g. g.1) (file ∷ files))) e ds f (inl (refl, omega arith)) (all_trees limit 0 (map (λ g. g.1) (file ∷ files)) r.tokens ds r.lexemes r.trees) h.is
