@@ -4,7 +4,7 @@
 It writes, in the crate asl_grammar, the kinds of tokens (specs/grammar/Kinds.antt, src/kinds.rt), the operators that
 kinds are (specs/grammar/Operators.antt, src/operators.rt), the rules (specs/grammar/Rules.antt) and the proof that one
 token is enough to choose by (proofs/grammar/Checked.antt), and, in the crates asl_parse_expr and asl_parse_stmt, the tokens that a rule may begin with (src/firsts.rt)
-and rules as the steps of the functions that read them (proofs/Steps.antt). And in the crate asl_verdict, the proof that what each rule reads has its spans
+and rules as the steps of the functions that read them (proofs/Steps.antt). And in the crate asl_laws, the proof that what each rule reads has its spans
 in the file (proofs/reading/RulesOf*.antt, by inside.py). The table as data, and what is written of the rules alone, is rules.py.
 
     generate.py          writes the files
@@ -397,7 +397,7 @@ def write_steps(crate, found):
     head += from_module('Rattle.std.proofs.Common', '◌≡◌ ℕ suc ◌⊎◌ inl inr ◌-◌ ◌<◌ Bool true false nat_eq List [] ◌∷◌ ◌++◌ length Option Some None Ok refl ◌∙◌'.split(), body) + imports(body)
     head += from_kinds(body) + from_module(PRE + 'Cursor', CURSOR + ['extent'], body) + from_module(PRE + 'Combinators', COMBINATORS, body)
     head += from_module(PRE + 'Reader', 'Outcome bind pick first run_tok run_opens'.split(), body) + from_module(PRE + 'Build', HELPERS, body) + from_module(PRE + 'Rules', ['Sym'] + list(SYMBOLS) + ORDER, body)
-    head += from_module('Rattle.asl_parse_expr.specs.Code', 'reading symbol charge then ending'.split(), body)
+    head += from_module('Rattle.asl_parse_expr.specs.private.Code', 'reading symbol charge then ending'.split(), body)
     head += from_module('Rattle.asl_parse_expr.proofs.Loops', 'bind_bind optional_as optional_plain choice_as run_items items_are run_chain chain_is run_as_chain as_chain_are run_more more_are commas_are run_listed listed_are'.split(), body)
     OUT[crate + '/proofs/Steps.antt'] = head + '\n' + body
 

@@ -1,11 +1,11 @@
-"""The lemmas by which the spans of what each rule reads lie in the file that was read (crates/asl_verdict/proofs/reading).
+"""The lemmas by which the spans of what each rule reads lie in the file that was read (crates/asl_laws/proofs/reading).
 
 A rule's lemma is one term, made from the rule's body: what a sequence reads lies there part by part, and what a rule builds of it lies there by the
 lemma of the node or of the function that builds it. So there is a value and a proof for each part of such a text.
 """
 import re
 
-READING = 'Rattle.asl_verdict.proofs.reading.'
+READING = 'Rattle.asl_laws.proofs.reading.'
 
 # ---- types
 
@@ -411,11 +411,11 @@ def files(grammar):
     body = '-- what each symbol stands for is as asked\npub made : (s : Sym) (v : Val s) → In n size (rule s) v → SymIn n size s v\n'
     body += ''.join(f'made {s} v h = {n}_inside n size v h\n' for s, (t, n, c) in grammar.SYMBOLS.items())
     out['Made'] = whole('-- What a symbol of the grammar stands for has its spans in the file, where this holds of the symbols in it.\n', body, 'Made')
-    return {f'asl_verdict/proofs/reading/{file}.antt': text for file, text in out.items()}
+    return {f'asl_laws/proofs/reading/{file}.antt': text for file, text in out.items()}
 
 
 def lemmas(grammar, module):
     """the names that a file written by hand makes known"""
-    text = open(f'{grammar.CRATES}/asl_verdict/proofs/reading/{module}.antt').read()
+    text = open(f'{grammar.CRATES}/asl_laws/proofs/reading/{module}.antt').read()
     found = re.findall(r'^ *(?:abbrev |unfoldable )?pub (?:record )?(\w+) ', text, re.M)
     return [name if name not in grammar.RULES else 'built_' + name for name in found]

@@ -4,20 +4,20 @@ use Rattle.std.proofs.lemmas.List.{drop_all}
 use Rattle.asl_syn.specs.declared.tree.Decl.{Decl}
 use Rattle.asl_syn.specs.declared.tree.Decl.TheVariants as dc
 use Rattle.asl_rules.specs.declared.entry.Entry.{Entry as Asked}
-use Rattle.asl_rules.specs.Grown.{AreGrown}
-use Rattle.asl_rules.specs.Programs.{verdict, accepted, Accepted}
-use Rattle.asl_rules.specs.Scopes.{Entry, Signature, storage_of}
-use Rattle.asl_rules.specs.States.{Binding}
-use Rattle.asl_rules.specs.Evaluation.{global_in, globals_among, cons_some}
-use Rattle.asl_rules.specs.Declarations.{names_of_program}
+use Rattle.asl_rules.specs.private.Grown.{AreGrown}
+use Rattle.asl_rules.specs.declarations.Programs.{verdict, accepted, Accepted}
+use Rattle.asl_rules.specs.declarations.Scopes.{Entry, Signature, storage_of}
+use Rattle.asl_rules.specs.runs.States.{Binding}
+use Rattle.asl_rules.specs.runs.Evaluation.{global_in, globals_among, cons_some}
+use Rattle.asl_rules.specs.declarations.Declarations.{names_of_program}
 use Rattle.asl_rules.specs.Tests.{Tests}
-use Rattle.asl_rules.proofs.soundness.SoundnessFacts.{facts_of}
+use Rattle.asl_laws.proofs.soundness.SoundnessFacts.{facts_of}
 use Rattle.asl_types.specs.Suits.{Suits}
 use Rattle.asl_tree.specs.Acts.{all_funcs}
 use Rattle.asl_tree.specs.declared.act.TreeFunc.{TreeFunc}
 use Rattle.asl_tree.specs.declared.checked.Global.{Global}
 use Rattle.asl_tree.specs.Sealed.{Cell, cell_in, cell_of, cells_in, cells_of, IsSealed}
-use Rattle.asl_check.specs.GlobalViews.{found_global, cells_with}
+use Rattle.asl_check.specs.private.GlobalViews.{found_global, cells_with}
 use Rattle.asl_stmt.proofs.Chains.{next_of, append_nothing}
 
 cells_both : (gs : List Global) (g : Global) → cells_of (gs ++ g ∷ []) ≡ cells_of gs ++ cell_of g ∷ []

@@ -1,4 +1,1 @@
-pub mod Falls
-pub mod Verdicts
-pub mod Bringing
-pub mod GlobalViews
+pub mod private

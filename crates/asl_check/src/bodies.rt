@@ -1,10 +1,10 @@
 //! The bodies of subprograms.
 
 ghost use Rattle.std.specs.Prelude.{◌≡◌, List, map, IfOk, OnOk};
-ghost use Rattle.asl_rules.specs.Programs as rules;
-ghost use Rattle.asl_rules.specs.Scopes.{Entry};
+ghost use Rattle.asl_rules.specs.declarations.Programs as rules;
+ghost use Rattle.asl_rules.specs.declarations.Scopes.{Entry};
 ghost use Rattle.asl_rules.specs.Tests.{Tests};
-ghost use Rattle.asl_types.specs.Answers.{Met};
+ghost use Rattle.asl_types.specs.private.Answers.{Met};
 ghost use Rattle.asl_types.specs.Suits.{Suits};
 ghost use Rattle.asl_tree.specs.Acts.{func_of, all_funcs, all_acts};
 ghost use Rattle.asl_decl.specs.Heads.{head_of, heads_of};

@@ -1,8 +1,8 @@
 //! Whether the end of a statement can be reached.
 
 ghost use Rattle.std.specs.Prelude.{◌≡◌, map};
-ghost use Rattle.asl_rules.specs.Falling as rules;
-ghost use Rattle.asl_check.specs.Falls as parts;
+ghost use Rattle.asl_rules.specs.statements.Falling as rules;
+ghost use Rattle.asl_check.specs.private.Falls as parts;
 
 use asl_syn::tree::{Alternative, Catcher, ElseIf, Otherwise, Stmt};
 

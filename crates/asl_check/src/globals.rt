@@ -1,10 +1,10 @@
 //! The globals that a run begins with.
 
 ghost use Rattle.std.specs.Prelude.{◌≡◌, IfOk, OnOk, option_map};
-ghost use Rattle.asl_rules.specs.Evaluation.{globals_among, global_in};
-ghost use Rattle.asl_rules.specs.Scopes.{storage_of};
+ghost use Rattle.asl_rules.specs.runs.Evaluation.{globals_among, global_in};
+ghost use Rattle.asl_rules.specs.declarations.Scopes.{storage_of};
 ghost use Rattle.asl_tree.specs.Sealed.{cell_of, cell_in, cells_in, cells_of};
-ghost use Rattle.asl_check.specs.GlobalViews.{found_global, cells_with};
+ghost use Rattle.asl_check.specs.private.GlobalViews.{found_global, cells_with};
 
 use asl_judge::{is_var, name_of};
 use asl_syn::tree::{Decl, StorageDecl};

@@ -1,15 +1,15 @@
 //! Whole programs.
 
 ghost use Rattle.std.specs.Prelude.{◌≡◌, length, map, IfOk};
-ghost use Rattle.asl_rules.specs.Grown.{AreGrown};
+ghost use Rattle.asl_rules.specs.private.Grown.{AreGrown};
 ghost use Rattle.asl_tree.specs.Sealed.{IsSealed};
-ghost use Rattle.asl_rules.specs.Programs.{verdict};
+ghost use Rattle.asl_rules.specs.declarations.Programs.{verdict};
 ghost use Rattle.asl_decl.specs.Heads.{declared_with, heads_of};
-ghost use Rattle.asl_check.specs.Bringing.{with_bodies, with_entry_found};
+ghost use Rattle.asl_check.specs.private.Bringing.{with_bodies, with_entry_found};
 ghost use Rattle.asl_rules.specs.Tests.{Tests};
-ghost use Rattle.asl_types.specs.Answers.{Met};
+ghost use Rattle.asl_types.specs.private.Answers.{Met};
 ghost use Rattle.asl_types.specs.Suits.{Suits};
-ghost use Rattle.asl_check.specs.Verdicts.{accepted_of, HasMain, IsVerdict};
+ghost use Rattle.asl_check.specs.private.Verdicts.{accepted_of, HasMain, IsVerdict};
 
 use crate::bodies::check_bodies;
 use crate::globals::find_globals;

@@ -2,7 +2,7 @@
 use Rattle.std.proofs.Common.{ℕ, List, ◌++◌, Option, Result, Ok, Err}
 use Rattle.asl_io.specs.Told.{Takes}
 use Rattle.asl_io.proofs.ToldLemmas.{TakesPrefix-after, Takes-join}
-use Rattle.asl_rules.specs.Report.{answer}
+use Rattle.asl_rules.specs.report.Report.{answer}
 use Rattle.asl_cmd.specs.declared.status.Stop.{Stop}
 use Rattle.asl_cmd.specs.declared.status.Status.{Status}
 use Rattle.asl_cmd.specs.Writes.{Writes, Answers}

@@ -3,9 +3,9 @@ use Rattle.std.proofs.Common.{◌≡◌, ℕ, suc, ◌+◌, ◌<◌, Bool, true,
 use Rattle.std.proofs.Math.Seq.{drop-cons}
 use Rattle.asl_io.specs.Told.{Takes, TakesPrefix}
 use Rattle.asl_io.proofs.ToldLemmas.{Takes-join, Takes-none, TakesPrefix-after, TakesPrefix-more}
-use Rattle.asl_rules.specs.States.{Binding}
-use Rattle.asl_rules.specs.Texts.{Text, global_line}
-use Rattle.asl_rules.specs.Report.{globals_text}
+use Rattle.asl_rules.specs.runs.States.{Binding}
+use Rattle.asl_rules.specs.report.Texts.{Text, global_line}
+use Rattle.asl_rules.specs.report.Report.{globals_text}
 use Rattle.asl_value.specs.View.{value_of}
 use Rattle.asl_machine.specs.Storage.{Var, var_of, vars_in}
 use Rattle.asl_machine.specs.Stages.{OnRun, answer_of}
@@ -14,8 +14,8 @@ use Rattle.asl_machine.specs.declared.stage.Outcome.{Outcome}
 use Rattle.asl_machine.specs.declared.stage.Stage.{Stage}
 use Rattle.asl_machine.specs.declared.stage.Stage.TheVariants as stage
 use Rattle.asl_words.specs.declared.running.ExecEnd.{ExecEnd}
-use Rattle.asl_words.specs.Runs.{end_of}
-use Rattle.asl_cmd.specs.Ends.{vars_text}
+use Rattle.asl_words.specs.private.Runs.{end_of}
+use Rattle.asl_cmd.specs.private.Ends.{vars_text}
 use Rattle.asl_cmd.specs.Writes.{TakesFront}
 
 -- the lines from global number k on

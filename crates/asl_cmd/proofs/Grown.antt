@@ -3,9 +3,9 @@ use Rattle.std.proofs.Common.{List, Ok}
 use Rattle.asl_bits.specs.declared.TheConstants.{WIDTH_LIMIT}
 use Rattle.asl_syn.specs.declared.tree.Decl.{Decl}
 use Rattle.asl_grammar.specs.Reading.{File, Reads}
-use Rattle.asl_rules.specs.Grown.{AreGrown}
+use Rattle.asl_rules.specs.private.Grown.{AreGrown}
 use Rattle.asl_rules.specs.Tests.{Tests}
-use Rattle.asl_rules.proofs.scopes.GrownTexts.{read_grown}
+use Rattle.asl_laws.proofs.scopes.GrownTexts.{read_grown}
 use Rattle.asl_rules.proofs.verdict.SomeTests.{some_tests}
 use Rattle.asl_types.specs.Suits.{Suits}
 

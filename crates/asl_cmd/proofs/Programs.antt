@@ -2,22 +2,22 @@
 use Rattle.std.proofs.Common.{◌≡◌, ℕ, List, [], ◌∷◌, Option, Result, Ok, sym, ap, ◌∙◌, subst}
 use Rattle.asl_syn.specs.declared.code.Fault.{Fault}
 use Rattle.asl_syn.specs.declared.tree.Decl.{Decl}
-use Rattle.asl_rules.specs.Grown.{AreGrown}
-use Rattle.asl_rules.specs.Programs.{verdict, Accepted}
+use Rattle.asl_rules.specs.private.Grown.{AreGrown}
+use Rattle.asl_rules.specs.declarations.Programs.{verdict, Accepted}
 use Rattle.asl_grammar.specs.Reading.{IsReading, Reader, Reads}
-use Rattle.asl_rules.specs.Report.{Answer, made_file, on_made, on_reading, on_verdict}
+use Rattle.asl_rules.specs.report.Report.{Answer, made_file, on_made, on_reading, on_verdict}
 use Rattle.asl_rules.specs.Tests.{Tests}
-use Rattle.asl_rules.specs.Texts.{File, Text}
+use Rattle.asl_rules.specs.report.Texts.{File, Text}
 use Rattle.asl_rules.specs.declared.entry.Entry.{Entry}
 use Rattle.asl_rules.specs.declared.entry.Entry.TheVariants.{Main, Decode}
 use Rattle.asl_rules.proofs.basics.Inversions.{ok_ok, bind_ok}
 use Rattle.asl_types.specs.Suits.{Suits}
-use Rattle.asl_check.specs.Verdicts.{IsVerdict}
+use Rattle.asl_check.specs.private.Verdicts.{IsVerdict}
 use Rattle.asl_tree.specs.Sealed.{Sealed}
 use Rattle.asl_cmd.specs.declared.status.Stop.{Stop}
 use Rattle.asl_cmd.specs.declared.status.Status.{Status}
-use Rattle.asl_cmd.specs.Ends.{Starts, Decodes}
-use Rattle.asl_cmd.specs.Report.{self_answer}
+use Rattle.asl_cmd.specs.private.Ends.{Starts, Decodes}
+use Rattle.asl_cmd.specs.private.Report.{self_answer}
 use Rattle.asl_cmd.specs.Writes.{Answers}
 use Rattle.asl_cmd.proofs.ReadingLemmas.{read_as}
 

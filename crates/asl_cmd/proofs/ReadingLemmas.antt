@@ -11,11 +11,11 @@ use Rattle.asl_syn.specs.declared.place.Source.{Source}
 use Rattle.asl_syn.specs.declared.tree.Decl.{Decl}
 use Rattle.asl_grammar.specs.Reading.{Reads, Reader, IsReading}
 use Rattle.asl_grammar.proofs.OneProgram.{one_answer}
-use Rattle.asl_rules.specs.Texts.{Text, File}
-use Rattle.asl_rules.specs.Report.{Reading, all, long, with_file, read_by}
+use Rattle.asl_rules.specs.report.Texts.{Text, File}
+use Rattle.asl_rules.specs.report.Report.{Reading, all, long, with_file, read_by}
 use Rattle.asl_cmd.specs.declared.reading.One.{One}
 use Rattle.asl_cmd.specs.declared.reading.One.TheVariants as one
-use Rattle.asl_cmd.specs.Model.{file_of, IsOne, IsShortOne, AreShort}
+use Rattle.asl_cmd.specs.private.Model.{file_of, IsOne, IsShortOne, AreShort}
 
 -- the files that were read, before what came of the others
 abbrev pub prepend : List File → Reading → Reading

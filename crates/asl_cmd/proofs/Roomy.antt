@@ -1,7 +1,7 @@
 -- A sink in memory with room for a text takes all of it.
 use Rattle.std.proofs.Common.{◌≡◌, ℕ, ◌<◌, ◌≤◌, ◌+◌, ◌++◌, ◌⊎◌, inl, inr, List, [], length, Option, Some, option_map, refl, ap, ◌∙◌, arith, length-append}
 use Rattle.asl_io.specs.Faults.{Rises, room_where_none_fails}
-use Rattle.asl_io.specs.Filled.{filled_room}
+use Rattle.asl_io.specs.private.Filled.{filled_room}
 use Rattle.asl_io.specs.Told.{Takes, TakesPrefix}
 use Rattle.asl_cmd.specs.declared.status.Status.{Status}
 use Rattle.asl_cmd.specs.declared.status.Status.TheVariants as status

@@ -2,17 +2,17 @@
 use Rattle.std.proofs.Common.{◌≡◌, ◌∙◌, ℕ, Bool, false, List, [], ◌∷◌, ◌++◌, map, Option, Some, Result, Ok, Err, refl, sym, ap, subst, append_assoc, append-nil}
 use Rattle.std.specs.Prelude.{if◌then◌else◌}
 use Rattle.asl_io.specs.Told.{TakesPrefix}
-use Rattle.asl_rules.specs.Told.{open_after}
-use Rattle.asl_rules.specs.States.{Binding, Core}
-use Rattle.asl_rules.specs.Values.{Value}
-use Rattle.asl_rules.specs.Plans.{starting, Outcome, Done, Thrown, Halt, Faulted, Stuck, final}
-use Rattle.asl_rules.specs.Programs.{Environment, environment}
+use Rattle.asl_rules.specs.runs.Told.{open_after}
+use Rattle.asl_rules.specs.runs.States.{Binding, Core}
+use Rattle.asl_rules.specs.values.Values.{Value}
+use Rattle.asl_rules.specs.runs.Plans.{starting, Outcome, Done, Thrown, Halt, Faulted, Stuck, final}
+use Rattle.asl_rules.specs.declarations.Programs.{Environment, environment}
 use Rattle.asl_rules.specs.Tests.{Tests}
-use Rattle.asl_rules.specs.Machines.{GivenUp, run_of, text_of_run}
-use Rattle.asl_rules.specs.Evaluation.{initial_globals}
-use Rattle.asl_rules.specs.Texts.{Text, File, is_open, closing, line_feed, dynamic_line, uncaught_line}
-use Rattle.asl_rules.specs.Report.{Answer, answer, behind, told_text, outcome_line, globals_text, run_answer, made_answer, begun}
-use Rattle.asl_rules.proofs.runs.Shift.{own_text}
+use Rattle.asl_rules.specs.runs.Machines.{GivenUp, run_of, text_of_run}
+use Rattle.asl_rules.specs.runs.Evaluation.{initial_globals}
+use Rattle.asl_rules.specs.report.Texts.{Text, File, is_open, closing, line_feed, dynamic_line, uncaught_line}
+use Rattle.asl_rules.specs.report.Report.{Answer, answer, behind, told_text, outcome_line, globals_text, run_answer, made_answer, begun}
+use Rattle.asl_laws.proofs.runs.Shift.{own_text}
 use Rattle.asl_tree.specs.Sealed.{Sealed}
 use Rattle.asl_types.specs.Suits.{Suits}
 use Rattle.asl_value.specs.declared.value.Value.{Value as Given}
@@ -29,7 +29,7 @@ use Rattle.asl_machine.proofs.Entries.{main_callable}
 use Rattle.asl_machine.proofs.OwnRuns.{own_run, own_part}
 use Rattle.asl_cmd.specs.declared.status.Stop.{Stop}
 use Rattle.asl_cmd.specs.declared.status.Status.{Status}
-use Rattle.asl_cmd.specs.Ends.{end_line, end_status, ending, made_line, where_returned, Starts}
+use Rattle.asl_cmd.specs.private.Ends.{end_line, end_status, ending, made_line, where_returned, Starts}
 use Rattle.asl_cmd.specs.Writes.{Answers}
 use Rattle.asl_cmd.proofs.Answering.{Answers-after}
 

@@ -3,20 +3,20 @@ use Rattle.std.proofs.Common.{◌≡◌, ◌<◌, ◌∙◌, ℕ, List, [], ◌�
 use Rattle.asl_syn.specs.Command.{Command, usage, check, run, exec, self, default_steps}
 use Rattle.asl_syn.specs.declared.code.Fault.{Fault}
 use Rattle.asl_syn.specs.declared.tree.Decl.{Decl}
-use Rattle.asl_rules.specs.Values.{Value}
-use Rattle.asl_rules.specs.States.{Binding, Core}
-use Rattle.asl_rules.specs.Plans.{Outcome, Done, Thrown, Halt, End, Faulted, Stuck}
-use Rattle.asl_rules.specs.Programs.{Environment, Accepted}
+use Rattle.asl_rules.specs.values.Values.{Value}
+use Rattle.asl_rules.specs.runs.States.{Binding, Core}
+use Rattle.asl_rules.specs.runs.Plans.{Outcome, Done, Thrown, Halt, End, Faulted, Stuck}
+use Rattle.asl_rules.specs.declarations.Programs.{Environment, Accepted}
 use Rattle.asl_rules.specs.Tests.{Tests}
-use Rattle.asl_rules.specs.Texts.{Text, File, made_words}
-use Rattle.asl_rules.specs.Words.{WordsEnd, AllReturned, WordThrew, WordHalted}
-use Rattle.asl_rules.specs.WordList.{ListFault, words_read}
-use Rattle.asl_rules.specs.Made.{made_text}
-use Rattle.asl_rules.specs.Report.{Answer, halted, run_answer, words_answer, made_answer, begun, worked, on_verdict, on_reading, on_words_read, on_check, on_run, on_words, on_made, made_file}
+use Rattle.asl_rules.specs.report.Texts.{Text, File, made_words}
+use Rattle.asl_rules.specs.runs.Words.{WordsEnd, AllReturned, WordThrew, WordHalted}
+use Rattle.asl_rules.specs.report.WordList.{ListFault, words_read}
+use Rattle.asl_rules.specs.report.Made.{made_text}
+use Rattle.asl_rules.specs.report.Report.{Answer, halted, run_answer, words_answer, made_answer, begun, worked, on_verdict, on_reading, on_words_read, on_check, on_run, on_words, on_made, made_file}
 use Rattle.asl_cmd.specs.declared.status.Status.{Status}
 use Rattle.asl_cmd.specs.declared.status.Status.TheVariants as status
 use Rattle.asl_grammar.specs.Reading.{Reader}
-use Rattle.asl_cmd.specs.Report.{Came, whole, too_long, too_many, answer_on_files, answer_of}
+use Rattle.asl_cmd.specs.private.Report.{Came, whole, too_long, too_many, answer_on_files, answer_of}
 use Rattle.asl_cmd.specs.Writes.{code_of}
 
 -- a status of a report

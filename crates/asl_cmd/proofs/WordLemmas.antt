@@ -2,18 +2,18 @@
 use Rattle.std.proofs.Common.{◌≡◌, ◌∙◌, ℕ, Bool, true, false, List, [], ◌++◌, length, Option, Some, Result, Ok, refl, sym, ap, subst, append_assoc, append-nil}
 use Rattle.std.specs.Prelude.{if◌then◌else◌}
 use Rattle.asl_io.specs.Told.{TakesPrefix}
-use Rattle.asl_rules.specs.Told.{appended, open_after}
-use Rattle.asl_rules.specs.States.{Binding}
-use Rattle.asl_rules.specs.Plans.{Meter, starting, Faulted, Stuck}
-use Rattle.asl_rules.specs.Programs.{Environment, environment, verdict}
+use Rattle.asl_rules.specs.runs.Told.{appended, open_after}
+use Rattle.asl_rules.specs.runs.States.{Binding}
+use Rattle.asl_rules.specs.runs.Plans.{Meter, starting, Faulted, Stuck}
+use Rattle.asl_rules.specs.declarations.Programs.{Environment, environment, verdict}
 use Rattle.asl_rules.specs.Tests.{Tests}
-use Rattle.asl_rules.specs.Evaluation.{initial_globals}
-use Rattle.asl_rules.specs.Texts.{Text, File, line_feed, done_line, dynamic_line, uncaught_line}
-use Rattle.asl_rules.specs.Report.{answer, behind, told_text, globals_text, words_answer, worked}
-use Rattle.asl_rules.specs.Words.{WordsEnd, AllReturned, WordThrew, WordHalted, run_words, words_final}
+use Rattle.asl_rules.specs.runs.Evaluation.{initial_globals}
+use Rattle.asl_rules.specs.report.Texts.{Text, File, line_feed, done_line, dynamic_line, uncaught_line}
+use Rattle.asl_rules.specs.report.Report.{answer, behind, told_text, globals_text, words_answer, worked}
+use Rattle.asl_rules.specs.runs.Words.{WordsEnd, AllReturned, WordThrew, WordHalted, run_words, words_final}
 use Rattle.asl_rules.specs.declared.entry.Entry.TheVariants.{Decode}
-use Rattle.asl_rules.proofs.runs.Shift as shift
-use Rattle.asl_rules.proofs.runs.Shift.{OwnText, retold, behind_nothing, behind_own}
+use Rattle.asl_laws.proofs.runs.Shift as shift
+use Rattle.asl_laws.proofs.runs.Shift.{OwnText, retold, behind_nothing, behind_own}
 use Rattle.asl_tree.specs.Sealed.{Sealed}
 use Rattle.asl_types.specs.Suits.{Suits}
 use Rattle.asl_machine.specs.declared.stage.Stage.{Stage}
@@ -21,10 +21,10 @@ use Rattle.asl_machine.specs.declared.stage.Stage.TheVariants as stage
 use Rattle.asl_machine.specs.Stages.{OnRefused, is_ready}
 use Rattle.asl_machine.specs.Work.{Work, IsNew, globals_of, globals_with}
 use Rattle.asl_words.specs.declared.running.ExecEnd.{ExecEnd}
-use Rattle.asl_words.specs.Runs.{Between, EndsWords, LeavesWords, end_of, meter_of, words_by, words_with}
+use Rattle.asl_words.specs.private.Runs.{Between, EndsWords, LeavesWords, end_of, meter_of, words_by, words_with}
 use Rattle.asl_cmd.specs.declared.status.Stop.{Stop}
 use Rattle.asl_cmd.specs.declared.status.Status.{Status}
-use Rattle.asl_cmd.specs.Ends.{Decodes, end_status, words_line}
+use Rattle.asl_cmd.specs.private.Ends.{Decodes, end_status, words_line}
 use Rattle.asl_cmd.specs.Writes.{Answers}
 use Rattle.asl_cmd.proofs.Answering.{Answers-after}
 use Rattle.asl_cmd.proofs.RunLemmas.{line_behind, open_is}

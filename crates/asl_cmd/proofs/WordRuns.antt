@@ -2,22 +2,22 @@
 use Rattle.std.proofs.Common.{◌≡◌, ◌∙◌, ℕ, List, [], ◌∷◌, ◌++◌, Option, Some, None, Result, Ok, refl, sym, ap, subst}
 use Rattle.asl_syn.specs.declared.code.Fault.{Fault}
 use Rattle.asl_syn.specs.declared.tree.Decl.{Decl}
-use Rattle.asl_rules.specs.Declarations.{globals_rule}
-use Rattle.asl_rules.specs.Evaluation.{nodes, call_of}
-use Rattle.asl_rules.specs.Machines.{most_open, run_of}
-use Rattle.asl_rules.specs.Names.{names_rule, all_declared}
-use Rattle.asl_rules.specs.Plans.{Meter, wrote, Outcome, Done, Thrown, Halt, final, meanings}
-use Rattle.asl_rules.specs.Programs.{Accepted, Environment, accepted, bodies_rule, entry_found, entry_from, entry_rule, funcs_of, is_decode, overloads_rule, signatures, signatures_rule, verdict}
-use Rattle.asl_rules.specs.States.{Binding, Core, resting}
+use Rattle.asl_rules.specs.declarations.Declarations.{globals_rule}
+use Rattle.asl_rules.specs.runs.Evaluation.{nodes, call_of}
+use Rattle.asl_rules.specs.runs.Machines.{most_open, run_of}
+use Rattle.asl_rules.specs.declarations.Names.{names_rule, all_declared}
+use Rattle.asl_rules.specs.runs.Plans.{Meter, wrote, Outcome, Done, Thrown, Halt, final, meanings}
+use Rattle.asl_rules.specs.declarations.Programs.{Accepted, Environment, accepted, bodies_rule, entry_found, entry_from, entry_rule, funcs_of, is_decode, overloads_rule, signatures, signatures_rule, verdict}
+use Rattle.asl_rules.specs.runs.States.{Binding, Core, resting}
 use Rattle.asl_rules.specs.Tests.{Tests}
-use Rattle.asl_rules.specs.Told.{appended, Begins, Part}
-use Rattle.asl_rules.specs.Uses.{cycles_rule}
-use Rattle.asl_rules.specs.Values.{Value}
-use Rattle.asl_rules.specs.Words.{WordsEnd, AllReturned, WordThrew, WordHalted, behind_word, run_words, word_line, word_value, words_final}
+use Rattle.asl_rules.specs.runs.Told.{appended, Begins, Part}
+use Rattle.asl_rules.specs.declarations.Uses.{cycles_rule}
+use Rattle.asl_rules.specs.values.Values.{Value}
+use Rattle.asl_rules.specs.runs.Words.{WordsEnd, AllReturned, WordThrew, WordHalted, behind_word, run_words, word_line, word_value, words_final}
 use Rattle.asl_rules.specs.declared.entry.Entry.TheVariants.{Decode}
 use Rattle.asl_rules.proofs.basics.Inversions.{ok_ok, bind_ok, then_ok}
 use Rattle.asl_rules.proofs.basics.Pieces.{appended_twice}
-use Rattle.asl_rules.proofs.runs.Shift.{OwnText, behind, behind_commutes, keeps, own_text_kept, retold, retold_end, run_keeps, run_shift, shifts}
+use Rattle.asl_laws.proofs.runs.Shift.{OwnText, behind, behind_commutes, keeps, own_text_kept, retold, retold_end, run_keeps, run_shift, shifts}
 
 -- ---- another text before
 

@@ -1,4 +1,2 @@
-pub mod Ends
-pub mod Model
-pub mod Report
 pub mod Writes
+pub mod private

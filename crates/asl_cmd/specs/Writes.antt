@@ -2,7 +2,7 @@
 use Rattle.std.specs.Prelude.{◌≡◌, ◌≤◌, ℕ, List, ◌++◌, Option, Result, Ok, Err, MatchResult}
 use Rattle.asl_io.specs.Faults.{Rises}
 use Rattle.asl_io.specs.Told.{Takes, TakesPrefix}
-use Rattle.asl_rules.specs.Report.{Answer}
+use Rattle.asl_rules.specs.report.Report.{Answer}
 use Rattle.asl_cmd.specs.declared.status.Stop.{Stop}
 use Rattle.asl_cmd.specs.declared.status.Stop.TheVariants.{Fault, NoMemory}
 use Rattle.asl_cmd.specs.declared.status.Status.{Status}

@@ -1,16 +1,16 @@
 //! The writing of answers.
 ghost use Rattle.std.specs.Prelude.{◌≡◌, ◌≤◌, [], ◌∷◌, length, map};
-ghost use Rattle.asl_line.specs.Model.{meaning_of, HasSize};
+ghost use Rattle.asl_line.specs.private.Model.{meaning_of, HasSize};
 ghost use Rattle.asl_words.specs.declared.TheConstants.{MOST_WORDS};
-ghost use Rattle.asl_rules.specs.Grown.{AreGrown};
+ghost use Rattle.asl_rules.specs.private.Grown.{AreGrown};
 ghost use Rattle.asl_rules.specs.Tests.{Tests};
 ghost use Rattle.asl_types.specs.Suits.{Suits};
-ghost use Rattle.asl_rules.specs.Made.{made_text};
-ghost use Rattle.asl_rules.specs.Texts.{fault_line};
+ghost use Rattle.asl_rules.specs.report.Made.{made_text};
+ghost use Rattle.asl_rules.specs.report.Texts.{fault_line};
 ghost use Rattle.asl_grammar.specs.Reading.{Reader, IsReading};
-ghost use Rattle.asl_rules.specs.Report.{answer, on_check, on_made, on_run, on_words};
-ghost use Rattle.asl_cmd.specs.Model.{came_in, file_of, AreShort, IsShort};
-ghost use Rattle.asl_cmd.specs.Report.{answer_of, answer_on_files, check_answer, exec_answer, list_answer, made_answer, run_answer, self_answer};
+ghost use Rattle.asl_rules.specs.report.Report.{answer, on_check, on_made, on_run, on_words};
+ghost use Rattle.asl_cmd.specs.private.Model.{came_in, file_of, AreShort, IsShort};
+ghost use Rattle.asl_cmd.specs.private.Report.{answer_of, answer_on_files, check_answer, exec_answer, list_answer, made_answer, run_answer, self_answer};
 ghost use Rattle.asl_cmd.specs.Writes.{Answers, HasCause};
 
 use crate::reading::Reading;
@@ -246,7 +246,7 @@ fn make_and_run<K: Sink>(alloc: Global, number: u32, size: u32, out: &mut K) -> 
 }
 
 /// Writes the answer for source files and the bytes of a word list that were read.
-#[tactic(auto, unfolding(crate::specs::Report::answer_on_files))]
+#[tactic(auto, unfolding(crate::specs::private::Report::answer_on_files))]
 fn answer_files<K: Sink>(
     alloc: Global,
     line: &Line,

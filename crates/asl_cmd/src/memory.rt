@@ -5,7 +5,7 @@ ghost use Rattle.asl_line.specs.Line.{line_of};
 ghost use Rattle.asl_grammar.specs.Reading.{Reader, IsReading};
 ghost use Rattle.asl_rules.specs.Tests.{Tests};
 ghost use Rattle.asl_types.specs.Suits.{Suits};
-ghost use Rattle.asl_rules.specs.Report.{report_of};
+ghost use Rattle.asl_rules.specs.report.Report.{report_of};
 ghost use Rattle.asl_cmd.specs.Writes.{code_of};
 
 use crate::status::Status;

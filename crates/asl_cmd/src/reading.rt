@@ -1,11 +1,11 @@
 //! The reading of the files that a command names.
 ghost use Rattle.std.specs.Prelude.{◌≡◌, ◌<◌, All, IfOk, IfSome, IsErrOf, IsTrue, map, string_bytes, ◌≤◌, length};
 ghost use Rattle.asl_syn.specs.Command.{names_of, sources_of};
-ghost use Rattle.asl_rules.specs.Report.{read_by};
-ghost use Rattle.asl_line.specs.Model.{meaning_of};
-ghost use Rattle.asl_cmd.specs.Model.{came_in, reading_of, AreShortSources, IsShort, IsOne, IsShortOne};
-ghost use Rattle.asl_cmd.specs.Report.{came_of, list_behind};
-ghost use Rattle.asl_cmd.specs.Report as report;
+ghost use Rattle.asl_rules.specs.report.Report.{read_by};
+ghost use Rattle.asl_line.specs.private.Model.{meaning_of};
+ghost use Rattle.asl_cmd.specs.private.Model.{came_in, reading_of, AreShortSources, IsShort, IsOne, IsShortOne};
+ghost use Rattle.asl_cmd.specs.private.Report.{came_of, list_behind};
+ghost use Rattle.asl_cmd.specs.private.Report as report;
 ghost use Rattle.asl_cmd.specs.Writes.{HasCause};
 
 use crate::status::Stop;

@@ -2,17 +2,17 @@
 ghost use Rattle.std.specs.Prelude.{◌≡◌, ◌≤◌, ◌++◌, [], Ok, Some, length, map, if◌then◌else◌};
 ghost use Rattle.asl_syn.specs.Command.{default_steps};
 ghost use Rattle.asl_words.specs.declared.TheConstants.{MOST_WORDS};
-ghost use Rattle.asl_words.specs.Runs.{end_of};
-ghost use Rattle.asl_rules.specs.Programs.{environment};
-ghost use Rattle.asl_rules.specs.Report.{answer, begun, made_answer, started, worked};
+ghost use Rattle.asl_words.specs.private.Runs.{end_of};
+ghost use Rattle.asl_rules.specs.declarations.Programs.{environment};
+ghost use Rattle.asl_rules.specs.report.Report.{answer, begun, made_answer, started, worked};
 ghost use Rattle.asl_rules.specs.Tests.{Tests};
-ghost use Rattle.asl_rules.specs.Texts.{global_line, line_feed, value_text};
+ghost use Rattle.asl_rules.specs.report.Texts.{global_line, line_feed, value_text};
 ghost use Rattle.asl_types.specs.Suits.{Suits};
 ghost use Rattle.asl_value.specs.View.{value_of};
 ghost use Rattle.asl_machine.specs.Stages.{answer_of};
 ghost use Rattle.asl_machine.specs.Storage.{var_of};
-ghost use Rattle.asl_cmd.specs.Ends.{end_line, end_status, globals_ending, made_line, vars_text, where_returned, words_ending, words_line, Decodes, Starts};
-ghost use Rattle.asl_cmd.specs.Model.{file_of, AreShort};
+ghost use Rattle.asl_cmd.specs.private.Ends.{end_line, end_status, globals_ending, made_line, vars_text, where_returned, words_ending, words_line, Decodes, Starts};
+ghost use Rattle.asl_cmd.specs.private.Model.{file_of, AreShort};
 ghost use Rattle.asl_cmd.specs.Writes.{Writes, Answers, HasCause, code_of};
 
 use crate::status::{Status, Stop};

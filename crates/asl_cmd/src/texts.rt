@@ -1,10 +1,10 @@
 //! The exact texts: fault lines, and the lines that end an answer.
 ghost use Rattle.std.specs.Prelude.{◌≡◌, ◌<◌, ℕ, List, Result, Err, IfOk, map, string_bytes};
-ghost use Rattle.asl_rules.specs.Texts.{placed, line_at, fault_line, dynamic_line, long_line, accepted_line, done_line, made_words};
-ghost use Rattle.asl_rules.specs.Report.{Answer, answer, on_words_read};
-ghost use Rattle.asl_rules.specs.WordList.{ListFault};
-ghost use Rattle.asl_words.specs.Faults.{Says};
-ghost use Rattle.asl_cmd.specs.Model.{file_of, AreShort};
+ghost use Rattle.asl_rules.specs.report.Texts.{placed, line_at, fault_line, dynamic_line, long_line, accepted_line, done_line, made_words};
+ghost use Rattle.asl_rules.specs.report.Report.{Answer, answer, on_words_read};
+ghost use Rattle.asl_rules.specs.report.WordList.{ListFault};
+ghost use Rattle.asl_words.specs.private.Faults.{Says};
+ghost use Rattle.asl_cmd.specs.private.Model.{file_of, AreShort};
 
 use asl_syn::code::{DynCode, Fault, StaticCode};
 use asl_syn::place::{Source, place};

@@ -1,7 +1,7 @@
 //! The writing of texts to the sink.
 ghost use Rattle.std.specs.Prelude.{◌≡◌, [], if◌then◌else◌};
-ghost use Rattle.asl_rules.specs.Texts.{line_feed};
-ghost use Rattle.asl_rules.specs.Report.{answer};
+ghost use Rattle.asl_rules.specs.report.Texts.{line_feed};
+ghost use Rattle.asl_rules.specs.report.Report.{answer};
 ghost use Rattle.asl_cmd.specs.Writes.{Writes, Answers, HasCause, code_of};
 
 use crate::status::{Status, Stop};

@@ -12,25 +12,25 @@ use Rattle.asl_syn.specs.declared.tree.Ident.{Ident}
 use Rattle.asl_syn.specs.declared.tree.Pattern.{Pattern}
 use Rattle.asl_syn.specs.declared.tree.Slice.{Slice}
 use Rattle.asl_syn.specs.Layers.{ExprLayer}
-use Rattle.asl_rules.specs.ByNames.{types_among, matched_in}
-use Rattle.asl_rules.specs.Constants.{Known, constant, constant_layer, settled}
-use Rattle.asl_rules.specs.Forms.{behind, branch_value}
-use Rattle.asl_rules.specs.Operators.{truth}
-use Rattle.asl_rules.specs.Plans.{Pure, Good, Bad, Stuck, CallBarred, choose, lift}
-use Rattle.asl_rules.specs.Pures.{◌>>=◌}
-use Rattle.asl_rules.specs.Scopes.{Entry}
-use Rattle.asl_rules.specs.Shaped.{Shaped, TypeOver, itself, exprs_in, shapes_in, bitfield_layer, part_layer, given_layer, pattern_layer, slice_layer, type_layer}
-use Rattle.asl_rules.specs.Shapes.{SliceShape, PatternShape, PartShape, BitfieldShape}
-use Rattle.asl_rules.specs.Structures.{constructed, element_of}
-use Rattle.asl_rules.specs.Values.{Value}
-use Rattle.asl_rules.specs.Vectors.{slices_of}
-use Rattle.asl_rules.specs.Views.{stripped}
+use Rattle.asl_rules.specs.runs.ByNames.{types_among, matched_in}
+use Rattle.asl_rules.specs.declarations.Constants.{Known, constant, constant_layer, settled}
+use Rattle.asl_rules.specs.runs.Forms.{behind, branch_value}
+use Rattle.asl_rules.specs.values.Operators.{truth}
+use Rattle.asl_rules.specs.runs.Plans.{Pure, Good, Bad, Stuck, CallBarred, choose, lift}
+use Rattle.asl_rules.specs.runs.Pures.{◌>>=◌}
+use Rattle.asl_rules.specs.declarations.Scopes.{Entry}
+use Rattle.asl_rules.specs.types.Shaped.{Shaped, TypeOver, itself, exprs_in, shapes_in, bitfield_layer, part_layer, given_layer, pattern_layer, slice_layer, type_layer}
+use Rattle.asl_rules.specs.types.Shapes.{SliceShape, PatternShape, PartShape, BitfieldShape}
+use Rattle.asl_rules.specs.values.Structures.{constructed, element_of}
+use Rattle.asl_rules.specs.values.Values.{Value}
+use Rattle.asl_rules.specs.values.Vectors.{slices_of}
+use Rattle.asl_rules.specs.types.Views.{stripped}
 use Rattle.asl_rules.proofs.constants.KnownParts.{known_layer}
 use Rattle.asl_value.specs.declared.value.Value as code
 use Rattle.asl_value.specs.View.{value_of}
 use Rattle.asl_const.specs.declared.failure.Unknown.{Unknown}
-use Rattle.asl_const.specs.Finds.{Finds, known_after, known_given, known_pattern, known_slice, with_all}
-use Rattle.asl_const.specs.Gathered.{constants}
+use Rattle.asl_const.specs.private.Finds.{Finds, known_after, known_given, known_pattern, known_slice, with_all}
+use Rattle.asl_const.specs.private.Gathered.{constants}
 use Rattle.asl_const.proofs.Calling.{call_is}
 
 abbrev at_limit : Expr → Known

@@ -3,12 +3,12 @@ use Rattle.std.proofs.Common.{◌≡◌, ℕ, Bool, true, false, cond, List, [],
 use Rattle.std.specs.Str.{bytes_eq}
 use Rattle.asl_syn.specs.declared.token.Span.{Span}
 use Rattle.asl_syn.specs.declared.tree.Ident.{Ident}
-use Rattle.asl_rules.specs.Members.{bitfield_in}
-use Rattle.asl_rules.specs.Plans.{Pure, Good, Bad}
-use Rattle.asl_rules.specs.Pures.{◌>>=◌}
-use Rattle.asl_rules.specs.Types.{BitField, View}
-use Rattle.asl_rules.specs.Vectors.{named_among, bitfield_named, each_named}
-use Rattle.asl_const.specs.Finds.{named_after}
+use Rattle.asl_rules.specs.values.Members.{bitfield_in}
+use Rattle.asl_rules.specs.runs.Plans.{Pure, Good, Bad}
+use Rattle.asl_rules.specs.runs.Pures.{◌>>=◌}
+use Rattle.asl_rules.specs.types.Types.{BitField, View}
+use Rattle.asl_rules.specs.values.Vectors.{named_among, bitfield_named, each_named}
+use Rattle.asl_const.specs.private.Finds.{named_after}
 
 pub named_is : (name : List ℕ) (v : View) → named_among name v ≡ bitfield_in name v
 named_is name [] = refl

@@ -1,13 +1,13 @@
 -- Calls, which have no value before any run.
 use Rattle.std.proofs.Common.{◌≡◌, ℕ, List, [], ◌∷◌, ◌++◌, refl, ◌∙◌}
 use Rattle.asl_syn.specs.declared.token.Span.{Span}
-use Rattle.asl_rules.specs.Constants.{Known, settled, before_runs}
-use Rattle.asl_rules.specs.Forms.{eval_all, call, function_gives}
-use Rattle.asl_rules.specs.Plans.{Stuck, CallBarred, Pure, Good, Bad, Plan, Within, Raise}
-use Rattle.asl_rules.specs.Pures.{◌>>=◌}
-use Rattle.asl_rules.specs.Scopes.{Entry}
-use Rattle.asl_rules.specs.Values.{Value}
-use Rattle.asl_const.specs.Finds.{known_after}
+use Rattle.asl_rules.specs.declarations.Constants.{Known, settled, before_runs}
+use Rattle.asl_rules.specs.runs.Forms.{eval_all, call, function_gives}
+use Rattle.asl_rules.specs.runs.Plans.{Stuck, CallBarred, Pure, Good, Bad, Plan, Within, Raise}
+use Rattle.asl_rules.specs.runs.Pures.{◌>>=◌}
+use Rattle.asl_rules.specs.declarations.Scopes.{Entry}
+use Rattle.asl_rules.specs.values.Values.{Value}
+use Rattle.asl_const.specs.private.Finds.{known_after}
 
 after_all : {A : Type 0} (span : Span) (es : List Known) (xs : List Value) (names : List Entry) (k : List Value → List Entry → Plan (List Entry) Known Known A) →
     settled span names (eval_all es xs names k) ≡ (known_after xs es names >>= λ ys. settled span names (k ys names))

@@ -3,15 +3,15 @@ use Rattle.std.proofs.Common.{◌≡◌, Bool, List, Result, Ok, Err, refl, ap, 
 use Rattle.asl_bits.specs.declared.TheConstants.{WIDTH_LIMIT}
 use Rattle.asl_syn.specs.declared.token.Span.{Span}
 use Rattle.asl_syn.specs.declared.tree.BinaryOperator.{BinaryOperator}
-use Rattle.asl_rules.specs.Constants.{Known, settled}
-use Rattle.asl_rules.specs.Forms.{behind, behind_left, unless_decided, at_once, ask_right}
-use Rattle.asl_rules.specs.Operators.{binary_value, truth, Decided, Already, ByRight, Strictness, Strict, Lazy}
-use Rattle.asl_rules.specs.Plans.{End, Pure, Good, Bad, lift}
-use Rattle.asl_rules.specs.Pures.{◌>>=◌}
-use Rattle.asl_rules.specs.Scopes.{Entry}
-use Rattle.asl_rules.specs.Structures.{element_of}
-use Rattle.asl_rules.specs.Values.{Value, bool}
-use Rattle.asl_const.specs.Finds.{as_decided, decided_by}
+use Rattle.asl_rules.specs.declarations.Constants.{Known, settled}
+use Rattle.asl_rules.specs.runs.Forms.{behind, behind_left, unless_decided, at_once, ask_right}
+use Rattle.asl_rules.specs.values.Operators.{binary_value, truth, Decided, Already, ByRight, Strictness, Strict, Lazy}
+use Rattle.asl_rules.specs.runs.Plans.{End, Pure, Good, Bad, lift}
+use Rattle.asl_rules.specs.runs.Pures.{◌>>=◌}
+use Rattle.asl_rules.specs.declarations.Scopes.{Entry}
+use Rattle.asl_rules.specs.values.Structures.{element_of}
+use Rattle.asl_rules.specs.values.Values.{Value, bool}
+use Rattle.asl_const.specs.private.Finds.{as_decided, decided_by}
 
 -- what is given at once is itself
 pub given_at_once : {A : Type 0} (span : Span) (names : List Entry) (r : Pure A) → settled span names (at_once r names) ≡ r

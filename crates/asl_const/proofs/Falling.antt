@@ -9,7 +9,7 @@ use Rattle.asl_syn.specs.declared.tree.Expr.TheVariants as ev
 use Rattle.asl_syn.specs.declared.tree.FieldValue.{FieldValue, size-FieldValue}
 use Rattle.asl_syn.specs.declared.tree.Slice.{Slice, size-Slice}
 use Rattle.asl_syn.specs.declared.tree.Bitfield.TheViews.{sized-Tuple, sized-Construct, sized-Call, sized-Slices}
-use Rattle.asl_const.specs.Gathered.{deepest}
+use Rattle.asl_const.specs.private.Gathered.{deepest}
 
 -- a list of these stands below the expression
 abbrev pub Below : List (Bor Expr) → Expr → Type 0

@@ -2,21 +2,21 @@
 use Rattle.std.proofs.Common.{◌≡◌, ℕ, true, false, cond, List, [], ◌∷◌, ◌++◌, Option, Some, None, refl, sym, ap, ◌∙◌}
 use Rattle.std.specs.Prelude.{pos, option_map, option_and_then}
 use Rattle.asl_syn.specs.declared.token.Span.{Span}
-use Rattle.asl_rules.specs.ByPlace.{seen_as}
-use Rattle.asl_rules.specs.Closed.{closed, fields_with}
-use Rattle.asl_rules.specs.Plans.{End, Pure, Good, Bad}
-use Rattle.asl_rules.specs.Pures.{◌>>=◌, there}
-use Rattle.asl_rules.specs.Structures.{given_value, with_given, fields_given}
-use Rattle.asl_rules.specs.Types.{Ty}
-use Rattle.asl_rules.specs.Values as rules
-use Rattle.asl_rules.specs.Values.{FieldValues, value_of_field, has}
-use Rattle.asl_rules.specs.Views.{viewed}
+use Rattle.asl_rules.specs.private.ByPlace.{seen_as}
+use Rattle.asl_rules.specs.types.Closed.{closed, fields_with}
+use Rattle.asl_rules.specs.runs.Plans.{End, Pure, Good, Bad}
+use Rattle.asl_rules.specs.runs.Pures.{◌>>=◌, there}
+use Rattle.asl_rules.specs.values.Structures.{given_value, with_given, fields_given}
+use Rattle.asl_rules.specs.types.Types.{Ty}
+use Rattle.asl_rules.specs.values.Values as rules
+use Rattle.asl_rules.specs.values.Values.{FieldValues, value_of_field, has}
+use Rattle.asl_rules.specs.types.Views.{viewed}
 use Rattle.asl_rules.proofs.values.Constructs.{seen_is}
 use Rattle.asl_value.specs.View.{Of, fields_of}
 use Rattle.asl_types.specs.declared.ty.FieldType.{FieldType}
 use Rattle.asl_types.specs.declared.ty.FieldType.TheVariants as f
 use Rattle.asl_types.specs.View as types
-use Rattle.asl_const.specs.Giving.{of_value, kept_in, filled_after}
+use Rattle.asl_const.specs.private.Giving.{of_value, kept_in, filled_after}
 
 pub kept_there : (T : Ty) (x y : rules.Value) → has x (closed T) ≡ true → y ≡ seen_as T x → Some y ≡ kept_in T x
 kept_there T x y h e = ap Some (e ∙ seen_is (λ n. pos 0) T x) ∙ sym (ap (λ b. cond b (Some (viewed (closed T) x)) None) h)

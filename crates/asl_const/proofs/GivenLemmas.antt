@@ -2,12 +2,12 @@
 use Rattle.std.proofs.Common.{◌≡◌, ℕ, zero, suc, Bool, true, false, List, [], ◌∷◌, map, cond, Option, Some, None, refl, sym, ap, ◌∙◌}
 use Rattle.std.specs.Prelude.{option_map, slice_get}
 use Rattle.std.specs.Str.{bytes_eq}
-use Rattle.asl_rules.specs.Layouts.{place_of}
-use Rattle.asl_rules.specs.Structures.{given_value}
-use Rattle.asl_rules.specs.Values.{Value}
+use Rattle.asl_rules.specs.declarations.Layouts.{place_of}
+use Rattle.asl_rules.specs.values.Structures.{given_value}
+use Rattle.asl_rules.specs.values.Values.{Value}
 use Rattle.asl_value.specs.declared.value.Value as code
 use Rattle.asl_value.specs.View.{value_of}
-use Rattle.asl_names.specs.Firsts.{Places, first_place, placed}
+use Rattle.asl_names.specs.private.Firsts.{Places, first_place, placed}
 use Rattle.asl_names.proofs.FirstLemmas.{place_is}
 
 abbrev pub at : Option ℕ → List Value → Option Value

@@ -1,13 +1,13 @@
 -- Expressions in order, and what comes with their values.
 use Rattle.std.proofs.Common.{◌≡◌, List, [], ◌∷◌, ◌++◌, refl, ap, ◌∙◌}
 use Rattle.asl_syn.specs.declared.token.Span.{Span}
-use Rattle.asl_rules.specs.Constants.{Known, settled}
-use Rattle.asl_rules.specs.Forms.{eval_all, at_once}
-use Rattle.asl_rules.specs.Plans.{End, Pure, Good, Bad}
-use Rattle.asl_rules.specs.Pures.{◌>>=◌}
-use Rattle.asl_rules.specs.Scopes.{Entry}
-use Rattle.asl_rules.specs.Values.{Value}
-use Rattle.asl_const.specs.Finds.{known_after, with_all}
+use Rattle.asl_rules.specs.declarations.Constants.{Known, settled}
+use Rattle.asl_rules.specs.runs.Forms.{eval_all, at_once}
+use Rattle.asl_rules.specs.runs.Plans.{End, Pure, Good, Bad}
+use Rattle.asl_rules.specs.runs.Pures.{◌>>=◌}
+use Rattle.asl_rules.specs.declarations.Scopes.{Entry}
+use Rattle.asl_rules.specs.values.Values.{Value}
+use Rattle.asl_const.specs.private.Finds.{known_after, with_all}
 use Rattle.asl_const.proofs.Deciding.{given_at_once}
 
 settled_all : {A : Type 0} (span : Span) (es : List Known) (xs : List Value) (names : List Entry) (f : List Value → Pure A) →

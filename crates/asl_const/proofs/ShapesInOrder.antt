@@ -7,12 +7,12 @@ use Rattle.asl_syn.specs.declared.tree.Bitfield.TheOpen as ex
 use Rattle.asl_syn.specs.declared.tree.Bitfield.TheFolds.{fold-roll-TypeExpr}
 use Rattle.asl_syn.specs.declared.tree.TypeExpr.{TypeExpr}
 use Rattle.asl_syn.specs.declared.tree.TypeExpr.TheVariants as tv
-use Rattle.asl_rules.specs.Constants.{Known, constant_layer}
-use Rattle.asl_rules.specs.Shaped.{Shaped, Named, TypeOver, itself, shapes_in, bitfield_layer, part_layer, given_layer, pattern_layer, slice_layer, type_layer, pattern_shapes, type_shapes, first_shape}
-use Rattle.asl_rules.specs.Shapes as rules
+use Rattle.asl_rules.specs.declarations.Constants.{Known, constant_layer}
+use Rattle.asl_rules.specs.types.Shaped.{Shaped, Named, TypeOver, itself, shapes_in, bitfield_layer, part_layer, given_layer, pattern_layer, slice_layer, type_layer, pattern_shapes, type_shapes, first_shape}
+use Rattle.asl_rules.specs.types.Shapes as rules
 use Rattle.asl_shape.specs.declared.shapes.TypeShape.{TypeShape}
 use Rattle.asl_shape.specs.View.{patterns_from, types_from, all_types, type_of}
-use Rattle.asl_const.specs.Finds.{types_after, known_type}
+use Rattle.asl_const.specs.private.Finds.{types_after, known_type}
 
 -- patterns in order
 pub same_patterns : (ps qs : List rules.PatternShape) → ps ≡ qs → patterns_from ps ≡ pattern_shapes qs

@@ -1,5 +1,1 @@
-pub mod Unknowns
-pub mod Parts
-pub mod Finds
-pub mod Giving
-pub mod Gathered
+pub mod private

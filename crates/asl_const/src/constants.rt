@@ -1,16 +1,16 @@
 //! The value of an expression over the values of the names that are visible.
 ghost use Rattle.std.specs.Prelude.{◌≡◌, [], map, Err as TheErr};
 ghost use Rattle.asl_bits.specs.declared.TheConstants.{WIDTH_LIMIT};
-ghost use Rattle.asl_rules.specs.Constants.{constant, initial_value};
-ghost use Rattle.asl_rules.specs.Declarations.{evaluated};
-ghost use Rattle.asl_rules.specs.Plans.{Pure};
-ghost use Rattle.asl_rules.specs.Pures as pures;
-ghost use Rattle.asl_rules.specs.Scopes.{standing_of};
-ghost use Rattle.asl_rules.specs.Values.{Value as TheValue};
-ghost use Rattle.asl_types.specs.Answers.{Met};
+ghost use Rattle.asl_rules.specs.declarations.Constants.{constant, initial_value};
+ghost use Rattle.asl_rules.specs.declarations.Declarations.{evaluated};
+ghost use Rattle.asl_rules.specs.runs.Plans.{Pure};
+ghost use Rattle.asl_rules.specs.runs.Pures as pures;
+ghost use Rattle.asl_rules.specs.declarations.Scopes.{standing_of};
+ghost use Rattle.asl_rules.specs.values.Values.{Value as TheValue};
+ghost use Rattle.asl_types.specs.private.Answers.{Met};
 ghost use Rattle.asl_value.specs.View.{value_of};
-ghost use Rattle.asl_const.specs.Finds.{Finds, known_after};
-ghost use Rattle.asl_const.specs.Gathered.{constants};
+ghost use Rattle.asl_const.specs.private.Finds.{Finds, known_after};
+ghost use Rattle.asl_const.specs.private.Gathered.{constants};
 
 use crate::applying::{
     Decision, barred, branch, decide, element, is_in, of_one, of_two, sliced, truth_of, tuple_of,

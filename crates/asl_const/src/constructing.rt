@@ -1,19 +1,19 @@
 //! Constructions of records and exceptions. The fields that are given are found by the first places of their names, so that a
 //! construction takes no walk over the others for each field.
 ghost use Rattle.std.specs.Prelude.{◌≡◌, pos, List, [], map, option_map, IfOk};
-ghost use Rattle.asl_rules.specs.ByNames.{types_among};
-ghost use Rattle.asl_rules.specs.Closed.{closed, fields_with};
-ghost use Rattle.asl_rules.specs.Constants.{Known};
-ghost use Rattle.asl_rules.specs.Pures.{there};
-ghost use Rattle.asl_rules.specs.Scopes.{Entry};
-ghost use Rattle.asl_rules.specs.Structures as rules;
-ghost use Rattle.asl_rules.specs.Types.{Ty as TheTy};
-ghost use Rattle.asl_rules.specs.Values.{record_with, exception_with};
+ghost use Rattle.asl_rules.specs.runs.ByNames.{types_among};
+ghost use Rattle.asl_rules.specs.types.Closed.{closed, fields_with};
+ghost use Rattle.asl_rules.specs.declarations.Constants.{Known};
+ghost use Rattle.asl_rules.specs.runs.Pures.{there};
+ghost use Rattle.asl_rules.specs.declarations.Scopes.{Entry};
+ghost use Rattle.asl_rules.specs.values.Structures as rules;
+ghost use Rattle.asl_rules.specs.types.Types.{Ty as TheTy};
+ghost use Rattle.asl_rules.specs.values.Values.{record_with, exception_with};
 ghost use Rattle.asl_types.specs.View.{fields_of as types_of};
 ghost use Rattle.asl_value.specs.View.{value_of, field_of, fields_of, all_fields};
-ghost use Rattle.asl_const.specs.Finds.{Finds, known_after, with_all};
-ghost use Rattle.asl_names.specs.Firsts.{placed};
-ghost use Rattle.asl_const.specs.Giving.{given_names, kept_in, filled_one, filled_after, filled_with, type_behind};
+ghost use Rattle.asl_const.specs.private.Finds.{Finds, known_after, with_all};
+ghost use Rattle.asl_names.specs.private.Firsts.{placed};
+ghost use Rattle.asl_const.specs.private.Giving.{given_names, kept_in, filled_one, filled_after, filled_with, type_behind};
 
 use crate::failure::{Mistake, Unknown};
 use asl_names::firsts::Firsts;

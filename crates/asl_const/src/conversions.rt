@@ -1,13 +1,13 @@
 //! Values that are converted to written types.
 ghost use Rattle.std.specs.Prelude.{◌≡◌, [], List, map, option_map};
 ghost use Rattle.asl_bits.specs.declared.TheConstants.{WIDTH_LIMIT};
-ghost use Rattle.asl_rules.specs.ByNames.{types_among};
-ghost use Rattle.asl_rules.specs.Constants.{Known};
-ghost use Rattle.asl_rules.specs.Scopes.{Entry};
-ghost use Rattle.asl_rules.specs.Written.{converted as converted_to};
+ghost use Rattle.asl_rules.specs.runs.ByNames.{types_among};
+ghost use Rattle.asl_rules.specs.declarations.Constants.{Known};
+ghost use Rattle.asl_rules.specs.declarations.Scopes.{Entry};
+ghost use Rattle.asl_rules.specs.types.Written.{converted as converted_to};
 ghost use Rattle.asl_shape.specs.View.{type_of};
 ghost use Rattle.asl_value.specs.View.{value_of};
-ghost use Rattle.asl_const.specs.Finds.{Finds, known_after, known_type, with_all};
+ghost use Rattle.asl_const.specs.private.Finds.{Finds, known_after, known_type, with_all};
 
 use crate::failure::{Mistake, Unknown};
 use crate::shapes::type_shape;

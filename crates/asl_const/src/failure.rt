@@ -53,7 +53,7 @@ impl<T: Drop> From<AllocFailed<T>> for Unknown {
 
 impl From<Failure> for Unknown {
     ghost use Rattle.std.specs.Prelude.{◌≡◌};
-    ghost use Rattle.asl_const.specs.Unknowns.{unknown_of};
+    ghost use Rattle.asl_const.specs.private.Unknowns.{unknown_of};
 
     ghost from_gives = { λ failure e. e ≡ unknown_of failure };
 

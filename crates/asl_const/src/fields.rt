@@ -1,11 +1,11 @@
 //! Fields of records and exceptions, and bitfields, by their names.
 ghost use Rattle.std.specs.Prelude.{◌≡◌, [], map};
 ghost use Rattle.asl_bits.specs.declared.TheConstants.{WIDTH_LIMIT};
-ghost use Rattle.asl_rules.specs.Pures.{◌>>=◌ as ◌then◌, there};
-ghost use Rattle.asl_rules.specs.Structures as structures;
-ghost use Rattle.asl_rules.specs.Vectors as vectors;
+ghost use Rattle.asl_rules.specs.runs.Pures.{◌>>=◌ as ◌then◌, there};
+ghost use Rattle.asl_rules.specs.values.Structures as structures;
+ghost use Rattle.asl_rules.specs.values.Vectors as vectors;
 ghost use Rattle.asl_value.specs.View.{value_of, view_of, all_fields};
-ghost use Rattle.asl_const.specs.Finds.{Finds, named_after};
+ghost use Rattle.asl_const.specs.private.Finds.{Finds, named_after};
 
 use crate::failure::{Mistake, Unknown};
 use asl_shared::Held;

@@ -2,10 +2,10 @@
 //! evaluated, so that an evaluation calls itself for expressions alone.
 ghost use Rattle.std.specs.Prelude.{◌≡◌, ◌≤◌, [], ◌∷◌, ◌++◌, map, max, IfOk};
 ghost use Rattle.asl_bits.specs.declared.TheConstants.{WIDTH_LIMIT};
-ghost use Rattle.asl_rules.specs.Constants.{constant};
-ghost use Rattle.asl_rules.specs.Shaped.{exprs_in, itself};
-ghost use Rattle.asl_const.specs.Finds.{known_bitfield, known_given, known_part, known_pattern, known_slice, known_type};
-ghost use Rattle.asl_const.specs.Gathered.{constants, deepest};
+ghost use Rattle.asl_rules.specs.declarations.Constants.{constant};
+ghost use Rattle.asl_rules.specs.types.Shaped.{exprs_in, itself};
+ghost use Rattle.asl_const.specs.private.Finds.{known_bitfield, known_given, known_part, known_pattern, known_slice, known_type};
+ghost use Rattle.asl_const.specs.private.Gathered.{constants, deepest};
 ghost use Rattle.asl_syn.specs.declared.tree.Bitfield.{size-Bitfield};
 ghost use Rattle.asl_syn.specs.declared.tree.ConstraintPart.{size-ConstraintPart};
 ghost use Rattle.asl_syn.specs.declared.tree.Expr.{size-Expr};

@@ -1,12 +1,12 @@
 //! Slices, patterns and written types without the expressions in them.
 ghost use Rattle.std.specs.Prelude.{◌≡◌, [], map, option_map, IfOk};
-ghost use Rattle.asl_rules.specs.ByNames.{types_among};
-ghost use Rattle.asl_rules.specs.Shaped.{itself, shapes_in};
-ghost use Rattle.asl_rules.specs.Shapes as rules;
-ghost use Rattle.asl_rules.specs.Shapes.{known};
+ghost use Rattle.asl_rules.specs.runs.ByNames.{types_among};
+ghost use Rattle.asl_rules.specs.types.Shaped.{itself, shapes_in};
+ghost use Rattle.asl_rules.specs.types.Shapes as rules;
+ghost use Rattle.asl_rules.specs.types.Shapes.{known};
 ghost use Rattle.asl_value.specs.View.{slice_of, all_slices};
 ghost use Rattle.asl_shape.specs.View.{all_bitfields, all_parts, bitfield_of, part_of, pattern_of, type_of, all_types};
-ghost use Rattle.asl_const.specs.Finds.{known_bitfield, known_part, known_pattern, known_slice, known_type, types_after};
+ghost use Rattle.asl_const.specs.private.Finds.{known_bitfield, known_part, known_pattern, known_slice, known_type, types_after};
 
 use asl_shape::{BitfieldShape, PartShape, PatternShape, SliceShape, TypeShape};
 use asl_shared::Shared;

@@ -6,11 +6,11 @@ use Rattle.std.proofs.lemmas.Option.{slice_get_past}
 use Rattle.asl_syn.specs.declared.code.StaticCode.TheVariants.{T10}
 use Rattle.asl_syn.specs.declared.tree.Func.{Func}
 use Rattle.asl_rules.specs.Faults.{◌>>◌, need}
-use Rattle.asl_rules.specs.Types.{Parts, same_kinds}
-use Rattle.asl_rules.specs.Scopes.{Entry, Signature, choose_from}
-use Rattle.asl_rules.specs.Programs.{clashes, overloads_rule}
+use Rattle.asl_rules.specs.types.Types.{Parts, same_kinds}
+use Rattle.asl_rules.specs.declarations.Scopes.{Entry, Signature, choose_from}
+use Rattle.asl_rules.specs.declarations.Programs.{clashes, overloads_rule}
 use Rattle.asl_decl.specs.Heads.{heads_of}
-use Rattle.asl_decl.specs.Signatures.{is_before, is_apart, apart_from, apart_rule}
+use Rattle.asl_decl.specs.private.Signatures.{is_before, is_apart, apart_from, apart_rule}
 
 -- ---- the overload that is chosen
 

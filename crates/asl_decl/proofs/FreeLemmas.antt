@@ -8,12 +8,12 @@ use Rattle.asl_syn.specs.declared.tree.Formal.{Formal}
 use Rattle.asl_syn.specs.declared.tree.Func.{Func}
 use Rattle.asl_syn.specs.declared.tree.Param.{Param}
 use Rattle.asl_rules.specs.Faults.{◌>>=◌, ◌>>◌, need}
-use Rattle.asl_rules.specs.Members.{has_name}
-use Rattle.asl_rules.specs.Programs.{params_free, formals_free}
-use Rattle.asl_rules.specs.Scopes.{Entry, is_free, is_absent}
-use Rattle.asl_names.specs.Firsts.{Places, first_place, kept}
+use Rattle.asl_rules.specs.values.Members.{has_name}
+use Rattle.asl_rules.specs.declarations.Programs.{params_free, formals_free}
+use Rattle.asl_rules.specs.declarations.Scopes.{Entry, is_free, is_absent}
+use Rattle.asl_names.specs.private.Firsts.{Places, first_place, kept}
 use Rattle.asl_names.proofs.FirstLemmas.{or_place, here, first_kept, same_test}
-use Rattle.asl_decl.specs.Free.{params_beside, formals_beside, free_beside, free_rule, ended}
+use Rattle.asl_decl.specs.private.Free.{params_beside, formals_beside, free_beside, free_rule, ended}
 
 -- a name is among the first where it has a place among the second
 abbrev pub Alike : List (List ℕ) → Places → Type 0

@@ -10,17 +10,17 @@ use Rattle.asl_syn.specs.declared.tree.Param.{Param as WrittenParam}
 use Rattle.asl_syn.specs.declared.tree.TypeExpr.{TypeExpr}
 use Rattle.asl_rules.specs.Faults.{◌>>=◌, ◌>>◌, need}
 use Rattle.asl_rules.specs.Tests.{Tests}
-use Rattle.asl_rules.specs.Types.{Ty, Parts, no_part, part}
-use Rattle.asl_rules.specs.Writing.{Written}
-use Rattle.asl_rules.specs.Members.{has_name}
-use Rattle.asl_rules.specs.Exprs.{written}
-use Rattle.asl_rules.specs.Locals.{itself}
-use Rattle.asl_rules.specs.Scopes.{Entry, Param, Standing, standing_of, is_free, is_absent, fixed, next_atom, with_entry}
-use Rattle.asl_rules.specs.Declarations.{in_names}
-use Rattle.asl_rules.specs.Programs.{params_free, formals_free, param_written, result_rule, param_entry, params_rule, with_formals}
+use Rattle.asl_rules.specs.types.Types.{Ty, Parts, no_part, part}
+use Rattle.asl_rules.specs.types.Writing.{Written}
+use Rattle.asl_rules.specs.values.Members.{has_name}
+use Rattle.asl_rules.specs.expressions.Exprs.{written}
+use Rattle.asl_rules.specs.statements.Locals.{itself}
+use Rattle.asl_rules.specs.declarations.Scopes.{Entry, Param, Standing, standing_of, is_free, is_absent, fixed, next_atom, with_entry}
+use Rattle.asl_rules.specs.declarations.Declarations.{in_names}
+use Rattle.asl_rules.specs.declarations.Programs.{params_free, formals_free, param_written, result_rule, param_entry, params_rule, with_formals}
 use Rattle.asl_rules.proofs.basics.Inversions.{ok_ok, bind_ok, then_ok, need_ok}
 use Rattle.asl_decl.specs.Heads.{params_declared, formals_declared}
-use Rattle.asl_decl.specs.HeadTypes.{maybe_written, params_after, IsFront}
+use Rattle.asl_decl.specs.private.HeadTypes.{maybe_written, params_after, IsFront}
 
 -- ---- types that are written
 

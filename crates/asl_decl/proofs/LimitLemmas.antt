@@ -7,14 +7,14 @@ use Rattle.asl_syn.specs.declared.tree.Func.{Func}
 use Rattle.asl_rules.specs.declared.effect.Effect.TheVariants.{Pure}
 use Rattle.asl_rules.specs.Faults.{◌>>=◌, ◌>>◌, need, none_at}
 use Rattle.asl_rules.specs.Tests.{Tests}
-use Rattle.asl_rules.specs.Types.{Ty, is_integer}
-use Rattle.asl_rules.specs.Typing.{Typed}
-use Rattle.asl_rules.specs.Scopes.{Entry, Param, with_class}
-use Rattle.asl_rules.specs.Exprs.{found, typed}
-use Rattle.asl_rules.specs.Barred.{barred}
-use Rattle.asl_rules.specs.Declarations.{in_names}
-use Rattle.asl_rules.specs.Programs.{limit_typed, params_are_integers, limit_rule}
-use Rattle.asl_decl.specs.Limits.{limit_after, limit_known, limit_by}
+use Rattle.asl_rules.specs.types.Types.{Ty, is_integer}
+use Rattle.asl_rules.specs.expressions.Typing.{Typed}
+use Rattle.asl_rules.specs.declarations.Scopes.{Entry, Param, with_class}
+use Rattle.asl_rules.specs.expressions.Exprs.{found, typed}
+use Rattle.asl_rules.specs.declarations.Barred.{barred}
+use Rattle.asl_rules.specs.declarations.Declarations.{in_names}
+use Rattle.asl_rules.specs.declarations.Programs.{limit_typed, params_are_integers, limit_rule}
+use Rattle.asl_decl.specs.private.Limits.{limit_after, limit_known, limit_by}
 
 in_order : (t : Tests) (f : Func) (o : Option Expr) (ps : List Param) (globals : List Entry) →
     (limit_typed t o globals >>= λ l. params_are_integers t f.params ps >> limit_rule t o l globals) ≡ limit_by t f o ps globals

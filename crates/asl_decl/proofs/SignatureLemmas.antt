@@ -9,18 +9,18 @@ use Rattle.asl_syn.specs.declared.tree.Formal.{Formal}
 use Rattle.asl_syn.specs.declared.tree.Func.{Func}
 use Rattle.asl_rules.specs.Faults.{◌>>=◌, ◌>>◌}
 use Rattle.asl_rules.specs.Tests.{Tests}
-use Rattle.asl_rules.specs.Types.{Ty, Parts, no_part, part}
-use Rattle.asl_rules.specs.Typing.{Typed}
-use Rattle.asl_rules.specs.Writing.{Written}
-use Rattle.asl_rules.specs.Exprs.{written}
-use Rattle.asl_rules.specs.Scopes.{Entry, Param, Signature}
-use Rattle.asl_rules.specs.Declarations.{in_names}
-use Rattle.asl_rules.specs.Programs.{Head, funcs_of, params_free, formals_free, params_rule, formals_rule, result_rule, limit_typed, params_are_integers, limit_rule, with_formals, class_of, signature_rule, signatures_rule}
+use Rattle.asl_rules.specs.types.Types.{Ty, Parts, no_part, part}
+use Rattle.asl_rules.specs.expressions.Typing.{Typed}
+use Rattle.asl_rules.specs.types.Writing.{Written}
+use Rattle.asl_rules.specs.expressions.Exprs.{written}
+use Rattle.asl_rules.specs.declarations.Scopes.{Entry, Param, Signature}
+use Rattle.asl_rules.specs.declarations.Declarations.{in_names}
+use Rattle.asl_rules.specs.declarations.Programs.{Head, funcs_of, params_free, formals_free, params_rule, formals_rule, result_rule, limit_typed, params_are_integers, limit_rule, with_formals, class_of, signature_rule, signatures_rule}
 use Rattle.asl_types.specs.View.{parts_of}
 use Rattle.asl_decl.specs.Heads.{params_declared, formals_declared, head_of, heads_of}
-use Rattle.asl_decl.specs.HeadTypes.{maybe_written, params_after, formals_after, HeadTypes, types_with, head_types}
-use Rattle.asl_decl.specs.Limits.{limit_after}
-use Rattle.asl_decl.specs.Signatures.{signature_with, signature_found, signatures_found, signatures_after, funcs_after}
+use Rattle.asl_decl.specs.private.HeadTypes.{maybe_written, params_after, formals_after, HeadTypes, types_with, head_types}
+use Rattle.asl_decl.specs.private.Limits.{limit_after}
+use Rattle.asl_decl.specs.private.Signatures.{signature_with, signature_found, signatures_found, signatures_after, funcs_after}
 use Rattle.asl_decl.proofs.HeadLemmas.{none_before, params_same, params_end, formals_same, params_are, result_is}
 
 -- ---- the types of formals

@@ -5,15 +5,15 @@ use Rattle.asl_syn.specs.declared.tree.Decl.{Decl}
 use Rattle.asl_syn.specs.declared.tree.Func.{Func}
 use Rattle.asl_rules.specs.Faults.{◌>>=◌, ◌>>◌}
 use Rattle.asl_rules.specs.Tests.{Tests}
-use Rattle.asl_rules.specs.Names.{library, names_rule, all_declared}
-use Rattle.asl_rules.specs.Uses.{cycles_rule}
-use Rattle.asl_rules.specs.Scopes.{Entry, Signature, subprogram, with_entry, with_entries}
-use Rattle.asl_rules.specs.Declarations.{Judged, entries_of, entries, final, faults_rule, names_of_program}
-use Rattle.asl_rules.specs.Programs.{Head, funcs_of, signatures_rule, overloads_rule}
-use Rattle.asl_judge.specs.Passes.{with_judgements, names_judged}
+use Rattle.asl_rules.specs.declarations.Names.{library, names_rule, all_declared}
+use Rattle.asl_rules.specs.declarations.Uses.{cycles_rule}
+use Rattle.asl_rules.specs.declarations.Scopes.{Entry, Signature, subprogram, with_entry, with_entries}
+use Rattle.asl_rules.specs.declarations.Declarations.{Judged, entries_of, entries, final, faults_rule, names_of_program}
+use Rattle.asl_rules.specs.declarations.Programs.{Head, funcs_of, signatures_rule, overloads_rule}
+use Rattle.asl_judge.specs.private.Passes.{with_judgements, names_judged}
 use Rattle.asl_judge.specs.Tables.{declarations_rule}
 use Rattle.asl_decl.specs.Heads.{heads_of, Declared, declared_with, declared_rule}
-use Rattle.asl_decl.specs.Signatures.{signatures_found, apart_rule, declared_found}
+use Rattle.asl_decl.specs.private.Signatures.{signatures_found, apart_rule, declared_found}
 use Rattle.asl_decl.proofs.ApartLemmas.{overloads_are}
 use Rattle.asl_decl.proofs.SignatureLemmas.{heads_are, signatures_are}
 

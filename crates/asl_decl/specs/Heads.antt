@@ -7,13 +7,13 @@ use Rattle.asl_syn.specs.declared.tree.Func.{Func}
 use Rattle.asl_syn.specs.declared.tree.Param.{Param as WrittenParam}
 use Rattle.asl_rules.specs.Faults.{◌>>=◌, ◌>>◌}
 use Rattle.asl_rules.specs.Tests.{Tests}
-use Rattle.asl_rules.specs.Types.{Parts, part}
-use Rattle.asl_rules.specs.Names.{names_rule, all_declared}
-use Rattle.asl_rules.specs.Uses.{cycles_rule}
-use Rattle.asl_rules.specs.Declarations.{globals_rule}
-use Rattle.asl_rules.specs.Scopes.{Entry, Signature, Param, fixed, with_entry}
-use Rattle.asl_rules.specs.Locals.{itself}
-use Rattle.asl_rules.specs.Programs.{Head, funcs_of, param_entry, signatures_rule, overloads_rule}
+use Rattle.asl_rules.specs.types.Types.{Parts, part}
+use Rattle.asl_rules.specs.declarations.Names.{names_rule, all_declared}
+use Rattle.asl_rules.specs.declarations.Uses.{cycles_rule}
+use Rattle.asl_rules.specs.declarations.Declarations.{globals_rule}
+use Rattle.asl_rules.specs.declarations.Scopes.{Entry, Signature, Param, fixed, with_entry}
+use Rattle.asl_rules.specs.statements.Locals.{itself}
+use Rattle.asl_rules.specs.declarations.Programs.{Head, funcs_of, param_entry, signatures_rule, overloads_rule}
 use Rattle.asl_decl.specs.declared.table.Table.{Table}
 
 -- ---- the names of a body

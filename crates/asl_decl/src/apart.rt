@@ -2,11 +2,11 @@
 
 ghost use Rattle.std.specs.Prelude.{◌≡◌, [], map, slice_get, IfOk};
 ghost use Rattle.asl_rules.specs.Faults.{need};
-ghost use Rattle.asl_rules.specs.Programs as programs;
-ghost use Rattle.asl_rules.specs.Scopes as scopes;
-ghost use Rattle.asl_types.specs.Answers.{Agrees};
+ghost use Rattle.asl_rules.specs.declarations.Programs as programs;
+ghost use Rattle.asl_rules.specs.declarations.Scopes as scopes;
+ghost use Rattle.asl_types.specs.private.Answers.{Agrees};
 ghost use Rattle.asl_types.specs.View.{parts_of};
-ghost use Rattle.asl_decl.specs.Signatures as rules;
+ghost use Rattle.asl_decl.specs.private.Signatures as rules;
 
 use asl_syn::code::{Refused, StaticCode};
 use asl_syn::tree::{Decl, Func};

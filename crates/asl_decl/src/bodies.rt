@@ -1,11 +1,11 @@
 //! The names that a body begins with.
 
 ghost use Rattle.std.specs.Prelude.{◌≡◌, IfOk, IfErr, OnOk, option_map};
-ghost use Rattle.asl_rules.specs.Locals as locals;
-ghost use Rattle.asl_rules.specs.Programs.{type_or_itself, param_entry};
-ghost use Rattle.asl_rules.specs.Scopes as scopes;
-ghost use Rattle.asl_rules.specs.Scopes.{with_entry};
-ghost use Rattle.asl_rules.specs.Types.{integer_of, only_width};
+ghost use Rattle.asl_rules.specs.statements.Locals as locals;
+ghost use Rattle.asl_rules.specs.declarations.Programs.{type_or_itself, param_entry};
+ghost use Rattle.asl_rules.specs.declarations.Scopes as scopes;
+ghost use Rattle.asl_rules.specs.declarations.Scopes.{with_entry};
+ghost use Rattle.asl_rules.specs.types.Types.{integer_of, only_width};
 ghost use Rattle.asl_types.specs.View.{parts_of};
 ghost use Rattle.asl_decl.specs.Heads as rules;
 

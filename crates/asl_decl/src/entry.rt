@@ -3,9 +3,9 @@
 ghost use Rattle.std.specs.Prelude.{◌≡◌, ◌&&◌, Some, pos, option_map};
 ghost use Rattle.std.specs.Option.{option_map_or};
 ghost use Rattle.asl_poly.specs.Poly.{constant_map, constant_value};
-ghost use Rattle.asl_rules.specs.Programs as rules;
-ghost use Rattle.asl_rules.specs.Types as types;
-ghost use Rattle.asl_types.specs.Answers.{Agrees};
+ghost use Rattle.asl_rules.specs.declarations.Programs as rules;
+ghost use Rattle.asl_rules.specs.types.Types as types;
+ghost use Rattle.asl_types.specs.private.Answers.{Agrees};
 ghost use Rattle.asl_types.specs.View.{parts_of};
 
 use asl_poly::Poly;

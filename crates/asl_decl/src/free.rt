@@ -2,10 +2,10 @@
 
 ghost use Rattle.std.specs.Prelude.{◌≡◌, ◌&&◌, IfErr, OnOk, []};
 ghost use Rattle.asl_rules.specs.Faults.{need};
-ghost use Rattle.asl_rules.specs.Scopes.{is_free, is_absent};
-ghost use Rattle.asl_names.specs.Firsts.{first_place, kept};
-ghost use Rattle.asl_types.specs.Answers.{Met, Agrees};
-ghost use Rattle.asl_decl.specs.Free as rules;
+ghost use Rattle.asl_rules.specs.declarations.Scopes.{is_free, is_absent};
+ghost use Rattle.asl_names.specs.private.Firsts.{first_place, kept};
+ghost use Rattle.asl_types.specs.private.Answers.{Met, Agrees};
+ghost use Rattle.asl_decl.specs.private.Free as rules;
 
 use asl_names::firsts::Firsts;
 use asl_syn::code::{Refused, StaticCode};

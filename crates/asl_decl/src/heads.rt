@@ -1,14 +1,14 @@
 //! The types of parameters, formals and results.
 
 ghost use Rattle.std.specs.Prelude.{◌≡◌, [], Some, None, true, IfOk, OnOk};
-ghost use Rattle.asl_rules.specs.Declarations as outside;
+ghost use Rattle.asl_rules.specs.declarations.Declarations as outside;
 ghost use Rattle.asl_rules.specs.Tests.{Tests};
-ghost use Rattle.asl_types.specs.Answers.{Met, Agrees};
-ghost use Rattle.asl_types.specs.ContextView.{scope_of};
+ghost use Rattle.asl_types.specs.private.Answers.{Met, Agrees};
+ghost use Rattle.asl_types.specs.private.ContextView.{scope_of};
 ghost use Rattle.asl_types.specs.Suits.{Suits};
-ghost use Rattle.asl_decl.specs.HeadTypes as rules;
-ghost use Rattle.asl_decl.specs.HeadTypes.{IsFront};
-ghost use Rattle.asl_decl.specs.HeadViews.{types_of};
+ghost use Rattle.asl_decl.specs.private.HeadTypes as rules;
+ghost use Rattle.asl_decl.specs.private.HeadTypes.{IsFront};
+ghost use Rattle.asl_decl.specs.private.HeadViews.{types_of};
 
 use crate::bodies::declare_param;
 use asl_judge::written::written;

@@ -1,20 +1,20 @@
 //! How deep the calls of a subprogram by itself may go.
 
 ghost use Rattle.std.specs.Prelude.{◌≡◌, [], pos};
-ghost use Rattle.asl_rules.specs.Declarations as outside;
-ghost use Rattle.asl_rules.specs.Exprs as exprs;
+ghost use Rattle.asl_rules.specs.declarations.Declarations as outside;
+ghost use Rattle.asl_rules.specs.expressions.Exprs as exprs;
 ghost use Rattle.asl_rules.specs.Faults.{need};
-ghost use Rattle.asl_rules.specs.Limits.{most_activations};
-ghost use Rattle.asl_rules.specs.Programs as rules;
-ghost use Rattle.asl_rules.specs.Scopes.{with_class};
+ghost use Rattle.asl_rules.specs.runs.Limits.{most_activations};
+ghost use Rattle.asl_rules.specs.declarations.Programs as rules;
+ghost use Rattle.asl_rules.specs.declarations.Scopes.{with_class};
 ghost use Rattle.asl_rules.specs.Tests.{Tests};
-ghost use Rattle.asl_rules.specs.Types as types;
+ghost use Rattle.asl_rules.specs.types.Types as types;
 ghost use Rattle.asl_value.specs.View.{value_of};
-ghost use Rattle.asl_types.specs.Answers.{Agrees};
-ghost use Rattle.asl_types.specs.ContextView.{scope_of};
+ghost use Rattle.asl_types.specs.private.Answers.{Agrees};
+ghost use Rattle.asl_types.specs.private.ContextView.{scope_of};
 ghost use Rattle.asl_types.specs.Suits.{Suits};
-ghost use Rattle.asl_judge.specs.Definitions.{type_found};
-ghost use Rattle.asl_decl.specs.Limits as limits;
+ghost use Rattle.asl_judge.specs.private.Definitions.{type_found};
+ghost use Rattle.asl_decl.specs.private.Limits as limits;
 
 use crate::heads::in_names;
 use asl_judge::barred::check_unbarred;
@@ -34,7 +34,7 @@ use asl_written::written::type_place;
 use std::alloc::Global;
 
 /// The activations of a subprogram at one time, where no other number is written.
-#[tactic(auto, unfolding(asl_rules::specs::Limits::most_activations))]
+#[tactic(auto, unfolding(asl_rules::specs::runs::Limits::most_activations))]
 fn usual() -> i128
     ensures { result ≡ pos most_activations }
 {

@@ -1,13 +1,13 @@
 //! The signatures of subprograms, in source order.
 
 ghost use Rattle.std.specs.Prelude.{◌≡◌, [], length, map, IfOk};
-ghost use Rattle.asl_rules.specs.Programs as programs;
+ghost use Rattle.asl_rules.specs.declarations.Programs as programs;
 ghost use Rattle.asl_rules.specs.Tests.{Tests};
-ghost use Rattle.asl_types.specs.Answers.{Agrees};
+ghost use Rattle.asl_types.specs.private.Answers.{Agrees};
 ghost use Rattle.asl_types.specs.Suits.{Suits};
 ghost use Rattle.asl_types.specs.View.{parts_of};
-ghost use Rattle.asl_decl.specs.HeadViews.{types_of};
-ghost use Rattle.asl_decl.specs.Signatures as rules;
+ghost use Rattle.asl_decl.specs.private.HeadViews.{types_of};
+ghost use Rattle.asl_decl.specs.private.Signatures as rules;
 
 use crate::free::check_free;
 use crate::heads::{HeadTypes, head_types};

@@ -2,10 +2,10 @@
 
 ghost use Rattle.std.specs.Prelude.{◌≡◌, length, map, IfOk};
 ghost use Rattle.asl_rules.specs.Tests.{Tests};
-ghost use Rattle.asl_types.specs.Answers.{Met};
+ghost use Rattle.asl_types.specs.private.Answers.{Met};
 ghost use Rattle.asl_types.specs.Suits.{Suits};
 ghost use Rattle.asl_decl.specs.Heads.{declared_of, declared_rule};
-ghost use Rattle.asl_decl.specs.Signatures.{declared_found};
+ghost use Rattle.asl_decl.specs.private.Signatures.{declared_found};
 
 use crate::apart::{check_apart, funcs_of};
 use crate::signatures::find_signatures;

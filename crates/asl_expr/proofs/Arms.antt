@@ -10,19 +10,19 @@ use Rattle.asl_syn.specs.declared.tree.Slice.{Slice}
 use Rattle.asl_syn.specs.declared.tree.Ident.{Ident}
 use Rattle.asl_syn.specs.declared.tree.Bitfield.TheOpen as ex
 use Rattle.asl_syn.specs.declared.tree.Bitfield.TheFolds.{fold-roll-Expr}
-use Rattle.asl_rules.specs.Calls.{function_rule}
-use Rattle.asl_rules.specs.Exprs.{ExprOf, FoundField, found, typed, expr_rule, given_rule, slice_rule, type_rule, part_rule, bitfield_rule, pattern_rule, tuple_rule, construct_rule}
-use Rattle.asl_rules.specs.Patterns.{FoundPattern}
-use Rattle.asl_rules.specs.Scopes.{Scope}
-use Rattle.asl_rules.specs.Slicing.{FoundSlice, slices_rule}
-use Rattle.asl_rules.specs.Targets.{found_slices}
+use Rattle.asl_rules.specs.expressions.Calls.{function_rule}
+use Rattle.asl_rules.specs.expressions.Exprs.{ExprOf, FoundField, found, typed, expr_rule, given_rule, slice_rule, type_rule, part_rule, bitfield_rule, pattern_rule, tuple_rule, construct_rule}
+use Rattle.asl_rules.specs.expressions.Patterns.{FoundPattern}
+use Rattle.asl_rules.specs.declarations.Scopes.{Scope}
+use Rattle.asl_rules.specs.expressions.Slicing.{FoundSlice, slices_rule}
+use Rattle.asl_rules.specs.statements.Targets.{found_slices}
 use Rattle.asl_rules.specs.Tests.{Tests}
-use Rattle.asl_rules.specs.Typing.{Found, Typed}
-use Rattle.asl_rules.specs.Writing.{FoundPart, FoundBitfield, FoundType}
-use Rattle.asl_types.specs.Answers.{Met}
+use Rattle.asl_rules.specs.expressions.Typing.{Found, Typed}
+use Rattle.asl_rules.specs.types.Writing.{FoundPart, FoundBitfield, FoundType}
+use Rattle.asl_types.specs.private.Answers.{Met}
 use Rattle.asl_tree.specs.declared.tree.Tree.{Tree}
 use Rattle.asl_tree.specs.View.{typed_of}
-use Rattle.asl_typing.specs.Constructs.{found_fields}
+use Rattle.asl_typing.specs.private.Constructs.{found_fields}
 
 tuple_rolled : (t : Tests) (e : Expr) (span : Span) (es fs : List Expr) (G : Scope) → e ≡ ev.Tuple span es → fs ≡ es → tuple_rule span (map (found t) fs) G ≡ typed t e G
 tuple_rolled t e span es fs G is same =

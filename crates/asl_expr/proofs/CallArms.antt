@@ -6,11 +6,11 @@ use Rattle.asl_syn.specs.declared.code.Refused.{Refused}
 use Rattle.asl_syn.specs.declared.code.StaticCode.TheVariants.{T02, T11, T12, T13}
 use Rattle.asl_rules.specs.declared.effect.Effect.{Effect}
 use Rattle.asl_rules.specs.declared.effect.Effect.TheVariants.{Pure}
-use Rattle.asl_rules.specs.Calls.{Replacing, Called, called, call_tree, procedure_effect, procedure_of, procedure_rule}
-use Rattle.asl_rules.specs.Routines.{routine_named}
-use Rattle.asl_rules.specs.Scopes.{Scope, is_subprogram, standing_of}
-use Rattle.asl_rules.specs.Slicing.{slices_behind}
-use Rattle.asl_rules.specs.Shapes.{SliceShape}
+use Rattle.asl_rules.specs.expressions.Calls.{Replacing, Called, called, call_tree, procedure_effect, procedure_of, procedure_rule}
+use Rattle.asl_rules.specs.declarations.Routines.{routine_named}
+use Rattle.asl_rules.specs.declarations.Scopes.{Scope, is_subprogram, standing_of}
+use Rattle.asl_rules.specs.expressions.Slicing.{slices_behind}
+use Rattle.asl_rules.specs.types.Shapes.{SliceShape}
 use Rattle.asl_rules.specs.Tests.{Tests}
 use Rattle.asl_poly.specs.Terms.{Polynomial}
 use Rattle.asl_syn.specs.declared.tree.Ident.{Ident}
@@ -18,18 +18,18 @@ use Rattle.std.specs.Prelude.{◌==◌}
 use Rattle.std.proofs.lemmas.Bool.Decides.{nat_tests}
 use Rattle.std.proofs.lemmas.List.{length-map}
 use Rattle.asl_syn.specs.declared.tree.Expr.{Expr}
-use Rattle.asl_rules.specs.Exprs.{found}
-use Rattle.asl_rules.specs.Effects.{greater, at_most, all_together, greatest}
+use Rattle.asl_rules.specs.expressions.Exprs.{found}
+use Rattle.asl_rules.specs.types.Effects.{greater, at_most, all_together, greatest}
 use Rattle.asl_rules.specs.Faults.{◌>>=◌, ◌>>◌, need}
-use Rattle.asl_rules.specs.Trees as trees
-use Rattle.asl_rules.specs.Trees.{Note, note_of}
-use Rattle.asl_rules.specs.Types.{Ty, bits_of}
-use Rattle.asl_rules.specs.Typing.{Found, operands, Typed, Operand, effects_of, note, finish, finish_all, trees_of}
-use Rattle.asl_types.specs.Answers.{Met}
+use Rattle.asl_rules.specs.runs.Trees as trees
+use Rattle.asl_rules.specs.runs.Trees.{Note, note_of}
+use Rattle.asl_rules.specs.types.Types.{Ty, bits_of}
+use Rattle.asl_rules.specs.expressions.Typing.{Found, operands, Typed, Operand, effects_of, note, finish, finish_all, trees_of}
+use Rattle.asl_types.specs.private.Answers.{Met}
 use Rattle.asl_tree.specs.declared.tree.Tree.{Tree}
 use Rattle.asl_tree.specs.View.{tree_of, typed_of, note_view}
 use Rattle.asl_expr.specs.CallViews.{call_note, called_of, effect_of}
-use Rattle.asl_expr.specs.SliceViews.{slices_note}
+use Rattle.asl_expr.specs.private.SliceViews.{slices_note}
 use Rattle.asl_expr.specs.declared.calls.Called as code
 use Rattle.asl_expr.proofs.Stepping.{stops}
 

@@ -1,8 +1,8 @@
 -- The arguments that subprograms of the library take.
 use Rattle.std.proofs.Common.{◌≡◌, Bool, true, false, ◌&&◌, length, get_or, List, [], ◌∷◌, refl, sym, ap, ◌∙◌, arith}
-use Rattle.asl_rules.specs.Calls.{of_bits, of_integer}
-use Rattle.asl_rules.specs.Types.{integers, bitvectors, no_kind, one_more, kind, kinds, kind_eq, kinds_eq, is_bits, is_integer}
-use Rattle.asl_rules.specs.Typing.{types_of}
+use Rattle.asl_rules.specs.expressions.Calls.{of_bits, of_integer}
+use Rattle.asl_rules.specs.types.Types.{integers, bitvectors, no_kind, one_more, kind, kinds, kind_eq, kinds_eq, is_bits, is_integer}
+use Rattle.asl_rules.specs.expressions.Typing.{types_of}
 use Rattle.asl_tree.specs.declared.tree.Tree.{Tree}
 use Rattle.asl_tree.specs.View.{typed_of, all_operands}
 use Rattle.asl_rules.proofs.values.SameKind.{tests_turned}

@@ -14,10 +14,10 @@ use Rattle.asl_syn.specs.declared.tree.Pattern.{Pattern, size-Pattern}
 use Rattle.asl_syn.specs.declared.tree.Pattern.TheVariants as pv
 use Rattle.asl_syn.specs.declared.tree.Slice.{Slice, size-Slice}
 use Rattle.asl_syn.specs.declared.tree.Bitfield.TheViews.{sized-Given, sized-Tuple, sized-Construct, sized-Call, sized-Slices, sized-SetPattern, sized-TuplePattern}
-use Rattle.asl_rules.specs.Types.{Ty}
+use Rattle.asl_rules.specs.types.Types.{Ty}
 use Rattle.asl_types.specs.declared.context.Context.{Context}
 use Rattle.asl_tree.specs.declared.tree.Tree.{Tree}
-use Rattle.asl_expr.specs.Below.{Types, Matching}
+use Rattle.asl_expr.specs.private.Below.{Types, Matching}
 use Rattle.asl_expr.specs.declared.patterns.Matched.{Matched}
 
 abbrev Pre : Type 1

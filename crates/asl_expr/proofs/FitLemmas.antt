@@ -3,11 +3,11 @@ use Rattle.std.proofs.Common.{◌≡◌, ℕ, ◌+◌, ◌<◌, ◌≤◌, lengt
 use Rattle.std.proofs.lemmas.List.{drop_all}
 use Rattle.asl_syn.specs.declared.token.Span.{Span}
 use Rattle.asl_syn.specs.declared.code.Fault.{Fault}
-use Rattle.asl_rules.specs.Calls.{Given, replaced_by, params_fit, arguments_fit, fits_written, fits_replaced}
+use Rattle.asl_rules.specs.expressions.Calls.{Given, replaced_by, params_fit, arguments_fit, fits_written, fits_replaced}
 use Rattle.asl_rules.specs.Faults.{◌>>◌}
-use Rattle.asl_rules.specs.Scopes.{Param}
+use Rattle.asl_rules.specs.declarations.Scopes.{Param}
 use Rattle.asl_rules.specs.Tests.{Tests}
-use Rattle.asl_rules.specs.Types.{Ty, Widths}
+use Rattle.asl_rules.specs.types.Types.{Ty, Widths}
 use Rattle.asl_types.proofs.Rest.{at_next}
 use Rattle.asl_types.specs.View.{parts_of}
 use Rattle.asl_tree.specs.declared.tree.Tree.{Tree}

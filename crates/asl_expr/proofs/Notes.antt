@@ -5,14 +5,14 @@ use Rattle.asl_syn.specs.declared.code.Fault.{Fault}
 use Rattle.asl_syn.specs.declared.tree.Expr.{Expr}
 use Rattle.asl_rules.specs.declared.effect.Effect.{Effect}
 use Rattle.asl_rules.specs.Faults.{◌>>=◌, ◌>>◌}
-use Rattle.asl_rules.specs.Exprs.{found, typed, conditional_of, conditional_rule}
-use Rattle.asl_rules.specs.Scopes.{Scope}
+use Rattle.asl_rules.specs.expressions.Exprs.{found, typed, conditional_of, conditional_rule}
+use Rattle.asl_rules.specs.declarations.Scopes.{Scope}
 use Rattle.asl_rules.specs.Tests.{Tests}
-use Rattle.asl_rules.specs.Trees.{Tree, tree_at}
-use Rattle.asl_rules.specs.Typing.{Typed, Operand, operand}
-use Rattle.asl_rules.specs.Acting as acting
+use Rattle.asl_rules.specs.runs.Trees.{Tree, tree_at}
+use Rattle.asl_rules.specs.expressions.Typing.{Typed, Operand, operand}
+use Rattle.asl_rules.specs.statements.Acting as acting
 use Rattle.asl_syn.specs.declared.code.Refused.{Refused}
-use Rattle.asl_types.specs.Answers.{Met}
+use Rattle.asl_types.specs.private.Answers.{Met}
 use Rattle.asl_tree.specs.declared.tree.Tree as code
 use Rattle.asl_tree.specs.View.{tree_of, typed_of, operand_of}
 use Rattle.asl_rules.proofs.expressions.Places.{typed_at}

@@ -9,14 +9,14 @@ use Rattle.asl_syn.specs.declared.code.Fault.{Fault}
 use Rattle.asl_syn.specs.declared.code.StaticCode.TheVariants.{T11}
 use Rattle.asl_syn.specs.declared.tree.Expr.{Expr}
 use Rattle.asl_poly.specs.Terms.{Summand}
-use Rattle.asl_rules.specs.Alone.{is_atom}
-use Rattle.asl_rules.specs.Calls.{Given, Giving, Replacing, given, replacing, written_first, argument_first, widths_given, widths_omitted, widths_rule, given_by_argument, is_width_alone}
-use Rattle.asl_rules.specs.Exprs.{found}
+use Rattle.asl_rules.specs.types.Alone.{is_atom}
+use Rattle.asl_rules.specs.expressions.Calls.{Given, Giving, Replacing, given, replacing, written_first, argument_first, widths_given, widths_omitted, widths_rule, given_by_argument, is_width_alone}
+use Rattle.asl_rules.specs.expressions.Exprs.{found}
 use Rattle.asl_rules.specs.Faults.{◌>>=◌, ◌>>◌, need, found_or}
-use Rattle.asl_rules.specs.Scopes.{Scope, Param, Signature}
+use Rattle.asl_rules.specs.declarations.Scopes.{Scope, Param, Signature}
 use Rattle.asl_rules.specs.Tests.{Tests}
-use Rattle.asl_rules.specs.Types.{Ty, Parts, part, width_of}
-use Rattle.asl_rules.specs.Typing.{Width, Operand}
+use Rattle.asl_rules.specs.types.Types.{Ty, Parts, part, width_of}
+use Rattle.asl_rules.specs.expressions.Typing.{Width, Operand}
 use Rattle.asl_types.proofs.Rest.{at_next}
 use Rattle.asl_types.specs.View.{parts_of}
 use Rattle.asl_tree.specs.declared.tree.Tree.{Tree}

@@ -8,19 +8,19 @@ use Rattle.asl_syn.specs.declared.tree.Pattern.TheVariants as pv
 use Rattle.asl_syn.specs.declared.tree.Bitfield.TheOpen as ex
 use Rattle.asl_syn.specs.declared.tree.Bitfield.TheFolds.{fold-roll-Pattern}
 use Rattle.asl_syn.specs.declared.tree.Expr.{Expr}
-use Rattle.asl_rules.specs.Exprs.{FoundField, found, found_pattern, bitfield_rule, part_rule, expr_rule, given_rule, pattern_rule, slice_rule, type_rule}
+use Rattle.asl_rules.specs.expressions.Exprs.{FoundField, found, found_pattern, bitfield_rule, part_rule, expr_rule, given_rule, pattern_rule, slice_rule, type_rule}
 use Rattle.asl_rules.specs.Faults.{◌>>=◌, ◌>>◌, need, found_or}
-use Rattle.asl_rules.specs.Patterns.{pure_typed, range_matched, FoundPattern, Matched, matched, all_match, parts_match, as_many, set_matched, tuple_pattern_rule, pattern_shapes, pattern_trees}
-use Rattle.asl_rules.specs.Scopes.{Scope}
-use Rattle.asl_rules.specs.Shapes as shapes
-use Rattle.asl_rules.specs.Slicing.{FoundSlice}
+use Rattle.asl_rules.specs.expressions.Patterns.{pure_typed, range_matched, FoundPattern, Matched, matched, all_match, parts_match, as_many, set_matched, tuple_pattern_rule, pattern_shapes, pattern_trees}
+use Rattle.asl_rules.specs.declarations.Scopes.{Scope}
+use Rattle.asl_rules.specs.types.Shapes as shapes
+use Rattle.asl_rules.specs.expressions.Slicing.{FoundSlice}
 use Rattle.asl_rules.specs.Tests.{Tests}
-use Rattle.asl_rules.specs.Types.{Ty, Parts, tuple_parts}
-use Rattle.asl_rules.specs.Typing.{Found}
-use Rattle.asl_rules.specs.Writing.{FoundPart, FoundBitfield, FoundType}
+use Rattle.asl_rules.specs.types.Types.{Ty, Parts, tuple_parts}
+use Rattle.asl_rules.specs.expressions.Typing.{Found}
+use Rattle.asl_rules.specs.types.Writing.{FoundPart, FoundBitfield, FoundType}
 use Rattle.asl_syn.specs.declared.code.Refused.{Refused}
 use Rattle.asl_syn.specs.declared.code.Refused.TheVariants.{At, NoMemory}
-use Rattle.asl_types.specs.Answers.{Met}
+use Rattle.asl_types.specs.private.Answers.{Met}
 use Rattle.asl_expr.specs.declared.patterns.Matched as code
 use Rattle.asl_expr.specs.PatternViews.{matched_of, matches_view, found_patterns, Seen, no_matches, with_matches, set_from, tuple_from, parts_for}
 use Rattle.asl_expr.proofs.Collecting.{collected, failed}

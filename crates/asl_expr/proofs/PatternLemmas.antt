@@ -13,13 +13,13 @@ use Rattle.asl_poly.specs.Poly.{ConstantFits, constant_map}
 use Rattle.asl_types.specs.Suits.{Suits}
 use Rattle.asl_syn.specs.declared.code.Fault.{Fault}
 use Rattle.asl_syn.specs.declared.tree.Pattern.{Pattern}
-use Rattle.asl_rules.specs.Exprs.{found_pattern}
+use Rattle.asl_rules.specs.expressions.Exprs.{found_pattern}
 use Rattle.asl_rules.specs.Faults.{◌>>=◌, ◌>>◌, need, found_or, fault}
-use Rattle.asl_rules.specs.Patterns.{FoundPattern, Matched, matched, all_match, parts_match, as_many, pattern_shapes, pattern_trees, set_matched}
-use Rattle.asl_rules.specs.Scopes.{Scope}
-use Rattle.asl_rules.specs.Shapes as shapes
+use Rattle.asl_rules.specs.expressions.Patterns.{FoundPattern, Matched, matched, all_match, parts_match, as_many, pattern_shapes, pattern_trees, set_matched}
+use Rattle.asl_rules.specs.declarations.Scopes.{Scope}
+use Rattle.asl_rules.specs.types.Shapes as shapes
 use Rattle.asl_rules.specs.Tests.{Tests, IsRight}
-use Rattle.asl_rules.specs.Types.{Ty, Parts, part, tuple_parts}
+use Rattle.asl_rules.specs.types.Types.{Ty, Parts, part, tuple_parts}
 use Rattle.asl_types.proofs.Rest.{at_next}
 use Rattle.asl_types.specs.View.{parts_of}
 use Rattle.asl_shape.specs.View.{patterns_from}

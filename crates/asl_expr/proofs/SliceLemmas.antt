@@ -4,25 +4,25 @@ use Rattle.std.proofs.lemmas.List.{drop_all, take_all, take_more}
 use Rattle.asl_syn.specs.declared.tree.Slice.{Slice}
 use Rattle.asl_syn.specs.declared.code.Fault.{Fault}
 use Rattle.asl_syn.specs.declared.tree.Expr.{Expr}
-use Rattle.asl_rules.specs.Acting as acting
-use Rattle.asl_rules.specs.Exprs.{found, typed, found_slice}
+use Rattle.asl_rules.specs.statements.Acting as acting
+use Rattle.asl_rules.specs.expressions.Exprs.{found, typed, found_slice}
 use Rattle.asl_rules.specs.Faults.{◌>>=◌}
-use Rattle.asl_rules.specs.Scopes.{Scope}
-use Rattle.asl_rules.specs.Typing.{Typed, Operand, operand, operands}
-use Rattle.asl_rules.specs.Shapes as shapes
-use Rattle.asl_rules.specs.Slicing.{all_integers, shapes_of, all_operands as slice_operands, all_add}
-use Rattle.asl_rules.specs.Targets.{found_slices}
+use Rattle.asl_rules.specs.declarations.Scopes.{Scope}
+use Rattle.asl_rules.specs.expressions.Typing.{Typed, Operand, operand, operands}
+use Rattle.asl_rules.specs.types.Shapes as shapes
+use Rattle.asl_rules.specs.expressions.Slicing.{all_integers, shapes_of, all_operands as slice_operands, all_add}
+use Rattle.asl_rules.specs.statements.Targets.{found_slices}
 use Rattle.asl_rules.specs.Tests.{Tests}
-use Rattle.asl_rules.specs.Types.{is_integer}
-use Rattle.asl_rules.specs.Widths.{Total, totalled}
+use Rattle.asl_rules.specs.types.Types.{is_integer}
+use Rattle.asl_rules.specs.types.Widths.{Total, totalled}
 use Rattle.asl_poly.specs.Terms.{Polynomial}
 use Rattle.asl_syn.specs.declared.token.Span.{Span}
 use Rattle.asl_syn.specs.declared.code.Refused.{Refused}
 use Rattle.asl_syn.specs.declared.code.Refused.TheVariants.{At, NoMemory}
-use Rattle.asl_types.specs.Answers.{Met}
-use Rattle.asl_types.specs.Totals.{IsTotal}
+use Rattle.asl_types.specs.private.Answers.{Met}
+use Rattle.asl_types.specs.private.Totals.{IsTotal}
 use Rattle.asl_types.specs.declared.totals.Total as code
-use Rattle.asl_expr.specs.SliceViews.{Sums}
+use Rattle.asl_expr.specs.private.SliceViews.{Sums}
 use Rattle.asl_types.proofs.Rest.{at_next}
 use Rattle.asl_value.specs.declared.slices.SliceShape.{SliceShape}
 use Rattle.asl_value.specs.View.{slice_of, all_slices}

@@ -4,7 +4,7 @@ use Rattle.asl_syn.specs.declared.code.Fault.{Fault}
 use Rattle.asl_syn.specs.declared.code.Refused.{Refused}
 use Rattle.asl_syn.specs.declared.code.Refused.TheVariants.{At, NoMemory}
 use Rattle.asl_rules.specs.Faults.{◌>>=◌, ◌>>◌}
-use Rattle.asl_types.specs.Answers.{Met}
+use Rattle.asl_types.specs.private.Answers.{Met}
 
 pub went : {A B C : Type 0} (v : C → B) (p : Result A Fault) (k : A → Result B Fault) (a : A) (r : Result C Refused) → p ≡ Ok a → Met v r (k a) → Met v r (p >>= k)
 went v p k a r is h = subst (λ q. Met v r (q >>= k)) (sym is) h

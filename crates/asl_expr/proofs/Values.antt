@@ -16,25 +16,25 @@ use Rattle.asl_syn.specs.declared.tree.TypeExpr.{TypeExpr}
 use Rattle.asl_syn.specs.declared.tree.Bitfield.TheOpen as ex
 use Rattle.asl_syn.specs.declared.tree.Bitfield.TheFolds.{fold_out-FieldValue, fold-roll-FieldValue}
 use Rattle.asl_syn.specs.declared.tree.Ident.{Ident}
-use Rattle.asl_rules.specs.Acting.{operand_of as operand_at}
-use Rattle.asl_rules.specs.Calls.{call_begun, function_of, function_rule}
-use Rattle.asl_rules.specs.Exprs.{FoundField, found, expr_rule, given_rule, slice_rule, type_rule, part_rule, bitfield_rule, pattern_rule, values_given, names_given, construct_rule}
+use Rattle.asl_rules.specs.statements.Acting.{operand_of as operand_at}
+use Rattle.asl_rules.specs.expressions.Calls.{call_begun, function_of, function_rule}
+use Rattle.asl_rules.specs.expressions.Exprs.{FoundField, found, expr_rule, given_rule, slice_rule, type_rule, part_rule, bitfield_rule, pattern_rule, values_given, names_given, construct_rule}
 use Rattle.asl_rules.specs.Faults.{◌>>=◌, ◌>>◌, need}
-use Rattle.asl_rules.specs.Members.{construction}
-use Rattle.asl_rules.specs.Patterns.{FoundPattern}
-use Rattle.asl_rules.specs.Routines.{routine_named}
-use Rattle.asl_rules.specs.Scopes.{Scope, is_subprogram, standing_of, type_of_name}
-use Rattle.asl_rules.specs.Slicing.{FoundSlice}
+use Rattle.asl_rules.specs.values.Members.{construction}
+use Rattle.asl_rules.specs.expressions.Patterns.{FoundPattern}
+use Rattle.asl_rules.specs.declarations.Routines.{routine_named}
+use Rattle.asl_rules.specs.declarations.Scopes.{Scope, is_subprogram, standing_of, type_of_name}
+use Rattle.asl_rules.specs.expressions.Slicing.{FoundSlice}
 use Rattle.asl_rules.specs.Tests.{Tests}
-use Rattle.asl_rules.specs.Typing.{Found, Typed, Operand, operand, operands}
-use Rattle.asl_rules.specs.Writing.{FoundPart, FoundBitfield, FoundType}
+use Rattle.asl_rules.specs.expressions.Typing.{Found, Typed, Operand, operand, operands}
+use Rattle.asl_rules.specs.types.Writing.{FoundPart, FoundBitfield, FoundType}
 use Rattle.asl_rules.proofs.basics.Opening.{field_opened}
-use Rattle.asl_types.specs.Answers.{Met}
+use Rattle.asl_types.specs.private.Answers.{Met}
 use Rattle.asl_types.proofs.Rest.{at_next}
 use Rattle.asl_tree.specs.declared.tree.Tree.{Tree}
 use Rattle.asl_tree.specs.View.{typed_of, operand_of, all_operands}
-use Rattle.asl_typing.specs.Constructs.{found_field, found_fields, value_of, given_name, given_names, name_layer}
-use Rattle.asl_tree.specs.Ends.{behind_operands}
+use Rattle.asl_typing.specs.private.Constructs.{found_field, found_fields, value_of, given_name, given_names, name_layer}
+use Rattle.asl_tree.specs.private.Ends.{behind_operands}
 
 -- ---- fields that are given
 

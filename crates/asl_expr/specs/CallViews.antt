@@ -7,13 +7,13 @@ use Rattle.asl_syn.specs.declared.code.StaticCode.TheVariants.{T12, T13}
 use Rattle.asl_poly.specs.Terms.{Polynomial}
 use Rattle.asl_rules.specs.declared.effect.Effect.{Effect}
 use Rattle.asl_rules.specs.declared.effect.Effect.TheVariants.{Pure}
-use Rattle.asl_rules.specs.Calls as calls
-use Rattle.asl_rules.specs.Calls.{Given, Giving, Replacing, given, replacing}
-use Rattle.asl_rules.specs.Effects.{greater, at_most, all_together, greatest}
+use Rattle.asl_rules.specs.expressions.Calls as calls
+use Rattle.asl_rules.specs.expressions.Calls.{Given, Giving, Replacing, given, replacing}
+use Rattle.asl_rules.specs.types.Effects.{greater, at_most, all_together, greatest}
 use Rattle.asl_rules.specs.Faults.{◌>>=◌, ◌>>◌, need}
-use Rattle.asl_rules.specs.Trees as trees
-use Rattle.asl_rules.specs.Types.{Ty, width_of}
-use Rattle.asl_rules.specs.Typing.{Operand, effects_of, note}
+use Rattle.asl_rules.specs.runs.Trees as trees
+use Rattle.asl_rules.specs.types.Types.{Ty, width_of}
+use Rattle.asl_rules.specs.expressions.Typing.{Operand, effects_of, note}
 use Rattle.asl_tree.specs.declared.tree.Tree.{Tree}
 use Rattle.asl_tree.specs.View.{tree_of, typed_of, operand_of, callee_of, all_operands}
 use Rattle.asl_expr.specs.declared.calls.Called.{Called}

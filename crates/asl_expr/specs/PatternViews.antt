@@ -4,14 +4,14 @@ use Rattle.asl_syn.specs.declared.token.Span.{Span}
 use Rattle.asl_syn.specs.declared.code.Fault.{Fault}
 use Rattle.asl_syn.specs.declared.code.StaticCode.TheVariants.{T23}
 use Rattle.asl_syn.specs.declared.tree.Pattern.{Pattern}
-use Rattle.asl_rules.specs.Exprs.{found_pattern}
+use Rattle.asl_rules.specs.expressions.Exprs.{found_pattern}
 use Rattle.asl_rules.specs.Faults.{◌>>=◌, ◌>>◌, need, found_or}
-use Rattle.asl_rules.specs.Patterns as patterns
-use Rattle.asl_rules.specs.Patterns.{FoundPattern, matched, as_many}
-use Rattle.asl_rules.specs.Shapes as shapes
+use Rattle.asl_rules.specs.expressions.Patterns as patterns
+use Rattle.asl_rules.specs.expressions.Patterns.{FoundPattern, matched, as_many}
+use Rattle.asl_rules.specs.types.Shapes as shapes
 use Rattle.asl_rules.specs.Tests.{Tests}
-use Rattle.asl_rules.specs.Trees.{Tree}
-use Rattle.asl_rules.specs.Types.{Ty, Parts, tuple_parts}
+use Rattle.asl_rules.specs.runs.Trees.{Tree}
+use Rattle.asl_rules.specs.types.Types.{Ty, Parts, tuple_parts}
 use Rattle.asl_shape.specs.View.{pattern_of, patterns_from}
 use Rattle.asl_tree.specs.View.{tree_of}
 use Rattle.asl_expr.specs.declared.patterns.Matched.{Matched}

@@ -2,17 +2,17 @@
 //! each is proved by itself, and only the two that begin nodes (`type_expr` and `match_pattern`) call one another.
 
 ghost use Rattle.std.specs.Prelude.{◌≡◌, suc};
-ghost use Rattle.asl_rules.specs.Acting as acting;
-ghost use Rattle.asl_rules.specs.Exprs as rules;
-ghost use Rattle.asl_rules.specs.Exprs.{found};
-ghost use Rattle.asl_rules.specs.Patterns.{pure_typed};
-ghost use Rattle.asl_rules.specs.Scopes.{with_class};
+ghost use Rattle.asl_rules.specs.statements.Acting as acting;
+ghost use Rattle.asl_rules.specs.expressions.Exprs as rules;
+ghost use Rattle.asl_rules.specs.expressions.Exprs.{found};
+ghost use Rattle.asl_rules.specs.expressions.Patterns.{pure_typed};
+ghost use Rattle.asl_rules.specs.declarations.Scopes.{with_class};
 ghost use Rattle.asl_rules.specs.Tests.{Tests};
-ghost use Rattle.asl_types.specs.Answers.{Met};
-ghost use Rattle.asl_types.specs.ContextView.{scope_of};
+ghost use Rattle.asl_types.specs.private.Answers.{Met};
+ghost use Rattle.asl_types.specs.private.ContextView.{scope_of};
 ghost use Rattle.asl_types.specs.Suits.{Suits};
 ghost use Rattle.asl_tree.specs.View.{typed_of, operand_of};
-ghost use Rattle.asl_expr.specs.Below.{Types, Matching};
+ghost use Rattle.asl_expr.specs.private.Below.{Types, Matching};
 ghost use Rattle.asl_expr.specs.PatternViews.{matched_of};
 ghost use Rattle.asl_syn.specs.declared.tree.Expr.{size-Expr};
 ghost use Rattle.asl_syn.specs.declared.tree.Pattern.{size-Pattern};

@@ -1,11 +1,11 @@
 //! Whether parameters and arguments of a call fit, with widths in the place of the parameters.
 
 ghost use Rattle.std.specs.Prelude.{◌≡◌, option_map, IfOk};
-ghost use Rattle.asl_rules.specs.Calls as rules;
+ghost use Rattle.asl_rules.specs.expressions.Calls as rules;
 ghost use Rattle.asl_rules.specs.Faults.{found_or, fitted};
 ghost use Rattle.asl_rules.specs.Tests.{Tests};
-ghost use Rattle.asl_rules.specs.Types as types;
-ghost use Rattle.asl_types.specs.Answers.{Met};
+ghost use Rattle.asl_rules.specs.types.Types as types;
+ghost use Rattle.asl_types.specs.private.Answers.{Met};
 ghost use Rattle.asl_types.specs.Suits.{Suits};
 ghost use Rattle.asl_types.specs.View.{parts_of};
 ghost use Rattle.asl_tree.specs.View.{all_operands};

@@ -1,21 +1,21 @@
 //! Calls of subprograms of the program and of the library.
 
 ghost use Rattle.std.specs.Prelude.{◌≡◌, map, Some, None, List, IfOk};
-ghost use Rattle.asl_rules.specs.Calls as rules;
-ghost use Rattle.asl_rules.specs.Scopes as scopes;
-ghost use Rattle.asl_rules.specs.Trees as trees;
-ghost use Rattle.asl_rules.specs.Types as types;
-ghost use Rattle.asl_rules.specs.Typing.{Found, finish_all};
+ghost use Rattle.asl_rules.specs.expressions.Calls as rules;
+ghost use Rattle.asl_rules.specs.declarations.Scopes as scopes;
+ghost use Rattle.asl_rules.specs.runs.Trees as trees;
+ghost use Rattle.asl_rules.specs.types.Types as types;
+ghost use Rattle.asl_rules.specs.expressions.Typing.{Found, finish_all};
 ghost use Rattle.asl_syn.specs.declared.tree.Ident.{Ident};
 ghost use Rattle.asl_shape.specs.View.{routine_of};
-ghost use Rattle.asl_rules.specs.Exprs.{found};
+ghost use Rattle.asl_rules.specs.expressions.Exprs.{found};
 ghost use Rattle.asl_rules.specs.Faults.{need, found_or};
-ghost use Rattle.asl_written.specs.Steps.{and_then, after};
-ghost use Rattle.asl_rules.specs.Routines.{routine_named};
-ghost use Rattle.asl_rules.specs.Scopes.{standing_of, is_subprogram};
+ghost use Rattle.asl_written.specs.private.Steps.{and_then, after};
+ghost use Rattle.asl_rules.specs.declarations.Routines.{routine_named};
+ghost use Rattle.asl_rules.specs.declarations.Scopes.{standing_of, is_subprogram};
 ghost use Rattle.asl_rules.specs.Tests.{Tests};
-ghost use Rattle.asl_types.specs.Answers.{Met};
-ghost use Rattle.asl_types.specs.ContextView.{scope_of};
+ghost use Rattle.asl_types.specs.private.Answers.{Met};
+ghost use Rattle.asl_types.specs.private.ContextView.{scope_of};
 ghost use Rattle.asl_types.specs.Suits.{Suits};
 ghost use Rattle.asl_tree.specs.View.{note_view, tree_of, callee_of, typed_of, all_operands};
 ghost use Rattle.asl_expr.specs.CallViews.{called_of, replacing_of, all_given, call_note, effect_of};

@@ -1,13 +1,13 @@
 //! `as` and `IN`, where the operand was typed.
 
 ghost use Rattle.std.specs.Prelude.{◌≡◌, false};
-ghost use Rattle.asl_rules.specs.Exprs as rules;
-ghost use Rattle.asl_written.specs.Steps.{and_then};
-ghost use Rattle.asl_rules.specs.Patterns.{matching};
+ghost use Rattle.asl_rules.specs.expressions.Exprs as rules;
+ghost use Rattle.asl_written.specs.private.Steps.{and_then};
+ghost use Rattle.asl_rules.specs.expressions.Patterns.{matching};
 ghost use Rattle.asl_rules.specs.Tests.{Tests};
-ghost use Rattle.asl_rules.specs.Writing.{converted_to};
-ghost use Rattle.asl_types.specs.Answers.{Met};
-ghost use Rattle.asl_types.specs.ContextView.{scope_of};
+ghost use Rattle.asl_rules.specs.types.Writing.{converted_to};
+ghost use Rattle.asl_types.specs.private.Answers.{Met};
+ghost use Rattle.asl_types.specs.private.ContextView.{scope_of};
 ghost use Rattle.asl_types.specs.Suits.{Suits};
 ghost use Rattle.asl_tree.specs.View.{typed_of};
 ghost use Rattle.asl_expr.specs.PatternViews.{matched_of};

@@ -1,13 +1,13 @@
 //! The types and the effects of expressions, and their typed trees.
 
 ghost use Rattle.std.specs.Prelude.{map};
-ghost use Rattle.asl_rules.specs.Acting as acting;
-ghost use Rattle.asl_rules.specs.Exprs as rules;
-ghost use Rattle.asl_rules.specs.Exprs.{found};
+ghost use Rattle.asl_rules.specs.statements.Acting as acting;
+ghost use Rattle.asl_rules.specs.expressions.Exprs as rules;
+ghost use Rattle.asl_rules.specs.expressions.Exprs.{found};
 ghost use Rattle.asl_rules.specs.Tests.{Tests};
-ghost use Rattle.asl_rules.specs.Typing.{operands};
-ghost use Rattle.asl_types.specs.Answers.{Met};
-ghost use Rattle.asl_types.specs.ContextView.{scope_of};
+ghost use Rattle.asl_rules.specs.expressions.Typing.{operands};
+ghost use Rattle.asl_types.specs.private.Answers.{Met};
+ghost use Rattle.asl_types.specs.private.ContextView.{scope_of};
 ghost use Rattle.asl_types.specs.Suits.{Suits};
 ghost use Rattle.asl_tree.specs.View.{typed_of, operand_of, all_operands};
 

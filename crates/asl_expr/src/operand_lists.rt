@@ -2,18 +2,18 @@
 
 ghost use Rattle.std.specs.Prelude.{◌≡◌, [], ◌∷◌, map, suc};
 ghost use denote.Param.Weighed.{most};
-ghost use Rattle.asl_rules.specs.Exprs as rules;
-ghost use Rattle.asl_rules.specs.Exprs.{found, found_slice};
-ghost use Rattle.asl_rules.specs.Slicing as slicing;
-ghost use Rattle.asl_rules.specs.Targets.{found_slices};
+ghost use Rattle.asl_rules.specs.expressions.Exprs as rules;
+ghost use Rattle.asl_rules.specs.expressions.Exprs.{found, found_slice};
+ghost use Rattle.asl_rules.specs.expressions.Slicing as slicing;
+ghost use Rattle.asl_rules.specs.statements.Targets.{found_slices};
 ghost use Rattle.asl_rules.specs.Tests.{Tests};
-ghost use Rattle.asl_rules.specs.Typing.{operands};
-ghost use Rattle.asl_types.specs.Answers.{Met};
-ghost use Rattle.asl_types.specs.ContextView.{scope_of};
+ghost use Rattle.asl_rules.specs.expressions.Typing.{operands};
+ghost use Rattle.asl_types.specs.private.Answers.{Met};
+ghost use Rattle.asl_types.specs.private.ContextView.{scope_of};
 ghost use Rattle.asl_types.specs.Suits.{Suits};
 ghost use Rattle.asl_tree.specs.View.{operand_of, all_operands};
-ghost use Rattle.asl_expr.specs.Below.{Types};
-ghost use Rattle.asl_typing.specs.Constructs.{found_fields, value_of};
+ghost use Rattle.asl_expr.specs.private.Below.{Types};
+ghost use Rattle.asl_typing.specs.private.Constructs.{found_fields, value_of};
 ghost use Rattle.asl_syn.specs.declared.tree.Expr.{size-Expr};
 ghost use Rattle.asl_syn.specs.declared.tree.FieldValue.{size-FieldValue};
 ghost use Rattle.asl_syn.specs.declared.tree.FieldValue.TheVariants as value;

@@ -2,14 +2,14 @@
 
 ghost use Rattle.std.specs.Prelude.{◌≡◌, pos, map, option_map, OnOk, IfOk};
 ghost use Rattle.asl_poly.specs.Poly.{constant_map};
-ghost use Rattle.asl_rules.specs.Alone.{is_atom, is_only};
-ghost use Rattle.asl_rules.specs.Calls as rules;
-ghost use Rattle.asl_rules.specs.Calls.{given};
-ghost use Rattle.asl_rules.specs.Exprs.{found};
+ghost use Rattle.asl_rules.specs.types.Alone.{is_atom, is_only};
+ghost use Rattle.asl_rules.specs.expressions.Calls as rules;
+ghost use Rattle.asl_rules.specs.expressions.Calls.{given};
+ghost use Rattle.asl_rules.specs.expressions.Exprs.{found};
 ghost use Rattle.asl_rules.specs.Tests.{Tests};
-ghost use Rattle.asl_rules.specs.Types as types;
-ghost use Rattle.asl_types.specs.Answers.{Met};
-ghost use Rattle.asl_types.specs.ContextView.{scope_of};
+ghost use Rattle.asl_rules.specs.types.Types as types;
+ghost use Rattle.asl_types.specs.private.Answers.{Met};
+ghost use Rattle.asl_types.specs.private.ContextView.{scope_of};
 ghost use Rattle.asl_types.specs.View.{parts_of};
 ghost use Rattle.asl_tree.specs.View.{tree_of, all_operands};
 ghost use Rattle.asl_expr.specs.CallViews.{replacing_of, none_replaced, with_written, with_argument, giving_of};

@@ -2,19 +2,19 @@
 
 ghost use Rattle.std.specs.Prelude.{◌≡◌, Ok, length, suc};
 ghost use denote.Param.Weighed.{most};
-ghost use Rattle.asl_rules.specs.Exprs as exprs;
-ghost use Rattle.asl_rules.specs.Exprs.{found};
-ghost use Rattle.asl_rules.specs.Patterns as rules;
-ghost use Rattle.asl_rules.specs.Patterns.{pure_typed};
-ghost use Rattle.asl_rules.specs.Shapes as shapes;
+ghost use Rattle.asl_rules.specs.expressions.Exprs as exprs;
+ghost use Rattle.asl_rules.specs.expressions.Exprs.{found};
+ghost use Rattle.asl_rules.specs.expressions.Patterns as rules;
+ghost use Rattle.asl_rules.specs.expressions.Patterns.{pure_typed};
+ghost use Rattle.asl_rules.specs.types.Shapes as shapes;
 ghost use Rattle.asl_rules.specs.Tests.{Tests};
-ghost use Rattle.asl_types.specs.Answers.{Met};
-ghost use Rattle.asl_types.specs.ContextView.{scope_of};
+ghost use Rattle.asl_types.specs.private.Answers.{Met};
+ghost use Rattle.asl_types.specs.private.ContextView.{scope_of};
 ghost use Rattle.asl_types.specs.Suits.{Suits};
 ghost use Rattle.asl_types.specs.View.{parts_of};
-ghost use Rattle.asl_expr.specs.Below.{Types, Matching};
+ghost use Rattle.asl_expr.specs.private.Below.{Types, Matching};
 ghost use Rattle.asl_expr.specs.PatternViews.{matched_of, matches_view, no_matches, with_matches, found_patterns};
-ghost use Rattle.asl_written.specs.Steps.{and_then};
+ghost use Rattle.asl_written.specs.private.Steps.{and_then};
 ghost use Rattle.asl_syn.specs.declared.tree.Expr.{size-Expr};
 ghost use Rattle.asl_syn.specs.declared.tree.Pattern.{size-Pattern};
 

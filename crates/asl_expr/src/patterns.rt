@@ -2,13 +2,13 @@
 
 ghost use Rattle.std.specs.Prelude.{◌≡◌, pos, [], OnOk, IfOk, length};
 ghost use Rattle.asl_poly.specs.Poly.{constant_map};
-ghost use Rattle.asl_rules.specs.Exprs as exprs;
-ghost use Rattle.asl_rules.specs.Patterns as rules;
-ghost use Rattle.asl_rules.specs.Shapes as shapes;
+ghost use Rattle.asl_rules.specs.expressions.Exprs as exprs;
+ghost use Rattle.asl_rules.specs.expressions.Patterns as rules;
+ghost use Rattle.asl_rules.specs.types.Shapes as shapes;
 ghost use Rattle.asl_rules.specs.Tests.{Tests};
-ghost use Rattle.asl_rules.specs.Vectors.{literal_digits};
-ghost use Rattle.asl_types.specs.Answers.{Met};
-ghost use Rattle.asl_types.specs.ContextView.{scope_of};
+ghost use Rattle.asl_rules.specs.values.Vectors.{literal_digits};
+ghost use Rattle.asl_types.specs.private.Answers.{Met};
+ghost use Rattle.asl_types.specs.private.ContextView.{scope_of};
 ghost use Rattle.asl_types.specs.Suits.{Suits};
 ghost use Rattle.asl_types.specs.View.{parts_of};
 ghost use Rattle.asl_tree.specs.View.{typed_of};

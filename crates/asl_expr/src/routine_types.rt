@@ -2,10 +2,10 @@
 
 ghost use Rattle.std.specs.Prelude.{◌≡◌, ◌≤◌, ◌^◌, ◌-◌, pos, neg_ℤ, map, IfOk};
 ghost use Rattle.asl_poly.specs.Poly.{constant_value};
-ghost use Rattle.asl_rules.specs.Calls as rules;
-ghost use Rattle.asl_rules.specs.Types as types;
-ghost use Rattle.asl_rules.specs.Typing.{types_of};
-ghost use Rattle.asl_types.specs.Answers.{Met};
+ghost use Rattle.asl_rules.specs.expressions.Calls as rules;
+ghost use Rattle.asl_rules.specs.types.Types as types;
+ghost use Rattle.asl_rules.specs.expressions.Typing.{types_of};
+ghost use Rattle.asl_types.specs.private.Answers.{Met};
 ghost use Rattle.asl_shape.specs.View.{routine_of};
 ghost use Rattle.asl_tree.specs.View.{all_operands};
 ghost use Rattle.asl_expr.specs.CallViews.{all_given};

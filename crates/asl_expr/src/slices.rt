@@ -1,21 +1,21 @@
 //! Slices of bits and of integers.
 
 ghost use Rattle.std.specs.Prelude.{◌≡◌, ◌||◌, ◌&&◌, IfOk};
-ghost use Rattle.asl_written.specs.Steps.{and_then, after};
-ghost use Rattle.asl_rules.specs.Slicing as rules;
-ghost use Rattle.asl_rules.specs.Slicing.{sliceable, slices_behind, shapes_of};
-ghost use Rattle.asl_rules.specs.Targets.{found_slices};
+ghost use Rattle.asl_written.specs.private.Steps.{and_then, after};
+ghost use Rattle.asl_rules.specs.expressions.Slicing as rules;
+ghost use Rattle.asl_rules.specs.expressions.Slicing.{sliceable, slices_behind, shapes_of};
+ghost use Rattle.asl_rules.specs.statements.Targets.{found_slices};
 ghost use Rattle.asl_rules.specs.Tests.{Tests};
-ghost use Rattle.asl_rules.specs.Types as types;
-ghost use Rattle.asl_rules.specs.Exprs.{found, found_slice};
+ghost use Rattle.asl_rules.specs.types.Types as types;
+ghost use Rattle.asl_rules.specs.expressions.Exprs.{found, found_slice};
 ghost use Rattle.asl_value.specs.View.{slice_of, all_slices};
-ghost use Rattle.asl_types.specs.Answers.{Met};
-ghost use Rattle.asl_types.specs.ContextView.{scope_of};
+ghost use Rattle.asl_types.specs.private.Answers.{Met};
+ghost use Rattle.asl_types.specs.private.ContextView.{scope_of};
 ghost use Rattle.asl_types.specs.Suits.{Suits};
 ghost use Rattle.asl_tree.specs.View.{note_view, typed_of, all_operands};
-ghost use Rattle.asl_expr.specs.SliceViews.{slices_note, Sums, added_width};
-ghost use Rattle.asl_rules.specs.Widths as limits;
-ghost use Rattle.asl_types.specs.Totals.{IsTotal};
+ghost use Rattle.asl_expr.specs.private.SliceViews.{slices_note, Sums, added_width};
+ghost use Rattle.asl_rules.specs.types.Widths as limits;
+ghost use Rattle.asl_types.specs.private.Totals.{IsTotal};
 
 use crate::below::Below;
 use crate::exprs::type_expr;

@@ -1,7 +1,7 @@
 -- How long the text is at most.
 use Rattle.std.proofs.Common.{ℕ, zero, suc, ◌*◌, ◌^◌, ◌<◌, ◌≤◌, length, decimal, arith, length-append}
 use Rattle.std.proofs.lemmas.Fmt.{length-decimal-le}
-use Rattle.asl_rules.specs.Made.{call_line, declarations, first_value, function_line, global_line, made_text, statements, sum_line, widening}
+use Rattle.asl_rules.specs.report.Made.{call_line, declarations, first_value, function_line, global_line, made_text, statements, sum_line, widening}
 
 -- a small number has few digits
 length-small : (n : ℕ) → n < 10 ^ 4 → length (decimal n) ≤ 4

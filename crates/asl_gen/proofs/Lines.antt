@@ -1,7 +1,7 @@
 -- One more subprogram.
 use Rattle.std.proofs.Common.{◌≡◌, ℕ, suc, ◌+◌, ◌-◌, ◌*◌, List, ◌++◌, refl, sym, ap, ◌∙◌, arith}
 use Rattle.std.proofs.lemmas.List.{append_assoc, append-nil}
-use Rattle.asl_rules.specs.Made.{call_line, declarations, drawn, function_line, global_line, next, statements, sum_line, value_in, widening_in}
+use Rattle.asl_rules.specs.report.Made.{call_line, declarations, drawn, function_line, global_line, next, statements, sum_line, value_in, widening_in}
 
 -- two numbers are drawn for each
 pub drawn_odd : (number i : ℕ) → drawn number (2 * suc i - 1) ≡ next (drawn number (2 * i))

@@ -3,7 +3,7 @@
 #![tactic(auto)]
 
 ghost use Rattle.std.specs.Prelude.{◌≡◌, ◌*◌, ◌++◌, ◌<◌, ◌≤◌, ◌%◌, ◌^◌, IfOk, OnOk, decimal, vec_len};
-ghost use Rattle.asl_rules.specs.Made.{call_line, declarations, drawn, function_line, global_line, made_text, next, statements, sum_line, value_in, widening_in};
+ghost use Rattle.asl_rules.specs.report.Made.{call_line, declarations, drawn, function_line, global_line, made_text, next, statements, sum_line, value_in, widening_in};
 
 use itoa::Buffer;
 use std::alloc::{AllocError, Global};
@@ -57,7 +57,7 @@ fn push_statements(text: &mut Vec<u8>, number: u32, size: u32) -> Result<(), All
 }
 
 /// The number that is drawn first.
-#[tactic(auto, unfolding(asl_rules::specs::Made::drawn))]
+#[tactic(auto, unfolding(asl_rules::specs::report::Made::drawn))]
 fn first_drawn(number: u32) -> u32
     ensures { result ≡ drawn number 0 }
 {

@@ -1,3 +1,4 @@
 pub mod lexemes
 pub mod grammar
 pub mod Reading
+pub mod private

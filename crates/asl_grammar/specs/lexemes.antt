@@ -8,4 +8,3 @@ pub mod Refusals
 pub mod Tokens
 pub mod Files
 pub mod Texts
-pub mod Scanning

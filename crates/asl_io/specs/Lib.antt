@@ -1,6 +1,4 @@
 pub mod Faults
-pub mod Filled
-pub mod MemFiles
-pub mod MemSink
 pub mod Shelf
 pub mod Told
+pub mod private

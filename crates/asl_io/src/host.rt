@@ -87,7 +87,7 @@ impl HostSink {
 }
 
 impl Sink for HostSink {
-    ghost use Rattle.asl_io.specs.Filled.{no_room};
+    ghost use Rattle.asl_io.specs.private.Filled.{no_room};
 
     ghost written = { λ _. None };
 

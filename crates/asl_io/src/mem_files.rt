@@ -22,7 +22,7 @@ pub struct MemFiles {
 }
 
 impl MemFiles {
-    ghost use Rattle.asl_io.specs.MemFiles.{failing_calls, call_count, piece_of};
+    ghost use Rattle.asl_io.specs.private.MemFiles.{failing_calls, call_count, piece_of};
 
     /// Files with these names and bytes, none of them open, that are given in pieces of at most `piece` bytes, which must
     /// be above 0. The calls with the listed numbers fail, where `open` and `next` are counted together from 1. Of two files

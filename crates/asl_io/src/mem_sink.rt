@@ -22,7 +22,7 @@ pub struct MemSink {
 }
 
 impl MemSink {
-    ghost use Rattle.asl_io.specs.MemSink.{failing_calls, call_count, piece_of, room_of};
+    ghost use Rattle.asl_io.specs.private.MemSink.{failing_calls, call_count, piece_of, room_of};
 
     /// A sink with room for `room` bytes, which is allocated here, that takes at most `piece` of them in a call, which must
     /// be above 0. The calls with the listed numbers fail, counted from 1, and so does every call once the room is full.
@@ -63,7 +63,7 @@ impl MemSink {
 }
 
 impl Sink for MemSink {
-    ghost use Rattle.asl_io.specs.Filled.{filled_room};
+    ghost use Rattle.asl_io.specs.private.Filled.{filled_room};
 
     ghost written = { λ s. Some s.bytes.items };
 

@@ -17,7 +17,7 @@ impl SureSink {
 }
 
 impl Sink for SureSink {
-    ghost use Rattle.asl_io.specs.Filled.{no_room};
+    ghost use Rattle.asl_io.specs.private.Filled.{no_room};
 
     ghost written = { λ _. None };
 

@@ -5,15 +5,15 @@ use Rattle.asl_syn.specs.declared.tree.Formal.{Formal}
 use Rattle.asl_syn.specs.declared.tree.Ident.{Ident}
 use Rattle.asl_rules.specs.Faults.{◌>>=◌}
 use Rattle.asl_rules.specs.Tests.{Tests}
-use Rattle.asl_rules.specs.Types as types
-use Rattle.asl_rules.specs.Writing.{Written}
-use Rattle.asl_rules.specs.Scopes.{Scope}
-use Rattle.asl_rules.specs.Exprs.{written}
-use Rattle.asl_rules.specs.Declarations.{labels, fields_written}
+use Rattle.asl_rules.specs.types.Types as types
+use Rattle.asl_rules.specs.types.Writing.{Written}
+use Rattle.asl_rules.specs.declarations.Scopes.{Scope}
+use Rattle.asl_rules.specs.expressions.Exprs.{written}
+use Rattle.asl_rules.specs.declarations.Declarations.{labels, fields_written}
 use Rattle.asl_types.specs.declared.ty.FieldType.{FieldType}
 use Rattle.asl_types.specs.declared.ty.FieldType.TheVariants as field
 use Rattle.asl_types.specs.View.{fields_of}
-use Rattle.asl_judge.specs.Definitions.{fields_after, labels_after}
+use Rattle.asl_judge.specs.private.Definitions.{fields_after, labels_after}
 
 -- ---- fields
 

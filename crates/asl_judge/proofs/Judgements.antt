@@ -2,11 +2,11 @@
 use Rattle.std.proofs.Common.{◌≡◌, ℕ, ◌<◌, Bool, true, List, [], length, map, Ok, ap, ◌∙◌}
 use Rattle.asl_syn.specs.declared.tree.Decl.{Decl}
 use Rattle.asl_rules.specs.Tests.{Tests}
-use Rattle.asl_rules.specs.Names.{names_rule, all_declared}
-use Rattle.asl_rules.specs.Declarations.{final}
-use Rattle.asl_names.specs.Graphs.{graph_of}
-use Rattle.asl_names.specs.Orders.{Graph, has_mark, IsOrder}
-use Rattle.asl_judge.specs.Passes.{Pass, after_all, before_all}
+use Rattle.asl_rules.specs.declarations.Names.{names_rule, all_declared}
+use Rattle.asl_rules.specs.declarations.Declarations.{final}
+use Rattle.asl_names.specs.private.Graphs.{graph_of}
+use Rattle.asl_names.specs.private.Orders.{Graph, has_mark, IsOrder}
+use Rattle.asl_judge.specs.private.Passes.{Pass, after_all, before_all}
 use Rattle.asl_rules.proofs.verdict.Distinct.{distinct_of}
 use Rattle.asl_judge.proofs.Serving.{pass_is}
 

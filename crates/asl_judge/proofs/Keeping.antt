@@ -1,9 +1,9 @@
 -- A pass after one more was judged, by its parts.
 use Rattle.std.proofs.Common.{◌≡◌, ℕ, Bool, List, set, ap, ◌∙◌}
 use Rattle.asl_syn.specs.declared.tree.Decl.{Decl}
-use Rattle.asl_rules.specs.Scopes.{Entry}
-use Rattle.asl_rules.specs.Declarations.{Judged, is_fine}
-use Rattle.asl_judge.specs.Passes.{Pass, names_after, with_judged}
+use Rattle.asl_rules.specs.declarations.Scopes.{Entry}
+use Rattle.asl_rules.specs.declarations.Declarations.{Judged, is_fine}
+use Rattle.asl_judge.specs.private.Passes.{Pass, names_after, with_judged}
 
 pass_with : List Entry → List Bool → List Judged → Pass
 pass_with names fine js = record { names = names; fine = fine; judged = js }

@@ -2,8 +2,8 @@
 use Rattle.std.proofs.Common.{◌≡◌, ℕ, Bool, true, false, cond, List, [], ◌∷◌, Some, map, refl}
 use Rattle.std.specs.Prelude.{if◌then◌else◌}
 use Rattle.std.specs.Str.{bytes_eq}
-use Rattle.asl_rules.specs.Names.{library, is_listed}
-use Rattle.asl_rules.specs.Scopes.{Subprogram, subprogram, standing_of, with_entries}
+use Rattle.asl_rules.specs.declarations.Names.{library, is_listed}
+use Rattle.asl_rules.specs.declarations.Scopes.{Subprogram, subprogram, standing_of, with_entries}
 use Rattle.asl_rules.proofs.basics.Tests.{none_some}
 
 pub library_is : with_entries (map subprogram library) [] ≡ map subprogram library

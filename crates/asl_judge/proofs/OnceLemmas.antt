@@ -3,13 +3,13 @@ use Rattle.std.proofs.Common.{◌≡◌, ℕ, suc, ◌+◌, Bool, true, false, �
 use Rattle.std.specs.Prelude.{option_map, if◌then◌else◌}
 use Rattle.std.specs.Str.{bytes_eq}
 use Rattle.asl_syn.specs.declared.tree.Formal.{Formal}
-use Rattle.asl_rules.specs.Declarations.{once}
-use Rattle.asl_rules.specs.Members.{has_name}
-use Rattle.asl_rules.specs.Scopes.{is_absent}
-use Rattle.asl_names.specs.Firsts.{Places, first_place, kept, placed}
-use Rattle.asl_rules.specs.Layouts.{place_of}
+use Rattle.asl_rules.specs.declarations.Declarations.{once}
+use Rattle.asl_rules.specs.values.Members.{has_name}
+use Rattle.asl_rules.specs.declarations.Scopes.{is_absent}
+use Rattle.asl_names.specs.private.Firsts.{Places, first_place, kept, placed}
+use Rattle.asl_rules.specs.declarations.Layouts.{place_of}
 use Rattle.asl_names.proofs.FirstLemmas.{place_is}
-use Rattle.asl_judge.specs.Definitions.{once_beside}
+use Rattle.asl_judge.specs.private.Definitions.{once_beside}
 
 absent_by : (b c : Bool) (o : Option ℕ) → not c ≡ is_absent o → not (if b then true else c) ≡ is_absent (if b then Some 0 else option_map suc o)
 absent_by true c o h = refl

@@ -2,10 +2,10 @@
 use Rattle.std.proofs.Common.{◌≡◌, ℕ, suc, length, ◌⊎◌, inl, inr, Bool, true, false, cond, List, [], ◌++◌, Option, Some, None, map, refl, sym, ap, ◌∙◌, subst}
 use Rattle.asl_syn.specs.declared.tree.Decl.{Decl}
 use Rattle.asl_rules.specs.Tests.{Tests}
-use Rattle.asl_rules.specs.Names.{library, is_listed, declared_by, all_declared}
-use Rattle.asl_rules.specs.Scopes.{Entry, Standing, Stored, Subprogram, TypeName, Label, subprogram, standing_of}
-use Rattle.asl_rules.specs.Uses.{uses, uses_one_of}
-use Rattle.asl_rules.specs.Declarations.{in_names, decl_rule, Judged, Waiting, Fine, Faulty, judged, is_fine, entries, all_fine, final}
+use Rattle.asl_rules.specs.declarations.Names.{library, is_listed, declared_by, all_declared}
+use Rattle.asl_rules.specs.declarations.Scopes.{Entry, Standing, Stored, Subprogram, TypeName, Label, subprogram, standing_of}
+use Rattle.asl_rules.specs.declarations.Uses.{uses, uses_one_of}
+use Rattle.asl_rules.specs.declarations.Declarations.{in_names, decl_rule, Judged, Waiting, Fine, Faulty, judged, is_fine, entries, all_fine, final}
 use Rattle.asl_rules.proofs.basics.Tests.{no}
 use Rattle.asl_rules.proofs.scopes.Lookups.{behind, before_is}
 use Rattle.asl_rules.proofs.verdict.Distinct.{In, Distinct, IsPlain, plain_in, plain_named, plain_new, only_subprograms, FoundAt, own_found}

@@ -4,11 +4,11 @@ use Rattle.asl_syn.specs.declared.code.Fault.{Fault}
 use Rattle.asl_syn.specs.declared.tree.Decl.{Decl}
 use Rattle.asl_rules.specs.Faults.{◌>>◌}
 use Rattle.asl_rules.specs.Tests.{Tests}
-use Rattle.asl_rules.specs.Names.{names_rule, all_declared}
-use Rattle.asl_rules.specs.Uses.{cycles_rule}
-use Rattle.asl_rules.specs.Declarations.{Judged, faulty, final, faults_rule}
-use Rattle.asl_names.specs.Cycles.{order_rule}
-use Rattle.asl_judge.specs.Passes.{first_fault}
+use Rattle.asl_rules.specs.declarations.Names.{names_rule, all_declared}
+use Rattle.asl_rules.specs.declarations.Uses.{cycles_rule}
+use Rattle.asl_rules.specs.declarations.Declarations.{Judged, faulty, final, faults_rule}
+use Rattle.asl_names.specs.private.Cycles.{order_rule}
+use Rattle.asl_judge.specs.private.Passes.{first_fault}
 use Rattle.asl_judge.specs.Tables.{declarations_rule}
 use Rattle.asl_rules.proofs.basics.Inversions.{then_ok}
 

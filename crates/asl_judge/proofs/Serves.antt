@@ -2,10 +2,10 @@
 use Rattle.std.proofs.Common.{◌≡◌, ℕ, inl, inr, Bool, true, false, not, ◌&&◌, ◌||◌, List, [], ◌∷◌, ◌++◌, Option, Some, None, map, refl, sym, ◌∙◌, ap, subst}
 use Rattle.asl_syn.specs.declared.tree.Decl.{Decl}
 use Rattle.asl_rules.specs.Tests.{Tests}
-use Rattle.asl_rules.specs.Names.{library, declared_by, all_declared}
-use Rattle.asl_rules.specs.Scopes.{Entry, Standing, subprogram, standing_of}
-use Rattle.asl_rules.specs.Uses.{Used, declares, any_declared}
-use Rattle.asl_rules.specs.Declarations.{Judged, Fine, is_fine, entries, fine_where_used, all_fine}
+use Rattle.asl_rules.specs.declarations.Names.{library, declared_by, all_declared}
+use Rattle.asl_rules.specs.declarations.Scopes.{Entry, Standing, subprogram, standing_of}
+use Rattle.asl_rules.specs.declarations.Uses.{Used, declares, any_declared}
+use Rattle.asl_rules.specs.declarations.Declarations.{Judged, Fine, is_fine, entries, fine_where_used, all_fine}
 use Rattle.asl_rules.proofs.basics.Tests.{no, both, and_true, or_first, or_second}
 use Rattle.asl_rules.proofs.verdict.Distinct.{In, Distinct, AllNamed, IsPlain, plain_in, plain_named, plain_new, behind_library, past_library, FoundAt, found_at, own_found}
 use Rattle.asl_rules.proofs.verdict.Settled.{declared_plain, same_plain}

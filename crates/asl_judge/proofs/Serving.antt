@@ -11,12 +11,12 @@ use Rattle.asl_syn.specs.declared.tree.Func.{Func}
 use Rattle.asl_syn.specs.declared.tree.Decl.{Decl}
 use Rattle.asl_syn.specs.declared.tree.Decl.TheVariants as dc
 use Rattle.asl_rules.specs.Tests.{Tests}
-use Rattle.asl_rules.specs.Names.{declared_as, labels_of, declared_by, all_declared, library}
-use Rattle.asl_rules.specs.Scopes.{Entry, Standing, Subprogram, subprogram, standing_of, with_entries}
-use Rattle.asl_rules.specs.Declarations.{in_names, decl_rule, Judged, Waiting, Fine, Faulty, judged, is_fine, entries_of, final}
-use Rattle.asl_names.specs.Graphs.{graph_of}
-use Rattle.asl_names.specs.Orders.{row, has_mark, all_marked, is_among, all_among, each_behind, IsOrder}
-use Rattle.asl_judge.specs.Passes.{Pass, judged_over, names_after, with_judged, after_at, after_all, before_all}
+use Rattle.asl_rules.specs.declarations.Names.{declared_as, labels_of, declared_by, all_declared, library}
+use Rattle.asl_rules.specs.declarations.Scopes.{Entry, Standing, Subprogram, subprogram, standing_of, with_entries}
+use Rattle.asl_rules.specs.declarations.Declarations.{in_names, decl_rule, Judged, Waiting, Fine, Faulty, judged, is_fine, entries_of, final}
+use Rattle.asl_names.specs.private.Graphs.{graph_of}
+use Rattle.asl_names.specs.private.Orders.{row, has_mark, all_marked, is_among, all_among, each_behind, IsOrder}
+use Rattle.asl_judge.specs.private.Passes.{Pass, judged_over, names_after, with_judged, after_at, after_all, before_all}
 use Rattle.asl_rules.proofs.basics.Tests.{no, some_same, both, either}
 use Rattle.asl_rules.proofs.basics.Tests.{none_some}
 use Rattle.asl_rules.proofs.scopes.EachOnce.{entries_same}

@@ -7,16 +7,16 @@ use Rattle.asl_syn.specs.declared.tree.TypeExpr.{TypeExpr}
 use Rattle.asl_syn.specs.declared.tree.StorageDecl.{StorageDecl}
 use Rattle.asl_rules.specs.Faults.{◌>>=◌, ◌>>◌, none_at, fitted}
 use Rattle.asl_rules.specs.Tests.{Tests}
-use Rattle.asl_rules.specs.Types.{Ty, misfit}
-use Rattle.asl_rules.specs.Closed.{closed}
-use Rattle.asl_rules.specs.Views.{viewed}
-use Rattle.asl_rules.specs.Scopes.{Scope}
-use Rattle.asl_rules.specs.Typing.{Typed}
-use Rattle.asl_rules.specs.Writing.{Written}
-use Rattle.asl_rules.specs.Exprs.{found, written, typed}
-use Rattle.asl_rules.specs.Barred.{barred}
-use Rattle.asl_rules.specs.Declarations.{Initial, with_type, known, storage_rule}
-use Rattle.asl_judge.specs.Definitions.{both_found}
+use Rattle.asl_rules.specs.types.Types.{Ty, misfit}
+use Rattle.asl_rules.specs.types.Closed.{closed}
+use Rattle.asl_rules.specs.types.Views.{viewed}
+use Rattle.asl_rules.specs.declarations.Scopes.{Scope}
+use Rattle.asl_rules.specs.expressions.Typing.{Typed}
+use Rattle.asl_rules.specs.types.Writing.{Written}
+use Rattle.asl_rules.specs.expressions.Exprs.{found, written, typed}
+use Rattle.asl_rules.specs.declarations.Barred.{barred}
+use Rattle.asl_rules.specs.declarations.Declarations.{Initial, with_type, known, storage_rule}
+use Rattle.asl_judge.specs.private.Definitions.{both_found}
 
 pub both_is : (t : Tests) (d : StorageDecl) (b : Bool) (ty : TypeExpr) (e : Expr) (G : Scope) → storage_rule t d b (Some ty) (Some e) G ≡ both_found t ty e G
 both_is t d b ty e G = by (none_at T04 (barred e G.names)) (written t ty true G) (typed t e G)

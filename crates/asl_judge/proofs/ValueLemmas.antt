@@ -4,20 +4,20 @@ use Rattle.std.specs.Prelude.{ℕ, Result}
 use Rattle.asl_syn.specs.declared.token.Span.{Span}
 use Rattle.asl_syn.specs.declared.code.Refused.{Refused}
 use Rattle.asl_syn.specs.declared.tree.Expr.{Expr}
-use Rattle.asl_rules.specs.ByPlace.{seen_as}
-use Rattle.asl_rules.specs.Closed.{closed}
-use Rattle.asl_rules.specs.Constants.{constant}
-use Rattle.asl_rules.specs.Declarations.{evaluated, known}
-use Rattle.asl_rules.specs.Scopes.{Scope}
+use Rattle.asl_rules.specs.private.ByPlace.{seen_as}
+use Rattle.asl_rules.specs.types.Closed.{closed}
+use Rattle.asl_rules.specs.declarations.Constants.{constant}
+use Rattle.asl_rules.specs.declarations.Declarations.{evaluated, known}
+use Rattle.asl_rules.specs.declarations.Scopes.{Scope}
 use Rattle.asl_rules.specs.Tests.{Tests}
-use Rattle.asl_rules.specs.Types.{Ty}
-use Rattle.asl_rules.specs.Values.{Value}
-use Rattle.asl_rules.specs.Views.{viewed}
-use Rattle.asl_rules.specs.Written.{first_value}
+use Rattle.asl_rules.specs.types.Types.{Ty}
+use Rattle.asl_rules.specs.values.Values.{Value}
+use Rattle.asl_rules.specs.types.Views.{viewed}
+use Rattle.asl_rules.specs.types.Written.{first_value}
 use Rattle.asl_rules.proofs.values.Constructs.{seen_is}
 use Rattle.asl_value.specs.declared.value.Value.{Value as Kept}
 use Rattle.asl_value.specs.View.{value_of}
-use Rattle.asl_types.specs.Answers.{Met}
+use Rattle.asl_types.specs.private.Answers.{Met}
 
 pub first_within : (t : Tests) (limit : ℕ) (r : Result Kept Refused) (at : Span) (T : Ty) → t.limit ≡ limit → Met value_of r (evaluated (first_value limit at (closed T))) → Met value_of r (evaluated (first_value t.limit at (closed T)))
 first_within t limit r at T h m = subst (λ n. Met value_of r (evaluated (first_value n at (closed T)))) (sym h) m

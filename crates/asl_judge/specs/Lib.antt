@@ -1,5 +1,2 @@
-pub mod Brought
-pub mod Definitions
-pub mod Passes
-pub mod Progresses
 pub mod Tables
+pub mod private

@@ -4,8 +4,8 @@ use Rattle.asl_syn.specs.declared.code.Fault.{Fault}
 use Rattle.asl_syn.specs.declared.tree.Decl.{Decl}
 use Rattle.asl_rules.specs.Faults.{◌>>◌}
 use Rattle.asl_rules.specs.Tests.{Tests}
-use Rattle.asl_rules.specs.Declarations.{faults_rule}
-use Rattle.asl_names.specs.Cycles.{order_rule}
+use Rattle.asl_rules.specs.declarations.Declarations.{faults_rule}
+use Rattle.asl_names.specs.private.Cycles.{order_rule}
 
 -- names, order, and then each declaration
 abbrev pub declarations_rule : Tests → List Decl → Result (Unit {0}) Fault

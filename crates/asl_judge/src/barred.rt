@@ -1,13 +1,13 @@
 //! What an initialiser outside bodies and a `recurselimit` may not hold: a call, and the name of a global `var`.
 
 ghost use Rattle.std.specs.Prelude.{◌≡◌, Some, IfOk};
-ghost use Rattle.asl_rules.specs.Barred as rules;
+ghost use Rattle.asl_rules.specs.declarations.Barred as rules;
 ghost use Rattle.asl_rules.specs.Faults.{none_at};
-ghost use Rattle.asl_rules.specs.UsedNames.{first_said};
-ghost use Rattle.asl_rules.specs.Scopes.{storage_of};
-ghost use Rattle.asl_types.specs.Answers.{Met, Agrees};
-ghost use Rattle.asl_types.specs.Standings.{storage_view};
-ghost use Rattle.asl_names.specs.UseView.{use_of, all_uses};
+ghost use Rattle.asl_rules.specs.declarations.UsedNames.{first_said};
+ghost use Rattle.asl_rules.specs.declarations.Scopes.{storage_of};
+ghost use Rattle.asl_types.specs.private.Answers.{Met, Agrees};
+ghost use Rattle.asl_types.specs.private.Standings.{storage_view};
+ghost use Rattle.asl_names.specs.private.UseView.{use_of, all_uses};
 
 use asl_names::{Use, uses_in_expr};
 use asl_rules::slot::Slot;

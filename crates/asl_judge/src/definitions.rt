@@ -1,15 +1,15 @@
 //! What declared types stand for.
 
 ghost use Rattle.std.specs.Prelude.{◌≡◌, [], IfOk, true};
-ghost use Rattle.asl_rules.specs.Declarations as rules;
+ghost use Rattle.asl_rules.specs.declarations.Declarations as rules;
 ghost use Rattle.asl_rules.specs.Faults.{need};
 ghost use Rattle.asl_rules.specs.Tests.{Tests};
-ghost use Rattle.asl_rules.specs.Types.{record_of, exception_of, enumeration_of};
-ghost use Rattle.asl_types.specs.Answers.{Met, Agrees};
-ghost use Rattle.asl_types.specs.ContextView.{scope_of};
+ghost use Rattle.asl_rules.specs.types.Types.{record_of, exception_of, enumeration_of};
+ghost use Rattle.asl_types.specs.private.Answers.{Met, Agrees};
+ghost use Rattle.asl_types.specs.private.ContextView.{scope_of};
 ghost use Rattle.asl_types.specs.Suits.{Suits};
 ghost use Rattle.asl_types.specs.View.{fields_of};
-ghost use Rattle.asl_judge.specs.Definitions.{fields_after, once_beside, labels_after};
+ghost use Rattle.asl_judge.specs.private.Definitions.{fields_after, once_beside, labels_after};
 
 use crate::written::written;
 use asl_names::firsts::Firsts;

@@ -1,16 +1,16 @@
 //! What a declaration brings into the scope of all bodies.
 
 ghost use Rattle.std.specs.Prelude.{◌≡◌, ℕ, List, IfOk, IfErr, OnOk};
-ghost use Rattle.asl_rules.specs.Declarations as rules;
-ghost use Rattle.asl_rules.specs.Scopes.{with_entries};
+ghost use Rattle.asl_rules.specs.declarations.Declarations as rules;
+ghost use Rattle.asl_rules.specs.declarations.Scopes.{with_entries};
 ghost use Rattle.asl_rules.specs.Tests.{Tests};
-ghost use Rattle.asl_rules.specs.Types as types;
-ghost use Rattle.asl_rules.specs.Values as values;
+ghost use Rattle.asl_rules.specs.types.Types as types;
+ghost use Rattle.asl_rules.specs.values.Values as values;
 ghost use Rattle.asl_value.specs.View.{value_of};
-ghost use Rattle.asl_types.specs.Answers.{Met};
-ghost use Rattle.asl_types.specs.ContextView.{scope_of};
+ghost use Rattle.asl_types.specs.private.Answers.{Met};
+ghost use Rattle.asl_types.specs.private.ContextView.{scope_of};
 ghost use Rattle.asl_types.specs.Suits.{Suits};
-ghost use Rattle.asl_judge.specs.Brought.{brought_of, labels_brought};
+ghost use Rattle.asl_judge.specs.private.Brought.{brought_of, labels_brought};
 
 use crate::definitions::{define, name_of};
 use crate::storage::{initial_storage, is_var};

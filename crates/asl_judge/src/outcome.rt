@@ -1,13 +1,13 @@
 //! What came of a declaration.
 
 ghost use Rattle.std.specs.Prelude.{◌≡◌, IfOk, IfErr, OnOk};
-ghost use Rattle.asl_rules.specs.Declarations as rules;
+ghost use Rattle.asl_rules.specs.declarations.Declarations as rules;
 ghost use Rattle.asl_rules.specs.Tests.{Tests};
-ghost use Rattle.asl_rules.specs.Scopes.{with_entries};
-ghost use Rattle.asl_types.specs.Answers.{Met};
-ghost use Rattle.asl_types.specs.ContextView.{scope_of};
+ghost use Rattle.asl_rules.specs.declarations.Scopes.{with_entries};
+ghost use Rattle.asl_types.specs.private.Answers.{Met};
+ghost use Rattle.asl_types.specs.private.ContextView.{scope_of};
 ghost use Rattle.asl_types.specs.Suits.{Suits};
-ghost use Rattle.asl_judge.specs.Passes.{judged_of, all_judged, first_fault};
+ghost use Rattle.asl_judge.specs.private.Passes.{judged_of, all_judged, first_fault};
 
 use crate::judging::{Brought, judge};
 use asl_syn::code::{Fault, Refused};

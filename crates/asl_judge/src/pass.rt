@@ -2,15 +2,15 @@
 
 ghost use Rattle.std.specs.Prelude.{◌≡◌, ℕ, ◌<◌, [], Ok, true, length, map, replicate, slice_set, IfOk, IfErr, OnOk};
 ghost use Rattle.std.specs.List.{slice_get};
-ghost use Rattle.asl_rules.specs.Names.{names_rule, all_declared};
-ghost use Rattle.asl_rules.specs.Declarations as rules;
+ghost use Rattle.asl_rules.specs.declarations.Names.{names_rule, all_declared};
+ghost use Rattle.asl_rules.specs.declarations.Declarations as rules;
 ghost use Rattle.asl_rules.specs.Tests.{Tests};
-ghost use Rattle.asl_types.specs.ContextView.{scope_of};
+ghost use Rattle.asl_types.specs.private.ContextView.{scope_of};
 ghost use Rattle.asl_types.specs.Suits.{Suits};
-ghost use Rattle.asl_names.specs.Graphs.{graph_of};
-ghost use Rattle.asl_names.specs.Orders.{row, has_mark, IsOrder};
-ghost use Rattle.asl_judge.specs.Passes.{judged_of, all_judged, judged_over, names_after, with_judged, after_at, after_all, before_all};
-ghost use Rattle.asl_judge.specs.Progresses.{progress_of};
+ghost use Rattle.asl_names.specs.private.Graphs.{graph_of};
+ghost use Rattle.asl_names.specs.private.Orders.{row, has_mark, IsOrder};
+ghost use Rattle.asl_judge.specs.private.Passes.{judged_of, all_judged, judged_over, names_after, with_judged, after_at, after_all, before_all};
+ghost use Rattle.asl_judge.specs.private.Progresses.{progress_of};
 
 use crate::outcome::{Outcome, judge_over};
 use crate::visible::library_names;

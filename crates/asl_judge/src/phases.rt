@@ -1,13 +1,13 @@
 //! The phases before signatures: names, order, and each declaration.
 
 ghost use Rattle.std.specs.Prelude.{◌≡◌, map, IfOk};
-ghost use Rattle.asl_rules.specs.Declarations as rules;
+ghost use Rattle.asl_rules.specs.declarations.Declarations as rules;
 ghost use Rattle.asl_rules.specs.Tests.{Tests};
-ghost use Rattle.asl_names.specs.Answers as answers;
-ghost use Rattle.asl_names.specs.Cycles.{order_rule};
-ghost use Rattle.asl_types.specs.Answers.{Met};
+ghost use Rattle.asl_names.specs.private.Answers as answers;
+ghost use Rattle.asl_names.specs.private.Cycles.{order_rule};
+ghost use Rattle.asl_types.specs.private.Answers.{Met};
 ghost use Rattle.asl_types.specs.Suits.{Suits};
-ghost use Rattle.asl_judge.specs.Passes.{all_judged, names_judged};
+ghost use Rattle.asl_judge.specs.private.Passes.{all_judged, names_judged};
 ghost use Rattle.asl_judge.specs.Tables.{declarations_rule};
 
 use crate::outcome::{Outcome, check_all};

@@ -1,16 +1,16 @@
 //! Global storage: its type and the value that it begins with.
 
 ghost use Rattle.std.specs.Prelude.{◌≡◌, Some, None, IfOk};
-ghost use Rattle.asl_rules.specs.Declarations as rules;
-ghost use Rattle.asl_rules.specs.Exprs as exprs;
+ghost use Rattle.asl_rules.specs.declarations.Declarations as rules;
+ghost use Rattle.asl_rules.specs.expressions.Exprs as exprs;
 ghost use Rattle.asl_rules.specs.Faults.{fitted};
 ghost use Rattle.asl_rules.specs.Tests.{Tests};
-ghost use Rattle.asl_rules.specs.Types as types;
-ghost use Rattle.asl_types.specs.Answers.{Met, Agrees};
-ghost use Rattle.asl_types.specs.ContextView.{scope_of};
+ghost use Rattle.asl_rules.specs.types.Types as types;
+ghost use Rattle.asl_types.specs.private.Answers.{Met, Agrees};
+ghost use Rattle.asl_types.specs.private.ContextView.{scope_of};
 ghost use Rattle.asl_types.specs.Suits.{Suits};
-ghost use Rattle.asl_judge.specs.Brought.{initial_of};
-ghost use Rattle.asl_judge.specs.Definitions.{type_fitted, both_found};
+ghost use Rattle.asl_judge.specs.private.Brought.{initial_of};
+ghost use Rattle.asl_judge.specs.private.Definitions.{type_fitted, both_found};
 
 use crate::barred::check_unbarred;
 use crate::values::{first_in, known, with_view};

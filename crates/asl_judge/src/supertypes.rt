@@ -1,13 +1,13 @@
 //! The names that declared types reach by `subtypes`. A declared type shares those that its supertype reaches.
 
 ghost use Rattle.std.specs.Prelude.{◌≡◌, ◌∷◌, [], IfOk};
-ghost use Rattle.asl_rules.specs.Declarations as rules;
+ghost use Rattle.asl_rules.specs.declarations.Declarations as rules;
 ghost use Rattle.asl_rules.specs.Faults.{need, found_or};
 ghost use Rattle.asl_rules.specs.Tests.{Tests};
-ghost use Rattle.asl_rules.specs.Types.{misfit, structure, named};
-ghost use Rattle.asl_rules.specs.Scopes.{type_of_name};
-ghost use Rattle.asl_types.specs.Answers.{Agrees};
-ghost use Rattle.asl_types.specs.ContextView.{scope_of};
+ghost use Rattle.asl_rules.specs.types.Types.{misfit, structure, named};
+ghost use Rattle.asl_rules.specs.declarations.Scopes.{type_of_name};
+ghost use Rattle.asl_types.specs.private.Answers.{Agrees};
+ghost use Rattle.asl_types.specs.private.ContextView.{scope_of};
 ghost use Rattle.asl_types.specs.Suits.{Suits};
 
 use crate::definitions::name_of;

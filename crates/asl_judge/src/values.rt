@@ -1,17 +1,17 @@
 //! The values that global storage begins with.
 
 ghost use Rattle.std.specs.Prelude.{◌≡◌, IfOk};
-ghost use Rattle.asl_rules.specs.Closed.{closed};
-ghost use Rattle.asl_rules.specs.Declarations as rules;
-ghost use Rattle.asl_rules.specs.Plans.{Pure};
+ghost use Rattle.asl_rules.specs.types.Closed.{closed};
+ghost use Rattle.asl_rules.specs.declarations.Declarations as rules;
+ghost use Rattle.asl_rules.specs.runs.Plans.{Pure};
 ghost use Rattle.asl_rules.specs.Tests.{Tests};
-ghost use Rattle.asl_rules.specs.Values as values;
-ghost use Rattle.asl_rules.specs.Views.{viewed};
-ghost use Rattle.asl_rules.specs.Written.{first_value};
-ghost use Rattle.asl_value.specs.Answers.{Is};
+ghost use Rattle.asl_rules.specs.values.Values as values;
+ghost use Rattle.asl_rules.specs.types.Views.{viewed};
+ghost use Rattle.asl_rules.specs.types.Written.{first_value};
+ghost use Rattle.asl_value.specs.private.Answers.{Is};
 ghost use Rattle.asl_value.specs.View.{value_of};
-ghost use Rattle.asl_types.specs.Answers.{Met};
-ghost use Rattle.asl_types.specs.ContextView.{scope_of};
+ghost use Rattle.asl_types.specs.private.Answers.{Met};
+ghost use Rattle.asl_types.specs.private.ContextView.{scope_of};
 ghost use Rattle.asl_types.specs.Suits.{Suits};
 
 use asl_const as constants;

@@ -1,9 +1,9 @@
 //! The names that are visible in all bodies.
 
 ghost use Rattle.std.specs.Prelude.{◌≡◌, map, IfOk, IfErr, OnOk};
-ghost use Rattle.asl_rules.specs.Names as rules;
-ghost use Rattle.asl_rules.specs.Scopes.{subprogram, with_entries};
-ghost use Rattle.asl_judge.specs.Passes.{all_judged, with_judgements};
+ghost use Rattle.asl_rules.specs.declarations.Names as rules;
+ghost use Rattle.asl_rules.specs.declarations.Scopes.{subprogram, with_entries};
+ghost use Rattle.asl_judge.specs.private.Passes.{all_judged, with_judgements};
 
 use crate::outcome::Outcome;
 use asl_names::LIBRARY;

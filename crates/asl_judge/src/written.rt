@@ -1,10 +1,10 @@
 //! The types that are written, and those of expressions.
 
 ghost use Rattle.asl_rules.specs.Tests.{Tests};
-ghost use Rattle.asl_types.specs.Answers.{Agrees};
-ghost use Rattle.asl_types.specs.ContextView.{scope_of};
+ghost use Rattle.asl_types.specs.private.Answers.{Agrees};
+ghost use Rattle.asl_types.specs.private.ContextView.{scope_of};
 ghost use Rattle.asl_types.specs.Suits.{Suits};
-ghost use Rattle.asl_judge.specs.Definitions as rules;
+ghost use Rattle.asl_judge.specs.private.Definitions as rules;
 
 use asl_expr::exprs::type_expr;
 use asl_syn::code::Refused;

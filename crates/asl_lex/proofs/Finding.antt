@@ -5,18 +5,18 @@ use Rattle.asl_quote.specs.declared.QuoteState.{QuoteState}
 use Rattle.asl_quote.specs.declared.QuoteState.TheVariants as at
 use Rattle.asl_quote.specs.Bytes.{is_mask}
 use Rattle.asl_quote.specs.Quotes.{quote_len, quote_end}
-use Rattle.asl_grammar.specs.lexemes.Scanning.{quoted_of, kind_of_quote, is_closed}
+use Rattle.asl_grammar.specs.private.Scanning.{quoted_of, kind_of_quote, is_closed}
 use Rattle.asl_quote.proofs.Quoting.{quote_run-end}
 use Rattle.asl_syn.specs.declared.token.TokenKind.{TokenKind}
 use Rattle.asl_syn.specs.declared.token.TokenKind.TheVariants as kinds
 use Rattle.asl_grammar.specs.lexemes.Gaps.{opens_block}
 use Rattle.asl_grammar.specs.lexemes.Lexemes.{Longest}
 use Rattle.asl_grammar.specs.lexemes.Bytes.{is_name_start, is_name_byte}
-use Rattle.asl_grammar.specs.lexemes.Scanning.{kind_of_name, lexeme_of}
+use Rattle.asl_grammar.specs.private.Scanning.{kind_of_name, lexeme_of}
 use Rattle.asl_grammar.proofs.lexemes.LongestLexeme.{FoundAt, lexeme_is}
 use Rattle.asl_lex.specs.declared.lexeme.Found.{Found}
 use Rattle.asl_lex.specs.declared.lexeme.Found.TheVariants as founds
-use Rattle.asl_lex.specs.Found.{Finds, FindsAt, IsLarge, IsSmall}
+use Rattle.asl_lex.specs.private.Found.{Finds, FindsAt, IsLarge, IsSmall}
 
 large : (bytes : List ℕ) (n m : ℕ) (k : TokenKind) → m ≡ n → IsLarge k → Longest bytes m k → FindsAt bytes (founds.TooLarge n)
 large bytes n m (kinds.Int v) e big h = (v, subst (λ z. Longest bytes z (kinds.Int v)) e h, big)

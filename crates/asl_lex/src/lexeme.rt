@@ -2,8 +2,8 @@
 
 ghost use Rattle.std.specs.Prelude.{◌≡◌, ◌+◌, ◌<◌, length, false, drop, take};
 ghost use Rattle.asl_grammar.specs.lexemes.Gaps.{opens_block};
-ghost use Rattle.asl_grammar.specs.lexemes.Scanning.{kind_of_name, opens_hex, number_of, longest_mark, lexeme_of, mark_at, quoted_of, kind_of_quote};
-ghost use Rattle.asl_lex.specs.Found.{Finds, FindsAt, IsSmall};
+ghost use Rattle.asl_grammar.specs.private.Scanning.{kind_of_name, opens_hex, number_of, longest_mark, lexeme_of, mark_at, quoted_of, kind_of_quote};
+ghost use Rattle.asl_lex.specs.private.Found.{Finds, FindsAt, IsSmall};
 
 use crate::bytes::{decimal_len, hex_len, is_hex_digit, is_name_start, name_len};
 use crate::number::{decimal_value, hex_value};
@@ -134,7 +134,7 @@ fn quoted_at(state: QuoteState, bytes: &[u8]) -> Found
 }
 
 /// The longest lexeme that the bytes begin with.
-#[tactic(auto, unfolding(asl_grammar::specs::lexemes::Scanning::lexeme_of), using(crate::proofs::Finding::finds_at))]
+#[tactic(auto, unfolding(asl_grammar::specs::private::Scanning::lexeme_of), using(crate::proofs::Finding::finds_at))]
 pub fn found_at(bytes: &[u8]) -> Found
     requires { opens_block bytes.now ≡ false }
     ensures { FindsAt bytes.now result }

@@ -6,7 +6,7 @@ ghost use Rattle.asl_grammar.specs.lexemes.Refusals.{refusal, is_reserved, too_m
 ghost use Rattle.asl_grammar.specs.lexemes.Tokens.{NoLexeme, Scan, scan_of, behind_gap, behind_lexeme, ReadGives, IsFaultAt, NextGives};
 ghost use Rattle.asl_syn.specs.declared.place.TheConstants as of_files;
 ghost use Rattle.asl_lex.specs.declared.lexer.TheConstants as of_lexemes;
-ghost use Rattle.asl_lex.specs.Found.{IsSmall};
+ghost use Rattle.asl_lex.specs.private.Found.{IsSmall};
 
 use crate::gap::{after_gap, opens_block};
 use crate::lexeme::{Found, after_first, found_at};

@@ -3,7 +3,7 @@ ghost use Rattle.std.specs.Prelude.{◌≡◌, ◌≤◌, IfOk, Some, map, optio
 ghost use Rattle.clap.specs.Words.{found_of, rows_of, subcommand_rows_of};
 ghost use Rattle.clap.specs.Walk.{one_of};
 ghost use Rattle.asl_line.specs.Line.{line_of, command_from, number_or, number_in, within_or, files_in, steps_in, words_in};
-ghost use Rattle.asl_line.specs.Model.{meaning_of, HasSize};
+ghost use Rattle.asl_line.specs.private.Model.{meaning_of, HasSize};
 
 use crate::commands::{MOST_SIZE, MOST_STEPS, asl_command};
 use clap::ArgMatches;

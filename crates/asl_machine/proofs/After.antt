@@ -2,7 +2,7 @@
 use Rattle.std.proofs.Common.{◌≡◌, ℕ, suc, Bool, true, false, List, [], ◌∷◌, length, map, refl, sym, ap, ◌∙◌, arith}
 use Rattle.std.proofs.Math.Logic.{∥∥₁_elim, ∥∥₁_map}
 use Rattle.std.specs.Coded.{Coded-set, coded_ℕ}
-use Rattle.asl_rules.specs.States.{Binding}
+use Rattle.asl_rules.specs.runs.States.{Binding}
 use Rattle.asl_rules.specs.Tests.{Tests}
 use Rattle.asl_tree.specs.Sealed.{Sealed}
 use Rattle.asl_types.specs.Suits.{Suits}

@@ -3,12 +3,12 @@ use Rattle.std.proofs.Common.{◌≡◌, ℕ, suc, Bool, true, false, cond, List
 use Rattle.std.proofs.Math.Logic.{∥∥₁_elim, ∥∥₁_map, ∥∥₁_prop}
 use Rattle.std.specs.Prelude.{Option}
 use Rattle.asl_rules.specs.declared.entry.Entry.{Entry as Asked}
-use Rattle.asl_rules.specs.Agreement.{GlobalsMatch}
-use Rattle.asl_rules.specs.States.{Binding}
+use Rattle.asl_rules.specs.private.Agreement.{GlobalsMatch}
+use Rattle.asl_rules.specs.runs.States.{Binding}
 use Rattle.asl_rules.specs.Tests.{Tests}
-use Rattle.asl_rules.specs.Values as rules
-use Rattle.asl_rules.proofs.soundness.Soundness.{soundness}
-use Rattle.asl_rules.proofs.soundness.SoundnessFacts.{facts_of}
+use Rattle.asl_rules.specs.values.Values as rules
+use Rattle.asl_laws.proofs.soundness.Soundness.{soundness}
+use Rattle.asl_laws.proofs.soundness.SoundnessFacts.{facts_of}
 use Rattle.asl_syn.specs.declared.tree.Decl.{Decl}
 use Rattle.asl_tree.specs.Sealed.{Sealed, Cell, cell_in, cells_in, cell_of, cells_of, IsMade, IsSealed}
 use Rattle.asl_tree.specs.declared.act.TreeFunc.{TreeFunc}

@@ -1,22 +1,22 @@
 -- The entry that was asked for can be called.
 use Rattle.std.proofs.Common.{◌≡◌, ℕ, List, [], Option, Some, Result, Ok, refl, ◌∙◌, subst}
 use Rattle.asl_bits.specs.declared.TheConstants.{WIDTH_LIMIT}
-use Rattle.asl_rules.specs.Declarations.{globals_rule}
-use Rattle.asl_rules.specs.Evaluation.{initial_globals}
-use Rattle.asl_rules.specs.Grown.{AreGrown}
-use Rattle.asl_rules.specs.Names.{names_rule, all_declared}
-use Rattle.asl_rules.specs.Programs.{funcs_of, signatures_rule, signatures, overloads_rule, bodies_rule, entry_rule, verdict, Accepted, accepted, environment}
-use Rattle.asl_rules.specs.Scopes.{Entry as Visible, Signature}
+use Rattle.asl_rules.specs.declarations.Declarations.{globals_rule}
+use Rattle.asl_rules.specs.runs.Evaluation.{initial_globals}
+use Rattle.asl_rules.specs.private.Grown.{AreGrown}
+use Rattle.asl_rules.specs.declarations.Names.{names_rule, all_declared}
+use Rattle.asl_rules.specs.declarations.Programs.{funcs_of, signatures_rule, signatures, overloads_rule, bodies_rule, entry_rule, verdict, Accepted, accepted, environment}
+use Rattle.asl_rules.specs.declarations.Scopes.{Entry as Visible, Signature}
 use Rattle.asl_rules.specs.Tests.{Tests}
-use Rattle.asl_rules.specs.Trees.{TreeFunc}
-use Rattle.asl_rules.specs.Uses.{cycles_rule}
+use Rattle.asl_rules.specs.runs.Trees.{TreeFunc}
+use Rattle.asl_rules.specs.declarations.Uses.{cycles_rule}
 use Rattle.asl_rules.specs.declared.entry.Entry.{Entry}
 use Rattle.asl_rules.specs.declared.entry.Entry.TheVariants as entry
 use Rattle.asl_rules.proofs.basics.Inversions.{ok_ok, bind_ok, then_ok}
 use Rattle.asl_rules.proofs.verdict.SomeTests.{some_tests}
-use Rattle.asl_rules.proofs.soundness.Soundness.{soundness}
-use Rattle.asl_rules.proofs.soundness.SoundnessEntry.{main_call}
-use Rattle.asl_rules.proofs.soundness.SoundnessFacts.{facts_of}
+use Rattle.asl_laws.proofs.soundness.Soundness.{soundness}
+use Rattle.asl_laws.proofs.soundness.SoundnessEntry.{main_call}
+use Rattle.asl_laws.proofs.soundness.SoundnessFacts.{facts_of}
 use Rattle.asl_syn.specs.declared.code.Fault.{Fault}
 use Rattle.asl_syn.specs.declared.tree.Decl.{Decl}
 use Rattle.asl_tree.specs.Sealed.{Sealed}

@@ -1,11 +1,11 @@
 -- A call over the memory of a machine: its values are moved into a run and back.
 use Rattle.std.proofs.Common.{◌≡◌, ℕ, ◌-◌, false, List, [], Option, Result, Ok, Err, refl, sym, ap, ◌∙◌, subst, map, length}
 use Rattle.std.specs.Prelude.{option_map, OnOk}
-use Rattle.asl_rules.specs.Machines.{GivenUp, most_open}
-use Rattle.asl_rules.specs.Plans.{Meter}
+use Rattle.asl_rules.specs.runs.Machines.{GivenUp, most_open}
+use Rattle.asl_rules.specs.runs.Plans.{Meter}
 use Rattle.asl_rules.specs.Tests.{Tests}
-use Rattle.asl_rules.specs.TypedMeaning.{tree_call}
-use Rattle.asl_rules.specs.Values as rules
+use Rattle.asl_rules.specs.private.TypedMeaning.{tree_call}
+use Rattle.asl_rules.specs.values.Values as rules
 use Rattle.asl_tree.specs.Sealed.{Sealed, IsSealed}
 use Rattle.asl_tree.specs.declared.act.TreeFunc.{TreeFunc}
 use Rattle.asl_tree.specs.declared.checked.Global.{Global}
@@ -17,7 +17,7 @@ use Rattle.asl_run.specs.declared.stop.Stop.{Stop}
 use Rattle.asl_run.specs.declared.stop.Stop.TheVariants as stop
 use Rattle.asl_run.specs.Meets.{Runs}
 use Rattle.asl_run.specs.View.{program_of}
-use Rattle.asl_machine.specs.Memory.{arranged, held, storage_of}
+use Rattle.asl_machine.specs.private.Memory.{arranged, held, storage_of}
 use Rattle.asl_machine.specs.Stages.{CallMeets, IfRan}
 use Rattle.asl_machine.specs.Storage.{given, taken}
 use Rattle.asl_machine.specs.Work.{initial_of, globals_with, Arranged, IsCallable, run_over, text_over}

@@ -1,15 +1,15 @@
 -- What a call says of the run that begins with no text: it ended so too, and the sink holds its text behind what it held before.
 use Rattle.std.proofs.Common.{◌≡◌, ℕ, zero, suc, ◌-◌, ◌<◌, Bool, false, List, [], ◌∷◌, ◌++◌, Option, Some, None, refl, sym, ap, ◌∙◌, subst, arith}
-use Rattle.asl_rules.specs.Told.{appended, open_after, Begins, Part}
-use Rattle.asl_rules.specs.Values as rules
-use Rattle.asl_rules.specs.States.{Binding, Core, resting}
-use Rattle.asl_rules.specs.Programs.{Environment}
-use Rattle.asl_rules.specs.Plans.{Meter, starting, Outcome, Done, Thrown, Halt, final, meanings}
-use Rattle.asl_rules.specs.Machines.{GivenUp, most_open, run_of, text_of_run}
-use Rattle.asl_rules.specs.Evaluation.{nodes, call_of}
+use Rattle.asl_rules.specs.runs.Told.{appended, open_after, Begins, Part}
+use Rattle.asl_rules.specs.values.Values as rules
+use Rattle.asl_rules.specs.runs.States.{Binding, Core, resting}
+use Rattle.asl_rules.specs.declarations.Programs.{Environment}
+use Rattle.asl_rules.specs.runs.Plans.{Meter, starting, Outcome, Done, Thrown, Halt, final, meanings}
+use Rattle.asl_rules.specs.runs.Machines.{GivenUp, most_open, run_of, text_of_run}
+use Rattle.asl_rules.specs.runs.Evaluation.{nodes, call_of}
 use Rattle.asl_rules.proofs.basics.Pieces.{appended_twice}
-use Rattle.asl_rules.proofs.runs.Budget.{run_after, grows, longer, same_text}
-use Rattle.asl_rules.proofs.runs.Shift.{OwnText, own_text, retold, retold_end, behind, behind_own, run_behind}
+use Rattle.asl_laws.proofs.runs.Budget.{run_after, grows, longer, same_text}
+use Rattle.asl_laws.proofs.runs.Shift.{OwnText, own_text, retold, retold_end, behind, behind_own, run_behind}
 use Rattle.asl_machine.specs.declared.stage.Stage.{Stage}
 use Rattle.asl_machine.specs.declared.stage.Stage.TheVariants as stage
 use Rattle.asl_machine.specs.Stages.{Ends, OnRefused}

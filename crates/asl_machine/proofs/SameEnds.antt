@@ -3,21 +3,21 @@
 use Rattle.std.proofs.Common.{◌≡◌, ℕ, ◌-◌, List, [], ◌∷◌, Option, Some, None, refl, sym, ap, ◌∙◌, subst}
 use Rattle.std.specs.Prelude.{slice_get}
 use Rattle.asl_syn.specs.declared.token.Span.{Span}
-use Rattle.asl_rules.specs.Cuts.{cuts, cuttings}
-use Rattle.asl_rules.specs.Erasure.{values_of, erased, erased_outcome}
-use Rattle.asl_rules.specs.Forms.{Keeps, returned, at_end}
-use Rattle.asl_rules.specs.Machines.{GivenUp, most_open, run_of, text_of_run}
-use Rattle.asl_rules.specs.Plans.{Meter, starting, Outcome, Done, Thrown, Halt, End, final, Pure, Good, Bad, Ret, lift}
-use Rattle.asl_rules.specs.Programs.{Environment}
-use Rattle.asl_rules.specs.Soundness.{tree_run}
-use Rattle.asl_rules.specs.StatementForms.{in_order}
-use Rattle.asl_rules.specs.States.{Binding, Core, resting}
-use Rattle.asl_rules.specs.Trees.{Tree, Act, TreeFunc}
-use Rattle.asl_rules.specs.TypedMeaning.{BareCore, TreeProgram, Runs, acts_of, entered, restored, formals_seen, result_seen, run_with, call_func, tree_call, tree_nodes, tree_meaning}
-use Rattle.asl_rules.specs.Values.{Value, Exit, Normal, Returned}
-use Rattle.asl_rules.proofs.runs.GlobalsKept.{SameBut, Kept, AtRest}
-use Rattle.asl_rules.proofs.runs.PlansKeep.{EndsIn}
-use Rattle.asl_rules.proofs.runs.Quiet.{Quiet, given_up, carried}
+use Rattle.asl_rules.specs.runs.Cuts.{cuts, cuttings}
+use Rattle.asl_rules.specs.private.Erasure.{values_of, erased, erased_outcome}
+use Rattle.asl_rules.specs.runs.Forms.{Keeps, returned, at_end}
+use Rattle.asl_rules.specs.runs.Machines.{GivenUp, most_open, run_of, text_of_run}
+use Rattle.asl_rules.specs.runs.Plans.{Meter, starting, Outcome, Done, Thrown, Halt, End, final, Pure, Good, Bad, Ret, lift}
+use Rattle.asl_rules.specs.declarations.Programs.{Environment}
+use Rattle.asl_laws.specs.Soundness.{tree_run}
+use Rattle.asl_rules.specs.runs.StatementForms.{in_order}
+use Rattle.asl_rules.specs.runs.States.{Binding, Core, resting}
+use Rattle.asl_rules.specs.runs.Trees.{Tree, Act, TreeFunc}
+use Rattle.asl_rules.specs.private.TypedMeaning.{BareCore, TreeProgram, Runs, acts_of, entered, restored, formals_seen, result_seen, run_with, call_func, tree_call, tree_nodes, tree_meaning}
+use Rattle.asl_rules.specs.values.Values.{Value, Exit, Normal, Returned}
+use Rattle.asl_laws.proofs.runs.GlobalsKept.{SameBut, Kept, AtRest}
+use Rattle.asl_laws.proofs.runs.PlansKeep.{EndsIn}
+use Rattle.asl_laws.proofs.runs.Quiet.{Quiet, given_up, carried}
 use Rattle.asl_machine.specs.Storage.{with_values}
 
 -- ---- a call from outside writes nothing before its first node

@@ -4,23 +4,23 @@ use Rattle.std.proofs.Common.{◌≡◌, ℕ, ◌-◌, false, List, [], ◌∷�
 use Rattle.std.proofs.Math.Logic.{∥∥₁_elim, ∥∥₁_map, ∥∥₁_prop}
 use Rattle.std.specs.Prelude.{option_map, reverse, slice_get, OnOk}
 use Rattle.asl_bits.specs.declared.TheConstants.{WIDTH_LIMIT}
-use Rattle.asl_rules.specs.Agreement.{types_in, no_atoms, GlobalsMatch}
-use Rattle.asl_rules.specs.Belonging.{Belong}
-use Rattle.asl_rules.specs.Cuts.{cuts, cuttings}
-use Rattle.asl_rules.specs.Erasure.{values_of, erased, erased_outcome}
-use Rattle.asl_rules.specs.Machines.{GivenUp, most_open, run_of, text_of_run}
-use Rattle.asl_rules.specs.Plans.{Meter, Mistake, starting, Outcome, Done, Thrown, Halt, Faulted, Stuck}
-use Rattle.asl_rules.specs.Programs.{Accepted, accepted, verdict, environment}
-use Rattle.asl_rules.specs.Soundness.{NotStuck, KeepsGlobals, IsCall, Soundness, SameMeaning, trees_of, tree_run}
-use Rattle.asl_rules.specs.States.{Binding, Core, resting}
+use Rattle.asl_rules.specs.private.Agreement.{types_in, no_atoms, GlobalsMatch}
+use Rattle.asl_rules.specs.private.Belonging.{Belong}
+use Rattle.asl_rules.specs.runs.Cuts.{cuts, cuttings}
+use Rattle.asl_rules.specs.private.Erasure.{values_of, erased, erased_outcome}
+use Rattle.asl_rules.specs.runs.Machines.{GivenUp, most_open, run_of, text_of_run}
+use Rattle.asl_rules.specs.runs.Plans.{Meter, Mistake, starting, Outcome, Done, Thrown, Halt, Faulted, Stuck}
+use Rattle.asl_rules.specs.declarations.Programs.{Accepted, accepted, verdict, environment}
+use Rattle.asl_laws.specs.Soundness.{NotStuck, KeepsGlobals, IsCall, Soundness, SameMeaning, trees_of, tree_run}
+use Rattle.asl_rules.specs.runs.States.{Binding, Core, resting}
 use Rattle.asl_rules.specs.Tests.{Tests}
-use Rattle.asl_rules.specs.TypedMeaning.{BareCore, TreeProgram, tree_call, tree_nodes, tree_meaning}
-use Rattle.asl_rules.specs.Values as rules
-use Rattle.asl_rules.proofs.runs.GlobalsKept.{SameBut, Kept, AtRest, run_of_keeps, run_of_rests}
+use Rattle.asl_rules.specs.private.TypedMeaning.{BareCore, TreeProgram, tree_call, tree_nodes, tree_meaning}
+use Rattle.asl_rules.specs.values.Values as rules
+use Rattle.asl_laws.proofs.runs.GlobalsKept.{SameBut, Kept, AtRest, run_of_keeps, run_of_rests}
 use Rattle.asl_rules.proofs.basics.Inversions.{ok_ok}
-use Rattle.asl_rules.proofs.runs.PlansKeep.{EndsIn}
-use Rattle.asl_rules.proofs.soundness.Soundness.{soundness}
-use Rattle.asl_rules.proofs.soundness.SoundnessFacts.{facts_of}
+use Rattle.asl_laws.proofs.runs.PlansKeep.{EndsIn}
+use Rattle.asl_laws.proofs.soundness.Soundness.{soundness}
+use Rattle.asl_laws.proofs.soundness.SoundnessFacts.{facts_of}
 use Rattle.asl_syn.specs.declared.token.Span.{Span}
 use Rattle.asl_tree.specs.Acts.{all_funcs}
 use Rattle.asl_tree.specs.Sealed.{Sealed, IsMade, IsSealed}

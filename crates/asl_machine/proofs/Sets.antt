@@ -5,13 +5,13 @@ use Rattle.asl_syn.specs.declared.code.DynCode.{DynCode}
 use Rattle.asl_syn.specs.contracts.code.DynCode as codes
 use Rattle.asl_syn.specs.declared.token.Span.{Span}
 use Rattle.asl_syn.specs.contracts.token.Span as spans
-use Rattle.asl_rules.specs.Values.{Value}
-use Rattle.asl_rules.specs.Plans.{Meter, Mistake, UnknownName, WrongKind, Immutable, EndReached, NothingCaught, UnknownType, CallBarred, End, Faulted, Stuck, Outcome, Done, Thrown, Halt}
-use Rattle.asl_rules.specs.TypedMeaning.{BareFrame, BareCore}
+use Rattle.asl_rules.specs.values.Values.{Value}
+use Rattle.asl_rules.specs.runs.Plans.{Meter, Mistake, UnknownName, WrongKind, Immutable, EndReached, NothingCaught, UnknownType, CallBarred, End, Faulted, Stuck, Outcome, Done, Thrown, Halt}
+use Rattle.asl_rules.specs.private.TypedMeaning.{BareFrame, BareCore}
 use Rattle.asl_value.specs.declared.value.Value as values
 use Rattle.asl_value.specs.contracts.value.Value as rows
 use Rattle.asl_value.specs.View.{value_of}
-use Rattle.asl_types.specs.EntryCodes.{value_back, value_again}
+use Rattle.asl_types.specs.private.EntryCodes.{value_back, value_again}
 use Rattle.asl_machine.specs.Storage.{Var}
 
 coded_value : Coded Value

@@ -1,4 +1,4 @@
 pub mod Storage
 pub mod Stages
 pub mod Work
-pub mod Memory
+pub mod private

@@ -3,10 +3,10 @@ use Rattle.std.specs.Prelude.{◌≡◌, ◌≤◌, ℕ, Bool, true, false, List
 use Rattle.asl_io.specs.Faults.{Rises}
 use Rattle.asl_syn.specs.declared.token.Span.{Span}
 use Rattle.asl_syn.specs.declared.code.DynCode.{DynCode}
-use Rattle.asl_rules.specs.States.{Binding, Core, resting}
-use Rattle.asl_rules.specs.Plans.{Meter, Faulted, Done, Thrown, Halt}
-use Rattle.asl_rules.specs.Plans as plans
-use Rattle.asl_rules.specs.Values as rules
+use Rattle.asl_rules.specs.runs.States.{Binding, Core, resting}
+use Rattle.asl_rules.specs.runs.Plans.{Meter, Faulted, Done, Thrown, Halt}
+use Rattle.asl_rules.specs.runs.Plans as plans
+use Rattle.asl_rules.specs.values.Values as rules
 use Rattle.asl_value.specs.View.{value_of}
 use Rattle.asl_value.specs.declared.value.Value.{Value}
 use Rattle.asl_run.specs.declared.stop.Stop.{Stop}

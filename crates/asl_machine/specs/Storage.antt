@@ -1,7 +1,7 @@
 -- The values of global storage, all in source order, and beside them the variables, which are the storage that can be assigned: the places that are marked.
 use Rattle.std.specs.Prelude.{ℕ, Bool, true, false, List, [], ◌∷◌, map, if◌then◌else◌}
-use Rattle.asl_rules.specs.States.{Binding}
-use Rattle.asl_rules.specs.Values as rules
+use Rattle.asl_rules.specs.runs.States.{Binding}
+use Rattle.asl_rules.specs.values.Values as rules
 use Rattle.asl_tree.specs.declared.checked.Global.{Global}
 use Rattle.asl_value.specs.declared.value.Value.{Value}
 use Rattle.asl_value.specs.View.{value_of}

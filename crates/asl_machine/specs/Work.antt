@@ -1,17 +1,17 @@
 -- What contracts see of a machine, and its calls. What is said of globals and of runs is said by right tests, whichever these are.
 use Rattle.std.specs.Prelude.{◌≡◌, ℕ, Bool, false, List, [], ◌∷◌, Option, Some, None, Ok, refl, length, map, slice_get, if◌then◌else◌}
 use Rattle.std.specs.Coded.{Coded, code_by, coded×, coded_ℕ, coded_bool, coded_list}
-use Rattle.asl_rules.specs.Agreement.{types_in, no_atoms, GlobalsMatch}
-use Rattle.asl_rules.specs.Belonging.{Belong}
-use Rattle.asl_rules.specs.Evaluation.{initial_globals}
-use Rattle.asl_rules.specs.Machines.{run_of, text_of_run}
-use Rattle.asl_rules.specs.Plans.{starting}
-use Rattle.asl_rules.specs.Plans as plans
-use Rattle.asl_rules.specs.Programs.{Accepted, verdict, environment}
-use Rattle.asl_rules.specs.Scopes.{Signature}
-use Rattle.asl_rules.specs.States.{Binding, Core}
+use Rattle.asl_rules.specs.private.Agreement.{types_in, no_atoms, GlobalsMatch}
+use Rattle.asl_rules.specs.private.Belonging.{Belong}
+use Rattle.asl_rules.specs.runs.Evaluation.{initial_globals}
+use Rattle.asl_rules.specs.runs.Machines.{run_of, text_of_run}
+use Rattle.asl_rules.specs.runs.Plans.{starting}
+use Rattle.asl_rules.specs.runs.Plans as plans
+use Rattle.asl_rules.specs.declarations.Programs.{Accepted, verdict, environment}
+use Rattle.asl_rules.specs.declarations.Scopes.{Signature}
+use Rattle.asl_rules.specs.runs.States.{Binding, Core}
 use Rattle.asl_rules.specs.Tests.{Tests}
-use Rattle.asl_rules.specs.Values as rules
+use Rattle.asl_rules.specs.values.Values as rules
 use Rattle.asl_tree.specs.Sealed.{Sealed, sealed_code}
 use Rattle.asl_types.specs.Suits.{Suits}
 use Rattle.asl_value.specs.View.{value_of}

@@ -1,7 +1,7 @@
 //! A machine that runs a checked program.
 ghost use Rattle.std.specs.Prelude.{◌≡◌, ◌-◌, OnErr, IfOk, map};
 ghost use Rattle.std.specs.Option.{option_copied};
-ghost use Rattle.asl_rules.specs.Machines.{GivenUp};
+ghost use Rattle.asl_rules.specs.runs.Machines.{GivenUp};
 ghost use Rattle.asl_rules.specs.Tests.{Tests};
 ghost use Rattle.asl_types.specs.Suits.{Suits};
 ghost use Rattle.asl_value.specs.View.{value_of};
@@ -27,7 +27,7 @@ pub struct Machine {
 }
 
 impl Model for Machine {
-    ghost use Rattle.asl_machine.specs.Memory.{arranged, held, storage_of};
+    ghost use Rattle.asl_machine.specs.private.Memory.{arranged, held, storage_of};
     ghost use Rattle.asl_machine.specs.Stages.{OnReady, OnRun};
     ghost use Rattle.asl_machine.specs.Work.{Work, work_code};
 

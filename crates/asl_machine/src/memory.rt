@@ -1,6 +1,6 @@
 //! The values of global storage between two calls and in one, and the steps that are left.
 ghost use Rattle.std.specs.Prelude.{◌≡◌, false, List, [], ◌∷◌, ◌++◌, take, drop, IfOk, OnOk};
-ghost use Rattle.asl_machine.specs.Memory.{arranged, held, storage_of};
+ghost use Rattle.asl_machine.specs.private.Memory.{arranged, held, storage_of};
 ghost use Rattle.asl_machine.specs.Storage.{given, given_one, taken, taken_one, marks_of, values_in, vars_from};
 ghost use Rattle.asl_machine.specs.Work.{IsInitial};
 

@@ -10,11 +10,11 @@ use Rattle.std.proofs.lemmas.List.{append-nil}
 use Rattle.asl_syn.specs.declared.tree.Decl.{Decl}
 use Rattle.asl_syn.specs.declared.tree.Decl.TheVariants as dc
 use Rattle.asl_syn.specs.declared.tree.Ident.{Ident}
-use Rattle.asl_rules.specs.Names.{Declared, declared_as, declared_by, all_declared}
-use Rattle.asl_rules.specs.Uses.{Used, uses, is_declared, declares, any_declared, uses_one_of, leads_by, leads_to, reaches_itself}
-use Rattle.asl_names.specs.Firsts.{Places, first_place, kept_by, kept}
-use Rattle.asl_names.specs.Graphs.{all_kept, plain_names, named_at, all_places, declarers, with_used, added, graph_of}
-use Rattle.asl_names.specs.Orders.{Graph, row, has_mark, all_marked, is_among, all_among, each_behind, IsStuck, is_way, HasWay}
+use Rattle.asl_rules.specs.declarations.Names.{Declared, declared_as, declared_by, all_declared}
+use Rattle.asl_rules.specs.declarations.Uses.{Used, uses, is_declared, declares, any_declared, uses_one_of, leads_by, leads_to, reaches_itself}
+use Rattle.asl_names.specs.private.Firsts.{Places, first_place, kept_by, kept}
+use Rattle.asl_names.specs.private.Graphs.{all_kept, plain_names, named_at, all_places, declarers, with_used, added, graph_of}
+use Rattle.asl_names.specs.private.Orders.{Graph, row, has_mark, all_marked, is_among, all_among, each_behind, IsStuck, is_way, HasWay}
 use Rattle.asl_rules.proofs.basics.Tests.{no, some_none, some_same, both, either, or_first, or_second, and_true, same_name, name_is}
 use Rattle.asl_rules.proofs.basics.Tests.{none_some}
 use Rattle.asl_rules.proofs.verdict.Distinct.{In, Distinct, Plain, NotIn, front_not_in, rest_distinct, plain_in}

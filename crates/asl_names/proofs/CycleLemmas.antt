@@ -6,11 +6,11 @@ use Rattle.asl_syn.specs.declared.tree.Decl.{Decl}
 use Rattle.asl_syn.specs.declared.tree.Decl.TheVariants as dc
 use Rattle.asl_syn.specs.declared.tree.Func.{Func}
 use Rattle.asl_rules.specs.Faults.{◌>>◌, need, fault_of}
-use Rattle.asl_rules.specs.Names.{names_rule, all_declared}
-use Rattle.asl_rules.specs.Uses.{leads_by, leads_to, reaches_itself, cycles_rule}
-use Rattle.asl_names.specs.Graphs.{graph_of}
-use Rattle.asl_names.specs.Orders.{has_mark, IsOrder, IsStuck, HasWay, HasEdges}
-use Rattle.asl_names.specs.Cycles.{name_of, NoneBack}
+use Rattle.asl_rules.specs.declarations.Names.{names_rule, all_declared}
+use Rattle.asl_rules.specs.declarations.Uses.{leads_by, leads_to, reaches_itself, cycles_rule}
+use Rattle.asl_names.specs.private.Graphs.{graph_of}
+use Rattle.asl_names.specs.private.Orders.{has_mark, IsOrder, IsStuck, HasWay, HasEdges}
+use Rattle.asl_names.specs.private.Cycles.{name_of, NoneBack}
 use Rattle.asl_rules.proofs.basics.Tests.{no, some_same}
 use Rattle.asl_rules.proofs.verdict.Distinct.{distinct_of}
 use Rattle.asl_names.proofs.Ways.{below_or}

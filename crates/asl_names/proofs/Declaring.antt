@@ -1,7 +1,7 @@
 -- What the table of names takes.
 use Rattle.std.proofs.Common.{◌≡◌, [], ◌∷◌, ◌++◌, refl}
-use Rattle.asl_names.specs.Firsts.{Places, kept}
-use Rattle.asl_names.specs.Graphs.{all_kept}
+use Rattle.asl_names.specs.private.Firsts.{Places, kept}
+use Rattle.asl_names.specs.private.Graphs.{all_kept}
 
 pub kept_both : (ps qs table : Places) → all_kept (ps ++ qs) table ≡ all_kept qs (all_kept ps table)
 kept_both [] qs table = refl

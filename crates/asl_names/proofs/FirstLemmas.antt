@@ -7,8 +7,8 @@ use Rattle.std.specs.Map.{lookup}
 use Rattle.indexmap.specs.IndexMap.{IndexMap, insert_entry}
 use Rattle.indexmap.proofs.CallerLemmas.{insert_entry-new}
 use Rattle.asl_rules.proofs.basics.Tests.{name_is, same_name as same_name_is, some_none}
-use Rattle.asl_rules.specs.Layouts.{place_of}
-use Rattle.asl_names.specs.Firsts.{Places, named, first_place, kept_by, kept, placed}
+use Rattle.asl_rules.specs.declarations.Layouts.{place_of}
+use Rattle.asl_names.specs.private.Firsts.{Places, named, first_place, kept_by, kept, placed}
 
 abbrev pub same_name : Bor (List ℕ) → Bor (List ℕ) → Bool
 same_name x y = bytes_eq x.now y.now

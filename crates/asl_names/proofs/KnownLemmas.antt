@@ -5,7 +5,7 @@ use Rattle.std.specs.Str.{bytes_eq}
 use Rattle.std.specs.Map.{lookup}
 use Rattle.indexmap.specs.IndexMap.{IndexMap, insert_entry}
 use Rattle.indexmap.proofs.CallerLemmas.{insert_entry-new}
-use Rattle.asl_names.specs.Known.{Known, known, with_first, with_name}
+use Rattle.asl_names.specs.private.Known.{Known, known, with_first, with_name}
 
 abbrev pub named : List (Bor (List ℕ) × Bool) → Known
 named es = map (λ e. (e.0.now, e.1)) es

@@ -3,7 +3,7 @@ use Rattle.std.proofs.Common.{◌≡◌, ◌≢◌, ℕ, zero, suc, ◌+◌, ◌
 use Rattle.std.proofs.lemmas.List.{append-nil, length-set}
 use Rattle.std.proofs.lemmas.Bool.{eq-eqb, eqb-true, eqb-false}
 use Rattle.std.specs.Prelude.{◌==◌}
-use Rattle.asl_names.specs.Orders.{Graph, row, has_mark, all_marked, unmarked, is_among, IsListed, room, all_among, each_behind, IsOrder}
+use Rattle.asl_names.specs.private.Orders.{Graph, row, has_mark, all_marked, unmarked, is_among, IsListed, room, all_among, each_behind, IsOrder}
 use Rattle.asl_rules.proofs.basics.Tests.{no, both, and_true, or_first, or_second}
 
 -- ---- one more mark

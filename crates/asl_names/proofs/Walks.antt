@@ -9,8 +9,8 @@ use Rattle.asl_syn.specs.declared.code.StaticCode.TheVariants.{T01}
 use Rattle.asl_syn.specs.declared.token.Span.{Span}
 use Rattle.asl_syn.specs.declared.tree.Decl.{Decl}
 use Rattle.asl_rules.specs.Faults.{◌>>=◌, ◌>>◌, need}
-use Rattle.asl_rules.specs.Names.{Declared, declared_as, library, is_listed, may_share, standing, is_new, names_rule, declared_by, all_declared}
-use Rattle.asl_names.specs.Known.{Known, known, with_first, with_name, is_free, after_name, after_names, after_decls}
+use Rattle.asl_rules.specs.declarations.Names.{Declared, declared_as, library, is_listed, may_share, standing, is_new, names_rule, declared_by, all_declared}
+use Rattle.asl_names.specs.private.Known.{Known, known, with_first, with_name, is_free, after_name, after_names, after_decls}
 
 -- the first of two
 or_then : Option Bool → Option Bool → Option Bool

@@ -3,7 +3,7 @@ use Rattle.std.proofs.Common.{◌≡◌, ℕ, zero, suc, ◌+◌, ◌<◌, ◌�
 use Rattle.std.specs.Prelude.{◌==◌}
 use Rattle.std.proofs.lemmas.Bool.{eq-eqb, eqb-true, eqb-false}
 use Rattle.std.proofs.lemmas.List.{append-nil}
-use Rattle.asl_names.specs.Orders.{Graph, row, has_mark, all_marked, is_among, IsListed, is_way, HasWay, MarkedMore, Goes, FoundOne, MarkedTo, ClosedTo, Reached}
+use Rattle.asl_names.specs.private.Orders.{Graph, row, has_mark, all_marked, is_among, IsListed, is_way, HasWay, MarkedMore, Goes, FoundOne, MarkedTo, ClosedTo, Reached}
 use Rattle.asl_rules.proofs.basics.Tests.{no, both, and_true, either, or_first, or_second}
 
 pub among_marked : (marks : List Bool) (ns : List ℕ) (k : ℕ) → all_marked marks ns ≡ true → is_among k ns ≡ true → has_mark marks k ≡ true

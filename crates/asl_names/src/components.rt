@@ -2,8 +2,8 @@
 //! number.
 
 ghost use Rattle.std.specs.Prelude.{◌≡◌, true, IfOk};
-ghost use Rattle.asl_names.specs.Components as numbers;
-ghost use Rattle.asl_names.specs.Orders as rules;
+ghost use Rattle.asl_names.specs.private.Components as numbers;
+ghost use Rattle.asl_names.specs.private.Orders as rules;
 
 use crate::order::row;
 use sqlite_items::Items;

@@ -3,13 +3,13 @@
 ghost use Rattle.std.specs.Prelude.{◌≡◌, ℕ, ◌<◌, [], true, false, length, Ok, Some, IfOk};
 ghost use Rattle.std.specs.List.{slice_get};
 ghost use Rattle.asl_syn.specs.declared.tree.Decl.{Decl as Declaration};
-ghost use Rattle.asl_rules.specs.Names.{names_rule, all_declared};
-ghost use Rattle.asl_rules.specs.Uses as rules;
-ghost use Rattle.asl_names.specs.Answers.{Met};
-ghost use Rattle.asl_names.specs.Graphs.{graph_of};
-ghost use Rattle.asl_names.specs.Orders.{has_mark, IsOrder, HasEdges, HasWay};
-ghost use Rattle.asl_names.specs.Components.{IsFalling};
-ghost use Rattle.asl_names.specs.Cycles.{name_of, NoneBack};
+ghost use Rattle.asl_rules.specs.declarations.Names.{names_rule, all_declared};
+ghost use Rattle.asl_rules.specs.declarations.Uses as rules;
+ghost use Rattle.asl_names.specs.private.Answers.{Met};
+ghost use Rattle.asl_names.specs.private.Graphs.{graph_of};
+ghost use Rattle.asl_names.specs.private.Orders.{has_mark, IsOrder, HasEdges, HasWay};
+ghost use Rattle.asl_names.specs.private.Components.{IsFalling};
+ghost use Rattle.asl_names.specs.private.Cycles.{name_of, NoneBack};
 
 use crate::answer::fault;
 use crate::components::{Levels, levels_of};

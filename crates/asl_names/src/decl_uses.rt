@@ -1,8 +1,8 @@
 //! The names that declarations use, in source order.
 
 ghost use Rattle.std.specs.Prelude.{◌≡◌, ◌++◌, IfOk, OnOk};
-ghost use Rattle.asl_rules.specs.UsedNames as rules;
-ghost use Rattle.asl_names.specs.UseView.{all_uses};
+ghost use Rattle.asl_rules.specs.declarations.UsedNames as rules;
+ghost use Rattle.asl_names.specs.private.UseView.{all_uses};
 
 use crate::expr_uses::{add, add_expr, add_type};
 use crate::name_use::Use;

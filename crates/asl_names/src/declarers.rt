@@ -1,7 +1,7 @@
 //! Where each name is declared.
 
 ghost use Rattle.std.specs.Prelude.{◌≡◌, OnOk, IfOk};
-ghost use Rattle.asl_names.specs.Graphs as graphs;
+ghost use Rattle.asl_names.specs.private.Graphs as graphs;
 
 use crate::firsts::Firsts;
 use asl_syn::tree::{Decl, Ident, TypeDef};

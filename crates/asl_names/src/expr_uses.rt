@@ -1,9 +1,9 @@
 //! The names that expressions, written types, patterns and slices use, in source order.
 
 ghost use Rattle.std.specs.Prelude.{◌≡◌, ◌∷◌, ◌++◌, [], map, IfOk, OnOk};
-ghost use Rattle.asl_rules.specs.UsedNames as rules;
-ghost use Rattle.asl_rules.specs.UsedNames.{bitfield_uses, part_uses, given_uses};
-ghost use Rattle.asl_names.specs.UseView.{use_of, all_uses};
+ghost use Rattle.asl_rules.specs.declarations.UsedNames as rules;
+ghost use Rattle.asl_rules.specs.declarations.UsedNames.{bitfield_uses, part_uses, given_uses};
+ghost use Rattle.asl_names.specs.private.UseView.{use_of, all_uses};
 
 use crate::name_use::Use;
 use asl_syn::tree::{Bitfield, ConstraintPart, Expr, FieldValue, Pattern, Slice, TypeExpr};

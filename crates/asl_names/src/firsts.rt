@@ -1,7 +1,7 @@
 //! Names with the places at which they stand first.
 
 ghost use Rattle.std.specs.Prelude.{◌≡◌, [], OnOk};
-ghost use Rattle.asl_names.specs.Firsts.{first_place, kept};
+ghost use Rattle.asl_names.specs.private.Firsts.{first_place, kept};
 
 use indexmap::IndexMap;
 use std::alloc::{AllocError, Global};
@@ -21,7 +21,7 @@ impl<'a> Drop for Firsts<'a> {
 }
 
 impl<'a> Model for Firsts<'a> {
-    ghost use Rattle.asl_names.specs.Firsts.{Places, named};
+    ghost use Rattle.asl_names.specs.private.Firsts.{Places, named};
 
     ghost Value = { Places };
 

@@ -1,11 +1,11 @@
 //! Which declarations use which.
 
 ghost use Rattle.std.specs.Prelude.{◌≡◌, [], map, IfOk, OnOk};
-ghost use Rattle.asl_rules.specs.UsedNames.{name_of};
-ghost use Rattle.asl_rules.specs.Uses as uses;
-ghost use Rattle.asl_names.specs.Firsts.{first_place};
-ghost use Rattle.asl_names.specs.Graphs as graphs;
-ghost use Rattle.asl_names.specs.UseView.{use_of, all_uses};
+ghost use Rattle.asl_rules.specs.declarations.UsedNames.{name_of};
+ghost use Rattle.asl_rules.specs.declarations.Uses as uses;
+ghost use Rattle.asl_names.specs.private.Firsts.{first_place};
+ghost use Rattle.asl_names.specs.private.Graphs as graphs;
+ghost use Rattle.asl_names.specs.private.UseView.{use_of, all_uses};
 
 use crate::decl_uses::uses_in_decl;
 use crate::declarers::declared_places;

@@ -1,7 +1,7 @@
 //! The subprograms of the library.
 
 ghost use Rattle.std.specs.Prelude.{◌≡◌, map};
-ghost use Rattle.asl_rules.specs.Names as rules;
+ghost use Rattle.asl_rules.specs.declarations.Names as rules;
 
 /// The names of the subprograms of the library, in the order of the rules.
 pub const LIBRARY: [&str; 12] = [

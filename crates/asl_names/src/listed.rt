@@ -1,7 +1,7 @@
 //! Nodes of a graph, each listed once.
 
 ghost use Rattle.std.specs.Prelude.{◌≡◌, ◌∷◌, ◌++◌, ◌<◌, [], true, false, length, replicate, slice_set, IfOk, OnOk};
-ghost use Rattle.asl_names.specs.Orders.{has_mark, all_marked};
+ghost use Rattle.asl_names.specs.private.Orders.{has_mark, all_marked};
 
 use sqlite_items::Items;
 use std::alloc::{AllocError, Global};

@@ -1,8 +1,8 @@
 //! Uses of names.
 
 ghost use Rattle.std.specs.Prelude.{◌≡◌};
-ghost use Rattle.asl_rules.specs.UsedNames as rules;
-ghost use Rattle.asl_names.specs.UseView.{use_of};
+ghost use Rattle.asl_rules.specs.declarations.UsedNames as rules;
+ghost use Rattle.asl_names.specs.private.UseView.{use_of};
 
 use asl_syn::token::Span;
 

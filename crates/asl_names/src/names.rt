@@ -2,9 +2,9 @@
 
 ghost use Rattle.std.specs.Prelude.{◌≡◌, [], false, map, OnOk, IfErr};
 ghost use Rattle.asl_syn.specs.declared.tree.Decl.TheVariants as decl;
-ghost use Rattle.asl_rules.specs.Names as rules;
-ghost use Rattle.asl_names.specs.Answers.{Met, Agrees};
-ghost use Rattle.asl_names.specs.Known.{known, with_name, after_name, after_names, after_decls};
+ghost use Rattle.asl_rules.specs.declarations.Names as rules;
+ghost use Rattle.asl_names.specs.private.Answers.{Met, Agrees};
+ghost use Rattle.asl_names.specs.private.Known.{known, with_name, after_name, after_names, after_decls};
 
 use crate::answer::fault;
 use crate::library;
@@ -22,7 +22,7 @@ pub struct Names<'a> {
 
 impl<'a> Model for Names<'a> {
     ghost use Rattle.std.specs.Prelude.{map};
-    ghost use Rattle.asl_names.specs.Known.{Known};
+    ghost use Rattle.asl_names.specs.private.Known.{Known};
 
     ghost Value = { Known };
 

@@ -1,7 +1,7 @@
 //! An order of the nodes of a graph, in which each stands behind all that it uses.
 
 ghost use Rattle.std.specs.Prelude.{◌≡◌, ◌+◌, ◌<◌, ◌≤◌, [], false, true, length, IfOk, OnOk, MatchOption};
-ghost use Rattle.asl_names.specs.Orders.{row, has_mark, all_marked, unmarked, room, IsOrder, IsStuck};
+ghost use Rattle.asl_names.specs.private.Orders.{row, has_mark, all_marked, unmarked, room, IsOrder, IsStuck};
 
 use crate::listed::{Listed, all_marked, has_mark};
 use sqlite_items::Items;

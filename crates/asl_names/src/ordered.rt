@@ -1,10 +1,10 @@
 //! Declarations in an order, in which each stands behind all that it uses.
 
 ghost use Rattle.std.specs.Prelude.{◌≡◌, ℕ, ◌<◌, true, length, IfOk};
-ghost use Rattle.asl_names.specs.Answers.{Met};
-ghost use Rattle.asl_names.specs.Cycles.{order_rule};
-ghost use Rattle.asl_names.specs.Graphs.{graph_of};
-ghost use Rattle.asl_names.specs.Orders.{has_mark, IsOrder};
+ghost use Rattle.asl_names.specs.private.Answers.{Met};
+ghost use Rattle.asl_names.specs.private.Cycles.{order_rule};
+ghost use Rattle.asl_names.specs.private.Graphs.{graph_of};
+ghost use Rattle.asl_names.specs.private.Orders.{has_mark, IsOrder};
 
 use crate::cycles::order_decls;
 use crate::graph::uses_of;

@@ -1,7 +1,7 @@
 //! Nodes that there is a way to.
 
 ghost use Rattle.std.specs.Prelude.{◌≡◌, ℕ, ◌<◌, [], true, false, length, IfOk, OnOk};
-ghost use Rattle.asl_names.specs.Orders.{row, has_mark, all_marked, room, IsListed, HasWay, HasEdges, Below, MarkedMore, Goes, FoundOne};
+ghost use Rattle.asl_names.specs.private.Orders.{row, has_mark, all_marked, room, IsListed, HasWay, HasEdges, Below, MarkedMore, Goes, FoundOne};
 
 use crate::listed::{Listed, has_mark};
 use crate::order::row;

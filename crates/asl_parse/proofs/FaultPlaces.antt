@@ -19,7 +19,7 @@ use Rattle.asl_grammar.specs.grammar.Faults.{max_levels, lexemes, Parses, Syntax
 use Rattle.asl_grammar.proofs.grammar.Symbols.{parsed_tree}
 use Rattle.asl_grammar.proofs.grammar.Checked.{each, covered}
 use Rattle.asl_grammar.proofs.grammar.Placed.{level_says, not_allowed_at, too_many_levels_at}
-use Rattle.asl_parse.specs.Outcomes.{IsOutcome}
+use Rattle.asl_parse.specs.private.Outcomes.{IsOutcome}
 
 drop_map : {A B : Type 0} (f : A → B) (n : ℕ) (xs : List A) → drop n (map f xs) ≡ map f (drop n xs)
 drop_map f zero xs = refl

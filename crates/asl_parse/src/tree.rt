@@ -7,7 +7,7 @@ ghost use Rattle.asl_grammar.specs.declared.error.ParseError.TheVariants.{OutOfM
 ghost use Rattle.asl_grammar.specs.grammar.Faults as faults;
 ghost use Rattle.asl_grammar.specs.grammar.Faults.{max_levels, lexemes, Parses, SyntaxFault};
 ghost use Rattle.asl_grammar.specs.grammar.Language.{outcome};
-ghost use Rattle.asl_parse.specs.Outcomes.{IsOutcome};
+ghost use Rattle.asl_parse.specs.private.Outcomes.{IsOutcome};
 
 use asl_grammar::error::ParseError;
 use asl_grammar::kinds::{Kind, kind_of};

@@ -13,7 +13,7 @@ use Rattle.asl_grammar.specs.grammar.Combinators.{opens, tok, seq, either, opt, 
 use Rattle.asl_grammar.specs.grammar.Reader.{first, pick, Outcome, refused, bind, run_tok, run_opens, run_many, run_item, run_trail, run_costs}
 use Rattle.asl_grammar.specs.grammar.Build.{seconds, Link, linked, chained, as_chained, suffix_on, suffixed}
 use Rattle.asl_grammar.specs.grammar.Rules.{Rule}
-use Rattle.asl_parse_expr.specs.Code.{reading, charge, charged, operator_at}
+use Rattle.asl_parse_expr.specs.private.Code.{reading, charge, charged, operator_at}
 
 pub bind_bind : {A B C : Type 0} (o : Outcome A) (f : A → Cursor → Outcome B) (g : B → Cursor → Outcome C) → bind (bind o f) g ≡ bind o (λ a mid. bind (f a mid) g)
 bind_bind (Ok r) f g = refl

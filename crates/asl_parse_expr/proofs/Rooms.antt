@@ -8,7 +8,7 @@ use Rattle.asl_grammar.specs.grammar.Rules.{Sym, Val, IfParts, rule, after}
 use Rattle.asl_grammar.proofs.grammar.Reading.{ok_same}
 use Rattle.asl_grammar.proofs.grammar.Symbols.{sound_n, lowers_n}
 use Rattle.asl_grammar.proofs.grammar.Checked.{each, covered}
-use Rattle.asl_parse_expr.specs.Code.{symbol}
+use Rattle.asl_parse_expr.specs.private.Code.{symbol}
 
 opened_at : (t : Lexeme) (ts : List Lexeme) (left : ℕ) (u : Lexeme) (m : Cursor) → open_at t ts left ≡ Ok (u, m) → left ≡ suc m.left
 opened_at t ts zero u m h = cc

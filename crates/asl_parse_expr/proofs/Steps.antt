@@ -16,7 +16,7 @@ use Rattle.asl_grammar.specs.grammar.Combinators.{seq, spanned}
 use Rattle.asl_grammar.specs.grammar.Reader.{bind, pick, run_tok, run_opens}
 use Rattle.asl_grammar.specs.grammar.Build.{or_nil, behind, chained, as_chained}
 use Rattle.asl_grammar.specs.grammar.Rules.{IfParts, name, names, integer_literal, bits_literal, boolean_literal, literal, parenthesized, arguments, braces, braces_called, after_braces, after_name, maybe_after_name, named, dot, bracket, suffix_part, suffix, suffixes, bits_pattern, mask_pattern, set_braces, set_pattern, not_set_pattern, in_pattern, post_literal, post_parenthesized, post_named, prefixed_by, unary, power_rest, power, product_rest, product, sum_rest, sum, comparison, equality_rest, equality, links_by, logic, integer_type, boolean_type, bit_type, named_type, bits_type, tuple_type, array_type, type_expression, constraint_type, as_type, as_rest, as_chain, conditional, open_expression, expression, more_expressions, expressions, maybe_expressions, maybe_expression, other_unary, field_value, more_field_values, minus_in_braces, name_in_braces, other_in_braces, empty_braces, braced_in, slice_form, slice_rest, slice, slices, minus_pattern, bang_pattern, at_most, at_least, pattern_in_parens, plain_unary, sum_pattern, pattern, patterns, constraint_part, constraint_list, bit_ends, bitfield, bitfield_list, more_types, two_types}
-use Rattle.asl_parse_expr.specs.Code.{reading, symbol, then}
+use Rattle.asl_parse_expr.specs.private.Code.{reading, symbol, then}
 use Rattle.asl_parse_expr.proofs.Loops.{bind_bind, optional_as, optional_plain, run_items, items_are, run_chain, chain_is, run_as_chain, as_chain_are, run_more, more_are, commas_are, run_listed, listed_are}
 
 pub names_is : (d : ℕ) (st : Cursor) → reading d names st ≡ bind (reading d name st) (λ x mid. run_more (reading d name) (length mid.toks) (x ∷ []) mid)

@@ -24,7 +24,7 @@ use Rattle.asl_grammar.specs.grammar.Rules.{Rule, Bracketed, Operand, sum, name,
 use Rattle.asl_grammar.specs.declared.error.ParseError.{ParseError}
 use Rattle.asl_grammar.specs.declared.error.ParseError.TheVariants.{OutOfMemory}
 use Rattle.std.specs.Result.{IsErrAnd}
-use Rattle.asl_parse_expr.specs.Code.{Met, reading, symbol, charge, operator_at, prefix_at, then, ending}
+use Rattle.asl_parse_expr.specs.private.Code.{Met, reading, symbol, charge, operator_at, prefix_at, then, ending}
 use Rattle.asl_parse_expr.proofs.Loops.{bind_bind, bind_same, costs_is, run_suffixed, suffixed_are, optional_as, choice_as}
 
 -- ---- brackets and braces

@@ -3,8 +3,8 @@
 ghost use Rattle.std.specs.Prelude.{◌≡◌};
 ghost use Rattle.asl_grammar.specs.grammar.Build as build;
 ghost use Rattle.asl_grammar.specs.grammar.Rules as rules;
-ghost use Rattle.asl_parse_expr.specs.Code.{cursor_of, Met, reading, then};
-ghost use Rattle.asl_parse_expr.specs.Nests.{Nests};
+ghost use Rattle.asl_parse_expr.specs.private.Code.{cursor_of, Met, reading, then};
+ghost use Rattle.asl_parse_expr.specs.private.Nests.{Nests};
 
 use crate::firsts::{AFTER_NAME, LITERAL, OTHER_PREFIX_OPERATORS, UNARY};
 use crate::grammar::{Grammar, Symbol, Value};
@@ -101,7 +101,7 @@ impl<F: Fn(Global, &mut Tokens<'_>, usize, Symbol) -> Result<Value, ParseError>>
     }
 
     /// A name alone, a call or a construction.
-    #[tactic(auto, unfolding(asl_grammar::specs::grammar::Rules::named, crate::specs::Code::then))]
+    #[tactic(auto, unfolding(asl_grammar::specs::grammar::Rules::named, crate::specs::private::Code::then))]
     pub fn named(&self, tokens: &mut Tokens<'_>) -> Result<Expr, ParseError>
         requires { Nests self.now.depth (F.pre self.now.nested) (F.post self.now.nested) }
         ensures { Met (reading self.now.depth rules.named (cursor_of tokens.old)) result (cursor_of tokens.new) }
@@ -162,7 +162,7 @@ impl<F: Fn(Global, &mut Tokens<'_>, usize, Symbol) -> Result<Value, ParseError>>
     }
 
     /// An expression that begins with neither a name, `-` nor `if`, inside a greater one.
-    #[tactic(auto, unfolding(asl_grammar::specs::grammar::Rules::other_chain, crate::specs::Code::then))]
+    #[tactic(auto, unfolding(asl_grammar::specs::grammar::Rules::other_chain, crate::specs::private::Code::then))]
     pub fn other_chain(&self, tokens: &mut Tokens<'_>) -> Result<Boxed<Expr>, ParseError>
         requires { Nests self.now.depth (F.pre self.now.nested) (F.post self.now.nested) }
         ensures { Met (reading self.now.depth rules.other_chain (cursor_of tokens.old)) result (cursor_of tokens.new) }
@@ -262,7 +262,7 @@ impl<F: Fn(Global, &mut Tokens<'_>, usize, Symbol) -> Result<Value, ParseError>>
     }
 
     /// Parameters of which the first begins with a `-` that was read.
-    #[tactic(auto, unfolding(asl_grammar::specs::grammar::Rules::parameters_after_minus, crate::specs::Code::then, asl_grammar::specs::grammar::Build::behind))]
+    #[tactic(auto, unfolding(asl_grammar::specs::grammar::Rules::parameters_after_minus, crate::specs::private::Code::then, asl_grammar::specs::grammar::Build::behind))]
     pub fn parameters_after_minus(
         &self,
         tokens: &mut Tokens<'_>,
@@ -278,7 +278,7 @@ impl<F: Fn(Global, &mut Tokens<'_>, usize, Symbol) -> Result<Value, ParseError>>
     }
 
     /// Parameters of which the first begins with a name that was read.
-    #[tactic(auto, unfolding(asl_grammar::specs::grammar::Rules::parameters_after_name, crate::specs::Code::then, asl_grammar::specs::grammar::Build::behind))]
+    #[tactic(auto, unfolding(asl_grammar::specs::grammar::Rules::parameters_after_name, crate::specs::private::Code::then, asl_grammar::specs::grammar::Build::behind))]
     pub fn parameters_after_name(
         &self,
         tokens: &mut Tokens<'_>,
@@ -323,7 +323,7 @@ impl<F: Fn(Global, &mut Tokens<'_>, usize, Symbol) -> Result<Value, ParseError>>
     }
 
     /// Braces that begin with `-`.
-    #[tactic(auto, unfolding(asl_grammar::specs::grammar::Rules::minus_in_braces, crate::specs::Code::then))]
+    #[tactic(auto, unfolding(asl_grammar::specs::grammar::Rules::minus_in_braces, crate::specs::private::Code::then))]
     pub fn minus_in_braces(&self, tokens: &mut Tokens<'_>) -> Result<Braces, ParseError>
         requires { Nests self.now.depth (F.pre self.now.nested) (F.post self.now.nested) }
         ensures { Met (reading self.now.depth rules.minus_in_braces (cursor_of tokens.old)) result (cursor_of tokens.new) }
@@ -333,7 +333,7 @@ impl<F: Fn(Global, &mut Tokens<'_>, usize, Symbol) -> Result<Value, ParseError>>
     }
 
     /// Braces that begin with a name.
-    #[tactic(auto, unfolding(asl_grammar::specs::grammar::Rules::name_in_braces, crate::specs::Code::then))]
+    #[tactic(auto, unfolding(asl_grammar::specs::grammar::Rules::name_in_braces, crate::specs::private::Code::then))]
     pub fn name_in_braces(&self, tokens: &mut Tokens<'_>) -> Result<Braces, ParseError>
         requires { Nests self.now.depth (F.pre self.now.nested) (F.post self.now.nested) }
         ensures { Met (reading self.now.depth rules.name_in_braces (cursor_of tokens.old)) result (cursor_of tokens.new) }

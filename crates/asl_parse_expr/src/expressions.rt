@@ -5,8 +5,8 @@ ghost use Rattle.asl_grammar.specs.grammar.Build as build;
 ghost use Rattle.asl_grammar.specs.grammar.Operators.{binary_kinds, unary_kinds};
 ghost use Rattle.asl_grammar.specs.grammar.Reader.{covers};
 ghost use Rattle.asl_grammar.specs.grammar.Rules as rules;
-ghost use Rattle.asl_parse_expr.specs.Code.{cursor_of, Met, reading, then};
-ghost use Rattle.asl_parse_expr.specs.Nests.{Nests};
+ghost use Rattle.asl_parse_expr.specs.private.Code.{cursor_of, Met, reading, then};
+ghost use Rattle.asl_parse_expr.specs.private.Nests.{Nests};
 
 use crate::firsts::{
     COMPARISON_OPERATORS, EQUALITY_OPERATORS, EXPRESSION, LITERAL, LOGIC_OPERATORS,
@@ -90,7 +90,7 @@ impl<F: Fn(Global, &mut Tokens<'_>, usize, Symbol) -> Result<Value, ParseError>>
     }
 
     /// `IN` with its pattern, if it is there.
-    #[tactic(auto, unfolding(asl_grammar::specs::grammar::Rules::in_clause, crate::specs::Code::then))]
+    #[tactic(auto, unfolding(asl_grammar::specs::grammar::Rules::in_clause, crate::specs::private::Code::then))]
     pub fn in_clause(
         &self,
         tokens: &mut Tokens<'_>,
@@ -109,7 +109,7 @@ impl<F: Fn(Global, &mut Tokens<'_>, usize, Symbol) -> Result<Value, ParseError>>
     }
 
     /// Suffixes, and `IN` with its pattern.
-    #[tactic(auto, unfolding(asl_grammar::specs::grammar::Rules::post_rest, crate::specs::Code::then))]
+    #[tactic(auto, unfolding(asl_grammar::specs::grammar::Rules::post_rest, crate::specs::private::Code::then))]
     pub fn post_rest(
         &self,
         tokens: &mut Tokens<'_>,
@@ -124,7 +124,7 @@ impl<F: Fn(Global, &mut Tokens<'_>, usize, Symbol) -> Result<Value, ParseError>>
     }
 
     /// A literal with what may follow it.
-    #[tactic(auto, unfolding(asl_grammar::specs::grammar::Rules::post_literal, crate::specs::Code::then))]
+    #[tactic(auto, unfolding(asl_grammar::specs::grammar::Rules::post_literal, crate::specs::private::Code::then))]
     pub fn post_literal(&self, tokens: &mut Tokens<'_>) -> Result<Boxed<Expr>, ParseError>
         requires { Nests self.now.depth (F.pre self.now.nested) (F.post self.now.nested) }
         ensures { Met (reading self.now.depth rules.post_literal (cursor_of tokens.old)) result (cursor_of tokens.new) }
@@ -135,7 +135,7 @@ impl<F: Fn(Global, &mut Tokens<'_>, usize, Symbol) -> Result<Value, ParseError>>
     }
 
     /// An expression in parentheses, or a tuple, with what may follow it.
-    #[tactic(auto, unfolding(asl_grammar::specs::grammar::Rules::post_parenthesized, crate::specs::Code::then))]
+    #[tactic(auto, unfolding(asl_grammar::specs::grammar::Rules::post_parenthesized, crate::specs::private::Code::then))]
     pub fn post_parenthesized(&self, tokens: &mut Tokens<'_>) -> Result<Boxed<Expr>, ParseError>
         requires { Nests self.now.depth (F.pre self.now.nested) (F.post self.now.nested) }
         ensures { Met (reading self.now.depth rules.post_parenthesized (cursor_of tokens.old)) result (cursor_of tokens.new) }
@@ -146,7 +146,7 @@ impl<F: Fn(Global, &mut Tokens<'_>, usize, Symbol) -> Result<Value, ParseError>>
     }
 
     /// A name, a call or a construction, with what may follow it.
-    #[tactic(auto, unfolding(asl_grammar::specs::grammar::Rules::post_named, crate::specs::Code::then))]
+    #[tactic(auto, unfolding(asl_grammar::specs::grammar::Rules::post_named, crate::specs::private::Code::then))]
     pub fn post_named(&self, tokens: &mut Tokens<'_>) -> Result<Boxed<Expr>, ParseError>
         requires { Nests self.now.depth (F.pre self.now.nested) (F.post self.now.nested) }
         ensures { Met (reading self.now.depth rules.post_named (cursor_of tokens.old)) result (cursor_of tokens.new) }
@@ -214,7 +214,7 @@ impl<F: Fn(Global, &mut Tokens<'_>, usize, Symbol) -> Result<Value, ParseError>>
     }
 
     /// A chain of `^`.
-    #[tactic(auto, unfolding(asl_grammar::specs::grammar::Rules::power, crate::specs::Code::then))]
+    #[tactic(auto, unfolding(asl_grammar::specs::grammar::Rules::power, crate::specs::private::Code::then))]
     pub fn power(&self, tokens: &mut Tokens<'_>) -> Result<Boxed<Expr>, ParseError>
         requires { Nests self.now.depth (F.pre self.now.nested) (F.post self.now.nested) }
         ensures { Met (reading self.now.depth rules.power (cursor_of tokens.old)) result (cursor_of tokens.new) }
@@ -247,7 +247,7 @@ impl<F: Fn(Global, &mut Tokens<'_>, usize, Symbol) -> Result<Value, ParseError>>
     }
 
     /// A chain of `*`, `DIV`, `DIVRM`, `MOD`, `<<`, `>>`.
-    #[tactic(auto, unfolding(asl_grammar::specs::grammar::Rules::product, crate::specs::Code::then))]
+    #[tactic(auto, unfolding(asl_grammar::specs::grammar::Rules::product, crate::specs::private::Code::then))]
     pub fn product(&self, tokens: &mut Tokens<'_>) -> Result<Boxed<Expr>, ParseError>
         requires { Nests self.now.depth (F.pre self.now.nested) (F.post self.now.nested) }
         ensures { Met (reading self.now.depth rules.product (cursor_of tokens.old)) result (cursor_of tokens.new) }
@@ -280,7 +280,7 @@ impl<F: Fn(Global, &mut Tokens<'_>, usize, Symbol) -> Result<Value, ParseError>>
     }
 
     /// A sum.
-    #[tactic(auto, unfolding(asl_grammar::specs::grammar::Rules::sum, crate::specs::Code::then))]
+    #[tactic(auto, unfolding(asl_grammar::specs::grammar::Rules::sum, crate::specs::private::Code::then))]
     pub fn sum(&self, tokens: &mut Tokens<'_>) -> Result<Boxed<Expr>, ParseError>
         requires { Nests self.now.depth (F.pre self.now.nested) (F.post self.now.nested) }
         ensures { Met (reading self.now.depth rules.sum (cursor_of tokens.old)) result (cursor_of tokens.new) }
@@ -309,7 +309,7 @@ impl<F: Fn(Global, &mut Tokens<'_>, usize, Symbol) -> Result<Value, ParseError>>
     }
 
     /// A sum, or the comparison of two.
-    #[tactic(auto, unfolding(asl_grammar::specs::grammar::Rules::comparison, crate::specs::Code::then))]
+    #[tactic(auto, unfolding(asl_grammar::specs::grammar::Rules::comparison, crate::specs::private::Code::then))]
     pub fn comparison(&self, tokens: &mut Tokens<'_>) -> Result<Boxed<Expr>, ParseError>
         requires { Nests self.now.depth (F.pre self.now.nested) (F.post self.now.nested) }
         ensures { Met (reading self.now.depth rules.comparison (cursor_of tokens.old)) result (cursor_of tokens.new) }
@@ -342,7 +342,7 @@ impl<F: Fn(Global, &mut Tokens<'_>, usize, Symbol) -> Result<Value, ParseError>>
     }
 
     /// A chain of `==`, `!=`.
-    #[tactic(auto, unfolding(asl_grammar::specs::grammar::Rules::equality, crate::specs::Code::then))]
+    #[tactic(auto, unfolding(asl_grammar::specs::grammar::Rules::equality, crate::specs::private::Code::then))]
     pub fn equality(&self, tokens: &mut Tokens<'_>) -> Result<Boxed<Expr>, ParseError>
         requires { Nests self.now.depth (F.pre self.now.nested) (F.post self.now.nested) }
         ensures { Met (reading self.now.depth rules.equality (cursor_of tokens.old)) result (cursor_of tokens.new) }
@@ -435,7 +435,7 @@ impl<F: Fn(Global, &mut Tokens<'_>, usize, Symbol) -> Result<Value, ParseError>>
     }
 
     /// A chain of `&&`, of `||`, of `-->` or of `<->`.
-    #[tactic(auto, unfolding(asl_grammar::specs::grammar::Rules::logic, crate::specs::Code::then))]
+    #[tactic(auto, unfolding(asl_grammar::specs::grammar::Rules::logic, crate::specs::private::Code::then))]
     pub fn logic(&self, tokens: &mut Tokens<'_>) -> Result<Boxed<Expr>, ParseError>
         requires { Nests self.now.depth (F.pre self.now.nested) (F.post self.now.nested) }
         ensures { Met (reading self.now.depth rules.logic (cursor_of tokens.old)) result (cursor_of tokens.new) }
@@ -468,7 +468,7 @@ impl<F: Fn(Global, &mut Tokens<'_>, usize, Symbol) -> Result<Value, ParseError>>
     }
 
     /// An expression that is no `if` expression, inside a greater one.
-    #[tactic(auto, unfolding(asl_grammar::specs::grammar::Rules::as_chain, crate::specs::Code::then))]
+    #[tactic(auto, unfolding(asl_grammar::specs::grammar::Rules::as_chain, crate::specs::private::Code::then))]
     pub fn as_chain(&self, tokens: &mut Tokens<'_>) -> Result<Boxed<Expr>, ParseError>
         requires { Nests self.now.depth (F.pre self.now.nested) (F.post self.now.nested) }
         ensures { Met (reading self.now.depth rules.as_chain (cursor_of tokens.old)) result (cursor_of tokens.new) }
@@ -580,7 +580,7 @@ impl<F: Fn(Global, &mut Tokens<'_>, usize, Symbol) -> Result<Value, ParseError>>
     }
 
     /// Expressions with commas between.
-    #[tactic(auto, unfolding(asl_grammar::specs::grammar::Rules::expressions, crate::specs::Code::then))]
+    #[tactic(auto, unfolding(asl_grammar::specs::grammar::Rules::expressions, crate::specs::private::Code::then))]
     pub fn expressions(&self, tokens: &mut Tokens<'_>) -> Result<Items<Expr>, ParseError>
         requires { Nests self.now.depth (F.pre self.now.nested) (F.post self.now.nested) }
         ensures { Met (reading self.now.depth rules.expressions (cursor_of tokens.old)) result (cursor_of tokens.new) }

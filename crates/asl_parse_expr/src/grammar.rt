@@ -5,8 +5,8 @@
 //! each place at which a function may return early, and its proof goes through all of that.
 
 ghost use Rattle.std.specs.Prelude.{◌≡◌, suc};
-ghost use Rattle.asl_parse_expr.specs.Code.{cursor_of};
-ghost use Rattle.asl_parse_expr.specs.Nests.{Nests, MetValue};
+ghost use Rattle.asl_parse_expr.specs.private.Code.{cursor_of};
+ghost use Rattle.asl_parse_expr.specs.private.Nests.{Nests, MetValue};
 
 use crate::tokens::Tokens;
 use asl_grammar::error::ParseError;

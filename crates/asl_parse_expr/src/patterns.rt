@@ -3,8 +3,8 @@
 ghost use Rattle.std.specs.Prelude.{◌≡◌};
 ghost use Rattle.asl_grammar.specs.grammar.Build as build;
 ghost use Rattle.asl_grammar.specs.grammar.Rules as rules;
-ghost use Rattle.asl_parse_expr.specs.Code.{cursor_of, Met, reading, then, ending};
-ghost use Rattle.asl_parse_expr.specs.Nests.{Nests};
+ghost use Rattle.asl_parse_expr.specs.private.Code.{cursor_of, Met, reading, then, ending};
+ghost use Rattle.asl_parse_expr.specs.private.Nests.{Nests};
 
 use crate::firsts::{LITERAL, UNARY};
 use crate::grammar::{Grammar, Symbol, Value, nested};
@@ -124,7 +124,7 @@ impl<F: Fn(Global, &mut Tokens<'_>, usize, Symbol) -> Result<Value, ParseError>>
     }
 
     /// The upper end of a range, if there is one.
-    #[tactic(auto, unfolding(asl_grammar::specs::grammar::Rules::range_end, crate::specs::Code::ending))]
+    #[tactic(auto, unfolding(asl_grammar::specs::grammar::Rules::range_end, crate::specs::private::Code::ending))]
     pub fn range_end(
         &self,
         tokens: &mut Tokens<'_>,
@@ -272,7 +272,7 @@ impl<F: Fn(Global, &mut Tokens<'_>, usize, Symbol) -> Result<Value, ParseError>>
     }
 
     /// A sum that begins with none of `-`, `!`, `(`, inside a greater expression.
-    #[tactic(auto, unfolding(asl_grammar::specs::grammar::Rules::plain_chain, crate::specs::Code::then))]
+    #[tactic(auto, unfolding(asl_grammar::specs::grammar::Rules::plain_chain, crate::specs::private::Code::then))]
     pub fn plain_chain(&self, tokens: &mut Tokens<'_>) -> Result<Boxed<Expr>, ParseError>
         requires { Nests self.now.depth (F.pre self.now.nested) (F.post self.now.nested) }
         ensures { Met (reading self.now.depth rules.plain_chain (cursor_of tokens.old)) result (cursor_of tokens.new) }
@@ -295,7 +295,7 @@ impl<F: Fn(Global, &mut Tokens<'_>, usize, Symbol) -> Result<Value, ParseError>>
     }
 
     /// A value or a range that begins with none of `-`, `!`, `(`.
-    #[tactic(auto, unfolding(asl_grammar::specs::grammar::Rules::sum_pattern, crate::specs::Code::ending))]
+    #[tactic(auto, unfolding(asl_grammar::specs::grammar::Rules::sum_pattern, crate::specs::private::Code::ending))]
     pub fn sum_pattern(&self, tokens: &mut Tokens<'_>) -> Result<Pattern, ParseError>
         requires { Nests self.now.depth (F.pre self.now.nested) (F.post self.now.nested) }
         ensures { Met (reading self.now.depth rules.sum_pattern (cursor_of tokens.old)) result (cursor_of tokens.new) }

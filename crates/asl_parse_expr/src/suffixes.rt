@@ -3,8 +3,8 @@
 ghost use Rattle.std.specs.Prelude.{◌≡◌, IfOk};
 ghost use Rattle.asl_grammar.specs.grammar.Build as build;
 ghost use Rattle.asl_grammar.specs.grammar.Rules as rules;
-ghost use Rattle.asl_parse_expr.specs.Code.{cursor_of, Met, reading, then};
-ghost use Rattle.asl_parse_expr.specs.Nests.{Nests};
+ghost use Rattle.asl_parse_expr.specs.private.Code.{cursor_of, Met, reading, then};
+ghost use Rattle.asl_parse_expr.specs.private.Nests.{Nests};
 
 use crate::firsts::{SLICE_FORM, SUFFIX};
 use crate::grammar::{Grammar, Symbol, Value, nested};
@@ -116,7 +116,7 @@ impl<F: Fn(Global, &mut Tokens<'_>, usize, Symbol) -> Result<Value, ParseError>>
     }
 
     /// A slice.
-    #[tactic(auto, unfolding(asl_grammar::specs::grammar::Rules::slice, crate::specs::Code::then))]
+    #[tactic(auto, unfolding(asl_grammar::specs::grammar::Rules::slice, crate::specs::private::Code::then))]
     pub fn slice(&self, tokens: &mut Tokens<'_>) -> Result<Slice, ParseError>
         requires { Nests self.now.depth (F.pre self.now.nested) (F.post self.now.nested) }
         ensures { Met (reading self.now.depth rules.slice (cursor_of tokens.old)) result (cursor_of tokens.new) }

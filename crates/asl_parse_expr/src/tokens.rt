@@ -5,7 +5,7 @@ ghost use Rattle.asl_grammar.specs.grammar.Build as build;
 ghost use Rattle.asl_grammar.specs.grammar.Cursor as cursor;
 ghost use Rattle.asl_grammar.specs.grammar.Operators.{binary_kinds, unary_kinds};
 ghost use Rattle.asl_grammar.specs.grammar.Reader.{covers, run_tok, run_opens};
-ghost use Rattle.asl_parse_expr.specs.Code.{cursor_of, Met, MetToken, charge, operator_at, prefix_at};
+ghost use Rattle.asl_parse_expr.specs.private.Code.{cursor_of, Met, MetToken, charge, operator_at, prefix_at};
 
 use asl_grammar::error::ParseError;
 use asl_grammar::kinds::{Kind, kind_of};
@@ -166,7 +166,7 @@ impl<'a> Tokens<'a> {
     }
 
     /// Reads an operator of one of these kinds before its operand, which opens a level.
-    #[tactic(auto, unfolding(crate::specs::Code::prefix_at))]
+    #[tactic(auto, unfolding(crate::specs::private::Code::prefix_at))]
     pub fn prefix(&mut self, kinds: &[Kind]) -> Result<UnaryOperator, ParseError>
         requires { covers unary_kinds kinds.now ≡ true }
         ensures { Met (prefix_at kinds.now (cursor_of self.old)) result (cursor_of self.new) }
@@ -176,7 +176,7 @@ impl<'a> Tokens<'a> {
     }
 
     /// Reads an operator of one of these kinds between its operands, which opens a level.
-    #[tactic(auto, unfolding(crate::specs::Code::operator_at))]
+    #[tactic(auto, unfolding(crate::specs::private::Code::operator_at))]
     pub fn operator(&mut self, kinds: &[Kind]) -> Result<BinaryOperator, ParseError>
         requires { covers binary_kinds kinds.now ≡ true }
         ensures { Met (operator_at kinds.now (cursor_of self.old)) result (cursor_of self.new) }

@@ -3,8 +3,8 @@
 ghost use Rattle.std.specs.Prelude.{◌≡◌};
 ghost use Rattle.asl_grammar.specs.grammar.Build as build;
 ghost use Rattle.asl_grammar.specs.grammar.Rules as rules;
-ghost use Rattle.asl_parse_expr.specs.Code.{cursor_of, Met, reading, then};
-ghost use Rattle.asl_parse_expr.specs.Nests.{Nests};
+ghost use Rattle.asl_parse_expr.specs.private.Code.{cursor_of, Met, reading, then};
+ghost use Rattle.asl_parse_expr.specs.private.Nests.{Nests};
 
 use crate::firsts::TYPE_EXPRESSION;
 use crate::grammar::{Grammar, Symbol, Value, nested};
@@ -56,7 +56,7 @@ fn named_type(alloc: Global, tokens: &mut Tokens<'_>, depth: usize) -> Result<Ty
 
 impl<F: Fn(Global, &mut Tokens<'_>, usize, Symbol) -> Result<Value, ParseError>> Grammar<F> {
     /// The upper end of a range of integers, if there is one.
-    #[tactic(auto, unfolding(asl_grammar::specs::grammar::Rules::constraint_end, crate::specs::Code::then))]
+    #[tactic(auto, unfolding(asl_grammar::specs::grammar::Rules::constraint_end, crate::specs::private::Code::then))]
     pub fn constraint_end(
         &self,
         tokens: &mut Tokens<'_>,
@@ -74,7 +74,7 @@ impl<F: Fn(Global, &mut Tokens<'_>, usize, Symbol) -> Result<Value, ParseError>>
     }
 
     /// An integer or a range of integers.
-    #[tactic(auto, unfolding(asl_grammar::specs::grammar::Rules::constraint_part, crate::specs::Code::then))]
+    #[tactic(auto, unfolding(asl_grammar::specs::grammar::Rules::constraint_part, crate::specs::private::Code::then))]
     pub fn constraint_part(&self, tokens: &mut Tokens<'_>) -> Result<ConstraintPart, ParseError>
         requires { Nests self.now.depth (F.pre self.now.nested) (F.post self.now.nested) }
         ensures { Met (reading self.now.depth rules.constraint_part (cursor_of tokens.old)) result (cursor_of tokens.new) }

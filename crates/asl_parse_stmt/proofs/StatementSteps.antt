@@ -16,10 +16,10 @@ use Rattle.asl_grammar.specs.grammar.Cursor.{Cursor, Kinds, starts, ahead, span_
 use Rattle.asl_grammar.specs.grammar.Reader.{Outcome, bind, pick, run_tok, run_opens}
 use Rattle.asl_grammar.specs.grammar.Build.{place_of, name_statement_of, VarRest, Untyped}
 use Rattle.asl_grammar.specs.grammar.Rules.{Sym, Val, rule, IfBody, CaseBody, ForBody, WhileBody, RepeatBody, TryBody, TargetParts, if_body, case_body, for_body, while_body, repeat_body, try_body, if_statement, case_statement, for_statement, while_statement, repeat_statement, try_statement, two_targets, target_parts, targets, name, names_typed, typed_value, value, var_rest, name_statement, invoked, assigned, expression, direction, loop_limit, block, qualifier, maybe_params, formals, result_type, recursion_limit, function}
-use Rattle.asl_parse_expr.specs.Code.{reading, symbol, then, ending}
+use Rattle.asl_parse_expr.specs.private.Code.{reading, symbol, then, ending}
 use Rattle.asl_parse_expr.proofs.Loops.{bind_bind, bind_same}
-use Rattle.asl_parse_stmt.specs.Heads.{for_head, function_head}
-use Rattle.asl_parse_stmt.specs.Levels.{inside, nested}
+use Rattle.asl_parse_stmt.specs.private.Heads.{for_head, function_head}
+use Rattle.asl_parse_stmt.specs.private.Levels.{inside, nested}
 use Rattle.asl_parse_stmt.proofs.Steps.{for_body_is, function_is, var_rest_is, name_statement_is, name_statement_rest_ends, if_statement_is, case_statement_is, for_statement_is, while_statement_is, repeat_statement_is, try_statement_is, targets_is}
 
 pub var_rest_steps : {B : Type 0} (d : ℕ) (f : VarRest → B) (st : Cursor) → then f (reading d var_rest st)

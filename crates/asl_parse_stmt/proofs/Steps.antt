@@ -23,7 +23,7 @@ use Rattle.asl_grammar.specs.grammar.Combinators.{tok, seq, either, by}
 use Rattle.asl_grammar.specs.grammar.Reader.{bind, pick, run_tok, run_opens}
 use Rattle.asl_grammar.specs.grammar.Build.{or_nil, behind, or_unqualified, name_statement_of, or_no_otherwise, no_catchers, untyped, VarRest, Untyped}
 use Rattle.asl_grammar.specs.grammar.Rules.{TargetParts, IfBody, CaseBody, ForBody, WhileBody, RepeatBody, TryBody, name, integer_literal, bits_literal, boolean_literal, literal, parenthesized, arguments, named, post_literal, post_parenthesized, post_named, prefixed_by, unary, power, product, sum, comparison, equality, logic, integer_type, boolean_type, bit_type, named_type, bits_type, tuple_type, array_type, type_expression, as_chain, conditional, open_expression, expression, pass, unreachable, assert, bind_name, no_binder, binder, more_binders, two_binders, several, other_bind, local_bind, value, let_statement, names_typed, no_value, maybe_value, typed_value, var_rest, var_names, var_other, var_tail, var_statement, parameters, maybe_parameters, call_arguments, invoked, assigned, name_statement_rest, name_statement, no_target, targets, other_target, assignment, if_statement, case_statement, for_statement, while_statement, repeat_statement, return_statement, throw_statement, try_statement, print_kind, verbatim, print_item, print_items, maybe_print_items, print_statement, statement, block, loop_limit, otherwise, maybe_otherwise, place, target, more_targets, two_targets, else_if, else_ifs, else_block, maybe_else, where_clause, alternative, alternatives, direction, for_body, caught_type, catcher, catchers, some_catchers, handlers, formal, formal_list, maybe_formals, formals, param, param_list, maybe_param_list, params, maybe_params, label_list, labels, no_members, listed_members, some_members, maybe_some_members, member_braces, members, record_type, exception_type, type_definition, supertype, type_decl, fixed_kind, fixed_storage, typed_var, global_rest, global_var, result_type, recursion_limit, written_qualifier, qualifier, function, declaration, program}
-use Rattle.asl_parse_expr.specs.Code.{reading, symbol, then, ending}
+use Rattle.asl_parse_expr.specs.private.Code.{reading, symbol, then, ending}
 use Rattle.asl_parse_expr.proofs.Loops.{bind_bind, optional_as, optional_plain, choice_as, run_items, items_are, run_more, more_are, commas_are, run_listed, listed_are}
 
 pub binder_is : (d : ℕ) (st : Cursor) → reading d binder st ≡ pick (starts (kind.Name ∷ []) st.toks) (bind (reading d name st) (λ x m. Ok ((bd.Bound x), m))) (reading d no_binder st)

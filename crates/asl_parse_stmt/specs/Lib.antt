@@ -1,3 +1,1 @@
-pub mod Blocks
-pub mod Heads
-pub mod Levels
+pub mod private

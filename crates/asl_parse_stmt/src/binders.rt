@@ -3,7 +3,7 @@
 ghost use Rattle.std.specs.Prelude.{◌≡◌, ◌∷◌, IfOk};
 ghost use Rattle.asl_grammar.specs.grammar.Build as build;
 ghost use Rattle.asl_grammar.specs.grammar.Rules as rules;
-ghost use Rattle.asl_parse_expr.specs.Code.{cursor_of, Met, reading, then};
+ghost use Rattle.asl_parse_expr.specs.private.Code.{cursor_of, Met, reading, then};
 
 use asl_grammar::error::ParseError;
 use asl_grammar::kinds::Kind;
@@ -176,7 +176,7 @@ fn in_front(alloc: Global, first: Ident, others: Items<Ident>) -> Result<Items<I
     Ok(all)
 }
 
-#[tactic(auto, unfolding(asl_grammar::specs::grammar::Rules::names_typed, asl_parse_expr::specs::Code::then))]
+#[tactic(auto, unfolding(asl_grammar::specs::grammar::Rules::names_typed, asl_parse_expr::specs::private::Code::then))]
 fn names_typed(
     alloc: Global,
     tokens: &mut Tokens<'_>,
@@ -193,7 +193,7 @@ fn names_typed(
     Ok(VarTail::Declared(in_front(alloc, first, others)?, ty.into_inner()))
 }
 
-#[tactic(auto, unfolding(asl_grammar::specs::grammar::Rules::typed_value, asl_parse_expr::specs::Code::then))]
+#[tactic(auto, unfolding(asl_grammar::specs::grammar::Rules::typed_value, asl_parse_expr::specs::private::Code::then))]
 fn typed_value(
     alloc: Global,
     tokens: &mut Tokens<'_>,
@@ -227,7 +227,7 @@ fn var_rest(
     }
 }
 
-#[tactic(auto, unfolding(asl_grammar::specs::grammar::Rules::var_names, asl_parse_expr::specs::Code::then))]
+#[tactic(auto, unfolding(asl_grammar::specs::grammar::Rules::var_names, asl_parse_expr::specs::private::Code::then))]
 fn var_names(alloc: Global, tokens: &mut Tokens<'_>, depth: usize) -> Result<VarTail, ParseError>
     ensures { Met (reading depth rules.var_names (cursor_of tokens.old)) result (cursor_of tokens.new) }
 {

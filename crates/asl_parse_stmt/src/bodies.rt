@@ -4,9 +4,9 @@
 ghost use Rattle.std.specs.Prelude.{◌≡◌};
 ghost use Rattle.asl_grammar.specs.grammar.Build as build;
 ghost use Rattle.asl_grammar.specs.grammar.Rules as rules;
-ghost use Rattle.asl_parse_stmt.specs.Blocks.{Nests};
-ghost use Rattle.asl_parse_stmt.specs.Heads as heads;
-ghost use Rattle.asl_parse_expr.specs.Code.{cursor_of, Met, reading};
+ghost use Rattle.asl_parse_stmt.specs.private.Blocks.{Nests};
+ghost use Rattle.asl_parse_stmt.specs.private.Heads as heads;
+ghost use Rattle.asl_parse_expr.specs.private.Code.{cursor_of, Met, reading};
 
 use asl_grammar::error::ParseError;
 use asl_grammar::kinds::Kind;
@@ -83,7 +83,7 @@ fn catch_of(first: Ident, ty: Option<Ident>, body: Items<Stmt>) -> Catcher
 }
 
 /// The index of a `for`, from where and which way it counts, and up to where.
-#[tactic(auto, unfolding(crate::specs::Heads::for_head))]
+#[tactic(auto, unfolding(crate::specs::private::Heads::for_head))]
 fn for_head(
     alloc: Global,
     tokens: &mut Tokens<'_>,

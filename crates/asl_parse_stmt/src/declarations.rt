@@ -2,8 +2,8 @@
 
 ghost use Rattle.std.specs.Prelude.{◌≡◌};
 ghost use Rattle.asl_grammar.specs.grammar.Rules as rules;
-ghost use Rattle.asl_parse_expr.specs.Code.{cursor_of, Met, reading};
-ghost use Rattle.asl_parse_stmt.specs.Heads as heads;
+ghost use Rattle.asl_parse_expr.specs.private.Code.{cursor_of, Met, reading};
+ghost use Rattle.asl_parse_stmt.specs.private.Heads as heads;
 
 use crate::binders::{maybe_value, value};
 use crate::firsts::{DECLARATION, FIXED_STORAGE, WRITTEN_QUALIFIER};
@@ -204,7 +204,7 @@ fn qualifier(tokens: &mut Tokens<'_>, depth: usize) -> Result<Qualifier, ParseEr
 }
 
 /// A subprogram up to its result.
-#[tactic(auto, unfolding(crate::specs::Heads::function_head))]
+#[tactic(auto, unfolding(crate::specs::private::Heads::function_head))]
 fn function_head(
     alloc: Global,
     tokens: &mut Tokens<'_>,

@@ -2,7 +2,7 @@
 
 ghost use Rattle.std.specs.Prelude.{◌≡◌};
 ghost use Rattle.asl_grammar.specs.grammar.Rules as rules;
-ghost use Rattle.asl_parse_expr.specs.Code.{cursor_of, Met, reading};
+ghost use Rattle.asl_parse_expr.specs.private.Code.{cursor_of, Met, reading};
 
 use crate::binders::value;
 use crate::firsts::INVOKED;

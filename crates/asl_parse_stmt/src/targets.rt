@@ -3,7 +3,7 @@
 ghost use Rattle.std.specs.Prelude.{◌≡◌};
 ghost use Rattle.asl_grammar.specs.grammar.Build as build;
 ghost use Rattle.asl_grammar.specs.grammar.Rules as rules;
-ghost use Rattle.asl_parse_expr.specs.Code.{cursor_of, Met, reading, then};
+ghost use Rattle.asl_parse_expr.specs.private.Code.{cursor_of, Met, reading, then};
 
 use crate::levels::nest;
 use asl_grammar::error::ParseError;

@@ -1,12 +1,7 @@
 pub mod basics
-pub mod runs
 pub mod constants
 pub mod verdict
-pub mod names
 pub mod widths
 pub mod values
 pub mod scopes
 pub mod expressions
-pub mod statements
-pub mod calls
-pub mod soundness

@@ -4,5 +4,4 @@ pub mod Inversions
 pub mod Answering
 pub mod Deciding
 pub mod Tests
-pub mod Having
 pub mod Opening

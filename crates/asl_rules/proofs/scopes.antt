@@ -3,16 +3,5 @@ pub mod Lookups
 pub mod EachOnce
 pub mod Naming
 pub mod Longer
-pub mod Moved
-pub mod Agreeing
-pub mod GrownTexts
 pub mod Slots
-pub mod WellTyped
-pub mod OverScope
-pub mod ScopesOver
-pub mod BodiesOver
-pub mod MoreNames
-pub mod DeclWell
 pub mod KeptNames
-pub mod ScopesKept
-pub mod Globals

@@ -1,23 +1,13 @@
 -- Values and the types that they belong to.
-pub mod PresentTypes
 pub mod SameKind
 pub mod KindsByNames
 pub mod Shapes
 pub mod KindOf
-pub mod OfType
 pub mod Viewing
 pub mod Satisfying
 pub mod Constrained
 pub mod Keeping
 pub mod Bitless
 pub mod Bare
-pub mod Joining
 pub mod Constructs
-pub mod Sliced
-pub mod Signed
-pub mod Routines
-pub mod FirstFilled
-pub mod FirstPresent
 pub mod FirstValues
-pub mod Widening
-pub mod Replacing

@@ -1,7 +1,5 @@
 -- Law 2: right tests exist and answer alike, so files have one answer; and declarations are judged alike in each order.
 pub mod SomeTests
-pub mod OneVerdict
-pub mod OneReport
 pub mod Alike
 pub mod SameRules
 pub mod SameConstants

@@ -10,18 +10,18 @@ use Rattle.asl_syn.specs.declared.token.Span.{Span}
 use Rattle.asl_syn.specs.declared.tree.UnaryOperator.{UnaryOperator}
 use Rattle.asl_syn.specs.declared.tree.BinaryOperator.{BinaryOperator}
 use Rattle.asl_syn.specs.declared.tree.BinaryOperator.TheVariants as binary
-use Rattle.asl_rules.specs.ByPlace.{Step}
+use Rattle.asl_rules.specs.private.ByPlace.{Step}
 use Rattle.asl_rules.specs.declared.slot.Slot.{Slot}
 use Rattle.asl_rules.specs.declared.slot.Slot.TheVariants.{Local, Global}
-use Rattle.asl_rules.specs.Forms.{at_once, ask_right, behind, behind_left, element, operation, unless_decided}
-use Rattle.asl_rules.specs.Operators.{Strictness, Strict, Lazy, strictness, Decided, Already, ByRight, binary_value, divided, integer_of, of_booleans, of_integers, raised, unary_value}
-use Rattle.asl_rules.specs.Plans.{Meter, Faulted, Pure, Good, Bad, Done, Thrown, Outcome, handle, lift, run}
-use Rattle.asl_rules.specs.Pures.{◌>>=◌, known}
-use Rattle.asl_rules.specs.StatementForms.{assignment, store_each}
-use Rattle.asl_rules.specs.Structures.{element_of}
-use Rattle.asl_rules.specs.Trees.{Note, Read}
-use Rattle.asl_rules.specs.TypedMeaning.{BareCore, Runs as Plans, act_node, step_ahead, stored, stores, tree_node, value_at}
-use Rattle.asl_rules.specs.Values.{Value, Normal, bool, int}
+use Rattle.asl_rules.specs.runs.Forms.{at_once, ask_right, behind, behind_left, element, operation, unless_decided}
+use Rattle.asl_rules.specs.values.Operators.{Strictness, Strict, Lazy, strictness, Decided, Already, ByRight, binary_value, divided, integer_of, of_booleans, of_integers, raised, unary_value}
+use Rattle.asl_rules.specs.runs.Plans.{Meter, Faulted, Pure, Good, Bad, Done, Thrown, Outcome, handle, lift, run}
+use Rattle.asl_rules.specs.runs.Pures.{◌>>=◌, known}
+use Rattle.asl_rules.specs.runs.StatementForms.{assignment, store_each}
+use Rattle.asl_rules.specs.values.Structures.{element_of}
+use Rattle.asl_rules.specs.runs.Trees.{Note, Read}
+use Rattle.asl_rules.specs.private.TypedMeaning.{BareCore, Runs as Plans, act_node, step_ahead, stored, stores, tree_node, value_at}
+use Rattle.asl_rules.specs.values.Values.{Value, Normal, bool, int}
 use Rattle.asl_tree.specs.Acts.{act_of, place_of, step_of}
 use Rattle.asl_tree.specs.declared.act.Act.{Act as TypedAct}
 use Rattle.asl_tree.specs.declared.act.TreeFunc.{TreeFunc}
@@ -32,13 +32,13 @@ use Rattle.asl_tree.specs.View.{tree_of}
 use Rattle.asl_value.specs.declared.value.FieldValue.TheFolds.{fold-roll-Value}
 use Rattle.asl_value.specs.declared.value.FieldValue.TheOpen as layers
 use Rattle.asl_value.specs.declared.value.Value.TheVariants as variants
-use Rattle.asl_value.specs.Numbers.{answer_of}
+use Rattle.asl_value.specs.private.Numbers.{answer_of}
 use Rattle.asl_value.specs.View as view
 use Rattle.asl_value.specs.View.{value_of}
 use Rattle.asl_value.proofs.Integers.{exact}
 use Rattle.asl_run.specs.declared.at_once.AtOnce.{AtOnce}
 use Rattle.asl_run.specs.declared.run.Run.{Run}
-use Rattle.asl_run.specs.AtOnce.{decision, element_in, found, Gives, Ends, Finds, Sets, Puts, Executed, Did, meter_at}
+use Rattle.asl_run.specs.private.AtOnce.{decision, element_in, found, Gives, Ends, Finds, Sets, Puts, Executed, Did, meter_at}
 use Rattle.asl_run.specs.View.{core_of, meter_of, program_of, meaning_of}
 use Rattle.asl_run.proofs.Entries.{expr_done, stmt_done}
 use Rattle.asl_run.proofs.Placing.{global_put, local_put}

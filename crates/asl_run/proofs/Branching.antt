@@ -2,14 +2,14 @@
 use Rattle.std.proofs.Common.{◌≡◌, ℕ, ◌+◌, ◌<◌, ◌≤◌, Bool, List, ◌∷◌, length, get_or, drop, Err, sym, ap, ◌∙◌, subst}
 use Rattle.std.proofs.lemmas.List.{at_drop_all}
 use Rattle.asl_syn.specs.declared.token.Span.{Span}
-use Rattle.asl_rules.specs.Cuts.{cuts}
-use Rattle.asl_rules.specs.Operators.{truth}
-use Rattle.asl_rules.specs.Plans.{Meter, Done, Good, choose, lift, run}
-use Rattle.asl_rules.specs.StatementForms.{branch, branches, scope}
-use Rattle.asl_rules.specs.Trees as rules
-use Rattle.asl_rules.specs.Trees.{Act, Tree}
-use Rattle.asl_rules.specs.TypedMeaning.{BareCore, Runs, acts_of, branches_of, in_bare, itself}
-use Rattle.asl_rules.specs.Values.{Value, Exit}
+use Rattle.asl_rules.specs.runs.Cuts.{cuts}
+use Rattle.asl_rules.specs.values.Operators.{truth}
+use Rattle.asl_rules.specs.runs.Plans.{Meter, Done, Good, choose, lift, run}
+use Rattle.asl_rules.specs.runs.StatementForms.{branch, branches, scope}
+use Rattle.asl_rules.specs.runs.Trees as rules
+use Rattle.asl_rules.specs.runs.Trees.{Act, Tree}
+use Rattle.asl_rules.specs.private.TypedMeaning.{BareCore, Runs, acts_of, branches_of, in_bare, itself}
+use Rattle.asl_rules.specs.values.Values.{Value, Exit}
 use Rattle.asl_tree.specs.Acts.{AlternativeFirst, BranchFirst, CatcherFirst, act_rule, alternative_rule, branch_rule, catcher_rule, last_rule, branch_of, all_acts, all_branches}
 use Rattle.asl_tree.specs.View.{tree_of}
 use Rattle.asl_tree.specs.declared.act.Act.{Act as Doing}
@@ -19,7 +19,7 @@ use Rattle.asl_tree.specs.declared.act.Branch.{Branch}
 use Rattle.asl_tree.specs.declared.act.Branch.TheVariants as when
 use Rattle.asl_tree.specs.declared.act.TreeFunc.{TreeFunc}
 use Rattle.asl_tree.specs.declared.tree.Tree.{Tree as Asked}
-use Rattle.asl_value.specs.Answers as answers
+use Rattle.asl_value.specs.private.Answers as answers
 use Rattle.asl_value.specs.View.{value_of}
 use Rattle.asl_value.specs.declared.failure.Failure.{Failure}
 use Rattle.asl_run.specs.declared.stop.Stop.{Stop as Stopped}

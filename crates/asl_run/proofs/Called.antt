@@ -1,13 +1,13 @@
 -- What is called, and what comes with what it gives.
 use Rattle.std.proofs.Common.{ℕ, List, [], Option}
-use Rattle.asl_rules.specs.Forms as forms
-use Rattle.asl_rules.specs.Plans.{follow}
-use Rattle.asl_rules.specs.TypedMeaning.{BareCore, Runs, list_of}
-use Rattle.asl_rules.specs.Values.{Value}
+use Rattle.asl_rules.specs.runs.Forms as forms
+use Rattle.asl_rules.specs.runs.Plans.{follow}
+use Rattle.asl_rules.specs.private.TypedMeaning.{BareCore, Runs, list_of}
+use Rattle.asl_rules.specs.values.Values.{Value}
 use Rattle.asl_tree.specs.View.{all_trees}
 use Rattle.asl_tree.specs.declared.act.TreeFunc.{TreeFunc}
 use Rattle.asl_run.specs.declared.calls.Call.{Call}
-use Rattle.asl_run.specs.Calling.{body_of, call_given}
+use Rattle.asl_run.specs.private.Calling.{body_of, call_given}
 use Rattle.asl_run.proofs.Lefts.{goes_follow}
 use Rattle.asl_run.proofs.Turns.{Goes, all_goes}
 

@@ -1,12 +1,12 @@
 -- Catchers, one by one.
 use Rattle.std.proofs.Common.{◌≡◌, ℕ, ◌+◌, ◌<◌, ◌≤◌, Bool, true, false, List, ◌∷◌, length, get_or, drop, Option, sym, ap, ◌∙◌}
 use Rattle.std.proofs.lemmas.List.{at_drop_all}
-use Rattle.asl_rules.specs.Plans.{choose}
-use Rattle.asl_rules.specs.StatementForms.{catch_list, catchers, handling, is_caught, uncaught}
-use Rattle.asl_rules.specs.Trees as rules
-use Rattle.asl_rules.specs.Trees.{Act}
-use Rattle.asl_rules.specs.TypedMeaning.{BareCore, Runs, acts_of, catches_of, caught_as, in_bare, itself}
-use Rattle.asl_rules.specs.Values.{Value, Exit}
+use Rattle.asl_rules.specs.runs.Plans.{choose}
+use Rattle.asl_rules.specs.runs.StatementForms.{catch_list, catchers, handling, is_caught, uncaught}
+use Rattle.asl_rules.specs.runs.Trees as rules
+use Rattle.asl_rules.specs.runs.Trees.{Act}
+use Rattle.asl_rules.specs.private.TypedMeaning.{BareCore, Runs, acts_of, catches_of, caught_as, in_bare, itself}
+use Rattle.asl_rules.specs.values.Values.{Value, Exit}
 use Rattle.asl_tree.specs.Acts.{AlternativeFirst, BranchFirst, CatcherFirst, act_rule, alternative_rule, branch_rule, catcher_rule, last_rule, catcher_of, all_acts, all_catchers}
 use Rattle.asl_tree.specs.declared.act.Act.{Act as Doing}
 use Rattle.asl_tree.specs.declared.act.Act.TheFolds.{fold-roll-Catcher}

@@ -3,16 +3,16 @@ use Rattle.std.proofs.Common.{◌≡◌, ℕ, ◌+◌, ◌<◌, ◌≤◌, Bool,
 use Rattle.std.proofs.lemmas.List.{at_drop_all}
 use Rattle.asl_bits.specs.declared.TheConstants.{WIDTH_LIMIT}
 use Rattle.asl_syn.specs.declared.token.Span.{Span}
-use Rattle.asl_rules.specs.Cuts.{cuts}
-use Rattle.asl_rules.specs.Matching.{is_matched}
-use Rattle.asl_rules.specs.Operators.{truth}
-use Rattle.asl_rules.specs.Plans.{Meter, Done, Ret, choose, lift, run}
-use Rattle.asl_rules.specs.Shapes.{PatternShapes}
-use Rattle.asl_rules.specs.StatementForms.{alternative, alternatives, guarded, no_match, scope}
-use Rattle.asl_rules.specs.Trees as rules
-use Rattle.asl_rules.specs.Trees.{Tree, Trees, Act}
-use Rattle.asl_rules.specs.TypedMeaning.{BareCore, Runs, acts_of, choices_of, in_bare, itself, list_of}
-use Rattle.asl_rules.specs.Values.{Value, Exit}
+use Rattle.asl_rules.specs.runs.Cuts.{cuts}
+use Rattle.asl_rules.specs.values.Matching.{is_matched}
+use Rattle.asl_rules.specs.values.Operators.{truth}
+use Rattle.asl_rules.specs.runs.Plans.{Meter, Done, Ret, choose, lift, run}
+use Rattle.asl_rules.specs.types.Shapes.{PatternShapes}
+use Rattle.asl_rules.specs.runs.StatementForms.{alternative, alternatives, guarded, no_match, scope}
+use Rattle.asl_rules.specs.runs.Trees as rules
+use Rattle.asl_rules.specs.runs.Trees.{Tree, Trees, Act}
+use Rattle.asl_rules.specs.private.TypedMeaning.{BareCore, Runs, acts_of, choices_of, in_bare, itself, list_of}
+use Rattle.asl_rules.specs.values.Values.{Value, Exit}
 use Rattle.asl_shape.specs.View.{all_patterns}
 use Rattle.asl_tree.specs.Acts.{AlternativeFirst, BranchFirst, CatcherFirst, act_rule, alternative_rule, branch_rule, catcher_rule, last_rule, alternative_of, all_acts, all_alternatives, maybe_tree}
 use Rattle.asl_tree.specs.View.{all_trees}
@@ -24,7 +24,7 @@ use Rattle.asl_tree.specs.declared.act.Alternative.TheVariants as when
 use Rattle.asl_tree.specs.declared.act.Choice.{Choice as Wanted}
 use Rattle.asl_tree.specs.declared.act.TreeFunc.{TreeFunc}
 use Rattle.asl_run.specs.declared.stop.Stop.{Stop as Stopped}
-use Rattle.asl_run.specs.Choosing.{chosen, guard}
+use Rattle.asl_run.specs.private.Choosing.{chosen, guard}
 use Rattle.asl_run.specs.Meets.{Left, Meets}
 use Rattle.asl_run.specs.View.{exit_of, meaning_of, cutting_of}
 use Rattle.asl_run.proofs.Storing.{at_front}

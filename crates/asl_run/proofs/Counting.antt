@@ -7,11 +7,11 @@ use Rattle.asl_syn.specs.declared.token.Span.{Span}
 use Rattle.asl_syn.specs.declared.code.DynCode.TheVariants.{D10}
 use Rattle.asl_syn.specs.declared.tree.Direction.{Direction}
 use Rattle.asl_syn.specs.declared.tree.Direction.TheVariants.{Up, Down}
-use Rattle.asl_rules.specs.Plans.{Meter, Meaning, Faulted, Ret, Done, Halt, choose, run}
-use Rattle.asl_rules.specs.StatementForms.{is_past, next_index, index_turn}
-use Rattle.asl_rules.specs.Trees.{Tree, Act}
-use Rattle.asl_rules.specs.TypedMeaning.{BareCore, Runs, acts_of, in_bare, indexed, with_next}
-use Rattle.asl_rules.specs.Values.{Value, Exit, Normal, int}
+use Rattle.asl_rules.specs.runs.Plans.{Meter, Meaning, Faulted, Ret, Done, Halt, choose, run}
+use Rattle.asl_rules.specs.runs.StatementForms.{is_past, next_index, index_turn}
+use Rattle.asl_rules.specs.runs.Trees.{Tree, Act}
+use Rattle.asl_rules.specs.private.TypedMeaning.{BareCore, Runs, acts_of, in_bare, indexed, with_next}
+use Rattle.asl_rules.specs.values.Values.{Value, Exit, Normal, int}
 use Rattle.asl_tree.specs.Acts.{all_acts}
 use Rattle.asl_tree.specs.declared.act.Act.{Act as TypedAct}
 use Rattle.asl_tree.specs.declared.act.TreeFunc.{TreeFunc}

@@ -2,12 +2,12 @@
 use Rattle.std.proofs.Common.{◌≡◌, ℕ, zero, suc, ◌-◌, ◌<◌, ◌==◌, Bool, true, false, if◌then◌else◌, List, Result, Ok, Err, sym, ap, ◌∙◌, subst, arith}
 use Rattle.asl_syn.specs.declared.token.Span.{Span}
 use Rattle.asl_syn.specs.declared.code.DynCode.TheVariants.{D12, D13}
-use Rattle.asl_rules.specs.Cuts as cut
-use Rattle.asl_rules.specs.Cuts.{cuts}
-use Rattle.asl_rules.specs.Plans.{Meter, Outcome, Done, Halt, Faulted, enter, run}
-use Rattle.asl_rules.specs.Trees.{Tree, Act, tree_at, act_at}
-use Rattle.asl_rules.specs.TypedMeaning.{BareCore, tree_node, act_node}
-use Rattle.asl_rules.specs.Values as rules
+use Rattle.asl_rules.specs.runs.Cuts as cut
+use Rattle.asl_rules.specs.runs.Cuts.{cuts}
+use Rattle.asl_rules.specs.runs.Plans.{Meter, Outcome, Done, Halt, Faulted, enter, run}
+use Rattle.asl_rules.specs.runs.Trees.{Tree, Act, tree_at, act_at}
+use Rattle.asl_rules.specs.private.TypedMeaning.{BareCore, tree_node, act_node}
+use Rattle.asl_rules.specs.values.Values as rules
 use Rattle.asl_tree.specs.declared.act.TreeFunc.{TreeFunc}
 use Rattle.asl_value.specs.declared.value.Value.{Value}
 use Rattle.asl_value.specs.View.{value_of}

@@ -3,18 +3,18 @@ use Rattle.std.proofs.Common.{◌≡◌, ◌≢◌, ℕ, suc, ◌+◌, ◌<◌, 
 use Rattle.std.specs.Prelude.{reverse}
 use Rattle.std.proofs.lemmas.List.{at_drop_all, at_drop_more, map-append, reverse-append}
 use Rattle.asl_syn.specs.declared.token.Span.{Span}
-use Rattle.asl_rules.specs.ByPlace.{seen_as}
-use Rattle.asl_rules.specs.Forms.{activations}
-use Rattle.asl_rules.specs.Plans.{Stuck, WrongKind, Pure, Good, Bad, lift}
-use Rattle.asl_rules.specs.Pures.{◌>>=◌}
-use Rattle.asl_rules.specs.Trees.{TreeFunc}
-use Rattle.asl_rules.specs.Types.{Ty}
-use Rattle.asl_rules.specs.TypedMeaning.{BareCore, BareFrame, entered, formals_seen, params_of, run_with}
-use Rattle.asl_rules.specs.Values.{Value}
+use Rattle.asl_rules.specs.private.ByPlace.{seen_as}
+use Rattle.asl_rules.specs.runs.Forms.{activations}
+use Rattle.asl_rules.specs.runs.Plans.{Stuck, WrongKind, Pure, Good, Bad, lift}
+use Rattle.asl_rules.specs.runs.Pures.{◌>>=◌}
+use Rattle.asl_rules.specs.runs.Trees.{TreeFunc}
+use Rattle.asl_rules.specs.types.Types.{Ty}
+use Rattle.asl_rules.specs.private.TypedMeaning.{BareCore, BareFrame, entered, formals_seen, params_of, run_with}
+use Rattle.asl_rules.specs.values.Values.{Value}
 use Rattle.asl_value.specs.declared.value.Value.{Value as Stored}
 use Rattle.asl_value.specs.View.{value_of}
 use Rattle.asl_run.specs.declared.run.Run.{Run}
-use Rattle.asl_run.specs.Calling.{frame_called, frame_given, in_own_frame, Enters}
+use Rattle.asl_run.specs.private.Calling.{frame_called, frame_given, in_own_frame, Enters}
 use Rattle.asl_run.specs.View.{caller_of, core_of}
 
 -- one that is pushed is the first

@@ -2,7 +2,7 @@
 use Rattle.std.proofs.Common.{◌≡◌, ◌≢◌, true, false, arith}
 use Rattle.std.specs.Prelude.{ℤ, pos, ◌+ℤ◌, ◌-ℤ◌}
 use Rattle.std.proofs.lemmas.Int.{ints}
-use Rattle.asl_rules.specs.Operators.{less}
+use Rattle.asl_rules.specs.values.Operators.{less}
 
 pub next_up : (i last : ℤ) → less last i ≡ false → i ≢ last → less last (i +ℤ pos 1) ≡ false
 next_up i last h k = grind (arith, ints)

@@ -1,9 +1,9 @@
 -- What is left of a plan once its first part is done, and where that part stops the whole.
 use Rattle.std.proofs.Common.{◌≡◌, ℕ, inl, inr, List, Err, refl, sym, ap, subst}
-use Rattle.asl_rules.specs.Cuts.{rest, cuts}
-use Rattle.asl_rules.specs.Plans.{Meter, Outcome, Done, Thrown, Halt, Raise, Within, follow, run, ◌>>=◌, handle}
-use Rattle.asl_rules.specs.TypedMeaning.{BareCore, Runs}
-use Rattle.asl_rules.specs.Values as rules
+use Rattle.asl_rules.specs.runs.Cuts.{rest, cuts}
+use Rattle.asl_rules.specs.runs.Plans.{Meter, Outcome, Done, Thrown, Halt, Raise, Within, follow, run, ◌>>=◌, handle}
+use Rattle.asl_rules.specs.private.TypedMeaning.{BareCore, Runs}
+use Rattle.asl_rules.specs.values.Values as rules
 use Rattle.asl_tree.specs.declared.act.TreeFunc.{TreeFunc}
 use Rattle.asl_value.specs.declared.value.Value.{Value}
 use Rattle.asl_run.specs.declared.stop.Stop.{Stop as Stopped}

@@ -1,12 +1,12 @@
 -- Statements and expressions in order, one by one.
 use Rattle.std.proofs.Common.{◌≡◌, ℕ, ◌+◌, ◌<◌, inr, List, [], ◌∷◌, ◌++◌, length, get_or, drop, map, sym, ap, ◌∙◌, subst}
 use Rattle.std.proofs.lemmas.List.{map-append}
-use Rattle.asl_rules.specs.Cuts.{rest, cuts}
-use Rattle.asl_rules.specs.Forms.{eval_all}
-use Rattle.asl_rules.specs.Plans.{Meter, Done, Ret, Eval, Exec, run, ◌>>=◌}
-use Rattle.asl_rules.specs.StatementForms.{go_on, in_order}
-use Rattle.asl_rules.specs.TypedMeaning.{BareCore, Runs, acts_of, list_of}
-use Rattle.asl_rules.specs.Values.{Value, Exit, Normal}
+use Rattle.asl_rules.specs.runs.Cuts.{rest, cuts}
+use Rattle.asl_rules.specs.runs.Forms.{eval_all}
+use Rattle.asl_rules.specs.runs.Plans.{Meter, Done, Ret, Eval, Exec, run, ◌>>=◌}
+use Rattle.asl_rules.specs.runs.StatementForms.{go_on, in_order}
+use Rattle.asl_rules.specs.private.TypedMeaning.{BareCore, Runs, acts_of, list_of}
+use Rattle.asl_rules.specs.values.Values.{Value, Exit, Normal}
 use Rattle.asl_tree.specs.Acts.{act_of, all_acts}
 use Rattle.asl_tree.specs.declared.act.Act.{Act}
 use Rattle.asl_tree.specs.declared.act.TreeFunc.{TreeFunc}

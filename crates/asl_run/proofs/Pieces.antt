@@ -1,13 +1,13 @@
 -- Text that is written in pieces.
 use Rattle.std.proofs.Common.{◌≡◌, ◌≢◌, ℕ, zero, suc, ◌<◌, ◌==◌, Bool, false, cond, List, [], ◌∷◌, ◌++◌, length, get_or, take, drop, Option, Err, refl, sym, ap, ◌∙◌, subst, arith, append_assoc}
-use Rattle.asl_rules.specs.Strings.{escaped, unescaped}
-use Rattle.asl_rules.specs.Told.{appended, open_after, Part}
+use Rattle.asl_rules.specs.values.Strings.{escaped, unescaped}
+use Rattle.asl_rules.specs.runs.Told.{appended, open_after, Part}
 use Rattle.asl_rules.proofs.basics.Pieces.{appended_twice, takes_first, takes_then}
 use Rattle.asl_value.proofs.Endings.{open_then}
 use Rattle.asl_run.specs.declared.stop.Stop.{Stop}
 use Rattle.asl_run.specs.declared.stop.Stop.TheVariants as stop
 use Rattle.asl_run.specs.Meets.{Writes, WroteFront}
-use Rattle.asl_run.specs.Pieces.{piece_text}
+use Rattle.asl_run.specs.private.Pieces.{piece_text}
 
 -- ---- strings
 

@@ -3,24 +3,24 @@ use Rattle.std.proofs.Common.{◌≡◌, ℕ, zero, suc, ◌<◌, inl, Bool, tru
 use Rattle.std.specs.Prelude.{option_map, slice_get, slice_set}
 use Rattle.asl_bits.specs.declared.TheConstants.{WIDTH_LIMIT}
 use Rattle.asl_syn.specs.declared.token.Span.{Span}
-use Rattle.asl_rules.specs.ByPlace.{Step, updated}
-use Rattle.asl_rules.specs.Cuts.{cuts}
-use Rattle.asl_rules.specs.Plans.{Meter, End, Faulted, Stuck, Halt, Pure, Good, Bad, lift, run}
-use Rattle.asl_rules.specs.Pures.{◌>>=◌, known}
-use Rattle.asl_rules.specs.Values as rules
-use Rattle.asl_rules.specs.Views.{adopted, adopting}
+use Rattle.asl_rules.specs.private.ByPlace.{Step, updated}
+use Rattle.asl_rules.specs.runs.Cuts.{cuts}
+use Rattle.asl_rules.specs.runs.Plans.{Meter, End, Faulted, Stuck, Halt, Pure, Good, Bad, lift, run}
+use Rattle.asl_rules.specs.runs.Pures.{◌>>=◌, known}
+use Rattle.asl_rules.specs.values.Values as rules
+use Rattle.asl_rules.specs.types.Views.{adopted, adopting}
 use Rattle.asl_rules.specs.declared.slot.Slot.TheVariants.{Local, Global}
-use Rattle.asl_rules.specs.TypedMeaning.{BareCore, Runs, set_at, stored}
+use Rattle.asl_rules.specs.private.TypedMeaning.{BareCore, Runs, set_at, stored}
 use Rattle.asl_tree.specs.declared.act.TreeFunc.{TreeFunc}
 use Rattle.asl_value.specs.declared.failure.Failure.{Failure}
 use Rattle.asl_value.specs.declared.failure.Failure.TheVariants as failure
 use Rattle.asl_value.specs.declared.value.Value.{Value}
-use Rattle.asl_value.specs.Answers.{Changes}
+use Rattle.asl_value.specs.private.Answers.{Changes}
 use Rattle.asl_value.specs.View.{value_of}
 use Rattle.asl_run.specs.declared.stop.Stop.{Stop}
 use Rattle.asl_run.specs.declared.stop.Stop.TheVariants as stop
 use Rattle.asl_run.specs.Meets.{Meets, Stores}
-use Rattle.asl_run.specs.Storing.{stored_in}
+use Rattle.asl_run.specs.private.Storing.{stored_in}
 use Rattle.asl_run.specs.View.{exit_of, mistake_of, stop_of, meaning_of, cutting_of}
 use Rattle.asl_run.proofs.Slots.{set_within}
 

@@ -2,17 +2,17 @@
 use Rattle.std.proofs.Common.{◌≡◌, ℕ, suc, ◌+◌, ◌<◌, inl, inr, List, [], ◌∷◌, ◌++◌, length, get_or, drop, Option, Err, refl, sym, ap, ◌∙◌, subst, arith}
 use Rattle.std.proofs.Math.Seq.{drop-cons}
 use Rattle.asl_syn.specs.declared.tree.PrintKind.{PrintKind}
-use Rattle.asl_rules.specs.StatementForms as forms
+use Rattle.asl_rules.specs.runs.StatementForms as forms
 use Rattle.asl_tree.specs.declared.act.TreeFunc.{TreeFunc}
 use Rattle.asl_tree.specs.declared.act.TreeItem.{TreeItem}
 use Rattle.asl_tree.specs.declared.act.TreeItem.TheVariants.{Verbatim, Shown}
-use Rattle.asl_rules.specs.Values.{Value, Exit}
-use Rattle.asl_rules.specs.Told.{appended, open_after, Part}
-use Rattle.asl_rules.specs.Plans.{Meter, Done, Ret, Eval, Put, run, wrote, ◌>>=◌}
-use Rattle.asl_rules.specs.Cuts.{cuts}
-use Rattle.asl_rules.specs.Strings.{string_text}
-use Rattle.asl_rules.specs.Texts.{value_text}
-use Rattle.asl_rules.specs.TypedMeaning.{BareCore, Runs, item_of}
+use Rattle.asl_rules.specs.values.Values.{Value, Exit}
+use Rattle.asl_rules.specs.runs.Told.{appended, open_after, Part}
+use Rattle.asl_rules.specs.runs.Plans.{Meter, Done, Ret, Eval, Put, run, wrote, ◌>>=◌}
+use Rattle.asl_rules.specs.runs.Cuts.{cuts}
+use Rattle.asl_rules.specs.values.Strings.{string_text}
+use Rattle.asl_rules.specs.report.Texts.{value_text}
+use Rattle.asl_rules.specs.private.TypedMeaning.{BareCore, Runs, item_of}
 use Rattle.asl_tree.specs.Acts.{all_items}
 use Rattle.asl_tree.specs.View.{tree_of}
 use Rattle.asl_tree.specs.declared.tree.Tree.{Tree}

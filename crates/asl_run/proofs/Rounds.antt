@@ -4,12 +4,12 @@ use Rattle.std.specs.Prelude.{ℤ}
 use Rattle.asl_syn.specs.declared.token.Span.{Span}
 use Rattle.asl_syn.specs.declared.code.DynCode.TheVariants.{D10}
 use Rattle.asl_syn.specs.declared.tree.Direction.{Direction}
-use Rattle.asl_rules.specs.Plans.{Faulted, Stop, Ret, choose, follow}
-use Rattle.asl_rules.specs.StatementForms.{go_on, asked, done_normal, scope, scope_with, is_past, next_index, index_turn, while_turn, repeat_turn}
-use Rattle.asl_rules.specs.Trees.{Tree, Act}
-use Rattle.asl_rules.specs.TypedMeaning.{BareCore, Runs, in_bare, indexed}
-use Rattle.asl_rules.specs.Values.{Exit, Normal, int}
-use Rattle.asl_run.specs.Looping.{turn_until}
+use Rattle.asl_rules.specs.runs.Plans.{Faulted, Stop, Ret, choose, follow}
+use Rattle.asl_rules.specs.runs.StatementForms.{go_on, asked, done_normal, scope, scope_with, is_past, next_index, index_turn, while_turn, repeat_turn}
+use Rattle.asl_rules.specs.runs.Trees.{Tree, Act}
+use Rattle.asl_rules.specs.private.TypedMeaning.{BareCore, Runs, in_bare, indexed}
+use Rattle.asl_rules.specs.values.Values.{Exit, Normal, int}
+use Rattle.asl_run.specs.private.Looping.{turn_until}
 
 while_more : (span : Span) (e : Tree) (ss : List Act) (n : ℕ) (c : BareCore) → 0 < n →
     while_turn in_bare span e ss n c ≡ follow (scope in_bare ss c) (λ x c1. go_on x c1 (λ c2. asked span e c2 (while_turn in_bare span e ss (n - 1)) done_normal))

@@ -1,7 +1,7 @@
 -- What statements stand for that have several parts.
 use Rattle.std.proofs.Common.{◌≡◌, ℕ, List, sym, ap, ◌∙◌}
 use Rattle.asl_syn.specs.declared.token.Span.{Span}
-use Rattle.asl_rules.specs.Trees as rules
+use Rattle.asl_rules.specs.runs.Trees as rules
 use Rattle.asl_tree.specs.Acts.{AlternativeFirst, BranchFirst, CatcherFirst, act_of, act_rule, all_places, alternative_rule, branch_rule, catcher_rule, last_rule, simple_of}
 use Rattle.asl_tree.specs.View.{callee_of, tree_of, all_trees}
 use Rattle.asl_tree.specs.declared.act.Act.{Act}

@@ -3,27 +3,27 @@ use Rattle.std.proofs.Common.{◌≡◌, ℕ, suc, ◌+◌, ◌<◌, ◌≤◌, 
 use Rattle.std.proofs.Math.Seq.{drop-cons}
 use Rattle.std.proofs.lemmas.List.{at_drop_all, map-append}
 use Rattle.asl_bits.specs.declared.TheConstants.{WIDTH_LIMIT}
-use Rattle.asl_rules.specs.Cuts.{cuts}
-use Rattle.asl_rules.specs.Plans.{Meter, End, Done, Ret, Pure, Good, Bad, run}
-use Rattle.asl_rules.specs.Pures.{◌>>=◌}
-use Rattle.asl_rules.specs.ByPlace.{Step, part_in}
-use Rattle.asl_rules.specs.StatementForms.{store_each}
-use Rattle.asl_rules.specs.TypedMeaning.{BareCore, Runs, step_ahead, stores}
-use Rattle.asl_rules.specs.Values.{Value, Exit, Normal}
+use Rattle.asl_rules.specs.runs.Cuts.{cuts}
+use Rattle.asl_rules.specs.runs.Plans.{Meter, End, Done, Ret, Pure, Good, Bad, run}
+use Rattle.asl_rules.specs.runs.Pures.{◌>>=◌}
+use Rattle.asl_rules.specs.private.ByPlace.{Step, part_in}
+use Rattle.asl_rules.specs.runs.StatementForms.{store_each}
+use Rattle.asl_rules.specs.private.TypedMeaning.{BareCore, Runs, step_ahead, stores}
+use Rattle.asl_rules.specs.values.Values.{Value, Exit, Normal}
 use Rattle.asl_tree.specs.Acts.{all_places, step_of}
 use Rattle.asl_tree.specs.declared.act.TreeFunc.{TreeFunc}
 use Rattle.asl_tree.specs.declared.act.TreePlace.{TreePlace}
 use Rattle.asl_tree.specs.declared.act.TreeStep.{TreeStep}
-use Rattle.asl_value.specs.Answers as answers
+use Rattle.asl_value.specs.private.Answers as answers
 use Rattle.asl_value.specs.declared.failure.Failure.{Failure}
 use Rattle.asl_value.specs.declared.failure.Failure.TheVariants as failure
 use Rattle.asl_value.specs.declared.replacing.Step.{Step as StoredStep}
 use Rattle.asl_value.specs.declared.value.Value.{Value as Stored}
-use Rattle.asl_value.specs.Forms.{step_of as stored_step, all_steps}
+use Rattle.asl_value.specs.private.Forms.{step_of as stored_step, all_steps}
 use Rattle.asl_value.specs.View.{value_of}
 use Rattle.asl_run.specs.declared.stop.Stop.{Stop as Stopped}
 use Rattle.asl_run.specs.Meets.{Is, Left, Meets}
-use Rattle.asl_run.specs.Storing.{parts_in, parts_behind, taking, all_taking, stepped, all_stepped}
+use Rattle.asl_run.specs.private.Storing.{parts_in, parts_behind, taking, all_taking, stepped, all_stepped}
 use Rattle.asl_run.specs.View.{exit_of, stop_of, meaning_of, cutting_of}
 use Rattle.asl_run.proofs.Turns.{goes_failed, goes_on, left_left, meets_left, one_stepped, one_stored}
 

@@ -2,18 +2,18 @@
 use Rattle.std.proofs.Common.{◌≡◌, ◌≢◌, ℕ, suc, ◌+◌, ◌<◌, ◌≤◌, Bool, true, false, List, [], ◌∷◌, length, get_or, drop, map, refl, sym, ap, ◌∙◌, append_assoc, append-nil}
 use Rattle.std.proofs.lemmas.List.{at_drop_more, at_drop_all, length-map}
 use Rattle.asl_syn.specs.declared.token.Span.{Span}
-use Rattle.asl_rules.specs.Plans.{Stuck, WrongKind, Pure, Good, Bad}
-use Rattle.asl_rules.specs.Pures.{◌>>=◌}
-use Rattle.asl_rules.specs.Structures.{values_in}
-use Rattle.asl_rules.specs.TypedMeaning.{BareCore, parts_taken, with_next}
-use Rattle.asl_rules.specs.Values as rules
+use Rattle.asl_rules.specs.runs.Plans.{Stuck, WrongKind, Pure, Good, Bad}
+use Rattle.asl_rules.specs.runs.Pures.{◌>>=◌}
+use Rattle.asl_rules.specs.values.Structures.{values_in}
+use Rattle.asl_rules.specs.private.TypedMeaning.{BareCore, parts_taken, with_next}
+use Rattle.asl_rules.specs.values.Values as rules
 use Rattle.asl_value.specs.declared.value.FieldValue.TheFolds.{fold-roll-Value}
 use Rattle.asl_value.specs.declared.value.FieldValue.TheOpen as layers
 use Rattle.asl_value.specs.declared.value.Value.{Value}
 use Rattle.asl_value.specs.declared.value.Value.TheVariants as variants
 use Rattle.asl_value.specs.View as view
 use Rattle.asl_value.specs.View.{value_of}
-use Rattle.asl_run.specs.Finishes.{parts_pushed, tuple_pushed}
+use Rattle.asl_run.specs.private.Finishes.{parts_pushed, tuple_pushed}
 
 -- one that has a name stands before those behind it
 pub part_then : (span : Span) (bs : List Bool) (xs : List rules.Value) (x : rules.Value) (c : BareCore) → parts_pushed span (true ∷ bs) (x ∷ xs) c ≡ parts_pushed span bs xs (with_next (x ∷ []) c)

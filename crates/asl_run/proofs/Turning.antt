@@ -4,16 +4,16 @@ use Rattle.std.specs.Prelude.{ℤ}
 use mathlib.Core.Bool.{beq}
 use Rattle.asl_syn.specs.declared.token.Span.{Span}
 use Rattle.asl_syn.specs.declared.tree.Direction.{Direction}
-use Rattle.asl_rules.specs.Cuts.{cuts}
-use Rattle.asl_rules.specs.Operators.{truth}
-use Rattle.asl_rules.specs.Plans.{Meter, Done, Ret, Eval, Good, choose, follow, lift, run, ◌>>=◌}
-use Rattle.asl_rules.specs.Limits.{most_turns}
-use Rattle.asl_rules.specs.StatementForms.{asked, go_on, index_turn, is_past, limited, next_index, scope, scope_with, turns_in, whole_number}
-use Rattle.asl_rules.specs.Trees.{Tree, Act}
-use Rattle.asl_rules.specs.TypedMeaning.{BareCore, Runs, in_bare, indexed}
-use Rattle.asl_rules.specs.Values.{Value, Exit, Normal, Returned, int}
+use Rattle.asl_rules.specs.runs.Cuts.{cuts}
+use Rattle.asl_rules.specs.values.Operators.{truth}
+use Rattle.asl_rules.specs.runs.Plans.{Meter, Done, Ret, Eval, Good, choose, follow, lift, run, ◌>>=◌}
+use Rattle.asl_rules.specs.runs.Limits.{most_turns}
+use Rattle.asl_rules.specs.runs.StatementForms.{asked, go_on, index_turn, is_past, limited, next_index, scope, scope_with, turns_in, whole_number}
+use Rattle.asl_rules.specs.runs.Trees.{Tree, Act}
+use Rattle.asl_rules.specs.private.TypedMeaning.{BareCore, Runs, in_bare, indexed}
+use Rattle.asl_rules.specs.values.Values.{Value, Exit, Normal, Returned, int}
 use Rattle.asl_tree.specs.declared.act.TreeFunc.{TreeFunc}
-use Rattle.asl_value.specs.Answers as answers
+use Rattle.asl_value.specs.private.Answers as answers
 use Rattle.asl_value.specs.declared.failure.Failure.{Failure}
 use Rattle.asl_value.specs.declared.failure.Failure.TheVariants as failure
 use Rattle.asl_value.specs.declared.value.FieldValue.TheFolds.{fold-roll-Value}
@@ -23,7 +23,7 @@ use Rattle.asl_value.specs.View as view
 use Rattle.asl_value.specs.View.{value_of}
 use Rattle.asl_run.specs.declared.stop.Stop.{Stop as Stopped}
 use Rattle.asl_run.specs.declared.stop.Stop.TheVariants as stop
-use Rattle.asl_run.specs.Looping.{limit_asked, turn_until}
+use Rattle.asl_run.specs.private.Looping.{limit_asked, turn_until}
 use Rattle.asl_run.specs.Meets.{Is, Left, Meets}
 use Rattle.asl_run.specs.View.{exit_of, stop_of, meaning_of, cutting_of}
 use Rattle.asl_run.proofs.Lefts.{goes_follow}

@@ -1,12 +1,12 @@
 -- A part of a plan, and what goes on behind it: the whole gives what goes on gives where the part is done.
 use Rattle.std.proofs.Common.{◌≡◌, ℕ, ◌⊎◌, inl, inr, List, [], ◌∷◌, ◌++◌, Result, Ok, Err, refl, sym, ap, ◌∙◌, subst}
-use Rattle.asl_rules.specs.Cuts.{rest, cuts}
-use Rattle.asl_rules.specs.Forms.{eval_all, at_once}
-use Rattle.asl_rules.specs.Plans.{Meter, Outcome, Done, Thrown, Halt, Ret, Eval, Pure, Good, Bad, lift, run, ◌>>=◌}
-use Rattle.asl_rules.specs.StatementForms.{Ahead, ready, by_one, by_all, eval_step, eval_steps, Store, store_each}
-use Rattle.asl_rules.specs.Trees.{Tree}
-use Rattle.asl_rules.specs.TypedMeaning.{BareCore, Runs}
-use Rattle.asl_rules.specs.Values.{Value, Exit, Normal}
+use Rattle.asl_rules.specs.runs.Cuts.{rest, cuts}
+use Rattle.asl_rules.specs.runs.Forms.{eval_all, at_once}
+use Rattle.asl_rules.specs.runs.Plans.{Meter, Outcome, Done, Thrown, Halt, Ret, Eval, Pure, Good, Bad, lift, run, ◌>>=◌}
+use Rattle.asl_rules.specs.runs.StatementForms.{Ahead, ready, by_one, by_all, eval_step, eval_steps, Store, store_each}
+use Rattle.asl_rules.specs.runs.Trees.{Tree}
+use Rattle.asl_rules.specs.private.TypedMeaning.{BareCore, Runs}
+use Rattle.asl_rules.specs.values.Values.{Value, Exit, Normal}
 use Rattle.asl_tree.specs.declared.act.TreeFunc.{TreeFunc}
 use Rattle.asl_run.specs.declared.stop.Stop.{Stop as Stopped}
 use Rattle.asl_run.specs.declared.stop.Stop.TheVariants as stop

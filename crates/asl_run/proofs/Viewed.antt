@@ -2,7 +2,7 @@
 use Rattle.std.proofs.Common.{◌≡◌, ℕ, List, sym, ap, ◌∙◌}
 use Rattle.asl_syn.specs.declared.tree.BinaryOperator.{BinaryOperator}
 use Rattle.asl_syn.specs.declared.tree.UnaryOperator.{UnaryOperator}
-use Rattle.asl_rules.specs.Trees as rules
+use Rattle.asl_rules.specs.runs.Trees as rules
 use Rattle.asl_rules.specs.declared.slot.Slot.{Slot}
 use Rattle.asl_shape.specs.View.{all_given, type_of, pattern_of}
 use Rattle.asl_shape.specs.declared.shapes.PatternShape.{PatternShape}
@@ -15,7 +15,7 @@ use Rattle.asl_tree.specs.declared.tree.Tree.{Tree}
 use Rattle.asl_tree.specs.declared.tree.Tree.TheFolds.{fold-roll-Tree}
 use Rattle.asl_tree.specs.declared.tree.Tree.TheOpen as layers
 use Rattle.asl_tree.specs.declared.tree.Tree.TheVariants as node
-use Rattle.asl_value.specs.Forms.{shell_of}
+use Rattle.asl_value.specs.private.Forms.{shell_of}
 use Rattle.asl_value.specs.View.{all_slices}
 use Rattle.asl_value.specs.declared.parts.Shell.{Shell}
 use Rattle.asl_value.specs.declared.slices.SliceShape.{SliceShape}

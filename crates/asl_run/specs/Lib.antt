@@ -1,11 +1,3 @@
 pub mod View
 pub mod Meets
-pub mod Operations
-pub mod Finishes
-pub mod Calling
-pub mod Choosing
-pub mod Storing
-pub mod Pieces
-pub mod Below
-pub mod AtOnce
-pub mod Looping
+pub mod private

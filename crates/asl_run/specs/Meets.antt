@@ -1,11 +1,11 @@
 -- How the interpreter's answers are related to the rules.
 use Rattle.std.specs.Prelude.{◌≡◌, ◌≤◌, ℕ, Bool, List, ◌++◌, map, Option, Result, Ok, Err}
 use Rattle.asl_io.specs.Faults.{Rises}
-use Rattle.asl_rules.specs.Plans.{Meter, Faulted, Stuck, Outcome, Done, Thrown, Halt, run, Pure, Good, Bad}
-use Rattle.asl_rules.specs.Cuts.{cuts}
-use Rattle.asl_rules.specs.Told.{appended, open_after, Part}
-use Rattle.asl_rules.specs.TypedMeaning.{BareCore, Runs as Plans}
-use Rattle.asl_rules.specs.Values as rules
+use Rattle.asl_rules.specs.runs.Plans.{Meter, Faulted, Stuck, Outcome, Done, Thrown, Halt, run, Pure, Good, Bad}
+use Rattle.asl_rules.specs.runs.Cuts.{cuts}
+use Rattle.asl_rules.specs.runs.Told.{appended, open_after, Part}
+use Rattle.asl_rules.specs.private.TypedMeaning.{BareCore, Runs as Plans}
+use Rattle.asl_rules.specs.values.Values as rules
 use Rattle.asl_tree.specs.Acts.{act_of}
 use Rattle.asl_tree.specs.View.{tree_of}
 use Rattle.asl_tree.specs.declared.act.Act.{Act}

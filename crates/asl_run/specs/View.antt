@@ -1,12 +1,12 @@
 -- How the rules see what a run works on.
 use Rattle.std.specs.Prelude.{ℕ, List, Option, map, option_map, reverse}
 use Rattle.asl_bits.specs.declared.TheConstants.{WIDTH_LIMIT}
-use Rattle.asl_rules.specs.Values as rules
-use Rattle.asl_rules.specs.Plans.{Meter, Meaning, meanings}
-use Rattle.asl_rules.specs.Plans as plans
-use Rattle.asl_rules.specs.Cuts.{Cutting, cuttings}
-use Rattle.asl_rules.specs.Trees.{Tree, Act}
-use Rattle.asl_rules.specs.TypedMeaning.{BareCore, BareFrame, TreeProgram, tree_nodes}
+use Rattle.asl_rules.specs.values.Values as rules
+use Rattle.asl_rules.specs.runs.Plans.{Meter, Meaning, meanings}
+use Rattle.asl_rules.specs.runs.Plans as plans
+use Rattle.asl_rules.specs.runs.Cuts.{Cutting, cuttings}
+use Rattle.asl_rules.specs.runs.Trees.{Tree, Act}
+use Rattle.asl_rules.specs.private.TypedMeaning.{BareCore, BareFrame, TreeProgram, tree_nodes}
 use Rattle.asl_tree.specs.declared.act.TreeFunc.{TreeFunc}
 use Rattle.asl_tree.specs.Acts.{all_funcs}
 use Rattle.asl_value.specs.View.{value_of}

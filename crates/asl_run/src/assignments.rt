@@ -1,21 +1,21 @@
 //! Assignments: a value, or parts of it, stored at places.
 ghost use Rattle.std.specs.Prelude.{◌≡◌, [], ◌∷◌, length, map, IfOk};
 ghost use Rattle.asl_bits.specs.declared.TheConstants.{WIDTH_LIMIT};
-ghost use Rattle.asl_rules.specs.ByPlace.{into_slices};
-ghost use Rattle.asl_rules.specs.Forms.{eval_all as in_turn};
-ghost use Rattle.asl_rules.specs.Plans.{Ret, lift};
-ghost use Rattle.asl_rules.specs.HoldsBits as bits;
-ghost use Rattle.asl_rules.specs.StatementForms as forms;
-ghost use Rattle.asl_rules.specs.Trees.{tree_type};
-ghost use Rattle.asl_rules.specs.TypedMeaning as rules;
-ghost use Rattle.asl_rules.specs.TypedMeaning.{list_of};
+ghost use Rattle.asl_rules.specs.private.ByPlace.{into_slices};
+ghost use Rattle.asl_rules.specs.runs.Forms.{eval_all as in_turn};
+ghost use Rattle.asl_rules.specs.runs.Plans.{Ret, lift};
+ghost use Rattle.asl_rules.specs.private.HoldsBits as bits;
+ghost use Rattle.asl_rules.specs.runs.StatementForms as forms;
+ghost use Rattle.asl_rules.specs.runs.Trees.{tree_type};
+ghost use Rattle.asl_rules.specs.private.TypedMeaning as rules;
+ghost use Rattle.asl_rules.specs.private.TypedMeaning.{list_of};
 ghost use Rattle.asl_tree.specs.Acts.{all_places};
 ghost use Rattle.asl_tree.specs.View.{tree_of, all_trees};
-ghost use Rattle.asl_value.specs.Forms.{step_of, all_steps};
+ghost use Rattle.asl_value.specs.private.Forms.{step_of, all_steps};
 ghost use Rattle.asl_value.specs.View.{value_of, all_slices};
-ghost use Rattle.asl_run.specs.Below.{Evals};
+ghost use Rattle.asl_run.specs.private.Below.{Evals};
 ghost use Rattle.asl_run.specs.Meets.{Counts, Is, Keeps, Runs};
-ghost use Rattle.asl_run.specs.Storing.{stepped, all_stepped, parts_in, taking, all_taking};
+ghost use Rattle.asl_run.specs.private.Storing.{stepped, all_stepped, parts_in, taking, all_taking};
 ghost use Rattle.asl_run.specs.View.{exit_of};
 
 use crate::below::eval;

@@ -1,10 +1,10 @@
 //! The nodes below a node. A node is run by functions that take those which run the nodes below it as parameters, so that
 //! each is proved by itself, and only the five of `knot.rt` call one another.
 ghost use Rattle.std.specs.Prelude.{◌≡◌};
-ghost use Rattle.asl_rules.specs.StatementForms as forms;
-ghost use Rattle.asl_rules.specs.TypedMeaning.{acts_of};
+ghost use Rattle.asl_rules.specs.runs.StatementForms as forms;
+ghost use Rattle.asl_rules.specs.private.TypedMeaning.{acts_of};
 ghost use Rattle.asl_tree.specs.Acts.{all_acts};
-ghost use Rattle.asl_run.specs.Below.{Evals, Execs};
+ghost use Rattle.asl_run.specs.private.Below.{Evals, Execs};
 ghost use Rattle.asl_run.specs.Meets.{Counts, Evaluates, Keeps, Runs};
 ghost use Rattle.asl_run.specs.View.{exit_of};
 

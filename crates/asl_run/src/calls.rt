@@ -1,14 +1,14 @@
 //! Calls of subprograms.
 ghost use Rattle.std.specs.Prelude.{◌≡◌, ◌++◌, pos, map, option_map, reverse, slice_get, Some, IfOk, OnOk};
-ghost use Rattle.asl_rules.specs.Forms as forms;
-ghost use Rattle.asl_rules.specs.Operators.{less};
-ghost use Rattle.asl_rules.specs.TypedMeaning as rules;
-ghost use Rattle.asl_rules.specs.TypedMeaning.{list_of};
+ghost use Rattle.asl_rules.specs.runs.Forms as forms;
+ghost use Rattle.asl_rules.specs.values.Operators.{less};
+ghost use Rattle.asl_rules.specs.private.TypedMeaning as rules;
+ghost use Rattle.asl_rules.specs.private.TypedMeaning.{list_of};
 ghost use Rattle.asl_tree.specs.Acts.{all_funcs, func_of};
 ghost use Rattle.asl_tree.specs.View.{all_trees};
 ghost use Rattle.asl_value.specs.View.{value_of};
-ghost use Rattle.asl_run.specs.Below.{Evals, Execs};
-ghost use Rattle.asl_run.specs.Calling.{body_of, call_given, ended, frame_called, frame_given, in_own_frame, Enters, Leaves};
+ghost use Rattle.asl_run.specs.private.Below.{Evals, Execs};
+ghost use Rattle.asl_run.specs.private.Calling.{body_of, call_given, ended, frame_called, frame_given, in_own_frame, Enters, Leaves};
 ghost use Rattle.asl_run.specs.Meets.{Counts, Is, Keeps, Runs};
 ghost use Rattle.asl_run.specs.View.{exit_of};
 

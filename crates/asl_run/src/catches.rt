@@ -1,12 +1,12 @@
 //! `throw` and `try`.
 ghost use Rattle.std.specs.Prelude.{◌≡◌, None};
-ghost use Rattle.asl_rules.specs.StatementForms as forms;
-ghost use Rattle.asl_rules.specs.TypedMeaning as rules;
-ghost use Rattle.asl_rules.specs.TypedMeaning.{acts_of, caught_as, in_bare, itself};
+ghost use Rattle.asl_rules.specs.runs.StatementForms as forms;
+ghost use Rattle.asl_rules.specs.private.TypedMeaning as rules;
+ghost use Rattle.asl_rules.specs.private.TypedMeaning.{acts_of, caught_as, in_bare, itself};
 ghost use Rattle.asl_tree.specs.Acts.{all_acts, all_catchers, last_of};
 ghost use Rattle.asl_tree.specs.declared.act.Catcher.TheVariants.{Catch};
 ghost use Rattle.asl_value.specs.View.{value_of};
-ghost use Rattle.asl_run.specs.Below.{Execs};
+ghost use Rattle.asl_run.specs.private.Below.{Execs};
 ghost use Rattle.asl_run.specs.Meets.{Acts, Counts, Keeps, NoneRefused, Runs};
 ghost use Rattle.asl_run.specs.View.{exit_of};
 

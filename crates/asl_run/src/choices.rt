@@ -1,18 +1,18 @@
 //! `case`.
 ghost use Rattle.std.specs.Prelude.{◌≡◌, false, map};
 ghost use Rattle.asl_bits.specs.declared.TheConstants.{WIDTH_LIMIT};
-ghost use Rattle.asl_rules.specs.Matching as matching;
-ghost use Rattle.asl_rules.specs.Plans.{Ret, choose, lift};
-ghost use Rattle.asl_rules.specs.StatementForms as forms;
-ghost use Rattle.asl_rules.specs.TypedMeaning as rules;
-ghost use Rattle.asl_rules.specs.TypedMeaning.{in_bare, itself};
+ghost use Rattle.asl_rules.specs.values.Matching as matching;
+ghost use Rattle.asl_rules.specs.runs.Plans.{Ret, choose, lift};
+ghost use Rattle.asl_rules.specs.runs.StatementForms as forms;
+ghost use Rattle.asl_rules.specs.private.TypedMeaning as rules;
+ghost use Rattle.asl_rules.specs.private.TypedMeaning.{in_bare, itself};
 ghost use Rattle.asl_shape.specs.View.{all_patterns};
 ghost use Rattle.asl_tree.specs.Acts.{all_alternatives, last_of, maybe_tree};
 ghost use Rattle.asl_tree.specs.View.{tree_of, all_trees};
 ghost use Rattle.asl_tree.specs.declared.act.Alternative.TheVariants.{When};
 ghost use Rattle.asl_value.specs.View.{value_of};
-ghost use Rattle.asl_run.specs.Below.{Evals, Execs};
-ghost use Rattle.asl_run.specs.Choosing.{chosen, guard};
+ghost use Rattle.asl_run.specs.private.Below.{Evals, Execs};
+ghost use Rattle.asl_run.specs.private.Choosing.{chosen, guard};
 ghost use Rattle.asl_run.specs.Meets.{Counts, Keeps, Runs};
 ghost use Rattle.asl_run.specs.View.{exit_of};
 

@@ -1,15 +1,15 @@
 //! Expressions: each function does what the rules say of a node. Its answer is `Stuck` exactly where they give no outcome.
 ghost use Rattle.std.specs.Prelude.{◌≡◌, map, IfOk};
 ghost use Rattle.asl_bits.specs.declared.TheConstants.{WIDTH_LIMIT};
-ghost use Rattle.asl_rules.specs.Forms as forms;
-ghost use Rattle.asl_rules.specs.Operators as operators;
-ghost use Rattle.asl_rules.specs.TypedMeaning.{list_of, tree_node};
-ghost use Rattle.asl_rules.specs.Views.{stripping};
+ghost use Rattle.asl_rules.specs.runs.Forms as forms;
+ghost use Rattle.asl_rules.specs.values.Operators as operators;
+ghost use Rattle.asl_rules.specs.private.TypedMeaning.{list_of, tree_node};
+ghost use Rattle.asl_rules.specs.types.Views.{stripping};
 ghost use Rattle.asl_tree.specs.View.{tree_of, all_trees};
 ghost use Rattle.asl_value.specs.View.{value_of};
-ghost use Rattle.asl_run.specs.Below.{Evals, Execs};
+ghost use Rattle.asl_run.specs.private.Below.{Evals, Execs};
 ghost use Rattle.asl_run.specs.Meets.{Counts, Keeps, Runs};
-ghost use Rattle.asl_run.specs.Operations.{evaluated, one_given, many_given, more_given};
+ghost use Rattle.asl_run.specs.private.Operations.{evaluated, one_given, many_given, more_given};
 ghost use Rattle.asl_run.specs.View.{program_of};
 
 use crate::below::eval;

@@ -1,14 +1,14 @@
 //! What is done with the value of one expression, and what a variable begins with.
 ghost use Rattle.std.specs.Prelude.{◌≡◌, ◌∷◌, Bool, List, length, map, replicate, IfOk, OnOk};
-ghost use Rattle.asl_rules.specs.ByPlace.{seen_where as rule_seen};
-ghost use Rattle.asl_rules.specs.Plans.{Good, lift};
-ghost use Rattle.asl_rules.specs.StatementForms as forms;
-ghost use Rattle.asl_rules.specs.TypedMeaning as rules;
-ghost use Rattle.asl_rules.specs.Values as values;
+ghost use Rattle.asl_rules.specs.private.ByPlace.{seen_where as rule_seen};
+ghost use Rattle.asl_rules.specs.runs.Plans.{Good, lift};
+ghost use Rattle.asl_rules.specs.runs.StatementForms as forms;
+ghost use Rattle.asl_rules.specs.private.TypedMeaning as rules;
+ghost use Rattle.asl_rules.specs.values.Values as values;
 ghost use Rattle.asl_value.specs.View.{value_of};
 ghost use Rattle.asl_run.specs.declared.finishes.After.TheVariants as done;
 ghost use Rattle.asl_run.specs.declared.run.Run.{Run};
-ghost use Rattle.asl_run.specs.Finishes.{finished, begun, parts_pushed, tuple_pushed};
+ghost use Rattle.asl_run.specs.private.Finishes.{finished, begun, parts_pushed, tuple_pushed};
 ghost use Rattle.asl_run.specs.Meets.{Acts, Keeps, NoneRefused, SameBut};
 ghost use Rattle.asl_run.specs.View.{core_of};
 ghost use Rattle.asl_syn.specs.declared.token.Span.{Span};

@@ -1,8 +1,8 @@
 //! The entry into a node: it takes a step, and is refused where none is left (D13) or where no node more may be open (D12).
 //! What is evaluated or executed at once isn't entered so.
 ghost use Rattle.std.specs.Prelude.{◌≡◌};
-ghost use Rattle.asl_rules.specs.StatementForms as forms;
-ghost use Rattle.asl_rules.specs.TypedMeaning.{acts_of};
+ghost use Rattle.asl_rules.specs.runs.StatementForms as forms;
+ghost use Rattle.asl_rules.specs.private.TypedMeaning.{acts_of};
 ghost use Rattle.asl_tree.specs.Acts.{all_acts};
 ghost use Rattle.asl_run.specs.Meets.{Counts, Evaluates, Executes, Keeps, Runs};
 ghost use Rattle.asl_run.specs.View.{exit_of};

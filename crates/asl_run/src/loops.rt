@@ -1,15 +1,15 @@
 //! Loops.
 ghost use Rattle.std.specs.Prelude.{◌≡◌, true, false, IfNone, IfSome, OnSome};
-ghost use Rattle.asl_rules.specs.Limits.{most_turns};
-ghost use Rattle.asl_rules.specs.Operators.{less};
-ghost use Rattle.asl_rules.specs.StatementForms as forms;
-ghost use Rattle.asl_rules.specs.TypedMeaning.{acts_of, in_bare, indexed};
-ghost use Rattle.asl_rules.specs.Values.{int};
+ghost use Rattle.asl_rules.specs.runs.Limits.{most_turns};
+ghost use Rattle.asl_rules.specs.values.Operators.{less};
+ghost use Rattle.asl_rules.specs.runs.StatementForms as forms;
+ghost use Rattle.asl_rules.specs.private.TypedMeaning.{acts_of, in_bare, indexed};
+ghost use Rattle.asl_rules.specs.values.Values.{int};
 ghost use Rattle.asl_tree.specs.Acts.{all_acts, maybe_tree};
 ghost use Rattle.asl_tree.specs.View.{tree_of};
 ghost use Rattle.asl_value.specs.View.{value_of};
-ghost use Rattle.asl_run.specs.Below.{Evals, Execs};
-ghost use Rattle.asl_run.specs.Looping.{between, limit_asked, turn_until};
+ghost use Rattle.asl_run.specs.private.Below.{Evals, Execs};
+ghost use Rattle.asl_run.specs.private.Looping.{between, limit_asked, turn_until};
 ghost use Rattle.asl_run.specs.Meets.{Counts, Is, Keeps, Runs};
 ghost use Rattle.asl_run.specs.View.{exit_of};
 
@@ -61,7 +61,7 @@ pub struct Limited {
 // ---- limits
 
 /// The turns that a loop has where no other number is written.
-#[tactic(auto, unfolding(asl_rules::specs::Limits::most_turns))]
+#[tactic(auto, unfolding(asl_rules::specs::runs::Limits::most_turns))]
 fn usual_turns() -> u128
     ensures { result ≡ most_turns }
 {

@@ -2,7 +2,7 @@
 ghost use Rattle.std.specs.Prelude.{◌≡◌, map};
 ghost use Rattle.asl_value.specs.View.{value_of};
 ghost use Rattle.asl_run.specs.Meets.{Is};
-ghost use Rattle.asl_run.specs.Operations.{one_given, many_given, more_given};
+ghost use Rattle.asl_run.specs.private.Operations.{one_given, many_given, more_given};
 
 use crate::stop::Stop;
 use asl_shape::{FieldGiven, PatternShape, TypeShape, construct, converted, matched_in};

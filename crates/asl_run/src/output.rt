@@ -1,11 +1,11 @@
 //! What a run writes.
 ghost use Rattle.std.specs.Prelude.{◌≡◌, ◌≢◌, ◌≤◌, ◌<◌, ◌++◌, ℕ, drop, length, slice_index, take};
-ghost use Rattle.asl_rules.specs.Strings.{escaped as written_behind, string_text, unescaped};
-ghost use Rattle.asl_rules.specs.Texts.{value_text};
-ghost use Rattle.asl_rules.specs.Told.{open_after};
+ghost use Rattle.asl_rules.specs.values.Strings.{escaped as written_behind, string_text, unescaped};
+ghost use Rattle.asl_rules.specs.report.Texts.{value_text};
+ghost use Rattle.asl_rules.specs.runs.Told.{open_after};
 ghost use Rattle.asl_value.specs.View.{value_of};
 ghost use Rattle.asl_run.specs.Meets.{Counts, Writes};
-ghost use Rattle.asl_run.specs.Pieces.{piece_text};
+ghost use Rattle.asl_run.specs.private.Pieces.{piece_text};
 
 use crate::stop::Stop;
 use asl_io::{Sink, put_all};

@@ -1,7 +1,7 @@
 //! Calls from outside a run.
 ghost use Rattle.std.specs.Prelude.{◌≡◌, [], map, option_map};
-ghost use Rattle.asl_rules.specs.Machines.{most_open};
-ghost use Rattle.asl_rules.specs.TypedMeaning.{run_with, tree_call};
+ghost use Rattle.asl_rules.specs.runs.Machines.{most_open};
+ghost use Rattle.asl_rules.specs.private.TypedMeaning.{run_with, tree_call};
 ghost use Rattle.asl_tree.specs.Acts.{func_of};
 ghost use Rattle.asl_value.specs.View.{value_of};
 ghost use Rattle.asl_run.specs.Meets.{Counts, Runs};
@@ -27,7 +27,7 @@ const ORIGIN: Span = Span {
 };
 
 /// How many nodes may be entered and not left.
-#[tactic(auto, unfolding(asl_rules::specs::Machines::most_open))]
+#[tactic(auto, unfolding(asl_rules::specs::runs::Machines::most_open))]
 fn open_limit() -> u32
     ensures { result ≡ most_open }
 {

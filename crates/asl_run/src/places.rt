@@ -2,14 +2,14 @@
 ghost use Rattle.std.specs.Prelude.{◌≡◌, ◌∷◌, [], OnOk, map, option_map};
 ghost use Rattle.std.specs.Option.{option_copied};
 ghost use Rattle.asl_bits.specs.declared.TheConstants.{WIDTH_LIMIT};
-ghost use Rattle.asl_rules.specs.Plans.{lift};
-ghost use Rattle.asl_rules.specs.Pures.{known};
-ghost use Rattle.asl_rules.specs.StatementForms.{done_normal};
-ghost use Rattle.asl_rules.specs.TypedMeaning as rules;
-ghost use Rattle.asl_value.specs.Forms.{all_steps};
+ghost use Rattle.asl_rules.specs.runs.Plans.{lift};
+ghost use Rattle.asl_rules.specs.runs.Pures.{known};
+ghost use Rattle.asl_rules.specs.runs.StatementForms.{done_normal};
+ghost use Rattle.asl_rules.specs.private.TypedMeaning as rules;
+ghost use Rattle.asl_value.specs.private.Forms.{all_steps};
 ghost use Rattle.asl_value.specs.View.{value_of};
 ghost use Rattle.asl_run.specs.Meets.{Acts, Is, Keeps, NoneRefused, SameBut, Stores};
-ghost use Rattle.asl_run.specs.Storing.{stored_in};
+ghost use Rattle.asl_run.specs.private.Storing.{stored_in};
 ghost use Rattle.asl_run.specs.View.{core_of};
 
 use crate::run::Run;

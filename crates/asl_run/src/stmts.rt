@@ -1,18 +1,18 @@
 //! Statements: each function does what the rules say of a node, or of statements in order. Its answer is `Stuck` exactly
 //! where they give no outcome.
 ghost use Rattle.std.specs.Prelude.{◌≡◌, []};
-ghost use Rattle.asl_rules.specs.Forms.{eval_all as in_turn};
-ghost use Rattle.asl_rules.specs.Plans.{Eval};
-ghost use Rattle.asl_rules.specs.StatementForms as forms;
-ghost use Rattle.asl_rules.specs.Trees.{act_at};
-ghost use Rattle.asl_rules.specs.TypedMeaning as rules;
-ghost use Rattle.asl_rules.specs.TypedMeaning.{list_of, acts_of, in_bare, itself};
+ghost use Rattle.asl_rules.specs.runs.Forms.{eval_all as in_turn};
+ghost use Rattle.asl_rules.specs.runs.Plans.{Eval};
+ghost use Rattle.asl_rules.specs.runs.StatementForms as forms;
+ghost use Rattle.asl_rules.specs.runs.Trees.{act_at};
+ghost use Rattle.asl_rules.specs.private.TypedMeaning as rules;
+ghost use Rattle.asl_rules.specs.private.TypedMeaning.{list_of, acts_of, in_bare, itself};
 ghost use Rattle.asl_tree.specs.Acts.{act_of, simple_of, all_acts, all_branches, all_items};
 ghost use Rattle.asl_tree.specs.View.{tree_of, all_trees};
 ghost use Rattle.asl_tree.specs.declared.act.Branch.TheVariants.{Elsif};
 ghost use Rattle.asl_value.specs.View.{value_of};
-ghost use Rattle.asl_run.specs.Below.{Evals, Execs};
-ghost use Rattle.asl_run.specs.Finishes.{finished, begun};
+ghost use Rattle.asl_run.specs.private.Below.{Evals, Execs};
+ghost use Rattle.asl_run.specs.private.Finishes.{finished, begun};
 ghost use Rattle.asl_run.specs.Meets.{Counts, Keeps, Runs};
 ghost use Rattle.asl_run.specs.View.{exit_of, program_of};
 

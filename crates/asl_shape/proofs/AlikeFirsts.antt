@@ -1,17 +1,17 @@
 -- The first values of parts that are all one type.
 use Rattle.std.proofs.Common.{◌≡◌, ℕ, zero, suc, List, [], ◌∷◌, length, Err, refl, sym, ap, ap₂, ◌∙◌, subst}
 use Rattle.asl_syn.specs.declared.token.Span.{Span}
-use Rattle.asl_rules.specs.Closed as cl
-use Rattle.asl_rules.specs.Closed.{closed}
-use Rattle.asl_rules.specs.Types.{Ty}
-use Rattle.asl_rules.specs.Values as rules
-use Rattle.asl_rules.specs.Values.{Values, value, no_value, tuple_with}
-use Rattle.asl_rules.specs.Written.{first_value}
-use Rattle.asl_rules.specs.Plans.{End, Faulted, Stuck, WrongKind, UnknownType, Pure, Good, Bad}
-use Rattle.asl_rules.specs.Pures.{◌>>=◌}
-use Rattle.asl_types.specs.Alike.{AllAre, Alike}
+use Rattle.asl_rules.specs.types.Closed as cl
+use Rattle.asl_rules.specs.types.Closed.{closed}
+use Rattle.asl_rules.specs.types.Types.{Ty}
+use Rattle.asl_rules.specs.values.Values as rules
+use Rattle.asl_rules.specs.values.Values.{Values, value, no_value, tuple_with}
+use Rattle.asl_rules.specs.types.Written.{first_value}
+use Rattle.asl_rules.specs.runs.Plans.{End, Faulted, Stuck, WrongKind, UnknownType, Pure, Good, Bad}
+use Rattle.asl_rules.specs.runs.Pures.{◌>>=◌}
+use Rattle.asl_types.specs.private.Alike.{AllAre, Alike}
 use Rattle.asl_types.specs.View.{parts_of}
-use Rattle.asl_value.specs.Answers.{Is}
+use Rattle.asl_value.specs.private.Answers.{Is}
 use Rattle.asl_value.specs.declared.failure.Failure.{Failure}
 use Rattle.asl_value.specs.declared.failure.Failure.TheVariants as failure
 use Rattle.asl_value.specs.declared.value.Value.{Value}

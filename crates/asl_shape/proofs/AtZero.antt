@@ -7,7 +7,7 @@ use Rattle.std.specs.declared.cmp.Ordering.TheVariants.{Less}
 use Rattle.asl_poly.specs.Terms.{Summand, Polynomial, product, value, order, Sorted}
 use Rattle.asl_poly.specs.Poly.{IsPolynomial}
 use Rattle.asl_poly.proofs.Ring.{mul-one}
-use Rattle.asl_shape.specs.Numbers.{last_number}
+use Rattle.asl_shape.specs.private.Numbers.{last_number}
 
 abbrev pub zeros : ℕ → ℤ
 zeros n = pos 0

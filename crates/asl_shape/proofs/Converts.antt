@@ -2,14 +2,14 @@
 use Rattle.std.proofs.Common.{◌≡◌, ℕ, List, Some, None, sym, ap, ◌∙◌}
 use Rattle.std.specs.Prelude.{option_map}
 use Rattle.asl_syn.specs.declared.token.Span.{Span}
-use Rattle.asl_rules.specs.Shapes.{TypeShape}
-use Rattle.asl_rules.specs.Values.{Value}
-use Rattle.asl_rules.specs.Written.{converted, type_of_sized, of_kind_of}
-use Rattle.asl_rules.specs.Plans.{Stuck, UnknownType, Bad}
-use Rattle.asl_rules.specs.Pures.{◌>>=◌, found_type}
-use Rattle.asl_shape.specs.Filled.{Filled, closed_of, first_filled}
-use Rattle.asl_shape.specs.Filling.{Taken, filling}
-use Rattle.asl_shape.specs.First.{first_written}
+use Rattle.asl_rules.specs.types.Shapes.{TypeShape}
+use Rattle.asl_rules.specs.values.Values.{Value}
+use Rattle.asl_rules.specs.types.Written.{converted, type_of_sized, of_kind_of}
+use Rattle.asl_rules.specs.runs.Plans.{Stuck, UnknownType, Bad}
+use Rattle.asl_rules.specs.runs.Pures.{◌>>=◌, found_type}
+use Rattle.asl_shape.specs.private.Filled.{Filled, closed_of, first_filled}
+use Rattle.asl_shape.specs.private.Filling.{Taken, filling}
+use Rattle.asl_shape.specs.private.First.{first_written}
 use Rattle.asl_shape.proofs.FilledBy.{type_is, filled_is}
 
 pub converted_is : (limit : ℕ) (span : Span) (T : TypeShape) (zs : List Value) (x : Value) (t : Taken Filled) → Some t ≡ filling T zs → converted limit span (Some T) zs x ≡ of_kind_of span (closed_of t.made) x

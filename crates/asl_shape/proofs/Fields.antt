@@ -2,16 +2,16 @@
 use Rattle.std.proofs.Common.{◌≡◌, ℕ, zero, suc, ◌+◌, ◌<◌, ◌≤◌, List, [], ◌∷◌, ◌++◌, length, get_or, drop, Option, Some, None, refl, sym, ap, ◌∙◌, arith}
 use Rattle.std.specs.Prelude.{map, option_map, slice_get}
 use Rattle.asl_syn.specs.declared.token.Span.{Span}
-use Rattle.asl_rules.specs.Values as rules
-use Rattle.asl_rules.specs.Values.{FieldValues, no_value_of, value_of_field}
-use Rattle.asl_rules.specs.Pures.{there}
-use Rattle.asl_rules.specs.Plans.{Stuck, WrongKind, Good, Bad}
+use Rattle.asl_rules.specs.values.Values as rules
+use Rattle.asl_rules.specs.values.Values.{FieldValues, no_value_of, value_of_field}
+use Rattle.asl_rules.specs.runs.Pures.{there}
+use Rattle.asl_rules.specs.runs.Plans.{Stuck, WrongKind, Good, Bad}
 use Rattle.asl_value.specs.declared.value.Value.{Value}
 use Rattle.asl_value.specs.declared.value.FieldValue.{FieldValue}
 use Rattle.asl_shape.specs.declared.shapes.FieldGiven.{FieldGiven}
 use Rattle.asl_shape.specs.View.{all_given}
-use Rattle.asl_rules.specs.Types.{Ty}
-use Rattle.asl_rules.specs.ByPlace.{seen_as, filled, fields_from}
+use Rattle.asl_rules.specs.types.Types.{Ty}
+use Rattle.asl_rules.specs.private.ByPlace.{seen_as, filled, fields_from}
 use Rattle.asl_value.specs.View.{Of, value_of, field_of, fields_of, all_fields}
 use Rattle.asl_value.proofs.Among.{at_front, none_after}
 

@@ -2,13 +2,13 @@
 use Rattle.std.proofs.Common.{◌≡◌, ℕ, suc, ◌*◌, ◌≤◌, List, [], ◌∷◌, sym, ap, ◌∙◌, arith}
 use Rattle.std.specs.Prelude.{max}
 use denote.Param.Weighed.{most}
-use Rattle.asl_rules.specs.Types.{Ty}
+use Rattle.asl_rules.specs.types.Types.{Ty}
 use Rattle.asl_types.specs.declared.ty.FieldType.{FieldType}
 use Rattle.asl_types.specs.declared.ty.FieldType.TheVariants as f
 use Rattle.asl_types.specs.declared.ty.Form.{Form}
 use Rattle.asl_types.specs.declared.ty.Form.TheVariants as t
 use Rattle.asl_types.specs.declared.ty.Ty.TheDeep.{size-FieldType}
-use Rattle.asl_types.specs.Heights.{height, heights_of_fields}
+use Rattle.asl_types.specs.private.Heights.{height, heights_of_fields}
 use Rattle.asl_types.specs.View.{form_view, fields_of}
 
 field_below : (name : List ℕ) (T : Ty) → size-FieldType (f.Field name T) ≤ 3 * suc (suc (height T))

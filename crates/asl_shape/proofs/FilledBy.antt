@@ -3,16 +3,16 @@ use Rattle.std.proofs.Common.{◌≡◌, ℕ, List, [], ◌∷◌, Option, Some,
 use Rattle.std.specs.Prelude.{ℤ, pos, negsuc, option_map, option_and_then}
 use Rattle.asl_syn.specs.declared.token.Span.{Span}
 use Rattle.asl_cons.specs.declared.Part.{Part}
-use Rattle.asl_rules.specs.Closed.{ranges_at}
-use Rattle.asl_rules.specs.Shapes as shapes
-use Rattle.asl_rules.specs.Shapes.{PartShape, BitfieldShape, TypeShape, TypeShapes}
-use Rattle.asl_rules.specs.Types.{View}
-use Rattle.asl_rules.specs.Values.{Value, int, bool, bits_with, label, record_with, exception_with, tuple_with, array_with}
-use Rattle.asl_rules.specs.Written as rules
-use Rattle.asl_rules.specs.Written.{Sized, SizedRanges, SizedView, SizedParts, all_ranges, part_range, all_bitfields, bitfield_at, filled, parts_filled, with_range, with_bitfield}
-use Rattle.asl_shape.specs.Filled as f
-use Rattle.asl_shape.specs.Filled.{Filled, Fills, sized_as, sized_parts}
-use Rattle.asl_shape.specs.Filling.{Taken, taken, and_then, made_as, next_part, all_parts, part_from, all_fields, filling, all_fillings}
+use Rattle.asl_rules.specs.types.Closed.{ranges_at}
+use Rattle.asl_rules.specs.types.Shapes as shapes
+use Rattle.asl_rules.specs.types.Shapes.{PartShape, BitfieldShape, TypeShape, TypeShapes}
+use Rattle.asl_rules.specs.types.Types.{View}
+use Rattle.asl_rules.specs.values.Values.{Value, int, bool, bits_with, label, record_with, exception_with, tuple_with, array_with}
+use Rattle.asl_rules.specs.types.Written as rules
+use Rattle.asl_rules.specs.types.Written.{Sized, SizedRanges, SizedView, SizedParts, all_ranges, part_range, all_bitfields, bitfield_at, filled, parts_filled, with_range, with_bitfield}
+use Rattle.asl_shape.specs.private.Filled as f
+use Rattle.asl_shape.specs.private.Filled.{Filled, Fills, sized_as, sized_parts}
+use Rattle.asl_shape.specs.private.Filling.{Taken, taken, and_then, made_as, next_part, all_parts, part_from, all_fields, filling, all_fillings}
 
 -- ---- constraints
 

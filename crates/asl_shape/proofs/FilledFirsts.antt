@@ -1,15 +1,15 @@
 -- First values of written types, one behind another.
 use Rattle.std.proofs.Common.{◌≡◌, ℕ, ◌+◌, ◌<◌, ◌≤◌, List, [], ◌∷◌, ◌++◌, length, get_or, drop, sym, ap, ◌∙◌}
 use Rattle.asl_syn.specs.declared.token.Span.{Span}
-use Rattle.asl_rules.specs.Values.{Values, value}
-use Rattle.asl_rules.specs.Plans.{Pure, Good}
-use Rattle.asl_rules.specs.Pures.{◌>>=◌}
+use Rattle.asl_rules.specs.values.Values.{Values, value}
+use Rattle.asl_rules.specs.runs.Plans.{Pure, Good}
+use Rattle.asl_rules.specs.runs.Pures.{◌>>=◌}
 use Rattle.asl_value.specs.declared.value.Value.{Value}
 use Rattle.asl_value.specs.View.{value_of, all_values}
 use Rattle.asl_value.proofs.Among.{at_front, none_after}
 use Rattle.asl_shape.specs.declared.filled.Filled.{Filled}
-use Rattle.asl_shape.specs.Filled.{first_filled, first_fills}
-use Rattle.asl_shape.specs.FilledView.{filled_of, all_fills}
+use Rattle.asl_shape.specs.private.Filled.{first_filled, first_fills}
+use Rattle.asl_shape.specs.private.FilledView.{filled_of, all_fills}
 use Rattle.asl_shape.proofs.FirstFields.{parts_behind, push_part, front_end}
 
 pub fill_more : (limit : ℕ) (whole : Span) (ts : List Filled) (i : ℕ) (t : Filled) (made after : List Value) (x : Value) (all : Pure Values) → i < length ts → t ≡ get_or ts i t → first_filled limit whole (filled_of t) ≡ Good (value_of x) → after ≡ made ++ x ∷ []

@@ -1,14 +1,14 @@
 -- Whether values belong to written types, one behind another.
 use Rattle.std.proofs.Common.{◌≡◌, ℕ, suc, ◌+◌, ◌<◌, ◌≤◌, ◌==◌, Bool, true, false, List, [], ◌∷◌, length, get_or, drop, refl, sym, ap, ◌∙◌, arith}
 use Rattle.std.specs.Prelude.{◌&&◌}
-use Rattle.asl_rules.specs.Closed as cl
-use Rattle.asl_rules.specs.Values.{has, parts_in, all_in}
+use Rattle.asl_rules.specs.types.Closed as cl
+use Rattle.asl_rules.specs.values.Values.{has, parts_in, all_in}
 use Rattle.asl_value.specs.declared.value.Value.{Value}
 use Rattle.asl_value.specs.View.{value_of, all_values}
 use Rattle.asl_value.proofs.Among.{at_front, none_after}
 use Rattle.asl_shape.specs.declared.filled.Filled.{Filled}
-use Rattle.asl_shape.specs.Filled.{closed_of, closed_parts}
-use Rattle.asl_shape.specs.FilledView.{filled_of, all_fills}
+use Rattle.asl_shape.specs.private.Filled.{closed_of, closed_parts}
+use Rattle.asl_shape.specs.private.FilledView.{filled_of, all_fills}
 
 some_more : (n : ℕ) → false ≡ (suc n == 0)
 some_more n = grind arith

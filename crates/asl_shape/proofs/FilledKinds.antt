@@ -1,15 +1,15 @@
 -- The kinds of written types, one behind another.
 use Rattle.std.proofs.Common.{◌≡◌, ℕ, ◌+◌, ◌<◌, ◌≤◌, List, [], ◌∷◌, ◌++◌, length, get_or, drop, sym, ap, ◌∙◌}
 use Rattle.std.specs.Prelude.{pos, map}
-use Rattle.asl_rules.specs.Closed.{closed, kind_at, kinds_at}
-use Rattle.asl_rules.specs.Types.{Ty, Kind, Kinds, one_more, kind}
+use Rattle.asl_rules.specs.types.Closed.{closed, kind_at, kinds_at}
+use Rattle.asl_rules.specs.types.Types.{Ty, Kind, Kinds, one_more, kind}
 use Rattle.asl_rules.proofs.values.KindOf.{kind_same}
 use Rattle.asl_value.specs.declared.value.Kind as code
 use Rattle.asl_value.specs.View.{kind_of, all_kinds}
 use Rattle.asl_value.proofs.Among.{at_front, none_after}
 use Rattle.asl_shape.specs.declared.filled.Filled.{Filled}
-use Rattle.asl_shape.specs.Filled.{closed_of, closed_parts}
-use Rattle.asl_shape.specs.FilledView.{filled_of, all_fills}
+use Rattle.asl_shape.specs.private.Filled.{closed_of, closed_parts}
+use Rattle.asl_shape.specs.private.FilledView.{filled_of, all_fills}
 use Rattle.asl_shape.proofs.ValueKinds.{in_front, front_more, front_end}
 
 pub kind_known : (T : Ty) (k : Kind) → k ≡ kind T → k ≡ kind_at (closed T)

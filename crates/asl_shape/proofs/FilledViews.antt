@@ -1,21 +1,21 @@
 -- Values as they go through written types, one behind another.
 use Rattle.std.proofs.Common.{◌≡◌, ℕ, zero, suc, ◌+◌, ◌<◌, ◌≤◌, List, [], ◌∷◌, ◌++◌, length, get_or, drop, refl, sym, ap, ◌∙◌, arith}
 use Rattle.std.specs.Prelude.{pos}
-use Rattle.asl_rules.specs.ByPlace.{seen_as}
-use Rattle.asl_rules.specs.Closed as cl
-use Rattle.asl_rules.specs.Closed.{ClosedParts, closed}
-use Rattle.asl_rules.specs.Types.{Ty}
-use Rattle.asl_rules.specs.Values as rules
-use Rattle.asl_rules.specs.Values.{Values, no_value}
-use Rattle.asl_rules.specs.Views.{viewed, parts_viewed, all_viewed}
+use Rattle.asl_rules.specs.private.ByPlace.{seen_as}
+use Rattle.asl_rules.specs.types.Closed as cl
+use Rattle.asl_rules.specs.types.Closed.{ClosedParts, closed}
+use Rattle.asl_rules.specs.types.Types.{Ty}
+use Rattle.asl_rules.specs.values.Values as rules
+use Rattle.asl_rules.specs.values.Values.{Values, no_value}
+use Rattle.asl_rules.specs.types.Views.{viewed, parts_viewed, all_viewed}
 use Rattle.asl_rules.proofs.values.Constructs.{seen_is}
 use Rattle.asl_value.specs.declared.value.Value.{Value}
 use Rattle.asl_value.specs.View.{value_of, all_values}
 use Rattle.asl_value.proofs.Among.{at_front, none_after}
 use Rattle.asl_value.proofs.Lists.{in_front, one_made, all_made}
 use Rattle.asl_shape.specs.declared.filled.Filled.{Filled}
-use Rattle.asl_shape.specs.Filled.{closed_of, closed_parts}
-use Rattle.asl_shape.specs.FilledView.{filled_of, all_fills, part_viewed}
+use Rattle.asl_shape.specs.private.Filled.{closed_of, closed_parts}
+use Rattle.asl_shape.specs.private.FilledView.{filled_of, all_fills, part_viewed}
 
 pub known_seen : (T : Ty) (x y : rules.Value) → y ≡ seen_as T x → y ≡ viewed (closed T) x
 known_seen T x y h = h ∙ seen_is (λ n. pos 0) T x

@@ -3,12 +3,12 @@ use Rattle.std.proofs.Common.{◌≡◌, ◌≢◌, ℕ, zero, suc, Bool, true, 
 use Rattle.std.specs.Prelude.{ℤ, pos, negsuc, nat_le}
 use Rattle.asl_syn.specs.declared.token.Span.{Span}
 use Rattle.asl_syn.specs.declared.code.DynCode.TheVariants.{D14}
-use Rattle.asl_rules.specs.Types.{View, Kind}
-use Rattle.asl_rules.specs.Values.{Value, bits_with, array_with, no_value, repeated}
-use Rattle.asl_rules.specs.Written.{first_bits, first_elements}
-use Rattle.asl_rules.specs.Plans.{Faulted, Pure, Good, Bad}
-use Rattle.asl_rules.specs.Pures.{◌>>=◌}
-use Rattle.asl_shape.specs.Bits.{copied}
+use Rattle.asl_rules.specs.types.Types.{View, Kind}
+use Rattle.asl_rules.specs.values.Values.{Value, bits_with, array_with, no_value, repeated}
+use Rattle.asl_rules.specs.types.Written.{first_bits, first_elements}
+use Rattle.asl_rules.specs.runs.Plans.{Faulted, Pure, Good, Bad}
+use Rattle.asl_rules.specs.runs.Pures.{◌>>=◌}
+use Rattle.asl_shape.specs.private.Bits.{copied}
 
 pub first_bits_are : (limit : ℕ) (span : Span) (w : ℤ) (u : View) (bs : List Bool) → Some bs ≡ copied limit false w → first_bits limit span w u ≡ Good (bits_with bs u)
 first_bits_are limit span (pos n) u bs h = by (nat_le n limit) refl

@@ -2,25 +2,25 @@
 use Rattle.std.proofs.Common.{◌≡◌, ℕ, ◌+◌, ◌<◌, ◌≤◌, List, [], ◌∷◌, ◌++◌, length, get_or, drop, Err, refl, sym, ap, ◌∙◌}
 use Rattle.std.specs.Prelude.{pos, map}
 use Rattle.asl_syn.specs.declared.token.Span.{Span}
-use Rattle.asl_rules.specs.Closed.{closed, fields_with, parts_with}
-use Rattle.asl_rules.specs.Types.{Ty}
-use Rattle.asl_rules.specs.Values as rules
-use Rattle.asl_rules.specs.Values.{FieldValues, Values, value, value_of_field, no_value}
-use Rattle.asl_rules.specs.Written.{first_value, first_fields, first_parts}
-use Rattle.asl_rules.specs.Plans.{End, Faulted, Stuck, WrongKind, UnknownType, Pure, Good, Bad}
-use Rattle.asl_rules.specs.Pures.{◌>>=◌}
+use Rattle.asl_rules.specs.types.Closed.{closed, fields_with, parts_with}
+use Rattle.asl_rules.specs.types.Types.{Ty}
+use Rattle.asl_rules.specs.values.Values as rules
+use Rattle.asl_rules.specs.values.Values.{FieldValues, Values, value, value_of_field, no_value}
+use Rattle.asl_rules.specs.types.Written.{first_value, first_fields, first_parts}
+use Rattle.asl_rules.specs.runs.Plans.{End, Faulted, Stuck, WrongKind, UnknownType, Pure, Good, Bad}
+use Rattle.asl_rules.specs.runs.Pures.{◌>>=◌}
 use Rattle.asl_types.specs.declared.ty.FieldType.{FieldType}
 use Rattle.asl_types.specs.declared.ty.FieldType.TheVariants as f
 use Rattle.asl_types.specs.View.{fields_of, parts_of}
 use Rattle.asl_value.specs.declared.value.FieldValue.{FieldValue}
 use Rattle.asl_value.specs.declared.value.Value.{Value}
-use Rattle.asl_value.specs.Answers.{Is}
+use Rattle.asl_value.specs.private.Answers.{Is}
 use Rattle.asl_value.specs.declared.failure.Failure.{Failure}
 use Rattle.asl_value.specs.declared.failure.Failure.TheVariants as failure
 use Rattle.asl_value.specs.View.{Of, value_of, field_of, all_values, all_fields}
 use Rattle.asl_value.proofs.Among.{at_front, none_after}
 use Rattle.asl_value.proofs.Lists.{in_front}
-use Rattle.asl_shape.specs.First.{first_of_field}
+use Rattle.asl_shape.specs.private.First.{first_of_field}
 use Rattle.asl_shape.proofs.Fields.{before, before_more, before_end}
 
 -- ---- fields

@@ -3,14 +3,14 @@ use Rattle.std.proofs.Common.{◌≡◌, ◌≢◌, ℕ, suc, ◌==◌, Bool, tr
 use Rattle.std.specs.Prelude.{ℤ, pos, map}
 use Rattle.asl_syn.specs.declared.token.Span.{Span}
 use Rattle.asl_bits.specs.Lists.{bits_value, signed_value}
-use Rattle.asl_rules.specs.Library.{routine_value, all_equal, copies, extended, absolute, lesser, greater}
-use Rattle.asl_rules.specs.Operators.{integer_of}
-use Rattle.asl_rules.specs.Routines.{UInt, SInt, Zeros, Ones, ZeroExtend, SignExtend, IsZero, IsOnes, Len, Abs, Min, Max}
-use Rattle.asl_rules.specs.Values.{Value, int, bool, bits_with, label, record_with, exception_with, tuple_with, array_with}
-use Rattle.asl_rules.specs.Plans.{Good}
+use Rattle.asl_rules.specs.values.Library.{routine_value, all_equal, copies, extended, absolute, lesser, greater}
+use Rattle.asl_rules.specs.values.Operators.{integer_of}
+use Rattle.asl_rules.specs.declarations.Routines.{UInt, SInt, Zeros, Ones, ZeroExtend, SignExtend, IsZero, IsOnes, Len, Abs, Min, Max}
+use Rattle.asl_rules.specs.values.Values.{Value, int, bool, bits_with, label, record_with, exception_with, tuple_with, array_with}
+use Rattle.asl_rules.specs.runs.Plans.{Good}
 use Rattle.asl_value.specs.declared.value.Value as code
 use Rattle.asl_value.specs.View.{value_of}
-use Rattle.asl_shape.specs.Arguments.{integer_in, bits_in, both, one_bits, one_integer, two_integers, beside_nothing, given}
+use Rattle.asl_shape.specs.private.Arguments.{integer_in, bits_in, both, one_bits, one_integer, two_integers, beside_nothing, given}
 
 -- ---- all that is given
 

@@ -4,10 +4,10 @@ use Rattle.std.specs.Prelude.{ℤ, pos, negsuc, ◌&&◌}
 use Rattle.std.specs.Str.{bytes_eq}
 use Rattle.std.specs.Ordering.{int_eq}
 use Rattle.std.proofs.lemmas.Int.{ints}
-use Rattle.asl_rules.specs.Closed as cl
-use Rattle.asl_rules.specs.Closed.{closed, fields_with, parts_with}
-use Rattle.asl_rules.specs.Types.{Ty}
-use Rattle.asl_rules.specs.Values.{has, fields_in, parts_in, all_in, is_width}
+use Rattle.asl_rules.specs.types.Closed as cl
+use Rattle.asl_rules.specs.types.Closed.{closed, fields_with, parts_with}
+use Rattle.asl_rules.specs.types.Types.{Ty}
+use Rattle.asl_rules.specs.values.Values.{has, fields_in, parts_in, all_in, is_width}
 use Rattle.asl_types.specs.declared.ty.FieldType.{FieldType}
 use Rattle.asl_types.specs.declared.ty.FieldType.TheVariants as f
 use Rattle.asl_types.specs.View.{fields_of, parts_of}
@@ -15,7 +15,7 @@ use Rattle.asl_value.specs.declared.value.FieldValue.{FieldValue}
 use Rattle.asl_value.specs.declared.value.Value.{Value}
 use Rattle.asl_value.specs.View.{value_of, field_of, all_values, all_fields}
 use Rattle.asl_value.proofs.Among.{at_front, none_after}
-use Rattle.asl_shape.specs.Having.{has_field}
+use Rattle.asl_shape.specs.private.Having.{has_field}
 
 pub width_is : (n : ℕ) (w : ℤ) → int_eq (pos n) w ≡ is_width n w
 width_is n (pos w) = grind (arith, ints)

@@ -11,11 +11,11 @@ use Rattle.asl_bits.specs.declared.TheConstants.{WIDTH_LIMIT}
 use Rattle.asl_bits.specs.declared.BitsRefused.{BitsRefused}
 use Rattle.asl_bits.specs.declared.BitsRefused.TheVariants.{TooWide, OutOfRange, Overflow}
 use Rattle.asl_bits.specs.Lists.{extension_of}
-use Rattle.asl_rules.specs.Library.{all_equal, copies, extended, absolute}
-use Rattle.asl_rules.specs.Operators.{in_range, integer_of, plain_bits, same_bool}
-use Rattle.asl_rules.specs.Values.{int}
-use Rattle.asl_rules.specs.Plans.{Faulted, Good, Bad}
-use Rattle.asl_shape.specs.Bits.{number_of, kept, copied, extension}
+use Rattle.asl_rules.specs.values.Library.{all_equal, copies, extended, absolute}
+use Rattle.asl_rules.specs.values.Operators.{in_range, integer_of, plain_bits, same_bool}
+use Rattle.asl_rules.specs.values.Values.{int}
+use Rattle.asl_rules.specs.runs.Plans.{Faulted, Good, Bad}
+use Rattle.asl_shape.specs.private.Bits.{number_of, kept, copied, extension}
 
 -- ---- integers
 

@@ -2,11 +2,11 @@
 use Rattle.std.proofs.Common.{◌≡◌, ◌≢◌, ℕ, zero, suc, ◌+◌, ◌<◌, ◌≤◌, List, [], ◌∷◌, ◌++◌, length, get_or, drop, Option, Some, None, refl, sym, ap, ◌∙◌, arith}
 use Rattle.std.specs.Prelude.{map, option_map, option_and_then, slice_get}
 use Rattle.asl_syn.specs.declared.token.Span.{Span}
-use Rattle.asl_rules.specs.Evaluation.{width_of_bits}
-use Rattle.asl_rules.specs.TypedMeaning.{widths_of, params_of}
-use Rattle.asl_rules.specs.Values as rules
-use Rattle.asl_rules.specs.Pures.{◌>>=◌, there}
-use Rattle.asl_rules.specs.Plans.{Stuck, WrongKind, Pure, Good, Bad}
+use Rattle.asl_rules.specs.runs.Evaluation.{width_of_bits}
+use Rattle.asl_rules.specs.private.TypedMeaning.{widths_of, params_of}
+use Rattle.asl_rules.specs.values.Values as rules
+use Rattle.asl_rules.specs.runs.Pures.{◌>>=◌, there}
+use Rattle.asl_rules.specs.runs.Plans.{Stuck, WrongKind, Pure, Good, Bad}
 use Rattle.asl_value.specs.declared.value.Value.{Value}
 use Rattle.asl_value.specs.View.{value_of}
 use Rattle.asl_value.proofs.Among.{at_front, none_after}

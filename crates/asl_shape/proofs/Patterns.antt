@@ -4,25 +4,25 @@ use Rattle.std.specs.Prelude.{ℤ, pos, negsuc, map, ◌&&◌, ◌||◌}
 use Rattle.std.specs.Int.Signed.{le_z}
 use Rattle.asl_syn.specs.declared.token.Span.{Span}
 use Rattle.asl_syn.specs.declared.tree.BinaryOperator.TheVariants.{Equal}
-use Rattle.asl_rules.specs.Closed.{not_above}
-use Rattle.asl_rules.specs.Matching as rules
-use Rattle.asl_rules.specs.Matching.{any_match, all_match, mask_match, at_most_match, at_least_match, range_match, value_match, is_matched}
-use Rattle.asl_rules.specs.Operators.{binary_value, truth}
-use Rattle.asl_rules.specs.Plans.{Stuck, WrongKind, Pure, Good, Bad}
-use Rattle.asl_rules.specs.Pures.{◌>>=◌}
-use Rattle.asl_rules.specs.Shapes as shapes
+use Rattle.asl_rules.specs.types.Closed.{not_above}
+use Rattle.asl_rules.specs.values.Matching as rules
+use Rattle.asl_rules.specs.values.Matching.{any_match, all_match, mask_match, at_most_match, at_least_match, range_match, value_match, is_matched}
+use Rattle.asl_rules.specs.values.Operators.{binary_value, truth}
+use Rattle.asl_rules.specs.runs.Plans.{Stuck, WrongKind, Pure, Good, Bad}
+use Rattle.asl_rules.specs.runs.Pures.{◌>>=◌}
+use Rattle.asl_rules.specs.types.Shapes as shapes
 use Rattle.asl_mask.specs.Digits.{mask_matches}
-use Rattle.asl_rules.specs.Structures.{values_in}
-use Rattle.asl_rules.specs.Types.{View}
-use Rattle.asl_rules.specs.Values as values
-use Rattle.asl_rules.specs.Values.{int, bool}
+use Rattle.asl_rules.specs.values.Structures.{values_in}
+use Rattle.asl_rules.specs.types.Types.{View}
+use Rattle.asl_rules.specs.values.Values as values
+use Rattle.asl_rules.specs.values.Values.{int, bool}
 use Rattle.asl_value.specs.declared.value.Value.{Value}
 use Rattle.asl_value.specs.View.{value_of, all_values}
 use Rattle.asl_value.proofs.Among.{at_front, none_after}
 use Rattle.asl_shape.specs.declared.matching.Matched.{Matched}
 use Rattle.asl_shape.specs.declared.shapes.PatternShape.{PatternShape}
-use Rattle.asl_shape.specs.Arguments.{integer_in}
-use Rattle.asl_shape.specs.Matched.{values_from, matched_at, integer_in_front}
+use Rattle.asl_shape.specs.private.Arguments.{integer_in}
+use Rattle.asl_shape.specs.private.Matched.{values_from, matched_at, integer_in_front}
 use Rattle.asl_shape.specs.View.{pattern_of, all_patterns}
 
 -- ---- one of some patterns

@@ -2,9 +2,9 @@
 use Rattle.std.proofs.Common.{◌≡◌, ℕ, suc, ◌+◌, ◌<◌, ◌≤◌, ◌==◌, Bool, true, false, cond, List, [], ◌∷◌, length, get_or, drop, Option, Some, None, refl, ap, ◌∙◌, arith}
 use Rattle.std.specs.Prelude.{ℤ, pos, ◌||◌}
 use Rattle.asl_cons.specs.declared.Part.{Part}
-use Rattle.asl_rules.specs.Closed.{Range, end_at, ranges_at, constraint_at, in_one, in_some, is_in, lowest, first_in, not_above}
+use Rattle.asl_rules.specs.types.Closed.{Range, end_at, ranges_at, constraint_at, in_one, in_some, is_in, lowest, first_in, not_above}
 use Rattle.asl_value.proofs.Among.{at_front, none_after}
-use Rattle.asl_shape.specs.Numbers.{range}
+use Rattle.asl_shape.specs.private.Numbers.{range}
 
 abbrev pub ranges : List Part → List Range
 ranges ps = ranges_at ps (λ n. pos 0)

@@ -5,11 +5,11 @@ use Rattle.std.specs.Int.Signed.{lt_z}
 use Rattle.std.proofs.lemmas.Int.{ints}
 use Rattle.asl_syn.specs.declared.token.Span.{Span}
 use Rattle.asl_cons.specs.declared.Part.{Part}
-use Rattle.asl_rules.specs.Shapes as shapes
-use Rattle.asl_rules.specs.Shapes.{TypeShape}
-use Rattle.asl_rules.specs.Types.{View}
-use Rattle.asl_rules.specs.Values as values
-use Rattle.asl_rules.specs.Values.{int, bool}
+use Rattle.asl_rules.specs.types.Shapes as shapes
+use Rattle.asl_rules.specs.types.Shapes.{TypeShape}
+use Rattle.asl_rules.specs.types.Types.{View}
+use Rattle.asl_rules.specs.values.Values as values
+use Rattle.asl_rules.specs.values.Values.{int, bool}
 use Rattle.asl_value.specs.declared.value.Value.{Value}
 use Rattle.asl_value.proofs.Among.{at_front, none_after}
 use Rattle.asl_shape.specs.declared.shapes.PartShape.{PartShape}
@@ -19,12 +19,12 @@ use Rattle.asl_shape.specs.declared.filled.Filled as filled
 use Rattle.asl_shape.specs.declared.filling.Ends.{Ends}
 use Rattle.asl_shape.specs.declared.filling.FilledType.{FilledType}
 use Rattle.asl_shape.specs.declared.filling.Places.{Places}
-use Rattle.asl_shape.specs.Filled.{Fills, no_fill, fill_and, bits_of, array_of}
-use Rattle.asl_shape.specs.FilledView.{filled_of, all_fills}
-use Rattle.asl_shape.specs.Filling as rules
-use Rattle.asl_shape.specs.Filling.{Taken, taken, and_then, made_as, next_integer, next_natural, next_part, part_from, field_from, next_bitfield, filling, all_fillings}
-use Rattle.asl_shape.specs.FillingView.{part_taken, name_in, field_taken, type_taken}
-use Rattle.asl_shape.specs.Matched.{values_from, integer_in_front, natural, natural_in_front}
+use Rattle.asl_shape.specs.private.Filled.{Fills, no_fill, fill_and, bits_of, array_of}
+use Rattle.asl_shape.specs.private.FilledView.{filled_of, all_fills}
+use Rattle.asl_shape.specs.private.Filling as rules
+use Rattle.asl_shape.specs.private.Filling.{Taken, taken, and_then, made_as, next_integer, next_natural, next_part, part_from, field_from, next_bitfield, filling, all_fillings}
+use Rattle.asl_shape.specs.private.FillingView.{part_taken, name_in, field_taken, type_taken}
+use Rattle.asl_shape.specs.private.Matched.{values_from, integer_in_front, natural, natural_in_front}
 use Rattle.asl_shape.specs.View.{part_of, all_parts, bitfield_of, all_bitfields, type_of, all_types}
 use Rattle.asl_shape.proofs.Patterns.{tail, tail_from}
 

@@ -1,6 +1,6 @@
 -- So many of a value.
 use Rattle.std.proofs.Common.{◌≡◌, ℕ, zero, suc, ◌+◌, List, [], ◌∷◌, ◌++◌, refl, ap, ◌∙◌, arith}
-use Rattle.asl_rules.specs.Values as rules
+use Rattle.asl_rules.specs.values.Values as rules
 use Rattle.asl_value.specs.declared.value.Value.{Value}
 use Rattle.asl_value.specs.View.{value_of, all_values}
 

@@ -1,8 +1,8 @@
 -- The kinds of values and of parts, one behind another.
 use Rattle.std.proofs.Common.{◌≡◌, ℕ, suc, ◌+◌, ◌<◌, ◌≤◌, ◌==◌, Bool, true, false, List, [], ◌∷◌, ◌++◌, length, get_or, drop, refl, sym, ap, ◌∙◌, arith}
 use Rattle.std.specs.Prelude.{map, ◌&&◌}
-use Rattle.asl_rules.specs.Types.{Ty, Kind, Kinds, no_kind, one_more, kind, kinds, kind_eq, kinds_eq}
-use Rattle.asl_rules.specs.Values as rules
+use Rattle.asl_rules.specs.types.Types.{Ty, Kind, Kinds, no_kind, one_more, kind, kinds, kind_eq, kinds_eq}
+use Rattle.asl_rules.specs.values.Values as rules
 use Rattle.asl_types.specs.View.{parts_of}
 use Rattle.asl_value.specs.declared.value.Kind as code
 use Rattle.asl_value.specs.declared.value.Value.{Value}

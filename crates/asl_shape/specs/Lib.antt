@@ -1,11 +1,2 @@
 pub mod View
-pub mod First
-pub mod Matched
-pub mod Arguments
-pub mod Bits
-pub mod Filled
-pub mod FilledView
-pub mod Numbers
-pub mod Having
-pub mod Filling
-pub mod FillingView
+pub mod private

@@ -1,9 +1,9 @@
 -- The shapes and the subprograms of the library that those of the code stand for.
 use Rattle.std.specs.Prelude.{List, [], ◌∷◌, map}
-use Rattle.asl_rules.specs.Closed.{closed}
-use Rattle.asl_rules.specs.Shapes as rules
-use Rattle.asl_rules.specs.Routines as routines
-use Rattle.asl_rules.specs.Trees as trees
+use Rattle.asl_rules.specs.types.Closed.{closed}
+use Rattle.asl_rules.specs.types.Shapes as rules
+use Rattle.asl_rules.specs.declarations.Routines as routines
+use Rattle.asl_rules.specs.runs.Trees as trees
 use Rattle.asl_value.specs.View.{digits_of}
 use Rattle.asl_shape.specs.declared.routines.Routine.{Routine}
 use Rattle.asl_shape.specs.declared.routines.Routine.TheVariants as r

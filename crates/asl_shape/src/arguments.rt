@@ -1,7 +1,7 @@
 //! The values that are given, by what they are.
 ghost use Rattle.std.specs.Prelude.{◌≡◌, map, option_map};
 ghost use Rattle.asl_value.specs.View.{value_of};
-ghost use Rattle.asl_shape.specs.Arguments as given;
+ghost use Rattle.asl_shape.specs.private.Arguments as given;
 
 use asl_bits::Bits;
 use asl_value::Value;

@@ -1,13 +1,13 @@
 //! Whether values belong to types.
 ghost use Rattle.std.specs.Prelude.{◌≡◌, ◌==◌, pos, length};
-ghost use Rattle.asl_rules.specs.Closed as cl;
-ghost use Rattle.asl_rules.specs.Closed.{closed};
-ghost use Rattle.asl_rules.specs.Types as types;
-ghost use Rattle.asl_rules.specs.Types.{View};
-ghost use Rattle.asl_rules.specs.Values as rules;
+ghost use Rattle.asl_rules.specs.types.Closed as cl;
+ghost use Rattle.asl_rules.specs.types.Closed.{closed};
+ghost use Rattle.asl_rules.specs.types.Types as types;
+ghost use Rattle.asl_rules.specs.types.Types.{View};
+ghost use Rattle.asl_rules.specs.values.Values as rules;
 ghost use Rattle.asl_types.specs.View.{fields_of, parts_of};
 ghost use Rattle.asl_value.specs.View.{value_of, field_of, all_values, all_fields};
-ghost use Rattle.asl_shape.specs.Having.{has_field};
+ghost use Rattle.asl_shape.specs.private.Having.{has_field};
 
 use crate::kinds::{count, kind_is};
 use crate::numbers::{is_in, number_of};

@@ -1,9 +1,9 @@
 //! Records and exceptions made of the values of their fields.
 ghost use Rattle.std.specs.Prelude.{◌≡◌, map, IfOk};
-ghost use Rattle.asl_rules.specs.ByPlace as places;
-ghost use Rattle.asl_rules.specs.Pures.{there};
-ghost use Rattle.asl_value.specs.Answers.{Is};
-ghost use Rattle.asl_value.specs.Forms.{shell_of};
+ghost use Rattle.asl_rules.specs.private.ByPlace as places;
+ghost use Rattle.asl_rules.specs.runs.Pures.{there};
+ghost use Rattle.asl_value.specs.private.Answers.{Is};
+ghost use Rattle.asl_value.specs.private.Forms.{shell_of};
 ghost use Rattle.asl_value.specs.View.{value_of, field_of, all_fields};
 ghost use Rattle.asl_shape.specs.View.{all_given};
 

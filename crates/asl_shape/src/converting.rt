@@ -1,11 +1,11 @@
 //! Values that are converted to written types.
 ghost use Rattle.std.specs.Prelude.{Some, map};
 ghost use Rattle.asl_bits.specs.declared.TheConstants.{WIDTH_LIMIT};
-ghost use Rattle.asl_rules.specs.Written as rules;
-ghost use Rattle.asl_value.specs.Answers.{Is};
+ghost use Rattle.asl_rules.specs.types.Written as rules;
+ghost use Rattle.asl_value.specs.private.Answers.{Is};
 ghost use Rattle.asl_value.specs.View.{value_of};
-ghost use Rattle.asl_shape.specs.Filled.{closed_of};
-ghost use Rattle.asl_shape.specs.FilledView.{filled_of};
+ghost use Rattle.asl_shape.specs.private.Filled.{closed_of};
+ghost use Rattle.asl_shape.specs.private.FilledView.{filled_of};
 ghost use Rattle.asl_shape.specs.View.{type_of};
 
 use crate::filled::{Filled, filled_has, filled_kind, filled_view};

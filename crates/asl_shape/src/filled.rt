@@ -1,15 +1,15 @@
 //! Written types with numbers in place of their expressions: their kinds, the values of them, and the bitfields of these.
 ghost use Rattle.std.specs.Prelude.{◌≡◌, ℕ, ℤ, IfOk};
-ghost use Rattle.asl_rules.specs.Closed as cl;
-ghost use Rattle.asl_rules.specs.Closed.{kind_at, kinds_at};
-ghost use Rattle.asl_rules.specs.Values as values;
-ghost use Rattle.asl_rules.specs.Views as views;
+ghost use Rattle.asl_rules.specs.types.Closed as cl;
+ghost use Rattle.asl_rules.specs.types.Closed.{kind_at, kinds_at};
+ghost use Rattle.asl_rules.specs.values.Values as values;
+ghost use Rattle.asl_rules.specs.types.Views as views;
 ghost use Rattle.asl_bits.specs.declared.TheConstants.{WIDTH_LIMIT};
-ghost use Rattle.asl_value.specs.Answers.{Is};
+ghost use Rattle.asl_value.specs.private.Answers.{Is};
 ghost use Rattle.asl_value.specs.View.{kind_of, all_kinds, value_of, all_values};
-ghost use Rattle.asl_shape.specs.Filled.{closed_of, closed_parts};
-ghost use Rattle.asl_shape.specs.Filled as rules;
-ghost use Rattle.asl_shape.specs.FilledView.{filled_of, all_fills, part_viewed};
+ghost use Rattle.asl_shape.specs.private.Filled.{closed_of, closed_parts};
+ghost use Rattle.asl_shape.specs.private.Filled as rules;
+ghost use Rattle.asl_shape.specs.private.FilledView.{filled_of, all_fills, part_viewed};
 
 use crate::belonging::{belongs, bits_belong, boolean_belongs, integer_belongs, is_long};
 use crate::firsts::{array_of, first_bits, first_integer, first_value};

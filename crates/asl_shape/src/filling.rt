@@ -1,10 +1,10 @@
 //! Written types with the values of their expressions, which each takes from those that are given in order.
 ghost use Rattle.std.specs.Prelude.{◌≡◌, ◌<◌, length, option_map, IfOk, OnSome};
-ghost use Rattle.asl_rules.specs.Shapes as shapes;
-ghost use Rattle.asl_shape.specs.Filled.{bits_of, array_of};
-ghost use Rattle.asl_shape.specs.Filling as rules;
-ghost use Rattle.asl_shape.specs.FillingView.{part_taken, name_in, field_taken, parts_taken, fields_taken, type_taken, types_taken};
-ghost use Rattle.asl_shape.specs.Matched.{values_from, natural, natural_in_front};
+ghost use Rattle.asl_rules.specs.types.Shapes as shapes;
+ghost use Rattle.asl_shape.specs.private.Filled.{bits_of, array_of};
+ghost use Rattle.asl_shape.specs.private.Filling as rules;
+ghost use Rattle.asl_shape.specs.private.FillingView.{part_taken, name_in, field_taken, parts_taken, fields_taken, type_taken, types_taken};
+ghost use Rattle.asl_shape.specs.private.Matched.{values_from, natural, natural_in_front};
 ghost use Rattle.asl_shape.specs.View.{part_of, all_parts, bitfield_of, all_bitfields, type_of, all_types};
 
 use crate::filled::Filled;

@@ -1,16 +1,16 @@
 //! The values that variables begin with.
 ghost use Rattle.std.specs.Prelude.{◌≡◌, pos, IfOk};
 ghost use Rattle.asl_bits.specs.declared.TheConstants.{WIDTH_LIMIT};
-ghost use Rattle.asl_rules.specs.Closed as cl;
-ghost use Rattle.asl_rules.specs.Closed.{closed};
-ghost use Rattle.asl_rules.specs.Types as types;
-ghost use Rattle.asl_rules.specs.Values as values;
-ghost use Rattle.asl_rules.specs.Written as rules;
-ghost use Rattle.asl_types.specs.Alike.{Alike};
+ghost use Rattle.asl_rules.specs.types.Closed as cl;
+ghost use Rattle.asl_rules.specs.types.Closed.{closed};
+ghost use Rattle.asl_rules.specs.types.Types as types;
+ghost use Rattle.asl_rules.specs.values.Values as values;
+ghost use Rattle.asl_rules.specs.types.Written as rules;
+ghost use Rattle.asl_types.specs.private.Alike.{Alike};
 ghost use Rattle.asl_types.specs.View.{fields_of, parts_of};
-ghost use Rattle.asl_value.specs.Answers.{Is};
+ghost use Rattle.asl_value.specs.private.Answers.{Is};
 ghost use Rattle.asl_value.specs.View.{kind_of, value_of, field_of, all_values, all_fields};
-ghost use Rattle.asl_shape.specs.First.{first_of_field};
+ghost use Rattle.asl_shape.specs.private.First.{first_of_field};
 
 use crate::library::copied;
 use crate::numbers::{first_in, number_of};

@@ -1,7 +1,7 @@
 //! The kinds of values, and whether a kind is that of a type.
 ghost use Rattle.std.specs.Prelude.{◌≡◌, IfOk};
-ghost use Rattle.asl_rules.specs.Types as types;
-ghost use Rattle.asl_rules.specs.Values as rules;
+ghost use Rattle.asl_rules.specs.types.Types as types;
+ghost use Rattle.asl_rules.specs.values.Values as rules;
 ghost use Rattle.asl_types.specs.View.{parts_of};
 ghost use Rattle.asl_value.specs.View.{kind_of as view_of_kind, all_kinds, value_of, all_values};
 

@@ -1,12 +1,12 @@
 //! What the subprograms of the library give.
 ghost use Rattle.std.specs.Prelude.{◌≡◌, map};
 ghost use Rattle.asl_bits.specs.declared.TheConstants.{WIDTH_LIMIT};
-ghost use Rattle.asl_rules.specs.Library as rules;
-ghost use Rattle.asl_rules.specs.Operators.{integer_of, same_bool};
-ghost use Rattle.asl_rules.specs.Routines as routines;
-ghost use Rattle.asl_value.specs.Answers.{Is};
+ghost use Rattle.asl_rules.specs.values.Library as rules;
+ghost use Rattle.asl_rules.specs.values.Operators.{integer_of, same_bool};
+ghost use Rattle.asl_rules.specs.declarations.Routines as routines;
+ghost use Rattle.asl_value.specs.private.Answers.{Is};
 ghost use Rattle.asl_value.specs.View.{value_of};
-ghost use Rattle.asl_shape.specs.Bits as bits;
+ghost use Rattle.asl_shape.specs.private.Bits as bits;
 ghost use Rattle.asl_shape.specs.View.{routine_of};
 
 use crate::arguments::{bits_alone, integer_alone, one_bits, one_integer, two_alone};

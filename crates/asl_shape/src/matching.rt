@@ -1,17 +1,17 @@
 //! Whether values match patterns.
 ghost use Rattle.std.specs.Prelude.{◌≡◌, ◌<◌, ◌&&◌, List, map, length, OnSome};
 ghost use Rattle.asl_bits.specs.declared.TheConstants.{WIDTH_LIMIT};
-ghost use Rattle.asl_rules.specs.ByNames.{matched_in as matched_in_one};
-ghost use Rattle.asl_rules.specs.Closed.{not_above};
-ghost use Rattle.asl_rules.specs.Matching as rules;
-ghost use Rattle.asl_rules.specs.Plans.{Good};
-ghost use Rattle.asl_rules.specs.Structures.{values_in};
-ghost use Rattle.asl_rules.specs.Shapes.{in_parts};
-ghost use Rattle.asl_rules.specs.Values.{int};
+ghost use Rattle.asl_rules.specs.runs.ByNames.{matched_in as matched_in_one};
+ghost use Rattle.asl_rules.specs.types.Closed.{not_above};
+ghost use Rattle.asl_rules.specs.values.Matching as rules;
+ghost use Rattle.asl_rules.specs.runs.Plans.{Good};
+ghost use Rattle.asl_rules.specs.values.Structures.{values_in};
+ghost use Rattle.asl_rules.specs.types.Shapes.{in_parts};
+ghost use Rattle.asl_rules.specs.values.Values.{int};
 ghost use Rattle.asl_value.specs.declared.value.Value.{Value};
-ghost use Rattle.asl_value.specs.Answers.{Is};
+ghost use Rattle.asl_value.specs.private.Answers.{Is};
 ghost use Rattle.asl_value.specs.View.{value_of, all_values, digits_of};
-ghost use Rattle.asl_shape.specs.Matched.{matched_at, values_from, integer_in_front, are_equal};
+ghost use Rattle.asl_shape.specs.private.Matched.{matched_at, values_from, integer_in_front, are_equal};
 ghost use Rattle.asl_shape.specs.View.{pattern_of, all_patterns};
 
 use crate::arguments::integer_in;

@@ -1,7 +1,7 @@
 //! Types in which no name of a body stands: their widths and constraints as numbers.
 ghost use Rattle.std.specs.Prelude.{◌≡◌, pos};
-ghost use Rattle.asl_rules.specs.Closed as rules;
-ghost use Rattle.asl_shape.specs.Numbers.{last_number, range};
+ghost use Rattle.asl_rules.specs.types.Closed as rules;
+ghost use Rattle.asl_shape.specs.private.Numbers.{last_number, range};
 
 use crate::matching::is_at_most;
 use asl_cons::{End, Part};

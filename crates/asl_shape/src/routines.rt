@@ -1,6 +1,6 @@
 //! The subprograms of the library.
 ghost use Rattle.std.specs.Prelude.{◌≡◌, option_map};
-ghost use Rattle.asl_rules.specs.Routines as rules;
+ghost use Rattle.asl_rules.specs.declarations.Routines as rules;
 ghost use Rattle.asl_shape.specs.View.{routine_of};
 
 use asl_value::same_name;

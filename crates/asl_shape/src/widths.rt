@@ -1,8 +1,8 @@
 //! Parameters that are omitted, which are the widths of arguments.
 ghost use Rattle.std.specs.Prelude.{◌≡◌, map, option_map, option_and_then, slice_get};
-ghost use Rattle.asl_rules.specs.Evaluation.{width_of_bits as width_rule};
-ghost use Rattle.asl_rules.specs.TypedMeaning as rules;
-ghost use Rattle.asl_value.specs.Answers.{Is};
+ghost use Rattle.asl_rules.specs.runs.Evaluation.{width_of_bits as width_rule};
+ghost use Rattle.asl_rules.specs.private.TypedMeaning as rules;
+ghost use Rattle.asl_value.specs.private.Answers.{Is};
 ghost use Rattle.asl_value.specs.View.{value_of};
 
 use asl_syn::token::Span;

@@ -1,9 +1,9 @@
 //! The values that variables of written types begin with.
 ghost use Rattle.std.specs.Prelude.{map};
 ghost use Rattle.asl_bits.specs.declared.TheConstants.{WIDTH_LIMIT};
-ghost use Rattle.asl_value.specs.Answers.{Is};
+ghost use Rattle.asl_value.specs.private.Answers.{Is};
 ghost use Rattle.asl_value.specs.View.{value_of};
-ghost use Rattle.asl_shape.specs.First.{first_written};
+ghost use Rattle.asl_shape.specs.private.First.{first_written};
 ghost use Rattle.asl_shape.specs.View.{type_of};
 
 use crate::filled::filled_first;

@@ -6,12 +6,12 @@ use Rattle.asl_syn.specs.declared.tree.Stmt.TheVariants as stv
 use Rattle.asl_syn.specs.declared.tree.Alternative.TheOpen as st
 use Rattle.asl_syn.specs.declared.tree.Alternative.TheFolds.{fold-roll-Stmt}
 use Rattle.asl_rules.specs.declared.effect.Effect.TheVariants.{Pure}
-use Rattle.asl_rules.specs.Acting.{FoundStmt, FoundOtherwise, done}
-use Rattle.asl_rules.specs.Branches.{FoundBranch, FoundAlternative, FoundCatcher}
-use Rattle.asl_rules.specs.Scopes.{Body}
-use Rattle.asl_rules.specs.Stmts.{branch_found, alternative_found, catcher_found, otherwise_found}
+use Rattle.asl_rules.specs.statements.Acting.{FoundStmt, FoundOtherwise, done}
+use Rattle.asl_rules.specs.statements.Branches.{FoundBranch, FoundAlternative, FoundCatcher}
+use Rattle.asl_rules.specs.declarations.Scopes.{Body}
+use Rattle.asl_rules.specs.statements.Stmts.{branch_found, alternative_found, catcher_found, otherwise_found}
 use Rattle.asl_rules.specs.Tests.{Tests}
-use Rattle.asl_rules.specs.Trees as tree
+use Rattle.asl_rules.specs.runs.Trees as tree
 use Rattle.asl_tree.specs.View.{tree_of}
 use Rattle.asl_tree.specs.Acts.{AlternativeFirst, BranchFirst, CatcherFirst, act_rule, alternative_rule, branch_rule, catcher_rule, last_rule, act_of, all_acts, all_branches, all_alternatives, all_catchers, last_of, maybe_tree}
 use Rattle.asl_tree.specs.declared.tree.Tree.{Tree}
@@ -25,7 +25,7 @@ use Rattle.asl_tree.specs.declared.act.Last.{Last}
 use Rattle.asl_tree.specs.declared.act.Act.TheVariants as act
 use Rattle.asl_tree.specs.declared.act.Act.TheOpen as s
 use Rattle.asl_tree.specs.declared.act.Act.TheFolds.{fold-roll-Act}
-use Rattle.asl_stmt.specs.Walks.{walk_layer, walk_stmt}
+use Rattle.asl_stmt.specs.private.Walks.{walk_layer, walk_stmt}
 
 pub act_if : (span : Span) (e : Tree) (first : List Act) (others : List Branch) (last : List Act) → act_of (act.If span e first others last) ≡ tree.If span (tree_of e) (all_acts first) (all_branches others) (all_acts last)
 act_if span e first others last =

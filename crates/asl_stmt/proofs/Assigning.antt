@@ -12,15 +12,15 @@ use Rattle.asl_rules.specs.declared.effect.Effect.{Effect}
 use Rattle.asl_rules.specs.declared.effect.Effect.TheVariants.{Pure}
 use Rattle.asl_rules.specs.Faults.{◌>>=◌, ◌>>◌, need}
 use Rattle.asl_rules.specs.Tests.{Tests}
-use Rattle.asl_rules.specs.Types.{Ty, Parts, no_part, part, tuple_parts}
-use Rattle.asl_rules.specs.Trees.{TreePlace}
-use Rattle.asl_rules.specs.Effects.{greater}
-use Rattle.asl_rules.specs.Scopes.{Scope}
-use Rattle.asl_rules.specs.Typing.{Operand}
-use Rattle.asl_rules.specs.Acting.{Done, operand_of}
-use Rattle.asl_rules.specs.Targets.{TypedSuffix, TypedPlace, FoundTarget, Reached, Placed, behind_suffix, behind_suffixes, reached, assignable, placed_at, placed, all_placed, writings, tree_places, place_effects, part_of, part_fits, all_parts_fit, assignment, assign_rule, all_places, inside, target_layer, parts_count, all_count, found_target}
+use Rattle.asl_rules.specs.types.Types.{Ty, Parts, no_part, part, tuple_parts}
+use Rattle.asl_rules.specs.runs.Trees.{TreePlace}
+use Rattle.asl_rules.specs.types.Effects.{greater}
+use Rattle.asl_rules.specs.declarations.Scopes.{Scope}
+use Rattle.asl_rules.specs.expressions.Typing.{Operand}
+use Rattle.asl_rules.specs.statements.Acting.{Done, operand_of}
+use Rattle.asl_rules.specs.statements.Targets.{TypedSuffix, TypedPlace, FoundTarget, Reached, Placed, behind_suffix, behind_suffixes, reached, assignable, placed_at, placed, all_placed, writings, tree_places, place_effects, part_of, part_fits, all_parts_fit, assignment, assign_rule, all_places, inside, target_layer, parts_count, all_count, found_target}
 use Rattle.asl_rules.proofs.basics.Inversions.{ok_ok, err_ok}
-use Rattle.asl_stmt.specs.Walks.{after, led, reach_step, placed_walk, Stores, stores, with_store, store_step, stores_walk, stores_fit, assigned, counts_parts, counts_all, count_layer, counts_in, assign_walk}
+use Rattle.asl_stmt.specs.private.Walks.{after, led, reach_step, placed_walk, Stores, stores, with_store, store_step, stores_walk, stores_fit, assigned, counts_parts, counts_all, count_layer, counts_in, assign_walk}
 use Rattle.asl_stmt.proofs.Chains.{then_same, then_then, then_itself, append_nothing, next_of}
 use Rattle.asl_stmt.proofs.Gathering.{greater_on, greater_pure}
 

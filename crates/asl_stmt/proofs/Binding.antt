@@ -14,13 +14,13 @@ use Rattle.asl_syn.specs.declared.tree.LocalKind.TheVariants.{Let, Var}
 use Rattle.asl_syn.specs.declared.tree.TypeExpr.{TypeExpr}
 use Rattle.asl_rules.specs.Faults.{◌>>=◌, ◌>>◌, need, found_or}
 use Rattle.asl_rules.specs.Tests.{Tests}
-use Rattle.asl_rules.specs.Types.{Ty, Parts, no_part, part, tuple_parts}
-use Rattle.asl_rules.specs.Trees as tree
-use Rattle.asl_rules.specs.Scopes.{Scope, Entry, standing_of, is_absent, is_free}
-use Rattle.asl_rules.specs.Members.{has_name}
-use Rattle.asl_rules.specs.Acting.{Done, ended}
-use Rattle.asl_rules.specs.Locals.{Initialised, declared, part_declared, itself, binders_free, bound_parts, bound_in, written_or, taken, initialised, several_declared, bound, bind_rule}
-use Rattle.asl_stmt.specs.Walks.{after, first_part, other_parts, has_part, has_none, Binding, binding, binder_declared, binder_step, uncounted, binders_walk, several_walk, bound_walk, bind_walk}
+use Rattle.asl_rules.specs.types.Types.{Ty, Parts, no_part, part, tuple_parts}
+use Rattle.asl_rules.specs.runs.Trees as tree
+use Rattle.asl_rules.specs.declarations.Scopes.{Scope, Entry, standing_of, is_absent, is_free}
+use Rattle.asl_rules.specs.values.Members.{has_name}
+use Rattle.asl_rules.specs.statements.Acting.{Done, ended}
+use Rattle.asl_rules.specs.statements.Locals.{Initialised, declared, part_declared, itself, binders_free, bound_parts, bound_in, written_or, taken, initialised, several_declared, bound, bind_rule}
+use Rattle.asl_stmt.specs.private.Walks.{after, first_part, other_parts, has_part, has_none, Binding, binding, binder_declared, binder_step, uncounted, binders_walk, several_walk, bound_walk, bind_walk}
 use Rattle.asl_stmt.proofs.Chains.{then_same, then_then}
 
 -- ---- names that were declared on the way

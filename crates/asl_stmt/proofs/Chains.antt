@@ -3,7 +3,7 @@ use Rattle.std.proofs.Common.{[], ◌++◌, map, append_assoc, ◌≡◌, ℕ, �
 use Rattle.std.proofs.Math.Seq.{drop-cons}
 use Rattle.asl_syn.specs.declared.code.Fault.{Fault}
 use Rattle.asl_rules.specs.Faults.{◌>>=◌, ◌>>◌}
-use Rattle.asl_stmt.specs.Walks.{after}
+use Rattle.asl_stmt.specs.private.Walks.{after}
 
 -- two steps whose second is the same
 pub then_same : {A B : Type 0} (r : Result A Fault) (f g : A → Result B Fault) → ((x : A) → f x ≡ g x) → (r >>= f) ≡ (r >>= g)

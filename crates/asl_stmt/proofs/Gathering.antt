@@ -6,12 +6,12 @@ use Rattle.asl_syn.specs.declared.code.StaticCode.TheVariants.{T05}
 use Rattle.asl_rules.specs.declared.effect.Effect.{Effect}
 use Rattle.asl_rules.specs.declared.effect.Effect.TheVariants.{Pure, Readonly, Writes}
 use Rattle.asl_rules.specs.Faults.{◌>>=◌, ◌>>◌, need, none_at}
-use Rattle.asl_rules.specs.Effects.{greater}
-use Rattle.asl_rules.specs.Types.{is_boolean}
-use Rattle.asl_rules.specs.Typing.{Operand}
-use Rattle.asl_rules.specs.Acting.{condition}
-use Rattle.asl_rules.specs.Branches.{where_condition}
-use Rattle.asl_stmt.specs.Walks.{after, Gathered, gathered, unless_boolean, misplaced, where_misplaced}
+use Rattle.asl_rules.specs.types.Effects.{greater}
+use Rattle.asl_rules.specs.types.Types.{is_boolean}
+use Rattle.asl_rules.specs.expressions.Typing.{Operand}
+use Rattle.asl_rules.specs.statements.Acting.{condition}
+use Rattle.asl_rules.specs.statements.Branches.{where_condition}
+use Rattle.asl_stmt.specs.private.Walks.{after, Gathered, gathered, unless_boolean, misplaced, where_misplaced}
 use Rattle.asl_stmt.proofs.Chains.{then_same, then_then, need_need, need_last}
 
 pub greater_pure : (k : Effect) → greater k Pure ≡ k

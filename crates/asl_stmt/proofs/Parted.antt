@@ -9,15 +9,15 @@ use Rattle.asl_syn.specs.declared.tree.Ident.{Ident}
 use Rattle.asl_rules.specs.declared.effect.Effect.{Effect}
 use Rattle.asl_rules.specs.Faults.{◌>>=◌, ◌>>◌}
 use Rattle.asl_rules.specs.Tests.{Tests}
-use Rattle.asl_rules.specs.Types.{Ty}
-use Rattle.asl_rules.specs.Trees as tree
-use Rattle.asl_rules.specs.Trees.{Act}
-use Rattle.asl_rules.specs.Scopes.{Body, Entry, handling}
-use Rattle.asl_rules.specs.Typing.{Operand}
-use Rattle.asl_rules.specs.Acting.{Done, FoundStmt, FoundOtherwise, Listed, LastListed, listed, ended, operand_of}
-use Rattle.asl_rules.specs.Branches.{FoundBranch, FoundAlternative, FoundCatcher, limit_typed, for_ended, while_ended, repeat_ended, with_caught}
-use Rattle.asl_types.specs.Answers.{Met}
-use Rattle.asl_stmt.specs.Walks.{after, shut, last_shut, Gathered, branch_step, first_branch, if_ended, if_walk, alternative_step, nothing_gathered, case_ended, case_walk, Bounds, bounds_typed, index_declared, counted_shut, for_walk, while_walk, repeat_walk, caught_shut, catcher_step, caught, try_walk}
+use Rattle.asl_rules.specs.types.Types.{Ty}
+use Rattle.asl_rules.specs.runs.Trees as tree
+use Rattle.asl_rules.specs.runs.Trees.{Act}
+use Rattle.asl_rules.specs.declarations.Scopes.{Body, Entry, handling}
+use Rattle.asl_rules.specs.expressions.Typing.{Operand}
+use Rattle.asl_rules.specs.statements.Acting.{Done, FoundStmt, FoundOtherwise, Listed, LastListed, listed, ended, operand_of}
+use Rattle.asl_rules.specs.statements.Branches.{FoundBranch, FoundAlternative, FoundCatcher, limit_typed, for_ended, while_ended, repeat_ended, with_caught}
+use Rattle.asl_types.specs.private.Answers.{Met}
+use Rattle.asl_stmt.specs.private.Walks.{after, shut, last_shut, Gathered, branch_step, first_branch, if_ended, if_walk, alternative_step, nothing_gathered, case_ended, case_walk, Bounds, bounds_typed, index_declared, counted_shut, for_walk, while_walk, repeat_walk, caught_shut, catcher_step, caught, try_walk}
 use Rattle.asl_stmt.proofs.Turns.{met_then}
 
 abbrev seen : {A B : Type 0} → (A → B) → Result B Fault → Result A Refused → Type 0

@@ -3,10 +3,10 @@ use Rattle.std.proofs.Common.{◌≡◌, ℕ, zero, suc, ◌+◌, ◌<◌, ◌�
 use Rattle.std.proofs.lemmas.List.{drop_all}
 use Rattle.asl_syn.specs.declared.code.Fault.{Fault}
 use Rattle.asl_rules.specs.Faults.{◌>>=◌}
-use Rattle.asl_rules.specs.Targets.{TypedPlace, part_number}
-use Rattle.asl_rules.specs.Types.{Ty}
+use Rattle.asl_rules.specs.statements.Targets.{TypedPlace, part_number}
+use Rattle.asl_rules.specs.types.Types.{Ty}
 use Rattle.asl_types.specs.View.{parts_of}
-use Rattle.asl_stmt.specs.Walks.{led}
+use Rattle.asl_stmt.specs.private.Walks.{led}
 use Rattle.asl_stmt.proofs.Assigning.{led_whole}
 use Rattle.asl_stmt.proofs.Chains.{then_same, then_itself, append_nothing, next_of}
 

@@ -4,7 +4,7 @@ use Rattle.asl_syn.specs.declared.code.Fault.{Fault}
 use Rattle.asl_syn.specs.declared.code.Refused.{Refused}
 use Rattle.asl_syn.specs.declared.code.Refused.TheVariants.{At, NoMemory}
 use Rattle.asl_rules.specs.Faults.{◌>>=◌}
-use Rattle.asl_types.specs.Answers.{Met}
+use Rattle.asl_types.specs.private.Answers.{Met}
 
 -- what is found is seen otherwise
 pub met_on : {A B C : Type 0} (v : A → B) (w : A → C) (f : B → C) (r : Result A Refused) (x : Result B Fault) (y : Result C Fault) →

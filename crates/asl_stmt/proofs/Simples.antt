@@ -2,11 +2,11 @@
 use Rattle.std.proofs.Common.{◌≡◌, ℕ, List, [], ◌∷◌, refl, sym, ap, ◌∙◌}
 use Rattle.asl_syn.specs.declared.token.Span.{Span}
 use Rattle.asl_rules.specs.declared.effect.Effect.{Effect}
-use Rattle.asl_rules.specs.Acting.{done}
-use Rattle.asl_rules.specs.Scopes.{Entry}
-use Rattle.asl_rules.specs.Stmts.{invoked}
-use Rattle.asl_rules.specs.Trees as tree
-use Rattle.asl_rules.specs.Typing.{trees_of}
+use Rattle.asl_rules.specs.statements.Acting.{done}
+use Rattle.asl_rules.specs.declarations.Scopes.{Entry}
+use Rattle.asl_rules.specs.statements.Stmts.{invoked}
+use Rattle.asl_rules.specs.runs.Trees as tree
+use Rattle.asl_rules.specs.expressions.Typing.{trees_of}
 use Rattle.asl_tree.specs.declared.act.Simple.TheVariants as simple
 use Rattle.asl_tree.specs.declared.tree.Callee.{Callee}
 use Rattle.asl_tree.specs.declared.tree.Tree.{Tree}

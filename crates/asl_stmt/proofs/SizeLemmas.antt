@@ -4,7 +4,7 @@ use Rattle.asl_syn.specs.declared.tree.Alternative.{Alternative}
 use Rattle.asl_syn.specs.declared.tree.Catcher.{Catcher}
 use Rattle.asl_syn.specs.declared.tree.ElseIf.{ElseIf}
 use Rattle.asl_syn.specs.declared.tree.Stmt.{Stmt}
-use Rattle.asl_stmt.specs.Sizes.{total, stmt_size, branch_size, alternative_size, catcher_size, stmts_size, branches_size, alternatives_size, catchers_size}
+use Rattle.asl_stmt.specs.private.Sizes.{total, stmt_size, branch_size, alternative_size, catcher_size, stmts_size, branches_size, alternatives_size, catchers_size}
 
 one_of : {A : Type 0} (f : A → ℕ) (xs : List A) (i : ℕ) (x : A) → i < length xs → f (get_or xs i x) ≤ total (map f xs)
 one_of f [] i x h = omega arith

@@ -6,11 +6,11 @@ use Rattle.asl_syn.specs.declared.tree.Binder.{Binder}
 use Rattle.asl_syn.specs.declared.tree.LocalKind.{LocalKind}
 use Rattle.asl_rules.specs.declared.effect.Effect.{Effect}
 use Rattle.asl_rules.specs.Faults.{◌>>=◌, need}
-use Rattle.asl_rules.specs.Effects.{greater}
-use Rattle.asl_rules.specs.Types.{Ty, Parts}
-use Rattle.asl_rules.specs.Trees.{Act}
-use Rattle.asl_rules.specs.Scopes.{Body, Entry, body_names, is_free, fixed, atom_at, next_atom}
-use Rattle.asl_rules.specs.Branches.{with_caught, with_index, index_type, index_rule}
+use Rattle.asl_rules.specs.types.Effects.{greater}
+use Rattle.asl_rules.specs.types.Types.{Ty, Parts}
+use Rattle.asl_rules.specs.runs.Trees.{Act}
+use Rattle.asl_rules.specs.declarations.Scopes.{Body, Entry, body_names, is_free, fixed, atom_at, next_atom}
+use Rattle.asl_rules.specs.statements.Branches.{with_caught, with_index, index_type, index_rule}
 use Rattle.asl_rules.proofs.basics.Inversions.{ok_ok, then_ok}
 use Rattle.asl_rules.proofs.verdict.SomeTests.{SomeTests, some_tests}
 use Rattle.asl_types.specs.Suits.{Suits}
@@ -20,16 +20,16 @@ use Rattle.asl_syn.specs.declared.tree.Expr.{Expr}
 use Rattle.asl_syn.specs.declared.tree.Ident.{Ident}
 use Rattle.asl_syn.specs.declared.code.StaticCode.TheVariants.{T01}
 use Rattle.std.proofs.Math.Seq.{take-append_seam}
-use Rattle.asl_rules.specs.Acting.{FoundStmt, Done, done, listed}
+use Rattle.asl_rules.specs.statements.Acting.{FoundStmt, Done, done, listed}
 use Rattle.asl_rules.specs.declared.effect.Effect.TheVariants.{Pure}
 use Rattle.asl_rules.specs.Tests.{Tests}
 use Rattle.asl_syn.specs.declared.code.Refused.{Refused}
 use Rattle.asl_syn.specs.declared.code.Refused.TheVariants.{At, NoMemory}
 use Rattle.asl_syn.specs.declared.tree.Stmt.{Stmt}
-use Rattle.asl_types.specs.Answers.{Met}
+use Rattle.asl_types.specs.private.Answers.{Met}
 use Rattle.asl_tree.specs.Acts.{acts_from}
-use Rattle.asl_rules.specs.Locals.{part_declared}
-use Rattle.asl_stmt.specs.Walks.{after, first_part, other_parts, has_part, binding, Binding, binder_declared, binder_step, Listing, listing, stmt_step, shut, walk_stmt, Bounds, index_declared}
+use Rattle.asl_rules.specs.statements.Locals.{part_declared}
+use Rattle.asl_stmt.specs.private.Walks.{after, first_part, other_parts, has_part, binding, Binding, binder_declared, binder_step, Listing, listing, stmt_step, shut, walk_stmt, Bounds, index_declared}
 use Rattle.asl_stmt.proofs.Chains.{after_one, after_mapped, then_then, append_nothing}
 use Rattle.asl_stmt.proofs.Walked.{in_order_is, cut_back}
 

@@ -18,23 +18,23 @@ use Rattle.asl_rules.specs.declared.effect.Effect.{Effect}
 use Rattle.asl_rules.specs.declared.effect.Effect.TheVariants.{Pure}
 use Rattle.asl_rules.specs.Faults.{◌>>=◌, ◌>>◌, need, none_at, found_or}
 use Rattle.asl_rules.specs.Tests.{Tests}
-use Rattle.asl_rules.specs.Types.{Ty}
-use Rattle.asl_rules.specs.Trees as tree
-use Rattle.asl_rules.specs.Trees.{Act, Acts, TreeItem}
-use Rattle.asl_rules.specs.Effects.{greater}
-use Rattle.asl_rules.specs.Scopes.{Scope, Body, Entry, body_names, handling, type_of_name}
-use Rattle.asl_rules.specs.Typing.{Typed, Operand, trees_from}
-use Rattle.asl_rules.specs.Patterns.{Matched, pattern_shapes, pattern_trees}
-use Rattle.asl_rules.specs.Shapes.{PatternShape, PatternShapes, no_pattern, pattern_and}
-use Rattle.asl_rules.specs.Exprs.{typed, matches}
-use Rattle.asl_rules.specs.Acting.{Done, Listed, LastListed, FoundStmt, FoundOtherwise, done, listed, ended_in, in_order, block, last_block, condition, operand_of}
-use Rattle.asl_rules.specs.Branches.{FoundBranch, FoundAlternative, FoundCatcher, TypedBranch, TypedAlternative, TypedCatcher, branch_rule, branches, branch_conditions, branch_effects, branch_effect, branch_trees, branching, if_rule, alternatives, alternative_rule, all_patterns, where_rule, where_condition, where_conditions, effect_of, tree_in, alternative_effects, alternative_trees, choosing, case_rule, limit_typed, index_rule, index_type, with_index, for_ended, for_rule, while_ended, while_rule, repeat_ended, repeat_rule, is_exception, with_caught, catcher_rule, catchers, catcher_effects, catcher_trees, try_ended, try_rule}
-use Rattle.asl_rules.specs.Stmts.{StmtOf, Printed, printed, printing, text_first, value_first, items_rule, print_rule, stmt_layer_rule, branch_found, alternative_found, catcher_found, otherwise_found, found_stmt}
+use Rattle.asl_rules.specs.types.Types.{Ty}
+use Rattle.asl_rules.specs.runs.Trees as tree
+use Rattle.asl_rules.specs.runs.Trees.{Act, Acts, TreeItem}
+use Rattle.asl_rules.specs.types.Effects.{greater}
+use Rattle.asl_rules.specs.declarations.Scopes.{Scope, Body, Entry, body_names, handling, type_of_name}
+use Rattle.asl_rules.specs.expressions.Typing.{Typed, Operand, trees_from}
+use Rattle.asl_rules.specs.expressions.Patterns.{Matched, pattern_shapes, pattern_trees}
+use Rattle.asl_rules.specs.types.Shapes.{PatternShape, PatternShapes, no_pattern, pattern_and}
+use Rattle.asl_rules.specs.expressions.Exprs.{typed, matches}
+use Rattle.asl_rules.specs.statements.Acting.{Done, Listed, LastListed, FoundStmt, FoundOtherwise, done, listed, ended_in, in_order, block, last_block, condition, operand_of}
+use Rattle.asl_rules.specs.statements.Branches.{FoundBranch, FoundAlternative, FoundCatcher, TypedBranch, TypedAlternative, TypedCatcher, branch_rule, branches, branch_conditions, branch_effects, branch_effect, branch_trees, branching, if_rule, alternatives, alternative_rule, all_patterns, where_rule, where_condition, where_conditions, effect_of, tree_in, alternative_effects, alternative_trees, choosing, case_rule, limit_typed, index_rule, index_type, with_index, for_ended, for_rule, while_ended, while_rule, repeat_ended, repeat_rule, is_exception, with_caught, catcher_rule, catchers, catcher_effects, catcher_trees, try_ended, try_rule}
+use Rattle.asl_rules.specs.statements.Stmts.{StmtOf, Printed, printed, printing, text_first, value_first, items_rule, print_rule, stmt_layer_rule, branch_found, alternative_found, catcher_found, otherwise_found, found_stmt}
 use Rattle.asl_rules.proofs.scopes.Longer.{list_longer}
 use Rattle.asl_shape.specs.View.{patterns_from}
 use Rattle.asl_tree.specs.Acts.{acts_from, branches_from, alternatives_from, catchers_from}
-use Rattle.asl_stmt.specs.Walks as walks
-use Rattle.asl_stmt.specs.Walks.{after, Listing, listing, stmt_step, shut, last_shut, misplaced, where_misplaced, Gathered, gathered, nothing_gathered, branch_step, first_branch, if_ended, if_walk, alternative_step, case_ended, case_walk, for_walk, while_walk, repeat_walk, catcher_step, caught, try_walk, item_step, print_walk, walk_layer, walk_stmt}
+use Rattle.asl_stmt.specs.private.Walks as walks
+use Rattle.asl_stmt.specs.private.Walks.{after, Listing, listing, stmt_step, shut, last_shut, misplaced, where_misplaced, Gathered, gathered, nothing_gathered, branch_step, first_branch, if_ended, if_walk, alternative_step, case_ended, case_walk, for_walk, while_walk, repeat_walk, catcher_step, caught, try_walk, item_step, print_walk, walk_layer, walk_stmt}
 use Rattle.asl_stmt.proofs.Chains.{then_same, then_then, then_itself, append_nothing}
 use Rattle.asl_stmt.proofs.Gathering.{Parts, onto, gathered_with, all_rule, all_conditions, all_effects, all_trees, gathering, condition_is, misplaced_is, where_is}
 use Rattle.asl_stmt.proofs.Assigning.{assign_is}

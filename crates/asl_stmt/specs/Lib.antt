@@ -1,11 +1,1 @@
-pub mod Walks
-pub mod Views
-pub mod LocalViews
-pub mod LoopViews
-pub mod PatternViews
-pub mod PrintViews
-pub mod TargetViews
-pub mod PartViews
-pub mod Sizes
-pub mod Blocks
-pub mod SuffixWalks
+pub mod private

@@ -2,14 +2,14 @@
 
 ghost use Rattle.std.specs.Prelude.{◌≡◌, ◌&&◌, Ok, IfOk, option_map};
 ghost use Rattle.std.specs.Prelude.{◌++◌, ◌∷◌, []};
-ghost use Rattle.asl_rules.specs.Locals as rules;
-ghost use Rattle.asl_rules.specs.Scopes as scopes;
-ghost use Rattle.asl_rules.specs.Scopes.{with_entry};
-ghost use Rattle.asl_rules.specs.Types as types;
-ghost use Rattle.asl_types.specs.Answers.{Met};
+ghost use Rattle.asl_rules.specs.statements.Locals as rules;
+ghost use Rattle.asl_rules.specs.declarations.Scopes as scopes;
+ghost use Rattle.asl_rules.specs.declarations.Scopes.{with_entry};
+ghost use Rattle.asl_rules.specs.types.Types as types;
+ghost use Rattle.asl_types.specs.private.Answers.{Met};
 ghost use Rattle.asl_types.specs.View.{parts_of};
-ghost use Rattle.asl_stmt.specs.Walks as walks;
-ghost use Rattle.asl_stmt.specs.Walks.{after, binding};
+ghost use Rattle.asl_stmt.specs.private.Walks as walks;
+ghost use Rattle.asl_stmt.specs.private.Walks.{after, binding};
 
 use asl_syn::code::{Refused, StaticCode};
 use asl_syn::tree::{Binder, LocalKind};

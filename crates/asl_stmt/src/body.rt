@@ -2,11 +2,11 @@
 
 ghost use Rattle.std.specs.Prelude.{◌≡◌, [], IfOk};
 ghost use Rattle.asl_rules.specs.declared.effect.Effect.TheVariants.{Pure};
-ghost use Rattle.asl_rules.specs.Scopes.{handling};
-ghost use Rattle.asl_types.specs.ContextView.{scope_of};
-ghost use Rattle.asl_stmt.specs.Views.{body_of};
+ghost use Rattle.asl_rules.specs.declarations.Scopes.{handling};
+ghost use Rattle.asl_types.specs.private.ContextView.{scope_of};
+ghost use Rattle.asl_stmt.specs.private.Views.{body_of};
 ghost use Rattle.std.specs.Prelude.{List};
-ghost use Rattle.asl_rules.specs.Scopes.{Entry};
+ghost use Rattle.asl_rules.specs.declarations.Scopes.{Entry};
 
 use asl_rules::effect::Effect;
 use asl_shared::Held;

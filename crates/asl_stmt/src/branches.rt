@@ -1,17 +1,17 @@
 //! The branches of an `if`.
 
 ghost use Rattle.std.specs.Prelude.{◌≡◌, ◌+◌, ◌<◌, List, map, OnOk};
-ghost use Rattle.asl_rules.specs.Scopes.{Entry};
+ghost use Rattle.asl_rules.specs.declarations.Scopes.{Entry};
 ghost use Rattle.asl_rules.specs.Tests.{Tests};
-ghost use Rattle.asl_types.specs.Answers.{Met};
+ghost use Rattle.asl_types.specs.private.Answers.{Met};
 ghost use Rattle.asl_types.specs.Suits.{Suits};
 ghost use Rattle.asl_tree.specs.View.{operand_of};
-ghost use Rattle.asl_stmt.specs.Blocks.{Blocks};
-ghost use Rattle.asl_stmt.specs.Sizes.{stmt_size, stmts_size, branch_size, branches_size};
-ghost use Rattle.asl_stmt.specs.Views.{body_of, done_of, listed_of};
-ghost use Rattle.asl_stmt.specs.PartViews.{branches_of};
-ghost use Rattle.asl_stmt.specs.Walks as walks;
-ghost use Rattle.asl_stmt.specs.Walks.{after, branch_step, walk_branch, walk_stmt};
+ghost use Rattle.asl_stmt.specs.private.Blocks.{Blocks};
+ghost use Rattle.asl_stmt.specs.private.Sizes.{stmt_size, stmts_size, branch_size, branches_size};
+ghost use Rattle.asl_stmt.specs.private.Views.{body_of, done_of, listed_of};
+ghost use Rattle.asl_stmt.specs.private.PartViews.{branches_of};
+ghost use Rattle.asl_stmt.specs.private.Walks as walks;
+ghost use Rattle.asl_stmt.specs.private.Walks.{after, branch_step, walk_branch, walk_stmt};
 
 use crate::body::{Body, Done, Listed};
 use crate::steps::{check_placed, ended, misplaced};

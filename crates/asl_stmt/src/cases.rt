@@ -1,19 +1,19 @@
 //! The alternatives of a `case`.
 
 ghost use Rattle.std.specs.Prelude.{◌≡◌, ◌+◌, ◌<◌, List, map, OnOk};
-ghost use Rattle.asl_rules.specs.Scopes.{Entry};
+ghost use Rattle.asl_rules.specs.declarations.Scopes.{Entry};
 ghost use Rattle.asl_rules.specs.Tests.{Tests};
-ghost use Rattle.asl_types.specs.Answers.{Met};
+ghost use Rattle.asl_types.specs.private.Answers.{Met};
 ghost use Rattle.asl_types.specs.Suits.{Suits};
 ghost use Rattle.asl_tree.specs.View.{operand_of, typed_of};
 ghost use Rattle.asl_expr.specs.PatternViews.{matched_of};
-ghost use Rattle.asl_stmt.specs.Blocks.{Blocks};
-ghost use Rattle.asl_stmt.specs.Sizes.{stmt_size, alternative_size, alternatives_size, otherwise_size};
-ghost use Rattle.asl_stmt.specs.PatternViews.{patterns_of};
-ghost use Rattle.asl_stmt.specs.Views.{body_of, done_of, last_listed_of, listed_of, maybe_operand};
-ghost use Rattle.asl_stmt.specs.PartViews.{alternatives_of};
-ghost use Rattle.asl_stmt.specs.Walks as walks;
-ghost use Rattle.asl_stmt.specs.Walks.{nothing_gathered, after, alternative_step, walk_alternative, walk_otherwise};
+ghost use Rattle.asl_stmt.specs.private.Blocks.{Blocks};
+ghost use Rattle.asl_stmt.specs.private.Sizes.{stmt_size, alternative_size, alternatives_size, otherwise_size};
+ghost use Rattle.asl_stmt.specs.private.PatternViews.{patterns_of};
+ghost use Rattle.asl_stmt.specs.private.Views.{body_of, done_of, last_listed_of, listed_of, maybe_operand};
+ghost use Rattle.asl_stmt.specs.private.PartViews.{alternatives_of};
+ghost use Rattle.asl_stmt.specs.private.Walks as walks;
+ghost use Rattle.asl_stmt.specs.private.Walks.{nothing_gathered, after, alternative_step, walk_alternative, walk_otherwise};
 
 use crate::body::{Body, Done, LastListed, Listed};
 use crate::otherwise::check_otherwise;

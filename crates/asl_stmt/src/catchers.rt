@@ -1,21 +1,21 @@
 //! The catchers of a `try`.
 
 ghost use Rattle.std.specs.Prelude.{◌≡◌, ◌+◌, ◌<◌, List, [], ◌∷◌, ◌++◌, map, OnOk};
-ghost use Rattle.asl_rules.specs.Branches as rules;
-ghost use Rattle.asl_rules.specs.Scopes as scopes;
-ghost use Rattle.asl_rules.specs.Scopes.{Entry};
-ghost use Rattle.asl_rules.specs.Effects.{greater};
+ghost use Rattle.asl_rules.specs.statements.Branches as rules;
+ghost use Rattle.asl_rules.specs.declarations.Scopes as scopes;
+ghost use Rattle.asl_rules.specs.declarations.Scopes.{Entry};
+ghost use Rattle.asl_rules.specs.types.Effects.{greater};
 ghost use Rattle.asl_rules.specs.Tests.{Tests};
-ghost use Rattle.asl_rules.specs.Trees as trees;
+ghost use Rattle.asl_rules.specs.runs.Trees as trees;
 ghost use Rattle.asl_tree.specs.Acts.{all_acts};
-ghost use Rattle.asl_types.specs.Answers.{Met, Agrees};
+ghost use Rattle.asl_types.specs.private.Answers.{Met, Agrees};
 ghost use Rattle.asl_types.specs.Suits.{Suits};
-ghost use Rattle.asl_stmt.specs.Blocks.{Blocks};
-ghost use Rattle.asl_stmt.specs.Sizes.{stmt_size, stmts_size, catcher_size, catchers_size, otherwise_size};
-ghost use Rattle.asl_stmt.specs.Views.{body_of, done_of, last_listed_of, listed_of};
-ghost use Rattle.asl_stmt.specs.PartViews.{catchers_of};
-ghost use Rattle.asl_stmt.specs.Walks as walks;
-ghost use Rattle.asl_stmt.specs.Walks.{nothing_gathered, gathered, after, catcher_step, shut, walk_catcher, walk_otherwise, walk_stmt};
+ghost use Rattle.asl_stmt.specs.private.Blocks.{Blocks};
+ghost use Rattle.asl_stmt.specs.private.Sizes.{stmt_size, stmts_size, catcher_size, catchers_size, otherwise_size};
+ghost use Rattle.asl_stmt.specs.private.Views.{body_of, done_of, last_listed_of, listed_of};
+ghost use Rattle.asl_stmt.specs.private.PartViews.{catchers_of};
+ghost use Rattle.asl_stmt.specs.private.Walks as walks;
+ghost use Rattle.asl_stmt.specs.private.Walks.{nothing_gathered, gathered, after, catcher_step, shut, walk_catcher, walk_otherwise, walk_stmt};
 
 use crate::body::{Body, Done, LastListed, Listed, while_handling};
 use crate::otherwise::check_otherwise;

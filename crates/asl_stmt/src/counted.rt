@@ -1,13 +1,13 @@
 //! What the integers of a body that can't be assigned count as in widths.
 
 ghost use Rattle.std.specs.Prelude.{◌≡◌, IfOk};
-ghost use Rattle.asl_rules.specs.Exprs as exprs;
-ghost use Rattle.asl_rules.specs.Locals as rules;
-ghost use Rattle.asl_rules.specs.Scopes as scopes;
+ghost use Rattle.asl_rules.specs.expressions.Exprs as exprs;
+ghost use Rattle.asl_rules.specs.statements.Locals as rules;
+ghost use Rattle.asl_rules.specs.declarations.Scopes as scopes;
 ghost use Rattle.asl_rules.specs.Tests.{Tests};
-ghost use Rattle.asl_types.specs.ContextView.{scope_of};
+ghost use Rattle.asl_types.specs.private.ContextView.{scope_of};
 ghost use Rattle.asl_types.specs.Suits.{Suits};
-ghost use Rattle.asl_stmt.specs.Views.{body_of};
+ghost use Rattle.asl_stmt.specs.private.Views.{body_of};
 
 use crate::body::{Body, context};
 use asl_shared::Shared;

@@ -1,14 +1,14 @@
 //! Lists of statements.
 
 ghost use Rattle.std.specs.Prelude.{◌≡◌, map, [], OnOk};
-ghost use Rattle.asl_rules.specs.Acting.{in_order};
+ghost use Rattle.asl_rules.specs.statements.Acting.{in_order};
 ghost use Rattle.asl_rules.specs.declared.effect.Effect.TheVariants.{Pure};
-ghost use Rattle.asl_rules.specs.Stmts as rules;
+ghost use Rattle.asl_rules.specs.statements.Stmts as rules;
 ghost use Rattle.asl_rules.specs.Tests.{Tests};
-ghost use Rattle.asl_types.specs.Answers.{Met};
+ghost use Rattle.asl_types.specs.private.Answers.{Met};
 ghost use Rattle.asl_types.specs.Suits.{Suits};
-ghost use Rattle.asl_stmt.specs.Views.{body_of, done_of, listing_of, listed_of};
-ghost use Rattle.asl_stmt.specs.Walks.{after, listing, stmt_step, shut, walk_stmt};
+ghost use Rattle.asl_stmt.specs.private.Views.{body_of, done_of, listing_of, listed_of};
+ghost use Rattle.asl_stmt.specs.private.Walks.{after, listing, stmt_step, shut, walk_stmt};
 
 use crate::body::{Body, Done, Listed};
 use crate::stmts::check_node;

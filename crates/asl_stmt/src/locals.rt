@@ -1,17 +1,17 @@
 //! Local declarations.
 
 ghost use Rattle.std.specs.Prelude.{◌≡◌, length, IfOk, Ok};
-ghost use Rattle.asl_rules.specs.Locals as rules;
+ghost use Rattle.asl_rules.specs.statements.Locals as rules;
 ghost use Rattle.asl_rules.specs.Tests.{Tests};
-ghost use Rattle.asl_types.specs.Answers.{Met};
+ghost use Rattle.asl_types.specs.private.Answers.{Met};
 ghost use Rattle.asl_types.specs.Suits.{Suits};
-ghost use Rattle.asl_rules.specs.Trees as trees;
+ghost use Rattle.asl_rules.specs.runs.Trees as trees;
 ghost use Rattle.asl_tree.specs.View.{typed_of, tree_of};
 ghost use Rattle.asl_tree.specs.Acts.{simple_of, taken_of};
 ghost use Rattle.asl_written.specs.WrittenViews.{written_of};
-ghost use Rattle.asl_stmt.specs.LocalViews.{initialised_of};
-ghost use Rattle.asl_stmt.specs.Views.{body_of, done_of};
-ghost use Rattle.asl_stmt.specs.Walks as walks;
+ghost use Rattle.asl_stmt.specs.private.LocalViews.{initialised_of};
+ghost use Rattle.asl_stmt.specs.private.Views.{body_of, done_of};
+ghost use Rattle.asl_stmt.specs.private.Walks as walks;
 
 use crate::binds::{declare_local, declare_parts, taken_parts, unannotated};
 use crate::body::{Body, Done, context};

@@ -1,19 +1,19 @@
 //! Loops.
 
 ghost use Rattle.std.specs.Prelude.{◌≡◌, ◌<◌, List, map, Ok, IfOk, OnOk};
-ghost use Rattle.asl_rules.specs.Branches as rules;
-ghost use Rattle.asl_rules.specs.Scopes.{Entry};
+ghost use Rattle.asl_rules.specs.statements.Branches as rules;
+ghost use Rattle.asl_rules.specs.declarations.Scopes.{Entry};
 ghost use Rattle.asl_rules.specs.Tests.{Tests};
-ghost use Rattle.asl_types.specs.Answers.{Met};
+ghost use Rattle.asl_types.specs.private.Answers.{Met};
 ghost use Rattle.asl_types.specs.Suits.{Suits};
-ghost use Rattle.asl_types.specs.ContextView.{scope_of};
+ghost use Rattle.asl_types.specs.private.ContextView.{scope_of};
 ghost use Rattle.asl_tree.specs.View.{operand_of, tree_of, typed_of};
 ghost use Rattle.asl_tree.specs.Acts.{maybe_tree};
-ghost use Rattle.asl_stmt.specs.Blocks.{Blocks};
-ghost use Rattle.asl_stmt.specs.Sizes.{stmt_size, stmts_size};
-ghost use Rattle.asl_stmt.specs.LoopViews.{bounds_of};
-ghost use Rattle.asl_stmt.specs.Walks.{bounds_typed, index_declared, counted_shut, for_walk, while_walk, repeat_walk, walk_stmt};
-ghost use Rattle.asl_stmt.specs.Views.{body_of, done_of, listed_of, maybe_operand};
+ghost use Rattle.asl_stmt.specs.private.Blocks.{Blocks};
+ghost use Rattle.asl_stmt.specs.private.Sizes.{stmt_size, stmts_size};
+ghost use Rattle.asl_stmt.specs.private.LoopViews.{bounds_of};
+ghost use Rattle.asl_stmt.specs.private.Walks.{bounds_typed, index_declared, counted_shut, for_walk, while_walk, repeat_walk, walk_stmt};
+ghost use Rattle.asl_stmt.specs.private.Views.{body_of, done_of, listed_of, maybe_operand};
 
 use crate::body::{Body, Done, Listed, context};
 use crate::steps::{check_condition, check_integer, check_limit, ended, unboxed};

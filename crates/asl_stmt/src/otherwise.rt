@@ -2,12 +2,12 @@
 
 ghost use Rattle.std.specs.Prelude.{◌≡◌, ◌<◌, OnOk};
 ghost use Rattle.asl_rules.specs.Tests.{Tests};
-ghost use Rattle.asl_types.specs.Answers.{Met};
+ghost use Rattle.asl_types.specs.private.Answers.{Met};
 ghost use Rattle.asl_types.specs.Suits.{Suits};
-ghost use Rattle.asl_stmt.specs.Blocks.{Blocks};
-ghost use Rattle.asl_stmt.specs.Sizes.{stmt_size, otherwise_size};
-ghost use Rattle.asl_stmt.specs.Views.{body_of, last_listed_of};
-ghost use Rattle.asl_stmt.specs.Walks.{last_shut, walk_otherwise};
+ghost use Rattle.asl_stmt.specs.private.Blocks.{Blocks};
+ghost use Rattle.asl_stmt.specs.private.Sizes.{stmt_size, otherwise_size};
+ghost use Rattle.asl_stmt.specs.private.Views.{body_of, last_listed_of};
+ghost use Rattle.asl_stmt.specs.private.Walks.{last_shut, walk_otherwise};
 
 use crate::body::{Body, LastListed, Listed};
 use crate::within::{Within, check_inside};

@@ -1,14 +1,14 @@
 //! `print` and `println`.
 
 ghost use Rattle.std.specs.Prelude.{◌≡◌, [], map};
-ghost use Rattle.asl_rules.specs.Stmts.{printed};
+ghost use Rattle.asl_rules.specs.statements.Stmts.{printed};
 ghost use Rattle.asl_rules.specs.Tests.{Tests};
-ghost use Rattle.asl_types.specs.Answers.{Met};
+ghost use Rattle.asl_types.specs.private.Answers.{Met};
 ghost use Rattle.asl_types.specs.Suits.{Suits};
-ghost use Rattle.asl_stmt.specs.PrintViews.{printed_of};
-ghost use Rattle.asl_stmt.specs.Views.{body_of, done_of};
-ghost use Rattle.asl_stmt.specs.Walks as walks;
-ghost use Rattle.asl_stmt.specs.Walks.{after};
+ghost use Rattle.asl_stmt.specs.private.PrintViews.{printed_of};
+ghost use Rattle.asl_stmt.specs.private.Views.{body_of, done_of};
+ghost use Rattle.asl_stmt.specs.private.Walks as walks;
+ghost use Rattle.asl_stmt.specs.private.Walks.{after};
 
 use crate::body::{Body, Done, context};
 use crate::steps::end_simple;

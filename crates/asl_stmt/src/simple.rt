@@ -1,15 +1,15 @@
 //! Statements that declare nothing and have no lists.
 
 ghost use Rattle.std.specs.Prelude.{◌≡◌, List, Some};
-ghost use Rattle.asl_rules.specs.Acting as acting;
-ghost use Rattle.asl_rules.specs.Branches as branches;
-ghost use Rattle.asl_rules.specs.Stmts as rules;
-ghost use Rattle.asl_rules.specs.Scopes.{Entry};
+ghost use Rattle.asl_rules.specs.statements.Acting as acting;
+ghost use Rattle.asl_rules.specs.statements.Branches as branches;
+ghost use Rattle.asl_rules.specs.statements.Stmts as rules;
+ghost use Rattle.asl_rules.specs.declarations.Scopes.{Entry};
 ghost use Rattle.asl_rules.specs.Tests.{Tests};
-ghost use Rattle.asl_types.specs.Answers.{Met};
+ghost use Rattle.asl_types.specs.private.Answers.{Met};
 ghost use Rattle.asl_types.specs.Suits.{Suits};
 ghost use Rattle.asl_tree.specs.Acts.{simple_of};
-ghost use Rattle.asl_stmt.specs.Views.{body_of, done_of};
+ghost use Rattle.asl_stmt.specs.private.Views.{body_of, done_of};
 
 use crate::body::{Body, Done, context};
 use crate::steps::{check_condition, check_fits, end_simple};

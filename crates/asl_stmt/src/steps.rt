@@ -1,19 +1,19 @@
 //! What statements have in common.
 
 ghost use Rattle.std.specs.Prelude.{◌≡◌, List, Some};
-ghost use Rattle.asl_rules.specs.Acting as rules;
-ghost use Rattle.asl_rules.specs.Branches as branches;
+ghost use Rattle.asl_rules.specs.statements.Acting as rules;
+ghost use Rattle.asl_rules.specs.statements.Branches as branches;
 ghost use Rattle.asl_rules.specs.Faults.{none_at};
 ghost use Rattle.asl_rules.specs.Tests.{Tests};
-ghost use Rattle.asl_rules.specs.Trees as trees;
-ghost use Rattle.asl_rules.specs.Trees.{Act};
-ghost use Rattle.asl_rules.specs.Scopes.{Entry};
-ghost use Rattle.asl_types.specs.Answers.{Met, Agrees};
+ghost use Rattle.asl_rules.specs.runs.Trees as trees;
+ghost use Rattle.asl_rules.specs.runs.Trees.{Act};
+ghost use Rattle.asl_rules.specs.declarations.Scopes.{Entry};
+ghost use Rattle.asl_types.specs.private.Answers.{Met, Agrees};
 ghost use Rattle.asl_types.specs.Suits.{Suits};
 ghost use Rattle.asl_tree.specs.View.{operand_of, tree_of};
 ghost use Rattle.asl_tree.specs.Acts.{maybe_tree, act_of, simple_of};
-ghost use Rattle.asl_stmt.specs.Views.{maybe_operand, done_of};
-ghost use Rattle.asl_stmt.specs.Walks as walks;
+ghost use Rattle.asl_stmt.specs.private.Views.{maybe_operand, done_of};
+ghost use Rattle.asl_stmt.specs.private.Walks as walks;
 
 use crate::body::Done;
 use asl_rules::effect::Effect;

@@ -2,12 +2,12 @@
 
 ghost use Rattle.std.specs.Prelude.{◌≡◌};
 ghost use Rattle.asl_rules.specs.Tests.{Tests};
-ghost use Rattle.asl_types.specs.Answers.{Met};
+ghost use Rattle.asl_types.specs.private.Answers.{Met};
 ghost use Rattle.asl_types.specs.Suits.{Suits};
-ghost use Rattle.asl_stmt.specs.Blocks.{Blocks};
-ghost use Rattle.asl_stmt.specs.Sizes.{stmt_size};
-ghost use Rattle.asl_stmt.specs.Views.{body_of, done_of};
-ghost use Rattle.asl_stmt.specs.Walks.{walk_stmt};
+ghost use Rattle.asl_stmt.specs.private.Blocks.{Blocks};
+ghost use Rattle.asl_stmt.specs.private.Sizes.{stmt_size};
+ghost use Rattle.asl_stmt.specs.private.Views.{body_of, done_of};
+ghost use Rattle.asl_stmt.specs.private.Walks.{walk_stmt};
 
 use crate::body::{Body, Done, Listed};
 use crate::branches::{Branching, check_if};

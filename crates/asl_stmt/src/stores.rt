@@ -1,18 +1,18 @@
 //! Assignments.
 
 ghost use Rattle.std.specs.Prelude.{◌≡◌, map, IfOk, List, Some};
-ghost use Rattle.asl_rules.specs.Layouts.{slot_of, layout_of};
-ghost use Rattle.asl_rules.specs.Scopes.{Entry};
-ghost use Rattle.asl_rules.specs.Targets as rules;
+ghost use Rattle.asl_rules.specs.declarations.Layouts.{slot_of, layout_of};
+ghost use Rattle.asl_rules.specs.declarations.Scopes.{Entry};
+ghost use Rattle.asl_rules.specs.statements.Targets as rules;
 ghost use Rattle.asl_rules.specs.Tests.{Tests};
-ghost use Rattle.asl_types.specs.Answers.{Met, Agrees};
-ghost use Rattle.asl_types.specs.Standings.{storage_view};
+ghost use Rattle.asl_types.specs.private.Answers.{Met, Agrees};
+ghost use Rattle.asl_types.specs.private.Standings.{storage_view};
 ghost use Rattle.asl_types.specs.Suits.{Suits};
 ghost use Rattle.asl_tree.specs.Acts.{all_places};
 ghost use Rattle.asl_tree.specs.View.{operand_of, typed_of};
-ghost use Rattle.asl_stmt.specs.TargetViews.{place_of, stores_of};
-ghost use Rattle.asl_stmt.specs.Views.{body_of, done_of};
-ghost use Rattle.asl_stmt.specs.Walks as walks;
+ghost use Rattle.asl_stmt.specs.private.TargetViews.{place_of, stores_of};
+ghost use Rattle.asl_stmt.specs.private.Views.{body_of, done_of};
+ghost use Rattle.asl_stmt.specs.private.Walks as walks;
 
 use crate::body::{Body, Done};
 use crate::steps::end_simple;

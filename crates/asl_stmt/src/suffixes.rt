@@ -1,21 +1,21 @@
 //! The suffixes of targets: their expressions, and what lies behind them.
 
 ghost use Rattle.std.specs.Prelude.{◌≡◌, ◌&&◌, [], ◌++◌, map, OnOk};
-ghost use Rattle.asl_rules.specs.Scopes as scopes;
-ghost use Rattle.asl_rules.specs.Targets as rules;
-ghost use Rattle.asl_rules.specs.Targets.{typed_suffix};
-ghost use Rattle.asl_rules.specs.Slicing.{all_integers};
-ghost use Rattle.asl_rules.specs.Types.{is_bits};
+ghost use Rattle.asl_rules.specs.declarations.Scopes as scopes;
+ghost use Rattle.asl_rules.specs.statements.Targets as rules;
+ghost use Rattle.asl_rules.specs.statements.Targets.{typed_suffix};
+ghost use Rattle.asl_rules.specs.expressions.Slicing.{all_integers};
+ghost use Rattle.asl_rules.specs.types.Types.{is_bits};
 ghost use Rattle.asl_rules.specs.Tests.{Tests};
-ghost use Rattle.asl_rules.specs.Typing.{effects_of};
-ghost use Rattle.asl_types.specs.Answers.{Met};
+ghost use Rattle.asl_rules.specs.expressions.Typing.{effects_of};
+ghost use Rattle.asl_types.specs.private.Answers.{Met};
 ghost use Rattle.asl_types.specs.Suits.{Suits};
 ghost use Rattle.asl_tree.specs.View.{typed_of, all_operands};
-ghost use Rattle.asl_stmt.specs.TargetViews.{suffix_of, behind_of, reached_of};
-ghost use Rattle.asl_stmt.specs.SuffixWalks.{bits_behind};
-ghost use Rattle.asl_stmt.specs.Views.{body_of};
-ghost use Rattle.asl_stmt.specs.Walks as walks;
-ghost use Rattle.asl_stmt.specs.Walks.{after};
+ghost use Rattle.asl_stmt.specs.private.TargetViews.{suffix_of, behind_of, reached_of};
+ghost use Rattle.asl_stmt.specs.private.SuffixWalks.{bits_behind};
+ghost use Rattle.asl_stmt.specs.private.Views.{body_of};
+ghost use Rattle.asl_stmt.specs.private.Walks as walks;
+ghost use Rattle.asl_stmt.specs.private.Walks.{after};
 
 use crate::body::{Body, context};
 use asl_expr::exprs::type_expr;

@@ -1,17 +1,17 @@
 //! Targets of assignments: the places in them, and their parts.
 
 ghost use Rattle.std.specs.Prelude.{◌≡◌, [], ◌∷◌, ◌++◌, map, IfOk, OnOk, option_map, Some};
-ghost use Rattle.asl_rules.specs.Targets as rules;
-ghost use Rattle.asl_rules.specs.Targets.{found_target};
+ghost use Rattle.asl_rules.specs.statements.Targets as rules;
+ghost use Rattle.asl_rules.specs.statements.Targets.{found_target};
 ghost use Rattle.asl_rules.specs.Tests.{Tests};
-ghost use Rattle.asl_rules.specs.Types as types;
-ghost use Rattle.asl_types.specs.Answers.{Met};
+ghost use Rattle.asl_rules.specs.types.Types as types;
+ghost use Rattle.asl_types.specs.private.Answers.{Met};
 ghost use Rattle.asl_types.specs.Suits.{Suits};
 ghost use Rattle.asl_types.specs.View.{parts_of};
-ghost use Rattle.asl_stmt.specs.TargetViews.{place_of, suffix_of};
-ghost use Rattle.asl_stmt.specs.Views.{body_of};
-ghost use Rattle.asl_stmt.specs.Walks as walks;
-ghost use Rattle.asl_stmt.specs.Walks.{with_places};
+ghost use Rattle.asl_stmt.specs.private.TargetViews.{place_of, suffix_of};
+ghost use Rattle.asl_stmt.specs.private.Views.{body_of};
+ghost use Rattle.asl_stmt.specs.private.Walks as walks;
+ghost use Rattle.asl_stmt.specs.private.Walks.{with_places};
 
 use crate::body::Body;
 use crate::suffixes::{TypedSuffix, push_effects, type_suffixes};

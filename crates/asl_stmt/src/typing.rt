@@ -1,15 +1,15 @@
 //! Expressions in statements.
 
 ghost use Rattle.std.specs.Prelude.{◌≡◌};
-ghost use Rattle.asl_rules.specs.Acting as rules;
-ghost use Rattle.asl_rules.specs.Acting.{reading_scope};
-ghost use Rattle.asl_rules.specs.Branches as branches;
+ghost use Rattle.asl_rules.specs.statements.Acting as rules;
+ghost use Rattle.asl_rules.specs.statements.Acting.{reading_scope};
+ghost use Rattle.asl_rules.specs.statements.Branches as branches;
 ghost use Rattle.asl_rules.specs.Tests.{Tests};
-ghost use Rattle.asl_types.specs.Answers.{Met};
+ghost use Rattle.asl_types.specs.private.Answers.{Met};
 ghost use Rattle.asl_types.specs.Suits.{Suits};
-ghost use Rattle.asl_types.specs.ContextView.{scope_of};
+ghost use Rattle.asl_types.specs.private.ContextView.{scope_of};
 ghost use Rattle.asl_tree.specs.View.{operand_of};
-ghost use Rattle.asl_stmt.specs.Views.{body_of, maybe_operand};
+ghost use Rattle.asl_stmt.specs.private.Views.{body_of, maybe_operand};
 
 use crate::body::{Body, context};
 use asl_expr::exprs::type_operand;

@@ -4,12 +4,12 @@
 
 ghost use Rattle.std.specs.Prelude.{◌≡◌, ◌<◌, map, OnOk};
 ghost use Rattle.asl_rules.specs.Tests.{Tests};
-ghost use Rattle.asl_types.specs.Answers.{Met};
+ghost use Rattle.asl_types.specs.private.Answers.{Met};
 ghost use Rattle.asl_types.specs.Suits.{Suits};
-ghost use Rattle.asl_stmt.specs.Blocks.{Blocks};
-ghost use Rattle.asl_stmt.specs.Sizes.{stmt_size, stmts_size};
-ghost use Rattle.asl_stmt.specs.Views.{body_of, listed_of};
-ghost use Rattle.asl_stmt.specs.Walks.{shut, walk_stmt};
+ghost use Rattle.asl_stmt.specs.private.Blocks.{Blocks};
+ghost use Rattle.asl_stmt.specs.private.Sizes.{stmt_size, stmts_size};
+ghost use Rattle.asl_stmt.specs.private.Views.{body_of, listed_of};
+ghost use Rattle.asl_stmt.specs.private.Walks.{shut, walk_stmt};
 
 use crate::body::{Body, Listed};
 use asl_syn::code::Refused;

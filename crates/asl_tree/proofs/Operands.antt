@@ -3,15 +3,15 @@ use Rattle.std.proofs.Common.{◌≡◌, ℕ, ◌+◌, ◌<◌, ◌≤◌, lengt
 use Rattle.std.proofs.lemmas.List.{drop_all}
 use Rattle.asl_syn.specs.declared.code.Fault.{Fault}
 use Rattle.asl_rules.specs.declared.effect.Effect.{Effect}
-use Rattle.asl_rules.specs.Effects.{greater, together, all_together, greatest}
-use Rattle.asl_rules.specs.Trees as rules
-use Rattle.asl_rules.specs.Types.{Ty, Parts, part, no_part}
-use Rattle.asl_rules.specs.Typing.{effects_of, types_of, trees_of}
+use Rattle.asl_rules.specs.types.Effects.{greater, together, all_together, greatest}
+use Rattle.asl_rules.specs.runs.Trees as rules
+use Rattle.asl_rules.specs.types.Types.{Ty, Parts, part, no_part}
+use Rattle.asl_rules.specs.expressions.Typing.{effects_of, types_of, trees_of}
 use Rattle.asl_types.specs.View.{parts_of}
 use Rattle.asl_types.proofs.Rest.{at_next}
 use Rattle.asl_tree.specs.declared.tree.Tree.{Tree}
 use Rattle.asl_tree.specs.View.{typed_of, tree_of, all_trees, all_operands}
-use Rattle.asl_tree.specs.Ends.{parts_before}
+use Rattle.asl_tree.specs.private.Ends.{parts_before}
 
 -- ---- trees
 

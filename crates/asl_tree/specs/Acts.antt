@@ -1,7 +1,7 @@
 -- The typed trees of statements and of subprograms of the rules that those of the code stand for.
 use Rattle.std.specs.Prelude.{List, [], ◌∷◌, map, Option, Some, None}
 use Rattle.std.specs.Option.{option_map}
-use Rattle.asl_rules.specs.Trees as rules
+use Rattle.asl_rules.specs.runs.Trees as rules
 use Rattle.asl_value.specs.View.{all_slices}
 use Rattle.asl_shape.specs.View.{type_of, all_patterns}
 use Rattle.asl_tree.specs.View.{callee_of, tree_of, all_trees}

@@ -1,4 +1,4 @@
 pub mod View
 pub mod Acts
 pub mod Sealed
-pub mod Ends
+pub mod private

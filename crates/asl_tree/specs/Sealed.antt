@@ -5,14 +5,14 @@ use Rattle.asl_syn.specs.declared.tree.Decl.{Decl}
 use Rattle.asl_syn.specs.contracts.tree.Decl.{the_row}
 use Rattle.asl_rules.specs.declared.entry.Entry.{Entry}
 use Rattle.asl_rules.specs.contracts.entry.Entry as entry
-use Rattle.asl_rules.specs.Grown.{AreGrown}
+use Rattle.asl_rules.specs.private.Grown.{AreGrown}
 use Rattle.asl_rules.specs.Tests.{Tests}
-use Rattle.asl_rules.specs.Scopes.{Signature}
-use Rattle.asl_rules.specs.Scopes as scopes
-use Rattle.asl_rules.specs.Programs.{verdict, accepted, environment}
-use Rattle.asl_rules.specs.Values as values
-use Rattle.asl_rules.specs.States.{Binding}
-use Rattle.asl_rules.specs.Evaluation.{initial_globals}
+use Rattle.asl_rules.specs.declarations.Scopes.{Signature}
+use Rattle.asl_rules.specs.declarations.Scopes as scopes
+use Rattle.asl_rules.specs.declarations.Programs.{verdict, accepted, environment}
+use Rattle.asl_rules.specs.values.Values as values
+use Rattle.asl_rules.specs.runs.States.{Binding}
+use Rattle.asl_rules.specs.runs.Evaluation.{initial_globals}
 use Rattle.asl_value.specs.View.{value_of}
 use Rattle.asl_types.specs.Suits.{Suits}
 use Rattle.asl_tree.specs.Acts.{all_funcs}

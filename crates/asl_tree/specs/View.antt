@@ -1,9 +1,9 @@
 -- The typed trees of expressions of the rules that those of the code stand for.
 use Rattle.std.specs.Prelude.{List, [], ◌∷◌, map}
-use Rattle.asl_rules.specs.Trees as rules
-use Rattle.asl_rules.specs.Typing as typing
+use Rattle.asl_rules.specs.runs.Trees as rules
+use Rattle.asl_rules.specs.expressions.Typing as typing
 use Rattle.asl_value.specs.View.{value_of, all_slices}
-use Rattle.asl_value.specs.Forms.{shell_of}
+use Rattle.asl_value.specs.private.Forms.{shell_of}
 use Rattle.asl_shape.specs.View.{routine_of, all_given, type_of, pattern_of}
 use Rattle.asl_tree.specs.declared.tree.Note.{Note}
 use Rattle.asl_tree.specs.declared.tree.Callee.{Callee}

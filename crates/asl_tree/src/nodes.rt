@@ -1,10 +1,10 @@
 //! Nodes of typed trees, made of the trees of their parts.
 
 ghost use Rattle.std.specs.Prelude.{◌≡◌, IfOk};
-ghost use Rattle.asl_rules.specs.Trees as rules;
-ghost use Rattle.asl_rules.specs.Typing.{trees_of};
+ghost use Rattle.asl_rules.specs.runs.Trees as rules;
+ghost use Rattle.asl_rules.specs.expressions.Typing.{trees_of};
 ghost use Rattle.asl_value.specs.View.{value_of, all_slices};
-ghost use Rattle.asl_value.specs.Forms.{shell_of};
+ghost use Rattle.asl_value.specs.private.Forms.{shell_of};
 ghost use Rattle.asl_shape.specs.View.{all_given, type_of, pattern_of};
 ghost use Rattle.asl_tree.specs.View.{note_view, callee_of, tree_of, all_trees, all_operands};
 

@@ -1,7 +1,7 @@
 //! Where expressions stand.
 
 ghost use Rattle.std.specs.Prelude.{◌≡◌};
-ghost use Rattle.asl_rules.specs.Exprs as rules;
+ghost use Rattle.asl_rules.specs.expressions.Exprs as rules;
 ghost use Rattle.asl_rules.specs.Tests.{Tests};
 
 use asl_syn::token::Span;

@@ -3,7 +3,7 @@
 //! subprogram that was chosen.
 
 ghost use Rattle.std.specs.Prelude.{◌≡◌};
-ghost use Rattle.asl_rules.specs.Trees as rules;
+ghost use Rattle.asl_rules.specs.runs.Trees as rules;
 ghost use Rattle.asl_tree.specs.View.{note_view, tree_of, typed_of};
 
 use asl_rules::effect::Effect;

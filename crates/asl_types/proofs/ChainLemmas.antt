@@ -8,9 +8,9 @@ use Rattle.std.proofs.lemmas.Bool.{cases_lt}
 use Rattle.std.proofs.lemmas.List.{take_more, take_all}
 use Rattle.std.proofs.lemmas.Option.{slice_get_within, slice_get-get_or}
 use Rattle.indexmap.specs.IndexMap.{insert_entry}
-use Rattle.asl_rules.specs.Types.{Parts, no_part, same_kinds}
-use Rattle.asl_rules.specs.Scopes.{Signature, Chosen, choose_from, choose}
-use Rattle.asl_types.specs.Chains.{last_from, last_of, or_found, taken, taken_by, IsLinked}
+use Rattle.asl_rules.specs.types.Types.{Parts, no_part, same_kinds}
+use Rattle.asl_rules.specs.declarations.Scopes.{Signature, Chosen, choose_from, choose}
+use Rattle.asl_types.specs.private.Chains.{last_from, last_of, or_found, taken, taken_by, IsLinked}
 
 -- ---- one more signature at the end
 

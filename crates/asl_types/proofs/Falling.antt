@@ -2,11 +2,11 @@
 use Rattle.std.proofs.Common.{◌≡◌, ℕ, suc, ◌*◌, ◌≤◌, List, [], ◌∷◌, sym, ap, ◌∙◌, arith}
 use Rattle.std.specs.Prelude.{max}
 use denote.Param.Weighed.{most}
-use Rattle.asl_rules.specs.Types.{Ty}
+use Rattle.asl_rules.specs.types.Types.{Ty}
 use Rattle.asl_types.specs.declared.ty.Form.{Form}
 use Rattle.asl_types.specs.declared.ty.Form.TheVariants as t
 use Rattle.asl_types.specs.declared.ty.Ty.TheDeep.{size-Ty}
-use Rattle.asl_types.specs.Heights.{height, heights_of_parts}
+use Rattle.asl_types.specs.private.Heights.{height, heights_of_parts}
 use Rattle.asl_types.specs.View.{form_view, parts_of}
 
 -- a type is measured by three times its height and one more

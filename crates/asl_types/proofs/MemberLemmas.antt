@@ -1,8 +1,8 @@
 -- Bitfields by their names, from one place on.
 use Rattle.std.proofs.Common.{◌≡◌, ℕ, ◌+◌, ◌<◌, ◌≤◌, true, false, cond, Some, None, List, length, get_or, drop, sym, ap, ◌∙◌}
 use Rattle.std.specs.Str.{bytes_eq}
-use Rattle.asl_rules.specs.Types.{View, BitField}
-use Rattle.asl_rules.specs.Members.{bitfield_in}
+use Rattle.asl_rules.specs.types.Types.{View, BitField}
+use Rattle.asl_rules.specs.values.Members.{bitfield_in}
 use Rattle.asl_types.proofs.Rest.{at_next, none_after}
 
 at_bitfield : (name : List ℕ) (fs : View) (i : ℕ) (x : BitField) → i < length fs → x ≡ get_or fs i x → bitfield_in name (drop i fs) ≡ cond (bytes_eq x.name name) (Some x) (bitfield_in name (drop (i + 1) fs))

@@ -8,15 +8,15 @@ use Rattle.std.specs.Cmp.Lexicographic.{bytes_decides, nat_list_eq_equiv}
 use Rattle.std.proofs.lemmas.Map.Keys.{IsDistinct-head, IsDistinct-tail}
 use Rattle.indexmap.specs.IndexMap.{IndexMap, insert_entry}
 use Rattle.asl_rules.specs.declared.slot.Slot.TheVariants as slot
-use Rattle.asl_rules.specs.Scopes as scopes
-use Rattle.asl_rules.specs.Scopes.{Entry, is_free, is_local, next_atom}
+use Rattle.asl_rules.specs.declarations.Scopes as scopes
+use Rattle.asl_rules.specs.declarations.Scopes.{Entry, is_free, is_local, next_atom}
 use Rattle.asl_types.specs.declared.scope.Form.{Form}
 use Rattle.asl_types.specs.declared.scope.Form.TheVariants.{Local, Global, Subprogram, TypeName, Label}
 use Rattle.asl_types.specs.declared.scope.Standing.{Standing}
 use Rattle.asl_types.specs.declared.scope.Standing.TheVariants as standing
 use Rattle.asl_types.specs.declared.scope.Declared.{Declared}
-use Rattle.asl_types.specs.Standings.{form_view, standing_view, slot_by, HasSlot, entries_of, more_locals, more_globals, Numbered, same_name, IsKept}
-use Rattle.asl_rules.specs.Layouts.{place_of, number_before, slot_among, slot_of, local_name, global_name, local_names, global_names, layout_of}
+use Rattle.asl_types.specs.private.Standings.{form_view, standing_view, slot_by, HasSlot, entries_of, more_locals, more_globals, Numbered, same_name, IsKept}
+use Rattle.asl_rules.specs.declarations.Layouts.{place_of, number_before, slot_among, slot_of, local_name, global_name, local_names, global_names, layout_of}
 use Rattle.asl_types.proofs.ScopeLemmas.{map-new}
 
 abbrev Held : Type 0

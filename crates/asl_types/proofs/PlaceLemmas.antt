@@ -6,14 +6,14 @@ use Rattle.std.specs.Map.{lookup}
 use Rattle.std.specs.Cmp.Lexicographic.{nat_list_eq_equiv}
 use Rattle.indexmap.specs.IndexMap.{insert_entry}
 use Rattle.asl_rules.proofs.basics.Tests.{same_name}
-use Rattle.asl_rules.specs.Types.{Ty}
-use Rattle.asl_rules.specs.Members.{numbered, one_further}
+use Rattle.asl_rules.specs.types.Types.{Ty}
+use Rattle.asl_rules.specs.values.Members.{numbered, one_further}
 use Rattle.asl_types.specs.declared.ty.FieldType.{FieldType}
 use Rattle.asl_types.specs.declared.ty.FieldType.TheVariants as f
 use Rattle.asl_types.specs.declared.ty.Form.{Form}
 use Rattle.asl_types.specs.declared.ty.Form.TheVariants as t
-use Rattle.asl_types.specs.NamePlaces.{Places, named, place_of, put}
-use Rattle.asl_types.specs.FieldPlaces.{with_field, places_from, type_of, field_at, fields_of_form, own_fields}
+use Rattle.asl_types.specs.private.NamePlaces.{Places, named, place_of, put}
+use Rattle.asl_types.specs.private.FieldPlaces.{with_field, places_from, type_of, field_at, fields_of_form, own_fields}
 use Rattle.asl_types.specs.View.{form_view, fields_of}
 use Rattle.asl_types.proofs.ChainLemmas.{two_alike, two_apart}
 use Rattle.asl_types.proofs.Rest.{at_next, none_after}

@@ -1,16 +1,16 @@
 -- Values with what written types add to them.
 use Rattle.std.proofs.Common.{◌≡◌, ℕ, zero, suc, ◌+◌, ◌<◌, ◌≤◌, Bool, true, false, List, [], ◌∷◌, ◌++◌, length, get_or, drop, refl, sym, ap, ◌∙◌, arith}
 use Rattle.std.specs.Prelude.{◌||◌, Result, Ok, Err, IfOk}
-use Rattle.asl_rules.specs.Types as ty
-use Rattle.asl_rules.specs.Types.{Ty, Parts}
-use Rattle.asl_rules.specs.Values as rules
-use Rattle.asl_rules.specs.Values.{Values, no_value, value}
-use Rattle.asl_rules.specs.ByPlace.{seen_as, parts_seen_as, all_seen_as}
+use Rattle.asl_rules.specs.types.Types as ty
+use Rattle.asl_rules.specs.types.Types.{Ty, Parts}
+use Rattle.asl_rules.specs.values.Values as rules
+use Rattle.asl_rules.specs.values.Values.{Values, no_value, value}
+use Rattle.asl_rules.specs.private.ByPlace.{seen_as, parts_seen_as, all_seen_as}
 use Rattle.asl_value.specs.declared.value.Value.{Value}
 use Rattle.asl_value.specs.View.{value_of, all_values}
 use Rattle.asl_value.proofs.Lists.{in_front, one_made, all_made}
-use Rattle.asl_rules.specs.HoldsBits.{holds_bits, parts_hold_bits}
-use Rattle.asl_types.specs.Seeing.{part_seen}
+use Rattle.asl_rules.specs.private.HoldsBits.{holds_bits, parts_hold_bits}
+use Rattle.asl_types.specs.private.Seeing.{part_seen}
 use Rattle.asl_types.specs.View.{parts_of}
 use Rattle.asl_types.proofs.Rest.{at_next, none_after}
 

@@ -6,7 +6,7 @@ use Rattle.asl_poly.specs.Terms.{Polynomial}
 use Rattle.asl_poly.specs.Poly.{SubstituteFits, substitute_map}
 use Rattle.asl_cons.specs.declared.Part.{Part}
 use Rattle.asl_cons.specs.Arithmetic as cons
-use Rattle.asl_rules.specs.Types.{Ty, Parts, no_part, part, Widths, substitute_fits, substituted, substituted_end, substituted_ranges, substitute, substitute_parts, with_type}
+use Rattle.asl_rules.specs.types.Types.{Ty, Parts, no_part, part, Widths, substitute_fits, substituted, substituted_end, substituted_ranges, substitute, substitute_parts, with_type}
 use Rattle.asl_types.specs.View.{parts_of}
 use Rattle.asl_types.proofs.Rest.{at_next, none_after}
 

@@ -18,13 +18,13 @@ use Rattle.asl_poly.proofs.Atoms.{AllIn, FactorsIn, Distinct, pigeonhole, distin
 use Rattle.asl_poly.proofs.MachineIntegers.{light_fits}
 use Rattle.asl_poly.proofs.NormalForm.{weight_gather, weight_scaled}
 use Rattle.asl_rules.specs.Faults.{◌>>◌, need, fault_of}
-use Rattle.asl_rules.specs.Slicing.{no_width}
-use Rattle.asl_rules.specs.Widths as rules
-use Rattle.asl_rules.specs.Widths.{heaviest, most_atoms}
+use Rattle.asl_rules.specs.expressions.Slicing.{no_width}
+use Rattle.asl_rules.specs.types.Widths as rules
+use Rattle.asl_rules.specs.types.Widths.{heaviest, most_atoms}
 use Rattle.asl_types.specs.declared.totals.Within.{Within}
 use Rattle.asl_types.specs.declared.totals.Sign.{Sign}
 use Rattle.asl_types.specs.declared.totals.Sign.TheVariants.{Plus, Minus}
-use Rattle.asl_types.specs.Totals.{IsWithin, IsPast, adds, added}
+use Rattle.asl_types.specs.private.Totals.{IsWithin, IsPast, adds, added}
 use Rattle.asl_types.proofs.Rest.{at_next, none_after}
 
 -- ---- terms by their places

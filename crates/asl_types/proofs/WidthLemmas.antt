@@ -12,9 +12,9 @@ use Rattle.asl_poly.specs.declared.PolyRefused.{PolyRefused}
 use Rattle.asl_poly.specs.declared.PolyRefused.TheVariants.{TooLarge, NoMemory}
 use Rattle.asl_cons.specs.Arithmetic.{sum_fits, product_fits}
 use Rattle.asl_rules.specs.Faults.{◌>>◌, need}
-use Rattle.asl_rules.specs.Widths as rules
-use Rattle.asl_types.specs.Answers.{Agrees}
-use Rattle.asl_types.specs.Limited.{limited}
+use Rattle.asl_rules.specs.types.Widths as rules
+use Rattle.asl_types.specs.private.Answers.{Agrees}
+use Rattle.asl_types.specs.private.Limited.{limited}
 
 -- an operation's answer, against a rule that asks for its limits by a test
 agreed : {Fits : Type 0} (fit : Bool) (span : Span) (m : Polynomial) (answer : Result Polynomial PolyRefused) (result : Result Polynomial Refused) →

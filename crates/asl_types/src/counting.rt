@@ -2,8 +2,8 @@
 
 ghost use Rattle.std.specs.Prelude.{◌≡◌, IfOk};
 ghost use Rattle.asl_poly.specs.Poly.{atom_map};
-ghost use Rattle.asl_rules.specs.Locals as rules;
-ghost use Rattle.asl_rules.specs.Scopes as scopes;
+ghost use Rattle.asl_rules.specs.statements.Locals as rules;
+ghost use Rattle.asl_rules.specs.declarations.Scopes as scopes;
 
 use crate::kinds::is_integer;
 use crate::scope::{Counted, Scope};

@@ -3,7 +3,7 @@
 ghost use Rattle.std.specs.Prelude.{◌≡◌, ◌≤◌, ◌^◌, [], ◌∷◌, pos, IfOk};
 ghost use Rattle.asl_cons.specs.Arithmetic as cons;
 ghost use Rattle.asl_poly.specs.Poly.{constant_map};
-ghost use Rattle.asl_rules.specs.Types as rules;
+ghost use Rattle.asl_rules.specs.types.Types as rules;
 
 use crate::structure::constraint_in;
 use crate::ty::Ty;

@@ -1,8 +1,8 @@
 //! The parts of types by their names: fields of records and exceptions, and bitfields.
 
 ghost use Rattle.std.specs.Prelude.{◌≡◌, option_map};
-ghost use Rattle.asl_rules.specs.Members as rules;
-ghost use Rattle.asl_types.specs.MemberView.{member_view};
+ghost use Rattle.asl_rules.specs.values.Members as rules;
+ghost use Rattle.asl_types.specs.private.MemberView.{member_view};
 
 use crate::ty::{Form, Ty};
 use asl_value::{BitField, same_name};

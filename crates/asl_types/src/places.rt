@@ -1,8 +1,8 @@
 //! The places of fields by their names.
 
 ghost use Rattle.std.specs.Prelude.{◌≡◌, [], option_map, IfOk, OnOk};
-ghost use Rattle.asl_types.specs.FieldPlaces as rules;
-ghost use Rattle.asl_types.specs.NamePlaces as names;
+ghost use Rattle.asl_types.specs.private.FieldPlaces as rules;
+ghost use Rattle.asl_types.specs.private.NamePlaces as names;
 
 use crate::ty::{FieldType, Ty};
 use asl_shared::Shared;
@@ -24,7 +24,7 @@ impl Drop for FieldPlaces {
 }
 
 impl Model for FieldPlaces {
-    ghost use Rattle.asl_types.specs.NamePlaces.{Places, named};
+    ghost use Rattle.asl_types.specs.private.NamePlaces.{Places, named};
 
     ghost Value = { Places };
 

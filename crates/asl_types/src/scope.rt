@@ -3,10 +3,10 @@
 ghost use Rattle.std.specs.Prelude.{◌≡◌, ◌*◌, true, false, [], length, take, IfOk, OnOk, IfErr, IfSome};
 ghost use Rattle.std.specs.Option.{option_map};
 ghost use Rattle.asl_value.specs.View.{value_of};
-ghost use Rattle.asl_rules.specs.Scopes as rules;
-ghost use Rattle.asl_rules.specs.Scopes.{with_entry};
-ghost use Rattle.asl_rules.specs.Layouts.{slot_of, local_names, global_names, layout_of};
-ghost use Rattle.asl_types.specs.Standings.{storage_view, standing_view, value_behind, form_view, entry_view, slot_by, HasSlot};
+ghost use Rattle.asl_rules.specs.declarations.Scopes as rules;
+ghost use Rattle.asl_rules.specs.declarations.Scopes.{with_entry};
+ghost use Rattle.asl_rules.specs.declarations.Layouts.{slot_of, local_names, global_names, layout_of};
+ghost use Rattle.asl_types.specs.private.Standings.{storage_view, standing_view, value_behind, form_view, entry_view, slot_by, HasSlot};
 
 use crate::ty::Ty;
 use asl_poly::{Atom, Poly};
@@ -27,7 +27,7 @@ pub struct Counted {
 }
 
 impl Model for Counted {
-    ghost use Rattle.asl_rules.specs.Scopes.{Counted};
+    ghost use Rattle.asl_rules.specs.declarations.Scopes.{Counted};
 
     ghost Value = { Counted };
 
@@ -164,14 +164,14 @@ impl<'a> Drop for Scope<'a> {
 
 impl<'a> Model for Scope<'a> {
     ghost use Rattle.std.specs.Prelude.{List};
-    ghost use Rattle.asl_rules.specs.Scopes.{Entry};
-    ghost use Rattle.asl_types.specs.EntryCodes.{entries_code};
+    ghost use Rattle.asl_rules.specs.declarations.Scopes.{Entry};
+    ghost use Rattle.asl_types.specs.private.EntryCodes.{entries_code};
 
     ghost Value = { List Entry };
 
     ghost coded = { entries_code };
 
-    ghost use Rattle.asl_types.specs.Standings.{entries_of, IsKept};
+    ghost use Rattle.asl_types.specs.private.Standings.{entries_of, IsKept};
 
     ghost view = { λ v. entries_of v.declared.entries };
 

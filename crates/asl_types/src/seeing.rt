@@ -2,9 +2,9 @@
 
 ghost use Rattle.std.specs.Prelude.{◌≡◌, ℕ, IfOk};
 ghost use Rattle.asl_poly.specs.Terms.{Polynomial};
-ghost use Rattle.asl_rules.specs.ByPlace.{seen_as, parts_seen_as, all_seen_as};
-ghost use Rattle.asl_rules.specs.Types as rules;
-ghost use Rattle.asl_types.specs.Seeing.{part_seen};
+ghost use Rattle.asl_rules.specs.private.ByPlace.{seen_as, parts_seen_as, all_seen_as};
+ghost use Rattle.asl_rules.specs.types.Types as rules;
+ghost use Rattle.asl_types.specs.private.Seeing.{part_seen};
 ghost use Rattle.asl_types.specs.View.{parts_of};
 ghost use Rattle.asl_value.specs.View.{value_of, all_values};
 

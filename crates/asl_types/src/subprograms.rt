@@ -1,9 +1,9 @@
 //! Subprograms: what calls need of each, and the one that a call chooses.
 
 ghost use Rattle.std.specs.Prelude.{◌≡◌, ℕ, ◌++◌, [], ◌∷◌, Some, length, take, slice_get, option_map, IfOk, OnOk, OnErr};
-ghost use Rattle.asl_types.specs.Chains.{last_of, or_found, taken_by};
-ghost use Rattle.asl_rules.specs.Scopes as rules;
-ghost use Rattle.asl_rules.specs.Types as types;
+ghost use Rattle.asl_types.specs.private.Chains.{last_of, or_found, taken_by};
+ghost use Rattle.asl_rules.specs.declarations.Scopes as rules;
+ghost use Rattle.asl_rules.specs.types.Types as types;
 ghost use Rattle.asl_types.specs.View.{parts_of};
 
 use crate::kinds::same_kinds;
@@ -24,8 +24,8 @@ pub struct Param {
 }
 
 impl Model for Param {
-    ghost use Rattle.asl_rules.specs.Scopes.{Param};
-    ghost use Rattle.asl_types.specs.EntryCodes.{param_code};
+    ghost use Rattle.asl_rules.specs.declarations.Scopes.{Param};
+    ghost use Rattle.asl_types.specs.private.EntryCodes.{param_code};
 
     ghost Value = { Param };
 
@@ -69,8 +69,8 @@ pub struct Signature {
 }
 
 impl Model for Signature {
-    ghost use Rattle.asl_rules.specs.Scopes.{Signature};
-    ghost use Rattle.asl_types.specs.EntryCodes.{signature_code};
+    ghost use Rattle.asl_rules.specs.declarations.Scopes.{Signature};
+    ghost use Rattle.asl_types.specs.private.EntryCodes.{signature_code};
     ghost use Rattle.asl_types.specs.View.{parts_of};
 
     ghost Value = { Signature };
@@ -171,14 +171,14 @@ impl Drop for Subprograms {
 
 impl Model for Subprograms {
     ghost use Rattle.std.specs.Prelude.{List};
-    ghost use Rattle.asl_rules.specs.Scopes.{Signature};
-    ghost use Rattle.asl_types.specs.EntryCodes.{signatures_code};
+    ghost use Rattle.asl_rules.specs.declarations.Scopes.{Signature};
+    ghost use Rattle.asl_types.specs.private.EntryCodes.{signatures_code};
 
     ghost Value = { List Signature };
 
     ghost coded = { signatures_code };
 
-    ghost use Rattle.asl_types.specs.Chains.{IsLinked};
+    ghost use Rattle.asl_types.specs.private.Chains.{IsLinked};
 
     ghost view = { λ s. s.signatures };
 

@@ -2,7 +2,7 @@
 
 ghost use Rattle.std.specs.Prelude.{◌≡◌, ◌≤◌, length, option_map, IfOk};
 ghost use Rattle.asl_cons.specs.Arithmetic as cons;
-ghost use Rattle.asl_rules.specs.Types as rules;
+ghost use Rattle.asl_rules.specs.types.Types as rules;
 ghost use Rattle.asl_types.specs.View.{parts_of};
 
 use crate::integers::shown;

@@ -3,10 +3,10 @@
 ghost use Rattle.std.specs.Prelude.{◌≡◌, ◌≤◌, ◌^◌, ◌<◌, length, IfOk};
 ghost use Rattle.asl_poly.specs.Limits as limits;
 ghost use Rattle.asl_poly.specs.Poly.{SumFits, Gives};
-ghost use Rattle.asl_rules.specs.Slicing.{no_width};
-ghost use Rattle.asl_rules.specs.Widths as rules;
-ghost use Rattle.asl_types.specs.Answers.{Agrees};
-ghost use Rattle.asl_types.specs.Totals.{IsTotal, IsWithin, adds, added};
+ghost use Rattle.asl_rules.specs.expressions.Slicing.{no_width};
+ghost use Rattle.asl_rules.specs.types.Widths as rules;
+ghost use Rattle.asl_types.specs.private.Answers.{Agrees};
+ghost use Rattle.asl_types.specs.private.Totals.{IsTotal, IsWithin, adds, added};
 
 use crate::answer::fault;
 use crate::integers::constant_width;

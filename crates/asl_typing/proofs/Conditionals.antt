@@ -5,15 +5,15 @@ use Rattle.asl_syn.specs.declared.code.Fault.{Fault}
 use Rattle.asl_syn.specs.declared.code.StaticCode.TheVariants.{T05, T12, T13}
 use Rattle.asl_rules.specs.declared.effect.Effect.{Effect}
 use Rattle.asl_rules.specs.declared.effect.Effect.TheVariants.{Pure}
-use Rattle.asl_rules.specs.Effects.{at_most, all_together, greatest}
-use Rattle.asl_rules.specs.Exprs.{apart, conditional_of}
+use Rattle.asl_rules.specs.types.Effects.{at_most, all_together, greatest}
+use Rattle.asl_rules.specs.expressions.Exprs.{apart, conditional_of}
 use Rattle.asl_rules.specs.Faults.{◌>>=◌, ◌>>◌, need, found_or}
 use Rattle.asl_rules.specs.Tests.{Tests}
-use Rattle.asl_rules.specs.Trees as tree
-use Rattle.asl_rules.specs.Trees.{Note}
-use Rattle.asl_rules.specs.Types.{Ty, is_boolean, join, bare}
-use Rattle.asl_rules.specs.Typing.{Typed, note}
-use Rattle.asl_typing.specs.Conditionals.{conditional_note}
+use Rattle.asl_rules.specs.runs.Trees as tree
+use Rattle.asl_rules.specs.runs.Trees.{Note}
+use Rattle.asl_rules.specs.types.Types.{Ty, is_boolean, join, bare}
+use Rattle.asl_rules.specs.expressions.Typing.{Typed, note}
+use Rattle.asl_typing.specs.private.Conditionals.{conditional_note}
 
 steps : (u : Result (Unit {0}) Fault) (r : Result Ty Fault) (v w : Result (Unit {0}) Fault) (f : Ty → Note) (make : Note → Typed) →
     (u >> (r >>= λ U. v >> w >> Ok (make (f U)))) ≡ ((u >> (r >>= λ U. v >> w >> Ok (f U))) >>= λ n. Ok (make n))

@@ -8,13 +8,13 @@ use Rattle.asl_syn.specs.declared.tree.Ident.{Ident}
 use Rattle.asl_rules.specs.declared.effect.Effect.{Effect}
 use Rattle.asl_rules.specs.declared.effect.Effect.TheVariants.{Pure}
 use Rattle.asl_rules.specs.Faults.{◌>>=◌, ◌>>◌, fault, found_or}
-use Rattle.asl_rules.specs.Members.{Constructed, constructed_as, constructed_of, constructed, given_once, all_fit, texts_of, places_given, construction}
+use Rattle.asl_rules.specs.values.Members.{Constructed, constructed_as, constructed_of, constructed, given_once, all_fit, texts_of, places_given, construction}
 use Rattle.asl_rules.specs.Tests.{Tests}
-use Rattle.asl_rules.specs.Trees as tree
-use Rattle.asl_rules.specs.Trees.{FieldGiven}
-use Rattle.asl_rules.specs.Types.{Ty, integer_of, boolean, bits_of, enumeration_of, record_of, exception_of, tuple_of, array_of, named}
-use Rattle.asl_rules.specs.Typing.{Typed, Operand, finish_all, trees_of}
-use Rattle.asl_typing.specs.Constructs.{Making, made_as, made_of, given_fit, construction_of}
+use Rattle.asl_rules.specs.runs.Trees as tree
+use Rattle.asl_rules.specs.runs.Trees.{FieldGiven}
+use Rattle.asl_rules.specs.types.Types.{Ty, integer_of, boolean, bits_of, enumeration_of, record_of, exception_of, tuple_of, array_of, named}
+use Rattle.asl_rules.specs.expressions.Typing.{Typed, Operand, finish_all, trees_of}
+use Rattle.asl_typing.specs.private.Constructs.{Making, made_as, made_of, given_fit, construction_of}
 
 -- a type with what is built of it
 abbrev with_type : Ty → Option Making → Option Constructed

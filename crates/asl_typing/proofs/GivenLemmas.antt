@@ -1,14 +1,14 @@
 -- What the first places of names say of the fields of a type and of those that are given.
 use Rattle.std.proofs.Common.{◌≡◌, ℕ, zero, suc, nat_lt, Bool, true, false, cond, take, List, [], ◌∷◌, Option, Some, None, option_map, slice_get, refl, sym, ap, ◌∙◌, arith}
 use Rattle.std.specs.Str.{bytes_eq}
-use Rattle.asl_rules.specs.Layouts.{place_of}
-use Rattle.asl_rules.specs.Members.{has_name, numbered, one_further}
-use Rattle.asl_rules.specs.Types.{Ty}
+use Rattle.asl_rules.specs.declarations.Layouts.{place_of}
+use Rattle.asl_rules.specs.values.Members.{has_name, numbered, one_further}
+use Rattle.asl_rules.specs.types.Types.{Ty}
 use Rattle.asl_types.specs.declared.ty.FieldType.{FieldType}
 use Rattle.asl_types.specs.declared.ty.FieldType.TheVariants as f
 use Rattle.asl_types.specs.View.{fields_of}
-use Rattle.asl_names.specs.Firsts.{Places, first_place, placed}
-use Rattle.asl_typing.specs.Constructs.{field_ty, field_names}
+use Rattle.asl_names.specs.private.Firsts.{Places, first_place, placed}
+use Rattle.asl_typing.specs.private.Constructs.{field_ty, field_names}
 use Rattle.asl_names.proofs.FirstLemmas.{place_is}
 
 pub place_known : (f : List ℕ) (ns : List (List ℕ)) (ps : Places) (o : Option ℕ) → ps ≡ placed ns 0 [] → o ≡ first_place f ps → o ≡ place_of f ns

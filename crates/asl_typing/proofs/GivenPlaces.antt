@@ -1,17 +1,17 @@
 -- The fields of a type with the places of their values, one by one.
 use Rattle.std.proofs.Common.{◌≡◌, ℕ, ◌+◌, ◌<◌, ◌≤◌, length, get_or, drop, map, List, [], ◌∷◌, ◌++◌, Option, Some, None, option_map, refl, sym, ap, ◌∙◌, append_assoc}
 use Rattle.std.proofs.lemmas.List.{drop_all, append-nil, map-append}
-use Rattle.asl_rules.specs.Layouts.{place_of}
-use Rattle.asl_rules.specs.Members.{places_given, with_place}
-use Rattle.asl_rules.specs.Trees.{FieldGiven}
-use Rattle.asl_rules.specs.Types.{Ty}
+use Rattle.asl_rules.specs.declarations.Layouts.{place_of}
+use Rattle.asl_rules.specs.values.Members.{places_given, with_place}
+use Rattle.asl_rules.specs.runs.Trees.{FieldGiven}
+use Rattle.asl_rules.specs.types.Types.{Ty}
 use Rattle.asl_shape.specs.declared.shapes.FieldGiven as code
 use Rattle.asl_shape.specs.View.{given_view, all_given}
 use Rattle.asl_types.specs.declared.ty.FieldType.{FieldType}
 use Rattle.asl_types.specs.declared.ty.FieldType.TheVariants as f
 use Rattle.asl_types.specs.View.{fields_of}
 use Rattle.asl_types.proofs.Rest.{at_next}
-use Rattle.asl_typing.specs.Constructs.{field_name, field_ty, behind_given}
+use Rattle.asl_typing.specs.private.Constructs.{field_name, field_ty, behind_given}
 
 abbrev Given : Type 0
 Given = Option (List FieldGiven)

@@ -7,10 +7,10 @@ use Rattle.asl_syn.specs.declared.code.StaticCode.TheVariants.{T15}
 use Rattle.asl_syn.specs.declared.tree.FieldValue.{FieldValue}
 use Rattle.asl_syn.specs.declared.tree.Ident.{Ident}
 use Rattle.asl_rules.specs.Faults.{◌>>=◌, ◌>>◌, need, found_or}
-use Rattle.asl_rules.specs.Members.{given_once, has_name, numbered}
-use Rattle.asl_rules.specs.Types.{Ty, Fields}
+use Rattle.asl_rules.specs.values.Members.{given_once, has_name, numbered}
+use Rattle.asl_rules.specs.types.Types.{Ty, Fields}
 use Rattle.asl_types.proofs.Rest.{at_next}
-use Rattle.asl_typing.specs.Constructs.{given_name, given_names, given_texts, given_type, behind_types}
+use Rattle.asl_typing.specs.private.Constructs.{given_name, given_names, given_texts, given_type, behind_types}
 
 -- ---- names
 

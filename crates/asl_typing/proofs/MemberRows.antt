@@ -5,10 +5,10 @@ use Rattle.asl_syn.specs.declared.code.Fault.{Fault}
 use Rattle.asl_syn.specs.declared.code.StaticCode.TheVariants.{T15}
 use Rattle.asl_syn.specs.declared.tree.Ident.{Ident}
 use Rattle.asl_rules.specs.Faults.{◌>>=◌, found_or}
-use Rattle.asl_rules.specs.Types.{BitField, View, bitfield_width}
-use Rattle.asl_rules.specs.Members.{bitfield_in, bitfields_in, all_wide}
+use Rattle.asl_rules.specs.types.Types.{BitField, View, bitfield_width}
+use Rattle.asl_rules.specs.values.Members.{bitfield_in, bitfields_in, all_wide}
 use Rattle.asl_types.proofs.Rest.{at_next}
-use Rattle.asl_typing.specs.FoundMembers.{behind_bitfields}
+use Rattle.asl_typing.specs.private.FoundMembers.{behind_bitfields}
 
 abbrev Fields : Type 0
 Fields = Result (List BitField) Fault

@@ -1,4 +1,1 @@
-pub mod BitsWidths
-pub mod Conditionals
-pub mod Constructs
-pub mod FoundMembers
+pub mod private

@@ -1,10 +1,10 @@
 //! Whether values of two types can be compared for equality.
 
 ghost use Rattle.std.specs.Prelude.{◌≡◌, true, false, MatchOption};
-ghost use Rattle.asl_rules.specs.Operations as rules;
+ghost use Rattle.asl_rules.specs.expressions.Operations as rules;
 ghost use Rattle.asl_rules.specs.Tests.{Tests, IsRight};
-ghost use Rattle.asl_rules.specs.Types as types;
-ghost use Rattle.asl_types.specs.Answers.{Met};
+ghost use Rattle.asl_rules.specs.types.Types as types;
+ghost use Rattle.asl_types.specs.private.Answers.{Met};
 
 use asl_poly::Poly;
 use asl_syn::code::{Refused, StaticCode};

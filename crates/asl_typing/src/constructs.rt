@@ -3,20 +3,20 @@
 
 ghost use Rattle.std.specs.Prelude.{◌≡◌, ℕ, List, [], take, slice_get, Some, option_map, IfOk};
 ghost use Rattle.asl_rules.specs.Faults.{found_or};
-ghost use Rattle.asl_rules.specs.Layouts.{place_of};
-ghost use Rattle.asl_rules.specs.Members as rules;
-ghost use Rattle.asl_rules.specs.Members.{has_name, numbered};
+ghost use Rattle.asl_rules.specs.declarations.Layouts.{place_of};
+ghost use Rattle.asl_rules.specs.values.Members as rules;
+ghost use Rattle.asl_rules.specs.values.Members.{has_name, numbered};
 ghost use Rattle.asl_rules.specs.Tests.{Tests, IsRight};
-ghost use Rattle.asl_rules.specs.Trees.{record_shell, exception_shell};
-ghost use Rattle.asl_value.specs.Forms.{shell_of};
+ghost use Rattle.asl_rules.specs.runs.Trees.{record_shell, exception_shell};
+ghost use Rattle.asl_value.specs.private.Forms.{shell_of};
 ghost use Rattle.asl_shape.specs.View.{given_view, all_given};
-ghost use Rattle.asl_types.specs.Answers.{Met};
-ghost use Rattle.asl_types.specs.ContextView.{scope_of};
+ghost use Rattle.asl_types.specs.private.Answers.{Met};
+ghost use Rattle.asl_types.specs.private.ContextView.{scope_of};
 ghost use Rattle.asl_types.specs.View.{fields_of};
 ghost use Rattle.asl_tree.specs.View.{typed_of, all_operands};
-ghost use Rattle.asl_rules.specs.Scopes.{type_of_name};
-ghost use Rattle.asl_typing.specs.Constructs.{given_name, given_names, given_texts, field_name, field_ty, field_names, making, made_as, made_of, built_view, given_type, given_fit, construction_of};
-ghost use Rattle.asl_names.specs.Firsts.{placed};
+ghost use Rattle.asl_rules.specs.declarations.Scopes.{type_of_name};
+ghost use Rattle.asl_typing.specs.private.Constructs.{given_name, given_names, given_texts, field_name, field_ty, field_names, making, made_as, made_of, built_view, given_type, given_fit, construction_of};
+ghost use Rattle.asl_names.specs.private.Firsts.{placed};
 
 use crate::ends::{all_together, greatest, keep_class, stand_together};
 use asl_names::firsts::Firsts;

@@ -1,10 +1,10 @@
 //! The ends of expressions: their operands may stand together, and they keep to the class of their body.
 
 ghost use Rattle.std.specs.Prelude.{◌≡◌};
-ghost use Rattle.asl_rules.specs.Effects as rules;
+ghost use Rattle.asl_rules.specs.types.Effects as rules;
 ghost use Rattle.asl_rules.specs.Faults.{need};
-ghost use Rattle.asl_rules.specs.Typing.{effects_of};
-ghost use Rattle.asl_types.specs.Answers.{Met};
+ghost use Rattle.asl_rules.specs.expressions.Typing.{effects_of};
+ghost use Rattle.asl_types.specs.private.Answers.{Met};
 ghost use Rattle.asl_tree.specs.View.{all_operands};
 
 use asl_rules::effect::Effect;

@@ -1,19 +1,19 @@
 //! Names and literals.
 
 ghost use Rattle.std.specs.Prelude.{◌≡◌, length, IfOk};
-ghost use Rattle.asl_rules.specs.Exprs as rules;
-ghost use Rattle.asl_rules.specs.Trees as trees_of_rules;
-ghost use Rattle.asl_rules.specs.Types as types;
-ghost use Rattle.asl_rules.specs.Typing.{in_class};
-ghost use Rattle.asl_rules.specs.Values.{bool as a_bool, bits_with};
+ghost use Rattle.asl_rules.specs.expressions.Exprs as rules;
+ghost use Rattle.asl_rules.specs.runs.Trees as trees_of_rules;
+ghost use Rattle.asl_rules.specs.types.Types as types;
+ghost use Rattle.asl_rules.specs.expressions.Typing.{in_class};
+ghost use Rattle.asl_rules.specs.values.Values.{bool as a_bool, bits_with};
 ghost use Rattle.asl_value.specs.View.{value_of};
-ghost use Rattle.asl_types.specs.Answers.{Met};
-ghost use Rattle.asl_types.specs.ContextView.{scope_of};
-ghost use Rattle.asl_types.specs.Standings.{storage_view};
+ghost use Rattle.asl_types.specs.private.Answers.{Met};
+ghost use Rattle.asl_types.specs.private.ContextView.{scope_of};
+ghost use Rattle.asl_types.specs.private.Standings.{storage_view};
 ghost use Rattle.asl_types.specs.Suits.{Suits};
-ghost use Rattle.asl_rules.specs.Scopes as scopes;
+ghost use Rattle.asl_rules.specs.declarations.Scopes as scopes;
 ghost use Rattle.asl_rules.specs.Tests.{Tests};
-ghost use Rattle.asl_rules.specs.Vectors.{literal_of};
+ghost use Rattle.asl_rules.specs.values.Vectors.{literal_of};
 ghost use Rattle.asl_tree.specs.View.{typed_of};
 
 use crate::ends::keep_class;

@@ -2,13 +2,13 @@
 
 ghost use Rattle.std.specs.Prelude.{◌≡◌, ◌+◌, ◌≤◌, ◌^◌, min, IfOk};
 ghost use Rattle.asl_rules.specs.Faults.{found_or};
-ghost use Rattle.asl_rules.specs.Members as rules;
-ghost use Rattle.asl_rules.specs.Types as types;
-ghost use Rattle.asl_rules.specs.Typing.{in_class};
-ghost use Rattle.asl_types.specs.Answers.{Met, Agrees};
-ghost use Rattle.asl_types.specs.MemberView.{member_view};
+ghost use Rattle.asl_rules.specs.values.Members as rules;
+ghost use Rattle.asl_rules.specs.types.Types as types;
+ghost use Rattle.asl_rules.specs.expressions.Typing.{in_class};
+ghost use Rattle.asl_types.specs.private.Answers.{Met, Agrees};
+ghost use Rattle.asl_types.specs.private.MemberView.{member_view};
 ghost use Rattle.asl_tree.specs.View.{tree_of, typed_of};
-ghost use Rattle.asl_typing.specs.FoundMembers.{found_view, IsNarrow, bitfield_part as bitfield_rule};
+ghost use Rattle.asl_typing.specs.private.FoundMembers.{found_view, IsNarrow, bitfield_part as bitfield_rule};
 
 use crate::ends::{keep_class, stand_together};
 use asl_rules::effect::Effect;
@@ -44,7 +44,7 @@ fn places_in(field: &BitField) -> u64
 }
 
 /// A bitfield as a part: T20 at its name where it has more places than the limit of widths.
-#[tactic(auto, unfolding(asl_rules::specs::Widths::heaviest))]
+#[tactic(auto, unfolding(asl_rules::specs::types::Widths::heaviest))]
 fn bitfield_part<'t>(name: &Ident, field: &'t BitField) -> Result<Member<'t>, Refused>
     ensures rule { Met member_view result (bitfield_rule name.now field.now) }
     ensures room { IfOk result (λ m. IsNarrow (member_view m)) }
@@ -194,7 +194,7 @@ fn capped(wide: u64) -> u64
 
 /// Bitfields of bits by their names: T15 where there is one that isn't, or of another type, and T20 where they have more places
 /// than the limit of widths.
-#[tactic(auto, unfolding(asl_rules::specs::Widths::heaviest))]
+#[tactic(auto, unfolding(asl_rules::specs::types::Widths::heaviest))]
 pub fn bitfields_named(
     alloc: Global,
     span: Span,

@@ -1,18 +1,18 @@
 //! Operations, conditional expressions and tuples, whose operands were typed.
 
 ghost use Rattle.std.specs.Prelude.{◌≡◌, IfOk};
-ghost use Rattle.asl_rules.specs.Exprs as rules;
+ghost use Rattle.asl_rules.specs.expressions.Exprs as rules;
 ghost use Rattle.asl_rules.specs.Faults.{found_or, need};
-ghost use Rattle.asl_rules.specs.Operations as operations;
+ghost use Rattle.asl_rules.specs.expressions.Operations as operations;
 ghost use Rattle.asl_rules.specs.Tests.{Tests, IsRight};
-ghost use Rattle.asl_rules.specs.Trees.{tree_at};
-ghost use Rattle.asl_rules.specs.Types as types;
-ghost use Rattle.asl_rules.specs.Typing.{types_of};
-ghost use Rattle.asl_rules.specs.Widths.{bounded as bounded_by};
-ghost use Rattle.asl_types.specs.Answers.{Met, Agrees};
+ghost use Rattle.asl_rules.specs.runs.Trees.{tree_at};
+ghost use Rattle.asl_rules.specs.types.Types as types;
+ghost use Rattle.asl_rules.specs.expressions.Typing.{types_of};
+ghost use Rattle.asl_rules.specs.types.Widths.{bounded as bounded_by};
+ghost use Rattle.asl_types.specs.private.Answers.{Met, Agrees};
 ghost use Rattle.asl_types.specs.View.{parts_of};
 ghost use Rattle.asl_tree.specs.View.{note_view, tree_of, typed_of, all_operands};
-ghost use Rattle.asl_typing.specs.Conditionals.{conditional_note};
+ghost use Rattle.asl_typing.specs.private.Conditionals.{conditional_note};
 
 use crate::ends::{all_together, greatest, keep_class, stand_together};
 use crate::operators::{type_binary, type_unary};

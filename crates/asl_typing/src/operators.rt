@@ -3,11 +3,11 @@
 ghost use Rattle.std.specs.Prelude.{◌≡◌, ◌&&◌, [], IfOk};
 ghost use Rattle.asl_cons.specs.Arithmetic as cons;
 ghost use Rattle.asl_rules.specs.Faults.{need};
-ghost use Rattle.asl_rules.specs.Operations as rules;
+ghost use Rattle.asl_rules.specs.expressions.Operations as rules;
 ghost use Rattle.asl_rules.specs.Tests.{Tests, IsRight};
-ghost use Rattle.asl_rules.specs.Types as types;
-ghost use Rattle.asl_types.specs.Answers.{Met, Agrees};
-ghost use Rattle.asl_typing.specs.BitsWidths.{joined_bits, bits_sum};
+ghost use Rattle.asl_rules.specs.types.Types as types;
+ghost use Rattle.asl_types.specs.private.Answers.{Met, Agrees};
+ghost use Rattle.asl_typing.specs.private.BitsWidths.{joined_bits, bits_sum};
 
 use crate::comparable::{bits_width, comparable, same_widths};
 use asl_poly::Poly;

@@ -15,8 +15,8 @@ use Rattle.asl_bits.specs.declared.BitsRefused.{BitsRefused}
 use Rattle.asl_bits.specs.Answers.{IsConcat}
 use Rattle.asl_bits.specs.Lists.{bits_value, bits_of, int_bits}
 use Rattle.asl_bits.proofs.Lists.{low_bits, length-bits_of, value_below}
-use Rattle.asl_rules.specs.Operators.{same_bits, plain_bits, concatenated}
-use Rattle.asl_rules.specs.Plans.{Faulted, Good, Bad}
+use Rattle.asl_rules.specs.values.Operators.{same_bits, plain_bits, concatenated}
+use Rattle.asl_rules.specs.runs.Plans.{Faulted, Good, Bad}
 
 -- ---- concatenation
 

@@ -7,8 +7,8 @@ use Rattle.asl_num.specs.declared.NumFault.TheVariants as fault
 use Rattle.std.proofs.Math.Nat.{min-eq_right}
 use Rattle.std.specs.Prelude.{◌*ℤ◌}
 use Rattle.asl_num.specs.Exact.{Fits, IsExact}
-use Rattle.asl_rules.specs.Operators.{in_range}
-use Rattle.asl_value.specs.Cutting.{near_start}
+use Rattle.asl_rules.specs.values.Operators.{in_range}
+use Rattle.asl_value.specs.private.Cutting.{near_start}
 
 fits_range : (z : ℤ) → Fits z → in_range z ≡ true
 fits_range (pos n) h = grind (arith, ints)

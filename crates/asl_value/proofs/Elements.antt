@@ -4,15 +4,15 @@ use Rattle.std.specs.Prelude.{ℤ, pos, negsuc, ◌≤ℤ◌, ◌<ℤ◌, option
 use Rattle.std.proofs.lemmas.Int.{ints}
 use Rattle.asl_syn.specs.declared.token.Span.{Span}
 use Rattle.asl_syn.specs.declared.code.DynCode.TheVariants.{D06}
-use Rattle.asl_rules.specs.Types.{Kind}
-use Rattle.asl_rules.specs.Values as rules
-use Rattle.asl_rules.specs.Structures.{value_at, element_of, inside}
-use Rattle.asl_rules.specs.Pures.{there}
-use Rattle.asl_rules.specs.Plans.{Faulted, Stuck, WrongKind, Good, Bad}
+use Rattle.asl_rules.specs.types.Types.{Kind}
+use Rattle.asl_rules.specs.values.Values as rules
+use Rattle.asl_rules.specs.values.Structures.{value_at, element_of, inside}
+use Rattle.asl_rules.specs.runs.Pures.{there}
+use Rattle.asl_rules.specs.runs.Plans.{Faulted, Stuck, WrongKind, Good, Bad}
 use Rattle.asl_value.specs.declared.value.Value.{Value}
 use Rattle.asl_value.specs.declared.value.FieldValue.{FieldValue}
-use Rattle.asl_rules.specs.ByPlace.{field_at}
-use Rattle.asl_value.specs.Reaching.{index_in}
+use Rattle.asl_rules.specs.private.ByPlace.{field_at}
+use Rattle.asl_value.specs.private.Reaching.{index_in}
 use Rattle.asl_value.specs.View.{value_of, field_of, all_values, all_fields}
 
 twice : {A B C : Type 0} (f : A → B) (g : B → C) (o : Option A) → option_map (λ x. g (f x)) o ≡ option_map g (option_map f o)

@@ -3,21 +3,21 @@ use Rattle.std.proofs.Common.{◌≡◌, ℕ, zero, suc, Bool, true, List, ◌�
 use Rattle.std.specs.Prelude.{pos, negsuc, option_map, Result, Ok, Err}
 use Rattle.std.specs.Option.{is_some}
 use Rattle.asl_syn.specs.declared.token.Span.{Span}
-use Rattle.asl_rules.specs.Values as rules
-use Rattle.asl_rules.specs.Values.{Value, Values, FieldValues, no_value_of, value_of_field, no_value, value}
-use Rattle.asl_rules.specs.Pures.{◌>>=◌, there}
-use Rattle.asl_rules.specs.Structures.{value_at, with_value_at, with_element, inside}
-use Rattle.asl_rules.specs.Plans.{Pure, Good, Bad}
+use Rattle.asl_rules.specs.values.Values as rules
+use Rattle.asl_rules.specs.values.Values.{Value, Values, FieldValues, no_value_of, value_of_field, no_value, value}
+use Rattle.asl_rules.specs.runs.Pures.{◌>>=◌, there}
+use Rattle.asl_rules.specs.values.Structures.{value_at, with_value_at, with_element, inside}
+use Rattle.asl_rules.specs.runs.Plans.{Pure, Good, Bad}
 use Rattle.asl_value.specs.declared.value.Value as code
 use Rattle.asl_value.specs.declared.failure.Failure.{Failure}
 use Rattle.asl_value.specs.declared.failure.Failure.TheVariants as failure
-use Rattle.asl_value.specs.Answers.{Is, Changes}
-use Rattle.asl_rules.specs.ByPlace.{Step, field_at, with_field_at, with_field_in, updated}
-use Rattle.asl_rules.specs.ByPlace.{into_field, into_slices, into_element, field_in}
-use Rattle.asl_rules.specs.Structures.{element_of}
-use Rattle.asl_rules.specs.Shapes.{SliceShape}
-use Rattle.asl_rules.specs.Vectors.{Places, slice_places, bits_at, with_places, with_slices}
-use Rattle.asl_value.specs.Reaching.{is_good, Reaches}
+use Rattle.asl_value.specs.private.Answers.{Is, Changes}
+use Rattle.asl_rules.specs.private.ByPlace.{Step, field_at, with_field_at, with_field_in, updated}
+use Rattle.asl_rules.specs.private.ByPlace.{into_field, into_slices, into_element, field_in}
+use Rattle.asl_rules.specs.values.Structures.{element_of}
+use Rattle.asl_rules.specs.types.Shapes.{SliceShape}
+use Rattle.asl_rules.specs.values.Vectors.{Places, slice_places, bits_at, with_places, with_slices}
+use Rattle.asl_value.specs.private.Reaching.{is_good, Reaches}
 use Rattle.asl_value.specs.View.{value_of}
 
 there_good : (span : Span) (o : Option Value) (p : Option FieldValues) (f : FieldValues → Value) (q : Value) → is_some o ≡ is_some p → there span o ≡ Good q → is_good (there span (option_map f p)) ≡ true

@@ -9,8 +9,8 @@ use Rattle.asl_num.specs.Exact.{Fits, floor_div, floor_mod}
 use Rattle.std.proofs.lemmas.Int.{ints}
 use Rattle.std.proofs.lemmas.List.{length-take, length-drop}
 use Rattle.std.proofs.lemmas.Bool.Decides.{nat_tests}
-use Rattle.asl_rules.specs.Types.{BitField}
-use Rattle.asl_rules.specs.Vectors.{Places, places_of_field, places_of_fields, total_width, read_bits, read_int, write_bits, all_within, fill}
+use Rattle.asl_rules.specs.types.Types.{BitField}
+use Rattle.asl_rules.specs.values.Vectors.{Places, places_of_field, places_of_fields, total_width, read_bits, read_int, write_bits, all_within, fill}
 use Rattle.asl_value.proofs.Among.{at_front, none_after}
 
 -- ---- a slice as far as there are bits

@@ -1,12 +1,12 @@
 -- Values without bitfields, and with those of others.
 use Rattle.std.proofs.Common.{◌≡◌, ℕ, zero, suc, ◌+◌, ◌<◌, ◌≤◌, Bool, true, false, List, [], ◌∷◌, ◌++◌, length, get_or, drop, refl, sym, ap, ◌∙◌, arith}
 use Rattle.std.specs.Prelude.{◌||◌}
-use Rattle.asl_rules.specs.Values as rules
-use Rattle.asl_rules.specs.Values.{Values, no_value, value}
-use Rattle.asl_rules.specs.Views.{stripped, all_stripped, adopted, all_adopted}
+use Rattle.asl_rules.specs.values.Values as rules
+use Rattle.asl_rules.specs.values.Values.{Values, no_value, value}
+use Rattle.asl_rules.specs.types.Views.{stripped, all_stripped, adopted, all_adopted}
 use Rattle.asl_value.specs.declared.value.Value.{Value}
-use Rattle.asl_rules.specs.HoldsBits.{has_bits, have_bits}
-use Rattle.asl_value.specs.Keeping.{adopted_at}
+use Rattle.asl_rules.specs.private.HoldsBits.{has_bits, have_bits}
+use Rattle.asl_value.specs.private.Keeping.{adopted_at}
 use Rattle.asl_value.specs.View.{value_of, all_values}
 use Rattle.asl_value.proofs.Among.{at_front, none_after}
 use Rattle.asl_value.proofs.Lists.{in_front, one_made, all_made}

@@ -12,8 +12,8 @@ use Rattle.asl_bits.specs.declared.TheConstants.{WIDTH_LIMIT}
 use Rattle.asl_mask.specs.Digits.{mask_matches, fixed_bits}
 use Rattle.asl_mask.specs.Texts.{IsContent, IsRead, mask_of}
 use Rattle.asl_mask.specs.declared.MaskFault.{MaskFault}
-use Rattle.asl_rules.specs.Vectors.{literal_digits, literal_of}
-use Rattle.asl_value.specs.Literals.{digit_byte}
+use Rattle.asl_rules.specs.values.Vectors.{literal_digits, literal_of}
+use Rattle.asl_value.specs.private.Literals.{digit_byte}
 use Rattle.asl_value.proofs.Among.{at_front, none_after}
 
 abbrev Digit : Type 0

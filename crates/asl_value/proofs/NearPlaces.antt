@@ -7,17 +7,17 @@ use Rattle.asl_syn.specs.declared.code.DynCode.TheVariants.{D05, D14}
 use Rattle.asl_bits.specs.declared.TheConstants.{WIDTH_LIMIT}
 use Rattle.asl_bits.specs.Lists.{int_bits}
 use Rattle.asl_num.specs.Exact.{Fits, floor_div}
-use Rattle.asl_rules.specs.Operators.{plain_bits}
-use Rattle.asl_rules.specs.Pures.{◌>>=◌, there}
-use Rattle.asl_rules.specs.Plans.{Faulted, Pure, Good, Bad}
-use Rattle.asl_rules.specs.Shapes.{SliceShape}
-use Rattle.asl_rules.specs.Values.{Value}
-use Rattle.asl_rules.specs.Vectors.{Slicing, Wide, Places, slicings, widths_of, places_of, low_of, total_width, within_limit, tested, read_bits, read_int}
+use Rattle.asl_rules.specs.values.Operators.{plain_bits}
+use Rattle.asl_rules.specs.runs.Pures.{◌>>=◌, there}
+use Rattle.asl_rules.specs.runs.Plans.{Faulted, Pure, Good, Bad}
+use Rattle.asl_rules.specs.types.Shapes.{SliceShape}
+use Rattle.asl_rules.specs.values.Values.{Value}
+use Rattle.asl_rules.specs.values.Vectors.{Slicing, Wide, Places, slicings, widths_of, places_of, low_of, total_width, within_limit, tested, read_bits, read_int}
 use Rattle.asl_value.specs.declared.failure.Failure.{Failure}
 use Rattle.asl_value.specs.declared.failure.Failure.TheVariants as failure
 use Rattle.asl_value.specs.declared.value.Value as code
-use Rattle.asl_value.specs.Answers.{Is}
-use Rattle.asl_value.specs.Cutting.{near, near_low, all_near, near_places, places_read, bits_sliced, integer_sliced}
+use Rattle.asl_value.specs.private.Answers.{Is}
+use Rattle.asl_value.specs.private.Cutting.{near, near_low, all_near, near_places, places_read, bits_sliced, integer_sliced}
 use Rattle.asl_value.specs.View.{value_of}
 use Rattle.asl_value.proofs.InPlaces.{same_above}
 use Rattle.asl_value.proofs.SlicesRead.{chain_off}

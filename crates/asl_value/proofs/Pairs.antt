@@ -1,7 +1,7 @@
 -- Two lists of kinds place by place.
 use Rattle.std.proofs.Common.{◌≡◌, ◌≢◌, ℕ, suc, ◌+◌, ◌<◌, ◌≤◌, Bool, true, false, List, [], ◌∷◌, length, get_or, drop, refl, ap, ◌∙◌, arith}
 use Rattle.std.specs.Prelude.{◌&&◌}
-use Rattle.asl_rules.specs.Types.{kind_eq, kinds_eq}
+use Rattle.asl_rules.specs.types.Types.{kind_eq, kinds_eq}
 use Rattle.asl_value.specs.declared.value.Kind.{Kind}
 use Rattle.asl_value.specs.View.{kind_of, all_kinds}
 use Rattle.asl_value.proofs.Among.{at_front, none_after}

@@ -3,15 +3,15 @@ use Rattle.std.proofs.Common.{◌≡◌, ℕ, zero, suc, ◌<◌, Bool, true, fa
 use Rattle.std.specs.Prelude.{ℤ, pos, negsuc, option_map, slice_set, nat_lt}
 use Rattle.asl_syn.specs.declared.token.Span.{Span}
 use Rattle.asl_syn.specs.declared.code.DynCode.TheVariants.{D06}
-use Rattle.asl_rules.specs.Values as rules
-use Rattle.asl_rules.specs.Values.{Values, FieldValues, no_value_of, value_of_field, no_value, value}
-use Rattle.asl_rules.specs.Pures.{◌>>=◌, there}
-use Rattle.asl_rules.specs.Structures.{value_at, with_value_at, inside}
-use Rattle.asl_rules.specs.Plans.{Faulted, Good, Bad}
+use Rattle.asl_rules.specs.values.Values as rules
+use Rattle.asl_rules.specs.values.Values.{Values, FieldValues, no_value_of, value_of_field, no_value, value}
+use Rattle.asl_rules.specs.runs.Pures.{◌>>=◌, there}
+use Rattle.asl_rules.specs.values.Structures.{value_at, with_value_at, inside}
+use Rattle.asl_rules.specs.runs.Plans.{Faulted, Good, Bad}
 use Rattle.asl_value.specs.declared.value.Value.{Value}
 use Rattle.asl_value.specs.declared.value.FieldValue.{FieldValue}
-use Rattle.asl_rules.specs.ByPlace.{Step, field_at, with_field_at, updated}
-use Rattle.asl_value.specs.Reaching.{index_in, put_into_fields, put_into_elements}
+use Rattle.asl_rules.specs.private.ByPlace.{Step, field_at, with_field_at, updated}
+use Rattle.asl_value.specs.private.Reaching.{index_in, put_into_fields, put_into_elements}
 use Rattle.asl_value.specs.View.{value_of, field_of, all_values, all_fields}
 use Rattle.asl_value.proofs.Elements.{value_past}
 

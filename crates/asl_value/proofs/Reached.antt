@@ -3,9 +3,9 @@ use Rattle.std.proofs.Common.{◌≡◌, ℕ, zero, suc, ◌+◌, ◌<◌, ◌�
 use Rattle.std.proofs.Math.Bool.{or_assoc, or-true}
 use Rattle.std.specs.Prelude.{◌||◌}
 use Rattle.std.specs.Str.{bytes_eq}
-use Rattle.asl_rules.specs.Types.{is_among, reaches}
+use Rattle.asl_rules.specs.types.Types.{is_among, reaches}
 use Rattle.asl_value.proofs.Among.{at_front, none_after}
-use Rattle.asl_value.specs.Supers.{joined}
+use Rattle.asl_value.specs.private.Supers.{joined}
 
 pub among_both : (name : List ℕ) (xs ys : List (List ℕ)) → is_among name (xs ++ ys) ≡ is_among name xs || is_among name ys
 among_both name [] ys = refl

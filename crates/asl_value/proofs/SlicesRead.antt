@@ -5,20 +5,20 @@ use Rattle.std.proofs.lemmas.Bool.Decides.{nat_tests}
 use Rattle.asl_syn.specs.declared.token.Span.{Span}
 use Rattle.asl_syn.specs.declared.code.DynCode.TheVariants.{D05}
 use Rattle.asl_bits.specs.declared.TheConstants.{WIDTH_LIMIT}
-use Rattle.asl_rules.specs.Pures.{◌>>=◌, there}
-use Rattle.asl_rules.specs.Plans.{Faulted, Stuck, WrongKind, Pure, Good, Bad}
-use Rattle.asl_rules.specs.Shapes as shapes
-use Rattle.asl_rules.specs.Values as values
-use Rattle.asl_rules.specs.Values.{Value}
-use Rattle.asl_rules.specs.Vectors as rules
-use Rattle.asl_rules.specs.Vectors.{Places, Sliced, by_one, by_two, sliced, slicings, first_slicing, ranged_width, widths_of, ends_within, places_of}
+use Rattle.asl_rules.specs.runs.Pures.{◌>>=◌, there}
+use Rattle.asl_rules.specs.runs.Plans.{Faulted, Stuck, WrongKind, Pure, Good, Bad}
+use Rattle.asl_rules.specs.types.Shapes as shapes
+use Rattle.asl_rules.specs.values.Values as values
+use Rattle.asl_rules.specs.values.Values.{Value}
+use Rattle.asl_rules.specs.values.Vectors as rules
+use Rattle.asl_rules.specs.values.Vectors.{Places, Sliced, by_one, by_two, sliced, slicings, first_slicing, ranged_width, widths_of, ends_within, places_of}
 use Rattle.asl_value.specs.declared.failure.Failure.{Failure}
 use Rattle.asl_value.specs.declared.failure.Failure.TheVariants as failure
 use Rattle.asl_value.specs.declared.slices.SliceShape.{SliceShape}
 use Rattle.asl_value.specs.declared.cuts.Slicing.{Slicing}
 use Rattle.asl_value.specs.declared.cuts.Wide.{Wide}
-use Rattle.asl_value.specs.Answers.{Is}
-use Rattle.asl_value.specs.Cutting.{low_of, breadth_of, slicing_of, wide_of, integer_first, two_first, near, near_start, near_low, all_near, near_places}
+use Rattle.asl_value.specs.private.Answers.{Is}
+use Rattle.asl_value.specs.private.Cutting.{low_of, breadth_of, slicing_of, wide_of, integer_first, two_first, near, near_start, near_low, all_near, near_places}
 use Rattle.asl_value.specs.View.{slice_of, all_slices}
 use Rattle.asl_value.proofs.Among.{at_front, none_after}
 

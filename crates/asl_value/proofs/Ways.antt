@@ -1,11 +1,11 @@
 -- Ways into tuples.
 use Rattle.std.proofs.Common.{◌≡◌, ℕ, suc, ◌+◌, ◌<◌, ◌≤◌, List, ◌∷◌, length, get_or, drop, Some, None, refl, ap, ◌∙◌, arith}
 use Rattle.asl_syn.specs.declared.token.Span.{Span}
-use Rattle.asl_rules.specs.Values as rules
-use Rattle.asl_rules.specs.Pures.{◌>>=◌, there}
-use Rattle.asl_rules.specs.Plans.{Stuck, WrongKind, Good, Bad}
-use Rattle.asl_rules.specs.ByPlace.{part_in}
-use Rattle.asl_value.specs.Reaching.{part_of_tuple}
+use Rattle.asl_rules.specs.values.Values as rules
+use Rattle.asl_rules.specs.runs.Pures.{◌>>=◌, there}
+use Rattle.asl_rules.specs.runs.Plans.{Stuck, WrongKind, Good, Bad}
+use Rattle.asl_rules.specs.private.ByPlace.{part_in}
+use Rattle.asl_value.specs.private.Reaching.{part_of_tuple}
 use Rattle.asl_value.proofs.Among.{none_after}
 use Rattle.std.proofs.Math.Seq.{drop-cons}
 

@@ -2,11 +2,11 @@
 ghost use Rattle.std.specs.Prelude.{◌≡◌, ◌+◌, ℕ, map, nat_le, option_map, pos, ◌+ℤ◌, ◌-ℤ◌};
 ghost use Rattle.asl_bits.specs.declared.TheConstants.{WIDTH_LIMIT};
 ghost use Rattle.asl_num.specs.Exact.{IsExact};
-ghost use Rattle.asl_rules.specs.Pures.{there};
-ghost use Rattle.asl_rules.specs.Shapes as shapes;
-ghost use Rattle.asl_rules.specs.Vectors as rules;
-ghost use Rattle.asl_value.specs.Answers.{Is};
-ghost use Rattle.asl_value.specs.Cutting.{low_of, breadth_of, slicing_of, wide_of, cut_of, integer_first, two_first, near, near_start, near_low, near_places, wides_read, places_read};
+ghost use Rattle.asl_rules.specs.runs.Pures.{there};
+ghost use Rattle.asl_rules.specs.types.Shapes as shapes;
+ghost use Rattle.asl_rules.specs.values.Vectors as rules;
+ghost use Rattle.asl_value.specs.private.Answers.{Is};
+ghost use Rattle.asl_value.specs.private.Cutting.{low_of, breadth_of, slicing_of, wide_of, cut_of, integer_first, two_first, near, near_start, near_low, near_places, wides_read, places_read};
 ghost use Rattle.asl_value.specs.View.{value_of, slice_of, all_slices};
 
 use crate::failure::Failure;

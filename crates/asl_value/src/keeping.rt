@@ -1,10 +1,10 @@
 //! What a place keeps of a value: the bitfields of the value that stood there, none, or those of its type; and whether kinds are the same.
 ghost use Rattle.std.specs.Prelude.{◌≡◌, ◌==◌, length, IfOk};
-ghost use Rattle.asl_rules.specs.Types.{kind_eq, kinds_eq};
-ghost use Rattle.asl_rules.specs.HoldsBits as bits;
-ghost use Rattle.asl_rules.specs.Values as values;
-ghost use Rattle.asl_rules.specs.Views as rules;
-ghost use Rattle.asl_value.specs.Keeping as keeping;
+ghost use Rattle.asl_rules.specs.types.Types.{kind_eq, kinds_eq};
+ghost use Rattle.asl_rules.specs.private.HoldsBits as bits;
+ghost use Rattle.asl_rules.specs.values.Values as values;
+ghost use Rattle.asl_rules.specs.types.Views as rules;
+ghost use Rattle.asl_value.specs.private.Keeping as keeping;
 ghost use Rattle.asl_value.specs.View.{kind_of, all_kinds, value_of, all_values};
 
 use crate::names::same_name;

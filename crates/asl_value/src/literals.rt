@@ -2,9 +2,9 @@
 ghost use Rattle.std.specs.Prelude.{◌≡◌, ◌==◌, ◌<◌, ◌≤◌, length, map, reverse, if◌then◌else◌, Ok, Some, None, IfOk};
 ghost use Rattle.asl_bits.specs.declared.TheConstants.{WIDTH_LIMIT};
 ghost use Rattle.asl_mask.specs.Digits.{mask_matches};
-ghost use Rattle.asl_rules.specs.Vectors as rules;
-ghost use Rattle.asl_value.specs.Answers.{Is};
-ghost use Rattle.asl_value.specs.Literals.{digit_byte};
+ghost use Rattle.asl_rules.specs.values.Vectors as rules;
+ghost use Rattle.asl_value.specs.private.Answers.{Is};
+ghost use Rattle.asl_value.specs.private.Literals.{digit_byte};
 ghost use Rattle.asl_quote.specs.Quotes.{content_digits};
 ghost use Rattle.asl_quote.specs.declared.QuoteState.TheVariants as at;
 ghost use Rattle.asl_value.specs.View.{value_of, digits_of};

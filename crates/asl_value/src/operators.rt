@@ -1,12 +1,12 @@
 //! Operators on values, and the values that literals stand for.
 ghost use Rattle.std.specs.Prelude.{◌≡◌, ◌≤◌, ◌==◌, ℤ, pos, ◌+ℤ◌, ◌-ℤ◌, if◌then◌else◌, length, IfOk};
 ghost use Rattle.asl_bits.specs.declared.TheConstants.{WIDTH_LIMIT};
-ghost use Rattle.asl_rules.specs.Forms.{literal as value_of_literal};
+ghost use Rattle.asl_rules.specs.runs.Forms.{literal as value_of_literal};
 ghost use Rattle.asl_bits.specs.Lists.{bits_value, int_bits};
-ghost use Rattle.asl_rules.specs.Operators as rules;
-ghost use Rattle.asl_rules.specs.Plans.{Stuck, WrongKind, Bad};
-ghost use Rattle.asl_value.specs.Answers.{Is};
-ghost use Rattle.asl_value.specs.Numbers.{answer_of, fault_code};
+ghost use Rattle.asl_rules.specs.values.Operators as rules;
+ghost use Rattle.asl_rules.specs.runs.Plans.{Stuck, WrongKind, Bad};
+ghost use Rattle.asl_value.specs.private.Answers.{Is};
+ghost use Rattle.asl_value.specs.private.Numbers.{answer_of, fault_code};
 ghost use Rattle.asl_value.specs.View.{value_of};
 
 use crate::failure::Failure;

@@ -1,11 +1,11 @@
 //! Parts of values, and values made of parts.
 ghost use Rattle.std.specs.Prelude.{◌≡◌, ◌<◌, length, map, option_map, IfOk, OnOk, IfSome};
-ghost use Rattle.asl_rules.specs.Structures as rules;
-ghost use Rattle.asl_rules.specs.Values.{int, array_with, tuple_with};
-ghost use Rattle.asl_value.specs.Answers.{Is};
-ghost use Rattle.asl_rules.specs.ByPlace as places;
-ghost use Rattle.asl_rules.specs.Pures.{there};
-ghost use Rattle.asl_value.specs.Reaching as reaching;
+ghost use Rattle.asl_rules.specs.values.Structures as rules;
+ghost use Rattle.asl_rules.specs.values.Values.{int, array_with, tuple_with};
+ghost use Rattle.asl_value.specs.private.Answers.{Is};
+ghost use Rattle.asl_rules.specs.private.ByPlace as places;
+ghost use Rattle.asl_rules.specs.runs.Pures.{there};
+ghost use Rattle.asl_value.specs.private.Reaching as reaching;
 ghost use Rattle.asl_value.specs.View.{kind_of, value_of, field_of, all_values, all_fields};
 
 use crate::failure::Failure;

@@ -3,7 +3,7 @@ ghost use Rattle.std.specs.Prelude.{◌≡◌, ◌+◌, ◌<◌, ◌≤◌, ◌+
 ghost use Rattle.asl_bits.specs.declared.TheConstants.{WIDTH_LIMIT};
 ghost use Rattle.asl_bits.specs.Lists.{slice_of, with_slice, int_bits};
 ghost use Rattle.asl_num.specs.Exact.{floor_div};
-ghost use Rattle.asl_rules.specs.Vectors as rules;
+ghost use Rattle.asl_rules.specs.values.Vectors as rules;
 
 use crate::operators::of_integer;
 use crate::views::BitField;
@@ -21,7 +21,7 @@ pub(crate) struct Places {
 impl Model for Places {
     ghost use Rattle.std.specs.Prelude.{◌+◌};
     ghost use Rattle.std.specs.Int.{from_bool};
-    ghost use Rattle.asl_rules.specs.Vectors.{Places};
+    ghost use Rattle.asl_rules.specs.values.Vectors.{Places};
 
     ghost Value = { Places };
 

@@ -1,13 +1,13 @@
 //! Parts of values replaced: in place where they have one owner, and else in a copy of their list, over the same parts.
 ghost use Rattle.std.specs.Prelude.{◌≡◌, ◌<◌, ◌∷◌, map, pos, length, IfOk, OnOk};
-ghost use Rattle.asl_rules.specs.Structures as rules;
-ghost use Rattle.asl_value.specs.Answers.{Is, Changes};
-ghost use Rattle.asl_value.specs.Forms.{all_steps};
+ghost use Rattle.asl_rules.specs.values.Structures as rules;
+ghost use Rattle.asl_value.specs.private.Answers.{Is, Changes};
+ghost use Rattle.asl_value.specs.private.Forms.{all_steps};
 ghost use Rattle.asl_bits.specs.declared.TheConstants.{WIDTH_LIMIT};
-ghost use Rattle.asl_rules.specs.ByPlace as places;
-ghost use Rattle.asl_rules.specs.Pures.{there};
-ghost use Rattle.asl_rules.specs.Views.{adopting};
-ghost use Rattle.asl_value.specs.Reaching.{put_into_fields, put_into_elements, Reaches};
+ghost use Rattle.asl_rules.specs.private.ByPlace as places;
+ghost use Rattle.asl_rules.specs.runs.Pures.{there};
+ghost use Rattle.asl_rules.specs.types.Views.{adopting};
+ghost use Rattle.asl_value.specs.private.Reaching.{put_into_fields, put_into_elements, Reaches};
 ghost use Rattle.asl_value.specs.View.{value_of, field_of, all_values, all_fields, all_slices};
 
 use crate::failure::Failure;

@@ -1,9 +1,9 @@
 //! Slices of bits and of integers.
 ghost use Rattle.std.specs.Prelude.{◌≤◌, length, map, IfOk, Some, None};
 ghost use Rattle.asl_bits.specs.declared.TheConstants.{WIDTH_LIMIT};
-ghost use Rattle.asl_rules.specs.Vectors as rules;
-ghost use Rattle.asl_value.specs.Answers.{Is};
-ghost use Rattle.asl_value.specs.Cutting.{near_places, bits_sliced, integer_sliced};
+ghost use Rattle.asl_rules.specs.values.Vectors as rules;
+ghost use Rattle.asl_value.specs.private.Answers.{Is};
+ghost use Rattle.asl_value.specs.private.Cutting.{near_places, bits_sliced, integer_sliced};
 ghost use Rattle.asl_value.specs.View.{value_of, all_slices};
 
 use crate::cuts::places_in;

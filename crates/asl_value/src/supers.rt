@@ -5,8 +5,8 @@
 //! the logarithm of the number of names: a name is put in front of a list, and one is found by its place, in a time that
 //! grows with that alone, and no walk and no drop goes deeper.
 ghost use Rattle.std.specs.Prelude.{◌≡◌, true, [], ◌∷◌, ◌++◌, ◌≤◌, drop, length, min, IfOk, IsTrue};
-ghost use Rattle.asl_rules.specs.Types as rules;
-ghost use Rattle.asl_value.specs.Supers.{joined};
+ghost use Rattle.asl_rules.specs.types.Types as rules;
+ghost use Rattle.asl_value.specs.private.Supers.{joined};
 
 use crate::names::same_name;
 use crate::value::Name;
@@ -38,7 +38,7 @@ impl Model for Branch {
 
     ghost Value = { List (List ℕ) };
 
-    ghost use Rattle.asl_value.specs.Supers.{names_below};
+    ghost use Rattle.asl_value.specs.private.Supers.{names_below};
 
     ghost view = { λ b. b.name ∷ names_below b.below };
 
@@ -46,7 +46,7 @@ impl Model for Branch {
 
     ghost size = { length };
 
-    ghost use Rattle.asl_value.specs.SupersFall.{less_below};
+    ghost use Rattle.asl_value.specs.private.SupersFall.{less_below};
 
     ghost size_decreases = { λ b h. less_below b.below };
 }
@@ -131,7 +131,7 @@ pub struct Supers {
 
 impl Model for Supers {
     ghost use Rattle.std.specs.Prelude.{List, ℕ};
-    ghost use Rattle.asl_value.specs.Supers.{joined};
+    ghost use Rattle.asl_value.specs.private.Supers.{joined};
 
     ghost Value = { List (List ℕ) };
 

@@ -1,9 +1,9 @@
 //! Bits with bitfields, one or several taken together: read, and written.
 ghost use Rattle.std.specs.Prelude.{◌≡◌, ◌≤◌, IfOk};
 ghost use Rattle.asl_bits.specs.declared.TheConstants.{WIDTH_LIMIT};
-ghost use Rattle.asl_rules.specs.Vectors as rules;
-ghost use Rattle.asl_value.specs.Answers.{Is};
-ghost use Rattle.asl_value.specs.Fields.{filled};
+ghost use Rattle.asl_rules.specs.values.Vectors as rules;
+ghost use Rattle.asl_value.specs.private.Answers.{Is};
+ghost use Rattle.asl_value.specs.private.Fields.{filled};
 ghost use Rattle.asl_value.specs.View.{view_of, value_of};
 
 use crate::failure::Failure;

@@ -19,7 +19,7 @@ pub struct BitField {
 }
 
 impl Model for BitField {
-    ghost use Rattle.asl_rules.specs.Types.{BitField};
+    ghost use Rattle.asl_rules.specs.types.Types.{BitField};
 
     ghost Value = { BitField };
 

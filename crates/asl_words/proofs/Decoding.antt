@@ -9,25 +9,25 @@ use Rattle.std.proofs.lemmas.Option.{slice_get-map, slice_get_past, slice_get_re
 use Rattle.asl_bits.specs.Lists.{bits_of}
 use Rattle.asl_syn.specs.declared.code.Fault.{Fault}
 use Rattle.asl_rules.specs.declared.entry.Entry.TheVariants.{Decode}
-use Rattle.asl_rules.specs.Agreement.{types_in, no_atoms}
-use Rattle.asl_rules.specs.Belonging.{Belong, has_type}
-use Rattle.asl_rules.specs.ByPlace.{seen_as}
-use Rattle.asl_rules.specs.Closed.{type_with}
-use Rattle.asl_rules.specs.Programs.{verdict, Accepted, accepted}
-use Rattle.asl_rules.specs.Scopes.{Signature}
+use Rattle.asl_rules.specs.private.Agreement.{types_in, no_atoms}
+use Rattle.asl_rules.specs.private.Belonging.{Belong, has_type}
+use Rattle.asl_rules.specs.private.ByPlace.{seen_as}
+use Rattle.asl_rules.specs.types.Closed.{type_with}
+use Rattle.asl_rules.specs.declarations.Programs.{verdict, Accepted, accepted}
+use Rattle.asl_rules.specs.declarations.Scopes.{Signature}
 use Rattle.asl_rules.specs.Tests.{Tests}
-use Rattle.asl_rules.specs.Types.{Ty, Parts, no_part, part}
-use Rattle.asl_rules.specs.Values.{Value}
-use Rattle.asl_rules.specs.Views.{viewed}
-use Rattle.asl_rules.specs.Words.{word_value}
+use Rattle.asl_rules.specs.types.Types.{Ty, Parts, no_part, part}
+use Rattle.asl_rules.specs.values.Values.{Value}
+use Rattle.asl_rules.specs.types.Views.{viewed}
+use Rattle.asl_rules.specs.runs.Words.{word_value}
 use Rattle.asl_rules.proofs.basics.Inversions.{ok_ok, err_ok}
 use Rattle.asl_rules.proofs.basics.Tests.{some_same, none_some}
-use Rattle.asl_rules.proofs.soundness.SoundnessFacts.{facts_of}
+use Rattle.asl_laws.proofs.soundness.SoundnessFacts.{facts_of}
 use Rattle.asl_rules.proofs.values.Bare.{viewed_built}
 use Rattle.asl_rules.proofs.values.Constructs.{seen_is}
 use Rattle.asl_rules.proofs.values.Viewing.{viewed_twice}
-use Rattle.asl_types.specs.Codes.{parts_code}
-use Rattle.asl_types.specs.EntryCodes.{param_code}
+use Rattle.asl_types.specs.private.Codes.{parts_code}
+use Rattle.asl_types.specs.private.EntryCodes.{param_code}
 use Rattle.asl_types.specs.Suits.{Suits}
 use Rattle.asl_tree.specs.Acts.{func_of, all_funcs}
 use Rattle.asl_tree.specs.Sealed.{Sealed, IsMade, IsSealed}
@@ -37,7 +37,7 @@ use Rattle.asl_value.specs.View.{value_of}
 use Rattle.asl_value.specs.declared.value.Value.{Value as Given}
 use Rattle.asl_machine.specs.Work.{IsCallable}
 use Rattle.asl_machine.proofs.Entries.{some_suits}
-use Rattle.asl_words.specs.Runs.{IsWord}
+use Rattle.asl_words.specs.private.Runs.{IsWord}
 use Rattle.asl_words.proofs.Formals.{DecodeFormal, decode_formal, decode_there, word_width}
 
 -- ---- a place of a list

@@ -7,27 +7,27 @@ use Rattle.asl_bits.specs.Lists.{bits_of}
 use Rattle.asl_bits.proofs.Lists.{length-bits_of}
 use Rattle.asl_rules.specs.declared.entry.Entry.TheVariants as entry
 use Rattle.asl_rules.specs.declared.effect.Effect.TheVariants.{Pure}
-use Rattle.asl_rules.specs.Acting.{in_order}
-use Rattle.asl_rules.specs.Agreement.{types_in, no_atoms}
-use Rattle.asl_rules.specs.Belonging.{InType, Belong}
-use Rattle.asl_rules.specs.Closed.{type_with}
-use Rattle.asl_rules.specs.Declarations.{names_of_program}
-use Rattle.asl_rules.specs.Evaluation.{initial_globals}
+use Rattle.asl_rules.specs.statements.Acting.{in_order}
+use Rattle.asl_rules.specs.private.Agreement.{types_in, no_atoms}
+use Rattle.asl_rules.specs.private.Belonging.{InType, Belong}
+use Rattle.asl_rules.specs.types.Closed.{type_with}
+use Rattle.asl_rules.specs.declarations.Declarations.{names_of_program}
+use Rattle.asl_rules.specs.runs.Evaluation.{initial_globals}
 use Rattle.asl_rules.specs.Faults.{need, fault_of}
-use Rattle.asl_rules.specs.Grown.{AreGrown}
-use Rattle.asl_rules.specs.Programs.{funcs_of, Head, may_end, body_of, tree_func, body_rule, signatures, types_in as list_types, verdict, Accepted, environment, entry_rule, entry_found, entry_from, is_decode, origin}
-use Rattle.asl_rules.specs.Scopes.{Signature}
-use Rattle.asl_rules.specs.Stmts.{found_stmt}
+use Rattle.asl_rules.specs.private.Grown.{AreGrown}
+use Rattle.asl_rules.specs.declarations.Programs.{funcs_of, Head, may_end, body_of, tree_func, body_rule, signatures, types_in as list_types, verdict, Accepted, environment, entry_rule, entry_found, entry_from, is_decode, origin}
+use Rattle.asl_rules.specs.declarations.Scopes.{Signature}
+use Rattle.asl_rules.specs.statements.Stmts.{found_stmt}
 use Rattle.asl_rules.specs.Tests.{Tests, IsRight}
-use Rattle.asl_rules.specs.Trees.{TreeFunc}
-use Rattle.asl_rules.specs.Types.{Ty, Parts, no_part, part}
-use Rattle.asl_rules.specs.Values.{bits_with}
-use Rattle.asl_rules.specs.Views.{viewed}
+use Rattle.asl_rules.specs.runs.Trees.{TreeFunc}
+use Rattle.asl_rules.specs.types.Types.{Ty, Parts, no_part, part}
+use Rattle.asl_rules.specs.values.Values.{bits_with}
+use Rattle.asl_rules.specs.types.Views.{viewed}
 use Rattle.asl_rules.proofs.basics.Inversions.{ok_ok, err_ok, bind_ok, then_ok}
 use Rattle.asl_rules.proofs.basics.Tests.{some_same, some_none}
-use Rattle.asl_rules.proofs.soundness.Soundness.{soundness}
-use Rattle.asl_rules.proofs.soundness.SoundnessEntry.{word_for, decode_call}
-use Rattle.asl_rules.proofs.soundness.SoundnessFacts.{Facts, facts_of, numbered}
+use Rattle.asl_laws.proofs.soundness.Soundness.{soundness}
+use Rattle.asl_laws.proofs.soundness.SoundnessEntry.{word_for, decode_call}
+use Rattle.asl_laws.proofs.soundness.SoundnessFacts.{Facts, facts_of, numbered}
 
 -- a tree has the formals of its signature
 formals_of_tree : (t : Tests) (subs : List Signature) (h : Head) (f : TreeFunc) → body_rule t subs h ≡ Ok f → f.formals ≡ list_types h.signature.formals

@@ -7,9 +7,9 @@ use Rattle.std.proofs.lemmas.Bool.{cases_lt}
 use Rattle.std.proofs.lemmas.List.{append_assoc, append-nil, drop_all, length-drop, length_push, take_all}
 use Rattle.std.proofs.lemmas.List.Splits.{slice_split_first, slice_split_none}
 use Rattle.std.proofs.lemmas.List.Sums.{fails_before_first, position_or_len_is}
-use Rattle.asl_rules.specs.WordList.{ListFault, fault_of, is_line_end, is_passed_over, without_end, words_read, words_unless}
-use Rattle.asl_words.specs.Steps.{pushed, with_line, word_unless}
-use Rattle.asl_words.specs.Faults.{Says}
+use Rattle.asl_rules.specs.report.WordList.{ListFault, fault_of, is_line_end, is_passed_over, without_end, words_read, words_unless}
+use Rattle.asl_words.specs.private.Steps.{pushed, with_line, word_unless}
+use Rattle.asl_words.specs.private.Faults.{Says}
 use Rattle.asl_words.specs.declared.WordFault.{WordFault}
 use Rattle.asl_words.specs.declared.WordFault.TheVariants.{Length, Digit, TooMany, NoMemory}
 

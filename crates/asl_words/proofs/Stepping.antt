@@ -2,18 +2,18 @@
 use Rattle.std.proofs.Common.{◌≡◌, ℕ, ◌+◌, ◌<◌, true, false, List, [], ◌∷◌, ◌++◌, take, drop, get_or, length, ◌⊎◌, inl, inr, Option, Some, Result, Ok, Err, refl, sym, ap, ◌∙◌, subst}
 use Rattle.std.specs.Prelude.{IfOk, OnErr}
 use Rattle.std.proofs.lemmas.List.{drop_more, take-append-drop, take_more}
-use Rattle.asl_rules.specs.Machines.{GivenUp, run_of}
-use Rattle.asl_rules.specs.Plans.{Meter, Outcome, Faulted, final, starting}
-use Rattle.asl_rules.specs.Programs.{Environment, environment}
-use Rattle.asl_rules.specs.States.{Binding, Core}
+use Rattle.asl_rules.specs.runs.Machines.{GivenUp, run_of}
+use Rattle.asl_rules.specs.runs.Plans.{Meter, Outcome, Faulted, final, starting}
+use Rattle.asl_rules.specs.declarations.Programs.{Environment, environment}
+use Rattle.asl_rules.specs.runs.States.{Binding, Core}
 use Rattle.asl_rules.specs.Tests.{Tests}
 use Rattle.asl_bits.specs.Lists.{bits_of}
 use Rattle.asl_io.specs.Told.{TakesPrefix}
-use Rattle.asl_rules.specs.Told.{Begins, Part, appended}
-use Rattle.asl_rules.specs.Values as rules
-use Rattle.asl_rules.specs.Words.{WordsEnd, AllReturned, WordHalted, behind_word, run_words, word_line, word_value, words_final}
-use Rattle.asl_rules.proofs.runs.Budget.{same_text, longer, taken_after, taken_before}
-use Rattle.asl_rules.proofs.runs.WordRuns.{words_after, run_viewed}
+use Rattle.asl_rules.specs.runs.Told.{Begins, Part, appended}
+use Rattle.asl_rules.specs.values.Values as rules
+use Rattle.asl_rules.specs.runs.Words.{WordsEnd, AllReturned, WordHalted, behind_word, run_words, word_line, word_value, words_final}
+use Rattle.asl_laws.proofs.runs.Budget.{same_text, longer, taken_after, taken_before}
+use Rattle.asl_laws.proofs.runs.WordRuns.{words_after, run_viewed}
 use Rattle.asl_tree.specs.Sealed.{Sealed}
 use Rattle.asl_types.specs.Suits.{Suits}
 use Rattle.asl_machine.specs.declared.stage.Outcome.{Outcome as Answer}
@@ -24,7 +24,7 @@ use Rattle.asl_machine.specs.declared.stage.Stage.TheVariants as stage
 use Rattle.asl_machine.specs.Stages.{Ends, is_ready, OnReady, answer_of, Counted}
 use Rattle.asl_machine.specs.Work.{Work, EndsWith, globals_of, run_with, text_with}
 use Rattle.asl_words.specs.declared.running.ExecEnd.TheVariants as end
-use Rattle.asl_words.specs.Runs.{Between, EndsWords, LeavesWords, IsWord, StandsBefore, end_of, meter_of, words_by, words_with}
+use Rattle.asl_words.specs.private.Runs.{Between, EndsWords, LeavesWords, IsWord, StandsBefore, end_of, meter_of, words_by, words_with}
 use Rattle.asl_words.proofs.WordTexts.{called_with, held_before, words_next, one_told, line_first, fewer_words, words_behind_returned}
 
 -- ---- what the answer of a call says of where the machine stands

@@ -5,8 +5,8 @@ use Rattle.asl_bits.specs.Answers.{OfWidth}
 use Rattle.asl_bits.specs.Lists.{bits_of, int_bits}
 use Rattle.asl_bits.specs.declared.BitsRefused.{BitsRefused}
 use Rattle.asl_bits.proofs.Lists.{low_bits}
-use Rattle.asl_rules.specs.Values.{bits_with}
-use Rattle.asl_rules.specs.Words as rules
+use Rattle.asl_rules.specs.values.Values.{bits_with}
+use Rattle.asl_rules.specs.runs.Words as rules
 use Rattle.asl_value.specs.View.{value_of}
 use Rattle.asl_value.specs.declared.value.Value.{Value}
 

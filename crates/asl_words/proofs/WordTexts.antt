@@ -1,14 +1,14 @@
 -- The text of a run over words: it begins with what stood before it, and with that of fewer words.
 use Rattle.std.proofs.Common.{◌≡◌, ℕ, zero, suc, ◌-◌, ◌<◌, List, [], ◌∷◌, ◌++◌, Option, refl, sym, ap, ◌∙◌, subst, arith}
-use Rattle.asl_rules.specs.Machines.{GivenUp, run_of, text_of_run}
-use Rattle.asl_rules.specs.Plans.{Meter, Outcome, Done, Thrown, Halt, final, starting}
-use Rattle.asl_rules.specs.Programs.{Environment}
-use Rattle.asl_rules.specs.States.{Binding, Core}
-use Rattle.asl_rules.specs.Told.{Begins, appended}
-use Rattle.asl_rules.specs.Values.{Value}
-use Rattle.asl_rules.specs.Words.{WordsEnd, AllReturned, WordThrew, WordHalted, behind_word, run_words, word_line, word_value, words_final}
-use Rattle.asl_rules.proofs.runs.Budget.{same_text, longer}
-use Rattle.asl_rules.proofs.runs.WordRuns.{behind_words, words_behind_words, run_of_after, words_after, line_starts}
+use Rattle.asl_rules.specs.runs.Machines.{GivenUp, run_of, text_of_run}
+use Rattle.asl_rules.specs.runs.Plans.{Meter, Outcome, Done, Thrown, Halt, final, starting}
+use Rattle.asl_rules.specs.declarations.Programs.{Environment}
+use Rattle.asl_rules.specs.runs.States.{Binding, Core}
+use Rattle.asl_rules.specs.runs.Told.{Begins, appended}
+use Rattle.asl_rules.specs.values.Values.{Value}
+use Rattle.asl_rules.specs.runs.Words.{WordsEnd, AllReturned, WordThrew, WordHalted, behind_word, run_words, word_line, word_value, words_final}
+use Rattle.asl_laws.proofs.runs.Budget.{same_text, longer}
+use Rattle.asl_laws.proofs.runs.WordRuns.{behind_words, words_behind_words, run_of_after, words_after, line_starts}
 
 -- ---- a call that was given up
 

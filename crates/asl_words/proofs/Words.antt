@@ -11,8 +11,8 @@ use Rattle.hex.proofs.HexLemmas.{IsOk-decode_sized, decode_of-even, decode_pairs
 use Rattle.hex.specs.Hex.{decode_pairs, decode_sized, digit_or_error, hex_digit_value, is_hex_digit, ◌>>=◌}
 use Rattle.hex.specs.declared.error.FromHexError.{FromHexError}
 use Rattle.asl_syn.specs.declared.code.StaticCode.TheVariants.{N02, N03}
-use Rattle.asl_rules.specs.WordList.{is_digit}
-use Rattle.asl_words.specs.Steps.{word_of}
+use Rattle.asl_rules.specs.report.WordList.{is_digit}
+use Rattle.asl_words.specs.private.Steps.{word_of}
 
 -- both crates have the same digits
 is_hex_digit-is : (c : ℕ) → is_hex_digit c ≡ is_digit c

@@ -1,3 +1,1 @@
-pub mod Faults
-pub mod Steps
-pub mod Runs
+pub mod private

@@ -9,9 +9,9 @@ mod running;
 
 ghost use Rattle.std.specs.Prelude.{◌≡◌, ◌<◌, ◌≤◌, IfErr, IfOk, Ok, Err, length, OnOk, vec_len};
 ghost use Rattle.std.specs.List.{after_first, before_first};
-ghost use Rattle.asl_rules.specs.WordList.{is_dropped, is_line_end, is_passed_over, without_end, words_read};
-ghost use Rattle.asl_words.specs.Faults.{Says};
-ghost use Rattle.asl_words.specs.Steps.{with_line, word_of};
+ghost use Rattle.asl_rules.specs.report.WordList.{is_dropped, is_line_end, is_passed_over, without_end, words_read};
+ghost use Rattle.asl_words.specs.private.Faults.{Says};
+ghost use Rattle.asl_words.specs.private.Steps.{with_line, word_of};
 
 use hex::FromHex;
 pub use running::{ExecEnd, exec};

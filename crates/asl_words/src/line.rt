@@ -2,8 +2,8 @@
 ghost use Rattle.std.specs.Prelude.{◌≡◌, ◌≤◌, ◌<◌, ◌++◌, [], MatchResult, OnErr, OnOk, codes, if◌then◌else◌};
 ghost use Rattle.asl_io.specs.Faults.{Rises};
 ghost use Rattle.asl_io.specs.Told.{Takes, TakesPrefix};
-ghost use Rattle.asl_rules.specs.Texts.{line_feed};
-ghost use Rattle.asl_rules.specs.Words.{digit_text, digits_text, word_line};
+ghost use Rattle.asl_rules.specs.report.Texts.{line_feed};
+ghost use Rattle.asl_rules.specs.runs.Words.{digit_text, digits_text, word_line};
 
 use asl_io::{Sink, SinkFault, put_all};
 

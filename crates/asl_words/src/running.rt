@@ -1,20 +1,20 @@
 //! Runs over instruction words.
 ghost use Rattle.std.specs.Prelude.{◌≡◌, ◌≤◌, ◌⊎◌, ◌∷◌, [], Ok, Some, true, map, IfErr, IfOk, MatchResult, OnErr, length};
 ghost use Rattle.asl_rules.specs.declared.entry.Entry.TheVariants.{Decode};
-ghost use Rattle.asl_rules.specs.Machines.{run_of};
-ghost use Rattle.asl_rules.specs.Plans.{starting};
-ghost use Rattle.asl_rules.specs.Programs.{environment};
+ghost use Rattle.asl_rules.specs.runs.Machines.{run_of};
+ghost use Rattle.asl_rules.specs.runs.Plans.{starting};
+ghost use Rattle.asl_rules.specs.declarations.Programs.{environment};
 ghost use Rattle.asl_rules.specs.Tests.{Tests};
-ghost use Rattle.asl_rules.specs.Told.{appended};
-ghost use Rattle.asl_rules.specs.Words.{word_line, words_final};
-ghost use Rattle.asl_rules.specs.Values as given;
-ghost use Rattle.asl_rules.specs.Words as rules;
+ghost use Rattle.asl_rules.specs.runs.Told.{appended};
+ghost use Rattle.asl_rules.specs.runs.Words.{word_line, words_final};
+ghost use Rattle.asl_rules.specs.values.Values as given;
+ghost use Rattle.asl_rules.specs.runs.Words as rules;
 ghost use Rattle.asl_types.specs.Suits.{Suits};
 ghost use Rattle.asl_value.specs.View.{value_of};
 ghost use Rattle.asl_machine.specs.declared.stage.Stage.TheVariants as stage;
 ghost use Rattle.asl_machine.specs.Stages.{answer_of, is_ready, Counted};
 ghost use Rattle.asl_machine.specs.Work.{EndsWith, IsCallable, globals_of};
-ghost use Rattle.asl_words.specs.Runs.{Between, IsWord, LeavesWords, StandsBefore, end_of, words_with};
+ghost use Rattle.asl_words.specs.private.Runs.{Between, IsWord, LeavesWords, StandsBefore, end_of, words_with};
 
 use crate::MOST_WORDS;
 use crate::line::put_line;

@@ -6,13 +6,13 @@ use Rattle.asl_syn.specs.declared.code.Fault.{Fault}
 use Rattle.asl_syn.specs.declared.code.StaticCode.TheVariants.{T20}
 use Rattle.asl_syn.specs.declared.tree.ConstraintPart.{ConstraintPart}
 use Rattle.asl_rules.specs.Faults.{◌>>=◌, ◌>>◌, need}
-use Rattle.asl_rules.specs.Shapes as shape
-use Rattle.asl_rules.specs.Types.{integer_of}
-use Rattle.asl_rules.specs.Scopes.{Scope}
+use Rattle.asl_rules.specs.types.Shapes as shape
+use Rattle.asl_rules.specs.types.Types.{integer_of}
+use Rattle.asl_rules.specs.declarations.Scopes.{Scope}
 use Rattle.asl_rules.specs.Tests.{Tests}
-use Rattle.asl_rules.specs.Writing.{Written, WrittenPart, all_parts, parts_written, part_shapes, part_trees, integer_written, written_as, most_parts}
+use Rattle.asl_rules.specs.types.Writing.{Written, WrittenPart, all_parts, parts_written, part_shapes, part_trees, integer_written, written_as, most_parts}
 use Rattle.asl_types.proofs.Rest.{at_next}
-use Rattle.asl_written.specs.Constraints.{found_part, found_parts, Gathered, with_parts, none_gathered, gathered, behind_parts, integer_from}
+use Rattle.asl_written.specs.private.Constraints.{found_part, found_parts, Gathered, with_parts, none_gathered, gathered, behind_parts, integer_from}
 
 abbrev Found : Type 0
 Found = Result (List WrittenPart) Fault

@@ -9,19 +9,19 @@ use Rattle.asl_syn.specs.declared.tree.Bitfield.{Bitfield}
 use Rattle.asl_poly.specs.Terms.{Polynomial, Summand}
 use Rattle.asl_poly.specs.Poly.{IsPolynomial, constant_value}
 use Rattle.asl_rules.specs.Faults.{◌>>=◌, ◌>>◌, need, found_or}
-use Rattle.asl_rules.specs.Scopes.{Scope}
-use Rattle.asl_rules.specs.Shapes as shape
+use Rattle.asl_rules.specs.declarations.Scopes.{Scope}
+use Rattle.asl_rules.specs.types.Shapes as shape
 use Rattle.asl_rules.specs.Tests.{Tests}
-use Rattle.asl_rules.specs.Trees.{Tree}
-use Rattle.asl_rules.specs.Types.{View, BitField, bits_of}
-use Rattle.asl_rules.specs.Widths.{weight_of}
-use Rattle.asl_rules.specs.Typing.{Found, Width}
-use Rattle.asl_rules.specs.Writing.{FoundBitfield, bits_rule, Written, WrittenField, Numbered, all_fields, field_shapes, field_trees, all_numbered, all_placed, placed, names_once, view_rule, bits_written, within_limits, written_as}
+use Rattle.asl_rules.specs.runs.Trees.{Tree}
+use Rattle.asl_rules.specs.types.Types.{View, BitField, bits_of}
+use Rattle.asl_rules.specs.types.Widths.{weight_of}
+use Rattle.asl_rules.specs.expressions.Typing.{Found, Width}
+use Rattle.asl_rules.specs.types.Writing.{FoundBitfield, bits_rule, Written, WrittenField, Numbered, all_fields, field_shapes, field_trees, all_numbered, all_placed, placed, names_once, view_rule, bits_written, within_limits, written_as}
 use Rattle.asl_types.proofs.Rest.{at_next}
 use Rattle.asl_written.proofs.ConstraintLemmas.{append_none}
 use Rattle.asl_written.specs.declared.written_fields.FieldEnds.{FieldEnds}
 use Rattle.asl_written.specs.declared.written_fields.FieldNumbers.{FieldNumbers}
-use Rattle.asl_written.specs.WrittenFields.{found_bitfield, found_bitfields, ends_seen, field_seen, FieldsSeen, no_fields, with_field, with_fields, fields_seen, FieldSeen, behind_fields, numbered_as, all_numbers, ends_numbered, numbered_from, behind_numbers, behind_places, placed_all, view_from, bits_from}
+use Rattle.asl_written.specs.private.WrittenFields.{found_bitfield, found_bitfields, ends_seen, field_seen, FieldsSeen, no_fields, with_field, with_fields, fields_seen, FieldSeen, behind_fields, numbered_as, all_numbers, ends_numbered, numbered_from, behind_numbers, behind_places, placed_all, view_from, bits_from}
 
 ok_ok : {A : Type 0} (x y : A) → (let o : Result A Fault = Ok x in o) ≡ Ok y → x ≡ y
 ok_ok x y e = cc e

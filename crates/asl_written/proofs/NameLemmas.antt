@@ -3,11 +3,11 @@ use Rattle.std.proofs.Common.{◌≡◌, ℕ, ◌+◌, ◌<◌, ◌≤◌, Bool,
 use Rattle.std.proofs.lemmas.List.{drop_all, map_push}
 use Rattle.std.specs.Prelude.{is_some}
 use Rattle.std.specs.Str.{bytes_eq}
-use Rattle.asl_rules.specs.Members.{has_name}
-use Rattle.asl_rules.specs.Types.{BitField}
-use Rattle.asl_rules.specs.Writing.{names_once}
+use Rattle.asl_rules.specs.values.Members.{has_name}
+use Rattle.asl_rules.specs.types.Types.{BitField}
+use Rattle.asl_rules.specs.types.Writing.{names_once}
 use Rattle.asl_types.proofs.Rest.{at_next}
-use Rattle.asl_names.specs.Firsts.{Places, first_place, kept, kept_by}
+use Rattle.asl_names.specs.private.Firsts.{Places, first_place, kept, kept_by}
 use Rattle.asl_names.proofs.FirstLemmas.{same_test}
 
 abbrev pub names_of : Places → List (List ℕ)

@@ -7,25 +7,25 @@ use Rattle.asl_syn.specs.declared.tree.TypeExpr.{TypeExpr, out-TypeExpr}
 use Rattle.asl_syn.specs.declared.tree.Bitfield.TheOpen as ex
 use Rattle.asl_syn.specs.declared.tree.Bitfield.TheFolds.{fold_out-TypeExpr}
 use Rattle.asl_syn.specs.Layers.{TypeLayer}
-use Rattle.asl_rules.specs.Exprs.{FoundField, written, found_type, bitfield_rule, part_rule, expr_rule, given_rule, pattern_rule, slice_rule, type_rule}
+use Rattle.asl_rules.specs.expressions.Exprs.{FoundField, written, found_type, bitfield_rule, part_rule, expr_rule, given_rule, pattern_rule, slice_rule, type_rule}
 use Rattle.asl_rules.specs.Faults.{◌>>=◌, found_or}
-use Rattle.asl_rules.specs.Patterns.{FoundPattern}
-use Rattle.asl_rules.specs.Scopes.{Scope, type_of_name}
-use Rattle.asl_rules.specs.Slicing.{FoundSlice}
+use Rattle.asl_rules.specs.expressions.Patterns.{FoundPattern}
+use Rattle.asl_rules.specs.declarations.Scopes.{Scope, type_of_name}
+use Rattle.asl_rules.specs.expressions.Slicing.{FoundSlice}
 use Rattle.asl_rules.specs.Tests.{Tests}
-use Rattle.asl_rules.specs.Types.{Ty, part, integer_of}
-use Rattle.asl_rules.specs.Typing.{Found}
-use Rattle.asl_rules.specs.Writing.{Written, FoundPart, FoundBitfield, FoundType, types_in_order, types_written, named_written}
+use Rattle.asl_rules.specs.types.Types.{Ty, part, integer_of}
+use Rattle.asl_rules.specs.expressions.Typing.{Found}
+use Rattle.asl_rules.specs.types.Writing.{Written, FoundPart, FoundBitfield, FoundType, types_in_order, types_written, named_written}
 use Rattle.asl_rules.proofs.basics.Inversions.{ok_ok, bind_ok, then_ok}
 use Rattle.asl_rules.proofs.basics.Opening.{type_opened}
 use Rattle.asl_rules.proofs.basics.Tests.{no, some_none, some_same, both, either, same_name}
 use Rattle.asl_rules.proofs.verdict.SomeTests.{some_tests}
 use Rattle.asl_bits.specs.declared.TheConstants.{WIDTH_LIMIT}
-use Rattle.asl_types.specs.Alike.{AllAre, Alike, IsAlike}
+use Rattle.asl_types.specs.private.Alike.{AllAre, Alike, IsAlike}
 use Rattle.asl_types.specs.Suits.{Suits}
 use Rattle.asl_types.specs.View.{parts_of}
-use Rattle.asl_written.specs.OneType.{name_in_layer, name_in, has_none, whole_layer, is_whole, same_names, is_like, are_like, is_one_type}
-use Rattle.asl_written.specs.WrittenTypes.{found_types, TypesSeen, no_types, all_ty, with_types}
+use Rattle.asl_written.specs.private.OneType.{name_in_layer, name_in, has_none, whole_layer, is_whole, same_names, is_like, are_like, is_one_type}
+use Rattle.asl_written.specs.private.WrittenTypes.{found_types, TypesSeen, no_types, all_ty, with_types}
 
 module _ (t : Tests) (outside : Bool) (G : Scope) where
   judged : (w : TypeExpr) → written t w outside G ≡ (type_rule t (type_opened t (out-TypeExpr w))).ty outside G

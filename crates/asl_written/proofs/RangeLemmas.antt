@@ -5,11 +5,11 @@ use Rattle.asl_syn.specs.declared.code.Fault.{Fault}
 use Rattle.asl_syn.specs.declared.code.Refused.{Refused}
 use Rattle.asl_syn.specs.declared.code.Refused.TheVariants.{At}
 use Rattle.asl_cons.specs.declared.Part.{Part}
-use Rattle.asl_rules.specs.Branches.{of_range}
-use Rattle.asl_rules.specs.Types.{Ty, integer_of}
-use Rattle.asl_rules.specs.Writing.{WrittenPart}
-use Rattle.asl_types.specs.Answers.{Met}
-use Rattle.asl_written.specs.Constraints.{part_view}
+use Rattle.asl_rules.specs.statements.Branches.{of_range}
+use Rattle.asl_rules.specs.types.Types.{Ty, integer_of}
+use Rattle.asl_rules.specs.types.Writing.{WrittenPart}
+use Rattle.asl_types.specs.private.Answers.{Met}
+use Rattle.asl_written.specs.private.Constraints.{part_view}
 use Rattle.asl_written.specs.declared.constraints.PartWritten.{PartWritten}
 
 pub range_none : {E : Type 0} (result : Result PartWritten Refused) (f : Fault) (r : Result WrittenPart Fault) → result ≡ Err (At f) → Met part_view result r → (o : Result Ty E) (ps : List Part) → ps ≡ [] → IfOk o (λ ty. ty ≡ integer_of ps) → IfOk o (λ ty. ty ≡ of_range r)

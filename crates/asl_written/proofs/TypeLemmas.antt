@@ -5,19 +5,19 @@ use Rattle.asl_syn.specs.declared.token.Span.{Span}
 use Rattle.asl_syn.specs.declared.code.Fault.{Fault}
 use Rattle.asl_syn.specs.declared.tree.TypeExpr.{TypeExpr}
 use Rattle.asl_rules.specs.Faults.{◌>>=◌}
-use Rattle.asl_rules.specs.Scopes.{Scope}
-use Rattle.asl_rules.specs.Shapes as shape
+use Rattle.asl_rules.specs.declarations.Scopes.{Scope}
+use Rattle.asl_rules.specs.types.Shapes as shape
 use Rattle.asl_rules.specs.Tests.{Tests}
-use Rattle.asl_rules.specs.Trees.{Tree}
-use Rattle.asl_rules.specs.Types.{Ty, Parts, part, tuple_of}
-use Rattle.asl_rules.specs.Widths.{bounded}
-use Rattle.asl_rules.specs.Writing.{Written, types_in_order, types_written, type_shapes, all_sizes, tuple_written, written_as}
-use Rattle.asl_rules.specs.Exprs.{found_type}
+use Rattle.asl_rules.specs.runs.Trees.{Tree}
+use Rattle.asl_rules.specs.types.Types.{Ty, Parts, part, tuple_of}
+use Rattle.asl_rules.specs.types.Widths.{bounded}
+use Rattle.asl_rules.specs.types.Writing.{Written, types_in_order, types_written, type_shapes, all_sizes, tuple_written, written_as}
+use Rattle.asl_rules.specs.expressions.Exprs.{found_type}
 use Rattle.asl_types.proofs.Rest.{at_next}
 use Rattle.asl_types.specs.View.{parts_of}
 use Rattle.asl_shape.specs.View.{types_from}
 use Rattle.asl_written.proofs.ConstraintLemmas.{append_none}
-use Rattle.asl_written.specs.WrittenTypes.{found_types, TypesSeen, no_types, with_type, all_ty, all_shapes, with_types, behind_types, tuple_from}
+use Rattle.asl_written.specs.private.WrittenTypes.{found_types, TypesSeen, no_types, with_type, all_ty, all_shapes, with_types, behind_types, tuple_from}
 
 abbrev Types : Type 0
 Types = Result (List Written) Fault

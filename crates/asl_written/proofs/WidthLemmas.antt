@@ -7,17 +7,17 @@ use Rattle.asl_syn.specs.declared.tree.Expr.{Expr}
 use Rattle.asl_syn.specs.declared.tree.Expr.TheVariants as ev
 use Rattle.asl_syn.specs.declared.tree.Bitfield.TheOpen as ex
 use Rattle.asl_syn.specs.declared.tree.Bitfield.TheFolds.{fold-roll-Expr}
-use Rattle.asl_rules.specs.Exprs.{FoundField, found, width, bitfield_rule, part_rule, expr_rule, given_rule, pattern_rule, slice_rule, type_rule, name_read}
+use Rattle.asl_rules.specs.expressions.Exprs.{FoundField, found, width, bitfield_rule, part_rule, expr_rule, given_rule, pattern_rule, slice_rule, type_rule, name_read}
 use Rattle.asl_rules.specs.Faults.{◌>>=◌}
-use Rattle.asl_rules.specs.Patterns.{FoundPattern}
-use Rattle.asl_rules.specs.Scopes.{Scope, standing_of}
-use Rattle.asl_rules.specs.Slicing.{FoundSlice}
+use Rattle.asl_rules.specs.expressions.Patterns.{FoundPattern}
+use Rattle.asl_rules.specs.declarations.Scopes.{Scope, standing_of}
+use Rattle.asl_rules.specs.expressions.Slicing.{FoundSlice}
 use Rattle.asl_rules.specs.Tests.{Tests}
-use Rattle.asl_rules.specs.Typing as typing
-use Rattle.asl_rules.specs.Typing.{Found, width_as, number_as}
-use Rattle.asl_rules.specs.Widths.{width_of_standing, number_of_standing}
-use Rattle.asl_rules.specs.Writing.{FoundPart, FoundBitfield, FoundType}
-use Rattle.asl_types.specs.Answers.{Met}
+use Rattle.asl_rules.specs.expressions.Typing as typing
+use Rattle.asl_rules.specs.expressions.Typing.{Found, width_as, number_as}
+use Rattle.asl_rules.specs.types.Widths.{width_of_standing, number_of_standing}
+use Rattle.asl_rules.specs.types.Writing.{FoundPart, FoundBitfield, FoundType}
+use Rattle.asl_types.specs.private.Answers.{Met}
 use Rattle.asl_written.specs.declared.widths.Number.{Number}
 use Rattle.asl_written.specs.declared.widths.Width.{Width}
 use Rattle.asl_written.specs.WidthViews.{width_of, number_of}

@@ -8,18 +8,18 @@ use Rattle.asl_syn.specs.declared.tree.TypeExpr.{TypeExpr}
 use Rattle.asl_syn.specs.declared.tree.TypeExpr.TheVariants as tv
 use Rattle.asl_syn.specs.declared.tree.Bitfield.TheOpen as ex
 use Rattle.asl_syn.specs.declared.tree.Bitfield.TheFolds.{fold-roll-TypeExpr}
-use Rattle.asl_rules.specs.Exprs.{FoundField, written, bitfield_rule, part_rule, expr_rule, given_rule, pattern_rule, slice_rule, type_rule}
+use Rattle.asl_rules.specs.expressions.Exprs.{FoundField, written, bitfield_rule, part_rule, expr_rule, given_rule, pattern_rule, slice_rule, type_rule}
 use Rattle.asl_rules.specs.Faults.{◌>>=◌}
-use Rattle.asl_rules.specs.Patterns.{FoundPattern}
-use Rattle.asl_rules.specs.Scopes.{Scope}
-use Rattle.asl_rules.specs.Slicing.{FoundSlice}
+use Rattle.asl_rules.specs.expressions.Patterns.{FoundPattern}
+use Rattle.asl_rules.specs.declarations.Scopes.{Scope}
+use Rattle.asl_rules.specs.expressions.Slicing.{FoundSlice}
 use Rattle.asl_rules.specs.Tests.{Tests}
-use Rattle.asl_rules.specs.Typing.{Found}
-use Rattle.asl_rules.specs.Writing.{Written, FoundPart, FoundBitfield, FoundType, integer_rule, types_in_order, tuple_written}
-use Rattle.asl_types.specs.Answers.{Met}
-use Rattle.asl_written.specs.Constraints.{found_parts}
+use Rattle.asl_rules.specs.expressions.Typing.{Found}
+use Rattle.asl_rules.specs.types.Writing.{Written, FoundPart, FoundBitfield, FoundType, integer_rule, types_in_order, tuple_written}
+use Rattle.asl_types.specs.private.Answers.{Met}
+use Rattle.asl_written.specs.private.Constraints.{found_parts}
 use Rattle.asl_written.specs.declared.written.Written as code
-use Rattle.asl_written.specs.WrittenTypes.{found_types, no_types, with_types, tuple_from}
+use Rattle.asl_written.specs.private.WrittenTypes.{found_types, no_types, with_types, tuple_from}
 use Rattle.asl_written.specs.WrittenViews.{written_of}
 use Rattle.asl_written.proofs.TypeLemmas.{tuple_gathered}
 

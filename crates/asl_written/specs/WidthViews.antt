@@ -1,5 +1,5 @@
 -- Widths and numbers of the rules that those of the code stand for.
-use Rattle.asl_rules.specs.Typing as typing
+use Rattle.asl_rules.specs.expressions.Typing as typing
 use Rattle.asl_tree.specs.View.{tree_of}
 use Rattle.asl_written.specs.declared.widths.Width.{Width}
 use Rattle.asl_written.specs.declared.widths.Number.{Number}

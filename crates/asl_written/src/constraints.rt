@@ -1,18 +1,18 @@
 //! The constraints of integers that are written.
 
 ghost use Rattle.std.specs.Prelude.{◌≡◌, [], ◌∷◌, map, Ok, OnOk, IfOk};
-ghost use Rattle.asl_written.specs.Steps.{and_then};
-ghost use Rattle.asl_rules.specs.Exprs.{found};
+ghost use Rattle.asl_written.specs.private.Steps.{and_then};
+ghost use Rattle.asl_rules.specs.expressions.Exprs.{found};
 ghost use Rattle.asl_rules.specs.Tests.{Tests};
-ghost use Rattle.asl_rules.specs.Branches.{of_range};
-ghost use Rattle.asl_rules.specs.Types.{integer_of};
-ghost use Rattle.asl_rules.specs.Writing as rules;
+ghost use Rattle.asl_rules.specs.statements.Branches.{of_range};
+ghost use Rattle.asl_rules.specs.types.Types.{integer_of};
+ghost use Rattle.asl_rules.specs.types.Writing as rules;
 ghost use Rattle.asl_cons.specs.Arithmetic as cons;
-ghost use Rattle.asl_types.specs.Answers.{Met};
-ghost use Rattle.asl_types.specs.ContextView.{scope_of};
+ghost use Rattle.asl_types.specs.private.Answers.{Met};
+ghost use Rattle.asl_types.specs.private.ContextView.{scope_of};
 ghost use Rattle.asl_shape.specs.View.{part_of};
 ghost use Rattle.asl_tree.specs.View.{tree_of};
-ghost use Rattle.asl_written.specs.Constraints.{found_part, found_parts, part_view, gathered_view, with_parts, none_gathered, gathered, integer_from};
+ghost use Rattle.asl_written.specs.private.Constraints.{found_part, found_parts, part_view, gathered_view, with_parts, none_gathered, gathered, integer_from};
 ghost use Rattle.asl_written.specs.WidthViews.{width_of, number_of};
 ghost use Rattle.asl_written.specs.WrittenViews.{written_of};
 
@@ -278,7 +278,7 @@ fn all_parts(
 }
 
 /// Integers in a constraint of these parts: T20 where there are more than 64.
-#[tactic(auto, unfolding(asl_rules::specs::Writing::most_parts))]
+#[tactic(auto, unfolding(asl_rules::specs::types::Writing::most_parts))]
 fn integer(alloc: Global, span: Span, made: PartsWritten) -> Result<Written, Refused>
     ensures { Met written_of result (integer_from span (gathered_view made)) }
 {

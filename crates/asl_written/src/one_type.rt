@@ -1,7 +1,7 @@
 //! Written types that are all one type, as far as their texts say it: one declared name, or integers in no constraint.
 
 ghost use Rattle.std.specs.Prelude.{◌≡◌, option_map};
-ghost use Rattle.asl_written.specs.OneType as one;
+ghost use Rattle.asl_written.specs.private.OneType as one;
 
 use asl_syn::tree::TypeExpr;
 use asl_value::same_name;

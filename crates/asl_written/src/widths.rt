@@ -4,18 +4,18 @@
 ghost use Rattle.std.specs.Prelude.{◌≡◌, pos, ◌+ℤ◌, ◌-ℤ◌, ◌*ℤ◌, Ok, option_map, IfOk};
 ghost use Rattle.asl_cons.specs.Arithmetic.{fits};
 ghost use Rattle.asl_poly.specs.Poly.{constant_map, constant_value};
-ghost use Rattle.asl_rules.specs.Exprs as rules;
-ghost use Rattle.asl_rules.specs.Exprs.{name_read, width_of_operation, number_of_operation};
+ghost use Rattle.asl_rules.specs.expressions.Exprs as rules;
+ghost use Rattle.asl_rules.specs.expressions.Exprs.{name_read, width_of_operation, number_of_operation};
 ghost use Rattle.asl_rules.specs.Faults.{need, found_or};
-ghost use Rattle.asl_written.specs.Steps.{and_then, after};
-ghost use Rattle.asl_rules.specs.Scopes.{standing_of, storage_of};
+ghost use Rattle.asl_written.specs.private.Steps.{and_then, after};
+ghost use Rattle.asl_rules.specs.declarations.Scopes.{standing_of, storage_of};
 ghost use Rattle.asl_rules.specs.Tests.{Tests};
-ghost use Rattle.asl_rules.specs.Trees as rules_trees;
-ghost use Rattle.asl_rules.specs.Typing.{width_as, number_as, width_note};
-ghost use Rattle.asl_rules.specs.Widths as limits;
-ghost use Rattle.asl_types.specs.Standings.{storage_view, value_behind};
-ghost use Rattle.asl_types.specs.Answers.{Met, Agrees};
-ghost use Rattle.asl_types.specs.ContextView.{scope_of};
+ghost use Rattle.asl_rules.specs.runs.Trees as rules_trees;
+ghost use Rattle.asl_rules.specs.expressions.Typing.{width_as, number_as, width_note};
+ghost use Rattle.asl_rules.specs.types.Widths as limits;
+ghost use Rattle.asl_types.specs.private.Standings.{storage_view, value_behind};
+ghost use Rattle.asl_types.specs.private.Answers.{Met, Agrees};
+ghost use Rattle.asl_types.specs.private.ContextView.{scope_of};
 ghost use Rattle.asl_tree.specs.View.{note_view};
 ghost use Rattle.asl_written.specs.WidthViews.{width_of, number_of};
 
@@ -155,7 +155,7 @@ fn width_of_name(alloc: Global, context: Context, span: Span, name: &[u8]) -> Re
 }
 
 /// The polynomial of an integer literal: T20 past the limit of widths.
-#[tactic(auto, unfolding(asl_rules::specs::Widths::heaviest))]
+#[tactic(auto, unfolding(asl_rules::specs::types::Widths::heaviest))]
 fn width_of_literal(alloc: Global, span: Span, n: u128) -> Result<Poly, Refused>
     ensures { Met (λ p. p) result (limits.width_of_number span (pos n)) }
 {

@@ -3,25 +3,25 @@
 ghost use Rattle.std.specs.Prelude.{◌≡◌, [], ◌∷◌, Ok, OnOk, IfOk};
 ghost use Rattle.asl_bits.specs.declared.TheConstants.{WIDTH_LIMIT};
 ghost use Rattle.asl_poly.specs.Poly.{constant_value};
-ghost use Rattle.asl_rules.specs.Exprs as exprs;
-ghost use Rattle.asl_rules.specs.Exprs.{found};
+ghost use Rattle.asl_rules.specs.expressions.Exprs as exprs;
+ghost use Rattle.asl_rules.specs.expressions.Exprs.{found};
 ghost use Rattle.asl_rules.specs.Faults.{found_or};
-ghost use Rattle.asl_written.specs.Steps.{and_then};
-ghost use Rattle.asl_rules.specs.Shapes as shape;
-ghost use Rattle.asl_rules.specs.Types as types;
-ghost use Rattle.asl_rules.specs.Types.{boolean};
-ghost use Rattle.asl_rules.specs.Widths as limits;
-ghost use Rattle.asl_rules.specs.Writing as rules;
-ghost use Rattle.asl_rules.specs.Writing.{written_as};
+ghost use Rattle.asl_written.specs.private.Steps.{and_then};
+ghost use Rattle.asl_rules.specs.types.Shapes as shape;
+ghost use Rattle.asl_rules.specs.types.Types as types;
+ghost use Rattle.asl_rules.specs.types.Types.{boolean};
+ghost use Rattle.asl_rules.specs.types.Widths as limits;
+ghost use Rattle.asl_rules.specs.types.Writing as rules;
+ghost use Rattle.asl_rules.specs.types.Writing.{written_as};
 ghost use Rattle.asl_rules.specs.Tests.{Tests};
-ghost use Rattle.asl_types.specs.Alike.{IsAlike};
-ghost use Rattle.asl_types.specs.Answers.{Met};
-ghost use Rattle.asl_types.specs.ContextView.{scope_of};
+ghost use Rattle.asl_types.specs.private.Alike.{IsAlike};
+ghost use Rattle.asl_types.specs.private.Answers.{Met};
+ghost use Rattle.asl_types.specs.private.ContextView.{scope_of};
 ghost use Rattle.asl_types.specs.Suits.{Suits};
 ghost use Rattle.asl_types.specs.View.{parts_of};
 ghost use Rattle.asl_written.specs.WidthViews.{width_of};
-ghost use Rattle.asl_written.specs.WrittenFields.{found_bitfields, fields_view, bits_from};
-ghost use Rattle.asl_written.specs.WrittenTypes.{found_types, types_view, no_types, with_type, with_types, tuple_from};
+ghost use Rattle.asl_written.specs.private.WrittenFields.{found_bitfields, fields_view, bits_from};
+ghost use Rattle.asl_written.specs.private.WrittenTypes.{found_types, types_view, no_types, with_type, with_types, tuple_from};
 ghost use Rattle.asl_written.specs.WrittenViews.{written_of};
 
 use crate::constraints::integer_written;
@@ -216,7 +216,7 @@ fn tuple_written(
 }
 
 /// A length from 0 to 65,536, else T20.
-#[tactic(auto, unfolding(asl_rules::specs::Widths::largest))]
+#[tactic(auto, unfolding(asl_rules::specs::types::Widths::largest))]
 fn length_of(span: Span, z: i128) -> Result<u32, Refused>
     ensures { Met (λ n. n) result (limits.length_of span z) }
 {

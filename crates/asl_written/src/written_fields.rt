@@ -2,15 +2,15 @@
 
 ghost use Rattle.std.specs.Prelude.{◌≡◌, ◌≤◌, ◌^◌, pos, nat_le, nat_lt, ◌&&◌, [], ◌∷◌, map, option_map, Ok, OnOk, IfOk, IfSome, if◌then◌else◌, Some, None};
 ghost use Rattle.asl_poly.specs.Poly.{constant_value};
-ghost use Rattle.asl_rules.specs.Exprs.{found};
+ghost use Rattle.asl_rules.specs.expressions.Exprs.{found};
 ghost use Rattle.asl_rules.specs.Faults.{found_or};
-ghost use Rattle.asl_written.specs.Steps.{and_then};
+ghost use Rattle.asl_written.specs.private.Steps.{and_then};
 ghost use Rattle.asl_rules.specs.Tests.{Tests};
-ghost use Rattle.asl_rules.specs.Writing as rules;
-ghost use Rattle.asl_types.specs.Answers.{Met};
-ghost use Rattle.asl_types.specs.ContextView.{scope_of};
+ghost use Rattle.asl_rules.specs.types.Writing as rules;
+ghost use Rattle.asl_types.specs.private.Answers.{Met};
+ghost use Rattle.asl_types.specs.private.ContextView.{scope_of};
 ghost use Rattle.asl_written.specs.WidthViews.{width_of};
-ghost use Rattle.asl_written.specs.WrittenFields.{found_bitfield, found_bitfields, end_seen, field_seen, field_view, fields_view, no_fields, with_field, fields_seen, numbered_as, all_numbers, end_number, ends_numbered, numbered_from, placed_all, view_from};
+ghost use Rattle.asl_written.specs.private.WrittenFields.{found_bitfield, found_bitfields, end_seen, field_seen, field_view, fields_view, no_fields, with_field, fields_seen, numbered_as, all_numbers, end_number, ends_numbered, numbered_from, placed_all, view_from};
 
 use crate::widths::type_width;
 use asl_names::firsts::Firsts;

@@ -1,5 +1,5 @@
 use Rattle.std.proofs.Common.{ap, arith, codes, length}
-use Rattle.asl_rules.specs.Made.{declarations, made_text, statements}
+use Rattle.asl_rules.specs.report.Made.{declarations, made_text, statements}
 use Rattle.asl_gen.proofs.Lengths.{length-program}
 use Rattle.asl_gen.proofs.Pieces.{four}
 use Rattle.asl_gen.proofs.program.Goals as goal

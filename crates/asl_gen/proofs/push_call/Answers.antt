@@ -1,5 +1,5 @@
 use Rattle.std.proofs.Common.{ℕ, List, codes, decimal}
-use Rattle.asl_rules.specs.Made.{call_line}
+use Rattle.asl_rules.specs.report.Made.{call_line}
 use Rattle.asl_gen.proofs.Pieces.{last, more, one}
 use Rattle.asl_gen.proofs.push_call.Goals as goal
 

@@ -1,5 +1,5 @@
 use Rattle.std.proofs.Common.{ℕ, List, codes, decimal}
-use Rattle.asl_rules.specs.Made.{global_line}
+use Rattle.asl_rules.specs.report.Made.{global_line}
 use Rattle.asl_gen.proofs.Pieces.{last, more, one}
 use Rattle.asl_gen.proofs.push_global.Goals as goal
 

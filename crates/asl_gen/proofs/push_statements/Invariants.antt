@@ -1,5 +1,5 @@
 use Rattle.std.proofs.Common.{◌≡◌, ◌*◌, ◌++◌}
-use Rattle.asl_rules.specs.Made.{drawn, statements}
+use Rattle.asl_rules.specs.report.Made.{drawn, statements}
 use Rattle.asl_gen.proofs.push_statements.Given as goal
 
 abbrev pub invariant-loop-before : goal.invariant-loop-before

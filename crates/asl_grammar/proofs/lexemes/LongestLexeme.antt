@@ -15,7 +15,7 @@ use Rattle.asl_grammar.specs.lexemes.Bytes.{is_name_start, is_name_byte, is_deci
 use Rattle.asl_grammar.specs.lexemes.Words.{word_spelling, word_of}
 use Rattle.asl_grammar.specs.lexemes.Marks.{mark_spelling, mark_of}
 use Rattle.asl_grammar.specs.lexemes.Lexemes.{is_name, is_decimal, is_hex, IsLexeme, IsQuoted, LexemeAt, Longest}
-use Rattle.asl_grammar.specs.lexemes.Scanning.{kind_of_name, opens_hex, hex_len, mark_at, or_else, lexeme_of, quoted_of, longest_mark, kind_of_quote, is_closed}
+use Rattle.asl_grammar.specs.private.Scanning.{kind_of_name, opens_hex, hex_len, mark_at, or_else, lexeme_of, quoted_of, longest_mark, kind_of_quote, is_closed}
 use Rattle.asl_grammar.specs.lexemes.Gaps.{opens_block}
 use Rattle.asl_grammar.specs.lexemes.Tokens.{NoLexeme}
 use Rattle.asl_grammar.proofs.lexemes.Munch.{and_left, and_right, munch, munched}

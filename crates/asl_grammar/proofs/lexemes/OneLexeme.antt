@@ -15,7 +15,7 @@ use Rattle.asl_grammar.specs.lexemes.Bytes.{is_name_start, is_name_byte, is_deci
 use Rattle.asl_grammar.specs.lexemes.Words.{word_spelling, word_of, words}
 use Rattle.asl_grammar.specs.lexemes.Marks.{mark_spelling, mark_of, marks}
 use Rattle.asl_grammar.specs.lexemes.Lexemes.{is_name, is_decimal, is_hex, IsLexeme, IsQuoted, Longest}
-use Rattle.asl_grammar.specs.lexemes.Scanning.{kind_of_name, opens_hex, kind_of_quote}
+use Rattle.asl_grammar.specs.private.Scanning.{kind_of_name, opens_hex, kind_of_quote}
 use Rattle.asl_grammar.proofs.lexemes.Munch.{and_left, and_right}
 use Rattle.asl_grammar.proofs.lexemes.Tables.{word_of_spelling, mark_of_spelling, word_is_name, mark_head}
 use Rattle.asl_grammar.proofs.lexemes.Heads.{Head, name, number, quote, mark, head_of_byte, head_of, class_of}

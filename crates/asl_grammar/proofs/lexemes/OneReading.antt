@@ -12,7 +12,7 @@ use Rattle.asl_quote.specs.declared.QuoteState.{QuoteState}
 use Rattle.asl_quote.specs.Quotes.{opens_quote, quote_len}
 use Rattle.asl_grammar.specs.lexemes.Gaps.{opens_block, Gap}
 use Rattle.asl_grammar.specs.lexemes.Lexemes.{IsLexeme, LexemeAt, Longest}
-use Rattle.asl_grammar.specs.lexemes.Scanning.{lexeme_of}
+use Rattle.asl_grammar.specs.private.Scanning.{lexeme_of}
 use Rattle.asl_grammar.specs.lexemes.Refusals.{refusal}
 use Rattle.asl_grammar.specs.lexemes.Tokens.{Scan, behind_gap, behind_lexeme, IsTokenAt, Yields, Ends, Fails, NextGives, NoLexeme, FaultAt, unclosed, malformed, stray, refused, Front, Completes, Breaks}
 use Rattle.asl_grammar.proofs.lexemes.Gapping.{one_gap, some_gap, Gap_le}

@@ -15,15 +15,15 @@ use Rattle.asl_syn.specs.Layers.{ExprLayer, TypeLayer}
 use Rattle.asl_rules.specs.declared.effect.Effect.{Effect}
 use Rattle.asl_rules.specs.Faults.{need}
 use Rattle.asl_rules.specs.Tests.{Tests}
-use Rattle.asl_rules.specs.Types.{Ty}
-use Rattle.asl_rules.specs.Effects.{at_most}
-use Rattle.asl_rules.specs.Widths.{bounded}
-use Rattle.asl_rules.specs.Trees.{Tree, Note}
-use Rattle.asl_rules.specs.Typing.{Found, Typed, typed_as, in_class, finish}
-use Rattle.asl_rules.specs.Slicing.{FoundSlice}
-use Rattle.asl_rules.specs.Writing.{FoundPart, FoundBitfield, FoundType}
-use Rattle.asl_rules.specs.Patterns.{FoundPattern}
-use Rattle.asl_rules.specs.Exprs.{FoundField, ExprOf, TypeOf, PatternOf, found, found_type, found_slice, found_pattern, expr_rule, given_rule, slice_rule, part_rule, bitfield_rule, type_rule, pattern_rule}
+use Rattle.asl_rules.specs.types.Types.{Ty}
+use Rattle.asl_rules.specs.types.Effects.{at_most}
+use Rattle.asl_rules.specs.types.Widths.{bounded}
+use Rattle.asl_rules.specs.runs.Trees.{Tree, Note}
+use Rattle.asl_rules.specs.expressions.Typing.{Found, Typed, typed_as, in_class, finish}
+use Rattle.asl_rules.specs.expressions.Slicing.{FoundSlice}
+use Rattle.asl_rules.specs.types.Writing.{FoundPart, FoundBitfield, FoundType}
+use Rattle.asl_rules.specs.expressions.Patterns.{FoundPattern}
+use Rattle.asl_rules.specs.expressions.Exprs.{FoundField, ExprOf, TypeOf, PatternOf, found, found_type, found_slice, found_pattern, expr_rule, given_rule, slice_rule, part_rule, bitfield_rule, type_rule, pattern_rule}
 use Rattle.asl_rules.proofs.basics.Inversions.{ok_ok, then_ok}
 
 module _ (tests : Tests) where

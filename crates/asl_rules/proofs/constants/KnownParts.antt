@@ -11,10 +11,10 @@ use Rattle.asl_syn.specs.declared.tree.TypeExpr.{TypeExpr, roll-TypeExpr}
 use Rattle.asl_syn.specs.declared.tree.Bitfield.TheOpen as ex
 use Rattle.asl_syn.specs.declared.tree.Bitfield.TheFolds.{fold-Bitfield, fold-ConstraintPart, fold-FieldValue, fold-Pattern, fold-Slice, fold-TypeExpr, fold_out-Bitfield, fold_out-ConstraintPart, fold_out-Expr, fold_out-FieldValue, fold_out-Slice, fold-roll-Pattern, fold-roll-TypeExpr, para-roll-Pattern, para-roll-TypeExpr, map-Bitfield, map-ConstraintPart, map-Expr, map-FieldValue, map-Pattern, map-Slice, map-TypeExpr, ind-Pattern, ind-TypeExpr}
 use Rattle.asl_syn.specs.Layers.{ExprLayer, TypeLayer}
-use Rattle.asl_rules.specs.Shapes as shapes
-use Rattle.asl_rules.specs.Shapes.{SliceShape, PatternShape, PartShape, BitfieldShape, TypeShape, TypeShapes}
-use Rattle.asl_rules.specs.Shaped.{Shaped, Named, TypeOver, Unread, itself, exprs_in, shapes_in, pattern_shapes, type_shapes, first_shape, given_layer, slice_layer, pattern_layer, part_layer, bitfield_layer, type_layer, given_parts, slice_parts, bitfield_parts, range_parts, pattern_parts, type_parts}
-use Rattle.asl_rules.specs.Constants.{Known, ConstantLayer, constant_layer, constant}
+use Rattle.asl_rules.specs.types.Shapes as shapes
+use Rattle.asl_rules.specs.types.Shapes.{SliceShape, PatternShape, PartShape, BitfieldShape, TypeShape, TypeShapes}
+use Rattle.asl_rules.specs.types.Shaped.{Shaped, Named, TypeOver, Unread, itself, exprs_in, shapes_in, pattern_shapes, type_shapes, first_shape, given_layer, slice_layer, pattern_layer, part_layer, bitfield_layer, type_layer, given_parts, slice_parts, bitfield_parts, range_parts, pattern_parts, type_parts}
+use Rattle.asl_rules.specs.declarations.Constants.{Known, ConstantLayer, constant_layer, constant}
 
 map_append : {A B : Type 0} (f : A → B) (xs ys : List A) → map f (xs ++ ys) ≡ map f xs ++ map f ys
 map_append f [] ys = refl

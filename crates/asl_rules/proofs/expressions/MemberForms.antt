@@ -11,20 +11,20 @@ use Rattle.asl_syn.specs.declared.tree.Ident.{Ident}
 use Rattle.asl_poly.specs.Terms.{Polynomial}
 use Rattle.asl_bits.specs.Lists.{slice_of}
 use Rattle.asl_rules.specs.Tests.{Tests, IsRight}
-use Rattle.asl_rules.specs.Types.{Ty, Fields, View, BitField, bitfield_width, integer_of, boolean, bits_of, enumeration_of, record_of, exception_of, tuple_of, array_of, named, no_field, field, bits_wide, is_bits, view_of}
-use Rattle.asl_rules.specs.Closed as cl
-use Rattle.asl_rules.specs.Closed.{Assignment, Closed, ClosedFields, type_with, fields_with, closed, width_at}
-use Rattle.asl_rules.specs.Members.{Member, a_field, a_bitfield, member_type, numbered, one_further, field_among, bitfield_in, member_of, bitfields_in, all_wide}
-use Rattle.asl_rules.specs.Values.{Value, FieldValues, bits_with, record_with, exception_with, no_value_of, value_of_field, is_width}
-use Rattle.asl_rules.specs.Views.{viewed}
-use Rattle.asl_rules.specs.WellFormed.{Shaped, AllInside, ShapedView, BuiltFields, FieldsSeen, Written, WellDeclared}
-use Rattle.asl_rules.specs.Belonging.{has_type, fields_have, InType}
-use Rattle.asl_rules.specs.Agreement.{no_atoms}
-use Rattle.asl_rules.specs.Plans.{Faulted, Pure, Good, Bad}
-use Rattle.asl_rules.specs.Pures.{◌>>=◌, there}
-use Rattle.asl_rules.specs.Vectors.{read_bits, total_width, places_of_field, places_of_fields, bits_at, bitfield_of, bitfields_of, named_among, each_named, bitfields_named}
-use Rattle.asl_rules.specs.ByPlace.{field_at, field_in}
-use Rattle.asl_rules.specs.Structures.{field_value, field_of}
+use Rattle.asl_rules.specs.types.Types.{Ty, Fields, View, BitField, bitfield_width, integer_of, boolean, bits_of, enumeration_of, record_of, exception_of, tuple_of, array_of, named, no_field, field, bits_wide, is_bits, view_of}
+use Rattle.asl_rules.specs.types.Closed as cl
+use Rattle.asl_rules.specs.types.Closed.{Assignment, Closed, ClosedFields, type_with, fields_with, closed, width_at}
+use Rattle.asl_rules.specs.values.Members.{Member, a_field, a_bitfield, member_type, numbered, one_further, field_among, bitfield_in, member_of, bitfields_in, all_wide}
+use Rattle.asl_rules.specs.values.Values.{Value, FieldValues, bits_with, record_with, exception_with, no_value_of, value_of_field, is_width}
+use Rattle.asl_rules.specs.types.Views.{viewed}
+use Rattle.asl_rules.specs.private.WellFormed.{Shaped, AllInside, ShapedView, BuiltFields, FieldsSeen, Written, WellDeclared}
+use Rattle.asl_rules.specs.private.Belonging.{has_type, fields_have, InType}
+use Rattle.asl_rules.specs.private.Agreement.{no_atoms}
+use Rattle.asl_rules.specs.runs.Plans.{Faulted, Pure, Good, Bad}
+use Rattle.asl_rules.specs.runs.Pures.{◌>>=◌, there}
+use Rattle.asl_rules.specs.values.Vectors.{read_bits, total_width, places_of_field, places_of_fields, bits_at, bitfield_of, bitfields_of, named_among, each_named, bitfields_named}
+use Rattle.asl_rules.specs.private.ByPlace.{field_at, field_in}
+use Rattle.asl_rules.specs.values.Structures.{field_value, field_of}
 use Rattle.asl_rules.specs.Faults.{found_or, fault_of}
 use Rattle.asl_rules.proofs.basics.Inversions.{ok_ok, err_ok, bind_ok, found_ok}
 use Rattle.asl_rules.proofs.basics.Tests.{no, both, some_same, none_some, same_name}

@@ -20,13 +20,13 @@ use Rattle.asl_cons.specs.Arithmetic.{fits, sum_parts, difference_parts, product
 use Rattle.asl_cons.specs.Arithmetic as cons
 use Rattle.asl_rules.specs.Faults.{◌>>◌, need}
 use Rattle.asl_rules.specs.Tests.{Tests, IsRight}
-use Rattle.asl_rules.specs.Types.{Ty, Kind, integer_of, boolean, bits_of, record_of, exception_of, tuple_of, array_of, named, integers, booleans, bitvectors, kind, kind_eq, is_integer, is_boolean, is_bits, same_kind, constraint_of, width_of, only_number}
-use Rattle.asl_rules.specs.Closed.{Assignment, width_at, in_one, not_above}
-use Rattle.asl_rules.specs.Operations as operations
-use Rattle.asl_rules.specs.Values.{Value, Values, FieldValues, int, bool, bits_with, label, record_with, exception_with, tuple_with, array_with, kind_of, is_width}
-use Rattle.asl_rules.specs.Belonging.{has_type, InType}
-use Rattle.asl_rules.specs.Plans.{Faulted, Stuck, Pure, Good, Bad}
-use Rattle.asl_rules.specs.Operators.{in_range, integer_of as integer_value, quotient, divided, raised, plain_bits, of_integers, of_booleans, of_labels, of_one_enumeration, of_one_width, of_bits, of_bits_and_integer, binary_value, unary_value}
+use Rattle.asl_rules.specs.types.Types.{Ty, Kind, integer_of, boolean, bits_of, record_of, exception_of, tuple_of, array_of, named, integers, booleans, bitvectors, kind, kind_eq, is_integer, is_boolean, is_bits, same_kind, constraint_of, width_of, only_number}
+use Rattle.asl_rules.specs.types.Closed.{Assignment, width_at, in_one, not_above}
+use Rattle.asl_rules.specs.expressions.Operations as operations
+use Rattle.asl_rules.specs.values.Values.{Value, Values, FieldValues, int, bool, bits_with, label, record_with, exception_with, tuple_with, array_with, kind_of, is_width}
+use Rattle.asl_rules.specs.private.Belonging.{has_type, InType}
+use Rattle.asl_rules.specs.runs.Plans.{Faulted, Stuck, Pure, Good, Bad}
+use Rattle.asl_rules.specs.values.Operators.{in_range, integer_of as integer_value, quotient, divided, raised, plain_bits, of_integers, of_booleans, of_labels, of_one_enumeration, of_one_width, of_bits, of_bits_and_integer, binary_value, unary_value}
 use Rattle.asl_rules.proofs.basics.Inversions.{ok_ok, bind_ok, then_ok, need_ok}
 use Rattle.std.proofs.lemmas.Int.{ints}
 use Rattle.asl_rules.proofs.basics.Tests.{no, both, and_true, either, or_first, name_is}
@@ -38,12 +38,12 @@ use Rattle.asl_rules.proofs.values.Constrained.{is_in_in, in_is_in, is_not_above
 use Rattle.std.proofs.lemmas.List.{length-append}
 use Rattle.std.proofs.lemmas.Bool.Decides.{nat_tests}
 use Rattle.asl_rules.specs.Faults.{◌>>=◌}
-use Rattle.asl_rules.specs.Widths.{width_sum}
+use Rattle.asl_rules.specs.types.Widths.{width_sum}
 use Rattle.asl_rules.proofs.widths.WidthsWorth.{sum_is}
 use Rattle.asl_cons.proofs.Results.{sum_in, difference_in}
 use Rattle.asl_cons.proofs.Products.{product_in, quotient_in, modulo_in, shifted_up_in, shifted_down_in}
-use Rattle.asl_rules.specs.Exprs.{literal_type}
-use Rattle.asl_rules.specs.Operations.{is_comparable, same_widths, binary_rule, unary_rule}
+use Rattle.asl_rules.specs.expressions.Exprs.{literal_type}
+use Rattle.asl_rules.specs.expressions.Operations.{is_comparable, same_widths, binary_rule, unary_rule}
 
 -- a value of the type, or a fault
 abbrev pub Gives : (List ℕ → Option Ty) → Assignment → Ty → Pure Value → Type 0

@@ -5,14 +5,14 @@ use Rattle.asl_syn.specs.declared.code.Fault.{Fault}
 use Rattle.asl_syn.specs.declared.tree.Expr.{Expr, out-Expr}
 use Rattle.asl_syn.specs.declared.tree.Ident.{Ident}
 use Rattle.asl_syn.specs.declared.tree.Bitfield.TheOpen as ex
-use Rattle.asl_rules.specs.Calls.{function_of}
-use Rattle.asl_rules.specs.Exprs.{ExprOf, span_of, typed_rule, found, typed, name_of_standing}
-use Rattle.asl_rules.specs.Members.{Member, a_field, a_bitfield, member_tree}
-use Rattle.asl_rules.specs.Routines.{Routine}
-use Rattle.asl_rules.specs.Scopes.{Scope, Standing, Stored, Label, standing_of}
+use Rattle.asl_rules.specs.expressions.Calls.{function_of}
+use Rattle.asl_rules.specs.expressions.Exprs.{ExprOf, span_of, typed_rule, found, typed, name_of_standing}
+use Rattle.asl_rules.specs.values.Members.{Member, a_field, a_bitfield, member_tree}
+use Rattle.asl_rules.specs.declarations.Routines.{Routine}
+use Rattle.asl_rules.specs.declarations.Scopes.{Scope, Standing, Stored, Label, standing_of}
 use Rattle.asl_rules.specs.Tests.{Tests}
-use Rattle.asl_rules.specs.Trees.{Tree, Note, tree_at, tree_type}
-use Rattle.asl_rules.specs.Typing.{Found, Typed, Operand}
+use Rattle.asl_rules.specs.runs.Trees.{Tree, Note, tree_at, tree_type}
+use Rattle.asl_rules.specs.expressions.Typing.{Found, Typed, Operand}
 use Rattle.asl_rules.proofs.basics.Answering.{OfAnswer, steps_before, of_this}
 use Rattle.asl_rules.proofs.basics.Opening.{opened, unrolled}
 

@@ -2,8 +2,8 @@
 use Rattle.std.proofs.Common.{◌≡◌, ℕ, suc, Bool, true, false, cond, ◌⊎◌, inl, inr, List, [], ◌∷◌, ◌++◌, Option, Some, None, refl, sym, ap, ◌∙◌, append_assoc}
 use Rattle.std.proofs.lemmas.List.{append-nil}
 use Rattle.std.specs.Str.{bytes_eq}
-use Rattle.asl_rules.specs.Layouts.{Layout, local_name, global_name, local_names, global_names, layout_of}
-use Rattle.asl_rules.specs.Scopes.{Entry, Standing, Stored, Subprogram, TypeName, Label, is_local, next_atom, standing_of, is_absent, is_free, with_entry, with_entries}
+use Rattle.asl_rules.specs.declarations.Layouts.{Layout, local_name, global_name, local_names, global_names, layout_of}
+use Rattle.asl_rules.specs.declarations.Scopes.{Entry, Standing, Stored, Subprogram, TypeName, Label, is_local, next_atom, standing_of, is_absent, is_free, with_entry, with_entries}
 use Rattle.asl_rules.proofs.basics.Tests.{no, some_none, same_name, name_is}
 use Rattle.asl_rules.proofs.scopes.Lookups.{behind, before_is, apart_from, Apart}
 

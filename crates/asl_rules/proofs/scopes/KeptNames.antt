@@ -16,13 +16,13 @@ use Rattle.asl_syn.specs.declared.tree.Alternative.TheOpen as st
 use Rattle.asl_syn.specs.declared.tree.Alternative.TheFolds.{fold-Alternative, fold-Catcher, fold-ElseIf, fold-Otherwise, fold_out-Stmt, map-Stmt}
 use Rattle.asl_rules.specs.declared.effect.Effect.{Effect}
 use Rattle.asl_rules.specs.Tests.{Tests}
-use Rattle.asl_rules.specs.Types.{Ty}
-use Rattle.asl_rules.specs.Effects.{greater}
-use Rattle.asl_rules.specs.Scopes.{Scope, Body, body_names}
-use Rattle.asl_rules.specs.Acting.{Done, FoundStmt, FoundOtherwise, Listed, act_first, in_order}
-use Rattle.asl_rules.specs.Locals.{bind_rule, vars_rule}
-use Rattle.asl_rules.specs.Branches.{FoundBranch, FoundAlternative, FoundCatcher}
-use Rattle.asl_rules.specs.Stmts.{StmtOf, return_rule, throw_rule, stmt_layer_rule, branch_found, alternative_found, catcher_found, otherwise_found, found_stmt}
+use Rattle.asl_rules.specs.types.Types.{Ty}
+use Rattle.asl_rules.specs.types.Effects.{greater}
+use Rattle.asl_rules.specs.declarations.Scopes.{Scope, Body, body_names}
+use Rattle.asl_rules.specs.statements.Acting.{Done, FoundStmt, FoundOtherwise, Listed, act_first, in_order}
+use Rattle.asl_rules.specs.statements.Locals.{bind_rule, vars_rule}
+use Rattle.asl_rules.specs.statements.Branches.{FoundBranch, FoundAlternative, FoundCatcher}
+use Rattle.asl_rules.specs.statements.Stmts.{StmtOf, return_rule, throw_rule, stmt_layer_rule, branch_found, alternative_found, catcher_found, otherwise_found, found_stmt}
 use Rattle.asl_rules.proofs.basics.Answering.{OfAnswer, steps_before, of_each, of_this}
 use Rattle.asl_rules.proofs.basics.Inversions.{ok_ok, bind_ok}
 

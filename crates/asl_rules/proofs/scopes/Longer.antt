@@ -14,15 +14,15 @@ use Rattle.asl_syn.specs.declared.tree.Stmt.{Stmt}
 use Rattle.asl_rules.specs.declared.effect.Effect.{Effect}
 use Rattle.asl_rules.specs.Faults.{need, found_or}
 use Rattle.asl_rules.specs.Tests.{Tests}
-use Rattle.asl_rules.specs.Types.{Ty, Parts, no_part, part, tuple_parts}
-use Rattle.asl_rules.specs.Closed.{Assignment}
-use Rattle.asl_rules.specs.Scopes.{Scope, Body, Entry, is_free, variable, is_local, next_atom}
-use Rattle.asl_rules.specs.Trees as tree
-use Rattle.asl_rules.specs.Exprs.{written}
-use Rattle.asl_rules.specs.Acting.{Done, Listed, in_order}
-use Rattle.asl_rules.specs.Locals.{Initialised, initialised, initialised_as, itself, declared, type_declared, part_declared, written_or, taken, binders_free, bound_parts, bound_in, bound, bind_rule, names_rule, vars_rule}
-use Rattle.asl_rules.specs.Stmts.{found_stmt}
-use Rattle.asl_rules.specs.Agreement.{SameOn}
+use Rattle.asl_rules.specs.types.Types.{Ty, Parts, no_part, part, tuple_parts}
+use Rattle.asl_rules.specs.types.Closed.{Assignment}
+use Rattle.asl_rules.specs.declarations.Scopes.{Scope, Body, Entry, is_free, variable, is_local, next_atom}
+use Rattle.asl_rules.specs.runs.Trees as tree
+use Rattle.asl_rules.specs.expressions.Exprs.{written}
+use Rattle.asl_rules.specs.statements.Acting.{Done, Listed, in_order}
+use Rattle.asl_rules.specs.statements.Locals.{Initialised, initialised, initialised_as, itself, declared, type_declared, part_declared, written_or, taken, binders_free, bound_parts, bound_in, bound, bind_rule, names_rule, vars_rule}
+use Rattle.asl_rules.specs.statements.Stmts.{found_stmt}
+use Rattle.asl_rules.specs.private.Agreement.{SameOn}
 use Rattle.asl_rules.proofs.basics.Inversions.{ok_ok, bind_ok, then_ok, found_ok}
 use Rattle.asl_rules.proofs.basics.Tests.{some_same, none_some}
 use Rattle.asl_rules.proofs.widths.ScopesCounted.{ended_names}

@@ -3,17 +3,17 @@ use Rattle.std.proofs.Common.{◌≡◌, ℕ, Bool, true, false, cond, List, [],
 use Rattle.std.specs.Str.{bytes_eq}
 use Rattle.std.proofs.lemmas.Slice.Eq.{bytes_eq-Decides}
 use Rattle.asl_syn.specs.declared.token.Span.{Span}
-use Rattle.asl_rules.specs.Types.{Ty}
-use Rattle.asl_rules.specs.Scopes.{Entry, Standing, Stored, Subprogram, TypeName, Label, Storage, standing_of, storage_in, type_in, type_of_name, known_value}
-use Rattle.asl_rules.specs.Values.{Value, has}
-use Rattle.asl_rules.specs.States.{Binding, Core}
-use Rattle.asl_rules.specs.Belonging.{InType}
-use Rattle.asl_rules.specs.Agreement.{IsKnown, CountsAs, Holds, HoldsGlobal, no_atoms, types_in, AllMatch, global_matches, local_matches, FrameMatches, AllFresh, Agrees}
-use Rattle.asl_rules.specs.Plans.{Pure, Good, Bad}
-use Rattle.asl_rules.specs.Pures.{known}
-use Rattle.asl_rules.specs.Evaluation.{value_of, or_value, held, label_in}
-use Rattle.asl_rules.specs.Closed.{Assignment, type_with}
-use Rattle.asl_rules.specs.Views.{viewed}
+use Rattle.asl_rules.specs.types.Types.{Ty}
+use Rattle.asl_rules.specs.declarations.Scopes.{Entry, Standing, Stored, Subprogram, TypeName, Label, Storage, standing_of, storage_in, type_in, type_of_name, known_value}
+use Rattle.asl_rules.specs.values.Values.{Value, has}
+use Rattle.asl_rules.specs.runs.States.{Binding, Core}
+use Rattle.asl_rules.specs.private.Belonging.{InType}
+use Rattle.asl_rules.specs.private.Agreement.{IsKnown, CountsAs, Holds, HoldsGlobal, no_atoms, types_in, AllMatch, global_matches, local_matches, FrameMatches, AllFresh, Agrees}
+use Rattle.asl_rules.specs.runs.Plans.{Pure, Good, Bad}
+use Rattle.asl_rules.specs.runs.Pures.{known}
+use Rattle.asl_rules.specs.runs.Evaluation.{value_of, or_value, held, label_in}
+use Rattle.asl_rules.specs.types.Closed.{Assignment, type_with}
+use Rattle.asl_rules.specs.types.Views.{viewed}
 use Rattle.asl_rules.proofs.basics.Tests.{some_same, none_some}
 
 stored_in : Storage → Standing → Storage

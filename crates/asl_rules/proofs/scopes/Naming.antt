@@ -1,18 +1,18 @@
 -- The names that are visible outside bodies: what they stand for is well formed, and no two clash.
 use Rattle.std.proofs.Common.{◌≡◌, ℕ, Bool, true, false, cond, List, [], ◌∷◌, ◌++◌, Option, Some, None, refl, sym, ap, ◌∙◌, subst}
 use Rattle.std.specs.Str.{bytes_eq}
-use Rattle.asl_rules.specs.Types.{Ty, Fields, no_field, field}
-use Rattle.asl_rules.specs.Members.{fields_of}
-use Rattle.asl_rules.specs.Scopes.{Entry, Standing, Stored, Subprogram, TypeName, Label, standing_of, type_in, type_of_name}
-use Rattle.asl_rules.specs.WellFormed.{WellFormed, Fixed, WellDeclared}
-use Rattle.asl_rules.specs.Closed.{Assignment}
-use Rattle.asl_rules.specs.Belonging.{InType}
-use Rattle.asl_rules.specs.Agreement.{types_in, FrameMatches, local_matches, Agrees}
-use Rattle.asl_rules.specs.States.{Binding, Core}
+use Rattle.asl_rules.specs.types.Types.{Ty, Fields, no_field, field}
+use Rattle.asl_rules.specs.values.Members.{fields_of}
+use Rattle.asl_rules.specs.declarations.Scopes.{Entry, Standing, Stored, Subprogram, TypeName, Label, standing_of, type_in, type_of_name}
+use Rattle.asl_rules.specs.private.WellFormed.{WellFormed, Fixed, WellDeclared}
+use Rattle.asl_rules.specs.types.Closed.{Assignment}
+use Rattle.asl_rules.specs.private.Belonging.{InType}
+use Rattle.asl_rules.specs.private.Agreement.{types_in, FrameMatches, local_matches, Agrees}
+use Rattle.asl_rules.specs.runs.States.{Binding, Core}
 use Rattle.asl_rules.proofs.basics.Tests.{some_same, none_some}
 use Rattle.asl_rules.proofs.scopes.Lookups.{Apart, behind, before_is}
 use Rattle.asl_rules.proofs.scopes.Slots.{AllOutside}
-use Rattle.asl_rules.specs.Members.{numbered}
+use Rattle.asl_rules.specs.values.Members.{numbered}
 
 -- each field stands once
 abbrev pub FieldsOnce : Fields → Type 0

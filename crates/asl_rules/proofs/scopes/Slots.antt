@@ -2,16 +2,16 @@
 use Rattle.std.proofs.Common.{◌≡◌, ℕ, suc, Bool, true, false, cond, List, [], ◌∷◌, ◌++◌, Option, Some, None, option_map, refl, sym, ap, ◌∙◌}
 use Rattle.std.specs.Prelude.{slice_get}
 use Rattle.std.specs.Str.{bytes_eq}
-use Rattle.asl_rules.specs.Layouts.{place_of, number_before, slot_among, slot_of, local_name, global_name, local_names, global_names, layout_of}
-use Rattle.asl_rules.specs.Types.{Ty}
-use Rattle.asl_rules.specs.Closed.{Assignment}
-use Rattle.asl_rules.specs.Scopes.{Entry, Standing, Stored, Subprogram, TypeName, Label, entry_names}
-use Rattle.asl_rules.specs.Values.{Value}
-use Rattle.asl_rules.specs.States.{Binding, Core}
-use Rattle.asl_rules.specs.Agreement.{IsPlain, AllPlain, AllMatch, global_matches, local_matches, FrameMatches, types_in, Agrees}
-use Rattle.asl_rules.specs.Evaluation.{value_of, or_value}
-use Rattle.asl_rules.specs.TypedMeaning.{BareCore, value_at}
-use Rattle.asl_rules.specs.Erasure.{values_of, erased}
+use Rattle.asl_rules.specs.declarations.Layouts.{place_of, number_before, slot_among, slot_of, local_name, global_name, local_names, global_names, layout_of}
+use Rattle.asl_rules.specs.types.Types.{Ty}
+use Rattle.asl_rules.specs.types.Closed.{Assignment}
+use Rattle.asl_rules.specs.declarations.Scopes.{Entry, Standing, Stored, Subprogram, TypeName, Label, entry_names}
+use Rattle.asl_rules.specs.values.Values.{Value}
+use Rattle.asl_rules.specs.runs.States.{Binding, Core}
+use Rattle.asl_rules.specs.private.Agreement.{IsPlain, AllPlain, AllMatch, global_matches, local_matches, FrameMatches, types_in, Agrees}
+use Rattle.asl_rules.specs.runs.Evaluation.{value_of, or_value}
+use Rattle.asl_rules.specs.private.TypedMeaning.{BareCore, value_at}
+use Rattle.asl_rules.specs.private.Erasure.{values_of, erased}
 
 unfoldable pub binding_names : List Binding → List (List ℕ)
 binding_names [] = []

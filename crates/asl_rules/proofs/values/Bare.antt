@@ -1,13 +1,13 @@
 -- Bits, tuples and arrays without their names and bitfields: the same kind and the same values, which are stripped of their bitfields.
 use Rattle.std.proofs.Common.{◌≡◌, ℕ, suc, ◌&&◌, Bool, true, false, List, Option, refl, sym, ap, ap₂, ◌∙◌, subst}
 use Rattle.std.specs.Prelude.{◌==◌, if◌then◌else◌}
-use Rattle.asl_rules.specs.Types.{Ty, Parts, Kind, integer_of, boolean, bits_of, enumeration_of, record_of, exception_of, tuple_of, array_of, named, no_part, part, tuples, arrays, one_more, kind, kinds, kind_eq, is_bare_by_structure, bare, bare_parts}
-use Rattle.asl_rules.specs.Closed.{Assignment, Closed, ClosedParts, type_with, parts_with}
-use Rattle.asl_rules.specs.Closed as cl
-use Rattle.asl_rules.specs.Values.{Value, Values, int, bool, bits_with, label, record_with, exception_with, tuple_with, array_with, no_value, value, count, is_exception, has, parts_in, all_in}
-use Rattle.asl_rules.specs.Views.{viewed, parts_viewed, all_viewed, stripped, all_stripped}
-use Rattle.asl_rules.specs.WellFormed.{Shaped, ShapedParts, WellFormed, is_nameless_exception, Built, BuiltAll}
-use Rattle.asl_rules.specs.Belonging.{has_type, parts_have, all_have}
+use Rattle.asl_rules.specs.types.Types.{Ty, Parts, Kind, integer_of, boolean, bits_of, enumeration_of, record_of, exception_of, tuple_of, array_of, named, no_part, part, tuples, arrays, one_more, kind, kinds, kind_eq, is_bare_by_structure, bare, bare_parts}
+use Rattle.asl_rules.specs.types.Closed.{Assignment, Closed, ClosedParts, type_with, parts_with}
+use Rattle.asl_rules.specs.types.Closed as cl
+use Rattle.asl_rules.specs.values.Values.{Value, Values, int, bool, bits_with, label, record_with, exception_with, tuple_with, array_with, no_value, value, count, is_exception, has, parts_in, all_in}
+use Rattle.asl_rules.specs.types.Views.{viewed, parts_viewed, all_viewed, stripped, all_stripped}
+use Rattle.asl_rules.specs.private.WellFormed.{Shaped, ShapedParts, WellFormed, is_nameless_exception, Built, BuiltAll}
+use Rattle.asl_rules.specs.private.Belonging.{has_type, parts_have, all_have}
 use Rattle.asl_rules.proofs.basics.Tests.{no, both, and_true}
 use Rattle.asl_rules.proofs.values.Shapes.{named_parts}
 

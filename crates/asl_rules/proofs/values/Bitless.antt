@@ -2,17 +2,17 @@
 use Rattle.std.proofs.Common.{◌≡◌, ℕ, zero, suc, Bool, true, false, List, [], ◌∷◌, Option, Some, None, refl, sym, ap, ap₂, ◌∙◌, subst}
 use Rattle.std.specs.Prelude.{◌==◌, ◌||◌, ◌&&◌}
 use Rattle.asl_syn.specs.declared.token.Span.{Span}
-use Rattle.asl_rules.specs.Types.{Ty, Parts, kind, kind_eq, integer_of, boolean, bits_of, enumeration_of, record_of, exception_of, tuple_of, array_of, named, no_part, part}
-use Rattle.asl_rules.specs.Closed.{Assignment}
-use Rattle.asl_rules.specs.HoldsBits.{holds_bits, parts_hold_bits, has_bits, have_bits}
-use Rattle.asl_rules.specs.Values.{Value, Values, int, bool, bits_with, label, record_with, exception_with, tuple_with, array_with, no_value, value, count, is_exception}
-use Rattle.asl_rules.specs.Views.{stripped, all_stripped, stripping, adopted, all_adopted, adopting}
-use Rattle.asl_rules.specs.Belonging.{has_type, parts_have, all_have}
-use Rattle.asl_rules.specs.Plans.{Pure, Good, Bad}
-use Rattle.asl_rules.specs.Pures.{◌>>=◌, there}
-use Rattle.asl_rules.specs.Structures.{value_at, element_of, with_element}
-use Rattle.asl_rules.specs.Vectors.{slice_places, bits_at, with_slices, bitfield_of, with_bitfield, bitfields_of, with_bitfields}
-use Rattle.asl_rules.specs.ByPlace.{Step, into_field, into_bitfield, into_bitfields, into_slices, into_element, field_in, with_field_in, updated, part_in}
+use Rattle.asl_rules.specs.types.Types.{Ty, Parts, kind, kind_eq, integer_of, boolean, bits_of, enumeration_of, record_of, exception_of, tuple_of, array_of, named, no_part, part}
+use Rattle.asl_rules.specs.types.Closed.{Assignment}
+use Rattle.asl_rules.specs.private.HoldsBits.{holds_bits, parts_hold_bits, has_bits, have_bits}
+use Rattle.asl_rules.specs.values.Values.{Value, Values, int, bool, bits_with, label, record_with, exception_with, tuple_with, array_with, no_value, value, count, is_exception}
+use Rattle.asl_rules.specs.types.Views.{stripped, all_stripped, stripping, adopted, all_adopted, adopting}
+use Rattle.asl_rules.specs.private.Belonging.{has_type, parts_have, all_have}
+use Rattle.asl_rules.specs.runs.Plans.{Pure, Good, Bad}
+use Rattle.asl_rules.specs.runs.Pures.{◌>>=◌, there}
+use Rattle.asl_rules.specs.values.Structures.{value_at, element_of, with_element}
+use Rattle.asl_rules.specs.values.Vectors.{slice_places, bits_at, with_slices, bitfield_of, with_bitfield, bitfields_of, with_bitfields}
+use Rattle.asl_rules.specs.private.ByPlace.{Step, into_field, into_bitfield, into_bitfields, into_slices, into_element, field_in, with_field_in, updated, part_in}
 use Rattle.asl_rules.proofs.basics.Tests.{no, both, some_same, none_some}
 use Rattle.asl_rules.proofs.values.FirstValues.{good_same, bad_good}
 

@@ -12,7 +12,7 @@ use Rattle.asl_cons.proofs.Covering.{value_constant_map}
 use Rattle.asl_cons.proofs.Membership.{below_in}
 use Rattle.asl_cons.proofs.Results as results
 use Rattle.asl_cons.specs.Arithmetic.{shown}
-use Rattle.asl_rules.specs.Closed.{Assignment, width_at, not_above, in_one, in_some, is_in, end_at, ranges_at, constraint_at}
+use Rattle.asl_rules.specs.types.Closed.{Assignment, width_at, not_above, in_one, in_some, is_in, end_at, ranges_at, constraint_at}
 use Rattle.asl_rules.proofs.basics.Tests.{no, both, and_true, either, or_first, or_second}
 
 -- ---- the order of integers

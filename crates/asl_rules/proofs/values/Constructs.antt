@@ -7,23 +7,23 @@ use Rattle.asl_syn.specs.declared.code.StaticCode.TheVariants.{T15}
 use Rattle.asl_syn.specs.declared.tree.Ident.{Ident}
 use Rattle.asl_rules.specs.Faults.{need, found_or, fitted}
 use Rattle.asl_rules.specs.Tests.{Tests, IsRight}
-use Rattle.asl_rules.specs.Types.{Ty, Fields, Parts, bits_of, record_of, exception_of, tuple_of, array_of, named, no_field, field, part, misfit, reaches, is_among}
-use Rattle.asl_rules.specs.Closed as cl
-use Rattle.asl_rules.specs.Closed.{Assignment, Closed, ClosedFields, type_with, fields_with, closed}
-use Rattle.asl_rules.specs.Trees.{FieldGiven, record_shell, exception_shell}
-use Rattle.asl_rules.specs.Layouts.{place_of}
-use Rattle.asl_rules.specs.Typing.{Operand}
-use Rattle.asl_rules.specs.Members.{numbered, one_further, Constructed, constructed_of, given_once, all_fit, texts_of, with_place, places_given, has_name}
-use Rattle.asl_rules.specs.Values.{Value, Values, FieldValues, bits_with, tuple_with, array_with, record_with, exception_with, no_value_of, value_of_field, no_value, value, has, fields_in}
-use Rattle.asl_rules.specs.Views.{viewed, parts_viewed, all_viewed}
-use Rattle.asl_rules.specs.WellFormed.{WellFormed, ShapedFields, Built, BuiltFields, FieldsSeen, Written, WellDeclared}
-use Rattle.asl_rules.specs.Belonging.{InType}
-use Rattle.asl_rules.specs.Agreement.{no_atoms}
-use Rattle.asl_rules.specs.States.{of_type, kept}
-use Rattle.asl_rules.specs.Pures.{there}
-use Rattle.asl_rules.specs.Structures.{given_value, with_given, fields_given, construct}
-use Rattle.asl_rules.specs.ByPlace as places
-use Rattle.asl_rules.specs.ByPlace.{seen_as, parts_seen_as, all_seen_as, filled, fields_from, in_shell}
+use Rattle.asl_rules.specs.types.Types.{Ty, Fields, Parts, bits_of, record_of, exception_of, tuple_of, array_of, named, no_field, field, part, misfit, reaches, is_among}
+use Rattle.asl_rules.specs.types.Closed as cl
+use Rattle.asl_rules.specs.types.Closed.{Assignment, Closed, ClosedFields, type_with, fields_with, closed}
+use Rattle.asl_rules.specs.runs.Trees.{FieldGiven, record_shell, exception_shell}
+use Rattle.asl_rules.specs.declarations.Layouts.{place_of}
+use Rattle.asl_rules.specs.expressions.Typing.{Operand}
+use Rattle.asl_rules.specs.values.Members.{numbered, one_further, Constructed, constructed_of, given_once, all_fit, texts_of, with_place, places_given, has_name}
+use Rattle.asl_rules.specs.values.Values.{Value, Values, FieldValues, bits_with, tuple_with, array_with, record_with, exception_with, no_value_of, value_of_field, no_value, value, has, fields_in}
+use Rattle.asl_rules.specs.types.Views.{viewed, parts_viewed, all_viewed}
+use Rattle.asl_rules.specs.private.WellFormed.{WellFormed, ShapedFields, Built, BuiltFields, FieldsSeen, Written, WellDeclared}
+use Rattle.asl_rules.specs.private.Belonging.{InType}
+use Rattle.asl_rules.specs.private.Agreement.{no_atoms}
+use Rattle.asl_rules.specs.runs.States.{of_type, kept}
+use Rattle.asl_rules.specs.runs.Pures.{there}
+use Rattle.asl_rules.specs.values.Structures.{given_value, with_given, fields_given, construct}
+use Rattle.asl_rules.specs.private.ByPlace as places
+use Rattle.asl_rules.specs.private.ByPlace.{seen_as, parts_seen_as, all_seen_as, filled, fields_from, in_shell}
 use Rattle.asl_rules.proofs.basics.Inversions.{ok_ok, bind_ok, then_ok, found_ok, fitted_ok}
 use Rattle.asl_rules.proofs.basics.Tests.{no, and_true, or_first, some_same, none_some, same_name, name_is}
 use Rattle.asl_rules.proofs.values.Keeping.{satisfying_keeps}

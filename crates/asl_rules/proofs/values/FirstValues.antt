@@ -5,16 +5,16 @@ use Rattle.std.specs.Prelude.{ℤ, pos, negsuc, ◌==◌, nat_le, replicate}
 use Rattle.std.specs.Str.{bytes_eq}
 use Rattle.asl_syn.specs.declared.token.Span.{Span}
 use Rattle.asl_syn.specs.declared.code.DynCode.TheVariants.{D14, D16}
-use Rattle.asl_rules.specs.Types.{Ty, Fields, Parts, integer_of, boolean, bits_of, enumeration_of, record_of, exception_of, tuple_of, array_of, named, no_field, field, no_part, part, View, kind, kind_eq, is_among}
-use Rattle.asl_rules.specs.Closed.{Closed, Range, not_above, in_one, in_some, is_in, lowest, first_in, width_at, constraint_at, closed, fields_with, parts_with}
-use Rattle.asl_rules.specs.Values.{Value, FieldValues, Values, int, bool, bits_with, label, record_with, exception_with, tuple_with, array_with, no_value, value, no_value_of, value_of_field, count, is_exception, is_width, has, fields_in, parts_in, all_in, repeated, first_label, named_as}
-use Rattle.asl_rules.specs.Views.{viewed, parts_viewed, all_viewed}
-use Rattle.asl_rules.specs.WellFormed.{Built, BuiltAll, BuiltFields, SeenAs, FieldsSeen, Declared, HasLabel, Shaped, ShapedFields, ShapedParts, WellFormed, is_named, is_nameless_exception}
-use Rattle.asl_rules.specs.Belonging.{InType}
-use Rattle.asl_rules.specs.Agreement.{no_atoms}
-use Rattle.asl_rules.specs.Plans.{End, Faulted, Pure, Good, Bad}
-use Rattle.asl_rules.specs.Pures.{◌>>=◌}
-use Rattle.asl_rules.specs.Written.{first_integer, first_bits, first_value, first_fields, first_parts}
+use Rattle.asl_rules.specs.types.Types.{Ty, Fields, Parts, integer_of, boolean, bits_of, enumeration_of, record_of, exception_of, tuple_of, array_of, named, no_field, field, no_part, part, View, kind, kind_eq, is_among}
+use Rattle.asl_rules.specs.types.Closed.{Closed, Range, not_above, in_one, in_some, is_in, lowest, first_in, width_at, constraint_at, closed, fields_with, parts_with}
+use Rattle.asl_rules.specs.values.Values.{Value, FieldValues, Values, int, bool, bits_with, label, record_with, exception_with, tuple_with, array_with, no_value, value, no_value_of, value_of_field, count, is_exception, is_width, has, fields_in, parts_in, all_in, repeated, first_label, named_as}
+use Rattle.asl_rules.specs.types.Views.{viewed, parts_viewed, all_viewed}
+use Rattle.asl_rules.specs.private.WellFormed.{Built, BuiltAll, BuiltFields, SeenAs, FieldsSeen, Declared, HasLabel, Shaped, ShapedFields, ShapedParts, WellFormed, is_named, is_nameless_exception}
+use Rattle.asl_rules.specs.private.Belonging.{InType}
+use Rattle.asl_rules.specs.private.Agreement.{no_atoms}
+use Rattle.asl_rules.specs.runs.Plans.{End, Faulted, Pure, Good, Bad}
+use Rattle.asl_rules.specs.runs.Pures.{◌>>=◌}
+use Rattle.asl_rules.specs.types.Written.{first_integer, first_bits, first_value, first_fields, first_parts}
 use Rattle.asl_rules.proofs.basics.Tests.{no, and_true, or_first, or_second, some_same, none_some, name_is}
 use Rattle.asl_rules.proofs.values.SameKind.{kind_is, number_is}
 

@@ -2,16 +2,16 @@
 use Rattle.std.proofs.Common.{◌≡◌, ℕ, ◌&&◌, Bool, true, false, List, [], ◌∷◌, Option, Some, None, ℤ, length, refl, sym, ap, ◌∙◌, subst}
 use Rattle.std.specs.Prelude.{◌==◌}
 use Rattle.std.specs.Str.{bytes_eq}
-use Rattle.asl_rules.specs.Types.{Ty, Fields, Parts, Kind, Kinds, integer_of, boolean, bits_of, enumeration_of, record_of, exception_of, tuple_of, array_of, named, no_part, part, integers, booleans, bitvectors, enumerations, records, exceptions, tuples, arrays, kind, kinds, kind_eq, kinds_eq, constraint_of, width_of, is_among, reaches, by_names, parts_of, element_of, misfit_inside, misfit_of_parts, misfit}
-use Rattle.asl_rules.specs.Types.{View}
-use Rattle.asl_rules.specs.Closed.{is_in, width_at, constraint_at}
+use Rattle.asl_rules.specs.types.Types.{Ty, Fields, Parts, Kind, Kinds, integer_of, boolean, bits_of, enumeration_of, record_of, exception_of, tuple_of, array_of, named, no_part, part, integers, booleans, bitvectors, enumerations, records, exceptions, tuples, arrays, kind, kinds, kind_eq, kinds_eq, constraint_of, width_of, is_among, reaches, by_names, parts_of, element_of, misfit_inside, misfit_of_parts, misfit}
+use Rattle.asl_rules.specs.types.Types.{View}
+use Rattle.asl_rules.specs.types.Closed.{is_in, width_at, constraint_at}
 use Rattle.asl_rules.specs.Tests.{Tests, IsRight}
 use Rattle.asl_syn.specs.declared.code.StaticCode.TheVariants.{T05, T06, T07}
 use Rattle.asl_rules.proofs.values.Constrained.{below_keeps}
-use Rattle.asl_rules.specs.Values.{Value, Values, FieldValues, int, bool, bits_with, label, record_with, exception_with, tuple_with, array_with, no_value, value, count, kind_of, is_exception, is_width}
-use Rattle.asl_rules.specs.Closed.{Assignment}
-use Rattle.asl_rules.specs.Belonging.{has_type, parts_have, all_have}
-use Rattle.asl_rules.specs.WellFormed.{Built, BuiltAll, Declared, Nearest, Shaped, ShapedParts, WellDeclared, WellFormed, Written, is_named, is_nameless_exception}
+use Rattle.asl_rules.specs.values.Values.{Value, Values, FieldValues, int, bool, bits_with, label, record_with, exception_with, tuple_with, array_with, no_value, value, count, kind_of, is_exception, is_width}
+use Rattle.asl_rules.specs.types.Closed.{Assignment}
+use Rattle.asl_rules.specs.private.Belonging.{has_type, parts_have, all_have}
+use Rattle.asl_rules.specs.private.WellFormed.{Built, BuiltAll, Declared, Nearest, Shaped, ShapedParts, WellDeclared, WellFormed, Written, is_named, is_nameless_exception}
 use Rattle.asl_rules.proofs.basics.Tests.{no, some_same, both, and_true, either, or_second, same_name}
 use Rattle.asl_rules.proofs.values.SameKind.{equal_kinds, tests_equal, same_number}
 use Rattle.asl_rules.proofs.values.Shapes.{named_parts, named_from}

@@ -1,10 +1,10 @@
 -- A value has the kind of its type.
 use Rattle.std.proofs.Common.{◌≡◌, true, refl, ap, ap₂}
 use Rattle.std.specs.Prelude.{◌==◌}
-use Rattle.asl_rules.specs.Types.{Ty, Parts, integer_of, boolean, bits_of, enumeration_of, record_of, exception_of, tuple_of, array_of, named, no_part, part, enumerations, records, exceptions, tuples, arrays, one_more, kind, kinds, kind_eq}
-use Rattle.asl_rules.specs.Values.{Value, Values, int, bool, bits_with, label, record_with, exception_with, tuple_with, array_with, no_value, value, count, kind_of, kinds_of}
-use Rattle.asl_rules.specs.Closed.{Assignment, type_with, parts_with, kind_at, kinds_at}
-use Rattle.asl_rules.specs.Belonging.{has_type, parts_have}
+use Rattle.asl_rules.specs.types.Types.{Ty, Parts, integer_of, boolean, bits_of, enumeration_of, record_of, exception_of, tuple_of, array_of, named, no_part, part, enumerations, records, exceptions, tuples, arrays, one_more, kind, kinds, kind_eq}
+use Rattle.asl_rules.specs.values.Values.{Value, Values, int, bool, bits_with, label, record_with, exception_with, tuple_with, array_with, no_value, value, count, kind_of, kinds_of}
+use Rattle.asl_rules.specs.types.Closed.{Assignment, type_with, parts_with, kind_at, kinds_at}
+use Rattle.asl_rules.specs.private.Belonging.{has_type, parts_have}
 use Rattle.asl_rules.proofs.basics.Tests.{no, both, same_name}
 use Rattle.asl_rules.proofs.values.SameKind.{equal_kinds, same_number}
 use Rattle.asl_rules.proofs.values.Shapes.{named_parts}

@@ -2,8 +2,8 @@
 use Rattle.std.proofs.Common.{◌≡◌, ℕ, ◌&&◌, ◌||◌, Bool, true, false, List, [], ◌∷◌, Option, Some, refl, sym, ap, ap₂, ◌∙◌}
 use Rattle.std.specs.Prelude.{◌==◌}
 use Rattle.std.specs.Str.{bytes_eq}
-use Rattle.asl_rules.specs.Types.{Ty, Parts, integer_of, boolean, bits_of, enumeration_of, record_of, exception_of, tuple_of, array_of, named, no_part, part, integers, booleans, bitvectors, tuples, arrays, kind, kinds, kind_eq, kinds_eq, is_among, reaches, by_relation, is_tuple, is_array_of, same_kind, same_kinds, parts_of, element_of}
-use Rattle.asl_rules.specs.WellFormed.{Declared, Nearest, Shaped, ShapedParts, WellDeclared}
+use Rattle.asl_rules.specs.types.Types.{Ty, Parts, integer_of, boolean, bits_of, enumeration_of, record_of, exception_of, tuple_of, array_of, named, no_part, part, integers, booleans, bitvectors, tuples, arrays, kind, kinds, kind_eq, kinds_eq, is_among, reaches, by_relation, is_tuple, is_array_of, same_kind, same_kinds, parts_of, element_of}
+use Rattle.asl_rules.specs.private.WellFormed.{Declared, Nearest, Shaped, ShapedParts, WellDeclared}
 use Rattle.asl_rules.proofs.basics.Tests.{no, some_same, either, same_name}
 use Rattle.asl_rules.proofs.values.SameKind.{tests_equal, tests_turned}
 

@@ -3,7 +3,7 @@ use Rattle.std.proofs.Common.{◌≡◌, ℕ, true, refl, sym, ap, ap₂, subst}
 use Rattle.std.specs.Cmp.{both_ways}
 use Rattle.std.specs.Prelude.{◌==◌}
 use Rattle.std.proofs.lemmas.Bool.Decides.{Decides-eqb}
-use Rattle.asl_rules.specs.Types.{Kind, Kinds, integers, booleans, bitvectors, enumerations, records, exceptions, tuples, arrays, no_kind, one_more, kind_eq, kinds_eq}
+use Rattle.asl_rules.specs.types.Types.{Kind, Kinds, integers, booleans, bitvectors, enumerations, records, exceptions, tuples, arrays, no_kind, one_more, kind_eq, kinds_eq}
 use Rattle.asl_rules.proofs.basics.Tests.{no, both, and_true, same_name, name_is}
 
 pub same_number : (m n : ℕ) → (m == n) ≡ true → m ≡ n

@@ -4,7 +4,7 @@ use Rattle.std.specs.Prelude.{if◌then◌else◌}
 use Rattle.asl_syn.specs.declared.code.StaticCode.{StaticCode}
 use Rattle.asl_syn.specs.declared.code.StaticCode.TheVariants.{T05}
 use Rattle.asl_rules.specs.Tests.{Tests}
-use Rattle.asl_rules.specs.Types.{Ty, same_kind, unless, or_else, misfit_inside, misfit}
+use Rattle.asl_rules.specs.types.Types.{Ty, same_kind, unless, or_else, misfit_inside, misfit}
 use Rattle.asl_rules.proofs.basics.Tests.{some_none}
 
 pub or_both : (o p : Option StaticCode) → or_else o p ≡ None → (o ≡ None) × (p ≡ None)

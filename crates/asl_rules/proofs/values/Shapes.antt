@@ -1,9 +1,9 @@
 -- What a value is that belongs to a type or has a kind.
 use Rattle.std.proofs.Common.{◌≡◌, ℕ, Bool, true, List, ℤ, refl, ap}
-use Rattle.asl_rules.specs.Types.{Ty, View, Kind, Kinds, named, integers, booleans, bitvectors, enumerations, records, exceptions, tuples, arrays, kind_eq}
-use Rattle.asl_rules.specs.Values.{Value, Values, FieldValues, int, bool, bits_with, label, record_with, exception_with, tuple_with, array_with, count, kind_of, kinds_of, is_exception}
-use Rattle.asl_rules.specs.Closed.{Assignment}
-use Rattle.asl_rules.specs.Belonging.{has_type}
+use Rattle.asl_rules.specs.types.Types.{Ty, View, Kind, Kinds, named, integers, booleans, bitvectors, enumerations, records, exceptions, tuples, arrays, kind_eq}
+use Rattle.asl_rules.specs.values.Values.{Value, Values, FieldValues, int, bool, bits_with, label, record_with, exception_with, tuple_with, array_with, count, kind_of, kinds_of, is_exception}
+use Rattle.asl_rules.specs.types.Closed.{Assignment}
+use Rattle.asl_rules.specs.private.Belonging.{has_type}
 use Rattle.std.specs.Prelude.{◌==◌}
 use Rattle.asl_rules.proofs.basics.Tests.{no, both, and_true, same_name}
 use Rattle.asl_rules.proofs.values.SameKind.{equal_kinds, equal_all, tests_equal, same_number}

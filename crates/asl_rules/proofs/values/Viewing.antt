@@ -2,11 +2,11 @@
 -- changes nothing, and a value stored over one that went through the type has the type's bitfields.
 use Rattle.std.proofs.Common.{◌≡◌, ℕ, zero, suc, ℤ, pos, negsuc, ◌&&◌, Bool, true, false, List, refl, sym, ap, ap₂, ◌∙◌, subst, length}
 use Rattle.std.specs.Prelude.{◌==◌}
-use Rattle.asl_rules.specs.Types.{View, kind_eq}
-use Rattle.asl_rules.specs.Closed as cl
-use Rattle.asl_rules.specs.Closed.{Closed, ClosedParts, is_in}
-use Rattle.asl_rules.specs.Values.{Value, Values, int, bool, bits_with, label, record_with, exception_with, tuple_with, array_with, no_value, value, count, is_exception, is_width, has, parts_in, all_in}
-use Rattle.asl_rules.specs.Views.{viewed, parts_viewed, all_viewed, same_widths, all_same_widths, adopted, all_adopted}
+use Rattle.asl_rules.specs.types.Types.{View, kind_eq}
+use Rattle.asl_rules.specs.types.Closed as cl
+use Rattle.asl_rules.specs.types.Closed.{Closed, ClosedParts, is_in}
+use Rattle.asl_rules.specs.values.Values.{Value, Values, int, bool, bits_with, label, record_with, exception_with, tuple_with, array_with, no_value, value, count, is_exception, is_width, has, parts_in, all_in}
+use Rattle.asl_rules.specs.types.Views.{viewed, parts_viewed, all_viewed, same_widths, all_same_widths, adopted, all_adopted}
 use Rattle.asl_rules.proofs.basics.Tests.{no, both, and_true}
 use Rattle.asl_rules.proofs.values.SameKind.{same_number, number_is}
 

@@ -7,10 +7,10 @@ use Rattle.asl_syn.specs.declared.code.StaticCode.TheVariants.{T12, T13}
 use Rattle.asl_rules.specs.declared.effect.Effect.{Effect}
 use Rattle.asl_rules.specs.declared.effect.Effect.TheVariants.{Pure}
 use Rattle.asl_rules.specs.Faults.{◌>>=◌, ◌>>◌, need}
-use Rattle.asl_rules.specs.Types.{Ty, part}
-use Rattle.asl_rules.specs.Trees.{Tree, Note}
-use Rattle.asl_rules.specs.Effects.{greater, at_most, all_together, greatest}
-use Rattle.asl_rules.specs.Typing.{Typed, Operand, operand, typed_as, in_class, finish, finish_all, effects_of, types_of}
+use Rattle.asl_rules.specs.types.Types.{Ty, part}
+use Rattle.asl_rules.specs.runs.Trees.{Tree, Note}
+use Rattle.asl_rules.specs.types.Effects.{greater, at_most, all_together, greatest}
+use Rattle.asl_rules.specs.expressions.Typing.{Typed, Operand, operand, typed_as, in_class, finish, finish_all, effects_of, types_of}
 
 -- ---- answers
 

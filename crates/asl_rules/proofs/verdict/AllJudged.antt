@@ -8,10 +8,10 @@ use Rattle.asl_syn.specs.declared.tree.Decl.{Decl}
 use Rattle.asl_syn.specs.declared.tree.Decl.TheVariants as dc
 use Rattle.asl_rules.specs.Faults.{need}
 use Rattle.asl_rules.specs.Tests.{Tests}
-use Rattle.asl_rules.specs.Names.{library}
-use Rattle.asl_rules.specs.Scopes.{Entry, subprogram}
-use Rattle.asl_rules.specs.Uses.{Used, uses, declares, any_declared, leads_by, leads_to, reaches_itself, cycles_rule}
-use Rattle.asl_rules.specs.Declarations.{in_names, decl_rule, Judged, Waiting, Fine, Faulty, judged, is_fine, entries_of, entries, fine_where_used, all_fine, judged_by, still, judgement, final, faulty, faults_rule}
+use Rattle.asl_rules.specs.declarations.Names.{library}
+use Rattle.asl_rules.specs.declarations.Scopes.{Entry, subprogram}
+use Rattle.asl_rules.specs.declarations.Uses.{Used, uses, declares, any_declared, leads_by, leads_to, reaches_itself, cycles_rule}
+use Rattle.asl_rules.specs.declarations.Declarations.{in_names, decl_rule, Judged, Waiting, Fine, Faulty, judged, is_fine, entries_of, entries, fine_where_used, all_fine, judged_by, still, judgement, final, faulty, faults_rule}
 use Rattle.asl_rules.proofs.basics.Inversions.{err_ok, then_ok, need_ok}
 use Rattle.asl_rules.proofs.basics.Tests.{no}
 use Rattle.asl_rules.proofs.verdict.Distinct.{In}

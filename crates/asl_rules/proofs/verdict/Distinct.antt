@@ -6,9 +6,9 @@ use Rattle.std.specs.Str.{bytes_eq}
 use Rattle.asl_syn.specs.declared.code.StaticCode.TheVariants.{T01}
 use Rattle.asl_syn.specs.declared.tree.Decl.{Decl}
 use Rattle.asl_rules.specs.Faults.{need}
-use Rattle.asl_rules.specs.Names.{library, is_listed, Declared, declared_by, standing, may_share, is_new, names_rule, all_declared}
-use Rattle.asl_rules.specs.Scopes.{Entry, Standing, Stored, Subprogram, TypeName, Label, subprogram, standing_of}
-use Rattle.asl_rules.specs.Declarations.{Judged, Waiting, Fine, Faulty, entries_of, entries}
+use Rattle.asl_rules.specs.declarations.Names.{library, is_listed, Declared, declared_by, standing, may_share, is_new, names_rule, all_declared}
+use Rattle.asl_rules.specs.declarations.Scopes.{Entry, Standing, Stored, Subprogram, TypeName, Label, subprogram, standing_of}
+use Rattle.asl_rules.specs.declarations.Declarations.{Judged, Waiting, Fine, Faulty, entries_of, entries}
 use Rattle.asl_rules.proofs.basics.Inversions.{then_ok, need_ok}
 use Rattle.asl_rules.proofs.basics.Tests.{no, some_same, none_some, both, same_name, name_is}
 use Rattle.asl_rules.proofs.scopes.Lookups.{behind, before_is, apart_from, Apart}

@@ -5,10 +5,10 @@ use Rattle.std.specs.Prelude.{Result}
 use Rattle.asl_syn.specs.declared.code.Fault.{Fault}
 use Rattle.asl_syn.specs.declared.tree.Decl.{Decl}
 use Rattle.asl_rules.specs.Tests.{Tests}
-use Rattle.asl_rules.specs.Names.{library, declared_by, names_rule, all_declared}
-use Rattle.asl_rules.specs.Scopes.{Entry, Standing, subprogram, standing_of}
-use Rattle.asl_rules.specs.Uses.{Used, uses, declares, any_declared, cycles_rule}
-use Rattle.asl_rules.specs.Declarations.{in_names, decl_rule, Judged, Waiting, Fine, Faulty, judged, is_fine, entries_of, entries, fine_where_used, all_fine, judged_by, still, judgement, final}
+use Rattle.asl_rules.specs.declarations.Names.{library, declared_by, names_rule, all_declared}
+use Rattle.asl_rules.specs.declarations.Scopes.{Entry, Standing, subprogram, standing_of}
+use Rattle.asl_rules.specs.declarations.Uses.{Used, uses, declares, any_declared, cycles_rule}
+use Rattle.asl_rules.specs.declarations.Declarations.{in_names, decl_rule, Judged, Waiting, Fine, Faulty, judged, is_fine, entries_of, entries, fine_where_used, all_fine, judged_by, still, judgement, final}
 use Rattle.asl_rules.proofs.basics.Tests.{no, both, and_true}
 use Rattle.asl_rules.proofs.verdict.Distinct.{Distinct, distinct_of, plain_in, plain_new, plain_named, AllNamed, IsPlain, In, behind_library, past_library, found_at, own_found}
 use Rattle.asl_rules.proofs.verdict.Reaching.{UsesOne, none_stuck}

@@ -5,7 +5,7 @@ use Rattle.asl_syn.specs.declared.code.StaticCode.TheVariants.{T03}
 use Rattle.asl_syn.specs.declared.tree.Decl.{Decl}
 use Rattle.asl_syn.specs.declared.tree.Decl.TheVariants as dc
 use Rattle.asl_rules.specs.Faults.{◌>>◌, need}
-use Rattle.asl_rules.specs.Uses.{uses_one_of, leads_by, leads_to, reaches_itself, cycles_rule}
+use Rattle.asl_rules.specs.declarations.Uses.{uses_one_of, leads_by, leads_to, reaches_itself, cycles_rule}
 use Rattle.asl_rules.proofs.basics.Tests.{no, both, and_true, either, or_first, or_second}
 use Rattle.asl_rules.proofs.verdict.Distinct.{In}
 use Rattle.asl_rules.proofs.verdict.Settling.{settled}

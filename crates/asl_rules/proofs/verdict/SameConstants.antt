@@ -3,18 +3,18 @@ use Rattle.std.proofs.Common.{◌≡◌, ℕ, Bool, true, false, List, [], ◌�
 use Rattle.std.specs.Prelude.{option_map}
 use Rattle.asl_syn.specs.declared.token.Span.{Span}
 use Rattle.asl_syn.specs.declared.tree.BinaryOperator.{BinaryOperator}
-use Rattle.asl_rules.specs.Shaped.{Shaped, TypeOver, itself, exprs_in, shapes_in, type_shapes, first_shape}
-use Rattle.asl_rules.specs.Views.{stripped}
-use Rattle.asl_rules.specs.Closed.{closed}
-use Rattle.asl_rules.specs.Values.{Value}
-use Rattle.asl_rules.specs.Operators.{Decided, Already, ByRight, Strictness, Strict, Lazy, binary_value, truth}
-use Rattle.asl_rules.specs.Scopes.{Entry, standing_of, type_in}
-use Rattle.asl_rules.specs.Plans.{Plan, Pure, Good, Bad, choose, lift}
-use Rattle.asl_rules.specs.Pures.{◌>>=◌, known}
-use Rattle.asl_rules.specs.Forms as forms
-use Rattle.asl_rules.specs.Forms.{at_once, behind, behind_all, behind_more, eval_all, unless_decided, behind_left}
-use Rattle.asl_rules.specs.ByNames.{types_among}
-use Rattle.asl_rules.specs.Constants.{Known, initial_value, settled}
+use Rattle.asl_rules.specs.types.Shaped.{Shaped, TypeOver, itself, exprs_in, shapes_in, type_shapes, first_shape}
+use Rattle.asl_rules.specs.types.Views.{stripped}
+use Rattle.asl_rules.specs.types.Closed.{closed}
+use Rattle.asl_rules.specs.values.Values.{Value}
+use Rattle.asl_rules.specs.values.Operators.{Decided, Already, ByRight, Strictness, Strict, Lazy, binary_value, truth}
+use Rattle.asl_rules.specs.declarations.Scopes.{Entry, standing_of, type_in}
+use Rattle.asl_rules.specs.runs.Plans.{Plan, Pure, Good, Bad, choose, lift}
+use Rattle.asl_rules.specs.runs.Pures.{◌>>=◌, known}
+use Rattle.asl_rules.specs.runs.Forms as forms
+use Rattle.asl_rules.specs.runs.Forms.{at_once, behind, behind_all, behind_more, eval_all, unless_decided, behind_left}
+use Rattle.asl_rules.specs.runs.ByNames.{types_among}
+use Rattle.asl_rules.specs.declarations.Constants.{Known, initial_value, settled}
 use Rattle.asl_rules.proofs.verdict.SameRules.{shown, same_shown, AllOf}
 
 pure_on : {X Y : Type 0} (r : Pure X) (f g : X → Pure Y) → ((x : X) → f x ≡ g x) → (r >>= f) ≡ (r >>= g)

@@ -16,18 +16,18 @@ use Rattle.asl_syn.specs.declared.tree.Decl.TheVariants as dc
 use Rattle.asl_rules.specs.declared.effect.Effect.TheVariants.{Writes}
 use Rattle.asl_rules.specs.Faults.{◌>>=◌, ◌>>◌, none_at, found_or, fitted}
 use Rattle.asl_rules.specs.Tests.{Tests}
-use Rattle.asl_rules.specs.Types.{Ty, Fields, field, misfit}
-use Rattle.asl_rules.specs.Trees.{Tree}
-use Rattle.asl_rules.specs.Closed.{closed}
-use Rattle.asl_rules.specs.Views.{viewed}
-use Rattle.asl_rules.specs.Scopes.{Entry, standing_of, storage_in}
-use Rattle.asl_rules.specs.Typing.{Typed}
-use Rattle.asl_rules.specs.Writing.{Written}
-use Rattle.asl_rules.specs.Exprs.{found, found_type, typed, written}
-use Rattle.asl_rules.specs.UsedNames.{Use, Uses, of_value, of_subprogram, of_type, name_of, or_else, first_said, expr_uses, type_uses, maybe_expr_uses, maybe_type_uses, formal_uses, def_uses, supertype_uses, decl_uses}
-use Rattle.asl_rules.specs.Uses.{Used, uses}
-use Rattle.asl_rules.specs.Barred.{at_var, barred_at, barred}
-use Rattle.asl_rules.specs.Declarations.{in_names, fields_written, def_rule, supertype_rule, evaluated, with_type, unannotated, known, first_in, storage_rule, is_var, decl_rule}
+use Rattle.asl_rules.specs.types.Types.{Ty, Fields, field, misfit}
+use Rattle.asl_rules.specs.runs.Trees.{Tree}
+use Rattle.asl_rules.specs.types.Closed.{closed}
+use Rattle.asl_rules.specs.types.Views.{viewed}
+use Rattle.asl_rules.specs.declarations.Scopes.{Entry, standing_of, storage_in}
+use Rattle.asl_rules.specs.expressions.Typing.{Typed}
+use Rattle.asl_rules.specs.types.Writing.{Written}
+use Rattle.asl_rules.specs.expressions.Exprs.{found, found_type, typed, written}
+use Rattle.asl_rules.specs.declarations.UsedNames.{Use, Uses, of_value, of_subprogram, of_type, name_of, or_else, first_said, expr_uses, type_uses, maybe_expr_uses, maybe_type_uses, formal_uses, def_uses, supertype_uses, decl_uses}
+use Rattle.asl_rules.specs.declarations.Uses.{Used, uses}
+use Rattle.asl_rules.specs.declarations.Barred.{at_var, barred_at, barred}
+use Rattle.asl_rules.specs.declarations.Declarations.{in_names, fields_written, def_rule, supertype_rule, evaluated, with_type, unannotated, known, first_in, storage_rule, is_var, decl_rule}
 use Rattle.asl_rules.proofs.verdict.Alike.{Equal, Same, steps, alike_equal, equal_alike}
 use Rattle.asl_rules.proofs.verdict.SameRules.{shown, same_shown, AllOf, SameWritten, type_same}
 use Rattle.asl_rules.proofs.verdict.SameNames.{Agrees, Agree, Calls, Called, left, right, expr_same, written_same}

@@ -19,33 +19,33 @@ use Rattle.asl_rules.specs.declared.effect.Effect.{Effect}
 use Rattle.asl_rules.specs.declared.effect.Effect.TheVariants.{Pure}
 use Rattle.asl_rules.specs.Faults.{fault_of, found_or, need}
 use Rattle.asl_rules.specs.Tests.{Tests}
-use Rattle.asl_rules.specs.Types.{boolean, bits_wide}
-use Rattle.asl_rules.specs.Shapes as shape
-use Rattle.asl_rules.specs.Trees as tree
-use Rattle.asl_rules.specs.Values.{bool, bits_with, tuple_with}
-use Rattle.asl_rules.specs.Vectors.{literal_digits, literal_of, literal_bits}
-use Rattle.asl_rules.specs.Scopes.{Entry, Signature, standing_of}
-use Rattle.asl_rules.specs.Widths.{width_of_number, has_width}
-use Rattle.asl_rules.specs.Typing.{Found, width_as, number_as, width_note}
-use Rattle.asl_rules.specs.Slicing.{FoundSlice}
-use Rattle.asl_rules.specs.Writing.{FoundPart, FoundBitfield, FoundType, written_as}
-use Rattle.asl_rules.specs.Patterns.{FoundPattern, matched}
-use Rattle.asl_rules.specs.Exprs.{literal_type, FoundField, found, found_type, found_slice, found_pattern, typed_rule, width_rule, number_rule, atom_rule, written_rule, expr_rule, given_rule, slice_rule, part_rule, bitfield_rule, type_rule, pattern_rule}
-use Rattle.asl_rules.specs.UsedNames.{Use, Uses, of_value, of_subprogram, of_type, name_of, Each, joined, in_bitfield, in_part, in_expr, in_field, in_pattern, in_slice, in_type, bitfield_uses, part_uses, given_uses, expr_uses, pattern_uses, slice_uses, type_uses}
+use Rattle.asl_rules.specs.types.Types.{boolean, bits_wide}
+use Rattle.asl_rules.specs.types.Shapes as shape
+use Rattle.asl_rules.specs.runs.Trees as tree
+use Rattle.asl_rules.specs.values.Values.{bool, bits_with, tuple_with}
+use Rattle.asl_rules.specs.values.Vectors.{literal_digits, literal_of, literal_bits}
+use Rattle.asl_rules.specs.declarations.Scopes.{Entry, Signature, standing_of}
+use Rattle.asl_rules.specs.types.Widths.{width_of_number, has_width}
+use Rattle.asl_rules.specs.expressions.Typing.{Found, width_as, number_as, width_note}
+use Rattle.asl_rules.specs.expressions.Slicing.{FoundSlice}
+use Rattle.asl_rules.specs.types.Writing.{FoundPart, FoundBitfield, FoundType, written_as}
+use Rattle.asl_rules.specs.expressions.Patterns.{FoundPattern, matched}
+use Rattle.asl_rules.specs.expressions.Exprs.{literal_type, FoundField, found, found_type, found_slice, found_pattern, typed_rule, width_rule, number_rule, atom_rule, written_rule, expr_rule, given_rule, slice_rule, part_rule, bitfield_rule, type_rule, pattern_rule}
+use Rattle.asl_rules.specs.declarations.UsedNames.{Use, Uses, of_value, of_subprogram, of_type, name_of, Each, joined, in_bitfield, in_part, in_expr, in_field, in_pattern, in_slice, in_type, bitfield_uses, part_uses, given_uses, expr_uses, pattern_uses, slice_uses, type_uses}
 use Rattle.asl_rules.proofs.verdict.Alike.{Alike, alike_ok, alike_err, step, after, alike_cond, Same, Both, in_class_alike}
 use Rattle.asl_rules.proofs.verdict.SameRules.{shown, AllOf, SameWidths, SameNumbers, SameWritten, TypedSame, WidthSame, OperandsSame, AddsSame, GivenSame, PartSame, BitfieldSame, WrittenSame, PatternSame, name_alike, unary_alike, binary_alike, conditional_alike, tuple_alike, construct_alike, field_alike, bitfields_alike, element_alike, name_width, name_number, name_atom, negated_width, negated_number, combined_width, combined_number, call_alike, bit_operands, bit_adds, high_low_operands, high_low_adds, low_width_operands, low_width_adds, factor_width_operands, factor_width_adds, slices_alike, set_alike, tuple_pattern_alike, mask_alike, end_alike, value_alike, range_alike, in_alike, range_part, only_part, integer_alike, one_bit_alike, bit_range_alike, bits_alike, named_alike, tuple_written_alike, array_alike, as_alike}
 use Rattle.std.specs.Prelude.{option_map}
-use Rattle.asl_rules.specs.Shapes.{SliceShape, PatternShape, PartShape, BitfieldShape}
-use Rattle.asl_rules.specs.Shaped.{Shaped, TypeOver, itself, exprs_in, shapes_in, given_layer, slice_layer, pattern_layer, part_layer, bitfield_layer, type_layer}
-use Rattle.asl_rules.specs.Operators.{strictness, unary_value, truth}
-use Rattle.asl_rules.specs.Structures.{constructed, values_of}
-use Rattle.asl_rules.specs.Written.{converted}
-use Rattle.asl_rules.specs.Plans.{Good}
-use Rattle.asl_rules.specs.Pures.{known}
-use Rattle.asl_rules.specs.Forms as forms
-use Rattle.asl_rules.specs.Forms.{at_once, behind_all, behind_more}
-use Rattle.asl_rules.specs.ByNames.{types_among}
-use Rattle.asl_rules.specs.Constants.{Known, initial_value, settled, constant_layer, constant}
+use Rattle.asl_rules.specs.types.Shapes.{SliceShape, PatternShape, PartShape, BitfieldShape}
+use Rattle.asl_rules.specs.types.Shaped.{Shaped, TypeOver, itself, exprs_in, shapes_in, given_layer, slice_layer, pattern_layer, part_layer, bitfield_layer, type_layer}
+use Rattle.asl_rules.specs.values.Operators.{strictness, unary_value, truth}
+use Rattle.asl_rules.specs.values.Structures.{constructed, values_of}
+use Rattle.asl_rules.specs.types.Written.{converted}
+use Rattle.asl_rules.specs.runs.Plans.{Good}
+use Rattle.asl_rules.specs.runs.Pures.{known}
+use Rattle.asl_rules.specs.runs.Forms as forms
+use Rattle.asl_rules.specs.runs.Forms.{at_once, behind_all, behind_more}
+use Rattle.asl_rules.specs.runs.ByNames.{types_among}
+use Rattle.asl_rules.specs.declarations.Constants.{Known, initial_value, settled, constant_layer, constant}
 use Rattle.asl_rules.proofs.constants.KnownParts.{known_bitfield, known_part, known_given, known_pattern, known_slice, known_type, known_layer, given_opened, slice_opened, range_opened, bitfield_opened, pattern_opened, type_opened}
 use Rattle.asl_rules.proofs.verdict.SameConstants.{pure_same, KnownSame, ExprsSame, ShapeSame, once_same, behind_same, eval_all_same, behind_all_same, behind_more_same, behind_left_same, taken_same, type_same, value_same, exprs_same, written_exprs, shapes_same}
 

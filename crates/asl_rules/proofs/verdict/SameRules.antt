@@ -15,25 +15,25 @@ use Rattle.asl_rules.specs.declared.effect.Effect.{Effect}
 use Rattle.asl_rules.specs.declared.effect.Effect.TheVariants.{Pure}
 use Rattle.asl_rules.specs.Faults.{◌>>=◌, ◌>>◌, need, fault_of, found_or, fitted}
 use Rattle.asl_rules.specs.Tests.{Tests}
-use Rattle.asl_rules.specs.Types.{Ty, Parts, Widths, integer_of, boolean, no_part, part, tuple_of, kinds, misfit, substitute, tuple_parts, is_boolean, join, bits_wide, is_integer, is_bits, array_of, bits_of, width_of, same_kind, kinds_eq, bare}
-use Rattle.asl_rules.specs.Effects.{together, greater, all_together, greatest}
-use Rattle.asl_rules.specs.Routines.{Routine, routine_named}
-use Rattle.asl_rules.specs.Trees as tree
-use Rattle.asl_rules.specs.Trees.{Tree, Note, own}
-use Rattle.asl_rules.specs.Scopes.{Entry, Scope, Signature, Param, Chosen, Standing, Stored, Subprogram, TypeName, Label, standing_of, storage_of, storage_in, type_of_name, type_in, is_subprogram, reading, choose}
-use Rattle.asl_rules.specs.Layouts.{slot_of, layout_of}
-use Rattle.asl_rules.specs.Widths.{Total, plus, minus, plus_number, totalled, width_of_standing, width_of_binary, width_difference, number_of_standing, number_of_binary, held, storage_has_atom, bounded, length_of}
-use Rattle.asl_rules.specs.Typing.{Found, Typed, Width, Number, Operand, operand, operands, width_as, number_as, width_note, in_class, finish, finish_all, effects_of, types_of, trees_of, trees_from}
-use Rattle.asl_rules.specs.Operations.{operation, operation_of_two, unary_rule, binary_rule, comparable}
-use Rattle.asl_rules.specs.Members.{field_behind, bitfields_behind, bitfields_named, element_at, indexed, member_named, member_type, member_tree, construction, constructed, given_once, all_fit, places_given, texts_of, all_wide}
-use Rattle.asl_rules.specs.Slicing.{FoundSlice, all_operands, all_integers, all_add, no_width, sliced_width, sliceable, slices_behind, slices_rule, shapes_of, bit_found, high_low_found, low_width_found, factor_width_found}
-use Rattle.asl_rules.specs.Writing.{WrittenPart, FoundPart, WrittenEnd, WrittenField, FoundBitfield, Written, FoundType, written_as, range_of_widths, range_of_numbers, range_rule, one_width, one_number, only_rule, all_parts, parts_written, part_shapes, part_trees, field_shapes, field_trees, type_shapes, all_sizes, integer_written, integer_rule, most_parts, end_rule, one_bit_rule, bit_range_rule, all_fields, all_numbered, view_rule, within_limits, bits_written, bits_rule, name_written, named_written, types_in_order, types_written, tuple_written, array_written, array_rule, converted_to, as_rule, all_placed, names_once}
-use Rattle.asl_rules.specs.Patterns.{FoundPattern, Matched, matched, all_match, as_many, parts_match, set_matched, mask_matched, end_matched, value_matched, range_matched, pure_typed, tuple_pattern_rule, matching, in_rule}
-use Rattle.asl_rules.specs.Calls.{Giving, Replacing, given, replacing, written_first, argument_first, widths_given, polys, is_width_alone, given_by_argument, widths_omitted, widths_rule, replaced_by, fits_replaced, params_fit, arguments_fit, both_fit, call_begun, chosen, routine_taken, routine_called, function_called, function_of, function_rule, routine_params, routine_type, routine_formals, call_tree}
-use Rattle.asl_rules.specs.Exprs.{FoundField, name_of_standing, name_rule, apart, conditional_of, conditional_rule, operation_rule, operation_rule_of_two, tuple_with, tuple_rule, values_given, names_given, construct_rule, field_rule, bitfields_rule, element_rule, name_read, width_of_operation, number_of_operation}
+use Rattle.asl_rules.specs.types.Types.{Ty, Parts, Widths, integer_of, boolean, no_part, part, tuple_of, kinds, misfit, substitute, tuple_parts, is_boolean, join, bits_wide, is_integer, is_bits, array_of, bits_of, width_of, same_kind, kinds_eq, bare}
+use Rattle.asl_rules.specs.types.Effects.{together, greater, all_together, greatest}
+use Rattle.asl_rules.specs.declarations.Routines.{Routine, routine_named}
+use Rattle.asl_rules.specs.runs.Trees as tree
+use Rattle.asl_rules.specs.runs.Trees.{Tree, Note, own}
+use Rattle.asl_rules.specs.declarations.Scopes.{Entry, Scope, Signature, Param, Chosen, Standing, Stored, Subprogram, TypeName, Label, standing_of, storage_of, storage_in, type_of_name, type_in, is_subprogram, reading, choose}
+use Rattle.asl_rules.specs.declarations.Layouts.{slot_of, layout_of}
+use Rattle.asl_rules.specs.types.Widths.{Total, plus, minus, plus_number, totalled, width_of_standing, width_of_binary, width_difference, number_of_standing, number_of_binary, held, storage_has_atom, bounded, length_of}
+use Rattle.asl_rules.specs.expressions.Typing.{Found, Typed, Width, Number, Operand, operand, operands, width_as, number_as, width_note, in_class, finish, finish_all, effects_of, types_of, trees_of, trees_from}
+use Rattle.asl_rules.specs.expressions.Operations.{operation, operation_of_two, unary_rule, binary_rule, comparable}
+use Rattle.asl_rules.specs.values.Members.{field_behind, bitfields_behind, bitfields_named, element_at, indexed, member_named, member_type, member_tree, construction, constructed, given_once, all_fit, places_given, texts_of, all_wide}
+use Rattle.asl_rules.specs.expressions.Slicing.{FoundSlice, all_operands, all_integers, all_add, no_width, sliced_width, sliceable, slices_behind, slices_rule, shapes_of, bit_found, high_low_found, low_width_found, factor_width_found}
+use Rattle.asl_rules.specs.types.Writing.{WrittenPart, FoundPart, WrittenEnd, WrittenField, FoundBitfield, Written, FoundType, written_as, range_of_widths, range_of_numbers, range_rule, one_width, one_number, only_rule, all_parts, parts_written, part_shapes, part_trees, field_shapes, field_trees, type_shapes, all_sizes, integer_written, integer_rule, most_parts, end_rule, one_bit_rule, bit_range_rule, all_fields, all_numbered, view_rule, within_limits, bits_written, bits_rule, name_written, named_written, types_in_order, types_written, tuple_written, array_written, array_rule, converted_to, as_rule, all_placed, names_once}
+use Rattle.asl_rules.specs.expressions.Patterns.{FoundPattern, Matched, matched, all_match, as_many, parts_match, set_matched, mask_matched, end_matched, value_matched, range_matched, pure_typed, tuple_pattern_rule, matching, in_rule}
+use Rattle.asl_rules.specs.expressions.Calls.{Giving, Replacing, given, replacing, written_first, argument_first, widths_given, polys, is_width_alone, given_by_argument, widths_omitted, widths_rule, replaced_by, fits_replaced, params_fit, arguments_fit, both_fit, call_begun, chosen, routine_taken, routine_called, function_called, function_of, function_rule, routine_params, routine_type, routine_formals, call_tree}
+use Rattle.asl_rules.specs.expressions.Exprs.{FoundField, name_of_standing, name_rule, apart, conditional_of, conditional_rule, operation_rule, operation_rule_of_two, tuple_with, tuple_rule, values_given, names_given, construct_rule, field_rule, bitfields_rule, element_rule, name_read, width_of_operation, number_of_operation}
 use Rattle.asl_rules.proofs.verdict.Alike.{Alike, alike_ok, alike_err, alike_self, steps, step, after, alike_cond, Equal, Both, Same, in_class_alike, finish_alike, by_tree, SameOperands, operand_same, effects_same, types_same, finish_all_alike}
-use Rattle.asl_rules.specs.Shapes as shape
-use Rattle.asl_rules.specs.Shapes.{PatternShape, one_place, many_places, equal_to}
+use Rattle.asl_rules.specs.types.Shapes as shape
+use Rattle.asl_rules.specs.types.Shapes.{PatternShape, one_place, many_places, equal_to}
 use Rattle.asl_cons.specs.declared.End.TheVariants.{Int}
 
 -- ---- what a name shows: a subprogram shows nothing

@@ -11,12 +11,12 @@ use Rattle.asl_syn.specs.declared.tree.StorageDecl.{StorageDecl}
 use Rattle.asl_syn.specs.declared.tree.Decl.{Decl}
 use Rattle.asl_syn.specs.declared.tree.Decl.TheVariants as dc
 use Rattle.asl_rules.specs.Tests.{Tests}
-use Rattle.asl_rules.specs.Types.{Ty, named, structure}
-use Rattle.asl_rules.specs.Values.{label}
-use Rattle.asl_rules.specs.Names.{library, Declared, declared_as, declared_by, labels_of, names_rule, all_declared}
-use Rattle.asl_rules.specs.Scopes.{Entry, Scope, Standing, Stored, Subprogram, TypeName, Label, subprogram, global, label_name, standing_of}
-use Rattle.asl_rules.specs.Uses.{Used, uses, is_declared, declares, cycles_rule}
-use Rattle.asl_rules.specs.Declarations.{in_names, def_rule, supertype_rule, label_entries, type_entries, type_decl_rule, storage_rule, storage_decl_rule, is_var, decl_rule, Judged, Waiting, Fine, Faulty, judged, is_fine, entries_of, entries, fine_where_used, all_fine, judged_by, still, judgement, final, faults_rule, names_of_program}
+use Rattle.asl_rules.specs.types.Types.{Ty, named, structure}
+use Rattle.asl_rules.specs.values.Values.{label}
+use Rattle.asl_rules.specs.declarations.Names.{library, Declared, declared_as, declared_by, labels_of, names_rule, all_declared}
+use Rattle.asl_rules.specs.declarations.Scopes.{Entry, Scope, Standing, Stored, Subprogram, TypeName, Label, subprogram, global, label_name, standing_of}
+use Rattle.asl_rules.specs.declarations.Uses.{Used, uses, is_declared, declares, cycles_rule}
+use Rattle.asl_rules.specs.declarations.Declarations.{in_names, def_rule, supertype_rule, label_entries, type_entries, type_decl_rule, storage_rule, storage_decl_rule, is_var, decl_rule, Judged, Waiting, Fine, Faulty, judged, is_fine, entries_of, entries, fine_where_used, all_fine, judged_by, still, judgement, final, faults_rule, names_of_program}
 use Rattle.asl_rules.proofs.basics.Inversions.{ok_ok, bind_ok}
 use Rattle.asl_rules.proofs.basics.Tests.{no, some_same, none_some, both, name_is}
 use Rattle.asl_rules.proofs.verdict.Distinct.{Distinct, distinct_of, Plain, plain_in, plain_new, plain_named, AllNamed, IsPlain, In, behind_library, past_library, found_at, own_found}

@@ -4,10 +4,10 @@ use Rattle.std.proofs.lemmas.List.{append-nil}
 use Rattle.std.specs.Str.{bytes_eq}
 use Rattle.asl_syn.specs.declared.tree.Decl.{Decl}
 use Rattle.asl_rules.specs.Tests.{Tests}
-use Rattle.asl_rules.specs.Names.{library, Declared, declared_by, names_rule, all_declared}
-use Rattle.asl_rules.specs.Layouts.{layout_of}
-use Rattle.asl_rules.specs.Scopes.{Entry, Subprogram, subprogram, next_atom, standing_of, storage_in, storage_of, with_entry}
-use Rattle.asl_rules.specs.Declarations.{Judged, Waiting, Fine, Faulty, entries_of, entries, final, names_of_program}
+use Rattle.asl_rules.specs.declarations.Names.{library, Declared, declared_by, names_rule, all_declared}
+use Rattle.asl_rules.specs.declarations.Layouts.{layout_of}
+use Rattle.asl_rules.specs.declarations.Scopes.{Entry, Subprogram, subprogram, next_atom, standing_of, storage_in, storage_of, with_entry}
+use Rattle.asl_rules.specs.declarations.Declarations.{Judged, Waiting, Fine, Faulty, entries_of, entries, final, names_of_program}
 use Rattle.asl_rules.proofs.basics.Tests.{no}
 use Rattle.asl_rules.proofs.scopes.Lookups.{behind}
 use Rattle.asl_rules.proofs.scopes.EachOnce.{SameStandings, with_one, entries_same, Once, once_entries, turned, NewOrSubprograms, layouts_same, atoms_same}

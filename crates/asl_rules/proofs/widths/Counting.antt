@@ -5,9 +5,9 @@ use Rattle.std.specs.Str.{bytes_eq}
 use Rattle.std.proofs.lemmas.Slice.Eq.{bytes_eq-Decides}
 use Rattle.asl_poly.specs.Terms.{Summand}
 use Rattle.asl_poly.specs.Poly.{atom_map}
-use Rattle.asl_rules.specs.Types.{Ty}
-use Rattle.asl_rules.specs.Scopes.{Counted, Entry, Storage, Standing, Stored, Subprogram, TypeName, Label, is_local, next_atom, name_or_later, name_at, atom_at, fixed, variable, standing_of, storage_in, storage_of, known_value, is_free, is_absent}
-use Rattle.asl_rules.specs.Worth.{Alone, AllAlone, AtomsAlone, WellCounted}
+use Rattle.asl_rules.specs.types.Types.{Ty}
+use Rattle.asl_rules.specs.declarations.Scopes.{Counted, Entry, Storage, Standing, Stored, Subprogram, TypeName, Label, is_local, next_atom, name_or_later, name_at, atom_at, fixed, variable, standing_of, storage_in, storage_of, known_value, is_free, is_absent}
+use Rattle.asl_rules.specs.private.Worth.{Alone, AllAlone, AtomsAlone, WellCounted}
 use Rattle.asl_rules.proofs.basics.Tests.{no}
 
 none_some : {A : Type 0} (x : A) → (let o : Option A = None in o) ≡ Some x → ⊥

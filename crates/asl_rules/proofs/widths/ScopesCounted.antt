@@ -25,21 +25,21 @@ use Rattle.asl_syn.specs.declared.tree.Bind.TheVariants.{Single, Several}
 use Rattle.asl_rules.specs.declared.effect.Effect.{Effect}
 use Rattle.asl_rules.specs.Faults.{◌>>◌, need, found_or}
 use Rattle.asl_rules.specs.Tests.{Tests}
-use Rattle.asl_rules.specs.Types.{Ty, Parts, no_part, part, is_integer, tuple_parts}
-use Rattle.asl_rules.specs.Trees as tree
-use Rattle.asl_rules.specs.Trees.{Act}
-use Rattle.asl_rules.specs.Effects.{at_most}
-use Rattle.asl_rules.specs.Scopes.{Scope, Entry, Storage, Standing, Stored, Subprogram, TypeName, Label, Param, Counted, atom_at, next_atom, fixed, variable, subprogram, standing_of, storage_of, is_free, is_absent}
-use Rattle.asl_rules.specs.Typing.{Width}
-use Rattle.asl_rules.specs.Members.{has_name}
-use Rattle.asl_rules.specs.Exprs.{found, written}
-use Rattle.asl_rules.specs.Acting.{Done, done, ended}
-use Rattle.asl_rules.specs.Names.{library}
-use Rattle.asl_rules.specs.Declarations.{Judged, Waiting, Fine, Faulty, def_rule, supertype_rule, label_entries, storage_rule, is_var, decl_rule, judged, judged_by, still, judgement, entries_of, entries, final, names_of_program, in_names, all_fine}
-use Rattle.asl_rules.specs.Uses.{uses}
-use Rattle.asl_rules.specs.Locals.{Initialised, taken, itself, counted_as, initialised_as, declared, type_declared, part_declared, written_or, initialised, binders_free, bound_parts, bound_in, bound, bind_rule, names_rule, vars_rule}
-use Rattle.asl_rules.specs.Programs.{Head, params_free, formals_free, param_written, param_entry, type_or_itself, params_rule, formals_rule, result_rule, limit_typed, params_are_integers, limit_rule, with_formals, signature_rule}
-use Rattle.asl_rules.specs.Worth.{WellCounted}
+use Rattle.asl_rules.specs.types.Types.{Ty, Parts, no_part, part, is_integer, tuple_parts}
+use Rattle.asl_rules.specs.runs.Trees as tree
+use Rattle.asl_rules.specs.runs.Trees.{Act}
+use Rattle.asl_rules.specs.types.Effects.{at_most}
+use Rattle.asl_rules.specs.declarations.Scopes.{Scope, Entry, Storage, Standing, Stored, Subprogram, TypeName, Label, Param, Counted, atom_at, next_atom, fixed, variable, subprogram, standing_of, storage_of, is_free, is_absent}
+use Rattle.asl_rules.specs.expressions.Typing.{Width}
+use Rattle.asl_rules.specs.values.Members.{has_name}
+use Rattle.asl_rules.specs.expressions.Exprs.{found, written}
+use Rattle.asl_rules.specs.statements.Acting.{Done, done, ended}
+use Rattle.asl_rules.specs.declarations.Names.{library}
+use Rattle.asl_rules.specs.declarations.Declarations.{Judged, Waiting, Fine, Faulty, def_rule, supertype_rule, label_entries, storage_rule, is_var, decl_rule, judged, judged_by, still, judgement, entries_of, entries, final, names_of_program, in_names, all_fine}
+use Rattle.asl_rules.specs.declarations.Uses.{uses}
+use Rattle.asl_rules.specs.statements.Locals.{Initialised, taken, itself, counted_as, initialised_as, declared, type_declared, part_declared, written_or, initialised, binders_free, bound_parts, bound_in, bound, bind_rule, names_rule, vars_rule}
+use Rattle.asl_rules.specs.declarations.Programs.{Head, params_free, formals_free, param_written, param_entry, type_or_itself, params_rule, formals_rule, result_rule, limit_typed, params_are_integers, limit_rule, with_formals, signature_rule}
+use Rattle.asl_rules.specs.private.Worth.{WellCounted}
 use Rattle.asl_rules.proofs.basics.Inversions.{ok_ok, bind_ok, then_ok, need_ok, found_ok}
 use Rattle.asl_rules.proofs.basics.Tests.{no, none_some, some_same, both}
 use Rattle.asl_rules.proofs.widths.Counting.{NewCounted, stored_of, well_kept, variable_counts, let_counts, atom_counts}

@@ -23,15 +23,15 @@ use Rattle.asl_poly.specs.Poly.{constant_map}
 use Rattle.asl_cons.specs.Arithmetic.{fits}
 use Rattle.asl_rules.specs.Faults.{◌>>=◌, need, fault_of}
 use Rattle.asl_rules.specs.Tests.{Tests}
-use Rattle.asl_rules.specs.Trees as tree
-use Rattle.asl_rules.specs.Trees.{Tree}
-use Rattle.asl_rules.specs.Scopes.{Scope, standing_of}
-use Rattle.asl_rules.specs.Widths.{width_of_number, width_of_standing, width_of_binary, width_difference, number_of_standing, number_of_binary, held}
-use Rattle.asl_rules.specs.Typing.{Found, Width, Number, width_as, number_as, width_note}
-use Rattle.asl_rules.specs.Slicing.{FoundSlice}
-use Rattle.asl_rules.specs.Writing.{FoundPart, FoundBitfield, FoundType}
-use Rattle.asl_rules.specs.Patterns.{FoundPattern}
-use Rattle.asl_rules.specs.Exprs.{FoundField, found, width, width_rule, number_rule, width_of_operation, number_of_operation, name_read, span_of, expr_rule, given_rule, slice_rule, type_rule, part_rule, bitfield_rule, pattern_rule}
+use Rattle.asl_rules.specs.runs.Trees as tree
+use Rattle.asl_rules.specs.runs.Trees.{Tree}
+use Rattle.asl_rules.specs.declarations.Scopes.{Scope, standing_of}
+use Rattle.asl_rules.specs.types.Widths.{width_of_number, width_of_standing, width_of_binary, width_difference, number_of_standing, number_of_binary, held}
+use Rattle.asl_rules.specs.expressions.Typing.{Found, Width, Number, width_as, number_as, width_note}
+use Rattle.asl_rules.specs.expressions.Slicing.{FoundSlice}
+use Rattle.asl_rules.specs.types.Writing.{FoundPart, FoundBitfield, FoundType}
+use Rattle.asl_rules.specs.expressions.Patterns.{FoundPattern}
+use Rattle.asl_rules.specs.expressions.Exprs.{FoundField, found, width, width_rule, number_rule, width_of_operation, number_of_operation, name_read, span_of, expr_rule, given_rule, slice_rule, type_rule, part_rule, bitfield_rule, pattern_rule}
 use Rattle.asl_rules.proofs.basics.Inversions.{ok_ok, err_ok, bind_ok, then_ok}
 use Rattle.asl_rules.proofs.basics.Opening.{opened}
 

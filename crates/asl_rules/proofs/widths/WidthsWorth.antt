@@ -16,15 +16,15 @@ use Rattle.asl_cons.proofs.Covering.{value_constant_map}
 use Rattle.asl_cons.proofs.Results.{value_sum_map, value_difference_map, value_product_map}
 use Rattle.asl_rules.specs.Faults.{need, fault_of}
 use Rattle.asl_rules.specs.Tests.{Tests}
-use Rattle.asl_rules.specs.Types.{is_integer}
-use Rattle.asl_rules.specs.Values.{Value, int, bool, bits_with, label, record_with, exception_with, tuple_with, array_with}
-use Rattle.asl_rules.specs.Scopes.{Counted, Scope, Storage, Standing, Stored, Subprogram, TypeName, Label, standing_of, storage_of, storage_in, known_value}
-use Rattle.asl_rules.specs.Widths.{heaviest, weight_of, width_of_number, width_of_known, width_of_counted, width_of_storage, width_of_standing, width_of_binary, width_sum, width_difference, width_product}
-use Rattle.asl_rules.specs.Typing.{Width}
-use Rattle.asl_rules.specs.Exprs.{width}
-use Rattle.asl_rules.specs.Arithmetic.{of_two}
-use Rattle.asl_rules.specs.Numbers.{integers, number}
-use Rattle.asl_rules.specs.Worth.{Integers, standing_for, by_place, Obeys}
+use Rattle.asl_rules.specs.types.Types.{is_integer}
+use Rattle.asl_rules.specs.values.Values.{Value, int, bool, bits_with, label, record_with, exception_with, tuple_with, array_with}
+use Rattle.asl_rules.specs.declarations.Scopes.{Counted, Scope, Storage, Standing, Stored, Subprogram, TypeName, Label, standing_of, storage_of, storage_in, known_value}
+use Rattle.asl_rules.specs.types.Widths.{heaviest, weight_of, width_of_number, width_of_known, width_of_counted, width_of_storage, width_of_standing, width_of_binary, width_sum, width_difference, width_product}
+use Rattle.asl_rules.specs.expressions.Typing.{Width}
+use Rattle.asl_rules.specs.expressions.Exprs.{width}
+use Rattle.asl_rules.specs.types.Arithmetic.{of_two}
+use Rattle.asl_rules.specs.types.Numbers.{integers, number}
+use Rattle.asl_rules.specs.private.Worth.{Integers, standing_for, by_place, Obeys}
 use Rattle.asl_rules.proofs.widths.WidthForms.{WidthForms, by_width_forms}
 use Rattle.asl_rules.proofs.widths.WorthForms.{worth_roll, worth_of_one, worth_of_two}
 use Rattle.asl_rules.proofs.basics.Inversions.{ok_ok, err_ok, then_ok}

@@ -13,7 +13,7 @@ use Rattle.asl_syn.specs.declared.tree.Bitfield.TheFolds.{fold-Bitfield, fold-Co
 use Rattle.asl_syn.specs.Layers.{ExprLayer}
 use Rattle.asl_syn.specs.declared.tree.UnaryOperator.{UnaryOperator}
 use Rattle.asl_syn.specs.declared.tree.BinaryOperator.{BinaryOperator}
-use Rattle.asl_rules.specs.Arithmetic.{Arithmetic, Named, Worth, Unread, of_one, of_two, worth_layer, worth}
+use Rattle.asl_rules.specs.types.Arithmetic.{Arithmetic, Named, Worth, Unread, of_one, of_two, worth_layer, worth}
 
 module _ {N : Type 0} (ops : Arithmetic N) where
   abbrev laid : ExprLayer → ex.Expr-F Unread Unread (Worth N) Unread Unread Unread Unread

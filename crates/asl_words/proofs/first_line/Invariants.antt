@@ -1,5 +1,5 @@
 use Rattle.std.proofs.Common.{◌≡◌, ℕ, ◌<◌, false, get_or}
-use Rattle.asl_rules.specs.WordList.{is_line_end}
+use Rattle.asl_rules.specs.report.WordList.{is_line_end}
 use Rattle.asl_words.proofs.first_line.Given as goal
 
 abbrev pub invariant-loop-i : goal.invariant-loop-i

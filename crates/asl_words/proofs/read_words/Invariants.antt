@@ -1,7 +1,7 @@
 use Rattle.std.proofs.Common.{◌≡◌, ◌+◌, ◌≤◌, length, vec_len}
 use Rattle.std.specs.List.{slice_split}
 use Rattle.asl_words.specs.declared.TheConstants.{MOST_WORDS}
-use Rattle.asl_rules.specs.WordList.{is_line_end, words_read}
+use Rattle.asl_rules.specs.report.WordList.{is_line_end, words_read}
 use Rattle.asl_words.proofs.Lines.{answer_from}
 use Rattle.asl_words.proofs.read_words.Given as goal
 

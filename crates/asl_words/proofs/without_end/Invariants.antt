@@ -1,6 +1,6 @@
 use Rattle.std.proofs.Common.{◌≡◌, ◌+◌, ◌≤◌, length, take}
 use Rattle.std.specs.List.{suffix_len}
-use Rattle.asl_rules.specs.WordList.{is_dropped}
+use Rattle.asl_rules.specs.report.WordList.{is_dropped}
 use Rattle.asl_words.proofs.without_end.Given as goal
 
 abbrev pub invariant-loop-end : goal.invariant-loop-end

@@ -1,6 +1,6 @@
 use Rattle.std.proofs.Common.{◌≡◌, drop, map}
-use Rattle.asl_rules.specs.Falling as rules
-use Rattle.asl_check.specs.Falls as parts
+use Rattle.asl_rules.specs.statements.Falling as rules
+use Rattle.asl_check.specs.private.Falls as parts
 use Rattle.asl_check.proofs.falls.+falls.Given as goal
 
 abbrev pub invariant-all_fall-loop-s : goal.invariant-all_fall-loop-s

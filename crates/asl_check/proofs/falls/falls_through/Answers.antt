@@ -1,6 +1,6 @@
 use Rattle.std.proofs.Common.{◌≡◌, ◌&&◌, List, [], ◌∷◌, map, refl, ap, ◌∙◌}
 use Rattle.asl_syn.specs.declared.tree.Stmt.{Stmt}
-use Rattle.asl_rules.specs.Falling.{all_fall, falls, falls_through}
+use Rattle.asl_rules.specs.statements.Falling.{all_fall, falls, falls_through}
 use Rattle.asl_check.proofs.falls.falls_through.Goals as goal
 
 one_by_one : (ss : List Stmt) → all_fall (map falls ss) ≡ falls_through ss

@@ -1,5 +1,5 @@
 use Rattle.std.proofs.Common.{◌≡◌, ◌++◌, drop}
-use Rattle.asl_rules.specs.Evaluation.{globals_among}
+use Rattle.asl_rules.specs.runs.Evaluation.{globals_among}
 use Rattle.asl_tree.specs.Sealed.{cells_in, cells_of}
 use Rattle.asl_check.proofs.globals.find_globals.Given as goal
 

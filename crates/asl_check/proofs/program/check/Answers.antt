@@ -1,9 +1,9 @@
 use Rattle.std.proofs.Common.{List, Ok, sym, ap, ◌∙◌, subst}
 use Rattle.asl_syn.specs.declared.tree.Decl.{Decl}
-use Rattle.asl_rules.specs.Grown.{AreGrown}
-use Rattle.asl_rules.specs.Programs.{verdict}
+use Rattle.asl_rules.specs.private.Grown.{AreGrown}
+use Rattle.asl_rules.specs.declarations.Programs.{verdict}
 use Rattle.asl_tree.specs.Sealed.{Sealed, IsSealed}
-use Rattle.asl_check.specs.Verdicts.{entry_in}
+use Rattle.asl_check.specs.private.Verdicts.{entry_in}
 use Rattle.asl_check.proofs.program.check.Goals as goal
 
 pub make-requires : goal.make-requires

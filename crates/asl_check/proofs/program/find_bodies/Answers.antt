@@ -1,10 +1,10 @@
 use Rattle.std.proofs.Common.{map, sym, subst, ◌∙◌, List}
 use Rattle.asl_syn.specs.declared.tree.Func.{Func}
-use Rattle.asl_rules.specs.Scopes.{Signature}
-use Rattle.asl_types.specs.Answers.{Met}
+use Rattle.asl_rules.specs.declarations.Scopes.{Signature}
+use Rattle.asl_types.specs.private.Answers.{Met}
 use Rattle.asl_decl.specs.Heads.{heads_of}
-use Rattle.asl_check.specs.Bringing.{with_bodies}
-use Rattle.asl_check.specs.Verdicts.{accepted_of}
+use Rattle.asl_check.specs.private.Bringing.{with_bodies}
+use Rattle.asl_check.specs.private.Verdicts.{accepted_of}
 use Rattle.asl_check.proofs.BodyTurns.{signatures_are, as_many}
 use Rattle.asl_check.proofs.program.find_bodies.Goals as goal
 

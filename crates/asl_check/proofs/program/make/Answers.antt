@@ -1,6 +1,6 @@
 use Rattle.std.proofs.Common.{ℕ, Option, Ok, sym, ap, ◌∙◌, subst}
 use Rattle.asl_tree.specs.Sealed.{IsSealed}
-use Rattle.asl_check.specs.Verdicts.{entry_in}
+use Rattle.asl_check.specs.private.Verdicts.{entry_in}
 use Rattle.asl_check.proofs.GlobalTurns.{sealed_by}
 use Rattle.asl_check.proofs.program.make.Goals as goal
 

@@ -1,7 +1,7 @@
 use Rattle.std.proofs.Common.{map, sym, ap, subst}
-use Rattle.asl_line.specs.Model.{meaning_of}
-use Rattle.asl_cmd.specs.Model.{file_of}
-use Rattle.asl_cmd.specs.Report.{answer_on_files, list_answer}
+use Rattle.asl_line.specs.private.Model.{meaning_of}
+use Rattle.asl_cmd.specs.private.Model.{file_of}
+use Rattle.asl_cmd.specs.private.Report.{answer_on_files, list_answer}
 use Rattle.asl_cmd.specs.Writes.{Answers}
 use Rattle.asl_cmd.proofs.answer.answer_files.Goals as goal
 

@@ -1,8 +1,8 @@
 use Rattle.std.proofs.Common.{map}
-use Rattle.asl_rules.specs.Programs.{environment}
-use Rattle.asl_rules.specs.Report.{worked}
+use Rattle.asl_rules.specs.declarations.Programs.{environment}
+use Rattle.asl_rules.specs.report.Report.{worked}
 use Rattle.asl_rules.specs.declared.entry.Entry.TheVariants.{Decode}
-use Rattle.asl_cmd.specs.Model.{file_of}
+use Rattle.asl_cmd.specs.private.Model.{file_of}
 use Rattle.asl_cmd.proofs.Programs.{answered, decodes}
 use Rattle.asl_cmd.proofs.answer.check_and_exec.Goals as goal
 

@@ -1,6 +1,6 @@
 use Rattle.std.proofs.Common.{map, Ok, Err, sym, ap, subst}
-use Rattle.asl_rules.specs.Report.{on_reading, on_check}
-use Rattle.asl_cmd.specs.Model.{file_of}
+use Rattle.asl_rules.specs.report.Report.{on_reading, on_check}
+use Rattle.asl_cmd.specs.private.Model.{file_of}
 use Rattle.asl_cmd.specs.Writes.{Answers}
 use Rattle.asl_cmd.proofs.ReadingLemmas.{read_as}
 use Rattle.asl_cmd.proofs.answer.check_files.Goals as goal

@@ -2,11 +2,11 @@ use Rattle.std.proofs.Common.{◌≡◌, ◌∙◌, [], ◌∷◌, length, map, 
 use Rattle.std.proofs.lemmas.Result.{err_from_is_err_and}
 use Rattle.asl_io.proofs.ToldLemmas.{Takes-none}
 use Rattle.asl_syn.specs.Command.{default_steps}
-use Rattle.asl_rules.specs.Programs.{environment}
-use Rattle.asl_rules.specs.Report.{begun, made_answer}
-use Rattle.asl_rules.specs.Texts.{made_words}
+use Rattle.asl_rules.specs.declarations.Programs.{environment}
+use Rattle.asl_rules.specs.report.Report.{begun, made_answer}
+use Rattle.asl_rules.specs.report.Texts.{made_words}
 use Rattle.asl_rules.specs.declared.entry.Entry.TheVariants.{Main}
-use Rattle.asl_cmd.specs.Model.{file_of}
+use Rattle.asl_cmd.specs.private.Model.{file_of}
 use Rattle.asl_cmd.specs.Writes.{Answers}
 use Rattle.asl_cmd.proofs.Programs.{answered, starts}
 use Rattle.asl_cmd.proofs.answer.check_made.Goals as goal

@@ -1,10 +1,10 @@
 use Rattle.std.proofs.Common.{◌∙◌, [], map, refl, sym, ap, subst}
 use Rattle.std.proofs.lemmas.Result.{err_from_is_err_and}
 use Rattle.asl_io.proofs.ToldLemmas.{Takes-none}
-use Rattle.asl_rules.specs.Report.{answer, on_words_read}
-use Rattle.asl_rules.specs.WordList.{words_read}
-use Rattle.asl_cmd.specs.Model.{file_of}
-use Rattle.asl_cmd.specs.Report.{exec_answer}
+use Rattle.asl_rules.specs.report.Report.{answer, on_words_read}
+use Rattle.asl_rules.specs.report.WordList.{words_read}
+use Rattle.asl_cmd.specs.private.Model.{file_of}
+use Rattle.asl_cmd.specs.private.Report.{exec_answer}
 use Rattle.asl_cmd.specs.Writes.{Answers}
 use Rattle.asl_cmd.proofs.answer.exec_list.Goals as goal
 

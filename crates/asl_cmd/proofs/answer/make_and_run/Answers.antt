@@ -1,10 +1,10 @@
 use Rattle.std.proofs.Common.{◌≡◌, map, Ok, Err, ap, subst}
 use Rattle.asl_syn.specs.declared.place.Source.{Source}
 use Rattle.asl_grammar.specs.Reading.{Reads}
-use Rattle.asl_rules.specs.Made.{made_text}
-use Rattle.asl_rules.specs.Report.{answer, made_file}
-use Rattle.asl_rules.specs.Texts.{fault_line}
-use Rattle.asl_cmd.specs.Model.{file_of}
+use Rattle.asl_rules.specs.report.Made.{made_text}
+use Rattle.asl_rules.specs.report.Report.{answer, made_file}
+use Rattle.asl_rules.specs.report.Texts.{fault_line}
+use Rattle.asl_cmd.specs.private.Model.{file_of}
 use Rattle.asl_cmd.specs.Writes.{Answers}
 use Rattle.asl_cmd.proofs.Programs.{made_read}
 use Rattle.asl_cmd.proofs.answer.make_and_run.Goals as goal

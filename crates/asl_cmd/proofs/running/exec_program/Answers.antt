@@ -1,5 +1,5 @@
 use Rattle.std.proofs.Common.{map}
-use Rattle.asl_cmd.specs.Model.{file_of}
+use Rattle.asl_cmd.specs.private.Model.{file_of}
 use Rattle.asl_cmd.proofs.Grown.{some_suits}
 use Rattle.asl_cmd.proofs.WordLemmas.{asks_decode, stands_ready, ended, were_given_up}
 use Rattle.asl_cmd.proofs.running.exec_program.Goals as goal

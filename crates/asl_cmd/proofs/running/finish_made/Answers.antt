@@ -1,7 +1,7 @@
 use Rattle.std.proofs.Common.{map}
 use Rattle.std.proofs.lemmas.Result.{err_from_is_err_and}
 use Rattle.asl_io.proofs.ToldLemmas.{TakesPrefix-after, TakesPrefix-more}
-use Rattle.asl_cmd.specs.Model.{file_of}
+use Rattle.asl_cmd.specs.private.Model.{file_of}
 use Rattle.asl_cmd.proofs.Answering.{Answers-after}
 use Rattle.asl_cmd.proofs.RunLemmas.{made_line_is}
 use Rattle.asl_cmd.proofs.running.finish_made.Goals as goal

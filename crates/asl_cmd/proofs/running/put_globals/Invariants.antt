@@ -1,6 +1,6 @@
 use Rattle.std.proofs.Common.{◌≡◌, drop, map}
 use Rattle.asl_machine.specs.Storage.{var_of}
-use Rattle.asl_cmd.specs.Ends.{vars_text}
+use Rattle.asl_cmd.specs.private.Ends.{vars_text}
 use Rattle.asl_cmd.specs.Writes.{TakesFront}
 use Rattle.asl_cmd.proofs.running.put_globals.Given as goal
 

@@ -1,8 +1,8 @@
 use Rattle.std.proofs.Common.{rules, [], map}
 use Rattle.asl_syn.specs.Command.{default_steps}
-use Rattle.asl_cmd.specs.Model.{file_of}
-use Rattle.asl_rules.specs.Report.{made_answer}
-use Rattle.asl_cmd.specs.Ends.{made_line}
+use Rattle.asl_cmd.specs.private.Model.{file_of}
+use Rattle.asl_rules.specs.report.Report.{made_answer}
+use Rattle.asl_cmd.specs.private.Ends.{made_line}
 use Rattle.asl_cmd.proofs.RunLemmas.{made_ending, callable, ended, was_given_up, refused_fault, refused_memory}
 use Rattle.asl_cmd.proofs.running.run_made.Goals as goal
 

@@ -1,7 +1,7 @@
 use Rattle.std.proofs.Common.{rules, [], map}
-use Rattle.asl_cmd.specs.Model.{file_of}
-use Rattle.asl_rules.specs.Report.{run_answer}
-use Rattle.asl_cmd.specs.Ends.{ending}
+use Rattle.asl_cmd.specs.private.Model.{file_of}
+use Rattle.asl_rules.specs.report.Report.{run_answer}
+use Rattle.asl_cmd.specs.private.Ends.{ending}
 use Rattle.asl_cmd.proofs.RunLemmas.{run_ending, callable, ended, was_given_up, refused_fault, refused_memory}
 use Rattle.asl_cmd.proofs.running.run_program.Goals as goal
 

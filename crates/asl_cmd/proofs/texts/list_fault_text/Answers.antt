@@ -1,7 +1,7 @@
 use Rattle.std.proofs.Common.{◌∙◌, ap, sym}
 use Rattle.std.proofs.lemmas.Result.{IfOk-weaker}
-use Rattle.asl_rules.specs.Report.{answer, on_words_read}
-use Rattle.asl_rules.specs.Texts.{placed}
+use Rattle.asl_rules.specs.report.Report.{answer, on_words_read}
+use Rattle.asl_rules.specs.report.Texts.{placed}
 use Rattle.asl_cmd.proofs.texts.list_fault_text.Goals as goal
 
 pub returns : goal.returns

@@ -1,10 +1,10 @@
 use Rattle.std.proofs.Common.{[], map, sym, ap, ◌∙◌, arith}
 use Rattle.asl_bits.specs.declared.TheConstants.{WIDTH_LIMIT}
-use Rattle.asl_rules.specs.Constants.{constant}
-use Rattle.asl_rules.specs.Plans.{Good}
-use Rattle.asl_rules.specs.Shaped.{exprs_in, itself}
+use Rattle.asl_rules.specs.declarations.Constants.{constant}
+use Rattle.asl_rules.specs.runs.Plans.{Good}
+use Rattle.asl_rules.specs.types.Shaped.{exprs_in, itself}
 use Rattle.asl_value.specs.View.{value_of}
-use Rattle.asl_const.specs.Finds.{known_after, known_given, known_pattern, known_slice}
+use Rattle.asl_const.specs.private.Finds.{known_after, known_given, known_pattern, known_slice}
 use Rattle.asl_const.proofs.Arms.{gathered, construct_met, call_met, slices_met, in_met, element_met, then_met, else_met}
 use Rattle.asl_const.proofs.Falling.{tuple_falls, construct_falls, params_fall, args_fall, slices_fall}
 use Rattle.asl_const.proofs.constants.+eval.Goals as goal

@@ -1,8 +1,8 @@
 use Rattle.std.proofs.Common.{◌≡◌, ◌≤◌, ◌+◌, ◌*◌, [], drop, map}
 use Rattle.asl_syn.specs.declared.tree.Expr.{size-Expr}
 use Rattle.asl_value.specs.View.{value_of}
-use Rattle.asl_const.specs.Finds.{known_after}
-use Rattle.asl_const.specs.Gathered.{constants, deepest}
+use Rattle.asl_const.specs.private.Finds.{known_after}
+use Rattle.asl_const.specs.private.Gathered.{constants, deepest}
 use Rattle.asl_const.proofs.constants.+eval.Given as goal
 
 abbrev pub decreases-eval : goal.decreases-eval

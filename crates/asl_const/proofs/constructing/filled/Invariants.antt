@@ -1,6 +1,6 @@
 use Rattle.std.proofs.Common.{◌≡◌, [], drop, map}
 use Rattle.asl_value.specs.View.{field_of, value_of}
-use Rattle.asl_const.specs.Giving.{filled_after, given_names}
+use Rattle.asl_const.specs.private.Giving.{filled_after, given_names}
 use Rattle.asl_const.proofs.constructing.filled.Given as goal
 
 abbrev pub invariant-loop-field : goal.invariant-loop-field

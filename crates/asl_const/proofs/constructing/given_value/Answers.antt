@@ -1,4 +1,4 @@
-use Rattle.asl_const.specs.Giving.{given_names}
+use Rattle.asl_const.specs.private.Giving.{given_names}
 use Rattle.asl_const.proofs.GivenLemmas.{given_some}
 use Rattle.asl_const.proofs.constructing.given_value.Goals as goal
 

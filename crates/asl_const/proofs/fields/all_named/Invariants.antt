@@ -1,5 +1,5 @@
 use Rattle.std.proofs.Common.{◌≡◌, [], drop}
-use Rattle.asl_const.specs.Finds.{named_after}
+use Rattle.asl_const.specs.private.Finds.{named_after}
 use Rattle.asl_const.proofs.fields.all_named.Given as goal
 
 abbrev pub invariant-loop-name : goal.invariant-loop-name

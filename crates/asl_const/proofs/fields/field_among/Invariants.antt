@@ -1,5 +1,5 @@
 use Rattle.std.proofs.Common.{◌≡◌, drop}
-use Rattle.asl_rules.specs.Structures.{field_value}
+use Rattle.asl_rules.specs.values.Structures.{field_value}
 use Rattle.asl_value.specs.View.{all_fields}
 use Rattle.asl_const.proofs.fields.field_among.Given as goal
 

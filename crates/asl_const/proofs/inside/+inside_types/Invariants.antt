@@ -2,9 +2,9 @@ use Rattle.std.proofs.Common.{◌≡◌, ◌≤◌, ◌++◌, drop, map}
 use Rattle.std.specs.Prelude.{max}
 use denote.Param.Weighed.{most}
 use Rattle.asl_syn.specs.declared.tree.TypeExpr.{size-TypeExpr}
-use Rattle.asl_rules.specs.Shaped.{exprs_in, itself}
-use Rattle.asl_const.specs.Finds.{known_type}
-use Rattle.asl_const.specs.Gathered.{constants, deepest}
+use Rattle.asl_rules.specs.types.Shaped.{exprs_in, itself}
+use Rattle.asl_const.specs.private.Finds.{known_type}
+use Rattle.asl_const.specs.private.Gathered.{constants, deepest}
 use Rattle.asl_const.proofs.inside.+inside_types.Given as goal
 
 abbrev pub invariant-with_types-loop-ty : goal.invariant-with_types-loop-ty

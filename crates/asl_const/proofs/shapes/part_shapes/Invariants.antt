@@ -1,7 +1,7 @@
 use Rattle.std.proofs.Common.{◌≡◌, ◌++◌, drop, map}
-use Rattle.asl_rules.specs.Shaped.{itself, shapes_in}
+use Rattle.asl_rules.specs.types.Shaped.{itself, shapes_in}
 use Rattle.asl_shape.specs.View.{all_parts}
-use Rattle.asl_const.specs.Finds.{known_part}
+use Rattle.asl_const.specs.private.Finds.{known_part}
 use Rattle.asl_const.proofs.shapes.part_shapes.Given as goal
 
 abbrev pub invariant-loop-part : goal.invariant-loop-part

@@ -1,5 +1,5 @@
 use Rattle.std.proofs.Common.{◌≡◌, drop, map}
-use Rattle.asl_decl.specs.Signatures.{apart_from}
+use Rattle.asl_decl.specs.private.Signatures.{apart_from}
 use Rattle.asl_decl.proofs.apart.check_apart.Given as goal
 
 abbrev pub invariant-loop-number : goal.invariant-loop-number

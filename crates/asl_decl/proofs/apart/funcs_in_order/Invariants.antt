@@ -1,5 +1,5 @@
 use Rattle.std.proofs.Common.{◌≡◌, [], drop, map}
-use Rattle.asl_decl.specs.Signatures.{funcs_after}
+use Rattle.asl_decl.specs.private.Signatures.{funcs_after}
 use Rattle.asl_decl.proofs.apart.funcs_in_order.Given as goal
 
 abbrev pub invariant-loop-d : goal.invariant-loop-d

@@ -1,5 +1,5 @@
 use Rattle.std.proofs.Common.{◌≡◌, drop}
-use Rattle.asl_rules.specs.Programs.{is_decode, entry_from}
+use Rattle.asl_rules.specs.declarations.Programs.{is_decode, entry_from}
 use Rattle.asl_decl.proofs.entry.find_decode.Given as goal
 
 abbrev pub invariant-loop-number : goal.invariant-loop-number

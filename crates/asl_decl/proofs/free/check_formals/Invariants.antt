@@ -1,5 +1,5 @@
 use Rattle.std.proofs.Common.{◌≡◌, drop}
-use Rattle.asl_decl.specs.Free.{formals_beside}
+use Rattle.asl_decl.specs.private.Free.{formals_beside}
 use Rattle.asl_decl.proofs.free.check_formals.Given as goal
 
 abbrev pub invariant-loop-place : goal.invariant-loop-place

@@ -1,7 +1,7 @@
 use Rattle.std.proofs.Common.{◌≡◌, [], drop, length, map}
 use Rattle.asl_rules.specs.Tests.{Tests}
 use Rattle.asl_types.specs.Suits.{Suits}
-use Rattle.asl_decl.specs.Signatures.{signatures_after}
+use Rattle.asl_decl.specs.private.Signatures.{signatures_after}
 use Rattle.asl_decl.proofs.signatures.find_signatures.Given as goal
 
 abbrev pub invariant-loop-f : goal.invariant-loop-f

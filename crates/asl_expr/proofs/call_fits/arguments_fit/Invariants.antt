@@ -1,5 +1,5 @@
 use Rattle.std.proofs.Common.{◌≡◌, drop}
-use Rattle.asl_rules.specs.Calls as rules
+use Rattle.asl_rules.specs.expressions.Calls as rules
 use Rattle.asl_rules.specs.Tests.{Tests}
 use Rattle.asl_types.specs.Suits.{Suits}
 use Rattle.asl_types.specs.View.{parts_of}

@@ -1,5 +1,5 @@
 use Rattle.std.proofs.Common.{◌≡◌, ◌++◌, drop}
-use Rattle.asl_rules.specs.Calls as rules
+use Rattle.asl_rules.specs.expressions.Calls as rules
 use Rattle.asl_expr.specs.CallViews.{all_given}
 use Rattle.asl_expr.proofs.call_fits.replaced_by.Given as goal
 

@@ -1,7 +1,7 @@
 use Rattle.std.proofs.Common.{◌≡◌, Ok, Err, rules, subst}
-use Rattle.asl_types.specs.Answers.{Met}
+use Rattle.asl_types.specs.private.Answers.{Met}
 use Rattle.asl_tree.specs.View.{all_operands, note_view, callee_of}
-use Rattle.asl_rules.specs.Calls.{call_tree}
+use Rattle.asl_rules.specs.expressions.Calls.{call_tree}
 use Rattle.asl_expr.specs.CallViews.{call_note, replacing_of}
 use Rattle.asl_expr.proofs.CallArms.{call_finished, call_refused}
 use Rattle.asl_expr.proofs.calls.call_noted.Goals as goal

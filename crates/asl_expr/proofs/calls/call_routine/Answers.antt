@@ -1,5 +1,5 @@
 use Rattle.std.proofs.Common.{◌≡◌, Ok, rules, subst}
-use Rattle.asl_rules.specs.Calls.{routine_taken}
+use Rattle.asl_rules.specs.expressions.Calls.{routine_taken}
 use Rattle.asl_shape.specs.View.{routine_of}
 use Rattle.asl_tree.specs.View.{typed_of, all_operands}
 use Rattle.asl_expr.proofs.CallArms.{as_many}

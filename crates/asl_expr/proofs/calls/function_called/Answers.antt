@@ -1,12 +1,12 @@
 use Rattle.std.proofs.Common.{◌≡◌, Ok, Err, rules, subst}
 use Rattle.asl_syn.specs.declared.code.StaticCode.TheVariants.{T20}
-use Rattle.asl_rules.specs.Calls.{both_fit, replaced_by, call_tree}
+use Rattle.asl_rules.specs.expressions.Calls.{both_fit, replaced_by, call_tree}
 use Rattle.asl_rules.specs.Faults.{found_or}
-use Rattle.asl_rules.specs.Trees.{own}
-use Rattle.asl_rules.specs.Types.{Ty, substitute}
-use Rattle.asl_rules.specs.Typing.{finish_all}
-use Rattle.asl_types.specs.Answers.{Met}
-use Rattle.asl_written.specs.Steps.{after}
+use Rattle.asl_rules.specs.runs.Trees.{own}
+use Rattle.asl_rules.specs.types.Types.{Ty, substitute}
+use Rattle.asl_rules.specs.expressions.Typing.{finish_all}
+use Rattle.asl_types.specs.private.Answers.{Met}
+use Rattle.asl_written.specs.private.Steps.{after}
 use Rattle.asl_tree.specs.View.{typed_of, all_operands}
 use Rattle.asl_expr.specs.CallViews.{all_given, replacing_of}
 use Rattle.asl_expr.proofs.Stepping.{both_went, both_stop}

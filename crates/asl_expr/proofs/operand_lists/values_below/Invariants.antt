@@ -1,11 +1,11 @@
 use Rattle.std.proofs.Common.{◌≡◌, drop}
-use Rattle.asl_rules.specs.Exprs.{values_given}
+use Rattle.asl_rules.specs.expressions.Exprs.{values_given}
 use Rattle.asl_rules.specs.Tests.{Tests}
-use Rattle.asl_rules.specs.Typing.{operands}
-use Rattle.asl_types.specs.ContextView.{scope_of}
+use Rattle.asl_rules.specs.expressions.Typing.{operands}
+use Rattle.asl_types.specs.private.ContextView.{scope_of}
 use Rattle.asl_types.specs.Suits.{Suits}
-use Rattle.asl_typing.specs.Constructs.{found_fields}
-use Rattle.asl_tree.specs.Ends.{behind_operands}
+use Rattle.asl_typing.specs.private.Constructs.{found_fields}
+use Rattle.asl_tree.specs.private.Ends.{behind_operands}
 use Rattle.asl_expr.proofs.operand_lists.values_below.Given as goal
 
 abbrev pub invariant-loop-g : goal.invariant-loop-g

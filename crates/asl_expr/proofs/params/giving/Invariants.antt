@@ -1,5 +1,5 @@
 use Rattle.std.proofs.Common.{◌≡◌, drop}
-use Rattle.asl_rules.specs.Calls as rules
+use Rattle.asl_rules.specs.expressions.Calls as rules
 use Rattle.asl_types.specs.View.{parts_of}
 use Rattle.asl_tree.specs.View.{all_operands}
 use Rattle.asl_expr.proofs.params.giving.Given as goal

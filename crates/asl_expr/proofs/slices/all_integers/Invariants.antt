@@ -1,5 +1,5 @@
 use Rattle.std.proofs.Common.{◌≡◌, drop}
-use Rattle.asl_rules.specs.Slicing as rules
+use Rattle.asl_rules.specs.expressions.Slicing as rules
 use Rattle.asl_tree.specs.View.{all_operands}
 use Rattle.asl_expr.proofs.slices.all_integers.Given as goal
 

@@ -1,6 +1,6 @@
 use Rattle.std.proofs.Common.{◌≡◌, ◌++◌, drop}
-use Rattle.asl_rules.specs.Slicing.{shapes_of}
-use Rattle.asl_rules.specs.Targets.{found_slices}
+use Rattle.asl_rules.specs.expressions.Slicing.{shapes_of}
+use Rattle.asl_rules.specs.statements.Targets.{found_slices}
 use Rattle.asl_rules.specs.Tests.{Tests}
 use Rattle.asl_value.specs.View.{all_slices}
 use Rattle.asl_expr.proofs.slices.slice_shapes.Given as goal

@@ -1,10 +1,10 @@
 use Rattle.std.proofs.Common.{◌≡◌, drop}
-use Rattle.asl_rules.specs.Slicing as rules
-use Rattle.asl_rules.specs.Targets.{found_slices}
+use Rattle.asl_rules.specs.expressions.Slicing as rules
+use Rattle.asl_rules.specs.statements.Targets.{found_slices}
 use Rattle.asl_rules.specs.Tests.{Tests}
-use Rattle.asl_rules.specs.Widths.{Total}
-use Rattle.asl_types.specs.ContextView.{scope_of}
-use Rattle.asl_types.specs.Totals.{IsTotal}
+use Rattle.asl_rules.specs.types.Widths.{Total}
+use Rattle.asl_types.specs.private.ContextView.{scope_of}
+use Rattle.asl_types.specs.private.Totals.{IsTotal}
 use Rattle.asl_expr.proofs.slices.sliced_width.Given as goal
 
 abbrev pub invariant-loop-s : goal.invariant-loop-s

@@ -1,11 +1,11 @@
 use Rattle.std.proofs.Common.{◌≡◌, Ok, Err, rules, sym, ap, subst, ◌∙◌}
-use Rattle.asl_rules.specs.Slicing.{shapes_of}
-use Rattle.asl_rules.specs.Targets.{found_slices}
-use Rattle.asl_rules.specs.Trees as trees
-use Rattle.asl_rules.specs.Typing.{trees_of}
+use Rattle.asl_rules.specs.expressions.Slicing.{shapes_of}
+use Rattle.asl_rules.specs.statements.Targets.{found_slices}
+use Rattle.asl_rules.specs.runs.Trees as trees
+use Rattle.asl_rules.specs.expressions.Typing.{trees_of}
 use Rattle.asl_tree.specs.View.{tree_of, typed_of, all_operands, all_trees, note_view}
-use Rattle.asl_types.specs.Answers.{Met}
-use Rattle.asl_expr.specs.SliceViews.{slices_note}
+use Rattle.asl_types.specs.private.Answers.{Met}
+use Rattle.asl_expr.specs.private.SliceViews.{slices_note}
 use Rattle.asl_expr.proofs.CallArms.{slices_finished, slices_refused}
 use Rattle.asl_tree.proofs.Operands.{trees_seen}
 use Rattle.asl_expr.proofs.slices.slices_sized.Goals as goal

@@ -1,6 +1,6 @@
 use Rattle.std.proofs.Common.{◌≡◌, Ok, Result, rules}
 use Rattle.asl_syn.specs.declared.code.Fault.{Fault}
-use Rattle.asl_rules.specs.Slicing.{sliceable}
+use Rattle.asl_rules.specs.expressions.Slicing.{sliceable}
 use Rattle.asl_tree.specs.View.{typed_of, all_operands}
 use Rattle.asl_expr.proofs.Stepping.{then_went}
 use Rattle.asl_expr.proofs.slices.type_slices.Goals as goal

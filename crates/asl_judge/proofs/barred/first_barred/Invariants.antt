@@ -1,7 +1,7 @@
 use Rattle.std.proofs.Common.{◌≡◌, drop}
-use Rattle.asl_rules.specs.Barred.{barred_at}
-use Rattle.asl_rules.specs.UsedNames.{first_said}
-use Rattle.asl_names.specs.UseView.{all_uses}
+use Rattle.asl_rules.specs.declarations.Barred.{barred_at}
+use Rattle.asl_rules.specs.declarations.UsedNames.{first_said}
+use Rattle.asl_names.specs.private.UseView.{all_uses}
 use Rattle.asl_judge.proofs.barred.first_barred.Given as goal
 
 abbrev pub invariant-loop-one : goal.invariant-loop-one

@@ -1,5 +1,5 @@
 use Rattle.std.proofs.Common.{◌≡◌, [], drop}
-use Rattle.asl_judge.specs.Definitions.{once_beside}
+use Rattle.asl_judge.specs.private.Definitions.{once_beside}
 use Rattle.asl_judge.proofs.definitions.is_once_by_places.Given as goal
 
 abbrev pub invariant-loop-place : goal.invariant-loop-place

@@ -1,5 +1,5 @@
 use Rattle.std.proofs.Common.{◌≡◌, [], drop}
-use Rattle.asl_judge.specs.Definitions.{labels_after}
+use Rattle.asl_judge.specs.private.Definitions.{labels_after}
 use Rattle.asl_judge.proofs.definitions.labels_in_order.Given as goal
 
 abbrev pub invariant-loop-label : goal.invariant-loop-label

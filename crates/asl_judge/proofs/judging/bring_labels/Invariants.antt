@@ -1,6 +1,6 @@
 use Rattle.std.proofs.Common.{◌≡◌, drop}
-use Rattle.asl_rules.specs.Scopes.{with_entries}
-use Rattle.asl_judge.specs.Brought.{labels_brought}
+use Rattle.asl_rules.specs.declarations.Scopes.{with_entries}
+use Rattle.asl_judge.specs.private.Brought.{labels_brought}
 use Rattle.asl_judge.proofs.judging.bring_labels.Given as goal
 
 abbrev pub invariant-loop-label : goal.invariant-loop-label

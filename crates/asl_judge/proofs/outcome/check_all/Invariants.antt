@@ -1,5 +1,5 @@
 use Rattle.std.proofs.Common.{◌≡◌, drop}
-use Rattle.asl_judge.specs.Passes.{all_judged, first_fault}
+use Rattle.asl_judge.specs.private.Passes.{all_judged, first_fault}
 use Rattle.asl_judge.proofs.outcome.check_all.Given as goal
 
 abbrev pub invariant-loop-outcome : goal.invariant-loop-outcome

@@ -1,5 +1,5 @@
 use Rattle.std.proofs.Common.{◌∙◌}
-use Rattle.asl_judge.specs.Progresses.{progress_of}
+use Rattle.asl_judge.specs.private.Progresses.{progress_of}
 use Rattle.asl_judge.proofs.Judgements.{pass_judged}
 use Rattle.asl_judge.proofs.pass.judge_all.Goals as goal
 

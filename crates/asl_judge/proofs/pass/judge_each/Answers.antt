@@ -1,6 +1,6 @@
 use Rattle.std.proofs.Common.{length, ◌<◌, ◌≤◌, arith, ◌∙◌}
-use Rattle.asl_judge.specs.Passes.{after_all, before_all}
-use Rattle.asl_judge.specs.Progresses.{progress_of}
+use Rattle.asl_judge.specs.private.Passes.{after_all, before_all}
+use Rattle.asl_judge.specs.private.Progresses.{progress_of}
 use Rattle.asl_judge.proofs.Turns.{turn_next, turn_last}
 use Rattle.asl_judge.proofs.pass.judge_each.Goals as goal
 

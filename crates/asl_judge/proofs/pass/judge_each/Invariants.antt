@@ -1,8 +1,8 @@
 use Rattle.std.proofs.Common.{◌≡◌, [], drop, length}
 use Rattle.asl_rules.specs.Tests.{Tests}
 use Rattle.asl_types.specs.Suits.{Suits}
-use Rattle.asl_judge.specs.Passes.{after_all, before_all}
-use Rattle.asl_judge.specs.Progresses.{progress_of}
+use Rattle.asl_judge.specs.private.Passes.{after_all, before_all}
+use Rattle.asl_judge.specs.private.Progresses.{progress_of}
 use Rattle.asl_judge.proofs.pass.judge_each.Given as goal
 
 abbrev pub invariant-loop-node : goal.invariant-loop-node

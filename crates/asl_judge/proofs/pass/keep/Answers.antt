@@ -1,6 +1,6 @@
 use Rattle.std.proofs.Common.{ap, ◌∙◌}
 use Rattle.std.proofs.lemmas.List.{map-set}
-use Rattle.asl_judge.specs.Passes.{judged_of, all_judged}
+use Rattle.asl_judge.specs.private.Passes.{judged_of, all_judged}
 use Rattle.asl_judge.proofs.pass.keep.Goals as goal
 
 pub returns-clause-outcomes : goal.returns-clause-outcomes

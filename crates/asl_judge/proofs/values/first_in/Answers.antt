@@ -1,6 +1,6 @@
 use Rattle.asl_bits.specs.declared.TheConstants.{WIDTH_LIMIT}
-use Rattle.asl_rules.specs.Closed.{closed}
-use Rattle.asl_rules.specs.Written.{first_value}
+use Rattle.asl_rules.specs.types.Closed.{closed}
+use Rattle.asl_rules.specs.types.Written.{first_value}
 use Rattle.asl_judge.proofs.ValueLemmas.{first_within}
 use Rattle.asl_judge.proofs.values.first_in.Goals as goal
 

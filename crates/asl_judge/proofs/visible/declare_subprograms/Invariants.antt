@@ -1,5 +1,5 @@
 use Rattle.std.proofs.Common.{◌≡◌, drop, map}
-use Rattle.asl_rules.specs.Scopes.{subprogram, with_entries}
+use Rattle.asl_rules.specs.declarations.Scopes.{subprogram, with_entries}
 use Rattle.asl_judge.proofs.visible.declare_subprograms.Given as goal
 
 abbrev pub invariant-loop-name : goal.invariant-loop-name

@@ -1,5 +1,5 @@
 use Rattle.std.proofs.Common.{◌≡◌, drop}
-use Rattle.asl_names.specs.Components.{are_below}
+use Rattle.asl_names.specs.private.Components.{are_below}
 use Rattle.asl_names.proofs.components.are_below.Given as goal
 
 abbrev pub invariant-loop-node : goal.invariant-loop-node

@@ -1,5 +1,5 @@
 use Rattle.std.proofs.Common.{◌≡◌, drop}
-use Rattle.asl_names.specs.Components.{has_level}
+use Rattle.asl_names.specs.private.Components.{has_level}
 use Rattle.asl_names.proofs.components.has_level.Given as goal
 
 abbrev pub invariant-loop-node : goal.invariant-loop-node

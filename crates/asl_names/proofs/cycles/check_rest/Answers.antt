@@ -2,9 +2,9 @@ use Rattle.std.proofs.Common.{◌≡◌, ◌+◌, false, Err, drop, sym, ap, ◌
 use Rattle.asl_syn.specs.declared.code.StaticCode.TheVariants.{T03}
 use Rattle.asl_syn.specs.declared.tree.Ident.{Ident}
 use Rattle.asl_rules.specs.Faults.{fault_of}
-use Rattle.asl_rules.specs.Uses.{cycles_rule, reaches_itself}
-use Rattle.asl_names.specs.Answers.{Met}
-use Rattle.asl_names.specs.Orders.{HasEdges, HasWay}
+use Rattle.asl_rules.specs.declarations.Uses.{cycles_rule, reaches_itself}
+use Rattle.asl_names.specs.private.Answers.{Met}
+use Rattle.asl_names.specs.private.Orders.{HasEdges, HasWay}
 use Rattle.asl_names.proofs.Rest.{at_next}
 use Rattle.asl_rules.proofs.verdict.Reaching.{cycles_pass}
 use Rattle.asl_names.proofs.CycleLemmas.{cycles_stop, at_here, edges_within, way_back, rest_apart, none_back_next}

@@ -1,6 +1,6 @@
 use Rattle.std.proofs.Common.{◌≡◌, drop}
-use Rattle.asl_rules.specs.Uses.{cycles_rule}
-use Rattle.asl_names.specs.Cycles.{NoneBack}
+use Rattle.asl_rules.specs.declarations.Uses.{cycles_rule}
+use Rattle.asl_names.specs.private.Cycles.{NoneBack}
 use Rattle.asl_names.proofs.cycles.check_rest.Given as goal
 
 abbrev pub invariant-loop-place : goal.invariant-loop-place

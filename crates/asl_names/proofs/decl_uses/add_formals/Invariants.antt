@@ -1,6 +1,6 @@
 use Rattle.std.proofs.Common.{◌≡◌, ◌++◌, drop}
-use Rattle.asl_rules.specs.UsedNames.{formal_uses}
-use Rattle.asl_names.specs.UseView.{all_uses}
+use Rattle.asl_rules.specs.declarations.UsedNames.{formal_uses}
+use Rattle.asl_names.specs.private.UseView.{all_uses}
 use Rattle.asl_names.proofs.decl_uses.add_formals.Given as goal
 
 abbrev pub invariant-loop-f : goal.invariant-loop-f

@@ -1,5 +1,5 @@
 use Rattle.std.proofs.Common.{◌+◌, drop, sym, ap, ◌∙◌, arith}
-use Rattle.asl_names.specs.Graphs.{named_at, plain_names, all_places, all_kept}
+use Rattle.asl_names.specs.private.Graphs.{named_at, plain_names, all_places, all_kept}
 use Rattle.asl_names.proofs.Declaring.{kept_both}
 use Rattle.asl_names.proofs.Rest.{at_next}
 use Rattle.asl_names.proofs.declarers.declared_places.Goals as goal

@@ -1,5 +1,5 @@
 use Rattle.std.proofs.Common.{◌≡◌, drop, []}
-use Rattle.asl_names.specs.Graphs.{all_places, all_kept}
+use Rattle.asl_names.specs.private.Graphs.{all_places, all_kept}
 use Rattle.asl_names.proofs.declarers.declared_places.Given as goal
 
 abbrev pub invariant-loop-place : goal.invariant-loop-place

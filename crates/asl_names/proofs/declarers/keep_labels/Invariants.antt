@@ -1,5 +1,5 @@
 use Rattle.std.proofs.Common.{◌≡◌, drop}
-use Rattle.asl_names.specs.Graphs.{named_at, all_kept}
+use Rattle.asl_names.specs.private.Graphs.{named_at, all_kept}
 use Rattle.asl_names.proofs.declarers.keep_labels.Given as goal
 
 abbrev pub invariant-loop-label : goal.invariant-loop-label

@@ -1,6 +1,6 @@
 use Rattle.std.proofs.Common.{◌≡◌, ◌++◌, drop, map}
-use Rattle.asl_rules.specs.UsedNames.{joined, bitfield_uses, part_uses, given_uses, expr_uses, pattern_uses, slice_uses, type_uses}
-use Rattle.asl_names.specs.UseView.{all_uses}
+use Rattle.asl_rules.specs.declarations.UsedNames.{joined, bitfield_uses, part_uses, given_uses, expr_uses, pattern_uses, slice_uses, type_uses}
+use Rattle.asl_names.specs.private.UseView.{all_uses}
 use Rattle.asl_names.proofs.expr_uses.+uses.Given as goal
 
 abbrev pub invariant-add_exprs-loop-e : goal.invariant-add_exprs-loop-e

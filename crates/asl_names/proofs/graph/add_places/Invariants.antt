@@ -1,7 +1,7 @@
 use Rattle.std.proofs.Common.{◌≡◌, drop, map}
-use Rattle.asl_rules.specs.UsedNames.{name_of}
-use Rattle.asl_names.specs.Graphs.{added}
-use Rattle.asl_names.specs.UseView.{all_uses}
+use Rattle.asl_rules.specs.declarations.UsedNames.{name_of}
+use Rattle.asl_names.specs.private.Graphs.{added}
+use Rattle.asl_names.specs.private.UseView.{all_uses}
 use Rattle.asl_names.proofs.graph.add_places.Given as goal
 
 abbrev pub invariant-loop-one : goal.invariant-loop-one

@@ -1,5 +1,5 @@
 use Rattle.std.proofs.Common.{◌≡◌, ◌++◌, drop}
-use Rattle.asl_names.specs.Graphs.{graph_by}
+use Rattle.asl_names.specs.private.Graphs.{graph_by}
 use Rattle.asl_names.proofs.graph.uses_of.Given as goal
 
 abbrev pub invariant-loop-d : goal.invariant-loop-d

@@ -1,5 +1,5 @@
 use Rattle.std.proofs.Common.{◌≡◌, drop, map}
-use Rattle.asl_rules.specs.Names.{is_listed}
+use Rattle.asl_rules.specs.declarations.Names.{is_listed}
 use Rattle.asl_names.proofs.library.is_among.Given as goal
 
 abbrev pub invariant-loop-n : goal.invariant-loop-n

@@ -1,5 +1,5 @@
 use Rattle.std.proofs.Common.{◌≡◌, drop}
-use Rattle.asl_names.specs.Orders.{all_marked}
+use Rattle.asl_names.specs.private.Orders.{all_marked}
 use Rattle.asl_names.proofs.listed.all_marked.Given as goal
 
 abbrev pub invariant-loop-node : goal.invariant-loop-node

@@ -1,6 +1,6 @@
 use Rattle.std.proofs.Common.{◌≡◌, drop, map, false}
-use Rattle.asl_rules.specs.Names.{declared_as}
-use Rattle.asl_names.specs.Known.{after_names}
+use Rattle.asl_rules.specs.declarations.Names.{declared_as}
+use Rattle.asl_names.specs.private.Known.{after_names}
 use Rattle.asl_names.proofs.names.declare_labels.Given as goal
 
 abbrev pub invariant-loop-label : goal.invariant-loop-label

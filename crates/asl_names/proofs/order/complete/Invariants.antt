@@ -1,4 +1,4 @@
-use Rattle.asl_names.specs.Orders.{unmarked, IsOrder}
+use Rattle.asl_names.specs.private.Orders.{unmarked, IsOrder}
 use Rattle.asl_names.proofs.order.complete.Given as goal
 
 abbrev pub invariant-loop-node : goal.invariant-loop-node

@@ -1,5 +1,5 @@
 use Rattle.std.proofs.Common.{◌≡◌, ℕ, ◌<◌, false}
-use Rattle.asl_names.specs.Orders.{row, has_mark, all_marked}
+use Rattle.asl_names.specs.private.Orders.{row, has_mark, all_marked}
 use Rattle.asl_names.proofs.order.first_ready.Given as goal
 
 abbrev pub invariant-loop-node : goal.invariant-loop-node

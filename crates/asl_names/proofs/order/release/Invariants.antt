@@ -1,5 +1,5 @@
 use Rattle.std.proofs.Common.{◌≡◌, ◌≤◌}
-use Rattle.asl_names.specs.Orders.{IsOrder, unmarked, room}
+use Rattle.asl_names.specs.private.Orders.{IsOrder, unmarked, room}
 use Rattle.asl_names.proofs.order.release.Given as goal
 
 abbrev pub invariant-loop-user : goal.invariant-loop-user

@@ -1,5 +1,5 @@
 use Rattle.std.proofs.Common.{◌≤◌, ◌-◌}
-use Rattle.asl_names.specs.Orders.{IsOrder, unmarked, room}
+use Rattle.asl_names.specs.private.Orders.{IsOrder, unmarked, room}
 use Rattle.asl_names.proofs.order.release_from.Given as goal
 
 abbrev pub invariant-loop-at : goal.invariant-loop-at

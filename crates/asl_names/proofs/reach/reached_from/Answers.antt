@@ -1,5 +1,5 @@
 use Rattle.std.proofs.Common.{◌≡◌, ◌+◌, true, get_or, sym, ap, ◌∙◌, subst, arith}
-use Rattle.asl_names.specs.Orders.{row, all_marked, is_among, ClosedTo}
+use Rattle.asl_names.specs.private.Orders.{row, all_marked, is_among, ClosedTo}
 use Rattle.asl_names.proofs.Ways.{among_place, goes_reached, marked_more, closed_next, way_mark}
 use Rattle.asl_names.proofs.reach.reached_from.Goals as goal
 

@@ -1,6 +1,6 @@
 use Rattle.std.proofs.Common.{◌≡◌, ◌∙◌, sym, arith}
 use Rattle.asl_grammar.specs.grammar.Faults.{max_levels}
-use Rattle.asl_parse_expr.specs.Code.{cursor_of}
+use Rattle.asl_parse_expr.specs.private.Code.{cursor_of}
 use Rattle.asl_parse.proofs.FaultPlaces.{failed, finished, unfinished}
 use Rattle.asl_parse.proofs.tree.outcome_of.Goals as goal
 

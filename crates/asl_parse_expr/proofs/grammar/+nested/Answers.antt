@@ -1,6 +1,6 @@
 use Rattle.std.proofs.Common.{◌≡◌, ℕ, suc, ◌-◌, subst, arith}
-use Rattle.asl_parse_expr.specs.Code.{cursor_of}
-use Rattle.asl_parse_expr.specs.Nests.{MetValue}
+use Rattle.asl_parse_expr.specs.private.Code.{cursor_of}
+use Rattle.asl_parse_expr.specs.private.Nests.{MetValue}
 use Rattle.asl_parse_expr.proofs.grammar.+nested.Goals as goal
 
 pub returns : goal.returns

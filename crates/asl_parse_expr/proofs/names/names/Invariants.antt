@@ -1,6 +1,6 @@
 use Rattle.std.proofs.Common.{◌≡◌, ◌-◌}
 use Rattle.asl_grammar.specs.grammar.Rules.{name, names}
-use Rattle.asl_parse_expr.specs.Code.{cursor_of, reading}
+use Rattle.asl_parse_expr.specs.private.Code.{cursor_of, reading}
 use Rattle.asl_parse_expr.proofs.Loops.{run_more}
 use Rattle.asl_parse_expr.proofs.names.names.Given as goal
 

@@ -1,7 +1,7 @@
 use Rattle.std.proofs.Common.{rules, arith}
 use Rattle.std.proofs.lemmas.Grind.{common_steps}
 use Rattle.asl_grammar.specs.grammar.Rules.{formal}
-use Rattle.asl_parse_expr.specs.Code.{cursor_of, reading}
+use Rattle.asl_parse_expr.specs.private.Code.{cursor_of, reading}
 use Rattle.asl_parse_expr.proofs.Loops.{run_more, one_more}
 use Rattle.asl_parse_stmt.proofs.Steps.{formal_list_is}
 use Rattle.asl_parse_stmt.proofs.formals.formal_list.Goals as goal

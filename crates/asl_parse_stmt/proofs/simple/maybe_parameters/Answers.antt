@@ -1,7 +1,7 @@
 use Rattle.std.proofs.Common.{rules, arith}
 use Rattle.std.proofs.lemmas.Grind.{common_steps}
 use Rattle.asl_grammar.specs.grammar.Rules.{parameters}
-use Rattle.asl_parse_expr.specs.Code.{cursor_of}
+use Rattle.asl_parse_expr.specs.private.Code.{cursor_of}
 use Rattle.asl_parse_stmt.proofs.Steps.{maybe_parameters_is}
 use Rattle.asl_parse_stmt.proofs.simple.maybe_parameters.Goals as goal
 

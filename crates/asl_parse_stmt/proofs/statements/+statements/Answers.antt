@@ -2,7 +2,7 @@ use Rattle.std.proofs.Common.{rules, arith, ◌∷◌, []}
 use Rattle.std.proofs.lemmas.Grind.{common_steps}
 use Rattle.asl_grammar.specs.declared.kinds.Kind.TheVariants as kind
 use Rattle.asl_grammar.specs.grammar.Rules.{statement}
-use Rattle.asl_parse_expr.specs.Code.{cursor_of, reading}
+use Rattle.asl_parse_expr.specs.private.Code.{cursor_of, reading}
 use Rattle.asl_parse_expr.proofs.Loops.{run_items, one_more}
 use Rattle.asl_parse_stmt.proofs.StatementSteps.{if_statement_nests, case_statement_nests, for_statement_nests, while_statement_nests, repeat_statement_nests, try_statement_nests}
 use Rattle.asl_parse_stmt.proofs.Steps.{statement_is, block_is}

@@ -1,7 +1,7 @@
 use Rattle.std.proofs.Common.{◌≡◌, ◌+◌, ◌*◌, ◌-◌, ◌++◌}
 use Rattle.asl_grammar.specs.grammar.Build.{behind}
 use Rattle.asl_grammar.specs.grammar.Rules.{target, more_targets}
-use Rattle.asl_parse_expr.specs.Code.{cursor_of, reading, then}
+use Rattle.asl_parse_expr.specs.private.Code.{cursor_of, reading, then}
 use Rattle.asl_parse_expr.proofs.Loops.{run_more}
 use Rattle.asl_parse_stmt.proofs.targets.+targets.Given as goal
 

@@ -1,10 +1,10 @@
 use Rattle.std.proofs.lemmas.Result.{err_from_is_err_and}
 use Rattle.std.proofs.Common.{◌≡◌, map, inl, refl, sym, ap, ◌∙◌}
-use Rattle.asl_rules.specs.ByPlace.{into_slices}
-use Rattle.asl_rules.specs.Plans.{Done, Ret}
-use Rattle.asl_rules.specs.TypedMeaning.{list_of}
+use Rattle.asl_rules.specs.private.ByPlace.{into_slices}
+use Rattle.asl_rules.specs.runs.Plans.{Done, Ret}
+use Rattle.asl_rules.specs.private.TypedMeaning.{list_of}
 use Rattle.asl_tree.specs.View.{all_trees}
-use Rattle.asl_value.specs.Forms.{step_of}
+use Rattle.asl_value.specs.private.Forms.{step_of}
 use Rattle.asl_value.specs.View.{value_of, all_slices}
 use Rattle.asl_run.specs.View.{core_of, meter_of}
 use Rattle.asl_run.proofs.Turns.{all_evaluated, goes_failed, goes_on}

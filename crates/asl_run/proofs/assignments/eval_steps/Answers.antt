@@ -1,6 +1,6 @@
 use Rattle.std.proofs.Common.{[], rules, arith}
 use Rattle.std.proofs.lemmas.Result.{err_from_is_err_and}
-use Rattle.asl_run.specs.Storing.{all_stepped}
+use Rattle.asl_run.specs.private.Storing.{all_stepped}
 use Rattle.asl_run.specs.View.{core_of, meter_of}
 use Rattle.asl_run.proofs.Storing.{step_failed, step_given_up, step_next}
 use Rattle.asl_run.proofs.assignments.eval_steps.Goals as goal

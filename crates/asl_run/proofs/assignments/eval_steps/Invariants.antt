@@ -1,7 +1,7 @@
 use Rattle.std.proofs.Common.{◌≡◌, drop, []}
-use Rattle.asl_value.specs.Forms.{all_steps}
+use Rattle.asl_value.specs.private.Forms.{all_steps}
 use Rattle.asl_run.specs.Meets.{Left, SameRound}
-use Rattle.asl_run.specs.Storing.{all_stepped}
+use Rattle.asl_run.specs.private.Storing.{all_stepped}
 use Rattle.asl_run.specs.View.{core_of, meter_of}
 use Rattle.asl_run.proofs.assignments.eval_steps.Given as goal
 

@@ -1,6 +1,6 @@
 use Rattle.std.proofs.Common.{◌≡◌, length, drop, map}
 use Rattle.asl_value.specs.View.{value_of}
-use Rattle.asl_run.specs.Storing.{parts_in, parts_behind}
+use Rattle.asl_run.specs.private.Storing.{parts_in, parts_behind}
 use Rattle.asl_run.proofs.assignments.parts_of.Given as goal
 
 -- the parts that are left still come behind those that were found

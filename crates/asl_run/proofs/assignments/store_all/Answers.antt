@@ -1,8 +1,8 @@
 use Rattle.std.proofs.Common.{map, rules, arith}
 use Rattle.std.proofs.lemmas.Result.{err_from_is_err_and}
-use Rattle.asl_rules.specs.StatementForms.{store_each}
+use Rattle.asl_rules.specs.runs.StatementForms.{store_each}
 use Rattle.asl_value.specs.View.{value_of}
-use Rattle.asl_run.specs.Storing.{all_taking}
+use Rattle.asl_run.specs.private.Storing.{all_taking}
 use Rattle.asl_run.specs.View.{core_of, meter_of}
 use Rattle.asl_run.proofs.Storing.{store_failed, store_next}
 use Rattle.asl_run.proofs.assignments.store_all.Goals as goal

@@ -1,8 +1,8 @@
 use Rattle.std.proofs.Common.{◌≡◌, ◌-◌, drop, length, map}
-use Rattle.asl_rules.specs.StatementForms as forms
+use Rattle.asl_rules.specs.runs.StatementForms as forms
 use Rattle.asl_value.specs.View.{value_of}
 use Rattle.asl_run.specs.Meets.{Left, SameRound}
-use Rattle.asl_run.specs.Storing.{all_taking}
+use Rattle.asl_run.specs.private.Storing.{all_taking}
 use Rattle.asl_run.specs.View.{core_of, meter_of}
 use Rattle.asl_run.proofs.assignments.store_all.Given as goal
 

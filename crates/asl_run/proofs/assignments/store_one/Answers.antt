@@ -1,14 +1,14 @@
 use Rattle.std.proofs.Common.{◌≡◌, [], Err, rules, subst}
 use Rattle.std.proofs.lemmas.Result.{err_from_is_err_and}
 use Rattle.asl_bits.specs.declared.TheConstants.{WIDTH_LIMIT}
-use Rattle.asl_rules.specs.Cuts.{cuts}
-use Rattle.asl_rules.specs.Plans.{Done, Ret, lift, run}
-use Rattle.asl_rules.specs.TypedMeaning.{stored}
-use Rattle.asl_rules.specs.Values.{Normal}
-use Rattle.asl_value.specs.Forms.{all_steps}
+use Rattle.asl_rules.specs.runs.Cuts.{cuts}
+use Rattle.asl_rules.specs.runs.Plans.{Done, Ret, lift, run}
+use Rattle.asl_rules.specs.private.TypedMeaning.{stored}
+use Rattle.asl_rules.specs.values.Values.{Normal}
+use Rattle.asl_value.specs.private.Forms.{all_steps}
 use Rattle.asl_value.specs.View.{value_of}
 use Rattle.asl_run.specs.Meets.{Meets}
-use Rattle.asl_run.specs.Storing.{all_ahead, all_stepped}
+use Rattle.asl_run.specs.private.Storing.{all_ahead, all_stepped}
 use Rattle.asl_run.specs.View.{core_of, exit_of, meter_of, meaning_of, cutting_of}
 use Rattle.asl_run.proofs.Turns as turns
 use Rattle.asl_run.proofs.Turns.{goes_failed, goes_met}

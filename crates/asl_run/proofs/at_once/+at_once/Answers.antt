@@ -1,12 +1,12 @@
 use Rattle.std.proofs.Common.{◌≡◌, ◌-◌, ◌<◌, ◌∙◌, None, Some, ap, arith, rules, subst, sym}
 use Rattle.asl_bits.specs.declared.TheConstants.{WIDTH_LIMIT}
-use Rattle.asl_rules.specs.Forms.{behind_left}
-use Rattle.asl_rules.specs.Operators.{of_booleans, of_integers, strictness, unary_value}
-use Rattle.asl_rules.specs.Trees as trees
-use Rattle.asl_rules.specs.TypedMeaning.{tree_node, value_at}
-use Rattle.asl_rules.specs.Values.{bool, int}
+use Rattle.asl_rules.specs.runs.Forms.{behind_left}
+use Rattle.asl_rules.specs.values.Operators.{of_booleans, of_integers, strictness, unary_value}
+use Rattle.asl_rules.specs.runs.Trees as trees
+use Rattle.asl_rules.specs.private.TypedMeaning.{tree_node, value_at}
+use Rattle.asl_rules.specs.values.Values.{bool, int}
 use Rattle.asl_tree.specs.View.{note_view, tree_of}
-use Rattle.asl_run.specs.AtOnce.{Ends, Finds, Gives, decided_as, element_in, found}
+use Rattle.asl_run.specs.private.AtOnce.{Ends, Finds, Gives, decided_as, element_in, found}
 use Rattle.asl_run.specs.View.{core_of, program_of}
 use Rattle.asl_run.proofs.AtOnce.{begun, left_found, opposed, picked, right_integer, right_truth}
 use Rattle.asl_run.proofs.Viewed.{binary_is, element_is, unary_is}

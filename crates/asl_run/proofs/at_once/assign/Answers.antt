@@ -1,8 +1,8 @@
 use Rattle.std.proofs.Common.{◌≡◌, [], rules}
-use Rattle.asl_rules.specs.HoldsBits.{holds_bits}
-use Rattle.asl_rules.specs.Trees.{tree_type}
+use Rattle.asl_rules.specs.private.HoldsBits.{holds_bits}
+use Rattle.asl_rules.specs.runs.Trees.{tree_type}
 use Rattle.asl_tree.specs.View.{tree_of}
-use Rattle.asl_run.specs.AtOnce.{found}
+use Rattle.asl_run.specs.private.AtOnce.{found}
 use Rattle.asl_run.proofs.AtOnce.{assigned}
 use Rattle.asl_run.proofs.at_once.assign.Goals as goal
 

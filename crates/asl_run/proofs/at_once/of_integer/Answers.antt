@@ -1,9 +1,9 @@
 use Rattle.std.proofs.Common.{◌∙◌, ap, sym, to_z-of_z}
-use Rattle.asl_rules.specs.Operators.{unary_value}
-use Rattle.asl_rules.specs.Values.{int}
-use Rattle.asl_value.specs.Numbers.{answer_of}
+use Rattle.asl_rules.specs.values.Operators.{unary_value}
+use Rattle.asl_rules.specs.values.Values.{int}
+use Rattle.asl_value.specs.private.Numbers.{answer_of}
 use Rattle.asl_value.proofs.Integers.{negated}
-use Rattle.asl_run.specs.AtOnce.{found}
+use Rattle.asl_run.specs.private.AtOnce.{found}
 use Rattle.asl_run.proofs.AtOnce.{given}
 use Rattle.asl_run.proofs.at_once.of_integer.Goals as goal
 

@@ -2,10 +2,10 @@ use Rattle.std.proofs.Common.{◌^◌, ◌∙◌, ap, sym, to_z-of_z}
 use Rattle.std.specs.Int.{int_pow}
 use Rattle.std.specs.Prelude.{pos, ◌+ℤ◌, ◌-ℤ◌, ◌*ℤ◌}
 use Rattle.asl_num.specs.Exact.{floor_div, floor_mod}
-use Rattle.asl_rules.specs.Operators.{of_integers}
-use Rattle.asl_value.specs.Numbers.{answer_of}
+use Rattle.asl_rules.specs.values.Operators.{of_integers}
+use Rattle.asl_value.specs.private.Numbers.{answer_of}
 use Rattle.asl_value.proofs.Integers.{divides_exactly, exact}
-use Rattle.asl_run.specs.AtOnce.{found}
+use Rattle.asl_run.specs.private.AtOnce.{found}
 use Rattle.asl_run.proofs.AtOnce.{divides, given, raises, raises_exactly}
 use Rattle.asl_run.proofs.at_once.of_integers.Goals as goal
 

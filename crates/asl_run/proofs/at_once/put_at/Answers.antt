@@ -1,6 +1,6 @@
 use Rattle.std.proofs.Common.{Some, refl, subst, sym}
 use Rattle.asl_value.specs.View.{value_of}
-use Rattle.asl_run.specs.AtOnce.{Puts}
+use Rattle.asl_run.specs.private.AtOnce.{Puts}
 use Rattle.asl_run.proofs.AtOnce.{put_global, put_local}
 use Rattle.asl_run.proofs.at_once.put_at.Goals as goal
 

@@ -1,7 +1,7 @@
 use Rattle.std.proofs.Common.{◌≡◌, ◌<◌, [], ap, length, get_or, map, rules, slice_set, subst, sym}
-use Rattle.asl_rules.specs.Plans.{Good}
+use Rattle.asl_rules.specs.runs.Plans.{Good}
 use Rattle.asl_value.specs.View.{value_of}
-use Rattle.asl_run.specs.Storing.{stored_in}
+use Rattle.asl_run.specs.private.Storing.{stored_in}
 use Rattle.asl_run.proofs.Placing.{stored_good, takes_nothing}
 use Rattle.asl_run.proofs.at_once.put_in.Goals as goal
 

@@ -1,5 +1,5 @@
 use Rattle.std.proofs.Common.{◌≡◌, ◌≤◌, ◌+◌, drop}
-use Rattle.asl_rules.specs.Forms as forms
+use Rattle.asl_rules.specs.runs.Forms as forms
 use Rattle.asl_run.proofs.calls.activations.Given as goal
 
 -- those that are left are still to be counted

@@ -1,11 +1,11 @@
 use Rattle.std.proofs.Common.{[], map, Err}
 use Rattle.std.proofs.lemmas.Result.{err_from_is_err_and}
 use Rattle.std.specs.Prelude.{option_map}
-use Rattle.asl_rules.specs.Forms.{eval_all}
-use Rattle.asl_rules.specs.TypedMeaning.{list_of}
+use Rattle.asl_rules.specs.runs.Forms.{eval_all}
+use Rattle.asl_rules.specs.private.TypedMeaning.{list_of}
 use Rattle.asl_tree.specs.View.{all_trees}
 use Rattle.asl_value.specs.View.{value_of}
-use Rattle.asl_run.specs.Calling.{body_of}
+use Rattle.asl_run.specs.private.Calling.{body_of}
 use Rattle.asl_run.specs.View.{core_of, meter_of}
 use Rattle.asl_run.proofs.Turns.{all_evaluated, goes_failed, goes_met, goes_on, meets_left}
 use Rattle.asl_run.proofs.calls.call_subprogram.Goals as goal

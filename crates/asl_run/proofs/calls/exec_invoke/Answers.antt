@@ -1,13 +1,13 @@
 use Rattle.std.proofs.Common.{◌≡◌, None, Some, Ok, Err, refl, subst}
 use Rattle.std.proofs.lemmas.Result.{err_from_is_err_and}
 use Rattle.std.specs.Prelude.{option_map}
-use Rattle.asl_rules.specs.Forms.{procedure_gives}
-use Rattle.asl_rules.specs.Plans.{Done, run}
+use Rattle.asl_rules.specs.runs.Forms.{procedure_gives}
+use Rattle.asl_rules.specs.runs.Plans.{Done, run}
 use Rattle.asl_value.specs.View.{value_of}
 use Rattle.asl_run.specs.declared.stop.Exit.TheVariants as exit
 use Rattle.asl_run.specs.declared.stop.Mistake.TheVariants as mistake
 use Rattle.asl_run.specs.declared.stop.Stop.TheVariants as stop
-use Rattle.asl_run.specs.Calling.{call_given}
+use Rattle.asl_run.specs.private.Calling.{call_given}
 use Rattle.asl_run.specs.View.{core_of, exit_of, meter_of, meaning_of}
 use Rattle.asl_run.proofs.Called.{call_goes}
 use Rattle.asl_run.proofs.Turns.{goes_failed, goes_met}

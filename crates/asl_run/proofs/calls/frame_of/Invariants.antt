@@ -1,6 +1,6 @@
 use Rattle.std.proofs.Common.{◌≡◌, ◌-◌, drop, length, map}
 use Rattle.asl_value.specs.View.{value_of}
-use Rattle.asl_run.specs.Calling.{frame_given}
+use Rattle.asl_run.specs.private.Calling.{frame_given}
 use Rattle.asl_run.proofs.calls.frame_of.Given as goal
 
 -- the formals that are left still come behind what the frame holds

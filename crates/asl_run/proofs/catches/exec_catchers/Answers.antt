@@ -1,10 +1,10 @@
 use Rattle.std.proofs.Common.{◌≡◌, true, false, rules, arith, subst, sym, ap, ◌∙◌}
-use Rattle.asl_rules.specs.Cuts.{cuts}
-use Rattle.asl_rules.specs.Plans.{run}
-use Rattle.asl_rules.specs.StatementForms.{catch_list, handling, is_caught, uncaught}
-use Rattle.asl_rules.specs.TypedMeaning.{Runs, acts_of, caught_as, in_bare}
-use Rattle.asl_rules.specs.TypedMeaning.{last_of as last_rule}
-use Rattle.asl_rules.specs.Values.{Exit}
+use Rattle.asl_rules.specs.runs.Cuts.{cuts}
+use Rattle.asl_rules.specs.runs.Plans.{run}
+use Rattle.asl_rules.specs.runs.StatementForms.{catch_list, handling, is_caught, uncaught}
+use Rattle.asl_rules.specs.private.TypedMeaning.{Runs, acts_of, caught_as, in_bare}
+use Rattle.asl_rules.specs.private.TypedMeaning.{last_of as last_rule}
+use Rattle.asl_rules.specs.values.Values.{Exit}
 use Rattle.asl_tree.specs.Acts.{all_acts, last_of}
 use Rattle.asl_value.specs.View.{value_of}
 use Rattle.asl_run.specs.Meets.{Left, Meets}

@@ -1,5 +1,5 @@
 use Rattle.std.proofs.Common.{◌≡◌, drop}
-use Rattle.asl_rules.specs.TypedMeaning as rules
+use Rattle.asl_rules.specs.private.TypedMeaning as rules
 use Rattle.asl_tree.specs.Acts.{last_of}
 use Rattle.asl_value.specs.View.{value_of}
 use Rattle.asl_run.specs.Meets.{Left, SameRound}

@@ -1,14 +1,14 @@
 use Rattle.std.proofs.Common.{◌≡◌, true, false, rules, arith, subst}
 use Rattle.std.proofs.lemmas.Result.{err_from_is_err_and}
-use Rattle.asl_rules.specs.Plans.{Done, run}
-use Rattle.asl_rules.specs.StatementForms.{no_match, scope}
-use Rattle.asl_rules.specs.TypedMeaning.{acts_of, in_bare}
-use Rattle.asl_rules.specs.TypedMeaning.{last_of as last_rule}
+use Rattle.asl_rules.specs.runs.Plans.{Done, run}
+use Rattle.asl_rules.specs.runs.StatementForms.{no_match, scope}
+use Rattle.asl_rules.specs.private.TypedMeaning.{acts_of, in_bare}
+use Rattle.asl_rules.specs.private.TypedMeaning.{last_of as last_rule}
 use Rattle.asl_shape.specs.View.{all_patterns}
 use Rattle.asl_tree.specs.Acts.{all_acts, last_of, maybe_tree}
 use Rattle.asl_tree.specs.View.{all_trees}
 use Rattle.asl_value.specs.View.{value_of}
-use Rattle.asl_run.specs.Choosing.{chosen}
+use Rattle.asl_run.specs.private.Choosing.{chosen}
 use Rattle.asl_run.specs.View.{core_of, exit_of, meter_of, meaning_of}
 use Rattle.asl_run.proofs.Choosing.{all_from, choice_asked, choice_failed, choices_ended}
 use Rattle.asl_run.proofs.Turns.{meets_left}

@@ -1,7 +1,7 @@
 use Rattle.std.proofs.Common.{◌≡◌, drop}
-use Rattle.asl_rules.specs.StatementForms as forms
-use Rattle.asl_rules.specs.TypedMeaning as rules
-use Rattle.asl_rules.specs.TypedMeaning.{in_bare, itself}
+use Rattle.asl_rules.specs.runs.StatementForms as forms
+use Rattle.asl_rules.specs.private.TypedMeaning as rules
+use Rattle.asl_rules.specs.private.TypedMeaning.{in_bare, itself}
 use Rattle.asl_bits.specs.declared.TheConstants.{WIDTH_LIMIT}
 use Rattle.asl_tree.specs.Acts.{all_alternatives, last_of}
 use Rattle.asl_value.specs.View.{value_of}

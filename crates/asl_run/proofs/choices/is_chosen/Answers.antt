@@ -1,17 +1,17 @@
 use Rattle.std.proofs.lemmas.Result.{err_from_is_err_and}
 use Rattle.std.proofs.Common.{◌≡◌, false, map, Err, subst}
 use Rattle.asl_bits.specs.declared.TheConstants.{WIDTH_LIMIT}
-use Rattle.asl_rules.specs.Matching.{is_matched}
-use Rattle.asl_rules.specs.Cuts.{cuts}
-use Rattle.asl_rules.specs.Plans.{Done, Ret, choose, lift, run}
-use Rattle.asl_rules.specs.TypedMeaning.{itself, list_of}
+use Rattle.asl_rules.specs.values.Matching.{is_matched}
+use Rattle.asl_rules.specs.runs.Cuts.{cuts}
+use Rattle.asl_rules.specs.runs.Plans.{Done, Ret, choose, lift, run}
+use Rattle.asl_rules.specs.private.TypedMeaning.{itself, list_of}
 use Rattle.asl_shape.specs.View.{all_patterns}
 use Rattle.asl_tree.specs.Acts.{maybe_tree}
 use Rattle.asl_tree.specs.View.{all_trees}
 use Rattle.asl_value.specs.View.{value_of}
-use Rattle.asl_run.specs.Choosing.{guard}
+use Rattle.asl_run.specs.private.Choosing.{guard}
 use Rattle.asl_run.specs.Meets.{Meets}
-use Rattle.asl_run.specs.Operations.{evaluated}
+use Rattle.asl_run.specs.private.Operations.{evaluated}
 use Rattle.asl_run.specs.View.{core_of, meter_of, meaning_of, cutting_of}
 use Rattle.asl_run.proofs.Turns.{all_evaluated, goes_failed, goes_met}
 use Rattle.asl_run.proofs.choices.is_chosen.Goals as goal

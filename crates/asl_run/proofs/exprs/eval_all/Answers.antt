@@ -1,5 +1,5 @@
 use Rattle.std.proofs.Common.{rules, arith}
-use Rattle.asl_run.specs.Operations.{evaluated}
+use Rattle.asl_run.specs.private.Operations.{evaluated}
 use Rattle.asl_run.specs.View.{core_of, meter_of}
 use Rattle.asl_run.proofs.Listing.{tree_next}
 use Rattle.asl_run.proofs.exprs.eval_all.Goals as goal

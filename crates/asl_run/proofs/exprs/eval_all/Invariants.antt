@@ -1,11 +1,11 @@
 use Rattle.std.proofs.Common.{◌≡◌, drop, map}
-use Rattle.asl_rules.specs.Forms.{eval_all}
-use Rattle.asl_rules.specs.Plans.{Ret}
-use Rattle.asl_rules.specs.TypedMeaning.{list_of}
+use Rattle.asl_rules.specs.runs.Forms.{eval_all}
+use Rattle.asl_rules.specs.runs.Plans.{Ret}
+use Rattle.asl_rules.specs.private.TypedMeaning.{list_of}
 use Rattle.asl_tree.specs.View.{all_trees}
 use Rattle.asl_value.specs.View.{value_of}
 use Rattle.asl_run.specs.Meets.{Left, SameRound}
-use Rattle.asl_run.specs.Operations.{evaluated}
+use Rattle.asl_run.specs.private.Operations.{evaluated}
 use Rattle.asl_run.specs.View.{core_of, meter_of}
 use Rattle.asl_run.proofs.exprs.eval_all.Given as goal
 

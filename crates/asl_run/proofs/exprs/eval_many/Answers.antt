@@ -1,10 +1,10 @@
 use Rattle.std.proofs.lemmas.Result.{err_from_is_err_and}
 use Rattle.std.proofs.Common.{map}
-use Rattle.asl_rules.specs.Forms.{at_once}
-use Rattle.asl_rules.specs.TypedMeaning.{list_of}
+use Rattle.asl_rules.specs.runs.Forms.{at_once}
+use Rattle.asl_rules.specs.private.TypedMeaning.{list_of}
 use Rattle.asl_tree.specs.View.{all_trees}
 use Rattle.asl_value.specs.View.{value_of}
-use Rattle.asl_run.specs.Operations.{many_given}
+use Rattle.asl_run.specs.private.Operations.{many_given}
 use Rattle.asl_run.specs.View.{core_of, meter_of}
 use Rattle.asl_run.proofs.Turns.{all_evaluated, at_once_meets, goes_failed, goes_met}
 use Rattle.asl_run.proofs.exprs.eval_many.Goals as goal

@@ -1,7 +1,7 @@
 use Rattle.std.proofs.Common.{subst, sym}
-use Rattle.asl_rules.specs.Cuts.{cuts}
-use Rattle.asl_rules.specs.Plans.{run}
-use Rattle.asl_rules.specs.TypedMeaning.{tree_node}
+use Rattle.asl_rules.specs.runs.Cuts.{cuts}
+use Rattle.asl_rules.specs.runs.Plans.{run}
+use Rattle.asl_rules.specs.private.TypedMeaning.{tree_node}
 use Rattle.asl_value.specs.View.{value_of}
 use Rattle.asl_run.specs.Meets.{Meets}
 use Rattle.asl_run.specs.View.{core_of, meter_of, program_of, meaning_of, cutting_of}

@@ -1,12 +1,12 @@
 use Rattle.std.proofs.Common.{◌≡◌, rules, subst, sym, ap, ◌∙◌}
-use Rattle.asl_rules.specs.ByPlace.{seen_where}
-use Rattle.asl_rules.specs.Cuts.{cuts}
-use Rattle.asl_rules.specs.Plans.{Ret, lift, run}
-use Rattle.asl_rules.specs.TypedMeaning.{declared}
-use Rattle.asl_rules.specs.Values.{Normal}
+use Rattle.asl_rules.specs.private.ByPlace.{seen_where}
+use Rattle.asl_rules.specs.runs.Cuts.{cuts}
+use Rattle.asl_rules.specs.runs.Plans.{Ret, lift, run}
+use Rattle.asl_rules.specs.private.TypedMeaning.{declared}
+use Rattle.asl_rules.specs.values.Values.{Normal}
 use Rattle.asl_tree.specs.Acts.{taken_of}
 use Rattle.asl_value.specs.View.{value_of}
-use Rattle.asl_run.specs.Finishes.{tuple_pushed}
+use Rattle.asl_run.specs.private.Finishes.{tuple_pushed}
 use Rattle.asl_run.specs.Meets.{Meets}
 use Rattle.asl_run.specs.View.{core_of, exit_of, meter_of, meaning_of, cutting_of}
 use Rattle.asl_run.proofs.finishes.declare.Goals as goal

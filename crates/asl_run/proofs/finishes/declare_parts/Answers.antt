@@ -1,6 +1,6 @@
 use Rattle.std.proofs.Common.{ap, arith}
-use Rattle.asl_rules.specs.Plans.{Ret, lift, run}
-use Rattle.asl_rules.specs.Values.{Normal}
+use Rattle.asl_rules.specs.runs.Plans.{Ret, lift, run}
+use Rattle.asl_rules.specs.values.Values.{Normal}
 use Rattle.asl_run.specs.View.{core_of, meter_of, meaning_of}
 use Rattle.asl_run.proofs.Taking.{parts_uneven}
 use Rattle.asl_run.proofs.finishes.declare_parts.Goals as goal

@@ -1,6 +1,6 @@
 use Rattle.std.proofs.Common.{◌≡◌}
 use Rattle.std.specs.Prelude.{replicate}
-use Rattle.asl_rules.specs.TypedMeaning.{with_next}
+use Rattle.asl_rules.specs.private.TypedMeaning.{with_next}
 use Rattle.asl_value.specs.View.{value_of}
 use Rattle.asl_run.specs.Meets.{SameBut}
 use Rattle.asl_run.specs.View.{core_of}

@@ -1,13 +1,13 @@
 use Rattle.std.proofs.Common.{◌≡◌, ◌<◌, ◌∙◌, ap, length, get_or, of_z, rules, subst, to_z}
 use Rattle.std.specs.Int.{w128}
-use Rattle.asl_rules.specs.Plans.{Done}
-use Rattle.asl_rules.specs.StatementForms.{in_order}
-use Rattle.asl_rules.specs.TypedMeaning.{acts_of}
-use Rattle.asl_rules.specs.Values.{Normal, bool, int}
+use Rattle.asl_rules.specs.runs.Plans.{Done}
+use Rattle.asl_rules.specs.runs.StatementForms.{in_order}
+use Rattle.asl_rules.specs.private.TypedMeaning.{acts_of}
+use Rattle.asl_rules.specs.values.Values.{Normal, bool, int}
 use Rattle.asl_tree.specs.Acts.{act_of, all_acts}
 use Rattle.asl_value.specs.declared.value.Value.TheVariants as variants
 use Rattle.asl_value.specs.View.{value_of}
-use Rattle.asl_run.specs.AtOnce.{Did, found}
+use Rattle.asl_run.specs.private.AtOnce.{Did, found}
 use Rattle.asl_run.specs.Meets.{Executes}
 use Rattle.asl_run.specs.View.{core_of, exit_of, meter_of, meaning_of}
 use Rattle.asl_run.proofs.AtOnce.{answered, truth_there}

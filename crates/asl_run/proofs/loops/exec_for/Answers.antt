@@ -1,13 +1,13 @@
 use Rattle.std.proofs.Common.{◌≡◌, ℕ, Err, rules, subst, sym}
 use Rattle.std.proofs.lemmas.Result.{err_from_is_err_and}
-use Rattle.asl_rules.specs.Plans.{Done}
-use Rattle.asl_rules.specs.StatementForms.{limited}
-use Rattle.asl_rules.specs.TypedMeaning.{BareCore, Runs, acts_of}
-use Rattle.asl_rules.specs.Values.{Value, Exit}
+use Rattle.asl_rules.specs.runs.Plans.{Done}
+use Rattle.asl_rules.specs.runs.StatementForms.{limited}
+use Rattle.asl_rules.specs.private.TypedMeaning.{BareCore, Runs, acts_of}
+use Rattle.asl_rules.specs.values.Values.{Value, Exit}
 use Rattle.asl_tree.specs.Acts.{all_acts, maybe_tree}
 use Rattle.asl_tree.specs.View.{tree_of}
 use Rattle.asl_value.specs.View.{value_of}
-use Rattle.asl_run.specs.Looping.{between}
+use Rattle.asl_run.specs.private.Looping.{between}
 use Rattle.asl_run.specs.View.{core_of, exit_of, meter_of, meaning_of}
 use Rattle.asl_run.proofs.Turning.{both_next, limit_evaluated}
 use Rattle.asl_run.proofs.Turns.{goes_failed, goes_met, meets_left}

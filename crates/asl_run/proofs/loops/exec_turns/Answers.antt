@@ -1,12 +1,12 @@
 use Rattle.std.proofs.Common.{◌≡◌, rules, arith, subst, sym}
 use Rattle.std.proofs.lemmas.Result.{err_from_is_err_and}
-use Rattle.asl_rules.specs.Plans.{Done, run}
-use Rattle.asl_rules.specs.StatementForms as forms
-use Rattle.asl_rules.specs.TypedMeaning.{acts_of, in_bare}
+use Rattle.asl_rules.specs.runs.Plans.{Done, run}
+use Rattle.asl_rules.specs.runs.StatementForms as forms
+use Rattle.asl_rules.specs.private.TypedMeaning.{acts_of, in_bare}
 use Rattle.asl_tree.specs.Acts.{all_acts}
 use Rattle.asl_tree.specs.View.{tree_of}
 use Rattle.asl_value.specs.View.{value_of}
-use Rattle.asl_run.specs.Looping.{turn_until}
+use Rattle.asl_run.specs.private.Looping.{turn_until}
 use Rattle.asl_run.specs.View.{core_of, exit_of, meter_of, meaning_of}
 use Rattle.asl_run.proofs.Turning.{until_ended, until_list_failed, until_truth_failed, until_turned}
 use Rattle.asl_run.proofs.loops.exec_turns.Goals as goal

@@ -1,8 +1,8 @@
 use Rattle.std.proofs.Common.{◌≡◌}
-use Rattle.asl_rules.specs.TypedMeaning.{acts_of}
+use Rattle.asl_rules.specs.private.TypedMeaning.{acts_of}
 use Rattle.asl_tree.specs.Acts.{all_acts}
 use Rattle.asl_tree.specs.View.{tree_of}
-use Rattle.asl_run.specs.Looping.{turn_until}
+use Rattle.asl_run.specs.private.Looping.{turn_until}
 use Rattle.asl_run.specs.Meets.{Left, SameRound}
 use Rattle.asl_run.specs.View.{core_of, meter_of}
 use Rattle.asl_run.proofs.loops.exec_turns.Given as goal

@@ -1,10 +1,10 @@
 use Rattle.std.proofs.Common.{false}
 use Rattle.std.proofs.lemmas.Result.{err_from_is_err_and}
-use Rattle.asl_rules.specs.StatementForms as forms
-use Rattle.asl_rules.specs.TypedMeaning.{acts_of}
+use Rattle.asl_rules.specs.runs.StatementForms as forms
+use Rattle.asl_rules.specs.private.TypedMeaning.{acts_of}
 use Rattle.asl_tree.specs.Acts.{all_acts, maybe_tree}
 use Rattle.asl_tree.specs.View.{tree_of}
-use Rattle.asl_run.specs.Looping.{turn_until}
+use Rattle.asl_run.specs.private.Looping.{turn_until}
 use Rattle.asl_run.specs.View.{core_of, exit_of, meter_of}
 use Rattle.asl_run.proofs.Turning.{limit_evaluated}
 use Rattle.asl_run.proofs.Turns.{goes_failed, goes_met}

@@ -3,10 +3,10 @@ use mir.Syntax.{w128}
 use mir.Val.{to_z}
 use Rattle.std.proofs.lemmas.Result.{err_from_is_err_and}
 use Rattle.std.specs.Prelude.{option_map}
-use Rattle.asl_rules.specs.Plans.{Done, run}
-use Rattle.asl_rules.specs.StatementForms as forms
-use Rattle.asl_rules.specs.TypedMeaning.{acts_of, in_bare, indexed}
-use Rattle.asl_rules.specs.Values.{Normal, Returned, int}
+use Rattle.asl_rules.specs.runs.Plans.{Done, run}
+use Rattle.asl_rules.specs.runs.StatementForms as forms
+use Rattle.asl_rules.specs.private.TypedMeaning.{acts_of, in_bare, indexed}
+use Rattle.asl_rules.specs.values.Values.{Normal, Returned, int}
 use Rattle.asl_tree.specs.Acts.{all_acts}
 use Rattle.asl_value.specs.View.{value_of}
 use Rattle.asl_run.specs.View.{core_of, meter_of, meaning_of}

@@ -1,5 +1,5 @@
 use Rattle.std.proofs.lemmas.Result.{err_from_is_err_and}
-use Rattle.asl_rules.specs.Strings.{string_text}
+use Rattle.asl_rules.specs.values.Strings.{string_text}
 use Rattle.asl_run.proofs.Pieces.{refused_piece}
 use Rattle.asl_run.proofs.output.put_string.Goals as goal
 

@@ -1,5 +1,5 @@
 use Rattle.std.proofs.Common.{◌≡◌, length}
-use Rattle.asl_rules.specs.Strings.{string_text, unescaped}
+use Rattle.asl_rules.specs.values.Strings.{string_text, unescaped}
 use Rattle.asl_run.specs.Meets.{WroteFront}
 use Rattle.asl_run.proofs.output.put_string.Given as goal
 

@@ -1,6 +1,6 @@
 use Rattle.std.proofs.Common.{◌≡◌, ◌<◌, length, get_or, rules}
 use Rattle.std.proofs.lemmas.Result.{err_from_is_err_and}
-use Rattle.asl_value.specs.Forms.{all_steps}
+use Rattle.asl_value.specs.private.Forms.{all_steps}
 use Rattle.asl_value.specs.View.{value_of}
 use Rattle.asl_run.proofs.Placing.{stored_good, stores_failed}
 use Rattle.asl_run.proofs.places.store_in.Goals as goal

@@ -1,8 +1,8 @@
 use Rattle.std.proofs.Common.{ap}
-use Rattle.asl_rules.specs.Plans.{Done, ◌>>=◌}
+use Rattle.asl_rules.specs.runs.Plans.{Done, ◌>>=◌}
 use Rattle.asl_tree.specs.View.{tree_of}
 use Rattle.asl_value.specs.View.{value_of}
-use Rattle.asl_run.specs.Finishes.{finished}
+use Rattle.asl_run.specs.private.Finishes.{finished}
 use Rattle.asl_run.specs.View.{core_of, exit_of, meter_of}
 use Rattle.asl_run.proofs.Turns.{goes_met, one_evaluated}
 use Rattle.asl_run.proofs.stmts.exec_after.Goals as goal

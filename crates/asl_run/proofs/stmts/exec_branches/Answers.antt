@@ -1,8 +1,8 @@
 use Rattle.std.proofs.Common.{◌≡◌, true, false, rules, arith, subst, sym, ap, ◌∙◌}
 use Rattle.std.proofs.lemmas.Result.{err_from_is_err_and}
-use Rattle.asl_rules.specs.Plans.{Done, Good}
-use Rattle.asl_rules.specs.StatementForms.{scope}
-use Rattle.asl_rules.specs.TypedMeaning.{acts_of, in_bare}
+use Rattle.asl_rules.specs.runs.Plans.{Done, Good}
+use Rattle.asl_rules.specs.runs.StatementForms.{scope}
+use Rattle.asl_rules.specs.private.TypedMeaning.{acts_of, in_bare}
 use Rattle.asl_tree.specs.Acts.{all_acts}
 use Rattle.asl_tree.specs.View.{tree_of}
 use Rattle.asl_value.specs.View.{value_of}

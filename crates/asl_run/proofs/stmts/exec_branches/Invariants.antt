@@ -1,7 +1,7 @@
 use Rattle.std.proofs.Common.{◌≡◌, drop}
-use Rattle.asl_rules.specs.StatementForms as forms
-use Rattle.asl_rules.specs.TypedMeaning as rules
-use Rattle.asl_rules.specs.TypedMeaning.{in_bare, itself, acts_of}
+use Rattle.asl_rules.specs.runs.StatementForms as forms
+use Rattle.asl_rules.specs.private.TypedMeaning as rules
+use Rattle.asl_rules.specs.private.TypedMeaning.{in_bare, itself, acts_of}
 use Rattle.asl_tree.specs.Acts.{all_acts, all_branches}
 use Rattle.asl_run.specs.Meets.{Left, SameRound}
 use Rattle.asl_run.specs.View.{core_of, meter_of}

@@ -1,11 +1,11 @@
 use Rattle.std.proofs.lemmas.Result.{err_from_is_err_and}
 use Rattle.std.proofs.Common.{◌≡◌, map, rules, subst}
-use Rattle.asl_rules.specs.Cuts.{cuts}
-use Rattle.asl_rules.specs.Plans.{run}
-use Rattle.asl_rules.specs.TypedMeaning.{list_of}
+use Rattle.asl_rules.specs.runs.Cuts.{cuts}
+use Rattle.asl_rules.specs.runs.Plans.{run}
+use Rattle.asl_rules.specs.private.TypedMeaning.{list_of}
 use Rattle.asl_tree.specs.View.{all_trees}
 use Rattle.asl_value.specs.View.{value_of}
-use Rattle.asl_run.specs.Finishes.{begun}
+use Rattle.asl_run.specs.private.Finishes.{begun}
 use Rattle.asl_run.specs.Meets.{Meets}
 use Rattle.asl_run.specs.View.{core_of, exit_of, meter_of, meaning_of, cutting_of}
 use Rattle.asl_run.proofs.Turns.{all_evaluated, goes_failed, goes_met}

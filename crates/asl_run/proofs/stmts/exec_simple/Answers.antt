@@ -1,8 +1,8 @@
 use Rattle.std.proofs.Common.{◌≡◌, None, rules, subst, sym}
-use Rattle.asl_rules.specs.Cuts.{cuts}
-use Rattle.asl_rules.specs.Plans.{run}
-use Rattle.asl_rules.specs.Trees as trees
-use Rattle.asl_rules.specs.TypedMeaning.{act_node}
+use Rattle.asl_rules.specs.runs.Cuts.{cuts}
+use Rattle.asl_rules.specs.runs.Plans.{run}
+use Rattle.asl_rules.specs.runs.Trees as trees
+use Rattle.asl_rules.specs.private.TypedMeaning.{act_node}
 use Rattle.asl_tree.specs.Acts.{simple_of}
 use Rattle.asl_run.specs.Meets.{Meets}
 use Rattle.asl_run.specs.View.{core_of, exit_of, meter_of, program_of, meaning_of, cutting_of}

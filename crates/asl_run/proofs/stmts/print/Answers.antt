@@ -1,7 +1,7 @@
 use Rattle.std.proofs.Common.{rules, refl, arith}
 use Rattle.std.proofs.lemmas.Result.{err_from_is_err_and}
-use Rattle.asl_rules.specs.StatementForms.{print_items}
-use Rattle.asl_rules.specs.TypedMeaning.{item_of}
+use Rattle.asl_rules.specs.runs.StatementForms.{print_items}
+use Rattle.asl_rules.specs.private.TypedMeaning.{item_of}
 use Rattle.asl_tree.specs.Acts.{all_items}
 use Rattle.asl_value.specs.View.{value_of}
 use Rattle.asl_run.specs.View.{core_of, meter_of}

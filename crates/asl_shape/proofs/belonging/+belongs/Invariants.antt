@@ -1,6 +1,6 @@
 use Rattle.std.proofs.Common.{◌≡◌, drop}
-use Rattle.asl_rules.specs.Closed.{closed}
-use Rattle.asl_rules.specs.Values.{all_in}
+use Rattle.asl_rules.specs.types.Closed.{closed}
+use Rattle.asl_rules.specs.values.Values.{all_in}
 use Rattle.asl_value.specs.View.{all_values}
 use Rattle.asl_shape.proofs.Having.{fields_at, parts_at}
 use Rattle.asl_shape.proofs.belonging.+belongs.Given as goal

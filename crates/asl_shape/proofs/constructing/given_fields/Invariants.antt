@@ -1,6 +1,6 @@
 use Rattle.std.proofs.Common.{◌≡◌, drop}
 use Rattle.std.specs.Prelude.{map}
-use Rattle.asl_rules.specs.ByPlace as places
+use Rattle.asl_rules.specs.private.ByPlace as places
 use Rattle.asl_value.specs.View.{value_of}
 use Rattle.asl_shape.specs.View.{all_given}
 use Rattle.asl_shape.proofs.Fields.{fields_with}

@@ -1,7 +1,7 @@
 use Rattle.std.proofs.Common.{◌≡◌, drop}
 use Rattle.asl_bits.specs.declared.TheConstants.{WIDTH_LIMIT}
-use Rattle.asl_shape.specs.Filled.{first_fills}
-use Rattle.asl_shape.specs.FilledView.{all_fills}
+use Rattle.asl_shape.specs.private.Filled.{first_fills}
+use Rattle.asl_shape.specs.private.FilledView.{all_fills}
 use Rattle.asl_shape.proofs.FirstFields.{parts_behind}
 use Rattle.asl_shape.proofs.filled.+filled_first.Given as goal
 

@@ -1,8 +1,8 @@
 use Rattle.std.proofs.Common.{◌≡◌, drop}
-use Rattle.asl_rules.specs.Values.{all_in}
+use Rattle.asl_rules.specs.values.Values.{all_in}
 use Rattle.asl_value.specs.View.{all_values}
-use Rattle.asl_shape.specs.Filled.{closed_of}
-use Rattle.asl_shape.specs.FilledView.{filled_of}
+use Rattle.asl_shape.specs.private.Filled.{closed_of}
+use Rattle.asl_shape.specs.private.FilledView.{filled_of}
 use Rattle.asl_shape.proofs.FilledHaving.{parts_at}
 use Rattle.asl_shape.proofs.filled.+filled_has.Given as goal
 

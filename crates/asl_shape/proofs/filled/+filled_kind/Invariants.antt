@@ -1,9 +1,9 @@
 use Rattle.std.proofs.Common.{◌≡◌, drop}
 use Rattle.std.specs.Prelude.{map}
-use Rattle.asl_rules.specs.Closed.{kinds_at}
+use Rattle.asl_rules.specs.types.Closed.{kinds_at}
 use Rattle.asl_value.specs.View.{kind_of}
-use Rattle.asl_shape.specs.Filled.{closed_parts}
-use Rattle.asl_shape.specs.FilledView.{all_fills}
+use Rattle.asl_shape.specs.private.Filled.{closed_parts}
+use Rattle.asl_shape.specs.private.FilledView.{all_fills}
 use Rattle.asl_shape.proofs.ValueKinds.{in_front}
 use Rattle.asl_shape.proofs.filled.+filled_kind.Given as goal
 

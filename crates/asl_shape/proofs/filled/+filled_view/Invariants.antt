@@ -1,9 +1,9 @@
 use Rattle.std.proofs.Common.{◌≡◌, drop}
-use Rattle.asl_rules.specs.Views.{parts_viewed, all_viewed}
+use Rattle.asl_rules.specs.types.Views.{parts_viewed, all_viewed}
 use Rattle.asl_value.specs.View.{all_values}
 use Rattle.asl_value.proofs.Lists.{in_front}
-use Rattle.asl_shape.specs.Filled.{closed_of, closed_parts}
-use Rattle.asl_shape.specs.FilledView.{filled_of, all_fills}
+use Rattle.asl_shape.specs.private.Filled.{closed_of, closed_parts}
+use Rattle.asl_shape.specs.private.FilledView.{filled_of, all_fills}
 use Rattle.asl_shape.proofs.filled.+filled_view.Given as goal
 
 -- those that were made are in front of those left

@@ -1,8 +1,8 @@
 use Rattle.std.proofs.Common.{sym, ap, ◌∙◌}
 use Rattle.std.specs.Prelude.{option_map}
-use Rattle.asl_shape.specs.Filling as rules
-use Rattle.asl_shape.specs.FillingView.{type_taken}
-use Rattle.asl_shape.specs.Matched.{values_from}
+use Rattle.asl_shape.specs.private.Filling as rules
+use Rattle.asl_shape.specs.private.FillingView.{type_taken}
+use Rattle.asl_shape.specs.private.Matched.{values_from}
 use Rattle.asl_shape.specs.View.{type_of, all_types}
 use Rattle.asl_shape.proofs.Takes.{length_there, type_more}
 use Rattle.asl_shape.proofs.filling.+filling.Goals as goal

@@ -1,9 +1,9 @@
 use Rattle.std.proofs.Common.{◌≡◌, ◌+◌, sym, ◌∙◌, rules}
 use Rattle.std.specs.Prelude.{option_map}
-use Rattle.asl_shape.specs.Filled.{bits_of}
-use Rattle.asl_shape.specs.Filling.{made_as, all_fields}
-use Rattle.asl_shape.specs.FillingView.{type_taken}
-use Rattle.asl_shape.specs.Matched.{values_from}
+use Rattle.asl_shape.specs.private.Filled.{bits_of}
+use Rattle.asl_shape.specs.private.Filling.{made_as, all_fields}
+use Rattle.asl_shape.specs.private.FillingView.{type_taken}
+use Rattle.asl_shape.specs.private.Matched.{values_from}
 use Rattle.asl_shape.specs.View.{all_bitfields}
 use Rattle.asl_shape.proofs.Takes.{width_there}
 use Rattle.asl_shape.proofs.filling.bits.Goals as goal

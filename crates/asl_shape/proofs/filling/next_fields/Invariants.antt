@@ -1,6 +1,6 @@
 use Rattle.std.proofs.Common.{◌≡◌, drop}
-use Rattle.asl_shape.specs.Filling as rules
-use Rattle.asl_shape.specs.Matched.{values_from}
+use Rattle.asl_shape.specs.private.Filling as rules
+use Rattle.asl_shape.specs.private.Matched.{values_from}
 use Rattle.asl_shape.specs.View.{all_bitfields}
 use Rattle.asl_shape.proofs.Takes.{behind}
 use Rattle.asl_shape.proofs.filling.next_fields.Given as goal

@@ -1,7 +1,7 @@
 use Rattle.std.proofs.Common.{length, sym, ap, ◌∙◌, arith}
 use Rattle.asl_bits.specs.declared.TheConstants.{WIDTH_LIMIT}
-use Rattle.asl_rules.specs.Plans.{Good}
-use Rattle.asl_rules.specs.Values as values
+use Rattle.asl_rules.specs.runs.Plans.{Good}
+use Rattle.asl_rules.specs.values.Values as values
 use Rattle.asl_value.specs.View.{value_of}
 use Rattle.asl_shape.proofs.AlikeFirsts.{all_first}
 use Rattle.asl_types.proofs.AlikeLemmas.{mark_of, marked}

@@ -1,5 +1,5 @@
 use Rattle.std.proofs.Common.{◌∙◌, arith}
-use Rattle.asl_rules.specs.Types.{kinds, kinds_eq}
+use Rattle.asl_rules.specs.types.Types.{kinds, kinds_eq}
 use Rattle.asl_types.specs.View.{parts_of}
 use Rattle.asl_types.proofs.Falling.{tuple_higher}
 use Rattle.asl_value.specs.View.{all_kinds}

@@ -1,6 +1,6 @@
 use Rattle.std.proofs.Common.{◌≡◌, drop}
 use Rattle.std.specs.Prelude.{map}
-use Rattle.asl_rules.specs.Values as rules
+use Rattle.asl_rules.specs.values.Values as rules
 use Rattle.asl_value.specs.View.{kind_of, all_values}
 use Rattle.asl_shape.proofs.ValueKinds.{in_front}
 use Rattle.asl_shape.proofs.kinds.+kind_of.Given as goal

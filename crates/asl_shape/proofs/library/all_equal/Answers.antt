@@ -1,6 +1,6 @@
 use Rattle.std.proofs.Common.{◌≡◌, false, arith}
-use Rattle.asl_rules.specs.Library.{all_equal}
-use Rattle.asl_rules.specs.Operators.{same_bool}
+use Rattle.asl_rules.specs.values.Library.{all_equal}
+use Rattle.asl_rules.specs.values.Operators.{same_bool}
 use Rattle.asl_shape.proofs.LibraryBits.{equal_off}
 use Rattle.asl_shape.proofs.library.all_equal.Goals as goal
 

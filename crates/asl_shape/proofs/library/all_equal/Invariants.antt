@@ -1,5 +1,5 @@
 use Rattle.std.proofs.Common.{◌≡◌, drop}
-use Rattle.asl_rules.specs.Library as rules
+use Rattle.asl_rules.specs.values.Library as rules
 use Rattle.asl_shape.proofs.library.all_equal.Given as goal
 
 -- those so far are this bit

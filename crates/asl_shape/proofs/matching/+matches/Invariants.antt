@@ -1,8 +1,8 @@
 use Rattle.std.proofs.Common.{◌≡◌, drop}
 use Rattle.asl_bits.specs.declared.TheConstants.{WIDTH_LIMIT}
-use Rattle.asl_rules.specs.Matching.{any_match, all_match}
+use Rattle.asl_rules.specs.values.Matching.{any_match, all_match}
 use Rattle.asl_value.specs.View.{value_of}
-use Rattle.asl_shape.specs.Matched.{values_from}
+use Rattle.asl_shape.specs.private.Matched.{values_from}
 use Rattle.asl_shape.specs.View.{all_patterns}
 use Rattle.asl_shape.proofs.Patterns.{any_so_far, all_so_far, parts_in}
 use Rattle.asl_shape.proofs.matching.+matches.Given as goal

@@ -1,7 +1,7 @@
 use Rattle.std.proofs.Common.{◌≡◌, ◌+◌, sym, ap, ◌∙◌, rules}
-use Rattle.asl_rules.specs.Closed.{not_above}
-use Rattle.asl_rules.specs.Matching.{matched}
-use Rattle.asl_shape.specs.Matched.{values_from}
+use Rattle.asl_rules.specs.types.Closed.{not_above}
+use Rattle.asl_rules.specs.values.Matching.{matched}
+use Rattle.asl_shape.specs.private.Matched.{values_from}
 use Rattle.asl_shape.proofs.Patterns.{at_most_is}
 use Rattle.asl_shape.proofs.matching.below.Goals as goal
 

@@ -1,8 +1,8 @@
 use Rattle.std.proofs.Common.{◌≡◌, ◌+◌, sym, ap, ◌∙◌, rules}
 use Rattle.std.specs.Prelude.{◌&&◌}
-use Rattle.asl_rules.specs.Closed.{not_above}
-use Rattle.asl_rules.specs.Matching.{matched}
-use Rattle.asl_shape.specs.Matched.{values_from}
+use Rattle.asl_rules.specs.types.Closed.{not_above}
+use Rattle.asl_rules.specs.values.Matching.{matched}
+use Rattle.asl_shape.specs.private.Matched.{values_from}
 use Rattle.asl_shape.proofs.Patterns.{between_is}
 use Rattle.asl_shape.proofs.matching.within.Goals as goal
 

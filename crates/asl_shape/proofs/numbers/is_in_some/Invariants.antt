@@ -1,5 +1,5 @@
 use Rattle.std.proofs.Common.{◌≡◌, drop}
-use Rattle.asl_rules.specs.Closed.{in_some}
+use Rattle.asl_rules.specs.types.Closed.{in_some}
 use Rattle.asl_shape.proofs.Ranges.{ranges}
 use Rattle.asl_shape.proofs.numbers.is_in_some.Given as goal
 

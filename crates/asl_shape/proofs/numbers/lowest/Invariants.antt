@@ -1,5 +1,5 @@
 use Rattle.std.proofs.Common.{◌≡◌, drop}
-use Rattle.asl_rules.specs.Closed.{lowest}
+use Rattle.asl_rules.specs.types.Closed.{lowest}
 use Rattle.asl_shape.proofs.Ranges.{ranges}
 use Rattle.asl_shape.proofs.numbers.lowest.Given as goal
 

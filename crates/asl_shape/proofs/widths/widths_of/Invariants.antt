@@ -1,6 +1,6 @@
 use Rattle.std.proofs.Common.{◌≡◌, drop}
 use Rattle.std.specs.Prelude.{map}
-use Rattle.asl_rules.specs.TypedMeaning as rules
+use Rattle.asl_rules.specs.private.TypedMeaning as rules
 use Rattle.asl_value.specs.View.{value_of}
 use Rattle.asl_shape.proofs.OmittedWidths.{behind}
 use Rattle.asl_shape.proofs.widths.widths_of.Given as goal

@@ -1,9 +1,9 @@
 use Rattle.std.proofs.Common.{sym, ap, ◌∙◌, subst}
 use Rattle.std.specs.Prelude.{map, option_map}
 use Rattle.asl_bits.specs.declared.TheConstants.{WIDTH_LIMIT}
-use Rattle.asl_value.specs.Answers.{Is}
+use Rattle.asl_value.specs.private.Answers.{Is}
 use Rattle.asl_value.specs.View.{value_of}
-use Rattle.asl_shape.specs.FillingView.{type_taken}
+use Rattle.asl_shape.specs.private.FillingView.{type_taken}
 use Rattle.asl_shape.specs.View.{type_of}
 use Rattle.asl_shape.proofs.Converts.{first_is}
 use Rattle.asl_shape.proofs.written.first_of.Goals as goal

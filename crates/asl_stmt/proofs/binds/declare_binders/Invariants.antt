@@ -1,6 +1,6 @@
 use Rattle.std.proofs.Common.{◌≡◌, drop, true}
 use Rattle.asl_types.specs.View.{parts_of}
-use Rattle.asl_stmt.specs.Walks.{after, binder_step, binding}
+use Rattle.asl_stmt.specs.private.Walks.{after, binder_step, binding}
 use Rattle.asl_stmt.proofs.binds.declare_binders.Given as goal
 
 abbrev pub invariant-loop-binder : goal.invariant-loop-binder

@@ -1,5 +1,5 @@
 use Rattle.std.proofs.Common.{◌≡◌, ◌++◌, drop}
-use Rattle.asl_rules.specs.Locals.{taken}
+use Rattle.asl_rules.specs.statements.Locals.{taken}
 use Rattle.asl_stmt.proofs.binds.taken_parts.Given as goal
 
 abbrev pub invariant-loop-binder : goal.invariant-loop-binder

@@ -1,7 +1,7 @@
 use Rattle.std.proofs.Common.{arith, refl, ap, sym, ◌∙◌}
-use Rattle.asl_stmt.specs.Views.{body_of}
-use Rattle.asl_stmt.specs.PartViews.{branches_of}
-use Rattle.asl_stmt.specs.Walks.{branch_step, walk_branch}
+use Rattle.asl_stmt.specs.private.Views.{body_of}
+use Rattle.asl_stmt.specs.private.PartViews.{branches_of}
+use Rattle.asl_stmt.specs.private.Walks.{branch_step, walk_branch}
 use Rattle.asl_stmt.proofs.Chains.{after_mapped}
 use Rattle.asl_stmt.proofs.SizeLemmas.{branch_inside}
 use Rattle.asl_stmt.proofs.branches.check_branches.Goals as goal

@@ -1,9 +1,9 @@
 use Rattle.std.proofs.Common.{◌≡◌, drop, map}
 use Rattle.asl_rules.specs.Tests.{Tests}
 use Rattle.asl_types.specs.Suits.{Suits}
-use Rattle.asl_stmt.specs.Views.{body_of}
-use Rattle.asl_stmt.specs.PartViews.{branches_of}
-use Rattle.asl_stmt.specs.Walks.{after, branch_step, walk_branch}
+use Rattle.asl_stmt.specs.private.Views.{body_of}
+use Rattle.asl_stmt.specs.private.PartViews.{branches_of}
+use Rattle.asl_stmt.specs.private.Walks.{after, branch_step, walk_branch}
 use Rattle.asl_stmt.proofs.branches.check_branches.Given as goal
 
 abbrev pub invariant-loop-b : goal.invariant-loop-b

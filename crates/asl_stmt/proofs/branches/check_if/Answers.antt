@@ -1,8 +1,8 @@
 use Rattle.std.proofs.Common.{◌≡◌, rules, Err, ap, ◌∙◌, map, sym}
 use Rattle.asl_tree.specs.View.{operand_of}
-use Rattle.asl_stmt.specs.Views.{body_of, done_of, listed_of}
-use Rattle.asl_stmt.specs.PartViews.{branches_of}
-use Rattle.asl_stmt.specs.Walks.{first_branch, walk_stmt, walk_branch}
+use Rattle.asl_stmt.specs.private.Views.{body_of, done_of, listed_of}
+use Rattle.asl_stmt.specs.private.PartViews.{branches_of}
+use Rattle.asl_stmt.specs.private.Walks.{first_branch, walk_stmt, walk_branch}
 use Rattle.asl_stmt.proofs.Parted.{if_others_stop, if_last_stop, if_all}
 use Rattle.asl_stmt.proofs.branches.check_if.Goals as goal
 

@@ -1,11 +1,11 @@
 use Rattle.std.proofs.Common.{true, ◌∙◌}
 use Rattle.asl_syn.specs.declared.code.StaticCode.TheVariants.{T05}
-use Rattle.asl_rules.specs.Acting.{ended}
+use Rattle.asl_rules.specs.statements.Acting.{ended}
 use Rattle.asl_rules.specs.Faults.{none_at}
-use Rattle.asl_rules.specs.Trees as tree
+use Rattle.asl_rules.specs.runs.Trees as tree
 use Rattle.asl_tree.specs.View.{tree_of}
 use Rattle.asl_tree.specs.Acts.{all_acts, all_branches}
-use Rattle.asl_stmt.specs.Views.{done_of}
+use Rattle.asl_stmt.specs.private.Views.{done_of}
 use Rattle.asl_stmt.proofs.ActForms.{act_if}
 use Rattle.asl_stmt.proofs.Parted.{ended_after}
 use Rattle.asl_stmt.proofs.branches.end_if.Goals as goal

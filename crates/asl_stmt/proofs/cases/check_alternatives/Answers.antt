@@ -1,7 +1,7 @@
 use Rattle.std.proofs.Common.{arith, refl, ap, sym, ◌∙◌}
-use Rattle.asl_stmt.specs.Views.{body_of}
-use Rattle.asl_stmt.specs.PartViews.{alternatives_of}
-use Rattle.asl_stmt.specs.Walks.{alternative_step, walk_alternative}
+use Rattle.asl_stmt.specs.private.Views.{body_of}
+use Rattle.asl_stmt.specs.private.PartViews.{alternatives_of}
+use Rattle.asl_stmt.specs.private.Walks.{alternative_step, walk_alternative}
 use Rattle.asl_stmt.proofs.Chains.{after_mapped}
 use Rattle.asl_stmt.proofs.SizeLemmas.{alternative_inside}
 use Rattle.asl_stmt.proofs.cases.check_alternatives.Goals as goal

@@ -1,9 +1,9 @@
 use Rattle.std.proofs.Common.{◌≡◌, drop, map}
 use Rattle.asl_rules.specs.Tests.{Tests}
 use Rattle.asl_types.specs.Suits.{Suits}
-use Rattle.asl_stmt.specs.Views.{body_of}
-use Rattle.asl_stmt.specs.PartViews.{alternatives_of}
-use Rattle.asl_stmt.specs.Walks.{after, alternative_step, nothing_gathered, walk_alternative}
+use Rattle.asl_stmt.specs.private.Views.{body_of}
+use Rattle.asl_stmt.specs.private.PartViews.{alternatives_of}
+use Rattle.asl_stmt.specs.private.Walks.{after, alternative_step, nothing_gathered, walk_alternative}
 use Rattle.asl_stmt.proofs.cases.check_alternatives.Given as goal
 
 abbrev pub invariant-loop-a : goal.invariant-loop-a

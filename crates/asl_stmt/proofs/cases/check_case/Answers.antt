@@ -1,8 +1,8 @@
 use Rattle.std.proofs.Common.{◌≡◌, rules, Err, ap, ◌∙◌, map, sym}
 use Rattle.asl_tree.specs.View.{operand_of, typed_of}
-use Rattle.asl_stmt.specs.Views.{body_of, done_of, last_listed_of}
-use Rattle.asl_stmt.specs.PartViews.{alternatives_of}
-use Rattle.asl_stmt.specs.Walks.{after, alternative_step, nothing_gathered, walk_alternative, walk_otherwise}
+use Rattle.asl_stmt.specs.private.Views.{body_of, done_of, last_listed_of}
+use Rattle.asl_stmt.specs.private.PartViews.{alternatives_of}
+use Rattle.asl_stmt.specs.private.Walks.{after, alternative_step, nothing_gathered, walk_alternative, walk_otherwise}
 use Rattle.asl_stmt.proofs.Parted.{case_last_stop, case_all}
 use Rattle.asl_stmt.proofs.cases.check_case.Goals as goal
 

@@ -1,8 +1,8 @@
 use Rattle.std.proofs.Common.{arith, ap, sym, ◌∙◌, Ok}
 use Rattle.asl_rules.specs.Faults.{◌>>=◌}
-use Rattle.asl_stmt.specs.PatternViews.{patterns_of}
-use Rattle.asl_stmt.specs.Views.{body_of}
-use Rattle.asl_stmt.specs.Walks.{pattern_step, with_pattern}
+use Rattle.asl_stmt.specs.private.PatternViews.{patterns_of}
+use Rattle.asl_stmt.specs.private.Views.{body_of}
+use Rattle.asl_stmt.specs.private.Walks.{pattern_step, with_pattern}
 use Rattle.asl_stmt.proofs.Chains.{after_one}
 use Rattle.asl_stmt.proofs.cases.check_patterns.Goals as goal
 

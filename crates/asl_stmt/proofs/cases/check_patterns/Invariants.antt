@@ -1,9 +1,9 @@
 use Rattle.std.proofs.Common.{◌≡◌, drop, []}
 use Rattle.asl_rules.specs.Tests.{Tests}
 use Rattle.asl_types.specs.Suits.{Suits}
-use Rattle.asl_stmt.specs.PatternViews.{patterns_of}
-use Rattle.asl_stmt.specs.Views.{body_of}
-use Rattle.asl_stmt.specs.Walks.{after, pattern_step, patterned}
+use Rattle.asl_stmt.specs.private.PatternViews.{patterns_of}
+use Rattle.asl_stmt.specs.private.Views.{body_of}
+use Rattle.asl_stmt.specs.private.Walks.{after, pattern_step, patterned}
 use Rattle.asl_stmt.proofs.cases.check_patterns.Given as goal
 
 abbrev pub invariant-loop-pattern : goal.invariant-loop-pattern

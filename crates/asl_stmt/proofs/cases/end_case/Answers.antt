@@ -1,12 +1,12 @@
 use Rattle.std.proofs.Common.{◌≡◌, rules, true, ◌∙◌}
 use Rattle.asl_syn.specs.declared.code.StaticCode.TheVariants.{T05}
-use Rattle.asl_rules.specs.Acting.{ended}
-use Rattle.asl_rules.specs.Effects.{greater}
+use Rattle.asl_rules.specs.statements.Acting.{ended}
+use Rattle.asl_rules.specs.types.Effects.{greater}
 use Rattle.asl_rules.specs.Faults.{none_at}
-use Rattle.asl_rules.specs.Trees as tree
+use Rattle.asl_rules.specs.runs.Trees as tree
 use Rattle.asl_tree.specs.View.{tree_of, typed_of}
 use Rattle.asl_tree.specs.Acts.{all_alternatives, last_of}
-use Rattle.asl_stmt.specs.Views.{done_of}
+use Rattle.asl_stmt.specs.private.Views.{done_of}
 use Rattle.asl_stmt.proofs.ActForms.{act_case}
 use Rattle.asl_stmt.proofs.Parted.{ended_after}
 use Rattle.asl_stmt.proofs.cases.end_case.Goals as goal

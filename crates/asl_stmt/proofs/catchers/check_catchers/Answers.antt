@@ -1,7 +1,7 @@
 use Rattle.std.proofs.Common.{arith, refl, ap, sym, ◌∙◌}
-use Rattle.asl_stmt.specs.Views.{body_of}
-use Rattle.asl_stmt.specs.PartViews.{catchers_of}
-use Rattle.asl_stmt.specs.Walks.{catcher_step, walk_catcher}
+use Rattle.asl_stmt.specs.private.Views.{body_of}
+use Rattle.asl_stmt.specs.private.PartViews.{catchers_of}
+use Rattle.asl_stmt.specs.private.Walks.{catcher_step, walk_catcher}
 use Rattle.asl_stmt.proofs.Chains.{after_mapped}
 use Rattle.asl_stmt.proofs.SizeLemmas.{catcher_inside}
 use Rattle.asl_stmt.proofs.catchers.check_catchers.Goals as goal

@@ -1,9 +1,9 @@
 use Rattle.std.proofs.Common.{◌≡◌, drop, map}
 use Rattle.asl_rules.specs.Tests.{Tests}
 use Rattle.asl_types.specs.Suits.{Suits}
-use Rattle.asl_stmt.specs.Views.{body_of}
-use Rattle.asl_stmt.specs.PartViews.{catchers_of}
-use Rattle.asl_stmt.specs.Walks.{after, catcher_step, nothing_gathered, walk_catcher}
+use Rattle.asl_stmt.specs.private.Views.{body_of}
+use Rattle.asl_stmt.specs.private.PartViews.{catchers_of}
+use Rattle.asl_stmt.specs.private.Walks.{after, catcher_step, nothing_gathered, walk_catcher}
 use Rattle.asl_stmt.proofs.catchers.check_catchers.Given as goal
 
 abbrev pub invariant-loop-c : goal.invariant-loop-c

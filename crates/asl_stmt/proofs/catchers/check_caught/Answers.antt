@@ -1,10 +1,10 @@
 use Rattle.std.proofs.Common.{rules, ◌≡◌, Ok, Err, refl, ap, ◌∙◌, map, take, length}
-use Rattle.asl_rules.specs.Acting.{listed}
-use Rattle.asl_rules.specs.Branches.{with_caught}
+use Rattle.asl_rules.specs.statements.Acting.{listed}
+use Rattle.asl_rules.specs.statements.Branches.{with_caught}
 use Rattle.asl_rules.specs.Faults.{◌>>=◌}
-use Rattle.asl_rules.specs.Scopes.{handling}
-use Rattle.asl_stmt.specs.Views.{body_of, listed_of}
-use Rattle.asl_stmt.specs.Walks.{shut, walk_stmt}
+use Rattle.asl_rules.specs.declarations.Scopes.{handling}
+use Rattle.asl_stmt.specs.private.Views.{body_of, listed_of}
+use Rattle.asl_stmt.specs.private.Walks.{shut, walk_stmt}
 use Rattle.asl_stmt.proofs.Parted.{caught_all, caught_stop, stop}
 use Rattle.asl_stmt.proofs.Turns.{caught_cut}
 use Rattle.asl_stmt.proofs.catchers.check_caught.Goals as goal

@@ -1,8 +1,8 @@
 use Rattle.std.proofs.Common.{rules, ◌≡◌, Err, ap, ◌∙◌, map}
-use Rattle.asl_rules.specs.Scopes.{handling}
-use Rattle.asl_stmt.specs.Views.{body_of, done_of, listed_of, last_listed_of}
-use Rattle.asl_stmt.specs.PartViews.{catchers_of}
-use Rattle.asl_stmt.specs.Walks.{walk_stmt, walk_catcher, walk_otherwise}
+use Rattle.asl_rules.specs.declarations.Scopes.{handling}
+use Rattle.asl_stmt.specs.private.Views.{body_of, done_of, listed_of, last_listed_of}
+use Rattle.asl_stmt.specs.private.PartViews.{catchers_of}
+use Rattle.asl_stmt.specs.private.Walks.{walk_stmt, walk_catcher, walk_otherwise}
 use Rattle.asl_stmt.proofs.Parted.{try_catchers_stop, try_last_stop, try_all}
 use Rattle.asl_stmt.proofs.catchers.check_try.Goals as goal
 

@@ -1,10 +1,10 @@
 use Rattle.std.proofs.Common.{◌≡◌, rules, true, subst, ◌∙◌}
-use Rattle.asl_rules.specs.Acting.{ended}
-use Rattle.asl_rules.specs.Effects.{greater}
-use Rattle.asl_rules.specs.Trees as tree
+use Rattle.asl_rules.specs.statements.Acting.{ended}
+use Rattle.asl_rules.specs.types.Effects.{greater}
+use Rattle.asl_rules.specs.runs.Trees as tree
 use Rattle.asl_tree.specs.Acts.{all_acts, all_catchers, last_of}
-use Rattle.asl_types.specs.Answers.{Met}
-use Rattle.asl_stmt.specs.Views.{done_of}
+use Rattle.asl_types.specs.private.Answers.{Met}
+use Rattle.asl_stmt.specs.private.Views.{done_of}
 use Rattle.asl_stmt.proofs.ActForms.{act_try}
 use Rattle.asl_stmt.proofs.catchers.end_try.Goals as goal
 

@@ -3,13 +3,13 @@ use Rattle.std.specs.Prelude.{IfOk}
 use Rattle.asl_syn.specs.declared.code.Fault.{Fault}
 use Rattle.asl_syn.specs.declared.code.Refused.{Refused}
 use Rattle.asl_syn.specs.declared.code.Refused.TheVariants.{At}
-use Rattle.asl_rules.specs.Exprs.{found, width}
-use Rattle.asl_rules.specs.Locals.{counted_as}
-use Rattle.asl_rules.specs.Scopes.{Counted, next_atom}
-use Rattle.asl_types.specs.Answers.{Met}
-use Rattle.asl_types.specs.ContextView.{scope_of}
+use Rattle.asl_rules.specs.expressions.Exprs.{found, width}
+use Rattle.asl_rules.specs.statements.Locals.{counted_as}
+use Rattle.asl_rules.specs.declarations.Scopes.{Counted, next_atom}
+use Rattle.asl_types.specs.private.Answers.{Met}
+use Rattle.asl_types.specs.private.ContextView.{scope_of}
 use Rattle.asl_written.specs.WidthViews.{width_of}
-use Rattle.asl_stmt.specs.Views.{body_of}
+use Rattle.asl_stmt.specs.private.Views.{body_of}
 use Rattle.asl_stmt.proofs.counted.counted_as.Goals as goal
 
 met_at : {A B : Type 0} (v : A → B) (e : Refused) (f : Fault) (r : Result B Fault) → e ≡ At f → Met v (Err e) r → r ≡ Err f

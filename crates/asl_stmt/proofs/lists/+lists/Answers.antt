@@ -1,10 +1,10 @@
 use Rattle.std.proofs.Common.{rules, ◌≡◌, [], arith, ap, sym, ◌∙◌, map, take, Ok, Err}
 use Rattle.asl_rules.specs.declared.effect.Effect.TheVariants.{Pure}
-use Rattle.asl_rules.specs.Acting.{listed}
+use Rattle.asl_rules.specs.statements.Acting.{listed}
 use Rattle.asl_rules.specs.Faults.{◌>>=◌}
 use Rattle.asl_tree.specs.Acts.{act_of, acts_from}
-use Rattle.asl_stmt.specs.Views.{body_of, listing_of, listed_of}
-use Rattle.asl_stmt.specs.Walks.{after, stmt_step, listing, walk_stmt}
+use Rattle.asl_stmt.specs.private.Views.{body_of, listing_of, listed_of}
+use Rattle.asl_stmt.specs.private.Walks.{after, stmt_step, listing, walk_stmt}
 use Rattle.asl_stmt.proofs.Parted.{stop}
 use Rattle.asl_stmt.proofs.Turns.{list_loop, map_more, shut_by, cut_listing, suiting, suits}
 use Rattle.asl_stmt.proofs.lists.+lists.Goals as goal

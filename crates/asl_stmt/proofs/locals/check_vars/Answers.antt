@@ -1,15 +1,15 @@
 use Rattle.std.proofs.Common.{false, length, Ok, sym, ap, ◌∙◌}
 use Rattle.asl_rules.specs.declared.effect.Effect.TheVariants.{Pure}
-use Rattle.asl_rules.specs.Acting.{done}
-use Rattle.asl_rules.specs.Exprs.{found_type, written}
+use Rattle.asl_rules.specs.statements.Acting.{done}
+use Rattle.asl_rules.specs.expressions.Exprs.{found_type, written}
 use Rattle.asl_rules.specs.Faults.{◌>>=◌}
-use Rattle.asl_rules.specs.Locals.{vars_declared}
-use Rattle.asl_rules.specs.Trees as tree
-use Rattle.asl_rules.specs.Typing.{trees_from}
+use Rattle.asl_rules.specs.statements.Locals.{vars_declared}
+use Rattle.asl_rules.specs.runs.Trees as tree
+use Rattle.asl_rules.specs.expressions.Typing.{trees_from}
 use Rattle.asl_shape.specs.View.{type_of}
 use Rattle.asl_tree.specs.View.{all_trees}
 use Rattle.asl_written.specs.WrittenViews.{written_of}
-use Rattle.asl_stmt.specs.Views.{body_of}
+use Rattle.asl_stmt.specs.private.Views.{body_of}
 use Rattle.asl_stmt.proofs.locals.check_vars.Goals as goal
 
 pub returns : goal.returns

@@ -1,5 +1,5 @@
 use Rattle.std.proofs.Common.{◌≡◌, drop}
-use Rattle.asl_rules.specs.Locals.{names_rule}
+use Rattle.asl_rules.specs.statements.Locals.{names_rule}
 use Rattle.asl_stmt.proofs.locals.declare_vars.Given as goal
 
 abbrev pub invariant-loop-name : goal.invariant-loop-name

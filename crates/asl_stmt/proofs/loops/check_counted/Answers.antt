@@ -1,9 +1,9 @@
 use Rattle.std.proofs.Common.{ap, ◌∙◌, map, take, length, Ok}
-use Rattle.asl_rules.specs.Acting.{listed}
+use Rattle.asl_rules.specs.statements.Acting.{listed}
 use Rattle.asl_rules.specs.Faults.{◌>>=◌}
-use Rattle.asl_stmt.specs.LoopViews.{bounds_of}
-use Rattle.asl_stmt.specs.Views.{body_of}
-use Rattle.asl_stmt.specs.Walks.{shut, walk_stmt}
+use Rattle.asl_stmt.specs.private.LoopViews.{bounds_of}
+use Rattle.asl_stmt.specs.private.Views.{body_of}
+use Rattle.asl_stmt.specs.private.Walks.{shut, walk_stmt}
 use Rattle.asl_stmt.proofs.Turns.{index_cut, suiting, suits}
 use Rattle.asl_stmt.proofs.loops.check_counted.Goals as goal
 

@@ -1,7 +1,7 @@
 use Rattle.std.proofs.Common.{ap, map}
-use Rattle.asl_stmt.specs.LoopViews.{bounds_of}
-use Rattle.asl_stmt.specs.Views.{body_of, done_of, listed_of}
-use Rattle.asl_stmt.specs.Walks.{walk_stmt}
+use Rattle.asl_stmt.specs.private.LoopViews.{bounds_of}
+use Rattle.asl_stmt.specs.private.Views.{body_of, done_of, listed_of}
+use Rattle.asl_stmt.specs.private.Walks.{walk_stmt}
 use Rattle.asl_stmt.proofs.Parted.{for_all}
 use Rattle.asl_stmt.proofs.loops.check_for.Goals as goal
 

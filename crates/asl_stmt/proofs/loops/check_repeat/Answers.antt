@@ -1,7 +1,7 @@
 use Rattle.std.proofs.Common.{rules, ◌≡◌, Err, ap, map}
 use Rattle.asl_tree.specs.View.{operand_of}
-use Rattle.asl_stmt.specs.Views.{body_of, done_of, listed_of, maybe_operand}
-use Rattle.asl_stmt.specs.Walks.{walk_stmt}
+use Rattle.asl_stmt.specs.private.Views.{body_of, done_of, listed_of, maybe_operand}
+use Rattle.asl_stmt.specs.private.Walks.{walk_stmt}
 use Rattle.asl_stmt.proofs.Parted.{repeat_condition_stop, repeat_limit_stop, repeat_all}
 use Rattle.asl_stmt.proofs.loops.check_repeat.Goals as goal
 

@@ -1,7 +1,7 @@
 use Rattle.std.proofs.Common.{ap, map}
 use Rattle.asl_tree.specs.View.{operand_of}
-use Rattle.asl_stmt.specs.Views.{body_of, done_of, listed_of, maybe_operand}
-use Rattle.asl_stmt.specs.Walks.{walk_stmt}
+use Rattle.asl_stmt.specs.private.Views.{body_of, done_of, listed_of, maybe_operand}
+use Rattle.asl_stmt.specs.private.Walks.{walk_stmt}
 use Rattle.asl_stmt.proofs.Parted.{while_all}
 use Rattle.asl_stmt.proofs.loops.check_while.Goals as goal
 

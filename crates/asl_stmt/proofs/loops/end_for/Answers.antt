@@ -1,12 +1,12 @@
 use Rattle.std.proofs.Common.{◌≡◌, rules, [], ◌∷◌, ◌∙◌}
 use Rattle.asl_rules.specs.declared.effect.Effect.TheVariants.{Pure}
-use Rattle.asl_rules.specs.Acting.{ended}
-use Rattle.asl_rules.specs.Branches.{limit_fits}
-use Rattle.asl_rules.specs.Effects.{greater, all_together}
-use Rattle.asl_rules.specs.Trees as tree
+use Rattle.asl_rules.specs.statements.Acting.{ended}
+use Rattle.asl_rules.specs.statements.Branches.{limit_fits}
+use Rattle.asl_rules.specs.types.Effects.{greater, all_together}
+use Rattle.asl_rules.specs.runs.Trees as tree
 use Rattle.asl_tree.specs.View.{tree_of, typed_of}
 use Rattle.asl_tree.specs.Acts.{all_acts}
-use Rattle.asl_stmt.specs.Views.{done_of, maybe_operand}
+use Rattle.asl_stmt.specs.private.Views.{done_of, maybe_operand}
 use Rattle.asl_stmt.proofs.ActForms.{act_for}
 use Rattle.asl_stmt.proofs.Parted.{ended_after}
 use Rattle.asl_stmt.proofs.loops.end_for.Goals as goal

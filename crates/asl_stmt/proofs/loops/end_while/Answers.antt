@@ -1,11 +1,11 @@
 use Rattle.std.proofs.Common.{◌≡◌, rules, true, refl, sym, ap, ◌∙◌}
-use Rattle.asl_rules.specs.Acting.{condition, ended}
-use Rattle.asl_rules.specs.Branches.{limit_fits}
-use Rattle.asl_rules.specs.Effects.{greater}
-use Rattle.asl_rules.specs.Trees as tree
+use Rattle.asl_rules.specs.statements.Acting.{condition, ended}
+use Rattle.asl_rules.specs.statements.Branches.{limit_fits}
+use Rattle.asl_rules.specs.types.Effects.{greater}
+use Rattle.asl_rules.specs.runs.Trees as tree
 use Rattle.asl_tree.specs.View.{operand_of, typed_of}
 use Rattle.asl_tree.specs.Acts.{all_acts}
-use Rattle.asl_stmt.specs.Views.{done_of, maybe_operand}
+use Rattle.asl_stmt.specs.private.Views.{done_of, maybe_operand}
 use Rattle.asl_stmt.proofs.ActForms.{act_while}
 use Rattle.asl_stmt.proofs.Parted.{ended_after}
 use Rattle.asl_stmt.proofs.loops.end_while.Goals as goal

@@ -1,10 +1,10 @@
 use Rattle.std.proofs.Common.{◌≡◌, sym, ap, ◌∙◌, subst}
 use Rattle.std.specs.Prelude.{IfOk}
-use Rattle.asl_rules.specs.Branches.{index_type, of_range}
-use Rattle.asl_rules.specs.Exprs.{found}
-use Rattle.asl_rules.specs.Types.{Ty}
-use Rattle.asl_rules.specs.Writing.{range_rule}
-use Rattle.asl_stmt.specs.Views.{body_of}
+use Rattle.asl_rules.specs.statements.Branches.{index_type, of_range}
+use Rattle.asl_rules.specs.expressions.Exprs.{found}
+use Rattle.asl_rules.specs.types.Types.{Ty}
+use Rattle.asl_rules.specs.types.Writing.{range_rule}
+use Rattle.asl_stmt.specs.private.Views.{body_of}
 use Rattle.asl_stmt.proofs.loops.index_type.Goals as goal
 
 pub returns-in-Up : goal.returns-in-Up

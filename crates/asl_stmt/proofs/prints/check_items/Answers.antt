@@ -1,7 +1,7 @@
 use Rattle.std.proofs.Common.{arith}
-use Rattle.asl_stmt.specs.PrintViews.{printed_of}
-use Rattle.asl_stmt.specs.Views.{body_of}
-use Rattle.asl_stmt.specs.Walks.{item_step}
+use Rattle.asl_stmt.specs.private.PrintViews.{printed_of}
+use Rattle.asl_stmt.specs.private.Views.{body_of}
+use Rattle.asl_stmt.specs.private.Walks.{item_step}
 use Rattle.asl_stmt.proofs.Chains.{after_one}
 use Rattle.asl_stmt.proofs.prints.check_items.Goals as goal
 

@@ -1,10 +1,10 @@
 use Rattle.std.proofs.Common.{◌≡◌, drop, []}
-use Rattle.asl_rules.specs.Stmts.{printed}
+use Rattle.asl_rules.specs.statements.Stmts.{printed}
 use Rattle.asl_rules.specs.Tests.{Tests}
 use Rattle.asl_types.specs.Suits.{Suits}
-use Rattle.asl_stmt.specs.PrintViews.{printed_of}
-use Rattle.asl_stmt.specs.Views.{body_of}
-use Rattle.asl_stmt.specs.Walks.{after, item_step}
+use Rattle.asl_stmt.specs.private.PrintViews.{printed_of}
+use Rattle.asl_stmt.specs.private.Views.{body_of}
+use Rattle.asl_stmt.specs.private.Walks.{after, item_step}
 use Rattle.asl_stmt.proofs.prints.check_items.Given as goal
 
 abbrev pub invariant-loop-item : goal.invariant-loop-item

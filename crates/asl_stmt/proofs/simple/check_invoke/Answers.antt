@@ -1,8 +1,8 @@
 use Rattle.std.proofs.Common.{sym, ap, ◌∙◌, map, Ok}
-use Rattle.asl_rules.specs.Calls.{procedure_rule}
-use Rattle.asl_rules.specs.Exprs.{found}
+use Rattle.asl_rules.specs.expressions.Calls.{procedure_rule}
+use Rattle.asl_rules.specs.expressions.Exprs.{found}
 use Rattle.asl_rules.specs.Faults.{◌>>=◌}
-use Rattle.asl_rules.specs.Stmts.{invoked}
+use Rattle.asl_rules.specs.statements.Stmts.{invoked}
 use Rattle.asl_stmt.proofs.Simples.{invoked_by}
 use Rattle.asl_stmt.proofs.simple.check_invoke.Goals as goal
 

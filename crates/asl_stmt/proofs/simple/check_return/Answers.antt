@@ -1,6 +1,6 @@
 use Rattle.std.proofs.Common.{sym, ap, ◌∙◌, Ok}
-use Rattle.asl_rules.specs.Stmts.{return_rule}
-use Rattle.asl_stmt.specs.Views.{body_of}
+use Rattle.asl_rules.specs.statements.Stmts.{return_rule}
+use Rattle.asl_stmt.specs.private.Views.{body_of}
 use Rattle.asl_stmt.proofs.simple.check_return.Goals as goal
 
 pub returns-in-None-result : goal.returns-in-None-result

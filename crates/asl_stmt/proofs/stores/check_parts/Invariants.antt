@@ -3,7 +3,7 @@ use Rattle.asl_rules.specs.Tests.{Tests}
 use Rattle.asl_types.specs.Suits.{Suits}
 use Rattle.asl_tree.specs.Acts.{all_places}
 use Rattle.asl_tree.specs.View.{operand_of}
-use Rattle.asl_stmt.specs.Walks.{stores_fit}
+use Rattle.asl_stmt.specs.private.Walks.{stores_fit}
 use Rattle.asl_stmt.proofs.stores.check_parts.Given as goal
 
 abbrev pub invariant-loop-place : goal.invariant-loop-place

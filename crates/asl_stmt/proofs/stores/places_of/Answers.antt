@@ -1,9 +1,9 @@
 use Rattle.std.proofs.Common.{List, [], map, ap, sym, ◌∙◌}
-use Rattle.asl_rules.specs.Targets.{found_target}
+use Rattle.asl_rules.specs.statements.Targets.{found_target}
 use Rattle.asl_stmt.specs.declared.targets.TypedPlace.{TypedPlace}
-use Rattle.asl_stmt.specs.TargetViews.{place_of}
-use Rattle.asl_stmt.specs.Views.{body_of}
-use Rattle.asl_stmt.specs.Walks.{with_places}
+use Rattle.asl_stmt.specs.private.TargetViews.{place_of}
+use Rattle.asl_stmt.specs.private.Views.{body_of}
+use Rattle.asl_stmt.specs.private.Walks.{with_places}
 use Rattle.asl_stmt.proofs.Placing.{places_whole}
 use Rattle.asl_stmt.proofs.stores.places_of.Goals as goal
 

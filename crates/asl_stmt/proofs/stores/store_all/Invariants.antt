@@ -2,9 +2,9 @@ use Rattle.std.proofs.Common.{◌≡◌, [], map, reverse, length}
 use Rattle.asl_rules.specs.declared.effect.Effect.TheVariants.{Pure}
 use Rattle.asl_rules.specs.Tests.{Tests}
 use Rattle.asl_types.specs.Suits.{Suits}
-use Rattle.asl_stmt.specs.TargetViews.{place_of, stores_of}
-use Rattle.asl_stmt.specs.Views.{body_of}
-use Rattle.asl_stmt.specs.Walks.{after, store_step, stores}
+use Rattle.asl_stmt.specs.private.TargetViews.{place_of, stores_of}
+use Rattle.asl_stmt.specs.private.Views.{body_of}
+use Rattle.asl_stmt.specs.private.Walks.{after, store_step, stores}
 use Rattle.asl_stmt.proofs.stores.store_all.Given as goal
 
 abbrev pub invariant-loop-place : goal.invariant-loop-place

@@ -1,16 +1,16 @@
 use Rattle.std.proofs.Common.{rules, ◌≡◌, [], Ok, Err, refl, sym, ap, ◌∙◌, subst}
 use Rattle.asl_rules.specs.Faults.{◌>>=◌}
-use Rattle.asl_rules.specs.Slicing.{sliced_width, shapes_of}
-use Rattle.asl_rules.specs.Targets.{behind, found_slices}
-use Rattle.asl_rules.specs.Trees.{into_slices}
-use Rattle.asl_rules.specs.Types.{bits_of}
-use Rattle.asl_rules.specs.Typing.{trees_of}
-use Rattle.asl_types.specs.Answers.{Met}
+use Rattle.asl_rules.specs.expressions.Slicing.{sliced_width, shapes_of}
+use Rattle.asl_rules.specs.statements.Targets.{behind, found_slices}
+use Rattle.asl_rules.specs.runs.Trees.{into_slices}
+use Rattle.asl_rules.specs.types.Types.{bits_of}
+use Rattle.asl_rules.specs.expressions.Typing.{trees_of}
+use Rattle.asl_types.specs.private.Answers.{Met}
 use Rattle.asl_tree.specs.Acts.{step_of}
 use Rattle.asl_tree.specs.View.{all_operands}
-use Rattle.asl_stmt.specs.SuffixWalks.{bits_behind}
-use Rattle.asl_stmt.specs.TargetViews.{behind_of}
-use Rattle.asl_stmt.specs.Views.{body_of}
+use Rattle.asl_stmt.specs.private.SuffixWalks.{bits_behind}
+use Rattle.asl_stmt.specs.private.TargetViews.{behind_of}
+use Rattle.asl_stmt.specs.private.Views.{body_of}
 use Rattle.asl_stmt.proofs.Parted.{stop}
 use Rattle.asl_stmt.proofs.Simples.{trees_seen}
 use Rattle.asl_stmt.proofs.suffixes.behind_bits.Goals as goal

@@ -1,14 +1,14 @@
 use Rattle.std.proofs.Common.{◌≡◌, ◌&&◌, true, sym, ◌∙◌, subst}
 use Rattle.asl_syn.specs.declared.code.StaticCode.TheVariants.{T08}
 use Rattle.asl_rules.specs.Faults.{◌>>◌, need}
-use Rattle.asl_rules.specs.Slicing.{all_integers}
-use Rattle.asl_rules.specs.Targets.{found_slices}
-use Rattle.asl_rules.specs.Types.{is_bits}
-use Rattle.asl_types.specs.Answers.{Met}
+use Rattle.asl_rules.specs.expressions.Slicing.{all_integers}
+use Rattle.asl_rules.specs.statements.Targets.{found_slices}
+use Rattle.asl_rules.specs.types.Types.{is_bits}
+use Rattle.asl_types.specs.private.Answers.{Met}
 use Rattle.asl_tree.specs.View.{all_operands}
-use Rattle.asl_stmt.specs.SuffixWalks.{bits_behind}
-use Rattle.asl_stmt.specs.TargetViews.{behind_of}
-use Rattle.asl_stmt.specs.Views.{body_of}
+use Rattle.asl_stmt.specs.private.SuffixWalks.{bits_behind}
+use Rattle.asl_stmt.specs.private.TargetViews.{behind_of}
+use Rattle.asl_stmt.specs.private.Views.{body_of}
 use Rattle.asl_stmt.proofs.suffixes.behind_slices.Goals as goal
 
 pub returns : goal.returns

@@ -1,8 +1,8 @@
 use Rattle.std.proofs.Common.{subst, sym}
-use Rattle.asl_rules.specs.Targets as rules
-use Rattle.asl_types.specs.Answers.{Met}
-use Rattle.asl_stmt.specs.TargetViews.{suffix_of, behind_of}
-use Rattle.asl_stmt.specs.Views.{body_of}
+use Rattle.asl_rules.specs.statements.Targets as rules
+use Rattle.asl_types.specs.private.Answers.{Met}
+use Rattle.asl_stmt.specs.private.TargetViews.{suffix_of, behind_of}
+use Rattle.asl_stmt.specs.private.Views.{body_of}
 use Rattle.asl_stmt.proofs.suffixes.behind_suffix.Goals as goal
 
 pub returns-in-Field : goal.returns-in-Field

@@ -1,5 +1,5 @@
 use Rattle.std.proofs.Common.{◌≡◌, ◌++◌, drop}
-use Rattle.asl_rules.specs.Typing.{effects_of}
+use Rattle.asl_rules.specs.expressions.Typing.{effects_of}
 use Rattle.asl_tree.specs.View.{all_operands}
 use Rattle.asl_stmt.proofs.suffixes.push_all.Given as goal
 

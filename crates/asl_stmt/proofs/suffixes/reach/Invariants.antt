@@ -1,11 +1,11 @@
 use Rattle.std.proofs.Common.{◌≡◌, [], map, reverse, length}
-use Rattle.asl_rules.specs.Targets.{reached}
+use Rattle.asl_rules.specs.statements.Targets.{reached}
 use Rattle.asl_rules.specs.Tests.{Tests}
 use Rattle.asl_types.specs.Suits.{Suits}
 use Rattle.asl_tree.specs.Acts.{step_of}
-use Rattle.asl_stmt.specs.TargetViews.{suffix_of}
-use Rattle.asl_stmt.specs.Views.{body_of}
-use Rattle.asl_stmt.specs.Walks.{after, reach_step}
+use Rattle.asl_stmt.specs.private.TargetViews.{suffix_of}
+use Rattle.asl_stmt.specs.private.Views.{body_of}
+use Rattle.asl_stmt.specs.private.Walks.{after, reach_step}
 use Rattle.asl_stmt.proofs.suffixes.reach.Given as goal
 
 abbrev pub invariant-loop-suffix : goal.invariant-loop-suffix

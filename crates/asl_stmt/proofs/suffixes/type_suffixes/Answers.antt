@@ -1,10 +1,10 @@
 use Rattle.std.proofs.Common.{arith, List, ◌++◌, refl, map, ◌∙◌, ap, sym, Ok}
 use Rattle.std.proofs.lemmas.List.{drop_all}
 use Rattle.asl_rules.specs.Faults.{◌>>=◌}
-use Rattle.asl_rules.specs.Targets.{typed_suffix, typed_suffixes, up_to}
+use Rattle.asl_rules.specs.statements.Targets.{typed_suffix, typed_suffixes, up_to}
 use Rattle.asl_stmt.specs.declared.suffixes.TypedSuffix.{TypedSuffix}
-use Rattle.asl_stmt.specs.TargetViews.{suffix_of}
-use Rattle.asl_stmt.specs.Views.{body_of}
+use Rattle.asl_stmt.specs.private.TargetViews.{suffix_of}
+use Rattle.asl_stmt.specs.private.Views.{body_of}
 use Rattle.asl_stmt.proofs.Chains.{each_one, then_itself, append_nothing}
 use Rattle.asl_stmt.proofs.Turns.{map_more}
 use Rattle.asl_stmt.proofs.suffixes.type_suffixes.Goals as goal

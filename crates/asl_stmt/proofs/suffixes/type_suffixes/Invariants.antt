@@ -1,10 +1,10 @@
 use Rattle.std.proofs.Common.{◌≡◌, ◌++◌, drop, map, Ok}
 use Rattle.asl_rules.specs.Faults.{◌>>=◌}
-use Rattle.asl_rules.specs.Targets.{typed_suffixes}
+use Rattle.asl_rules.specs.statements.Targets.{typed_suffixes}
 use Rattle.asl_rules.specs.Tests.{Tests}
 use Rattle.asl_types.specs.Suits.{Suits}
-use Rattle.asl_stmt.specs.TargetViews.{suffix_of}
-use Rattle.asl_stmt.specs.Views.{body_of}
+use Rattle.asl_stmt.specs.private.TargetViews.{suffix_of}
+use Rattle.asl_stmt.specs.private.Views.{body_of}
 use Rattle.asl_stmt.proofs.suffixes.type_suffixes.Given as goal
 
 abbrev pub invariant-loop-x : goal.invariant-loop-x

@@ -1,8 +1,8 @@
 use Rattle.std.proofs.Common.{arith, map, ap, sym, ◌∙◌}
-use Rattle.asl_rules.specs.Targets.{found_target}
-use Rattle.asl_stmt.specs.TargetViews.{place_of}
-use Rattle.asl_stmt.specs.Views.{body_of}
-use Rattle.asl_stmt.specs.Walks.{with_places}
+use Rattle.asl_rules.specs.statements.Targets.{found_target}
+use Rattle.asl_stmt.specs.private.TargetViews.{place_of}
+use Rattle.asl_stmt.specs.private.Views.{body_of}
+use Rattle.asl_stmt.specs.private.Walks.{with_places}
 use Rattle.asl_stmt.proofs.Assigning.{targets_loop}
 use Rattle.asl_stmt.proofs.targets.+places.Goals as goal
 

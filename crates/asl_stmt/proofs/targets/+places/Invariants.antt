@@ -1,11 +1,11 @@
 use Rattle.std.proofs.Common.{◌≡◌, ◌++◌, drop, map, Ok}
 use Rattle.asl_rules.specs.Faults.{◌>>=◌}
-use Rattle.asl_rules.specs.Targets.{found_target, all_places}
+use Rattle.asl_rules.specs.statements.Targets.{found_target, all_places}
 use Rattle.asl_rules.specs.Tests.{Tests}
 use Rattle.asl_types.specs.Suits.{Suits}
-use Rattle.asl_stmt.specs.TargetViews.{place_of}
-use Rattle.asl_stmt.specs.Views.{body_of}
-use Rattle.asl_stmt.specs.Walks.{led}
+use Rattle.asl_stmt.specs.private.TargetViews.{place_of}
+use Rattle.asl_stmt.specs.private.Views.{body_of}
+use Rattle.asl_stmt.specs.private.Walks.{led}
 use Rattle.asl_stmt.proofs.targets.+places.Given as goal
 
 abbrev pub invariant-type_targets-loop-part : goal.invariant-type_targets-loop-part

@@ -1,6 +1,6 @@
 use Rattle.std.proofs.Common.{arith, ◌++◌, map, refl, ap, ◌∙◌}
-use Rattle.asl_rules.specs.Targets.{all_suffix_effects, place_effects}
-use Rattle.asl_stmt.specs.TargetViews.{place_of, suffix_of}
+use Rattle.asl_rules.specs.statements.Targets.{all_suffix_effects, place_effects}
+use Rattle.asl_stmt.specs.private.TargetViews.{place_of, suffix_of}
 use Rattle.asl_stmt.proofs.Placing.{gather_next}
 use Rattle.asl_stmt.proofs.targets.effects_in.Goals as goal
 

@@ -1,7 +1,7 @@
 use Rattle.std.proofs.Common.{◌≡◌, ◌++◌, drop, map}
-use Rattle.asl_rules.specs.Targets.{place_effects}
+use Rattle.asl_rules.specs.statements.Targets.{place_effects}
 use Rattle.asl_rules.specs.Tests.{Tests}
-use Rattle.asl_stmt.specs.TargetViews.{place_of}
+use Rattle.asl_stmt.specs.private.TargetViews.{place_of}
 use Rattle.asl_stmt.proofs.targets.effects_in.Given as goal
 
 abbrev pub invariant-loop-place : goal.invariant-loop-place

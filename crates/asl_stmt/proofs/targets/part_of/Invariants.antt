@@ -1,5 +1,5 @@
 use Rattle.std.proofs.Common.{◌≡◌, drop, Some}
-use Rattle.asl_rules.specs.Targets.{part_of}
+use Rattle.asl_rules.specs.statements.Targets.{part_of}
 use Rattle.asl_stmt.proofs.targets.part_of.Given as goal
 
 abbrev pub invariant-loop-number : goal.invariant-loop-number

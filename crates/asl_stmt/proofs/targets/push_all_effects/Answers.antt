@@ -1,6 +1,6 @@
 use Rattle.std.proofs.Common.{arith, map, refl}
-use Rattle.asl_rules.specs.Targets.{all_suffix_effects, suffix_effects}
-use Rattle.asl_stmt.specs.TargetViews.{suffix_of}
+use Rattle.asl_rules.specs.statements.Targets.{all_suffix_effects, suffix_effects}
+use Rattle.asl_stmt.specs.private.TargetViews.{suffix_of}
 use Rattle.asl_stmt.proofs.Placing.{gather_next, gather_last}
 use Rattle.asl_stmt.proofs.targets.push_all_effects.Goals as goal
 

@@ -1,7 +1,7 @@
 use Rattle.std.proofs.Common.{◌≡◌, ◌++◌, drop, map}
-use Rattle.asl_rules.specs.Targets.{all_suffix_effects}
+use Rattle.asl_rules.specs.statements.Targets.{all_suffix_effects}
 use Rattle.asl_rules.specs.Tests.{Tests}
-use Rattle.asl_stmt.specs.TargetViews.{suffix_of}
+use Rattle.asl_stmt.specs.private.TargetViews.{suffix_of}
 use Rattle.asl_stmt.proofs.targets.push_all_effects.Given as goal
 
 abbrev pub invariant-loop-x : goal.invariant-loop-x

@@ -1,6 +1,6 @@
 use Rattle.std.proofs.Common.{◌≡◌, IfOk, sym, subst}
-use Rattle.asl_rules.specs.Trees as typed
-use Rattle.asl_value.specs.Forms.{shell_of}
+use Rattle.asl_rules.specs.runs.Trees as typed
+use Rattle.asl_value.specs.private.Forms.{shell_of}
 use Rattle.asl_shape.specs.View.{all_given}
 use Rattle.asl_tree.specs.View.{note_view, tree_of}
 use Rattle.asl_tree.proofs.Operands.{trees_seen}

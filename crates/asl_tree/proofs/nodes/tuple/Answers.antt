@@ -1,5 +1,5 @@
 use Rattle.std.proofs.Common.{◌≡◌, IfOk, sym, subst}
-use Rattle.asl_rules.specs.Trees as typed
+use Rattle.asl_rules.specs.runs.Trees as typed
 use Rattle.asl_tree.specs.View.{note_view, tree_of}
 use Rattle.asl_tree.proofs.Operands.{trees_seen}
 use Rattle.asl_tree.proofs.nodes.tuple.Goals as goal

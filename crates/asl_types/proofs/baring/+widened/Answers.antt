@@ -1,6 +1,6 @@
 use Rattle.std.proofs.Common.{length, sym, ap, ◌∙◌, arith}
 use Rattle.std.specs.Prelude.{replicate}
-use Rattle.asl_rules.specs.Types.{tuple_of}
+use Rattle.asl_rules.specs.types.Types.{tuple_of}
 use Rattle.asl_types.specs.View.{parts_of}
 use Rattle.asl_types.proofs.Building.{widened_built}
 use Rattle.asl_types.proofs.AlikeLemmas.{mark_of, marked, widened_first}

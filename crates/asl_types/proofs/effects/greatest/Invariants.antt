@@ -1,5 +1,5 @@
 use Rattle.std.proofs.Common.{◌≡◌, drop}
-use Rattle.asl_rules.specs.Effects as rules
+use Rattle.asl_rules.specs.types.Effects as rules
 use Rattle.asl_types.proofs.effects.greatest.Given as goal
 
 abbrev pub invariant-loop-l : goal.invariant-loop-l

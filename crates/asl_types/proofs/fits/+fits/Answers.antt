@@ -1,5 +1,5 @@
 use Rattle.std.proofs.Common.{sym, subst, ◌∙◌, arith}
-use Rattle.asl_types.specs.Alike.{IsAlike}
+use Rattle.asl_types.specs.private.Alike.{IsAlike}
 use Rattle.asl_types.proofs.AlikeLemmas.{mark_of, marked, misfit_by_first}
 use Rattle.asl_types.proofs.Falling.{tuple_higher}
 use Rattle.asl_types.proofs.fits.+fits.Goals as goal

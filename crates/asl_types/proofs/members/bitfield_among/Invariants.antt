@@ -1,5 +1,5 @@
 use Rattle.std.proofs.Common.{◌≡◌, drop}
-use Rattle.asl_rules.specs.Members.{bitfield_in}
+use Rattle.asl_rules.specs.values.Members.{bitfield_in}
 use Rattle.asl_types.proofs.members.bitfield_among.Given as goal
 
 abbrev pub invariant-loop-field : goal.invariant-loop-field

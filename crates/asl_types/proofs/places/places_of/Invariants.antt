@@ -1,5 +1,5 @@
 use Rattle.std.proofs.Common.{◌≡◌, ◌≤◌, length, drop}
-use Rattle.asl_types.specs.FieldPlaces.{places_from}
+use Rattle.asl_types.specs.private.FieldPlaces.{places_from}
 use Rattle.asl_types.proofs.places.places_of.Given as goal
 
 abbrev pub invariant-loop-left : goal.invariant-loop-left

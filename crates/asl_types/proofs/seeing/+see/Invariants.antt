@@ -1,5 +1,5 @@
 use Rattle.std.proofs.Common.{◌≡◌, drop}
-use Rattle.asl_rules.specs.ByPlace.{parts_seen_as, all_seen_as}
+use Rattle.asl_rules.specs.private.ByPlace.{parts_seen_as, all_seen_as}
 use Rattle.asl_value.specs.View.{all_values}
 use Rattle.asl_value.proofs.Lists.{in_front}
 use Rattle.asl_types.specs.View.{parts_of}

@@ -1,5 +1,5 @@
 use Rattle.std.proofs.Common.{◌≡◌, min, max, drop}
-use Rattle.asl_rules.specs.Types as rules
+use Rattle.asl_rules.specs.types.Types as rules
 use Rattle.asl_types.specs.View.{fields_of}
 use Rattle.asl_types.proofs.sizes.depth_of_fields.Given as goal
 

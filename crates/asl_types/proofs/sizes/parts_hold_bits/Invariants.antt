@@ -1,5 +1,5 @@
 use Rattle.std.proofs.Common.{◌≡◌, drop}
-use Rattle.asl_rules.specs.HoldsBits as bits
+use Rattle.asl_rules.specs.private.HoldsBits as bits
 use Rattle.asl_types.specs.View.{parts_of}
 use Rattle.asl_types.proofs.sizes.parts_hold_bits.Given as goal
 

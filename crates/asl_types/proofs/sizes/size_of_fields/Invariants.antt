@@ -1,5 +1,5 @@
 use Rattle.std.proofs.Common.{◌≡◌, ◌+◌, ◌≤◌, min, drop}
-use Rattle.asl_rules.specs.Types as rules
+use Rattle.asl_rules.specs.types.Types as rules
 use Rattle.asl_types.specs.View.{fields_of}
 use Rattle.asl_types.proofs.sizes.size_of_fields.Given as goal
 

@@ -1,5 +1,5 @@
 use Rattle.std.proofs.Common.{◌≡◌, drop}
-use Rattle.asl_rules.specs.Types.{substitute_parts}
+use Rattle.asl_rules.specs.types.Types.{substitute_parts}
 use Rattle.asl_types.specs.View.{parts_of}
 use Rattle.asl_types.proofs.SubstituteLemmas.{parts_in_front}
 use Rattle.asl_types.proofs.substitute.+substitute.Given as goal

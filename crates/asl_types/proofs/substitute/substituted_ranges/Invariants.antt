@@ -1,5 +1,5 @@
 use Rattle.std.proofs.Common.{◌≡◌, drop}
-use Rattle.asl_rules.specs.Types.{substituted_ranges}
+use Rattle.asl_rules.specs.types.Types.{substituted_ranges}
 use Rattle.asl_types.proofs.SubstituteLemmas.{in_front}
 use Rattle.asl_types.proofs.substitute.substituted_ranges.Given as goal
 

@@ -1,5 +1,5 @@
 use Rattle.std.proofs.Common.{◌≡◌, drop}
-use Rattle.asl_rules.specs.Members as rules
+use Rattle.asl_rules.specs.values.Members as rules
 use Rattle.asl_rules.specs.Tests.{Tests, IsRight}
 use Rattle.asl_tree.specs.View.{all_operands}
 use Rattle.asl_typing.proofs.constructs.all_fit.Given as goal

@@ -1,6 +1,6 @@
 use Rattle.std.proofs.Common.{◌≡◌, [], drop}
-use Rattle.asl_typing.specs.Constructs.{given_texts}
-use Rattle.asl_names.specs.Firsts.{placed}
+use Rattle.asl_typing.specs.private.Constructs.{given_texts}
+use Rattle.asl_names.specs.private.Firsts.{placed}
 use Rattle.asl_typing.proofs.constructs.firsts_of_given.Given as goal
 
 abbrev pub invariant-loop-place : goal.invariant-loop-place

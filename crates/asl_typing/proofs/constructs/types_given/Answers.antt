@@ -1,7 +1,7 @@
 use Rattle.std.proofs.Common.{rules, arith, List, Result, sym, subst}
 use Rattle.asl_syn.specs.declared.code.Fault.{Fault}
-use Rattle.asl_rules.specs.Types.{Ty}
-use Rattle.asl_types.specs.Answers.{Met}
+use Rattle.asl_rules.specs.types.Types.{Ty}
+use Rattle.asl_types.specs.private.Answers.{Met}
 use Rattle.asl_types.specs.View.{fields_of}
 use Rattle.asl_typing.proofs.GivenTypes.{types_next, types_opened}
 use Rattle.asl_typing.proofs.constructs.types_given.Goals as goal

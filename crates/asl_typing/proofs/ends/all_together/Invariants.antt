@@ -1,6 +1,6 @@
 use Rattle.std.proofs.Common.{◌≡◌, drop}
-use Rattle.asl_rules.specs.Effects as rules
-use Rattle.asl_rules.specs.Typing.{effects_of}
+use Rattle.asl_rules.specs.types.Effects as rules
+use Rattle.asl_rules.specs.expressions.Typing.{effects_of}
 use Rattle.asl_tree.specs.View.{all_operands}
 use Rattle.asl_typing.proofs.ends.all_together.Given as goal
 

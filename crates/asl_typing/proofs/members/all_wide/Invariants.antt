@@ -1,5 +1,5 @@
 use Rattle.std.proofs.Common.{◌≡◌, ◌+◌, ◌≤◌, ◌^◌, min, drop}
-use Rattle.asl_rules.specs.Members as rules
+use Rattle.asl_rules.specs.values.Members as rules
 use Rattle.asl_typing.proofs.members.all_wide.Given as goal
 
 abbrev pub invariant-loop-field : goal.invariant-loop-field

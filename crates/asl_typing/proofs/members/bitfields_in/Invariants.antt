@@ -1,6 +1,6 @@
 use Rattle.std.proofs.Common.{◌≡◌, drop}
-use Rattle.asl_rules.specs.Members as rules
-use Rattle.asl_typing.specs.FoundMembers.{behind_bitfields}
+use Rattle.asl_rules.specs.values.Members as rules
+use Rattle.asl_typing.specs.private.FoundMembers.{behind_bitfields}
 use Rattle.asl_typing.proofs.members.bitfields_in.Given as goal
 
 abbrev pub invariant-loop-name : goal.invariant-loop-name

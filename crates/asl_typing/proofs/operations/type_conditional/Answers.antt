@@ -1,12 +1,12 @@
 use Rattle.std.proofs.Common.{rules, ◌≡◌, Result, Ok, sym, ap, subst, ◌∙◌}
 use Rattle.asl_syn.specs.declared.code.Fault.{Fault}
 use Rattle.asl_rules.specs.Faults.{◌>>=◌}
-use Rattle.asl_rules.specs.Trees as tree
-use Rattle.asl_rules.specs.Trees.{tree_at, note_of}
-use Rattle.asl_rules.specs.Typing.{Typed}
-use Rattle.asl_types.specs.Answers.{Met}
+use Rattle.asl_rules.specs.runs.Trees as tree
+use Rattle.asl_rules.specs.runs.Trees.{tree_at, note_of}
+use Rattle.asl_rules.specs.expressions.Typing.{Typed}
+use Rattle.asl_types.specs.private.Answers.{Met}
 use Rattle.asl_tree.specs.View.{tree_of, typed_of}
-use Rattle.asl_typing.specs.Conditionals.{conditional_note}
+use Rattle.asl_typing.specs.private.Conditionals.{conditional_note}
 use Rattle.asl_typing.proofs.Conditionals.{conditional_as, conditional_by}
 use Rattle.asl_typing.proofs.operations.type_conditional.Goals as goal
 

@@ -1,5 +1,5 @@
 use Rattle.std.proofs.Common.{map, get_or}
-use Rattle.asl_rules.specs.Vectors.{slicings}
+use Rattle.asl_rules.specs.values.Vectors.{slicings}
 use Rattle.asl_value.specs.declared.slices.SliceShape.TheVariants.{AtBit}
 use Rattle.asl_value.specs.View.{value_of, all_slices}
 use Rattle.asl_value.proofs.SlicesRead.{cut_on, same_item}

@@ -1,5 +1,5 @@
 use Rattle.std.proofs.Common.{◌≡◌, drop, map}
-use Rattle.asl_rules.specs.Vectors.{slicings}
+use Rattle.asl_rules.specs.values.Vectors.{slicings}
 use Rattle.asl_value.specs.View.{value_of, all_slices}
 use Rattle.asl_value.proofs.SlicesRead.{slicings_behind}
 use Rattle.asl_value.proofs.cuts.slicings_of.Given as goal

@@ -1,12 +1,12 @@
 use Rattle.std.proofs.Common.{map, get_or, refl}
 use Rattle.std.specs.Prelude.{pos}
 use Rattle.asl_bits.specs.declared.TheConstants.{WIDTH_LIMIT}
-use Rattle.asl_rules.specs.Vectors as rules
+use Rattle.asl_rules.specs.values.Vectors as rules
 use Rattle.asl_value.specs.declared.cuts.Slicing.{Slicing}
 use Rattle.asl_value.specs.declared.cuts.Wide.{Wide}
 use Rattle.asl_value.specs.declared.cuts.Low.TheVariants as low
 use Rattle.asl_value.specs.declared.cuts.Breadth.TheVariants as breadth
-use Rattle.asl_value.specs.Cutting.{slicing_of}
+use Rattle.asl_value.specs.private.Cutting.{slicing_of}
 use Rattle.asl_value.proofs.SlicesRead.{wide_on, same_item}
 use Rattle.asl_value.proofs.cuts.widths_of.Goals as goal
 

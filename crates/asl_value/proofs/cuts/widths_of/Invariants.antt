@@ -1,7 +1,7 @@
 use Rattle.std.proofs.Common.{◌≡◌, drop, map}
 use Rattle.asl_bits.specs.declared.TheConstants.{WIDTH_LIMIT}
-use Rattle.asl_rules.specs.Vectors.{widths_of}
-use Rattle.asl_value.specs.Cutting.{slicing_of, wide_of}
+use Rattle.asl_rules.specs.values.Vectors.{widths_of}
+use Rattle.asl_value.specs.private.Cutting.{slicing_of, wide_of}
 use Rattle.asl_value.proofs.SlicesRead.{behind}
 use Rattle.asl_value.proofs.cuts.widths_of.Given as goal
 

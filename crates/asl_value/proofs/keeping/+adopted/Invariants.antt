@@ -1,5 +1,5 @@
 use Rattle.std.proofs.Common.{◌≡◌, drop}
-use Rattle.asl_rules.specs.Views as rules
+use Rattle.asl_rules.specs.types.Views as rules
 use Rattle.asl_value.specs.View.{all_values}
 use Rattle.asl_value.proofs.Lists.{in_front}
 use Rattle.asl_value.proofs.keeping.+adopted.Given as goal

@@ -1,5 +1,5 @@
 use Rattle.std.proofs.Common.{◌≡◌, length, drop}
-use Rattle.asl_rules.specs.Types.{kinds_eq}
+use Rattle.asl_rules.specs.types.Types.{kinds_eq}
 use Rattle.asl_value.specs.View.{all_kinds}
 use Rattle.asl_value.proofs.keeping.+equal_kinds.Given as goal
 

@@ -1,5 +1,5 @@
 use Rattle.std.proofs.Common.{◌≡◌, drop}
-use Rattle.asl_rules.specs.HoldsBits.{have_bits}
+use Rattle.asl_rules.specs.private.HoldsBits.{have_bits}
 use Rattle.asl_value.specs.View.{all_values}
 use Rattle.asl_value.proofs.keeping.+has_bits.Given as goal
 

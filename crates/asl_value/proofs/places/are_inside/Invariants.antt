@@ -1,5 +1,5 @@
 use Rattle.std.proofs.Common.{◌≡◌, drop}
-use Rattle.asl_rules.specs.Vectors.{all_within}
+use Rattle.asl_rules.specs.values.Vectors.{all_within}
 use Rattle.asl_value.proofs.places.are_inside.Given as goal
 
 -- those behind decide

@@ -1,13 +1,13 @@
 use Rattle.std.proofs.Common.{◌≡◌, ◌<◌, ◌∙◌, false, length, sym, ap, subst, to_z-of_z, rules}
 use Rattle.std.specs.Prelude.{slice_set}
-use Rattle.asl_rules.specs.Structures.{value_at, inside}
-use Rattle.asl_rules.specs.Pures.{there}
-use Rattle.asl_rules.specs.Plans.{Good}
+use Rattle.asl_rules.specs.values.Structures.{value_at, inside}
+use Rattle.asl_rules.specs.runs.Pures.{there}
+use Rattle.asl_rules.specs.runs.Plans.{Good}
 use Rattle.asl_value.specs.declared.value.Value.TheVariants as v
-use Rattle.asl_value.specs.Forms.{all_steps}
+use Rattle.asl_value.specs.private.Forms.{all_steps}
 use Rattle.asl_bits.specs.declared.TheConstants.{WIDTH_LIMIT}
-use Rattle.asl_rules.specs.ByPlace.{field_at, updated, with_field_at}
-use Rattle.asl_value.specs.Reaching.{index_in}
+use Rattle.asl_rules.specs.private.ByPlace.{field_at, updated, with_field_at}
+use Rattle.asl_value.specs.private.Reaching.{index_in}
 use Rattle.asl_value.specs.View.{value_of, all_values, all_fields}
 use Rattle.asl_value.proofs.Putting.{fields_put, values_put, elements_none}
 use Rattle.asl_value.proofs.replacing.+put.Goals as goal

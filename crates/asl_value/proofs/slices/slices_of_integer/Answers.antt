@@ -1,8 +1,8 @@
 use Rattle.std.proofs.Common.{◌≡◌, ◌∙◌, None, map, sym, ap, to_z-of_z}
 use Rattle.asl_bits.specs.declared.TheConstants.{WIDTH_LIMIT}
-use Rattle.asl_rules.specs.Operators.{plain_bits}
-use Rattle.asl_rules.specs.Plans.{Good}
-use Rattle.asl_rules.specs.Vectors.{tested, slicings, read_int}
+use Rattle.asl_rules.specs.values.Operators.{plain_bits}
+use Rattle.asl_rules.specs.runs.Plans.{Good}
+use Rattle.asl_rules.specs.values.Vectors.{tested, slicings, read_int}
 use Rattle.asl_value.specs.View.{value_of, all_slices}
 use Rattle.asl_value.proofs.NearPlaces.{integer_read}
 use Rattle.asl_value.proofs.slices.slices_of_integer.Goals as goal

@@ -1,5 +1,5 @@
 use Rattle.std.proofs.Common.{◌≡◌, ◌-◌, length, take}
-use Rattle.asl_value.specs.Pieces.{digits}
+use Rattle.asl_value.specs.private.Pieces.{digits}
 use Rattle.asl_value.proofs.Fronts.{TakesFront}
 use Rattle.asl_value.proofs.text.show_digits.Given as goal
 

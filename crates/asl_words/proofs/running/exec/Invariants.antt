@@ -2,7 +2,7 @@ use Rattle.std.proofs.Common.{◌≡◌, Some, true, take}
 use Rattle.asl_rules.specs.Tests.{Tests}
 use Rattle.asl_types.specs.Suits.{Suits}
 use Rattle.asl_machine.specs.Stages.{is_ready}
-use Rattle.asl_words.specs.Runs.{LeavesWords, words_with}
+use Rattle.asl_words.specs.private.Runs.{LeavesWords, words_with}
 use Rattle.asl_words.proofs.running.exec.Given as goal
 
 -- the calls so far returned, and left the machine so

@@ -1,6 +1,6 @@
 use Rattle.std.proofs.Common.{subst}
 use Rattle.asl_io.specs.Told.{Takes, TakesPrefix}
-use Rattle.asl_rules.specs.Words.{word_line}
+use Rattle.asl_rules.specs.runs.Words.{word_line}
 use Rattle.asl_words.proofs.Stepping.{call_ended, call_refused, no_line, refused_line}
 use Rattle.asl_words.proofs.running.exec_word.Goals as goal
 

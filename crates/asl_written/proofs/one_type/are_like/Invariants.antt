@@ -1,5 +1,5 @@
 use Rattle.std.proofs.Common.{◌≡◌, drop}
-use Rattle.asl_written.specs.OneType.{are_like}
+use Rattle.asl_written.specs.private.OneType.{are_like}
 use Rattle.asl_written.proofs.one_type.are_like.Given as goal
 
 abbrev pub invariant-loop-other : goal.invariant-loop-other

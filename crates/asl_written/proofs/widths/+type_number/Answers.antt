@@ -1,4 +1,4 @@
-use Rattle.asl_types.specs.ContextView.{scope_of}
+use Rattle.asl_types.specs.private.ContextView.{scope_of}
 use Rattle.asl_written.proofs.WidthLemmas.{name_number}
 use Rattle.asl_written.proofs.widths.+type_number.Goals as goal
 

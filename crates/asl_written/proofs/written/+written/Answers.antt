@@ -1,10 +1,10 @@
 use Rattle.std.proofs.Common.{rules, Result, sym, subst}
 use Rattle.asl_syn.specs.declared.code.Fault.{Fault}
-use Rattle.asl_rules.specs.Writing as rule
-use Rattle.asl_types.specs.Answers.{Met}
-use Rattle.asl_types.specs.ContextView.{scope_of}
+use Rattle.asl_rules.specs.types.Writing as rule
+use Rattle.asl_types.specs.private.Answers.{Met}
+use Rattle.asl_types.specs.private.ContextView.{scope_of}
 use Rattle.asl_written.specs.WrittenViews.{written_of}
-use Rattle.asl_written.specs.WrittenTypes.{types_view}
+use Rattle.asl_written.specs.private.WrittenTypes.{types_view}
 use Rattle.asl_written.proofs.OneTypeLemmas.{marked_types}
 use Rattle.asl_written.proofs.WrittenLemmas.{integer_type, tuple_by}
 use Rattle.asl_written.proofs.written.+written.Goals as goal

@@ -1,10 +1,10 @@
 use Rattle.std.proofs.Common.{◌≡◌, drop, Ok}
 use Rattle.asl_rules.specs.Faults.{◌>>=◌}
 use Rattle.asl_rules.specs.Tests.{Tests}
-use Rattle.asl_rules.specs.Writing as rules
-use Rattle.asl_types.specs.ContextView.{scope_of}
+use Rattle.asl_rules.specs.types.Writing as rules
+use Rattle.asl_types.specs.private.ContextView.{scope_of}
 use Rattle.asl_types.specs.Suits.{Suits}
-use Rattle.asl_written.specs.WrittenTypes.{found_types, types_view, no_types, with_types, behind_types}
+use Rattle.asl_written.specs.private.WrittenTypes.{found_types, types_view, no_types, with_types, behind_types}
 use Rattle.asl_written.proofs.written.+written.Given as goal
 
 abbrev pub invariant-all_written-loop-ty : goal.invariant-all_written-loop-ty

@@ -1,12 +1,12 @@
 use Rattle.std.proofs.Common.{rules, Result, sym, subst}
 use Rattle.asl_bits.specs.declared.TheConstants.{WIDTH_LIMIT}
 use Rattle.asl_syn.specs.declared.code.Fault.{Fault}
-use Rattle.asl_rules.specs.Exprs.{found}
-use Rattle.asl_rules.specs.Writing as rule
-use Rattle.asl_types.specs.Answers.{Met}
-use Rattle.asl_types.specs.ContextView.{scope_of}
+use Rattle.asl_rules.specs.expressions.Exprs.{found}
+use Rattle.asl_rules.specs.types.Writing as rule
+use Rattle.asl_types.specs.private.Answers.{Met}
+use Rattle.asl_types.specs.private.ContextView.{scope_of}
 use Rattle.asl_written.specs.WidthViews.{width_of}
-use Rattle.asl_written.specs.WrittenFields.{found_bitfields}
+use Rattle.asl_written.specs.private.WrittenFields.{found_bitfields}
 use Rattle.asl_written.specs.WrittenViews.{written_of}
 use Rattle.asl_written.proofs.FieldLemmas.{bits_by}
 use Rattle.asl_written.proofs.written.bits_type.Goals as goal

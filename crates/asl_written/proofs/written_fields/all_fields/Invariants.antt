@@ -1,9 +1,9 @@
 use Rattle.std.proofs.Common.{◌≡◌, drop, Ok}
 use Rattle.asl_rules.specs.Faults.{◌>>=◌}
 use Rattle.asl_rules.specs.Tests.{Tests}
-use Rattle.asl_rules.specs.Writing as rules
-use Rattle.asl_types.specs.ContextView.{scope_of}
-use Rattle.asl_written.specs.WrittenFields.{found_bitfields, fields_view, fields_seen, behind_fields}
+use Rattle.asl_rules.specs.types.Writing as rules
+use Rattle.asl_types.specs.private.ContextView.{scope_of}
+use Rattle.asl_written.specs.private.WrittenFields.{found_bitfields, fields_view, fields_seen, behind_fields}
 use Rattle.asl_written.proofs.written_fields.all_fields.Given as goal
 
 abbrev pub invariant-loop-f : goal.invariant-loop-f

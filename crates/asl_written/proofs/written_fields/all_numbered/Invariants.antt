@@ -1,5 +1,5 @@
 use Rattle.std.proofs.Common.{◌≡◌, drop}
-use Rattle.asl_written.specs.WrittenFields.{all_numbers, numbered_from, behind_numbers}
+use Rattle.asl_written.specs.private.WrittenFields.{all_numbers, numbered_from, behind_numbers}
 use Rattle.asl_written.proofs.written_fields.all_numbered.Given as goal
 
 abbrev pub invariant-loop-f : goal.invariant-loop-f

@@ -1,6 +1,6 @@
 use Rattle.std.proofs.Common.{◌≡◌, drop}
-use Rattle.asl_rules.specs.Writing as rules
-use Rattle.asl_written.specs.WrittenFields.{all_numbers, behind_places}
+use Rattle.asl_rules.specs.types.Writing as rules
+use Rattle.asl_written.specs.private.WrittenFields.{all_numbers, behind_places}
 use Rattle.asl_written.proofs.written_fields.all_placed.Given as goal
 
 abbrev pub invariant-loop-f : goal.invariant-loop-f

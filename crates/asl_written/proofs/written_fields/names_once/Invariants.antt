@@ -1,5 +1,5 @@
 use Rattle.std.proofs.Common.{◌≡◌, drop, []}
-use Rattle.asl_rules.specs.Writing as rules
+use Rattle.asl_rules.specs.types.Writing as rules
 use Rattle.asl_written.proofs.NameLemmas.{names_of}
 use Rattle.asl_written.proofs.written_fields.names_once.Given as goal
 

@@ -1,5 +1,5 @@
 use Rattle.std.proofs.Common.{map, sym, subst}
-use Rattle.asl_types.specs.Answers.{Met}
+use Rattle.asl_types.specs.private.Answers.{Met}
 use Rattle.asl_decl.specs.Heads.{declared_of}
 use Rattle.asl_decl.proofs.TableLemmas.{table_then}
 use Rattle.asl_decl.proofs.table.Table.build.Goals as goal

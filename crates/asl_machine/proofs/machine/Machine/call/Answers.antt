@@ -1,8 +1,8 @@
 use Rattle.std.proofs.Common.{◌≡◌, ◌-◌, List, map, subst, rules}
-use Rattle.asl_rules.specs.Machines.{GivenUp}
+use Rattle.asl_rules.specs.runs.Machines.{GivenUp}
 use Rattle.asl_value.specs.View.{value_of}
 use Rattle.asl_value.specs.declared.value.Value.{Value}
-use Rattle.asl_machine.specs.Memory.{storage_of}
+use Rattle.asl_machine.specs.private.Memory.{storage_of}
 use Rattle.asl_machine.specs.Work.{Work, text_over, text_with}
 use Rattle.asl_machine.proofs.Answered.{given_up}
 use Rattle.asl_machine.proofs.machine.Machine.call.Goals as goal

@@ -1,6 +1,6 @@
 use Rattle.std.proofs.Common.{arith, ap, ◌∙◌}
 use Rattle.std.proofs.lemmas.Grind.{common_steps}
-use Rattle.asl_names.specs.Firsts.{kept}
+use Rattle.asl_names.specs.private.Firsts.{kept}
 use Rattle.asl_names.proofs.FirstLemmas.{kept_new}
 use Rattle.asl_names.proofs.firsts.Firsts.keep.Goals as goal
 

@@ -1,5 +1,5 @@
 use Rattle.std.proofs.Common.{sym, ap, ◌∙◌}
-use Rattle.asl_names.specs.Firsts.{first_place}
+use Rattle.asl_names.specs.private.Firsts.{first_place}
 use Rattle.asl_names.proofs.FirstLemmas.{first_named}
 use Rattle.asl_names.proofs.firsts.Firsts.place_of.Goals as goal
 

@@ -1,5 +1,5 @@
 use Rattle.std.proofs.Common.{sym, ap, ◌∙◌}
-use Rattle.asl_names.specs.Known.{known}
+use Rattle.asl_names.specs.private.Known.{known}
 use Rattle.asl_names.proofs.KnownLemmas.{known-named}
 use Rattle.asl_names.proofs.names.Names.get.Goals as goal
 

@@ -1,6 +1,6 @@
 use Rattle.std.proofs.Common.{arith, ap, ◌∙◌}
 use Rattle.std.proofs.lemmas.Grind.{common_steps}
-use Rattle.asl_names.specs.Known.{with_name}
+use Rattle.asl_names.specs.private.Known.{with_name}
 use Rattle.asl_names.proofs.KnownLemmas.{with_name-new}
 use Rattle.asl_names.proofs.names.Names.keep.Goals as goal
 

@@ -1,7 +1,7 @@
 use Rattle.std.proofs.Common.{rules, arith}
 use Rattle.std.proofs.lemmas.Grind.{common_steps}
 use Rattle.asl_grammar.specs.grammar.Rules.{as_type}
-use Rattle.asl_parse_expr.specs.Code.{cursor_of, reading}
+use Rattle.asl_parse_expr.specs.private.Code.{cursor_of, reading}
 use Rattle.asl_parse_expr.proofs.Loops.{run_as_chain, one_more}
 use Rattle.asl_parse_expr.proofs.Steps.{as_rest_is}
 use Rattle.asl_parse_expr.proofs.grammar.Grammar.as_rest.Goals as goal

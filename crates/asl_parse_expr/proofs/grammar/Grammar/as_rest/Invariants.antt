@@ -1,7 +1,7 @@
 use Rattle.std.proofs.Common.{◌≡◌, ◌-◌}
 use Rattle.asl_grammar.specs.grammar.Build.{as_chained}
 use Rattle.asl_grammar.specs.grammar.Rules.{as_rest, as_type}
-use Rattle.asl_parse_expr.specs.Code.{cursor_of, reading, then}
+use Rattle.asl_parse_expr.specs.private.Code.{cursor_of, reading, then}
 use Rattle.asl_parse_expr.proofs.Loops.{run_as_chain}
 use Rattle.asl_parse_expr.proofs.grammar.Grammar.as_rest.Given as goal
 

@@ -4,7 +4,7 @@ use Rattle.asl_grammar.specs.grammar.Cursor.{with_text}
 use Rattle.asl_grammar.specs.declared.kinds.Kind.TheVariants as kind
 use Rattle.asl_grammar.specs.grammar.Reader.{run_opens}
 use Rattle.asl_grammar.specs.grammar.Rules.{IfParts}
-use Rattle.asl_parse_expr.specs.Code.{cursor_of, symbol}
+use Rattle.asl_parse_expr.specs.private.Code.{cursor_of, symbol}
 use Rattle.asl_parse_expr.proofs.Rooms.{if_room}
 use Rattle.asl_parse_expr.proofs.grammar.Grammar.conditional.Goals as goal
 

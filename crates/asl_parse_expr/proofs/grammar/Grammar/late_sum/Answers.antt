@@ -6,7 +6,7 @@ use Rattle.asl_syn.specs.declared.tree.Expr.TheVariants as ex
 use Rattle.asl_grammar.specs.grammar.Build.{chained}
 use Rattle.asl_grammar.specs.grammar.Cursor.{span_to}
 use Rattle.asl_grammar.specs.grammar.Reader.{bind}
-use Rattle.asl_parse_expr.specs.Code.{charge, cursor_of, reading, then}
+use Rattle.asl_parse_expr.specs.private.Code.{charge, cursor_of, reading, then}
 use Rattle.asl_parse_expr.proofs.Tails.{late_sum_is, late_sum_rest, stopped}
 use Rattle.asl_parse_expr.proofs.grammar.Grammar.late_sum.Goals as goal
 

@@ -1,7 +1,7 @@
 use Rattle.std.proofs.Common.{rules, arith, ◌∷◌, []}
 use Rattle.std.proofs.lemmas.Grind.{common_steps}
 use Rattle.asl_grammar.specs.grammar.Rules.{equality}
-use Rattle.asl_parse_expr.specs.Code.{cursor_of, reading}
+use Rattle.asl_parse_expr.specs.private.Code.{cursor_of, reading}
 use Rattle.asl_parse_expr.proofs.Loops.{run_chain, one_more}
 use Rattle.asl_parse_expr.proofs.Steps.{links_by_is}
 use Rattle.asl_parse_expr.proofs.grammar.Grammar.links_by.Goals as goal

@@ -1,7 +1,7 @@
 use Rattle.std.proofs.Common.{◌≡◌, ◌-◌, ◌∷◌, []}
 use Rattle.asl_grammar.specs.grammar.Build.{chained}
 use Rattle.asl_grammar.specs.grammar.Rules.{equality, links_by}
-use Rattle.asl_parse_expr.specs.Code.{cursor_of, reading, then}
+use Rattle.asl_parse_expr.specs.private.Code.{cursor_of, reading, then}
 use Rattle.asl_parse_expr.proofs.Loops.{run_chain}
 use Rattle.asl_parse_expr.proofs.grammar.Grammar.links_by.Given as goal
 

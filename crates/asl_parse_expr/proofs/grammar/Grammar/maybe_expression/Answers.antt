@@ -1,6 +1,6 @@
 use Rattle.std.proofs.Common.{rules, arith}
 use Rattle.std.proofs.lemmas.Grind.{common_steps}
-use Rattle.asl_parse_expr.specs.Code.{cursor_of}
+use Rattle.asl_parse_expr.specs.private.Code.{cursor_of}
 use Rattle.asl_parse_expr.proofs.Steps.{maybe_expression_is}
 use Rattle.asl_parse_expr.proofs.grammar.Grammar.maybe_expression.Goals as goal
 

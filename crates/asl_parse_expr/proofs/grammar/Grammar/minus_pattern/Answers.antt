@@ -1,6 +1,6 @@
 use Rattle.std.proofs.Common.{rules, arith}
 use Rattle.std.proofs.lemmas.Grind.{common_steps}
-use Rattle.asl_parse_expr.specs.Code.{cursor_of}
+use Rattle.asl_parse_expr.specs.private.Code.{cursor_of}
 use Rattle.asl_parse_expr.proofs.Tails.{minus_pattern_is}
 use Rattle.asl_parse_expr.proofs.grammar.Grammar.minus_pattern.Goals as goal
 

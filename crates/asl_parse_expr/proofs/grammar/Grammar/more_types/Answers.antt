@@ -1,7 +1,7 @@
 use Rattle.std.proofs.Common.{rules, arith}
 use Rattle.std.proofs.lemmas.Grind.{common_steps}
 use Rattle.asl_grammar.specs.grammar.Rules.{type_expression}
-use Rattle.asl_parse_expr.specs.Code.{cursor_of, reading}
+use Rattle.asl_parse_expr.specs.private.Code.{cursor_of, reading}
 use Rattle.asl_parse_expr.proofs.Loops.{run_more, one_more}
 use Rattle.asl_parse_expr.proofs.Steps.{more_types_is}
 use Rattle.asl_parse_expr.proofs.grammar.Grammar.more_types.Goals as goal

@@ -1,7 +1,7 @@
 use Rattle.std.proofs.Common.{rules, arith}
 use Rattle.std.proofs.lemmas.Grind.{common_steps}
 use Rattle.asl_grammar.specs.grammar.Rules.{slice}
-use Rattle.asl_parse_expr.specs.Code.{cursor_of, reading}
+use Rattle.asl_parse_expr.specs.private.Code.{cursor_of, reading}
 use Rattle.asl_parse_expr.proofs.Loops.{run_more, one_more}
 use Rattle.asl_parse_expr.proofs.Steps.{slices_is}
 use Rattle.asl_parse_expr.proofs.grammar.Grammar.slices.Goals as goal

@@ -1,6 +1,6 @@
 use Rattle.std.proofs.Common.{rules, arith}
 use Rattle.std.proofs.lemmas.Grind.{common_steps}
-use Rattle.asl_parse_expr.specs.Code.{cursor_of}
+use Rattle.asl_parse_expr.specs.private.Code.{cursor_of}
 use Rattle.asl_parse_expr.proofs.Tails.{some_links_by_is}
 use Rattle.asl_parse_expr.proofs.grammar.Grammar.some_links_by.Goals as goal
 

@@ -2,7 +2,7 @@ use Rattle.std.proofs.Common.{rules, arith, ◌∷◌, []}
 use Rattle.std.proofs.lemmas.Grind.{common_steps}
 use Rattle.asl_grammar.specs.declared.kinds.Kind.TheVariants as kind
 use Rattle.asl_grammar.specs.grammar.Rules.{suffix}
-use Rattle.asl_parse_expr.specs.Code.{cursor_of, reading}
+use Rattle.asl_parse_expr.specs.private.Code.{cursor_of, reading}
 use Rattle.asl_parse_expr.proofs.Loops.{run_suffixed, one_more}
 use Rattle.asl_parse_expr.proofs.Tails.{suffixed_is}
 use Rattle.asl_parse_expr.proofs.grammar.Grammar.suffixed.Goals as goal

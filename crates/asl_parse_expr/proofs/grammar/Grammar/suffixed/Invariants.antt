@@ -2,7 +2,7 @@ use Rattle.std.proofs.Common.{◌≡◌, ◌-◌, ◌∷◌, []}
 use Rattle.asl_grammar.specs.declared.kinds.Kind.TheVariants as kind
 use Rattle.asl_grammar.specs.grammar.Build.{suffixed}
 use Rattle.asl_grammar.specs.grammar.Rules.{suffix, suffixes}
-use Rattle.asl_parse_expr.specs.Code.{cursor_of, reading, then}
+use Rattle.asl_parse_expr.specs.private.Code.{cursor_of, reading, then}
 use Rattle.asl_parse_expr.proofs.Loops.{run_suffixed}
 use Rattle.asl_parse_expr.proofs.grammar.Grammar.suffixed.Given as goal
 

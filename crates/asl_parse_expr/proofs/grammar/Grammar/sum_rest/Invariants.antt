@@ -2,7 +2,7 @@ use Rattle.std.proofs.Common.{◌≡◌, ◌-◌, ◌∷◌, []}
 use Rattle.asl_grammar.specs.declared.kinds.Kind.TheVariants as kind
 use Rattle.asl_grammar.specs.grammar.Build.{chained}
 use Rattle.asl_grammar.specs.grammar.Rules.{product, sum_rest}
-use Rattle.asl_parse_expr.specs.Code.{cursor_of, reading, then}
+use Rattle.asl_parse_expr.specs.private.Code.{cursor_of, reading, then}
 use Rattle.asl_parse_expr.proofs.Loops.{run_chain}
 use Rattle.asl_parse_expr.proofs.grammar.Grammar.sum_rest.Given as goal
 

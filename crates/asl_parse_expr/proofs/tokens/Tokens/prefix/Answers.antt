@@ -1,7 +1,7 @@
 use Rattle.std.proofs.Common.{ap, ◌∙◌}
 use Rattle.asl_grammar.specs.grammar.Cursor.{among, with_text}
 use Rattle.asl_grammar.specs.grammar.Operators.{unary_kinds}
-use Rattle.asl_parse_expr.specs.Code.{cursor_of}
+use Rattle.asl_parse_expr.specs.private.Code.{cursor_of}
 use Rattle.asl_parse_expr.proofs.Opened.{is_operator}
 use Rattle.asl_parse_expr.proofs.tokens.Tokens.prefix.Goals as goal
 

@@ -1,6 +1,6 @@
 use Rattle.std.proofs.Common.{rules, arith}
 use Rattle.std.proofs.lemmas.Grind.{common_steps}
-use Rattle.asl_parse_expr.specs.Code.{cursor_of}
+use Rattle.asl_parse_expr.specs.private.Code.{cursor_of}
 use Rattle.asl_parse_stmt.proofs.StatementSteps.{for_body_by}
 use Rattle.asl_parse_stmt.proofs.bodies.Bodies.for_body.Goals as goal
 

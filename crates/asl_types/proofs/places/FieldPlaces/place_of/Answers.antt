@@ -1,5 +1,5 @@
 use Rattle.std.proofs.Common.{sym, ap, ◌∙◌}
-use Rattle.asl_types.specs.NamePlaces.{place_of}
+use Rattle.asl_types.specs.private.NamePlaces.{place_of}
 use Rattle.asl_types.proofs.PlaceLemmas.{place_named}
 use Rattle.asl_types.proofs.places.FieldPlaces.place_of.Goals as goal
 

@@ -1,5 +1,5 @@
 use Rattle.std.proofs.Common.{ap, ◌∙◌}
-use Rattle.asl_types.specs.NamePlaces.{named, put}
+use Rattle.asl_types.specs.private.NamePlaces.{named, put}
 use Rattle.asl_types.proofs.PlaceLemmas.{put_named}
 use Rattle.asl_types.proofs.places.FieldPlaces.put.Goals as goal
 

@@ -1,7 +1,7 @@
 use Rattle.std.proofs.Common.{ap, ◌∙◌}
 use Rattle.std.specs.Map.{lookup}
 use Rattle.std.specs.Str.{bytes_eq}
-use Rattle.asl_rules.specs.Scopes.{Signature}
+use Rattle.asl_rules.specs.declarations.Scopes.{Signature}
 use Rattle.asl_types.proofs.ChainLemmas.{one_linked}
 use Rattle.asl_types.proofs.subprograms.Subprograms.push.Goals as goal
 

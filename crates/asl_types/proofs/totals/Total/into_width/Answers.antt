@@ -1,5 +1,5 @@
 use Rattle.std.proofs.Common.{subst}
-use Rattle.asl_types.specs.Totals.{IsTotalOf}
+use Rattle.asl_types.specs.private.Totals.{IsTotalOf}
 use Rattle.asl_types.proofs.TotalLemmas.{done}
 use Rattle.asl_types.proofs.totals.Total.into_width.Goals as goal
 

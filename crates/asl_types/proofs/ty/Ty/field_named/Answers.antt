@@ -1,5 +1,5 @@
 use Rattle.std.proofs.Common.{sym, ap, ◌∙◌}
-use Rattle.asl_types.specs.FieldPlaces.{fields_of_form, places_in}
+use Rattle.asl_types.specs.private.FieldPlaces.{fields_of_form, places_in}
 use Rattle.asl_types.proofs.PlaceLemmas.{found_in}
 use Rattle.asl_types.proofs.ty.Ty.field_named.Goals as goal
 

@@ -1,6 +1,6 @@
 use Rattle.std.proofs.Common.{◌≡◌, drop}
-use Rattle.asl_rules.specs.Types as rules
-use Rattle.asl_value.specs.Supers.{joined}
+use Rattle.asl_rules.specs.types.Types as rules
+use Rattle.asl_value.specs.private.Supers.{joined}
 use Rattle.asl_value.proofs.supers.Supers.has.Given as goal
 
 -- none so far

@@ -1,5 +1,5 @@
 use Rattle.std.proofs.Common.{◌≡◌, ◌+◌, ◌≤◌, min, drop, length}
-use Rattle.asl_value.specs.Supers.{joined}
+use Rattle.asl_value.specs.private.Supers.{joined}
 use Rattle.asl_value.proofs.supers.Supers.len.Given as goal
 
 abbrev pub invariant-loop-tree : goal.invariant-loop-tree

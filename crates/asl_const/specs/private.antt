@@ -1,0 +1,6 @@
+-- What restates something for proofs, nearer to how the code goes about it: a lemma ties each to what it restates.
+pub mod Unknowns
+pub mod Parts
+pub mod Finds
+pub mod Giving
+pub mod Gathered

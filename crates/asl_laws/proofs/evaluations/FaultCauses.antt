@@ -1,0 +1,103 @@
+-- Where a fault of the code T04 comes from: an evaluation stopped with a dynamic fault, or a call or a global `var` stands where it may not.
+-- All other rules have other codes.
+use Rattle.std.proofs.Common.{◌≡◌, ℕ, inl, inr, true, List, [], Option, Some, None, Result, Ok, Err, refl, sym, ◌∙◌, subst}
+use Rattle.asl_syn.specs.declared.token.Span.{Span}
+use Rattle.asl_syn.specs.declared.code.Fault.{Fault}
+use Rattle.asl_syn.specs.declared.code.StaticCode.TheVariants.{T04}
+use Rattle.asl_syn.specs.declared.tree.Expr.{Expr}
+use Rattle.asl_syn.specs.declared.tree.Decl.{Decl}
+use Rattle.asl_grammar.specs.Reading.{File, Reads}
+use Rattle.asl_rules.specs.declared.entry.Entry.{Entry as Asked}
+use Rattle.asl_rules.specs.Faults.{none_at}
+use Rattle.asl_rules.specs.Tests.{Tests, IsRight}
+use Rattle.asl_rules.specs.types.Types as types
+use Rattle.asl_rules.specs.types.Types.{Ty, is_integer}
+use Rattle.asl_rules.specs.types.Closed.{closed}
+use Rattle.asl_rules.specs.values.Values.{Value}
+use Rattle.asl_rules.specs.declarations.Names.{names_rule, all_declared}
+use Rattle.asl_rules.specs.declarations.Scopes.{Entry}
+use Rattle.asl_rules.specs.declarations.Barred.{barred}
+use Rattle.asl_rules.specs.private.Belonging.{InType}
+use Rattle.asl_rules.specs.private.Agreement.{no_atoms, types_in}
+use Rattle.asl_rules.specs.runs.Plans.{Faulted, Stuck, Pure, Good, Bad}
+use Rattle.asl_rules.specs.declarations.Constants.{constant}
+use Rattle.asl_rules.specs.types.Written.{first_value}
+use Rattle.asl_rules.specs.declarations.Declarations.{evaluated}
+use Rattle.asl_rules.specs.declarations.Programs.{as_number, origin, verdict, FaultOf}
+use Rattle.asl_rules.specs.private.Grown.{AreGrown}
+use Rattle.asl_rules.proofs.basics.Inversions.{ok_ok, err_ok}
+use Rattle.asl_laws.proofs.scopes.GrownTexts.{read_grown}
+use Rattle.asl_rules.proofs.values.Shapes.{integer_is}
+use Rattle.asl_rules.proofs.values.KindOf.{has_kind}
+use Rattle.asl_rules.proofs.values.SameKind.{equal_kinds}
+use Rattle.asl_laws.specs.Evaluated.{GivesOrFaults, ConstantsGiven, Evaluates, AreVisible, HasCause}
+use Rattle.asl_laws.proofs.spans.Spans.{Spans, Each, each_one, all_of, decl_spans}
+use Rattle.asl_laws.proofs.spans.OtherCodes.{Other}
+use Rattle.asl_laws.proofs.spans.Standing.{At, Stands, next_by}
+use Rattle.asl_laws.proofs.spans.DeclSpans.{names_stand, all_declared_stand}
+use Rattle.asl_laws.proofs.spans.ProgramSpans.{IsOutside, AsksOf, verdict_stands}
+use Rattle.asl_laws.proofs.evaluations.NeverStuck.{evaluates}
+
+module _ (t : Tests) (ds : List Decl) where
+  -- the code T04 has a cause
+  abbrev Caused : Fault → Type 0
+  Caused f = f.code ≡ T04 → HasCause t ds f
+
+  -- other codes need none, wherever they are
+  anywhere : (span : Span) → At Caused span
+  anywhere span = record { fault_has = λ code o e. absurd (subst Other e o) }
+
+  all_anywhere : (s : Spans) → Each (At Caused) s
+  all_anywhere = each_one (At Caused) anywhere
+
+  -- ---- evaluations
+
+  evaluated_has : (R : Value → Type 0) (p : Pure Value) → GivesOrFaults R p → Stands Caused (evaluated p)
+  evaluated_has R (Good x) h = tt
+  evaluated_has R (Bad (Faulted code span)) h = record { has = λ e. inl (code, refl) }
+  evaluated_has R (Bad (Stuck mistake span)) h = absurd h
+
+  given_value : (R : Value → Type 0) (p : Pure Value) (x : Value) → GivesOrFaults R p → evaluated p ≡ Ok x → R x
+  given_value R (Good y) x h e = subst R (ok_ok y x e) h
+  given_value R (Bad (Faulted code span)) x h e = err_ok _ x e
+  given_value R (Bad (Stuck mistake span)) x h e = absurd h
+
+  barred_has : (names : List Entry) → AreVisible t ds names → (e : Expr) → IsOutside ds e → (o : Option Span) → barred e names ≡ o → Stands Caused (none_at T04 o)
+  barred_has names visible e out None h = tt
+  barred_has names visible e (d, (i, is)) (Some span) h = record { has = λ k. inr (record { decl = d; stands = i; expr = e; expr_is = is; names = names; visible = visible; holds = h }) }
+
+  number_has : (span : Span) (names : List Entry) (T : Ty) (x : Value) → is_integer T ≡ true → InType (types_in names) no_atoms x T → Stands Caused (as_number span x)
+  number_has span names T x h i = let z = integer_is x (has_kind no_atoms T x i.0 ∙ equal_kinds (types.kind T) types.integers h) in subst (λ y. Stands Caused (as_number span y)) (sym z.1) tt
+
+  module _ (given : Evaluates t ds) where
+    constants : (names : List Entry) → AreVisible t ds names → ConstantsGiven t names
+    constants names (inl (n, same)) = subst (ConstantsGiven t) same (given.rounds n)
+    constants names (inr same) = subst (ConstantsGiven t) same given.all
+
+    asks : AsksOf t ds Caused
+    asks = record {
+      barred_at = λ names v e out. barred_has names v e out (barred e names) refl;
+      known_at = λ names v e out k S b so. evaluated_has _ (constant t.limit e names) (constants names v e k S b so);
+      number_at = λ names v e out k S b so i x g. number_has _ names S.ty x i (given_value _ (constant t.limit e names) x (constants names v e k S b so) g);
+      first_at = λ at T p. evaluated_has (λ x. Unit {0}) (first_value t.limit at (closed T)) (given.first at (closed T));
+    }
+
+    caused : (e : Asked) → Stands Caused (verdict e ds t)
+    caused e = verdict_stands t Caused ds asks e (anywhere origin) (all_anywhere (all_of decl_spans ds))
+
+  -- names that are not apart have another code
+  refused : (e : Asked) (g : Fault) → names_rule [] (all_declared ds) ≡ Err g → Stands Caused (verdict e ds t)
+  unfolding verdict
+  refused e g h = next_by Caused (names_rule [] (all_declared ds)) _ (names_stand t Caused [] (all_declared ds) (all_declared_stand t Caused ds (all_anywhere (all_of decl_spans ds)))) (λ a. err_ok g tt (sym h ∙ a))
+
+  all_caused : IsRight t → AreGrown ds → (e : Asked) (r : Result (Unit {0}) Fault) → names_rule [] (all_declared ds) ≡ r → Stands Caused (verdict e ds t)
+  all_caused right grown e (Ok tt) h = caused (evaluates t right ds grown h) e
+  all_caused right grown e (Err g) h = refused e g h
+
+  -- a fault of the code T04 has a cause
+  pub has_cause : IsRight t → AreGrown ds → (e : Asked) (f : Fault) → verdict e ds t ≡ Err f → f.code ≡ T04 → HasCause t ds f
+  has_cause right grown e f h = (subst (λ r. Stands Caused r) h (all_caused right grown e (names_rule [] (all_declared ds)) refl)).has
+
+-- so has one of declarations that are read from files
+pub read_cause : (limit : ℕ) (e : Asked) (files : List File) (ds : List Decl) (f : Fault) → Reads files (Ok ds) → (p : FaultOf limit e ds f) → f.code ≡ T04 → HasCause p.tests ds f
+read_cause limit e files ds f r p = has_cause p.tests ds p.right (read_grown files ds r) e f p.is

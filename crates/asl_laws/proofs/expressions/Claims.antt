@@ -1,0 +1,159 @@
+-- What is claimed of expressions and statements with their typed trees, in a program with these names outside bodies and these subprograms, at an assignment of
+-- integers to the atoms that is fixed for a frame.
+use Rattle.std.proofs.Common.{◌≡◌, ℕ, Bool, true, List, [], ◌∷◌, ◌++◌, Option, Some, None, Ok}
+use Rattle.asl_syn.specs.declared.tree.Expr.{Expr}
+use Rattle.asl_syn.specs.declared.tree.Stmt.{Stmt}
+use Rattle.asl_rules.specs.Tests.{Tests}
+use Rattle.asl_rules.specs.types.Types.{Ty}
+use Rattle.asl_rules.specs.types.Closed.{Assignment, Closed, type_with, width_at}
+use Rattle.asl_rules.specs.declarations.Scopes.{Scope, Body, Entry, Signature, with_class}
+use Rattle.asl_rules.specs.declared.effect.Effect.TheVariants.{Pure}
+use Rattle.asl_rules.specs.private.WellFormed.{WellFormed, Built}
+use Rattle.asl_rules.specs.runs.Trees.{Tree, Act}
+use Rattle.asl_rules.specs.expressions.Typing.{Typed, Width, Number}
+use Rattle.asl_rules.specs.expressions.Exprs.{found, typed, width}
+use Rattle.asl_rules.specs.statements.Acting.{Done}
+use Rattle.asl_rules.specs.statements.Stmts.{found_stmt}
+use Rattle.asl_rules.specs.statements.Falling.{falls}
+use Rattle.asl_rules.specs.values.Values.{Value, int, Exit, Normal, Returned}
+use Rattle.asl_rules.specs.runs.States.{Core}
+use Rattle.asl_rules.specs.private.Belonging.{has_type, InType}
+use Rattle.asl_rules.specs.private.Agreement.{types_in, GlobalsMatch, Raised, Agrees, SameOn}
+use Rattle.asl_rules.specs.private.TypedMeaning.{BareCore}
+use Rattle.asl_rules.specs.private.Erasure.{erased}
+use Rattle.asl_laws.proofs.expressions.Twins.{Claims}
+use Rattle.asl_laws.proofs.runs.Several.{several}
+use Rattle.asl_laws.proofs.scopes.ScopesKept.{GoodScope}
+
+-- where a node stands: its scope, the integers of the atoms, and what is being handled
+pub record Here : Type 0 where
+  pub scope : Scope
+  pub present : Assignment
+  pub handled : List Value
+
+-- what an expression is asked for: its type, in the class of the scope or as one that is Pure, what it is as a width or a number, or its type where its width is known
+pub data Asked : Type 0 where
+  of_type : Typed → Asked
+  of_pure : Typed → Asked
+  of_width : Width → Asked
+  of_number : Number → Asked
+  of_known : Typed → Width → Asked
+
+abbrev pub tree_asked : Asked → Tree
+tree_asked (of_type S) = S.tree
+tree_asked (of_pure S) = S.tree
+tree_asked (of_width W) = W.tree
+tree_asked (of_number N) = N.tree
+tree_asked (of_known S W) = S.tree
+
+abbrev pub Answers : Tests → Asked → Expr → Scope → Type 0
+Answers t (of_type S) e G = typed t e G ≡ Ok S
+Answers t (of_pure S) e G = typed t e (with_class G Pure) ≡ Ok S
+Answers t (of_width W) e G = width t e G ≡ Ok W
+Answers t (of_number N) e G = (found t e).number G ≡ Ok N
+Answers t (of_known S W) e G = (typed t e G ≡ Ok S) × (width t e G ≡ Ok W)
+
+abbrev pub GivesAsked : (List ℕ → Option Ty) → Assignment → Asked → Value → Type 0
+GivesAsked d a (of_type S) x = InType d a x S.ty
+GivesAsked d a (of_pure S) x = InType d a x S.ty
+GivesAsked d a (of_width W) x = x ≡ int (width_at W.poly a)
+GivesAsked d a (of_number N) x = x ≡ int N.number
+GivesAsked d a (of_known S W) x = x ≡ int (width_at W.poly a)
+
+-- a result, where the body has one, at the parameters of the body; its bits get the bitfields of the result where the body ends
+abbrev pub GivesResult : (List ℕ → Option Ty) → Assignment → Option Ty → Option Value → Type 0
+GivesResult d a None None = Unit {0}
+GivesResult d a None (Some x) = ⊥
+GivesResult d a (Some T) None = ⊥
+GivesResult d a (Some T) (Some x) = (has_type a x T ≡ true) × Built d x
+
+abbrev pub FormedResult : (List ℕ → Option Ty) → Option Ty → Type 0
+FormedResult d None = Unit {0}
+FormedResult d (Some T) = WellFormed d T
+
+-- an exception is being handled
+abbrev pub Handles : List Value → Type 0
+Handles [] = ⊥
+Handles (x ∷ xs) = Unit {0}
+
+abbrev pub result_at : Assignment → Option Ty → Option Closed
+result_at a None = None
+result_at a (Some T) = Some (type_with T a)
+
+-- a statement in a body, whose result is taken at the parameters
+pub record StmtClaim : Type 0 where
+  pub body : Body
+  pub done : Done
+  pub present : Assignment
+  pub params : Assignment
+  pub handled : List Value
+
+module _ (tests : Tests) (base : List Entry) (subs : List Signature) where
+  -- the state agrees with the scope, whose subprograms are those of the program, and handles what was being handled
+  pub record At (H : Here) (c : Core) : Type 0 where
+    pub agrees : Agrees base H.scope.names H.present c
+    pub subs_are : H.scope.subs ≡ subs
+    pub handled_are : c.handled ≡ H.handled
+
+  -- where an exception comes out: the state agrees with these names, and maybe with more behind them, at an assignment that is the same on them
+  pub record Over (names : List Entry) (a : Assignment) (handled : List Value) (x : Value) (c : Core) : Type 0 where
+    pub raised : Raised (types_in base) x
+    pub more : List Entry
+    pub later : Assignment
+    pub same : SameOn names a later
+    pub agrees : Agrees base (names ++ more) later c
+    pub handled_are : c.handled ≡ handled
+
+  -- an expression with its typed tree
+  pub record ExprIn (H : Here) (q : Asked) (e : Expr) (t : Tree) (c : Core) : Type 0 where
+    pub answers : Answers tests q e H.scope
+    pub is_tree : tree_asked q ≡ t
+    pub at : At H c
+
+  -- a statement with its typed tree; its result is the same type at all later assignments
+  pub record StmtIn (j : StmtClaim) (s : Stmt) (t : Act) (c : Core) : Type 0 where
+    pub is_found : found_stmt tests s j.body ≡ Ok j.done
+    pub is_tree : j.done.act ≡ t
+    pub at : At (record { scope = j.body.scope; present = j.present; handled = j.handled }) c
+    pub formed : FormedResult (types_in base) j.body.result
+    pub result_is : (b : Assignment) → SameOn j.body.scope.names j.present b → result_at b j.body.result ≡ result_at j.params j.body.result
+    pub handles : j.body.handles ≡ true → Handles j.handled
+    pub scope_good : GoodScope tests j.body.scope
+
+  -- a statement that ends: its end can be reached, and what is visible after it agrees
+  pub record Ended (j : StmtClaim) (falls : Bool) (c : Core) : Type 0 where
+    pub reached : falls ≡ true
+    pub later : Assignment
+    pub same : SameOn j.body.scope.names j.present later
+    pub agrees : Agrees base j.done.names later c
+    pub handled_are : c.handled ≡ j.handled
+
+  -- one that returns
+  pub record Left (j : StmtClaim) (o : Option Value) (c : Core) : Type 0 where
+    pub gives : GivesResult (types_in base) j.params j.body.result o
+    pub more : List Entry
+    pub later : Assignment
+    pub agrees : Agrees base (j.body.scope.names ++ more) later c
+    pub handled_are : c.handled ≡ j.handled
+
+  abbrev pub Ends : StmtClaim → Bool → Exit → Core → Type 0
+  Ends j b Normal c = Ended j b c
+  Ends j b (Returned o) c = Left j o c
+
+  abbrev pub our_each : Claims Core BareCore Expr Tree Stmt Act
+  our_each = record {
+    seen = erased;
+    I = Here × Asked;
+    J = StmtClaim × Bool;
+    expr_in = λ i e t c. ExprIn i.0 i.1 e t c;
+    expr_out = λ i x c. GivesAsked (types_in base) i.0.present i.1 x × At i.0 c;
+    expr_thrown = λ i x c. Over i.0.scope.names i.0.present i.0.handled x c;
+    stmt_in = λ j s t c. StmtIn j.0 s t c × (j.1 ≡ falls s);
+    stmt_out = λ j x c. Ends j.0 j.1 x c;
+    stmt_thrown = λ j x c. Over j.0.body.scope.names j.0.present j.0.handled x c;
+    halted = λ c. GlobalsMatch base c.globals;
+  }
+
+  -- and several of them at once
+  abbrev pub our : Claims Core BareCore Expr Tree Stmt Act
+  our = several our_each

@@ -1,0 +1,21 @@
+use Rattle.asl_laws.proofs.verdict.OneReport.{one_report}
+use Rattle.asl_laws.proofs.verdict.OneVerdict.{one_answer}
+use Rattle.asl_laws.proofs.evaluations.NeverStuck.{read_evaluates}
+use Rattle.asl_laws.proofs.evaluations.FaultCauses.{read_cause}
+use Rattle.asl_laws.proofs.reading.Trees.{fault_lies}
+use Rattle.asl_laws.proofs.law.law2.Goals as goal
+
+pub returns-clause-one : goal.returns-clause-one
+returns-clause-one c = one_answer
+
+pub returns-clause-within : goal.returns-clause-within
+returns-clause-within c = fault_lies
+
+pub returns-clause-evaluates : goal.returns-clause-evaluates
+returns-clause-evaluates c = read_evaluates
+
+pub returns-clause-cause : goal.returns-clause-cause
+returns-clause-cause c = read_cause
+
+pub returns-clause-report : goal.returns-clause-report
+returns-clause-report c = one_report

@@ -1,0 +1,36 @@
+-- What is asked of what each symbol of the grammar stands for, and of what a rule reads.
+-- Written by tools/grammar/generate.py from tools/grammar/table.py.
+use Rattle.std.proofs.Common.{ℕ}
+use Rattle.asl_grammar.specs.grammar.Rules.{Sym, Val, Rule, after, Parenthesized, Arguments, Braced, Operand, IfParts, Bracketed, Width, SetParts, PatternParts, ConstraintParts, Bitfields, TypeParts, ArrayParts, TargetParts, IfBody, CaseBody, ForBody, WhileBody, RepeatBody, TryBody, Program}
+use Rattle.asl_rules.proofs.verdict.SameRules.{AllOf}
+use Rattle.asl_laws.proofs.reading.Inside.{in_opt, Inside}
+use Rattle.asl_laws.proofs.reading.Predicates.{IdentIn, ExprIn, TypeExprIn, ConstraintPartIn, BitfieldIn, PatternIn, SuffixIn, TargetIn, StmtIn, ElseIfIn, AlternativeIn, OtherwiseIn, CatcherIn, DeclIn, DirectionIn, BracesIn}
+
+module _ (n size : ℕ) where
+  -- what is asked of what is read behind a token that opens a level
+  abbrev pub SymIn : (s : Sym) → Val s → Type 0
+  SymIn Parenthesized v = AllOf (ExprIn n size) v
+  SymIn Arguments v = AllOf (ExprIn n size) v
+  SymIn Braced v = BracesIn n size v
+  SymIn Operand v = ExprIn n size v
+  SymIn IfParts v = ExprIn n size v.0 × ExprIn n size v.1 × ExprIn n size v.2
+  SymIn Bracketed v = SuffixIn n size v
+  SymIn Width v = ExprIn n size v
+  SymIn SetParts v = AllOf (PatternIn n size) v
+  SymIn PatternParts v = AllOf (PatternIn n size) v
+  SymIn ConstraintParts v = AllOf (ConstraintPartIn n size) v
+  SymIn Bitfields v = AllOf (BitfieldIn n size) v
+  SymIn TypeParts v = AllOf (TypeExprIn n size) v
+  SymIn ArrayParts v = ExprIn n size v.0 × TypeExprIn n size v.1
+  SymIn TargetParts v = AllOf (TargetIn n size) v
+  SymIn IfBody v = ExprIn n size v.0 × AllOf (StmtIn n size) v.1 × AllOf (ElseIfIn n size) v.2 × AllOf (StmtIn n size) v.3
+  SymIn CaseBody v = ExprIn n size v.0 × AllOf (AlternativeIn n size) v.1 × OtherwiseIn n size v.2
+  SymIn ForBody v = IdentIn n size v.0 × ExprIn n size v.1 × DirectionIn n size v.2 × ExprIn n size v.3 × in_opt (ExprIn n size) v.4 × AllOf (StmtIn n size) v.5
+  SymIn WhileBody v = ExprIn n size v.0 × in_opt (ExprIn n size) v.1 × AllOf (StmtIn n size) v.2
+  SymIn RepeatBody v = AllOf (StmtIn n size) v.0 × ExprIn n size v.1 × in_opt (ExprIn n size) v.2
+  SymIn TryBody v = AllOf (StmtIn n size) v.0 × AllOf (CatcherIn n size) v.1 × OtherwiseIn n size v.2
+  SymIn Program v = AllOf (DeclIn n size) v
+
+  -- what a rule reads lies in the file, part by part
+  abbrev pub In : {A : Type 0} → Rule A → A → Type 0
+  In g v = Inside Sym Val after n size SymIn g v

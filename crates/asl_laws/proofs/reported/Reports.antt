@@ -1,0 +1,40 @@
+-- What a report is put together from isn't stuck, for all files that are read.
+use Rattle.std.proofs.Common.{ℕ, List, [], Some, Ok}
+use Rattle.asl_grammar.specs.Reading.{File, ReadsAt, Reads}
+use Rattle.asl_syn.specs.declared.tree.Decl.{Decl}
+use Rattle.asl_rules.specs.declared.entry.Entry.TheVariants as entry
+use Rattle.asl_rules.specs.runs.Evaluation.{initial_globals}
+use Rattle.asl_rules.specs.private.Grown.{AreGrown}
+use Rattle.asl_rules.specs.runs.Plans.{starting}
+use Rattle.asl_rules.specs.declarations.Programs.{environment}
+use Rattle.asl_rules.specs.Tests.{IsRight, Tests}
+use Rattle.asl_laws.proofs.scopes.GrownTexts.{read_grown, read_grown_at}
+use Rattle.asl_laws.proofs.soundness.Soundness.{soundness}
+use Rattle.asl_laws.proofs.soundness.SoundnessEntry.{main_call}
+use Rattle.asl_laws.proofs.soundness.SoundnessFacts.{facts_of}
+use Rattle.asl_laws.specs.Reported.{RunsWell}
+use Rattle.asl_laws.proofs.reported.Asked.{decode_there, has_asked, main_there}
+use Rattle.asl_laws.proofs.reported.RunsOfWords.{words_not_stuck}
+
+grown_well : (t : Tests) → IsRight t → (ds : List Decl) → AreGrown ds → RunsWell t ds
+grown_well t right ds grown = record {
+  run = λ a ok steps.
+      let asked = has_asked t entry.Main ds a ok in
+      let there = main_there a asked in
+      let f = facts_of t entry.Main ds a ok in
+      let sound = (soundness t right ds a f grown).0 in
+      let globals = initial_globals (environment t ds) in
+      (there.0, (there.1, sound.never_stuck there.0 [] globals (starting steps (Some [])) (main_call t ds a f there.0 globals sound.initial there.1 asked.asked)));
+  words = λ a ok steps words.
+      let asked = has_asked t entry.Decode ds a ok in
+      let there = decode_there a asked in
+      let f = facts_of t entry.Decode ds a ok in
+      let sound = (soundness t right ds a f grown).0 in
+      (there.0, (there.1, words_not_stuck t ds a f sound there.0 there.1 asked.asked words (initial_globals (environment t ds)) (starting steps (Some [])) sound.initial));
+}
+
+pub reports_run_well_at : (limit : ℕ) (t : Tests) → IsRight t → (files : List File) (ds : List Decl) → ReadsAt limit files (Ok ds) → RunsWell t ds
+reports_run_well_at limit t right files ds r = grown_well t right ds (read_grown_at limit files ds r)
+
+pub reports_run_well : (t : Tests) → IsRight t → (files : List File) (ds : List Decl) → Reads files (Ok ds) → RunsWell t ds
+reports_run_well t right files ds r = grown_well t right ds (read_grown files ds r)

@@ -1,0 +1,77 @@
+-- The scopes of bodies stay well counted and over their own atoms, behind each statement and each list.
+use Rattle.std.proofs.Common.{◌≡◌, ℕ, true, List, [], ◌∷◌, ◌++◌, Option, Some, None, map, Ok, sym, subst}
+use Rattle.asl_syn.specs.declared.code.StaticCode.TheVariants.{T01}
+use Rattle.asl_syn.specs.declared.tree.Expr.{Expr}
+use Rattle.asl_syn.specs.declared.tree.Ident.{Ident}
+use Rattle.asl_syn.specs.declared.tree.Direction.{Direction}
+use Rattle.asl_syn.specs.declared.tree.Stmt.{Stmt}
+use Rattle.asl_syn.specs.declared.tree.Decl.{Decl}
+use Rattle.asl_syn.specs.declared.tree.Func.{Func}
+use Rattle.asl_rules.specs.declared.effect.Effect.{Effect}
+use Rattle.asl_rules.specs.Tests.{Tests}
+use Rattle.asl_rules.specs.Faults.{need}
+use Rattle.asl_rules.specs.types.Types.{Ty}
+use Rattle.asl_rules.specs.declarations.Scopes.{Scope, Body, fixed, atom_at, next_atom, is_free, type_of_name, body_names}
+use Rattle.asl_rules.specs.statements.Branches.{index_type, with_index, with_caught}
+use Rattle.asl_rules.specs.statements.Acting.{Done, Listed, in_order}
+use Rattle.asl_rules.specs.statements.Stmts.{found_stmt}
+use Rattle.asl_rules.specs.declarations.Declarations.{names_of_program}
+use Rattle.asl_rules.specs.declarations.Programs.{Head, signature_rule}
+use Rattle.asl_rules.specs.private.Worth.{WellCounted}
+use Rattle.asl_rules.proofs.basics.Inversions.{ok_ok, then_ok}
+use Rattle.asl_rules.proofs.widths.Counting.{well_kept, atom_counts}
+use Rattle.asl_rules.proofs.widths.ScopesCounted.{names_counted, signature_counted, bind_counted, vars_counted, plain_counts}
+use Rattle.asl_laws.proofs.widths.TypesOver.{Never}
+use Rattle.asl_laws.proofs.scopes.OverScope.{SubsOver}
+use Rattle.asl_laws.proofs.scopes.ScopesOver.{program_over}
+use Rattle.asl_laws.proofs.scopes.BodiesOver.{ScopeOver, signature_over, bind_over, vars_over, index_over, caught_over}
+use Rattle.asl_rules.proofs.scopes.KeptNames.{DeclarationsKeep, stmt_keeps, list_keeps}
+
+-- what a body is judged in: each `let` counts as names that stand for themselves, and types have atoms of the names alone
+pub record GoodScope (t : Tests) (G : Scope) : Type 0 where
+  pub counted : WellCounted G.names
+  pub over : ScopeOver t G.names
+  pub subs : SubsOver G.subs
+
+kept : (t : Tests) → DeclarationsKeep t (GoodScope t)
+kept t = record {
+  bind = λ span kind b ty e G d p h. record { counted = bind_counted t span kind b ty e G d p.counted h; over = bind_over t span kind b ty e G d p.over p.subs h; subs = p.subs };
+  vars = λ span is ty G d p h. record { counted = vars_counted t span is ty G d p.counted h; over = vars_over t span is ty G d p.over h; subs = p.subs };
+}
+
+pub stmt_scope : (t : Tests) (s : Stmt) (B : Body) (d : Done) → GoodScope t B.scope → found_stmt t s B ≡ Ok d → GoodScope t (record B.scope { names = d.names })
+stmt_scope t s B d p h = stmt_keeps t (GoodScope t) (kept t) s B d p h
+
+pub list_scope : (t : Tests) (ss : List Stmt) (k : Effect) (B : Body) (l : Listed) → GoodScope t B.scope → in_order (map (found_stmt t) ss) k B ≡ Ok l → GoodScope t (record B.scope { names = l.names })
+list_scope t ss k B l p h = list_keeps t (GoodScope t) (kept t) ss k B l p h
+
+-- what a body begins with
+pub head_scope : (t : Tests) (ds : List Decl) (f : Func) (head : Head) (G : Scope) → G.names ≡ head.names → SubsOver G.subs → signature_rule t (names_of_program t ds) f ≡ Ok head → GoodScope t G
+head_scope t ds f head G e s h = record {
+  counted = subst WellCounted (sym e) (signature_counted t (names_of_program t ds) f head (names_counted t ds) h);
+  over = subst (ScopeOver t) (sym e) (signature_over t (names_of_program t ds) f head (program_over t Never ds) h).names;
+  subs = s;
+}
+
+-- what the list of a loop is judged in, whose index isn't visible before
+pub index_scope : (t : Tests) (i : Ident) (d : Direction) (a b : Expr) (B : Body) → is_free i.text B.scope.names ≡ true → GoodScope t B.scope → GoodScope t (with_index i (index_type t d a b B.scope) B).scope
+index_scope t i d a b B f p =
+    let T : Ty = index_type t d a b B.scope in
+    record {
+      counted = well_kept B.scope.names (fixed i.text T (Some (atom_at (next_atom B.scope.names)))) p.counted (atom_counts B.scope.names i.text T f);
+      over = index_over t i d a b B p.over;
+      subs = p.subs;
+    }
+
+-- and that of a catcher
+pub caught_scope : (t : Tests) (i : Option Ident) (T : Ty) (name : List ℕ) (B C : Body) → GoodScope t B.scope → type_of_name name B.scope.names ≡ Some T → with_caught i T B ≡ Ok C → GoodScope t C.scope
+caught_scope t None T name B C p h k = subst (λ (z : Body). GoodScope t z.scope) (ok_ok B C k) p
+caught_scope t (Some i) T name B C p h k =
+    let u = then_ok (need (is_free i.text B.scope.names) T01 i.span) _ C k in
+    let c : WellCounted (B.scope.names ++ fixed i.text T None ∷ []) = well_kept B.scope.names (fixed i.text T None) p.counted (plain_counts B.scope.names i.text T) in
+    let e = ok_ok (body_names B (B.scope.names ++ fixed i.text T None ∷ [])) C u.then in
+    record {
+      counted = subst (λ (z : Body). WellCounted z.scope.names) e c;
+      over = caught_over t (Some i) T name B C p.over h k;
+      subs = subst (λ (z : Body). SubsOver z.scope.subs) e p.subs;
+    }

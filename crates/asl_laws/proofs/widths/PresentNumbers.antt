@@ -1,0 +1,228 @@
+-- In a state that agrees with a scope, a width expression has the number of its polynomial, and a number its own: what a run takes for the expressions of a type that
+-- is written at a place.
+use Rattle.std.proofs.Common.{◌≡◌, ℕ, ℤ, pos, Bool, true, false, cond, List, [], ◌∷◌, Option, Some, None, Ok, refl, sym, ap, ◌∙◌, subst}
+use Rattle.std.specs.Prelude.{◌-ℤ◌}
+use Rattle.std.specs.Str.{bytes_eq}
+use Rattle.asl_syn.specs.declared.token.Span.{Span}
+use Rattle.asl_syn.specs.declared.code.StaticCode.TheVariants.{T02, T05, T19}
+use Rattle.asl_syn.specs.declared.tree.Expr.{Expr}
+use Rattle.asl_syn.specs.declared.tree.Bitfield.TheOpen as ex
+use Rattle.asl_syn.specs.declared.tree.UnaryOperator.TheVariants as unary
+use Rattle.asl_poly.specs.Terms.{Polynomial, value}
+use Rattle.asl_poly.specs.Poly.{constant_map, constant_value}
+use Rattle.asl_cons.proofs.Covering.{value_constant_map}
+use Rattle.asl_rules.specs.Faults.{need, fault_of}
+use Rattle.asl_rules.specs.Tests.{Tests}
+use Rattle.asl_rules.specs.types.Types.{Ty, is_integer}
+use Rattle.asl_rules.specs.types.Closed.{Assignment, width_at}
+use Rattle.asl_rules.specs.values.Values.{Value, int, bool, bits_with, label, record_with, exception_with, tuple_with, array_with}
+use Rattle.asl_rules.specs.declarations.Scopes.{Counted, Scope, Entry, Storage, Standing, Stored, Subprogram, TypeName, Label, standing_of, known_value}
+use Rattle.asl_rules.specs.types.Widths.{width_of_counted, width_of_standing, number_of_counted, number_of_standing}
+use Rattle.asl_rules.specs.expressions.Typing.{Width, Number}
+use Rattle.asl_rules.specs.expressions.Exprs.{found, width}
+use Rattle.asl_rules.specs.types.Numbers.{Numbers, integers, number, integer_of_value, fixed_number, number_among, or_number, present}
+use Rattle.asl_rules.specs.runs.States.{Binding, Core}
+use Rattle.asl_rules.specs.private.Agreement.{types_in, IsKnown, CountsAs, global_matches, AllMatch, local_matches, FrameMatches, GlobalsMatch, Agrees}
+use Rattle.asl_rules.specs.runs.Evaluation.{value_of}
+use Rattle.asl_rules.proofs.basics.Inversions.{ok_ok, err_ok, then_ok, found_ok}
+use Rattle.asl_rules.proofs.basics.Tests.{some_same, some_none, none_some}
+use Rattle.asl_rules.proofs.widths.WidthForms.{WidthForms, NumberForms, by_width_forms, by_number_forms}
+use Rattle.asl_rules.proofs.widths.WorthForms.{worth_roll, worth_of_one, worth_of_two}
+use Rattle.asl_rules.proofs.widths.WidthsWorth.{number_is, difference_is, binary_is}
+use Rattle.asl_cons.proofs.Results.{constant_is}
+use Rattle.asl_laws.proofs.widths.NumbersWorth as numbers
+use Rattle.asl_laws.proofs.widths.NumbersWorth.{held_is}
+use Rattle.asl_rules.proofs.scopes.Lookups.{stored_same, before_is, behind, absent_value}
+
+-- ---- expressions, where the names of a scope have their numbers
+
+module _ (f : Numbers) (av : Assignment) where
+  -- a name in a width stands for the integer of its polynomial, and one in a number for that number
+  pub record NumbersAgree (G : Scope) : Type 0 where
+    pub widths : (span : Span) (name : List ℕ) (p : Polynomial) → width_of_standing span (standing_of name G.names) ≡ Ok p → f name ≡ Some (width_at p av)
+    pub numbers : (span : Span) (name : List ℕ) (z : ℤ) → number_of_standing span (standing_of name G.names) ≡ Ok z → f name ≡ Some z
+
+  Wide : Expr → Scope → Polynomial → Type 0
+  Wide e G p = NumbersAgree G → number e f ≡ Some (width_at p av)
+
+  wide_forms : WidthForms Wide
+  unfolding Wide
+  wide_forms = record {
+    whole = λ span n G p h g. worth_roll integers (ex.Int span n) f ∙ ap Some (sym (number_is av span (pos n) p h));
+    name = λ span name G p h g. worth_roll integers (ex.Name span name) f ∙ g.widths span name p h;
+    negated = λ span e G p q w h g. worth_roll integers (ex.Unary span unary.Negate e) f ∙ worth_of_one integers unary.Negate (number e f) (value av p.terms) (w g)
+        ∙ ap Some (sym (difference_is av span (constant_map (pos 0)) p q (pos 0) (value av p.terms) (value_constant_map av (pos 0)) refl h));
+    combined = λ span o e d G p q r v w h g. worth_roll integers (ex.Binary span o e d) f ∙ worth_of_two integers o (number e f) (number d f) (value av p.terms) (value av q.terms) (v g) (w g) ∙ binary_is av span o p q r h;
+  }
+
+  Counted_so : Expr → Scope → ℤ → Type 0
+  Counted_so e G z = NumbersAgree G → number e f ≡ Some z
+
+  number_forms : NumberForms Counted_so
+  unfolding Counted_so
+  number_forms = record {
+    whole = λ span n G g. worth_roll integers (ex.Int span n) f;
+    name = λ span name G z h g. worth_roll integers (ex.Name span name) f ∙ g.numbers span name z h;
+    negated = λ span e G y z w h g. worth_roll integers (ex.Unary span unary.Negate e) f ∙ worth_of_one integers unary.Negate (number e f) y (w g) ∙ ap Some (held_is span (pos 0 -ℤ y) z h);
+    combined = λ span o e d G x y z v w h g. worth_roll integers (ex.Binary span o e d) f ∙ worth_of_two integers o (number e f) (number d f) x y (v g) (w g) ∙ numbers.binary_is span o x y z h;
+  }
+
+  pub width_has : (t : Tests) (e : Expr) (G : Scope) (w : Width) → NumbersAgree G → width t e G ≡ Ok w → number e f ≡ Some (width_at w.poly av)
+  unfolding Wide
+  width_has t e G w g h = by_width_forms t Wide wide_forms e G w h g
+
+  pub number_has : (t : Tests) (e : Expr) (G : Scope) (w : Number) → NumbersAgree G → (found t e).number G ≡ Ok w → number e f ≡ Some w.number
+  unfolding Counted_so
+  number_has t e G w g h = by_number_forms t Counted_so number_forms e G w h g
+
+-- ---- names in a state
+
+-- storage that counts in widths can't be assigned
+abbrev pub CountedFixed : List Entry → Type 0
+CountedFixed names = (name : List ℕ) (s : Storage) (c : Counted) → standing_of name names ≡ Some (Stored s) → s.counted ≡ Some c → s.is_mutable ≡ false
+
+-- the integer of a binding that can't be assigned
+binding_number : (b : Binding) (z : ℤ) → b.is_mutable ≡ false → b.value ≡ int z → fixed_number b ≡ Some z
+binding_number b z m e = ap (λ t. cond t None (integer_of_value b.value)) m ∙ ap integer_of_value e
+
+module _ (av : Assignment) where
+  -- what a binding must give
+  abbrev Says : Storage → ℤ → Binding → Type 0
+  Says s z b = b.is_mutable ≡ s.is_mutable → IsKnown (known_value s) b.value → CountsAs av s.counted b.value → fixed_number b ≡ Some z
+
+  number_by : (m : Bool) (name n : List ℕ) (s u : Storage) (z : ℤ) (b : Binding) (o : Option Standing) (rest : Option ℤ) → bytes_eq n name ≡ m → b.name ≡ n → b.is_mutable ≡ u.is_mutable → IsKnown (known_value u) b.value → CountsAs av u.counted b.value →
+      cond m (Some (Stored u)) o ≡ Some (Stored s) → Says s z b → (o ≡ Some (Stored s) → rest ≡ Some z) → cond (bytes_eq b.name name) (fixed_number b) rest ≡ Some z
+  number_by true name n s u z b o rest q e i k l h f next =
+      ap (λ t. cond t (fixed_number b) rest) (ap (λ m. bytes_eq m name) e ∙ q)
+      ∙ subst (λ (v : Storage). b.is_mutable ≡ v.is_mutable → IsKnown (known_value v) b.value → CountsAs av v.counted b.value → fixed_number b ≡ Some z) (sym (stored_same u s (some_same (Stored u) (Stored s) h))) f i k l
+  number_by false name n s u z b o rest q e i k l h f next = ap (λ t. cond t (fixed_number b) rest) (ap (λ m. bytes_eq m name) e ∙ q) ∙ next h
+
+  frame_step : (d : List ℕ → Option Ty) (name n : List ℕ) (st : Standing) (es : List Entry) (b : Binding) (bs : List Binding) (s : Storage) (z : ℤ) → local_matches d av n st b → cond (bytes_eq n name) (Some st) (standing_of name es) ≡ Some (Stored s) → ((b : Binding) → Says s z b) →
+      (standing_of name es ≡ Some (Stored s) → number_among name bs ≡ Some z) → number_among name (b ∷ bs) ≡ Some z
+  frame_step d name n Subprogram es b bs s z m h f next = absurd m
+  frame_step d name n (TypeName T) es b bs s z m h f next = absurd m
+  frame_step d name n (Label T x) es b bs s z m h f next = absurd m
+  frame_step d name n (Stored u) es b bs s z m h f next = number_by (bytes_eq n name) name n s u z b (standing_of name es) (number_among name bs) refl m.name_is m.mutable_is m.known m.counts h (f b) next
+
+  frame_number : (d : List ℕ → Option Ty) (es : List Entry) (name : List ℕ) (s : Storage) (z : ℤ) (bs : List Binding) → FrameMatches d av es bs → standing_of name es ≡ Some (Stored s) → ((b : Binding) → Says s z b) → number_among name bs ≡ Some z
+  frame_number d [] name s z bs m h f = none_some (Stored s) h
+  frame_number d (e ∷ es) name s z [] m h f = absurd m
+  frame_number d (e ∷ es) name s z (b ∷ bs) m h f = frame_step d name e.name e.standing es b bs s z m.0 h f (λ k. frame_number d es name s z bs m.1 k f)
+
+  skip : (m : Bool) (st : Standing) (o : Option Standing) (s : Storage) → ((u : Storage) → st ≡ Stored u → ⊥) → cond m (Some st) o ≡ Some (Stored s) → o ≡ Some (Stored s)
+  skip true st o s n h = absurd (n s (some_same st (Stored s) h))
+  skip false st o s n h = h
+
+  storage_or : Storage → Standing → Option Storage
+  storage_or u (Stored s) = Some s
+  storage_or u Subprogram = None
+  storage_or u (TypeName T) = None
+  storage_or u (Label T x) = None
+
+  global_step : (d : List ℕ → Option Ty) (name n : List ℕ) (st : Standing) (es : List Entry) (bs : List Binding) (s : Storage) (z : ℤ) → global_matches d n st bs (AllMatch d es) → cond (bytes_eq n name) (Some st) (standing_of name es) ≡ Some (Stored s) → ((b : Binding) → Says s z b) →
+      ((cs : List Binding) → AllMatch d es cs → standing_of name es ≡ Some (Stored s) → number_among name cs ≡ Some z) → number_among name bs ≡ Some z
+  unfolding storage_or
+  global_step d name n Subprogram es bs s z m h f next = next bs m (skip (bytes_eq n name) Subprogram (standing_of name es) s (λ u e. none_some u (ap (storage_or u) e)) h)
+  global_step d name n (TypeName T) es bs s z m h f next = next bs m (skip (bytes_eq n name) (TypeName T) (standing_of name es) s (λ u e. none_some u (ap (storage_or u) e)) h)
+  global_step d name n (Label T x) es bs s z m h f next = next bs m (skip (bytes_eq n name) (Label T x) (standing_of name es) s (λ u e. none_some u (ap (storage_or u) e)) h)
+  global_step d name n (Stored u) es [] s z m h f next = absurd m
+  global_step d name n (Stored u) es (b ∷ bs) s z m h f next =
+      number_by (bytes_eq n name) name n s u z b (standing_of name es) (number_among name bs) refl m.0.holds.name_is m.0.holds.mutable_is m.0.holds.known (subst (λ o. CountsAs av o b.value) (sym m.0.no_atom) tt) h (f b) (next bs m.1)
+
+  global_number : (d : List ℕ → Option Ty) (es : List Entry) (name : List ℕ) (s : Storage) (z : ℤ) (bs : List Binding) → AllMatch d es bs → standing_of name es ≡ Some (Stored s) → ((b : Binding) → Says s z b) → number_among name bs ≡ Some z
+  global_number d [] name s z bs m h f = none_some (Stored s) h
+  global_number d (e ∷ es) name s z bs m h f = global_step d name e.name e.standing es bs s z m h f (λ cs n k. global_number d es name s z cs n k f)
+
+  -- a name without a value has no number
+  none_by : (t : Bool) (b : Binding) (v : Option Value) (rest : Option ℤ) → cond t (Some b.value) v ≡ None → (v ≡ None → rest ≡ None) → cond t (fixed_number b) rest ≡ None
+  none_by true b v rest h f = some_none b.value h
+  none_by false b v rest h f = f h
+
+  no_number : (name : List ℕ) (bs : List Binding) → value_of name bs ≡ None → number_among name bs ≡ None
+  no_number name [] h = refl
+  no_number name (b ∷ bs) h = none_by (bytes_eq b.name name) b (value_of name bs) (number_among name bs) h (no_number name bs)
+
+  -- storage that stands for an integer
+  by_base : (base names : List Entry) (c : Core) (name : List ℕ) (s : Storage) (z : ℤ) (o : Option Standing) → standing_of name base ≡ o → (k : Agrees base names av c) → standing_of name names ≡ Some (Stored s) → ((b : Binding) → Says s z b) → present c name ≡ Some z
+  by_base base names c name s z None q k h f =
+      let e : standing_of name k.locals ≡ Some (Stored s) = sym (ap (standing_of name) k.names_are ∙ behind base k.locals name q) ∙ h in
+      ap (λ o. or_number o (number_among name c.globals)) (frame_number (types_in base) k.locals name s z c.frame k.frame e f)
+  by_base base names c name s z (Some st) q k h f =
+      let e : standing_of name base ≡ Some (Stored s) = q ∙ sym (ap (standing_of name) k.names_are ∙ before_is base k.locals name st q) ∙ h in
+      ap (λ o. or_number o (number_among name c.globals)) (no_number name c.frame (absent_value av (types_in base) base k.locals name st c.frame k.frame k.fresh q))
+      ∙ global_number (types_in base) base name s z c.globals k.globals e f
+
+  storage_number : (base names : List Entry) (c : Core) (name : List ℕ) (s : Storage) (z : ℤ) → Agrees base names av c → standing_of name names ≡ Some (Stored s) → ((b : Binding) → Says s z b) → present c name ≡ Some z
+  storage_number base names c name s z k h f = by_base base names c name s z (standing_of name base) refl k h f
+
+  -- a value that is known before any run is that of storage which can't be assigned
+  known_fixed : (m : Bool) (i : Option Value) (x : Value) → cond m None i ≡ Some x → m ≡ false
+  known_fixed true i x h = none_some x h
+  known_fixed false i x h = refl
+
+  known_says : (s : Storage) (y : ℤ) (b : Binding) → known_value s ≡ Some (int y) → Says s y b
+  known_says s y b e i k l = binding_number b y (i ∙ known_fixed s.is_mutable s.initial (int y) e) (subst (λ o. IsKnown o b.value) e k)
+
+  counted_says : (s : Storage) (c : Counted) (b : Binding) → s.is_mutable ≡ false → s.counted ≡ Some c → Says s (width_at c.poly av) b
+  counted_says s c b f e i k l = binding_number b (width_at c.poly av) (i ∙ f) (subst (λ o. CountsAs av o b.value) e l)
+
+  -- a name of storage in a width
+  stored_width : (base names : List Entry) (c : Core) (span : Span) (name : List ℕ) (s : Storage) (p : Polynomial) (o : Option Counted) (v : Option Value) → s.counted ≡ o → known_value s ≡ v → CountedFixed names → Agrees base names av c → standing_of name names ≡ Some (Stored s) →
+      width_of_counted span o v ≡ Ok p → present c name ≡ Some (width_at p av)
+  stored_width base names c span name s p (Some k) v eo ev g a h w =
+      storage_number base names c name s (width_at k.poly av) a h (λ b. counted_says s k b (g name s k h eo) eo)
+      ∙ ap Some (ap (λ q. width_at q av) (ok_ok k.poly p w))
+  stored_width base names c span name s p None (Some (int y)) eo ev g a h w = storage_number base names c name s y a h (λ b. known_says s y b ev) ∙ ap Some (sym (number_is av span y p w))
+  stored_width base names c span name s p None (Some (bool b)) eo ev g a h w = err_ok (fault_of T19 span) p w
+  stored_width base names c span name s p None (Some (bits_with bs u)) eo ev g a h w = err_ok (fault_of T19 span) p w
+  stored_width base names c span name s p None (Some (label n l)) eo ev g a h w = err_ok (fault_of T19 span) p w
+  stored_width base names c span name s p None (Some (record_with n xs)) eo ev g a h w = err_ok (fault_of T19 span) p w
+  stored_width base names c span name s p None (Some (exception_with own supers n xs)) eo ev g a h w = err_ok (fault_of T19 span) p w
+  stored_width base names c span name s p None (Some (tuple_with xs)) eo ev g a h w = err_ok (fault_of T19 span) p w
+  stored_width base names c span name s p None (Some (array_with k xs)) eo ev g a h w = err_ok (fault_of T19 span) p w
+  stored_width base names c span name s p None None eo ev g a h w = err_ok (fault_of T19 span) p w
+
+  -- and in a number
+  stored_number : (base names : List Entry) (c : Core) (span : Span) (name : List ℕ) (s : Storage) (z : ℤ) (o : Option Counted) (v : Option Value) → s.counted ≡ o → known_value s ≡ v → CountedFixed names → Agrees base names av c → standing_of name names ≡ Some (Stored s) →
+      number_of_counted span o v ≡ Ok z → present c name ≡ Some z
+  stored_number base names c span name s z (Some k) v eo ev g a h w =
+      storage_number base names c name s (width_at k.poly av) a h (λ b. counted_says s k b (g name s k h eo) eo)
+      ∙ ap Some (constant_is av k.poly z (found_ok (constant_value k.poly) T19 span z w))
+  stored_number base names c span name s z None (Some (int y)) eo ev g a h w = storage_number base names c name s y a h (λ b. known_says s y b ev) ∙ ap Some (ok_ok y z w)
+  stored_number base names c span name s z None (Some (bool b)) eo ev g a h w = err_ok (fault_of T19 span) z w
+  stored_number base names c span name s z None (Some (bits_with bs u)) eo ev g a h w = err_ok (fault_of T19 span) z w
+  stored_number base names c span name s z None (Some (label n l)) eo ev g a h w = err_ok (fault_of T19 span) z w
+  stored_number base names c span name s z None (Some (record_with n xs)) eo ev g a h w = err_ok (fault_of T19 span) z w
+  stored_number base names c span name s z None (Some (exception_with own supers n xs)) eo ev g a h w = err_ok (fault_of T19 span) z w
+  stored_number base names c span name s z None (Some (tuple_with xs)) eo ev g a h w = err_ok (fault_of T19 span) z w
+  stored_number base names c span name s z None (Some (array_with k xs)) eo ev g a h w = err_ok (fault_of T19 span) z w
+  stored_number base names c span name s z None None eo ev g a h w = err_ok (fault_of T19 span) z w
+
+  width_name : (base names : List Entry) (c : Core) (span : Span) (name : List ℕ) (p : Polynomial) (o : Option Standing) → standing_of name names ≡ o → CountedFixed names → Agrees base names av c → width_of_standing span o ≡ Ok p → present c name ≡ Some (width_at p av)
+  width_name base names c span name p (Some (Stored s)) e g a h =
+      let u = then_ok (need (is_integer s.ty) T05 span) (width_of_counted span s.counted (known_value s)) p h in
+      stored_width base names c span name s p s.counted (known_value s) refl refl g a e u.then
+  width_name base names c span name p (Some (Label T x)) e g a h = err_ok (fault_of T05 span) p h
+  width_name base names c span name p (Some Subprogram) e g a h = err_ok (fault_of T02 span) p h
+  width_name base names c span name p (Some (TypeName T)) e g a h = err_ok (fault_of T02 span) p h
+  width_name base names c span name p None e g a h = err_ok (fault_of T02 span) p h
+
+  number_name : (base names : List Entry) (c : Core) (span : Span) (name : List ℕ) (z : ℤ) (o : Option Standing) → standing_of name names ≡ o → CountedFixed names → Agrees base names av c → number_of_standing span o ≡ Ok z → present c name ≡ Some z
+  number_name base names c span name z (Some (Stored s)) e g a h =
+      let u = then_ok (need (is_integer s.ty) T05 span) (number_of_counted span s.counted (known_value s)) z h in
+      stored_number base names c span name s z s.counted (known_value s) refl refl g a e u.then
+  number_name base names c span name z (Some (Label T x)) e g a h = err_ok (fault_of T05 span) z h
+  number_name base names c span name z (Some Subprogram) e g a h = err_ok (fault_of T02 span) z h
+  number_name base names c span name z (Some (TypeName T)) e g a h = err_ok (fault_of T02 span) z h
+  number_name base names c span name z None e g a h = err_ok (fault_of T02 span) z h
+
+  -- the integers of a state that agrees with a scope
+  pub present_agree : (base : List Entry) (G : Scope) (c : Core) → CountedFixed G.names → Agrees base G.names av c → NumbersAgree (present c) av G
+  present_agree base G c g a = record {
+    widths = λ span name p h. width_name base G.names c span name p (standing_of name G.names) refl g a h;
+    numbers = λ span name z h. number_name base G.names c span name z (standing_of name G.names) refl g a h;
+  }
+
+  -- the integer of a global that is known before any run
+  pub outside_known : (base : List Entry) (bs : List Binding) (name : List ℕ) (s : Storage) (y : ℤ) → GlobalsMatch base bs → standing_of name base ≡ Some (Stored s) → known_value s ≡ Some (int y) → number_among name bs ≡ Some y
+  outside_known base bs name s y m h e = global_number (types_in base) base name s y bs m h (λ b. known_says s y b e)

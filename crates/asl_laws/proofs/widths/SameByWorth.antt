@@ -1,0 +1,92 @@
+-- Widths that have one number wherever the names agree with the scope are the same: so this is what "the same width" means.
+use Rattle.std.proofs.Common.{◌≡◌, ℕ, ℤ, pos, List, [], ◌∷◌, Option, Some, None, Ok, refl, sym, ap, ◌∙◌, arith}
+use Rattle.std.specs.Prelude.{◌+ℤ◌, ◌*ℤ◌, ◌↔◌}
+use Rattle.std.proofs.lemmas.Int.{ints}
+use Rattle.asl_syn.specs.declared.tree.Expr.{Expr}
+use Rattle.asl_poly.specs.Terms.{Summand, value, product}
+use Rattle.asl_poly.specs.Poly.{atom_map, Same}
+use Rattle.asl_poly.proofs.Ring.{mul-one, one-mul}
+use Rattle.asl_rules.specs.Tests.{Tests}
+use Rattle.asl_rules.specs.values.Values.{Value, int, bool, bits_with, label, record_with, exception_with, tuple_with, array_with}
+use Rattle.asl_rules.specs.declarations.Scopes.{Counted, Scope, Entry, Storage, atom_at, name_at, storage_of, known_value}
+use Rattle.asl_rules.specs.expressions.Typing.{Width}
+use Rattle.asl_rules.specs.expressions.Exprs.{width}
+use Rattle.asl_rules.specs.types.Numbers.{number}
+use Rattle.asl_rules.specs.private.Worth.{Integers, standing_for, by_place, Obeys, Alone, AllAlone, AtomsAlone, WellCounted}
+use Rattle.asl_rules.proofs.basics.Tests.{some_same}
+use Rattle.asl_rules.proofs.widths.WidthsWorth.{width_is_worth, same_is_worth_same}
+use Rattle.asl_rules.proofs.widths.WidthAtoms.{width_is_alone}
+
+-- ---- the integers of names, where each name that stands for itself is given one by its place
+
+counted_number : (ℕ → ℤ) → Option Counted → Option Value → ℤ
+counted_number b (Some c) v = value b c.poly.terms
+counted_number b None (Some (int z)) = z
+counted_number b None (Some (bool x)) = pos 0
+counted_number b None (Some (bits_with bs v)) = pos 0
+counted_number b None (Some (label n l)) = pos 0
+counted_number b None (Some (record_with n xs)) = pos 0
+counted_number b None (Some (exception_with own supers n xs)) = pos 0
+counted_number b None (Some (tuple_with xs)) = pos 0
+counted_number b None (Some (array_with k xs)) = pos 0
+counted_number b None None = pos 0
+
+number_in : (ℕ → ℤ) → Option Storage → ℤ
+number_in b None = pos 0
+number_in b (Some s) = counted_number b s.counted (known_value s)
+
+numbers_of : List Entry → (ℕ → ℤ) → Integers
+numbers_of names b name = number_in b (storage_of name names)
+
+pub value_atom : (b : ℕ → ℤ) (n : ℕ) → value b (atom_map n).terms ≡ b n
+unfolding atom_map
+value_atom b n = let e : b n *ℤ pos 1 ≡ b n = mul-one (b n) in let f : pos 1 *ℤ b n ≡ b n = one-mul (b n) in rw (e, f) (omega (arith, ints))
+
+stored_number : (names : List Entry) (b : ℕ → ℤ) (name : List ℕ) (s : Storage) → storage_of name names ≡ Some s → numbers_of names b name ≡ counted_number b s.counted (known_value s)
+unfolding numbers_of number_in
+stored_number names b name s e = ap (number_in b) e
+
+with_count : (names : List Entry) (b : ℕ → ℤ) (name : List ℕ) (s : Storage) (c : Counted) → storage_of name names ≡ Some s → s.counted ≡ Some c → numbers_of names b name ≡ value b c.poly.terms
+unfolding counted_number
+with_count names b name s c e q = stored_number names b name s e ∙ ap (λ o. counted_number b o (known_value s)) q
+
+atom_is : (names : List Entry) (b : ℕ → ℤ) (n : ℕ) → Alone names n → by_place names (numbers_of names b) n ≡ b n
+atom_is names b n h = with_count names b (name_at names n) h.0 (atom_at n) h.2 h.3 ∙ value_atom b n
+
+product_is : (names : List Entry) (b : ℕ → ℤ) (xs : List ℕ) → AllAlone names xs → product (by_place names (numbers_of names b)) xs ≡ product b xs
+product_is names b [] h = refl
+product_is names b (x ∷ xs) h = ap (λ z. z *ℤ product (by_place names (numbers_of names b)) xs) (atom_is names b x h.0) ∙ ap (λ z. b x *ℤ z) (product_is names b xs h.1)
+
+value_is : (names : List Entry) (b : ℕ → ℤ) (ts : List Summand) → AtomsAlone names ts → value (by_place names (numbers_of names b)) ts ≡ value b ts
+value_is names b [] h = refl
+value_is names b (t ∷ ts) h =
+    ap (λ z. t.coefficient *ℤ z +ℤ value (by_place names (numbers_of names b)) ts) (product_is names b t.factors h.0)
+    ∙ ap (λ z. t.coefficient *ℤ product b t.factors +ℤ z) (value_is names b ts h.1)
+
+none_known : (v : Option Value) (z : ℤ) → v ≡ None → v ≡ Some (int z) → ⊥
+none_known v z e f = let g : v ≡ None = e in cc
+
+known_number : (names : List Entry) (w : WellCounted names) (b : ℕ → ℤ) (name : List ℕ) (s : Storage) (z : ℤ) → storage_of name names ≡ Some s → known_value s ≡ Some (int z) → (o : Option Counted) → s.counted ≡ o → counted_number b o (known_value s) ≡ z
+unfolding counted_number
+known_number names w b name s z e k None q = ap (counted_number b None) k
+known_number names w b name s z e k (Some c) q = absurd (none_known (known_value s) z (w.unknown name s c e q) k)
+
+obeys : (names : List Entry) → WellCounted names → (b : ℕ → ℤ) → Obeys names (numbers_of names b)
+obeys names w b = record {
+  known = λ name s z e k. stored_number names b name s e ∙ known_number names w b name s z e k s.counted refl;
+  counted = λ name s e c q. value_is names b c.poly.terms (w.alone name s c e q) ∙ sym (with_count names b name s c e q);
+}
+
+pub same_by_worth : (t : Tests) (e f : Expr) (G : Scope) → WellCounted G.names → (v w : Width) → width t e G ≡ Ok v → width t f G ≡ Ok w →
+    AtomsAlone G.names v.poly.terms → AtomsAlone G.names w.poly.terms → ((a : Integers) → Obeys G.names a → number e (standing_for a) ≡ number f (standing_for a)) → Same v.poly w.poly
+same_by_worth t e f G g v w h k m n same b =
+    let o : Obeys G.names (numbers_of G.names b) = obeys G.names g b in
+    sym (value_is G.names b v.poly.terms m) ∙ some_same _ _ (sym (width_is_worth t e G (numbers_of G.names b) o v h) ∙ same (numbers_of G.names b) o ∙ width_is_worth t f G (numbers_of G.names b) o w k)
+    ∙ value_is G.names b w.poly.terms n
+
+-- so, in a scope whose `let`s count as names that stand for themselves, two widths are the same exactly where they have one number for all integers that agree
+-- with the scope
+pub same_is_the_words : (t : Tests) (e f : Expr) (G : Scope) → WellCounted G.names → (v w : Width) → width t e G ≡ Ok v → width t f G ≡ Ok w →
+    Same v.poly w.poly ↔ ((a : Integers) → Obeys G.names a → number e (standing_for a) ≡ number f (standing_for a))
+same_is_the_words t e f G g v w h k =
+    (same_is_worth_same t e f G v w h k, same_by_worth t e f G g v w h k (width_is_alone t e G g v h) (width_is_alone t f G g w k))

@@ -1,0 +1,11 @@
+pub mod Budgets
+pub mod Evaluated
+pub mod Reported
+pub mod Visited
+pub mod Wider
+pub mod Answers
+pub mod BeforeRuns
+pub mod Described
+pub mod OneRun
+pub mod Soundness
+pub mod StmtUses

@@ -1,0 +1,103 @@
+-- What soundness says: a run of a well-formed program is never stuck, each node that it visits was judged in a scope with which the state agrees, an expression
+-- with a type gives values of that type, and typed trees do what the untyped trees do.
+use Rattle.std.specs.Prelude.{◌≡◌, ℕ, ◌⊎◌, List, [], ◌∷◌, Option, Some, Ok, slice_get}
+use Rattle.asl_syn.specs.declared.tree.Decl.{Decl}
+use Rattle.asl_syn.specs.declared.tree.Expr.{Expr}
+use Rattle.asl_syn.specs.declared.tree.Stmt.{Stmt}
+use Rattle.asl_rules.specs.Tests.{Tests}
+use Rattle.asl_rules.specs.types.Types.{Ty}
+use Rattle.asl_rules.specs.types.Closed.{Assignment}
+use Rattle.asl_rules.specs.declarations.Scopes.{Scope, Body, Signature, Entry}
+use Rattle.asl_rules.specs.expressions.Typing.{Typed, Width, Number}
+use Rattle.asl_rules.specs.expressions.Exprs.{found, typed, width}
+use Rattle.asl_rules.specs.statements.Acting.{Done as StmtDone}
+use Rattle.asl_rules.specs.statements.Stmts.{found_stmt}
+use Rattle.asl_rules.specs.declarations.Programs.{Accepted, environment}
+use Rattle.asl_rules.specs.values.Values.{Value}
+use Rattle.asl_rules.specs.runs.States.{Binding, Core, resting}
+use Rattle.asl_rules.specs.private.Belonging.{InType, Belong, Sound}
+use Rattle.asl_rules.specs.private.Agreement.{types_in, no_atoms, GlobalsMatch, Raised, Agrees}
+use Rattle.asl_rules.specs.runs.Plans.{Meter, Outcome, Done, Thrown, Halt, Faulted, Stuck, run}
+use Rattle.asl_rules.specs.runs.Evaluation.{meaning, initial_globals}
+use Rattle.asl_rules.specs.runs.Machines.{most_open, run_of, visits_of}
+use Rattle.asl_rules.specs.runs.Visits.{Entered, AtExpr, AtStmt, Visit}
+use Rattle.asl_rules.specs.private.TypedMeaning.{BareCore, TreeProgram, tree_meaning, tree_call}
+use Rattle.asl_rules.specs.private.Erasure.{erased, erased_outcome}
+
+abbrev pub NotStuck : {A : Type 0} → Outcome Core A → Type 0
+NotStuck (Done x c h) = Unit {0}
+NotStuck (Thrown x c h) = Unit {0}
+NotStuck (Halt (Faulted code span) c h) = Unit {0}
+NotStuck (Halt (Stuck mistake span) c h) = ⊥
+
+-- a value of the type in a state that agrees with the scope, or an exception, or a halt; in each the globals hold the program's storage
+abbrev pub GivesType : List Entry → List Entry → Assignment → Ty → Outcome Core Value → Type 0
+GivesType base names a T (Done x c h) = InType (types_in base) a x T × Agrees base names a c
+GivesType base names a T (Thrown x c h) = Raised (types_in base) x × GlobalsMatch base c.globals
+GivesType base names a T (Halt e c h) = GlobalsMatch base c.globals
+
+-- ---- the nodes that are visited
+
+-- an expression has a type, or is a width or a number that is written in a type
+abbrev pub IsJudged : Tests → Expr → Scope → Type 0
+IsJudged t e G = ((S : Typed) × (typed t e G ≡ Ok S)) ⊎ (((W : Width) × (width t e G ≡ Ok W)) ⊎ ((N : Number) × ((found t e).number G ≡ Ok N)))
+
+pub record ExprVisited (t : Tests) (a : Accepted) (e : Expr) (c : Core) : Type 0 where
+  pub scope : Scope
+  pub present : Assignment
+  pub judged : IsJudged t e scope
+  pub agrees : Agrees a.names scope.names present c
+
+pub record StmtVisited (t : Tests) (a : Accepted) (s : Stmt) (c : Core) : Type 0 where
+  pub body : Body
+  pub done : StmtDone
+  pub present : Assignment
+  pub judged : found_stmt t s body ≡ Ok done
+  pub agrees : Agrees a.names body.scope.names present c
+
+abbrev pub NodeVisited : Tests → Accepted → Entered Expr Stmt → Core → Type 0
+NodeVisited t a (AtExpr e) c = ExprVisited t a e c
+NodeVisited t a (AtStmt s) c = StmtVisited t a s c
+
+abbrev pub AllVisited : Tests → Accepted → List (Visit Core Expr Stmt) → Type 0
+AllVisited t a [] = Unit {0}
+AllVisited t a (v ∷ vs) = Sound v.state × NodeVisited t a v.node v.state × AllVisited t a vs
+
+-- ---- calls from outside
+
+-- of a subprogram without parameters, with arguments in the types of its formals, over globals that hold the program's storage
+pub record IsCall (a : Accepted) (id : ℕ) (args : List Value) (globals : List Binding) : Type 0 where
+  pub signature : Signature
+  pub is : slice_get a.signatures id ≡ Some signature
+  pub no_params : signature.params ≡ []
+  pub args_belong : Belong (types_in a.names) no_atoms args signature.formals
+  pub globals_match : GlobalsMatch a.names globals
+
+-- however a call ends, also where it halts at a dynamic fault, the globals hold the program's storage again
+abbrev pub KeepsGlobals : {A : Type 0} → List Entry → Outcome Core A → Type 0
+KeepsGlobals names (Done x c h) = GlobalsMatch names c.globals
+KeepsGlobals names (Thrown x c h) = GlobalsMatch names c.globals
+KeepsGlobals names (Halt e c h) = GlobalsMatch names c.globals
+
+pub record Soundness (t : Tests) (ds : List Decl) (a : Accepted) : Type 0 where
+  pub initial : GlobalsMatch a.names (initial_globals (environment t ds))
+  pub never_stuck : (id : ℕ) (args : List Value) (globals : List Binding) (h : Meter) → IsCall a id args globals → NotStuck (run_of (environment t ds) id args globals h)
+  pub keeps_globals : (id : ℕ) (args : List Value) (globals : List Binding) (h : Meter) → IsCall a id args globals → KeepsGlobals a.names (run_of (environment t ds) id args globals h)
+  pub visited : (id : ℕ) (args : List Value) (globals : List Binding) (h : Meter) → IsCall a id args globals → AllVisited t a (visits_of (environment t ds) id args globals h)
+  pub typed_values : (d : ℕ) (e : Expr) (G : Scope) (S : Typed) (p : Assignment) (c : Core) (h : Meter) → typed t e G ≡ Ok S → G.subs ≡ a.signatures → Agrees a.names G.names p c →
+      NotStuck ((meaning (environment t ds) d).expr e c h) × GivesType a.names G.names p S.ty ((meaning (environment t ds) d).expr e c h)
+
+-- ---- typed trees
+
+abbrev pub trees_of : Tests → Accepted → TreeProgram
+trees_of t a = record { funcs = a.funcs; limit = t.limit }
+
+abbrev pub tree_run : TreeProgram → ℕ → List Value → BareCore → Meter → Outcome BareCore (Option Value)
+tree_run p id args c h = run (tree_meaning p most_open) (tree_call p id args c) h
+
+-- the typed tree of an expression that the rules accept does what the expression does, in states that agree with its scope; and so does a call
+pub record SameMeaning (t : Tests) (ds : List Decl) (a : Accepted) : Type 0 where
+  pub expr : (d : ℕ) (e : Expr) (G : Scope) (S : Typed) (p : Assignment) (c : Core) (h : Meter) → typed t e G ≡ Ok S → G.subs ≡ a.signatures → Agrees a.names G.names p c →
+      (tree_meaning (trees_of t a) d).expr S.tree (erased c) h ≡ erased_outcome ((meaning (environment t ds) d).expr e c h)
+  pub call : (id : ℕ) (args : List Value) (globals : List Binding) (h : Meter) → IsCall a id args globals →
+      tree_run (trees_of t a) id args (erased (resting globals)) h ≡ erased_outcome (run_of (environment t ds) id args globals h)

@@ -1,0 +1,125 @@
+//! The laws of the definitions, each as the contract of a function without parameters.
+#![tactic(auto)]
+
+ghost use Rattle.std.specs.Prelude.{◌≡◌, ℕ, List, Ok, Option, ◌≤◌, [], ◌∷◌, map};
+ghost use Rattle.asl_bits.specs.declared.TheConstants.{WIDTH_LIMIT};
+ghost use Rattle.asl_grammar.specs.Reading.{File, Reads, Reader, IsReading, IsReadingAt};
+ghost use Rattle.asl_grammar.specs.lexemes.Refusals.{max_width};
+ghost use Rattle.asl_grammar.specs.lexemes.Texts.{LiesIn};
+ghost use Rattle.asl_rules.specs.private.Agreement.{types_in};
+ghost use Rattle.asl_laws.specs.Answers.{FaultOfFiles, FilesOk, OneAnswer};
+ghost use Rattle.asl_laws.specs.BeforeRuns.{BeginsSo};
+ghost use Rattle.asl_laws.specs.Described.{Describes};
+ghost use Rattle.asl_rules.specs.runs.Machines.{run_of, visits_of};
+ghost use Rattle.asl_rules.specs.declarations.Names.{names_rule, all_declared};
+ghost use Rattle.asl_laws.specs.OneRun.{OneRun};
+ghost use Rattle.asl_rules.specs.runs.Plans.{Meter};
+ghost use Rattle.asl_rules.specs.declarations.Programs.{Environment, Accepted, ProgramOk, FaultOf, environment, verdict};
+ghost use Rattle.asl_rules.specs.report.Report.{report_of};
+ghost use Rattle.asl_laws.specs.Soundness.{Soundness, SameMeaning, IsCall};
+ghost use Rattle.asl_rules.specs.runs.States.{Binding};
+ghost use Rattle.asl_rules.specs.Tests.{Tests, IsRight};
+ghost use Rattle.asl_rules.specs.report.Texts.{Text};
+ghost use Rattle.asl_rules.specs.types.Types.{Ty, kind, kind_eq, same_kind};
+ghost use Rattle.asl_rules.specs.values.Values.{Value};
+ghost use Rattle.asl_rules.specs.private.WellFormed.{Shaped, WellDeclared};
+ghost use Rattle.asl_rules.specs.runs.Words.{run_words};
+ghost use Rattle.asl_rules.specs.declared.entry.Entry.{Entry};
+ghost use Rattle.asl_syn.specs.Command.{Command};
+ghost use Rattle.asl_syn.specs.declared.code.Fault.{Fault};
+ghost use Rattle.asl_syn.specs.declared.code.StaticCode.TheVariants.{T04};
+ghost use Rattle.asl_syn.specs.declared.tree.Decl.{Decl};
+ghost use Rattle.asl_laws.specs.Budgets.{with_more, SameWithMore, SameWordsWithMore};
+ghost use Rattle.asl_laws.specs.Evaluated.{Evaluates, HasCause};
+ghost use Rattle.asl_laws.specs.Reported.{RunsWell};
+ghost use Rattle.asl_laws.specs.Visited.{AllSame};
+ghost use Rattle.asl_laws.specs.Wider.{Fits, FitsLimit, WordsFitLimit};
+
+/// One run: for each program, state and node there is exactly one outcome, with one state, one number of steps left and
+/// one text after it. A call takes one step for each node that it enters, and never are more than 2,000 nodes open. An
+/// expression gives in a run what it gives before any run, where each name has the value that it has then: as it has when
+/// a run begins.
+#[tactic(auto)]
+pub fn law1()
+    ensures one { (env : Environment) → OneRun env }
+    ensures start { (t : Tests) (ds : List Decl) → BeginsSo t ds }
+{}
+
+/// One answer: files, each entry and each width limit have exactly one of these, a program that is well formed or one
+/// single fault (`one`), and where there is a file at all, the fault's span lies within one of the files (`within`). What the
+/// rules evaluate before any run, of declarations whose names are apart, is never stuck: it gives a value of its type, or has
+/// a dynamic fault (`evaluates`). So a fault of the code T04 that is met after reading has its dynamic code, or stands at a
+/// call or a global `var` in an initialiser or in the limit of a subprogram (`cause`). A command has one report: it is the same by
+/// all right tests of one width limit, and by whatever reads files as the grammar says (`report`).
+#[tactic(auto)]
+pub fn law2()
+    ensures one { (limit : ℕ) (e : Entry) (files : List File) → OneAnswer limit e files }
+    ensures within { (limit : ℕ) (e : Entry) (file : File) (files : List File) (f : Fault) → FaultOfFiles limit e (file ∷ files) f → LiesIn 0 (map (λ g. g.1) (file ∷ files)) f.span }
+    ensures evaluates { (t : Tests) → IsRight t → (files : List File) (ds : List Decl) → Reads files (Ok ds) → names_rule [] (all_declared ds) ≡ Ok tt → Evaluates t ds }
+    ensures cause { (limit : ℕ) (e : Entry) (files : List File) (ds : List Decl) (f : Fault) → Reads files (Ok ds) → (p : FaultOf limit e ds f) → f.code ≡ T04 → HasCause p.tests ds f }
+    ensures report { (t u : Tests) → IsRight t → IsRight u → t.limit ≡ u.limit → (read other : Reader) → IsReading read → IsReading other → (command : Command) (held : Text → Text) → report_of t read command held ≡ report_of u other command held }
+{}
+
+/// Soundness: no run of a well-formed program is stuck. Each state that it visits is sound, each node that it visits was
+/// judged in a scope with which the state agrees, an expression with a type gives values of that type, and the globals
+/// hold what was declared, however a call ends. Typed trees do what the trees do that they were judged from.
+#[tactic(auto)]
+pub fn law3()
+    ensures { (limit : ℕ) (e : Entry) (files : List File) (ds : List Decl) (a : Accepted) → Reads files (Ok ds) → (p : ProgramOk limit e ds a) → Soundness p.tests ds a × SameMeaning p.tests ds a }
+{}
+
+/// Law 5. The width limit decides nothing but what is too wide. Files that have a derivation have the same one under each wider limit,
+/// with the same typed trees, signatures and names (`derivation`). Of declarations that are accepted, a call from outside that ends
+/// neither with the fault D14 nor stuck is the same call under a wider limit: its outcome, its state, its text and the steps left (`run`);
+/// so are the calls for words (`words`). So a command whose files are accepted, and whose run doesn't end with the fault D14, has the same
+/// report (`report`), as each command has that reads no program, for it is too long, or has no entry of its list.
+#[tactic(auto)]
+pub fn law5()
+    ensures derivation { (l m : ℕ) → l ≤ m → (e : Entry) (files : List File) (a : Accepted) → FilesOk l e files a → FilesOk m e files a }
+    ensures run { (t u : Tests) → IsRight t → IsRight u → t.limit ≤ u.limit → (e : Entry) (ds : List Decl) (a : Accepted) → verdict e ds t ≡ Ok a → (id : ℕ) (args : List Value) (globals : List Binding) (h : Meter) → FitsLimit (run_of (environment t ds) id args globals h) → run_of (environment u ds) id args globals h ≡ run_of (environment t ds) id args globals h }
+    ensures words { (t u : Tests) → IsRight t → IsRight u → t.limit ≤ u.limit → (e : Entry) (ds : List Decl) (a : Accepted) → verdict e ds t ≡ Ok a → (id : ℕ) (words : List ℕ) (globals : List Binding) (h : Meter) → WordsFitLimit (run_words (environment t ds) id words globals h) → run_words (environment u ds) id words globals h ≡ run_words (environment t ds) id words globals h }
+    ensures report { (t u : Tests) → IsRight t → IsRight u → t.limit ≤ u.limit → (read other : Reader) → IsReadingAt t.limit read → IsReadingAt u.limit other → (command : Command) (held : Text → Text) → Fits t read command held → report_of u other command held ≡ report_of t read command held }
+{}
+
+/// Kinds by names: each name of a well-formed program stands for one type, and what is declared agrees (`declared`). So comparing
+/// declared names by the names and comparing kinds by structure is the same (`kinds`).
+#[tactic(auto, using(asl_rules::proofs::values::KindsByNames::kinds_by_names))]
+pub fn kinds_law()
+    ensures declared { (limit : ℕ) (e : Entry) (files : List File) (ds : List Decl) (a : Accepted) → Reads files (Ok ds) → (p : ProgramOk limit e ds a) → WellDeclared (types_in a.names) }
+    ensures kinds { (declared : List ℕ → Option Ty) → WellDeclared declared → (S T : Ty) → Shaped declared S → Shaped declared T → same_kind S T ≡ kind_eq (kind S) (kind T) }
+{}
+
+/// For all files that are read to declarations which are well formed, the names of the environment are what the declarations alone
+/// describe (`described`): each declared type stands for the closed type that evaluating the written one gives, each label for its
+/// value, and storage has its written type and begins with the value of its initialiser as a constant, or with the first value of
+/// its type.
+#[tactic(auto)]
+pub fn environment_law()
+    ensures described { (limit : ℕ) (e : Entry) (files : List File) (ds : List Decl) (a : Accepted) → Reads files (Ok ds) → (p : ProgramOk limit e ds a) → Describes (environment p.tests ds) }
+{}
+
+/// No report is put together from a stuck run (`never_stuck`). Where files are read to declarations that are accepted with the entry
+/// `main` or `decode`, the entry is there; with any number of steps the run of `main`, which `run` and `self` report, isn't stuck, and
+/// for any words neither are the calls of `decode`, which `exec` reports.
+#[tactic(auto)]
+pub fn run_law()
+    ensures never_stuck { (t : Tests) → IsRight t → (files : List File) (ds : List Decl) → Reads files (Ok ds) → RunsWell t ds }
+{}
+
+/// Each node that a call visits, an expression or a statement, was judged in a scope with which the state agrees, and the typed tree of
+/// that judgement does, in the state without names and types, what the node does in the state, whatever number of nodes may be open and
+/// whatever the meter is (`same`).
+#[tactic(auto)]
+pub fn visit_law()
+    ensures same { (limit : ℕ) (e : Entry) (files : List File) (ds : List Decl) (a : Accepted) → Reads files (Ok ds) → (p : ProgramOk limit e ds a) → (id : ℕ) (args : List Value) (globals : List Binding) (h : Meter) → IsCall a id args globals → AllSame p.tests ds a (visits_of (environment p.tests ds) id args globals h) }
+{}
+
+/// The number of steps decides nothing but whether a run ends for want of steps. With k steps more a call from outside has the same
+/// outcome, state and text, and k steps more left at its end, or without them it ended with the fault D13, no step left, and a text that
+/// begins the text of the longer run (`more_steps`). So do the calls for words, one after another (`words`). It holds of each
+/// environment, typed or not, and of each meter.
+#[tactic(auto)]
+pub fn budget_law()
+    ensures more_steps { (env : Environment) (id : ℕ) (args : List Value) (globals : List Binding) (h : Meter) (k : ℕ) → SameWithMore k (run_of env id args globals (with_more k h)) (run_of env id args globals h) }
+    ensures words { (env : Environment) (id : ℕ) (words : List ℕ) (globals : List Binding) (h : Meter) (k : ℕ) → SameWordsWithMore k (run_words env id words globals (with_more k h)) (run_words env id words globals h) }
+{}

@@ -1,0 +1,4 @@
+//! Laws of the rules: what is true of every program and every run.
+#![tactic(auto)]
+
+pub mod law;

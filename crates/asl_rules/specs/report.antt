@@ -1,0 +1,5 @@
+-- What a command writes.
+pub mod Texts
+pub mod WordList
+pub mod Made
+pub mod Report

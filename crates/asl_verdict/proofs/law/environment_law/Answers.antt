@@ -1,5 +1,0 @@
-use Rattle.asl_verdict.proofs.described.Environments.{read_described}
-use Rattle.asl_verdict.proofs.law.environment_law.Goals as goal
-
-pub returns : goal.returns
-returns c = record { described = read_described }

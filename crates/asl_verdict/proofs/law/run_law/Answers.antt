@@ -1,5 +1,0 @@
-use Rattle.asl_verdict.proofs.reported.Reports.{reports_run_well}
-use Rattle.asl_verdict.proofs.law.run_law.Goals as goal
-
-pub returns : goal.returns
-returns c = record { never_stuck = reports_run_well }

@@ -1,5 +1,0 @@
-use Rattle.asl_verdict.proofs.visited.VisitedNodes.{read_same}
-use Rattle.asl_verdict.proofs.law.visit_law.Goals as goal
-
-pub returns : goal.returns
-returns c = record { same = read_same }

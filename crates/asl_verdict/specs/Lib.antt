@@ -1,5 +1,0 @@
-pub mod Budgets
-pub mod Evaluated
-pub mod Reported
-pub mod Visited
-pub mod Wider
