@@ -13,11 +13,12 @@ use crate::falls::falls_through;
 use asl_decl::enter_body;
 use asl_stmt::body::{Body, Listed};
 use asl_stmt::lists::check_stmts;
+use asl_subprograms::{Param, Signature, Subprograms};
 use asl_syn::code::{Refused, StaticCode};
 use asl_syn::tree::Func;
 use asl_tree::act::TreeFunc;
 use asl_types::answer::fault;
-use asl_types::{Param, Scope, Signature, Subprograms, Ty};
+use asl_types::{Scope, Ty};
 use sqlite_items::Items;
 use std::alloc::{AllocError, Global};
 

@@ -15,11 +15,12 @@ use crate::bodies::check_bodies;
 use crate::globals::find_globals;
 use asl_decl::{Table, find_entry};
 use asl_rules::entry::Entry;
+use asl_subprograms::Subprograms;
 use asl_syn::code::Refused;
 use asl_syn::tree::{Decl, Func, Program};
 use asl_tree::act::TreeFunc;
 use asl_tree::{Checked, Global as Cell, SubId};
-use asl_types::{Scope, Subprograms};
+use asl_types::Scope;
 use sqlite_items::Items;
 use std::alloc::Global;
 

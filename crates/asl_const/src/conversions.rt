@@ -11,7 +11,8 @@ ghost use Rattle.asl_const.specs.private.Finds.{Finds, known_after, known_type, 
 
 use crate::failure::{Mistake, Unknown};
 use crate::shapes::type_shape;
-use asl_shape::{TypeShape, converted};
+use asl_converts::converted;
+use asl_shape::TypeShape;
 use asl_shared::Held;
 use asl_syn::token::Span;
 use asl_syn::tree::TypeExpr;

@@ -13,7 +13,7 @@ use Rattle.asl_rules.specs.declarations.Programs.{Head, funcs_of, signatures_rul
 use Rattle.asl_judge.specs.private.Passes.{with_judgements, names_judged}
 use Rattle.asl_judge.specs.Tables.{declarations_rule}
 use Rattle.asl_decl.specs.Heads.{heads_of, Declared, declared_with, declared_rule}
-use Rattle.asl_decl.specs.private.Signatures.{signatures_found, apart_rule, declared_found}
+use Rattle.asl_decl.specs.private.Signatures.{signatures_found, declared_found}
 use Rattle.asl_decl.proofs.ApartLemmas.{overloads_are}
 use Rattle.asl_decl.proofs.SignatureLemmas.{heads_are, signatures_are}
 

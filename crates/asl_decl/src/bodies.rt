@@ -10,11 +10,12 @@ ghost use Rattle.asl_types.specs.View.{parts_of};
 ghost use Rattle.asl_decl.specs.Heads as rules;
 
 use asl_poly::Atom;
+use asl_subprograms::{Param, Signature};
 use asl_syn::code::Refused;
 use asl_syn::tree::{Formal, Func, Param as WrittenParam};
 use asl_types::counting::{atom, counted_at, itself};
 use asl_types::integers::{integers, only_width};
-use asl_types::{Param, Scope, Signature, Ty};
+use asl_types::{Scope, Ty};
 use std::alloc::{AllocError, Global};
 
 // ---- parameters

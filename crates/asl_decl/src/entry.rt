@@ -10,12 +10,13 @@ ghost use Rattle.asl_types.specs.View.{parts_of};
 
 use asl_poly::Poly;
 use asl_rules::entry::Entry;
+use asl_subprograms::{Signature, Subprograms};
 use asl_syn::code::{Refused, StaticCode};
 use asl_syn::token::Span;
+use asl_types::Ty;
 use asl_types::answer::fault;
 use asl_types::kinds::{is_bits, is_integer};
 use asl_types::structure::width_in;
-use asl_types::{Signature, Subprograms, Ty};
 
 /// The beginning of the first file.
 fn origin() -> Span

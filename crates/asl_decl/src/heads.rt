@@ -4,7 +4,7 @@ ghost use Rattle.std.specs.Prelude.{◌≡◌, [], Some, None, true, IfOk, OnOk}
 ghost use Rattle.asl_rules.specs.declarations.Declarations as outside;
 ghost use Rattle.asl_rules.specs.Tests.{Tests};
 ghost use Rattle.asl_types.specs.private.Answers.{Met, Agrees};
-ghost use Rattle.asl_types.specs.private.ContextView.{scope_of};
+ghost use Rattle.asl_subprograms.specs.private.ContextView.{scope_of};
 ghost use Rattle.asl_types.specs.Suits.{Suits};
 ghost use Rattle.asl_decl.specs.private.HeadTypes as rules;
 ghost use Rattle.asl_decl.specs.private.HeadTypes.{IsFront};
@@ -13,9 +13,10 @@ ghost use Rattle.asl_decl.specs.private.HeadViews.{types_of};
 use crate::bodies::declare_param;
 use asl_judge::written::written;
 use asl_rules::effect::Effect;
+use asl_subprograms::{Context, Param, Subprograms};
 use asl_syn::code::Refused;
 use asl_syn::tree::{Formal, Func, Param as WrittenParam, TypeExpr};
-use asl_types::{Context, Param, Scope, Subprograms, Ty};
+use asl_types::{Scope, Ty};
 use sqlite_items::Items;
 use std::alloc::Global;
 

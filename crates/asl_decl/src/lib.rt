@@ -1,10 +1,10 @@
 //! What the declarations of a program bring, before its bodies are checked.
 #![tactic(auto)]
 
-mod apart;
 mod bodies;
 mod entry;
 mod free;
+mod funcs;
 mod heads;
 mod limit;
 mod signatures;

@@ -14,9 +14,10 @@ use crate::heads::{HeadTypes, head_types};
 use crate::limit::limit_of;
 use asl_judge::name_of;
 use asl_rules::effect::Effect;
+use asl_subprograms::{Signature, Subprograms};
 use asl_syn::code::Refused;
 use asl_syn::tree::{Func, Qualifier};
-use asl_types::{Scope, Signature, Subprograms};
+use asl_types::Scope;
 use asl_value::Name;
 use std::alloc::{AllocError, Global};
 

@@ -7,12 +7,14 @@ ghost use Rattle.asl_types.specs.Suits.{Suits};
 ghost use Rattle.asl_decl.specs.Heads.{declared_of, declared_rule};
 ghost use Rattle.asl_decl.specs.private.Signatures.{declared_found};
 
-use crate::apart::{check_apart, funcs_of};
+use crate::funcs::funcs_of;
 use crate::signatures::find_signatures;
 use asl_judge::phases::judge_names;
+use asl_subprograms::Subprograms;
+use asl_subprograms::apart::check_apart;
 use asl_syn::code::Refused;
 use asl_syn::tree::{Decl, Func};
-use asl_types::{Scope, Subprograms};
+use asl_types::Scope;
 use sqlite_items::Items;
 use std::alloc::Global;
 

@@ -15,7 +15,7 @@ use Rattle.asl_syn.specs.declared.tree.Pattern.TheVariants as pv
 use Rattle.asl_syn.specs.declared.tree.Slice.{Slice, size-Slice}
 use Rattle.asl_syn.specs.declared.tree.Bitfield.TheViews.{sized-Given, sized-Tuple, sized-Construct, sized-Call, sized-Slices, sized-SetPattern, sized-TuplePattern}
 use Rattle.asl_rules.specs.types.Types.{Ty}
-use Rattle.asl_types.specs.declared.context.Context.{Context}
+use Rattle.asl_subprograms.specs.declared.context.Context.{Context}
 use Rattle.asl_tree.specs.declared.tree.Tree.{Tree}
 use Rattle.asl_expr.specs.private.Below.{Types, Matching}
 use Rattle.asl_expr.specs.declared.patterns.Matched.{Matched}

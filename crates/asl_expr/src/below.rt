@@ -9,7 +9,7 @@ ghost use Rattle.asl_rules.specs.expressions.Patterns.{pure_typed};
 ghost use Rattle.asl_rules.specs.declarations.Scopes.{with_class};
 ghost use Rattle.asl_rules.specs.Tests.{Tests};
 ghost use Rattle.asl_types.specs.private.Answers.{Met};
-ghost use Rattle.asl_types.specs.private.ContextView.{scope_of};
+ghost use Rattle.asl_subprograms.specs.private.ContextView.{scope_of};
 ghost use Rattle.asl_types.specs.Suits.{Suits};
 ghost use Rattle.asl_tree.specs.View.{typed_of, operand_of};
 ghost use Rattle.asl_expr.specs.private.Below.{Types, Matching};
@@ -19,10 +19,11 @@ ghost use Rattle.asl_syn.specs.declared.tree.Pattern.{size-Pattern};
 
 use crate::patterns::Matched;
 use asl_rules::effect::Effect;
+use asl_subprograms::Context;
 use asl_syn::code::Refused;
 use asl_syn::tree::{Expr, Pattern};
 use asl_tree::tree::Tree;
-use asl_types::{Context, Ty};
+use asl_types::Ty;
 use sqlite_items::Boxed;
 use std::alloc::Global;
 

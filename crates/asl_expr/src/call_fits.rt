@@ -14,14 +14,15 @@ ghost use Rattle.asl_expr.specs.CallViews.{given_of, all_given};
 use crate::params::GivenWidth;
 use asl_poly::{Atom, Poly};
 use asl_shared::Held;
+use asl_subprograms::{Param, Signature};
 use asl_syn::code::{Refused, StaticCode};
 use asl_syn::token::Span;
 use asl_tree::tree::Tree;
+use asl_types::Ty;
 use asl_types::answer::fault;
 use asl_types::fits::misfit;
 use asl_types::integers::{integers, only_width};
 use asl_types::substitute::substitute;
-use asl_types::{Param, Signature, Ty};
 use std::alloc::{AllocError, Global};
 
 /// The widths that stand for parameters, by their atoms.

@@ -2,12 +2,12 @@
 
 ghost use Rattle.std.specs.Prelude.{◌≡◌, false};
 ghost use Rattle.asl_rules.specs.expressions.Exprs as rules;
-ghost use Rattle.asl_written.specs.private.Steps.{and_then};
+ghost use Rattle.asl_widths.specs.private.Steps.{and_then};
 ghost use Rattle.asl_rules.specs.expressions.Patterns.{matching};
 ghost use Rattle.asl_rules.specs.Tests.{Tests};
 ghost use Rattle.asl_rules.specs.types.Writing.{converted_to};
 ghost use Rattle.asl_types.specs.private.Answers.{Met};
-ghost use Rattle.asl_types.specs.private.ContextView.{scope_of};
+ghost use Rattle.asl_subprograms.specs.private.ContextView.{scope_of};
 ghost use Rattle.asl_types.specs.Suits.{Suits};
 ghost use Rattle.asl_tree.specs.View.{typed_of};
 ghost use Rattle.asl_expr.specs.PatternViews.{matched_of};
@@ -15,14 +15,15 @@ ghost use Rattle.asl_written.specs.WrittenViews.{written_of};
 
 use crate::patterns::Matched;
 use asl_rules::effect::Effect;
+use asl_subprograms::Context;
 use asl_syn::code::{Refused, StaticCode};
 use asl_syn::token::Span;
 use asl_syn::tree::TypeExpr;
 use asl_tree::nodes;
 use asl_tree::tree::{Note, Tree};
+use asl_types::Ty;
 use asl_types::answer::fault;
 use asl_types::kinds::same_kind;
-use asl_types::{Context, Ty};
 use asl_typing::ends::keep_class;
 use asl_written::written::{Written, type_written};
 use sqlite_items::Boxed;

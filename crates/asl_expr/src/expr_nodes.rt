@@ -11,7 +11,7 @@ ghost use Rattle.asl_rules.specs.statements.Targets.{found_slices};
 ghost use Rattle.asl_rules.specs.Tests.{Tests};
 ghost use Rattle.asl_rules.specs.types.Writing.{as_rule};
 ghost use Rattle.asl_types.specs.private.Answers.{Met};
-ghost use Rattle.asl_types.specs.private.ContextView.{scope_of};
+ghost use Rattle.asl_subprograms.specs.private.ContextView.{scope_of};
 ghost use Rattle.asl_types.specs.Suits.{Suits};
 ghost use Rattle.asl_tree.specs.View.{typed_of};
 ghost use Rattle.asl_expr.specs.private.Below.{Types, Matching};
@@ -27,13 +27,14 @@ use crate::conversions::{type_as, type_in};
 use crate::operand_lists::{operands_below, slices_below, values_below};
 use crate::patterns::Matched;
 use crate::slices::type_slices;
+use asl_subprograms::Context;
 use asl_syn::code::Refused;
 use asl_syn::token::Span;
 use asl_syn::tree::{
     BinaryOperator, Expr, FieldValue, Ident, Pattern, Slice, TypeExpr, UnaryOperator,
 };
 use asl_tree::tree::Tree;
-use asl_types::{Context, Ty};
+use asl_types::Ty;
 use asl_typing::constructs::{Site, type_construction};
 use asl_typing::literals::{type_bits, type_bool, type_int, type_name};
 use asl_typing::members::{type_bitfields, type_element, type_field};

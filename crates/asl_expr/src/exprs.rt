@@ -7,7 +7,7 @@ ghost use Rattle.asl_rules.specs.expressions.Exprs.{found};
 ghost use Rattle.asl_rules.specs.Tests.{Tests};
 ghost use Rattle.asl_rules.specs.expressions.Typing.{operands};
 ghost use Rattle.asl_types.specs.private.Answers.{Met};
-ghost use Rattle.asl_types.specs.private.ContextView.{scope_of};
+ghost use Rattle.asl_subprograms.specs.private.ContextView.{scope_of};
 ghost use Rattle.asl_types.specs.Suits.{Suits};
 ghost use Rattle.asl_tree.specs.View.{typed_of, operand_of, all_operands};
 
@@ -15,10 +15,10 @@ use crate::below::Below;
 use crate::expr_nodes::type_node;
 use crate::operand_lists::operands_below;
 use crate::patterns::match_pattern;
+use asl_subprograms::Context;
 use asl_syn::code::Refused;
 use asl_syn::tree::Expr;
 use asl_tree::tree::Tree;
-use asl_types::Context;
 use sqlite_items::{Boxed, Items};
 use std::alloc::Global;
 

@@ -9,7 +9,7 @@ ghost use Rattle.asl_rules.specs.statements.Targets.{found_slices};
 ghost use Rattle.asl_rules.specs.Tests.{Tests};
 ghost use Rattle.asl_rules.specs.expressions.Typing.{operands};
 ghost use Rattle.asl_types.specs.private.Answers.{Met};
-ghost use Rattle.asl_types.specs.private.ContextView.{scope_of};
+ghost use Rattle.asl_subprograms.specs.private.ContextView.{scope_of};
 ghost use Rattle.asl_types.specs.Suits.{Suits};
 ghost use Rattle.asl_tree.specs.View.{operand_of, all_operands};
 ghost use Rattle.asl_expr.specs.private.Below.{Types};
@@ -20,11 +20,11 @@ ghost use Rattle.asl_syn.specs.declared.tree.FieldValue.TheVariants as value;
 ghost use Rattle.asl_syn.specs.declared.tree.Slice.{size-Slice};
 
 use crate::below::{Below, operand_below};
+use asl_subprograms::Context;
 use asl_syn::code::Refused;
 use asl_syn::tree::{Expr, FieldValue, Ident, Slice};
 use asl_tree::lists::{one_tree, two_trees};
 use asl_tree::tree::Tree;
-use asl_types::Context;
 use sqlite_items::{Boxed, Items};
 use std::alloc::Global;
 

@@ -9,12 +9,13 @@ ghost use Rattle.asl_rules.specs.expressions.Exprs.{found};
 ghost use Rattle.asl_rules.specs.Tests.{Tests};
 ghost use Rattle.asl_rules.specs.types.Types as types;
 ghost use Rattle.asl_types.specs.private.Answers.{Met};
-ghost use Rattle.asl_types.specs.private.ContextView.{scope_of};
+ghost use Rattle.asl_subprograms.specs.private.ContextView.{scope_of};
 ghost use Rattle.asl_types.specs.View.{parts_of};
 ghost use Rattle.asl_tree.specs.View.{tree_of, all_operands};
 ghost use Rattle.asl_expr.specs.CallViews.{replacing_of, none_replaced, with_written, with_argument, giving_of};
 
 use asl_poly::{Atom, Poly, PolyRefused};
+use asl_subprograms::{Context, Param, Signature};
 use asl_syn::code::{Refused, StaticCode};
 use asl_syn::token::Span;
 use asl_syn::tree::Expr;
@@ -22,8 +23,8 @@ use asl_tree::places::place;
 use asl_tree::tree::Tree;
 use asl_types::answer::fault;
 use asl_types::structure::width_in;
-use asl_types::{Context, Form, Param, Signature, Ty};
-use asl_written::widths::type_width;
+use asl_types::{Form, Ty};
+use asl_widths::type_width;
 use sqlite_items::{Boxed, Items};
 use std::alloc::{AllocError, Global};
 

@@ -9,12 +9,12 @@ ghost use Rattle.asl_rules.specs.expressions.Patterns.{pure_typed};
 ghost use Rattle.asl_rules.specs.types.Shapes as shapes;
 ghost use Rattle.asl_rules.specs.Tests.{Tests};
 ghost use Rattle.asl_types.specs.private.Answers.{Met};
-ghost use Rattle.asl_types.specs.private.ContextView.{scope_of};
+ghost use Rattle.asl_subprograms.specs.private.ContextView.{scope_of};
 ghost use Rattle.asl_types.specs.Suits.{Suits};
 ghost use Rattle.asl_types.specs.View.{parts_of};
 ghost use Rattle.asl_expr.specs.private.Below.{Types, Matching};
 ghost use Rattle.asl_expr.specs.PatternViews.{matched_of, matches_view, no_matches, with_matches, found_patterns};
-ghost use Rattle.asl_written.specs.private.Steps.{and_then};
+ghost use Rattle.asl_widths.specs.private.Steps.{and_then};
 ghost use Rattle.asl_syn.specs.declared.tree.Expr.{size-Expr};
 ghost use Rattle.asl_syn.specs.declared.tree.Pattern.{size-Pattern};
 
@@ -23,11 +23,12 @@ use crate::patterns::{
     Matched, Matches, anything, least_matched, mask_matched, most_matched, parts_of_tuple,
     range_matched, set_matched, tuple_matched, value_matched,
 };
+use asl_subprograms::Context;
 use asl_syn::code::Refused;
 use asl_syn::token::Span;
 use asl_syn::tree::{Expr, Pattern};
 use asl_tree::tree::Tree;
-use asl_types::{Context, Ty};
+use asl_types::Ty;
 use sqlite_items::Boxed;
 use std::alloc::Global;
 

@@ -1,7 +1,7 @@
 //! Slices of bits and of integers.
 
 ghost use Rattle.std.specs.Prelude.{◌≡◌, ◌||◌, ◌&&◌, IfOk};
-ghost use Rattle.asl_written.specs.private.Steps.{and_then, after};
+ghost use Rattle.asl_widths.specs.private.Steps.{and_then, after};
 ghost use Rattle.asl_rules.specs.expressions.Slicing as rules;
 ghost use Rattle.asl_rules.specs.expressions.Slicing.{sliceable, slices_behind, shapes_of};
 ghost use Rattle.asl_rules.specs.statements.Targets.{found_slices};
@@ -10,7 +10,7 @@ ghost use Rattle.asl_rules.specs.types.Types as types;
 ghost use Rattle.asl_rules.specs.expressions.Exprs.{found, found_slice};
 ghost use Rattle.asl_value.specs.View.{slice_of, all_slices};
 ghost use Rattle.asl_types.specs.private.Answers.{Met};
-ghost use Rattle.asl_types.specs.private.ContextView.{scope_of};
+ghost use Rattle.asl_subprograms.specs.private.ContextView.{scope_of};
 ghost use Rattle.asl_types.specs.Suits.{Suits};
 ghost use Rattle.asl_tree.specs.View.{note_view, typed_of, all_operands};
 ghost use Rattle.asl_expr.specs.private.SliceViews.{slices_note, Sums, added_width};
@@ -23,18 +23,19 @@ use crate::operand_lists::slices_below;
 use crate::patterns::match_pattern;
 use asl_poly::Poly;
 use asl_rules::effect::Effect;
+use asl_subprograms::Context;
 use asl_syn::code::{Refused, StaticCode};
 use asl_syn::token::Span;
 use asl_syn::tree::{Expr, Slice};
 use asl_tree::nodes;
 use asl_tree::tree::{Note, Tree};
+use asl_types::Total;
 use asl_types::answer::fault;
 use asl_types::integers::bits_of;
 use asl_types::kinds::{is_bits, is_integer};
-use asl_types::{Context, Total};
 use asl_typing::ends::{all_together, greatest, keep_class, stand_together};
 use asl_value::SliceShape;
-use asl_written::widths::type_width;
+use asl_widths::type_width;
 use sqlite_items::{Boxed, Items};
 use std::alloc::{AllocError, Global};
 

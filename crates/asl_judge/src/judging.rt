@@ -8,7 +8,7 @@ ghost use Rattle.asl_rules.specs.types.Types as types;
 ghost use Rattle.asl_rules.specs.values.Values as values;
 ghost use Rattle.asl_value.specs.View.{value_of};
 ghost use Rattle.asl_types.specs.private.Answers.{Met};
-ghost use Rattle.asl_types.specs.private.ContextView.{scope_of};
+ghost use Rattle.asl_subprograms.specs.private.ContextView.{scope_of};
 ghost use Rattle.asl_types.specs.Suits.{Suits};
 ghost use Rattle.asl_judge.specs.private.Brought.{brought_of, labels_brought};
 
@@ -16,9 +16,10 @@ use crate::definitions::{define, name_of};
 use crate::storage::{initial_storage, is_var};
 use crate::supertypes::{named_with, supertypes};
 use asl_shared::Held;
+use asl_subprograms::Context;
 use asl_syn::code::Refused;
 use asl_syn::tree::{Decl, Ident, StorageDecl, TypeDecl, TypeDef};
-use asl_types::{Context, Scope, Ty};
+use asl_types::{Scope, Ty};
 use asl_value::{Name, Value, copy};
 use std::alloc::{AllocError, Global};
 

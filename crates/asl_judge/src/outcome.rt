@@ -5,14 +5,15 @@ ghost use Rattle.asl_rules.specs.declarations.Declarations as rules;
 ghost use Rattle.asl_rules.specs.Tests.{Tests};
 ghost use Rattle.asl_rules.specs.declarations.Scopes.{with_entries};
 ghost use Rattle.asl_types.specs.private.Answers.{Met};
-ghost use Rattle.asl_types.specs.private.ContextView.{scope_of};
+ghost use Rattle.asl_subprograms.specs.private.ContextView.{scope_of};
 ghost use Rattle.asl_types.specs.Suits.{Suits};
 ghost use Rattle.asl_judge.specs.private.Passes.{judged_of, all_judged, first_fault};
 
 use crate::judging::{Brought, judge};
+use asl_subprograms::Context;
 use asl_syn::code::{Fault, Refused};
 use asl_syn::tree::Decl;
-use asl_types::{Context, Scope};
+use asl_types::Scope;
 use std::alloc::{AllocError, Global};
 
 /// What came of a declaration.

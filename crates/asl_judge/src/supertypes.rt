@@ -7,18 +7,19 @@ ghost use Rattle.asl_rules.specs.Tests.{Tests};
 ghost use Rattle.asl_rules.specs.types.Types.{misfit, structure, named};
 ghost use Rattle.asl_rules.specs.declarations.Scopes.{type_of_name};
 ghost use Rattle.asl_types.specs.private.Answers.{Agrees};
-ghost use Rattle.asl_types.specs.private.ContextView.{scope_of};
+ghost use Rattle.asl_subprograms.specs.private.ContextView.{scope_of};
 ghost use Rattle.asl_types.specs.Suits.{Suits};
 
 use crate::definitions::name_of;
 use asl_shared::{Held, Shared};
+use asl_subprograms::Context;
 use asl_syn::code::{Refused, StaticCode};
 use asl_syn::token::Span;
 use asl_syn::tree::Ident;
 use asl_types::answer::fault;
 use asl_types::fits::misfit;
 use asl_types::structure::structure;
-use asl_types::{Context, Form, Scope, Ty};
+use asl_types::{Form, Scope, Ty};
 use asl_value::Supers;
 use std::alloc::{AllocError, Global};
 

@@ -11,17 +11,18 @@ ghost use Rattle.asl_rules.specs.types.Written.{first_value};
 ghost use Rattle.asl_value.specs.private.Answers.{Is};
 ghost use Rattle.asl_value.specs.View.{value_of};
 ghost use Rattle.asl_types.specs.private.Answers.{Met};
-ghost use Rattle.asl_types.specs.private.ContextView.{scope_of};
+ghost use Rattle.asl_subprograms.specs.private.ContextView.{scope_of};
 ghost use Rattle.asl_types.specs.Suits.{Suits};
 
 use asl_const as constants;
 use asl_shape::first_value;
+use asl_subprograms::Context;
 use asl_syn::code::{Fault, Refused, StaticCode};
 use asl_syn::token::Span;
 use asl_syn::tree::Expr;
+use asl_types::Ty;
 use asl_types::answer::fault;
 use asl_types::seeing::see;
-use asl_types::{Context, Ty};
 use asl_value::{Failure, Value};
 use std::alloc::{AllocError, Global};
 

@@ -2,14 +2,15 @@
 
 ghost use Rattle.asl_rules.specs.Tests.{Tests};
 ghost use Rattle.asl_types.specs.private.Answers.{Agrees};
-ghost use Rattle.asl_types.specs.private.ContextView.{scope_of};
+ghost use Rattle.asl_subprograms.specs.private.ContextView.{scope_of};
 ghost use Rattle.asl_types.specs.Suits.{Suits};
 ghost use Rattle.asl_judge.specs.private.Definitions as rules;
 
 use asl_expr::exprs::type_expr;
+use asl_subprograms::Context;
 use asl_syn::code::Refused;
 use asl_syn::tree::{Expr, TypeExpr};
-use asl_types::{Context, Ty};
+use asl_types::Ty;
 use asl_written::written::type_written;
 use std::alloc::Global;
 

@@ -5,7 +5,8 @@ ghost use Rattle.asl_run.specs.Meets.{Is};
 ghost use Rattle.asl_run.specs.private.Operations.{one_given, many_given, more_given};
 
 use crate::stop::Stop;
-use asl_shape::{FieldGiven, PatternShape, TypeShape, construct, converted, matched_in};
+use asl_converts::converted;
+use asl_shape::{FieldGiven, PatternShape, TypeShape, construct, matched_in};
 use asl_syn::token::Span;
 use asl_syn::tree::UnaryOperator;
 use asl_value::{

@@ -16,6 +16,6 @@ pub mod FilledKinds
 pub mod FilledViews
 pub mod FilledBy
 pub mod FilledFirsts
-pub mod Converts
+pub mod WrittenFirsts
 pub mod Takes
 pub mod FieldsFalling

@@ -27,7 +27,7 @@ use std::alloc::{AllocError, Global};
 /// A written type with numbers in place of its expressions.
 #[cycle(filled)]
 #[derive(Drop)]
-pub(crate) enum Filled {
+pub enum Filled {
     /// Integers, in a constraint where it has parts, whose ends are numbers.
     Integer(Items<Part>),
     Boolean,
@@ -44,7 +44,7 @@ pub(crate) enum Filled {
 
 /// The kind of the values of a type.
 #[cycle(filled_kind)]
-pub(crate) fn filled_kind(alloc: Global, ty: &Filled) -> Result<Kind, AllocError>
+pub fn filled_kind(alloc: Global, ty: &Filled) -> Result<Kind, AllocError>
     ensures { IfOk result (λ k. kind_of k ≡ kind_at (closed_of (filled_of ty.now))) }
 {
     match ty {
@@ -89,7 +89,7 @@ fn filled_kinds(alloc: Global, parts: &[Filled]) -> Result<Items<Kind>, AllocErr
 
 /// Whether a value is of a type.
 #[cycle(filled_has)]
-pub(crate) fn filled_has(alloc: Global, ty: &Filled, x: &Value) -> Result<bool, AllocError>
+pub fn filled_has(alloc: Global, ty: &Filled, x: &Value) -> Result<bool, AllocError>
     ensures { IfOk result (λ b. b ≡ values.has (value_of x.now) (closed_of (filled_of ty.now))) }
 {
     match ty {
@@ -172,7 +172,7 @@ fn all_have(alloc: Global, ty: &Filled, given: &[Value]) -> Result<bool, AllocEr
 
 /// A value as it goes through a type: its bits carry the bitfields that are written there; bits in fields keep theirs.
 #[cycle(filled_view)]
-pub(crate) fn filled_view(alloc: Global, ty: &Filled, x: &Value) -> Result<Value, AllocError>
+pub fn filled_view(alloc: Global, ty: &Filled, x: &Value) -> Result<Value, AllocError>
     ensures { IfOk result (λ it. value_of it ≡ views.viewed (closed_of (filled_of ty.now)) (value_of x.now)) }
 {
     match ty {

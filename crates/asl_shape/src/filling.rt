@@ -49,9 +49,9 @@ struct FilledFields {
 
 /// A type, and the place of the first value that is left.
 #[derive(Drop)]
-pub(crate) struct FilledType {
-    pub(crate) ty: Filled,
-    pub(crate) next: usize,
+pub struct FilledType {
+    pub ty: Filled,
+    pub next: usize,
 }
 
 /// Types, and the place of the first value that is left.
@@ -201,7 +201,7 @@ fn next_fields(
 
 /// A written type with the values of its expressions, from a place on.
 #[cycle(filling)]
-pub(crate) fn filling(
+pub fn filling(
     alloc: Global,
     shape: &TypeShape,
     values: &[Value],

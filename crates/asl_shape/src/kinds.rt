@@ -13,7 +13,7 @@ use std::alloc::{AllocError, Global};
 
 /// The kind of a value.
 #[cycle(kind_of)]
-pub(crate) fn kind_of(alloc: Global, x: &Value) -> Result<Kind, AllocError>
+pub fn kind_of(alloc: Global, x: &Value) -> Result<Kind, AllocError>
     ensures { IfOk result (λ k. view_of_kind k ≡ rules.kind_of (value_of x.now)) }
 {
     match x {

@@ -15,7 +15,7 @@ use std::alloc::Global;
 
 /// The value that a variable of a written type begins with, with the values of the expressions in the type, in order. `whole`
 /// is where the type is written, the place of D16.
-#[tactic(auto, using(crate::proofs::Converts::first_is, crate::proofs::Converts::no_first))]
+#[tactic(auto, using(crate::proofs::WrittenFirsts::first_is, crate::proofs::WrittenFirsts::no_first))]
 pub fn first_of(
     alloc: Global,
     span: Span,

@@ -3,15 +3,16 @@
 ghost use Rattle.std.specs.Prelude.{◌≡◌, [], IfOk};
 ghost use Rattle.asl_rules.specs.declared.effect.Effect.TheVariants.{Pure};
 ghost use Rattle.asl_rules.specs.declarations.Scopes.{handling};
-ghost use Rattle.asl_types.specs.private.ContextView.{scope_of};
+ghost use Rattle.asl_subprograms.specs.private.ContextView.{scope_of};
 ghost use Rattle.asl_stmt.specs.private.Views.{body_of};
 ghost use Rattle.std.specs.Prelude.{List};
 ghost use Rattle.asl_rules.specs.declarations.Scopes.{Entry};
 
 use asl_rules::effect::Effect;
 use asl_shared::Held;
+use asl_subprograms::{Context, Subprograms};
 use asl_tree::act::{Act, Last};
-use asl_types::{Context, Scope, Subprograms, Ty};
+use asl_types::{Scope, Ty};
 use sqlite_items::Items;
 use std::alloc::{AllocError, Global};
 

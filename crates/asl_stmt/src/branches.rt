@@ -17,6 +17,7 @@ use crate::body::{Body, Done, Listed};
 use crate::steps::{check_placed, ended, misplaced};
 use crate::typing::type_in;
 use crate::within::{Within, check_inside};
+use asl_allowed::effects::greater;
 use asl_rules::effect::Effect;
 use asl_syn::code::Refused;
 use asl_syn::token::Span;
@@ -24,7 +25,6 @@ use asl_syn::tree::{ElseIf, Expr, Stmt};
 use asl_tree::act::{Act, Branch};
 use asl_tree::tree::Tree;
 use asl_types::Scope;
-use asl_types::effects::greater;
 use sqlite_items::{Boxed, Items};
 use std::alloc::{AllocError, Global};
 

@@ -5,7 +5,7 @@ ghost use Rattle.asl_rules.specs.expressions.Exprs as exprs;
 ghost use Rattle.asl_rules.specs.statements.Locals as rules;
 ghost use Rattle.asl_rules.specs.declarations.Scopes as scopes;
 ghost use Rattle.asl_rules.specs.Tests.{Tests};
-ghost use Rattle.asl_types.specs.private.ContextView.{scope_of};
+ghost use Rattle.asl_subprograms.specs.private.ContextView.{scope_of};
 ghost use Rattle.asl_types.specs.Suits.{Suits};
 ghost use Rattle.asl_stmt.specs.private.Views.{body_of};
 
@@ -16,7 +16,7 @@ use asl_syn::tree::Expr;
 use asl_types::counting::next_itself;
 use asl_types::kinds::is_integer;
 use asl_types::{Counted, Scope, Ty};
-use asl_written::widths::{has_atom, type_width};
+use asl_widths::{has_atom, type_width};
 use std::alloc::{AllocError, Global};
 
 /// What an initialiser counts as, where it is a width expression within the limits, and else the next name itself.

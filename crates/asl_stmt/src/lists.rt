@@ -13,12 +13,12 @@ ghost use Rattle.asl_stmt.specs.private.Walks.{after, listing, stmt_step, shut, 
 use crate::body::{Body, Done, Listed};
 use crate::stmts::check_node;
 use crate::within::Within;
+use asl_allowed::effects::greater;
 use asl_rules::effect::Effect;
 use asl_shared::Held;
 use asl_syn::code::Refused;
 use asl_syn::tree::Stmt;
 use asl_types::Scope;
-use asl_types::effects::greater;
 use sqlite_items::Items;
 
 /// A statement: the names that are visible after it, its typed tree and its effect.

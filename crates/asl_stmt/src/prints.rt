@@ -12,6 +12,7 @@ ghost use Rattle.asl_stmt.specs.private.Walks.{after};
 
 use crate::body::{Body, Done, context};
 use crate::steps::end_simple;
+use asl_allowed::effects::{all_together, greater, greatest};
 use asl_expr::exprs::type_expr;
 use asl_rules::effect::Effect;
 use asl_syn::code::Refused;
@@ -19,7 +20,6 @@ use asl_syn::token::Span;
 use asl_syn::tree::{PrintItem, PrintKind};
 use asl_tree::act::{Simple, TreeItem};
 use asl_types::Scope;
-use asl_types::effects::{all_together, greater, greatest};
 use sqlite_items::Items;
 
 /// What is printed: the effects of the expressions, and the typed trees.

@@ -14,6 +14,7 @@ ghost use Rattle.asl_stmt.specs.private.Views.{body_of, done_of};
 use crate::body::{Body, Done, context};
 use crate::steps::{check_condition, check_fits, end_simple};
 use crate::typing::{type_in, type_reading};
+use asl_allowed::effects::greater;
 use asl_expr::calls::type_procedure;
 use asl_rules::effect::Effect;
 use asl_shared::Held;
@@ -22,7 +23,6 @@ use asl_syn::token::Span;
 use asl_syn::tree::{Expr, Ident};
 use asl_tree::act::{Act, Simple};
 use asl_types::answer::fault;
-use asl_types::effects::greater;
 use asl_types::{Form, Scope, Ty};
 
 /// A statement of this tree and this effect.

@@ -16,6 +16,7 @@ ghost use Rattle.asl_stmt.specs.private.Views.{maybe_operand, done_of};
 ghost use Rattle.asl_stmt.specs.private.Walks as walks;
 
 use crate::body::Done;
+use asl_allowed::effects::at_most;
 use asl_rules::effect::Effect;
 use asl_shared::Held;
 use asl_syn::code::{Refused, StaticCode};
@@ -24,7 +25,6 @@ use asl_tree::act::{Act, Simple};
 use asl_tree::tree::Tree;
 use asl_types::Ty;
 use asl_types::answer::fault;
-use asl_types::effects::at_most;
 use asl_types::fits::misfit;
 use asl_types::kinds::{is_boolean, is_integer};
 use sqlite_items::Boxed;

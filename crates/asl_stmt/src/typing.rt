@@ -7,18 +7,19 @@ ghost use Rattle.asl_rules.specs.statements.Branches as branches;
 ghost use Rattle.asl_rules.specs.Tests.{Tests};
 ghost use Rattle.asl_types.specs.private.Answers.{Met};
 ghost use Rattle.asl_types.specs.Suits.{Suits};
-ghost use Rattle.asl_types.specs.private.ContextView.{scope_of};
+ghost use Rattle.asl_subprograms.specs.private.ContextView.{scope_of};
 ghost use Rattle.asl_tree.specs.View.{operand_of};
 ghost use Rattle.asl_stmt.specs.private.Views.{body_of, maybe_operand};
 
 use crate::body::{Body, context};
+use asl_allowed::effects::lesser;
 use asl_expr::exprs::type_operand;
 use asl_rules::effect::Effect;
+use asl_subprograms::Context;
 use asl_syn::code::Refused;
 use asl_syn::tree::Expr;
 use asl_tree::tree::Tree;
-use asl_types::effects::lesser;
-use asl_types::{Context, Scope};
+use asl_types::Scope;
 use sqlite_items::Boxed;
 
 /// An expression in a body: its typed tree.

@@ -15,10 +15,22 @@ use Rattle.asl_types.specs.declared.ty.Form.TheVariants as t
 use Rattle.asl_types.specs.private.NamePlaces.{Places, named, place_of, put}
 use Rattle.asl_types.specs.private.FieldPlaces.{with_field, places_from, type_of, field_at, fields_of_form, own_fields}
 use Rattle.asl_types.specs.View.{form_view, fields_of}
-use Rattle.asl_types.proofs.ChainLemmas.{two_alike, two_apart}
 use Rattle.asl_types.proofs.Rest.{at_next, none_after}
 
 -- ---- the map
+
+-- one name more that is put, where another is looked at first
+pub two_alike : (b c : Bool) (v w : ℕ) (o : Option ℕ) → b ≡ c → cond c (Some v) o ≡ cond b (Some v) (cond c (Some w) o)
+two_alike true true v w o h = refl
+two_alike false false v w o h = refl
+two_alike true false v w o h = cc h
+two_alike false true v w o h = cc h
+
+pub two_apart : (b c : Bool) (v w : ℕ) (o : Option ℕ) → (c ≡ true → b ≡ true → ⊥) → cond c (Some w) (cond b (Some v) o) ≡ cond b (Some v) (cond c (Some w) o)
+two_apart true true v w o h = absurd (h refl refl)
+two_apart false true v w o h = refl
+two_apart true false v w o h = refl
+two_apart false false v w o h = refl
 
 pub place_named : {Z : Type 0} (name : List ℕ) (es : List (Vec ℕ Z × ℕ)) → place_of name (named es) ≡ lookup (λ k. bytes_eq name k.items) es
 place_named name [] = refl

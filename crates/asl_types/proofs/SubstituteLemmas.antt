@@ -42,37 +42,6 @@ in_front xs o = option_map (λ ys. xs ++ ys) o
 abbrev range_at : Widths → Part → Option Part
 range_at by p = cons.part_of (substituted_end by p.low) (substituted_end by p.high)
 
-append_one : {A : Type 0} (xs : List A) (x : A) (ys : List A) → xs ++ x ∷ ys ≡ (xs ++ x ∷ []) ++ ys
-append_one [] x ys = refl
-append_one (z ∷ xs) x ys = ap (λ zs. z ∷ zs) (append_one xs x ys)
-
-one_more : (made : List Part) (p : Part) (o : Option (List Part)) → in_front made (cons.with_part (Some p) o) ≡ in_front (made ++ p ∷ []) o
-one_more made p None = refl
-one_more made p (Some ps) = ap Some (append_one made p ps)
-
-pub range_next : (by : Widths) (ps : List Part) (i : ℕ) (p q : Part) (made more : List Part) → i < length ps → p ≡ get_or ps i p → Some q ≡ range_at by p → more ≡ made ++ q ∷ [] →
-    in_front made (substituted_ranges by (drop i ps)) ≡ substituted_ranges by ps → in_front more (substituted_ranges by (drop (i + 1) ps)) ≡ substituted_ranges by ps
-range_next by ps i p q made more within here this grown before =
-    ap (λ xs. in_front xs (substituted_ranges by (drop (i + 1) ps))) grown
-    ∙ sym (one_more made q (substituted_ranges by (drop (i + 1) ps)))
-    ∙ ap (λ o. in_front made (cons.with_part o (substituted_ranges by (drop (i + 1) ps)))) this
-    ∙ ap (λ xs. in_front made (substituted_ranges by xs)) (sym (at_next ps i p within here))
-    ∙ before
-
-pub range_none : (by : Widths) (ps : List Part) (i : ℕ) (p : Part) (made : List Part) → i < length ps → p ≡ get_or ps i p → None ≡ range_at by p →
-    in_front made (substituted_ranges by (drop i ps)) ≡ substituted_ranges by ps → None ≡ substituted_ranges by ps
-range_none by ps i p made within here this before =
-    ap (λ o. in_front made (cons.with_part o (substituted_ranges by (drop (i + 1) ps)))) this
-    ∙ ap (λ xs. in_front made (substituted_ranges by xs)) (sym (at_next ps i p within here))
-    ∙ before
-
-append_none : {A : Type 0} (xs : List A) → xs ≡ xs ++ []
-append_none [] = refl
-append_none (x ∷ xs) = ap (λ ys. x ∷ ys) (append_none xs)
-
-pub range_last : (by : Widths) (ps : List Part) (i : ℕ) (made : List Part) → length ps ≤ i → in_front made (substituted_ranges by (drop i ps)) ≡ substituted_ranges by ps → Some made ≡ substituted_ranges by ps
-range_last by ps i made past before = ap Some (append_none made) ∙ ap (λ xs. in_front made (substituted_ranges by xs)) (sym (none_after ps i past)) ∙ before
-
 -- as many parts as before
 some_is : {A : Type 0} (x y : A) → Some x ≡ Some y → x ≡ y
 some_is x y e = cc e

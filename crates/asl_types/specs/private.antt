@@ -1,9 +1,7 @@
 -- What restates something for proofs, nearer to how the code goes about it: a lemma ties each to what it restates.
 pub mod Alike
 pub mod Answers
-pub mod Chains
 pub mod Codes
-pub mod ContextView
 pub mod EntryCodes
 pub mod FieldPlaces
 pub mod Heights

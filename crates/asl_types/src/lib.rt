@@ -3,9 +3,7 @@
 
 pub mod answer;
 pub mod baring;
-mod context;
 pub mod counting;
-pub mod effects;
 pub mod fits;
 pub mod integers;
 pub mod kinds;
@@ -16,7 +14,6 @@ mod scope;
 pub mod seeing;
 pub mod sizes;
 pub mod structure;
-mod subprograms;
 pub mod substitute;
 pub mod tests;
 mod totals;
@@ -24,8 +21,6 @@ mod ty;
 pub mod widths;
 
 pub use asl_value::{BitField, View};
-pub use context::Context;
 pub use scope::{Counted, Scope, Standing, Storage, reading, writing};
-pub use subprograms::{Param, Signature, Subprograms};
 pub use totals::Total;
 pub use ty::{FieldType, Form, Ty};

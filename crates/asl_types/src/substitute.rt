@@ -60,7 +60,6 @@ fn substituted_part(
 }
 
 /// Parts of a constraint with widths in the place of their atoms.
-#[tactic(auto, using(crate::proofs::SubstituteLemmas::range_next, crate::proofs::SubstituteLemmas::range_none, crate::proofs::SubstituteLemmas::range_last))]
 fn substituted_ranges(
     alloc: Global,
     by: &[(Atom, Poly)],

@@ -7,12 +7,12 @@ ghost use Rattle.asl_rules.specs.expressions.Typing.{effects_of};
 ghost use Rattle.asl_types.specs.private.Answers.{Met};
 ghost use Rattle.asl_tree.specs.View.{all_operands};
 
+use asl_allowed::effects::{at_most, greater, together};
 use asl_rules::effect::Effect;
 use asl_syn::code::{Refused, StaticCode};
 use asl_syn::token::Span;
 use asl_tree::tree::Tree;
 use asl_types::answer::fault;
-use asl_types::effects::{at_most, greater, together};
 
 /// Whether operands may stand together: T13 where they may not.
 pub fn stand_together(span: Span, may: bool) -> Result<(), Refused>

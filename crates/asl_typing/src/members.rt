@@ -11,6 +11,7 @@ ghost use Rattle.asl_tree.specs.View.{tree_of, typed_of};
 ghost use Rattle.asl_typing.specs.private.FoundMembers.{found_view, IsNarrow, bitfield_part as bitfield_rule};
 
 use crate::ends::{keep_class, stand_together};
+use asl_allowed::effects::{greater, together};
 use asl_rules::effect::Effect;
 use asl_syn::code::{Refused, StaticCode};
 use asl_syn::token::Span;
@@ -18,7 +19,6 @@ use asl_syn::tree::Ident;
 use asl_tree::nodes;
 use asl_tree::tree::{Note, Tree};
 use asl_types::answer::fault;
-use asl_types::effects::{greater, together};
 use asl_types::integers::bits_wide;
 use asl_types::kinds::{is_bits, is_integer};
 use asl_types::members::{Member, bitfield_among, member_of};

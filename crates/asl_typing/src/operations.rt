@@ -16,6 +16,8 @@ ghost use Rattle.asl_typing.specs.private.Conditionals.{conditional_note};
 
 use crate::ends::{all_together, greatest, keep_class, stand_together};
 use crate::operators::{type_binary, type_unary};
+use asl_allowed::effects;
+use asl_allowed::effects::{greater, together};
 use asl_rules::effect::Effect;
 use asl_shared::Shared;
 use asl_syn::code::{Refused, StaticCode};
@@ -23,13 +25,12 @@ use asl_syn::token::Span;
 use asl_syn::tree::{BinaryOperator, UnaryOperator};
 use asl_tree::nodes;
 use asl_tree::tree::{Note, Tree};
+use asl_types::Ty;
 use asl_types::answer::fault;
 use asl_types::baring::bare;
-use asl_types::effects::{greater, together};
 use asl_types::fits::join;
 use asl_types::kinds::{is_bits, is_boolean};
 use asl_types::sizes::bounded;
-use asl_types::{Ty, effects};
 use sqlite_items::{Boxed, Items};
 use std::alloc::{AllocError, Global};
 

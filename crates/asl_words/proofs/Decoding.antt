@@ -27,7 +27,7 @@ use Rattle.asl_rules.proofs.values.Bare.{viewed_built}
 use Rattle.asl_rules.proofs.values.Constructs.{seen_is}
 use Rattle.asl_rules.proofs.values.Viewing.{viewed_twice}
 use Rattle.asl_types.specs.private.Codes.{parts_code}
-use Rattle.asl_types.specs.private.EntryCodes.{param_code}
+use Rattle.asl_subprograms.specs.private.SignatureCodes.{param_code}
 use Rattle.asl_types.specs.Suits.{Suits}
 use Rattle.asl_tree.specs.Acts.{func_of, all_funcs}
 use Rattle.asl_tree.specs.Sealed.{Sealed, IsMade, IsSealed}

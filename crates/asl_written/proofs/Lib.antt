@@ -4,5 +4,4 @@ pub mod NameLemmas
 pub mod OneTypeLemmas
 pub mod RangeLemmas
 pub mod TypeLemmas
-pub mod WidthLemmas
 pub mod WrittenLemmas

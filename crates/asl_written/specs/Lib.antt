@@ -1,3 +1,2 @@
-pub mod WidthViews
 pub mod WrittenViews
 pub mod private

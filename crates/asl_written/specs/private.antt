@@ -1,6 +1,5 @@
 -- What restates something for proofs, nearer to how the code goes about it: a lemma ties each to what it restates.
 pub mod Constraints
 pub mod OneType
-pub mod Steps
 pub mod WrittenFields
 pub mod WrittenTypes

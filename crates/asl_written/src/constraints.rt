@@ -1,7 +1,7 @@
 //! The constraints of integers that are written.
 
 ghost use Rattle.std.specs.Prelude.{◌≡◌, [], ◌∷◌, map, Ok, OnOk, IfOk};
-ghost use Rattle.asl_written.specs.private.Steps.{and_then};
+ghost use Rattle.asl_widths.specs.private.Steps.{and_then};
 ghost use Rattle.asl_rules.specs.expressions.Exprs.{found};
 ghost use Rattle.asl_rules.specs.Tests.{Tests};
 ghost use Rattle.asl_rules.specs.statements.Branches.{of_range};
@@ -9,26 +9,27 @@ ghost use Rattle.asl_rules.specs.types.Types.{integer_of};
 ghost use Rattle.asl_rules.specs.types.Writing as rules;
 ghost use Rattle.asl_cons.specs.Arithmetic as cons;
 ghost use Rattle.asl_types.specs.private.Answers.{Met};
-ghost use Rattle.asl_types.specs.private.ContextView.{scope_of};
+ghost use Rattle.asl_subprograms.specs.private.ContextView.{scope_of};
 ghost use Rattle.asl_shape.specs.View.{part_of};
 ghost use Rattle.asl_tree.specs.View.{tree_of};
 ghost use Rattle.asl_written.specs.private.Constraints.{found_part, found_parts, part_view, gathered_view, with_parts, none_gathered, gathered, integer_from};
-ghost use Rattle.asl_written.specs.WidthViews.{width_of, number_of};
+ghost use Rattle.asl_widths.specs.WidthViews.{width_of, number_of};
 ghost use Rattle.asl_written.specs.WrittenViews.{written_of};
 
-use crate::widths::{has_atom, type_number, type_width};
 use crate::written::Written;
 use asl_cons::{Cons, End, Part};
 use asl_poly::Poly;
 use asl_shape::{PartShape, TypeShape};
+use asl_subprograms::Context;
 use asl_syn::code::{Refused, StaticCode};
 use asl_syn::token::Span;
 use asl_syn::tree::{ConstraintPart, Expr};
 use asl_tree::lists::{one_tree, two_trees};
 use asl_tree::tree::Tree;
+use asl_types::Ty;
 use asl_types::answer::fault;
 use asl_types::integers::{integers, shown};
-use asl_types::{Context, Ty};
+use asl_widths::{has_atom, type_number, type_width};
 use sqlite_items::Items;
 use std::alloc::{AllocError, Global};
 

@@ -4,28 +4,29 @@ ghost use Rattle.std.specs.Prelude.{◌≡◌, ◌≤◌, ◌^◌, pos, nat_le, 
 ghost use Rattle.asl_poly.specs.Poly.{constant_value};
 ghost use Rattle.asl_rules.specs.expressions.Exprs.{found};
 ghost use Rattle.asl_rules.specs.Faults.{found_or};
-ghost use Rattle.asl_written.specs.private.Steps.{and_then};
+ghost use Rattle.asl_widths.specs.private.Steps.{and_then};
 ghost use Rattle.asl_rules.specs.Tests.{Tests};
 ghost use Rattle.asl_rules.specs.types.Writing as rules;
 ghost use Rattle.asl_types.specs.private.Answers.{Met};
-ghost use Rattle.asl_types.specs.private.ContextView.{scope_of};
-ghost use Rattle.asl_written.specs.WidthViews.{width_of};
+ghost use Rattle.asl_subprograms.specs.private.ContextView.{scope_of};
+ghost use Rattle.asl_widths.specs.WidthViews.{width_of};
 ghost use Rattle.asl_written.specs.private.WrittenFields.{found_bitfield, found_bitfields, end_seen, field_seen, field_view, fields_view, no_fields, with_field, fields_seen, numbered_as, all_numbers, end_number, ends_numbered, numbered_from, placed_all, view_from};
 
-use crate::widths::type_width;
 use asl_names::firsts::Firsts;
 use asl_poly::Poly;
 use asl_shape::BitfieldShape;
 use asl_shared::Shared;
+use asl_subprograms::Context;
 use asl_syn::code::{Refused, StaticCode};
 use asl_syn::token::Span;
 use asl_syn::tree::{Bitfield, Expr, Ident};
 use asl_tree::lists::{one_tree, two_trees};
 use asl_tree::places::place;
 use asl_tree::tree::Tree;
+use asl_types::BitField;
 use asl_types::answer::fault;
-use asl_types::{BitField, Context};
 use asl_value::Name;
+use asl_widths::type_width;
 use sqlite_items::{Boxed, Items};
 use std::alloc::{AllocError, Global};
 

@@ -1,15 +1,15 @@
--- Signatures in source order, and subprograms of one name, as the checker finds them.
-use Rattle.std.specs.Prelude.{ℕ, suc, nat_lt, ℤ, Bool, true, false, not, List, [], ◌∷◌, ◌++◌, slice_get, Option, Some, None, Result, Ok}
+-- Signatures in source order, and the subprograms of a program, as the checker finds them.
+use Rattle.std.specs.Prelude.{ℤ, List, [], ◌∷◌, ◌++◌, Result, Ok}
 use Rattle.asl_syn.specs.declared.code.Fault.{Fault}
-use Rattle.asl_syn.specs.declared.code.StaticCode.TheVariants.{T10}
 use Rattle.asl_syn.specs.declared.tree.Decl.{Decl}
 use Rattle.asl_syn.specs.declared.tree.Decl.TheVariants as dc
 use Rattle.asl_syn.specs.declared.tree.Func.{Func}
-use Rattle.asl_rules.specs.Faults.{◌>>=◌, ◌>>◌, need}
+use Rattle.asl_rules.specs.Faults.{◌>>=◌, ◌>>◌}
 use Rattle.asl_rules.specs.Tests.{Tests}
-use Rattle.asl_rules.specs.declarations.Scopes.{Entry, Signature, Chosen, choose}
+use Rattle.asl_rules.specs.declarations.Scopes.{Entry, Signature}
 use Rattle.asl_rules.specs.declarations.Programs.{class_of}
 use Rattle.asl_types.specs.View.{parts_of}
+use Rattle.asl_subprograms.specs.private.Apart.{apart_rule}
 use Rattle.asl_decl.specs.private.Free.{free_rule}
 use Rattle.asl_decl.specs.Heads.{Declared, declared_with, heads_of}
 use Rattle.asl_decl.specs.private.HeadTypes.{HeadTypes, head_types}
@@ -43,24 +43,6 @@ funcs_after before [] = before
 funcs_after before (dc.Type d ∷ ds) = funcs_after before ds
 funcs_after before (dc.Storage d ∷ ds) = funcs_after before ds
 funcs_after before (dc.Func f ∷ ds) = funcs_after (before ++ f ∷ []) ds
-
--- the overload that is chosen stands before this number
-abbrev pub is_before : ℕ → Option Chosen → Bool
-is_before n None = false
-is_before n (Some c) = nat_lt c.number n
-
--- none before the signature of this number has its name, and formals of its kinds
-abbrev pub is_apart : ℕ → Option Signature → List Signature → Bool
-is_apart n None ss = true
-is_apart n (Some s) ss = not (is_before n (choose s.name s.formals ss))
-
--- T10 at the first name of a subprogram that one before it has, with formals of the same kinds; the first has this number
-abbrev pub apart_from : ℕ → List Func → List Signature → Result (Unit {0}) Fault
-apart_from n [] ss = Ok tt
-apart_from n (f ∷ fs) ss = need (is_apart n (slice_get ss n) ss) T10 f.name.span >> apart_from (suc n) fs ss
-
-abbrev pub apart_rule : List Func → List Signature → Result (Unit {0}) Fault
-apart_rule fs ss = apart_from 0 fs ss
 
 -- ---- what declarations bring
 

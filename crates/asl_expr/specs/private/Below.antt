@@ -9,9 +9,9 @@ use Rattle.asl_rules.specs.expressions.Exprs.{typed, found_pattern}
 use Rattle.asl_rules.specs.Tests.{Tests}
 use Rattle.asl_rules.specs.types.Types.{Ty}
 use Rattle.asl_types.specs.private.Answers.{Met}
-use Rattle.asl_types.specs.private.ContextView.{scope_of}
+use Rattle.asl_subprograms.specs.private.ContextView.{scope_of}
 use Rattle.asl_types.specs.Suits.{Suits}
-use Rattle.asl_types.specs.declared.context.Context.{Context}
+use Rattle.asl_subprograms.specs.declared.context.Context.{Context}
 use Rattle.asl_tree.specs.declared.tree.Tree.{Tree}
 use Rattle.asl_tree.specs.View.{typed_of}
 use Rattle.asl_expr.specs.PatternViews.{matched_of}

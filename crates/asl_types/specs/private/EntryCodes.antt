@@ -12,12 +12,10 @@ use Rattle.asl_value.specs.declared.value.FieldValue.TheOpen as v
 use Rattle.asl_value.specs.declared.value.FieldValue.TheFolds.{fold-roll-Value, fold-roll-FieldValue}
 use Rattle.asl_value.specs.contracts.value.Value as value_in_code
 use Rattle.asl_value.specs.View as values
-use Rattle.asl_rules.specs.declared.effect.Effect.{Effect}
-use Rattle.asl_rules.specs.contracts.effect.Effect as effect_in_code
 use Rattle.asl_rules.specs.types.Types as types
 use Rattle.asl_rules.specs.values.Values as rules
-use Rattle.asl_rules.specs.declarations.Scopes.{Counted, Storage, Standing, Stored, Subprogram, TypeName, Label, Entry, Param, Signature}
-use Rattle.asl_types.specs.private.Codes.{ty_code, parts_code}
+use Rattle.asl_rules.specs.declarations.Scopes.{Counted, Storage, Standing, Stored, Subprogram, TypeName, Label, Entry}
+use Rattle.asl_types.specs.private.Codes.{ty_code}
 
 -- ---- kinds
 
@@ -142,18 +140,3 @@ entry_code = code_by (List ℕ × Standing) (coded× (coded_list coded_ℕ) stan
 
 abbrev pub entries_code : Coded (List Entry)
 entries_code = coded_list entry_code
-
--- ---- subprograms
-
-abbrev pub param_code : Coded Param
-param_code = code_by (ℕ × Option types.Ty) (coded× coded_ℕ (coded_option ty_code)) (λ p. (p.atom, p.ty)) (λ q. record { atom = q.0; ty = q.1 }) (λ _. refl)
-
-abbrev pub signature_code : Coded Signature
-signature_code =
-    code_by (List ℕ × (Effect × (List Param × (types.Parts × (Option types.Ty × ℤ)))))
-    (coded× (coded_list coded_ℕ) (coded× effect_in_code.the_row.coded (coded× (coded_list param_code) (coded× parts_code (coded× (coded_option ty_code) coded_ℤ)))))
-    (λ f. (f.name, (f.class, (f.params, (f.formals, (f.result, f.limit))))))
-    (λ q. record { name = q.0; class = q.1.0; params = q.1.1.0; formals = q.1.1.1.0; result = q.1.1.1.1.0; limit = q.1.1.1.1.1 }) (λ _. refl)
-
-abbrev pub signatures_code : Coded (List Signature)
-signatures_code = coded_list signature_code

@@ -1,6 +1,6 @@
 use Rattle.std.proofs.Common.{◌≡◌, [], drop}
 use Rattle.asl_rules.specs.Tests.{Tests}
-use Rattle.asl_types.specs.private.ContextView.{scope_of}
+use Rattle.asl_subprograms.specs.private.ContextView.{scope_of}
 use Rattle.asl_types.specs.Suits.{Suits}
 use Rattle.asl_decl.specs.private.HeadTypes.{formals_after}
 use Rattle.asl_decl.proofs.heads.type_formals.Given as goal

@@ -6,7 +6,7 @@ use Rattle.asl_rules.specs.runs.Trees.{own}
 use Rattle.asl_rules.specs.types.Types.{Ty, substitute}
 use Rattle.asl_rules.specs.expressions.Typing.{finish_all}
 use Rattle.asl_types.specs.private.Answers.{Met}
-use Rattle.asl_written.specs.private.Steps.{after}
+use Rattle.asl_widths.specs.private.Steps.{after}
 use Rattle.asl_tree.specs.View.{typed_of, all_operands}
 use Rattle.asl_expr.specs.CallViews.{all_given, replacing_of}
 use Rattle.asl_expr.proofs.Stepping.{both_went, both_stop}

@@ -5,7 +5,7 @@ use Rattle.asl_rules.specs.declared.effect.Effect.{Effect}
 use Rattle.asl_types.specs.private.Answers.{Met}
 use Rattle.asl_tree.specs.View.{tree_of, all_operands}
 use Rattle.asl_expr.specs.CallViews.{all_given, replacing_of, effect_of}
-use Rattle.asl_written.specs.private.Steps.{after}
+use Rattle.asl_widths.specs.private.Steps.{after}
 use Rattle.asl_expr.proofs.CallArms.{procedure_is, procedure_refused}
 use Rattle.asl_expr.proofs.calls.procedure_called.Goals as goal
 

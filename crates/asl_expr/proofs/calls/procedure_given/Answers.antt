@@ -2,7 +2,7 @@ use Rattle.std.proofs.Common.{◌≡◌, map, Ok, Err, rules, subst}
 use Rattle.asl_rules.specs.expressions.Calls.{widths_rule}
 use Rattle.asl_rules.specs.expressions.Exprs.{found}
 use Rattle.asl_types.specs.private.Answers.{Met}
-use Rattle.asl_types.specs.private.ContextView.{scope_of}
+use Rattle.asl_subprograms.specs.private.ContextView.{scope_of}
 use Rattle.asl_tree.specs.View.{all_operands}
 use Rattle.asl_expr.specs.CallViews.{called_of, replacing_of}
 use Rattle.asl_expr.proofs.Stepping.{went, stops}

@@ -3,7 +3,7 @@ use Rattle.asl_rules.specs.expressions.Calls.{function_of}
 use Rattle.asl_rules.specs.expressions.Exprs.{found}
 use Rattle.asl_rules.specs.declarations.Routines.{routine_named}
 use Rattle.asl_types.specs.private.Answers.{Met}
-use Rattle.asl_types.specs.private.ContextView.{scope_of}
+use Rattle.asl_subprograms.specs.private.ContextView.{scope_of}
 use Rattle.asl_shape.specs.View.{routine_of}
 use Rattle.asl_tree.specs.View.{typed_of, all_operands}
 use Rattle.asl_expr.proofs.Stepping.{then_went}

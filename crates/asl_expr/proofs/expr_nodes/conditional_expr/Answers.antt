@@ -1,4 +1,4 @@
-use Rattle.asl_types.specs.private.ContextView.{scope_of}
+use Rattle.asl_subprograms.specs.private.ContextView.{scope_of}
 use Rattle.asl_expr.proofs.Notes.{conditional_by}
 use Rattle.asl_expr.proofs.expr_nodes.conditional_expr.Goals as goal
 

@@ -1,5 +1,5 @@
 use Rattle.asl_tree.specs.View.{all_operands}
-use Rattle.asl_types.specs.private.ContextView.{scope_of}
+use Rattle.asl_subprograms.specs.private.ContextView.{scope_of}
 use Rattle.asl_expr.proofs.Values.{construct_by}
 use Rattle.asl_expr.proofs.expr_nodes.construct_expr.Goals as goal
 

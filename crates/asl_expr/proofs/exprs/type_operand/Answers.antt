@@ -1,4 +1,4 @@
-use Rattle.asl_types.specs.private.ContextView.{scope_of}
+use Rattle.asl_subprograms.specs.private.ContextView.{scope_of}
 use Rattle.asl_expr.proofs.Notes.{operand_at}
 use Rattle.asl_expr.proofs.exprs.type_operand.Goals as goal
 

@@ -2,7 +2,7 @@ use Rattle.std.proofs.Common.{◌≡◌, drop, map}
 use Rattle.asl_rules.specs.expressions.Exprs.{found}
 use Rattle.asl_rules.specs.Tests.{Tests}
 use Rattle.asl_rules.specs.expressions.Typing.{operands}
-use Rattle.asl_types.specs.private.ContextView.{scope_of}
+use Rattle.asl_subprograms.specs.private.ContextView.{scope_of}
 use Rattle.asl_types.specs.Suits.{Suits}
 use Rattle.asl_tree.specs.private.Ends.{behind_operands}
 use Rattle.asl_expr.proofs.operand_lists.operands_below.Given as goal

@@ -2,7 +2,7 @@ use Rattle.std.proofs.Common.{◌≡◌, drop}
 use Rattle.asl_rules.specs.expressions.Slicing as rules
 use Rattle.asl_rules.specs.statements.Targets.{found_slices}
 use Rattle.asl_rules.specs.Tests.{Tests}
-use Rattle.asl_types.specs.private.ContextView.{scope_of}
+use Rattle.asl_subprograms.specs.private.ContextView.{scope_of}
 use Rattle.asl_types.specs.Suits.{Suits}
 use Rattle.asl_expr.proofs.SliceLemmas.{behind}
 use Rattle.asl_expr.proofs.operand_lists.slices_below.Given as goal

@@ -2,7 +2,7 @@ use Rattle.std.proofs.Common.{◌≡◌, drop}
 use Rattle.asl_rules.specs.expressions.Exprs.{values_given}
 use Rattle.asl_rules.specs.Tests.{Tests}
 use Rattle.asl_rules.specs.expressions.Typing.{operands}
-use Rattle.asl_types.specs.private.ContextView.{scope_of}
+use Rattle.asl_subprograms.specs.private.ContextView.{scope_of}
 use Rattle.asl_types.specs.Suits.{Suits}
 use Rattle.asl_typing.specs.private.Constructs.{found_fields}
 use Rattle.asl_tree.specs.private.Ends.{behind_operands}

@@ -4,7 +4,7 @@ use Rattle.std.proofs.Common.{arith}
 use Rattle.asl_syn.specs.declared.code.Fault.{Fault}
 use Rattle.asl_rules.specs.expressions.Calls.{Replacing}
 use Rattle.asl_types.specs.private.Answers.{Met}
-use Rattle.asl_types.specs.private.ContextView.{scope_of}
+use Rattle.asl_subprograms.specs.private.ContextView.{scope_of}
 use Rattle.asl_tree.specs.View.{all_operands}
 use Rattle.asl_expr.specs.CallViews.{replacing_of}
 use Rattle.asl_expr.proofs.ParamLemmas.{widths_written}

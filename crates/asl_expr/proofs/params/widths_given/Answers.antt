@@ -2,9 +2,9 @@ use Rattle.std.proofs.Common.{rules, arith, Result, sym, subst}
 use Rattle.asl_syn.specs.declared.code.Fault.{Fault}
 use Rattle.asl_rules.specs.expressions.Calls.{Replacing}
 use Rattle.asl_types.specs.private.Answers.{Met}
-use Rattle.asl_types.specs.private.ContextView.{scope_of}
+use Rattle.asl_subprograms.specs.private.ContextView.{scope_of}
 use Rattle.asl_expr.specs.CallViews.{replacing_of}
-use Rattle.asl_written.specs.WidthViews.{width_of}
+use Rattle.asl_widths.specs.WidthViews.{width_of}
 use Rattle.asl_expr.proofs.ParamLemmas.{written_next, written_opened, written_last}
 use Rattle.asl_expr.proofs.params.widths_given.Goals as goal
 

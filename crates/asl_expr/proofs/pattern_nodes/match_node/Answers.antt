@@ -1,4 +1,4 @@
-use Rattle.asl_types.specs.private.ContextView.{scope_of}
+use Rattle.asl_subprograms.specs.private.ContextView.{scope_of}
 use Rattle.asl_expr.proofs.PatternArms.{range_met}
 use Rattle.asl_expr.proofs.Falling.{set_matching, tuple_matching}
 use Rattle.asl_expr.proofs.pattern_nodes.match_node.Goals as goal

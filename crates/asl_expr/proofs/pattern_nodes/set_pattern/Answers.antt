@@ -1,4 +1,4 @@
-use Rattle.asl_types.specs.private.ContextView.{scope_of}
+use Rattle.asl_subprograms.specs.private.ContextView.{scope_of}
 use Rattle.asl_expr.specs.PatternViews.{found_patterns}
 use Rattle.asl_expr.proofs.PatternArms.{set_is}
 use Rattle.asl_expr.proofs.pattern_nodes.set_pattern.Goals as goal

@@ -1,7 +1,7 @@
 use Rattle.std.proofs.Common.{◌≡◌, List, Err, rules}
 use Rattle.std.specs.Borrow.{Bor}
 use Rattle.asl_types.specs.declared.ty.Ty.{Ty}
-use Rattle.asl_types.specs.private.ContextView.{scope_of}
+use Rattle.asl_subprograms.specs.private.ContextView.{scope_of}
 use Rattle.asl_types.specs.View.{parts_of}
 use Rattle.asl_expr.specs.PatternViews.{found_patterns}
 use Rattle.asl_expr.proofs.PatternArms.{tuple_is, tuple_refused, tuple_stopped}

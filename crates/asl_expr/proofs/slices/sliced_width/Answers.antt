@@ -1,5 +1,5 @@
 use Rattle.std.proofs.Common.{◌≡◌, Err, arith, rules}
-use Rattle.asl_types.specs.private.ContextView.{scope_of}
+use Rattle.asl_subprograms.specs.private.ContextView.{scope_of}
 use Rattle.asl_expr.proofs.SliceLemmas.{sum_goes, sum_refused, sum_whole}
 use Rattle.asl_expr.proofs.slices.sliced_width.Goals as goal
 

@@ -3,7 +3,7 @@ use Rattle.asl_rules.specs.expressions.Slicing as rules
 use Rattle.asl_rules.specs.statements.Targets.{found_slices}
 use Rattle.asl_rules.specs.Tests.{Tests}
 use Rattle.asl_rules.specs.types.Widths.{Total}
-use Rattle.asl_types.specs.private.ContextView.{scope_of}
+use Rattle.asl_subprograms.specs.private.ContextView.{scope_of}
 use Rattle.asl_types.specs.private.Totals.{IsTotal}
 use Rattle.asl_expr.proofs.slices.sliced_width.Given as goal
 

@@ -1,6 +1,6 @@
 use Rattle.std.proofs.Common.{◌≡◌, [], drop}
 use Rattle.asl_rules.specs.Tests.{Tests}
-use Rattle.asl_types.specs.private.ContextView.{scope_of}
+use Rattle.asl_subprograms.specs.private.ContextView.{scope_of}
 use Rattle.asl_types.specs.Suits.{Suits}
 use Rattle.asl_judge.specs.private.Definitions.{fields_after}
 use Rattle.asl_judge.proofs.definitions.fields_in_order.Given as goal

@@ -1,7 +1,7 @@
 use Rattle.std.proofs.Common.{sym, subst}
 use Rattle.asl_rules.specs.declarations.Declarations.{is_var}
 use Rattle.asl_types.specs.private.Answers.{Met}
-use Rattle.asl_types.specs.private.ContextView.{scope_of}
+use Rattle.asl_subprograms.specs.private.ContextView.{scope_of}
 use Rattle.asl_judge.specs.private.Brought.{initial_of}
 use Rattle.asl_judge.proofs.StorageLemmas.{both_is}
 use Rattle.asl_judge.proofs.storage.of_both.Goals as goal

@@ -1,5 +1,5 @@
 use Rattle.asl_bits.specs.declared.TheConstants.{WIDTH_LIMIT}
-use Rattle.asl_types.specs.private.ContextView.{scope_of}
+use Rattle.asl_subprograms.specs.private.ContextView.{scope_of}
 use Rattle.asl_judge.proofs.ValueLemmas.{known_within}
 use Rattle.asl_judge.proofs.values.known.Goals as goal
 

@@ -5,7 +5,7 @@ use Rattle.asl_value.specs.private.Answers.{Is}
 use Rattle.asl_value.specs.View.{value_of}
 use Rattle.asl_shape.specs.private.FillingView.{type_taken}
 use Rattle.asl_shape.specs.View.{type_of}
-use Rattle.asl_shape.proofs.Converts.{first_is}
+use Rattle.asl_shape.proofs.WrittenFirsts.{first_is}
 use Rattle.asl_shape.proofs.written.first_of.Goals as goal
 
 pub returns-in-Some : goal.returns-in-Some

@@ -7,8 +7,8 @@ use Rattle.asl_rules.specs.expressions.Exprs.{found, width}
 use Rattle.asl_rules.specs.statements.Locals.{counted_as}
 use Rattle.asl_rules.specs.declarations.Scopes.{Counted, next_atom}
 use Rattle.asl_types.specs.private.Answers.{Met}
-use Rattle.asl_types.specs.private.ContextView.{scope_of}
-use Rattle.asl_written.specs.WidthViews.{width_of}
+use Rattle.asl_subprograms.specs.private.ContextView.{scope_of}
+use Rattle.asl_widths.specs.WidthViews.{width_of}
 use Rattle.asl_stmt.specs.private.Views.{body_of}
 use Rattle.asl_stmt.proofs.counted.counted_as.Goals as goal
 

@@ -1,7 +1,7 @@
 use Rattle.std.proofs.Common.{rules, arith, Result, sym, subst}
 use Rattle.asl_syn.specs.declared.code.Fault.{Fault}
 use Rattle.asl_types.specs.private.Answers.{Met}
-use Rattle.asl_types.specs.private.ContextView.{scope_of}
+use Rattle.asl_subprograms.specs.private.ContextView.{scope_of}
 use Rattle.asl_written.specs.private.Constraints.{Gathered, gathered_view, part_view}
 use Rattle.asl_written.proofs.ConstraintLemmas.{parts_next, parts_opened, parts_last}
 use Rattle.asl_written.proofs.constraints.all_parts.Goals as goal

@@ -2,7 +2,7 @@ use Rattle.std.proofs.Common.{◌≡◌, drop, Ok}
 use Rattle.asl_rules.specs.Faults.{◌>>=◌}
 use Rattle.asl_rules.specs.Tests.{Tests}
 use Rattle.asl_rules.specs.types.Writing as rules
-use Rattle.asl_types.specs.private.ContextView.{scope_of}
+use Rattle.asl_subprograms.specs.private.ContextView.{scope_of}
 use Rattle.asl_written.specs.private.Constraints.{found_parts, gathered_view, gathered, behind_parts}
 use Rattle.asl_written.proofs.constraints.all_parts.Given as goal
 

@@ -2,7 +2,7 @@ use Rattle.std.proofs.Common.{rules, Result, sym, subst}
 use Rattle.asl_syn.specs.declared.code.Fault.{Fault}
 use Rattle.asl_rules.specs.types.Writing as rule
 use Rattle.asl_types.specs.private.Answers.{Met}
-use Rattle.asl_types.specs.private.ContextView.{scope_of}
+use Rattle.asl_subprograms.specs.private.ContextView.{scope_of}
 use Rattle.asl_written.specs.private.Constraints.{found_parts}
 use Rattle.asl_written.specs.WrittenViews.{written_of}
 use Rattle.asl_written.proofs.ConstraintLemmas.{integer_by}

@@ -4,8 +4,8 @@ use Rattle.asl_syn.specs.declared.code.Fault.{Fault}
 use Rattle.asl_rules.specs.expressions.Exprs.{found}
 use Rattle.asl_rules.specs.types.Writing as rule
 use Rattle.asl_types.specs.private.Answers.{Met}
-use Rattle.asl_types.specs.private.ContextView.{scope_of}
-use Rattle.asl_written.specs.WidthViews.{width_of}
+use Rattle.asl_subprograms.specs.private.ContextView.{scope_of}
+use Rattle.asl_widths.specs.WidthViews.{width_of}
 use Rattle.asl_written.specs.private.WrittenFields.{found_bitfields}
 use Rattle.asl_written.specs.WrittenViews.{written_of}
 use Rattle.asl_written.proofs.FieldLemmas.{bits_by}

@@ -1,7 +1,7 @@
 use Rattle.std.proofs.Common.{rules, arith, Result, sym, subst}
 use Rattle.asl_syn.specs.declared.code.Fault.{Fault}
 use Rattle.asl_types.specs.private.Answers.{Met}
-use Rattle.asl_types.specs.private.ContextView.{scope_of}
+use Rattle.asl_subprograms.specs.private.ContextView.{scope_of}
 use Rattle.asl_written.specs.private.WrittenFields.{FieldsSeen, field_view, fields_view}
 use Rattle.asl_written.proofs.FieldLemmas.{fields_next, fields_opened, fields_last}
 use Rattle.asl_written.proofs.written_fields.all_fields.Goals as goal

@@ -1,0 +1,2 @@
+pub mod WidthViews
+pub mod private
