@@ -1,11 +1,3 @@
-pub mod Answering
-pub mod GlobalLines
 pub mod ReadingLemmas
 pub mod Reports
 pub mod Roomy
-pub mod RunLemmas
-pub mod Statuses
-pub mod Grown
-pub mod Programs
-pub mod WordRuns
-pub mod WordLemmas

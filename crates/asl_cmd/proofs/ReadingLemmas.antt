@@ -1,21 +1,18 @@
--- The files one after another, and what any reader makes of them.
-use Rattle.std.proofs.Common.{◌≡◌, ◌∙◌, ℕ, zero, suc, ◌+◌, ◌<◌, ◌≤◌, List, ◌++◌, [], ◌∷◌, map, drop, length, get_or, Option, Some, None, refl, sym, ap, subst, String, string_bytes, lt-ltb, le-ltb, add-one, drop-cons, append-nil, length-append, arith, drop_of_length-le, Global, Result}
+-- The files one after another.
+use Rattle.std.proofs.Common.{◌≡◌, ◌∙◌, ℕ, zero, suc, ◌+◌, ◌<◌, ◌≤◌, List, ◌++◌, [], ◌∷◌, map, drop, length, get_or, Option, Some, None, refl, sym, ap, subst, String, string_bytes, lt-ltb, le-ltb, add-one, drop-cons, append-nil, length-append, arith, drop_of_length-le, Global}
 use Rattle.std.specs.Prelude.{IfSome}
 use Rattle.std.specs.List.{All}
 use Rattle.std.proofs.lemmas.List.{get_or-map, length-map}
 use Rattle.std.proofs.lemmas.List.{map-append}
 use Rattle.std.proofs.lemmas.List.Elements.{All-append}
 use Rattle.asl_syn.specs.Command.{Command, usage, check, run, exec, self, names_of, sources_of}
-use Rattle.asl_syn.specs.declared.code.Fault.{Fault}
 use Rattle.asl_syn.specs.declared.place.Source.{Source}
-use Rattle.asl_syn.specs.declared.tree.Decl.{Decl}
-use Rattle.asl_grammar.specs.Reading.{Reads, Reader, IsReading}
-use Rattle.asl_grammar.proofs.OneProgram.{one_answer}
 use Rattle.asl_rules.specs.report.Texts.{Text, File}
 use Rattle.asl_rules.specs.report.Report.{Reading, all, long, with_file, read_by}
 use Rattle.asl_cmd.specs.declared.reading.One.{One}
 use Rattle.asl_cmd.specs.declared.reading.One.TheVariants as one
-use Rattle.asl_cmd.specs.private.Model.{file_of, IsOne, IsShortOne, AreShort}
+use Rattle.asl_answer.specs.private.Model.{file_of, AreShort}
+use Rattle.asl_cmd.specs.private.Model.{IsOne, IsShortOne}
 
 -- the files that were read, before what came of the others
 abbrev pub prepend : List File → Reading → Reading
@@ -121,11 +118,6 @@ next_within i n l = omega (arith, l)
 
 pub all_within : (k i n : ℕ) → k ≤ i → i ≤ n → n ≤ 64 → k ≤ 64
 all_within k i n p q r = omega (arith, p, q, r)
-
--- ---- what any reader makes of the files
-
-pub read_as : (files : List File) (r : Result (List Decl) Fault) → Reads files r → (read : Reader) → IsReading read → read files ≡ r
-read_as files r it read is = one_answer files (read files) r (is files) it
 
 -- ---- the names that are sure
 

@@ -7,7 +7,8 @@ use Rattle.asl_grammar.specs.Reading.{Reader}
 use Rattle.asl_rules.specs.report.Report.{Answer, answer, Reading, all, long, many, is_long, read_files, on_files, on_list, report_of}
 use Rattle.asl_rules.specs.Tests.{Tests}
 use Rattle.asl_rules.specs.report.Texts.{Text, File, long_line}
-use Rattle.asl_cmd.specs.private.Report.{Came, whole, too_long, list_behind, without_list, came_of, check_answer, run_answer, exec_answer, list_answer, answer_on_files, answer_of}
+use Rattle.asl_answer.specs.private.Report.{Came, whole, too_long, check_answer, run_answer, exec_answer, list_answer, answer_on_files, answer_of}
+use Rattle.asl_cmd.specs.private.Reading.{list_behind, without_list, came_of}
 
 -- ---- the report, by the two steps of the code
 

@@ -3,9 +3,9 @@ use Rattle.std.proofs.Common.{◌≡◌, ℕ, ◌<◌, ◌≤◌, ◌+◌, ◌++
 use Rattle.asl_io.specs.Faults.{Rises, room_where_none_fails}
 use Rattle.asl_io.specs.private.Filled.{filled_room}
 use Rattle.asl_io.specs.Told.{Takes, TakesPrefix}
-use Rattle.asl_cmd.specs.declared.status.Status.{Status}
-use Rattle.asl_cmd.specs.declared.status.Status.TheVariants as status
-use Rattle.asl_cmd.specs.Writes.{code_of}
+use Rattle.asl_answer.specs.declared.status.Status.{Status}
+use Rattle.asl_answer.specs.declared.status.Status.TheVariants as status
+use Rattle.asl_answer.specs.Statuses.{code_of}
 
 pub risen : (before after : ℕ) → before ≡ 0 → Rises before after → 0 < after
 risen before after none (inl more) = omega (arith, none, more)

@@ -6,10 +6,10 @@ ghost use Rattle.asl_grammar.specs.Reading.{Reader, IsReading};
 ghost use Rattle.asl_rules.specs.Tests.{Tests};
 ghost use Rattle.asl_types.specs.Suits.{Suits};
 ghost use Rattle.asl_rules.specs.report.Report.{report_of};
-ghost use Rattle.asl_cmd.specs.Writes.{code_of};
+ghost use Rattle.asl_answer.specs.Statuses.{code_of};
 
-use crate::status::Status;
 use crate::top::asl;
+use asl_answer::Status;
 use asl_io::{MemSink, Sink, SureFiles};
 use std::alloc::{AllocError, Global};
 

@@ -3,12 +3,13 @@ ghost use Rattle.std.specs.Prelude.{◌≡◌, ◌<◌, All, IfOk, IfSome, IsErr
 ghost use Rattle.asl_syn.specs.Command.{names_of, sources_of};
 ghost use Rattle.asl_rules.specs.report.Report.{read_by};
 ghost use Rattle.asl_line.specs.private.Model.{meaning_of};
-ghost use Rattle.asl_cmd.specs.private.Model.{came_in, reading_of, AreShortSources, IsShort, IsOne, IsShortOne};
-ghost use Rattle.asl_cmd.specs.private.Report.{came_of, list_behind};
-ghost use Rattle.asl_cmd.specs.private.Report as report;
-ghost use Rattle.asl_cmd.specs.Writes.{HasCause};
+ghost use Rattle.asl_answer.specs.private.Model.{came_in, IsShort};
+ghost use Rattle.asl_answer.specs.private.Writes.{HasCause};
+ghost use Rattle.asl_cmd.specs.private.Reading.{came_of, list_behind};
+ghost use Rattle.asl_cmd.specs.private.Reading as rules;
+ghost use Rattle.asl_cmd.specs.private.Model.{reading_of, AreShortSources, IsOne, IsShortOne};
 
-use crate::status::Stop;
+use asl_answer::{Reading, Stop};
 use asl_io::{Files, ReadAnswer, read_file};
 use asl_line::Line;
 use asl_syn::place::{MAX_BYTES, Source};
@@ -16,17 +17,6 @@ use std::alloc::Global;
 
 /// The greatest number of source files of a command.
 const MAX_FILES: usize = 64;
-
-/// What came of the reading.
-#[derive(Drop)]
-pub enum Reading {
-    /// All files were read: the source files, in the order of the words, and the bytes of the word list, none where the command has none.
-    All(Vec<Source>, Vec<u8>),
-    /// The file of this name is the first that is too long.
-    Long(String),
-    /// There are more than 64 source files; none was opened.
-    Many,
-}
 
 /// What came of the source files.
 #[derive(Drop)]
@@ -120,7 +110,7 @@ fn read_list<F: Files>(
 /// The source files without a word list.
 fn without_list(alloc: Global, sources: Sources) -> Reading
     requires { AreShortSources sources }
-    ensures reading { came_in result ≡ report.without_list (reading_of sources) }
+    ensures reading { came_in result ≡ rules.without_list (reading_of sources) }
     ensures short { IsShort result }
 {
     match sources {

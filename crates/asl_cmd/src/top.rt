@@ -8,11 +8,10 @@ ghost use Rattle.asl_grammar.specs.Reading.{Reader, IsReading};
 ghost use Rattle.asl_rules.specs.Tests.{Tests};
 ghost use Rattle.asl_types.specs.Suits.{Suits};
 ghost use Rattle.asl_rules.specs.report.Report.{report_of};
-ghost use Rattle.asl_cmd.specs.Writes.{code_of};
+ghost use Rattle.asl_answer.specs.Statuses.{code_of};
 
-use crate::answer::write_answer;
 use crate::reading::read_line;
-use crate::status::{Status, Stop};
+use asl_answer::{Status, Stop, write_answer};
 use asl_io::{Files, Sink};
 use asl_line::parse;
 use std::alloc::Global;

@@ -1,4 +1,4 @@
-//! Tests of public calls of the other crates, where no clause says what they test. Most tests are rows of `asl_rows`; here
+//! Tests of public calls of the other crates, where no clause says what they test. Most tests are rows of `tests/rows.txt`; here
 //! stands what no program's text shows. A long table is given by a function of its own, since the proof of a function goes at
 //! each step over all that it holds.
 #![tactic(auto)]

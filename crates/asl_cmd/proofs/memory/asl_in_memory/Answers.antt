@@ -1,6 +1,6 @@
 use Rattle.std.proofs.Common.{rules, ◌≡◌, Some}
 use Rattle.asl_io.specs.Faults.{room_where_none_fails}
-use Rattle.asl_cmd.specs.declared.status.Status.TheVariants as status
+use Rattle.asl_answer.specs.declared.status.Status.TheVariants as status
 use Rattle.asl_cmd.proofs.Roomy.{risen, roomy, settled}
 use Rattle.asl_cmd.proofs.memory.asl_in_memory.Goals as goal
 

@@ -1,7 +1,7 @@
 use Rattle.std.proofs.Common.{◌≡◌, ◌≤◌, ℕ, List, length, map, drop, Some, string_bytes}
 use Rattle.asl_rules.specs.report.Report.{read_by}
 use Rattle.asl_cmd.proofs.ReadingLemmas.{prepend}
-use Rattle.asl_cmd.specs.private.Model.{file_of, AreShort}
+use Rattle.asl_answer.specs.private.Model.{file_of, AreShort}
 use Rattle.asl_cmd.proofs.reading.read_all.Given as goal
 
 -- the files so far, and then what the others come to, are what all come to

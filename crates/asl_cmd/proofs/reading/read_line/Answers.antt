@@ -2,7 +2,7 @@ use Rattle.std.proofs.Common.{◌≡◌, List, ℕ, subst, sym, string_bytes, Is
 use Rattle.std.specs.List.{All}
 use Rattle.std.proofs.lemmas.Result.{err_from_is_err_and}
 use Rattle.asl_line.specs.private.Model.{meaning_of}
-use Rattle.asl_cmd.specs.declared.status.Stop.TheVariants.{Fault}
+use Rattle.asl_answer.specs.declared.status.Stop.TheVariants.{Fault}
 use Rattle.asl_cmd.proofs.ReadingLemmas.{All-unmap, sources_sure}
 use Rattle.asl_cmd.proofs.reading.read_line.Goals as goal
 

@@ -1,14 +1,14 @@
 use Rattle.std.proofs.Common.{◌≡◌, ◌∙◌, inr, sym, map, string_bytes}
 use Rattle.asl_line.specs.Line.{line_of}
 use Rattle.asl_line.specs.private.Model.{meaning_of}
-use Rattle.asl_cmd.specs.private.Model.{came_in}
+use Rattle.asl_answer.specs.private.Model.{came_in}
 use Rattle.asl_cmd.proofs.ReadingLemmas.{IfSome-at}
 use Rattle.asl_io.specs.Told.{Takes}
-use Rattle.asl_cmd.specs.Writes.{code_of}
+use Rattle.asl_answer.specs.Statuses.{code_of}
 use Rattle.asl_cmd.proofs.Reports.{of_report, written_prefix, prefix_written}
 use Rattle.asl_grammar.proofs.OneProgram.{some_reader}
-use Rattle.asl_cmd.proofs.Grown.{some_suits}
-use Rattle.asl_cmd.proofs.Statuses.{not_read, not_write, usage_alone}
+use Rattle.asl_answer.proofs.Grown.{some_suits}
+use Rattle.asl_answer.proofs.Statuses.{not_read, not_write, usage_alone}
 use Rattle.asl_cmd.proofs.top.asl.Goals as goal
 
 pub returns-in-Ok-write_answer-clause-whole : goal.returns-in-Ok-write_answer-clause-whole

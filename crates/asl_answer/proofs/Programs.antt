@@ -1,0 +1,77 @@
+-- What any reader makes of files, and the answers for programs that were checked.
+use Rattle.std.proofs.Common.{◌≡◌, ℕ, List, [], ◌∷◌, Option, Result, Ok, sym, ap, ◌∙◌, subst}
+use Rattle.asl_syn.specs.declared.code.Fault.{Fault}
+use Rattle.asl_syn.specs.declared.tree.Decl.{Decl}
+use Rattle.asl_rules.specs.private.Grown.{AreGrown}
+use Rattle.asl_rules.specs.declarations.Programs.{verdict, Accepted}
+use Rattle.asl_grammar.specs.Reading.{IsReading, Reader, Reads}
+use Rattle.asl_grammar.proofs.OneProgram.{one_answer}
+use Rattle.asl_rules.specs.report.Report.{Answer, made_file, on_made, on_reading, on_verdict}
+use Rattle.asl_rules.specs.Tests.{Tests}
+use Rattle.asl_rules.specs.report.Texts.{File, Text}
+use Rattle.asl_rules.specs.declared.entry.Entry.{Entry}
+use Rattle.asl_rules.specs.declared.entry.Entry.TheVariants.{Main, Decode}
+use Rattle.asl_rules.proofs.basics.Inversions.{ok_ok, bind_ok}
+use Rattle.asl_types.specs.Suits.{Suits}
+use Rattle.asl_check.specs.private.Verdicts.{IsVerdict}
+use Rattle.asl_tree.specs.Sealed.{Sealed}
+use Rattle.asl_answer.specs.declared.status.Stop.{Stop}
+use Rattle.asl_answer.specs.declared.status.Status.{Status}
+use Rattle.asl_answer.specs.private.Ends.{Starts, Decodes}
+use Rattle.asl_answer.specs.private.Report.{self_answer}
+use Rattle.asl_answer.specs.private.Writes.{Answers}
+
+pub read_as : (files : List File) (r : Result (List Decl) Fault) → Reads files r → (read : Reader) → IsReading read → read files ≡ r
+read_as files r it read is = one_answer files (read files) r (is files) it
+
+-- what was accepted of declarations with an entry, which is this
+record IsAccepted (t : Tests) (e : Entry) (ds : List Decl) (main : Option ℕ) : Type 0 where
+  accepted : Accepted
+  is : verdict e ds t ≡ Ok accepted
+  main_is : accepted.main ≡ main
+
+accepted_with : (t : Tests) (e : Entry) (ds : List Decl) (c : Sealed) → IsVerdict t e ds (Ok c) → IsAccepted t e ds c.main
+accepted_with t e ds c h =
+    let b = bind_ok (verdict e ds t) (λ a. Ok a.main) c.main h.1.1 in
+    record { accepted = b.value; is = b.first; main_is = ok_ok b.value.main c.main b.then }
+
+-- a program that was checked with the entry `main` can be run
+pub starts : (t : Tests) → Suits t → (ds : List Decl) (c : Sealed) → AreGrown ds → IsVerdict t Main ds (Ok c) → Starts t c
+starts t u ds c grown h =
+    let a = accepted_with t Main ds c h in
+    record {
+      grown = subst AreGrown (sym h.0) grown;
+      asked = h.1.0;
+      accepted = a.accepted;
+      is = ap (λ e. verdict e c.decls t) h.1.0 ∙ ap (λ zs. verdict Main zs t) h.0 ∙ a.is;
+      main = a.main_is;
+    }
+
+-- and one that was checked with the entry `decode` can be run on words
+pub decodes : (t : Tests) → Suits t → (ds : List Decl) (c : Sealed) → AreGrown ds → IsVerdict t Decode ds (Ok c) → Decodes t c
+decodes t u ds c grown h =
+    let a = accepted_with t Decode ds c h in
+    record {
+      grown = subst AreGrown (sym h.0) grown;
+      asked = h.1.0;
+      accepted = a.accepted;
+      is = ap (λ e. verdict e c.decls t) h.1.0 ∙ ap (λ zs. verdict Decode zs t) h.0 ∙ a.is;
+      main = a.main_is;
+    }
+
+-- what comes of a program that was accepted
+pub answered : (t : Tests) (e : Entry) (files : List File) (ds : List Decl) (c : Sealed) (go : List Decl → Option ℕ → Answer) (r : Result Status Stop) (old new : Option (List ℕ)) → IsVerdict t e ds (Ok c) →
+    Answers r old new (go c.decls c.main) → Answers r old new (on_verdict files (go ds) (verdict e ds t))
+answered t e files ds c go r old new h answers =
+    let a = accepted_with t e ds c h in
+    subst (λ v. Answers r old new (on_verdict files (go ds) v)) (sym a.is)
+    (subst (λ m. Answers r old new (go ds m)) (sym a.main_is)
+    (subst (λ zs. Answers r old new (go zs c.main)) h.0 answers))
+
+-- what comes of a made text that was read so
+pub made_read : (t : Tests) (read : Reader) → IsReading read → (number size : ℕ) (text bytes : Text) (file : File) (made : Result (List Decl) Fault) (r : Result Status Stop) (old new : Option (List ℕ)) → bytes ≡ text → file ≡ made_file text → Reads (file ∷ []) made
+    → Answers r old new (on_reading (file ∷ []) (on_made t number size bytes (file ∷ [])) made) → Answers r old new (self_answer t read number size text)
+made_read t read is number size text bytes file made r old new bytes_are file_is reads answers =
+    subst (λ f. Answers r old new (on_reading (f ∷ []) (on_made t number size text (f ∷ [])) (read (f ∷ [])))) file_is
+    (subst (λ b. Answers r old new (on_reading (file ∷ []) (on_made t number size b (file ∷ [])) (read (file ∷ [])))) bytes_are
+    (subst (λ m. Answers r old new (on_reading (file ∷ []) (on_made t number size bytes (file ∷ [])) m)) (sym (read_as (file ∷ []) made reads read is)) answers))
