@@ -1,5 +1,5 @@
 -- Texts that are split at bytes, and at the commas outside brackets: those between commas stay in one part.
-use Rattle.std.proofs.Common.{◌≡◌, ℕ, suc, ◌+◌, ◌-◌, ◌==◌, Bool, true, false, ◌&&◌, ◌||◌, not, List, [], ◌∷◌, ◌++◌, map, drop, refl, sym}
+use Rattle.std.proofs.Common.{◌≡◌, ℕ, suc, ◌-◌, ◌==◌, Bool, true, false, ◌&&◌, ◌||◌, not, List, [], ◌∷◌, ◌++◌, map, drop, refl, sym}
 use Rattle.std.proofs.Common.{ap, ◌∙◌, subst, append_assoc, arith}
 use Rattle.std.specs.Prelude.{if◌then◌else◌, codes}
 use Rattle.std.specs.Str.{bytes_eq}
@@ -12,7 +12,7 @@ use Rattle.std.specs.Prelude.{is_some}
 use Rattle.asl_rules.specs.report.Texts.{Text}
 use Rattle.asl_rules.proofs.basics.Tests.{both, and_true, or_first, or_second}
 use Rattle.asl_laws.specs.certificates.Texts.{with_commas}
-use Rattle.asl_laws.specs.certificates.Format.{begins, inside, byte_first, is_opening, is_closing, level, outer_parts, is_digit, is_number}
+use Rattle.asl_laws.specs.certificates.Format.{begins, byte_first, is_opening, is_closing, level, outer_parts, is_digit, is_number}
 use Rattle.asl_laws.specs.certificates.Format.{is_name, is_star, in_order, is_term_of, is_term, term_in, terms_rise, is_sign, without_minus}
 use Rattle.asl_laws.specs.certificates.Format.{is_width}
 use Rattle.asl_laws.proofs.certificates.Lines.{same_nat, nat_same}
