@@ -20,8 +20,7 @@ use Rattle.asl_syn.specs.declared.tree.Func.{Func}
 use Rattle.asl_syn.specs.declared.tree.Decl.{Decl}
 use Rattle.asl_syn.specs.declared.tree.Decl.TheVariants as dc
 use Rattle.asl_rules.specs.declarations.UsedNames.{Uses, of_value, of_subprogram, of_type, joined, expr_uses, pattern_uses, slice_uses}
-use Rattle.asl_rules.specs.declarations.UsedNames.{type_uses}
-use Rattle.asl_rules.specs.declarations.UsedNames.{maybe_expr_uses, maybe_type_uses, formal_uses, def_uses, supertype_uses}
+use Rattle.asl_rules.specs.declarations.UsedNames.{type_uses, maybe_expr_uses, maybe_type_uses, formal_uses, def_uses, supertype_uses}
 
 -- ---- statements
 

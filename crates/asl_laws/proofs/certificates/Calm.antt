@@ -1,19 +1,18 @@
 -- Texts that are split at bytes, and at the commas outside brackets: those between commas stay in one part.
-use Rattle.std.proofs.Common.{◌≡◌, ℕ, suc, ◌-◌, ◌==◌, Bool, true, false, ◌&&◌, ◌||◌, not, List, [], ◌∷◌, ◌++◌, map, drop, refl, sym}
-use Rattle.std.proofs.Common.{ap, ◌∙◌, subst, append_assoc, arith}
-use Rattle.std.specs.Prelude.{if◌then◌else◌, codes}
+use Rattle.std.proofs.Common.{◌≡◌, ℕ, suc, ◌-◌, ◌==◌, Bool, true, false, ◌&&◌, ◌||◌, not, List, [], ◌∷◌, ◌++◌, map, drop, refl, sym, ap}
+use Rattle.std.proofs.Common.{◌∙◌, subst, append_assoc, arith}
+use Rattle.std.specs.Prelude.{if◌then◌else◌, codes, is_some}
 use Rattle.std.specs.Str.{bytes_eq}
 use Rattle.std.specs.List.{list_all, slice_split, onto_first}
 use Rattle.std.proofs.lemmas.Slice.Eq.{bytes_eq-Decides}
 use Rattle.std.proofs.lemmas.Bool.Decides.{nat_tests}
 use Rattle.asl_grammar.specs.lexemes.Bytes.{is_name_start, is_name_byte}
 use Rattle.asl_grammar.specs.lexemes.Words.{word_of}
-use Rattle.std.specs.Prelude.{is_some}
 use Rattle.asl_rules.specs.report.Texts.{Text}
 use Rattle.asl_rules.proofs.basics.Tests.{both, and_true, or_first, or_second}
 use Rattle.asl_laws.specs.certificates.Texts.{with_commas}
-use Rattle.asl_laws.specs.certificates.Format.{begins, byte_first, is_opening, is_closing, level, outer_parts, is_digit, is_number}
-use Rattle.asl_laws.specs.certificates.Format.{is_name, is_star, in_order, is_term_of, is_term, term_in, terms_rise, is_sign, without_minus}
+use Rattle.asl_laws.specs.certificates.Format.{begins, byte_first, is_opening, is_closing, level, outer_parts, is_digit, is_number, is_name}
+use Rattle.asl_laws.specs.certificates.Format.{is_star, in_order, is_term_of, is_term, term_in, terms_rise, is_sign, without_minus}
 use Rattle.asl_laws.specs.certificates.Format.{is_width}
 use Rattle.asl_laws.proofs.certificates.Lines.{same_nat, nat_same}
 use Rattle.asl_laws.proofs.certificates.Spellings.{no_way, either_is, begins_is}

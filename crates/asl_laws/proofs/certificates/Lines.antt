@@ -1,7 +1,7 @@
 -- Lines against bytes: stages go well against bytes exactly where these begin with the lines of the stages.
 use Rattle.std.proofs.Common.{◌≡◌, ℕ, suc, ◌+◌, ◌==◌, Bool, true, false, List, [], ◌∷◌, ◌++◌, length, Option, Some, None, Result, Ok, Err}
 use Rattle.std.proofs.Common.{refl, sym, ap, ◌∙◌, subst, append_assoc, arith}
-use Rattle.std.specs.Prelude.{if◌then◌else◌}
+use Rattle.std.specs.Prelude.{if◌then◌else◌, codes}
 use Rattle.std.proofs.lemmas.Bool.Decides.{nat_tests}
 use Rattle.asl_syn.specs.declared.code.Fault.{Fault}
 use Rattle.asl_rules.specs.report.Texts.{Text}
@@ -11,7 +11,6 @@ use Rattle.asl_laws.specs.certificates.Certificates.{with_feed, all_lines, certi
 use Rattle.asl_laws.specs.certificates.Certificates.{refused, behind_text, next, next_by, step, all_next, behind_lines, against}
 use Rattle.asl_laws.specs.certificates.Certificates.{unless_refused, stages_against, lines_between, nothing_in, nothing_behind, ended_by}
 use Rattle.asl_laws.specs.certificates.Certificates.{begun, verified_by, AllGo, StagesLaw}
-use Rattle.std.specs.Prelude.{codes}
 
 -- ---- answers
 

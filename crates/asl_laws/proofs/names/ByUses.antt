@@ -15,10 +15,8 @@ use Rattle.asl_syn.specs.declared.tree.Bitfield.TheFolds.{fold-roll-Expr, fold-r
 use Rattle.asl_syn.specs.declared.tree.Bitfield.TheFolds.{fold-roll-TypeExpr, map-Bitfield, map-ConstraintPart, map-Expr, map-FieldValue}
 use Rattle.asl_syn.specs.declared.tree.Bitfield.TheFolds.{map-Pattern, map-Slice, map-TypeExpr}
 use Rattle.asl_rules.specs.declarations.UsedNames.{Use, Uses, of_value, of_subprogram, of_type, Each, joined, in_bitfield, in_part, in_expr}
-use Rattle.asl_rules.specs.declarations.UsedNames.{in_field}
-use Rattle.asl_rules.specs.declarations.UsedNames.{in_pattern, in_slice, in_type, bitfield_uses, part_uses, given_uses, expr_uses}
-use Rattle.asl_rules.specs.declarations.UsedNames.{pattern_uses}
-use Rattle.asl_rules.specs.declarations.UsedNames.{slice_uses, type_uses}
+use Rattle.asl_rules.specs.declarations.UsedNames.{in_field, in_pattern, in_slice, in_type, bitfield_uses, part_uses, given_uses, expr_uses}
+use Rattle.asl_rules.specs.declarations.UsedNames.{pattern_uses, slice_uses, type_uses}
 use Rattle.asl_laws.proofs.names.Induction as induction
 
 -- ---- lists of uses

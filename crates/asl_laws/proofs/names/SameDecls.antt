@@ -33,17 +33,15 @@ use Rattle.asl_rules.specs.expressions.Exprs.{found, found_type}
 use Rattle.asl_rules.specs.declarations.Barred.{at_var, barred_at, barred}
 use Rattle.asl_rules.specs.statements.Locals.{itself}
 use Rattle.asl_rules.specs.declarations.Declarations.{in_names, fields_written, once, def_rule, supertype_rule, reached, is_none}
-use Rattle.asl_rules.specs.declarations.Declarations.{type_entries}
-use Rattle.asl_rules.specs.declarations.Declarations.{evaluated, with_type, unannotated, first_in, known, storage_rule, is_var, decl_rule}
+use Rattle.asl_rules.specs.declarations.Declarations.{type_entries, evaluated, with_type, unannotated, first_in, known, storage_rule}
+use Rattle.asl_rules.specs.declarations.Declarations.{is_var, decl_rule}
 use Rattle.asl_rules.specs.declarations.Programs.{Head, params_free, formals_free, param_written, param_entry, params_rule, formals_rule}
-use Rattle.asl_rules.specs.declarations.Programs.{result_rule}
-use Rattle.asl_rules.specs.declarations.Programs.{limit_typed, params_are_integers, as_number, limit_rule, with_formals, class_of}
-use Rattle.asl_rules.specs.declarations.Programs.{signature_rule}
-use Rattle.asl_rules.specs.declarations.Programs.{body_rule}
+use Rattle.asl_rules.specs.declarations.Programs.{result_rule, limit_typed, params_are_integers, as_number, limit_rule, with_formals}
+use Rattle.asl_rules.specs.declarations.Programs.{class_of, signature_rule, body_rule}
 use Rattle.asl_rules.proofs.basics.Tests.{some_none}
 use Rattle.asl_rules.specs.declarations.UsedNames.{Use, Uses, of_value, of_subprogram, of_type, or_else, first_said, Each, expr_uses}
-use Rattle.asl_rules.specs.declarations.UsedNames.{type_uses}
-use Rattle.asl_rules.specs.declarations.UsedNames.{maybe_expr_uses, maybe_type_uses, formal_uses, def_uses, supertype_uses, decl_uses}
+use Rattle.asl_rules.specs.declarations.UsedNames.{type_uses, maybe_expr_uses, maybe_type_uses, formal_uses, def_uses, supertype_uses}
+use Rattle.asl_rules.specs.declarations.UsedNames.{decl_uses}
 use Rattle.asl_laws.specs.StmtUses.{param_uses, head_uses, body_uses}
 use Rattle.asl_laws.proofs.names.ByUses.{each_first, each_second, each_map}
 use Rattle.asl_laws.proofs.names.SameExprs.{SameAt, scope_at, expr_in, written_in, expr_same}

@@ -26,8 +26,7 @@ use Rattle.asl_rules.specs.types.Shapes as shape
 use Rattle.asl_rules.specs.runs.Trees as tree
 use Rattle.asl_rules.specs.declarations.Routines.{Routine, routine_named}
 use Rattle.asl_rules.specs.declarations.Scopes.{Scope, Entry, Signature, Standing, Stored, Subprogram, TypeName, Label, standing_of}
-use Rattle.asl_rules.specs.declarations.Scopes.{storage_in, type_in}
-use Rattle.asl_rules.specs.declarations.Scopes.{is_subprogram, is_absent, reading, choose}
+use Rattle.asl_rules.specs.declarations.Scopes.{storage_in, type_in, is_subprogram, is_absent, reading, choose}
 use Rattle.asl_rules.specs.declarations.Layouts.{slot_of, layout_of}
 use Rattle.asl_rules.specs.types.Widths.{Total, width_of_standing, number_of_standing, storage_has_atom, totalled}
 use Rattle.asl_rules.specs.expressions.Typing.{Found, Typed, Operand, operand, operands, types_of, in_class, width_as, number_as}
@@ -39,11 +38,10 @@ use Rattle.asl_rules.specs.expressions.Patterns.{FoundPattern, matched, all_matc
 use Rattle.asl_rules.specs.expressions.Patterns.{pattern_trees}
 use Rattle.asl_rules.specs.values.Members.{construction}
 use Rattle.asl_rules.specs.expressions.Calls.{given, written_first, widths_given, widths_rule, routine_taken, routine_params}
-use Rattle.asl_rules.specs.expressions.Calls.{routine_called}
-use Rattle.asl_rules.specs.expressions.Calls.{function_called, function_of, procedure_called, procedure_of, function_rule, procedure_rule}
+use Rattle.asl_rules.specs.expressions.Calls.{routine_called, function_called, function_of, procedure_called, procedure_of, function_rule}
+use Rattle.asl_rules.specs.expressions.Calls.{procedure_rule}
 use Rattle.asl_rules.specs.expressions.Exprs.{FoundField, name_of_standing, tuple_with, values_given, names_given, expr_rule, given_rule}
-use Rattle.asl_rules.specs.expressions.Exprs.{slice_rule}
-use Rattle.asl_rules.specs.expressions.Exprs.{part_rule, bitfield_rule, type_rule, pattern_rule, found, found_type, found_slice}
+use Rattle.asl_rules.specs.expressions.Exprs.{slice_rule, part_rule, bitfield_rule, type_rule, pattern_rule, found, found_type, found_slice}
 use Rattle.asl_rules.specs.expressions.Exprs.{found_pattern}
 use Rattle.asl_rules.specs.declarations.UsedNames.{Use, of_value, of_subprogram, of_type, Each, expr_uses, pattern_uses, slice_uses}
 use Rattle.asl_rules.specs.declarations.UsedNames.{type_uses}

@@ -5,8 +5,7 @@ use Rattle.std.proofs.Common.{arith}
 use Rattle.std.specs.Str.{bytes_eq}
 use Rattle.asl_rules.specs.types.Types.{Parts}
 use Rattle.asl_rules.specs.declarations.Scopes.{Entry, Signature, Standing, Stored, Subprogram, TypeName, Label, standing_of, is_absent}
-use Rattle.asl_rules.specs.declarations.Scopes.{is_free}
-use Rattle.asl_rules.specs.declarations.Scopes.{is_local, next_atom, choose}
+use Rattle.asl_rules.specs.declarations.Scopes.{is_free, is_local, next_atom, choose}
 use Rattle.asl_rules.specs.declarations.Layouts.{Layout, slot_of, layout_of, local_name, global_name, local_names, global_names}
 use Rattle.asl_rules.specs.declarations.UsedNames.{Use, Uses, of_value, of_subprogram, of_type, Each}
 use Rattle.asl_laws.proofs.names.ByUses.{each_map}

@@ -41,23 +41,19 @@ use Rattle.asl_rules.specs.types.Writing.{range_rule}
 use Rattle.asl_rules.specs.expressions.Patterns.{pattern_shapes, pattern_trees}
 use Rattle.asl_rules.specs.expressions.Exprs.{found, found_type}
 use Rattle.asl_rules.specs.statements.Acting.{Done, FoundStmt, FoundOtherwise, Listed, LastListed, done, ended, ended_in, listed, act_first}
-use Rattle.asl_rules.specs.statements.Acting.{in_order}
-use Rattle.asl_rules.specs.statements.Acting.{block, last_block, expr_at, operand_of, fits, condition}
+use Rattle.asl_rules.specs.statements.Acting.{in_order, block, last_block, expr_at, operand_of, fits, condition}
 use Rattle.asl_rules.specs.statements.Locals.{itself, declared, Initialised, initialised_with, initialised, initialised_as, counted_as}
-use Rattle.asl_rules.specs.statements.Locals.{type_declared}
-use Rattle.asl_rules.specs.statements.Locals.{part_declared, written_or, taken, binders_free, bound_parts, bound_in, bound, names_rule}
+use Rattle.asl_rules.specs.statements.Locals.{type_declared, part_declared, written_or, taken, binders_free, bound_parts, bound_in, bound}
+use Rattle.asl_rules.specs.statements.Locals.{names_rule}
 use Rattle.asl_rules.specs.statements.Targets.{place_effects, writings, tree_places, all_parts_fit, assign_rule, found_target}
 use Rattle.asl_rules.specs.statements.Branches.{FoundBranch, TypedBranch, branch_rule, branches, branch_conditions, branch_effect}
-use Rattle.asl_rules.specs.statements.Branches.{branch_effects}
-use Rattle.asl_rules.specs.statements.Branches.{branch_trees, branching, FoundAlternative, TypedAlternative, all_patterns, where_rule}
-use Rattle.asl_rules.specs.statements.Branches.{alternative_rule, alternatives, where_condition, where_conditions, effect_of, tree_in}
-use Rattle.asl_rules.specs.statements.Branches.{alternative_effects, alternative_trees, choosing, limit_typed, limit_fits, of_range}
-use Rattle.asl_rules.specs.statements.Branches.{index_type}
-use Rattle.asl_rules.specs.statements.Branches.{index_rule, for_ended, FoundCatcher, TypedCatcher, with_caught, catcher_rule, catchers}
-use Rattle.asl_rules.specs.statements.Branches.{catcher_effects, catcher_trees, try_ended}
+use Rattle.asl_rules.specs.statements.Branches.{branch_effects, branch_trees, branching, FoundAlternative, TypedAlternative, all_patterns}
+use Rattle.asl_rules.specs.statements.Branches.{where_rule, alternative_rule, alternatives, where_condition, where_conditions, effect_of}
+use Rattle.asl_rules.specs.statements.Branches.{tree_in, alternative_effects, alternative_trees, choosing, limit_typed, limit_fits}
+use Rattle.asl_rules.specs.statements.Branches.{of_range, index_type, index_rule, for_ended, FoundCatcher, TypedCatcher, with_caught}
+use Rattle.asl_rules.specs.statements.Branches.{catcher_rule, catchers, catcher_effects, catcher_trees, try_ended}
 use Rattle.asl_rules.specs.statements.Stmts.{invoked, returned, return_rule, throw_rule, text_first, value_first, items_rule}
-use Rattle.asl_rules.specs.statements.Stmts.{stmt_layer_rule}
-use Rattle.asl_rules.specs.statements.Stmts.{branch_found, alternative_found, catcher_found, otherwise_found, found_stmt}
+use Rattle.asl_rules.specs.statements.Stmts.{stmt_layer_rule, branch_found, alternative_found, catcher_found, otherwise_found, found_stmt}
 use Rattle.asl_rules.specs.declarations.UsedNames.{Use, of_subprogram, Each, joined, expr_uses, pattern_uses, type_uses, maybe_expr_uses}
 use Rattle.asl_rules.specs.declarations.UsedNames.{maybe_type_uses}
 use Rattle.asl_laws.specs.StmtUses.{target_uses, item_uses, stmt_uses}

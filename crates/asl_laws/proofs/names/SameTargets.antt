@@ -23,10 +23,8 @@ use Rattle.asl_rules.specs.types.Widths.{Total, totalled}
 use Rattle.asl_rules.specs.expressions.Exprs.{found, found_slice}
 use Rattle.asl_rules.specs.declarations.UsedNames.{Uses, of_value, Each, joined, slice_uses}
 use Rattle.asl_rules.specs.statements.Targets.{TypedSuffix, by_slices, by_element, up_to, found_slices, typed_suffix, typed_suffixes}
-use Rattle.asl_rules.specs.statements.Targets.{behind}
-use Rattle.asl_rules.specs.statements.Targets.{behind_suffix, reached, behind_suffixes, TypedPlace, FoundTarget, inside, all_places}
-use Rattle.asl_rules.specs.statements.Targets.{one_place}
-use Rattle.asl_rules.specs.statements.Targets.{target_layer, found_target, placed, all_placed}
+use Rattle.asl_rules.specs.statements.Targets.{behind, behind_suffix, reached, behind_suffixes, TypedPlace, FoundTarget, inside, all_places}
+use Rattle.asl_rules.specs.statements.Targets.{one_place, target_layer, found_target, placed, all_placed}
 use Rattle.asl_rules.proofs.basics.Answering.{OfAnswer, behind as each_behind}
 use Rattle.asl_laws.specs.StmtUses.{suffix_uses, suffixes_uses, in_target, target_uses}
 use Rattle.asl_laws.proofs.names.ByUses.{each_first, each_second, found_list, kept_list}

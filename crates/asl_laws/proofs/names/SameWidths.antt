@@ -23,8 +23,7 @@ use Rattle.asl_rules.specs.types.Writing.{FoundPart, FoundBitfield, FoundType, a
 use Rattle.asl_rules.specs.types.Writing.{bits_written, tuple_written, named_written}
 use Rattle.asl_rules.specs.expressions.Patterns.{FoundPattern}
 use Rattle.asl_rules.specs.expressions.Exprs.{FoundField, expr_rule, given_rule, slice_rule, part_rule, bitfield_rule, type_rule}
-use Rattle.asl_rules.specs.expressions.Exprs.{pattern_rule}
-use Rattle.asl_rules.specs.expressions.Exprs.{found_type}
+use Rattle.asl_rules.specs.expressions.Exprs.{pattern_rule, found_type}
 use Rattle.asl_rules.specs.declarations.UsedNames.{Use, of_value, of_subprogram, of_type, Each, type_uses}
 use Rattle.asl_laws.proofs.names.ByUses as by_uses
 use Rattle.asl_laws.proofs.names.ByUses.{OwnExpr, OwnType}

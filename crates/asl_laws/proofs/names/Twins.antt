@@ -5,8 +5,7 @@ use Rattle.std.proofs.Common.{subst}
 use Rattle.std.specs.Str.{bytes_eq}
 use Rattle.asl_rules.specs.types.Types.{Parts, same_kinds}
 use Rattle.asl_rules.specs.declarations.Scopes.{Entry, Signature, Chosen, Standing, Stored, Subprogram, TypeName, Label, standing_of}
-use Rattle.asl_rules.specs.declarations.Scopes.{is_absent, is_free}
-use Rattle.asl_rules.specs.declarations.Scopes.{is_local, next_atom, with_entry, with_entries, choose_from}
+use Rattle.asl_rules.specs.declarations.Scopes.{is_absent, is_free, is_local, next_atom, with_entry, with_entries, choose_from}
 use Rattle.asl_rules.specs.declarations.Layouts.{local_name, global_name, local_names, global_names}
 use Rattle.asl_laws.proofs.names.SamePlaces.{SamePlaces}
 

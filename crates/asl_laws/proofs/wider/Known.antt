@@ -25,8 +25,8 @@ use Rattle.asl_laws.proofs.constants.KnownTwins.{AllOf, OfBitfield, OfPart, OfFi
 use Rattle.asl_laws.proofs.constants.KnownTwins.{bitfield_step, part_step, field_step, pattern_step, slice_step, type_step}
 use Rattle.asl_laws.proofs.wider.Steps.{Wider, wider_same, wider_bind, wider_narrow, wider_step}
 use Rattle.asl_laws.proofs.wider.Pures.{literal_wider, slices_wider, bitfields_wider, converted_wider, matched_in_wider}
-use Rattle.asl_laws.proofs.wider.Plans.{Relates, AllR, behind_widens, behind_all_widens, behind_more_widens, once_widens}
-use Rattle.asl_laws.proofs.wider.Plans.{operation_widens, conditional_widens, tuple_widens, element_widens, call_widens}
+use Rattle.asl_laws.proofs.wider.Plans.{Relates, AllR, behind_widens, behind_all_widens, behind_more_widens, once_widens, operation_widens}
+use Rattle.asl_laws.proofs.wider.Plans.{conditional_widens, tuple_widens, element_widens, call_widens}
 
 -- ---- the expressions in lists of parts
 

@@ -7,13 +7,11 @@ use Rattle.asl_syn.specs.declared.code.DynCode.TheVariants.{D12, D13}
 use Rattle.asl_syn.specs.declared.tree.BinaryOperator.{BinaryOperator}
 use Rattle.asl_rules.specs.values.Values.{Value, bool, Exit, tuple_with}
 use Rattle.asl_rules.specs.runs.Plans.{Meter, End, Faulted, Outcome, Done, Thrown, Halt, Plan, Ret, Raise, Stop, Eval, Exec, Put, Within}
-use Rattle.asl_rules.specs.runs.Plans.{choose}
-use Rattle.asl_rules.specs.runs.Plans.{follow, Meaning, handle, run, wrote, enter, Pure, Good, Bad, lift}
+use Rattle.asl_rules.specs.runs.Plans.{choose, follow, Meaning, handle, run, wrote, enter, Pure, Good, Bad, lift}
 use Rattle.asl_rules.specs.values.Operators.{truth, binary_value, Decided, Already, ByRight, Strictness, Strict, Lazy, strictness}
 use Rattle.asl_rules.specs.values.Structures.{element_of, values_of}
 use Rattle.asl_rules.specs.runs.Forms.{at_once, behind, behind_all, behind_more, eval_all, unless_decided, behind_left, operation}
-use Rattle.asl_rules.specs.runs.Forms.{branch_value}
-use Rattle.asl_rules.specs.runs.Forms.{conditional, tuple, element, call}
+use Rattle.asl_rules.specs.runs.Forms.{branch_value, conditional, tuple, element, call}
 use Rattle.asl_rules.specs.runs.StatementForms as forms
 use Rattle.asl_rules.specs.runs.StatementForms.{Frames, Ahead, ready, by_one, by_all, Store, Choice, eval_step, eval_steps, store_each}
 use Rattle.asl_rules.specs.runs.StatementForms.{assignment, with_value, with_values, alternatives, alternative, guarded, case_of, no_match}

@@ -21,14 +21,12 @@ use Rattle.asl_rules.specs.declarations.Routines.{Routine, Zeros, Ones, ZeroExte
 use Rattle.asl_rules.specs.values.Library.{copies, extended, routine_value}
 use Rattle.asl_rules.specs.values.Vectors.{Slicing, Places, literal_digits, literal_bits, width_of, ranged_width, widths_of, places_of}
 use Rattle.asl_rules.specs.values.Vectors.{total_width, within_limit, tested, slicings, slices_of, slice_places, with_slices}
-use Rattle.asl_rules.specs.values.Vectors.{places_of_fields}
-use Rattle.asl_rules.specs.values.Vectors.{bitfields_of, with_bitfields}
+use Rattle.asl_rules.specs.values.Vectors.{places_of_fields, bitfields_of, with_bitfields}
 use Rattle.asl_rules.specs.values.Matching.{matches, any_match, all_match, is_matched, value_match}
 use Rattle.asl_rules.specs.runs.ByNames.{matched_in}
 use Rattle.asl_rules.specs.types.Written.{Sized, SizedParts, SizedView, first_bits, first_elements, first_value, first_fields, first_parts}
 use Rattle.asl_rules.specs.types.Written.{filled, parts_filled, bits_filled, width_filled, all_bitfields, with_part, first_part}
-use Rattle.asl_rules.specs.types.Written.{tuple_filled}
-use Rattle.asl_rules.specs.types.Written.{array_filled, by_length, sized, type_of_sized, converted, of_kind_of}
+use Rattle.asl_rules.specs.types.Written.{tuple_filled, array_filled, by_length, sized, type_of_sized, converted, of_kind_of}
 use Rattle.asl_laws.proofs.wider.Steps.{Wider, wider_same, wider_equal, wider_narrow, wider_bind, wider_step, wider_cond, within_both}
 use Rattle.asl_laws.proofs.wider.Steps.{limit_wider}
 

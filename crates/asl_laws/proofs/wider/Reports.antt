@@ -20,10 +20,8 @@ use Rattle.asl_laws.specs.Soundness.{NotStuck}
 use Rattle.asl_rules.specs.report.Made.{made_text}
 use Rattle.asl_rules.specs.report.Texts.{Text, made_words}
 use Rattle.asl_rules.specs.report.Report.{Reading, all, long, many, Answer, is_long, on_files, on_words_read, on_list, read_files, begun}
-use Rattle.asl_rules.specs.report.Report.{worked}
-use Rattle.asl_rules.specs.report.Report.{words_answer, made_answer, run_answer, on_verdict, on_check, on_run, on_words, on_made}
-use Rattle.asl_rules.specs.report.Report.{on_reading}
-use Rattle.asl_rules.specs.report.Report.{made_file, report_of}
+use Rattle.asl_rules.specs.report.Report.{worked, words_answer, made_answer, run_answer, on_verdict, on_check, on_run, on_words, on_made}
+use Rattle.asl_rules.specs.report.Report.{on_reading, made_file, report_of}
 use Rattle.asl_laws.proofs.verdict.OneVerdict.{one_test}
 use Rattle.asl_laws.specs.Reported.{RunsWell, WordsNotStuck}
 use Rattle.asl_laws.specs.Wider.{FitsLimit, WordsFitLimit, NotTooWide, WordsNotTooWide, RunFits, WordsFit, Accepts, OnFiles, OnWords}

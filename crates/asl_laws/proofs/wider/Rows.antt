@@ -16,12 +16,9 @@ use Rattle.asl_rules.specs.Faults.{◌>>=◌, ◌>>◌, need, found_or, fitted}
 use Rattle.asl_rules.specs.Tests.{Tests}
 use Rattle.asl_rules.specs.types.Types as ty
 use Rattle.asl_rules.specs.types.Types.{Ty, Parts, Widths, View, no_part, part, tuple_parts, misfit, misfit_inside, misfit_of_parts}
-use Rattle.asl_rules.specs.types.Types.{or_else}
-use Rattle.asl_rules.specs.types.Types.{by_names, joined, join, same_kind, integer_of, boolean, bits_of, enumeration_of, record_of}
-use Rattle.asl_rules.specs.types.Types.{exception_of}
-use Rattle.asl_rules.specs.types.Types.{tuple_of, array_of, named, constraint_of, parts_of, element_of, width_of, is_bits, is_boolean}
-use Rattle.asl_rules.specs.types.Types.{substitute}
-use Rattle.asl_rules.specs.types.Types.{only_width}
+use Rattle.asl_rules.specs.types.Types.{or_else, by_names, joined, join, same_kind, integer_of, boolean, bits_of, enumeration_of, record_of}
+use Rattle.asl_rules.specs.types.Types.{exception_of, tuple_of, array_of, named, constraint_of, parts_of, element_of, width_of, is_bits}
+use Rattle.asl_rules.specs.types.Types.{is_boolean, substitute, only_width}
 use Rattle.asl_rules.specs.types.Effects.{together, greater, all_together, greatest}
 use Rattle.asl_rules.specs.declarations.Routines.{Routine, routine_named}
 use Rattle.asl_rules.specs.runs.Trees as tree
@@ -31,23 +28,19 @@ use Rattle.asl_rules.specs.expressions.Typing.{Found, Typed, Width, Operand, ope
 use Rattle.asl_rules.specs.expressions.Operations.{operation_of_two, binary_rule}
 use Rattle.asl_rules.specs.values.Members.{element_at, construction, constructed, given_once, all_fit}
 use Rattle.asl_rules.specs.expressions.Slicing.{FoundSlice, all_operands, all_add, no_width, sliced_width, sliceable, slices_behind}
-use Rattle.asl_rules.specs.expressions.Slicing.{slices_rule}
-use Rattle.asl_rules.specs.expressions.Slicing.{shapes_of, high_low_found}
+use Rattle.asl_rules.specs.expressions.Slicing.{slices_rule, shapes_of, high_low_found}
 use Rattle.asl_rules.specs.types.Writing.{FoundPart, FoundBitfield, FoundType, range_of_widths, range_of_numbers, range_rule, one_width}
 use Rattle.asl_rules.specs.types.Writing.{one_number, only_rule, all_parts, integer_written, integer_rule, end_rule, one_bit_rule}
-use Rattle.asl_rules.specs.types.Writing.{bit_range_rule}
-use Rattle.asl_rules.specs.types.Writing.{all_fields, view_rule, width_is_held, within_limits, bits_rule, types_in_order, tuple_written}
-use Rattle.asl_rules.specs.types.Writing.{array_rule, as_rule}
+use Rattle.asl_rules.specs.types.Writing.{bit_range_rule, all_fields, view_rule, width_is_held, within_limits, bits_rule, types_in_order}
+use Rattle.asl_rules.specs.types.Writing.{tuple_written, array_rule, as_rule}
 use Rattle.asl_rules.specs.expressions.Patterns.{FoundPattern, all_match, as_many, parts_match, mask_matched, pure_typed}
 use Rattle.asl_rules.specs.expressions.Patterns.{tuple_pattern_rule, in_rule}
 use Rattle.asl_rules.specs.expressions.Calls.{Given, Replacing, given, written_first, widths_given, widths_rule, replaced_by, fits_replaced}
 use Rattle.asl_rules.specs.expressions.Calls.{fits_written, params_fit, arguments_fit, both_fit, call_begun, chosen, routine_params}
-use Rattle.asl_rules.specs.expressions.Calls.{routine_taken}
-use Rattle.asl_rules.specs.expressions.Calls.{routine_called, function_called, function_of, function_rule, procedure_called, procedure_of}
-use Rattle.asl_rules.specs.expressions.Calls.{procedure_rule}
+use Rattle.asl_rules.specs.expressions.Calls.{routine_taken, routine_called, function_called, function_of, function_rule, procedure_called}
+use Rattle.asl_rules.specs.expressions.Calls.{procedure_of, procedure_rule}
 use Rattle.asl_rules.specs.expressions.Exprs.{FoundField, bits_rule_of, apart, conditional_of, conditional_rule, operation_rule_of_two}
-use Rattle.asl_rules.specs.expressions.Exprs.{tuple_rule}
-use Rattle.asl_rules.specs.expressions.Exprs.{values_given, names_given, construct_rule, element_rule}
+use Rattle.asl_rules.specs.expressions.Exprs.{tuple_rule, values_given, names_given, construct_rule, element_rule}
 use Rattle.asl_rules.specs.values.Vectors.{literal_digits, literal_of}
 use Rattle.asl_laws.proofs.wider.Steps.{within_both}
 use Rattle.asl_laws.proofs.wider.Stays.{Stays, stays_same, stays_equal, stays_bind, stays_step, stays_then, stays_after, stays_need}

@@ -49,10 +49,8 @@ use Rattle.asl_rules.specs.runs.Evaluation.{declare_first, sized_at, param_under
 use Rattle.asl_rules.specs.runs.Evaluation.{entering, run_body, run_with, result_at, under_written, limit_of, params_of, is_kind, takes}
 use Rattle.asl_rules.specs.runs.Evaluation.{width_over, overload, Numbered, call_one, call_named, called, expr_node, frames, choice_layer}
 use Rattle.asl_rules.specs.runs.Evaluation.{choice_in, otherwise_in, held, Step, into_field, into_fields, into_slices, into_element}
-use Rattle.asl_rules.specs.runs.Evaluation.{updated}
-use Rattle.asl_rules.specs.runs.Evaluation.{store_at, Stores, Assigning, assign_each, assigning_layer, assigned, stmt_node, meaning}
-use Rattle.asl_rules.specs.runs.Evaluation.{expr_span}
-use Rattle.asl_rules.specs.runs.Evaluation.{stmt_span}
+use Rattle.asl_rules.specs.runs.Evaluation.{updated, store_at, Stores, Assigning, assign_each, assigning_layer, assigned, stmt_node}
+use Rattle.asl_rules.specs.runs.Evaluation.{meaning, expr_span, stmt_span}
 use Rattle.asl_rules.specs.runs.Machines.{most_open, run_of}
 use Rattle.asl_rules.specs.runs.Words.{WordsEnd, AllReturned, WordThrew, WordHalted, behind_word, run_words, word_line, word_value}
 use Rattle.asl_rules.proofs.verdict.SameConstants.{pure_same}
@@ -63,8 +61,8 @@ use Rattle.asl_laws.proofs.wider.Pures.{with_slices_wider, bitfields_wider, with
 use Rattle.asl_laws.proofs.wider.Pures.{matched_in_wider, converted_wider}
 use Rattle.asl_laws.proofs.wider.Plans.{OutWider, NarrowEnd, out_same, WiderMeaning, Widens, SameExpr, runs_relate, StoresWider}
 use Rattle.asl_laws.proofs.wider.Plans.{AssignsWider, ChoiceWider, all_self, lift_widens, choose_widens, once_widens, behind_widens}
-use Rattle.asl_laws.proofs.wider.Plans.{behind_more_widens, operation_widens, call_widens, value_widens, values_widens}
-use Rattle.asl_laws.proofs.wider.Plans.{assignment_widens, case_widens, enter_wider}
+use Rattle.asl_laws.proofs.wider.Plans.{behind_more_widens, operation_widens, call_widens, value_widens, values_widens, assignment_widens}
+use Rattle.asl_laws.proofs.wider.Plans.{case_widens, enter_wider}
 use Rattle.asl_laws.proofs.wider.Known.{known_wider}
 
 module _ (env : Environment) (m : ℕ) (le : env.limit ≤ m) where

@@ -46,23 +46,16 @@ use Rattle.asl_rules.specs.expressions.Exprs.{found, found_slice, typed, written
 use Rattle.asl_rules.specs.statements.Acting.{FoundStmt, FoundOtherwise, in_order, block, last_block, act_first, ended, operand_of, fits}
 use Rattle.asl_rules.specs.statements.Acting.{reading_scope}
 use Rattle.asl_rules.specs.statements.Locals.{Initialised, initialised, initialised_as, counted_as, type_declared, bound, bind_rule}
-use Rattle.asl_rules.specs.statements.Locals.{vars_declared}
-use Rattle.asl_rules.specs.statements.Locals.{vars_rule, declared}
+use Rattle.asl_rules.specs.statements.Locals.{vars_declared, vars_rule, declared}
 use Rattle.asl_rules.specs.statements.Targets.{TypedSuffix, by_field, by_bitfields, by_slices, by_element, up_to, found_slices}
-use Rattle.asl_rules.specs.statements.Targets.{typed_suffix}
-use Rattle.asl_rules.specs.statements.Targets.{typed_suffixes, suffix_effects, all_suffix_effects, behind, behind_suffix, behind_suffixes}
-use Rattle.asl_rules.specs.statements.Targets.{reached}
-use Rattle.asl_rules.specs.statements.Targets.{TypedPlace, FoundTarget, inside, all_places, parts_count, all_count, target_layer}
-use Rattle.asl_rules.specs.statements.Targets.{found_target}
-use Rattle.asl_rules.specs.statements.Targets.{place_effects, Placed, assignable, placed_at, placed, all_placed, part_of, part_fits}
-use Rattle.asl_rules.specs.statements.Targets.{all_parts_fit}
-use Rattle.asl_rules.specs.statements.Targets.{assignment, assign_rule}
+use Rattle.asl_rules.specs.statements.Targets.{typed_suffix, typed_suffixes, suffix_effects, all_suffix_effects, behind, behind_suffix}
+use Rattle.asl_rules.specs.statements.Targets.{behind_suffixes, reached, TypedPlace, FoundTarget, inside, all_places, parts_count}
+use Rattle.asl_rules.specs.statements.Targets.{all_count, target_layer, found_target, place_effects, Placed, assignable, placed_at, placed}
+use Rattle.asl_rules.specs.statements.Targets.{all_placed, part_of, part_fits, all_parts_fit, assignment, assign_rule}
 use Rattle.asl_rules.specs.statements.Branches.{FoundBranch, FoundAlternative, FoundCatcher, branch_rule, branches, if_rule, all_patterns}
-use Rattle.asl_rules.specs.statements.Branches.{where_rule}
-use Rattle.asl_rules.specs.statements.Branches.{alternative_rule, alternatives, case_rule, limit_typed, of_range, index_type, with_index}
-use Rattle.asl_rules.specs.statements.Branches.{index_rule}
-use Rattle.asl_rules.specs.statements.Branches.{for_ended, for_rule, while_rule, repeat_rule, with_caught, catcher_rule, catchers, try_rule}
-use Rattle.asl_rules.specs.statements.Branches.{is_exception}
+use Rattle.asl_rules.specs.statements.Branches.{where_rule, alternative_rule, alternatives, case_rule, limit_typed, of_range, index_type}
+use Rattle.asl_rules.specs.statements.Branches.{with_index, index_rule, for_ended, for_rule, while_rule, repeat_rule, with_caught}
+use Rattle.asl_rules.specs.statements.Branches.{catcher_rule, catchers, try_rule, is_exception}
 use Rattle.asl_rules.specs.statements.Stmts.{invoke_rule, invoked, returned, return_rule, throw_rule, items_rule, text_first, value_first}
 use Rattle.asl_rules.specs.statements.Stmts.{stmt_layer_rule, branch_found, alternative_found, catcher_found, otherwise_found, found_stmt}
 use Rattle.asl_laws.proofs.wider.Stays.{Stays, stays_same, stays_equal, stays_bind, stays_step, stays_then, stays_after, StaysBy, by_ok}

@@ -33,10 +33,9 @@ use Rattle.asl_rules.specs.expressions.Slicing.{FoundSlice}
 use Rattle.asl_rules.specs.types.Writing.{FoundPart, FoundBitfield, FoundType}
 use Rattle.asl_rules.specs.expressions.Patterns.{FoundPattern, end_matched, value_matched, range_matched, set_matched, pure_typed}
 use Rattle.asl_rules.specs.expressions.Exprs.{FoundField, found, found_type, found_slice, found_pattern, typed_rule, width_rule}
-use Rattle.asl_rules.specs.expressions.Exprs.{number_rule, atom_rule}
-use Rattle.asl_rules.specs.expressions.Exprs.{written_rule, expr_rule, given_rule, slice_rule, part_rule, bitfield_rule, type_rule}
-use Rattle.asl_rules.specs.expressions.Exprs.{pattern_rule}
-use Rattle.asl_rules.specs.expressions.Exprs.{width_of_operation, number_of_operation, span_of, type_span}
+use Rattle.asl_rules.specs.expressions.Exprs.{number_rule, atom_rule, written_rule, expr_rule, given_rule, slice_rule, part_rule}
+use Rattle.asl_rules.specs.expressions.Exprs.{bitfield_rule, type_rule, pattern_rule, width_of_operation, number_of_operation, span_of}
+use Rattle.asl_rules.specs.expressions.Exprs.{type_span}
 use Rattle.asl_laws.proofs.wider.Stays.{Stays, stays_same, stays_bind, Pairs, pairs_of}
 use Rattle.asl_laws.proofs.wider.Rows.{FoundStays, SliceStays, GivenStays, TypeStays, PatternStays, PartSame, BitfieldSame, wide_tests}
 use Rattle.asl_laws.proofs.wider.Rows.{operands_stay, range_same, only_same, one_bit_same, bit_range_same, high_low_adds, second_adds}

@@ -37,18 +37,13 @@ use Rattle.asl_rules.specs.declarations.Barred.{barred}
 use Rattle.asl_rules.specs.statements.Acting.{in_order}
 use Rattle.asl_rules.specs.statements.Stmts.{found_stmt}
 use Rattle.asl_rules.specs.declarations.Declarations.{in_names, fields_written, def_rule, is_none, reached, supertype_rule, type_decl_rule}
-use Rattle.asl_rules.specs.declarations.Declarations.{evaluated}
-use Rattle.asl_rules.specs.declarations.Declarations.{known, first_in, storage_rule, is_var, decl_rule, Judged, Waiting, Fine, Faulty}
-use Rattle.asl_rules.specs.declarations.Declarations.{judged}
-use Rattle.asl_rules.specs.declarations.Declarations.{entries_of, entries, fine_where_used, all_fine, judged_by, still, judgement, final}
-use Rattle.asl_rules.specs.declarations.Declarations.{faulty}
-use Rattle.asl_rules.specs.declarations.Declarations.{faults_rule, names_of_program, globals_rule}
+use Rattle.asl_rules.specs.declarations.Declarations.{evaluated, known, first_in, storage_rule, is_var, decl_rule, Judged, Waiting, Fine}
+use Rattle.asl_rules.specs.declarations.Declarations.{Faulty, judged, entries_of, entries, fine_where_used, all_fine, judged_by, still}
+use Rattle.asl_rules.specs.declarations.Declarations.{judgement, final, faulty, faults_rule, names_of_program, globals_rule}
 use Rattle.asl_rules.specs.declarations.Programs.{environment, funcs_of, params_free, formals_free, param_written, param_entry, params_rule}
 use Rattle.asl_rules.specs.declarations.Programs.{formals_rule, result_rule, limit_typed, type_is_integer, params_are_integers, as_number}
-use Rattle.asl_rules.specs.declarations.Programs.{limit_of_expr}
-use Rattle.asl_rules.specs.declarations.Programs.{limit_rule, Head, signature_rule, signatures_rule, signatures, overloads_rule, body_of}
-use Rattle.asl_rules.specs.declarations.Programs.{body_rule}
-use Rattle.asl_rules.specs.declarations.Programs.{bodies_rule, Accepted, verdict}
+use Rattle.asl_rules.specs.declarations.Programs.{limit_of_expr, limit_rule, Head, signature_rule, signatures_rule, signatures}
+use Rattle.asl_rules.specs.declarations.Programs.{overloads_rule, body_of, body_rule, bodies_rule, Accepted, verdict}
 use Rattle.asl_rules.proofs.basics.Inversions.{then_ok, bind_ok}
 use Rattle.asl_laws.proofs.wider.Steps.{Wider, wider_good}
 use Rattle.asl_laws.proofs.wider.Pures.{first_wider}
