@@ -9,16 +9,16 @@ pub returns-in_err-name : goal.returns-in_err-name
 unfolding bind_name
 returns-in_err-name c =
     let e = local_bind_is c.args.depth (cursor_of c.args.tokens.now) in
-    search rules
+    first_of (search rules, grind (arith, common_steps))
 
 pub returns-in_ok-name : goal.returns-in_ok-name
 unfolding bind_name
 returns-in_ok-name c =
     let e = local_bind_is c.args.depth (cursor_of c.args.tokens.now) in
-    search rules
+    first_of (search rules, grind (arith, common_steps))
 
 pub returns-else-starts : goal.returns-else-starts
 unfolding bind_name
 returns-else-starts c =
     let e = local_bind_is c.args.depth (cursor_of c.args.tokens.now) in
-    search rules
+    first_of (search rules, grind (arith, common_steps))

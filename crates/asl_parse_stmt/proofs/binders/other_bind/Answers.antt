@@ -7,14 +7,14 @@ use Rattle.asl_parse_stmt.proofs.binders.other_bind.Goals as goal
 pub returns-in_err-no_binder : goal.returns-in_err-no_binder
 returns-in_err-no_binder c =
     let e = other_bind_is c.args.depth (cursor_of c.args.tokens.now) in
-    search rules
+    first_of (search rules, grind (arith, common_steps))
 
 pub returns-in_ok-no_binder : goal.returns-in_ok-no_binder
 returns-in_ok-no_binder c =
     let e = other_bind_is c.args.depth (cursor_of c.args.tokens.now) in
-    search rules
+    first_of (search rules, grind (arith, common_steps))
 
 pub returns-else-starts : goal.returns-else-starts
 returns-else-starts c =
     let e = other_bind_is c.args.depth (cursor_of c.args.tokens.now) in
-    search rules
+    first_of (search rules, grind (arith, common_steps))

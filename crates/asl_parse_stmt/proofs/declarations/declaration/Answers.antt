@@ -7,19 +7,19 @@ use Rattle.asl_parse_stmt.proofs.declarations.declaration.Goals as goal
 pub returns-then-starts : goal.returns-then-starts
 returns-then-starts c =
     let e = declaration_is c.args.depth (cursor_of c.args.tokens.now) in
-    search rules
+    first_of (search rules, grind (arith, common_steps))
 
 pub returns-then-starts-2 : goal.returns-then-starts-2
 returns-then-starts-2 c =
     let e = declaration_is c.args.depth (cursor_of c.args.tokens.now) in
-    search rules
+    first_of (search rules, grind (arith, common_steps))
 
 pub returns-then-starts-3 : goal.returns-then-starts-3
 returns-then-starts-3 c =
     let e = declaration_is c.args.depth (cursor_of c.args.tokens.now) in
-    search rules
+    first_of (search rules, grind (arith, common_steps))
 
 pub returns-else-starts-3 : goal.returns-else-starts-3
 returns-else-starts-3 c =
     let e = declaration_is c.args.depth (cursor_of c.args.tokens.now) in
-    search rules
+    first_of (search rules, grind (arith, common_steps))

@@ -7,19 +7,19 @@ use Rattle.asl_parse_stmt.proofs.declarations.fixed_kind.Goals as goal
 pub returns-in_err-take : goal.returns-in_err-take
 returns-in_err-take c =
     let e = fixed_kind_is c.args.depth (cursor_of c.args.tokens.now) in
-    search rules
+    first_of (search rules, grind (arith, common_steps))
 
 pub returns-in_err-take-2 : goal.returns-in_err-take-2
 returns-in_err-take-2 c =
     let e = fixed_kind_is c.args.depth (cursor_of c.args.tokens.now) in
-    search rules
+    first_of (search rules, grind (arith, common_steps))
 
 pub returns-in_ok-take : goal.returns-in_ok-take
 returns-in_ok-take c =
     let e = fixed_kind_is c.args.depth (cursor_of c.args.tokens.now) in
-    search rules
+    first_of (search rules, grind (arith, common_steps))
 
 pub returns-in_ok-take-2 : goal.returns-in_ok-take-2
 returns-in_ok-take-2 c =
     let e = fixed_kind_is c.args.depth (cursor_of c.args.tokens.now) in
-    search rules
+    first_of (search rules, grind (arith, common_steps))

@@ -7,34 +7,34 @@ use Rattle.asl_parse_stmt.proofs.declarations.function.Goals as goal
 pub returns-in_err-qualifier : goal.returns-in_err-qualifier
 returns-in_err-qualifier c =
     let e = function_by c.args.depth (cursor_of c.args.tokens.now) in
-    search rules
+    first_of (search rules, grind (arith, common_steps))
 
 pub returns-in_err-recursion_limit : goal.returns-in_err-recursion_limit
 returns-in_err-recursion_limit c =
     let e = function_by c.args.depth (cursor_of c.args.tokens.now) in
-    search rules
+    first_of (search rules, grind (arith, common_steps))
 
 pub returns-in_err-take : goal.returns-in_err-take
 returns-in_err-take c =
     let e = function_by c.args.depth (cursor_of c.args.tokens.now) in
-    search rules
+    first_of (search rules, grind (arith, common_steps))
 
 pub returns-in_err-body : goal.returns-in_err-body
 returns-in_err-body c =
     let e = function_by c.args.depth (cursor_of c.args.tokens.now) in
-    search rules
+    first_of (search rules, grind (arith, common_steps))
 
 pub returns-in_err-take-2 : goal.returns-in_err-take-2
 returns-in_err-take-2 c =
     let e = function_by c.args.depth (cursor_of c.args.tokens.now) in
-    search rules
+    first_of (search rules, grind (arith, common_steps))
 
 pub returns-in_err-take-3 : goal.returns-in_err-take-3
 returns-in_err-take-3 c =
     let e = function_by c.args.depth (cursor_of c.args.tokens.now) in
-    search rules
+    first_of (search rules, grind (arith, common_steps))
 
 pub returns : goal.returns
 returns c =
     let e = function_by c.args.depth (cursor_of c.args.tokens.now) in
-    search rules
+    first_of (search rules, grind (arith, common_steps))

@@ -9,34 +9,34 @@ pub returns-in_err-take : goal.returns-in_err-take
 unfolding typed_var
 returns-in_err-take c =
     let e = global_rest_is c.args.depth (cursor_of c.args.tokens.now) in
-    search rules
+    first_of (search rules, grind (arith, common_steps))
 
 pub returns-in_err-type_expression : goal.returns-in_err-type_expression
 unfolding typed_var
 returns-in_err-type_expression c =
     let e = global_rest_is c.args.depth (cursor_of c.args.tokens.now) in
-    search rules
+    first_of (search rules, grind (arith, common_steps))
 
 pub returns-in_err-init : goal.returns-in_err-init
 unfolding typed_var
 returns-in_err-init c =
     let e = global_rest_is c.args.depth (cursor_of c.args.tokens.now) in
-    search rules
+    first_of (search rules, grind (arith, common_steps))
 
 pub returns-in_err-init-2 : goal.returns-in_err-init-2
 unfolding typed_var
 returns-in_err-init-2 c =
     let e = global_rest_is c.args.depth (cursor_of c.args.tokens.now) in
-    search rules
+    first_of (search rules, grind (arith, common_steps))
 
 pub returns-in_ok-init : goal.returns-in_ok-init
 unfolding typed_var
 returns-in_ok-init c =
     let e = global_rest_is c.args.depth (cursor_of c.args.tokens.now) in
-    search rules
+    first_of (search rules, grind (arith, common_steps))
 
 pub returns-in_ok-init-2 : goal.returns-in_ok-init-2
 unfolding typed_var
 returns-in_ok-init-2 c =
     let e = global_rest_is c.args.depth (cursor_of c.args.tokens.now) in
-    search rules
+    first_of (search rules, grind (arith, common_steps))

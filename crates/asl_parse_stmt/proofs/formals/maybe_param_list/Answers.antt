@@ -7,9 +7,9 @@ use Rattle.asl_parse_stmt.proofs.formals.maybe_param_list.Goals as goal
 pub returns-then-not-starts : goal.returns-then-not-starts
 returns-then-not-starts c =
     let e = maybe_param_list_is c.args.depth (cursor_of c.args.tokens.now) in
-    search rules
+    first_of (search rules, grind (arith, common_steps))
 
 pub returns : goal.returns
 returns c =
     let e = maybe_param_list_is c.args.depth (cursor_of c.args.tokens.now) in
-    search rules
+    first_of (search rules, grind (arith, common_steps))

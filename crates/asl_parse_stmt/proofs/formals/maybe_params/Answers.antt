@@ -9,28 +9,28 @@ pub returns-then-not-starts : goal.returns-then-not-starts
 unfolding params
 returns-then-not-starts c =
     let e = maybe_params_is c.args.depth (cursor_of c.args.tokens.now) in
-    search rules
+    first_of (search rules, grind (arith, common_steps))
 
 pub returns-in_err-open : goal.returns-in_err-open
 unfolding params
 returns-in_err-open c =
     let e = maybe_params_is c.args.depth (cursor_of c.args.tokens.now) in
-    search rules
+    first_of (search rules, grind (arith, common_steps))
 
 pub returns-in_err-found : goal.returns-in_err-found
 unfolding params
 returns-in_err-found c =
     let e = maybe_params_is c.args.depth (cursor_of c.args.tokens.now) in
-    search rules
+    first_of (search rules, grind (arith, common_steps))
 
 pub returns-in_err-take : goal.returns-in_err-take
 unfolding params
 returns-in_err-take c =
     let e = maybe_params_is c.args.depth (cursor_of c.args.tokens.now) in
-    search rules
+    first_of (search rules, grind (arith, common_steps))
 
 pub returns : goal.returns
 unfolding params
 returns c =
     let e = maybe_params_is c.args.depth (cursor_of c.args.tokens.now) in
-    search rules
+    first_of (search rules, grind (arith, common_steps))

@@ -9,22 +9,22 @@ pub returns-then-not-starts : goal.returns-then-not-starts
 unfolding some_members no_members
 returns-then-not-starts c =
     let e = maybe_some_members_is c.args.depth (cursor_of c.args.tokens.now) in
-    search rules
+    first_of (search rules, grind (arith, common_steps))
 
 pub returns-in_err-take : goal.returns-in_err-take
 unfolding some_members no_members
 returns-in_err-take c =
     let e = maybe_some_members_is c.args.depth (cursor_of c.args.tokens.now) in
-    search rules
+    first_of (search rules, grind (arith, common_steps))
 
 pub returns-then-starts : goal.returns-then-starts
 unfolding some_members no_members
 returns-then-starts c =
     let e = maybe_some_members_is c.args.depth (cursor_of c.args.tokens.now) in
-    search rules
+    first_of (search rules, grind (arith, common_steps))
 
 pub returns : goal.returns
 unfolding some_members no_members
 returns c =
     let e = maybe_some_members_is c.args.depth (cursor_of c.args.tokens.now) in
-    search rules
+    first_of (search rules, grind (arith, common_steps))

@@ -7,9 +7,9 @@ use Rattle.asl_parse_stmt.proofs.printing.maybe_print_items.Goals as goal
 pub returns-then-not-starts : goal.returns-then-not-starts
 returns-then-not-starts c =
     let e = maybe_print_items_is c.args.depth (cursor_of c.args.tokens.now) in
-    search rules
+    first_of (search rules, grind (arith, common_steps))
 
 pub returns : goal.returns
 returns c =
     let e = maybe_print_items_is c.args.depth (cursor_of c.args.tokens.now) in
-    search rules
+    first_of (search rules, grind (arith, common_steps))

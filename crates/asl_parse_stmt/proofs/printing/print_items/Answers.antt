@@ -9,29 +9,29 @@ use Rattle.asl_parse_stmt.proofs.printing.print_items.Goals as goal
 pub loop-turn-preserved : goal.loop-turn-preserved
 loop-turn-preserved c =
     let e = one_more (λ n. run_more (reading c.args.depth print_item) n c.loop-turn.found (cursor_of c.loop-turn.tokens)) _ c.loop-turn._turn c.loop-turn-test.true c.loop-turn.invariant in
-    search rules
+    first_of (search rules, grind (arith, common_steps))
 
 pub loop-turn-init : goal.loop-turn-init
 loop-turn-init c =
     let e = print_items_is c.args.depth (cursor_of c.args.tokens.now) in
-    search rules
+    first_of (search rules, grind (arith, common_steps))
 
 pub returns-in_err-print_item : goal.returns-in_err-print_item
 returns-in_err-print_item c =
     let e = print_items_is c.args.depth (cursor_of c.args.tokens.now) in
-    search rules
+    first_of (search rules, grind (arith, common_steps))
 
 pub returns-then-not-starts : goal.returns-then-not-starts
 returns-then-not-starts c =
     let e = one_more (λ n. run_more (reading c.args.depth print_item) n c.loop-turn.found (cursor_of c.loop-turn.tokens)) _ c.loop-turn._turn c.loop-turn-test.true c.loop-turn.invariant in
-    search rules
+    first_of (search rules, grind (arith, common_steps))
 
 pub returns-in_err-take : goal.returns-in_err-take
 returns-in_err-take c =
     let e = one_more (λ n. run_more (reading c.args.depth print_item) n c.loop-turn.found (cursor_of c.loop-turn.tokens)) _ c.loop-turn._turn c.loop-turn-test.true c.loop-turn.invariant in
-    search rules
+    first_of (search rules, grind (arith, common_steps))
 
 pub returns-in_err-print_item-2 : goal.returns-in_err-print_item-2
 returns-in_err-print_item-2 c =
     let e = one_more (λ n. run_more (reading c.args.depth print_item) n c.loop-turn.found (cursor_of c.loop-turn.tokens)) _ c.loop-turn._turn c.loop-turn-test.true c.loop-turn.invariant in
-    search rules
+    first_of (search rules, grind (arith, common_steps))

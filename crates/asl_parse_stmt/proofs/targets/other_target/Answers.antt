@@ -7,9 +7,9 @@ use Rattle.asl_parse_stmt.proofs.targets.other_target.Goals as goal
 pub returns-then-starts : goal.returns-then-starts
 returns-then-starts c =
     let e = other_target_is c.args.depth (cursor_of c.args.tokens.now) in
-    search rules
+    first_of (search rules, grind (arith, common_steps))
 
 pub returns-else-starts : goal.returns-else-starts
 returns-else-starts c =
     let e = other_target_is c.args.depth (cursor_of c.args.tokens.now) in
-    search rules
+    first_of (search rules, grind (arith, common_steps))

@@ -7,14 +7,14 @@ use Rattle.asl_parse_expr.proofs.grammar.Grammar.after_minus.Goals as goal
 pub returns-then-starts : goal.returns-then-starts
 returns-then-starts g c =
     let e = after_minus_is c.args.self.now.depth c.args.minus (cursor_of c.args.tokens.now) in
-    search rules
+    first_of (search rules, grind (arith, common_steps))
 
 pub returns-in_err-parameters_after_minus : goal.returns-in_err-parameters_after_minus
 returns-in_err-parameters_after_minus g c =
     let e = after_minus_is c.args.self.now.depth c.args.minus (cursor_of c.args.tokens.now) in
-    search rules
+    first_of (search rules, grind (arith, common_steps))
 
 pub returns : goal.returns
 returns g c =
     let e = after_minus_is c.args.self.now.depth c.args.minus (cursor_of c.args.tokens.now) in
-    search rules
+    first_of (search rules, grind (arith, common_steps))

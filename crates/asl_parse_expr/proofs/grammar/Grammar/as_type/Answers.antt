@@ -7,9 +7,9 @@ use Rattle.asl_parse_expr.proofs.grammar.Grammar.as_type.Goals as goal
 pub returns-then-starts : goal.returns-then-starts
 returns-then-starts g c =
     let e = as_type_is c.args.self.now.depth (cursor_of c.args.tokens.now) in
-    search rules
+    first_of (search rules, grind (arith, common_steps))
 
 pub returns-else-starts : goal.returns-else-starts
 returns-else-starts g c =
     let e = as_type_is c.args.self.now.depth (cursor_of c.args.tokens.now) in
-    search rules
+    first_of (search rules, grind (arith, common_steps))

@@ -10,24 +10,24 @@ use Rattle.asl_parse_expr.proofs.grammar.Grammar.equality_rest.Goals as goal
 pub loop-turn-preserved : goal.loop-turn-preserved
 loop-turn-preserved g c =
     let e = one_more (λ n. run_chain (reading c.args.self.now.depth comparison) (kind.Equal ∷ kind.NotEqual ∷ []) (kind.Equal ∷ kind.NotEqual ∷ []) c.args.from n c.loop-turn.left (cursor_of c.loop-turn.tokens)) _ c.loop-turn._turn c.loop-turn-test.true c.loop-turn.invariant in
-    search rules
+    first_of (search rules, grind (arith, common_steps))
 
 pub loop-turn-init : goal.loop-turn-init
 loop-turn-init g c =
     let e = equality_rest_is c.args.self.now.depth c.args.from c.args.left (cursor_of c.args.tokens.now) in
-    search rules
+    first_of (search rules, grind (arith, common_steps))
 
 pub returns-in_err-right : goal.returns-in_err-right
 returns-in_err-right g c =
     let e = one_more (λ n. run_chain (reading c.args.self.now.depth comparison) (kind.Equal ∷ kind.NotEqual ∷ []) (kind.Equal ∷ kind.NotEqual ∷ []) c.args.from n c.loop-turn.left (cursor_of c.loop-turn.tokens)) _ c.loop-turn._turn c.loop-turn-test.true c.loop-turn.invariant in
-    search rules
+    first_of (search rules, grind (arith, common_steps))
 
 pub returns-in_err-operator : goal.returns-in_err-operator
 returns-in_err-operator g c =
     let e = one_more (λ n. run_chain (reading c.args.self.now.depth comparison) (kind.Equal ∷ kind.NotEqual ∷ []) (kind.Equal ∷ kind.NotEqual ∷ []) c.args.from n c.loop-turn.left (cursor_of c.loop-turn.tokens)) _ c.loop-turn._turn c.loop-turn-test.true c.loop-turn.invariant in
-    search rules
+    first_of (search rules, grind (arith, common_steps))
 
 pub returns-then-not-starts : goal.returns-then-not-starts
 returns-then-not-starts g c =
     let e = one_more (λ n. run_chain (reading c.args.self.now.depth comparison) (kind.Equal ∷ kind.NotEqual ∷ []) (kind.Equal ∷ kind.NotEqual ∷ []) c.args.from n c.loop-turn.left (cursor_of c.loop-turn.tokens)) _ c.loop-turn._turn c.loop-turn-test.true c.loop-turn.invariant in
-    search rules
+    first_of (search rules, grind (arith, common_steps))

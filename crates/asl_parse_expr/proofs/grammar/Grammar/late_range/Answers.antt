@@ -7,9 +7,9 @@ use Rattle.asl_parse_expr.proofs.grammar.Grammar.late_range.Goals as goal
 pub returns-in_err-low : goal.returns-in_err-low
 returns-in_err-low g c =
     let e = late_range_ends c.args.self.now.depth c.args.from c.args.operator (cursor_of c.args.tokens.now) in
-    search rules
+    first_of (search rules, grind (arith, common_steps))
 
 pub returns : goal.returns
 returns g c =
     let e = late_range_ends c.args.self.now.depth c.args.from c.args.operator (cursor_of c.args.tokens.now) in
-    search rules
+    first_of (search rules, grind (arith, common_steps))

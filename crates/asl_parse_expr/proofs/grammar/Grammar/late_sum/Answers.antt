@@ -14,7 +14,7 @@ pub returns : goal.returns
 unfolding then
 returns g c =
     let e = late_sum_is c.args.self.now.depth c.args.from c.args.operator (cursor_of c.args.tokens.now) in
-    search rules
+    first_of (search rules, grind (arith, common_steps))
 
 pub returns-in_err-whole-2 : goal.returns-in_err-whole-2
 returns-in_err-whole-2 g c =

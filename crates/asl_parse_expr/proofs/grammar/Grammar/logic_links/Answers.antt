@@ -7,19 +7,19 @@ use Rattle.asl_parse_expr.proofs.grammar.Grammar.logic_links.Goals as goal
 pub returns-then-starts : goal.returns-then-starts
 returns-then-starts g c =
     let e = logic_links_is c.args.self.now.depth c.args.from c.args.left (cursor_of c.args.tokens.now) in
-    search rules
+    first_of (search rules, grind (arith, common_steps))
 
 pub returns-then-starts-2 : goal.returns-then-starts-2
 returns-then-starts-2 g c =
     let e = logic_links_is c.args.self.now.depth c.args.from c.args.left (cursor_of c.args.tokens.now) in
-    search rules
+    first_of (search rules, grind (arith, common_steps))
 
 pub returns-then-starts-3 : goal.returns-then-starts-3
 returns-then-starts-3 g c =
     let e = logic_links_is c.args.self.now.depth c.args.from c.args.left (cursor_of c.args.tokens.now) in
-    search rules
+    first_of (search rules, grind (arith, common_steps))
 
 pub returns-else-starts-3 : goal.returns-else-starts-3
 returns-else-starts-3 g c =
     let e = logic_links_is c.args.self.now.depth c.args.from c.args.left (cursor_of c.args.tokens.now) in
-    search rules
+    first_of (search rules, grind (arith, common_steps))

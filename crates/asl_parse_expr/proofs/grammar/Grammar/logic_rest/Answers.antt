@@ -7,9 +7,9 @@ use Rattle.asl_parse_expr.proofs.grammar.Grammar.logic_rest.Goals as goal
 pub returns-then-not-starts : goal.returns-then-not-starts
 returns-then-not-starts g c =
     let e = logic_rest_on c.args.self.now.depth c.args.from c.args.left (cursor_of c.args.tokens.now) in
-    search rules
+    first_of (search rules, grind (arith, common_steps))
 
 pub returns : goal.returns
 returns g c =
     let e = logic_rest_on c.args.self.now.depth c.args.from c.args.left (cursor_of c.args.tokens.now) in
-    search rules
+    first_of (search rules, grind (arith, common_steps))

@@ -8,14 +8,14 @@ use Rattle.asl_parse_expr.proofs.grammar.Grammar.maybe_after_name.Goals as goal
 pub returns-then-not-starts : goal.returns-then-not-starts
 returns-then-not-starts g c =
     let e = maybe_after_name_is c.args.self.now.depth (named_of c.args.name) (cursor_of c.args.tokens.now) in
-    search rules
+    first_of (search rules, grind (arith, common_steps))
 
 pub returns-in_err-after : goal.returns-in_err-after
 returns-in_err-after g c =
     let e = maybe_after_name_is c.args.self.now.depth (named_of c.args.name) (cursor_of c.args.tokens.now) in
-    search rules
+    first_of (search rules, grind (arith, common_steps))
 
 pub returns : goal.returns
 returns g c =
     let e = maybe_after_name_is c.args.self.now.depth (named_of c.args.name) (cursor_of c.args.tokens.now) in
-    search rules
+    first_of (search rules, grind (arith, common_steps))

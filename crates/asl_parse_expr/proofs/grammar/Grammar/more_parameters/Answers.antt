@@ -7,14 +7,14 @@ use Rattle.asl_parse_expr.proofs.grammar.Grammar.more_parameters.Goals as goal
 pub returns-in_err-found : goal.returns-in_err-found
 returns-in_err-found g c =
     let e = more_parameters_is c.args.self.now.depth c.args.found (cursor_of c.args.tokens.now) in
-    search rules
+    first_of (search rules, grind (arith, common_steps))
 
 pub returns-in_err-take : goal.returns-in_err-take
 returns-in_err-take g c =
     let e = more_parameters_is c.args.self.now.depth c.args.found (cursor_of c.args.tokens.now) in
-    search rules
+    first_of (search rules, grind (arith, common_steps))
 
 pub returns : goal.returns
 returns g c =
     let e = more_parameters_is c.args.self.now.depth c.args.found (cursor_of c.args.tokens.now) in
-    search rules
+    first_of (search rules, grind (arith, common_steps))

@@ -7,14 +7,14 @@ use Rattle.asl_parse_expr.proofs.grammar.Grammar.other_unary.Goals as goal
 pub returns-then-starts : goal.returns-then-starts
 returns-then-starts g c =
     let e = other_unary_is c.args.self.now.depth (cursor_of c.args.tokens.now) in
-    search rules
+    first_of (search rules, grind (arith, common_steps))
 
 pub returns-then-starts-2 : goal.returns-then-starts-2
 returns-then-starts-2 g c =
     let e = other_unary_is c.args.self.now.depth (cursor_of c.args.tokens.now) in
-    search rules
+    first_of (search rules, grind (arith, common_steps))
 
 pub returns-else-starts-2 : goal.returns-else-starts-2
 returns-else-starts-2 g c =
     let e = other_unary_is c.args.self.now.depth (cursor_of c.args.tokens.now) in
-    search rules
+    first_of (search rules, grind (arith, common_steps))

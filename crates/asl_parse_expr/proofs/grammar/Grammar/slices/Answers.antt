@@ -9,24 +9,24 @@ use Rattle.asl_parse_expr.proofs.grammar.Grammar.slices.Goals as goal
 pub loop-turn-preserved : goal.loop-turn-preserved
 loop-turn-preserved g c =
     let e = one_more (λ n. run_more (reading c.args.self.now.depth slice) n c.loop-turn.found (cursor_of c.loop-turn.tokens)) _ c.loop-turn._turn c.loop-turn-test.true c.loop-turn.invariant in
-    search rules
+    first_of (search rules, grind (arith, common_steps))
 
 pub returns-in_err-slice-2 : goal.returns-in_err-slice-2
 returns-in_err-slice-2 g c =
     let e = one_more (λ n. run_more (reading c.args.self.now.depth slice) n c.loop-turn.found (cursor_of c.loop-turn.tokens)) _ c.loop-turn._turn c.loop-turn-test.true c.loop-turn.invariant in
-    search rules
+    first_of (search rules, grind (arith, common_steps))
 
 pub loop-turn-init : goal.loop-turn-init
 loop-turn-init g c =
     let e = slices_is c.args.self.now.depth (cursor_of c.args.tokens.now) in
-    search rules
+    first_of (search rules, grind (arith, common_steps))
 
 pub returns-in_err-slice : goal.returns-in_err-slice
 returns-in_err-slice g c =
     let e = slices_is c.args.self.now.depth (cursor_of c.args.tokens.now) in
-    search rules
+    first_of (search rules, grind (arith, common_steps))
 
 pub returns-then-not-starts : goal.returns-then-not-starts
 returns-then-not-starts g c =
     let e = one_more (λ n. run_more (reading c.args.self.now.depth slice) n c.loop-turn.found (cursor_of c.loop-turn.tokens)) _ c.loop-turn._turn c.loop-turn-test.true c.loop-turn.invariant in
-    search rules
+    first_of (search rules, grind (arith, common_steps))

@@ -10,19 +10,19 @@ use Rattle.asl_parse_stmt.proofs.bodies.Bodies.catchers.Goals as goal
 pub loop-turn-preserved : goal.loop-turn-preserved
 loop-turn-preserved g c =
     let e = one_more (λ n. run_items (reading c.args.self.now.depth catcher) (kind.When ∷ []) n c.loop-turn.found (cursor_of c.loop-turn.tokens)) _ c.loop-turn._turn c.loop-turn-test.true c.loop-turn.invariant in
-    search rules
+    first_of (search rules, grind (arith, common_steps))
 
 pub loop-turn-init : goal.loop-turn-init
 loop-turn-init g c =
     let e = catchers_is c.args.self.now.depth (cursor_of c.args.tokens.now) in
-    search rules
+    first_of (search rules, grind (arith, common_steps))
 
 pub returns-then-not-starts : goal.returns-then-not-starts
 returns-then-not-starts g c =
     let e = one_more (λ n. run_items (reading c.args.self.now.depth catcher) (kind.When ∷ []) n c.loop-turn.found (cursor_of c.loop-turn.tokens)) _ c.loop-turn._turn c.loop-turn-test.true c.loop-turn.invariant in
-    search rules
+    first_of (search rules, grind (arith, common_steps))
 
 pub returns-in_err-catcher : goal.returns-in_err-catcher
 returns-in_err-catcher g c =
     let e = one_more (λ n. run_items (reading c.args.self.now.depth catcher) (kind.When ∷ []) n c.loop-turn.found (cursor_of c.loop-turn.tokens)) _ c.loop-turn._turn c.loop-turn-test.true c.loop-turn.invariant in
-    search rules
+    first_of (search rules, grind (arith, common_steps))

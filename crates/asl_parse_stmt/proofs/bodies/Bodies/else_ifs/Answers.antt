@@ -10,19 +10,19 @@ use Rattle.asl_parse_stmt.proofs.bodies.Bodies.else_ifs.Goals as goal
 pub loop-turn-preserved : goal.loop-turn-preserved
 loop-turn-preserved g c =
     let e = one_more (λ n. run_items (reading c.args.self.now.depth else_if) (kind.ElsIf ∷ []) n c.loop-turn.found (cursor_of c.loop-turn.tokens)) _ c.loop-turn._turn c.loop-turn-test.true c.loop-turn.invariant in
-    search rules
+    first_of (search rules, grind (arith, common_steps))
 
 pub returns-in_err-else_if : goal.returns-in_err-else_if
 returns-in_err-else_if g c =
     let e = one_more (λ n. run_items (reading c.args.self.now.depth else_if) (kind.ElsIf ∷ []) n c.loop-turn.found (cursor_of c.loop-turn.tokens)) _ c.loop-turn._turn c.loop-turn-test.true c.loop-turn.invariant in
-    search rules
+    first_of (search rules, grind (arith, common_steps))
 
 pub loop-turn-init : goal.loop-turn-init
 loop-turn-init g c =
     let e = else_ifs_is c.args.self.now.depth (cursor_of c.args.tokens.now) in
-    search rules
+    first_of (search rules, grind (arith, common_steps))
 
 pub returns-then-not-starts : goal.returns-then-not-starts
 returns-then-not-starts g c =
     let e = one_more (λ n. run_items (reading c.args.self.now.depth else_if) (kind.ElsIf ∷ []) n c.loop-turn.found (cursor_of c.loop-turn.tokens)) _ c.loop-turn._turn c.loop-turn-test.true c.loop-turn.invariant in
-    search rules
+    first_of (search rules, grind (arith, common_steps))

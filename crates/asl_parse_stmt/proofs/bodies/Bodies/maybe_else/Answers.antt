@@ -9,16 +9,16 @@ pub returns-then-not-starts : goal.returns-then-not-starts
 unfolding else_block
 returns-then-not-starts g c =
     let e = maybe_else_is c.args.self.now.depth (cursor_of c.args.tokens.now) in
-    search rules
+    first_of (search rules, grind (arith, common_steps))
 
 pub returns-in_err-take : goal.returns-in_err-take
 unfolding else_block
 returns-in_err-take g c =
     let e = maybe_else_is c.args.self.now.depth (cursor_of c.args.tokens.now) in
-    search rules
+    first_of (search rules, grind (arith, common_steps))
 
 pub returns : goal.returns
 unfolding else_block
 returns g c =
     let e = maybe_else_is c.args.self.now.depth (cursor_of c.args.tokens.now) in
-    search rules
+    first_of (search rules, grind (arith, common_steps))
