@@ -18,3 +18,4 @@ pub mod statements
 pub mod values
 pub mod verdict
 pub mod widths
+pub mod certificates

@@ -9,3 +9,4 @@ pub mod Described
 pub mod OneRun
 pub mod Soundness
 pub mod StmtUses
+pub mod certificates

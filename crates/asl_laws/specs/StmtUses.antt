@@ -1,4 +1,5 @@
--- The names that statements and subprograms use, in source order.
+-- The names that statements and subprograms use, in source order, as `UsedNames` says it of expressions, written types and declarations
+-- outside bodies. No rule asks for them: they say what a judgement of statements depends on.
 use Rattle.std.specs.Prelude.{List, [], ◌∷◌, ◌++◌, map}
 use Rattle.asl_syn.specs.declared.tree.Suffix.{Suffix}
 use Rattle.asl_syn.specs.declared.tree.Suffix.TheVariants.{FieldOf, FieldsOf, SlicesOf, ElementOf}
@@ -18,7 +19,8 @@ use Rattle.asl_syn.specs.declared.tree.Param.{Param}
 use Rattle.asl_syn.specs.declared.tree.Func.{Func}
 use Rattle.asl_syn.specs.declared.tree.Decl.{Decl}
 use Rattle.asl_syn.specs.declared.tree.Decl.TheVariants as dc
-use Rattle.asl_rules.specs.declarations.UsedNames.{Uses, of_value, of_subprogram, of_type, joined, expr_uses, pattern_uses, slice_uses, type_uses, maybe_expr_uses, maybe_type_uses, formal_uses, def_uses, supertype_uses}
+use Rattle.asl_rules.specs.declarations.UsedNames.{Uses, of_value, of_subprogram, of_type, joined, expr_uses, pattern_uses, slice_uses}
+use Rattle.asl_rules.specs.declarations.UsedNames.{type_uses, maybe_expr_uses, maybe_type_uses, formal_uses, def_uses, supertype_uses}
 
 -- ---- statements
 
@@ -96,14 +98,14 @@ abbrev pub param_uses : List Param → Uses
 param_uses [] = []
 param_uses (p ∷ ps) = maybe_type_uses p.ty ++ param_uses ps
 
--- of a signature, the limit included
+-- those of a signature, the limit included
 abbrev pub head_uses : Func → Uses
 head_uses f = param_uses f.params ++ (formal_uses f.formals ++ (maybe_type_uses f.result ++ maybe_expr_uses f.limit))
 
 abbrev pub body_uses : Func → Uses
 body_uses f = joined (map stmt_uses f.body)
 
--- of any declaration
+-- those of any declaration, a subprogram with its body too
 abbrev pub all_uses : Decl → Uses
 all_uses (dc.Type d) = def_uses d.def ++ supertype_uses d.supertype
 all_uses (dc.Storage d) = maybe_type_uses d.ty ++ maybe_expr_uses d.init

@@ -18,7 +18,8 @@ use Rattle.asl_rules.specs.report.Made.{made_text}
 use Rattle.asl_rules.specs.report.Texts.{Text, File}
 use Rattle.asl_rules.specs.report.Report.{Reading, all, long, many, is_long, read_files, made_file}
 
--- an end that a wider limit may change: the fault D14, or a place where the rules give no outcome, as at a literal that is wider than the limit
+-- an end that a wider limit may change: the fault D14, or a place where the rules give no outcome, as at a literal that is wider than the
+-- limit
 abbrev pub IsNarrow : End → Type 0
 IsNarrow (Faulted code span) = code ≡ D14
 IsNarrow (Stuck mistake span) = Unit {0}
@@ -84,6 +85,9 @@ OnList bytes P = UnlessLong (is_long bytes) (OnWords (words_read bytes) P)
 abbrev pub Fits : Tests → Reader → Command → (Text → Text) → Type 0
 Fits t read usage held = Unit {0}
 Fits t read (check names) held = OnFiles (read_files held names) (λ files. Accepts t entry.None (λ ds main. Unit {0}) (read files))
-Fits t read (run steps names) held = OnFiles (read_files held names) (λ files. Accepts t entry.Main (λ ds main. RunFits (environment t ds) steps main) (read files))
-Fits t read (exec steps list names) held = OnFiles (read_files held names) (λ files. OnList (held list) (λ words. Accepts t entry.Decode (λ ds main. WordsFit (environment t ds) steps words main) (read files)))
-Fits t read (self number size) held = Accepts t entry.Main (λ ds main. RunFits (environment t ds) default_steps main) (read (made_file (made_text number size) ∷ []))
+Fits t read (run steps names) held = OnFiles (read_files held names)
+    (λ files. Accepts t entry.Main (λ ds main. RunFits (environment t ds) steps main) (read files))
+Fits t read (exec steps list names) held = OnFiles (read_files held names)
+    (λ files. OnList (held list) (λ words. Accepts t entry.Decode (λ ds main. WordsFit (environment t ds) steps words main) (read files)))
+Fits t read (self number size) held = Accepts t entry.Main (λ ds main. RunFits (environment t ds) default_steps main)
+    (read (made_file (made_text number size) ∷ []))

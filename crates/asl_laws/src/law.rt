@@ -72,13 +72,15 @@ pub fn law3()
 /// with the same typed trees, signatures and names (`derivation`). Of declarations that are accepted, a call from outside that ends
 /// neither with the fault D14 nor stuck is the same call under a wider limit: its outcome, its state, its text and the steps left (`run`);
 /// so are the calls for words (`words`). So a command whose files are accepted, and whose run doesn't end with the fault D14, has the same
-/// report (`report`), as each command has that reads no program, for it is too long, or has no entry of its list.
+/// report (`report`). So has one that comes to no program: it is none, there are too many files, a file or its list of words is too long,
+/// or that list has a fault. The reading of this program and its bits have one limit (`one_limit`).
 #[tactic(auto)]
 pub fn law5()
     ensures derivation { (l m : ℕ) → l ≤ m → (e : Entry) (files : List File) (a : Accepted) → FilesOk l e files a → FilesOk m e files a }
     ensures run { (t u : Tests) → IsRight t → IsRight u → t.limit ≤ u.limit → (e : Entry) (ds : List Decl) (a : Accepted) → verdict e ds t ≡ Ok a → (id : ℕ) (args : List Value) (globals : List Binding) (h : Meter) → FitsLimit (run_of (environment t ds) id args globals h) → run_of (environment u ds) id args globals h ≡ run_of (environment t ds) id args globals h }
     ensures words { (t u : Tests) → IsRight t → IsRight u → t.limit ≤ u.limit → (e : Entry) (ds : List Decl) (a : Accepted) → verdict e ds t ≡ Ok a → (id : ℕ) (words : List ℕ) (globals : List Binding) (h : Meter) → WordsFitLimit (run_words (environment t ds) id words globals h) → run_words (environment u ds) id words globals h ≡ run_words (environment t ds) id words globals h }
     ensures report { (t u : Tests) → IsRight t → IsRight u → t.limit ≤ u.limit → (read other : Reader) → IsReadingAt t.limit read → IsReadingAt u.limit other → (command : Command) (held : Text → Text) → Fits t read command held → report_of u other command held ≡ report_of t read command held }
+    ensures one_limit { max_width ≡ WIDTH_LIMIT }
 {}
 
 /// Kinds by names: each name of a well-formed program stands for one type, and what is declared agrees (`declared`). So comparing

@@ -12,11 +12,11 @@ use Rattle.asl_tree.specs.declared.checked.Global.{Global}
 use Rattle.asl_types.specs.Suits.{Suits}
 use Rattle.asl_value.specs.View.{value_of}
 use Rattle.asl_value.specs.declared.value.Value.{Value}
-use Rattle.asl_run.specs.declared.run.Run.{Run}
-use Rattle.asl_run.specs.declared.stop.Stop.{Stop}
-use Rattle.asl_run.specs.declared.stop.Stop.TheVariants as stop
-use Rattle.asl_run.specs.Meets.{Runs}
-use Rattle.asl_run.specs.View.{program_of}
+use Rattle.asl_branches.specs.declared.run.Run.{Run}
+use Rattle.asl_branches.specs.declared.stop.Stop.{Stop}
+use Rattle.asl_branches.specs.declared.stop.Stop.TheVariants as stop
+use Rattle.asl_branches.specs.Meets.{Runs}
+use Rattle.asl_branches.specs.View.{program_of}
 use Rattle.asl_machine.specs.private.Memory.{arranged, held, storage_of}
 use Rattle.asl_machine.specs.Stages.{CallMeets, IfRan}
 use Rattle.asl_machine.specs.Storage.{given, taken}

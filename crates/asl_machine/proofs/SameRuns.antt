@@ -29,11 +29,11 @@ use Rattle.asl_tree.specs.declared.checked.Global.{Global}
 use Rattle.asl_types.specs.Suits.{Suits}
 use Rattle.asl_value.specs.View.{value_of}
 use Rattle.asl_value.specs.declared.value.Value.{Value}
-use Rattle.asl_run.specs.declared.run.Run.{Run}
-use Rattle.asl_run.specs.declared.stop.Stop.{Stop}
-use Rattle.asl_run.specs.declared.stop.Stop.TheVariants as stop
-use Rattle.asl_run.specs.Meets.{Meets, Runs}
-use Rattle.asl_run.specs.View.{mistake_of, core_of, meter_of, program_of, meaning_of, cutting_of}
+use Rattle.asl_branches.specs.declared.run.Run.{Run}
+use Rattle.asl_branches.specs.declared.stop.Stop.{Stop}
+use Rattle.asl_branches.specs.declared.stop.Stop.TheVariants as stop
+use Rattle.asl_branches.specs.Meets.{Meets, Runs}
+use Rattle.asl_branches.specs.View.{mistake_of, core_of, meter_of, program_of, meaning_of, cutting_of}
 use Rattle.asl_machine.specs.Stages.{CallMeets, Halted, IfRan}
 use Rattle.asl_machine.specs.Storage.{with_values}
 use Rattle.asl_machine.specs.Work.{initial_of, globals_with, IsHeld, HoldStorage, IsCallable, run_over, text_over}

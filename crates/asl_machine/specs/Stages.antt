@@ -9,8 +9,8 @@ use Rattle.asl_rules.specs.runs.Plans as plans
 use Rattle.asl_rules.specs.values.Values as rules
 use Rattle.asl_value.specs.View.{value_of}
 use Rattle.asl_value.specs.declared.value.Value.{Value}
-use Rattle.asl_run.specs.declared.stop.Stop.{Stop}
-use Rattle.asl_run.specs.declared.stop.Stop.TheVariants as stop
+use Rattle.asl_branches.specs.declared.stop.Stop.{Stop}
+use Rattle.asl_branches.specs.declared.stop.Stop.TheVariants as stop
 use Rattle.asl_machine.specs.declared.stage.Outcome.{Outcome}
 use Rattle.asl_machine.specs.declared.stage.Outcome.TheVariants as outcome
 use Rattle.asl_machine.specs.declared.stage.RunRefused.{RunRefused}

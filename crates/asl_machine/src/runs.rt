@@ -4,7 +4,7 @@ ghost use Rattle.asl_rules.specs.runs.Machines.{GivenUp};
 ghost use Rattle.asl_rules.specs.Tests.{Tests};
 ghost use Rattle.asl_types.specs.Suits.{Suits};
 ghost use Rattle.asl_value.specs.View.{value_of};
-ghost use Rattle.asl_run.specs.Meets.{Counts};
+ghost use Rattle.asl_branches.specs.Meets.{Counts};
 ghost use Rattle.asl_machine.specs.private.Memory.{arranged, held, storage_of};
 ghost use Rattle.asl_machine.specs.Stages.{Ends, CallMeets, IfRan, OnReady, OnRun, OnRefused, Counted};
 ghost use Rattle.asl_machine.specs.Work.{IsCallable, globals_with, run_over, text_over};

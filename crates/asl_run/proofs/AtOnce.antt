@@ -36,10 +36,10 @@ use Rattle.asl_value.specs.private.Numbers.{answer_of}
 use Rattle.asl_value.specs.View as view
 use Rattle.asl_value.specs.View.{value_of}
 use Rattle.asl_value.proofs.Integers.{exact}
+use Rattle.asl_branches.specs.declared.run.Run.{Run}
+use Rattle.asl_branches.specs.View.{core_of, meter_of, program_of, meaning_of}
 use Rattle.asl_run.specs.declared.at_once.AtOnce.{AtOnce}
-use Rattle.asl_run.specs.declared.run.Run.{Run}
 use Rattle.asl_run.specs.private.AtOnce.{decision, element_in, found, Gives, Ends, Finds, Sets, Puts, Executed, Did, meter_at}
-use Rattle.asl_run.specs.View.{core_of, meter_of, program_of, meaning_of}
 use Rattle.asl_run.proofs.Entries.{expr_done, stmt_done}
 use Rattle.asl_run.proofs.Placing.{global_put, local_put}
 

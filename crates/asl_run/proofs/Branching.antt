@@ -22,12 +22,12 @@ use Rattle.asl_tree.specs.declared.tree.Tree.{Tree as Asked}
 use Rattle.asl_value.specs.private.Answers as answers
 use Rattle.asl_value.specs.View.{value_of}
 use Rattle.asl_value.specs.declared.failure.Failure.{Failure}
-use Rattle.asl_run.specs.declared.stop.Stop.{Stop as Stopped}
-use Rattle.asl_run.specs.Meets.{Left, Meets}
-use Rattle.asl_run.specs.View.{exit_of, stop_of, meaning_of, cutting_of}
-use Rattle.asl_run.proofs.Storing.{at_front}
+use Rattle.asl_branches.specs.declared.stop.Stop.{Stop as Stopped}
+use Rattle.asl_branches.specs.Meets.{Left, Meets}
+use Rattle.asl_branches.specs.View.{exit_of, stop_of, meaning_of, cutting_of}
+use Rattle.asl_branches.proofs.Fronts.{at_front}
+use Rattle.asl_branches.proofs.Turns.{meets_left}
 use Rattle.asl_run.proofs.Turning.{asked_next, chosen_next, eval_failed, truth_failed}
-use Rattle.asl_run.proofs.Turns.{meets_left}
 
 branch_when : (e : Asked) (ss : List Doing) (bs : List Branch) → branches_of (all_branches (when.Elsif e ss ∷ bs)) ≡ record { condition = tree_of e; body = acts_of (all_acts ss) } ∷ branches_of (all_branches bs)
 branch_when e ss bs = ap (λ (f : BranchFirst). branches_of (f (all_branches bs)))

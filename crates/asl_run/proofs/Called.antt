@@ -6,10 +6,10 @@ use Rattle.asl_rules.specs.private.TypedMeaning.{BareCore, Runs, list_of}
 use Rattle.asl_rules.specs.values.Values.{Value}
 use Rattle.asl_tree.specs.View.{all_trees}
 use Rattle.asl_tree.specs.declared.act.TreeFunc.{TreeFunc}
+use Rattle.asl_branches.proofs.Turns.{Goes, all_goes}
 use Rattle.asl_run.specs.declared.calls.Call.{Call}
 use Rattle.asl_run.specs.private.Calling.{body_of, call_given}
 use Rattle.asl_run.proofs.Lefts.{goes_follow}
-use Rattle.asl_run.proofs.Turns.{Goes, all_goes}
 
 pub call_goes : {A : Type 0} (fs : List TreeFunc) (d : ℕ) (a : Call) (c : BareCore) (k : Option Value → BareCore → Runs A) →
     Goes fs d (call_given fs a c) (forms.call (list_of (all_trees a.params.now)) (list_of (all_trees a.args.now)) c (body_of fs a) k) k

@@ -15,7 +15,7 @@ use Rattle.asl_rules.specs.values.Values.{Value, Exit, Normal, int}
 use Rattle.asl_tree.specs.Acts.{all_acts}
 use Rattle.asl_tree.specs.declared.act.Act.{Act as TypedAct}
 use Rattle.asl_tree.specs.declared.act.TreeFunc.{TreeFunc}
-use Rattle.asl_run.specs.View.{meaning_of}
+use Rattle.asl_branches.specs.View.{meaning_of}
 
 -- ---- indices
 

@@ -11,11 +11,11 @@ use Rattle.asl_rules.specs.values.Values as rules
 use Rattle.asl_tree.specs.declared.act.TreeFunc.{TreeFunc}
 use Rattle.asl_value.specs.declared.value.Value.{Value}
 use Rattle.asl_value.specs.View.{value_of}
-use Rattle.asl_run.specs.declared.stop.Exit.{Exit}
-use Rattle.asl_run.specs.declared.stop.Stop.{Stop as Stopped}
-use Rattle.asl_run.specs.declared.stop.Stop.TheVariants as stop
-use Rattle.asl_run.specs.Meets.{Meets}
-use Rattle.asl_run.specs.View.{exit_of, program_of, meaning_of, cutting_of}
+use Rattle.asl_branches.specs.declared.stop.Exit.{Exit}
+use Rattle.asl_branches.specs.declared.stop.Stop.{Stop as Stopped}
+use Rattle.asl_branches.specs.declared.stop.Stop.TheVariants as stop
+use Rattle.asl_branches.specs.Meets.{Meets}
+use Rattle.asl_branches.specs.View.{exit_of, program_of, meaning_of, cutting_of}
 
 -- an answer that one part has, another has that gives the same
 meets_same : {A B : Type 0} (w : A → B) (r : Result A Stopped) (c : BareCore) (h : Meter) (p q : Outcome BareCore B) (C D : Meter → Type 0) → p ≡ q → ((u : Meter) → C u → D u) → Meets w r c h p C → Meets w r c h q D

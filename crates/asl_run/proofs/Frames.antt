@@ -1,10 +1,9 @@
--- Stacks whose newest is last in the code and first in the rules.
-use Rattle.std.proofs.Common.{◌≡◌, ◌≢◌, ℕ, suc, ◌+◌, ◌<◌, ◌≤◌, ◌==◌, Bool, true, false, cond, List, [], ◌∷◌, ◌++◌, length, get_or, take, drop, map, refl, sym, ap, ◌∙◌, arith, append_assoc, append-nil}
+-- Frames of callees, and the values that they begin with.
+use Rattle.std.proofs.Common.{◌≡◌, ◌≢◌, ℕ, suc, ◌+◌, ◌<◌, ◌≤◌, List, [], ◌∷◌, ◌++◌, length, get_or, drop, map, refl, sym, ap, ◌∙◌, append_assoc, append-nil}
 use Rattle.std.specs.Prelude.{reverse}
-use Rattle.std.proofs.lemmas.List.{at_drop_all, at_drop_more, map-append, reverse-append}
+use Rattle.std.proofs.lemmas.List.{at_drop_all, at_drop_more, map-append}
 use Rattle.asl_syn.specs.declared.token.Span.{Span}
 use Rattle.asl_rules.specs.private.ByPlace.{seen_as}
-use Rattle.asl_rules.specs.runs.Forms.{activations}
 use Rattle.asl_rules.specs.runs.Plans.{Stuck, WrongKind, Pure, Good, Bad, lift}
 use Rattle.asl_rules.specs.runs.Pures.{◌>>=◌}
 use Rattle.asl_rules.specs.runs.Trees.{TreeFunc}
@@ -13,29 +12,10 @@ use Rattle.asl_rules.specs.private.TypedMeaning.{BareCore, BareFrame, entered, f
 use Rattle.asl_rules.specs.values.Values.{Value}
 use Rattle.asl_value.specs.declared.value.Value.{Value as Stored}
 use Rattle.asl_value.specs.View.{value_of}
-use Rattle.asl_run.specs.declared.run.Run.{Run}
+use Rattle.asl_branches.specs.declared.run.Run.{Run}
+use Rattle.asl_branches.specs.View.{caller_of, core_of}
+use Rattle.asl_branches.proofs.Stacks.{pushed_first, pushed_id}
 use Rattle.asl_run.specs.private.Calling.{frame_called, frame_given, in_own_frame, Enters}
-use Rattle.asl_run.specs.View.{caller_of, core_of}
-
--- one that is pushed is the first
-pub pushed_first : {A B : Type 0} (f : A → B) (xs : List A) (x : A) → reverse (map f (xs ++ x ∷ [])) ≡ f x ∷ reverse (map f xs)
-pushed_first f xs x = ap (λ l. reverse l) (map-append f xs (x ∷ [])) ∙ reverse-append (map f xs) (f x ∷ [])
-
-pub pushed_id : (xs : List ℕ) (x : ℕ) → reverse (xs ++ x ∷ []) ≡ x ∷ reverse xs
-pushed_id xs x = reverse-append xs (x ∷ [])
-
--- what was pushed is cut again
-pub cut_again : {A : Type 0} (xs : List A) (x : A) → take (length xs) (xs ++ x ∷ []) ≡ xs
-cut_again [] x = refl
-cut_again (y ∷ ys) x = ap (λ l. y ∷ l) (cut_again ys x)
-
--- ---- exceptions that are being handled
-
-pub handled_more : (xs ys : List Stored) (x : Stored) → ys ≡ xs ++ x ∷ [] → reverse (map value_of ys) ≡ value_of x ∷ reverse (map value_of xs)
-handled_more xs ys x e = ap (λ l. reverse (map value_of l)) e ∙ pushed_first value_of xs x
-
-pub handled_back : (xs ys : List Stored) (x : Stored) → ys ≡ xs ++ x ∷ [] → take (length xs) ys ≡ xs
-handled_back xs ys x e = ap (λ l. take (length xs) l) e ∙ cut_again xs x
 
 -- ---- the state in a callee
 
@@ -46,46 +26,6 @@ entered_core s s1 id frame e =
     ∙ ap (λ (l : List Value). record { globals = map value_of s.globals.items; frame = frame; handled = l; callers = reverse (map caller_of s1.callers.items); live = reverse s1.live.items }) (ap (λ k. reverse (map value_of k)) e.nothing_handled)
     ∙ ap (λ (l : List BareFrame). record { globals = map value_of s.globals.items; frame = frame; handled = []; callers = l; live = reverse s1.live.items }) (ap (λ k. reverse (map caller_of k)) e.callers_are ∙ pushed_first caller_of s.callers.items (record { values = s.frame; handled = s.handled }))
     ∙ ap (λ (l : List ℕ). record { globals = map value_of s.globals.items; frame = frame; handled = []; callers = caller_of (record { values = s.frame; handled = s.handled }) ∷ reverse (map caller_of s.callers.items); live = l }) (ap (λ k. reverse k) e.live_are ∙ pushed_id s.live.items id)
-
--- ---- activations
-
-activations_behind : (id : ℕ) (xs ys : List ℕ) → activations id (xs ++ ys) ≡ activations id xs + activations id ys
-activations_behind id [] ys = omega arith
-activations_behind id (x ∷ xs) ys = counted (x == id) (activations_behind id xs ys)
-  where
-    counted : (b : Bool) → activations id (xs ++ ys) ≡ activations id xs + activations id ys →
-        cond b (activations id (xs ++ ys) + 1) (activations id (xs ++ ys)) ≡ cond b (activations id xs + 1) (activations id xs) + activations id ys
-    counted true e = omega (arith, e)
-    counted false e = e
-
-one_more : (id x : ℕ) (xs : List ℕ) → activations id xs + activations id (x ∷ []) ≡ activations id (x ∷ xs)
-one_more id x xs = counted (x == id)
-  where
-    counted : (b : Bool) → activations id xs + cond b (0 + 1) 0 ≡ cond b (activations id xs + 1) (activations id xs)
-    counted true = omega arith
-    counted false = omega arith
-
--- in either order
-pub activations_turned : (id : ℕ) (xs : List ℕ) → activations id (reverse xs) ≡ activations id xs
-activations_turned id [] = refl
-activations_turned id (x ∷ xs) =
-    ap (activations id) (reverse-append (x ∷ []) xs) ∙ activations_behind id (reverse xs) (x ∷ []) ∙ ap (λ n. n + activations id (x ∷ [])) (activations_turned id xs) ∙ one_more id x xs
-
--- one by one
-pub activations_one : (id : ℕ) (xs : List ℕ) (k : ℕ) → k < length xs → get_or xs k 0 ≡ id → activations id (drop k xs) ≡ activations id (drop (k + 1) xs) + 1
-activations_one id xs k h e = at_drop_more (activations id) xs k 0 h ∙ ap (λ b. cond b (activations id (drop (k + 1) xs) + 1) (activations id (drop (k + 1) xs))) (same (get_or xs k 0) id e)
-  where
-    same : (n m : ℕ) → n ≡ m → (n == m) ≡ true
-    same n m e = grind arith
-
-pub activations_other : (id : ℕ) (xs : List ℕ) (k : ℕ) → k < length xs → get_or xs k 0 ≢ id → activations id (drop k xs) ≡ activations id (drop (k + 1) xs)
-activations_other id xs k h e = at_drop_more (activations id) xs k 0 h ∙ ap (λ b. cond b (activations id (drop (k + 1) xs) + 1) (activations id (drop (k + 1) xs))) (apart (get_or xs k 0) id e)
-  where
-    apart : (n m : ℕ) → n ≢ m → (n == m) ≡ false
-    apart n m e = grind arith
-
-pub activations_ended : (id : ℕ) (xs : List ℕ) (k : ℕ) → length xs ≤ k → activations id (drop k xs) ≡ 0
-activations_ended id xs k h = at_drop_all (activations id) xs k h
 
 -- ---- frames
 

@@ -6,11 +6,11 @@ use Rattle.asl_rules.specs.private.TypedMeaning.{BareCore, Runs}
 use Rattle.asl_rules.specs.values.Values as rules
 use Rattle.asl_tree.specs.declared.act.TreeFunc.{TreeFunc}
 use Rattle.asl_value.specs.declared.value.Value.{Value}
-use Rattle.asl_run.specs.declared.stop.Stop.{Stop as Stopped}
-use Rattle.asl_run.specs.declared.stop.Stop.TheVariants as stop
-use Rattle.asl_run.specs.Meets.{Meets, Left}
-use Rattle.asl_run.specs.View.{meaning_of, cutting_of}
-use Rattle.asl_run.proofs.Turns.{Goes}
+use Rattle.asl_branches.specs.declared.stop.Stop.{Stop as Stopped}
+use Rattle.asl_branches.specs.declared.stop.Stop.TheVariants as stop
+use Rattle.asl_branches.specs.Meets.{Meets, Left}
+use Rattle.asl_branches.specs.View.{meaning_of, cutting_of}
+use Rattle.asl_branches.proofs.Turns.{Goes}
 
 -- ---- a part within a plan
 

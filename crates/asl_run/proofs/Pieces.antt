@@ -4,9 +4,9 @@ use Rattle.asl_rules.specs.values.Strings.{escaped, unescaped}
 use Rattle.asl_rules.specs.runs.Told.{appended, open_after, Part}
 use Rattle.asl_rules.proofs.basics.Pieces.{appended_twice, takes_first, takes_then}
 use Rattle.asl_value.proofs.Endings.{open_then}
-use Rattle.asl_run.specs.declared.stop.Stop.{Stop}
-use Rattle.asl_run.specs.declared.stop.Stop.TheVariants as stop
-use Rattle.asl_run.specs.Meets.{Writes, WroteFront}
+use Rattle.asl_branches.specs.declared.stop.Stop.{Stop}
+use Rattle.asl_branches.specs.declared.stop.Stop.TheVariants as stop
+use Rattle.asl_branches.specs.Meets.{Writes, WroteFront}
 use Rattle.asl_run.specs.private.Pieces.{piece_text}
 
 -- ---- strings

@@ -17,11 +17,11 @@ use Rattle.asl_value.specs.declared.failure.Failure.TheVariants as failure
 use Rattle.asl_value.specs.declared.value.Value.{Value}
 use Rattle.asl_value.specs.private.Answers.{Changes}
 use Rattle.asl_value.specs.View.{value_of}
-use Rattle.asl_run.specs.declared.stop.Stop.{Stop}
-use Rattle.asl_run.specs.declared.stop.Stop.TheVariants as stop
-use Rattle.asl_run.specs.Meets.{Meets, Stores}
+use Rattle.asl_branches.specs.declared.stop.Stop.{Stop}
+use Rattle.asl_branches.specs.declared.stop.Stop.TheVariants as stop
+use Rattle.asl_branches.specs.Meets.{Meets, Stores}
+use Rattle.asl_branches.specs.View.{exit_of, mistake_of, stop_of, meaning_of, cutting_of}
 use Rattle.asl_run.specs.private.Storing.{stored_in}
-use Rattle.asl_run.specs.View.{exit_of, mistake_of, stop_of, meaning_of, cutting_of}
 use Rattle.asl_run.proofs.Slots.{set_within}
 
 -- ---- among values

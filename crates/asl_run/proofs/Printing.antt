@@ -17,12 +17,12 @@ use Rattle.asl_tree.specs.Acts.{all_items}
 use Rattle.asl_tree.specs.View.{tree_of}
 use Rattle.asl_tree.specs.declared.tree.Tree.{Tree}
 use Rattle.asl_value.specs.View.{value_of}
-use Rattle.asl_run.specs.declared.stop.Stop.{Stop as Stopped}
-use Rattle.asl_run.specs.declared.stop.Stop.TheVariants as stop
-use Rattle.asl_run.specs.Meets.{Left, Meets, Writes}
-use Rattle.asl_run.specs.View.{exit_of, meaning_of, cutting_of}
+use Rattle.asl_branches.specs.declared.stop.Stop.{Stop as Stopped}
+use Rattle.asl_branches.specs.declared.stop.Stop.TheVariants as stop
+use Rattle.asl_branches.specs.Meets.{Left, Meets, Writes}
+use Rattle.asl_branches.specs.View.{exit_of, meaning_of, cutting_of}
+use Rattle.asl_branches.proofs.Turns.{goes_on, meets_left, one_evaluated}
 use Rattle.asl_run.proofs.Turning.{eval_failed}
-use Rattle.asl_run.proofs.Turns.{goes_on, meets_left, one_evaluated}
 
 append_nil : (xs : List ℕ) → xs ++ [] ≡ xs
 append_nil [] = refl

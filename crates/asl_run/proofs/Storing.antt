@@ -1,6 +1,5 @@
 -- Steps and stores, one by one.
-use Rattle.std.proofs.Common.{◌≡◌, ℕ, suc, ◌+◌, ◌<◌, ◌≤◌, inl, Bool, List, [], ◌∷◌, ◌++◌, length, get_or, drop, map, Err, refl, sym, ap, ◌∙◌, subst, arith, append_assoc, append-nil}
-use Rattle.std.proofs.Math.Seq.{drop-cons}
+use Rattle.std.proofs.Common.{◌≡◌, ℕ, ◌+◌, ◌<◌, ◌≤◌, inl, Bool, List, [], ◌∷◌, ◌++◌, length, get_or, drop, map, Err, refl, sym, ap, ◌∙◌, subst, append_assoc, append-nil}
 use Rattle.std.proofs.lemmas.List.{at_drop_all, map-append}
 use Rattle.asl_bits.specs.declared.TheConstants.{WIDTH_LIMIT}
 use Rattle.asl_rules.specs.runs.Cuts.{cuts}
@@ -21,16 +20,11 @@ use Rattle.asl_value.specs.declared.replacing.Step.{Step as StoredStep}
 use Rattle.asl_value.specs.declared.value.Value.{Value as Stored}
 use Rattle.asl_value.specs.private.Forms.{step_of as stored_step, all_steps}
 use Rattle.asl_value.specs.View.{value_of}
-use Rattle.asl_run.specs.declared.stop.Stop.{Stop as Stopped}
-use Rattle.asl_run.specs.Meets.{Is, Left, Meets}
+use Rattle.asl_branches.specs.declared.stop.Stop.{Stop as Stopped}
+use Rattle.asl_branches.specs.Meets.{Is, Left, Meets}
+use Rattle.asl_branches.specs.View.{exit_of, stop_of, meaning_of, cutting_of}
+use Rattle.asl_branches.proofs.Turns.{goes_failed, goes_on, left_left, meets_left, one_stepped, one_stored}
 use Rattle.asl_run.specs.private.Storing.{parts_in, parts_behind, taking, all_taking, stepped, all_stepped}
-use Rattle.asl_run.specs.View.{exit_of, stop_of, meaning_of, cutting_of}
-use Rattle.asl_run.proofs.Turns.{goes_failed, goes_on, left_left, meets_left, one_stepped, one_stored}
-
-pub at_front : {A : Type 0} (xs : List A) (k : ℕ) (x : A) → k < length xs → x ≡ get_or xs k x → drop k xs ≡ x ∷ drop (k + 1) xs
-at_front xs k x within here =
-    let up : suc k ≡ k + 1 = omega arith in
-    drop-cons xs k x within ∙ ap (λ n. get_or xs k x ∷ drop n xs) up ∙ ap (λ y. y ∷ drop (k + 1) xs) (sym here)
 
 -- the stores of the parts
 pub stores_are : (holds : Bool) (ps : List TreePlace) (x : Value) → stores WIDTH_LIMIT holds (all_places ps) x ≡ (parts_in ps x >>= λ ys. Good (all_taking holds ps ys))

@@ -21,14 +21,14 @@ use Rattle.asl_value.specs.declared.value.FieldValue.TheOpen as layers
 use Rattle.asl_value.specs.declared.value.Value.TheVariants as variants
 use Rattle.asl_value.specs.View as view
 use Rattle.asl_value.specs.View.{value_of}
-use Rattle.asl_run.specs.declared.stop.Stop.{Stop as Stopped}
-use Rattle.asl_run.specs.declared.stop.Stop.TheVariants as stop
+use Rattle.asl_branches.specs.declared.stop.Stop.{Stop as Stopped}
+use Rattle.asl_branches.specs.declared.stop.Stop.TheVariants as stop
+use Rattle.asl_branches.specs.Meets.{Is, Left, Meets}
+use Rattle.asl_branches.specs.View.{exit_of, stop_of, meaning_of, cutting_of}
+use Rattle.asl_branches.proofs.Turns.{Goes, goes_eval, goes_failed, goes_lift, goes_on, goes_ret, left_left, lift_meets, meets_left, one_evaluated}
 use Rattle.asl_run.specs.private.Looping.{limit_asked, turn_until}
-use Rattle.asl_run.specs.Meets.{Is, Left, Meets}
-use Rattle.asl_run.specs.View.{exit_of, stop_of, meaning_of, cutting_of}
 use Rattle.asl_run.proofs.Lefts.{goes_follow}
 use Rattle.asl_run.proofs.Rounds.{index_more, turn_after, until_more}
-use Rattle.asl_run.proofs.Turns.{Goes, goes_eval, goes_failed, goes_lift, goes_on, goes_ret, left_left, lift_meets, meets_left, one_evaluated}
 
 -- ---- a list, and what comes behind it
 

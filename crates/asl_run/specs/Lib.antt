@@ -1,3 +1,1 @@
-pub mod View
-pub mod Meets
 pub mod private

@@ -2,7 +2,6 @@
 pub mod Operations
 pub mod Finishes
 pub mod Calling
-pub mod Choosing
 pub mod Storing
 pub mod Pieces
 pub mod Below

@@ -13,17 +13,15 @@ ghost use Rattle.asl_tree.specs.Acts.{all_places};
 ghost use Rattle.asl_tree.specs.View.{tree_of, all_trees};
 ghost use Rattle.asl_value.specs.private.Forms.{step_of, all_steps};
 ghost use Rattle.asl_value.specs.View.{value_of, all_slices};
-ghost use Rattle.asl_run.specs.private.Below.{Evals};
-ghost use Rattle.asl_run.specs.Meets.{Counts, Is, Keeps, Runs};
+ghost use Rattle.asl_branches.specs.Meets.{at, Is, Ran};
+ghost use Rattle.asl_branches.specs.View.{exit_of};
 ghost use Rattle.asl_run.specs.private.Storing.{stepped, all_stepped, parts_in, taking, all_taking};
-ghost use Rattle.asl_run.specs.View.{exit_of};
 
-use crate::below::eval;
-use crate::exprs::eval_all;
 use crate::places::{Storing, assign_at};
-use crate::run::Run;
-use crate::setting::{Nodes, Setting};
-use crate::stop::{Exit, Stop};
+use asl_branches::below::Nodes;
+use asl_branches::lists::eval_all;
+use asl_branches::run::Run;
+use asl_branches::stop::{Exit, Stop};
 use asl_io::Sink;
 use asl_shared::Held;
 use asl_syn::token::Span;
@@ -34,45 +32,39 @@ use sqlite_items::Items;
 use std::alloc::{AllocError, Global};
 
 /// An expression, and the stores of its value.
-pub fn exec_assign<K: Sink, E: Fn(Setting, &mut Run, &mut K, &Tree) -> Result<Value, Stop>, X>(
-    here: &Nodes<E, X>,
+pub fn exec_assign<K: Sink, N: Nodes<K>>(
+    here: &N,
     run: &mut Run,
     sink: &mut K,
     targets: &[TreePlace],
     e: &Tree,
 ) -> Result<Exit, Stop>
-    requires evals { Evals K.written K.faults K.full here.now.setting.funcs.now here.now.setting.depth (E.pre here.now.eval here.now.setting) (E.post here.now.eval here.now.setting) }
-    ensures meets { Runs exit_of result here.now.setting.funcs.now here.now.setting.depth
+    requires ready { N.ready here.now }
+    ensures { Ran exit_of result (N.setting here.now)
         (forms.assignment (tree_of e.now) (rules.stores WIDTH_LIMIT (bits.holds_bits (tree_type (tree_of e.now))) (all_places targets.now)))
-        run.old (K.written sink.old) run.new (K.written sink.new) }
-    ensures counts { Counts result (K.faults sink.old) (K.faults sink.new) }
-    ensures same_full { K.full sink.new ≡ K.full sink.old }
-    ensures keeps { Keeps result run.old run.new }
+        (at K.Sink run.old sink.old) (at K.Sink run.new sink.new) }
 {
     let holds_bits = e.ty().holds_bits();
-    let x = eval(here, run, sink, e)?;
+    let x = here.eval(run, sink, e)?;
     store(here, run, sink, targets, holds_bits, x)
 }
 
 /// Stores a value at these places, each its part; it is known whether bits occur in its type.
 #[tactic(auto, using(crate::proofs::Storing::stores_are))]
-fn store<K: Sink, E: Fn(Setting, &mut Run, &mut K, &Tree) -> Result<Value, Stop>, X>(
-    here: &Nodes<E, X>,
+fn store<K: Sink, N: Nodes<K>>(
+    here: &N,
     run: &mut Run,
     sink: &mut K,
     targets: &[TreePlace],
     holds_bits: bool,
     value: Value,
 ) -> Result<Exit, Stop>
-    requires evals { Evals K.written K.faults K.full here.now.setting.funcs.now here.now.setting.depth (E.pre here.now.eval here.now.setting) (E.post here.now.eval here.now.setting) }
-    ensures meets { Runs exit_of result here.now.setting.funcs.now here.now.setting.depth
+    requires ready { N.ready here.now }
+    ensures { Ran exit_of result (N.setting here.now)
         (λ c. lift (rules.stores WIDTH_LIMIT holds_bits (all_places targets.now) (value_of value)) c (λ ss. forms.store_each ss c))
-        run.old (K.written sink.old) run.new (K.written sink.new) }
-    ensures counts { Counts result (K.faults sink.old) (K.faults sink.new) }
-    ensures same_full { K.full sink.new ≡ K.full sink.old }
-    ensures keeps { Keeps result run.old run.new }
+        (at K.Sink run.old sink.old) (at K.Sink run.new sink.new) }
 {
-    let parts = parts_of(here.setting.alloc, targets, value)?;
+    let parts = parts_of(here.setting().alloc, targets, value)?;
     store_all(here, run, sink, targets, holds_bits, parts.as_slice())
 }
 
@@ -90,22 +82,19 @@ fn parts_of(alloc: Global, targets: &[TreePlace], value: Value) -> Result<Items<
 }
 
 /// Stores parts at their places, in turn.
-fn store_all<K: Sink, E: Fn(Setting, &mut Run, &mut K, &Tree) -> Result<Value, Stop>, X>(
-    here: &Nodes<E, X>,
+fn store_all<K: Sink, N: Nodes<K>>(
+    here: &N,
     run: &mut Run,
     sink: &mut K,
     targets: &[TreePlace],
     holds_bits: bool,
     parts: &[Value],
 ) -> Result<Exit, Stop>
-    requires evals { Evals K.written K.faults K.full here.now.setting.funcs.now here.now.setting.depth (E.pre here.now.eval here.now.setting) (E.post here.now.eval here.now.setting) }
+    requires ready { N.ready here.now }
     requires as_many { length parts.now ≡ length targets.now }
-    ensures meets { Runs exit_of result here.now.setting.funcs.now here.now.setting.depth
+    ensures { Ran exit_of result (N.setting here.now)
         (forms.store_each (all_taking holds_bits targets.now (map value_of parts.now)))
-        run.old (K.written sink.old) run.new (K.written sink.new) }
-    ensures counts { Counts result (K.faults sink.old) (K.faults sink.new) }
-    ensures same_full { K.full sink.new ≡ K.full sink.old }
-    ensures keeps { Keeps result run.old run.new }
+        (at K.Sink run.old sink.old) (at K.Sink run.new sink.new) }
 {
     let mut i = 0;
     while i < targets.len() {
@@ -116,21 +105,18 @@ fn store_all<K: Sink, E: Fn(Setting, &mut Run, &mut K, &Tree) -> Result<Value, S
 }
 
 /// A place takes a value: the operands of its steps are evaluated, and then it is stored.
-fn store_one<K: Sink, E: Fn(Setting, &mut Run, &mut K, &Tree) -> Result<Value, Stop>, X>(
-    here: &Nodes<E, X>,
+fn store_one<K: Sink, N: Nodes<K>>(
+    here: &N,
     run: &mut Run,
     sink: &mut K,
     target: &TreePlace,
     holds_bits: bool,
     part: &Value,
 ) -> Result<Exit, Stop>
-    requires evals { Evals K.written K.faults K.full here.now.setting.funcs.now here.now.setting.depth (E.pre here.now.eval here.now.setting) (E.post here.now.eval here.now.setting) }
-    ensures meets { Runs exit_of result here.now.setting.funcs.now here.now.setting.depth
+    requires ready { N.ready here.now }
+    ensures { Ran exit_of result (N.setting here.now)
         (forms.store_each (taking holds_bits target.now (value_of part.now) ∷ []))
-        run.old (K.written sink.old) run.new (K.written sink.new) }
-    ensures counts { Counts result (K.faults sink.old) (K.faults sink.new) }
-    ensures same_full { K.full sink.new ≡ K.full sink.old }
-    ensures keeps { Keeps result run.old run.new }
+        (at K.Sink run.old sink.old) (at K.Sink run.new sink.new) }
 {
     let part = Held::new(copy(part)?);
     let steps = eval_steps(here, run, sink, target.steps.as_slice())?;
@@ -140,7 +126,7 @@ fn store_one<K: Sink, E: Fn(Setting, &mut Run, &mut K, &Tree) -> Result<Value, S
         holds_bits,
     };
     assign_at(
-        here.setting.alloc,
+        here.setting().alloc,
         run,
         target.slot,
         &storing,
@@ -149,20 +135,17 @@ fn store_one<K: Sink, E: Fn(Setting, &mut Run, &mut K, &Tree) -> Result<Value, S
 }
 
 /// The steps of a place, the operands evaluated in order.
-fn eval_steps<K: Sink, E: Fn(Setting, &mut Run, &mut K, &Tree) -> Result<Value, Stop>, X>(
-    here: &Nodes<E, X>,
+fn eval_steps<K: Sink, N: Nodes<K>>(
+    here: &N,
     run: &mut Run,
     sink: &mut K,
     steps: &[TreeStep],
 ) -> Result<Items<Step>, Stop>
-    requires evals { Evals K.written K.faults K.full here.now.setting.funcs.now here.now.setting.depth (E.pre here.now.eval here.now.setting) (E.post here.now.eval here.now.setting) }
-    ensures meets { Runs all_steps result here.now.setting.funcs.now here.now.setting.depth (all_stepped steps.now [])
-        run.old (K.written sink.old) run.new (K.written sink.new) }
-    ensures counts { Counts result (K.faults sink.old) (K.faults sink.new) }
-    ensures same_full { K.full sink.new ≡ K.full sink.old }
-    ensures keeps { Keeps result run.old run.new }
+    requires ready { N.ready here.now }
+    ensures { Ran all_steps result (N.setting here.now) (all_stepped steps.now [])
+        (at K.Sink run.old sink.old) (at K.Sink run.new sink.new) }
 {
-    let mut found = Items::new(here.setting.alloc);
+    let mut found = Items::new(here.setting().alloc);
     for step in steps {
         let it = eval_step(here, run, sink, step)?;
         found.push(it)?;
@@ -171,55 +154,49 @@ fn eval_steps<K: Sink, E: Fn(Setting, &mut Run, &mut K, &Tree) -> Result<Value, 
 }
 
 /// A step, its operands evaluated in order.
-fn eval_step<K: Sink, E: Fn(Setting, &mut Run, &mut K, &Tree) -> Result<Value, Stop>, X>(
-    here: &Nodes<E, X>,
+fn eval_step<K: Sink, N: Nodes<K>>(
+    here: &N,
     run: &mut Run,
     sink: &mut K,
     step: &TreeStep,
 ) -> Result<Step, Stop>
-    requires evals { Evals K.written K.faults K.full here.now.setting.funcs.now here.now.setting.depth (E.pre here.now.eval here.now.setting) (E.post here.now.eval here.now.setting) }
-    ensures meets { Runs step_of result here.now.setting.funcs.now here.now.setting.depth (stepped step.now)
-        run.old (K.written sink.old) run.new (K.written sink.new) }
-    ensures counts { Counts result (K.faults sink.old) (K.faults sink.new) }
-    ensures same_full { K.full sink.new ≡ K.full sink.old }
-    ensures keeps { Keeps result run.old run.new }
+    requires ready { N.ready here.now }
+    ensures { Ran step_of result (N.setting here.now) (stepped step.now)
+        (at K.Sink run.old sink.old) (at K.Sink run.new sink.new) }
 {
     match step {
         TreeStep::Field(span, place) => Ok(Step::Field(*span, *place)),
         TreeStep::Bitfield(span, field) => Ok(Step::Bitfield(*span, field.share()?)),
         TreeStep::Bitfields(span, fields) => {
-            let fields = shared_fields(here.setting.alloc, fields.as_slice())?;
+            let fields = shared_fields(here.setting().alloc, fields.as_slice())?;
             Ok(Step::Bitfields(*span, fields))
         }
         TreeStep::Slices(span, shapes, es) => {
             eval_slices(here, run, sink, *span, shapes.as_slice(), es.as_slice())
         }
         TreeStep::Element(span, e) => {
-            let x = eval(here, run, sink, e)?;
+            let x = here.eval(run, sink, e)?;
             Ok(Step::Element(*span, x))
         }
     }
 }
 
 /// The expressions of slices in order.
-fn eval_slices<K: Sink, E: Fn(Setting, &mut Run, &mut K, &Tree) -> Result<Value, Stop>, X>(
-    here: &Nodes<E, X>,
+fn eval_slices<K: Sink, N: Nodes<K>>(
+    here: &N,
     run: &mut Run,
     sink: &mut K,
     span: Span,
     shapes: &[SliceShape],
     es: &[Tree],
 ) -> Result<Step, Stop>
-    requires evals { Evals K.written K.faults K.full here.now.setting.funcs.now here.now.setting.depth (E.pre here.now.eval here.now.setting) (E.post here.now.eval here.now.setting) }
-    ensures meets { Runs step_of result here.now.setting.funcs.now here.now.setting.depth
+    requires ready { N.ready here.now }
+    ensures { Ran step_of result (N.setting here.now)
         (λ c. in_turn (list_of (all_trees es.now)) [] c (λ xs c1. Ret (into_slices span (all_slices shapes.now) xs) c1))
-        run.old (K.written sink.old) run.new (K.written sink.new) }
-    ensures counts { Counts result (K.faults sink.old) (K.faults sink.new) }
-    ensures same_full { K.full sink.new ≡ K.full sink.old }
-    ensures keeps { Keeps result run.old run.new }
+        (at K.Sink run.old sink.old) (at K.Sink run.new sink.new) }
 {
     let zs = eval_all(here, run, sink, es)?;
-    let shapes = same_shapes(here.setting.alloc, shapes)?;
+    let shapes = same_shapes(here.setting().alloc, shapes)?;
     Ok(Step::Slices(span, shapes, zs))
 }
 

@@ -20,12 +20,12 @@ ghost use Rattle.asl_tree.specs.View.{tree_of};
 ghost use Rattle.asl_tree.specs.declared.act.TreeFunc.{TreeFunc};
 ghost use Rattle.asl_value.specs.private.Numbers.{answer_of};
 ghost use Rattle.asl_value.specs.View.{value_of};
-ghost use Rattle.asl_run.specs.Meets.{SameBut, SameRound};
+ghost use Rattle.asl_branches.specs.Meets.{SameBut, SameRound};
+ghost use Rattle.asl_branches.specs.View.{core_of, program_of};
 ghost use Rattle.asl_run.specs.private.AtOnce.{Did, decided_as, decision, element_in, Ends, Executed, Finds, Gives, Puts, Sets, found};
-ghost use Rattle.asl_run.specs.View.{core_of, program_of};
 
 use crate::places::value_at;
-use crate::run::Run;
+use asl_branches::run::Run;
 use asl_num as num;
 use asl_num::NumFault;
 use asl_rules::slot::Slot;

@@ -1,27 +1,25 @@
 //! Calls of subprograms.
-ghost use Rattle.std.specs.Prelude.{◌≡◌, ◌++◌, pos, map, option_map, reverse, slice_get, Some, IfOk, OnOk};
+ghost use Rattle.std.specs.Prelude.{◌≡◌, map, option_map, slice_get, Some, IfOk, OnOk};
 ghost use Rattle.asl_rules.specs.runs.Forms as forms;
-ghost use Rattle.asl_rules.specs.values.Operators.{less};
 ghost use Rattle.asl_rules.specs.private.TypedMeaning as rules;
 ghost use Rattle.asl_rules.specs.private.TypedMeaning.{list_of};
 ghost use Rattle.asl_tree.specs.Acts.{all_funcs, func_of};
 ghost use Rattle.asl_tree.specs.View.{all_trees};
 ghost use Rattle.asl_value.specs.View.{value_of};
-ghost use Rattle.asl_run.specs.private.Below.{Evals, Execs};
+ghost use Rattle.asl_branches.specs.Meets.{at, Is, Ran};
+ghost use Rattle.asl_branches.specs.View.{exit_of};
 ghost use Rattle.asl_run.specs.private.Calling.{body_of, call_given, ended, frame_called, frame_given, in_own_frame, Enters, Leaves};
-ghost use Rattle.asl_run.specs.Meets.{Counts, Is, Keeps, Runs};
-ghost use Rattle.asl_run.specs.View.{exit_of};
 
-use crate::below::exec_all;
-use crate::exprs::eval_all;
-use crate::run::{Caller, Run};
-use crate::setting::{Nodes, Setting};
-use crate::stop::{Exit, Mistake, Stop};
+use asl_allowed::activations::has_room;
+use asl_branches::below::Nodes;
+use asl_branches::lists::eval_all;
+use asl_branches::run::{Caller, Run};
+use asl_branches::stop::{Exit, Mistake, Stop};
 use asl_io::Sink;
 use asl_shape::{params_of, routine};
 use asl_syn::code::DynCode;
 use asl_syn::token::Span;
-use asl_tree::act::{Act, TreeFunc};
+use asl_tree::act::TreeFunc;
 use asl_tree::tree::{Callee, Tree};
 use asl_types::Ty;
 use asl_types::seeing::see;
@@ -50,26 +48,6 @@ pub struct Called<'r> {
 }
 
 // ---- values
-
-/// How often a subprogram is active.
-fn activations(id: usize, live: &[usize]) -> usize
-    ensures { result ≡ forms.activations id (reverse live.now) }
-{
-    let mut count = 0;
-    for other in live {
-        if *other == id {
-            count += 1;
-        }
-    }
-    count
-}
-
-/// Whether a subprogram may be active once more.
-fn has_room(id: usize, live: &[usize], limit: i128) -> bool
-    ensures { result ≡ less (pos (forms.activations id (reverse live.now))) limit }
-{
-    (activations(id, live) as i128) < limit
-}
 
 /// Copies of values in a list of their own.
 fn listed(alloc: Global, values: &[Value]) -> Result<Vec<Value>, AllocError>
@@ -190,20 +168,17 @@ pub struct Given {
 }
 
 /// The value of a call.
-pub fn eval_call<
-    K: Sink,
-    E: Fn(Setting, &mut Run, &mut K, &Tree) -> Result<Value, Stop>,
-    X: Fn(Setting, &mut Run, &mut K, &Items<Act>) -> Result<Exit, Stop>,
->(here: &Nodes<E, X>, run: &mut Run, sink: &mut K, call: Call) -> Result<Value, Stop>
-    requires evals { Evals K.written K.faults K.full here.now.setting.funcs.now here.now.setting.depth (E.pre here.now.eval here.now.setting) (E.post here.now.eval here.now.setting) }
-    requires execs { Execs K.written K.faults K.full here.now.setting.funcs.now here.now.setting.depth (X.pre here.now.exec here.now.setting) (X.post here.now.exec here.now.setting) }
-    ensures meets { Runs value_of result here.now.setting.funcs.now here.now.setting.depth
+pub fn eval_call<K: Sink, N: Nodes<K>>(
+    here: &N,
+    run: &mut Run,
+    sink: &mut K,
+    call: Call,
+) -> Result<Value, Stop>
+    requires ready { N.ready here.now }
+    ensures { Ran value_of result (N.setting here.now)
         (λ c. forms.call (list_of (all_trees call.entry.params.now)) (list_of (all_trees call.entry.args.now)) c
-        (body_of here.now.setting.funcs.now call.entry) (forms.function_gives call.entry.span))
-        run.old (K.written sink.old) run.new (K.written sink.new) }
-    ensures counts { Counts result (K.faults sink.old) (K.faults sink.new) }
-    ensures same_full { K.full sink.new ≡ K.full sink.old }
-    ensures keeps { Keeps result run.old run.new }
+        (body_of (N.setting here.now).funcs.now call.entry) (forms.function_gives call.entry.span))
+        (at K.Sink run.old sink.old) (at K.Sink run.new sink.new) }
 {
     match call_subprogram(here, run, sink, call)? {
         Some(x) => Ok(x),
@@ -212,20 +187,17 @@ pub fn eval_call<
 }
 
 /// Executes a call.
-pub fn exec_invoke<
-    K: Sink,
-    E: Fn(Setting, &mut Run, &mut K, &Tree) -> Result<Value, Stop>,
-    X: Fn(Setting, &mut Run, &mut K, &Items<Act>) -> Result<Exit, Stop>,
->(here: &Nodes<E, X>, run: &mut Run, sink: &mut K, call: Call) -> Result<Exit, Stop>
-    requires evals { Evals K.written K.faults K.full here.now.setting.funcs.now here.now.setting.depth (E.pre here.now.eval here.now.setting) (E.post here.now.eval here.now.setting) }
-    requires execs { Execs K.written K.faults K.full here.now.setting.funcs.now here.now.setting.depth (X.pre here.now.exec here.now.setting) (X.post here.now.exec here.now.setting) }
-    ensures meets { Runs exit_of result here.now.setting.funcs.now here.now.setting.depth
+pub fn exec_invoke<K: Sink, N: Nodes<K>>(
+    here: &N,
+    run: &mut Run,
+    sink: &mut K,
+    call: Call,
+) -> Result<Exit, Stop>
+    requires ready { N.ready here.now }
+    ensures { Ran exit_of result (N.setting here.now)
         (λ c. forms.call (list_of (all_trees call.entry.params.now)) (list_of (all_trees call.entry.args.now)) c
-        (body_of here.now.setting.funcs.now call.entry) (forms.procedure_gives call.entry.span))
-        run.old (K.written sink.old) run.new (K.written sink.new) }
-    ensures counts { Counts result (K.faults sink.old) (K.faults sink.new) }
-    ensures same_full { K.full sink.new ≡ K.full sink.old }
-    ensures keeps { Keeps result run.old run.new }
+        (body_of (N.setting here.now).funcs.now call.entry) (forms.procedure_gives call.entry.span))
+        (at K.Sink run.old sink.old) (at K.Sink run.new sink.new) }
 {
     match call_subprogram(here, run, sink, call)? {
         None => Ok(Exit::Normal),
@@ -234,18 +206,15 @@ pub fn exec_invoke<
 }
 
 /// The parameters in braces, the arguments, and what the callee gives for their values: a function a value, a procedure none.
-fn call_subprogram<
-    K: Sink,
-    E: Fn(Setting, &mut Run, &mut K, &Tree) -> Result<Value, Stop>,
-    X: Fn(Setting, &mut Run, &mut K, &Items<Act>) -> Result<Exit, Stop>,
->(here: &Nodes<E, X>, run: &mut Run, sink: &mut K, call: Call) -> Result<Option<Value>, Stop>
-    requires evals { Evals K.written K.faults K.full here.now.setting.funcs.now here.now.setting.depth (E.pre here.now.eval here.now.setting) (E.post here.now.eval here.now.setting) }
-    requires execs { Execs K.written K.faults K.full here.now.setting.funcs.now here.now.setting.depth (X.pre here.now.exec here.now.setting) (X.post here.now.exec here.now.setting) }
-    ensures meets { Runs (option_map value_of) result here.now.setting.funcs.now here.now.setting.depth (call_given here.now.setting.funcs.now call.entry)
-        run.old (K.written sink.old) run.new (K.written sink.new) }
-    ensures counts { Counts result (K.faults sink.old) (K.faults sink.new) }
-    ensures same_full { K.full sink.new ≡ K.full sink.old }
-    ensures keeps { Keeps result run.old run.new }
+fn call_subprogram<K: Sink, N: Nodes<K>>(
+    here: &N,
+    run: &mut Run,
+    sink: &mut K,
+    call: Call,
+) -> Result<Option<Value>, Stop>
+    requires ready { N.ready here.now }
+    ensures { Ran (option_map value_of) result (N.setting here.now) (call_given (N.setting here.now).funcs.now call.entry)
+        (at K.Sink run.old sink.old) (at K.Sink run.new sink.new) }
 {
     let params = eval_all(here, run, sink, call.params)?;
     let args = eval_all(here, run, sink, call.args)?;
@@ -253,25 +222,22 @@ fn call_subprogram<
 }
 
 /// What the callee gives.
-fn call_with<K: Sink, E, X: Fn(Setting, &mut Run, &mut K, &Items<Act>) -> Result<Exit, Stop>>(
-    here: &Nodes<E, X>,
+fn call_with<K: Sink, N: Nodes<K>>(
+    here: &N,
     run: &mut Run,
     sink: &mut K,
     call: Call,
     given: Given,
 ) -> Result<Option<Value>, Stop>
-    requires execs { Execs K.written K.faults K.full here.now.setting.funcs.now here.now.setting.depth (X.pre here.now.exec here.now.setting) (X.post here.now.exec here.now.setting) }
-    ensures meets { Runs (option_map value_of) result here.now.setting.funcs.now here.now.setting.depth
-        (body_of here.now.setting.funcs.now call.entry (map value_of given.params) (map value_of given.args))
-        run.old (K.written sink.old) run.new (K.written sink.new) }
-    ensures counts { Counts result (K.faults sink.old) (K.faults sink.new) }
-    ensures same_full { K.full sink.new ≡ K.full sink.old }
-    ensures keeps { Keeps result run.old run.new }
+    requires ready { N.ready here.now }
+    ensures { Ran (option_map value_of) result (N.setting here.now)
+        (body_of (N.setting here.now).funcs.now call.entry (map value_of given.params) (map value_of given.args))
+        (at K.Sink run.old sink.old) (at K.Sink run.new sink.new) }
 {
     match call.callee {
         Callee::Own(id) => call_own(here, run, sink, call, id, given),
         Callee::OfLibrary(which) => Ok(Some(routine(
-            here.setting.alloc,
+            here.setting().alloc,
             call.span,
             which,
             given.params.as_slice(),
@@ -281,24 +247,21 @@ fn call_with<K: Sink, E, X: Fn(Setting, &mut Run, &mut K, &Items<Act>) -> Result
 }
 
 /// A call of a subprogram of the program.
-fn call_own<K: Sink, E, X: Fn(Setting, &mut Run, &mut K, &Items<Act>) -> Result<Exit, Stop>>(
-    here: &Nodes<E, X>,
+fn call_own<K: Sink, N: Nodes<K>>(
+    here: &N,
     run: &mut Run,
     sink: &mut K,
     call: Call,
     id: usize,
     given: Given,
 ) -> Result<Option<Value>, Stop>
-    requires execs { Execs K.written K.faults K.full here.now.setting.funcs.now here.now.setting.depth (X.pre here.now.exec here.now.setting) (X.post here.now.exec here.now.setting) }
-    ensures meets { Runs (option_map value_of) result here.now.setting.funcs.now here.now.setting.depth
+    requires ready { N.ready here.now }
+    ensures { Ran (option_map value_of) result (N.setting here.now)
         (λ c. rules.called call.entry.span id call.entry.widths.now (map value_of given.params) (map value_of given.args) c
-        (slice_get (all_funcs here.now.setting.funcs.now) id))
-        run.old (K.written sink.old) run.new (K.written sink.new) }
-    ensures counts { Counts result (K.faults sink.old) (K.faults sink.new) }
-    ensures same_full { K.full sink.new ≡ K.full sink.old }
-    ensures keeps { Keeps result run.old run.new }
+        (slice_get (all_funcs (N.setting here.now).funcs.now) id))
+        (at K.Sink run.old sink.old) (at K.Sink run.new sink.new) }
 {
-    match here.setting.funcs.as_slice().get(id) {
+    match here.setting().funcs.as_slice().get(id) {
         None => Err(Stop::Stuck(Mistake::UnknownName, call.span)),
         Some(func) => call_limited(
             here,
@@ -317,57 +280,47 @@ fn call_own<K: Sink, E, X: Fn(Setting, &mut Run, &mut K, &Items<Act>) -> Result<
 
 /// D11 where it is as often active as it may be.
 #[tactic(auto, using(crate::proofs::Frames::called_frame))]
-fn call_limited<K: Sink, E, X: Fn(Setting, &mut Run, &mut K, &Items<Act>) -> Result<Exit, Stop>>(
-    here: &Nodes<E, X>,
+fn call_limited<K: Sink, N: Nodes<K>>(
+    here: &N,
     run: &mut Run,
     sink: &mut K,
     called: Called,
     widths: &[usize],
     given: Given,
 ) -> Result<Option<Value>, Stop>
-    requires execs { Execs K.written K.faults K.full here.now.setting.funcs.now here.now.setting.depth (X.pre here.now.exec here.now.setting) (X.post here.now.exec here.now.setting) }
-    ensures meets { Runs (option_map value_of) result here.now.setting.funcs.now here.now.setting.depth
+    requires ready { N.ready here.now }
+    ensures { Ran (option_map value_of) result (N.setting here.now)
         (λ c. rules.called called.entry.span called.entry.id widths.now (map value_of given.params) (map value_of given.args) c
         (Some (func_of called.entry.func.now)))
-        run.old (K.written sink.old) run.new (K.written sink.new) }
-    ensures counts { Counts result (K.faults sink.old) (K.faults sink.new) }
-    ensures same_full { K.full sink.new ≡ K.full sink.old }
-    ensures keeps { Keeps result run.old run.new }
+        (at K.Sink run.old sink.old) (at K.Sink run.new sink.new) }
 {
     if !has_room(called.id, run.live.as_slice(), called.func.limit) {
         return Err(Stop::Fault(DynCode::D11, called.span));
     }
     let formals = called.func.formals.as_slice();
-    let frame = frame_for(here.setting.alloc, called.span, widths, formals, given)?;
+    let frame = frame_for(here.setting().alloc, called.span, widths, formals, given)?;
     run_body(here, run, sink, called.id, called.func, frame)
 }
 
 /// Runs the body of a subprogram in a frame of its own.
 #[tactic(auto, using(crate::proofs::Frames::entered_core))]
-pub(crate) fn run_body<
-    K: Sink,
-    E,
-    X: Fn(Setting, &mut Run, &mut K, &Items<Act>) -> Result<Exit, Stop>,
->(
-    here: &Nodes<E, X>,
+pub(crate) fn run_body<K: Sink, N: Nodes<K>>(
+    here: &N,
     run: &mut Run,
     sink: &mut K,
     id: usize,
     func: &TreeFunc,
     frame: Vec<Value>,
 ) -> Result<Option<Value>, Stop>
-    requires execs { Execs K.written K.faults K.full here.now.setting.funcs.now here.now.setting.depth (X.pre here.now.exec here.now.setting) (X.post here.now.exec here.now.setting) }
-    ensures meets { Runs (option_map value_of) result here.now.setting.funcs.now here.now.setting.depth
+    requires ready { N.ready here.now }
+    ensures { Ran (option_map value_of) result (N.setting here.now)
         (in_own_frame id (func_of func.now) (map value_of frame.items))
-        run.old (K.written sink.old) run.new (K.written sink.new) }
-    ensures counts { Counts result (K.faults sink.old) (K.faults sink.new) }
-    ensures same_full { K.full sink.new ≡ K.full sink.old }
-    ensures keeps { Keeps result run.old run.new }
+        (at K.Sink run.old sink.old) (at K.Sink run.new sink.new) }
 {
-    enter(here.setting.alloc, run, id, frame)?;
-    match exec_all(here, run, sink, &func.body) {
+    enter(here.setting().alloc, run, id, frame)?;
+    match here.exec_all(run, sink, &func.body) {
         Ok(exit) => {
-            let given = body_gives(here.setting.alloc, func, exit)?;
+            let given = body_gives(here.setting().alloc, func, exit)?;
             leave(run);
             Ok(given)
         }

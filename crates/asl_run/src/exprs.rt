@@ -1,5 +1,5 @@
 //! Expressions: each function does what the rules say of a node. Its answer is `Stuck` exactly where they give no outcome.
-ghost use Rattle.std.specs.Prelude.{◌≡◌, map, IfOk};
+ghost use Rattle.std.specs.Prelude.{◌≡◌, IfOk};
 ghost use Rattle.asl_bits.specs.declared.TheConstants.{WIDTH_LIMIT};
 ghost use Rattle.asl_rules.specs.runs.Forms as forms;
 ghost use Rattle.asl_rules.specs.values.Operators as operators;
@@ -7,26 +7,23 @@ ghost use Rattle.asl_rules.specs.private.TypedMeaning.{list_of, tree_node};
 ghost use Rattle.asl_rules.specs.types.Views.{stripping};
 ghost use Rattle.asl_tree.specs.View.{tree_of, all_trees};
 ghost use Rattle.asl_value.specs.View.{value_of};
-ghost use Rattle.asl_run.specs.private.Below.{Evals, Execs};
-ghost use Rattle.asl_run.specs.Meets.{Counts, Keeps, Runs};
-ghost use Rattle.asl_run.specs.private.Operations.{evaluated, one_given, many_given, more_given};
-ghost use Rattle.asl_run.specs.View.{program_of};
+ghost use Rattle.asl_branches.specs.Meets.{at, Ran};
+ghost use Rattle.asl_branches.specs.View.{program_of};
+ghost use Rattle.asl_run.specs.private.Operations.{one_given, many_given, more_given};
 
-use crate::below::eval;
 use crate::calls::{Call, eval_call};
 use crate::operations::{Many, More, One, many_value, more_value, one_value};
 use crate::places::read;
-use crate::run::Run;
-use crate::setting::{Nodes, Setting};
-use crate::stop::{Exit, Stop};
+use asl_branches::below::Nodes;
+use asl_branches::lists::eval_all;
+use asl_branches::run::Run;
+use asl_branches::stop::Stop;
 use asl_io::Sink;
 use asl_shared::Held;
 use asl_syn::token::Span;
 use asl_syn::tree::BinaryOperator;
-use asl_tree::act::Act;
 use asl_tree::tree::Tree;
 use asl_value::{Value, binary, copy, element_of, literal, strip, truth};
-use sqlite_items::Items;
 use std::alloc::{AllocError, Global};
 
 /// An operator with its operands.
@@ -39,19 +36,16 @@ pub struct Operation<'r> {
 
 /// What an expression does once it is entered.
 #[inline(never)]
-pub fn eval_node<
-    K: Sink,
-    E: Fn(Setting, &mut Run, &mut K, &Tree) -> Result<Value, Stop>,
-    X: Fn(Setting, &mut Run, &mut K, &Items<Act>) -> Result<Exit, Stop>,
->(here: &Nodes<E, X>, run: &mut Run, sink: &mut K, e: &Tree) -> Result<Value, Stop>
-    requires evals { Evals K.written K.faults K.full here.now.setting.funcs.now here.now.setting.depth (E.pre here.now.eval here.now.setting) (E.post here.now.eval here.now.setting) }
-    requires execs { Execs K.written K.faults K.full here.now.setting.funcs.now here.now.setting.depth (X.pre here.now.exec here.now.setting) (X.post here.now.exec here.now.setting) }
-    ensures meets { Runs value_of result here.now.setting.funcs.now here.now.setting.depth
-        (tree_node (program_of here.now.setting.funcs.now) (tree_of e.now))
-        run.old (K.written sink.old) run.new (K.written sink.new) }
-    ensures counts { Counts result (K.faults sink.old) (K.faults sink.new) }
-    ensures same_full { K.full sink.new ≡ K.full sink.old }
-    ensures keeps { Keeps result run.old run.new }
+pub fn eval_node<K: Sink, N: Nodes<K>>(
+    here: &N,
+    run: &mut Run,
+    sink: &mut K,
+    e: &Tree,
+) -> Result<Value, Stop>
+    requires ready { N.ready here.now }
+    ensures { Ran value_of result (N.setting here.now)
+        (tree_node (program_of (N.setting here.now).funcs.now) (tree_of e.now))
+        (at K.Sink run.old sink.old) (at K.Sink run.new sink.new) }
 {
     match e {
         Tree::Int(note, n) => Ok(literal(note.span, *n)?),
@@ -162,60 +156,51 @@ pub fn eval_node<
     }
 }
 
-fn eval_one<K: Sink, E: Fn(Setting, &mut Run, &mut K, &Tree) -> Result<Value, Stop>, X>(
-    here: &Nodes<E, X>,
+fn eval_one<K: Sink, N: Nodes<K>>(
+    here: &N,
     run: &mut Run,
     sink: &mut K,
     span: Span,
     operand: &Tree,
     one: One,
 ) -> Result<Value, Stop>
-    requires evals { Evals K.written K.faults K.full here.now.setting.funcs.now here.now.setting.depth (E.pre here.now.eval here.now.setting) (E.post here.now.eval here.now.setting) }
-    ensures meets { Runs value_of result here.now.setting.funcs.now here.now.setting.depth
+    requires ready { N.ready here.now }
+    ensures { Ran value_of result (N.setting here.now)
         (λ c. forms.behind (tree_of operand.now) c (one_given span one.entry))
-        run.old (K.written sink.old) run.new (K.written sink.new) }
-    ensures counts { Counts result (K.faults sink.old) (K.faults sink.new) }
-    ensures same_full { K.full sink.new ≡ K.full sink.old }
-    ensures keeps { Keeps result run.old run.new }
+        (at K.Sink run.old sink.old) (at K.Sink run.new sink.new) }
 {
-    let x = Held::new(eval(here, run, sink, operand)?);
-    one_value(here.setting.alloc, span, one, x.get())
+    let x = Held::new(here.eval(run, sink, operand)?);
+    one_value(here.setting().alloc, span, one, x.get())
 }
 
-fn eval_binary<K: Sink, E: Fn(Setting, &mut Run, &mut K, &Tree) -> Result<Value, Stop>, X>(
-    here: &Nodes<E, X>,
+fn eval_binary<K: Sink, N: Nodes<K>>(
+    here: &N,
     run: &mut Run,
     sink: &mut K,
     left: &Tree,
     operation: Operation,
 ) -> Result<Value, Stop>
-    requires evals { Evals K.written K.faults K.full here.now.setting.funcs.now here.now.setting.depth (E.pre here.now.eval here.now.setting) (E.post here.now.eval here.now.setting) }
-    ensures meets { Runs value_of result here.now.setting.funcs.now here.now.setting.depth
+    requires ready { N.ready here.now }
+    ensures { Ran value_of result (N.setting here.now)
         (forms.operation WIDTH_LIMIT operation.entry.span operation.entry.operator (tree_of left.now) (tree_of operation.entry.right.now))
-        run.old (K.written sink.old) run.new (K.written sink.new) }
-    ensures counts { Counts result (K.faults sink.old) (K.faults sink.new) }
-    ensures same_full { K.full sink.new ≡ K.full sink.old }
-    ensures keeps { Keeps result run.old run.new }
+        (at K.Sink run.old sink.old) (at K.Sink run.new sink.new) }
 {
-    let x = Held::new(eval(here, run, sink, left)?);
+    let x = Held::new(here.eval(run, sink, left)?);
     eval_behind(here, run, sink, operation, x.get())
 }
 
 /// What an operator does behind its left operand: `&&`, `||` and `-->` may be decided by it.
-fn eval_behind<K: Sink, E: Fn(Setting, &mut Run, &mut K, &Tree) -> Result<Value, Stop>, X>(
-    here: &Nodes<E, X>,
+fn eval_behind<K: Sink, N: Nodes<K>>(
+    here: &N,
     run: &mut Run,
     sink: &mut K,
     operation: Operation,
     x: &Value,
 ) -> Result<Value, Stop>
-    requires evals { Evals K.written K.faults K.full here.now.setting.funcs.now here.now.setting.depth (E.pre here.now.eval here.now.setting) (E.post here.now.eval here.now.setting) }
-    ensures meets { Runs value_of result here.now.setting.funcs.now here.now.setting.depth
+    requires ready { N.ready here.now }
+    ensures { Ran value_of result (N.setting here.now)
         (forms.behind_left WIDTH_LIMIT operation.entry.span operation.entry.operator (tree_of operation.entry.right.now) (value_of x.now) (operators.strictness operation.entry.operator))
-        run.old (K.written sink.old) run.new (K.written sink.new) }
-    ensures counts { Counts result (K.faults sink.old) (K.faults sink.new) }
-    ensures same_full { K.full sink.new ≡ K.full sink.old }
-    ensures keeps { Keeps result run.old run.new }
+        (at K.Sink run.old sink.old) (at K.Sink run.new sink.new) }
 {
     match operation.operator {
         BinaryOperator::LogicalAnd => {
@@ -262,24 +247,21 @@ fn eval_behind<K: Sink, E: Fn(Setting, &mut Run, &mut K, &Tree) -> Result<Value,
     }
 }
 
-fn eval_right<K: Sink, E: Fn(Setting, &mut Run, &mut K, &Tree) -> Result<Value, Stop>, X>(
-    here: &Nodes<E, X>,
+fn eval_right<K: Sink, N: Nodes<K>>(
+    here: &N,
     run: &mut Run,
     sink: &mut K,
     operation: Operation,
     x: &Value,
 ) -> Result<Value, Stop>
-    requires evals { Evals K.written K.faults K.full here.now.setting.funcs.now here.now.setting.depth (E.pre here.now.eval here.now.setting) (E.post here.now.eval here.now.setting) }
-    ensures meets { Runs value_of result here.now.setting.funcs.now here.now.setting.depth
+    requires ready { N.ready here.now }
+    ensures { Ran value_of result (N.setting here.now)
         (forms.ask_right WIDTH_LIMIT operation.entry.span operation.entry.operator (tree_of operation.entry.right.now) (value_of x.now))
-        run.old (K.written sink.old) run.new (K.written sink.new) }
-    ensures counts { Counts result (K.faults sink.old) (K.faults sink.new) }
-    ensures same_full { K.full sink.new ≡ K.full sink.old }
-    ensures keeps { Keeps result run.old run.new }
+        (at K.Sink run.old sink.old) (at K.Sink run.new sink.new) }
 {
-    let y = Held::new(eval(here, run, sink, operation.right)?);
+    let y = Held::new(here.eval(run, sink, operation.right)?);
     Ok(binary(
-        here.setting.alloc,
+        here.setting().alloc,
         operation.span,
         operation.operator,
         x,
@@ -297,21 +279,18 @@ pub struct Conditional<'r> {
     pub second: &'r Tree,
 }
 
-fn eval_conditional<K: Sink, E: Fn(Setting, &mut Run, &mut K, &Tree) -> Result<Value, Stop>, X>(
-    here: &Nodes<E, X>,
+fn eval_conditional<K: Sink, N: Nodes<K>>(
+    here: &N,
     run: &mut Run,
     sink: &mut K,
     it: Conditional,
 ) -> Result<Value, Stop>
-    requires evals { Evals K.written K.faults K.full here.now.setting.funcs.now here.now.setting.depth (E.pre here.now.eval here.now.setting) (E.post here.now.eval here.now.setting) }
-    ensures meets { Runs value_of result here.now.setting.funcs.now here.now.setting.depth
+    requires ready { N.ready here.now }
+    ensures { Ran value_of result (N.setting here.now)
         (forms.conditional (stripping it.entry.holds_bits) it.entry.span (tree_of it.entry.condition.now) (tree_of it.entry.first.now) (tree_of it.entry.second.now))
-        run.old (K.written sink.old) run.new (K.written sink.new) }
-    ensures counts { Counts result (K.faults sink.old) (K.faults sink.new) }
-    ensures same_full { K.full sink.new ≡ K.full sink.old }
-    ensures keeps { Keeps result run.old run.new }
+        (at K.Sink run.old sink.old) (at K.Sink run.new sink.new) }
 {
-    let x = Held::new(eval(here, run, sink, it.condition)?);
+    let x = Held::new(here.eval(run, sink, it.condition)?);
     if truth(it.span, x.get())? {
         eval_branch(here, run, sink, it.holds_bits, it.first)
     } else {
@@ -320,22 +299,19 @@ fn eval_conditional<K: Sink, E: Fn(Setting, &mut Run, &mut K, &Tree) -> Result<V
 }
 
 /// The branch that is taken, whose bits lose their bitfields.
-fn eval_branch<K: Sink, E: Fn(Setting, &mut Run, &mut K, &Tree) -> Result<Value, Stop>, X>(
-    here: &Nodes<E, X>,
+fn eval_branch<K: Sink, N: Nodes<K>>(
+    here: &N,
     run: &mut Run,
     sink: &mut K,
     holds_bits: bool,
     e: &Tree,
 ) -> Result<Value, Stop>
-    requires evals { Evals K.written K.faults K.full here.now.setting.funcs.now here.now.setting.depth (E.pre here.now.eval here.now.setting) (E.post here.now.eval here.now.setting) }
-    ensures meets { Runs value_of result here.now.setting.funcs.now here.now.setting.depth (forms.branch_value (stripping holds_bits) (tree_of e.now))
-        run.old (K.written sink.old) run.new (K.written sink.new) }
-    ensures counts { Counts result (K.faults sink.old) (K.faults sink.new) }
-    ensures same_full { K.full sink.new ≡ K.full sink.old }
-    ensures keeps { Keeps result run.old run.new }
+    requires ready { N.ready here.now }
+    ensures { Ran value_of result (N.setting here.now) (forms.branch_value (stripping holds_bits) (tree_of e.now))
+        (at K.Sink run.old sink.old) (at K.Sink run.new sink.new) }
 {
-    let x = Held::new(eval(here, run, sink, e)?);
-    Ok(stripped(here.setting.alloc, holds_bits, x)?)
+    let x = Held::new(here.eval(run, sink, e)?);
+    Ok(stripped(here.setting().alloc, holds_bits, x)?)
 }
 
 /// A value without bitfields, where it is known whether bits occur in its type.
@@ -349,46 +325,21 @@ fn stripped(alloc: Global, holds_bits: bool, x: Held<Value>) -> Result<Value, Al
     }
 }
 
-/// The values of expressions in order.
-pub fn eval_all<K: Sink, E: Fn(Setting, &mut Run, &mut K, &Tree) -> Result<Value, Stop>, X>(
-    here: &Nodes<E, X>,
-    run: &mut Run,
-    sink: &mut K,
-    es: &[Tree],
-) -> Result<Items<Value>, Stop>
-    requires evals { Evals K.written K.faults K.full here.now.setting.funcs.now here.now.setting.depth (E.pre here.now.eval here.now.setting) (E.post here.now.eval here.now.setting) }
-    ensures meets { Runs (map value_of) result here.now.setting.funcs.now here.now.setting.depth (evaluated es.now)
-        run.old (K.written sink.old) run.new (K.written sink.new) }
-    ensures counts { Counts result (K.faults sink.old) (K.faults sink.new) }
-    ensures same_full { K.full sink.new ≡ K.full sink.old }
-    ensures keeps { Keeps result run.old run.new }
-{
-    let mut xs = Items::new(here.setting.alloc);
-    for e in es {
-        let x = eval(here, run, sink, e)?;
-        xs.push(x)?;
-    }
-    Ok(xs)
-}
-
-fn eval_many<K: Sink, E: Fn(Setting, &mut Run, &mut K, &Tree) -> Result<Value, Stop>, X>(
-    here: &Nodes<E, X>,
+fn eval_many<K: Sink, N: Nodes<K>>(
+    here: &N,
     run: &mut Run,
     sink: &mut K,
     span: Span,
     es: &[Tree],
     many: Many,
 ) -> Result<Value, Stop>
-    requires evals { Evals K.written K.faults K.full here.now.setting.funcs.now here.now.setting.depth (E.pre here.now.eval here.now.setting) (E.post here.now.eval here.now.setting) }
-    ensures meets { Runs value_of result here.now.setting.funcs.now here.now.setting.depth
+    requires ready { N.ready here.now }
+    ensures { Ran value_of result (N.setting here.now)
         (λ c. forms.behind_all (list_of (all_trees es.now)) c (many_given span many.entry))
-        run.old (K.written sink.old) run.new (K.written sink.new) }
-    ensures counts { Counts result (K.faults sink.old) (K.faults sink.new) }
-    ensures same_full { K.full sink.new ≡ K.full sink.old }
-    ensures keeps { Keeps result run.old run.new }
+        (at K.Sink run.old sink.old) (at K.Sink run.new sink.new) }
 {
     let xs = eval_all(here, run, sink, es)?;
-    many_value(here.setting.alloc, span, many, xs)
+    many_value(here.setting().alloc, span, many, xs)
 }
 
 /// What is done with an operand and with those behind it.
@@ -398,46 +349,40 @@ pub struct Behind<'r> {
     pub more: More<'r>,
 }
 
-fn eval_more<K: Sink, E: Fn(Setting, &mut Run, &mut K, &Tree) -> Result<Value, Stop>, X>(
-    here: &Nodes<E, X>,
+fn eval_more<K: Sink, N: Nodes<K>>(
+    here: &N,
     run: &mut Run,
     sink: &mut K,
     operand: &Tree,
     es: &[Tree],
     behind: Behind,
 ) -> Result<Value, Stop>
-    requires evals { Evals K.written K.faults K.full here.now.setting.funcs.now here.now.setting.depth (E.pre here.now.eval here.now.setting) (E.post here.now.eval here.now.setting) }
-    ensures meets { Runs value_of result here.now.setting.funcs.now here.now.setting.depth
+    requires ready { N.ready here.now }
+    ensures { Ran value_of result (N.setting here.now)
         (λ c. forms.behind_more (tree_of operand.now) (list_of (all_trees es.now)) c (more_given behind.entry.span behind.entry.more))
-        run.old (K.written sink.old) run.new (K.written sink.new) }
-    ensures counts { Counts result (K.faults sink.old) (K.faults sink.new) }
-    ensures same_full { K.full sink.new ≡ K.full sink.old }
-    ensures keeps { Keeps result run.old run.new }
+        (at K.Sink run.old sink.old) (at K.Sink run.new sink.new) }
 {
-    let x = Held::new(eval(here, run, sink, operand)?);
+    let x = Held::new(here.eval(run, sink, operand)?);
     eval_behind_one(here, run, sink, x.get(), es, behind)
 }
 
 /// The operands behind the first.
-fn eval_behind_one<K: Sink, E: Fn(Setting, &mut Run, &mut K, &Tree) -> Result<Value, Stop>, X>(
-    here: &Nodes<E, X>,
+fn eval_behind_one<K: Sink, N: Nodes<K>>(
+    here: &N,
     run: &mut Run,
     sink: &mut K,
     x: &Value,
     es: &[Tree],
     behind: Behind,
 ) -> Result<Value, Stop>
-    requires evals { Evals K.written K.faults K.full here.now.setting.funcs.now here.now.setting.depth (E.pre here.now.eval here.now.setting) (E.post here.now.eval here.now.setting) }
-    ensures meets { Runs value_of result here.now.setting.funcs.now here.now.setting.depth
+    requires ready { N.ready here.now }
+    ensures { Ran value_of result (N.setting here.now)
         (λ c. forms.behind_all (list_of (all_trees es.now)) c (more_given behind.entry.span behind.entry.more (value_of x.now)))
-        run.old (K.written sink.old) run.new (K.written sink.new) }
-    ensures counts { Counts result (K.faults sink.old) (K.faults sink.new) }
-    ensures same_full { K.full sink.new ≡ K.full sink.old }
-    ensures keeps { Keeps result run.old run.new }
+        (at K.Sink run.old sink.old) (at K.Sink run.new sink.new) }
 {
     let zs = eval_all(here, run, sink, es)?;
     more_value(
-        here.setting.alloc,
+        here.setting().alloc,
         behind.span,
         behind.more,
         x,
@@ -445,23 +390,20 @@ fn eval_behind_one<K: Sink, E: Fn(Setting, &mut Run, &mut K, &Tree) -> Result<Va
     )
 }
 
-fn eval_element<K: Sink, E: Fn(Setting, &mut Run, &mut K, &Tree) -> Result<Value, Stop>, X>(
-    here: &Nodes<E, X>,
+fn eval_element<K: Sink, N: Nodes<K>>(
+    here: &N,
     run: &mut Run,
     sink: &mut K,
     span: Span,
     array: &Tree,
     index: &Tree,
 ) -> Result<Value, Stop>
-    requires evals { Evals K.written K.faults K.full here.now.setting.funcs.now here.now.setting.depth (E.pre here.now.eval here.now.setting) (E.post here.now.eval here.now.setting) }
-    ensures meets { Runs value_of result here.now.setting.funcs.now here.now.setting.depth
+    requires ready { N.ready here.now }
+    ensures { Ran value_of result (N.setting here.now)
         (forms.element span (tree_of array.now) (tree_of index.now))
-        run.old (K.written sink.old) run.new (K.written sink.new) }
-    ensures counts { Counts result (K.faults sink.old) (K.faults sink.new) }
-    ensures same_full { K.full sink.new ≡ K.full sink.old }
-    ensures keeps { Keeps result run.old run.new }
+        (at K.Sink run.old sink.old) (at K.Sink run.new sink.new) }
 {
-    let x = Held::new(eval(here, run, sink, array)?);
-    let y = Held::new(eval(here, run, sink, index)?);
+    let x = Held::new(here.eval(run, sink, array)?);
+    let y = Held::new(here.eval(run, sink, index)?);
     Ok(element_of(span, x.get(), y.get())?)
 }

@@ -1,18 +1,18 @@
 //! The entry into a node: it takes a step, and is refused where none is left (D13) or where no node more may be open (D12).
 //! What is evaluated or executed at once isn't entered so.
-ghost use Rattle.std.specs.Prelude.{◌≡◌};
 ghost use Rattle.asl_rules.specs.runs.StatementForms as forms;
 ghost use Rattle.asl_rules.specs.private.TypedMeaning.{acts_of};
 ghost use Rattle.asl_tree.specs.Acts.{all_acts};
-ghost use Rattle.asl_run.specs.Meets.{Counts, Evaluates, Executes, Keeps, Runs};
-ghost use Rattle.asl_run.specs.View.{exit_of};
+ghost use Rattle.asl_branches.specs.Meets.{Evaluates, Executes, Ran, at};
+ghost use Rattle.asl_branches.specs.View.{exit_of};
 
 use crate::at_once::{AtOnce, evaluated, executed};
 use crate::exprs::eval_node;
-use crate::run::Run;
-use crate::setting::{Nodes, Setting};
+use crate::level::Level;
 use crate::stmts::{act_span, exec_node};
-use crate::stop::{Exit, Stop};
+use asl_branches::run::Run;
+use asl_branches::setting::Setting;
+use asl_branches::stop::{Exit, Stop};
 use asl_io::Sink;
 use asl_syn::code::DynCode;
 use asl_tree::act::Act;
@@ -23,11 +23,7 @@ use sqlite_items::Items;
 /// The value of an expression.
 #[cycle(run)]
 pub fn eval<K: Sink>(here: Setting, run: &mut Run, sink: &mut K, e: &Tree) -> Result<Value, Stop>
-    ensures meets { Evaluates result here.entry.funcs.now here.entry.depth e.now
-        run.old (K.written sink.old) run.new (K.written sink.new) }
-    ensures counts { Counts result (K.faults sink.old) (K.faults sink.new) }
-    ensures same_full { K.full sink.new ≡ K.full sink.old }
-    ensures keeps { Keeps result run.old run.new }
+    ensures { Evaluates result here.entry e.now (at K.Sink run.old sink.old) (at K.Sink run.new sink.new) }
 {
     let mut left = run.steps;
     match evaluated(run, &mut left, here.depth, e) {
@@ -47,11 +43,7 @@ pub fn eval<K: Sink>(here: Setting, run: &mut Run, sink: &mut K, e: &Tree) -> Re
 #[cycle(run)]
 #[tactic(auto, using(crate::proofs::Entries::expr_stepless, crate::proofs::Entries::expr_deep, crate::proofs::Entries::expr_entered))]
 fn enter_expr<K: Sink>(here: Setting, run: &mut Run, sink: &mut K, e: &Tree) -> Result<Value, Stop>
-    ensures meets { Evaluates result here.entry.funcs.now here.entry.depth e.now
-        run.old (K.written sink.old) run.new (K.written sink.new) }
-    ensures counts { Counts result (K.faults sink.old) (K.faults sink.new) }
-    ensures same_full { K.full sink.new ≡ K.full sink.old }
-    ensures keeps { Keeps result run.old run.new }
+    ensures { Evaluates result here.entry e.now (at K.Sink run.old sink.old) (at K.Sink run.new sink.new) }
 {
     if run.steps == 0 {
         return Err(Stop::Fault(DynCode::D13, e.span()));
@@ -61,7 +53,7 @@ fn enter_expr<K: Sink>(here: Setting, run: &mut Run, sink: &mut K, e: &Tree) -> 
     }
     run.steps -= 1;
     eval_node(
-        &Nodes {
+        &Level {
             setting: Setting {
                 alloc: here.alloc,
                 funcs: here.funcs,
@@ -79,11 +71,7 @@ fn enter_expr<K: Sink>(here: Setting, run: &mut Run, sink: &mut K, e: &Tree) -> 
 /// Executes a statement.
 #[cycle(run)]
 pub fn exec<K: Sink>(here: Setting, run: &mut Run, sink: &mut K, s: &Act) -> Result<Exit, Stop>
-    ensures meets { Executes result here.entry.funcs.now here.entry.depth s.now
-        run.old (K.written sink.old) run.new (K.written sink.new) }
-    ensures counts { Counts result (K.faults sink.old) (K.faults sink.new) }
-    ensures same_full { K.full sink.new ≡ K.full sink.old }
-    ensures keeps { Keeps result run.old run.new }
+    ensures { Executes result here.entry s.now (at K.Sink run.old sink.old) (at K.Sink run.new sink.new) }
 {
     if executed(run, here.depth, s) {
         Ok(Exit::Normal)
@@ -96,11 +84,7 @@ pub fn exec<K: Sink>(here: Setting, run: &mut Run, sink: &mut K, s: &Act) -> Res
 #[cycle(run)]
 #[tactic(auto, using(crate::proofs::Entries::stmt_stepless, crate::proofs::Entries::stmt_deep, crate::proofs::Entries::stmt_entered))]
 fn enter_stmt<K: Sink>(here: Setting, run: &mut Run, sink: &mut K, s: &Act) -> Result<Exit, Stop>
-    ensures meets { Executes result here.entry.funcs.now here.entry.depth s.now
-        run.old (K.written sink.old) run.new (K.written sink.new) }
-    ensures counts { Counts result (K.faults sink.old) (K.faults sink.new) }
-    ensures same_full { K.full sink.new ≡ K.full sink.old }
-    ensures keeps { Keeps result run.old run.new }
+    ensures { Executes result here.entry s.now (at K.Sink run.old sink.old) (at K.Sink run.new sink.new) }
 {
     if run.steps == 0 {
         return Err(Stop::Fault(DynCode::D13, act_span(s)));
@@ -110,7 +94,7 @@ fn enter_stmt<K: Sink>(here: Setting, run: &mut Run, sink: &mut K, s: &Act) -> R
     }
     run.steps -= 1;
     exec_node(
-        &Nodes {
+        &Level {
             setting: Setting {
                 alloc: here.alloc,
                 funcs: here.funcs,
@@ -133,12 +117,8 @@ pub fn exec_all<K: Sink>(
     sink: &mut K,
     list: &Items<Act>,
 ) -> Result<Exit, Stop>
-    ensures meets { Runs exit_of result here.entry.funcs.now here.entry.depth
-        (forms.in_order (acts_of (all_acts list.now)))
-        run.old (K.written sink.old) run.new (K.written sink.new) }
-    ensures counts { Counts result (K.faults sink.old) (K.faults sink.new) }
-    ensures same_full { K.full sink.new ≡ K.full sink.old }
-    ensures keeps { Keeps result run.old run.new }
+    ensures { Ran exit_of result here.entry (forms.in_order (acts_of (all_acts list.now)))
+        (at K.Sink run.old sink.old) (at K.Sink run.new sink.new) }
 {
     for s in list.as_slice() {
         match exec(here, run, sink, s)? {

@@ -8,16 +8,14 @@ ghost use Rattle.asl_rules.specs.values.Values.{int};
 ghost use Rattle.asl_tree.specs.Acts.{all_acts, maybe_tree};
 ghost use Rattle.asl_tree.specs.View.{tree_of};
 ghost use Rattle.asl_value.specs.View.{value_of};
-ghost use Rattle.asl_run.specs.private.Below.{Evals, Execs};
+ghost use Rattle.asl_branches.specs.Meets.{at, Is, Ran};
+ghost use Rattle.asl_branches.specs.View.{exit_of};
 ghost use Rattle.asl_run.specs.private.Looping.{between, limit_asked, turn_until};
-ghost use Rattle.asl_run.specs.Meets.{Counts, Is, Keeps, Runs};
-ghost use Rattle.asl_run.specs.View.{exit_of};
 
-use crate::below::eval;
-use crate::run::Run;
-use crate::setting::{Nodes, Setting};
-use crate::stmts::{exec_scope, exec_scope_with};
-use crate::stop::{Exit, Mistake, Stop};
+use asl_branches::below::Nodes;
+use asl_branches::lists::{exec_scope, exec_scope_with};
+use asl_branches::run::Run;
+use asl_branches::stop::{Exit, Mistake, Stop};
 use asl_io::Sink;
 use asl_shared::Held;
 use asl_syn::code::DynCode;
@@ -86,24 +84,21 @@ fn whole_number(span: Span, x: &Value) -> Result<i128, Stop>
 }
 
 /// How many turns a loop has at most: what its limit lets through, which is evaluated once.
-fn turns_of<K: Sink, E: Fn(Setting, &mut Run, &mut K, &Tree) -> Result<Value, Stop>, X>(
-    here: &Nodes<E, X>,
+fn turns_of<K: Sink, N: Nodes<K>>(
+    here: &N,
     run: &mut Run,
     sink: &mut K,
     span: Span,
     limit: &Option<Tree>,
 ) -> Result<u128, Stop>
-    requires evals { Evals K.written K.faults K.full here.now.setting.funcs.now here.now.setting.depth (E.pre here.now.eval here.now.setting) (E.post here.now.eval here.now.setting) }
-    ensures meets { Runs (λ n. n) result here.now.setting.funcs.now here.now.setting.depth (limit_asked span (maybe_tree limit.now))
-        run.old (K.written sink.old) run.new (K.written sink.new) }
-    ensures counts { Counts result (K.faults sink.old) (K.faults sink.new) }
-    ensures same_full { K.full sink.new ≡ K.full sink.old }
-    ensures keeps { Keeps result run.old run.new }
+    requires ready { N.ready here.now }
+    ensures { Ran (λ n. n) result (N.setting here.now) (limit_asked span (maybe_tree limit.now))
+        (at K.Sink run.old sink.old) (at K.Sink run.new sink.new) }
 {
     match limit {
         None => Ok(usual_turns()),
         Some(e) => {
-            let z = Held::new(eval(here, run, sink, e)?);
+            let z = Held::new(here.eval(run, sink, e)?);
             Ok(turns_in(whole_number(span, z.get())?))
         }
     }
@@ -112,29 +107,21 @@ fn turns_of<K: Sink, E: Fn(Setting, &mut Run, &mut K, &Tree) -> Result<Value, St
 // ---- `for`
 
 /// A `for`: its bounds and then its limit, each evaluated once, and then its turns.
-pub fn exec_for<
-    K: Sink,
-    E: Fn(Setting, &mut Run, &mut K, &Tree) -> Result<Value, Stop>,
-    X: Fn(Setting, &mut Run, &mut K, &Items<Act>) -> Result<Exit, Stop>,
->(
-    here: &Nodes<E, X>,
+pub fn exec_for<K: Sink, N: Nodes<K>>(
+    here: &N,
     run: &mut Run,
     sink: &mut K,
     span: Span,
     it: &Bounds,
     body: &Items<Act>,
 ) -> Result<Exit, Stop>
-    requires evals { Evals K.written K.faults K.full here.now.setting.funcs.now here.now.setting.depth (E.pre here.now.eval here.now.setting) (E.post here.now.eval here.now.setting) }
-    requires execs { Execs K.written K.faults K.full here.now.setting.funcs.now here.now.setting.depth (X.pre here.now.exec here.now.setting) (X.post here.now.exec here.now.setting) }
-    ensures meets { Runs exit_of result here.now.setting.funcs.now here.now.setting.depth
+    requires ready { N.ready here.now }
+    ensures { Ran exit_of result (N.setting here.now)
         (forms.for_loop in_bare indexed span (tree_of it.now.from) it.now.direction (tree_of it.now.to) (maybe_tree it.now.limit) (acts_of (all_acts body.now)))
-        run.old (K.written sink.old) run.new (K.written sink.new) }
-    ensures counts { Counts result (K.faults sink.old) (K.faults sink.new) }
-    ensures same_full { K.full sink.new ≡ K.full sink.old }
-    ensures keeps { Keeps result run.old run.new }
+        (at K.Sink run.old sink.old) (at K.Sink run.new sink.new) }
 {
-    let x = Held::new(eval(here, run, sink, &it.from)?);
-    let y = Held::new(eval(here, run, sink, &it.to)?);
+    let x = Held::new(here.eval(run, sink, &it.from)?);
+    let y = Held::new(here.eval(run, sink, &it.to)?);
     let count = turns_of(here, run, sink, span, &it.limit)?;
     let between = Between {
         span,
@@ -147,20 +134,17 @@ pub fn exec_for<
 }
 
 /// The bounds as integers.
-fn for_bounds<K: Sink, E, X: Fn(Setting, &mut Run, &mut K, &Items<Act>) -> Result<Exit, Stop>>(
-    here: &Nodes<E, X>,
+fn for_bounds<K: Sink, N: Nodes<K>>(
+    here: &N,
     run: &mut Run,
     sink: &mut K,
     it: Between,
     body: &Items<Act>,
 ) -> Result<Exit, Stop>
-    requires execs { Execs K.written K.faults K.full here.now.setting.funcs.now here.now.setting.depth (X.pre here.now.exec here.now.setting) (X.post here.now.exec here.now.setting) }
-    ensures meets { Runs exit_of result here.now.setting.funcs.now here.now.setting.depth
+    requires ready { N.ready here.now }
+    ensures { Ran exit_of result (N.setting here.now)
         (between it.entry.span it.entry.direction (value_of it.entry.first.now) (value_of it.entry.last.now) (acts_of (all_acts body.now)) it.entry.count)
-        run.old (K.written sink.old) run.new (K.written sink.new) }
-    ensures counts { Counts result (K.faults sink.old) (K.faults sink.new) }
-    ensures same_full { K.full sink.new ≡ K.full sink.old }
-    ensures keeps { Keeps result run.old run.new }
+        (at K.Sink run.old sink.old) (at K.Sink run.new sink.new) }
 {
     let first = whole_number(it.span, it.first)?;
     let last = whole_number(it.span, it.last)?;
@@ -206,21 +190,18 @@ fn next_index(direction: Direction, last: i128, i: i128) -> Option<i128>
 
 /// Turns with an index, or for an empty body, which takes no step, their number alone: the last index may be 2^128 - 1 turns
 /// later. The first index isn't past the last.
-fn for_indices<K: Sink, E, X: Fn(Setting, &mut Run, &mut K, &Items<Act>) -> Result<Exit, Stop>>(
-    here: &Nodes<E, X>,
+fn for_indices<K: Sink, N: Nodes<K>>(
+    here: &N,
     run: &mut Run,
     sink: &mut K,
     it: Turns,
     body: &Items<Act>,
 ) -> Result<Exit, Stop>
-    requires execs { Execs K.written K.faults K.full here.now.setting.funcs.now here.now.setting.depth (X.pre here.now.exec here.now.setting) (X.post here.now.exec here.now.setting) }
+    requires ready { N.ready here.now }
     requires within { forms.is_past it.direction it.last it.first ≡ false }
-    ensures meets { Runs exit_of result here.now.setting.funcs.now here.now.setting.depth
+    ensures { Ran exit_of result (N.setting here.now)
         (forms.index_turn in_bare indexed it.span it.direction it.last (acts_of (all_acts body.now)) it.count it.first)
-        run.old (K.written sink.old) run.new (K.written sink.new) }
-    ensures counts { Counts result (K.faults sink.old) (K.faults sink.new) }
-    ensures same_full { K.full sink.new ≡ K.full sink.old }
-    ensures keeps { Keeps result run.old run.new }
+        (at K.Sink run.old sink.old) (at K.Sink run.new sink.new) }
 {
     if !body.is_empty() {
         return for_turns(here, run, sink, it, body);
@@ -234,21 +215,18 @@ fn for_indices<K: Sink, E, X: Fn(Setting, &mut Run, &mut K, &Items<Act>) -> Resu
 
 /// Turns with an index, as many as the limit lets through (D10). The first index isn't past the last.
 #[tactic(auto, using(crate::proofs::Rounds::index_more, crate::proofs::Rounds::index_none))]
-fn for_turns<K: Sink, E, X: Fn(Setting, &mut Run, &mut K, &Items<Act>) -> Result<Exit, Stop>>(
-    here: &Nodes<E, X>,
+fn for_turns<K: Sink, N: Nodes<K>>(
+    here: &N,
     run: &mut Run,
     sink: &mut K,
     it: Turns,
     body: &Items<Act>,
 ) -> Result<Exit, Stop>
-    requires execs { Execs K.written K.faults K.full here.now.setting.funcs.now here.now.setting.depth (X.pre here.now.exec here.now.setting) (X.post here.now.exec here.now.setting) }
+    requires ready { N.ready here.now }
     requires within { forms.is_past it.direction it.last it.first ≡ false }
-    ensures meets { Runs exit_of result here.now.setting.funcs.now here.now.setting.depth
+    ensures { Ran exit_of result (N.setting here.now)
         (forms.index_turn in_bare indexed it.span it.direction it.last (acts_of (all_acts body.now)) it.count it.first)
-        run.old (K.written sink.old) run.new (K.written sink.new) }
-    ensures counts { Counts result (K.faults sink.old) (K.faults sink.new) }
-    ensures same_full { K.full sink.new ≡ K.full sink.old }
-    ensures keeps { Keeps result run.old run.new }
+        (at K.Sink run.old sink.old) (at K.Sink run.new sink.new) }
 {
     let mut i = it.first;
     let mut left = it.count;
@@ -267,20 +245,17 @@ fn for_turns<K: Sink, E, X: Fn(Setting, &mut Run, &mut K, &Items<Act>) -> Result
 }
 
 /// A turn with its index.
-fn exec_turn<K: Sink, E, X: Fn(Setting, &mut Run, &mut K, &Items<Act>) -> Result<Exit, Stop>>(
-    here: &Nodes<E, X>,
+fn exec_turn<K: Sink, N: Nodes<K>>(
+    here: &N,
     run: &mut Run,
     sink: &mut K,
     i: i128,
     body: &Items<Act>,
 ) -> Result<Exit, Stop>
-    requires execs { Execs K.written K.faults K.full here.now.setting.funcs.now here.now.setting.depth (X.pre here.now.exec here.now.setting) (X.post here.now.exec here.now.setting) }
-    ensures meets { Runs exit_of result here.now.setting.funcs.now here.now.setting.depth
+    requires ready { N.ready here.now }
+    ensures { Ran exit_of result (N.setting here.now)
         (forms.scope_with in_bare (indexed (int i)) (acts_of (all_acts body.now)))
-        run.old (K.written sink.old) run.new (K.written sink.new) }
-    ensures counts { Counts result (K.faults sink.old) (K.faults sink.new) }
-    ensures same_full { K.full sink.new ≡ K.full sink.old }
-    ensures keeps { Keeps result run.old run.new }
+        (at K.Sink run.old sink.old) (at K.Sink run.new sink.new) }
 {
     exec_scope_with(here, run, sink, Value::Int(i), body)
 }
@@ -288,26 +263,18 @@ fn exec_turn<K: Sink, E, X: Fn(Setting, &mut Run, &mut K, &Items<Act>) -> Result
 // ---- `while`
 
 /// A `while`: its limit, evaluated once, then its condition, and turns while that holds.
-pub fn exec_while<
-    K: Sink,
-    E: Fn(Setting, &mut Run, &mut K, &Tree) -> Result<Value, Stop>,
-    X: Fn(Setting, &mut Run, &mut K, &Items<Act>) -> Result<Exit, Stop>,
->(
-    here: &Nodes<E, X>,
+pub fn exec_while<K: Sink, N: Nodes<K>>(
+    here: &N,
     run: &mut Run,
     sink: &mut K,
     span: Span,
     it: &Guard,
     body: &Items<Act>,
 ) -> Result<Exit, Stop>
-    requires evals { Evals K.written K.faults K.full here.now.setting.funcs.now here.now.setting.depth (E.pre here.now.eval here.now.setting) (E.post here.now.eval here.now.setting) }
-    requires execs { Execs K.written K.faults K.full here.now.setting.funcs.now here.now.setting.depth (X.pre here.now.exec here.now.setting) (X.post here.now.exec here.now.setting) }
-    ensures meets { Runs exit_of result here.now.setting.funcs.now here.now.setting.depth
+    requires ready { N.ready here.now }
+    ensures { Ran exit_of result (N.setting here.now)
         (forms.while_loop in_bare span (tree_of it.now.condition) (maybe_tree it.now.limit) (acts_of (all_acts body.now)))
-        run.old (K.written sink.old) run.new (K.written sink.new) }
-    ensures counts { Counts result (K.faults sink.old) (K.faults sink.new) }
-    ensures same_full { K.full sink.new ≡ K.full sink.old }
-    ensures keeps { Keeps result run.old run.new }
+        (at K.Sink run.old sink.old) (at K.Sink run.new sink.new) }
 {
     let count = turns_of(here, run, sink, span, &it.limit)?;
     let limited = Limited {
@@ -319,29 +286,21 @@ pub fn exec_while<
 }
 
 /// The condition, and turns where it holds.
-fn while_turns<
-    K: Sink,
-    E: Fn(Setting, &mut Run, &mut K, &Tree) -> Result<Value, Stop>,
-    X: Fn(Setting, &mut Run, &mut K, &Items<Act>) -> Result<Exit, Stop>,
->(
-    here: &Nodes<E, X>,
+fn while_turns<K: Sink, N: Nodes<K>>(
+    here: &N,
     run: &mut Run,
     sink: &mut K,
     it: Limited,
     condition: &Tree,
     body: &Items<Act>,
 ) -> Result<Exit, Stop>
-    requires evals { Evals K.written K.faults K.full here.now.setting.funcs.now here.now.setting.depth (E.pre here.now.eval here.now.setting) (E.post here.now.eval here.now.setting) }
-    requires execs { Execs K.written K.faults K.full here.now.setting.funcs.now here.now.setting.depth (X.pre here.now.exec here.now.setting) (X.post here.now.exec here.now.setting) }
-    ensures meets { Runs exit_of result here.now.setting.funcs.now here.now.setting.depth
+    requires ready { N.ready here.now }
+    ensures { Ran exit_of result (N.setting here.now)
         (λ c. forms.asked it.span (tree_of condition.now) c
         (turn_until it.until it.span (tree_of condition.now) (acts_of (all_acts body.now)) it.count) forms.done_normal)
-        run.old (K.written sink.old) run.new (K.written sink.new) }
-    ensures counts { Counts result (K.faults sink.old) (K.faults sink.new) }
-    ensures same_full { K.full sink.new ≡ K.full sink.old }
-    ensures keeps { Keeps result run.old run.new }
+        (at K.Sink run.old sink.old) (at K.Sink run.new sink.new) }
 {
-    let x = Held::new(eval(here, run, sink, condition)?);
+    let x = Held::new(here.eval(run, sink, condition)?);
     if truth(it.span, x.get())? {
         exec_turns(here, run, sink, it, condition, body)
     } else {
@@ -352,26 +311,18 @@ fn while_turns<
 // ---- `repeat`
 
 /// A `repeat`: its limit, evaluated once, and turns up to one behind which its condition holds.
-pub fn exec_repeat<
-    K: Sink,
-    E: Fn(Setting, &mut Run, &mut K, &Tree) -> Result<Value, Stop>,
-    X: Fn(Setting, &mut Run, &mut K, &Items<Act>) -> Result<Exit, Stop>,
->(
-    here: &Nodes<E, X>,
+pub fn exec_repeat<K: Sink, N: Nodes<K>>(
+    here: &N,
     run: &mut Run,
     sink: &mut K,
     span: Span,
     it: &Guard,
     body: &Items<Act>,
 ) -> Result<Exit, Stop>
-    requires evals { Evals K.written K.faults K.full here.now.setting.funcs.now here.now.setting.depth (E.pre here.now.eval here.now.setting) (E.post here.now.eval here.now.setting) }
-    requires execs { Execs K.written K.faults K.full here.now.setting.funcs.now here.now.setting.depth (X.pre here.now.exec here.now.setting) (X.post here.now.exec here.now.setting) }
-    ensures meets { Runs exit_of result here.now.setting.funcs.now here.now.setting.depth
+    requires ready { N.ready here.now }
+    ensures { Ran exit_of result (N.setting here.now)
         (forms.repeat_loop in_bare span (acts_of (all_acts body.now)) (tree_of it.now.condition) (maybe_tree it.now.limit))
-        run.old (K.written sink.old) run.new (K.written sink.new) }
-    ensures counts { Counts result (K.faults sink.old) (K.faults sink.new) }
-    ensures same_full { K.full sink.new ≡ K.full sink.old }
-    ensures keeps { Keeps result run.old run.new }
+        (at K.Sink run.old sink.old) (at K.Sink run.new sink.new) }
 {
     let count = turns_of(here, run, sink, span, &it.limit)?;
     let limited = Limited {
@@ -386,26 +337,18 @@ pub fn exec_repeat<
 
 /// Turns, each the statements and then the condition, up to one where it is `until`, as many as the limit lets through (D10).
 #[tactic(auto, using(crate::proofs::Rounds::until_more, crate::proofs::Rounds::until_none))]
-fn exec_turns<
-    K: Sink,
-    E: Fn(Setting, &mut Run, &mut K, &Tree) -> Result<Value, Stop>,
-    X: Fn(Setting, &mut Run, &mut K, &Items<Act>) -> Result<Exit, Stop>,
->(
-    here: &Nodes<E, X>,
+fn exec_turns<K: Sink, N: Nodes<K>>(
+    here: &N,
     run: &mut Run,
     sink: &mut K,
     it: Limited,
     condition: &Tree,
     body: &Items<Act>,
 ) -> Result<Exit, Stop>
-    requires evals { Evals K.written K.faults K.full here.now.setting.funcs.now here.now.setting.depth (E.pre here.now.eval here.now.setting) (E.post here.now.eval here.now.setting) }
-    requires execs { Execs K.written K.faults K.full here.now.setting.funcs.now here.now.setting.depth (X.pre here.now.exec here.now.setting) (X.post here.now.exec here.now.setting) }
-    ensures meets { Runs exit_of result here.now.setting.funcs.now here.now.setting.depth
+    requires ready { N.ready here.now }
+    ensures { Ran exit_of result (N.setting here.now)
         (turn_until it.until it.span (tree_of condition.now) (acts_of (all_acts body.now)) it.count)
-        run.old (K.written sink.old) run.new (K.written sink.new) }
-    ensures counts { Counts result (K.faults sink.old) (K.faults sink.new) }
-    ensures same_full { K.full sink.new ≡ K.full sink.old }
-    ensures keeps { Keeps result run.old run.new }
+        (at K.Sink run.old sink.old) (at K.Sink run.new sink.new) }
 {
     let mut left = it.count;
     while left > 0 {
@@ -413,7 +356,7 @@ fn exec_turns<
             Exit::Normal => {}
             Exit::Returned(x) => return Ok(Exit::Returned(x)),
         }
-        let x = Held::new(eval(here, run, sink, condition)?);
+        let x = Held::new(here.eval(run, sink, condition)?);
         let holds = truth(it.span, x.get())?;
         if holds == it.until {
             return Ok(Exit::Normal);

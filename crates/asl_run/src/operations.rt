@@ -1,10 +1,10 @@
 //! What is done with the values of operands.
 ghost use Rattle.std.specs.Prelude.{◌≡◌, map};
 ghost use Rattle.asl_value.specs.View.{value_of};
-ghost use Rattle.asl_run.specs.Meets.{Is};
+ghost use Rattle.asl_branches.specs.Meets.{Is};
 ghost use Rattle.asl_run.specs.private.Operations.{one_given, many_given, more_given};
 
-use crate::stop::Stop;
+use asl_branches::stop::Stop;
 use asl_converts::converted;
 use asl_shape::{FieldGiven, PatternShape, TypeShape, construct, matched_in};
 use asl_syn::token::Span;

@@ -4,10 +4,10 @@ ghost use Rattle.asl_rules.specs.values.Strings.{escaped as written_behind, stri
 ghost use Rattle.asl_rules.specs.report.Texts.{value_text};
 ghost use Rattle.asl_rules.specs.runs.Told.{open_after};
 ghost use Rattle.asl_value.specs.View.{value_of};
-ghost use Rattle.asl_run.specs.Meets.{Counts, Writes};
+ghost use Rattle.asl_branches.specs.Meets.{Counts, Writes};
 ghost use Rattle.asl_run.specs.private.Pieces.{piece_text};
 
-use crate::stop::Stop;
+use asl_branches::stop::Stop;
 use asl_io::{Sink, put_all};
 use asl_value::{Value, leaves_open, show};
 

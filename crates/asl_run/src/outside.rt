@@ -4,14 +4,15 @@ ghost use Rattle.asl_rules.specs.runs.Machines.{most_open};
 ghost use Rattle.asl_rules.specs.private.TypedMeaning.{run_with, tree_call};
 ghost use Rattle.asl_tree.specs.Acts.{func_of};
 ghost use Rattle.asl_value.specs.View.{value_of};
-ghost use Rattle.asl_run.specs.Meets.{Counts, Runs};
-ghost use Rattle.asl_run.specs.View.{program_of};
+ghost use Rattle.asl_branches.specs.Meets.{Counts, Runs};
+ghost use Rattle.asl_branches.specs.View.{program_of};
 
 use crate::calls::{frame_of, run_body};
 use crate::knot::{eval, exec_all};
-use crate::run::Run;
-use crate::setting::{Nodes, Setting};
-use crate::stop::{Mistake, Stop};
+use crate::level::Level;
+use asl_branches::run::Run;
+use asl_branches::setting::Setting;
+use asl_branches::stop::{Mistake, Stop};
 use asl_io::Sink;
 use asl_syn::token::Span;
 use asl_tree::act::TreeFunc;
@@ -80,7 +81,7 @@ fn call_func<K: Sink>(
 {
     let formals = func.formals.as_slice();
     let frame = frame_of(here.alloc, func.span, formals, Vec::new(here.alloc), args)?;
-    let below = Nodes {
+    let below = Level {
         setting: here,
         eval: eval::<K>,
         exec: exec_all::<K>,

@@ -1,5 +1,5 @@
 //! The places of a state.
-ghost use Rattle.std.specs.Prelude.{◌≡◌, ◌∷◌, [], OnOk, map, option_map};
+ghost use Rattle.std.specs.Prelude.{◌≡◌, map, option_map};
 ghost use Rattle.std.specs.Option.{option_copied};
 ghost use Rattle.asl_bits.specs.declared.TheConstants.{WIDTH_LIMIT};
 ghost use Rattle.asl_rules.specs.runs.Plans.{lift};
@@ -8,16 +8,16 @@ ghost use Rattle.asl_rules.specs.runs.StatementForms.{done_normal};
 ghost use Rattle.asl_rules.specs.private.TypedMeaning as rules;
 ghost use Rattle.asl_value.specs.private.Forms.{all_steps};
 ghost use Rattle.asl_value.specs.View.{value_of};
-ghost use Rattle.asl_run.specs.Meets.{Acts, Is, Keeps, NoneRefused, SameBut, Stores};
+ghost use Rattle.asl_branches.specs.Meets.{Acts, Is, Keeps, NoneRefused, Stores};
+ghost use Rattle.asl_branches.specs.View.{core_of};
 ghost use Rattle.asl_run.specs.private.Storing.{stored_in};
-ghost use Rattle.asl_run.specs.View.{core_of};
 
-use crate::run::Run;
-use crate::stop::{Exit, Mistake, Stop};
+use asl_branches::run::Run;
+use asl_branches::stop::{Exit, Mistake, Stop};
 use asl_rules::slot::Slot;
 use asl_syn::token::Span;
 use asl_value::{Step, Value, copy, replace};
-use std::alloc::{AllocError, Global};
+use std::alloc::Global;
 
 // ---- reading
 
@@ -103,15 +103,4 @@ pub fn assign_at(
             Ok(Exit::Normal)
         }
     }
-}
-
-// ---- declaring
-
-/// The next place of the frame takes a value.
-pub fn push(run: &mut Run, value: Value) -> Result<(), AllocError>
-    ensures ok { OnOk result (core_of run.new ≡ rules.with_next (value_of value ∷ []) (core_of run.old)) }
-    ensures round { SameBut run.old run.new }
-{
-    run.frame.push(value)?;
-    Ok(())
 }

@@ -10,25 +10,21 @@ ghost use Rattle.asl_rules.specs.private.TypedMeaning.{list_of, acts_of, in_bare
 ghost use Rattle.asl_tree.specs.Acts.{act_of, simple_of, all_acts, all_branches, all_items};
 ghost use Rattle.asl_tree.specs.View.{tree_of, all_trees};
 ghost use Rattle.asl_tree.specs.declared.act.Branch.TheVariants.{Elsif};
-ghost use Rattle.asl_value.specs.View.{value_of};
-ghost use Rattle.asl_run.specs.private.Below.{Evals, Execs};
+ghost use Rattle.asl_branches.specs.Meets.{at, Ran};
+ghost use Rattle.asl_branches.specs.View.{exit_of, program_of};
 ghost use Rattle.asl_run.specs.private.Finishes.{finished, begun};
-ghost use Rattle.asl_run.specs.Meets.{Counts, Keeps, Runs};
-ghost use Rattle.asl_run.specs.View.{exit_of, program_of};
 
 use crate::assignments::exec_assign;
-use crate::below::{eval, exec_all};
 use crate::calls::{Call, exec_invoke};
-use crate::catches::{Try, exec_try, throw_again};
-use crate::choices::{Case, exec_case};
-use crate::exprs::eval_all;
 use crate::finishes::{After, First, begin, finish};
 use crate::loops::{exec_for, exec_repeat, exec_while};
 use crate::output::{put, put_string, put_value};
-use crate::places::push;
-use crate::run::Run;
-use crate::setting::{Nodes, Setting};
-use crate::stop::{Exit, Stop};
+use asl_branches::below::Nodes;
+use asl_branches::catches::{Try, exec_try, throw_again};
+use asl_branches::choices::{Case, exec_case};
+use asl_branches::lists::{eval_all, exec_scope};
+use asl_branches::run::Run;
+use asl_branches::stop::{Exit, Stop};
 use asl_io::Sink;
 use asl_shared::Held;
 use asl_syn::code::DynCode;
@@ -36,7 +32,7 @@ use asl_syn::token::Span;
 use asl_syn::tree::PrintKind;
 use asl_tree::act::{Act, Branch, Simple, TreeItem};
 use asl_tree::tree::Tree;
-use asl_value::{Value, truth};
+use asl_value::truth;
 use sqlite_items::Items;
 
 /// Where a statement stands.
@@ -73,24 +69,21 @@ fn simple_span(s: &Simple) -> Span
 
 /// What a statement does once it is entered.
 #[inline(never)]
-pub fn exec_node<
-    K: Sink,
-    E: Fn(Setting, &mut Run, &mut K, &Tree) -> Result<Value, Stop>,
-    X: Fn(Setting, &mut Run, &mut K, &Items<Act>) -> Result<Exit, Stop>,
->(here: &Nodes<E, X>, run: &mut Run, sink: &mut K, s: &Act) -> Result<Exit, Stop>
-    requires evals { Evals K.written K.faults K.full here.now.setting.funcs.now here.now.setting.depth (E.pre here.now.eval here.now.setting) (E.post here.now.eval here.now.setting) }
-    requires execs { Execs K.written K.faults K.full here.now.setting.funcs.now here.now.setting.depth (X.pre here.now.exec here.now.setting) (X.post here.now.exec here.now.setting) }
-    ensures meets { Runs exit_of result here.now.setting.funcs.now here.now.setting.depth
-        (rules.act_node (program_of here.now.setting.funcs.now) (act_of s.now))
-        run.old (K.written sink.old) run.new (K.written sink.new) }
-    ensures counts { Counts result (K.faults sink.old) (K.faults sink.new) }
-    ensures same_full { K.full sink.new ≡ K.full sink.old }
-    ensures keeps { Keeps result run.old run.new }
+pub fn exec_node<K: Sink, N: Nodes<K>>(
+    here: &N,
+    run: &mut Run,
+    sink: &mut K,
+    s: &Act,
+) -> Result<Exit, Stop>
+    requires ready { N.ready here.now }
+    ensures { Ran exit_of result (N.setting here.now)
+        (rules.act_node (program_of (N.setting here.now).funcs.now) (act_of s.now))
+        (at K.Sink run.old sink.old) (at K.Sink run.new sink.new) }
 {
     match s {
         Act::Simple(s) => exec_simple(here, run, sink, s),
         Act::If(span, e, first, others, last) => {
-            let x = Held::new(eval(here, run, sink, e)?);
+            let x = Held::new(here.eval(run, sink, e)?);
             if truth(*span, x.get())? {
                 exec_scope(here, run, sink, first)
             } else {
@@ -125,19 +118,16 @@ pub fn exec_node<
 }
 
 /// A statement without lists.
-fn exec_simple<
-    K: Sink,
-    E: Fn(Setting, &mut Run, &mut K, &Tree) -> Result<Value, Stop>,
-    X: Fn(Setting, &mut Run, &mut K, &Items<Act>) -> Result<Exit, Stop>,
->(here: &Nodes<E, X>, run: &mut Run, sink: &mut K, s: &Simple) -> Result<Exit, Stop>
-    requires evals { Evals K.written K.faults K.full here.now.setting.funcs.now here.now.setting.depth (E.pre here.now.eval here.now.setting) (E.post here.now.eval here.now.setting) }
-    requires execs { Execs K.written K.faults K.full here.now.setting.funcs.now here.now.setting.depth (X.pre here.now.exec here.now.setting) (X.post here.now.exec here.now.setting) }
-    ensures meets { Runs exit_of result here.now.setting.funcs.now here.now.setting.depth
-        (rules.act_node (program_of here.now.setting.funcs.now) (simple_of s.now))
-        run.old (K.written sink.old) run.new (K.written sink.new) }
-    ensures counts { Counts result (K.faults sink.old) (K.faults sink.new) }
-    ensures same_full { K.full sink.new ≡ K.full sink.old }
-    ensures keeps { Keeps result run.old run.new }
+fn exec_simple<K: Sink, N: Nodes<K>>(
+    here: &N,
+    run: &mut Run,
+    sink: &mut K,
+    s: &Simple,
+) -> Result<Exit, Stop>
+    requires ready { N.ready here.now }
+    ensures { Ran exit_of result (N.setting here.now)
+        (rules.act_node (program_of (N.setting here.now).funcs.now) (simple_of s.now))
+        (at K.Sink run.old sink.old) (at K.Sink run.new sink.new) }
 {
     match s {
         Simple::Pass(_) => Ok(Exit::Normal),
@@ -180,60 +170,51 @@ fn exec_simple<
 }
 
 /// An expression, and what is done with its value.
-fn exec_after<K: Sink, E: Fn(Setting, &mut Run, &mut K, &Tree) -> Result<Value, Stop>, X>(
-    here: &Nodes<E, X>,
+fn exec_after<K: Sink, N: Nodes<K>>(
+    here: &N,
     run: &mut Run,
     sink: &mut K,
     e: &Tree,
     after: After,
 ) -> Result<Exit, Stop>
-    requires evals { Evals K.written K.faults K.full here.now.setting.funcs.now here.now.setting.depth (E.pre here.now.eval here.now.setting) (E.post here.now.eval here.now.setting) }
-    ensures meets { Runs exit_of result here.now.setting.funcs.now here.now.setting.depth
+    requires ready { N.ready here.now }
+    ensures { Ran exit_of result (N.setting here.now)
         (λ c. Eval (tree_of e.now) c (finished after.entry))
-        run.old (K.written sink.old) run.new (K.written sink.new) }
-    ensures counts { Counts result (K.faults sink.old) (K.faults sink.new) }
-    ensures same_full { K.full sink.new ≡ K.full sink.old }
-    ensures keeps { Keeps result run.old run.new }
+        (at K.Sink run.old sink.old) (at K.Sink run.new sink.new) }
 {
-    let x = eval(here, run, sink, e)?;
-    finish(here.setting.alloc, run, after, x)
+    let x = here.eval(run, sink, e)?;
+    finish(here.setting().alloc, run, after, x)
 }
 
 /// The sizes in a type are evaluated, and then so many places take its first value.
-fn exec_declare_first<K: Sink, E: Fn(Setting, &mut Run, &mut K, &Tree) -> Result<Value, Stop>, X>(
-    here: &Nodes<E, X>,
+fn exec_declare_first<K: Sink, N: Nodes<K>>(
+    here: &N,
     run: &mut Run,
     sink: &mut K,
     first: First,
     sizes: &[Tree],
 ) -> Result<Exit, Stop>
-    requires evals { Evals K.written K.faults K.full here.now.setting.funcs.now here.now.setting.depth (E.pre here.now.eval here.now.setting) (E.post here.now.eval here.now.setting) }
-    ensures meets { Runs exit_of result here.now.setting.funcs.now here.now.setting.depth
+    requires ready { N.ready here.now }
+    ensures { Ran exit_of result (N.setting here.now)
         (λ c. in_turn (list_of (all_trees sizes.now)) [] c (begun first.entry))
-        run.old (K.written sink.old) run.new (K.written sink.new) }
-    ensures counts { Counts result (K.faults sink.old) (K.faults sink.new) }
-    ensures same_full { K.full sink.new ≡ K.full sink.old }
-    ensures keeps { Keeps result run.old run.new }
+        (at K.Sink run.old sink.old) (at K.Sink run.new sink.new) }
 {
     let zs = eval_all(here, run, sink, sizes)?;
-    begin(here.setting.alloc, run, first, zs.as_slice())
+    begin(here.setting().alloc, run, first, zs.as_slice())
 }
 
 /// Items, each written when it is evaluated, and the end of the line where it is asked for.
-fn print<K: Sink, E: Fn(Setting, &mut Run, &mut K, &Tree) -> Result<Value, Stop>, X>(
-    here: &Nodes<E, X>,
+fn print<K: Sink, N: Nodes<K>>(
+    here: &N,
     run: &mut Run,
     sink: &mut K,
     kind: PrintKind,
     items: &[TreeItem],
 ) -> Result<Exit, Stop>
-    requires evals { Evals K.written K.faults K.full here.now.setting.funcs.now here.now.setting.depth (E.pre here.now.eval here.now.setting) (E.post here.now.eval here.now.setting) }
-    ensures meets { Runs exit_of result here.now.setting.funcs.now here.now.setting.depth
+    requires ready { N.ready here.now }
+    ensures { Ran exit_of result (N.setting here.now)
         (forms.print_items rules.item_of kind (all_items items.now))
-        run.old (K.written sink.old) run.new (K.written sink.new) }
-    ensures counts { Counts result (K.faults sink.old) (K.faults sink.new) }
-    ensures same_full { K.full sink.new ≡ K.full sink.old }
-    ensures keeps { Keeps result run.old run.new }
+        (at K.Sink run.old sink.old) (at K.Sink run.new sink.new) }
 {
     for item in items {
         let e = match item {
@@ -243,7 +224,7 @@ fn print<K: Sink, E: Fn(Setting, &mut Run, &mut K, &Tree) -> Result<Value, Stop>
             }
             TreeItem::Shown(e) => e,
         };
-        let x = eval(here, run, sink, e)?;
+        let x = here.eval(run, sink, e)?;
         put_value(&mut run.text_open, sink, &x)?;
     }
     match kind {
@@ -256,30 +237,22 @@ fn print<K: Sink, E: Fn(Setting, &mut Run, &mut K, &Tree) -> Result<Value, Stop>
 // ---- `if`
 
 /// The first branch whose condition is `TRUE`, or else the last.
-fn exec_branches<
-    K: Sink,
-    E: Fn(Setting, &mut Run, &mut K, &Tree) -> Result<Value, Stop>,
-    X: Fn(Setting, &mut Run, &mut K, &Items<Act>) -> Result<Exit, Stop>,
->(
-    here: &Nodes<E, X>,
+fn exec_branches<K: Sink, N: Nodes<K>>(
+    here: &N,
     run: &mut Run,
     sink: &mut K,
     span: Span,
     others: &[Branch],
     last: &Items<Act>,
 ) -> Result<Exit, Stop>
-    requires evals { Evals K.written K.faults K.full here.now.setting.funcs.now here.now.setting.depth (E.pre here.now.eval here.now.setting) (E.post here.now.eval here.now.setting) }
-    requires execs { Execs K.written K.faults K.full here.now.setting.funcs.now here.now.setting.depth (X.pre here.now.exec here.now.setting) (X.post here.now.exec here.now.setting) }
-    ensures meets { Runs exit_of result here.now.setting.funcs.now here.now.setting.depth
+    requires ready { N.ready here.now }
+    ensures { Ran exit_of result (N.setting here.now)
         (forms.branches in_bare itself span (rules.branches_of (all_branches others.now)) (acts_of (all_acts last.now)))
-        run.old (K.written sink.old) run.new (K.written sink.new) }
-    ensures counts { Counts result (K.faults sink.old) (K.faults sink.new) }
-    ensures same_full { K.full sink.new ≡ K.full sink.old }
-    ensures keeps { Keeps result run.old run.new }
+        (at K.Sink run.old sink.old) (at K.Sink run.new sink.new) }
 {
     for branch in others {
         let (e, list) = branch_parts(branch);
-        let x = Held::new(eval(here, run, sink, e)?);
+        let x = Held::new(here.eval(run, sink, e)?);
         if truth(span, x.get())? {
             return exec_scope(here, run, sink, list);
         }
@@ -293,56 +266,4 @@ fn branch_parts(branch: &Branch) -> (&Tree, &Items<Act>)
 {
     let Branch::Elsif(e, list) = branch;
     (e, list)
-}
-
-// ---- lists
-
-/// Statements with a scope of their own.
-#[tactic(auto, using(crate::proofs::Slots::cut_values))]
-pub fn exec_scope<K: Sink, E, X: Fn(Setting, &mut Run, &mut K, &Items<Act>) -> Result<Exit, Stop>>(
-    here: &Nodes<E, X>,
-    run: &mut Run,
-    sink: &mut K,
-    list: &Items<Act>,
-) -> Result<Exit, Stop>
-    requires execs { Execs K.written K.faults K.full here.now.setting.funcs.now here.now.setting.depth (X.pre here.now.exec here.now.setting) (X.post here.now.exec here.now.setting) }
-    ensures meets { Runs exit_of result here.now.setting.funcs.now here.now.setting.depth
-        (forms.scope in_bare (acts_of (all_acts list.now)))
-        run.old (K.written sink.old) run.new (K.written sink.new) }
-    ensures counts { Counts result (K.faults sink.old) (K.faults sink.new) }
-    ensures same_full { K.full sink.new ≡ K.full sink.old }
-    ensures keeps { Keeps result run.old run.new }
-{
-    let height = run.frame.len();
-    let exit = exec_all(here, run, sink, list)?;
-    run.frame.truncate(height);
-    Ok(exit)
-}
-
-/// Statements in whose scope a value stands before them.
-#[tactic(auto, using(crate::proofs::Slots::cut_values))]
-pub fn exec_scope_with<
-    K: Sink,
-    E,
-    X: Fn(Setting, &mut Run, &mut K, &Items<Act>) -> Result<Exit, Stop>,
->(
-    here: &Nodes<E, X>,
-    run: &mut Run,
-    sink: &mut K,
-    x: Value,
-    list: &Items<Act>,
-) -> Result<Exit, Stop>
-    requires execs { Execs K.written K.faults K.full here.now.setting.funcs.now here.now.setting.depth (X.pre here.now.exec here.now.setting) (X.post here.now.exec here.now.setting) }
-    ensures meets { Runs exit_of result here.now.setting.funcs.now here.now.setting.depth
-        (forms.scope_with in_bare (rules.indexed (value_of x)) (acts_of (all_acts list.now)))
-        run.old (K.written sink.old) run.new (K.written sink.new) }
-    ensures counts { Counts result (K.faults sink.old) (K.faults sink.new) }
-    ensures same_full { K.full sink.new ≡ K.full sink.old }
-    ensures keeps { Keeps result run.old run.new }
-{
-    let height = run.frame.len();
-    push(run, x)?;
-    let exit = exec_all(here, run, sink, list)?;
-    run.frame.truncate(height);
-    Ok(exit)
 }

@@ -30,7 +30,7 @@ use crate::written_fields::{FieldsWritten, all_fields, fields_placed};
 use asl_bits::WIDTH_LIMIT;
 use asl_poly::Poly;
 use asl_shape::TypeShape;
-use asl_shared::Shared;
+use asl_shared::{Held, Shared};
 use asl_subprograms::Context;
 use asl_syn::code::{Refused, StaticCode};
 use asl_syn::token::Span;
@@ -262,11 +262,13 @@ fn array_written(
     let (poly, tree) = length.into_parts();
     let length = constant_length(span, &poly)?;
     let (ty, shape, sizes) = element.into_parts();
+    let shape = Held::new(shape);
     let ty = bounded(span, Ty::array(length, Shared::new(alloc, ty)?))?;
-    let shape = Boxed::new(alloc, shape)?;
+    let ty = Held::new(ty);
+    let shape = Boxed::new(alloc, shape.into_inner())?;
     let sizes = tree_first(alloc, tree, sizes)?;
     Ok(Written {
-        ty,
+        ty: ty.into_inner(),
         shape: TypeShape::ArrayOf(shape),
         sizes,
     })

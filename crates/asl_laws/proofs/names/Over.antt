@@ -21,12 +21,14 @@ pub over_by : {D Z : Type 0} {f g : D → Z} {x y u v : Result Z Fault} → x �
 over_by h k o = record { one = o.one; first = h ∙ o.first; second = k ∙ o.second }
 
 -- a condition before both
-pub over_after : {D Z : Type 0} {f g : D → Z} {x y : Result Z Fault} (r : Result (Unit {0}) Fault) → Over f g x y → Over f g (r >> x) (r >> y)
+pub over_after : {D Z : Type 0} {f g : D → Z} {x y : Result Z Fault} (r : Result (Unit {0}) Fault) → Over f g x y →
+    Over f g (r >> x) (r >> y)
 over_after (Ok u) o = o
 over_after {f = f} {g = g} (Err e) o = over_err f g e
 
 -- such answers, and what follows each
-pub over_then : {D Z C W : Type 0} {f g : D → Z} {p q : C → W} {x y : Result Z Fault} (k l : Z → Result W Fault) → Over f g x y → ((d : D) → Over p q (k (f d)) (l (g d))) → Over p q (x >>= k) (y >>= l)
+pub over_then : {D Z C W : Type 0} {f g : D → Z} {p q : C → W} {x y : Result Z Fault} (k l : Z → Result W Fault) → Over f g x y →
+    ((d : D) → Over p q (k (f d)) (l (g d))) → Over p q (x >>= k) (y >>= l)
 over_then {D = D} {f = f} {g = g} {p = p} {q = q} k l o h = over_by (ap (λ z. z >>= k) o.first) (ap (λ z. z >>= l) o.second) (by o.one)
   where
     by : (r : Result D Fault) → Over p q ((r >>= λ d. Ok (f d)) >>= k) ((r >>= λ d. Ok (g d)) >>= l)
@@ -34,14 +36,16 @@ over_then {D = D} {f = f} {g = g} {p = p} {q = q} k l o h = over_by (ap (λ z. z
     by (Err e) = over_err p q e
 
 -- the same answer of both, and what follows each
-pub over_same : {Z C W : Type 0} {p q : C → W} {x y : Result Z Fault} (k l : Z → Result W Fault) → x ≡ y → ((z : Z) → Over p q (k z) (l z)) → Over p q (x >>= k) (y >>= l)
+pub over_same : {Z C W : Type 0} {p q : C → W} {x y : Result Z Fault} (k l : Z → Result W Fault) → x ≡ y →
+    ((z : Z) → Over p q (k z) (l z)) → Over p q (x >>= k) (y >>= l)
 over_same {Z = Z} {p = p} {q = q} {x = x} k l e h = over_by refl (ap (λ z. z >>= l) (sym e)) (by x)
   where
     by : (r : Result Z Fault) → Over p q (r >>= k) (r >>= l)
     by (Ok z) = h z
     by (Err e) = over_err p q e
 
-pub over_known : {Z C W : Type 0} {p q : C → W} {x y : Result Z Fault} (P : Z → Type 0) (k l : Z → Result W Fault) → x ≡ y → OfAnswer P x → ((z : Z) → P z → Over p q (k z) (l z)) → Over p q (x >>= k) (y >>= l)
+pub over_known : {Z C W : Type 0} {p q : C → W} {x y : Result Z Fault} (P : Z → Type 0) (k l : Z → Result W Fault) → x ≡ y → OfAnswer P x →
+    ((z : Z) → P z → Over p q (k z) (l z)) → Over p q (x >>= k) (y >>= l)
 over_known {Z = Z} {p = p} {q = q} {x = x} P k l e a h = over_by refl (ap (λ z. z >>= l) (sym e)) (by x a)
   where
     by : (r : Result Z Fault) → OfAnswer P r → Over p q (r >>= k) (r >>= l)
@@ -49,7 +53,8 @@ over_known {Z = Z} {p = p} {q = q} {x = x} P k l e a h = over_by refl (ap (λ z.
     by (Err e) b = over_err p q e
 
 -- what follows such answers gives the same, where it doesn't ask for the names
-pub same_then : {D Z W : Type 0} {f g : D → Z} {x y : Result Z Fault} (k l : Z → Result W Fault) → Over f g x y → ((d : D) → k (f d) ≡ l (g d)) → (x >>= k) ≡ (y >>= l)
+pub same_then : {D Z W : Type 0} {f g : D → Z} {x y : Result Z Fault} (k l : Z → Result W Fault) → Over f g x y →
+    ((d : D) → k (f d) ≡ l (g d)) → (x >>= k) ≡ (y >>= l)
 same_then {D = D} {f = f} {g = g} k l o h = ap (λ z. z >>= k) o.first ∙ by o.one ∙ sym (ap (λ z. z >>= l) o.second)
   where
     by : (r : Result D Fault) → ((r >>= λ d. Ok (f d)) >>= k) ≡ ((r >>= λ d. Ok (g d)) >>= l)

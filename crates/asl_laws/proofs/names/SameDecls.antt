@@ -1,6 +1,7 @@
--- A declaration, a signature and a body are judged alike in two scopes with the same names in the same places, where each name that is used stands for the same and
--- calls of it choose the same.
-use Rattle.std.proofs.Common.{◌≡◌, ℕ, ℤ, not, cond, Bool, true, false, ◌&&◌, List, [], ◌∷◌, ◌++◌, Option, Some, None, Ok, refl, sym, ap, ap₂, ◌∙◌, append_assoc, append-nil}
+-- A declaration, a signature and a body are judged alike in two scopes with the same names in the same places, where each name that is used
+-- stands for the same and calls of it choose the same.
+use Rattle.std.proofs.Common.{◌≡◌, ℕ, ℤ, not, cond, Bool, true, false, ◌&&◌, List, [], ◌∷◌, ◌++◌, Option, Some, None, Ok, refl, sym, ap}
+use Rattle.std.proofs.Common.{ap₂, ◌∙◌, append_assoc, append-nil}
 use Rattle.std.specs.Prelude.{Result}
 use Rattle.asl_syn.specs.declared.token.Span.{Span}
 use Rattle.asl_syn.specs.declared.code.Fault.{Fault}
@@ -31,10 +32,16 @@ use Rattle.asl_rules.specs.declarations.Layouts.{slot_of}
 use Rattle.asl_rules.specs.expressions.Exprs.{found, found_type}
 use Rattle.asl_rules.specs.declarations.Barred.{at_var, barred_at, barred}
 use Rattle.asl_rules.specs.statements.Locals.{itself}
-use Rattle.asl_rules.specs.declarations.Declarations.{in_names, fields_written, once, def_rule, supertype_rule, reached, is_none, type_entries, evaluated, with_type, unannotated, first_in, known, storage_rule, is_var, decl_rule}
-use Rattle.asl_rules.specs.declarations.Programs.{Head, params_free, formals_free, param_written, param_entry, params_rule, formals_rule, result_rule, limit_typed, params_are_integers, as_number, limit_rule, with_formals, class_of, signature_rule, body_rule}
+use Rattle.asl_rules.specs.declarations.Declarations.{in_names, fields_written, once, def_rule, supertype_rule, reached, is_none}
+use Rattle.asl_rules.specs.declarations.Declarations.{type_entries, evaluated, with_type, unannotated, first_in, known, storage_rule}
+use Rattle.asl_rules.specs.declarations.Declarations.{is_var, decl_rule}
+use Rattle.asl_rules.specs.declarations.Programs.{Head, params_free, formals_free, param_written, param_entry, params_rule, formals_rule}
+use Rattle.asl_rules.specs.declarations.Programs.{result_rule, limit_typed, params_are_integers, as_number, limit_rule, with_formals}
+use Rattle.asl_rules.specs.declarations.Programs.{class_of, signature_rule, body_rule}
 use Rattle.asl_rules.proofs.basics.Tests.{some_none}
-use Rattle.asl_rules.specs.declarations.UsedNames.{Use, Uses, of_value, of_subprogram, of_type, or_else, first_said, Each, expr_uses, type_uses, maybe_expr_uses, maybe_type_uses, formal_uses, def_uses, supertype_uses, decl_uses}
+use Rattle.asl_rules.specs.declarations.UsedNames.{Use, Uses, of_value, of_subprogram, of_type, or_else, first_said, Each, expr_uses}
+use Rattle.asl_rules.specs.declarations.UsedNames.{type_uses, maybe_expr_uses, maybe_type_uses, formal_uses, def_uses, supertype_uses}
+use Rattle.asl_rules.specs.declarations.UsedNames.{decl_uses}
 use Rattle.asl_laws.specs.StmtUses.{param_uses, head_uses, body_uses}
 use Rattle.asl_laws.proofs.names.ByUses.{each_first, each_second, each_map}
 use Rattle.asl_laws.proofs.names.SameExprs.{SameAt, scope_at, expr_in, written_in, expr_same}
@@ -76,12 +83,14 @@ module _ (t : Tests) (A B : List Entry) (ss rs : List Signature) (p : SamePlaces
   -- where nothing is barred, nothing is called
   uncalled : (us : Uses) → Each P us → first_said (barred_at A) us ≡ None → Each (SameAt A B ss rs) us
   uncalled [] g h = tt
-  uncalled (of_value span name ∷ us) g h = ((g.0, ap (slot_of name) p.layout), uncalled us g.1 (said_later (barred_at A (of_value span name)) (first_said (barred_at A) us) h))
+  uncalled (of_value span name ∷ us) g h =
+      ((g.0, ap (slot_of name) p.layout), uncalled us g.1 (said_later (barred_at A (of_value span name)) (first_said (barred_at A) us) h))
   uncalled (of_subprogram span name ∷ us) g h = some_none span h
   uncalled (of_type name ∷ us) g h = (g.0, uncalled us g.1 h)
 
   -- what follows where nothing is barred
-  unless_barred : {X : Type 0} (e : Expr) (x y : Result X Fault) → Each P (expr_uses e) → (expr_in A ss (found t e) ≡ expr_in B rs (found t e) → x ≡ y) → (none_at T04 (barred e A) >> x) ≡ (none_at T04 (barred e B) >> y)
+  unless_barred : {X : Type 0} (e : Expr) (x y : Result X Fault) → Each P (expr_uses e) →
+      (expr_in A ss (found t e) ≡ expr_in B rs (found t e) → x ≡ y) → (none_at T04 (barred e A) >> x) ≡ (none_at T04 (barred e B) >> y)
   unless_barred e x y g f = by (barred e A) refl ∙ ap (λ o. none_at T04 o >> y) (barred_uses (expr_uses e) g)
     where
       by : (o : Option Span) → barred e A ≡ o → (none_at T04 o >> x) ≡ (none_at T04 o >> y)
@@ -102,22 +111,29 @@ module _ (t : Tests) (A B : List Entry) (ss rs : List Signature) (p : SamePlaces
       (written_here f.ty (each_first P (type_uses f.ty) (formal_uses fs) g) i).ty true (first k) >>= λ W.
       fields_same fs (each_second P (type_uses f.ty) (formal_uses fs) g) k i >>= λ Fs. Ok (field f.name.text W.ty Fs)
 
-  def_same : (name : List ℕ) (def : TypeDef) → Each P (def_uses def) → (k : Effect) → def_rule t name def (first k) ≡ def_rule t name def (second k)
+  def_same : (name : List ℕ) (def : TypeDef) → Each P (def_uses def) → (k : Effect) →
+      def_rule t name def (first k) ≡ def_rule t name def (second k)
   def_same name (td.Alias w) g k = λ i. (written_here w g i).ty true (first k) >>= λ W. Ok W.ty
   def_same name (td.Labels span is) g k = refl
   def_same name (td.Record span fs) g k = λ i. fields_same fs g k i >>= λ Fs. need (once fs []) T15 span >> bounded span (record_of name Fs)
-  def_same name (td.Exception span fs) g k = λ i. fields_same fs g k i >>= λ Fs. need (once fs []) T15 span >> bounded span (exception_of name Fs)
+  def_same name (td.Exception span fs) g k = λ i. fields_same fs g k i >>= λ Fs. need (once fs []) T15 span
+      >> bounded span (exception_of name Fs)
 
-  super_same : (o : Option Ident) (T : Ty) → Each P (supertype_uses o) → (k : Effect) → supertype_rule t o T (first k) ≡ supertype_rule t o T (second k)
+  super_same : (o : Option Ident) (T : Ty) → Each P (supertype_uses o) → (k : Effect) →
+      supertype_rule t o T (first k) ≡ supertype_rule t o T (second k)
   super_same None T g k = refl
   super_same (Some u) T g k = λ i.
-      found_or (type_in (g.0 i)) T02 u.span >>= λ U. need (is_none (misfit t (structure T) (structure U))) T25 u.span >> Ok (reached u.text U)
+      found_or (type_in (g.0 i)) T02 u.span >>= λ U. need (is_none (misfit t (structure T) (structure U))) T25 u.span
+      >> Ok (reached u.text U)
 
-  storage_same : (d : StorageDecl) (b : Bool) (w : Option TypeExpr) (e : Option Expr) → Each P (maybe_type_uses w ++ maybe_expr_uses e) → (k : Effect) → storage_rule t d b w e (first k) ≡ storage_rule t d b w e (second k)
+  storage_same : (d : StorageDecl) (b : Bool) (w : Option TypeExpr) (e : Option Expr) → Each P (maybe_type_uses w ++ maybe_expr_uses e) →
+      (k : Effect) → storage_rule t d b w e (first k) ≡ storage_rule t d b w e (second k)
   storage_same d b None None g k = refl
-  storage_same d b (Some w) None g k = λ i. (written_here w (each_first P (type_uses w) [] g) i).ty true (first k) >>= λ W. first_in t (found_type t w).span W.ty
+  storage_same d b (Some w) None g k = λ i. (written_here w (each_first P (type_uses w) [] g) i).ty true (first k)
+      >>= λ W. first_in t (found_type t w).span W.ty
   storage_same d b None (Some e) g k =
-      unless_barred e _ _ g (λ h i. (h i).typed (first k) >>= λ S. evaluated (constant_same t.limit A B e g i) >>= λ x. Ok (with_type (unannotated b S.ty) x))
+      unless_barred e _ _ g (λ h i. (h i).typed (first k) >>= λ S. evaluated (constant_same t.limit A B e g i)
+      >>= λ x. Ok (with_type (unannotated b S.ty) x))
   storage_same d b (Some w) (Some e) g k =
       let j = each_second P (type_uses w) (expr_uses e) g in
       unless_barred e _ _ j (λ h i.
@@ -131,7 +147,8 @@ module _ (t : Tests) (A B : List Entry) (ss rs : List Signature) (p : SamePlaces
       def_same d.name.text d.def (each_first P (def_uses d.def) (supertype_uses d.supertype) g) k i >>= λ T.
       super_same d.supertype T (each_second P (def_uses d.def) (supertype_uses d.supertype) g) k i >>= λ supers.
       Ok (type_entries d (named d.name.text supers (structure T)))
-  decl_same (dc.Storage d) g k = λ i. storage_same d (is_var d.kind) d.ty d.init g k i >>= λ s. Ok (global d.name.text s.ty (is_var d.kind) s.value ∷ [])
+  decl_same (dc.Storage d) g k = λ i. storage_same d (is_var d.kind) d.ty d.init g k i
+      >>= λ s. Ok (global d.name.text s.ty (is_var d.kind) s.value ∷ [])
   decl_same (dc.Func f) g k = refl
 
 -- ---- signatures and bodies
@@ -146,18 +163,22 @@ module _ (t : Tests) (A B : List Entry) (p : SamePlaces A B) where
   abbrev Q : Use → Type 0
   Q = Shows A B
 
-  type_behind : (w : TypeExpr) → Each Q (type_uses w) → (es : List Entry) → written_in (A ++ es) [] (found_type t w) ≡ written_in (B ++ es) [] (found_type t w)
+  type_behind : (w : TypeExpr) → Each Q (type_uses w) → (es : List Entry) →
+      written_in (A ++ es) [] (found_type t w) ≡ written_in (B ++ es) [] (found_type t w)
   type_behind w g es = written_same t (A ++ es) (B ++ es) [] [] w (widths_behind A B p es (type_uses w) g)
 
-  maybe_same : (w : Option TypeExpr) → Each Q (maybe_type_uses w) → (es : List Entry) → param_written t w (A ++ es) ≡ param_written t w (B ++ es)
+  maybe_same : (w : Option TypeExpr) → Each Q (maybe_type_uses w) → (es : List Entry) →
+      param_written t w (A ++ es) ≡ param_written t w (B ++ es)
   maybe_same None g es = refl
   maybe_same (Some w) g es = λ i. (type_behind w g es i).ty false (in_names (A ++ es)) >>= λ W. Ok (Some W.ty)
 
-  result_same : (w : Option TypeExpr) → Each Q (maybe_type_uses w) → (es : List Entry) → result_rule t w (A ++ es) ≡ result_rule t w (B ++ es)
+  result_same : (w : Option TypeExpr) → Each Q (maybe_type_uses w) → (es : List Entry) →
+      result_rule t w (A ++ es) ≡ result_rule t w (B ++ es)
   result_same None g es = refl
   result_same (Some w) g es = λ i. (type_behind w g es i).ty false (in_names (A ++ es)) >>= λ W. Ok (Some W.ty)
 
-  formals_same : (fs : List Formal) → Each Q (formal_uses fs) → (es : List Entry) → formals_rule t fs (A ++ es) ≡ formals_rule t fs (B ++ es)
+  formals_same : (fs : List Formal) → Each Q (formal_uses fs) → (es : List Entry) →
+      formals_rule t fs (A ++ es) ≡ formals_rule t fs (B ++ es)
   formals_same [] g es = refl
   formals_same (f ∷ fs) g es = λ i.
       (type_behind f.ty (each_first Q (type_uses f.ty) (formal_uses fs) g) es i).ty false (in_names (A ++ es)) >>= λ W.
@@ -165,21 +186,26 @@ module _ (t : Tests) (A B : List Entry) (p : SamePlaces A B) where
 
   params_free_same : (qs : List WrittenParam) (before : List (List ℕ)) → params_free qs before A ≡ params_free qs before B
   params_free_same [] before = refl
-  params_free_same (q ∷ qs) before = λ i. need (p.free q.name.text i && not (has_name q.name.text before)) T01 q.name.span >> params_free_same qs (before ++ q.name.text ∷ []) i
+  params_free_same (q ∷ qs) before = λ i. need (p.free q.name.text i && not (has_name q.name.text before)) T01 q.name.span
+      >> params_free_same qs (before ++ q.name.text ∷ []) i
 
   formals_free_same : (fs : List Formal) (before : List (List ℕ)) → formals_free fs before A ≡ formals_free fs before B
   formals_free_same [] before = refl
-  formals_free_same (f ∷ fs) before = λ i. need (p.free f.name.text i && not (has_name f.name.text before)) T01 f.name.span >> formals_free_same fs (before ++ f.name.text ∷ []) i
+  formals_free_same (f ∷ fs) before = λ i. need (p.free f.name.text i && not (has_name f.name.text before)) T01 f.name.span
+      >> formals_free_same fs (before ++ f.name.text ∷ []) i
 
   -- the parameters, with the names that are visible with them
-  params_same : (qs : List WrittenParam) → Each Q (param_uses qs) → (before : List Param) (es : List Entry) → Over (params_over A) (params_over B) (params_rule t qs before (A ++ es)) (params_rule t qs before (B ++ es))
+  params_same : (qs : List WrittenParam) → Each Q (param_uses qs) → (before : List Param) (es : List Entry) →
+      Over (params_over A) (params_over B) (params_rule t qs before (A ++ es)) (params_rule t qs before (B ++ es))
   params_same [] g before es = over_ok (params_over A) (params_over B) (before, es)
   params_same (q ∷ qs) g before es =
       over_same _ _ (maybe_same q.ty (each_first Q (maybe_type_uses q.ty) (param_uses qs) g) es) (λ T.
       let n = next_atom (A ++ es) in
       let e = param_entry q.name.text T n in
       over_by (ap (λ ns. params_rule t qs (before ++ record { atom = n; ty = T } ∷ []) ns) (append_assoc A es (e ∷ [])))
-      ((λ i. let m = sym (same_atom A B p es) i in params_rule t qs (before ++ record { atom = m; ty = T } ∷ []) ((B ++ es) ++ param_entry q.name.text T m ∷ [])) ∙ ap (λ ns. params_rule t qs (before ++ record { atom = n; ty = T } ∷ []) ns) (append_assoc B es (e ∷ [])))
+      ((λ i. let m = sym (same_atom A B p es) i in
+      params_rule t qs (before ++ record { atom = m; ty = T } ∷ []) ((B ++ es) ++ param_entry q.name.text T m ∷ []))
+      ∙ ap (λ ns. params_rule t qs (before ++ record { atom = n; ty = T } ∷ []) ns) (append_assoc B es (e ∷ [])))
       (params_same qs (each_second Q (maybe_type_uses q.ty) (param_uses qs) g) (before ++ record { atom = n; ty = T } ∷ []) (es ++ e ∷ [])))
 
   -- the names that a body begins with
@@ -197,7 +223,9 @@ module _ (t : Tests) (A B : List Entry) (p : SamePlaces A B) where
       record {
         names = r.names;
         first = ap (with_formals fs Ts) (append_assoc A es (e ∷ [])) ∙ r.first;
-        second = (λ i. with_formals fs Ts ((B ++ es) ++ fixed f.name.text T (cond (is_integer T) (Some (atom_at (sym (same_atom A B p es) i))) None) ∷ [])) ∙ ap (with_formals fs Ts) (append_assoc B es (e ∷ [])) ∙ r.second;
+        second = (λ i. with_formals fs Ts ((B ++ es)
+            ++ fixed f.name.text T (cond (is_integer T) (Some (atom_at (sym (same_atom A B p es) i))) None) ∷ []))
+            ∙ ap (with_formals fs Ts) (append_assoc B es (e ∷ [])) ∙ r.second;
       }
 
   -- ---- the limit of a subprogram
@@ -212,7 +240,8 @@ module _ (t : Tests) (A B : List Entry) (p : SamePlaces A B) where
   limit_same : (e : Option Expr) → Each Q (maybe_expr_uses e) → (S : Option Typed) → limit_rule t e S A ≡ limit_rule t e S B
   limit_same None g S = refl
   limit_same (Some e) g None = refl
-  limit_same (Some e) g (Some S) = λ i. need (is_integer S.ty) T05 (found t e).span >> value_same e g i >>= λ x. as_number (found t e).span x
+  limit_same (Some e) g (Some S) = λ i. need (is_integer S.ty) T05 (found t e).span >> value_same e g i
+      >>= λ x. as_number (found t e).span x
 
   -- ---- signatures
 
@@ -231,7 +260,8 @@ module _ (t : Tests) (A B : List Entry) (p : SamePlaces A B) where
       over_same _ _ (params_free_same f.params []) (λ before.
       over_by refl (ap (λ r. r >> params_then B f) (sym (formals_free_same f.formals before)))
       (over_after _
-      (over_by (ap (λ ns. params_rule t f.params [] ns >>= rest A f) (sym (append-nil A))) (ap (λ ns. params_rule t f.params [] ns >>= rest B f) (sym (append-nil B)))
+      (over_by (ap (λ ns. params_rule t f.params [] ns >>= rest A f) (sym (append-nil A)))
+      (ap (λ ns. params_rule t f.params [] ns >>= rest B f) (sym (append-nil B)))
       (over_then (rest A f) (rest B f) (params_same f.params (each_first Q a (b ++ (c ++ d)) g) [] []) (λ q.
       over_same _ _ (formals_same f.formals (each_first Q b (c ++ d) h) q.1) (λ Ts.
       over_same _ _ (result_same f.result (each_first Q c d j) q.1) (λ T.
@@ -239,10 +269,15 @@ module _ (t : Tests) (A B : List Entry) (p : SamePlaces A B) where
       over_after (params_are_integers t f.params q.0)
       (over_same _ _ (limit_same f.limit (each_second Q c d j) l) (λ limit.
       let r = begun f.formals Ts q.1 in
-      over_by (ap (λ ns. Ok (headed f q.0 Ts T limit ns)) r.first) (ap (λ ns. Ok (headed f q.0 Ts T limit ns)) r.second) (over_ok (head_over A) (head_over B) (headed f q.0 Ts T limit r.names))))))))))))
+      over_by (ap (λ ns. Ok (headed f q.0 Ts T limit ns)) r.first) (ap (λ ns. Ok (headed f q.0 Ts T limit ns)) r.second)
+      (over_ok (head_over A) (head_over B) (headed f q.0 Ts T limit r.names))))))))))))
     where
       headed : Func → List Param → Parts → Option Ty → ℤ → List Entry → Head
-      headed f ps Ts T limit ns = record { func = f; signature = record { name = f.name.text; class = class_of f.qualifier; params = ps; formals = Ts; result = T; limit = limit }; names = ns }
+      headed f ps Ts T limit ns = record {
+        func = f;
+        signature = record { name = f.name.text; class = class_of f.qualifier; params = ps; formals = Ts; result = T; limit = limit };
+        names = ns;
+      }
 
       rest : List Entry → Func → (List Param × List Entry) → Result Head Fault
       rest X f q =
@@ -257,6 +292,8 @@ module _ (t : Tests) (A B : List Entry) (p : SamePlaces A B) where
       params_then X f = params_rule t f.params [] X >>= rest X f
 
   -- a body over a signature is judged alike
-  pub body_same : (ss rs : List Signature) (h : Head) → Each (Stands A B ss rs) (body_uses h.func) → body_rule t ss (head_over A h) ≡ body_rule t rs (head_over B h)
+  pub body_same : (ss rs : List Signature) (h : Head) → Each (Stands A B ss rs) (body_uses h.func) →
+      body_rule t ss (head_over A h) ≡ body_rule t rs (head_over B h)
   body_same ss rs h g =
-      same_then _ _ (stmts_same t A B ss rs p h.func.body g Pure (record { locals = h.names; class = h.signature.class; result = h.signature.result; handles = false })) (λ l. refl)
+      same_then _ _ (stmts_same t A B ss rs p h.func.body g Pure
+      (record { locals = h.names; class = h.signature.class; result = h.signature.result; handles = false })) (λ l. refl)

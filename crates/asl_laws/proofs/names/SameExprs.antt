@@ -1,5 +1,6 @@
--- What is found at expressions, patterns, slices and written types depends on the names that they use alone: in two scopes it is the same, trees, slots and
--- faults included, where each name that is used stands for the same and is held in the same place, and calls of it choose the same.
+-- What is found at expressions, patterns, slices and written types depends on the names that they use alone: in two scopes it is the same,
+-- trees, slots and faults included, where each name that is used stands for the same and is held in the same place, and calls of it choose
+-- the same.
 use Rattle.std.proofs.Common.{◌≡◌, ℕ, Bool, false, List, [], ◌∷◌, ◌++◌, map, length, Option, Some, None, Ok, refl, sym, ◌∙◌}
 use Rattle.std.specs.Prelude.{Result, ◌==◌}
 use Rattle.asl_syn.specs.declared.token.Span.{Span}
@@ -13,7 +14,8 @@ use Rattle.asl_syn.specs.declared.tree.Pattern.{Pattern}
 use Rattle.asl_syn.specs.declared.tree.Slice.{Slice}
 use Rattle.asl_syn.specs.declared.tree.TypeExpr.{TypeExpr}
 use Rattle.asl_syn.specs.declared.tree.Bitfield.TheOpen as ex
-use Rattle.asl_syn.specs.declared.tree.Bitfield.TheFolds.{map-Bitfield, map-ConstraintPart, map-Expr, map-FieldValue, map-Pattern, map-Slice, map-TypeExpr}
+use Rattle.asl_syn.specs.declared.tree.Bitfield.TheFolds.{map-Bitfield, map-ConstraintPart, map-Expr, map-FieldValue, map-Pattern}
+use Rattle.asl_syn.specs.declared.tree.Bitfield.TheFolds.{map-Slice, map-TypeExpr}
 use Rattle.asl_rules.specs.declared.effect.Effect.{Effect}
 use Rattle.asl_rules.specs.declared.effect.Effect.TheVariants.{Pure}
 use Rattle.asl_rules.specs.declared.slot.Slot.{Slot}
@@ -23,17 +25,26 @@ use Rattle.asl_rules.specs.types.Types.{Ty, Parts, no_part, part, tuple_parts}
 use Rattle.asl_rules.specs.types.Shapes as shape
 use Rattle.asl_rules.specs.runs.Trees as tree
 use Rattle.asl_rules.specs.declarations.Routines.{Routine, routine_named}
-use Rattle.asl_rules.specs.declarations.Scopes.{Scope, Entry, Signature, Standing, Stored, Subprogram, TypeName, Label, standing_of, storage_in, type_in, is_subprogram, is_absent, reading, choose}
+use Rattle.asl_rules.specs.declarations.Scopes.{Scope, Entry, Signature, Standing, Stored, Subprogram, TypeName, Label, standing_of}
+use Rattle.asl_rules.specs.declarations.Scopes.{storage_in, type_in, is_subprogram, is_absent, reading, choose}
 use Rattle.asl_rules.specs.declarations.Layouts.{slot_of, layout_of}
 use Rattle.asl_rules.specs.types.Widths.{Total, width_of_standing, number_of_standing, storage_has_atom, totalled}
-use Rattle.asl_rules.specs.expressions.Typing.{Found, Typed, Operand, operand, operands, types_of, in_class, width_as, number_as, width_note}
+use Rattle.asl_rules.specs.expressions.Typing.{Found, Typed, Operand, operand, operands, types_of, in_class, width_as, number_as}
+use Rattle.asl_rules.specs.expressions.Typing.{width_note}
 use Rattle.asl_rules.specs.expressions.Slicing.{FoundSlice, all_operands, all_add, no_width, shapes_of, sliceable, slices_behind}
-use Rattle.asl_rules.specs.types.Writing.{FoundPart, FoundBitfield, FoundType, all_parts, all_fields, types_in_order, integer_written, bits_written, tuple_written, named_written}
-use Rattle.asl_rules.specs.expressions.Patterns.{FoundPattern, matched, all_match, as_many, parts_match, set_matched, pattern_shapes, pattern_trees}
+use Rattle.asl_rules.specs.types.Writing.{FoundPart, FoundBitfield, FoundType, all_parts, all_fields, types_in_order, integer_written}
+use Rattle.asl_rules.specs.types.Writing.{bits_written, tuple_written, named_written}
+use Rattle.asl_rules.specs.expressions.Patterns.{FoundPattern, matched, all_match, as_many, parts_match, set_matched, pattern_shapes}
+use Rattle.asl_rules.specs.expressions.Patterns.{pattern_trees}
 use Rattle.asl_rules.specs.values.Members.{construction}
-use Rattle.asl_rules.specs.expressions.Calls.{given, written_first, widths_given, widths_rule, routine_taken, routine_params, routine_called, function_called, function_of, procedure_called, procedure_of, function_rule, procedure_rule}
-use Rattle.asl_rules.specs.expressions.Exprs.{FoundField, name_of_standing, tuple_with, values_given, names_given, expr_rule, given_rule, slice_rule, part_rule, bitfield_rule, type_rule, pattern_rule, found, found_type, found_slice, found_pattern}
-use Rattle.asl_rules.specs.declarations.UsedNames.{Use, of_value, of_subprogram, of_type, Each, expr_uses, pattern_uses, slice_uses, type_uses}
+use Rattle.asl_rules.specs.expressions.Calls.{given, written_first, widths_given, widths_rule, routine_taken, routine_params}
+use Rattle.asl_rules.specs.expressions.Calls.{routine_called, function_called, function_of, procedure_called, procedure_of, function_rule}
+use Rattle.asl_rules.specs.expressions.Calls.{procedure_rule}
+use Rattle.asl_rules.specs.expressions.Exprs.{FoundField, name_of_standing, tuple_with, values_given, names_given, expr_rule, given_rule}
+use Rattle.asl_rules.specs.expressions.Exprs.{slice_rule, part_rule, bitfield_rule, type_rule, pattern_rule, found, found_type, found_slice}
+use Rattle.asl_rules.specs.expressions.Exprs.{found_pattern}
+use Rattle.asl_rules.specs.declarations.UsedNames.{Use, of_value, of_subprogram, of_type, Each, expr_uses, pattern_uses, slice_uses}
+use Rattle.asl_rules.specs.declarations.UsedNames.{type_uses}
 use Rattle.asl_laws.proofs.names.ByUses as by_uses
 use Rattle.asl_laws.proofs.names.ByUses.{OwnExpr, OwnType}
 
@@ -41,8 +52,10 @@ use Rattle.asl_laws.proofs.names.ByUses.{OwnExpr, OwnType}
 
 -- a name stands for the same and is held in the same place, and what is called is chosen alike
 abbrev pub SameAt : List Entry → List Entry → List Signature → List Signature → Use → Type 0
-SameAt A B ss rs (of_value span name) = (standing_of name A ≡ standing_of name B) × (slot_of name (layout_of A) ≡ slot_of name (layout_of B))
-SameAt A B ss rs (of_subprogram span name) = (standing_of name A ≡ standing_of name B) × ((Ts : Parts) → choose name Ts ss ≡ choose name Ts rs)
+SameAt A B ss rs (of_value span name) = (standing_of name A ≡ standing_of name B) ×
+    (slot_of name (layout_of A) ≡ slot_of name (layout_of B))
+SameAt A B ss rs (of_subprogram span name) = (standing_of name A ≡ standing_of name B) ×
+    ((Ts : Parts) → choose name Ts ss ≡ choose name Ts rs)
 SameAt A B ss rs (of_type name) = standing_of name A ≡ standing_of name B
 
 -- ---- what is found where these names are visible
@@ -60,7 +73,11 @@ expr_in X ss f = record {
 }
 
 abbrev pub slice_in : List Entry → List Signature → FoundSlice → FoundSlice
-slice_in X ss f = record { operands = λ G. f.operands (scope_at X ss G.class); adds = λ x G. f.adds x (scope_at X ss G.class); shape = f.shape }
+slice_in X ss f = record {
+  operands = λ G. f.operands (scope_at X ss G.class);
+  adds = λ x G. f.adds x (scope_at X ss G.class);
+  shape = f.shape;
+}
 
 abbrev pub given_in : List Entry → List Signature → FoundField → FoundField
 given_in X ss f = record { name = f.name; value = expr_in X ss f.value }
@@ -85,7 +102,8 @@ named class span (Some Subprogram) slot = fault T02 span
 named class span (Some (TypeName T)) slot = fault T02 span
 named class span (Some (Label T x)) slot = in_class class span Pure T (λ n. tree.Constant n x)
 
-name_is : (span : Span) (name : List ℕ) (o : Option Standing) (G : Scope) → name_of_standing span name o G ≡ named G.class span o (slot_of name (layout_of G.names))
+name_is : (span : Span) (name : List ℕ) (o : Option Standing) (G : Scope) →
+    name_of_standing span name o G ≡ named G.class span o (slot_of name (layout_of G.names))
 name_is span name None G = refl
 name_is span name (Some (Stored s)) G = refl
 name_is span name (Some Subprogram) G = refl
@@ -147,13 +165,15 @@ module _ (t : Tests) (A B : List Entry) (ss rs : List Signature) where
   operands_same [] k = refl
   operands_same (e ∷ es) k = λ i. (e.1 i).typed (first k) >>= λ S. operands_same es k i >>= λ os. Ok (operand e.0.span S ∷ os)
 
-  fields_same : (fs : List FF) (k : Effect) → operands (values_given (map (λ e. e.0) fs)) (first k) ≡ operands (values_given (map (λ e. e.0) fs)) (second k)
+  fields_same : (fs : List FF) (k : Effect) → operands (values_given (map (λ e. e.0) fs)) (first k)
+      ≡ operands (values_given (map (λ e. e.0) fs)) (second k)
   fields_same [] k = refl
   fields_same (f ∷ fs) k = λ i. (f.1 i).value.typed (first k) >>= λ S. fields_same fs k i >>= λ os. Ok (operand f.0.value.span S ∷ os)
 
   widths_same : (es : List EE) (k : Effect) → widths_given (map (λ e. e.0) es) (first k) ≡ widths_given (map (λ e. e.0) es) (second k)
   widths_same [] k = refl
-  widths_same (e ∷ es) k = λ i. (e.1 i).width (first k) >>= λ w. widths_same es k i >>= λ r. Ok (written_first (given w.poly e.0.span) w.tree r)
+  widths_same (e ∷ es) k = λ i. (e.1 i).width (first k) >>= λ w. widths_same es k i
+      >>= λ r. Ok (written_first (given w.poly e.0.span) w.tree r)
 
   replacing_same : (span : Span) (f : Signature) (es : List EE) (os : List Operand) (k : Effect) →
       widths_rule span f (map (λ e. e.0) es) os (first k) ≡ widths_rule span f (map (λ e. e.0) es) os (second k)
@@ -164,15 +184,18 @@ module _ (t : Tests) (A B : List Entry) (ss rs : List Signature) where
   slices_same [] k = refl
   slices_same (x ∷ xs) k = λ i. (x.1 i).operands (first k) >>= λ os. slices_same xs k i >>= λ ps. Ok (os ++ ps)
 
-  pub adds_same : (xs : List SS) (k : Effect) (w : Total) → all_add (map (λ e. e.0) xs) w (first k) ≡ all_add (map (λ e. e.0) xs) w (second k)
+  pub adds_same : (xs : List SS) (k : Effect) (w : Total) →
+      all_add (map (λ e. e.0) xs) w (first k) ≡ all_add (map (λ e. e.0) xs) w (second k)
   adds_same [] k w = refl
   adds_same (x ∷ xs) k w = λ i. (x.1 i).adds w (first k) >>= λ y. adds_same xs k y i
 
-  all_match_same : (ps : List PP) (T : Ty) (k : Effect) → all_match (map (λ e. e.0) ps) T (first k) ≡ all_match (map (λ e. e.0) ps) T (second k)
+  all_match_same : (ps : List PP) (T : Ty) (k : Effect) →
+      all_match (map (λ e. e.0) ps) T (first k) ≡ all_match (map (λ e. e.0) ps) T (second k)
   all_match_same [] T k = refl
   all_match_same (p ∷ ps) T k = λ i. p.1 i T (first k) >>= λ m. all_match_same ps T k i >>= λ ms. Ok (m ∷ ms)
 
-  parts_match_same : (ps : List PP) (Ts : Parts) (k : Effect) → parts_match (map (λ e. e.0) ps) Ts (first k) ≡ parts_match (map (λ e. e.0) ps) Ts (second k)
+  parts_match_same : (ps : List PP) (Ts : Parts) (k : Effect) →
+      parts_match (map (λ e. e.0) ps) Ts (first k) ≡ parts_match (map (λ e. e.0) ps) Ts (second k)
   parts_match_same [] Ts k = refl
   parts_match_same (p ∷ ps) no_part k = refl
   parts_match_same (p ∷ ps) (part T Ts) k = λ i. p.1 i T (first k) >>= λ m. parts_match_same ps Ts k i >>= λ ms. Ok (m ∷ ms)
@@ -185,59 +208,81 @@ module _ (t : Tests) (A B : List Entry) (ss rs : List Signature) where
   bitfields_same [] k = refl
   bitfields_same (f ∷ fs) k = λ i. f.1 i (first k) >>= λ x. bitfields_same fs k i >>= λ xs. Ok (x ∷ xs)
 
-  types_same : (outside : Bool) (ws : List TT) (k : Effect) → types_in_order outside (map (λ e. e.0) ws) (first k) ≡ types_in_order outside (map (λ e. e.0) ws) (second k)
+  types_same : (outside : Bool) (ws : List TT) (k : Effect) →
+      types_in_order outside (map (λ e. e.0) ws) (first k) ≡ types_in_order outside (map (λ e. e.0) ws) (second k)
   types_same outside [] k = refl
   types_same outside (w ∷ ws) k = λ i. (w.1 i).ty outside (first k) >>= λ W. types_same outside ws k i >>= λ Ws. Ok (W ∷ Ws)
 
   -- ---- calls
 
   begun_same : (i : Ident) (es : List EE) (k : Effect) → standing_of i.text A ≡ standing_of i.text B →
-      (operands (map (λ e. e.0) es) (first k) >>= λ os. need (is_subprogram (standing_of i.text A)) T02 i.span >> Ok os) ≡ (operands (map (λ e. e.0) es) (second k) >>= λ os. need (is_subprogram (standing_of i.text B)) T02 i.span >> Ok os)
+      (operands (map (λ e. e.0) es) (first k) >>= λ os. need (is_subprogram (standing_of i.text A)) T02 i.span >> Ok os)
+      ≡ (operands (map (λ e. e.0) es) (second k) >>= λ os. need (is_subprogram (standing_of i.text B)) T02 i.span >> Ok os)
   begun_same i es k h = λ j. operands_same es k j >>= λ os. need (is_subprogram (h j)) T02 i.span >> Ok os
 
-  function_same : (span : Span) (i : Ident) (ps : List EE) (os : List Operand) (k : Effect) → ((Ts : Parts) → choose i.text Ts ss ≡ choose i.text Ts rs) → (r : Option Routine) →
+  function_same : (span : Span) (i : Ident) (ps : List EE) (os : List Operand) (k : Effect) →
+      ((Ts : Parts) → choose i.text Ts ss ≡ choose i.text Ts rs) → (r : Option Routine) →
       function_of t span i (map (λ e. e.0) ps) os (first k) r ≡ function_of t span i (map (λ e. e.0) ps) os (second k) r
   function_same span i ps os k h (Some r) = λ j.
-      routine_taken span r os >> need (length (map (λ e. e.0) ps) == routine_params r) T11 span >> widths_same ps k j >>= λ w. routine_called k span r w os
+      routine_taken span r os >> need (length (map (λ e. e.0) ps) == routine_params r) T11 span >> widths_same ps k j
+      >>= λ w. routine_called k span r w os
   function_same span i ps os k h None = λ j.
-      found_or (h (types_of os) j) T09 span >>= λ f. found_or f.signature.result T18 span >>= λ T. replacing_same span f.signature ps os k j >>= λ w. function_called t k span f T w os
+      found_or (h (types_of os) j) T09 span >>= λ f. found_or f.signature.result T18 span >>= λ T. replacing_same span f.signature ps os k j
+      >>= λ w. function_called t k span f T w os
 
   call_same : (span : Span) (i : Ident) (ps es : List EE) (k : Effect) → SameAt A B ss rs (of_subprogram span i.text) →
-      function_rule t span i (map (λ e. e.0) ps) (map (λ e. e.0) es) (first k) ≡ function_rule t span i (map (λ e. e.0) ps) (map (λ e. e.0) es) (second k)
+      function_rule t span i (map (λ e. e.0) ps) (map (λ e. e.0) es) (first k)
+      ≡ function_rule t span i (map (λ e. e.0) ps) (map (λ e. e.0) es) (second k)
   call_same span i ps es k own = λ j. begun_same i es k own.0 j >>= λ os. function_same span i ps os k own.1 (routine_named i.text) j
 
-  procedure_same : (span : Span) (i : Ident) (ps : List EE) (os : List Operand) (k : Effect) → ((Ts : Parts) → choose i.text Ts ss ≡ choose i.text Ts rs) → (r : Option Routine) →
+  procedure_same : (span : Span) (i : Ident) (ps : List EE) (os : List Operand) (k : Effect) →
+      ((Ts : Parts) → choose i.text Ts ss ≡ choose i.text Ts rs) → (r : Option Routine) →
       procedure_of t span i (map (λ e. e.0) ps) os (first k) r ≡ procedure_of t span i (map (λ e. e.0) ps) os (second k) r
   procedure_same span i ps os k h (Some r) = refl
   procedure_same span i ps os k h None = λ j.
-      found_or (h (types_of os) j) T09 span >>= λ f. need (is_absent f.signature.result) T18 span >> replacing_same span f.signature ps os k j >>= λ w. procedure_called t k span f w os
+      found_or (h (types_of os) j) T09 span >>= λ f. need (is_absent f.signature.result) T18 span
+      >> replacing_same span f.signature ps os k j >>= λ w. procedure_called t k span f w os
 
   pub invoked_same : (span : Span) (i : Ident) (ps es : List EE) (k : Effect) → SameAt A B ss rs (of_subprogram span i.text) →
-      procedure_rule t span i (map (λ e. e.0) ps) (map (λ e. e.0) es) (first k) ≡ procedure_rule t span i (map (λ e. e.0) ps) (map (λ e. e.0) es) (second k)
+      procedure_rule t span i (map (λ e. e.0) ps) (map (λ e. e.0) es) (first k)
+      ≡ procedure_rule t span i (map (λ e. e.0) ps) (map (λ e. e.0) es) (second k)
   invoked_same span i ps es k own = λ j. begun_same i es k own.0 j >>= λ os. procedure_same span i ps os k own.1 (routine_named i.text) j
 
   -- ---- each sort
 
-  abbrev bitfield_below : ex.Bitfield-F BB CC EE FF PP SS TT → ex.Bitfield-F FoundBitfield FoundPart Found FoundField FoundPattern FoundSlice FoundType
-  bitfield_below = map-Bitfield BB CC EE FF PP SS TT FoundBitfield FoundPart Found FoundField FoundPattern FoundSlice FoundType (λ x. x.0) (λ x. x.0) (λ x. x.0) (λ x. x.0) (λ x. x.0) (λ x. x.0) (λ x. x.0)
+  abbrev bitfield_below : ex.Bitfield-F BB CC EE FF PP SS TT →
+      ex.Bitfield-F FoundBitfield FoundPart Found FoundField FoundPattern FoundSlice FoundType
+  bitfield_below = map-Bitfield BB CC EE FF PP SS TT FoundBitfield FoundPart Found FoundField FoundPattern FoundSlice FoundType (λ x. x.0)
+      (λ x. x.0) (λ x. x.0) (λ x. x.0) (λ x. x.0) (λ x. x.0) (λ x. x.0)
 
-  abbrev part_below : ex.ConstraintPart-F BB CC EE FF PP SS TT → ex.ConstraintPart-F FoundBitfield FoundPart Found FoundField FoundPattern FoundSlice FoundType
-  part_below = map-ConstraintPart BB CC EE FF PP SS TT FoundBitfield FoundPart Found FoundField FoundPattern FoundSlice FoundType (λ x. x.0) (λ x. x.0) (λ x. x.0) (λ x. x.0) (λ x. x.0) (λ x. x.0) (λ x. x.0)
+  abbrev part_below : ex.ConstraintPart-F BB CC EE FF PP SS TT →
+      ex.ConstraintPart-F FoundBitfield FoundPart Found FoundField FoundPattern FoundSlice FoundType
+  part_below = map-ConstraintPart BB CC EE FF PP SS TT FoundBitfield FoundPart Found FoundField FoundPattern FoundSlice FoundType (λ x. x.0)
+      (λ x. x.0) (λ x. x.0) (λ x. x.0) (λ x. x.0) (λ x. x.0) (λ x. x.0)
 
   abbrev expr_below : ex.Expr-F BB CC EE FF PP SS TT → ex.Expr-F FoundBitfield FoundPart Found FoundField FoundPattern FoundSlice FoundType
-  expr_below = map-Expr BB CC EE FF PP SS TT FoundBitfield FoundPart Found FoundField FoundPattern FoundSlice FoundType (λ x. x.0) (λ x. x.0) (λ x. x.0) (λ x. x.0) (λ x. x.0) (λ x. x.0) (λ x. x.0)
+  expr_below = map-Expr BB CC EE FF PP SS TT FoundBitfield FoundPart Found FoundField FoundPattern FoundSlice FoundType (λ x. x.0)
+      (λ x. x.0) (λ x. x.0) (λ x. x.0) (λ x. x.0) (λ x. x.0) (λ x. x.0)
 
-  abbrev given_below : ex.FieldValue-F BB CC EE FF PP SS TT → ex.FieldValue-F FoundBitfield FoundPart Found FoundField FoundPattern FoundSlice FoundType
-  given_below = map-FieldValue BB CC EE FF PP SS TT FoundBitfield FoundPart Found FoundField FoundPattern FoundSlice FoundType (λ x. x.0) (λ x. x.0) (λ x. x.0) (λ x. x.0) (λ x. x.0) (λ x. x.0) (λ x. x.0)
+  abbrev given_below : ex.FieldValue-F BB CC EE FF PP SS TT →
+      ex.FieldValue-F FoundBitfield FoundPart Found FoundField FoundPattern FoundSlice FoundType
+  given_below = map-FieldValue BB CC EE FF PP SS TT FoundBitfield FoundPart Found FoundField FoundPattern FoundSlice FoundType (λ x. x.0)
+      (λ x. x.0) (λ x. x.0) (λ x. x.0) (λ x. x.0) (λ x. x.0) (λ x. x.0)
 
-  abbrev pattern_below : ex.Pattern-F BB CC EE FF PP SS TT → ex.Pattern-F FoundBitfield FoundPart Found FoundField FoundPattern FoundSlice FoundType
-  pattern_below = map-Pattern BB CC EE FF PP SS TT FoundBitfield FoundPart Found FoundField FoundPattern FoundSlice FoundType (λ x. x.0) (λ x. x.0) (λ x. x.0) (λ x. x.0) (λ x. x.0) (λ x. x.0) (λ x. x.0)
+  abbrev pattern_below : ex.Pattern-F BB CC EE FF PP SS TT →
+      ex.Pattern-F FoundBitfield FoundPart Found FoundField FoundPattern FoundSlice FoundType
+  pattern_below = map-Pattern BB CC EE FF PP SS TT FoundBitfield FoundPart Found FoundField FoundPattern FoundSlice FoundType (λ x. x.0)
+      (λ x. x.0) (λ x. x.0) (λ x. x.0) (λ x. x.0) (λ x. x.0) (λ x. x.0)
 
-  abbrev slice_below : ex.Slice-F BB CC EE FF PP SS TT → ex.Slice-F FoundBitfield FoundPart Found FoundField FoundPattern FoundSlice FoundType
-  slice_below = map-Slice BB CC EE FF PP SS TT FoundBitfield FoundPart Found FoundField FoundPattern FoundSlice FoundType (λ x. x.0) (λ x. x.0) (λ x. x.0) (λ x. x.0) (λ x. x.0) (λ x. x.0) (λ x. x.0)
+  abbrev slice_below : ex.Slice-F BB CC EE FF PP SS TT →
+      ex.Slice-F FoundBitfield FoundPart Found FoundField FoundPattern FoundSlice FoundType
+  slice_below = map-Slice BB CC EE FF PP SS TT FoundBitfield FoundPart Found FoundField FoundPattern FoundSlice FoundType (λ x. x.0)
+      (λ x. x.0) (λ x. x.0) (λ x. x.0) (λ x. x.0) (λ x. x.0) (λ x. x.0)
 
-  abbrev type_below : ex.TypeExpr-F BB CC EE FF PP SS TT → ex.TypeExpr-F FoundBitfield FoundPart Found FoundField FoundPattern FoundSlice FoundType
-  type_below = map-TypeExpr BB CC EE FF PP SS TT FoundBitfield FoundPart Found FoundField FoundPattern FoundSlice FoundType (λ x. x.0) (λ x. x.0) (λ x. x.0) (λ x. x.0) (λ x. x.0) (λ x. x.0) (λ x. x.0)
+  abbrev type_below : ex.TypeExpr-F BB CC EE FF PP SS TT →
+      ex.TypeExpr-F FoundBitfield FoundPart Found FoundField FoundPattern FoundSlice FoundType
+  type_below = map-TypeExpr BB CC EE FF PP SS TT FoundBitfield FoundPart Found FoundField FoundPattern FoundSlice FoundType (λ x. x.0)
+      (λ x. x.0) (λ x. x.0) (λ x. x.0) (λ x. x.0) (λ x. x.0) (λ x. x.0)
 
   bitfield_step : (y : ex.Bitfield-F BB CC EE FF PP SS TT) → BitfieldSame (bitfield_rule (bitfield_below y))
   bitfield_step (ex.OneBit e n) = λ i. bitfield_in A ss (bitfield_rule (ex.OneBit (e.1 i) n))
@@ -270,10 +315,12 @@ module _ (t : Tests) (A B : List Entry) (ss rs : List Signature) where
   pattern_step (ex.RangePattern span a b) = λ i. pattern_in A ss (pattern_rule t (ex.RangePattern span (a.1 i) (b.1 i)))
 
   type_step : (y : ex.TypeExpr-F BB CC EE FF PP SS TT) → OwnType (SameAt A B ss rs) y → WrittenSame (type_rule t (type_below y))
-  type_step (ex.IntegerType span ps) own = λ i. record { span = span; ty = λ o G. ranges_same ps G.class i >>= λ qs. integer_written span qs }
+  type_step (ex.IntegerType span ps) own =
+      λ i. record { span = span; ty = λ o G. ranges_same ps G.class i >>= λ qs. integer_written span qs }
   type_step (ex.BooleanType span) own = refl
   type_step (ex.BitType span) own = refl
-  type_step (ex.NamedType span name) own = λ i. record { span = span; ty = λ o G. found_or (type_in (own i)) T02 span >>= λ T. Ok (named_written T) }
+  type_step (ex.NamedType span name) own =
+      λ i. record { span = span; ty = λ o G. found_or (type_in (own i)) T02 span >>= λ T. Ok (named_written T) }
   type_step (ex.BitsType span e fs) own = λ i. record {
     span = span;
     ty = λ o G. (e.1 i).width (first G.class) >>= λ w. bitfields_same fs G.class i >>= λ xs. bits_written t.limit o span w.poly w.tree xs;
@@ -283,10 +330,18 @@ module _ (t : Tests) (A B : List Entry) (ss rs : List Signature) where
 
   -- in widths a form with a list stands for none
   abbrev no_width_at : Span → (Scope → Result Typed Fault) → Found
-  no_width_at span typed = record { span = span; typed = typed; width = λ G. fault T19 span; number = λ G. fault T19 span; has_atom = λ G. false }
+  no_width_at span typed = record {
+    span = span;
+    typed = typed;
+    width = λ G. fault T19 span;
+    number = λ G. fault T19 span;
+    has_atom = λ G. false;
+  }
 
-  name_same : (span : Span) (name : List ℕ) (k : Effect) → SameAt A B ss rs (of_value span name) → name_of_standing span name (standing_of name A) (first k) ≡ name_of_standing span name (standing_of name B) (second k)
-  name_same span name k own = name_is span name (standing_of name A) (first k) ∙ (λ i. named k span (own.0 i) (own.1 i)) ∙ sym (name_is span name (standing_of name B) (second k))
+  name_same : (span : Span) (name : List ℕ) (k : Effect) → SameAt A B ss rs (of_value span name) →
+      name_of_standing span name (standing_of name A) (first k) ≡ name_of_standing span name (standing_of name B) (second k)
+  name_same span name k own = name_is span name (standing_of name A) (first k) ∙ (λ i. named k span (own.0 i) (own.1 i))
+      ∙ sym (name_is span name (standing_of name B) (second k))
 
   unary_same : (span : Span) (o : UnaryOperator) (a : EE) → ExprSame (expr_rule t (ex.Unary span o a.0))
   unary_same span unary.Negate a = λ i. expr_in A ss (expr_rule t (ex.Unary span unary.Negate (a.1 i)))
@@ -308,7 +363,8 @@ module _ (t : Tests) (A B : List Entry) (ss rs : List Signature) where
   expr_step (ex.Binary span o a b) own = λ i. expr_in A ss (expr_rule t (ex.Binary span o (a.1 i) (b.1 i)))
   expr_step (ex.Conditional span c a b) own = λ i. expr_in A ss (expr_rule t (ex.Conditional span (c.1 i) (a.1 i) (b.1 i)))
   expr_step (ex.Tuple span es) own = λ i. no_width_at span (λ G. operands_same es G.class i >>= λ os. tuple_with G.class span os)
-  expr_step (ex.Construct span n fs) own = λ i. no_width_at span (λ G. fields_same fs G.class i >>= λ os. construction t G.class span n (type_in (own i)) (names_given (map (λ f. f.0) fs)) os)
+  expr_step (ex.Construct span n fs) own = λ i. no_width_at span
+      (λ G. fields_same fs G.class i >>= λ os. construction t G.class span n (type_in (own i)) (names_given (map (λ f. f.0) fs)) os)
   expr_step (ex.Call span n ps es) own = λ i. no_width_at span (λ G. call_same span n ps es G.class own i)
   expr_step (ex.Field span a n) own = λ i. expr_in A ss (expr_rule t (ex.Field span (a.1 i) n))
   expr_step (ex.Fields span a ns) own = λ i. expr_in A ss (expr_rule t (ex.Fields span (a.1 i) ns))
@@ -321,17 +377,35 @@ module _ (t : Tests) (A B : List Entry) (ss rs : List Signature) where
   expr_step (ex.As span a w) own = λ i. expr_in A ss (expr_rule t (ex.As span (a.1 i) (w.1 i)))
   expr_step (ex.In span a p) own = λ i. expr_in A ss (expr_rule t (ex.In span (a.1 i) (p.1 i)))
 
-  abbrev steps : by_uses.Steps (SameAt A B ss rs) FoundBitfield FoundPart Found FoundField FoundPattern FoundSlice FoundType bitfield_rule part_rule (expr_rule t) given_rule (pattern_rule t) slice_rule (type_rule t) BitfieldSame PartSame ExprSame GivenSame PatternSame SliceSame WrittenSame
-  steps = record { bitfield = bitfield_step; part = part_step; expr = expr_step; given = given_step; pattern = pattern_step; slice = slice_step; type = type_step }
+  abbrev steps : by_uses.Steps (SameAt A B ss rs) FoundBitfield FoundPart Found FoundField FoundPattern FoundSlice FoundType bitfield_rule
+      part_rule (expr_rule t) given_rule (pattern_rule t) slice_rule (type_rule t) BitfieldSame PartSame ExprSame GivenSame PatternSame
+      SliceSame WrittenSame
+  steps = record {
+    bitfield = bitfield_step;
+    part = part_step;
+    expr = expr_step;
+    given = given_step;
+    pattern = pattern_step;
+    slice = slice_step;
+    type = type_step;
+  }
 
   pub expr_same : (x : Expr) → Each (SameAt A B ss rs) (expr_uses x) → ExprSame (found t x)
-  expr_same = by_uses.expr_holds (SameAt A B ss rs) FoundBitfield FoundPart Found FoundField FoundPattern FoundSlice FoundType bitfield_rule part_rule (expr_rule t) given_rule (pattern_rule t) slice_rule (type_rule t) BitfieldSame PartSame ExprSame GivenSame PatternSame SliceSame WrittenSame steps
+  expr_same = by_uses.expr_holds (SameAt A B ss rs) FoundBitfield FoundPart Found FoundField FoundPattern FoundSlice FoundType bitfield_rule
+      part_rule (expr_rule t) given_rule (pattern_rule t) slice_rule (type_rule t) BitfieldSame PartSame ExprSame GivenSame PatternSame
+      SliceSame WrittenSame steps
 
   pub type_same : (x : TypeExpr) → Each (SameAt A B ss rs) (type_uses x) → WrittenSame (found_type t x)
-  type_same = by_uses.type_holds (SameAt A B ss rs) FoundBitfield FoundPart Found FoundField FoundPattern FoundSlice FoundType bitfield_rule part_rule (expr_rule t) given_rule (pattern_rule t) slice_rule (type_rule t) BitfieldSame PartSame ExprSame GivenSame PatternSame SliceSame WrittenSame steps
+  type_same = by_uses.type_holds (SameAt A B ss rs) FoundBitfield FoundPart Found FoundField FoundPattern FoundSlice FoundType bitfield_rule
+      part_rule (expr_rule t) given_rule (pattern_rule t) slice_rule (type_rule t) BitfieldSame PartSame ExprSame GivenSame PatternSame
+      SliceSame WrittenSame steps
 
   pub pattern_same : (x : Pattern) → Each (SameAt A B ss rs) (pattern_uses x) → PatternSame (found_pattern t x)
-  pattern_same = by_uses.pattern_holds (SameAt A B ss rs) FoundBitfield FoundPart Found FoundField FoundPattern FoundSlice FoundType bitfield_rule part_rule (expr_rule t) given_rule (pattern_rule t) slice_rule (type_rule t) BitfieldSame PartSame ExprSame GivenSame PatternSame SliceSame WrittenSame steps
+  pattern_same = by_uses.pattern_holds (SameAt A B ss rs) FoundBitfield FoundPart Found FoundField FoundPattern FoundSlice FoundType
+      bitfield_rule part_rule (expr_rule t) given_rule (pattern_rule t) slice_rule (type_rule t) BitfieldSame PartSame ExprSame GivenSame
+      PatternSame SliceSame WrittenSame steps
 
   pub slice_same : (x : Slice) → Each (SameAt A B ss rs) (slice_uses x) → SliceSame (found_slice t x)
-  slice_same = by_uses.slice_holds (SameAt A B ss rs) FoundBitfield FoundPart Found FoundField FoundPattern FoundSlice FoundType bitfield_rule part_rule (expr_rule t) given_rule (pattern_rule t) slice_rule (type_rule t) BitfieldSame PartSame ExprSame GivenSame PatternSame SliceSame WrittenSame steps
+  slice_same = by_uses.slice_holds (SameAt A B ss rs) FoundBitfield FoundPart Found FoundField FoundPattern FoundSlice FoundType
+      bitfield_rule part_rule (expr_rule t) given_rule (pattern_rule t) slice_rule (type_rule t) BitfieldSame PartSame ExprSame GivenSame
+      PatternSame SliceSame WrittenSame steps

@@ -24,43 +24,61 @@ module _ (PA : Alternative → Type 0) (PC : Catcher → Type 0) (PB : ElseIf �
   abbrev pub WithStmt : Type 0
   WithStmt = (x : Stmt) × PS x
 
-  abbrev pub alternative_trees : st.Alternative-F WithAlternative WithCatcher WithElseIf WithOtherwise WithStmt → st.Alternative-F Alternative Catcher ElseIf Otherwise Stmt
-  alternative_trees = map-Alternative WithAlternative WithCatcher WithElseIf WithOtherwise WithStmt Alternative Catcher ElseIf Otherwise Stmt (λ x. x.0) (λ x. x.0) (λ x. x.0) (λ x. x.0) (λ x. x.0)
+  abbrev pub alternative_trees : st.Alternative-F WithAlternative WithCatcher WithElseIf WithOtherwise WithStmt →
+      st.Alternative-F Alternative Catcher ElseIf Otherwise Stmt
+  alternative_trees = map-Alternative WithAlternative WithCatcher WithElseIf WithOtherwise WithStmt Alternative Catcher ElseIf Otherwise
+      Stmt (λ x. x.0) (λ x. x.0) (λ x. x.0) (λ x. x.0) (λ x. x.0)
 
-  abbrev pub catcher_trees : st.Catcher-F WithAlternative WithCatcher WithElseIf WithOtherwise WithStmt → st.Catcher-F Alternative Catcher ElseIf Otherwise Stmt
-  catcher_trees = map-Catcher WithAlternative WithCatcher WithElseIf WithOtherwise WithStmt Alternative Catcher ElseIf Otherwise Stmt (λ x. x.0) (λ x. x.0) (λ x. x.0) (λ x. x.0) (λ x. x.0)
+  abbrev pub catcher_trees : st.Catcher-F WithAlternative WithCatcher WithElseIf WithOtherwise WithStmt →
+      st.Catcher-F Alternative Catcher ElseIf Otherwise Stmt
+  catcher_trees = map-Catcher WithAlternative WithCatcher WithElseIf WithOtherwise WithStmt Alternative Catcher ElseIf Otherwise Stmt
+      (λ x. x.0) (λ x. x.0) (λ x. x.0) (λ x. x.0) (λ x. x.0)
 
-  abbrev pub branch_trees : st.ElseIf-F WithAlternative WithCatcher WithElseIf WithOtherwise WithStmt → st.ElseIf-F Alternative Catcher ElseIf Otherwise Stmt
-  branch_trees = map-ElseIf WithAlternative WithCatcher WithElseIf WithOtherwise WithStmt Alternative Catcher ElseIf Otherwise Stmt (λ x. x.0) (λ x. x.0) (λ x. x.0) (λ x. x.0) (λ x. x.0)
+  abbrev pub branch_trees : st.ElseIf-F WithAlternative WithCatcher WithElseIf WithOtherwise WithStmt →
+      st.ElseIf-F Alternative Catcher ElseIf Otherwise Stmt
+  branch_trees = map-ElseIf WithAlternative WithCatcher WithElseIf WithOtherwise WithStmt Alternative Catcher ElseIf Otherwise Stmt
+      (λ x. x.0) (λ x. x.0) (λ x. x.0) (λ x. x.0) (λ x. x.0)
 
-  abbrev pub otherwise_trees : st.Otherwise-F WithAlternative WithCatcher WithElseIf WithOtherwise WithStmt → st.Otherwise-F Alternative Catcher ElseIf Otherwise Stmt
-  otherwise_trees = map-Otherwise WithAlternative WithCatcher WithElseIf WithOtherwise WithStmt Alternative Catcher ElseIf Otherwise Stmt (λ x. x.0) (λ x. x.0) (λ x. x.0) (λ x. x.0) (λ x. x.0)
+  abbrev pub otherwise_trees : st.Otherwise-F WithAlternative WithCatcher WithElseIf WithOtherwise WithStmt →
+      st.Otherwise-F Alternative Catcher ElseIf Otherwise Stmt
+  otherwise_trees = map-Otherwise WithAlternative WithCatcher WithElseIf WithOtherwise WithStmt Alternative Catcher ElseIf Otherwise Stmt
+      (λ x. x.0) (λ x. x.0) (λ x. x.0) (λ x. x.0) (λ x. x.0)
 
-  abbrev pub stmt_trees : st.Stmt-F WithAlternative WithCatcher WithElseIf WithOtherwise WithStmt → st.Stmt-F Alternative Catcher ElseIf Otherwise Stmt
-  stmt_trees = map-Stmt WithAlternative WithCatcher WithElseIf WithOtherwise WithStmt Alternative Catcher ElseIf Otherwise Stmt (λ x. x.0) (λ x. x.0) (λ x. x.0) (λ x. x.0) (λ x. x.0)
+  abbrev pub stmt_trees : st.Stmt-F WithAlternative WithCatcher WithElseIf WithOtherwise WithStmt →
+      st.Stmt-F Alternative Catcher ElseIf Otherwise Stmt
+  stmt_trees = map-Stmt WithAlternative WithCatcher WithElseIf WithOtherwise WithStmt Alternative Catcher ElseIf Otherwise Stmt (λ x. x.0)
+      (λ x. x.0) (λ x. x.0) (λ x. x.0) (λ x. x.0)
 
   -- of a node, where it holds of its parts
   pub record Steps : Type 0 where
-    pub alternative : (y : st.Alternative-F WithAlternative WithCatcher WithElseIf WithOtherwise WithStmt) → PA (roll-Alternative (alternative_trees y))
+    pub alternative : (y : st.Alternative-F WithAlternative WithCatcher WithElseIf WithOtherwise WithStmt) →
+        PA (roll-Alternative (alternative_trees y))
     pub catcher : (y : st.Catcher-F WithAlternative WithCatcher WithElseIf WithOtherwise WithStmt) → PC (roll-Catcher (catcher_trees y))
     pub branch : (y : st.ElseIf-F WithAlternative WithCatcher WithElseIf WithOtherwise WithStmt) → PB (roll-ElseIf (branch_trees y))
-    pub otherwise : (y : st.Otherwise-F WithAlternative WithCatcher WithElseIf WithOtherwise WithStmt) → PO (roll-Otherwise (otherwise_trees y))
+    pub otherwise : (y : st.Otherwise-F WithAlternative WithCatcher WithElseIf WithOtherwise WithStmt) →
+        PO (roll-Otherwise (otherwise_trees y))
     pub stmt : (y : st.Stmt-F WithAlternative WithCatcher WithElseIf WithOtherwise WithStmt) → PS (roll-Stmt (stmt_trees y))
 
   module _ (s : Steps) where
-    alternative_step : (x : st.Alternative-F Alternative Catcher ElseIf Otherwise Stmt) (y : st.Alternative-F WithAlternative WithCatcher WithElseIf WithOtherwise WithStmt) → alternative_trees y ≡ x → PA (roll-Alternative x)
+    alternative_step : (x : st.Alternative-F Alternative Catcher ElseIf Otherwise Stmt)
+        (y : st.Alternative-F WithAlternative WithCatcher WithElseIf WithOtherwise WithStmt) → alternative_trees y ≡ x →
+        PA (roll-Alternative x)
     alternative_step x y is = subst (λ z. PA (roll-Alternative z)) is (s.alternative y)
 
-    catcher_step : (x : st.Catcher-F Alternative Catcher ElseIf Otherwise Stmt) (y : st.Catcher-F WithAlternative WithCatcher WithElseIf WithOtherwise WithStmt) → catcher_trees y ≡ x → PC (roll-Catcher x)
+    catcher_step : (x : st.Catcher-F Alternative Catcher ElseIf Otherwise Stmt)
+        (y : st.Catcher-F WithAlternative WithCatcher WithElseIf WithOtherwise WithStmt) → catcher_trees y ≡ x → PC (roll-Catcher x)
     catcher_step x y is = subst (λ z. PC (roll-Catcher z)) is (s.catcher y)
 
-    branch_step : (x : st.ElseIf-F Alternative Catcher ElseIf Otherwise Stmt) (y : st.ElseIf-F WithAlternative WithCatcher WithElseIf WithOtherwise WithStmt) → branch_trees y ≡ x → PB (roll-ElseIf x)
+    branch_step : (x : st.ElseIf-F Alternative Catcher ElseIf Otherwise Stmt)
+        (y : st.ElseIf-F WithAlternative WithCatcher WithElseIf WithOtherwise WithStmt) → branch_trees y ≡ x → PB (roll-ElseIf x)
     branch_step x y is = subst (λ z. PB (roll-ElseIf z)) is (s.branch y)
 
-    otherwise_step : (x : st.Otherwise-F Alternative Catcher ElseIf Otherwise Stmt) (y : st.Otherwise-F WithAlternative WithCatcher WithElseIf WithOtherwise WithStmt) → otherwise_trees y ≡ x → PO (roll-Otherwise x)
+    otherwise_step : (x : st.Otherwise-F Alternative Catcher ElseIf Otherwise Stmt)
+        (y : st.Otherwise-F WithAlternative WithCatcher WithElseIf WithOtherwise WithStmt) → otherwise_trees y ≡ x → PO (roll-Otherwise x)
     otherwise_step x y is = subst (λ z. PO (roll-Otherwise z)) is (s.otherwise y)
 
-    stmt_step : (x : st.Stmt-F Alternative Catcher ElseIf Otherwise Stmt) (y : st.Stmt-F WithAlternative WithCatcher WithElseIf WithOtherwise WithStmt) → stmt_trees y ≡ x → PS (roll-Stmt x)
+    stmt_step : (x : st.Stmt-F Alternative Catcher ElseIf Otherwise Stmt)
+        (y : st.Stmt-F WithAlternative WithCatcher WithElseIf WithOtherwise WithStmt) → stmt_trees y ≡ x → PS (roll-Stmt x)
     stmt_step x y is = subst (λ z. PS (roll-Stmt z)) is (s.stmt y)
 
     pub all_stmts : (x : Stmt) → PS x

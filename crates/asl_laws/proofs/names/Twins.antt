@@ -1,8 +1,11 @@
--- Two lists of names that differ in what names stand for alone: the same names in the same places, storage in the same places, and at some names the same standing.
-use Rattle.std.proofs.Common.{◌≡◌, ℕ, suc, Bool, true, false, cond, not, ◌&&◌, List, [], ◌∷◌, ◌++◌, Option, Some, None, refl, sym, ap, ◌∙◌, subst}
+-- Two lists of names that differ in what names stand for alone: the same names in the same places, storage in the same places, and at some
+-- names the same standing. So what uses these names alone is judged alike with both, and no order need be known in which they were made.
+use Rattle.std.proofs.Common.{◌≡◌, ℕ, suc, Bool, true, false, cond, not, ◌&&◌, List, [], ◌∷◌, ◌++◌, Option, Some, None, refl, sym, ap, ◌∙◌}
+use Rattle.std.proofs.Common.{subst}
 use Rattle.std.specs.Str.{bytes_eq}
 use Rattle.asl_rules.specs.types.Types.{Parts, same_kinds}
-use Rattle.asl_rules.specs.declarations.Scopes.{Entry, Signature, Chosen, Standing, Stored, Subprogram, TypeName, Label, standing_of, is_absent, is_free, is_local, next_atom, with_entry, with_entries, choose_from}
+use Rattle.asl_rules.specs.declarations.Scopes.{Entry, Signature, Chosen, Standing, Stored, Subprogram, TypeName, Label, standing_of}
+use Rattle.asl_rules.specs.declarations.Scopes.{is_absent, is_free, is_local, next_atom, with_entry, with_entries, choose_from}
 use Rattle.asl_rules.specs.declarations.Layouts.{local_name, global_name, local_names, global_names}
 use Rattle.asl_laws.proofs.names.SamePlaces.{SamePlaces}
 
@@ -69,9 +72,11 @@ module _ (Fixed : List ℕ → Type 0) where
   twins_free n [] [] p = refl
   twins_free n [] (f ∷ fs) p = absurd p
   twins_free n (e ∷ es) [] p = absurd p
-  twins_free n (e ∷ es) (f ∷ fs) p = by (bytes_eq e.name n) (twins_free n es fs p.1) ∙ ap (λ m. is_absent (cond (bytes_eq m n) (Some f.standing) (standing_of n fs))) p.0.name
+  twins_free n (e ∷ es) (f ∷ fs) p = by (bytes_eq e.name n) (twins_free n es fs p.1)
+      ∙ ap (λ m. is_absent (cond (bytes_eq m n) (Some f.standing) (standing_of n fs))) p.0.name
     where
-      by : (b : Bool) → is_free n es ≡ is_free n fs → is_absent (cond b (Some e.standing) (standing_of n es)) ≡ is_absent (cond b (Some f.standing) (standing_of n fs))
+      by : (b : Bool) → is_free n es ≡ is_free n fs →
+          is_absent (cond b (Some e.standing) (standing_of n es)) ≡ is_absent (cond b (Some f.standing) (standing_of n fs))
       by true h = refl
       by false h = h
 
@@ -79,9 +84,11 @@ module _ (Fixed : List ℕ → Type 0) where
   twins_standing n k [] [] p = refl
   twins_standing n k [] (f ∷ fs) p = absurd p
   twins_standing n k (e ∷ es) [] p = absurd p
-  twins_standing n k (e ∷ es) (f ∷ fs) p = by (bytes_eq e.name n) refl (twins_standing n k es fs p.1) ∙ ap (λ m. cond (bytes_eq m n) (Some f.standing) (standing_of n fs)) p.0.name
+  twins_standing n k (e ∷ es) (f ∷ fs) p = by (bytes_eq e.name n) refl (twins_standing n k es fs p.1)
+      ∙ ap (λ m. cond (bytes_eq m n) (Some f.standing) (standing_of n fs)) p.0.name
     where
-      by : (b : Bool) → bytes_eq e.name n ≡ b → standing_of n es ≡ standing_of n fs → cond b (Some e.standing) (standing_of n es) ≡ cond b (Some f.standing) (standing_of n fs)
+      by : (b : Bool) → bytes_eq e.name n ≡ b → standing_of n es ≡ standing_of n fs →
+          cond b (Some e.standing) (standing_of n es) ≡ cond b (Some f.standing) (standing_of n fs)
       by true q h = ap Some (p.0.same n k q)
       by false q h = h
 
@@ -90,20 +97,23 @@ module _ (Fixed : List ℕ → Type 0) where
   twins_locals [] (f ∷ fs) p = absurd p
   twins_locals (e ∷ es) [] p = absurd p
   twins_locals (e ∷ es) (f ∷ fs) p =
-      local_kind e.name e.standing (local_names es) ∙ (λ i. local_by (p.0.kind i) (p.0.name i) (twins_locals es fs p.1 i)) ∙ sym (local_kind f.name f.standing (local_names fs))
+      local_kind e.name e.standing (local_names es) ∙ (λ i. local_by (p.0.kind i) (p.0.name i) (twins_locals es fs p.1 i))
+      ∙ sym (local_kind f.name f.standing (local_names fs))
 
   twins_globals : (es fs : List Entry) → Twins es fs → global_names es ≡ global_names fs
   twins_globals [] [] p = refl
   twins_globals [] (f ∷ fs) p = absurd p
   twins_globals (e ∷ es) [] p = absurd p
   twins_globals (e ∷ es) (f ∷ fs) p =
-      global_kind e.name e.standing (global_names es) ∙ (λ i. global_by (p.0.kind i) (p.0.name i) (twins_globals es fs p.1 i)) ∙ sym (global_kind f.name f.standing (global_names fs))
+      global_kind e.name e.standing (global_names es) ∙ (λ i. global_by (p.0.kind i) (p.0.name i) (twins_globals es fs p.1 i))
+      ∙ sym (global_kind f.name f.standing (global_names fs))
 
   twins_atoms : (es fs : List Entry) → Twins es fs → next_atom es ≡ next_atom fs
   twins_atoms [] [] p = refl
   twins_atoms [] (f ∷ fs) p = absurd p
   twins_atoms (e ∷ es) [] p = absurd p
-  twins_atoms (e ∷ es) (f ∷ fs) p = λ i. cond ((is_local_kind e.standing ∙ ap is_local_by p.0.kind ∙ sym (is_local_kind f.standing)) i) (suc (suc (twins_atoms es fs p.1 i))) (twins_atoms es fs p.1 i)
+  twins_atoms (e ∷ es) (f ∷ fs) p = λ i. cond ((is_local_kind e.standing ∙ ap is_local_by p.0.kind ∙ sym (is_local_kind f.standing)) i)
+      (suc (suc (twins_atoms es fs p.1 i))) (twins_atoms es fs p.1 i)
 
   pub twins_places : (es fs : List Entry) → Twins es fs → SamePlaces es fs
   twins_places es fs p = record {
@@ -114,7 +124,8 @@ module _ (Fixed : List ℕ → Type 0) where
 
   -- each name once
   twins_with : (e f : Entry) (es fs : List Entry) → Twin e f → Twins es fs → Twins (with_entry e es) (with_entry f fs)
-  twins_with e f es fs p q = subst (λ b. Twins (with_entry e es) (cond b (fs ++ f ∷ []) fs)) (twins_free e.name es fs q ∙ ap (λ m. is_free m fs) p.name) (by (is_free e.name es))
+  twins_with e f es fs p q = subst (λ b. Twins (with_entry e es) (cond b (fs ++ f ∷ []) fs))
+      (twins_free e.name es fs q ∙ ap (λ m. is_free m fs) p.name) (by (is_free e.name es))
     where
       by : (b : Bool) → Twins (cond b (es ++ e ∷ []) es) (cond b (fs ++ f ∷ []) fs)
       by true = twins_append es fs (e ∷ []) (f ∷ []) q (p, tt)
@@ -145,16 +156,19 @@ sigs_append n [] (r ∷ rs) us vs p q = absurd p
 sigs_append n (s ∷ ss) [] us vs p q = absurd p
 sigs_append n (s ∷ ss) (r ∷ rs) us vs p q = (p.0, sigs_append n ss rs us vs p.1 q)
 
-pub sigs_choose : (n : List ℕ) (Ts : Parts) (m : ℕ) (ss rs : List Signature) → SigTwins n ss rs → choose_from m n Ts ss ≡ choose_from m n Ts rs
+pub sigs_choose : (n : List ℕ) (Ts : Parts) (m : ℕ) (ss rs : List Signature) → SigTwins n ss rs →
+    choose_from m n Ts ss ≡ choose_from m n Ts rs
 sigs_choose n Ts m [] [] p = refl
 sigs_choose n Ts m [] (r ∷ rs) p = absurd p
 sigs_choose n Ts m (s ∷ ss) [] p = absurd p
-sigs_choose n Ts m (s ∷ ss) (r ∷ rs) p = by (bytes_eq s.name n) refl (sigs_choose n Ts (suc m) ss rs p.1) ∙ ap (λ b. cond (b && same_kinds r.formals Ts) (Some (chosen m r)) (choose_from (suc m) n Ts rs)) p.0.name
+sigs_choose n Ts m (s ∷ ss) (r ∷ rs) p = by (bytes_eq s.name n) refl (sigs_choose n Ts (suc m) ss rs p.1)
+    ∙ ap (λ b. cond (b && same_kinds r.formals Ts) (Some (chosen m r)) (choose_from (suc m) n Ts rs)) p.0.name
   where
     chosen : ℕ → Signature → Chosen
     chosen m s = record { number = m; signature = s }
 
     by : (b : Bool) → bytes_eq s.name n ≡ b → choose_from (suc m) n Ts ss ≡ choose_from (suc m) n Ts rs →
-        cond (b && same_kinds s.formals Ts) (Some (chosen m s)) (choose_from (suc m) n Ts ss) ≡ cond (b && same_kinds r.formals Ts) (Some (chosen m r)) (choose_from (suc m) n Ts rs)
+        cond (b && same_kinds s.formals Ts) (Some (chosen m s)) (choose_from (suc m) n Ts ss)
+        ≡ cond (b && same_kinds r.formals Ts) (Some (chosen m r)) (choose_from (suc m) n Ts rs)
     by true q h = λ i. cond (same_kinds (p.0.same q i).formals Ts) (Some (chosen m (p.0.same q i))) (h i)
     by false q h = h

@@ -1,5 +1,6 @@
 -- A command has the same report under a wider limit, where its program is accepted and its run doesn't end with the fault D14.
-use Rattle.std.proofs.Common.{◌≡◌, ℕ, ◌≤◌, Bool, true, false, cond, List, [], ◌∷◌, length, Option, Some, Result, Ok, Err, refl, sym, ap, subst, ◌∙◌}
+use Rattle.std.proofs.Common.{◌≡◌, ℕ, ◌≤◌, Bool, true, false, cond, List, [], ◌∷◌, length, Option, Some, Result, Ok, Err, refl, sym, ap}
+use Rattle.std.proofs.Common.{subst, ◌∙◌}
 use Rattle.asl_syn.specs.Command.{Command, usage, check, run, exec, self, default_steps}
 use Rattle.asl_syn.specs.declared.tree.Decl.{Decl}
 use Rattle.asl_grammar.specs.Reading.{File, Reader, ReadsAt, IsReadingAt}
@@ -18,10 +19,13 @@ use Rattle.asl_rules.specs.runs.Evaluation.{initial_globals}
 use Rattle.asl_laws.specs.Soundness.{NotStuck}
 use Rattle.asl_rules.specs.report.Made.{made_text}
 use Rattle.asl_rules.specs.report.Texts.{Text, made_words}
-use Rattle.asl_rules.specs.report.Report.{Reading, all, long, many, Answer, is_long, on_files, on_words_read, on_list, read_files, begun, worked, words_answer, made_answer, run_answer, on_verdict, on_check, on_run, on_words, on_made, on_reading, made_file, report_of}
+use Rattle.asl_rules.specs.report.Report.{Reading, all, long, many, Answer, is_long, on_files, on_words_read, on_list, read_files, begun}
+use Rattle.asl_rules.specs.report.Report.{worked, words_answer, made_answer, run_answer, on_verdict, on_check, on_run, on_words, on_made}
+use Rattle.asl_rules.specs.report.Report.{on_reading, made_file, report_of}
 use Rattle.asl_laws.proofs.verdict.OneVerdict.{one_test}
 use Rattle.asl_laws.specs.Reported.{RunsWell, WordsNotStuck}
-use Rattle.asl_laws.specs.Wider.{FitsLimit, WordsFitLimit, NotTooWide, WordsNotTooWide, RunFits, WordsFit, Accepts, OnFiles, OnWords, UnlessLong, OnList, Fits}
+use Rattle.asl_laws.specs.Wider.{FitsLimit, WordsFitLimit, NotTooWide, WordsNotTooWide, RunFits, WordsFit, Accepts, OnFiles, OnWords}
+use Rattle.asl_laws.specs.Wider.{UnlessLong, OnList, Fits}
 use Rattle.asl_laws.proofs.reported.Reports.{reports_run_well_at}
 use Rattle.asl_laws.proofs.wider.Plans.{out_fits}
 use Rattle.asl_laws.proofs.wider.Runs.{run_wider, words_wider, words_fit}
@@ -45,20 +49,29 @@ derivation_stays l m le e files a h =
     record {
       decls = h.decls;
       reads = reads_stay m l le files h.decls h.reads;
-      ok = record { tests = record p.tests { limit = m }; right = right_at p.tests m p.right; within = refl; is = same_verdict p.tests m (subst (λ n. n ≤ m) (sym p.within) le) e h.decls a p.is };
+      ok = record {
+        tests = record p.tests { limit = m };
+        right = right_at p.tests m p.right;
+        within = refl;
+        is = same_verdict p.tests m (subst (λ n. n ≤ m) (sym p.within) le) e h.decls a p.is;
+      };
     }
 
 -- ---- runs
 
-pub run_stays : (t u : Tests) → IsRight t → IsRight u → t.limit ≤ u.limit → (e : Entry) (ds : List Decl) (a : Accepted) → verdict e ds t ≡ Ok a → (id : ℕ) (args : List Value) (globals : List Binding) (h : Meter)
-    → FitsLimit (run_of (environment t ds) id args globals h) → run_of (environment u ds) id args globals h ≡ run_of (environment t ds) id args globals h
+pub run_stays : (t u : Tests) → IsRight t → IsRight u → t.limit ≤ u.limit → (e : Entry) (ds : List Decl) (a : Accepted) →
+    verdict e ds t ≡ Ok a → (id : ℕ) (args : List Value) (globals : List Binding) (h : Meter)
+    → FitsLimit (run_of (environment t ds) id args globals h) →
+    run_of (environment u ds) id args globals h ≡ run_of (environment t ds) id args globals h
 run_stays t u p q le e ds a ok id args globals h f =
     ap (λ v. run_of (environment v ds) id args globals h) (tests_are t u p q)
     ∙ ap (λ env. run_of env id args globals h) (same_environment t u.limit le e ds a ok)
     ∙ out_fits _ _ (run_wider (environment t ds) u.limit le id args globals h) f
 
-pub words_stay : (t u : Tests) → IsRight t → IsRight u → t.limit ≤ u.limit → (e : Entry) (ds : List Decl) (a : Accepted) → verdict e ds t ≡ Ok a → (id : ℕ) (words : List ℕ) (globals : List Binding) (h : Meter)
-    → WordsFitLimit (run_words (environment t ds) id words globals h) → run_words (environment u ds) id words globals h ≡ run_words (environment t ds) id words globals h
+pub words_stay : (t u : Tests) → IsRight t → IsRight u → t.limit ≤ u.limit → (e : Entry) (ds : List Decl) (a : Accepted) →
+    verdict e ds t ≡ Ok a → (id : ℕ) (words : List ℕ) (globals : List Binding) (h : Meter)
+    → WordsFitLimit (run_words (environment t ds) id words globals h) →
+    run_words (environment u ds) id words globals h ≡ run_words (environment t ds) id words globals h
 words_stay t u p q le e ds a ok id words globals h f =
     ap (λ v. run_words (environment v ds) id words globals h) (tests_are t u p q)
     ∙ ap (λ env. run_words env id words globals h) (same_environment t u.limit le e ds a ok)
@@ -78,12 +91,14 @@ words_of (WordThrew x globals h) n f = tt
 words_of (WordHalted (Faulted code span) globals h) n f = f
 words_of (WordHalted (Stuck mistake span) globals h) n f = absurd n
 
-files_same : (r : Reading) (P : List File → Type 0) (f g : List File → Answer) → OnFiles r P → ((files : List File) → P files → g files ≡ f files) → on_files r g ≡ on_files r f
+files_same : (r : Reading) (P : List File → Type 0) (f g : List File → Answer) → OnFiles r P →
+    ((files : List File) → P files → g files ≡ f files) → on_files r g ≡ on_files r f
 files_same (all files) P f g h k = k files h
 files_same (long name) P f g h k = refl
 files_same many P f g h k = refl
 
-read_words_same : (name : Text) (r : Result (List ℕ) ListFault) (P : List ℕ → Type 0) (f g : List ℕ → Answer) → OnWords r P → ((words : List ℕ) → P words → g words ≡ f words) → on_words_read name r g ≡ on_words_read name r f
+read_words_same : (name : Text) (r : Result (List ℕ) ListFault) (P : List ℕ → Type 0) (f g : List ℕ → Answer) → OnWords r P →
+    ((words : List ℕ) → P words → g words ≡ f words) → on_words_read name r g ≡ on_words_read name r f
 read_words_same name (Ok words) P f g h k = k words h
 read_words_same name (Err e) P f g h k = refl
 
@@ -91,60 +106,92 @@ by_long : (b : Bool) (P : Type 0) (x y z : Answer) → UnlessLong b P → (P →
 by_long true P x y z h k = refl
 by_long false P x y z h k = k h
 
-list_same : (name bytes : Text) (P : List ℕ → Type 0) (f g : List ℕ → Answer) → OnList bytes P → ((words : List ℕ) → P words → g words ≡ f words) → on_list name bytes g ≡ on_list name bytes f
-list_same name bytes P f g h k = by_long (is_long bytes) (OnWords (words_read bytes) P) _ (on_words_read name (words_read bytes) f) (on_words_read name (words_read bytes) g) h (λ i. read_words_same name (words_read bytes) P f g i k)
+list_same : (name bytes : Text) (P : List ℕ → Type 0) (f g : List ℕ → Answer) → OnList bytes P →
+    ((words : List ℕ) → P words → g words ≡ f words) → on_list name bytes g ≡ on_list name bytes f
+list_same name bytes P f g h k = by_long (is_long bytes) (OnWords (words_read bytes) P) _ (on_words_read name (words_read bytes) f)
+    (on_words_read name (words_read bytes) g) h (λ i. read_words_same name (words_read bytes) P f g i k)
 
 module _ (t u : Tests) (p : IsRight t) (q : IsRight u) (le : t.limit ≤ u.limit) where
   verdict_same : (e : Entry) (ds : List Decl) (a : Accepted) → verdict e ds t ≡ Ok a → verdict e ds u ≡ Ok a
   verdict_same e ds a ok = ap (λ v. verdict e ds v) (tests_are t u p q) ∙ same_verdict t u.limit le e ds a ok
 
-  globals_same : (e : Entry) (ds : List Decl) (a : Accepted) → verdict e ds t ≡ Ok a → initial_globals (environment u ds) ≡ initial_globals (environment t ds)
-  globals_same e ds a ok = ap (λ v. initial_globals (environment v ds)) (tests_are t u p q) ∙ ap initial_globals (same_environment t u.limit le e ds a ok)
+  globals_same : (e : Entry) (ds : List Decl) (a : Accepted) → verdict e ds t ≡ Ok a →
+      initial_globals (environment u ds) ≡ initial_globals (environment t ds)
+  globals_same e ds a ok = ap (λ v. initial_globals (environment v ds)) (tests_are t u p q)
+      ∙ ap initial_globals (same_environment t u.limit le e ds a ok)
 
   -- a run of the entry
-  begun_same : (end : Outcome Core (Option Value) → Answer) (ds : List Decl) (a : Accepted) (steps : ℕ) → verdict entry.Main ds t ≡ Ok a → RunsWell t ds → RunFits (environment t ds) steps a.main → begun end (environment u ds) steps a.main ≡ begun end (environment t ds) steps a.main
+  begun_same : (end : Outcome Core (Option Value) → Answer) (ds : List Decl) (a : Accepted) (steps : ℕ) → verdict entry.Main ds t ≡ Ok a →
+      RunsWell t ds → RunFits (environment t ds) steps a.main →
+      begun end (environment u ds) steps a.main ≡ begun end (environment t ds) steps a.main
   begun_same end ds a steps ok well =
       let w = well.run a ok steps in
-      subst (λ o. RunFits (environment t ds) steps o → begun end (environment u ds) steps o ≡ begun end (environment t ds) steps o) (sym w.1.0) (λ f.
+      subst (λ o. RunFits (environment t ds) steps o → begun end (environment u ds) steps o ≡ begun end (environment t ds) steps o)
+      (sym w.1.0) (λ f.
       ap (λ gs. end (run_of (environment u ds) w.0 [] gs (starting steps (Some [])))) (globals_same entry.Main ds a ok)
-      ∙ ap end (run_stays t u p q le entry.Main ds a ok w.0 [] (initial_globals (environment t ds)) (starting steps (Some [])) (fits_of _ w.1.1 f)))
+      ∙ ap end (run_stays t u p q le entry.Main ds a ok w.0 [] (initial_globals (environment t ds)) (starting steps (Some []))
+      (fits_of _ w.1.1 f)))
 
-  worked_same : (files : List File) (ds : List Decl) (a : Accepted) (steps : ℕ) (words : List ℕ) → verdict entry.Decode ds t ≡ Ok a → RunsWell t ds → WordsFit (environment t ds) steps words a.main → worked files (environment u ds) steps words a.main ≡ worked files (environment t ds) steps words a.main
+  worked_same : (files : List File) (ds : List Decl) (a : Accepted) (steps : ℕ) (words : List ℕ) → verdict entry.Decode ds t ≡ Ok a →
+      RunsWell t ds → WordsFit (environment t ds) steps words a.main →
+      worked files (environment u ds) steps words a.main ≡ worked files (environment t ds) steps words a.main
   worked_same files ds a steps words ok well =
       let w = well.words a ok steps words in
-      subst (λ o. WordsFit (environment t ds) steps words o → worked files (environment u ds) steps words o ≡ worked files (environment t ds) steps words o) (sym w.1.0) (λ f.
-      ap (λ gs. words_answer files (length words) (run_words (environment u ds) w.0 words gs (starting steps (Some [])))) (globals_same entry.Decode ds a ok)
-      ∙ ap (λ r. words_answer files (length words) r) (words_stay t u p q le entry.Decode ds a ok w.0 words (initial_globals (environment t ds)) (starting steps (Some [])) (words_of _ w.1.1 f)))
+      subst (λ o. WordsFit (environment t ds) steps words o →
+      worked files (environment u ds) steps words o ≡ worked files (environment t ds) steps words o) (sym w.1.0) (λ f.
+      ap (λ gs. words_answer files (length words) (run_words (environment u ds) w.0 words gs (starting steps (Some []))))
+      (globals_same entry.Decode ds a ok)
+      ∙ ap (λ r. words_answer files (length words) r)
+      (words_stay t u p q le entry.Decode ds a ok w.0 words (initial_globals (environment t ds)) (starting steps (Some []))
+      (words_of _ w.1.1 f)))
 
   -- what comes of a verdict that is the same
-  on_same : (files : List File) (e : Entry) (ds : List Decl) (a : Accepted) (f g : Option ℕ → Answer) → verdict e ds t ≡ Ok a → g a.main ≡ f a.main → on_verdict files g (verdict e ds u) ≡ on_verdict files f (verdict e ds t)
+  on_same : (files : List File) (e : Entry) (ds : List Decl) (a : Accepted) (f g : Option ℕ → Answer) → verdict e ds t ≡ Ok a →
+      g a.main ≡ f a.main → on_verdict files g (verdict e ds u) ≡ on_verdict files f (verdict e ds t)
   on_same files e ds a f g ok h = ap (on_verdict files g) (verdict_same e ds a ok) ∙ h ∙ sym (ap (on_verdict files f) ok)
 
   module _ (read other : Reader) (x : IsReadingAt t.limit read) (y : IsReadingAt u.limit other) where
-    reading_same : (files : List File) (e : Entry) (P : List Decl → Option ℕ → Type 0) (f g : List Decl → Answer) → Accepts t e P (read files)
-        → ((ds : List Decl) (a : Accepted) → verdict e ds t ≡ Ok a → RunsWell t ds → P ds a.main → g ds ≡ f ds) → on_reading files g (other files) ≡ on_reading files f (read files)
+    reading_same : (files : List File) (e : Entry) (P : List Decl → Option ℕ → Type 0) (f g : List Decl → Answer) →
+        Accepts t e P (read files)
+        → ((ds : List Decl) (a : Accepted) → verdict e ds t ≡ Ok a → RunsWell t ds → P ds a.main → g ds ≡ f ds) →
+        on_reading files g (other files) ≡ on_reading files f (read files)
     reading_same files e P f g (ds, a, r, ok, h) k =
         ap (on_reading files g) (read_same u.limit t.limit le read other x y files ds r)
         ∙ k ds a ok (reports_run_well_at t.limit t p files ds (subst (λ z. ReadsAt t.limit files z) r (x files))) h
         ∙ sym (ap (on_reading files f) r)
 
-    check_same : (files : List File) → Accepts t entry.None (λ ds main. Unit {0}) (read files) → on_reading files (on_check u files) (other files) ≡ on_reading files (on_check t files) (read files)
-    check_same files h = reading_same files entry.None (λ ds main. Unit {0}) (on_check t files) (on_check u files) h (λ ds a ok well i. on_same files entry.None ds a _ _ ok refl)
+    check_same : (files : List File) → Accepts t entry.None (λ ds main. Unit {0}) (read files) →
+        on_reading files (on_check u files) (other files) ≡ on_reading files (on_check t files) (read files)
+    check_same files h = reading_same files entry.None (λ ds main. Unit {0}) (on_check t files) (on_check u files) h
+        (λ ds a ok well i. on_same files entry.None ds a _ _ ok refl)
 
-    run_same : (steps : ℕ) (files : List File) → Accepts t entry.Main (λ ds main. RunFits (environment t ds) steps main) (read files) → on_reading files (on_run u steps files) (other files) ≡ on_reading files (on_run t steps files) (read files)
-    run_same steps files h = reading_same files entry.Main (λ ds main. RunFits (environment t ds) steps main) (on_run t steps files) (on_run u steps files) h (λ ds a ok well i. on_same files entry.Main ds a _ _ ok (begun_same (run_answer files) ds a steps ok well i))
+    run_same : (steps : ℕ) (files : List File) → Accepts t entry.Main (λ ds main. RunFits (environment t ds) steps main) (read files) →
+        on_reading files (on_run u steps files) (other files) ≡ on_reading files (on_run t steps files) (read files)
+    run_same steps files h = reading_same files entry.Main (λ ds main. RunFits (environment t ds) steps main) (on_run t steps files)
+        (on_run u steps files) h (λ ds a ok well i. on_same files entry.Main ds a _ _ ok
+        (begun_same (run_answer files) ds a steps ok well i))
 
-    words_same : (steps : ℕ) (words : List ℕ) (files : List File) → Accepts t entry.Decode (λ ds main. WordsFit (environment t ds) steps words main) (read files) → on_reading files (on_words u steps words files) (other files) ≡ on_reading files (on_words t steps words files) (read files)
-    words_same steps words files h = reading_same files entry.Decode (λ ds main. WordsFit (environment t ds) steps words main) (on_words t steps words files) (on_words u steps words files) h (λ ds a ok well i. on_same files entry.Decode ds a _ _ ok (worked_same files ds a steps words ok well i))
+    words_same : (steps : ℕ) (words : List ℕ) (files : List File) →
+        Accepts t entry.Decode (λ ds main. WordsFit (environment t ds) steps words main) (read files) →
+        on_reading files (on_words u steps words files) (other files) ≡ on_reading files (on_words t steps words files) (read files)
+    words_same steps words files h = reading_same files entry.Decode (λ ds main. WordsFit (environment t ds) steps words main)
+        (on_words t steps words files) (on_words u steps words files) h
+        (λ ds a ok well i. on_same files entry.Decode ds a _ _ ok (worked_same files ds a steps words ok well i))
 
-    made_same : (number size : ℕ) (text : Text) (files : List File) → Accepts t entry.Main (λ ds main. RunFits (environment t ds) default_steps main) (read files) → on_reading files (on_made u number size text files) (other files) ≡ on_reading files (on_made t number size text files) (read files)
-    made_same number size text files h = reading_same files entry.Main (λ ds main. RunFits (environment t ds) default_steps main) (on_made t number size text files) (on_made u number size text files) h
-        (λ ds a ok well i. on_same files entry.Main ds a _ _ ok (begun_same (made_answer (made_words number size (length text) (length ds)) files) ds a default_steps ok well i))
+    made_same : (number size : ℕ) (text : Text) (files : List File) →
+        Accepts t entry.Main (λ ds main. RunFits (environment t ds) default_steps main) (read files) →
+        on_reading files (on_made u number size text files) (other files) ≡ on_reading files (on_made t number size text files) (read files)
+    made_same number size text files h = reading_same files entry.Main (λ ds main. RunFits (environment t ds) default_steps main)
+        (on_made t number size text files) (on_made u number size text files) h
+        (λ ds a ok well i. on_same files entry.Main ds a _ _ ok
+        (begun_same (made_answer (made_words number size (length text) (length ds)) files) ds a default_steps ok well i))
 
-    pub report_same : (command : Command) (held : Text → Text) → Fits t read command held → report_of u other command held ≡ report_of t read command held
+    pub report_same : (command : Command) (held : Text → Text) → Fits t read command held →
+        report_of u other command held ≡ report_of t read command held
     unfolding report_of
     report_same usage held h = refl
     report_same (check names) held h = files_same (read_files held names) _ _ _ h check_same
     report_same (run steps names) held h = files_same (read_files held names) _ _ _ h (run_same steps)
-    report_same (exec steps list names) held h = files_same (read_files held names) _ _ _ h (λ files i. list_same list (held list) _ _ _ i (λ words j. words_same steps words files j))
+    report_same (exec steps list names) held h = files_same (read_files held names) _ _ _ h
+        (λ files i. list_same list (held list) _ _ _ i (λ words j. words_same steps words files j))
     report_same (self number size) held h = made_same number size (made_text number size) (made_file (made_text number size) ∷ []) h

@@ -1,5 +1,6 @@
 -- Runs under a wider limit: each node does the same, or is too wide under the narrower one; so do calls from outside, and calls for words.
-use Rattle.std.proofs.Common.{◌≡◌, ℕ, zero, suc, ◌+◌, ◌≤◌, pos, Bool, true, false, ◌&&◌, cond, inl, inr, ◌⊎◌, List, [], ◌∷◌, ◌++◌, Option, Some, None, refl, sym, ap, ap₂, subst, map}
+use Rattle.std.proofs.Common.{◌≡◌, ℕ, zero, suc, ◌+◌, ◌≤◌, pos, Bool, true, false, ◌&&◌, cond, inl, inr, ◌⊎◌, List, [], ◌∷◌, ◌++◌, Option}
+use Rattle.std.proofs.Common.{Some, None, refl, sym, ap, ap₂, subst, map}
 use Rattle.std.specs.Prelude.{slice_get, option_and_then}
 use Rattle.std.specs.Str.{bytes_eq}
 use Rattle.asl_syn.specs.declared.token.Span.{Span}
@@ -34,7 +35,8 @@ use Rattle.asl_rules.specs.values.Library.{routine_value}
 use Rattle.asl_rules.specs.values.Structures.{parts, field_of, element_of}
 use Rattle.asl_rules.specs.values.Vectors.{literal_bits, slices_of, slice_places, bitfields_named, bitfields_of, bits_at}
 use Rattle.asl_rules.specs.types.Written.{Sized, type_of_sized, converted, type_span, kind_written}
-use Rattle.asl_rules.specs.types.Shaped.{exprs_in, shapes_in, slice_parts, pattern_parts, type_parts, shapes_of_patterns, sizes_in, shape_of}
+use Rattle.asl_rules.specs.types.Shaped.{exprs_in, shapes_in, slice_parts, pattern_parts, type_parts, shapes_of_patterns, sizes_in}
+use Rattle.asl_rules.specs.types.Shaped.{shape_of}
 use Rattle.asl_rules.specs.declarations.Constants.{constant}
 use Rattle.asl_rules.specs.runs.ByNames.{matched_in}
 use Rattle.asl_rules.specs.runs.Pures.{◌>>=◌, known, found_type}
@@ -42,14 +44,25 @@ use Rattle.asl_rules.specs.runs.Plans.{Meter, Faulted, Outcome, Done, Thrown, Ha
 use Rattle.asl_rules.specs.values.Operators.{less}
 use Rattle.asl_rules.specs.runs.Forms.{Keeps, call, unless_full, activations, in_frame, function_gives, procedure_gives}
 use Rattle.asl_rules.specs.runs.StatementForms.{in_order}
-use Rattle.asl_rules.specs.runs.Evaluation.{Does, declare, declare_each, bound_to, stored_under, unders_or, type_under, declare_all, declare_first, sized_at, param_under, type_at, types_of, params_bound, formals_bound, Entering, entering, run_body, run_with, result_at, under_written, limit_of, params_of, is_kind, takes, width_over, overload, Numbered, call_one, call_named, called, expr_node, frames, choice_layer, choice_in, otherwise_in, held, Step, into_field, into_fields, into_slices, into_element, updated, store_at, Stores, Assigning, assign_each, assigning_layer, assigned, stmt_node, meaning, expr_span, stmt_span}
+use Rattle.asl_rules.specs.runs.Evaluation.{Does, declare, declare_each, bound_to, stored_under, unders_or, type_under, declare_all}
+use Rattle.asl_rules.specs.runs.Evaluation.{declare_first, sized_at, param_under, type_at, types_of, params_bound, formals_bound, Entering}
+use Rattle.asl_rules.specs.runs.Evaluation.{entering, run_body, run_with, result_at, under_written, limit_of, params_of, is_kind, takes}
+use Rattle.asl_rules.specs.runs.Evaluation.{width_over, overload, Numbered, call_one, call_named, called, expr_node, frames, choice_layer}
+use Rattle.asl_rules.specs.runs.Evaluation.{choice_in, otherwise_in, held, Step, into_field, into_fields, into_slices, into_element}
+use Rattle.asl_rules.specs.runs.Evaluation.{updated, store_at, Stores, Assigning, assign_each, assigning_layer, assigned, stmt_node}
+use Rattle.asl_rules.specs.runs.Evaluation.{meaning, expr_span, stmt_span}
 use Rattle.asl_rules.specs.runs.Machines.{most_open, run_of}
 use Rattle.asl_rules.specs.runs.Words.{WordsEnd, AllReturned, WordThrew, WordHalted, behind_word, run_words, word_line, word_value}
 use Rattle.asl_rules.proofs.verdict.SameConstants.{pure_same}
 use Rattle.asl_laws.specs.Wider.{IsNarrow, WordsFitLimit}
 use Rattle.asl_laws.proofs.wider.Steps.{Wider, wider_same, wider_equal, wider_bind, wider_step}
-use Rattle.asl_laws.proofs.wider.Pures.{SizedSame, sized_same, sized_type, literal_wider, slices_wider, slice_places_wider, with_slices_wider, bitfields_wider, with_bitfields_wider, routine_wider, is_matched_wider, matched_in_wider, converted_wider}
-use Rattle.asl_laws.proofs.wider.Plans.{OutWider, NarrowEnd, out_same, WiderMeaning, Widens, SameExpr, runs_relate, StoresWider, AssignsWider, ChoiceWider, all_self, lift_widens, choose_widens, once_widens, behind_widens, behind_more_widens, operation_widens, call_widens, value_widens, values_widens, assignment_widens, case_widens, enter_wider}
+use Rattle.asl_laws.proofs.wider.Pures.{SizedSame, sized_same, sized_type, literal_wider, slices_wider, slice_places_wider}
+use Rattle.asl_laws.proofs.wider.Pures.{with_slices_wider, bitfields_wider, with_bitfields_wider, routine_wider, is_matched_wider}
+use Rattle.asl_laws.proofs.wider.Pures.{matched_in_wider, converted_wider}
+use Rattle.asl_laws.proofs.wider.Plans.{OutWider, NarrowEnd, out_same, WiderMeaning, Widens, SameExpr, runs_relate, StoresWider}
+use Rattle.asl_laws.proofs.wider.Plans.{AssignsWider, ChoiceWider, all_self, lift_widens, choose_widens, once_widens, behind_widens}
+use Rattle.asl_laws.proofs.wider.Plans.{behind_more_widens, operation_widens, call_widens, value_widens, values_widens, assignment_widens}
+use Rattle.asl_laws.proofs.wider.Plans.{case_widens, enter_wider}
 use Rattle.asl_laws.proofs.wider.Known.{known_wider}
 
 module _ (env : Environment) (m : ℕ) (le : env.limit ≤ m) where
@@ -58,7 +71,8 @@ module _ (env : Environment) (m : ℕ) (le : env.limit ≤ m) where
 
   -- ---- written types stand for the same
 
-  type_of : (t : TypeExpr) (o : Option (List Value)) → option_and_then (λ zs. type_of_sized (sized_at wide t zs)) o ≡ option_and_then (λ zs. type_of_sized (sized_at env t zs)) o
+  type_of : (t : TypeExpr) (o : Option (List Value)) →
+      option_and_then (λ zs. type_of_sized (sized_at wide t zs)) o ≡ option_and_then (λ zs. type_of_sized (sized_at env t zs)) o
   type_of t None = refl
   type_of t (Some zs) = sized_type env.limit m le (type_span t) zs (shape_of (types_of env) t)
 
@@ -69,20 +83,26 @@ module _ (env : Environment) (m : ℕ) (le : env.limit ≤ m) where
   stored_same c None x = refl
   stored_same c (Some t) x = ap type_under (type_same (present c) t)
 
-  bound_wider : (span : Span) (b : Bind) (k : Bool) (t : Option TypeExpr) (x : Value) (c : Core) → Wider (bound_to env span b k t x c) (bound_to wide span b k t x c)
+  bound_wider : (span : Span) (b : Bind) (k : Bool) (t : Option TypeExpr) (x : Value) (c : Core) →
+      Wider (bound_to env span b k t x c) (bound_to wide span b k t x c)
   bound_wider span (Single (Bound i)) k t x c = wider_equal _ _ (ap (λ o. declare span i.text k o x c) (stored_same c t x))
   bound_wider span (Single (Unbound at)) k t x c = wider_same _
-  bound_wider span (Several at bs) k t x c = wider_equal _ _ (ap (λ o. unders_or span o >>= λ us. parts span x >>= λ xs. declare_each span bs k us xs c) (stored_same c t x))
+  bound_wider span (Several at bs) k t x c = wider_equal _ _
+      (ap (λ o. unders_or span o >>= λ us. parts span x >>= λ xs. declare_each span bs k us xs c) (stored_same c t x))
 
   firsts_wider : (span : Span) (is : List Ident) (c : Core) (o p : Option Sized) → SizedSame env.limit m le o p →
-      Wider (found_type span o >>= λ (s : Sized). s.first >>= λ x. Good (declare_all is s.type_is x c)) (found_type span p >>= λ (s : Sized). s.first >>= λ x. Good (declare_all is s.type_is x c))
+      Wider (found_type span o >>= λ (s : Sized). s.first >>= λ x. Good (declare_all is s.type_is x c))
+      (found_type span p >>= λ (s : Sized). s.first >>= λ x. Good (declare_all is s.type_is x c))
   firsts_wider span is c None None h = wider_same _
-  firsts_wider span is c (Some s) (Some q) h = wider_bind s.first q.first _ _ h.first_wider (λ x. wider_equal _ _ (ap (λ T. Good (declare_all is T x c)) h.type_same))
+  firsts_wider span is c (Some s) (Some q) h = wider_bind s.first q.first _ _ h.first_wider
+      (λ x. wider_equal _ _ (ap (λ T. Good (declare_all is T x c)) h.type_same))
   firsts_wider span is c None (Some q) h = absurd h
   firsts_wider span is c (Some s) None h = absurd h
 
-  first_wider : (span : Span) (is : List Ident) (t : TypeExpr) (zs : List Value) (c : Core) → Wider (declare_first env span is t zs c) (declare_first wide span is t zs c)
-  first_wider span is t zs c = firsts_wider span is c (sized_at env t zs) (sized_at wide t zs) (sized_same env.limit m le (type_span t) zs (shape_of (types_of env) t))
+  first_wider : (span : Span) (is : List Ident) (t : TypeExpr) (zs : List Value) (c : Core) →
+      Wider (declare_first env span is t zs c) (declare_first wide span is t zs c)
+  first_wider span is t zs c = firsts_wider span is c (sized_at env t zs) (sized_at wide t zs)
+      (sized_same env.limit m le (type_span t) zs (shape_of (types_of env) t))
 
   -- ---- calls begin in the same state
 
@@ -90,20 +110,26 @@ module _ (env : Environment) (m : ℕ) (le : env.limit ≤ m) where
   under_same c None x = refl
   under_same c (Some t) x = ap type_under (type_same (present c) t)
 
-  params_same : (span : Span) (ps : List Param) (xs : List Value) (c : Core) → params_bound wide span ps xs c ≡ params_bound env span ps xs c
+  params_same : (span : Span) (ps : List Param) (xs : List Value) (c : Core) →
+      params_bound wide span ps xs c ≡ params_bound env span ps xs c
   params_same span [] [] c = refl
   params_same span [] (x ∷ xs) c = refl
   params_same span (p ∷ ps) [] c = refl
-  params_same span (p ∷ ps) (x ∷ xs) c = pure_same _ _ _ _ (ap (λ o. declare span p.name.text false o x c) (under_same c p.ty x)) (λ c1. params_same span ps xs c1)
+  params_same span (p ∷ ps) (x ∷ xs) c = pure_same _ _ _ _ (ap (λ o. declare span p.name.text false o x c) (under_same c p.ty x))
+      (λ c1. params_same span ps xs c1)
 
-  formals_same : (span : Span) (f : Numbers) (gs : List Formal) (xs : List Value) (c : Core) → formals_bound wide span f gs xs c ≡ formals_bound env span f gs xs c
+  formals_same : (span : Span) (f : Numbers) (gs : List Formal) (xs : List Value) (c : Core) →
+      formals_bound wide span f gs xs c ≡ formals_bound env span f gs xs c
   formals_same span f [] [] c = refl
   formals_same span f [] (x ∷ xs) c = refl
   formals_same span f (g ∷ gs) [] c = refl
-  formals_same span f (g ∷ gs) (x ∷ xs) c = pure_same _ _ _ _ (ap (λ o. declare span g.name.text false (type_under o) x c) (type_same f g.ty)) (λ c1. formals_same span f gs xs c1)
+  formals_same span f (g ∷ gs) (x ∷ xs) c = pure_same _ _ _ _
+      (ap (λ o. declare span g.name.text false (type_under o) x c) (type_same f g.ty)) (λ c1. formals_same span f gs xs c1)
 
-  entering_same : (span : Span) (id : ℕ) (f : Func) (ps xs : List Value) (c : Core) → entering wide span id f ps xs c ≡ entering env span id f ps xs c
-  entering_same span id f ps xs c = pure_same _ _ _ _ (params_same span f.params ps (entered id c)) (λ c1. ap (λ r. r >>= λ c2. Good (record { params = c1; inner = c2 })) (formals_same span (present c1) f.formals xs c1))
+  entering_same : (span : Span) (id : ℕ) (f : Func) (ps xs : List Value) (c : Core) →
+      entering wide span id f ps xs c ≡ entering env span id f ps xs c
+  entering_same span id f ps xs c = pure_same _ _ _ _ (params_same span f.params ps (entered id c))
+      (λ c1. ap (λ r. r >>= λ c2. Good (record { params = c1; inner = c2 })) (formals_same span (present c1) f.formals xs c1))
 
   result_same : (span : Span) (f : Numbers) (t : Option TypeExpr) → result_at wide span f t ≡ result_at env span f t
   result_same span f None = refl
@@ -115,32 +141,47 @@ module _ (env : Environment) (m : ℕ) (le : env.limit ≤ m) where
   takes_same f (g ∷ gs) [] = refl
   takes_same f (g ∷ gs) (x ∷ xs) = ap (λ b. is_kind x (kind_written (types_of env) f g.ty) && b) (takes_same f gs xs)
 
-  overload_same : (f : Numbers) (n : ℕ) (gs : List Func) (name : List ℕ) (xs : List Value) → overload wide f n gs name xs ≡ overload env f n gs name xs
+  overload_same : (f : Numbers) (n : ℕ) (gs : List Func) (name : List ℕ) (xs : List Value) →
+      overload wide f n gs name xs ≡ overload env f n gs name xs
   overload_same f n [] name xs = refl
-  overload_same f n (g ∷ gs) name xs = ap₂ (λ b o. cond (bytes_eq g.name.text name && b) (Some (record { id = n; func = g })) o) (takes_same (width_over f g.params 0) g.formals xs) (overload_same f (n + 1) gs name xs)
+  overload_same f n (g ∷ gs) name xs = ap₂ (λ b o. cond (bytes_eq g.name.text name && b) (Some (record { id = n; func = g })) o)
+      (takes_same (width_over f g.params 0) g.formals xs) (overload_same f (n + 1) gs name xs)
 
   limit_wider : (span : Span) (o : Option Expr) → Wider (limit_of env span o) (limit_of wide span o)
   limit_wider span None = wider_same _
-  limit_wider span (Some e) = wider_bind (constant env.limit e env.names) (constant m e env.names) _ _ (known_wider env m le e) (λ x. wider_same _)
+  limit_wider span (Some e) = wider_bind (constant env.limit e env.names) (constant m e env.names) _ _ (known_wider env m le e)
+      (λ x. wider_same _)
 
   -- ---- stores
 
   updated_wider : (at : Span) (ss : List Step) (y x : Value) → Wider (updated env at ss y x) (updated wide at ss y x)
   updated_wider at [] y x = wider_same _
-  updated_wider at (into_field span f ∷ ss) y x = wider_step (field_of span f x) _ _ (λ q. wider_bind (updated env at ss y q) (updated wide at ss y q) _ _ (updated_wider at ss y q) (λ r. wider_same _))
+  updated_wider at (into_field span f ∷ ss) y x =
+      wider_step (field_of span f x) _ _
+      (λ q. wider_bind (updated env at ss y q) (updated wide at ss y q) _ _ (updated_wider at ss y q) (λ r. wider_same _))
   updated_wider at (into_fields span is ∷ ss) y x =
-      wider_step (bitfields_named span is x) _ _ (λ fs. wider_bind (bitfields_of env.limit span fs x) (bitfields_of m span fs x) _ _ (bitfields_wider env.limit m le span fs x) (λ q.
-      wider_bind (updated env at ss y q) (updated wide at ss y q) _ _ (updated_wider at ss y q) (λ r. with_bitfields_wider env.limit m le span fs r x)))
+      wider_step (bitfields_named span is x) _ _
+      (λ fs. wider_bind (bitfields_of env.limit span fs x) (bitfields_of m span fs x) _ _ (bitfields_wider env.limit m le span fs x) (λ q.
+      wider_bind (updated env at ss y q) (updated wide at ss y q) _ _ (updated_wider at ss y q)
+      (λ r. with_bitfields_wider env.limit m le span fs r x)))
   updated_wider at (into_slices span sl zs ∷ ss) y x =
-      wider_bind (slice_places env.limit span sl zs x) (slice_places m span sl zs x) _ _ (slice_places_wider env.limit m le span sl zs x) (λ ps. wider_step (bits_at span ps x) _ _ (λ q.
-      wider_bind (updated env at ss y q) (updated wide at ss y q) _ _ (updated_wider at ss y q) (λ r. with_slices_wider env.limit m le span sl zs r x)))
-  updated_wider at (into_element span i ∷ ss) y x = wider_step (element_of span x i) _ _ (λ q. wider_bind (updated env at ss y q) (updated wide at ss y q) _ _ (updated_wider at ss y q) (λ r. wider_same _))
+      wider_bind (slice_places env.limit span sl zs x) (slice_places m span sl zs x) _ _ (slice_places_wider env.limit m le span sl zs x)
+      (λ ps. wider_step (bits_at span ps x) _ _ (λ q.
+      wider_bind (updated env at ss y q) (updated wide at ss y q) _ _ (updated_wider at ss y q)
+      (λ r. with_slices_wider env.limit m le span sl zs r x)))
+  updated_wider at (into_element span i ∷ ss) y x =
+      wider_step (element_of span x i) _ _
+      (λ q. wider_bind (updated env at ss y q) (updated wide at ss y q) _ _ (updated_wider at ss y q) (λ r. wider_same _))
 
   store_wider : (i : Ident) (y : Value) (ss : List Step) (c : Core) → Wider (store_at env i y ss c) (store_at wide i y ss c)
-  store_wider i y ss c = wider_step (held i.span i.text c) _ _ (λ x. wider_bind (updated env i.span ss y x) (updated wide i.span ss y x) _ _ (updated_wider i.span ss y x) (λ z. wider_same _))
+  store_wider i y ss c = wider_step (held i.span i.text c) _ _
+      (λ x. wider_bind (updated env i.span ss y x) (updated wide i.span ss y x) _ _ (updated_wider i.span ss y x) (λ z. wider_same _))
 
-  choice_wider_layer : (k n : Meaning Core Expr Stmt) (v : WiderMeaning k n) (a : st.Alternative-F Alternative Catcher ElseIf Otherwise Stmt) → ChoiceWider (SameExpr k n v) (λ A p q. Widens k n v p q) (runs_relate k n v) (choice_layer env a) (choice_layer wide a)
-  choice_wider_layer k n v (st.When ps e ss) = record { parts_same = refl; matches_wider = λ zs x. is_matched_wider env.limit m le (shapes_of_patterns ps) zs x }
+  choice_wider_layer : (k n : Meaning Core Expr Stmt) (v : WiderMeaning k n)
+      (a : st.Alternative-F Alternative Catcher ElseIf Otherwise Stmt) →
+      ChoiceWider (SameExpr k n v) (λ A p q. Widens k n v p q) (runs_relate k n v) (choice_layer env a) (choice_layer wide a)
+  choice_wider_layer k n v (st.When ps e ss) =
+      record { parts_same = refl; matches_wider = λ zs x. is_matched_wider env.limit m le (shapes_of_patterns ps) zs x }
 
   -- ---- nodes
 
@@ -152,44 +193,70 @@ module _ (env : Environment) (m : ℕ) (le : env.limit ≤ m) where
     W A p q = Widens k n v p q
 
     body_widens : (span : Span) (f : Func) (c : Core) (e : Entering) → W (Option Value) (run_body env f c e) (run_body wide f c e)
-    body_widens span f c e = subst (λ (r : Keeps). W (Option Value) (run_body env f c e) (in_frame f.name.span r (restored c) (in_order f.body e.inner))) (sym (result_same f.name.span (present e.params) f.result)) ((runs_relate k n v).same (run_body env f c e))
+    body_widens span f c e = subst (λ (r : Keeps).
+        W (Option Value) (run_body env f c e) (in_frame f.name.span r (restored c) (in_order f.body e.inner)))
+        (sym (result_same f.name.span (present e.params) f.result)) ((runs_relate k n v).same (run_body env f c e))
 
-    with_widens : (span : Span) (id : ℕ) (f : Func) (ps xs : List Value) (c : Core) → W (Option Value) (run_with env span id f ps xs c) (run_with wide span id f ps xs c)
-    with_widens span id f ps xs c = lift_widens R W (runs_relate k n v) (entering env span id f ps xs c) (entering wide span id f ps xs c) c (run_body env f c) (run_body wide f c) (wider_equal _ _ (entering_same span id f ps xs c)) (body_widens span f c)
+    with_widens : (span : Span) (id : ℕ) (f : Func) (ps xs : List Value) (c : Core) →
+        W (Option Value) (run_with env span id f ps xs c) (run_with wide span id f ps xs c)
+    with_widens span id f ps xs c = lift_widens R W (runs_relate k n v) (entering env span id f ps xs c) (entering wide span id f ps xs c) c
+        (run_body env f c) (run_body wide f c) (wider_equal _ _ (entering_same span id f ps xs c)) (body_widens span f c)
 
-    one_widens : (span : Span) (ps xs : List Value) (s : Numbered) (c : Core) → W (Option Value) (call_one env span ps xs s c) (call_one wide span ps xs s c)
+    one_widens : (span : Span) (ps xs : List Value) (s : Numbered) (c : Core) →
+        W (Option Value) (call_one env span ps xs s c) (call_one wide span ps xs s c)
     one_widens span ps xs s c =
         lift_widens R W (runs_relate k n v) (limit_of env span s.func.limit) (limit_of wide span s.func.limit) c
-        (λ limit. unless_full span s.id c.live limit (lift (params_of span (outside c) s.func ps xs) c (λ qs. run_with env span s.id s.func qs xs c)) c)
-        (λ limit. unless_full span s.id c.live limit (lift (params_of span (outside c) s.func ps xs) c (λ qs. run_with wide span s.id s.func qs xs c)) c)
+        (λ limit. unless_full span s.id c.live limit
+        (lift (params_of span (outside c) s.func ps xs) c (λ qs. run_with env span s.id s.func qs xs c)) c)
+        (λ limit. unless_full span s.id c.live limit
+        (lift (params_of span (outside c) s.func ps xs) c (λ qs. run_with wide span s.id s.func qs xs c)) c)
         (limit_wider span s.func.limit)
         (λ limit. choose_widens R W (runs_relate k n v) (less (pos (activations s.id c.live)) limit)
         (lift (params_of span (outside c) s.func ps xs) c (λ qs. run_with env span s.id s.func qs xs c)) (Stop (Faulted D11 span) c)
         (lift (params_of span (outside c) s.func ps xs) c (λ qs. run_with wide span s.id s.func qs xs c)) (Stop (Faulted D11 span) c)
-        (lift_widens R W (runs_relate k n v) (params_of span (outside c) s.func ps xs) (params_of span (outside c) s.func ps xs) c (λ qs. run_with env span s.id s.func qs xs c) (λ qs. run_with wide span s.id s.func qs xs c) (wider_same _) (λ qs. with_widens span s.id s.func qs xs c))
+        (lift_widens R W (runs_relate k n v) (params_of span (outside c) s.func ps xs) (params_of span (outside c) s.func ps xs) c
+        (λ qs. run_with env span s.id s.func qs xs c) (λ qs. run_with wide span s.id s.func qs xs c) (wider_same _)
+        (λ qs. with_widens span s.id s.func qs xs c))
         ((runs_relate k n v).same (Stop (Faulted D11 span) c)))
 
-    named_widens : (span : Span) (name : List ℕ) (ps xs : List Value) (c : Core) (r : Option Routine) → W (Option Value) (call_named env span name ps xs c r) (call_named wide span name ps xs c r)
-    named_widens span name ps xs c (Some r) = lift_widens R W (runs_relate k n v) (routine_value env.limit span r ps xs) (routine_value m span r ps xs) c _ _ (routine_wider env.limit m le span r ps xs) (λ x. (runs_relate k n v).same _)
+    named_widens : (span : Span) (name : List ℕ) (ps xs : List Value) (c : Core) (r : Option Routine) →
+        W (Option Value) (call_named env span name ps xs c r) (call_named wide span name ps xs c r)
+    named_widens span name ps xs c (Some r) = lift_widens R W (runs_relate k n v) (routine_value env.limit span r ps xs)
+        (routine_value m span r ps xs) c _ _ (routine_wider env.limit m le span r ps xs) (λ x. (runs_relate k n v).same _)
     named_widens span name ps xs c None =
-        lift_widens R W (runs_relate k n v) (known span (overload env (outside c) 0 (funcs_of env.decls) name xs)) (known span (overload wide (outside c) 0 (funcs_of env.decls) name xs)) c (λ s. call_one env span ps xs s c) (λ s. call_one wide span ps xs s c)
+        lift_widens R W (runs_relate k n v) (known span (overload env (outside c) 0 (funcs_of env.decls) name xs))
+        (known span (overload wide (outside c) 0 (funcs_of env.decls) name xs)) c (λ s. call_one env span ps xs s c)
+        (λ s. call_one wide span ps xs s c)
         (wider_equal _ _ (ap (known span) (overload_same (outside c) 0 (funcs_of env.decls) name xs))) (λ s. one_widens span ps xs s c)
 
-    calls_widens : {A : Type 0} (span : Span) (name : List ℕ) (ps es : List Expr) (c : Core) (g : Option Value → Core → Does A) → W A (call ps es c (called env span name) g) (call ps es c (called wide span name) g)
-    calls_widens span name ps es c g = call_widens R W (runs_relate k n v) ps ps es es c (called env span name) (called wide span name) g (all_self R W (runs_relate k n v) ps) (all_self R W (runs_relate k n v) es) (λ ys xs c1. named_widens span name ys xs c1 (routine_named name))
+    calls_widens : {A : Type 0} (span : Span) (name : List ℕ) (ps es : List Expr) (c : Core) (g : Option Value → Core → Does A) →
+        W A (call ps es c (called env span name) g) (call ps es c (called wide span name) g)
+    calls_widens span name ps es c g = call_widens R W (runs_relate k n v) ps ps es es c (called env span name) (called wide span name) g
+        (all_self R W (runs_relate k n v) ps) (all_self R W (runs_relate k n v) es)
+        (λ ys xs c1. named_widens span name ys xs c1 (routine_named name))
 
     -- each expression: those that don't ask for the limit do the same
     expr_widens : (layer : ExprLayer) (c : Core) → W Value (expr_node env layer c) (expr_node wide layer c)
-    expr_widens (ex.Bits span t) c = once_widens R W (runs_relate k n v) (literal_bits env.limit span t) (literal_bits m span t) c (literal_wider env.limit m le span t)
+    expr_widens (ex.Bits span t) c = once_widens R W (runs_relate k n v) (literal_bits env.limit span t) (literal_bits m span t) c
+        (literal_wider env.limit m le span t)
     expr_widens (ex.Binary span o a b) c = operation_widens R W (runs_relate k n v) env.limit m le span o a a b b c (v.expr a) (v.expr b)
     expr_widens (ex.Call span i ps es) c = calls_widens span i.text ps es c (function_gives span)
-    expr_widens (ex.Fields span a iss) c = behind_widens R W (runs_relate k n v) a a c (λ x. bitfields_named span iss x >>= λ fs. bitfields_of env.limit span fs x) (λ x. bitfields_named span iss x >>= λ fs. bitfields_of m span fs x) (v.expr a)
+    expr_widens (ex.Fields span a iss) c = behind_widens R W (runs_relate k n v) a a c
+        (λ x. bitfields_named span iss x >>= λ fs. bitfields_of env.limit span fs x)
+        (λ x. bitfields_named span iss x >>= λ fs. bitfields_of m span fs x) (v.expr a)
         (λ x. wider_step (bitfields_named span iss x) _ _ (λ fs. bitfields_wider env.limit m le span fs x))
-    expr_widens (ex.Slices span a ss) c = behind_more_widens R W (runs_relate k n v) a a (exprs_in slice_parts ss) (exprs_in slice_parts ss) c (λ x zs. slices_of env.limit span (shapes_in slice_parts ss) zs x) (λ x zs. slices_of m span (shapes_in slice_parts ss) zs x) (v.expr a) (all_self R W (runs_relate k n v) (exprs_in slice_parts ss))
+    expr_widens (ex.Slices span a ss) c = behind_more_widens R W (runs_relate k n v) a a (exprs_in slice_parts ss) (exprs_in slice_parts ss)
+        c (λ x zs. slices_of env.limit span (shapes_in slice_parts ss) zs x) (λ x zs. slices_of m span (shapes_in slice_parts ss) zs x)
+        (v.expr a) (all_self R W (runs_relate k n v) (exprs_in slice_parts ss))
         (λ x zs. slices_wider env.limit m le span (shapes_in slice_parts ss) zs x)
-    expr_widens (ex.As span a t) c = behind_more_widens R W (runs_relate k n v) a a ((type_parts t).exprs) ((type_parts t).exprs) c (λ x zs. converted env.limit span ((type_parts t).shape (types_of env)) zs x) (λ x zs. converted m span ((type_parts t).shape (types_of env)) zs x) (v.expr a) (all_self R W (runs_relate k n v) ((type_parts t).exprs))
+    expr_widens (ex.As span a t) c = behind_more_widens R W (runs_relate k n v) a a ((type_parts t).exprs) ((type_parts t).exprs) c
+        (λ x zs. converted env.limit span ((type_parts t).shape (types_of env)) zs x)
+        (λ x zs. converted m span ((type_parts t).shape (types_of env)) zs x) (v.expr a)
+        (all_self R W (runs_relate k n v) ((type_parts t).exprs))
         (λ x zs. converted_wider env.limit m le span ((type_parts t).shape (types_of env)) zs x)
-    expr_widens (ex.In span a p) c = behind_more_widens R W (runs_relate k n v) a a ((pattern_parts p).exprs) ((pattern_parts p).exprs) c (λ x zs. matched_in env.limit ((pattern_parts p).shape) zs x) (λ x zs. matched_in m ((pattern_parts p).shape) zs x) (v.expr a) (all_self R W (runs_relate k n v) ((pattern_parts p).exprs))
+    expr_widens (ex.In span a p) c = behind_more_widens R W (runs_relate k n v) a a ((pattern_parts p).exprs) ((pattern_parts p).exprs) c
+        (λ x zs. matched_in env.limit ((pattern_parts p).shape) zs x) (λ x zs. matched_in m ((pattern_parts p).shape) zs x) (v.expr a)
+        (all_self R W (runs_relate k n v) ((pattern_parts p).exprs))
         (λ x zs. matched_in_wider env.limit m le ((pattern_parts p).shape) zs x)
     expr_widens layer c = (runs_relate k n v).same (expr_node env layer c)
 
@@ -214,7 +281,8 @@ module _ (env : Environment) (m : ℕ) (le : env.limit ≤ m) where
     join_two (p ∷ ps) [] ss ts h i = absurd h
     join_two (p ∷ ps) (q ∷ qs) ss ts h i = (h.0, (h.1.0, join_two ps qs ss ts h.1.1 i))
 
-    then_both : (r s p q : Pure Stores) → Both r s → Both p q → Both (r >>= λ ps. p >>= λ qs. Good (ps ++ qs)) (s >>= λ ps. q >>= λ qs. Good (ps ++ qs))
+    then_both : (r s p q : Pure Stores) → Both r s → Both p q →
+        Both (r >>= λ ps. p >>= λ qs. Good (ps ++ qs)) (s >>= λ ps. q >>= λ qs. Good (ps ++ qs))
     then_both (Good ps) (Good qs) (Good ss) (Good ts) h i = join_two ps qs ss ts h i
     then_both (Good ps) (Good qs) (Good ss) (Bad e) h i = absurd i
     then_both (Good ps) (Good qs) (Bad e) (Good ts) h i = absurd i
@@ -223,13 +291,16 @@ module _ (env : Environment) (m : ℕ) (le : env.limit ≤ m) where
     then_both (Bad e) (Good qs) p q h i = absurd h
     then_both (Bad e) (Bad d) p q h i = h
 
-    each_both : (ts : List Assigning) (span : Span) (xs : List Value) → AllAssign ts → Both (assign_each ts env span xs) (assign_each ts wide span xs)
+    each_both : (ts : List Assigning) (span : Span) (xs : List Value) → AllAssign ts →
+        Both (assign_each ts env span xs) (assign_each ts wide span xs)
     each_both [] span [] a = tt
     each_both [] span (x ∷ xs) a = refl
     each_both (t ∷ ts) span [] a = refl
-    each_both (t ∷ ts) span (x ∷ xs) a = then_both (t env span x) (t wide span x) (assign_each ts env span xs) (assign_each ts wide span xs) (a.0 span x) (each_both ts span xs a.1)
+    each_both (t ∷ ts) span (x ∷ xs) a = then_both (t env span x) (t wide span x) (assign_each ts env span xs) (assign_each ts wide span xs)
+        (a.0 span x) (each_both ts span xs a.1)
 
-    parts_both : (r : Pure (List Value)) (f g : List Value → Pure Stores) → ((xs : List Value) → Both (f xs) (g xs)) → Both (r >>= f) (r >>= g)
+    parts_both : (r : Pure (List Value)) (f g : List Value → Pure Stores) → ((xs : List Value) → Both (f xs) (g xs)) →
+        Both (r >>= f) (r >>= g)
     parts_both (Good xs) f g h = h xs
     parts_both (Bad e) f g h = refl
 
@@ -244,17 +315,22 @@ module _ (env : Environment) (m : ℕ) (le : env.limit ≤ m) where
     targets_assign [] = tt
     targets_assign (t ∷ ts) = (t.1, targets_assign ts)
 
-    layer_assigns : (y : Below) → Assigns (assigning_layer (map-Target Target Assigning assigned (map-Target ((t : Target) × TargetGood t) Target (λ t. t.0) y)))
+    layer_assigns : (y : Below) → Assigns (assigning_layer
+        (map-Target Target Assigning assigned (map-Target ((t : Target) × TargetGood t) Target (λ t. t.0) y)))
     layer_assigns (tg.Discarded at) span x = tt
     layer_assigns (tg.Place at i xs) span x = (refl, ((λ ns c. store_wider i x ns c), tt))
     layer_assigns (tg.Targets at ts) span x =
-        parts_both (parts span x) (λ xs. assign_each (map assigned (map (λ t. t.0) ts)) env span xs) (λ xs. assign_each (map assigned (map (λ t. t.0) ts)) wide span xs) (λ xs. each_both (map assigned (map (λ t. t.0) ts)) span xs (targets_assign ts))
+        parts_both (parts span x) (λ xs. assign_each (map assigned (map (λ t. t.0) ts)) env span xs)
+        (λ xs. assign_each (map assigned (map (λ t. t.0) ts)) wide span xs)
+        (λ xs. each_both (map assigned (map (λ t. t.0) ts)) span xs (targets_assign ts))
 
-    target_step : (l : tg.Target-F Target) (y : Below) → map-Target ((t : Target) × TargetGood t) Target (λ t. t.0) y ≡ l → TargetGood (roll-Target l)
+    target_step : (l : tg.Target-F Target) (y : Below) → map-Target ((t : Target) × TargetGood t) Target (λ t. t.0) y ≡ l →
+        TargetGood (roll-Target l)
     unfolding TargetGood
     target_step l y is span x =
         subst (λ (z : Assigning). Both (z env span x) (z wide span x)) (sym (fold-roll-Target Assigning assigning_layer l))
-        (subst (λ z. Both (assigning_layer (map-Target Target Assigning assigned z) env span x) (assigning_layer (map-Target Target Assigning assigned z) wide span x)) is (layer_assigns y span x))
+        (subst (λ z. Both (assigning_layer (map-Target Target Assigning assigned z) env span x)
+        (assigning_layer (map-Target Target Assigning assigned z) wide span x)) is (layer_assigns y span x))
 
     target_good : (t : Target) → TargetGood t
     target_good = ind-Target TargetGood target_step
@@ -265,26 +341,37 @@ module _ (env : Environment) (m : ℕ) (le : env.limit ≤ m) where
 
     -- each statement: those that don't ask for the limit do the same
     stmt_widens : (layer : StmtLayer) (c : Core) → W Exit (stmt_node env layer c) (stmt_node wide layer c)
-    stmt_widens (st.Local span kind b t e) c = value_widens R W (runs_relate k n v) e (bound_to env span b (is_var kind) t) (bound_to wide span b (is_var kind) t) c (λ x c1. bound_wider span b (is_var kind) t x c1)
-    stmt_widens (st.LocalVars span iss t) c = values_widens R W (runs_relate k n v) (sizes_in t) (declare_first env span iss t) (declare_first wide span iss t) c (λ xs c1. first_wider span iss t xs c1)
-    stmt_widens (st.Assign span t e) c = assignment_widens R W (runs_relate k n v) e (assigned t env span) (assigned t wide span) c (λ x. assigns t span x)
+    stmt_widens (st.Local span kind b t e) c = value_widens R W (runs_relate k n v) e (bound_to env span b (is_var kind) t)
+        (bound_to wide span b (is_var kind) t) c (λ x c1. bound_wider span b (is_var kind) t x c1)
+    stmt_widens (st.LocalVars span iss t) c = values_widens R W (runs_relate k n v) (sizes_in t) (declare_first env span iss t)
+        (declare_first wide span iss t) c (λ xs c1. first_wider span iss t xs c1)
+    stmt_widens (st.Assign span t e) c = assignment_widens R W (runs_relate k n v) e (assigned t env span) (assigned t wide span) c
+        (λ x. assigns t span x)
     stmt_widens (st.Invoke span i ps es) c = calls_widens span i.text ps es c (procedure_gives span)
-    stmt_widens (st.Case span e alts o) c = case_widens R W (runs_relate k n v) frames (choice_in env) (choice_in wide) span e alts (otherwise_in o) c (λ a. choice_wider_layer k n v (out-Alternative a))
+    stmt_widens (st.Case span e alts o) c = case_widens R W (runs_relate k n v) frames (choice_in env) (choice_in wide) span e alts
+        (otherwise_in o) c (λ a. choice_wider_layer k n v (out-Alternative a))
     stmt_widens layer c = (runs_relate k n v).same (stmt_node env layer c)
 
   pub meanings_wider : (d : ℕ) → WiderMeaning (meaning env d) (meaning wide d)
   meanings_wider zero = record {
-    expr = λ e c h. enter_wider (expr_span e) true c h (λ h1. Halt (Faulted D12 (expr_span e)) c h1) (λ h1. Halt (Faulted D12 (expr_span e)) c h1) (λ h1. out_same _);
-    stmt = λ t c h. enter_wider (stmt_span t) true c h (λ h1. Halt (Faulted D12 (stmt_span t)) c h1) (λ h1. Halt (Faulted D12 (stmt_span t)) c h1) (λ h1. out_same _);
+    expr = λ e c h. enter_wider (expr_span e) true c h (λ h1. Halt (Faulted D12 (expr_span e)) c h1)
+        (λ h1. Halt (Faulted D12 (expr_span e)) c h1) (λ h1. out_same _);
+    stmt = λ t c h. enter_wider (stmt_span t) true c h (λ h1. Halt (Faulted D12 (stmt_span t)) c h1)
+        (λ h1. Halt (Faulted D12 (stmt_span t)) c h1) (λ h1. out_same _);
   }
   meanings_wider (suc d) = record {
-    expr = λ e c h. enter_wider (expr_span e) false c h (run (meaning env d) (expr_node env (out-Expr e) c)) (run (meaning wide d) (expr_node wide (out-Expr e) c)) (λ h1. (expr_widens (meaning env d) (meaning wide d) (meanings_wider d) (out-Expr e) c).runs h1);
-    stmt = λ t c h. enter_wider (stmt_span t) false c h (run (meaning env d) (stmt_node env (out-Stmt t) c)) (run (meaning wide d) (stmt_node wide (out-Stmt t) c)) (λ h1. (stmt_widens (meaning env d) (meaning wide d) (meanings_wider d) (out-Stmt t) c).runs h1);
+    expr = λ e c h. enter_wider (expr_span e) false c h (run (meaning env d) (expr_node env (out-Expr e) c))
+        (run (meaning wide d) (expr_node wide (out-Expr e) c))
+        (λ h1. (expr_widens (meaning env d) (meaning wide d) (meanings_wider d) (out-Expr e) c).runs h1);
+    stmt = λ t c h. enter_wider (stmt_span t) false c h (run (meaning env d) (stmt_node env (out-Stmt t) c))
+        (run (meaning wide d) (stmt_node wide (out-Stmt t) c))
+        (λ h1. (stmt_widens (meaning env d) (meaning wide d) (meanings_wider d) (out-Stmt t) c).runs h1);
   }
 
   -- ---- calls from outside
 
-  pub run_wider : (id : ℕ) (args : List Value) (globals : List Binding) (h : Meter) → OutWider (run_of env id args globals h) (run_of wide id args globals h)
+  pub run_wider : (id : ℕ) (args : List Value) (globals : List Binding) (h : Meter) →
+      OutWider (run_of env id args globals h) (run_of wide id args globals h)
   unfolding run_of
   run_wider id args globals h =
       let k = meaning env most_open in
@@ -292,7 +379,8 @@ module _ (env : Environment) (m : ℕ) (le : env.limit ≤ m) where
       let v = meanings_wider most_open in
       let f = known origin (slice_get (funcs_of env.decls) id) in
       let c = resting globals in
-      (lift_widens (SameExpr k n v) (λ A p q. Widens k n v p q) (runs_relate k n v) f f c (λ g. run_with env g.name.span id g [] args c) (λ g. run_with wide g.name.span id g [] args c) (wider_same _) (λ g. with_widens k n v g.name.span id g [] args c)).runs h
+      (lift_widens (SameExpr k n v) (λ A p q. Widens k n v p q) (runs_relate k n v) f f c (λ g. run_with env g.name.span id g [] args c)
+      (λ g. run_with wide g.name.span id g [] args c) (wider_same _) (λ g. with_widens k n v g.name.span id g [] args c)).runs h
 
   -- ---- words
 
@@ -309,21 +397,25 @@ module _ (env : Environment) (m : ℕ) (le : env.limit ≤ m) where
   abbrev pub WordsWider : WordsEnd → WordsEnd → Type 0
   WordsWider r s = (s ≡ r) ⊎ NarrowWords r
 
-  one_behind : (r : Outcome Core (Option Value)) (f g : List Binding → Meter → WordsEnd) → ((globals : List Binding) (h : Meter) → WordsWider (f globals h) (g globals h)) → WordsWider (behind_word f r) (behind_word g r)
+  one_behind : (r : Outcome Core (Option Value)) (f g : List Binding → Meter → WordsEnd) →
+      ((globals : List Binding) (h : Meter) → WordsWider (f globals h) (g globals h)) → WordsWider (behind_word f r) (behind_word g r)
   one_behind (Done x c h) f g w = w c.globals h
   one_behind (Thrown x c h) f g w = inl refl
   one_behind (Halt e c h) f g w = inl refl
 
-  behind_wider : (r s : Outcome Core (Option Value)) (f g : List Binding → Meter → WordsEnd) → OutWider r s → ((globals : List Binding) (h : Meter) → WordsWider (f globals h) (g globals h)) → WordsWider (behind_word f r) (behind_word g s)
+  behind_wider : (r s : Outcome Core (Option Value)) (f g : List Binding → Meter → WordsEnd) → OutWider r s →
+      ((globals : List Binding) (h : Meter) → WordsWider (f globals h) (g globals h)) → WordsWider (behind_word f r) (behind_word g s)
   unfolding OutWider
   behind_wider r s f g (inl e) w = subst (λ z. WordsWider (behind_word f r) (behind_word g z)) (sym e) (one_behind r f g w)
   behind_wider r s f g (inr i) w = inr (behind_narrow r f i)
 
-  pub words_wider : (id : ℕ) (words : List ℕ) (globals : List Binding) (h : Meter) → WordsWider (run_words env id words globals h) (run_words wide id words globals h)
+  pub words_wider : (id : ℕ) (words : List ℕ) (globals : List Binding) (h : Meter) →
+      WordsWider (run_words env id words globals h) (run_words wide id words globals h)
   words_wider id [] globals h = inl refl
   words_wider id (n ∷ ns) globals h =
       let begun = wrote h (word_line h.text_open n) in
-      behind_wider (run_of env id (word_value n ∷ []) globals begun) (run_of wide id (word_value n ∷ []) globals begun) (run_words env id ns) (run_words wide id ns) (run_wider id (word_value n ∷ []) globals begun) (words_wider id ns)
+      behind_wider (run_of env id (word_value n ∷ []) globals begun) (run_of wide id (word_value n ∷ []) globals begun)
+      (run_words env id ns) (run_words wide id ns) (run_wider id (word_value n ∷ []) globals begun) (words_wider id ns)
 
 words_fit_not : (env : Environment) (m : ℕ) (le : env.limit ≤ m) (r : WordsEnd) → WordsFitLimit r → NarrowWords env m le r → ⊥
 words_fit_not env m le (AllReturned globals h) f n = n

@@ -31,7 +31,8 @@ stays_ok (Err f) s x h e = elim (err_ok e) [ ]
     err_ok : {X : Type 0} {f : Fault} {x : X} → (let r : Result X Fault = Err f in r) ≡ Ok x → ⊥
     err_ok h = cc
 
-pub stays_bind : {X Y : Type 0} (r s : Result X Fault) (f g : X → Result Y Fault) → Stays r s → ((x : X) → Stays (f x) (g x)) → Stays (r >>= f) (s >>= g)
+pub stays_bind : {X Y : Type 0} (r s : Result X Fault) (f g : X → Result Y Fault) → Stays r s → ((x : X) → Stays (f x) (g x)) →
+    Stays (r >>= f) (s >>= g)
 unfolding Stays
 stays_bind (Ok x) s f g h k = subst (λ z. Stays (f x) (z >>= g)) (sym h) (k x)
 stays_bind (Err e) s f g h k = tt
@@ -53,12 +54,9 @@ pub stays_need : (b c : Bool) (code : StaticCode) (span : Span) → (b ≡ true 
 stays_need true c code span h = stays_equal (need true code span) (need c code span) (ap (λ d. need d code span) (h refl))
 stays_need false c code span h = stays_err _ (need c code span)
 
-pub stays_cond : {X : Type 0} (b : Bool) (r s p q : Result X Fault) → Stays r s → Stays p q → Stays (cond b r p) (cond b s q)
-stays_cond true r s p q h k = h
-stays_cond false r s p q h k = k
-
 -- something that is there where the first test holds is there where the second does
-pub stays_found : {X : Type 0} (b c : Bool) (o : Option X) (code : StaticCode) (span : Span) → (b ≡ true → c ≡ true) → Stays (found_or (cond b o None) code span) (found_or (cond c o None) code span)
+pub stays_found : {X : Type 0} (b c : Bool) (o : Option X) (code : StaticCode) (span : Span) → (b ≡ true → c ≡ true) →
+    Stays (found_or (cond b o None) code span) (found_or (cond c o None) code span)
 stays_found true c o code span h = stays_equal _ _ (ap (λ d. found_or (cond d o None) code span) (h refl))
 stays_found false c o code span h = stays_err _ (found_or (cond c o None) code span)
 
@@ -73,20 +71,23 @@ pub by_ok : {X : Type 0} (R : X → X → Type 0) (x y : X) → R x y → StaysB
 unfolding StaysBy
 by_ok R x y h = h
 
-pub by_bind : {X Y : Type 0} (R : X → X → Type 0) (S : Y → Y → Type 0) (r s : Result X Fault) (f g : X → Result Y Fault) → StaysBy R r s → ((x y : X) → R x y → StaysBy S (f x) (g y)) → StaysBy S (r >>= f) (s >>= g)
+pub by_bind : {X Y : Type 0} (R : X → X → Type 0) (S : Y → Y → Type 0) (r s : Result X Fault) (f g : X → Result Y Fault) → StaysBy R r s →
+    ((x y : X) → R x y → StaysBy S (f x) (g y)) → StaysBy S (r >>= f) (s >>= g)
 unfolding StaysBy
 by_bind R S (Ok x) (Ok y) f g h k = k x y h
 by_bind R S (Ok x) (Err e) f g h k = absurd h
 by_bind R S (Err e) s f g h k = tt
 
 -- from a relation to what is the same, and back
-pub from_by : {X Y : Type 0} (R : X → X → Type 0) (r s : Result X Fault) (f g : X → Result Y Fault) → StaysBy R r s → ((x y : X) → R x y → Stays (f x) (g y)) → Stays (r >>= f) (s >>= g)
+pub from_by : {X Y : Type 0} (R : X → X → Type 0) (r s : Result X Fault) (f g : X → Result Y Fault) → StaysBy R r s →
+    ((x y : X) → R x y → Stays (f x) (g y)) → Stays (r >>= f) (s >>= g)
 unfolding StaysBy Stays
 from_by R (Ok x) (Ok y) f g h k = k x y h
 from_by R (Ok x) (Err e) f g h k = absurd h
 from_by R (Err e) s f g h k = tt
 
-pub to_by : {X Y : Type 0} (S : Y → Y → Type 0) (r s : Result X Fault) (f g : X → Result Y Fault) → Stays r s → ((x : X) → StaysBy S (f x) (g x)) → StaysBy S (r >>= f) (s >>= g)
+pub to_by : {X Y : Type 0} (S : Y → Y → Type 0) (r s : Result X Fault) (f g : X → Result Y Fault) → Stays r s →
+    ((x : X) → StaysBy S (f x) (g x)) → StaysBy S (r >>= f) (s >>= g)
 unfolding StaysBy Stays
 to_by S (Ok x) s f g h k = subst (λ z. StaysBy S (f x) (z >>= g)) (sym h) (k x)
 to_by S (Err e) s f g h k = tt
@@ -99,7 +100,8 @@ Pairs R [] (y ∷ ys) = ⊥
 Pairs R (x ∷ xs) [] = ⊥
 Pairs R (x ∷ xs) (y ∷ ys) = R x y × Pairs R xs ys
 
-pub pairs_of : {A X : Type 0} (R : X → X → Type 0) (g h : A → X) (xs : List ((a : A) × R (g a) (h a))) → Pairs R (map g (map (λ x. x.0) xs)) (map h (map (λ x. x.0) xs))
+pub pairs_of : {A X : Type 0} (R : X → X → Type 0) (g h : A → X) (xs : List ((a : A) × R (g a) (h a))) →
+    Pairs R (map g (map (λ x. x.0) xs)) (map h (map (λ x. x.0) xs))
 pairs_of R g h [] = tt
 pairs_of R g h (x ∷ xs) = (x.1, pairs_of R g h xs)
 

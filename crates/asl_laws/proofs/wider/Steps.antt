@@ -56,7 +56,8 @@ wider_good (Bad d) s x w h = elim (bad_good h) [ ]
 -- ---- the limit
 
 -- one test implies the other, and where the first fails the step is too wide
-pub by_test : {A : Type 0} (b c : Bool) (r : Pure A) (e : End) → IsNarrow e → (b ≡ true → c ≡ true) → Wider (cond b r (Bad e)) (cond c r (Bad e))
+pub by_test : {A : Type 0} (b c : Bool) (r : Pure A) (e : End) → IsNarrow e → (b ≡ true → c ≡ true) →
+    Wider (cond b r (Bad e)) (cond c r (Bad e))
 by_test true true r e n h = wider_same r
 by_test true false r e n h = elim (no_true (h refl)) [ ]
   where
@@ -77,5 +78,6 @@ module _ (l m : ℕ) (le : l ≤ m) where
       longer : n ≤ l → l ≤ m → n ≤ m
       longer a b = omega (arith, a, b)
 
-  pub limit_wider : {A : Type 0} (n : ℕ) (span : Span) (r : Pure A) → Wider (cond (nat_le n l) r (Bad (Faulted D14 span))) (cond (nat_le n m) r (Bad (Faulted D14 span)))
+  pub limit_wider : {A : Type 0} (n : ℕ) (span : Span) (r : Pure A) →
+      Wider (cond (nat_le n l) r (Bad (Faulted D14 span))) (cond (nat_le n m) r (Bad (Faulted D14 span)))
   limit_wider n span r = by_test (nat_le n l) (nat_le n m) r (Faulted D14 span) refl (within_both n)

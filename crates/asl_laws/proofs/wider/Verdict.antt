@@ -1,5 +1,6 @@
 -- A program that is accepted stays accepted under a wider limit, as the same program.
-use Rattle.std.proofs.Common.{◌≡◌, ℕ, zero, suc, ◌≤◌, Bool, true, false, cond, ◌&&◌, List, [], ◌∷◌, ◌++◌, length, map, Option, Some, None, Ok, Err, refl, sym, ap, ap₂, subst, ◌∙◌}
+use Rattle.std.proofs.Common.{◌≡◌, ℕ, zero, suc, ◌≤◌, Bool, true, false, cond, ◌&&◌, List, [], ◌∷◌, ◌++◌, length, map, Option, Some, None}
+use Rattle.std.proofs.Common.{Ok, Err, refl, sym, ap, ap₂, subst, ◌∙◌}
 use Rattle.std.specs.Prelude.{Result}
 use Rattle.asl_syn.specs.declared.token.Span.{Span}
 use Rattle.asl_syn.specs.declared.code.Fault.{Fault}
@@ -26,7 +27,8 @@ use Rattle.asl_rules.specs.values.Values.{Value}
 use Rattle.asl_rules.specs.types.Written.{first_value}
 use Rattle.asl_rules.specs.declarations.Names.{library, names_rule, all_declared}
 use Rattle.asl_rules.specs.declarations.Uses.{Used, uses, cycles_rule}
-use Rattle.asl_rules.specs.declarations.Scopes.{Scope, Entry, Signature, Param, subprogram, type_of_name, with_entries, with_class, next_atom}
+use Rattle.asl_rules.specs.declarations.Scopes.{Scope, Entry, Signature, Param, subprogram, type_of_name, with_entries, with_class}
+use Rattle.asl_rules.specs.declarations.Scopes.{next_atom}
 use Rattle.asl_rules.specs.expressions.Typing.{Typed}
 use Rattle.asl_rules.specs.expressions.Exprs.{typed, written, found, found_type}
 use Rattle.asl_rules.specs.runs.Plans.{Faulted, Stuck, Pure, Good, Bad}
@@ -34,13 +36,20 @@ use Rattle.asl_rules.specs.declarations.Constants.{constant}
 use Rattle.asl_rules.specs.declarations.Barred.{barred}
 use Rattle.asl_rules.specs.statements.Acting.{in_order}
 use Rattle.asl_rules.specs.statements.Stmts.{found_stmt}
-use Rattle.asl_rules.specs.declarations.Declarations.{in_names, fields_written, def_rule, is_none, reached, supertype_rule, type_decl_rule, evaluated, known, first_in, storage_rule, is_var, decl_rule, Judged, Waiting, Fine, Faulty, judged, entries_of, entries, fine_where_used, all_fine, judged_by, still, judgement, final, faulty, faults_rule, names_of_program, globals_rule}
-use Rattle.asl_rules.specs.declarations.Programs.{environment, funcs_of, params_free, formals_free, param_written, param_entry, params_rule, formals_rule, result_rule, limit_typed, type_is_integer, params_are_integers, as_number, limit_of_expr, limit_rule, Head, signature_rule, signatures_rule, signatures, overloads_rule, body_of, body_rule, bodies_rule, Accepted, verdict}
+use Rattle.asl_rules.specs.declarations.Declarations.{in_names, fields_written, def_rule, is_none, reached, supertype_rule, type_decl_rule}
+use Rattle.asl_rules.specs.declarations.Declarations.{evaluated, known, first_in, storage_rule, is_var, decl_rule, Judged, Waiting, Fine}
+use Rattle.asl_rules.specs.declarations.Declarations.{Faulty, judged, entries_of, entries, fine_where_used, all_fine, judged_by, still}
+use Rattle.asl_rules.specs.declarations.Declarations.{judgement, final, faulty, faults_rule, names_of_program, globals_rule}
+use Rattle.asl_rules.specs.declarations.Programs.{environment, funcs_of, params_free, formals_free, param_written, param_entry, params_rule}
+use Rattle.asl_rules.specs.declarations.Programs.{formals_rule, result_rule, limit_typed, type_is_integer, params_are_integers, as_number}
+use Rattle.asl_rules.specs.declarations.Programs.{limit_of_expr, limit_rule, Head, signature_rule, signatures_rule, signatures}
+use Rattle.asl_rules.specs.declarations.Programs.{overloads_rule, body_of, body_rule, bodies_rule, Accepted, verdict}
 use Rattle.asl_rules.proofs.basics.Inversions.{then_ok, bind_ok}
 use Rattle.asl_laws.proofs.wider.Steps.{Wider, wider_good}
 use Rattle.asl_laws.proofs.wider.Pures.{first_wider}
 use Rattle.asl_laws.proofs.wider.Known.{known_wider}
-use Rattle.asl_laws.proofs.wider.Stays.{Stays, stays_same, stays_equal, stays_err, stays_ok, stays_bind, stays_step, stays_then, stays_after, all_pairs}
+use Rattle.asl_laws.proofs.wider.Stays.{Stays, stays_same, stays_equal, stays_err, stays_ok, stays_bind, stays_step, stays_then}
+use Rattle.asl_laws.proofs.wider.Stays.{stays_after, all_pairs}
 use Rattle.asl_laws.proofs.wider.Rows.{wide_tests, misfit_same, fit_same}
 use Rattle.asl_laws.proofs.wider.Trees.{expr_stays, type_stays}
 use Rattle.asl_laws.proofs.wider.Stmts.{StmtStays, order_stays, stmt_stays, written_stays}
@@ -94,7 +103,8 @@ unfolding Stays
 judged_same (Ok es) s h k = ap judged h
 judged_same (Err e) s h k = absurd (k tt)
 
-cond_judged : (b : Bool) (r s : Result (List Entry) Fault) → Stays r s → Fair (cond b (judged r) Waiting) → cond b (judged s) Waiting ≡ cond b (judged r) Waiting
+cond_judged : (b : Bool) (r s : Result (List Entry) Fault) → Stays r s → Fair (cond b (judged r) Waiting) →
+    cond b (judged s) Waiting ≡ cond b (judged r) Waiting
 cond_judged true r s h k = judged_same r s h k
 cond_judged false r s h k = refl
 
@@ -116,40 +126,60 @@ module _ (t : Tests) (m : ℕ) (le : t.limit ≤ m) where
 
   fields_stay : (fs : List Formal) (G : Scope) → Stays (fields_written t fs G) (fields_written u fs G)
   fields_stay [] G = stays_same _
-  fields_stay (f ∷ fs) G = stays_bind (written t f.ty true G) (written u f.ty true G) _ _ (written_stays t m le f.ty true G) (λ W. stays_bind (fields_written t fs G) (fields_written u fs G) _ _ (fields_stay fs G) (λ Fs. stays_same _))
+  fields_stay (f ∷ fs) G = stays_bind (written t f.ty true G) (written u f.ty true G) _ _ (written_stays t m le f.ty true G)
+      (λ W. stays_bind (fields_written t fs G) (fields_written u fs G) _ _ (fields_stay fs G) (λ Fs. stays_same _))
 
   def_stays : (name : List ℕ) (d : TypeDef) (G : Scope) → Stays (def_rule t name d G) (def_rule u name d G)
-  def_stays name (td.Alias w) G = stays_bind (written t w true G) (written u w true G) _ _ (written_stays t m le w true G) (λ W. stays_same (Ok W.ty))
+  def_stays name (td.Alias w) G = stays_bind (written t w true G) (written u w true G) _ _ (written_stays t m le w true G)
+      (λ W. stays_same (Ok W.ty))
   def_stays name (td.Labels span is) G = stays_same _
-  def_stays name (td.Record span fs) G = stays_bind (fields_written t fs G) (fields_written u fs G) _ _ (fields_stay fs G) (λ Fs. stays_same _)
-  def_stays name (td.Exception span fs) G = stays_bind (fields_written t fs G) (fields_written u fs G) _ _ (fields_stay fs G) (λ Fs. stays_same _)
+  def_stays name (td.Record span fs) G = stays_bind (fields_written t fs G) (fields_written u fs G) _ _ (fields_stay fs G)
+      (λ Fs. stays_same _)
+  def_stays name (td.Exception span fs) G = stays_bind (fields_written t fs G) (fields_written u fs G) _ _ (fields_stay fs G)
+      (λ Fs. stays_same _)
 
   supertype_stays : (o : Option Ident) (T : Ty) (G : Scope) → Stays (supertype_rule t o T G) (supertype_rule u o T G)
   supertype_stays None T G = stays_same _
-  supertype_stays (Some i) T G = stays_step (found_or (type_of_name i.text G.names) T02 i.span) _ _ (λ U. stays_equal _ _ (ap (λ o. need (is_none o) T25 i.span >> Ok (reached i.text U)) (misfit_same t m le (structure T) (structure U))))
+  supertype_stays (Some i) T G = stays_step (found_or (type_of_name i.text G.names) T02 i.span) _ _
+      (λ U. stays_equal _ _ (ap (λ o. need (is_none o) T25 i.span >> Ok (reached i.text U))
+      (misfit_same t m le (structure T) (structure U))))
 
   type_decl_stays : (d : TypeDecl) (G : Scope) → Stays (type_decl_rule t d G) (type_decl_rule u d G)
-  type_decl_stays d G = stays_bind (def_rule t d.name.text d.def G) (def_rule u d.name.text d.def G) _ _ (def_stays d.name.text d.def G) (λ T. stays_bind (supertype_rule t d.supertype T G) (supertype_rule u d.supertype T G) _ _ (supertype_stays d.supertype T G) (λ ss. stays_same _))
+  type_decl_stays d G = stays_bind (def_rule t d.name.text d.def G) (def_rule u d.name.text d.def G) _ _ (def_stays d.name.text d.def G)
+      (λ T. stays_bind (supertype_rule t d.supertype T G) (supertype_rule u d.supertype T G) _ _ (supertype_stays d.supertype T G)
+      (λ ss. stays_same _))
 
   known_stays : (e : Expr) (G : Scope) → Stays (known t e G) (known u e G)
-  known_stays e G = evaluated_stays (constant t.limit e G.names) (constant m e G.names) (known_wider (record { decls = []; names = G.names; limit = t.limit }) m le e)
+  known_stays e G = evaluated_stays (constant t.limit e G.names) (constant m e G.names)
+      (known_wider (record { decls = []; names = G.names; limit = t.limit }) m le e)
 
   first_stays : (at : Span) (T : Ty) → Stays (first_in t at T) (first_in u at T)
-  first_stays at T = stays_bind (evaluated (first_value t.limit at (closed T))) (evaluated (first_value m at (closed T))) _ _ (evaluated_stays (first_value t.limit at (closed T)) (first_value m at (closed T)) (first_wider t.limit m le at (closed T))) (λ x. stays_same _)
+  first_stays at T = stays_bind (evaluated (first_value t.limit at (closed T))) (evaluated (first_value m at (closed T))) _ _
+      (evaluated_stays (first_value t.limit at (closed T)) (first_value m at (closed T)) (first_wider t.limit m le at (closed T)))
+      (λ x. stays_same _)
 
-  storage_stays : (d : StorageDecl) (k : Bool) (w : Option TypeExpr) (o : Option Expr) (G : Scope) → Stays (storage_rule t d k w o G) (storage_rule u d k w o G)
+  storage_stays : (d : StorageDecl) (k : Bool) (w : Option TypeExpr) (o : Option Expr) (G : Scope) →
+      Stays (storage_rule t d k w o G) (storage_rule u d k w o G)
   storage_stays d k None None G = stays_same _
   storage_stays d k (Some w) None G = stays_bind (written t w true G) (written u w true G) _ _ (written_stays t m le w true G) (λ W.
-      subst (λ at. Stays (first_in t (found_type t w).span W.ty) (first_in u at W.ty)) (sym (type_stays t m le w).span_same) (first_stays (found_type t w).span W.ty))
-  storage_stays d k None (Some e) G = stays_after (none_at T04 (barred e G.names)) _ _ (stays_bind (typed t e G) (typed u e G) _ _ ((expr_stays t m le e).typed_stays G) (λ S. stays_bind (known t e G) (known u e G) _ _ (known_stays e G) (λ x. stays_same _)))
+      subst (λ at. Stays (first_in t (found_type t w).span W.ty) (first_in u at W.ty)) (sym (type_stays t m le w).span_same)
+      (first_stays (found_type t w).span W.ty))
+  storage_stays d k None (Some e) G = stays_after (none_at T04 (barred e G.names)) _ _
+      (stays_bind (typed t e G) (typed u e G) _ _ ((expr_stays t m le e).typed_stays G)
+      (λ S. stays_bind (known t e G) (known u e G) _ _ (known_stays e G) (λ x. stays_same _)))
   storage_stays d k (Some w) (Some e) G =
-      stays_after (none_at T04 (barred e G.names)) _ _ (stays_bind (written t w true G) (written u w true G) _ _ (written_stays t m le w true G) (λ W. stays_bind (typed t e G) (typed u e G) _ _ ((expr_stays t m le e).typed_stays G) (λ S.
-      stays_then (fitted (misfit t S.ty W.ty) (found t e).span) (fitted (misfit u S.ty W.ty) (found u e).span) _ _ (stays_equal _ _ (fit_same t m le S.ty W.ty (found u e).span ∙ ap (λ at. fitted (misfit t S.ty W.ty) at) (expr_stays t m le e).span_same))
+      stays_after (none_at T04 (barred e G.names)) _ _
+      (stays_bind (written t w true G) (written u w true G) _ _ (written_stays t m le w true G)
+      (λ W. stays_bind (typed t e G) (typed u e G) _ _ ((expr_stays t m le e).typed_stays G) (λ S.
+      stays_then (fitted (misfit t S.ty W.ty) (found t e).span) (fitted (misfit u S.ty W.ty) (found u e).span) _ _
+      (stays_equal _ _ (fit_same t m le S.ty W.ty (found u e).span
+      ∙ ap (λ at. fitted (misfit t S.ty W.ty) at) (expr_stays t m le e).span_same))
       (stays_bind (known t e G) (known u e G) _ _ (known_stays e G) (λ x. stays_same _)))))
 
   decl_stays : (d : Decl) (G : Scope) → Stays (decl_rule t d G) (decl_rule u d G)
   decl_stays (dc.Type d) G = type_decl_stays d G
-  decl_stays (dc.Storage d) G = stays_bind (storage_rule t d (is_var d.kind) d.ty d.init G) (storage_rule u d (is_var d.kind) d.ty d.init G) _ _ (storage_stays d (is_var d.kind) d.ty d.init G) (λ s. stays_same _)
+  decl_stays (dc.Storage d) G = stays_bind (storage_rule t d (is_var d.kind) d.ty d.init G) (storage_rule u d (is_var d.kind) d.ty d.init G)
+      _ _ (storage_stays d (is_var d.kind) d.ty d.init G) (λ s. stays_same _)
   decl_stays (dc.Func f) G = stays_same _
 
   -- ---- rounds: where no declaration is faulty at the end, none was before, and each is judged alike
@@ -161,24 +191,32 @@ module _ (t : Tests) (m : ℕ) (le : t.limit ≤ m) where
     abbrev SameAt : ℕ → Type 0
     SameAt n = All (λ d. judgement u n ds d ≡ judgement t n ds d) ds
 
-    judged_by_same : (f g : Decl → Judged) (d : Decl) → All (λ e. g e ≡ f e) ds → Fair (judged_by t f ds d) → judged_by u g ds d ≡ judged_by t f ds d
+    judged_by_same : (f g : Decl → Judged) (d : Decl) → All (λ e. g e ≡ f e) ds → Fair (judged_by t f ds d) →
+        judged_by u g ds d ≡ judged_by t f ds d
     judged_by_same f g d h k =
-        ap₂ (λ b es. cond b (judged (decl_rule u d (in_names (map subprogram library ++ es)))) Waiting) (fine_same f g (uses d) ds h) (entries_same f g ds h)
-        ∙ cond_judged (all_fine f (uses d) ds) (decl_rule t d (in_names (map subprogram library ++ entries f ds))) (decl_rule u d (in_names (map subprogram library ++ entries f ds))) (decl_stays d (in_names (map subprogram library ++ entries f ds))) k
+        ap₂ (λ b es. cond b (judged (decl_rule u d (in_names (map subprogram library ++ es)))) Waiting) (fine_same f g (uses d) ds h)
+        (entries_same f g ds h)
+        ∙ cond_judged (all_fine f (uses d) ds) (decl_rule t d (in_names (map subprogram library ++ entries f ds)))
+        (decl_rule u d (in_names (map subprogram library ++ entries f ds)))
+        (decl_stays d (in_names (map subprogram library ++ entries f ds))) k
 
     before : (n : ℕ) → FairAt (suc n) → FairAt n
-    before n h = all_map (λ d. Fair (judgement t (suc n) ds d)) (λ d. Fair (judgement t n ds d)) ds (λ d k. still_fair (judgement t n ds d) (judged_by t (λ e. judgement t n ds e) ds d) k) h
+    before n h = all_map (λ d. Fair (judgement t (suc n) ds d)) (λ d. Fair (judgement t n ds d)) ds
+        (λ d k. still_fair (judgement t n ds d) (judged_by t (λ e. judgement t n ds e) ds d) k) h
 
-    step_same : (n : ℕ) (e : SameAt n) (d : Decl) → judgement u n ds d ≡ judgement t n ds d → Fair (judgement t (suc n) ds d) → judgement u (suc n) ds d ≡ judgement t (suc n) ds d
+    step_same : (n : ℕ) (e : SameAt n) (d : Decl) → judgement u n ds d ≡ judgement t n ds d → Fair (judgement t (suc n) ds d) →
+        judgement u (suc n) ds d ≡ judgement t (suc n) ds d
     step_same n e d i k =
         ap (λ j. still j (judged_by u (λ x. judgement u n ds x) ds d)) i
-        ∙ still_same (judgement t n ds d) (judged_by t (λ x. judgement t n ds x) ds d) (judged_by u (λ x. judgement u n ds x) ds d) k (judged_by_same (λ x. judgement t n ds x) (λ x. judgement u n ds x) d e)
+        ∙ still_same (judgement t n ds d) (judged_by t (λ x. judgement t n ds x) ds d) (judged_by u (λ x. judgement u n ds x) ds d) k
+        (judged_by_same (λ x. judgement t n ds x) (λ x. judgement u n ds x) d e)
 
     rounds_same : (n : ℕ) → FairAt n → SameAt n
     rounds_same zero h = all_map (λ d. Fair (judgement t zero ds d)) (λ d. judgement u zero ds d ≡ judgement t zero ds d) ds (λ d k. refl) h
     rounds_same (suc n) h =
         let e = rounds_same n (before n h) in
-        all_both (λ d. judgement u n ds d ≡ judgement t n ds d) (λ d. Fair (judgement t (suc n) ds d)) (λ d. judgement u (suc n) ds d ≡ judgement t (suc n) ds d) ds (step_same n e) e h
+        all_both (λ d. judgement u n ds d ≡ judgement t n ds d) (λ d. Fair (judgement t (suc n) ds d))
+        (λ d. judgement u (suc n) ds d ≡ judgement t (suc n) ds d) ds (step_same n e) e h
 
     faulty_fair : (j : Judged) → faulty j ≡ Ok tt → Fair j
     faulty_fair Waiting h = λ x. x
@@ -190,7 +228,8 @@ module _ (t : Tests) (m : ℕ) (le : t.limit ≤ m) where
 
     fair_all : (es : List Decl) → faults_rule t ds es ≡ Ok tt → All (λ d. Fair (final t ds d)) es
     fair_all [] h = tt
-    fair_all (d ∷ es) h = let p = then_ok (faulty (final t ds d)) (faults_rule t ds es) tt h in (faulty_fair (final t ds d) p.first, fair_all es p.then)
+    fair_all (d ∷ es) h = let p = then_ok (faulty (final t ds d)) (faults_rule t ds es) tt h in
+        (faulty_fair (final t ds d) p.first, fair_all es p.then)
 
     finals_same : faults_rule t ds ds ≡ Ok tt → All (λ d. final u ds d ≡ final t ds d) ds
     finals_same h = rounds_same (suc (length ds)) (fair_all ds h)
@@ -211,23 +250,32 @@ module _ (t : Tests) (m : ℕ) (le : t.limit ≤ m) where
 
   param_stays : (o : Option TypeExpr) (names : List Entry) → Stays (param_written t o names) (param_written u o names)
   param_stays None names = stays_same _
-  param_stays (Some w) names = stays_bind (written t w false (in_names names)) (written u w false (in_names names)) _ _ (written_stays t m le w false (in_names names)) (λ W. stays_same (Ok (Some W.ty)))
+  param_stays (Some w) names = stays_bind (written t w false (in_names names)) (written u w false (in_names names)) _ _
+      (written_stays t m le w false (in_names names)) (λ W. stays_same (Ok (Some W.ty)))
 
-  params_stay : (ps : List WrittenParam) (before : List Param) (names : List Entry) → Stays (params_rule t ps before names) (params_rule u ps before names)
+  params_stay : (ps : List WrittenParam) (before : List Param) (names : List Entry) →
+      Stays (params_rule t ps before names) (params_rule u ps before names)
   params_stay [] before names = stays_same _
-  params_stay (p ∷ ps) before names = stays_bind (param_written t p.ty names) (param_written u p.ty names) _ _ (param_stays p.ty names) (λ T. params_stay ps (before ++ record { atom = next_atom names; ty = T } ∷ []) (names ++ param_entry p.name.text T (next_atom names) ∷ []))
+  params_stay (p ∷ ps) before names = stays_bind (param_written t p.ty names) (param_written u p.ty names) _ _ (param_stays p.ty names)
+      (λ T. params_stay ps (before ++ record { atom = next_atom names; ty = T } ∷ [])
+      (names ++ param_entry p.name.text T (next_atom names) ∷ []))
 
   formals_stay : (fs : List Formal) (names : List Entry) → Stays (formals_rule t fs names) (formals_rule u fs names)
   formals_stay [] names = stays_same _
-  formals_stay (f ∷ fs) names = stays_bind (written t f.ty false (in_names names)) (written u f.ty false (in_names names)) _ _ (written_stays t m le f.ty false (in_names names)) (λ W. stays_bind (formals_rule t fs names) (formals_rule u fs names) _ _ (formals_stay fs names) (λ Ts. stays_same _))
+  formals_stay (f ∷ fs) names = stays_bind (written t f.ty false (in_names names)) (written u f.ty false (in_names names)) _ _
+      (written_stays t m le f.ty false (in_names names))
+      (λ W. stays_bind (formals_rule t fs names) (formals_rule u fs names) _ _ (formals_stay fs names) (λ Ts. stays_same _))
 
   result_stays : (o : Option TypeExpr) (names : List Entry) → Stays (result_rule t o names) (result_rule u o names)
   result_stays None names = stays_same _
-  result_stays (Some w) names = stays_bind (written t w false (in_names names)) (written u w false (in_names names)) _ _ (written_stays t m le w false (in_names names)) (λ W. stays_same (Ok (Some W.ty)))
+  result_stays (Some w) names = stays_bind (written t w false (in_names names)) (written u w false (in_names names)) _ _
+      (written_stays t m le w false (in_names names)) (λ W. stays_same (Ok (Some W.ty)))
 
   limit_typed_stays : (o : Option Expr) (globals : List Entry) → Stays (limit_typed t o globals) (limit_typed u o globals)
   limit_typed_stays None globals = stays_same _
-  limit_typed_stays (Some e) globals = stays_after (none_at T04 (barred e globals)) _ _ (stays_bind (typed t e (with_class (in_names globals) NoEffect)) (typed u e (with_class (in_names globals) NoEffect)) _ _ ((expr_stays t m le e).typed_stays (with_class (in_names globals) NoEffect)) (λ S. stays_same _))
+  limit_typed_stays (Some e) globals = stays_after (none_at T04 (barred e globals)) _ _
+      (stays_bind (typed t e (with_class (in_names globals) NoEffect)) (typed u e (with_class (in_names globals) NoEffect)) _ _
+      ((expr_stays t m le e).typed_stays (with_class (in_names globals) NoEffect)) (λ S. stays_same _))
 
   integer_same : (o : Option TypeExpr) (T : Option Ty) → type_is_integer u o T ≡ type_is_integer t o T
   integer_same None T = refl
@@ -239,11 +287,15 @@ module _ (t : Tests) (m : ℕ) (le : t.limit ≤ m) where
   integers_same (p ∷ ps) [] = refl
   integers_same (p ∷ ps) (q ∷ qs) = ap₂ (λ r s. r >> s) (integer_same p.ty q.ty) (integers_same ps qs)
 
-  limit_expr_stays : (e : Expr) (S : Option Typed) (globals : List Entry) → Stays (limit_of_expr t e S globals) (limit_of_expr u e S globals)
+  limit_expr_stays : (e : Expr) (S : Option Typed) (globals : List Entry) →
+      Stays (limit_of_expr t e S globals) (limit_of_expr u e S globals)
   limit_expr_stays e None globals = stays_same _
   limit_expr_stays e (Some S) globals =
-      subst (λ at. Stays (limit_of_expr t e (Some S) globals) (need (is_integer S.ty) T05 at >> (known u e (in_names globals) >>= λ x. as_number at x))) (sym (expr_stays t m le e).span_same)
-      (stays_after (need (is_integer S.ty) T05 (found t e).span) _ _ (stays_bind (known t e (in_names globals)) (known u e (in_names globals)) _ _ (known_stays e (in_names globals)) (λ x. stays_same _)))
+      subst (λ at. Stays (limit_of_expr t e (Some S) globals)
+      (need (is_integer S.ty) T05 at >> (known u e (in_names globals) >>= λ x. as_number at x))) (sym (expr_stays t m le e).span_same)
+      (stays_after (need (is_integer S.ty) T05 (found t e).span) _ _
+      (stays_bind (known t e (in_names globals)) (known u e (in_names globals)) _ _ (known_stays e (in_names globals))
+      (λ x. stays_same _)))
 
   limit_stays : (o : Option Expr) (S : Option Typed) (globals : List Entry) → Stays (limit_rule t o S globals) (limit_rule u o S globals)
   limit_stays None S globals = stays_same _
@@ -256,23 +308,29 @@ module _ (t : Tests) (m : ℕ) (le : t.limit ≤ m) where
       stays_bind (formals_rule t f.formals p.1) (formals_rule u f.formals p.1) _ _ (formals_stay f.formals p.1) (λ Ts.
       stays_bind (result_rule t f.result p.1) (result_rule u f.result p.1) _ _ (result_stays f.result p.1) (λ T.
       stays_bind (limit_typed t f.limit globals) (limit_typed u f.limit globals) _ _ (limit_typed_stays f.limit globals) (λ l.
-      stays_then (params_are_integers t f.params p.0) (params_are_integers u f.params p.0) _ _ (stays_equal _ _ (integers_same f.params p.0))
-      (stays_bind (limit_rule t f.limit l globals) (limit_rule u f.limit l globals) _ _ (limit_stays f.limit l globals) (λ n. stays_same _))))))))
+      stays_then (params_are_integers t f.params p.0) (params_are_integers u f.params p.0) _ _
+      (stays_equal _ _ (integers_same f.params p.0))
+      (stays_bind (limit_rule t f.limit l globals) (limit_rule u f.limit l globals) _ _ (limit_stays f.limit l globals)
+      (λ n. stays_same _))))))))
 
   signatures_stay : (globals : List Entry) (fs : List Func) → Stays (signatures_rule t globals fs) (signatures_rule u globals fs)
   signatures_stay globals [] = stays_same _
-  signatures_stay globals (f ∷ fs) = stays_bind (signature_rule t globals f) (signature_rule u globals f) _ _ (signature_stays globals f) (λ h. stays_bind (signatures_rule t globals fs) (signatures_rule u globals fs) _ _ (signatures_stay globals fs) (λ hs. stays_same _))
+  signatures_stay globals (f ∷ fs) = stays_bind (signature_rule t globals f) (signature_rule u globals f) _ _ (signature_stays globals f)
+      (λ h. stays_bind (signatures_rule t globals fs) (signatures_rule u globals fs) _ _ (signatures_stay globals fs) (λ hs. stays_same _))
 
   -- ---- bodies
 
   body_stays : (subs : List Signature) (h : Head) → Stays (body_rule t subs h) (body_rule u subs h)
   body_stays subs h =
-      stays_bind (in_order (map (found_stmt t) h.func.body) NoEffect (body_of subs h)) (in_order (map (found_stmt u) h.func.body) NoEffect (body_of subs h)) _ _
-      (order_stays (map (found_stmt t) h.func.body) (map (found_stmt u) h.func.body) NoEffect (body_of subs h) (all_pairs StmtStays (found_stmt t) (found_stmt u) h.func.body (stmt_stays t m le))) (λ l. stays_same _)
+      stays_bind (in_order (map (found_stmt t) h.func.body) NoEffect (body_of subs h))
+      (in_order (map (found_stmt u) h.func.body) NoEffect (body_of subs h)) _ _
+      (order_stays (map (found_stmt t) h.func.body) (map (found_stmt u) h.func.body) NoEffect (body_of subs h)
+      (all_pairs StmtStays (found_stmt t) (found_stmt u) h.func.body (stmt_stays t m le))) (λ l. stays_same _)
 
   bodies_stay : (subs : List Signature) (hs : List Head) → Stays (bodies_rule t subs hs) (bodies_rule u subs hs)
   bodies_stay subs [] = stays_same _
-  bodies_stay subs (h ∷ hs) = stays_bind (body_rule t subs h) (body_rule u subs h) _ _ (body_stays subs h) (λ f. stays_bind (bodies_rule t subs hs) (bodies_rule u subs hs) _ _ (bodies_stay subs hs) (λ fs. stays_same _))
+  bodies_stay subs (h ∷ hs) = stays_bind (body_rule t subs h) (body_rule u subs h) _ _ (body_stays subs h)
+      (λ f. stays_bind (bodies_rule t subs hs) (bodies_rule u subs hs) _ _ (bodies_stay subs hs) (λ fs. stays_same _))
 
   -- ---- the verdict
 
@@ -281,9 +339,11 @@ module _ (t : Tests) (m : ℕ) (le : t.limit ≤ m) where
   verdict_stays e ds =
       stays_after (names_rule [] (all_declared ds)) _ _ (stays_after (cycles_rule ds ds) _ _
       (stays_bind (globals_rule t ds) (globals_rule u ds) _ _ (globals_stay ds) (λ names.
-      stays_bind (signatures_rule t names (funcs_of ds)) (signatures_rule u names (funcs_of ds)) _ _ (signatures_stay names (funcs_of ds)) (λ hs.
+      stays_bind (signatures_rule t names (funcs_of ds)) (signatures_rule u names (funcs_of ds)) _ _ (signatures_stay names (funcs_of ds))
+      (λ hs.
       stays_after (overloads_rule [] hs) _ _
-      (stays_bind (bodies_rule t (signatures hs) hs) (bodies_rule u (signatures hs) hs) _ _ (bodies_stay (signatures hs) hs) (λ trees. stays_same _))))))
+      (stays_bind (bodies_rule t (signatures hs) hs) (bodies_rule u (signatures hs) hs) _ _ (bodies_stay (signatures hs) hs)
+      (λ trees. stays_same _))))))
 
   pub same_verdict : (e : Asked) (ds : List Decl) (a : Accepted) → verdict e ds t ≡ Ok a → verdict e ds u ≡ Ok a
   same_verdict e ds a h = stays_ok (verdict e ds t) (verdict e ds u) a (verdict_stays e ds) h
@@ -297,5 +357,6 @@ module _ (t : Tests) (m : ℕ) (le : t.limit ≤ m) where
       let n = bind_ok (globals_rule t ds) _ a c.then in
       names_same ds (then_ok (faults_rule t ds ds) (Ok (names_of_program t ds)) n.value n.first).first
 
-  pub same_environment : (e : Asked) (ds : List Decl) (a : Accepted) → verdict e ds t ≡ Ok a → environment u ds ≡ record (environment t ds) { limit = m }
+  pub same_environment : (e : Asked) (ds : List Decl) (a : Accepted) → verdict e ds t ≡ Ok a →
+      environment u ds ≡ record (environment t ds) { limit = m }
   same_environment e ds a h = ap (λ ns. record { decls = ds; names = ns; limit = m }) (same_names e ds a h)

@@ -14,11 +14,11 @@ use Rattle.asl_tree.specs.View.{tree_of}
 use Rattle.asl_tree.specs.declared.act.Act.{Act}
 use Rattle.asl_tree.specs.declared.act.TreeFunc.{TreeFunc}
 use Rattle.asl_tree.specs.declared.tree.Tree.{Tree}
-use Rattle.asl_run.specs.declared.run.Run.{Run}
+use Rattle.asl_branches.specs.declared.run.Run.{Run}
+use Rattle.asl_branches.specs.View.{core_of, meter_of, meaning_of}
 use Rattle.asl_run.specs.declared.at_once.AtOnce.{AtOnce}
 use Rattle.asl_run.specs.declared.at_once.AtOnce.TheVariants.{Integer, Truth, Neither}
 use Rattle.asl_run.specs.private.Storing.{stored_in}
-use Rattle.asl_run.specs.View.{core_of, meter_of, meaning_of}
 use Rattle.asl_value.specs.declared.value.Value.{Value}
 use Rattle.asl_value.specs.View.{value_of}
 

@@ -14,10 +14,10 @@ use Rattle.asl_rules.specs.values.Values.{Value, Exit, Normal, Returned}
 use Rattle.asl_tree.specs.View.{all_trees, callee_of}
 use Rattle.asl_tree.specs.declared.act.TreeFunc.{TreeFunc}
 use Rattle.asl_value.specs.View.{value_of}
+use Rattle.asl_branches.specs.declared.run.Caller.{Caller}
+use Rattle.asl_branches.specs.declared.run.Run.{Run}
+use Rattle.asl_branches.specs.View.{program_of}
 use Rattle.asl_run.specs.declared.calls.Call.{Call}
-use Rattle.asl_run.specs.declared.run.Caller.{Caller}
-use Rattle.asl_run.specs.declared.run.Run.{Run}
-use Rattle.asl_run.specs.View.{program_of}
 
 -- ---- the first places of a frame
 

@@ -1,20 +1,16 @@
 -- What is done with the values of operands.
-use Rattle.std.specs.Prelude.{List, [], Some}
+use Rattle.std.specs.Prelude.{List, Some}
 use Rattle.asl_bits.specs.declared.TheConstants.{WIDTH_LIMIT}
 use Rattle.asl_syn.specs.declared.token.Span.{Span}
 use Rattle.asl_rules.specs.runs.ByNames.{matched_in}
 use Rattle.asl_rules.specs.private.ByPlace as places
-use Rattle.asl_rules.specs.runs.Forms as forms
 use Rattle.asl_rules.specs.values.Operators as operators
-use Rattle.asl_rules.specs.runs.Plans.{Ret, Pure, Good}
+use Rattle.asl_rules.specs.runs.Plans.{Pure, Good}
 use Rattle.asl_rules.specs.values.Structures.{values_of}
-use Rattle.asl_rules.specs.private.TypedMeaning.{BareCore, Runs, list_of}
 use Rattle.asl_rules.specs.values.Values.{Value, tuple_with}
 use Rattle.asl_rules.specs.values.Vectors as vectors
 use Rattle.asl_rules.specs.types.Written.{converted}
 use Rattle.asl_shape.specs.View.{all_given, type_of, pattern_of}
-use Rattle.asl_tree.specs.View.{all_trees}
-use Rattle.asl_tree.specs.declared.tree.Tree.{Tree}
 use Rattle.asl_value.specs.private.Forms.{shell_of}
 use Rattle.asl_value.specs.View.{all_slices}
 use Rattle.asl_run.specs.declared.operations.One.{One}
@@ -38,7 +34,3 @@ abbrev pub more_given : Span → More → Value → List Value → Pure Value
 more_given span (more.Slices ss) x zs = vectors.slices_of WIDTH_LIMIT span (all_slices ss.now) zs x
 more_given span (more.As T) x zs = converted WIDTH_LIMIT span (Some (type_of T.now)) zs x
 more_given span (more.In p) x zs = matched_in WIDTH_LIMIT (pattern_of p.now) zs x
-
--- the values of expressions in order
-abbrev pub evaluated : List Tree → BareCore → Runs (List Value)
-evaluated es c = forms.eval_all (list_of (all_trees es)) [] c (λ xs c1. Ret xs c1)

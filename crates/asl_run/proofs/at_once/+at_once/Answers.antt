@@ -6,8 +6,8 @@ use Rattle.asl_rules.specs.runs.Trees as trees
 use Rattle.asl_rules.specs.private.TypedMeaning.{tree_node, value_at}
 use Rattle.asl_rules.specs.values.Values.{bool, int}
 use Rattle.asl_tree.specs.View.{note_view, tree_of}
+use Rattle.asl_branches.specs.View.{core_of, program_of}
 use Rattle.asl_run.specs.private.AtOnce.{Ends, Finds, Gives, decided_as, element_in, found}
-use Rattle.asl_run.specs.View.{core_of, program_of}
 use Rattle.asl_run.proofs.AtOnce.{begun, left_found, opposed, picked, right_integer, right_truth}
 use Rattle.asl_run.proofs.Viewed.{binary_is, element_is, unary_is}
 use Rattle.asl_run.proofs.at_once.+at_once.Goals as goal

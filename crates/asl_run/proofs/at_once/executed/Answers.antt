@@ -1,7 +1,7 @@
 use Rattle.std.proofs.Common.{◌≡◌, ◌-◌, ◌<◌, arith, subst, sym}
 use Rattle.asl_rules.specs.private.TypedMeaning.{act_node}
+use Rattle.asl_branches.specs.View.{program_of}
 use Rattle.asl_run.specs.private.AtOnce.{Executed}
-use Rattle.asl_run.specs.View.{program_of}
 use Rattle.asl_run.proofs.AtOnce.{entered}
 use Rattle.asl_run.proofs.Stated.{simple_is}
 use Rattle.asl_run.proofs.at_once.executed.Goals as goal

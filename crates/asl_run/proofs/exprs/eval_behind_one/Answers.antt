@@ -4,33 +4,51 @@ use Rattle.asl_rules.specs.runs.Forms.{at_once}
 use Rattle.asl_rules.specs.private.TypedMeaning.{list_of}
 use Rattle.asl_tree.specs.View.{all_trees}
 use Rattle.asl_value.specs.View.{value_of}
-use Rattle.asl_run.specs.Meets.{Is}
+use Rattle.asl_branches.specs.Meets.{Is}
+use Rattle.asl_branches.specs.View.{core_of, meter_of}
+use Rattle.asl_branches.proofs.Turns.{all_evaluated, at_once_meets, goes_failed, goes_met}
 use Rattle.asl_run.specs.private.Operations.{more_given}
-use Rattle.asl_run.specs.View.{core_of, meter_of}
-use Rattle.asl_run.proofs.Turns.{all_evaluated, at_once_meets, goes_failed, goes_met}
 use Rattle.asl_run.proofs.exprs.eval_behind_one.Goals as goal
 
-pub returns-in_err-zs-clause-meets : goal.returns-in_err-zs-clause-meets
-returns-in_err-zs-clause-meets g c =
-    let fs = c.args.here.now.setting.funcs.now in
-    let d = c.args.here.now.setting.depth in
-    let c0 = core_of c.args.run.now in
-    let h0 = meter_of c.args.run.now (g.K.Sink.written c.args.sink.now) in
-    let c1 = core_of c.eval_all.new.run in
-    let h1 = meter_of c.eval_all.new.run (g.K.Sink.written c.eval_all.new.sink) in
-    let p = err_from_is_err_and c.from_residual.result c.from_residual.ensures.1 in
-    rw (p.1, p.2) (goes_failed (map value_of) value_of fs d _ _ _ (all_evaluated fs d (list_of (all_trees c.args.es.now)) c0 (λ zs c1. at_once (more_given c.args.behind.span c.args.behind.more (value_of c.args.x.now) zs) c1)) h0 c.in_err-zs.field-0.0 c1 h1 c.in_err-zs.ensures.meets)
+pub returns-in_err-zs : goal.returns-in_err-zs
+returns-in_err-zs g c = record {
+  meets =
+      let fs = (g.N.Nodes.setting c.args.here.now).funcs.now in
+      let d = (g.N.Nodes.setting c.args.here.now).depth in
+      let c0 = core_of c.args.run.now in
+      let h0 = meter_of c.args.run.now (g.K.Sink.written c.args.sink.now) in
+      let c1 = core_of c.eval_all.new.run in
+      let h1 = meter_of c.eval_all.new.run (g.K.Sink.written c.eval_all.new.sink) in
+      let p = err_from_is_err_and c.from_residual.result c.from_residual.ensures.1 in
+      rw (p.1, p.2) (goes_failed (map value_of) value_of fs d _ _ _
+      (all_evaluated fs d (list_of (all_trees c.args.es.now)) c0
+      (λ zs c1. at_once (more_given c.args.behind.span c.args.behind.more (value_of c.args.x.now) zs) c1)) h0
+      c.in_err-zs.field-0.0 c1 h1 c.in_err-zs.ensures.meets);
+  counts = search rules;
+  same_full = search rules;
+  keeps = search rules;
+}
 
-pub returns-clause-meets : goal.returns-clause-meets
-returns-clause-meets g c =
-    let fs = c.args.here.now.setting.funcs.now in
-    let d = c.args.here.now.setting.depth in
-    let c0 = core_of c.args.run.now in
-    let h0 = meter_of c.args.run.now (g.K.Sink.written c.args.sink.now) in
-    let c1 = core_of c.eval_all.new.run in
-    let h1 = meter_of c.eval_all.new.run (g.K.Sink.written c.eval_all.new.sink) in
-    let here : c.as_slice.result.now ≡ c.in_ok-zs.zs = search rules in
-    let is : Is value_of c.more_value.result (more_given c.args.behind.span c.args.behind.more (value_of c.args.x.now) (map value_of c.in_ok-zs.zs)) =
-    subst (λ zs. Is value_of c.more_value.result (more_given c.args.behind.span c.args.behind.more (value_of c.args.x.now) (map value_of zs))) here c.more_value.ensures in
-    goes_met value_of fs d _ _ _ (all_evaluated fs d (list_of (all_trees c.args.es.now)) c0 (λ zs c1. at_once (more_given c.args.behind.span c.args.behind.more (value_of c.args.x.now) zs) c1)) h0 (map value_of c.in_ok-zs.zs) c1 h1 c.in_ok-zs.ensures.meets c.more_value.result c1 h1
-    (at_once_meets value_of fs d c.more_value.result (more_given c.args.behind.span c.args.behind.more (value_of c.args.x.now) (map value_of c.in_ok-zs.zs)) c1 h1 is)
+pub returns : goal.returns
+returns g c = record {
+  meets =
+      let fs = (g.N.Nodes.setting c.args.here.now).funcs.now in
+      let d = (g.N.Nodes.setting c.args.here.now).depth in
+      let c0 = core_of c.args.run.now in
+      let h0 = meter_of c.args.run.now (g.K.Sink.written c.args.sink.now) in
+      let c1 = core_of c.eval_all.new.run in
+      let h1 = meter_of c.eval_all.new.run (g.K.Sink.written c.eval_all.new.sink) in
+      let here : c.as_slice.result.now ≡ c.in_ok-zs.zs = search rules in
+      let is : Is value_of c.more_value.result (more_given c.args.behind.span c.args.behind.more (value_of c.args.x.now)
+      (map value_of c.in_ok-zs.zs)) =
+      subst (λ zs. Is value_of c.more_value.result (more_given c.args.behind.span c.args.behind.more (value_of c.args.x.now)
+      (map value_of zs))) here c.more_value.ensures in
+      goes_met value_of fs d _ _ _ (all_evaluated fs d (list_of (all_trees c.args.es.now)) c0
+      (λ zs c1. at_once (more_given c.args.behind.span c.args.behind.more (value_of c.args.x.now) zs) c1)) h0
+      (map value_of c.in_ok-zs.zs) c1 h1 c.in_ok-zs.ensures.meets c.more_value.result c1 h1
+      (at_once_meets value_of fs d c.more_value.result (more_given c.args.behind.span c.args.behind.more (value_of c.args.x.now)
+      (map value_of c.in_ok-zs.zs)) c1 h1 is);
+  counts = search rules;
+  same_full = search rules;
+  keeps = search rules;
+}

@@ -6,9 +6,9 @@ use Rattle.asl_rules.specs.private.TypedMeaning.{declared}
 use Rattle.asl_rules.specs.values.Values.{Normal}
 use Rattle.asl_tree.specs.Acts.{taken_of}
 use Rattle.asl_value.specs.View.{value_of}
+use Rattle.asl_branches.specs.Meets.{Meets}
+use Rattle.asl_branches.specs.View.{core_of, exit_of, meter_of, meaning_of, cutting_of}
 use Rattle.asl_run.specs.private.Finishes.{tuple_pushed}
-use Rattle.asl_run.specs.Meets.{Meets}
-use Rattle.asl_run.specs.View.{core_of, exit_of, meter_of, meaning_of, cutting_of}
 use Rattle.asl_run.proofs.finishes.declare.Goals as goal
 
 pub returns-in-InParts-clause-acts : goal.returns-in-InParts-clause-acts

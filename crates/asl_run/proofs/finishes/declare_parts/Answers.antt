@@ -1,7 +1,7 @@
 use Rattle.std.proofs.Common.{ap, arith}
 use Rattle.asl_rules.specs.runs.Plans.{Ret, lift, run}
 use Rattle.asl_rules.specs.values.Values.{Normal}
-use Rattle.asl_run.specs.View.{core_of, meter_of, meaning_of}
+use Rattle.asl_branches.specs.View.{core_of, meter_of, meaning_of}
 use Rattle.asl_run.proofs.Taking.{parts_uneven}
 use Rattle.asl_run.proofs.finishes.declare_parts.Goals as goal
 

@@ -2,8 +2,8 @@ use Rattle.std.proofs.Common.{◌≡◌, rules, subst, sym}
 use Rattle.asl_rules.specs.runs.Cuts.{cuts}
 use Rattle.asl_rules.specs.runs.Plans.{Ret, lift, run}
 use Rattle.asl_rules.specs.values.Values.{Normal}
-use Rattle.asl_run.specs.Meets.{Meets}
-use Rattle.asl_run.specs.View.{core_of, exit_of, meter_of, meaning_of, cutting_of}
+use Rattle.asl_branches.specs.Meets.{Meets}
+use Rattle.asl_branches.specs.View.{core_of, exit_of, meter_of, meaning_of, cutting_of}
 use Rattle.asl_run.proofs.Taking.{tuple_parts}
 use Rattle.asl_run.proofs.finishes.declare_tuple.Goals as goal
 

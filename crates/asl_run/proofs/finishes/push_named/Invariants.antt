@@ -1,9 +1,9 @@
 use Rattle.std.proofs.Common.{◌≡◌, ◌-◌, drop, length, map}
 use Rattle.asl_syn.specs.declared.token.Span.{Span}
 use Rattle.asl_value.specs.View.{value_of}
+use Rattle.asl_branches.specs.Meets.{SameBut}
+use Rattle.asl_branches.specs.View.{core_of}
 use Rattle.asl_run.specs.private.Finishes.{parts_pushed}
-use Rattle.asl_run.specs.Meets.{SameBut}
-use Rattle.asl_run.specs.View.{core_of}
 use Rattle.asl_run.proofs.finishes.push_named.Given as goal
 
 -- what is taken of the parts that are left is still to be pushed

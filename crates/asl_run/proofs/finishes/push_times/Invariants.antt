@@ -2,8 +2,8 @@ use Rattle.std.proofs.Common.{◌≡◌}
 use Rattle.std.specs.Prelude.{replicate}
 use Rattle.asl_rules.specs.private.TypedMeaning.{with_next}
 use Rattle.asl_value.specs.View.{value_of}
-use Rattle.asl_run.specs.Meets.{SameBut}
-use Rattle.asl_run.specs.View.{core_of}
+use Rattle.asl_branches.specs.Meets.{SameBut}
+use Rattle.asl_branches.specs.View.{core_of}
 use Rattle.asl_run.proofs.finishes.push_times.Given as goal
 
 -- the places that are left are still to be pushed

@@ -7,11 +7,11 @@ use Rattle.asl_rules.specs.values.Values.{Normal, bool, int}
 use Rattle.asl_tree.specs.Acts.{act_of, all_acts}
 use Rattle.asl_value.specs.declared.value.Value.TheVariants as variants
 use Rattle.asl_value.specs.View.{value_of}
+use Rattle.asl_branches.specs.Meets.{Executes, at}
+use Rattle.asl_branches.specs.View.{core_of, exit_of, meter_of, meaning_of}
+use Rattle.asl_branches.proofs.Listing.{act_next}
 use Rattle.asl_run.specs.private.AtOnce.{Did, found}
-use Rattle.asl_run.specs.Meets.{Executes}
-use Rattle.asl_run.specs.View.{core_of, exit_of, meter_of, meaning_of}
 use Rattle.asl_run.proofs.AtOnce.{answered, truth_there}
-use Rattle.asl_run.proofs.Listing.{act_next}
 use Rattle.asl_run.proofs.Turning.{int_there}
 use Rattle.asl_run.proofs.knot.+run.Goals as goal
 
@@ -30,23 +30,42 @@ exec_all-loop-s-preserved g t c =
       round = search rules;
     }
 
-pub eval-returns-in-Integer-clause-meets : goal.eval-returns-in-Integer-clause-meets
-eval-returns-in-Integer-clause-meets g t c =
-    let kept : to_z w128 (of_z w128 c.in-Integer.z) ≡ c.in-Integer.z = search rules in
-    answered c.evaluated.result (int c.in-Integer.z) (value_of (variants.Int (to_z w128 (of_z w128 c.in-Integer.z)))) c.args.here.funcs.now c.args.here.depth c.args.e.now c.args.run.now c.evaluated.new.left (g.K.Sink.written c.args.sink.now)
-    (ap found c.in-Integer.is) (ap (λ z. value_of (variants.Int z)) kept ∙ int_there c.in-Integer.z) c.evaluated.ensures
+pub eval-returns-in-Integer : goal.eval-returns-in-Integer
+eval-returns-in-Integer g t c = record {
+  meets =
+      let kept : to_z w128 (of_z w128 c.in-Integer.z) ≡ c.in-Integer.z = search rules in
+      answered c.evaluated.result (int c.in-Integer.z) (value_of (variants.Int (to_z w128 (of_z w128 c.in-Integer.z))))
+      c.args.here.funcs.now c.args.here.depth c.args.e.now c.args.run.now c.evaluated.new.left
+      (g.K.Sink.written c.args.sink.now)
+      (ap found c.in-Integer.is) (ap (λ z. value_of (variants.Int z)) kept ∙ int_there c.in-Integer.z) c.evaluated.ensures;
+  counts = search rules;
+  same_full = search rules;
+  keeps = search rules;
+}
 
-pub eval-returns-in-Truth-clause-meets : goal.eval-returns-in-Truth-clause-meets
-eval-returns-in-Truth-clause-meets g t c =
-    answered c.evaluated.result (bool c.in-Truth.b) (value_of (variants.Bool c.in-Truth.b)) c.args.here.funcs.now c.args.here.depth c.args.e.now c.args.run.now c.evaluated.new.left (g.K.Sink.written c.args.sink.now)
-    (ap found c.in-Truth.is) (truth_there c.in-Truth.b) c.evaluated.ensures
+pub eval-returns-in-Truth : goal.eval-returns-in-Truth
+eval-returns-in-Truth g t c = record {
+  meets =
+      answered c.evaluated.result (bool c.in-Truth.b) (value_of (variants.Bool c.in-Truth.b)) c.args.here.funcs.now
+      c.args.here.depth c.args.e.now c.args.run.now c.evaluated.new.left (g.K.Sink.written c.args.sink.now)
+      (ap found c.in-Truth.is) (truth_there c.in-Truth.b) c.evaluated.ensures;
+  counts = search rules;
+  same_full = search rules;
+  keeps = search rules;
+}
 
-pub exec-returns-then-executed-clause-meets : goal.exec-returns-then-executed-clause-meets
-exec-returns-then-executed-clause-meets g t c =
-    subst (λ b. Did b c.args.here.funcs.now c.args.here.depth c.args.s.now c.args.run.now c.executed.new.run) c.if-executed.true
-    (c.executed.ensures.meets c.args.here.funcs.now) (g.K.Sink.written c.args.sink.now)
+pub exec-returns-then-executed : goal.exec-returns-then-executed
+exec-returns-then-executed g t c = record {
+  meets =
+      subst (λ b. Did b c.args.here.funcs.now c.args.here.depth c.args.s.now c.args.run.now c.executed.new.run) c.if-executed.true
+      (c.executed.ensures.meets c.args.here.funcs.now) (g.K.Sink.written c.args.sink.now);
+  counts = search rules;
+  same_full = search rules;
+  keeps = search rules;
+}
 
-pub exec-returns-else-executed-clause-meets : goal.exec-returns-else-executed-clause-meets
-exec-returns-else-executed-clause-meets g t c =
+pub exec-returns-else-executed : goal.exec-returns-else-executed
+exec-returns-else-executed g t c =
     let same = subst (λ b. Did b c.args.here.funcs.now c.args.here.depth c.args.s.now c.args.run.now c.executed.new.run) c.if-executed.false (c.executed.ensures.meets c.args.here.funcs.now) in
-    subst (λ s. Executes c.enter_stmt.result c.args.here.funcs.now c.args.here.depth c.args.s.now s (g.K.Sink.written c.args.sink.now) c.enter_stmt.new.run (g.K.Sink.written c.enter_stmt.new.sink)) same c.enter_stmt.ensures.meets
+    subst (λ s. Executes c.enter_stmt.result c.args.here c.args.s.now (at g.K.Sink s c.args.sink.now)
+    (at g.K.Sink c.enter_stmt.new.run c.enter_stmt.new.sink)) same c.enter_stmt.ensures

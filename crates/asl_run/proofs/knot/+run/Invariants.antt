@@ -2,8 +2,8 @@ use Rattle.std.proofs.Common.{◌≡◌, ◌+◌, ◌*◌, drop}
 use Rattle.asl_rules.specs.runs.StatementForms as forms
 use Rattle.asl_rules.specs.private.TypedMeaning.{acts_of}
 use Rattle.asl_tree.specs.Acts.{all_acts}
-use Rattle.asl_run.specs.Meets.{Left, SameRound}
-use Rattle.asl_run.specs.View.{core_of, meter_of}
+use Rattle.asl_branches.specs.Meets.{Left, SameRound}
+use Rattle.asl_branches.specs.View.{core_of, meter_of}
 use Rattle.asl_run.proofs.knot.+run.Given as goal
 
 -- a node is entered one level deeper

@@ -3,31 +3,25 @@ use Rattle.std.proofs.lemmas.Result.{err_from_is_err_and}
 use Rattle.asl_rules.specs.private.TypedMeaning.{acts_of}
 use Rattle.asl_tree.specs.Acts.{all_acts, maybe_tree}
 use Rattle.asl_tree.specs.View.{tree_of}
+use Rattle.asl_branches.specs.View.{core_of, exit_of}
+use Rattle.asl_branches.proofs.Answered.{failed, met}
 use Rattle.asl_run.specs.private.Looping.{turn_until}
-use Rattle.asl_run.specs.View.{core_of, exit_of, meter_of}
 use Rattle.asl_run.proofs.Turning.{limit_evaluated}
-use Rattle.asl_run.proofs.Turns.{goes_failed, goes_met}
 use Rattle.asl_run.proofs.loops.exec_repeat.Goals as goal
 
-pub returns-in_err-count-clause-meets : goal.returns-in_err-count-clause-meets
-returns-in_err-count-clause-meets g c =
-    let fs = c.args.here.now.setting.funcs.now in
-    let d = c.args.here.now.setting.depth in
-    let c0 = core_of c.args.run.now in
-    let h0 = meter_of c.args.run.now (g.K.Sink.written c.args.sink.now) in
-    let c1 = core_of c.turns_of.new.run in
-    let h1 = meter_of c.turns_of.new.run (g.K.Sink.written c.turns_of.new.sink) in
+pub returns-in_err-count : goal.returns-in_err-count
+returns-in_err-count g c =
+    let h = g.N.Nodes.setting c.args.here.now in
     let p = err_from_is_err_and c.from_residual.result c.from_residual.ensures.1 in
-    rw (p.1, p.2) (goes_failed (λ n. n) exit_of fs d _ _ _ (limit_evaluated fs d c.args.span (maybe_tree c.args.it.now.limit) c0 (turn_until true c.args.span (tree_of c.args.it.now.condition) (acts_of (all_acts c.args.body.now)))) h0 c.in_err-count.field-0.0 c1 h1 c.in_err-count.ensures.meets)
+    rw (p.1, p.2) (failed (λ n. n) exit_of h.funcs.now h.depth _ _ _
+    (limit_evaluated h.funcs.now h.depth c.args.span (maybe_tree c.args.it.now.limit) (core_of c.args.run.now)
+    (turn_until true c.args.span (tree_of c.args.it.now.condition) (acts_of (all_acts c.args.body.now)))) _
+    c.in_err-count.field-0.0 _ _ c.in_err-count.ensures)
 
-pub returns-clause-meets : goal.returns-clause-meets
-returns-clause-meets g c =
-    let fs = c.args.here.now.setting.funcs.now in
-    let d = c.args.here.now.setting.depth in
-    let c0 = core_of c.args.run.now in
-    let h0 = meter_of c.args.run.now (g.K.Sink.written c.args.sink.now) in
-    let c1 = core_of c.turns_of.new.run in
-    let h1 = meter_of c.turns_of.new.run (g.K.Sink.written c.turns_of.new.sink) in
-    let c2 = core_of c.exec_turns.new.run in
-    let h2 = meter_of c.exec_turns.new.run (g.K.Sink.written c.exec_turns.new.sink) in
-    goes_met exit_of fs d _ _ _ (limit_evaluated fs d c.args.span (maybe_tree c.args.it.now.limit) c0 (turn_until true c.args.span (tree_of c.args.it.now.condition) (acts_of (all_acts c.args.body.now)))) h0 c.in_ok-count.count c1 h1 c.in_ok-count.ensures.meets c.exec_turns.result c2 h2 c.exec_turns.ensures.meets
+pub returns : goal.returns
+returns g c =
+    let h = g.N.Nodes.setting c.args.here.now in
+    met (λ n. n) exit_of h.funcs.now h.depth _ _ _ (limit_evaluated h.funcs.now h.depth c.args.span
+    (maybe_tree c.args.it.now.limit) (core_of c.args.run.now)
+    (turn_until true c.args.span (tree_of c.args.it.now.condition) (acts_of (all_acts c.args.body.now)))) _ c.in_ok-count.count
+    c.exec_turns.result _ _ _ c.in_ok-count.ensures c.exec_turns.ensures

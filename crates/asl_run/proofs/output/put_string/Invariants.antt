@@ -1,6 +1,6 @@
 use Rattle.std.proofs.Common.{◌≡◌, length}
 use Rattle.asl_rules.specs.values.Strings.{string_text, unescaped}
-use Rattle.asl_run.specs.Meets.{WroteFront}
+use Rattle.asl_branches.specs.Meets.{WroteFront}
 use Rattle.asl_run.proofs.output.put_string.Given as goal
 
 -- all was written but for what is left
