@@ -1,4 +1,6 @@
 //! The host's files and its standard output, and files and sinks in memory.
+ghost use Rattle.std.specs.Prelude.{◌<◌};
+
 use asl_io::{
     HostFiles, HostSink, MemFiles, MemSink, ReadAnswer, SureFiles, SureSink, put_all, read_file,
 };
@@ -45,7 +47,9 @@ fn one_file(alloc: Global, name: &str, bytes: &[u8]) -> Result<Vec<(String, Vec<
 }
 
 /// Whether memory gives a file in pieces, and says which is too long and which isn't there.
-fn memory_gives(alloc: Global, piece: usize) -> Result<bool, AllocError> {
+fn memory_gives(alloc: Global, piece: usize) -> Result<bool, AllocError>
+    requires { 0 < piece }
+{
     let held = one_file(alloc, "a", b"hello")?;
     let mut files = MemFiles::new(held, piece, Vec::new(alloc));
     let whole = read_file(alloc, &mut files, "a", 5);
