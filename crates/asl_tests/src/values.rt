@@ -40,7 +40,7 @@ enum Sample {
 
 /// A value that an operation gives.
 #[derive(Clone, Copy)]
-enum Found {
+enum Operation {
     /// The bits of a number at a width.
     Bits(i128, i128),
     /// The bits of a literal.
@@ -77,23 +77,23 @@ fn samples() -> &'static [(Sample, &'static str)] {
 }
 
 /// What operations give, with the texts. A record is constructed with its fields given the other way round.
-const OPERATIONS: &[(Found, &str)] = &[
-    (Found::Bits(0, 0), "''"),
-    (Found::Literal("''"), "''"),
-    (Found::Bits(10, 4), "'1010'"),
-    (Found::Literal("'10 10'"), "'1010'"),
-    (Found::Bits(1, 4), "'0001'"),
-    (Found::Literal("'0 001'"), "'0001'"),
-    (Found::Bits(-2, 3), "'110'"),
-    (Found::Literal("'110'"), "'110'"),
-    (Found::Negated, "-7"),
-    (Found::FirstPart, "Point{x=[3, 4], y=-2}"),
-    (Found::Constructed, "Point{x=1, y=TRUE}"),
-    (Found::LastField, "TRUE"),
-    (Found::SecondElement, "4"),
+const OPERATIONS: &[(Operation, &str)] = &[
+    (Operation::Bits(0, 0), "''"),
+    (Operation::Literal("''"), "''"),
+    (Operation::Bits(10, 4), "'1010'"),
+    (Operation::Literal("'10 10'"), "'1010'"),
+    (Operation::Bits(1, 4), "'0001'"),
+    (Operation::Literal("'0 001'"), "'0001'"),
+    (Operation::Bits(-2, 3), "'110'"),
+    (Operation::Literal("'110'"), "'110'"),
+    (Operation::Negated, "-7"),
+    (Operation::FirstPart, "Point{x=[3, 4], y=-2}"),
+    (Operation::Constructed, "Point{x=1, y=TRUE}"),
+    (Operation::LastField, "TRUE"),
+    (Operation::SecondElement, "4"),
 ];
 
-fn operations() -> &'static [(Found, &'static str)] {
+fn operations() -> &'static [(Operation, &'static str)] {
     OPERATIONS
 }
 
@@ -192,7 +192,7 @@ fn gives<E: Drop>(alloc: Global, found: Result<Value, E>, text: &str) -> bool {
     }
 }
 
-fn sample(alloc: Global, sample: Sample) -> Result<Value, AllocError> {
+fn sampled(alloc: Global, sample: Sample) -> Result<Value, AllocError> {
     match sample {
         Sample::Int(number) => Ok(Value::Int(number)),
         Sample::Bool(truth) => Ok(Value::Bool(truth)),
@@ -266,15 +266,15 @@ fn bits(alloc: Global, number: i128, width: i128) -> Result<Value, Failure> {
     }
 }
 
-fn found(alloc: Global, operation: Found) -> Result<Value, Failure> {
+fn result_of(alloc: Global, operation: Operation) -> Result<Value, Failure> {
     match operation {
-        Found::Bits(number, width) => bits(alloc, number, width),
-        Found::Literal(text) => literal_bits(alloc, HERE, text.as_bytes()),
-        Found::Negated => negated(alloc),
-        Found::FirstPart => first_part(alloc),
-        Found::Constructed => constructed(alloc),
-        Found::LastField => last_field(alloc),
-        Found::SecondElement => second_element(alloc),
+        Operation::Bits(number, width) => bits(alloc, number, width),
+        Operation::Literal(text) => literal_bits(alloc, HERE, text.as_bytes()),
+        Operation::Negated => negated(alloc),
+        Operation::FirstPart => first_part(alloc),
+        Operation::Constructed => constructed(alloc),
+        Operation::LastField => last_field(alloc),
+        Operation::SecondElement => second_element(alloc),
     }
 }
 
@@ -291,10 +291,10 @@ fn compares(alloc: Global, enumeration: &str, own: &str, want: Option<bool>) -> 
 fn values_are_written(rt: HostRuntime) {
     let alloc = rt.alloc();
     for &(value, text) in samples() {
-        assert!(rt; gives(alloc, sample(alloc, value), text), "{text}");
+        assert!(rt; gives(alloc, sampled(alloc, value), text), "{text}");
     }
     for &(operation, text) in operations() {
-        assert!(rt; gives(alloc, found(alloc, operation), text), "{text}");
+        assert!(rt; gives(alloc, result_of(alloc, operation), text), "{text}");
     }
     for (enumeration, own, want) in LABELS {
         assert!(rt; compares(alloc, enumeration, own, want), "{own}");
