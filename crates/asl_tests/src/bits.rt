@@ -8,33 +8,84 @@ const TOO_MANY: i128 = WIDTH_LIMIT as i128 + 1;
 /// A number, or why there are no bits.
 type Answer = Result<i128, BitsRefused>;
 
+/// What must be true of bitvectors, which are given by a number and a width.
+#[derive(Clone, Copy)]
+enum Fact {
+    /// A number and its width, where a slice begins and its width, and what the slice shows.
+    Slice(i128, i128, i128, i128, Answer),
+    /// Three bits, four bits, all of them, and the four with the three at the place 1; at the place 2 they are out of range.
+    Join(i128, i128, i128, i128),
+    /// A number and its width, what it shows in eight bits with zeros before it and with its sign before it, and in two's complement.
+    Extend(i128, i128, Option<i128>, Option<i128>, Option<i128>),
+    /// Two numbers and a width, what AND, OR and XOR give, the sum and the difference, and NOT of the first.
+    Work(i128, i128, i128, (i128, i128, i128), (i128, i128), i128),
+    /// An integer, where a slice begins and its width, and what the slice shows, None where there is none.
+    SliceOfInteger(i128, i128, i128, Option<i128>),
+    /// What zeros of a width show.
+    Zeros(i128, Answer),
+    /// What ones of a width show in two's complement.
+    Ones(i128, Answer),
+}
+
+const FACTS: &[Fact] = &[
+    Fact::Slice(10, 4, 2, 2, Ok(2)),
+    Fact::Slice(10, 4, 4, 0, Ok(0)),
+    Fact::Slice(10, 4, 0, 4, Ok(10)),
+    Fact::Slice(10, 4, 3, 2, Err(BitsRefused::OutOfRange)),
+    Fact::Slice(10, 4, -1, 2, Err(BitsRefused::OutOfRange)),
+    Fact::Slice(10, 4, 5, 0, Err(BitsRefused::OutOfRange)),
+    Fact::Slice(10, 4, 0, -1, Err(BitsRefused::TooWide)),
+    Fact::Slice(10, 4, -1, TOO_MANY, Err(BitsRefused::TooWide)),
+    Fact::Slice(0x1234_5678_9abc_def0, 64, 36, 12, Ok(0x567)),
+    Fact::Join(0b101, 0b1100, 0b101_1100, 0b1010),
+    Fact::Join(0b000, 0b1111, 0b000_1111, 0b0001),
+    Fact::Join(0b111, 0b0000, 0b111_0000, 0b1110),
+    Fact::Extend(10, 4, Some(10), Some(250), Some(-6)),
+    Fact::Extend(5, 4, Some(5), Some(5), Some(5)),
+    Fact::Extend(0, 0, Some(0), Some(0), Some(0)),
+    Fact::Extend(ONES_64, 64, None, None, Some(-1)),
+    Fact::Work(
+        0b1100,
+        0b1010,
+        4,
+        (0b1000, 0b1110, 0b0110),
+        (0b0110, 0b0010),
+        0b0011,
+    ),
+    Fact::Work(
+        0b0000,
+        0b0001,
+        4,
+        (0b0000, 0b0001, 0b0001),
+        (0b0001, 0b1111),
+        0b1111,
+    ),
+    Fact::Work(
+        ONES_64,
+        1,
+        64,
+        (1, ONES_64, ONES_64 - 1),
+        (0, ONES_64 - 1),
+        0,
+    ),
+    Fact::SliceOfInteger(-1, 0, 5, Some(31)),
+    Fact::SliceOfInteger(-8, 1, 4, Some(12)),
+    Fact::SliceOfInteger(-8, 1000, 4, Some(15)),
+    Fact::SliceOfInteger(6, 1, 2, Some(3)),
+    Fact::SliceOfInteger(6, -1, 2, None),
+    Fact::Zeros(5, Ok(0)),
+    Fact::Zeros(-1, Err(BitsRefused::TooWide)),
+    Fact::Ones(TOO_MANY, Err(BitsRefused::TooWide)),
+    Fact::Ones(128, Ok(-1)),
+];
+
+fn facts() -> &'static [Fact] {
+    FACTS
+}
+
 /// The number that a slice of the bits of a number shows.
 fn sliced(value: i128, width: i128, low: i128, count: i128) -> Answer {
     Bits::from_int(value, width)?.slice(low, count)?.uint()
-}
-
-/// A number and its width, where a slice begins and its width, and what the slice shows.
-const SLICES: &[(i128, i128, i128, i128, Answer)] = &[
-    (10, 4, 2, 2, Ok(2)),
-    (10, 4, 4, 0, Ok(0)),
-    (10, 4, 0, 4, Ok(10)),
-    (10, 4, 3, 2, Err(BitsRefused::OutOfRange)),
-    (10, 4, -1, 2, Err(BitsRefused::OutOfRange)),
-    (10, 4, 5, 0, Err(BitsRefused::OutOfRange)),
-    (10, 4, 0, -1, Err(BitsRefused::TooWide)),
-    (10, 4, -1, TOO_MANY, Err(BitsRefused::TooWide)),
-    (0x1234_5678_9abc_def0, 64, 36, 12, Ok(0x567)),
-];
-
-fn slices_of() -> &'static [(i128, i128, i128, i128, Answer)] {
-    SLICES
-}
-
-#[test]
-fn slices(rt: HostRuntime) {
-    for &(value, width, low, count, want) in slices_of() {
-        assert_eq!(rt; sliced(value, width, low, count), want);
-    }
 }
 
 /// What three bits before four show, and the three at a place of the four.
@@ -45,19 +96,8 @@ fn joined(high: i128, low: i128, place: i128) -> Result<(i128, i128), BitsRefuse
     Ok((all, low.with_slice(place, &high)?.uint()?))
 }
 
-/// Three bits, four bits, all of them, and the four with the three at the place 1.
-const JOINED: [(i128, i128, i128, i128); 3] = [
-    (0b101, 0b1100, 0b101_1100, 0b1010),
-    (0b000, 0b1111, 0b000_1111, 0b0001),
-    (0b111, 0b0000, 0b111_0000, 0b1110),
-];
-
-#[test]
-fn joins_and_replaces(rt: HostRuntime) {
-    for (high, low, all, put) in JOINED {
-        assert_eq!(rt; joined(high, low, 1), Ok((all, put)));
-        assert_eq!(rt; joined(high, low, 2), Err(BitsRefused::OutOfRange));
-    }
+fn joins(high: i128, low: i128, all: i128, put: i128) -> bool {
+    joined(high, low, 1) == Ok((all, put)) && joined(high, low, 2) == Err(BitsRefused::OutOfRange)
 }
 
 /// The number that the bits of a number show once they are eight.
@@ -69,27 +109,6 @@ fn extended(value: i128, width: i128, is_signed: bool) -> Option<i128> {
 /// The number of these bits in two's complement.
 fn signed(value: i128, width: i128) -> Option<i128> {
     Bits::from_int(value, width).ok()?.sint().ok()
-}
-
-/// A number and its width, what it shows with zeros before it, with its sign before it, and in two's complement.
-const EXTENDED: &[(i128, i128, Option<i128>, Option<i128>, Option<i128>)] = &[
-    (10, 4, Some(10), Some(250), Some(-6)),
-    (5, 4, Some(5), Some(5), Some(5)),
-    (0, 0, Some(0), Some(0), Some(0)),
-    (ONES_64, 64, None, None, Some(-1)),
-];
-
-fn extensions() -> &'static [(i128, i128, Option<i128>, Option<i128>, Option<i128>)] {
-    EXTENDED
-}
-
-#[test]
-fn extends(rt: HostRuntime) {
-    for &(value, width, zeros, signs, sint) in extensions() {
-        let found = (extended(value, width, false), extended(value, width, true));
-        assert_eq!(rt; found, (zeros, signs));
-        assert_eq!(rt; signed(value, width), sint);
-    }
 }
 
 /// What AND, OR and XOR give of two bitvectors of one width that differ.
@@ -117,74 +136,23 @@ fn both(left: i128, right: i128, width: i128) -> Option<(Bits, Bits)> {
     Some((left, Bits::from_int(right, width).ok()?))
 }
 
-/// Two numbers and a width, what AND, OR and XOR give, the sum and the difference, and NOT of the first.
-const WORKED: &[(i128, i128, i128, (i128, i128, i128), (i128, i128), i128)] = &[
-    (
-        0b1100,
-        0b1010,
-        4,
-        (0b1000, 0b1110, 0b0110),
-        (0b0110, 0b0010),
-        0b0011,
-    ),
-    (
-        0b0000,
-        0b0001,
-        4,
-        (0b0000, 0b0001, 0b0001),
-        (0b0001, 0b1111),
-        0b1111,
-    ),
-    (
-        ONES_64,
-        1,
-        64,
-        (1, ONES_64, ONES_64 - 1),
-        (0, ONES_64 - 1),
-        0,
-    ),
-];
-
-fn pairs() -> &'static [(i128, i128, i128, (i128, i128, i128), (i128, i128), i128)] {
-    WORKED
-}
-
-#[test]
-fn works_place_by_place(rt: HostRuntime) {
-    for &(left, right, width, places, carried, not) in pairs() {
-        let (left, right) = both(left, right, width).expect(&rt, "two bitvectors");
-        assert_eq!(rt; by_places(&left, &right), Some(places));
-        assert_eq!(rt; with_carries(&left, &right), Some(carried));
-        assert_eq!(rt; left.not().uint(), Ok(not));
-        assert_eq!(rt; left.copy().uint(), left.uint());
-    }
+/// Whether two bitvectors give these numbers by places, with carries, and by NOT of the first, of which a copy is the same.
+fn work_so(
+    left: &Bits,
+    right: &Bits,
+    places: (i128, i128, i128),
+    carried: (i128, i128),
+    not: i128,
+) -> bool {
+    by_places(left, right) == Some(places)
+        && with_carries(left, right) == Some(carried)
+        && left.not().uint() == Ok(not)
+        && left.copy().uint() == left.uint()
 }
 
 /// The number that a slice of an integer shows.
 fn sliced_int(value: i128, low: i128, count: i128) -> Option<i128> {
     Bits::slice_int(value, low, count).ok()?.uint().ok()
-}
-
-/// An integer, where a slice begins and its width, and what the slice shows, None where there is none.
-const INTEGERS: &[(i128, i128, i128, Option<i128>)] = &[
-    (-1, 0, 5, Some(31)),
-    (-8, 1, 4, Some(12)),
-    (-8, 1000, 4, Some(15)),
-    (6, 1, 2, Some(3)),
-    (6, -1, 2, None),
-];
-
-fn integers() -> &'static [(i128, i128, i128, Option<i128>)] {
-    INTEGERS
-}
-
-#[test]
-fn takes_integers(rt: HostRuntime) {
-    for &(value, low, count, want) in integers() {
-        assert_eq!(rt; sliced_int(value, low, count), want);
-    }
-    number_law();
-    signed_law();
 }
 
 /// The number that zeros show.
@@ -207,11 +175,31 @@ fn holds_128() -> bool {
     }
 }
 
+fn holds(fact: Fact) -> bool {
+    match fact {
+        Fact::Slice(value, width, low, count, want) => sliced(value, width, low, count) == want,
+        Fact::Join(high, low, all, put) => joins(high, low, all, put),
+        Fact::Extend(value, width, zeros, signs, sint) => {
+            extended(value, width, false) == zeros
+                && extended(value, width, true) == signs
+                && signed(value, width) == sint
+        }
+        Fact::Work(left, right, width, places, carried, not) => match both(left, right, width) {
+            Some((left, right)) => work_so(&left, &right, places, carried, not),
+            None => false,
+        },
+        Fact::SliceOfInteger(value, low, count, want) => sliced_int(value, low, count) == want,
+        Fact::Zeros(width, want) => zeros(width) == want,
+        Fact::Ones(width, want) => ones(width) == want,
+    }
+}
+
 #[test]
-fn zeros_and_ones(rt: HostRuntime) {
-    assert_eq!(rt; zeros(5), Ok(0));
-    assert_eq!(rt; zeros(-1), Err(BitsRefused::TooWide));
-    assert_eq!(rt; ones(TOO_MANY), Err(BitsRefused::TooWide));
-    assert_eq!(rt; ones(128), Ok(-1));
+fn facts_of_bits(rt: HostRuntime) {
+    for (place, fact) in facts().iter().enumerate() {
+        assert!(rt; holds(*fact), "fact {place}");
+    }
     assert!(rt; holds_128());
+    number_law();
+    signed_law();
 }

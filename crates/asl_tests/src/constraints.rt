@@ -3,33 +3,21 @@ use asl_cons::{Cons, End, Part, Ranges, arithmetic_law, inclusion_law};
 use asl_poly::{Atom, Poly, PolyRefused};
 use std::alloc::{AllocError, Global};
 
-/// The ends of constant parts.
-type Spans = &'static [(i128, i128)];
-
-/// The constraint of these constant parts, whole where there are none.
-fn ints(alloc: Global, spans: &[(i128, i128)]) -> Result<Cons, AllocError> {
-    let mut parts = Vec::new(alloc);
-    for (low, high) in spans {
-        parts.push(Part {
-            low: End::Int(*low),
-            high: End::Int(*high),
-        })?;
-    }
-    Cons::from_parts(alloc, parts)
-}
-
-/// Whether a constraint has these parts, in some order.
-fn is(alloc: Global, found: &Cons, spans: &[(i128, i128)]) -> bool {
-    match ints(alloc, spans) {
-        Ok(wanted) => {
-            found.parts().len() == spans.len() && found.below(&wanted) && wanted.below(found)
-        }
-        Err(_) => false,
-    }
+/// The parts of a constraint.
+#[derive(Clone, Copy)]
+enum Parts {
+    /// Constant parts, by their ends; the constraint is whole where there are none.
+    Ints(&'static [(i128, i128)]),
+    /// One part, from an integer to an atom and an integer.
+    UpTo(i128, u128, i128),
+    /// One atom alone.
+    Point(u128),
 }
 
 #[derive(Clone, Copy)]
 enum Operator {
+    /// The left side as it is.
+    Left,
     Union,
     Add,
     Subtract,
@@ -40,128 +28,166 @@ enum Operator {
     ShiftRight,
 }
 
-fn apply(
-    alloc: Global,
-    operator: Operator,
-    left: &[(i128, i128)],
-    right: &[(i128, i128)],
-) -> Result<Cons, AllocError> {
-    let left = ints(alloc, left)?;
-    let right = ints(alloc, right)?;
-    match operator {
-        Operator::Union => left.union(alloc, &right),
-        Operator::Add => left.add(alloc, &right),
-        Operator::Subtract => left.sub(alloc, &right),
-        Operator::Multiply => left.mul(alloc, &right),
-        Operator::Modulo => left.modulo(alloc, &right),
-        Operator::DivideFloor => left.div_floor(alloc, &right),
-        Operator::ShiftLeft => left.shl(alloc, &right),
-        Operator::ShiftRight => left.shr(alloc, &right),
-    }
-}
-
-/// Whether an operator gives these parts, and a copy of them has them too.
-fn applies(alloc: Global, row: &(Operator, Spans, Spans, Spans)) -> Result<bool, AllocError> {
-    let (operator, left, right, want) = *row;
-    let found = apply(alloc, operator, left, right)?;
-    let same = found.copy(alloc)?;
-    Ok(is(alloc, &found, want) && is(alloc, &same, want))
-}
-
-/// Operators, the constant parts on both sides, and what they give.
-const APPLIED: &[(Operator, Spans, Spans, Spans)] = &[
+/// Operators, both sides, and what they give.
+const APPLIED: &[(Operator, Parts, Parts, Parts)] = &[
     (
         Operator::Add,
-        &[(1, 3)],
-        &[(8, 8), (3, 3)],
-        &[(9, 11), (4, 6)],
+        Parts::Ints(&[(1, 3)]),
+        Parts::Ints(&[(8, 8), (3, 3)]),
+        Parts::Ints(&[(9, 11), (4, 6)]),
     ),
-    (Operator::Subtract, &[(1, 3)], &[(-7, 7)], &[(-6, 10)]),
-    (Operator::Multiply, &[(-7, 7)], &[(-2, 3)], &[(-21, 21)]),
-    (Operator::Modulo, &[], &[(8, 8), (3, 3)], &[(0, 7), (0, 2)]),
-    (Operator::Modulo, &[(1, 3)], &[(0, 0)], &[]),
-    (Operator::DivideFloor, &[(-7, 7)], &[(2, 2)], &[(-4, 3)]),
-    (Operator::DivideFloor, &[(-7, 7)], &[(0, 0)], &[]),
-    (Operator::ShiftLeft, &[(1, 3)], &[(2, 2)], &[(4, 12)]),
-    (Operator::ShiftRight, &[(-7, 7)], &[(2, 2)], &[(-2, 1)]),
-    (Operator::Union, &[(1, 3)], &[(2, 2)], &[(1, 3), (2, 2)]),
-    (Operator::Union, &[], &[(2, 2)], &[]),
-    (Operator::Add, &[(i128::MAX, i128::MAX)], &[(2, 2)], &[]),
+    (
+        Operator::Subtract,
+        Parts::Ints(&[(1, 3)]),
+        Parts::Ints(&[(-7, 7)]),
+        Parts::Ints(&[(-6, 10)]),
+    ),
+    (
+        Operator::Multiply,
+        Parts::Ints(&[(-7, 7)]),
+        Parts::Ints(&[(-2, 3)]),
+        Parts::Ints(&[(-21, 21)]),
+    ),
+    (
+        Operator::Modulo,
+        Parts::Ints(&[]),
+        Parts::Ints(&[(8, 8), (3, 3)]),
+        Parts::Ints(&[(0, 7), (0, 2)]),
+    ),
+    (
+        Operator::Modulo,
+        Parts::Ints(&[(1, 3)]),
+        Parts::Ints(&[(0, 0)]),
+        Parts::Ints(&[]),
+    ),
+    (
+        Operator::DivideFloor,
+        Parts::Ints(&[(-7, 7)]),
+        Parts::Ints(&[(2, 2)]),
+        Parts::Ints(&[(-4, 3)]),
+    ),
+    (
+        Operator::DivideFloor,
+        Parts::Ints(&[(-7, 7)]),
+        Parts::Ints(&[(0, 0)]),
+        Parts::Ints(&[]),
+    ),
     (
         Operator::ShiftLeft,
-        &[(i128::MAX, i128::MAX)],
-        &[(2, 2)],
-        &[],
+        Parts::Ints(&[(1, 3)]),
+        Parts::Ints(&[(2, 2)]),
+        Parts::Ints(&[(4, 12)]),
+    ),
+    (
+        Operator::ShiftRight,
+        Parts::Ints(&[(-7, 7)]),
+        Parts::Ints(&[(2, 2)]),
+        Parts::Ints(&[(-2, 1)]),
+    ),
+    (
+        Operator::Union,
+        Parts::Ints(&[(1, 3)]),
+        Parts::Ints(&[(2, 2)]),
+        Parts::Ints(&[(1, 3), (2, 2)]),
+    ),
+    (
+        Operator::Union,
+        Parts::Ints(&[]),
+        Parts::Ints(&[(2, 2)]),
+        Parts::Ints(&[]),
+    ),
+    (
+        Operator::Add,
+        Parts::Ints(&[(i128::MAX, i128::MAX)]),
+        Parts::Ints(&[(2, 2)]),
+        Parts::Ints(&[]),
+    ),
+    (
+        Operator::ShiftLeft,
+        Parts::Ints(&[(i128::MAX, i128::MAX)]),
+        Parts::Ints(&[(2, 2)]),
+        Parts::Ints(&[]),
+    ),
+    // More than 64 parts are whole.
+    (
+        Operator::Left,
+        Parts::Ints(&[(1, 1); 65]),
+        Parts::Ints(&[]),
+        Parts::Ints(&[]),
+    ),
+    (
+        Operator::Union,
+        Parts::Ints(&[(1, 1); 64]),
+        Parts::Ints(&[(1, 1)]),
+        Parts::Ints(&[]),
+    ),
+    (
+        Operator::Add,
+        Parts::Ints(&[(1, 1); 9]),
+        Parts::Ints(&[(1, 1); 8]),
+        Parts::Ints(&[]),
+    ),
+    // Parts with names are moved and multiplied, and an end that loses its atoms is an integer.
+    (
+        Operator::Add,
+        Parts::UpTo(0, 5, 0),
+        Parts::Ints(&[(4, 4)]),
+        Parts::UpTo(4, 5, 4),
+    ),
+    (
+        Operator::Add,
+        Parts::UpTo(0, 5, 0),
+        Parts::Ints(&[(-7, -7)]),
+        Parts::UpTo(-7, 5, -7),
+    ),
+    (
+        Operator::Add,
+        Parts::UpTo(0, 5, 0),
+        Parts::Ints(&[(1 << 62, 1 << 62)]),
+        Parts::Ints(&[]),
+    ),
+    (
+        Operator::Multiply,
+        Parts::Ints(&[(1, 1)]),
+        Parts::UpTo(0, 5, 0),
+        Parts::UpTo(0, 5, 0),
+    ),
+    (
+        Operator::Multiply,
+        Parts::Ints(&[(-1, -1)]),
+        Parts::UpTo(0, 5, 0),
+        Parts::Ints(&[]),
+    ),
+    (
+        Operator::Subtract,
+        Parts::Point(5),
+        Parts::Point(5),
+        Parts::Ints(&[(0, 0)]),
     ),
 ];
 
-fn applications() -> &'static [(Operator, Spans, Spans, Spans)] {
+fn applications() -> &'static [(Operator, Parts, Parts, Parts)] {
     APPLIED
 }
 
-#[test]
-fn operators_on_constant_parts(rt: HostRuntime) {
-    for (place, row) in applications().iter().enumerate() {
-        assert_eq!(rt; applies(rt.alloc(), row), Ok(true), "row {place}");
-    }
-}
-
-/// The constraint of so many parts, each of them 1.
-fn ones(alloc: Global, count: u32) -> Result<Cons, AllocError> {
-    let mut parts = Vec::new(alloc);
-    for _ in 0..count {
-        let (low, high) = (End::Int(1), End::Int(1));
-        parts.push(Part { low, high })?;
-    }
-    Cons::from_parts(alloc, parts)
-}
-
-/// How many parts the union of so many and of one has.
-fn parts_of_union(alloc: Global, count: u32) -> Result<usize, AllocError> {
-    let left = ones(alloc, count)?;
-    Ok(left.union(alloc, &ones(alloc, 1)?)?.parts().len())
-}
-
-/// How many parts the sum of so many and so many has.
-fn parts_of_sum(alloc: Global, left: u32, right: u32) -> Result<usize, AllocError> {
-    let left = ones(alloc, left)?;
-    Ok(left.add(alloc, &ones(alloc, right)?)?.parts().len())
-}
-
-/// A constraint of no parts is whole.
-#[test]
-fn more_than_64_parts_are_whole(rt: HostRuntime) {
-    let alloc = rt.alloc();
-    assert_eq!(rt; parts_of_union(alloc, 64), Ok(0));
-    assert_eq!(rt; parts_of_sum(alloc, 9, 8), Ok(0));
-    assert!(rt; ones(alloc, 65).expect(&rt, "memory").parts().is_empty());
-    assert!(rt; Cons::whole(alloc).parts().is_empty());
-}
-
-fn is_below(alloc: Global, left: &[(i128, i128)], right: &[(i128, i128)]) -> Option<bool> {
-    Some(ints(alloc, left).ok()?.below(&ints(alloc, right).ok()?))
-}
-
-const INCLUDED: &[(Spans, Spans, bool)] = &[
-    (&[(1, 3)], &[(1, 1), (3, 3)], false),
-    (&[(1, 3)], &[(3, 9), (0, 2)], true),
-    (&[(3, 1)], &[(8, 8)], true),
-    (&[(1, 3)], &[], true),
-    (&[], &[(1, 3)], false),
+/// Two constraints, and whether the first is below the second.
+const INCLUDED: &[(Parts, Parts, bool)] = &[
+    (
+        Parts::Ints(&[(1, 3)]),
+        Parts::Ints(&[(1, 1), (3, 3)]),
+        false,
+    ),
+    (Parts::Ints(&[(1, 3)]), Parts::Ints(&[(3, 9), (0, 2)]), true),
+    (Parts::Ints(&[(3, 1)]), Parts::Ints(&[(8, 8)]), true),
+    (Parts::Ints(&[(1, 3)]), Parts::Ints(&[]), true),
+    (Parts::Ints(&[]), Parts::Ints(&[(1, 3)]), false),
+    (Parts::UpTo(0, 5, 0), Parts::UpTo(-1, 5, 2), true),
+    (Parts::UpTo(-1, 5, 2), Parts::UpTo(0, 5, 0), false),
+    (Parts::UpTo(0, 5, 0), Parts::UpTo(0, 6, 0), false),
 ];
 
-fn inclusions() -> &'static [(Spans, Spans, bool)] {
+fn inclusions() -> &'static [(Parts, Parts, bool)] {
     INCLUDED
-}
-
-#[test]
-fn constant_parts_are_included(rt: HostRuntime) {
-    for &(left, right, want) in inclusions() {
-        let found = is_below(rt.alloc(), left, right);
-        assert_eq!(rt; found, Some(want), "{left:?} {right:?}");
-    }
-    inclusion_law();
-    arithmetic_law();
 }
 
 /// An atom and an integer.
@@ -169,101 +195,134 @@ fn atom_and(alloc: Global, atom: u128, more: i128) -> Result<Poly, PolyRefused> 
     Poly::atom(alloc, Atom(atom))?.add(alloc, &Poly::constant(alloc, more)?)
 }
 
-/// The constraint from an integer to an atom and an integer.
-fn up_to(alloc: Global, low: i128, atom: u128, more: i128) -> Option<Cons> {
-    let high = End::Width(atom_and(alloc, atom, more).ok()?);
-    let low = End::Int(low);
-    let parts = Vec::from_array(alloc, [Part { low, high }]).ok()?;
+fn constant_parts(alloc: Global, spans: &[(i128, i128)]) -> Result<Vec<Part>, AllocError> {
+    let mut parts = Vec::new(alloc);
+    for &(low, high) in spans {
+        parts.push(Part {
+            low: End::Int(low),
+            high: End::Int(high),
+        })?;
+    }
+    Ok(parts)
+}
+
+fn one_part(alloc: Global, low: End, high: End) -> Option<Vec<Part>> {
+    Vec::from_array(alloc, [Part { low, high }]).ok()
+}
+
+/// The constraint of these parts.
+fn constraint(alloc: Global, parts: Parts) -> Option<Cons> {
+    let parts = match parts {
+        Parts::Ints(spans) => constant_parts(alloc, spans).ok()?,
+        Parts::UpTo(low, atom, more) => {
+            let high = End::Width(atom_and(alloc, atom, more).ok()?);
+            one_part(alloc, End::Int(low), high)?
+        }
+        Parts::Point(atom) => {
+            let low = atom_and(alloc, atom, 0).ok()?;
+            let high = atom_and(alloc, atom, 0).ok()?;
+            one_part(alloc, End::Width(low), End::Width(high))?
+        }
+    };
     Cons::from_parts(alloc, parts).ok()
 }
 
-/// Whether a constraint is one part, from an integer to an atom and an integer.
-fn goes_up_to(alloc: Global, found: &Cons, low: i128, atom: u128, more: i128) -> bool {
-    match up_to(alloc, low, atom, more) {
-        Some(wanted) => { found.parts().len() == 1 && found.below(&wanted) && wanted.below(found) }
-        None => false,
+/// How many of the ends are integers.
+fn integer_ends(parts: &[Part]) -> usize {
+    let mut count = 0usize;
+    for part in parts {
+        for end in [&part.low, &part.high] {
+            if matches!(end, End::Int(_)) {
+                count = count.saturating_add(1);
+            }
+        }
+    }
+    count
+}
+
+/// How many parts these are, and how many of their ends are integers.
+fn counts(parts: Parts) -> (usize, usize) {
+    match parts {
+        Parts::Ints(spans) => (spans.len(), spans.len().saturating_mul(2)),
+        Parts::UpTo(_, _, _) => (1, 1),
+        Parts::Point(_) => (1, 0),
     }
 }
 
-#[test]
-fn parts_with_names_are_included(rt: HostRuntime) {
-    let alloc = rt.alloc();
-    let n = up_to(alloc, 0, 5, 0).expect(&rt, "memory");
-    let wider = up_to(alloc, -1, 5, 2).expect(&rt, "memory");
-    let other = up_to(alloc, 0, 6, 0).expect(&rt, "memory");
-    assert!(rt; n.below(&wider) && !wider.below(&n));
-    assert!(rt; !n.below(&other));
+/// Whether a constraint has these parts, in some order.
+fn is(alloc: Global, found: &Cons, want: Parts) -> Option<bool> {
+    let parts = found.parts();
+    let wanted = constraint(alloc, want)?;
+    Some(
+        (parts.len(), integer_ends(parts)) == counts(want)
+            && found.below(&wanted)
+            && wanted.below(found),
+    )
 }
 
-/// Whether `{0..n}` and an integer are the part from this integer to `n` and it.
-fn is_moved(alloc: Global, n: &Cons, by: i128) -> Result<bool, AllocError> {
-    let sum = n.add(alloc, &ints(alloc, &[(by, by)])?)?;
-    Ok(goes_up_to(alloc, &sum, by, 5, by))
+fn apply(alloc: Global, operator: Operator, left: &Cons, right: &Cons) -> Result<Cons, AllocError> {
+    match operator {
+        Operator::Left => left.copy(alloc),
+        Operator::Union => left.union(alloc, right),
+        Operator::Add => left.add(alloc, right),
+        Operator::Subtract => left.sub(alloc, right),
+        Operator::Multiply => left.mul(alloc, right),
+        Operator::Modulo => left.modulo(alloc, right),
+        Operator::DivideFloor => left.div_floor(alloc, right),
+        Operator::ShiftLeft => left.shl(alloc, right),
+        Operator::ShiftRight => left.shr(alloc, right),
+    }
 }
 
-/// Whether the sum of a constraint and an integer is whole.
-fn is_whole_with(alloc: Global, n: &Cons, by: i128) -> Result<bool, AllocError> {
-    Ok(n.add(alloc, &ints(alloc, &[(by, by)])?)?.parts().is_empty())
-}
-
-#[test]
-fn parts_with_names_are_moved(rt: HostRuntime) {
-    let alloc = rt.alloc();
-    let n = up_to(alloc, 0, 5, 0).expect(&rt, "memory");
-    assert_eq!(rt; is_moved(alloc, &n, 4), Ok(true));
-    assert_eq!(rt; is_moved(alloc, &n, -7), Ok(true));
-    assert_eq!(rt; is_whole_with(alloc, &n, 1 << 62), Ok(true));
-}
-
-/// An integer times a constraint.
-fn times(alloc: Global, by: i128, n: &Cons) -> Result<Cons, AllocError> {
-    ints(alloc, &[(by, by)])?.mul(alloc, n)
-}
-
-#[test]
-fn parts_with_names_are_multiplied(rt: HostRuntime) {
-    let alloc = rt.alloc();
-    let n = up_to(alloc, 0, 5, 0).expect(&rt, "memory");
-    let same = times(alloc, 1, &n).expect(&rt, "memory");
-    assert!(rt; goes_up_to(alloc, &same, 0, 5, 0));
-    assert!(rt;
-        times(alloc, -1, &n)
-            .expect(&rt, "memory")
-            .parts()
-            .is_empty()
-    );
-}
-
-/// The constraint of one atom alone.
-fn point(alloc: Global) -> Option<Cons> {
-    let low = End::Width(Poly::atom(alloc, Atom(5)).ok()?);
-    let high = End::Width(Poly::atom(alloc, Atom(5)).ok()?);
-    let parts = Vec::from_array(alloc, [Part { low, high }]).ok()?;
-    Cons::from_parts(alloc, parts).ok()
+/// Whether an operator gives these parts, and a copy of them has them too.
+fn applies(alloc: Global, row: &(Operator, Parts, Parts, Parts)) -> Option<bool> {
+    let (operator, left, right, want) = *row;
+    let left = constraint(alloc, left)?;
+    let right = constraint(alloc, right)?;
+    let found = apply(alloc, operator, &left, &right).ok()?;
+    let same = found.copy(alloc).ok()?;
+    Some(is(alloc, &found, want)? && is(alloc, &same, want)?)
 }
 
 #[test]
-fn an_end_that_loses_its_atoms_is_an_integer(rt: HostRuntime) {
-    let alloc = rt.alloc();
-    let point = point(alloc).expect(&rt, "memory");
-    let lost = point.sub(alloc, &point).expect(&rt, "memory");
-    assert!(rt;
-        matches!(
-            lost.parts(),
-            [Part {
-                low: End::Int(0),
-                high: End::Int(0)
-            }]
-        )
-    );
+fn operators_on_parts(rt: HostRuntime) {
+    for (place, row) in applications().iter().enumerate() {
+        assert_eq!(rt; applies(rt.alloc(), row), Some(true), "row {place}");
+    }
+    assert!(rt; Cons::whole(rt.alloc()).parts().is_empty());
+}
+
+fn is_below(alloc: Global, left: Parts, right: Parts) -> Option<bool> {
+    Some(constraint(alloc, left)?.below(&constraint(alloc, right)?))
+}
+
+#[test]
+fn parts_are_included(rt: HostRuntime) {
+    for (place, row) in inclusions().iter().enumerate() {
+        let (left, right, want) = *row;
+        assert_eq!(rt;
+            is_below(rt.alloc(), left, right),
+            Some(want),
+            "row {place}"
+        );
+    }
+    inclusion_law();
+    arithmetic_law();
+}
+
+/// Whether ranges of which more and more come begin and hold what they must.
+fn are_ranges(alloc: Global) -> Result<bool, AllocError> {
+    let mut ranges = Ranges::new(alloc);
+    for ((low, high), first) in [((5, 3), None), ((7, 9), Some(7)), ((-1, 1), Some(0))] {
+        ranges.push(low, high)?;
+        if ranges.first() != first {
+            return Ok(false);
+        }
+    }
+    Ok(ranges.has(9) && !ranges.has(10) && !ranges.has(4))
 }
 
 #[test]
 fn ranges_at_one_moment(rt: HostRuntime) {
-    let mut ranges = Ranges::new(rt.alloc());
-    for ((low, high), first) in [((5, 3), None), ((7, 9), Some(7)), ((-1, 1), Some(0))] {
-        ranges.push(low, high).expect(&rt, "memory");
-        assert_eq!(rt; ranges.first(), first);
-    }
-    assert!(rt; ranges.has(9) && !ranges.has(10) && !ranges.has(4));
+    assert_eq!(rt; are_ranges(rt.alloc()), Ok(true));
 }

@@ -2,6 +2,138 @@
 use asl_poly::{Atom, Poly, PolyRefused, law4};
 use std::alloc::Global;
 
+/// How a polynomial is made, of those that were made before it, by their places.
+#[derive(Clone, Copy)]
+enum Step {
+    Number(i128),
+    /// The atom of this number.
+    Name(u128),
+    /// The sum of the first so many atoms, and a number.
+    Sum(u128, i128),
+    Add(usize, usize),
+    Subtract(usize, usize),
+    Multiply(usize, usize),
+    /// A polynomial with these in place of atoms, by the numbers of the atoms.
+    Replace(usize, &'static [(u128, usize)]),
+}
+
+/// What must be true of the polynomials that were made.
+#[derive(Clone, Copy)]
+enum Fact {
+    /// Two are the same, or not.
+    Same(usize, usize, bool),
+    /// One is this integer, or none.
+    Constant(usize, Option<i128>),
+    /// One is another and this integer, or not.
+    Offset(usize, usize, Option<i128>),
+    /// One has so many terms.
+    Terms(usize, u32),
+    /// The term at a place has this coefficient and so many atoms, or there is none.
+    Term(usize, u32, Option<(i128, usize)>),
+    /// What this step makes passes the limits.
+    TooLarge(Step),
+}
+
+/// The greatest weight.
+const HEAVIEST: i128 = 4611686018427387904;
+
+const CALCULATIONS: &[(&[Step], &[Fact])] = &[
+    // The second, the fourth and the fifth power of eight names and one. The coefficients of the fourth are 4! over the
+    // factorials of how often each of the nine is a factor.
+    (
+        &[
+            Step::Sum(8, 1),
+            Step::Multiply(0, 0),
+            Step::Multiply(1, 1),
+            Step::Multiply(1, 0),
+            Step::Multiply(3, 0),
+        ],
+        &[
+            Fact::Terms(1, 45),
+            Fact::Terms(2, 495),
+            Fact::Same(2, 4, true),
+            Fact::TooLarge(Step::Multiply(2, 0)),
+            Fact::Term(2, 0, Some((1, 4))),
+            Fact::Term(2, 1, Some((4, 4))),
+            Fact::Term(2, 493, Some((4, 1))),
+            Fact::Term(2, 494, Some((1, 0))),
+            Fact::Term(2, 495, None),
+        ],
+    ),
+    // A sum and a product, and their differences, are compared by values.
+    (
+        &[
+            Step::Name(7),
+            Step::Number(2),
+            Step::Add(0, 0),
+            Step::Multiply(1, 0),
+            Step::Subtract(2, 2),
+            Step::Subtract(2, 1),
+        ],
+        &[
+            Fact::Constant(1, Some(2)),
+            Fact::Same(2, 3, true),
+            Fact::Same(2, 0, false),
+            Fact::Constant(2, None),
+            Fact::Constant(4, Some(0)),
+            Fact::Offset(5, 2, Some(-2)),
+            Fact::Offset(2, 0, None),
+        ],
+    ),
+    // Two names change places: in a product, and at once in `2*n - m`.
+    (
+        &[
+            Step::Name(7),
+            Step::Name(2),
+            Step::Multiply(0, 1),
+            Step::Multiply(1, 0),
+            Step::Add(0, 0),
+            Step::Subtract(4, 1),
+            Step::Replace(5, &[(7, 1), (2, 0)]),
+            Step::Add(1, 1),
+            Step::Subtract(7, 0),
+        ],
+        &[Fact::Same(2, 3, true), Fact::Same(6, 8, true)],
+    ),
+    // Weights count before terms cancel.
+    (
+        &[Step::Name(0), Step::Number(HEAVIEST), Step::Multiply(1, 0)],
+        &[
+            Fact::TooLarge(Step::Number(HEAVIEST + 1)),
+            Fact::TooLarge(Step::Number(i128::MIN)),
+            Fact::TooLarge(Step::Subtract(2, 0)),
+        ],
+    ),
+    // Names count before terms cancel.
+    (
+        &[
+            Step::Sum(8, 0),
+            Step::Name(8),
+            Step::Name(0),
+            Step::Subtract(0, 2),
+        ],
+        &[Fact::TooLarge(Step::Subtract(0, 1)), Fact::Terms(3, 7)],
+    ),
+    // A term has at most four factors.
+    (
+        &[
+            Step::Name(0),
+            Step::Multiply(0, 0),
+            Step::Replace(1, &[(0, 1)]),
+            Step::Multiply(1, 1),
+        ],
+        &[
+            Fact::Terms(2, 1),
+            Fact::TooLarge(Step::Multiply(3, 0)),
+            Fact::TooLarge(Step::Replace(3, &[(0, 1)])),
+        ],
+    ),
+];
+
+fn calculations() -> &'static [(&'static [Step], &'static [Fact])] {
+    CALCULATIONS
+}
+
 /// The sum of the first `count` atoms and `constant`.
 fn sum_of(alloc: Global, count: u128, constant: i128) -> Result<Poly, PolyRefused> {
     let mut sum = Poly::constant(alloc, constant)?;
@@ -12,170 +144,76 @@ fn sum_of(alloc: Global, count: u128, constant: i128) -> Result<Poly, PolyRefuse
     Ok(sum)
 }
 
-fn square_of(alloc: Global, p: &Poly) -> Result<Poly, PolyRefused> {
-    p.mul(alloc, p)
+/// The polynomial at a place of the table, which has no others.
+fn at(made: &[Poly], place: usize) -> Result<&Poly, PolyRefused> {
+    made.get(place).ok_or(PolyRefused::NoMemory)
 }
 
-/// The fourth power, as a square of a square.
-fn fourth_of(alloc: Global, p: &Poly) -> Result<Poly, PolyRefused> {
-    let square = square_of(alloc, p)?;
-    square.mul(alloc, &square)
+fn replaced(
+    alloc: Global,
+    made: &[Poly],
+    place: usize,
+    by: &[(u128, usize)],
+) -> Result<Poly, PolyRefused> {
+    let mut pairs = Vec::new(alloc);
+    for &(atom, other) in by {
+        let pair = (Atom(atom), at(made, other)?.copy(alloc)?);
+        if pairs.push(pair).is_err() {
+            return Err(PolyRefused::NoMemory);
+        }
+    }
+    at(made, place)?.substitute(alloc, pairs.as_slice())
 }
 
-/// The fourth power, as a product of a cube.
-fn fourth_by_cube(alloc: Global, p: &Poly) -> Result<Poly, PolyRefused> {
-    let square = square_of(alloc, p)?;
-    let cube = square.mul(alloc, p)?;
-    cube.mul(alloc, p)
-}
-
-#[test]
-fn powers_of_eight_names_and_one(rt: HostRuntime) {
-    let alloc = rt.alloc();
-    let sum = sum_of(alloc, 8, 1).expect(&rt, "memory");
-    let square = square_of(alloc, &sum).expect(&rt, "memory");
-    assert_eq!(rt; square.terms(), 45);
-    let power = fourth_of(alloc, &sum).expect(&rt, "memory");
-    assert_eq!(rt; power.terms(), 495);
-    assert!(rt; power.same(&fourth_by_cube(alloc, &sum).expect(&rt, "memory")));
-    assert_eq!(rt; power.mul(alloc, &sum).err(), Some(PolyRefused::TooLarge));
-}
-
-/// A coefficient, and how many atoms its term has.
-fn term_at(p: &Poly, place: u32) -> Option<(i128, usize)> {
-    let term = p.term(place)?;
-    Some((term.0, term.1.len()))
-}
-
-/// Places of the fourth power of eight names and one. The coefficients are 4! over the factorials of how often each of the
-/// nine is a factor.
-const TERMS: &[(u32, Option<(i128, usize)>)] = &[
-    (0, Some((1, 4))),
-    (1, Some((4, 4))),
-    (493, Some((4, 1))),
-    (494, Some((1, 0))),
-    (495, None),
-];
-
-fn terms() -> &'static [(u32, Option<(i128, usize)>)] {
-    TERMS
-}
-
-#[test]
-fn fourth_power_of_eight_names_and_one(rt: HostRuntime) {
-    let alloc = rt.alloc();
-    let sum = sum_of(alloc, 8, 1).expect(&rt, "memory");
-    let power = fourth_of(alloc, &sum).expect(&rt, "memory");
-    for &(place, want) in terms() {
-        assert_eq!(rt; term_at(&power, place), want, "at {place}");
+fn made_by(alloc: Global, made: &[Poly], step: Step) -> Result<Poly, PolyRefused> {
+    match step {
+        Step::Number(number) => Poly::constant(alloc, number),
+        Step::Name(atom) => Poly::atom(alloc, Atom(atom)),
+        Step::Sum(count, number) => sum_of(alloc, count, number),
+        Step::Add(left, right) => at(made, left)?.add(alloc, at(made, right)?),
+        Step::Subtract(left, right) => at(made, left)?.sub(alloc, at(made, right)?),
+        Step::Multiply(left, right) => at(made, left)?.mul(alloc, at(made, right)?),
+        Step::Replace(place, by) => replaced(alloc, made, place, by),
     }
 }
 
+fn calculated(alloc: Global, steps: &[Step]) -> Result<Vec<Poly>, PolyRefused> {
+    let mut made = Vec::new(alloc);
+    for step in steps {
+        let next = made_by(alloc, made.as_slice(), *step)?;
+        if made.push(next).is_err() {
+            return Err(PolyRefused::NoMemory);
+        }
+    }
+    Ok(made)
+}
+
+/// The coefficient of a term, and how many atoms it has.
+fn term_at(polynomial: &Poly, place: u32) -> Option<(i128, usize)> {
+    let term = polynomial.term(place)?;
+    Some((term.0, term.1.len()))
+}
+
+fn holds(alloc: Global, made: &[Poly], fact: Fact) -> Result<bool, PolyRefused> {
+    Ok(match fact {
+        Fact::Same(left, right, want) => at(made, left)?.same(at(made, right)?) == want,
+        Fact::Constant(place, want) => at(made, place)?.as_constant() == want,
+        Fact::Offset(left, right, want) => at(made, left)?.offset(at(made, right)?) == want,
+        Fact::Terms(place, want) => at(made, place)?.terms() == want,
+        Fact::Term(place, term, want) => term_at(at(made, place)?, term) == want,
+        Fact::TooLarge(step) => { matches!(made_by(alloc, made, step), Err(PolyRefused::TooLarge)) }
+    })
+}
+
 #[test]
-fn names_are_compared_by_values(rt: HostRuntime) {
+fn facts_of_calculations(rt: HostRuntime) {
     let alloc = rt.alloc();
-    let n = Poly::atom(alloc, Atom(7)).expect(&rt, "memory");
-    let two = Poly::constant(alloc, 2).expect(&rt, "memory");
-    assert_eq!(rt; two.as_constant(), Some(2));
-    let double = n.add(alloc, &n).expect(&rt, "memory");
-    assert!(rt; double.same(&two.mul(alloc, &n).expect(&rt, "memory")));
-    assert!(rt; !double.same(&n));
-    assert_eq!(rt; double.as_constant(), None);
+    for (number, (steps, facts)) in calculations().iter().enumerate() {
+        let made = calculated(alloc, steps).expect(&rt, "polynomials");
+        for (place, fact) in facts.iter().enumerate() {
+            let found = holds(alloc, made.as_slice(), *fact);
+            assert_eq!(rt; found, Ok(true), "calculation {number}, fact {place}");
+        }
+    }
     law4();
-}
-
-#[test]
-fn differences_are_compared_by_values(rt: HostRuntime) {
-    let alloc = rt.alloc();
-    let n = Poly::atom(alloc, Atom(7)).expect(&rt, "memory");
-    let double = n.add(alloc, &n).expect(&rt, "memory");
-    let zero = double.sub(alloc, &double).expect(&rt, "memory");
-    assert_eq!(rt; zero.as_constant(), Some(0));
-    let two = Poly::constant(alloc, 2).expect(&rt, "memory");
-    let less = double.sub(alloc, &two).expect(&rt, "memory");
-    assert_eq!(rt; less.offset(&double), Some(-2));
-    assert_eq!(rt; double.offset(&n), None);
-}
-
-/// `2*n - m`
-fn double_less(alloc: Global, n: &Poly, m: &Poly) -> Result<Poly, PolyRefused> {
-    n.add(alloc, n)?.sub(alloc, m)
-}
-
-/// `2*n - m`, in which these two atoms change places.
-fn exchanged(alloc: Global, n: Atom, m: Atom) -> Result<Poly, PolyRefused> {
-    let (of_n, of_m) = (Poly::atom(alloc, n)?, Poly::atom(alloc, m)?);
-    let before = double_less(alloc, &of_n, &of_m)?;
-    before.substitute(alloc, &[(n, of_m), (m, of_n)])
-}
-
-#[test]
-fn two_names_change_places(rt: HostRuntime) {
-    let alloc = rt.alloc();
-    let n = Poly::atom(alloc, Atom(7)).expect(&rt, "memory");
-    let m = Poly::atom(alloc, Atom(2)).expect(&rt, "memory");
-    let product = n.mul(alloc, &m).expect(&rt, "memory");
-    assert!(rt; product.same(&m.mul(alloc, &n).expect(&rt, "memory")));
-    let turned = exchanged(alloc, Atom(7), Atom(2)).expect(&rt, "memory");
-    assert!(rt; turned.same(&double_less(alloc, &m, &n).expect(&rt, "memory")));
-}
-
-/// The greatest weight.
-const HEAVIEST: i128 = 4611686018427387904;
-
-/// Whether an answer is that the limits are passed.
-fn is_too_large(found: Result<Poly, PolyRefused>) -> bool {
-    matches!(found, Err(PolyRefused::TooLarge))
-}
-
-/// The greatest weight on an atom, less this atom.
-fn heaviest_less(alloc: Global, n: &Poly) -> Result<Poly, PolyRefused> {
-    let large = Poly::constant(alloc, HEAVIEST)?.mul(alloc, n)?;
-    large.sub(alloc, n)
-}
-
-#[test]
-fn weights_count_before_terms_cancel(rt: HostRuntime) {
-    let alloc = rt.alloc();
-    assert!(rt; is_too_large(Poly::constant(alloc, HEAVIEST + 1)));
-    assert!(rt; is_too_large(Poly::constant(alloc, i128::MIN)));
-    let n = Poly::atom(alloc, Atom(0)).expect(&rt, "memory");
-    assert!(rt;
-        Poly::constant(alloc, HEAVIEST)
-            .expect(&rt, "memory")
-            .mul(alloc, &n)
-            .is_ok()
-    );
-    assert!(rt; is_too_large(heaviest_less(alloc, &n)));
-}
-
-#[test]
-fn names_count_before_terms_cancel(rt: HostRuntime) {
-    let alloc = rt.alloc();
-    let eight = sum_of(alloc, 8, 0).expect(&rt, "memory");
-    let ninth = Poly::atom(alloc, Atom(8)).expect(&rt, "memory");
-    assert!(rt; is_too_large(eight.sub(alloc, &ninth)));
-    let first = Poly::atom(alloc, Atom(0)).expect(&rt, "memory");
-    assert_eq!(rt; eight.sub(alloc, &first).expect(&rt, "memory").terms(), 7);
-}
-
-/// A polynomial of the atom 0, with the square of that atom in its place.
-fn at_the_square(alloc: Global, p: &Poly, n: &Poly) -> Result<Poly, PolyRefused> {
-    p.substitute(alloc, &[(Atom(0), square_of(alloc, n)?)])
-}
-
-#[test]
-fn a_term_has_at_most_four_factors(rt: HostRuntime) {
-    let alloc = rt.alloc();
-    let n = Poly::atom(alloc, Atom(0)).expect(&rt, "memory");
-    let square = square_of(alloc, &n).expect(&rt, "memory");
-    assert_eq!(rt;
-        at_the_square(alloc, &square, &n)
-            .expect(&rt, "memory")
-            .terms(),
-        1
-    );
-    let fourth = fourth_of(alloc, &n).expect(&rt, "memory");
-    assert!(rt; is_too_large(fourth.mul(alloc, &n)));
-    assert!(rt; is_too_large(at_the_square(alloc, &fourth, &n)));
 }

@@ -86,15 +86,26 @@ fn join_has_a_name(alloc: Global, first: &Ty, second: &Ty) -> bool {
     }
 }
 
+/// Whether an enumeration and the same under a name fit, and so do two records of one name, and no enumeration is a record.
+fn fit_as_declared(
+    alloc: Global,
+    enumerations: &(Held<Ty>, Held<Ty>),
+    both: &(Held<Ty>, Held<Ty>),
+) -> bool {
+    let (plain, paint) = (enumerations.0.get(), enumerations.1.get());
+    let (whole, truths) = (both.0.get(), both.1.get());
+    fit_each_other(plain, paint)
+        && join_has_a_name(alloc, plain, paint)
+        && fit_each_other(whole, truths)
+        && misfit(plain, whole) == Some(StaticCode::T05)
+}
+
 #[test]
 fn types_fit_by_their_declaration(rt: HostRuntime) {
     let alloc = rt.alloc();
-    let (plain, paint) = colours(alloc).expect(&rt, "memory");
-    assert!(rt; fit_each_other(plain.get(), paint.get()));
-    assert!(rt; join_has_a_name(alloc, plain.get(), paint.get()));
-    let (whole, truths) = records(alloc).expect(&rt, "memory");
-    assert!(rt; fit_each_other(whole.get(), truths.get()));
-    assert!(rt; misfit(plain.get(), whole.get()) == Some(StaticCode::T05));
+    let enumerations = colours(alloc).expect(&rt, "memory");
+    let both = records(alloc).expect(&rt, "memory");
+    assert!(rt; fit_as_declared(alloc, &enumerations, &both));
 }
 
 /// Whether a type has this size, and the depth of an array of pairs.

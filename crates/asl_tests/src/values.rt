@@ -23,6 +23,87 @@ const HERE: Span = Span {
     len: 0,
 };
 
+/// A value that is put together.
+#[derive(Clone, Copy)]
+enum Sample {
+    Int(i128),
+    Bool(bool),
+    /// An enumeration and its label.
+    Label(&'static str, &'static str),
+    /// A record `Point` of two integers.
+    Point(i128, i128),
+    /// An exception of type `Late`.
+    Late(i128),
+    /// A tuple of a record, which holds an array, and a boolean.
+    Nested,
+}
+
+/// A value that an operation gives.
+#[derive(Clone, Copy)]
+enum Found {
+    /// The bits of a number at a width.
+    Bits(i128, i128),
+    /// The bits of a literal.
+    Literal(&'static str),
+    Negated,
+    FirstPart,
+    Constructed,
+    LastField,
+    SecondElement,
+}
+
+/// Values with their texts.
+const SAMPLES: &[(Sample, &str)] = &[
+    (Sample::Int(0), "0"),
+    (Sample::Int(-1), "-1"),
+    (
+        Sample::Int(i128::MAX),
+        "170141183460469231731687303715884105727",
+    ),
+    (
+        Sample::Int(i128::MIN),
+        "-170141183460469231731687303715884105728",
+    ),
+    (Sample::Bool(false), "FALSE"),
+    (Sample::Bool(true), "TRUE"),
+    (Sample::Label("Colour", "RED"), "RED"),
+    (Sample::Point(1, -2), "Point{x=1, y=-2}"),
+    (Sample::Late(5), "Late{code=5}"),
+    (Sample::Nested, "(Point{x=[3, 4], y=-2}, TRUE)"),
+];
+
+fn samples() -> &'static [(Sample, &'static str)] {
+    SAMPLES
+}
+
+/// What operations give, with the texts. A record is constructed with its fields given the other way round.
+const OPERATIONS: &[(Found, &str)] = &[
+    (Found::Bits(0, 0), "''"),
+    (Found::Literal("''"), "''"),
+    (Found::Bits(10, 4), "'1010'"),
+    (Found::Literal("'10 10'"), "'1010'"),
+    (Found::Bits(1, 4), "'0001'"),
+    (Found::Literal("'0 001'"), "'0001'"),
+    (Found::Bits(-2, 3), "'110'"),
+    (Found::Literal("'110'"), "'110'"),
+    (Found::Negated, "-7"),
+    (Found::FirstPart, "Point{x=[3, 4], y=-2}"),
+    (Found::Constructed, "Point{x=1, y=TRUE}"),
+    (Found::LastField, "TRUE"),
+    (Found::SecondElement, "4"),
+];
+
+fn operations() -> &'static [(Found, &'static str)] {
+    OPERATIONS
+}
+
+/// Labels, and whether each is equal to `RED` of `Colour`; None where it is of another kind.
+const LABELS: [(&str, &str, Option<bool>); 3] = [
+    ("Colour", "RED", Some(true)),
+    ("Colour", "GREEN", Some(false)),
+    ("Light", "RED", None),
+];
+
 fn name(alloc: Global, text: &str) -> Result<Name, AllocError> {
     Shared::new(alloc, Items::from_slice(alloc, text.as_bytes())?)
 }
@@ -84,6 +165,13 @@ fn label(alloc: Global, enumeration: &str, own: &str) -> Result<Value, AllocErro
     Ok(Value::Label(name(alloc, enumeration)?, name(alloc, own)?))
 }
 
+/// A tuple of a record and a boolean.
+fn nested(alloc: Global) -> Result<Value, AllocError> {
+    let elements = array(alloc, 3, 4)?;
+    let here = point(alloc, Held::new(elements), int(-2))?;
+    tuple(alloc, pair(alloc, Held::new(here), yes())?)
+}
+
 /// Whether a value has this text, which leaves text open.
 fn has(alloc: Global, value: &Value, text: &str) -> bool {
     match MemSink::new(alloc, 128, 128, Vec::new(alloc)) {
@@ -104,68 +192,14 @@ fn gives<E: Drop>(alloc: Global, found: Result<Value, E>, text: &str) -> bool {
     }
 }
 
-/// A tuple of a record and a boolean.
-fn nested(alloc: Global) -> Result<Value, AllocError> {
-    let elements = array(alloc, 3, 4)?;
-    let here = point(alloc, Held::new(elements), int(-2))?;
-    tuple(alloc, pair(alloc, Held::new(here), yes())?)
-}
-
-/// Integers with their texts.
-const INTEGERS: [(i128, &str); 4] = [
-    (0, "0"),
-    (-1, "-1"),
-    (i128::MAX, "170141183460469231731687303715884105727"),
-    (i128::MIN, "-170141183460469231731687303715884105728"),
-];
-
-#[test]
-fn integers_are_written(rt: HostRuntime) {
-    for (n, text) in INTEGERS {
-        assert!(rt; has(rt.alloc(), int(n).get(), text), "{n}");
-    }
-}
-
-/// Whether each of two booleans has its text.
-fn shows_booleans(alloc: Global) -> bool {
-    has(alloc, &Value::Bool(false), "FALSE") && has(alloc, &Value::Bool(true), "TRUE")
-}
-
-#[test]
-fn values_are_written(rt: HostRuntime) {
-    let alloc = rt.alloc();
-    assert!(rt; shows_booleans(alloc));
-    assert!(rt; gives(alloc, label(alloc, "Colour", "RED"), "RED"));
-    assert!(rt; gives(alloc, point(alloc, int(1), int(-2)), "Point{x=1, y=-2}"));
-    assert!(rt; gives(alloc, late(alloc, 5), "Late{code=5}"));
-    assert!(rt; gives(alloc, nested(alloc), "(Point{x=[3, 4], y=-2}, TRUE)"));
-}
-
-/// Whether the bits of a number have this text.
-fn shows_bits(alloc: Global, number: i128, width: i128, text: &str) -> bool {
-    match Bits::from_int(number, width) {
-        Ok(bits) => gives(alloc, plain_bits(alloc, bits), text),
-        Err(_) => false,
-    }
-}
-
-/// Numbers with their widths, literals of the same bits, and the text of both.
-const BITS: [(i128, i128, &str, &str); 4] = [
-    (0, 0, "''", "''"),
-    (10, 4, "'10 10'", "'1010'"),
-    (1, 4, "'0 001'", "'0001'"),
-    (-2, 3, "'110'", "'110'"),
-];
-
-#[test]
-fn bits_are_written_from_the_highest(rt: HostRuntime) {
-    let alloc = rt.alloc();
-    for (number, width, read, text) in BITS {
-        assert!(rt; shows_bits(alloc, number, width, text), "{text}");
-        assert!(rt;
-            gives(alloc, literal_bits(alloc, HERE, read.as_bytes()), text),
-            "{read}"
-        );
+fn sample(alloc: Global, sample: Sample) -> Result<Value, AllocError> {
+    match sample {
+        Sample::Int(number) => Ok(Value::Int(number)),
+        Sample::Bool(truth) => Ok(Value::Bool(truth)),
+        Sample::Label(enumeration, own) => label(alloc, enumeration, own),
+        Sample::Point(x, y) => point(alloc, int(x), int(y)),
+        Sample::Late(code) => late(alloc, code),
+        Sample::Nested => nested(alloc),
     }
 }
 
@@ -181,15 +215,6 @@ fn compared(alloc: Global, enumeration: &str, own: &str) -> Result<bool, Failure
 fn negated(alloc: Global) -> Result<Value, Failure> {
     let seven = Held::new(literal(HERE, 7)?);
     unary(alloc, HERE, UnaryOperator::Negate, seven.get())
-}
-
-#[test]
-fn operators_are_applied(rt: HostRuntime) {
-    let alloc = rt.alloc();
-    assert!(rt; matches!(compared(alloc, "Colour", "RED"), Ok(true)));
-    assert!(rt; matches!(compared(alloc, "Colour", "GREEN"), Ok(false)));
-    assert!(rt; matches!(compared(alloc, "Light", "RED"), Err(Failure::WrongKind(_))));
-    assert!(rt; gives(alloc, negated(alloc), "-7"));
 }
 
 fn given(alloc: Global, text: &str, ty: Held<Ty>, place: usize) -> Result<FieldGiven, AllocError> {
@@ -233,13 +258,47 @@ fn second_element(alloc: Global) -> Result<Value, Failure> {
     element_of(HERE, elements.get(), int(1).get())
 }
 
+/// The bits of a number.
+fn bits(alloc: Global, number: i128, width: i128) -> Result<Value, Failure> {
+    match Bits::from_int(number, width) {
+        Ok(bits) => Ok(plain_bits(alloc, bits)?),
+        Err(_) => Err(Failure::WrongKind(HERE)),
+    }
+}
+
+fn found(alloc: Global, operation: Found) -> Result<Value, Failure> {
+    match operation {
+        Found::Bits(number, width) => bits(alloc, number, width),
+        Found::Literal(text) => literal_bits(alloc, HERE, text.as_bytes()),
+        Found::Negated => negated(alloc),
+        Found::FirstPart => first_part(alloc),
+        Found::Constructed => constructed(alloc),
+        Found::LastField => last_field(alloc),
+        Found::SecondElement => second_element(alloc),
+    }
+}
+
+/// Whether a label is so compared with `RED` of `Colour`.
+fn compares(alloc: Global, enumeration: &str, own: &str, want: Option<bool>) -> bool {
+    match compared(alloc, enumeration, own) {
+        Ok(equal) => want == Some(equal),
+        Err(Failure::WrongKind(_)) => want.is_none(),
+        Err(Failure::Fault(_, _) | Failure::UnknownType(_) | Failure::NoMemory) => false,
+    }
+}
+
 #[test]
-fn parts_are_read(rt: HostRuntime) {
+fn values_are_written(rt: HostRuntime) {
     let alloc = rt.alloc();
-    assert!(rt; gives(alloc, first_part(alloc), "Point{x=[3, 4], y=-2}"));
-    assert!(rt; gives(alloc, constructed(alloc), "Point{x=1, y=TRUE}"));
-    assert!(rt; gives(alloc, last_field(alloc), "TRUE"));
-    assert!(rt; gives(alloc, second_element(alloc), "4"));
+    for &(value, text) in samples() {
+        assert!(rt; gives(alloc, sample(alloc, value), text), "{text}");
+    }
+    for &(operation, text) in operations() {
+        assert!(rt; gives(alloc, found(alloc, operation), text), "{text}");
+    }
+    for (enumeration, own, want) in LABELS {
+        assert!(rt; compares(alloc, enumeration, own, want), "{own}");
+    }
 }
 
 /// Replaces an element of the field `y`.
@@ -277,13 +336,15 @@ fn replaces_the_last(alloc: Global, value: &mut Value) -> bool {
         && has(alloc, value, "Point{x=1, y=[9, 8]}")
 }
 
-#[test]
-fn a_part_is_replaced_in_one_value(rt: HostRuntime) {
-    let alloc = rt.alloc();
-    let mut value = holding(alloc).expect(&rt, "memory");
-    let other = Held::new(copy(&value).expect(&rt, "memory"));
-    assert!(rt; replaces_the_first(alloc, &mut value, other.get()));
-    assert!(rt; replaces_the_last(alloc, &mut value));
+/// Whether a part is replaced in one value, and not in its copy.
+fn replaces_a_part(alloc: Global, value: &mut Value) -> bool {
+    match copy(value) {
+        Ok(other) => {
+            let other = Held::new(other);
+            replaces_the_first(alloc, value, other.get()) && replaces_the_last(alloc, value)
+        }
+        Err(_) => false,
+    }
 }
 
 /// An array of 65,536 integers.
@@ -317,7 +378,10 @@ fn replaced_and_written(alloc: Global, value: &mut Value) -> Option<usize> {
 }
 
 #[test]
-fn a_long_array_is_written(rt: HostRuntime) {
-    let mut value = long(rt.alloc()).expect(&rt, "memory");
-    assert_eq!(rt; replaced_and_written(rt.alloc(), &mut value), Some(196608));
+fn parts_are_replaced(rt: HostRuntime) {
+    let alloc = rt.alloc();
+    let mut value = holding(alloc).expect(&rt, "memory");
+    assert!(rt; replaces_a_part(alloc, &mut value));
+    let mut value = long(alloc).expect(&rt, "memory");
+    assert_eq!(rt; replaced_and_written(alloc, &mut value), Some(196608));
 }
