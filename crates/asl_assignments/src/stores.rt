@@ -14,12 +14,12 @@ ghost use Rattle.asl_assignments.specs.private.TargetViews.{place_of, stores_of}
 ghost use Rattle.asl_blocks.specs.private.Views.{body_of, done_of};
 ghost use Rattle.asl_blocks.specs.private.Walks as walks;
 
-use asl_blocks::body::{Body, Done};
-use asl_blocks::steps::end_simple;
 use crate::suffixes::{Reached, reach};
 use crate::targets::{TypedPlace, counts, effects_in, part_of, type_target};
-use asl_blocks::typing::type_in;
 use asl_allowed::effects::{all_together, greater, greatest};
+use asl_blocks::body::{Body, Done};
+use asl_blocks::steps::end_simple;
+use asl_blocks::typing::type_in;
 use asl_rules::effect::Effect;
 use asl_syn::code::{Refused, StaticCode};
 use asl_syn::token::Span;

@@ -13,8 +13,8 @@ ghost use Rattle.asl_blocks.specs.private.Views.{body_of};
 ghost use Rattle.asl_blocks.specs.private.Walks as walks;
 ghost use Rattle.asl_blocks.specs.private.Walks.{with_places};
 
-use asl_blocks::body::Body;
 use crate::suffixes::{TypedSuffix, push_effects, type_suffixes};
+use asl_blocks::body::Body;
 use asl_rules::effect::Effect;
 use asl_syn::code::Refused;
 use asl_syn::tree::{Ident, Target};

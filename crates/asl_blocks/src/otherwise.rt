@@ -19,10 +19,7 @@ use asl_tree::act::Last;
 use asl_types::Scope;
 
 /// An `otherwise`, where there is one.
-pub fn check_otherwise<
-    'a,
-    L: Fn(&mut Scope<'a>, &Body, &'a [Stmt]) -> Result<Listed, Refused>,
->(
+pub fn check_otherwise<'a, L: Fn(&mut Scope<'a>, &Body, &'a [Stmt]) -> Result<Listed, Refused>>(
     here: &Within<'a, L>,
     names: &mut Scope<'a>,
     body: &Body,

@@ -13,11 +13,11 @@ ghost use Rattle.asl_choices.specs.private.PartViews.{branches_of};
 ghost use Rattle.asl_blocks.specs.private.Walks as walks;
 ghost use Rattle.asl_blocks.specs.private.Walks.{after, branch_step, walk_branch, walk_stmt};
 
+use asl_allowed::effects::greater;
 use asl_blocks::body::{Body, Done, Listed};
 use asl_blocks::steps::{check_placed, ended, misplaced};
 use asl_blocks::typing::type_in;
 use asl_blocks::within::{Within, check_inside};
-use asl_allowed::effects::greater;
 use asl_rules::effect::Effect;
 use asl_syn::code::Refused;
 use asl_syn::token::Span;

@@ -15,12 +15,12 @@ ghost use Rattle.asl_choices.specs.private.PartViews.{alternatives_of};
 ghost use Rattle.asl_blocks.specs.private.Walks as walks;
 ghost use Rattle.asl_blocks.specs.private.Walks.{nothing_gathered, after, alternative_step, walk_alternative, walk_otherwise};
 
+use asl_allowed::effects::greater;
 use asl_blocks::body::{Body, Done, LastListed, Listed};
 use asl_blocks::otherwise::check_otherwise;
 use asl_blocks::steps::{check_placed, effect_of, ended, unboxed, where_misplaced};
 use asl_blocks::typing::{type_in, type_where};
 use asl_blocks::within::{Within, check_inside};
-use asl_allowed::effects::greater;
 use asl_expr::patterns::{Matched, match_pattern};
 use asl_rules::effect::Effect;
 use asl_shape::PatternShape;

@@ -17,11 +17,11 @@ ghost use Rattle.asl_loops.specs.private.CatcherViews.{catchers_of};
 ghost use Rattle.asl_blocks.specs.private.Walks as walks;
 ghost use Rattle.asl_blocks.specs.private.Walks.{nothing_gathered, gathered, after, catcher_step, shut, walk_catcher, walk_otherwise, walk_stmt};
 
+use asl_allowed::effects::greater;
 use asl_blocks::body::{Body, Done, LastListed, Listed, while_handling};
 use asl_blocks::otherwise::check_otherwise;
 use asl_blocks::steps::{ended, is_exception};
 use asl_blocks::within::{Within, check_inside};
-use asl_allowed::effects::greater;
 use asl_rules::effect::Effect;
 use asl_shared::Shared;
 use asl_syn::code::{Refused, StaticCode};

@@ -15,11 +15,11 @@ ghost use Rattle.asl_loops.specs.private.LoopViews.{bounds_of};
 ghost use Rattle.asl_blocks.specs.private.Walks.{bounds_typed, index_declared, counted_shut, for_walk, while_walk, repeat_walk, walk_stmt};
 ghost use Rattle.asl_blocks.specs.private.Views.{body_of, done_of, listed_of, maybe_operand};
 
+use asl_allowed::effects::{all_together, greater};
 use asl_blocks::body::{Body, Done, Listed, context};
 use asl_blocks::steps::{check_condition, check_integer, check_limit, ended, unboxed};
 use asl_blocks::typing::{type_in, type_limit};
 use asl_blocks::within::{Within, check_inside};
-use asl_allowed::effects::{all_together, greater};
 use asl_rules::effect::Effect;
 use asl_syn::code::{Refused, StaticCode};
 use asl_syn::token::Span;

@@ -14,9 +14,9 @@ ghost use Rattle.asl_blocks.specs.private.Views.{body_of, done_of};
 ghost use Rattle.asl_blocks.specs.private.Walks as walks;
 
 use crate::binds::{declare_local, declare_parts, taken_parts, unannotated};
-use asl_blocks::body::{Body, Done, context};
 use crate::counted::initialised_as;
 use crate::simple::simply;
+use asl_blocks::body::{Body, Done, context};
 use asl_blocks::steps::{check_fits, end_simple};
 use asl_blocks::typing::type_in;
 use asl_rules::effect::Effect;

@@ -10,9 +10,9 @@ ghost use Rattle.asl_blocks.specs.private.Views.{body_of, done_of};
 ghost use Rattle.asl_blocks.specs.private.Walks as walks;
 ghost use Rattle.asl_blocks.specs.private.Walks.{after};
 
+use asl_allowed::effects::{all_together, greater, greatest};
 use asl_blocks::body::{Body, Done, context};
 use asl_blocks::steps::end_simple;
-use asl_allowed::effects::{all_together, greater, greatest};
 use asl_expr::exprs::type_expr;
 use asl_rules::effect::Effect;
 use asl_syn::code::Refused;

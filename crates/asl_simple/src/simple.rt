@@ -10,10 +10,10 @@ ghost use Rattle.asl_types.specs.Suits.{Suits};
 ghost use Rattle.asl_tree.specs.Acts.{simple_of};
 ghost use Rattle.asl_blocks.specs.private.Views.{body_of, done_of};
 
+use asl_allowed::effects::greater;
 use asl_blocks::body::{Body, Done, context};
 use asl_blocks::steps::{check_condition, check_fits, end_simple, is_exception};
 use asl_blocks::typing::{type_in, type_reading};
-use asl_allowed::effects::greater;
 use asl_expr::calls::type_procedure;
 use asl_rules::effect::Effect;
 use asl_shared::Held;
@@ -21,8 +21,8 @@ use asl_syn::code::{Refused, StaticCode};
 use asl_syn::token::Span;
 use asl_syn::tree::{Expr, Ident};
 use asl_tree::act::{Act, Simple};
-use asl_types::answer::fault;
 use asl_types::Scope;
+use asl_types::answer::fault;
 
 /// A statement of this tree and this effect.
 pub fn simply(act: Simple, effect: Effect) -> Done
@@ -35,12 +35,7 @@ pub fn simply(act: Simple, effect: Effect) -> Done
 }
 
 /// `assert`: a boolean that at most reads.
-pub fn check_assert(
-    names: &Scope,
-    body: &Body,
-    span: Span,
-    e: &Expr,
-) -> Result<Done, Refused>
+pub fn check_assert(names: &Scope, body: &Body, span: Span, e: &Expr) -> Result<Done, Refused>
     ensures { (t : Tests) → Suits t → Met (done_of names.now) result (rules.assert_rule t span e.now (body_of names.now body.now).scope) }
 {
     let condition = type_reading(names, body, e)?;

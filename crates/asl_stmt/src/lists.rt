@@ -10,10 +10,10 @@ ghost use Rattle.asl_types.specs.Suits.{Suits};
 ghost use Rattle.asl_blocks.specs.private.Views.{body_of, done_of, listing_of, listed_of};
 ghost use Rattle.asl_blocks.specs.private.Walks.{after, listing, stmt_step, shut, walk_stmt};
 
-use asl_blocks::body::{Body, Done, Listed};
 use crate::stmts::check_node;
-use asl_blocks::within::Within;
 use asl_allowed::effects::greater;
+use asl_blocks::body::{Body, Done, Listed};
+use asl_blocks::within::Within;
 use asl_rules::effect::Effect;
 use asl_shared::Held;
 use asl_syn::code::Refused;
