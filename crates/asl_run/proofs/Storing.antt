@@ -49,6 +49,7 @@ use Rattle.asl_branches.specs.declared.stop.Stop.TheVariants as stop
 use Rattle.asl_branches.specs.Meets.{At, Is, Ran, Underway}
 use Rattle.asl_branches.specs.View.{core_of, exit_of, stop_of}
 use Rattle.asl_branches.proofs.Answered.{out_of_memory, turn_failed, turned}
+use Rattle.asl_branches.proofs.Fronts.{at_front}
 use Rattle.asl_branches.proofs.Turns.{one_stepped, one_stored}
 use Rattle.asl_run.specs.private.Storing.{parts_in, parts_behind, taking, all_taking, stepped, all_stepped}
 
