@@ -261,7 +261,7 @@ ghost use Rattle.asl_grammar.specs.grammar.Kinds as kinds;
 use asl_syn::token::{Mark, TokenKind, Word};
 
 /// A kind of token, without the token's value. All words that are left out are of one kind, and so are `XOR` and `EOR`.
-#[derive(Clone, Copy, Debug, PartialEq, Eq)]
+#[derive(Clone, Copy, PartialEq, Eq)]
 pub enum Kind {
 ''' + ''.join(f'    {kind},\n' for kind in KINDS) + '''}
 

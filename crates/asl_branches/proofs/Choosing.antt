@@ -1,12 +1,35 @@
 -- An alternative of a `case`: whether it is chosen, and then its list or the alternatives behind it.
-use Rattle.std.proofs.Common.{◌≡◌, ℕ, ◌+◌, ◌<◌, ◌≤◌, Bool, true, false, List, [], ◌∷◌, length, get_or, drop, Option, None, Some, Err, sym, ap, ◌∙◌, subst}
+use Rattle.std.proofs.Common.{
+  ◌≡◌,
+  ℕ,
+  ◌+◌,
+  ◌<◌,
+  ◌≤◌,
+  Bool,
+  true,
+  false,
+  List,
+  [],
+  ◌∷◌,
+  length,
+  get_or,
+  drop,
+  Option,
+  None,
+  Some,
+  Ok,
+  Err,
+  sym,
+  ap,
+  ◌∙◌,
+  subst,
+}
 use Rattle.std.proofs.lemmas.List.{at_drop_all}
 use Rattle.asl_bits.specs.declared.TheConstants.{WIDTH_LIMIT}
 use Rattle.asl_syn.specs.declared.token.Span.{Span}
-use Rattle.asl_rules.specs.runs.Cuts.{cuts}
 use Rattle.asl_rules.specs.values.Matching.{is_matched}
 use Rattle.asl_rules.specs.values.Operators.{truth}
-use Rattle.asl_rules.specs.runs.Plans.{Meter, Done, Ret, choose, lift, run}
+use Rattle.asl_rules.specs.runs.Plans.{Ret, choose, lift}
 use Rattle.asl_rules.specs.types.Shapes.{PatternShapes}
 use Rattle.asl_rules.specs.runs.StatementForms.{alternative, alternatives, guarded, no_match, scope}
 use Rattle.asl_rules.specs.runs.Trees as rules
@@ -23,12 +46,14 @@ use Rattle.asl_tree.specs.declared.act.Alternative.{Alternative}
 use Rattle.asl_tree.specs.declared.act.Alternative.TheVariants as when
 use Rattle.asl_tree.specs.declared.act.Choice.{Choice as Wanted}
 use Rattle.asl_tree.specs.declared.act.TreeFunc.{TreeFunc}
+use Rattle.asl_branches.specs.declared.setting.Setting.{Setting}
 use Rattle.asl_branches.specs.declared.stop.Stop.{Stop as Stopped}
 use Rattle.asl_branches.specs.private.Choosing.{chosen, guard}
-use Rattle.asl_branches.specs.Meets.{Left, Meets}
-use Rattle.asl_branches.specs.View.{exit_of, meaning_of, cutting_of}
+use Rattle.asl_branches.specs.Meets.{At, Ran, Underway}
+use Rattle.asl_branches.specs.View.{core_of, exit_of}
+use Rattle.asl_branches.proofs.Answered.{turn_failed, turned}
 use Rattle.asl_branches.proofs.Fronts.{at_front}
-use Rattle.asl_branches.proofs.Turns.{Goes, all_goes, goes_eval, goes_failed, goes_lift, goes_on, goes_ret, left_left, meets_left}
+use Rattle.asl_branches.proofs.Turns.{Goes, all_goes, goes_eval, goes_lift, goes_ret}
 
 -- what comes behind the choice
 abbrev pub behind_choice : List Act → (BareCore → Runs Exit) → Bool → BareCore → Runs Exit
@@ -67,35 +92,46 @@ from_front span x w ss others last c = alternative in_bare span x (record { expr
 abbrev pub all_from : Span → Value → List Alternative → Option (List Act) → BareCore → Runs Exit
 all_from span x others last c = alternatives in_bare itself span x (choices_of WIDTH_LIMIT (all_alternatives others)) last c
 
-at_choice : (fs : List TreeFunc) (d : ℕ) (span : Span) (x : Value) (others : List Alternative) (k : ℕ) (a : Alternative) (w : Wanted) (ss : List Doing) (last : Option (List Act)) (c : BareCore) (h : Meter) (q0 : Runs Exit) (h0 : Meter) →
-    k < length others → a ≡ get_or others k a → a ≡ when.When w ss → Left fs d (all_from span x (drop k others) last c) h q0 h0 → Left fs d (from_front span x w ss (drop (k + 1) others) last c) h q0 h0
-at_choice fs d span x others k a w ss last c h q0 h0 within here is l =
-    subst (λ cs. Left fs d (alternatives in_bare itself span x cs last c) h q0 h0)
-    (ap (λ us. choices_of WIDTH_LIMIT (all_alternatives us)) (at_front others k a within here ∙ ap (λ b. b ∷ drop (k + 1) others) is) ∙ alternative_when w ss (drop (k + 1) others)) l
+at_choice : (h : Setting) (span : Span) (x : Value) (others : List Alternative) (k : ℕ) (a : Alternative) (w : Wanted) (ss : List Doing)
+    (last : Option (List Act)) (q : BareCore → Runs Exit) (a0 a1 : At) → k < length others → a ≡ get_or others k a → a ≡ when.When w ss →
+    Underway h (all_from span x (drop k others) last) a1 q a0 → Underway h (from_front span x w ss (drop (k + 1) others) last) a1 q a0
+at_choice h span x others k a w ss last q a0 a1 within here is u =
+    subst (λ cs. Underway h (alternatives in_bare itself span x cs last) a1 q a0)
+    (ap (λ us. choices_of WIDTH_LIMIT (all_alternatives us)) (at_front others k a within here ∙ ap (λ b. b ∷ drop (k + 1) others) is)
+    ∙ alternative_when w ss (drop (k + 1) others)) u
 
--- the choice was asked for, and what comes behind it is left
-pub choice_asked : (fs : List TreeFunc) (d : ℕ) (span : Span) (x : Value) (others : List Alternative) (k : ℕ) (a : Alternative) (w : Wanted) (ss : List Doing) (last : Option (List Act)) (c : BareCore) (h : Meter) (b : Bool) (c1 : BareCore) (h1 : Meter) (q0 : Runs Exit) (h0 : Meter) →
-    k < length others → a ≡ get_or others k a → a ≡ when.When w ss → run (meaning_of fs d) (chosen span x (all_patterns w.patterns) (all_trees w.trees) (maybe_tree w.condition) c) h ≡ Done b c1 h1 →
-    Left fs d (all_from span x (drop k others) last c) h q0 h0 → Left fs d (behind_choice (acts_of (all_acts ss)) (all_from span x (drop (k + 1) others) last) b c1) h1 q0 h0
-choice_asked fs d span x others k a w ss last c h b c1 h1 q0 h0 within here is done l =
+-- the choice of an alternative
+abbrev pub choice_of : Span → Value → Wanted → BareCore → Runs Bool
+choice_of span x w c = chosen span x (all_patterns w.patterns) (all_trees w.trees) (maybe_tree w.condition) c
+
+-- it was asked for, and what comes behind it is left
+pub choice_asked : (h : Setting) (span : Span) (x : Value) (others : List Alternative) (k : ℕ) (a : Alternative) (w : Wanted)
+    (ss : List Doing) (last : Option (List Act)) (b : Bool) (q : BareCore → Runs Exit) (a0 a1 a2 : At) → k < length others →
+    a ≡ get_or others k a → a ≡ when.When w ss → Ran itself (Ok b) h (choice_of span x w) a1 a2 →
+    Underway h (all_from span x (drop k others) last) a1 q a0 →
+    Underway h (behind_choice (acts_of (all_acts ss)) (all_from span x (drop (k + 1) others) last) b) a2 q a0
+choice_asked h span x others k a w ss last b q a0 a1 a2 within here is n u =
     let go = all_from span x (drop (k + 1) others) last in
-    left_left fs d (behind_choice (acts_of (all_acts ss)) go b c1) (from_front span x w ss (drop (k + 1) others) last c) q0 h h1 h0
-    (goes_on fs d (chosen span x (all_patterns w.patterns) (all_trees w.trees) (maybe_tree w.condition) c) (from_front span x w ss (drop (k + 1) others) last c) (behind_choice (acts_of (all_acts ss)) go)
-    (chosen_goes fs d span x (all_patterns w.patterns) (all_trees w.trees) (maybe_tree w.condition) (acts_of (all_acts ss)) go c) h b c1 h1 done)
-    (at_choice fs d span x others k a w ss last c h q0 h0 within here is l)
+    turned itself h (choice_of span x w) (from_front span x w ss (drop (k + 1) others) last) q
+    (behind_choice (acts_of (all_acts ss)) go) a0 a1 a2 b
+    (chosen_goes h.funcs.now h.depth span x (all_patterns w.patterns) (all_trees w.trees) (maybe_tree w.condition)
+    (acts_of (all_acts ss)) go (core_of a1.run)) n (at_choice h span x others k a w ss last q a0 a1 within here is u)
 
 -- it stopped the run
-pub choice_failed : (fs : List TreeFunc) (d : ℕ) (span : Span) (x : Value) (others : List Alternative) (k : ℕ) (a : Alternative) (w : Wanted) (ss : List Doing) (last : Option (List Act)) (c : BareCore) (h : Meter) (e : Stopped) (c1 : BareCore) (h1 : Meter) (q0 : Runs Exit) (h0 : Meter) →
-    k < length others → a ≡ get_or others k a → a ≡ when.When w ss →
-    Meets itself (Err e) c1 h1 (run (meaning_of fs d) (chosen span x (all_patterns w.patterns) (all_trees w.trees) (maybe_tree w.condition) c) h) (cuts (meaning_of fs d) (cutting_of fs d) (chosen span x (all_patterns w.patterns) (all_trees w.trees) (maybe_tree w.condition) c) h) →
-    Left fs d (all_from span x (drop k others) last c) h q0 h0 → Meets exit_of (Err e) c1 h1 (run (meaning_of fs d) q0 h0) (cuts (meaning_of fs d) (cutting_of fs d) q0 h0)
-choice_failed fs d span x others k a w ss last c h e c1 h1 q0 h0 within here is m l =
+pub choice_failed : (h : Setting) (span : Span) (x : Value) (others : List Alternative) (k : ℕ) (a : Alternative) (w : Wanted)
+    (ss : List Doing) (last : Option (List Act)) (e : Stopped) (q : BareCore → Runs Exit) (a0 a1 a2 : At) → k < length others →
+    a ≡ get_or others k a → a ≡ when.When w ss → Ran itself (Err e) h (choice_of span x w) a1 a2 →
+    Underway h (all_from span x (drop k others) last) a1 q a0 → Ran exit_of (Err e) h q a0 a2
+choice_failed h span x others k a w ss last e q a0 a1 a2 within here is n u =
     let go = all_from span x (drop (k + 1) others) last in
-    meets_left exit_of fs d (from_front span x w ss (drop (k + 1) others) last c) q0 h0 h (at_choice fs d span x others k a w ss last c h q0 h0 within here is l) (Err e) c1 h1
-    (goes_failed itself exit_of fs d (chosen span x (all_patterns w.patterns) (all_trees w.trees) (maybe_tree w.condition) c) (from_front span x w ss (drop (k + 1) others) last c) (behind_choice (acts_of (all_acts ss)) go)
-    (chosen_goes fs d span x (all_patterns w.patterns) (all_trees w.trees) (maybe_tree w.condition) (acts_of (all_acts ss)) go c) h e c1 h1 m)
+    turn_failed itself exit_of h (choice_of span x w) (from_front span x w ss (drop (k + 1) others) last) q
+    (behind_choice (acts_of (all_acts ss)) go) a0 a1 a2 e
+    (chosen_goes h.funcs.now h.depth span x (all_patterns w.patterns) (all_trees w.trees) (maybe_tree w.condition)
+    (acts_of (all_acts ss)) go (core_of a1.run)) n (at_choice h span x others k a w ss last q a0 a1 within here is u)
 
 -- none is left
-pub choices_ended : (fs : List TreeFunc) (d : ℕ) (span : Span) (x : Value) (others : List Alternative) (k : ℕ) (last : Option (List Act)) (c : BareCore) (h : Meter) (q0 : Runs Exit) (h0 : Meter) → length others ≤ k →
-    Left fs d (all_from span x (drop k others) last c) h q0 h0 → Left fs d (no_match in_bare span last c) h q0 h0
-choices_ended fs d span x others k last c h q0 h0 e l = subst (λ us. Left fs d (all_from span x us last c) h q0 h0) (at_drop_all (λ us. us) others k e) l
+pub choices_ended : (h : Setting) (span : Span) (x : Value) (others : List Alternative) (k : ℕ) (last : Option (List Act))
+    (q : BareCore → Runs Exit) (a0 a1 : At) → length others ≤ k → Underway h (all_from span x (drop k others) last) a1 q a0 →
+    Underway h (no_match in_bare span last) a1 q a0
+choices_ended h span x others k last q a0 a1 e u =
+    subst (λ us. Underway h (all_from span x us last) a1 q a0) (at_drop_all (λ us. us) others k e) u

@@ -27,7 +27,7 @@ use Rattle.asl_syn.specs.declared.tree.Decl.{Decl}
 use Rattle.asl_rules.proofs.scopes.Longer.{Longer, longer_self, longer_on, list_longer}
 use Rattle.asl_decl.specs.Heads.{Declared, declared_with, declared_rule, params_declared, formals_declared, names_of_body, head_of, heads_of}
 use Rattle.asl_check.specs.private.Bringing.{with_entry_found}
-use Rattle.asl_stmt.proofs.Chains.{then_same, then_then, then_itself, append_nothing, next_of}
+use Rattle.asl_blocks.proofs.Chains.{then_same, then_then, then_itself, append_nothing, next_of}
 
 with_longer : (e : Entry) (names : List Entry) → Longer names (with_entry e names)
 with_longer e names = by (is_free e.name names)

@@ -18,7 +18,7 @@ use Rattle.asl_tree.specs.declared.act.TreeFunc.{TreeFunc}
 use Rattle.asl_tree.specs.declared.checked.Global.{Global}
 use Rattle.asl_tree.specs.Sealed.{Cell, cell_in, cell_of, cells_in, cells_of, IsSealed}
 use Rattle.asl_check.specs.private.GlobalViews.{found_global, cells_with}
-use Rattle.asl_stmt.proofs.Chains.{next_of, append_nothing}
+use Rattle.asl_blocks.proofs.Chains.{next_of, append_nothing}
 
 cells_both : (gs : List Global) (g : Global) → cells_of (gs ++ g ∷ []) ≡ cells_of gs ++ cell_of g ∷ []
 cells_both [] g = refl

@@ -10,8 +10,8 @@ ghost use Rattle.asl_tree.specs.Acts.{func_of, all_funcs, all_acts};
 ghost use Rattle.asl_decl.specs.Heads.{head_of, heads_of};
 
 use crate::falls::falls_through;
+use asl_blocks::body::{Body, Listed};
 use asl_decl::enter_body;
-use asl_stmt::body::{Body, Listed};
 use asl_stmt::lists::check_stmts;
 use asl_subprograms::{Param, Signature, Subprograms};
 use asl_syn::code::{Refused, StaticCode};

@@ -1,14 +1,10 @@
--- What is left of a plan once its first part is done, and where that part stops the whole.
-use Rattle.std.proofs.Common.{◌≡◌, ℕ, inl, inr, List, Err, refl, sym, ap, subst}
+-- A part within a plan, and what goes on with what it gives.
+use Rattle.std.proofs.Common.{◌≡◌, ℕ, inl, inr, List, refl, sym, subst}
 use Rattle.asl_rules.specs.runs.Cuts.{rest, cuts}
 use Rattle.asl_rules.specs.runs.Plans.{Meter, Outcome, Done, Thrown, Halt, Raise, Within, follow, run, ◌>>=◌, handle}
 use Rattle.asl_rules.specs.private.TypedMeaning.{BareCore, Runs}
 use Rattle.asl_rules.specs.values.Values as rules
 use Rattle.asl_tree.specs.declared.act.TreeFunc.{TreeFunc}
-use Rattle.asl_value.specs.declared.value.Value.{Value}
-use Rattle.asl_branches.specs.declared.stop.Stop.{Stop as Stopped}
-use Rattle.asl_branches.specs.declared.stop.Stop.TheVariants as stop
-use Rattle.asl_branches.specs.Meets.{Meets, Left}
 use Rattle.asl_branches.specs.View.{meaning_of, cutting_of}
 use Rattle.asl_branches.proofs.Turns.{Goes}
 
@@ -25,37 +21,6 @@ done_cut : {A B : Type 0} (fs : List TreeFunc) (d : ℕ) (q : Runs B) (f : B →
     cuts (meaning_of fs d) (cutting_of fs d) (f x c1) h1 u → cuts (meaning_of fs d) (cutting_of fs d) (Within q f g) h u
 done_cut fs d q f g h u x c1 h1 e w =
     inr (inr (subst (λ r. rest r (λ y c2 h2. cuts (meaning_of fs d) (cutting_of fs d) (f y c2) h2 u) (λ y c2 h2. cuts (meaning_of fs d) (cutting_of fs d) (g y c2) h2 u)) (sym e) w))
-
-thrown_cut : {A B : Type 0} (fs : List TreeFunc) (d : ℕ) (q : Runs B) (f : B → BareCore → Runs A) (g : rules.Value → BareCore → Runs A) (h u : Meter) (x : rules.Value) (c1 : BareCore) (h1 : Meter) → run (meaning_of fs d) q h ≡ Thrown x c1 h1 →
-    cuts (meaning_of fs d) (cutting_of fs d) (g x c1) h1 u → cuts (meaning_of fs d) (cutting_of fs d) (Within q f g) h u
-thrown_cut fs d q f g h u x c1 h1 e w =
-    inr (inr (subst (λ r. rest r (λ y c2 h2. cuts (meaning_of fs d) (cutting_of fs d) (f y c2) h2 u) (λ y c2 h2. cuts (meaning_of fs d) (cutting_of fs d) (g y c2) h2 u)) (sym e) w))
-
--- where the part is done, what goes on is left
-pub within_done : {A B : Type 0} (fs : List TreeFunc) (d : ℕ) (q : Runs B) (f : B → BareCore → Runs A) (g : rules.Value → BareCore → Runs A) (h : Meter) (x : B) (c1 : BareCore) (h1 : Meter) → run (meaning_of fs d) q h ≡ Done x c1 h1 →
-    Left fs d (f x c1) h1 (Within q f g) h
-within_done fs d q f g h x c1 h1 e = record {
-  same = sym (ap (λ r. handle r (λ y c2 h2. run (meaning_of fs d) (f y c2) h2) (λ y c2 h2. run (meaning_of fs d) (g y c2) h2)) e);
-  given_up = λ u w. done_cut fs d q f g h u x c1 h1 e w;
-}
-
--- where it throws, what is done with that is left
-pub within_thrown : {A B : Type 0} (fs : List TreeFunc) (d : ℕ) (q : Runs B) (f : B → BareCore → Runs A) (g : rules.Value → BareCore → Runs A) (h : Meter) (x : rules.Value) (c1 : BareCore) (h1 : Meter) → run (meaning_of fs d) q h ≡ Thrown x c1 h1 →
-    Left fs d (g x c1) h1 (Within q f g) h
-within_thrown fs d q f g h x c1 h1 e = record {
-  same = sym (ap (λ r. handle r (λ y c2 h2. run (meaning_of fs d) (f y c2) h2) (λ y c2 h2. run (meaning_of fs d) (g y c2) h2)) e);
-  given_up = λ u w. thrown_cut fs d q f g h u x c1 h1 e w;
-}
-
--- where it stops without a throw, the whole does
-pub within_failed : {A B C D : Type 0} (v : C → B) (w : D → A) (fs : List TreeFunc) (d : ℕ) (q : Runs B) (f : B → BareCore → Runs A) (g : rules.Value → BareCore → Runs A) (h : Meter) (e : Stopped) (c1 : BareCore) (h1 : Meter) →
-    ((x : Value) → e ≡ stop.Thrown x → ⊥) →
-    Meets v (Err e) c1 h1 (run (meaning_of fs d) q h) (cuts (meaning_of fs d) (cutting_of fs d) q h) → Meets w (Err e) c1 h1 (run (meaning_of fs d) (Within q f g) h) (cuts (meaning_of fs d) (cutting_of fs d) (Within q f g) h)
-within_failed v w fs d q f g h stop.NoMemory c1 h1 never m = within_cut fs d q f g h h1 m
-within_failed v w fs d q f g h stop.SinkFault c1 h1 never m = within_cut fs d q f g h h1 m
-within_failed v w fs d q f g h (stop.Thrown x) c1 h1 never m = absurd (never x refl)
-within_failed v w fs d q f g h (stop.Fault code span) c1 h1 never m = ap (λ r. handle r (λ y c2 h2. run (meaning_of fs d) (f y c2) h2) (λ y c2 h2. run (meaning_of fs d) (g y c2) h2)) m
-within_failed v w fs d q f g h (stop.Stuck mistake span) c1 h1 never m = ap (λ r. handle r (λ y c2 h2. run (meaning_of fs d) (f y c2) h2) (λ y c2 h2. run (meaning_of fs d) (g y c2) h2)) m
 
 -- ---- a part whose throws are those of the whole
 

@@ -21,8 +21,8 @@ use Rattle.asl_branches.specs.declared.stop.Stop.{Stop as Stopped}
 use Rattle.asl_branches.specs.declared.stop.Stop.TheVariants as stop
 use Rattle.asl_branches.specs.Meets.{Left, Meets, Writes}
 use Rattle.asl_branches.specs.View.{exit_of, meaning_of, cutting_of}
+use Rattle.asl_branches.proofs.Answered.{eval_failed}
 use Rattle.asl_branches.proofs.Turns.{goes_on, meets_left, one_evaluated}
-use Rattle.asl_run.proofs.Turning.{eval_failed}
 
 append_nil : (xs : List ℕ) → xs ++ [] ≡ xs
 append_nil [] = refl
@@ -117,4 +117,5 @@ pub shown_failed : (fs : List TreeFunc) (d : ℕ) (kind : PrintKind) (items : Li
     Left fs d (forms.print_items item_of kind (all_items (drop k items)) c) h q0 h0 → Meets exit_of (Err r) c1 h1 (run (meaning_of fs d) q0 h0) (cuts (meaning_of fs d) (cutting_of fs d) q0 h0)
 shown_failed fs d kind items k item e c h r c1 h1 q0 h0 within here is m l =
     let go : Value → BareCore → Runs Exit = λ y c2. Put (value_text y) (forms.print_items item_of kind (all_items (drop (k + 1) items)) c2) in
-    meets_left exit_of fs d (Eval (tree_of e) c go) q0 h0 h (at_shown fs d kind items k item e c h q0 h0 within here is l) (Err r) c1 h1 (eval_failed fs d (tree_of e) c go h r c1 h1 m)
+    meets_left exit_of fs d (Eval (tree_of e) c go) q0 h0 h (at_shown fs d kind items k item e c h q0 h0 within here is l)
+    (Err r) c1 h1 (eval_failed exit_of fs d (tree_of e) c go h r c1 h1 m)

@@ -1,16 +1,38 @@
 -- Steps and stores, one by one.
-use Rattle.std.proofs.Common.{◌≡◌, ℕ, ◌+◌, ◌<◌, ◌≤◌, inl, Bool, List, [], ◌∷◌, ◌++◌, length, get_or, drop, map, Err, refl, sym, ap, ◌∙◌, subst, append_assoc, append-nil}
+use Rattle.std.proofs.Common.{
+  ◌≡◌,
+  ℕ,
+  ◌+◌,
+  ◌<◌,
+  ◌≤◌,
+  Bool,
+  List,
+  [],
+  ◌∷◌,
+  ◌++◌,
+  length,
+  get_or,
+  drop,
+  map,
+  Ok,
+  Err,
+  refl,
+  sym,
+  ap,
+  ◌∙◌,
+  subst,
+  append_assoc,
+  append-nil,
+}
 use Rattle.std.proofs.lemmas.List.{at_drop_all, map-append}
 use Rattle.asl_bits.specs.declared.TheConstants.{WIDTH_LIMIT}
-use Rattle.asl_rules.specs.runs.Cuts.{cuts}
-use Rattle.asl_rules.specs.runs.Plans.{Meter, End, Done, Ret, Pure, Good, Bad, run}
+use Rattle.asl_rules.specs.runs.Plans.{End, Pure, Good, Bad}
 use Rattle.asl_rules.specs.runs.Pures.{◌>>=◌}
 use Rattle.asl_rules.specs.private.ByPlace.{Step, part_in}
 use Rattle.asl_rules.specs.runs.StatementForms.{store_each}
 use Rattle.asl_rules.specs.private.TypedMeaning.{BareCore, Runs, step_ahead, stores}
-use Rattle.asl_rules.specs.values.Values.{Value, Exit, Normal}
+use Rattle.asl_rules.specs.values.Values.{Value, Exit}
 use Rattle.asl_tree.specs.Acts.{all_places, step_of}
-use Rattle.asl_tree.specs.declared.act.TreeFunc.{TreeFunc}
 use Rattle.asl_tree.specs.declared.act.TreePlace.{TreePlace}
 use Rattle.asl_tree.specs.declared.act.TreeStep.{TreeStep}
 use Rattle.asl_value.specs.private.Answers as answers
@@ -20,10 +42,15 @@ use Rattle.asl_value.specs.declared.replacing.Step.{Step as StoredStep}
 use Rattle.asl_value.specs.declared.value.Value.{Value as Stored}
 use Rattle.asl_value.specs.private.Forms.{step_of as stored_step, all_steps}
 use Rattle.asl_value.specs.View.{value_of}
+use Rattle.asl_branches.specs.declared.setting.Setting.{Setting}
+use Rattle.asl_branches.specs.declared.stop.Exit.{Exit as Ending}
 use Rattle.asl_branches.specs.declared.stop.Stop.{Stop as Stopped}
-use Rattle.asl_branches.specs.Meets.{Is, Left, Meets}
-use Rattle.asl_branches.specs.View.{exit_of, stop_of, meaning_of, cutting_of}
-use Rattle.asl_branches.proofs.Turns.{goes_failed, goes_on, left_left, meets_left, one_stepped, one_stored}
+use Rattle.asl_branches.specs.declared.stop.Stop.TheVariants as stop
+use Rattle.asl_branches.specs.Meets.{At, Is, Ran, Underway}
+use Rattle.asl_branches.specs.View.{core_of, exit_of, stop_of}
+use Rattle.asl_branches.proofs.Answered.{out_of_memory, turn_failed, turned}
+use Rattle.asl_branches.proofs.Fronts.{at_front}
+use Rattle.asl_branches.proofs.Turns.{one_stepped, one_stored}
 use Rattle.asl_run.specs.private.Storing.{parts_in, parts_behind, taking, all_taking, stepped, all_stepped}
 
 -- the stores of the parts
@@ -77,36 +104,47 @@ part_failed failure.NoMemory ps x k p ys within here left e = tt
 abbrev one_left : List TreeStep → List Step → Step → BareCore → Runs (List Step)
 one_left ts ss n c = all_stepped ts (ss ++ n ∷ []) c
 
+at_step : (h : Setting) (ts : List TreeStep) (k : ℕ) (t : TreeStep) (before : List StoredStep) (q : BareCore → Runs (List Step))
+    (a0 a1 : At) →
+    k < length ts → t ≡ get_or ts k t → Underway h (all_stepped (drop k ts) (all_steps before)) a1 q a0 →
+    Underway h (all_stepped (t ∷ drop (k + 1) ts) (all_steps before)) a1 q a0
+at_step h ts k t before q a0 a1 within here u = subst (λ us. Underway h (all_stepped us (all_steps before)) a1 q a0)
+    (at_front ts k t within here) u
+
+step_found : (h : Setting) (ts : List TreeStep) (k : ℕ) (t : TreeStep) (before : List StoredStep) (s : StoredStep)
+    (q : BareCore → Runs (List Step)) (a0 a1 a2 : At) → k < length ts → t ≡ get_or ts k t → Ran stored_step (Ok s) h (stepped t) a1 a2 →
+    Underway h (all_stepped (drop k ts) (all_steps before)) a1 q a0 →
+    Underway h (one_left (drop (k + 1) ts) (all_steps before) (stored_step s)) a2 q a0
+step_found h ts k t before s q a0 a1 a2 within here n u =
+    let behind = one_left (drop (k + 1) ts) (all_steps before) in
+    turned stored_step h (stepped t) (all_stepped (t ∷ drop (k + 1) ts) (all_steps before)) q behind a0 a1 a2 s
+    (one_stepped h.funcs.now h.depth (step_ahead (step_of t)) (core_of a1.run) behind) n (at_step h ts k t before q a0 a1 within here u)
+
 -- the step in front was found, and the steps behind it are left
-pub step_next : (fs : List TreeFunc) (d : ℕ) (ts : List TreeStep) (k : ℕ) (t : TreeStep) (before after : List StoredStep) (s : StoredStep) (c : BareCore) (h : Meter) (c1 : BareCore) (h1 : Meter) (q0 : Runs (List Step)) (h0 : Meter) →
-    k < length ts → t ≡ get_or ts k t → run (meaning_of fs d) (stepped t c) h ≡ Done (stored_step s) c1 h1 → after ≡ before ++ s ∷ [] →
-    Left fs d (all_stepped (drop k ts) (all_steps before) c) h q0 h0 → Left fs d (all_stepped (drop (k + 1) ts) (all_steps after) c1) h1 q0 h0
-step_next fs d ts k t before after s c h c1 h1 q0 h0 within here done more l =
-    let rest = drop (k + 1) ts in
+pub step_next : (h : Setting) (ts : List TreeStep) (k : ℕ) (t : TreeStep) (before after : List StoredStep) (s : StoredStep)
+    (q : BareCore → Runs (List Step)) (a0 a1 a2 : At) → k < length ts → t ≡ get_or ts k t → Ran stored_step (Ok s) h (stepped t) a1 a2 →
+    after ≡ before ++ s ∷ [] → Underway h (all_stepped (drop k ts) (all_steps before)) a1 q a0 →
+    Underway h (all_stepped (drop (k + 1) ts) (all_steps after)) a2 q a0
+step_next h ts k t before after s q a0 a1 a2 within here n more u =
     let behind : all_steps before ++ stored_step s ∷ [] ≡ all_steps after = sym (ap all_steps more ∙ map-append stored_step before (s ∷ [])) in
-    subst (λ ss. Left fs d (all_stepped rest ss c1) h1 q0 h0) behind
-    (left_left fs d (all_stepped rest (all_steps before ++ stored_step s ∷ []) c1) (all_stepped (t ∷ rest) (all_steps before) c) q0 h h1 h0
-    (goes_on fs d (stepped t c) (all_stepped (t ∷ rest) (all_steps before) c) (one_left rest (all_steps before)) (one_stepped fs d (step_ahead (step_of t)) c (one_left rest (all_steps before))) h (stored_step s) c1 h1 done)
-    (subst (λ us. Left fs d (all_stepped us (all_steps before) c) h q0 h0) (at_front ts k t within here) l))
+    subst (λ ss. Underway h (all_stepped (drop (k + 1) ts) ss) a2 q a0) behind (step_found h ts k t before s q a0 a1 a2 within here n u)
 
 -- the step in front stopped the run
-pub step_failed : (fs : List TreeFunc) (d : ℕ) (ts : List TreeStep) (k : ℕ) (t : TreeStep) (before : List StoredStep) (c : BareCore) (h : Meter) (e : Stopped) (c1 : BareCore) (h1 : Meter) (q0 : Runs (List Step)) (h0 : Meter) →
-    k < length ts → t ≡ get_or ts k t → Meets stored_step (Err e) c1 h1 (run (meaning_of fs d) (stepped t c) h) (cuts (meaning_of fs d) (cutting_of fs d) (stepped t c) h) →
-    Left fs d (all_stepped (drop k ts) (all_steps before) c) h q0 h0 → Meets all_steps (Err e) c1 h1 (run (meaning_of fs d) q0 h0) (cuts (meaning_of fs d) (cutting_of fs d) q0 h0)
-step_failed fs d ts k t before c h e c1 h1 q0 h0 within here m l =
-    let rest = drop (k + 1) ts in
-    meets_left all_steps fs d (all_stepped (t ∷ rest) (all_steps before) c) q0 h0 h (subst (λ us. Left fs d (all_stepped us (all_steps before) c) h q0 h0) (at_front ts k t within here) l) (Err e) c1 h1
-    (goes_failed stored_step all_steps fs d (stepped t c) (all_stepped (t ∷ rest) (all_steps before) c) (one_left rest (all_steps before)) (one_stepped fs d (step_ahead (step_of t)) c (one_left rest (all_steps before))) h e c1 h1 m)
+pub step_failed : (h : Setting) (ts : List TreeStep) (k : ℕ) (t : TreeStep) (before : List StoredStep) (e : Stopped)
+    (q : BareCore → Runs (List Step)) (a0 a1 a2 : At) → k < length ts → t ≡ get_or ts k t → Ran stored_step (Err e) h (stepped t) a1 a2 →
+    Underway h (all_stepped (drop k ts) (all_steps before)) a1 q a0 → Ran all_steps (Err e) h q a0 a2
+step_failed h ts k t before e q a0 a1 a2 within here n u =
+    let behind = one_left (drop (k + 1) ts) (all_steps before) in
+    turn_failed stored_step all_steps h (stepped t) (all_stepped (t ∷ drop (k + 1) ts) (all_steps before)) q behind a0 a1 a2 e
+    (one_stepped h.funcs.now h.depth (step_ahead (step_of t)) (core_of a1.run) behind) n (at_step h ts k t before q a0 a1 within here u)
 
 -- no memory was left for it
-pub step_given_up : (fs : List TreeFunc) (d : ℕ) (ts : List TreeStep) (k : ℕ) (t : TreeStep) (before : List StoredStep) (n : Step) (c : BareCore) (h : Meter) (c1 : BareCore) (h1 : Meter) (q0 : Runs (List Step)) (h0 : Meter) →
-    k < length ts → t ≡ get_or ts k t → run (meaning_of fs d) (stepped t c) h ≡ Done n c1 h1 →
-    Left fs d (all_stepped (drop k ts) (all_steps before) c) h q0 h0 → cuts (meaning_of fs d) (cutting_of fs d) q0 h0 h1
-step_given_up fs d ts k t before n c h c1 h1 q0 h0 within here done l =
-    let rest = drop (k + 1) ts in
-    (left_left fs d (all_stepped rest (all_steps before ++ n ∷ []) c1) (all_stepped (t ∷ rest) (all_steps before) c) q0 h h1 h0
-    (goes_on fs d (stepped t c) (all_stepped (t ∷ rest) (all_steps before) c) (one_left rest (all_steps before)) (one_stepped fs d (step_ahead (step_of t)) c (one_left rest (all_steps before))) h n c1 h1 done)
-    (subst (λ us. Left fs d (all_stepped us (all_steps before) c) h q0 h0) (at_front ts k t within here) l)).given_up h1 (inl refl)
+pub step_given_up : (h : Setting) (ts : List TreeStep) (k : ℕ) (t : TreeStep) (before : List StoredStep) (s : StoredStep)
+    (q : BareCore → Runs (List Step)) (a0 a1 a2 : At) → k < length ts → t ≡ get_or ts k t → Ran stored_step (Ok s) h (stepped t) a1 a2 →
+    Underway h (all_stepped (drop k ts) (all_steps before)) a1 q a0 → Ran all_steps (Err stop.NoMemory) h q a0 a2
+step_given_up h ts k t before s q a0 a1 a2 within here n u =
+    out_of_memory all_steps h (one_left (drop (k + 1) ts) (all_steps before) (stored_step s)) q a0 a2
+    (step_found h ts k t before s q a0 a1 a2 within here n u)
 
 -- ---- places in turn
 
@@ -115,28 +153,43 @@ both_front : (holds : Bool) (ps : List TreePlace) (ys : List Stored) (k : ℕ) (
     all_taking holds (drop k ps) (map value_of (drop k ys)) ≡ taking holds p (value_of y) ∷ all_taking holds (drop (k + 1) ps) (map value_of (drop (k + 1) ys))
 both_front holds ps ys k p y i j a b = ap (λ l. all_taking holds l (map value_of (drop k ys))) (at_front ps k p i a) ∙ ap (λ l. all_taking holds (p ∷ drop (k + 1) ps) (map value_of l)) (at_front ys k y j b)
 
+-- the stores of parts from a place on
+abbrev pub stored_from : Bool → List TreePlace → List Stored → BareCore → Runs Exit
+stored_from holds ps ys c = store_each (all_taking holds ps (map value_of ys)) c
+
+-- and that of one
+abbrev pub stored_one : Bool → TreePlace → Stored → BareCore → Runs Exit
+stored_one holds p y c = store_each (taking holds p (value_of y) ∷ []) c
+
+abbrev stored_rest : Bool → TreePlace → Stored → List TreePlace → List Stored → BareCore → Runs Exit
+stored_rest holds p y ps ys c = store_each (taking holds p (value_of y) ∷ all_taking holds ps (map value_of ys)) c
+
+at_place : (h : Setting) (holds : Bool) (ps : List TreePlace) (ys : List Stored) (k : ℕ) (p : TreePlace) (y : Stored)
+    (q : BareCore → Runs Exit)
+    (a0 a1 : At) → k < length ps → k < length ys → p ≡ get_or ps k p → y ≡ get_or ys k y →
+    Underway h (stored_from holds (drop k ps) (drop k ys)) a1 q a0 → Underway h
+    (stored_rest holds p y (drop (k + 1) ps) (drop (k + 1) ys)) a1 q a0
+at_place h holds ps ys k p y q a0 a1 i j a b u = subst (λ ss. Underway h (λ c. store_each ss c) a1 q a0)
+    (both_front holds ps ys k p y i j a b) u
+
 -- a place was stored, and the places behind it are left
-pub store_next : (fs : List TreeFunc) (d : ℕ) (holds : Bool) (ps : List TreePlace) (ys : List Stored) (k : ℕ) (p : TreePlace) (y : Stored) (x : Exit) (c : BareCore) (h : Meter) (c1 : BareCore) (h1 : Meter) (q0 : Runs Exit) (h0 : Meter) →
-    k < length ps → k < length ys → p ≡ get_or ps k p → y ≡ get_or ys k y → run (meaning_of fs d) (store_each (taking holds p (value_of y) ∷ []) c) h ≡ Done x c1 h1 →
-    Left fs d (store_each (all_taking holds (drop k ps) (map value_of (drop k ys))) c) h q0 h0 → Left fs d (store_each (all_taking holds (drop (k + 1) ps) (map value_of (drop (k + 1) ys))) c1) h1 q0 h0
-store_next fs d holds ps ys k p y x c h c1 h1 q0 h0 i j a b done l =
-    let s = taking holds p (value_of y) in
-    let rest = all_taking holds (drop (k + 1) ps) (map value_of (drop (k + 1) ys)) in
-    left_left fs d (store_each rest c1) (store_each (s ∷ rest) c) q0 h h1 h0
-    (goes_on fs d (store_each (s ∷ []) c) (store_each (s ∷ rest) c) (λ z c2. store_each rest c2) (one_stored fs d s rest c) h x c1 h1 done)
-    (subst (λ ss. Left fs d (store_each ss c) h q0 h0) (both_front holds ps ys k p y i j a b) l)
+pub store_next : (h : Setting) (holds : Bool) (ps : List TreePlace) (ys : List Stored) (k : ℕ) (p : TreePlace) (y : Stored) (x : Ending)
+    (q : BareCore → Runs Exit) (a0 a1 a2 : At) → k < length ps → k < length ys → p ≡ get_or ps k p → y ≡ get_or ys k y →
+    Ran exit_of (Ok x) h (stored_one holds p y) a1 a2 → Underway h (stored_from holds (drop k ps) (drop k ys)) a1 q a0 →
+    Underway h (stored_from holds (drop (k + 1) ps) (drop (k + 1) ys)) a2 q a0
+store_next h holds ps ys k p y x q a0 a1 a2 i j a b n u =
+    turned exit_of h (stored_one holds p y) (stored_rest holds p y (drop (k + 1) ps) (drop (k + 1) ys)) q
+    (λ z c2. stored_from holds (drop (k + 1) ps) (drop (k + 1) ys) c2) a0 a1 a2 x
+    (one_stored h.funcs.now h.depth (taking holds p (value_of y)) (all_taking holds (drop (k + 1) ps) (map value_of (drop (k + 1) ys)))
+    (core_of a1.run)) n (at_place h holds ps ys k p y q a0 a1 i j a b u)
 
 -- a place was not stored
-pub store_failed : (fs : List TreeFunc) (d : ℕ) (holds : Bool) (ps : List TreePlace) (ys : List Stored) (k : ℕ) (p : TreePlace) (y : Stored) (c : BareCore) (h : Meter) (e : Stopped) (c1 : BareCore) (h1 : Meter) (q0 : Runs Exit) (h0 : Meter) →
-    k < length ps → k < length ys → p ≡ get_or ps k p → y ≡ get_or ys k y → Meets exit_of (Err e) c1 h1 (run (meaning_of fs d) (store_each (taking holds p (value_of y) ∷ []) c) h) (cuts (meaning_of fs d) (cutting_of fs d) (store_each (taking holds p (value_of y) ∷ []) c) h) →
-    Left fs d (store_each (all_taking holds (drop k ps) (map value_of (drop k ys))) c) h q0 h0 → Meets exit_of (Err e) c1 h1 (run (meaning_of fs d) q0 h0) (cuts (meaning_of fs d) (cutting_of fs d) q0 h0)
-store_failed fs d holds ps ys k p y c h e c1 h1 q0 h0 i j a b m l =
-    let s = taking holds p (value_of y) in
-    let rest = all_taking holds (drop (k + 1) ps) (map value_of (drop (k + 1) ys)) in
-    meets_left exit_of fs d (store_each (s ∷ rest) c) q0 h0 h (subst (λ ss. Left fs d (store_each ss c) h q0 h0) (both_front holds ps ys k p y i j a b) l) (Err e) c1 h1
-    (goes_failed exit_of exit_of fs d (store_each (s ∷ []) c) (store_each (s ∷ rest) c) (λ z c2. store_each rest c2) (one_stored fs d s rest c) h e c1 h1 m)
-
--- no place is left
-pub stores_ended : (fs : List TreeFunc) (d : ℕ) (holds : Bool) (ps : List TreePlace) (zs : List Value) (k : ℕ) (c : BareCore) (h : Meter) (q0 : Runs Exit) (h0 : Meter) → length ps ≤ k →
-    Left fs d (store_each (all_taking holds (drop k ps) zs) c) h q0 h0 → Left fs d (Ret Normal c) h q0 h0
-stores_ended fs d holds ps zs k c h q0 h0 e l = subst (λ us. Left fs d (store_each (all_taking holds us zs) c) h q0 h0) (at_drop_all (λ us. us) ps k e) l
+pub store_failed : (h : Setting) (holds : Bool) (ps : List TreePlace) (ys : List Stored) (k : ℕ) (p : TreePlace) (y : Stored) (e : Stopped)
+    (q : BareCore → Runs Exit) (a0 a1 a2 : At) → k < length ps → k < length ys → p ≡ get_or ps k p → y ≡ get_or ys k y →
+    Ran exit_of (Err e) h (stored_one holds p y) a1 a2 → Underway h (stored_from holds (drop k ps) (drop k ys)) a1 q a0 →
+    Ran exit_of (Err e) h q a0 a2
+store_failed h holds ps ys k p y e q a0 a1 a2 i j a b n u =
+    turn_failed exit_of exit_of h (stored_one holds p y) (stored_rest holds p y (drop (k + 1) ps) (drop (k + 1) ys)) q
+    (λ z c2. stored_from holds (drop (k + 1) ps) (drop (k + 1) ys) c2) a0 a1 a2 e
+    (one_stored h.funcs.now h.depth (taking holds p (value_of y)) (all_taking holds (drop (k + 1) ps) (map value_of (drop (k + 1) ys)))
+    (core_of a1.run)) n (at_place h holds ps ys k p y q a0 a1 i j a b u)

@@ -1,74 +1,52 @@
 -- Loops, turn by turn: what is left after a turn, and where a turn stops the whole.
-use Rattle.std.proofs.Common.{◌≡◌, ℕ, ◌-◌, ◌<◌, Bool, true, false, inl, inr, List, Option, None, Some, Err, refl, sym, ap, ◌∙◌, subst}
-use Rattle.std.specs.Prelude.{ℤ}
+use Rattle.std.proofs.Common.{◌≡◌, ℕ, ◌-◌, ◌<◌, Bool, true, false, Option, None, Some, Ok, Err, refl, sym, ap, ◌∙◌, subst}
+use Rattle.std.specs.Prelude.{ℤ, List}
 use mathlib.Core.Bool.{beq}
 use Rattle.asl_syn.specs.declared.token.Span.{Span}
 use Rattle.asl_syn.specs.declared.tree.Direction.{Direction}
-use Rattle.asl_rules.specs.runs.Cuts.{cuts}
 use Rattle.asl_rules.specs.values.Operators.{truth}
-use Rattle.asl_rules.specs.runs.Plans.{Meter, Done, Ret, Eval, Good, choose, follow, lift, run, ◌>>=◌}
+use Rattle.asl_rules.specs.runs.Plans.{Ret, Good, choose, follow, lift}
 use Rattle.asl_rules.specs.runs.Limits.{most_turns}
 use Rattle.asl_rules.specs.runs.StatementForms.{asked, go_on, index_turn, is_past, limited, next_index, scope, scope_with, turns_in, whole_number}
 use Rattle.asl_rules.specs.runs.Trees.{Tree, Act}
 use Rattle.asl_rules.specs.private.TypedMeaning.{BareCore, Runs, in_bare, indexed}
-use Rattle.asl_rules.specs.values.Values.{Value, Exit, Normal, Returned, int}
+use Rattle.asl_rules.specs.values.Values.{Value, Exit, Normal, int}
 use Rattle.asl_tree.specs.declared.act.TreeFunc.{TreeFunc}
 use Rattle.asl_value.specs.private.Answers as answers
 use Rattle.asl_value.specs.declared.failure.Failure.{Failure}
 use Rattle.asl_value.specs.declared.failure.Failure.TheVariants as failure
 use Rattle.asl_value.specs.declared.value.FieldValue.TheFolds.{fold-roll-Value}
 use Rattle.asl_value.specs.declared.value.FieldValue.TheOpen as layers
+use Rattle.asl_value.specs.declared.value.Value.{Value as Stored}
 use Rattle.asl_value.specs.declared.value.Value.TheVariants as variants
 use Rattle.asl_value.specs.View as view
 use Rattle.asl_value.specs.View.{value_of}
+use Rattle.asl_branches.specs.declared.setting.Setting.{Setting}
+use Rattle.asl_branches.specs.declared.stop.Exit.{Exit as Ending}
+use Rattle.asl_branches.specs.declared.stop.Exit.TheVariants as exit
 use Rattle.asl_branches.specs.declared.stop.Stop.{Stop as Stopped}
-use Rattle.asl_branches.specs.declared.stop.Stop.TheVariants as stop
-use Rattle.asl_branches.specs.Meets.{Is, Left, Meets}
-use Rattle.asl_branches.specs.View.{exit_of, stop_of, meaning_of, cutting_of}
-use Rattle.asl_branches.proofs.Turns.{Goes, goes_eval, goes_failed, goes_lift, goes_on, goes_ret, left_left, lift_meets, meets_left, one_evaluated}
+use Rattle.asl_branches.specs.Meets.{At, Is, Ran, Underway}
+use Rattle.asl_branches.specs.View.{core_of, exit_of, stop_of}
+use Rattle.asl_branches.proofs.Answered.{Valued, all_done, ended, lift_failed, same_plan, turn_failed, turned, turned_eval}
+use Rattle.asl_branches.proofs.Turns.{Goes, goes_eval, goes_lift, goes_ret}
 use Rattle.asl_run.specs.private.Looping.{limit_asked, turn_until}
 use Rattle.asl_run.proofs.Lefts.{goes_follow}
 use Rattle.asl_run.proofs.Rounds.{index_more, turn_after, until_more}
 
--- ---- a list, and what comes behind it
-
-list_next : (fs : List TreeFunc) (d : ℕ) (q : Runs Exit) (k : Exit → BareCore → Runs Exit) (h : Meter) (x : Exit) (c1 : BareCore) (h1 : Meter) (q0 : Runs Exit) (h0 : Meter) → run (meaning_of fs d) q h ≡ Done x c1 h1 → Left fs d (follow q k) h q0 h0 → Left fs d (k x c1) h1 q0 h0
-list_next fs d q k h x c1 h1 q0 h0 done l = left_left fs d (k x c1) (follow q k) q0 h h1 h0 (goes_on fs d q (follow q k) k (goes_follow fs d q k) h x c1 h1 done) l
-
-list_failed : (fs : List TreeFunc) (d : ℕ) (q : Runs Exit) (k : Exit → BareCore → Runs Exit) (h : Meter) (e : Stopped) (c1 : BareCore) (h1 : Meter) (q0 : Runs Exit) (h0 : Meter) →
-    Meets exit_of (Err e) c1 h1 (run (meaning_of fs d) q h) (cuts (meaning_of fs d) (cutting_of fs d) q h) → Left fs d (follow q k) h q0 h0 → Meets exit_of (Err e) c1 h1 (run (meaning_of fs d) q0 h0) (cuts (meaning_of fs d) (cutting_of fs d) q0 h0)
-list_failed fs d q k h e c1 h1 q0 h0 m l = meets_left exit_of fs d (follow q k) q0 h0 h l (Err e) c1 h1 (goes_failed exit_of exit_of fs d q (follow q k) k (goes_follow fs d q k) h e c1 h1 m)
-
 -- ---- a condition
 
--- an expression stopped the run
-pub eval_failed : (fs : List TreeFunc) (d : ℕ) (e : Tree) (c : BareCore) (k : Value → BareCore → Runs Exit) (h : Meter) (r : Stopped) (c1 : BareCore) (h1 : Meter) →
-    Meets value_of (Err r) c1 h1 ((meaning_of fs d).expr e c h) ((cutting_of fs d).expr e c h) → Meets exit_of (Err r) c1 h1 (run (meaning_of fs d) (Eval e c k) h) (cuts (meaning_of fs d) (cutting_of fs d) (Eval e c k) h)
-eval_failed fs d e c k h stop.NoMemory c1 h1 m = inr (inl m)
-eval_failed fs d e c k h stop.SinkFault c1 h1 m = inr (inl m)
-eval_failed fs d e c k h (stop.Thrown x) c1 h1 m = ap (λ r. r >>= λ x c1 h1. run (meaning_of fs d) (k x c1) h1) m
-eval_failed fs d e c k h (stop.Fault code span) c1 h1 m = ap (λ r. r >>= λ x c1 h1. run (meaning_of fs d) (k x c1) h1) m
-eval_failed fs d e c k h (stop.Stuck mistake span) c1 h1 m = ap (λ r. r >>= λ x c1 h1. run (meaning_of fs d) (k x c1) h1) m
+-- it was evaluated
+pub asked_next : (h : Setting) (span : Span) (e : Tree) (f g : BareCore → Runs Exit) (v : Stored) (q : BareCore → Runs Exit)
+    (a0 a1 a2 : At) →
+    Valued (Ok v) h e a1 a2 → Underway h (λ c. asked span e c f g) a1 q a0 →
+    Underway h (λ c. lift (truth span (value_of v)) c (λ b. choose b (f c) (g c))) a2 q a0
+asked_next h span e f g v q a0 a1 a2 n u = turned_eval h e (λ x c. lift (truth span x) c (λ b. choose b (f c) (g c))) q a0 a1 a2 v n u
 
--- its value is there
-pub eval_next : (fs : List TreeFunc) (d : ℕ) (e : Tree) (c : BareCore) (k : Value → BareCore → Runs Exit) (h : Meter) (v : Value) (c1 : BareCore) (h1 : Meter) → (meaning_of fs d).expr e c h ≡ Done v c1 h1 → Left fs d (k v c1) h1 (Eval e c k) h
-eval_next fs d e c k h v c1 h1 done = goes_on fs d (Eval e c (λ y c2. Ret y c2)) (Eval e c k) k (one_evaluated fs d e c k) h v c1 h1 (ap (λ r. r >>= λ y c2 h3. Done y c2 h3) done)
-
--- the values of two are
-pub both_next : (fs : List TreeFunc) (d : ℕ) (a b : Tree) (c : BareCore) (k : Value → Value → BareCore → Runs Exit) (h : Meter) (v : Value) (c1 : BareCore) (h1 : Meter) (w : Value) (c2 : BareCore) (h2 : Meter) →
-    (meaning_of fs d).expr a c h ≡ Done v c1 h1 → (meaning_of fs d).expr b c1 h1 ≡ Done w c2 h2 → Left fs d (k v w c2) h2 (Eval a c (λ x c3. Eval b c3 (k x))) h
-both_next fs d a b c k h v c1 h1 w c2 h2 first second =
-    left_left fs d (k v w c2) (Eval b c1 (k v)) (Eval a c (λ x c3. Eval b c3 (k x))) h1 h2 h (eval_next fs d b c1 (k v) h1 w c2 h2 second) (eval_next fs d a c (λ x c3. Eval b c3 (k x)) h v c1 h1 first)
-
-pub asked_next : (fs : List TreeFunc) (d : ℕ) (span : Span) (e : Tree) (c : BareCore) (f g : BareCore → Runs Exit) (h : Meter) (v : Value) (c1 : BareCore) (h1 : Meter) (q0 : Runs Exit) (h0 : Meter) → (meaning_of fs d).expr e c h ≡ Done v c1 h1 →
-    Left fs d (asked span e c f g) h q0 h0 → Left fs d (lift (truth span v) c1 (λ b. choose b (f c1) (g c1))) h1 q0 h0
-asked_next fs d span e c f g h v c1 h1 q0 h0 done l =
-    let go : Value → BareCore → Runs Exit = λ x c2. lift (truth span x) c2 (λ b. choose b (f c2) (g c2)) in
-    left_left fs d (go v c1) (Eval e c go) q0 h h1 h0 (eval_next fs d e c go h v c1 h1 done) l
-
-pub chosen_next : (fs : List TreeFunc) (d : ℕ) (span : Span) (v : Value) (b : Bool) (c : BareCore) (f g : BareCore → Runs Exit) (h : Meter) (q0 : Runs Exit) (h0 : Meter) → truth span v ≡ Good b →
-    Left fs d (lift (truth span v) c (λ b. choose b (f c) (g c))) h q0 h0 → Left fs d (choose b (f c) (g c)) h q0 h0
-chosen_next fs d span v b c f g h q0 h0 e l = subst (λ r. Left fs d (lift r c (λ b. choose b (f c) (g c))) h q0 h0) e l
+-- it is a boolean
+pub chosen_next : (h : Setting) (span : Span) (v : Value) (b : Bool) (f g : BareCore → Runs Exit) (q : BareCore → Runs Exit) (a0 a1 : At) →
+    truth span v ≡ Good b → Underway h (λ c. lift (truth span v) c (λ b. choose b (f c) (g c))) a1 q a0 →
+    Underway h (λ c. choose b (f c) (g c)) a1 q a0
+chosen_next h span v b f g q a0 a1 e u = subst (λ r. Underway h (λ c. lift r c (λ b. choose b (f c) (g c))) a1 q a0) e u
 
 is_of : (f : Failure) (span : Span) (v : Value) → answers.Is (λ (b : Bool). b) (Err f) (truth span v) → Is (λ (b : Bool). b) (Err (stop_of f)) (truth span v)
 is_of (failure.Fault code at) span v e = e
@@ -76,49 +54,73 @@ is_of (failure.WrongKind at) span v e = e
 is_of (failure.UnknownType at) span v e = e
 is_of failure.NoMemory span v e = tt
 
-pub truth_failed : (fs : List TreeFunc) (d : ℕ) (span : Span) (v : Value) (t : Failure) (c : BareCore) (f g : BareCore → Runs Exit) (h : Meter) (q0 : Runs Exit) (h0 : Meter) → answers.Is (λ (b : Bool). b) (Err t) (truth span v) →
-    Left fs d (lift (truth span v) c (λ b. choose b (f c) (g c))) h q0 h0 → Meets exit_of (Err (stop_of t)) c h (run (meaning_of fs d) q0 h0) (cuts (meaning_of fs d) (cutting_of fs d) q0 h0)
-truth_failed fs d span v t c f g h q0 h0 e l =
-    meets_left exit_of fs d (lift (truth span v) c (λ b. choose b (f c) (g c))) q0 h0 h l (Err (stop_of t)) c h
-    (lift_meets (λ (b : Bool). b) exit_of fs d (stop_of t) (truth span v) (is_of t span v e) c h (λ b. choose b (f c) (g c)))
+-- it is none
+pub truth_failed : (h : Setting) (span : Span) (v : Value) (t : Failure) (f g : BareCore → Runs Exit) (q : BareCore → Runs Exit)
+    (a0 a1 : At) →
+    answers.Is (λ (b : Bool). b) (Err t) (truth span v) → Underway h (λ c. lift (truth span v) c (λ b. choose b (f c) (g c))) a1 q a0 →
+    Ran exit_of (Err (stop_of t)) h q a0 a1
+truth_failed h span v t f g q a0 a1 e u =
+    ended exit_of h (λ c. lift (truth span v) c (λ b. choose b (f c) (g c))) q a0 a1 a1 (Err (stop_of t)) u
+    (lift_failed (λ (b : Bool). b) exit_of h (stop_of t) (truth span v) (λ c b. choose b (f c) (g c)) a1 (is_of t span v e))
 
 -- ---- `while` and `repeat`
 
 abbrev until_behind : Bool → Span → Tree → List Act → ℕ → Exit → BareCore → Runs Exit
 until_behind b span e ss n x c1 = go_on x c1 (λ c2. asked span e c2 (turn_after b true span e ss (n - 1)) (turn_after b false span e ss (n - 1)))
 
-at_until : (fs : List TreeFunc) (d : ℕ) (b : Bool) (span : Span) (e : Tree) (ss : List Act) (n : ℕ) (c : BareCore) (h : Meter) (q0 : Runs Exit) (h0 : Meter) → 0 < n →
-    Left fs d (turn_until b span e ss n c) h q0 h0 → Left fs d (follow (scope in_bare ss c) (until_behind b span e ss n)) h q0 h0
-at_until fs d b span e ss n c h q0 h0 has l = subst (λ (q : Runs Exit). Left fs d q h q0 h0) (until_more b span e ss n c has) l
+abbrev until_first : Bool → Span → Tree → List Act → ℕ → BareCore → Runs Exit
+until_first b span e ss n c = follow (scope in_bare ss c) (until_behind b span e ss n)
 
-pub until_list_failed : (fs : List TreeFunc) (d : ℕ) (b : Bool) (span : Span) (e : Tree) (ss : List Act) (n : ℕ) (c : BareCore) (h : Meter) (r : Stopped) (c1 : BareCore) (h1 : Meter) (q0 : Runs Exit) (h0 : Meter) → 0 < n →
-    Meets exit_of (Err r) c1 h1 (run (meaning_of fs d) (scope in_bare ss c) h) (cuts (meaning_of fs d) (cutting_of fs d) (scope in_bare ss c) h) → Left fs d (turn_until b span e ss n c) h q0 h0 →
-    Meets exit_of (Err r) c1 h1 (run (meaning_of fs d) q0 h0) (cuts (meaning_of fs d) (cutting_of fs d) q0 h0)
-until_list_failed fs d b span e ss n c h r c1 h1 q0 h0 has m l = list_failed fs d (scope in_bare ss c) (until_behind b span e ss n) h r c1 h1 q0 h0 m (at_until fs d b span e ss n c h q0 h0 has l)
+at_until : (h : Setting) (b : Bool) (span : Span) (e : Tree) (ss : List Act) (n : ℕ) (q : BareCore → Runs Exit) (a0 a1 : At) → 0 < n →
+    Underway h (turn_until b span e ss n) a1 q a0 → Underway h (until_first b span e ss n) a1 q a0
+at_until h b span e ss n q a0 a1 has u =
+    same_plan h (turn_until b span e ss n) (until_first b span e ss n) q a0 a1 (until_more b span e ss n (core_of a1.run) has) u
 
-until_asks : (fs : List TreeFunc) (d : ℕ) (b : Bool) (span : Span) (e : Tree) (ss : List Act) (n : ℕ) (c : BareCore) (h : Meter) (c1 : BareCore) (h1 : Meter) (v : Value) (c2 : BareCore) (h2 : Meter) (q0 : Runs Exit) (h0 : Meter) → 0 < n →
-    run (meaning_of fs d) (scope in_bare ss c) h ≡ Done Normal c1 h1 → (meaning_of fs d).expr e c1 h1 ≡ Done v c2 h2 → Left fs d (turn_until b span e ss n c) h q0 h0 →
-    Left fs d (lift (truth span v) c2 (λ t. choose t (turn_after b true span e ss (n - 1) c2) (turn_after b false span e ss (n - 1) c2))) h2 q0 h0
-until_asks fs d b span e ss n c h c1 h1 v c2 h2 q0 h0 has done asks l =
-    asked_next fs d span e c1 (turn_after b true span e ss (n - 1)) (turn_after b false span e ss (n - 1)) h1 v c2 h2 q0 h0 asks
-    (list_next fs d (scope in_bare ss c) (until_behind b span e ss n) h Normal c1 h1 q0 h0 done (at_until fs d b span e ss n c h q0 h0 has l))
+-- the list of a turn stopped the run
+pub until_list_failed : (h : Setting) (b : Bool) (span : Span) (e : Tree) (ss : List Act) (n : ℕ) (r : Stopped) (q : BareCore → Runs Exit)
+    (a0 a1 a2 : At) → 0 < n → Ran exit_of (Err r) h (scope in_bare ss) a1 a2 → Underway h (turn_until b span e ss n) a1 q a0 →
+    Ran exit_of (Err r) h q a0 a2
+until_list_failed h b span e ss n r q a0 a1 a2 has m u =
+    turn_failed exit_of exit_of h (scope in_bare ss) (until_first b span e ss n) q (until_behind b span e ss n) a0 a1 a2 r
+    (goes_follow h.funcs.now h.depth (scope in_bare ss (core_of a1.run)) (until_behind b span e ss n)) m
+    (at_until h b span e ss n q a0 a1 has u)
 
-pub until_truth_failed : (fs : List TreeFunc) (d : ℕ) (b : Bool) (span : Span) (e : Tree) (ss : List Act) (n : ℕ) (c : BareCore) (h : Meter) (c1 : BareCore) (h1 : Meter) (v : Value) (c2 : BareCore) (h2 : Meter) (t : Failure) (q0 : Runs Exit) (h0 : Meter) → 0 < n →
-    run (meaning_of fs d) (scope in_bare ss c) h ≡ Done Normal c1 h1 → (meaning_of fs d).expr e c1 h1 ≡ Done v c2 h2 → answers.Is (λ (b : Bool). b) (Err t) (truth span v) → Left fs d (turn_until b span e ss n c) h q0 h0 →
-    Meets exit_of (Err (stop_of t)) c2 h2 (run (meaning_of fs d) q0 h0) (cuts (meaning_of fs d) (cutting_of fs d) q0 h0)
-until_truth_failed fs d b span e ss n c h c1 h1 v c2 h2 t q0 h0 has done asks fails l =
-    truth_failed fs d span v t c2 (turn_after b true span e ss (n - 1)) (turn_after b false span e ss (n - 1)) h2 q0 h0 fails (until_asks fs d b span e ss n c h c1 h1 v c2 h2 q0 h0 has done asks l)
+until_asks : (h : Setting) (b : Bool) (span : Span) (e : Tree) (ss : List Act) (n : ℕ) (v : Stored) (q : BareCore → Runs Exit)
+    (a0 a1 a2 a3 : At) →
+    0 < n → Ran exit_of (Ok exit.Normal) h (scope in_bare ss) a1 a2 → Valued (Ok v) h e a2 a3 → Underway h
+    (turn_until b span e ss n) a1 q a0 →
+    Underway h (λ c. lift (truth span (value_of v)) c (λ t. choose t (turn_after b true span e ss (n - 1) c)
+    (turn_after b false span e ss (n - 1) c)))
+    a3 q a0
+until_asks h b span e ss n v q a0 a1 a2 a3 has m r u =
+    asked_next h span e (turn_after b true span e ss (n - 1)) (turn_after b false span e ss (n - 1)) v q a0 a2 a3 r
+    (turned exit_of h (scope in_bare ss) (until_first b span e ss n) q (until_behind b span e ss n) a0 a1 a2 exit.Normal
+    (goes_follow h.funcs.now h.depth (scope in_bare ss (core_of a1.run)) (until_behind b span e ss n)) m
+    (at_until h b span e ss n q a0 a1 has u))
+
+pub until_truth_failed : (h : Setting) (b : Bool) (span : Span) (e : Tree) (ss : List Act) (n : ℕ) (v : Stored) (t : Failure)
+    (q : BareCore → Runs Exit) (a0 a1 a2 a3 : At) → 0 < n → Ran exit_of (Ok exit.Normal) h (scope in_bare ss) a1 a2 →
+    Valued (Ok v) h e a2 a3 → answers.Is (λ (b : Bool). b) (Err t) (truth span (value_of v)) →
+    Underway h (turn_until b span e ss n) a1 q a0 → Ran exit_of (Err (stop_of t)) h q a0 a3
+until_truth_failed h b span e ss n v t q a0 a1 a2 a3 has m r fails u =
+    truth_failed h span (value_of v) t (turn_after b true span e ss (n - 1)) (turn_after b false span e ss (n - 1)) q a0 a3 fails
+    (until_asks h b span e ss n v q a0 a1 a2 a3 has m r u)
 
 -- what comes after a turn, by what its condition is
 after_is : (b t : Bool) (span : Span) (e : Tree) (ss : List Act) (n : ℕ) (c : BareCore) → choose t (turn_after b true span e ss n c) (turn_after b false span e ss n c) ≡ turn_after b t span e ss n c
 after_is b true span e ss n c = refl
 after_is b false span e ss n c = refl
 
-until_answered : (fs : List TreeFunc) (d : ℕ) (b : Bool) (span : Span) (e : Tree) (ss : List Act) (n : ℕ) (c : BareCore) (h : Meter) (c1 : BareCore) (h1 : Meter) (v : Value) (t : Bool) (c2 : BareCore) (h2 : Meter) (q0 : Runs Exit) (h0 : Meter) → 0 < n →
-    run (meaning_of fs d) (scope in_bare ss c) h ≡ Done Normal c1 h1 → (meaning_of fs d).expr e c1 h1 ≡ Done v c2 h2 → truth span v ≡ Good t → Left fs d (turn_until b span e ss n c) h q0 h0 → Left fs d (turn_after b t span e ss (n - 1) c2) h2 q0 h0
-until_answered fs d b span e ss n c h c1 h1 v t c2 h2 q0 h0 has done asks is l =
-    subst (λ (q : Runs Exit). Left fs d q h2 q0 h0) (after_is b t span e ss (n - 1) c2)
-    (chosen_next fs d span v t c2 (turn_after b true span e ss (n - 1)) (turn_after b false span e ss (n - 1)) h2 q0 h0 is (until_asks fs d b span e ss n c h c1 h1 v c2 h2 q0 h0 has done asks l))
+until_answered : (h : Setting) (b : Bool) (span : Span) (e : Tree) (ss : List Act) (n : ℕ) (v : Stored) (t : Bool)
+    (q : BareCore → Runs Exit)
+    (a0 a1 a2 a3 : At) → 0 < n → Ran exit_of (Ok exit.Normal) h (scope in_bare ss) a1 a2 → Valued (Ok v) h e a2 a3 →
+    truth span (value_of v) ≡ Good t → Underway h (turn_until b span e ss n) a1 q a0 →
+    Underway h (turn_after b t span e ss (n - 1)) a3 q a0
+until_answered h b span e ss n v t q a0 a1 a2 a3 has m r is u =
+    let yes = turn_after b true span e ss (n - 1) in
+    let no = turn_after b false span e ss (n - 1) in
+    same_plan h (λ c. choose t (yes c) (no c)) (turn_after b t span e ss (n - 1)) q a0 a3 (after_is b t span e ss (n - 1) (core_of a3.run))
+    (chosen_next h span (value_of v) t yes no q a0 a3 is (until_asks h b span e ss n v q a0 a1 a2 a3 has m r u))
 
 -- the condition ends the loop
 ends : (b t : Bool) (span : Span) (e : Tree) (ss : List Act) (n : ℕ) (c : BareCore) → beq t b ≡ true → turn_after b t span e ss n c ≡ Ret Normal c
@@ -127,10 +129,14 @@ ends true false span e ss n c is = cc
 ends false true span e ss n c is = cc
 ends false false span e ss n c is = refl
 
-pub until_ended : (fs : List TreeFunc) (d : ℕ) (b : Bool) (span : Span) (e : Tree) (ss : List Act) (n : ℕ) (c : BareCore) (h : Meter) (c1 : BareCore) (h1 : Meter) (v : Value) (t : Bool) (c2 : BareCore) (h2 : Meter) (q0 : Runs Exit) (h0 : Meter) → 0 < n →
-    run (meaning_of fs d) (scope in_bare ss c) h ≡ Done Normal c1 h1 → (meaning_of fs d).expr e c1 h1 ≡ Done v c2 h2 → truth span v ≡ Good t → beq t b ≡ true → Left fs d (turn_until b span e ss n c) h q0 h0 → run (meaning_of fs d) q0 h0 ≡ Done Normal c2 h2
-until_ended fs d b span e ss n c h c1 h1 v t c2 h2 q0 h0 has done asks answers is l =
-    sym (until_answered fs d b span e ss n c h c1 h1 v t c2 h2 q0 h0 has done asks answers l).same ∙ ap (λ (q : Runs Exit). run (meaning_of fs d) q h2) (ends b t span e ss (n - 1) c2 is)
+pub until_ended : (h : Setting) (b : Bool) (span : Span) (e : Tree) (ss : List Act) (n : ℕ) (v : Stored) (t : Bool)
+    (q : BareCore → Runs Exit)
+    (a0 a1 a2 a3 : At) → 0 < n → Ran exit_of (Ok exit.Normal) h (scope in_bare ss) a1 a2 → Valued (Ok v) h e a2 a3 →
+    truth span (value_of v) ≡ Good t → beq t b ≡ true → Underway h (turn_until b span e ss n) a1 q a0 →
+    Ran exit_of (Ok exit.Normal) h q a0 a3
+until_ended h b span e ss n v t q a0 a1 a2 a3 has m r answers is u =
+    all_done exit_of h exit.Normal q a0 a3 (same_plan h (turn_after b t span e ss (n - 1)) (λ c. Ret Normal c) q a0 a3
+    (ends b t span e ss (n - 1) (core_of a3.run) is) (until_answered h b span e ss n v t q a0 a1 a2 a3 has m r answers u))
 
 -- it doesn't
 goes_round : (b t : Bool) (span : Span) (e : Tree) (ss : List Act) (n : ℕ) (c : BareCore) → beq t b ≡ false → turn_after b t span e ss n c ≡ turn_until b span e ss n c
@@ -139,10 +145,14 @@ goes_round true false span e ss n c isnt = refl
 goes_round false true span e ss n c isnt = refl
 goes_round false false span e ss n c isnt = cc
 
-pub until_turned : (fs : List TreeFunc) (d : ℕ) (b : Bool) (span : Span) (e : Tree) (ss : List Act) (n : ℕ) (c : BareCore) (h : Meter) (c1 : BareCore) (h1 : Meter) (v : Value) (t : Bool) (c2 : BareCore) (h2 : Meter) (q0 : Runs Exit) (h0 : Meter) → 0 < n →
-    run (meaning_of fs d) (scope in_bare ss c) h ≡ Done Normal c1 h1 → (meaning_of fs d).expr e c1 h1 ≡ Done v c2 h2 → truth span v ≡ Good t → beq t b ≡ false → Left fs d (turn_until b span e ss n c) h q0 h0 → Left fs d (turn_until b span e ss (n - 1) c2) h2 q0 h0
-until_turned fs d b span e ss n c h c1 h1 v t c2 h2 q0 h0 has done asks answers isnt l =
-    subst (λ (q : Runs Exit). Left fs d q h2 q0 h0) (goes_round b t span e ss (n - 1) c2 isnt) (until_answered fs d b span e ss n c h c1 h1 v t c2 h2 q0 h0 has done asks answers l)
+pub until_turned : (h : Setting) (b : Bool) (span : Span) (e : Tree) (ss : List Act) (n : ℕ) (v : Stored) (t : Bool)
+    (q : BareCore → Runs Exit)
+    (a0 a1 a2 a3 : At) → 0 < n → Ran exit_of (Ok exit.Normal) h (scope in_bare ss) a1 a2 → Valued (Ok v) h e a2 a3 →
+    truth span (value_of v) ≡ Good t → beq t b ≡ false → Underway h (turn_until b span e ss n) a1 q a0 →
+    Underway h (turn_until b span e ss (n - 1)) a3 q a0
+until_turned h b span e ss n v t q a0 a1 a2 a3 has m r answers isnt u =
+    same_plan h (turn_after b t span e ss (n - 1)) (turn_until b span e ss (n - 1)) q a0 a3
+    (goes_round b t span e ss (n - 1) (core_of a3.run) isnt) (until_answered h b span e ss n v t q a0 a1 a2 a3 has m r answers u)
 
 -- ---- a limit
 
@@ -158,35 +168,69 @@ limit_evaluated fs d span (Some e) c k =
 abbrev for_behind : Span → Direction → ℤ → List Act → ℕ → ℤ → Exit → BareCore → Runs Exit
 for_behind span d last ss n i x c1 = go_on x c1 (λ c2. choose (is_past d last (next_index d i)) (Ret Normal c2) (index_turn in_bare indexed span d last ss (n - 1) (next_index d i) c2))
 
-at_index : (fs : List TreeFunc) (d : ℕ) (span : Span) (dir : Direction) (last : ℤ) (ss : List Act) (n : ℕ) (i : ℤ) (c : BareCore) (h : Meter) (q0 : Runs Exit) (h0 : Meter) → 0 < n →
-    Left fs d (index_turn in_bare indexed span dir last ss n i c) h q0 h0 → Left fs d (follow (scope_with in_bare (indexed (int i)) ss c) (for_behind span dir last ss n i)) h q0 h0
-at_index fs d span dir last ss n i c h q0 h0 has l = subst (λ (q : Runs Exit). Left fs d q h q0 h0) (index_more span dir last ss n i c has) l
+abbrev for_first : Span → Direction → ℤ → List Act → ℕ → ℤ → BareCore → Runs Exit
+for_first span d last ss n i c = follow (scope_with in_bare (indexed (int i)) ss c) (for_behind span d last ss n i)
 
-pub index_list_failed : (fs : List TreeFunc) (d : ℕ) (span : Span) (dir : Direction) (last : ℤ) (ss : List Act) (n : ℕ) (i : ℤ) (c : BareCore) (h : Meter) (r : Stopped) (c1 : BareCore) (h1 : Meter) (q0 : Runs Exit) (h0 : Meter) → 0 < n →
-    Meets exit_of (Err r) c1 h1 (run (meaning_of fs d) (scope_with in_bare (indexed (int i)) ss c) h) (cuts (meaning_of fs d) (cutting_of fs d) (scope_with in_bare (indexed (int i)) ss c) h) →
-    Left fs d (index_turn in_bare indexed span dir last ss n i c) h q0 h0 → Meets exit_of (Err r) c1 h1 (run (meaning_of fs d) q0 h0) (cuts (meaning_of fs d) (cutting_of fs d) q0 h0)
-index_list_failed fs d span dir last ss n i c h r c1 h1 q0 h0 has m l = list_failed fs d (scope_with in_bare (indexed (int i)) ss c) (for_behind span dir last ss n i) h r c1 h1 q0 h0 m (at_index fs d span dir last ss n i c h q0 h0 has l)
+-- the turns from an index on
+abbrev pub turns_from : Span → Direction → ℤ → List Act → ℕ → ℤ → BareCore → Runs Exit
+turns_from span d last ss n i c = index_turn in_bare indexed span d last ss n i c
 
-pub index_turned : (fs : List TreeFunc) (d : ℕ) (span : Span) (dir : Direction) (last : ℤ) (ss : List Act) (n : ℕ) (i j : ℤ) (c : BareCore) (h : Meter) (c1 : BareCore) (h1 : Meter) (q0 : Runs Exit) (h0 : Meter) → 0 < n →
-    run (meaning_of fs d) (scope_with in_bare (indexed (int i)) ss c) h ≡ Done Normal c1 h1 → is_past dir last (next_index dir i) ≡ false → j ≡ next_index dir i →
-    Left fs d (index_turn in_bare indexed span dir last ss n i c) h q0 h0 → Left fs d (index_turn in_bare indexed span dir last ss (n - 1) j c1) h1 q0 h0
-index_turned fs d span dir last ss n i j c h c1 h1 q0 h0 has done fails next l =
-    let m = list_next fs d (scope_with in_bare (indexed (int i)) ss c) (for_behind span dir last ss n i) h Normal c1 h1 q0 h0 done (at_index fs d span dir last ss n i c h q0 h0 has l) in
-    subst (λ (k : ℤ). Left fs d (index_turn in_bare indexed span dir last ss (n - 1) k c1) h1 q0 h0) (sym next)
-    (subst (λ (b : Bool). Left fs d (choose b (Ret Normal c1) (index_turn in_bare indexed span dir last ss (n - 1) (next_index dir i) c1)) h1 q0 h0) fails m)
+-- the list of a turn with its index
+abbrev pub turn_at : ℤ → List Act → BareCore → Runs Exit
+turn_at i ss c = scope_with in_bare (indexed (int i)) ss c
+
+at_index : (h : Setting) (span : Span) (dir : Direction) (last : ℤ) (ss : List Act) (n : ℕ) (i : ℤ) (q : BareCore → Runs Exit)
+    (a0 a1 : At) → 0 < n →
+    Underway h (turns_from span dir last ss n i) a1 q a0 → Underway h (for_first span dir last ss n i) a1 q a0
+at_index h span dir last ss n i q a0 a1 has u =
+    same_plan h (turns_from span dir last ss n i) (for_first span dir last ss n i) q a0 a1
+    (index_more span dir last ss n i (core_of a1.run) has) u
+
+pub index_list_failed : (h : Setting) (span : Span) (dir : Direction) (last : ℤ) (ss : List Act) (n : ℕ) (i : ℤ) (r : Stopped)
+    (q : BareCore → Runs Exit)
+    (a0 a1 a2 : At) → 0 < n → Ran exit_of (Err r) h (turn_at i ss) a1 a2 → Underway h (turns_from span dir last ss n i) a1 q a0 →
+    Ran exit_of (Err r) h q a0 a2
+index_list_failed h span dir last ss n i r q a0 a1 a2 has m u =
+    turn_failed exit_of exit_of h (turn_at i ss) (for_first span dir last ss n i) q (for_behind span dir last ss n i) a0 a1 a2 r
+    (goes_follow h.funcs.now h.depth (turn_at i ss (core_of a1.run)) (for_behind span dir last ss n i)) m
+    (at_index h span dir last ss n i q a0 a1 has u)
+
+-- the list of a turn was executed
+index_next : (h : Setting) (span : Span) (dir : Direction) (last : ℤ) (ss : List Act) (n : ℕ) (i : ℤ) (x : Ending)
+    (q : BareCore → Runs Exit)
+    (a0 a1 a2 : At) → 0 < n → Ran exit_of (Ok x) h (turn_at i ss) a1 a2 → Underway h (turns_from span dir last ss n i) a1 q a0 →
+    Underway h (for_behind span dir last ss n i (exit_of x)) a2 q a0
+index_next h span dir last ss n i x q a0 a1 a2 has m u =
+    turned exit_of h (turn_at i ss) (for_first span dir last ss n i) q (for_behind span dir last ss n i) a0 a1 a2 x
+    (goes_follow h.funcs.now h.depth (turn_at i ss (core_of a1.run)) (for_behind span dir last ss n i)) m
+    (at_index h span dir last ss n i q a0 a1 has u)
+
+pub index_turned : (h : Setting) (span : Span) (dir : Direction) (last : ℤ) (ss : List Act) (n : ℕ) (i j : ℤ) (q : BareCore → Runs Exit)
+    (a0 a1 a2 : At) → 0 < n → Ran exit_of (Ok exit.Normal) h (turn_at i ss) a1 a2 → is_past dir last (next_index dir i) ≡ false →
+    j ≡ next_index dir i → Underway h (turns_from span dir last ss n i) a1 q a0 → Underway h
+    (turns_from span dir last ss (n - 1) j) a2 q a0
+index_turned h span dir last ss n i j q a0 a1 a2 has m fails next u =
+    subst (λ (k : ℤ). Underway h (turns_from span dir last ss (n - 1) k) a2 q a0) (sym next)
+    (subst (λ (b : Bool). Underway h (λ c. choose b (Ret Normal c) (turns_from span dir last ss (n - 1) (next_index dir i) c))
+    a2 q a0) fails
+    (index_next h span dir last ss n i exit.Normal q a0 a1 a2 has m u))
 
 -- a turn that returned
-pub index_returned : (fs : List TreeFunc) (d : ℕ) (span : Span) (dir : Direction) (last : ℤ) (ss : List Act) (n : ℕ) (i : ℤ) (c : BareCore) (h : Meter) (o : Option Value) (c1 : BareCore) (h1 : Meter) (q0 : Runs Exit) (h0 : Meter) → 0 < n →
-    run (meaning_of fs d) (scope_with in_bare (indexed (int i)) ss c) h ≡ Done (Returned o) c1 h1 → Left fs d (index_turn in_bare indexed span dir last ss n i c) h q0 h0 → run (meaning_of fs d) q0 h0 ≡ Done (Returned o) c1 h1
-index_returned fs d span dir last ss n i c h o c1 h1 q0 h0 has done l =
-    sym (list_next fs d (scope_with in_bare (indexed (int i)) ss c) (for_behind span dir last ss n i) h (Returned o) c1 h1 q0 h0 done (at_index fs d span dir last ss n i c h q0 h0 has l)).same
+pub index_returned : (h : Setting) (span : Span) (dir : Direction) (last : ℤ) (ss : List Act) (n : ℕ) (i : ℤ) (o : Option Stored)
+    (q : BareCore → Runs Exit) (a0 a1 a2 : At) → 0 < n → Ran exit_of (Ok (exit.Returned o)) h (turn_at i ss) a1 a2 →
+    Underway h (turns_from span dir last ss n i) a1 q a0 → Ran exit_of (Ok (exit.Returned o)) h q a0 a2
+index_returned h span dir last ss n i o q a0 a1 a2 has m u =
+    all_done exit_of h (exit.Returned o) q a0 a2 (index_next h span dir last ss n i (exit.Returned o) q a0 a1 a2 has m u)
 
 -- the last turn
-pub index_ended : (fs : List TreeFunc) (d : ℕ) (span : Span) (dir : Direction) (last : ℤ) (ss : List Act) (n : ℕ) (i : ℤ) (c : BareCore) (h : Meter) (c1 : BareCore) (h1 : Meter) (q0 : Runs Exit) (h0 : Meter) → 0 < n →
-    run (meaning_of fs d) (scope_with in_bare (indexed (int i)) ss c) h ≡ Done Normal c1 h1 → is_past dir last (next_index dir i) ≡ true → Left fs d (index_turn in_bare indexed span dir last ss n i c) h q0 h0 → run (meaning_of fs d) q0 h0 ≡ Done Normal c1 h1
-index_ended fs d span dir last ss n i c h c1 h1 q0 h0 has done past l =
-    let m = list_next fs d (scope_with in_bare (indexed (int i)) ss c) (for_behind span dir last ss n i) h Normal c1 h1 q0 h0 done (at_index fs d span dir last ss n i c h q0 h0 has l) in
-    sym m.same ∙ ap (λ b. run (meaning_of fs d) (choose b (Ret Normal c1) (index_turn in_bare indexed span dir last ss (n - 1) (next_index dir i) c1)) h1) past
+pub index_ended : (h : Setting) (span : Span) (dir : Direction) (last : ℤ) (ss : List Act) (n : ℕ) (i : ℤ) (q : BareCore → Runs Exit)
+    (a0 a1 a2 : At) → 0 < n → Ran exit_of (Ok exit.Normal) h (turn_at i ss) a1 a2 → is_past dir last (next_index dir i) ≡ true →
+    Underway h (turns_from span dir last ss n i) a1 q a0 → Ran exit_of (Ok exit.Normal) h q a0 a2
+index_ended h span dir last ss n i q a0 a1 a2 has m past u =
+    all_done exit_of h exit.Normal q a0 a2
+    (subst (λ (b : Bool). Underway h (λ c. choose b (Ret Normal c) (turns_from span dir last ss (n - 1) (next_index dir i) c))
+    a2 q a0) past
+    (index_next h span dir last ss n i exit.Normal q a0 a1 a2 has m u))
 
 -- the value of an index
 pub int_there : (i : ℤ) → value_of (variants.Int i) ≡ int i

@@ -1,12 +1,3 @@
-pub mod Chains
-pub mod Gathering
-pub mod Binding
-pub mod Assigning
 pub mod Walked
-pub mod Turns
-pub mod SizeLemmas
-pub mod Parted
-pub mod Simples
-pub mod ActForms
-pub mod Placing
+pub mod ListTurns
 pub mod Reported

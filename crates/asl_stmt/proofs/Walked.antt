@@ -33,12 +33,12 @@ use Rattle.asl_rules.specs.statements.Stmts.{StmtOf, Printed, printed, printing,
 use Rattle.asl_rules.proofs.scopes.Longer.{list_longer}
 use Rattle.asl_shape.specs.View.{patterns_from}
 use Rattle.asl_tree.specs.Acts.{acts_from, branches_from, alternatives_from, catchers_from}
-use Rattle.asl_stmt.specs.private.Walks as walks
-use Rattle.asl_stmt.specs.private.Walks.{after, Listing, listing, stmt_step, shut, last_shut, misplaced, where_misplaced, Gathered, gathered, nothing_gathered, branch_step, first_branch, if_ended, if_walk, alternative_step, case_ended, case_walk, for_walk, while_walk, repeat_walk, catcher_step, caught, try_walk, item_step, print_walk, walk_layer, walk_stmt}
-use Rattle.asl_stmt.proofs.Chains.{then_same, then_then, then_itself, append_nothing}
-use Rattle.asl_stmt.proofs.Gathering.{Parts, onto, gathered_with, all_rule, all_conditions, all_effects, all_trees, gathering, condition_is, misplaced_is, where_is}
-use Rattle.asl_stmt.proofs.Assigning.{assign_is}
-use Rattle.asl_stmt.proofs.Binding.{bind_is}
+use Rattle.asl_blocks.specs.private.Walks as walks
+use Rattle.asl_blocks.specs.private.Walks.{after, Listing, listing, stmt_step, shut, last_shut, misplaced, where_misplaced, Gathered, gathered, nothing_gathered, branch_step, first_branch, if_ended, if_walk, alternative_step, case_ended, case_walk, for_walk, while_walk, repeat_walk, catcher_step, caught, try_walk, item_step, print_walk, walk_layer, walk_stmt}
+use Rattle.asl_blocks.proofs.Chains.{then_same, then_then, then_itself, append_nothing}
+use Rattle.asl_blocks.proofs.Gathering.{Parts, onto, gathered_with, all_rule, all_conditions, all_effects, all_trees, gathering, condition_is, misplaced_is, where_is}
+use Rattle.asl_assignments.proofs.Assigning.{assign_is}
+use Rattle.asl_simple.proofs.Binding.{bind_is}
 
 -- ---- lists whose names are visible no more
 

@@ -7,13 +7,13 @@ ghost use Rattle.asl_rules.specs.statements.Stmts as rules;
 ghost use Rattle.asl_rules.specs.Tests.{Tests};
 ghost use Rattle.asl_types.specs.private.Answers.{Met};
 ghost use Rattle.asl_types.specs.Suits.{Suits};
-ghost use Rattle.asl_stmt.specs.private.Views.{body_of, done_of, listing_of, listed_of};
-ghost use Rattle.asl_stmt.specs.private.Walks.{after, listing, stmt_step, shut, walk_stmt};
+ghost use Rattle.asl_blocks.specs.private.Views.{body_of, done_of, listing_of, listed_of};
+ghost use Rattle.asl_blocks.specs.private.Walks.{after, listing, stmt_step, shut, walk_stmt};
 
-use crate::body::{Body, Done, Listed};
 use crate::stmts::check_node;
-use crate::within::Within;
 use asl_allowed::effects::greater;
+use asl_blocks::body::{Body, Done, Listed};
+use asl_blocks::within::Within;
 use asl_rules::effect::Effect;
 use asl_shared::Held;
 use asl_syn::code::Refused;
@@ -38,7 +38,7 @@ fn check_stmt<'a>(names: &mut Scope<'a>, body: &Body, s: &'a Stmt) -> Result<Don
 
 /// Statements in order. The names that they declare stay.
 #[cycle(lists)]
-#[tactic(auto, using(crate::proofs::SizeLemmas::stmt_inside))]
+#[tactic(auto, using(asl_blocks::proofs::SizeLemmas::stmt_inside))]
 fn check_list<'a>(names: &mut Scope<'a>, body: &Body, stmts: &'a [Stmt]) -> Result<Listed, Refused>
     ensures { (t : Tests) → Suits t → Met (listing_of names.new) result (after (stmt_step (body_of names.old body.now)) (map (walk_stmt t) stmts.now) (listing names.old Pure [])) }
 {

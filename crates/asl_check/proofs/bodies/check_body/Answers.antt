@@ -1,6 +1,6 @@
 use Rattle.std.proofs.Common.{sym, ap, ◌∙◌, take}
 use Rattle.asl_rules.specs.declared.effect.Effect.TheVariants.{Pure}
-use Rattle.asl_stmt.proofs.Turns.{suiting, suits}
+use Rattle.asl_blocks.proofs.Turns.{suiting, suits}
 use Rattle.asl_check.proofs.BodyTurns.{body_by, body_cut_back}
 use Rattle.asl_check.proofs.bodies.check_body.Goals as goal
 

@@ -1,54 +1,34 @@
-use Rattle.std.proofs.lemmas.Result.{err_from_is_err_and}
 use Rattle.std.proofs.Common.{◌≡◌, map, rules, subst}
+use Rattle.std.proofs.lemmas.Result.{err_from_is_err_and}
 use Rattle.asl_rules.specs.runs.Forms.{at_once}
 use Rattle.asl_rules.specs.private.TypedMeaning.{list_of}
 use Rattle.asl_tree.specs.View.{all_trees}
 use Rattle.asl_value.specs.View.{value_of}
 use Rattle.asl_branches.specs.Meets.{Is}
-use Rattle.asl_branches.specs.View.{core_of, meter_of}
-use Rattle.asl_branches.proofs.Turns.{all_evaluated, at_once_meets, goes_failed, goes_met}
+use Rattle.asl_branches.specs.View.{core_of}
+use Rattle.asl_branches.proofs.Answered.{failed, given, met}
+use Rattle.asl_branches.proofs.Turns.{all_evaluated}
 use Rattle.asl_run.specs.private.Operations.{more_given}
 use Rattle.asl_run.proofs.exprs.eval_behind_one.Goals as goal
 
 pub returns-in_err-zs : goal.returns-in_err-zs
-returns-in_err-zs g c = record {
-  meets =
-      let fs = (g.N.Nodes.setting c.args.here.now).funcs.now in
-      let d = (g.N.Nodes.setting c.args.here.now).depth in
-      let c0 = core_of c.args.run.now in
-      let h0 = meter_of c.args.run.now (g.K.Sink.written c.args.sink.now) in
-      let c1 = core_of c.eval_all.new.run in
-      let h1 = meter_of c.eval_all.new.run (g.K.Sink.written c.eval_all.new.sink) in
-      let p = err_from_is_err_and c.from_residual.result c.from_residual.ensures.1 in
-      rw (p.1, p.2) (goes_failed (map value_of) value_of fs d _ _ _
-      (all_evaluated fs d (list_of (all_trees c.args.es.now)) c0
-      (λ zs c1. at_once (more_given c.args.behind.span c.args.behind.more (value_of c.args.x.now) zs) c1)) h0
-      c.in_err-zs.field-0.0 c1 h1 c.in_err-zs.ensures.meets);
-  counts = search rules;
-  same_full = search rules;
-  keeps = search rules;
-}
+returns-in_err-zs g c =
+    let h = g.N.Nodes.setting c.args.here.now in
+    let p = err_from_is_err_and c.from_residual.result c.from_residual.ensures.1 in
+    rw (p.1, p.2) (failed (map value_of) value_of h.funcs.now h.depth _ _ _
+    (all_evaluated h.funcs.now h.depth (list_of (all_trees c.args.es.now)) (core_of c.args.run.now)
+    (λ zs c1. at_once (more_given c.args.behind.span c.args.behind.more (value_of c.args.x.now) zs) c1))
+    _ c.in_err-zs.field-0.0 _ _ c.in_err-zs.ensures)
 
 pub returns : goal.returns
-returns g c = record {
-  meets =
-      let fs = (g.N.Nodes.setting c.args.here.now).funcs.now in
-      let d = (g.N.Nodes.setting c.args.here.now).depth in
-      let c0 = core_of c.args.run.now in
-      let h0 = meter_of c.args.run.now (g.K.Sink.written c.args.sink.now) in
-      let c1 = core_of c.eval_all.new.run in
-      let h1 = meter_of c.eval_all.new.run (g.K.Sink.written c.eval_all.new.sink) in
-      let here : c.as_slice.result.now ≡ c.in_ok-zs.zs = search rules in
-      let is : Is value_of c.more_value.result (more_given c.args.behind.span c.args.behind.more (value_of c.args.x.now)
-      (map value_of c.in_ok-zs.zs)) =
-      subst (λ zs. Is value_of c.more_value.result (more_given c.args.behind.span c.args.behind.more (value_of c.args.x.now)
-      (map value_of zs))) here c.more_value.ensures in
-      goes_met value_of fs d _ _ _ (all_evaluated fs d (list_of (all_trees c.args.es.now)) c0
-      (λ zs c1. at_once (more_given c.args.behind.span c.args.behind.more (value_of c.args.x.now) zs) c1)) h0
-      (map value_of c.in_ok-zs.zs) c1 h1 c.in_ok-zs.ensures.meets c.more_value.result c1 h1
-      (at_once_meets value_of fs d c.more_value.result (more_given c.args.behind.span c.args.behind.more (value_of c.args.x.now)
-      (map value_of c.in_ok-zs.zs)) c1 h1 is);
-  counts = search rules;
-  same_full = search rules;
-  keeps = search rules;
-}
+returns g c =
+    let h = g.N.Nodes.setting c.args.here.now in
+    let here : c.as_slice.result.now ≡ c.in_ok-zs.zs = search rules in
+    let is : Is value_of c.more_value.result (more_given c.args.behind.span c.args.behind.more (value_of c.args.x.now)
+    (map value_of c.in_ok-zs.zs)) =
+    subst (λ zs. Is value_of c.more_value.result (more_given c.args.behind.span c.args.behind.more (value_of c.args.x.now)
+    (map value_of zs))) here c.more_value.ensures in
+    met (map value_of) value_of h.funcs.now h.depth _ _ _
+    (all_evaluated h.funcs.now h.depth (list_of (all_trees c.args.es.now)) (core_of c.args.run.now)
+    (λ zs c1. at_once (more_given c.args.behind.span c.args.behind.more (value_of c.args.x.now) zs) c1))
+    _ c.in_ok-zs.zs c.more_value.result _ _ _ c.in_ok-zs.ensures (given value_of h c.more_value.result _ _ is)

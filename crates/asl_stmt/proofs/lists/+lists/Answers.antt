@@ -3,10 +3,11 @@ use Rattle.asl_rules.specs.declared.effect.Effect.TheVariants.{Pure}
 use Rattle.asl_rules.specs.statements.Acting.{listed}
 use Rattle.asl_rules.specs.Faults.{◌>>=◌}
 use Rattle.asl_tree.specs.Acts.{act_of, acts_from}
-use Rattle.asl_stmt.specs.private.Views.{body_of, listing_of, listed_of}
-use Rattle.asl_stmt.specs.private.Walks.{after, stmt_step, listing, walk_stmt}
-use Rattle.asl_stmt.proofs.Parted.{stop}
-use Rattle.asl_stmt.proofs.Turns.{list_loop, map_more, shut_by, cut_listing, suiting, suits}
+use Rattle.asl_blocks.specs.private.Views.{body_of, listing_of, listed_of}
+use Rattle.asl_blocks.specs.private.Walks.{after, stmt_step, listing, walk_stmt}
+use Rattle.asl_blocks.proofs.Parted.{stop}
+use Rattle.asl_stmt.proofs.ListTurns.{list_loop, shut_by, cut_listing}
+use Rattle.asl_blocks.proofs.Turns.{map_more, suiting, suits}
 use Rattle.asl_stmt.proofs.lists.+lists.Goals as goal
 
 pub check_list-loop-s-preserved : goal.check_list-loop-s-preserved

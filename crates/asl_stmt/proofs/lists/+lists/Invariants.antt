@@ -3,9 +3,9 @@ use Rattle.asl_rules.specs.declared.effect.Effect.TheVariants.{Pure}
 use Rattle.asl_rules.specs.Tests.{Tests}
 use Rattle.asl_types.specs.Suits.{Suits}
 use Rattle.asl_tree.specs.Acts.{act_of}
-use Rattle.asl_stmt.specs.private.Sizes.{stmt_size, stmts_size}
-use Rattle.asl_stmt.specs.private.Views.{body_of}
-use Rattle.asl_stmt.specs.private.Walks.{after, stmt_step, listing, walk_stmt}
+use Rattle.asl_blocks.specs.private.Sizes.{stmt_size, stmts_size}
+use Rattle.asl_blocks.specs.private.Views.{body_of}
+use Rattle.asl_blocks.specs.private.Walks.{after, stmt_step, listing, walk_stmt}
 use Rattle.asl_stmt.proofs.lists.+lists.Given as goal
 
 -- a list stands above its statements, and a block above its list

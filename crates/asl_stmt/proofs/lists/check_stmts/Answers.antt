@@ -2,8 +2,8 @@ use Rattle.std.proofs.Common.{[], map, refl, ◌∙◌}
 use Rattle.asl_rules.specs.statements.Acting.{Listed, listed}
 use Rattle.asl_rules.specs.declared.effect.Effect.TheVariants.{Pure}
 use Rattle.asl_tree.specs.Acts.{acts_from}
-use Rattle.asl_stmt.specs.private.Views.{body_of, listing_of, listed_of}
-use Rattle.asl_stmt.specs.private.Walks.{Listing, walk_stmt}
+use Rattle.asl_blocks.specs.private.Views.{body_of, listing_of, listed_of}
+use Rattle.asl_blocks.specs.private.Walks.{Listing, walk_stmt}
 use Rattle.asl_stmt.proofs.Reported.{met_on}
 use Rattle.asl_stmt.proofs.Walked.{list_is, in_order_is}
 use Rattle.asl_stmt.proofs.lists.check_stmts.Goals as goal

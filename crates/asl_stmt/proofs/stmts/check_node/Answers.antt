@@ -1,6 +1,6 @@
 use Rattle.std.proofs.Common.{Ok, sym, ap, ◌∙◌}
-use Rattle.asl_stmt.specs.private.Views.{body_of}
-use Rattle.asl_stmt.proofs.ActForms.{walk_pass, walk_unreachable}
+use Rattle.asl_blocks.specs.private.Views.{body_of}
+use Rattle.asl_blocks.proofs.ActForms.{walk_pass, walk_unreachable}
 use Rattle.asl_stmt.proofs.stmts.check_node.Goals as goal
 
 pub returns-in-Pass : goal.returns-in-Pass

@@ -1,0 +1,5 @@
+-- What restates something for proofs, nearer to how the code goes about it: a lemma ties each to what it restates.
+pub mod Walks
+pub mod Views
+pub mod Sizes
+pub mod Blocks

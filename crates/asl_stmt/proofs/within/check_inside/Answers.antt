@@ -1,4 +1,0 @@
-use Rattle.asl_stmt.proofs.within.check_inside.Goals as goal
-
-pub returns-clause-rule : goal.returns-clause-rule
-returns-clause-rule g c = c.requires.blocks.rule _ _ _ _ _ c.list.ensures
