@@ -12,6 +12,7 @@ use Rattle.asl_rules.specs.declarations.Declarations.{Judged, entries_of, entrie
 use Rattle.asl_rules.specs.declarations.Programs.{Head, funcs_of, signatures_rule, overloads_rule}
 use Rattle.asl_judge.specs.private.Passes.{with_judgements, names_judged}
 use Rattle.asl_judge.specs.Tables.{declarations_rule}
+use Rattle.asl_subprograms.specs.private.Apart.{apart_rule}
 use Rattle.asl_decl.specs.Heads.{heads_of, Declared, declared_with, declared_rule}
 use Rattle.asl_decl.specs.private.Signatures.{signatures_found, declared_found}
 use Rattle.asl_decl.proofs.ApartLemmas.{overloads_are}
