@@ -46,10 +46,6 @@ pub behind_is : (span : Span) (o : BinaryOperator) (x : Value) (b : Known) (name
 behind_is span o x b names Strict = asked_right span o x b names
 behind_is span o x b names (Lazy f) = lazily span o x b names f (truth span x)
 
-pub behind_decided : (span : Span) (o : BinaryOperator) (x : Value) (b : Known) (names : List Entry) (s : Strictness) (r : Bool) →
-    decided_by span x s ≡ Good (Ok r) → settled span names (behind_left WIDTH_LIMIT span o b x s names) ≡ Good (bool r)
-behind_decided span o x b names s r h = behind_is span o x b names s ∙ ap (λ p. p >>= go span o b names) h
-
 asked : (span : Span) (o : BinaryOperator) (x : Value) (b : Known) (names : List Entry) (s : Strictness) (y : Value) →
     decided_by span x s ≡ Good (Err y) → settled span names (behind_left WIDTH_LIMIT span o b x s names) ≡ (b names >>= λ z. binary_value WIDTH_LIMIT span o y z)
 asked span o x b names s y h = behind_is span o x b names s ∙ ap (λ p. p >>= go span o b names) h
@@ -61,10 +57,6 @@ asked_good span o x b names s y z r h g e = asked span o x b names s y h ∙ (ap
 pub asked_bad : (span : Span) (o : BinaryOperator) (x : Value) (b : Known) (names : List Entry) (s : Strictness) (y : Value) (e : End) →
     decided_by span x s ≡ Good (Err y) → b names ≡ Bad e → settled span names (behind_left WIDTH_LIMIT span o b x s names) ≡ Bad e
 asked_bad span o x b names s y e h g = asked span o x b names s y h ∙ ap (λ p. p >>= λ w. binary_value WIDTH_LIMIT span o y w) g
-
-pub behind_bad : (span : Span) (o : BinaryOperator) (x : Value) (b : Known) (names : List Entry) (s : Strictness) (e : End) →
-    decided_by span x s ≡ Bad e → settled span names (behind_left WIDTH_LIMIT span o b x s names) ≡ Bad e
-behind_bad span o x b names s e h = behind_is span o x b names s ∙ ap (λ p. p >>= go span o b names) h
 
 -- ---- the element at an index
 

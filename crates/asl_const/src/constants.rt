@@ -74,7 +74,6 @@ fn eval_name(names: &Scope, span: Span, name: &[u8]) -> Result<Value, Unknown>
 
 /// The value of an expression.
 #[cycle(eval)]
-#[tactic(auto, using(crate::proofs::Deciding::given_at_once, crate::proofs::Deciding::behind_decided, crate::proofs::Deciding::behind_bad))]
 fn eval(alloc: Global, names: &Scope, e: &Expr) -> Result<Value, Unknown>
     ensures { Finds value_of result (constant WIDTH_LIMIT e.now names.now) }
 {
