@@ -150,8 +150,8 @@ Executes result h t a a1 =
 pub record Left {A : Type 0} (fs : List TreeFunc) (d : ℕ) (q : Plans A) (h : Meter) (q0 : Plans A) (h0 : Meter) : Type 0 where
   pub same : run (meaning_of fs d) q h ≡ run (meaning_of fs d) q0 h0
   pub given_up : (u : Meter) → cuts (meaning_of fs d) (cutting_of fs d) q h u → cuts (meaning_of fs d) (cutting_of fs d) q0 h0 u
-      -- between two turns of a loop: what is left to do is left of what there was to do at first, and all else that an answer says
 
+-- between two turns of a loop: what is left to do is left of what there was to do at first, and all else that an answer says
 -- has held so far
 pub record Underway {A : Type 0} (h : Setting) (p : BareCore → Plans A) (a : At) (q : BareCore → Plans A) (a0 : At) : Type 0 where
   pub left : Left h.funcs.now h.depth (p (core_of a.run)) (meter_of a.run a.told) (q (core_of a0.run)) (meter_of a0.run a0.told)
