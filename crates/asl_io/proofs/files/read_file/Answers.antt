@@ -5,9 +5,11 @@ use Rattle.asl_io.proofs.files.read_file.Goals as goal
 pub returns-in_err-n-clause-at_most : goal.returns-in_err-n-clause-at_most
 returns-in_err-n-clause-at_most g c =
     by_answer c.in_err-n.field-0.0 c.from_residual-in_err-n.result _ c.from_residual-in_err-n.ensures.0 c.from_residual-in_err-n.ensures.1 c.in_err-n.ensures.not_too_long
-      (λ e. let k = c.in_err-n.ensures.lost e in
-        (length c.loop-bytes.bytes.items + k.0, omega (arith, k.1, c.loop-bytes.invariant.within, c.loop-bytes-test.true, c.loop-bytes.bytes.ok, c.len.ensures),
-         many_more _ _ _ c.loop-bytes.bytes.items k.0 c.loop-bytes.invariant.whole k.2))
+    (λ e. let k = c.in_err-n.ensures.lost e in (
+      length c.loop-bytes.bytes.items + k.0,
+      omega (arith, k.1, c.loop-bytes.invariant.within, c.loop-bytes-test.true, c.loop-bytes.bytes.ok, c.len.ensures),
+      many_more _ _ _ c.loop-bytes.bytes.items k.0 c.loop-bytes.invariant.whole k.2,
+    ))
 
 pub returns-then-n-eq0-clause-at_most : goal.returns-then-n-eq0-clause-at_most
 returns-then-n-eq0-clause-at_most g c =
