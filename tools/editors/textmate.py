@@ -130,9 +130,10 @@ def problem_matcher():
 def manifest():
     """The manifest of the extension."""
     return {
+        "//": WRITTEN,
         "name": LANGUAGE,
         "displayName": "ASL1",
-        "description": "Highlighting for ASL1 as asl reads it, and a problem matcher for the faults that asl writes. " + WRITTEN,
+        "description": "Highlighting for ASL1 as asl reads it, and a problem matcher for the faults that asl reports.",
         "version": "1.0.0",
         "publisher": "asl",
         "engines": {"vscode": "^1.60.0"},
