@@ -8,3 +8,4 @@ pub mod Rows
 pub mod AtomAlone
 pub mod PolynomialOf
 pub mod Omitted
+pub mod WidthValues

@@ -62,7 +62,9 @@ pub fn law2()
 
 /// Soundness: no run of a well-formed program is stuck. Each state that it visits is sound, each node that it visits was
 /// judged in a scope with which the state agrees, an expression with a type gives values of that type, and the globals
-/// hold what was declared, however a call ends. Typed trees do what the trees do that they were judged from.
+/// hold what was declared, however a call ends. Typed trees do what the trees do that they were judged from. A width expression that is
+/// evaluated, wherever it is written, gives the integer that it has as a width, or the fault D01, or D12 or D13 as any node may, and
+/// leaves the state as it was; so does an end of a constraint (`width_values`).
 #[tactic(auto)]
 pub fn law3()
     ensures { (limit : ℕ) (e : Entry) (files : List File) (ds : List Decl) (a : Accepted) → Reads files (Ok ds) → (p : ProgramOk limit e ds a) → Soundness p.tests ds a × SameMeaning p.tests ds a }
