@@ -3,6 +3,7 @@ pub mod Evaluated
 pub mod Reported
 pub mod Visited
 pub mod WidthValues
+pub mod WidthWorth
 pub mod Wider
 pub mod Answers
 pub mod BeforeRuns
