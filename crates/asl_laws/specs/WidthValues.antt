@@ -33,10 +33,12 @@ GivesInteger c P (Halt (Stuck mistake span) c1 h) = ⊥
 abbrev pub HasNumber : Expr → Core → ℤ → Type 0
 HasNumber e c z = number e (present c) ≡ Some z
 
--- in a state that agrees with its scope a width gives the integer that its polynomial has, and an end of a constraint that names no atom its own; each is the
--- plain integer of the expression
+-- in a state that agrees with its scope a width gives the integer that its polynomial has, and an end of a constraint that names no atom
+-- its own; each is the plain integer of the expression
 pub record WidthValues (t : Tests) (ds : List Decl) (a : Accepted) : Type 0 where
-  pub widths : (d : ℕ) (e : Expr) (G : Scope) (W : Width) (p : Assignment) (c : Core) (h : Meter) → width t e G ≡ Ok W → Agrees a.names G.names p c →
+  pub widths : (d : ℕ) (e : Expr) (G : Scope) (W : Width) (p : Assignment) (c : Core) (h : Meter) →
+      width t e G ≡ Ok W → Agrees a.names G.names p c →
       GivesInteger c (λ z. HasWidth W.poly p z × HasNumber e c z) ((meaning (environment t ds) d).expr e c h)
-  pub numbers : (d : ℕ) (e : Expr) (G : Scope) (N : Number) (p : Assignment) (c : Core) (h : Meter) → (found t e).number G ≡ Ok N → Agrees a.names G.names p c →
+  pub numbers : (d : ℕ) (e : Expr) (G : Scope) (N : Number) (p : Assignment) (c : Core) (h : Meter) →
+      (found t e).number G ≡ Ok N → Agrees a.names G.names p c →
       GivesInteger c (λ z. (z ≡ N.number) × HasNumber e c z) ((meaning (environment t ds) d).expr e c h)

@@ -1,5 +1,5 @@
--- What widths are worth over plain integers, which no limit bounds: what a width has there, when two are the same, and what declarations ask of the integers that
--- names stand for.
+-- What widths are worth over plain integers, which no limit bounds: what a width has there, when two are the same, and what declarations
+-- ask of the integers that names stand for.
 use Rattle.std.specs.Prelude.{◌≡◌, ℕ, ℤ, true, List, Some, Ok}
 use Rattle.asl_syn.specs.declared.tree.Expr.{Expr}
 use Rattle.asl_syn.specs.declared.tree.LocalKind.{LocalKind}
@@ -36,7 +36,8 @@ IsIntegerName name names = (s : Storage) × (storage_of name names ≡ Some s) �
 
 -- a `let` of one integer, whose initialiser is a width, has the plain integer of its initialiser; nothing else is asked
 abbrev pub Asks : Tests → LocalKind → Bind → Expr → Scope → List Entry → Integers → Type 0
-Asks t local.Let (Single (Bound i)) e G after a = IsIntegerName i.text after → (w : Width) → width t e G ≡ Ok w → number e (standing_for a) ≡ Some (a i.text)
+Asks t local.Let (Single (Bound i)) e G after a =
+    IsIntegerName i.text after → (w : Width) → width t e G ≡ Ok w → number e (standing_for a) ≡ Some (a i.text)
 Asks t local.Let (Single (Unbound at)) e G after a = Unit {0}
 Asks t local.Let (Several at bs) e G after a = Unit {0}
 Asks t local.Var b e G after a = Unit {0}
