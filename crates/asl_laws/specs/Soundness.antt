@@ -23,6 +23,7 @@ use Rattle.asl_rules.specs.runs.Machines.{most_open, run_of, visits_of}
 use Rattle.asl_rules.specs.runs.Visits.{Entered, AtExpr, AtStmt, Visit}
 use Rattle.asl_rules.specs.private.TypedMeaning.{BareCore, TreeProgram, tree_meaning, tree_call}
 use Rattle.asl_rules.specs.private.Erasure.{erased, erased_outcome}
+use Rattle.asl_laws.specs.WidthValues.{WidthValues}
 
 abbrev pub NotStuck : {A : Type 0} → Outcome Core A → Type 0
 NotStuck (Done x c h) = Unit {0}
@@ -86,6 +87,7 @@ pub record Soundness (t : Tests) (ds : List Decl) (a : Accepted) : Type 0 where
   pub visited : (id : ℕ) (args : List Value) (globals : List Binding) (h : Meter) → IsCall a id args globals → AllVisited t a (visits_of (environment t ds) id args globals h)
   pub typed_values : (d : ℕ) (e : Expr) (G : Scope) (S : Typed) (p : Assignment) (c : Core) (h : Meter) → typed t e G ≡ Ok S → G.subs ≡ a.signatures → Agrees a.names G.names p c →
       NotStuck ((meaning (environment t ds) d).expr e c h) × GivesType a.names G.names p S.ty ((meaning (environment t ds) d).expr e c h)
+  pub width_values : WidthValues t ds a
 
 -- ---- typed trees
 
