@@ -3,7 +3,7 @@
 
 ghost use Rattle.std.specs.Prelude.{◌≡◌, ℕ, List, Ok, Option, ◌≤◌, [], ◌∷◌, map};
 ghost use Rattle.asl_bits.specs.declared.TheConstants.{WIDTH_LIMIT};
-ghost use Rattle.asl_grammar.specs.Reading.{File, Reads, Reader, IsReading, IsReadingAt};
+ghost use Rattle.asl_grammar.specs.Reading.{File, ReadsAt, Reader, IsReadingAt};
 ghost use Rattle.asl_grammar.specs.lexemes.Refusals.{max_width};
 ghost use Rattle.asl_grammar.specs.lexemes.Texts.{LiesIn};
 ghost use Rattle.asl_rules.specs.private.Agreement.{types_in};
@@ -53,11 +53,12 @@ pub fn law1()
 /// all right tests of one width limit, and by whatever reads files as the grammar says (`report`).
 #[tactic(auto)]
 pub fn law2()
+    ensures tests { (limit : ℕ) → (t : Tests) × (IsRight t × (t.limit ≡ limit)) }
     ensures one { (limit : ℕ) (e : Entry) (files : List File) → OneAnswer limit e files }
     ensures within { (limit : ℕ) (e : Entry) (file : File) (files : List File) (f : Fault) → FaultOfFiles limit e (file ∷ files) f → LiesIn 0 (map (λ g. g.1) (file ∷ files)) f.span }
-    ensures evaluates { (t : Tests) → IsRight t → (files : List File) (ds : List Decl) → Reads files (Ok ds) → names_rule [] (all_declared ds) ≡ Ok tt → Evaluates t ds }
-    ensures cause { (limit : ℕ) (e : Entry) (files : List File) (ds : List Decl) (f : Fault) → Reads files (Ok ds) → (p : FaultOf limit e ds f) → f.code ≡ T04 → HasCause p.tests ds f }
-    ensures report { (t u : Tests) → IsRight t → IsRight u → t.limit ≡ u.limit → (read other : Reader) → IsReading read → IsReading other → (command : Command) (held : Text → Text) → report_of t read command held ≡ report_of u other command held }
+    ensures evaluates { (t : Tests) → IsRight t → (files : List File) (ds : List Decl) → ReadsAt t.limit files (Ok ds) → names_rule [] (all_declared ds) ≡ Ok tt → Evaluates t ds }
+    ensures cause { (limit : ℕ) (e : Entry) (files : List File) (ds : List Decl) (f : Fault) → ReadsAt limit files (Ok ds) → (p : FaultOf limit e ds f) → f.code ≡ T04 → HasCause p.tests ds f }
+    ensures report { (t u : Tests) → IsRight t → IsRight u → t.limit ≡ u.limit → (limit : ℕ) (read other : Reader) → IsReadingAt limit read → IsReadingAt limit other → (command : Command) (held : Text → Text) → report_of t read command held ≡ report_of u other command held }
 {}
 
 /// Soundness: no run of a well-formed program is stuck. Each state that it visits is sound, each node that it visits was
@@ -65,7 +66,7 @@ pub fn law2()
 /// hold what was declared, however a call ends. Typed trees do what the trees do that they were judged from.
 #[tactic(auto)]
 pub fn law3()
-    ensures { (limit : ℕ) (e : Entry) (files : List File) (ds : List Decl) (a : Accepted) → Reads files (Ok ds) → (p : ProgramOk limit e ds a) → Soundness p.tests ds a × SameMeaning p.tests ds a }
+    ensures { (limit : ℕ) (e : Entry) (files : List File) (ds : List Decl) (a : Accepted) → ReadsAt limit files (Ok ds) → (p : ProgramOk limit e ds a) → Soundness p.tests ds a × SameMeaning p.tests ds a }
 {}
 
 /// Law 5. The width limit decides nothing but what is too wide. Files that have a derivation have the same one under each wider limit,
@@ -87,7 +88,7 @@ pub fn law5()
 /// declared names by the names and comparing kinds by structure is the same (`kinds`).
 #[tactic(auto, using(asl_rules::proofs::values::KindsByNames::kinds_by_names))]
 pub fn kinds_law()
-    ensures declared { (limit : ℕ) (e : Entry) (files : List File) (ds : List Decl) (a : Accepted) → Reads files (Ok ds) → (p : ProgramOk limit e ds a) → WellDeclared (types_in a.names) }
+    ensures declared { (limit : ℕ) (e : Entry) (files : List File) (ds : List Decl) (a : Accepted) → ReadsAt limit files (Ok ds) → (p : ProgramOk limit e ds a) → WellDeclared (types_in a.names) }
     ensures kinds { (declared : List ℕ → Option Ty) → WellDeclared declared → (S T : Ty) → Shaped declared S → Shaped declared T → same_kind S T ≡ kind_eq (kind S) (kind T) }
 {}
 
@@ -97,7 +98,7 @@ pub fn kinds_law()
 /// its type.
 #[tactic(auto)]
 pub fn environment_law()
-    ensures described { (limit : ℕ) (e : Entry) (files : List File) (ds : List Decl) (a : Accepted) → Reads files (Ok ds) → (p : ProgramOk limit e ds a) → Describes (environment p.tests ds) }
+    ensures described { (limit : ℕ) (e : Entry) (files : List File) (ds : List Decl) (a : Accepted) → ReadsAt limit files (Ok ds) → (p : ProgramOk limit e ds a) → Describes (environment p.tests ds) }
 {}
 
 /// No report is put together from a stuck run (`never_stuck`). Where files are read to declarations that are accepted with the entry
@@ -105,7 +106,7 @@ pub fn environment_law()
 /// for any words neither are the calls of `decode`, which `exec` reports.
 #[tactic(auto)]
 pub fn run_law()
-    ensures never_stuck { (t : Tests) → IsRight t → (files : List File) (ds : List Decl) → Reads files (Ok ds) → RunsWell t ds }
+    ensures never_stuck { (t : Tests) → IsRight t → (files : List File) (ds : List Decl) → ReadsAt t.limit files (Ok ds) → RunsWell t ds }
 {}
 
 /// Each node that a call visits, an expression or a statement, was judged in a scope with which the state agrees, and the typed tree of
@@ -113,7 +114,7 @@ pub fn run_law()
 /// whatever the meter is (`same`).
 #[tactic(auto)]
 pub fn visit_law()
-    ensures same { (limit : ℕ) (e : Entry) (files : List File) (ds : List Decl) (a : Accepted) → Reads files (Ok ds) → (p : ProgramOk limit e ds a) → (id : ℕ) (args : List Value) (globals : List Binding) (h : Meter) → IsCall a id args globals → AllSame p.tests ds a (visits_of (environment p.tests ds) id args globals h) }
+    ensures same { (limit : ℕ) (e : Entry) (files : List File) (ds : List Decl) (a : Accepted) → ReadsAt limit files (Ok ds) → (p : ProgramOk limit e ds a) → (id : ℕ) (args : List Value) (globals : List Binding) (h : Meter) → IsCall a id args globals → AllSame p.tests ds a (visits_of (environment p.tests ds) id args globals h) }
 {}
 
 /// The number of steps decides nothing but whether a run ends for want of steps. With k steps more a call from outside has the same
