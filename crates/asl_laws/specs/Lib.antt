@@ -3,6 +3,7 @@ pub mod Evaluated
 pub mod Reported
 pub mod Visited
 pub mod Wider
+pub mod AgreeingTypes
 pub mod Answers
 pub mod BeforeRuns
 pub mod Described

@@ -7,6 +7,7 @@ ghost use Rattle.asl_grammar.specs.Reading.{File, ReadsAt, Reader, IsReadingAt};
 ghost use Rattle.asl_grammar.specs.lexemes.Refusals.{max_width};
 ghost use Rattle.asl_grammar.specs.lexemes.Texts.{LiesIn};
 ghost use Rattle.asl_rules.specs.private.Agreement.{types_in};
+ghost use Rattle.asl_laws.specs.AgreeingTypes.{DeclarationsAgree, ScopeFormed, TypesFormed, KeepsFormed};
 ghost use Rattle.asl_laws.specs.Answers.{FaultOfFiles, FilesOk, OneAnswer};
 ghost use Rattle.asl_laws.specs.BeforeRuns.{BeginsSo};
 ghost use Rattle.asl_laws.specs.Described.{Describes};
@@ -14,6 +15,7 @@ ghost use Rattle.asl_rules.specs.runs.Machines.{run_of, visits_of};
 ghost use Rattle.asl_rules.specs.declarations.Names.{names_rule, all_declared};
 ghost use Rattle.asl_laws.specs.OneRun.{OneRun};
 ghost use Rattle.asl_rules.specs.runs.Plans.{Meter};
+ghost use Rattle.asl_rules.specs.declarations.Scopes.{Scope};
 ghost use Rattle.asl_rules.specs.declarations.Programs.{Environment, Accepted, ProgramOk, FaultOf, environment, verdict};
 ghost use Rattle.asl_rules.specs.report.Report.{report_of};
 ghost use Rattle.asl_laws.specs.Soundness.{Soundness, SameMeaning, IsCall};
@@ -84,11 +86,18 @@ pub fn law5()
     ensures one_limit { max_width ≡ WIDTH_LIMIT }
 {}
 
-/// Kinds by names: each name of a well-formed program stands for one type, and what is declared agrees (`declared`). So comparing
-/// declared names by the names and comparing kinds by structure is the same (`kinds`).
+/// Kinds by names. Where types agree with what is declared, comparing declared names by the names and comparing kinds by structure is
+/// the same (`kinds`). In each program that is read they do, be it accepted or refused. Each name of a well-formed program stands for one
+/// type, and what is declared agrees (`declared`). Of declarations whose names are apart, so do the names in each round in which they are
+/// judged, those of the scope of all signatures, and the types of the signatures with the names that bodies begin with (`agree`). In a scope
+/// whose names and results have well-formed types, expressions have such types, and so are the types that are written (`types`). Each
+/// statement leaves such a scope, and the lists of a loop and of a catcher are judged in such a scope (`kept`).
 #[tactic(auto, using(asl_rules::proofs::values::KindsByNames::kinds_by_names))]
 pub fn kinds_law()
     ensures declared { (limit : ℕ) (e : Entry) (files : List File) (ds : List Decl) (a : Accepted) → ReadsAt limit files (Ok ds) → (p : ProgramOk limit e ds a) → WellDeclared (types_in a.names) }
+    ensures agree { (t : Tests) → IsRight t → (files : List File) (ds : List Decl) → ReadsAt t.limit files (Ok ds) → names_rule [] (all_declared ds) ≡ Ok tt → DeclarationsAgree t ds }
+    ensures types { (t : Tests) → IsRight t → (declared : List ℕ → Option Ty) → WellDeclared declared → (G : Scope) → ScopeFormed declared G → TypesFormed t declared G }
+    ensures kept { (t : Tests) → IsRight t → (declared : List ℕ → Option Ty) → WellDeclared declared → KeepsFormed t declared }
     ensures kinds { (declared : List ℕ → Option Ty) → WellDeclared declared → (S T : Ty) → Shaped declared S → Shaped declared T → same_kind S T ≡ kind_eq (kind S) (kind T) }
 {}
 
