@@ -5,6 +5,7 @@ pub mod Visited
 pub mod WidthValues
 pub mod WidthWorth
 pub mod Wider
+pub mod AgreeingTypes
 pub mod Answers
 pub mod BeforeRuns
 pub mod Described

@@ -6,7 +6,7 @@ use Rattle.asl_syn.specs.declared.code.Fault.{Fault}
 use Rattle.asl_syn.specs.declared.code.StaticCode.TheVariants.{T04}
 use Rattle.asl_syn.specs.declared.tree.Expr.{Expr}
 use Rattle.asl_syn.specs.declared.tree.Decl.{Decl}
-use Rattle.asl_grammar.specs.Reading.{File, Reads}
+use Rattle.asl_grammar.specs.Reading.{File, ReadsAt}
 use Rattle.asl_rules.specs.declared.entry.Entry.{Entry as Asked}
 use Rattle.asl_rules.specs.Faults.{none_at}
 use Rattle.asl_rules.specs.Tests.{Tests, IsRight}
@@ -26,7 +26,7 @@ use Rattle.asl_rules.specs.declarations.Declarations.{evaluated}
 use Rattle.asl_rules.specs.declarations.Programs.{as_number, origin, verdict, FaultOf}
 use Rattle.asl_rules.specs.private.Grown.{AreGrown}
 use Rattle.asl_rules.proofs.basics.Inversions.{ok_ok, err_ok}
-use Rattle.asl_laws.proofs.scopes.GrownTexts.{read_grown}
+use Rattle.asl_laws.proofs.scopes.GrownTexts.{read_grown_at}
 use Rattle.asl_rules.proofs.values.Shapes.{integer_is}
 use Rattle.asl_rules.proofs.values.KindOf.{has_kind}
 use Rattle.asl_rules.proofs.values.SameKind.{equal_kinds}
@@ -99,5 +99,5 @@ module _ (t : Tests) (ds : List Decl) where
   has_cause right grown e f h = (subst (λ r. Stands Caused r) h (all_caused right grown e (names_rule [] (all_declared ds)) refl)).has
 
 -- so has one of declarations that are read from files
-pub read_cause : (limit : ℕ) (e : Asked) (files : List File) (ds : List Decl) (f : Fault) → Reads files (Ok ds) → (p : FaultOf limit e ds f) → f.code ≡ T04 → HasCause p.tests ds f
-read_cause limit e files ds f r p = has_cause p.tests ds p.right (read_grown files ds r) e f p.is
+pub read_cause : (limit : ℕ) (e : Asked) (files : List File) (ds : List Decl) (f : Fault) → ReadsAt limit files (Ok ds) → (p : FaultOf limit e ds f) → f.code ≡ T04 → HasCause p.tests ds f
+read_cause limit e files ds f r p = has_cause p.tests ds p.right (read_grown_at limit files ds r) e f p.is

@@ -1,9 +1,12 @@
 use Rattle.asl_laws.proofs.verdict.OneReport.{one_report}
-use Rattle.asl_laws.proofs.verdict.OneVerdict.{one_answer}
+use Rattle.asl_laws.proofs.verdict.OneVerdict.{right_tests, one_answer}
 use Rattle.asl_laws.proofs.evaluations.NeverStuck.{read_evaluates}
 use Rattle.asl_laws.proofs.evaluations.FaultCauses.{read_cause}
 use Rattle.asl_laws.proofs.reading.Trees.{fault_lies}
 use Rattle.asl_laws.proofs.law.law2.Goals as goal
+
+pub returns-clause-tests : goal.returns-clause-tests
+returns-clause-tests c = right_tests
 
 pub returns-clause-one : goal.returns-clause-one
 returns-clause-one c = one_answer
