@@ -1,5 +1,5 @@
--- What soundness says: a run of a well-formed program is never stuck, each node that it visits was judged in a scope with which the state agrees, an expression
--- with a type gives values of that type, and typed trees do what the untyped trees do.
+-- What soundness says: a run of a well-formed program is never stuck, each node that it visits was judged, with the program's own subprograms, in a scope with
+-- which the state agrees, an expression with a type gives values of that type, and typed trees do what the untyped trees do.
 use Rattle.std.specs.Prelude.{◌≡◌, ℕ, ◌⊎◌, List, [], ◌∷◌, Option, Some, Ok, slice_get}
 use Rattle.asl_syn.specs.declared.tree.Decl.{Decl}
 use Rattle.asl_syn.specs.declared.tree.Expr.{Expr}
@@ -38,30 +38,38 @@ GivesType base names a T (Halt e c h) = GlobalsMatch base c.globals
 
 -- ---- the nodes that are visited
 
--- an expression has a type, or is a width or a number that is written in a type
-abbrev pub IsJudged : Tests → Expr → Scope → Type 0
-IsJudged t e G = ((S : Typed) × (typed t e G ≡ Ok S)) ⊎ (((W : Width) × (width t e G ≡ Ok W)) ⊎ ((N : Number) × ((found t e).number G ≡ Ok N)))
+-- from the state on an expression gives values of the type, however many nodes may be open and whatever the meter is
+abbrev pub ValuesIn : Tests → List Decl → Accepted → Expr → Scope → Assignment → Ty → Core → Type 0
+ValuesIn t ds a e G present T c = (d : ℕ) (h : Meter) → NotStuck ((meaning (environment t ds) d).expr e c h) × GivesType a.names G.names present T ((meaning (environment t ds) d).expr e c h)
 
-pub record ExprVisited (t : Tests) (a : Accepted) (e : Expr) (c : Core) : Type 0 where
+-- an expression has a type, and gives values of it, or is a width or a number that is written in a type
+abbrev pub IsJudged : Tests → List Decl → Accepted → Expr → Scope → Assignment → Core → Type 0
+IsJudged t ds a e G present c =
+    ((S : Typed) × (typed t e G ≡ Ok S) × ValuesIn t ds a e G present S.ty c) ⊎ (((W : Width) × (width t e G ≡ Ok W)) ⊎ ((N : Number) × ((found t e).number G ≡ Ok N)))
+
+-- with the program's own subprograms
+pub record ExprVisited (t : Tests) (ds : List Decl) (a : Accepted) (e : Expr) (c : Core) : Type 0 where
   pub scope : Scope
   pub present : Assignment
-  pub judged : IsJudged t e scope
+  pub subs_are : scope.subs ≡ a.signatures
+  pub judged : IsJudged t ds a e scope present c
   pub agrees : Agrees a.names scope.names present c
 
 pub record StmtVisited (t : Tests) (a : Accepted) (s : Stmt) (c : Core) : Type 0 where
   pub body : Body
   pub done : StmtDone
   pub present : Assignment
+  pub subs_are : body.scope.subs ≡ a.signatures
   pub judged : found_stmt t s body ≡ Ok done
   pub agrees : Agrees a.names body.scope.names present c
 
-abbrev pub NodeVisited : Tests → Accepted → Entered Expr Stmt → Core → Type 0
-NodeVisited t a (AtExpr e) c = ExprVisited t a e c
-NodeVisited t a (AtStmt s) c = StmtVisited t a s c
+abbrev pub NodeVisited : Tests → List Decl → Accepted → Entered Expr Stmt → Core → Type 0
+NodeVisited t ds a (AtExpr e) c = ExprVisited t ds a e c
+NodeVisited t ds a (AtStmt s) c = StmtVisited t a s c
 
-abbrev pub AllVisited : Tests → Accepted → List (Visit Core Expr Stmt) → Type 0
-AllVisited t a [] = Unit {0}
-AllVisited t a (v ∷ vs) = Sound v.state × NodeVisited t a v.node v.state × AllVisited t a vs
+abbrev pub AllVisited : Tests → List Decl → Accepted → List (Visit Core Expr Stmt) → Type 0
+AllVisited t ds a [] = Unit {0}
+AllVisited t ds a (v ∷ vs) = Sound v.state × NodeVisited t ds a v.node v.state × AllVisited t ds a vs
 
 -- ---- calls from outside
 
@@ -83,7 +91,7 @@ pub record Soundness (t : Tests) (ds : List Decl) (a : Accepted) : Type 0 where
   pub initial : GlobalsMatch a.names (initial_globals (environment t ds))
   pub never_stuck : (id : ℕ) (args : List Value) (globals : List Binding) (h : Meter) → IsCall a id args globals → NotStuck (run_of (environment t ds) id args globals h)
   pub keeps_globals : (id : ℕ) (args : List Value) (globals : List Binding) (h : Meter) → IsCall a id args globals → KeepsGlobals a.names (run_of (environment t ds) id args globals h)
-  pub visited : (id : ℕ) (args : List Value) (globals : List Binding) (h : Meter) → IsCall a id args globals → AllVisited t a (visits_of (environment t ds) id args globals h)
+  pub visited : (id : ℕ) (args : List Value) (globals : List Binding) (h : Meter) → IsCall a id args globals → AllVisited t ds a (visits_of (environment t ds) id args globals h)
   pub typed_values : (d : ℕ) (e : Expr) (G : Scope) (S : Typed) (p : Assignment) (c : Core) (h : Meter) → typed t e G ≡ Ok S → G.subs ≡ a.signatures → Agrees a.names G.names p c →
       NotStuck ((meaning (environment t ds) d).expr e c h) × GivesType a.names G.names p S.ty ((meaning (environment t ds) d).expr e c h)
 

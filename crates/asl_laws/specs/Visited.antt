@@ -42,6 +42,7 @@ IsJudgedSame t ds a e G c =
 pub record ExprSame (t : Tests) (ds : List Decl) (a : Accepted) (e : Expr) (c : Core) : Type 0 where
   pub scope : Scope
   pub present : Assignment
+  pub subs_are : scope.subs ≡ a.signatures
   pub judged : IsJudgedSame t ds a e scope c
   pub agrees : Agrees a.names scope.names present c
 
@@ -49,6 +50,7 @@ pub record StmtSame (t : Tests) (ds : List Decl) (a : Accepted) (s : Stmt) (c : 
   pub body : Body
   pub done : Done
   pub present : Assignment
+  pub subs_are : body.scope.subs ≡ a.signatures
   pub judged : found_stmt t s body ≡ Ok done
   pub agrees : Agrees a.names body.scope.names present c
   pub same : ActDoes t ds a s done.act c

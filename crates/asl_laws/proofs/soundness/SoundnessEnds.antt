@@ -32,7 +32,7 @@ use Rattle.asl_rules.specs.runs.Machines.{most_open, run_of, visits_of}
 use Rattle.asl_rules.specs.runs.Visits.{Entered, AtExpr, AtStmt, Visit, trails}
 use Rattle.asl_rules.specs.private.TypedMeaning.{BareCore, tree_nodes, tree_meaning, tree_call}
 use Rattle.asl_rules.specs.private.Erasure.{erased, erased_outcome}
-use Rattle.asl_laws.specs.Soundness.{NotStuck, ExprVisited, NodeVisited, AllVisited, IsCall, KeepsGlobals, Soundness, trees_of, tree_run, SameMeaning}
+use Rattle.asl_laws.specs.Soundness.{NotStuck, ValuesIn, ExprVisited, NodeVisited, AllVisited, IsCall, KeepsGlobals, Soundness, trees_of, tree_run, SameMeaning}
 use Rattle.asl_rules.proofs.basics.Inversions.{err_ok, bind_ok, then_ok, found_ok}
 use Rattle.asl_rules.proofs.basics.Tests.{none_some}
 use Rattle.asl_rules.proofs.scopes.Naming.{WellNamed, well_declared}
@@ -101,36 +101,6 @@ module _ (tests : Tests) (right : IsRight tests) (ds : List Decl) (asked : Enter
   abbrev whole : Accepted
   whole = accepted asked main subs funcs base
 
-  -- ---- visits
-
-  abbrev AtNode : Entered Expr Stmt → Core → Type 0
-  AtNode n c = Sound c × NodeVisited tests whole n c
-
-  expr_visited : (H : Here) (q : Asked) (e : Expr) (t : Tree) (c : Core) → ExprIn tests base subs H q e t c → ExprVisited tests whole e c
-  expr_visited H (of_type S) e t c p = record { scope = H.scope; present = H.present; judged = inl (S, p.answers); agrees = p.at.agrees }
-  expr_visited H (of_pure S) e t c p = record { scope = with_class H.scope Pure; present = H.present; judged = inl (S, p.answers); agrees = p.at.agrees }
-  expr_visited H (of_width W) e t c p = record { scope = H.scope; present = H.present; judged = inr (inl (W, p.answers)); agrees = p.at.agrees }
-  expr_visited H (of_number N) e t c p = record { scope = H.scope; present = H.present; judged = inr (inr (N, p.answers)); agrees = p.at.agrees }
-  expr_visited H (of_known S W) e t c p = record { scope = H.scope; present = H.present; judged = inl (S, p.answers.0); agrees = p.at.agrees }
-
-  at_expr : (H : Here) (q : Asked) (e : Expr) (t : Tree) (c : Core) → ExprIn tests base subs H q e t c → AtNode (AtExpr e) c
-  at_expr H q e t c p = (agrees_sound base H.scope.names H.present c p.at.agrees, expr_visited H q e t c p)
-
-  at_stmt : (j : StmtClaim) (x : Stmt) (t : Act) (c : Core) → StmtIn tests base subs j x t c → AtNode (AtStmt x) c
-  at_stmt j x t c p = (agrees_sound base j.body.scope.names j.present c p.at.agrees, record { body = j.body; done = j.done; present = j.present; judged = p.is_found; agrees = p.at.agrees })
-
-  at_exprs : (i : Several (Here × Asked)) (e : Expr) (t : Tree) (c : Core) → expr_enters (our_each tests base subs) i e t c → AtNode (AtExpr e) c
-  at_exprs (one i) e t c p = at_expr i.0 i.1 e t c p
-  at_exprs (two i j) e t c p = at_exprs i e t c p.0
-
-  at_stmts : (j : Several (StmtClaim × Bool)) (x : Stmt) (t : Act) (c : Core) → stmt_enters (our_each tests base subs) j x t c → AtNode (AtStmt x) c
-  at_stmts (one j) x t c p = at_stmt j.0 x t c p.0
-  at_stmts (two i j) x t c p = at_stmts i x t c p.0
-
-  all_seen : (vs : List (Visit Core Expr Stmt)) → AllHold AtNode vs → AllVisited tests whole vs
-  all_seen [] h = tt
-  all_seen (v ∷ vs) h = (h.0.0, h.0.1, all_seen vs h.1)
-
   -- ---- calls from outside
 
   -- a call and that of its typed tree do the same, and keep the globals
@@ -140,6 +110,52 @@ module _ (tests : Tests) (right : IsRight tests) (ds : List Decl) (asked : Enter
       (call_of (env tests right ds base subs funcs w) id args (resting globals)) (tree_call (program tests right ds base subs funcs w) id args (erased (resting globals)))
 
   module _ (o : Others tests right ds base subs funcs w s) (q : OtherStmts tests right ds base subs funcs w) (calls : (id : ℕ) (args : List Value) (globals : List Binding) → IsCall whole id args globals → CallSame id args globals) where
+    -- ---- visits
+
+    abbrev AtNode : Entered Expr Stmt → Core → Type 0
+    AtNode n c = Sound c × NodeVisited tests ds whole n c
+
+    gives : (H : Here) (S : Typed) (e : Expr) (c : Core) → typed tests e H.scope ≡ Ok S → At tests base subs H c → ValuesIn tests ds whole e H.scope H.present S.ty c
+    gives H S e c t a d h = typed_run tests right ds base subs funcs w s o q d e H S c h t a
+
+    in_pure : Here → Here
+    in_pure H = record { scope = with_class H.scope Pure; present = H.present; handled = H.handled }
+
+    expr_visited : (H : Here) (i : Asked) (e : Expr) (t : Tree) (c : Core) → ExprIn tests base subs H i e t c → ExprVisited tests ds whole e c
+    unfolding in_pure
+    expr_visited H (of_type S) e t c p = record { scope = H.scope; present = H.present; subs_are = p.at.subs_are; judged = inl (S, p.answers, gives H S e c p.answers p.at); agrees = p.at.agrees }
+    expr_visited H (of_pure S) e t c p =
+        record {
+          scope = with_class H.scope Pure;
+          present = H.present;
+          subs_are = p.at.subs_are;
+          judged = inl (S, p.answers, gives (in_pure H) S e c p.answers (record { agrees = p.at.agrees; subs_are = p.at.subs_are; handled_are = p.at.handled_are }));
+          agrees = p.at.agrees;
+        }
+    expr_visited H (of_width W) e t c p = record { scope = H.scope; present = H.present; subs_are = p.at.subs_are; judged = inr (inl (W, p.answers)); agrees = p.at.agrees }
+    expr_visited H (of_number N) e t c p = record { scope = H.scope; present = H.present; subs_are = p.at.subs_are; judged = inr (inr (N, p.answers)); agrees = p.at.agrees }
+    expr_visited H (of_known S W) e t c p = record { scope = H.scope; present = H.present; subs_are = p.at.subs_are; judged = inl (S, p.answers.0, gives H S e c p.answers.0 p.at); agrees = p.at.agrees }
+
+    at_expr : (H : Here) (i : Asked) (e : Expr) (t : Tree) (c : Core) → ExprIn tests base subs H i e t c → AtNode (AtExpr e) c
+    at_expr H i e t c p = (agrees_sound base H.scope.names H.present c p.at.agrees, expr_visited H i e t c p)
+
+    at_stmt : (j : StmtClaim) (x : Stmt) (t : Act) (c : Core) → StmtIn tests base subs j x t c → AtNode (AtStmt x) c
+    at_stmt j x t c p = (agrees_sound base j.body.scope.names j.present c p.at.agrees, record { body = j.body; done = j.done; present = j.present; subs_are = p.at.subs_are; judged = p.is_found; agrees = p.at.agrees })
+
+    at_exprs : (i : Several (Here × Asked)) (e : Expr) (t : Tree) (c : Core) → expr_enters (our_each tests base subs) i e t c → AtNode (AtExpr e) c
+    at_exprs (one i) e t c p = at_expr i.0 i.1 e t c p
+    at_exprs (two i j) e t c p = at_exprs i e t c p.0
+
+    at_stmts : (j : Several (StmtClaim × Bool)) (x : Stmt) (t : Act) (c : Core) → stmt_enters (our_each tests base subs) j x t c → AtNode (AtStmt x) c
+    at_stmts (one j) x t c p = at_stmt j.0 x t c p.0
+    at_stmts (two i j) x t c p = at_stmts i x t c p.0
+
+    all_seen : (vs : List (Visit Core Expr Stmt)) → AllHold AtNode vs → AllVisited tests ds whole vs
+    all_seen [] h = tt
+    all_seen (v ∷ vs) h = (h.0.0, h.0.1, all_seen vs h.1)
+
+    -- ---- whole calls
+
     ends : (id : ℕ) (args : List Value) (globals : List Binding) (h : Meter) → IsCall whole id args globals →
         SameEnd erased (λ c. GlobalsMatch base c.globals) (λ x y c. (x ≡ y) × GlobalsMatch base c.globals) (λ x c. GlobalsMatch base c.globals) (run_of (environment tests ds) id args globals h) (tree_run (trees_of tests whole) id args (erased (resting globals)) h)
     unfolding run_of

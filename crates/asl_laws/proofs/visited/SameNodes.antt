@@ -66,14 +66,14 @@ module _ (tests : Tests) (right : IsRight tests) (ds : List Decl) (asked : Enter
         ((meaning (environment tests ds) d).stmt x c h) ((tree_meaning (trees_of tests whole) d).stmt t (erased c) h) ((all_meet tests right ds base subs funcs w s o q d).stmt (one (j, falls x)) x t c h (p, refl)))
 
     expr_same : (H : Here) (i : Asked) (e : Expr) (t : Tree) (c : Core) → ExprIn tests base subs H i e t c → ExprSame tests ds whole e c
-    expr_same H (of_type S) e t c p = record { scope = H.scope; present = H.present; judged = inl (S, p.answers, expr_does H (of_type S) e t c p); agrees = p.at.agrees }
-    expr_same H (of_pure S) e t c p = record { scope = with_class H.scope Pure; present = H.present; judged = inl (S, p.answers, expr_does H (of_pure S) e t c p); agrees = p.at.agrees }
-    expr_same H (of_width W) e t c p = record { scope = H.scope; present = H.present; judged = inr (inl (W, p.answers, expr_does H (of_width W) e t c p)); agrees = p.at.agrees }
-    expr_same H (of_number N) e t c p = record { scope = H.scope; present = H.present; judged = inr (inr (N, p.answers, expr_does H (of_number N) e t c p)); agrees = p.at.agrees }
-    expr_same H (of_known S W) e t c p = record { scope = H.scope; present = H.present; judged = inl (S, p.answers.0, expr_does H (of_known S W) e t c p); agrees = p.at.agrees }
+    expr_same H (of_type S) e t c p = record { scope = H.scope; present = H.present; subs_are = p.at.subs_are; judged = inl (S, p.answers, expr_does H (of_type S) e t c p); agrees = p.at.agrees }
+    expr_same H (of_pure S) e t c p = record { scope = with_class H.scope Pure; present = H.present; subs_are = p.at.subs_are; judged = inl (S, p.answers, expr_does H (of_pure S) e t c p); agrees = p.at.agrees }
+    expr_same H (of_width W) e t c p = record { scope = H.scope; present = H.present; subs_are = p.at.subs_are; judged = inr (inl (W, p.answers, expr_does H (of_width W) e t c p)); agrees = p.at.agrees }
+    expr_same H (of_number N) e t c p = record { scope = H.scope; present = H.present; subs_are = p.at.subs_are; judged = inr (inr (N, p.answers, expr_does H (of_number N) e t c p)); agrees = p.at.agrees }
+    expr_same H (of_known S W) e t c p = record { scope = H.scope; present = H.present; subs_are = p.at.subs_are; judged = inl (S, p.answers.0, expr_does H (of_known S W) e t c p); agrees = p.at.agrees }
 
     stmt_same : (j : StmtClaim) (x : Stmt) (t : Act) (c : Core) → StmtIn tests base subs j x t c → StmtSame tests ds whole x c
-    stmt_same j x t c p = record { body = j.body; done = j.done; present = j.present; judged = p.is_found; agrees = p.at.agrees; same = stmt_does j x t c p }
+    stmt_same j x t c p = record { body = j.body; done = j.done; present = j.present; subs_are = p.at.subs_are; judged = p.is_found; agrees = p.at.agrees; same = stmt_does j x t c p }
 
     -- ---- of which several things are claimed
 
