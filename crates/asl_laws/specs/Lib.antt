@@ -1,6 +1,7 @@
 pub mod Budgets
 pub mod Evaluated
 pub mod Reported
+pub mod RuleCodes
 pub mod Visited
 pub mod Wider
 pub mod AgreeingTypes
@@ -9,5 +10,6 @@ pub mod BeforeRuns
 pub mod Described
 pub mod OneRun
 pub mod Soundness
+pub mod Spans
 pub mod StmtUses
 pub mod certificates
