@@ -1,6 +1,7 @@
 pub mod Budgets
 pub mod Evaluated
 pub mod Reported
+pub mod RuleCodes
 pub mod Visited
 pub mod WidthValues
 pub mod WidthWorth
@@ -11,5 +12,6 @@ pub mod BeforeRuns
 pub mod Described
 pub mod OneRun
 pub mod Soundness
+pub mod Spans
 pub mod StmtUses
 pub mod certificates

@@ -34,6 +34,7 @@ ghost use Rattle.asl_syn.specs.declared.tree.Decl.{Decl};
 ghost use Rattle.asl_laws.specs.Budgets.{with_more, SameWithMore, SameWordsWithMore};
 ghost use Rattle.asl_laws.specs.Evaluated.{Evaluates, HasCause};
 ghost use Rattle.asl_laws.specs.Reported.{RunsWell};
+ghost use Rattle.asl_laws.specs.RuleCodes.{HasRuleCode};
 ghost use Rattle.asl_laws.specs.Visited.{AllSame};
 ghost use Rattle.asl_laws.specs.Wider.{Fits, FitsLimit, WordsFitLimit};
 ghost use Rattle.asl_laws.specs.WidthWorth.{HasWorth, SameWorth, HasIntegers, Asks};
@@ -61,12 +62,14 @@ pub fn law1()
     ensures start { (t : Tests) (ds : List Decl) → BeginsSo t ds }
 {}
 
-/// One answer: files, each entry and each width limit have exactly one of these, a program that is well formed or one
-/// single fault (`one`), and where there is a file at all, the fault's span lies within one of the files (`within`). What the
-/// rules evaluate before any run, of declarations whose names are apart, is never stuck: it gives a value of its type, or has
-/// a dynamic fault (`evaluates`). So a fault of the code T04 that is met after reading has its dynamic code, or stands at a
-/// call or a global `var` in an initialiser or in the limit of a subprogram (`cause`). A command has one report: it is the same by
-/// all right tests of one width limit, and by whatever reads files as the grammar says (`report`).
+/// One answer. Under each width limit there are right tests (`tests`). Files, each entry and each width limit have exactly one of these, a
+/// program that is well formed or one single fault (`one`), and where there is a file at all, the fault's span lies within one of the files
+/// (`within`). What the rules evaluate before any run, of declarations whose names are apart, is never stuck: it gives a value of its type,
+/// or has a dynamic fault (`evaluates`). So a fault of the code T04 that is met after reading is the dynamic fault with which the evaluation
+/// of an initialiser or of the limit of a subprogram ends, with its code and at its place in that expression; or it is that of a type
+/// without a first value, at the type of storage that has no initialiser; or it stands at a call or a global `var` in an initialiser or a
+/// limit (`cause`). A fault that is met after reading has one of the codes T01 to T25, and a dynamic code only beside T04 (`codes`). A
+/// command has one report: it is the same by all right tests of one width limit, and by whatever reads files as the grammar says (`report`).
 #[tactic(auto)]
 pub fn law2()
     ensures tests { (limit : ℕ) → (t : Tests) × (IsRight t × (t.limit ≡ limit)) }
@@ -74,6 +77,7 @@ pub fn law2()
     ensures within { (limit : ℕ) (e : Entry) (file : File) (files : List File) (f : Fault) → FaultOfFiles limit e (file ∷ files) f → LiesIn 0 (map (λ g. g.1) (file ∷ files)) f.span }
     ensures evaluates { (t : Tests) → IsRight t → (files : List File) (ds : List Decl) → ReadsAt t.limit files (Ok ds) → names_rule [] (all_declared ds) ≡ Ok tt → Evaluates t ds }
     ensures cause { (limit : ℕ) (e : Entry) (files : List File) (ds : List Decl) (f : Fault) → ReadsAt limit files (Ok ds) → (p : FaultOf limit e ds f) → f.code ≡ T04 → HasCause p.tests ds f }
+    ensures codes { (limit : ℕ) (e : Entry) (files : List File) (ds : List Decl) (f : Fault) → ReadsAt limit files (Ok ds) → FaultOf limit e ds f → HasRuleCode f }
     ensures report { (t u : Tests) → IsRight t → IsRight u → t.limit ≡ u.limit → (limit : ℕ) (read other : Reader) → IsReadingAt limit read → IsReadingAt limit other → (command : Command) (held : Text → Text) → report_of t read command held ≡ report_of u other command held }
 {}
 
