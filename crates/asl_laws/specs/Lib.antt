@@ -4,6 +4,7 @@ pub mod Reported
 pub mod Visited
 pub mod WidthValues
 pub mod WidthWorth
+pub mod WidthScopes
 pub mod Wider
 pub mod Answers
 pub mod BeforeRuns
