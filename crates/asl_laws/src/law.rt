@@ -78,10 +78,13 @@ pub fn law2()
 {}
 
 /// Soundness: no run of a well-formed program is stuck. Each state that it visits is sound, each node that it visits was
-/// judged in a scope with which the state agrees, an expression with a type gives values of that type, and the globals
-/// hold what was declared, however a call ends. Typed trees do what the trees do that they were judged from. A width expression that is
-/// evaluated, wherever it is written, gives the integer that it has as a width, or the fault D01, or D12 or D13 as any node may, and
-/// leaves the state as it was; so does an end of a constraint (`width_values`).
+/// judged, with the program's own subprograms and in the body of the one that was called last, in a scope with which the
+/// state agrees, and where it was judged to have a type it gives values of that type. The frame of each caller agrees with
+/// the scope of the call that it waits for, whose typed tree calls the subprogram that is active behind it. Each expression
+/// with a type gives values of it from each state that agrees with its scope. A width expression that is evaluated, wherever
+/// it is written, gives the integer that it has as a width, or the fault D01, or D12 or D13 as any node may, and leaves the
+/// state as it was; so does an end of a constraint (`width_values`). The globals hold what was declared, however a call ends.
+/// Typed trees do what the trees do that they were judged from.
 #[tactic(auto)]
 pub fn law3()
     ensures { (limit : ℕ) (e : Entry) (files : List File) (ds : List Decl) (a : Accepted) → Reads files (Ok ds) → (p : ProgramOk limit e ds a) → Soundness p.tests ds a × SameMeaning p.tests ds a }
@@ -127,9 +130,9 @@ pub fn run_law()
     ensures never_stuck { (t : Tests) → IsRight t → (files : List File) (ds : List Decl) → Reads files (Ok ds) → RunsWell t ds }
 {}
 
-/// Each node that a call visits, an expression or a statement, was judged in a scope with which the state agrees, and the typed tree of
-/// that judgement does, in the state without names and types, what the node does in the state, whatever number of nodes may be open and
-/// whatever the meter is (`same`).
+/// Each node that a call visits, an expression or a statement, was judged, with the program's own subprograms and in the body of the one
+/// that was called last, in a scope with which the state agrees. The typed tree of that judgement does, in the state without names and
+/// types, what the node does in the state, whatever number of nodes may be open and whatever the meter is (`same`).
 #[tactic(auto)]
 pub fn visit_law()
     ensures same { (limit : ℕ) (e : Entry) (files : List File) (ds : List Decl) (a : Accepted) → Reads files (Ok ds) → (p : ProgramOk limit e ds a) → (id : ℕ) (args : List Value) (globals : List Binding) (h : Meter) → IsCall a id args globals → AllSame p.tests ds a (visits_of (environment p.tests ds) id args globals h) }
