@@ -79,7 +79,8 @@ pub fn law2()
 
 /// Soundness: no run of a well-formed program is stuck. Each state that it visits is sound, each node that it visits was
 /// judged, with the program's own subprograms and in the body of the one that was called last, in a scope with which the
-/// state agrees, and where it was judged to have a type it gives values of that type. The frame of each caller agrees with
+/// state agrees, and in which each `let` counts as names that stand for themselves, and where it was judged to have a type it
+/// gives values of that type. The frame of each caller agrees with
 /// the scope of the call that it waits for, whose typed tree calls the subprogram that is active behind it. Each expression
 /// with a type gives values of it from each state that agrees with its scope. A width expression that is evaluated, wherever
 /// it is written, gives the integer that it has as a width, or the fault D01, or D12 or D13 as any node may, and leaves the
