@@ -2,6 +2,8 @@ pub mod Budgets
 pub mod Evaluated
 pub mod Reported
 pub mod Visited
+pub mod WidthValues
+pub mod WidthWorth
 pub mod Wider
 pub mod Answers
 pub mod BeforeRuns

@@ -1,7 +1,7 @@
 //! The laws of the definitions, each as the contract of a function without parameters.
 #![tactic(auto)]
 
-ghost use Rattle.std.specs.Prelude.{◌≡◌, ℕ, List, Ok, Option, ◌≤◌, [], ◌∷◌, map};
+ghost use Rattle.std.specs.Prelude.{◌≡◌, ℕ, ℤ, true, List, Ok, Option, Some, ◌≤◌, ◌↔◌, [], ◌∷◌, map};
 ghost use Rattle.asl_bits.specs.declared.TheConstants.{WIDTH_LIMIT};
 ghost use Rattle.asl_grammar.specs.Reading.{File, Reads, Reader, IsReading, IsReadingAt};
 ghost use Rattle.asl_grammar.specs.lexemes.Refusals.{max_width};
@@ -34,6 +34,20 @@ ghost use Rattle.asl_laws.specs.Evaluated.{Evaluates, HasCause};
 ghost use Rattle.asl_laws.specs.Reported.{RunsWell};
 ghost use Rattle.asl_laws.specs.Visited.{AllSame};
 ghost use Rattle.asl_laws.specs.Wider.{Fits, FitsLimit, WordsFitLimit};
+ghost use Rattle.asl_laws.specs.WidthWorth.{HasWorth, SameWorth, HasIntegers, Asks};
+ghost use Rattle.asl_rules.specs.declarations.Scopes.{Scope};
+ghost use Rattle.asl_rules.specs.declarations.Scopes.{Entry as Names};
+ghost use Rattle.asl_rules.specs.expressions.Exprs.{found, width};
+ghost use Rattle.asl_rules.specs.expressions.Typing.{Width, Number};
+ghost use Rattle.asl_rules.specs.private.Worth.{Integers, standing_for, Obeys, WellCounted};
+ghost use Rattle.asl_rules.specs.statements.Acting.{Done};
+ghost use Rattle.asl_rules.specs.statements.Locals.{bind_rule};
+ghost use Rattle.asl_rules.specs.types.Numbers.{number};
+ghost use Rattle.asl_syn.specs.declared.token.Span.{Span};
+ghost use Rattle.asl_syn.specs.declared.tree.Bind.{Bind};
+ghost use Rattle.asl_syn.specs.declared.tree.Expr.{Expr};
+ghost use Rattle.asl_syn.specs.declared.tree.LocalKind.{LocalKind};
+ghost use Rattle.asl_syn.specs.declared.tree.TypeExpr.{TypeExpr};
 
 /// One run: for each program, state and node there is exactly one outcome, with one state, one number of steps left and
 /// one text after it. A call takes one step for each node that it enters, and never are more than 2,000 nodes open. An
@@ -62,10 +76,13 @@ pub fn law2()
 
 /// Soundness: no run of a well-formed program is stuck. Each state that it visits is sound, each node that it visits was
 /// judged, with the program's own subprograms and in the body of the one that was called last, in a scope with which the
-/// state agrees, and where it was judged to have a type it gives values of that type. The frame of each caller agrees with
+/// state agrees. Where it was judged to have a type it gives values of that type, and where it is a width or a number that
+/// is written in a type, its integer. The frame of each caller agrees with
 /// the scope of the call that it waits for, whose typed tree calls the subprogram that is active behind it. Each expression
 /// with a type gives values of it from each state that agrees with its scope. The globals hold what was declared, however a
 /// call ends. Typed trees do what the trees do that they were judged from.
+/// A width expression that is evaluated, wherever it is written, gives the integer that it has as a width, or the fault D01, or D12 or
+/// D13 as any node may, and leaves the state as it was; so does an end of a constraint (`width_values`).
 #[tactic(auto)]
 pub fn law3()
     ensures { (limit : ℕ) (e : Entry) (files : List File) (ds : List Decl) (a : Accepted) → Reads files (Ok ds) → (p : ProgramOk limit e ds a) → Soundness p.tests ds a × SameMeaning p.tests ds a }
@@ -127,4 +144,18 @@ pub fn visit_law()
 pub fn budget_law()
     ensures more_steps { (env : Environment) (id : ℕ) (args : List Value) (globals : List Binding) (h : Meter) (k : ℕ) → SameWithMore k (run_of env id args globals (with_more k h)) (run_of env id args globals h) }
     ensures words { (env : Environment) (id : ℕ) (words : List ℕ) (globals : List Binding) (h : Meter) (k : ℕ) → SameWordsWithMore k (run_words env id words globals (with_more k h)) (run_words env id words globals h) }
+{}
+
+/// Widths over plain integers, which no limit bounds. Where names stand for integers that agree with what stands there, a width has the
+/// plain integer of its expression (`worth`), and so has an end of a constraint that names no atom (`number`). The test whether two widths
+/// are the same says yes exactly where they have one plain integer at all such integers (`same`). There are such integers, whatever the
+/// names that stand for themselves stand for (`integers`). Behind a declaration with an initialiser they are those before it at which a
+/// `let` of one integer, where its initialiser is a width, has the plain integer of its initialiser (`lets`).
+#[tactic(auto)]
+pub fn widths_law()
+    ensures worth { (t : Tests) (e : Expr) (G : Scope) (w : Width) (a : Integers) → width t e G ≡ Ok w → Obeys G.names a → HasWorth e G.names a w.poly }
+    ensures number { (t : Tests) (e : Expr) (G : Scope) (n : Number) (a : Integers) → (found t e).number G ≡ Ok n → Obeys G.names a → number e (standing_for a) ≡ Some n.number }
+    ensures same { (t : Tests) → IsRight t → (e f : Expr) (G : Scope) (v w : Width) → WellCounted G.names → width t e G ≡ Ok v → width t f G ≡ Ok w → (t.same v.poly w.poly ≡ true) ↔ SameWorth G.names e f }
+    ensures integers { (names : List Names) → WellCounted names → (b : ℕ → ℤ) → HasIntegers names b }
+    ensures lets { (t : Tests) (span : Span) (kind : LocalKind) (b : Bind) (ty : Option TypeExpr) (e : Expr) (G : Scope) (d : Done) → WellCounted G.names → bind_rule t span kind b ty e G ≡ Ok d → (a : Integers) → Obeys d.names a ↔ (Obeys G.names a × Asks t kind b e G d.names a) }
 {}

@@ -26,7 +26,7 @@ use Rattle.asl_rules.specs.private.Belonging.{InType, has_type}
 use Rattle.asl_rules.specs.private.Agreement.{types_in, Agrees, GlobalsMatch, AllMatch, global_matches}
 use Rattle.asl_rules.specs.runs.Plans.{Pure as PureOf, Good}
 use Rattle.asl_rules.specs.runs.Pures as pures
-use Rattle.asl_rules.specs.runs.Evaluation.{declare, declared, type_under, param_under, params_bound, formals_bound, Entering, entering, under_written, result_at as keeps_at}
+use Rattle.asl_rules.specs.runs.Evaluation.{declare, declared, type_under, param_value, param_under, params_bound, formals_bound, Entering, entering, under_written, result_at as keeps_at}
 use Rattle.asl_rules.specs.private.TypedMeaning as bare
 use Rattle.asl_rules.specs.private.TypedMeaning.{BareCore, with_next, formals_seen}
 use Rattle.asl_rules.specs.private.Erasure.{erased}
@@ -102,6 +102,11 @@ module _ (tests : Tests) (right : IsRight tests) (ds : List Decl) (base : List E
   HasParams av (p ∷ ps) names [] = ⊥
   HasParams av (p ∷ ps) names (x ∷ xs) = ((z : ℤ) × (x ≡ int z)) × ((T : Option Ty) → param_written tests p.ty names ≡ Ok T → HasOption av T x × HasParams av ps (names ++ param_entry p.name.text T (next_atom names) ∷ []) xs)
 
+  -- each parameter takes an integer
+  takes_integer : (ty : Option TypeExpr) (z : ℤ) → param_value ty (int z) ≡ Some (int z)
+  takes_integer None z = refl
+  takes_integer (Some t) z = refl
+
   -- one parameter
   itself_next : (span : Span) (name : List ℕ) (names : List Entry) (av : Assignment) (c : Core) (z : ℤ) → Agrees base names av c → is_free name names ≡ true → av (next_atom names) ≡ z →
       Next tests right ds base subs loose funcs w names av c name (type_or_itself None (next_atom names)) (Some (atom_at (next_atom names))) (int z) (declare span name false (Some (of_value (int z))) (int z) c)
@@ -173,7 +178,8 @@ module _ (tests : Tests) (right : IsRight tests) (ds : List Decl) (base : List E
       subst (λ y. ParamsBound r.1 after av (y ∷ xs) ys c (params_bound E span (p ∷ ps) (y ∷ xs) c)) (sym i.0.1)
       (record {
         state = m.state;
-        is = ap (λ s. pures.◌>>=◌ s (λ c1. params_bound E span ps xs c1)) n.is ∙ m.is;
+        is = ap (λ o. pures.◌>>=◌ (pures.there span o) (λ y. pures.◌>>=◌ (declare span p.name.text false (param_under E c p.ty y) y c) (λ c1. params_bound E span ps xs c1))) (takes_integer p.ty z)
+            ∙ ap (λ s. pures.◌>>=◌ s (λ c1. params_bound E span ps xs c1)) n.is ∙ m.is;
         agrees = m.agrees;
         counted = m.counted;
         taken = m.taken;

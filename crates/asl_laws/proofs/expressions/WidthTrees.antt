@@ -63,7 +63,7 @@ unfolding integer_in
 int_same y z h = ap integer_in h
 
 -- storage that holds an integer
-record IntAt (av : Assignment) (s : Storage) (o : Option Value) : Type 0 where
+pub record IntAt (av : Assignment) (s : Storage) (o : Option Value) : Type 0 where
   pub one : ℤ
   pub is : o ≡ Some (int one)
   pub known : (z : ℤ) → known_value s ≡ Some (int z) → one ≡ z
@@ -78,7 +78,7 @@ counts_as av (Some b) y c k e = ap (λ (z : Counted). width_at z.poly av) (sym (
 counts_as av None y c k e = absurd cc
 
 module _ (tests : Tests) (right : IsRight tests) (ds : List Decl) (base : List Entry) (subs : List Signature) (loose : Bool) (funcs : List TreeFunc) (w : WellNamed base) where
-  int_at : (av : Assignment) (s : Storage) (o : Option Value) → Finds av (types_in base) s o → is_integer s.ty ≡ true → IntAt av s o
+  pub int_at : (av : Assignment) (s : Storage) (o : Option Value) → Finds av (types_in base) s o → is_integer s.ty ≡ true → IntAt av s o
   int_at av s None f i = absurd f
   int_at av s (Some x) f i =
       let z = is_int (types_in base) av tests right s.ty x i f.0 in

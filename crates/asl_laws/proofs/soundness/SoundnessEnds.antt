@@ -46,6 +46,7 @@ use Rattle.asl_laws.proofs.expressions.AllExprs.{Others}
 use Rattle.asl_laws.proofs.statements.AllStmts.{OtherStmts, all_forms, all_meet}
 use Rattle.asl_laws.proofs.soundness.GivenTypes.{typed_run}
 use Rattle.asl_laws.proofs.soundness.SoundnessNodes.{AtNode, at_exprs, at_stmts}
+use Rattle.asl_laws.proofs.widths.WidthValues.{width_gives, number_gives}
 
 -- ---- ends
 
@@ -150,6 +151,10 @@ module _ (tests : Tests) (right : IsRight tests) (ds : List Decl) (asked : Enter
       keeps_globals = λ id args globals h k. kept base _ _ (λ x y c. x ≡ y) (ends id args globals h k);
       visited = λ id args globals h k. all_seen _ (all_at id args globals h k);
       typed_values = λ d e G S p c h t g k. typed_run tests right ds base subs true funcs w s (o true) (q true) d e (there G p c) S c h t (record { agrees = k; subs_are = g; around_is = refl; stands = inl refl });
+      width_values = record {
+        widths = λ d e G W p c h t k. width_gives tests right ds base subs true funcs w d e G W p c h t k;
+        numbers = λ d e G N p c h t k. number_gives tests right ds base subs true funcs w d e G N p c h t k;
+      };
     }
 
     pub same_with : SameMeaning tests ds whole
