@@ -14,7 +14,7 @@ use Rattle.asl_rules.specs.declarations.Scopes.{Entry, Signature}
 use Rattle.asl_rules.specs.private.WellFormed.{WellFormed}
 use Rattle.asl_rules.specs.runs.Trees as tree
 use Rattle.asl_rules.specs.runs.Trees.{Note, Tree, TreeFunc}
-use Rattle.asl_rules.specs.types.Widths.{heaviest}
+use Rattle.asl_poly.specs.WidthLimits.{heaviest}
 use Rattle.asl_rules.specs.expressions.Typing.{Typed, in_class}
 use Rattle.asl_rules.specs.values.Members.{member_named, Member, a_field, a_bitfield, member_type, member_tree, member_of, bitfields_in, bitfields_named as named_in_type, all_wide}
 use Rattle.asl_rules.specs.expressions.Exprs.{found, typed, field_rule, bitfields_rule}

@@ -15,7 +15,7 @@ use Rattle.asl_rules.specs.types.Closed.{width_at}
 use Rattle.asl_rules.specs.declarations.Scopes.{Scope, Entry, Signature}
 use Rattle.asl_rules.specs.private.WellFormed.{WellFormed}
 use Rattle.asl_rules.specs.runs.Trees.{TreeFunc}
-use Rattle.asl_rules.specs.types.Widths.{heaviest}
+use Rattle.asl_poly.specs.WidthLimits.{heaviest}
 use Rattle.asl_rules.specs.expressions.Typing.{trees_in}
 use Rattle.asl_rules.specs.values.Members.{Member, a_field, a_bitfield, member_type, member_step, member_of, member_named, bitfields_in, bitfields_named as named_in_type, all_wide, element_in, indexed}
 use Rattle.asl_rules.specs.expressions.Slicing.{all_operands, all_integers, no_width, all_add, sliced_width, shapes_of}
