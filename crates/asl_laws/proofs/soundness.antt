@@ -9,3 +9,4 @@ pub mod SoundnessHeads
 pub mod SoundnessCalls
 pub mod Soundness
 pub mod SoundnessEntry
+pub mod AgreeingTypes

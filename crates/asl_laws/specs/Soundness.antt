@@ -1,12 +1,13 @@
 -- What soundness says: a run of a well-formed program is never stuck, each node that it visits was judged, with the program's own subprograms and in the body of
 -- the one that was called last, in a scope with which the state agrees, the frame of each caller agrees with the scope of the call that it waits for, an expression
 -- with a type gives values of that type, and typed trees do what the untyped trees do.
-use Rattle.std.specs.Prelude.{◌≡◌, ℕ, true, ◌⊎◌, List, [], ◌∷◌, Option, Some, Ok, slice_get, ℤ}
+use Rattle.std.specs.Prelude.{◌≡◌, ℕ, ℤ, true, ◌⊎◌, List, [], ◌∷◌, Option, Some, Ok, slice_get}
 use Rattle.asl_syn.specs.declared.tree.Decl.{Decl}
 use Rattle.asl_syn.specs.declared.tree.Expr.{Expr}
 use Rattle.asl_syn.specs.declared.tree.Stmt.{Stmt}
 use Rattle.asl_syn.specs.declared.token.Span.{Span}
 use Rattle.asl_rules.specs.declared.effect.Effect.{Effect}
+use Rattle.asl_poly.specs.Poly.{HasWidth}
 use Rattle.asl_rules.specs.Tests.{Tests}
 use Rattle.asl_rules.specs.types.Types.{Ty}
 use Rattle.asl_rules.specs.types.Closed.{Assignment}
@@ -29,8 +30,7 @@ use Rattle.asl_rules.specs.runs.Machines.{most_open, run_of, visits_of}
 use Rattle.asl_rules.specs.runs.Visits.{Entered, AtExpr, AtStmt, Visit}
 use Rattle.asl_rules.specs.private.TypedMeaning.{BareCore, TreeProgram, tree_meaning, tree_call}
 use Rattle.asl_rules.specs.private.Erasure.{erased, erased_outcome}
-use Rattle.asl_laws.specs.WidthValues.{WidthValues, GivesInteger, HasNumber}
-use Rattle.asl_poly.specs.Poly.{HasWidth}
+use Rattle.asl_laws.specs.WidthValues.{GivesInteger, HasNumber, WidthValues}
 
 abbrev pub NotStuck : {A : Type 0} → Outcome Core A → Type 0
 NotStuck (Done x c h) = Unit {0}
@@ -50,15 +50,16 @@ GivesType base names a T (Halt e c h) = GlobalsMatch base c.globals
 abbrev pub ValuesIn : Tests → List Decl → Accepted → Expr → Scope → Assignment → Ty → Core → Type 0
 ValuesIn t ds a e G present T c = (d : ℕ) (h : Meter) → NotStuck ((meaning (environment t ds) d).expr e c h) × GivesType a.names G.names present T ((meaning (environment t ds) d).expr e c h)
 
--- so a width or a number that is written in a type gives this integer
-abbrev pub IntegersOf : Tests → List Decl → Expr → Core → (ℤ → Type 0) → Type 0
-IntegersOf t ds e c P = (d : ℕ) (h : Meter) → GivesInteger c (λ z. P z × HasNumber e c z) ((meaning (environment t ds) d).expr e c h)
+-- and a width, or a number that is written in a type, an integer of which P says which one it is
+abbrev pub IntegersIn : Tests → List Decl → Expr → (ℤ → Type 0) → Core → Type 0
+IntegersIn t ds e P c = (d : ℕ) (h : Meter) → GivesInteger c P ((meaning (environment t ds) d).expr e c h)
 
 -- an expression has a type, and gives values of it, or is a width or a number that is written in a type, and gives its integer
 abbrev pub IsJudged : Tests → List Decl → Accepted → Expr → Scope → Assignment → Core → Type 0
 IsJudged t ds a e G present c =
-    ((S : Typed) × (typed t e G ≡ Ok S) × ValuesIn t ds a e G present S.ty c)
-    ⊎ (((W : Width) × (width t e G ≡ Ok W) × IntegersOf t ds e c (HasWidth W.poly present)) ⊎ ((N : Number) × ((found t e).number G ≡ Ok N) × IntegersOf t ds e c (λ z. z ≡ N.number)))
+    ((S : Typed) × (typed t e G ≡ Ok S) × ValuesIn t ds a e G present S.ty c) ⊎
+    (((W : Width) × (width t e G ≡ Ok W) × IntegersIn t ds e (λ z. HasWidth W.poly present z × HasNumber e c z) c) ⊎
+    ((N : Number) × ((found t e).number G ≡ Ok N) × IntegersIn t ds e (λ z. (z ≡ N.number) × HasNumber e c z) c))
 
 -- a node that was judged in this class stands in the body of the subprogram that was called last, whose class is at least that
 abbrev pub StandsIn : List Signature → Effect → List ℕ → Type 0

@@ -152,8 +152,8 @@ module _ (tests : Tests) (right : IsRight tests) (ds : List Decl) (asked : Enter
       visited = λ id args globals h k. all_seen _ (all_at id args globals h k);
       typed_values = λ d e G S p c h t g k. typed_run tests right ds base subs true funcs w s (o true) (q true) d e (there G p c) S c h t (record { agrees = k; subs_are = g; around_is = refl; stands = inl refl; counted = inl refl });
       width_values = record {
-        widths = λ d e G W p c h t k. width_gives tests right ds base subs true funcs w d e G W p c h t k;
-        numbers = λ d e G N p c h t k. number_gives tests right ds base subs true funcs w d e G N p c h t k;
+        widths = λ d e G W p c h t k. width_gives tests right ds base subs funcs w d e G W p c h t k;
+        numbers = λ d e G N p c h t k. number_gives tests right ds base subs funcs w d e G N p c h t k;
       };
     }
 

@@ -27,6 +27,7 @@ use Rattle.asl_laws.proofs.expressions.Claims.{Here, Asked, of_type, of_pure, of
 use Rattle.asl_laws.proofs.expressions.AllExprs.{Others}
 use Rattle.asl_laws.proofs.statements.AllStmts.{OtherStmts}
 use Rattle.asl_laws.proofs.soundness.GivenTypes.{typed_run}
+use Rattle.asl_laws.proofs.widths.WidthValues.{width_gives, number_gives}
 use Rattle.asl_laws.proofs.soundness.SoundnessStates.{agrees_sound}
 use Rattle.asl_laws.proofs.calls.OwnCalls.{restored_agrees}
 use Rattle.asl_rules.specs.declared.effect.Effect.{Effect}
@@ -127,8 +128,10 @@ module _ (tests : Tests) (right : IsRight tests) (ds : List Decl) (asked : Enter
     expr_judged : (H : Here) (i : Asked) (e : Expr) (t : Tree) (c : Core) → ExprIn tests base subs false H i e t c → IsJudged tests ds whole e (asked_in H i).scope H.present c
     expr_judged H (of_type S) e t c p = inl (S, p.answers, gives H S e c p.answers p.at.agrees p.at.subs_are p.at.around_is)
     expr_judged H (of_pure S) e t c p = inl (S, p.answers, gives (asked_in H (of_pure S)) S e c p.answers p.at.agrees p.at.subs_are p.at.around_is)
-    expr_judged H (of_width W) e t c p = inr (inl (W, p.answers, λ d h. width_gives tests right ds base subs true funcs w d e H.scope W H.present c h p.answers p.at.agrees))
-    expr_judged H (of_number N) e t c p = inr (inr (N, p.answers, λ d h. number_gives tests right ds base subs true funcs w d e H.scope N H.present c h p.answers p.at.agrees))
+    expr_judged H (of_width W) e t c p =
+        inr (inl (W, p.answers, λ d h. width_gives tests right ds base subs funcs w d e H.scope W H.present c h p.answers p.at.agrees))
+    expr_judged H (of_number N) e t c p =
+        inr (inr (N, p.answers, λ d h. number_gives tests right ds base subs funcs w d e H.scope N H.present c h p.answers p.at.agrees))
     expr_judged H (of_known S W) e t c p = inl (S, p.answers.0, gives H S e c p.answers.0 p.at.agrees p.at.subs_are p.at.around_is)
 
     asked_subs : (H : Here) (i : Asked) → (asked_in H i).scope.subs ≡ H.scope.subs

@@ -113,10 +113,10 @@ made m c h P span z p = by (in_range z)
     by true = ((z, refl, p), refl)
     by false = (inl refl, refl)
 
-module _ (tests : Tests) (right : IsRight tests) (ds : List Decl) (base : List Entry) (subs : List Signature) (loose : Bool)
-    (funcs : List TreeFunc) (w : WellNamed base) where
+module _ (tests : Tests) (right : IsRight tests) (ds : List Decl) (base : List Entry) (subs : List Signature) (funcs : List TreeFunc)
+    (w : WellNamed base) where
   abbrev ours : Environment
-  ours = env tests right ds base subs loose funcs w
+  ours = env tests right ds base subs true funcs w
 
   abbrev nodes_at : ℕ → Meaning Core Expr Stmt
   nodes_at d = meaning ours d
@@ -145,7 +145,7 @@ module _ (tests : Tests) (right : IsRight tests) (ds : List Decl) (base : List E
       let u = value_of name c.frame in
       let v = value_of name c.globals in
       let l = label_in (standing_of name base) in
-      let f = int_at tests right ds base subs loose funcs w av s (or_value u v) (finds av base G.names c name s a q) i in
+      let f = int_at tests right ds base subs true funcs w av s (or_value u v) (finds av base G.names c name s a q) i in
       subst (λ o. GivesInteger c P (run (nodes_at d) (at_once (known span o) c) h)) (sym (or_further (int f.one) u v l f.is))
       ((f.one, refl, k f.one f.known f.counts), refl)
 
