@@ -5,6 +5,7 @@ pub mod RuleCodes
 pub mod Visited
 pub mod WidthValues
 pub mod WidthWorth
+pub mod WidthScopes
 pub mod Wider
 pub mod AgreeingTypes
 pub mod Answers

@@ -37,20 +37,23 @@ ghost use Rattle.asl_laws.specs.Reported.{RunsWell};
 ghost use Rattle.asl_laws.specs.RuleCodes.{HasRuleCode};
 ghost use Rattle.asl_laws.specs.Visited.{AllSame};
 ghost use Rattle.asl_laws.specs.Wider.{Fits, FitsLimit, WordsFitLimit};
-ghost use Rattle.asl_laws.specs.WidthWorth.{HasWorth, SameWorth, HasIntegers, Asks};
-ghost use Rattle.asl_rules.specs.declarations.Scopes.{Scope};
+ghost use Rattle.asl_laws.specs.WidthScopes.{AsksNothing, AsksSo};
+ghost use Rattle.asl_laws.specs.WidthWorth.{HasWorth, SameWorth, HasIntegers};
+ghost use Rattle.asl_rules.specs.declarations.Declarations.{names_of_program};
+ghost use Rattle.asl_rules.specs.declarations.Programs.{Head, signature_rule};
+ghost use Rattle.asl_rules.specs.declarations.Scopes.{Scope, Body, is_free};
 ghost use Rattle.asl_rules.specs.declarations.Scopes.{Entry as Names};
 ghost use Rattle.asl_rules.specs.expressions.Exprs.{found, width};
 ghost use Rattle.asl_rules.specs.expressions.Typing.{Width, Number};
 ghost use Rattle.asl_rules.specs.private.Worth.{Integers, standing_for, Obeys, WellCounted};
 ghost use Rattle.asl_rules.specs.statements.Acting.{Done};
-ghost use Rattle.asl_rules.specs.statements.Locals.{bind_rule};
+ghost use Rattle.asl_rules.specs.statements.Branches.{with_index, with_caught};
+ghost use Rattle.asl_rules.specs.statements.Stmts.{found_stmt};
 ghost use Rattle.asl_rules.specs.types.Numbers.{number};
-ghost use Rattle.asl_syn.specs.declared.token.Span.{Span};
-ghost use Rattle.asl_syn.specs.declared.tree.Bind.{Bind};
 ghost use Rattle.asl_syn.specs.declared.tree.Expr.{Expr};
-ghost use Rattle.asl_syn.specs.declared.tree.LocalKind.{LocalKind};
-ghost use Rattle.asl_syn.specs.declared.tree.TypeExpr.{TypeExpr};
+ghost use Rattle.asl_syn.specs.declared.tree.Func.{Func};
+ghost use Rattle.asl_syn.specs.declared.tree.Ident.{Ident};
+ghost use Rattle.asl_syn.specs.declared.tree.Stmt.{Stmt};
 
 /// One run: for each program, state and node there is exactly one outcome, with one state, one number of steps left and
 /// one text after it. A call takes one step for each node that it enters, and never are more than 2,000 nodes open. An
@@ -83,11 +86,13 @@ pub fn law2()
 
 /// Soundness: no run of a well-formed program is stuck. Each state that it visits is sound, each node that it visits was
 /// judged, with the program's own subprograms and in the body of the one that was called last, in a scope with which the
-/// state agrees, and where it was judged to have a type it gives values of that type. The frame of each caller agrees with
-/// the scope of the call that it waits for, whose typed tree calls the subprogram that is active behind it. Each expression
-/// with a type gives values of it from each state that agrees with its scope. The globals hold what was declared, however a
-/// call ends. Typed trees do what the trees do that they were judged from. A width expression that is evaluated, wherever it is written, gives the integer that it has as a width, or
-/// the fault D01, or D12 or D13 as any node may, and leaves the state as it was; so does an end of a constraint (`width_values`).
+/// state agrees, and in which each `let` counts as names that stand for themselves. Where it was judged to have a type it gives
+/// values of that type, and where it is a width or a number that is written in a type, its integer. The frame of each caller
+/// agrees with the scope of the call that it waits for, whose typed tree calls the subprogram that is active behind it. Each
+/// expression with a type gives values of it from each state that agrees with its scope. The globals hold what was declared,
+/// however a call ends. Typed trees do what the trees do that they were judged from. A width expression that is evaluated,
+/// wherever it is written, gives the integer that it has as a width, or the fault D01, or D12 or D13 as any node may, and leaves
+/// the state as it was; so does an end of a constraint (`width_values`).
 #[tactic(auto)]
 pub fn law3()
     ensures { (limit : ℕ) (e : Entry) (files : List File) (ds : List Decl) (a : Accepted) → ReadsAt limit files (Ok ds) → (p : ProgramOk limit e ds a) → Soundness p.tests ds a × SameMeaning p.tests ds a }
@@ -159,15 +164,21 @@ pub fn budget_law()
 {}
 
 /// Widths over plain integers, which no limit bounds. Where names stand for integers that agree with what stands there, a width has the
-/// plain integer of its expression (`worth`), and so has an end of a constraint that names no atom (`number`). The test whether two widths
-/// are the same says yes exactly where they have one plain integer at all such integers (`same`). There are such integers, whatever the
-/// names that stand for themselves stand for (`integers`). Behind a declaration with an initialiser they are those before it at which a
-/// `let` of one integer, where its initialiser is a width, has the plain integer of its initialiser (`lets`).
+/// plain integer of its expression (`worth`), and so has an end of a constraint that names no atom (`number`). In a scope in which `let`s
+/// count as names that stand for themselves, the test whether two widths are the same says yes exactly where they have one plain integer
+/// at all such integers (`same`), and there are such integers whatever the names that stand for themselves stand for (`integers`). The
+/// names outside bodies are such a scope (`outside`). So are those at the head of a body, of which nothing more is asked (`heads`); those
+/// behind each statement, of which what is asked is that a `let` of one integer, where its initialiser is a width, has the plain integer
+/// of its initialiser (`statements`); and those in loops (`indices`) and in catchers (`catchers`), of which nothing more is asked.
 #[tactic(auto)]
 pub fn widths_law()
     ensures worth { (t : Tests) (e : Expr) (G : Scope) (w : Width) (a : Integers) → width t e G ≡ Ok w → Obeys G.names a → HasWorth e G.names a w.poly }
     ensures number { (t : Tests) (e : Expr) (G : Scope) (n : Number) (a : Integers) → (found t e).number G ≡ Ok n → Obeys G.names a → number e (standing_for a) ≡ Some n.number }
     ensures same { (t : Tests) → IsRight t → (e f : Expr) (G : Scope) (v w : Width) → WellCounted G.names → width t e G ≡ Ok v → width t f G ≡ Ok w → (t.same v.poly w.poly ≡ true) ↔ SameWorth G.names e f }
     ensures integers { (names : List Names) → WellCounted names → (b : ℕ → ℤ) → HasIntegers names b }
-    ensures lets { (t : Tests) (span : Span) (kind : LocalKind) (b : Bind) (ty : Option TypeExpr) (e : Expr) (G : Scope) (d : Done) → WellCounted G.names → bind_rule t span kind b ty e G ≡ Ok d → (a : Integers) → Obeys d.names a ↔ (Obeys G.names a × Asks t kind b e G d.names a) }
+    ensures outside { (t : Tests) (ds : List Decl) → WellCounted (names_of_program t ds) }
+    ensures heads { (t : Tests) (ds : List Decl) (f : Func) (head : Head) → signature_rule t (names_of_program t ds) f ≡ Ok head → AsksNothing (names_of_program t ds) head.names }
+    ensures statements { (t : Tests) (s : Stmt) (B : Body) (d : Done) → WellCounted B.scope.names → found_stmt t s B ≡ Ok d → AsksSo t s B d }
+    ensures indices { (i : Ident) (T : Ty) (B : Body) → WellCounted B.scope.names → is_free i.text B.scope.names ≡ true → AsksNothing B.scope.names (with_index i T B).scope.names }
+    ensures catchers { (o : Option Ident) (T : Ty) (B C : Body) → WellCounted B.scope.names → with_caught o T B ≡ Ok C → AsksNothing B.scope.names C.scope.names }
 {}
