@@ -11,3 +11,4 @@ pub mod DeclWell
 pub mod ScopesKept
 pub mod Globals
 pub mod FormedScopes
+pub mod ScopeRules

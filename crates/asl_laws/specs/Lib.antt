@@ -2,6 +2,7 @@ pub mod Budgets
 pub mod Evaluated
 pub mod Reported
 pub mod RuleCodes
+pub mod ScopeRules
 pub mod Visited
 pub mod Wider
 pub mod AgreeingTypes

@@ -1,7 +1,7 @@
 //! The laws of the definitions, each as the contract of a function without parameters.
 #![tactic(auto)]
 
-ghost use Rattle.std.specs.Prelude.{◌≡◌, ℕ, List, Ok, Option, ◌≤◌, [], ◌∷◌, map};
+ghost use Rattle.std.specs.Prelude.{◌≡◌, ℕ, true, List, Ok, Option, Some, ◌≤◌, [], ◌∷◌, map};
 ghost use Rattle.asl_bits.specs.declared.TheConstants.{WIDTH_LIMIT};
 ghost use Rattle.asl_grammar.specs.Reading.{File, ReadsAt, Reader, IsReadingAt};
 ghost use Rattle.asl_grammar.specs.lexemes.Refusals.{max_width};
@@ -15,7 +15,17 @@ ghost use Rattle.asl_rules.specs.runs.Machines.{run_of, visits_of};
 ghost use Rattle.asl_rules.specs.declarations.Names.{names_rule, all_declared};
 ghost use Rattle.asl_laws.specs.OneRun.{OneRun};
 ghost use Rattle.asl_rules.specs.runs.Plans.{Meter};
-ghost use Rattle.asl_rules.specs.declarations.Scopes.{Scope};
+ghost use Rattle.asl_rules.specs.declarations.Declarations.{names_of_program};
+ghost use Rattle.asl_rules.specs.declarations.Programs.{Head, funcs_of, signatures, signatures_rule};
+ghost use Rattle.asl_rules.specs.declarations.Scopes.{Scope, Body, is_free, type_of_name};
+ghost use Rattle.asl_rules.specs.statements.Acting.{Done};
+ghost use Rattle.asl_rules.specs.statements.Branches.{index_type, with_index, with_caught};
+ghost use Rattle.asl_rules.specs.statements.Stmts.{found_stmt};
+ghost use Rattle.asl_syn.specs.declared.tree.Direction.{Direction};
+ghost use Rattle.asl_syn.specs.declared.tree.Expr.{Expr};
+ghost use Rattle.asl_syn.specs.declared.tree.Ident.{Ident};
+ghost use Rattle.asl_syn.specs.declared.tree.Stmt.{Stmt};
+ghost use Rattle.asl_laws.specs.ScopeRules.{OutsideRules, AllBegin, KeepsRules, TypesOwn};
 ghost use Rattle.asl_rules.specs.declarations.Programs.{Environment, Accepted, ProgramOk, FaultOf, environment, verdict};
 ghost use Rattle.asl_rules.specs.report.Report.{report_of};
 ghost use Rattle.asl_laws.specs.Soundness.{Soundness, SameMeaning, IsCall};
@@ -103,6 +113,21 @@ pub fn kinds_law()
     ensures types { (t : Tests) → IsRight t → (declared : List ℕ → Option Ty) → WellDeclared declared → (G : Scope) → ScopeFormed declared G → TypesFormed t declared G }
     ensures kept { (t : Tests) → IsRight t → (declared : List ℕ → Option Ty) → WellDeclared declared → KeepsFormed t declared }
     ensures kinds { (declared : List ℕ → Option Ty) → WellDeclared declared → (S T : Ty) → Shaped declared S → Shaped declared T → same_kind S T ≡ kind_eq (kind S) (kind T) }
+{}
+
+/// Three rules of scopes, on which soundness rests: no name is shadowed; a type mentions names of its scope alone; and a result mentions
+/// parameters alone. Constants and global `let`s have values, so the names outside bodies mention none (`outside`). The rules hold of the
+/// scope in which each body begins (`heads`), in programs that are refused too; each statement leaves a scope of which they hold
+/// (`statements`), and they hold in loops (`indices`) and in catchers (`catchers`). In a scope of which they hold, the types of expressions,
+/// and those that are written, mention names of the scope alone (`types`).
+#[tactic(auto)]
+pub fn scopes_law()
+    ensures outside { (t : Tests) (ds : List Decl) → OutsideRules (names_of_program t ds) }
+    ensures heads { (t : Tests) (ds : List Decl) (hs : List Head) → signatures_rule t (names_of_program t ds) (funcs_of ds) ≡ Ok hs → AllBegin (signatures hs) hs }
+    ensures types { (t : Tests) (G : Scope) → KeepsRules G → TypesOwn t G }
+    ensures statements { (t : Tests) (s : Stmt) (B : Body) (d : Done) → KeepsRules B.scope → found_stmt t s B ≡ Ok d → KeepsRules (record B.scope { names = d.names }) }
+    ensures indices { (t : Tests) (i : Ident) (d : Direction) (a b : Expr) (B : Body) → KeepsRules B.scope → is_free i.text B.scope.names ≡ true → KeepsRules (with_index i (index_type t d a b B.scope) B).scope }
+    ensures catchers { (t : Tests) (o : Option Ident) (name : List ℕ) (T : Ty) (B C : Body) → KeepsRules B.scope → type_of_name name B.scope.names ≡ Some T → with_caught o T B ≡ Ok C → KeepsRules C.scope }
 {}
 
 /// For all files that are read to declarations which are well formed, the names of the environment are what the declarations alone
