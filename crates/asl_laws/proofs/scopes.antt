@@ -12,3 +12,4 @@ pub mod ScopesKept
 pub mod Globals
 pub mod FormedScopes
 pub mod ScopeRules
+pub mod Placeless

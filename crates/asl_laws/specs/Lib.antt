@@ -1,5 +1,6 @@
 pub mod Budgets
 pub mod Evaluated
+pub mod Placeless
 pub mod Reported
 pub mod RuleCodes
 pub mod ScopeRules

@@ -17,7 +17,7 @@ ghost use Rattle.asl_laws.specs.OneRun.{OneRun};
 ghost use Rattle.asl_rules.specs.runs.Plans.{Meter};
 ghost use Rattle.asl_rules.specs.declarations.Declarations.{names_of_program};
 ghost use Rattle.asl_rules.specs.declarations.Programs.{Head, funcs_of, signatures, signatures_rule};
-ghost use Rattle.asl_rules.specs.declarations.Scopes.{Scope, Body, is_free, type_of_name};
+ghost use Rattle.asl_rules.specs.declarations.Scopes.{Entry as Names, Scope, Body, is_free, type_of_name};
 ghost use Rattle.asl_rules.specs.statements.Acting.{Done};
 ghost use Rattle.asl_rules.specs.statements.Branches.{index_type, with_index, with_caught};
 ghost use Rattle.asl_rules.specs.statements.Stmts.{found_stmt};
@@ -43,6 +43,7 @@ ghost use Rattle.asl_syn.specs.declared.code.StaticCode.TheVariants.{T04};
 ghost use Rattle.asl_syn.specs.declared.tree.Decl.{Decl};
 ghost use Rattle.asl_laws.specs.Budgets.{with_more, SameWithMore, SameWordsWithMore};
 ghost use Rattle.asl_laws.specs.Evaluated.{Evaluates, HasCause};
+ghost use Rattle.asl_laws.specs.Placeless.{StandSame, JudgesSame};
 ghost use Rattle.asl_laws.specs.Reported.{RunsWell};
 ghost use Rattle.asl_laws.specs.RuleCodes.{HasRuleCode};
 ghost use Rattle.asl_laws.specs.Visited.{AllSame};
@@ -119,7 +120,9 @@ pub fn kinds_law()
 /// parameters alone. Constants and global `let`s have values, so the names outside bodies mention none (`outside`). The rules hold of the
 /// scope in which each body begins (`heads`), in programs that are refused too; each statement leaves a scope of which they hold
 /// (`statements`), and they hold in loops (`indices`) and in catchers (`catchers`). In a scope of which they hold, the types of expressions,
-/// and those that are written, mention names of the scope alone (`types`).
+/// and those that are written, mention names of the scope alone (`types`). What is judged of an expression or of a written type, its
+/// type, its effect, its width or its fault, is the same wherever the names of the scope have their places, so no condition asks for a
+/// slot, which typed trees have (`places`).
 #[tactic(auto)]
 pub fn scopes_law()
     ensures outside { (t : Tests) (ds : List Decl) → OutsideRules (names_of_program t ds) }
@@ -128,6 +131,7 @@ pub fn scopes_law()
     ensures statements { (t : Tests) (s : Stmt) (B : Body) (d : Done) → KeepsRules B.scope → found_stmt t s B ≡ Ok d → KeepsRules (record B.scope { names = d.names }) }
     ensures indices { (t : Tests) (i : Ident) (d : Direction) (a b : Expr) (B : Body) → KeepsRules B.scope → is_free i.text B.scope.names ≡ true → KeepsRules (with_index i (index_type t d a b B.scope) B).scope }
     ensures catchers { (t : Tests) (o : Option Ident) (name : List ℕ) (T : Ty) (B C : Body) → KeepsRules B.scope → type_of_name name B.scope.names ≡ Some T → with_caught o T B ≡ Ok C → KeepsRules C.scope }
+    ensures places { (t : Tests) (G : Scope) (names : List Names) → StandSame G.names names → JudgesSame t G names }
 {}
 
 /// For all files that are read to declarations which are well formed, the names of the environment are what the declarations alone

@@ -1,3 +1,4 @@
+use Rattle.asl_laws.proofs.scopes.Placeless.{judged_same}
 use Rattle.asl_laws.proofs.scopes.ScopeRules.{outside_rules, bodies_begin, types_own, statements_keep, indices_keep, catchers_keep}
 use Rattle.asl_laws.proofs.law.scopes_law.Goals as goal
 
@@ -18,3 +19,6 @@ returns-clause-indices c = indices_keep
 
 pub returns-clause-catchers : goal.returns-clause-catchers
 returns-clause-catchers c = catchers_keep
+
+pub returns-clause-places : goal.returns-clause-places
+returns-clause-places c = judged_same
