@@ -2,7 +2,7 @@ pub mod Budgets
 pub mod Evaluated
 pub mod Placeless
 pub mod Reported
-pub mod RuleCodes
+pub mod Codes
 pub mod ScopeRules
 pub mod Visited
 pub mod Wider

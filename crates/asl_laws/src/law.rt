@@ -1,7 +1,7 @@
 //! The laws of the definitions, each as the contract of a function without parameters.
 #![tactic(auto)]
 
-ghost use Rattle.std.specs.Prelude.{◌≡◌, ℕ, true, List, Ok, Option, Some, ◌≤◌, [], ◌∷◌, map};
+ghost use Rattle.std.specs.Prelude.{◌≡◌, ℕ, true, List, Ok, Err, Option, Some, ◌≤◌, [], ◌∷◌, map};
 ghost use Rattle.asl_bits.specs.declared.TheConstants.{WIDTH_LIMIT};
 ghost use Rattle.asl_grammar.specs.Reading.{File, ReadsAt, Reader, IsReadingAt};
 ghost use Rattle.asl_grammar.specs.lexemes.Refusals.{max_width};
@@ -45,7 +45,7 @@ ghost use Rattle.asl_laws.specs.Budgets.{with_more, SameWithMore, SameWordsWithM
 ghost use Rattle.asl_laws.specs.Evaluated.{Evaluates, HasCause};
 ghost use Rattle.asl_laws.specs.Placeless.{StandSame, JudgesSame};
 ghost use Rattle.asl_laws.specs.Reported.{RunsWell};
-ghost use Rattle.asl_laws.specs.RuleCodes.{HasRuleCode};
+ghost use Rattle.asl_laws.specs.Codes.{HasRuleCode, HasReadingCode};
 ghost use Rattle.asl_laws.specs.Visited.{AllSame};
 ghost use Rattle.asl_laws.specs.Wider.{Fits, FitsLimit, WordsFitLimit};
 
@@ -65,8 +65,9 @@ pub fn law1()
 /// or has a dynamic fault (`evaluates`). So a fault of the code T04 that is met after reading is the dynamic fault with which the evaluation
 /// of an initialiser or of the limit of a subprogram ends, with its code and at its place in that expression; or it is that of a type
 /// without a first value, at the type of storage that has no initialiser; or it stands at a call or a global `var` in an initialiser or a
-/// limit (`cause`). A fault that is met after reading has one of the codes T01 to T25, and a dynamic code only beside T04 (`codes`). A
-/// command has one report: it is the same by all right tests of one width limit, and by whatever reads files as the grammar says (`report`).
+/// limit (`cause`). A fault that is met as files are read has one of the codes L01 to L05, M03, and S01 to S03
+/// (`reading_codes`); one that is met after reading has one of the codes T01 to T25, and a dynamic code only beside T04 (`codes`). A command
+/// has one report: it is the same by all right tests of one width limit, and by whatever reads files as the grammar says (`report`).
 #[tactic(auto)]
 pub fn law2()
     ensures tests { (limit : ℕ) → (t : Tests) × (IsRight t × (t.limit ≡ limit)) }
@@ -74,6 +75,7 @@ pub fn law2()
     ensures within { (limit : ℕ) (e : Entry) (file : File) (files : List File) (f : Fault) → FaultOfFiles limit e (file ∷ files) f → LiesIn 0 (map (λ g. g.1) (file ∷ files)) f.span }
     ensures evaluates { (t : Tests) → IsRight t → (files : List File) (ds : List Decl) → ReadsAt t.limit files (Ok ds) → names_rule [] (all_declared ds) ≡ Ok tt → Evaluates t ds }
     ensures cause { (limit : ℕ) (e : Entry) (files : List File) (ds : List Decl) (f : Fault) → ReadsAt limit files (Ok ds) → (p : FaultOf limit e ds f) → f.code ≡ T04 → HasCause p.tests ds f }
+    ensures reading_codes { (limit : ℕ) (files : List File) (f : Fault) → ReadsAt limit files (Err f) → HasReadingCode f }
     ensures codes { (limit : ℕ) (e : Entry) (files : List File) (ds : List Decl) (f : Fault) → ReadsAt limit files (Ok ds) → FaultOf limit e ds f → HasRuleCode f }
     ensures report { (t u : Tests) → IsRight t → IsRight u → t.limit ≡ u.limit → (limit : ℕ) (read other : Reader) → IsReadingAt limit read → IsReadingAt limit other → (command : Command) (held : Text → Text) → report_of t read command held ≡ report_of u other command held }
 {}
