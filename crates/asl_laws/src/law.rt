@@ -1,7 +1,7 @@
 //! The laws of the definitions, each as the contract of a function without parameters.
 #![tactic(auto)]
 
-ghost use Rattle.std.specs.Prelude.{◌≡◌, ℕ, ℤ, true, List, Ok, Option, Some, ◌≤◌, ◌↔◌, [], ◌∷◌, map};
+ghost use Rattle.std.specs.Prelude.{◌≡◌, ℕ, ℤ, true, List, Ok, Option, Some, ◌≤◌, ◌↔◌, [], ◌∷◌, map, Err};
 ghost use Rattle.asl_bits.specs.declared.TheConstants.{WIDTH_LIMIT};
 ghost use Rattle.asl_grammar.specs.Reading.{File, ReadsAt, Reader, IsReadingAt};
 ghost use Rattle.asl_grammar.specs.lexemes.Refusals.{max_width};
@@ -15,8 +15,17 @@ ghost use Rattle.asl_rules.specs.runs.Machines.{run_of, visits_of};
 ghost use Rattle.asl_rules.specs.declarations.Names.{names_rule, all_declared};
 ghost use Rattle.asl_laws.specs.OneRun.{OneRun};
 ghost use Rattle.asl_rules.specs.runs.Plans.{Meter};
-ghost use Rattle.asl_rules.specs.declarations.Scopes.{Scope};
-ghost use Rattle.asl_rules.specs.declarations.Programs.{Environment, Accepted, ProgramOk, FaultOf, environment, verdict};
+ghost use Rattle.asl_rules.specs.declarations.Declarations.{names_of_program};
+ghost use Rattle.asl_rules.specs.declarations.Programs.{Head, funcs_of, signatures, signatures_rule, Environment, Accepted, ProgramOk, FaultOf, environment, verdict, signature_rule};
+ghost use Rattle.asl_rules.specs.declarations.Scopes.{Entry as Names, Scope, Body, is_free, type_of_name};
+ghost use Rattle.asl_rules.specs.statements.Acting.{Done};
+ghost use Rattle.asl_rules.specs.statements.Branches.{index_type, with_index, with_caught};
+ghost use Rattle.asl_rules.specs.statements.Stmts.{found_stmt};
+ghost use Rattle.asl_syn.specs.declared.tree.Direction.{Direction};
+ghost use Rattle.asl_syn.specs.declared.tree.Expr.{Expr};
+ghost use Rattle.asl_syn.specs.declared.tree.Ident.{Ident};
+ghost use Rattle.asl_syn.specs.declared.tree.Stmt.{Stmt};
+ghost use Rattle.asl_laws.specs.ScopeRules.{OutsideRules, AllBegin, KeepsRules, TypesOwn};
 ghost use Rattle.asl_rules.specs.report.Report.{report_of};
 ghost use Rattle.asl_laws.specs.Soundness.{Soundness, SameMeaning, IsCall};
 ghost use Rattle.asl_rules.specs.runs.States.{Binding};
@@ -33,27 +42,18 @@ ghost use Rattle.asl_syn.specs.declared.code.StaticCode.TheVariants.{T04};
 ghost use Rattle.asl_syn.specs.declared.tree.Decl.{Decl};
 ghost use Rattle.asl_laws.specs.Budgets.{with_more, SameWithMore, SameWordsWithMore};
 ghost use Rattle.asl_laws.specs.Evaluated.{Evaluates, HasCause};
+ghost use Rattle.asl_laws.specs.Placeless.{StandSame, JudgesSame};
 ghost use Rattle.asl_laws.specs.Reported.{RunsWell};
-ghost use Rattle.asl_laws.specs.RuleCodes.{HasRuleCode};
+ghost use Rattle.asl_laws.specs.Codes.{HasRuleCode, HasReadingCode};
 ghost use Rattle.asl_laws.specs.Visited.{AllSame};
 ghost use Rattle.asl_laws.specs.Wider.{Fits, FitsLimit, WordsFitLimit};
 ghost use Rattle.asl_laws.specs.WidthScopes.{AsksNothing, AsksSo};
 ghost use Rattle.asl_laws.specs.WidthWorth.{HasWorth, SameWorth, HasIntegers};
-ghost use Rattle.asl_rules.specs.declarations.Declarations.{names_of_program};
-ghost use Rattle.asl_rules.specs.declarations.Programs.{Head, signature_rule};
-ghost use Rattle.asl_rules.specs.declarations.Scopes.{Scope, Body, is_free};
-ghost use Rattle.asl_rules.specs.declarations.Scopes.{Entry as Names};
 ghost use Rattle.asl_rules.specs.expressions.Exprs.{found, width};
 ghost use Rattle.asl_rules.specs.expressions.Typing.{Width, Number};
 ghost use Rattle.asl_rules.specs.private.Worth.{Integers, standing_for, Obeys, WellCounted};
-ghost use Rattle.asl_rules.specs.statements.Acting.{Done};
-ghost use Rattle.asl_rules.specs.statements.Branches.{with_index, with_caught};
-ghost use Rattle.asl_rules.specs.statements.Stmts.{found_stmt};
 ghost use Rattle.asl_rules.specs.types.Numbers.{number};
-ghost use Rattle.asl_syn.specs.declared.tree.Expr.{Expr};
 ghost use Rattle.asl_syn.specs.declared.tree.Func.{Func};
-ghost use Rattle.asl_syn.specs.declared.tree.Ident.{Ident};
-ghost use Rattle.asl_syn.specs.declared.tree.Stmt.{Stmt};
 
 /// One run: for each program, state and node there is exactly one outcome, with one state, one number of steps left and
 /// one text after it. A call takes one step for each node that it enters, and never are more than 2,000 nodes open. An
@@ -71,8 +71,9 @@ pub fn law1()
 /// or has a dynamic fault (`evaluates`). So a fault of the code T04 that is met after reading is the dynamic fault with which the evaluation
 /// of an initialiser or of the limit of a subprogram ends, with its code and at its place in that expression; or it is that of a type
 /// without a first value, at the type of storage that has no initialiser; or it stands at a call or a global `var` in an initialiser or a
-/// limit (`cause`). A fault that is met after reading has one of the codes T01 to T25, and a dynamic code only beside T04 (`codes`). A
-/// command has one report: it is the same by all right tests of one width limit, and by whatever reads files as the grammar says (`report`).
+/// limit (`cause`). A fault that is met as files are read has one of the codes L01 to L05, M03, and S01 to S03
+/// (`reading_codes`); one that is met after reading has one of the codes T01 to T25, and a dynamic code only beside T04 (`codes`). A command
+/// has one report: it is the same by all right tests of one width limit, and by whatever reads files as the grammar says (`report`).
 #[tactic(auto)]
 pub fn law2()
     ensures tests { (limit : ℕ) → (t : Tests) × (IsRight t × (t.limit ≡ limit)) }
@@ -80,6 +81,7 @@ pub fn law2()
     ensures within { (limit : ℕ) (e : Entry) (file : File) (files : List File) (f : Fault) → FaultOfFiles limit e (file ∷ files) f → LiesIn 0 (map (λ g. g.1) (file ∷ files)) f.span }
     ensures evaluates { (t : Tests) → IsRight t → (files : List File) (ds : List Decl) → ReadsAt t.limit files (Ok ds) → names_rule [] (all_declared ds) ≡ Ok tt → Evaluates t ds }
     ensures cause { (limit : ℕ) (e : Entry) (files : List File) (ds : List Decl) (f : Fault) → ReadsAt limit files (Ok ds) → (p : FaultOf limit e ds f) → f.code ≡ T04 → HasCause p.tests ds f }
+    ensures reading_codes { (limit : ℕ) (files : List File) (f : Fault) → ReadsAt limit files (Err f) → HasReadingCode f }
     ensures codes { (limit : ℕ) (e : Entry) (files : List File) (ds : List Decl) (f : Fault) → ReadsAt limit files (Ok ds) → FaultOf limit e ds f → HasRuleCode f }
     ensures report { (t u : Tests) → IsRight t → IsRight u → t.limit ≡ u.limit → (limit : ℕ) (read other : Reader) → IsReadingAt limit read → IsReadingAt limit other → (command : Command) (held : Text → Text) → report_of t read command held ≡ report_of u other command held }
 {}
@@ -126,6 +128,24 @@ pub fn kinds_law()
     ensures types { (t : Tests) → IsRight t → (declared : List ℕ → Option Ty) → WellDeclared declared → (G : Scope) → ScopeFormed declared G → TypesFormed t declared G }
     ensures kept { (t : Tests) → IsRight t → (declared : List ℕ → Option Ty) → WellDeclared declared → KeepsFormed t declared }
     ensures kinds { (declared : List ℕ → Option Ty) → WellDeclared declared → (S T : Ty) → Shaped declared S → Shaped declared T → same_kind S T ≡ kind_eq (kind S) (kind T) }
+{}
+
+/// Three rules of scopes, on which soundness rests: no name is shadowed; a type mentions names of its scope alone; and a result mentions
+/// parameters alone. Constants and global `let`s have values, so the names outside bodies mention none (`outside`). The rules hold of the
+/// scope in which each body begins (`heads`), in programs that are refused too; each statement leaves a scope of which they hold
+/// (`statements`), and they hold in loops (`indices`) and in catchers (`catchers`). In a scope of which they hold, the types of expressions,
+/// and those that are written, mention names of the scope alone (`types`). What is judged of an expression or of a written type, its
+/// type, its effect, its width or its fault, is the same wherever the names of the scope have their places, so no condition asks for a
+/// slot, which typed trees have (`places`).
+#[tactic(auto)]
+pub fn scopes_law()
+    ensures outside { (t : Tests) (ds : List Decl) → OutsideRules (names_of_program t ds) }
+    ensures heads { (t : Tests) (ds : List Decl) (hs : List Head) → signatures_rule t (names_of_program t ds) (funcs_of ds) ≡ Ok hs → AllBegin (signatures hs) hs }
+    ensures types { (t : Tests) (G : Scope) → KeepsRules G → TypesOwn t G }
+    ensures statements { (t : Tests) (s : Stmt) (B : Body) (d : Done) → KeepsRules B.scope → found_stmt t s B ≡ Ok d → KeepsRules (record B.scope { names = d.names }) }
+    ensures indices { (t : Tests) (i : Ident) (d : Direction) (a b : Expr) (B : Body) → KeepsRules B.scope → is_free i.text B.scope.names ≡ true → KeepsRules (with_index i (index_type t d a b B.scope) B).scope }
+    ensures catchers { (t : Tests) (o : Option Ident) (name : List ℕ) (T : Ty) (B C : Body) → KeepsRules B.scope → type_of_name name B.scope.names ≡ Some T → with_caught o T B ≡ Ok C → KeepsRules C.scope }
+    ensures places { (t : Tests) (G : Scope) (names : List Names) → StandSame G.names names → JudgesSame t G names }
 {}
 
 /// For all files that are read to declarations which are well formed, the names of the environment are what the declarations alone

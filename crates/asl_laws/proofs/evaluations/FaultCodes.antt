@@ -28,7 +28,7 @@ use Rattle.asl_rules.specs.declarations.Programs.{as_number, origin, FaultOf}
 use Rattle.asl_rules.specs.private.Grown.{is_grown, AreGrown}
 use Rattle.asl_rules.proofs.basics.Tests.{no}
 use Rattle.asl_laws.specs.Evaluated.{StandsIn}
-use Rattle.asl_laws.specs.RuleCodes.{IsOfRules, HasRuleCode}
+use Rattle.asl_laws.specs.Codes.{IsOfRules, HasRuleCode}
 use Rattle.asl_laws.specs.Spans.{Mark, place, literal, Each, all_of, decl_spans}
 use Rattle.asl_laws.proofs.reading.Trees.{LiteralKept, read_literals}
 use Rattle.asl_laws.proofs.scopes.GrownTexts.{read_grown_at}
