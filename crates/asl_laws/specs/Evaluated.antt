@@ -72,6 +72,7 @@ pub record BarredAt (t : Tests) (ds : List Decl) (span : Span) : Type 0 where
   pub names : List Entry
   pub visible : AreVisible t ds names
   pub holds : barred expr names ≡ Some span
+  pub inside : IsAmong span (expr_spans expr)
 
 -- the evaluation of an initialiser or a limit of these declarations ends with this dynamic fault, which stands in it
 pub record EvaluationFaults (t : Tests) (ds : List Decl) (code : DynCode) (span : Span) : Type 0 where
