@@ -4,6 +4,7 @@ pub mod SoundnessStates
 pub mod GivenTypes
 pub mod SoundnessFacts
 pub mod SoundnessEnds
+pub mod SoundnessNodes
 pub mod SoundnessHeads
 pub mod SoundnessCalls
 pub mod Soundness

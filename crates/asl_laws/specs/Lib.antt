@@ -5,6 +5,9 @@ pub mod Reported
 pub mod Codes
 pub mod ScopeRules
 pub mod Visited
+pub mod WidthValues
+pub mod WidthWorth
+pub mod WidthScopes
 pub mod Wider
 pub mod AgreeingTypes
 pub mod Answers

@@ -1,7 +1,7 @@
 //! The laws of the definitions, each as the contract of a function without parameters.
 #![tactic(auto)]
 
-ghost use Rattle.std.specs.Prelude.{◌≡◌, ℕ, true, List, Ok, Err, Option, Some, ◌≤◌, [], ◌∷◌, map};
+ghost use Rattle.std.specs.Prelude.{◌≡◌, ℕ, ℤ, true, List, Ok, Option, Some, ◌≤◌, ◌↔◌, [], ◌∷◌, map, Err};
 ghost use Rattle.asl_bits.specs.declared.TheConstants.{WIDTH_LIMIT};
 ghost use Rattle.asl_grammar.specs.Reading.{File, ReadsAt, Reader, IsReadingAt};
 ghost use Rattle.asl_grammar.specs.lexemes.Refusals.{max_width};
@@ -16,7 +16,7 @@ ghost use Rattle.asl_rules.specs.declarations.Names.{names_rule, all_declared};
 ghost use Rattle.asl_laws.specs.OneRun.{OneRun};
 ghost use Rattle.asl_rules.specs.runs.Plans.{Meter};
 ghost use Rattle.asl_rules.specs.declarations.Declarations.{names_of_program};
-ghost use Rattle.asl_rules.specs.declarations.Programs.{Head, funcs_of, signatures, signatures_rule};
+ghost use Rattle.asl_rules.specs.declarations.Programs.{Head, funcs_of, signatures, signatures_rule, Environment, Accepted, ProgramOk, FaultOf, environment, verdict, signature_rule};
 ghost use Rattle.asl_rules.specs.declarations.Scopes.{Entry as Names, Scope, Body, is_free, type_of_name};
 ghost use Rattle.asl_rules.specs.statements.Acting.{Done};
 ghost use Rattle.asl_rules.specs.statements.Branches.{index_type, with_index, with_caught};
@@ -26,7 +26,6 @@ ghost use Rattle.asl_syn.specs.declared.tree.Expr.{Expr};
 ghost use Rattle.asl_syn.specs.declared.tree.Ident.{Ident};
 ghost use Rattle.asl_syn.specs.declared.tree.Stmt.{Stmt};
 ghost use Rattle.asl_laws.specs.ScopeRules.{OutsideRules, AllBegin, KeepsRules, TypesOwn};
-ghost use Rattle.asl_rules.specs.declarations.Programs.{Environment, Accepted, ProgramOk, FaultOf, environment, verdict};
 ghost use Rattle.asl_rules.specs.report.Report.{report_of};
 ghost use Rattle.asl_laws.specs.Soundness.{Soundness, SameMeaning, IsCall};
 ghost use Rattle.asl_rules.specs.runs.States.{Binding};
@@ -48,6 +47,13 @@ ghost use Rattle.asl_laws.specs.Reported.{RunsWell};
 ghost use Rattle.asl_laws.specs.Codes.{HasRuleCode, HasReadingCode};
 ghost use Rattle.asl_laws.specs.Visited.{AllSame};
 ghost use Rattle.asl_laws.specs.Wider.{Fits, FitsLimit, WordsFitLimit};
+ghost use Rattle.asl_laws.specs.WidthScopes.{AsksNothing, AsksSo};
+ghost use Rattle.asl_laws.specs.WidthWorth.{HasWorth, SameWorth, HasIntegers};
+ghost use Rattle.asl_rules.specs.expressions.Exprs.{found, width};
+ghost use Rattle.asl_rules.specs.expressions.Typing.{Width, Number};
+ghost use Rattle.asl_rules.specs.private.Worth.{Integers, standing_for, Obeys, WellCounted};
+ghost use Rattle.asl_rules.specs.types.Numbers.{number};
+ghost use Rattle.asl_syn.specs.declared.tree.Func.{Func};
 
 /// One run: for each program, state and node there is exactly one outcome, with one state, one number of steps left and
 /// one text after it. A call takes one step for each node that it enters, and never are more than 2,000 nodes open. An
@@ -81,8 +87,14 @@ pub fn law2()
 {}
 
 /// Soundness: no run of a well-formed program is stuck. Each state that it visits is sound, each node that it visits was
-/// judged in a scope with which the state agrees, an expression with a type gives values of that type, and the globals
-/// hold what was declared, however a call ends. Typed trees do what the trees do that they were judged from.
+/// judged, with the program's own subprograms and in the body of the one that was called last, in a scope with which the
+/// state agrees, and in which each `let` counts as names that stand for themselves. Where it was judged to have a type it gives
+/// values of that type, and where it is a width or a number that is written in a type, its integer. The frame of each caller
+/// agrees with the scope of the call that it waits for, whose typed tree calls the subprogram that is active behind it. Each
+/// expression with a type gives values of it from each state that agrees with its scope. The globals hold what was declared,
+/// however a call ends. Typed trees do what the trees do that they were judged from. A width expression that is evaluated,
+/// wherever it is written, gives the integer that it has as a width, or the fault D01, or D12 or D13 as any node may, and leaves
+/// the state as it was; so does an end of a constraint (`width_values`).
 #[tactic(auto)]
 pub fn law3()
     ensures { (limit : ℕ) (e : Entry) (files : List File) (ds : List Decl) (a : Accepted) → ReadsAt limit files (Ok ds) → (p : ProgramOk limit e ds a) → Soundness p.tests ds a × SameMeaning p.tests ds a }
@@ -153,9 +165,9 @@ pub fn run_law()
     ensures never_stuck { (t : Tests) → IsRight t → (files : List File) (ds : List Decl) → ReadsAt t.limit files (Ok ds) → RunsWell t ds }
 {}
 
-/// Each node that a call visits, an expression or a statement, was judged in a scope with which the state agrees, and the typed tree of
-/// that judgement does, in the state without names and types, what the node does in the state, whatever number of nodes may be open and
-/// whatever the meter is (`same`).
+/// Each node that a call visits, an expression or a statement, was judged, with the program's own subprograms and in the body of the one
+/// that was called last, in a scope with which the state agrees. The typed tree of that judgement does, in the state without names and
+/// types, what the node does in the state, whatever number of nodes may be open and whatever the meter is (`same`).
 #[tactic(auto)]
 pub fn visit_law()
     ensures same { (limit : ℕ) (e : Entry) (files : List File) (ds : List Decl) (a : Accepted) → ReadsAt limit files (Ok ds) → (p : ProgramOk limit e ds a) → (id : ℕ) (args : List Value) (globals : List Binding) (h : Meter) → IsCall a id args globals → AllSame p.tests ds a (visits_of (environment p.tests ds) id args globals h) }
@@ -169,4 +181,24 @@ pub fn visit_law()
 pub fn budget_law()
     ensures more_steps { (env : Environment) (id : ℕ) (args : List Value) (globals : List Binding) (h : Meter) (k : ℕ) → SameWithMore k (run_of env id args globals (with_more k h)) (run_of env id args globals h) }
     ensures words { (env : Environment) (id : ℕ) (words : List ℕ) (globals : List Binding) (h : Meter) (k : ℕ) → SameWordsWithMore k (run_words env id words globals (with_more k h)) (run_words env id words globals h) }
+{}
+
+/// Widths over plain integers, which no limit bounds. Where names stand for integers that agree with what stands there, a width has the
+/// plain integer of its expression (`worth`), and so has an end of a constraint that names no atom (`number`). In a scope in which `let`s
+/// count as names that stand for themselves, the test whether two widths are the same says yes exactly where they have one plain integer
+/// at all such integers (`same`), and there are such integers whatever the names that stand for themselves stand for (`integers`). The
+/// names outside bodies are such a scope (`outside`). So are those at the head of a body, of which nothing more is asked (`heads`); those
+/// behind each statement, of which what is asked is that a `let` of one integer, where its initialiser is a width, has the plain integer
+/// of its initialiser (`statements`); and those in loops (`indices`) and in catchers (`catchers`), of which nothing more is asked.
+#[tactic(auto)]
+pub fn widths_law()
+    ensures worth { (t : Tests) (e : Expr) (G : Scope) (w : Width) (a : Integers) → width t e G ≡ Ok w → Obeys G.names a → HasWorth e G.names a w.poly }
+    ensures number { (t : Tests) (e : Expr) (G : Scope) (n : Number) (a : Integers) → (found t e).number G ≡ Ok n → Obeys G.names a → number e (standing_for a) ≡ Some n.number }
+    ensures same { (t : Tests) → IsRight t → (e f : Expr) (G : Scope) (v w : Width) → WellCounted G.names → width t e G ≡ Ok v → width t f G ≡ Ok w → (t.same v.poly w.poly ≡ true) ↔ SameWorth G.names e f }
+    ensures integers { (names : List Names) → WellCounted names → (b : ℕ → ℤ) → HasIntegers names b }
+    ensures outside { (t : Tests) (ds : List Decl) → WellCounted (names_of_program t ds) }
+    ensures heads { (t : Tests) (ds : List Decl) (f : Func) (head : Head) → signature_rule t (names_of_program t ds) f ≡ Ok head → AsksNothing (names_of_program t ds) head.names }
+    ensures statements { (t : Tests) (s : Stmt) (B : Body) (d : Done) → WellCounted B.scope.names → found_stmt t s B ≡ Ok d → AsksSo t s B d }
+    ensures indices { (i : Ident) (T : Ty) (B : Body) → WellCounted B.scope.names → is_free i.text B.scope.names ≡ true → AsksNothing B.scope.names (with_index i T B).scope.names }
+    ensures catchers { (o : Option Ident) (T : Ty) (B C : Body) → WellCounted B.scope.names → with_caught o T B ≡ Ok C → AsksNothing B.scope.names C.scope.names }
 {}

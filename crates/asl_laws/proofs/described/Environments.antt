@@ -1,5 +1,5 @@
 -- The environment of a program that is well formed is described by its declarations.
-use Rattle.std.proofs.Common.{◌≡◌, ℕ, inl, inr, List, [], ◌∷◌, Ok, refl}
+use Rattle.std.proofs.Common.{◌≡◌, ℕ, inl, inr, List, [], ◌∷◌, Ok, refl, true}
 use Rattle.asl_syn.specs.declared.tree.Decl.{Decl}
 use Rattle.asl_syn.specs.declared.tree.Decl.TheVariants as dc
 use Rattle.asl_grammar.specs.Reading.{File, ReadsAt}
@@ -39,7 +39,7 @@ outside : (t : Tests) (ds : List Decl) → IsRight t → AreGrown ds → names_r
 outside t ds right grown apart cycles faults =
     let distinct : Distinct (all_declared ds) = distinct_of (all_declared ds) [] apart in
     let labels = grown_labels ds grown in
-    let belong : AllBelong t ds = belong_by_forms t right ds (λ b w. (no_calls t right ds b w, others_of t right ds b [] [] w (no_procedures t right ds b w))) in
+    let belong : AllBelong t ds = belong_by_forms t right ds (λ b w. (no_calls t right ds b w, others_of t right ds b [] true [] w (no_procedures t right ds b w))) in
     record {
       right = right;
       distinct = distinct;

@@ -1,6 +1,6 @@
 -- The types of declarations and of signatures agree with what is declared, in each round in which declarations are judged and in
 -- the scope of all signatures, whether the program is accepted or refused.
-use Rattle.std.proofs.Common.{◌≡◌, ℕ, false, List, [], ◌∷◌, ◌++◌, Option, Some, None, Ok, subst}
+use Rattle.std.proofs.Common.{true, ◌≡◌, ℕ, false, List, [], ◌∷◌, ◌++◌, Option, Some, None, Ok, subst}
 use Rattle.asl_syn.specs.declared.tree.Decl.{Decl}
 use Rattle.asl_syn.specs.declared.tree.Formal.{Formal}
 use Rattle.asl_syn.specs.declared.tree.Func.{Func}
@@ -129,7 +129,7 @@ declarations_agree t right ds grown apart =
     let distinct : Distinct (all_declared ds) = distinct_of (all_declared ds) [] apart in
     let labels = grown_labels ds grown in
     let belong : AllBelong t ds = belong_by_forms t right ds
-    (λ b w. (no_calls t right ds b w, others_of t right ds b [] [] w (no_procedures t right ds b w))) in
+    (λ b w. (no_calls t right ds b w, others_of t right ds b [] true [] w (no_procedures t right ds b w))) in
     let base = names_of_program t ds in
     let all : NamesAgree base = names_agree base (names_good t right ds distinct labels belong) in
     record {
