@@ -1,4 +1,5 @@
--- Which codes a fault has: one that is met as files are read has those of lexemes and of syntax, and one of declarations that are read has those of the rules.
+-- Which codes a fault has: one that is met as files are read has those of lexemes and of syntax, and one of declarations that are
+-- read has those of the rules.
 use Rattle.std.specs.Prelude.{◌≡◌, None, Some}
 use Rattle.asl_syn.specs.declared.code.DynCode.{DynCode}
 use Rattle.asl_syn.specs.declared.code.Fault.{Fault}

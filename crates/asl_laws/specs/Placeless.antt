@@ -1,5 +1,5 @@
--- What is judged doesn't depend on the places of names, which typed trees have: no condition asks for a slot. Of an expression and of a written type there is the
--- same fault, or the same type, effect and width, wherever the names have their places.
+-- What is judged doesn't depend on the places of names, which typed trees have: no condition asks for a slot. Of an expression and
+-- of a written type there is the same fault, or the same type, effect and width, wherever the names have their places.
 use Rattle.std.specs.Prelude.{◌≡◌, ℕ, Bool, List, Result, Ok, Err}
 use Rattle.asl_syn.specs.declared.code.Fault.{Fault}
 use Rattle.asl_syn.specs.declared.tree.Expr.{Expr}

@@ -1,5 +1,6 @@
--- Three rules that each scope keeps in which a body is judged. No name is shadowed. A type mentions names of its scope alone: the atoms of its widths and ends are
--- those of names of the body. And a result mentions parameters alone. The names outside bodies mention none, since constants and global `let`s have values.
+-- Three rules that each scope keeps in which a body is judged. No name is shadowed. A type mentions names of its scope alone: the
+-- atoms of its widths and ends are those of names of the body. And a result mentions parameters alone. The names outside bodies
+-- mention none, since constants and global `let`s have values.
 use Rattle.std.specs.Prelude.{◌≡◌, ℕ, ◌<◌, ◌⊎◌, Bool, false, List, [], ◌∷◌, Some, None, Ok}
 use Rattle.asl_syn.specs.declared.tree.Expr.{Expr}
 use Rattle.asl_syn.specs.declared.tree.TypeExpr.{TypeExpr}

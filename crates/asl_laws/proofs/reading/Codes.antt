@@ -49,7 +49,8 @@ fault_code s code len (refused k h r) = subst MaybeOfReading r (refusal_is s.wid
 
 lexeme_code : (limit n : ℕ) (texts : List Text) (f : Fault) → FirstLexFault limit n texts f → HasReadingCode f
 lexeme_code limit n [] f h = absurd h
-lexeme_code limit n (text ∷ texts) f (inl (ts, last, front, b)) = record { code = fault_code _ f.code f.span.len b.fault.fault; inner = b.fault.inner_is }
+lexeme_code limit n (text ∷ texts) f (inl (ts, last, front, b)) =
+    record { code = fault_code _ f.code f.span.len b.fault.fault; inner = b.fault.inner_is }
 lexeme_code limit n (text ∷ texts) f (inr (ts, t, first)) = lexeme_code limit (n + 1) texts f first
 
 -- ---- syntax

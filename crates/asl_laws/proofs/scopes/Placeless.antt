@@ -54,5 +54,7 @@ judged_same t G names same = record {
       let h = expr_same t G.names names G.subs e (agree G.names names same (expr_uses e)) in
       typed_alike _ _ ((h.typed_is (called G.names names same (expr_uses e))).typed_is G.class);
   width = λ e. width_alike _ _ ((expr_same t G.names names G.subs e (agree G.names names same (expr_uses e))).width_is.width_is G.class);
-  written = λ ty outside. written_alike _ _ ((written_same t G.names names G.subs ty (agree G.names names same (type_uses ty))).written_is.ty_is outside G.class);
+  written =
+      λ ty outside. written_alike _ _ ((written_same t G.names names G.subs ty (agree G.names names same
+      (type_uses ty))).written_is.ty_is outside G.class);
 }

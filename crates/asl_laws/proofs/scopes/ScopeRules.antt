@@ -51,7 +51,8 @@ none_free : (o : Option Standing) → is_absent o ≡ true → o ≡ None
 none_free None h = refl
 none_free (Some x) h = no h
 
-none_here : (x : Entry) (n : List ℕ) (es : List Entry) → standing_of n (x ∷ es) ≡ None → (bytes_eq x.name n ≡ false) × (standing_of n es ≡ None)
+none_here : (x : Entry) (n : List ℕ) (es : List Entry) → standing_of n (x ∷ es) ≡ None →
+    (bytes_eq x.name n ≡ false) × (standing_of n es ≡ None)
 none_here x n es h = by (bytes_eq x.name n) h
   where
     by : (b : Bool) → cond b (Some x.standing) (standing_of n es) ≡ None → (b ≡ false) × (standing_of n es ≡ None)
@@ -68,7 +69,8 @@ last_new (x ∷ es) e o h =
 added : (names : List Entry) (e : Entry) → NoneShadowed names → is_free e.name names ≡ true → NoneShadowed (names ++ e ∷ [])
 added names e o f = last_new names e o (none_free (standing_of e.name names) f)
 
-declared_added : (kind : LocalKind) (names : List Entry) (name : List ℕ) (T : Ty) (c : Option Counted) → NoneShadowed names → is_free name names ≡ true → NoneShadowed (names ++ declared kind name T c ∷ [])
+declared_added : (kind : LocalKind) (names : List Entry) (name : List ℕ) (T : Ty) (c : Option Counted) → NoneShadowed names →
+    is_free name names ≡ true → NoneShadowed (names ++ declared kind name T c ∷ [])
 declared_added local.Let names name T c o f = added names (fixed name T c) o f
 declared_added local.Var names name T c o f = added names (variable name T) o f
 
@@ -78,38 +80,45 @@ of_once (e ∷ es) o = (o.0, of_once es o.1)
 
 -- ---- declarations in bodies
 
-fresh_declared : (kind : LocalKind) (base : List Entry) (before : List (List ℕ)) (names : List Entry) (name : List ℕ) (T : Ty) (c : Option Counted) → Fresh base before names →
+fresh_declared : (kind : LocalKind) (base : List Entry) (before : List (List ℕ)) (names : List Entry) (name : List ℕ) (T : Ty)
+    (c : Option Counted) → Fresh base before names →
     Fresh base (before ++ name ∷ []) (names ++ declared kind name T c ∷ [])
 fresh_declared local.Let base before names name T c f = fresh_more base before names (fixed name T c) f
 fresh_declared local.Var base before names name T c f = fresh_more base before names (variable name T) f
 
-binders_added : (bs : List Binder) (kind : LocalKind) (o : Option Ty) (Ts : Parts) (base names more : List Entry) (before : List (List ℕ)) → NoneShadowed names → Fresh base before names →
+binders_added : (bs : List Binder) (kind : LocalKind) (o : Option Ty) (Ts : Parts) (base names more : List Entry)
+    (before : List (List ℕ)) → NoneShadowed names → Fresh base before names →
     binders_free bs before base ≡ Ok tt → bound_parts bs kind o Ts names ≡ Some more → NoneShadowed more
 binders_added [] kind o no_part base names more before w f h k = subst NoneShadowed (some_same names more k) w
 binders_added [] kind o (part T Ts) base names more before w f h k = none_some more k
 binders_added (Bound i ∷ bs) kind o no_part base names more before w f h k = none_some more k
 binders_added (Unbound at ∷ bs) kind o no_part base names more before w f h k = none_some more k
 binders_added (Bound i ∷ bs) kind o (part T Ts) base names more before w f h k =
-    let u = then_ok (need (is_free i.text base && not (has_name i.text before)) T01 i.span) (binders_free bs (before ++ i.text ∷ []) base) tt h in
+    let u = then_ok (need (is_free i.text base && not (has_name i.text before)) T01 i.span)
+    (binders_free bs (before ++ i.text ∷ []) base) tt h in
     let S : Ty = part_declared kind o T in
     binders_added bs kind o Ts base (names ++ declared kind i.text S (itself S names) ∷ []) more (before ++ i.text ∷ [])
     (declared_added kind names i.text S (itself S names) w (tested base names before i f u.first))
     (fresh_declared kind base before names i.text S (itself S names) f) u.then k
-binders_added (Unbound at ∷ bs) kind o (part T Ts) base names more before w f h k = binders_added bs kind o Ts base names more before w f h k
+binders_added (Unbound at ∷ bs) kind o (part T Ts) base names more before w f h k =
+    binders_added bs kind o Ts base names more before w f h k
 
 bound_in_added : (bs : List Binder) (kind : LocalKind) (o : Option Ty) (p : Option Parts) (names more : List Entry) → NoneShadowed names →
     binders_free bs [] names ≡ Ok tt → bound_in bs kind o p names ≡ Some more → NoneShadowed more
 bound_in_added bs kind o None names more w h k = none_some more k
 bound_in_added bs kind o (Some Ts) names more w h k = binders_added bs kind o Ts names names more [] w (fresh_start names) h k
 
-names_added : (is : List Ident) (T : Ty) (names more : List Entry) → NoneShadowed names → names_rule is T names ≡ Ok more → NoneShadowed more
+names_added : (is : List Ident) (T : Ty) (names more : List Entry) → NoneShadowed names → names_rule is T names ≡ Ok more →
+    NoneShadowed more
 names_added [] T names more w h = subst NoneShadowed (ok_ok names more h) w
 names_added (i ∷ is) T names more w h =
     let u = then_ok (need (is_free i.text names) T01 i.span) (names_rule is T (names ++ variable i.text T ∷ [])) more h in
-    names_added is T (names ++ variable i.text T ∷ []) more (added names (variable i.text T) w (need_ok (is_free i.text names) T01 i.span tt u.first)) u.then
+    names_added is T (names ++ variable i.text T ∷ []) more
+    (added names (variable i.text T) w (need_ok (is_free i.text names) T01 i.span tt u.first)) u.then
 
 module _ (t : Tests) where
-  bound_added : (span : Span) (kind : LocalKind) (b : Bind) (e : Expr) (i : Initialised) (G : Scope) (d : Done) → NoneShadowed G.names → bound t span kind b e i G ≡ Ok d → NoneShadowed d.names
+  bound_added : (span : Span) (kind : LocalKind) (b : Bind) (e : Expr) (i : Initialised) (G : Scope) (d : Done) → NoneShadowed G.names →
+      bound t span kind b e i G ≡ Ok d → NoneShadowed d.names
   bound_added span kind (Single (Bound x)) e i G d w h =
       let T : Ty = type_declared kind i.written i.value.ty in
       let c : Option Counted = initialised_as t T e G in
@@ -118,18 +127,23 @@ module _ (t : Tests) where
       subst NoneShadowed (ended_names G.class span true i.value.effect names (tree.Declare span i.written tree.whole i.value.tree) d u.then)
       (declared_added kind G.names x.text T c w (need_ok (is_free x.text G.names) T01 x.span tt u.first))
   bound_added span kind (Single (Unbound at)) e i G d w h =
-      subst NoneShadowed (ended_names G.class span true i.value.effect G.names (tree.Declare span i.written tree.nothing i.value.tree) d h) w
+      subst NoneShadowed
+      (ended_names G.class span true i.value.effect G.names (tree.Declare span i.written tree.nothing i.value.tree) d h) w
   bound_added span kind (Several at bs) e i G d w h =
       let u = then_ok (binders_free bs [] G.names) _ d h in
       let o = bound_in bs kind i.written (tuple_parts (written_or i.written i.value.ty)) G.names in
       let v = bind_ok (found_or o T05 span) _ d u.then in
-      subst NoneShadowed (ended_names G.class span true i.value.effect v.value (tree.Declare span i.written (tree.in_parts (taken bs)) i.value.tree) d v.then)
-      (bound_in_added bs kind i.written (tuple_parts (written_or i.written i.value.ty)) G.names v.value w u.first (found_ok o T05 span v.value v.first))
+      subst NoneShadowed (ended_names G.class span true i.value.effect v.value (tree.Declare span i.written
+      (tree.in_parts (taken bs)) i.value.tree) d v.then)
+      (bound_in_added bs kind i.written (tuple_parts (written_or i.written i.value.ty)) G.names v.value w u.first
+      (found_ok o T05 span v.value v.first))
 
-  bind_added : (span : Span) (kind : LocalKind) (b : Bind) (ty : Option TypeExpr) (e : Expr) (G : Scope) (d : Done) → NoneShadowed G.names → bind_rule t span kind b ty e G ≡ Ok d → NoneShadowed d.names
+  bind_added : (span : Span) (kind : LocalKind) (b : Bind) (ty : Option TypeExpr) (e : Expr) (G : Scope) (d : Done) →
+      NoneShadowed G.names → bind_rule t span kind b ty e G ≡ Ok d → NoneShadowed d.names
   bind_added span kind b ty e G d w h = let u = bind_ok (initialised t ty e G) _ d h in bound_added span kind b e u.value G d w u.then
 
-  vars_added : (span : Span) (is : List Ident) (ty : TypeExpr) (G : Scope) (d : Done) → NoneShadowed G.names → vars_rule t span is ty G ≡ Ok d → NoneShadowed d.names
+  vars_added : (span : Span) (is : List Ident) (ty : TypeExpr) (G : Scope) (d : Done) → NoneShadowed G.names →
+      vars_rule t span is ty G ≡ Ok d → NoneShadowed d.names
   vars_added span is ty G d w h =
       let u = bind_ok (written t ty false G) _ d h in
       let v = bind_ok (names_rule is u.value.ty G.names) _ d u.then in
@@ -137,29 +151,35 @@ module _ (t : Tests) where
 
   -- ---- signatures
 
-  params_added : (ps : List WrittenParam) (pre : List Param) (base names : List Entry) (before after : List (List ℕ)) (r : List Param × List Entry) → NoneShadowed names → Fresh base before names →
+  params_added : (ps : List WrittenParam) (pre : List Param) (base names : List Entry) (before after : List (List ℕ))
+      (r : List Param × List Entry) → NoneShadowed names → Fresh base before names →
       params_free ps before base ≡ Ok after → params_rule t ps pre names ≡ Ok r → NoneShadowed r.1 × Fresh base after r.1
   params_added [] pre base names before after r w f h k =
       let here : Fresh base after names = subst (λ b. Fresh base b names) (ok_ok before after h) f in
       subst (λ (z : List Param × List Entry). NoneShadowed z.1 × Fresh base after z.1) (ok_ok (pre, names) r k) (w, here)
   params_added (p ∷ ps) pre base names before after r w f h k =
-      let u = then_ok (need (is_free p.name.text base && not (has_name p.name.text before)) T01 p.name.span) (params_free ps (before ++ p.name.text ∷ []) base) after h in
+      let u = then_ok (need (is_free p.name.text base && not (has_name p.name.text before)) T01 p.name.span)
+      (params_free ps (before ++ p.name.text ∷ []) base) after h in
       let v = bind_ok (param_written t p.ty names) _ r k in
       let e : Entry = param_entry p.name.text v.value (next_atom names) in
-      params_added ps (pre ++ record { atom = next_atom names; ty = v.value } ∷ []) base (names ++ e ∷ []) (before ++ p.name.text ∷ []) after r
+      params_added ps (pre ++ record { atom = next_atom names; ty = v.value } ∷ []) base (names ++ e ∷ [])
+      (before ++ p.name.text ∷ []) after r
       (added names e w (tested base names before p.name f u.first)) (fresh_more base before names e f) u.then v.then
 
-  formals_added : (fs : List Formal) (Ts : Parts) (base names : List Entry) (before : List (List ℕ)) → NoneShadowed names → Fresh base before names → formals_free fs before base ≡ Ok tt →
+  formals_added : (fs : List Formal) (Ts : Parts) (base names : List Entry) (before : List (List ℕ)) → NoneShadowed names →
+      Fresh base before names → formals_free fs before base ≡ Ok tt →
       NoneShadowed (with_formals fs Ts names)
   formals_added [] Ts base names before w f h = w
   formals_added (x ∷ fs) no_part base names before w f h = w
   formals_added (x ∷ fs) (part T Ts) base names before w f h =
-      let u = then_ok (need (is_free x.name.text base && not (has_name x.name.text before)) T01 x.name.span) (formals_free fs (before ++ x.name.text ∷ []) base) tt h in
+      let u = then_ok (need (is_free x.name.text base && not (has_name x.name.text before)) T01 x.name.span)
+      (formals_free fs (before ++ x.name.text ∷ []) base) tt h in
       let e : Entry = fixed x.name.text T (itself T names) in
       formals_added fs Ts base (names ++ e ∷ []) (before ++ x.name.text ∷ [])
       (added names e w (tested base names before x.name f u.first)) (fresh_more base before names e f) u.then
 
-  head_added : (base : List Entry) (f : Func) (head : Head) → NoneShadowed base → signature_rule t base f ≡ Ok head → NoneShadowed head.names
+  head_added : (base : List Entry) (f : Func) (head : Head) → NoneShadowed base → signature_rule t base f ≡ Ok head →
+      NoneShadowed head.names
   head_added base f head w h =
       let a = bind_ok (params_free f.params [] base) _ head h in
       let b = then_ok (formals_free f.formals a.value base) _ head a.then in
@@ -170,15 +190,18 @@ module _ (t : Tests) where
       let k = then_ok (params_are_integers t f.params c.value.0) _ head g.then in
       let l = bind_ok (limit_rule t f.limit g.value base) _ head k.then in
       let p = params_added f.params [] base base [] a.value c.value w (fresh_start base) a.first c.first in
-      subst (λ (z : Head). NoneShadowed z.names) (ok_ok _ head l.then) (formals_added f.formals d.value base c.value.1 a.value p.0 p.1 b.first)
+      subst (λ (z : Head). NoneShadowed z.names) (ok_ok _ head l.then)
+      (formals_added f.formals d.value base c.value.1 a.value p.0 p.1 b.first)
 
 -- ---- what holds of each name holds of the one that is found
 
-found_over : (A : ℕ → Type 0) (names : List Entry) → EachOver A names → (name : List ℕ) (x : Standing) → standing_of name names ≡ Some x → StandingOver A x × CountedOver A x
+found_over : (A : ℕ → Type 0) (names : List Entry) → EachOver A names → (name : List ℕ) (x : Standing) →
+    standing_of name names ≡ Some x → StandingOver A x × CountedOver A x
 found_over A [] g name x h = none_some x h
 found_over A (e ∷ es) g name x h = by (bytes_eq e.name name) (found_over A es g.1.1 name x) h
   where
-    by : (b : Bool) → (standing_of name es ≡ Some x → StandingOver A x × CountedOver A x) → cond b (Some e.standing) (standing_of name es) ≡ Some x → StandingOver A x × CountedOver A x
+    by : (b : Bool) → (standing_of name es ≡ Some x → StandingOver A x × CountedOver A x) →
+        cond b (Some e.standing) (standing_of name es) ≡ Some x → StandingOver A x × CountedOver A x
     by true more k = subst (λ z. StandingOver A z × CountedOver A z) (some_same e.standing x k) (g.0, g.1.0)
     by false more k = more k
 
@@ -194,17 +217,24 @@ names_over A names g = record {
 pub outside_rules : (t : Tests) (ds : List Decl) → OutsideRules (names_of_program t ds)
 outside_rules t ds = record { shadowed = of_once (names_of_program t ds) (names_once t ds); types = (program_over t Never ds).each }
 
-heads_begin : (t : Tests) (base : List Entry) → NoneShadowed base → NamesOver Never base → (subs : List Signature) → SubsOver subs → (fs : List Func) (hs : List Head) → signatures_rule t base fs ≡ Ok hs → AllBegin subs hs
+heads_begin : (t : Tests) (base : List Entry) → NoneShadowed base → NamesOver Never base → (subs : List Signature) → SubsOver subs →
+    (fs : List Func) (hs : List Head) → signatures_rule t base fs ≡ Ok hs → AllBegin subs hs
 heads_begin t base w g subs s [] hs h = subst (AllBegin subs) (ok_ok [] hs h) tt
 heads_begin t base w g subs s (f ∷ fs) hs h =
     let u = bind_ok (signature_rule t base f) _ hs h in
     let v = bind_ok (signatures_rule t base fs) _ hs u.then in
     subst (AllBegin subs) (ok_ok (u.value ∷ v.value) hs v.then) (
-      record { shadowed = head_added t base f u.value w u.first; types = (signature_over t base f u.value g u.first).names.each; results = s },
+      record {
+        shadowed =
+            head_added t base f u.value w u.first;
+        types = (signature_over t base f u.value g u.first).names.each;
+        results = s;
+      },
       heads_begin t base w g subs s fs v.value v.first,
     )
 
-pub bodies_begin : (t : Tests) (ds : List Decl) (hs : List Head) → signatures_rule t (names_of_program t ds) (funcs_of ds) ≡ Ok hs → AllBegin (signatures hs) hs
+pub bodies_begin : (t : Tests) (ds : List Decl) (hs : List Head) → signatures_rule t (names_of_program t ds) (funcs_of ds) ≡ Ok hs →
+    AllBegin (signatures hs) hs
 bodies_begin t ds hs h =
     let base = names_of_program t ds in
     let o = outside_rules t ds in
@@ -231,10 +261,12 @@ kept t = record {
   };
 }
 
-pub statements_keep : (t : Tests) (s : Stmt) (B : Body) (d : Done) → KeepsRules B.scope → found_stmt t s B ≡ Ok d → KeepsRules (record B.scope { names = d.names })
+pub statements_keep : (t : Tests) (s : Stmt) (B : Body) (d : Done) → KeepsRules B.scope → found_stmt t s B ≡ Ok d →
+    KeepsRules (record B.scope { names = d.names })
 statements_keep t s B d k h = stmt_keeps t KeepsRules (kept t) s B d k h
 
-pub indices_keep : (t : Tests) (i : Ident) (d : Direction) (a b : Expr) (B : Body) → KeepsRules B.scope → is_free i.text B.scope.names ≡ true → KeepsRules (with_index i (index_type t d a b B.scope) B).scope
+pub indices_keep : (t : Tests) (i : Ident) (d : Direction) (a b : Expr) (B : Body) → KeepsRules B.scope →
+    is_free i.text B.scope.names ≡ true → KeepsRules (with_index i (index_type t d a b B.scope) B).scope
 indices_keep t i d a b B k f = record {
   shadowed = added B.scope.names (fixed i.text (index_type t d a b B.scope) (Some (atom_at (next_atom B.scope.names)))) k.shadowed f;
   types = (index_over t i d a b B (names_over (Below B.scope.names) B.scope.names k.types)).each;
@@ -254,7 +286,8 @@ caught_subs (Some i) T B C s h =
     let u = then_ok (need (is_free i.text B.scope.names) T01 i.span) _ C h in
     subst (λ (z : Body). SubsOver z.scope.subs) (ok_ok (body_names B (B.scope.names ++ fixed i.text T None ∷ [])) C u.then) s
 
-pub catchers_keep : (t : Tests) (o : Option Ident) (name : List ℕ) (T : Ty) (B C : Body) → KeepsRules B.scope → type_of_name name B.scope.names ≡ Some T → with_caught o T B ≡ Ok C → KeepsRules C.scope
+pub catchers_keep : (t : Tests) (o : Option Ident) (name : List ℕ) (T : Ty) (B C : Body) → KeepsRules B.scope →
+    type_of_name name B.scope.names ≡ Some T → with_caught o T B ≡ Ok C → KeepsRules C.scope
 catchers_keep t o name T B C k q h = record {
   shadowed = caught_added o T B C k.shadowed h;
   types = (caught_over t o T name B C (names_over (Below B.scope.names) B.scope.names k.types) q h).each;
