@@ -10,3 +10,4 @@ pub mod MoreNames
 pub mod DeclWell
 pub mod ScopesKept
 pub mod Globals
+pub mod FormedScopes

@@ -1,12 +1,17 @@
 pub mod Budgets
 pub mod Evaluated
 pub mod Reported
+pub mod RuleCodes
 pub mod Visited
+pub mod WidthValues
+pub mod WidthWorth
 pub mod Wider
+pub mod AgreeingTypes
 pub mod Answers
 pub mod BeforeRuns
 pub mod Described
 pub mod OneRun
 pub mod Soundness
+pub mod Spans
 pub mod StmtUses
 pub mod certificates

@@ -20,7 +20,7 @@ use Rattle.asl_rules.specs.runs.Evaluation.{meaning}
 use Rattle.asl_rules.specs.runs.Visits.{Entered, AtExpr, AtStmt, Visit}
 use Rattle.asl_rules.specs.private.TypedMeaning.{tree_meaning}
 use Rattle.asl_rules.specs.private.Erasure.{erased, erased_outcome}
-use Rattle.asl_laws.specs.Soundness.{trees_of}
+use Rattle.asl_laws.specs.Soundness.{trees_of, StandsIn, IsBodyOf}
 
 -- ---- a tree does the same, whatever number of nodes may be open and whatever the meter is
 
@@ -42,6 +42,8 @@ IsJudgedSame t ds a e G c =
 pub record ExprSame (t : Tests) (ds : List Decl) (a : Accepted) (e : Expr) (c : Core) : Type 0 where
   pub scope : Scope
   pub present : Assignment
+  pub subs_are : scope.subs ≡ a.signatures
+  pub stands : StandsIn a.signatures scope.class c.live
   pub judged : IsJudgedSame t ds a e scope c
   pub agrees : Agrees a.names scope.names present c
 
@@ -49,6 +51,8 @@ pub record StmtSame (t : Tests) (ds : List Decl) (a : Accepted) (s : Stmt) (c : 
   pub body : Body
   pub done : Done
   pub present : Assignment
+  pub subs_are : body.scope.subs ≡ a.signatures
+  pub stands : IsBodyOf a.signatures body c.live
   pub judged : found_stmt t s body ≡ Ok done
   pub agrees : Agrees a.names body.scope.names present c
   pub same : ActDoes t ds a s done.act c

@@ -1,5 +1,6 @@
 //! Programs that are well formed.
-ghost use Rattle.std.specs.Prelude.{◌≡◌, ℕ};
+ghost use Rattle.std.specs.Prelude.{◌≡◌, ◌↔◌, ℕ, Option};
+ghost use Rattle.asl_rules.specs.declared.entry.Entry.TheVariants.{None as NotAsked};
 ghost use Rattle.asl_tree.specs.Sealed.{Sealed, IsSealed};
 
 use crate::act::TreeFunc;
@@ -123,8 +124,10 @@ impl Checked {
     }
 
     /// The subprogram that a run begins with: none exactly where no entry was asked for.
+    #[tactic(auto, using(crate::proofs::Asked::entry_asked))]
     pub fn entry(&self) -> Option<SubId>
-        ensures { result ≡ self.now.main }
+        ensures main { result ≡ self.now.main }
+        ensures none { result ≡ Option.None ↔ self.now.asked ≡ NotAsked }
     {
         self.main
     }

@@ -1,5 +1,5 @@
 -- Constructions with their typed trees: both do the same, and give a value of the type.
-use Rattle.std.proofs.Common.{◌≡◌, ℕ, List, [], ◌∷◌, ◌++◌, Option, Some, None, option_map, Ok, refl, sym, ap, ◌∙◌, subst, map}
+use Rattle.std.proofs.Common.{◌≡◌, ℕ, Bool, List, [], ◌∷◌, ◌++◌, Option, Some, None, option_map, Ok, refl, sym, ap, ◌∙◌, subst, map}
 use Rattle.asl_syn.specs.declared.token.Span.{Span}
 use Rattle.asl_syn.specs.declared.code.StaticCode.TheVariants.{T02, T05, T15}
 use Rattle.asl_syn.specs.declared.tree.Ident.{Ident}
@@ -92,7 +92,7 @@ module _ (d : List ℕ → Option Ty) (w : WellDeclared d) (av : Assignment) (te
   facts (named own supers T) c t o h = none_some c h
   facts T c t o h = none_some c h
 
-module _ (tests : Tests) (right : IsRight tests) (ds : List Decl) (base : List Entry) (subs : List Signature) (funcs : List TreeFunc) (w : WellNamed base) where
+module _ (tests : Tests) (right : IsRight tests) (ds : List Decl) (base : List Entry) (subs : List Signature) (loose : Bool) (funcs : List TreeFunc) (w : WellNamed base) where
   given_is : (f : FieldValue) → found_field tests f ≡ record { name = own_name (out-FieldValue f); value = found tests (own_expr (out-FieldValue f)) }
   given_is f = fold_out-FieldValue FoundBitfield FoundPart Found FoundField FoundPattern FoundSlice FoundType bitfield_rule part_rule (expr_rule tests) given_rule (pattern_rule tests) slice_rule (type_rule tests) f ∙ by (out-FieldValue f)
     where
@@ -104,22 +104,22 @@ module _ (tests : Tests) (right : IsRight tests) (ds : List Decl) (base : List E
   names_same (f ∷ fs) =
       ap (λ n. n ∷ shapes_in given_parts fs) (shape_own f ∙ ap (λ (z : FoundField). z.name.text) (sym (given_is f))) ∙ ap (λ ns. (found_field tests f).name.text ∷ ns) (names_same fs)
 
-  given_asked : (G : Scope) (fs : List FieldValue) (os : List Operand) → operands (values_given (map (found_field tests) fs)) G ≡ Ok os → AllAsked tests right base subs G (exprs_in given_parts fs) (trees_in os) (asked_of tests right base subs os)
-  given_asked G [] os h = subst (λ z. AllAsked tests right base subs G [] (trees_in z) (asked_of tests right base subs z)) (ok_ok [] os h) tt
+  given_asked : (G : Scope) (fs : List FieldValue) (os : List Operand) → operands (values_given (map (found_field tests) fs)) G ≡ Ok os → AllAsked tests right base subs loose G (exprs_in given_parts fs) (trees_in os) (asked_of tests right base subs loose os)
+  given_asked G [] os h = subst (λ z. AllAsked tests right base subs loose G [] (trees_in z) (asked_of tests right base subs loose z)) (ok_ok [] os h) tt
   given_asked G (f ∷ fs) os h =
       let v = (found_field tests f).value in
       let t = bind_ok (v.typed G) _ os h in
       let r = bind_ok (operands (values_given (map (found_field tests) fs)) G) _ os t.then in
       let e = own_expr (out-FieldValue f) in
       let k : typed tests e G ≡ Ok t.value = ap (λ (z : FoundField). z.value.typed G) (sym (given_is f)) ∙ t.first in
-      subst (λ z. AllAsked tests right base subs G (exprs_in given_parts (f ∷ fs)) (trees_in z) (asked_of tests right base subs z)) (ok_ok (operand_at v.span t.value ∷ r.value) os r.then)
-      (subst (λ es. AllAsked tests right base subs G (es ++ exprs_in given_parts fs) (t.value.tree ∷ trees_in r.value) (asked_of tests right base subs (operand_at v.span t.value ∷ r.value))) (sym (exprs_own f)) (k, refl, given_asked G fs r.value r.first))
+      subst (λ z. AllAsked tests right base subs loose G (exprs_in given_parts (f ∷ fs)) (trees_in z) (asked_of tests right base subs loose z)) (ok_ok (operand_at v.span t.value ∷ r.value) os r.then)
+      (subst (λ es. AllAsked tests right base subs loose G (es ++ exprs_in given_parts fs) (t.value.tree ∷ trees_in r.value) (asked_of tests right base subs loose (operand_at v.span t.value ∷ r.value))) (sym (exprs_own f)) (k, refl, given_asked G fs r.value r.first))
 
-  belong : (H : Here) (fs : List FieldValue) (os : List Operand) (xs : List Value) → ((e : Expr) (T : Typed) → typed tests e H.scope ≡ Ok T → WellFormed (types_in base) T.ty) → operands (values_given (map (found_field tests) fs)) H.scope ≡ Ok os → AllGive tests right base subs H (asked_of tests right base subs os) xs →
+  belong : (H : Here) (fs : List FieldValue) (os : List Operand) (xs : List Value) → ((e : Expr) (T : Typed) → typed tests e H.scope ≡ Ok T → WellFormed (types_in base) T.ty) → operands (values_given (map (found_field tests) fs)) H.scope ≡ Ok os → AllGive tests right base subs loose H (asked_of tests right base subs loose os) xs →
       AllBelong (types_in base) (well_declared base w) H.present tests right (names_given (map (found_field tests) fs)) os xs
-  belong H [] os xs good h g = subst (λ z. AllGive tests right base subs H (asked_of tests right base subs z) xs → AllBelong (types_in base) (well_declared base w) H.present tests right [] z xs) (ok_ok [] os h) (none xs) g
+  belong H [] os xs good h g = subst (λ z. AllGive tests right base subs loose H (asked_of tests right base subs loose z) xs → AllBelong (types_in base) (well_declared base w) H.present tests right [] z xs) (ok_ok [] os h) (none xs) g
     where
-      none : (xs : List Value) → AllGive tests right base subs H [] xs → AllBelong (types_in base) (well_declared base w) H.present tests right [] [] xs
+      none : (xs : List Value) → AllGive tests right base subs loose H [] xs → AllBelong (types_in base) (well_declared base w) H.present tests right [] [] xs
       none [] g = tt
       none (x ∷ xs) g = absurd g
   belong H (f ∷ fs) os xs good h g =
@@ -127,14 +127,14 @@ module _ (tests : Tests) (right : IsRight tests) (ds : List Decl) (base : List E
       let t = bind_ok (v.typed H.scope) _ os h in
       let r = bind_ok (operands (values_given (map (found_field tests) fs)) H.scope) _ os t.then in
       let k : typed tests (own_expr (out-FieldValue f)) H.scope ≡ Ok t.value = ap (λ (z : FoundField). z.value.typed H.scope) (sym (given_is f)) ∙ t.first in
-      subst (λ z. AllGive tests right base subs H (asked_of tests right base subs z) xs → AllBelong (types_in base) (well_declared base w) H.present tests right (names_given (map (found_field tests) (f ∷ fs))) z xs) (ok_ok (operand_at v.span t.value ∷ r.value) os r.then) (some t.value v.span r.value (good (own_expr (out-FieldValue f)) t.value k) (λ ys l. belong H fs r.value ys good r.first l) xs) g
+      subst (λ z. AllGive tests right base subs loose H (asked_of tests right base subs loose z) xs → AllBelong (types_in base) (well_declared base w) H.present tests right (names_given (map (found_field tests) (f ∷ fs))) z xs) (ok_ok (operand_at v.span t.value ∷ r.value) os r.then) (some t.value v.span r.value (good (own_expr (out-FieldValue f)) t.value k) (λ ys l. belong H fs r.value ys good r.first l) xs) g
     where
-      some : (T : Typed) (span : Span) (ps : List Operand) → WellFormed (types_in base) T.ty → ((ys : List Value) → AllGive tests right base subs H (asked_of tests right base subs ps) ys → AllBelong (types_in base) (well_declared base w) H.present tests right (names_given (map (found_field tests) fs)) ps ys) → (xs : List Value) →
-          AllGive tests right base subs H (asked_of tests right base subs (operand_at span T ∷ ps)) xs → AllBelong (types_in base) (well_declared base w) H.present tests right (names_given (map (found_field tests) (f ∷ fs))) (operand_at span T ∷ ps) xs
+      some : (T : Typed) (span : Span) (ps : List Operand) → WellFormed (types_in base) T.ty → ((ys : List Value) → AllGive tests right base subs loose H (asked_of tests right base subs loose ps) ys → AllBelong (types_in base) (well_declared base w) H.present tests right (names_given (map (found_field tests) fs)) ps ys) → (xs : List Value) →
+          AllGive tests right base subs loose H (asked_of tests right base subs loose (operand_at span T ∷ ps)) xs → AllBelong (types_in base) (well_declared base w) H.present tests right (names_given (map (found_field tests) (f ∷ fs))) (operand_at span T ∷ ps) xs
       some T span ps u next [] l = absurd l
       some T span ps u next (x ∷ ys) l = (l.0, u, next ys l.1)
 
-  pub construct_formed : (H : Here) (S : Typed) (span : Span) (i : Ident) (fs : List FieldValue) (c : Core) → ((e : Expr) (T : Typed) → typed tests e H.scope ≡ Ok T → WellFormed (types_in base) T.ty) → construct_rule tests span i (map (found_field tests) fs) H.scope ≡ Ok S → At tests base subs H c → Formed tests right ds base subs funcs w H S (ex.Construct span i fs) c
+  pub construct_formed : (H : Here) (S : Typed) (span : Span) (i : Ident) (fs : List FieldValue) (c : Core) → ((e : Expr) (T : Typed) → typed tests e H.scope ≡ Ok T → WellFormed (types_in base) T.ty) → construct_rule tests span i (map (found_field tests) fs) H.scope ≡ Ok S → At tests base subs loose H c → Formed tests right ds base subs loose funcs w H S (ex.Construct span i fs) c
   construct_formed H S span i fs c good h a =
       let d = types_in base in
       let wd = well_declared base w in
@@ -155,9 +155,9 @@ module _ (tests : Tests) (right : IsRight tests) (ds : List Decl) (base : List E
       let k = greater (greatest Pure (effects_of o.value)) Pure in
       let make : Note → Tree = λ n. tree.Construct n p.value.shell g.value (trees_of o.value) in
       let same_ty : T ≡ p.value.ty = constructed_type T p.value q.2 in
-      formed tests right ds base subs funcs w H S (ex.Construct span i fs) c span p.value.ty k make (finish_is H.scope.class span (all_together Pure (effects_of o.value)) k p.value.ty make S g.then) refl
-      (subst (λ ts. Same tests right base subs H (Out tests right base subs H p.value.ty) (behind_all (exprs_in given_parts fs) c (runs.constructed span (types_among base i.text) (shapes_in given_parts fs))) (behind_all ts (erased c) (places.constructed span p.value.shell g.value))) (sym (list_from (trees_in o.value)))
-      (behind_all_same tests right base subs H p.value.ty (exprs_in given_parts fs) (trees_in o.value) (asked_of tests right base subs o.value) c (runs.constructed span (types_among base i.text) (shapes_in given_parts fs)) (places.constructed span p.value.shell g.value) (given_asked H.scope fs o.value o.first) a
+      formed tests right ds base subs loose funcs w H S (ex.Construct span i fs) c span p.value.ty k make (finish_is H.scope.class span (all_together Pure (effects_of o.value)) k p.value.ty make S g.then) refl
+      (subst (λ ts. Same tests right base subs loose H (Out tests right base subs loose H p.value.ty) (behind_all (exprs_in given_parts fs) c (runs.constructed span (types_among base i.text) (shapes_in given_parts fs))) (behind_all ts (erased c) (places.constructed span p.value.shell g.value))) (sym (list_from (trees_in o.value)))
+      (behind_all_same tests right base subs loose H p.value.ty (exprs_in given_parts fs) (trees_in o.value) (asked_of tests right base subs loose o.value) c (runs.constructed span (types_among base i.text) (shapes_in given_parts fs)) (places.constructed span p.value.shell g.value) (given_asked H.scope fs o.value o.first) a
       (λ xs l.
       let b = belong H fs o.value xs good o.first l in
       let m = made d p.value.fields (texts_of is) xs g.value gs (λ n U j u v. let z = once_found n U p.value.fields fx.once u in values_at d wd av tests right is [] o.value t.value xs p.value.fields n U z.place j t.first f.first b v z.is (fields_shaped d n U p.value.fields fx.shaped u) (fields_fixed av n U p.value.fields fx.fixed u)) in

@@ -1,5 +1,5 @@
 -- Where each pair of forms does the same, the tree of each node that a call visits does what the node does. What calls from outside are is a premise.
-use Rattle.std.proofs.Common.{◌≡◌, ℕ, inl, inr, Bool, List, [], ◌∷◌, Option, refl, sym, ap, ◌∙◌, subst}
+use Rattle.std.proofs.Common.{◌≡◌, ℕ, inl, inr, Bool, List, [], ◌∷◌, Option, refl, sym, ap, ◌∙◌, subst, false, true}
 use Rattle.asl_syn.specs.declared.tree.Decl.{Decl}
 use Rattle.asl_syn.specs.declared.tree.Expr.{Expr}
 use Rattle.asl_syn.specs.declared.tree.Stmt.{Stmt}
@@ -31,6 +31,7 @@ use Rattle.asl_laws.proofs.expressions.Claims.{Here, Asked, of_type, of_pure, of
 use Rattle.asl_laws.proofs.expressions.AllExprs.{Others}
 use Rattle.asl_laws.proofs.statements.AllStmts.{OtherStmts, all_forms, all_meet}
 use Rattle.asl_laws.specs.Visited.{TreeDoes, ActDoes, ExprSame, StmtSame, NodeSame, AllSame}
+use Rattle.asl_laws.proofs.soundness.SoundnessNodes.{expr_stands, body_stands}
 
 -- two ends that are the same are one in the state without names and types
 same_end : {A : Type 0} (K : Core → Type 0) (Z : A → Core → Type 0) (R : Value → Core → Type 0) (r : Outcome Core A) (t : Outcome BareCore A) → SameEnd erased K (λ x y c. (x ≡ y) × Z x c) R r t → t ≡ erased_outcome r
@@ -50,48 +51,48 @@ module _ (tests : Tests) (right : IsRight tests) (ds : List Decl) (asked : Enter
   abbrev whole : Accepted
   whole = accepted asked main subs funcs base
 
-  module _ (o : Others tests right ds base subs funcs w s) (q : OtherStmts tests right ds base subs funcs w) where
+  module _ (o : (loose : Bool) → Others tests right ds base subs loose funcs w s) (q : (loose : Bool) → OtherStmts tests right ds base subs loose funcs w) where
     -- ---- one node
 
-    expr_does : (H : Here) (i : Asked) (e : Expr) (t : Tree) (c : Core) → ExprIn tests base subs H i e t c → TreeDoes tests ds whole e (tree_asked i) c
+    expr_does : (H : Here) (i : Asked) (e : Expr) (t : Tree) (c : Core) → ExprIn tests base subs false H i e t c → TreeDoes tests ds whole e (tree_asked i) c
     expr_does H i e t c p =
         subst (λ u. TreeDoes tests ds whole e u c) (sym p.is_tree)
-        (λ d h. same_end (λ c1. GlobalsMatch base c1.globals) (λ x c1. GivesAsked (types_in base) H.present i x × At tests base subs H c1) (λ x c1. Over tests base subs H.scope.names H.present H.handled x c1)
-        ((meaning (environment tests ds) d).expr e c h) ((tree_meaning (trees_of tests whole) d).expr t (erased c) h) ((all_meet tests right ds base subs funcs w s o q d).expr (one (H, i)) e t c h p))
+        (λ d h. same_end (λ c1. GlobalsMatch base c1.globals) (λ x c1. GivesAsked (types_in base) H.present i x × At tests base subs false H c1) (λ x c1. Over tests base subs false H.scope.names H.present H.around x c1)
+        ((meaning (environment tests ds) d).expr e c h) ((tree_meaning (trees_of tests whole) d).expr t (erased c) h) ((all_meet tests right ds base subs false funcs w s (o false) (q false) d).expr (one (H, i)) e t c h p))
 
-    stmt_does : (j : StmtClaim) (x : Stmt) (t : Act) (c : Core) → StmtIn tests base subs j x t c → ActDoes tests ds whole x j.done.act c
+    stmt_does : (j : StmtClaim) (x : Stmt) (t : Act) (c : Core) → StmtIn tests base subs false j x t c → ActDoes tests ds whole x j.done.act c
     stmt_does j x t c p =
         subst (λ u. ActDoes tests ds whole x u c) (sym p.is_tree)
-        (λ d h. same_end (λ c1. GlobalsMatch base c1.globals) (λ y c1. Ends tests base subs j (falls x) y c1) (λ y c1. Over tests base subs j.body.scope.names j.present j.handled y c1)
-        ((meaning (environment tests ds) d).stmt x c h) ((tree_meaning (trees_of tests whole) d).stmt t (erased c) h) ((all_meet tests right ds base subs funcs w s o q d).stmt (one (j, falls x)) x t c h (p, refl)))
+        (λ d h. same_end (λ c1. GlobalsMatch base c1.globals) (λ y c1. Ends tests base subs false j (falls x) y c1) (λ y c1. Over tests base subs false j.body.scope.names j.present j.around y c1)
+        ((meaning (environment tests ds) d).stmt x c h) ((tree_meaning (trees_of tests whole) d).stmt t (erased c) h) ((all_meet tests right ds base subs false funcs w s (o false) (q false) d).stmt (one (j, falls x)) x t c h (p, refl)))
 
-    expr_same : (H : Here) (i : Asked) (e : Expr) (t : Tree) (c : Core) → ExprIn tests base subs H i e t c → ExprSame tests ds whole e c
-    expr_same H (of_type S) e t c p = record { scope = H.scope; present = H.present; judged = inl (S, p.answers, expr_does H (of_type S) e t c p); agrees = p.at.agrees }
-    expr_same H (of_pure S) e t c p = record { scope = with_class H.scope Pure; present = H.present; judged = inl (S, p.answers, expr_does H (of_pure S) e t c p); agrees = p.at.agrees }
-    expr_same H (of_width W) e t c p = record { scope = H.scope; present = H.present; judged = inr (inl (W, p.answers, expr_does H (of_width W) e t c p)); agrees = p.at.agrees }
-    expr_same H (of_number N) e t c p = record { scope = H.scope; present = H.present; judged = inr (inr (N, p.answers, expr_does H (of_number N) e t c p)); agrees = p.at.agrees }
-    expr_same H (of_known S W) e t c p = record { scope = H.scope; present = H.present; judged = inl (S, p.answers.0, expr_does H (of_known S W) e t c p); agrees = p.at.agrees }
+    expr_same : (H : Here) (i : Asked) (e : Expr) (t : Tree) (c : Core) → ExprIn tests base subs false H i e t c → ExprSame tests ds whole e c
+    expr_same H (of_type S) e t c p = record { scope = H.scope; present = H.present; subs_are = p.at.subs_are; stands = expr_stands tests right ds asked main subs funcs w s (o true) (q true) H (of_type S) e t c p; judged = inl (S, p.answers, expr_does H (of_type S) e t c p); agrees = p.at.agrees }
+    expr_same H (of_pure S) e t c p = record { scope = with_class H.scope Pure; present = H.present; subs_are = p.at.subs_are; stands = expr_stands tests right ds asked main subs funcs w s (o true) (q true) H (of_pure S) e t c p; judged = inl (S, p.answers, expr_does H (of_pure S) e t c p); agrees = p.at.agrees }
+    expr_same H (of_width W) e t c p = record { scope = H.scope; present = H.present; subs_are = p.at.subs_are; stands = expr_stands tests right ds asked main subs funcs w s (o true) (q true) H (of_width W) e t c p; judged = inr (inl (W, p.answers, expr_does H (of_width W) e t c p)); agrees = p.at.agrees }
+    expr_same H (of_number N) e t c p = record { scope = H.scope; present = H.present; subs_are = p.at.subs_are; stands = expr_stands tests right ds asked main subs funcs w s (o true) (q true) H (of_number N) e t c p; judged = inr (inr (N, p.answers, expr_does H (of_number N) e t c p)); agrees = p.at.agrees }
+    expr_same H (of_known S W) e t c p = record { scope = H.scope; present = H.present; subs_are = p.at.subs_are; stands = expr_stands tests right ds asked main subs funcs w s (o true) (q true) H (of_known S W) e t c p; judged = inl (S, p.answers.0, expr_does H (of_known S W) e t c p); agrees = p.at.agrees }
 
-    stmt_same : (j : StmtClaim) (x : Stmt) (t : Act) (c : Core) → StmtIn tests base subs j x t c → StmtSame tests ds whole x c
-    stmt_same j x t c p = record { body = j.body; done = j.done; present = j.present; judged = p.is_found; agrees = p.at.agrees; same = stmt_does j x t c p }
+    stmt_same : (j : StmtClaim) (x : Stmt) (t : Act) (c : Core) → StmtIn tests base subs false j x t c → StmtSame tests ds whole x c
+    stmt_same j x t c p = record { body = j.body; done = j.done; present = j.present; subs_are = p.at.subs_are; stands = body_stands tests right ds asked main subs funcs w s (o true) (q true) j x t c p; judged = p.is_found; agrees = p.at.agrees; same = stmt_does j x t c p }
 
     -- ---- of which several things are claimed
 
-    exprs_same : (i : Several (Here × Asked)) (e : Expr) (t : Tree) (c : Core) → expr_enters (our_each tests base subs) i e t c → NodeSame tests ds whole (AtExpr e) c
+    exprs_same : (i : Several (Here × Asked)) (e : Expr) (t : Tree) (c : Core) → expr_enters (our_each tests base subs false) i e t c → NodeSame tests ds whole (AtExpr e) c
     exprs_same (one i) e t c p = expr_same i.0 i.1 e t c p
     exprs_same (two i j) e t c p = exprs_same i e t c p.0
 
-    stmts_same : (j : Several (StmtClaim × Bool)) (x : Stmt) (t : Act) (c : Core) → stmt_enters (our_each tests base subs) j x t c → NodeSame tests ds whole (AtStmt x) c
+    stmts_same : (j : Several (StmtClaim × Bool)) (x : Stmt) (t : Act) (c : Core) → stmt_enters (our_each tests base subs false) j x t c → NodeSame tests ds whole (AtStmt x) c
     stmts_same (one j) x t c p = stmt_same j.0 x t c p.0
     stmts_same (two i j) x t c p = stmts_same i x t c p.0
 
     -- ---- of a call
 
-    pub visits_same : ((id : ℕ) (args : List Value) (globals : List Binding) → IsCall whole id args globals → CallSame tests right ds asked main subs funcs w s id args globals) → (id : ℕ) (args : List Value) (globals : List Binding) (h : Meter) → IsCall whole id args globals →
+    pub visits_same : ((id : ℕ) (args : List Value) (globals : List Binding) → IsCall whole id args globals → CallSame tests right ds asked main subs funcs w s false id args globals) → (id : ℕ) (args : List Value) (globals : List Binding) (h : Meter) → IsCall whole id args globals →
         AllSame tests ds whole (visits_of (environment tests ds) id args globals h)
     unfolding visits_of
     visits_same calls id args globals h k =
         all_same tests ds whole _
-        (twins_visits (our tests base subs) (meaning (environment tests ds) most_open) (tree_meaning (trees_of tests whole) most_open) (trails (nodes (environment tests ds)) most_open 0) (NodeSame tests ds whole) (all_meet tests right ds base subs funcs w s o q most_open)
-        (visits_hold (nodes (environment tests ds)) (tree_nodes (trees_of tests whole)) (our tests base subs) (NodeSame tests ds whole) (all_forms tests right ds base subs funcs w s o q) exprs_same stmts_same most_open 0)
+        (twins_visits (our tests base subs false) (meaning (environment tests ds) most_open) (tree_meaning (trees_of tests whole) most_open) (trails (nodes (environment tests ds)) most_open 0) (NodeSame tests ds whole) (all_meet tests right ds base subs false funcs w s (o false) (q false) most_open)
+        (visits_hold (nodes (environment tests ds)) (tree_nodes (trees_of tests whole)) (our tests base subs false) (NodeSame tests ds whole) (all_forms tests right ds base subs false funcs w s (o false) (q false)) exprs_same stmts_same most_open 0)
         (λ x y c. (x ≡ y) × GlobalsMatch base c.globals) (λ x c. GlobalsMatch base c.globals) (call_of (environment tests ds) id args (resting globals)) (tree_call (trees_of tests whole) id args (erased (resting globals))) h (calls id args globals k))

@@ -1,7 +1,7 @@
 use Rattle.std.proofs.Common.{◌≡◌, drop, map}
 use Rattle.asl_rules.specs.statements.Falling as rules
-use Rattle.asl_check.specs.private.Falls as parts
-use Rattle.asl_check.proofs.falls.+falls.Given as goal
+use Rattle.asl_falling.specs.private.Falls as parts
+use Rattle.asl_falling.proofs.falls.+falls.Given as goal
 
 abbrev pub invariant-all_fall-loop-s : goal.invariant-all_fall-loop-s
 invariant-all_fall-loop-s l = rules.all_fall (map rules.falls (drop l.s-index l.stmts)) ≡ rules.all_fall (map rules.falls l.stmts)

@@ -1,7 +1,7 @@
 use Rattle.std.proofs.Common.{◌≡◌, ◌&&◌, List, [], ◌∷◌, map, refl, ap, ◌∙◌}
 use Rattle.asl_syn.specs.declared.tree.Stmt.{Stmt}
 use Rattle.asl_rules.specs.statements.Falling.{all_fall, falls, falls_through}
-use Rattle.asl_check.proofs.falls.falls_through.Goals as goal
+use Rattle.asl_falling.proofs.falls.falls_through.Goals as goal
 
 one_by_one : (ss : List Stmt) → all_fall (map falls ss) ≡ falls_through ss
 one_by_one [] = refl

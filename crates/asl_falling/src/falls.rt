@@ -2,7 +2,7 @@
 
 ghost use Rattle.std.specs.Prelude.{◌≡◌, map};
 ghost use Rattle.asl_rules.specs.statements.Falling as rules;
-ghost use Rattle.asl_check.specs.private.Falls as parts;
+ghost use Rattle.asl_falling.specs.private.Falls as parts;
 
 use asl_syn::tree::{Alternative, Catcher, ElseIf, Otherwise, Stmt};
 
@@ -114,7 +114,7 @@ fn otherwise_falls(otherwise: &Otherwise) -> bool
 /// Whether the end of a list of statements can be reached: that of each of its statements can. The end of a statement
 /// with branches can be reached where one of them can be fallen through; that of `return`, `throw` and `unreachable`
 /// can't, and that of each other statement can.
-pub(crate) fn falls_through(stmts: &[Stmt]) -> bool
+pub fn falls_through(stmts: &[Stmt]) -> bool
     ensures { result ≡ rules.falls_through stmts.now }
 {
     all_fall(stmts)

@@ -10,8 +10,8 @@ use Rattle.asl_syn.specs.declared.tree.BinaryOperator.{BinaryOperator}
 use Rattle.asl_syn.specs.declared.tree.BinaryOperator.TheVariants as binary
 use Rattle.asl_poly.specs.Terms.{Polynomial}
 use Rattle.asl_poly.specs.Limits.{IsMap, weight, degree, atoms_of_both}
-use Rattle.asl_poly.specs.Operations.{is_zero, constant_term, constant_terms}
-use Rattle.asl_poly.specs.Poly.{IsPolynomial, SumFits, ProductFits, constant_map, sum_map, difference_map, product_map}
+use Rattle.asl_poly.specs.Operations.{is_zero, constant_term, constant_terms, atom_terms}
+use Rattle.asl_poly.specs.Poly.{IsPolynomial, SumFits, ProductFits, constant_map, atom_map, sum_map, difference_map, product_map}
 use Rattle.asl_poly.proofs.Maps as maps
 use Rattle.asl_cons.specs.Arithmetic.{sum_fits, product_fits}
 use Rattle.asl_rules.specs.Faults.{need, fault_of}
@@ -19,7 +19,8 @@ use Rattle.asl_rules.specs.Tests.{Tests}
 use Rattle.asl_rules.specs.types.Types.{is_integer}
 use Rattle.asl_rules.specs.values.Values.{Value, int, bool, bits_with, label, record_with, exception_with, tuple_with, array_with}
 use Rattle.asl_rules.specs.declarations.Scopes.{Counted, Scope, Entry, Storage, Standing, Stored, Subprogram, TypeName, Label, standing_of, storage_of, storage_in, known_value}
-use Rattle.asl_rules.specs.types.Widths.{heaviest, weight_of, width_of_number, width_of_known, width_of_counted, width_of_storage, width_of_standing, width_of_binary, width_difference}
+use Rattle.asl_poly.specs.WidthLimits.{heaviest}
+use Rattle.asl_rules.specs.types.Widths.{weight_of, width_of_number, width_of_known, width_of_counted, width_of_storage, width_of_standing, width_of_binary, width_difference}
 use Rattle.asl_rules.specs.expressions.Typing.{Width}
 use Rattle.asl_rules.specs.expressions.Exprs.{width}
 use Rattle.asl_rules.proofs.basics.Inversions.{ok_ok, err_ok, then_ok, need_ok}
@@ -65,8 +66,17 @@ pub constant_held : (c : ℤ) → unsigned_abs c ≤ 2 ^ 62 → IsPolynomial (co
 unfolding constant_map
 constant_held c l = constant_is_map c l
 
+one_not_zero : pos 1 ≢ pos 0
+one_not_zero h = cc
+
+pub atom_is_map : (n : ℕ) → IsMap (atom_terms n)
+atom_is_map n = record { sorted = (record { counts = one_not_zero; falls = (tt, tt); degree = omega arith }, tt, tt); light = omega arith; few = omega arith }
+
+pub atom_is_polynomial : (n : ℕ) → IsPolynomial (atom_map n)
+unfolding atom_map
+atom_is_polynomial n = atom_is_map n
+
 light_of : (z : ℤ) → nat_le (weight_of z) heaviest ≡ true → unsigned_abs z ≤ 2 ^ 62
-unfolding heaviest
 light_of (pos n) h = true_le n (2 ^ 62) h
 light_of (negsuc n) h = true_le (suc n) (2 ^ 62) h
 

@@ -1,0 +1,19 @@
+use Rattle.asl_laws.proofs.widths.SameByWorth.{has_worth, test_is_worth, has_integers}
+use Rattle.asl_laws.proofs.widths.NumbersWorth.{number_is_worth}
+use Rattle.asl_laws.proofs.widths.Obeying.{bind_asks}
+use Rattle.asl_laws.proofs.law.widths_law.Goals as goal
+
+pub returns-clause-worth : goal.returns-clause-worth
+returns-clause-worth c = has_worth
+
+pub returns-clause-number : goal.returns-clause-number
+returns-clause-number c = λ t e G n a h o. number_is_worth t e G a o n h
+
+pub returns-clause-same : goal.returns-clause-same
+returns-clause-same c = test_is_worth
+
+pub returns-clause-integers : goal.returns-clause-integers
+returns-clause-integers c = has_integers
+
+pub returns-clause-lets : goal.returns-clause-lets
+returns-clause-lets c = bind_asks

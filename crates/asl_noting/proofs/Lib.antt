@@ -1,0 +1,2 @@
+-- `Noting` cites Opening.
+pub mod Opening
