@@ -88,7 +88,8 @@ pub fn law2()
 
 /// Soundness: no run of a well-formed program is stuck. Each state that it visits is sound, each node that it visits was
 /// judged, with the program's own subprograms and in the body of the one that was called last, in a scope with which the
-/// state agrees, and in which each `let` counts as names that stand for themselves. Where it was judged to have a type it gives
+/// state agrees, in which each `let` counts as names that stand for themselves, and of which the three rules of `scopes_law`
+/// hold. Where it was judged to have a type it gives
 /// values of that type, and where it is a width or a number that is written in a type, its integer. The frame of each caller
 /// agrees with the scope of the call that it waits for, whose typed tree calls the subprogram that is active behind it. Each
 /// expression with a type gives values of it from each state that agrees with its scope. The globals hold what was declared,

@@ -27,7 +27,7 @@ use Rattle.asl_rules.specs.statements.Acting.{Done}
 use Rattle.asl_rules.specs.statements.Stmts.{invoked, invoke_rule, found_stmt}
 use Rattle.asl_rules.specs.expressions.Exprs.{found, typed}
 use Rattle.asl_rules.specs.declarations.Declarations.{names_of_program}
-use Rattle.asl_rules.specs.declarations.Programs.{funcs_of, Head, signature_rule, signatures_rule, signatures, body_rule, bodies_rule}
+use Rattle.asl_rules.specs.declarations.Programs.{body_scope, funcs_of, Head, signature_rule, signatures_rule, signatures, body_rule, bodies_rule}
 use Rattle.asl_rules.specs.values.Values.{Value}
 use Rattle.asl_rules.specs.types.Numbers.{outside}
 use Rattle.asl_rules.specs.runs.States.{Core}
@@ -40,6 +40,7 @@ use Rattle.asl_rules.specs.private.Erasure.{erased}
 use Rattle.asl_rules.proofs.basics.Inversions.{ok_ok, err_ok, bind_ok, then_ok, need_ok, found_ok}
 use Rattle.asl_rules.proofs.basics.Tests.{no, some_same, none_some}
 use Rattle.asl_rules.proofs.scopes.Naming.{WellNamed, well_declared, scope_good}
+use Rattle.asl_laws.proofs.scopes.ScopesKept.{ruled}
 use Rattle.asl_laws.proofs.scopes.WellTyped.{FormedSubs}
 use Rattle.asl_rules.proofs.basics.Opening.{finish_is}
 use Rattle.asl_laws.proofs.expressions.Twins.{twins_weaker}
@@ -130,7 +131,7 @@ module _ (tests : Tests) (right : IsRight tests) (ds : List Decl) (loose : Bool)
         erased_so = fr.erased_so;
         assignment = av;
         is_signature = is_signature;
-        inside = record { agrees = fr.agrees; subs_are = refl; around_is = fr.around_is; stands = opened_stands tests base subs loose H number h.signature c op is_signature at; counted = inr bw.ok.scope_good.counted };
+        inside = record { agrees = fr.agrees; subs_are = refl; around_is = fr.around_is; stands = opened_stands tests base subs loose H number h.signature c op is_signature at; counted = inr (ruled tests (body_scope subs h) bw.ok.scope_good) };
         body = bw.ok;
         keeps_are = fr.keeps_are;
       } in
