@@ -7,6 +7,7 @@ pub mod WidthWorth
 pub mod Wider
 pub mod Answers
 pub mod BeforeRuns
+pub mod Chosen
 pub mod Described
 pub mod OneRun
 pub mod Soundness
