@@ -84,7 +84,7 @@ module _ (tests : Tests) (right : IsRight tests) (ds : List Decl) (loose : Bool)
   abbrev subs : List Signature
   subs = signatures heads
 
-  kinds_are : (a : Assignment) (os : List Operand) (xs : List Value) → AllIn (types_in base) a (types_of os) xs → KindsAre xs (types_of os)
+  pub kinds_are : (a : Assignment) (os : List Operand) (xs : List Value) → AllIn (types_in base) a (types_of os) xs → KindsAre xs (types_of os)
   kinds_are a [] [] g = tt
   kinds_are a [] (x ∷ xs) g = absurd g
   kinds_are a (o ∷ os) [] g = absurd g
@@ -144,11 +144,11 @@ module _ (tests : Tests) (right : IsRight tests) (ds : List Decl) (loose : Bool)
 
   -- ---- the kinds of formals and arguments
 
-  all_shaped : (Ts : Parts) → AllFormed tests right ds base subs loose trees w Ts → ShapedParts (types_in base) Ts
+  pub all_shaped : (Ts : Parts) → AllFormed tests right ds base subs loose trees w Ts → ShapedParts (types_in base) Ts
   all_shaped no_part f = tt
   all_shaped (part T Ts) f = (f.0.has_name, f.0.shaped, all_shaped Ts f.1)
 
-  head_formals : (f : Func) (h : Head) → signature_rule tests base f ≡ Ok h → ShapedParts (types_in base) h.signature.formals
+  pub head_formals : (f : Func) (h : Head) → signature_rule tests base f ≡ Ok h → ShapedParts (types_in base) h.signature.formals
   head_formals f h j =
       let i = head_is tests base f h j in
       subst (λ (z : Head). ShapedParts (types_in base) z.signature.formals) i.is (all_shaped i.formals (formals_formed tests right ds base subs loose trees w f.params i.params f.formals i.formals i.params_are i.formals_are))
@@ -165,7 +165,7 @@ module _ (tests : Tests) (right : IsRight tests) (ds : List Decl) (loose : Bool)
       by true h o j next e = subst (λ (z : Chosen). ShapedParts (types_in base) z.signature.formals) (some_same (record { number = n; signature = h.signature }) q e) (head_formals g h j)
       by false h o j next e = next e
 
-  chosen_kinds : (name : List ℕ) (Ts : Parts) (q : Chosen) → ShapedParts (types_in base) Ts → choose name Ts subs ≡ Some q → kinds_eq (kinds q.signature.formals) (kinds Ts) ≡ true
+  pub chosen_kinds : (name : List ℕ) (Ts : Parts) (q : Chosen) → ShapedParts (types_in base) Ts → choose name Ts subs ≡ Some q → kinds_eq (kinds q.signature.formals) (kinds Ts) ≡ true
   chosen_kinds name Ts q t h =
       sym (all_by_names (types_in base) (well_declared base w) q.signature.formals Ts (chosen_formals 0 (funcs_of ds) heads name Ts q heads_are h) t) ∙ chosen_same 0 name Ts subs q h
 
