@@ -64,7 +64,7 @@ module _ (tests : Tests) (right : IsRight tests) (ds : List Decl) (asked : Enter
 
   module _ (o : (loose : Bool) → Others tests right ds base subs loose funcs w s) (q : (loose : Bool) → OtherStmts tests right ds base subs loose funcs w) (find : ExprsFind) (find_stmt : StmtsFind) where
     anywhere : (H : Here) (c : Core) → Agrees base H.scope.names H.present c → H.scope.subs ≡ subs → around_of c ≡ H.around → At tests base subs true H c
-    anywhere H c a i e = record { agrees = a; subs_are = i; around_is = e; stands = inl refl }
+    anywhere H c a i e = record { agrees = a; subs_are = i; around_is = e; stands = inl refl; counted = inl refl }
 
     -- ---- one node
 
