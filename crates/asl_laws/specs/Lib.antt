@@ -1,10 +1,13 @@
 pub mod Budgets
 pub mod Evaluated
+pub mod Placeless
 pub mod Reported
-pub mod RuleCodes
+pub mod Codes
+pub mod ScopeRules
 pub mod Visited
 pub mod WidthValues
 pub mod WidthWorth
+pub mod WidthScopes
 pub mod Wider
 pub mod AgreeingTypes
 pub mod Answers

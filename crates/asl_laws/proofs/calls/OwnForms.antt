@@ -1,6 +1,6 @@
 -- Calls of a program's own functions and procedures with their typed trees: both choose the same subprogram, give it the same parameters and arguments, and its body
 -- does the same in a frame of its own.
-use Rattle.std.proofs.Common.{◌≡◌, ℕ, suc, ◌+◌, ◌&&◌, Bool, true, false, cond, List, [], ◌∷◌, ◌++◌, Option, Some, None, Ok, refl, sym, ap, ◌∙◌, subst, arith, map}
+use Rattle.std.proofs.Common.{◌≡◌, inr, ℕ, suc, ◌+◌, ◌&&◌, Bool, true, false, cond, List, [], ◌∷◌, ◌++◌, Option, Some, None, Ok, refl, sym, ap, ◌∙◌, subst, arith, map}
 use Rattle.std.specs.Prelude.{slice_get}
 use Rattle.asl_syn.specs.declared.token.Span.{Span}
 use Rattle.asl_syn.specs.declared.code.StaticCode.TheVariants.{T02, T09, T12, T13, T18, T20}
@@ -130,7 +130,7 @@ module _ (tests : Tests) (right : IsRight tests) (ds : List Decl) (loose : Bool)
         erased_so = fr.erased_so;
         assignment = av;
         is_signature = is_signature;
-        inside = record { agrees = fr.agrees; subs_are = refl; around_is = fr.around_is; stands = opened_stands tests base subs loose H number h.signature c op is_signature at };
+        inside = record { agrees = fr.agrees; subs_are = refl; around_is = fr.around_is; stands = opened_stands tests base subs loose H number h.signature c op is_signature at; counted = inr bw.ok.scope_good.counted };
         body = bw.ok;
         keeps_are = fr.keeps_are;
       } in

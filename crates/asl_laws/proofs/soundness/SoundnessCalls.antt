@@ -215,8 +215,8 @@ module _ (tests : Tests) (right : IsRight tests) (ds : List Decl) (asked : Asked
       (subst (λ r. Same tests right base subs loose outer Keeps (in_frame span (seen_by span a h.signature.result) (restored c0) (plan.in_order f.body bound.state)) (lift r (erased c0) after)) (sym bound.seen_are)
       (subst (λ d. Same tests right base subs loose outer Keeps (in_frame span (seen_by span a h.signature.result) (restored c0) (plan.in_order f.body bound.state)) (in_frame span (result_seen h.signature.result) (bare.restored (erased c0)) (plan.in_order (acts_of l.acts) d))) bound.erased_so
       (body_same tests right ds base subs loose trees w true outer Keeps h l a (around_of c1) span c0 bound.state s ok (inr (h.signature, is, refl, refl))
-      (record { agrees = subst (λ ns. Agrees base ns a bound.state) n.names bound.agrees; subs_are = refl; around_is = bound.around_is; stands = inr ((h.signature, is, itself_below h.signature.class), inl (refl, refl, refl)) })
-      (record { agrees = resting_so globals m; subs_are = refl; around_is = refl; stands = inl refl }) (λ r c g i. (refl, i.agrees.globals))))))
+      (record { agrees = subst (λ ns. Agrees base ns a bound.state) n.names bound.agrees; subs_are = refl; around_is = bound.around_is; stands = inr ((h.signature, is, itself_below h.signature.class), inl (refl, refl, refl)); counted = inr ok.scope_good.counted })
+      (record { agrees = resting_so globals m; subs_are = refl; around_is = refl; stands = inl refl; counted = inl refl }) (λ r c g i. (refl, i.agrees.globals))))))
 
   -- a call from outside
   pub call_same : (id : ℕ) (args : List Value) (globals : List Binding) → IsCall (accepted asked main subs trees base) id args globals → CallSame tests right ds asked main subs trees w s loose id args globals
