@@ -12,6 +12,7 @@ pub mod Wider
 pub mod AgreeingTypes
 pub mod Answers
 pub mod BeforeRuns
+pub mod Chosen
 pub mod Described
 pub mod OneRun
 pub mod Soundness

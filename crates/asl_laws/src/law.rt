@@ -86,15 +86,15 @@ pub fn law2()
     ensures report { (t u : Tests) → IsRight t → IsRight u → t.limit ≡ u.limit → (limit : ℕ) (read other : Reader) → IsReadingAt limit read → IsReadingAt limit other → (command : Command) (held : Text → Text) → report_of t read command held ≡ report_of u other command held }
 {}
 
-/// Soundness: no run of a well-formed program is stuck. Each state that it visits is sound, each node that it visits was
-/// judged, with the program's own subprograms and in the body of the one that was called last, in a scope with which the
-/// state agrees, and in which each `let` counts as names that stand for themselves. Where it was judged to have a type it gives
-/// values of that type, and where it is a width or a number that is written in a type, its integer. The frame of each caller
-/// agrees with the scope of the call that it waits for, whose typed tree calls the subprogram that is active behind it. Each
-/// expression with a type gives values of it from each state that agrees with its scope. The globals hold what was declared,
-/// however a call ends. Typed trees do what the trees do that they were judged from. A width expression that is evaluated,
-/// wherever it is written, gives the integer that it has as a width, or the fault D01, or D12 or D13 as any node may, and leaves
-/// the state as it was; so does an end of a constraint (`width_values`).
+/// Soundness: no run of a well-formed program is stuck. Each state that it visits is sound, each node that it visits was judged, with
+/// the program's own subprograms and in the body of the one that was called last, in a scope with which the state agrees, in which
+/// each `let` counts as names that stand for themselves, and of which the three rules of `scopes_law` hold. Where it was judged to
+/// have a type it gives values of that type, and where it is a width or a number that is written in a type, its integer. The frame of
+/// each caller agrees with the scope of the call that it waits for, whose typed tree calls the subprogram that is active behind it.
+/// Each expression with a type gives values of it from each state that agrees with its scope. The globals hold what was declared,
+/// however a call ends. Typed trees do what the trees do that they were judged from. A width expression that is evaluated, wherever
+/// it is written, gives the integer that it has as a width, or the fault D01, or D12 or D13 as any node may, and leaves the state as
+/// it was; so does an end of a constraint (`width_values`).
 #[tactic(auto)]
 pub fn law3()
     ensures { (limit : ℕ) (e : Entry) (files : List File) (ds : List Decl) (a : Accepted) → ReadsAt limit files (Ok ds) → (p : ProgramOk limit e ds a) → Soundness p.tests ds a × SameMeaning p.tests ds a }
@@ -167,7 +167,9 @@ pub fn run_law()
 
 /// Each node that a call visits, an expression or a statement, was judged, with the program's own subprograms and in the body of the one
 /// that was called last, in a scope with which the state agrees. The typed tree of that judgement does, in the state without names and
-/// types, what the node does in the state, whatever number of nodes may be open and whatever the meter is (`same`).
+/// types, what the node does in the state, whatever number of nodes may be open and whatever the meter is; and it has what the run finds:
+/// the subprogram that a call finds by the values of its arguments, with the values of its parameters; the place of a field and the
+/// bitfields that a view has under their names; and the fields that a construction gives values to (`same`).
 #[tactic(auto)]
 pub fn visit_law()
     ensures same { (limit : ℕ) (e : Entry) (files : List File) (ds : List Decl) (a : Accepted) → ReadsAt limit files (Ok ds) → (p : ProgramOk limit e ds a) → (id : ℕ) (args : List Value) (globals : List Binding) (h : Meter) → IsCall a id args globals → AllSame p.tests ds a (visits_of (environment p.tests ds) id args globals h) }

@@ -44,7 +44,7 @@ module _ (tests : Tests) (right : IsRight tests) (ds : List Decl) (base : List E
   pub record Others : Type 0 where
     pub own : (H : Here) (S : Typed) (e : Expr) (span : Span) (i : Ident) (ps es : List Expr) (os : List Operand) (c : Core) → typed tests e H.scope ≡ Ok S → routine_named i.text ≡ None → is_subprogram (standing_of i.text H.scope.names) ≡ true → operands (map (found tests) es) H.scope ≡ Ok os → function_of tests span i (map (found tests) ps) os H.scope None ≡ Ok S → At tests base subs loose H c → Formed tests right ds base subs loose funcs w H S (ex.Call span i ps es) c
 
-  good : (H : Here) (c : Core) → At tests base subs loose H c → (e : Expr) (T : Typed) → typed tests e H.scope ≡ Ok T → WellFormed (types_in base) T.ty
+  pub good : (H : Here) (c : Core) → At tests base subs loose H c → (e : Expr) (T : Typed) → typed tests e H.scope ≡ Ok T → WellFormed (types_in base) T.ty
   good H c a e T h =
       typed_formed tests right (types_in base) (well_declared base w) e H.scope T (scope_good H.present base H.scope.names c w a.agrees) (subst (FormedSubs tests right (types_in base) (well_declared base w)) (sym a.subs_are) s) h
 

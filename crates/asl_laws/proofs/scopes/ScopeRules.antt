@@ -66,7 +66,7 @@ last_new (x ∷ es) e o h =
     (behind es (e ∷ []) x.name o.0 ∙ ap (λ b. cond b (Some e.standing) None) (turned x.name e.name k.0), last_new es e o.1 k.1)
 
 -- a name that wasn't visible
-added : (names : List Entry) (e : Entry) → NoneShadowed names → is_free e.name names ≡ true → NoneShadowed (names ++ e ∷ [])
+pub added : (names : List Entry) (e : Entry) → NoneShadowed names → is_free e.name names ≡ true → NoneShadowed (names ++ e ∷ [])
 added names e o f = last_new names e o (none_free (standing_of e.name names) f)
 
 declared_added : (kind : LocalKind) (names : List Entry) (name : List ℕ) (T : Ty) (c : Option Counted) → NoneShadowed names →
@@ -138,11 +138,11 @@ module _ (t : Tests) where
       (bound_in_added bs kind i.written (tuple_parts (written_or i.written i.value.ty)) G.names v.value w u.first
       (found_ok o T05 span v.value v.first))
 
-  bind_added : (span : Span) (kind : LocalKind) (b : Bind) (ty : Option TypeExpr) (e : Expr) (G : Scope) (d : Done) →
+  pub bind_added : (span : Span) (kind : LocalKind) (b : Bind) (ty : Option TypeExpr) (e : Expr) (G : Scope) (d : Done) →
       NoneShadowed G.names → bind_rule t span kind b ty e G ≡ Ok d → NoneShadowed d.names
   bind_added span kind b ty e G d w h = let u = bind_ok (initialised t ty e G) _ d h in bound_added span kind b e u.value G d w u.then
 
-  vars_added : (span : Span) (is : List Ident) (ty : TypeExpr) (G : Scope) (d : Done) → NoneShadowed G.names →
+  pub vars_added : (span : Span) (is : List Ident) (ty : TypeExpr) (G : Scope) (d : Done) → NoneShadowed G.names →
       vars_rule t span is ty G ≡ Ok d → NoneShadowed d.names
   vars_added span is ty G d w h =
       let u = bind_ok (written t ty false G) _ d h in
@@ -178,7 +178,7 @@ module _ (t : Tests) where
       formals_added fs Ts base (names ++ e ∷ []) (before ++ x.name.text ∷ [])
       (added names e w (tested base names before x.name f u.first)) (fresh_more base before names e f) u.then
 
-  head_added : (base : List Entry) (f : Func) (head : Head) → NoneShadowed base → signature_rule t base f ≡ Ok head →
+  pub head_added : (base : List Entry) (f : Func) (head : Head) → NoneShadowed base → signature_rule t base f ≡ Ok head →
       NoneShadowed head.names
   head_added base f head w h =
       let a = bind_ok (params_free f.params [] base) _ head h in
@@ -273,7 +273,7 @@ indices_keep t i d a b B k f = record {
   results = k.results;
 }
 
-caught_added : (o : Option Ident) (T : Ty) (B C : Body) → NoneShadowed B.scope.names → with_caught o T B ≡ Ok C → NoneShadowed C.scope.names
+pub caught_added : (o : Option Ident) (T : Ty) (B C : Body) → NoneShadowed B.scope.names → with_caught o T B ≡ Ok C → NoneShadowed C.scope.names
 caught_added None T B C w h = subst (λ (z : Body). NoneShadowed z.scope.names) (ok_ok B C h) w
 caught_added (Some i) T B C w h =
     let u = then_ok (need (is_free i.text B.scope.names) T01 i.span) _ C h in
