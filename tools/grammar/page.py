@@ -53,11 +53,11 @@ This is proved once for all rules of the table: a list of tokens has at most one
 both; the fault is at the first token with which the tokens so far are no longer the beginning of any text; and one token of
 lookahead is enough (`asl_grammar/src/trees.rt`).
 
-At most 100 levels may be open at once, and S02 is at the token that opens level 101. A level is opened by each bracket, by each
-of the words `array`, `if`, `case`, `for`, `while`, `repeat` and `try`, by each operator in the productions from `unary` to
-`logic`, by each `as` and `IN`, and by each suffix. It is closed at the end of the bracket or of the form; the level of an
-operator or a suffix stays open to the end of the outermost expression around it. [DECISIONS.md](DECISIONS.md) has the edge
-cases.
+At most 100 levels may be open at once, and S02 is at the token that opens level 101. A level is opened by each opening bracket,
+by each of the words `array`, `if`, `case`, `for`, `while`, `repeat` and `try`, by each operator in the productions from `unary`
+to `logic`, by each `as` and `IN`, and by each suffix. It is closed at the end of the bracket or of the form; the level of an
+operator or a suffix stays open to the end of the outermost expression or target around it. [DECISIONS.md](DECISIONS.md) has the
+edge cases.
 '''
 
 
