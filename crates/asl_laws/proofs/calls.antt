@@ -11,4 +11,5 @@ pub mod OwnParams
 pub mod OwnFrames
 pub mod OwnCalls
 pub mod OwnStanding
+pub mod OwnFound
 pub mod OwnBraces

@@ -14,3 +14,4 @@ pub mod RulesOfDeclarations
 pub mod Made
 pub mod Files
 pub mod Trees
+pub mod Codes

@@ -11,3 +11,5 @@ pub mod DeclWell
 pub mod ScopesKept
 pub mod Globals
 pub mod FormedScopes
+pub mod ScopeRules
+pub mod Placeless

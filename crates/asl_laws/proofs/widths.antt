@@ -9,3 +9,4 @@ pub mod PolynomialOf
 pub mod Omitted
 pub mod WidthValues
 pub mod Obeying
+pub mod Asking

@@ -1,4 +1,5 @@
--- The types that the rules compare agree with what is declared, in programs that are refused too: wherever declarations, signatures and bodies are judged.
+-- The types that the rules compare agree with what is declared, in programs that are refused too: wherever declarations, signatures
+-- and bodies are judged.
 use Rattle.std.specs.Prelude.{◌≡◌, ℕ, Bool, List, [], ◌∷◌, Option, Some, None, Ok}
 use Rattle.asl_syn.specs.declared.tree.Decl.{Decl}
 use Rattle.asl_syn.specs.declared.tree.Direction.{Direction}
@@ -50,11 +51,15 @@ pub record TypesFormed (t : Tests) (declared : List ℕ → Option Ty) (G : Scop
   pub typed : (e : Expr) (S : Typed) → typed t e G ≡ Ok S → WellFormed declared S.ty
   pub written : (ty : TypeExpr) (outside : Bool) (W : Written) → written t ty outside G ≡ Ok W → WellFormed declared W.ty
 
--- each statement leaves such a scope, and the lists of a loop and of a catcher are judged in such a scope, with the index and with what was caught
+-- each statement leaves such a scope, and the lists of a loop and of a catcher are judged in such a scope, with the index and with
+-- what was caught
 pub record KeepsFormed (t : Tests) (declared : List ℕ → Option Ty) : Type 0 where
-  pub stmt : (s : Stmt) (B : Body) (d : Done) → ScopeFormed declared B.scope → found_stmt t s B ≡ Ok d → ScopeFormed declared (record B.scope { names = d.names })
-  pub index : (i : Ident) (d : Direction) (a b : Expr) (B : Body) → ScopeFormed declared B.scope → ScopeFormed declared (with_index i (index_type t d a b B.scope) B).scope
-  pub caught : (i : Option Ident) (name : List ℕ) (T : Ty) (B C : Body) → ScopeFormed declared B.scope → type_of_name name B.scope.names ≡ Some T →
+  pub stmt : (s : Stmt) (B : Body) (d : Done) → ScopeFormed declared B.scope → found_stmt t s B ≡ Ok d →
+      ScopeFormed declared (record B.scope { names = d.names })
+  pub index : (i : Ident) (d : Direction) (a b : Expr) (B : Body) → ScopeFormed declared B.scope →
+      ScopeFormed declared (with_index i (index_type t d a b B.scope) B).scope
+  pub caught : (i : Option Ident) (name : List ℕ) (T : Ty) (B C : Body) → ScopeFormed declared B.scope →
+      type_of_name name B.scope.names ≡ Some T →
       with_caught i T B ≡ Ok C → ScopeFormed declared C.scope
 
 -- ---- of declarations

@@ -34,7 +34,8 @@ GivesOrFaults Q (Bad (Stuck mistake span)) = ⊥
 -- where these names are visible outside bodies, an expression with a type, which holds no call and no global `var`, is evaluated to a value of its type
 abbrev pub ConstantsGiven : Tests → List Entry → Type 0
 ConstantsGiven t names =
-    (e : Expr) (k : Effect) (S : Typed) → barred e names ≡ None → typed t e (with_class (in_names names) k) ≡ Ok S → GivesOrFaults (λ x. InType (types_in names) no_atoms x S.ty) (constant t.limit e names)
+    (e : Expr) (k : Effect) (S : Typed) → barred e names ≡ None → typed t e (with_class (in_names names) k) ≡ Ok S →
+    GivesOrFaults (λ x. InType (types_in names) no_atoms x S.ty) (constant t.limit e names)
 
 -- what is well formed after so many rounds
 abbrev pub names_after : Tests → ℕ → List Decl → List Entry
@@ -71,6 +72,7 @@ pub record BarredAt (t : Tests) (ds : List Decl) (span : Span) : Type 0 where
   pub names : List Entry
   pub visible : AreVisible t ds names
   pub holds : barred expr names ≡ Some span
+  pub inside : IsAmong span (expr_spans expr)
 
 -- the evaluation of an initialiser or a limit of these declarations ends with this dynamic fault, which stands in it
 pub record EvaluationFaults (t : Tests) (ds : List Decl) (code : DynCode) (span : Span) : Type 0 where
@@ -100,4 +102,6 @@ pub record FirstValueFaults (t : Tests) (ds : List Decl) (code : DynCode) (span 
 
 -- an evaluation stopped with a dynamic fault, at its place and with its code, or there is what may not stand where it is evaluated
 abbrev pub HasCause : Tests → List Decl → Fault → Type 0
-HasCause t ds f = ((code : DynCode) × ((f.inner ≡ Some code) × (EvaluationFaults t ds code f.span ⊎ FirstValueFaults t ds code f.span))) ⊎ BarredAt t ds f.span
+HasCause t ds f =
+    ((code : DynCode) ×
+    ((f.inner ≡ Some code) × (EvaluationFaults t ds code f.span ⊎ FirstValueFaults t ds code f.span))) ⊎ BarredAt t ds f.span

@@ -23,6 +23,8 @@ use Rattle.asl_rules.specs.values.Values.{Value}
 use Rattle.asl_rules.specs.runs.States.{Binding, Frame, Core, resting}
 use Rattle.asl_rules.specs.private.Belonging.{InType, Belong, Sound}
 use Rattle.asl_rules.specs.private.Agreement.{types_in, no_atoms, GlobalsMatch, Raised, Agrees}
+use Rattle.asl_rules.specs.private.Worth.{WellCounted}
+use Rattle.asl_laws.specs.ScopeRules.{KeepsRules}
 use Rattle.asl_rules.specs.runs.Plans.{Meter, Outcome, Done, Thrown, Halt, Faulted, Stuck, run}
 use Rattle.asl_rules.specs.runs.Evaluation.{meaning, initial_globals}
 use Rattle.asl_rules.specs.runs.Machines.{most_open, run_of, visits_of}
@@ -70,13 +72,15 @@ abbrev pub IsBodyOf : List Signature → Body → List ℕ → Type 0
 IsBodyOf subs b [] = ⊥
 IsBodyOf subs b (id ∷ ids) = (s : Signature) × (slice_get subs id ≡ Some s) × (b.scope.class ≡ s.class) × (b.result ≡ s.result)
 
--- the expression was judged with the program's own subprograms, in the body of the one that was called last; a condition of a statement and a pattern may be
--- judged in a lesser class than the body
+-- the expression was judged with the program's own subprograms, in the body of the one that was called last, in a scope in which each `let` counts as names
+-- that stand for themselves, and which keeps the rules of scopes; a condition of a statement and a pattern may be judged in a lesser class than the body
 pub record ExprVisited (t : Tests) (ds : List Decl) (a : Accepted) (e : Expr) (c : Core) : Type 0 where
   pub scope : Scope
   pub present : Assignment
   pub subs_are : scope.subs ≡ a.signatures
   pub stands : StandsIn a.signatures scope.class c.live
+  pub counted : WellCounted scope.names
+  pub rules : KeepsRules scope
   pub judged : IsJudged t ds a e scope present c
   pub agrees : Agrees a.names scope.names present c
 
@@ -87,6 +91,8 @@ pub record StmtVisited (t : Tests) (a : Accepted) (s : Stmt) (c : Core) : Type 0
   pub present : Assignment
   pub subs_are : body.scope.subs ≡ a.signatures
   pub stands : IsBodyOf a.signatures body c.live
+  pub counted : WellCounted body.scope.names
+  pub rules : KeepsRules body.scope
   pub judged : found_stmt t s body ≡ Ok done
   pub agrees : Agrees a.names body.scope.names present c
 

@@ -76,9 +76,9 @@ fn run_trees<K: Sink>(
     ensures counts { Counts result (K.faults sink.old) (K.faults sink.new) }
     ensures same_full { K.full sink.new ≡ K.full sink.old }
 {
-    let (funcs, _globals) = checked.parts();
+    let parts = checked.parts();
     let mut run = enter(alloc, memory);
-    let answer = call(alloc, funcs, &mut run, sink, sub.number(), args);
+    let answer = call(alloc, &parts.subs, &mut run, sink, sub.number(), args);
     leave(memory, &mut run);
     answer
 }

@@ -72,7 +72,7 @@ restored_agrees base names a c c1 k g = record { locals = k.locals; names_are = 
 
 module _ (tests : Tests) (right : IsRight tests) (ds : List Decl) (base : List Entry) (subs : List Signature) (loose : Bool) (funcs : List TreeFunc) (w : WellNamed base) where
   back_at : (outer : Bool) (H : Here) (c c1 : Core) → At tests base subs outer H c → GlobalsMatch base c1.globals → At tests base subs outer H (restored c c1)
-  back_at outer H c c1 a g = record { agrees = restored_agrees base H.scope.names H.present c c1 a.agrees g; subs_are = a.subs_are; around_is = a.around_is; stands = a.stands }
+  back_at outer H c c1 a g = record { agrees = restored_agrees base H.scope.names H.present c c1 a.agrees g; subs_are = a.subs_are; around_is = a.around_is; stands = a.stands; counted = a.counted }
 
   back_over : (outer : Bool) (H : Here) (x : Value) (c c1 : Core) → At tests base subs outer H c → Raised (types_in base) x → GlobalsMatch base c1.globals → Throws tests right base subs loose H x (restored c c1)
   back_over outer H x c c1 a r g = record { raised = r; more = []; later = H.present; same = λ n l. refl; agrees = subst (λ ns. Agrees base ns H.present (restored c c1)) (sym (append_nil H.scope.names)) (back_at outer H c c1 a g).agrees; around_is = a.around_is }

@@ -1,6 +1,6 @@
 -- Calls of a program's own functions and procedures with their typed trees: both choose the same subprogram, give it the same parameters and arguments, and its body
 -- does the same in a frame of its own.
-use Rattle.std.proofs.Common.{◌≡◌, ℕ, suc, ◌+◌, ◌&&◌, Bool, true, false, cond, List, [], ◌∷◌, ◌++◌, Option, Some, None, Ok, refl, sym, ap, ◌∙◌, subst, arith, map}
+use Rattle.std.proofs.Common.{◌≡◌, inr, ℕ, suc, ◌+◌, ◌&&◌, Bool, true, false, cond, List, [], ◌∷◌, ◌++◌, Option, Some, None, Ok, refl, sym, ap, ◌∙◌, subst, arith, map}
 use Rattle.std.specs.Prelude.{slice_get}
 use Rattle.asl_syn.specs.declared.token.Span.{Span}
 use Rattle.asl_syn.specs.declared.code.StaticCode.TheVariants.{T02, T09, T12, T13, T18, T20}
@@ -27,7 +27,7 @@ use Rattle.asl_rules.specs.statements.Acting.{Done}
 use Rattle.asl_rules.specs.statements.Stmts.{invoked, invoke_rule, found_stmt}
 use Rattle.asl_rules.specs.expressions.Exprs.{found, typed}
 use Rattle.asl_rules.specs.declarations.Declarations.{names_of_program}
-use Rattle.asl_rules.specs.declarations.Programs.{funcs_of, Head, signature_rule, signatures_rule, signatures, body_rule, bodies_rule}
+use Rattle.asl_rules.specs.declarations.Programs.{body_scope, funcs_of, Head, signature_rule, signatures_rule, signatures, body_rule, bodies_rule}
 use Rattle.asl_rules.specs.values.Values.{Value}
 use Rattle.asl_rules.specs.types.Numbers.{outside}
 use Rattle.asl_rules.specs.runs.States.{Core}
@@ -40,6 +40,7 @@ use Rattle.asl_rules.specs.private.Erasure.{erased}
 use Rattle.asl_rules.proofs.basics.Inversions.{ok_ok, err_ok, bind_ok, then_ok, need_ok, found_ok}
 use Rattle.asl_rules.proofs.basics.Tests.{no, some_same, none_some}
 use Rattle.asl_rules.proofs.scopes.Naming.{WellNamed, well_declared, scope_good}
+use Rattle.asl_laws.proofs.scopes.ScopesKept.{ruled}
 use Rattle.asl_laws.proofs.scopes.WellTyped.{FormedSubs}
 use Rattle.asl_rules.proofs.basics.Opening.{finish_is}
 use Rattle.asl_laws.proofs.expressions.Twins.{twins_weaker}
@@ -83,7 +84,7 @@ module _ (tests : Tests) (right : IsRight tests) (ds : List Decl) (loose : Bool)
   abbrev subs : List Signature
   subs = signatures heads
 
-  kinds_are : (a : Assignment) (os : List Operand) (xs : List Value) → AllIn (types_in base) a (types_of os) xs → KindsAre xs (types_of os)
+  pub kinds_are : (a : Assignment) (os : List Operand) (xs : List Value) → AllIn (types_in base) a (types_of os) xs → KindsAre xs (types_of os)
   kinds_are a [] [] g = tt
   kinds_are a [] (x ∷ xs) g = absurd g
   kinds_are a (o ∷ os) [] g = absurd g
@@ -130,7 +131,7 @@ module _ (tests : Tests) (right : IsRight tests) (ds : List Decl) (loose : Bool)
         erased_so = fr.erased_so;
         assignment = av;
         is_signature = is_signature;
-        inside = record { agrees = fr.agrees; subs_are = refl; around_is = fr.around_is; stands = opened_stands tests base subs loose H number h.signature c op is_signature at };
+        inside = record { agrees = fr.agrees; subs_are = refl; around_is = fr.around_is; stands = opened_stands tests base subs loose H number h.signature c op is_signature at; counted = inr (ruled tests (body_scope subs h) bw.ok.scope_good) };
         body = bw.ok;
         keeps_are = fr.keeps_are;
       } in
@@ -143,11 +144,11 @@ module _ (tests : Tests) (right : IsRight tests) (ds : List Decl) (loose : Bool)
 
   -- ---- the kinds of formals and arguments
 
-  all_shaped : (Ts : Parts) → AllFormed tests right ds base subs loose trees w Ts → ShapedParts (types_in base) Ts
+  pub all_shaped : (Ts : Parts) → AllFormed tests right ds base subs loose trees w Ts → ShapedParts (types_in base) Ts
   all_shaped no_part f = tt
   all_shaped (part T Ts) f = (f.0.has_name, f.0.shaped, all_shaped Ts f.1)
 
-  head_formals : (f : Func) (h : Head) → signature_rule tests base f ≡ Ok h → ShapedParts (types_in base) h.signature.formals
+  pub head_formals : (f : Func) (h : Head) → signature_rule tests base f ≡ Ok h → ShapedParts (types_in base) h.signature.formals
   head_formals f h j =
       let i = head_is tests base f h j in
       subst (λ (z : Head). ShapedParts (types_in base) z.signature.formals) i.is (all_shaped i.formals (formals_formed tests right ds base subs loose trees w f.params i.params f.formals i.formals i.params_are i.formals_are))
@@ -164,7 +165,7 @@ module _ (tests : Tests) (right : IsRight tests) (ds : List Decl) (loose : Bool)
       by true h o j next e = subst (λ (z : Chosen). ShapedParts (types_in base) z.signature.formals) (some_same (record { number = n; signature = h.signature }) q e) (head_formals g h j)
       by false h o j next e = next e
 
-  chosen_kinds : (name : List ℕ) (Ts : Parts) (q : Chosen) → ShapedParts (types_in base) Ts → choose name Ts subs ≡ Some q → kinds_eq (kinds q.signature.formals) (kinds Ts) ≡ true
+  pub chosen_kinds : (name : List ℕ) (Ts : Parts) (q : Chosen) → ShapedParts (types_in base) Ts → choose name Ts subs ≡ Some q → kinds_eq (kinds q.signature.formals) (kinds Ts) ≡ true
   chosen_kinds name Ts q t h =
       sym (all_by_names (types_in base) (well_declared base w) q.signature.formals Ts (chosen_formals 0 (funcs_of ds) heads name Ts q heads_are h) t) ∙ chosen_same 0 name Ts subs q h
 

@@ -12,6 +12,7 @@ use Rattle.asl_rules.specs.runs.States.{Core, entered}
 use Rattle.asl_rules.proofs.basics.Tests.{none_some, some_same}
 use Rattle.asl_laws.proofs.expressions.Claims.{Here, around_of, Caller, caller_at, IsCaller, Waiting, StandsOver, Bound, Stands, At, Around}
 use Rattle.asl_rules.specs.private.Agreement.{Agrees}
+use Rattle.asl_laws.proofs.scopes.ScopesKept.{Ruled}
 use Rattle.asl_laws.specs.Soundness.{waiting}
 
 -- ---- the signature of the subprogram that is chosen
@@ -58,6 +59,7 @@ module _ (tests : Tests) (base : List Entry) (subs : List Signature) (loose : Bo
     agrees = subst (λ (z : Here). Agrees base z.scope.names z.present (waiting c.globals (record { names = c.frame; handled = c.handled }) c.callers c.live)) (sym k.at)
         (record { locals = a.agrees.locals; names_are = a.agrees.names_are; fresh = a.agrees.fresh; plain = a.agrees.plain; frame = a.agrees.frame; globals = a.agrees.globals; handled = a.agrees.handled; callers = a.agrees.callers });
     subs_are = ap (λ (z : Here). z.scope.subs) k.at ∙ a.subs_are;
+    counted = subst (λ (z : Here). Bound tests base subs loose (Ruled z.scope.names z.scope.subs)) (sym k.at) a.counted;
     around_is = a.around_is ∙ sym (ap (λ (z : Here). z.around) k.at);
   }
 

@@ -37,14 +37,14 @@ use Rattle.asl_laws.proofs.scopes.GrownTexts.{read_grown_at}
 use Rattle.asl_rules.proofs.values.Shapes.{integer_is}
 use Rattle.asl_rules.proofs.values.KindOf.{has_kind}
 use Rattle.asl_rules.proofs.values.SameKind.{equal_kinds}
-use Rattle.asl_laws.specs.Evaluated.{GivesOrFaults, ConstantsGiven, Evaluates, AreVisible, StandsIn, HasCause}
+use Rattle.asl_laws.specs.Evaluated.{GivesOrFaults, ConstantsGiven, Evaluates, AreVisible, StandsIn, EvaluationFaults, FirstValueFaults, HasCause}
 use Rattle.asl_laws.specs.Spans.{Mark, place, literal, Spans, Each, IsAmong, all_of, expr_spans, decl_spans}
 use Rattle.asl_laws.proofs.spans.EachSpan.{each_one, each_among}
 use Rattle.asl_laws.proofs.spans.OtherCodes.{Other}
 use Rattle.asl_laws.proofs.spans.Standing.{At, Stands, Marked, next_by}
 use Rattle.asl_laws.proofs.spans.DeclSpans.{names_stand, all_declared_stand}
 use Rattle.asl_laws.proofs.spans.ValueEnds.{Ends, first_ends}
-use Rattle.asl_laws.proofs.spans.KnownSpans.{known_there}
+use Rattle.asl_laws.proofs.spans.KnownSpans.{MaybeAt, known_there, barred_there}
 use Rattle.asl_laws.proofs.spans.ProgramSpans.{IsOutside, AsksOf, verdict_stands}
 use Rattle.asl_laws.proofs.evaluations.NeverStuck.{evaluates}
 
@@ -76,40 +76,46 @@ module _ (t : Tests) (ds : List Decl) where
   -- ---- evaluations
 
   -- an evaluation of an expression outside bodies
-  known_has : (R : Value → Type 0) (names : List Entry) → AreVisible t ds names → (e : Expr) → IsOutside ds e → barred e names ≡ None → (r : Pure Value) → constant t.limit e names ≡ r →
+  known_has : (R : Value → Type 0) (names : List Entry) → AreVisible t ds names → (e : Expr) → IsOutside ds e → barred e names ≡ None →
+      (r : Pure Value) → constant t.limit e names ≡ r →
       GivesOrFaults R r → Ends (λ span. IsAmong span (expr_spans e)) r → Stands Caused (evaluated r)
   known_has R names v e out b (Good x) q h k = tt
-  known_has R names v e (d, (i, is)) b (Bad (Faulted code span)) q h k = record {
-    has = λ n. inl (code, (refl, inl (record { decl = d; stands = i; expr = e; expr_is = is; names = names; visible = v; may = b; ends = q; inside = k })));
-  }
+  known_has R names v e (d, (i, is)) b (Bad (Faulted code span)) q h k =
+      let there : EvaluationFaults t ds code span = record {
+        decl = d;
+        stands = i;
+        expr = e;
+        expr_is = is;
+        names = names;
+        visible = v;
+        may = b;
+        ends = q;
+        inside = k;
+      } in
+      record { has = λ n. inl (code, (refl, inl there)) }
   known_has R names v e out b (Bad (Stuck mistake span)) q h k = absurd h
 
   -- the first value of a type
-  first_has : (names : List Entry) → AreVisible t ds names → (s : StorageDecl) → StandsIn (dc.Storage s) ds → s.init ≡ None → (ty : TypeExpr) → s.ty ≡ Some ty → (W : Written) →
+  first_has : (names : List Entry) → AreVisible t ds names → (s : StorageDecl) → StandsIn (dc.Storage s) ds → s.init ≡ None →
+      (ty : TypeExpr) → s.ty ≡ Some ty → (W : Written) →
       written t ty true (in_names names) ≡ Ok W → (r : Pure Value) → first_value t.limit (found_type t ty).span (closed W.ty) ≡ r →
       GivesOrFaults (λ x. Unit {0}) r → Ends (λ span. (found_type t ty).span ≡ span) r → Stands Caused (evaluated r)
   first_has names v s i init ty is W w (Good x) q h k = tt
-  first_has names v s i init ty is W w (Bad (Faulted code span)) q h k = record {
-    has = λ n. inl (
-      code,
-      (
-        refl,
-        inr (record {
-          decl = s;
-          stands = i;
-          no_init = init;
-          ty = ty;
-          ty_is = is;
-          names = names;
-          visible = v;
-          meant = W;
-          meant_is = w;
-          ends = q;
-          at = k;
-        }),
-      ),
-    );
-  }
+  first_has names v s i init ty is W w (Bad (Faulted code span)) q h k =
+      let there : FirstValueFaults t ds code span = record {
+        decl = s;
+        stands = i;
+        no_init = init;
+        ty = ty;
+        ty_is = is;
+        names = names;
+        visible = v;
+        meant = W;
+        meant_is = w;
+        ends = q;
+        at = k;
+      } in
+      record { has = λ n. inl (code, (refl, inr there)) }
   first_has names v s i init ty is W w (Bad (Stuck mistake span)) q h k = absurd h
 
   given_value : (R : Value → Type 0) (p : Pure Value) (x : Value) → GivesOrFaults R p → evaluated p ≡ Ok x → R x
@@ -117,12 +123,18 @@ module _ (t : Tests) (ds : List Decl) where
   given_value R (Bad (Faulted code span)) x h e = err_ok _ x e
   given_value R (Bad (Stuck mistake span)) x h e = absurd h
 
-  barred_has : (names : List Entry) → AreVisible t ds names → (e : Expr) → IsOutside ds e → (o : Option Span) → barred e names ≡ o → Stands Caused (none_at T04 o)
-  barred_has names visible e out None h = tt
-  barred_has names visible e (d, (i, is)) (Some span) h = record { has = λ k. inr (record { decl = d; stands = i; expr = e; expr_is = is; names = names; visible = visible; holds = h }) }
+  barred_has : (names : List Entry) → AreVisible t ds names → (e : Expr) → IsOutside ds e → (o : Option Span) → barred e names ≡ o →
+      MaybeAt t (λ span. IsAmong span (expr_spans e)) o → Stands Caused (none_at T04 o)
+  barred_has names visible e out None h k = tt
+  barred_has names visible e (d, (i, is)) (Some span) h k = record {
+    has = λ n. inr (record { decl = d; stands = i; expr = e; expr_is = is; names = names; visible = visible; holds = h; inside = k });
+  }
 
-  number_has : (span : Span) (names : List Entry) (T : Ty) (x : Value) → is_integer T ≡ true → InType (types_in names) no_atoms x T → Stands Caused (as_number span x)
-  number_has span names T x h i = let z = integer_is x (has_kind no_atoms T x i.0 ∙ equal_kinds (types.kind T) types.integers h) in subst (λ y. Stands Caused (as_number span y)) (sym z.1) tt
+  number_has : (span : Span) (names : List Entry) (T : Ty) (x : Value) → is_integer T ≡ true → InType (types_in names) no_atoms x T →
+      Stands Caused (as_number span x)
+  number_has span names T x h i =
+      let z = integer_is x (has_kind no_atoms T x i.0 ∙ equal_kinds (types.kind T) types.integers h) in
+      subst (λ y. Stands Caused (as_number span y)) (sym z.1) tt
 
   module _ (given : Evaluates t ds) where
     constants : (names : List Entry) → AreVisible t ds names → ConstantsGiven t names
@@ -131,14 +143,20 @@ module _ (t : Tests) (ds : List Decl) where
 
     asks : AsksOf t ds Caused
     asks = record {
-      barred_at = λ names v e out. barred_has names v e out (barred e names) refl;
+      barred_at = λ names v e out.
+          barred_has names v e out (barred e names) refl
+          (barred_there t (λ span. IsAmong span (expr_spans e)) e names (each_among (expr_spans e)));
       known_at = λ names v e out k S b so.
-          known_has _ names v e out b (constant t.limit e names) refl (constants names v e k S b so) (known_there t (λ span. IsAmong span (expr_spans e)) e names (each_among (expr_spans e)));
-      number_at = λ names v e out k S b so i x g. number_has _ names S.ty x i (given_value _ (constant t.limit e names) x (constants names v e k S b so) g);
+          known_has _ names v e out b (constant t.limit e names) refl (constants names v e k S b so)
+          (known_there t (λ span. IsAmong span (expr_spans e)) e names (each_among (expr_spans e)));
+      number_at =
+          λ names v e out k S b so i x g. number_has _ names S.ty x i
+          (given_value _ (constant t.limit e names) x (constants names v e k S b so) g);
       bare_at = λ s i ty init p. record { has = λ e. absurd (subst other_than (sym e) tt) };
       first_at = λ names v s i init ty is W w p.
           let at = (found_type t ty).span in
-          first_has names v s i init ty is W w (first_value t.limit at (closed W.ty)) refl (given.first at (closed W.ty)) (first_ends (λ span. at ≡ span) t.limit at (closed W.ty) refl);
+          first_has names v s i init ty is W w (first_value t.limit at (closed W.ty)) refl (given.first at (closed W.ty))
+          (first_ends (λ span. at ≡ span) t.limit at (closed W.ty) refl);
     }
 
     caused : (e : Asked) → Stands Caused (verdict e ds t)
@@ -147,9 +165,13 @@ module _ (t : Tests) (ds : List Decl) where
   -- names that are not apart have another code
   refused : (e : Asked) (g : Fault) → names_rule [] (all_declared ds) ≡ Err g → Stands Caused (verdict e ds t)
   unfolding verdict
-  refused e g h = next_by Caused (names_rule [] (all_declared ds)) _ (names_stand t Caused [] (all_declared ds) (all_declared_stand t Caused ds (all_anywhere (all_of decl_spans ds)))) (λ a. err_ok g tt (sym h ∙ a))
+  refused e g h =
+      next_by Caused (names_rule [] (all_declared ds)) _
+      (names_stand t Caused [] (all_declared ds) (all_declared_stand t Caused ds (all_anywhere (all_of decl_spans ds))))
+      (λ a. err_ok g tt (sym h ∙ a))
 
-  all_caused : IsRight t → AreGrown ds → (e : Asked) (r : Result (Unit {0}) Fault) → names_rule [] (all_declared ds) ≡ r → Stands Caused (verdict e ds t)
+  all_caused : IsRight t → AreGrown ds → (e : Asked) (r : Result (Unit {0}) Fault) → names_rule [] (all_declared ds) ≡ r →
+      Stands Caused (verdict e ds t)
   all_caused right grown e (Ok tt) h = caused (evaluates t right ds grown h) e
   all_caused right grown e (Err g) h = refused e g h
 
@@ -158,5 +180,6 @@ module _ (t : Tests) (ds : List Decl) where
   has_cause right grown e f h = (subst (λ r. Stands Caused r) h (all_caused right grown e (names_rule [] (all_declared ds)) refl)).has
 
 -- so has one of declarations that are read from files
-pub read_cause : (limit : ℕ) (e : Asked) (files : List File) (ds : List Decl) (f : Fault) → ReadsAt limit files (Ok ds) → (p : FaultOf limit e ds f) → f.code ≡ T04 → HasCause p.tests ds f
+pub read_cause : (limit : ℕ) (e : Asked) (files : List File) (ds : List Decl) (f : Fault) → ReadsAt limit files (Ok ds) →
+    (p : FaultOf limit e ds f) → f.code ≡ T04 → HasCause p.tests ds f
 read_cause limit e files ds f r p = has_cause p.tests ds p.right (read_grown_at limit files ds r) e f p.is

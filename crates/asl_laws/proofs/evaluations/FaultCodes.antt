@@ -1,5 +1,5 @@
--- Which codes the faults of declarations that are read have: those of the rules. What no text gives, a literal that is none and storage with neither a type
--- nor an initialiser, has another one, and isn't met.
+-- Which codes the faults of declarations that are read have: those of the rules. What no text gives, a literal that is none and
+-- storage with neither a type nor an initialiser, has another one, and isn't met.
 use Rattle.std.proofs.Common.{◌≡◌, ℕ, inl, inr, Bool, true, ◌||◌, List, [], ◌∷◌, Option, Some, None, Ok, refl, sym, ap₂, ◌∙◌, subst}
 use Rattle.std.specs.Prelude.{is_some}
 use Rattle.asl_syn.specs.declared.token.Span.{Span}
@@ -28,7 +28,7 @@ use Rattle.asl_rules.specs.declarations.Programs.{as_number, origin, FaultOf}
 use Rattle.asl_rules.specs.private.Grown.{is_grown, AreGrown}
 use Rattle.asl_rules.proofs.basics.Tests.{no}
 use Rattle.asl_laws.specs.Evaluated.{StandsIn}
-use Rattle.asl_laws.specs.RuleCodes.{IsOfRules, HasRuleCode}
+use Rattle.asl_laws.specs.Codes.{IsOfRules, HasRuleCode}
 use Rattle.asl_laws.specs.Spans.{Mark, place, literal, Each, all_of, decl_spans}
 use Rattle.asl_laws.proofs.reading.Trees.{LiteralKept, read_literals}
 use Rattle.asl_laws.proofs.scopes.GrownTexts.{read_grown_at}
@@ -93,9 +93,11 @@ module _ (t : Tests) (ds : List Decl) (grown : AreGrown ds) where
   }
 
 -- a fault of declarations that are read has a code of the rules
-pub read_code : (limit : ℕ) (e : Entry) (files : List File) (ds : List Decl) (f : Fault) → ReadsAt limit files (Ok ds) → FaultOf limit e ds f → HasRuleCode f
+pub read_code : (limit : ℕ) (e : Entry) (files : List File) (ds : List Decl) (f : Fault) → ReadsAt limit files (Ok ds) →
+    FaultOf limit e ds f → HasRuleCode f
 read_code limit e files ds f r p =
     let grown = read_grown_at limit files ds r in
     let there : Each (LiteralKept p.tests.limit) (all_of decl_spans ds) =
     subst (λ (l : ℕ). Each (LiteralKept l) (all_of decl_spans ds)) (sym p.within) (read_literals limit files ds r) in
-    fault_stands p.tests HasRuleCode ds (asks p.tests ds grown) e f (anywhere origin) (each_so (LiteralKept p.tests.limit) (Marked HasRuleCode p.tests) (kept p.tests ds grown) (all_of decl_spans ds) there) p.is
+    fault_stands p.tests HasRuleCode ds (asks p.tests ds grown) e f (anywhere origin)
+    (each_so (LiteralKept p.tests.limit) (Marked HasRuleCode p.tests) (kept p.tests ds grown) (all_of decl_spans ds) there) p.is

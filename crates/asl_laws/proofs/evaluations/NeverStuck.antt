@@ -104,7 +104,7 @@ module _ (tests : Tests) (right : IsRight tests) (ds : List Decl) (base : List E
       let u = ends_uncalled (over_names tests ds base) here holds e b in
       let full : Meter = starting u.nodes None in
       let t = typed_run tests right ds base [] true [] w tt others statements u.nodes e (record { scope = with_class (in_names base) k; present = no_atoms; around = around_of (resting (globals_among ds base)) }) S here full h
-      (record { agrees = resting_agrees base (globals_among ds base) m; subs_are = refl; around_is = refl; stands = inl refl }) in
+      (record { agrees = resting_agrees base (globals_among ds base) m; subs_are = refl; around_is = refl; stands = inl refl; counted = inl refl }) in
       given_by base here S.ty (constant tests.limit e base) ((meaning (over_names tests ds base) u.nodes).expr e here full) (u.so full (omega arith)) t.0 t.1
 
 -- ---- of declarations

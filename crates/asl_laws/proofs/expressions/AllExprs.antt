@@ -44,7 +44,7 @@ module _ (tests : Tests) (right : IsRight tests) (ds : List Decl) (base : List E
   pub record Others : Type 0 where
     pub own : (H : Here) (S : Typed) (e : Expr) (span : Span) (i : Ident) (ps es : List Expr) (os : List Operand) (c : Core) → typed tests e H.scope ≡ Ok S → routine_named i.text ≡ None → is_subprogram (standing_of i.text H.scope.names) ≡ true → operands (map (found tests) es) H.scope ≡ Ok os → function_of tests span i (map (found tests) ps) os H.scope None ≡ Ok S → At tests base subs loose H c → Formed tests right ds base subs loose funcs w H S (ex.Call span i ps es) c
 
-  good : (H : Here) (c : Core) → At tests base subs loose H c → (e : Expr) (T : Typed) → typed tests e H.scope ≡ Ok T → WellFormed (types_in base) T.ty
+  pub good : (H : Here) (c : Core) → At tests base subs loose H c → (e : Expr) (T : Typed) → typed tests e H.scope ≡ Ok T → WellFormed (types_in base) T.ty
   good H c a e T h =
       typed_formed tests right (types_in base) (well_declared base w) e H.scope T (scope_good H.present base H.scope.names c w a.agrees) (subst (FormedSubs tests right (types_in base) (well_declared base w)) (sym a.subs_are) s) h
 
@@ -64,10 +64,10 @@ module _ (tests : Tests) (right : IsRight tests) (ds : List Decl) (base : List E
   in_pure H = record { scope = with_class H.scope Pure; present = H.present; around = H.around }
 
   into_pure : (H : Here) (c : Core) → At tests base subs loose H c → At tests base subs loose (in_pure H) c
-  into_pure H c a = record { agrees = a.agrees; subs_are = a.subs_are; around_is = a.around_is; stands = stands_lesser tests base subs loose Pure H.scope.class H.around refl a.stands }
+  into_pure H c a = record { agrees = a.agrees; subs_are = a.subs_are; around_is = a.around_is; stands = stands_lesser tests base subs loose Pure H.scope.class H.around refl a.stands; counted = a.counted }
 
   from_pure : (H : Here) (c c1 : Core) → At tests base subs loose H c → At tests base subs loose (in_pure H) c1 → At tests base subs loose H c1
-  from_pure H c c1 a b = record { agrees = b.agrees; subs_are = b.subs_are; around_is = b.around_is; stands = a.stands }
+  from_pure H c c1 a b = record { agrees = b.agrees; subs_are = b.subs_are; around_is = b.around_is; stands = a.stands; counted = a.counted }
 
   layer_formed : Others → (H : Here) (S : Typed) (x : Expr) (layer : ExprLayer) (c : Core) → typed tests x H.scope ≡ Ok S → typed_rule tests (opened tests layer) H.scope ≡ Ok S → At tests base subs loose H c → Formed tests right ds base subs loose funcs w H S layer c
   layer_formed o H S x (ex.Int span n) c k h a = int_formed tests right ds base subs loose funcs w H S span n c h a

@@ -25,7 +25,7 @@ use Rattle.asl_rules.specs.private.Erasure.{erased}
 use Rattle.asl_laws.specs.Soundness.{StandsIn, IsBodyOf, TreeCalls, ActCalls, waiting}
 use Rattle.asl_laws.proofs.expressions.Twins.{Claims}
 use Rattle.asl_laws.proofs.runs.Several.{several}
-use Rattle.asl_laws.proofs.scopes.ScopesKept.{GoodScope}
+use Rattle.asl_laws.proofs.scopes.ScopesKept.{GoodScope, Ruled}
 
 -- what nodes leave as it is, but for what a catcher handles: what is being handled, the frames of the callers, and the active subprograms
 pub record Around : Type 0 where
@@ -132,6 +132,7 @@ module _ (tests : Tests) (base : List Entry) (subs : List Signature) (loose : Bo
     pub globals : List Binding
     pub agrees : Agrees base (caller_at caller).scope.names (caller_at caller).present (waiting globals f fs ids)
     pub subs_are : (caller_at caller).scope.subs ≡ subs
+    pub counted : Bound (Ruled (caller_at caller).scope.names (caller_at caller).scope.subs)
     pub around_is : around_of (waiting globals f fs ids) ≡ (caller_at caller).around
 
   -- a node of this class stands in the body of the subprogram that was called last, and each caller's frame waits
@@ -143,12 +144,14 @@ module _ (tests : Tests) (base : List Entry) (subs : List Signature) (loose : Bo
   abbrev pub Stands : Effect → Around → Type 0
   Stands k r = Bound (StandsOver k r.callers r.live)
 
-  -- the state agrees with the scope, whose subprograms are those of the program, and what is around its frame is what was there
+  -- the state agrees with the scope, whose subprograms are those of the program, and of which the rules of scopes hold, and what is
+  -- around its frame is what was there
   pub record At (H : Here) (c : Core) : Type 0 where
     pub agrees : Agrees base H.scope.names H.present c
     pub subs_are : H.scope.subs ≡ subs
     pub around_is : around_of c ≡ H.around
     pub stands : Stands H.scope.class H.around
+    pub counted : Bound (Ruled H.scope.names H.scope.subs)
 
   -- where an exception comes out: the state agrees with these names, and maybe with more behind them, at an assignment that is the same on them
   pub record Over (names : List Entry) (a : Assignment) (around : Around) (x : Value) (c : Core) : Type 0 where

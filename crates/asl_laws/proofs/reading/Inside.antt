@@ -50,19 +50,22 @@ unfolding end_of
 end_in n size t h = let k = h.1 in omega (arith, k)
 
 -- from a beginning to an end inside the file
-pub between_in : (n size : ℕ) (from : Span) (to : ℕ) → from.file ≡ n → from.start ≤ size → to ≤ size → ((span_to from to).file ≡ n) × ((span_to from to).start + (span_to from to).len ≤ size)
+pub between_in : (n size : ℕ) (from : Span) (to : ℕ) → from.file ≡ n → from.start ≤ size → to ≤ size →
+    ((span_to from to).file ≡ n) × ((span_to from to).start + (span_to from to).len ≤ size)
 between_in n size from to f b e = (f, omega arith)
 
 pub whole_in : (n size : ℕ) (e : Extent) → ExtIn n size e → ((whole e).file ≡ n) × ((whole e).start + (whole e).len ≤ size)
 whole_in n size e h = between_in n size e.from e.to h.file_is h.begins h.ends
 
-step_in : (n size limit : ℕ) (st end : Cursor) (t : Lexeme) (ts : List Lexeme) (l : ℕ) → st.toks ≡ t ∷ ts → end ≡ past t ts l → CurIn n size limit st → AheadIn n size limit t × CurIn n size limit end
+step_in : (n size limit : ℕ) (st end : Cursor) (t : Lexeme) (ts : List Lexeme) (l : ℕ) → st.toks ≡ t ∷ ts → end ≡ past t ts l →
+    CurIn n size limit st → AheadIn n size limit t × CurIn n size limit end
 step_in n size limit st end t ts l e k c =
     let h : AllOf (AheadIn n size limit) (t ∷ ts) = subst (AllOf (AheadIn n size limit)) e c.toks_in in
     (h.0, subst (CurIn n size limit) (sym k) (record { toks_in = h.1; last_in = end_in n size t h.0.0 }))
 
 -- something is read at the first of the tokens, from which it begins
-began : (n size limit : ℕ) (F : Kinds) (ts : List Lexeme) → starts F ts ≡ true → AllOf (AheadIn n size limit) ts → ((ahead ts).file ≡ n) × ((ahead ts).start ≤ size)
+began : (n size limit : ℕ) (F : Kinds) (ts : List Lexeme) → starts F ts ≡ true → AllOf (AheadIn n size limit) ts →
+    ((ahead ts).file ≡ n) × ((ahead ts).start ≤ size)
 began n size limit F [] e h = absurd cc
 began n size limit F (t ∷ ts) e h = (h.0.0.0, (let k = h.0.0.1 in omega (arith, k)))
 
@@ -107,10 +110,12 @@ module _ (Sym : Type 0) (Val : Sym → Type 0) (after : Sym → Kinds) (n size l
   tok_keeps : (cs : Kinds) → Keeps (reads_tok cs) (LexIn n size)
   tok_keeps cs st t end (ts, e, m, f) c = let h = step_in n size limit st end t ts st.left e f c in (h.0.0, h.1)
 
-  then_keeps : {A : Type 0} (cs : Kinds) (P : Reading A) (S : A → Type 0) → Keeps P S → Keeps (reads_then cs P) (λ x. LexIn n size x.0 × S x.1)
+  then_keeps : {A : Type 0} (cs : Kinds) (P : Reading A) (S : A → Type 0) → Keeps P S →
+      Keeps (reads_then cs P) (λ x. LexIn n size x.0 × S x.1)
   then_keeps cs P S k st a end (mid, p, q) c = let h = tok_keeps cs st a.0 mid p c in let l = k mid a.1 end q h.1 in ((h.0, l.0), l.1)
 
-  module _ (R : (s : Sym) → Reading (Val s)) (shr : (s : Sym) (st : Cursor) (v : Val s) (end : Cursor) → R s st v end → length end.toks ≤ length st.toks) (keep : (s : Sym) → Keeps (R s) (Q s)) where
+  module _ (R : (s : Sym) → Reading (Val s)) (shr : (s : Sym) (st : Cursor) (v : Val s) (end : Cursor) → R s st v end →
+      length end.toks ≤ length st.toks) (keep : (s : Sym) → Keeps (R s) (Q s)) where
     pub inside : {A : Type 0} (g : G Sym Val A) → by_one after g ≡ true → Keeps (reads R g) (Inside g)
     inside (tok cs) w st a end (ts, e, m, f) c = let h = step_in n size limit st end a ts st.left e f c in ((h.0.0, (m, h.0.1)), h.1)
     inside (opens cs) w st a end (ts, l, e, m, k, f) c = let h = step_in n size limit st end a ts l e f c in (h.0.0, h.1)
@@ -129,19 +134,27 @@ module _ (Sym : Type 0) (Val : Sym → Type 0) (after : Sym → Kinds) (n size l
     inside (by f p) w st b end (x, r, e) c = let h = inside p w st x end r c in ((x, h.0, e), h.1)
     inside (spanned p) w st a end (r, e) c =
         let h = inside p (both_true _ _ w).0 st a.0 end r c in
-        let s = took_some (first p) (nullable p) st end (flipped_true _ (both_true _ _ w).1) (took Sym Val after R shr p (both_true _ _ w).0 st a.0 end r) in
+        let s = took_some (first p) (nullable p) st end (flipped_true _ (both_true _ _ w).1)
+        (took Sym Val after R shr p (both_true _ _ w).0 st a.0 end r) in
         let b = began n size limit (first p) st.toks s.0 c.toks_in in
         ((h.0, subst (ExtIn n size) (sym e) (record { file_is = b.0; begins = b.1; ends = h.1.last_in })), h.1)
-    inside (scope p) w st a end (mid, r, e) c = let h = inside p w st a mid r c in (h.0, subst (CurIn n size limit) (sym e) (record { toks_in = h.1.toks_in; last_in = h.1.last_in }))
+    inside (scope p) w st a end (mid, r, e) c =
+        let h = inside p w st a mid r c in (
+          h.0,
+          subst (CurIn n size limit) (sym e)
+              (record { toks_in = h.1.toks_in; last_in = h.1.last_in }),
+        )
     inside (closed cs s) w st a end (ts, l, mid, e, m, k, r, f) c =
         let h = step_in n size limit st (past a.0 ts l) a.0 ts l e refl c in
         let v = keep s (past a.0 ts l) a.1 mid r h.1 in
         ((h.0.0, v.0), subst (CurIn n size limit) (sym f) (record { toks_in = v.1.toks_in; last_in = v.1.last_in }))
     inside (trail cs p) w st a end (mid, r, s) c =
-        let h = all_keep (reads_then cs (reads R p)) (λ x. LexIn n size x.0 × Inside p x.1) (then_keeps cs (reads R p) (Inside p) (inside p (both_true _ _ w).0)) st a.0 mid r c in
+        let h = all_keep (reads_then cs (reads R p)) (λ x. LexIn n size x.0 × Inside p x.1)
+        (then_keeps cs (reads R p) (Inside p) (inside p (both_true _ _ w).0)) st a.0 mid r c in
         let k = opt_keeps (reads_tok cs) (LexIn n size) (tok_keeps cs) mid a.1 end s h.1 in
         ((h.0, k.0), k.1)
-    inside (costs late p) w st a end (l, e, r) c = inside p (both_true _ _ w).0 (record st { left = l }) a end r (record { toks_in = c.toks_in; last_in = c.last_in })
+    inside (costs late p) w st a end (l, e, r) c =
+        inside p (both_true _ _ w).0 (record st { left = l }) a end r (record { toks_in = c.toks_in; last_in = c.last_in })
     inside (follows p q) w st (inl a) end r c = inside p (both_four (by_one after p) (by_one after q) (nullable p) _ w).0 st (inl a) end r c
     inside (follows p q) w st (inr r) end (mid, x, y) c =
         let f = both_four (by_one after p) (by_one after q) (nullable p) _ w in

@@ -11,7 +11,7 @@ use Rattle.asl_rules.specs.declared.effect.Effect.{Effect}
 use Rattle.asl_rules.specs.Tests.{Tests}
 use Rattle.asl_rules.specs.Faults.{need}
 use Rattle.asl_rules.specs.types.Types.{Ty}
-use Rattle.asl_rules.specs.declarations.Scopes.{Scope, Body, fixed, atom_at, next_atom, is_free, type_of_name, body_names}
+use Rattle.asl_rules.specs.declarations.Scopes.{Scope, Body, Entry, Signature, fixed, atom_at, next_atom, is_free, type_of_name, body_names}
 use Rattle.asl_rules.specs.statements.Branches.{index_type, with_index, with_caught}
 use Rattle.asl_rules.specs.statements.Acting.{Done, Listed, in_order}
 use Rattle.asl_rules.specs.statements.Stmts.{found_stmt}
@@ -22,21 +22,37 @@ use Rattle.asl_rules.proofs.basics.Inversions.{ok_ok, then_ok}
 use Rattle.asl_rules.proofs.widths.Counting.{well_kept, atom_counts}
 use Rattle.asl_rules.proofs.widths.ScopesCounted.{names_counted, signature_counted, bind_counted, vars_counted, plain_counts}
 use Rattle.asl_laws.proofs.widths.TypesOver.{Never}
+use Rattle.asl_laws.specs.ScopeRules.{NoneShadowed, EachOver, Below, KeepsRules}
+use Rattle.asl_laws.proofs.scopes.ScopeRules.{outside_rules, added, bind_added, vars_added, head_added, caught_added}
 use Rattle.asl_laws.proofs.scopes.OverScope.{SubsOver}
 use Rattle.asl_laws.proofs.scopes.ScopesOver.{program_over}
 use Rattle.asl_laws.proofs.scopes.BodiesOver.{ScopeOver, signature_over, bind_over, vars_over, index_over, caught_over}
 use Rattle.asl_rules.proofs.scopes.KeptNames.{DeclarationsKeep, stmt_keeps, list_keeps}
 
--- what a body is judged in: each `let` counts as names that stand for themselves, and types have atoms of the names alone
+-- what a body is judged in: each `let` counts as names that stand for themselves, no name is shadowed, and types have atoms of the names alone
 pub record GoodScope (t : Tests) (G : Scope) : Type 0 where
   pub counted : WellCounted G.names
+  pub shadowed : NoneShadowed G.names
   pub over : ScopeOver t G.names
   pub subs : SubsOver G.subs
 
+-- so it is said of the names and of the subprograms, whatever the class is
+pub record Ruled (names : List Entry) (subs : List Signature) : Type 0 where
+  pub counted : WellCounted names
+  pub shadowed : NoneShadowed names
+  pub types : EachOver (Below names) names
+  pub results : SubsOver subs
+
+pub ruled : (t : Tests) (G : Scope) → GoodScope t G → Ruled G.names G.subs
+ruled t G g = record { counted = g.counted; shadowed = g.shadowed; types = g.over.each; results = g.subs }
+
+pub keeps_rules : (G : Scope) → Ruled G.names G.subs → KeepsRules G
+keeps_rules G r = record { shadowed = r.shadowed; types = r.types; results = r.results }
+
 kept : (t : Tests) → DeclarationsKeep t (GoodScope t)
 kept t = record {
-  bind = λ span kind b ty e G d p h. record { counted = bind_counted t span kind b ty e G d p.counted h; over = bind_over t span kind b ty e G d p.over p.subs h; subs = p.subs };
-  vars = λ span is ty G d p h. record { counted = vars_counted t span is ty G d p.counted h; over = vars_over t span is ty G d p.over h; subs = p.subs };
+  bind = λ span kind b ty e G d p h. record { counted = bind_counted t span kind b ty e G d p.counted h; shadowed = bind_added t span kind b ty e G d p.shadowed h; over = bind_over t span kind b ty e G d p.over p.subs h; subs = p.subs };
+  vars = λ span is ty G d p h. record { counted = vars_counted t span is ty G d p.counted h; shadowed = vars_added t span is ty G d p.shadowed h; over = vars_over t span is ty G d p.over h; subs = p.subs };
 }
 
 pub stmt_scope : (t : Tests) (s : Stmt) (B : Body) (d : Done) → GoodScope t B.scope → found_stmt t s B ≡ Ok d → GoodScope t (record B.scope { names = d.names })
@@ -49,6 +65,7 @@ list_scope t ss k B l p h = list_keeps t (GoodScope t) (kept t) ss k B l p h
 pub head_scope : (t : Tests) (ds : List Decl) (f : Func) (head : Head) (G : Scope) → G.names ≡ head.names → SubsOver G.subs → signature_rule t (names_of_program t ds) f ≡ Ok head → GoodScope t G
 head_scope t ds f head G e s h = record {
   counted = subst WellCounted (sym e) (signature_counted t (names_of_program t ds) f head (names_counted t ds) h);
+  shadowed = subst NoneShadowed (sym e) (head_added t (names_of_program t ds) f head (outside_rules t ds).shadowed h);
   over = subst (ScopeOver t) (sym e) (signature_over t (names_of_program t ds) f head (program_over t Never ds) h).names;
   subs = s;
 }
@@ -59,6 +76,7 @@ index_scope t i d a b B f p =
     let T : Ty = index_type t d a b B.scope in
     record {
       counted = well_kept B.scope.names (fixed i.text T (Some (atom_at (next_atom B.scope.names)))) p.counted (atom_counts B.scope.names i.text T f);
+      shadowed = added B.scope.names (fixed i.text T (Some (atom_at (next_atom B.scope.names)))) p.shadowed f;
       over = index_over t i d a b B p.over;
       subs = p.subs;
     }
@@ -72,6 +90,7 @@ caught_scope t (Some i) T name B C p h k =
     let e = ok_ok (body_names B (B.scope.names ++ fixed i.text T None ∷ [])) C u.then in
     record {
       counted = subst (λ (z : Body). WellCounted z.scope.names) e c;
+      shadowed = caught_added (Some i) T B C p.shadowed k;
       over = caught_over t (Some i) T name B C p.over h k;
       subs = subst (λ (z : Body). SubsOver z.scope.subs) e p.subs;
     }

@@ -54,7 +54,7 @@ module _ (tests : Tests) (right : IsRight tests) (ds : List Decl) (base : List E
 pub gives_types : (tests : Tests) (right : IsRight tests) (ds : List Decl) (base : List Entry) (w : WellNamed base) → Others tests right ds base [] true [] w tt → OtherStmts tests right ds base [] true [] w → GlobalsMatch base (globals_among ds base) → GivesTypes tests ds base
 gives_types tests right ds base w o q m d e S h t =
     (typed_run tests right ds base [] true [] w tt o q d e (record { scope = in_names base; present = no_atoms; around = around_of (resting (globals_among ds base)) }) S (resting (globals_among ds base)) h t
-    (record { agrees = resting_agrees base (globals_among ds base) m; subs_are = refl; around_is = refl; stands = inl refl })).1
+    (record { agrees = resting_agrees base (globals_among ds base) m; subs_are = refl; around_is = refl; stands = inl refl; counted = inl refl })).1
 
 pub belong_by_forms : (tests : Tests) (right : IsRight tests) (ds : List Decl) → ((base : List Entry) (w : WellNamed base) → Others tests right ds base [] true [] w tt × OtherStmts tests right ds base [] true [] w) → AllBelong tests ds
 belong_by_forms tests right ds forms = all_belong tests ds (λ base w m. let f = forms base w in gives_types tests right ds base w f.0 f.1 m)

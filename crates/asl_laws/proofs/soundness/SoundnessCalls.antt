@@ -20,7 +20,7 @@ use Rattle.asl_rules.specs.expressions.Exprs.{written}
 use Rattle.asl_rules.specs.statements.Acting.{Listed, in_order}
 use Rattle.asl_rules.specs.statements.Stmts.{found_stmt}
 use Rattle.asl_rules.specs.declarations.Declarations.{in_names, names_of_program}
-use Rattle.asl_rules.specs.declarations.Programs.{funcs_of, Head, params_free, formals_free, param_written, params_rule, formals_rule, result_rule, limit_typed, params_are_integers, limit_rule, with_formals, signature_rule, signatures_rule, signatures, may_end, body_of, tree_func, bodies_rule, origin, accepted}
+use Rattle.asl_rules.specs.declarations.Programs.{body_scope, funcs_of, Head, params_free, formals_free, param_written, params_rule, formals_rule, result_rule, limit_typed, params_are_integers, limit_rule, with_formals, signature_rule, signatures_rule, signatures, may_end, body_of, tree_func, bodies_rule, origin, accepted}
 use Rattle.asl_rules.specs.private.Belonging.{Belong}
 use Rattle.asl_rules.specs.private.Agreement.{types_in, no_atoms, GlobalsMatch, Agrees}
 use Rattle.asl_rules.specs.runs.States.{Binding, Core, entered, restored, resting}
@@ -44,7 +44,7 @@ use Rattle.asl_laws.proofs.widths.TypesOver.{Never, Over, AllOver, over_more, al
 use Rattle.asl_laws.proofs.scopes.OverScope.{IsAtomOf}
 use Rattle.asl_laws.proofs.scopes.ScopesOver.{never_moved, program_over, program_atoms}
 use Rattle.asl_laws.proofs.scopes.BodiesOver.{signature_over, signatures_over}
-use Rattle.asl_laws.proofs.scopes.ScopesKept.{head_scope}
+use Rattle.asl_laws.proofs.scopes.ScopesKept.{ruled, head_scope}
 use Rattle.asl_laws.proofs.expressions.Twins.{twins_weaker}
 use Rattle.asl_laws.proofs.expressions.Claims.{Here, FormedResult, result_at, our, around_of}
 use Rattle.asl_laws.proofs.expressions.TreePlans.{Same, Throws, append_nil}
@@ -215,8 +215,8 @@ module _ (tests : Tests) (right : IsRight tests) (ds : List Decl) (asked : Asked
       (subst (λ r. Same tests right base subs loose outer Keeps (in_frame span (seen_by span a h.signature.result) (restored c0) (plan.in_order f.body bound.state)) (lift r (erased c0) after)) (sym bound.seen_are)
       (subst (λ d. Same tests right base subs loose outer Keeps (in_frame span (seen_by span a h.signature.result) (restored c0) (plan.in_order f.body bound.state)) (in_frame span (result_seen h.signature.result) (bare.restored (erased c0)) (plan.in_order (acts_of l.acts) d))) bound.erased_so
       (body_same tests right ds base subs loose trees w true outer Keeps h l a (around_of c1) span c0 bound.state s ok (inr (h.signature, is, refl, refl))
-      (record { agrees = subst (λ ns. Agrees base ns a bound.state) n.names bound.agrees; subs_are = refl; around_is = bound.around_is; stands = inr ((h.signature, is, itself_below h.signature.class), inl (refl, refl, refl)) })
-      (record { agrees = resting_so globals m; subs_are = refl; around_is = refl; stands = inl refl }) (λ r c g i. (refl, i.agrees.globals))))))
+      (record { agrees = subst (λ ns. Agrees base ns a bound.state) n.names bound.agrees; subs_are = refl; around_is = bound.around_is; stands = inr ((h.signature, is, itself_below h.signature.class), inl (refl, refl, refl)); counted = inr (ruled tests (body_scope (signatures heads) h) ok.scope_good) })
+      (record { agrees = resting_so globals m; subs_are = refl; around_is = refl; stands = inl refl; counted = inl refl }) (λ r c g i. (refl, i.agrees.globals))))))
 
   -- a call from outside
   pub call_same : (id : ℕ) (args : List Value) (globals : List Binding) → IsCall (accepted asked main subs trees base) id args globals → CallSame tests right ds asked main subs trees w s loose id args globals

@@ -140,7 +140,7 @@ module _ (tests : Tests) (right : IsRight tests) (ds : List Decl) (asked : Enter
     expr_ends : (d : ℕ) (e : Expr) (G : Scope) (S : Typed) (p : Assignment) (c : Core) (h : Meter) → typed tests e G ≡ Ok S → G.subs ≡ subs → Agrees base G.names p c →
         SameEnd erased (λ c1. GlobalsMatch base c1.globals) (λ x y c1. (x ≡ y) × (InType (types_in base) p x S.ty × At tests base subs true (there G p c) c1)) (λ x c1. Over tests base subs true G.names p (around_of c) x c1) ((meaning (environment tests ds) d).expr e c h) ((tree_meaning (trees_of tests whole) d).expr S.tree (erased c) h)
     expr_ends d e G S p c h t g k =
-        (all_meet tests right ds base subs true funcs w s (o true) (q true) d).expr (one (there G p c, of_type S)) e S.tree c h (record { answers = t; is_tree = refl; at = record { agrees = k; subs_are = g; around_is = refl; stands = inl refl } })
+        (all_meet tests right ds base subs true funcs w s (o true) (q true) d).expr (one (there G p c, of_type S)) e S.tree c h (record { answers = t; is_tree = refl; at = record { agrees = k; subs_are = g; around_is = refl; stands = inl refl; counted = inl refl } })
 
     -- ---- both
 
@@ -150,7 +150,7 @@ module _ (tests : Tests) (right : IsRight tests) (ds : List Decl) (asked : Enter
       never_stuck = λ id args globals h k. not_stuck (λ c. GlobalsMatch base c.globals) (λ x y c. (x ≡ y) × GlobalsMatch base c.globals) (λ x c. GlobalsMatch base c.globals) _ _ (ends id args globals h k);
       keeps_globals = λ id args globals h k. kept base _ _ (λ x y c. x ≡ y) (ends id args globals h k);
       visited = λ id args globals h k. all_seen _ (all_at id args globals h k);
-      typed_values = λ d e G S p c h t g k. typed_run tests right ds base subs true funcs w s (o true) (q true) d e (there G p c) S c h t (record { agrees = k; subs_are = g; around_is = refl; stands = inl refl });
+      typed_values = λ d e G S p c h t g k. typed_run tests right ds base subs true funcs w s (o true) (q true) d e (there G p c) S c h t (record { agrees = k; subs_are = g; around_is = refl; stands = inl refl; counted = inl refl });
       width_values = record {
         widths = λ d e G W p c h t k. width_gives tests right ds base subs funcs w d e G W p c h t k;
         numbers = λ d e G N p c h t k. number_gives tests right ds base subs funcs w d e G N p c h t k;

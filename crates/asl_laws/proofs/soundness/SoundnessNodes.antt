@@ -16,6 +16,9 @@ use Rattle.asl_rules.specs.declarations.Programs.{Accepted, accepted}
 use Rattle.asl_rules.specs.runs.States.{Binding, Core, resting, Frame}
 use Rattle.asl_rules.specs.private.Belonging.{Sound}
 use Rattle.asl_rules.specs.private.Agreement.{types_in, GlobalsMatch, Agrees}
+use Rattle.asl_rules.specs.private.Worth.{WellCounted}
+use Rattle.asl_laws.specs.ScopeRules.{KeepsRules}
+use Rattle.asl_laws.proofs.scopes.ScopesKept.{Ruled, ruled, keeps_rules}
 use Rattle.asl_rules.specs.runs.Visits.{Entered, AtExpr, AtStmt}
 use Rattle.asl_laws.specs.Soundness.{ValuesIn, ExprVisited, NodeVisited, StandsIn, IsBodyOf, waiting, ExprWaits, StmtWaits, CallersWait, IsJudged}
 use Rattle.asl_rules.proofs.basics.Tests.{no}
@@ -30,6 +33,7 @@ use Rattle.asl_laws.proofs.widths.WidthValues.{width_gives, number_gives}
 use Rattle.asl_laws.proofs.soundness.SoundnessStates.{agrees_sound}
 use Rattle.asl_laws.proofs.calls.OwnCalls.{restored_agrees}
 use Rattle.asl_rules.specs.declared.effect.Effect.{Effect}
+use Rattle.asl_laws.proofs.widths.WidthValues.{width_gives, number_gives}
 
 abbrev HasFrame : List Frame → Type 0
 HasFrame [] = ⊥
@@ -54,25 +58,25 @@ module _ (tests : Tests) (right : IsRight tests) (ds : List Decl) (asked : Enter
     -- ---- values
 
     anywhere : (H : Here) (c : Core) → Agrees base H.scope.names H.present c → H.scope.subs ≡ subs → around_of c ≡ H.around → At tests base subs true H c
-    anywhere H c a i e = record { agrees = a; subs_are = i; around_is = e; stands = inl refl }
+    anywhere H c a i e = record { agrees = a; subs_are = i; around_is = e; stands = inl refl; counted = inl refl }
 
     gives : (H : Here) (S : Typed) (e : Expr) (c : Core) → typed tests e H.scope ≡ Ok S → Agrees base H.scope.names H.present c → H.scope.subs ≡ subs → around_of c ≡ H.around → ValuesIn tests ds whole e H.scope H.present S.ty c
-    gives H S e c t a i r d h = typed_run tests right ds base subs true funcs w s o q d e H S c h t (record { agrees = a; subs_are = i; around_is = r; stands = inl refl })
+    gives H S e c t a i r d h = typed_run tests right ds base subs true funcs w s o q d e H S c h t (record { agrees = a; subs_are = i; around_is = r; stands = inl refl; counted = inl refl })
 
     -- ---- callers
 
     caller_waits : (globals : List Binding) (f : Frame) (fs : List Frame) (id : ℕ) (ids : List ℕ) (u : Caller) → IsCaller tests base subs false u id → Agrees base (caller_at u).scope.names (caller_at u).present (waiting globals f fs ids) → (caller_at u).scope.subs ≡ subs → around_of (waiting globals f fs ids) ≡ (caller_at u).around →
-        StandsIn subs (caller_at u).scope.class ids → ExprWaits tests ds whole id (waiting globals f fs ids) ⊎ StmtWaits tests whole id (waiting globals f fs ids)
-    caller_waits globals f fs id ids (by_expr H e S) k a i r n = inl (record {
+        StandsIn subs (caller_at u).scope.class ids → Ruled (caller_at u).scope.names (caller_at u).scope.subs → ExprWaits tests ds whole id (waiting globals f fs ids) ⊎ StmtWaits tests whole id (waiting globals f fs ids)
+    caller_waits globals f fs id ids (by_expr H e S) k a i r n g = inl (record {
       node = e;
-      visited = record { scope = H.scope; present = H.present; subs_are = i; stands = n; judged = inl (S, k.0, gives H S e (waiting globals f fs ids) k.0 a i r); agrees = a };
+      visited = record { scope = H.scope; present = H.present; subs_are = i; stands = n; counted = g.counted; rules = keeps_rules H.scope g; judged = inl (S, k.0, gives H S e (waiting globals f fs ids) k.0 a i r); agrees = a };
       typing = S;
       is_typed = k.0;
       calls = k.1;
     })
-    caller_waits globals f fs id ids (by_stmt j x) k a i r n = inr (record {
+    caller_waits globals f fs id ids (by_stmt j x) k a i r n g = inr (record {
       node = x;
-      visited = record { body = j.body; done = j.done; present = j.present; subs_are = i; stands = subst (λ (z : Around). IsBodyOf subs j.body z.live) (sym r) (bound k.2); judged = k.0; agrees = a };
+      visited = record { body = j.body; done = j.done; present = j.present; subs_are = i; stands = subst (λ (z : Around). IsBodyOf subs j.body z.live) (sym r) (bound k.2); counted = g.counted; rules = keeps_rules j.body.scope g; judged = k.0; agrees = a };
       calls = k.1;
     })
 
@@ -93,7 +97,7 @@ module _ (tests : Tests) (right : IsRight tests) (ds : List Decl) (asked : Enter
         by (inr v) next =
             let H = caller_at v.0.caller in
             let more = next H.scope.class (bound v.1) in
-            (caller_waits globals f (g ∷ fs) id ids v.0.caller v.0.is_caller (restored_agrees base H.scope.names H.present (waiting v.0.globals f (g ∷ fs) ids) (resting globals) v.0.agrees m) v.0.subs_are v.0.around_is more.0, more.1)
+            (caller_waits globals f (g ∷ fs) id ids v.0.caller v.0.is_caller (restored_agrees base H.scope.names H.present (waiting v.0.globals f (g ∷ fs) ids) (resting globals) v.0.agrees m) v.0.subs_are v.0.around_is more.0 (bound v.0.counted), more.1)
 
     -- ---- nodes
 
@@ -146,12 +150,21 @@ module _ (tests : Tests) (right : IsRight tests) (ds : List Decl) (asked : Enter
     asked_names H (of_number N) = refl
     asked_names H (of_known S W) = refl
 
+    asked_rules : (H : Here) (i : Asked) → Ruled H.scope.names H.scope.subs → KeepsRules (asked_in H i).scope
+    asked_rules H (of_type S) r = keeps_rules H.scope r
+    asked_rules H (of_pure S) r = keeps_rules (with_class H.scope Pure) r
+    asked_rules H (of_width W) r = keeps_rules H.scope r
+    asked_rules H (of_number N) r = keeps_rules H.scope r
+    asked_rules H (of_known S W) r = keeps_rules H.scope r
+
     expr_visited : (H : Here) (i : Asked) (e : Expr) (t : Tree) (c : Core) → ExprIn tests base subs false H i e t c → ExprVisited tests ds whole e c
     expr_visited H i e t c p = record {
       scope = (asked_in H i).scope;
       present = H.present;
       subs_are = asked_subs H i ∙ p.at.subs_are;
       stands = expr_stands H i e t c p;
+      counted = subst WellCounted (sym (asked_names H i)) (bound p.at.counted).counted;
+      rules = asked_rules H i (bound p.at.counted);
       judged = expr_judged H i e t c p;
       agrees = subst (λ ns. Agrees base ns H.present c) (sym (asked_names H i)) p.at.agrees;
     }
@@ -169,6 +182,8 @@ module _ (tests : Tests) (right : IsRight tests) (ds : List Decl) (asked : Enter
         present = j.present;
         subs_are = p.at.subs_are;
         stands = body_stands j x t c p;
+        counted = p.scope_good.counted;
+        rules = keeps_rules j.body.scope (ruled tests j.body.scope p.scope_good);
         judged = p.is_found;
         agrees = p.at.agrees;
       },

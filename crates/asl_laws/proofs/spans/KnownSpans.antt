@@ -402,7 +402,7 @@ module _ (t : Tests) (P : Span → Type 0) where
   -- ---- what is barred, and what is evaluated
 
   -- what an option holds stands at such a span
-  abbrev MaybeAt : Option Span → Type 0
+  abbrev pub MaybeAt : Option Span → Type 0
   MaybeAt None = Unit {0}
   MaybeAt (Some span) = P span
 
@@ -422,6 +422,10 @@ module _ (t : Tests) (P : Span → Type 0) where
   said_at : (names : List scopes.Entry) (us : Uses) → UsesAt P us → MaybeAt (first_said (barred_at names) us)
   said_at names [] h = tt
   said_at names (u ∷ us) h = or_at (barred_at names u) (first_said (barred_at names) us) (barred_use names u h.0) (said_at names us h.1)
+
+  -- what is barred stands at the spans of the expression
+  pub barred_there : (x : Expr) (names : List scopes.Entry) → Each (Placed P) (expr_spans x) → MaybeAt (barred x names)
+  barred_there x names h = said_at names (expr_uses x) (expr_has x h).uses_at
 
   -- ---- what is asked of evaluations outside bodies
 

@@ -5,7 +5,7 @@ use Rattle.asl_syn.specs.declared.code.StaticCode.TheVariants.{T04, T05, T06, T0
 use Rattle.asl_rules.specs.Tests.{Tests}
 use Rattle.asl_rules.specs.types.Types.{Ty, Parts, integer_of, bits_of, tuple_of, array_of, named, no_part, part, is_bits, same_kind, reaches, constraint_of, width_of, parts_of, element_of, or_else, unless, by_names, misfit_inside, misfit_of_parts, misfit}
 use Rattle.asl_rules.specs.expressions.Exprs.{apart}
-use Rattle.asl_laws.specs.RuleCodes.{IsOfRules}
+use Rattle.asl_laws.specs.Codes.{IsOfRules}
 
 abbrev pub Other : StaticCode → Type 0
 Other T04 = ⊥

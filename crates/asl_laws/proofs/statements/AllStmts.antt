@@ -62,7 +62,7 @@ module _ (tests : Tests) where
   abbrev pub found_otherwise : Otherwise → FoundOtherwise
   found_otherwise = fold-Otherwise FoundAlternative FoundCatcher FoundBranch FoundOtherwise FoundStmt alternative_found catcher_found branch_found otherwise_found (stmt_layer_rule tests)
 
-  abbrev opened : StmtLayer → StmtOf
+  abbrev pub opened : StmtLayer → StmtOf
   opened = map-Stmt Alternative Catcher ElseIf Otherwise Stmt FoundAlternative FoundCatcher FoundBranch FoundOtherwise FoundStmt found_alternative found_catcher found_branch found_otherwise (found_stmt tests)
 
 abbrev pub alternative_fallen : Alternative → Bool

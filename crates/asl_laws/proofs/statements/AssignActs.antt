@@ -309,7 +309,7 @@ module _ (tests : Tests) (right : IsRight tests) (ds : List Decl) (base : List E
       subst (λ r1. Same tests right base subs loose H Q (lift (store span name z c) c k) (lift (pure.◌>>=◌ r1 (λ y. put span (slot_of name (layout_of G.names)) y (erased c))) (erased c) l)) e
       (subst (λ r1. Same tests right base subs loose H Q (lift r1 c k) (lift (put span (slot_of name (layout_of G.names)) z (erased c)) (erased c) l)) (sym r.is)
       (subst (λ r1. Same tests right base subs loose H Q (k r.after) (lift r1 (erased c) l)) (sym r.put_is)
-      (next r.after (record { agrees = r.agrees; subs_are = a.subs_are; around_is = r.around_is ∙ a.around_is; stands = a.stands }))))
+      (next r.after (record { agrees = r.agrees; subs_are = a.subs_are; around_is = r.around_is ∙ a.around_is; stands = a.stands; counted = a.counted }))))
 
   -- one store, and what follows it
   store_then : {A B : Type 0} (Q : A → B → Core → Type 0) (u : StoreHere) (v : StoreThere) (t : Two u v) (ss : List Step) (ps : List places.Step) (c : Core) (k : Core → Does A) (l : BareCore → Runs B) → Ways tests right ds base subs loose funcs w H t.storage.ty t.reached.ty ss ps → At tests base subs loose H c →

@@ -143,7 +143,7 @@ module _ (tests : Tests) (right : IsRight tests) (ds : List Decl) (base : List E
 
   pub held_later : (j : StmtClaim) (later : Assignment) (c c1 : Core) → HeldAt j c → SameOn j.body.scope.names j.present later → Agrees base j.body.scope.names later c1 → around_of c1 ≡ j.around → HeldAt (later_on j later) c1
   held_later j later c c1 k s a h = record {
-    at = record { agrees = a; subs_are = k.at.subs_are; around_is = h; stands = k.at.stands };
+    at = record { agrees = a; subs_are = k.at.subs_are; around_is = h; stands = k.at.stands; counted = k.at.counted };
     subs_formed = k.subs_formed;
     formed = k.formed;
     result_is = λ b e. k.result_is b (same_on_both j.body.scope.names j.present later b s e);
@@ -216,11 +216,11 @@ module _ (tests : Tests) (right : IsRight tests) (ds : List Decl) (base : List E
       let S = o.value.typed in
       subst (λ z. limit_fits z ≡ Ok tt → Both j true (limited span (Some e) c go) (limited span (tree_in z) (erased c) run_on)) (ok_ok (Some o.value) l o.then)
       (λ f. operand tests right base subs loose H (Out j true) e S c (λ x c1. lift (whole_number span x) c1 (λ z. go (turns_in z) c1)) (λ x c1. lift (whole_number span x) c1 (λ z. run_on (turns_in z) c1)) (operand_typed tests e (with_class j.body.scope Pure) o.value o.first)
-      (record { agrees = held.at.agrees; subs_are = held.at.subs_are; around_is = held.at.around_is; stands = stands_lesser tests base subs loose Pure j.body.scope.class j.around refl held.at.stands })
+      (record { agrees = held.at.agrees; subs_are = held.at.subs_are; around_is = held.at.around_is; stands = stands_lesser tests base subs loose Pure j.body.scope.class j.around refl held.at.stands; counted = held.at.counted })
       (λ x c1 i a.
       let z = is_int (types_in base) j.present tests right S.ty x (need_ok (is_integer S.ty) T05 o.value.span tt f) i in
       subst (λ y. Both j true (lift (whole_number span y) c1 (λ n. go (turns_in n) c1)) (lift (whole_number span y) (erased c1) (λ n. run_on (turns_in n) (erased c1)))) (sym z.1)
-      (next (turns_in z.0) c1 (moved tests right ds base subs loose funcs w j c c1 held (record { agrees = a.agrees; subs_are = a.subs_are; around_is = a.around_is; stands = held.at.stands }))))) k
+      (next (turns_in z.0) c1 (moved tests right ds base subs loose funcs w j c c1 held (record { agrees = a.agrees; subs_are = a.subs_are; around_is = a.around_is; stands = held.at.stands; counted = held.at.counted }))))) k
 
   pub while_acted : (j : StmtClaim) (span : Span) (e : Expr) (limit : Option Expr) (ss : List Stmt) (c : Core) → while_rule tests span e limit (map (found_stmt tests) ss) j.body ≡ Ok j.done → HeldAt j c → Acted tests right ds base subs loose funcs w j true (st.While span e limit ss) c
   while_acted j span e limit ss c h held =

@@ -143,9 +143,9 @@ module _ (tests : Tests) (right : IsRight tests) (ds : List Decl) (base : List E
       let S = t.value.typed in
       subst (λ z. where_condition z ≡ Ok tt → Both j b (guarded frames span (Some e) ss rest c) (guarded in_bare span (tree_in z) (acts_of l.acts) others (erased c))) (ok_ok (Some t.value) o t.then)
       (λ q. operand tests right base subs loose H (OutAct tests right ds base subs loose funcs w j b) e S c (λ x c1. lift (truth span x) c1 (λ p. choose p (scope frames ss c1) (rest c1))) (λ x c1. lift (truth span x) c1 (λ p. choose p (scope in_bare (acts_of l.acts) c1) (others c1))) (operand_typed tests e (reading_scope j.body.scope) t.value t.first)
-      (record { agrees = held.at.agrees; subs_are = held.at.subs_are; around_is = held.at.around_is; stands = stands_lesser tests base subs loose (lesser j.body.scope.class Readonly) j.body.scope.class j.around (lesser_below j.body.scope.class) held.at.stands })
+      (record { agrees = held.at.agrees; subs_are = held.at.subs_are; around_is = held.at.around_is; stands = stands_lesser tests base subs loose (lesser j.body.scope.class Readonly) j.body.scope.class j.around (lesser_below j.body.scope.class) held.at.stands; counted = held.at.counted })
       (λ x c1 i a.
-      let m = moved tests right ds base subs loose funcs w j c c1 held (record { agrees = a.agrees; subs_are = a.subs_are; around_is = a.around_is; stands = held.at.stands }) in
+      let m = moved tests right ds base subs loose funcs w j c c1 held (record { agrees = a.agrees; subs_are = a.subs_are; around_is = a.around_is; stands = held.at.stands; counted = held.at.counted }) in
       truth_same tests right base subs loose H (OutAct tests right ds base subs loose funcs w j b) span x S.ty c1 (λ p. choose p (scope frames ss c1) (rest c1)) (λ p. choose p (scope in_bare (acts_of l.acts) (erased c1)) (others (erased c1))) (need_ok (is_boolean S.ty) T05 t.value.span tt q) i
       (λ p. chosen p (scope frames ss c1) (rest c1) (scope in_bare (acts_of l.acts) (erased c1)) (others (erased c1)) (block_same tests right ds base subs loose funcs w j b l ss c1 g m names f) (next c1 m)))) k
     where

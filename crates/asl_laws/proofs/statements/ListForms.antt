@@ -1,5 +1,5 @@
 -- Lists of statements with their typed trees, and lists with a scope of their own.
-use Rattle.std.proofs.Common.{◌≡◌, ℕ, zero, suc, Bool, true, false, ◌&&◌, List, [], ◌∷◌, ◌++◌, length, take, map, Option, Ok, refl, sym, ap, ◌∙◌, subst, append_assoc}
+use Rattle.std.proofs.Common.{◌≡◌, inr, ℕ, zero, suc, Bool, true, false, ◌&&◌, List, [], ◌∷◌, ◌++◌, length, take, map, Option, Ok, refl, sym, ap, ◌∙◌, subst, append_assoc}
 use Rattle.asl_syn.specs.declared.token.Span.{Span}
 use Rattle.asl_syn.specs.declared.code.StaticCode.TheVariants.{T05}
 use Rattle.asl_syn.specs.declared.tree.Expr.{Expr}
@@ -34,7 +34,7 @@ use Rattle.asl_laws.proofs.expressions.Twins.{Twins}
 use Rattle.asl_laws.proofs.runs.Several.{one}
 use Rattle.asl_laws.proofs.expressions.Claims.{StmtClaim, At, Over, Ended, Left, Ends, our, around_of}
 use Rattle.asl_laws.proofs.expressions.TreePlans.{Same, Throws, operand, truth_same, append_nil}
-use Rattle.asl_laws.proofs.scopes.ScopesKept.{GoodScope, stmt_scope}
+use Rattle.asl_laws.proofs.scopes.ScopesKept.{GoodScope, ruled, stmt_scope}
 use Rattle.asl_rules.proofs.scopes.Longer.{Longer, stmt_longer, list_longer, same_on_fewer, same_on_both}
 use Rattle.asl_laws.proofs.statements.StmtForms.{here, Held, OutAct, ActSame, operand_typed}
 
@@ -111,7 +111,7 @@ module _ (tests : Tests) (right : IsRight tests) (ds : List Decl) (base : List E
   -- what holds behind a statement, with the names that are visible there
   pub held_onward : (j : StmtClaim) (names : List Entry) (later : Assignment) (c c1 : Core) → HeldAt j c → Longer j.body.scope.names names → SameOn j.body.scope.names j.present later → Agrees base names later c1 → around_of c1 ≡ j.around → GoodScope tests (with_names j.body.scope names) → HeldAt (onward j names later) c1
   held_onward j names later c c1 k l s a h g = record {
-    at = record { agrees = a; subs_are = k.at.subs_are; around_is = h; stands = k.at.stands };
+    at = record { agrees = a; subs_are = k.at.subs_are; around_is = h; stands = k.at.stands; counted = inr (ruled tests (with_names j.body.scope names) g) };
     subs_formed = k.subs_formed;
     formed = k.formed;
     result_is = λ b e. k.result_is b (same_on_both j.body.scope.names j.present later b s (same_on_fewer j.body.scope.names names later b l e));

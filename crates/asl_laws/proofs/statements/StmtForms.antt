@@ -126,9 +126,9 @@ module _ (tests : Tests) (right : IsRight tests) (ds : List Decl) (base : List E
       let S = o.value.typed in
       let d = done G.names S.effect (tree.Assert span S.tree) in
       acted j true (st.Assert span e) c d (ended_is G.class span true S.effect G.names (tree.Assert span S.tree) j.done b.then) refl
-      (λ i. operand tests right base subs loose (in_class (here j) (reading_scope G)) (OutAct j true) e S c (λ x c1. lift (truth span x) c1 (λ t. choose t (done_normal c1) (asserted span c1))) (λ x c1. lift (truth span x) c1 (λ t. choose t (done_normal c1) (asserted span c1))) (operand_typed tests e (reading_scope G) o.value o.first) (record { agrees = k.at.agrees; subs_are = k.at.subs_are; around_is = k.at.around_is; stands = stands_lesser tests base subs loose (lesser G.class Readonly) G.class j.around (lesser_below G.class) k.at.stands })
+      (λ i. operand tests right base subs loose (in_class (here j) (reading_scope G)) (OutAct j true) e S c (λ x c1. lift (truth span x) c1 (λ t. choose t (done_normal c1) (asserted span c1))) (λ x c1. lift (truth span x) c1 (λ t. choose t (done_normal c1) (asserted span c1))) (operand_typed tests e (reading_scope G) o.value o.first) (record { agrees = k.at.agrees; subs_are = k.at.subs_are; around_is = k.at.around_is; stands = stands_lesser tests base subs loose (lesser G.class Readonly) G.class j.around (lesser_below G.class) k.at.stands; counted = k.at.counted })
       (λ x c1 v a1. truth_same tests right base subs loose (in_class (here j) (reading_scope G)) (OutAct j true) span x S.ty c1 (λ t. choose t (done_normal c1) (asserted span c1)) (λ t. choose t (done_normal (erased c1)) (asserted span (erased c1))) (need_ok (is_boolean S.ty) T05 o.value.span tt b.first) v
-      (λ t. assert_by j span c1 t d i refl (record { agrees = a1.agrees; subs_are = a1.subs_are; around_is = a1.around_is; stands = k.at.stands }))))
+      (λ t. assert_by j span c1 t d i refl (record { agrees = a1.agrees; subs_are = a1.subs_are; around_is = a1.around_is; stands = k.at.stands; counted = k.at.counted }))))
 
   -- ---- exits
 

@@ -64,7 +64,7 @@ module _ (tests : Tests) (right : IsRight tests) (ds : List Decl) (base : List E
   -- while the exception is handled
   held_inside : (j : StmtClaim) (x : Value) (c : Core) → Raised (types_in base) x → StmtAt j c → StmtAt (inside tests right ds base subs loose funcs w j x) (record c { handled = x ∷ c.handled })
   held_inside j x c r k = record {
-    at = record { agrees = handled_agrees base j.body.scope.names j.present (x ∷ c.handled) c (r, k.at.agrees.handled) k.at.agrees; subs_are = k.at.subs_are; around_is = ap (λ (r : Around). record r { handled = x ∷ r.handled }) k.at.around_is; stands = k.at.stands };
+    at = record { agrees = handled_agrees base j.body.scope.names j.present (x ∷ c.handled) c (r, k.at.agrees.handled) k.at.agrees; subs_are = k.at.subs_are; around_is = ap (λ (r : Around). record r { handled = x ∷ r.handled }) k.at.around_is; stands = k.at.stands; counted = k.at.counted };
     subs_formed = k.subs_formed;
     formed = k.formed;
     result_is = k.result_is;

@@ -27,6 +27,7 @@ use Rattle.asl_laws.proofs.soundness.SoundnessHeads.{heads_formed}
 use Rattle.asl_laws.specs.Visited.{AllSame}
 use Rattle.asl_laws.proofs.visited.SameNodes.{visits_same}
 use Rattle.asl_laws.proofs.statements.AllStmts.{OtherStmts}
+use Rattle.asl_laws.proofs.visited.ChosenNodes.{expr_chosen, stmt_chosen}
 
 -- in each call from outside of an accepted program
 abbrev CallsSame : Tests → List Decl → Accepted → Type 0
@@ -41,7 +42,8 @@ calls_same t right ds a f grown =
     let own : (loose : Bool) → Others t right ds base (signatures f.heads) loose f.trees w s = λ loose. record { own = own_formed t right ds loose f.heads f.trees w s f.heads_are f.bodies } in
     let stmts : (loose : Bool) → OtherStmts t right ds base (signatures f.heads) loose f.trees w = λ loose. others_of t right ds base (signatures f.heads) loose f.trees w (invoke_acted t right ds loose f.heads f.trees w s f.heads_are f.bodies) in
     let calls = call_same t right ds f.asked f.main false f.heads f.trees w s f.heads_are f.bodies in
-    subst (CallsSame t ds) f.is (visits_same t right ds f.asked f.main (signatures f.heads) f.trees w s own stmts calls)
+    subst (CallsSame t ds) f.is (visits_same t right ds f.asked f.main (signatures f.heads) f.trees w s own stmts
+    (expr_chosen t right ds true f.heads f.trees w s f.heads_are f.bodies (own true) (stmts true)) (stmt_chosen t right ds true f.heads f.trees w s f.heads_are f.bodies (own true) (stmts true)) calls)
 
 pub read_same : (limit : ℕ) (e : Asked) (files : List File) (ds : List Decl) (a : Accepted) → ReadsAt limit files (Ok ds) → (p : ProgramOk limit e ds a) → CallsSame p.tests ds a
 read_same limit e files ds a r p = calls_same p.tests p.right ds a (facts_of p.tests e ds a p.is) (read_grown_at limit files ds r)

@@ -1,7 +1,6 @@
 -- A polynomial is the same as an atom exactly where its terms are that atom alone.
-use Rattle.std.proofs.Common.{◌≡◌, ◌≢◌, ℕ, ℤ, pos, negsuc, true, List, [], ◌∷◌, sym, ap, ap₂, subst, arith}
+use Rattle.std.proofs.Common.{◌≡◌, ℕ, ℤ, pos, negsuc, true, List, [], ◌∷◌, sym, ap, ap₂, subst}
 use Rattle.asl_poly.specs.Terms.{Summand, Polynomial, value}
-use Rattle.asl_poly.specs.Limits.{IsMap}
 use Rattle.asl_poly.specs.Operations.{atom_terms}
 use Rattle.asl_poly.specs.Poly.{IsPolynomial, Same, atom_map}
 use Rattle.asl_poly.proofs.Maps.{same_map}

@@ -34,11 +34,13 @@ use Rattle.asl_rules.specs.statements.Locals.{Initialised, taken, itself, counte
 use Rattle.asl_rules.specs.statements.Locals.{type_declared, part_declared}
 use Rattle.asl_rules.specs.statements.Locals.{written_or, initialised, binders_free, bound_parts, bound_in, bound, bind_rule}
 use Rattle.asl_rules.specs.private.Worth.{Integers, standing_for, by_place, Obeys, Alone, AtomsAlone, WellCounted}
-use Rattle.asl_laws.specs.WidthWorth.{IsIntegerName, Asks}
+use Rattle.asl_laws.specs.WidthScopes.{IsIntegerName, Asks, AsksNothing}
 use Rattle.asl_rules.proofs.basics.Inversions.{ok_ok, err_ok, bind_ok, then_ok, need_ok, found_ok}
 use Rattle.asl_rules.proofs.basics.Tests.{some_same, none_some}
-use Rattle.asl_rules.proofs.widths.Counting.{name_kept, storage_kept, stored_of, standing_new, absent_is, last_name, well_kept}
-use Rattle.asl_rules.proofs.widths.ScopesCounted.{Fresh, fresh_start, fresh_more, tested, ended_names, stored_is, part_counts}
+use Rattle.asl_rules.proofs.widths.Counting.{name_kept, storage_kept, stored_of, standing_new, absent_is, last_name}
+use Rattle.asl_rules.proofs.widths.Counting.{NewCounted, well_kept, variable_counts, atom_counts}
+use Rattle.asl_rules.proofs.widths.ScopesCounted.{Fresh, fresh_start, fresh_more, tested, ended_names, stored_is}
+use Rattle.asl_rules.proofs.widths.ScopesCounted.{plain_counts, itself_counts}
 use Rattle.asl_rules.proofs.widths.WidthAtoms.{width_is_alone}
 use Rattle.asl_rules.proofs.widths.WidthsWorth.{width_is_worth}
 use Rattle.asl_laws.proofs.widths.SameByWorth.{value_atom}
@@ -186,7 +188,8 @@ module _ (t : Tests) (e : Expr) (G : Scope) (w : WellCounted G.names) (name : Li
       (sym moved ∙ some_same _ _ (sym (width_is_worth t e G a o v q) ∙ n (_, let_storage (Some c) _ refl, i) v q)))
   let_iff true (Err f) i q =
       let k = Some (atom_at (next_atom G.names)) in
-      one_more G.names w (fixed name T k) free a (LetAsks (with_let k)) (λ o n j u p. err_ok f u (sym q ∙ p)) (λ o n. atom_new G.names name a T)
+      one_more G.names w (fixed name T k) free a (LetAsks (with_let k))
+      (λ o n j u p. err_ok f u (sym q ∙ p)) (λ o n. atom_new G.names name a T)
   let_iff false r i q =
       one_more G.names w (fixed name T None) free a (LetAsks (with_let None))
       (λ o n k u p. absurd (not_both (is_integer T) (let_type None k) i)) (λ o n. uncounted_new G.names name a T)
@@ -202,65 +205,89 @@ module _ (t : Tests) (e : Expr) (G : Scope) (w : WellCounted G.names) (name : Li
       number e (standing_for a) ≡ Some (a n)))) (sym q) (let_iff (is_integer T) (width t e G) refl refl)
   declared_iff local.Var i q = one_more G.names w (variable name T) free a (Unit {0}) (λ o n. tt) (λ o n. variable_new G.names name a T)
 
--- the parts of a tuple
-abbrev Same : List Entry → List Entry → Integers → Type 0
-Same after names a = Obeys after a ↔ Obeys names a
+-- ---- names of which nothing is asked
+
+pub nothing_more : (names : List Entry) → WellCounted names → AsksNothing names names
+nothing_more names w = record { counted = w; same = λ a. ((λ o. o), (λ o. o)) }
+
+pub further : (x y z : List Entry) → AsksNothing x y → AsksNothing y z → AsksNothing x z
+further x y z p q = record { counted = q.counted; same = λ a. (λ o. (p.same a).0 ((q.same a).0 o), λ o. (q.same a).1 ((p.same a).1 o)) }
+
+one_nothing : (names : List Entry) (w : WellCounted names) (e : Entry) → is_free e.name names ≡ true → NewCounted names e →
+    ((a : Integers) → NewObeys names e a) → AsksNothing names (names ++ e ∷ [])
+one_nothing names w e f n k = record {
+  counted = well_kept names e w n;
+  same = λ a. let r = one_more names w e f a (Unit {0}) (λ o m. tt) (λ o m. k a) in (λ o. (r.0 o).0, λ o. r.1 (o, tt));
+}
+
+pub variable_nothing : (names : List Entry) (name : List ℕ) (T : Ty) → WellCounted names → is_free name names ≡ true →
+    AsksNothing names (names ++ variable name T ∷ [])
+variable_nothing names name T w f =
+    one_nothing names w (variable name T) f (variable_counts names name T) (λ a. variable_new names name a T)
+
+pub atom_nothing : (names : List Entry) (name : List ℕ) (T : Ty) → WellCounted names → is_free name names ≡ true →
+    AsksNothing names (names ++ fixed name T (Some (atom_at (next_atom names))) ∷ [])
+atom_nothing names name T w f =
+    one_nothing names w (fixed name T (Some (atom_at (next_atom names)))) f (atom_counts names name T f) (λ a. atom_new names name a T)
+
+pub plain_nothing : (names : List Entry) (name : List ℕ) (T : Ty) → WellCounted names → is_free name names ≡ true →
+    AsksNothing names (names ++ fixed name T None ∷ [])
+plain_nothing names name T w f = one_nothing names w (fixed name T None) f (plain_counts names name T) (λ a. uncounted_new names name a T)
+
+pub itself_nothing : (names : List Entry) (name : List ℕ) (T : Ty) → WellCounted names → is_free name names ≡ true →
+    AsksNothing names (names ++ fixed name T (itself T names) ∷ [])
+itself_nothing names name T w f =
+    one_nothing names w (fixed name T (itself T names)) f (itself_counts names name T f) (λ a. itself_new names name a T)
+
+-- ---- declarations with an initialiser: the parts of a tuple
 
 fresh_declared : (kind : LocalKind) (base : List Entry) (before : List (List ℕ)) (names : List Entry) (name : List ℕ) (T : Ty)
     (c : Option Counted) → Fresh base before names → Fresh base (before ++ name ∷ []) (names ++ declared kind name T c ∷ [])
 fresh_declared local.Let base before names name T c f = fresh_more base before names (fixed name T c) f
 fresh_declared local.Var base before names name T c f = fresh_more base before names (variable name T) f
 
-part_iff : (kind : LocalKind) (names : List Entry) (name : List ℕ) (T : Ty) (a : Integers) → WellCounted names → is_free name names ≡ true →
-    Same (names ++ declared kind name T (itself T names) ∷ []) names a
-part_iff local.Let names name T a w f =
-    let r = one_more names w (fixed name T (itself T names)) f a (Unit {0}) (λ o n. tt) (λ o n. itself_new names name a T) in
-    (λ o. (r.0 o).0, λ o. r.1 (o, tt))
-part_iff local.Var names name T a w f =
-    let r = one_more names w (variable name T) f a (Unit {0}) (λ o n. tt) (λ o n. variable_new names name a T) in
-    (λ o. (r.0 o).0, λ o. r.1 (o, tt))
+part_nothing : (kind : LocalKind) (names : List Entry) (name : List ℕ) (T : Ty) → WellCounted names → is_free name names ≡ true →
+    AsksNothing names (names ++ declared kind name T (itself T names) ∷ [])
+part_nothing local.Let names name T w f = itself_nothing names name T w f
+part_nothing local.Var names name T w f = variable_nothing names name T w f
 
-both_same : (x y z : List Entry) (a : Integers) → Same x y a → Same y z a → Same x z a
-both_same x y z a p q = (λ o. q.0 (p.0 o), λ o. p.1 (q.1 o))
-
-binders_iff : (bs : List Binder) (kind : LocalKind) (o : Option Ty) (Ts : Parts) (base names more : List Entry) (before : List (List ℕ))
-    (a : Integers) → WellCounted names → Fresh base before names → binders_free bs before base ≡ Ok tt →
-    bound_parts bs kind o Ts names ≡ Some more → Same more names a
-binders_iff [] kind o no_part base names more before a w f h k = subst (λ z. Same z names a) (some_same names more k) ((λ x. x), (λ x. x))
-binders_iff [] kind o (part T Ts) base names more before a w f h k = none_some more k
-binders_iff (Bound i ∷ bs) kind o no_part base names more before a w f h k = none_some more k
-binders_iff (Unbound at ∷ bs) kind o no_part base names more before a w f h k = none_some more k
-binders_iff (Bound i ∷ bs) kind o (part T Ts) base names more before a w f h k =
+binders_nothing : (bs : List Binder) (kind : LocalKind) (o : Option Ty) (Ts : Parts) (base names more : List Entry)
+    (before : List (List ℕ)) → WellCounted names → Fresh base before names → binders_free bs before base ≡ Ok tt → bound_parts bs kind o Ts names ≡ Some more →
+    AsksNothing names more
+binders_nothing [] kind o no_part base names more before w f h k = subst (AsksNothing names) (some_same names more k) (nothing_more names w)
+binders_nothing [] kind o (part T Ts) base names more before w f h k = none_some more k
+binders_nothing (Bound i ∷ bs) kind o no_part base names more before w f h k = none_some more k
+binders_nothing (Unbound at ∷ bs) kind o no_part base names more before w f h k = none_some more k
+binders_nothing (Bound i ∷ bs) kind o (part T Ts) base names more before w f h k =
     let rest = binders_free bs (before ++ i.text ∷ []) base in
     let u = then_ok (need (is_free i.text base && not (has_name i.text before)) T01 i.span) rest tt h in
     let S : Ty = part_declared kind o T in
     let e : Entry = declared kind i.text S (itself S names) in
-    let free = tested base names before i f u.first in
-    both_same more (names ++ e ∷ []) names a
-    (binders_iff bs kind o Ts base (names ++ e ∷ []) more (before ++ i.text ∷ []) a
-    (well_kept names e w (part_counts kind names i.text S free)) (fresh_declared kind base before names i.text S (itself S names) f) u.then k)
-    (part_iff kind names i.text S a w free)
-binders_iff (Unbound at ∷ bs) kind o (part T Ts) base names more before a w f h k =
-    binders_iff bs kind o Ts base names more before a w f h k
+    let first = part_nothing kind names i.text S w (tested base names before i f u.first) in
+    further names (names ++ e ∷ []) more first
+    (binders_nothing bs kind o Ts base (names ++ e ∷ []) more (before ++ i.text ∷ []) first.counted
+    (fresh_declared kind base before names i.text S (itself S names) f) u.then k)
+binders_nothing (Unbound at ∷ bs) kind o (part T Ts) base names more before w f h k =
+    binders_nothing bs kind o Ts base names more before w f h k
 
-bound_in_iff : (bs : List Binder) (kind : LocalKind) (o : Option Ty) (p : Option Parts) (names more : List Entry) (a : Integers) →
-    WellCounted names → binders_free bs [] names ≡ Ok tt → bound_in bs kind o p names ≡ Some more → Same more names a
-bound_in_iff bs kind o None names more a w h k = none_some more k
-bound_in_iff bs kind o (Some Ts) names more a w h k = binders_iff bs kind o Ts names names more [] a w (fresh_start names) h k
+bound_in_nothing : (bs : List Binder) (kind : LocalKind) (o : Option Ty) (p : Option Parts) (names more : List Entry) → WellCounted names →
+    binders_free bs [] names ≡ Ok tt → bound_in bs kind o p names ≡ Some more → AsksNothing names more
+bound_in_nothing bs kind o None names more w h k = none_some more k
+bound_in_nothing bs kind o (Some Ts) names more w h k = binders_nothing bs kind o Ts names names more [] w (fresh_start names) h k
 
 module _ (t : Tests) where
   abbrev Agreeing : LocalKind → Bind → Expr → Scope → List Entry → Integers → Type 0
   Agreeing kind b e G after a = Obeys after a ↔ (Obeys G.names a × Asks t kind b e G after a)
 
   several_asks : (kind : LocalKind) (at : Span) (bs : List Binder) (e : Expr) (G : Scope) (after : List Entry) (a : Integers) →
-      Same after G.names a → Agreeing kind (Several at bs) e G after a
-  several_asks local.Let at bs e G after a s = (λ o. (s.0 o, tt), λ p. s.1 p.0)
-  several_asks local.Var at bs e G after a s = (λ o. (s.0 o, tt), λ p. s.1 p.0)
+      AsksNothing G.names after → Agreeing kind (Several at bs) e G after a
+  several_asks local.Let at bs e G after a s = (λ o. ((s.same a).0 o, tt), λ p. (s.same a).1 p.0)
+  several_asks local.Var at bs e G after a s = (λ o. ((s.same a).0 o, tt), λ p. (s.same a).1 p.0)
 
-  unbound_asks : (kind : LocalKind) (at : Span) (e : Expr) (G : Scope) (after : List Entry) (a : Integers) → Same after G.names a →
+  unbound_asks : (kind : LocalKind) (at : Span) (e : Expr) (G : Scope) (after : List Entry) (a : Integers) → AsksNothing G.names after →
       Agreeing kind (Single (Unbound at)) e G after a
-  unbound_asks local.Let at e G after a s = (λ o. (s.0 o, tt), λ p. s.1 p.0)
-  unbound_asks local.Var at e G after a s = (λ o. (s.0 o, tt), λ p. s.1 p.0)
+  unbound_asks local.Let at e G after a s = (λ o. ((s.same a).0 o, tt), λ p. (s.same a).1 p.0)
+  unbound_asks local.Var at e G after a s = (λ o. ((s.same a).0 o, tt), λ p. (s.same a).1 p.0)
 
   bound_asks : (span : Span) (kind : LocalKind) (b : Bind) (e : Expr) (i : Initialised) (G : Scope) (d : Done) (a : Integers) →
       WellCounted G.names → bound t span kind b e i G ≡ Ok d → Agreeing kind b e G d.names a
@@ -274,7 +301,7 @@ module _ (t : Tests) where
   bound_asks span kind (Single (Unbound at)) e i G d a w h =
       subst (λ z. Agreeing kind (Single (Unbound at)) e G z a)
       (ended_names G.class span true i.value.effect G.names (tree.Declare span i.written tree.nothing i.value.tree) d h)
-      (unbound_asks kind at e G G.names a ((λ x. x), (λ x. x)))
+      (unbound_asks kind at e G G.names a (nothing_more G.names w))
   bound_asks span kind (Several at bs) e i G d a w h =
       let u = then_ok (binders_free bs [] G.names) _ d h in
       let parts = tuple_parts (written_or i.written i.value.ty) in
@@ -282,7 +309,7 @@ module _ (t : Tests) where
       let k = found_ok (bound_in bs kind i.written parts G.names) T05 span v.value v.first in
       subst (λ z. Agreeing kind (Several at bs) e G z a)
       (ended_names G.class span true i.value.effect v.value (tree.Declare span i.written (tree.in_parts (taken bs)) i.value.tree) d v.then)
-      (several_asks kind at bs e G v.value a (bound_in_iff bs kind i.written parts G.names v.value a w u.first k))
+      (several_asks kind at bs e G v.value a (bound_in_nothing bs kind i.written parts G.names v.value w u.first k))
 
   -- what a declaration asks of the integers
   pub bind_asks : (span : Span) (kind : LocalKind) (b : Bind) (ty : Option TypeExpr) (e : Expr) (G : Scope) (d : Done) →

@@ -3,6 +3,7 @@ use Rattle.asl_laws.proofs.verdict.OneVerdict.{right_tests, one_answer}
 use Rattle.asl_laws.proofs.evaluations.NeverStuck.{read_evaluates}
 use Rattle.asl_laws.proofs.evaluations.FaultCauses.{read_cause}
 use Rattle.asl_laws.proofs.evaluations.FaultCodes.{read_code}
+use Rattle.asl_laws.proofs.reading.Codes.{reading_code}
 use Rattle.asl_laws.proofs.reading.Trees.{fault_lies}
 use Rattle.asl_laws.proofs.law.law2.Goals as goal
 
@@ -20,6 +21,9 @@ returns-clause-evaluates c = read_evaluates
 
 pub returns-clause-cause : goal.returns-clause-cause
 returns-clause-cause c = read_cause
+
+pub returns-clause-reading_codes : goal.returns-clause-reading_codes
+returns-clause-reading_codes c = reading_code
 
 pub returns-clause-codes : goal.returns-clause-codes
 returns-clause-codes c = read_code

@@ -25,10 +25,10 @@ moved g c = record {
 }
 
 pub returns-clause-meets : goal.returns-clause-meets
-returns-clause-meets g c = memory_meets c.args.checked.now _ _ c.parts.ensures _ _ c.requires.callable _ _ _ _ _ c.requires.arranged c.requires.held (moved g c) _ _ c.call-answer.result c.number.result c.number.ensures c.call-answer.ensures.meets
+returns-clause-meets g c = memory_meets c.args.checked.now _ _ c.parts-parts.ensures.sealed _ _ c.requires.callable _ _ _ _ _ c.requires.arranged c.requires.held (moved g c) _ _ c.call-answer.result c.number.result c.number.ensures c.call-answer.ensures.meets
 
 pub returns-clause-arranged : goal.returns-clause-arranged
-returns-clause-arranged g c = memory_arranged c.args.checked.now _ _ c.parts.ensures _ _ c.requires.callable _ _ _ _ _ c.requires.arranged c.requires.held (moved g c) _ _ c.call-answer.result c.number.result c.number.ensures c.call-answer.ensures.meets
+returns-clause-arranged g c = memory_arranged c.args.checked.now _ _ c.parts-parts.ensures.sealed _ _ c.requires.callable _ _ _ _ _ c.requires.arranged c.requires.held (moved g c) _ _ c.call-answer.result c.number.result c.number.ensures c.call-answer.ensures.meets
 
 pub returns-clause-held : goal.returns-clause-held
-returns-clause-held g c = memory_held c.args.checked.now _ _ c.parts.ensures _ _ c.requires.callable _ _ _ _ _ c.requires.arranged c.requires.held (moved g c) _ _ c.call-answer.result c.number.result c.number.ensures c.call-answer.ensures.meets
+returns-clause-held g c = memory_held c.args.checked.now _ _ c.parts-parts.ensures.sealed _ _ c.requires.callable _ _ _ _ _ c.requires.arranged c.requires.held (moved g c) _ _ c.call-answer.result c.number.result c.number.ensures c.call-answer.ensures.meets

@@ -1,5 +1,6 @@
--- Which codes a fault of declarations has: those of the rules, from the names on.
-use Rattle.std.specs.Prelude.{◌≡◌, Some}
+-- Which codes a fault has: one that is met as files are read has those of lexemes and of syntax, and one of declarations that are
+-- read has those of the rules.
+use Rattle.std.specs.Prelude.{◌≡◌, None, Some}
 use Rattle.asl_syn.specs.declared.code.DynCode.{DynCode}
 use Rattle.asl_syn.specs.declared.code.Fault.{Fault}
 use Rattle.asl_syn.specs.declared.code.StaticCode.{StaticCode}
@@ -50,3 +51,48 @@ IsOfRules T25 = Unit {0}
 pub record HasRuleCode (f : Fault) : Type 0 where
   pub code : IsOfRules f.code
   pub inner : (code : DynCode) → f.inner ≡ Some code → f.code ≡ T04
+
+-- the code of a lexeme or of syntax
+abbrev pub IsOfReading : StaticCode → Type 0
+IsOfReading L01 = Unit {0}
+IsOfReading L02 = Unit {0}
+IsOfReading L03 = Unit {0}
+IsOfReading L04 = Unit {0}
+IsOfReading L05 = Unit {0}
+IsOfReading S01 = Unit {0}
+IsOfReading S02 = Unit {0}
+IsOfReading S03 = Unit {0}
+IsOfReading M01 = ⊥
+IsOfReading M02 = ⊥
+IsOfReading M03 = Unit {0}
+IsOfReading N01 = ⊥
+IsOfReading N02 = ⊥
+IsOfReading N03 = ⊥
+IsOfReading T01 = ⊥
+IsOfReading T02 = ⊥
+IsOfReading T03 = ⊥
+IsOfReading T04 = ⊥
+IsOfReading T05 = ⊥
+IsOfReading T06 = ⊥
+IsOfReading T07 = ⊥
+IsOfReading T08 = ⊥
+IsOfReading T09 = ⊥
+IsOfReading T10 = ⊥
+IsOfReading T11 = ⊥
+IsOfReading T12 = ⊥
+IsOfReading T13 = ⊥
+IsOfReading T14 = ⊥
+IsOfReading T15 = ⊥
+IsOfReading T16 = ⊥
+IsOfReading T17 = ⊥
+IsOfReading T18 = ⊥
+IsOfReading T19 = ⊥
+IsOfReading T20 = ⊥
+IsOfReading T21 = ⊥
+IsOfReading T23 = ⊥
+IsOfReading T24 = ⊥
+IsOfReading T25 = ⊥
+
+pub record HasReadingCode (f : Fault) : Type 0 where
+  pub code : IsOfReading f.code
+  pub inner : f.inner ≡ None
