@@ -1,13 +1,13 @@
-// Adders and shifters for every width. A name in braces behind a function's name is a parameter: the width of an argument, as
-// here, or one that the call gives. What is declared is checked once, for all widths, before anything runs.
+// Adders and shifters for every width. A name in braces after a function's name is a parameter: the width of an argument, as
+// here, or one that the call gives. A declaration is checked once, for all widths, before anything runs.
 
-// A full adder: the sum of three digits, and the digit that is carried.
+// A full adder: the sum of three bits, and the bit that is carried.
 pure func full(x: bit, y: bit, carry: bit) => (bit, bit)
 begin
   return (x XOR y XOR carry, (x AND y) OR (carry AND (x XOR y)));
 end;
 
-// N full adders in a row. `x[i]` is one digit, of a value or of a variable that is assigned to.
+// N full adders in a row. `x[i]` is one bit, of a value or of a variable that is assigned to.
 pure func rippled{N}(x: bits(N), y: bits(N), carry_in: bit) => (bits(N), bit)
 begin
   var sum: bits(N);
@@ -18,14 +18,14 @@ begin
   return (sum, carry);
 end;
 
-// The same with one addition, which has a digit more: it wraps at its own width.
+// The same with one addition that is one bit wider: addition wraps around at its own width.
 pure func added{N}(x: bits(N), y: bits(N), carry_in: bit) => (bits(N), bit)
 begin
   let wide = ('0' :: x) + ('0' :: y) + ZeroExtend{N + 1}(carry_in);
   return (wide[N - 1:0], wide[N]);
 end;
 
-// Shifts and turns by 0 to N places. The slices have the widths N - n and n, and `N - n + n` is N for all numbers.
+// Shifts and rotations by 0 to N places. The slices have the widths N - n and n, and `N - n + n` is N for all integers.
 pure func left{N}(x: bits(N), n: integer) => bits(N)
 begin
   return x[N - n - 1:0] :: Zeros{n}();
@@ -46,7 +46,7 @@ begin
   return x[n - 1:0] :: x[N - 1:n];
 end;
 
-// One shift for each digit of the number of places, the lowest first: what a barrel shifter is made of.
+// One shift for each bit of the number of places, the lowest first: this is how a barrel shifter works.
 pure func barrel{N}(x: bits(N), places: bits(3)) => bits(N)
 begin
   var value = x;
@@ -58,7 +58,7 @@ end;
 
 func main() => integer
 begin
-  // Both adders agree on all numbers of four digits.
+  // Both adders agree on all numbers of four bits.
   var count = 0;
   for i = 0 to 15 do
     for j = 0 to 15 do
@@ -71,7 +71,7 @@ begin
     end;
   end;
 
-  // The greatest number of 64 digits and one more: zeros, and a carry.
+  // The greatest number of 64 bits, plus one: zeros, and a carry.
   println(added(Ones{64}(), Zeros{64}(), '1'));
 
   let x = '1001 0110';

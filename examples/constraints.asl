@@ -1,10 +1,10 @@
-// Integers are exact, up to 128 bits. A constraint in braces says which of them a place takes: it is part of the type, and whether
-// a value fits is mostly seen before anything runs.
+// Integers are exact, up to 128 bits. A constraint in braces says which of them a variable may hold: it is part of the type, and
+// whether a value fits is mostly checked before anything runs.
 type Digit of integer{0..9};
 type Size of integer{8, 16, 32, 64};
 
 // The types of the operands say what a sum can be: 0..9 and 0..9 give 0..18, with the carry 0..19, and MOD 10 gives 0..9 again.
-// So the two results need no check when it runs.
+// So neither result needs a check during the run.
 pure func add_digits(x: Digit, y: Digit, carry: integer{0, 1}) => (Digit, integer{0..1})
 begin
   let sum = x + y + carry;
@@ -17,8 +17,8 @@ begin
   return (n DIVRM 10 ^ place) MOD 10;
 end;
 
-// The least of the four sizes that has room for a number. Where the types say too little, `as` asserts: the value is looked at
-// when it runs, and another one ends the run with D07. Without `as` this return is refused (T07): the power may be any integer.
+// The smallest of the four sizes that can hold a number. If the types say too little, `as` asserts the rest: the value is checked
+// during the run, and any other value is D07. Without `as` this return is refused (T07), because the power may be any integer.
 pure func size_for(n: integer) => Size
 begin
   for k = 3 to 5 do
@@ -27,7 +27,7 @@ begin
   return 64;
 end;
 
-// Ends of a constraint can be parameters: an index below the width can't lie outside, for any width.
+// The ends of a constraint can be parameters: an index below the width is inside, for any width.
 pure func with_bit{N}(x: bits(N), place: integer{0..N - 1}) => bits(N)
 begin
   var value = x;
@@ -37,7 +37,7 @@ end;
 
 func main() => integer
 begin
-  // A variable without a type takes every integer; one with a type starts at 0, or at the first of its numbers.
+  // A variable without a type may hold any integer. One with a type starts at 0, or else at its first number.
   var number = 7;
   number = number * 1000000;
   var size: Size;
@@ -55,7 +55,7 @@ begin
   println(size, " ", size_for(65536), " ", size_for(2 ^ 40));
   println(with_bit('0000', 3), " ", with_bit('00', 0));
 
-  // A conversion that doesn't hold ends the run, at its place.
+  // A conversion that fails ends the run, with a fault at the conversion.
   let millions = number DIVRM 1000000;
   return (millions as {1..32}) + (size as {8, 64});
 end;

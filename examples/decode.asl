@@ -12,14 +12,14 @@ begin
   return (wide[N - 1:0], wide[N]);
 end;
 
-// The value turned to the right by some places: two slices, whose widths are k and N - k.
+// The value rotated to the right: two slices, whose widths are k and N - k.
 pure func rotated{N}(x: bits(N), amount: integer) => bits(N)
 begin
   let k = amount MOD N;
   return x[k - 1:0] :: x[N - 1:k];
 end;
 
-// Decodes and executes a word. A digit in parentheses should be as it stands there, and isn't looked at.
+// Decodes and executes a word. A digit in parentheses says what the bit should be, but isn't compared.
 func execute(word: bits(32))
 begin
   let fields = word as Instruction;
@@ -50,8 +50,8 @@ begin
   text[[1]] = '0001 01 00 00 0 00000 0000 0000 0000 0101'; // R1 = 5
   text[[2]] = '0100 10 00 01 0 00000 0000 0000 0000 0000'; // R2 = R0 + R1, with a carry out
   text[[3]] = '0101 11 10 10 0 00000 0000 0000 0000 0000'; // R3 = R2 + R2 + carry
-  text[[4]] = '0111 01 11 00 0 00100 0000 0000 0000 0000'; // R1 = R3, turned to the left by 4
-  text[[5]] = '0110 01 01 00 0 00000 0000 0000 0000 0000'; // no instruction: it turns by 0
+  text[[4]] = '0111 01 11 00 0 00100 0000 0000 0000 0000'; // R1 = R3, rotated to the left by 4
+  text[[5]] = '0110 01 01 00 0 00000 0000 0000 0000 0000'; // not an instruction: it rotates by 0
   var count = 0;
   try
     for i = 0 to 5 do

@@ -1,5 +1,5 @@
-// What a subprogram may do to the global variables stands in front of `func`, and is checked before anything runs: a `pure` one
-// neither reads nor writes them, a `readonly` one reads them, and any other may do all: write them, print and throw.
+// The word before `func` says what a subprogram may do to the global variables, and is checked before anything runs: a `pure` one
+// neither reads nor writes them, a `readonly` one may read them, and any other may also write them, print and throw.
 var ticket: integer = 100;
 var served: array [[3]] of integer;
 constant FIRST = 100;
@@ -15,7 +15,7 @@ begin
   return ticket - FIRST - served[[0]] - served[[1]] - served[[2]];
 end;
 
-// Gives the next number, so it writes: `readonly` in front of it would be refused (T12, at the assignment).
+// Returns the next number, and so it writes: with `readonly` it would be refused (T12, at the assignment).
 func next_ticket() => integer
 begin
   ticket = ticket + 1;
@@ -30,16 +30,16 @@ end;
 
 func main() => integer
 begin
-  // Operands are evaluated from left to right, but no expression depends on it: where one of its operands writes, the others must
-  // be pure, so `next_ticket() - next_ticket()` and `next_ticket() + waiting()` are refused (T13). One after another is fine.
+  // Operands are evaluated from left to right, but no expression depends on that: if one operand writes, the others must be pure.
+  // So `next_ticket() - next_ticket()` and `next_ticket() + waiting()` are refused (T13). One after another is fine.
   let first = next_ticket();
   let second = next_ticket();
   let third = next_ticket() + place(first);
 
-  // Two operands that read can stand together.
+  // Two operands of one expression may both read.
   println(first, " ", second, " ", third, ": ", waiting() + ticket);
 
-  // What is asserted can read and can't write; what bounds a loop is pure.
+  // The condition of an assertion may read but not write; the limit of a loop is pure.
   serve(first);
   assert waiting() == 2;
   for i = place(second) to place(third) do

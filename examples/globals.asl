@@ -1,4 +1,4 @@
-// Global variables, a branch and printed text. Behind the line of the run's end stands a line for each global variable.
+// Global variables, a branch and printed text. After the line that says how the run ended comes a line for each global variable.
 var count: integer = 2;
 var is_even: boolean;
 

@@ -1,13 +1,13 @@
-// Subprograms that call themselves. At most 256 calls of one subprogram are live at a time, or as many as its `recurselimit` says:
-// a call past that ends the run with D11, and so no recursion goes on for ever.
+// Subprograms that call themselves. At most 256 calls of one subprogram are live at a time, or as many as its `recurselimit` says.
+// One more call ends the run with D11, so no recursion goes on for ever.
 
-// The greatest common divisor. No two numbers below 2^127 need more calls than 200.
+// The greatest common divisor. No two numbers below 2^127 need more than 200 calls.
 pure func gcd(a: integer, b: integer) => integer recurselimit 200
 begin
   return if b == 0 then a else gcd(b, a MOD b);
 end;
 
-// Two that call each other; each has a limit of its own.
+// Two functions that call each other; each has a limit of its own.
 pure func is_even(n: integer) => boolean recurselimit 51
 begin
   return n == 0 || is_odd(n - 1);
@@ -30,7 +30,7 @@ begin
   move_tower(discs - 1, spare, goal, start);
 end;
 
-// The digits of a value, turned round, by halves: each call has a width of its own.
+// The bits of a value in reverse order, by halves: each call has a width of its own.
 pure func reversed{N}(x: bits(N)) => bits(N)
 begin
   let half = N DIVRM 2;

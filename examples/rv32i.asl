@@ -1,15 +1,15 @@
 // RV32I, the base integer instruction set of RISC-V: its 40 instructions over 32 registers and a memory of 256 bytes.
 //
-// `asl exec` calls `decode`, at the end of this file, for each word of a list. At first a word is executed at once, as the one
-// that stands at PC, so such a list is a trace: the words in the order in which they are fetched. Two words that RISC-V leaves
-// to its users (the opcode custom-0) make a computer of it:
+// `asl exec` calls `decode`, at the end of this file, for each word of a list. At first a word is executed at once, as if it were
+// at PC, so such a list is a trace: the words in the order in which they are fetched. Two words that RISC-V leaves to its users
+// (the opcode custom-0) make a computer of it:
 //
-//   0000000b   the words behind this one go to memory, from address 0 on
-//   0000100b   runs what stands in memory, from address 0 to ECALL or another trap
+//   0000000b   the words after this one go to memory, from address 0 on
+//   0000100b   runs what is in memory, from address 0 to ECALL or another trap
 //
 // The lists in rv32i/ are made from the assembly beside them by rv32i/assemble.
 
-// A type of bits with names for some of them. Fields may overlap, and more slices can be taken beside them.
+// A type of bits with names for some of them. Fields may overlap, and other slices can be taken too.
 type Instruction of bits(32) {[6:0] opcode, [11:7] rd, [14:12] funct3, [19:15] rs1, [24:20] rs2, [31:25] funct7};
 
 // What can go wrong, one type for each cause. `subtypes` makes each of them a Trap too, so that a handler can catch one or all.
@@ -31,7 +31,7 @@ constant BYTES = 256;
 constant LOAD = '0000000 00000 00000 000 00000 0001011';
 constant RUN = '0000000 00000 00000 001 00000 0001011';
 
-// The state. All of it is zeros at first, and `stepping`, the first label.
+// The state. At first all of it is zeros, and the mode is `stepping`, the first label.
 var X: array [[32]] of bits(32);
 var PC: bits(32);
 var memory: array [[BYTES]] of bits(8);
@@ -49,7 +49,7 @@ begin
   return if holds then Zeros{31}() :: '1' else Zeros{32}();
 end;
 
-// x0 is never written, and so reads as zero. A single step says what it changes.
+// x0 is never written, and so reads as zero. A single step prints what it changes.
 func write(rd: bits(5), value: bits(32))
 begin
   if rd != '00000' then
@@ -98,7 +98,7 @@ begin
   return address;
 end;
 
-// Where the word behind a branch is fetched.
+// The address of the word after a branch.
 func branch(word: Instruction, taken: boolean) => bits(32)
 begin
   if taken then
@@ -108,8 +108,8 @@ begin
   end;
 end;
 
-// Executes a word. An `x` in a mask stands for any digit; spaces are for the eye. The first alternative that matches is taken.
-// A shift by n takes a slice whose width hangs on n, and extends it: that both sides of `=>` have 32 bits is checked for all n.
+// Executes a word. An `x` in a mask matches either digit; spaces don't count. The first alternative that matches is taken. A shift
+// by n takes a slice whose width depends on n, and extends it: that the result has 32 bits is checked for all n.
 func execute(word: Instruction)
 begin
   let left = X[[UInt(word.rs1)]];
@@ -191,7 +191,7 @@ begin
   PC = next;
 end;
 
-// Executes what stands in memory. Only a trap ends it, or the limit of the loop.
+// Executes what is in memory, until a trap or the limit of the loop.
 func run()
 begin
   PC = Zeros{32}();
@@ -201,7 +201,7 @@ begin
   end;
 end;
 
-// What the computer does with a word. A trap has changed no register and no memory; whoever handles it goes on behind the word.
+// What the computer does with a word. A trap changes no register and no memory; whoever handles it goes on after the word.
 func decode(word: bits(32))
 begin
   try

@@ -4,7 +4,7 @@
 //   31   28 27   24 23 22   20 19 18   16 15                  0
 //   condition  code  s  d        r  n       operand
 //
-// s: the flags are set. r: the operand is a register, and its number stands in the lowest three bits.
+// s: the flags are set. r: the operand is a register, whose number is in the lowest three bits.
 type Instruction of bits(32) {[31:28] condition, [27:24] code, [23] s, [22:20] d, [19] r, [18:16] n, [15:0] operand};
 
 type Operation of enumeration {
@@ -26,8 +26,8 @@ var memory: array [[8]] of bits(16);
 var flags: Flags;
 var count: integer;
 
-// The table of the operations. Each code of four bits stands in it, so it needs no `otherwise`: a code that no alternative matches
-// would end the run with D09.
+// The table of operations. It has every code of four bits, so it needs no `otherwise`: a code that no alternative matches would
+// end the run with D09.
 pure func operation_of(code: bits(4)) => Operation
 begin
   case code of
@@ -50,7 +50,7 @@ begin
   end;
 end;
 
-// Whether the flags are as a condition wants. Its lowest bit turns the answer round, but for 1111, which always holds as 1110 does.
+// Whether the flags satisfy a condition. Its lowest bit inverts the answer, except that 1111 always holds, as 1110 does.
 pure func holds(condition: bits(4), it: Flags) => boolean
 begin
   var answer: boolean;
@@ -80,7 +80,7 @@ begin
   return (result, it);
 end;
 
-// The cell of an address.
+// The cell at an address.
 func cell(base: bits(16), offset: bits(16)) => integer{0..7}
 begin
   let at = UInt(base) + UInt(offset);
@@ -141,8 +141,8 @@ begin
   println(operation, ": R", d, " = ", SInt(result), ", flags ", flags);
 end;
 
-// The first catcher whose type fits is taken: so the special one stands before the general one. A trap with the number 0 is
-// thrown again, and since nothing else catches it, it ends the whole list.
+// The first catcher whose type fits is taken, so the special one comes before the general one. A trap with the number 0 is thrown
+// again, and since nothing else catches it, it ends the whole list.
 func decode(word: bits(32))
 begin
   count = count + 1;
