@@ -1,6 +1,6 @@
 -- What a run finds by names and by values at a node is what the typed tree of the node has: the subprogram that is called, with the values of its parameters; the
 -- place of a field; the bitfields that a view has under their names; and the places of the values that a construction gives to its fields.
-use Rattle.std.specs.Prelude.{◌≡◌, ℕ, zero, suc, true, false, ◌⊎◌, List, [], ◌∷◌, Some, None, slice_get}
+use Rattle.std.specs.Prelude.{◌≡◌, ℕ, zero, suc, true, false, ◌⊎◌, List, [], ◌∷◌, Some, None, slice_get, ℤ, ◌++◌}
 use Rattle.std.specs.Str.{bytes_eq}
 use Rattle.asl_syn.specs.declared.token.Span.{Span}
 use Rattle.asl_syn.specs.declared.tree.Decl.{Decl}
@@ -16,16 +16,24 @@ use Rattle.asl_rules.specs.types.Numbers.{outside}
 use Rattle.asl_rules.specs.declarations.Routines.{routine_named}
 use Rattle.asl_rules.specs.declarations.Programs.{funcs_of, environment}
 use Rattle.asl_rules.specs.runs.Trees as tree
-use Rattle.asl_rules.specs.runs.Trees.{Note, Tree, Trees, Callee, own, of_library, Shell, FieldGiven, Act}
+use Rattle.asl_rules.specs.runs.Trees.{Note, Tree, Trees, Callee, own, of_library, Shell, FieldGiven, Act, TreeStep, into_field, into_bitfield, into_bitfields, into_slices, into_element, TreePlace}
 use Rattle.asl_rules.specs.values.Values.{Value, FieldValues, int, bool, bits_with, label, record_with, exception_with, tuple_with, array_with, no_value_of, value_of_field}
-use Rattle.asl_rules.specs.values.Vectors.{view_of, named_among, bitfields_named}
-use Rattle.asl_rules.specs.values.Structures.{constructed}
+use Rattle.asl_rules.specs.values.Vectors.{view_of, named_among, bitfields_named, bits_at, Places}
+use Rattle.asl_rules.specs.values.Structures.{constructed, field_of, element_of}
 use Rattle.asl_rules.specs.runs.States.{Core}
 use Rattle.asl_rules.specs.runs.Plans.{Meter, Outcome, Done, Thrown, Halt, Ret, Good, run}
 use Rattle.asl_rules.specs.runs.Forms.{eval_all}
-use Rattle.asl_rules.specs.runs.Evaluation.{Does, meaning, overload, params_of, types_of}
+use Rattle.asl_rules.specs.runs.Evaluation.{Does, meaning, overload, params_of, types_of, held}
 use Rattle.asl_rules.specs.private.ByPlace as places
 use Rattle.asl_rules.specs.private.TypedMeaning as bare
+use Rattle.asl_syn.specs.declared.tree.Ident.{Ident}
+use Rattle.asl_syn.specs.declared.tree.Suffix.{Suffix}
+use Rattle.asl_syn.specs.declared.tree.Suffix.TheVariants.{FieldOf, FieldsOf, SlicesOf, ElementOf}
+use Rattle.asl_syn.specs.declared.tree.PlacedSuffix.{PlacedSuffix}
+use Rattle.asl_syn.specs.declared.tree.Target.{Target, fold-Target}
+use Rattle.asl_syn.specs.declared.tree.Target.TheOpen as tg
+use Rattle.asl_rules.specs.types.Shapes.{SliceShape}
+use Rattle.asl_rules.specs.private.Erasure.{erased}
 
 -- ---- when it is found
 
@@ -94,6 +102,50 @@ abbrev pub GivenByName : List (List ℕ) → List FieldGiven → Type 0
 GivenByName names [] = Unit {0}
 GivenByName names (g ∷ gs) = (slice_get names g.place ≡ Some g.name) × GivenByName names gs
 
+-- ---- places of assignments
+
+-- behind a suffix of a target, for a value that the part before it may have: the tree's step, with the place of the field, or with the bitfields that the view has
+-- under their names; and so behind the next suffix, for what the value has there
+abbrev pub SuffixFinds : Suffix → List TreeStep → Value → (List TreeStep → Value → Type 0) → Type 0
+SuffixFinds (FieldOf f) ss x next =
+    ((at : Span) × (k : ℕ) × (more : List TreeStep) × (ss ≡ into_field at k ∷ more) × HasFieldAt f.text k x × ((y : Value) → field_of at f.text x ≡ Good y → next more y))
+    ⊎ ((at : Span) × (b : BitField) × (more : List TreeStep) × (ss ≡ into_bitfield at b ∷ more) × HasBitfield f.text b x × ((ps : List Places) (y : Value) → bits_at at ps x ≡ Good y → next more y))
+SuffixFinds (FieldsOf is) ss x next =
+    (at : Span) × (fs : List BitField) × (more : List TreeStep) × (ss ≡ into_bitfields at fs ∷ more) × (bitfields_named at is x ≡ Good fs) × ((ps : List Places) (y : Value) → bits_at at ps x ≡ Good y → next more y)
+SuffixFinds (SlicesOf sl) ss x next =
+    (at : Span) × (shapes : List SliceShape) × (es : Trees) × (more : List TreeStep) × (ss ≡ into_slices at shapes es ∷ more) × ((ps : List Places) (y : Value) → bits_at at ps x ≡ Good y → next more y)
+SuffixFinds (ElementOf e) ss x next =
+    (at : Span) × (a : Tree) × (more : List TreeStep) × (ss ≡ into_element at a ∷ more) × ((z : ℤ) (y : Value) → element_of at x (int z) ≡ Good y → next more y)
+
+abbrev pub SuffixesFind : List PlacedSuffix → List TreeStep → Value → Type 0
+SuffixesFind [] ss x = ss ≡ []
+SuffixesFind (p ∷ ps) ss x = SuffixFinds p.suffix ss x (SuffixesFind ps)
+
+-- the places of a target from left to right, each a name with its suffixes
+abbrev pub NamedPlaces : Type 0
+NamedPlaces = List (Ident × List PlacedSuffix)
+
+abbrev pub all_named : List NamedPlaces → NamedPlaces
+all_named [] = []
+all_named (ps ∷ pss) = ps ++ all_named pss
+
+abbrev pub named_layer : tg.Target-F NamedPlaces → NamedPlaces
+named_layer (tg.Discarded at) = []
+named_layer (tg.Place at i xs) = (i, xs) ∷ []
+named_layer (tg.Targets at ts) = all_named ts
+
+abbrev pub named_places : Target → NamedPlaces
+named_places = fold-Target NamedPlaces named_layer
+
+-- in each such state the tree's place holds the value of the name, and its steps are what is found in it
+abbrev pub PlaceFinds : (Core → Type 0) → Ident × List PlacedSuffix → TreePlace → Type 0
+PlaceFinds P q p = (c : Core) (x : Value) → P c → held (q.0).span (q.0).text c ≡ Good x → (bare.value_at p.slot (erased c) ≡ Some x) × SuffixesFind q.1 p.steps x
+
+abbrev pub PlacesFind : (Core → Type 0) → NamedPlaces → List TreePlace → Type 0
+PlacesFind P [] ps = ps ≡ []
+PlacesFind P (q ∷ qs) [] = ⊥
+PlacesFind P (q ∷ qs) (p ∷ ps) = PlaceFinds P q p × PlacesFind P qs ps
+
 -- ---- all forms
 
 abbrev pub ExprChosen : Tests → List Decl → ExprLayer → Tree → Core → Type 0
@@ -119,21 +171,22 @@ ExprChosen t ds (ex.Element span e f) a c = Unit {0}
 ExprChosen t ds (ex.As span e ty) a c = Unit {0}
 ExprChosen t ds (ex.In span e p) a c = Unit {0}
 
-abbrev pub StmtChosen : Tests → List Decl → StmtLayer → Act → Core → Type 0
-StmtChosen t ds (st.Pass span) a c = Unit {0}
-StmtChosen t ds (st.Unreachable span) a c = Unit {0}
-StmtChosen t ds (st.Assert span e) a c = Unit {0}
-StmtChosen t ds (st.Local span kind b ty e) a c = Unit {0}
-StmtChosen t ds (st.LocalVars span is ty) a c = Unit {0}
-StmtChosen t ds (st.Assign span x e) a c = Unit {0}
-StmtChosen t ds (st.Invoke span i ps es) a c =
+-- of a statement; what an assignment finds is said for each of the states that agree with its scope
+abbrev pub StmtChosen : Tests → List Decl → (Core → Type 0) → StmtLayer → Act → Core → Type 0
+StmtChosen t ds P (st.Pass span) a c = Unit {0}
+StmtChosen t ds P (st.Unreachable span) a c = Unit {0}
+StmtChosen t ds P (st.Assert span e) a c = Unit {0}
+StmtChosen t ds P (st.Local span kind b ty e) a c = Unit {0}
+StmtChosen t ds P (st.LocalVars span is ty) a c = Unit {0}
+StmtChosen t ds P (st.Assign span x e) a c = (at : Span) × (ps : List TreePlace) × (b : Tree) × (a ≡ tree.Assign at ps b) × PlacesFind P (named_places x) ps
+StmtChosen t ds P (st.Invoke span i ps es) a c =
     (at : Span) × (f : Callee) × (widths : List ℕ) × (ts : Trees) × (us : Trees) × (a ≡ tree.Invoke at f widths ts us) × CallFinds t ds span i.text ps es f widths c
-StmtChosen t ds (st.If span e ss es last) a c = Unit {0}
-StmtChosen t ds (st.Case span e alts last) a c = Unit {0}
-StmtChosen t ds (st.For span i e d f limit ss) a c = Unit {0}
-StmtChosen t ds (st.While span e limit ss) a c = Unit {0}
-StmtChosen t ds (st.Repeat span ss e limit) a c = Unit {0}
-StmtChosen t ds (st.Return span e) a c = Unit {0}
-StmtChosen t ds (st.Throw span e) a c = Unit {0}
-StmtChosen t ds (st.Try span ss cs last) a c = Unit {0}
-StmtChosen t ds (st.Print span kind is) a c = Unit {0}
+StmtChosen t ds P (st.If span e ss es last) a c = Unit {0}
+StmtChosen t ds P (st.Case span e alts last) a c = Unit {0}
+StmtChosen t ds P (st.For span i e d f limit ss) a c = Unit {0}
+StmtChosen t ds P (st.While span e limit ss) a c = Unit {0}
+StmtChosen t ds P (st.Repeat span ss e limit) a c = Unit {0}
+StmtChosen t ds P (st.Return span e) a c = Unit {0}
+StmtChosen t ds P (st.Throw span e) a c = Unit {0}
+StmtChosen t ds P (st.Try span ss cs last) a c = Unit {0}
+StmtChosen t ds P (st.Print span kind is) a c = Unit {0}

@@ -58,7 +58,7 @@ pub record StmtSame (t : Tests) (ds : List Decl) (a : Accepted) (s : Stmt) (c : 
   pub judged : found_stmt t s body ≡ Ok done
   pub agrees : Agrees a.names body.scope.names present c
   pub same : ActDoes t ds a s done.act c
-  pub chosen : StmtChosen t ds (out-Stmt s) done.act c
+  pub chosen : StmtChosen t ds (Agrees a.names body.scope.names present) (out-Stmt s) done.act c
 
 abbrev pub NodeSame : Tests → List Decl → Accepted → Entered Expr Stmt → Core → Type 0
 NodeSame t ds a (AtExpr e) c = ExprSame t ds a e c

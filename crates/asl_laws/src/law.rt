@@ -167,9 +167,10 @@ pub fn run_law()
 
 /// Each node that a call visits, an expression or a statement, was judged, with the program's own subprograms and in the body of the one
 /// that was called last, in a scope with which the state agrees. The typed tree of that judgement does, in the state without names and
-/// types, what the node does in the state, whatever number of nodes may be open and whatever the meter is; and it has what the run finds:
-/// the subprogram that a call finds by the values of its arguments, with the values of its parameters; the place of a field and the
-/// bitfields that a view has under their names; and the fields that a construction gives values to (`same`).
+/// types, what the node does in the state, whatever number of nodes may be open and whatever the meter is; and it has what the run finds
+/// by names and by values: the subprogram that a call finds by the values of its arguments, with the values of its parameters; the place
+/// of a field, and the bitfields that a view has under their names, where they are read and where they are stored; the place of a name
+/// that is assigned; and the values that a construction gives to its fields (`same`).
 #[tactic(auto)]
 pub fn visit_law()
     ensures same { (limit : ℕ) (e : Entry) (files : List File) (ds : List Decl) (a : Accepted) → ReadsAt limit files (Ok ds) → (p : ProgramOk limit e ds a) → (id : ℕ) (args : List Value) (globals : List Binding) (h : Meter) → IsCall a id args globals → AllSame p.tests ds a (visits_of (environment p.tests ds) id args globals h) }

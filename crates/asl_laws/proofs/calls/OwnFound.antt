@@ -26,7 +26,7 @@ use Rattle.asl_rules.specs.declarations.Declarations.{names_of_program}
 use Rattle.asl_rules.specs.declarations.Programs.{funcs_of, Head, signatures_rule, signatures, bodies_rule, environment}
 use Rattle.asl_rules.specs.values.Values.{Value}
 use Rattle.asl_rules.specs.runs.States.{Core}
-use Rattle.asl_rules.specs.private.Agreement.{types_in}
+use Rattle.asl_rules.specs.private.Agreement.{types_in, Agrees}
 use Rattle.asl_rules.specs.runs.Plans.{Outcome, Done, Thrown, Halt, Ret, run}
 use Rattle.asl_rules.specs.runs.Forms.{eval_all}
 use Rattle.asl_rules.specs.runs.Evaluation.{meaning}
@@ -159,7 +159,7 @@ module _ (tests : Tests) (right : IsRight tests) (ds : List Decl) (loose : Bool)
         by_routine H S span i ps es b.value (routine_named i.text) c refl (g.first ∙ n.then) b.then a
 
     by_procedure : (j : StmtClaim) (span : Span) (i : Ident) (ps es : List Expr) (os : List Operand) (c : Core) (o : Option Routine) (p : Called) → routine_named i.text ≡ o → operands (map (found tests) es) j.body.scope ≡ Ok os → procedure_of tests span i (map (found tests) ps) os j.body.scope o ≡ Ok p → invoked span p j.body.scope.names ≡ j.done →
-        At tests base subs loose (here tests right ds base subs loose trees w j) c → StmtChosen tests ds (st.Invoke span i ps es) j.done.act c
+        At tests base subs loose (here tests right ds base subs loose trees w j) c → StmtChosen tests ds (Agrees base j.body.scope.names j.present) (st.Invoke span i ps es) j.done.act c
     by_procedure j span i ps es os c (Some r) p name ops h e a = err_ok _ p (then_ok (routine_taken span r os) _ p h).then
     by_procedure j span i ps es os c None p name ops h e a =
         let G = j.body.scope in
@@ -181,7 +181,7 @@ module _ (tests : Tests) (right : IsRight tests) (ds : List Decl) (loose : Bool)
           call_finds (here tests right ds base subs loose trees w j) span i ps es os c f.value r.value name ops (found_ok (choose i.text (types_of os) G.subs) T09 span f.value f.first) r.first a,
         )
 
-    pub procedure_finds : (j : StmtClaim) (span : Span) (i : Ident) (ps es : List Expr) (c : Core) → invoke_rule tests span i ps es j.body.scope ≡ Ok j.done → At tests base subs loose (here tests right ds base subs loose trees w j) c → StmtChosen tests ds (st.Invoke span i ps es) j.done.act c
+    pub procedure_finds : (j : StmtClaim) (span : Span) (i : Ident) (ps es : List Expr) (c : Core) → invoke_rule tests span i ps es j.body.scope ≡ Ok j.done → At tests base subs loose (here tests right ds base subs loose trees w j) c → StmtChosen tests ds (Agrees base j.body.scope.names j.present) (st.Invoke span i ps es) j.done.act c
     procedure_finds j span i ps es c h a =
         let G = j.body.scope in
         let p = bind_ok (procedure_rule tests span i (map (found tests) ps) (map (found tests) es) G) _ j.done h in

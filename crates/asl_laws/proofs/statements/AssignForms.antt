@@ -55,7 +55,7 @@ module _ (tests : Tests) (right : IsRight tests) (ds : List Decl) (base : List E
   member_leads H T span f m t e U ss ps n = field_step (env tests right ds base subs loose funcs w) (well_declared base w) H.present tests right T U span f.text m ss ps t.shaped e n
 
   -- the type behind a suffix is well formed
-  suffix_formed : (G : Scope) (y : TypedSuffix) (T : Ty) (b : Behind) → WellFormed (types_in base) T → behind_suffix y T G ≡ Ok b → WellFormed (types_in base) b.ty
+  pub suffix_formed : (G : Scope) (y : TypedSuffix) (T : Ty) (b : Behind) → WellFormed (types_in base) T → behind_suffix y T G ≡ Ok b → WellFormed (types_in base) b.ty
   suffix_formed G (by_field at f) T b t h =
       let m = bind_ok (member_named f T) _ b h in
       subst (λ (z : Behind). WellFormed (types_in base) z.ty) (ok_ok (behind (member_type m.value) (member_step at m.value)) b m.then) (member_formed tests right (types_in base) (well_declared base w) T f.text m.value t.shaped (member_ok f T m.value m.first))

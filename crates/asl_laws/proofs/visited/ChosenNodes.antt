@@ -19,7 +19,7 @@ use Rattle.asl_rules.specs.declarations.Scopes.{Entry, Signature}
 use Rattle.asl_rules.specs.declarations.Declarations.{names_of_program}
 use Rattle.asl_rules.specs.declarations.Programs.{funcs_of, Head, signatures_rule, signatures, bodies_rule, environment}
 use Rattle.asl_rules.specs.private.Belonging.{InType}
-use Rattle.asl_rules.specs.private.Agreement.{types_in}
+use Rattle.asl_rules.specs.private.Agreement.{types_in, Agrees}
 use Rattle.asl_rules.specs.private.TypedMeaning.{tree_meaning}
 use Rattle.asl_rules.specs.private.ByPlace as places
 use Rattle.asl_rules.specs.private.Erasure.{erased}
@@ -59,6 +59,7 @@ use Rattle.asl_rules.specs.values.Vectors.{bitfields_named as named_in_value}
 use Rattle.std.specs.Prelude.{nat_le}
 use Rattle.asl_syn.specs.declared.tree.Alternative.TheFolds.{fold_out-Stmt}
 use Rattle.asl_rules.specs.statements.Branches.{FoundAlternative, FoundCatcher, FoundBranch}
+use Rattle.asl_laws.proofs.visited.ChosenPlaces.{assign_finds}
 
 -- what is so of each value of a type is so of what an expression of the type gave
 typed_gave : (base names : List Entry) (a : _) (T : Ty) (P : Value → Type 0) (r : Outcome Core Value) → ((x : Value) → InType (types_in base) a x T → P x) → GivesType base names a T r → Gave (λ x c. P x) r
@@ -162,13 +163,13 @@ module _ (tests : Tests) (right : IsRight tests) (ds : List Decl) (loose : Bool)
     pub expr_chosen : (H : Here) (S : Typed) (e : Expr) (c : Core) → typed tests e H.scope ≡ Ok S → At tests base subs loose H c → ExprChosen tests ds (out-Expr e) S.tree c
     expr_chosen H S e c h a = layer_chosen H S (out-Expr e) c (sym (ap (λ (f : Found). f.typed H.scope) (unrolled tests e)) ∙ h) a
 
-    stmt_layer_chosen : (j : StmtClaim) (layer : StmtLayer) (c : Core) → stmt_layer_rule tests (stmt_opened tests layer) j.body ≡ Ok j.done → At tests base subs loose (here tests right ds base subs loose trees w j) c → StmtChosen tests ds layer j.done.act c
+    stmt_layer_chosen : (j : StmtClaim) (layer : StmtLayer) (c : Core) → stmt_layer_rule tests (stmt_opened tests layer) j.body ≡ Ok j.done → At tests base subs loose (here tests right ds base subs loose trees w j) c → StmtChosen tests ds (Agrees base j.body.scope.names j.present) layer j.done.act c
     stmt_layer_chosen j (st.Pass span) c h a = tt
     stmt_layer_chosen j (st.Unreachable span) c h a = tt
     stmt_layer_chosen j (st.Assert span e) c h a = tt
     stmt_layer_chosen j (st.Local span kind b ty e) c h a = tt
     stmt_layer_chosen j (st.LocalVars span is ty) c h a = tt
-    stmt_layer_chosen j (st.Assign span x e) c h a = tt
+    stmt_layer_chosen j (st.Assign span x e) c h a = assign_finds tests right ds base subs loose trees w j.present j.body.scope span x e j.done c h
     stmt_layer_chosen j (st.Invoke span i ps es) c h a = procedure_finds tests right ds loose heads trees w s heads_are bodies (all_meet tests right ds base subs loose trees w s o q) j span i ps es c h a
     stmt_layer_chosen j (st.If span e ss es last) c h a = tt
     stmt_layer_chosen j (st.Case span e alts last) c h a = tt
@@ -180,7 +181,7 @@ module _ (tests : Tests) (right : IsRight tests) (ds : List Decl) (loose : Bool)
     stmt_layer_chosen j (st.Try span ss cs last) c h a = tt
     stmt_layer_chosen j (st.Print span kind is) c h a = tt
 
-    pub stmt_chosen : (j : StmtClaim) (x : Stmt) (c : Core) → found_stmt tests x j.body ≡ Ok j.done → At tests base subs loose (here tests right ds base subs loose trees w j) c → StmtChosen tests ds (out-Stmt x) j.done.act c
+    pub stmt_chosen : (j : StmtClaim) (x : Stmt) (c : Core) → found_stmt tests x j.body ≡ Ok j.done → At tests base subs loose (here tests right ds base subs loose trees w j) c → StmtChosen tests ds (Agrees base j.body.scope.names j.present) (out-Stmt x) j.done.act c
     stmt_chosen j x c h a =
         let u : found_stmt tests x ≡ stmt_layer_rule tests (stmt_opened tests (out-Stmt x)) = fold_out-Stmt FoundAlternative FoundCatcher FoundBranch FoundOtherwise FoundStmt alternative_found catcher_found branch_found otherwise_found (stmt_layer_rule tests) x in
         stmt_layer_chosen j (out-Stmt x) c (sym (ap (λ (f : FoundStmt). f j.body) u) ∙ h) a

@@ -60,7 +60,7 @@ module _ (tests : Tests) (right : IsRight tests) (ds : List Decl) (asked : Enter
   ExprsFind = (H : Here) (S : Typed) (e : Expr) (c : Core) → typed tests e H.scope ≡ Ok S → At tests base subs true H c → ExprChosen tests ds (out-Expr e) S.tree c
 
   abbrev StmtsFind : Type 0
-  StmtsFind = (j : StmtClaim) (x : Stmt) (c : Core) → found_stmt tests x j.body ≡ Ok j.done → At tests base subs true (record { scope = j.body.scope; present = j.present; around = j.around }) c → StmtChosen tests ds (out-Stmt x) j.done.act c
+  StmtsFind = (j : StmtClaim) (x : Stmt) (c : Core) → found_stmt tests x j.body ≡ Ok j.done → At tests base subs true (record { scope = j.body.scope; present = j.present; around = j.around }) c → StmtChosen tests ds (Agrees base j.body.scope.names j.present) (out-Stmt x) j.done.act c
 
   module _ (o : (loose : Bool) → Others tests right ds base subs loose funcs w s) (q : (loose : Bool) → OtherStmts tests right ds base subs loose funcs w) (find : ExprsFind) (find_stmt : StmtsFind) where
     anywhere : (H : Here) (c : Core) → Agrees base H.scope.names H.present c → H.scope.subs ≡ subs → around_of c ≡ H.around → At tests base subs true H c
