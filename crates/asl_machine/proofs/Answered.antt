@@ -6,7 +6,7 @@ use Rattle.asl_machine.specs.declared.stage.RunRefused.{RunRefused}
 use Rattle.asl_machine.specs.declared.stage.Stage.{Stage}
 use Rattle.asl_machine.specs.declared.stage.Stage.TheVariants as stage
 
-on_ready : (s : Stage) (P : Type 0) → P → OnReady s P
+pub on_ready : (s : Stage) (P : Type 0) → P → OnReady s P
 on_ready (stage.Ready x) P p = p
 on_ready (stage.Uncaught x) P p = tt
 on_ready (stage.Fault code span) P p = tt

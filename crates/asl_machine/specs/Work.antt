@@ -70,6 +70,10 @@ abbrev pub names_of_vars : List Binding → List (List ℕ)
 names_of_vars [] = []
 names_of_vars (b ∷ bs) = if b.is_mutable then b.name ∷ names_of_vars bs else names_of_vars bs
 
+-- there is one for each global variable of the program, in source order
+abbrev pub AreNamed : Sealed → List GlobalVar → Type 0
+AreNamed c vars = (t : Tests) → Suits t → map (λ (v : GlobalVar). v.name) vars ≡ names_of_vars (initial_of t c)
+
 -- the marks, the values and the variables are those of such bindings
 pub record IsOf (init : List Binding) (marks : List Bool) (values : List Value) (vars : List GlobalVar) : Type 0 where
   pub marks_are : marks ≡ map (λ (b : Binding). b.is_mutable) init

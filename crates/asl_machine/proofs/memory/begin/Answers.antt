@@ -1,5 +1,6 @@
 use Rattle.std.proofs.Common.{◌≡◌}
 use Rattle.asl_machine.specs.Storage.{marks_of, values_in, vars_from}
+use Rattle.asl_machine.proofs.After.{arranged_named}
 use Rattle.asl_machine.proofs.Beginning.{begun_arranged, begun_held, begun_is}
 use Rattle.asl_machine.proofs.memory.begin.Goals as goal
 
@@ -23,3 +24,6 @@ returns-clause-globals c =
     let values : c.in_ok-values.field-0.items ≡ values_in c.parts.result.1.now = c.in_ok-values.ensures in
     let vars : c.in_ok-vars.field-0.items ≡ vars_from c.parts.result.1.now = c.in_ok-vars.ensures in
     rw (marks, values, vars) (begun_is c.args.checked.now c.parts.result.0.now c.parts.result.1.now c.parts.ensures)
+
+pub returns-clause-named : goal.returns-clause-named
+returns-clause-named c = arranged_named _ _ (returns-clause-arranged c)
