@@ -5,8 +5,8 @@ import os
 TABLE = "tests/rows.txt"
 TOP = os.path.dirname(os.path.dirname(os.path.abspath(__file__)))
 
-# `files` has the bytes by name; `status` is nothing where the row wants one line for each prefix of its first file.
-Row = collections.namedtuple("Row", "name words files is_full status text")
+# `lines` has the words of each command line, `files` the bytes by name; `status` is nothing where the row wants one line for each prefix of its first file.
+Row = collections.namedtuple("Row", "name lines files is_full status text")
 
 
 def piece(line):
@@ -26,15 +26,15 @@ class Reader:
     """The row that is being read."""
 
     def __init__(self, name):
-        self.name, self.words, self.files, self.is_full = name, None, {}, False
+        self.name, self.lines, self.files, self.is_full = name, [], {}, False
         self.status, self.text, self.is_over, self.part = None, bytearray(), False, None
 
     def fact(self, word, rest):
         """Takes a line that begins with one of the words of a row."""
         if self.is_over:
             raise ValueError("a word behind what the row wants")
-        if word == "words" and self.words is None:
-            self.words = rest.split()
+        if word == "words" and rest.split() not in self.lines:
+            self.lines.append(rest.split())
         elif word == "file" and rest and rest not in self.files:
             self.part = self.files[rest] = bytearray()
         elif word == "full" and not rest:
@@ -52,9 +52,9 @@ class Reader:
         self.part += piece(line)
 
     def row(self):
-        if self.words is None or not self.is_over:
+        if not self.lines or not self.is_over:
             raise ValueError("the row before has no words, or neither `status` nor `prefixes`")
-        return Row(self.name, self.words, {name: bytes(it) for name, it in self.files.items()}, self.is_full, self.status, bytes(self.text))
+        return Row(self.name, self.lines, {name: bytes(it) for name, it in self.files.items()}, self.is_full, self.status, bytes(self.text))
 
 
 def read(top=TOP):

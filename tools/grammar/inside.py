@@ -56,7 +56,7 @@ PLAIN = READ_PLAIN + ('ℕ', 'Bool', 'TokenKind', 'Kind', 'UnaryOperator', 'Bina
 
 def asked(t):
     """what is asked of the values of a type"""
-    if t.name: return f'({t.name}In n size)' if t.name not in ('Lexeme', 'Extent') else f'({t.name[:3]}In n size)'
+    if t.name: return f'({t.name}In n size limit)' if t.name not in ('Lexeme', 'Extent') else f'({t.name[:3]}In n size)'
     if t.form == 'list': return f'(AllOf {asked(t.parts[0])})'
     if t.form == 'option': return f'(in_opt {asked(t.parts[0])})'
     if len(t.parts) == 2: return f'({"in_pair" if t.form == "product" else "in_sum"} {asked(t.parts[0])} {asked(t.parts[1])})'
@@ -197,8 +197,9 @@ class Rules:
         g, k = self.grammar, p.kind
         if k == 'ref':
             argument = '' if p.arg is None else ' ' + (g.codes(p.arg) if isinstance(p.arg, list) else g.constructor(p.arg))
-            return f'{p.name}_inside n size{argument} {bracketed(value)} {bracketed(proof)}'
-        if k in ('tok', 'opens', 'into', 'closed'): return proof
+            return f'{p.name}_inside n size limit{argument} {bracketed(value)} {bracketed(proof)}'
+        if k == 'tok': return into(proof, 0)
+        if k in ('opens', 'into', 'closed'): return proof
         if k in ('scope', 'costs'): return self.proof(p.p, value, proof, wanted)
         if k == 'spanned': return f'({self.proof(p.p, into(value, 0), into(proof, 0))}, {into(proof, 1)})'
         if k == 'seq': return f'({self.proof(p.p, into(value, 0), into(proof, 0))}, {self.proof(p.q, into(value, 1), into(proof, 1))})'
@@ -210,7 +211,7 @@ class Rules:
         if k == 'trail': return f'(all_inside (λ x h. (h.0, {self.proof(p.p, "x.1", "h.1")})) {into(value, 0)} {into(proof, 0)}, {into(proof, 1)})'
         if k == 'follows':
             a = self.type(p.p)
-            return f'follows_inside (In n size {g.text(p.p)}) {asked(a.parts[0])} {asked(a.parts[1])} {asked(self.type(p.q))} {mapping(inner)} {mapping(self.proof(p.q, "x", "h"))} {bracketed(value)} {bracketed(proof)}'
+            return f'follows_inside (In n size limit {g.text(p.p)}) {asked(a.parts[0])} {asked(a.parts[1])} {asked(self.type(p.q))} {mapping(inner)} {mapping(self.proof(p.q, "x", "h"))} {bracketed(value)} {bracketed(proof)}'
         raise Exception(k)
 
     def part(self, p, value, proof, fields):
@@ -221,10 +222,12 @@ class Rules:
             if p.kind == 'seq': return self.part(p.p if i == '0' else p.q, into(value, i), into(proof, i), fields[1:])
             if p.kind == 'spanned' and i == '0': return self.part(p.p, into(value, i), into(proof, i), fields[1:])
             if p.kind == 'trail' and i == '0':
-                many = self.grammar.Node('many', p=self.grammar.Node('seq', p=self.grammar.Node('tok', codes=p.codes), q=p.p))
+                many = self.grammar.Node('many', p=self.grammar.Node('seq', p=self.grammar.Node('opens', codes=p.codes), q=p.p))
                 return self.part(many, into(value, i), into(proof, i), fields[1:])
             if p.kind in ('spanned', 'trail'):
                 return self.field(Built(self.type(p).parts[1], into(value, i), into(proof, i)), fields[1:])
+        if p.kind == 'tok' and p.codes == ['BitsLiteral'] and fields == ['text']:
+            return Built(type_of('Text'), into(value, 'text'), f'literal_read n size limit {value} {bracketed(proof)}')
         return self.field(Built(self.type(p), value, self.proof(p, value, proof)), fields)
 
     def field(self, it, fields):
@@ -233,8 +236,8 @@ class Rules:
         if f.isdigit(): found = Built(it.type.parts[int(f)], value, into(it.proof, f))
         elif f == 'span':
             begins = 'lex_from' if it.type.name == 'Lexeme' else 'span_from'
-            found = Built(type_of('Span'), value, it.proof, f'{begins} n size {bracketed(it.value) if it.type.name == "Lexeme" else value} {bracketed(it.proof)}')
-        elif f == 'from': found = Built(type_of('Span'), value, None, f'from_in n size {bracketed(it.value)} {bracketed(it.proof)}')
+            found = Built(type_of('Span'), value, it.proof, f'{begins} n size limit {bracketed(it.value) if it.type.name == "Lexeme" else value} {bracketed(it.proof)}')
+        elif f == 'from': found = Built(type_of('Span'), value, None, f'from_in n size limit {bracketed(it.value)} {bracketed(it.proof)}')
         elif f == 'to': found = Built(type_of('ℕ'), value, into(it.proof, 'ends'))
         else: found = Built(type_of({'kind': 'TokenKind', 'text': 'Text'}[f]), value, None)
         return self.field(found, fields[1:])
@@ -304,7 +307,7 @@ class Rules:
 
     def node(self, form, arguments, parts):
         """the lemma of a form of tree; where it has none, what is asked of the tree computes to what is asked of its parts"""
-        proofs = [x.proof for x in parts if self.has_spans(x)]
+        proofs = [x.proof for x in parts if self.is_asked(x)]
         if form + '_node' in self.nodes: return self.cited(form + '_node', [x.value for x in arguments], proofs)
         return self.pairs(proofs)
 
@@ -315,16 +318,19 @@ class Rules:
             parts = [go(x, wanted if head == 'behind' else None) for x in arguments]
             item = {'seconds': lambda t: t.parts[0].parts[1], 'or_nil': lambda t: t.parts[0].parts[0], 'behind': lambda t: t.parts[0]}[head](parts[-1].type)
             values, proofs = [x.value for x in parts], [x.proof for x in parts]
-            return Built(Type('list', [item]), self.call(head, values), self.cited(head + '_in', [asked(item)] + values, proofs, ' n size' if head == 'seconds' else ''))
+            return Built(Type('list', [item]), self.call(head, values), self.cited(head + '_in', [asked(item)] + values, proofs, ' n size limit' if head == 'seconds' else ''))
         lemma = head + '_in' if head + '_in' not in self.grammar.RULES else f'built_{head}_in'
         parts = [go(x, None if t.name == 'Span' else t) for x, t in zip(arguments, types)]
         proofs = [x.begins if name in FIRST and t.name == 'Span' else x.proof for x, t, name in zip(parts, types, names) if t.name not in PLAIN]
         return Built(result, self.call(head, [x.value for x in parts]), self.cited(lemma, [x.value for x in parts], proofs))
 
-    def has_spans(self, it): return it.type is None or it.type.name not in PLAIN
+    def is_asked(self, it):
+        """whether something is asked of a part: of one with spans, and of the text of a literal of bits"""
+        return it.type is None or it.type.name not in PLAIN or it.type.name == 'Text' and it.proof is not None
+
 
     def call(self, head, values): return ' '.join([head] + [bracketed(x) for x in values])
-    def cited(self, lemma, values, proofs, section=' n size'): return ' '.join([lemma + section] + [bracketed(x) for x in values + proofs])
+    def cited(self, lemma, values, proofs, section=' n size limit'): return ' '.join([lemma + section] + [bracketed(x) for x in values + proofs])
     def tuple(self, parts): return '(' + ', '.join(parts) + ')'
 
     def pairs(self, proofs):
@@ -340,7 +346,7 @@ class Rules:
         t, p = type_of(r.type), r.body
         at = name if r.variable is None else f'({name} {r.variable})'
         head = f'{name}_inside' + (f' {r.variable}' if r.variable else '')
-        signature = f'pub {name}_inside : {r.binder + " " if r.binder else ""}(v : {r.type}) → In n size {at} v → {asked_of(t, "v")}\nunfolding {name}\n'
+        signature = f'pub {name}_inside : {r.binder + " " if r.binder else ""}(v : {r.type}) → In n size limit {at} v → {asked_of(t, "v")}\nunfolding {name}\n'
         if p.kind == 'by':
             made = self.build(p, 'x', 'h', t)
             return signature + f'{head} v (x, h, e) = subst {asked(t)} (sym e) {bracketed(made.proof)}\n'
@@ -364,7 +370,7 @@ def files(grammar):
     """each file with its text"""
     rules = Rules(grammar)
     symbols = list(grammar.SYMBOLS)
-    section = 'module _ (n size : ℕ) where\n'
+    section = 'module _ (n size limit : ℕ) where\n'
 
     out, found, title = {}, {}, None
     for name in grammar.ORDER:
@@ -399,17 +405,17 @@ def files(grammar):
 
     body = '-- what is asked of what is read behind a token that opens a level\nabbrev pub SymIn : (s : Sym) → Val s → Type 0\n'
     body += ''.join(f'SymIn {s} v = {asked_of(type_of(t), "v")}\n' for s, (t, n, c) in grammar.SYMBOLS.items())
-    body += '\n-- what a rule reads lies in the file, part by part\nabbrev pub In : {A : Type 0} → Rule A → A → Type 0\nIn g v = Inside Sym Val after n size SymIn g v\n'
+    body += '\n-- what a rule reads lies in the file, part by part\nabbrev pub In : {A : Type 0} → Rule A → A → Type 0\nIn g v = Inside Sym Val after n size limit SymIn g v\n'
     out['Symbols'] = whole('-- What is asked of what each symbol of the grammar stands for, and of what a rule reads.\n', body, 'Symbols')
     for file, (names, parts) in found.items():
         # in its own file a lemma stands at the section's number and size
-        body = re.sub(rf'\b({"|".join(names)})_inside n size', r'\1_inside', '\n'.join(parts))
+        body = re.sub(rf'\b({"|".join(names)})_inside n size limit', r'\1_inside', '\n'.join(parts))
         others = '\n'.join([lemma for other, (_, lemmas_there) in found.items() if other != file for lemma in lemmas_there])
         known = {n for _, n, _ in grammar.SYMBOLS.values()} | set(re.findall(r'(\w+)_inside', others))
         body = re.sub(r'^pub (\w+)_inside', lambda m: m.group(0) if m.group(1) in known else m.group(0)[len('pub '):], body, flags=re.M)
         out[file] = whole(f'-- What the rules of {[c for f, c in FILES.values() if f == file][0]} read has its spans in the file.\n', body, file)
-    body = '-- what each symbol stands for is as asked\npub made : (s : Sym) (v : Val s) → In n size (rule s) v → SymIn n size s v\n'
-    body += ''.join(f'made {s} v h = {n}_inside n size v h\n' for s, (t, n, c) in grammar.SYMBOLS.items())
+    body = '-- what each symbol stands for is as asked\npub made : (s : Sym) (v : Val s) → In n size limit (rule s) v → SymIn n size limit s v\n'
+    body += ''.join(f'made {s} v h = {n}_inside n size limit v h\n' for s, (t, n, c) in grammar.SYMBOLS.items())
     out['Made'] = whole('-- What a symbol of the grammar stands for has its spans in the file, where this holds of the symbols in it.\n', body, 'Made')
     return {f'asl_laws/proofs/reading/{file}.antt': text for file, text in out.items()}
 

@@ -16,7 +16,7 @@ ghost use Rattle.asl_blocks.specs.private.Walks as walks;
 
 use crate::suffixes::{Reached, reach};
 use crate::targets::{TypedPlace, counts, effects_in, part_of, type_target};
-use asl_allowed::effects::{all_together, greater, greatest};
+use asl_allowed::effects::{greater, greatest, may_stand_together};
 use asl_blocks::body::{Body, Done};
 use asl_blocks::steps::end_simple;
 use asl_blocks::typing::type_in;
@@ -27,7 +27,7 @@ use asl_syn::tree::{Expr, Ident, Target};
 use asl_tree::act::{Simple, TreePlace};
 use asl_tree::tree::Tree;
 use asl_types::answer::fault;
-use asl_types::fits::misfit;
+use asl_types::fits::fits;
 use asl_types::{Scope, Storage, Ty, writing};
 use sqlite_items::{Boxed, Items};
 
@@ -105,7 +105,7 @@ fn check_part(way: &[usize], to: &Ty, value: &Tree) -> Result<(), Refused>
 {
     match part_of(value.ty(), way) {
         None => Ok(()),
-        Some(part) => match misfit(part, to) {
+        Some(part) => match fits(part, to) {
             None => Ok(()),
             Some(code) => fault(code, value.span()),
         },
@@ -139,7 +139,7 @@ fn end_assign(
 ) -> Result<Done, Refused>
     ensures { (names : List Entry) → Met (done_of names) result (walks.assigned body.now.class span effects.now (stores_of stores) (typed_of value) names) }
 {
-    let is_together = all_together(Effect::Pure, effects);
+    let is_together = may_stand_together(effects);
     let effect = greater(greatest(Effect::Pure, effects), stores.effect);
     let act = Simple::Assign(span, stores.places, value.into_inner());
     end_simple(body.class, span, is_together, effect, act)

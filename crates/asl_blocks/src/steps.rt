@@ -24,7 +24,7 @@ use asl_syn::token::Span;
 use asl_tree::act::{Act, Simple};
 use asl_tree::tree::Tree;
 use asl_types::answer::fault;
-use asl_types::fits::misfit;
+use asl_types::fits::fits;
 use asl_types::kinds::{is_boolean, is_integer};
 use asl_types::{Form, Ty};
 use sqlite_items::Boxed;
@@ -110,7 +110,7 @@ pub fn is_exception(ty: &Ty) -> bool
 pub fn check_fits(to: &Ty, e: &Tree) -> Result<(), Refused>
     ensures { (t : Tests) → Suits t → Agrees result (rules.fits t to.now (operand_of e.now)) }
 {
-    match misfit(e.ty(), to) {
+    match fits(e.ty(), to) {
         None => Ok(()),
         Some(code) => fault(code, e.span()),
     }

@@ -9,9 +9,9 @@ ghost use Rattle.asl_types.specs.Suits.{Suits};
 ghost use Rattle.asl_tree.specs.Acts.{func_of, all_funcs, all_acts};
 ghost use Rattle.asl_decl.specs.Heads.{head_of, heads_of};
 
-use crate::falls::falls_through;
 use asl_blocks::body::{Body, Listed};
 use asl_decl::enter_body;
+use asl_falling::falls_through;
 use asl_stmt::lists::check_stmts;
 use asl_subprograms::{Param, Signature, Subprograms};
 use asl_syn::code::{Refused, StaticCode};

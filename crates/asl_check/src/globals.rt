@@ -1,10 +1,11 @@
 //! The globals that a run begins with.
 
-ghost use Rattle.std.specs.Prelude.{◌≡◌, IfOk, OnOk, option_map};
+ghost use Rattle.std.specs.List.{All};
+ghost use Rattle.std.specs.Prelude.{◌≡◌, IfOk, IfSome, OnOk, option_map};
 ghost use Rattle.asl_rules.specs.runs.Evaluation.{globals_among, global_in};
 ghost use Rattle.asl_rules.specs.declarations.Scopes.{storage_of};
-ghost use Rattle.asl_tree.specs.Sealed.{cell_of, cell_in, cells_in, cells_of};
-ghost use Rattle.asl_check.specs.private.GlobalViews.{found_global, cells_with};
+ghost use Rattle.asl_tree.specs.Sealed.{cell_of, cell_in, cells_in, cells_of, HasItsType};
+ghost use Rattle.asl_check.specs.private.GlobalViews.{found_global, with_found};
 
 use asl_judge::{is_var, name_of};
 use asl_syn::tree::{Decl, StorageDecl};
@@ -13,9 +14,10 @@ use asl_types::Scope;
 use asl_value::copy;
 use std::alloc::{AllocError, Global};
 
-/// Global storage with the value that a run begins with, where its name stands for such.
+/// Global storage with its type and the value that a run begins with, where its name stands for such.
 fn storage_cell(alloc: Global, d: &StorageDecl, names: &Scope) -> Result<Option<Cell>, AllocError>
-    ensures { IfOk result (λ g. option_map cell_of g ≡ option_map cell_in (global_in d.now (storage_of d.now.name.text names.now))) }
+    ensures typed { IfOk result (λ g. IfSome g (HasItsType names.now)) }
+    ensures cell { IfOk result (λ g. option_map cell_of g ≡ option_map cell_in (global_in d.now (storage_of d.now.name.text names.now))) }
 {
     let text = d.name.text.as_slice();
     let Some(storage) = names.storage_of(text) else {
@@ -27,6 +29,7 @@ fn storage_cell(alloc: Global, d: &StorageDecl, names: &Scope) -> Result<Option<
     let name = name_of(alloc, text)?;
     Ok(Some(Cell {
         name,
+        ty: storage.ty.copy()?,
         value: copy(value)?,
         is_mutable: is_var(d.kind),
     }))
@@ -34,7 +37,8 @@ fn storage_cell(alloc: Global, d: &StorageDecl, names: &Scope) -> Result<Option<
 
 /// The global that a declaration brings, where it brings one.
 fn found_cell(alloc: Global, d: &Decl, names: &Scope) -> Result<Option<Cell>, AllocError>
-    ensures { IfOk result (λ g. option_map cell_of g ≡ option_map cell_in (found_global d.now names.now)) }
+    ensures typed { IfOk result (λ g. IfSome g (HasItsType names.now)) }
+    ensures cell { IfOk result (λ g. option_map cell_of g ≡ option_map cell_in (found_global d.now names.now)) }
 {
     match d {
         Decl::Type(_) => Ok(None),
@@ -44,9 +48,8 @@ fn found_cell(alloc: Global, d: &Decl, names: &Scope) -> Result<Option<Cell>, Al
 }
 
 /// One more global, where there is one.
-#[tactic(auto, using(crate::proofs::GlobalTurns::cell_last))]
 fn push_found(globals: &mut Vec<Cell>, found: Option<Cell>) -> Result<(), AllocError>
-    ensures { OnOk result (cells_of globals.new.items ≡ cells_with (cells_of globals.old.items) (option_map cell_of found)) }
+    ensures { OnOk result (globals.new.items ≡ with_found globals.old.items found) }
 {
     match found {
         None => Ok(()),
@@ -57,14 +60,15 @@ fn push_found(globals: &mut Vec<Cell>, found: Option<Cell>) -> Result<(), AllocE
     }
 }
 
-/// The globals that a run begins with, in source order, over the names that are visible outside bodies.
-#[tactic(auto, using(crate::proofs::GlobalTurns::cells_next, crate::proofs::GlobalTurns::cells_end))]
+/// The globals that a run begins with, in source order and each with its type, over the names that are visible outside bodies.
+#[tactic(auto, using(crate::proofs::GlobalTurns::cells_next, crate::proofs::GlobalTurns::cells_end, crate::proofs::GlobalTurns::typed_next))]
 pub(crate) fn find_globals(
     alloc: Global,
     decls: &[Decl],
     names: &Scope,
 ) -> Result<Vec<Cell>, AllocError>
-    ensures { IfOk result (λ gs. cells_of gs.items ≡ cells_in (globals_among decls.now names.now)) }
+    ensures typed { IfOk result (λ gs. All (HasItsType names.now) gs.items) }
+    ensures cells { IfOk result (λ gs. cells_of gs.items ≡ cells_in (globals_among decls.now names.now)) }
 {
     let mut globals = Vec::new(alloc);
     for d in decls {

@@ -2,7 +2,6 @@
 #![tactic(auto)]
 
 mod bodies;
-mod falls;
 mod globals;
 mod program;
 

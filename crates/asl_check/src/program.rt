@@ -19,7 +19,7 @@ use asl_subprograms::Subprograms;
 use asl_syn::code::Refused;
 use asl_syn::tree::{Decl, Func, Program};
 use asl_tree::act::TreeFunc;
-use asl_tree::{Checked, Global as Cell, SubId};
+use asl_tree::{Checked, Global as Cell, Parts, SubId};
 use asl_types::Scope;
 use sqlite_items::Items;
 use std::alloc::Global;
@@ -84,7 +84,12 @@ pub fn check_decls<'a>(
 ) -> Result<Accepted<'a>, Refused>
     ensures { (t : Tests) → Suits t → Met (accepted_of entry) result (verdict entry decls.now t) }
 {
-    let Table { names, funcs, subs } = Table::build(alloc, decls)?;
+    let Table {
+        names,
+        funcs,
+        subs,
+        globals: _globals,
+    } = Table::build(alloc, decls)?;
     find_bodies(alloc, names, subs, funcs.as_slice(), entry)
 }
 
@@ -137,5 +142,11 @@ pub fn check(alloc: Global, program: Program, entry: Entry) -> Result<Checked, R
         globals,
         main,
     } = make(alloc, program.decls.as_slice(), entry)?;
-    Ok(Checked::seal(program, entry, main, funcs, globals))
+    Ok(Checked::seal(Parts {
+        program,
+        asked: entry,
+        entry: main,
+        subs: funcs,
+        globals,
+    }))
 }

@@ -21,7 +21,7 @@ use asl_blocks::otherwise::check_otherwise;
 use asl_blocks::steps::{check_placed, effect_of, ended, unboxed, where_misplaced};
 use asl_blocks::typing::{type_in, type_where};
 use asl_blocks::within::{Within, check_inside};
-use asl_expr::patterns::{Matched, match_pattern};
+use asl_expr::patterns::{Matched, type_pattern};
 use asl_rules::effect::Effect;
 use asl_shape::PatternShape;
 use asl_subprograms::Context;
@@ -71,7 +71,7 @@ pub(crate) fn check_patterns(
         class: Effect::Pure,
     };
     for pattern in patterns {
-        let matched = match_pattern(body.alloc, pure, pattern, ty)?;
+        let matched = type_pattern(body.alloc, pure, pattern, ty)?;
         so_far.push(matched)?;
     }
     Ok(so_far)

@@ -1,5 +1,5 @@
 //! The whole program, over any files and any sink.
-ghost use Rattle.std.specs.Prelude.{◌≡◌, ℕ, ◌⊎◌, List, Some, All, IsTrue, map, string_bytes};
+ghost use Rattle.std.specs.Prelude.{◌≡◌, ◌<◌, ℕ, ◌⊎◌, List, Some, All, IsTrue, map, string_bytes};
 ghost use Rattle.asl_io.specs.Faults.{Rises};
 ghost use Rattle.asl_io.specs.Told.{Takes, TakesPrefix};
 ghost use Rattle.asl_syn.specs.Command.{usage, names_of};
@@ -17,7 +17,8 @@ use asl_line::parse;
 use std::alloc::Global;
 
 /// Does what the words of the command line ask for, the name of the program first: reads the files that they
-/// name, writes the report to the sink and gives its status. Want of memory may be answered at any point.
+/// name, writes the report to the sink and gives its status. Want of memory may be answered at any point. Where the count of
+/// the files is greater afterwards, the status is a read fault; where the sink's is, a write fault; at most one of the two grows.
 pub fn asl<F: Files, K: Sink>(alloc: Global, words: &[String], files: &mut F, out: &mut K) -> Status
     // Where the files tell their bytes and neither count rose, the status is the report's, and where the sink tells
     // its bytes, the report's text was written; or memory was wanting.
@@ -47,6 +48,12 @@ pub fn asl<F: Files, K: Sink>(alloc: Global, words: &[String], files: &mut F, ou
     // The first call that fails ends the work, so a count stays unless it is the cause.
     ensures files_stay { (result ≡ Status.ReadFault → ⊥) → F.faults files.new ≡ F.faults files.old }
     ensures sink_stays { (result ≡ Status.WriteFault → ⊥) → K.faults out.new ≡ K.faults out.old }
+
+    // So a count that is greater afterwards tells the status; and one of the two is as it was, whatever the status.
+    ensures files_grow { F.faults files.old < F.faults files.new → result ≡ Status.ReadFault }
+    ensures sink_grows { K.faults out.old < K.faults out.new → result ≡ Status.WriteFault }
+    ensures one_stays { F.faults files.new ≡ F.faults files.old ⊎ K.faults out.new ≡ K.faults out.old }
+
     ensures same_held { F.held files.new ≡ F.held files.old }
     ensures same_full { K.full out.new ≡ K.full out.old }
 {

@@ -3,6 +3,7 @@ use Rattle.std.specs.Prelude.{◌==◌, ◌&&◌, nat_le, nat_lt, ℕ, ◌+◌, 
 use Rattle.std.specs.Int.{int_min, int_max}
 use Rattle.asl_num.specs.Exact.{floor_div}
 use Rattle.asl_poly.specs.Terms.{Polynomial}
+use Rattle.asl_poly.specs.WidthLimits.{heaviest, highest, most_atoms}
 use Rattle.asl_poly.specs.Limits.{weight, degree, atoms_of_both}
 use Rattle.asl_poly.specs.Poly.{constant_value, sum_map, difference_map, product_map}
 use Rattle.asl_cons.specs.declared.End.{End}
@@ -39,16 +40,16 @@ shown p = shown_by (constant_value p) p
 
 -- the end is within the limit of widths where it counts as one
 abbrev pub light_end : End → Bool
-light_end (Int z) = nat_le (unsigned_abs z) (2 ^ 62)
+light_end (Int z) = nat_le (unsigned_abs z) heaviest
 light_end (Width p) = true
 
 -- the limits of widths, for the sum or difference, and for the product
 unfoldable pub sum_fits : Polynomial → Polynomial → Bool
-sum_fits p q = nat_le (weight p.terms + weight q.terms) (2 ^ 62) && nat_le (length (atoms_of_both p.terms q.terms)) 8
+sum_fits p q = nat_le (weight p.terms + weight q.terms) heaviest && nat_le (length (atoms_of_both p.terms q.terms)) most_atoms
 
 unfoldable pub product_fits : Polynomial → Polynomial → Bool
 product_fits p q =
-    nat_le (weight p.terms * weight q.terms) (2 ^ 62) && (nat_le (degree p.terms + degree q.terms) 4 && nat_le (length (atoms_of_both p.terms q.terms)) 8)
+    nat_le (weight p.terms * weight q.terms) heaviest && (nat_le (degree p.terms + degree q.terms) highest && nat_le (length (atoms_of_both p.terms q.terms)) most_atoms)
 
 abbrev pub integer_end : Option ℤ → Option End
 integer_end z = bind z (λ n. Some (Int n))

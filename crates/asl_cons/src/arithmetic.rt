@@ -12,8 +12,8 @@ use crate::parts::{
 };
 use std::alloc::{AllocError, Global};
 
-// The most parts of a constraint.
-pub(crate) const MOST_PARTS: usize = 64;
+/// The most parts of a constraint.
+pub const MOST_PARTS: usize = 64;
 
 // The operators that take each pair of parts.
 #[derive(Clone, Copy)]

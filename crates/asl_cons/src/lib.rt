@@ -19,6 +19,7 @@ ghost use Rattle.asl_cons.specs.declared.Part.{Part};
 ghost use Rattle.asl_cons.specs.Constraint.{AllEnds, Below, In};
 ghost use Rattle.asl_cons.specs.Arithmetic.{power_of_two, sum_parts, difference_parts, product_parts, modulo_parts, quotient_parts, shifted_up_parts, shifted_down_parts, union_parts};
 
+pub use arithmetic::MOST_PARTS;
 use asl_poly::Poly;
 pub use cons::Cons;
 pub use ranges::Ranges;

@@ -31,7 +31,7 @@ use std::alloc::Global;
 /// The value of an expression where these names are visible. Storage counts with the value that it begins with. It has none
 /// where its evaluation faults: T04 at the node that does, with the code of the fault; nor where a name has no value, or a
 /// subprogram is called: T04 there, without a code.
-pub fn known(alloc: Global, names: &Scope, e: &Expr) -> Result<Value, Refused>
+pub fn eval_const(alloc: Global, names: &Scope, e: &Expr) -> Result<Value, Refused>
     ensures { Met value_of result (evaluated (constant WIDTH_LIMIT e.now names.now)) }
 {
     match eval(alloc, names, e) {

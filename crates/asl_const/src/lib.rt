@@ -10,4 +10,4 @@ mod fields;
 mod inside;
 mod shapes;
 
-pub use constants::known;
+pub use constants::eval_const;

@@ -3,5 +3,6 @@ mod FreeLemmas
 mod HeadLemmas
 mod LimitLemmas
 mod SignatureLemmas
+mod StorageLemmas
 mod TableLemmas
 mod WordLemmas

@@ -4,3 +4,4 @@ pub mod HeadTypes
 pub mod HeadViews
 pub mod Limits
 pub mod Signatures
+pub mod StorageOrder

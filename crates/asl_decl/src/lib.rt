@@ -5,6 +5,7 @@ mod bodies;
 mod entry;
 mod free;
 mod funcs;
+mod globals;
 mod heads;
 mod limit;
 mod signatures;
@@ -12,4 +13,5 @@ mod table;
 
 pub use bodies::enter_body;
 pub use entry::find_entry;
+pub use globals::DeclId;
 pub use table::Table;

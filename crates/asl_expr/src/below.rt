@@ -1,5 +1,5 @@
 //! The nodes below a node. A node is typed by functions that take those which type the nodes below it as parameters, so that
-//! each is proved by itself, and only the two that begin nodes (`type_expr` and `match_pattern`) call one another.
+//! each is proved by itself, and only the two that begin nodes (`type_expr` and `type_pattern`) call one another.
 
 ghost use Rattle.std.specs.Prelude.{◌≡◌, suc};
 ghost use Rattle.asl_rules.specs.statements.Acting as acting;

@@ -20,7 +20,7 @@ use asl_syn::token::Span;
 use asl_tree::tree::Tree;
 use asl_types::Ty;
 use asl_types::answer::fault;
-use asl_types::fits::misfit;
+use asl_types::fits::fits;
 use asl_types::integers::{integers, only_width};
 use asl_types::substitute::substitute;
 use std::alloc::{AllocError, Global};
@@ -64,7 +64,7 @@ pub(crate) fn replaced(
 fn fitted(ty: &Ty, other: &Ty, at: Span) -> Result<(), Refused>
     ensures { (t : Tests) → Suits t → Met (λ u. u) result (fitted (types.misfit t ty.now other.now) at) }
 {
-    match misfit(ty, other) {
+    match fits(ty, other) {
         None => Ok(()),
         Some(code) => fault(code, at),
     }

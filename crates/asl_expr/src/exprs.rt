@@ -14,7 +14,7 @@ ghost use Rattle.asl_tree.specs.View.{typed_of, operand_of, all_operands};
 use crate::below::Below;
 use crate::expr_nodes::type_node;
 use crate::operand_lists::operands_below;
-use crate::patterns::match_pattern;
+use crate::patterns::type_pattern;
 use asl_subprograms::Context;
 use asl_syn::code::Refused;
 use asl_syn::tree::Expr;
@@ -32,7 +32,7 @@ pub fn type_expr(alloc: Global, context: Context, e: &Expr) -> Result<Boxed<Tree
             alloc,
             context,
             typing: type_expr,
-            matching: match_pattern,
+            matching: type_pattern,
         },
         e,
     )
@@ -56,7 +56,7 @@ pub fn type_all(alloc: Global, context: Context, es: &[Expr]) -> Result<Items<Tr
             alloc,
             context,
             typing: type_expr,
-            matching: match_pattern,
+            matching: type_pattern,
         },
         es,
     )

@@ -270,7 +270,7 @@ pub(crate) fn parts_of_tuple<'t>(
 
 /// A pattern against a type, or its one fault. Its expressions are pure.
 #[cycle(exprs)]
-pub fn match_pattern(
+pub fn type_pattern(
     alloc: Global,
     context: Context,
     pattern: &Pattern,
@@ -283,7 +283,7 @@ pub fn match_pattern(
             alloc,
             context,
             typing: type_expr,
-            matching: match_pattern,
+            matching: type_pattern,
         },
         pattern,
         ty,

@@ -20,7 +20,7 @@ ghost use Rattle.asl_types.specs.private.Totals.{IsTotal};
 use crate::below::Below;
 use crate::exprs::type_expr;
 use crate::operand_lists::slices_below;
-use crate::patterns::match_pattern;
+use crate::patterns::type_pattern;
 use asl_poly::Poly;
 use asl_rules::effect::Effect;
 use asl_subprograms::Context;
@@ -76,7 +76,7 @@ pub fn slice_operands(
             alloc,
             context,
             typing: type_expr,
-            matching: match_pattern,
+            matching: type_pattern,
         },
         slices,
     )

@@ -108,6 +108,7 @@ fn take_piece<F: Files>(
     ensures count_rises { IsErrOf result ReadAnswer.Fault → Rises (F.faults files.old) (F.faults files.new) }
     ensures count_stays { OnOk result (F.faults files.new ≡ F.faults files.old) }
     ensures count_stays_at_other { IsErrOf result ReadAnswer.NoMemory → F.faults files.new ≡ F.faults files.old }
+    ensures lost { IsErrOf result ReadAnswer.NoMemory → (n : ℕ) × (n ≤ most) × GivesMany (F.left files.old) (F.left files.new) n }
     ensures not_too_long { IsErrOf result ReadAnswer.TooLong → ⊥ }
     ensures goes_on { IsTrue (F.steady files.old) → IsErrOf result ReadAnswer.Fault → ⊥ }
     ensures stays_steady { IsTrue (F.steady files.old) → IsTrue (F.steady files.new) }
@@ -120,7 +121,7 @@ fn take_piece<F: Files>(
 }
 
 /// Reads a whole file that has at most `limit` bytes: `TooLong` where it has more, `Fault` where a call of the files
-/// fails.
+/// fails. It takes at most one byte more than the limit.
 pub fn read_file<F: Files>(
     alloc: Global,
     files: &mut F,
@@ -135,6 +136,9 @@ pub fn read_file<F: Files>(
     // Where it is too long, one byte more than the limit has been read.
     ensures too_long { IsErrOf result ReadAnswer.TooLong → IfSome (F.held files.old) (λ held. limit < length (held name.now)) }
     ensures one_more { IsErrOf result ReadAnswer.TooLong → GivesMany (option_map (λ held. held name.now) (F.held files.old)) (F.left files.new) (limit + 1) }
+
+    // Whatever it answers, it takes no more; after a fault the files tell nothing of what is left.
+    ensures at_most { IsErrOf result ReadAnswer.Fault ⊎ ((n : ℕ) × (n ≤ limit + 1) × GivesMany (option_map (λ held. held name.now) (F.held files.old)) (F.left files.new) n) }
 
     ensures same_held { F.held files.new ≡ F.held files.old }
     ensures same_sure { F.sure files.new ≡ F.sure files.old }

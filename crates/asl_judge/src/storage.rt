@@ -23,7 +23,7 @@ use asl_tree::places::place;
 use asl_types::Ty;
 use asl_types::answer::fault;
 use asl_types::baring::widened;
-use asl_types::fits::misfit;
+use asl_types::fits::fits;
 use asl_value::Value;
 use asl_written::written::type_place;
 use std::alloc::{AllocError, Global};
@@ -50,7 +50,7 @@ pub fn is_var(kind: StorageKind) -> bool
 fn check_fit(ty: &Ty, to: &Ty, e: &Expr) -> Result<(), Refused>
     ensures { (t : Tests) → Suits t → Agrees result (fitted (types.misfit t ty.now to.now) (exprs.found t e.now).span) }
 {
-    match misfit(ty, to) {
+    match fits(ty, to) {
         None => Ok(()),
         Some(code) => fault(code, place(e)),
     }

@@ -17,7 +17,7 @@ use asl_syn::code::{Refused, StaticCode};
 use asl_syn::token::Span;
 use asl_syn::tree::Ident;
 use asl_types::answer::fault;
-use asl_types::fits::misfit;
+use asl_types::fits::fits;
 use asl_types::structure::structure;
 use asl_types::{Form, Scope, Ty};
 use asl_value::Supers;
@@ -51,7 +51,7 @@ fn reached(alloc: Global, name: &[u8], ty: &Ty) -> Result<Supers, AllocError>
 fn check_subtype(span: Span, ty: &Ty, other: &Ty) -> Result<(), Refused>
     ensures { (t : Tests) → Suits t → Agrees result (need (rules.is_none (misfit t (structure ty.now) (structure other.now))) StaticCode.T25 span) }
 {
-    match misfit(structure(ty), structure(other)) {
+    match fits(structure(ty), structure(other)) {
         None => Ok(()),
         Some(_) => fault(StaticCode::T25, span),
     }

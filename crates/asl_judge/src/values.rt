@@ -57,7 +57,7 @@ pub fn first_in(alloc: Global, at: Span, ty: &Ty) -> Result<Value, Refused>
 pub fn known(alloc: Global, context: Context, e: &Expr) -> Result<Value, Refused>
     ensures { (t : Tests) → Suits t → Met value_of result (rules.known t e.now (scope_of context.entry)) }
 {
-    constants::known(alloc, context.names, e)
+    constants::eval_const(alloc, context.names, e)
 }
 
 /// A value as it goes through a type: its bits carry the bitfields that are written there. It is `see`, with a clause

@@ -10,4 +10,6 @@ pub mod OwnKinds
 pub mod OwnParams
 pub mod OwnFrames
 pub mod OwnCalls
+pub mod OwnStanding
+pub mod OwnFound
 pub mod OwnBraces

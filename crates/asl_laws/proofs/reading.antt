@@ -1,4 +1,5 @@
 -- The spans of the trees of a file lie in it: what is asked of each value that the grammar reads, and how the trees keep it that are built of such values.
+pub mod Literals
 pub mod Inside
 pub mod Predicates
 pub mod Nodes
@@ -13,3 +14,4 @@ pub mod RulesOfDeclarations
 pub mod Made
 pub mod Files
 pub mod Trees
+pub mod Codes

@@ -10,3 +10,6 @@ pub mod MoreNames
 pub mod DeclWell
 pub mod ScopesKept
 pub mod Globals
+pub mod FormedScopes
+pub mod ScopeRules
+pub mod Placeless

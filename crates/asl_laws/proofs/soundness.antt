@@ -4,7 +4,9 @@ pub mod SoundnessStates
 pub mod GivenTypes
 pub mod SoundnessFacts
 pub mod SoundnessEnds
+pub mod SoundnessNodes
 pub mod SoundnessHeads
 pub mod SoundnessCalls
 pub mod Soundness
 pub mod SoundnessEntry
+pub mod AgreeingTypes

@@ -1,5 +1,5 @@
 -- Where the faults of rules stand: at spans of the trees that are judged. None but those of evaluations have the code T04.
-pub mod Spans
+pub mod EachSpan
 pub mod Inductions
 pub mod SpanLayers
 pub mod OtherCodes

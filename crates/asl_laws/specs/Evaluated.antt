@@ -1,24 +1,28 @@
 -- What is evaluated before any run gives a value of its type, or has a dynamic fault: no evaluation that the rules ask for is stuck.
-use Rattle.std.specs.Prelude.{◌≡◌, ℕ, ◌⊎◌, List, [], ◌∷◌, ◌++◌, map, Option, Some, None, Ok}
+use Rattle.std.specs.Prelude.{◌≡◌, ℕ, true, ◌⊎◌, List, [], ◌∷◌, ◌++◌, map, Option, Some, None, Ok}
 use Rattle.asl_syn.specs.declared.token.Span.{Span}
 use Rattle.asl_syn.specs.declared.tree.Expr.{Expr}
+use Rattle.asl_syn.specs.declared.tree.StorageDecl.{StorageDecl}
+use Rattle.asl_syn.specs.declared.tree.TypeExpr.{TypeExpr}
 use Rattle.asl_syn.specs.declared.tree.Decl.{Decl}
 use Rattle.asl_syn.specs.declared.tree.Decl.TheVariants as dc
 use Rattle.asl_syn.specs.declared.code.Fault.{Fault}
 use Rattle.asl_syn.specs.declared.code.DynCode.{DynCode}
 use Rattle.asl_rules.specs.declared.effect.Effect.{Effect}
 use Rattle.asl_rules.specs.Tests.{Tests}
-use Rattle.asl_rules.specs.types.Closed.{Closed}
+use Rattle.asl_rules.specs.types.Closed.{Closed, closed}
 use Rattle.asl_rules.specs.declarations.Names.{library}
 use Rattle.asl_rules.specs.declarations.Scopes.{Entry, subprogram, with_class}
 use Rattle.asl_rules.specs.expressions.Typing.{Typed}
-use Rattle.asl_rules.specs.expressions.Exprs.{typed}
+use Rattle.asl_rules.specs.types.Writing.{Written}
+use Rattle.asl_rules.specs.expressions.Exprs.{typed, written, found_type}
 use Rattle.asl_rules.specs.runs.Plans.{Faulted, Stuck, Pure, Good, Bad}
 use Rattle.asl_rules.specs.declarations.Barred.{barred}
 use Rattle.asl_rules.specs.declarations.Constants.{constant}
 use Rattle.asl_rules.specs.types.Written.{first_value}
 use Rattle.asl_rules.specs.private.Belonging.{InType}
 use Rattle.asl_rules.specs.private.Agreement.{types_in, no_atoms}
+use Rattle.asl_laws.specs.Spans.{IsAmong, expr_spans}
 use Rattle.asl_rules.specs.declarations.Declarations.{in_names, entries, judgement, names_of_program}
 
 -- what an evaluation gives has this property, where it gives a value; it isn't stuck
@@ -30,7 +34,8 @@ GivesOrFaults Q (Bad (Stuck mistake span)) = ⊥
 -- where these names are visible outside bodies, an expression with a type, which holds no call and no global `var`, is evaluated to a value of its type
 abbrev pub ConstantsGiven : Tests → List Entry → Type 0
 ConstantsGiven t names =
-    (e : Expr) (k : Effect) (S : Typed) → barred e names ≡ None → typed t e (with_class (in_names names) k) ≡ Ok S → GivesOrFaults (λ x. InType (types_in names) no_atoms x S.ty) (constant t.limit e names)
+    (e : Expr) (k : Effect) (S : Typed) → barred e names ≡ None → typed t e (with_class (in_names names) k) ≡ Ok S →
+    GivesOrFaults (λ x. InType (types_in names) no_atoms x S.ty) (constant t.limit e names)
 
 -- what is well formed after so many rounds
 abbrev pub names_after : Tests → ℕ → List Decl → List Entry
@@ -67,7 +72,36 @@ pub record BarredAt (t : Tests) (ds : List Decl) (span : Span) : Type 0 where
   pub names : List Entry
   pub visible : AreVisible t ds names
   pub holds : barred expr names ≡ Some span
+  pub inside : IsAmong span (expr_spans expr)
 
--- an evaluation stopped with a dynamic fault, or there is what may not stand where it is evaluated
+-- the evaluation of an initialiser or a limit of these declarations ends with this dynamic fault, which stands in it
+pub record EvaluationFaults (t : Tests) (ds : List Decl) (code : DynCode) (span : Span) : Type 0 where
+  pub decl : Decl
+  pub stands : StandsIn decl ds
+  pub expr : Expr
+  pub expr_is : expr_outside decl ≡ Some expr
+  pub names : List Entry
+  pub visible : AreVisible t ds names
+  pub may : barred expr names ≡ None
+  pub ends : constant t.limit expr names ≡ Bad (Faulted code span)
+  pub inside : IsAmong span (expr_spans expr)
+
+-- storage of these declarations has no initialiser, and its type has this dynamic fault in place of a first value, at the type
+pub record FirstValueFaults (t : Tests) (ds : List Decl) (code : DynCode) (span : Span) : Type 0 where
+  pub decl : StorageDecl
+  pub stands : StandsIn (dc.Storage decl) ds
+  pub no_init : decl.init ≡ None
+  pub ty : TypeExpr
+  pub ty_is : decl.ty ≡ Some ty
+  pub names : List Entry
+  pub visible : AreVisible t ds names
+  pub meant : Written
+  pub meant_is : written t ty true (in_names names) ≡ Ok meant
+  pub ends : first_value t.limit (found_type t ty).span (closed meant.ty) ≡ Bad (Faulted code span)
+  pub at : (found_type t ty).span ≡ span
+
+-- an evaluation stopped with a dynamic fault, at its place and with its code, or there is what may not stand where it is evaluated
 abbrev pub HasCause : Tests → List Decl → Fault → Type 0
-HasCause t ds f = ((code : DynCode) × (f.inner ≡ Some code)) ⊎ BarredAt t ds f.span
+HasCause t ds f =
+    ((code : DynCode) ×
+    ((f.inner ≡ Some code) × (EvaluationFaults t ds code f.span ⊎ FirstValueFaults t ds code f.span))) ⊎ BarredAt t ds f.span

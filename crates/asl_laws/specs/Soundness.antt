@@ -1,28 +1,36 @@
--- What soundness says: a run of a well-formed program is never stuck, each node that it visits was judged in a scope with which the state agrees, an expression
+-- What soundness says: a run of a well-formed program is never stuck, each node that it visits was judged, with the program's own subprograms and in the body of
+-- the one that was called last, in a scope with which the state agrees, the frame of each caller agrees with the scope of the call that it waits for, an expression
 -- with a type gives values of that type, and typed trees do what the untyped trees do.
-use Rattle.std.specs.Prelude.{◌≡◌, ℕ, ◌⊎◌, List, [], ◌∷◌, Option, Some, Ok, slice_get}
+use Rattle.std.specs.Prelude.{◌≡◌, ℕ, ℤ, true, ◌⊎◌, List, [], ◌∷◌, Option, Some, Ok, slice_get}
 use Rattle.asl_syn.specs.declared.tree.Decl.{Decl}
 use Rattle.asl_syn.specs.declared.tree.Expr.{Expr}
 use Rattle.asl_syn.specs.declared.tree.Stmt.{Stmt}
+use Rattle.asl_syn.specs.declared.token.Span.{Span}
+use Rattle.asl_rules.specs.declared.effect.Effect.{Effect}
+use Rattle.asl_poly.specs.Poly.{HasWidth}
 use Rattle.asl_rules.specs.Tests.{Tests}
 use Rattle.asl_rules.specs.types.Types.{Ty}
 use Rattle.asl_rules.specs.types.Closed.{Assignment}
 use Rattle.asl_rules.specs.declarations.Scopes.{Scope, Body, Signature, Entry}
+use Rattle.asl_rules.specs.types.Effects.{at_most}
+use Rattle.asl_rules.specs.runs.Trees.{Note, Tree, Trees, Call, own, Act, Invoke}
 use Rattle.asl_rules.specs.expressions.Typing.{Typed, Width, Number}
 use Rattle.asl_rules.specs.expressions.Exprs.{found, typed, width}
 use Rattle.asl_rules.specs.statements.Acting.{Done as StmtDone}
 use Rattle.asl_rules.specs.statements.Stmts.{found_stmt}
 use Rattle.asl_rules.specs.declarations.Programs.{Accepted, environment}
 use Rattle.asl_rules.specs.values.Values.{Value}
-use Rattle.asl_rules.specs.runs.States.{Binding, Core, resting}
+use Rattle.asl_rules.specs.runs.States.{Binding, Frame, Core, resting}
 use Rattle.asl_rules.specs.private.Belonging.{InType, Belong, Sound}
 use Rattle.asl_rules.specs.private.Agreement.{types_in, no_atoms, GlobalsMatch, Raised, Agrees}
+use Rattle.asl_rules.specs.private.Worth.{WellCounted}
 use Rattle.asl_rules.specs.runs.Plans.{Meter, Outcome, Done, Thrown, Halt, Faulted, Stuck, run}
 use Rattle.asl_rules.specs.runs.Evaluation.{meaning, initial_globals}
 use Rattle.asl_rules.specs.runs.Machines.{most_open, run_of, visits_of}
 use Rattle.asl_rules.specs.runs.Visits.{Entered, AtExpr, AtStmt, Visit}
 use Rattle.asl_rules.specs.private.TypedMeaning.{BareCore, TreeProgram, tree_meaning, tree_call}
 use Rattle.asl_rules.specs.private.Erasure.{erased, erased_outcome}
+use Rattle.asl_laws.specs.WidthValues.{GivesInteger, HasNumber, WidthValues}
 
 abbrev pub NotStuck : {A : Type 0} → Outcome Core A → Type 0
 NotStuck (Done x c h) = Unit {0}
@@ -38,30 +46,98 @@ GivesType base names a T (Halt e c h) = GlobalsMatch base c.globals
 
 -- ---- the nodes that are visited
 
--- an expression has a type, or is a width or a number that is written in a type
-abbrev pub IsJudged : Tests → Expr → Scope → Type 0
-IsJudged t e G = ((S : Typed) × (typed t e G ≡ Ok S)) ⊎ (((W : Width) × (width t e G ≡ Ok W)) ⊎ ((N : Number) × ((found t e).number G ≡ Ok N)))
+-- from the state on an expression gives values of the type, however many nodes may be open and whatever the meter is
+abbrev pub ValuesIn : Tests → List Decl → Accepted → Expr → Scope → Assignment → Ty → Core → Type 0
+ValuesIn t ds a e G present T c = (d : ℕ) (h : Meter) → NotStuck ((meaning (environment t ds) d).expr e c h) × GivesType a.names G.names present T ((meaning (environment t ds) d).expr e c h)
 
-pub record ExprVisited (t : Tests) (a : Accepted) (e : Expr) (c : Core) : Type 0 where
+-- and a width, or a number that is written in a type, an integer of which P says which one it is
+abbrev pub IntegersIn : Tests → List Decl → Expr → (ℤ → Type 0) → Core → Type 0
+IntegersIn t ds e P c = (d : ℕ) (h : Meter) → GivesInteger c P ((meaning (environment t ds) d).expr e c h)
+
+-- an expression has a type, and gives values of it, or is a width or a number that is written in a type, and gives its integer
+abbrev pub IsJudged : Tests → List Decl → Accepted → Expr → Scope → Assignment → Core → Type 0
+IsJudged t ds a e G present c =
+    ((S : Typed) × (typed t e G ≡ Ok S) × ValuesIn t ds a e G present S.ty c) ⊎
+    (((W : Width) × (width t e G ≡ Ok W) × IntegersIn t ds e (λ z. HasWidth W.poly present z × HasNumber e c z) c) ⊎
+    ((N : Number) × ((found t e).number G ≡ Ok N) × IntegersIn t ds e (λ z. (z ≡ N.number) × HasNumber e c z) c))
+
+-- a node that was judged in this class stands in the body of the subprogram that was called last, whose class is at least that
+abbrev pub StandsIn : List Signature → Effect → List ℕ → Type 0
+StandsIn subs class [] = ⊥
+StandsIn subs class (id ∷ ids) = (s : Signature) × (slice_get subs id ≡ Some s) × (at_most class s.class ≡ true)
+
+-- a body is that of the subprogram that was called last
+abbrev pub IsBodyOf : List Signature → Body → List ℕ → Type 0
+IsBodyOf subs b [] = ⊥
+IsBodyOf subs b (id ∷ ids) = (s : Signature) × (slice_get subs id ≡ Some s) × (b.scope.class ≡ s.class) × (b.result ≡ s.result)
+
+-- the expression was judged with the program's own subprograms, in the body of the one that was called last, and in a scope in which each `let` counts as names
+-- that stand for themselves; a condition of a statement and a pattern may be judged in a lesser class than the body
+pub record ExprVisited (t : Tests) (ds : List Decl) (a : Accepted) (e : Expr) (c : Core) : Type 0 where
   pub scope : Scope
   pub present : Assignment
-  pub judged : IsJudged t e scope
+  pub subs_are : scope.subs ≡ a.signatures
+  pub stands : StandsIn a.signatures scope.class c.live
+  pub counted : WellCounted scope.names
+  pub judged : IsJudged t ds a e scope present c
   pub agrees : Agrees a.names scope.names present c
 
+-- so was the statement, in the class and with the result of that subprogram
 pub record StmtVisited (t : Tests) (a : Accepted) (s : Stmt) (c : Core) : Type 0 where
   pub body : Body
   pub done : StmtDone
   pub present : Assignment
+  pub subs_are : body.scope.subs ≡ a.signatures
+  pub stands : IsBodyOf a.signatures body c.live
+  pub counted : WellCounted body.scope.names
   pub judged : found_stmt t s body ≡ Ok done
   pub agrees : Agrees a.names body.scope.names present c
 
-abbrev pub NodeVisited : Tests → Accepted → Entered Expr Stmt → Core → Type 0
-NodeVisited t a (AtExpr e) c = ExprVisited t a e c
-NodeVisited t a (AtStmt s) c = StmtVisited t a s c
+abbrev pub NodeVisited : Tests → List Decl → Accepted → Entered Expr Stmt → Core → Type 0
+NodeVisited t ds a (AtExpr e) c = ExprVisited t ds a e c
+NodeVisited t ds a (AtStmt s) c = StmtVisited t a s c
 
-abbrev pub AllVisited : Tests → Accepted → List (Visit Core Expr Stmt) → Type 0
-AllVisited t a [] = Unit {0}
-AllVisited t a (v ∷ vs) = Sound v.state × NodeVisited t a v.node v.state × AllVisited t a vs
+-- ---- the frames of the callers
+
+-- a typed tree calls the subprogram of this number
+abbrev pub TreeCalls : Tree → ℕ → Type 0
+TreeCalls tree id = (n : Note) × (places : List ℕ) × (ps : Trees) × (es : Trees) × (tree ≡ Call n (own id) places ps es)
+
+abbrev pub ActCalls : Act → ℕ → Type 0
+ActCalls act id = (span : Span) × (places : List ℕ) × (ps : Trees) × (es : Trees) × (act ≡ Invoke span (own id) places ps es)
+
+-- the state in which a caller's frame waits, with the globals as they are now
+abbrev pub waiting : List Binding → Frame → List Frame → List ℕ → Core
+waiting globals f fs ids = record { globals = globals; frame = f.names; handled = f.handled; callers = fs; live = ids }
+
+-- a call that a frame waits for: in this state, with the globals as they are now, it was judged as a visited expression is, and its typed tree calls the
+-- subprogram of this number
+pub record ExprWaits (t : Tests) (ds : List Decl) (a : Accepted) (id : ℕ) (c : Core) : Type 0 where
+  pub node : Expr
+  pub visited : ExprVisited t ds a node c
+  pub typing : Typed
+  pub is_typed : typed t node visited.scope ≡ Ok typing
+  pub calls : TreeCalls typing.tree id
+
+-- so a statement
+pub record StmtWaits (t : Tests) (a : Accepted) (id : ℕ) (c : Core) : Type 0 where
+  pub node : Stmt
+  pub visited : StmtVisited t a node c
+  pub calls : ActCalls visited.done.act id
+
+-- the outermost frame is what there is between two calls from outside; each other agrees with the scope of a call that it waits for, and whose subprogram is the
+-- next that is active
+abbrev pub CallersWait : Tests → List Decl → Accepted → List Binding → List Frame → List ℕ → Type 0
+CallersWait t ds a globals [] ids = ⊥
+CallersWait t ds a globals (f ∷ fs) [] = ⊥
+CallersWait t ds a globals (f ∷ []) (id ∷ ids) = (f ≡ record { names = []; handled = [] }) × (ids ≡ [])
+CallersWait t ds a globals (f ∷ g ∷ fs) (id ∷ ids) =
+    (ExprWaits t ds a id (waiting globals f (g ∷ fs) ids) ⊎ StmtWaits t a id (waiting globals f (g ∷ fs) ids)) × CallersWait t ds a globals (g ∷ fs) ids
+
+-- each visit of a run
+abbrev pub AllVisited : Tests → List Decl → Accepted → List (Visit Core Expr Stmt) → Type 0
+AllVisited t ds a [] = Unit {0}
+AllVisited t ds a (v ∷ vs) = Sound v.state × NodeVisited t ds a v.node v.state × CallersWait t ds a v.state.globals v.state.callers v.state.live × AllVisited t ds a vs
 
 -- ---- calls from outside
 
@@ -83,9 +159,10 @@ pub record Soundness (t : Tests) (ds : List Decl) (a : Accepted) : Type 0 where
   pub initial : GlobalsMatch a.names (initial_globals (environment t ds))
   pub never_stuck : (id : ℕ) (args : List Value) (globals : List Binding) (h : Meter) → IsCall a id args globals → NotStuck (run_of (environment t ds) id args globals h)
   pub keeps_globals : (id : ℕ) (args : List Value) (globals : List Binding) (h : Meter) → IsCall a id args globals → KeepsGlobals a.names (run_of (environment t ds) id args globals h)
-  pub visited : (id : ℕ) (args : List Value) (globals : List Binding) (h : Meter) → IsCall a id args globals → AllVisited t a (visits_of (environment t ds) id args globals h)
+  pub visited : (id : ℕ) (args : List Value) (globals : List Binding) (h : Meter) → IsCall a id args globals → AllVisited t ds a (visits_of (environment t ds) id args globals h)
   pub typed_values : (d : ℕ) (e : Expr) (G : Scope) (S : Typed) (p : Assignment) (c : Core) (h : Meter) → typed t e G ≡ Ok S → G.subs ≡ a.signatures → Agrees a.names G.names p c →
       NotStuck ((meaning (environment t ds) d).expr e c h) × GivesType a.names G.names p S.ty ((meaning (environment t ds) d).expr e c h)
+  pub width_values : WidthValues t ds a
 
 -- ---- typed trees
 

@@ -1,9 +1,9 @@
 -- What is claimed of the nodes that a call visits: each was judged in a scope with which the state agrees, and the typed tree of that judgement does, in the
--- state without names and types, what the node does in the state.
+-- state without names and types, what the node does in the state, and has what the run finds by names and by values.
 use Rattle.std.specs.Prelude.{◌≡◌, ℕ, ◌⊎◌, List, [], ◌∷◌, Ok}
 use Rattle.asl_syn.specs.declared.tree.Decl.{Decl}
-use Rattle.asl_syn.specs.declared.tree.Expr.{Expr}
-use Rattle.asl_syn.specs.declared.tree.Stmt.{Stmt}
+use Rattle.asl_syn.specs.declared.tree.Expr.{Expr, out-Expr}
+use Rattle.asl_syn.specs.declared.tree.Stmt.{Stmt, out-Stmt}
 use Rattle.asl_rules.specs.Tests.{Tests}
 use Rattle.asl_rules.specs.types.Closed.{Assignment}
 use Rattle.asl_rules.specs.declarations.Scopes.{Scope, Body}
@@ -20,7 +20,8 @@ use Rattle.asl_rules.specs.runs.Evaluation.{meaning}
 use Rattle.asl_rules.specs.runs.Visits.{Entered, AtExpr, AtStmt, Visit}
 use Rattle.asl_rules.specs.private.TypedMeaning.{tree_meaning}
 use Rattle.asl_rules.specs.private.Erasure.{erased, erased_outcome}
-use Rattle.asl_laws.specs.Soundness.{trees_of}
+use Rattle.asl_laws.specs.Soundness.{trees_of, StandsIn, IsBodyOf}
+use Rattle.asl_laws.specs.Chosen.{ExprChosen, StmtChosen}
 
 -- ---- a tree does the same, whatever number of nodes may be open and whatever the meter is
 
@@ -34,14 +35,17 @@ ActDoes t ds a s act c = (d : ℕ) (h : Meter) → (tree_meaning (trees_of t a) 
 
 -- ---- the nodes that are visited
 
--- an expression has a type, or is a width or a number that is written in a type; the tree of that judgement does the same
+-- an expression has a type, or is a width or a number that is written in a type; the tree of that judgement does the same, and has what the run finds by names and
+-- by values. A width and a number are of no form that finds something by values
 abbrev pub IsJudgedSame : Tests → List Decl → Accepted → Expr → Scope → Core → Type 0
 IsJudgedSame t ds a e G c =
-    ((S : Typed) × (typed t e G ≡ Ok S) × TreeDoes t ds a e S.tree c) ⊎ (((W : Width) × (width t e G ≡ Ok W) × TreeDoes t ds a e W.tree c) ⊎ ((N : Number) × ((found t e).number G ≡ Ok N) × TreeDoes t ds a e N.tree c))
+    ((S : Typed) × (typed t e G ≡ Ok S) × TreeDoes t ds a e S.tree c × ExprChosen t ds (out-Expr e) S.tree c) ⊎ (((W : Width) × (width t e G ≡ Ok W) × TreeDoes t ds a e W.tree c) ⊎ ((N : Number) × ((found t e).number G ≡ Ok N) × TreeDoes t ds a e N.tree c))
 
 pub record ExprSame (t : Tests) (ds : List Decl) (a : Accepted) (e : Expr) (c : Core) : Type 0 where
   pub scope : Scope
   pub present : Assignment
+  pub subs_are : scope.subs ≡ a.signatures
+  pub stands : StandsIn a.signatures scope.class c.live
   pub judged : IsJudgedSame t ds a e scope c
   pub agrees : Agrees a.names scope.names present c
 
@@ -49,9 +53,12 @@ pub record StmtSame (t : Tests) (ds : List Decl) (a : Accepted) (s : Stmt) (c : 
   pub body : Body
   pub done : Done
   pub present : Assignment
+  pub subs_are : body.scope.subs ≡ a.signatures
+  pub stands : IsBodyOf a.signatures body c.live
   pub judged : found_stmt t s body ≡ Ok done
   pub agrees : Agrees a.names body.scope.names present c
   pub same : ActDoes t ds a s done.act c
+  pub chosen : StmtChosen t ds (out-Stmt s) done.act c
 
 abbrev pub NodeSame : Tests → List Decl → Accepted → Entered Expr Stmt → Core → Type 0
 NodeSame t ds a (AtExpr e) c = ExprSame t ds a e c

@@ -1,12 +1,13 @@
 //! The laws of the definitions, each as the contract of a function without parameters.
 #![tactic(auto)]
 
-ghost use Rattle.std.specs.Prelude.{◌≡◌, ℕ, List, Ok, Option, ◌≤◌, [], ◌∷◌, map};
+ghost use Rattle.std.specs.Prelude.{◌≡◌, ℕ, ℤ, true, List, Ok, Option, Some, ◌≤◌, ◌↔◌, [], ◌∷◌, map, Err};
 ghost use Rattle.asl_bits.specs.declared.TheConstants.{WIDTH_LIMIT};
-ghost use Rattle.asl_grammar.specs.Reading.{File, Reads, Reader, IsReading, IsReadingAt};
+ghost use Rattle.asl_grammar.specs.Reading.{File, ReadsAt, Reader, IsReadingAt};
 ghost use Rattle.asl_grammar.specs.lexemes.Refusals.{max_width};
 ghost use Rattle.asl_grammar.specs.lexemes.Texts.{LiesIn};
 ghost use Rattle.asl_rules.specs.private.Agreement.{types_in};
+ghost use Rattle.asl_laws.specs.AgreeingTypes.{DeclarationsAgree, ScopeFormed, TypesFormed, KeepsFormed};
 ghost use Rattle.asl_laws.specs.Answers.{FaultOfFiles, FilesOk, OneAnswer};
 ghost use Rattle.asl_laws.specs.BeforeRuns.{BeginsSo};
 ghost use Rattle.asl_laws.specs.Described.{Describes};
@@ -14,7 +15,17 @@ ghost use Rattle.asl_rules.specs.runs.Machines.{run_of, visits_of};
 ghost use Rattle.asl_rules.specs.declarations.Names.{names_rule, all_declared};
 ghost use Rattle.asl_laws.specs.OneRun.{OneRun};
 ghost use Rattle.asl_rules.specs.runs.Plans.{Meter};
-ghost use Rattle.asl_rules.specs.declarations.Programs.{Environment, Accepted, ProgramOk, FaultOf, environment, verdict};
+ghost use Rattle.asl_rules.specs.declarations.Declarations.{names_of_program};
+ghost use Rattle.asl_rules.specs.declarations.Programs.{Head, funcs_of, signatures, signatures_rule, Environment, Accepted, ProgramOk, FaultOf, environment, verdict, signature_rule};
+ghost use Rattle.asl_rules.specs.declarations.Scopes.{Entry as Names, Scope, Body, is_free, type_of_name};
+ghost use Rattle.asl_rules.specs.statements.Acting.{Done};
+ghost use Rattle.asl_rules.specs.statements.Branches.{index_type, with_index, with_caught};
+ghost use Rattle.asl_rules.specs.statements.Stmts.{found_stmt};
+ghost use Rattle.asl_syn.specs.declared.tree.Direction.{Direction};
+ghost use Rattle.asl_syn.specs.declared.tree.Expr.{Expr};
+ghost use Rattle.asl_syn.specs.declared.tree.Ident.{Ident};
+ghost use Rattle.asl_syn.specs.declared.tree.Stmt.{Stmt};
+ghost use Rattle.asl_laws.specs.ScopeRules.{OutsideRules, AllBegin, KeepsRules, TypesOwn};
 ghost use Rattle.asl_rules.specs.report.Report.{report_of};
 ghost use Rattle.asl_laws.specs.Soundness.{Soundness, SameMeaning, IsCall};
 ghost use Rattle.asl_rules.specs.runs.States.{Binding};
@@ -31,9 +42,18 @@ ghost use Rattle.asl_syn.specs.declared.code.StaticCode.TheVariants.{T04};
 ghost use Rattle.asl_syn.specs.declared.tree.Decl.{Decl};
 ghost use Rattle.asl_laws.specs.Budgets.{with_more, SameWithMore, SameWordsWithMore};
 ghost use Rattle.asl_laws.specs.Evaluated.{Evaluates, HasCause};
+ghost use Rattle.asl_laws.specs.Placeless.{StandSame, JudgesSame};
 ghost use Rattle.asl_laws.specs.Reported.{RunsWell};
+ghost use Rattle.asl_laws.specs.Codes.{HasRuleCode, HasReadingCode};
 ghost use Rattle.asl_laws.specs.Visited.{AllSame};
 ghost use Rattle.asl_laws.specs.Wider.{Fits, FitsLimit, WordsFitLimit};
+ghost use Rattle.asl_laws.specs.WidthScopes.{AsksNothing, AsksSo};
+ghost use Rattle.asl_laws.specs.WidthWorth.{HasWorth, SameWorth, HasIntegers};
+ghost use Rattle.asl_rules.specs.expressions.Exprs.{found, width};
+ghost use Rattle.asl_rules.specs.expressions.Typing.{Width, Number};
+ghost use Rattle.asl_rules.specs.private.Worth.{Integers, standing_for, Obeys, WellCounted};
+ghost use Rattle.asl_rules.specs.types.Numbers.{number};
+ghost use Rattle.asl_syn.specs.declared.tree.Func.{Func};
 
 /// One run: for each program, state and node there is exactly one outcome, with one state, one number of steps left and
 /// one text after it. A call takes one step for each node that it enters, and never are more than 2,000 nodes open. An
@@ -45,27 +65,39 @@ pub fn law1()
     ensures start { (t : Tests) (ds : List Decl) → BeginsSo t ds }
 {}
 
-/// One answer: files, each entry and each width limit have exactly one of these, a program that is well formed or one
-/// single fault (`one`), and where there is a file at all, the fault's span lies within one of the files (`within`). What the
-/// rules evaluate before any run, of declarations whose names are apart, is never stuck: it gives a value of its type, or has
-/// a dynamic fault (`evaluates`). So a fault of the code T04 that is met after reading has its dynamic code, or stands at a
-/// call or a global `var` in an initialiser or in the limit of a subprogram (`cause`). A command has one report: it is the same by
-/// all right tests of one width limit, and by whatever reads files as the grammar says (`report`).
+/// One answer. Under each width limit there are right tests (`tests`). Files, each entry and each width limit have exactly one of these, a
+/// program that is well formed or one single fault (`one`), and where there is a file at all, the fault's span lies within one of the files
+/// (`within`). What the rules evaluate before any run, of declarations whose names are apart, is never stuck: it gives a value of its type,
+/// or has a dynamic fault (`evaluates`). So a fault of the code T04 that is met after reading is the dynamic fault with which the evaluation
+/// of an initialiser or of the limit of a subprogram ends, with its code and at its place in that expression; or it is that of a type
+/// without a first value, at the type of storage that has no initialiser; or it stands at a call or a global `var` in an initialiser or a
+/// limit (`cause`). A fault that is met as files are read has one of the codes L01 to L05, M03, and S01 to S03
+/// (`reading_codes`); one that is met after reading has one of the codes T01 to T25, and a dynamic code only beside T04 (`codes`). A command
+/// has one report: it is the same by all right tests of one width limit, and by whatever reads files as the grammar says (`report`).
 #[tactic(auto)]
 pub fn law2()
+    ensures tests { (limit : ℕ) → (t : Tests) × (IsRight t × (t.limit ≡ limit)) }
     ensures one { (limit : ℕ) (e : Entry) (files : List File) → OneAnswer limit e files }
     ensures within { (limit : ℕ) (e : Entry) (file : File) (files : List File) (f : Fault) → FaultOfFiles limit e (file ∷ files) f → LiesIn 0 (map (λ g. g.1) (file ∷ files)) f.span }
-    ensures evaluates { (t : Tests) → IsRight t → (files : List File) (ds : List Decl) → Reads files (Ok ds) → names_rule [] (all_declared ds) ≡ Ok tt → Evaluates t ds }
-    ensures cause { (limit : ℕ) (e : Entry) (files : List File) (ds : List Decl) (f : Fault) → Reads files (Ok ds) → (p : FaultOf limit e ds f) → f.code ≡ T04 → HasCause p.tests ds f }
-    ensures report { (t u : Tests) → IsRight t → IsRight u → t.limit ≡ u.limit → (read other : Reader) → IsReading read → IsReading other → (command : Command) (held : Text → Text) → report_of t read command held ≡ report_of u other command held }
+    ensures evaluates { (t : Tests) → IsRight t → (files : List File) (ds : List Decl) → ReadsAt t.limit files (Ok ds) → names_rule [] (all_declared ds) ≡ Ok tt → Evaluates t ds }
+    ensures cause { (limit : ℕ) (e : Entry) (files : List File) (ds : List Decl) (f : Fault) → ReadsAt limit files (Ok ds) → (p : FaultOf limit e ds f) → f.code ≡ T04 → HasCause p.tests ds f }
+    ensures reading_codes { (limit : ℕ) (files : List File) (f : Fault) → ReadsAt limit files (Err f) → HasReadingCode f }
+    ensures codes { (limit : ℕ) (e : Entry) (files : List File) (ds : List Decl) (f : Fault) → ReadsAt limit files (Ok ds) → FaultOf limit e ds f → HasRuleCode f }
+    ensures report { (t u : Tests) → IsRight t → IsRight u → t.limit ≡ u.limit → (limit : ℕ) (read other : Reader) → IsReadingAt limit read → IsReadingAt limit other → (command : Command) (held : Text → Text) → report_of t read command held ≡ report_of u other command held }
 {}
 
 /// Soundness: no run of a well-formed program is stuck. Each state that it visits is sound, each node that it visits was
-/// judged in a scope with which the state agrees, an expression with a type gives values of that type, and the globals
-/// hold what was declared, however a call ends. Typed trees do what the trees do that they were judged from.
+/// judged, with the program's own subprograms and in the body of the one that was called last, in a scope with which the
+/// state agrees, and in which each `let` counts as names that stand for themselves. Where it was judged to have a type it gives
+/// values of that type, and where it is a width or a number that is written in a type, its integer. The frame of each caller
+/// agrees with the scope of the call that it waits for, whose typed tree calls the subprogram that is active behind it. Each
+/// expression with a type gives values of it from each state that agrees with its scope. The globals hold what was declared,
+/// however a call ends. Typed trees do what the trees do that they were judged from. A width expression that is evaluated,
+/// wherever it is written, gives the integer that it has as a width, or the fault D01, or D12 or D13 as any node may, and leaves
+/// the state as it was; so does an end of a constraint (`width_values`).
 #[tactic(auto)]
 pub fn law3()
-    ensures { (limit : ℕ) (e : Entry) (files : List File) (ds : List Decl) (a : Accepted) → Reads files (Ok ds) → (p : ProgramOk limit e ds a) → Soundness p.tests ds a × SameMeaning p.tests ds a }
+    ensures { (limit : ℕ) (e : Entry) (files : List File) (ds : List Decl) (a : Accepted) → ReadsAt limit files (Ok ds) → (p : ProgramOk limit e ds a) → Soundness p.tests ds a × SameMeaning p.tests ds a }
 {}
 
 /// Law 5. The width limit decides nothing but what is too wide. Files that have a derivation have the same one under each wider limit,
@@ -83,12 +115,37 @@ pub fn law5()
     ensures one_limit { max_width ≡ WIDTH_LIMIT }
 {}
 
-/// Kinds by names: each name of a well-formed program stands for one type, and what is declared agrees (`declared`). So comparing
-/// declared names by the names and comparing kinds by structure is the same (`kinds`).
+/// Kinds by names. Where types agree with what is declared, comparing declared names by the names and comparing kinds by structure is
+/// the same (`kinds`). In each program that is read they do, be it accepted or refused. Each name of a well-formed program stands for one
+/// type, and what is declared agrees (`declared`). Of declarations whose names are apart, so do the names in each round in which they are
+/// judged, those of the scope of all signatures, and the types of the signatures with the names that bodies begin with (`agree`). In a scope
+/// whose names and results have well-formed types, expressions have such types, and so are the types that are written (`types`). Each
+/// statement leaves such a scope, and the lists of a loop and of a catcher are judged in such a scope (`kept`).
 #[tactic(auto, using(asl_rules::proofs::values::KindsByNames::kinds_by_names))]
 pub fn kinds_law()
-    ensures declared { (limit : ℕ) (e : Entry) (files : List File) (ds : List Decl) (a : Accepted) → Reads files (Ok ds) → (p : ProgramOk limit e ds a) → WellDeclared (types_in a.names) }
+    ensures declared { (limit : ℕ) (e : Entry) (files : List File) (ds : List Decl) (a : Accepted) → ReadsAt limit files (Ok ds) → (p : ProgramOk limit e ds a) → WellDeclared (types_in a.names) }
+    ensures agree { (t : Tests) → IsRight t → (files : List File) (ds : List Decl) → ReadsAt t.limit files (Ok ds) → names_rule [] (all_declared ds) ≡ Ok tt → DeclarationsAgree t ds }
+    ensures types { (t : Tests) → IsRight t → (declared : List ℕ → Option Ty) → WellDeclared declared → (G : Scope) → ScopeFormed declared G → TypesFormed t declared G }
+    ensures kept { (t : Tests) → IsRight t → (declared : List ℕ → Option Ty) → WellDeclared declared → KeepsFormed t declared }
     ensures kinds { (declared : List ℕ → Option Ty) → WellDeclared declared → (S T : Ty) → Shaped declared S → Shaped declared T → same_kind S T ≡ kind_eq (kind S) (kind T) }
+{}
+
+/// Three rules of scopes, on which soundness rests: no name is shadowed; a type mentions names of its scope alone; and a result mentions
+/// parameters alone. Constants and global `let`s have values, so the names outside bodies mention none (`outside`). The rules hold of the
+/// scope in which each body begins (`heads`), in programs that are refused too; each statement leaves a scope of which they hold
+/// (`statements`), and they hold in loops (`indices`) and in catchers (`catchers`). In a scope of which they hold, the types of expressions,
+/// and those that are written, mention names of the scope alone (`types`). What is judged of an expression or of a written type, its
+/// type, its effect, its width or its fault, is the same wherever the names of the scope have their places, so no condition asks for a
+/// slot, which typed trees have (`places`).
+#[tactic(auto)]
+pub fn scopes_law()
+    ensures outside { (t : Tests) (ds : List Decl) → OutsideRules (names_of_program t ds) }
+    ensures heads { (t : Tests) (ds : List Decl) (hs : List Head) → signatures_rule t (names_of_program t ds) (funcs_of ds) ≡ Ok hs → AllBegin (signatures hs) hs }
+    ensures types { (t : Tests) (G : Scope) → KeepsRules G → TypesOwn t G }
+    ensures statements { (t : Tests) (s : Stmt) (B : Body) (d : Done) → KeepsRules B.scope → found_stmt t s B ≡ Ok d → KeepsRules (record B.scope { names = d.names }) }
+    ensures indices { (t : Tests) (i : Ident) (d : Direction) (a b : Expr) (B : Body) → KeepsRules B.scope → is_free i.text B.scope.names ≡ true → KeepsRules (with_index i (index_type t d a b B.scope) B).scope }
+    ensures catchers { (t : Tests) (o : Option Ident) (name : List ℕ) (T : Ty) (B C : Body) → KeepsRules B.scope → type_of_name name B.scope.names ≡ Some T → with_caught o T B ≡ Ok C → KeepsRules C.scope }
+    ensures places { (t : Tests) (G : Scope) (names : List Names) → StandSame G.names names → JudgesSame t G names }
 {}
 
 /// For all files that are read to declarations which are well formed, the names of the environment are what the declarations alone
@@ -97,7 +154,7 @@ pub fn kinds_law()
 /// its type.
 #[tactic(auto)]
 pub fn environment_law()
-    ensures described { (limit : ℕ) (e : Entry) (files : List File) (ds : List Decl) (a : Accepted) → Reads files (Ok ds) → (p : ProgramOk limit e ds a) → Describes (environment p.tests ds) }
+    ensures described { (limit : ℕ) (e : Entry) (files : List File) (ds : List Decl) (a : Accepted) → ReadsAt limit files (Ok ds) → (p : ProgramOk limit e ds a) → Describes (environment p.tests ds) }
 {}
 
 /// No report is put together from a stuck run (`never_stuck`). Where files are read to declarations that are accepted with the entry
@@ -105,15 +162,17 @@ pub fn environment_law()
 /// for any words neither are the calls of `decode`, which `exec` reports.
 #[tactic(auto)]
 pub fn run_law()
-    ensures never_stuck { (t : Tests) → IsRight t → (files : List File) (ds : List Decl) → Reads files (Ok ds) → RunsWell t ds }
+    ensures never_stuck { (t : Tests) → IsRight t → (files : List File) (ds : List Decl) → ReadsAt t.limit files (Ok ds) → RunsWell t ds }
 {}
 
-/// Each node that a call visits, an expression or a statement, was judged in a scope with which the state agrees, and the typed tree of
-/// that judgement does, in the state without names and types, what the node does in the state, whatever number of nodes may be open and
-/// whatever the meter is (`same`).
+/// Each node that a call visits, an expression or a statement, was judged, with the program's own subprograms and in the body of the one
+/// that was called last, in a scope with which the state agrees. The typed tree of that judgement does, in the state without names and
+/// types, what the node does in the state, whatever number of nodes may be open and whatever the meter is; and it has what the run finds:
+/// the subprogram that a call finds by the values of its arguments, with the values of its parameters; the place of a field and the
+/// bitfields that a view has under their names; and the fields that a construction gives values to (`same`).
 #[tactic(auto)]
 pub fn visit_law()
-    ensures same { (limit : ℕ) (e : Entry) (files : List File) (ds : List Decl) (a : Accepted) → Reads files (Ok ds) → (p : ProgramOk limit e ds a) → (id : ℕ) (args : List Value) (globals : List Binding) (h : Meter) → IsCall a id args globals → AllSame p.tests ds a (visits_of (environment p.tests ds) id args globals h) }
+    ensures same { (limit : ℕ) (e : Entry) (files : List File) (ds : List Decl) (a : Accepted) → ReadsAt limit files (Ok ds) → (p : ProgramOk limit e ds a) → (id : ℕ) (args : List Value) (globals : List Binding) (h : Meter) → IsCall a id args globals → AllSame p.tests ds a (visits_of (environment p.tests ds) id args globals h) }
 {}
 
 /// The number of steps decides nothing but whether a run ends for want of steps. With k steps more a call from outside has the same
@@ -124,4 +183,24 @@ pub fn visit_law()
 pub fn budget_law()
     ensures more_steps { (env : Environment) (id : ℕ) (args : List Value) (globals : List Binding) (h : Meter) (k : ℕ) → SameWithMore k (run_of env id args globals (with_more k h)) (run_of env id args globals h) }
     ensures words { (env : Environment) (id : ℕ) (words : List ℕ) (globals : List Binding) (h : Meter) (k : ℕ) → SameWordsWithMore k (run_words env id words globals (with_more k h)) (run_words env id words globals h) }
+{}
+
+/// Widths over plain integers, which no limit bounds. Where names stand for integers that agree with what stands there, a width has the
+/// plain integer of its expression (`worth`), and so has an end of a constraint that names no atom (`number`). In a scope in which `let`s
+/// count as names that stand for themselves, the test whether two widths are the same says yes exactly where they have one plain integer
+/// at all such integers (`same`), and there are such integers whatever the names that stand for themselves stand for (`integers`). The
+/// names outside bodies are such a scope (`outside`). So are those at the head of a body, of which nothing more is asked (`heads`); those
+/// behind each statement, of which what is asked is that a `let` of one integer, where its initialiser is a width, has the plain integer
+/// of its initialiser (`statements`); and those in loops (`indices`) and in catchers (`catchers`), of which nothing more is asked.
+#[tactic(auto)]
+pub fn widths_law()
+    ensures worth { (t : Tests) (e : Expr) (G : Scope) (w : Width) (a : Integers) → width t e G ≡ Ok w → Obeys G.names a → HasWorth e G.names a w.poly }
+    ensures number { (t : Tests) (e : Expr) (G : Scope) (n : Number) (a : Integers) → (found t e).number G ≡ Ok n → Obeys G.names a → number e (standing_for a) ≡ Some n.number }
+    ensures same { (t : Tests) → IsRight t → (e f : Expr) (G : Scope) (v w : Width) → WellCounted G.names → width t e G ≡ Ok v → width t f G ≡ Ok w → (t.same v.poly w.poly ≡ true) ↔ SameWorth G.names e f }
+    ensures integers { (names : List Names) → WellCounted names → (b : ℕ → ℤ) → HasIntegers names b }
+    ensures outside { (t : Tests) (ds : List Decl) → WellCounted (names_of_program t ds) }
+    ensures heads { (t : Tests) (ds : List Decl) (f : Func) (head : Head) → signature_rule t (names_of_program t ds) f ≡ Ok head → AsksNothing (names_of_program t ds) head.names }
+    ensures statements { (t : Tests) (s : Stmt) (B : Body) (d : Done) → WellCounted B.scope.names → found_stmt t s B ≡ Ok d → AsksSo t s B d }
+    ensures indices { (i : Ident) (T : Ty) (B : Body) → WellCounted B.scope.names → is_free i.text B.scope.names ≡ true → AsksNothing B.scope.names (with_index i T B).scope.names }
+    ensures catchers { (o : Option Ident) (T : Ty) (B C : Body) → WellCounted B.scope.names → with_caught o T B ≡ Ok C → AsksNothing B.scope.names C.scope.names }
 {}

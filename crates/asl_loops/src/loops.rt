@@ -15,7 +15,7 @@ ghost use Rattle.asl_loops.specs.private.LoopViews.{bounds_of};
 ghost use Rattle.asl_blocks.specs.private.Walks.{bounds_typed, index_declared, counted_shut, for_walk, while_walk, repeat_walk, walk_stmt};
 ghost use Rattle.asl_blocks.specs.private.Views.{body_of, done_of, listed_of, maybe_operand};
 
-use asl_allowed::effects::{all_together, greater};
+use asl_allowed::effects::{greater, may_stand_together};
 use asl_blocks::body::{Body, Done, Listed, context};
 use asl_blocks::steps::{check_condition, check_integer, check_limit, ended, unboxed};
 use asl_blocks::typing::{type_in, type_limit};
@@ -119,7 +119,7 @@ pub(crate) fn end_for(
     let Listed { acts, effect } = list;
     let first = from.get().effect();
     let second = to.get().effect();
-    let is_together = all_together(Effect::Pure, &[first, second]);
+    let is_together = may_stand_together(&[first, second]);
     let effect = greater(greater(first, second), effect);
     let counted = TreeBounds {
         from: from.into_inner(),

@@ -91,7 +91,8 @@ pub(crate) fn begin(alloc: Global, checked: &Checked, steps: u64) -> Result<Memo
     ensures steps { IfOk result (λ m. m.steps ≡ steps) }
     ensures text { IfOk result (λ m. m.text_open ≡ false) }
 {
-    let (_funcs, globals) = checked.parts();
+    let parts = checked.parts();
+    let globals = parts.globals.as_slice();
     Ok(Memory {
         marks: marks(alloc, globals)?,
         values: values(alloc, globals)?,

@@ -92,8 +92,9 @@ fn run_trees<K: Sink>(
     ensures counts { Counts result (K.faults sink.old) (K.faults sink.new) }
     ensures same_full { K.full sink.new ≡ K.full sink.old }
 {
-    let (funcs, _globals) = checked.parts();
+    let parts = checked.parts();
     let mut run = enter(alloc, memory);
+<<<<<<< HEAD
     let (answer, text_open, _sink) = call_noted::<&mut K, Brand>(
         alloc,
         funcs,
@@ -103,5 +104,9 @@ fn run_trees<K: Sink>(
         args,
     );
     leave(memory, &mut run, text_open);
+=======
+    let answer = call(alloc, &parts.subs, &mut run, sink, sub.number(), args);
+    leave(memory, &mut run);
+>>>>>>> 3734bf5089e521e4ab3f7d856edffaae315ed25c
     answer
 }

@@ -1,3 +1,4 @@
+pub mod WidthLimits
 pub mod Terms
 pub mod Limits
 pub mod Operations

@@ -1,7 +1,8 @@
 -- What the operations on polynomials answer: the value of the result, when it is too large, and its terms.
-use Rattle.std.specs.Prelude.{◌≡◌, ℕ, ◌+◌, ◌*◌, ◌≤◌, ◌^◌, ℤ, ◌+ℤ◌, ◌-ℤ◌, ◌*ℤ◌, ◌≤ℤ◌, List, [], length, unsigned_abs, Option, Result, Ok, Err}
+use Rattle.std.specs.Prelude.{◌≡◌, ℕ, ◌+◌, ◌*◌, ◌≤◌, ℤ, ◌+ℤ◌, ◌-ℤ◌, ◌*ℤ◌, ◌≤ℤ◌, List, [], length, unsigned_abs, Option, Result, Ok, Err}
 use Rattle.asl_poly.specs.declared.PolyRefused.{PolyRefused}
 use Rattle.asl_poly.specs.declared.PolyRefused.TheVariants.{TooLarge, NoMemory}
+use Rattle.asl_poly.specs.WidthLimits.{heaviest, highest, most_atoms}
 use Rattle.asl_poly.specs.Terms.{Polynomial, of_terms, value}
 use Rattle.asl_poly.specs.Limits.{IsMap, weight, degree, atoms_of_both}
 use Rattle.asl_poly.specs.Operations.{constant_of, constant_terms, atom_terms, sum_terms, difference_terms, product_terms}
@@ -56,22 +57,22 @@ abbrev pub IsPolynomial : Polynomial → Type 0
 IsPolynomial p = IsMap p.terms
 
 pub record ConstantFits (c : ℤ) : Type 0 where
-  pub light : unsigned_abs c ≤ 2 ^ 62
+  pub light : unsigned_abs c ≤ heaviest
 
 -- a sum, or a difference
 pub record SumFits (p q : Polynomial) : Type 0 where
-  pub light : weight p.terms + weight q.terms ≤ 2 ^ 62
-  pub few : length (atoms_of_both p.terms q.terms) ≤ 8
+  pub light : weight p.terms + weight q.terms ≤ heaviest
+  pub few : length (atoms_of_both p.terms q.terms) ≤ most_atoms
 
 pub record ProductFits (p q : Polynomial) : Type 0 where
-  pub light : weight p.terms * weight q.terms ≤ 2 ^ 62
-  pub low : degree p.terms + degree q.terms ≤ 4
-  pub few : length (atoms_of_both p.terms q.terms) ≤ 8
+  pub light : weight p.terms * weight q.terms ≤ heaviest
+  pub low : degree p.terms + degree q.terms ≤ highest
+  pub few : length (atoms_of_both p.terms q.terms) ≤ most_atoms
 
 pub record SubstituteFits (by : List (ℕ × Polynomial)) (p : Polynomial) : Type 0 where
-  pub light : replaced_weight by p.terms ≤ 2 ^ 62
-  pub low : replaced_degree by p.terms ≤ 4
-  pub few : length (note_replaced by [] p.terms) ≤ 8
+  pub light : replaced_weight by p.terms ≤ heaviest
+  pub low : replaced_degree by p.terms ≤ highest
+  pub few : length (note_replaced by [] p.terms) ≤ most_atoms
 
 -- ---- The coefficient maps that the operations make.
 

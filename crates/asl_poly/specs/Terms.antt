@@ -2,6 +2,7 @@
 use Rattle.std.specs.Prelude.{◌≡◌, ◌≢◌, ℕ, ◌≤◌, ℤ, pos, ◌+ℤ◌, ◌*ℤ◌, List, [], ◌∷◌, length, nat_lt, if◌then◌else◌}
 use Rattle.std.specs.declared.cmp.Ordering.{Ordering}
 use Rattle.std.specs.declared.cmp.Ordering.TheVariants.{Less, Equal, Greater}
+use Rattle.asl_poly.specs.WidthLimits.{highest}
 
 -- one term of a polynomial: a coefficient, and the atoms that it is multiplied with, each as often as it is a factor, the greatest first
 pub record Summand : Type 0 where
@@ -54,7 +55,7 @@ AllBelow ms (t ∷ ts) = (order t.factors ms ≡ Less) × AllBelow ms ts
 pub record IsTerm (t : Summand) : Type 0 where
   pub counts : t.coefficient ≢ pos 0
   pub falls : Falls t.factors
-  pub degree : length t.factors ≤ 4
+  pub degree : length t.factors ≤ highest
 
 abbrev pub Sorted : List Summand → Type 0
 Sorted [] = Unit {0}

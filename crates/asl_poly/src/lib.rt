@@ -2,8 +2,8 @@
 //!
 //! A [`Poly`] is kept in normal form, so two widths are compared by their values for all integers and not by how they are
 //! written: `N + N` and `2*N` are the same. Each `Poly` is within three limits: its weight, the sum of the absolute values
-//! of its coefficients, is at most 2^62; its degree, the number of factors of a term, is at most 4; and it has at most 8
-//! atoms.
+//! of its coefficients, is at most [`HEAVIEST`]; its degree, the number of factors of a term, is at most [`HIGHEST`]; and it
+//! has at most [`MOST_ATOMS`] atoms.
 #![tactic(auto)]
 
 mod constant;
@@ -17,6 +17,7 @@ ghost use Rattle.std.specs.Prelude.{◌≢◌, ℕ, ℤ};
 ghost use Rattle.asl_poly.specs.Terms.{Polynomial};
 ghost use Rattle.asl_poly.specs.Poly.{IsPolynomial, SameAt};
 
+pub use limits::{HEAVIEST, HIGHEST, MOST_ATOMS};
 pub use poly::Poly;
 use std::alloc::AllocError;
 use std::marker::Model;

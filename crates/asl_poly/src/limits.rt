@@ -9,14 +9,14 @@ use crate::Atom;
 use crate::term::Term;
 use std::alloc::{AllocError, Global};
 
-// The greatest weight of a polynomial.
-pub(crate) const HEAVIEST: u128 = 1 << 62;
+/// The greatest weight of a polynomial, the sum of its absolute coefficients: 2^62.
+pub const HEAVIEST: u128 = 1 << 62;
 
-// The greatest degree of a term.
-pub(crate) const HIGHEST: usize = 4;
+/// The greatest degree of a polynomial, the number of factors of a term.
+pub const HIGHEST: usize = 4;
 
-// The most atoms of a polynomial.
-pub(crate) const MOST_ATOMS: usize = 8;
+/// The most atoms of a polynomial.
+pub const MOST_ATOMS: usize = 8;
 
 // The sum of the absolute coefficients.
 pub(crate) fn weight(ts: &[Term]) -> u128

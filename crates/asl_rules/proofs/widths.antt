@@ -3,5 +3,6 @@ pub mod WidthForms
 pub mod WorthForms
 pub mod WidthsWorth
 pub mod WidthAtoms
+pub mod WidthsHeld
 pub mod Counting
 pub mod ScopesCounted

@@ -10,7 +10,7 @@ ghost use Rattle.asl_blocks.specs.private.Views.{body_of, done_of};
 ghost use Rattle.asl_blocks.specs.private.Walks as walks;
 ghost use Rattle.asl_blocks.specs.private.Walks.{after};
 
-use asl_allowed::effects::{all_together, greater, greatest};
+use asl_allowed::effects::{greater, greatest, may_stand_together};
 use asl_blocks::body::{Body, Done, context};
 use asl_blocks::steps::end_simple;
 use asl_expr::exprs::type_expr;
@@ -77,7 +77,7 @@ pub fn check_print(
     ensures { (t : Tests) → Suits t → Met (done_of names.now) result (walks.print_walk t span kind items.now (body_of names.now body.now).scope) }
 {
     let Printed { effects, items } = check_items(names, body, items)?;
-    let is_together = all_together(Effect::Pure, effects.as_slice());
+    let is_together = may_stand_together(effects.as_slice());
     let effect = greater(greatest(Effect::Pure, effects.as_slice()), Effect::Writes);
     end_simple(
         body.class,

@@ -25,3 +25,5 @@ mod polynomials;
 mod types;
 #[cfg(test)]
 mod values;
+#[cfg(test)]
+mod widths;

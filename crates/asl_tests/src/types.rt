@@ -3,7 +3,7 @@ use asl_cons::Cons;
 use asl_shared::{Held, Shared};
 use asl_syn::code::{Refused, StaticCode};
 use asl_syn::token::Span;
-use asl_types::fits::{join, misfit};
+use asl_types::fits::{fits, join};
 use asl_types::sizes::{bounded, is_bounded};
 use asl_types::{FieldType, Form, Ty};
 use asl_value::{Name, Supers};
@@ -75,7 +75,7 @@ fn records(alloc: Global) -> Result<(Held<Ty>, Held<Ty>), AllocError> {
 
 /// Whether each of two types fits the other.
 fn fit_each_other(first: &Ty, second: &Ty) -> bool {
-    misfit(first, second).is_none() && misfit(second, first).is_none()
+    fits(first, second).is_none() && fits(second, first).is_none()
 }
 
 /// Whether the join of two types is one with a name.
@@ -97,7 +97,7 @@ fn fit_as_declared(
     fit_each_other(plain, paint)
         && join_has_a_name(alloc, plain, paint)
         && fit_each_other(whole, truths)
-        && misfit(plain, whole) == Some(StaticCode::T05)
+        && fits(plain, whole) == Some(StaticCode::T05)
 }
 
 #[test]

@@ -1,5 +1,7 @@
 -- What is known of a program that was checked.
-use Rattle.std.specs.Prelude.{◌≡◌, ℕ, Bool, List, [], ◌∷◌, map, Option, Ok, refl}
+use Rattle.std.specs.Prelude.{◌≡◌, ℕ, Bool, List, map, Option, Some, Ok, refl}
+use Rattle.std.specs.List.{All}
+use Rattle.std.specs.Option.{option_map}
 use Rattle.std.specs.Coded.{Coded, code_by, coded×, coded_ℕ, coded_list, coded_option}
 use Rattle.asl_syn.specs.declared.tree.Decl.{Decl}
 use Rattle.asl_syn.specs.contracts.tree.Decl.{the_row}
@@ -7,7 +9,7 @@ use Rattle.asl_rules.specs.declared.entry.Entry.{Entry}
 use Rattle.asl_rules.specs.contracts.entry.Entry as entry
 use Rattle.asl_rules.specs.private.Grown.{AreGrown}
 use Rattle.asl_rules.specs.Tests.{Tests}
-use Rattle.asl_rules.specs.declarations.Scopes.{Signature}
+use Rattle.asl_rules.specs.declarations.Scopes.{Signature, Storage, storage_of}
 use Rattle.asl_rules.specs.declarations.Scopes as scopes
 use Rattle.asl_rules.specs.declarations.Programs.{verdict, accepted, environment}
 use Rattle.asl_rules.specs.values.Values as values
@@ -18,6 +20,7 @@ use Rattle.asl_types.specs.Suits.{Suits}
 use Rattle.asl_tree.specs.Acts.{all_funcs}
 use Rattle.asl_tree.specs.declared.act.TreeFunc.{TreeFunc}
 use Rattle.asl_tree.specs.declared.checked.Global.{Global}
+use Rattle.asl_tree.specs.declared.checked.Parts.{Parts}
 
 -- the declarations, the entry that was asked for, and the number of the subprogram that it is, where one was asked for
 pub record Sealed : Type 0 where
@@ -28,6 +31,10 @@ pub record Sealed : Type 0 where
 abbrev pub sealed_code : Coded Sealed
 sealed_code = code_by (List Decl × (Entry × Option ℕ)) (coded× (coded_list the_row.coded) (coded× entry.the_row.coded (coded_option coded_ℕ)))
     (λ s. (s.decls, (s.asked, s.main))) (λ p. record { decls = p.0; asked = p.1.0; main = p.1.1 }) (λ _. refl)
+
+-- what parts are sealed to
+abbrev pub sealed_of : Parts → Sealed
+sealed_of p = record { decls = p.program.decls; asked = p.asked; main = p.entry }
 
 -- global storage: its name, its value, and whether it can be assigned
 pub record Cell : Type 0 where
@@ -47,14 +54,19 @@ cell_of g = record { name = g.name; value = value_of g.value; is_mutable = g.is_
 abbrev pub cells_of : List Global → List Cell
 cells_of gs = map cell_of gs
 
+-- a global has the type that its name has outside bodies
+abbrev pub HasItsType : List scopes.Entry → Global → Type 0
+HasItsType names g = option_map (λ (s : Storage). s.ty) (storage_of g.name names) ≡ Some g.ty
+
 -- the declarations are such as texts give, and well formed with this entry, the trees are those of their subprograms, and the globals are those that a run
--- begins with, each in source order
+-- begins with, each in source order and with its type
 pub record IsMade (t : Tests) (ds : List Decl) (asked : Entry) (main : Option ℕ) (funcs : List TreeFunc) (globals : List Global) : Type 0 where
   pub signatures : List Signature
   pub names : List scopes.Entry
   pub grown : AreGrown ds
   pub accepts : verdict asked ds t ≡ Ok (accepted asked main signatures (all_funcs funcs) names)
   pub begins : cells_of globals ≡ cells_in (initial_globals (environment t ds))
+  pub typed : All (HasItsType names) globals
 
 -- by right tests
 abbrev pub IsSealed : List Decl → Entry → Option ℕ → List TreeFunc → List Global → Type 0

@@ -1,11 +1,12 @@
 //! Programs that are well formed.
-ghost use Rattle.std.specs.Prelude.{◌≡◌, ◌↔◌, ℕ, Option};
+ghost use Rattle.std.specs.Prelude.{◌≡◌, ◌↔◌, Option};
 ghost use Rattle.asl_rules.specs.declared.entry.Entry.TheVariants.{None as NotAsked};
-ghost use Rattle.asl_tree.specs.Sealed.{Sealed, IsSealed};
+ghost use Rattle.asl_tree.specs.Sealed.{sealed_of, IsSealed};
 
 use crate::act::TreeFunc;
 use asl_rules::entry::Entry;
 use asl_syn::tree::Program;
+use asl_types::Ty;
 use asl_value::{Name, Value};
 use sqlite_items::Items;
 use std::marker::Model;
@@ -17,6 +18,8 @@ pub struct SubId {
 }
 
 impl Model for SubId {
+    ghost use Rattle.std.specs.Prelude.{ℕ};
+
     ghost Value = { ℕ };
 
     ghost view = { λ s. s.number };
@@ -40,9 +43,10 @@ impl SubId {
     }
 }
 
-/// Global storage: its name, the value that a run begins with, and whether it can be assigned.
+/// Global storage: its name, its type, the value that a run begins with, and whether it can be assigned.
 pub struct Global {
     pub name: Name,
+    pub ty: Ty,
     pub value: Value,
     pub is_mutable: bool,
 }
@@ -52,75 +56,79 @@ impl Drop for Global {
     fn drop(self) {
         let Global {
             name: _name,
+            ty,
             value,
             is_mutable: _is_mutable,
         } = self;
+        drop(ty);
         drop(value);
+    }
+}
+
+/// What a program that is well formed is sealed of: its trees as they were written, the entry that was asked for, the subprogram
+/// that it is, where one was asked for, and the typed trees of its subprograms and its globals, each in source order.
+pub struct Parts {
+    pub program: Program,
+    pub asked: Entry,
+    pub entry: Option<SubId>,
+    pub subs: Items<TreeFunc>,
+    pub globals: Vec<Global>,
+}
+
+// By hand, so that a drop of one is a call, as `Held` of asl_shared says.
+impl Drop for Parts {
+    fn drop(self) {
+        let Parts {
+            program: _program,
+            asked: _asked,
+            entry: _entry,
+            subs: _subs,
+            globals: _globals,
+        } = self;
     }
 }
 
 /// A program that is well formed with the entry that was asked for, the typed trees of its subprograms, and its globals.
 /// Contracts see its declarations and the entry: they determine the trees and the globals.
 pub struct Checked {
-    program: Program,
-    asked: Entry,
-    main: Option<SubId>,
-    funcs: Items<TreeFunc>,
-    globals: Vec<Global>,
+    parts: Parts,
 }
 
 // By hand, so that a drop of one is a call, as `Held` of asl_shared says.
 impl Drop for Checked {
     fn drop(self) {
-        let Checked {
-            program: _program,
-            asked: _asked,
-            main: _main,
-            funcs: _funcs,
-            globals: _globals,
-        } = self;
+        let Checked { parts } = self;
+        drop(parts);
     }
 }
 
 impl Model for Checked {
-    ghost use Rattle.asl_tree.specs.Sealed.{Sealed, sealed_code, IsSealed};
+    ghost use Rattle.asl_tree.specs.Sealed.{Sealed, sealed_code, sealed_of, IsSealed};
 
     ghost Value = { Sealed };
 
     ghost coded = { sealed_code };
 
-    ghost view = { λ c. record { decls = c.program.decls; asked = c.asked; main = c.main } };
+    ghost view = { λ c. sealed_of c.parts };
 
-    ghost invariant = { λ c. IsSealed c.program.decls c.asked c.main c.funcs c.globals.items };
+    ghost invariant = { λ c. IsSealed c.parts.program.decls c.parts.asked c.parts.entry c.parts.subs c.parts.globals.items };
 }
 
 impl Checked {
-    /// Seals a program that is well formed with this entry, which is this subprogram, with the typed trees of its subprograms
-    /// and its globals, each in source order.
-    pub fn seal(
-        program: Program,
-        asked: Entry,
-        main: Option<SubId>,
-        funcs: Items<TreeFunc>,
-        globals: Vec<Global>,
-    ) -> Checked
-        requires { IsSealed program.decls asked main funcs globals.items }
-        ensures { result ≡ record { decls = program.decls; asked = asked; main = main } }
+    /// Seals the parts of a program that is well formed with this entry, which is this subprogram: the typed trees of its
+    /// subprograms, and its globals with the types that their names have outside bodies and the values that a run begins with.
+    pub fn seal(parts: Parts) -> Checked
+        requires { IsSealed parts.program.decls parts.asked parts.entry parts.subs parts.globals.items }
+        ensures { result ≡ sealed_of parts }
     {
-        Checked {
-            program,
-            asked,
-            main,
-            funcs,
-            globals,
-        }
+        Checked { parts }
     }
 
     /// The entry that was asked for.
     pub fn asked(&self) -> Entry
         ensures { result ≡ self.now.asked }
     {
-        self.asked
+        self.parts.asked
     }
 
     /// The subprogram that a run begins with: none exactly where no entry was asked for.
@@ -129,20 +137,21 @@ impl Checked {
         ensures main { result ≡ self.now.main }
         ensures none { result ≡ Option.None ↔ self.now.asked ≡ NotAsked }
     {
-        self.main
+        self.parts.entry
     }
 
     /// The trees of the program, as they were written.
     pub fn program(&self) -> &Program
         ensures { result.now.decls ≡ self.now.decls }
     {
-        &self.program
+        &self.parts.program
     }
 
-    /// The typed trees of the subprograms and the globals, each in source order.
-    pub fn parts(&self) -> (&Items<TreeFunc>, &[Global])
-        ensures { IsSealed self.now.decls self.now.asked self.now.main result.0.now result.1.now }
+    /// The parts that it was sealed of.
+    pub fn parts(&self) -> &Parts
+        ensures whole { sealed_of result.now ≡ self.now }
+        ensures sealed { IsSealed self.now.decls self.now.asked self.now.main result.now.subs result.now.globals.items }
     {
-        (&self.funcs, self.globals.as_slice())
+        &self.parts
     }
 }

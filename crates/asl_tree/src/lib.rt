@@ -8,4 +8,4 @@ pub mod nodes;
 pub mod places;
 pub mod tree;
 
-pub use checked::{Checked, Global, SubId};
+pub use checked::{Checked, Global, Parts, SubId};

@@ -20,7 +20,7 @@ use Rattle.asl_poly.proofs.NormalForm.{weight_gather, weight_scaled}
 use Rattle.asl_rules.specs.Faults.{◌>>◌, need, fault_of}
 use Rattle.asl_rules.specs.expressions.Slicing.{no_width}
 use Rattle.asl_rules.specs.types.Widths as rules
-use Rattle.asl_rules.specs.types.Widths.{heaviest, most_atoms}
+use Rattle.asl_poly.specs.WidthLimits.{heaviest, most_atoms}
 use Rattle.asl_types.specs.declared.totals.Within.{Within}
 use Rattle.asl_types.specs.declared.totals.Sign.{Sign}
 use Rattle.asl_types.specs.declared.totals.Sign.TheVariants.{Plus, Minus}
@@ -132,7 +132,6 @@ too_large {Fits} m r g e = subst (Gives Fits m) e g
 -- ---- past the limits
 
 past_by : (w n : ℕ) → (2 ^ 62 < w) ⊎ (8 < n) → (nat_le w heaviest && nat_le n most_atoms) ≡ false
-unfolding heaviest most_atoms
 past_by w n (inl h) = let e : nat_le w (2 ^ 62) ≡ false = grind (arith, nat_tests, h) in ap (λ b. b && nat_le n 8) e
 past_by w n (inr h) = let e : nat_le n 8 ≡ false = grind (arith, nat_tests, h) in by (nat_le w (2 ^ 62)) e
   where
@@ -224,7 +223,6 @@ nothing w s n a = record {
 -- ---- the width at the end
 
 in_limits : (w n : ℕ) → w ≤ 2 ^ 62 → n ≤ 8 → (nat_le w heaviest && nat_le n most_atoms) ≡ true
-unfolding heaviest most_atoms
 in_limits w n h k = grind (arith, nat_tests, h, k)
 
 pub done : (w : Within) (x : rules.Total) (span : Span) → IsWithin w x → rules.totalled span x ≡ Ok w.sum

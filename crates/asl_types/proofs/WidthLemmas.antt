@@ -12,6 +12,7 @@ use Rattle.asl_poly.specs.declared.PolyRefused.{PolyRefused}
 use Rattle.asl_poly.specs.declared.PolyRefused.TheVariants.{TooLarge, NoMemory}
 use Rattle.asl_cons.specs.Arithmetic.{sum_fits, product_fits}
 use Rattle.asl_rules.specs.Faults.{◌>>◌, need}
+use Rattle.asl_poly.specs.WidthLimits.{heaviest}
 use Rattle.asl_rules.specs.types.Widths as rules
 use Rattle.asl_types.specs.private.Answers.{Agrees}
 use Rattle.asl_types.specs.private.Limited.{limited}
@@ -35,17 +36,15 @@ abs_is : (z : ℤ) → rules.weight_of z ≡ unsigned_abs z
 abs_is (pos n) = refl
 abs_is (negsuc n) = refl
 
-number_yes : (z : ℤ) → ConstantFits z → nat_le (rules.weight_of z) rules.heaviest ≡ true
-unfolding rules.heaviest
+number_yes : (z : ℤ) → ConstantFits z → nat_le (rules.weight_of z) heaviest ≡ true
 number_yes z h = let e = abs_is z in rw e (grind (arith, nat_tests, h.light))
 
-number_no : (z : ℤ) → nat_le (rules.weight_of z) rules.heaviest ≡ true → ConstantFits z
-unfolding rules.heaviest
+number_no : (z : ℤ) → nat_le (rules.weight_of z) heaviest ≡ true → ConstantFits z
 number_no z e = record { light = grind (arith, nat_tests, e, abs_is z) }
 
 pub number : (span : Span) (z : ℤ) (answer : Result Polynomial PolyRefused) (result : Result Polynomial Refused) →
     Gives (ConstantFits z) (constant_map z) answer → result ≡ limited span answer → Agrees result (rules.width_of_number span z)
-number span z answer result g is = agreed (nat_le (rules.weight_of z) rules.heaviest) span (constant_map z) answer result (number_yes z) (number_no z) g is
+number span z answer result g is = agreed (nat_le (rules.weight_of z) heaviest) span (constant_map z) answer result (number_yes z) (number_no z) g is
 
 -- ---- sums, differences and products
 

@@ -11,23 +11,17 @@ ghost use Rattle.asl_types.specs.private.Totals.{IsTotal, IsWithin, adds, added}
 use crate::answer::fault;
 use crate::integers::constant_width;
 use crate::tests::within_limits;
-use asl_poly::{Atom, Poly, PolyRefused};
+use asl_poly::{Atom, HEAVIEST, MOST_ATOMS, Poly, PolyRefused};
 use asl_syn::code::{Refused, StaticCode};
 use asl_syn::token::Span;
 use sqlite_items::Items;
 use std::alloc::{AllocError, Global};
 
-/// The greatest weight of a width: 2^62.
-const HEAVIEST: u64 = 4_611_686_018_427_387_904;
-
-/// The most atoms of a width.
-const MOST_ATOMS: usize = 8;
-
 /// A sum within the limits: the width, the weights of all that was added, and their atoms, each once.
 #[derive(Drop)]
 struct Within {
     sum: Poly,
-    weight: u64,
+    weight: u128,
     atoms: Items<Atom>,
 }
 
@@ -46,15 +40,15 @@ enum Sign {
 
 /// The weight of a width: the sum of the absolute values of its coefficients.
 #[tactic(auto, using(crate::proofs::TotalLemmas::weight_last))]
-fn weight_of(p: &Poly) -> u64
+fn weight_of(p: &Poly) -> u128
     ensures is { result ≡ limits.weight p.now.terms }
     ensures light { result ≤ 2 ^ 62 }
 {
     within_limits(p);
-    let mut total: u64 = 0;
+    let mut total: u128 = 0;
     for place in 0..p.terms() {
         match p.term(place) {
-            Some((coefficient, _)) => total += coefficient.unsigned_abs() as u64,
+            Some((coefficient, _)) => total += coefficient.unsigned_abs(),
             None => {}
         }
     }

@@ -31,7 +31,7 @@ use asl_syn::tree::{FieldValue, Ident};
 use asl_tree::nodes;
 use asl_tree::tree::{Note, Tree};
 use asl_types::answer::fault;
-use asl_types::fits::misfit;
+use asl_types::fits::fits;
 use asl_types::{FieldType, Form, Ty};
 use asl_value::{Name, Shell, Supers};
 use sqlite_items::{Boxed, Items};
@@ -224,7 +224,7 @@ fn all_fit(operands: &[Tree], types: &[Ty]) -> Result<(), Refused>
         match rest.split_first() {
             None => return Ok(()),
             Some((ty, more)) => {
-                if let Some(code) = misfit(operand.ty(), ty) {
+                if let Some(code) = fits(operand.ty(), ty) {
                     return fault(code, operand.span());
                 }
                 rest = more;

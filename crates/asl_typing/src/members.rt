@@ -44,7 +44,6 @@ fn places_in(field: &BitField) -> u64
 }
 
 /// A bitfield as a part: T20 at its name where it has more places than the limit of widths.
-#[tactic(auto, unfolding(asl_rules::specs::types::Widths::heaviest))]
 fn bitfield_part<'t>(name: &Ident, field: &'t BitField) -> Result<Member<'t>, Refused>
     ensures rule { Met member_view result (bitfield_rule name.now field.now) }
     ensures room { IfOk result (λ m. IsNarrow (member_view m)) }
@@ -194,7 +193,6 @@ fn capped(wide: u64) -> u64
 
 /// Bitfields of bits by their names: T15 where there is one that isn't, or of another type, and T20 where they have more places
 /// than the limit of widths.
-#[tactic(auto, unfolding(asl_rules::specs::types::Widths::heaviest))]
 pub fn bitfields_named(
     alloc: Global,
     span: Span,

@@ -115,7 +115,7 @@ fn conditional_note(
     let ty = joined(alloc, span, left.ty(), right.ty())?;
     let ty = bare(alloc, &ty)?;
     let parts = [condition.effect(), left.effect(), right.effect()];
-    stand_together(span, effects::all_together(Effect::Pure, &parts))?;
+    stand_together(span, effects::may_stand_together(&parts))?;
     let effect = effects::greatest(Effect::Pure, &parts);
     keep_class(class, span, effect)?;
     Ok(Note { span, ty, effect })

@@ -19,7 +19,7 @@ ghost use Rattle.asl_subprograms.specs.private.ContextView.{scope_of};
 ghost use Rattle.asl_tree.specs.View.{note_view};
 ghost use Rattle.asl_widths.specs.WidthViews.{width_of, number_of};
 
-use asl_poly::Poly;
+use asl_poly::{HEAVIEST, Poly};
 use asl_rules::effect::Effect;
 use asl_subprograms::Context;
 use asl_syn::code::{Refused, StaticCode};
@@ -36,9 +36,6 @@ use asl_types::{Counted, Standing, Storage};
 use asl_value::Value;
 use sqlite_items::Boxed;
 use std::alloc::{AllocError, Global};
-
-/// The greatest weight of a width: 2^62.
-const HEAVIEST: u128 = 4_611_686_018_427_387_904;
 
 /// The greatest integer that 128 bits hold.
 const GREATEST: u128 = 170_141_183_460_469_231_731_687_303_715_884_105_727;
@@ -156,7 +153,6 @@ fn width_of_name(alloc: Global, context: Context, span: Span, name: &[u8]) -> Re
 }
 
 /// The polynomial of an integer literal: T20 past the limit of widths.
-#[tactic(auto, unfolding(asl_rules::specs::types::Widths::heaviest))]
 fn width_of_literal(alloc: Global, span: Span, n: u128) -> Result<Poly, Refused>
     ensures { Met (λ p. p) result (limits.width_of_number span (pos n)) }
 {

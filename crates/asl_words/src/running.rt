@@ -150,8 +150,8 @@ fn argument(alloc: Global, checked: &Checked, decode: SubId, word: u32) -> Resul
     ensures word { IfOk result (λ x. IsWord word (value_of x)) }
 {
     let plain = word_value(alloc, word)?;
-    let (funcs, _globals) = checked.parts();
-    let Some(func) = funcs.as_slice().get(decode.number()) else {
+    let parts = checked.parts();
+    let Some(func) = parts.subs.as_slice().get(decode.number()) else {
         unreachable!();
     };
     let Some(formal) = func.formals.as_slice().first() else {

@@ -17,7 +17,7 @@ ghost use Rattle.asl_widths.specs.WidthViews.{width_of, number_of};
 ghost use Rattle.asl_written.specs.WrittenViews.{written_of};
 
 use crate::written::Written;
-use asl_cons::{Cons, End, Part};
+use asl_cons::{Cons, End, MOST_PARTS, Part};
 use asl_poly::Poly;
 use asl_shape::{PartShape, TypeShape};
 use asl_subprograms::Context;
@@ -32,9 +32,6 @@ use asl_types::integers::{integers, shown};
 use asl_widths::{has_atom, type_number, type_width};
 use sqlite_items::Items;
 use std::alloc::{AllocError, Global};
-
-/// The most parts of a constraint.
-const MOST_PARTS: usize = 64;
 
 /// A part of a constraint with its shape and the typed trees of its ends.
 pub(crate) struct PartWritten {

@@ -120,7 +120,7 @@ frame_at a qs gs ps xs t p w n i = same_at a (integers_of (ps ++ xs)) 0 qs gs ps
     nothing_more : (m : ℕ) → m + 0 ≡ m
     nothing_more m = omega arith
 
-module _ (tests : Tests) (right : IsRight tests) (base : List Entry) (subs : List Signature) where
+module _ (tests : Tests) (right : IsRight tests) (base : List Entry) (subs : List Signature) (loose : Bool) where
   -- the head of a signature
   signature_of : (f : Func) (h : Head) (s : Signature) (i : HeadIs tests base f h) → h.signature ≡ s → (i.params.0 ≡ s.params) × (i.formals ≡ s.formals)
   signature_of f h s i e = (ap (λ (z : Head). z.signature.params) i.is ∙ ap (λ (z : Signature). z.params) e, ap (λ (z : Head). z.signature.formals) i.is ∙ ap (λ (z : Signature). z.formals) e)
@@ -131,12 +131,12 @@ module _ (tests : Tests) (right : IsRight tests) (base : List Entry) (subs : Lis
   -- parameters of a call, asked for where they are in braces; and what they are where the arguments have their types
   pub record ParamsAsked (H : Here) (span : Span) (s : Signature) (es : List Expr) (os : List Operand) (r : Replacing) : Type 0 where
     pub asked : List Asked
-    pub asks : AllAsked tests right base subs H.scope es r.trees asked
+    pub asks : AllAsked tests right base subs loose H.scope es r.trees asked
     pub paired : Paired s.params r.given
-    pub gives : (f : Func) (h : Head) (ys xs : List Value) (c : Core) → HeadIs tests base f h → h.signature ≡ s → GlobalsMatch base c.globals → AllGive tests right base subs H asked ys → AllIn (types_in base) H.present (types_of os) xs → ParamsSo H.present span f s.params r ys xs c
+    pub gives : (f : Func) (h : Head) (ys xs : List Value) (c : Core) → HeadIs tests base f h → h.signature ≡ s → GlobalsMatch base c.globals → AllGive tests right base subs loose H asked ys → AllIn (types_in base) H.present (types_of os) xs → ParamsSo H.present span f s.params r ys xs c
 
   omitted_params : (H : Here) (span : Span) (s : Signature) (os : List Operand) (r : Replacing) → next_atom base ≡ 0 → NamesOver Never base → kinds_eq (kinds s.formals) (kinds (types_of os)) ≡ true → widths_omitted span s.params s.formals os ≡ Ok r →
-      (f : Func) (h : Head) (ys xs : List Value) (c : Core) → HeadIs tests base f h → h.signature ≡ s → GlobalsMatch base c.globals → AllGive tests right base subs H [] ys → AllIn (types_in base) H.present (types_of os) xs → ParamsSo H.present span f s.params r ys xs c
+      (f : Func) (h : Head) (ys xs : List Value) (c : Core) → HeadIs tests base f h → h.signature ≡ s → GlobalsMatch base c.globals → AllGive tests right base subs loose H [] ys → AllIn (types_in base) H.present (types_of os) xs → ParamsSo H.present span f s.params r ys xs c
   omitted_params H span s os r z g k o f h (y ∷ ys) xs c i e m v x = absurd v
   omitted_params H span s os r z g k o f h [] xs c i e m v x =
       let p = width_over (outside c) f.params 0 in
@@ -152,10 +152,10 @@ module _ (tests : Tests) (right : IsRight tests) (base : List Entry) (subs : Lis
   pub params_asked : (H : Here) (span : Span) (s : Signature) (es : List Expr) (os : List Operand) (r : Replacing) → next_atom base ≡ 0 → NamesOver Never base → kinds_eq (kinds s.formals) (kinds (types_of os)) ≡ true → widths_rule span s (map (found tests) es) os H.scope ≡ Ok r → ParamsAsked H span s es os r
   params_asked H span s [] os r z g k h =
       let o = is_omitted span s.params s.formals os r h in
-      record { asked = []; asks = subst (λ ts. AllAsked tests right base subs H.scope [] ts []) (sym o.no_trees) tt; paired = o.paired; gives = omitted_params H span s os r z g k h }
+      record { asked = []; asks = subst (λ ts. AllAsked tests right base subs loose H.scope [] ts []) (sym o.no_trees) tt; paired = o.paired; gives = omitted_params H span s os r z g k h }
   params_asked H span s (b ∷ es) os r z g k h =
       let u = then_ok (need (length (map (found tests) (b ∷ es)) == length s.params) T11 span) (widths_given (map (found tests) (b ∷ es)) H.scope) r h in
-      let q = widths_asked tests right base subs H (b ∷ es) r u.then in
+      let q = widths_asked tests right base subs loose H (b ∷ es) r u.then in
       let n = same_number (length (map (found tests) (b ∷ es))) (length s.params) (need_ok (length (map (found tests) (b ∷ es)) == length s.params) T11 span tt u.first) in
       let p = paired_by s.params r.given (q.as_many ∙ n) in
       record {

@@ -1,5 +1,5 @@
 -- What is given to the parameters of a call is of the types that are written there, and the types of formals and operands are well formed.
-use Rattle.std.proofs.Common.{◌≡◌, inl, inr, ℕ, ◌+◌, false, List, [], ◌∷◌, ◌++◌, Option, Some, None, Ok, refl, sym, ap, ◌∙◌, subst, arith, map, append_assoc}
+use Rattle.std.proofs.Common.{◌≡◌, Bool, inl, inr, ℕ, ◌+◌, false, List, [], ◌∷◌, ◌++◌, Option, Some, None, Ok, refl, sym, ap, ◌∙◌, subst, arith, map, append_assoc}
 use Rattle.asl_syn.specs.declared.token.Span.{Span}
 use Rattle.asl_syn.specs.declared.tree.Decl.{Decl}
 use Rattle.asl_syn.specs.declared.tree.Expr.{Expr}
@@ -66,7 +66,7 @@ module _ (tests : Tests) where
 nothing_more : (n : ℕ) → n + 0 ≡ n
 nothing_more n = omega arith
 
-module _ (tests : Tests) (right : IsRight tests) (ds : List Decl) (base : List Entry) (subs : List Signature) (funcs : List TreeFunc) (w : WellNamed base) where
+module _ (tests : Tests) (right : IsRight tests) (ds : List Decl) (base : List Entry) (subs : List Signature) (loose : Bool) (funcs : List TreeFunc) (w : WellNamed base) where
   -- ---- well-formed types
 
   written_good : (o : Option TypeExpr) (names : List Entry) (T : Ty) → GoodNames (types_in base) names → param_written tests o names ≡ Ok (Some T) → WellFormed (types_in base) T
@@ -87,38 +87,38 @@ module _ (tests : Tests) (right : IsRight tests) (ds : List Decl) (base : List E
       params_names ps (pre ++ record { atom = n; ty = v.value } ∷ []) (names ++ param_entry p.name.text v.value n ∷ []) r
       (named_good (types_in base) names p.name.text (type_or_itself v.value n) (Some (atom_at n)) g (itself_good p.ty names v.value n g v.first)) v.then
 
-  formals_good : (fs : List Formal) (names : List Entry) (Ts : Parts) → GoodNames (types_in base) names → formals_rule tests fs names ≡ Ok Ts → AllFormed tests right ds base subs funcs w Ts
-  formals_good [] names Ts g h = subst (AllFormed tests right ds base subs funcs w) (ok_ok no_part Ts h) tt
+  formals_good : (fs : List Formal) (names : List Entry) (Ts : Parts) → GoodNames (types_in base) names → formals_rule tests fs names ≡ Ok Ts → AllFormed tests right ds base subs loose funcs w Ts
+  formals_good [] names Ts g h = subst (AllFormed tests right ds base subs loose funcs w) (ok_ok no_part Ts h) tt
   formals_good (f ∷ fs) names Ts g h =
       let u = bind_ok (written tests f.ty false (in_names names)) _ Ts h in
       let v = bind_ok (formals_rule tests fs names) _ Ts u.then in
-      subst (AllFormed tests right ds base subs funcs w) (ok_ok (part u.value.ty v.value) Ts v.then)
+      subst (AllFormed tests right ds base subs loose funcs w) (ok_ok (part u.value.ty v.value) Ts v.then)
       (written_formed tests right (types_in base) (well_declared base w) f.ty false (in_names names) u.value g u.first, formals_good fs names v.value g v.first)
 
   -- the types of formals
-  pub formals_formed : (ps : List WrittenParam) (r : List Param × List Entry) (fs : List Formal) (Ts : Parts) → params_rule tests ps [] base ≡ Ok r → formals_rule tests fs r.1 ≡ Ok Ts → AllFormed tests right ds base subs funcs w Ts
+  pub formals_formed : (ps : List WrittenParam) (r : List Param × List Entry) (fs : List Formal) (Ts : Parts) → params_rule tests ps [] base ≡ Ok r → formals_rule tests fs r.1 ≡ Ok Ts → AllFormed tests right ds base subs loose funcs w Ts
   formals_formed ps r fs Ts h k = formals_good fs r.1 Ts (params_names ps [] base r w.good h) k
 
   -- the types of operands
-  pub operands_formed : (es : List Expr) (G : Scope) (os : List Operand) → GoodNames (types_in base) G.names → FormedSubs tests right (types_in base) (well_declared base w) G.subs → operands (map (found tests) es) G ≡ Ok os → AllFormed tests right ds base subs funcs w (types_of os)
-  operands_formed [] G os g s h = subst (λ l. AllFormed tests right ds base subs funcs w (types_of l)) (ok_ok [] os h) tt
+  pub operands_formed : (es : List Expr) (G : Scope) (os : List Operand) → GoodNames (types_in base) G.names → FormedSubs tests right (types_in base) (well_declared base w) G.subs → operands (map (found tests) es) G ≡ Ok os → AllFormed tests right ds base subs loose funcs w (types_of os)
+  operands_formed [] G os g s h = subst (λ l. AllFormed tests right ds base subs loose funcs w (types_of l)) (ok_ok [] os h) tt
   operands_formed (e ∷ es) G os g s h =
       let u = bind_ok (typed tests e G) _ os h in
       let v = bind_ok (operands (map (found tests) es) G) _ os u.then in
-      subst (λ l. AllFormed tests right ds base subs funcs w (types_of l)) (ok_ok (operand (found tests e).span u.value ∷ v.value) os v.then)
+      subst (λ l. AllFormed tests right ds base subs loose funcs w (types_of l)) (ok_ok (operand (found tests e).span u.value ∷ v.value) os v.then)
       (typed_formed tests right (types_in base) (well_declared base w) e G u.value g s u.first, operands_formed es G v.value g s v.first)
 
   -- ---- values of parameters
 
   option_has : (a av : Assignment) (span : Span) (all : List Param) (gs : List Given) (g : Given) (o : Option TypeExpr) (T : Option Ty) (names : List Entry) (n : ℕ) → ((m : ℕ) → IsAtomOf all m → replaced_at a (replaced_by all gs) m ≡ av m) → param_written tests o names ≡ Ok T → Over (IsAtomOf all) (type_or_itself T n) →
-      GoodNames (types_in base) names → fits_written tests span (replaced_by all gs) T g ≡ Ok tt → HasOption tests right ds base subs funcs w av T (int (width_at g.width a))
+      GoodNames (types_in base) names → fits_written tests span (replaced_by all gs) T g ≡ Ok tt → HasOption tests right ds base subs loose funcs w av T (int (width_at g.width a))
   option_has a av span all gs g o None names n same h over good f = tt
   option_has a av span all gs g o (Some T) names n same h over good f =
-      fits_in tests right ds base subs funcs w a av span g.span all gs (integer_of (only_width g.width)) T (int (width_at g.width a)) same over (integer_formed tests right (types_in base) (well_declared base w) (only_width g.width)) (written_good o names T good h) f
+      fits_in tests right ds base subs loose funcs w a av span g.span all gs (integer_of (only_width g.width)) T (int (width_at g.width a)) same over (integer_formed tests right (types_in base) (well_declared base w) (only_width g.width)) (written_good o names T good h) f
       (length_gives (types_in base) a tests right g.width (width_at g.width a) refl) tt
 
   params_by : (a av : Assignment) (span : Span) (all : List Param) (given : List Given) → ((m : ℕ) → IsAtomOf all m → replaced_at a (replaced_by all given) m ≡ av m) → (ps : List WrittenParam) (qs : List Param) (gs : List Given) (names : List Entry) (xs : List Value) → Along tests ps names qs → ((m : ℕ) → IsAtomOf qs m → IsAtomOf all m) →
-      NamesOver (IsAtomOf all) names → GoodNames (types_in base) names → Paired qs gs → AllWide a (polys gs) xs → params_fit tests span (replaced_by all given) qs gs ≡ Ok tt → HasParams tests right ds base subs funcs w av ps names xs
+      NamesOver (IsAtomOf all) names → GoodNames (types_in base) names → Paired qs gs → AllWide a (polys gs) xs → params_fit tests span (replaced_by all given) qs gs ≡ Ok tt → HasParams tests right ds base subs loose funcs w av ps names xs
   params_by a av span all given same [] [] [] names [] l i over good c k f = tt
   params_by a av span all given same [] [] [] names (x ∷ xs) l i over good c k f = absurd k
   params_by a av span all given same [] [] (g ∷ gs) names xs l i over good c k f = absurd c
@@ -133,11 +133,11 @@ module _ (tests : Tests) (right : IsRight tests) (ds : List Decl) (base : List E
       let u = then_ok (fits_written tests span (replaced_by all given) q.ty g) (params_fit tests span (replaced_by all given) qs gs) tt f in
       let T = type_or_itself q.ty n in
       let o = param_over tests A p.ty names q.ty n over at l.0 in
-      let here = subst (HasOption tests right ds base subs funcs w av q.ty) (sym k.0) (option_has a av span all given g p.ty q.ty names n same l.0 o good u.first) in
+      let here = subst (HasOption tests right ds base subs loose funcs w av q.ty) (sym k.0) (option_has a av span all given g p.ty q.ty names n same l.0 o good u.first) in
       let next = params_by a av span all given same ps qs gs (names ++ param_entry p.name.text q.ty n ∷ []) xs l.2 (λ m j. i m (inr j))
       (added_over A names (param_entry p.name.text q.ty n) over o (counted_in A p.name.text T (Some (atom_at n)) (λ c h. itself_in A n c at h)))
       (named_good (types_in base) names p.name.text T (Some (atom_at n)) good (itself_good p.ty names q.ty n good l.0)) c k.1 u.then in
-      ((width_at g.width a, k.0), λ S h. subst (λ V. HasOption tests right ds base subs funcs w av V x × HasParams tests right ds base subs funcs w av ps (names ++ param_entry p.name.text V n ∷ []) xs) (ok_ok q.ty S (sym l.0 ∙ h)) (here, next))
+      ((width_at g.width a, k.0), λ S h. subst (λ V. HasOption tests right ds base subs loose funcs w av V x × HasParams tests right ds base subs loose funcs w av ps (names ++ param_entry p.name.text V n ∷ []) xs) (ok_ok q.ty S (sym l.0 ∙ h)) (here, next))
 
   -- the atoms of the parameters stand in the frame for what replaces them at the caller
   pub given_at : (a : Assignment) (ps : List WrittenParam) (r : List Param × List Entry) (gs : List Given) (xs ys : List Value) → next_atom base ≡ 0 → params_rule tests ps [] base ≡ Ok r → Paired r.0 gs → AllWide a (polys gs) xs → (n : ℕ) → IsAtomOf r.0 n → replaced_at a (replaced_by r.0 gs) n ≡ integers_of (xs ++ ys) n
@@ -147,6 +147,6 @@ module _ (tests : Tests) (right : IsRight tests) (ds : List Decl) (base : List E
 
   -- what is given to parameters is of the types that are written there
   pub params_have : (a av : Assignment) (span : Span) (ps : List WrittenParam) (r : List Param × List Entry) (gs : List Given) (xs : List Value) → names_of_program tests ds ≡ base → params_rule tests ps [] base ≡ Ok r → ((n : ℕ) → IsAtomOf r.0 n → replaced_at a (replaced_by r.0 gs) n ≡ av n) → Paired r.0 gs → AllWide a (polys gs) xs →
-      params_fit tests span (replaced_by r.0 gs) r.0 gs ≡ Ok tt → HasParams tests right ds base subs funcs w av ps base xs
+      params_fit tests span (replaced_by r.0 gs) r.0 gs ≡ Ok tt → HasParams tests right ds base subs loose funcs w av ps base xs
   params_have a av span ps r gs xs is h same c k f =
       params_by a av span r.0 gs same ps r.0 gs base xs (along_all tests ps base r h) (λ m i. i) (subst (NamesOver (IsAtomOf r.0)) is (program_over tests (IsAtomOf r.0) ds)) w.good c k f

@@ -36,6 +36,7 @@ use Rattle.asl_laws.proofs.widths.PresentNumbers.{NumbersAgree}
 use Rattle.asl_rules.proofs.widths.WidthsWorth.{number_is}
 use Rattle.asl_laws.proofs.described.FirstFilled.{Begins, filled_begins}
 use Rattle.asl_laws.proofs.described.Forms.{formed}
+use Rattle.asl_laws.proofs.expressions.Claims.{nothing_around}
 
 -- what a well-formed program has outside its bodies
 pub record Outside (t : Tests) (ds : List Decl) : Type 0 where
@@ -113,7 +114,7 @@ module _ (t : Tests) (ds : List Decl) (g : Outside t ds) where
   -- a written type that is well formed evaluates to the type that it was judged as
   pub written_is : (ty : TypeExpr) (outside : Bool) (W : Written) → written t ty outside (in_names names) ≡ Ok W → written_type env ty ≡ Some (closed W.ty)
   written_is ty outside W h =
-      type_by t g.right ds names [] [] g.named (record { scope = in_names names; present = no_atoms; handled = [] }) (known_numbers env) (resting (initial_globals env)) ty outside W numbers_agree g.agrees h
+      type_by t g.right ds names [] true [] g.named (record { scope = in_names names; present = no_atoms; around = nothing_around }) (known_numbers env) (resting (initial_globals env)) ty outside W numbers_agree g.agrees h
 
   -- what such a type begins with
   pub record Begun (ty : TypeExpr) (T : Closed) : Type 0 where

@@ -1,10 +1,10 @@
 -- No evaluation before a run is stuck: it is that of a run in the state before any call, which soundness knows not to be stuck.
-use Rattle.std.proofs.Common.{◌≡◌, ℕ, zero, suc, Bool, true, false, cond, List, [], Option, Some, None, Ok, refl, subst, arith}
+use Rattle.std.proofs.Common.{◌≡◌, ℕ, zero, suc, Bool, true, false, cond, List, [], Option, Some, None, Ok, refl, subst, arith, inl}
 use Rattle.std.specs.Prelude.{ℤ, pos, negsuc, nat_le}
 use Rattle.asl_syn.specs.declared.token.Span.{Span}
 use Rattle.asl_syn.specs.declared.code.DynCode.TheVariants.{D14}
 use Rattle.asl_syn.specs.declared.tree.Decl.{Decl}
-use Rattle.asl_grammar.specs.Reading.{File, Reads}
+use Rattle.asl_grammar.specs.Reading.{File, ReadsAt}
 use Rattle.asl_rules.specs.Tests.{Tests, IsRight}
 use Rattle.asl_rules.specs.types.Types.{Ty, View, Kind}
 use Rattle.asl_rules.specs.types.Closed.{Closed, integer_in, boolean, bits_of, enumeration_of, record_of, exception_of, tuple_of, array_of, named, ClosedFields, no_field, field, ClosedParts, no_part, part, first_in}
@@ -26,7 +26,7 @@ use Rattle.asl_laws.specs.Soundness.{NotStuck, GivesType}
 use Rattle.asl_laws.specs.Evaluated.{GivesOrFaults, ConstantsGiven, names_after, Evaluates}
 use Rattle.asl_rules.proofs.scopes.Naming.{WellNamed}
 use Rattle.asl_laws.proofs.scopes.Globals.{AllBelong, grown_labels, names_good, globals_good, round_named, round_match}
-use Rattle.asl_laws.proofs.scopes.GrownTexts.{read_grown}
+use Rattle.asl_laws.proofs.scopes.GrownTexts.{read_grown_at}
 use Rattle.asl_rules.proofs.verdict.Distinct.{Distinct, distinct_of}
 use Rattle.asl_laws.proofs.evaluations.NoCalls.{ends_uncalled}
 use Rattle.asl_laws.proofs.constants.KnownStart.{starts, starts_at}
@@ -36,6 +36,7 @@ use Rattle.asl_laws.proofs.statements.AllStmts.{OtherStmts}
 use Rattle.asl_laws.proofs.soundness.GivenTypes.{typed_run, belong_by_forms}
 use Rattle.asl_laws.proofs.soundness.SoundnessEnds.{no_calls, no_procedures}
 use Rattle.asl_laws.proofs.soundness.Soundness.{others_of}
+use Rattle.asl_laws.proofs.expressions.Claims.{around_of}
 
 -- ---- first values
 
@@ -89,11 +90,11 @@ given_by base c T (Bad (Faulted code span)) r e k g = tt
 given_by base c T (Bad (Stuck mistake span)) r e k g = subst NotStuck e.1 k
 
 module _ (tests : Tests) (right : IsRight tests) (ds : List Decl) (base : List Entry) (w : WellNamed base) (m : GlobalsMatch base (globals_among ds base)) (holds : HoldsInitial (over_names tests ds base) (resting (globals_among ds base))) where
-  others : Others tests right ds base [] [] w tt
+  others : Others tests right ds base [] true [] w tt
   others = no_calls tests right ds base w
 
-  statements : OtherStmts tests right ds base [] [] w
-  statements = others_of tests right ds base [] [] w (no_procedures tests right ds base w)
+  statements : OtherStmts tests right ds base [] true [] w
+  statements = others_of tests right ds base [] true [] w (no_procedures tests right ds base w)
 
   abbrev here : Core
   here = resting (globals_among ds base)
@@ -102,8 +103,8 @@ module _ (tests : Tests) (right : IsRight tests) (ds : List Decl) (base : List E
   constants_given e k S b h =
       let u = ends_uncalled (over_names tests ds base) here holds e b in
       let full : Meter = starting u.nodes None in
-      let t = typed_run tests right ds base [] [] w tt others statements u.nodes e (record { scope = with_class (in_names base) k; present = no_atoms; handled = [] }) S here full h
-      (record { agrees = resting_agrees base (globals_among ds base) m; subs_are = refl; handled_are = refl }) in
+      let t = typed_run tests right ds base [] true [] w tt others statements u.nodes e (record { scope = with_class (in_names base) k; present = no_atoms; around = around_of (resting (globals_among ds base)) }) S here full h
+      (record { agrees = resting_agrees base (globals_among ds base) m; subs_are = refl; around_is = refl; stands = inl refl; counted = inl refl }) in
       given_by base here S.ty (constant tests.limit e base) ((meaning (over_names tests ds base) u.nodes).expr e here full) (u.so full (omega arith)) t.0 t.1
 
 -- ---- of declarations
@@ -112,7 +113,7 @@ pub evaluates : (tests : Tests) (right : IsRight tests) (ds : List Decl) → Are
 evaluates tests right ds grown apart =
     let distinct : Distinct (all_declared ds) = distinct_of (all_declared ds) [] apart in
     let labels = grown_labels ds grown in
-    let belong : AllBelong tests ds = belong_by_forms tests right ds (λ b w. (no_calls tests right ds b w, others_of tests right ds b [] [] w (no_procedures tests right ds b w))) in
+    let belong : AllBelong tests ds = belong_by_forms tests right ds (λ b w. (no_calls tests right ds b w, others_of tests right ds b [] true [] w (no_procedures tests right ds b w))) in
     record {
       rounds = λ n. constants_given tests right ds (names_after tests n ds) (round_named tests right ds distinct labels belong n) (round_match tests right ds distinct labels belong n) (starts_at tests n ds);
       all = constants_given tests right ds (names_of_program tests ds) (names_good tests right ds distinct labels belong) (globals_good tests right ds distinct labels belong) (starts tests ds);
@@ -120,5 +121,5 @@ evaluates tests right ds grown apart =
     }
 
 -- of what is read from files
-pub read_evaluates : (t : Tests) → IsRight t → (files : List File) (ds : List Decl) → Reads files (Ok ds) → names_rule [] (all_declared ds) ≡ Ok tt → Evaluates t ds
-read_evaluates t right files ds r apart = evaluates t right ds (read_grown files ds r) apart
+pub read_evaluates : (t : Tests) → IsRight t → (files : List File) (ds : List Decl) → ReadsAt t.limit files (Ok ds) → names_rule [] (all_declared ds) ≡ Ok tt → Evaluates t ds
+read_evaluates t right files ds r apart = evaluates t right ds (read_grown_at t.limit files ds r) apart

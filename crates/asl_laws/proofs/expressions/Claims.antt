@@ -1,12 +1,13 @@
 -- What is claimed of expressions and statements with their typed trees, in a program with these names outside bodies and these subprograms, at an assignment of
 -- integers to the atoms that is fixed for a frame.
-use Rattle.std.proofs.Common.{◌≡◌, ℕ, Bool, true, List, [], ◌∷◌, ◌++◌, Option, Some, None, Ok}
+use Rattle.std.proofs.Common.{◌≡◌, ◌⊎◌, ℕ, Bool, true, List, [], ◌∷◌, ◌++◌, Option, Some, None, Ok}
 use Rattle.asl_syn.specs.declared.tree.Expr.{Expr}
 use Rattle.asl_syn.specs.declared.tree.Stmt.{Stmt}
 use Rattle.asl_rules.specs.Tests.{Tests}
 use Rattle.asl_rules.specs.types.Types.{Ty}
 use Rattle.asl_rules.specs.types.Closed.{Assignment, Closed, type_with, width_at}
 use Rattle.asl_rules.specs.declarations.Scopes.{Scope, Body, Entry, Signature, with_class}
+use Rattle.asl_rules.specs.declared.effect.Effect.{Effect}
 use Rattle.asl_rules.specs.declared.effect.Effect.TheVariants.{Pure}
 use Rattle.asl_rules.specs.private.WellFormed.{WellFormed, Built}
 use Rattle.asl_rules.specs.runs.Trees.{Tree, Act}
@@ -16,20 +17,34 @@ use Rattle.asl_rules.specs.statements.Acting.{Done}
 use Rattle.asl_rules.specs.statements.Stmts.{found_stmt}
 use Rattle.asl_rules.specs.statements.Falling.{falls}
 use Rattle.asl_rules.specs.values.Values.{Value, int, Exit, Normal, Returned}
-use Rattle.asl_rules.specs.runs.States.{Core}
+use Rattle.asl_rules.specs.runs.States.{Binding, Frame, Core}
 use Rattle.asl_rules.specs.private.Belonging.{has_type, InType}
 use Rattle.asl_rules.specs.private.Agreement.{types_in, GlobalsMatch, Raised, Agrees, SameOn}
+use Rattle.asl_rules.specs.private.Worth.{WellCounted}
 use Rattle.asl_rules.specs.private.TypedMeaning.{BareCore}
 use Rattle.asl_rules.specs.private.Erasure.{erased}
+use Rattle.asl_laws.specs.Soundness.{StandsIn, IsBodyOf, TreeCalls, ActCalls, waiting}
 use Rattle.asl_laws.proofs.expressions.Twins.{Claims}
 use Rattle.asl_laws.proofs.runs.Several.{several}
 use Rattle.asl_laws.proofs.scopes.ScopesKept.{GoodScope}
 
--- where a node stands: its scope, the integers of the atoms, and what is being handled
+-- what nodes leave as it is, but for what a catcher handles: what is being handled, the frames of the callers, and the active subprograms
+pub record Around : Type 0 where
+  pub handled : List Value
+  pub callers : List Frame
+  pub live : List ℕ
+
+abbrev pub around_of : Core → Around
+around_of c = record { handled = c.handled; callers = c.callers; live = c.live }
+
+abbrev pub nothing_around : Around
+nothing_around = record { handled = []; callers = []; live = [] }
+
+-- where a node stands: its scope, the integers of the atoms, and what is around its frame
 pub record Here : Type 0 where
   pub scope : Scope
   pub present : Assignment
-  pub handled : List Value
+  pub around : Around
 
 -- what an expression is asked for: its type, in the class of the scope or as one that is Pure, what it is as a width or a number, or its type where its width is known
 pub data Asked : Type 0 where
@@ -86,23 +101,67 @@ pub record StmtClaim : Type 0 where
   pub done : Done
   pub present : Assignment
   pub params : Assignment
-  pub handled : List Value
+  pub around : Around
 
-module _ (tests : Tests) (base : List Entry) (subs : List Signature) where
-  -- the state agrees with the scope, whose subprograms are those of the program, and handles what was being handled
+-- a call that opens a frame, as it was judged: an expression with its type, or a statement
+pub data Caller : Type 0 where
+  by_expr : Here → Expr → Typed → Caller
+  by_stmt : StmtClaim → Stmt → Caller
+
+abbrev pub caller_at : Caller → Here
+caller_at (by_expr H e S) = H
+caller_at (by_stmt j s) = record { scope = j.body.scope; present = j.present; around = j.around }
+
+-- the frame that waits for a call from outside
+abbrev pub IsOutermost : Frame → List Frame → List ℕ → Type 0
+IsOutermost f fs ids = (f ≡ record { names = []; handled = [] }) × (fs ≡ []) × (ids ≡ [])
+
+module _ (tests : Tests) (base : List Entry) (subs : List Signature) (loose : Bool) where
+  -- what is known of the body that a node stands in, where one may stand outside bodies too
+  abbrev pub Bound : Type 0 → Type 0
+  Bound P = (loose ≡ true) ⊎ P
+
+  -- a call of the subprogram of this number
+  abbrev pub IsCaller : Caller → ℕ → Type 0
+  IsCaller (by_expr H e S) id = (typed tests e H.scope ≡ Ok S) × TreeCalls S.tree id
+  IsCaller (by_stmt j s) id = (found_stmt tests s j.body ≡ Ok j.done) × ActCalls j.done.act id × Bound (IsBodyOf subs j.body j.around.live)
+
+  -- a frame waits for a call, with whose scope it agrees
+  pub record Waiting (f : Frame) (fs : List Frame) (id : ℕ) (ids : List ℕ) : Type 0 where
+    pub caller : Caller
+    pub is_caller : IsCaller caller id
+    pub globals : List Binding
+    pub agrees : Agrees base (caller_at caller).scope.names (caller_at caller).present (waiting globals f fs ids)
+    pub subs_are : (caller_at caller).scope.subs ≡ subs
+    pub counted : Bound (WellCounted (caller_at caller).scope.names)
+    pub around_is : around_of (waiting globals f fs ids) ≡ (caller_at caller).around
+
+  -- a node of this class stands in the body of the subprogram that was called last, and each caller's frame waits
+  abbrev pub StandsOver : Effect → List Frame → List ℕ → Type 0
+  StandsOver k [] ids = ⊥
+  StandsOver k (f ∷ fs) [] = ⊥
+  StandsOver k (f ∷ fs) (id ∷ ids) = StandsIn subs k (id ∷ ids) × (IsOutermost f fs ids ⊎ ((q : Waiting f fs id ids) × Bound (StandsOver (caller_at q.caller).scope.class fs ids)))
+
+  abbrev pub Stands : Effect → Around → Type 0
+  Stands k r = Bound (StandsOver k r.callers r.live)
+
+  -- the state agrees with the scope, whose subprograms are those of the program, and in which each `let` counts as names that stand for themselves, and what is
+  -- around its frame is what was there
   pub record At (H : Here) (c : Core) : Type 0 where
     pub agrees : Agrees base H.scope.names H.present c
     pub subs_are : H.scope.subs ≡ subs
-    pub handled_are : c.handled ≡ H.handled
+    pub around_is : around_of c ≡ H.around
+    pub stands : Stands H.scope.class H.around
+    pub counted : Bound (WellCounted H.scope.names)
 
   -- where an exception comes out: the state agrees with these names, and maybe with more behind them, at an assignment that is the same on them
-  pub record Over (names : List Entry) (a : Assignment) (handled : List Value) (x : Value) (c : Core) : Type 0 where
+  pub record Over (names : List Entry) (a : Assignment) (around : Around) (x : Value) (c : Core) : Type 0 where
     pub raised : Raised (types_in base) x
     pub more : List Entry
     pub later : Assignment
     pub same : SameOn names a later
     pub agrees : Agrees base (names ++ more) later c
-    pub handled_are : c.handled ≡ handled
+    pub around_is : around_of c ≡ around
 
   -- an expression with its typed tree
   pub record ExprIn (H : Here) (q : Asked) (e : Expr) (t : Tree) (c : Core) : Type 0 where
@@ -114,10 +173,11 @@ module _ (tests : Tests) (base : List Entry) (subs : List Signature) where
   pub record StmtIn (j : StmtClaim) (s : Stmt) (t : Act) (c : Core) : Type 0 where
     pub is_found : found_stmt tests s j.body ≡ Ok j.done
     pub is_tree : j.done.act ≡ t
-    pub at : At (record { scope = j.body.scope; present = j.present; handled = j.handled }) c
+    pub at : At (record { scope = j.body.scope; present = j.present; around = j.around }) c
+    pub body_is : Bound (IsBodyOf subs j.body j.around.live)
     pub formed : FormedResult (types_in base) j.body.result
     pub result_is : (b : Assignment) → SameOn j.body.scope.names j.present b → result_at b j.body.result ≡ result_at j.params j.body.result
-    pub handles : j.body.handles ≡ true → Handles j.handled
+    pub handles : j.body.handles ≡ true → Handles j.around.handled
     pub scope_good : GoodScope tests j.body.scope
 
   -- a statement that ends: its end can be reached, and what is visible after it agrees
@@ -126,7 +186,7 @@ module _ (tests : Tests) (base : List Entry) (subs : List Signature) where
     pub later : Assignment
     pub same : SameOn j.body.scope.names j.present later
     pub agrees : Agrees base j.done.names later c
-    pub handled_are : c.handled ≡ j.handled
+    pub around_is : around_of c ≡ j.around
 
   -- one that returns
   pub record Left (j : StmtClaim) (o : Option Value) (c : Core) : Type 0 where
@@ -134,7 +194,7 @@ module _ (tests : Tests) (base : List Entry) (subs : List Signature) where
     pub more : List Entry
     pub later : Assignment
     pub agrees : Agrees base (j.body.scope.names ++ more) later c
-    pub handled_are : c.handled ≡ j.handled
+    pub around_is : around_of c ≡ j.around
 
   abbrev pub Ends : StmtClaim → Bool → Exit → Core → Type 0
   Ends j b Normal c = Ended j b c
@@ -147,10 +207,10 @@ module _ (tests : Tests) (base : List Entry) (subs : List Signature) where
     J = StmtClaim × Bool;
     expr_in = λ i e t c. ExprIn i.0 i.1 e t c;
     expr_out = λ i x c. GivesAsked (types_in base) i.0.present i.1 x × At i.0 c;
-    expr_thrown = λ i x c. Over i.0.scope.names i.0.present i.0.handled x c;
+    expr_thrown = λ i x c. Over i.0.scope.names i.0.present i.0.around x c;
     stmt_in = λ j s t c. StmtIn j.0 s t c × (j.1 ≡ falls s);
     stmt_out = λ j x c. Ends j.0 j.1 x c;
-    stmt_thrown = λ j x c. Over j.0.body.scope.names j.0.present j.0.handled x c;
+    stmt_thrown = λ j x c. Over j.0.body.scope.names j.0.present j.0.around x c;
     halted = λ c. GlobalsMatch base c.globals;
   }
 

@@ -90,15 +90,15 @@ numeric_both : (qs rs : List Asked) → AllNumeric qs → AllNumeric rs → AllN
 numeric_both [] rs a b = b
 numeric_both (q ∷ qs) rs a b = (a.0, numeric_both qs rs a.1 b)
 
-module _ (tests : Tests) (right : IsRight tests) (base : List Entry) (subs : List Signature) (H : Here) (fixed : (name : List ℕ) (T : Ty) → type_of_name name H.scope.names ≡ Some T → Fixed T) (same : (name : List ℕ) → type_of_name name base ≡ type_of_name name H.scope.names) where
+module _ (tests : Tests) (right : IsRight tests) (base : List Entry) (subs : List Signature) (loose : Bool) (H : Here) (fixed : (name : List ℕ) (T : Ty) → type_of_name name H.scope.names ≡ Some T → Fixed T) (same : (name : List ℕ) → type_of_name name base ≡ type_of_name name H.scope.names) where
   abbrev av : Assignment
   av = H.present
 
   abbrev Asks : List Expr → List Tree → List Asked → Type 0
-  Asks es ts qs = AllAsked tests right base subs H.scope es ts qs
+  Asks es ts qs = AllAsked tests right base subs loose H.scope es ts qs
 
   abbrev Give : List Asked → List Value → Type 0
-  Give qs xs = AllGive tests right base subs H qs xs
+  Give qs xs = AllGive tests right base subs loose H qs xs
 
   -- ---- what is found at the pieces of a type
 
@@ -148,13 +148,13 @@ module _ (tests : Tests) (right : IsRight tests) (base : List Entry) (subs : Lis
 
   one_range : (q : Asked) (z : ℤ) (P : Part) (xs rest : List Value) (k : List Value → Option SizedRanges) → ((y : Value) → GivesAsked (types_in base) av q y → y ≡ int z) → end_at P.low av ≡ z → end_at P.high av ≡ z → Give (q ∷ []) xs → part_range only (xs ++ rest) k ≡ with_range (end_at P.low av) (end_at P.high av) (k rest)
   one_range q z P xs rest k f e g h =
-      one_value tests right base subs H (λ zs. part_range only zs k ≡ with_range (end_at P.low av) (end_at P.high av) (k rest)) q xs rest h
+      one_value tests right base subs loose H (λ zs. part_range only zs k ≡ with_range (end_at P.low av) (end_at P.high av) (k rest)) q xs rest h
       (λ y i. ap (λ v. part_range only (v ∷ rest) k) (f y i) ∙ ap (λ v. with_range v z (k rest)) (sym e) ∙ ap (λ v. with_range (end_at P.low av) v (k rest)) (sym g))
 
   two_ranges : (q r : Asked) (y z : ℤ) (P : Part) (xs rest : List Value) (k : List Value → Option SizedRanges) → ((v : Value) → GivesAsked (types_in base) av q v → v ≡ int y) → ((v : Value) → GivesAsked (types_in base) av r v → v ≡ int z) → end_at P.low av ≡ y → end_at P.high av ≡ z → Give (q ∷ r ∷ []) xs →
       part_range from_to (xs ++ rest) k ≡ with_range (end_at P.low av) (end_at P.high av) (k rest)
   two_ranges q r y z P xs rest k f f2 e g h =
-      two_values tests right base subs H (λ zs. part_range from_to zs k ≡ with_range (end_at P.low av) (end_at P.high av) (k rest)) q r xs rest h
+      two_values tests right base subs loose H (λ zs. part_range from_to zs k ≡ with_range (end_at P.low av) (end_at P.high av) (k rest)) q r xs rest h
       (λ v u i j. ap (λ t. part_range from_to (t ∷ u ∷ rest) k) (f v i) ∙ ap (λ t. part_range from_to (int y ∷ t ∷ rest) k) (f2 u j) ∙ ap (λ t. with_range t z (k rest)) (sym e) ∙ ap (λ t. with_range (end_at P.low av) t (k rest)) (sym g))
 
   only_says : (b : Bool) (e : Expr) (W : WrittenPart) → cond b (one_width (found tests e) H.scope) (one_number (found tests e) H.scope) ≡ Ok W → PartSays (record { shape = only; exprs = e ∷ [] }) W
@@ -217,7 +217,7 @@ module _ (tests : Tests) (right : IsRight tests) (base : List Entry) (subs : Lis
         numeric = (tt, tt);
         shape_is = refl;
         asks = (p.first, refl, tt);
-        places = λ xs rest k hi lo e1 e2 g. one_value tests right base subs H (λ zs. bitfield_at (shapes.one_place i.text) zs k ≡ with_bitfield i.text hi lo (k rest)) (of_width p.value) xs rest g
+        places = λ xs rest k hi lo e1 e2 g. one_value tests right base subs loose H (λ zs. bitfield_at (shapes.one_place i.text) zs k ≡ with_bitfield i.text hi lo (k rest)) (of_width p.value) xs rest g
             (λ y j. ap (λ v. bitfield_at (shapes.one_place i.text) (v ∷ rest) k) (j ∙ ap int e1) ∙ ap (λ n. with_bitfield i.text hi n (k rest)) (same_pos hi lo (sym e1 ∙ e2)));
       }))
 
@@ -237,7 +237,7 @@ module _ (tests : Tests) (right : IsRight tests) (base : List Entry) (subs : Lis
         numeric = (tt, (tt, tt));
         shape_is = refl;
         asks = (p.first, refl, (q.first, refl, tt));
-        places = λ xs rest k hi lo e1 e2 g. two_values tests right base subs H (λ zs. bitfield_at (shapes.many_places i.text) zs k ≡ with_bitfield i.text hi lo (k rest)) (of_width p.value) (of_width q.value) xs rest g
+        places = λ xs rest k hi lo e1 e2 g. two_values tests right base subs loose H (λ zs. bitfield_at (shapes.many_places i.text) zs k ≡ with_bitfield i.text hi lo (k rest)) (of_width p.value) (of_width q.value) xs rest g
             (λ v u j l. ap (λ t. bitfield_at (shapes.many_places i.text) (t ∷ u ∷ rest) k) (j ∙ ap int e1) ∙ ap (λ t. bitfield_at (shapes.many_places i.text) (int (pos hi) ∷ t ∷ rest) k) (l ∙ ap int e2));
       })))
 
@@ -282,9 +282,9 @@ module _ (tests : Tests) (right : IsRight tests) (base : List Entry) (subs : Lis
         asked = a.asked ++ b.asked;
         numeric = numeric_both a.asked b.asked a.numeric b.numeric;
         shapes_are = ap (λ q. q ∷ shapes_in range_parts (map (λ p. p.0) ps)) a.shape_is ∙ ap (λ l. s.value.shape ∷ l) b.shapes_are;
-        asks = asks_both tests right base subs H (range_parts p.0).exprs (exprs_in range_parts (map (λ p. p.0) ps)) s.value.trees (part_trees r.value) a.asked b.asked a.asks b.asks;
+        asks = asks_both tests right base subs loose H (range_parts p.0).exprs (exprs_in range_parts (map (λ p. p.0) ps)) s.value.trees (part_trees r.value) a.asked b.asked a.asks b.asks;
         ranges = λ xs rest g.
-            let v = split tests right base subs H a.asked b.asked xs g in
+            let v = split tests right base subs loose H a.asked b.asked xs g in
             ap (λ l. part_range s.value.shape (l ++ rest) (all_ranges (part_shapes r.value))) v.are
             ∙ ap (λ l. part_range s.value.shape l (all_ranges (part_shapes r.value))) (append_assoc v.first v.second rest)
             ∙ a.ranges v.first (v.second ++ rest) (all_ranges (part_shapes r.value)) v.own
@@ -333,9 +333,9 @@ module _ (tests : Tests) (right : IsRight tests) (base : List Entry) (subs : Lis
         asked = a.asked ++ c.asked;
         numeric = numeric_both a.asked c.asked a.numeric c.numeric;
         shapes_are = ap (λ q. q ∷ shapes_in bitfield_parts (map (λ b. b.0) bs)) a.shape_is ∙ ap (λ l. s.value.shape ∷ l) c.shapes_are;
-        asks = asks_both tests right base subs H (bitfield_parts b.0).exprs (exprs_in bitfield_parts (map (λ b. b.0) bs)) s.value.trees (field_trees r.value) a.asked c.asked a.asks c.asks;
+        asks = asks_both tests right base subs loose H (bitfield_parts b.0).exprs (exprs_in bitfield_parts (map (λ b. b.0) bs)) s.value.trees (field_trees r.value) a.asked c.asked a.asks c.asks;
         view = λ span z ns u xs rest n p g.
-            let v = split tests right base subs H a.asked c.asked xs g in
+            let v = split tests right base subs loose H a.asked c.asked xs g in
             let hi = bind_ok (found_or (constant_value s.value.high.width) T19 s.value.high.span) _ ns n in
             let lo = bind_ok (found_or (constant_value s.value.low.width) T19 s.value.low.span) _ ns hi.then in
             let ms = bind_ok (all_numbered r.value) _ ns lo.then in
@@ -382,9 +382,9 @@ module _ (tests : Tests) (right : IsRight tests) (base : List Entry) (subs : Lis
         asked = a.asked ++ b.asked;
         numeric = numeric_both a.asked b.asked a.numeric b.numeric;
         shapes_are = ap (λ o. first_shape o (shaped.type_shapes (types_among base) (shapes_in type_parts (map (λ t. t.0) ts)))) a.shape_is ∙ ap (first_shape (Some s.value.shape)) b.shapes_are;
-        asks = asks_both tests right base subs H (type_parts t.0).exprs (exprs_in type_parts (map (λ t. t.0) ts)) s.value.sizes (all_sizes r.value) a.asked b.asked a.asks b.asks;
+        asks = asks_both tests right base subs loose H (type_parts t.0).exprs (exprs_in type_parts (map (λ t. t.0) ts)) s.value.sizes (all_sizes r.value) a.asked b.asked a.asks b.asks;
         fills = λ whole xs rest g.
-            let v = split tests right base subs H a.asked b.asked xs g in
+            let v = split tests right base subs loose H a.asked b.asked xs g in
             let f = a.fills whole v.first (v.second ++ rest) v.own in
             let k = b.fills whole v.second rest v.others in
             record {
@@ -537,7 +537,7 @@ module _ (tests : Tests) (right : IsRight tests) (base : List Entry) (subs : Lis
         numeric = (tt, a.numeric);
         shape_is = ap (λ l. Some (shapes.bits_of span l)) (fields_same (map (λ b. b.0) bs) ∙ a.shapes_are);
         asks = (w.first, refl, subst (λ l. Asks l (field_trees x.value) a.asked) (sym (field_exprs_same (map (λ b. b.0) bs))) a.asks);
-        fills = λ whole xs rest g. one_first tests right base subs H (λ zs. Fills (bits_of w.value.poly v.value) (width_filled tests.limit span (field_shapes x.value) (zs ++ rest)) rest) (of_width w.value) a.asked xs g
+        fills = λ whole xs rest g. one_first tests right base subs loose H (λ zs. Fills (bits_of w.value.poly v.value) (width_filled tests.limit span (field_shapes x.value) (zs ++ rest)) rest) (of_width w.value) a.asked xs g
             (λ y ys i j. bits_fill span whole tests.limit w.value.poly v.value (field_shapes x.value) y (ys ++ rest) rest i (view_fills (map (λ b. b.0) bs) x.value a span w.value.poly v.value ys rest v.first j));
       })
   layer_says (ex.TupleType span ts) outside W h =
@@ -566,7 +566,7 @@ module _ (tests : Tests) (right : IsRight tests) (base : List Entry) (subs : Lis
         numeric = (tt, a.numeric);
         shape_is = ap (option_map (λ s. shapes.array_of s)) a.shape_is;
         asks = (w.first, refl, a.asks);
-        fills = λ whole xs rest g. one_first tests right base subs H (λ zs. Fills b.value (by_length (zs ++ rest) (filled tests.limit whole u.value.shape)) rest) (of_width w.value) a.asked xs g
+        fills = λ whole xs rest g. one_first tests right base subs loose H (λ zs. Fills b.value (by_length (zs ++ rest) (filled tests.limit whole u.value.shape)) rest) (of_width w.value) a.asked xs g
             (λ y ys i j. resized (array_of n.value u.value.ty) b.value _ rest (bounded_ok span (array_of n.value u.value.ty) b.value b.first) (array_fills n.value u.value.ty y (ys ++ rest) rest (filled tests.limit whole u.value.shape) (i ∙ ap int long) (a.fills whole ys rest j)));
       })
 

@@ -1,4 +1,5 @@
--- What is asked of each value that a rule of the grammar may give: each span in it lies in the file of this number and size.
+-- What is asked of each value that a rule of the grammar may give: each span in it lies in the file of this number and size, and each literal of bits keeps
+-- within the width limit.
 use Rattle.std.proofs.Common.{◌≡◌, ℕ, ◌+◌, ◌≤◌, ◌⊎◌, inl, inr, List, [], ◌∷◌, ◌++◌, Option, Some, None, arith}
 use Rattle.asl_syn.specs.declared.token.Span.{Span}
 use Rattle.asl_syn.specs.declared.tree.Ident.{Ident}
@@ -38,7 +39,8 @@ use Rattle.asl_grammar.specs.declared.parts.SliceForm.{SliceForm}
 use Rattle.asl_grammar.specs.grammar.Cursor.{Lexeme, Extent}
 use Rattle.asl_grammar.specs.grammar.Build.{seconds, or_nil, behind, ident, Link, Links, AsLinks, Posts, LateTail, NameTail, SumTail, LateRange, VarRest, MoreNames, Typed, Untyped}
 use Rattle.asl_rules.proofs.verdict.SameRules.{AllOf}
-use Rattle.asl_laws.proofs.spans.Spans.{Spans, Each, all_of, of_names, maybe, expr_spans, given_spans, slice_spans, type_spans, part_spans, bitfield_spans, pattern_spans, suffix_spans, target_spans, binder_spans, bind_spans, item_spans, stmt_spans, branch_spans, alternative_spans, otherwise_spans, catcher_spans, formal_spans, param_spans, def_spans, decl_spans}
+use Rattle.asl_laws.specs.Spans.{Mark, place, literal, Spans, Each, all_of, of_names, maybe, expr_spans, given_spans, slice_spans, type_spans, part_spans, bitfield_spans, pattern_spans, suffix_spans, target_spans, binder_spans, bind_spans, item_spans, stmt_spans, branch_spans, alternative_spans, otherwise_spans, catcher_spans, formal_spans, param_spans, def_spans, decl_spans}
+use Rattle.asl_laws.proofs.reading.Literals.{IsLiteral}
 use Rattle.asl_laws.proofs.reading.Inside.{LexIn, ExtIn, in_opt}
 
 -- ---- values of two types
@@ -50,12 +52,17 @@ abbrev pub in_sum : {A B : Type 0} → (A → Type 0) → (B → Type 0) → A �
 in_sum S T (inl a) = S a
 in_sum S T (inr b) = T b
 
-module _ (n size : ℕ) where
+module _ (n size limit : ℕ) where
   -- ---- spans
 
   -- a span of this file, which lies in its text of so many bytes
   abbrev pub P : Span → Type 0
   P span = (span.file ≡ n) × (span.start + span.len ≤ size)
+
+  -- so at a literal of bits, whose text is one under this width limit
+  abbrev pub MarkIn : Mark → Type 0
+  MarkIn (place span) = P span
+  MarkIn (literal span text) = P span × IsLiteral limit text
 
   -- a span that is only begun with: where it ends is not asked
   abbrev pub FromIn : Span → Type 0
@@ -67,70 +74,70 @@ module _ (n size : ℕ) where
   -- ---- trees
 
   abbrev pub ExprIn : Expr → Type 0
-  ExprIn e = Each P (expr_spans e)
+  ExprIn e = Each MarkIn (expr_spans e)
 
   abbrev pub SliceIn : Slice → Type 0
-  SliceIn x = Each P (slice_spans x)
+  SliceIn x = Each MarkIn (slice_spans x)
 
   abbrev pub FieldValueIn : FieldValue → Type 0
-  FieldValueIn x = Each P (given_spans x)
+  FieldValueIn x = Each MarkIn (given_spans x)
 
   abbrev pub TypeExprIn : TypeExpr → Type 0
-  TypeExprIn ty = Each P (type_spans ty)
+  TypeExprIn ty = Each MarkIn (type_spans ty)
 
   abbrev pub ConstraintPartIn : ConstraintPart → Type 0
-  ConstraintPartIn x = Each P (part_spans x)
+  ConstraintPartIn x = Each MarkIn (part_spans x)
 
   abbrev pub BitfieldIn : Bitfield → Type 0
-  BitfieldIn x = Each P (bitfield_spans x)
+  BitfieldIn x = Each MarkIn (bitfield_spans x)
 
   abbrev pub PatternIn : Pattern → Type 0
-  PatternIn p = Each P (pattern_spans p)
+  PatternIn p = Each MarkIn (pattern_spans p)
 
   abbrev pub SuffixIn : Suffix → Type 0
-  SuffixIn x = Each P (suffix_spans x)
+  SuffixIn x = Each MarkIn (suffix_spans x)
 
   abbrev pub PlacedSuffixIn : PlacedSuffix → Type 0
   PlacedSuffixIn x = SuffixIn x.suffix × (x.end ≤ size)
 
   abbrev pub TargetIn : Target → Type 0
-  TargetIn x = Each P (target_spans x)
+  TargetIn x = Each MarkIn (target_spans x)
 
   abbrev pub BinderIn : Binder → Type 0
-  BinderIn x = Each P (binder_spans x)
+  BinderIn x = Each MarkIn (binder_spans x)
 
   abbrev pub BindIn : Bind → Type 0
-  BindIn x = Each P (bind_spans x)
+  BindIn x = Each MarkIn (bind_spans x)
 
   abbrev pub PrintItemIn : PrintItem → Type 0
-  PrintItemIn x = Each P (item_spans x)
+  PrintItemIn x = Each MarkIn (item_spans x)
 
   abbrev pub StmtIn : Stmt → Type 0
-  StmtIn s = Each P (stmt_spans s)
+  StmtIn s = Each MarkIn (stmt_spans s)
 
   abbrev pub ElseIfIn : ElseIf → Type 0
-  ElseIfIn x = Each P (branch_spans x)
+  ElseIfIn x = Each MarkIn (branch_spans x)
 
   abbrev pub AlternativeIn : Alternative → Type 0
-  AlternativeIn x = Each P (alternative_spans x)
+  AlternativeIn x = Each MarkIn (alternative_spans x)
 
   abbrev pub OtherwiseIn : Otherwise → Type 0
-  OtherwiseIn x = Each P (otherwise_spans x)
+  OtherwiseIn x = Each MarkIn (otherwise_spans x)
 
   abbrev pub CatcherIn : Catcher → Type 0
-  CatcherIn x = Each P (catcher_spans x)
+  CatcherIn x = Each MarkIn (catcher_spans x)
 
   abbrev pub FormalIn : Formal → Type 0
-  FormalIn x = Each P (formal_spans x)
+  FormalIn x = Each MarkIn (formal_spans x)
 
   abbrev pub ParamIn : Param → Type 0
-  ParamIn x = Each P (param_spans x)
+  ParamIn x = Each MarkIn (param_spans x)
 
   abbrev pub TypeDefIn : TypeDef → Type 0
-  TypeDefIn x = Each P (def_spans x)
+  TypeDefIn x = Each MarkIn (def_spans x)
 
   abbrev pub DeclIn : Decl → Type 0
-  DeclIn d = Each P (decl_spans d)
+  DeclIn d = Each MarkIn (decl_spans d)
 
   -- ---- what has no span
 
@@ -195,24 +202,24 @@ module _ (n size : ℕ) where
 
   -- ---- lists and options of trees
 
-  pub each_in : {A : Type 0} (f : A → Spans) (xs : List A) → AllOf (λ x. Each P (f x)) xs → Each P (all_of f xs)
+  pub each_in : {A : Type 0} (f : A → Spans) (xs : List A) → AllOf (λ x. Each MarkIn (f x)) xs → Each MarkIn (all_of f xs)
   each_in f [] h = tt
   each_in f (x ∷ xs) h = (h.0, each_in f xs h.1)
 
-  pub each_names_in : (is : List Ident) → AllOf IdentIn is → Each P (of_names is)
+  pub each_names_in : (is : List Ident) → AllOf IdentIn is → Each MarkIn (of_names is)
   each_names_in [] h = tt
   each_names_in (i ∷ is) h = (h.0, each_names_in is h.1)
 
-  pub each_maybe_in : {A : Type 0} (f : A → Spans) (o : Option A) → in_opt (λ x. Each P (f x)) o → Each P (maybe f o)
+  pub each_maybe_in : {A : Type 0} (f : A → Spans) (o : Option A) → in_opt (λ x. Each MarkIn (f x)) o → Each MarkIn (maybe f o)
   each_maybe_in f None h = tt
   each_maybe_in f (Some x) h = h
 
   -- and back
-  pub of_each_in : {A : Type 0} (f : A → Spans) (xs : List A) → Each P (all_of f xs) → AllOf (λ x. Each P (f x)) xs
+  pub of_each_in : {A : Type 0} (f : A → Spans) (xs : List A) → Each MarkIn (all_of f xs) → AllOf (λ x. Each MarkIn (f x)) xs
   of_each_in f [] h = tt
   of_each_in f (x ∷ xs) h = (h.0, of_each_in f xs h.1)
 
-  pub of_each_names_in : (is : List Ident) → Each P (of_names is) → AllOf IdentIn is
+  pub of_each_names_in : (is : List Ident) → Each MarkIn (of_names is) → AllOf IdentIn is
   of_each_names_in [] h = tt
   of_each_names_in (i ∷ is) h = (h.0, of_each_names_in is h.1)
 

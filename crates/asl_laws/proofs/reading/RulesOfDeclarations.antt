@@ -24,155 +24,155 @@ use Rattle.asl_laws.proofs.reading.RulesOfExpressions.{name_inside, type_express
 use Rattle.asl_laws.proofs.reading.RulesOfParts.{typed_inside}
 use Rattle.asl_laws.proofs.reading.RulesOfStatements.{value_inside, maybe_value_inside, block_inside}
 
-module _ (n size : ℕ) where
+module _ (n size limit : ℕ) where
   -- ---- Declarations
 
-  formal_inside : (v : Formal) → In n size formal v → FormalIn n size v
+  formal_inside : (v : Formal) → In n size limit formal v → FormalIn n size limit v
   unfolding formal
-  formal_inside v (x, h, e) = subst (FormalIn n size) (sym e) (name_inside n size x.0 h.0, type_expression_inside n size x.1.1 h.1.1)
+  formal_inside v (x, h, e) = subst (FormalIn n size limit) (sym e) (name_inside n size limit x.0 h.0, type_expression_inside n size limit x.1.1 h.1.1)
 
-  formal_list_inside : (v : List Formal) → In n size formal_list v → AllOf (FormalIn n size) v
+  formal_list_inside : (v : List Formal) → In n size limit formal_list v → AllOf (FormalIn n size limit) v
   unfolding formal_list
-  formal_list_inside v (x, h, e) = subst (AllOf (FormalIn n size)) (sym e) (formal_inside x.0 h.0, seconds_in n size (FormalIn n size) x.1 (all_inside (λ x h. (h.0, formal_inside x.1 h.1)) x.1 h.1))
+  formal_list_inside v (x, h, e) = subst (AllOf (FormalIn n size limit)) (sym e) (formal_inside x.0 h.0, seconds_in n size limit (FormalIn n size limit) x.1 (all_inside (λ x h. (h.0.0, formal_inside x.1 h.1)) x.1 h.1))
 
-  maybe_formals_inside : (v : List Formal) → In n size maybe_formals v → AllOf (FormalIn n size) v
+  maybe_formals_inside : (v : List Formal) → In n size limit maybe_formals v → AllOf (FormalIn n size limit) v
   unfolding maybe_formals
-  maybe_formals_inside v (x, h, e) = subst (AllOf (FormalIn n size)) (sym e) (or_nil_in (FormalIn n size) x (opt_inside (formal_list_inside) x h))
+  maybe_formals_inside v (x, h, e) = subst (AllOf (FormalIn n size limit)) (sym e) (or_nil_in (FormalIn n size limit) x (opt_inside (formal_list_inside) x h))
 
-  formals_inside : (v : List Formal) → In n size formals v → AllOf (FormalIn n size) v
+  formals_inside : (v : List Formal) → In n size limit formals v → AllOf (FormalIn n size limit) v
   unfolding formals
-  formals_inside v h = subst (AllOf (FormalIn n size)) (sym h.2) (maybe_formals_inside h.0.1.0 h.1.1.0)
+  formals_inside v h = subst (AllOf (FormalIn n size limit)) (sym h.2) (maybe_formals_inside h.0.1.0 h.1.1.0)
 
-  param_inside : (v : Param) → In n size param v → ParamIn n size v
+  param_inside : (v : Param) → In n size limit param v → ParamIn n size limit v
   unfolding param
-  param_inside v (x, h, e) = subst (ParamIn n size) (sym e) (param_node n size (record { name = x.0; ty = x.1 }) (name_inside n size x.0 h.0) (typed_inside n size x.1 h.1))
+  param_inside v (x, h, e) = subst (ParamIn n size limit) (sym e) (param_node n size limit (record { name = x.0; ty = x.1 }) (name_inside n size limit x.0 h.0) (typed_inside n size limit x.1 h.1))
 
-  param_list_inside : (v : List Param) → In n size param_list v → AllOf (ParamIn n size) v
+  param_list_inside : (v : List Param) → In n size limit param_list v → AllOf (ParamIn n size limit) v
   unfolding param_list
-  param_list_inside v (x, h, e) = subst (AllOf (ParamIn n size)) (sym e) (param_inside x.0 h.0, seconds_in n size (ParamIn n size) x.1 (all_inside (λ x h. (h.0, param_inside x.1 h.1)) x.1 h.1))
+  param_list_inside v (x, h, e) = subst (AllOf (ParamIn n size limit)) (sym e) (param_inside x.0 h.0, seconds_in n size limit (ParamIn n size limit) x.1 (all_inside (λ x h. (h.0.0, param_inside x.1 h.1)) x.1 h.1))
 
-  maybe_param_list_inside : (v : List Param) → In n size maybe_param_list v → AllOf (ParamIn n size) v
+  maybe_param_list_inside : (v : List Param) → In n size limit maybe_param_list v → AllOf (ParamIn n size limit) v
   unfolding maybe_param_list
-  maybe_param_list_inside v (x, h, e) = subst (AllOf (ParamIn n size)) (sym e) (or_nil_in (ParamIn n size) x (opt_inside (param_list_inside) x h))
+  maybe_param_list_inside v (x, h, e) = subst (AllOf (ParamIn n size limit)) (sym e) (or_nil_in (ParamIn n size limit) x (opt_inside (param_list_inside) x h))
 
-  params_inside : (v : List Param) → In n size params v → AllOf (ParamIn n size) v
+  params_inside : (v : List Param) → In n size limit params v → AllOf (ParamIn n size limit) v
   unfolding params
-  params_inside v h = subst (AllOf (ParamIn n size)) (sym h.2) (maybe_param_list_inside h.0.1.0 h.1.1.0)
+  params_inside v h = subst (AllOf (ParamIn n size limit)) (sym h.2) (maybe_param_list_inside h.0.1.0 h.1.1.0)
 
-  maybe_params_inside : (v : List Param) → In n size maybe_params v → AllOf (ParamIn n size) v
+  maybe_params_inside : (v : List Param) → In n size limit maybe_params v → AllOf (ParamIn n size limit) v
   unfolding maybe_params
-  maybe_params_inside v (x, h, e) = subst (AllOf (ParamIn n size)) (sym e) (or_nil_in (ParamIn n size) x (opt_inside (params_inside) x h))
+  maybe_params_inside v (x, h, e) = subst (AllOf (ParamIn n size limit)) (sym e) (or_nil_in (ParamIn n size limit) x (opt_inside (params_inside) x h))
 
-  label_list_inside : (v : List Ident) → In n size label_list v → AllOf (IdentIn n size) v
+  label_list_inside : (v : List Ident) → In n size limit label_list v → AllOf (IdentIn n size limit) v
   unfolding label_list
-  label_list_inside v (x, h, e) = subst (AllOf (IdentIn n size)) (sym e) (name_inside n size x.0 h.0, seconds_in n size (IdentIn n size) x.1.0 (all_inside (λ x h. (h.0, name_inside n size x.1 h.1)) x.1.0 h.1.0))
+  label_list_inside v (x, h, e) = subst (AllOf (IdentIn n size limit)) (sym e) (name_inside n size limit x.0 h.0, seconds_in n size limit (IdentIn n size limit) x.1.0 (all_inside (λ x h. (h.0, name_inside n size limit x.1 h.1)) x.1.0 h.1.0))
 
-  label_braces_inside : (v : List Ident) → In n size label_braces v → AllOf (IdentIn n size) v
+  label_braces_inside : (v : List Ident) → In n size limit label_braces v → AllOf (IdentIn n size limit) v
   unfolding label_braces
-  label_braces_inside v h = subst (AllOf (IdentIn n size)) (sym h.2) (label_list_inside h.0.1.0 h.1.1.0)
+  label_braces_inside v h = subst (AllOf (IdentIn n size limit)) (sym h.2) (label_list_inside h.0.1.0 h.1.1.0)
 
-  labels_inside : (v : TypeDef) → In n size labels v → TypeDefIn n size v
+  labels_inside : (v : TypeDef) → In n size limit labels v → TypeDefIn n size limit v
   unfolding labels
-  labels_inside v (x, h, e) = subst (TypeDefIn n size) (sym e) (labels_node n size (whole x.1) x.0.1 (whole_in n size x.1 h.1) (label_braces_inside x.0.1 h.0.1))
+  labels_inside v (x, h, e) = subst (TypeDefIn n size limit) (sym e) (labels_node n size limit (whole x.1) x.0.1 (whole_in n size x.1 h.1) (label_braces_inside x.0.1 h.0.1))
 
-  no_members_inside : (v : List Formal) → In n size no_members v → AllOf (FormalIn n size) v
+  no_members_inside : (v : List Formal) → In n size limit no_members v → AllOf (FormalIn n size limit) v
   unfolding no_members
-  no_members_inside v (x, h, e) = subst (AllOf (FormalIn n size)) (sym e) tt
+  no_members_inside v (x, h, e) = subst (AllOf (FormalIn n size limit)) (sym e) tt
 
-  listed_members_inside : (v : List Formal) → In n size listed_members v → AllOf (FormalIn n size) v
+  listed_members_inside : (v : List Formal) → In n size limit listed_members v → AllOf (FormalIn n size limit) v
   unfolding listed_members
-  listed_members_inside v (x, h, e) = subst (AllOf (FormalIn n size)) (sym e) (formal_inside x.0 h.0, seconds_in n size (FormalIn n size) x.1.0 (all_inside (λ x h. (h.0, formal_inside x.1 h.1)) x.1.0 h.1.0))
+  listed_members_inside v (x, h, e) = subst (AllOf (FormalIn n size limit)) (sym e) (formal_inside x.0 h.0, seconds_in n size limit (FormalIn n size limit) x.1.0 (all_inside (λ x h. (h.0, formal_inside x.1 h.1)) x.1.0 h.1.0))
 
-  some_members_inside : (v : List Formal) → In n size some_members v → AllOf (FormalIn n size) v
+  some_members_inside : (v : List Formal) → In n size limit some_members v → AllOf (FormalIn n size limit) v
   unfolding some_members
   some_members_inside v (inl h) = no_members_inside v h
   some_members_inside v (inr h) = listed_members_inside v h
 
-  maybe_some_members_inside : (v : List Formal) → In n size maybe_some_members v → AllOf (FormalIn n size) v
+  maybe_some_members_inside : (v : List Formal) → In n size limit maybe_some_members v → AllOf (FormalIn n size limit) v
   unfolding maybe_some_members
-  maybe_some_members_inside v (x, h, e) = subst (AllOf (FormalIn n size)) (sym e) (or_nil_in (FormalIn n size) x (opt_inside (some_members_inside) x h))
+  maybe_some_members_inside v (x, h, e) = subst (AllOf (FormalIn n size limit)) (sym e) (or_nil_in (FormalIn n size limit) x (opt_inside (some_members_inside) x h))
 
-  member_braces_inside : (v : List Formal) → In n size member_braces v → AllOf (FormalIn n size) v
+  member_braces_inside : (v : List Formal) → In n size limit member_braces v → AllOf (FormalIn n size limit) v
   unfolding member_braces
-  member_braces_inside v h = subst (AllOf (FormalIn n size)) (sym h.2) (maybe_some_members_inside h.0.1.0 h.1.1.0)
+  member_braces_inside v h = subst (AllOf (FormalIn n size limit)) (sym h.2) (maybe_some_members_inside h.0.1.0 h.1.1.0)
 
-  members_inside : (v : List Formal) → In n size members v → AllOf (FormalIn n size) v
+  members_inside : (v : List Formal) → In n size limit members v → AllOf (FormalIn n size limit) v
   unfolding members
-  members_inside v (x, h, e) = subst (AllOf (FormalIn n size)) (sym e) (or_nil_in (FormalIn n size) x (opt_inside (member_braces_inside) x h))
+  members_inside v (x, h, e) = subst (AllOf (FormalIn n size limit)) (sym e) (or_nil_in (FormalIn n size limit) x (opt_inside (member_braces_inside) x h))
 
-  record_type_inside : (v : TypeDef) → In n size record_type v → TypeDefIn n size v
+  record_type_inside : (v : TypeDef) → In n size limit record_type v → TypeDefIn n size limit v
   unfolding record_type
-  record_type_inside v (x, h, e) = subst (TypeDefIn n size) (sym e) (record_node n size (whole x.1) x.0.1 (whole_in n size x.1 h.1) (members_inside x.0.1 h.0.1))
+  record_type_inside v (x, h, e) = subst (TypeDefIn n size limit) (sym e) (record_node n size limit (whole x.1) x.0.1 (whole_in n size x.1 h.1) (members_inside x.0.1 h.0.1))
 
-  exception_type_inside : (v : TypeDef) → In n size exception_type v → TypeDefIn n size v
+  exception_type_inside : (v : TypeDef) → In n size limit exception_type v → TypeDefIn n size limit v
   unfolding exception_type
-  exception_type_inside v (x, h, e) = subst (TypeDefIn n size) (sym e) (exception_node n size (whole x.1) x.0.1 (whole_in n size x.1 h.1) (members_inside x.0.1 h.0.1))
+  exception_type_inside v (x, h, e) = subst (TypeDefIn n size limit) (sym e) (exception_node n size limit (whole x.1) x.0.1 (whole_in n size x.1 h.1) (members_inside x.0.1 h.0.1))
 
-  type_definition_inside : (v : TypeDef) → In n size type_definition v → TypeDefIn n size v
+  type_definition_inside : (v : TypeDef) → In n size limit type_definition v → TypeDefIn n size limit v
   unfolding type_definition
-  type_definition_inside v (inl h) = subst (TypeDefIn n size) (sym h.2) (type_expression_inside n size h.0 h.1)
+  type_definition_inside v (inl h) = subst (TypeDefIn n size limit) (sym h.2) (type_expression_inside n size limit h.0 h.1)
   type_definition_inside v (inr (inl h)) = labels_inside v h
   type_definition_inside v (inr (inr (inl h))) = record_type_inside v h
   type_definition_inside v (inr (inr (inr h))) = exception_type_inside v h
 
-  supertype_inside : (v : Option Ident) → In n size supertype v → in_opt (IdentIn n size) v
+  supertype_inside : (v : Option Ident) → In n size limit supertype v → in_opt (IdentIn n size limit) v
   unfolding supertype
-  supertype_inside v h = opt_inside (λ x h. subst (IdentIn n size) (sym h.2) (name_inside n size h.0.1 h.1.1)) v h
+  supertype_inside v h = opt_inside (λ x h. subst (IdentIn n size limit) (sym h.2) (name_inside n size limit h.0.1 h.1.1)) v h
 
-  type_decl_inside : (v : Decl) → In n size type_decl v → DeclIn n size v
+  type_decl_inside : (v : Decl) → In n size limit type_decl v → DeclIn n size limit v
   unfolding type_decl
-  type_decl_inside v (x, h, e) = subst (DeclIn n size) (sym e) (type_node n size (record { span = whole x.1; name = x.0.1.0; def = x.0.1.1.1.0; supertype = x.0.1.1.1.1.0 }) (whole_in n size x.1 h.1) (name_inside n size x.0.1.0 h.0.1.0) (type_definition_inside x.0.1.1.1.0 h.0.1.1.1.0) (supertype_inside x.0.1.1.1.1.0 h.0.1.1.1.1.0))
+  type_decl_inside v (x, h, e) = subst (DeclIn n size limit) (sym e) (type_node n size limit (record { span = whole x.1; name = x.0.1.0; def = x.0.1.1.1.0; supertype = x.0.1.1.1.1.0 }) (whole_in n size x.1 h.1) (name_inside n size limit x.0.1.0 h.0.1.0) (type_definition_inside x.0.1.1.1.0 h.0.1.1.1.0) (supertype_inside x.0.1.1.1.1.0 h.0.1.1.1.1.0))
 
-  fixed_kind_inside : (v : StorageKind) → In n size fixed_kind v → StorageKindIn n size v
+  fixed_kind_inside : (v : StorageKind) → In n size limit fixed_kind v → StorageKindIn n size limit v
   unfolding fixed_kind
-  fixed_kind_inside v (inl h) = subst (StorageKindIn n size) (sym h.2) tt
-  fixed_kind_inside v (inr h) = subst (StorageKindIn n size) (sym h.2) tt
+  fixed_kind_inside v (inl h) = subst (StorageKindIn n size limit) (sym h.2) tt
+  fixed_kind_inside v (inr h) = subst (StorageKindIn n size limit) (sym h.2) tt
 
-  fixed_storage_inside : (v : Decl) → In n size fixed_storage v → DeclIn n size v
+  fixed_storage_inside : (v : Decl) → In n size limit fixed_storage v → DeclIn n size limit v
   unfolding fixed_storage
-  fixed_storage_inside v (x, h, e) = subst (DeclIn n size) (sym e) (storage_node n size (record { span = whole x.1; kind = x.0.0; name = x.0.1.0; ty = x.0.1.1.0; init = Some x.0.1.1.1 }) (whole_in n size x.1 h.1) (name_inside n size x.0.1.0 h.0.1.0) (typed_inside n size x.0.1.1.0 h.0.1.1.0) (value_inside n size x.0.1.1.1 h.0.1.1.1))
+  fixed_storage_inside v (x, h, e) = subst (DeclIn n size limit) (sym e) (storage_node n size limit (record { span = whole x.1; kind = x.0.0; name = x.0.1.0; ty = x.0.1.1.0; init = Some x.0.1.1.1 }) (whole_in n size x.1 h.1) (name_inside n size limit x.0.1.0 h.0.1.0) (typed_inside n size limit x.0.1.1.0 h.0.1.1.0) (value_inside n size limit x.0.1.1.1 h.0.1.1.1))
 
-  typed_var_inside : (v : Option TypeExpr × Option Expr) → In n size typed_var v → in_opt (TypeExprIn n size) v.0 × in_opt (ExprIn n size) v.1
+  typed_var_inside : (v : Option TypeExpr × Option Expr) → In n size limit typed_var v → in_opt (TypeExprIn n size limit) v.0 × in_opt (ExprIn n size limit) v.1
   unfolding typed_var
-  typed_var_inside v (x, h, e) = subst (in_pair (in_opt (TypeExprIn n size)) (in_opt (ExprIn n size))) (sym e) (type_expression_inside n size x.1.0 h.1.0, maybe_value_inside n size x.1.1 h.1.1)
+  typed_var_inside v (x, h, e) = subst (in_pair (in_opt (TypeExprIn n size limit)) (in_opt (ExprIn n size limit))) (sym e) (type_expression_inside n size limit x.1.0 h.1.0, maybe_value_inside n size limit x.1.1 h.1.1)
 
-  global_rest_inside : (v : Option TypeExpr × Option Expr) → In n size global_rest v → in_opt (TypeExprIn n size) v.0 × in_opt (ExprIn n size) v.1
+  global_rest_inside : (v : Option TypeExpr × Option Expr) → In n size limit global_rest v → in_opt (TypeExprIn n size limit) v.0 × in_opt (ExprIn n size limit) v.1
   unfolding global_rest
   global_rest_inside v (inl h) = typed_var_inside v h
-  global_rest_inside v (inr h) = subst (in_pair (in_opt (TypeExprIn n size)) (in_opt (ExprIn n size))) (sym h.2) (untyped_in n size h.0 (value_inside n size h.0 h.1))
+  global_rest_inside v (inr h) = subst (in_pair (in_opt (TypeExprIn n size limit)) (in_opt (ExprIn n size limit))) (sym h.2) (untyped_in n size limit h.0 (value_inside n size limit h.0 h.1))
 
-  global_var_inside : (v : Decl) → In n size global_var v → DeclIn n size v
+  global_var_inside : (v : Decl) → In n size limit global_var v → DeclIn n size limit v
   unfolding global_var
-  global_var_inside v (x, h, e) = subst (DeclIn n size) (sym e) (storage_node n size (record { span = whole x.1; kind = sk.Var; name = x.0.1.0; ty = x.0.1.1.0; init = x.0.1.1.1 }) (whole_in n size x.1 h.1) (name_inside n size x.0.1.0 h.0.1.0) ((global_rest_inside x.0.1.1 h.0.1.1).0) ((global_rest_inside x.0.1.1 h.0.1.1).1))
+  global_var_inside v (x, h, e) = subst (DeclIn n size limit) (sym e) (storage_node n size limit (record { span = whole x.1; kind = sk.Var; name = x.0.1.0; ty = x.0.1.1.0; init = x.0.1.1.1 }) (whole_in n size x.1 h.1) (name_inside n size limit x.0.1.0 h.0.1.0) ((global_rest_inside x.0.1.1 h.0.1.1).0) ((global_rest_inside x.0.1.1 h.0.1.1).1))
 
-  result_type_inside : (v : Option TypeExpr) → In n size result_type v → in_opt (TypeExprIn n size) v
+  result_type_inside : (v : Option TypeExpr) → In n size limit result_type v → in_opt (TypeExprIn n size limit) v
   unfolding result_type
-  result_type_inside v h = opt_inside (λ x h. subst (TypeExprIn n size) (sym h.2) (type_expression_inside n size h.0.1 h.1.1)) v h
+  result_type_inside v h = opt_inside (λ x h. subst (TypeExprIn n size limit) (sym h.2) (type_expression_inside n size limit h.0.1 h.1.1)) v h
 
-  recursion_limit_inside : (v : Option Expr) → In n size recursion_limit v → in_opt (ExprIn n size) v
+  recursion_limit_inside : (v : Option Expr) → In n size limit recursion_limit v → in_opt (ExprIn n size limit) v
   unfolding recursion_limit
-  recursion_limit_inside v h = opt_inside (λ x h. subst (ExprIn n size) (sym h.2) (expression_inside n size h.0.1 h.1.1)) v h
+  recursion_limit_inside v h = opt_inside (λ x h. subst (ExprIn n size limit) (sym h.2) (expression_inside n size limit h.0.1 h.1.1)) v h
 
-  written_qualifier_inside : (v : Qualifier) → In n size written_qualifier v → QualifierIn n size v
+  written_qualifier_inside : (v : Qualifier) → In n size limit written_qualifier v → QualifierIn n size limit v
   unfolding written_qualifier
-  written_qualifier_inside v (inl h) = subst (QualifierIn n size) (sym h.2) tt
-  written_qualifier_inside v (inr h) = subst (QualifierIn n size) (sym h.2) tt
+  written_qualifier_inside v (inl h) = subst (QualifierIn n size limit) (sym h.2) tt
+  written_qualifier_inside v (inr h) = subst (QualifierIn n size limit) (sym h.2) tt
 
-  qualifier_inside : (v : Qualifier) → In n size qualifier v → QualifierIn n size v
+  qualifier_inside : (v : Qualifier) → In n size limit qualifier v → QualifierIn n size limit v
   unfolding qualifier
-  qualifier_inside v (x, h, e) = subst (QualifierIn n size) (sym e) tt
+  qualifier_inside v (x, h, e) = subst (QualifierIn n size limit) (sym e) tt
 
-  function_inside : (v : Decl) → In n size function v → DeclIn n size v
+  function_inside : (v : Decl) → In n size limit function v → DeclIn n size limit v
   unfolding function
-  function_inside v (x, h, e) = subst (DeclIn n size) (sym e) (func_node n size (record { span = whole x.1; qualifier = x.0.0; name = x.0.1.1.0; params = x.0.1.1.1.0; formals = x.0.1.1.1.1.0; result = x.0.1.1.1.1.1.0; limit = x.0.1.1.1.1.1.1.0; body = x.0.1.1.1.1.1.1.1.1.0 }) (whole_in n size x.1 h.1) (name_inside n size x.0.1.1.0 h.0.1.1.0) (maybe_params_inside x.0.1.1.1.0 h.0.1.1.1.0) (formals_inside x.0.1.1.1.1.0 h.0.1.1.1.1.0) (result_type_inside x.0.1.1.1.1.1.0 h.0.1.1.1.1.1.0) (recursion_limit_inside x.0.1.1.1.1.1.1.0 h.0.1.1.1.1.1.1.0) (block_inside n size x.0.1.1.1.1.1.1.1.1.0 h.0.1.1.1.1.1.1.1.1.0))
+  function_inside v (x, h, e) = subst (DeclIn n size limit) (sym e) (func_node n size limit (record { span = whole x.1; qualifier = x.0.0; name = x.0.1.1.0; params = x.0.1.1.1.0; formals = x.0.1.1.1.1.0; result = x.0.1.1.1.1.1.0; limit = x.0.1.1.1.1.1.1.0; body = x.0.1.1.1.1.1.1.1.1.0 }) (whole_in n size x.1 h.1) (name_inside n size limit x.0.1.1.0 h.0.1.1.0) (maybe_params_inside x.0.1.1.1.0 h.0.1.1.1.0) (formals_inside x.0.1.1.1.1.0 h.0.1.1.1.1.0) (result_type_inside x.0.1.1.1.1.1.0 h.0.1.1.1.1.1.0) (recursion_limit_inside x.0.1.1.1.1.1.1.0 h.0.1.1.1.1.1.1.0) (block_inside n size limit x.0.1.1.1.1.1.1.1.1.0 h.0.1.1.1.1.1.1.1.1.0))
 
-  declaration_inside : (v : Decl) → In n size declaration v → DeclIn n size v
+  declaration_inside : (v : Decl) → In n size limit declaration v → DeclIn n size limit v
   unfolding declaration
   declaration_inside v (inl h) = type_decl_inside v h
   declaration_inside v (inr (inl h)) = fixed_storage_inside v h
   declaration_inside v (inr (inr (inl h))) = global_var_inside v h
   declaration_inside v (inr (inr (inr h))) = function_inside v h
 
-  pub program_inside : (v : List Decl) → In n size program v → AllOf (DeclIn n size) v
+  pub program_inside : (v : List Decl) → In n size limit program v → AllOf (DeclIn n size limit) v
   unfolding program
   program_inside v h = all_inside (declaration_inside) v h

@@ -30,217 +30,217 @@ use Rattle.asl_laws.proofs.reading.Symbols.{In}
 use Rattle.asl_laws.proofs.reading.RulesOfExpressions.{name_inside, names_inside, arguments_inside, suffixes_inside, type_expression_inside, expression_inside, maybe_expressions_inside, maybe_expression_inside}
 use Rattle.asl_laws.proofs.reading.RulesOfParts.{patterns_inside, typed_inside}
 
-module _ (n size : ℕ) where
+module _ (n size limit : ℕ) where
   -- ---- Statements
 
-  pass_inside : (v : Stmt) → In n size pass v → StmtIn n size v
+  pass_inside : (v : Stmt) → In n size limit pass v → StmtIn n size limit v
   unfolding pass
-  pass_inside v (x, h, e) = subst (StmtIn n size) (sym e) (pass_node n size (whole x.1) (whole_in n size x.1 h.1))
+  pass_inside v (x, h, e) = subst (StmtIn n size limit) (sym e) (pass_node n size limit (whole x.1) (whole_in n size x.1 h.1))
 
-  unreachable_inside : (v : Stmt) → In n size unreachable v → StmtIn n size v
+  unreachable_inside : (v : Stmt) → In n size limit unreachable v → StmtIn n size limit v
   unfolding unreachable
-  unreachable_inside v (x, h, e) = subst (StmtIn n size) (sym e) (unreachable_node n size (whole x.1) (whole_in n size x.1 h.1))
+  unreachable_inside v (x, h, e) = subst (StmtIn n size limit) (sym e) (unreachable_node n size limit (whole x.1) (whole_in n size x.1 h.1))
 
-  assert_inside : (v : Stmt) → In n size assert v → StmtIn n size v
+  assert_inside : (v : Stmt) → In n size limit assert v → StmtIn n size limit v
   unfolding assert
-  assert_inside v (x, h, e) = subst (StmtIn n size) (sym e) (assert_node n size (whole x.1) x.0.1.0 (whole_in n size x.1 h.1) (expression_inside n size x.0.1.0 h.0.1.0))
+  assert_inside v (x, h, e) = subst (StmtIn n size limit) (sym e) (assert_node n size limit (whole x.1) x.0.1.0 (whole_in n size x.1 h.1) (expression_inside n size limit x.0.1.0 h.0.1.0))
 
-  bind_name_inside : (v : Bind) → In n size bind_name v → BindIn n size v
+  bind_name_inside : (v : Bind) → In n size limit bind_name v → BindIn n size limit v
   unfolding bind_name
-  bind_name_inside v (x, h, e) = subst (BindIn n size) (sym e) (name_inside n size x h)
+  bind_name_inside v (x, h, e) = subst (BindIn n size limit) (sym e) (name_inside n size limit x h)
 
-  no_binder_inside : (v : Binder) → In n size no_binder v → BinderIn n size v
+  no_binder_inside : (v : Binder) → In n size limit no_binder v → BinderIn n size limit v
   unfolding no_binder
-  no_binder_inside v (x, h, e) = subst (BinderIn n size) (sym e) h
+  no_binder_inside v (x, h, e) = subst (BinderIn n size limit) (sym e) h.0
 
-  binder_inside : (v : Binder) → In n size binder v → BinderIn n size v
+  binder_inside : (v : Binder) → In n size limit binder v → BinderIn n size limit v
   unfolding binder
-  binder_inside v (inl h) = subst (BinderIn n size) (sym h.2) (name_inside n size h.0 h.1)
+  binder_inside v (inl h) = subst (BinderIn n size limit) (sym h.2) (name_inside n size limit h.0 h.1)
   binder_inside v (inr h) = no_binder_inside v h
 
-  more_binders_inside : (v : List Binder) → In n size more_binders v → AllOf (BinderIn n size) v
+  more_binders_inside : (v : List Binder) → In n size limit more_binders v → AllOf (BinderIn n size limit) v
   unfolding more_binders
-  more_binders_inside v (x, h, e) = subst (AllOf (BinderIn n size)) (sym e) (seconds_in n size (BinderIn n size) x (all_inside (λ x h. (h.0, binder_inside x.1 h.1)) x h))
+  more_binders_inside v (x, h, e) = subst (AllOf (BinderIn n size limit)) (sym e) (seconds_in n size limit (BinderIn n size limit) x (all_inside (λ x h. (h.0.0, binder_inside x.1 h.1)) x h))
 
-  two_binders_inside : (v : List Binder) → In n size two_binders v → AllOf (BinderIn n size) v
+  two_binders_inside : (v : List Binder) → In n size limit two_binders v → AllOf (BinderIn n size limit) v
   unfolding two_binders
-  two_binders_inside v (x, h, e) = subst (AllOf (BinderIn n size)) (sym e) (behind_in (BinderIn n size) (x.0 ∷ x.1.1.0 ∷ []) x.1.1.1 (binder_inside x.0 h.0, (binder_inside x.1.1.0 h.1.1.0, tt)) (more_binders_inside x.1.1.1 h.1.1.1))
+  two_binders_inside v (x, h, e) = subst (AllOf (BinderIn n size limit)) (sym e) (behind_in (BinderIn n size limit) (x.0 ∷ x.1.1.0 ∷ []) x.1.1.1 (binder_inside x.0 h.0, (binder_inside x.1.1.0 h.1.1.0, tt)) (more_binders_inside x.1.1.1 h.1.1.1))
 
-  several_inside : (v : Bind) → In n size several v → BindIn n size v
+  several_inside : (v : Bind) → In n size limit several v → BindIn n size limit v
   unfolding several
-  several_inside v (x, h, e) = subst (BindIn n size) (sym e) (several_node n size (whole x.1) x.0 (whole_in n size x.1 h.1) (subst (AllOf (BinderIn n size)) (sym h.0.2) (two_binders_inside h.0.0.1.0 h.0.1.1.0)))
+  several_inside v (x, h, e) = subst (BindIn n size limit) (sym e) (several_node n size limit (whole x.1) x.0 (whole_in n size x.1 h.1) (subst (AllOf (BinderIn n size limit)) (sym h.0.2) (two_binders_inside h.0.0.1.0 h.0.1.1.0)))
 
-  other_bind_inside : (v : Bind) → In n size other_bind v → BindIn n size v
+  other_bind_inside : (v : Bind) → In n size limit other_bind v → BindIn n size limit v
   unfolding other_bind
-  other_bind_inside v (inl h) = subst (BindIn n size) (sym h.2) (no_binder_inside h.0 h.1)
+  other_bind_inside v (inl h) = subst (BindIn n size limit) (sym h.2) (no_binder_inside h.0 h.1)
   other_bind_inside v (inr h) = several_inside v h
 
-  local_bind_inside : (v : Bind) → In n size local_bind v → BindIn n size v
+  local_bind_inside : (v : Bind) → In n size limit local_bind v → BindIn n size limit v
   unfolding local_bind
   local_bind_inside v (inl h) = bind_name_inside v h
   local_bind_inside v (inr h) = other_bind_inside v h
 
-  pub value_inside : (v : Expr) → In n size value v → ExprIn n size v
+  pub value_inside : (v : Expr) → In n size limit value v → ExprIn n size limit v
   unfolding value
-  value_inside v (x, h, e) = subst (ExprIn n size) (sym e) (expression_inside n size x.1.0 h.1.0)
+  value_inside v (x, h, e) = subst (ExprIn n size limit) (sym e) (expression_inside n size limit x.1.0 h.1.0)
 
-  let_statement_inside : (v : Stmt) → In n size let_statement v → StmtIn n size v
+  let_statement_inside : (v : Stmt) → In n size limit let_statement v → StmtIn n size limit v
   unfolding let_statement
-  let_statement_inside v (x, h, e) = subst (StmtIn n size) (sym e) (local_node n size (whole x.1) lk.Let x.0.1.0 x.0.1.1.0 x.0.1.1.1 (whole_in n size x.1 h.1) (local_bind_inside x.0.1.0 h.0.1.0) (typed_inside n size x.0.1.1.0 h.0.1.1.0) (value_inside x.0.1.1.1 h.0.1.1.1))
+  let_statement_inside v (x, h, e) = subst (StmtIn n size limit) (sym e) (local_node n size limit (whole x.1) lk.Let x.0.1.0 x.0.1.1.0 x.0.1.1.1 (whole_in n size x.1 h.1) (local_bind_inside x.0.1.0 h.0.1.0) (typed_inside n size limit x.0.1.1.0 h.0.1.1.0) (value_inside x.0.1.1.1 h.0.1.1.1))
 
-  names_typed_inside : (v : VarRest) → In n size names_typed v → VarRestIn n size v
+  names_typed_inside : (v : VarRest) → In n size limit names_typed v → VarRestIn n size limit v
   unfolding names_typed
-  names_typed_inside v (x, h, e) = subst (VarRestIn n size) (sym e) (names_inside n size x.1.0 h.1.0, type_expression_inside n size x.1.1.1.0 h.1.1.1.0)
+  names_typed_inside v (x, h, e) = subst (VarRestIn n size limit) (sym e) (names_inside n size limit x.1.0 h.1.0, type_expression_inside n size limit x.1.1.1.0 h.1.1.1.0)
 
-  no_value_inside : (v : Option Expr) → In n size no_value v → in_opt (ExprIn n size) v
+  no_value_inside : (v : Option Expr) → In n size limit no_value v → in_opt (ExprIn n size limit) v
   unfolding no_value
-  no_value_inside v (x, h, e) = subst (in_opt (ExprIn n size)) (sym e) tt
+  no_value_inside v (x, h, e) = subst (in_opt (ExprIn n size limit)) (sym e) tt
 
-  pub maybe_value_inside : (v : Option Expr) → In n size maybe_value v → in_opt (ExprIn n size) v
+  pub maybe_value_inside : (v : Option Expr) → In n size limit maybe_value v → in_opt (ExprIn n size limit) v
   unfolding maybe_value
   maybe_value_inside v (inl h) = no_value_inside v h
-  maybe_value_inside v (inr h) = subst (in_opt (ExprIn n size)) (sym h.2) (value_inside h.0 h.1)
+  maybe_value_inside v (inr h) = subst (in_opt (ExprIn n size limit)) (sym h.2) (value_inside h.0 h.1)
 
-  typed_value_inside : (v : VarRest) → In n size typed_value v → VarRestIn n size v
+  typed_value_inside : (v : VarRest) → In n size limit typed_value v → VarRestIn n size limit v
   unfolding typed_value
-  typed_value_inside v (x, h, e) = subst (VarRestIn n size) (sym e) (type_expression_inside n size x.1.0 h.1.0, maybe_value_inside x.1.1 h.1.1)
+  typed_value_inside v (x, h, e) = subst (VarRestIn n size limit) (sym e) (type_expression_inside n size limit x.1.0 h.1.0, maybe_value_inside x.1.1 h.1.1)
 
-  var_rest_inside : (v : VarRest) → In n size var_rest v → VarRestIn n size v
+  var_rest_inside : (v : VarRest) → In n size limit var_rest v → VarRestIn n size limit v
   unfolding var_rest
   var_rest_inside v (inl h) = names_typed_inside v h
   var_rest_inside v (inr (inl h)) = typed_value_inside v h
-  var_rest_inside v (inr (inr h)) = subst (VarRestIn n size) (sym h.2) (value_inside h.0 h.1)
+  var_rest_inside v (inr (inr h)) = subst (VarRestIn n size limit) (sym h.2) (value_inside h.0 h.1)
 
-  var_names_inside : (v : VarTail) → In n size var_names v → VarTailIn n size v
+  var_names_inside : (v : VarTail) → In n size limit var_names v → VarTailIn n size limit v
   unfolding var_names
-  var_names_inside v (x, h, e) = subst (VarTailIn n size) (sym e) (var_tail_of_in n size x.0 x.1 (name_inside n size x.0 h.0) (var_rest_inside x.1 h.1))
+  var_names_inside v (x, h, e) = subst (VarTailIn n size limit) (sym e) (var_tail_of_in n size limit x.0 x.1 (name_inside n size limit x.0 h.0) (var_rest_inside x.1 h.1))
 
-  var_other_inside : (v : VarTail) → In n size var_other v → VarTailIn n size v
+  var_other_inside : (v : VarTail) → In n size limit var_other v → VarTailIn n size limit v
   unfolding var_other
-  var_other_inside v (x, h, e) = subst (VarTailIn n size) (sym e) (other_bind_inside x.0 h.0, (typed_inside n size x.1.0 h.1.0, value_inside x.1.1 h.1.1))
+  var_other_inside v (x, h, e) = subst (VarTailIn n size limit) (sym e) (other_bind_inside x.0 h.0, (typed_inside n size limit x.1.0 h.1.0, value_inside x.1.1 h.1.1))
 
-  var_tail_inside : (v : VarTail) → In n size var_tail v → VarTailIn n size v
+  var_tail_inside : (v : VarTail) → In n size limit var_tail v → VarTailIn n size limit v
   unfolding var_tail
   var_tail_inside v (inl h) = var_names_inside v h
   var_tail_inside v (inr h) = var_other_inside v h
 
-  var_statement_inside : (v : Stmt) → In n size var_statement v → StmtIn n size v
+  var_statement_inside : (v : Stmt) → In n size limit var_statement v → StmtIn n size limit v
   unfolding var_statement
-  var_statement_inside v (x, h, e) = subst (StmtIn n size) (sym e) (var_of_in n size (whole x.1) x.0.1 (whole_in n size x.1 h.1) (var_tail_inside x.0.1 h.0.1))
+  var_statement_inside v (x, h, e) = subst (StmtIn n size limit) (sym e) (var_of_in n size limit (whole x.1) x.0.1 (whole_in n size x.1 h.1) (var_tail_inside x.0.1 h.0.1))
 
-  parameters_inside : (v : List Expr) → In n size parameters v → AllOf (ExprIn n size) v
+  parameters_inside : (v : List Expr) → In n size limit parameters v → AllOf (ExprIn n size limit) v
   unfolding parameters
-  parameters_inside v h = subst (AllOf (ExprIn n size)) (sym h.2) (maybe_expressions_inside n size h.0.1.0 h.1.1.0)
+  parameters_inside v h = subst (AllOf (ExprIn n size limit)) (sym h.2) (maybe_expressions_inside n size limit h.0.1.0 h.1.1.0)
 
-  maybe_parameters_inside : (v : List Expr) → In n size maybe_parameters v → AllOf (ExprIn n size) v
+  maybe_parameters_inside : (v : List Expr) → In n size limit maybe_parameters v → AllOf (ExprIn n size limit) v
   unfolding maybe_parameters
-  maybe_parameters_inside v (x, h, e) = subst (AllOf (ExprIn n size)) (sym e) (or_nil_in (ExprIn n size) x (opt_inside (parameters_inside) x h))
+  maybe_parameters_inside v (x, h, e) = subst (AllOf (ExprIn n size limit)) (sym e) (or_nil_in (ExprIn n size limit) x (opt_inside (parameters_inside) x h))
 
-  call_arguments_inside : (v : List Expr × List Expr) → In n size call_arguments v → AllOf (ExprIn n size) v.0 × AllOf (ExprIn n size) v.1
+  call_arguments_inside : (v : List Expr × List Expr) → In n size limit call_arguments v → AllOf (ExprIn n size limit) v.0 × AllOf (ExprIn n size limit) v.1
   unfolding call_arguments
-  call_arguments_inside v h = (maybe_parameters_inside v.0 h.0, arguments_inside n size v.1 h.1)
+  call_arguments_inside v h = (maybe_parameters_inside v.0 h.0, arguments_inside n size limit v.1 h.1)
 
-  invoked_inside : (v : List Expr × List Expr) → In n size invoked v → AllOf (ExprIn n size) v.0 × AllOf (ExprIn n size) v.1
+  invoked_inside : (v : List Expr × List Expr) → In n size limit invoked v → AllOf (ExprIn n size limit) v.0 × AllOf (ExprIn n size limit) v.1
   unfolding invoked
-  invoked_inside v (x, h, e) = subst (in_pair (AllOf (ExprIn n size)) (AllOf (ExprIn n size))) (sym e) (call_arguments_inside x.0 h.0)
+  invoked_inside v (x, h, e) = subst (in_pair (AllOf (ExprIn n size limit)) (AllOf (ExprIn n size limit))) (sym e) (call_arguments_inside x.0 h.0)
 
-  target_suffixes_inside : (v : List PlacedSuffix) → In n size target_suffixes v → AllOf (PlacedSuffixIn n size) v
+  target_suffixes_inside : (v : List PlacedSuffix) → In n size limit target_suffixes v → AllOf (PlacedSuffixIn n size limit) v
   unfolding target_suffixes
-  target_suffixes_inside v h = suffixes_inside n size v h
+  target_suffixes_inside v h = suffixes_inside n size limit v h
 
-  assigned_inside : (v : List PlacedSuffix × Expr) → In n size assigned v → AllOf (PlacedSuffixIn n size) v.0 × ExprIn n size v.1
+  assigned_inside : (v : List PlacedSuffix × Expr) → In n size limit assigned v → AllOf (PlacedSuffixIn n size limit) v.0 × ExprIn n size limit v.1
   unfolding assigned
   assigned_inside v h = (target_suffixes_inside v.0 h.0, value_inside v.1 h.1)
 
-  name_statement_rest_inside : (v : (List Expr × List Expr) ⊎ (List PlacedSuffix × Expr)) → In n size name_statement_rest v → in_sum (in_pair (AllOf (ExprIn n size)) (AllOf (ExprIn n size))) (in_pair (AllOf (PlacedSuffixIn n size)) (ExprIn n size)) v
+  name_statement_rest_inside : (v : (List Expr × List Expr) ⊎ (List PlacedSuffix × Expr)) → In n size limit name_statement_rest v → in_sum (in_pair (AllOf (ExprIn n size limit)) (AllOf (ExprIn n size limit))) (in_pair (AllOf (PlacedSuffixIn n size limit)) (ExprIn n size limit)) v
   unfolding name_statement_rest
-  name_statement_rest_inside v (inl h) = subst (in_sum (in_pair (AllOf (ExprIn n size)) (AllOf (ExprIn n size))) (in_pair (AllOf (PlacedSuffixIn n size)) (ExprIn n size))) (sym h.2) (invoked_inside h.0 h.1)
-  name_statement_rest_inside v (inr h) = subst (in_sum (in_pair (AllOf (ExprIn n size)) (AllOf (ExprIn n size))) (in_pair (AllOf (PlacedSuffixIn n size)) (ExprIn n size))) (sym h.2) (assigned_inside h.0 h.1)
+  name_statement_rest_inside v (inl h) = subst (in_sum (in_pair (AllOf (ExprIn n size limit)) (AllOf (ExprIn n size limit))) (in_pair (AllOf (PlacedSuffixIn n size limit)) (ExprIn n size limit))) (sym h.2) (invoked_inside h.0 h.1)
+  name_statement_rest_inside v (inr h) = subst (in_sum (in_pair (AllOf (ExprIn n size limit)) (AllOf (ExprIn n size limit))) (in_pair (AllOf (PlacedSuffixIn n size limit)) (ExprIn n size limit))) (sym h.2) (assigned_inside h.0 h.1)
 
-  name_statement_inside : (v : Stmt) → In n size name_statement v → StmtIn n size v
+  name_statement_inside : (v : Stmt) → In n size limit name_statement v → StmtIn n size limit v
   unfolding name_statement
-  name_statement_inside v (x, h, e) = subst (StmtIn n size) (sym e) (name_statement_of_in n size x.0.0 (whole x.1) x.0.1 (name_inside n size x.0.0 h.0.0) (whole_in n size x.1 h.1) (name_statement_rest_inside x.0.1 h.0.1))
+  name_statement_inside v (x, h, e) = subst (StmtIn n size limit) (sym e) (name_statement_of_in n size limit x.0.0 (whole x.1) x.0.1 (name_inside n size limit x.0.0 h.0.0) (whole_in n size x.1 h.1) (name_statement_rest_inside x.0.1 h.0.1))
 
-  no_target_inside : (v : Target) → In n size no_target v → TargetIn n size v
+  no_target_inside : (v : Target) → In n size limit no_target v → TargetIn n size limit v
   unfolding no_target
-  no_target_inside v (x, h, e) = subst (TargetIn n size) (sym e) (discarded_node n size x.span h)
+  no_target_inside v (x, h, e) = subst (TargetIn n size limit) (sym e) (discarded_node n size limit x.span h.0)
 
-  targets_inside : (v : Target) → In n size targets v → TargetIn n size v
+  targets_inside : (v : Target) → In n size limit targets v → TargetIn n size limit v
   unfolding targets
-  targets_inside v (x, h, e) = subst (TargetIn n size) (sym e) (targets_node n size (whole x.1) x.0.1 (whole_in n size x.1 h.1) h.0.1)
+  targets_inside v (x, h, e) = subst (TargetIn n size limit) (sym e) (targets_node n size limit (whole x.1) x.0.1 (whole_in n size x.1 h.1) h.0.1)
 
-  other_target_inside : (v : Target) → In n size other_target v → TargetIn n size v
+  other_target_inside : (v : Target) → In n size limit other_target v → TargetIn n size limit v
   unfolding other_target
   other_target_inside v (inl h) = no_target_inside v h
   other_target_inside v (inr h) = targets_inside v h
 
-  assignment_inside : (v : Stmt) → In n size assignment v → StmtIn n size v
+  assignment_inside : (v : Stmt) → In n size limit assignment v → StmtIn n size limit v
   unfolding assignment
-  assignment_inside v (x, h, e) = subst (StmtIn n size) (sym e) (assign_node n size (whole x.1) x.0.0 x.0.1 (whole_in n size x.1 h.1) (other_target_inside x.0.0 h.0.0) (value_inside x.0.1 h.0.1))
+  assignment_inside v (x, h, e) = subst (StmtIn n size limit) (sym e) (assign_node n size limit (whole x.1) x.0.0 x.0.1 (whole_in n size x.1 h.1) (other_target_inside x.0.0 h.0.0) (value_inside x.0.1 h.0.1))
 
-  if_statement_inside : (v : Stmt) → In n size if_statement v → StmtIn n size v
+  if_statement_inside : (v : Stmt) → In n size limit if_statement v → StmtIn n size limit v
   unfolding if_statement
-  if_statement_inside v (x, h, e) = subst (StmtIn n size) (sym e) (if_node n size (whole x.1) x.0.1.0 x.0.1.1 x.0.1.2 x.0.1.3 (whole_in n size x.1 h.1) h.0.1.0 h.0.1.1 h.0.1.2 h.0.1.3)
+  if_statement_inside v (x, h, e) = subst (StmtIn n size limit) (sym e) (if_node n size limit (whole x.1) x.0.1.0 x.0.1.1 x.0.1.2 x.0.1.3 (whole_in n size x.1 h.1) h.0.1.0 h.0.1.1 h.0.1.2 h.0.1.3)
 
-  case_statement_inside : (v : Stmt) → In n size case_statement v → StmtIn n size v
+  case_statement_inside : (v : Stmt) → In n size limit case_statement v → StmtIn n size limit v
   unfolding case_statement
-  case_statement_inside v (x, h, e) = subst (StmtIn n size) (sym e) (case_node n size (whole x.1) x.0.1.0 x.0.1.1 x.0.1.2 (whole_in n size x.1 h.1) h.0.1.0 h.0.1.1 h.0.1.2)
+  case_statement_inside v (x, h, e) = subst (StmtIn n size limit) (sym e) (case_node n size limit (whole x.1) x.0.1.0 x.0.1.1 x.0.1.2 (whole_in n size x.1 h.1) h.0.1.0 h.0.1.1 h.0.1.2)
 
-  for_statement_inside : (v : Stmt) → In n size for_statement v → StmtIn n size v
+  for_statement_inside : (v : Stmt) → In n size limit for_statement v → StmtIn n size limit v
   unfolding for_statement
-  for_statement_inside v (x, h, e) = subst (StmtIn n size) (sym e) (for_node n size (whole x.1) x.0.1.0 x.0.1.1 x.0.1.2 x.0.1.3 x.0.1.4 x.0.1.5 (whole_in n size x.1 h.1) h.0.1.0 h.0.1.1 h.0.1.3 h.0.1.4 h.0.1.5)
+  for_statement_inside v (x, h, e) = subst (StmtIn n size limit) (sym e) (for_node n size limit (whole x.1) x.0.1.0 x.0.1.1 x.0.1.2 x.0.1.3 x.0.1.4 x.0.1.5 (whole_in n size x.1 h.1) h.0.1.0 h.0.1.1 h.0.1.3 h.0.1.4 h.0.1.5)
 
-  while_statement_inside : (v : Stmt) → In n size while_statement v → StmtIn n size v
+  while_statement_inside : (v : Stmt) → In n size limit while_statement v → StmtIn n size limit v
   unfolding while_statement
-  while_statement_inside v (x, h, e) = subst (StmtIn n size) (sym e) (while_node n size (whole x.1) x.0.1.0 x.0.1.1 x.0.1.2 (whole_in n size x.1 h.1) h.0.1.0 h.0.1.1 h.0.1.2)
+  while_statement_inside v (x, h, e) = subst (StmtIn n size limit) (sym e) (while_node n size limit (whole x.1) x.0.1.0 x.0.1.1 x.0.1.2 (whole_in n size x.1 h.1) h.0.1.0 h.0.1.1 h.0.1.2)
 
-  repeat_statement_inside : (v : Stmt) → In n size repeat_statement v → StmtIn n size v
+  repeat_statement_inside : (v : Stmt) → In n size limit repeat_statement v → StmtIn n size limit v
   unfolding repeat_statement
-  repeat_statement_inside v (x, h, e) = subst (StmtIn n size) (sym e) (repeat_node n size (whole x.1) x.0.1.0 x.0.1.1 x.0.1.2 (whole_in n size x.1 h.1) h.0.1.0 h.0.1.1 h.0.1.2)
+  repeat_statement_inside v (x, h, e) = subst (StmtIn n size limit) (sym e) (repeat_node n size limit (whole x.1) x.0.1.0 x.0.1.1 x.0.1.2 (whole_in n size x.1 h.1) h.0.1.0 h.0.1.1 h.0.1.2)
 
-  return_statement_inside : (v : Stmt) → In n size return_statement v → StmtIn n size v
+  return_statement_inside : (v : Stmt) → In n size limit return_statement v → StmtIn n size limit v
   unfolding return_statement
-  return_statement_inside v (x, h, e) = subst (StmtIn n size) (sym e) (return_node n size (whole x.1) x.0.1.0 (whole_in n size x.1 h.1) (maybe_expression_inside n size x.0.1.0 h.0.1.0))
+  return_statement_inside v (x, h, e) = subst (StmtIn n size limit) (sym e) (return_node n size limit (whole x.1) x.0.1.0 (whole_in n size x.1 h.1) (maybe_expression_inside n size limit x.0.1.0 h.0.1.0))
 
-  throw_statement_inside : (v : Stmt) → In n size throw_statement v → StmtIn n size v
+  throw_statement_inside : (v : Stmt) → In n size limit throw_statement v → StmtIn n size limit v
   unfolding throw_statement
-  throw_statement_inside v (x, h, e) = subst (StmtIn n size) (sym e) (throw_node n size (whole x.1) x.0.1.0 (whole_in n size x.1 h.1) (maybe_expression_inside n size x.0.1.0 h.0.1.0))
+  throw_statement_inside v (x, h, e) = subst (StmtIn n size limit) (sym e) (throw_node n size limit (whole x.1) x.0.1.0 (whole_in n size x.1 h.1) (maybe_expression_inside n size limit x.0.1.0 h.0.1.0))
 
-  try_statement_inside : (v : Stmt) → In n size try_statement v → StmtIn n size v
+  try_statement_inside : (v : Stmt) → In n size limit try_statement v → StmtIn n size limit v
   unfolding try_statement
-  try_statement_inside v (x, h, e) = subst (StmtIn n size) (sym e) (try_node n size (whole x.1) x.0.1.0 x.0.1.1 x.0.1.2 (whole_in n size x.1 h.1) h.0.1.0 h.0.1.1 h.0.1.2)
+  try_statement_inside v (x, h, e) = subst (StmtIn n size limit) (sym e) (try_node n size limit (whole x.1) x.0.1.0 x.0.1.1 x.0.1.2 (whole_in n size x.1 h.1) h.0.1.0 h.0.1.1 h.0.1.2)
 
-  print_kind_inside : (v : PrintKind) → In n size print_kind v → PrintKindIn n size v
+  print_kind_inside : (v : PrintKind) → In n size limit print_kind v → PrintKindIn n size limit v
   unfolding print_kind
-  print_kind_inside v (inl h) = subst (PrintKindIn n size) (sym h.2) tt
-  print_kind_inside v (inr h) = subst (PrintKindIn n size) (sym h.2) tt
+  print_kind_inside v (inl h) = subst (PrintKindIn n size limit) (sym h.2) tt
+  print_kind_inside v (inr h) = subst (PrintKindIn n size limit) (sym h.2) tt
 
-  verbatim_inside : (v : PrintItem) → In n size verbatim v → PrintItemIn n size v
+  verbatim_inside : (v : PrintItem) → In n size limit verbatim v → PrintItemIn n size limit v
   unfolding verbatim
-  verbatim_inside v (x, h, e) = subst (PrintItemIn n size) (sym e) h
+  verbatim_inside v (x, h, e) = subst (PrintItemIn n size limit) (sym e) h.0
 
-  print_item_inside : (v : PrintItem) → In n size print_item v → PrintItemIn n size v
+  print_item_inside : (v : PrintItem) → In n size limit print_item v → PrintItemIn n size limit v
   unfolding print_item
   print_item_inside v (inl h) = verbatim_inside v h
-  print_item_inside v (inr h) = subst (PrintItemIn n size) (sym h.2) (expression_inside n size h.0 h.1)
+  print_item_inside v (inr h) = subst (PrintItemIn n size limit) (sym h.2) (expression_inside n size limit h.0 h.1)
 
-  print_items_inside : (v : List PrintItem) → In n size print_items v → AllOf (PrintItemIn n size) v
+  print_items_inside : (v : List PrintItem) → In n size limit print_items v → AllOf (PrintItemIn n size limit) v
   unfolding print_items
-  print_items_inside v (x, h, e) = subst (AllOf (PrintItemIn n size)) (sym e) (print_item_inside x.0 h.0, seconds_in n size (PrintItemIn n size) x.1 (all_inside (λ x h. (h.0, print_item_inside x.1 h.1)) x.1 h.1))
+  print_items_inside v (x, h, e) = subst (AllOf (PrintItemIn n size limit)) (sym e) (print_item_inside x.0 h.0, seconds_in n size limit (PrintItemIn n size limit) x.1 (all_inside (λ x h. (h.0.0, print_item_inside x.1 h.1)) x.1 h.1))
 
-  maybe_print_items_inside : (v : List PrintItem) → In n size maybe_print_items v → AllOf (PrintItemIn n size) v
+  maybe_print_items_inside : (v : List PrintItem) → In n size limit maybe_print_items v → AllOf (PrintItemIn n size limit) v
   unfolding maybe_print_items
-  maybe_print_items_inside v (x, h, e) = subst (AllOf (PrintItemIn n size)) (sym e) (or_nil_in (PrintItemIn n size) x (opt_inside (print_items_inside) x h))
+  maybe_print_items_inside v (x, h, e) = subst (AllOf (PrintItemIn n size limit)) (sym e) (or_nil_in (PrintItemIn n size limit) x (opt_inside (print_items_inside) x h))
 
-  print_arguments_inside : (v : List PrintItem) → In n size print_arguments v → AllOf (PrintItemIn n size) v
+  print_arguments_inside : (v : List PrintItem) → In n size limit print_arguments v → AllOf (PrintItemIn n size limit) v
   unfolding print_arguments
-  print_arguments_inside v h = subst (AllOf (PrintItemIn n size)) (sym h.2) (maybe_print_items_inside h.0.1.0 h.1.1.0)
+  print_arguments_inside v h = subst (AllOf (PrintItemIn n size limit)) (sym h.2) (maybe_print_items_inside h.0.1.0 h.1.1.0)
 
-  print_statement_inside : (v : Stmt) → In n size print_statement v → StmtIn n size v
+  print_statement_inside : (v : Stmt) → In n size limit print_statement v → StmtIn n size limit v
   unfolding print_statement
-  print_statement_inside v (x, h, e) = subst (StmtIn n size) (sym e) (print_node n size (whole x.1) x.0.0 x.0.1.0 (whole_in n size x.1 h.1) (print_arguments_inside x.0.1.0 h.0.1.0))
+  print_statement_inside v (x, h, e) = subst (StmtIn n size limit) (sym e) (print_node n size limit (whole x.1) x.0.0 x.0.1.0 (whole_in n size x.1 h.1) (print_arguments_inside x.0.1.0 h.0.1.0))
 
-  statement_inside : (v : Stmt) → In n size statement v → StmtIn n size v
+  statement_inside : (v : Stmt) → In n size limit statement v → StmtIn n size limit v
   unfolding statement
   statement_inside v (inl h) = pass_inside v h
   statement_inside v (inr (inl h)) = unreachable_inside v h
@@ -259,118 +259,118 @@ module _ (n size : ℕ) where
   statement_inside v (inr (inr (inr (inr (inr (inr (inr (inr (inr (inr (inr (inr (inr (inr (inl h))))))))))))))) = try_statement_inside v h
   statement_inside v (inr (inr (inr (inr (inr (inr (inr (inr (inr (inr (inr (inr (inr (inr (inr h))))))))))))))) = print_statement_inside v h
 
-  pub block_inside : (v : List Stmt) → In n size block v → AllOf (StmtIn n size) v
+  pub block_inside : (v : List Stmt) → In n size limit block v → AllOf (StmtIn n size limit) v
   unfolding block
   block_inside v h = all_inside (statement_inside) v h
 
-  loop_limit_inside : (v : Option Expr) → In n size loop_limit v → in_opt (ExprIn n size) v
+  loop_limit_inside : (v : Option Expr) → In n size limit loop_limit v → in_opt (ExprIn n size limit) v
   unfolding loop_limit
-  loop_limit_inside v h = opt_inside (λ x h. subst (ExprIn n size) (sym h.2) (expression_inside n size h.0.1 h.1.1)) v h
+  loop_limit_inside v h = opt_inside (λ x h. subst (ExprIn n size limit) (sym h.2) (expression_inside n size limit h.0.1 h.1.1)) v h
 
-  otherwise_inside : (v : Otherwise) → In n size otherwise v → OtherwiseIn n size v
+  otherwise_inside : (v : Otherwise) → In n size limit otherwise v → OtherwiseIn n size limit v
   unfolding otherwise
-  otherwise_inside v (x, h, e) = subst (OtherwiseIn n size) (sym e) (otherwise_node n size x.1.1 (block_inside x.1.1 h.1.1))
+  otherwise_inside v (x, h, e) = subst (OtherwiseIn n size limit) (sym e) (otherwise_node n size limit x.1.1 (block_inside x.1.1 h.1.1))
 
-  maybe_otherwise_inside : (v : Otherwise) → In n size maybe_otherwise v → OtherwiseIn n size v
+  maybe_otherwise_inside : (v : Otherwise) → In n size limit maybe_otherwise v → OtherwiseIn n size limit v
   unfolding maybe_otherwise
-  maybe_otherwise_inside v (x, h, e) = subst (OtherwiseIn n size) (sym e) (or_no_otherwise_in n size x (opt_inside (otherwise_inside) x h))
+  maybe_otherwise_inside v (x, h, e) = subst (OtherwiseIn n size limit) (sym e) (or_no_otherwise_in n size limit x (opt_inside (otherwise_inside) x h))
 
-  place_inside : (v : Target) → In n size place v → TargetIn n size v
+  place_inside : (v : Target) → In n size limit place v → TargetIn n size limit v
   unfolding place
-  place_inside v (x, h, e) = subst (TargetIn n size) (sym e) (place_of_in n size x.0 x.1 (name_inside n size x.0 h.0) (target_suffixes_inside x.1 h.1))
+  place_inside v (x, h, e) = subst (TargetIn n size limit) (sym e) (place_of_in n size limit x.0 x.1 (name_inside n size limit x.0 h.0) (target_suffixes_inside x.1 h.1))
 
-  target_inside : (v : Target) → In n size target v → TargetIn n size v
+  target_inside : (v : Target) → In n size limit target v → TargetIn n size limit v
   unfolding target
   target_inside v (inl h) = no_target_inside v h
   target_inside v (inr (inl h)) = place_inside v h
   target_inside v (inr (inr h)) = targets_inside v h
 
-  more_targets_inside : (v : List Target) → In n size more_targets v → AllOf (TargetIn n size) v
+  more_targets_inside : (v : List Target) → In n size limit more_targets v → AllOf (TargetIn n size limit) v
   unfolding more_targets
-  more_targets_inside v (x, h, e) = subst (AllOf (TargetIn n size)) (sym e) (seconds_in n size (TargetIn n size) x (all_inside (λ x h. (h.0, target_inside x.1 h.1)) x h))
+  more_targets_inside v (x, h, e) = subst (AllOf (TargetIn n size limit)) (sym e) (seconds_in n size limit (TargetIn n size limit) x (all_inside (λ x h. (h.0.0, target_inside x.1 h.1)) x h))
 
-  two_targets_inside : (v : List Target) → In n size two_targets v → AllOf (TargetIn n size) v
+  two_targets_inside : (v : List Target) → In n size limit two_targets v → AllOf (TargetIn n size limit) v
   unfolding two_targets
-  two_targets_inside v (x, h, e) = subst (AllOf (TargetIn n size)) (sym e) (behind_in (TargetIn n size) (x.0 ∷ x.1.1.0 ∷ []) x.1.1.1 (target_inside x.0 h.0, (target_inside x.1.1.0 h.1.1.0, tt)) (more_targets_inside x.1.1.1 h.1.1.1))
+  two_targets_inside v (x, h, e) = subst (AllOf (TargetIn n size limit)) (sym e) (behind_in (TargetIn n size limit) (x.0 ∷ x.1.1.0 ∷ []) x.1.1.1 (target_inside x.0 h.0, (target_inside x.1.1.0 h.1.1.0, tt)) (more_targets_inside x.1.1.1 h.1.1.1))
 
-  pub target_parts_inside : (v : List Target) → In n size target_parts v → AllOf (TargetIn n size) v
+  pub target_parts_inside : (v : List Target) → In n size limit target_parts v → AllOf (TargetIn n size limit) v
   unfolding target_parts
-  target_parts_inside v (x, h, e) = subst (AllOf (TargetIn n size)) (sym e) (two_targets_inside x.0 h.0)
+  target_parts_inside v (x, h, e) = subst (AllOf (TargetIn n size limit)) (sym e) (two_targets_inside x.0 h.0)
 
-  else_if_inside : (v : ElseIf) → In n size else_if v → ElseIfIn n size v
+  else_if_inside : (v : ElseIf) → In n size limit else_if v → ElseIfIn n size limit v
   unfolding else_if
-  else_if_inside v (x, h, e) = subst (ElseIfIn n size) (sym e) (else_if_node n size x.1.0 x.1.1.1 (expression_inside n size x.1.0 h.1.0) (block_inside x.1.1.1 h.1.1.1))
+  else_if_inside v (x, h, e) = subst (ElseIfIn n size limit) (sym e) (else_if_node n size limit x.1.0 x.1.1.1 (expression_inside n size limit x.1.0 h.1.0) (block_inside x.1.1.1 h.1.1.1))
 
-  else_ifs_inside : (v : List ElseIf) → In n size else_ifs v → AllOf (ElseIfIn n size) v
+  else_ifs_inside : (v : List ElseIf) → In n size limit else_ifs v → AllOf (ElseIfIn n size limit) v
   unfolding else_ifs
   else_ifs_inside v h = all_inside (else_if_inside) v h
 
-  else_block_inside : (v : List Stmt) → In n size else_block v → AllOf (StmtIn n size) v
+  else_block_inside : (v : List Stmt) → In n size limit else_block v → AllOf (StmtIn n size limit) v
   unfolding else_block
-  else_block_inside v (x, h, e) = subst (AllOf (StmtIn n size)) (sym e) (block_inside x.1 h.1)
+  else_block_inside v (x, h, e) = subst (AllOf (StmtIn n size limit)) (sym e) (block_inside x.1 h.1)
 
-  maybe_else_inside : (v : List Stmt) → In n size maybe_else v → AllOf (StmtIn n size) v
+  maybe_else_inside : (v : List Stmt) → In n size limit maybe_else v → AllOf (StmtIn n size limit) v
   unfolding maybe_else
-  maybe_else_inside v (x, h, e) = subst (AllOf (StmtIn n size)) (sym e) (or_nil_in (StmtIn n size) x (opt_inside (else_block_inside) x h))
+  maybe_else_inside v (x, h, e) = subst (AllOf (StmtIn n size limit)) (sym e) (or_nil_in (StmtIn n size limit) x (opt_inside (else_block_inside) x h))
 
-  pub if_body_inside : (v : Expr × List Stmt × List ElseIf × List Stmt) → In n size if_body v → ExprIn n size v.0 × AllOf (StmtIn n size) v.1 × AllOf (ElseIfIn n size) v.2 × AllOf (StmtIn n size) v.3
+  pub if_body_inside : (v : Expr × List Stmt × List ElseIf × List Stmt) → In n size limit if_body v → ExprIn n size limit v.0 × AllOf (StmtIn n size limit) v.1 × AllOf (ElseIfIn n size limit) v.2 × AllOf (StmtIn n size limit) v.3
   unfolding if_body
-  if_body_inside v (x, h, e) = subst (λ (v : Expr × (List Stmt) × (List ElseIf) × (List Stmt)). ExprIn n size v.0 × AllOf (StmtIn n size) v.1 × AllOf (ElseIfIn n size) v.2 × AllOf (StmtIn n size) v.3) (sym e) (expression_inside n size x.0 h.0, block_inside x.1.1.0 h.1.1.0, else_ifs_inside x.1.1.1.0 h.1.1.1.0, maybe_else_inside x.1.1.1.1.0 h.1.1.1.1.0)
+  if_body_inside v (x, h, e) = subst (λ (v : Expr × (List Stmt) × (List ElseIf) × (List Stmt)). ExprIn n size limit v.0 × AllOf (StmtIn n size limit) v.1 × AllOf (ElseIfIn n size limit) v.2 × AllOf (StmtIn n size limit) v.3) (sym e) (expression_inside n size limit x.0 h.0, block_inside x.1.1.0 h.1.1.0, else_ifs_inside x.1.1.1.0 h.1.1.1.0, maybe_else_inside x.1.1.1.1.0 h.1.1.1.1.0)
 
-  where_clause_inside : (v : Option Expr) → In n size where_clause v → in_opt (ExprIn n size) v
+  where_clause_inside : (v : Option Expr) → In n size limit where_clause v → in_opt (ExprIn n size limit) v
   unfolding where_clause
-  where_clause_inside v h = opt_inside (λ x h. subst (ExprIn n size) (sym h.2) (expression_inside n size h.0.1 h.1.1)) v h
+  where_clause_inside v h = opt_inside (λ x h. subst (ExprIn n size limit) (sym h.2) (expression_inside n size limit h.0.1 h.1.1)) v h
 
-  alternative_inside : (v : Alternative) → In n size alternative v → AlternativeIn n size v
+  alternative_inside : (v : Alternative) → In n size limit alternative v → AlternativeIn n size limit v
   unfolding alternative
-  alternative_inside v (x, h, e) = subst (AlternativeIn n size) (sym e) (when_node n size x.1.0 x.1.1.0 x.1.1.1.1 (patterns_inside n size x.1.0 h.1.0) (where_clause_inside x.1.1.0 h.1.1.0) (block_inside x.1.1.1.1 h.1.1.1.1))
+  alternative_inside v (x, h, e) = subst (AlternativeIn n size limit) (sym e) (when_node n size limit x.1.0 x.1.1.0 x.1.1.1.1 (patterns_inside n size limit x.1.0 h.1.0) (where_clause_inside x.1.1.0 h.1.1.0) (block_inside x.1.1.1.1 h.1.1.1.1))
 
-  alternatives_inside : (v : List Alternative) → In n size alternatives v → AllOf (AlternativeIn n size) v
+  alternatives_inside : (v : List Alternative) → In n size limit alternatives v → AllOf (AlternativeIn n size limit) v
   unfolding alternatives
   alternatives_inside v h = all_inside (alternative_inside) v h
 
-  pub case_body_inside : (v : Expr × List Alternative × Otherwise) → In n size case_body v → ExprIn n size v.0 × AllOf (AlternativeIn n size) v.1 × OtherwiseIn n size v.2
+  pub case_body_inside : (v : Expr × List Alternative × Otherwise) → In n size limit case_body v → ExprIn n size limit v.0 × AllOf (AlternativeIn n size limit) v.1 × OtherwiseIn n size limit v.2
   unfolding case_body
-  case_body_inside v (x, h, e) = subst (λ (v : Expr × (List Alternative) × Otherwise). ExprIn n size v.0 × AllOf (AlternativeIn n size) v.1 × OtherwiseIn n size v.2) (sym e) (expression_inside n size x.0 h.0, alternatives_inside x.1.1.0 h.1.1.0, maybe_otherwise_inside x.1.1.1.0 h.1.1.1.0)
+  case_body_inside v (x, h, e) = subst (λ (v : Expr × (List Alternative) × Otherwise). ExprIn n size limit v.0 × AllOf (AlternativeIn n size limit) v.1 × OtherwiseIn n size limit v.2) (sym e) (expression_inside n size limit x.0 h.0, alternatives_inside x.1.1.0 h.1.1.0, maybe_otherwise_inside x.1.1.1.0 h.1.1.1.0)
 
-  direction_inside : (v : Direction) → In n size direction v → DirectionIn n size v
+  direction_inside : (v : Direction) → In n size limit direction v → DirectionIn n size limit v
   unfolding direction
-  direction_inside v (inl h) = subst (DirectionIn n size) (sym h.2) tt
-  direction_inside v (inr h) = subst (DirectionIn n size) (sym h.2) tt
+  direction_inside v (inl h) = subst (DirectionIn n size limit) (sym h.2) tt
+  direction_inside v (inr h) = subst (DirectionIn n size limit) (sym h.2) tt
 
-  pub for_body_inside : (v : Ident × Expr × Direction × Expr × Option Expr × List Stmt) → In n size for_body v → IdentIn n size v.0 × ExprIn n size v.1 × DirectionIn n size v.2 × ExprIn n size v.3 × in_opt (ExprIn n size) v.4 × AllOf (StmtIn n size) v.5
+  pub for_body_inside : (v : Ident × Expr × Direction × Expr × Option Expr × List Stmt) → In n size limit for_body v → IdentIn n size limit v.0 × ExprIn n size limit v.1 × DirectionIn n size limit v.2 × ExprIn n size limit v.3 × in_opt (ExprIn n size limit) v.4 × AllOf (StmtIn n size limit) v.5
   unfolding for_body
-  for_body_inside v (x, h, e) = subst (λ (v : Ident × Expr × Direction × Expr × (Option Expr) × (List Stmt)). IdentIn n size v.0 × ExprIn n size v.1 × DirectionIn n size v.2 × ExprIn n size v.3 × in_opt (ExprIn n size) v.4 × AllOf (StmtIn n size) v.5) (sym e) (name_inside n size x.0 h.0, expression_inside n size x.1.1.0 h.1.1.0, direction_inside x.1.1.1.0 h.1.1.1.0, expression_inside n size x.1.1.1.1.0 h.1.1.1.1.0, loop_limit_inside x.1.1.1.1.1.0 h.1.1.1.1.1.0, block_inside x.1.1.1.1.1.1.1.0 h.1.1.1.1.1.1.1.0)
+  for_body_inside v (x, h, e) = subst (λ (v : Ident × Expr × Direction × Expr × (Option Expr) × (List Stmt)). IdentIn n size limit v.0 × ExprIn n size limit v.1 × DirectionIn n size limit v.2 × ExprIn n size limit v.3 × in_opt (ExprIn n size limit) v.4 × AllOf (StmtIn n size limit) v.5) (sym e) (name_inside n size limit x.0 h.0, expression_inside n size limit x.1.1.0 h.1.1.0, direction_inside x.1.1.1.0 h.1.1.1.0, expression_inside n size limit x.1.1.1.1.0 h.1.1.1.1.0, loop_limit_inside x.1.1.1.1.1.0 h.1.1.1.1.1.0, block_inside x.1.1.1.1.1.1.1.0 h.1.1.1.1.1.1.1.0)
 
-  pub while_body_inside : (v : Expr × Option Expr × List Stmt) → In n size while_body v → ExprIn n size v.0 × in_opt (ExprIn n size) v.1 × AllOf (StmtIn n size) v.2
+  pub while_body_inside : (v : Expr × Option Expr × List Stmt) → In n size limit while_body v → ExprIn n size limit v.0 × in_opt (ExprIn n size limit) v.1 × AllOf (StmtIn n size limit) v.2
   unfolding while_body
-  while_body_inside v (x, h, e) = subst (λ (v : Expr × (Option Expr) × (List Stmt)). ExprIn n size v.0 × in_opt (ExprIn n size) v.1 × AllOf (StmtIn n size) v.2) (sym e) (expression_inside n size x.0 h.0, loop_limit_inside x.1.0 h.1.0, block_inside x.1.1.1.0 h.1.1.1.0)
+  while_body_inside v (x, h, e) = subst (λ (v : Expr × (Option Expr) × (List Stmt)). ExprIn n size limit v.0 × in_opt (ExprIn n size limit) v.1 × AllOf (StmtIn n size limit) v.2) (sym e) (expression_inside n size limit x.0 h.0, loop_limit_inside x.1.0 h.1.0, block_inside x.1.1.1.0 h.1.1.1.0)
 
-  pub repeat_body_inside : (v : List Stmt × Expr × Option Expr) → In n size repeat_body v → AllOf (StmtIn n size) v.0 × ExprIn n size v.1 × in_opt (ExprIn n size) v.2
+  pub repeat_body_inside : (v : List Stmt × Expr × Option Expr) → In n size limit repeat_body v → AllOf (StmtIn n size limit) v.0 × ExprIn n size limit v.1 × in_opt (ExprIn n size limit) v.2
   unfolding repeat_body
-  repeat_body_inside v (x, h, e) = subst (λ (v : (List Stmt) × Expr × (Option Expr)). AllOf (StmtIn n size) v.0 × ExprIn n size v.1 × in_opt (ExprIn n size) v.2) (sym e) (block_inside x.0 h.0, expression_inside n size x.1.1.0 h.1.1.0, loop_limit_inside x.1.1.1.0 h.1.1.1.0)
+  repeat_body_inside v (x, h, e) = subst (λ (v : (List Stmt) × Expr × (Option Expr)). AllOf (StmtIn n size limit) v.0 × ExprIn n size limit v.1 × in_opt (ExprIn n size limit) v.2) (sym e) (block_inside x.0 h.0, expression_inside n size limit x.1.1.0 h.1.1.0, loop_limit_inside x.1.1.1.0 h.1.1.1.0)
 
-  caught_type_inside : (v : Option Ident) → In n size caught_type v → in_opt (IdentIn n size) v
+  caught_type_inside : (v : Option Ident) → In n size limit caught_type v → in_opt (IdentIn n size limit) v
   unfolding caught_type
-  caught_type_inside v h = opt_inside (λ x h. subst (IdentIn n size) (sym h.2) (name_inside n size h.0.1 h.1.1)) v h
+  caught_type_inside v h = opt_inside (λ x h. subst (IdentIn n size limit) (sym h.2) (name_inside n size limit h.0.1 h.1.1)) v h
 
-  catcher_inside : (v : Catcher) → In n size catcher v → CatcherIn n size v
+  catcher_inside : (v : Catcher) → In n size limit catcher v → CatcherIn n size limit v
   unfolding catcher
-  catcher_inside v (x, h, e) = subst (CatcherIn n size) (sym e) (catch_of_in n size x.1.0 x.1.1.0 x.1.1.1.1 (name_inside n size x.1.0 h.1.0) (caught_type_inside x.1.1.0 h.1.1.0) (block_inside x.1.1.1.1 h.1.1.1.1))
+  catcher_inside v (x, h, e) = subst (CatcherIn n size limit) (sym e) (catch_of_in n size limit x.1.0 x.1.1.0 x.1.1.1.1 (name_inside n size limit x.1.0 h.1.0) (caught_type_inside x.1.1.0 h.1.1.0) (block_inside x.1.1.1.1 h.1.1.1.1))
 
-  catchers_inside : (v : List Catcher) → In n size catchers v → AllOf (CatcherIn n size) v
+  catchers_inside : (v : List Catcher) → In n size limit catchers v → AllOf (CatcherIn n size limit) v
   unfolding catchers
   catchers_inside v h = all_inside (catcher_inside) v h
 
-  some_catchers_inside : (v : List Catcher × Otherwise) → In n size some_catchers v → AllOf (CatcherIn n size) v.0 × OtherwiseIn n size v.1
+  some_catchers_inside : (v : List Catcher × Otherwise) → In n size limit some_catchers v → AllOf (CatcherIn n size limit) v.0 × OtherwiseIn n size limit v.1
   unfolding some_catchers
-  some_catchers_inside v (x, h, e) = subst (in_pair (AllOf (CatcherIn n size)) (OtherwiseIn n size)) (sym e) ((catcher_inside x.0 h.0, catchers_inside x.1.0 h.1.0), maybe_otherwise_inside x.1.1 h.1.1)
+  some_catchers_inside v (x, h, e) = subst (in_pair (AllOf (CatcherIn n size limit)) (OtherwiseIn n size limit)) (sym e) ((catcher_inside x.0 h.0, catchers_inside x.1.0 h.1.0), maybe_otherwise_inside x.1.1 h.1.1)
 
-  handlers_inside : (v : List Catcher × Otherwise) → In n size handlers v → AllOf (CatcherIn n size) v.0 × OtherwiseIn n size v.1
+  handlers_inside : (v : List Catcher × Otherwise) → In n size limit handlers v → AllOf (CatcherIn n size limit) v.0 × OtherwiseIn n size limit v.1
   unfolding handlers
   handlers_inside v (inl h) = some_catchers_inside v h
-  handlers_inside v (inr h) = subst (in_pair (AllOf (CatcherIn n size)) (OtherwiseIn n size)) (sym h.2) (no_catchers_in n size h.0 (otherwise_inside h.0 h.1))
+  handlers_inside v (inr h) = subst (in_pair (AllOf (CatcherIn n size limit)) (OtherwiseIn n size limit)) (sym h.2) (no_catchers_in n size limit h.0 (otherwise_inside h.0 h.1))
 
-  pub try_body_inside : (v : List Stmt × List Catcher × Otherwise) → In n size try_body v → AllOf (StmtIn n size) v.0 × AllOf (CatcherIn n size) v.1 × OtherwiseIn n size v.2
+  pub try_body_inside : (v : List Stmt × List Catcher × Otherwise) → In n size limit try_body v → AllOf (StmtIn n size limit) v.0 × AllOf (CatcherIn n size limit) v.1 × OtherwiseIn n size limit v.2
   unfolding try_body
-  try_body_inside v (x, h, e) = subst (λ (v : (List Stmt) × (List Catcher) × Otherwise). AllOf (StmtIn n size) v.0 × AllOf (CatcherIn n size) v.1 × OtherwiseIn n size v.2) (sym e) (block_inside x.0 h.0, (handlers_inside x.1.1.0 h.1.1.0).0, (handlers_inside x.1.1.0 h.1.1.0).1)
+  try_body_inside v (x, h, e) = subst (λ (v : (List Stmt) × (List Catcher) × Otherwise). AllOf (StmtIn n size limit) v.0 × AllOf (CatcherIn n size limit) v.1 × OtherwiseIn n size limit v.2) (sym e) (block_inside x.0 h.0, (handlers_inside x.1.1.0 h.1.1.0).0, (handlers_inside x.1.1.0 h.1.1.0).1)

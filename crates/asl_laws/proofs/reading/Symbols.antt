@@ -6,31 +6,31 @@ use Rattle.asl_rules.proofs.verdict.SameRules.{AllOf}
 use Rattle.asl_laws.proofs.reading.Inside.{in_opt, Inside}
 use Rattle.asl_laws.proofs.reading.Predicates.{IdentIn, ExprIn, TypeExprIn, ConstraintPartIn, BitfieldIn, PatternIn, SuffixIn, TargetIn, StmtIn, ElseIfIn, AlternativeIn, OtherwiseIn, CatcherIn, DeclIn, DirectionIn, BracesIn}
 
-module _ (n size : ℕ) where
+module _ (n size limit : ℕ) where
   -- what is asked of what is read behind a token that opens a level
   abbrev pub SymIn : (s : Sym) → Val s → Type 0
-  SymIn Parenthesized v = AllOf (ExprIn n size) v
-  SymIn Arguments v = AllOf (ExprIn n size) v
-  SymIn Braced v = BracesIn n size v
-  SymIn Operand v = ExprIn n size v
-  SymIn IfParts v = ExprIn n size v.0 × ExprIn n size v.1 × ExprIn n size v.2
-  SymIn Bracketed v = SuffixIn n size v
-  SymIn Width v = ExprIn n size v
-  SymIn SetParts v = AllOf (PatternIn n size) v
-  SymIn PatternParts v = AllOf (PatternIn n size) v
-  SymIn ConstraintParts v = AllOf (ConstraintPartIn n size) v
-  SymIn Bitfields v = AllOf (BitfieldIn n size) v
-  SymIn TypeParts v = AllOf (TypeExprIn n size) v
-  SymIn ArrayParts v = ExprIn n size v.0 × TypeExprIn n size v.1
-  SymIn TargetParts v = AllOf (TargetIn n size) v
-  SymIn IfBody v = ExprIn n size v.0 × AllOf (StmtIn n size) v.1 × AllOf (ElseIfIn n size) v.2 × AllOf (StmtIn n size) v.3
-  SymIn CaseBody v = ExprIn n size v.0 × AllOf (AlternativeIn n size) v.1 × OtherwiseIn n size v.2
-  SymIn ForBody v = IdentIn n size v.0 × ExprIn n size v.1 × DirectionIn n size v.2 × ExprIn n size v.3 × in_opt (ExprIn n size) v.4 × AllOf (StmtIn n size) v.5
-  SymIn WhileBody v = ExprIn n size v.0 × in_opt (ExprIn n size) v.1 × AllOf (StmtIn n size) v.2
-  SymIn RepeatBody v = AllOf (StmtIn n size) v.0 × ExprIn n size v.1 × in_opt (ExprIn n size) v.2
-  SymIn TryBody v = AllOf (StmtIn n size) v.0 × AllOf (CatcherIn n size) v.1 × OtherwiseIn n size v.2
-  SymIn Program v = AllOf (DeclIn n size) v
+  SymIn Parenthesized v = AllOf (ExprIn n size limit) v
+  SymIn Arguments v = AllOf (ExprIn n size limit) v
+  SymIn Braced v = BracesIn n size limit v
+  SymIn Operand v = ExprIn n size limit v
+  SymIn IfParts v = ExprIn n size limit v.0 × ExprIn n size limit v.1 × ExprIn n size limit v.2
+  SymIn Bracketed v = SuffixIn n size limit v
+  SymIn Width v = ExprIn n size limit v
+  SymIn SetParts v = AllOf (PatternIn n size limit) v
+  SymIn PatternParts v = AllOf (PatternIn n size limit) v
+  SymIn ConstraintParts v = AllOf (ConstraintPartIn n size limit) v
+  SymIn Bitfields v = AllOf (BitfieldIn n size limit) v
+  SymIn TypeParts v = AllOf (TypeExprIn n size limit) v
+  SymIn ArrayParts v = ExprIn n size limit v.0 × TypeExprIn n size limit v.1
+  SymIn TargetParts v = AllOf (TargetIn n size limit) v
+  SymIn IfBody v = ExprIn n size limit v.0 × AllOf (StmtIn n size limit) v.1 × AllOf (ElseIfIn n size limit) v.2 × AllOf (StmtIn n size limit) v.3
+  SymIn CaseBody v = ExprIn n size limit v.0 × AllOf (AlternativeIn n size limit) v.1 × OtherwiseIn n size limit v.2
+  SymIn ForBody v = IdentIn n size limit v.0 × ExprIn n size limit v.1 × DirectionIn n size limit v.2 × ExprIn n size limit v.3 × in_opt (ExprIn n size limit) v.4 × AllOf (StmtIn n size limit) v.5
+  SymIn WhileBody v = ExprIn n size limit v.0 × in_opt (ExprIn n size limit) v.1 × AllOf (StmtIn n size limit) v.2
+  SymIn RepeatBody v = AllOf (StmtIn n size limit) v.0 × ExprIn n size limit v.1 × in_opt (ExprIn n size limit) v.2
+  SymIn TryBody v = AllOf (StmtIn n size limit) v.0 × AllOf (CatcherIn n size limit) v.1 × OtherwiseIn n size limit v.2
+  SymIn Program v = AllOf (DeclIn n size limit) v
 
   -- what a rule reads lies in the file, part by part
   abbrev pub In : {A : Type 0} → Rule A → A → Type 0
-  In g v = Inside Sym Val after n size SymIn g v
+  In g v = Inside Sym Val after n size limit SymIn g v

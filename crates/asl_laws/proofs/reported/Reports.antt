@@ -1,6 +1,6 @@
 -- What a report is put together from isn't stuck, for all files that are read.
-use Rattle.std.proofs.Common.{ℕ, List, [], Some, Ok}
-use Rattle.asl_grammar.specs.Reading.{File, ReadsAt, Reads}
+use Rattle.std.proofs.Common.{List, [], Some, Ok}
+use Rattle.asl_grammar.specs.Reading.{File, ReadsAt}
 use Rattle.asl_syn.specs.declared.tree.Decl.{Decl}
 use Rattle.asl_rules.specs.declared.entry.Entry.TheVariants as entry
 use Rattle.asl_rules.specs.runs.Evaluation.{initial_globals}
@@ -8,7 +8,7 @@ use Rattle.asl_rules.specs.private.Grown.{AreGrown}
 use Rattle.asl_rules.specs.runs.Plans.{starting}
 use Rattle.asl_rules.specs.declarations.Programs.{environment}
 use Rattle.asl_rules.specs.Tests.{IsRight, Tests}
-use Rattle.asl_laws.proofs.scopes.GrownTexts.{read_grown, read_grown_at}
+use Rattle.asl_laws.proofs.scopes.GrownTexts.{read_grown_at}
 use Rattle.asl_laws.proofs.soundness.Soundness.{soundness}
 use Rattle.asl_laws.proofs.soundness.SoundnessEntry.{main_call}
 use Rattle.asl_laws.proofs.soundness.SoundnessFacts.{facts_of}
@@ -33,8 +33,5 @@ grown_well t right ds grown = record {
       (there.0, (there.1, words_not_stuck t ds a f sound there.0 there.1 asked.asked words (initial_globals (environment t ds)) (starting steps (Some [])) sound.initial));
 }
 
-pub reports_run_well_at : (limit : ℕ) (t : Tests) → IsRight t → (files : List File) (ds : List Decl) → ReadsAt limit files (Ok ds) → RunsWell t ds
-reports_run_well_at limit t right files ds r = grown_well t right ds (read_grown_at limit files ds r)
-
-pub reports_run_well : (t : Tests) → IsRight t → (files : List File) (ds : List Decl) → Reads files (Ok ds) → RunsWell t ds
-reports_run_well t right files ds r = grown_well t right ds (read_grown files ds r)
+pub reports_run_well : (t : Tests) → IsRight t → (files : List File) (ds : List Decl) → ReadsAt t.limit files (Ok ds) → RunsWell t ds
+reports_run_well t right files ds r = grown_well t right ds (read_grown_at t.limit files ds r)

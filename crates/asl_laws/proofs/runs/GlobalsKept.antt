@@ -37,7 +37,7 @@ use Rattle.asl_rules.specs.runs.Plans.{Meter, Stuck, Immutable, Outcome, Done, T
 use Rattle.asl_rules.specs.runs.Forms.{Keeps as Returns, returned, at_end, call, unless_full, activations, function_gives, procedure_gives}
 use Rattle.asl_rules.specs.values.Operators.{less}
 use Rattle.asl_rules.specs.runs.StatementForms.{in_order, try_list}
-use Rattle.asl_rules.specs.runs.Evaluation.{put_value, map_pure, stored_in, first_store, store, held, declared, declare, declare_each, bound_to, stored_under, unders_or, declare_all, declare_first, sized_at, param_under, type_under, type_at, types_of, params_bound, formals_bound, Entering, entering, run_body, run_with, result_at, limit_of, params_of, overload, Numbered, call_one, call_named, called, expr_node, frames, otherwise_in, catch_layer, catch_in, Step, updated, store_at, Stores, Assigning, assign_each, assigning_layer, assigned, stmt_node, nodes, meaning, call_of}
+use Rattle.asl_rules.specs.runs.Evaluation.{put_value, map_pure, stored_in, first_store, store, held, declared, declare, declare_each, bound_to, stored_under, unders_or, declare_all, declare_first, sized_at, param_value, param_under, type_under, type_at, types_of, params_bound, formals_bound, Entering, entering, run_body, run_with, result_at, limit_of, params_of, overload, Numbered, call_one, call_named, called, expr_node, frames, otherwise_in, catch_layer, catch_in, Step, updated, store_at, Stores, Assigning, assign_each, assigning_layer, assigned, stmt_node, nodes, meaning, call_of}
 use Rattle.asl_rules.specs.runs.Machines.{most_open, run_of}
 use Rattle.asl_laws.proofs.runs.PlansKeep.{EndsIn, Keeps, FormsKeep, run_keeps, nodes_keep, Makes, AllMake, AllMade, NamedMakes, lift_keeps, once_keeps, choose_keeps, behind_keeps, behind_all_keeps, behind_more_keeps, operation_keeps, conditional_keeps, element_keeps, tuple_keeps, call_keeps, function_keeps, procedure_keeps, routine_keeps, frame_keeps, list_keeps, branch_keeps, branches_keep, assertion_keeps, value_keeps, values_keep, assignment_keeps, return_keeps, items_keep, case_keeps, for_keeps, while_keeps, repeat_keeps, throw_keeps, try_keeps}
 
@@ -211,7 +211,8 @@ module _ (old : List Binding) where
   params_make env span [] [] c p = p
   params_make env span [] (x ∷ xs) c p = tt
   params_make env span (q ∷ ps) [] c p = tt
-  params_make env span (q ∷ ps) (x ∷ xs) c p = made_makes (declare span q.name.text false (param_under env c q.ty x) x c) (λ c1. params_bound env span ps xs c1) (declare_makes span q.name.text false (param_under env c q.ty x) x c p) (λ c1 p1. params_make env span ps xs c1 p1)
+  params_make env span (q ∷ ps) (x ∷ xs) c p = bind_makes (there span (param_value q.ty x)) (λ y. declare span q.name.text false (param_under env c q.ty y) y c >>= λ c1. params_bound env span ps xs c1)
+      (λ y. made_makes (declare span q.name.text false (param_under env c q.ty y) y c) (λ c1. params_bound env span ps xs c1) (declare_makes span q.name.text false (param_under env c q.ty y) y c p) (λ c1 p1. params_make env span ps xs c1 p1))
 
   formals_make : (env : Environment) (span : Span) (f : Numbers) (gs : List Formal) (xs : List Value) (c : Core) → Kept c → Makes Kept (formals_bound env span f gs xs c)
   formals_make env span f [] [] c p = p

@@ -61,7 +61,7 @@ use Rattle.asl_poly.specs.Terms.{Summand}
 use Rattle.asl_poly.specs.Poly.{sum_map, difference_map}
 use Rattle.asl_poly.specs.Substitute.{map_at}
 use Rattle.asl_rules.specs.types.Types.{from_to, constraint_of, bitfield_width}
-use Rattle.asl_rules.specs.declarations.Scopes.{Entry, Storage, Counted, Param, type_in, is_subprogram}
+use Rattle.asl_rules.specs.declarations.Scopes.{Entry, Param, type_in, is_subprogram}
 use Rattle.asl_rules.specs.types.Widths.{Total, plus, minus, plus_number}
 use Rattle.asl_rules.specs.expressions.Operations.{arithmetic, any_parts}
 use Rattle.asl_rules.specs.expressions.Slicing.{all_add, no_width}
@@ -73,6 +73,7 @@ use Rattle.asl_rules.specs.private.Worth.{AtomsOf}
 use Rattle.asl_laws.proofs.scopes.WellTyped.{constructed_type}
 use Rattle.asl_rules.proofs.values.SameKind.{same_number}
 use Rattle.asl_rules.proofs.widths.WidthAtoms.{Good, CountsOver, width_is_over, constant_good, sum_good, difference_good, sum_alone}
+pub use Rattle.asl_laws.specs.ScopeRules.{StandingOver, CountedOver, EachOver, IsAtomOf, ResultOver, SubsOver}
 use Rattle.asl_laws.proofs.widths.TypesOver.{PartOver, PartsOver, Never, Over, FieldsOver, AllOver, over_more, over_any, shown_over, numbers_over, ArithmeticOver, sum_over, difference_over, product_over, quotient_over, shifted_up_over, shifted_down_over, modulo_over, constraint_over, width_over, only_width_over, join_over, bare_over, Replaced, substitute_over}
 use Rattle.asl_rules.proofs.basics.Opening.{opened, type_opened, found_field, found_bitfield, found_part, in_class_is, finish_is, bounded_ok}
 
@@ -91,39 +92,11 @@ end_type class span ok k T make S h = ap (λ (z : Typed). z.ty) (finish_is class
 
 -- ---- names and subprograms
 
-abbrev pub StandingOver : (ℕ → Type 0) → Standing → Type 0
-StandingOver A (Stored s) = Over A s.ty
-StandingOver A Subprogram = Unit {0}
-StandingOver A (TypeName T) = Over A T
-StandingOver A (Label T x) = Over A T
-
--- what storage counts as is over these atoms, and can't be assigned
-abbrev pub CountedOver : (ℕ → Type 0) → Standing → Type 0
-CountedOver A x = (s : Storage) (c : Counted) → x ≡ Stored s → s.counted ≡ Some c → Good A c.poly × (s.is_mutable ≡ false)
-
--- each entry is, also one whose name stands for another
-abbrev pub EachOver : (ℕ → Type 0) → List Entry → Type 0
-EachOver A [] = Unit {0}
-EachOver A (e ∷ es) = StandingOver A e.standing × (CountedOver A e.standing × EachOver A es)
-
 -- the visible names are over these atoms
 pub record NamesOver (A : ℕ → Type 0) (names : List Entry) : Type 0 where
   pub each : EachOver A names
   pub standing : (name : List ℕ) (x : Standing) → standing_of name names ≡ Some x → StandingOver A x
   pub counts : CountsOver A names
-
--- a parameter's atom
-abbrev pub IsAtomOf : List Param → ℕ → Type 0
-IsAtomOf [] n = ⊥
-IsAtomOf (p ∷ ps) n = (n ≡ p.atom) ⊎ IsAtomOf ps n
-
--- a result is over the parameters
-abbrev pub ResultOver : Signature → Type 0
-ResultOver f = (T : Ty) → f.result ≡ Some T → Over (IsAtomOf f.params) T
-
-abbrev pub SubsOver : List Signature → Type 0
-SubsOver [] = Unit {0}
-SubsOver (f ∷ fs) = ResultOver f × SubsOver fs
 
 chosen_by : (b : Bool) (n : ℕ) (f : Signature) (o : Option Chosen) (c : Chosen) → ResultOver f → (o ≡ Some c → ResultOver c.signature) → (if b then Some (record { number = n; signature = f }) else o) ≡ Some c → ResultOver c.signature
 chosen_by true n f o c r next h = subst (λ (z : Chosen). ResultOver z.signature) (some_same (record { number = n; signature = f }) c h) r

@@ -1,6 +1,6 @@
 -- The scopes of a program: the types of names outside bodies have no atoms, and the types of the names of a body have atoms of names of that body alone. So a
 -- type is the same type for two assignments that agree on the atoms of its scope.
-use Rattle.std.proofs.Common.{◌≡◌, ℕ, zero, suc, ◌<◌, Bool, true, false, ℤ, pos, List, [], ◌∷◌, ◌++◌, length, map, Option, Some, None, Result, Ok, Err, refl, sym, ap, ap₂, ◌∙◌, subst}
+use Rattle.std.proofs.Common.{◌≡◌, ℕ, zero, suc, Bool, true, false, ℤ, pos, List, [], ◌∷◌, ◌++◌, length, map, Option, Some, None, Result, Ok, Err, refl, sym, ap, ap₂, ◌∙◌, subst}
 use Rattle.std.specs.Prelude.{if◌then◌else◌, ◌+ℤ◌, ◌*ℤ◌, not}
 use Rattle.std.specs.Str.{bytes_eq}
 use Rattle.asl_syn.specs.declared.code.Fault.{Fault}
@@ -37,6 +37,7 @@ use Rattle.asl_rules.proofs.basics.Inversions.{ok_ok, err_ok, bind_ok, then_ok}
 use Rattle.asl_rules.proofs.basics.Tests.{none_some, some_same}
 use Rattle.asl_rules.proofs.basics.Opening.{bounded_ok}
 use Rattle.asl_rules.proofs.widths.Counting.{stored_of}
+pub use Rattle.asl_laws.specs.ScopeRules.{Below}
 use Rattle.asl_laws.proofs.widths.TypesOver.{EndOver, PartsOver, Never, Over, FieldsOver, AllOver, over_any, widened_over}
 use Rattle.asl_laws.proofs.scopes.OverScope.{StandingOver, CountedOver, EachOver, NamesOver, typed_over, written_over}
 use Rattle.asl_rules.proofs.scopes.EachOnce.{entries_keep}
@@ -112,10 +113,6 @@ module _ (A : ℕ → Type 0) (a b : Assignment) (same : (n : ℕ) → A n → a
 -- a type without atoms is fixed
 pub fixed_never : (T : Ty) → Over Never T → Fixed T
 fixed_never T h a = never_moved a (λ n. pos 0) T h
-
--- the atoms of these names
-abbrev pub Below : List Entry → ℕ → Type 0
-Below names n = n < next_atom names
 
 -- a type of a scope is the same type where the atoms of the scope are the same
 pub type_same_on : (names : List Entry) (a b : Assignment) (T : Ty) → SameOn names a b → Over (Below names) T → type_with T a ≡ type_with T b

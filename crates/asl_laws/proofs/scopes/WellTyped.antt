@@ -31,7 +31,7 @@ use Rattle.asl_rules.specs.Faults.{◌>>=◌, ◌>>◌, need, found_or, fault_of
 use Rattle.asl_rules.specs.Tests.{Tests, IsRight}
 use Rattle.asl_rules.specs.types.Types.{Ty, Fields, Parts, View, BitField, Widths, integer_of, boolean, bits_of, enumeration_of, record_of, exception_of, tuple_of, array_of, named, no_field, field, no_part, part, is_integer, is_boolean, is_bits, same_kind, join, bare, width_of, bits_wide, substitute, substitute_parts, with_type, substituted_ranges, substitute_fits, same_kinds}
 use Rattle.asl_rules.specs.types.Closed.{Assignment, width_at}
-use Rattle.asl_rules.specs.declarations.Scopes.{Scope, with_class, reading, Signature, Chosen, choose, choose_from, Standing, Stored, Subprogram, TypeName, Label, standing_of, type_of_name}
+use Rattle.asl_rules.specs.declarations.Scopes.{Scope, with_class, reading, Signature, Chosen, choose, choose_from, Entry, Standing, Stored, Subprogram, TypeName, Label, standing_of, type_in, type_of_name}
 use Rattle.asl_rules.specs.private.WellFormed.{WellFormed, WellDeclared, Shaped, ShapedFields, ShapedParts, AllInside, ShapedView}
 use Rattle.asl_rules.specs.declarations.Routines.{Routine, UInt, SInt, Zeros, Ones, ZeroExtend, SignExtend, IsZero, IsOnes, Len, Abs, Min, Max, routine_named}
 use Rattle.asl_rules.specs.types.Widths.{bounded, length_of, width_sum}
@@ -56,7 +56,8 @@ use Rattle.asl_laws.proofs.expressions.MemberNamed.{member_ok}
 use Rattle.asl_rules.proofs.basics.Tests.{some_same, none_some, mapped}
 use Rattle.asl_laws.proofs.values.Joining.{join_is_well_formed}
 use Rattle.asl_rules.proofs.values.Bare.{bare_is_well_formed}
-use Rattle.asl_rules.proofs.scopes.Naming.{GoodStanding, GoodNames, type_formed}
+use Rattle.asl_rules.proofs.scopes.Naming.{GoodStanding, GoodNames}
+use Rattle.asl_laws.specs.AgreeingTypes.{StandsFormed, NamesFormed, MaybeFormed, ResultsFormed}
 use Rattle.asl_cons.proofs.Results.{constant_is}
 use Rattle.asl_rules.proofs.basics.Opening.{opened, type_opened, found_field, found_bitfield, found_part, in_class_is, finish_is, bounded_ok}
 
@@ -80,15 +81,34 @@ constructed_type (record_of n fs) c h = as_type (record_of n fs) [] [] (record_o
 constructed_type (exception_of n fs) c h = as_type (exception_of n fs) [] [] (exception_of n fs) c h
 constructed_type T c h = none_some c h
 
+-- ---- names
+
+stands_formed : (d : List ℕ → Option Ty) (st : Standing) → GoodStanding d st → StandsFormed d st
+stands_formed d (Stored s) g = g
+stands_formed d Subprogram g = tt
+stands_formed d (TypeName T) g = g.0
+stands_formed d (Label T x) g = g.0
+
+pub good_formed : (d : List ℕ → Option Ty) (names : List Entry) → GoodNames d names → NamesFormed d names
+good_formed d names g name st h = stands_formed d st (g name st h)
+
+type_by : (d : List ℕ → Option Ty) (o : Option Standing) (T : Ty) → ((st : Standing) → o ≡ Some st → StandsFormed d st) → type_in o ≡ Some T → WellFormed d T
+type_by d (Some (TypeName U)) T g h = subst (WellFormed d) (some_same U T h) (g (TypeName U) refl)
+type_by d (Some (Stored s)) T g h = none_some T h
+type_by d (Some Subprogram) T g h = none_some T h
+type_by d (Some (Label U x)) T g h = none_some T h
+type_by d None T g h = none_some T h
+
+pub type_formed : (d : List ℕ → Option Ty) (names : List Entry) (name : List ℕ) → NamesFormed d names → (T : Ty) → type_of_name name names ≡ Some T → WellFormed d T
+type_formed d names name g T h = type_by d (standing_of name names) T (g name) h
+
 module _ (tests : Tests) (right : IsRight tests) (d : List ℕ → Option Ty) (declared : WellDeclared d) where
   -- a result is well formed, where there is one
   abbrev pub FormedResult : Option Ty → Type 0
-  FormedResult None = Unit {0}
-  FormedResult (Some T) = WellFormed d T
+  FormedResult o = MaybeFormed d o
 
   abbrev pub FormedSubs : List Signature → Type 0
-  FormedSubs [] = Unit {0}
-  FormedSubs (f ∷ fs) = FormedResult f.result × FormedSubs fs
+  FormedSubs fs = ResultsFormed d fs
 
   pub integer_formed : (ps : List Part) → WellFormed d (integer_of ps)
   integer_formed ps = record { shaped = tt; has_name = refl }
@@ -327,10 +347,10 @@ module _ (tests : Tests) (right : IsRight tests) (d : List ℕ → Option Ty) (d
   -- ---- by induction over trees
 
   abbrev pub Formed : Expr → Type 0
-  Formed e = (G : Scope) (S : Typed) → GoodNames d G.names → FormedSubs G.subs → typed tests e G ≡ Ok S → WellFormed d S.ty
+  Formed e = (G : Scope) (S : Typed) → NamesFormed d G.names → FormedSubs G.subs → typed tests e G ≡ Ok S → WellFormed d S.ty
 
   abbrev pub TypeFormed : TypeExpr → Type 0
-  TypeFormed t = (outside : Bool) (G : Scope) (W : Written) → GoodNames d G.names → written tests t outside G ≡ Ok W → WellFormed d W.ty
+  TypeFormed t = (outside : Bool) (G : Scope) (W : Written) → NamesFormed d G.names → written tests t outside G ≡ Ok W → WellFormed d W.ty
 
   abbrev Any : {A : Type 0} → A → Type 0
   Any x = Unit {0}
@@ -353,14 +373,14 @@ module _ (tests : Tests) (right : IsRight tests) (d : List ℕ → Option Ty) (d
   literal_layer class span None S h = err_ok (fault_of S03 span) S h
   literal_layer class span (Some bs) S h = subst (WellFormed d) (class_type class span Pure (bits_wide (length bs)) (λ n. tree.Constant n (bits_with bs [])) S h) (bits_formed (constant_map (pos (length bs))))
 
-  standing_formed : (span : Span) (name : List ℕ) (o : Option Standing) (G : Scope) (S : Typed) → ((st : Standing) → o ≡ Some st → GoodStanding d st) → name_of_standing span name o G ≡ Ok S → WellFormed d S.ty
+  standing_formed : (span : Span) (name : List ℕ) (o : Option Standing) (G : Scope) (S : Typed) → ((st : Standing) → o ≡ Some st → StandsFormed d st) → name_of_standing span name o G ≡ Ok S → WellFormed d S.ty
   standing_formed span name (Some (Stored s)) G S g h = subst (WellFormed d) (class_type G.class span (reading s) s.ty (λ n. tree.Read n (slot_of name (layout_of G.names))) S h) (g (Stored s) refl)
-  standing_formed span name (Some (Label T x)) G S g h = subst (WellFormed d) (class_type G.class span Pure T (λ n. tree.Constant n x) S h) (g (Label T x) refl).0
+  standing_formed span name (Some (Label T x)) G S g h = subst (WellFormed d) (class_type G.class span Pure T (λ n. tree.Constant n x) S h) (g (Label T x) refl)
   standing_formed span name (Some Subprogram) G S g h = err_ok (fault_of T02 span) S h
   standing_formed span name (Some (TypeName T)) G S g h = err_ok (fault_of T02 span) S h
   standing_formed span name None G S g h = err_ok (fault_of T02 span) S h
 
-  operands_formed : (es : List ((e : Expr) × Formed e)) (G : Scope) (os : List Operand) → GoodNames d G.names → FormedSubs G.subs → operands (map (found tests) (map (λ e. e.0) es)) G ≡ Ok os → ShapedParts d (types_of os)
+  operands_formed : (es : List ((e : Expr) × Formed e)) (G : Scope) (os : List Operand) → NamesFormed d G.names → FormedSubs G.subs → operands (map (found tests) (map (λ e. e.0) es)) G ≡ Ok os → ShapedParts d (types_of os)
   operands_formed [] G os g u h = subst (λ l. ShapedParts d (types_of l)) (ok_ok [] os h) tt
   operands_formed (e ∷ es) G os g u h =
       let s = bind_ok (typed tests e.0 G) _ os h in
@@ -368,7 +388,7 @@ module _ (tests : Tests) (right : IsRight tests) (d : List ℕ → Option Ty) (d
       let w = e.1 G s.value g u s.first in
       subst (λ l. ShapedParts d (types_of l)) (ok_ok (operand (found tests e.0).span s.value ∷ r.value) os r.then) (w.has_name, w.shaped, operands_formed es G r.value g u r.first)
 
-  layer_formed : (y : Below) (G : Scope) (S : Typed) → GoodNames d G.names → FormedSubs G.subs → typed_rule tests (opened tests (trees y)) G ≡ Ok S → WellFormed d S.ty
+  layer_formed : (y : Below) (G : Scope) (S : Typed) → NamesFormed d G.names → FormedSubs G.subs → typed_rule tests (opened tests (trees y)) G ≡ Ok S → WellFormed d S.ty
   layer_formed (ex.Int span n) G S g u h = subst (WellFormed d) (class_type G.class span Pure (literal_type n) (λ m. tree.Int m n) S h) (integer_formed _)
   layer_formed (ex.Bits span t) G S g u h = literal_layer G.class span (literal_of tests.limit t) S h
   layer_formed (ex.Bool span b) G S g u h = subst (WellFormed d) (class_type G.class span Pure boolean (λ n. tree.Constant n (bool b)) S h) boolean_formed
@@ -445,7 +465,7 @@ module _ (tests : Tests) (right : IsRight tests) (d : List ℕ → Option Ty) (d
 
   -- ---- written types
 
-  parts_formed : (ts : List ((t : TypeExpr) × TypeFormed t)) (outside : Bool) (G : Scope) (Ws : List Written) → GoodNames d G.names → types_in_order outside (map (found_type tests) (map (λ t. t.0) ts)) G ≡ Ok Ws → ShapedParts d (types_written Ws)
+  parts_formed : (ts : List ((t : TypeExpr) × TypeFormed t)) (outside : Bool) (G : Scope) (Ws : List Written) → NamesFormed d G.names → types_in_order outside (map (found_type tests) (map (λ t. t.0) ts)) G ≡ Ok Ws → ShapedParts d (types_written Ws)
   parts_formed [] outside G Ws g h = subst (λ l. ShapedParts d (types_written l)) (ok_ok [] Ws h) tt
   parts_formed (t ∷ ts) outside G Ws g h =
       let s = bind_ok (written tests t.0 outside G) _ Ws h in
@@ -456,7 +476,7 @@ module _ (tests : Tests) (right : IsRight tests) (d : List ℕ → Option Ty) (d
   written_is : (T : Ty) (s : TypeShape) (ts : List Tree) (W : Written) → WellFormed d T → (let r : Result Written Fault = Ok (written_as T s ts) in r) ≡ Ok W → WellFormed d W.ty
   written_is T s ts W w h = subst (λ (z : Written). WellFormed d z.ty) (ok_ok (written_as T s ts) W h) w
 
-  type_layer_formed : (y : TypeBelow) (outside : Bool) (G : Scope) (W : Written) → GoodNames d G.names → written_rule tests (type_opened tests (type_trees y)) outside G ≡ Ok W → WellFormed d W.ty
+  type_layer_formed : (y : TypeBelow) (outside : Bool) (G : Scope) (W : Written) → NamesFormed d G.names → written_rule tests (type_opened tests (type_trees y)) outside G ≡ Ok W → WellFormed d W.ty
   type_layer_formed (ex.IntegerType span ps) outside G W g h =
       let p = bind_ok (all_parts (map (found_part tests) (map (λ p. p.0) ps)) G) _ W h in
       let n = then_ok (need (nat_le (length p.value) most_parts) T20 span) _ W p.then in
@@ -489,8 +509,15 @@ module _ (tests : Tests) (right : IsRight tests) (d : List ℕ → Option Ty) (d
   type_step x y is outside G W g h =
       type_layer_formed y outside G W g (ap (λ z. written_rule tests (type_opened tests z) outside G) is ∙ sym (ap (λ (f : FoundType). f.ty outside G) (fold-roll-TypeExpr FoundBitfield FoundPart Found FoundField FoundPattern FoundSlice FoundType bitfield_rule part_rule (expr_rule tests) given_rule (pattern_rule tests) slice_rule (type_rule tests) x)) ∙ h)
 
-  pub typed_formed : (e : Expr) → Formed e
-  typed_formed = ind-Expr Any Any Formed Any Any Any TypeFormed (λ x y is. tt) (λ x y is. tt) expr_step (λ x y is. tt) (λ x y is. tt) (λ x y is. tt) type_step
+  pub typed_in_formed : (e : Expr) → Formed e
+  typed_in_formed = ind-Expr Any Any Formed Any Any Any TypeFormed (λ x y is. tt) (λ x y is. tt) expr_step (λ x y is. tt) (λ x y is. tt) (λ x y is. tt) type_step
 
-  pub written_formed : (t : TypeExpr) → TypeFormed t
-  written_formed = ind-TypeExpr Any Any Formed Any Any Any TypeFormed (λ x y is. tt) (λ x y is. tt) expr_step (λ x y is. tt) (λ x y is. tt) (λ x y is. tt) type_step
+  pub written_in_formed : (t : TypeExpr) → TypeFormed t
+  written_in_formed = ind-TypeExpr Any Any Formed Any Any Any TypeFormed (λ x y is. tt) (λ x y is. tt) expr_step (λ x y is. tt) (λ x y is. tt) (λ x y is. tt) type_step
+
+  -- so it is where more is known of the names
+  pub typed_formed : (e : Expr) (G : Scope) (S : Typed) → GoodNames d G.names → FormedSubs G.subs → typed tests e G ≡ Ok S → WellFormed d S.ty
+  typed_formed e G S g u h = typed_in_formed e G S (good_formed d G.names g) u h
+
+  pub written_formed : (t : TypeExpr) (outside : Bool) (G : Scope) (W : Written) → GoodNames d G.names → written tests t outside G ≡ Ok W → WellFormed d W.ty
+  written_formed t outside G W g h = written_in_formed t outside G W (good_formed d G.names g) h

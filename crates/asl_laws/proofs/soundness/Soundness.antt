@@ -1,16 +1,16 @@
 -- Soundness of a well-formed program, and of its typed trees.
-use Rattle.std.proofs.Common.{◌≡◌, ℕ, true, List, [], Ok, subst}
+use Rattle.std.proofs.Common.{◌≡◌, ℕ, Bool, true, List, [], Ok, subst, false}
 use Rattle.asl_syn.specs.declared.token.Span.{Span}
 use Rattle.asl_syn.specs.declared.tree.Decl.{Decl}
 use Rattle.asl_syn.specs.declared.tree.Ident.{Ident}
 use Rattle.asl_syn.specs.declared.tree.Expr.{Expr}
 use Rattle.asl_syn.specs.declared.tree.Alternative.TheOpen as st
-use Rattle.asl_grammar.specs.Reading.{File, Reads}
+use Rattle.asl_grammar.specs.Reading.{File, ReadsAt}
 use Rattle.asl_rules.specs.declared.entry.Entry.{Entry as Asked}
 use Rattle.asl_rules.specs.Tests.{Tests, IsRight}
 use Rattle.asl_rules.specs.declarations.Scopes.{Entry, Signature}
 use Rattle.asl_rules.specs.runs.Trees.{TreeFunc}
-use Rattle.asl_rules.specs.statements.Stmts.{invoke_rule}
+use Rattle.asl_rules.specs.statements.Stmts.{invoke_rule, found_stmt}
 use Rattle.asl_rules.specs.runs.States.{Core}
 use Rattle.asl_rules.specs.declarations.Declarations.{names_of_program}
 use Rattle.asl_rules.specs.private.Grown.{AreGrown}
@@ -31,27 +31,28 @@ use Rattle.asl_laws.proofs.soundness.SoundnessHeads.{heads_formed}
 use Rattle.asl_laws.proofs.soundness.SoundnessEnds.{no_calls, no_procedures, sound_with, same_with}
 use Rattle.asl_laws.proofs.soundness.SoundnessCalls.{call_same}
 use Rattle.asl_laws.proofs.calls.OwnForms.{own_formed, invoke_acted}
-use Rattle.asl_laws.proofs.scopes.GrownTexts.{read_grown}
+use Rattle.asl_laws.proofs.scopes.GrownTexts.{read_grown_at}
+use Rattle.asl_syn.specs.declared.tree.Stmt.{Stmt}
 
 -- ---- a program
 
 -- calls of procedures
-abbrev pub InvokesSo : (tests : Tests) (right : IsRight tests) (ds : List Decl) (base : List Entry) (subs : List Signature) (funcs : List TreeFunc) (w : WellNamed base) → Type 0
-InvokesSo tests right ds base subs funcs w =
-    (j : StmtClaim) (span : Span) (i : Ident) (ps es : List Expr) (c : Core) → invoke_rule tests span i ps es j.body.scope ≡ Ok j.done → Held tests right ds base subs funcs w j c → Acted tests right ds base subs funcs w j true (st.Invoke span i ps es) c
+abbrev pub InvokesSo : (tests : Tests) (right : IsRight tests) (ds : List Decl) (base : List Entry) (subs : List Signature) (loose : Bool) (funcs : List TreeFunc) (w : WellNamed base) → Type 0
+InvokesSo tests right ds base subs loose funcs w =
+    (j : StmtClaim) (s : Stmt) (span : Span) (i : Ident) (ps es : List Expr) (c : Core) → found_stmt tests s j.body ≡ Ok j.done → invoke_rule tests span i ps es j.body.scope ≡ Ok j.done → Held tests right ds base subs loose funcs w j c → Acted tests right ds base subs loose funcs w j true (st.Invoke span i ps es) c
 
-pub others_of : (tests : Tests) (right : IsRight tests) (ds : List Decl) (base : List Entry) (subs : List Signature) (funcs : List TreeFunc) (w : WellNamed base) → InvokesSo tests right ds base subs funcs w → OtherStmts tests right ds base subs funcs w
-others_of tests right ds base subs funcs w i = record { invoke = i; try = λ j span ss cs o c h k. try_acted tests right ds base subs funcs w j span ss cs o c h k }
+pub others_of : (tests : Tests) (right : IsRight tests) (ds : List Decl) (base : List Entry) (subs : List Signature) (loose : Bool) (funcs : List TreeFunc) (w : WellNamed base) → InvokesSo tests right ds base subs loose funcs w → OtherStmts tests right ds base subs loose funcs w
+others_of tests right ds base subs loose funcs w i = record { invoke = i; try = λ j span ss cs o c h k. try_acted tests right ds base subs loose funcs w j span ss cs o c h k }
 
 pub soundness : (tests : Tests) (right : IsRight tests) (ds : List Decl) (a : Accepted) (f : Facts tests ds a) → AreGrown ds → Soundness tests ds a × SameMeaning tests ds a
 soundness tests right ds a f grown =
     let base = names_of_program tests ds in
-    let belong = belong_by_forms tests right ds (λ b w. (no_calls tests right ds b w, others_of tests right ds b [] [] w (no_procedures tests right ds b w))) in
+    let belong = belong_by_forms tests right ds (λ b w. (no_calls tests right ds b w, others_of tests right ds b [] true [] w (no_procedures tests right ds b w))) in
     let w : WellNamed base = well_named tests right ds base grown f.apart f.globals belong in
     let s = heads_formed tests right (types_in base) (well_declared base w) base (funcs_of ds) f.heads w.good f.heads_are in
-    let own : Others tests right ds base (signatures f.heads) f.trees w s = record { own = own_formed tests right ds f.heads f.trees w s f.heads_are f.bodies } in
-    let stmts = others_of tests right ds base (signatures f.heads) f.trees w (invoke_acted tests right ds f.heads f.trees w s f.heads_are f.bodies) in
-    let calls = call_same tests right ds f.asked f.main f.heads f.trees w s f.heads_are f.bodies in
+    let own : (loose : Bool) → Others tests right ds base (signatures f.heads) loose f.trees w s = λ loose. record { own = own_formed tests right ds loose f.heads f.trees w s f.heads_are f.bodies } in
+    let stmts : (loose : Bool) → OtherStmts tests right ds base (signatures f.heads) loose f.trees w = λ loose. others_of tests right ds base (signatures f.heads) loose f.trees w (invoke_acted tests right ds loose f.heads f.trees w s f.heads_are f.bodies) in
+    let calls = call_same tests right ds f.asked f.main false f.heads f.trees w s f.heads_are f.bodies in
     subst (λ z. Soundness tests ds z × SameMeaning tests ds z) f.is (
       sound_with tests right ds f.asked f.main (signatures f.heads) f.trees w s own stmts calls (initial_match tests right ds base grown f.apart f.globals belong),
       same_with tests right ds f.asked f.main (signatures f.heads) f.trees w s own stmts calls,
@@ -62,14 +63,14 @@ pub accepted_sound : (limit : ℕ) (e : Asked) (ds : List Decl) (a : Accepted) �
 accepted_sound limit e ds a grown p = soundness p.tests p.right ds a (facts_of p.tests e ds a p.is) grown
 
 -- and of each program that is read from files
-pub read_sound : (limit : ℕ) (e : Asked) (files : List File) (ds : List Decl) (a : Accepted) → Reads files (Ok ds) → (p : ProgramOk limit e ds a) → Soundness p.tests ds a × SameMeaning p.tests ds a
-read_sound limit e files ds a r p = accepted_sound limit e ds a (read_grown files ds r) p
+pub read_sound : (limit : ℕ) (e : Asked) (files : List File) (ds : List Decl) (a : Accepted) → ReadsAt limit files (Ok ds) → (p : ProgramOk limit e ds a) → Soundness p.tests ds a × SameMeaning p.tests ds a
+read_sound limit e files ds a r p = accepted_sound limit e ds a (read_grown_at limit files ds r) p
 
 -- the declared types of such a program agree with one another
-pub read_declared : (limit : ℕ) (e : Asked) (files : List File) (ds : List Decl) (a : Accepted) → Reads files (Ok ds) → (p : ProgramOk limit e ds a) → WellDeclared (types_in a.names)
+pub read_declared : (limit : ℕ) (e : Asked) (files : List File) (ds : List Decl) (a : Accepted) → ReadsAt limit files (Ok ds) → (p : ProgramOk limit e ds a) → WellDeclared (types_in a.names)
 read_declared limit e files ds a r p =
     let f = facts_of p.tests e ds a p.is in
     let base = names_of_program p.tests ds in
-    let belong = belong_by_forms p.tests p.right ds (λ b w. (no_calls p.tests p.right ds b w, others_of p.tests p.right ds b [] [] w (no_procedures p.tests p.right ds b w))) in
-    let w : WellNamed base = well_named p.tests p.right ds base (read_grown files ds r) f.apart f.globals belong in
+    let belong = belong_by_forms p.tests p.right ds (λ b w. (no_calls p.tests p.right ds b w, others_of p.tests p.right ds b [] true [] w (no_procedures p.tests p.right ds b w))) in
+    let w : WellNamed base = well_named p.tests p.right ds base (read_grown_at limit files ds r) f.apart f.globals belong in
     subst (λ z. WellDeclared (types_in z.names)) f.is (well_declared base w)

@@ -1,5 +1,5 @@
 -- Calls from outside, of subprograms without parameters: the arguments are the formals, and both the body and its typed tree run in a frame of their own.
-use Rattle.std.proofs.Common.{◌≡◌, ℕ, ◌+◌, Bool, true, false, List, [], ◌∷◌, ◌++◌, Option, Some, None, Ok, refl, sym, ap, ◌∙◌, subst, map, arith}
+use Rattle.std.proofs.Common.{◌≡◌, ℕ, ◌+◌, Bool, true, false, List, [], ◌∷◌, ◌++◌, Option, Some, None, Ok, refl, sym, ap, ◌∙◌, subst, map, arith, inl, inr}
 use Rattle.std.specs.Prelude.{slice_get}
 use Rattle.asl_syn.specs.declared.token.Span.{Span}
 use Rattle.asl_syn.specs.declared.code.StaticCode.TheVariants.{T17}
@@ -46,7 +46,7 @@ use Rattle.asl_laws.proofs.scopes.ScopesOver.{never_moved, program_over, program
 use Rattle.asl_laws.proofs.scopes.BodiesOver.{signature_over, signatures_over}
 use Rattle.asl_laws.proofs.scopes.ScopesKept.{head_scope}
 use Rattle.asl_laws.proofs.expressions.Twins.{twins_weaker}
-use Rattle.asl_laws.proofs.expressions.Claims.{Here, FormedResult, result_at, our}
+use Rattle.asl_laws.proofs.expressions.Claims.{Here, FormedResult, result_at, our, around_of}
 use Rattle.asl_laws.proofs.expressions.TreePlans.{Same, Throws, append_nil}
 use Rattle.asl_laws.proofs.expressions.ExprForms.{env, program}
 use Rattle.asl_laws.proofs.scopes.Moved.{counted_fixed}
@@ -57,6 +57,7 @@ use Rattle.asl_laws.proofs.calls.OwnFrames.{integers_of, Follows, follows, HasAl
 use Rattle.asl_laws.proofs.soundness.SoundnessFacts.{numbered}
 use Rattle.asl_laws.proofs.soundness.SoundnessEnds.{CallSame}
 use Rattle.asl_laws.proofs.soundness.SoundnessHeads.{head_formed}
+use Rattle.asl_laws.proofs.calls.OwnStanding.{itself_below}
 
 -- ---- without parameters
 
@@ -130,11 +131,11 @@ result_same : (a b : Assignment) (o : Option Ty) → ((T : Ty) → o ≡ Some T 
 result_same a b None h = refl
 result_same a b (Some T) h = ap Some (never_moved a b T (h T refl))
 
-has_all : (tests : Tests) (right : IsRight tests) (ds : List Decl) (base : List Entry) (subs : List Signature) (funcs : List TreeFunc) (w : WellNamed base) (a b : Assignment) (xs : List Value) (Ts : Parts) → AllOver Never Ts → Belong (types_in base) a xs Ts → HasAll tests right ds base subs funcs w b Ts xs
-has_all tests right ds base subs funcs w a b [] no_part o h = tt
-has_all tests right ds base subs funcs w a b [] (part T Ts) o h = absurd h
-has_all tests right ds base subs funcs w a b (x ∷ xs) no_part o h = absurd h
-has_all tests right ds base subs funcs w a b (x ∷ xs) (part T Ts) o h = (subst (λ C. has x C ≡ true) (never_moved a b T o.0) h.0.0, h.0.1, has_all tests right ds base subs funcs w a b xs Ts o.1 h.1)
+has_all : (tests : Tests) (right : IsRight tests) (ds : List Decl) (base : List Entry) (subs : List Signature) (loose : Bool) (funcs : List TreeFunc) (w : WellNamed base) (a b : Assignment) (xs : List Value) (Ts : Parts) → AllOver Never Ts → Belong (types_in base) a xs Ts → HasAll tests right ds base subs loose funcs w b Ts xs
+has_all tests right ds base subs loose funcs w a b [] no_part o h = tt
+has_all tests right ds base subs loose funcs w a b [] (part T Ts) o h = absurd h
+has_all tests right ds base subs loose funcs w a b (x ∷ xs) no_part o h = absurd h
+has_all tests right ds base subs loose funcs w a b (x ∷ xs) (part T Ts) o h = (subst (λ C. has x C ≡ true) (never_moved a b T o.0) h.0.0, h.0.1, has_all tests right ds base subs loose funcs w a b xs Ts o.1 h.1)
 
 zero_more : (n : ℕ) → n + 0 ≡ n
 zero_more n = omega arith
@@ -142,7 +143,7 @@ zero_more n = omega arith
 abbrev states : Core → Core → Entering
 states p i = record { params = p; inner = i }
 
-module _ (tests : Tests) (right : IsRight tests) (ds : List Decl) (asked : Asked) (main : Option ℕ) (heads : List Head) (trees : List TreeFunc) (w : WellNamed (names_of_program tests ds)) (s : FormedSubs tests right (types_in (names_of_program tests ds)) (well_declared (names_of_program tests ds) w) (signatures heads))
+module _ (tests : Tests) (right : IsRight tests) (ds : List Decl) (asked : Asked) (main : Option ℕ) (loose : Bool) (heads : List Head) (trees : List TreeFunc) (w : WellNamed (names_of_program tests ds)) (s : FormedSubs tests right (types_in (names_of_program tests ds)) (well_declared (names_of_program tests ds) w) (signatures heads))
     (heads_are : signatures_rule tests (names_of_program tests ds) (funcs_of ds) ≡ Ok heads) (bodies : bodies_rule tests (signatures heads) heads ≡ Ok trees) where
   abbrev base : List Entry
   base = names_of_program tests ds
@@ -152,7 +153,7 @@ module _ (tests : Tests) (right : IsRight tests) (ds : List Decl) (asked : Asked
 
   -- where a call from outside stands
   abbrev outer : Here
-  outer = record { scope = record { names = base; subs = subs; class = Pure }; present = no_atoms; handled = [] }
+  outer = record { scope = record { names = base; subs = subs; class = Pure }; present = no_atoms; around = around_of (resting []) }
 
   abbrev Keeps : Option Value → Option Value → Core → Type 0
   Keeps x y c = (x ≡ y) × GlobalsMatch base c.globals
@@ -173,18 +174,18 @@ module _ (tests : Tests) (right : IsRight tests) (ds : List Decl) (asked : Asked
   }
 
   -- the result of a body as it is written
-  keeps_so : (span : Span) (a : Assignment) (c : Core) (o : Option TypeExpr) (T : Option Ty) → result_rule tests o base ≡ Ok T → Agrees base base a c → keeps_at (env tests right ds base subs trees w) span (present c) o ≡ seen_by span a T
+  keeps_so : (span : Span) (a : Assignment) (c : Core) (o : Option TypeExpr) (T : Option Ty) → result_rule tests o base ≡ Ok T → Agrees base base a c → keeps_at (env tests right ds base subs loose trees w) span (present c) o ≡ seen_by span a T
   keeps_so span a c None T h k = ap (seen_by span a) (ok_ok None T h)
   keeps_so span a c (Some t) T h k =
       let v = bind_ok (written tests t false (in_names base)) _ T h in
-      ap (λ z. Some (under_written span z)) (type_present tests right ds base subs trees w (in_names base) a c t false v.value (counted_fixed Never base (program_over tests Never ds).each) k v.first)
+      ap (λ z. Some (under_written span z)) (type_present tests right ds base subs loose trees w (in_names base) a c t false v.value (counted_fixed Never base (program_over tests Never ds).each) k v.first)
       ∙ ap (seen_by span a) (ok_ok (Some v.value.ty) T v.then)
 
-  call_kept : (id : ℕ) (args : List Value) (globals : List Binding) (h : Head) (l : Listed) → signature_rule tests base h.func ≡ Ok h → h.signature.params ≡ [] → in_order (map (found_stmt tests) h.func.body) Pure (body_of subs h) ≡ Ok l → may_end h.signature.result h.func ≡ true →
+  call_kept : (id : ℕ) (args : List Value) (globals : List Binding) (h : Head) (l : Listed) → slice_get subs id ≡ Some h.signature → signature_rule tests base h.func ≡ Ok h → h.signature.params ≡ [] → in_order (map (found_stmt tests) h.func.body) Pure (body_of subs h) ≡ Ok l → may_end h.signature.result h.func ≡ true →
       Belong (types_in base) no_atoms args h.signature.formals → GlobalsMatch base globals →
-      Same tests right base subs outer Keeps (run_with (env tests right ds base subs trees w) h.func.name.span id h.func [] args (resting globals)) (bare.run_with h.func.name.span id (tree_func h l.acts) [] args (erased (resting globals)))
-  call_kept id args globals h l k p j e b m =
-      let E = env tests right ds base subs trees w in
+      Same tests right base subs loose outer Keeps (run_with (env tests right ds base subs loose trees w) h.func.name.span id h.func [] args (resting globals)) (bare.run_with h.func.name.span id (tree_func h l.acts) [] args (erased (resting globals)))
+  call_kept id args globals h l is k p j e b m =
+      let E = env tests right ds base subs loose trees w in
       let f = h.func in
       let span = f.name.span in
       let c0 = resting globals in
@@ -196,9 +197,9 @@ module _ (tests : Tests) (right : IsRight tests) (ds : List Decl) (asked : Asked
       let result_over : (T : Ty) → h.signature.result ≡ Some T → Over Never T = λ T q. over_more (IsAtomOf h.signature.params) Never (none_never h.signature.params p) T (over.result T q) in
       let begun = entered_so a id globals m in
       let agree = present_agree a base (in_names base) c1 (counted_fixed Never base (program_over tests Never ds).each) begun in
-      let bound = formals_good tests right ds base subs trees w span base (present c1) a c1 agree begun f.formals h.signature.formals args base [] c1 n.formals n.free (λ name q r. q)
-      (subst (λ z. Follows a z args) (sym (program_atoms tests ds)) (follows a 0 args (λ i. ap a (zero_more i)))) (has_all tests right ds base subs trees w no_atoms a args h.signature.formals formals_over b) begun in
-      let ok : BodyOk tests right ds base subs trees w h l a = record {
+      let bound = formals_good tests right ds base subs loose trees w span base (present c1) a c1 agree begun f.formals h.signature.formals args base [] c1 n.formals n.free (λ name q r. q)
+      (subst (λ z. Follows a z args) (sym (program_atoms tests ds)) (follows a 0 args (λ i. ap a (zero_more i)))) (has_all tests right ds base subs loose trees w no_atoms a args h.signature.formals formals_over b) begun in
+      let ok : BodyOk tests right ds base subs loose trees w h l a = record {
         judged = j;
         ends = e;
         formed = formed_claim tests right base w h.signature.result (head_formed tests right (types_in base) (well_declared base w) base f h w.good k);
@@ -209,26 +210,26 @@ module _ (tests : Tests) (right : IsRight tests) (ds : List Decl) (asked : Asked
       ap (λ ps. pures.◌>>=◌ (params_bound E span ps [] c1) (λ c2. pures.◌>>=◌ (formals_bound E span (present c2) f.formals args c2) (λ c3. Good (states c2 c3)))) n.none
       ∙ ap (λ r. pures.◌>>=◌ r (λ c3. Good (states c1 c3))) bound.is in
       let after : List Value → Runs (Option Value) = λ zs. in_frame span (result_seen h.signature.result) (bare.restored (erased c0)) (plan.in_order (acts_of l.acts) (bare.entered id zs (erased c0))) in
-      subst (λ r. Same tests right base subs outer Keeps (lift r c0 (run_body E f c0)) (bare.run_with span id (tree_func h l.acts) [] args (erased c0))) (sym states_are)
-      (subst (λ q. Same tests right base subs outer Keeps (in_frame span q (restored c0) (plan.in_order f.body bound.state)) (bare.run_with span id (tree_func h l.acts) [] args (erased c0))) (sym (keeps_so span a c1 f.result h.signature.result n.result begun))
-      (subst (λ r. Same tests right base subs outer Keeps (in_frame span (seen_by span a h.signature.result) (restored c0) (plan.in_order f.body bound.state)) (lift r (erased c0) after)) (sym bound.seen_are)
-      (subst (λ d. Same tests right base subs outer Keeps (in_frame span (seen_by span a h.signature.result) (restored c0) (plan.in_order f.body bound.state)) (in_frame span (result_seen h.signature.result) (bare.restored (erased c0)) (plan.in_order (acts_of l.acts) d))) bound.erased_so
-      (body_same tests right ds base subs trees w outer Keeps h l a span c0 bound.state s ok
-      (record { agrees = subst (λ ns. Agrees base ns a bound.state) n.names bound.agrees; subs_are = refl; handled_are = bound.handled_are })
-      (record { agrees = resting_so globals m; subs_are = refl; handled_are = refl }) (λ r c g i. (refl, i.agrees.globals))))))
+      subst (λ r. Same tests right base subs loose outer Keeps (lift r c0 (run_body E f c0)) (bare.run_with span id (tree_func h l.acts) [] args (erased c0))) (sym states_are)
+      (subst (λ q. Same tests right base subs loose outer Keeps (in_frame span q (restored c0) (plan.in_order f.body bound.state)) (bare.run_with span id (tree_func h l.acts) [] args (erased c0))) (sym (keeps_so span a c1 f.result h.signature.result n.result begun))
+      (subst (λ r. Same tests right base subs loose outer Keeps (in_frame span (seen_by span a h.signature.result) (restored c0) (plan.in_order f.body bound.state)) (lift r (erased c0) after)) (sym bound.seen_are)
+      (subst (λ d. Same tests right base subs loose outer Keeps (in_frame span (seen_by span a h.signature.result) (restored c0) (plan.in_order f.body bound.state)) (in_frame span (result_seen h.signature.result) (bare.restored (erased c0)) (plan.in_order (acts_of l.acts) d))) bound.erased_so
+      (body_same tests right ds base subs loose trees w true outer Keeps h l a (around_of c1) span c0 bound.state s ok (inr (h.signature, is, refl, refl))
+      (record { agrees = subst (λ ns. Agrees base ns a bound.state) n.names bound.agrees; subs_are = refl; around_is = bound.around_is; stands = inr ((h.signature, is, itself_below h.signature.class), inl (refl, refl, refl)); counted = inr ok.scope_good.counted })
+      (record { agrees = resting_so globals m; subs_are = refl; around_is = refl; stands = inl refl; counted = inl refl }) (λ r c g i. (refl, i.agrees.globals))))))
 
   -- a call from outside
-  pub call_same : (id : ℕ) (args : List Value) (globals : List Binding) → IsCall (accepted asked main subs trees base) id args globals → CallSame tests right ds asked main subs trees w s id args globals
+  pub call_same : (id : ℕ) (args : List Value) (globals : List Binding) → IsCall (accepted asked main subs trees base) id args globals → CallSame tests right ds asked main subs trees w s loose id args globals
   call_same id args globals k =
-      let E = env tests right ds base subs trees w in
+      let E = env tests right ds base subs loose trees w in
       let c0 = resting globals in
       let m = numbered tests base subs (funcs_of ds) heads trees id k.signature heads_are bodies k.is in
       let h = m.head in
       let l = bind_ok (in_order (map (found_stmt tests) h.func.body) Pure (body_of subs h)) _ m.tree m.body in
       let d = then_ok (need (may_end h.signature.result h.func) T17 h.func.name.span) (Ok (tree_func h l.value.acts)) m.tree l.then in
       let tree_is : slice_get trees id ≡ Some (tree_func h l.value.acts) = m.is_tree ∙ ap Some (sym (ok_ok (tree_func h l.value.acts) m.tree d.then)) in
-      let same = call_kept id args globals h l.value m.is_head (ap (λ (z : Signature). z.params) m.is_signature ∙ k.no_params) l.first (need_ok (may_end h.signature.result h.func) T17 h.func.name.span tt d.first)
+      let same = call_kept id args globals h l.value (k.is ∙ ap Some (sym m.is_signature)) m.is_head (ap (λ (z : Signature). z.params) m.is_signature ∙ k.no_params) l.first (need_ok (may_end h.signature.result h.func) T17 h.func.name.span tt d.first)
       (subst (λ (z : Signature). Belong (types_in base) no_atoms args z.formals) (sym m.is_signature) k.args_belong) k.globals_match in
-      twins_weaker (our tests base subs) Keeps Keeps (Throws tests right base subs outer) (λ x c. GlobalsMatch base c.globals) (λ x y c q. q) (λ x c q. q.agrees.globals) (call_of E id args c0) (tree_call (program tests right ds base subs trees w) id args (erased c0))
-      (subst (λ o. Same tests right base subs outer Keeps (lift (known origin o) c0 (λ f. run_with E f.name.span id f [] args c0)) (tree_call (program tests right ds base subs trees w) id args (erased c0))) (sym m.is_func)
-      (subst (λ o. Same tests right base subs outer Keeps (run_with E h.func.name.span id h.func [] args c0) (call_func id o args (erased c0))) (sym tree_is) same))
+      twins_weaker (our tests base subs loose) Keeps Keeps (Throws tests right base subs loose outer) (λ x c. GlobalsMatch base c.globals) (λ x y c q. q) (λ x c q. q.agrees.globals) (call_of E id args c0) (tree_call (program tests right ds base subs loose trees w) id args (erased c0))
+      (subst (λ o. Same tests right base subs loose outer Keeps (lift (known origin o) c0 (λ f. run_with E f.name.span id f [] args c0)) (tree_call (program tests right ds base subs loose trees w) id args (erased c0))) (sym m.is_func)
+      (subst (λ o. Same tests right base subs loose outer Keeps (run_with E h.func.name.span id h.func [] args c0) (call_func id o args (erased c0))) (sym tree_is) same))

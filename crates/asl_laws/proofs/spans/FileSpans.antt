@@ -16,7 +16,8 @@ use Rattle.asl_grammar.proofs.lexemes.Faults.{first_fault_stands}
 use Rattle.asl_rules.specs.declared.entry.Entry.{Entry}
 use Rattle.asl_laws.specs.Answers.{FaultOfFiles}
 use Rattle.asl_rules.proofs.verdict.SameRules.{AllOf}
-use Rattle.asl_laws.proofs.spans.Spans.{Each, each_so, all_of, decl_spans}
+use Rattle.asl_laws.specs.Spans.{Mark, Each, Placed, all_of, decl_spans}
+use Rattle.asl_laws.proofs.spans.EachSpan.{each_placed}
 use Rattle.asl_laws.proofs.spans.KnownSpans.{fault_there}
 
 -- the span lies in the file of this number and this text
@@ -28,7 +29,7 @@ Within n text span = (span.file ≡ n) × (span.start + span.len ≤ length text
 abbrev Lexed : ℕ → Text → Lexeme → Type 0
 Lexed n text t = Within n text t.span
 
-pub lexed : (limit n : ℕ) (text : Text) (ts : List Token) → AllByRecursion (HasText limit n text) ts → AllOf (Lexed n text) (map (with_text text) ts)
+lexed : (limit n : ℕ) (text : Text) (ts : List Token) → AllByRecursion (HasText limit n text) ts → AllOf (Lexed n text) (map (with_text text) ts)
 lexed limit n text [] h = tt
 lexed limit n text (t ∷ ts) h = ((h.0.file_is, h.0.fits), lexed limit n text ts h.1)
 
@@ -72,23 +73,23 @@ first_syntax_stands limit n (text ∷ texts) (ts ∷ tss) f k (inr h) = inr (fir
 
 -- ---- all declarations
 
-joined_decls : (P : Span → Type 0) (ds es : List Decl) → Each P (all_of decl_spans ds) → Each P (all_of decl_spans es) → Each P (all_of decl_spans (ds ++ es))
+pub joined_decls : (P : Mark → Type 0) (ds es : List Decl) → Each P (all_of decl_spans ds) → Each P (all_of decl_spans es) → Each P (all_of decl_spans (ds ++ es))
 joined_decls P [] es h k = k
 joined_decls P (d ∷ ds) es h k = (h.0, joined_decls P ds es h.1 k)
 
 -- the spans of the trees that the grammar reads lie in the file
 abbrev pub TreesStand : Type 0
-TreesStand = (limit n : ℕ) (text : Text) (ts : List Token) (v : List Decl) → Tokens limit n text ts → Parses text ts v → Each (Within n text) (all_of decl_spans v)
+TreesStand = (limit n : ℕ) (text : Text) (ts : List Token) (v : List Decl) → Tokens limit n text ts → Parses text ts v → Each (Placed (Within n text)) (all_of decl_spans v)
 
 module _ (trees : TreesStand) where
-  all_trees : (limit n : ℕ) (texts : List Text) (tss : List (List Token)) (ds : List Decl) → AllTokens limit n texts tss → HasTrees texts tss ds → Each (LiesIn n texts) (all_of decl_spans ds)
-  all_trees limit n [] [] ds k h = subst (λ es. Each (LiesIn n []) (all_of decl_spans es)) (sym h) tt
+  all_trees : (limit n : ℕ) (texts : List Text) (tss : List (List Token)) (ds : List Decl) → AllTokens limit n texts tss → HasTrees texts tss ds → Each (Placed (LiesIn n texts)) (all_of decl_spans ds)
+  all_trees limit n [] [] ds k h = subst (λ es. Each (Placed (LiesIn n [])) (all_of decl_spans es)) (sym h) tt
   all_trees limit n [] (ts ∷ tss) ds k h = absurd h
   all_trees limit n (text ∷ texts) [] ds k h = absurd h
   all_trees limit n (text ∷ texts) (ts ∷ tss) ds k (v, vs, p, r, e) =
-      subst (λ es. Each (LiesIn n (text ∷ texts)) (all_of decl_spans es)) (sym e) (joined_decls (LiesIn n (text ∷ texts)) v vs
-      (each_so (Within n text) (LiesIn n (text ∷ texts)) (λ span h. inl h) (all_of decl_spans v) (trees limit n text ts v k.0 p))
-      (each_so (LiesIn (n + 1) texts) (LiesIn n (text ∷ texts)) (λ span h. inr h) (all_of decl_spans vs) (all_trees limit (n + 1) texts tss vs k.1 r)))
+      subst (λ es. Each (Placed (LiesIn n (text ∷ texts))) (all_of decl_spans es)) (sym e) (joined_decls (Placed (LiesIn n (text ∷ texts))) v vs
+      (each_placed (Within n text) (LiesIn n (text ∷ texts)) (λ span h. inl h) (all_of decl_spans v) (trees limit n text ts v k.0 p))
+      (each_placed (LiesIn (n + 1) texts) (LiesIn n (text ∷ texts)) (λ span h. inr h) (all_of decl_spans vs) (all_trees limit (n + 1) texts tss vs k.1 r)))
 
   -- the fault of files stands in one of them, where there is a file at all
   pub files_fault_stands : (limit : ℕ) (e : Entry) (file : File) (files : List File) (f : Fault) → FaultOfFiles limit e (file ∷ files) f → LiesIn 0 (map (λ g. g.1) (file ∷ files)) f.span

@@ -1,14 +1,15 @@
--- Codes other than T04, which is that of evaluations alone; types that don't fit, or don't go together, have such codes.
+-- The codes of rules but T04, which is that of evaluations alone; types that don't fit, or don't go together, have such codes.
 use Rattle.std.specs.Prelude.{ℕ, Bool, true, false, ◌&&◌, cond, List, Option, Some, None}
 use Rattle.asl_syn.specs.declared.code.StaticCode.{StaticCode}
 use Rattle.asl_syn.specs.declared.code.StaticCode.TheVariants.{T04, T05, T06, T07}
 use Rattle.asl_rules.specs.Tests.{Tests}
 use Rattle.asl_rules.specs.types.Types.{Ty, Parts, integer_of, bits_of, tuple_of, array_of, named, no_part, part, is_bits, same_kind, reaches, constraint_of, width_of, parts_of, element_of, or_else, unless, by_names, misfit_inside, misfit_of_parts, misfit}
 use Rattle.asl_rules.specs.expressions.Exprs.{apart}
+use Rattle.asl_laws.specs.Codes.{IsOfRules}
 
 abbrev pub Other : StaticCode → Type 0
 Other T04 = ⊥
-Other code = Unit {0}
+Other code = IsOfRules code
 
 -- so is a code that is given
 abbrev pub GivenOther : Option StaticCode → Type 0

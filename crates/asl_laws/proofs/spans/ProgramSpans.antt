@@ -4,7 +4,7 @@ use Rattle.std.proofs.Common.{◌≡◌, ℕ, zero, suc, inl, inr, Bool, true, f
 use Rattle.asl_syn.specs.declared.token.Span.{Span}
 use Rattle.asl_syn.specs.declared.code.Fault.{Fault}
 use Rattle.asl_syn.specs.declared.code.StaticCode.{StaticCode}
-use Rattle.asl_syn.specs.declared.code.StaticCode.TheVariants.{T04, T05}
+use Rattle.asl_syn.specs.declared.code.StaticCode.TheVariants.{S03, T04, T05}
 use Rattle.asl_syn.specs.declared.tree.Expr.{Expr}
 use Rattle.asl_syn.specs.declared.tree.TypeExpr.{TypeExpr}
 use Rattle.asl_syn.specs.declared.tree.StorageDecl.{StorageDecl}
@@ -16,14 +16,15 @@ use Rattle.asl_rules.specs.declared.effect.Effect.TheVariants.{Pure, Writes}
 use Rattle.asl_rules.specs.declared.entry.Entry.{Entry}
 use Rattle.asl_rules.specs.Faults.{need, none_at, fitted, fault_of}
 use Rattle.asl_rules.specs.Tests.{Tests}
-use Rattle.asl_rules.specs.types.Types.{Ty, is_integer, misfit}
+use Rattle.asl_rules.specs.types.Types.{is_integer, misfit}
 use Rattle.asl_rules.specs.values.Values.{Value}
 use Rattle.asl_rules.specs.types.Closed.{closed}
 use Rattle.asl_rules.specs.declarations.Names.{all_declared, names_rule}
 use Rattle.asl_rules.specs.declarations.Scopes as scopes
 use Rattle.asl_rules.specs.declarations.Scopes.{with_class}
 use Rattle.asl_rules.specs.expressions.Typing.{Typed}
-use Rattle.asl_rules.specs.expressions.Exprs.{found, typed, written}
+use Rattle.asl_rules.specs.types.Writing.{Written}
+use Rattle.asl_rules.specs.expressions.Exprs.{found, found_type, typed, written}
 use Rattle.asl_rules.specs.types.Written.{first_value}
 use Rattle.asl_rules.specs.declarations.Uses.{cycles_rule, uses}
 use Rattle.asl_rules.specs.declarations.Barred.{barred}
@@ -35,9 +36,9 @@ use Rattle.asl_rules.proofs.basics.Tests.{some_same}
 use Rattle.asl_laws.proofs.scopes.Globals.{names_same}
 use Rattle.asl_rules.proofs.verdict.SameRules.{AllOf}
 use Rattle.asl_laws.specs.Evaluated.{names_after, expr_outside, StandsIn, AreVisible}
-use Rattle.asl_laws.proofs.spans.Spans.{Each, all_of, maybe, expr_spans, type_spans, decl_spans}
+use Rattle.asl_laws.specs.Spans.{Each, all_of, maybe, expr_spans, type_spans, decl_spans}
 use Rattle.asl_laws.proofs.spans.OtherCodes.{misfit_other}
-use Rattle.asl_laws.proofs.spans.Standing.{Has, At, Answers, Stands, then_with, then_stands, bound, next, bound_by, next_by, with_by, next_with, needed, fitted_at, steps}
+use Rattle.asl_laws.proofs.spans.Standing.{Has, At, Answers, Stands, then_with, then_stands, bound, next, bound_by, next_by, with_by, next_with, needed, fitted_at, Marked}
 use Rattle.asl_laws.proofs.spans.ExprSpans.{expr_there, type_there}
 use Rattle.asl_laws.proofs.spans.DeclSpans.{names_stand, all_declared_stand, cycles_stand, type_decl_stands, params_free_stand, formals_free_stand, params_stand, formals_stand, result_stands, integers_stand, HeadStands, overloads_stand, bodies_stand, entry_stands}
 
@@ -46,12 +47,14 @@ abbrev pub IsOutside : List Decl → Expr → Type 0
 IsOutside ds e = (d : Decl) × (StandsIn d ds × (expr_outside d ≡ Some e))
 
 -- what is asked of evaluations outside bodies, where these names are visible: it holds of their faults, and of the fault where an expression holds what it
--- may not hold, or is no number
+-- may not hold, or is no number. And of that of storage with neither a type nor an initialiser
 pub record AsksOf (t : Tests) (ds : List Decl) (P : Fault → Type 0) : Type 0 where
   pub barred_at : (names : List scopes.Entry) → AreVisible t ds names → (e : Expr) → IsOutside ds e → Stands P (none_at T04 (barred e names))
   pub known_at : (names : List scopes.Entry) → AreVisible t ds names → (e : Expr) → IsOutside ds e → (k : Effect) (S : Typed) → barred e names ≡ None → typed t e (with_class (in_names names) k) ≡ Ok S → Stands P (evaluated (constant t.limit e names))
   pub number_at : (names : List scopes.Entry) → AreVisible t ds names → (e : Expr) → IsOutside ds e → (k : Effect) (S : Typed) → barred e names ≡ None → typed t e (with_class (in_names names) k) ≡ Ok S → is_integer S.ty ≡ true → (x : Value) → evaluated (constant t.limit e names) ≡ Ok x → Stands P (as_number (found t e).span x)
-  pub first_at : (at : Span) (T : Ty) → At P at → Stands P (evaluated (first_value t.limit at (closed T)))
+  pub bare_at : (s : StorageDecl) → StandsIn (dc.Storage s) ds → s.ty ≡ None → s.init ≡ None → At P s.span → Has P (fault_of S03 s.span)
+  pub first_at : (names : List scopes.Entry) → AreVisible t ds names → (s : StorageDecl) → StandsIn (dc.Storage s) ds → s.init ≡ None → (ty : TypeExpr) → s.ty ≡ Some ty → (W : Written) →
+      written t ty true (in_names names) ≡ Ok W → At P (found_type t ty).span → Stands P (evaluated (first_value t.limit (found_type t ty).span (closed W.ty)))
 
 -- where nothing is there that must not be
 none_there : (code : StaticCode) (o : Option Span) (u : Unit {0}) → none_at code o ≡ Ok u → o ≡ None
@@ -62,15 +65,24 @@ module _ (t : Tests) (P : Fault → Type 0) (ds : List Decl) (asks : AsksOf t ds
   module _ (names : List scopes.Entry) (visible : AreVisible t ds names) where
     -- ---- storage
 
-    storage_stands : (s : StorageDecl) (b : Bool) (ty : Option TypeExpr) (o : Option Expr) → ((e : Expr) → o ≡ Some e → IsOutside ds e) → At P s.span → Each (At P) (maybe type_spans ty) → Each (At P) (maybe expr_spans o) → Stands P (storage_rule t s b ty o (in_names names))
-    storage_stands s b None None out p h k = search steps
-    storage_stands s b (Some ty) None out p h k = let w = type_there t P ty h in search (steps, w.written_at, asks.first_at, w.at) depth 10
-    storage_stands s b None (Some e) out p h k =
+    -- what is asked of the first value of a written type, where there is no initialiser
+    abbrev FirstStands : Option TypeExpr → Option Expr → Type 0
+    FirstStands ty o =
+        (x : TypeExpr) → ty ≡ Some x → o ≡ None → (W : Written) → written t x true (in_names names) ≡ Ok W → At P (found_type t x).span →
+        Stands P (evaluated (first_value t.limit (found_type t x).span (closed W.ty)))
+
+    storage_stands : (s : StorageDecl) (b : Bool) (ty : Option TypeExpr) (o : Option Expr) → ((e : Expr) → o ≡ Some e → IsOutside ds e) → (ty ≡ None → o ≡ None → Has P (fault_of S03 s.span)) → FirstStands ty o → At P s.span → Each (Marked P t) (maybe type_spans ty) → Each (Marked P t) (maybe expr_spans o) → Stands P (storage_rule t s b ty o (in_names names))
+    storage_stands s b None None out bare first p h k = bare refl refl
+    storage_stands s b (Some ty) None out bare first p h k =
+        let w = type_there t P ty h in
+        bound_by P (written t ty true (in_names names)) _ (w.written_at true (in_names names)) (λ W q.
+        bound P (evaluated (first_value t.limit (found_type t ty).span (closed W.ty))) _ (first ty refl refl W q w.at) (λ x. tt))
+    storage_stands s b None (Some e) out bare first p h k =
         let f = expr_there t P e k in
         next_by P (none_at T04 (barred e names)) _ (asks.barred_at names visible e (out e refl)) (λ n.
         bound_by P (typed t e (in_names names)) _ (f.typed_at (in_names names)) (λ S g.
         bound P (evaluated (constant t.limit e names)) _ (asks.known_at names visible e (out e refl) Writes S (none_there T04 (barred e names) tt n) g) (λ x. tt)))
-    storage_stands s b (Some ty) (Some e) out p h k =
+    storage_stands s b (Some ty) (Some e) out bare first p h k =
         let w = type_there t P ty h in
         let f = expr_there t P e k in
         next_by P (none_at T04 (barred e names)) _ (asks.barred_at names visible e (out e refl)) (λ n.
@@ -79,20 +91,20 @@ module _ (t : Tests) (P : Fault → Type 0) (ds : List Decl) (asks : AsksOf t ds
         next P (fitted (misfit t S.ty W.ty) (found t e).span) _ (fitted_at P (misfit t S.ty W.ty) (found t e).span f.at (misfit_other t S.ty W.ty))
         (bound P (evaluated (constant t.limit e names)) _ (asks.known_at names visible e (out e refl) Writes S (none_there T04 (barred e names) tt n) g) (λ x. tt)))))
 
-    decl_stands : (d : Decl) → StandsIn d ds → Each (At P) (decl_spans d) → Stands P (decl_rule t d (in_names names))
+    decl_stands : (d : Decl) → StandsIn d ds → Each (Marked P t) (decl_spans d) → Stands P (decl_rule t d (in_names names))
     decl_stands (dc.Type d) i h = type_decl_stands t P d (in_names names) h.1.1.0 h.1.1.1
     decl_stands (dc.Storage s) i h =
-        bound P (storage_rule t s (is_var s.kind) s.ty s.init (in_names names)) _ (storage_stands s (is_var s.kind) s.ty s.init (λ e o. (dc.Storage s, (i, o))) h.0 h.1.1.0 h.1.1.1) (λ x. tt)
+        bound P (storage_rule t s (is_var s.kind) s.ty s.init (in_names names)) _ (storage_stands s (is_var s.kind) s.ty s.init (λ e o. (dc.Storage s, (i, o))) (λ ty init. asks.bare_at s i ty init h.0) (λ x ty init W q p. asks.first_at names visible s i init x ty W q p) h.0 h.1.1.0 h.1.1.1) (λ x. tt)
     decl_stands (dc.Func f) i h = tt
 
     -- ---- signatures
 
-    limit_typed_stands : (o : Option Expr) → ((e : Expr) → o ≡ Some e → IsOutside ds e) → Each (At P) (maybe expr_spans o) → Stands P (limit_typed t o names)
+    limit_typed_stands : (o : Option Expr) → ((e : Expr) → o ≡ Some e → IsOutside ds e) → Each (Marked P t) (maybe expr_spans o) → Stands P (limit_typed t o names)
     limit_typed_stands None out h = tt
     limit_typed_stands (Some e) out h =
         next P (none_at T04 (barred e names)) _ (asks.barred_at names visible e (out e refl)) (bound P (typed t e (with_class (in_names names) Pure)) _ ((expr_there t P e h).typed_at (with_class (in_names names) Pure)) (λ S. tt))
 
-    limit_of_stands : (e : Expr) (l : Option Typed) → IsOutside ds e → Each (At P) (expr_spans e) → limit_typed t (Some e) names ≡ Ok l → Stands P (limit_of_expr t e l names)
+    limit_of_stands : (e : Expr) (l : Option Typed) → IsOutside ds e → Each (Marked P t) (expr_spans e) → limit_typed t (Some e) names ≡ Ok l → Stands P (limit_of_expr t e l names)
     limit_of_stands e None out h k = tt
     limit_of_stands e (Some S) out h k =
         let n = then_ok (none_at T04 (barred e names)) _ (Some S) k in
@@ -104,11 +116,11 @@ module _ (t : Tests) (P : Fault → Type 0) (ds : List Decl) (asks : AsksOf t ds
         bound_by P (evaluated (constant t.limit e names)) _ (asks.known_at names visible e out Pure S no so) (λ x g.
         asks.number_at names visible e out Pure S no so (need_ok (is_integer S.ty) T05 (found t e).span tt b) x g))
 
-    limit_stands : (o : Option Expr) (l : Option Typed) → ((e : Expr) → o ≡ Some e → IsOutside ds e) → Each (At P) (maybe expr_spans o) → limit_typed t o names ≡ Ok l → Stands P (limit_rule t o l names)
+    limit_stands : (o : Option Expr) (l : Option Typed) → ((e : Expr) → o ≡ Some e → IsOutside ds e) → Each (Marked P t) (maybe expr_spans o) → limit_typed t o names ≡ Ok l → Stands P (limit_rule t o l names)
     limit_stands None l out h k = tt
     limit_stands (Some e) l out h k = limit_of_stands e l (out e refl) h k
 
-    signature_stands : (f : Func) → StandsIn (dc.Func f) ds → Each (At P) (decl_spans (dc.Func f)) → Answers P (HeadStands t P) (signature_rule t names f)
+    signature_stands : (f : Func) → StandsIn (dc.Func f) ds → Each (Marked P t) (decl_spans (dc.Func f)) → Answers P (HeadStands t P) (signature_rule t names f)
     signature_stands f i h =
         let out : (e : Expr) → f.limit ≡ Some e → IsOutside ds e = λ e o. (dc.Func f, (i, o)) in
         with_by P (HeadStands t P) (params_free f.params [] names) _ (params_free_stand t P f.params [] names h.1.1.0) (λ before u.
@@ -120,7 +132,7 @@ module _ (t : Tests) (P : Fault → Type 0) (ds : List Decl) (asks : AsksOf t ds
         next_with P (HeadStands t P) (params_are_integers t f.params p.0) _ (integers_stand t P f.params p.0 h.1.1.0)
         (with_by P (HeadStands t P) (limit_rule t f.limit l names) _ (limit_stands f.limit l out h.1.1.1.1.1.0 d) (λ limit e. (h.1.0, h.1.1.1.1.1.1)))))))))
 
-    signatures_stand : (es : List Decl) → ((d : Decl) → StandsIn d es → StandsIn d ds) → Each (At P) (all_of decl_spans es) → Answers P (AllOf (HeadStands t P)) (signatures_rule t names (funcs_of es))
+    signatures_stand : (es : List Decl) → ((d : Decl) → StandsIn d es → StandsIn d ds) → Each (Marked P t) (all_of decl_spans es) → Answers P (AllOf (HeadStands t P)) (signatures_rule t names (funcs_of es))
     signatures_stand [] among h = tt
     signatures_stand (dc.Type d ∷ es) among h = signatures_stand es (λ d i. among d (inr i)) h.1
     signatures_stand (dc.Storage d ∷ es) among h = signatures_stand es (λ d i. among d (inr i)) h.1
@@ -150,7 +162,7 @@ module _ (t : Tests) (P : Fault → Type 0) (ds : List Decl) (asks : AsksOf t ds
   still_stands (Fine es) k h l = h
   still_stands (Faulty f) k h l = h
 
-  judgement_stands : (n : ℕ) (d : Decl) → StandsIn d ds → Each (At P) (decl_spans d) → FaultyStands (judgement t n ds d)
+  judgement_stands : (n : ℕ) (d : Decl) → StandsIn d ds → Each (Marked P t) (decl_spans d) → FaultyStands (judgement t n ds d)
   unfolding FaultyStands
   judgement_stands zero d i h = tt
   judgement_stands (suc n) d i h =
@@ -163,14 +175,14 @@ module _ (t : Tests) (P : Fault → Type 0) (ds : List Decl) (asks : AsksOf t ds
   faulty_stands (Fine es) h = tt
   faulty_stands (Faulty f) h = h
 
-  faults_stand : (es : List Decl) → ((d : Decl) → StandsIn d es → StandsIn d ds) → Each (At P) (all_of decl_spans es) → Stands P (faults_rule t ds es)
+  faults_stand : (es : List Decl) → ((d : Decl) → StandsIn d es → StandsIn d ds) → Each (Marked P t) (all_of decl_spans es) → Stands P (faults_rule t ds es)
   faults_stand [] among h = tt
   faults_stand (d ∷ es) among h =
       next P (faulty (final t ds d)) (faults_rule t ds es) (faulty_stands (final t ds d) (judgement_stands (suc (length ds)) d (among d (inl refl)) h.0)) (faults_stand es (λ d i. among d (inr i)) h.1)
 
   -- ---- the verdict
 
-  pub verdict_stands : (e : Entry) → At P origin → Each (At P) (all_of decl_spans ds) → Stands P (verdict e ds t)
+  pub verdict_stands : (e : Entry) → At P origin → Each (Marked P t) (all_of decl_spans ds) → Stands P (verdict e ds t)
   unfolding verdict
   verdict_stands e p h =
       next P (names_rule [] (all_declared ds)) _ (names_stand t P [] (all_declared ds) (all_declared_stand t P ds h))
@@ -181,5 +193,5 @@ module _ (t : Tests) (P : Fault → Type 0) (ds : List Decl) (asks : AsksOf t ds
       (bound P (bodies_rule t (signatures hs) hs) _ (bodies_stand t P (signatures hs) hs k) (λ trees.
       bound P (entry_rule e (signatures hs)) _ (entry_stands t P e (signatures hs) p) (λ main. tt)))))))
 
-  pub fault_stands : (e : Entry) (f : Fault) → At P origin → Each (At P) (all_of decl_spans ds) → verdict e ds t ≡ Err f → P f
+  pub fault_stands : (e : Entry) (f : Fault) → At P origin → Each (Marked P t) (all_of decl_spans ds) → verdict e ds t ≡ Err f → P f
   fault_stands e f p h is = (subst (λ r. Stands P r) is (verdict_stands e p h)).has

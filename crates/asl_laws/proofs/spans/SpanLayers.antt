@@ -1,6 +1,5 @@
 -- The spans that stand in a tree are those of its layer, and those of trees in a list are those of each.
 use Rattle.std.proofs.Common.{List, [], ◌∷◌, map, subst}
-use Rattle.asl_syn.specs.declared.token.Span.{Span}
 use Rattle.asl_syn.specs.declared.tree.Bitfield.{Bitfield, roll-Bitfield}
 use Rattle.asl_syn.specs.declared.tree.ConstraintPart.{ConstraintPart, roll-ConstraintPart}
 use Rattle.asl_syn.specs.declared.tree.Expr.{Expr, roll-Expr}
@@ -18,7 +17,7 @@ use Rattle.asl_syn.specs.declared.tree.Stmt.{Stmt, roll-Stmt}
 use Rattle.asl_syn.specs.declared.tree.Alternative.TheOpen as st
 use Rattle.asl_syn.specs.declared.tree.Alternative.TheFolds.{fold-roll-Alternative, fold-roll-Catcher, fold-roll-ElseIf, fold-roll-Otherwise, fold-roll-Stmt, map-Alternative, map-Catcher, map-ElseIf, map-Otherwise, map-Stmt}
 use Rattle.asl_rules.proofs.verdict.SameRules.{AllOf}
-use Rattle.asl_laws.proofs.spans.Spans.{Spans, Each, joined, all_of, in_bitfield, in_part, in_expr, in_field, in_pattern, in_slice, in_type, in_alternative, in_catcher, in_branch, in_otherwise, in_stmt, bitfield_spans, part_spans, expr_spans, given_spans, pattern_spans, slice_spans, type_spans, alternative_spans, catcher_spans, branch_spans, otherwise_spans, stmt_spans}
+use Rattle.asl_laws.specs.Spans.{Mark, Spans, Each, joined, all_of, in_bitfield, in_part, in_expr, in_field, in_pattern, in_slice, in_type, in_alternative, in_catcher, in_branch, in_otherwise, in_stmt, bitfield_spans, part_spans, expr_spans, given_spans, pattern_spans, slice_spans, type_spans, alternative_spans, catcher_spans, branch_spans, otherwise_spans, stmt_spans}
 
 -- ---- the spans of the parts of a layer
 
@@ -60,7 +59,7 @@ spans_of_stmt = map-Stmt Alternative Catcher ElseIf Otherwise Stmt Spans Spans S
 
 -- what holds of the spans of a tree holds of those of its layer
 
-module _ (P : Span → Type 0) where
+module _ (P : Mark → Type 0) where
   pub inside_bitfield : (x : ex.Bitfield-F Bitfield ConstraintPart Expr FieldValue Pattern Slice TypeExpr) → Each P (bitfield_spans (roll-Bitfield x)) → Each P (in_bitfield (spans_of_bitfield x))
   inside_bitfield x h = subst (Each P) (fold-roll-Bitfield Spans Spans Spans Spans Spans Spans Spans in_bitfield in_part in_expr in_field in_pattern in_slice in_type x) h
 

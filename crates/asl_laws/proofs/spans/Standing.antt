@@ -1,10 +1,11 @@
--- What is said of the fault of an answer, from one step to the next: it is whatever holds of faults at these spans, of any code but T04, which is that of
--- evaluations alone. So one table says where faults stand, and that no rule but those on evaluations has the code T04.
+-- What is said of the fault of an answer, from one step to the next: it is whatever holds of faults at these spans, of any code of rules but T04, which is that
+-- of evaluations alone. So one table says where faults stand, that they have codes of rules, and that no rule but those on evaluations has the code T04.
 use Rattle.std.proofs.Common.{◌≡◌, refl}
-use Rattle.std.specs.Prelude.{Bool, true, false, if◌then◌else◌, List, Option, Some, None, Result, Ok, Err}
+use Rattle.std.specs.Prelude.{Bool, true, false, if◌then◌else◌, List, [], ◌∷◌, Option, Some, None, Result, Ok, Err}
 use Rattle.asl_syn.specs.declared.token.Span.{Span}
 use Rattle.asl_syn.specs.declared.code.Fault.{Fault}
 use Rattle.asl_syn.specs.declared.code.StaticCode.{StaticCode}
+use Rattle.asl_syn.specs.declared.code.StaticCode.TheVariants.{S03}
 use Rattle.asl_syn.specs.declared.tree.Ident.{Ident}
 use Rattle.asl_rules.specs.Faults.{◌>>=◌, ◌>>◌, need, found_or, fitted, fault_of}
 use Rattle.asl_rules.specs.types.Types.{Ty}
@@ -15,14 +16,16 @@ use Rattle.asl_rules.specs.expressions.Slicing.{FoundSlice}
 use Rattle.asl_rules.specs.types.Writing.{WrittenField, FoundPart, FoundBitfield, FoundType}
 use Rattle.asl_rules.specs.expressions.Patterns.{FoundPattern}
 use Rattle.asl_rules.specs.expressions.Exprs.{FoundField}
-use Rattle.asl_laws.proofs.spans.Spans.{Each, of_names}
+use Rattle.asl_rules.specs.Tests.{Tests}
+use Rattle.asl_rules.specs.values.Vectors.{literal_of}
+use Rattle.asl_laws.specs.Spans.{Mark, place, literal, Each, of_names}
 use Rattle.asl_laws.proofs.spans.OtherCodes.{Other, GivenOther, misfit_other, apart_other}
 
 -- what is said holds of this fault
 pub record Has (P : Fault → Type 0) (f : Fault) : Type 0 where
   pub has : P f
 
--- it holds of faults at this span, whatever their code is, but for T04
+-- it holds of faults at this span, whichever code of rules they have but T04
 pub record At (P : Fault → Type 0) (span : Span) : Type 0 where
   pub fault_has : (code : StaticCode) → Other code → P (fault_of code span)
 
@@ -128,7 +131,19 @@ module _ (P : Fault → Type 0) where
     pub written_at : (outside : Bool) (G : Scope) → Stands (w.ty outside G)
 
   abbrev pub NamesStand : List Ident → Type 0
-  NamesStand is = Each (At P) (of_names is)
+  NamesStand [] = Unit {0}
+  NamesStand (i ∷ is) = At P i.span × NamesStand is
+
+  -- ---- what stands in a tree
+
+  -- faults may stand at each span; where the text of a literal is none, at that, too
+  abbrev pub Marked : Tests → Mark → Type 0
+  Marked t (place span) = At P span
+  Marked t (literal span text) = At P span × Stands (found_or (literal_of t.limit text) S03 span)
+
+  pub names_there : (t : Tests) (is : List Ident) → Each (Marked t) (of_names is) → NamesStand is
+  names_there t [] h = tt
+  names_there t (i ∷ is) h = (h.0, names_there t is h.1)
 
   -- ---- the steps of a part
 

@@ -26,8 +26,8 @@ use Rattle.asl_rules.specs.statements.Locals.{Initialised, initialised, bound as
 use Rattle.asl_rules.specs.statements.Branches.{FoundBranch, TypedBranch, FoundAlternative, TypedAlternative, FoundCatcher, branch_rule, branches, branch_conditions, all_patterns, where_rule, alternative_rule, alternatives, where_condition, where_conditions, limit_typed, limit_fits, with_caught, catcher_rule, catchers}
 use Rattle.asl_rules.specs.statements.Stmts.{returned, return_rule, throw_rule, items_rule}
 use Rattle.asl_rules.proofs.verdict.SameRules.{AllOf}
-use Rattle.asl_laws.proofs.spans.Spans.{Each, all_of, binder_spans, bind_spans, item_spans}
-use Rattle.asl_laws.proofs.spans.Standing.{At, Answers, Stands, then_with, then_stands, bound, next, steps, ExprStands, PatternStands, TypeStands, NamesStand}
+use Rattle.asl_laws.specs.Spans.{Each, all_of, binder_spans, bind_spans, item_spans}
+use Rattle.asl_laws.proofs.spans.Standing.{At, Answers, Stands, then_with, then_stands, bound, next, steps, ExprStands, PatternStands, TypeStands, NamesStand, Marked}
 use Rattle.asl_laws.proofs.spans.ExprRows.{procedure_call_stands}
 use Rattle.asl_laws.proofs.spans.ExprSpans.{expr_there}
 
@@ -133,7 +133,7 @@ module _ (t : Tests) (P : Fault → Type 0) where
   throw_stands span None B p h = search steps depth 10
   throw_stands span (Some e) B p h = search (steps, operand_there) depth 10
 
-  pub items_stand : (is : List PrintItem) (G : Scope) → Each (At P) (all_of item_spans is) → Stands P (items_rule t is G)
+  pub items_stand : (is : List PrintItem) (G : Scope) → Each (Marked P t) (all_of item_spans is) → Stands P (items_rule t is G)
   items_stand [] G h = tt
   items_stand (Verbatim span text ∷ is) G h = search (steps, items_stand is G h.1)
   items_stand (Shown e ∷ is) G h = let k = expr_there t P e h.0 in search (steps, k.typed_at, items_stand is G h.1)
@@ -144,17 +144,17 @@ module _ (t : Tests) (P : Fault → Type 0) where
   initialised_stands None e G h k = search (steps, operand_there)
   initialised_stands (Some ty) e G h k = search (steps, operand_there) depth 10
 
-  free_stands : (bs : List Binder) (before : List (List ℕ)) (names : List Entry) → Each (At P) (all_of binder_spans bs) → Stands P (binders_free bs before names)
+  free_stands : (bs : List Binder) (before : List (List ℕ)) (names : List Entry) → Each (Marked P t) (all_of binder_spans bs) → Stands P (binders_free bs before names)
   free_stands [] before names h = tt
   free_stands (Bound i ∷ bs) before names h = search (steps, free_stands bs (before ++ i.text ∷ []) names h.1)
   free_stands (Unbound at ∷ bs) before names h = free_stands bs before names h.1
 
-  declared_stands : (span : Span) (kind : LocalKind) (b : Bind) (e : Expr) (d : Initialised) (G : Scope) → At P span → Each (At P) (bind_spans b) → Stands P (declares t span kind b e d G)
+  declared_stands : (span : Span) (kind : LocalKind) (b : Bind) (e : Expr) (d : Initialised) (G : Scope) → At P span → Each (Marked P t) (bind_spans b) → Stands P (declares t span kind b e d G)
   declared_stands span kind (Single (Bound i)) e d G p h = search steps depth 10
   declared_stands span kind (Single (Unbound at)) e d G p h = search steps depth 10
   declared_stands span kind (Several at bs) e d G p h = search (steps, free_stands) depth 10
 
-  pub bind_stands : (span : Span) (kind : LocalKind) (b : Bind) (ty : Option TypeExpr) (e : Expr) (G : Scope) → At P span → Each (At P) (bind_spans b) → MaybeTypeThere ty → There e → Stands P (bind_rule t span kind b ty e G)
+  pub bind_stands : (span : Span) (kind : LocalKind) (b : Bind) (ty : Option TypeExpr) (e : Expr) (G : Scope) → At P span → Each (Marked P t) (bind_spans b) → MaybeTypeThere ty → There e → Stands P (bind_rule t span kind b ty e G)
   bind_stands span kind b ty e G p h k l = bound P (initialised t ty e G) _ (initialised_stands ty e G k l) (λ d. declared_stands span kind b e d G p h)
 
   pub names_stand : (is : List Ident) (T : Ty) (names : List Entry) → NamesStand P is → Stands P (names_rule is T names)

@@ -24,6 +24,7 @@ use Rattle.asl_rules.proofs.values.KindOf.{has_kind}
 use Rattle.asl_rules.proofs.values.Viewing.{closed_widths, adopted_viewed}
 use Rattle.asl_rules.proofs.scopes.Lookups.{stored_same, not_here, skip_other, behind, before_is}
 use Rattle.asl_rules.proofs.scopes.Slots.{binding_names, AllOutside, HasNames, has_names}
+use Rattle.asl_laws.proofs.expressions.Claims.{around_of}
 
 -- a value of a type is like each other one of the type
 pub alike_types : (av : Assignment) (T : Ty) (x y : Value) → has_type av x T ≡ true → has_type av y T ≡ true → alike x y ≡ true
@@ -187,7 +188,7 @@ module _ (av : Assignment) where
     pub is : store span name x c ≡ Good after
     pub put_is : put span (slot_of name (layout_of names)) x (erased c) ≡ Good (erased after)
     pub agrees : Agrees base names av after
-    pub handled_are : after.handled ≡ c.handled
+    pub around_is : around_of after ≡ around_of c
 
   by_base : (base names : List Entry) (c : Core) (span : Span) (name : List ℕ) (x : Value) (s : Storage) (a : Agrees base names av c) → HasNames names c → (o : Option Standing) → standing_of name base ≡ o → standing_of name (base ++ a.locals) ≡ Some (Stored s) → s.is_mutable ≡ true → InType (types_in base) av x s.ty → StoreSame base names c span name x
   by_base base names c span name x s a n None q h m i =
@@ -199,7 +200,7 @@ module _ (av : Assignment) where
             ∙ ap (λ o. put span (slot_among o name (global_names names)) x (erased c)) r.place_is
             ∙ ap (λ o. known span (option_map (λ xs. record (erased c) { frame = xs }) o)) r.put_is;
         agrees = record { locals = a.locals; names_are = a.names_are; fresh = a.fresh; plain = a.plain; frame = r.holds; globals = a.globals; handled = a.handled; callers = a.callers };
-        handled_are = refl;
+        around_is = refl;
       }
   by_base base names c span name x s a n (Some st) q h m i =
       let z = absent_store (types_in base) span x base a.locals name st c.frame a.frame a.fresh q in
@@ -214,7 +215,7 @@ module _ (av : Assignment) where
             ∙ ap (λ i. put span (Global i) x (erased c)) r.number_is
             ∙ ap (λ o. known span (option_map (λ xs. record (erased c) { globals = xs }) o)) r.put_is;
         agrees = record { locals = a.locals; names_are = a.names_are; fresh = a.fresh; plain = a.plain; frame = a.frame; globals = r.holds; handled = a.handled; callers = a.callers };
-        handled_are = refl;
+        around_is = refl;
       }
 
   pub store_same : (base names : List Entry) (c : Core) (span : Span) (name : List ℕ) (x : Value) (s : Storage) → AllOutside base → Agrees base names av c → standing_of name names ≡ Some (Stored s) → s.is_mutable ≡ true → InType (types_in base) av x s.ty → StoreSame base names c span name x

@@ -35,6 +35,7 @@ use Rattle.asl_rules.proofs.values.Keeping.{caught_of}
 use Rattle.asl_laws.proofs.values.OfType.{of_exceptions}
 use Rattle.asl_laws.proofs.expressions.Twins.{Twins, twins_weaker}
 use Rattle.asl_laws.proofs.expressions.Claims.{StmtClaim, At, Ends, our}
+use Rattle.asl_laws.proofs.expressions.Standing.{around_again}
 use Rattle.asl_laws.proofs.expressions.TreePlans.{Throws, append_nil}
 use Rattle.asl_laws.proofs.statements.StmtForms.{here, Held, OutAct, ActSame}
 use Rattle.asl_laws.proofs.expressions.ExprForms.{env}
@@ -109,28 +110,28 @@ values_snoc (x ∷ bs) b = ap (λ l. x.value ∷ l) (values_snoc bs b)
 pub handled_agrees : (base names : List Entry) (a : Assignment) (hs : List Value) (c : Core) → AllRaised (types_in base) hs → Agrees base names a c → Agrees base names a (record c { handled = hs })
 handled_agrees base names a hs c r k = record { locals = k.locals; names_are = k.names_are; fresh = k.fresh; plain = k.plain; frame = k.frame; globals = k.globals; handled = r; callers = k.callers }
 
-module _ (tests : Tests) (right : IsRight tests) (ds : List Decl) (base : List Entry) (subs : List Signature) (funcs : List TreeFunc) (w : WellNamed base) where
+module _ (tests : Tests) (right : IsRight tests) (ds : List Decl) (base : List Entry) (subs : List Signature) (loose : Bool) (funcs : List TreeFunc) (w : WellNamed base) where
   -- an exception that comes out here
-  pub over_here : (j : StmtClaim) (x : Value) (c : Core) → Raised (types_in base) x → At tests base subs (here tests right ds base subs funcs w j) c → Throws tests right base subs (here tests right ds base subs funcs w j) x c
-  over_here j x c r a = record { raised = r; more = []; later = j.present; same = λ n l. refl; agrees = subst (λ ns. Agrees base ns j.present c) (sym (append_nil j.body.scope.names)) a.agrees; handled_are = a.handled_are }
+  pub over_here : (j : StmtClaim) (x : Value) (c : Core) → Raised (types_in base) x → At tests base subs loose (here tests right ds base subs loose funcs w j) c → Throws tests right base subs loose (here tests right ds base subs loose funcs w j) x c
+  over_here j x c r a = record { raised = r; more = []; later = j.present; same = λ n l. refl; agrees = subst (λ ns. Agrees base ns j.present c) (sym (append_nil j.body.scope.names)) a.agrees; around_is = a.around_is }
 
   -- ---- what runs while an exception is being handled
 
   abbrev pub inside : StmtClaim → Value → StmtClaim
-  inside j x = record { body = handling j.body; done = j.done; present = j.present; params = j.params; handled = x ∷ j.handled }
+  inside j x = record { body = handling j.body; done = j.done; present = j.present; params = j.params; around = record j.around { handled = x ∷ j.around.handled } }
 
-  outside_again : (j : StmtClaim) (b : Bool) (x : Value) (c : Core) → At tests base subs (here tests right ds base subs funcs w j) c → (e : Exit) (c1 : Core) → Ends tests base subs (inside j x) b e c1 → Ends tests base subs j b e (record c1 { handled = c.handled })
-  outside_again j b x c a Normal c1 e = record { reached = e.reached; later = e.later; same = e.same; agrees = handled_agrees base j.done.names e.later c.handled c1 a.agrees.handled e.agrees; handled_are = a.handled_are }
-  outside_again j b x c a (Returned o) c1 e = record { gives = e.gives; more = e.more; later = e.later; agrees = handled_agrees base (j.body.scope.names ++ e.more) e.later c.handled c1 a.agrees.handled e.agrees; handled_are = a.handled_are }
+  outside_again : (j : StmtClaim) (b : Bool) (x : Value) (c : Core) → At tests base subs loose (here tests right ds base subs loose funcs w j) c → (e : Exit) (c1 : Core) → Ends tests base subs loose (inside j x) b e c1 → Ends tests base subs loose j b e (record c1 { handled = c.handled })
+  outside_again j b x c a Normal c1 e = record { reached = e.reached; later = e.later; same = e.same; agrees = handled_agrees base j.done.names e.later c.handled c1 a.agrees.handled e.agrees; around_is = around_again j.around x c c1 a.around_is e.around_is }
+  outside_again j b x c a (Returned o) c1 e = record { gives = e.gives; more = e.more; later = e.later; agrees = handled_agrees base (j.body.scope.names ++ e.more) e.later c.handled c1 a.agrees.handled e.agrees; around_is = around_again j.around x c c1 a.around_is e.around_is }
 
-  pub handling_same : (j : StmtClaim) (b : Bool) (x : Value) (c : Core) (q : Core → Does Exit) (r : BareCore → Runs Exit) → At tests base subs (here tests right ds base subs funcs w j) c →
-      ActSame tests right ds base subs funcs w (inside j x) b (q (record c { handled = x ∷ c.handled })) (r (erased (record c { handled = x ∷ c.handled }))) →
-      ActSame tests right ds base subs funcs w j b (plan.handling frames x q c) (plan.handling in_bare x r (erased c))
+  pub handling_same : (j : StmtClaim) (b : Bool) (x : Value) (c : Core) (q : Core → Does Exit) (r : BareCore → Runs Exit) → At tests base subs loose (here tests right ds base subs loose funcs w j) c →
+      ActSame tests right ds base subs loose funcs w (inside j x) b (q (record c { handled = x ∷ c.handled })) (r (erased (record c { handled = x ∷ c.handled }))) →
+      ActSame tests right ds base subs loose funcs w j b (plan.handling frames x q c) (plan.handling in_bare x r (erased c))
   handling_same j b x c q r a s =
-      twins_weaker (our tests base subs) (OutAct tests right ds base subs funcs w (inside j x) b) (λ e f c1. (refl_of c1) × OutAct tests right ds base subs funcs w j b e f (record c1 { handled = c.handled }))
-      (Throws tests right base subs (here tests right ds base subs funcs w (inside j x))) (λ y c1. (refl_of c1) × (y ≡ y) × Throws tests right base subs (here tests right ds base subs funcs w j) y (record c1 { handled = c.handled }))
+      twins_weaker (our tests base subs loose) (OutAct tests right ds base subs loose funcs w (inside j x) b) (λ e f c1. (refl_of c1) × OutAct tests right ds base subs loose funcs w j b e f (record c1 { handled = c.handled }))
+      (Throws tests right base subs loose (here tests right ds base subs loose funcs w (inside j x))) (λ y c1. (refl_of c1) × (y ≡ y) × Throws tests right base subs loose (here tests right ds base subs loose funcs w j) y (record c1 { handled = c.handled }))
       (λ e f c1 o. (refl, (o.0, outside_again j b x c a e c1 o.1)))
-      (λ y c1 o. (refl, refl, record { raised = o.raised; more = o.more; later = o.later; same = o.same; agrees = handled_agrees base (j.body.scope.names ++ o.more) o.later c.handled c1 a.agrees.handled o.agrees; handled_are = a.handled_are }))
+      (λ y c1 o. (refl, refl, record { raised = o.raised; more = o.more; later = o.later; same = o.same; agrees = handled_agrees base (j.body.scope.names ++ o.more) o.later c.handled c1 a.agrees.handled o.agrees; around_is = around_again j.around x c c1 a.around_is o.around_is }))
       (q (record c { handled = x ∷ c.handled })) (r (erased (record c { handled = x ∷ c.handled }))) s
     where
       refl_of : Core → Type 0
@@ -150,7 +151,7 @@ module _ (tests : Tests) (right : IsRight tests) (ds : List Decl) (base : List E
       kept_on None e = none_some x e
       kept_on (Some y) e = ap (λ z. Good (declared i.text z (of_type C) false c)) (some_same y x e)
 
-  caught_as_is : (i : Ident) (t : List ℕ) (C : Closed) (x : Value) (c : Core) → types_among base t ≡ Some C → has x C ≡ true → viewed C x ≡ x → caught_as (env tests right ds base subs funcs w) i t x c ≡ Good (declared i.text x (of_type C) false c)
+  caught_as_is : (i : Ident) (t : List ℕ) (C : Closed) (x : Value) (c : Core) → types_among base t ≡ Some C → has x C ≡ true → viewed C x ≡ x → caught_as (env tests right ds base subs loose funcs w) i t x c ≡ Good (declared i.text x (of_type C) false c)
   caught_as_is i t C x c e h v = ap (λ o. known i.span o >>= λ D. declare i.span i.text false (Some (of_type D)) x c) e ∙ declared_is i C x c h v
 
   abbrev bound : List ℕ → Closed → Value → Binding
@@ -160,12 +161,12 @@ module _ (tests : Tests) (right : IsRight tests) (ds : List Decl) (base : List E
   with_next_is n C x c = ap (λ xs. record (erased c) { frame = xs }) (sym (values_snoc c.frame (bound n C x)))
 
   abbrev StmtAt : StmtClaim → Core → Type 0
-  StmtAt j c = Held tests right ds base subs funcs w j c
+  StmtAt j c = Held tests right ds base subs loose funcs w j c
 
   -- a list in whose scope the exception has a name
   pub named_same : (j : StmtClaim) (b : Bool) (i : Ident) (t : List ℕ) (T : Ty) (x : Value) (l : Listed) (ss : List Stmt) (c : Core) → is_free i.text j.body.scope.names ≡ true → block (map (found_stmt tests) ss) (body_names j.body (j.body.scope.names ++ fixed i.text T None ∷ [])) ≡ Ok l →
       StmtAt j c → j.body.scope.names ≡ j.done.names → (falls_through ss ≡ true → b ≡ true) → types_among base t ≡ Some (closed T) → WellFormed (types_in base) T → InType (types_in base) j.present x T → type_with T j.present ≡ closed T → GoodScope tests (with_names j.body.scope (j.body.scope.names ++ fixed i.text T None ∷ [])) →
-      ActSame tests right ds base subs funcs w j b (scope_with frames (caught_as (env tests right ds base subs funcs w) i t x) ss c) (scope_with in_bare (λ d. Good (with_next (x ∷ []) d)) (acts_of l.acts) (erased c))
+      ActSame tests right ds base subs loose funcs w j b (scope_with frames (caught_as (env tests right ds base subs loose funcs w) i t x) ss c) (scope_with in_bare (λ d. Good (with_next (x ∷ []) d)) (acts_of l.acts) (erased c))
   named_same j b i t T x l ss c f h held names g e wf k fix good =
       let C = closed T in
       let c2 = declared i.text x (of_type C) false c in
@@ -177,13 +178,13 @@ module _ (tests : Tests) (right : IsRight tests) (ds : List Decl) (base : List E
       let seen_so : viewed C x ≡ x = subst (λ D. viewed D x ≡ x) fix k.2 in
       let more : Agrees base later j.present c2 = agrees_more base j.body.scope.names j.present c entry (bound i.text C x) held.at.agrees f (refl, refl, λ m. refl)
       (record { name_is = refl; under_is = sym fix; mutable_is = refl; well_formed = wf; belongs = k; known = tt; counts = tt }) in
-      let held2 = held_onward tests right ds base subs funcs w j later j.present c c2 held longer (λ m z. refl) more held.at.handled_are good in
-      subst (λ r. ActSame tests right ds base subs funcs w j b (lift r c (λ d. scope_from frames n ss d)) (scope_with in_bare (λ d. Good (with_next (x ∷ []) d)) (acts_of l.acts) (erased c))) (sym (caught_as_is i t C x c e has_it seen_so))
-      (subst (λ d. ActSame tests right ds base subs funcs w j b (scope_from frames n ss c2) (scope_from in_bare (length (values_of c.frame)) (acts_of l.acts) d)) (sym (with_next_is i.text C x c))
-      (subst (λ m. ActSame tests right ds base subs funcs w j b (scope_from frames n ss c2) (scope_from in_bare m (acts_of l.acts) (erased c2))) (sym (values_length c.frame))
-      (list_same tests right ds base subs funcs w (onward tests right ds base subs funcs w j later j.present) Pure l
-      (λ y z c1. Twins (our tests base subs) (OutAct tests right ds base subs funcs w j b) (Throws tests right base subs (here tests right ds base subs funcs w j)) (leave frames n y c1) (leave in_bare n z (erased c1)))
-      (λ y c1. Twins (our tests base subs) (OutAct tests right ds base subs funcs w j b) (Throws tests right base subs (here tests right ds base subs funcs w j)) (Raise y c1) (Raise y (erased c1))) ss c2 h held2
+      let held2 = held_onward tests right ds base subs loose funcs w j later j.present c c2 held longer (λ m z. refl) more held.at.around_is good in
+      subst (λ r. ActSame tests right ds base subs loose funcs w j b (lift r c (λ d. scope_from frames n ss d)) (scope_with in_bare (λ d. Good (with_next (x ∷ []) d)) (acts_of l.acts) (erased c))) (sym (caught_as_is i t C x c e has_it seen_so))
+      (subst (λ d. ActSame tests right ds base subs loose funcs w j b (scope_from frames n ss c2) (scope_from in_bare (length (values_of c.frame)) (acts_of l.acts) d)) (sym (with_next_is i.text C x c))
+      (subst (λ m. ActSame tests right ds base subs loose funcs w j b (scope_from frames n ss c2) (scope_from in_bare m (acts_of l.acts) (erased c2))) (sym (values_length c.frame))
+      (list_same tests right ds base subs loose funcs w (onward tests right ds base subs loose funcs w j later j.present) Pure l
+      (λ y z c1. Twins (our tests base subs loose) (OutAct tests right ds base subs loose funcs w j b) (Throws tests right base subs loose (here tests right ds base subs loose funcs w j)) (leave frames n y c1) (leave in_bare n z (erased c1)))
+      (λ y c1. Twins (our tests base subs loose) (OutAct tests right ds base subs loose funcs w j b) (Throws tests right base subs loose (here tests right ds base subs loose funcs w j)) (Raise y c1) (Raise y (erased c1))) ss c2 h held2
       (λ c1 m q. (
         erased_cut n c1,
         (
@@ -193,12 +194,12 @@ module _ (tests : Tests) (right : IsRight tests) (ds : List Decl) (base : List E
             later = m.later;
             same = same_on_fewer j.body.scope.names later j.present m.later longer m.same;
             agrees = subst (λ ns. Agrees base ns m.later (frames.cut n c1)) names (cut_behind j later entry l.names m.later c c1 held refl (list_longer tests ss Pure (body_names j.body later) l h) m.agrees);
-            handled_are = m.handled_are;
+            around_is = m.around_is;
           },
         ),
       ))
-      (λ o c1 m. (erased_cut n c1, (refl, record { gives = m.gives; more = []; later = m.later; agrees = subst (λ ns. Agrees base ns m.later (frames.cut n c1)) (sym (append_nil j.body.scope.names)) (cut_agrees base j.body.scope.names (entry ∷ m.more) j.present m.later c c1 held.at.agrees (subst (λ ns. Agrees base ns m.later c1) (append_assoc j.body.scope.names (entry ∷ []) m.more) m.agrees)); handled_are = m.handled_are })))
-      (λ y c1 m. (refl, refl, record { raised = m.raised; more = entry ∷ m.more; later = m.later; same = same_on_fewer j.body.scope.names later j.present m.later longer m.same; agrees = subst (λ ns. Agrees base ns m.later c1) (append_assoc j.body.scope.names (entry ∷ []) m.more) m.agrees; handled_are = m.handled_are })))))
+      (λ o c1 m. (erased_cut n c1, (refl, record { gives = m.gives; more = []; later = m.later; agrees = subst (λ ns. Agrees base ns m.later (frames.cut n c1)) (sym (append_nil j.body.scope.names)) (cut_agrees base j.body.scope.names (entry ∷ m.more) j.present m.later c c1 held.at.agrees (subst (λ ns. Agrees base ns m.later c1) (append_assoc j.body.scope.names (entry ∷ []) m.more) m.agrees)); around_is = m.around_is })))
+      (λ y c1 m. (refl, refl, record { raised = m.raised; more = entry ∷ m.more; later = m.later; same = same_on_fewer j.body.scope.names later j.present m.later longer m.same; agrees = subst (λ ns. Agrees base ns m.later c1) (append_assoc j.body.scope.names (entry ∷ []) m.more) m.agrees; around_is = m.around_is })))))
     where
       cut_behind : (j : StmtClaim) (later : List Entry) (entry : Entry) (names : List Entry) (a : Assignment) (c c1 : Core) → StmtAt j c → later ≡ j.body.scope.names ++ entry ∷ [] → Longer later names → Agrees base names a c1 → Agrees base j.body.scope.names a (frames.cut (length c.frame) c1)
       cut_behind j later entry names a c c1 held q m k =

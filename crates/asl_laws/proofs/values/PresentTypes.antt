@@ -19,23 +19,23 @@ use Rattle.asl_rules.specs.types.Written.{filled, sized, type_of_sized, type_spa
 use Rattle.asl_rules.specs.runs.Evaluation.{type_at, sized_at}
 use Rattle.asl_rules.proofs.scopes.Lookups.{same_types}
 use Rattle.asl_rules.proofs.scopes.Naming.{WellNamed, scope_good, type_fixed}
-use Rattle.asl_laws.proofs.expressions.Claims.{Here, Asked, of_type, of_pure, of_width, of_number, of_known}
+use Rattle.asl_laws.proofs.expressions.Claims.{Here, Asked, of_type, of_pure, of_width, of_number, of_known, nothing_around}
 use Rattle.asl_laws.proofs.expressions.TreePlans.{AllAsked, AllGive, append_nil}
 use Rattle.asl_laws.proofs.expressions.ExprForms.{env}
 use Rattle.asl_laws.proofs.expressions.SizeForms.{AllNumeric, type_says}
 use Rattle.asl_laws.proofs.widths.PresentNumbers.{NumbersAgree, width_has, number_has, CountedFixed, present_agree}
 
-module _ (tests : Tests) (right : IsRight tests) (base : List Entry) (subs : List Signature) (H : Here) (f : Numbers) (g : NumbersAgree f H.present H.scope) where
+module _ (tests : Tests) (right : IsRight tests) (base : List Entry) (subs : List Signature) (loose : Bool) (H : Here) (f : Numbers) (g : NumbersAgree f H.present H.scope) where
   -- the values of expressions
   record Numbered (es : List Expr) (qs : List Asked) : Type 0 where
     pub values : List Value
     pub are : all_numbers f es ≡ Some values
-    pub give : AllGive tests right base subs H qs values
+    pub give : AllGive tests right base subs loose H qs values
 
   one_more : (e : Expr) (es : List Expr) (z : ℤ) (xs : List Value) → number e f ≡ Some z → all_numbers f es ≡ Some xs → all_numbers f (e ∷ es) ≡ Some (int z ∷ xs)
   one_more e es z xs h k = ap (λ o. number_first o (all_numbers f es)) h ∙ ap (option_map (λ l. int z ∷ l)) k
 
-  numbered : (es : List Expr) (ts : List Tree) (qs : List Asked) → AllAsked tests right base subs H.scope es ts qs → AllNumeric qs → Numbered es qs
+  numbered : (es : List Expr) (ts : List Tree) (qs : List Asked) → AllAsked tests right base subs loose H.scope es ts qs → AllNumeric qs → Numbered es qs
   numbered [] [] [] h n = record { values = []; are = refl; give = tt }
   numbered (e ∷ es) (t ∷ ts) (of_width W ∷ qs) h n =
       let r = numbered es ts qs h.2 n.1 in
@@ -51,23 +51,23 @@ module _ (tests : Tests) (right : IsRight tests) (base : List Entry) (subs : Lis
   numbered (e ∷ es) [] qs h n = absurd h
   numbered (e ∷ es) (t ∷ ts) [] h n = absurd h
 
-module _ (tests : Tests) (right : IsRight tests) (ds : List Decl) (base : List Entry) (subs : List Signature) (funcs : List TreeFunc) (w : WellNamed base) where
+module _ (tests : Tests) (right : IsRight tests) (ds : List Decl) (base : List Entry) (subs : List Signature) (loose : Bool) (funcs : List TreeFunc) (w : WellNamed base) where
   -- the type that is written, where the names of its scope have their numbers
   pub type_by : (H : Here) (f : Numbers) (c : Core) (t : TypeExpr) (outside : Bool) (W : Written) → NumbersAgree f H.present H.scope → Agrees base H.scope.names H.present c → written tests t outside H.scope ≡ Ok W →
-      type_at (env tests right ds base subs funcs w) f t ≡ Some (type_with W.ty H.present)
+      type_at (env tests right ds base subs loose funcs w) f t ≡ Some (type_with W.ty H.present)
   type_by H f c t outside W g a h =
       let good = scope_good H.present base H.scope.names c w a in
-      let q = type_says tests right base subs H (λ name T o. type_fixed (types_in base) H.scope.names name good T o) (λ name. same_types H.present base H.scope.names c name a) t outside W h in
-      let v = numbered tests right base subs H f g (type_parts t).exprs W.sizes q.asked q.asks q.numeric in
+      let q = type_says tests right base subs loose H (λ name T o. type_fixed (types_in base) H.scope.names name good T o) (λ name. same_types H.present base H.scope.names c name a) t outside W h in
+      let v = numbered tests right base subs loose H f g (type_parts t).exprs W.sizes q.asked q.asks q.numeric in
       let k = q.fills (type_span t) v.values [] v.give in
-      ap (option_and_then (λ zs. type_of_sized (sized_at (env tests right ds base subs funcs w) t zs))) v.are
+      ap (option_and_then (λ zs. type_of_sized (sized_at (env tests right ds base subs loose funcs w) t zs))) v.are
       ∙ ap (λ o. type_of_sized (sized tests.limit (type_span t) v.values o)) q.shape_is
       ∙ ap (λ l. type_of_sized (filled tests.limit (type_span t) W.shape l)) (sym (append_nil v.values))
       ∙ ap type_of_sized k.is ∙ ap Some k.type_is
 
   abbrev over : Scope → Assignment → Here
-  over G av = record { scope = G; present = av; handled = [] }
+  over G av = record { scope = G; present = av; around = nothing_around }
 
   -- in a state
-  pub type_present : (G : Scope) (av : Assignment) (c : Core) (t : TypeExpr) (outside : Bool) (W : Written) → CountedFixed G.names → Agrees base G.names av c → written tests t outside G ≡ Ok W → type_at (env tests right ds base subs funcs w) (present c) t ≡ Some (type_with W.ty av)
+  pub type_present : (G : Scope) (av : Assignment) (c : Core) (t : TypeExpr) (outside : Bool) (W : Written) → CountedFixed G.names → Agrees base G.names av c → written tests t outside G ≡ Ok W → type_at (env tests right ds base subs loose funcs w) (present c) t ≡ Some (type_with W.ty av)
   type_present G av c t outside W k a h = type_by (over G av) (present c) c t outside W (present_agree av base G c k a) a h

@@ -35,6 +35,10 @@ err_same h = cc
 ok_err : {A : Type 0} {x : A} {f : Fault} → (let r : Result A Fault = Ok x in r) ≡ Err f → ⊥
 ok_err h = cc
 
+-- right tests exist under each limit
+pub right_tests : (limit : ℕ) → (t : Tests) × (IsRight t × (t.limit ≡ limit))
+right_tests limit = let s = some_tests limit in (s.tests, (s.right, s.within))
+
 -- ---- declarations
 
 one_value : (e : Entry) (ds : List Decl) (t u : Tests) → IsRight t → IsRight u → t.limit ≡ u.limit → verdict e ds t ≡ verdict e ds u

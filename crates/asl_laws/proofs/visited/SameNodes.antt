@@ -1,8 +1,8 @@
 -- Where each pair of forms does the same, the tree of each node that a call visits does what the node does. What calls from outside are is a premise.
-use Rattle.std.proofs.Common.{◌≡◌, ℕ, inl, inr, Bool, List, [], ◌∷◌, Option, refl, sym, ap, ◌∙◌, subst}
+use Rattle.std.proofs.Common.{◌≡◌, ℕ, inl, inr, Bool, List, [], ◌∷◌, Option, refl, sym, ap, ◌∙◌, subst, false, true, Ok}
 use Rattle.asl_syn.specs.declared.tree.Decl.{Decl}
-use Rattle.asl_syn.specs.declared.tree.Expr.{Expr}
-use Rattle.asl_syn.specs.declared.tree.Stmt.{Stmt}
+use Rattle.asl_syn.specs.declared.tree.Expr.{Expr, out-Expr}
+use Rattle.asl_syn.specs.declared.tree.Stmt.{Stmt, out-Stmt}
 use Rattle.asl_rules.specs.declared.effect.Effect.TheVariants.{Pure}
 use Rattle.asl_rules.specs.declared.entry.Entry.{Entry as Entered_by}
 use Rattle.asl_rules.specs.Tests.{Tests, IsRight}
@@ -13,7 +13,7 @@ use Rattle.asl_rules.specs.statements.Falling.{falls}
 use Rattle.asl_rules.specs.declarations.Declarations.{names_of_program}
 use Rattle.asl_rules.specs.declarations.Programs.{Accepted, accepted, environment}
 use Rattle.asl_rules.specs.runs.States.{Binding, Core, resting}
-use Rattle.asl_rules.specs.private.Agreement.{types_in, GlobalsMatch}
+use Rattle.asl_rules.specs.private.Agreement.{types_in, GlobalsMatch, Agrees}
 use Rattle.asl_rules.specs.runs.Plans.{Meter, Faulted, Outcome, Done, Thrown, Halt}
 use Rattle.asl_rules.specs.runs.Evaluation.{nodes, meaning, call_of}
 use Rattle.asl_rules.specs.runs.Machines.{most_open, visits_of}
@@ -27,10 +27,15 @@ use Rattle.asl_laws.proofs.expressions.Twins.{SameEnd}
 use Rattle.asl_laws.proofs.soundness.SoundnessVisits.{AllHold, twins_visits, visits_hold}
 use Rattle.asl_laws.proofs.soundness.SoundnessEnds.{CallSame}
 use Rattle.asl_laws.proofs.runs.Several.{Several, one, two, expr_enters, stmt_enters}
-use Rattle.asl_laws.proofs.expressions.Claims.{Here, Asked, of_type, of_pure, of_width, of_number, of_known, tree_asked, GivesAsked, StmtClaim, At, Over, Ends, ExprIn, StmtIn, our_each, our}
+use Rattle.asl_laws.proofs.expressions.Claims.{Here, Asked, of_type, of_pure, of_width, of_number, of_known, tree_asked, GivesAsked, StmtClaim, At, Over, Ends, ExprIn, StmtIn, our_each, our, around_of}
 use Rattle.asl_laws.proofs.expressions.AllExprs.{Others}
 use Rattle.asl_laws.proofs.statements.AllStmts.{OtherStmts, all_forms, all_meet}
 use Rattle.asl_laws.specs.Visited.{TreeDoes, ActDoes, ExprSame, StmtSame, NodeSame, AllSame}
+use Rattle.asl_laws.proofs.soundness.SoundnessNodes.{expr_stands, body_stands, asked_in}
+use Rattle.asl_laws.specs.Chosen.{ExprChosen, StmtChosen}
+use Rattle.asl_rules.specs.expressions.Typing.{Typed}
+use Rattle.asl_rules.specs.expressions.Exprs.{typed}
+use Rattle.asl_rules.specs.statements.Stmts.{found_stmt}
 
 -- two ends that are the same are one in the state without names and types
 same_end : {A : Type 0} (K : Core → Type 0) (Z : A → Core → Type 0) (R : Value → Core → Type 0) (r : Outcome Core A) (t : Outcome BareCore A) → SameEnd erased K (λ x y c. (x ≡ y) × Z x c) R r t → t ≡ erased_outcome r
@@ -50,48 +55,58 @@ module _ (tests : Tests) (right : IsRight tests) (ds : List Decl) (asked : Enter
   abbrev whole : Accepted
   whole = accepted asked main subs funcs base
 
-  module _ (o : Others tests right ds base subs funcs w s) (q : OtherStmts tests right ds base subs funcs w) where
+  -- what a run finds at an expression with a type, and at a statement
+  abbrev ExprsFind : Type 0
+  ExprsFind = (H : Here) (S : Typed) (e : Expr) (c : Core) → typed tests e H.scope ≡ Ok S → At tests base subs true H c → ExprChosen tests ds (out-Expr e) S.tree c
+
+  abbrev StmtsFind : Type 0
+  StmtsFind = (j : StmtClaim) (x : Stmt) (c : Core) → found_stmt tests x j.body ≡ Ok j.done → At tests base subs true (record { scope = j.body.scope; present = j.present; around = j.around }) c → StmtChosen tests ds (out-Stmt x) j.done.act c
+
+  module _ (o : (loose : Bool) → Others tests right ds base subs loose funcs w s) (q : (loose : Bool) → OtherStmts tests right ds base subs loose funcs w) (find : ExprsFind) (find_stmt : StmtsFind) where
+    anywhere : (H : Here) (c : Core) → Agrees base H.scope.names H.present c → H.scope.subs ≡ subs → around_of c ≡ H.around → At tests base subs true H c
+    anywhere H c a i e = record { agrees = a; subs_are = i; around_is = e; stands = inl refl; counted = inl refl }
+
     -- ---- one node
 
-    expr_does : (H : Here) (i : Asked) (e : Expr) (t : Tree) (c : Core) → ExprIn tests base subs H i e t c → TreeDoes tests ds whole e (tree_asked i) c
+    expr_does : (H : Here) (i : Asked) (e : Expr) (t : Tree) (c : Core) → ExprIn tests base subs false H i e t c → TreeDoes tests ds whole e (tree_asked i) c
     expr_does H i e t c p =
         subst (λ u. TreeDoes tests ds whole e u c) (sym p.is_tree)
-        (λ d h. same_end (λ c1. GlobalsMatch base c1.globals) (λ x c1. GivesAsked (types_in base) H.present i x × At tests base subs H c1) (λ x c1. Over tests base subs H.scope.names H.present H.handled x c1)
-        ((meaning (environment tests ds) d).expr e c h) ((tree_meaning (trees_of tests whole) d).expr t (erased c) h) ((all_meet tests right ds base subs funcs w s o q d).expr (one (H, i)) e t c h p))
+        (λ d h. same_end (λ c1. GlobalsMatch base c1.globals) (λ x c1. GivesAsked (types_in base) H.present i x × At tests base subs false H c1) (λ x c1. Over tests base subs false H.scope.names H.present H.around x c1)
+        ((meaning (environment tests ds) d).expr e c h) ((tree_meaning (trees_of tests whole) d).expr t (erased c) h) ((all_meet tests right ds base subs false funcs w s (o false) (q false) d).expr (one (H, i)) e t c h p))
 
-    stmt_does : (j : StmtClaim) (x : Stmt) (t : Act) (c : Core) → StmtIn tests base subs j x t c → ActDoes tests ds whole x j.done.act c
+    stmt_does : (j : StmtClaim) (x : Stmt) (t : Act) (c : Core) → StmtIn tests base subs false j x t c → ActDoes tests ds whole x j.done.act c
     stmt_does j x t c p =
         subst (λ u. ActDoes tests ds whole x u c) (sym p.is_tree)
-        (λ d h. same_end (λ c1. GlobalsMatch base c1.globals) (λ y c1. Ends tests base subs j (falls x) y c1) (λ y c1. Over tests base subs j.body.scope.names j.present j.handled y c1)
-        ((meaning (environment tests ds) d).stmt x c h) ((tree_meaning (trees_of tests whole) d).stmt t (erased c) h) ((all_meet tests right ds base subs funcs w s o q d).stmt (one (j, falls x)) x t c h (p, refl)))
+        (λ d h. same_end (λ c1. GlobalsMatch base c1.globals) (λ y c1. Ends tests base subs false j (falls x) y c1) (λ y c1. Over tests base subs false j.body.scope.names j.present j.around y c1)
+        ((meaning (environment tests ds) d).stmt x c h) ((tree_meaning (trees_of tests whole) d).stmt t (erased c) h) ((all_meet tests right ds base subs false funcs w s (o false) (q false) d).stmt (one (j, falls x)) x t c h (p, refl)))
 
-    expr_same : (H : Here) (i : Asked) (e : Expr) (t : Tree) (c : Core) → ExprIn tests base subs H i e t c → ExprSame tests ds whole e c
-    expr_same H (of_type S) e t c p = record { scope = H.scope; present = H.present; judged = inl (S, p.answers, expr_does H (of_type S) e t c p); agrees = p.at.agrees }
-    expr_same H (of_pure S) e t c p = record { scope = with_class H.scope Pure; present = H.present; judged = inl (S, p.answers, expr_does H (of_pure S) e t c p); agrees = p.at.agrees }
-    expr_same H (of_width W) e t c p = record { scope = H.scope; present = H.present; judged = inr (inl (W, p.answers, expr_does H (of_width W) e t c p)); agrees = p.at.agrees }
-    expr_same H (of_number N) e t c p = record { scope = H.scope; present = H.present; judged = inr (inr (N, p.answers, expr_does H (of_number N) e t c p)); agrees = p.at.agrees }
-    expr_same H (of_known S W) e t c p = record { scope = H.scope; present = H.present; judged = inl (S, p.answers.0, expr_does H (of_known S W) e t c p); agrees = p.at.agrees }
+    expr_same : (H : Here) (i : Asked) (e : Expr) (t : Tree) (c : Core) → ExprIn tests base subs false H i e t c → ExprSame tests ds whole e c
+    expr_same H (of_type S) e t c p = record { scope = H.scope; present = H.present; subs_are = p.at.subs_are; stands = expr_stands tests right ds asked main subs funcs w s (o true) (q true) H (of_type S) e t c p; judged = inl (S, p.answers, expr_does H (of_type S) e t c p, find (asked_in tests right ds asked main subs funcs w s (o true) (q true) H (of_type S)) S e c p.answers (anywhere (asked_in tests right ds asked main subs funcs w s (o true) (q true) H (of_type S)) c p.at.agrees p.at.subs_are p.at.around_is)); agrees = p.at.agrees }
+    expr_same H (of_pure S) e t c p = record { scope = with_class H.scope Pure; present = H.present; subs_are = p.at.subs_are; stands = expr_stands tests right ds asked main subs funcs w s (o true) (q true) H (of_pure S) e t c p; judged = inl (S, p.answers, expr_does H (of_pure S) e t c p, find (asked_in tests right ds asked main subs funcs w s (o true) (q true) H (of_pure S)) S e c p.answers (anywhere (asked_in tests right ds asked main subs funcs w s (o true) (q true) H (of_pure S)) c p.at.agrees p.at.subs_are p.at.around_is)); agrees = p.at.agrees }
+    expr_same H (of_width W) e t c p = record { scope = H.scope; present = H.present; subs_are = p.at.subs_are; stands = expr_stands tests right ds asked main subs funcs w s (o true) (q true) H (of_width W) e t c p; judged = inr (inl (W, p.answers, expr_does H (of_width W) e t c p)); agrees = p.at.agrees }
+    expr_same H (of_number N) e t c p = record { scope = H.scope; present = H.present; subs_are = p.at.subs_are; stands = expr_stands tests right ds asked main subs funcs w s (o true) (q true) H (of_number N) e t c p; judged = inr (inr (N, p.answers, expr_does H (of_number N) e t c p)); agrees = p.at.agrees }
+    expr_same H (of_known S W) e t c p = record { scope = H.scope; present = H.present; subs_are = p.at.subs_are; stands = expr_stands tests right ds asked main subs funcs w s (o true) (q true) H (of_known S W) e t c p; judged = inl (S, p.answers.0, expr_does H (of_known S W) e t c p, find (asked_in tests right ds asked main subs funcs w s (o true) (q true) H (of_known S W)) S e c p.answers.0 (anywhere (asked_in tests right ds asked main subs funcs w s (o true) (q true) H (of_known S W)) c p.at.agrees p.at.subs_are p.at.around_is)); agrees = p.at.agrees }
 
-    stmt_same : (j : StmtClaim) (x : Stmt) (t : Act) (c : Core) → StmtIn tests base subs j x t c → StmtSame tests ds whole x c
-    stmt_same j x t c p = record { body = j.body; done = j.done; present = j.present; judged = p.is_found; agrees = p.at.agrees; same = stmt_does j x t c p }
+    stmt_same : (j : StmtClaim) (x : Stmt) (t : Act) (c : Core) → StmtIn tests base subs false j x t c → StmtSame tests ds whole x c
+    stmt_same j x t c p = record { body = j.body; done = j.done; present = j.present; subs_are = p.at.subs_are; stands = body_stands tests right ds asked main subs funcs w s (o true) (q true) j x t c p; judged = p.is_found; agrees = p.at.agrees; same = stmt_does j x t c p; chosen = find_stmt j x c p.is_found (anywhere (record { scope = j.body.scope; present = j.present; around = j.around }) c p.at.agrees p.at.subs_are p.at.around_is) }
 
     -- ---- of which several things are claimed
 
-    exprs_same : (i : Several (Here × Asked)) (e : Expr) (t : Tree) (c : Core) → expr_enters (our_each tests base subs) i e t c → NodeSame tests ds whole (AtExpr e) c
+    exprs_same : (i : Several (Here × Asked)) (e : Expr) (t : Tree) (c : Core) → expr_enters (our_each tests base subs false) i e t c → NodeSame tests ds whole (AtExpr e) c
     exprs_same (one i) e t c p = expr_same i.0 i.1 e t c p
     exprs_same (two i j) e t c p = exprs_same i e t c p.0
 
-    stmts_same : (j : Several (StmtClaim × Bool)) (x : Stmt) (t : Act) (c : Core) → stmt_enters (our_each tests base subs) j x t c → NodeSame tests ds whole (AtStmt x) c
+    stmts_same : (j : Several (StmtClaim × Bool)) (x : Stmt) (t : Act) (c : Core) → stmt_enters (our_each tests base subs false) j x t c → NodeSame tests ds whole (AtStmt x) c
     stmts_same (one j) x t c p = stmt_same j.0 x t c p.0
     stmts_same (two i j) x t c p = stmts_same i x t c p.0
 
     -- ---- of a call
 
-    pub visits_same : ((id : ℕ) (args : List Value) (globals : List Binding) → IsCall whole id args globals → CallSame tests right ds asked main subs funcs w s id args globals) → (id : ℕ) (args : List Value) (globals : List Binding) (h : Meter) → IsCall whole id args globals →
+    pub visits_same : ((id : ℕ) (args : List Value) (globals : List Binding) → IsCall whole id args globals → CallSame tests right ds asked main subs funcs w s false id args globals) → (id : ℕ) (args : List Value) (globals : List Binding) (h : Meter) → IsCall whole id args globals →
         AllSame tests ds whole (visits_of (environment tests ds) id args globals h)
     unfolding visits_of
     visits_same calls id args globals h k =
         all_same tests ds whole _
-        (twins_visits (our tests base subs) (meaning (environment tests ds) most_open) (tree_meaning (trees_of tests whole) most_open) (trails (nodes (environment tests ds)) most_open 0) (NodeSame tests ds whole) (all_meet tests right ds base subs funcs w s o q most_open)
-        (visits_hold (nodes (environment tests ds)) (tree_nodes (trees_of tests whole)) (our tests base subs) (NodeSame tests ds whole) (all_forms tests right ds base subs funcs w s o q) exprs_same stmts_same most_open 0)
+        (twins_visits (our tests base subs false) (meaning (environment tests ds) most_open) (tree_meaning (trees_of tests whole) most_open) (trails (nodes (environment tests ds)) most_open 0) (NodeSame tests ds whole) (all_meet tests right ds base subs false funcs w s (o false) (q false) most_open)
+        (visits_hold (nodes (environment tests ds)) (tree_nodes (trees_of tests whole)) (our tests base subs false) (NodeSame tests ds whole) (all_forms tests right ds base subs false funcs w s (o false) (q false)) exprs_same stmts_same most_open 0)
         (λ x y c. (x ≡ y) × GlobalsMatch base c.globals) (λ x c. GlobalsMatch base c.globals) (call_of (environment tests ds) id args (resting globals)) (tree_call (trees_of tests whole) id args (erased (resting globals))) h (calls id args globals k))

@@ -1,7 +1,7 @@
 -- The typed tree of each node that a call visits does what the node does, for all files that are read.
-use Rattle.std.proofs.Common.{ℕ, List, [], Ok, subst}
+use Rattle.std.proofs.Common.{ℕ, List, [], Ok, subst, true, false, Bool}
 use Rattle.asl_syn.specs.declared.tree.Decl.{Decl}
-use Rattle.asl_grammar.specs.Reading.{File, Reads}
+use Rattle.asl_grammar.specs.Reading.{File, ReadsAt}
 use Rattle.asl_rules.specs.declared.entry.Entry.{Entry as Asked}
 use Rattle.asl_rules.specs.Tests.{Tests, IsRight}
 use Rattle.asl_rules.specs.values.Values.{Value}
@@ -15,7 +15,7 @@ use Rattle.asl_rules.specs.runs.Machines.{visits_of}
 use Rattle.asl_laws.specs.Soundness.{IsCall}
 use Rattle.asl_rules.proofs.scopes.Naming.{WellNamed, well_declared}
 use Rattle.asl_laws.proofs.scopes.Globals.{well_named}
-use Rattle.asl_laws.proofs.scopes.GrownTexts.{read_grown}
+use Rattle.asl_laws.proofs.scopes.GrownTexts.{read_grown_at}
 use Rattle.asl_laws.proofs.expressions.AllExprs.{Others}
 use Rattle.asl_laws.proofs.calls.OwnForms.{own_formed, invoke_acted}
 use Rattle.asl_laws.proofs.soundness.GivenTypes.{belong_by_forms}
@@ -26,6 +26,8 @@ use Rattle.asl_laws.proofs.soundness.SoundnessFacts.{Facts, facts_of}
 use Rattle.asl_laws.proofs.soundness.SoundnessHeads.{heads_formed}
 use Rattle.asl_laws.specs.Visited.{AllSame}
 use Rattle.asl_laws.proofs.visited.SameNodes.{visits_same}
+use Rattle.asl_laws.proofs.statements.AllStmts.{OtherStmts}
+use Rattle.asl_laws.proofs.visited.ChosenNodes.{expr_chosen, stmt_chosen}
 
 -- in each call from outside of an accepted program
 abbrev CallsSame : Tests → List Decl → Accepted → Type 0
@@ -34,13 +36,14 @@ CallsSame t ds a = (id : ℕ) (args : List Value) (globals : List Binding) (h : 
 calls_same : (t : Tests) (right : IsRight t) (ds : List Decl) (a : Accepted) → Facts t ds a → AreGrown ds → CallsSame t ds a
 calls_same t right ds a f grown =
     let base = names_of_program t ds in
-    let belong = belong_by_forms t right ds (λ b w. (no_calls t right ds b w, others_of t right ds b [] [] w (no_procedures t right ds b w))) in
+    let belong = belong_by_forms t right ds (λ b w. (no_calls t right ds b w, others_of t right ds b [] true [] w (no_procedures t right ds b w))) in
     let w : WellNamed base = well_named t right ds base grown f.apart f.globals belong in
     let s = heads_formed t right (types_in base) (well_declared base w) base (funcs_of ds) f.heads w.good f.heads_are in
-    let own : Others t right ds base (signatures f.heads) f.trees w s = record { own = own_formed t right ds f.heads f.trees w s f.heads_are f.bodies } in
-    let stmts = others_of t right ds base (signatures f.heads) f.trees w (invoke_acted t right ds f.heads f.trees w s f.heads_are f.bodies) in
-    let calls = call_same t right ds f.asked f.main f.heads f.trees w s f.heads_are f.bodies in
-    subst (CallsSame t ds) f.is (visits_same t right ds f.asked f.main (signatures f.heads) f.trees w s own stmts calls)
+    let own : (loose : Bool) → Others t right ds base (signatures f.heads) loose f.trees w s = λ loose. record { own = own_formed t right ds loose f.heads f.trees w s f.heads_are f.bodies } in
+    let stmts : (loose : Bool) → OtherStmts t right ds base (signatures f.heads) loose f.trees w = λ loose. others_of t right ds base (signatures f.heads) loose f.trees w (invoke_acted t right ds loose f.heads f.trees w s f.heads_are f.bodies) in
+    let calls = call_same t right ds f.asked f.main false f.heads f.trees w s f.heads_are f.bodies in
+    subst (CallsSame t ds) f.is (visits_same t right ds f.asked f.main (signatures f.heads) f.trees w s own stmts
+    (expr_chosen t right ds true f.heads f.trees w s f.heads_are f.bodies (own true) (stmts true)) (stmt_chosen t right ds true f.heads f.trees w s f.heads_are f.bodies (own true) (stmts true)) calls)
 
-pub read_same : (limit : ℕ) (e : Asked) (files : List File) (ds : List Decl) (a : Accepted) → Reads files (Ok ds) → (p : ProgramOk limit e ds a) → CallsSame p.tests ds a
-read_same limit e files ds a r p = calls_same p.tests p.right ds a (facts_of p.tests e ds a p.is) (read_grown files ds r)
+pub read_same : (limit : ℕ) (e : Asked) (files : List File) (ds : List Decl) (a : Accepted) → ReadsAt limit files (Ok ds) → (p : ProgramOk limit e ds a) → CallsSame p.tests ds a
+read_same limit e files ds a r p = calls_same p.tests p.right ds a (facts_of p.tests e ds a p.is) (read_grown_at limit files ds r)

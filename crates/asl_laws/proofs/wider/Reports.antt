@@ -26,7 +26,7 @@ use Rattle.asl_laws.proofs.verdict.OneVerdict.{one_test}
 use Rattle.asl_laws.specs.Reported.{RunsWell, WordsNotStuck}
 use Rattle.asl_laws.specs.Wider.{FitsLimit, WordsFitLimit, NotTooWide, WordsNotTooWide, RunFits, WordsFit, Accepts, OnFiles, OnWords}
 use Rattle.asl_laws.specs.Wider.{UnlessLong, OnList, Fits}
-use Rattle.asl_laws.proofs.reported.Reports.{reports_run_well_at}
+use Rattle.asl_laws.proofs.reported.Reports.{reports_run_well}
 use Rattle.asl_laws.proofs.wider.Plans.{out_fits}
 use Rattle.asl_laws.proofs.wider.Runs.{run_wider, words_wider, words_fit}
 use Rattle.asl_laws.proofs.wider.Verdict.{same_verdict, same_environment}
@@ -157,7 +157,7 @@ module _ (t u : Tests) (p : IsRight t) (q : IsRight u) (le : t.limit ≤ u.limit
         on_reading files g (other files) ≡ on_reading files f (read files)
     reading_same files e P f g (ds, a, r, ok, h) k =
         ap (on_reading files g) (read_same u.limit t.limit le read other x y files ds r)
-        ∙ k ds a ok (reports_run_well_at t.limit t p files ds (subst (λ z. ReadsAt t.limit files z) r (x files))) h
+        ∙ k ds a ok (reports_run_well t p files ds (subst (λ z. ReadsAt t.limit files z) r (x files))) h
         ∙ sym (ap (on_reading files f) r)
 
     check_same : (files : List File) → Accepts t entry.None (λ ds main. Unit {0}) (read files) →

@@ -39,13 +39,13 @@ use Rattle.asl_rules.specs.types.Shaped.{exprs_in, shapes_in, slice_parts, patte
 use Rattle.asl_rules.specs.types.Shaped.{shape_of}
 use Rattle.asl_rules.specs.declarations.Constants.{constant}
 use Rattle.asl_rules.specs.runs.ByNames.{matched_in}
-use Rattle.asl_rules.specs.runs.Pures.{◌>>=◌, known, found_type}
+use Rattle.asl_rules.specs.runs.Pures.{◌>>=◌, there, known, found_type}
 use Rattle.asl_rules.specs.runs.Plans.{Meter, Faulted, Outcome, Done, Thrown, Halt, wrote, Stop, Meaning, run, Pure, Good, Bad, lift}
 use Rattle.asl_rules.specs.values.Operators.{less}
 use Rattle.asl_rules.specs.runs.Forms.{Keeps, call, unless_full, activations, in_frame, function_gives, procedure_gives}
 use Rattle.asl_rules.specs.runs.StatementForms.{in_order}
 use Rattle.asl_rules.specs.runs.Evaluation.{Does, declare, declare_each, bound_to, stored_under, unders_or, type_under, declare_all}
-use Rattle.asl_rules.specs.runs.Evaluation.{declare_first, sized_at, param_under, type_at, types_of, params_bound, formals_bound, Entering}
+use Rattle.asl_rules.specs.runs.Evaluation.{declare_first, sized_at, param_value, param_under, type_at, types_of, params_bound, formals_bound, Entering}
 use Rattle.asl_rules.specs.runs.Evaluation.{entering, run_body, run_with, result_at, under_written, limit_of, params_of, is_kind, takes}
 use Rattle.asl_rules.specs.runs.Evaluation.{width_over, overload, Numbered, call_one, call_named, called, expr_node, frames, choice_layer}
 use Rattle.asl_rules.specs.runs.Evaluation.{choice_in, otherwise_in, held, Step, into_field, into_fields, into_slices, into_element}
@@ -115,8 +115,8 @@ module _ (env : Environment) (m : ℕ) (le : env.limit ≤ m) where
   params_same span [] [] c = refl
   params_same span [] (x ∷ xs) c = refl
   params_same span (p ∷ ps) [] c = refl
-  params_same span (p ∷ ps) (x ∷ xs) c = pure_same _ _ _ _ (ap (λ o. declare span p.name.text false o x c) (under_same c p.ty x))
-      (λ c1. params_same span ps xs c1)
+  params_same span (p ∷ ps) (x ∷ xs) c = pure_same (there span (param_value p.ty x)) _ _ _ refl
+      (λ y. pure_same _ _ _ _ (ap (λ o. declare span p.name.text false o y c) (under_same c p.ty y)) (λ c1. params_same span ps xs c1))
 
   formals_same : (span : Span) (f : Numbers) (gs : List Formal) (xs : List Value) (c : Core) →
       formals_bound wide span f gs xs c ≡ formals_bound env span f gs xs c

@@ -1,7 +1,6 @@
 -- A polynomial is the same as an atom exactly where its terms are that atom alone.
-use Rattle.std.proofs.Common.{◌≡◌, ◌≢◌, ℕ, ℤ, pos, negsuc, true, List, [], ◌∷◌, sym, ap, ap₂, subst, arith}
+use Rattle.std.proofs.Common.{◌≡◌, ℕ, ℤ, pos, negsuc, true, List, [], ◌∷◌, sym, ap, ap₂, subst}
 use Rattle.asl_poly.specs.Terms.{Summand, Polynomial, value}
-use Rattle.asl_poly.specs.Limits.{IsMap}
 use Rattle.asl_poly.specs.Operations.{atom_terms}
 use Rattle.asl_poly.specs.Poly.{IsPolynomial, Same, atom_map}
 use Rattle.asl_poly.proofs.Maps.{same_map}
@@ -9,17 +8,8 @@ use Rattle.asl_rules.specs.Tests.{Tests, IsRight}
 use Rattle.asl_rules.specs.types.Alone.{is_one, is_only, is_atom}
 use Rattle.asl_rules.proofs.basics.Tests.{no, both}
 use Rattle.asl_rules.proofs.values.SameKind.{same_number, number_is}
+use Rattle.asl_rules.proofs.widths.WidthsHeld.{atom_is_map, atom_is_polynomial}
 use Rattle.asl_laws.proofs.verdict.OneVerdict.{same_bool}
-
-not_zero : pos 1 ≢ pos 0
-not_zero h = cc
-
-atom_is_map : (n : ℕ) → IsMap (atom_terms n)
-atom_is_map n = record { sorted = (record { counts = not_zero; falls = (tt, tt); degree = omega arith }, tt, tt); light = omega arith; few = omega arith }
-
-pub atom_is_polynomial : (n : ℕ) → IsPolynomial (atom_map n)
-unfolding atom_map
-atom_is_polynomial n = atom_is_map n
 
 alone : (n : ℕ) (p : Polynomial) → IsPolynomial p → Same p (atom_map n) → is_atom n p.terms ≡ true
 unfolding atom_map

@@ -17,7 +17,8 @@ use Rattle.asl_rules.specs.Tests.{Tests}
 use Rattle.asl_rules.specs.types.Types.{is_integer}
 use Rattle.asl_rules.specs.values.Values.{Value, int, bool, bits_with, label, record_with, exception_with, tuple_with, array_with}
 use Rattle.asl_rules.specs.declarations.Scopes.{Counted, Scope, Standing, Stored, Subprogram, TypeName, Label, standing_of, known_value}
-use Rattle.asl_rules.specs.types.Widths.{heaviest, weight_of, width_of_number, width_of_known, width_of_counted, width_of_standing, width_of_binary, width_difference}
+use Rattle.asl_poly.specs.WidthLimits.{heaviest}
+use Rattle.asl_rules.specs.types.Widths.{weight_of, width_of_number, width_of_known, width_of_counted, width_of_standing, width_of_binary, width_difference}
 use Rattle.asl_rules.specs.expressions.Typing.{Width}
 use Rattle.asl_rules.specs.expressions.Exprs.{width}
 use Rattle.asl_rules.specs.types.Arithmetic.{of_one, of_two}

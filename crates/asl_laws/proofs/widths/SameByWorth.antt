@@ -1,12 +1,12 @@
 -- Widths that have one number wherever the names agree with the scope are the same: so this is what "the same width" means.
-use Rattle.std.proofs.Common.{◌≡◌, ℕ, ℤ, pos, List, [], ◌∷◌, Option, Some, None, Ok, refl, sym, ap, ◌∙◌, arith}
+use Rattle.std.proofs.Common.{◌≡◌, ℕ, ℤ, pos, true, List, [], ◌∷◌, Option, Some, None, Ok, refl, sym, ap, ◌∙◌, arith}
 use Rattle.std.specs.Prelude.{◌+ℤ◌, ◌*ℤ◌, ◌↔◌}
 use Rattle.std.proofs.lemmas.Int.{ints}
 use Rattle.asl_syn.specs.declared.tree.Expr.{Expr}
 use Rattle.asl_poly.specs.Terms.{Summand, value, product}
 use Rattle.asl_poly.specs.Poly.{atom_map, Same}
 use Rattle.asl_poly.proofs.Ring.{mul-one, one-mul}
-use Rattle.asl_rules.specs.Tests.{Tests}
+use Rattle.asl_rules.specs.Tests.{Tests, SameWidth, IsRight}
 use Rattle.asl_rules.specs.values.Values.{Value, int, bool, bits_with, label, record_with, exception_with, tuple_with, array_with}
 use Rattle.asl_rules.specs.declarations.Scopes.{Counted, Scope, Entry, Storage, atom_at, name_at, storage_of, known_value}
 use Rattle.asl_rules.specs.expressions.Typing.{Width}
@@ -16,6 +16,8 @@ use Rattle.asl_rules.specs.private.Worth.{Integers, standing_for, by_place, Obey
 use Rattle.asl_rules.proofs.basics.Tests.{some_same}
 use Rattle.asl_rules.proofs.widths.WidthsWorth.{width_is_worth, same_is_worth_same}
 use Rattle.asl_rules.proofs.widths.WidthAtoms.{width_is_alone}
+use Rattle.asl_rules.proofs.widths.WidthsHeld.{width_is_held}
+use Rattle.asl_laws.specs.WidthWorth.{HasWorth, SameWorth, HasIntegers}
 
 -- ---- the integers of names, where each name that stands for itself is given one by its place
 
@@ -90,3 +92,19 @@ pub same_is_the_words : (t : Tests) (e f : Expr) (G : Scope) → WellCounted G.n
     Same v.poly w.poly ↔ ((a : Integers) → Obeys G.names a → number e (standing_for a) ≡ number f (standing_for a))
 same_is_the_words t e f G g v w h k =
     (same_is_worth_same t e f G v w h k, same_by_worth t e f G g v w h k (width_is_alone t e G g v h) (width_is_alone t f G g w k))
+
+-- so the test of two widths says yes exactly there
+pub test_is_worth : (t : Tests) → IsRight t → (e f : Expr) (G : Scope) (v w : Width) → WellCounted G.names → width t e G ≡ Ok v →
+    width t f G ≡ Ok w → (t.same v.poly w.poly ≡ true) ↔ SameWorth G.names e f
+test_is_worth t r e f G v w g h k =
+    let q = same_is_the_words t e f G g v w h k in
+    let both : Same v.poly w.poly → SameWidth v.poly w.poly =
+    λ s. record { left = width_is_held t e G g.within v h; right = width_is_held t f G g.within w k; same = s } in
+    (λ s. q.0 (r.same_yes v.poly w.poly s).same, λ s. r.same_all v.poly w.poly (both (q.1 s)))
+
+pub has_worth : (t : Tests) (e : Expr) (G : Scope) (w : Width) (a : Integers) → width t e G ≡ Ok w → Obeys G.names a →
+    HasWorth e G.names a w.poly
+has_worth t e G w a h o = (value (by_place G.names a) w.poly.terms, width_is_worth t e G a o w h, refl)
+
+pub has_integers : (names : List Entry) → WellCounted names → (b : ℕ → ℤ) → HasIntegers names b
+has_integers names w b = (numbers_of names b, obeys names w b, λ n h. atom_is names b n h)

@@ -13,49 +13,11 @@ use Rattle.asl_cons.specs.declared.Part.{Part}
 use Rattle.asl_cons.specs.Constraint.{poly_of}
 use Rattle.asl_cons.specs.Arithmetic as cons
 use Rattle.asl_rules.specs.Tests.{Tests}
-use Rattle.asl_rules.specs.types.Types.{Ty, Fields, Parts, Widths, integer_of, boolean, bits_of, enumeration_of, record_of, exception_of, tuple_of, array_of, named, no_field, field, no_part, part, constraint_of, width_of, only_width, misfit, join, joined, either, bare, bare_parts, is_bare_by_structure, widened, widened_parts, substitute, substitute_parts, substituted, substituted_end, substituted_ranges, substitute_fits, with_type}
+use Rattle.asl_rules.specs.types.Types.{Ty, Parts, Widths, integer_of, boolean, bits_of, enumeration_of, record_of, exception_of, tuple_of, array_of, named, no_part, part, constraint_of, width_of, only_width, misfit, join, joined, either, bare, bare_parts, is_bare_by_structure, widened, widened_parts, substitute, substitute_parts, substituted, substituted_end, substituted_ranges, substitute_fits, with_type}
 use Rattle.asl_rules.specs.private.Worth.{AllOf, AtomsOf}
+pub use Rattle.asl_laws.specs.ScopeRules.{EndOver, PartOver, PartsOver, Never, Over, FieldsOver, AllOver}
 use Rattle.asl_rules.proofs.basics.Tests.{some_same, none_some, mapped}
 use Rattle.asl_rules.proofs.widths.WidthAtoms.{Good, gather_in, multiply_in, constant_good, sum_good, difference_good, product_good}
-
--- ---- over some atoms
-
-abbrev pub EndOver : (ℕ → Type 0) → End → Type 0
-EndOver A (Int z) = Unit {0}
-EndOver A (Width p) = Good A p
-
-pub record PartOver (A : ℕ → Type 0) (p : Part) : Type 0 where
-  pub low : EndOver A p.low
-  pub high : EndOver A p.high
-
-abbrev pub PartsOver : (ℕ → Type 0) → List Part → Type 0
-PartsOver A [] = Unit {0}
-PartsOver A (p ∷ ps) = PartOver A p × PartsOver A ps
-
--- no atom at all
-abbrev pub Never : ℕ → Type 0
-Never n = ⊥
-
--- what a declared name stands for has no atoms
-abbrev mutual
-  pub Over : (ℕ → Type 0) → Ty → Type 0
-  Over A (integer_of ps) = PartsOver A ps
-  Over A boolean = Unit {0}
-  Over A (bits_of w view) = Good A w
-  Over A (enumeration_of name labels) = Unit {0}
-  Over A (record_of name fs) = FieldsOver fs
-  Over A (exception_of name fs) = FieldsOver fs
-  Over A (tuple_of ts) = AllOver A ts
-  Over A (array_of n T) = Over A T
-  Over A (named name supers T) = Over Never T
-
-  pub FieldsOver : Fields → Type 0
-  FieldsOver no_field = Unit {0}
-  FieldsOver (field f T fs) = Over Never T × FieldsOver fs
-
-  pub AllOver : (ℕ → Type 0) → Parts → Type 0
-  AllOver A no_part = Unit {0}
-  AllOver A (part T ts) = Over A T × AllOver A ts
 
 -- ---- over more atoms
 

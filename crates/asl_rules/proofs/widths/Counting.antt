@@ -4,11 +4,12 @@ use Rattle.std.specs.Prelude.{if◌then◌else◌}
 use Rattle.std.specs.Str.{bytes_eq}
 use Rattle.std.proofs.lemmas.Slice.Eq.{bytes_eq-Decides}
 use Rattle.asl_poly.specs.Terms.{Summand}
-use Rattle.asl_poly.specs.Poly.{atom_map}
+use Rattle.asl_poly.specs.Poly.{IsPolynomial, atom_map}
 use Rattle.asl_rules.specs.types.Types.{Ty}
 use Rattle.asl_rules.specs.declarations.Scopes.{Counted, Entry, Storage, Standing, Stored, Subprogram, TypeName, Label, is_local, next_atom, name_or_later, name_at, atom_at, fixed, variable, standing_of, storage_in, storage_of, known_value, is_free, is_absent}
 use Rattle.asl_rules.specs.private.Worth.{Alone, AllAlone, AtomsAlone, WellCounted}
 use Rattle.asl_rules.proofs.basics.Tests.{no}
+use Rattle.asl_rules.proofs.widths.WidthsHeld.{atom_is_polynomial}
 
 none_some : {A : Type 0} (x : A) → (let o : Option A = None in o) ≡ Some x → ⊥
 none_some x h = cc
@@ -21,7 +22,7 @@ kept_if true name (suc zero) es more h f = refl
 kept_if true name (suc (suc n)) es more h f = f n (omega (arith, h))
 kept_if false name n es more h f = f n h
 
-name_kept : (names more : List Entry) (n : ℕ) → n < next_atom names → name_at (names ++ more) n ≡ name_at names n
+pub name_kept : (names more : List Entry) (n : ℕ) → n < next_atom names → name_at (names ++ more) n ≡ name_at names n
 name_kept [] more n h = absurd (omega (arith, h))
 name_kept (e ∷ es) more n h = kept_if (is_local e.standing) e.name n es more h (λ m k. name_kept es more m k)
 
@@ -40,7 +41,7 @@ stored_of (Some (TypeName T)) s h = absurd (none_some s h)
 stored_of (Some (Label T x)) s h = absurd (none_some s h)
 stored_of None s h = absurd (none_some s h)
 
-storage_kept : (name : List ℕ) (names more : List Entry) (s : Storage) → storage_of name names ≡ Some s → storage_of name (names ++ more) ≡ Some s
+pub storage_kept : (name : List ℕ) (names more : List Entry) (s : Storage) → storage_of name names ≡ Some s → storage_of name (names ++ more) ≡ Some s
 storage_kept name names more s h = ap storage_in (standing_kept name names more (Stored s) (stored_of (standing_of name names) s h))
 
 more_if : (b : Bool) (x y : ℕ) → x ≤ y → (if b then suc (suc x) else x) ≤ (if b then suc (suc y) else y)
@@ -83,7 +84,7 @@ standing_back name (d ∷ ds) e x h = if_back (bytes_eq d.name name) d.standing 
 
 -- what a declaration may count as
 abbrev pub NewCounted : List Entry → Entry → Type 0
-NewCounted names e = (s : Storage) (c : Counted) → e.standing ≡ Stored s → s.counted ≡ Some c → AtomsAlone (names ++ e ∷ []) c.poly.terms × (known_value s ≡ None)
+NewCounted names e = (s : Storage) (c : Counted) → e.standing ≡ Stored s → s.counted ≡ Some c → AtomsAlone (names ++ e ∷ []) c.poly.terms × IsPolynomial c.poly × (known_value s ≡ None)
 
 pub well_kept : (names : List Entry) (e : Entry) → WellCounted names → NewCounted names e → WellCounted (names ++ e ∷ [])
 well_kept names e w f = record {
@@ -91,9 +92,13 @@ well_kept names e w f = record {
     | inl k ↦ atoms_kept names (e ∷ []) c.poly.terms (w.alone name s c (ap storage_in k) q)
     | inr k ↦ (f s c k q).0
   ];
+  within = λ name s c h q. elim (standing_back name names e (Stored s) (stored_of (standing_of name (names ++ e ∷ [])) s h)) [
+    | inl k ↦ w.within name s c (ap storage_in k) q
+    | inr k ↦ (f s c k q).1
+  ];
   unknown = λ name s c h q. elim (standing_back name names e (Stored s) (stored_of (standing_of name (names ++ e ∷ [])) s h)) [
     | inl k ↦ w.unknown name s c (ap storage_in k) q
-    | inr k ↦ (f s c k q).1
+    | inr k ↦ (f s c k q).2
   ];
 }
 
@@ -110,12 +115,12 @@ pub variable_counts : (names : List Entry) (name : List ℕ) (T : Ty) → NewCou
 variable_counts names name T s c k q = let e : s.counted ≡ None = ap (λ (z : Storage). z.counted) (sym (stored_same _ s k)) in absurd (none_some c (sym e ∙ q))
 
 -- one that counts as what stands there already
-pub let_counts : (names : List Entry) (name : List ℕ) (T : Ty) (c : Counted) → AtomsAlone names c.poly.terms → NewCounted names (fixed name T (Some c))
-let_counts names name T c h s d k q =
+pub let_counts : (names : List Entry) (name : List ℕ) (T : Ty) (c : Counted) → AtomsAlone names c.poly.terms → IsPolynomial c.poly → NewCounted names (fixed name T (Some c))
+let_counts names name T c h i s d k q =
     let e : s.counted ≡ Some c = ap (λ (z : Storage). z.counted) (sym (stored_same _ s k)) in
     let f : c ≡ d = some_same c d (sym e ∙ q) in
     let g : known_value s ≡ None = ap known_value (sym (stored_same _ s k)) in
-    (subst (λ (b : Counted). AtomsAlone (names ++ fixed name T (Some c) ∷ []) b.poly.terms) f (atoms_kept names (fixed name T (Some c) ∷ []) c.poly.terms h), g)
+    (subst (λ (b : Counted). AtomsAlone (names ++ fixed name T (Some c) ∷ []) b.poly.terms) f (atoms_kept names (fixed name T (Some c) ∷ []) c.poly.terms h), subst (λ (b : Counted). IsPolynomial b.poly) f i, g)
 
 last_if : (b : Bool) (name : List ℕ) → b ≡ true → (if b then name_or_later name 0 (name_at []) else name_at [] 0) ≡ name
 last_if true name l = refl
@@ -127,7 +132,7 @@ behind_if true name n f x h = h
 behind_if false name n f x h = h
 
 -- the next atom is that of the next name of the body
-last_name : (names : List Entry) (e : Entry) → is_local e.standing ≡ true → name_at (names ++ e ∷ []) (next_atom names) ≡ e.name
+pub last_name : (names : List Entry) (e : Entry) → is_local e.standing ≡ true → name_at (names ++ e ∷ []) (next_atom names) ≡ e.name
 last_name [] e l = last_if (is_local e.standing) e.name l
 last_name (d ∷ ds) e l = behind_if (is_local d.standing) d.name (next_atom ds) (name_at (ds ++ e ∷ [])) e.name (last_name ds e l)
 
@@ -173,4 +178,4 @@ atom_counts names name T f s d k q =
     let e : s.counted ≡ Some (atom_at (next_atom names)) = ap (λ (z : Storage). z.counted) (sym (stored_same _ s k)) in
     let c : atom_at (next_atom names) ≡ d = some_same (atom_at (next_atom names)) d (sym e ∙ q) in
     let g : known_value s ≡ None = ap known_value (sym (stored_same _ s k)) in
-    (subst (λ (b : Counted). AtomsAlone (names ++ fixed name T (Some (atom_at (next_atom names))) ∷ []) b.poly.terms) c ((alone_new names (fixed name T (Some (atom_at (next_atom names)))) s f refl k e, tt), tt), g)
+    (subst (λ (b : Counted). AtomsAlone (names ++ fixed name T (Some (atom_at (next_atom names))) ∷ []) b.poly.terms) c ((alone_new names (fixed name T (Some (atom_at (next_atom names)))) s f refl k e, tt), tt), subst (λ (b : Counted). IsPolynomial b.poly) c (atom_is_polynomial (next_atom names)), g)

@@ -44,6 +44,7 @@ use Rattle.asl_rules.proofs.basics.Inversions.{ok_ok, bind_ok, then_ok, need_ok,
 use Rattle.asl_rules.proofs.basics.Tests.{no, none_some, some_same, both}
 use Rattle.asl_rules.proofs.widths.Counting.{NewCounted, stored_of, well_kept, variable_counts, let_counts, atom_counts}
 use Rattle.asl_rules.proofs.widths.WidthAtoms.{width_is_alone}
+use Rattle.asl_rules.proofs.widths.WidthsHeld.{width_is_held}
 use Rattle.asl_rules.proofs.scopes.EachOnce.{entries_keep}
 
 -- ---- names outside bodies count as nothing
@@ -72,6 +73,7 @@ uncounted_stored name es s a h = uncounted_at name es (Stored s) a (stored_of (s
 pub well_uncounted : (es : List Entry) → AllUncounted es → WellCounted es
 well_uncounted es a = record {
   alone = λ name s c h q. none_some c (sym (uncounted_stored name es s a h) ∙ q);
+  within = λ name s c h q. none_some c (sym (uncounted_stored name es s a h) ∙ q);
   unknown = λ name s c h q. none_some c (sym (uncounted_stored name es s a h) ∙ q);
 }
 
@@ -209,14 +211,14 @@ itself_if false names name T f = plain_counts names name T
 pub itself_counts : (names : List Entry) (name : List ℕ) (T : Ty) → is_free name names ≡ true → NewCounted names (fixed name T (itself T names))
 itself_counts names name T f = itself_if (is_integer T) names name T f
 
-part_counts : (kind : LocalKind) (names : List Entry) (name : List ℕ) (T : Ty) → is_free name names ≡ true → NewCounted names (declared kind name T (itself T names))
+pub part_counts : (kind : LocalKind) (names : List Entry) (name : List ℕ) (T : Ty) → is_free name names ≡ true → NewCounted names (declared kind name T (itself T names))
 part_counts local.Let names name T f = itself_counts names name T f
 part_counts local.Var names name T f = variable_counts names name T
 
 module _ (t : Tests) where
   counted_by : (e : Expr) (G : Scope) (name : List ℕ) (T : Ty) → WellCounted G.names → is_free name G.names ≡ true → (r : Result Width Fault) → (found t e).width G ≡ r →
       NewCounted G.names (fixed name T (Some (counted_as r ((found t e).has_atom G) (next_atom G.names))))
-  counted_by e G name T w f (Ok v) q = let_counts G.names name T (record { poly = v.poly; has_atom = (found t e).has_atom G }) (width_is_alone t e G w v q)
+  counted_by e G name T w f (Ok v) q = let_counts G.names name T (record { poly = v.poly; has_atom = (found t e).has_atom G }) (width_is_alone t e G w v q) (width_is_held t e G w.within v q)
   counted_by e G name T w f (Err x) q = atom_counts G.names name T f
 
   initialised_if : (b : Bool) (e : Expr) (G : Scope) (name : List ℕ) (T : Ty) → WellCounted G.names → is_free name G.names ≡ true →

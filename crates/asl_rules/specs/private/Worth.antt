@@ -1,7 +1,7 @@
 -- Integers for names that agree with a scope, and scopes in which each `let` counts as names that stand for themselves.
 use Rattle.std.specs.Prelude.{◌≡◌, ℕ, ◌<◌, ℤ, List, [], ◌∷◌, Some, None}
 use Rattle.asl_poly.specs.Terms.{Summand}
-use Rattle.asl_poly.specs.Poly.{HasWidth}
+use Rattle.asl_poly.specs.Poly.{IsPolynomial, HasWidth}
 use Rattle.asl_rules.specs.values.Values.{int}
 use Rattle.asl_rules.specs.declarations.Scopes.{Counted, Entry, Storage, atom_at, next_atom, name_at, storage_of, known_value}
 use Rattle.asl_rules.specs.types.Numbers.{Numbers}
@@ -46,6 +46,8 @@ AllAlone names xs = AllOf (Alone names) xs
 abbrev pub AtomsAlone : List Entry → List Summand → Type 0
 AtomsAlone names ts = AtomsOf (Alone names) ts
 
+-- what a name counts as has atoms of such names alone and is within the limits, and no name that counts has a value that is known before any run
 pub record WellCounted (names : List Entry) : Type 0 where
   pub alone : (name : List ℕ) (s : Storage) (c : Counted) → storage_of name names ≡ Some s → s.counted ≡ Some c → AtomsAlone names c.poly.terms
+  pub within : (name : List ℕ) (s : Storage) (c : Counted) → storage_of name names ≡ Some s → s.counted ≡ Some c → IsPolynomial c.poly
   pub unknown : (name : List ℕ) (s : Storage) (c : Counted) → storage_of name names ≡ Some s → s.counted ≡ Some c → known_value s ≡ None

@@ -55,7 +55,7 @@ use Rattle.asl_rules.specs.values.Vectors.{slice_places, with_slices, bitfields_
 use Rattle.asl_rules.specs.values.Matching.{is_matched}
 use Rattle.asl_rules.specs.declarations.Routines.{Routine, routine_named}
 use Rattle.asl_rules.specs.values.Library.{routine_value}
-use Rattle.asl_rules.specs.types.Numbers.{Numbers, present, outside, all_numbers}
+use Rattle.asl_rules.specs.types.Numbers.{Numbers, integer_of_value, present, outside, all_numbers}
 use Rattle.asl_rules.specs.types.Alone.{Polynomials, polynomial, is_alone}
 use Rattle.asl_rules.specs.types.Written.{Sized, sized, type_of_sized, type_span, kind_written}
 use Rattle.asl_rules.specs.runs.Pures.{◌>>=◌, there, known, found_type}
@@ -205,6 +205,11 @@ abbrev pub result_at : Environment → Span → Numbers → Option TypeExpr → 
 result_at env span f None = None
 result_at env span f (Some t) = Some (under_written span (type_at env f t))
 
+-- a parameter without a type holds an integer
+abbrev pub param_value : Option TypeExpr → Value → Option Value
+param_value None x = option_map int (integer_of_value x)
+param_value (Some t) x = Some x
+
 -- parameters in order, each over the globals and those before it; one without a type holds its own value
 abbrev pub param_under : Environment → Core → Option TypeExpr → Value → Option Under
 param_under env c None x = Some (of_value x)
@@ -214,7 +219,10 @@ abbrev pub params_bound : Environment → Span → List Param → List Value →
 params_bound env span [] [] c = Good c
 params_bound env span [] (x ∷ xs) c = Bad (Stuck WrongKind span)
 params_bound env span (p ∷ ps) [] c = Bad (Stuck WrongKind span)
-params_bound env span (p ∷ ps) (x ∷ xs) c = declare span p.name.text false (param_under env c p.ty x) x c >>= λ c1. params_bound env span ps xs c1
+params_bound env span (p ∷ ps) (x ∷ xs) c =
+    there span (param_value p.ty x) >>= λ y.
+    declare span p.name.text false (param_under env c p.ty y) y c >>= λ c1.
+    params_bound env span ps xs c1
 
 -- formals in order, their types over the globals and the parameters
 abbrev pub formals_bound : Environment → Span → Numbers → List Formal → List Value → Core → Pure Core

@@ -7,6 +7,7 @@ use Rattle.asl_syn.specs.declared.code.StaticCode.TheVariants.{T02, T05, T19, T2
 use Rattle.asl_syn.specs.declared.tree.BinaryOperator.{BinaryOperator}
 use Rattle.asl_syn.specs.declared.tree.BinaryOperator.TheVariants as binary
 use Rattle.asl_poly.specs.Terms.{Polynomial}
+use Rattle.asl_poly.specs.WidthLimits.{heaviest, most_atoms}
 use Rattle.asl_poly.specs.Limits.{weight, note_terms}
 use Rattle.asl_poly.specs.Poly.{constant_map, sum_map, difference_map, product_map, constant_value}
 use Rattle.asl_cons.specs.Arithmetic.{fits, sum_fits, product_fits}
@@ -14,14 +15,6 @@ use Rattle.asl_rules.specs.Faults.{◌>>◌, need, fault, found_or}
 use Rattle.asl_rules.specs.types.Types.{Ty, is_integer, size, depth}
 use Rattle.asl_rules.specs.values.Values.{Value, int}
 use Rattle.asl_rules.specs.declarations.Scopes.{Counted, Storage, Standing, Stored, Label, known_value}
-
--- the heaviest width
-unfoldable pub heaviest : ℕ
-heaviest = 2 ^ 62
-
--- the most atoms of a width
-unfoldable pub most_atoms : ℕ
-most_atoms = 8
 
 -- the absolute value of a number
 abbrev pub weight_of : ℤ → ℕ

@@ -14,7 +14,7 @@ use Rattle.asl_rules.specs.runs.Trees as tree
 use Rattle.asl_rules.specs.runs.Trees.{Tree, TreeStep, Shell, FieldGiven, record_shell, exception_shell, into_field, into_bitfield}
 use Rattle.asl_rules.specs.types.Effects.{greater, together}
 use Rattle.asl_rules.specs.declarations.Layouts.{place_of}
-use Rattle.asl_rules.specs.types.Widths.{heaviest}
+use Rattle.asl_poly.specs.WidthLimits.{heaviest}
 use Rattle.asl_rules.specs.expressions.Typing.{Typed, Operand, in_class, finish, finish_all, trees_of}
 
 -- ---- fields and bitfields

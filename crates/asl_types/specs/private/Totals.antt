@@ -5,7 +5,8 @@ use Rattle.asl_poly.specs.Limits.{weight}
 use Rattle.asl_poly.specs.Poly.{sum_map, difference_map}
 use Rattle.asl_poly.proofs.Atoms.{Distinct, FactorsIn}
 use Rattle.asl_rules.specs.types.Widths as rules
-use Rattle.asl_rules.specs.types.Widths.{plus, minus, heaviest, most_atoms}
+use Rattle.asl_poly.specs.WidthLimits.{heaviest, most_atoms}
+use Rattle.asl_rules.specs.types.Widths.{plus, minus}
 use Rattle.asl_types.specs.declared.totals.Total.{Total}
 use Rattle.asl_types.specs.declared.totals.Within.{Within}
 use Rattle.asl_types.specs.declared.totals.Sign.{Sign}

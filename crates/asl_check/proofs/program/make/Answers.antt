@@ -11,4 +11,4 @@ pub returns-clause-sealed : goal.returns-clause-sealed
 returns-clause-sealed c =
     subst (λ (m : Option ℕ). IsSealed c.args.decls.now c.args.entry m c.in_ok-names.field-0.funcs c.in_ok-globals.globals.items) (sym c.numbered.ensures)
     (sealed_by c.args.decls.now c.args.entry c.in_ok-names.field-0.main c.in_ok-names.field-0.funcs c.in_ok-globals.globals.items c.in_ok-names.field-0.subs c.in_ok-names.field-0.names
-    c.requires c.in_ok-names.ensures c.in_ok-globals.ensures)
+    c.requires c.in_ok-names.ensures c.in_ok-globals.ensures.cells c.in_ok-globals.ensures.typed)

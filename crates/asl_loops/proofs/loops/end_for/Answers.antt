@@ -14,7 +14,7 @@ use Rattle.asl_loops.proofs.loops.end_for.Goals as goal
 pub returns : goal.returns
 returns c = λ names.
     let k : c.greater-effect.result ≡ greater (greater (typed_of c.args.bounds.from).effect (typed_of c.args.bounds.to).effect) c.args.list.effect = search rules in
-    let u : c.all_together-is_together.result ≡ all_together Pure ((typed_of c.args.bounds.from).effect ∷ (typed_of c.args.bounds.to).effect ∷ []) = search rules in
+    let u : c.may_stand_together-is_together.result ≡ all_together Pure ((typed_of c.args.bounds.from).effect ∷ (typed_of c.args.bounds.to).effect ∷ []) = search rules in
     let a : c.into_inner.result ≡ c.args.bounds.from = search rules in
     let b : c.into_inner-2.result ≡ c.args.bounds.to = search rules in
     let m : c.into_inner-acts.result ≡ c.args.list.acts = search rules in

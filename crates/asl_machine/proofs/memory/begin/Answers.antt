@@ -6,20 +6,23 @@ use Rattle.asl_machine.proofs.memory.begin.Goals as goal
 
 pub returns-clause-arranged : goal.returns-clause-arranged
 returns-clause-arranged c =
-    let marks : c.in_ok-marks.field-0.items ≡ marks_of c.parts.result.1.now = c.in_ok-marks.ensures in
-    let values : c.in_ok-values.field-0.items ≡ values_in c.parts.result.1.now = c.in_ok-values.ensures in
-    let vars : c.in_ok-vars.field-0.items ≡ vars_from c.parts.result.1.now = c.in_ok-vars.ensures in
-    rw (marks, values, vars) (begun_arranged c.args.checked.now c.parts.result.0.now c.parts.result.1.now c.parts.ensures)
+    let marks : c.in_ok-marks.field-0.items ≡ marks_of c.as_slice-globals.result.now = c.in_ok-marks.ensures in
+    let values : c.in_ok-values.field-0.items ≡ values_in c.as_slice-globals.result.now = c.in_ok-values.ensures in
+    let vars : c.in_ok-vars.field-0.items ≡ vars_from c.as_slice-globals.result.now = c.in_ok-vars.ensures in
+    rw (marks, values, vars) (begun_arranged c.args.checked.now c.parts-parts.result.now.subs c.as_slice-globals.result.now
+    (rw (c.as_slice-globals.ensures.value) c.parts-parts.ensures.sealed))
 
 pub returns-clause-held : goal.returns-clause-held
 returns-clause-held c =
-    let marks : c.in_ok-marks.field-0.items ≡ marks_of c.parts.result.1.now = c.in_ok-marks.ensures in
-    let values : c.in_ok-values.field-0.items ≡ values_in c.parts.result.1.now = c.in_ok-values.ensures in
-    let vars : c.in_ok-vars.field-0.items ≡ vars_from c.parts.result.1.now = c.in_ok-vars.ensures in
-    rw (marks, values, vars) (begun_held c.args.checked.now c.parts.result.0.now c.parts.result.1.now c.parts.ensures)
+    let marks : c.in_ok-marks.field-0.items ≡ marks_of c.as_slice-globals.result.now = c.in_ok-marks.ensures in
+    let values : c.in_ok-values.field-0.items ≡ values_in c.as_slice-globals.result.now = c.in_ok-values.ensures in
+    let vars : c.in_ok-vars.field-0.items ≡ vars_from c.as_slice-globals.result.now = c.in_ok-vars.ensures in
+    rw (marks, values, vars) (begun_held c.args.checked.now c.parts-parts.result.now.subs c.as_slice-globals.result.now
+    (rw (c.as_slice-globals.ensures.value) c.parts-parts.ensures.sealed))
 
 pub returns-clause-globals : goal.returns-clause-globals
 returns-clause-globals c =
+<<<<<<< HEAD
     let marks : c.in_ok-marks.field-0.items ≡ marks_of c.parts.result.1.now = c.in_ok-marks.ensures in
     let values : c.in_ok-values.field-0.items ≡ values_in c.parts.result.1.now = c.in_ok-values.ensures in
     let vars : c.in_ok-vars.field-0.items ≡ vars_from c.parts.result.1.now = c.in_ok-vars.ensures in
@@ -27,3 +30,10 @@ returns-clause-globals c =
 
 pub returns-clause-named : goal.returns-clause-named
 returns-clause-named c = arranged_named _ _ (returns-clause-arranged c)
+=======
+    let marks : c.in_ok-marks.field-0.items ≡ marks_of c.as_slice-globals.result.now = c.in_ok-marks.ensures in
+    let values : c.in_ok-values.field-0.items ≡ values_in c.as_slice-globals.result.now = c.in_ok-values.ensures in
+    let vars : c.in_ok-vars.field-0.items ≡ vars_from c.as_slice-globals.result.now = c.in_ok-vars.ensures in
+    rw (marks, values, vars) (begun_is c.args.checked.now c.parts-parts.result.now.subs c.as_slice-globals.result.now
+    (rw (c.as_slice-globals.ensures.value) c.parts-parts.ensures.sealed))
+>>>>>>> 3734bf5089e521e4ab3f7d856edffaae315ed25c

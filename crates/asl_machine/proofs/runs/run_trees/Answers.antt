@@ -29,6 +29,7 @@ ran : (g : Given.Over) (c : goal.After-drop-run-5 g) → RanNoted
 ran g c = ?
 
 pub returns-clause-meets : goal.returns-clause-meets
+<<<<<<< HEAD
 returns-clause-meets g c =
     memory_meets c.args.checked.now _ _ c.parts.ensures _ _ c.requires.callable _ _ _ _ _ c.requires.arranged c.requires.held (moved g c) _ _
     c.call_noted.result.0 c.number.result c.number.ensures (ran g c)
@@ -57,3 +58,12 @@ pub returns-clause-held : goal.returns-clause-held
 returns-clause-held g c =
     memory_held c.args.checked.now _ _ c.parts.ensures _ _ c.requires.callable _ _ _ _ _ c.requires.arranged c.requires.held (moved g c) _ _
     c.call_noted.result.0 c.number.result c.number.ensures (ran g c)
+=======
+returns-clause-meets g c = memory_meets c.args.checked.now _ _ c.parts-parts.ensures.sealed _ _ c.requires.callable _ _ _ _ _ c.requires.arranged c.requires.held (moved g c) _ _ c.call-answer.result c.number.result c.number.ensures c.call-answer.ensures.meets
+
+pub returns-clause-arranged : goal.returns-clause-arranged
+returns-clause-arranged g c = memory_arranged c.args.checked.now _ _ c.parts-parts.ensures.sealed _ _ c.requires.callable _ _ _ _ _ c.requires.arranged c.requires.held (moved g c) _ _ c.call-answer.result c.number.result c.number.ensures c.call-answer.ensures.meets
+
+pub returns-clause-held : goal.returns-clause-held
+returns-clause-held g c = memory_held c.args.checked.now _ _ c.parts-parts.ensures.sealed _ _ c.requires.callable _ _ _ _ _ c.requires.arranged c.requires.held (moved g c) _ _ c.call-answer.result c.number.result c.number.ensures c.call-answer.ensures.meets
+>>>>>>> 3734bf5089e521e4ab3f7d856edffaae315ed25c

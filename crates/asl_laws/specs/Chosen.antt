@@ -1,0 +1,139 @@
+-- What a run finds by names and by values at a node is what the typed tree of the node has: the subprogram that is called, with the values of its parameters; the
+-- place of a field; the bitfields that a view has under their names; and the places of the values that a construction gives to its fields.
+use Rattle.std.specs.Prelude.{◌≡◌, ℕ, zero, suc, true, false, ◌⊎◌, List, [], ◌∷◌, Some, None, slice_get}
+use Rattle.std.specs.Str.{bytes_eq}
+use Rattle.asl_syn.specs.declared.token.Span.{Span}
+use Rattle.asl_syn.specs.declared.tree.Decl.{Decl}
+use Rattle.asl_syn.specs.declared.tree.Expr.{Expr}
+use Rattle.asl_syn.specs.declared.tree.Func.{Func}
+use Rattle.asl_syn.specs.declared.tree.Bitfield.TheOpen as ex
+use Rattle.asl_syn.specs.declared.tree.Alternative.TheOpen as st
+use Rattle.asl_syn.specs.Layers.{ExprLayer, StmtLayer}
+use Rattle.asl_rules.specs.Tests.{Tests}
+use Rattle.asl_rules.specs.types.Types.{BitField}
+use Rattle.asl_rules.specs.types.Shaped.{exprs_in, shapes_in, given_parts}
+use Rattle.asl_rules.specs.types.Numbers.{outside}
+use Rattle.asl_rules.specs.declarations.Routines.{routine_named}
+use Rattle.asl_rules.specs.declarations.Programs.{funcs_of, environment}
+use Rattle.asl_rules.specs.runs.Trees as tree
+use Rattle.asl_rules.specs.runs.Trees.{Note, Tree, Trees, Callee, own, of_library, Shell, FieldGiven, Act}
+use Rattle.asl_rules.specs.values.Values.{Value, FieldValues, int, bool, bits_with, label, record_with, exception_with, tuple_with, array_with, no_value_of, value_of_field}
+use Rattle.asl_rules.specs.values.Vectors.{view_of, named_among, bitfields_named}
+use Rattle.asl_rules.specs.values.Structures.{constructed}
+use Rattle.asl_rules.specs.runs.States.{Core}
+use Rattle.asl_rules.specs.runs.Plans.{Meter, Outcome, Done, Thrown, Halt, Ret, Good, run}
+use Rattle.asl_rules.specs.runs.Forms.{eval_all}
+use Rattle.asl_rules.specs.runs.Evaluation.{Does, meaning, overload, params_of, types_of}
+use Rattle.asl_rules.specs.private.ByPlace as places
+use Rattle.asl_rules.specs.private.TypedMeaning as bare
+
+-- ---- when it is found
+
+-- where a run gives something, it is so
+abbrev pub Gave : {A : Type 0} → (A → Core → Type 0) → Outcome Core A → Type 0
+Gave P (Done x c h) = P x c
+Gave P (Thrown x c h) = Unit {0}
+Gave P (Halt e c h) = Unit {0}
+
+-- where an expression gives a value, and where several do, however many nodes may be open and whatever the meter is
+abbrev pub OfValue : Tests → List Decl → Expr → Core → (Value → Type 0) → Type 0
+OfValue t ds e c P = (d : ℕ) (h : Meter) → Gave (λ x c1. P x) ((meaning (environment t ds) d).expr e c h)
+
+abbrev pub OfValues : Tests → List Decl → List Expr → Core → (List Value → Type 0) → Type 0
+OfValues t ds es c P = (d : ℕ) (h : Meter) → Gave (λ xs c1. P xs) (run (meaning (environment t ds) d) (eval_all es [] c (λ xs c1. Ret xs c1)) h)
+
+-- ---- calls
+
+-- the parameters in braces and the arguments, in order
+abbrev pub both_given : List Expr → List Expr → Core → Does (List Value × List Value)
+both_given ps es c = eval_all ps [] c (λ ys c1. eval_all es [] c1 (λ xs c2. Ret (ys, xs) c2))
+
+-- of these values the subprogram of this number is the one that the run finds, and its parameters are those that the tree takes, from the braces or from the
+-- arguments in these places
+pub record FindsOwn (t : Tests) (ds : List Decl) (span : Span) (name : List ℕ) (id : ℕ) (widths : List ℕ) (ys xs : List Value) (c : Core) : Type 0 where
+  pub func : Func
+  pub is_found : overload (environment t ds) (outside c) 0 (funcs_of ds) name xs ≡ Some (record { id = id; func = func })
+  pub params : List Value
+  pub params_are : params_of span (outside c) func ys xs ≡ Good params
+  pub tree_has : bare.params_of span widths ys xs ≡ Good params
+
+abbrev pub FindsCallee : Tests → List Decl → Span → List ℕ → Callee → List ℕ → List Value → List Value → Core → Type 0
+FindsCallee t ds span name (own id) widths ys xs c = (routine_named name ≡ None) × FindsOwn t ds span name id widths ys xs c
+FindsCallee t ds span name (of_library r) widths ys xs c = routine_named name ≡ Some r
+
+abbrev pub CallFinds : Tests → List Decl → Span → List ℕ → List Expr → List Expr → Callee → List ℕ → Core → Type 0
+CallFinds t ds span name ps es callee widths c =
+    (d : ℕ) (h : Meter) → Gave (λ v c1. FindsCallee t ds span name callee widths v.0 v.1 c1) (run (meaning (environment t ds) d) (both_given ps es c) h)
+
+-- ---- fields and bitfields
+
+-- the field of this name is the one in this place
+abbrev pub IsFieldAt : List ℕ → ℕ → FieldValues → Type 0
+IsFieldAt f i no_value_of = ⊥
+IsFieldAt f zero (value_of_field g x xs) = bytes_eq g f ≡ true
+IsFieldAt f (suc i) (value_of_field g x xs) = (bytes_eq g f ≡ false) × IsFieldAt f i xs
+
+abbrev pub HasFieldAt : List ℕ → ℕ → Value → Type 0
+HasFieldAt f i (record_with name xs) = IsFieldAt f i xs
+HasFieldAt f i (exception_with built supers name xs) = IsFieldAt f i xs
+HasFieldAt f i (int z) = ⊥
+HasFieldAt f i (bool b) = ⊥
+HasFieldAt f i (bits_with bs v) = ⊥
+HasFieldAt f i (label n l) = ⊥
+HasFieldAt f i (tuple_with xs) = ⊥
+HasFieldAt f i (array_with k xs) = ⊥
+
+-- the view of bits has this bitfield under this name
+abbrev pub HasBitfield : List ℕ → BitField → Value → Type 0
+HasBitfield f b x = (v : _) × (view_of x ≡ Some v) × (named_among f v ≡ Some b)
+
+-- ---- constructions
+
+-- each field is given the value that stands under its name
+abbrev pub GivenByName : List (List ℕ) → List FieldGiven → Type 0
+GivenByName names [] = Unit {0}
+GivenByName names (g ∷ gs) = (slice_get names g.place ≡ Some g.name) × GivenByName names gs
+
+-- ---- all forms
+
+abbrev pub ExprChosen : Tests → List Decl → ExprLayer → Tree → Core → Type 0
+ExprChosen t ds (ex.Int span n) a c = Unit {0}
+ExprChosen t ds (ex.Bits span text) a c = Unit {0}
+ExprChosen t ds (ex.Bool span b) a c = Unit {0}
+ExprChosen t ds (ex.Name span name) a c = Unit {0}
+ExprChosen t ds (ex.Unary span o e) a c = Unit {0}
+ExprChosen t ds (ex.Binary span o e f) a c = Unit {0}
+ExprChosen t ds (ex.Conditional span e f g) a c = Unit {0}
+ExprChosen t ds (ex.Tuple span es) a c = Unit {0}
+ExprChosen t ds (ex.Construct span i fs) a c =
+    (n : Note) × (s : Shell) × (gs : List FieldGiven) × (es : Trees) × (a ≡ tree.Construct n s gs es) × GivenByName (shapes_in given_parts fs) gs
+    × OfValues t ds (exprs_in given_parts fs) c (λ xs. constructed span (types_of (environment t ds) i.text) (shapes_in given_parts fs) xs ≡ places.constructed span s gs xs)
+ExprChosen t ds (ex.Call span i ps es) a c =
+    (n : Note) × (f : Callee) × (widths : List ℕ) × (ts : Trees) × (us : Trees) × (a ≡ tree.Call n f widths ts us) × CallFinds t ds span i.text ps es f widths c
+ExprChosen t ds (ex.Field span e i) a c =
+    ((n : Note) × (b : Tree) × (k : ℕ) × (a ≡ tree.Field n b k) × OfValue t ds e c (HasFieldAt i.text k))
+    ⊎ ((n : Note) × (b : Tree) × (f : BitField) × (a ≡ tree.Bitfield n b f) × OfValue t ds e c (HasBitfield i.text f))
+ExprChosen t ds (ex.Fields span e is) a c = (n : Note) × (b : Tree) × (fs : List BitField) × (a ≡ tree.Bitfields n b fs) × OfValue t ds e c (λ x. bitfields_named span is x ≡ Good fs)
+ExprChosen t ds (ex.Slices span e ss) a c = Unit {0}
+ExprChosen t ds (ex.Element span e f) a c = Unit {0}
+ExprChosen t ds (ex.As span e ty) a c = Unit {0}
+ExprChosen t ds (ex.In span e p) a c = Unit {0}
+
+abbrev pub StmtChosen : Tests → List Decl → StmtLayer → Act → Core → Type 0
+StmtChosen t ds (st.Pass span) a c = Unit {0}
+StmtChosen t ds (st.Unreachable span) a c = Unit {0}
+StmtChosen t ds (st.Assert span e) a c = Unit {0}
+StmtChosen t ds (st.Local span kind b ty e) a c = Unit {0}
+StmtChosen t ds (st.LocalVars span is ty) a c = Unit {0}
+StmtChosen t ds (st.Assign span x e) a c = Unit {0}
+StmtChosen t ds (st.Invoke span i ps es) a c =
+    (at : Span) × (f : Callee) × (widths : List ℕ) × (ts : Trees) × (us : Trees) × (a ≡ tree.Invoke at f widths ts us) × CallFinds t ds span i.text ps es f widths c
+StmtChosen t ds (st.If span e ss es last) a c = Unit {0}
+StmtChosen t ds (st.Case span e alts last) a c = Unit {0}
+StmtChosen t ds (st.For span i e d f limit ss) a c = Unit {0}
+StmtChosen t ds (st.While span e limit ss) a c = Unit {0}
+StmtChosen t ds (st.Repeat span ss e limit) a c = Unit {0}
+StmtChosen t ds (st.Return span e) a c = Unit {0}
+StmtChosen t ds (st.Throw span e) a c = Unit {0}
+StmtChosen t ds (st.Try span ss cs last) a c = Unit {0}
+StmtChosen t ds (st.Print span kind is) a c = Unit {0}
