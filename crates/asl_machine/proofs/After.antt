@@ -12,10 +12,8 @@ use Rattle.asl_machine.specs.Stages.{OnRun}
 use Rattle.asl_machine.specs.declared.stage.Stage.{Stage}
 use Rattle.asl_machine.specs.declared.stage.Stage.TheVariants as stage
 use Rattle.asl_machine.specs.Storage.{given, taken, Var, var_of, vars_in, with_values}
-use Rattle.asl_machine.specs.Work.{initial_of, globals_with, names_of_vars, IsOf, Arranged}
+use Rattle.asl_machine.specs.Work.{initial_of, globals_with, names_of_vars, AreNamed, IsOf, Arranged}
 use Rattle.asl_machine.specs.declared.memory.GlobalVar.{GlobalVar}
-use Rattle.asl_machine.specs.declared.memory.Memory.{Memory}
-use Rattle.asl_machine.specs.private.Memory.{arranged, named}
 use Rattle.asl_machine.proofs.Exchange.{same_names, same_room}
 use Rattle.asl_machine.proofs.Sets.{vars_set}
 
@@ -85,8 +83,8 @@ pub vars_are : (t : Tests) → Suits t → (c : Sealed) (ms : List Bool) (xs : L
 vars_are t r c ms xs vs a = ∥∥₁_elim (a t r) (vars_set _ _) (vars_of_bindings (initial_of t c) ms xs vs)
 
 -- their names are known however a call ended
-pub arranged_named : (c : Sealed) (m : Memory) → arranged c m → named c m
-arranged_named c m a t r = ∥∥₁_elim (a t r) (Coded-set (coded_list (coded_list coded_ℕ)) _ _) (λ w. w.names_are)
+pub arranged_named : (c : Sealed) (ms : List Bool) (xs : List Value) (vs : List GlobalVar) → Arranged c ms xs vs → AreNamed c vs
+arranged_named c ms xs vs a t r = ∥∥₁_elim (a t r) (Coded-set (coded_list (coded_list coded_ℕ)) _ _) (λ w. w.names_are)
 
 -- what is known where no run was given up
 pub on_run : (s : Stage) (P Q : Type 0) → (P → Q) → OnRun s P → OnRun s Q

@@ -1,5 +1,5 @@
 -- What a call answers where its run was given up.
-use Rattle.std.proofs.Common.{◌≡◌, Result, Ok, Err, OnErr, sym, subst}
+use Rattle.std.proofs.Common.{◌≡◌, Result, OnErr, sym, subst}
 use Rattle.asl_machine.specs.Stages.{OnReady, OnRefused, answer_of}
 use Rattle.asl_machine.specs.declared.stage.Outcome.{Outcome}
 use Rattle.asl_machine.specs.declared.stage.RunRefused.{RunRefused}

@@ -1,11 +1,11 @@
 -- What is known of a call over no text is known of it over the text that the sink held, with the noted bytes behind that.
-use Rattle.std.proofs.Common.{◌≡◌, ℕ, ◌<◌, ◌-◌, Bool, false, List, [], Option, Some, None, Result, Ok, Err, refl, sym, ap, ◌∙◌, subst}
+use Rattle.std.proofs.Common.{◌≡◌, ℕ, ◌-◌, Bool, false, List, [], Option, Some, Result, Ok, Err, refl, sym, ap, ◌∙◌, subst}
 use Rattle.std.specs.Prelude.{option_map}
 use Rattle.asl_rules.specs.declarations.Programs.{Environment}
 use Rattle.asl_rules.specs.runs.Machines.{GivenUp, run_of, text_of_run}
 use Rattle.asl_rules.specs.runs.Plans.{Meter, starting, Outcome, Done, Thrown, Halt, Faulted, final}
 use Rattle.asl_rules.specs.runs.States.{Binding, Core, resting}
-use Rattle.asl_rules.specs.runs.Told.{appended, open_after, Begins}
+use Rattle.asl_rules.specs.runs.Told.{open_after, Begins}
 use Rattle.asl_rules.specs.values.Values as rules
 use Rattle.asl_rules.proofs.basics.Tests.{some_same}
 use Rattle.asl_laws.proofs.runs.Budget.{same_text}
@@ -15,7 +15,7 @@ use Rattle.asl_value.specs.declared.value.Value.{Value}
 use Rattle.asl_branches.specs.declared.stop.Stop.{Stop}
 use Rattle.asl_branches.specs.declared.stop.Stop.TheVariants as stop
 use Rattle.asl_noting.specs.Noted.{Noted}
-use Rattle.asl_machine.specs.Stages.{CallMeets, Halted}
+use Rattle.asl_machine.specs.Stages.{CallMeets}
 use Rattle.asl_machine.specs.Took.{Took}
 
 -- ---- texts

@@ -1,5 +1,5 @@
 -- A call over the memory of a machine: its values are moved into a run and back.
-use Rattle.std.proofs.Common.{◌≡◌, ℕ, ◌-◌, ◌≤◌, List, [], Option, Some, Result, Ok, Err, refl, sym, ap, ◌∙◌, subst, map, length}
+use Rattle.std.proofs.Common.{◌≡◌, ℕ, ◌-◌, ◌≤◌, Bool, List, [], Option, Some, Result, Ok, Err, refl, sym, ap, ◌∙◌, subst, map, length}
 use Rattle.std.specs.Prelude.{option_map, OnOk}
 use Rattle.asl_rules.specs.runs.Machines.{GivenUp, most_open}
 use Rattle.asl_rules.specs.declarations.Programs.{environment}
@@ -66,8 +66,8 @@ named_is c old between new begun ended m n t u =
 
 module _ (c : Sealed) (fs : List TreeFunc) (gs : List Global) (sealed : IsSealed c.decls c.asked c.main fs gs) (id : ℕ) (args : List rules.Value) (call : (t : Tests) → Suits t → IsCallable t c id args)
     (old between new : Memory) (begun ended : Run) (a : arranged c old) (h : held c old) (m : Moved old between new begun ended) (told told1 : Option (List ℕ)) (result : Result (Option Value) Stop)
-    (number : ℕ) (same : number ≡ id)
-    (ran : RanNoted (λ own. Runs (option_map value_of) result fs most_open (tree_call (program_of fs) number args) begun (Some []) ended own) told told1 new.text_open) where
+    (number : ℕ) (same : number ≡ id) (is_open : Bool) (opened : new.text_open ≡ is_open)
+    (ran : RanNoted (λ own. Runs (option_map value_of) result fs most_open (tree_call (program_of fs) number args) begun (Some []) ended own) told told1 is_open) where
   own : Runs (option_map value_of) result fs most_open (tree_call (program_of fs) id args) begun (Some []) ended ran.own
   own = subst (λ n. Runs (option_map value_of) result fs most_open (tree_call (program_of fs) n args) begun (Some []) ended ran.own) same ran.met
 
@@ -83,22 +83,24 @@ module _ (c : Sealed) (fs : List TreeFunc) (gs : List Global) (sealed : IsSealed
       call_meets t u c fs gs sealed id args (storage_of old) h (call t u) (roomy_before t u) begun ended m.begins (storage_of new)
       (storage_is old between new begun ended m) (Some []) ran.own result own
 
-  pub memory_meets : (t : Tests) → Suits t →
-      CallMeets result (globals_with t c (storage_of new)) (record { steps = new.steps; told = told1; text_open = new.text_open }) (run_over t c id args (storage_of old) old.steps told)
-      (GivenUp (text_over t c id args (storage_of old) told) told told1 old.steps (old.steps - new.steps))
-  memory_meets t u =
-      let env = environment t c.decls in
-      let before = globals_with t c (storage_of old) in
-      rw (m.steps_back, ← m.steps)
-      (meets_behind env id args before told begun.steps (globals_with t c (storage_of new)) (meter_of ended ran.own) told1 new.text_open ran.noted result _ _
-      (given_up_behind env id args before told ran.own told1 begun.steps (begun.steps - ended.steps) (noted_behind ran.own told told1 new.text_open ran.noted))
-      (own_meets t u))
+  -- where the sink holds what was told of it
+  module _ (now : Option (List ℕ)) (is_told : now ≡ told1) where
+    pub memory_meets : (t : Tests) → Suits t →
+        CallMeets result (globals_with t c (storage_of new)) (record { steps = new.steps; told = now; text_open = new.text_open }) (run_over t c id args (storage_of old) old.steps told)
+        (GivenUp (text_over t c id args (storage_of old) told) told now old.steps (old.steps - new.steps))
+    memory_meets t u =
+        let env = environment t c.decls in
+        let before = globals_with t c (storage_of old) in
+        rw (m.steps_back, opened, is_told, ← m.steps)
+        (meets_behind env id args before told begun.steps (globals_with t c (storage_of new)) (meter_of ended ran.own) told1 is_open ran.noted result _ _
+        (given_up_behind env id args before told ran.own told1 begun.steps (begun.steps - ended.steps) (noted_behind ran.own told told1 is_open ran.noted))
+        (own_meets t u))
 
-  pub memory_took : (t : Tests) → Suits t → Took (text_over t c id args (storage_of old) (Some []) old.steps) told told1 new.text_open
-  memory_took t u =
-      rw (← m.steps)
-      (took (environment t c.decls) id args (globals_with t c (storage_of old)) told begun.steps (globals_with t c (storage_of new)) (meter_of ended ran.own)
-      told1 new.text_open ran.noted result (begun.steps - ended.steps) (own_meets t u))
+    pub memory_took : (t : Tests) → Suits t → Took (text_over t c id args (storage_of old) (Some []) old.steps) told now new.text_open
+    memory_took t u =
+        rw (opened, is_told, ← m.steps)
+        (took (environment t c.decls) id args (globals_with t c (storage_of old)) told begun.steps (globals_with t c (storage_of new)) (meter_of ended ran.own)
+        told1 is_open ran.noted result (begun.steps - ended.steps) (own_meets t u))
 
   pub memory_stepped : (t : Tests) → Suits t → Stepped old.steps new.steps (final (run_over t c id args (storage_of old) old.steps told))
   memory_stepped t u =
@@ -107,10 +109,10 @@ module _ (c : Sealed) (fs : List TreeFunc) (gs : List Global) (sealed : IsSealed
       rw (m.steps_back, ← m.steps) (record { fewer = s.fewer; no_more = subst (λ n. n ≤ ended.steps) (sym e) s.no_more })
 
   pub memory_named : named c new
-  memory_named = named_is c old between new begun ended m (arranged_named c old a)
+  memory_named = named_is c old between new begun ended m (arranged_named c old.marks.items old.values.items old.vars.items a)
 
   pub memory_held : OnOk result (held c new)
-  memory_held = returned_held c fs gs sealed id args (storage_of old) (storage_of new) h call old.steps told _ _ result memory_meets
+  memory_held = returned_held c fs gs sealed id args (storage_of old) (storage_of new) h call old.steps told _ _ result (memory_meets told1 refl)
 
   roomy : (t : Tests) → Suits t → IfRan result (length (map value_of ended.globals.items) ≡ length (initial_of t c))
   roomy t u = room_after t u c fs gs sealed id args (storage_of old) h (call t u) (roomy_before t u) begun ended m.begins (Some []) ran.own result own

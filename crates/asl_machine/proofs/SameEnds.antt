@@ -14,7 +14,7 @@ use Rattle.asl_laws.specs.Soundness.{tree_run}
 use Rattle.asl_rules.specs.runs.StatementForms.{in_order}
 use Rattle.asl_rules.specs.runs.States.{Binding, Core, resting}
 use Rattle.asl_rules.specs.runs.Trees.{Tree, Act, TreeFunc}
-use Rattle.asl_rules.specs.private.TypedMeaning.{BareCore, TreeProgram, Runs, acts_of, entered, restored, formals_seen, result_seen, run_with, call_func, tree_call, tree_nodes, tree_meaning}
+use Rattle.asl_rules.specs.private.TypedMeaning.{BareCore, TreeProgram, Runs, acts_of, restored, formals_seen, result_seen, run_with, call_func, tree_call, tree_nodes, tree_meaning}
 use Rattle.asl_rules.specs.values.Values.{Value, Exit, Normal, Returned}
 use Rattle.asl_laws.proofs.runs.Budget.{run_after, grows}
 use Rattle.asl_laws.proofs.runs.Given.{kept, cuts_after}

@@ -1,20 +1,20 @@
 -- A call of the typed trees of a sealed program says how the program's own call ends.
 use mathlib.Core.HLevel.{⊥_prop}
-use Rattle.std.proofs.Common.{◌≡◌, ℕ, ◌-◌, ◌≤◌, false, List, [], ◌∷◌, ◌++◌, Option, Some, None, Result, Ok, Err, refl, sym, ap, ◌∙◌, subst, map, length, suc, arith}
+use Rattle.std.proofs.Common.{◌≡◌, ℕ, ◌-◌, ◌≤◌, false, List, [], ◌∷◌, Option, Some, Result, Ok, Err, refl, sym, ap, ◌∙◌, subst, map, length, suc, arith}
 use Rattle.std.proofs.Math.Logic.{∥∥₁_elim, ∥∥₁_map, ∥∥₁_prop}
-use Rattle.std.specs.Prelude.{option_map, reverse, slice_get, OnOk}
+use Rattle.std.specs.Prelude.{option_map, slice_get, OnOk}
 use Rattle.asl_bits.specs.declared.TheConstants.{WIDTH_LIMIT}
 use Rattle.asl_rules.specs.private.Agreement.{types_in, no_atoms, GlobalsMatch}
 use Rattle.asl_rules.specs.private.Belonging.{Belong}
-use Rattle.asl_rules.specs.runs.Cuts.{cuts, cuttings}
+use Rattle.asl_rules.specs.runs.Cuts.{cuts}
 use Rattle.asl_rules.specs.private.Erasure.{values_of, erased, erased_outcome}
-use Rattle.asl_rules.specs.runs.Machines.{GivenUp, most_open, run_of, text_of_run}
+use Rattle.asl_rules.specs.runs.Machines.{GivenUp, most_open, run_of}
 use Rattle.asl_rules.specs.runs.Plans.{Meter, Mistake, starting, Outcome, Done, Thrown, Halt, Faulted, Stuck, final}
 use Rattle.asl_rules.specs.declarations.Programs.{Accepted, accepted, verdict, environment}
 use Rattle.asl_laws.specs.Soundness.{NotStuck, KeepsGlobals, IsCall, Soundness, SameMeaning, trees_of, tree_run}
 use Rattle.asl_rules.specs.runs.States.{Binding, Core, resting}
 use Rattle.asl_rules.specs.Tests.{Tests}
-use Rattle.asl_rules.specs.private.TypedMeaning.{BareCore, TreeProgram, tree_call, tree_nodes, tree_meaning}
+use Rattle.asl_rules.specs.private.TypedMeaning.{BareCore, tree_call}
 use Rattle.asl_rules.specs.values.Values as rules
 use Rattle.asl_laws.proofs.runs.GlobalsKept.{SameBut, Kept, AtRest, run_of_keeps, run_of_rests}
 use Rattle.asl_rules.proofs.basics.Inversions.{ok_ok}
@@ -174,7 +174,7 @@ met_over t c fs id args values n begun ended b told told1 result met =
     let p = program_of fs in
     let met_at : BareCore → Meter → Type 0 =
     λ z h. Meets (option_map value_of) result (core_of ended) (meter_of ended told1) (tree_run p id args z h)
-        (cuts (meaning_of fs most_open) (cutting_of fs most_open) (tree_call p id args z) h) in
+    (cuts (meaning_of fs most_open) (cutting_of fs most_open) (tree_call p id args z) h) in
     subst (met_at (erased (resting (globals_with t c values)))) (begun_meter begun values told b)
     (subst (λ z. met_at z (meter_of begun told)) (begun_core t c begun values b n) met)
 
@@ -238,7 +238,6 @@ call_steps t r c fs gs sealed id args values held call n begun ended b told told
 
     ran : (z : Outcome BareCore (Option rules.Value)) → tree_run (program_of fs) id args (erased (resting (globals_with t c values))) (starting begun.steps told) ≡ z →
         (final z).steps ≡ ended.steps → Stepped begun.steps ended.steps (final o)
-    unfolding o
     ran z e same =
         let left : (final o).steps ≡ ended.steps =
         ap (λ h. h.steps) (sym (final_same o) ∙ ap final (sym (is_same (starting begun.steps told)) ∙ e)) ∙ same in
@@ -246,7 +245,6 @@ call_steps t r c fs gs sealed id args values held call n begun ended b told told
         record { fewer = omega (arith, left, fewer); no_more = omega (arith, left) }
 
     by : (result : Result (Option Value) Stop) → MetOver t c fs id args values begun.steps told ended told1 result → Stepped begun.steps ended.steps (final o)
-    unfolding o
     by (Ok x) e = ran _ e refl
     by (Err stop.NoMemory) w = stepped_same (environment t c.decls) (program_of fs) id args (globals_with t c values) begun.steps told (meter_of ended told1) is_same w
     by (Err stop.SinkFault) w = stepped_same (environment t c.decls) (program_of fs) id args (globals_with t c values) begun.steps told (meter_of ended told1) is_same w

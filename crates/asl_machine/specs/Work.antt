@@ -17,7 +17,7 @@ use Rattle.asl_types.specs.Suits.{Suits}
 use Rattle.asl_value.specs.View.{value_of}
 use Rattle.asl_value.specs.declared.value.Value.{Value}
 use Rattle.asl_value.specs.contracts.value.Value as values
-use Rattle.asl_machine.specs.Stages.{Ends, OnRun, OnReady}
+use Rattle.asl_machine.specs.Stages.{Ends}
 use Rattle.asl_machine.specs.Storage.{with_values}
 use Rattle.asl_machine.specs.declared.stage.Stage.{Stage}
 use Rattle.asl_machine.specs.declared.stage.Stage.TheVariants as stage

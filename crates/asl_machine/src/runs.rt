@@ -94,19 +94,14 @@ fn run_trees<K: Sink>(
 {
     let parts = checked.parts();
     let mut run = enter(alloc, memory);
-<<<<<<< HEAD
     let (answer, text_open, _sink) = call_noted::<&mut K, Brand>(
         alloc,
-        funcs,
+        &parts.subs,
         &mut run,
         sink,
         sub.number(),
         args,
     );
     leave(memory, &mut run, text_open);
-=======
-    let answer = call(alloc, &parts.subs, &mut run, sink, sub.number(), args);
-    leave(memory, &mut run);
->>>>>>> 3734bf5089e521e4ab3f7d856edffaae315ed25c
     answer
 }

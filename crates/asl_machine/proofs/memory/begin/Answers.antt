@@ -22,18 +22,12 @@ returns-clause-held c =
 
 pub returns-clause-globals : goal.returns-clause-globals
 returns-clause-globals c =
-<<<<<<< HEAD
-    let marks : c.in_ok-marks.field-0.items ≡ marks_of c.parts.result.1.now = c.in_ok-marks.ensures in
-    let values : c.in_ok-values.field-0.items ≡ values_in c.parts.result.1.now = c.in_ok-values.ensures in
-    let vars : c.in_ok-vars.field-0.items ≡ vars_from c.parts.result.1.now = c.in_ok-vars.ensures in
-    rw (marks, values, vars) (begun_is c.args.checked.now c.parts.result.0.now c.parts.result.1.now c.parts.ensures)
-
-pub returns-clause-named : goal.returns-clause-named
-returns-clause-named c = arranged_named _ _ (returns-clause-arranged c)
-=======
     let marks : c.in_ok-marks.field-0.items ≡ marks_of c.as_slice-globals.result.now = c.in_ok-marks.ensures in
     let values : c.in_ok-values.field-0.items ≡ values_in c.as_slice-globals.result.now = c.in_ok-values.ensures in
     let vars : c.in_ok-vars.field-0.items ≡ vars_from c.as_slice-globals.result.now = c.in_ok-vars.ensures in
     rw (marks, values, vars) (begun_is c.args.checked.now c.parts-parts.result.now.subs c.as_slice-globals.result.now
     (rw (c.as_slice-globals.ensures.value) c.parts-parts.ensures.sealed))
->>>>>>> 3734bf5089e521e4ab3f7d856edffaae315ed25c
+
+pub returns-clause-named : goal.returns-clause-named
+returns-clause-named c =
+    arranged_named c.args.checked.now c.in_ok-marks.field-0.items c.in_ok-values.field-0.items c.in_ok-vars.field-0.items (returns-clause-arranged c)

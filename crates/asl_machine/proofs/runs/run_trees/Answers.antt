@@ -1,10 +1,9 @@
-use Rattle.std.proofs.Common.{List, Option, map}
-use Rattle.asl_value.specs.View.{value_of}
-use Rattle.asl_machine.proofs.MemoryCalls.{Moved, memory_meets, memory_held, memory_arranged}
+use Rattle.std.proofs.Common.{rules}
+use Rattle.asl_machine.proofs.MemoryCalls.{Moved, memory_meets, memory_took, memory_stepped, memory_named, memory_held, memory_arranged}
 use Rattle.asl_machine.proofs.runs.run_trees.Given
 use Rattle.asl_machine.proofs.runs.run_trees.Goals as goal
 
-moved : (g : Given.Over) (c : goal.After-drop-run-5 g) → Moved c.args.memory.now c.enter-run.new.memory c.leave.new.memory c.enter-run.result c.call_noted.new.run
+moved : (g : Given.Over) (c : goal.After-drop-run-5 g) → Moved c.args.memory.now c.enter-run.new.memory c.leave.new.memory c.enter-run.result c.call_noted-answer.new.run
 moved g c = record {
   begins = record {
     globals = c.enter-run.ensures.globals;
@@ -23,47 +22,34 @@ moved g c = record {
   steps_back = c.leave.ensures.steps;
 }
 
-ran : (g : Given.Over) (c : goal.After-drop-run-5 g) → RanNoted
-    (λ own. Runs (option_map value_of) c.call_noted.result.0 c.parts.result.0.now most_open (tree_call (program_of c.parts.result.0.now) c.number.result (map value_of c.args.args.now)) c.enter-run.result (Some []) c.call_noted.new.run own)
-    (g.K.Sink.written c.args.sink.now) (g.K.Sink.written c.new.sink) c.leave.new.memory.text_open
-ran g c = ?
-
 pub returns-clause-meets : goal.returns-clause-meets
-<<<<<<< HEAD
 returns-clause-meets g c =
-    memory_meets c.args.checked.now _ _ c.parts.ensures _ _ c.requires.callable _ _ _ _ _ c.requires.arranged c.requires.held (moved g c) _ _
-    c.call_noted.result.0 c.number.result c.number.ensures (ran g c)
+    memory_meets c.args.checked.now _ _ c.parts-parts.ensures.sealed _ _ c.requires.callable _ _ _ _ _ c.requires.arranged c.requires.held (moved g c) _ _
+    c.call_noted-answer.result.0 c.number.result c.number.ensures _ c.leave.ensures.text c.call_noted-answer.ensures.meets
+    _ (search rules)
 
 pub returns-clause-took : goal.returns-clause-took
 returns-clause-took g c =
-    memory_took c.args.checked.now _ _ c.parts.ensures _ _ c.requires.callable _ _ _ _ _ c.requires.arranged c.requires.held (moved g c) _ _
-    c.call_noted.result.0 c.number.result c.number.ensures (ran g c)
+    memory_took c.args.checked.now _ _ c.parts-parts.ensures.sealed _ _ c.requires.callable _ _ _ _ _ c.requires.arranged c.requires.held (moved g c) _ _
+    c.call_noted-answer.result.0 c.number.result c.number.ensures _ c.leave.ensures.text c.call_noted-answer.ensures.meets
+    _ (search rules)
 
 pub returns-clause-stepped : goal.returns-clause-stepped
 returns-clause-stepped g c =
-    memory_stepped c.args.checked.now _ _ c.parts.ensures _ _ c.requires.callable _ _ _ _ _ c.requires.arranged c.requires.held (moved g c) _ _
-    c.call_noted.result.0 c.number.result c.number.ensures (ran g c)
+    memory_stepped c.args.checked.now _ _ c.parts-parts.ensures.sealed _ _ c.requires.callable _ _ _ _ _ c.requires.arranged c.requires.held (moved g c) _ _
+    c.call_noted-answer.result.0 c.number.result c.number.ensures _ c.leave.ensures.text c.call_noted-answer.ensures.meets
 
 pub returns-clause-named : goal.returns-clause-named
 returns-clause-named g c =
-    memory_named c.args.checked.now _ _ c.parts.ensures _ _ c.requires.callable _ _ _ _ _ c.requires.arranged c.requires.held (moved g c) _ _
-    c.call_noted.result.0 c.number.result c.number.ensures (ran g c)
+    memory_named c.args.checked.now _ _ c.parts-parts.ensures.sealed _ _ c.requires.callable _ _ _ _ _ c.requires.arranged c.requires.held (moved g c) _ _
+    c.call_noted-answer.result.0 c.number.result c.number.ensures _ c.leave.ensures.text c.call_noted-answer.ensures.meets
 
 pub returns-clause-arranged : goal.returns-clause-arranged
 returns-clause-arranged g c =
-    memory_arranged c.args.checked.now _ _ c.parts.ensures _ _ c.requires.callable _ _ _ _ _ c.requires.arranged c.requires.held (moved g c) _ _
-    c.call_noted.result.0 c.number.result c.number.ensures (ran g c)
+    memory_arranged c.args.checked.now _ _ c.parts-parts.ensures.sealed _ _ c.requires.callable _ _ _ _ _ c.requires.arranged c.requires.held (moved g c) _ _
+    c.call_noted-answer.result.0 c.number.result c.number.ensures _ c.leave.ensures.text c.call_noted-answer.ensures.meets
 
 pub returns-clause-held : goal.returns-clause-held
 returns-clause-held g c =
-    memory_held c.args.checked.now _ _ c.parts.ensures _ _ c.requires.callable _ _ _ _ _ c.requires.arranged c.requires.held (moved g c) _ _
-    c.call_noted.result.0 c.number.result c.number.ensures (ran g c)
-=======
-returns-clause-meets g c = memory_meets c.args.checked.now _ _ c.parts-parts.ensures.sealed _ _ c.requires.callable _ _ _ _ _ c.requires.arranged c.requires.held (moved g c) _ _ c.call-answer.result c.number.result c.number.ensures c.call-answer.ensures.meets
-
-pub returns-clause-arranged : goal.returns-clause-arranged
-returns-clause-arranged g c = memory_arranged c.args.checked.now _ _ c.parts-parts.ensures.sealed _ _ c.requires.callable _ _ _ _ _ c.requires.arranged c.requires.held (moved g c) _ _ c.call-answer.result c.number.result c.number.ensures c.call-answer.ensures.meets
-
-pub returns-clause-held : goal.returns-clause-held
-returns-clause-held g c = memory_held c.args.checked.now _ _ c.parts-parts.ensures.sealed _ _ c.requires.callable _ _ _ _ _ c.requires.arranged c.requires.held (moved g c) _ _ c.call-answer.result c.number.result c.number.ensures c.call-answer.ensures.meets
->>>>>>> 3734bf5089e521e4ab3f7d856edffaae315ed25c
+    memory_held c.args.checked.now _ _ c.parts-parts.ensures.sealed _ _ c.requires.callable _ _ _ _ _ c.requires.arranged c.requires.held (moved g c) _ _
+    c.call_noted-answer.result.0 c.number.result c.number.ensures _ c.leave.ensures.text c.call_noted-answer.ensures.meets
