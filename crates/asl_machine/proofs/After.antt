@@ -1,7 +1,7 @@
 -- The memory of a machine between calls: marks, values and variables that are those of the program's globals.
 use Rattle.std.proofs.Common.{◌≡◌, ℕ, suc, Bool, true, false, List, [], ◌∷◌, length, map, refl, sym, ap, ◌∙◌, arith}
 use Rattle.std.proofs.Math.Logic.{∥∥₁_elim, ∥∥₁_map}
-use Rattle.std.specs.Coded.{Coded-set, coded_ℕ}
+use Rattle.std.specs.Coded.{Coded-set, coded_list, coded_ℕ}
 use Rattle.asl_rules.specs.runs.States.{Binding}
 use Rattle.asl_rules.specs.Tests.{Tests}
 use Rattle.asl_tree.specs.Sealed.{Sealed}
@@ -12,7 +12,7 @@ use Rattle.asl_machine.specs.Stages.{OnRun}
 use Rattle.asl_machine.specs.declared.stage.Stage.{Stage}
 use Rattle.asl_machine.specs.declared.stage.Stage.TheVariants as stage
 use Rattle.asl_machine.specs.Storage.{given, taken, Var, var_of, vars_in, with_values}
-use Rattle.asl_machine.specs.Work.{initial_of, globals_with, names_of_vars, IsOf, Arranged}
+use Rattle.asl_machine.specs.Work.{initial_of, globals_with, names_of_vars, AreNamed, IsOf, Arranged}
 use Rattle.asl_machine.specs.declared.memory.GlobalVar.{GlobalVar}
 use Rattle.asl_machine.proofs.Exchange.{same_names, same_room}
 use Rattle.asl_machine.proofs.Sets.{vars_set}
@@ -81,6 +81,10 @@ vars_of_bindings (b ∷ bs) (false ∷ ms) (x ∷ xs) vs w =
 
 pub vars_are : (t : Tests) → Suits t → (c : Sealed) (ms : List Bool) (xs : List Value) (vs : List GlobalVar) → Arranged c ms xs vs → map var_of vs ≡ vars_in (globals_with t c (given ms xs vs))
 vars_are t r c ms xs vs a = ∥∥₁_elim (a t r) (vars_set _ _) (vars_of_bindings (initial_of t c) ms xs vs)
+
+-- their names are known however a call ended
+pub arranged_named : (c : Sealed) (ms : List Bool) (xs : List Value) (vs : List GlobalVar) → Arranged c ms xs vs → AreNamed c vs
+arranged_named c ms xs vs a t r = ∥∥₁_elim (a t r) (Coded-set (coded_list (coded_list coded_ℕ)) _ _) (λ w. w.names_are)
 
 -- what is known where no run was given up
 pub on_run : (s : Stage) (P Q : Type 0) → (P → Q) → OnRun s P → OnRun s Q

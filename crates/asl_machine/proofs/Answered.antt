@@ -1,12 +1,12 @@
 -- What a call answers where its run was given up.
-use Rattle.std.proofs.Common.{◌≡◌, Result, Ok, Err, OnErr, sym, subst}
+use Rattle.std.proofs.Common.{◌≡◌, Result, OnErr, sym, subst}
 use Rattle.asl_machine.specs.Stages.{OnReady, OnRefused, answer_of}
 use Rattle.asl_machine.specs.declared.stage.Outcome.{Outcome}
 use Rattle.asl_machine.specs.declared.stage.RunRefused.{RunRefused}
 use Rattle.asl_machine.specs.declared.stage.Stage.{Stage}
 use Rattle.asl_machine.specs.declared.stage.Stage.TheVariants as stage
 
-on_ready : (s : Stage) (P : Type 0) → P → OnReady s P
+pub on_ready : (s : Stage) (P : Type 0) → P → OnReady s P
 on_ready (stage.Ready x) P p = p
 on_ready (stage.Uncaught x) P p = tt
 on_ready (stage.Fault code span) P p = tt

@@ -1,24 +1,18 @@
 -- The memory of a machine before its first call.
 use Rattle.std.proofs.Common.{◌≡◌, ℕ, suc, Bool, true, false, cond, List, [], ◌∷◌, length, map, refl, sym, ap, ◌∙◌, subst}
-use Rattle.std.proofs.Math.Logic.{∥∥₁_elim, ∥∥₁_map, ∥∥₁_prop}
-use Rattle.std.specs.Prelude.{Option}
-use Rattle.asl_rules.specs.declared.entry.Entry.{Entry as Asked}
+use Rattle.std.proofs.Math.Logic.{∥∥₁_elim, ∥∥₁_map}
 use Rattle.asl_rules.specs.private.Agreement.{GlobalsMatch}
 use Rattle.asl_rules.specs.runs.States.{Binding}
 use Rattle.asl_rules.specs.Tests.{Tests}
 use Rattle.asl_rules.specs.values.Values as rules
 use Rattle.asl_laws.proofs.soundness.Soundness.{soundness}
 use Rattle.asl_laws.proofs.soundness.SoundnessFacts.{facts_of}
-use Rattle.asl_syn.specs.declared.tree.Decl.{Decl}
-use Rattle.asl_tree.specs.Sealed.{Sealed, Cell, cell_in, cells_in, cell_of, cells_of, IsMade, IsSealed}
+use Rattle.asl_tree.specs.Sealed.{Sealed, Cell, cells_in, cells_of, IsSealed}
 use Rattle.asl_tree.specs.declared.act.TreeFunc.{TreeFunc}
 use Rattle.asl_tree.specs.declared.checked.Global.{Global}
-use Rattle.asl_types.specs.Suits.{Suits}
 use Rattle.asl_value.specs.View.{value_of}
-use Rattle.asl_value.specs.declared.value.Value.{Value}
 use Rattle.asl_machine.specs.Storage.{given, marks_of, values_in, vars_from, with_values}
-use Rattle.asl_machine.specs.Work.{initial_of, globals_with, names_of_vars, IsOf, Arranged, IsHeld, HoldStorage, IsInitial}
-use Rattle.asl_machine.specs.declared.memory.GlobalVar.{GlobalVar}
+use Rattle.asl_machine.specs.Work.{initial_of, names_of_vars, Arranged, HoldStorage, IsInitial}
 use Rattle.asl_machine.proofs.Exchange.{names}
 use Rattle.asl_machine.proofs.Sets.{values_set}
 

@@ -1,6 +1,5 @@
 -- The entry that was asked for can be called.
 use Rattle.std.proofs.Common.{◌≡◌, ℕ, List, [], Option, Some, Result, Ok, refl, ◌∙◌, subst}
-use Rattle.asl_bits.specs.declared.TheConstants.{WIDTH_LIMIT}
 use Rattle.asl_rules.specs.declarations.Declarations.{globals_rule}
 use Rattle.asl_rules.specs.runs.Evaluation.{initial_globals}
 use Rattle.asl_rules.specs.private.Grown.{AreGrown}
@@ -13,7 +12,6 @@ use Rattle.asl_rules.specs.declarations.Uses.{cycles_rule}
 use Rattle.asl_rules.specs.declared.entry.Entry.{Entry}
 use Rattle.asl_rules.specs.declared.entry.Entry.TheVariants as entry
 use Rattle.asl_rules.proofs.basics.Inversions.{ok_ok, bind_ok, then_ok}
-use Rattle.asl_rules.proofs.verdict.SomeTests.{some_tests}
 use Rattle.asl_laws.proofs.soundness.Soundness.{soundness}
 use Rattle.asl_laws.proofs.soundness.SoundnessEntry.{main_call}
 use Rattle.asl_laws.proofs.soundness.SoundnessFacts.{facts_of}
@@ -45,7 +43,3 @@ main_callable t r c grown a ok main id is =
     let s = soundness t r.right c.decls a f grown in
     let call = main_call t c.decls a f id (initial_globals (environment t c.decls)) s.0.initial is (verdict_asked t c.asked c.decls a ok ∙ main) in
     record { accepted = a; is = ok; signature = call.signature; called = call.is; no_params = call.no_params; args_belong = call.args_belong }
-
--- right tests for the width limit of the code
-pub some_suits : (t : Tests) × Suits t
-some_suits = let s = some_tests WIDTH_LIMIT in (s.tests, record { right = s.right; limit = s.within })

@@ -2,7 +2,7 @@
 use Rattle.std.proofs.Common.{◌≡◌, ℕ, zero, suc, ◌<◌, Bool, true, false, List, [], ◌∷◌, ◌++◌, length, take, drop, map, refl, sym, ap, ◌∙◌, arith}
 use Rattle.std.proofs.lemmas.List.{take-append-drop}
 use Rattle.asl_value.specs.declared.value.Value.{Value}
-use Rattle.asl_machine.specs.Storage.{given_one, given, taken_one, taken}
+use Rattle.asl_machine.specs.Storage.{given_one, given, taken}
 use Rattle.asl_machine.specs.declared.memory.GlobalVar.{GlobalVar}
 
 -- ---- all were exchanged

@@ -1,24 +1,29 @@
 -- Where a run of typed trees ended, the run of the program's own trees ended so, in a state that differs in names and types alone; and where the first is
 -- given up, what is promised of the second holds.
-use Rattle.std.proofs.Common.{◌≡◌, ℕ, ◌-◌, List, [], ◌∷◌, Option, Some, None, refl, sym, ap, ◌∙◌, subst}
+use Rattle.std.proofs.Common.{◌≡◌, ℕ, ◌-◌, ◌≤◌, List, [], ◌∷◌, Option, Some, None, refl, sym, ap, ◌∙◌, subst}
 use Rattle.std.specs.Prelude.{slice_get}
 use Rattle.asl_syn.specs.declared.token.Span.{Span}
 use Rattle.asl_rules.specs.runs.Cuts.{cuts, cuttings}
 use Rattle.asl_rules.specs.private.Erasure.{values_of, erased, erased_outcome}
 use Rattle.asl_rules.specs.runs.Forms.{Keeps, returned, at_end}
 use Rattle.asl_rules.specs.runs.Machines.{GivenUp, most_open, run_of, text_of_run}
-use Rattle.asl_rules.specs.runs.Plans.{Meter, starting, Outcome, Done, Thrown, Halt, End, final, Pure, Good, Bad, Ret, lift}
+use Rattle.asl_rules.specs.runs.Evaluation.{nodes, call_of}
+use Rattle.asl_rules.specs.runs.Plans.{Meter, starting, Outcome, Done, Thrown, Halt, End, final, meanings, Pure, Good, Bad, Ret, lift}
 use Rattle.asl_rules.specs.declarations.Programs.{Environment}
 use Rattle.asl_laws.specs.Soundness.{tree_run}
 use Rattle.asl_rules.specs.runs.StatementForms.{in_order}
 use Rattle.asl_rules.specs.runs.States.{Binding, Core, resting}
 use Rattle.asl_rules.specs.runs.Trees.{Tree, Act, TreeFunc}
-use Rattle.asl_rules.specs.private.TypedMeaning.{BareCore, TreeProgram, Runs, acts_of, entered, restored, formals_seen, result_seen, run_with, call_func, tree_call, tree_nodes, tree_meaning}
+use Rattle.asl_rules.specs.private.TypedMeaning.{BareCore, TreeProgram, Runs, acts_of, restored, formals_seen, result_seen, run_with, call_func, tree_call, tree_nodes, tree_meaning}
 use Rattle.asl_rules.specs.values.Values.{Value, Exit, Normal, Returned}
+use Rattle.asl_laws.proofs.runs.Budget.{run_after, grows}
+use Rattle.asl_laws.proofs.runs.Given.{kept, cuts_after}
 use Rattle.asl_laws.proofs.runs.GlobalsKept.{SameBut, Kept, AtRest}
 use Rattle.asl_laws.proofs.runs.PlansKeep.{EndsIn}
 use Rattle.asl_laws.proofs.runs.Quiet.{Quiet, given_up, carried}
 use Rattle.asl_machine.specs.Storage.{with_values}
+use Rattle.asl_machine.specs.Took.{Stepped}
+use Rattle.asl_machine.proofs.Ahead.{cuts_ahead}
 
 -- ---- a call from outside writes nothing before its first node
 
@@ -47,7 +52,7 @@ tree_call_quiet p id args c = func_quiet id (slice_get p.funcs id) args c
 
 -- ---- the same text
 
-final_same : {A : Type 0} (r : Outcome Core A) → final (erased_outcome r) ≡ final r
+pub final_same : {A : Type 0} (r : Outcome Core A) → final (erased_outcome r) ≡ final r
 final_same (Done x c h) = refl
 final_same (Thrown x c h) = refl
 final_same (Halt e c h) = refl
@@ -72,6 +77,31 @@ gives_up_same env p id args globals steps told u same w =
     carried (tree_text p id args (erased (resting globals)) told) (text_of_run env id args globals told) told u.told steps (steps - u.steps)
     (λ k. ap (λ r. (final r).told) (same (starting k told)) ∙ ap (λ h. h.told) (final_same (run_of env id args globals (starting k told))))
     (tree_gives_up p id args (erased (resting globals)) steps told u w)
+
+-- ---- the same steps
+
+-- a call leaves no more steps than it had
+pub fewer_left : (env : Environment) (id : ℕ) (args : List Value) (globals : List Binding) (steps : ℕ) (told : Option (List ℕ)) →
+    (final (run_of env id args globals (starting steps told))).steps ≤ steps
+unfolding run_of
+fewer_left env id args globals steps told =
+    (run_after (meanings (nodes env) most_open) (grows (nodes env) most_open) (call_of env id args (resting globals)) (starting steps told)).steps
+
+-- where a run of typed trees is given up, no step was given back, and the program's own run leaves no more
+pub stepped_same : (env : Environment) (p : TreeProgram) (id : ℕ) (args : List Value) (globals : List Binding) (steps : ℕ) (told : Option (List ℕ)) (u : Meter) →
+    ((h : Meter) → tree_run p id args (erased (resting globals)) h ≡ erased_outcome (run_of env id args globals h)) →
+    cuts (tree_meaning p most_open) (cuttings (tree_nodes p) most_open) (tree_call p id args (erased (resting globals))) (starting steps told) u →
+    Stepped steps u.steps (final (run_of env id args globals (starting steps told)))
+stepped_same env p id args globals steps told u same w =
+    let n = tree_nodes p in
+    let q = tree_call p id args (erased (resting globals)) in
+    let a = cuts_after (tree_meaning p most_open) (cuttings n most_open) (kept n most_open) q (starting steps told) u w in
+    record {
+      fewer = a.steps;
+      no_more =
+          subst (λ (h : Meter). h.steps ≤ u.steps) (ap final (same (starting steps told)) ∙ final_same (run_of env id args globals (starting steps told)))
+          (cuts_ahead n most_open q (starting steps told) u w);
+    }
 
 -- ---- how it ends
 

@@ -1,20 +1,20 @@
 -- A call of the typed trees of a sealed program says how the program's own call ends.
 use mathlib.Core.HLevel.{⊥_prop}
-use Rattle.std.proofs.Common.{◌≡◌, ℕ, ◌-◌, false, List, [], ◌∷◌, ◌++◌, Option, Some, None, Result, Ok, Err, refl, sym, ap, ◌∙◌, subst, map, length, suc, arith}
+use Rattle.std.proofs.Common.{◌≡◌, ℕ, ◌-◌, ◌≤◌, false, List, [], ◌∷◌, Option, Some, Result, Ok, Err, refl, sym, ap, ◌∙◌, subst, map, length, suc, arith}
 use Rattle.std.proofs.Math.Logic.{∥∥₁_elim, ∥∥₁_map, ∥∥₁_prop}
-use Rattle.std.specs.Prelude.{option_map, reverse, slice_get, OnOk}
+use Rattle.std.specs.Prelude.{option_map, slice_get, OnOk}
 use Rattle.asl_bits.specs.declared.TheConstants.{WIDTH_LIMIT}
 use Rattle.asl_rules.specs.private.Agreement.{types_in, no_atoms, GlobalsMatch}
 use Rattle.asl_rules.specs.private.Belonging.{Belong}
-use Rattle.asl_rules.specs.runs.Cuts.{cuts, cuttings}
+use Rattle.asl_rules.specs.runs.Cuts.{cuts}
 use Rattle.asl_rules.specs.private.Erasure.{values_of, erased, erased_outcome}
-use Rattle.asl_rules.specs.runs.Machines.{GivenUp, most_open, run_of, text_of_run}
-use Rattle.asl_rules.specs.runs.Plans.{Meter, Mistake, starting, Outcome, Done, Thrown, Halt, Faulted, Stuck}
+use Rattle.asl_rules.specs.runs.Machines.{GivenUp, most_open, run_of}
+use Rattle.asl_rules.specs.runs.Plans.{Meter, Mistake, starting, Outcome, Done, Thrown, Halt, Faulted, Stuck, final}
 use Rattle.asl_rules.specs.declarations.Programs.{Accepted, accepted, verdict, environment}
 use Rattle.asl_laws.specs.Soundness.{NotStuck, KeepsGlobals, IsCall, Soundness, SameMeaning, trees_of, tree_run}
 use Rattle.asl_rules.specs.runs.States.{Binding, Core, resting}
 use Rattle.asl_rules.specs.Tests.{Tests}
-use Rattle.asl_rules.specs.private.TypedMeaning.{BareCore, TreeProgram, tree_call, tree_nodes, tree_meaning}
+use Rattle.asl_rules.specs.private.TypedMeaning.{BareCore, tree_call}
 use Rattle.asl_rules.specs.values.Values as rules
 use Rattle.asl_laws.proofs.runs.GlobalsKept.{SameBut, Kept, AtRest, run_of_keeps, run_of_rests}
 use Rattle.asl_rules.proofs.basics.Inversions.{ok_ok}
@@ -36,8 +36,9 @@ use Rattle.asl_branches.specs.Meets.{Meets, Runs}
 use Rattle.asl_branches.specs.View.{mistake_of, core_of, meter_of, program_of, meaning_of, cutting_of}
 use Rattle.asl_machine.specs.Stages.{CallMeets, Halted, IfRan}
 use Rattle.asl_machine.specs.Storage.{with_values}
+use Rattle.asl_machine.specs.Took.{Stepped}
 use Rattle.asl_machine.specs.Work.{initial_of, globals_with, IsHeld, HoldStorage, IsCallable, run_over, text_over}
-use Rattle.asl_machine.proofs.SameEnds.{done_same, thrown_same, halt_same, gives_up_same}
+use Rattle.asl_machine.proofs.SameEnds.{final_same, fewer_left, stepped_same, done_same, thrown_same, halt_same, gives_up_same}
 use Rattle.asl_machine.proofs.Sets.{outcome_set}
 
 -- ---- what is known of a program and its call
@@ -157,15 +158,33 @@ begun_core t c run values b n =
 begun_meter : (run : Run) (values : List Value) (told : Option (List ℕ)) → Begins run values → meter_of run told ≡ starting run.steps told
 begun_meter run values told b = rw b.text refl
 
+-- an answer of a call of the typed trees, with the run and the told text after it, over these values of storage
+abbrev MetOver : Tests → Sealed → List TreeFunc → ℕ → List rules.Value → List Value → ℕ → Option (List ℕ) → Run → Option (List ℕ) →
+    Result (Option Value) Stop → Type 0
+MetOver t c fs id args values steps told ended told1 result =
+    let start : BareCore = erased (resting (globals_with t c values)) in
+    Meets (option_map value_of) result (core_of ended) (meter_of ended told1) (tree_run (program_of fs) id args start (starting steps told))
+    (cuts (meaning_of fs most_open) (cutting_of fs most_open) (tree_call (program_of fs) id args start) (starting steps told))
+
+met_over : (t : Tests) (c : Sealed) (fs : List TreeFunc) (id : ℕ) (args : List rules.Value) (values : List Value) →
+    length (map value_of values) ≡ length (initial_of t c) → (begun ended : Run) → Begins begun values → (told told1 : Option (List ℕ)) (result : Result (Option Value) Stop) →
+    Runs (option_map value_of) result fs most_open (tree_call (program_of fs) id args) begun told ended told1 →
+    MetOver t c fs id args values begun.steps told ended told1 result
+met_over t c fs id args values n begun ended b told told1 result met =
+    let p = program_of fs in
+    let met_at : BareCore → Meter → Type 0 =
+    λ z h. Meets (option_map value_of) result (core_of ended) (meter_of ended told1) (tree_run p id args z h)
+    (cuts (meaning_of fs most_open) (cutting_of fs most_open) (tree_call p id args z) h) in
+    subst (met_at (erased (resting (globals_with t c values)))) (begun_meter begun values told b)
+    (subst (λ z. met_at z (meter_of begun told)) (begun_core t c begun values b n) met)
+
 -- over the values of storage, a call of the typed trees ends as the program's does
 pub call_meets : (t : Tests) → Suits t → (c : Sealed) (fs : List TreeFunc) (gs : List Global) → IsSealed c.decls c.asked c.main fs gs → (id : ℕ) (args : List rules.Value) (values : List Value) → HoldStorage c values → IsCallable t c id args →
     length (map value_of values) ≡ length (initial_of t c) → (begun ended : Run) → Begins begun values → (after : List Value) → after ≡ ended.globals.items → (told told1 : Option (List ℕ)) (result : Result (Option Value) Stop) →
     Runs (option_map value_of) result fs most_open (tree_call (program_of fs) id args) begun told ended told1 →
     CallMeets result (globals_with t c after) (meter_of ended told1) (run_over t c id args values begun.steps told) (GivenUp (text_over t c id args values told) told told1 begun.steps (begun.steps - ended.steps))
 call_meets t r c fs gs sealed id args values held call n begun ended b after same told told1 result met =
-    ends result
-    (subst (λ (h : Meter). Meets (option_map value_of) result (core_of ended) (meter_of ended told1) (tree_run (program_of fs) id args start h) (cuts (meaning_of fs most_open) (cutting_of fs most_open) (tree_call (program_of fs) id args start) h)) (begun_meter begun values told b)
-    (subst (λ (z : BareCore). Meets (option_map value_of) result (core_of ended) (meter_of ended told1) (tree_run (program_of fs) id args z (meter_of begun told)) (cuts (meaning_of fs most_open) (cutting_of fs most_open) (tree_call (program_of fs) id args z) (meter_of begun told))) (begun_core t c begun values b n) met))
+    ends result (met_over t c fs id args values n begun ended b told told1 result met)
   where
     start : BareCore
     start = erased (resting (globals_with t c values))
@@ -201,6 +220,37 @@ call_meets t r c fs gs sealed id args values held call n begun ended b after sam
     ends (Err (stop.Fault code span)) e = subst (λ bs. Halted bs h1 o code span) globals_are (halted (initial_of t c) o code span bare h1 kept (sym (is_same (starting begun.steps told)) ∙ e))
     ends (Err (stop.Stuck mistake span)) e =
         stuck (initial_of t c) o (mistake_of mistake) span bare h1 kept (sym (is_same (starting begun.steps told)) ∙ e) (λ core is. stuck_never t r c fs gs sealed id args values held call (starting begun.steps told) (mistake_of mistake) span core h1 is)
+
+-- it gives no step back, nor takes more than the whole call of the program takes
+pub call_steps : (t : Tests) → Suits t → (c : Sealed) (fs : List TreeFunc) (gs : List Global) → IsSealed c.decls c.asked c.main fs gs →
+    (id : ℕ) (args : List rules.Value) (values : List Value) → HoldStorage c values → IsCallable t c id args →
+    length (map value_of values) ≡ length (initial_of t c) → (begun ended : Run) → Begins begun values → (told told1 : Option (List ℕ)) (result : Result (Option Value) Stop) →
+    Runs (option_map value_of) result fs most_open (tree_call (program_of fs) id args) begun told ended told1 →
+    Stepped begun.steps ended.steps (final (run_over t c id args values begun.steps told))
+call_steps t r c fs gs sealed id args values held call n begun ended b told told1 result met =
+    by result (met_over t c fs id args values n begun ended b told told1 result met)
+  where
+    o : Outcome Core (Option rules.Value)
+    o = run_over t c id args values begun.steps told
+
+    is_same : Same t c fs id args values
+    is_same = same_run t r c fs gs sealed id args values held call
+
+    ran : (z : Outcome BareCore (Option rules.Value)) → tree_run (program_of fs) id args (erased (resting (globals_with t c values))) (starting begun.steps told) ≡ z →
+        (final z).steps ≡ ended.steps → Stepped begun.steps ended.steps (final o)
+    ran z e same =
+        let left : (final o).steps ≡ ended.steps =
+        ap (λ h. h.steps) (sym (final_same o) ∙ ap final (sym (is_same (starting begun.steps told)) ∙ e)) ∙ same in
+        let fewer : (final o).steps ≤ begun.steps = fewer_left (environment t c.decls) id args (globals_with t c values) begun.steps told in
+        record { fewer = omega (arith, left, fewer); no_more = omega (arith, left) }
+
+    by : (result : Result (Option Value) Stop) → MetOver t c fs id args values begun.steps told ended told1 result → Stepped begun.steps ended.steps (final o)
+    by (Ok x) e = ran _ e refl
+    by (Err stop.NoMemory) w = stepped_same (environment t c.decls) (program_of fs) id args (globals_with t c values) begun.steps told (meter_of ended told1) is_same w
+    by (Err stop.SinkFault) w = stepped_same (environment t c.decls) (program_of fs) id args (globals_with t c values) begun.steps told (meter_of ended told1) is_same w
+    by (Err (stop.Thrown x)) e = ran _ e refl
+    by (Err (stop.Fault code span)) e = ran _ e refl
+    by (Err (stop.Stuck mistake span)) e = ran _ e refl
 
 -- ---- the storage after it
 

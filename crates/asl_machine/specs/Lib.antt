@@ -1,4 +1,5 @@
 pub mod Storage
 pub mod Stages
+pub mod Took
 pub mod Work
 pub mod private

@@ -17,7 +17,7 @@ use Rattle.asl_types.specs.Suits.{Suits}
 use Rattle.asl_value.specs.View.{value_of}
 use Rattle.asl_value.specs.declared.value.Value.{Value}
 use Rattle.asl_value.specs.contracts.value.Value as values
-use Rattle.asl_machine.specs.Stages.{Ends, OnRun, OnReady}
+use Rattle.asl_machine.specs.Stages.{Ends}
 use Rattle.asl_machine.specs.Storage.{with_values}
 use Rattle.asl_machine.specs.declared.stage.Stage.{Stage}
 use Rattle.asl_machine.specs.declared.stage.Stage.TheVariants as stage
@@ -69,6 +69,10 @@ pub record IsNew (w : Work) (checked : Sealed) (steps : ℕ) : Type 0 where
 abbrev pub names_of_vars : List Binding → List (List ℕ)
 names_of_vars [] = []
 names_of_vars (b ∷ bs) = if b.is_mutable then b.name ∷ names_of_vars bs else names_of_vars bs
+
+-- there is one for each global variable of the program, in source order
+abbrev pub AreNamed : Sealed → List GlobalVar → Type 0
+AreNamed c vars = (t : Tests) → Suits t → map (λ (v : GlobalVar). v.name) vars ≡ names_of_vars (initial_of t c)
 
 -- the marks, the values and the variables are those of such bindings
 pub record IsOf (init : List Binding) (marks : List Bool) (values : List Value) (vars : List GlobalVar) : Type 0 where

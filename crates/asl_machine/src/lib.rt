@@ -3,6 +3,7 @@
 
 mod machine;
 mod memory;
+mod noted;
 mod runs;
 mod stage;
 

@@ -1,13 +1,15 @@
 //! A machine that runs a checked program.
-ghost use Rattle.std.specs.Prelude.{◌≡◌, ◌-◌, OnErr, IfOk, map};
+ghost use Rattle.std.specs.Prelude.{◌≡◌, ◌-◌, ◌≤◌, [], Some, OnErr, IfOk, map};
 ghost use Rattle.std.specs.Option.{option_copied};
 ghost use Rattle.asl_rules.specs.runs.Machines.{GivenUp};
+ghost use Rattle.asl_rules.specs.runs.Plans.{final};
 ghost use Rattle.asl_rules.specs.Tests.{Tests};
 ghost use Rattle.asl_types.specs.Suits.{Suits};
 ghost use Rattle.asl_value.specs.View.{value_of};
 ghost use Rattle.asl_machine.specs.Stages.{OnReady, OnRun, OnEnded, answer_of, returned_by, uncaught_by, Counted};
 ghost use Rattle.asl_machine.specs.Storage.{var_of, vars_in};
-ghost use Rattle.asl_machine.specs.Work.{IsCallable, IsNew, EndsWith, globals_of, run_with, text_with};
+ghost use Rattle.asl_machine.specs.Took.{Took};
+ghost use Rattle.asl_machine.specs.Work.{AreNamed, IsCallable, IsNew, EndsWith, globals_of, run_with, text_with};
 
 use crate::memory::{GlobalVar, Memory, begin};
 use crate::runs::run_checked;
@@ -27,7 +29,7 @@ pub struct Machine {
 }
 
 impl Model for Machine {
-    ghost use Rattle.asl_machine.specs.private.Memory.{arranged, held, storage_of};
+    ghost use Rattle.asl_machine.specs.private.Memory.{arranged, held, named, storage_of};
     ghost use Rattle.asl_machine.specs.Stages.{OnReady, OnRun};
     ghost use Rattle.asl_machine.specs.Work.{Work, work_code};
 
@@ -37,7 +39,7 @@ impl Model for Machine {
 
     ghost view = { λ m. record { checked = m.checked; storage = storage_of m.memory; steps = m.memory.steps; text_open = m.memory.text_open; stage = m.stage } };
 
-    ghost invariant = { λ m. OnRun m.stage (arranged m.checked m.memory) × OnReady m.stage (held m.checked m.memory) };
+    ghost invariant = { λ m. OnRun m.stage (arranged m.checked m.memory) × OnReady m.stage (held m.checked m.memory) × named m.checked m.memory };
 }
 
 impl Machine {
@@ -56,6 +58,11 @@ impl Machine {
     /// Calls a subprogram that has no parameters, with arguments in the types of its formals. The printed text goes
     /// to the sink as it comes. After any answer but `Returned` the machine has ended: every later call gives the same
     /// answer and writes nothing. After `Returned` the globals and the steps that are left go on.
+    ///
+    /// Whatever it answers, a front of the call's text was written behind what the sink held, and `text_open` says whether
+    /// that is open. No step is given back, and no more are taken than the whole call takes. So where the run was given up,
+    /// they fell by the nodes that were entered: by so many that what was written is no longer than the text of a call
+    /// with so many steps, and no shorter than that with one less.
     pub fn call<K: Sink>(
         &mut self,
         alloc: Global,
@@ -74,6 +81,12 @@ impl Machine {
             (GivenUp (text_with t self.old sub (map value_of args.items) (K.written sink.old))
             (K.written sink.old) (K.written sink.new)
             self.old.steps (self.old.steps - self.new.steps))) }
+        ensures text_open { (t : Tests) → Suits t → OnReady self.old.stage
+            (Took (text_with t self.old sub (map value_of args.items) (Some []) self.old.steps)
+            (K.written sink.old) (K.written sink.new) self.new.text_open) }
+        ensures fewer { self.new.steps ≤ self.old.steps }
+        ensures no_more { (t : Tests) → Suits t → OnReady self.old.stage
+            ((final (run_with t self.old sub (map value_of args.items) (K.written sink.old))).steps ≤ self.new.steps) }
         ensures again { OnEnded self.old.stage
             ((self.new ≡ self.old) × (K.written sink.new ≡ K.written sink.old)) }
         ensures counts { OnReady self.old.stage
@@ -96,9 +109,11 @@ impl Machine {
         &self.checked
     }
 
-    /// The global variables, in source order. After a run that was given up nothing is said of them.
+    /// The global variables: one for each that the program declares, in source order, whatever a call answered. After a run
+    /// that was given up nothing is said of their values.
     pub fn globals(&self) -> &[GlobalVar]
-        ensures { (t : Tests) → Suits t → OnRun self.now.stage (map var_of result.now ≡ vars_in (globals_of t self.now)) }
+        ensures names { AreNamed self.now.checked result.now }
+        ensures values { (t : Tests) → Suits t → OnRun self.now.stage (map var_of result.now ≡ vars_in (globals_of t self.now)) }
     {
         self.memory.vars.as_slice()
     }
@@ -110,8 +125,8 @@ impl Machine {
         self.memory.steps
     }
 
-    /// Whether what the last call that ran printed isn't empty and doesn't end in a line feed. After a run that was
-    /// given up nothing is said.
+    /// Whether what the last call that ran printed isn't empty and doesn't end in a line feed. Where the sink refused a write,
+    /// what it took of the text decides.
     pub fn text_open(&self) -> bool
         ensures { result ≡ self.now.text_open }
     {

@@ -1,6 +1,6 @@
 //! The values of global storage between two calls and in one, and the steps that are left.
 ghost use Rattle.std.specs.Prelude.{◌≡◌, false, List, [], ◌∷◌, ◌++◌, take, drop, IfOk, OnOk};
-ghost use Rattle.asl_machine.specs.private.Memory.{arranged, held, storage_of};
+ghost use Rattle.asl_machine.specs.private.Memory.{arranged, held, named, storage_of};
 ghost use Rattle.asl_machine.specs.Storage.{given, given_one, taken, taken_one, marks_of, values_in, vars_from};
 ghost use Rattle.asl_machine.specs.Work.{IsInitial};
 
@@ -83,10 +83,10 @@ pub(crate) fn vars(alloc: Global, globals: &[Storage]) -> Result<Vec<GlobalVar>,
 }
 
 /// The memory of a machine before its first call.
-
 pub(crate) fn begin(alloc: Global, checked: &Checked, steps: u64) -> Result<Memory, AllocError>
     ensures arranged { IfOk result (λ m. arranged checked.now m) }
     ensures held { IfOk result (λ m. held checked.now m) }
+    ensures named { IfOk result (λ m. named checked.now m) }
     ensures globals { IfOk result (λ m. IsInitial checked.now (storage_of m)) }
     ensures steps { IfOk result (λ m. m.steps ≡ steps) }
     ensures text { IfOk result (λ m. m.text_open ≡ false) }
@@ -165,13 +165,13 @@ pub(crate) fn enter(alloc: Global, memory: &mut Memory) -> Run
     }
 }
 
-/// After a run: the values of storage are moved back.
-pub(crate) fn leave(memory: &mut Memory, run: &mut Run)
+/// After a run, which left text open or not: the values of storage are moved back.
+pub(crate) fn leave(memory: &mut Memory, run: &mut Run, text_open: bool)
     ensures values { memory.new.values.items ≡ given memory.old.marks.items run.old.globals.items memory.old.vars.items }
     ensures vars { memory.new.vars.items ≡ taken memory.old.marks.items run.old.globals.items memory.old.vars.items }
     ensures marks { memory.new.marks.items ≡ memory.old.marks.items }
     ensures steps { memory.new.steps ≡ run.old.steps }
-    ensures text { memory.new.text_open ≡ run.old.text_open }
+    ensures text { memory.new.text_open ≡ text_open }
 {
     mem::swap(&mut memory.values, &mut run.globals);
     exchange(
@@ -180,5 +180,5 @@ pub(crate) fn leave(memory: &mut Memory, run: &mut Run)
         &mut memory.vars,
     );
     memory.steps = run.steps;
-    memory.text_open = run.text_open;
+    memory.text_open = text_open;
 }

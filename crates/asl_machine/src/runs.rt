@@ -1,21 +1,25 @@
 //! One call of a checked program.
-ghost use Rattle.std.specs.Prelude.{◌≡◌, ◌-◌, map, OnOk};
+ghost use Rattle.std.specs.Prelude.{◌≡◌, ◌-◌, [], Some, map, OnOk};
 ghost use Rattle.asl_rules.specs.runs.Machines.{GivenUp};
+ghost use Rattle.asl_rules.specs.runs.Plans.{final};
 ghost use Rattle.asl_rules.specs.Tests.{Tests};
 ghost use Rattle.asl_types.specs.Suits.{Suits};
 ghost use Rattle.asl_value.specs.View.{value_of};
 ghost use Rattle.asl_branches.specs.Meets.{Counts};
-ghost use Rattle.asl_machine.specs.private.Memory.{arranged, held, storage_of};
+ghost use Rattle.asl_machine.specs.private.Memory.{arranged, held, named, storage_of};
 ghost use Rattle.asl_machine.specs.Stages.{Ends, CallMeets, IfRan, OnReady, OnRun, OnRefused, Counted};
+ghost use Rattle.asl_machine.specs.Took.{Took, Stepped};
 ghost use Rattle.asl_machine.specs.Work.{IsCallable, globals_with, run_over, text_over};
 
 use crate::memory::{Memory, enter, leave};
+use crate::noted::call_noted;
 use crate::stage::{RunRefused, Stage};
 use asl_io::Sink;
-use asl_run::{Stop, call};
+use asl_run::Stop;
 use asl_tree::{Checked, SubId};
 use asl_value::Value;
 use std::alloc::Global;
+use std::marker::Brand;
 
 /// One call, over the memory between two calls.
 pub(crate) fn run_checked<K: Sink>(
@@ -37,6 +41,12 @@ pub(crate) fn run_checked<K: Sink>(
         (GivenUp (text_over t checked.now sub (map value_of args.now) (storage_of memory.old) (K.written sink.old))
         (K.written sink.old) (K.written sink.new)
         memory.old.steps (memory.old.steps - memory.new.steps)) }
+    ensures took { (t : Tests) → Suits t →
+        Took (text_over t checked.now sub (map value_of args.now) (storage_of memory.old) (Some []) memory.old.steps)
+        (K.written sink.old) (K.written sink.new) memory.new.text_open }
+    ensures stepped { (t : Tests) → Suits t → Stepped memory.old.steps memory.new.steps
+        (final (run_over t checked.now sub (map value_of args.now) (storage_of memory.old) memory.old.steps (K.written sink.old))) }
+    ensures named { named checked.now memory.new }
     ensures arranged { OnRun result (arranged checked.now memory.new) }
     ensures held { OnReady result (held checked.now memory.new) }
     ensures counts { Counted result (K.faults sink.old) (K.faults sink.new) }
@@ -71,6 +81,12 @@ fn run_trees<K: Sink>(
         (GivenUp (text_over t checked.now sub (map value_of args.now) (storage_of memory.old) (K.written sink.old))
         (K.written sink.old) (K.written sink.new)
         memory.old.steps (memory.old.steps - memory.new.steps)) }
+    ensures took { (t : Tests) → Suits t →
+        Took (text_over t checked.now sub (map value_of args.now) (storage_of memory.old) (Some []) memory.old.steps)
+        (K.written sink.old) (K.written sink.new) memory.new.text_open }
+    ensures stepped { (t : Tests) → Suits t → Stepped memory.old.steps memory.new.steps
+        (final (run_over t checked.now sub (map value_of args.now) (storage_of memory.old) memory.old.steps (K.written sink.old))) }
+    ensures named { named checked.now memory.new }
     ensures arranged { IfRan result (arranged checked.now memory.new) }
     ensures held { OnOk result (held checked.now memory.new) }
     ensures counts { Counts result (K.faults sink.old) (K.faults sink.new) }
@@ -78,7 +94,14 @@ fn run_trees<K: Sink>(
 {
     let parts = checked.parts();
     let mut run = enter(alloc, memory);
-    let answer = call(alloc, &parts.subs, &mut run, sink, sub.number(), args);
-    leave(memory, &mut run);
+    let (answer, text_open, _sink) = call_noted::<&mut K, Brand>(
+        alloc,
+        &parts.subs,
+        &mut run,
+        sink,
+        sub.number(),
+        args,
+    );
+    leave(memory, &mut run, text_open);
     answer
 }

@@ -33,12 +33,12 @@ use Rattle.asl_tree.specs.Acts.{func_of, all_funcs}
 use Rattle.asl_tree.specs.Sealed.{Sealed, IsMade, IsSealed}
 use Rattle.asl_tree.specs.declared.act.TreeFunc.{TreeFunc}
 use Rattle.asl_tree.specs.declared.checked.Global.{Global}
+use Rattle.asl_tree.proofs.Asked.{some_suits}
 use Rattle.asl_value.specs.View.{value_of}
 use Rattle.asl_value.specs.declared.value.Value.{Value as Given}
 use Rattle.asl_machine.specs.Work.{IsCallable}
-use Rattle.asl_machine.proofs.Entries.{some_suits}
 use Rattle.asl_words.specs.private.Runs.{IsWord}
-use Rattle.asl_words.proofs.Formals.{DecodeFormal, decode_formal, decode_there, word_width}
+use Rattle.asl_words.proofs.Formals.{DecodeFormal, decode_formal, word_width}
 
 -- ---- a place of a list
 
@@ -62,12 +62,6 @@ accepted_in c fs gs m = accepted c.asked c.main m.signatures (all_funcs fs) m.na
 made_formal : (t : Tests) → Suits t → (c : Sealed) (fs : List TreeFunc) (gs : List Global) (m : IsMade t c.decls c.asked c.main fs gs) → c.asked ≡ Decode → (id : ℕ) → c.main ≡ Some id → (n : ℕ) → DecodeFormal (accepted_in c fs gs m) id (bits_of 32 n)
 made_formal t u c fs gs m asked id is n =
     decode_formal t u.right c.decls (accepted_in c fs gs m) m.grown (subst (λ e. verdict e c.decls t ≡ Ok (accepted_in c fs gs m)) asked m.accepts) asked id is (bits_of 32 n) (word_width n)
-
--- it has the entry
-pub entry_there : (c : Sealed) (fs : List TreeFunc) (gs : List Global) → IsSealed c.decls c.asked c.main fs gs → c.asked ≡ Decode → c.main ≡ None → ⊥
-entry_there c fs gs sealed asked none =
-    let s = some_suits in
-    ∥∥₁_elim (sealed s.0 s.1) ⊥_prop (λ m. decode_there s.0 c.decls (accepted_in c fs gs m) (facts_of s.0 c.asked c.decls (accepted_in c fs gs m) m.accepts) asked none)
 
 -- a tree for it
 pub tree_there : (c : Sealed) (fs : List TreeFunc) (gs : List Global) → IsSealed c.decls c.asked c.main fs gs → c.asked ≡ Decode → (id : ℕ) → c.main ≡ Some id → slice_get fs id ≡ None → ⊥

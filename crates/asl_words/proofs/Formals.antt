@@ -94,15 +94,5 @@ decode_formal t right ds a grown ok asked id is bs n =
       belongs = one.belongs;
     }
 
--- a program that was accepted with this entry has it
-found_there : (o : Option ℕ) → entry_found o ≡ Ok None → ⊥
-found_there None h = err_ok (fault_of T24 origin) None h
-found_there (Some n) h = some_none n (ok_ok (Some n) None h)
-
-pub decode_there : (t : Tests) (ds : List Decl) (a : Accepted) → Facts t ds a → a.asked ≡ entry.Decode → a.main ≡ None → ⊥
-decode_there t ds a f asked none =
-    let with_entry : entry_rule entry.Decode (signatures f.heads) ≡ Ok f.main = subst (λ e. entry_rule e (signatures f.heads) ≡ Ok f.main) (ap (λ (z : Accepted). z.asked) f.is ∙ asked) f.entry in
-    found_there (entry_from is_decode 0 (signatures f.heads)) (with_entry ∙ ap Ok (ap (λ (z : Accepted). z.main) f.is ∙ none))
-
 pub word_width : (n : ℕ) → length (bits_of 32 n) ≡ 32
 word_width n = length-bits_of 32 n

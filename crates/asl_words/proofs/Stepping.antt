@@ -102,6 +102,13 @@ last_ends (stage.Uncaught x) globals h next r went e = ap (behind_word next) e
 last_ends (stage.Fault code span) globals h next r went e = ap (behind_word next) e.is ∙ ap (λ gs. WordHalted (Faulted code span) gs h) e.globals_are
 last_ends (stage.Refused x) globals h next r went e = tt
 
+-- what was taken of a line that was refused, and of one that wasn't begun
+pub part_taken : (old new : Option (List ℕ)) (bytes : List ℕ) → TakesPrefix old new bytes → Part old new bytes
+part_taken old new bytes k = record { taken = k.0; rest = k.1; is = k.3; whole = k.2 }
+
+pub none_taken : (old : Option (List ℕ)) (bytes : List ℕ) → Part old old bytes
+none_taken old bytes = record { taken = []; rest = bytes; is = (same_text old).is; whole = refl }
+
 -- ---- words on a machine
 
 module _ (t : Tests) (id : ℕ) where
@@ -142,7 +149,7 @@ module _ (t : Tests) (id : ℕ) where
   -- a line that was refused
   pub refused_line : (w : Work) → w.checked.main ≡ Some id → (n : ℕ) (old new : Option (List ℕ)) → TakesPrefix old new (word_line w.text_open n) → Between old new (words_final (words_with t w (n ∷ []) old)).told
   refused_line w main n old new k =
-      let part : Part old new (word_line w.text_open n) = record { taken = k.0; rest = k.1; is = k.3; whole = k.2 } in
+      let part = part_taken old new (word_line w.text_open n) k in
       before_line w main n old new (taken_after old new (word_line w.text_open n) part) (taken_before old new (word_line w.text_open n) part)
 
   -- a line that wasn't begun
@@ -237,13 +244,17 @@ module _ (old now : Work) (id : ℕ) (main : old.checked.main ≡ Some id) (same
       subst (λ ns. Between told0 new (words_final (words_with t old ns told0)).told) split
       (between t id old now main same told0 told (take i words) ready (leaves t u) new (get_or words i 0) (drop (i + 1) words) (h t u))
 
-  pub refused_there : (e : RunRefused) (after : Work) → (after.stage ≡ stage.Refused e) ⊎ (after ≡ now) → (after.stage ≡ stage.Refused e) ⊎ ((t : Tests) → Suits t → StandsBefore t old after words told0)
-  refused_there e after (inl h) = inl h
-  refused_there e after (inr h) = inr (λ t u. subst (λ w. StandsBefore t old w words told0) (sym h) (record {
+  pub refused_there : (e : RunRefused) (after : Work) (told1 : Option (List ℕ)) →
+      (after.stage ≡ stage.Refused e) ⊎ ((after ≡ now) × Part told told1 (word_line now.text_open (get_or words i 0))) →
+      (after.stage ≡ stage.Refused e) ⊎ ((t : Tests) → Suits t → StandsBefore t old after words told0 told1)
+  refused_there e after told1 (inl h) = inl h
+  refused_there e after told1 (inr h) = inr (λ t u. subst (λ w. StandsBefore t old w words told0 told1) (sym h.0) (record {
     done = take i words;
-    rest = drop i words;
-    is = sym (take-append-drop i words);
+    word = get_or words i 0;
+    rest = drop (i + 1) words;
+    is = sym split;
     ready = ready;
     text = told;
     leaves = leaves t u;
+    line = h.1;
   }))

@@ -5,7 +5,7 @@ ghost use Rattle.asl_rules.specs.runs.Machines.{run_of};
 ghost use Rattle.asl_rules.specs.runs.Plans.{starting};
 ghost use Rattle.asl_rules.specs.declarations.Programs.{environment};
 ghost use Rattle.asl_rules.specs.Tests.{Tests};
-ghost use Rattle.asl_rules.specs.runs.Told.{appended};
+ghost use Rattle.asl_rules.specs.runs.Told.{appended, Part};
 ghost use Rattle.asl_rules.specs.runs.Words.{word_line, words_final};
 ghost use Rattle.asl_rules.specs.values.Values as given;
 ghost use Rattle.asl_rules.specs.runs.Words as rules;
@@ -44,7 +44,7 @@ pub enum ExecEnd {
 
 /// Calls the entry of a machine's program, which is `decode`, once for each word, in order, up to the first call that doesn't return.
 /// Before each call goes the line of its word. Where a line or an argument is refused, outside a call, the machine stands as before that
-/// word.
+/// word, and hasn't ended: the sink took the text of the words in front of it, and behind that a part of its line.
 pub fn exec<K: Sink>(
     alloc: Global,
     machine: &mut Machine,
@@ -61,7 +61,7 @@ pub fn exec<K: Sink>(
     ensures prefix { OnErr result ((t : Tests) → Suits t →
         Between (K.written sink.old) (K.written sink.new) (words_final (words_with t machine.old words.now (K.written sink.old))).told) }
     ensures refused { IfErr result (λ e. (machine.new.stage ≡ stage.Refused e)
-        ⊎ ((t : Tests) → Suits t → StandsBefore t machine.old machine.new words.now (K.written sink.old))) }
+        ⊎ ((t : Tests) → Suits t → StandsBefore t machine.old machine.new words.now (K.written sink.old) (K.written sink.new))) }
     ensures counts { MatchResult result
         (λ end. K.faults sink.new ≡ K.faults sink.old)
         (λ e. Counted (stage.Refused e) (K.faults sink.old) (K.faults sink.new)) }
@@ -83,15 +83,14 @@ fn entry_of(checked: &Checked) -> SubId
     requires { checked.now.asked ≡ Decode }
     ensures { checked.now.main ≡ Some result }
 {
-    // Its clause says that the rules accept the program, with an entry where one was asked for.
-    let _sealed = checked.parts();
     let Some(decode) = checked.entry() else {
         unreachable!();
     };
     decode
 }
 
-/// Writes the line of a word, and calls the subprogram with it.
+/// Writes the line of a word, and calls the subprogram with it. Refused before the call, the machine is as it was, and the sink took a
+/// part of the line.
 fn exec_word<K: Sink>(
     alloc: Global,
     machine: &mut Machine,
@@ -110,7 +109,8 @@ fn exec_word<K: Sink>(
         (starting machine.old.steps (appended (K.written sink.old) (word_line machine.old.text_open word))))) }
     ensures prefix { OnErr result ((t : Tests) → Suits t →
         Between (K.written sink.old) (K.written sink.new) (words_final (words_with t machine.old (word ∷ []) (K.written sink.old))).told) }
-    ensures refused { IfErr result (λ e. (machine.new.stage ≡ stage.Refused e) ⊎ (machine.new ≡ machine.old)) }
+    ensures refused { IfErr result (λ e. (machine.new.stage ≡ stage.Refused e)
+        ⊎ ((machine.new ≡ machine.old) × Part (K.written sink.old) (K.written sink.new) (word_line machine.old.text_open word))) }
     ensures counts { MatchResult result
         (λ o. K.faults sink.new ≡ K.faults sink.old)
         (λ e. Counted (stage.Refused e) (K.faults sink.old) (K.faults sink.new)) }

@@ -1,14 +1,14 @@
 -- What contracts see of a run over words: the entry of a machine's program is called once for each word, in order, up to the first call that doesn't return.
-use Rattle.std.specs.Prelude.{◌≡◌, ℕ, true, List, ◌++◌, Option, Some, None}
+use Rattle.std.specs.Prelude.{◌≡◌, ℕ, true, List, ◌∷◌, ◌++◌, Option, Some, None}
 use Rattle.asl_rules.specs.types.Closed.{Closed}
 use Rattle.asl_rules.specs.runs.Plans.{Meter, Faulted}
 use Rattle.asl_rules.specs.declarations.Programs.{Environment, environment}
 use Rattle.asl_rules.specs.runs.States.{Binding}
 use Rattle.asl_rules.specs.Tests.{Tests}
-use Rattle.asl_rules.specs.runs.Told.{Begins}
+use Rattle.asl_rules.specs.runs.Told.{Begins, Part}
 use Rattle.asl_rules.specs.values.Values as rules
 use Rattle.asl_rules.specs.types.Views.{viewed}
-use Rattle.asl_rules.specs.runs.Words.{WordsEnd, AllReturned, WordThrew, WordHalted, run_words, word_value}
+use Rattle.asl_rules.specs.runs.Words.{WordsEnd, AllReturned, WordThrew, WordHalted, run_words, word_line, word_value}
 use Rattle.asl_value.specs.View.{value_of}
 use Rattle.asl_machine.specs.declared.stage.Stage.{Stage}
 use Rattle.asl_machine.specs.declared.stage.Stage.TheVariants as stage
@@ -53,14 +53,16 @@ pub record Between (old new whole : Option (List ℕ)) : Type 0 where
   pub before : Begins old new
   pub behind : Begins new whole
 
--- the machine hasn't ended, and stands as before one of the words
-pub record StandsBefore (t : Tests) (old new : Work) (words : List ℕ) (told : Option (List ℕ)) : Type 0 where
+-- the machine hasn't ended, and stands as before one of the words: the sink took the text of those in front of it, and behind that a part of its line
+pub record StandsBefore (t : Tests) (old new : Work) (words : List ℕ) (told told1 : Option (List ℕ)) : Type 0 where
   pub done : List ℕ
+  pub word : ℕ
   pub rest : List ℕ
-  pub is : words ≡ done ++ rest
+  pub is : words ≡ done ++ word ∷ rest
   pub ready : is_ready new.stage ≡ true
   pub text : Option (List ℕ)
   pub leaves : LeavesWords t new text (words_with t old done told)
+  pub line : Part text told1 (word_line new.text_open word)
 
 -- a word as an argument: its bits, with the bitfields of some type
 pub record IsWord (word : ℕ) (x : rules.Value) : Type 0 where

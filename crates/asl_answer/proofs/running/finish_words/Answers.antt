@@ -20,12 +20,12 @@ pub returns-in_err-put_globals-clause-answer : goal.returns-in_err-put_globals-c
 returns-in_err-put_globals-clause-answer g c = λ t u.
     let p = err_from_is_err_and c.from_residual-in_err-put_globals.result c.from_residual-in_err-put_globals.ensures.1 in
     let before = c.in_ok-status.ensures.answer in
-    let lines = shown_words c.args.count c.args.machine.now.stage c.args.end (map var_of c.globals.result.now) (globals_of t c.args.machine.now) c.requires.ended (c.globals.ensures t u) in
+    let lines = shown_words c.args.count c.args.machine.now.stage c.args.end (map var_of c.globals.result.now) (globals_of t c.args.machine.now) c.requires.ended (c.globals.ensures.values t u) in
     rw (p.1, ← c.text_open.ensures, ← lines)
     (TakesPrefix-after _ _ _ _ _ c.in_ok-close.ensures.text (TakesPrefix-after _ _ _ _ _ before.0 c.in_err-put_globals.ensures.text))
 
 pub returns-clause-answer : goal.returns-clause-answer
 returns-clause-answer g c = λ t u.
     let before = c.in_ok-status.ensures.answer in
-    let lines = shown_words c.args.count c.args.machine.now.stage c.args.end (map var_of c.globals.result.now) (globals_of t c.args.machine.now) c.requires.ended (c.globals.ensures t u) in
+    let lines = shown_words c.args.count c.args.machine.now.stage c.args.end (map var_of c.globals.result.now) (globals_of t c.args.machine.now) c.requires.ended (c.globals.ensures.values t u) in
     rw (← c.text_open.ensures, ← lines) (Takes-join _ _ _ _ _ c.in_ok-close.ensures.text (Takes-join _ _ _ _ _ before.0 c.in_ok-put_globals.ensures.text), before.1)

@@ -1,5 +1,6 @@
 use Rattle.std.proofs.Common.{◌≡◌}
 use Rattle.asl_machine.specs.Storage.{marks_of, values_in, vars_from}
+use Rattle.asl_machine.proofs.After.{arranged_named}
 use Rattle.asl_machine.proofs.Beginning.{begun_arranged, begun_held, begun_is}
 use Rattle.asl_machine.proofs.memory.begin.Goals as goal
 
@@ -26,3 +27,7 @@ returns-clause-globals c =
     let vars : c.in_ok-vars.field-0.items ≡ vars_from c.as_slice-globals.result.now = c.in_ok-vars.ensures in
     rw (marks, values, vars) (begun_is c.args.checked.now c.parts-parts.result.now.subs c.as_slice-globals.result.now
     (rw (c.as_slice-globals.ensures.value) c.parts-parts.ensures.sealed))
+
+pub returns-clause-named : goal.returns-clause-named
+returns-clause-named c =
+    arranged_named c.args.checked.now c.in_ok-marks.field-0.items c.in_ok-values.field-0.items c.in_ok-vars.field-0.items (returns-clause-arranged c)

@@ -1,6 +1,5 @@
-use Rattle.std.proofs.Common.{subst, ◌∙◌, ap, Err}
-use Rattle.asl_machine.specs.Stages.{CallMeets}
-use Rattle.asl_machine.proofs.Entries.{some_suits}
+use Rattle.std.proofs.Common.{◌∙◌, ap, Err}
+use Rattle.asl_tree.proofs.Asked.{some_suits}
 use Rattle.asl_machine.proofs.SameRuns.{not_met}
 use Rattle.asl_machine.proofs.runs.run_checked.Goals as goal
 

@@ -1,10 +1,9 @@
-use Rattle.std.proofs.Common.{List, Option, map}
-use Rattle.asl_value.specs.View.{value_of}
-use Rattle.asl_machine.proofs.MemoryCalls.{Moved, memory_meets, memory_held, memory_arranged}
+use Rattle.std.proofs.Common.{rules}
+use Rattle.asl_machine.proofs.MemoryCalls.{Moved, memory_meets, memory_took, memory_stepped, memory_named, memory_held, memory_arranged}
 use Rattle.asl_machine.proofs.runs.run_trees.Given
 use Rattle.asl_machine.proofs.runs.run_trees.Goals as goal
 
-moved : (g : Given.Over) (c : goal.After-drop-run-5 g) → Moved c.args.memory.now c.enter-run.new.memory c.leave.new.memory c.enter-run.result c.call-answer.new.run
+moved : (g : Given.Over) (c : goal.After-drop-run-5 g) → Moved c.args.memory.now c.enter-run.new.memory c.leave.new.memory c.enter-run.result c.call_noted-answer.new.run
 moved g c = record {
   begins = record {
     globals = c.enter-run.ensures.globals;
@@ -21,14 +20,36 @@ moved g c = record {
   values_back = c.leave.ensures.values;
   vars_back = c.leave.ensures.vars;
   steps_back = c.leave.ensures.steps;
-  text_back = c.leave.ensures.text;
 }
 
 pub returns-clause-meets : goal.returns-clause-meets
-returns-clause-meets g c = memory_meets c.args.checked.now _ _ c.parts-parts.ensures.sealed _ _ c.requires.callable _ _ _ _ _ c.requires.arranged c.requires.held (moved g c) _ _ c.call-answer.result c.number.result c.number.ensures c.call-answer.ensures.meets
+returns-clause-meets g c =
+    memory_meets c.args.checked.now _ _ c.parts-parts.ensures.sealed _ _ c.requires.callable _ _ _ _ _ c.requires.arranged c.requires.held (moved g c) _ _
+    c.call_noted-answer.result.0 c.number.result c.number.ensures _ c.leave.ensures.text c.call_noted-answer.ensures.meets
+    _ (search rules)
+
+pub returns-clause-took : goal.returns-clause-took
+returns-clause-took g c =
+    memory_took c.args.checked.now _ _ c.parts-parts.ensures.sealed _ _ c.requires.callable _ _ _ _ _ c.requires.arranged c.requires.held (moved g c) _ _
+    c.call_noted-answer.result.0 c.number.result c.number.ensures _ c.leave.ensures.text c.call_noted-answer.ensures.meets
+    _ (search rules)
+
+pub returns-clause-stepped : goal.returns-clause-stepped
+returns-clause-stepped g c =
+    memory_stepped c.args.checked.now _ _ c.parts-parts.ensures.sealed _ _ c.requires.callable _ _ _ _ _ c.requires.arranged c.requires.held (moved g c) _ _
+    c.call_noted-answer.result.0 c.number.result c.number.ensures _ c.leave.ensures.text c.call_noted-answer.ensures.meets
+
+pub returns-clause-named : goal.returns-clause-named
+returns-clause-named g c =
+    memory_named c.args.checked.now _ _ c.parts-parts.ensures.sealed _ _ c.requires.callable _ _ _ _ _ c.requires.arranged c.requires.held (moved g c) _ _
+    c.call_noted-answer.result.0 c.number.result c.number.ensures _ c.leave.ensures.text c.call_noted-answer.ensures.meets
 
 pub returns-clause-arranged : goal.returns-clause-arranged
-returns-clause-arranged g c = memory_arranged c.args.checked.now _ _ c.parts-parts.ensures.sealed _ _ c.requires.callable _ _ _ _ _ c.requires.arranged c.requires.held (moved g c) _ _ c.call-answer.result c.number.result c.number.ensures c.call-answer.ensures.meets
+returns-clause-arranged g c =
+    memory_arranged c.args.checked.now _ _ c.parts-parts.ensures.sealed _ _ c.requires.callable _ _ _ _ _ c.requires.arranged c.requires.held (moved g c) _ _
+    c.call_noted-answer.result.0 c.number.result c.number.ensures _ c.leave.ensures.text c.call_noted-answer.ensures.meets
 
 pub returns-clause-held : goal.returns-clause-held
-returns-clause-held g c = memory_held c.args.checked.now _ _ c.parts-parts.ensures.sealed _ _ c.requires.callable _ _ _ _ _ c.requires.arranged c.requires.held (moved g c) _ _ c.call-answer.result c.number.result c.number.ensures c.call-answer.ensures.meets
+returns-clause-held g c =
+    memory_held c.args.checked.now _ _ c.parts-parts.ensures.sealed _ _ c.requires.callable _ _ _ _ _ c.requires.arranged c.requires.held (moved g c) _ _
+    c.call_noted-answer.result.0 c.number.result c.number.ensures _ c.leave.ensures.text c.call_noted-answer.ensures.meets

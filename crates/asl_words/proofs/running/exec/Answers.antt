@@ -15,7 +15,7 @@ returns-in_err-exec_word-clause-refused g c =
     let p = err_from_is_err_and c.from_residual.result c.from_residual.ensures.1 in
     let i = c.loop-word.invariant in
     rw (p.1, p.2) (refused_there c.args.machine.now c.loop-word.machine c.entry_of-decode.result i.main i.checked (g.K.Sink.written c.args.sink.now) (g.K.Sink.written c.loop-word.sink) c.args.words.now c.loop-word.word-index c.loop-word-test.true i.ready i.leaves
-    _ c.exec_word.new.machine c.in_err-exec_word.ensures.refused)
+    _ c.exec_word.new.machine (g.K.Sink.written c.exec_word.new.sink) c.in_err-exec_word.ensures.refused)
 
 pub returns-in-Uncaught-clause-outcome : goal.returns-in-Uncaught-clause-outcome
 returns-in-Uncaught-clause-outcome g c =

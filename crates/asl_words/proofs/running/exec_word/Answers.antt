@@ -1,7 +1,7 @@
-use Rattle.std.proofs.Common.{subst}
+use Rattle.std.proofs.Common.{inr, refl, subst}
 use Rattle.asl_io.specs.Told.{Takes, TakesPrefix}
 use Rattle.asl_rules.specs.runs.Words.{word_line}
-use Rattle.asl_words.proofs.Stepping.{call_ended, call_refused, no_line, refused_line}
+use Rattle.asl_words.proofs.Stepping.{call_ended, call_refused, no_line, none_taken, part_taken, refused_line}
 use Rattle.asl_words.proofs.running.exec_word.Goals as goal
 
 pub returns-in_default-clause-prefix : goal.returns-in_default-clause-prefix
@@ -21,3 +21,11 @@ pub returns-clause-prefix : goal.returns-clause-prefix
 returns-clause-prefix g c =
     call_refused c.call.result c.args.machine.now c.args.decode c.args.word c.requires.main c.requires.ready _ c.in-Ok.ensures.word.0 c.in-Ok.ensures.word.1 c.in-Ok.ensures.word.2 (g.K.Sink.written c.args.sink.now) (g.K.Sink.written c.put_line.new.sink) (g.K.Sink.written c.call.new.sink)
     (subst (λ b. Takes (g.K.Sink.written c.args.sink.now) (g.K.Sink.written c.put_line.new.sink) (word_line b c.args.word)) c.text_open.ensures c.in-Ok-put_line.ensures.text) _ c.call.ensures.given_up
+
+pub returns-in_default-clause-refused : goal.returns-in_default-clause-refused
+returns-in_default-clause-refused g c = inr (refl, none_taken (g.K.Sink.written c.args.sink.now) (word_line c.args.machine.now.text_open c.args.word))
+
+pub returns-in_default-put_line-clause-refused : goal.returns-in_default-put_line-clause-refused
+returns-in_default-put_line-clause-refused g c =
+    let took = subst (λ b. TakesPrefix (g.K.Sink.written c.args.sink.now) (g.K.Sink.written c.put_line.new.sink) (word_line b c.args.word)) c.text_open.ensures c.in_default-put_line.ensures.text in
+    inr (refl, part_taken (g.K.Sink.written c.args.sink.now) (g.K.Sink.written c.put_line.new.sink) (word_line c.args.machine.now.text_open c.args.word) took)
