@@ -22,7 +22,6 @@ use Rattle.asl_rules.specs.types.Views.{viewed}
 use Rattle.asl_rules.specs.runs.Words.{word_value}
 use Rattle.asl_rules.proofs.basics.Inversions.{ok_ok, err_ok}
 use Rattle.asl_rules.proofs.basics.Tests.{some_same, none_some}
-use Rattle.asl_laws.proofs.soundness.SoundnessFacts.{facts_of}
 use Rattle.asl_rules.proofs.values.Bare.{viewed_built}
 use Rattle.asl_rules.proofs.values.Constructs.{seen_is}
 use Rattle.asl_rules.proofs.values.Viewing.{viewed_twice}

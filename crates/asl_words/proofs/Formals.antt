@@ -1,7 +1,7 @@
 -- The formal of `decode`, and a word in its type: of a program that was accepted with this entry.
-use Rattle.std.proofs.Common.{◌≡◌, ℕ, Bool, List, [], ◌∷◌, length, map, Option, Some, None, Ok, refl, sym, ap, ◌∙◌, subst}
+use Rattle.std.proofs.Common.{◌≡◌, ℕ, Bool, List, [], ◌∷◌, length, map, Option, Some, Ok, refl, sym, ap, ◌∙◌, subst}
 use Rattle.std.specs.Prelude.{slice_get}
-use Rattle.asl_syn.specs.declared.code.StaticCode.TheVariants.{T17, T24}
+use Rattle.asl_syn.specs.declared.code.StaticCode.TheVariants.{T17}
 use Rattle.asl_syn.specs.declared.tree.Decl.{Decl}
 use Rattle.asl_bits.specs.Lists.{bits_of}
 use Rattle.asl_bits.proofs.Lists.{length-bits_of}
@@ -13,9 +13,9 @@ use Rattle.asl_rules.specs.private.Belonging.{InType, Belong}
 use Rattle.asl_rules.specs.types.Closed.{type_with}
 use Rattle.asl_rules.specs.declarations.Declarations.{names_of_program}
 use Rattle.asl_rules.specs.runs.Evaluation.{initial_globals}
-use Rattle.asl_rules.specs.Faults.{need, fault_of}
+use Rattle.asl_rules.specs.Faults.{need}
 use Rattle.asl_rules.specs.private.Grown.{AreGrown}
-use Rattle.asl_rules.specs.declarations.Programs.{funcs_of, Head, may_end, body_of, tree_func, body_rule, signatures, types_in as list_types, verdict, Accepted, environment, entry_rule, entry_found, entry_from, is_decode, origin}
+use Rattle.asl_rules.specs.declarations.Programs.{funcs_of, Head, may_end, body_of, tree_func, body_rule, signatures, types_in as list_types, verdict, Accepted, environment}
 use Rattle.asl_rules.specs.declarations.Scopes.{Signature}
 use Rattle.asl_rules.specs.statements.Stmts.{found_stmt}
 use Rattle.asl_rules.specs.Tests.{Tests, IsRight}
@@ -23,8 +23,8 @@ use Rattle.asl_rules.specs.runs.Trees.{TreeFunc}
 use Rattle.asl_rules.specs.types.Types.{Ty, Parts, no_part, part}
 use Rattle.asl_rules.specs.values.Values.{bits_with}
 use Rattle.asl_rules.specs.types.Views.{viewed}
-use Rattle.asl_rules.proofs.basics.Inversions.{ok_ok, err_ok, bind_ok, then_ok}
-use Rattle.asl_rules.proofs.basics.Tests.{some_same, some_none}
+use Rattle.asl_rules.proofs.basics.Inversions.{ok_ok, bind_ok, then_ok}
+use Rattle.asl_rules.proofs.basics.Tests.{some_same}
 use Rattle.asl_laws.proofs.soundness.Soundness.{soundness}
 use Rattle.asl_laws.proofs.soundness.SoundnessEntry.{word_for, decode_call}
 use Rattle.asl_laws.proofs.soundness.SoundnessFacts.{Facts, facts_of, numbered}

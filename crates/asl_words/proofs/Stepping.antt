@@ -12,7 +12,7 @@ use Rattle.asl_io.specs.Told.{TakesPrefix}
 use Rattle.asl_rules.specs.runs.Told.{Begins, Part, appended}
 use Rattle.asl_rules.specs.values.Values as rules
 use Rattle.asl_rules.specs.runs.Words.{WordsEnd, AllReturned, WordHalted, behind_word, run_words, word_line, word_value, words_final}
-use Rattle.asl_laws.proofs.runs.Budget.{same_text, longer, taken_after, taken_before}
+use Rattle.asl_laws.proofs.runs.Budget.{appended_nil, same_text, longer, taken_after, taken_before}
 use Rattle.asl_laws.proofs.runs.WordRuns.{words_after, run_viewed}
 use Rattle.asl_tree.specs.Sealed.{Sealed}
 use Rattle.asl_types.specs.Suits.{Suits}
@@ -107,7 +107,7 @@ pub part_taken : (old new : Option (List ℕ)) (bytes : List ℕ) → TakesPrefi
 part_taken old new bytes k = record { taken = k.0; rest = k.1; is = k.3; whole = k.2 }
 
 pub none_taken : (old : Option (List ℕ)) (bytes : List ℕ) → Part old old bytes
-none_taken old bytes = record { taken = []; rest = bytes; is = (same_text old).is; whole = refl }
+none_taken old bytes = record { taken = []; rest = bytes; is = sym (appended_nil old); whole = refl }
 
 -- ---- words on a machine
 
