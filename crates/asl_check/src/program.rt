@@ -131,8 +131,10 @@ fn make(alloc: Global, decls: &[Decl], entry: Entry) -> Result<Made, Refused>
     })
 }
 
-/// Checks a program such as texts give. It is accepted, and sealed, exactly where it is well formed with the entry that is asked
-/// for, and otherwise refused at its one fault, by any right tests under the width limit. Want of memory says nothing.
+/// Checks a program such as texts give: each enumeration has a label, and storage has a type or an initialiser. That is less than
+/// being what some files are read to, and all that the rules and soundness rest on. The program is accepted, and sealed, exactly
+/// if it is well formed with the entry that is asked for, and otherwise refused at its one fault, by any right tests under the
+/// width limit. Want of memory says nothing.
 pub fn check(alloc: Global, program: Program, entry: Entry) -> Result<Checked, Refused>
     requires { AreGrown program.decls }
     ensures { (t : Tests) → Suits t → IsVerdict t entry program.decls result }
