@@ -6,21 +6,21 @@ use Rattle.asl_answer.proofs.RunLemmas.{run_ending, callable, ended, was_given_u
 use Rattle.asl_answer.proofs.running.run_program.Goals as goal
 
 pub call-requires : goal.call-requires
-call-requires g c = λ t u. callable t u (run_answer []) (ending []) (run_ending []) c.args.checked c.in-Some.main _ c.args.steps _ _ c.in_ok-machine.ensures c.from.ensures c.new-2.ensures.items c.in-Some.ensures (c.requires.accepted t u)
+call-requires g c = λ t u. callable t u (run_answer []) (ending []) (run_ending []) c.args.checked c.in-Some.main _ c.args.steps _ _ c.in_ok-machine.ensures c.from.ensures c.new-2.ensures.items c.in-Some.ensures.main (c.requires.accepted t u)
 
 pub returns-in-Ok-clause-answer : goal.returns-in-Ok-clause-answer
 returns-in-Ok-clause-answer g c = λ t u.
-    ended t u (run_answer (map file_of c.args.sources.now)) (ending (map file_of c.args.sources.now)) (run_ending (map file_of c.args.sources.now)) c.args.checked c.in-Some.main _ c.args.steps _ c.new-2.result.items c.in_ok-machine.ensures c.from.ensures c.new-2.ensures.items c.in-Some.ensures
+    ended t u (run_answer (map file_of c.args.sources.now)) (ending (map file_of c.args.sources.now)) (run_ending (map file_of c.args.sources.now)) c.args.checked c.in-Some.main _ c.args.steps _ c.new-2.result.items c.in_ok-machine.ensures c.from.ensures c.new-2.ensures.items c.in-Some.ensures.main
     _ _ _ c.call.new.self _ _ c.in-Ok.ensures.answer (c.in-Ok.ensures.outcome t u) (c.finish.ensures.answer t u)
 
 pub returns-in-Err-SinkFault-clause-answer : goal.returns-in-Err-SinkFault-clause-answer
 returns-in-Err-SinkFault-clause-answer g c = λ t u.
-    was_given_up t u (run_answer (map file_of c.args.sources.now)) (ending (map file_of c.args.sources.now)) (run_ending (map file_of c.args.sources.now)) c.args.checked c.in-Some.main _ c.args.steps _ c.new-2.result.items c.in_ok-machine.ensures c.from.ensures c.new-2.ensures.items c.in-Some.ensures
+    was_given_up t u (run_answer (map file_of c.args.sources.now)) (ending (map file_of c.args.sources.now)) (run_ending (map file_of c.args.sources.now)) c.args.checked c.in-Some.main _ c.args.steps _ c.new-2.result.items c.in_ok-machine.ensures c.from.ensures c.new-2.ensures.items c.in-Some.ensures.main
     _ _ _ (c.in-Err-SinkFault.ensures.given_up t u)
 
 pub returns-clause-answer : goal.returns-clause-answer
 returns-clause-answer g c = λ t u.
-    was_given_up t u (run_answer (map file_of c.args.sources.now)) (ending (map file_of c.args.sources.now)) (run_ending (map file_of c.args.sources.now)) c.args.checked c.in-Some.main _ c.args.steps _ c.new-2.result.items c.in_ok-machine.ensures c.from.ensures c.new-2.ensures.items c.in-Some.ensures
+    was_given_up t u (run_answer (map file_of c.args.sources.now)) (ending (map file_of c.args.sources.now)) (run_ending (map file_of c.args.sources.now)) c.args.checked c.in-Some.main _ c.args.steps _ c.new-2.result.items c.in_ok-machine.ensures c.from.ensures c.new-2.ensures.items c.in-Some.ensures.main
     _ _ _ (c.in-Err-NoMemory.ensures.given_up t u)
 
 pub returns-in-Err-SinkFault-clause-cause : goal.returns-in-Err-SinkFault-clause-cause
