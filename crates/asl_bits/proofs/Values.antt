@@ -41,7 +41,7 @@ slice_is bs w k n m h e =
 pub below_mod : (n w v : ℕ) → v ≡ n % 2 ^ w → v < 2 ^ w
 below_mod n w v e = rw e (mod_below _ _ (pow_pos w))
 
-below_cat : (k w h n : ℕ) → n < 2 ^ k → h < 2 ^ w → h * 2 ^ k + n < 2 ^ (k + w)
+pub below_cat : (k w h n : ℕ) → n < 2 ^ k → h < 2 ^ w → h * 2 ^ k + n < 2 ^ (k + w)
 below_cat k w h n p q =
     let e : suc h * 2 ^ k ≤ 2 ^ w * 2 ^ k = mul-le-mul_right (2 ^ k) q in
     let f : 2 ^ (k + w) ≡ 2 ^ w * 2 ^ k = rw (add_comm k w) (pow-add 2 w k) in
