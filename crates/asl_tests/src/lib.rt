@@ -26,4 +26,6 @@ mod types;
 #[cfg(test)]
 mod values;
 #[cfg(test)]
+mod vectors;
+#[cfg(test)]
 mod widths;
