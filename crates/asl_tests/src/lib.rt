@@ -26,6 +26,4 @@ mod types;
 #[cfg(test)]
 mod values;
 #[cfg(test)]
-mod vectors;
-#[cfg(test)]
 mod widths;

@@ -29,7 +29,7 @@ use asl_vector::Vector;
 use std::alloc::{AllocError, Global};
 
 /// How many bits a word has.
-const WORD_WIDTH: i128 = 32;
+const WORD_WIDTH: u32 = 32;
 
 /// How a run over words ends.
 #[derive(Clone, Copy, PartialEq, Eq)]
@@ -161,11 +161,9 @@ fn argument(alloc: Global, checked: &Checked, decode: SubId, word: u32) -> Resul
 }
 
 /// A word as bits.
+#[tactic(auto, using(crate::proofs::WordBits::value_made))]
 fn word_value(alloc: Global, word: u32) -> Result<Value, AllocError>
     ensures { IfOk result (λ x. value_of x ≡ rules.word_value word) }
 {
-    let Ok(bits) = Vector::from_int(alloc, i128::from(word), WORD_WIDTH)? else {
-        unreachable!();
-    };
-    Ok(plain_bits(bits))
+    Ok(plain_bits(Vector::wrapped(alloc, i128::from(word), WORD_WIDTH)?))
 }
