@@ -18,7 +18,6 @@ ghost use Rattle.asl_words.specs.private.Runs.{Between, IsWord, LeavesWords, Sta
 
 use crate::MOST_WORDS;
 use crate::line::put_line;
-use asl_bits::Bits;
 use asl_io::Sink;
 use asl_machine::{Machine, Outcome, RunRefused};
 use asl_syn::code::DynCode;
@@ -26,10 +25,11 @@ use asl_syn::token::Span;
 use asl_tree::{Checked, SubId};
 use asl_types::seeing::see;
 use asl_value::{Value, plain_bits};
+use asl_vector::Vector;
 use std::alloc::{AllocError, Global};
 
 /// How many bits a word has.
-const WORD_WIDTH: i128 = 32;
+const WORD_WIDTH: u32 = 32;
 
 /// How a run over words ends.
 #[derive(Clone, Copy, PartialEq, Eq)]
@@ -161,11 +161,9 @@ fn argument(alloc: Global, checked: &Checked, decode: SubId, word: u32) -> Resul
 }
 
 /// A word as bits.
+#[tactic(auto, using(crate::proofs::WordBits::value_made))]
 fn word_value(alloc: Global, word: u32) -> Result<Value, AllocError>
     ensures { IfOk result (λ x. value_of x ≡ rules.word_value word) }
 {
-    let Ok(bits) = Bits::from_int(i128::from(word), WORD_WIDTH) else {
-        unreachable!();
-    };
-    plain_bits(alloc, bits)
+    Ok(plain_bits(Vector::wrapped(alloc, i128::from(word), WORD_WIDTH)?))
 }
