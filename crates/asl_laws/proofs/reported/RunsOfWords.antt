@@ -4,7 +4,6 @@ use Rattle.std.specs.Prelude.{codes}
 use Rattle.asl_bits.specs.Lists.{bits_of}
 use Rattle.asl_bits.proofs.Lists.{length-bits_of}
 use Rattle.asl_syn.specs.declared.tree.Decl.{Decl}
-use Rattle.asl_rules.specs.declared.entry.Entry.{Entry}
 use Rattle.asl_rules.specs.declared.entry.Entry.TheVariants as entry
 use Rattle.asl_rules.specs.private.Agreement.{GlobalsMatch, no_atoms}
 use Rattle.asl_rules.specs.types.Closed.{type_with}
@@ -16,7 +15,7 @@ use Rattle.asl_rules.specs.Tests.{Tests}
 use Rattle.asl_rules.specs.values.Values.{Value, bits_with}
 use Rattle.asl_rules.specs.report.WordList.{Word}
 use Rattle.asl_rules.specs.runs.Machines.{run_of}
-use Rattle.asl_rules.specs.runs.Words.{WordsEnd, behind_word, entry_for, is_short, run_word, run_words, some_long, some_short, wanted, word_line, word_value, word_width}
+use Rattle.asl_rules.specs.runs.Words.{WordsEnd, behind_word, entry_for, is_short, run_word, run_words, some_long, some_short, wanted, word_line, word_value}
 use Rattle.asl_laws.proofs.reported.Asked.{HasAsked, IsFound, both_there, decode16_there, decode_there}
 use Rattle.asl_laws.proofs.runs.WordRuns.{run_viewed}
 use Rattle.asl_laws.proofs.soundness.SoundnessEntry.{only_formal, word_call, word_for}

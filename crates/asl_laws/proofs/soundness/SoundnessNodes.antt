@@ -1,6 +1,6 @@
 -- Each node that a run enters, where each pair of forms does the same: the state agrees with the scope that the node was judged in, what the node gives is in its
 -- type, and each caller's frame agrees with the scope of the call that it waits for.
-use Rattle.std.proofs.Common.{◌≡◌, ℕ, inl, inr, Bool, true, List, [], ◌∷◌, Option, Ok, refl, sym, ◌∙◌, subst, false, ◌⊎◌}
+use Rattle.std.proofs.Common.{◌≡◌, ℕ, inl, inr, Bool, true, List, [], ◌∷◌, Ok, refl, sym, ◌∙◌, subst, false, ◌⊎◌}
 use Rattle.asl_syn.specs.declared.tree.Expr.{Expr}
 use Rattle.asl_syn.specs.declared.tree.Stmt.{Stmt}
 use Rattle.asl_syn.specs.declared.tree.Decl.{Decl}

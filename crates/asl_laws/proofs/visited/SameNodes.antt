@@ -1,5 +1,5 @@
 -- Where each pair of forms does the same, the tree of each node that a call visits does what the node does. What calls from outside are is a premise.
-use Rattle.std.proofs.Common.{◌≡◌, ℕ, inl, inr, Bool, List, [], ◌∷◌, Option, refl, sym, ap, ◌∙◌, subst, false, true, Ok}
+use Rattle.std.proofs.Common.{◌≡◌, ℕ, inl, inr, Bool, List, [], ◌∷◌, refl, sym, ap, ◌∙◌, subst, false, true, Ok}
 use Rattle.asl_syn.specs.declared.tree.Decl.{Decl}
 use Rattle.asl_syn.specs.declared.tree.Expr.{Expr, out-Expr}
 use Rattle.asl_syn.specs.declared.tree.Stmt.{Stmt, out-Stmt}
