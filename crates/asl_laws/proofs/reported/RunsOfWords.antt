@@ -62,9 +62,10 @@ first_has a false shorts longs s l = l
 
 each_has : (a : Accepted) (ws : List Word) → Shorts a (some_short ws) → Longs a (some_long ws) → HaveEntries a ws
 each_has a [] s l = tt
-each_has a (w ∷ ws) s l =
-    (first_has a (is_short w) (some_short ws) (some_long ws) s l,
-    each_has a ws (short_rest a (is_short w) (some_short ws) s) (long_rest a (is_short w) (some_long ws) l))
+each_has a (w ∷ ws) s l = (
+  first_has a (is_short w) (some_short ws) (some_long ws) s l,
+  each_has a ws (short_rest a (is_short w) (some_short ws) s) (long_rest a (is_short w) (some_long ws) l),
+)
 
 pub have_entries : (a : Accepted) (ws : List Word) → HasAsked (wanted ws) a → HaveEntries a ws
 have_entries a ws h = let t = asked_there a (some_short ws) (some_long ws) h in each_has a ws t.0 t.1
