@@ -43,16 +43,20 @@ word_more : (k : ℕ) (r s : Outcome Core (Option Value)) (f : List Binding → 
 word_more k r s f (inl e) m a = subst (λ x. SameWordsWithMore k (behind_word f x) (behind_word f s)) (sym e) (same_word k s f m)
 word_more k r s f (inr q) m a = inr (spent_word s f (words_final (behind_word f r)).told q.0 (longer q.1 (behind_after r f a).told))
 
-one_more : (env : Environment) (o : Option ℕ) (w : Word) (globals : List Binding) (h : Meter) (k : ℕ) → SameWithMore k (run_word env o w globals (with_more k h)) (run_word env o w globals h)
+one_more : (env : Environment) (o : Option ℕ) (w : Word) (globals : List Binding) (h : Meter) (k : ℕ) →
+    SameWithMore k (run_word env o w globals (with_more k h)) (run_word env o w globals h)
 one_more env None w globals h k = inl refl
 one_more env (Some id) w globals h k = call_more env id (word_value w ∷ []) globals h k
 
-each_more : (env : Environment) (es : Entries) (words : List Word) (k : ℕ) (globals : List Binding) (h : Meter) → SameWordsWithMore k (run_words env es words globals (with_more k h)) (run_words env es words globals h)
+each_more : (env : Environment) (es : Entries) (words : List Word) (k : ℕ) (globals : List Binding) (h : Meter) →
+    SameWordsWithMore k (run_words env es words globals (with_more k h)) (run_words env es words globals h)
 each_more env es [] k globals h = inl refl
 each_more env es (w ∷ words) k globals h =
     let begun = wrote h (word_line h.text_open w) in
     let o = entry_for es w in
-    word_more k (run_word env o w globals (with_more k begun)) (run_word env o w globals begun) (run_words env es words) (one_more env o w globals begun k) (each_more env es words k) (words_after env es words)
+    word_more k (run_word env o w globals (with_more k begun)) (run_word env o w globals begun) (run_words env es words)
+    (one_more env o w globals begun k) (each_more env es words k) (words_after env es words)
 
-pub words_more : (env : Environment) (es : Entries) (words : List Word) (globals : List Binding) (h : Meter) (k : ℕ) → SameWordsWithMore k (run_words env es words globals (with_more k h)) (run_words env es words globals h)
+pub words_more : (env : Environment) (es : Entries) (words : List Word) (globals : List Binding) (h : Meter) (k : ℕ) →
+    SameWordsWithMore k (run_words env es words globals (with_more k h)) (run_words env es words globals h)
 words_more env es words globals h k = each_more env es words k globals h

@@ -20,7 +20,8 @@ pub record HasAsked (e : Entry) (a : Accepted) : Type 0 where
   pub asked : a.asked ≡ e
   pub found : entry_rule e a.signatures ≡ Ok a.entries
 
-asked_of : (e : Entry) (main : Entries) (fs : List Signature) (trees : List TreeFunc) (names : List Visible) (a : Accepted) → entry_rule e fs ≡ Ok main → (let r : Result Accepted Fault = Ok (accepted e main fs trees names) in r) ≡ Ok a → HasAsked e a
+asked_of : (e : Entry) (main : Entries) (fs : List Signature) (trees : List TreeFunc) (names : List Visible) (a : Accepted) →
+    entry_rule e fs ≡ Ok main → (let r : Result Accepted Fault = Ok (accepted e main fs trees names) in r) ≡ Ok a → HasAsked e a
 asked_of e main fs trees names a found h = subst (HasAsked e) (ok_ok (accepted e main fs trees names) a h) (record { asked = refl; found = found })
 
 pub has_asked : (t : Tests) (e : Entry) (ds : List Decl) (a : Accepted) → verdict e ds t ≡ Ok a → HasAsked e a
@@ -52,7 +53,8 @@ main_of is fs m h =
     let f = found_some (entry_from is 0 fs) b.value b.first in
     record { id = f.0; first = f.1.0; there = sym (ap (λ (n : Entries). n.main) (ok_ok (entries b.value None) m b.then)) ∙ f.1.1 }
 
-entry16_of : (is : Signature → Bool) (main : Option ℕ) (fs : List Signature) (m : Entries) → entry16_rule main (entry_from is 0 fs) ≡ Ok m → (main ≡ m.main) × IsFound is fs m.entry16
+entry16_of : (is : Signature → Bool) (main : Option ℕ) (fs : List Signature) (m : Entries) →
+    entry16_rule main (entry_from is 0 fs) ≡ Ok m → (main ≡ m.main) × IsFound is fs m.entry16
 entry16_of is main fs m h =
     let b = bind_ok (entry_found (entry_from is 0 fs)) (λ entry16. Ok (entries main entry16)) m h in
     let f = found_some (entry_from is 0 fs) b.value b.first in
@@ -68,7 +70,8 @@ decode_there a h = main_of is_decode a.signatures a.entries h.found
 pub decode16_there : (a : Accepted) → HasAsked entry.Decode16 a → IsFound is_decode16 a.signatures a.entries.entry16
 decode16_there a h = (entry16_of is_decode16 None a.signatures a.entries h.found).1
 
-pub both_there : (a : Accepted) → HasAsked entry.Both a → IsFound is_decode a.signatures a.entries.main × IsFound is_decode16 a.signatures a.entries.entry16
+pub both_there : (a : Accepted) → HasAsked entry.Both a →
+    IsFound is_decode a.signatures a.entries.main × IsFound is_decode16 a.signatures a.entries.entry16
 both_there a h =
     let fs = a.signatures in
     let b = bind_ok (entry_found (entry_from is_decode 0 fs)) (λ main. entry16_rule main (entry_from is_decode16 0 fs)) a.entries h.found in

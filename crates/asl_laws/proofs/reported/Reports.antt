@@ -25,10 +25,12 @@ grown_well t right ds grown = record {
       let f = facts_of t entry.Main ds a ok in
       let sound = (soundness t right ds a f grown).0 in
       let globals = initial_globals (environment t ds) in
-      (there.id, (there.there, sound.never_stuck there.id [] globals (starting steps (Some [])) (main_call a there.id globals sound.initial there.first)));
+      (there.id, (there.there, sound.never_stuck there.id [] globals (starting steps (Some []))
+      (main_call a there.id globals sound.initial there.first)));
   words = λ a words ok steps.
       let sound = (soundness t right ds a (facts_of t (wanted words) ds a ok) grown).0 in
-      words_not_stuck t ds a sound words (initial_globals (environment t ds)) (starting steps (Some [])) (have_entries a words (has_asked t (wanted words) ds a ok)) sound.initial;
+      words_not_stuck t ds a sound words (initial_globals (environment t ds)) (starting steps (Some []))
+      (have_entries a words (has_asked t (wanted words) ds a ok)) sound.initial;
 }
 
 pub reports_run_well : (t : Tests) → IsRight t → (files : List File) (ds : List Decl) → ReadsAt t.limit files (Ok ds) → RunsWell t ds

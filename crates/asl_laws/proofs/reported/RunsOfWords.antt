@@ -31,7 +31,8 @@ abbrev Longs : Accepted → Bool → Type 0
 Longs a true = IsFound is_decode a.signatures a.entries.main
 Longs a false = Unit {0}
 
-asked_there : (a : Accepted) (short long : Bool) → HasAsked (cond short (cond long entry.Both entry.Decode16) entry.Decode) a → Shorts a short × Longs a long
+asked_there : (a : Accepted) (short long : Bool) → HasAsked (cond short (cond long entry.Both entry.Decode16) entry.Decode) a →
+    Shorts a short × Longs a long
 asked_there a true true h = let b = both_there a h in (b.1, b.0)
 asked_there a true false h = (decode16_there a h, tt)
 asked_there a false true h = (tt, decode_there a h)
@@ -85,7 +86,8 @@ module _ (t : Tests) (ds : List Decl) (a : Accepted) (sound : Soundness t ds a) 
   Goes r = NotStuck r × KeepsGlobals a.names r
 
   -- the call with the word as it is does what the call does with the bitfields of the formal
-  one_call : (name : List ℕ) (width n : ℕ) (id : ℕ) (globals : List Binding) (h : Meter) → entry_from (takes_word name width) 0 a.signatures ≡ Some id
+  one_call : (name : List ℕ) (width n : ℕ) (id : ℕ) (globals : List Binding) (h : Meter) →
+      entry_from (takes_word name width) 0 a.signatures ≡ Some id
       → GlobalsMatch a.names globals → Goes (run_of (environment t ds) id (bits_with (bits_of width n) [] ∷ []) globals h)
   one_call name width n id globals h first m =
       let d = word_call a id globals m name width first (bits_of width n) (length-bits_of width n) in
@@ -93,14 +95,17 @@ module _ (t : Tests) (ds : List Decl) (a : Accepted) (sound : Soundness t ds a) 
       subst Goes (run_viewed (environment t ds) id (type_with (only_formal d.signature.formals) no_atoms) (bits_of width n) globals h)
       (sound.never_stuck id args globals h d.call, sound.keeps_globals id args globals h d.call)
 
-  by_width : (b : Bool) (n : ℕ) (w : Word) (globals : List Binding) (h : Meter) → HasEntry a b → GlobalsMatch a.names globals → word_value w ≡ bits_with (bits_of (cond b 16 32) n) []
+  by_width : (b : Bool) (n : ℕ) (w : Word) (globals : List Binding) (h : Meter) → HasEntry a b → GlobalsMatch a.names globals →
+      word_value w ≡ bits_with (bits_of (cond b 16 32) n) []
       → Goes (run_word (environment t ds) (cond b a.entries.entry16 a.entries.main) w globals h)
   by_width true n w globals h f m e =
       subst (λ o. Goes (run_word (environment t ds) o w globals h)) (sym f.there)
-      (subst (λ x. Goes (run_of (environment t ds) f.id (x ∷ []) globals h)) (sym e) (one_call (codes "decode16") 16 n f.id globals h f.first m))
+      (subst (λ x. Goes (run_of (environment t ds) f.id (x ∷ []) globals h)) (sym e)
+      (one_call (codes "decode16") 16 n f.id globals h f.first m))
   by_width false n w globals h f m e =
       subst (λ o. Goes (run_word (environment t ds) o w globals h)) (sym f.there)
-      (subst (λ x. Goes (run_of (environment t ds) f.id (x ∷ []) globals h)) (sym e) (one_call (codes "decode") 32 n f.id globals h f.first m))
+      (subst (λ x. Goes (run_of (environment t ds) f.id (x ∷ []) globals h)) (sym e)
+      (one_call (codes "decode") 32 n f.id globals h f.first m))
 
   one_word : (w : Word) (globals : List Binding) (h : Meter) → HasEntry a (is_short w) → GlobalsMatch a.names globals
       → Goes (run_word (environment t ds) (entry_for a.entries w) w globals h)
@@ -112,4 +117,5 @@ module _ (t : Tests) (ds : List Decl) (a : Accepted) (sound : Soundness t ds a) 
   words_not_stuck (w ∷ ws) globals h f m =
       let begun = wrote h (word_line h.text_open w) in
       let one = one_word w globals begun f.0 m in
-      behind_call (run_words (environment t ds) a.entries ws) (λ gs k n. words_not_stuck ws gs k f.1 n) (run_word (environment t ds) (entry_for a.entries w) w globals begun) one.0 one.1
+      behind_call (run_words (environment t ds) a.entries ws) (λ gs k n. words_not_stuck ws gs k f.1 n)
+      (run_word (environment t ds) (entry_for a.entries w) w globals begun) one.0 one.1

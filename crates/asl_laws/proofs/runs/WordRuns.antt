@@ -52,7 +52,8 @@ pub run_of_after : (env : Environment) (id : ℕ) (args : List Value) (globals :
 unfolding run_of
 run_of_after env id args globals h = run_after (meanings (nodes env) most_open) (grows (nodes env) most_open) (call_of env id args (resting globals)) h
 
-pub run_word_after : (env : Environment) (o : Option ℕ) (w : Word) (globals : List Binding) (h : Meter) → After h (final (run_word env o w globals h))
+pub run_word_after : (env : Environment) (o : Option ℕ) (w : Word) (globals : List Binding) (h : Meter) →
+    After h (final (run_word env o w globals h))
 run_word_after env None w globals h = self h
 run_word_after env (Some id) w globals h = run_of_after env id (word_value w ∷ []) globals h
 
@@ -61,7 +62,8 @@ word_after k each h (Done o c h1) a = on a (each c.globals h1)
 word_after k each h (Thrown x c h1) a = a
 word_after k each h (Halt e c h1) a = a
 
-pub words_after : (env : Environment) (es : Entries) (ws : List Word) (globals : List Binding) (h : Meter) → After h (words_final (run_words env es ws globals h))
+pub words_after : (env : Environment) (es : Entries) (ws : List Word) (globals : List Binding) (h : Meter) →
+    After h (words_final (run_words env es ws globals h))
 words_after env es [] globals h = self h
 words_after env es (w ∷ ws) globals h =
     let line = word_line h.text_open w in
@@ -80,7 +82,8 @@ run_of_shift : (F : Option (List ℕ) → Option (List ℕ)) → Commutes F → 
 unfolding run_of
 run_of_shift F k env id args globals h = run_shift F k (meanings (nodes env) most_open) (shifts F k (nodes env) most_open) (call_of env id args (resting globals)) h
 
-run_word_shift : (F : Option (List ℕ) → Option (List ℕ)) → Commutes F → (env : Environment) (o : Option ℕ) (w : Word) (globals : List Binding) (h : Meter) →
+run_word_shift : (F : Option (List ℕ) → Option (List ℕ)) → Commutes F →
+    (env : Environment) (o : Option ℕ) (w : Word) (globals : List Binding) (h : Meter) →
     run_word env o w globals (retold F h) ≡ retold_end F (run_word env o w globals h)
 run_word_shift F k env None w globals h = refl
 run_word_shift F k env (Some id) w globals h = run_of_shift F k env id (word_value w ∷ []) globals h
@@ -91,12 +94,14 @@ word_shift F k same (Done o c h) = same c.globals h
 word_shift F k same (Thrown x c h) = refl
 word_shift F k same (Halt e c h) = refl
 
-pub words_shift : (F : Option (List ℕ) → Option (List ℕ)) → Commutes F → (env : Environment) (es : Entries) (ws : List Word) (globals : List Binding) (h : Meter) →
+pub words_shift : (F : Option (List ℕ) → Option (List ℕ)) → Commutes F →
+    (env : Environment) (es : Entries) (ws : List Word) (globals : List Binding) (h : Meter) →
     run_words env es ws globals (retold F h) ≡ retold_words F (run_words env es ws globals h)
 words_shift F k env es [] globals h = refl
 words_shift F k env es (w ∷ ws) globals h =
     let line = word_line h.text_open w in
-    ap (λ t. behind_word (run_words env es ws) (run_word env (entry_for es w) w globals (record (wrote h line) { told = t }))) (sym (k h.told line))
+    ap (λ t. behind_word (run_words env es ws) (run_word env (entry_for es w) w globals (record (wrote h line) { told = t })))
+    (sym (k h.told line))
     ∙ ap (behind_word (run_words env es ws)) (run_word_shift F k env (entry_for es w) w globals (wrote h line))
     ∙ word_shift F (run_words env es ws) (words_shift F k env es ws) (run_word env (entry_for es w) w globals (wrote h line))
 
@@ -112,7 +117,8 @@ run_of_keeps : (env : Environment) (id : ℕ) (args : List Value) (globals : Lis
 unfolding run_of
 run_of_keeps env id args globals h p = run_keeps OwnText own_text_kept (meanings (nodes env) most_open) (keeps OwnText own_text_kept (nodes env) most_open) (call_of env id args (resting globals)) h p
 
-run_word_keeps : (env : Environment) (o : Option ℕ) (w : Word) (globals : List Binding) (h : Meter) → OwnText h → OwnText (final (run_word env o w globals h))
+run_word_keeps : (env : Environment) (o : Option ℕ) (w : Word) (globals : List Binding) (h : Meter) → OwnText h →
+    OwnText (final (run_word env o w globals h))
 run_word_keeps env None w globals h p = p
 run_word_keeps env (Some id) w globals h p = run_of_keeps env id (word_value w ∷ []) globals h p
 
@@ -121,15 +127,18 @@ word_keeps k each (Done o c h) p = each c.globals h p
 word_keeps k each (Thrown x c h) p = p
 word_keeps k each (Halt e c h) p = p
 
-words_keep : (env : Environment) (es : Entries) (ws : List Word) (globals : List Binding) (h : Meter) → OwnText h → OwnText (words_final (run_words env es ws globals h))
+words_keep : (env : Environment) (es : Entries) (ws : List Word) (globals : List Binding) (h : Meter) → OwnText h →
+    OwnText (words_final (run_words env es ws globals h))
 words_keep env es [] globals h p = p
 words_keep env es (w ∷ ws) globals h p =
     let line = word_line h.text_open w in
     word_keeps (run_words env es ws) (words_keep env es ws) (run_word env (entry_for es w) w globals (wrote h line))
     (run_word_keeps env (entry_for es w) w globals (wrote h line) (own_text_kept.wrote h line p))
 
-pub words_own_text : (env : Environment) (es : Entries) (ws : List Word) (globals : List Binding) (steps : ℕ) → OwnText (words_final (run_words env es ws globals (starting steps (Some []))))
-words_own_text env es ws globals steps = words_keep env es ws globals (starting steps (Some [])) (record { text = []; told = refl; text_open = refl })
+pub words_own_text : (env : Environment) (es : Entries) (ws : List Word) (globals : List Binding) (steps : ℕ) →
+    OwnText (words_final (run_words env es ws globals (starting steps (Some []))))
+words_own_text env es ws globals steps =
+    words_keep env es ws globals (starting steps (Some [])) (record { text = []; told = refl; text_open = refl })
 
 -- ---- the line of a word
 
@@ -146,11 +155,13 @@ word_closes false m b = digits_close 8 m b
 
 line_closes : (b is_open : Bool) (w : Word) → open_after b (word_line is_open w) ≡ false
 line_closes b is_open w =
-    closed_behind (if is_open then line_feed else []) _ (closed_behind (codes "word ") (word_digits w ++ line_feed) (word_closes (is_short w) w.bits)) b
+    closed_behind (if is_open then line_feed else []) _
+    (closed_behind (codes "word ") (word_digits w ++ line_feed) (word_closes (is_short w) w.bits)) b
 
 -- so a call behind it begins as any call does
 pub line_starts : (h : Meter) (w : Word) → wrote h (word_line h.text_open w) ≡ starting h.steps (appended h.told (word_line h.text_open w))
-line_starts h w = ap (λ b. record { steps = h.steps; told = appended h.told (word_line h.text_open w); text_open = b }) (line_closes h.text_open h.text_open w)
+line_starts h w =
+    ap (λ b. record { steps = h.steps; told = appended h.told (word_line h.text_open w); text_open = b }) (line_closes h.text_open h.text_open w)
 
 -- ---- the bitfields of a word
 
@@ -228,10 +239,12 @@ run_viewed env id T bs globals h =
     ap (λ x. run_of env id (x ∷ []) globals h) u.1 ∙ run_plain env id bs u.0 globals h
 
 -- one word more: its line, and a call with the word in any type
-pub words_step : (env : Environment) (es : Entries) (id : ℕ) (w : Word) (ws : List Word) (T : Closed) (globals : List Binding) (h : Meter) → entry_for es w ≡ Some id →
-    run_words env es (w ∷ ws) globals h
-    ≡ behind_word (run_words env es ws) (run_of env id (viewed T (word_value w) ∷ []) globals (starting h.steps (appended h.told (word_line h.text_open w))))
+pub words_step : (env : Environment) (es : Entries) (id : ℕ) (w : Word) (ws : List Word) (T : Closed) (globals : List Binding) (h : Meter) →
+    entry_for es w ≡ Some id → run_words env es (w ∷ ws) globals h
+    ≡ behind_word (run_words env es ws)
+    (run_of env id (viewed T (word_value w) ∷ []) globals (starting h.steps (appended h.told (word_line h.text_open w))))
 words_step env es id w ws T globals h is =
     ap (λ o. behind_word (run_words env es ws) (run_word env o w globals (wrote h (word_line h.text_open w)))) is
     ∙ ap (λ k. behind_word (run_words env es ws) (run_of env id (word_value w ∷ []) globals k)) (line_starts h w)
-    ∙ ap (behind_word (run_words env es ws)) (sym (run_viewed env id T (bits_of (word_width w) w.bits) globals (starting h.steps (appended h.told (word_line h.text_open w)))))
+    ∙ ap (behind_word (run_words env es ws))
+    (sym (run_viewed env id T (bits_of (word_width w) w.bits) globals (starting h.steps (appended h.told (word_line h.text_open w)))))

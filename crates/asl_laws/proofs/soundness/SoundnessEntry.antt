@@ -82,7 +82,8 @@ only_formal (part T Ts) = T
 abbrev pub word_for : Parts → List Bool → Value
 word_for Ts bs = viewed (type_with (only_formal Ts) no_atoms) (bits_with bs [])
 
-word_belongs : (d : List ℕ → Option Ty) (n : ℕ) (Ts : Parts) (bs : List Bool) → has_word n Ts ≡ true → length bs ≡ n → Belong d no_atoms (word_for Ts bs ∷ []) Ts
+word_belongs : (d : List ℕ → Option Ty) (n : ℕ) (Ts : Parts) (bs : List Bool) → has_word n Ts ≡ true → length bs ≡ n →
+    Belong d no_atoms (word_for Ts bs ∷ []) Ts
 word_belongs d n no_part bs h e = no h
 word_belongs d n (part T (part U Ts)) bs h e = no h
 word_belongs d n (part T no_part) bs h e =
@@ -112,7 +113,8 @@ module _ (a : Accepted) (id : ℕ) (globals : List Binding) (m : GlobalsMatch a.
     pub stands : slice_get a.signatures id ≡ Some signature
     pub call : IsCall a id (word_for signature.formals bs ∷ []) globals
 
-  pub word_call : (name : List ℕ) (n : ℕ) → entry_from (takes_word name n) 0 a.signatures ≡ Some id → (bs : List Bool) → length bs ≡ n → WordCall bs
+  pub word_call : (name : List ℕ) (n : ℕ) → entry_from (takes_word name n) 0 a.signatures ≡ Some id → (bs : List Bool) → length bs ≡ n →
+      WordCall bs
   word_call name n first bs e =
       let r = first_of (takes_word name n) 0 a.signatures id first in
       let s = r.signature in

@@ -162,7 +162,8 @@ module _ (t u : Tests) (p : IsRight t) (q : IsRight u) (le : t.limit ≤ u.limit
     check_same files h = reading_same files entry.None (λ ds found. Unit {0}) (on_check t files) (on_check u files) h
         (λ ds a ok well i. on_same files entry.None ds a _ _ ok refl)
 
-    run_same : (steps : ℕ) (files : List File) → Accepts t entry.Main (λ ds found. RunFits (environment t ds) steps found.main) (read files) →
+    run_same : (steps : ℕ) (files : List File) →
+        Accepts t entry.Main (λ ds found. RunFits (environment t ds) steps found.main) (read files) →
         on_reading files (on_run u steps files) (other files) ≡ on_reading files (on_run t steps files) (read files)
     run_same steps files h = reading_same files entry.Main (λ ds found. RunFits (environment t ds) steps found.main) (on_run t steps files)
         (on_run u steps files) h (λ ds a ok well i. on_same files entry.Main ds a _ _ ok

@@ -410,7 +410,8 @@ module _ (env : Environment) (m : ℕ) (le : env.limit ≤ m) where
   behind_wider r s f g (inl e) w = subst (λ z. WordsWider (behind_word f r) (behind_word g z)) (sym e) (one_behind r f g w)
   behind_wider r s f g (inr i) w = inr (behind_narrow r f i)
 
-  word_wider : (o : Option ℕ) (w : Word) (globals : List Binding) (h : Meter) → OutWider (run_word env o w globals h) (run_word wide o w globals h)
+  word_wider : (o : Option ℕ) (w : Word) (globals : List Binding) (h : Meter) →
+      OutWider (run_word env o w globals h) (run_word wide o w globals h)
   unfolding OutWider
   word_wider None w globals h = inl refl
   word_wider (Some id) w globals h = run_wider id (word_value w ∷ []) globals h
