@@ -55,7 +55,7 @@ arranged_is c old between new begun ended m n a =
     (subst (λ vs. Arranged c old.marks.items (given old.marks.items ended.globals.items (taken old.marks.items old.values.items old.vars.items)) vs) (sym vars)
     (arranged_after c old.marks.items old.values.items ended.globals.items old.vars.items n a)))
 
-module _ (c : Sealed) (fs : List TreeFunc) (gs : List Global) (sealed : IsSealed c.decls c.asked c.main fs gs) (id : ℕ) (args : List rules.Value) (call : (t : Tests) → Suits t → IsCallable t c id args)
+module _ (c : Sealed) (fs : List TreeFunc) (gs : List Global) (sealed : IsSealed c.decls c.asked c.entries fs gs) (id : ℕ) (args : List rules.Value) (call : (t : Tests) → Suits t → IsCallable t c id args)
     (old between new : Memory) (begun ended : Run) (a : arranged c old) (h : held c old) (m : Moved old between new begun ended) (told told1 : Option (List ℕ)) (result : Result (Option Value) Stop)
     (number : ℕ) (same : number ≡ id) (met : Runs (option_map value_of) result fs most_open (tree_call (program_of fs) number args) begun told ended told1) where
   own : Runs (option_map value_of) result fs most_open (tree_call (program_of fs) id args) begun told ended told1
