@@ -26,7 +26,8 @@ has_callable_main ds c grown checked = λ t u id is.
     let h = checked t u in
     let b = bind_ok (verdict Main ds t) (λ a. Ok a.entries) c.entries h.1.1 in
     let accepted = ap (λ e. verdict e c.decls t) h.1.0 ∙ ap (λ zs. verdict Main zs t) h.0 ∙ b.first in
-    main_callable t u c (subst AreGrown (sym h.0) grown) b.value accepted h.1.0 id (ap (λ (n : Entries). n.main) (ok_ok b.value.entries c.entries b.then) ∙ is)
+    main_callable t u c (subst AreGrown (sym h.0) grown) b.value accepted h.1.0 id
+    (ap (λ (n : Entries). n.main) (ok_ok b.value.entries c.entries b.then) ∙ is)
 
 -- the entry that the program tells, over no arguments
 pub callable_so : (c : Sealed) (entry : Option ℕ) (id : ℕ) (args : List Value) → HasCallableMain c → entry ≡ c.entries.main → entry ≡ Some id
