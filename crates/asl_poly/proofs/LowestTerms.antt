@@ -154,10 +154,12 @@ module _ (ts : List Summand) (d : ℕ) (some : 0 < d) where
             omega arith;
       }
 
-  pub lowered_value : (a : ℕ → ℤ) → pos (greatest_common_divisor d (sizes ts)) *ℤ value a (divided (greatest_common_divisor d (sizes ts)) ts) ≡ value a ts
-  lowered_value a =
-      let h = divisor_divides d (sizes ts) in
-      sym (value_multiples a (greatest_common_divisor d (sizes ts)) (divided (greatest_common_divisor d (sizes ts)) ts)) ∙ ap (value a) (divided_back (greatest_common_divisor d (sizes ts)) ts h.1)
+pub lowered_value : (a : ℕ → ℤ) (ts : List Summand) (d : ℕ)
+    → pos (greatest_common_divisor d (sizes ts)) *ℤ value a (divided (greatest_common_divisor d (sizes ts)) ts) ≡ value a ts
+lowered_value a ts d =
+    let h = divisor_divides d (sizes ts) in
+    sym (value_multiples a (greatest_common_divisor d (sizes ts)) (divided (greatest_common_divisor d (sizes ts)) ts))
+    ∙ ap (value a) (divided_back (greatest_common_divisor d (sizes ts)) ts h.1)
 
 pub lowest_polynomial : (ts : List Summand) (d : ℕ) → IsMap ts → 0 < d → d ≤ 2 ^ 16 → IsPolynomial (lowest ts d)
 unfolding lowest
@@ -184,7 +186,7 @@ lowest_same a ts d x y p e =
     let w : pos (d / greatest_common_divisor d (sizes ts)) *ℤ pos (greatest_common_divisor d (sizes ts)) ≡ pos d =
     pos-*ℤ-pos (d / greatest_common_divisor d (sizes ts)) (greatest_common_divisor d (sizes ts)) ∙ ap pos (divides_exact (greatest_common_divisor d (sizes ts)) d i.0) in
     cancel_one (value a (divided (greatest_common_divisor d (sizes ts)) ts) *ℤ x) (y *ℤ pos (d / greatest_common_divisor d (sizes ts))) (greatest_common_divisor d (sizes ts)) (divisor_some d (sizes ts))
-    (scaled_down (pos (greatest_common_divisor d (sizes ts))) (pos (d / greatest_common_divisor d (sizes ts))) (value a (divided (greatest_common_divisor d (sizes ts)) ts)) (value a ts) x y (lowered_value ts d p a) (e ∙ ap (λ z. y *ℤ z) (sym w)))
+    (scaled_down (pos (greatest_common_divisor d (sizes ts))) (pos (d / greatest_common_divisor d (sizes ts))) (value a (divided (greatest_common_divisor d (sizes ts)) ts)) (value a ts) x y (lowered_value a ts d) (e ∙ ap (λ z. y *ℤ z) (sym w)))
 
 -- lowest terms are decided by the greatest divisor
 pub lowest_of_one : (p : Polynomial) → 0 < p.denominator → greatest_common_divisor p.denominator (sizes p.terms) ≡ 1 → IsLowest p

@@ -1,6 +1,6 @@
 -- The results of `add`, `sub` and `mul`: within the limits, with the value that the clauses say; and when a polynomial is constant.
 use Rattle.std.proofs.Common.{inl, inr, ◌≡◌, ◌≢◌, ℕ, ◌+◌, ◌*◌, ◌/◌, ◌<◌, ◌≤◌, ◌^◌, zero, suc, List, [], ◌∷◌, length, true, false, ◌==◌, refl, sym, subst, ◌∙◌, ap, arith}
-use Rattle.std.specs.Prelude.{unsigned_abs, Option, Some, None, MatchOption}
+use Rattle.std.specs.Prelude.{unsigned_abs, Option, Some, None, IfSome, MatchOption}
 use Rattle.std.proofs.Math.IntN.{ℤ, pos, negsuc, ◌+ℤ◌, ◌-ℤ◌, ◌*ℤ◌, neg_ℤ, +ℤ_idl, *ℤ_comm, pos-*ℤ-pos}
 use Rattle.std.proofs.Math.Nat.{mod_self, div-le_self, mul-le-mul_left}
 use Rattle.std.proofs.lemmas.Int.{ints, unsigned_abs-mul}
@@ -49,7 +49,7 @@ combined_map c p q n one hp hq light few =
       few = omega (arith, atoms_few (atoms_of_both p q) (gather p (scaled (constant_term c) q)) i, few);
     }
 
-sub-mul : (a b c : ℤ) → (a -ℤ b) *ℤ c ≡ a *ℤ c -ℤ b *ℤ c
+pub sub-mul : (a b c : ℤ) → (a -ℤ b) *ℤ c ≡ a *ℤ c -ℤ b *ℤ c
 sub-mul a b c = rw (add-mul a (neg_ℤ b) c, neg-mul b c) refl
 
 -- both polynomials over their common denominator
@@ -217,6 +217,20 @@ pub one_value : (p : List Summand) (r : Option ℤ) → IsMap p → r ≡ consta
     → MatchOption r ((c : ℤ) → ((a : ℕ → ℤ) → value a p ≡ c) → ⊥) (λ c. (a : ℕ → ℤ) → value a p ≡ c)
 one_value p None h e = λ c v. let f : constant_of p ≡ Some c = ap constant_of (constant_is p c h v) ∙ constant_back c in cc
 one_value p (Some c) h e = λ a. ap (value a) (found_constant p c h.sorted (sym e)) ∙ value_constant a c
+
+light_with : (ms : List ℕ) (ts : List Summand) (c d : ℤ) (n : ℕ) → unsigned_abs c ≤ n → constant_if ms ts c ≡ Some d → unsigned_abs d ≤ n
+light_with [] [] c d n l e = let f : c ≡ d = cc in rw (← f) l
+light_with [] (t ∷ ts) c d n l e = absurd cc
+light_with (x ∷ xs) ts c d n l e = absurd cc
+
+number_light : (ts : List Summand) (c : ℤ) → constant_of ts ≡ Some c → unsigned_abs c ≤ weight ts
+number_light [] c e = let f : pos 0 ≡ c = cc in rw (← f) (omega arith)
+number_light (t ∷ ts) c e = light_with t.factors ts t.coefficient c (weight (t ∷ ts)) (omega arith) e
+
+-- what `number` answers is within the greatest weight
+pub constant_light : (ts : List Summand) (r : Option ℤ) → IsMap ts → r ≡ constant_of ts → IfSome r (λ c. unsigned_abs c ≤ 2 ^ 62)
+constant_light ts None h e = tt
+constant_light ts (Some c) h e = omega (arith, number_light ts c (sym e), h.light)
 
 one_denominator : (d : ℕ) → (d == 1) ≡ true → d ≡ 1
 one_denominator d e = grind (arith, nat_tests)

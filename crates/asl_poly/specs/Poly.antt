@@ -10,8 +10,8 @@ use Rattle.asl_poly.specs.Denominators.{IsLowest, least_common_multiple, raised,
 use Rattle.asl_poly.specs.Fractions.{SameFraction, fraction_at, worth}
 use Rattle.asl_poly.specs.Substitute.{replaced, replaced_at, with_common_denominator, common_denominator, ReplacedFits}
 
--- ---- What a polynomial is worth, where `a` gives an integer to each atom: the value of its terms over its denominator. Crates above use these words alone,
--- and no equation of values.
+-- ---- What a polynomial is worth, where `a` gives an integer to each atom: the value of its terms over its denominator. Crates
+-- above use these words alone, and no equation of values.
 
 -- p is the integer n: n times the denominator is the value of the terms
 abbrev pub HasWidth : Polynomial → (ℕ → ℤ) → ℤ → Type 0
@@ -21,9 +21,11 @@ HasWidth p a n = value a p.terms ≡ n *ℤ pos p.denominator
 abbrev pub SameAt : (ℕ → ℤ) → Polynomial → Polynomial → Type 0
 SameAt a p q = value a p.terms *ℤ pos q.denominator ≡ value a q.terms *ℤ pos p.denominator
 
+-- p is at most i
 abbrev pub IsAtMost : (ℕ → ℤ) → Polynomial → ℤ → Type 0
 IsAtMost a p i = value a p.terms ≤ℤ (i *ℤ pos p.denominator)
 
+-- p is at least i
 abbrev pub IsAtLeast : (ℕ → ℤ) → Polynomial → ℤ → Type 0
 IsAtLeast a p i = (i *ℤ pos p.denominator) ≤ℤ value a p.terms
 
@@ -35,21 +37,24 @@ Same p q = (a : ℕ → ℤ) → SameAt a p q
 abbrev pub IsConstant : Polynomial → ℤ → Type 0
 IsConstant p c = (a : ℕ → ℤ) → HasWidth p a c
 
--- p is q and one number, for all integers at the atoms: the number c over the product of the denominators
+-- p is q and one number, for all integers at the atoms: c over the product of the denominators
 abbrev pub IsOffset : Polynomial → Polynomial → ℤ → Type 0
 IsOffset p q c = (a : ℕ → ℤ) → value a p.terms *ℤ pos q.denominator ≡ value a q.terms *ℤ pos p.denominator +ℤ c
 
 -- r is the sum of p and q, for all integers at the atoms; likewise below
 abbrev pub IsSum : Polynomial → Polynomial → Polynomial → Type 0
 IsSum p q r =
-    (a : ℕ → ℤ) → value a r.terms *ℤ pos (p.denominator * q.denominator) ≡ (value a p.terms *ℤ pos q.denominator +ℤ value a q.terms *ℤ pos p.denominator) *ℤ pos r.denominator
+    (a : ℕ → ℤ) → value a r.terms *ℤ pos (p.denominator * q.denominator)
+    ≡ (value a p.terms *ℤ pos q.denominator +ℤ value a q.terms *ℤ pos p.denominator) *ℤ pos r.denominator
 
 abbrev pub IsDifference : Polynomial → Polynomial → Polynomial → Type 0
 IsDifference p q r =
-    (a : ℕ → ℤ) → value a r.terms *ℤ pos (p.denominator * q.denominator) ≡ (value a p.terms *ℤ pos q.denominator -ℤ value a q.terms *ℤ pos p.denominator) *ℤ pos r.denominator
+    (a : ℕ → ℤ) → value a r.terms *ℤ pos (p.denominator * q.denominator)
+    ≡ (value a p.terms *ℤ pos q.denominator -ℤ value a q.terms *ℤ pos p.denominator) *ℤ pos r.denominator
 
 abbrev pub IsProduct : Polynomial → Polynomial → Polynomial → Type 0
-IsProduct p q r = (a : ℕ → ℤ) → value a r.terms *ℤ pos (p.denominator * q.denominator) ≡ (value a p.terms *ℤ value a q.terms) *ℤ pos r.denominator
+IsProduct p q r =
+    (a : ℕ → ℤ) → value a r.terms *ℤ pos (p.denominator * q.denominator) ≡ (value a p.terms *ℤ value a q.terms) *ℤ pos r.denominator
 
 -- r is p divided by k
 abbrev pub IsQuotient : Polynomial → ℕ → Polynomial → Type 0
@@ -59,11 +64,16 @@ IsQuotient p k r = (a : ℕ → ℤ) → value a r.terms *ℤ pos (p.denominator
 abbrev pub IsSubstituted : List (ℕ × Polynomial) → Polynomial → Polynomial → Type 0
 IsSubstituted by p r = (a : ℕ → ℤ) → SameFraction (fraction_at a r) (worth (replaced_at a by) p)
 
--- the denominator of a sum, or of a difference
+-- the denominator of a sum, or of a difference, before lowest terms
 abbrev pub sum_denominator : Polynomial → Polynomial → ℕ
 sum_denominator p q = least_common_multiple p.denominator q.denominator
 
--- ---- The limits. They speak of coefficients, and count over the parts, before terms of different parts cancel.
+-- the weight of p over the denominator n, which is a multiple of its own
+abbrev pub weight_over : ℕ → Polynomial → ℕ
+weight_over n p = weight p.terms * (n / p.denominator)
+
+-- ---- The limits. They speak of coefficients and denominators, and count over the parts, before terms of different parts cancel
+-- and before lowest terms.
 
 -- what every `Poly` is
 pub record IsPolynomial (p : Polynomial) : Type 0 where
@@ -74,9 +84,9 @@ pub record IsPolynomial (p : Polynomial) : Type 0 where
 pub record ConstantFits (c : ℤ) : Type 0 where
   pub light : unsigned_abs c ≤ heaviest
 
--- a sum, or a difference: its denominator is the least multiple of both
+-- a sum, or a difference
 pub record SumFits (p q : Polynomial) : Type 0 where
-  pub light : weight p.terms * (sum_denominator p q / p.denominator) + weight q.terms * (sum_denominator p q / q.denominator) ≤ heaviest
+  pub light : weight_over (sum_denominator p q) p + weight_over (sum_denominator p q) q ≤ heaviest
   pub few : length (atoms_of_both p.terms q.terms) ≤ most_atoms
   pub fine : sum_denominator p q ≤ finest
 
@@ -86,6 +96,7 @@ pub record ProductFits (p q : Polynomial) : Type 0 where
   pub few : length (atoms_of_both p.terms q.terms) ≤ most_atoms
   pub fine : p.denominator * q.denominator ≤ finest
 
+-- the quotient by k
 pub record QuotientFits (p : Polynomial) (k : ℕ) : Type 0 where
   pub fine : p.denominator * k ≤ finest
 

@@ -7,11 +7,12 @@ use Rattle.asl_poly.specs.Operations.{atom_terms, constant_term, gather, product
 use Rattle.asl_poly.specs.Denominators.{least_common_multiple}
 use Rattle.asl_poly.specs.Fractions.{Fraction}
 
--- what stands for the atom: the first polynomial given for it, else the atom itself. Its terms, and its denominator
+-- what stands for the atom: the first polynomial given for it, else the atom itself; its terms
 abbrev pub map_at : List (ℕ × Polynomial) → ℕ → List Summand
 map_at [] x = atom_terms x
 map_at (e ∷ by) x = if x == e.0 then e.1.terms else map_at by x
 
+-- its denominator
 abbrev pub denominator_at : List (ℕ × Polynomial) → ℕ → ℕ
 denominator_at [] x = 1
 denominator_at (e ∷ by) x = if x == e.0 then e.1.denominator else denominator_at by x
@@ -53,7 +54,7 @@ abbrev pub note_replaced : List (ℕ × Polynomial) → List ℕ → List Summan
 note_replaced by seen [] = seen
 note_replaced by seen (t ∷ ts) = note_replaced by (note_maps by seen t.factors) ts
 
--- a denominator is from 1 to 65,536
+-- the denominator of what stands for an atom is above 0 and within the limit
 abbrev pub AllFine : List (ℕ × Polynomial) → Type 0
 AllFine by = (x : ℕ) → (0 < denominator_at by x) × (denominator_at by x ≤ finest)
 
@@ -70,24 +71,25 @@ abbrev pub factors_denominator : List (ℕ × Polynomial) → List ℕ → ℕ
 factors_denominator by [] = 1
 factors_denominator by (x ∷ xs) = denominator_at by x * factors_denominator by xs
 
--- the least multiple of n and of the denominators of the terms
+-- the least common multiple of n and of the denominators of the terms
 abbrev pub common_denominator_from : List (ℕ × Polynomial) → ℕ → List Summand → ℕ
 common_denominator_from by n [] = n
 common_denominator_from by n (t ∷ ts) = common_denominator_from by (least_common_multiple n (factors_denominator by t.factors)) ts
 
+-- the least common multiple of the denominators of the terms
 abbrev pub common_denominator : List (ℕ × Polynomial) → List Summand → ℕ
 common_denominator by ts = common_denominator_from by 1 ts
 
--- the term times what its denominator lacks of n
+-- the term over the denominator n, which is a multiple of its own
 abbrev pub raised_term : List (ℕ × Polynomial) → ℕ → Summand → Summand
 raised_term by n t = with_coefficient (pos (n / factors_denominator by t.factors) *ℤ t.coefficient) t
 
--- each of the terms so
+-- the terms over the denominator n
 abbrev pub raised_terms : List (ℕ × Polynomial) → ℕ → List Summand → List Summand
 raised_terms by n [] = []
 raised_terms by n (t ∷ ts) = raised_term by n t ∷ raised_terms by n ts
 
--- the terms with coefficients over one denominator
+-- the terms over their common denominator: behind each, its atoms may be replaced as if all denominators were 1
 abbrev pub with_common_denominator : List (ℕ × Polynomial) → List Summand → List Summand
 with_common_denominator by ts = raised_terms by (common_denominator by ts) ts
 

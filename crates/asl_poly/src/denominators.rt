@@ -9,9 +9,6 @@ ghost use Rattle.asl_poly.specs.Denominators.{greatest_common_divisor, least_com
 use crate::term::{Term, copy_term, multiple};
 use std::alloc::{AllocError, Global};
 
-// The greatest denominator of a polynomial.
-pub(crate) const FINEST: u128 = 65536;
-
 // The greatest common divisor, by Euclid's algorithm.
 fn gcd(a: u128, b: u128) -> u128
     ensures { IsGcd a b result }

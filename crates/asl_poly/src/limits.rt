@@ -6,7 +6,7 @@ ghost use Rattle.asl_poly.specs.Limits.{weight, degree, has_atom, note_factors, 
 ghost use Rattle.asl_poly.specs.Poly.{SumFits, ProductFits};
 
 use crate::Atom;
-use crate::denominators::{FINEST, least_common_multiple};
+use crate::denominators::least_common_multiple;
 use crate::term::Term;
 use std::alloc::{AllocError, Global};
 
@@ -18,6 +18,9 @@ pub const HIGHEST: usize = 4;
 
 /// The most atoms of a polynomial.
 pub const MOST_ATOMS: usize = 8;
+
+/// The greatest denominator of a polynomial, also before the lowest terms are found: 65,536.
+pub const FINEST: u128 = 65536;
 
 // The sum of the absolute coefficients.
 pub(crate) fn weight(ts: &[Term]) -> u128

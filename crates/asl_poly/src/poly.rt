@@ -2,7 +2,8 @@
 
 mod substitute;
 
-ghost use Rattle.std.specs.Prelude.{ℕ, ◌≡◌, ◌<◌, ◌≤◌, ◌*◌, ◌^◌, ◌↔◌, ℤ, pos, ◌≤ℤ◌, IsTrue, IfOk, MatchOption, Some, None, slice_get, length, unsigned_abs};
+ghost use Rattle.std.specs.Prelude.{ℕ, ◌≡◌, ◌<◌, ◌≤◌, ◌*◌, ◌^◌, ◌↔◌, ℤ, pos, ◌≤ℤ◌, IsTrue, IfOk, IfSome, MatchOption, Some, None, slice_get, length, unsigned_abs};
+ghost use Rattle.asl_poly.specs.WidthLimits.{heaviest};
 ghost use Rattle.asl_poly.specs.Terms.{value};
 ghost use Rattle.asl_poly.specs.Limits.{IsMap};
 ghost use Rattle.asl_poly.specs.Operations.{product_terms};
@@ -11,8 +12,8 @@ ghost use Rattle.asl_poly.specs.Substitute.{common_denominator, raised_terms};
 ghost use Rattle.asl_poly.specs.Poly.{IsPolynomial, Same, IsConstant, IsOffset, IsSum, IsDifference, IsProduct, IsQuotient, IsSubstituted, sum_denominator, ConstantFits, SumFits, ProductFits, QuotientFits, SubstituteFits, constant_map, atom_map, sum_map, difference_map, product_map, quotient_map, substitute_map, constant_value, Gives};
 
 use crate::constant::{constant_of, offset_of};
-use crate::denominators::{FINEST, common_divisor, divided, least_common_multiple, multiples};
-use crate::limits::{HEAVIEST, product_fits, sum_fits};
+use crate::denominators::{common_divisor, divided, least_common_multiple, multiples};
+use crate::limits::{FINEST, HEAVIEST, product_fits, sum_fits};
 use crate::term::{Term, atom_term, constant_term};
 use crate::terms::{copied, difference, equal_terms, multiplied, single, sum};
 use crate::{Atom, PolyRefused};
@@ -317,10 +318,11 @@ impl Poly {
         }
     }
 
-    /// The integer that this times the denominator is for all integers at its atoms, `None` where there is none. It takes no
-    /// memory.
+    /// The integer that this times the denominator is for all integers at its atoms, `None` where there is none. It is
+    /// within the greatest weight. It takes no memory.
     pub fn number(&self) -> Option<i128>
-        ensures { MatchOption result ((c : ℤ) → ((a : ℕ → ℤ) → value a self.now.terms ≡ c) → ⊥) (λ c. (a : ℕ → ℤ) → value a self.now.terms ≡ c) }
+        ensures light { IfSome result (λ c. unsigned_abs c ≤ heaviest) }
+        ensures value { MatchOption result ((c : ℤ) → ((a : ℕ → ℤ) → value a self.now.terms ≡ c) → ⊥) (λ c. (a : ℕ → ℤ) → value a self.now.terms ≡ c) }
     {
         constant_of(&self.terms)
     }

@@ -9,8 +9,8 @@ ghost use Rattle.asl_poly.specs.Operations.{constant_term, gather, product_terms
 ghost use Rattle.asl_poly.specs.Substitute.{map_at, denominator_at, AllFine, factors_denominator, common_denominator, raised_term, raised_terms, AreMaps, AllMaps, factors_weight, replaced_weight, factors_degree, replaced_degree, note_maps, note_replaced, times_maps, replaced, ReplacedFits};
 
 use crate::Atom;
-use crate::denominators::{FINEST, least_common_multiple};
-use crate::limits::{HEAVIEST, HIGHEST, MOST_ATOMS, degree, note_terms, weight};
+use crate::denominators::least_common_multiple;
+use crate::limits::{FINEST, HEAVIEST, HIGHEST, MOST_ATOMS, degree, note_terms, weight};
 use crate::poly::Poly;
 use crate::term::{Term, atom_term, constant_term, copy_term, multiple};
 use crate::terms::{add_scaled, copied, multiplied, single};
