@@ -32,13 +32,13 @@ times_pos x y n h =
     let k = apart x y h in
     subst (λ z. (x *ℤ pos n) ≤ℤ (z *ℤ pos n)) (sym k.1) (add_pos x k.0 n)
 
-at_most_or : (x y : ℤ) → (x ≤ℤ y) ⊎ ((y +ℤ pos 1) ≤ℤ x)
+pub at_most_or : (x y : ℤ) → (x ≤ℤ y) ⊎ ((y +ℤ pos 1) ≤ℤ x)
 at_most_or x y = grind (arith, ints)
 
 too_much : (u v : ℤ) (n : ℕ) → 0 < n → u ≤ℤ v → (v +ℤ pos n) ≤ℤ u → ⊥
 too_much u v n p h k = omega (arith, ints)
 
-one_more : (y : ℤ) (n : ℕ) → (y +ℤ pos 1) *ℤ pos n ≡ y *ℤ pos n +ℤ pos n
+pub one_more : (y : ℤ) (n : ℕ) → (y +ℤ pos 1) *ℤ pos n ≡ y *ℤ pos n +ℤ pos n
 one_more y n = add-mul y (pos 1) (pos n) ∙ ap (λ z. y *ℤ pos n +ℤ z) (pos-*ℤ-pos 1 n ∙ ap pos (once n))
   where
     once : (n : ℕ) → 1 * n ≡ n

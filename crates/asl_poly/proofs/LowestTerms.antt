@@ -5,7 +5,7 @@ use Rattle.std.specs.declared.cmp.Ordering.TheVariants.{Less}
 use Rattle.std.proofs.Math.IntN.{ℤ, pos, negsuc, ◌+ℤ◌, ◌*ℤ◌, neg_ℤ, *ℤ_comm, pos-*ℤ-pos, zero-*ℤ}
 use Rattle.std.proofs.Math.Nat.{le_of_mul-le-mul_right, mul-le-mul_left, le_antisymm, div-le_self}
 use Rattle.std.proofs.lemmas.Int.{ints, unsigned_abs-mul, quot-rem}
-use Rattle.asl_poly.specs.Terms.{Summand, Polynomial, over, IsTerm, Sorted, AllBelow, order, value, product}
+use Rattle.asl_poly.specs.Terms.{Summand, Polynomial, over, of_terms, IsTerm, Sorted, AllBelow, order, value, product}
 use Rattle.asl_poly.specs.Limits.{IsMap, weight, note_terms, note_factors, atoms_of}
 use Rattle.asl_poly.specs.Operations.{constant_term, scaled, times, with_coefficient}
 use Rattle.asl_poly.specs.Denominators.{Divides, DivideEach, greatest_common_divisor, multiples, divided, sizes, lowered, lowest, IsLowest}
@@ -17,7 +17,7 @@ use Rattle.asl_poly.proofs.DistinctValues.{same_term}
 use Rattle.std.specs.Int.{IsGcd}
 use Rattle.std.proofs.lemmas.List.{drop_all}
 use Rattle.asl_poly.proofs.ProductLoops.{next}
-use Rattle.asl_poly.proofs.Divisors.{divides_exact, multiple_divides, divides_some, divisor_some, divisor_divides, divisor_most, raised_some, IsDivisor, divisor_is, divisor_step, divisor_end}
+use Rattle.asl_poly.proofs.Divisors.{divides_exact, multiple_divides, divides_some, divides_le, divisor_some, divisor_divides, divisor_most, raised_some, IsDivisor, divisor_is, divisor_step, divisor_end}
 
 no_weight : (z : ℤ) → unsigned_abs z ≡ 0 → z ≡ pos 0
 no_weight z e = omega (arith, ints)
@@ -196,6 +196,14 @@ lowest_of_one p some e = record {
       let l : k ≤ greatest_common_divisor p.denominator (sizes p.terms) = divisor_most p.denominator (sizes p.terms) k some h i in
       let q : 0 < k = divides_some k p.denominator some h in
       omega arith;
+}
+
+-- over 1
+pub one_is_polynomial : (ts : List Summand) → IsMap ts → IsPolynomial (of_terms ts)
+one_is_polynomial ts h = record {
+  map = h;
+  lowest = record { positive = omega arith; lowest = λ k d i. le_antisymm (divides_le k 1 (omega arith) d) (divides_some k 1 (omega arith) d) };
+  fine = omega arith;
 }
 
 pub one_of_lowest : (p : Polynomial) → IsLowest p → greatest_common_divisor p.denominator (sizes p.terms) ≡ 1
