@@ -46,8 +46,7 @@ range_by : (p : Part) (a : ℕ → ℤ) (o q : Option ℤ) (r : ℤ × ℤ) → 
 range_by p a None q r e f g = none_some r g
 range_by p a (Some l) None r e f g = none_some r g
 range_by p a (Some l) (Some h) r e f g =
-    let s : (l, h) ≡ r = some_same (l, h) r g in
-    (
+    let s : (l, h) ≡ r = some_same (l, h) r g in (
       subst (IsWhole a (poly_of p.low)) (ap (λ (t : ℤ × ℤ). t.0) s) (number_end p.low a l e),
       subst (IsWhole a (poly_of p.high)) (ap (λ (t : ℤ × ℤ). t.1) s) (number_end p.high a h f),
     )

@@ -1,6 +1,6 @@
 -- An integer beside a fraction is compared with the quotient, rounded down.
-use Rattle.std.proofs.Common.{inl, inr, ◌≡◌, ℕ, ◌<◌, Bool, true, false, refl, sym, subst, ◌∙◌, ap, arith, rules}
-use Rattle.std.specs.Prelude.{IsTrue, ◌↔◌, ◌≤ℤ◌, Option, Some, unsigned_abs}
+use Rattle.std.proofs.Common.{inl, inr, ◌≡◌, ℕ, ◌<◌, Bool, true, false, sym, subst, arith, rules}
+use Rattle.std.specs.Prelude.{IsTrue, ◌↔◌, ◌≤ℤ◌, Some, unsigned_abs}
 use Rattle.std.proofs.Math.Bool.{not}
 use Rattle.std.proofs.Math.IntN.{ℤ, pos, negsuc, ◌+ℤ◌, ◌-ℤ◌, ◌*ℤ◌}
 use Rattle.std.proofs.lemmas.Int.{ints}
@@ -27,7 +27,7 @@ at_most_floor x c n p = (
   λ h. elim (at_most_or x (floor_div c n)) [
     | inl k ↦ k
     | inr k ↦ absurd (past_it (x *ℤ pos n) (floor_div c n *ℤ pos n) c (floor_mod c n) n (floor_law c n p).0 (floor_law c n p).1
-      (subst (λ z. z ≤ℤ (x *ℤ pos n)) (one_more (floor_div c n) n) (times_pos (floor_div c n +ℤ pos 1) x n k)) h)
+        (subst (λ z. z ≤ℤ (x *ℤ pos n)) (one_more (floor_div c n) n) (times_pos (floor_div c n +ℤ pos 1) x n k)) h)
   ],
 )
 

@@ -1,5 +1,5 @@
 -- Bounds of fractions: what an operation makes of polynomials within some integers is within what it makes of these integers.
-use Rattle.std.proofs.Common.{◌⊎◌, inl, inr, ◌≡◌, ℕ, ◌+◌, ◌*◌, ◌/◌, ◌<◌, List, [], refl, sym, subst, ◌∙◌, ap, arith}
+use Rattle.std.proofs.Common.{◌⊎◌, inl, inr, ◌≡◌, ℕ, ◌*◌, ◌/◌, ◌<◌, List, refl, sym, subst, ◌∙◌, ap, arith}
 use Rattle.std.specs.Prelude.{◌≤ℤ◌, unsigned_abs}
 use Rattle.std.proofs.Math.IntN.{ℤ, pos, negsuc, ◌+ℤ◌, ◌-ℤ◌, ◌*ℤ◌, *ℤ_comm, pos-*ℤ-pos}
 use Rattle.std.proofs.lemmas.Int.{ints}
@@ -7,7 +7,7 @@ use Rattle.asl_poly.specs.Terms.{Summand, Polynomial, value}
 use Rattle.asl_poly.specs.Operations.{sum_terms, difference_terms, product_terms}
 use Rattle.asl_poly.specs.Denominators.{greatest_common_divisor, raised, divided, sizes, lowest}
 use Rattle.asl_poly.specs.Poly.{IsAtMost, IsAtLeast, sum_denominator, sum_map, difference_map, product_map}
-use Rattle.asl_poly.proofs.Ring.{add-mul, mul_assoc, swap_last}
+use Rattle.asl_poly.proofs.Ring.{add-mul, mul_assoc}
 use Rattle.asl_poly.proofs.Divisors.{divides_exact, divisor_some, divisor_divides, multiple_left, multiple_right}
 use Rattle.asl_poly.proofs.LowestTerms.{value_multiples, lowered_value}
 use Rattle.asl_poly.proofs.Maps.{sub-mul, value_sum, value_difference, value_product}

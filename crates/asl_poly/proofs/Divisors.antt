@@ -1,7 +1,7 @@
 -- Divisors and multiples: the greatest number that divides some others, and the least that two divide.
-use Rattle.std.proofs.Common.{◌⊎◌, inl, inr, ◌≡◌, ℕ, ◌+◌, ◌*◌, ◌/◌, ◌%◌, ◌<◌, ◌≤◌, zero, suc, List, [], ◌∷◌, Bool, true, false, ◌==◌, refl, sym, subst, ◌∙◌, ap, arith}
+use Rattle.std.proofs.Common.{◌⊎◌, inl, inr, ◌≡◌, ℕ, ◌+◌, ◌*◌, ◌/◌, ◌%◌, ◌<◌, ◌≤◌, zero, suc, List, [], ◌∷◌, true, false, ◌==◌, refl, subst, ◌∙◌, ap, arith}
 use Rattle.std.specs.Int.{IsGcd}
-use Rattle.std.proofs.Math.Nat.{mod_self, mod-one, dvd-mul_left, eq-zero_of_zero-dvd, le_antisymm, le_of_mul-le-mul_right}
+use Rattle.std.proofs.Math.Nat.{mod_self, mod-one, dvd-mul_left, eq-zero_of_zero-dvd, le_antisymm}
 use Rattle.std.proofs.lemmas.Nat.Gcd.{dvd_trans, le_of_dvd, dvd_of_mod-eq-zero, mod-eq-zero_of_dvd}
 use Rattle.std.proofs.lemmas.Bool.Decides.{nat_tests}
 use Rattle.std.proofs.lemmas.Bool.{cases_Bool}

@@ -1,16 +1,15 @@
 -- Terms over other denominators: their multiples, the terms divided by a common divisor, and lowest terms.
-use Rattle.std.proofs.Common.{inl, inr, ◌≡◌, ◌≢◌, ℕ, ◌+◌, ◌*◌, ◌/◌, ◌%◌, ◌<◌, ◌≤◌, ◌^◌, zero, suc, List, [], ◌∷◌, length, drop, slice_index_or, refl, sym, subst, ◌∙◌, ap, arith}
+use Rattle.std.proofs.Common.{◌≡◌, ◌≢◌, ℕ, ◌+◌, ◌*◌, ◌/◌, ◌<◌, ◌≤◌, ◌^◌, zero, suc, List, [], ◌∷◌, length, drop, slice_index_or, refl, sym, ◌∙◌, ap, arith}
 use Rattle.std.specs.Prelude.{unsigned_abs, int_div, int_rem}
-use Rattle.std.specs.declared.cmp.Ordering.TheVariants.{Less}
 use Rattle.std.proofs.Math.IntN.{ℤ, pos, negsuc, ◌+ℤ◌, ◌*ℤ◌, neg_ℤ, *ℤ_comm, pos-*ℤ-pos, zero-*ℤ}
-use Rattle.std.proofs.Math.Nat.{le_of_mul-le-mul_right, mul-le-mul_left, le_antisymm, div-le_self}
+use Rattle.std.proofs.Math.Nat.{le_of_mul-le-mul_right, le_antisymm, div-le_self}
 use Rattle.std.proofs.lemmas.Int.{ints, unsigned_abs-mul, quot-rem}
-use Rattle.asl_poly.specs.Terms.{Summand, Polynomial, over, of_terms, IsTerm, Sorted, AllBelow, order, value, product}
-use Rattle.asl_poly.specs.Limits.{IsMap, weight, note_terms, note_factors, atoms_of}
-use Rattle.asl_poly.specs.Operations.{constant_term, scaled, times, with_coefficient}
+use Rattle.asl_poly.specs.Terms.{Summand, Polynomial, of_terms, Sorted, AllBelow, value}
+use Rattle.asl_poly.specs.Limits.{IsMap, weight, note_terms, note_factors}
+use Rattle.asl_poly.specs.Operations.{constant_term, times, with_coefficient}
 use Rattle.asl_poly.specs.Denominators.{Divides, DivideEach, greatest_common_divisor, multiples, divided, sizes, lowered, lowest, IsLowest}
 use Rattle.asl_poly.specs.Poly.{IsPolynomial}
-use Rattle.asl_poly.proofs.Ring.{mul_assoc, mul-one, one-mul, swap_last, add-mul, neg-mul}
+use Rattle.asl_poly.proofs.Ring.{mul_assoc, mul-one, swap_last, add-mul, neg-mul}
 use Rattle.asl_poly.proofs.Values.{value-scaled}
 use Rattle.asl_poly.proofs.NormalForm.{weight_scaled, nonzero_mul}
 use Rattle.asl_poly.proofs.DistinctValues.{same_term}
@@ -129,10 +128,9 @@ each_more k m [] h i = tt
 each_more k m (t ∷ ts) h i =
     let e : int_div t.coefficient (pos k) *ℤ pos k ≡ t.coefficient = exact_quotient k t.coefficient h.0 in
     let f : unsigned_abs (int_div t.coefficient (pos k)) * k ≡ unsigned_abs t.coefficient = sym (unsigned_abs-mul (int_div t.coefficient (pos k)) (pos k)) ∙ ap unsigned_abs e in
-    let b : unsigned_abs (int_div t.coefficient (pos k)) / m * m ≡ unsigned_abs (int_div t.coefficient (pos k)) = divides_exact m (unsigned_abs (int_div t.coefficient (pos k))) i.0 in
-    (
+    let b : unsigned_abs (int_div t.coefficient (pos k)) / m * m ≡ unsigned_abs (int_div t.coefficient (pos k)) = divides_exact m (unsigned_abs (int_div t.coefficient (pos k))) i.0 in (
       multiple_divides (m * k) (unsigned_abs (int_div t.coefficient (pos k)) / m) (unsigned_abs t.coefficient)
-      (put_together (unsigned_abs (int_div t.coefficient (pos k)) / m) m k (unsigned_abs (int_div t.coefficient (pos k))) (unsigned_abs t.coefficient) b f),
+          (put_together (unsigned_abs (int_div t.coefficient (pos k)) / m) m k (unsigned_abs (int_div t.coefficient (pos k))) (unsigned_abs t.coefficient) b f),
       each_more k m ts h.1 i.1,
     )
 

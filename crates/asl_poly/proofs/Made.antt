@@ -1,6 +1,5 @@
 -- What the calls of a polynomial make of the terms that they find: within the limits, the map of the definition, and its value.
 use Rattle.std.proofs.Common.{◌≡◌, ℕ, ◌+◌, ◌*◌, ◌/◌, ◌<◌, ◌≤◌, ◌^◌, List, [], refl, sym, subst, ◌∙◌, ap, arith}
-use Rattle.std.proofs.Math.IntN.{ℤ, pos}
 use Rattle.std.proofs.Math.Nat.{mul-le-mul_right}
 use Rattle.asl_poly.specs.Terms.{Polynomial, Summand, over}
 use Rattle.asl_poly.specs.Limits.{IsMap, weight, degree}

@@ -9,12 +9,12 @@ use Rattle.std.proofs.lemmas.Bool.{cases_Bool}
 use Rattle.asl_poly.specs.Terms.{Summand, IsTerm, Sorted, value}
 use Rattle.asl_poly.specs.Limits.{IsMap, weight, degree, atoms_of_both, note_terms}
 use Rattle.asl_poly.specs.Operations.{constant_of, constant_if, constant_term, gather, scaled, constant_term, multiply, sum_terms, difference_terms, product_terms, is_zero, constant_terms}
-use Rattle.asl_poly.specs.Terms.{Polynomial, over}
-use Rattle.asl_poly.specs.Denominators.{Divides, DivideEach, least_common_multiple, multiples, raised, sizes, lowest, IsLowest}
+use Rattle.asl_poly.specs.Terms.{Polynomial}
+use Rattle.asl_poly.specs.Denominators.{DivideEach, raised, sizes, lowest}
 use Rattle.asl_poly.specs.Poly.{IsPolynomial, SumFits, ProductFits, sum_denominator, HasWidth, constant_value}
 use Rattle.asl_poly.proofs.Ring.{one-mul, mul-one, neg-mul, add-mul, mul_assoc, swap_last}
 use Rattle.asl_poly.proofs.Divisors.{divides_exact, multiple_divides, multiple_left, multiple_right, multiple_some, raised_some}
-use Rattle.asl_poly.proofs.LowestTerms.{value_multiples, weight_multiples, noted_multiples, map_multiples, sorted_multiples, lowest_same}
+use Rattle.asl_poly.proofs.LowestTerms.{value_multiples, weight_multiples, noted_multiples, map_multiples, lowest_same}
 use Rattle.asl_poly.proofs.Values.{value-gather, value-scaled, value-multiply, zero_is}
 use Rattle.asl_poly.proofs.NormalForm.{AllTerms, all_sorted, sorted_gather, times_term, weight_gather, weight_scaled, weight_multiply, not_zero}
 use Rattle.asl_poly.proofs.Atoms.{FactorsIn, terms_have, in_keep, gather_in, scaled_in, multiply_in, atoms_few}

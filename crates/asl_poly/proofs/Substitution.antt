@@ -8,13 +8,13 @@ use Rattle.std.proofs.Math.Nat.{mul-le-mul_left, mul-le-mul_right, mul_assoc, mo
 use Rattle.std.proofs.lemmas.Int.{ints, unsigned_abs-mul}
 use Rattle.std.proofs.lemmas.List.{drop_all}
 use Rattle.std.proofs.lemmas.Bool.{cases_Bool}
-use Rattle.asl_poly.specs.Terms.{Polynomial, Summand, Sorted, AllBelow, IsTerm, value, product, order}
+use Rattle.asl_poly.specs.Terms.{Polynomial, Summand, Sorted, AllBelow, value, product, order}
 use Rattle.asl_poly.specs.Limits.{IsMap, weight, degree, note_terms}
 use Rattle.asl_poly.specs.Operations.{gather, scaled, constant_term, multiply, product_terms, atom_terms, insert, placed, joined, is_zero}
 use Rattle.asl_poly.specs.Substitute.{map_at, AreMaps, AllMaps, factors_weight, replaced_weight, factors_degree, replaced_degree, note_maps, note_replaced, times_maps, replaced, replaced_at, denominator_at, factors_denominator, common_denominator_from, common_denominator, raised_terms, with_common_denominator, AllFine, ReplacedFits}
 use Rattle.asl_poly.specs.Denominators.{Divides, least_common_multiple, lowest}
 use Rattle.asl_poly.specs.Fractions.{Fraction, SameFraction, fraction_at, worth, product_of, sum_of}
-use Rattle.asl_poly.specs.Poly.{IsPolynomial, SubstituteFits}
+use Rattle.asl_poly.specs.Poly.{IsPolynomial}
 use Rattle.asl_poly.proofs.Ring.{one-mul, mul-one, add-mul, swap_last, mul_assoc as mul_assocℤ}
 use Rattle.asl_poly.proofs.Values.{value-gather, value-multiply}
 use Rattle.asl_poly.proofs.ProductLoops.{next}
@@ -324,10 +324,9 @@ module _ (by : List (ℕ × Polynomial)) (f : AllFine by) where
   from_divide : (n : ℕ) (ts : List Summand) → 0 < n → AllDivide by (common_denominator_from by n ts) ts
   from_divide n [] p = tt
   from_divide n (t ∷ ts) p =
-      let m : 0 < least_common_multiple n (factors_denominator by t.factors) = multiple_some n (factors_denominator by t.factors) p (factors_some by t.factors f) in
-      (
+      let m : 0 < least_common_multiple n (factors_denominator by t.factors) = multiple_some n (factors_denominator by t.factors) p (factors_some by t.factors f) in (
         divides_trans (factors_denominator by t.factors) (least_common_multiple n (factors_denominator by t.factors)) (common_denominator_from by (least_common_multiple n (factors_denominator by t.factors)) ts) (multiple_right n (factors_denominator by t.factors))
-        (from_divides (least_common_multiple n (factors_denominator by t.factors)) ts m),
+            (from_divides (least_common_multiple n (factors_denominator by t.factors)) ts m),
         from_divide (least_common_multiple n (factors_denominator by t.factors)) ts m,
       )
 
@@ -348,8 +347,7 @@ some_pos (suc k) p = λ e. cc
 pub raised_sorted : (by : List (ℕ × Polynomial)) (n : ℕ) (ts : List Summand) → 0 < n → AllDivide by n ts → Sorted ts → Sorted (raised_terms by n ts)
 raised_sorted by n [] p d h = tt
 raised_sorted by n (t ∷ ts) p d h =
-    let q : 0 < n / factors_denominator by t.factors = raised_some (factors_denominator by t.factors) n p d.0 in
-    (
+    let q : 0 < n / factors_denominator by t.factors = raised_some (factors_denominator by t.factors) n p d.0 in (
       record { counts = nonzero_mul (pos (n / factors_denominator by t.factors)) t.coefficient (some_pos (n / factors_denominator by t.factors) q) h.0.counts; falls = h.0.falls; degree = h.0.degree },
       below_raised by n t.factors ts h.1,
       raised_sorted by n ts p d.1 h.2,

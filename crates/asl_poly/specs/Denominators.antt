@@ -1,5 +1,5 @@
 -- Denominators: common ones, and lowest terms.
-use Rattle.std.specs.Prelude.{◌≡◌, ℕ, zero, suc, ◌*◌, ◌/◌, ◌%◌, ◌<◌, ◌==◌, ◌&&◌, if◌then◌else◌, Bool, true, ℤ, pos, List, [], ◌∷◌, unsigned_abs, int_div}
+use Rattle.std.specs.Prelude.{◌≡◌, ℕ, zero, suc, ◌*◌, ◌/◌, ◌%◌, ◌<◌, ◌==◌, ◌&&◌, if◌then◌else◌, Bool, true, pos, List, [], ◌∷◌, unsigned_abs, int_div}
 use Rattle.asl_poly.specs.Terms.{Summand, Polynomial, over}
 use Rattle.asl_poly.specs.Operations.{with_coefficient, constant_term, scaled}
 

@@ -108,7 +108,13 @@ impl Poly {
     fn sum_fits(&self, alloc: Global, other: &Poly) -> Result<bool, AllocError>
         ensures { IfOk result (λ b. IsTrue b ↔ SumFits self.now other.now) }
     {
-        sum_fits(alloc, &self.terms, self.denominator, &other.terms, other.denominator)
+        sum_fits(
+            alloc,
+            &self.terms,
+            self.denominator,
+            &other.terms,
+            other.denominator,
+        )
     }
 
     // The denominator of the sum, which is within the limits.
@@ -171,7 +177,13 @@ impl Poly {
     fn product_fits(&self, alloc: Global, other: &Poly) -> Result<bool, AllocError>
         ensures { IfOk result (λ b. IsTrue b ↔ ProductFits self.now other.now) }
     {
-        product_fits(alloc, &self.terms, self.denominator, &other.terms, other.denominator)
+        product_fits(
+            alloc,
+            &self.terms,
+            self.denominator,
+            &other.terms,
+            other.denominator,
+        )
     }
 
     // The terms of the product.
@@ -263,7 +275,12 @@ impl Poly {
 
     // The terms over one denominator.
     #[tactic(auto, using(crate::proofs::Maps::degree_map))]
-    fn raised_terms(&self, alloc: Global, by: &[(Atom, Poly)], n: u128) -> Result<Vec<Term>, AllocError>
+    fn raised_terms(
+        &self,
+        alloc: Global,
+        by: &[(Atom, Poly)],
+        n: u128,
+    ) -> Result<Vec<Term>, AllocError>
         requires { n ≤ 2 ^ 16 }
         ensures { IfOk result (λ v. v.items ≡ raised_terms by.now n self.now.terms) }
     {
@@ -332,7 +349,12 @@ impl Poly {
     pub fn offset(&self, other: &Poly) -> Option<i128>
         ensures { MatchOption result ((c : ℤ) → IsOffset self.now other.now c → ⊥) (λ c. IsOffset self.now other.now c) }
     {
-        offset_of(&self.terms, other.denominator, &other.terms, self.denominator)
+        offset_of(
+            &self.terms,
+            other.denominator,
+            &other.terms,
+            self.denominator,
+        )
     }
 
     /// The denominator, from 1 to 65,536. It takes no memory.

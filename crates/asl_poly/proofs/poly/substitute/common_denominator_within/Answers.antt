@@ -18,7 +18,7 @@ returns-then-n-gt-FINEST c =
 pub loop-t-preserved : goal.loop-t-preserved
 loop-t-preserved c = (
   raised_next c.args.by.now c.args.ts.now c.t-item.result c.loop-t.t-index c.loop-t.n c.factors_denominator-m.result c.least_common_multiple-n.result (common_denominator c.args.by.now c.args.ts.now) (omega arith) c.t-item.is
-  (c.factors_denominator-m.ensures.is ∙ ap (λ xs. factors_denominator c.args.by.now xs) c.atoms.ensures) c.least_common_multiple-n.ensures c.loop-t.invariant.0,
+      (c.factors_denominator-m.ensures.is ∙ ap (λ xs. factors_denominator c.args.by.now xs) c.atoms.ensures) c.least_common_multiple-n.ensures c.loop-t.invariant.0,
   rw c.least_common_multiple-n.ensures (multiple_some c.loop-t.n c.factors_denominator-m.result c.loop-t.invariant.1 c.factors_denominator-m.ensures.some),
   omega (arith, c.if-n-gt-FINEST.false),
 )
