@@ -81,14 +81,16 @@ other_way : (x y c : ℤ) → x ≡ y +ℤ c → y ≡ x -ℤ c
 other_way x y c e = omega (arith, ints)
 
 -- an integer above a width: the number of the width is at most its denominator times the integer
-pub integer_above : (x c : ℤ) (q : Polynomial) → ((a : ℕ → ℤ) → value a q.terms ≡ c) → (c ≤ℤ (x *ℤ pos q.denominator)) ↔ IsAbove (Int x) (Width q)
+pub integer_above : (x c : ℤ) (q : Polynomial) → ((a : ℕ → ℤ) → value a q.terms ≡ c)
+    → (c ≤ℤ (x *ℤ pos q.denominator)) ↔ IsAbove (Int x) (Width q)
 integer_above x c q v = (
   (λ l. record {
     by = x *ℤ pos q.denominator -ℤ c;
     least = no_less (x *ℤ pos q.denominator) c l;
     apart = λ a. left_apart a x q (x *ℤ pos q.denominator -ℤ c) (rw (v a) (rest_of (x *ℤ pos q.denominator) c));
   }),
-  λ h. more (x *ℤ pos q.denominator) c h.by (subst (λ z. x *ℤ pos q.denominator ≡ z +ℤ h.by) (v nowhere) (apart_left nowhere x q h.by (h.apart nowhere))) h.least,
+  λ h. more (x *ℤ pos q.denominator) c h.by (subst (λ z. x *ℤ pos q.denominator ≡ z +ℤ h.by) (v nowhere)
+      (apart_left nowhere x q h.by (h.apart nowhere))) h.least,
 )
 
 pub integer_not_above : (x : ℤ) (q : Polynomial) → ((c : ℤ) → ((a : ℕ → ℤ) → value a q.terms ≡ c) → ⊥) → IsAbove (Int x) (Width q) → ⊥
@@ -96,7 +98,8 @@ integer_not_above x q n h =
     n (x *ℤ pos q.denominator -ℤ h.by) (λ a. other_way (x *ℤ pos q.denominator) (value a q.terms) h.by (apart_left a x q h.by (h.apart a)))
 
 -- a width above an integer: its number is at least its denominator times the integer
-pub above_integer : (p : Polynomial) (y c : ℤ) → ((a : ℕ → ℤ) → value a p.terms ≡ c) → ((y *ℤ pos p.denominator) ≤ℤ c) ↔ IsAbove (Width p) (Int y)
+pub above_integer : (p : Polynomial) (y c : ℤ) → ((a : ℕ → ℤ) → value a p.terms ≡ c)
+    → ((y *ℤ pos p.denominator) ≤ℤ c) ↔ IsAbove (Width p) (Int y)
 above_integer p y c v = (
   (λ l. record {
     by = c -ℤ y *ℤ pos p.denominator;
@@ -110,12 +113,15 @@ pub not_above_integer : (p : Polynomial) (y : ℤ) → ((c : ℤ) → ((a : ℕ 
 not_above_integer p y n h = n (y *ℤ pos p.denominator +ℤ h.by) (λ a. apart_right a p y h.by (h.apart a))
 
 int_above_width : (x y : ℤ) → IsAbove (Int x) (Width (constant_map y)) ↔ IsAbove (Int x) (Int y)
-int_above_width x y = ((λ h. record { by = h.by; least = h.least; apart = h.apart }), λ h. record { by = h.by; least = h.least; apart = h.apart })
+int_above_width x y =
+    ((λ h. record { by = h.by; least = h.least; apart = h.apart }), λ h. record { by = h.by; least = h.least; apart = h.apart })
 
 pub integers_above : (x y : ℤ) → IsTrue (le_z y x) ↔ IsAbove (Int x) (Int y)
 integers_above x y =
-    let i : (y ≤ℤ (x *ℤ pos (constant_map y).denominator)) ↔ IsAbove (Int x) (Width (constant_map y)) = integer_above x y (constant_map y) (λ a. value_constant_map a y) in
-    iff_trans (iff_trans (test_le x y) (subst (λ z. (y ≤ℤ x) ↔ (y ≤ℤ z)) (sym (ap (λ d. x *ℤ pos d) (denominator_constant_map y) ∙ mul-one x)) ((λ l. l), λ l. l))) (iff_trans i (int_above_width x y))
+    let i : (y ≤ℤ (x *ℤ pos (constant_map y).denominator)) ↔ IsAbove (Int x) (Width (constant_map y)) =
+    integer_above x y (constant_map y) (λ a. value_constant_map a y) in
+    iff_trans (iff_trans (test_le x y) (subst (λ z. (y ≤ℤ x) ↔ (y ≤ℤ z))
+    (sym (ap (λ d. x *ℤ pos d) (denominator_constant_map y) ∙ mul-one x)) ((λ l. l), λ l. l))) (iff_trans i (int_above_width x y))
   where
     test_le : (x y : ℤ) → IsTrue (le_z y x) ↔ (y ≤ℤ x)
     test_le x y = ((λ t. grind (arith, ints)), λ l. grind (arith, ints))
@@ -126,7 +132,8 @@ same_number v c d e = omega (arith, ints)
 pub widths_above : (p q : Polynomial) (c : ℤ) → IsOffset p q c → IsTrue (le_z (pos 0) c) ↔ IsAbove (Width p) (Width q)
 widths_above p q c d = (
   (λ t. record { by = c; least = grind (arith, ints); apart = d }),
-  λ h. let g : c ≡ h.by = same_number (value nowhere q.terms *ℤ pos p.denominator) c h.by (sym (d nowhere) ∙ h.apart nowhere) in let l : pos 0 ≤ℤ h.by = h.least in grind (arith, ints),
+  λ h. let g : c ≡ h.by = same_number (value nowhere q.terms *ℤ pos p.denominator) c h.by (sym (d nowhere) ∙ h.apart nowhere) in
+      let l : pos 0 ≤ℤ h.by = h.least in grind (arith, ints),
 )
 
 pub widths_not_above : (p q : Polynomial) → ((c : ℤ) → IsOffset p q c → ⊥) → IsAbove (Width p) (Width q) → ⊥
@@ -161,10 +168,12 @@ not_holds p l h i w f n k =
 pub free_not_holds : (p : Part) (i : ℤ) → ((l h : ℤ) → IsFixed p l h → ⊥) → Holds p i → ⊥
 free_not_holds p i n k = n k.l k.h k.fixed
 
-pub covered_fixed : (p : Part) (qs : List Part) (l h : ℤ) → Ends p → IsFixed p l h → ((i : ℤ) → l ≤ℤ i → i ≤ℤ h → InFixed i qs) ↔ IsCovered qs p
+pub covered_fixed : (p : Part) (qs : List Part) (l h : ℤ) → Ends p → IsFixed p l h
+    → ((i : ℤ) → l ≤ℤ i → i ≤ℤ h → InFixed i qs) ↔ IsCovered qs p
 covered_fixed p qs l h w f = (
   (λ k. record {
-    constant = λ m n g i a b. let e : (m ≡ l) × (n ≡ h) = one_low p m n l h w g f in k i (subst (λ z. z ≤ℤ i) e.0 a) (subst (λ z. i ≤ℤ z) e.1 b);
+    constant =
+        λ m n g i a b. let e : (m ≡ l) × (n ≡ h) = one_low p m n l h w g f in k i (subst (λ z. z ≤ℤ i) e.0 a) (subst (λ z. i ≤ℤ z) e.1 b);
     symbolic = λ n. absurd (n l h f);
   }),
   λ k. k.constant l h f,

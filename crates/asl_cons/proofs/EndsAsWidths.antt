@@ -43,7 +43,8 @@ pub sum_back : (p q : Polynomial) → sum_fits p q ≡ true → SumFits p q
 unfolding sum_fits
 sum_back p q e =
     let heavy : ℕ = weight_over (sum_denominator p q) p + weight_over (sum_denominator p q) q in
-    let f = and_parts (nat_le heavy (2 ^ 62)) (nat_le (length (atoms_of_both p.terms q.terms)) 8 && nat_le (sum_denominator p q) (2 ^ 16)) e in
+    let f = and_parts (nat_le heavy (2 ^ 62)) (nat_le (length (atoms_of_both p.terms q.terms)) 8 && nat_le (sum_denominator p q)
+    (2 ^ 16)) e in
     let g = and_parts (nat_le (length (atoms_of_both p.terms q.terms)) 8) (nat_le (sum_denominator p q) (2 ^ 16)) f.1 in
     record {
       light = true_le heavy (2 ^ 62) f.0;

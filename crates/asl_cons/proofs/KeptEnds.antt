@@ -36,7 +36,9 @@ constant_few false z = omega arith
 
 constant_is_one : (z : ℤ) → unsigned_abs z ≤ 2 ^ 62 → IsPolynomial (constant_map z)
 unfolding constant_map
-constant_is_one z h = one_is_polynomial (constant_terms z) (record { sorted = sorted_constant z; light = constant_light (is_zero z) z h; few = constant_few (is_zero z) z })
+constant_is_one z h =
+    one_is_polynomial (constant_terms z)
+    (record { sorted = sorted_constant z; light = constant_light (is_zero z) z h; few = constant_few (is_zero z) z })
 
 poly_is_one : (e : End) → IsEnd e → light_end e ≡ true → IsPolynomial (poly_of e)
 poly_is_one (Int z) i h = constant_is_one z (true_le (unsigned_abs z) (2 ^ 62) h)
@@ -82,19 +84,22 @@ sum_stays : Stays sum_fits sum_map
 unfolding sum_map
 sum_stays p q i j h =
     let f = sum_back p q h in
-    lowest_polynomial (sum_terms (raised (sum_denominator p q) p) (raised (sum_denominator p q) q)) (sum_denominator p q) (maps.sum_map p q i j f) (maps.common_some p q i j) f.fine
+    lowest_polynomial (sum_terms (raised (sum_denominator p q) p) (raised (sum_denominator p q) q)) (sum_denominator p q)
+    (maps.sum_map p q i j f) (maps.common_some p q i j) f.fine
 
 difference_stays : Stays sum_fits difference_map
 unfolding difference_map
 difference_stays p q i j h =
     let f = sum_back p q h in
-    lowest_polynomial (difference_terms (raised (sum_denominator p q) p) (raised (sum_denominator p q) q)) (sum_denominator p q) (maps.difference_map p q i j f) (maps.common_some p q i j) f.fine
+    lowest_polynomial (difference_terms (raised (sum_denominator p q) p) (raised (sum_denominator p q) q)) (sum_denominator p q)
+    (maps.difference_map p q i j f) (maps.common_some p q i j) f.fine
 
 product_stays : Stays product_fits product_map
 unfolding product_map
 product_stays p q i j h =
     let f = product_back p q h in
-    lowest_polynomial (product_terms p.terms q.terms) (p.denominator * q.denominator) (maps.product_map p q i.map j.map f) (maps.product_some p q i j) f.fine
+    lowest_polynomial (product_terms p.terms q.terms) (p.denominator * q.denominator) (maps.product_map p q i.map j.map f)
+    (maps.product_some p q i j) f.fine
 
 sum_is_end : (e f g : End) → IsEnd e → IsEnd f → sum_end e f ≡ Some g → IsEnd g
 sum_is_end e f g i j h = ends_with_end (λ x y. x +ℤ y) sum_fits sum_map sum_stays e f g (number_of e) (number_of f) i j h

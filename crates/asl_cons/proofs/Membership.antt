@@ -75,8 +75,10 @@ held_in : (a : ℕ → ℤ) (i : ℤ) (p : Part) (qs : List Part) → IsEnd p.lo
 held_in a i p [] x y h l m = h
 held_in a i p (q ∷ qs) x y h l m = elim h [
   | inl k ↦ inl (
-    lower (value a (poly_of p.low).terms) (value a (poly_of q.low).terms) k.0.by i (poly_of p.low).denominator (poly_of q.low).denominator (end_some p.low x) (k.0.apart a) k.0.least l,
-    higher (value a (poly_of p.high).terms) (value a (poly_of q.high).terms) k.1.by i (poly_of p.high).denominator (poly_of q.high).denominator (end_some p.high y) (k.1.apart a) k.1.least m,
+    lower (value a (poly_of p.low).terms) (value a (poly_of q.low).terms) k.0.by i (poly_of p.low).denominator (poly_of q.low).denominator
+        (end_some p.low x) (k.0.apart a) k.0.least l,
+    higher (value a (poly_of p.high).terms) (value a (poly_of q.high).terms) k.1.by i (poly_of p.high).denominator
+        (poly_of q.high).denominator (end_some p.high y) (k.1.apart a) k.1.least m,
   )
   | inr k ↦ inr (held_in a i p qs x y k l m)
 ]

@@ -41,7 +41,8 @@ floor_up x y n p h = by_law (floor_div x n) (floor_div y n) (floor_mod x n) (flo
 
 -- ---- constant parts
 
-range_by : (p : Part) (a : ℕ → ℤ) (o q : Option ℤ) (r : ℤ × ℤ) → number_of p.low ≡ o → number_of p.high ≡ q → bind o (λ l. bind q (λ h. Some (l, h))) ≡ Some r
+range_by : (p : Part) (a : ℕ → ℤ) (o q : Option ℤ) (r : ℤ × ℤ) → number_of p.low ≡ o → number_of p.high ≡ q
+    → bind o (λ l. bind q (λ h. Some (l, h))) ≡ Some r
     → IsWhole a (poly_of p.low) r.0 × IsWhole a (poly_of p.high) r.1
 range_by p a None q r e f g = none_some r g
 range_by p a (Some l) None r e f g = none_some r g
@@ -111,7 +112,8 @@ one_of least q a y m h i =
     record { at = p.at; is = p.is; same = squeezed m y (subst (λ z. z ≤ℤ y) p.low r.0) (subst (λ z. y ≤ℤ z) p.high r.1); enough = p.enough }
 
 -- a part between two integers
-part_holds : (a : ℕ → ℤ) (e f : End) (l h z : ℤ) → IsWhole a (poly_of e) l → IsWhole a (poly_of f) h → l ≤ℤ z → z ≤ℤ h → Between a z (part e f)
+part_holds : (a : ℕ → ℤ) (e f : End) (l h z : ℤ) → IsWhole a (poly_of e) l → IsWhole a (poly_of f) h → l ≤ℤ z → z ≤ℤ h
+    → Between a z (part e f)
 part_holds a e f l h z u v i j = (bounded_by Most a (poly_of e) l z u i, bounded_by Least a (poly_of f) h z v j)
 
 integers : (a : ℕ → ℤ) (l h z : ℤ) → l ≤ℤ z → z ≤ℤ h → Between a z (part (Int l) (Int h))
@@ -288,14 +290,18 @@ range_sound a p q r s u x y e f h i j =
 abbrev Is : ℤ → ℤ → Type 0
 Is v w = (v ≡ w) × (pos 0 ≤ℤ v)
 
-product_end_most : (e f g : End) (a : ℕ → ℤ) (x y : ℤ) → Bounded Is a (poly_of e) x → IsAtMost a (poly_of f) y → product_end e f ≡ Some g → IsAtMost a (poly_of g) (x *ℤ y)
+product_end_most : (e f g : End) (a : ℕ → ℤ) (x y : ℤ) → Bounded Is a (poly_of e) x → IsAtMost a (poly_of f) y → product_end e f ≡ Some g
+    → IsAtMost a (poly_of g) (x *ℤ y)
 product_end_most =
-    ends_is Is Most Most (λ x y. x *ℤ y) product_fits product_map (λ u v x y h k. subst (λ z. (u *ℤ v) ≤ℤ (z *ℤ y)) h.0 (times_most u v y h.1 k))
+    ends_is Is Most Most (λ x y. x *ℤ y) product_fits product_map
+    (λ u v x y h k. subst (λ z. (u *ℤ v) ≤ℤ (z *ℤ y)) h.0 (times_most u v y h.1 k))
     (λ a p q x y h k. product_most a p q x y h.0 h.1 k)
 
-product_end_least : (e f g : End) (a : ℕ → ℤ) (x y : ℤ) → Bounded Is a (poly_of e) x → IsAtLeast a (poly_of f) y → product_end e f ≡ Some g → IsAtLeast a (poly_of g) (x *ℤ y)
+product_end_least : (e f g : End) (a : ℕ → ℤ) (x y : ℤ) → Bounded Is a (poly_of e) x → IsAtLeast a (poly_of f) y → product_end e f ≡ Some g
+    → IsAtLeast a (poly_of g) (x *ℤ y)
 product_end_least =
-    ends_is Is Least Least (λ x y. x *ℤ y) product_fits product_map (λ u v x y h k. subst (λ z. (z *ℤ y) ≤ℤ (u *ℤ v)) h.0 (times_most u y v h.1 k))
+    ends_is Is Least Least (λ x y. x *ℤ y) product_fits product_map
+    (λ u v x y h k. subst (λ z. (z *ℤ y) ≤ℤ (u *ℤ v)) h.0 (times_most u y v h.1 k))
     (λ a p q x y h k. product_least a p q x y h.0 h.1 k)
 
 scaled_sound : (a : ℕ → ℤ) (p q r : Part) (s : ℤ × ℤ) (x y : ℤ) → range_of p ≡ Some s → scaled_part s q ≡ Some r → Between a x p → Between a y q → Between a (x *ℤ y) r
@@ -305,7 +311,8 @@ scaled_sound a p q r s x y e h i j =
     let v = range_holds p a s x e i in
     let k = point_is 0 s.0 s.1 t.one t.first in
     let same : x ≡ t.one = squeezed t.one x (subst (λ z. z ≤ℤ x) k.low v.0) (subst (λ z. x ≤ℤ z) k.high v.1) in
-    let b : Bounded Is a (constant_map t.one) t.one = bounded_by Is a (constant_map t.one) t.one t.one (int_is a t.one) (refl, subst (λ z. pos 0 ≤ℤ z) (sym k.is) (no_less k.at)) in
+    let b : Bounded Is a (constant_map t.one) t.one = bounded_by Is a (constant_map t.one) t.one t.one (int_is a t.one)
+    (refl, subst (λ z. pos 0 ≤ℤ z) (sym k.is) (no_less k.at)) in
     subst (λ z. Between a (z *ℤ y) r) (sym same)
     (subst (Between a (t.one *ℤ y)) g.is (
       product_end_most (Int t.one) q.low g.low a t.one y b j.0 g.first,

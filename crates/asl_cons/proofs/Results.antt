@@ -25,8 +25,11 @@ none_some x h = absurd cc
 
 -- ---- what an end is
 
-number_of_one : (a : ℕ → ℤ) (t : Summand) (ts : List Summand) (ms : List ℕ) (z : ℤ) → t.factors ≡ ms → constant_if ms ts t.coefficient ≡ Some z → value a (t ∷ ts) ≡ z
-number_of_one a t [] [] z f h = let e : t.coefficient ≡ z = cc in let m : t.coefficient *ℤ pos 1 ≡ t.coefficient = mul-one t.coefficient in rw (f, m) (omega (arith, ints))
+number_of_one : (a : ℕ → ℤ) (t : Summand) (ts : List Summand) (ms : List ℕ) (z : ℤ) → t.factors ≡ ms
+    → constant_if ms ts t.coefficient ≡ Some z → value a (t ∷ ts) ≡ z
+number_of_one a t [] [] z f h =
+    let e : t.coefficient ≡ z = cc in let m : t.coefficient *ℤ pos 1 ≡ t.coefficient = mul-one t.coefficient in
+    rw (f, m) (omega (arith, ints))
 number_of_one a t (u ∷ us) [] z f h = none_some z h
 number_of_one a t ts (x ∷ xs) z f h = none_some z h
 
@@ -38,7 +41,8 @@ number_of_terms a (t ∷ ts) z h = number_of_one a t ts t.factors z refl h
 abbrev pub IsWhole : (ℕ → ℤ) → Polynomial → ℤ → Type 0
 IsWhole a p z = (value a p.terms ≡ z) × (p.denominator ≡ 1)
 
-constant_by : (b : Bool) (a : ℕ → ℤ) (p : Polynomial) (z : ℤ) → (p.denominator == 1) ≡ b → cond b (constant_of p.terms) None ≡ Some z → IsWhole a p z
+constant_by : (b : Bool) (a : ℕ → ℤ) (p : Polynomial) (z : ℤ) → (p.denominator == 1) ≡ b → cond b (constant_of p.terms) None ≡ Some z
+    → IsWhole a p z
 constant_by true a p z e h = (number_of_terms a p.terms z h, is_same p.denominator 1 e)
 constant_by false a p z e h = none_some z h
 
@@ -105,12 +109,15 @@ module _ (R : ℤ → ℤ → Type 0) (a : ℕ → ℤ) (p : Polynomial) where
 module _ (P Q R : ℤ → ℤ → Type 0) (op : ℤ → ℤ → ℤ) (fit : Polynomial → Polynomial → Bool) (made : Polynomial → Polynomial → Polynomial)
     (numbers : (u v x y : ℤ) → P u x → Q v y → R (op u v) (op x y))
     (kept : (a : ℕ → ℤ) (p q : Polynomial) (x y : ℤ) → Bounded P a p x → Bounded Q a q y → Bounded R a (made p q) (op x y)) where
-  widths_is : (e f g : End) (a : ℕ → ℤ) (x y : ℤ) → Bounded P a (poly_of e) x → Bounded Q a (poly_of f) y → widths fit made e f ≡ Some g → Bounded R a (poly_of g) (op x y)
+  widths_is : (e f g : End) (a : ℕ → ℤ) (x y : ℤ) → Bounded P a (poly_of e) x → Bounded Q a (poly_of f) y → widths fit made e f ≡ Some g
+      → Bounded R a (poly_of g) (op x y)
   widths_is e f g a x y i j h =
       alike_bounded R a (poly_of g) (made (poly_of e) (poly_of f)) (op x y)
-      (width_end_is (light_end e && (light_end f && fit (poly_of e) (poly_of f))) (made (poly_of e) (poly_of f)) g a h) (kept a (poly_of e) (poly_of f) x y i j)
+      (width_end_is (light_end e && (light_end f && fit (poly_of e) (poly_of f))) (made (poly_of e) (poly_of f)) g a h)
+      (kept a (poly_of e) (poly_of f) x y i j)
 
-  ends_by : (e f g : End) (a : ℕ → ℤ) (x y : ℤ) (o p : Option ℤ) → number_of e ≡ o → number_of f ≡ p → Bounded P a (poly_of e) x → Bounded Q a (poly_of f) y
+  ends_by : (e f g : End) (a : ℕ → ℤ) (x y : ℤ) (o p : Option ℤ) → number_of e ≡ o → number_of f ≡ p → Bounded P a (poly_of e) x
+      → Bounded Q a (poly_of f) y
       → ends_with o p op (widths fit made e f) ≡ Some g → Bounded R a (poly_of g) (op x y)
   ends_by e f g a x y (Some u) (Some v) q r i j h =
       bounded_by R a (poly_of g) (op u v) (op x y) (integer_end_is (op u v) g a h)
@@ -128,17 +135,23 @@ sums l m x y h k = omega (arith, ints)
 differences : (l m x y : ℤ) → l ≤ℤ x → y ≤ℤ m → (l -ℤ m) ≤ℤ (x -ℤ y)
 differences l m x y h k = omega (arith, ints)
 
-sum_end_most : (e f g : End) (a : ℕ → ℤ) (x y : ℤ) → IsAtMost a (poly_of e) x → IsAtMost a (poly_of f) y → sum_end e f ≡ Some g → IsAtMost a (poly_of g) (x +ℤ y)
+sum_end_most : (e f g : End) (a : ℕ → ℤ) (x y : ℤ) → IsAtMost a (poly_of e) x → IsAtMost a (poly_of f) y → sum_end e f ≡ Some g
+    → IsAtMost a (poly_of g) (x +ℤ y)
 sum_end_most = ends_is Most Most Most (λ x y. x +ℤ y) sum_fits sum_map (λ u v x y h k. sums u v x y h k) sum_most
 
-sum_end_least : (e f g : End) (a : ℕ → ℤ) (x y : ℤ) → IsAtLeast a (poly_of e) x → IsAtLeast a (poly_of f) y → sum_end e f ≡ Some g → IsAtLeast a (poly_of g) (x +ℤ y)
+sum_end_least : (e f g : End) (a : ℕ → ℤ) (x y : ℤ) → IsAtLeast a (poly_of e) x → IsAtLeast a (poly_of f) y → sum_end e f ≡ Some g
+    → IsAtLeast a (poly_of g) (x +ℤ y)
 sum_end_least = ends_is Least Least Least (λ x y. x +ℤ y) sum_fits sum_map (λ u v x y h k. sums x y u v h k) sum_least
 
-difference_end_most : (e f g : End) (a : ℕ → ℤ) (x y : ℤ) → IsAtMost a (poly_of e) x → IsAtLeast a (poly_of f) y → difference_end e f ≡ Some g → IsAtMost a (poly_of g) (x -ℤ y)
-difference_end_most = ends_is Most Least Most (λ x y. x -ℤ y) sum_fits difference_map (λ u v x y h k. differences u v x y h k) difference_most
+difference_end_most : (e f g : End) (a : ℕ → ℤ) (x y : ℤ) → IsAtMost a (poly_of e) x → IsAtLeast a (poly_of f) y
+    → difference_end e f ≡ Some g → IsAtMost a (poly_of g) (x -ℤ y)
+difference_end_most =
+    ends_is Most Least Most (λ x y. x -ℤ y) sum_fits difference_map (λ u v x y h k. differences u v x y h k) difference_most
 
-difference_end_least : (e f g : End) (a : ℕ → ℤ) (x y : ℤ) → IsAtLeast a (poly_of e) x → IsAtMost a (poly_of f) y → difference_end e f ≡ Some g → IsAtLeast a (poly_of g) (x -ℤ y)
-difference_end_least = ends_is Least Most Least (λ x y. x -ℤ y) sum_fits difference_map (λ u v x y h k. differences x y u v h k) difference_least
+difference_end_least : (e f g : End) (a : ℕ → ℤ) (x y : ℤ) → IsAtLeast a (poly_of e) x → IsAtMost a (poly_of f) y
+    → difference_end e f ≡ Some g → IsAtLeast a (poly_of g) (x -ℤ y)
+difference_end_least =
+    ends_is Least Most Least (λ x y. x -ℤ y) sum_fits difference_map (λ u v x y h k. differences x y u v h k) difference_least
 
 -- ---- parts
 
@@ -242,12 +255,14 @@ module _ (op : Part → Part → Option Part) (f : ℤ → ℤ → ℤ) (a : ℕ
 sum_sound : (a : ℕ → ℤ) (p q r : Part) (x y : ℤ) → sum_part p q ≡ Some r → Between a x p → Between a y q → Between a (x +ℤ y) r
 sum_sound a p q r x y h i j =
     let e = ended (sum_end p.low q.low) (sum_end p.high q.high) r h in
-    subst (Between a (x +ℤ y)) e.is (sum_end_most p.low q.low e.low a x y i.0 j.0 e.first, sum_end_least p.high q.high e.high a x y i.1 j.1 e.rest)
+    subst (Between a (x +ℤ y)) e.is
+    (sum_end_most p.low q.low e.low a x y i.0 j.0 e.first, sum_end_least p.high q.high e.high a x y i.1 j.1 e.rest)
 
 difference_sound : (a : ℕ → ℤ) (p q r : Part) (x y : ℤ) → difference_part p q ≡ Some r → Between a x p → Between a y q → Between a (x -ℤ y) r
 difference_sound a p q r x y h i j =
     let e = ended (difference_end p.low q.high) (difference_end p.high q.low) r h in
-    subst (Between a (x -ℤ y)) e.is (difference_end_most p.low q.high e.low a x y i.0 j.1 e.first, difference_end_least p.high q.low e.high a x y i.1 j.0 e.rest)
+    subst (Between a (x -ℤ y)) e.is
+    (difference_end_most p.low q.high e.low a x y i.0 j.1 e.first, difference_end_least p.high q.low e.high a x y i.1 j.0 e.rest)
 
 pub sum_in : (a : ℕ → ℤ) (ps qs : List Part) (x y : ℤ) → In a x ps → In a y qs → In a (x +ℤ y) (sum_parts ps qs)
 unfolding sum_parts

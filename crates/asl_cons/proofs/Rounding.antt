@@ -43,7 +43,8 @@ at_most_quotient x c (negsuc n) m l e = absurd (omega (arith, ints))
 
 -- ---- one above the other
 
-pub integer_below : (p : Polynomial) (y c d : ℤ) (r : Bool) → d ≡ pos p.denominator → IsTrue r ↔ ((y *ℤ d) ≤ℤ c) → ((a : ℕ → ℤ) → value a p.terms ≡ c) → IsTrue r ↔ IsAbove (Width p) (Int y)
+pub integer_below : (p : Polynomial) (y c d : ℤ) (r : Bool) → d ≡ pos p.denominator → IsTrue r ↔ ((y *ℤ d) ≤ℤ c)
+    → ((a : ℕ → ℤ) → value a p.terms ≡ c) → IsTrue r ↔ IsAbove (Width p) (Int y)
 integer_below p y c d r e t v = iff_trans (subst (λ z. IsTrue r ↔ ((y *ℤ z) ≤ℤ c)) e t) (above_integer p y c v)
 
 not_both : (r : Bool) → IsTrue (not r) → IsTrue r → ⊥
@@ -66,6 +67,7 @@ not_less u c h k = omega (arith, ints)
 refused_is : (r : Bool) (u c : ℤ) → IsTrue r ↔ (u ≤ℤ (c -ℤ pos 1)) → IsTrue (not r) ↔ (c ≤ℤ u)
 refused_is r u c t = ((λ n. less_or_more u c (λ k. not_both r n (t.1 k))), λ h. one_of_both r (λ y. not_less u c h (t.0 y)))
 
-pub width_below : (x : ℤ) (q : Polynomial) (c d : ℤ) (r : Bool) → d ≡ pos q.denominator → IsTrue r ↔ ((x *ℤ d) ≤ℤ (c -ℤ pos 1)) → ((a : ℕ → ℤ) → value a q.terms ≡ c) → IsTrue (not r) ↔ IsAbove (Int x) (Width q)
+pub width_below : (x : ℤ) (q : Polynomial) (c d : ℤ) (r : Bool) → d ≡ pos q.denominator → IsTrue r ↔ ((x *ℤ d) ≤ℤ (c -ℤ pos 1))
+    → ((a : ℕ → ℤ) → value a q.terms ≡ c) → IsTrue (not r) ↔ IsAbove (Int x) (Width q)
 width_below x q c d r e t v =
     iff_trans (subst (λ z. IsTrue (not r) ↔ (c ≤ℤ (x *ℤ z))) e (refused_is r (x *ℤ d) c t)) (integer_above x c q v)

@@ -80,11 +80,13 @@ over_common x k d n e = mul_assoc x (pos d) (pos k) ∙ ap (λ z. x *ℤ z) (*�
 
 raised_most : (v x : ℤ) (k d n : ℕ) → k * d ≡ n → v ≤ℤ (x *ℤ pos d) → (pos k *ℤ v) ≤ℤ (x *ℤ pos n)
 raised_most v x k d n e h =
-    subst (λ z. z ≤ℤ (x *ℤ pos n)) (*ℤ_comm v (pos k)) (subst (λ z. (v *ℤ pos k) ≤ℤ z) (over_common x k d n e) (times_pos v (x *ℤ pos d) k h))
+    subst (λ z. z ≤ℤ (x *ℤ pos n)) (*ℤ_comm v (pos k)) (subst (λ z. (v *ℤ pos k) ≤ℤ z) (over_common x k d n e)
+    (times_pos v (x *ℤ pos d) k h))
 
 raised_least : (v x : ℤ) (k d n : ℕ) → k * d ≡ n → (x *ℤ pos d) ≤ℤ v → (x *ℤ pos n) ≤ℤ (pos k *ℤ v)
 raised_least v x k d n e h =
-    subst (λ z. (x *ℤ pos n) ≤ℤ z) (*ℤ_comm v (pos k)) (subst (λ z. z ≤ℤ (v *ℤ pos k)) (over_common x k d n e) (times_pos (x *ℤ pos d) v k h))
+    subst (λ z. (x *ℤ pos n) ≤ℤ z) (*ℤ_comm v (pos k)) (subst (λ z. z ≤ℤ (v *ℤ pos k)) (over_common x k d n e)
+    (times_pos (x *ℤ pos d) v k h))
 
 sums : (u v s t : ℤ) → u ≤ℤ s → v ≤ℤ t → (u +ℤ v) ≤ℤ (s +ℤ t)
 sums u v s t h k = omega (arith, ints)
@@ -103,45 +105,58 @@ module _ (a : ℕ → ℤ) (p q : Polynomial) where
       ≡ pos (sum_denominator p q / p.denominator) *ℤ value a p.terms +ℤ pos (sum_denominator p q / q.denominator) *ℤ value a q.terms
   sum_is =
       value_sum a (raised (sum_denominator p q) p) (raised (sum_denominator p q) q) _ refl
-      ∙ rw (value_multiples a (sum_denominator p q / p.denominator) p.terms, value_multiples a (sum_denominator p q / q.denominator) q.terms) refl
+      ∙ rw (
+        value_multiples a (sum_denominator p q / p.denominator) p.terms,
+        value_multiples a
+            (sum_denominator p q / q.denominator) q.terms,
+      ) refl
 
   difference_is : value a (difference_terms (raised (sum_denominator p q) p) (raised (sum_denominator p q) q))
       ≡ pos (sum_denominator p q / p.denominator) *ℤ value a p.terms -ℤ pos (sum_denominator p q / q.denominator) *ℤ value a q.terms
   difference_is =
       value_difference a (raised (sum_denominator p q) p) (raised (sum_denominator p q) q) _ refl
-      ∙ rw (value_multiples a (sum_denominator p q / p.denominator) p.terms, value_multiples a (sum_denominator p q / q.denominator) q.terms) refl
+      ∙ rw (
+        value_multiples a (sum_denominator p q / p.denominator) p.terms,
+        value_multiples a
+            (sum_denominator p q / q.denominator) q.terms,
+      ) refl
 
   module _ (x y : ℤ) where
     pub sum_most : IsAtMost a p x → IsAtMost a q y → IsAtMost a (sum_map p q) (x +ℤ y)
     unfolding sum_map
     sum_most h k =
         lowest_most a (sum_terms (raised (sum_denominator p q) p) (raised (sum_denominator p q) q)) (sum_denominator p q) (x +ℤ y)
-        (rw (sum_is, add-mul x y (pos (sum_denominator p q))) (sums _ _ _ _ (raised_most (value a p.terms) x _ _ _ left_exact h) (raised_most (value a q.terms) y _ _ _ right_exact k)))
+        (rw (sum_is, add-mul x y (pos (sum_denominator p q)))
+        (sums _ _ _ _ (raised_most (value a p.terms) x _ _ _ left_exact h) (raised_most (value a q.terms) y _ _ _ right_exact k)))
 
     pub sum_least : IsAtLeast a p x → IsAtLeast a q y → IsAtLeast a (sum_map p q) (x +ℤ y)
     unfolding sum_map
     sum_least h k =
         lowest_least a (sum_terms (raised (sum_denominator p q) p) (raised (sum_denominator p q) q)) (sum_denominator p q) (x +ℤ y)
-        (rw (sum_is, add-mul x y (pos (sum_denominator p q))) (sums _ _ _ _ (raised_least (value a p.terms) x _ _ _ left_exact h) (raised_least (value a q.terms) y _ _ _ right_exact k)))
+        (rw (sum_is, add-mul x y (pos (sum_denominator p q)))
+        (sums _ _ _ _ (raised_least (value a p.terms) x _ _ _ left_exact h) (raised_least (value a q.terms) y _ _ _ right_exact k)))
 
     pub difference_most : IsAtMost a p x → IsAtLeast a q y → IsAtMost a (difference_map p q) (x -ℤ y)
     unfolding difference_map
     difference_most h k =
         lowest_most a (difference_terms (raised (sum_denominator p q) p) (raised (sum_denominator p q) q)) (sum_denominator p q) (x -ℤ y)
-        (rw (difference_is, sub-mul x y (pos (sum_denominator p q))) (differences _ _ _ _ (raised_most (value a p.terms) x _ _ _ left_exact h) (raised_least (value a q.terms) y _ _ _ right_exact k)))
+        (rw (difference_is, sub-mul x y (pos (sum_denominator p q)))
+        (differences _ _ _ _ (raised_most (value a p.terms) x _ _ _ left_exact h) (raised_least (value a q.terms) y _ _ _ right_exact k)))
 
     pub difference_least : IsAtLeast a p x → IsAtMost a q y → IsAtLeast a (difference_map p q) (x -ℤ y)
     unfolding difference_map
     difference_least h k =
         lowest_least a (difference_terms (raised (sum_denominator p q) p) (raised (sum_denominator p q) q)) (sum_denominator p q) (x -ℤ y)
-        (rw (difference_is, sub-mul x y (pos (sum_denominator p q))) (differences _ _ _ _ (raised_least (value a p.terms) x _ _ _ left_exact h) (raised_most (value a q.terms) y _ _ _ right_exact k)))
+        (rw (difference_is, sub-mul x y (pos (sum_denominator p q)))
+        (differences _ _ _ _ (raised_least (value a p.terms) x _ _ _ left_exact h) (raised_most (value a q.terms) y _ _ _ right_exact k)))
 
 -- ---- an integer of at least 0 times a polynomial
 
 both_over : (x y : ℤ) (d e : ℕ) → (x *ℤ pos d) *ℤ (y *ℤ pos e) ≡ (x *ℤ y) *ℤ pos (d * e)
 both_over x y d e =
     mul_assoc x (pos d) (y *ℤ pos e)
-    ∙ ap (λ z. x *ℤ z) (sym (mul_assoc (pos d) y (pos e)) ∙ ap (λ z. z *ℤ pos e) (*ℤ_comm (pos d) y) ∙ mul_assoc y (pos d) (pos e) ∙ ap (λ z. y *ℤ z) (pos-*ℤ-pos d e))
+    ∙ ap (λ z. x *ℤ z) (sym (mul_assoc (pos d) y (pos e)) ∙ ap (λ z. z *ℤ pos e) (*ℤ_comm (pos d) y) ∙ mul_assoc y (pos d) (pos e)
+    ∙ ap (λ z. y *ℤ z) (pos-*ℤ-pos d e))
     ∙ sym (mul_assoc x y (pos (d * e)))
 
 pub times_most : (u v w : ℤ) → pos 0 ≤ℤ u → v ≤ℤ w → (u *ℤ v) ≤ℤ (u *ℤ w)
@@ -160,11 +175,13 @@ module _ (a : ℕ → ℤ) (p q : Polynomial) (x y : ℤ) (is : value a p.terms 
   product_most h =
       lowest_most a (product_terms p.terms q.terms) (p.denominator * q.denominator) (x *ℤ y)
       (subst (λ z. z ≤ℤ ((x *ℤ y) *ℤ pos (p.denominator * q.denominator))) (sym product_is)
-      (subst (λ z. (value a p.terms *ℤ value a q.terms) ≤ℤ z) bound_is (times_most (value a p.terms) (value a q.terms) (y *ℤ pos q.denominator) some h)))
+      (subst (λ z. (value a p.terms *ℤ value a q.terms) ≤ℤ z) bound_is
+      (times_most (value a p.terms) (value a q.terms) (y *ℤ pos q.denominator) some h)))
 
   pub product_least : IsAtLeast a q y → IsAtLeast a (product_map p q) (x *ℤ y)
   unfolding product_map
   product_least h =
       lowest_least a (product_terms p.terms q.terms) (p.denominator * q.denominator) (x *ℤ y)
       (subst (λ z. ((x *ℤ y) *ℤ pos (p.denominator * q.denominator)) ≤ℤ z) (sym product_is)
-      (subst (λ z. z ≤ℤ (value a p.terms *ℤ value a q.terms)) bound_is (times_most (value a p.terms) (y *ℤ pos q.denominator) (value a q.terms) some h)))
+      (subst (λ z. z ≤ℤ (value a p.terms *ℤ value a q.terms)) bound_is
+      (times_most (value a p.terms) (y *ℤ pos q.denominator) (value a q.terms) some h)))

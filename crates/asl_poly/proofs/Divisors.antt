@@ -54,7 +54,8 @@ upto_some (suc n) ns = elim (cases_Bool (divides_each (suc n) ns)) [ inl z ↦ r
 
 upto_divides : (n : ℕ) (ns : List ℕ) → DivideEach (greatest_divisor_up_to n ns) ns
 upto_divides zero ns = one_divides ns
-upto_divides (suc n) ns = elim (cases_Bool (divides_each (suc n) ns)) [ inl z ↦ rw z (each_of_test (suc n) ns z) | inr z ↦ rw z (upto_divides n ns) ]
+upto_divides (suc n) ns =
+    elim (cases_Bool (divides_each (suc n) ns)) [ inl z ↦ rw z (each_of_test (suc n) ns z) | inr z ↦ rw z (upto_divides n ns) ]
 
 last_or_less : (k n : ℕ) → k ≤ suc n → (k ≡ suc n) ⊎ (k ≤ n)
 last_or_less k n l = grind arith
@@ -91,7 +92,8 @@ pub record IsDivisor (d : ℕ) (ns : List ℕ) (g : ℕ) : Type 0 where
 pub divisor_is : (d : ℕ) (ns : List ℕ) (g : ℕ) → 0 < d → IsDivisor d ns g → g ≡ greatest_common_divisor d ns
 divisor_is d ns g p h =
     let q : 0 < g = divides_some g d p h.first in
-    le_antisymm (divisor_most d ns g p h.first h.each) (divides_le (greatest_common_divisor d ns) g q (h.greatest (greatest_common_divisor d ns) (divisor_divides d ns).0 (divisor_divides d ns).1))
+    le_antisymm (divisor_most d ns g p h.first h.each) (divides_le (greatest_common_divisor d ns) g q
+    (h.greatest (greatest_common_divisor d ns) (divisor_divides d ns).0 (divisor_divides d ns).1))
 
 pub divisor_end : (g : ℕ) → IsDivisor g [] g
 divisor_end g = record { first = mod_self g; each = tt; greatest = λ k h i. h }
@@ -132,8 +134,10 @@ unfolding least_common_multiple
 multiple_right d e =
     let g : ℕ = greatest_common_divisor d (e ∷ []) in
     let h = divisor_divides d (e ∷ []) in
-    let a : d / greatest_common_divisor d (e ∷ []) * greatest_common_divisor d (e ∷ []) ≡ d = divides_exact (greatest_common_divisor d (e ∷ [])) d h.0 in
-    let b : e / greatest_common_divisor d (e ∷ []) * greatest_common_divisor d (e ∷ []) ≡ e = divides_exact (greatest_common_divisor d (e ∷ [])) e h.1.0 in
+    let a : d / greatest_common_divisor d (e ∷ []) * greatest_common_divisor d (e ∷ []) ≡ d =
+    divides_exact (greatest_common_divisor d (e ∷ [])) d h.0 in
+    let b : e / greatest_common_divisor d (e ∷ []) * greatest_common_divisor d (e ∷ []) ≡ e =
+    divides_exact (greatest_common_divisor d (e ∷ [])) e h.1.0 in
     multiple_divides e (d / greatest_common_divisor d (e ∷ [])) (d * (e / greatest_common_divisor d (e ∷ [])))
     (crossed d e (greatest_common_divisor d (e ∷ [])) (d / greatest_common_divisor d (e ∷ [])) (e / greatest_common_divisor d (e ∷ [])) a b)
 

@@ -50,8 +50,16 @@ some_pos (suc k) p = λ e. cc
 
 pub sorted_multiples : (k : ℕ) (ts : List Summand) → 0 < k → Sorted ts → Sorted (multiples k ts)
 sorted_multiples k [] l h = tt
-sorted_multiples k (t ∷ ts) l h =
-    (record { counts = nonzero_mul (pos k) t.coefficient (some_pos k l) h.0.counts; falls = h.0.falls; degree = h.0.degree }, below_multiples t.factors k ts h.1, sorted_multiples k ts l h.2)
+sorted_multiples k (t ∷ ts) l h = (
+  record {
+    counts = nonzero_mul (pos k) t.coefficient
+        (some_pos k l) h.0.counts;
+    falls = h.0.falls;
+    degree = h.0.degree;
+  },
+  below_multiples t.factors k ts h.1,
+  sorted_multiples k ts l h.2,
+)
 
 pub noted_multiples : (k : ℕ) (seen : List ℕ) (ts : List Summand) → note_terms seen (multiples k ts) ≡ note_terms seen ts
 noted_multiples k seen [] = refl
@@ -77,7 +85,8 @@ pub divided_back : (k : ℕ) (ts : List Summand) → DivideEach k (sizes ts) →
 divided_back k [] h = refl
 divided_back k (t ∷ ts) h =
     let e : times (constant_term (pos k)) (with_coefficient (int_div t.coefficient (pos k)) t) ≡ t =
-    same_term (times (constant_term (pos k)) (with_coefficient (int_div t.coefficient (pos k)) t)) t (*ℤ_comm (pos k) (int_div t.coefficient (pos k)) ∙ exact_quotient k t.coefficient h.0) refl in
+    same_term (times (constant_term (pos k)) (with_coefficient (int_div t.coefficient (pos k)) t)) t
+    (*ℤ_comm (pos k) (int_div t.coefficient (pos k)) ∙ exact_quotient k t.coefficient h.0) refl in
     let f : multiples k (divided k ts) ≡ ts = divided_back k ts h.1 in
     cc
 
@@ -90,8 +99,11 @@ still_counts k c h n e = n (sym (exact_quotient k c h) ∙ ap (λ z. z *ℤ pos 
 
 sorted_divided : (k : ℕ) (ts : List Summand) → DivideEach k (sizes ts) → Sorted ts → Sorted (divided k ts)
 sorted_divided k [] d h = tt
-sorted_divided k (t ∷ ts) d h =
-    (record { counts = still_counts k t.coefficient d.0 h.0.counts; falls = h.0.falls; degree = h.0.degree }, below_divided t.factors k ts h.1, sorted_divided k ts d.1 h.2)
+sorted_divided k (t ∷ ts) d h = (
+  record { counts = still_counts k t.coefficient d.0 h.0.counts; falls = h.0.falls; degree = h.0.degree },
+  below_divided t.factors k ts h.1,
+  sorted_divided k ts d.1 h.2,
+)
 
 noted_divided : (k : ℕ) (seen : List ℕ) (ts : List Summand) → note_terms seen (divided k ts) ≡ note_terms seen ts
 noted_divided k seen [] = refl
@@ -127,10 +139,13 @@ each_more : (k m : ℕ) (ts : List Summand) → DivideEach k (sizes ts) → Divi
 each_more k m [] h i = tt
 each_more k m (t ∷ ts) h i =
     let e : int_div t.coefficient (pos k) *ℤ pos k ≡ t.coefficient = exact_quotient k t.coefficient h.0 in
-    let f : unsigned_abs (int_div t.coefficient (pos k)) * k ≡ unsigned_abs t.coefficient = sym (unsigned_abs-mul (int_div t.coefficient (pos k)) (pos k)) ∙ ap unsigned_abs e in
-    let b : unsigned_abs (int_div t.coefficient (pos k)) / m * m ≡ unsigned_abs (int_div t.coefficient (pos k)) = divides_exact m (unsigned_abs (int_div t.coefficient (pos k))) i.0 in (
+    let f : unsigned_abs (int_div t.coefficient (pos k)) * k ≡ unsigned_abs t.coefficient =
+    sym (unsigned_abs-mul (int_div t.coefficient (pos k)) (pos k)) ∙ ap unsigned_abs e in
+    let b : unsigned_abs (int_div t.coefficient (pos k)) / m * m ≡ unsigned_abs (int_div t.coefficient (pos k)) = divides_exact m
+    (unsigned_abs (int_div t.coefficient (pos k))) i.0 in (
       multiple_divides (m * k) (unsigned_abs (int_div t.coefficient (pos k)) / m) (unsigned_abs t.coefficient)
-          (put_together (unsigned_abs (int_div t.coefficient (pos k)) / m) m k (unsigned_abs (int_div t.coefficient (pos k))) (unsigned_abs t.coefficient) b f),
+          (put_together (unsigned_abs (int_div t.coefficient (pos k)) / m) m k (unsigned_abs (int_div t.coefficient (pos k)))
+          (unsigned_abs t.coefficient) b f),
       each_more k m ts h.1 i.1,
     )
 
@@ -146,7 +161,8 @@ module _ (ts : List Summand) (d : ℕ) (some : 0 < d) where
         positive = p;
         lowest = λ m i j.
             let l : m * greatest_common_divisor d (sizes ts) ≤ greatest_common_divisor d (sizes ts) =
-            divisor_most d (sizes ts) (m * greatest_common_divisor d (sizes ts)) some (divides_more (greatest_common_divisor d (sizes ts)) m d h.0 i) (each_more (greatest_common_divisor d (sizes ts)) m ts h.1 j) in
+            divisor_most d (sizes ts) (m * greatest_common_divisor d (sizes ts)) some
+            (divides_more (greatest_common_divisor d (sizes ts)) m d h.0 i) (each_more (greatest_common_divisor d (sizes ts)) m ts h.1 j) in
             let u : m ≤ 1 = at_most_one m (greatest_common_divisor d (sizes ts)) (divisor_some d (sizes ts)) l in
             let q : 0 < m = divides_some m (d / greatest_common_divisor d (sizes ts)) p i in
             omega arith;
@@ -176,15 +192,19 @@ scaled_down k q v w x y e f =
     a ∙ b ∙ f ∙ sym (mul_assoc y q k)
 
 -- what the terms over d are as a fraction, they are in lowest terms too
-pub lowest_same : (a : ℕ → ℤ) (ts : List Summand) (d : ℕ) (x y : ℤ) → 0 < d → value a ts *ℤ x ≡ y *ℤ pos d → value a (lowest ts d).terms *ℤ x ≡ y *ℤ pos (lowest ts d).denominator
+pub lowest_same : (a : ℕ → ℤ) (ts : List Summand) (d : ℕ) (x y : ℤ) → 0 < d → value a ts *ℤ x ≡ y *ℤ pos d
+    → value a (lowest ts d).terms *ℤ x ≡ y *ℤ pos (lowest ts d).denominator
 unfolding lowest
 lowest_same a ts d x y p e =
     let g : ℕ = greatest_common_divisor d (sizes ts) in
     let i = divisor_divides d (sizes ts) in
     let w : pos (d / greatest_common_divisor d (sizes ts)) *ℤ pos (greatest_common_divisor d (sizes ts)) ≡ pos d =
-    pos-*ℤ-pos (d / greatest_common_divisor d (sizes ts)) (greatest_common_divisor d (sizes ts)) ∙ ap pos (divides_exact (greatest_common_divisor d (sizes ts)) d i.0) in
-    cancel_one (value a (divided (greatest_common_divisor d (sizes ts)) ts) *ℤ x) (y *ℤ pos (d / greatest_common_divisor d (sizes ts))) (greatest_common_divisor d (sizes ts)) (divisor_some d (sizes ts))
-    (scaled_down (pos (greatest_common_divisor d (sizes ts))) (pos (d / greatest_common_divisor d (sizes ts))) (value a (divided (greatest_common_divisor d (sizes ts)) ts)) (value a ts) x y (lowered_value a ts d) (e ∙ ap (λ z. y *ℤ z) (sym w)))
+    pos-*ℤ-pos (d / greatest_common_divisor d (sizes ts)) (greatest_common_divisor d (sizes ts)) ∙ ap pos
+    (divides_exact (greatest_common_divisor d (sizes ts)) d i.0) in
+    cancel_one (value a (divided (greatest_common_divisor d (sizes ts)) ts) *ℤ x) (y *ℤ pos (d / greatest_common_divisor d (sizes ts)))
+    (greatest_common_divisor d (sizes ts)) (divisor_some d (sizes ts))
+    (scaled_down (pos (greatest_common_divisor d (sizes ts))) (pos (d / greatest_common_divisor d (sizes ts)))
+    (value a (divided (greatest_common_divisor d (sizes ts)) ts)) (value a ts) x y (lowered_value a ts d) (e ∙ ap (λ z. y *ℤ z) (sym w)))
 
 -- lowest terms are decided by the greatest divisor
 pub lowest_of_one : (p : Polynomial) → 0 < p.denominator → greatest_common_divisor p.denominator (sizes p.terms) ≡ 1 → IsLowest p
@@ -200,20 +220,25 @@ lowest_of_one p some e = record {
 pub one_is_polynomial : (ts : List Summand) → IsMap ts → IsPolynomial (of_terms ts)
 one_is_polynomial ts h = record {
   map = h;
-  lowest = record { positive = omega arith; lowest = λ k d i. le_antisymm (divides_le k 1 (omega arith) d) (divides_some k 1 (omega arith) d) };
+  lowest =
+      record { positive = omega arith; lowest = λ k d i. le_antisymm (divides_le k 1 (omega arith) d) (divides_some k 1 (omega arith) d) };
   fine = omega arith;
 }
 
 pub one_of_lowest : (p : Polynomial) → IsLowest p → greatest_common_divisor p.denominator (sizes p.terms) ≡ 1
 one_of_lowest p h =
-    h.lowest (greatest_common_divisor p.denominator (sizes p.terms)) (divisor_divides p.denominator (sizes p.terms)).0 (divisor_divides p.denominator (sizes p.terms)).1
+    h.lowest (greatest_common_divisor p.denominator (sizes p.terms)) (divisor_divides p.denominator (sizes p.terms)).0
+    (divisor_divides p.denominator (sizes p.terms)).1
 
 -- ---- the loop that finds the common divisor
 
-pub common_step : (d g n m : ℕ) (ts : List Summand) (t : Summand) (i : ℕ) → i < length ts → t ≡ slice_index_or ts i t → n ≡ unsigned_abs t.coefficient → IsGcd g n m
-    → ((h : ℕ) → IsDivisor g (sizes (drop i ts)) h → IsDivisor d (sizes ts) h) → (h : ℕ) → IsDivisor m (sizes (drop (i + 1) ts)) h → IsDivisor d (sizes ts) h
+pub common_step : (d g n m : ℕ) (ts : List Summand) (t : Summand) (i : ℕ) → i < length ts → t ≡ slice_index_or ts i t
+    → n ≡ unsigned_abs t.coefficient → IsGcd g n m
+    → ((h : ℕ) → IsDivisor g (sizes (drop i ts)) h → IsDivisor d (sizes ts) h) → (h : ℕ) → IsDivisor m
+    (sizes (drop (i + 1) ts)) h → IsDivisor d (sizes ts) h
 common_step d g n m ts t i l is e k v h x =
     v h (rw (next ts i t l is) (divisor_step g (unsigned_abs t.coefficient) m (sizes (drop (i + 1) ts)) h (rw e at k) x))
 
-pub common_end : (d g : ℕ) (ts : List Summand) (i : ℕ) → length ts ≤ i → 0 < d → ((h : ℕ) → IsDivisor g (sizes (drop i ts)) h → IsDivisor d (sizes ts) h) → g ≡ greatest_common_divisor d (sizes ts)
+pub common_end : (d g : ℕ) (ts : List Summand) (i : ℕ) → length ts ≤ i → 0 < d
+    → ((h : ℕ) → IsDivisor g (sizes (drop i ts)) h → IsDivisor d (sizes ts) h) → g ≡ greatest_common_divisor d (sizes ts)
 common_end d g ts i l p v = divisor_is d (sizes ts) g p (v g (rw (drop_all i ts l) (divisor_end g)))

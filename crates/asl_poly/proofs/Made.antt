@@ -14,11 +14,13 @@ use Rattle.asl_poly.proofs.Substitution.{substituted_map, substituted_value, rai
 
 -- ---- lowest terms
 
-pub lowest_made : (ts us : List Summand) (d k e : ℕ) → k ≡ greatest_common_divisor d (sizes ts) → us ≡ divided k ts → e ≡ d / k → over us e ≡ lowest ts d
+pub lowest_made : (ts us : List Summand) (d k e : ℕ) → k ≡ greatest_common_divisor d (sizes ts) → us ≡ divided k ts → e ≡ d / k
+    → over us e ≡ lowest ts d
 unfolding lowest
 lowest_made ts us d k e f g h = rw (g, h, f) refl
 
-pub lowest_within : (ts us : List Summand) (d k e : ℕ) → IsMap ts → 0 < d → d ≤ 2 ^ 16 → k ≡ greatest_common_divisor d (sizes ts) → us ≡ divided k ts → e ≡ d / k → IsPolynomial (over us e)
+pub lowest_within : (ts us : List Summand) (d k e : ℕ) → IsMap ts → 0 < d → d ≤ 2 ^ 16 → k ≡ greatest_common_divisor d (sizes ts)
+    → us ≡ divided k ts → e ≡ d / k → IsPolynomial (over us e)
 lowest_within ts us d k e m p l f g h = subst IsPolynomial (sym (lowest_made ts us d k e f g h)) (lowest_polynomial ts d m p l)
 
 -- ---- sums and differences
@@ -39,11 +41,13 @@ module _ (p q : Polynomial) (hp : IsPolynomial p) (hq : IsPolynomial q) (f : Sum
   pub difference_map_is : (ts us vs : List Summand) → ts ≡ raised n p → us ≡ raised n q → vs ≡ difference_terms ts us → IsMap vs
   difference_map_is ts us vs e g h = rw (h, e, g, is) (maps.difference_map p q hp hq f)
 
-  pub sum_gives : (ts us vs : List Summand) (r : Polynomial) → ts ≡ raised n p → us ≡ raised n q → vs ≡ sum_terms ts us → r ≡ lowest vs n → r ≡ sum_map p q
+  pub sum_gives : (ts us vs : List Summand) (r : Polynomial) → ts ≡ raised n p → us ≡ raised n q → vs ≡ sum_terms ts us → r ≡ lowest vs n
+      → r ≡ sum_map p q
   unfolding sum_map
   sum_gives ts us vs r e g h k = rw (k, h, e, g, is) refl
 
-  pub difference_gives : (ts us vs : List Summand) (r : Polynomial) → ts ≡ raised n p → us ≡ raised n q → vs ≡ difference_terms ts us → r ≡ lowest vs n → r ≡ difference_map p q
+  pub difference_gives : (ts us vs : List Summand) (r : Polynomial) → ts ≡ raised n p → us ≡ raised n q → vs ≡ difference_terms ts us
+      → r ≡ lowest vs n → r ≡ difference_map p q
   unfolding difference_map
   difference_gives ts us vs r e g h k = rw (k, h, e, g, is) refl
 
@@ -61,11 +65,13 @@ pub product_is : (p q : Polynomial) → IsPolynomial p → IsPolynomial q → Is
 unfolding product_map
 product_is p q hp hq a = maps.product_value a p q hp hq
 
-pub product_gives : (p q : Polynomial) (vs : List Summand) (n : ℕ) (r : Polynomial) → vs ≡ product_terms p.terms q.terms → n ≡ p.denominator * q.denominator → r ≡ lowest vs n → r ≡ product_map p q
+pub product_gives : (p q : Polynomial) (vs : List Summand) (n : ℕ) (r : Polynomial) → vs ≡ product_terms p.terms q.terms
+    → n ≡ p.denominator * q.denominator → r ≡ lowest vs n → r ≡ product_map p q
 unfolding product_map
 product_gives p q vs n r e f g = rw (g, e, f) refl
 
-pub product_map_is : (p q : Polynomial) (vs : List Summand) → IsPolynomial p → IsPolynomial q → ProductFits p q → vs ≡ product_terms p.terms q.terms → IsMap vs
+pub product_map_is : (p q : Polynomial) (vs : List Summand) → IsPolynomial p → IsPolynomial q → ProductFits p q
+    → vs ≡ product_terms p.terms q.terms → IsMap vs
 product_map_is p q vs hp hq f e = rw e (maps.product_map p q hp.map hq.map f)
 
 pub product_some_is : (p q : Polynomial) (n : ℕ) → IsPolynomial p → IsPolynomial q → n ≡ p.denominator * q.denominator → 0 < n
@@ -75,7 +81,8 @@ pub quotient_is : (p : Polynomial) (k : ℕ) → IsPolynomial p → 0 < k → Is
 unfolding quotient_map
 quotient_is p k hp l a = maps.quotient_value a p k hp l
 
-pub quotient_gives : (p : Polynomial) (k : ℕ) (vs : List Summand) (n : ℕ) (r : Polynomial) → vs ≡ p.terms → n ≡ p.denominator * k → r ≡ lowest vs n → r ≡ quotient_map p k
+pub quotient_gives : (p : Polynomial) (k : ℕ) (vs : List Summand) (n : ℕ) (r : Polynomial) → vs ≡ p.terms → n ≡ p.denominator * k
+    → r ≡ lowest vs n → r ≡ quotient_map p k
 unfolding quotient_map
 quotient_gives p k vs n r e f g = rw (g, e, f) refl
 
@@ -99,25 +106,41 @@ module _ (by : List (ℕ × Polynomial)) (p : Polynomial) (fine : AllFine by) (h
   raised_light l = rw es_is (omega (arith, weight_raised by n p.terms l, hp.map.light))
 
   pub raised_fits : (d : ℕ) → d ≡ p.denominator * n → QuotientFits p n → ReplacedFits by es → SubstituteFits by p
-  raised_fits d e q f = record { terms = subst (ReplacedFits by) raised_is f; fine = let g : p.denominator * n ≤ 2 ^ 16 = q.fine in let h : p.denominator * n ≡ p.denominator * common_denominator by p.terms = ap (λ k. p.denominator * k) is in omega arith }
+  raised_fits d e q f =
+      record {
+        terms = subst (ReplacedFits by) raised_is f;
+        fine = let g : p.denominator * n ≤ 2 ^ 16 = q.fine in
+            let h : p.denominator * n ≡ p.denominator * common_denominator by p.terms = ap (λ k. p.denominator * k) is in omega arith;
+      }
 
-  pub fits_even : SubstituteFits by p → ReplacedFits by es × QuotientFits p n
-  fits_even f = (subst (ReplacedFits by) (sym raised_is) f.terms, record { fine = let g : common_denominator by p.terms * p.denominator ≤ 2 ^ 16 = f.fine in let h : p.denominator * n ≡ p.denominator * common_denominator by p.terms = ap (λ k. p.denominator * k) is in omega arith })
+  pub fits_raised : SubstituteFits by p → ReplacedFits by es × QuotientFits p n
+  fits_raised f = (
+    subst (ReplacedFits by)
+        (sym raised_is) f.terms,
+    record {
+      fine = let g : common_denominator by p.terms * p.denominator ≤ 2 ^ 16 = f.fine in
+          let h : p.denominator * n ≡ p.denominator * common_denominator by p.terms = ap (λ k. p.denominator * k) is in omega arith;
+    },
+  )
 
   pub made_map : (vs : List Summand) → AllMaps by es → ReplacedFits by es → vs ≡ replaced by [] es → IsMap vs
   made_map vs m f e =
-      let s = raised_sorted by (common_denominator by p.terms) p.terms (common_denominator_some by fine p.terms) (all_divide by fine p.terms) hp.map.sorted in
+      let s = raised_sorted by (common_denominator by p.terms) p.terms (common_denominator_some by fine p.terms)
+      (all_divide by fine p.terms) hp.map.sorted in
       rw e (substituted_map by es m (rw raised_is s) f)
 
-  pub made_gives : (vs : List Summand) (d : ℕ) (r : Polynomial) → vs ≡ replaced by [] es → d ≡ p.denominator * n → r ≡ lowest vs d → r ≡ substitute_map by p
+  pub made_gives : (vs : List Summand) (d : ℕ) (r : Polynomial) → vs ≡ replaced by [] es → d ≡ p.denominator * n → r ≡ lowest vs d
+      → r ≡ substitute_map by p
   unfolding substitute_map
   made_gives vs d r e f g =
       let h : d ≡ common_denominator by p.terms * p.denominator = f ∙ ap (λ k. p.denominator * k) is ∙ (omega arith) in
       rw (g, e, raised_is, h) refl
 
-pub too_fine : (by : List (ℕ × Polynomial)) (p : Polynomial) → IsPolynomial p → 2 ^ 16 < common_denominator by p.terms → SubstituteFits by p → ⊥
+pub too_fine : (by : List (ℕ × Polynomial)) (p : Polynomial) → IsPolynomial p → 2 ^ 16 < common_denominator by p.terms → SubstituteFits by p
+    → ⊥
 too_fine by p hp l f =
-    let a : common_denominator by p.terms * 1 ≤ common_denominator by p.terms * p.denominator = maps.more_times (common_denominator by p.terms) p.denominator hp.lowest.positive in
+    let a : common_denominator by p.terms * 1 ≤ common_denominator by p.terms * p.denominator =
+    maps.more_times (common_denominator by p.terms) p.denominator hp.lowest.positive in
     omega (arith, a, f.fine)
 
 pub too_coarse : (p : Polynomial) (k : ℕ) → IsPolynomial p → 2 ^ 16 < k → QuotientFits p k → ⊥

@@ -38,7 +38,8 @@ pub multiply_sorted : (acc p q : List Summand) → Sorted acc → AllTerms p →
 multiply_sorted acc [] q h k l d = h
 multiply_sorted acc (s ∷ p) q h k l d = multiply_sorted (gather acc (scaled s q)) p q (sorted_gather acc (scaled s q) h (scaled_terms s q k.0 l (omega arith))) k.1 l (omega arith)
 
-combined_map : (c : ℤ) (p q : List Summand) → c ≢ pos 0 → unsigned_abs c ≡ 1 → IsMap p → IsMap q → weight p + weight q ≤ 2 ^ 62 → length (atoms_of_both p q) ≤ 8 → IsMap (gather p (scaled (constant_term c) q))
+combined_map : (c : ℤ) (p q : List Summand) → c ≢ pos 0 → unsigned_abs c ≡ 1 → IsMap p → IsMap q → weight p + weight q ≤ 2 ^ 62
+    → length (atoms_of_both p q) ≤ 8 → IsMap (gather p (scaled (constant_term c) q))
 combined_map c p q n one hp hq light few =
     let w : weight (scaled (constant_term c) q) ≡ weight q = weight_scaled (constant_term c) q ∙ ap (λ k. k * weight q) one ∙ (omega arith) in
     let i : FactorsIn (atoms_of_both p q) (gather p (scaled (constant_term c) q)) =
@@ -71,15 +72,22 @@ module _ (p q : Polynomial) (hp : IsPolynomial p) (hq : IsPolynomial q) where
 
   pub raised_weights : SumFits p q → weight (raised (sum_denominator p q) p) + weight (raised (sum_denominator p q) q) ≤ 2 ^ 62
   raised_weights f =
-      omega (arith, weight_multiples (sum_denominator p q / p.denominator) p.terms, weight_multiples (sum_denominator p q / q.denominator) q.terms, f.light)
+      omega (
+        arith,
+        weight_multiples (sum_denominator p q / p.denominator) p.terms,
+        weight_multiples (sum_denominator p q / q.denominator) q.terms,
+        f.light,
+      )
 
   pub left_map : SumFits p q → IsMap (raised (sum_denominator p q) p)
   left_map f =
-      map_multiples (sum_denominator p q / p.denominator) p.terms left_some hp.map (omega (arith, weight_multiples (sum_denominator p q / p.denominator) p.terms, raised_weights f))
+      map_multiples (sum_denominator p q / p.denominator) p.terms left_some hp.map
+      (omega (arith, weight_multiples (sum_denominator p q / p.denominator) p.terms, raised_weights f))
 
   pub right_map : SumFits p q → IsMap (raised (sum_denominator p q) q)
   right_map f =
-      map_multiples (sum_denominator p q / q.denominator) q.terms right_some hq.map (omega (arith, weight_multiples (sum_denominator p q / q.denominator) q.terms, raised_weights f))
+      map_multiples (sum_denominator p q / q.denominator) q.terms right_some hq.map
+      (omega (arith, weight_multiples (sum_denominator p q / q.denominator) q.terms, raised_weights f))
 
   both_noted : atoms_of_both (raised (sum_denominator p q) p) (raised (sum_denominator p q) q) ≡ atoms_of_both p.terms q.terms
   both_noted =
@@ -88,16 +96,19 @@ module _ (p q : Polynomial) (hp : IsPolynomial p) (hq : IsPolynomial q) where
 
   pub sum_map : SumFits p q → IsMap (sum_terms (raised (sum_denominator p q) p) (raised (sum_denominator p q) q))
   sum_map f =
-      combined_map (pos 1) (raised (sum_denominator p q) p) (raised (sum_denominator p q) q) (λ z. cc) refl (left_map f) (right_map f) (raised_weights f) (omega (arith, ap length both_noted, f.few))
+      combined_map (pos 1) (raised (sum_denominator p q) p) (raised (sum_denominator p q) q) (λ z. cc) refl (left_map f) (right_map f)
+      (raised_weights f) (omega (arith, ap length both_noted, f.few))
 
   pub difference_map : SumFits p q → IsMap (difference_terms (raised (sum_denominator p q) p) (raised (sum_denominator p q) q))
   difference_map f =
-      combined_map (negsuc 0) (raised (sum_denominator p q) p) (raised (sum_denominator p q) q) (λ z. cc) refl (left_map f) (right_map f) (raised_weights f) (omega (arith, ap length both_noted, f.few))
+      combined_map (negsuc 0) (raised (sum_denominator p q) p) (raised (sum_denominator p q) q) (λ z. cc) refl (left_map f) (right_map f)
+      (raised_weights f) (omega (arith, ap length both_noted, f.few))
 
 pub product_map : (p q : Polynomial) → IsMap p.terms → IsMap q.terms → ProductFits p q → IsMap (product_terms p.terms q.terms)
 product_map p q hp hq f =
     let i : FactorsIn (atoms_of_both p.terms q.terms) (multiply [] p.terms q.terms) =
-    multiply_in (atoms_of_both p.terms q.terms) [] p.terms q.terms tt (in_keep (note_terms [] p.terms) q.terms p.terms (terms_have [] p.terms)) (terms_have (note_terms [] p.terms) q.terms) in
+    multiply_in (atoms_of_both p.terms q.terms) [] p.terms q.terms tt
+    (in_keep (note_terms [] p.terms) q.terms p.terms (terms_have [] p.terms)) (terms_have (note_terms [] p.terms) q.terms) in
     record {
       sorted = multiply_sorted [] p.terms q.terms tt (all_sorted p.terms hp.sorted) (all_sorted q.terms hq.sorted) f.low;
       light = omega (arith, weight_multiply [] p.terms q.terms, f.light);
@@ -134,32 +145,67 @@ module _ (a : ℕ → ℤ) (p q : Polynomial) (hp : IsPolynomial p) (hq : IsPoly
   left_cross : (pos (sum_denominator p q / p.denominator) *ℤ value a p.terms) *ℤ pos (p.denominator * q.denominator) ≡ (value a p.terms *ℤ pos q.denominator) *ℤ pos (sum_denominator p q)
   left_cross =
       ap (λ z. (pos (sum_denominator p q / p.denominator) *ℤ value a p.terms) *ℤ z) (sym (pos-*ℤ-pos p.denominator q.denominator))
-      ∙ cross (sum_denominator p q / p.denominator) p.denominator (sum_denominator p q) (value a p.terms) (pos q.denominator) (left_exact p q hp hq)
+      ∙ cross (sum_denominator p q / p.denominator) p.denominator (sum_denominator p q) (value a p.terms) (pos q.denominator)
+      (left_exact p q hp hq)
 
   right_cross : (pos (sum_denominator p q / q.denominator) *ℤ value a q.terms) *ℤ pos (p.denominator * q.denominator) ≡ (value a q.terms *ℤ pos p.denominator) *ℤ pos (sum_denominator p q)
   right_cross =
-      ap (λ z. (pos (sum_denominator p q / q.denominator) *ℤ value a q.terms) *ℤ z) (sym (pos-*ℤ-pos p.denominator q.denominator) ∙ *ℤ_comm (pos p.denominator) (pos q.denominator))
-      ∙ cross (sum_denominator p q / q.denominator) q.denominator (sum_denominator p q) (value a q.terms) (pos p.denominator) (right_exact p q hp hq)
+      ap (λ z. (pos (sum_denominator p q / q.denominator) *ℤ value a q.terms) *ℤ z)
+      (sym (pos-*ℤ-pos p.denominator q.denominator) ∙ *ℤ_comm (pos p.denominator) (pos q.denominator))
+      ∙ cross (sum_denominator p q / q.denominator) q.denominator (sum_denominator p q) (value a q.terms) (pos p.denominator)
+      (right_exact p q hp hq)
 
   pub sum_value : value a (lowest (sum_terms (raised (sum_denominator p q) p) (raised (sum_denominator p q) q)) (sum_denominator p q)).terms *ℤ pos (p.denominator * q.denominator)
-      ≡ (value a p.terms *ℤ pos q.denominator +ℤ value a q.terms *ℤ pos p.denominator) *ℤ pos (lowest (sum_terms (raised (sum_denominator p q) p) (raised (sum_denominator p q) q)) (sum_denominator p q)).denominator
+      ≡ (value a p.terms *ℤ pos q.denominator +ℤ value a q.terms *ℤ pos p.denominator) *ℤ pos
+      (lowest (sum_terms (raised (sum_denominator p q) p) (raised (sum_denominator p q) q)) (sum_denominator p q)).denominator
   sum_value =
       let v : value a (sum_terms (raised (sum_denominator p q) p) (raised (sum_denominator p q) q)) ≡ pos (sum_denominator p q / p.denominator) *ℤ value a p.terms +ℤ pos (sum_denominator p q / q.denominator) *ℤ value a q.terms =
-      value_sum a (raised (sum_denominator p q) p) (raised (sum_denominator p q) q) (sum_terms (raised (sum_denominator p q) p) (raised (sum_denominator p q) q)) refl
-      ∙ rw (value_multiples a (sum_denominator p q / p.denominator) p.terms, value_multiples a (sum_denominator p q / q.denominator) q.terms) refl in
-      lowest_same a (sum_terms (raised (sum_denominator p q) p) (raised (sum_denominator p q) q)) (sum_denominator p q) (pos (p.denominator * q.denominator))
+      value_sum a (raised (sum_denominator p q) p) (raised (sum_denominator p q) q)
+      (sum_terms (raised (sum_denominator p q) p) (raised (sum_denominator p q) q)) refl
+      ∙ rw (
+        value_multiples a (sum_denominator p q / p.denominator) p.terms,
+        value_multiples a
+            (sum_denominator p q / q.denominator) q.terms,
+      ) refl in
+      lowest_same a (sum_terms (raised (sum_denominator p q) p) (raised (sum_denominator p q) q)) (sum_denominator p q)
+      (pos (p.denominator * q.denominator))
       (value a p.terms *ℤ pos q.denominator +ℤ value a q.terms *ℤ pos p.denominator) (common_some p q hp hq)
-      (rw (v, add-mul (pos (sum_denominator p q / p.denominator) *ℤ value a p.terms) (pos (sum_denominator p q / q.denominator) *ℤ value a q.terms) (pos (p.denominator * q.denominator)), left_cross, right_cross, add-mul (value a p.terms *ℤ pos q.denominator) (value a q.terms *ℤ pos p.denominator) (pos (sum_denominator p q))) refl)
+      (rw (
+        v,
+        add-mul (pos (sum_denominator p q / p.denominator) *ℤ value a p.terms)
+            (pos (sum_denominator p q / q.denominator) *ℤ value a q.terms)
+            (pos (p.denominator * q.denominator)),
+        left_cross,
+        right_cross,
+        add-mul (value a p.terms *ℤ pos q.denominator)
+            (value a q.terms *ℤ pos p.denominator) (pos (sum_denominator p q)),
+      ) refl)
 
   pub difference_value : value a (lowest (difference_terms (raised (sum_denominator p q) p) (raised (sum_denominator p q) q)) (sum_denominator p q)).terms *ℤ pos (p.denominator * q.denominator)
-      ≡ (value a p.terms *ℤ pos q.denominator -ℤ value a q.terms *ℤ pos p.denominator) *ℤ pos (lowest (difference_terms (raised (sum_denominator p q) p) (raised (sum_denominator p q) q)) (sum_denominator p q)).denominator
+      ≡ (value a p.terms *ℤ pos q.denominator -ℤ value a q.terms *ℤ pos p.denominator) *ℤ pos
+      (lowest (difference_terms (raised (sum_denominator p q) p) (raised (sum_denominator p q) q)) (sum_denominator p q)).denominator
   difference_value =
       let v : value a (difference_terms (raised (sum_denominator p q) p) (raised (sum_denominator p q) q)) ≡ pos (sum_denominator p q / p.denominator) *ℤ value a p.terms -ℤ pos (sum_denominator p q / q.denominator) *ℤ value a q.terms =
-      value_difference a (raised (sum_denominator p q) p) (raised (sum_denominator p q) q) (difference_terms (raised (sum_denominator p q) p) (raised (sum_denominator p q) q)) refl
-      ∙ rw (value_multiples a (sum_denominator p q / p.denominator) p.terms, value_multiples a (sum_denominator p q / q.denominator) q.terms) refl in
-      lowest_same a (difference_terms (raised (sum_denominator p q) p) (raised (sum_denominator p q) q)) (sum_denominator p q) (pos (p.denominator * q.denominator))
+      value_difference a (raised (sum_denominator p q) p) (raised (sum_denominator p q) q)
+      (difference_terms (raised (sum_denominator p q) p) (raised (sum_denominator p q) q)) refl
+      ∙ rw (
+        value_multiples a (sum_denominator p q / p.denominator) p.terms,
+        value_multiples a
+            (sum_denominator p q / q.denominator) q.terms,
+      ) refl in
+      lowest_same a (difference_terms (raised (sum_denominator p q) p) (raised (sum_denominator p q) q)) (sum_denominator p q)
+      (pos (p.denominator * q.denominator))
       (value a p.terms *ℤ pos q.denominator -ℤ value a q.terms *ℤ pos p.denominator) (common_some p q hp hq)
-      (rw (v, sub-mul (pos (sum_denominator p q / p.denominator) *ℤ value a p.terms) (pos (sum_denominator p q / q.denominator) *ℤ value a q.terms) (pos (p.denominator * q.denominator)), left_cross, right_cross, sub-mul (value a p.terms *ℤ pos q.denominator) (value a q.terms *ℤ pos p.denominator) (pos (sum_denominator p q))) refl)
+      (rw (
+        v,
+        sub-mul (pos (sum_denominator p q / p.denominator) *ℤ value a p.terms)
+            (pos (sum_denominator p q / q.denominator) *ℤ value a q.terms)
+            (pos (p.denominator * q.denominator)),
+        left_cross,
+        right_cross,
+        sub-mul (value a p.terms *ℤ pos q.denominator)
+            (value a q.terms *ℤ pos p.denominator) (pos (sum_denominator p q)),
+      ) refl)
 
 pub some_product : (m n : ℕ) → 0 < m → 0 < n → 0 < m * n
 some_product zero n p q = absurd (omega arith)
@@ -169,14 +215,20 @@ some_product (suc m) (suc n) p q = omega arith
 pub product_some : (p q : Polynomial) → IsPolynomial p → IsPolynomial q → 0 < p.denominator * q.denominator
 product_some p q hp hq = some_product p.denominator q.denominator hp.lowest.positive hq.lowest.positive
 
-pub product_value : (a : ℕ → ℤ) (p q : Polynomial) → IsPolynomial p → IsPolynomial q → value a (lowest (product_terms p.terms q.terms) (p.denominator * q.denominator)).terms *ℤ pos (p.denominator * q.denominator)
+pub product_value : (a : ℕ → ℤ) (p q : Polynomial) → IsPolynomial p → IsPolynomial q
+    → value a (lowest (product_terms p.terms q.terms) (p.denominator * q.denominator)).terms *ℤ pos (p.denominator * q.denominator)
     ≡ (value a p.terms *ℤ value a q.terms) *ℤ pos (lowest (product_terms p.terms q.terms) (p.denominator * q.denominator)).denominator
 product_value a p q hp hq =
-    lowest_same a (product_terms p.terms q.terms) (p.denominator * q.denominator) (pos (p.denominator * q.denominator)) (value a p.terms *ℤ value a q.terms) (product_some p q hp hq)
+    lowest_same a (product_terms p.terms q.terms) (p.denominator * q.denominator) (pos (p.denominator * q.denominator))
+    (value a p.terms *ℤ value a q.terms) (product_some p q hp hq)
     (ap (λ z. z *ℤ pos (p.denominator * q.denominator)) (value_product a p.terms q.terms (product_terms p.terms q.terms) refl))
 
-pub quotient_value : (a : ℕ → ℤ) (p : Polynomial) (k : ℕ) → IsPolynomial p → 0 < k → value a (lowest p.terms (p.denominator * k)).terms *ℤ pos (p.denominator * k) ≡ value a p.terms *ℤ pos (lowest p.terms (p.denominator * k)).denominator
-quotient_value a p k hp l = lowest_same a p.terms (p.denominator * k) (pos (p.denominator * k)) (value a p.terms) (some_product p.denominator k hp.lowest.positive l) refl
+pub quotient_value : (a : ℕ → ℤ) (p : Polynomial) (k : ℕ) → IsPolynomial p → 0 < k
+    → value a (lowest p.terms (p.denominator * k)).terms *ℤ pos (p.denominator * k) ≡ value a p.terms *ℤ pos
+    (lowest p.terms (p.denominator * k)).denominator
+quotient_value a p k hp l =
+    lowest_same a p.terms (p.denominator * k) (pos (p.denominator * k)) (value a p.terms)
+    (some_product p.denominator k hp.lowest.positive l) refl
 
 -- ---- sameness
 
@@ -250,13 +302,15 @@ whole_number p c h v =
 not_one : (d : ℕ) → (d == 1) ≡ false → d ≡ 1 → ⊥
 not_one d e f = let g : (d == 1) ≡ true = ap (λ n. n == 1) f in cc
 
-constant_number : (p : Polynomial) (r : Option ℤ) → IsPolynomial p → p.denominator ≡ 1 → MatchOption r ((c : ℤ) → ((a : ℕ → ℤ) → value a p.terms ≡ c) → ⊥) (λ c. (a : ℕ → ℤ) → value a p.terms ≡ c)
+constant_number : (p : Polynomial) (r : Option ℤ) → IsPolynomial p → p.denominator ≡ 1
+    → MatchOption r ((c : ℤ) → ((a : ℕ → ℤ) → value a p.terms ≡ c) → ⊥) (λ c. (a : ℕ → ℤ) → value a p.terms ≡ c)
     → MatchOption r ((c : ℤ) → ((a : ℕ → ℤ) → HasWidth p a c) → ⊥) (λ c. (a : ℕ → ℤ) → HasWidth p a c)
 constant_number p None h e m = λ c v. m c (λ a. v a ∙ ap (λ d. c *ℤ pos d) e ∙ mul-one c)
 constant_number p (Some c) h e m = λ a. m a ∙ sym (mul-one c) ∙ ap (λ d. c *ℤ pos d) (sym e)
 
 -- what `as_constant` answers
-pub one_number : (p : Polynomial) → IsPolynomial p → MatchOption (constant_value p) ((c : ℤ) → ((a : ℕ → ℤ) → HasWidth p a c) → ⊥) (λ c. (a : ℕ → ℤ) → HasWidth p a c)
+pub one_number : (p : Polynomial) → IsPolynomial p
+    → MatchOption (constant_value p) ((c : ℤ) → ((a : ℕ → ℤ) → HasWidth p a c) → ⊥) (λ c. (a : ℕ → ℤ) → HasWidth p a c)
 unfolding constant_value
 one_number p h = elim (cases_Bool (p.denominator == 1)) [
   | inl z ↦ rw z (constant_number p (constant_of p.terms) h (one_denominator p.denominator z) (one_value p.terms (constant_of p.terms) h.map refl))
@@ -271,8 +325,11 @@ pub constant_else : (p : Polynomial) → (p.denominator ≡ 1 → ⊥) → None 
 unfolding constant_value
 constant_else p n = elim (cases_Bool (p.denominator == 1)) [ inl z ↦ absurd (n (one_denominator p.denominator z)) | inr z ↦ rw z refl ]
 
-pub one_answer : (p : Polynomial) (r : Option ℤ) → IsPolynomial p → r ≡ constant_value p → MatchOption r ((c : ℤ) → ((a : ℕ → ℤ) → HasWidth p a c) → ⊥) (λ c. (a : ℕ → ℤ) → HasWidth p a c)
-one_answer p r h e = subst (λ (o : Option ℤ). MatchOption o ((c : ℤ) → ((a : ℕ → ℤ) → HasWidth p a c) → ⊥) (λ c. (a : ℕ → ℤ) → HasWidth p a c)) (sym e) (one_number p h)
+pub one_answer : (p : Polynomial) (r : Option ℤ) → IsPolynomial p → r ≡ constant_value p
+    → MatchOption r ((c : ℤ) → ((a : ℕ → ℤ) → HasWidth p a c) → ⊥) (λ c. (a : ℕ → ℤ) → HasWidth p a c)
+one_answer p r h e =
+    subst (λ (o : Option ℤ). MatchOption o ((c : ℤ) → ((a : ℕ → ℤ) → HasWidth p a c) → ⊥) (λ c. (a : ℕ → ℤ) → HasWidth p a c)) (sym e)
+    (one_number p h)
 
 -- ---- for the code
 

@@ -31,7 +31,8 @@ use Rattle.asl_poly.proofs.Maps.{multiply_sorted, cross}
 abbrev pub number_at : (ℕ → ℤ) → List (ℕ × Polynomial) → ℕ → ℤ
 number_at a by x = value a (map_at by x)
 
-value_times : (a : ℕ → ℤ) (by : List (ℕ × Polynomial)) (acc : List Summand) (xs : List ℕ) → value a (times_maps by acc xs) ≡ value a acc *ℤ product (number_at a by) xs
+value_times : (a : ℕ → ℤ) (by : List (ℕ × Polynomial)) (acc : List Summand) (xs : List ℕ)
+    → value a (times_maps by acc xs) ≡ value a acc *ℤ product (number_at a by) xs
 value_times a by acc [] = sym (mul-one (value a acc))
 value_times a by acc (x ∷ xs) =
     rw (value_times a by (product_terms acc (map_at by x)) xs, value-multiply a [] acc (map_at by x), +ℤ_idl (value a acc *ℤ value a (map_at by x)))
@@ -40,7 +41,8 @@ value_times a by acc (x ∷ xs) =
 value_unit : (a : ℕ → ℤ) (c : ℤ) → value a (constant_term c ∷ []) ≡ c
 value_unit a c = rw (mul-one c) (omega (arith, ints))
 
-pub value_replaced : (a : ℕ → ℤ) (by : List (ℕ × Polynomial)) (acc p : List Summand) → value a (replaced by acc p) ≡ value a acc +ℤ value (number_at a by) p
+pub value_replaced : (a : ℕ → ℤ) (by : List (ℕ × Polynomial)) (acc p : List Summand)
+    → value a (replaced by acc p) ≡ value a acc +ℤ value (number_at a by) p
 value_replaced a by acc [] = omega (arith, ints)
 value_replaced a by acc (t ∷ p) =
     rw (value_replaced a by (gather acc (times_maps by (constant_term t.coefficient ∷ []) t.factors)) p, value-gather a acc (times_maps by (constant_term t.coefficient ∷ []) t.factors), value_times a by (constant_term t.coefficient ∷ []) t.factors, value_unit a t.coefficient)
@@ -159,7 +161,8 @@ replaced_in by ys acc [] h k = h
 replaced_in by ys acc (t ∷ p) h k =
     replaced_in by ys (gather acc (times_maps by (constant_term t.coefficient ∷ []) t.factors)) p (gather_in ys acc (times_maps by (constant_term t.coefficient ∷ []) t.factors) h (times_in by ys (constant_term t.coefficient ∷ []) t.factors (tt, tt) k.0)) k.1
 
-pub substituted_map : (by : List (ℕ × Polynomial)) (p : List Summand) → AllMaps by p → Sorted p → ReplacedFits by p → IsMap (replaced by [] p)
+pub substituted_map : (by : List (ℕ × Polynomial)) (p : List Summand) → AllMaps by p → Sorted p → ReplacedFits by p
+    → IsMap (replaced by [] p)
 substituted_map by p m h f =
     let i : FactorsIn (note_replaced by [] p) (replaced by [] p) = replaced_in by (note_replaced by [] p) [] p tt (replaced_have by [] p) in
     record {
@@ -311,12 +314,17 @@ module _ (by : List (ℕ × Polynomial)) (f : AllFine by) where
   pub from_divides : (n : ℕ) (ts : List Summand) → 0 < n → Divides n (common_denominator_from by n ts)
   from_divides n [] p = mod_self n
   from_divides n (t ∷ ts) p =
-      divides_trans n (least_common_multiple n (factors_denominator by t.factors)) (common_denominator_from by (least_common_multiple n (factors_denominator by t.factors)) ts) (multiple_left n (factors_denominator by t.factors))
-      (from_divides (least_common_multiple n (factors_denominator by t.factors)) ts (multiple_some n (factors_denominator by t.factors) p (factors_some by t.factors f)))
+      divides_trans n (least_common_multiple n (factors_denominator by t.factors))
+      (common_denominator_from by (least_common_multiple n (factors_denominator by t.factors)) ts)
+      (multiple_left n (factors_denominator by t.factors))
+      (from_divides (least_common_multiple n (factors_denominator by t.factors)) ts
+      (multiple_some n (factors_denominator by t.factors) p (factors_some by t.factors f)))
 
   pub from_some : (n : ℕ) (ts : List Summand) → 0 < n → 0 < common_denominator_from by n ts
   from_some n [] p = p
-  from_some n (t ∷ ts) p = from_some (least_common_multiple n (factors_denominator by t.factors)) ts (multiple_some n (factors_denominator by t.factors) p (factors_some by t.factors f))
+  from_some n (t ∷ ts) p =
+      from_some (least_common_multiple n (factors_denominator by t.factors)) ts
+      (multiple_some n (factors_denominator by t.factors) p (factors_some by t.factors f))
 
   pub from_most : (n : ℕ) (ts : List Summand) → 0 < n → n ≤ common_denominator_from by n ts
   from_most n ts p = divides_le n (common_denominator_from by n ts) (from_some n ts p) (from_divides n ts p)
@@ -324,8 +332,11 @@ module _ (by : List (ℕ × Polynomial)) (f : AllFine by) where
   from_divide : (n : ℕ) (ts : List Summand) → 0 < n → AllDivide by (common_denominator_from by n ts) ts
   from_divide n [] p = tt
   from_divide n (t ∷ ts) p =
-      let m : 0 < least_common_multiple n (factors_denominator by t.factors) = multiple_some n (factors_denominator by t.factors) p (factors_some by t.factors f) in (
-        divides_trans (factors_denominator by t.factors) (least_common_multiple n (factors_denominator by t.factors)) (common_denominator_from by (least_common_multiple n (factors_denominator by t.factors)) ts) (multiple_right n (factors_denominator by t.factors))
+      let m : 0 < least_common_multiple n (factors_denominator by t.factors) = multiple_some n (factors_denominator by t.factors) p
+      (factors_some by t.factors f) in (
+        divides_trans (factors_denominator by t.factors) (least_common_multiple n (factors_denominator by t.factors))
+            (common_denominator_from by (least_common_multiple n (factors_denominator by t.factors)) ts)
+            (multiple_right n (factors_denominator by t.factors))
             (from_divides (least_common_multiple n (factors_denominator by t.factors)) ts m),
         from_divide (least_common_multiple n (factors_denominator by t.factors)) ts m,
       )
@@ -344,11 +355,17 @@ some_pos : (k : ℕ) → 0 < k → pos k ≢ pos 0
 some_pos zero p = absurd (omega arith)
 some_pos (suc k) p = λ e. cc
 
-pub raised_sorted : (by : List (ℕ × Polynomial)) (n : ℕ) (ts : List Summand) → 0 < n → AllDivide by n ts → Sorted ts → Sorted (raised_terms by n ts)
+pub raised_sorted : (by : List (ℕ × Polynomial)) (n : ℕ) (ts : List Summand) → 0 < n → AllDivide by n ts → Sorted ts
+    → Sorted (raised_terms by n ts)
 raised_sorted by n [] p d h = tt
 raised_sorted by n (t ∷ ts) p d h =
     let q : 0 < n / factors_denominator by t.factors = raised_some (factors_denominator by t.factors) n p d.0 in (
-      record { counts = nonzero_mul (pos (n / factors_denominator by t.factors)) t.coefficient (some_pos (n / factors_denominator by t.factors) q) h.0.counts; falls = h.0.falls; degree = h.0.degree },
+      record {
+        counts = nonzero_mul (pos (n / factors_denominator by t.factors)) t.coefficient
+            (some_pos (n / factors_denominator by t.factors) q) h.0.counts;
+        falls = h.0.falls;
+        degree = h.0.degree;
+      },
       below_raised by n t.factors ts h.1,
       raised_sorted by n ts p d.1 h.2,
     )
@@ -360,20 +377,25 @@ degree_raised by n (t ∷ ts) = rw (degree_raised by n ts) refl
 quotient_most : (n d m : ℕ) → n ≤ m → n / d ≤ m
 quotient_most n d m l = omega (arith, div-le_self n d)
 
-pub weight_raised : (by : List (ℕ × Polynomial)) (n : ℕ) (ts : List Summand) → n ≤ 2 ^ 16 → weight (raised_terms by n ts) ≤ 2 ^ 16 * weight ts
+pub weight_raised : (by : List (ℕ × Polynomial)) (n : ℕ) (ts : List Summand) → n ≤ 2 ^ 16
+    → weight (raised_terms by n ts) ≤ 2 ^ 16 * weight ts
 weight_raised by n [] l = omega arith
 weight_raised by n (t ∷ ts) l =
-    let a : unsigned_abs (pos (n / factors_denominator by t.factors) *ℤ t.coefficient) ≡ n / factors_denominator by t.factors * unsigned_abs t.coefficient = unsigned_abs-mul (pos (n / factors_denominator by t.factors)) t.coefficient in
-    let b : n / factors_denominator by t.factors * unsigned_abs t.coefficient ≤ 2 ^ 16 * unsigned_abs t.coefficient = mul-le-mul_right (unsigned_abs t.coefficient) (quotient_most n (factors_denominator by t.factors) (2 ^ 16) l) in
+    let a : unsigned_abs (pos (n / factors_denominator by t.factors) *ℤ t.coefficient) ≡ n / factors_denominator by t.factors * unsigned_abs t.coefficient =
+    unsigned_abs-mul (pos (n / factors_denominator by t.factors)) t.coefficient in
+    let b : n / factors_denominator by t.factors * unsigned_abs t.coefficient ≤ 2 ^ 16 * unsigned_abs t.coefficient =
+    mul-le-mul_right (unsigned_abs t.coefficient) (quotient_most n (factors_denominator by t.factors) (2 ^ 16) l) in
     omega (arith, weight_raised by n ts l)
 
 -- ---- the result as a fraction
 
-product_number : (a : ℕ → ℤ) (by : List (ℕ × Polynomial)) (xs : List ℕ) → (product_of (replaced_at a by) xs).number ≡ product (number_at a by) xs
+product_number : (a : ℕ → ℤ) (by : List (ℕ × Polynomial)) (xs : List ℕ)
+    → (product_of (replaced_at a by) xs).number ≡ product (number_at a by) xs
 product_number a by [] = refl
 product_number a by (x ∷ xs) = ap (λ z. value a (map_at by x) *ℤ z) (product_number a by xs)
 
-product_denominator : (a : ℕ → ℤ) (by : List (ℕ × Polynomial)) (xs : List ℕ) → (product_of (replaced_at a by) xs).denominator ≡ factors_denominator by xs
+product_denominator : (a : ℕ → ℤ) (by : List (ℕ × Polynomial)) (xs : List ℕ)
+    → (product_of (replaced_at a by) xs).denominator ≡ factors_denominator by xs
 product_denominator a by [] = refl
 product_denominator a by (x ∷ xs) = ap (λ n. denominator_at by x * n) (product_denominator a by xs)
 
@@ -393,16 +415,28 @@ all_terms : (k d n o : ℕ) (c p v m : ℤ) → k * d ≡ n → v *ℤ pos o ≡
 all_terms k d n o c p v m h e =
     let w : pos ((1 * d) * o) ≡ pos d *ℤ pos o = ap pos (one_times d o) ∙ sym (pos-*ℤ-pos d o) in
     let u : pos (1 * d) ≡ pos d = ap pos (let f : 1 * d ≡ d = omega arith in f) in
-    rw (w, u, add-mul ((pos k *ℤ c) *ℤ p) v (pos d *ℤ pos o), one_term k d n c p (pos o) h, rest_terms v (pos o) m (pos n) (pos d) e, add-mul ((c *ℤ p) *ℤ pos o) (m *ℤ pos d) (pos n)) refl
+    rw (
+      w,
+      u,
+      add-mul ((pos k *ℤ c) *ℤ p) v (pos d *ℤ pos o),
+      one_term k d n c p (pos o) h,
+      rest_terms v (pos o) m (pos n)
+          (pos d) e,
+      add-mul ((c *ℤ p) *ℤ pos o) (m *ℤ pos d) (pos n),
+    ) refl
 
 -- the terms over one denominator are the sum of fractions
 raised_value : (a : ℕ → ℤ) (by : List (ℕ × Polynomial)) (n : ℕ) (ts : List Summand) → AllDivide by n ts
-    → value (number_at a by) (raised_terms by n ts) *ℤ pos (sum_of (replaced_at a by) ts).denominator ≡ (sum_of (replaced_at a by) ts).number *ℤ pos n
+    → value (number_at a by) (raised_terms by n ts) *ℤ pos
+    (sum_of (replaced_at a by) ts).denominator ≡ (sum_of (replaced_at a by) ts).number *ℤ pos n
 raised_value a by n [] h = sym (zero-*ℤ (pos n))
 raised_value a by n (t ∷ ts) h =
-    let d : n / factors_denominator by t.factors * factors_denominator by t.factors ≡ n = divides_exact (factors_denominator by t.factors) n h.0 in
+    let d : n / factors_denominator by t.factors * factors_denominator by t.factors ≡ n =
+    divides_exact (factors_denominator by t.factors) n h.0 in
     rw (product_number a by t.factors, product_denominator a by t.factors)
-    (all_terms (n / factors_denominator by t.factors) (factors_denominator by t.factors) n (sum_of (replaced_at a by) ts).denominator t.coefficient (product (number_at a by) t.factors) (value (number_at a by) (raised_terms by n ts)) (sum_of (replaced_at a by) ts).number d (raised_value a by n ts h.1))
+    (all_terms (n / factors_denominator by t.factors) (factors_denominator by t.factors) n
+    (sum_of (replaced_at a by) ts).denominator t.coefficient (product (number_at a by) t.factors)
+    (value (number_at a by) (raised_terms by n ts)) (sum_of (replaced_at a by) ts).number d (raised_value a by n ts h.1))
 
 times_last : (v o m n d : ℕ) (x y : ℤ) → x *ℤ pos o ≡ y *ℤ pos n → x *ℤ pos (o * d) ≡ y *ℤ pos (n * d)
 times_last v o m n d x y e =
@@ -411,15 +445,20 @@ times_last v o m n d x y e =
     a ∙ ap (λ z. z *ℤ pos d) e ∙ b
 
 pub substituted_value : (a : ℕ → ℤ) (by : List (ℕ × Polynomial)) (p : Polynomial) → AllFine by → 0 < p.denominator
-    → SameFraction (fraction_at a (lowest (replaced by [] (with_common_denominator by p.terms)) (common_denominator by p.terms * p.denominator))) (worth (replaced_at a by) p)
+    → SameFraction (fraction_at a (lowest (replaced by [] (with_common_denominator by p.terms))
+    (common_denominator by p.terms * p.denominator))) (worth (replaced_at a by) p)
 substituted_value a by p f l =
     let n : ℕ = common_denominator by p.terms in
-    let v : value a (replaced by [] (with_common_denominator by p.terms)) ≡ value (number_at a by) (with_common_denominator by p.terms) = value_replaced a by [] (with_common_denominator by p.terms) ∙ +ℤ_idl (value (number_at a by) (with_common_denominator by p.terms)) in
+    let v : value a (replaced by [] (with_common_denominator by p.terms)) ≡ value (number_at a by) (with_common_denominator by p.terms) =
+    value_replaced a by [] (with_common_denominator by p.terms) ∙ +ℤ_idl (value (number_at a by) (with_common_denominator by p.terms)) in
     let e : value a (replaced by [] (with_common_denominator by p.terms)) *ℤ pos (sum_of (replaced_at a by) p.terms).denominator ≡ (sum_of (replaced_at a by) p.terms).number *ℤ pos (common_denominator by p.terms) =
-    ap (λ z. z *ℤ pos (sum_of (replaced_at a by) p.terms).denominator) v ∙ raised_value a by (common_denominator by p.terms) p.terms (all_divide by f p.terms) in
-    lowest_same a (replaced by [] (with_common_denominator by p.terms)) (common_denominator by p.terms * p.denominator) (pos ((sum_of (replaced_at a by) p.terms).denominator * p.denominator)) (sum_of (replaced_at a by) p.terms).number
+    ap (λ z. z *ℤ pos (sum_of (replaced_at a by) p.terms).denominator) v ∙ raised_value a by (common_denominator by p.terms) p.terms
+    (all_divide by f p.terms) in
+    lowest_same a (replaced by [] (with_common_denominator by p.terms)) (common_denominator by p.terms * p.denominator)
+    (pos ((sum_of (replaced_at a by) p.terms).denominator * p.denominator)) (sum_of (replaced_at a by) p.terms).number
     (both_some (common_denominator by p.terms) p.denominator (common_denominator_some by f p.terms) l)
-    (times_last 0 (sum_of (replaced_at a by) p.terms).denominator 0 (common_denominator by p.terms) p.denominator (value a (replaced by [] (with_common_denominator by p.terms))) (sum_of (replaced_at a by) p.terms).number e)
+    (times_last 0 (sum_of (replaced_at a by) p.terms).denominator 0 (common_denominator by p.terms) p.denominator
+    (value a (replaced by [] (with_common_denominator by p.terms))) (sum_of (replaced_at a by) p.terms).number e)
 
 -- ---- weights of terms with their atoms replaced
 
@@ -439,11 +478,14 @@ some_denominators f (x ∷ xs) h = both_some (f x).denominator (product_of f xs)
 
 pub some_sum : (f : ℕ → Fraction) (ts : List Summand) → ((x : ℕ) → 0 < (f x).denominator) → 0 < (sum_of f ts).denominator
 some_sum f [] h = omega arith
-some_sum f (t ∷ ts) h = both_some (1 * (product_of f t.factors).denominator) (sum_of f ts).denominator (both_some 1 (product_of f t.factors).denominator (omega arith) (some_denominators f t.factors h)) (some_sum f ts h)
+some_sum f (t ∷ ts) h =
+    both_some (1 * (product_of f t.factors).denominator) (sum_of f ts).denominator
+    (both_some 1 (product_of f t.factors).denominator (omega arith) (some_denominators f t.factors h)) (some_sum f ts h)
 
 four : (x d y e : ℤ) → (x *ℤ d) *ℤ (y *ℤ e) ≡ (x *ℤ y) *ℤ (d *ℤ e)
 four x d y e =
-    mul_assocℤ x d (y *ℤ e) ∙ ap (λ z. x *ℤ z) (sym (mul_assocℤ d y e) ∙ ap (λ z. z *ℤ e) (*ℤ_comm d y) ∙ mul_assocℤ y d e) ∙ sym (mul_assocℤ x y (d *ℤ e))
+    mul_assocℤ x d (y *ℤ e) ∙ ap (λ z. x *ℤ z) (sym (mul_assocℤ d y e) ∙ ap (λ z. z *ℤ e) (*ℤ_comm d y) ∙ mul_assocℤ y d e)
+    ∙ sym (mul_assocℤ x y (d *ℤ e))
 
 module _ (f : ℕ → Fraction) (b : ℕ → ℤ) (h : (x : ℕ) → (f x).number ≡ b x *ℤ pos (f x).denominator) where
   whole_product : (xs : List ℕ) → (product_of f xs).number ≡ product b xs *ℤ pos (product_of f xs).denominator
@@ -457,26 +499,34 @@ module _ (f : ℕ → Fraction) (b : ℕ → ℤ) (h : (x : ℕ) → (f x).numbe
   one_whole c p v d o =
       let u : pos (1 * d) ≡ pos d = ap pos (let g : 1 * d ≡ d = omega arith in g) in
       let w : pos ((1 * d) * o) ≡ pos d *ℤ pos o = ap pos (one_times d o) ∙ sym (pos-*ℤ-pos d o) in
-      let x : (c *ℤ (p *ℤ pos d)) *ℤ pos o ≡ (c *ℤ p) *ℤ (pos d *ℤ pos o) = ap (λ z. z *ℤ pos o) (sym (mul_assocℤ c p (pos d))) ∙ mul_assocℤ (c *ℤ p) (pos d) (pos o) in
+      let x : (c *ℤ (p *ℤ pos d)) *ℤ pos o ≡ (c *ℤ p) *ℤ (pos d *ℤ pos o) =
+      ap (λ z. z *ℤ pos o) (sym (mul_assocℤ c p (pos d))) ∙ mul_assocℤ (c *ℤ p) (pos d) (pos o) in
       let y : (v *ℤ pos o) *ℤ pos d ≡ v *ℤ (pos d *ℤ pos o) = mul_assocℤ v (pos o) (pos d) ∙ ap (λ z. v *ℤ z) (*ℤ_comm (pos o) (pos d)) in
       rw (u, w, x, y, add-mul (c *ℤ p) v (pos d *ℤ pos o)) refl
 
   pub whole_sum : (ts : List Summand) → (sum_of f ts).number ≡ value b ts *ℤ pos (sum_of f ts).denominator
   whole_sum [] = refl
   whole_sum (t ∷ ts) =
-      rw (whole_product t.factors, whole_sum ts) (one_whole t.coefficient (product b t.factors) (value b ts) (product_of f t.factors).denominator (sum_of f ts).denominator)
+      rw (whole_product t.factors, whole_sum ts) (one_whole t.coefficient (product b t.factors) (value b ts)
+      (product_of f t.factors).denominator (sum_of f ts).denominator)
 
 -- a run's view of it: the integers b stand for the atoms, and r is p there
-pub substituted_whole : (a b : ℕ → ℤ) (by : List (ℕ × Polynomial)) (p : Polynomial) → AllFine by → 0 < p.denominator → ((x : ℕ) → value a (map_at by x) ≡ b x *ℤ pos (denominator_at by x))
-    → (r : Polynomial) → SameFraction (fraction_at a r) (worth (replaced_at a by) p) → value a r.terms *ℤ pos p.denominator ≡ value b p.terms *ℤ pos r.denominator
+pub substituted_whole : (a b : ℕ → ℤ) (by : List (ℕ × Polynomial)) (p : Polynomial) → AllFine by → 0 < p.denominator
+    → ((x : ℕ) → value a (map_at by x) ≡ b x *ℤ pos (denominator_at by x))
+    → (r : Polynomial) → SameFraction (fraction_at a r)
+    (worth (replaced_at a by) p) → value a r.terms *ℤ pos p.denominator ≡ value b p.terms *ℤ pos r.denominator
 substituted_whole a b by p f l h r e =
     let o : ℕ = (sum_of (replaced_at a by) p.terms).denominator in
-    let n : (sum_of (replaced_at a by) p.terms).number ≡ value b p.terms *ℤ pos (sum_of (replaced_at a by) p.terms).denominator = whole_sum (replaced_at a by) b h p.terms in
-    let g : value a r.terms *ℤ pos ((sum_of (replaced_at a by) p.terms).denominator * p.denominator) ≡ (value b p.terms *ℤ pos (sum_of (replaced_at a by) p.terms).denominator) *ℤ pos r.denominator = e ∙ ap (λ z. z *ℤ pos r.denominator) n in
+    let n : (sum_of (replaced_at a by) p.terms).number ≡ value b p.terms *ℤ pos (sum_of (replaced_at a by) p.terms).denominator =
+    whole_sum (replaced_at a by) b h p.terms in
+    let g : value a r.terms *ℤ pos ((sum_of (replaced_at a by) p.terms).denominator * p.denominator) ≡ (value b p.terms *ℤ pos (sum_of (replaced_at a by) p.terms).denominator) *ℤ pos r.denominator =
+    e ∙ ap (λ z. z *ℤ pos r.denominator) n in
     let u : value a r.terms *ℤ pos ((sum_of (replaced_at a by) p.terms).denominator * p.denominator) ≡ (value a r.terms *ℤ pos p.denominator) *ℤ pos (sum_of (replaced_at a by) p.terms).denominator =
-    ap (λ z. value a r.terms *ℤ z) (sym (pos-*ℤ-pos (sum_of (replaced_at a by) p.terms).denominator p.denominator) ∙ *ℤ_comm (pos (sum_of (replaced_at a by) p.terms).denominator) (pos p.denominator))
+    ap (λ z. value a r.terms *ℤ z) (sym (pos-*ℤ-pos (sum_of (replaced_at a by) p.terms).denominator p.denominator)
+    ∙ *ℤ_comm (pos (sum_of (replaced_at a by) p.terms).denominator) (pos p.denominator))
     ∙ sym (mul_assocℤ (value a r.terms) (pos p.denominator) (pos (sum_of (replaced_at a by) p.terms).denominator)) in
-    cancel_one (value a r.terms *ℤ pos p.denominator) (value b p.terms *ℤ pos r.denominator) (sum_of (replaced_at a by) p.terms).denominator (some_sum (replaced_at a by) p.terms (λ x. (f x).0))
+    cancel_one (value a r.terms *ℤ pos p.denominator) (value b p.terms *ℤ pos r.denominator) (sum_of (replaced_at a by) p.terms).denominator
+    (some_sum (replaced_at a by) p.terms (λ x. (f x).0))
     (sym u ∙ g ∙ swap_last (value b p.terms) (pos (sum_of (replaced_at a by) p.terms).denominator) (pos r.denominator))
 
 -- ---- denominators
@@ -484,7 +534,8 @@ substituted_whole a b by p f l h r e =
 pub fine_one : (e : ℕ × Polynomial) (rest : List (ℕ × Polynomial)) → IsPolynomial e.1 → AllFine rest → AllFine (e ∷ rest)
 fine_one e rest h f x = elim (cases_Bool (x == e.0)) [ inl z ↦ rw z (h.lowest.positive, h.fine) | inr z ↦ rw z (f x) ]
 
-pub fine_more : (by : List (ℕ × Polynomial)) (e : ℕ × Polynomial) (i : ℕ) → i < length by → e ≡ slice_index_or by i e → IsPolynomial e.1 → AllFine (drop (i + 1) by) → AllFine (drop i by)
+pub fine_more : (by : List (ℕ × Polynomial)) (e : ℕ × Polynomial) (i : ℕ) → i < length by → e ≡ slice_index_or by i e → IsPolynomial e.1
+    → AllFine (drop (i + 1) by) → AllFine (drop i by)
 fine_more by e i l is h f = subst AllFine (sym (next by i e l is)) (fine_one e (drop (i + 1) by) h f)
 
 pub product_small : (i product n : ℕ) → product ≤ (2 ^ 16) ^ i → i ≤ 3 → n ≤ 2 ^ 16 → product * n ≤ 2 ^ 64
@@ -498,7 +549,9 @@ product_end i product l k =
     let a : (2 ^ 16) ^ i ≤ (2 ^ 16) ^ 4 = pow-le-pow_right (omega arith) k in
     omega arith
 
-pub raised_next : (by : List (ℕ × Polynomial)) (ts : List Summand) (t : Summand) (i n m k all : ℕ) → i < length ts → t ≡ slice_index_or ts i t → m ≡ factors_denominator by t.factors → k ≡ least_common_multiple n m → common_denominator_from by n (drop i ts) ≡ all
+pub raised_next : (by : List (ℕ × Polynomial)) (ts : List Summand) (t : Summand) (i n m k all : ℕ) → i < length ts
+    → t ≡ slice_index_or ts i t → m ≡ factors_denominator by t.factors → k ≡ least_common_multiple n m
+    → common_denominator_from by n (drop i ts) ≡ all
     → common_denominator_from by k (drop (i + 1) ts) ≡ all
 raised_next by ts t i n m k all l is e f v =
     let d : drop i ts ≡ t ∷ drop (i + 1) ts = next ts i t l is in

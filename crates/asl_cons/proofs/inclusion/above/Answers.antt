@@ -14,7 +14,8 @@ returns-in-Int-f c =
 pub returns-in-Some : goal.returns-in-Some
 returns-in-Some c =
     let f : SFits w128 c.in-Some.c = search rules in
-    rw (to_z-of_z w128 c.in-Some.c f, c.in-Width.is, c.in-Width-f-2.is) (widths_above c.in-Width.p c.in-Width-f-2.q c.in-Some.c c.in-Some.ensures)
+    rw (to_z-of_z w128 c.in-Some.c f, c.in-Width.is, c.in-Width-f-2.is)
+    (widths_above c.in-Width.p c.in-Width-f-2.q c.in-Some.c c.in-Some.ensures)
 
 pub returns-in-None : goal.returns-in-None
 returns-in-None c = rw (c.in-Width.is, c.in-Width-f-2.is) (iff_never (widths_not_above c.in-Width.p c.in-Width-f-2.q c.in-None.ensures))
