@@ -8,9 +8,9 @@ use Rattle.asl_poly.specs.Operations.{sum_terms, difference_terms, product_terms
 use Rattle.asl_poly.specs.Denominators.{greatest_common_divisor, raised, divided, sizes, lowest}
 use Rattle.asl_poly.specs.Poly.{IsAtMost, IsAtLeast, sum_denominator, sum_map, difference_map, product_map}
 use Rattle.asl_poly.proofs.Ring.{add-mul, mul_assoc}
-use Rattle.asl_poly.proofs.Divisors.{divides_exact, divisor_some, divisor_divides, multiple_left, multiple_right}
+use Rattle.asl_poly.proofs.Divisors.{divides_exact, divisor_some, divisor_divides}
 use Rattle.asl_poly.proofs.LowestTerms.{value_multiples, lowered_value}
-use Rattle.asl_poly.proofs.Maps.{sub-mul, value_sum, value_difference, value_product}
+use Rattle.asl_poly.proofs.Maps.{sub-mul, left_exact, right_exact, value_sum, value_difference, value_product}
 
 -- ---- the order and products
 
@@ -95,20 +95,13 @@ differences : (u v s t : ℤ) → u ≤ℤ s → t ≤ℤ v → (u -ℤ v) ≤�
 differences u v s t h k = omega (arith, ints)
 
 module _ (a : ℕ → ℤ) (p q : Polynomial) where
-  left_exact : sum_denominator p q / p.denominator * p.denominator ≡ sum_denominator p q
-  left_exact = divides_exact p.denominator (sum_denominator p q) (multiple_left p.denominator q.denominator)
-
-  right_exact : sum_denominator p q / q.denominator * q.denominator ≡ sum_denominator p q
-  right_exact = divides_exact q.denominator (sum_denominator p q) (multiple_right p.denominator q.denominator)
-
   sum_is : value a (sum_terms (raised (sum_denominator p q) p) (raised (sum_denominator p q) q))
       ≡ pos (sum_denominator p q / p.denominator) *ℤ value a p.terms +ℤ pos (sum_denominator p q / q.denominator) *ℤ value a q.terms
   sum_is =
       value_sum a (raised (sum_denominator p q) p) (raised (sum_denominator p q) q) _ refl
       ∙ rw (
         value_multiples a (sum_denominator p q / p.denominator) p.terms,
-        value_multiples a
-            (sum_denominator p q / q.denominator) q.terms,
+        value_multiples a (sum_denominator p q / q.denominator) q.terms,
       ) refl
 
   difference_is : value a (difference_terms (raised (sum_denominator p q) p) (raised (sum_denominator p q) q))
@@ -117,8 +110,7 @@ module _ (a : ℕ → ℤ) (p q : Polynomial) where
       value_difference a (raised (sum_denominator p q) p) (raised (sum_denominator p q) q) _ refl
       ∙ rw (
         value_multiples a (sum_denominator p q / p.denominator) p.terms,
-        value_multiples a
-            (sum_denominator p q / q.denominator) q.terms,
+        value_multiples a (sum_denominator p q / q.denominator) q.terms,
       ) refl
 
   module _ (x y : ℤ) where
@@ -127,28 +119,28 @@ module _ (a : ℕ → ℤ) (p q : Polynomial) where
     sum_most h k =
         lowest_most a (sum_terms (raised (sum_denominator p q) p) (raised (sum_denominator p q) q)) (sum_denominator p q) (x +ℤ y)
         (rw (sum_is, add-mul x y (pos (sum_denominator p q)))
-        (sums _ _ _ _ (raised_most (value a p.terms) x _ _ _ left_exact h) (raised_most (value a q.terms) y _ _ _ right_exact k)))
+        (sums _ _ _ _ (raised_most (value a p.terms) x _ _ _ (left_exact p q) h) (raised_most (value a q.terms) y _ _ _ (right_exact p q) k)))
 
     pub sum_least : IsAtLeast a p x → IsAtLeast a q y → IsAtLeast a (sum_map p q) (x +ℤ y)
     unfolding sum_map
     sum_least h k =
         lowest_least a (sum_terms (raised (sum_denominator p q) p) (raised (sum_denominator p q) q)) (sum_denominator p q) (x +ℤ y)
         (rw (sum_is, add-mul x y (pos (sum_denominator p q)))
-        (sums _ _ _ _ (raised_least (value a p.terms) x _ _ _ left_exact h) (raised_least (value a q.terms) y _ _ _ right_exact k)))
+        (sums _ _ _ _ (raised_least (value a p.terms) x _ _ _ (left_exact p q) h) (raised_least (value a q.terms) y _ _ _ (right_exact p q) k)))
 
     pub difference_most : IsAtMost a p x → IsAtLeast a q y → IsAtMost a (difference_map p q) (x -ℤ y)
     unfolding difference_map
     difference_most h k =
         lowest_most a (difference_terms (raised (sum_denominator p q) p) (raised (sum_denominator p q) q)) (sum_denominator p q) (x -ℤ y)
         (rw (difference_is, sub-mul x y (pos (sum_denominator p q)))
-        (differences _ _ _ _ (raised_most (value a p.terms) x _ _ _ left_exact h) (raised_least (value a q.terms) y _ _ _ right_exact k)))
+        (differences _ _ _ _ (raised_most (value a p.terms) x _ _ _ (left_exact p q) h) (raised_least (value a q.terms) y _ _ _ (right_exact p q) k)))
 
     pub difference_least : IsAtLeast a p x → IsAtMost a q y → IsAtLeast a (difference_map p q) (x -ℤ y)
     unfolding difference_map
     difference_least h k =
         lowest_least a (difference_terms (raised (sum_denominator p q) p) (raised (sum_denominator p q) q)) (sum_denominator p q) (x -ℤ y)
         (rw (difference_is, sub-mul x y (pos (sum_denominator p q)))
-        (differences _ _ _ _ (raised_least (value a p.terms) x _ _ _ left_exact h) (raised_most (value a q.terms) y _ _ _ right_exact k)))
+        (differences _ _ _ _ (raised_least (value a p.terms) x _ _ _ (left_exact p q) h) (raised_most (value a q.terms) y _ _ _ (right_exact p q) k)))
 
 -- ---- an integer of at least 0 times a polynomial
 

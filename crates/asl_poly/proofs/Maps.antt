@@ -41,7 +41,8 @@ multiply_sorted acc (s ∷ p) q h k l d = multiply_sorted (gather acc (scaled s 
 combined_map : (c : ℤ) (p q : List Summand) → c ≢ pos 0 → unsigned_abs c ≡ 1 → IsMap p → IsMap q → weight p + weight q ≤ 2 ^ 62
     → length (atoms_of_both p q) ≤ 8 → IsMap (gather p (scaled (constant_term c) q))
 combined_map c p q n one hp hq light few =
-    let w : weight (scaled (constant_term c) q) ≡ weight q = weight_scaled (constant_term c) q ∙ ap (λ k. k * weight q) one ∙ (omega arith) in
+    let w : weight (scaled (constant_term c) q)
+    ≡ weight q = weight_scaled (constant_term c) q ∙ ap (λ k. k * weight q) one ∙ (omega arith) in
     let i : FactorsIn (atoms_of_both p q) (gather p (scaled (constant_term c) q)) =
     gather_in (atoms_of_both p q) p (scaled (constant_term c) q) (in_keep (note_terms [] p) q p (terms_have [] p)) (scaled_in (atoms_of_both p q) (constant_term c) q tt (terms_have (note_terms [] p) q)) in
     record {
@@ -54,15 +55,15 @@ pub sub-mul : (a b c : ℤ) → (a -ℤ b) *ℤ c ≡ a *ℤ c -ℤ b *ℤ c
 sub-mul a b c = rw (add-mul a (neg_ℤ b) c, neg-mul b c) refl
 
 -- both polynomials over their common denominator
+pub left_exact : (p q : Polynomial) → sum_denominator p q / p.denominator * p.denominator ≡ sum_denominator p q
+left_exact p q = divides_exact p.denominator (sum_denominator p q) (multiple_left p.denominator q.denominator)
+
+pub right_exact : (p q : Polynomial) → sum_denominator p q / q.denominator * q.denominator ≡ sum_denominator p q
+right_exact p q = divides_exact q.denominator (sum_denominator p q) (multiple_right p.denominator q.denominator)
+
 module _ (p q : Polynomial) (hp : IsPolynomial p) (hq : IsPolynomial q) where
   pub common_some : 0 < sum_denominator p q
   common_some = multiple_some p.denominator q.denominator hp.lowest.positive hq.lowest.positive
-
-  pub left_exact : sum_denominator p q / p.denominator * p.denominator ≡ sum_denominator p q
-  left_exact = divides_exact p.denominator (sum_denominator p q) (multiple_left p.denominator q.denominator)
-
-  pub right_exact : sum_denominator p q / q.denominator * q.denominator ≡ sum_denominator p q
-  right_exact = divides_exact q.denominator (sum_denominator p q) (multiple_right p.denominator q.denominator)
 
   left_some : 0 < sum_denominator p q / p.denominator
   left_some = raised_some p.denominator (sum_denominator p q) common_some (multiple_left p.denominator q.denominator)
@@ -142,30 +143,33 @@ cross k d n v e h =
     a ∙ ap (λ z. z *ℤ e) f ∙ swap_last v (pos n) e
 
 module _ (a : ℕ → ℤ) (p q : Polynomial) (hp : IsPolynomial p) (hq : IsPolynomial q) where
-  left_cross : (pos (sum_denominator p q / p.denominator) *ℤ value a p.terms) *ℤ pos (p.denominator * q.denominator) ≡ (value a p.terms *ℤ pos q.denominator) *ℤ pos (sum_denominator p q)
+  left_cross : (pos (sum_denominator p q / p.denominator) *ℤ value a p.terms) *ℤ pos (p.denominator * q.denominator)
+      ≡ (value a p.terms *ℤ pos q.denominator) *ℤ pos (sum_denominator p q)
   left_cross =
       ap (λ z. (pos (sum_denominator p q / p.denominator) *ℤ value a p.terms) *ℤ z) (sym (pos-*ℤ-pos p.denominator q.denominator))
       ∙ cross (sum_denominator p q / p.denominator) p.denominator (sum_denominator p q) (value a p.terms) (pos q.denominator)
-      (left_exact p q hp hq)
+      (left_exact p q)
 
-  right_cross : (pos (sum_denominator p q / q.denominator) *ℤ value a q.terms) *ℤ pos (p.denominator * q.denominator) ≡ (value a q.terms *ℤ pos p.denominator) *ℤ pos (sum_denominator p q)
+  right_cross : (pos (sum_denominator p q / q.denominator) *ℤ value a q.terms) *ℤ pos (p.denominator * q.denominator)
+      ≡ (value a q.terms *ℤ pos p.denominator) *ℤ pos (sum_denominator p q)
   right_cross =
       ap (λ z. (pos (sum_denominator p q / q.denominator) *ℤ value a q.terms) *ℤ z)
       (sym (pos-*ℤ-pos p.denominator q.denominator) ∙ *ℤ_comm (pos p.denominator) (pos q.denominator))
       ∙ cross (sum_denominator p q / q.denominator) q.denominator (sum_denominator p q) (value a q.terms) (pos p.denominator)
-      (right_exact p q hp hq)
+      (right_exact p q)
 
-  pub sum_value : value a (lowest (sum_terms (raised (sum_denominator p q) p) (raised (sum_denominator p q) q)) (sum_denominator p q)).terms *ℤ pos (p.denominator * q.denominator)
+  pub sum_value : value a (lowest (sum_terms (raised (sum_denominator p q) p) (raised (sum_denominator p q) q)) (sum_denominator p q)).terms
+      *ℤ pos (p.denominator * q.denominator)
       ≡ (value a p.terms *ℤ pos q.denominator +ℤ value a q.terms *ℤ pos p.denominator) *ℤ pos
       (lowest (sum_terms (raised (sum_denominator p q) p) (raised (sum_denominator p q) q)) (sum_denominator p q)).denominator
   sum_value =
-      let v : value a (sum_terms (raised (sum_denominator p q) p) (raised (sum_denominator p q) q)) ≡ pos (sum_denominator p q / p.denominator) *ℤ value a p.terms +ℤ pos (sum_denominator p q / q.denominator) *ℤ value a q.terms =
+      let v : value a (sum_terms (raised (sum_denominator p q) p) (raised (sum_denominator p q) q))
+      ≡ pos (sum_denominator p q / p.denominator) *ℤ value a p.terms +ℤ pos (sum_denominator p q / q.denominator) *ℤ value a q.terms =
       value_sum a (raised (sum_denominator p q) p) (raised (sum_denominator p q) q)
       (sum_terms (raised (sum_denominator p q) p) (raised (sum_denominator p q) q)) refl
       ∙ rw (
         value_multiples a (sum_denominator p q / p.denominator) p.terms,
-        value_multiples a
-            (sum_denominator p q / q.denominator) q.terms,
+        value_multiples a (sum_denominator p q / q.denominator) q.terms,
       ) refl in
       lowest_same a (sum_terms (raised (sum_denominator p q) p) (raised (sum_denominator p q) q)) (sum_denominator p q)
       (pos (p.denominator * q.denominator))
@@ -181,17 +185,19 @@ module _ (a : ℕ → ℤ) (p q : Polynomial) (hp : IsPolynomial p) (hq : IsPoly
             (value a q.terms *ℤ pos p.denominator) (pos (sum_denominator p q)),
       ) refl)
 
-  pub difference_value : value a (lowest (difference_terms (raised (sum_denominator p q) p) (raised (sum_denominator p q) q)) (sum_denominator p q)).terms *ℤ pos (p.denominator * q.denominator)
+  pub difference_value : value a
+      (lowest (difference_terms (raised (sum_denominator p q) p) (raised (sum_denominator p q) q)) (sum_denominator p q)).terms
+      *ℤ pos (p.denominator * q.denominator)
       ≡ (value a p.terms *ℤ pos q.denominator -ℤ value a q.terms *ℤ pos p.denominator) *ℤ pos
       (lowest (difference_terms (raised (sum_denominator p q) p) (raised (sum_denominator p q) q)) (sum_denominator p q)).denominator
   difference_value =
-      let v : value a (difference_terms (raised (sum_denominator p q) p) (raised (sum_denominator p q) q)) ≡ pos (sum_denominator p q / p.denominator) *ℤ value a p.terms -ℤ pos (sum_denominator p q / q.denominator) *ℤ value a q.terms =
+      let v : value a (difference_terms (raised (sum_denominator p q) p) (raised (sum_denominator p q) q))
+      ≡ pos (sum_denominator p q / p.denominator) *ℤ value a p.terms -ℤ pos (sum_denominator p q / q.denominator) *ℤ value a q.terms =
       value_difference a (raised (sum_denominator p q) p) (raised (sum_denominator p q) q)
       (difference_terms (raised (sum_denominator p q) p) (raised (sum_denominator p q) q)) refl
       ∙ rw (
         value_multiples a (sum_denominator p q / p.denominator) p.terms,
-        value_multiples a
-            (sum_denominator p q / q.denominator) q.terms,
+        value_multiples a (sum_denominator p q / q.denominator) q.terms,
       ) refl in
       lowest_same a (difference_terms (raised (sum_denominator p q) p) (raised (sum_denominator p q) q)) (sum_denominator p q)
       (pos (p.denominator * q.denominator))
@@ -249,7 +255,8 @@ constant_is p c hp h =
 
 -- ---- terms without atoms
 
-found_with : (t : Summand) (ts : List Summand) (ms : List ℕ) (c : ℤ) → t.factors ≡ ms → IsTerm t → constant_if ms ts t.coefficient ≡ Some c → t ∷ ts ≡ constant_terms c
+found_with : (t : Summand) (ts : List Summand) (ms : List ℕ) (c : ℤ) → t.factors ≡ ms → IsTerm t → constant_if ms ts t.coefficient ≡ Some c → t ∷ ts
+    ≡ constant_terms c
 found_with t [] [] c f h e = elim (cases_Bool (is_zero c)) [
   | inl z ↦ let g : t.coefficient ≡ c = cc in absurd (h.counts (g ∙ zero_is c z))
   | inr z ↦ let g : t.coefficient ≡ c = cc in rw z (ap (λ u. u ∷ []) (same_term t (constant_term c) g f))
@@ -313,7 +320,8 @@ pub one_number : (p : Polynomial) → IsPolynomial p
     → MatchOption (constant_value p) ((c : ℤ) → ((a : ℕ → ℤ) → HasWidth p a c) → ⊥) (λ c. (a : ℕ → ℤ) → HasWidth p a c)
 unfolding constant_value
 one_number p h = elim (cases_Bool (p.denominator == 1)) [
-  | inl z ↦ rw z (constant_number p (constant_of p.terms) h (one_denominator p.denominator z) (one_value p.terms (constant_of p.terms) h.map refl))
+  | inl z ↦
+      rw z (constant_number p (constant_of p.terms) h (one_denominator p.denominator z) (one_value p.terms (constant_of p.terms) h.map refl))
   | inr z ↦ rw z (λ c v. not_one p.denominator z (whole_number p c h v))
 ]
 

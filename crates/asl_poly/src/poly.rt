@@ -249,7 +249,7 @@ impl Poly {
         self.over(alloc, k.unsigned_abs())
     }
 
-    // The same.
+    // This over `k` times the denominator, in lowest terms.
     fn over(&self, alloc: Global, k: u128) -> Result<Poly, PolyRefused>
         requires { 0 < k }
         ensures gives { Gives (QuotientFits self.now k) (quotient_map self.now k) result }
@@ -264,8 +264,7 @@ impl Poly {
         Ok(answer)
     }
 
-    // The least common multiple of the denominators of the terms, where that times the denominator is within the limit, and
-    // that product.
+    // The least common multiple of the denominators of the terms with their atoms replaced, `None` where it is past the limit.
     #[tactic(auto, using(crate::proofs::Maps::degree_map))]
     fn common_denominator(&self, by: &[(Atom, Poly)]) -> Option<u128>
         ensures { MatchOption result (2 ^ 16 < common_denominator by.now self.now.terms) (λ n. (n ≡ common_denominator by.now self.now.terms) × (0 < n) × (n ≤ 2 ^ 16)) }
@@ -273,7 +272,7 @@ impl Poly {
         common_denominator(by, &self.terms)
     }
 
-    // The terms over one denominator.
+    // The terms over `n`, a multiple of these denominators.
     #[tactic(auto, using(crate::proofs::Maps::degree_map))]
     fn raised_terms(
         &self,

@@ -74,7 +74,7 @@ fn factors_denominator(by: &[(Atom, Poly)], xs: &[Atom]) -> u128
     product
 }
 
-// The least multiple of the denominators of the terms, `None` where it is past the limit.
+// The least common multiple of the denominators of the terms, `None` where it is past the limit.
 fn common_denominator_within(by: &[(Atom, Poly)], ts: &[Term]) -> Option<u128>
     requires low { degree ts.now ≤ 4 }
     requires fine { AllFine by.now }
@@ -91,7 +91,7 @@ fn common_denominator_within(by: &[(Atom, Poly)], ts: &[Term]) -> Option<u128>
     Some(n)
 }
 
-// The same. It finds out that the denominators are from 1 to the limit.
+// The same, without the premise on the denominators, which holds of every `Poly`.
 pub(crate) fn common_denominator(by: &[(Atom, Poly)], ts: &[Term]) -> Option<u128>
     requires low { degree ts.now ≤ 4 }
     ensures { MatchOption result (2 ^ 16 < common_denominator by.now ts.now) (λ n. (n ≡ common_denominator by.now ts.now) × (0 < n) × (n ≤ 2 ^ 16)) }
@@ -100,7 +100,7 @@ pub(crate) fn common_denominator(by: &[(Atom, Poly)], ts: &[Term]) -> Option<u12
     common_denominator_within(by, ts)
 }
 
-// The term times what its denominator lacks of `n`.
+// The term over the denominator `n`, a multiple of its own.
 fn raised_term(alloc: Global, by: &[(Atom, Poly)], n: u128, t: &Term) -> Result<Term, AllocError>
     requires short { length t.now.factors ≤ 4 }
     requires light { unsigned_abs t.now.coefficient ≤ 2 ^ 62 }
@@ -115,7 +115,7 @@ fn raised_term(alloc: Global, by: &[(Atom, Poly)], n: u128, t: &Term) -> Result<
     Ok(u)
 }
 
-// Each term times what its denominator lacks of `n`.
+// Each term over the denominator `n`, a multiple of theirs.
 pub(crate) fn raised_terms(
     alloc: Global,
     by: &[(Atom, Poly)],
