@@ -119,28 +119,32 @@ module _ (a : ℕ → ℤ) (p q : Polynomial) where
     sum_most h k =
         lowest_most a (sum_terms (raised (sum_denominator p q) p) (raised (sum_denominator p q) q)) (sum_denominator p q) (x +ℤ y)
         (rw (sum_is, add-mul x y (pos (sum_denominator p q)))
-        (sums _ _ _ _ (raised_most (value a p.terms) x _ _ _ (left_exact p q) h) (raised_most (value a q.terms) y _ _ _ (right_exact p q) k)))
+        (sums _ _ _ _
+        (raised_most (value a p.terms) x _ _ _ (left_exact p q) h) (raised_most (value a q.terms) y _ _ _ (right_exact p q) k)))
 
     pub sum_least : IsAtLeast a p x → IsAtLeast a q y → IsAtLeast a (sum_map p q) (x +ℤ y)
     unfolding sum_map
     sum_least h k =
         lowest_least a (sum_terms (raised (sum_denominator p q) p) (raised (sum_denominator p q) q)) (sum_denominator p q) (x +ℤ y)
         (rw (sum_is, add-mul x y (pos (sum_denominator p q)))
-        (sums _ _ _ _ (raised_least (value a p.terms) x _ _ _ (left_exact p q) h) (raised_least (value a q.terms) y _ _ _ (right_exact p q) k)))
+        (sums _ _ _ _
+        (raised_least (value a p.terms) x _ _ _ (left_exact p q) h) (raised_least (value a q.terms) y _ _ _ (right_exact p q) k)))
 
     pub difference_most : IsAtMost a p x → IsAtLeast a q y → IsAtMost a (difference_map p q) (x -ℤ y)
     unfolding difference_map
     difference_most h k =
         lowest_most a (difference_terms (raised (sum_denominator p q) p) (raised (sum_denominator p q) q)) (sum_denominator p q) (x -ℤ y)
         (rw (difference_is, sub-mul x y (pos (sum_denominator p q)))
-        (differences _ _ _ _ (raised_most (value a p.terms) x _ _ _ (left_exact p q) h) (raised_least (value a q.terms) y _ _ _ (right_exact p q) k)))
+        (differences _ _ _ _
+        (raised_most (value a p.terms) x _ _ _ (left_exact p q) h) (raised_least (value a q.terms) y _ _ _ (right_exact p q) k)))
 
     pub difference_least : IsAtLeast a p x → IsAtMost a q y → IsAtLeast a (difference_map p q) (x -ℤ y)
     unfolding difference_map
     difference_least h k =
         lowest_least a (difference_terms (raised (sum_denominator p q) p) (raised (sum_denominator p q) q)) (sum_denominator p q) (x -ℤ y)
         (rw (difference_is, sub-mul x y (pos (sum_denominator p q)))
-        (differences _ _ _ _ (raised_least (value a p.terms) x _ _ _ (left_exact p q) h) (raised_most (value a q.terms) y _ _ _ (right_exact p q) k)))
+        (differences _ _ _ _
+        (raised_least (value a p.terms) x _ _ _ (left_exact p q) h) (raised_most (value a q.terms) y _ _ _ (right_exact p q) k)))
 
 -- ---- an integer of at least 0 times a polynomial
 

@@ -95,8 +95,8 @@ pub substitute_is : (by : List (ℕ × Polynomial)) (p : Polynomial) → AllFine
 unfolding substitute_map
 substitute_is by p f hp a = substituted_value a by p f hp.lowest.positive
 
-module _ (by : List (ℕ × Polynomial)) (p : Polynomial) (fine : AllFine by) (hp : IsPolynomial p) (n : ℕ) (is : n ≡ common_denominator by p.terms)
-    (es : List Summand) (es_is : es ≡ raised_terms by n p.terms) where
+module _ (by : List (ℕ × Polynomial)) (p : Polynomial) (fine : AllFine by) (hp : IsPolynomial p)
+    (n : ℕ) (is : n ≡ common_denominator by p.terms) (es : List Summand) (es_is : es ≡ raised_terms by n p.terms) where
   pub raised_is : es ≡ with_common_denominator by p.terms
   raised_is = es_is ∙ ap (λ k. raised_terms by k p.terms) is
 

@@ -41,8 +41,7 @@ multiply_sorted acc (s ∷ p) q h k l d = multiply_sorted (gather acc (scaled s 
 combined_map : (c : ℤ) (p q : List Summand) → c ≢ pos 0 → unsigned_abs c ≡ 1 → IsMap p → IsMap q → weight p + weight q ≤ 2 ^ 62
     → length (atoms_of_both p q) ≤ 8 → IsMap (gather p (scaled (constant_term c) q))
 combined_map c p q n one hp hq light few =
-    let w : weight (scaled (constant_term c) q)
-    ≡ weight q = weight_scaled (constant_term c) q ∙ ap (λ k. k * weight q) one ∙ (omega arith) in
+    let w : weight (scaled (constant_term c) q) ≡ weight q = weight_scaled (constant_term c) q ∙ ap (λ k. k * weight q) one ∙ (omega arith) in
     let i : FactorsIn (atoms_of_both p q) (gather p (scaled (constant_term c) q)) =
     gather_in (atoms_of_both p q) p (scaled (constant_term c) q) (in_keep (note_terms [] p) q p (terms_have [] p)) (scaled_in (atoms_of_both p q) (constant_term c) q tt (terms_have (note_terms [] p) q)) in
     record {
@@ -255,8 +254,7 @@ constant_is p c hp h =
 
 -- ---- terms without atoms
 
-found_with : (t : Summand) (ts : List Summand) (ms : List ℕ) (c : ℤ) → t.factors ≡ ms → IsTerm t → constant_if ms ts t.coefficient ≡ Some c → t ∷ ts
-    ≡ constant_terms c
+found_with : (t : Summand) (ts : List Summand) (ms : List ℕ) (c : ℤ) → t.factors ≡ ms → IsTerm t → constant_if ms ts t.coefficient ≡ Some c → t ∷ ts ≡ constant_terms c
 found_with t [] [] c f h e = elim (cases_Bool (is_zero c)) [
   | inl z ↦ let g : t.coefficient ≡ c = cc in absurd (h.counts (g ∙ zero_is c z))
   | inr z ↦ let g : t.coefficient ≡ c = cc in rw z (ap (λ u. u ∷ []) (same_term t (constant_term c) g f))
@@ -321,7 +319,8 @@ pub one_number : (p : Polynomial) → IsPolynomial p
 unfolding constant_value
 one_number p h = elim (cases_Bool (p.denominator == 1)) [
   | inl z ↦
-      rw z (constant_number p (constant_of p.terms) h (one_denominator p.denominator z) (one_value p.terms (constant_of p.terms) h.map refl))
+      rw z (constant_number p (constant_of p.terms) h (one_denominator p.denominator z)
+      (one_value p.terms (constant_of p.terms) h.map refl))
   | inr z ↦ rw z (λ c v. not_one p.denominator z (whole_number p c h v))
 ]
 

@@ -192,8 +192,7 @@ weightless : (ts : List Summand) → Sorted ts → weight ts ≡ 0 → ts ≡ []
 weightless [] h e = refl
 weightless (t ∷ ts) h e = absurd (h.0.counts (no_weight t.coefficient (omega arith)))
 
-pub times_zero : (by : List (ℕ × Polynomial)) (acc : List Summand) (xs : List ℕ) → AreMaps by xs → factors_weight by xs ≡ 0 → times_maps by acc xs
-    ≡ []
+pub times_zero : (by : List (ℕ × Polynomial)) (acc : List Summand) (xs : List ℕ) → AreMaps by xs → factors_weight by xs ≡ 0 → times_maps by acc xs ≡ []
 times_zero by acc [] m e = absurd (omega arith)
 times_zero by acc (x ∷ xs) m e = elim (zero_factor (weight (map_at by x)) (factors_weight by xs) e) [
   | inl z ↦
@@ -218,27 +217,23 @@ capped_mul m a b = elim (le_or m a) [
 ]
 
 module _ (by : List (ℕ × Polynomial)) (xs : List ℕ) (x : ℕ) (i : ℕ) (h : drop i xs ≡ x ∷ drop (i + 1) xs) where
-  pub weight_next : (m a b w : ℕ) → w ≡ weight (map_at by x) → b ≡ min m (a * w) → min m (a * factors_weight by (drop i xs))
-      ≡ min m (b * factors_weight by (drop (i + 1) xs))
+  pub weight_next : (m a b w : ℕ) → w ≡ weight (map_at by x) → b ≡ min m (a * w) → min m (a * factors_weight by (drop i xs)) ≡ min m (b * factors_weight by (drop (i + 1) xs))
   weight_next m a b w e f =
       let r : ℕ = factors_weight by (drop (i + 1) xs) in
-      let c : min m (min m (a * w) * factors_weight by (drop (i + 1) xs))
-      ≡ min m (a * w * factors_weight by (drop (i + 1) xs)) = capped_mul m (a * w) (factors_weight by (drop (i + 1) xs)) in
+      let c : min m (min m (a * w) * factors_weight by (drop (i + 1) xs)) ≡ min m (a * w * factors_weight by (drop (i + 1) xs)) = capped_mul m (a * w) (factors_weight by (drop (i + 1) xs)) in
       let g : a * factors_weight by (drop i xs) ≡ a * w * factors_weight by (drop (i + 1) xs) =
       ap (λ ys. a * factors_weight by ys) h ∙ ap (λ n. a * (n * factors_weight by (drop (i + 1) xs))) (sym e) ∙ sym (mul_assoc a w (factors_weight by (drop (i + 1) xs))) in
       rw (g, f) (sym c)
 
 -- ---- for the loops
 
-pub maps_left : (by : List (ℕ × Polynomial)) (xs : List ℕ) (x i : ℕ) → drop i xs
-    ≡ x ∷ drop (i + 1) xs → IsMap (map_at by x) → AreMaps by (drop (i + 1) xs) → AreMaps by (drop i xs)
+pub maps_left : (by : List (ℕ × Polynomial)) (xs : List ℕ) (x i : ℕ) → drop i xs ≡ x ∷ drop (i + 1) xs → IsMap (map_at by x) → AreMaps by (drop (i + 1) xs) → AreMaps by (drop i xs)
 maps_left by xs x i e h k = rw e (h, k)
 
 pub maps_end : (by : List (ℕ × Polynomial)) (xs : List ℕ) (i : ℕ) → length xs ≤ i → AreMaps by (drop i xs)
 maps_end by xs i h = rw (drop_all i xs h) tt
 
-pub terms_left : (by : List (ℕ × Polynomial)) (p : List Summand) (t : Summand) (i : ℕ) → drop i p
-    ≡ t ∷ drop (i + 1) p → AreMaps by t.factors → AllMaps by (drop (i + 1) p) → AllMaps by (drop i p)
+pub terms_left : (by : List (ℕ × Polynomial)) (p : List Summand) (t : Summand) (i : ℕ) → drop i p ≡ t ∷ drop (i + 1) p → AreMaps by t.factors → AllMaps by (drop (i + 1) p) → AllMaps by (drop i p)
 terms_left by p t i e h k = rw e (h, k)
 
 pub terms_end : (by : List (ℕ × Polynomial)) (p : List Summand) (i : ℕ) → length p ≤ i → AllMaps by (drop i p)
@@ -260,8 +255,7 @@ room_left a w r m h p =
     let f : a * (w * r) ≡ a * w * r = sym (mul_assoc a w r) in
     omega arith
 
-module _ (by : List (ℕ × Polynomial)) (xs : List ℕ) (x : ℕ) (i m : ℕ) (acc q : List Summand) (h : drop i xs ≡ x ∷ drop (i + 1) xs) (is : q
-    ≡ map_at by x)
+module _ (by : List (ℕ × Polynomial)) (xs : List ℕ) (x : ℕ) (i m : ℕ) (acc q : List Summand) (h : drop i xs ≡ x ∷ drop (i + 1) xs) (is : q ≡ map_at by x)
     (light : weight acc * factors_weight by (drop i xs) ≤ m) (counts : 0 < factors_weight by (drop i xs)) where
   split_weight : factors_weight by (drop i xs) ≡ weight q * factors_weight by (drop (i + 1) xs)
   split_weight = ap (factors_weight by) h ∙ ap (λ ts. weight ts * factors_weight by (drop (i + 1) xs)) (sym is)
@@ -282,8 +276,7 @@ module _ (by : List (ℕ × Polynomial)) (xs : List ℕ) (x : ℕ) (i m : ℕ) (
   next_light us e =
       let w : weight us ≤ weight acc * weight q = rw e (omega (arith, weight_multiply [] acc q)) in
       let k : weight us * factors_weight by (drop (i + 1) xs) ≤ weight acc * weight q * factors_weight by (drop (i + 1) xs) = mul-le-mul_right (factors_weight by (drop (i + 1) xs)) w in
-      let f : weight acc * factors_weight by (drop i xs)
-      ≡ weight acc * weight q * factors_weight by (drop (i + 1) xs) = ap (λ n. weight acc * n) split_weight ∙ sym (mul_assoc (weight acc) (weight q) (factors_weight by (drop (i + 1) xs))) in
+      let f : weight acc * factors_weight by (drop i xs) ≡ weight acc * weight q * factors_weight by (drop (i + 1) xs) = ap (λ n. weight acc * n) split_weight ∙ sym (mul_assoc (weight acc) (weight q) (factors_weight by (drop (i + 1) xs))) in
       omega (arith, light)
 
   pub next_times : (us : List Summand) → us ≡ product_terms acc q → times_maps by us (drop (i + 1) xs) ≡ times_maps by acc (drop i xs)
@@ -293,13 +286,11 @@ pub scaled_one : (ts : List Summand) → scaled (constant_term (pos 1)) ts ≡ t
 scaled_one [] = refl
 scaled_one (t ∷ ts) = rw (scaled_one ts, one-mul t.coefficient) refl
 
-pub one_more : (by : List (ℕ × Polynomial)) (p acc us : List Summand) (t : Summand) (i m : ℕ) → drop i p ≡ t ∷ drop (i + 1) p → us
-    ≡ gather acc (times_maps by (constant_term t.coefficient ∷ []) t.factors)
+pub one_more : (by : List (ℕ × Polynomial)) (p acc us : List Summand) (t : Summand) (i m : ℕ) → drop i p ≡ t ∷ drop (i + 1) p → us ≡ gather acc (times_maps by (constant_term t.coefficient ∷ []) t.factors)
     → weight acc + replaced_weight by (drop i p) ≤ m
     → (replaced by us (drop (i + 1) p) ≡ replaced by acc (drop i p)) × (weight us + replaced_weight by (drop (i + 1) p) ≤ m)
 one_more by p acc us t i m h e l =
-    let w : replaced_weight by (drop i p)
-    ≡ unsigned_abs t.coefficient * factors_weight by t.factors + replaced_weight by (drop (i + 1) p) = ap (replaced_weight by) h in
+    let w : replaced_weight by (drop i p) ≡ unsigned_abs t.coefficient * factors_weight by t.factors + replaced_weight by (drop (i + 1) p) = ap (replaced_weight by) h in
     let g : weight us ≡ weight (gather acc (times_maps by (constant_term t.coefficient ∷ []) t.factors)) = ap weight e in
     (rw (h, e) refl, omega (arith, weight_gather acc (times_maps by (constant_term t.coefficient ∷ []) t.factors), times_weight by (constant_term t.coefficient ∷ []) t.factors))
 
