@@ -89,7 +89,7 @@ abbrev pub raised_terms : List (ℕ × Polynomial) → ℕ → List Summand → 
 raised_terms by n [] = []
 raised_terms by n (t ∷ ts) = raised_term by n t ∷ raised_terms by n ts
 
--- the terms over their common denominator: behind each, its atoms may be replaced as if all denominators were 1
+-- the terms over their common denominator, so that their atoms are replaced by terms alone
 abbrev pub with_common_denominator : List (ℕ × Polynomial) → List Summand → List Summand
 with_common_denominator by ts = raised_terms by (common_denominator by ts) ts
 
