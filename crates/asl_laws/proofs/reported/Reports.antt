@@ -24,9 +24,14 @@ grown_well t right ds grown = record {
       let there = main_there a asked in
       let f = facts_of t entry.Main ds a ok in
       let sound = (soundness t right ds a f grown).0 in
-      let globals = initial_globals (environment t ds) in
-      (there.id, (there.there, sound.never_stuck there.id [] globals (starting steps (Some []))
-      (main_call a there.id globals sound.initial there.first)));
+      let globals = initial_globals (environment t ds) in (
+        there.id,
+        (
+          there.there,
+          sound.never_stuck there.id [] globals (starting steps (Some []))
+              (main_call a there.id globals sound.initial there.first),
+        ),
+      );
   words = λ a words ok steps.
       let sound = (soundness t right ds a (facts_of t (wanted words) ds a ok) grown).0 in
       words_not_stuck t ds a sound words (initial_globals (environment t ds)) (starting steps (Some []))
