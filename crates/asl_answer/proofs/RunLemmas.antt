@@ -98,7 +98,7 @@ made_line_is words files (stage.Refused e) o h = cc
 
 -- ---- a machine that is new
 
-module _ (t : Tests) (u : Suits t) (end : Outcome Core (Option Value) → Answer) (line : Stage → List Binding → Text) (by : IsEnding end line) (checked : Sealed) (main n steps : ℕ) (w : Work) (args : List Given) (new : IsNew w checked n) (same : n ≡ steps) (none : args ≡ []) (entered : Some main ≡ checked.main) where
+module _ (t : Tests) (u : Suits t) (end : Outcome Core (Option Value) → Answer) (line : Stage → List Binding → Text) (by : IsEnding end line) (checked : Sealed) (main n steps : ℕ) (w : Work) (args : List Given) (new : IsNew w checked n) (same : n ≡ steps) (none : args ≡ []) (entered : Some main ≡ checked.entries.main) where
   env : Environment
   env = environment t checked.decls
 
@@ -128,7 +128,7 @@ module _ (t : Tests) (u : Suits t) (end : Outcome Core (Option Value) → Answer
   pub ended : (old mid last : Option (List ℕ)) (after : Work) (o : Ended) (result : Result Status Stop) → Ok o ≡ answer_of after.stage
       → OnReady w.stage (EndsWith t after mid (run_with t w main (map value_of args) old))
       → Answers result mid last (answer ((if after.text_open then line_feed else []) ++ line after.stage (globals_of t after)) (end_status after.stage))
-      → Answers result old last (begun end (environment t checked.decls) steps checked.main)
+      → Answers result old last (begun end (environment t checked.decls) steps checked.entries.main)
   unfolding env first
   ended old mid last after o result ok ends written =
       let went = went_on after.stage o ok in
@@ -145,7 +145,7 @@ module _ (t : Tests) (u : Suits t) (end : Outcome Core (Option Value) → Answer
 
   -- a call that was given up wrote a prefix of the answer
   pub was_given_up : (entered_nodes : ℕ) (old mid : Option (List ℕ)) → OnReady w.stage (GivenUp (text_with t w main (map value_of args) old) old mid w.steps entered_nodes)
-      → TakesPrefix old mid (begun end (environment t checked.decls) steps checked.main).text
+      → TakesPrefix old mid (begun end (environment t checked.decls) steps checked.entries.main).text
   unfolding env first
   was_given_up entered_nodes old mid given =
       let here : GivenUp (text_with t w main (map value_of args) old) old mid w.steps entered_nodes = subst (λ s. OnReady s (GivenUp (text_with t w main (map value_of args) old) old mid w.steps entered_nodes)) new.stage_is given in

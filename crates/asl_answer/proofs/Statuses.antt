@@ -6,11 +6,11 @@ use Rattle.asl_syn.specs.declared.tree.Decl.{Decl}
 use Rattle.asl_rules.specs.values.Values.{Value}
 use Rattle.asl_rules.specs.runs.States.{Binding, Core}
 use Rattle.asl_rules.specs.runs.Plans.{Outcome, Done, Thrown, Halt, End, Faulted, Stuck}
-use Rattle.asl_rules.specs.declarations.Programs.{Environment, Accepted}
+use Rattle.asl_rules.specs.declarations.Programs.{Environment, Accepted, Entries}
 use Rattle.asl_rules.specs.Tests.{Tests}
 use Rattle.asl_rules.specs.report.Texts.{Text, File, made_words}
 use Rattle.asl_rules.specs.runs.Words.{WordsEnd, AllReturned, WordThrew, WordHalted}
-use Rattle.asl_rules.specs.report.WordList.{ListFault, words_read}
+use Rattle.asl_rules.specs.report.WordList.{ListFault, words_read, Word}
 use Rattle.asl_rules.specs.report.Made.{made_text}
 use Rattle.asl_rules.specs.report.Report.{Answer, halted, run_answer, words_answer, made_answer, begun, worked, on_verdict, on_reading, on_words_read, on_check, on_run, on_words, on_made, made_file}
 use Rattle.asl_answer.specs.declared.status.Status.{Status}
@@ -62,35 +62,34 @@ of_begun : (command : Command) (end : Outcome Core (Option Value) → Answer) �
 of_begun command end each env steps None = zero_is command
 of_begun command end each env steps (Some main) = each _
 
-of_worked : (command : Command) (files : List File) (env : Environment) (steps : ℕ) (words : List ℕ) (main : Option ℕ) → IsOrdinary command (worked files env steps words main).status
-of_worked command files env steps words None = zero_is command
-of_worked command files env steps words (Some main) = of_words command files _ _
+of_worked : (command : Command) (files : List File) (env : Environment) (steps : ℕ) (words : List Word) (found : Entries) → IsOrdinary command (worked files env steps words found).status
+of_worked command files env steps words found = of_words command files _ _
 
-of_verdict : (command : Command) (files : List File) (go : Option ℕ → Answer) → ((main : Option ℕ) → IsOrdinary command (go main).status) → (v : Result Accepted Fault) → IsOrdinary command (on_verdict files go v).status
-of_verdict command files go each (Ok a) = each a.main
+of_verdict : (command : Command) (files : List File) (go : Entries → Answer) → ((found : Entries) → IsOrdinary command (go found).status) → (v : Result Accepted Fault) → IsOrdinary command (on_verdict files go v).status
+of_verdict command files go each (Ok a) = each a.entries
 of_verdict command files go each (Err f) = one_is command
 
 of_reading : (command : Command) (files : List File) (go : List Decl → Answer) → ((ds : List Decl) → IsOrdinary command (go ds).status) → (r : Result (List Decl) Fault) → IsOrdinary command (on_reading files go r).status
 of_reading command files go each (Ok ds) = each ds
 of_reading command files go each (Err f) = one_is command
 
-of_list : (command : Command) (name : Text) (go : List ℕ → Answer) → ((words : List ℕ) → IsOrdinary command (go words).status) → (r : Result (List ℕ) ListFault) → IsOrdinary command (on_words_read name r go).status
+of_list : (command : Command) (name : Text) (go : List Word → Answer) → ((words : List Word) → IsOrdinary command (go words).status) → (r : Result (List Word) ListFault) → IsOrdinary command (on_words_read name r go).status
 of_list command name go each (Ok words) = each words
 of_list command name go each (Err f) = one_is command
 
 of_check : (t : Tests) (command : Command) (files : List File) (ds : List Decl) → IsOrdinary command (on_check t files ds).status
-of_check t command files ds = of_verdict command files _ (λ main. zero_is command) _
+of_check t command files ds = of_verdict command files _ (λ found. zero_is command) _
 
 of_run_on : (t : Tests) (command : Command) (steps : ℕ) (files : List File) (ds : List Decl) → IsOrdinary command (on_run t steps files ds).status
-of_run_on t command steps files ds = of_verdict command files _ (λ main. of_begun command (run_answer files) (of_run command files) _ steps main) _
+of_run_on t command steps files ds = of_verdict command files _ (λ found. of_begun command (run_answer files) (of_run command files) _ steps found.main) _
 
-of_words_on : (t : Tests) (command : Command) (steps : ℕ) (words : List ℕ) (files : List File) (ds : List Decl) → IsOrdinary command (on_words t steps words files ds).status
-of_words_on t command steps words files ds = of_verdict command files _ (λ main. of_worked command files _ steps words main) _
+of_words_on : (t : Tests) (command : Command) (steps : ℕ) (words : List Word) (files : List File) (ds : List Decl) → IsOrdinary command (on_words t steps words files ds).status
+of_words_on t command steps words files ds = of_verdict command files _ (λ found. of_worked command files _ steps words found) _
 
 of_made_on : (t : Tests) (command : Command) (number size : ℕ) (text : Text) (files : List File) (ds : List Decl) → IsOrdinary command (on_made t number size text files ds).status
 of_made_on t command number size text files ds =
     let words = made_words number size (length text) (length ds) in
-    of_verdict command files _ (λ main. of_begun command (made_answer words files) (of_made_run command words files) _ default_steps main) _
+    of_verdict command files _ (λ found. of_begun command (made_answer words files) (of_made_run command words files) _ default_steps found.main) _
 
 of_files : (t : Tests) (read : Reader) (command : Command) (files : List File) (bytes : Text) → IsOrdinary command (answer_on_files t read command files bytes).status
 unfolding answer_on_files

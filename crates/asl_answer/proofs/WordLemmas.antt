@@ -1,19 +1,21 @@
 -- The answer of a run over words, by what its call says.
 use Rattle.std.proofs.Common.{◌≡◌, ◌∙◌, ℕ, Bool, true, false, List, [], ◌++◌, length, Option, Some, Result, Ok, refl, sym, ap, subst, append_assoc, append-nil}
 use Rattle.std.specs.Prelude.{if◌then◌else◌}
+use Rattle.std.specs.List.{All}
 use Rattle.asl_io.specs.Told.{TakesPrefix}
 use Rattle.asl_rules.specs.runs.Told.{appended, open_after}
 use Rattle.asl_rules.specs.runs.States.{Binding}
 use Rattle.asl_rules.specs.runs.Plans.{Meter, starting, Faulted, Stuck}
-use Rattle.asl_rules.specs.declarations.Programs.{Environment, environment, verdict}
+use Rattle.asl_rules.specs.declarations.Programs.{Environment, environment}
 use Rattle.asl_rules.specs.Tests.{Tests}
 use Rattle.asl_rules.specs.runs.Evaluation.{initial_globals}
 use Rattle.asl_rules.specs.report.Texts.{Text, File, line_feed, done_line, dynamic_line, uncaught_line}
 use Rattle.asl_rules.specs.report.Report.{answer, behind, told_text, globals_text, words_answer, worked}
 use Rattle.asl_rules.specs.runs.Words.{WordsEnd, AllReturned, WordThrew, WordHalted, run_words, words_final}
-use Rattle.asl_rules.specs.declared.entry.Entry.TheVariants.{Decode}
+use Rattle.asl_rules.specs.report.WordList.{Word}
 use Rattle.asl_laws.proofs.runs.Shift as shift
-use Rattle.asl_laws.proofs.runs.Shift.{OwnText, retold, behind_nothing, behind_own}
+use Rattle.asl_laws.proofs.runs.Shift.{OwnText, retold, behind_own}
+use Rattle.asl_laws.proofs.runs.WordRuns.{retold_words, words_behind, words_own_text}
 use Rattle.asl_tree.specs.Sealed.{Sealed}
 use Rattle.asl_types.specs.Suits.{Suits}
 use Rattle.asl_machine.specs.declared.stage.Stage.{Stage}
@@ -21,14 +23,15 @@ use Rattle.asl_machine.specs.declared.stage.Stage.TheVariants as stage
 use Rattle.asl_machine.specs.Stages.{OnRefused, is_ready}
 use Rattle.asl_machine.specs.Work.{Work, IsNew, globals_of, globals_with}
 use Rattle.asl_words.specs.declared.running.ExecEnd.{ExecEnd}
-use Rattle.asl_words.specs.private.Runs.{Between, EndsWords, LeavesWords, end_of, meter_of, words_by, words_with}
+use Rattle.asl_words.specs.private.Runs.{Between, EndsWords, LeavesWords, end_of, meter_of, words_with}
+use Rattle.asl_words.specs.Shapes.{IsNamed}
 use Rattle.asl_answer.specs.declared.status.Stop.{Stop}
 use Rattle.asl_answer.specs.declared.status.Status.{Status}
-use Rattle.asl_answer.specs.private.Ends.{Decodes, end_status, words_line}
+use Rattle.asl_answer.specs.private.Ends.{end_status, words_line}
 use Rattle.asl_answer.specs.private.Writes.{Answers}
 use Rattle.asl_answer.proofs.Answering.{Answers-after}
 use Rattle.asl_answer.proofs.RunLemmas.{line_behind, open_is}
-use Rattle.asl_answer.proofs.WordRuns.{IsThere, decode_there, part_of, retold_words, words_behind, words_own}
+use Rattle.asl_answer.proofs.WordRuns.{part_of}
 
 -- ---- the end of the words that began with no text
 
@@ -105,34 +108,27 @@ told_behind old (AllReturned globals h) = refl
 told_behind old (WordThrew x globals h) = refl
 told_behind old (WordHalted e globals h) = refl
 
-entry_of : (t : Tests) (checked : Sealed) → Decodes t checked → IsThere checked.main
-entry_of t checked d =
-    let there = decode_there t checked.decls d.accepted (subst (λ e. verdict e checked.decls t ≡ Ok d.accepted) d.asked d.is) in
-    subst IsThere d.main there
-
-pub asks_decode : (t : Tests) (checked : Sealed) (n : ℕ) (w : Work) → IsNew w checked n → Decodes t checked → w.checked.asked ≡ Decode
-asks_decode t checked n w new d = ap (λ (c : Sealed). c.asked) new.checked_is ∙ d.asked
-
 pub stands_ready : (checked : Sealed) (n : ℕ) (w : Work) → IsNew w checked n → is_ready w.stage ≡ true
 stands_ready checked n w new = ap is_ready new.stage_is
 
-module _ (t : Tests) (u : Suits t) (files : List File) (checked : Sealed) (n steps : ℕ) (w : Work) (words : List ℕ) (new : IsNew w checked n) (same : n ≡ steps) (accepted : Decodes t checked) where
+-- and asks for the entries of the words
+pub asks_named : (checked : Sealed) (n : ℕ) (w : Work) (words : List Word) → IsNew w checked n → All (IsNamed checked.asked) words → All (IsNamed w.checked.asked) words
+asks_named checked n w words new named = subst (λ (c : Sealed). All (IsNamed c.asked) words) (sym new.checked_is) named
+
+module _ (t : Tests) (u : Suits t) (files : List File) (checked : Sealed) (n steps : ℕ) (w : Work) (words : List Word) (new : IsNew w checked n) (same : n ≡ steps) where
   env : Environment
   env = environment t checked.decls
 
   first : List Binding
   first = initial_globals env
 
-  decode : IsThere checked.main
-  decode = entry_of t checked accepted
-
   -- the words over no text
   all : WordsEnd
-  all = run_words env decode.number words first (starting steps (Some []))
+  all = run_words env checked.entries words first (starting steps (Some []))
 
   own : OwnText (words_final all)
   unfolding all
-  own = words_own env decode.number words first (starting steps (Some [])) (record { text = []; told = refl; text_open = refl })
+  own = words_own_text env checked.entries words first steps
 
   globals_are : globals_of t w ≡ first
   unfolding env first
@@ -142,19 +138,17 @@ module _ (t : Tests) (u : Suits t) (files : List File) (checked : Sealed) (n ste
   words_are : (old : Option (List ℕ)) → words_with t w words old ≡ retold_words (shift.behind old) all
   unfolding env all
   words_are old =
-      ap (λ (c : Sealed). words_by (environment t c.decls) c.main words (globals_of t w) (meter_of w old)) new.checked_is
-      ∙ ap (λ bs. words_by env checked.main words bs (meter_of w old)) globals_are
-      ∙ ap (λ m. words_by env m words first (meter_of w old)) (sym decode.is)
-      ∙ ap (λ k. run_words env decode.number words first (record { steps = k; told = old; text_open = w.text_open })) (new.steps_are ∙ same)
-      ∙ ap (λ b. run_words env decode.number words first (record { steps = steps; told = old; text_open = b })) new.text_is_closed
-      ∙ ap (λ o. run_words env decode.number words first (starting steps o)) (sym (behind_nothing old))
-      ∙ words_behind env decode.number words first (starting steps (Some [])) old
+      ap (λ (c : Sealed). run_words (environment t c.decls) c.entries words (globals_of t w) (meter_of w old)) new.checked_is
+      ∙ ap (λ bs. run_words env checked.entries words bs (meter_of w old)) globals_are
+      ∙ ap (λ k. run_words env checked.entries words first (record { steps = k; told = old; text_open = w.text_open })) (new.steps_are ∙ same)
+      ∙ ap (λ b. run_words env checked.entries words first (record { steps = steps; told = old; text_open = b })) new.text_is_closed
+      ∙ words_behind env checked.entries words first steps old
 
   -- words that ended, and the line of their end behind their text
   pub ended : (old mid last : Option (List ℕ)) (after : Work) (end : ExecEnd) (result : Result Status Stop) → end_of (length words) after.stage ≡ Some end
       → LeavesWords t after mid (words_with t w words old)
       → Answers result mid last (answer ((if after.text_open then line_feed else []) ++ (words_line files (length words) after.stage ++ globals_text (globals_of t after))) (end_status after.stage))
-      → Answers result old last (worked files (environment t checked.decls) steps words checked.main)
+      → Answers result old last (worked files (environment t checked.decls) steps words checked.entries)
   unfolding env first all
   ended old mid last after end result ok leaves written =
       let went = went_on (length words) after.stage end ok in
@@ -163,17 +157,15 @@ module _ (t : Tests) (u : Suits t) (files : List File) (checked : Sealed) (n ste
       let shown = words_ends files (length words) after.stage (globals_of t after) after.steps after.text_open o.text all went o.ends in
       let last_line = words_line files (length words) after.stage ++ globals_text (globals_of t after) in
       let behind_it = Answers-after result old mid last o.text ((if after.text_open then line_feed else []) ++ last_line) (end_status after.stage) o.written written in
-      subst (λ m. Answers result old last (worked files env steps words m)) decode.is
-      (subst (Answers result old last) (sym shown)
-      (subst (λ b. Answers result old last (answer (o.text ++ ((if b then line_feed else []) ++ last_line)) (end_status after.stage))) (o.is_open ∙ open_is o.text) behind_it))
+      subst (Answers result old last) (sym shown)
+      (subst (λ b. Answers result old last (answer (o.text ++ ((if b then line_feed else []) ++ last_line)) (end_status after.stage))) (o.is_open ∙ open_is o.text) behind_it)
 
   -- words that were given up wrote a prefix of the answer
-  pub were_given_up : (old mid : Option (List ℕ)) → Between old mid (words_final (words_with t w words old)).told → TakesPrefix old mid (worked files (environment t checked.decls) steps words checked.main).text
+  pub were_given_up : (old mid : Option (List ℕ)) → Between old mid (words_final (words_with t w words old)).told → TakesPrefix old mid (worked files (environment t checked.decls) steps words checked.entries).text
   unfolding env first all
   were_given_up old mid between =
       let told : (words_final (words_with t w words old)).told ≡ appended old own.text = ap (λ r. (words_final r).told) (words_are old) ∙ told_behind old all ∙ ap (shift.behind old) own.told ∙ behind_own old own.text in
       let part = part_of old mid (words_final (words_with t w words old)).told own.text between.before between.behind told in
       let more = words_begins files (length words) all own.text own.told in
       let whole : (words_answer files (length words) all).text ≡ part.taken ++ (part.rest ++ more.0) = more.1 ∙ ap (λ z. z ++ more.0) part.whole ∙ append_assoc part.taken part.rest more.0 in
-      subst (λ m. TakesPrefix old mid (worked files env steps words m).text) decode.is
       (part.taken, part.rest ++ more.0, whole, part.is)

@@ -1,6 +1,8 @@
 //! The writing of answers.
 ghost use Rattle.std.specs.Prelude.{◌≡◌, ◌≤◌, [], ◌∷◌, length, map};
 ghost use Rattle.asl_line.specs.private.Model.{meaning_of, HasSize};
+ghost use Rattle.std.specs.List.{All};
+ghost use Rattle.asl_words.specs.Shapes.{HasShape};
 ghost use Rattle.asl_words.specs.declared.TheConstants.{MOST_WORDS};
 ghost use Rattle.asl_rules.specs.private.Grown.{AreGrown};
 ghost use Rattle.asl_rules.specs.Tests.{Tests};
@@ -27,7 +29,7 @@ use asl_rules::entry::Entry;
 use asl_syn::code::{Fault, Refused};
 use asl_syn::place::Source;
 use asl_syn::tree::Program;
-use asl_words::{WordFault, read_words};
+use asl_words::{Word, WordFault, read_words, wanted};
 use std::alloc::Global;
 
 /// Writes the one fault of the files.
@@ -91,23 +93,24 @@ fn check_and_run<K: Sink>(
     }
 }
 
-/// Checks a program with the entry `decode`, runs it on the words with so many steps, and writes the answer.
+/// Checks a program with the entries that the words need, runs it on the words with so many steps, and writes the answer.
 fn check_and_exec<K: Sink>(
     alloc: Global,
     sources: &[Source],
     program: Program,
     steps: u32,
-    words: &[u32],
+    words: &[Word],
     out: &mut K,
 ) -> Result<Status, Stop>
     requires short { AreShort sources.now }
     requires grown { AreGrown program.decls }
+    requires shapes { All HasShape words.now }
     requires few { length words.now ≤ MOST_WORDS }
     ensures answer { (t : Tests) → Suits t → Answers result (K.written out.old) (K.written out.new) (on_words t steps words.now (map file_of sources.now) program.decls) }
     ensures cause { HasCause result (K.faults out.old) (K.faults out.new) }
     ensures same_full { K.full out.new ≡ K.full out.old }
 {
-    match check(alloc, program, Entry::Decode) {
+    match check(alloc, program, wanted(words)) {
         Ok(checked) => exec_program(alloc, sources, checked, steps, words, out),
         Err(Refused::At(fault)) => refuse(alloc, sources, &fault, out),
         Err(Refused::NoMemory) => Err(Stop::NoMemory),
@@ -178,17 +181,18 @@ fn run_files<K: Sink>(
     }
 }
 
-/// Checks the files with the entry `decode`, runs them on the words with so many steps, and writes the answer.
+/// Checks the files with the entries that the words need, runs them on the words with so many steps, and writes the answer.
 #[tactic(auto, using(crate::proofs::Grown::grown))]
 fn exec_files<K: Sink>(
     alloc: Global,
     sources: &[Source],
     steps: u32,
-    words: &[u32],
+    words: &[Word],
     out: &mut K,
 ) -> Result<Status, Stop>
     requires few { length sources.now ≤ 64 }
     requires short { AreShort sources.now }
+    requires shapes { All HasShape words.now }
     requires few_words { length words.now ≤ MOST_WORDS }
     ensures answer { (t : Tests) → Suits t → (read : Reader) → IsReading read → Answers result (K.written out.old) (K.written out.new) (exec_answer t read steps words.now (map file_of sources.now)) }
     ensures cause { HasCause result (K.faults out.old) (K.faults out.new) }

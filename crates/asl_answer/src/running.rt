@@ -1,6 +1,8 @@
 //! The runs of checked programs, and the lines of their ends.
 ghost use Rattle.std.specs.Prelude.{◌≡◌, ◌≤◌, ◌++◌, [], Ok, Some, length, map, if◌then◌else◌};
 ghost use Rattle.asl_syn.specs.Command.{default_steps};
+ghost use Rattle.std.specs.List.{All};
+ghost use Rattle.asl_words.specs.Shapes.{IsNamed};
 ghost use Rattle.asl_words.specs.declared.TheConstants.{MOST_WORDS};
 ghost use Rattle.asl_words.specs.private.Runs.{end_of};
 ghost use Rattle.asl_rules.specs.declarations.Programs.{environment};
@@ -11,7 +13,7 @@ ghost use Rattle.asl_types.specs.Suits.{Suits};
 ghost use Rattle.asl_value.specs.View.{value_of};
 ghost use Rattle.asl_machine.specs.Stages.{answer_of};
 ghost use Rattle.asl_machine.specs.Storage.{var_of};
-ghost use Rattle.asl_answer.specs.private.Ends.{end_line, end_status, globals_ending, made_line, vars_text, where_returned, words_ending, words_line, Decodes, Starts};
+ghost use Rattle.asl_answer.specs.private.Ends.{end_line, end_status, globals_ending, made_line, vars_text, where_returned, words_ending, words_line, Starts};
 ghost use Rattle.asl_answer.specs.private.Model.{file_of, AreShort};
 ghost use Rattle.asl_answer.specs.private.Writes.{Writes, Answers, HasCause};
 ghost use Rattle.asl_answer.specs.Statuses.{code_of};
@@ -24,7 +26,7 @@ use asl_machine::{GlobalVar, Machine, Outcome, RunRefused};
 use asl_syn::place::Source;
 use asl_tree::Checked;
 use asl_value::{Value, show};
-use asl_words::{ExecEnd, exec};
+use asl_words::{ExecEnd, Word, exec};
 use std::alloc::Global;
 
 /// The steps of a run where no number is given.
@@ -167,7 +169,7 @@ pub fn run_program<K: Sink>(
 ) -> Result<Status, Stop>
     requires short { AreShort sources.now }
     requires accepted { (t : Tests) → Suits t → Starts t checked }
-    ensures answer { (t : Tests) → Suits t → Answers result (K.written out.old) (K.written out.new) (started (map file_of sources.now) (environment t checked.decls) steps checked.main) }
+    ensures answer { (t : Tests) → Suits t → Answers result (K.written out.old) (K.written out.new) (started (map file_of sources.now) (environment t checked.decls) steps checked.entries) }
     ensures cause { HasCause result (K.faults out.old) (K.faults out.new) }
     ensures same_full { K.full out.new ≡ K.full out.old }
 {
@@ -234,20 +236,20 @@ fn finish_words<K: Sink>(
     Ok(status)
 }
 
-/// Runs a program from its entry on each of the words with so many steps: the lines of the words and the printed text go to the sink as
+/// Runs a program from the entry of each of the words with so many steps: the lines of the words and the printed text go to the sink as
 /// they come, and then the lines of its end.
 pub fn exec_program<K: Sink>(
     alloc: Global,
     sources: &[Source],
     checked: Checked,
     steps: u32,
-    words: &[u32],
+    words: &[Word],
     out: &mut K,
 ) -> Result<Status, Stop>
     requires short { AreShort sources.now }
-    requires accepted { (t : Tests) → Suits t → Decodes t checked }
+    requires named { All (IsNamed checked.asked) words.now }
     requires few { length words.now ≤ MOST_WORDS }
-    ensures answer { (t : Tests) → Suits t → Answers result (K.written out.old) (K.written out.new) (worked (map file_of sources.now) (environment t checked.decls) steps words.now checked.main) }
+    ensures answer { (t : Tests) → Suits t → Answers result (K.written out.old) (K.written out.new) (worked (map file_of sources.now) (environment t checked.decls) steps words.now checked.entries) }
     ensures cause { HasCause result (K.faults out.old) (K.faults out.new) }
     ensures same_full { K.full out.new ≡ K.full out.old }
 {
@@ -304,7 +306,7 @@ pub fn run_made<K: Sink>(
 ) -> Result<Status, Stop>
     requires short { AreShort sources.now }
     requires accepted { (t : Tests) → Suits t → Starts t checked }
-    ensures answer { (t : Tests) → Suits t → Answers result (K.written out.old) (K.written out.new) (begun (made_answer words.now (map file_of sources.now)) (environment t checked.decls) default_steps checked.main) }
+    ensures answer { (t : Tests) → Suits t → Answers result (K.written out.old) (K.written out.new) (begun (made_answer words.now (map file_of sources.now)) (environment t checked.decls) default_steps checked.entries.main) }
     ensures cause { HasCause result (K.faults out.old) (K.faults out.new) }
     ensures same_full { K.full out.new ≡ K.full out.old }
 {

@@ -2,7 +2,7 @@
 ghost use Rattle.std.specs.Prelude.{◌≡◌, ◌<◌, ℕ, List, Result, Err, IfOk, map, string_bytes};
 ghost use Rattle.asl_rules.specs.report.Texts.{placed, line_at, fault_line, dynamic_line, long_line, accepted_line, done_line, made_words};
 ghost use Rattle.asl_rules.specs.report.Report.{Answer, answer, on_words_read};
-ghost use Rattle.asl_rules.specs.report.WordList.{ListFault};
+ghost use Rattle.asl_rules.specs.report.WordList.{ListFault, Word};
 ghost use Rattle.asl_words.specs.private.Faults.{Says};
 ghost use Rattle.asl_answer.specs.private.Model.{file_of, AreShort};
 
@@ -86,7 +86,7 @@ pub fn long_text(alloc: Global, name: &str) -> Result<String, AllocError>
 /// The code of a word list's fault, and the number of its line.
 fn code_and_line(fault: WordFault) -> (StaticCode, usize)
     requires { fault ≡ WordFault.NoMemory → ⊥ }
-    ensures { (r : Result (List ℕ) ListFault) → Says fault r → r ≡ Err (record { code = result.0; line = result.1 }) }
+    ensures { (r : Result (List Word) ListFault) → Says fault r → r ≡ Err (record { code = result.0; line = result.1 }) }
 {
     match fault {
         WordFault::Length(line) => (StaticCode::N01, line),
@@ -99,7 +99,7 @@ fn code_and_line(fault: WordFault) -> (StaticCode, usize)
 /// The line of a word list's fault, at the beginning of its line.
 pub fn list_fault_text(alloc: Global, name: &str, fault: WordFault) -> Result<String, AllocError>
     requires { fault ≡ WordFault.NoMemory → ⊥ }
-    ensures { IfOk result (λ text. (r : Result (List ℕ) ListFault) → Says fault r → (go : List ℕ → Answer) → on_words_read name.now r go ≡ answer (string_bytes text) 1) }
+    ensures { IfOk result (λ text. (r : Result (List Word) ListFault) → Says fault r → (go : List Word → Answer) → on_words_read name.now r go ≡ answer (string_bytes text) 1) }
 {
     let (code, line) = code_and_line(fault);
     placed_text(alloc, name, line, 1, 0, code.text())

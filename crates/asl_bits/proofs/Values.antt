@@ -1,34 +1,17 @@
--- What each function of `Bits` gives, from what its operands' words stand for. A lemma NAME_is ends in the clause of a
--- function; NAME_small and below_mod keep the result within its width.
-use Rattle.std.proofs.Common.{◌≡◌, ◌≢◌, ℕ, zero, suc, ◌+◌, ◌-◌, ◌*◌, ◌/◌, ◌%◌, ◌^◌, ◌<◌, ◌≤◌, List, [], ◌∷◌, ◌++◌, length, take, drop, map, replicate, get_or, Bool, true, false, cond, not, refl, sym, ◌∙◌, ap, subst, arith, pow-suc, length-append}
-use Rattle.std.proofs.lemmas.List.{length-replicate, length-take, length-drop}
+-- What each function of `BitsOf` gives, from what its operands' words stand for. A lemma NAME_is ends in the clause of a
+-- function; below_cat keeps a result within its width.
+use Rattle.std.proofs.Common.{◌≡◌, ℕ, zero, suc, ◌+◌, ◌-◌, ◌*◌, ◌/◌, ◌%◌, ◌^◌, ◌<◌, ◌≤◌, List, [], ◌∷◌, length, take, drop, map, replicate, get_or, Bool, true, false, not, refl, sym, ◌∙◌, ap, subst, arith}
 use Rattle.std.proofs.lemmas.Int.{ints}
 use Rattle.std.proofs.lemmas.Bool.{cases_lt}
 use mathlib.Core.Logic.{inl, inr}
-use Rattle.std.specs.Prelude.{◌==◌, IsTrue, ◌↔◌, ℤ, pos, negsuc, ◌-ℤ◌, ◌<ℤ◌, ◌≤ℤ◌, unsigned_abs, bit_and, bit_or, bit_xor}
+use Rattle.std.specs.Prelude.{◌==◌, IsTrue, ◌↔◌, ℤ, pos, negsuc, ◌-ℤ◌, ◌<ℤ◌, ◌≤ℤ◌, unsigned_abs}
 use Rattle.std.proofs.Math.Nat.{mod-eq_of_lt, mul-le-mul_right, add_comm, add-mod_right}
-use Rattle.std.proofs.lemmas.Nat.{pow_pos, pow-add, mod_below, or_shifted, and_le_l, or_lt, xor_lt}
+use Rattle.std.proofs.lemmas.Nat.{pow_pos, pow-add, mod_below}
 use Rattle.asl_num.specs.Exact.{floor_mod}
-use Rattle.asl_bits.proofs.Lists.{length-bits_of, value_below, zero_bits, turned_bits, low_bits, take_bits, drop_bits, cat_bits, and_bits, or_bits, xor_bits, get_bit, same_bits, twice}
+use Rattle.asl_bits.proofs.Lists.{length-bits_of, value_below, zero_bits, turned_bits, low_bits, take_bits, drop_bits, get_bit, same_bits, twice}
 use Rattle.std.proofs.lemmas.Option.{slice_get-get_or, get_or_from_slice_get}
 use Rattle.std.specs.Prelude.{slice_get, Some}
-use Rattle.asl_bits.specs.Words.{words_value}
-use Rattle.asl_bits.specs.Lists.{bits_value, bits_of, int_bits, top_bit, signed_value, both, and_bit, or_bit, xor_bit}
-
--- ---- words of zero
-
-abbrev pub AllZero : List ℕ → Type 0
-AllZero [] = Unit {0}
-AllZero (x ∷ xs) = (x ≡ 0) × AllZero xs
-
-pub zero_words : (xs : List ℕ) → AllZero xs → words_value xs ≡ 0
-unfolding words_value
-zero_words [] h = refl
-zero_words (x ∷ xs) h = omega (arith, h.0, zero_words xs h.1)
-
-pub first_word : (w : ℕ) (xs : List ℕ) → AllZero xs → words_value (w ∷ xs) ≡ w
-unfolding words_value
-first_word w xs h = omega (arith, zero_words xs h)
+use Rattle.asl_bits.specs.Lists.{bits_value, bits_of, int_bits, top_bit, signed_value}
 
 -- ---- the operations of bitvectors
 
@@ -38,30 +21,14 @@ slice_is bs w k n m h e =
     low_bits m (n / 2 ^ k) ∙ sym (take_bits m (w - k) (n / 2 ^ k) room)
     ∙ ap (take m) (sym (drop_bits k w n (omega arith))) ∙ ap (λ (xs : List Bool). take m (drop k xs)) (sym e)
 
-pub below_mod : (n w v : ℕ) → v ≡ n % 2 ^ w → v < 2 ^ w
-below_mod n w v e = rw e (mod_below _ _ (pow_pos w))
-
-below_cat : (k w h n : ℕ) → n < 2 ^ k → h < 2 ^ w → h * 2 ^ k + n < 2 ^ (k + w)
+pub below_cat : (k w h n : ℕ) → n < 2 ^ k → h < 2 ^ w → h * 2 ^ k + n < 2 ^ (k + w)
 below_cat k w h n p q =
     let e : suc h * 2 ^ k ≤ 2 ^ w * 2 ^ k = mul-le-mul_right (2 ^ k) q in
     let f : 2 ^ (k + w) ≡ 2 ^ w * 2 ^ k = rw (add_comm k w) (pow-add 2 w k) in
     let g : suc h * 2 ^ k ≡ h * 2 ^ k + 2 ^ k = omega arith in
     omega arith
 
--- the words of `concat`
-pub cat_value : (k w h n t v : ℕ) → n < 2 ^ k → h < 2 ^ w → t ≡ h * 2 ^ k % 2 ^ (k + w) → v ≡ bit_or t n → v ≡ h * 2 ^ k + n
-cat_value k w h n t v p q e f =
-    let room : h * 2 ^ k + n < 2 ^ (k + w) = below_cat k w h n p q in
-    f ∙ ap (λ (m : ℕ). bit_or m n) (e ∙ mod-eq_of_lt (omega arith)) ∙ or_shifted h k n p
-
-pub concat_below : (k w h n t v : ℕ) → n < 2 ^ k → h < 2 ^ w → t ≡ h * 2 ^ k % 2 ^ (k + w) → v ≡ bit_or t n → v < 2 ^ (k + w)
-concat_below k w h n t v p q e f = rw (cat_value k w h n t v p q e f) (below_cat k w h n p q)
-
-pub concat_is : (k w h n t v : ℕ) (low high : List Bool) → n < 2 ^ k → h < 2 ^ w → t ≡ h * 2 ^ k % 2 ^ (k + w) → v ≡ bit_or t n → low ≡ bits_of k n → high ≡ bits_of w h → bits_of (k + w) v ≡ low ++ high
-concat_is k w h n t v low high p q e f l m =
-    ap (bits_of (k + w)) (cat_value k w h n t v p q e f) ∙ cat_bits k w n h p ∙ cc
-
--- ---- what the functions of `Bits` show, from their views
+-- ---- what the functions of `BitsOf` show, from their views
 
 pub width_is : (w n : ℕ) (bs : List Bool) → bits_of w n ≡ bs → w ≡ length bs
 width_is w n bs e = sym (length-bits_of w n) ∙ ap length e
@@ -69,42 +36,8 @@ width_is w n bs e = sym (length-bits_of w n) ∙ ap length e
 same_width : (w u m n : ℕ) (xs ys : List Bool) → bits_of w m ≡ xs → bits_of u n ≡ ys → length xs ≡ length ys → u ≡ w
 same_width w u m n xs ys e f l = width_is u n ys f ∙ sym l ∙ sym (width_is w m xs e)
 
-pub and_small : (w m n v : ℕ) → m < 2 ^ w → v ≡ bit_and m n → v < 2 ^ w
-and_small w m n v p e = let s : bit_and m n ≤ m = and_le_l m n in omega arith
-
-pub or_small : (w u m n v : ℕ) (xs ys : List Bool) → bits_of w m ≡ xs → bits_of u n ≡ ys → length xs ≡ length ys → m < 2 ^ w → n < 2 ^ u → v ≡ bit_or m n → v < 2 ^ w
-or_small w u m n v xs ys e f l p q i =
-    rw i (or_lt w m n p (subst (λ (k : ℕ). n < 2 ^ k) (same_width w u m n xs ys e f l) q))
-
-pub xor_small : (w u m n v : ℕ) (xs ys : List Bool) → bits_of w m ≡ xs → bits_of u n ≡ ys → length xs ≡ length ys → m < 2 ^ w → n < 2 ^ u → v ≡ bit_xor m n → v < 2 ^ w
-xor_small w u m n v xs ys e f l p q i =
-    rw i (xor_lt w m n p (subst (λ (k : ℕ). n < 2 ^ k) (same_width w u m n xs ys e f l) q))
-
-bitwise : (f : ℕ → ℕ → ℕ) (g : Bool → Bool → Bool) → ((w m n : ℕ) → bits_of w (f m n) ≡ both g (bits_of w m) (bits_of w n)) → (w u m n v : ℕ) (xs ys rs : List Bool) → bits_of w m ≡ xs → bits_of u n ≡ ys → length xs ≡ length ys → v ≡ f m n → rs ≡ bits_of w v → rs ≡ both g xs ys
-bitwise f g law w u m n v xs ys rs e h l i r =
-    r ∙ ap (bits_of w) i ∙ law w m n ∙ ap (λ (zs : List Bool). both g zs (bits_of w n)) e
-    ∙ ap (λ (k : ℕ). both g xs (bits_of k n)) (sym (same_width w u m n xs ys e h l)) ∙ ap (both g xs) h
-
-pub and_is : (w u m n v : ℕ) (xs ys rs : List Bool) → bits_of w m ≡ xs → bits_of u n ≡ ys → length xs ≡ length ys → v ≡ bit_and m n → rs ≡ bits_of w v → rs ≡ both and_bit xs ys
-and_is = bitwise bit_and and_bit and_bits
-
-pub or_is : (w u m n v : ℕ) (xs ys rs : List Bool) → bits_of w m ≡ xs → bits_of u n ≡ ys → length xs ≡ length ys → v ≡ bit_or m n → rs ≡ bits_of w v → rs ≡ both or_bit xs ys
-or_is = bitwise bit_or or_bit or_bits
-
-pub xor_is : (w u m n v : ℕ) (xs ys rs : List Bool) → bits_of w m ≡ xs → bits_of u n ≡ ys → length xs ≡ length ys → v ≡ bit_xor m n → rs ≡ bits_of w v → rs ≡ both xor_bit xs ys
-xor_is = bitwise bit_xor xor_bit xor_bits
-
 pub not_is : (w n v : ℕ) (bs rs : List Bool) → bits_of w n ≡ bs → n < 2 ^ w → v ≡ 2 ^ w - 1 - n → rs ≡ bits_of w v → rs ≡ map not bs
 not_is w n v bs rs e p i r = r ∙ ap (bits_of w) i ∙ turned_bits w n p ∙ ap (map not) e
-
-pub lowest_is : (w n v m : ℕ) (rs : List Bool) → n ≡ m → v ≡ n % 2 ^ w → rs ≡ bits_of w v → rs ≡ bits_of w m
-lowest_is w n v m rs e i r = r ∙ ap (bits_of w) i ∙ low_bits w n ∙ ap (bits_of w) e
-
-pub low_is : (w n v k : ℕ) (bs rs : List Bool) → bits_of w n ≡ bs → k ≤ w → v ≡ n % 2 ^ k → rs ≡ bits_of k v → rs ≡ take k bs
-low_is w n v k bs rs e h i r = r ∙ ap (bits_of k) i ∙ low_bits k n ∙ sym (take_bits k w n h) ∙ ap (take k) e
-
-pub high_is : (w n v k : ℕ) (bs rs : List Bool) → bits_of w n ≡ bs → k ≤ w → v ≡ n / 2 ^ k % 2 ^ (w - k) → rs ≡ bits_of (w - k) v → rs ≡ drop k bs
-high_is w n v k bs rs e h i r = r ∙ ap (bits_of (w - k)) i ∙ low_bits (w - k) (n / 2 ^ k) ∙ sym (drop_bits k w n h) ∙ ap (drop k) e
 
 pub sliced_is : (w n v k m : ℕ) (bs rs : List Bool) → bits_of w n ≡ bs → k + m ≤ w → v ≡ n / 2 ^ k % 2 ^ m → rs ≡ bits_of m v → rs ≡ take m (drop k bs)
 sliced_is w n v k m bs rs e h i r = r ∙ ap (bits_of m) i ∙ slice_is bs w k n m h (sym e)
@@ -135,12 +68,6 @@ same_is w u m n xs ys b e f l p q t =
 pub value_shown : (w n : ℕ) (bs : List Bool) → bits_of w n ≡ bs → n < 2 ^ w → bits_value bs ≡ n
 value_shown w n bs e p = ap bits_value (sym e) ∙ value_below w n p
 
-pub sum_is : (w u m n v : ℕ) (xs ys rs : List Bool) → bits_of w m ≡ xs → bits_of u n ≡ ys → m < 2 ^ w → n < 2 ^ u → v ≡ (m + n + 0) % 2 ^ w → rs ≡ bits_of w v → rs ≡ bits_of (length xs) (bits_value xs + bits_value ys)
-sum_is w u m n v xs ys rs e f p q i r =
-    let s : m + n + 0 ≡ bits_value xs + bits_value ys = omega (arith, value_shown w m xs e p, value_shown u n ys f q) in
-    r ∙ ap (bits_of w) i ∙ low_bits w (m + n + 0) ∙ ap (bits_of w) s
-    ∙ ap (λ (k : ℕ). bits_of k (bits_value xs + bits_value ys)) (width_is w m xs e)
-
 turned_zeros : (w : ℕ) → map not (replicate w false) ≡ replicate w true
 turned_zeros zero = refl
 turned_zeros (suc w) = ap (λ (bs : List Bool). true ∷ bs) (turned_zeros w)
@@ -164,8 +91,6 @@ wrap_positive (pos n) w m h e = ap (bits_of w) e ∙ sym (low_bits w n)
 wrap_positive (negsuc n) w m h e = absurd (omega (arith, ints))
 
 pub ruleset wrap_facts = (wrap_negative, wrap_positive)
-
-pub ruleset part_facts = (length-take, length-drop, length-append)
 
 below_power : (m n p : ℕ) → n < p → floor_mod (pos m -ℤ pos n) p ≡ (m + (p - 1 - n) + 1) % p
 below_power m n p h = by_lt m n

@@ -1,7 +1,7 @@
 -- Lists of words and the numbers that they stand for, in the order of src/words.rt: the words of a number, a window of 128
 -- bits, shifts, the lowest bits, the operations bit by bit, the sum, and the number that is one word.
-use Rattle.std.proofs.Common.{◌≡◌, ◌≢◌, ℕ, zero, suc, ◌+◌, ◌-◌, ◌*◌, ◌/◌, ◌%◌, ◌^◌, ◌<◌, ◌≤◌, List, [], ◌∷◌, length, get_or, set, get_or-set_other, get_or-set_same, below_more, Bool, refl, sym, ◌∙◌, ap, subst, arith}
-use Rattle.std.proofs.Math.Nat.{pow-le-pow_right, div-le_self, div-one, mod-one, mul_assoc, mul-mod_left, add_comm, mod-eq_of_lt, div-eq_of_lt, add-mul-div_right, mod-le, add-mul-mod_self_right}
+use Rattle.std.proofs.Common.{◌≡◌, ◌≢◌, ℕ, zero, suc, ◌+◌, ◌-◌, ◌*◌, ◌/◌, ◌%◌, ◌^◌, ◌<◌, ◌≤◌, List, [], ◌∷◌, ◌++◌, length, take, drop, replicate, get_or, set, get_or-set_other, get_or-set_same, below_more, Bool, refl, sym, ◌∙◌, ap, subst, arith}
+use Rattle.std.proofs.Math.Nat.{pow-le-pow_right, div-one, mod-one, mul_assoc, mul-mod_left, add_comm, mod-eq_of_lt, div-eq_of_lt, add-mul-div_right, mod-le, add-mul-mod_self_right}
 use Rattle.std.proofs.lemmas.Bool.{cases_lt}
 use mathlib.Core.Logic.{inl, inr, ◌↔◌}
 use Rattle.std.specs.Prelude.{IsTrue}
@@ -9,7 +9,7 @@ use Rattle.std.specs.Str.{bytes_eq}
 use lib.Pointwise.{bytes_decides}
 use Rattle.std.proofs.Math.Pow.{not_mod, mod-mod-pow}
 use Rattle.std.proofs.lemmas.Nat.{pow_pos, or_comm, mul-mod_first, pow-add, shr-shr, mod-pow-add, field_of, or_shifted, or_lt, xor_lt, and_le_l, div-add-mod', shl-shr, and_shr, or_shr, xor_shr, and_mod, or_mod, xor_mod, and_mask, one_shl, mod_below}
-use Rattle.std.specs.Prelude.{bit_and, bit_or, bit_xor}
+use Rattle.std.specs.Prelude.{bit_and, bit_or, bit_xor, slice_index}
 use Rattle.std.specs.Int.{from_bool}
 use Rattle.asl_bits.specs.Words.{words_value}
 
@@ -21,7 +21,7 @@ word_of n k = n / 2 ^ (128 * k) % 2 ^ 128
 abbrev pub Shows : ℕ → ℕ → List ℕ → Type 0
 Shows n i xs = (k : ℕ) → k < i → get_or xs k 0 ≡ word_of n k
 
-by_le : {P : Type 0} (a b : ℕ) → (a ≤ b → P) → (b ≤ a → P) → P
+pub by_le : {P : Type 0} (a b : ℕ) → (a ≤ b → P) → (b ≤ a → P) → P
 by_le a b f g = elim (cases_lt a b) [ inl h ↦ f (omega arith) | inr h ↦ g h ]
 
 later : (n k : ℕ) → n / 2 ^ (128 * suc k) ≡ n / 2 ^ 128 / 2 ^ (128 * k)
@@ -57,7 +57,7 @@ built_exactly xs n h small = built xs n h ∙ mod-eq_of_lt small
 
 -- ---- windows
 
-raised_mod : (a r s : ℕ) → a * 2 ^ s % 2 ^ (r + s) ≡ (a % 2 ^ r) * 2 ^ s
+pub raised_mod : (a r s : ℕ) → a * 2 ^ s % 2 ^ (r + s) ≡ (a % 2 ^ r) * 2 ^ s
 raised_mod a r s = rw (mod-pow-add (a * 2 ^ s) r s, shl-shr a s, mul-mod_left a (2 ^ s)) (omega arith)
 
 shorter : (y r s : ℕ) → y % 2 ^ (r + s) % 2 ^ r ≡ y % 2 ^ r
@@ -105,20 +105,13 @@ pub ruleset window_facts = (window_aligned, window_split)
 
 -- ---- shifts
 
-pub lowered : (xs ys : List ℕ) (by : ℕ) → ((k : ℕ) → get_or xs k 0 < 2 ^ 128) → length ys ≡ length xs → ((k : ℕ) → k < length ys → get_or ys k 0 ≡ words_value xs / 2 ^ (by + 128 * k) % 2 ^ 128) → words_value ys ≡ words_value xs / 2 ^ by
-lowered xs ys by small same h =
-    built_exactly ys (words_value xs / 2 ^ by)
-    (λ k l. h k l ∙ ap (λ (m : ℕ). m % 2 ^ 128) (sym (shr-shr (words_value xs) by (128 * k))))
-    (let e : 128 * length ys ≡ 128 * length xs = omega (arith, same) in
-    let p : words_value xs / 2 ^ by ≤ words_value xs = div-le_self _ _ in rw e (omega (arith, words_lt xs small)))
-
 pub raised_far : (v by place : ℕ) → by ≤ place → v * 2 ^ by / 2 ^ place ≡ v / 2 ^ (place - by)
 raised_far v by place h =
     let e : by + (place - by) ≡ place = omega arith in
     ap (λ (m : ℕ). v * 2 ^ by / 2 ^ m) (sym e) ∙ sym (shr-shr (v * 2 ^ by) by (place - by))
     ∙ ap (λ (m : ℕ). m / 2 ^ (place - by)) (shl-shr v by)
 
-raised_up : (v by place : ℕ) → place ≤ by → v * 2 ^ by / 2 ^ place ≡ v * 2 ^ (by - place)
+pub raised_up : (v by place : ℕ) → place ≤ by → v * 2 ^ by / 2 ^ place ≡ v * 2 ^ (by - place)
 raised_up v by place h =
     let e : by ≡ (by - place) + place = omega arith in
     let f : v * 2 ^ by ≡ v * 2 ^ (by - place) * 2 ^ place =
@@ -175,6 +168,24 @@ kept_digit n w p =
     let s : n % 2 ^ w < 2 ^ w = mod_below _ _ (pow_pos w) in
     let z : n % 2 ^ w / 2 ^ p ≡ 0 = div-eq_of_lt (omega arith) in
     rw (z, no_bit (n / 2 ^ p % 2 ^ 128) w p h) (omega arith))
+
+-- the loop of `lower`
+pub lowered : (xs ys : List ℕ) (by width : ℕ) → width ≤ 128 * length ys → ((k : ℕ) → k < length ys → get_or ys k 0 ≡ words_value xs / 2 ^ (by + 128 * k) % 2 ^ 128 % 2 ^ (width - 128 * k)) → words_value ys ≡ words_value xs / 2 ^ by % 2 ^ width
+lowered xs ys by width room h =
+    built_exactly ys (words_value xs / 2 ^ by % 2 ^ width)
+    (λ k l. h k l
+    ∙ ap (λ (m : ℕ). m % 2 ^ 128 % 2 ^ (width - 128 * k)) (sym (shr-shr (words_value xs) by (128 * k)))
+    ∙ sym (kept_digit (words_value xs / 2 ^ by) width (128 * k)))
+    (let p : 2 ^ width ≤ 2 ^ (128 * length ys) = pow-le-pow_right (omega arith) room in
+    let q : words_value xs / 2 ^ by % 2 ^ width < 2 ^ width = mod_below _ _ (pow_pos width) in omega arith)
+
+-- the loop of `join`
+pub stacked : (hs ls ys : List ℕ) (by : ℕ) → ((k : ℕ) → get_or ls k 0 < 2 ^ 128) → words_value ls < 2 ^ by → words_value hs * 2 ^ by + words_value ls < 2 ^ (128 * length ys) → ((k : ℕ) → k < length ys → get_or ys k 0 ≡ bit_or (words_value hs * 2 ^ by / 2 ^ (128 * k) % 2 ^ 128) (slice_index ls k)) → words_value ys ≡ words_value hs * 2 ^ by + words_value ls
+stacked hs ls ys by p low room h =
+    let e : bit_or (words_value hs * 2 ^ by) (words_value ls) ≡ words_value hs * 2 ^ by + words_value ls = or_shifted (words_value hs) by (words_value ls) low in
+    built_exactly ys (bit_or (words_value hs * 2 ^ by) (words_value ls))
+    (λ k l. h k l ∙ ap (λ (m : ℕ). bit_or (words_value hs * 2 ^ by / 2 ^ (128 * k) % 2 ^ 128) m) (word_is ls p k) ∙ sym (rw (or_shr, or_mod) refl))
+    (rw e room) ∙ e
 
 -- the loop of `keep_low` has done the words below i
 pub record Kept (n width i : ℕ) (xs : List ℕ) : Type 0 where
@@ -265,6 +276,37 @@ carried_next a b c k =
     ∙ ap (λ (m : ℕ). ((a % 2 ^ k + b % 2 ^ k + c) + (x + y) * 2 ^ k) / 2 ^ m) (add_comm 128 k)
     ∙ sym (shr-shr ((a % 2 ^ k + b % 2 ^ k + c) + (x + y) * 2 ^ k) k 128)
     ∙ ap (λ (m : ℕ). m / 2 ^ 128) (add-mul-div_right (a % 2 ^ k + b % 2 ^ k + c) (x + y) (pow_pos k) ∙ add_comm _ _)
+
+-- the words behind those in use are 0
+pub no_words : (m : ℕ) → words_value (replicate m 0) ≡ 0
+unfolding words_value
+no_words zero = refl
+no_words (suc m) = omega (arith, no_words m)
+
+pub nothing_behind : (n m : ℕ) → words_value (drop n (replicate m 0)) ≡ 0
+unfolding words_value
+nothing_behind zero m = no_words m
+nothing_behind (suc n) zero = refl
+nothing_behind (suc n) (suc m) = nothing_behind n m
+
+words_append : (xs ys : List ℕ) → words_value ys ≡ 0 → words_value (xs ++ ys) ≡ words_value xs
+unfolding words_value
+words_append [] ys h = h
+words_append (x ∷ xs) ys h = omega (arith, words_append xs ys h)
+
+pub padded : (xs : List ℕ) (n m : ℕ) → words_value (xs ++ drop n (replicate m 0)) ≡ words_value xs
+padded xs n m = words_append xs (drop n (replicate m 0)) (nothing_behind n m)
+
+-- a number that k words hold is in the first k
+pub in_first : (xs : List ℕ) (k : ℕ) → words_value xs < 2 ^ (128 * k) → words_value (take k xs) ≡ words_value xs
+unfolding words_value
+in_first [] zero h = refl
+in_first [] (suc k) h = refl
+in_first (x ∷ xs) zero h = omega arith
+in_first (x ∷ xs) (suc k) h =
+    let e : 128 * suc k ≡ 128 + 128 * k = omega arith in
+    let p : 2 ^ (128 * suc k) ≡ 2 ^ 128 * 2 ^ (128 * k) = ap (λ (m : ℕ). 2 ^ m) e ∙ pow-add 2 128 (128 * k) in
+    omega (arith, in_first xs k (omega arith))
 
 pub record Summed (a b c i : ℕ) (over : Bool) (zs : List ℕ) : Type 0 where
   pub shown : Shows (a + b + c) i zs

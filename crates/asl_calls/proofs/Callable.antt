@@ -3,7 +3,7 @@ use Rattle.std.proofs.Common.{◌≡◌, ◌∙◌, ℕ, List, [], map, Option, 
 use Rattle.asl_syn.specs.declared.tree.Decl.{Decl}
 use Rattle.asl_grammar.specs.Reading.{File, Reads}
 use Rattle.asl_rules.specs.private.Grown.{AreGrown}
-use Rattle.asl_rules.specs.declarations.Programs.{verdict}
+use Rattle.asl_rules.specs.declarations.Programs.{Entries, verdict}
 use Rattle.asl_rules.specs.Tests.{Tests}
 use Rattle.asl_rules.specs.declared.entry.Entry.TheVariants.{Main}
 use Rattle.asl_rules.proofs.basics.Inversions.{ok_ok, bind_ok}
@@ -24,12 +24,13 @@ pub has_callable_main : (ds : List Decl) (c : Sealed) → AreGrown ds → ((t : 
     → HasCallableMain c
 has_callable_main ds c grown checked = λ t u id is.
     let h = checked t u in
-    let b = bind_ok (verdict Main ds t) (λ a. Ok a.main) c.main h.1.1 in
+    let b = bind_ok (verdict Main ds t) (λ a. Ok a.entries) c.entries h.1.1 in
     let accepted = ap (λ e. verdict e c.decls t) h.1.0 ∙ ap (λ zs. verdict Main zs t) h.0 ∙ b.first in
-    main_callable t u c (subst AreGrown (sym h.0) grown) b.value accepted h.1.0 id (ok_ok b.value.main c.main b.then ∙ is)
+    main_callable t u c (subst AreGrown (sym h.0) grown) b.value accepted h.1.0 id
+    (ap (λ (n : Entries). n.main) (ok_ok b.value.entries c.entries b.then) ∙ is)
 
 -- the entry that the program tells, over no arguments
-pub callable_so : (c : Sealed) (entry : Option ℕ) (id : ℕ) (args : List Value) → HasCallableMain c → entry ≡ c.main → entry ≡ Some id
+pub callable_so : (c : Sealed) (entry : Option ℕ) (id : ℕ) (args : List Value) → HasCallableMain c → entry ≡ c.entries.main → entry ≡ Some id
     → args ≡ [] → (t : Tests) → Suits t → IsCallable t c id (map value_of args)
 callable_so c entry id args has told is none t u =
     subst (λ (xs : List Value). IsCallable t c id (map value_of xs)) (sym none) (has t u id (sym told ∙ is))

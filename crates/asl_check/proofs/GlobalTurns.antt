@@ -8,7 +8,7 @@ use Rattle.asl_syn.specs.declared.tree.Decl.{Decl}
 use Rattle.asl_syn.specs.declared.tree.Decl.TheVariants as dc
 use Rattle.asl_rules.specs.declared.entry.Entry.{Entry as Asked}
 use Rattle.asl_rules.specs.private.Grown.{AreGrown}
-use Rattle.asl_rules.specs.declarations.Programs.{verdict, accepted, Accepted}
+use Rattle.asl_rules.specs.declarations.Programs.{Entries, verdict, accepted, Accepted}
 use Rattle.asl_rules.specs.declarations.Scopes.{Entry, Signature, storage_of}
 use Rattle.asl_rules.specs.runs.States.{Binding}
 use Rattle.asl_rules.specs.runs.Evaluation.{global_in, globals_among, cons_some}
@@ -76,10 +76,10 @@ module _ (names : List Entry) where
 names_are : (t : Tests) (e : Asked) (ds : List Decl) (a : Accepted) → verdict e ds t ≡ Ok a → a.names ≡ names_of_program t ds
 names_are t e ds a h = sym (ap (λ (x : Accepted). x.names) (facts_of t e ds a h).is)
 
-pub sealed_by : (ds : List Decl) (e : Asked) (main : Option ℕ) (funcs : List TreeFunc) (globals : List Global) (subs : List Signature) (names : List Entry) →
-    AreGrown ds → ((t : Tests) → Suits t → verdict e ds t ≡ Ok (accepted e main subs (all_funcs funcs) names)) → cells_of globals ≡ cells_in (globals_among ds names) →
-    All (HasItsType names) globals → IsSealed ds e main funcs globals
-sealed_by ds e main funcs globals subs names grown v begins typed = λ t s. ∣ record {
+pub sealed_by : (ds : List Decl) (e : Asked) (found : Entries) (funcs : List TreeFunc) (globals : List Global) (subs : List Signature) (names : List Entry) →
+    AreGrown ds → ((t : Tests) → Suits t → verdict e ds t ≡ Ok (accepted e found subs (all_funcs funcs) names)) → cells_of globals ≡ cells_in (globals_among ds names) →
+    All (HasItsType names) globals → IsSealed ds e found funcs globals
+sealed_by ds e found funcs globals subs names grown v begins typed = λ t s. ∣ record {
   signatures = subs;
   names = names;
   grown = grown;

@@ -2,6 +2,7 @@
 
 ghost use Rattle.std.specs.Prelude.{◌≡◌, length, map, IfOk};
 ghost use Rattle.asl_rules.specs.private.Grown.{AreGrown};
+ghost use Rattle.asl_rules.specs.declarations.Programs.{entries};
 ghost use Rattle.asl_tree.specs.Sealed.{IsSealed};
 ghost use Rattle.asl_rules.specs.declarations.Programs.{verdict};
 ghost use Rattle.asl_decl.specs.Heads.{declared_with, heads_of};
@@ -9,11 +10,11 @@ ghost use Rattle.asl_check.specs.private.Bringing.{with_bodies, with_entry_found
 ghost use Rattle.asl_rules.specs.Tests.{Tests};
 ghost use Rattle.asl_types.specs.private.Answers.{Met};
 ghost use Rattle.asl_types.specs.Suits.{Suits};
-ghost use Rattle.asl_check.specs.private.Verdicts.{accepted_of, HasMain, IsVerdict};
+ghost use Rattle.asl_check.specs.private.Verdicts.{accepted_of, HasEntries, IsVerdict};
 
 use crate::bodies::check_bodies;
 use crate::globals::find_globals;
-use asl_decl::{Table, find_entry};
+use asl_decl::{Entries, Table, find_entries};
 use asl_rules::entry::Entry;
 use asl_subprograms::Subprograms;
 use asl_syn::code::Refused;
@@ -24,7 +25,7 @@ use asl_types::Scope;
 use sqlite_items::Items;
 use std::alloc::Global;
 
-/// A program that is well formed with its entry.
+/// A program that is well formed with its entries.
 #[derive(Drop)]
 pub struct Accepted<'a> {
     /// The names that are visible outside bodies.
@@ -33,11 +34,11 @@ pub struct Accepted<'a> {
     pub subs: Subprograms,
     /// Its subprograms with the typed trees of their bodies, in source order.
     pub funcs: Items<TreeFunc>,
-    /// The subprogram that is the entry, by its number in source order, from 0, where one is asked for.
-    pub main: Option<usize>,
+    /// The subprograms that are the entries, where they are asked for.
+    pub entries: Entries,
 }
 
-/// The bodies of a program with these signatures, and its entry.
+/// The bodies of a program with these signatures, and its entries.
 fn judge_bodies<'a>(
     alloc: Global,
     names: Scope<'a>,
@@ -49,16 +50,16 @@ fn judge_bodies<'a>(
 {
     let mut names = names;
     let trees = check_bodies(alloc, &mut names, &subs, funcs)?;
-    let main = find_entry(entry, &subs)?;
+    let entries = find_entries(entry, &subs)?;
     Ok(Accepted {
         names,
         subs,
         funcs: trees,
-        main,
+        entries,
     })
 }
 
-/// The bodies of a program whose declarations are well formed, and its entry. It is `judge_bodies`, with the clause
+/// The bodies of a program whose declarations are well formed, and its entries. It is `judge_bodies`, with the clause
 /// that `check_decls` needs.
 fn find_bodies<'a>(
     alloc: Global,
@@ -73,9 +74,9 @@ fn find_bodies<'a>(
     judge_bodies(alloc, names, subs, funcs, entry)
 }
 
-/// Checks declarations. They are accepted exactly where they are well formed with the entry that is asked for, and
+/// Checks declarations. They are accepted exactly where they are well formed with the entries that are asked for, and
 /// otherwise refused at their one fault. The phases come in order: names, declarations that reach themselves,
-/// declarations of types and storage, signatures, overloads, bodies, the entry. Want of memory says nothing.
+/// declarations of types and storage, signatures, overloads, bodies, the entries. Want of memory says nothing.
 #[tactic(auto, using(crate::proofs::BodyTurns::verdict_is))]
 pub fn check_decls<'a>(
     alloc: Global,
@@ -93,12 +94,13 @@ pub fn check_decls<'a>(
     find_bodies(alloc, names, subs, funcs.as_slice(), entry)
 }
 
-/// What is made of a program that is well formed: its subprograms with their typed trees, its globals, and its entry.
+/// What is made of a program that is well formed: its subprograms with their typed trees, its globals, and its entries.
 #[derive(Drop)]
 struct Made {
     funcs: Items<TreeFunc>,
     globals: Vec<Cell>,
     main: Option<SubId>,
+    entry16: Option<SubId>,
 }
 
 /// A subprogram by its number, where there is one.
@@ -114,26 +116,27 @@ fn numbered(main: Option<usize>) -> Option<SubId>
 /// What is made of declarations such as texts give, where they are well formed.
 fn make(alloc: Global, decls: &[Decl], entry: Entry) -> Result<Made, Refused>
     requires { AreGrown decls.now }
-    ensures rule { (t : Tests) → Suits t → HasMain (λ made. made.main) result (verdict entry decls.now t) }
-    ensures sealed { IfOk result (λ made. IsSealed decls.now entry made.main made.funcs made.globals.items) }
+    ensures rule { (t : Tests) → Suits t → HasEntries (λ made. entries made.main made.entry16) result (verdict entry decls.now t) }
+    ensures sealed { IfOk result (λ made. IsSealed decls.now entry (entries made.main made.entry16) made.funcs made.globals.items) }
 {
     let Accepted {
         names,
         subs: _subs,
         funcs,
-        main,
+        entries,
     } = check_decls(alloc, decls, entry)?;
     let globals = find_globals(alloc, decls, &names)?;
     Ok(Made {
         funcs,
         globals,
-        main: numbered(main),
+        main: numbered(entries.main),
+        entry16: numbered(entries.entry16),
     })
 }
 
 /// Checks a program such as texts give: each enumeration has a label, and storage has a type or an initialiser. That is less than
 /// being what some files are read to, and all that the rules and soundness rest on. The program is accepted, and sealed, exactly
-/// if it is well formed with the entry that is asked for, and otherwise refused at its one fault, by any right tests under the
+/// if it is well formed with the entries that are asked for, and otherwise refused at its one fault, by any right tests under the
 /// width limit. Want of memory says nothing.
 pub fn check(alloc: Global, program: Program, entry: Entry) -> Result<Checked, Refused>
     requires { AreGrown program.decls }
@@ -143,11 +146,13 @@ pub fn check(alloc: Global, program: Program, entry: Entry) -> Result<Checked, R
         funcs,
         globals,
         main,
+        entry16,
     } = make(alloc, program.decls.as_slice(), entry)?;
     Ok(Checked::seal(Parts {
         program,
         asked: entry,
         entry: main,
+        entry16,
         subs: funcs,
         globals,
     }))

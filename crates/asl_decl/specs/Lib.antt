@@ -1,3 +1,4 @@
+pub mod Entered
 pub mod Globals
 pub mod Heads
 pub mod private

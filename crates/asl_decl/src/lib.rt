@@ -12,6 +12,6 @@ mod signatures;
 mod table;
 
 pub use bodies::enter_body;
-pub use entry::find_entry;
+pub use entry::{Entries, find_entries};
 pub use globals::DeclId;
 pub use table::Table;

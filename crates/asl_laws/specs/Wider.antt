@@ -9,10 +9,10 @@ use Rattle.asl_rules.specs.declared.entry.Entry.{Entry}
 use Rattle.asl_rules.specs.declared.entry.Entry.TheVariants as entry
 use Rattle.asl_rules.specs.Tests.{Tests}
 use Rattle.asl_rules.specs.runs.Plans.{End, Faulted, Stuck, Outcome, Done, Thrown, Halt, starting}
-use Rattle.asl_rules.specs.declarations.Programs.{Environment, environment, Accepted, verdict}
+use Rattle.asl_rules.specs.declarations.Programs.{Environment, environment, Entries, Accepted, verdict}
 use Rattle.asl_rules.specs.runs.Machines.{run_of}
-use Rattle.asl_rules.specs.runs.Words.{WordsEnd, AllReturned, WordThrew, WordHalted, run_words}
-use Rattle.asl_rules.specs.report.WordList.{ListFault, words_read}
+use Rattle.asl_rules.specs.runs.Words.{WordsEnd, AllReturned, WordThrew, WordHalted, run_words, wanted}
+use Rattle.asl_rules.specs.report.WordList.{ListFault, Word, words_read}
 use Rattle.asl_rules.specs.runs.Evaluation.{initial_globals}
 use Rattle.asl_rules.specs.report.Made.{made_text}
 use Rattle.asl_rules.specs.report.Texts.{Text, File}
@@ -55,14 +55,13 @@ abbrev pub RunFits : Environment → ℕ → Option ℕ → Type 0
 RunFits env steps None = Unit {0}
 RunFits env steps (Some main) = NotTooWide (run_of env main [] (initial_globals env) (starting steps (Some [])))
 
--- its calls, one for each word
-abbrev pub WordsFit : Environment → ℕ → List ℕ → Option ℕ → Type 0
-WordsFit env steps words None = Unit {0}
-WordsFit env steps words (Some decode) = WordsNotTooWide (run_words env decode words (initial_globals env) (starting steps (Some [])))
+-- calls for words, one for each
+abbrev pub WordsFit : Environment → ℕ → List Word → Entries → Type 0
+WordsFit env steps words found = WordsNotTooWide (run_words env found words (initial_globals env) (starting steps (Some [])))
 
 -- files that were read to declarations which are accepted with this entry, and this holds of them
-abbrev pub Accepts : Tests → Entry → (List Decl → Option ℕ → Type 0) → Result (List Decl) Fault → Type 0
-Accepts t e P r = (ds : List Decl) × (a : Accepted) × (r ≡ Ok ds) × (verdict e ds t ≡ Ok a) × P ds a.main
+abbrev pub Accepts : Tests → Entry → (List Decl → Entries → Type 0) → Result (List Decl) Fault → Type 0
+Accepts t e P r = (ds : List Decl) × (a : Accepted) × (r ≡ Ok ds) × (verdict e ds t ≡ Ok a) × P ds a.entries
 
 -- where all source files were read, and where a word list has no fault
 abbrev pub OnFiles : Reading → (List File → Type 0) → Type 0
@@ -70,7 +69,7 @@ OnFiles (all files) P = P files
 OnFiles (long name) P = Unit {0}
 OnFiles many P = Unit {0}
 
-abbrev pub OnWords : Result (List ℕ) ListFault → (List ℕ → Type 0) → Type 0
+abbrev pub OnWords : Result (List Word) ListFault → (List Word → Type 0) → Type 0
 OnWords (Ok words) P = P words
 OnWords (Err f) P = Unit {0}
 
@@ -78,16 +77,16 @@ abbrev pub UnlessLong : Bool → Type 0 → Type 0
 UnlessLong true P = Unit {0}
 UnlessLong false P = P
 
-abbrev pub OnList : Text → (List ℕ → Type 0) → Type 0
+abbrev pub OnList : Text → (List Word → Type 0) → Type 0
 OnList bytes P = UnlessLong (is_long bytes) (OnWords (words_read bytes) P)
 
 -- what a command reads is accepted with its entry, and its run doesn't end with the fault D14
 abbrev pub Fits : Tests → Reader → Command → (Text → Text) → Type 0
 Fits t read usage held = Unit {0}
-Fits t read (check names) held = OnFiles (read_files held names) (λ files. Accepts t entry.None (λ ds main. Unit {0}) (read files))
+Fits t read (check names) held = OnFiles (read_files held names) (λ files. Accepts t entry.None (λ ds found. Unit {0}) (read files))
 Fits t read (run steps names) held = OnFiles (read_files held names)
-    (λ files. Accepts t entry.Main (λ ds main. RunFits (environment t ds) steps main) (read files))
+    (λ files. Accepts t entry.Main (λ ds found. RunFits (environment t ds) steps found.main) (read files))
 Fits t read (exec steps list names) held = OnFiles (read_files held names)
-    (λ files. OnList (held list) (λ words. Accepts t entry.Decode (λ ds main. WordsFit (environment t ds) steps words main) (read files)))
-Fits t read (self number size) held = Accepts t entry.Main (λ ds main. RunFits (environment t ds) default_steps main)
+    (λ files. OnList (held list) (λ words. Accepts t (wanted words) (λ ds found. WordsFit (environment t ds) steps words found) (read files)))
+Fits t read (self number size) held = Accepts t entry.Main (λ ds found. RunFits (environment t ds) default_steps found.main)
     (read (made_file (made_text number size) ∷ []))

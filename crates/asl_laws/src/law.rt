@@ -16,7 +16,7 @@ ghost use Rattle.asl_rules.specs.declarations.Names.{names_rule, all_declared};
 ghost use Rattle.asl_laws.specs.OneRun.{OneRun};
 ghost use Rattle.asl_rules.specs.runs.Plans.{Meter};
 ghost use Rattle.asl_rules.specs.declarations.Declarations.{names_of_program};
-ghost use Rattle.asl_rules.specs.declarations.Programs.{Head, funcs_of, signatures, signatures_rule, Environment, Accepted, ProgramOk, FaultOf, environment, verdict, signature_rule};
+ghost use Rattle.asl_rules.specs.declarations.Programs.{Head, funcs_of, signatures, signatures_rule, Environment, Entries, Accepted, ProgramOk, FaultOf, environment, verdict, signature_rule};
 ghost use Rattle.asl_rules.specs.declarations.Scopes.{Entry as Names, Scope, Body, is_free, type_of_name};
 ghost use Rattle.asl_rules.specs.statements.Acting.{Done};
 ghost use Rattle.asl_rules.specs.statements.Branches.{index_type, with_index, with_caught};
@@ -34,6 +34,7 @@ ghost use Rattle.asl_rules.specs.report.Texts.{Text};
 ghost use Rattle.asl_rules.specs.types.Types.{Ty, kind, kind_eq, same_kind};
 ghost use Rattle.asl_rules.specs.values.Values.{Value};
 ghost use Rattle.asl_rules.specs.private.WellFormed.{Shaped, WellDeclared};
+ghost use Rattle.asl_rules.specs.report.WordList.{Word};
 ghost use Rattle.asl_rules.specs.runs.Words.{run_words};
 ghost use Rattle.asl_rules.specs.declared.entry.Entry.{Entry};
 ghost use Rattle.asl_syn.specs.Command.{Command};
@@ -110,7 +111,7 @@ pub fn law3()
 pub fn law5()
     ensures derivation { (l m : ℕ) → l ≤ m → (e : Entry) (files : List File) (a : Accepted) → FilesOk l e files a → FilesOk m e files a }
     ensures run { (t u : Tests) → IsRight t → IsRight u → t.limit ≤ u.limit → (e : Entry) (ds : List Decl) (a : Accepted) → verdict e ds t ≡ Ok a → (id : ℕ) (args : List Value) (globals : List Binding) (h : Meter) → FitsLimit (run_of (environment t ds) id args globals h) → run_of (environment u ds) id args globals h ≡ run_of (environment t ds) id args globals h }
-    ensures words { (t u : Tests) → IsRight t → IsRight u → t.limit ≤ u.limit → (e : Entry) (ds : List Decl) (a : Accepted) → verdict e ds t ≡ Ok a → (id : ℕ) (words : List ℕ) (globals : List Binding) (h : Meter) → WordsFitLimit (run_words (environment t ds) id words globals h) → run_words (environment u ds) id words globals h ≡ run_words (environment t ds) id words globals h }
+    ensures words { (t u : Tests) → IsRight t → IsRight u → t.limit ≤ u.limit → (e : Entry) (ds : List Decl) (a : Accepted) → verdict e ds t ≡ Ok a → (entries : Entries) (words : List Word) (globals : List Binding) (h : Meter) → WordsFitLimit (run_words (environment t ds) entries words globals h) → run_words (environment u ds) entries words globals h ≡ run_words (environment t ds) entries words globals h }
     ensures report { (t u : Tests) → IsRight t → IsRight u → t.limit ≤ u.limit → (read other : Reader) → IsReadingAt t.limit read → IsReadingAt u.limit other → (command : Command) (held : Text → Text) → Fits t read command held → report_of u other command held ≡ report_of t read command held }
     ensures one_limit { max_width ≡ WIDTH_LIMIT }
 {}
@@ -158,8 +159,8 @@ pub fn environment_law()
 {}
 
 /// No report is put together from a stuck run (`never_stuck`). Where files are read to declarations that are accepted with the entry
-/// `main` or `decode`, the entry is there; with any number of steps the run of `main`, which `run` and `self` report, isn't stuck, and
-/// for any words neither are the calls of `decode`, which `exec` reports.
+/// `main`, it is there, and with any number of steps its run, which `run` and `self` report, isn't stuck. For any words, where they are
+/// accepted with the entries that these need, neither are the calls of `decode` and `decode16`, which `exec` reports.
 #[tactic(auto)]
 pub fn run_law()
     ensures never_stuck { (t : Tests) → IsRight t → (files : List File) (ds : List Decl) → ReadsAt t.limit files (Ok ds) → RunsWell t ds }
@@ -183,7 +184,7 @@ pub fn visit_law()
 #[tactic(auto)]
 pub fn budget_law()
     ensures more_steps { (env : Environment) (id : ℕ) (args : List Value) (globals : List Binding) (h : Meter) (k : ℕ) → SameWithMore k (run_of env id args globals (with_more k h)) (run_of env id args globals h) }
-    ensures words { (env : Environment) (id : ℕ) (words : List ℕ) (globals : List Binding) (h : Meter) (k : ℕ) → SameWordsWithMore k (run_words env id words globals (with_more k h)) (run_words env id words globals h) }
+    ensures words { (env : Environment) (entries : Entries) (words : List Word) (globals : List Binding) (h : Meter) (k : ℕ) → SameWordsWithMore k (run_words env entries words globals (with_more k h)) (run_words env entries words globals h) }
 {}
 
 /// Widths over plain integers, which no limit bounds. Where names stand for integers that agree with what stands there, a width has the

@@ -20,7 +20,7 @@ use std::marker::Model;
 pub const MAX_LEXEMES: u32 = 200_000;
 
 /// The width limit: the most digits that a bitvector literal or a mask may have.
-pub const MAX_WIDTH: usize = 128;
+pub const MAX_WIDTH: usize = 2_048;
 
 /// Whether a name begins with two underscores.
 fn is_reserved(text: &[u8]) -> bool

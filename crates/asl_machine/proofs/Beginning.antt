@@ -89,17 +89,17 @@ room_begun (g ∷ gs) = ap (λ n. suc n) (room_begun gs)
 values_begun : (t : Tests) (c : Sealed) (gs : List Global) → cells_of gs ≡ cells_in (initial_of t c) → map value_of (given (marks_of gs) (values_in gs) (vars_from gs)) ≡ values_at (cells_in (initial_of t c))
 values_begun t c gs e = ap (λ xs. map value_of xs) (given_begun gs) ∙ values_by gs ∙ ap values_at e
 
-pub begun_is : (c : Sealed) (fs : List TreeFunc) (gs : List Global) → IsSealed c.decls c.asked c.main fs gs → IsInitial c (given (marks_of gs) (values_in gs) (vars_from gs))
+pub begun_is : (c : Sealed) (fs : List TreeFunc) (gs : List Global) → IsSealed c.decls c.asked c.entries fs gs → IsInitial c (given (marks_of gs) (values_in gs) (vars_from gs))
 begun_is c fs gs s = λ t r. ap (λ xs. with_values (initial_of t c) xs) (∥∥₁_elim (s t r) (values_set _ _) (λ m. values_begun t c gs m.begins)) ∙ with_bound (initial_of t c)
 
-pub begun_arranged : (c : Sealed) (fs : List TreeFunc) (gs : List Global) → IsSealed c.decls c.asked c.main fs gs → Arranged c (marks_of gs) (values_in gs) (vars_from gs)
+pub begun_arranged : (c : Sealed) (fs : List TreeFunc) (gs : List Global) → IsSealed c.decls c.asked c.entries fs gs → Arranged c (marks_of gs) (values_in gs) (vars_from gs)
 begun_arranged c fs gs s = λ t r. ∥∥₁_map (s t r) (λ m. record {
   marks_are = marks_by gs ∙ ap marks_in m.begins ∙ marks_bound (initial_of t c);
   names_are = names_by gs ∙ ap names_at m.begins ∙ names_bound (initial_of t c);
   room = room_begun gs;
 })
 
-pub begun_held : (c : Sealed) (fs : List TreeFunc) (gs : List Global) → IsSealed c.decls c.asked c.main fs gs → HoldStorage c (given (marks_of gs) (values_in gs) (vars_from gs))
+pub begun_held : (c : Sealed) (fs : List TreeFunc) (gs : List Global) → IsSealed c.decls c.asked c.entries fs gs → HoldStorage c (given (marks_of gs) (values_in gs) (vars_from gs))
 begun_held c fs gs s = λ t r. ∥∥₁_map (s t r) (λ m.
     let sound = soundness t r.right c.decls _ (facts_of t c.asked c.decls _ m.accepts) m.grown in
     record { accepted = _; is = m.accepts; match = subst (λ bs. GlobalsMatch m.names bs) (sym (begun_is c fs gs s t r)) sound.0.initial })

@@ -64,7 +64,7 @@ named_is c old between new begun ended m n t u =
     ap names m.vars_back ∙ same_names between.marks.items ended.globals.items between.vars.items ∙ ap names m.vars ∙
     same_names old.marks.items old.values.items old.vars.items ∙ n t u
 
-module _ (c : Sealed) (fs : List TreeFunc) (gs : List Global) (sealed : IsSealed c.decls c.asked c.main fs gs) (id : ℕ) (args : List rules.Value) (call : (t : Tests) → Suits t → IsCallable t c id args)
+module _ (c : Sealed) (fs : List TreeFunc) (gs : List Global) (sealed : IsSealed c.decls c.asked c.entries fs gs) (id : ℕ) (args : List rules.Value) (call : (t : Tests) → Suits t → IsCallable t c id args)
     (old between new : Memory) (begun ended : Run) (a : arranged c old) (h : held c old) (m : Moved old between new begun ended) (told told1 : Option (List ℕ)) (result : Result (Option Value) Stop)
     (number : ℕ) (same : number ≡ id) (is_open : Bool) (opened : new.text_open ≡ is_open)
     (ran : RanNoted (λ own. Runs (option_map value_of) result fs most_open (tree_call (program_of fs) number args) begun (Some []) ended own) told told1 is_open) where

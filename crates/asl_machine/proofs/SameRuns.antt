@@ -52,9 +52,9 @@ record Known (t : Tests) (c : Sealed) (fs : List TreeFunc) (id : ℕ) (args : Li
   trees : accepted.funcs ≡ all_funcs fs
   is : verdict c.asked c.decls t ≡ Ok accepted
 
-known : (t : Tests) (r : Suits t) (c : Sealed) (fs : List TreeFunc) (gs : List Global) (id : ℕ) (args : List rules.Value) (values : List Value) → IsMade t c.decls c.asked c.main fs gs → IsHeld t c values → IsCallable t c id args → Known t c fs id args values
+known : (t : Tests) (r : Suits t) (c : Sealed) (fs : List TreeFunc) (gs : List Global) (id : ℕ) (args : List rules.Value) (values : List Value) → IsMade t c.decls c.asked c.entries fs gs → IsHeld t c values → IsCallable t c id args → Known t c fs id args values
 known t r c fs gs id args values m h k =
-    let a : Accepted = accepted c.asked c.main m.signatures (all_funcs fs) m.names in
+    let a : Accepted = accepted c.asked c.entries m.signatures (all_funcs fs) m.names in
     let both = soundness t r.right c.decls a (facts_of t c.asked c.decls a m.accepts) m.grown in
     let mine : h.accepted ≡ a = ok_ok h.accepted a (sym h.is ∙ m.accepts) in
     let its : k.accepted ≡ a = ok_ok k.accepted a (sym k.is ∙ m.accepts) in
@@ -81,7 +81,7 @@ program_is t r a fs e = ap (λ n. record { funcs = a.funcs; limit = n }) r.limit
 abbrev Same : Tests → Sealed → List TreeFunc → ℕ → List rules.Value → List Value → Type 0
 Same t c fs id args values = (h : Meter) → tree_run (program_of fs) id args (erased (resting (globals_with t c values))) h ≡ erased_outcome (run_of (environment t c.decls) id args (globals_with t c values) h)
 
-same_run : (t : Tests) → Suits t → (c : Sealed) (fs : List TreeFunc) (gs : List Global) → IsSealed c.decls c.asked c.main fs gs → (id : ℕ) (args : List rules.Value) (values : List Value) → HoldStorage c values → IsCallable t c id args → Same t c fs id args values
+same_run : (t : Tests) → Suits t → (c : Sealed) (fs : List TreeFunc) (gs : List Global) → IsSealed c.decls c.asked c.entries fs gs → (id : ℕ) (args : List rules.Value) (values : List Value) → HoldStorage c values → IsCallable t c id args → Same t c fs id args values
 same_run t r c fs gs sealed id args values held call h =
     ∥∥₁_elim (sealed t r) (outcome_set _ _) (λ m. ∥∥₁_elim (held t r) (outcome_set _ _) (λ d.
     let k = known t r c fs gs id args values m d call in
@@ -91,7 +91,7 @@ same_run t r c fs gs sealed id args values held call h =
 not_stuck : (r : Outcome Core (Option rules.Value)) (m : Mistake) (span : Span) (c : Core) (k : Meter) → NotStuck r → r ≡ Halt (Stuck m span) c k → ⊥
 not_stuck r m span c k n e = subst NotStuck e n
 
-stuck_never : (t : Tests) → Suits t → (c : Sealed) (fs : List TreeFunc) (gs : List Global) → IsSealed c.decls c.asked c.main fs gs → (id : ℕ) (args : List rules.Value) (values : List Value) → HoldStorage c values → IsCallable t c id args →
+stuck_never : (t : Tests) → Suits t → (c : Sealed) (fs : List TreeFunc) (gs : List Global) → IsSealed c.decls c.asked c.entries fs gs → (id : ℕ) (args : List rules.Value) (values : List Value) → HoldStorage c values → IsCallable t c id args →
     (h : Meter) (m : Mistake) (span : Span) (core : Core) (k : Meter) → run_of (environment t c.decls) id args (globals_with t c values) h ≡ Halt (Stuck m span) core k → ⊥
 stuck_never t r c fs gs sealed id args values held call h m span core k e =
     ∥∥₁_elim (sealed t r) ⊥_prop (λ p. ∥∥₁_elim (held t r) ⊥_prop (λ d.
@@ -179,7 +179,7 @@ met_over t c fs id args values n begun ended b told told1 result met =
     (subst (λ z. met_at z (meter_of begun told)) (begun_core t c begun values b n) met)
 
 -- over the values of storage, a call of the typed trees ends as the program's does
-pub call_meets : (t : Tests) → Suits t → (c : Sealed) (fs : List TreeFunc) (gs : List Global) → IsSealed c.decls c.asked c.main fs gs → (id : ℕ) (args : List rules.Value) (values : List Value) → HoldStorage c values → IsCallable t c id args →
+pub call_meets : (t : Tests) → Suits t → (c : Sealed) (fs : List TreeFunc) (gs : List Global) → IsSealed c.decls c.asked c.entries fs gs → (id : ℕ) (args : List rules.Value) (values : List Value) → HoldStorage c values → IsCallable t c id args →
     length (map value_of values) ≡ length (initial_of t c) → (begun ended : Run) → Begins begun values → (after : List Value) → after ≡ ended.globals.items → (told told1 : Option (List ℕ)) (result : Result (Option Value) Stop) →
     Runs (option_map value_of) result fs most_open (tree_call (program_of fs) id args) begun told ended told1 →
     CallMeets result (globals_with t c after) (meter_of ended told1) (run_over t c id args values begun.steps told) (GivenUp (text_over t c id args values told) told told1 begun.steps (begun.steps - ended.steps))
@@ -222,7 +222,7 @@ call_meets t r c fs gs sealed id args values held call n begun ended b after sam
         stuck (initial_of t c) o (mistake_of mistake) span bare h1 kept (sym (is_same (starting begun.steps told)) ∙ e) (λ core is. stuck_never t r c fs gs sealed id args values held call (starting begun.steps told) (mistake_of mistake) span core h1 is)
 
 -- it gives no step back, nor takes more than the whole call of the program takes
-pub call_steps : (t : Tests) → Suits t → (c : Sealed) (fs : List TreeFunc) (gs : List Global) → IsSealed c.decls c.asked c.main fs gs →
+pub call_steps : (t : Tests) → Suits t → (c : Sealed) (fs : List TreeFunc) (gs : List Global) → IsSealed c.decls c.asked c.entries fs gs →
     (id : ℕ) (args : List rules.Value) (values : List Value) → HoldStorage c values → IsCallable t c id args →
     length (map value_of values) ≡ length (initial_of t c) → (begun ended : Run) → Begins begun values → (told told1 : Option (List ℕ)) (result : Result (Option Value) Stop) →
     Runs (option_map value_of) result fs most_open (tree_call (program_of fs) id args) begun told ended told1 →
@@ -254,14 +254,14 @@ call_steps t r c fs gs sealed id args values held call n begun ended b told told
 
 -- ---- the storage after it
 
-held_for : (t : Tests) (r : Suits t) (c : Sealed) (fs : List TreeFunc) (gs : List Global) (id : ℕ) (args : List rules.Value) (values after : List Value) → IsMade t c.decls c.asked c.main fs gs → IsHeld t c values → IsCallable t c id args →
+held_for : (t : Tests) (r : Suits t) (c : Sealed) (fs : List TreeFunc) (gs : List Global) (id : ℕ) (args : List rules.Value) (values after : List Value) → IsMade t c.decls c.asked c.entries fs gs → IsHeld t c values → IsCallable t c id args →
     (h h1 : Meter) (x : Option rules.Value) → run_of (environment t c.decls) id args (globals_with t c values) h ≡ Done x (resting (globals_with t c after)) h1 → IsHeld t c after
 held_for t r c fs gs id args values after m d call h h1 x e =
     let k = known t r c fs gs id args values m d call in
     record { accepted = k.accepted; is = k.is; match = done_keeps k.accepted.names (run_of (environment t c.decls) id args (globals_with t c values) h) x (resting (globals_with t c after)) h1 (k.sound.keeps_globals id args (globals_with t c values) h k.call) e }
 
 -- where it returned, the storage is as the program declares it
-pub returned_held : (c : Sealed) (fs : List TreeFunc) (gs : List Global) → IsSealed c.decls c.asked c.main fs gs → (id : ℕ) (args : List rules.Value) (values after : List Value) → HoldStorage c values → ((t : Tests) → Suits t → IsCallable t c id args) →
+pub returned_held : (c : Sealed) (fs : List TreeFunc) (gs : List Global) → IsSealed c.decls c.asked c.entries fs gs → (id : ℕ) (args : List rules.Value) (values after : List Value) → HoldStorage c values → ((t : Tests) → Suits t → IsCallable t c id args) →
     (steps : ℕ) (told : Option (List ℕ)) (h1 : Meter) (P : Tests → Type 0) (result : Result (Option Value) Stop) →
     ((t : Tests) → Suits t → CallMeets result (globals_with t c after) h1 (run_over t c id args values steps told) (P t)) → OnOk result (HoldStorage c after)
 returned_held c fs gs sealed id args values after held call steps told h1 P (Ok x) e =
@@ -274,7 +274,7 @@ room_in bs (Done x c h) k = same_length bs c.globals k
 room_in bs (Thrown x c h) k = same_length bs c.globals k
 room_in bs (Halt e c h) k = same_length bs c.globals k
 
-pub room_after : (t : Tests) → Suits t → (c : Sealed) (fs : List TreeFunc) (gs : List Global) → IsSealed c.decls c.asked c.main fs gs → (id : ℕ) (args : List rules.Value) (values : List Value) → HoldStorage c values → IsCallable t c id args →
+pub room_after : (t : Tests) → Suits t → (c : Sealed) (fs : List TreeFunc) (gs : List Global) → IsSealed c.decls c.asked c.entries fs gs → (id : ℕ) (args : List rules.Value) (values : List Value) → HoldStorage c values → IsCallable t c id args →
     length (map value_of values) ≡ length (initial_of t c) → (begun ended : Run) → Begins begun values → (told told1 : Option (List ℕ)) (result : Result (Option Value) Stop) →
     Runs (option_map value_of) result fs most_open (tree_call (program_of fs) id args) begun told ended told1 → IfRan result (length (map value_of ended.globals.items) ≡ length (initial_of t c))
 room_after t r c fs gs sealed id args values held call n begun ended b told told1 result met = by result (met)

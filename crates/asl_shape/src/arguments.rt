@@ -3,8 +3,8 @@ ghost use Rattle.std.specs.Prelude.{◌≡◌, map, option_map};
 ghost use Rattle.asl_value.specs.View.{value_of};
 ghost use Rattle.asl_shape.specs.private.Arguments as given;
 
-use asl_bits::Bits;
 use asl_value::Value;
+use asl_vector::Vector;
 
 /// The integer that a value is.
 pub(crate) fn integer_in(value: &Value) -> Option<i128>
@@ -17,18 +17,18 @@ pub(crate) fn integer_in(value: &Value) -> Option<i128>
 }
 
 /// The bits that a value is.
-fn bits_in(value: &Value) -> Option<&Bits>
+fn bits_in(value: &Value) -> Option<&Vector>
     ensures { option_map (λ b. b.now) result ≡ given.bits_in (value_of value.now) }
 {
     match value {
-        Value::Bits(bits, _) => Some(bits.get()),
+        Value::Bits(bits, _) => Some(bits),
         _ => None,
     }
 }
 
 /// Bits alone.
 #[tactic(auto, using(crate::proofs::Given::not_one_bits, crate::proofs::Given::one_bits_is))]
-pub(crate) fn one_bits(values: &[Value]) -> Option<&Bits>
+pub(crate) fn one_bits(values: &[Value]) -> Option<&Vector>
     ensures { option_map (λ b. b.now) result ≡ given.one_bits (map value_of values.now) }
 {
     if values.len() != 1 {
@@ -74,7 +74,7 @@ pub(crate) fn two_integers(values: &[Value]) -> Option<(i128, i128)>
 
 /// Bits alone, and nothing beside them.
 #[tactic(auto, using(crate::proofs::Given::beside_none, crate::proofs::Given::beside_some))]
-pub(crate) fn bits_alone<'v>(beside: &[Value], values: &'v [Value]) -> Option<&'v Bits>
+pub(crate) fn bits_alone<'v>(beside: &[Value], values: &'v [Value]) -> Option<&'v Vector>
     ensures { option_map (λ b. b.now) result ≡ given.beside_nothing (map value_of beside.now) (given.one_bits (map value_of values.now)) }
 {
     if beside.is_empty() {

@@ -11,10 +11,10 @@ ghost use Rattle.asl_shape.specs.private.Having.{has_field};
 
 use crate::kinds::{count, kind_is};
 use crate::numbers::{is_in, number_of};
-use asl_bits::Bits;
 use asl_cons::Part;
 use asl_types::{FieldType, Form, Ty};
 use asl_value::{FieldValue, Name, Supers, Value, is_among, reaches, same_name};
+use asl_vector::Vector;
 
 /// Whether a value is of the kind of a type, has its widths, lies in its constraints, and reaches its names, part by part. In
 /// the type no name of a body stands.
@@ -87,14 +87,14 @@ pub(crate) fn bits_belong(x: &Value, width: i128) -> bool
     ensures { (u : View) → result ≡ rules.has (value_of x.now) (cl.bits_of width u) }
 {
     match x {
-        Value::Bits(bits, _) => is_wide(bits.get(), width),
+        Value::Bits(bits, _) => is_wide(bits, width),
         _ => false,
     }
 }
 
 /// Whether bits have a width.
 #[tactic(auto, using(crate::proofs::Having::width_is))]
-fn is_wide(bits: &Bits, width: i128) -> bool
+fn is_wide(bits: &Vector, width: i128) -> bool
     ensures { result ≡ rules.is_width (length bits.now) width }
 {
     bits.width() as i128 == width

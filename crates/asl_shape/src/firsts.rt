@@ -78,8 +78,8 @@ pub(crate) fn first_bits(
 ) -> Result<Value, Failure>
     ensures { Is value_of result (rules.first_bits WIDTH_LIMIT span width view.now) }
 {
-    match copied(false, width) {
-        Some(bits) => Ok(Value::Bits(Shared::new(alloc, bits)?, Some(view.share()?))),
+    match copied(alloc, false, width)? {
+        Some(bits) => Ok(Value::Bits(bits, Some(view.share()?))),
         None => Err(Failure::Fault(DynCode::D14, span)),
     }
 }

@@ -1,5 +1,5 @@
 //! What the subprograms of the library give.
-ghost use Rattle.std.specs.Prelude.{◌≡◌, map};
+ghost use Rattle.std.specs.Prelude.{◌≡◌, map, IfOk};
 ghost use Rattle.asl_bits.specs.declared.TheConstants.{WIDTH_LIMIT};
 ghost use Rattle.asl_rules.specs.values.Library as rules;
 ghost use Rattle.asl_rules.specs.values.Operators.{integer_of, same_bool};
@@ -12,11 +12,12 @@ ghost use Rattle.asl_shape.specs.View.{routine_of};
 use crate::arguments::{bits_alone, integer_alone, one_bits, one_integer, two_alone};
 use crate::matching::is_at_most;
 use crate::routines::Routine;
-use asl_bits::{Bits, BitsRefused};
+use asl_bits::BitsRefused;
 use asl_syn::code::DynCode;
 use asl_syn::token::Span;
 use asl_value::{Failure, Value, literal, plain_bits};
-use std::alloc::Global;
+use asl_vector::Vector;
+use std::alloc::{AllocError, Global};
 
 /// What a subprogram of the library gives, with its parameters and its arguments: D01 past the integers, D14 past
 /// `WIDTH_LIMIT`, and D08 where bits would be extended to fewer.
@@ -183,26 +184,26 @@ fn ones(alloc: Global, span: Span, params: &[Value], args: &[Value]) -> Result<V
 fn copies(alloc: Global, span: Span, bit: bool, width: i128) -> Result<Value, Failure>
     ensures { Is value_of result (rules.copies WIDTH_LIMIT span bit width) }
 {
-    match copied(bit, width) {
-        Some(bits) => Ok(plain_bits(alloc, bits)?),
+    match copied(alloc, bit, width)? {
+        Some(bits) => Ok(plain_bits(bits)),
         None => Err(Failure::Fault(DynCode::D14, span)),
     }
 }
 
 /// So many copies of a bit, up to `WIDTH_LIMIT`.
 #[tactic(auto, using(crate::proofs::LibraryBits::copied_is))]
-pub(crate) fn copied(bit: bool, width: i128) -> Option<Bits>
-    ensures { result ≡ bits.copied WIDTH_LIMIT bit width }
+pub(crate) fn copied(alloc: Global, bit: bool, width: i128) -> Result<Option<Vector>, AllocError>
+    ensures { IfOk result (λ it. it ≡ bits.copied WIDTH_LIMIT bit width) }
 {
     if bit {
-        kept(Bits::ones(width))
+        Ok(kept(Vector::ones(alloc, width)?))
     } else {
-        kept(Bits::zeros(width))
+        Ok(kept(Vector::zeros(alloc, width)?))
     }
 }
 
 /// The bits, where there are some.
-fn kept(r: Result<Bits, BitsRefused>) -> Option<Bits>
+fn kept(r: Result<Vector, BitsRefused>) -> Option<Vector>
     ensures { result ≡ bits.kept r }
 {
     match r {
@@ -258,19 +259,19 @@ fn extended(
     span: Span,
     signed: bool,
     width: i128,
-    bits: &Bits,
+    bits: &Vector,
 ) -> Result<Value, Failure>
     ensures { Is value_of result (rules.extended WIDTH_LIMIT span signed width bits.now) }
 {
-    made(alloc, span, bits.extend(width, signed))
+    made(span, bits.extend(alloc, width, signed)?)
 }
 
 /// Bits that were extended, or the fault.
-fn made(alloc: Global, span: Span, r: Result<Bits, BitsRefused>) -> Result<Value, Failure>
+fn made(span: Span, r: Result<Vector, BitsRefused>) -> Result<Value, Failure>
     ensures { Is value_of result (bits.extension span r) }
 {
     match r {
-        Ok(more) => Ok(plain_bits(alloc, more)?),
+        Ok(more) => Ok(plain_bits(more)),
         Err(BitsRefused::OutOfRange) => Err(Failure::Fault(DynCode::D08, span)),
         Err(BitsRefused::TooWide) => Err(Failure::Fault(DynCode::D14, span)),
         Err(BitsRefused::Overflow) => Err(Failure::Fault(DynCode::D14, span)),
@@ -303,7 +304,7 @@ fn is_ones(span: Span, params: &[Value], args: &[Value]) -> Result<Value, Failur
 
 /// Whether each of some bits is this bit.
 #[tactic(auto, using(crate::proofs::LibraryBits::equal_on, crate::proofs::LibraryBits::equal_off, crate::proofs::LibraryBits::equal_end))]
-fn all_equal(bit: bool, bits: &Bits) -> bool
+fn all_equal(bit: bool, bits: &Vector) -> bool
     ensures { result ≡ rules.all_equal bit bits.now }
 {
     for place in 0..bits.width() {

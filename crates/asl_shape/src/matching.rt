@@ -204,7 +204,7 @@ fn masked(
         (rules.mask_match span (digits_of mask.now) (value_of x.now) (values_from values.now at)) }
 {
     match x {
-        Value::Bits(bits, _) => match mask.matches(bits.get()) {
+        Value::Bits(bits, _) => match mask.matches(bits) {
             Some(holds) => Ok(Matched { holds, next: at }),
             None => Err(Failure::WrongKind(span)),
         },

@@ -14,7 +14,7 @@ pub fn width_of_bits(value: &Value) -> Option<Value>
     ensures { option_map value_of result ≡ width_rule (value_of value.now) }
 {
     match value {
-        Value::Bits(bits, _) => Some(Value::Int(bits.get().width() as i128)),
+        Value::Bits(bits, _) => Some(Value::Int(bits.width() as i128)),
         _ => None,
     }
 }

@@ -73,10 +73,14 @@ const FACTS: &[Fact] = &[
     Fact::SliceOfInteger(-8, 1000, 4, Some(15)),
     Fact::SliceOfInteger(6, 1, 2, Some(3)),
     Fact::SliceOfInteger(6, -1, 2, None),
+    Fact::Slice(-1, 2_048, 1_984, 64, Ok(ONES_64)),
+    Fact::Slice(-2, 129, 0, 127, Ok(i128::MAX - 1)),
     Fact::Zeros(5, Ok(0)),
     Fact::Zeros(-1, Err(BitsRefused::TooWide)),
     Fact::Ones(TOO_MANY, Err(BitsRefused::TooWide)),
     Fact::Ones(128, Ok(-1)),
+    Fact::Ones(129, Ok(-1)),
+    Fact::Ones(2_048, Ok(-1)),
 ];
 
 fn facts() -> &'static [Fact] {

@@ -1,6 +1,5 @@
 //! The texts of values, which come from outside, operators on labels, and replacements in values with one owner and several.
 //! A value is held where another call may fail, since its drop is then one call.
-use asl_bits::Bits;
 use asl_cons::Cons;
 use asl_io::MemSink;
 use asl_shape::{FieldGiven, construct};
@@ -14,6 +13,7 @@ use asl_value::{
     field_in, leaves_open, literal, literal_bits, part_in, plain_bits, replace, show, truth, tuple,
     unary,
 };
+use asl_vector::Vector;
 use sqlite_items::Items;
 use std::alloc::{AllocError, Global};
 
@@ -260,8 +260,8 @@ fn second_element(alloc: Global) -> Result<Value, Failure> {
 
 /// The bits of a number.
 fn bits(alloc: Global, number: i128, width: i128) -> Result<Value, Failure> {
-    match Bits::from_int(number, width) {
-        Ok(bits) => Ok(plain_bits(alloc, bits)?),
+    match Vector::from_int(alloc, number, width)? {
+        Ok(bits) => Ok(plain_bits(bits)),
         Err(_) => Err(Failure::WrongKind(HERE)),
     }
 }

@@ -11,7 +11,7 @@ use Rattle.asl_rules.specs.private.Grown.{AreGrown}
 use Rattle.asl_rules.specs.Tests.{Tests}
 use Rattle.asl_rules.specs.declarations.Scopes.{Signature, Storage, storage_of}
 use Rattle.asl_rules.specs.declarations.Scopes as scopes
-use Rattle.asl_rules.specs.declarations.Programs.{verdict, accepted, environment}
+use Rattle.asl_rules.specs.declarations.Programs.{Entries, entries, verdict, accepted, environment}
 use Rattle.asl_rules.specs.values.Values as values
 use Rattle.asl_rules.specs.runs.States.{Binding}
 use Rattle.asl_rules.specs.runs.Evaluation.{initial_globals}
@@ -22,19 +22,25 @@ use Rattle.asl_tree.specs.declared.act.TreeFunc.{TreeFunc}
 use Rattle.asl_tree.specs.declared.checked.Global.{Global}
 use Rattle.asl_tree.specs.declared.checked.Parts.{Parts}
 
--- the declarations, the entry that was asked for, and the number of the subprogram that it is, where one was asked for
+-- the declarations, the entries that were asked for, and the numbers of the subprograms that they are, where they were asked for
 pub record Sealed : Type 0 where
   pub decls : List Decl
   pub asked : Entry
-  pub main : Option ℕ
+  pub entries : Entries
+
+abbrev pub entries_code : Coded Entries
+entries_code = code_by (Option ℕ × Option ℕ) (coded× (coded_option coded_ℕ) (coded_option coded_ℕ)) (λ n. (n.main, n.entry16)) (λ p. entries p.0 p.1) (λ _. refl)
 
 abbrev pub sealed_code : Coded Sealed
-sealed_code = code_by (List Decl × (Entry × Option ℕ)) (coded× (coded_list the_row.coded) (coded× entry.the_row.coded (coded_option coded_ℕ)))
-    (λ s. (s.decls, (s.asked, s.main))) (λ p. record { decls = p.0; asked = p.1.0; main = p.1.1 }) (λ _. refl)
+sealed_code = code_by (List Decl × (Entry × Entries)) (coded× (coded_list the_row.coded) (coded× entry.the_row.coded entries_code))
+    (λ s. (s.decls, (s.asked, s.entries))) (λ p. record { decls = p.0; asked = p.1.0; entries = p.1.1 }) (λ _. refl)
+
+abbrev pub entries_of : Parts → Entries
+entries_of p = entries p.entry p.entry16
 
 -- what parts are sealed to
 abbrev pub sealed_of : Parts → Sealed
-sealed_of p = record { decls = p.program.decls; asked = p.asked; main = p.entry }
+sealed_of p = record { decls = p.program.decls; asked = p.asked; entries = entries_of p }
 
 -- global storage: its name, its value, and whether it can be assigned
 pub record Cell : Type 0 where
@@ -58,16 +64,16 @@ cells_of gs = map cell_of gs
 abbrev pub HasItsType : List scopes.Entry → Global → Type 0
 HasItsType names g = option_map (λ (s : Storage). s.ty) (storage_of g.name names) ≡ Some g.ty
 
--- the declarations are such as texts give, and well formed with this entry, the trees are those of their subprograms, and the globals are those that a run
+-- the declarations are such as texts give, and well formed with these entries, the trees are those of their subprograms, and the globals are those that a run
 -- begins with, each in source order and with its type
-pub record IsMade (t : Tests) (ds : List Decl) (asked : Entry) (main : Option ℕ) (funcs : List TreeFunc) (globals : List Global) : Type 0 where
+pub record IsMade (t : Tests) (ds : List Decl) (asked : Entry) (found : Entries) (funcs : List TreeFunc) (globals : List Global) : Type 0 where
   pub signatures : List Signature
   pub names : List scopes.Entry
   pub grown : AreGrown ds
-  pub accepts : verdict asked ds t ≡ Ok (accepted asked main signatures (all_funcs funcs) names)
+  pub accepts : verdict asked ds t ≡ Ok (accepted asked found signatures (all_funcs funcs) names)
   pub begins : cells_of globals ≡ cells_in (initial_globals (environment t ds))
   pub typed : All (HasItsType names) globals
 
 -- by right tests
-abbrev pub IsSealed : List Decl → Entry → Option ℕ → List TreeFunc → List Global → Type 0
-IsSealed ds asked main funcs globals = (t : Tests) → Suits t → ∥ IsMade t ds asked main funcs globals ∥₁
+abbrev pub IsSealed : List Decl → Entry → Entries → List TreeFunc → List Global → Type 0
+IsSealed ds asked found funcs globals = (t : Tests) → Suits t → ∥ IsMade t ds asked found funcs globals ∥₁

@@ -1,7 +1,7 @@
 //! Programs that are well formed.
-ghost use Rattle.std.specs.Prelude.{◌≡◌, ◌↔◌, Option};
-ghost use Rattle.asl_rules.specs.declared.entry.Entry.TheVariants.{None as NotAsked};
-ghost use Rattle.asl_tree.specs.Sealed.{sealed_of, IsSealed};
+ghost use Rattle.std.specs.Prelude.{◌≡◌, ◌↔◌, ◌⊎◌, Option};
+ghost use Rattle.asl_rules.specs.declared.entry.Entry.TheVariants as asked;
+ghost use Rattle.asl_tree.specs.Sealed.{entries_of, sealed_of, IsSealed};
 
 use crate::act::TreeFunc;
 use asl_rules::entry::Entry;
@@ -65,12 +65,14 @@ impl Drop for Global {
     }
 }
 
-/// What a program that is well formed is sealed of: its trees as they were written, the entry that was asked for, the subprogram
-/// that it is, where one was asked for, and the typed trees of its subprograms and its globals, each in source order.
+/// What a program that is well formed is sealed of: its trees as they were written, the entries that were asked for, the
+/// subprograms that they are, where they were asked for, and the typed trees of its subprograms and its globals, each in source
+/// order.
 pub struct Parts {
     pub program: Program,
     pub asked: Entry,
     pub entry: Option<SubId>,
+    pub entry16: Option<SubId>,
     pub subs: Items<TreeFunc>,
     pub globals: Vec<Global>,
 }
@@ -82,14 +84,15 @@ impl Drop for Parts {
             program: _program,
             asked: _asked,
             entry: _entry,
+            entry16: _entry16,
             subs: _subs,
             globals: _globals,
         } = self;
     }
 }
 
-/// A program that is well formed with the entry that was asked for, the typed trees of its subprograms, and its globals.
-/// Contracts see its declarations and the entry: they determine the trees and the globals.
+/// A program that is well formed with the entries that were asked for, the typed trees of its subprograms, and its globals.
+/// Contracts see its declarations and the entries: they determine the trees and the globals.
 pub struct Checked {
     parts: Parts,
 }
@@ -103,7 +106,7 @@ impl Drop for Checked {
 }
 
 impl Model for Checked {
-    ghost use Rattle.asl_tree.specs.Sealed.{Sealed, sealed_code, sealed_of, IsSealed};
+    ghost use Rattle.asl_tree.specs.Sealed.{Sealed, entries_of, sealed_code, sealed_of, IsSealed};
 
     ghost Value = { Sealed };
 
@@ -111,33 +114,43 @@ impl Model for Checked {
 
     ghost view = { λ c. sealed_of c.parts };
 
-    ghost invariant = { λ c. IsSealed c.parts.program.decls c.parts.asked c.parts.entry c.parts.subs c.parts.globals.items };
+    ghost invariant = { λ c. IsSealed c.parts.program.decls c.parts.asked (entries_of c.parts) c.parts.subs c.parts.globals.items };
 }
 
 impl Checked {
-    /// Seals the parts of a program that is well formed with this entry, which is this subprogram: the typed trees of its
+    /// Seals the parts of a program that is well formed with these entries, which are these subprograms: the typed trees of its
     /// subprograms, and its globals with the types that their names have outside bodies and the values that a run begins with.
     pub fn seal(parts: Parts) -> Checked
-        requires { IsSealed parts.program.decls parts.asked parts.entry parts.subs parts.globals.items }
+        requires { IsSealed parts.program.decls parts.asked (entries_of parts) parts.subs parts.globals.items }
         ensures { result ≡ sealed_of parts }
     {
         Checked { parts }
     }
 
-    /// The entry that was asked for.
+    /// The entries that were asked for.
     pub fn asked(&self) -> Entry
         ensures { result ≡ self.now.asked }
     {
         self.parts.asked
     }
 
-    /// The subprogram that a run begins with: none exactly where no entry was asked for.
+    /// The subprogram that a run begins with, or that is called for words of 32 bits: none exactly where no entry was asked for,
+    /// or `decode16` alone.
     #[tactic(auto, using(crate::proofs::Asked::entry_asked))]
     pub fn entry(&self) -> Option<SubId>
-        ensures main { result ≡ self.now.main }
-        ensures none { result ≡ Option.None ↔ self.now.asked ≡ NotAsked }
+        ensures main { result ≡ self.now.entries.main }
+        ensures none { result ≡ Option.None ↔ ((self.now.asked ≡ asked.None) ⊎ (self.now.asked ≡ asked.Decode16)) }
     {
         self.parts.entry
+    }
+
+    /// The subprogram that is called for words of 16 bits: none exactly where no entry was asked for, or `main`, or `decode` alone.
+    #[tactic(auto, using(crate::proofs::Asked::entry16_asked))]
+    pub fn entry16(&self) -> Option<SubId>
+        ensures entry16 { result ≡ self.now.entries.entry16 }
+        ensures none { result ≡ Option.None ↔ ((self.now.asked ≡ asked.None) ⊎ ((self.now.asked ≡ asked.Main) ⊎ (self.now.asked ≡ asked.Decode))) }
+    {
+        self.parts.entry16
     }
 
     /// The trees of the program, as they were written.
@@ -150,7 +163,7 @@ impl Checked {
     /// The parts that it was sealed of.
     pub fn parts(&self) -> &Parts
         ensures whole { sealed_of result.now ≡ self.now }
-        ensures sealed { IsSealed self.now.decls self.now.asked self.now.main result.now.subs result.now.globals.items }
+        ensures sealed { IsSealed self.now.decls self.now.asked self.now.entries result.now.subs result.now.globals.items }
     {
         &self.parts
     }

@@ -17,7 +17,6 @@ ghost use Rattle.asl_rules.specs.values.Vectors.{literal_of};
 ghost use Rattle.asl_tree.specs.View.{typed_of};
 
 use crate::ends::keep_class;
-use asl_bits::Bits;
 use asl_rules::effect::Effect;
 use asl_subprograms::Context;
 use asl_syn::code::{Refused, StaticCode};
@@ -28,6 +27,7 @@ use asl_types::answer::fault;
 use asl_types::integers::{any_integer, bits_wide, integers, only_number};
 use asl_types::{Standing, Storage, Ty, reading};
 use asl_value::{Value, bits_of_literal, copy, plain_bits};
+use asl_vector::Vector;
 use sqlite_items::Boxed;
 use std::alloc::{AllocError, Global};
 
@@ -68,7 +68,12 @@ pub fn type_bool(alloc: Global, class: Effect, span: Span, b: bool) -> Result<Bo
 }
 
 /// Bits that are written.
-fn type_digits(alloc: Global, class: Effect, span: Span, bits: Bits) -> Result<Boxed<Tree>, Refused>
+fn type_digits(
+    alloc: Global,
+    class: Effect,
+    span: Span,
+    bits: Vector,
+) -> Result<Boxed<Tree>, Refused>
     ensures { Met typed_of result (rules.bits_literal class span bits) }
 {
     keep_class(class, span, Effect::Pure)?;
@@ -77,7 +82,7 @@ fn type_digits(alloc: Global, class: Effect, span: Span, bits: Bits) -> Result<B
         ty: bits_wide(alloc, u64::from(bits.width()))?,
         effect: Effect::Pure,
     };
-    Ok(nodes::constant(alloc, note, plain_bits(alloc, bits)?)?)
+    Ok(nodes::constant(alloc, note, plain_bits(bits))?)
 }
 
 /// A literal of bits, whose text has its quotes: S03 where a digit is free, or where it has more digits than the widest bits.

@@ -9,8 +9,8 @@ ghost use Rattle.asl_value.specs.View.{kind_of, all_kinds, value_of, all_values}
 
 use crate::names::same_name;
 use crate::value::{Kind, Value, copy, share_view};
-use asl_bits::Bits;
 use asl_shared::Shared;
+use asl_vector::Vector;
 use sqlite_items::Items;
 use std::alloc::{AllocError, Global};
 
@@ -214,7 +214,7 @@ fn all_equal(ks: &[Kind], ls: &[Kind]) -> bool
 }
 
 /// Whether there are as many bits.
-pub(crate) fn one_width(a: &Bits, b: &Bits) -> bool
+pub(crate) fn one_width(a: &Vector, b: &Vector) -> bool
     ensures { result ≡ (length a.now == length b.now) }
 {
     a.width() == b.width()

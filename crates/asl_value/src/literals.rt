@@ -12,10 +12,12 @@ ghost use Rattle.asl_value.specs.View.{value_of, digits_of};
 use crate::failure::Failure;
 use crate::operators::plain_bits;
 use crate::value::Value;
-use asl_bits::{Bits, WIDTH_LIMIT};
-use asl_mask::Mask;
+use asl_bits::WIDTH_LIMIT;
+use asl_mask::{Mask, MaskOf};
 use asl_quote::QuoteState;
+use asl_shared::Shared;
 use asl_syn::token::Span;
+use asl_vector::Vector;
 use sqlite_items::Items;
 use std::alloc::{AllocError, Global};
 use std::marker::Model;
@@ -23,10 +25,12 @@ use std::marker::Model;
 /// The digits of a literal: a bit where the place is fixed, `None` where it is free.
 #[derive(Drop)]
 pub enum MaskDigits {
+    /// At most 128.
+    Narrow(MaskOf<1>),
     /// At most as many as the widest bits have places.
-    Narrow(Mask),
+    Wide(Shared<Mask>),
     /// More. No text that is read has them.
-    Wide(WideDigits),
+    TooWide(WideDigits),
 }
 
 /// More digits than the widest bits have places.
@@ -65,9 +69,14 @@ impl MaskDigits {
     {
         let digits = digits_in(alloc, text)?;
         if digits.len() > WIDTH_LIMIT as usize {
-            return Ok(MaskDigits::Wide(WideDigits { digits }));
+            return Ok(MaskDigits::TooWide(WideDigits { digits }));
         }
-        Ok(MaskDigits::Narrow(mask_of(alloc, digits.as_slice())?))
+        let mask = mask_of(alloc, digits.as_slice())?;
+        if mask.width() <= 128 {
+            Ok(MaskDigits::Narrow(mask.resized::<1>()))
+        } else {
+            Ok(MaskDigits::Wide(Shared::new(alloc, mask)?))
+        }
     }
 
     /// How many there are.
@@ -76,24 +85,32 @@ impl MaskDigits {
     {
         match self {
             MaskDigits::Narrow(mask) => mask.width() as usize,
-            MaskDigits::Wide(digits) => digits.len(),
+            MaskDigits::Wide(mask) => mask.get().width() as usize,
+            MaskDigits::TooWide(digits) => digits.len(),
         }
     }
 
     /// Whether bits match the digits, where there are as many.
     #[tactic(auto, using(crate::proofs::LiteralLemmas::apart, crate::proofs::LiteralLemmas::matched))]
-    pub fn matches(&self, bits: &Bits) -> Option<bool>
+    pub fn matches(&self, bits: &Vector) -> Option<bool>
         ensures { result ≡ (if length (digits_of self.now) == length bits.now then Some (mask_matches (digits_of self.now) bits.now) else None) }
     {
         match self {
             MaskDigits::Narrow(mask) => {
                 if mask.width() == bits.width() {
-                    Some(mask.matches(bits))
+                    Some(mask.matches(&bits.narrow()))
                 } else {
                     None
                 }
             }
-            MaskDigits::Wide(digits) => {
+            MaskDigits::Wide(mask) => {
+                if mask.get().width() == bits.width() {
+                    Some(mask.get().matches(&bits.to_bits()))
+                } else {
+                    None
+                }
+            }
+            MaskDigits::TooWide(digits) => {
                 // Their clauses say that bits are within `WIDTH_LIMIT`, and these digits past it.
                 let _most = bits.width();
                 let _count = digits.len();
@@ -105,14 +122,17 @@ impl MaskDigits {
 
 /// The bits of a literal, whose text has its quotes: none where a digit is free, or past `WIDTH_LIMIT`.
 #[tactic(auto, using(crate::proofs::LiteralLemmas::too_long, crate::proofs::LiteralLemmas::short))]
-pub fn bits_of_literal(alloc: Global, text: &[u8]) -> Result<Option<Bits>, AllocError>
+pub fn bits_of_literal(alloc: Global, text: &[u8]) -> Result<Option<Vector>, AllocError>
     ensures { IfOk result (λ it. it ≡ rules.literal_of WIDTH_LIMIT text.now) }
 {
     let digits = digits_in(alloc, text)?;
     if digits.len() > WIDTH_LIMIT as usize {
         return Ok(None);
     }
-    Ok(mask_of(alloc, digits.as_slice())?.value())
+    match mask_of(alloc, digits.as_slice())?.value() {
+        Some(bits) => Ok(Some(Vector::of_bits(alloc, bits)?)),
+        None => Ok(None),
+    }
 }
 
 /// The value of a literal of bits, whose text has its quotes, without bitfields. It must be one: else it is of the wrong kind,
@@ -121,7 +141,7 @@ pub fn literal_bits(alloc: Global, span: Span, text: &[u8]) -> Result<Value, Fai
     ensures { Is value_of result (rules.literal_bits WIDTH_LIMIT span text.now) }
 {
     match bits_of_literal(alloc, text)? {
-        Some(bits) => Ok(plain_bits(alloc, bits)?),
+        Some(bits) => Ok(plain_bits(bits)),
         None => Err(Failure::WrongKind(span)),
     }
 }

@@ -13,13 +13,12 @@ use crate::failure::Failure;
 use crate::keeping::one_width;
 use crate::names::same_name;
 use crate::value::Value;
-use asl_bits::Bits;
 use asl_num as num;
 use asl_num::NumFault;
-use asl_shared::Shared;
 use asl_syn::code::DynCode;
 use asl_syn::token::Span;
 use asl_syn::tree::{BinaryOperator, UnaryOperator};
+use asl_vector::Vector;
 use std::alloc::{AllocError, Global};
 
 /// The value of an integer literal: D01 beyond the range.
@@ -55,7 +54,7 @@ pub fn unary(
     match (operator, x) {
         (UnaryOperator::Negate, Value::Int(a)) => number(span, num::neg(*a)),
         (UnaryOperator::Not, Value::Bool(a)) => Ok(Value::Bool(!*a)),
-        (UnaryOperator::Complement, Value::Bits(a, _)) => Ok(plain_bits(alloc, a.get().not())?),
+        (UnaryOperator::Complement, Value::Bits(a, _)) => Ok(plain_bits(a.not(alloc)?)),
         _ => Err(Failure::WrongKind(span)),
     }
 }
@@ -75,10 +74,8 @@ pub fn binary(
     match (x, y) {
         (Value::Int(a), Value::Int(b)) => of_integers(span, operator, *a, *b),
         (Value::Bool(a), Value::Bool(b)) => of_booleans(span, operator, *a, *b),
-        (Value::Bits(a, _), Value::Bits(b, _)) => of_bits(alloc, span, operator, a.get(), b.get()),
-        (Value::Bits(a, _), Value::Int(z)) => {
-            of_bits_and_integer(alloc, span, operator, a.get(), *z)
-        }
+        (Value::Bits(a, _), Value::Bits(b, _)) => of_bits(alloc, span, operator, a, b),
+        (Value::Bits(a, _), Value::Int(z)) => { of_bits_and_integer(alloc, span, operator, a, *z) }
         (Value::Label(m, a), Value::Label(n, b)) => of_one_enumeration(
             span,
             operator,
@@ -194,18 +191,18 @@ fn code_of(fault: NumFault) -> DynCode
 // ---- bits
 
 /// Bits without bitfields.
-pub fn plain_bits(alloc: Global, bits: Bits) -> Result<Value, AllocError>
-    ensures { IfOk result (λ it. value_of it ≡ rules.plain_bits bits) }
+pub fn plain_bits(bits: Vector) -> Value
+    ensures { value_of result ≡ rules.plain_bits bits }
 {
-    Ok(Value::Bits(Shared::new(alloc, bits)?, None))
+    Value::Bits(bits, None)
 }
 
 fn of_bits(
     alloc: Global,
     span: Span,
     operator: BinaryOperator,
-    a: &Bits,
-    b: &Bits,
+    a: &Vector,
+    b: &Vector,
 ) -> Result<Value, Failure>
     ensures { Is value_of result (rules.of_bits WIDTH_LIMIT span operator a.now b.now) }
 {
@@ -217,11 +214,11 @@ fn of_bits(
 
 /// The second behind the first, which is on top.
 #[tactic(auto, using(crate::proofs::Bits::joined, crate::proofs::Bits::too_wide))]
-fn concatenated(alloc: Global, span: Span, a: &Bits, b: &Bits) -> Result<Value, Failure>
+fn concatenated(alloc: Global, span: Span, a: &Vector, b: &Vector) -> Result<Value, Failure>
     ensures { Is value_of result (rules.concatenated WIDTH_LIMIT span a.now b.now) }
 {
-    match a.concat(b) {
-        Ok(bits) => Ok(plain_bits(alloc, bits)?),
+    match a.concat(alloc, b)? {
+        Ok(bits) => Ok(plain_bits(bits)),
         Err(_) => Err(Failure::Fault(DynCode::D14, span)),
     }
 }
@@ -231,8 +228,8 @@ fn of_widths(
     alloc: Global,
     span: Span,
     operator: BinaryOperator,
-    a: &Bits,
-    b: &Bits,
+    a: &Vector,
+    b: &Vector,
 ) -> Result<Value, Failure>
     ensures { Is value_of result
         (if length a.now == length b.now then rules.of_one_width span operator a.now b.now else Bad (Stuck WrongKind span)) }
@@ -248,8 +245,8 @@ fn of_one_width(
     alloc: Global,
     span: Span,
     operator: BinaryOperator,
-    a: &Bits,
-    b: &Bits,
+    a: &Vector,
+    b: &Vector,
 ) -> Result<Value, Failure>
     requires { length a.now ≡ length b.now }
     ensures { Is value_of result (rules.of_one_width span operator a.now b.now) }
@@ -257,11 +254,11 @@ fn of_one_width(
     match operator {
         BinaryOperator::Equal => Ok(Value::Bool(are_same(a, b))),
         BinaryOperator::NotEqual => Ok(Value::Bool(!are_same(a, b))),
-        BinaryOperator::Add => Ok(plain_bits(alloc, sum(a, b))?),
-        BinaryOperator::Subtract => Ok(plain_bits(alloc, a.sub(b))?),
-        BinaryOperator::BitAnd => Ok(plain_bits(alloc, a.and(b))?),
-        BinaryOperator::BitOr => Ok(plain_bits(alloc, a.or(b))?),
-        BinaryOperator::BitXor => Ok(plain_bits(alloc, a.xor(b))?),
+        BinaryOperator::Add => Ok(plain_bits(sum(alloc, a, b)?)),
+        BinaryOperator::Subtract => Ok(plain_bits(a.sub(alloc, b)?)),
+        BinaryOperator::BitAnd => Ok(plain_bits(a.and(alloc, b)?)),
+        BinaryOperator::BitOr => Ok(plain_bits(a.or(alloc, b)?)),
+        BinaryOperator::BitXor => Ok(plain_bits(a.xor(alloc, b)?)),
         _ => Err(Failure::WrongKind(span)),
     }
 }
@@ -271,20 +268,20 @@ fn of_bits_and_integer(
     alloc: Global,
     span: Span,
     operator: BinaryOperator,
-    a: &Bits,
+    a: &Vector,
     z: i128,
 ) -> Result<Value, Failure>
     ensures { Is value_of result (rules.of_bits_and_integer span operator a.now z) }
 {
     match operator {
-        BinaryOperator::Add => Ok(plain_bits(alloc, raised(a, z))?),
-        BinaryOperator::Subtract => Ok(plain_bits(alloc, lowered(a, z))?),
+        BinaryOperator::Add => Ok(plain_bits(raised(alloc, a, z)?)),
+        BinaryOperator::Subtract => Ok(plain_bits(lowered(alloc, a, z)?)),
         _ => Err(Failure::WrongKind(span)),
     }
 }
 
 #[tactic(auto, using(crate::proofs::Bits::same_is))]
-fn are_same(a: &Bits, b: &Bits) -> bool
+fn are_same(a: &Vector, b: &Vector) -> bool
     requires { length a.now ≡ length b.now }
     ensures { result ≡ rules.same_bits a.now b.now }
 {
@@ -293,36 +290,27 @@ fn are_same(a: &Bits, b: &Bits) -> bool
 
 /// The sum of bits of one width.
 #[tactic(auto, using(crate::proofs::Bits::sum_is))]
-fn sum(a: &Bits, b: &Bits) -> Bits
+fn sum(alloc: Global, a: &Vector, b: &Vector) -> Result<Vector, AllocError>
     requires { length a.now ≡ length b.now }
-    ensures { result ≡ int_bits (length a.now) (pos (bits_value a.now) +ℤ pos (bits_value b.now)) }
+    ensures { IfOk result (λ it. it ≡ int_bits (length a.now) (pos (bits_value a.now) +ℤ pos (bits_value b.now))) }
 {
-    a.add(b)
+    Ok(a.add(alloc, b)?)
 }
 
 /// The sum of bits and an integer.
 #[tactic(auto, using(crate::proofs::Bits::raised_is, crate::proofs::Bits::width_of_integer))]
-fn raised(a: &Bits, z: i128) -> Bits
-    ensures { result ≡ int_bits (length a.now) (pos (bits_value a.now) +ℤ z) }
+fn raised(alloc: Global, a: &Vector, z: i128) -> Result<Vector, AllocError>
+    ensures { IfOk result (λ it. it ≡ int_bits (length a.now) (pos (bits_value a.now) +ℤ z)) }
 {
-    a.add(&of_integer(z, a.width()))
+    let b = Vector::wrapped(alloc, z, a.width())?;
+    Ok(a.add(alloc, &b)?)
 }
 
 /// The difference of bits and an integer.
 #[tactic(auto, using(crate::proofs::Bits::lowered_is, crate::proofs::Bits::width_of_integer))]
-fn lowered(a: &Bits, z: i128) -> Bits
-    ensures { result ≡ int_bits (length a.now) (pos (bits_value a.now) -ℤ z) }
+fn lowered(alloc: Global, a: &Vector, z: i128) -> Result<Vector, AllocError>
+    ensures { IfOk result (λ it. it ≡ int_bits (length a.now) (pos (bits_value a.now) -ℤ z)) }
 {
-    a.sub(&of_integer(z, a.width()))
-}
-
-/// The lowest bits of an integer.
-pub(crate) fn of_integer(z: i128, width: u32) -> Bits
-    requires { width ≤ WIDTH_LIMIT }
-    ensures { result ≡ int_bits width z }
-{
-    match Bits::from_int(z, width as i128) {
-        Ok(bits) => bits,
-        Err(_) => unreachable!(),
-    }
+    let b = Vector::wrapped(alloc, z, a.width())?;
+    Ok(a.sub(alloc, &b)?)
 }

@@ -1,13 +1,14 @@
 //! Places among bits, and the bits that stand there: read, and written.
-ghost use Rattle.std.specs.Prelude.{◌≡◌, ◌+◌, ◌<◌, ◌≤◌, ◌++◌, [], ◌==◌, ◌^◌, true, length, nat_le, MatchOption};
+ghost use Rattle.std.specs.Prelude.{◌≡◌, ◌+◌, ◌<◌, ◌≤◌, ◌++◌, [], ◌==◌, ◌^◌, true, length, nat_le, IfOk, MatchOption};
 ghost use Rattle.asl_bits.specs.declared.TheConstants.{WIDTH_LIMIT};
 ghost use Rattle.asl_bits.specs.Lists.{slice_of, with_slice, int_bits};
 ghost use Rattle.asl_num.specs.Exact.{floor_div};
 ghost use Rattle.asl_rules.specs.values.Vectors as rules;
 
-use crate::operators::of_integer;
 use crate::views::BitField;
-use asl_bits::{Bits, WIDTH_LIMIT};
+use asl_bits::WIDTH_LIMIT;
+use asl_vector::Vector;
+use std::alloc::{AllocError, Global};
 use std::marker::Model;
 
 /// So many places, from the lowest on.
@@ -138,103 +139,74 @@ fn is_inside(place: &Places, most: u32) -> bool
 
 /// The bits in these places, the first on top; places past the end have none.
 #[tactic(auto, using(crate::proofs::InPlaces::none_read, crate::proofs::InPlaces::one_read, crate::proofs::InPlaces::all_read, crate::proofs::InPlaces::room_left))]
-pub(crate) fn read_bits(bits: &Bits, places: &[Places]) -> Bits
+pub(crate) fn read_bits(
+    alloc: Global,
+    bits: &Vector,
+    places: &[Places],
+) -> Result<Vector, AllocError>
     requires { rules.total_width places.now ≤ WIDTH_LIMIT }
-    ensures { result ≡ rules.read_bits places.now bits.now }
+    ensures { IfOk result (λ it. it ≡ rules.read_bits places.now bits.now) }
 {
-    let mut made = no_bits();
+    let mut made = no_bits(alloc)?;
     for place in places {
-        made = on_top(&made, &cut(bits, place));
+        let part = cut(alloc, bits, place)?;
+        made = made.on_top(alloc, &part)?;
     }
-    made
+    Ok(made)
 }
 
 /// The bits of an integer in two's complement in these places, the first on top.
 #[tactic(auto, using(crate::proofs::InPlaces::none_cut, crate::proofs::InPlaces::one_cut, crate::proofs::InPlaces::room_cut, crate::proofs::InPlaces::width_cut, crate::proofs::InPlaces::all_cut))]
-pub(crate) fn read_integer(z: i128, places: &[Places]) -> Bits
+pub(crate) fn read_integer(alloc: Global, z: i128, places: &[Places]) -> Result<Vector, AllocError>
     requires { rules.total_width places.now ≤ WIDTH_LIMIT }
-    ensures { result ≡ rules.read_int places.now z }
+    ensures { IfOk result (λ it. it ≡ rules.read_int places.now z) }
 {
-    let mut made = no_bits();
+    let mut made = no_bits(alloc)?;
     for place in places {
-        made = on_top(&made, &cut_integer(z, place));
+        let part = cut_integer(alloc, z, place)?;
+        made = made.on_top(alloc, &part)?;
     }
-    made
+    Ok(made)
 }
 
 /// Bits without places.
-fn no_bits() -> Bits
-    ensures { result ≡ [] }
+fn no_bits(alloc: Global) -> Result<Vector, AllocError>
+    ensures { IfOk result (λ it. it ≡ []) }
 {
-    exactly(&of_integer(0, 0), 0, 0)
-}
-
-/// The first on top of the second.
-fn on_top(high: &Bits, low: &Bits) -> Bits
-    requires { length high.now + length low.now ≤ WIDTH_LIMIT }
-    ensures { result ≡ low.now ++ high.now }
-{
-    match high.concat(low) {
-        Ok(bits) => bits,
-        Err(_) => unreachable!(),
-    }
+    Vector::filled(alloc, 0, false)
 }
 
 /// The bits in these places, as far as there are any.
 #[tactic(auto, using(crate::proofs::InPlaces::cut_past, crate::proofs::InPlaces::cut_short))]
-pub(crate) fn cut(bits: &Bits, place: &Places) -> Bits
-    ensures { result ≡ slice_of bits.now place.now.low place.now.width }
+pub(crate) fn cut(alloc: Global, bits: &Vector, place: &Places) -> Result<Vector, AllocError>
+    ensures { IfOk result (λ it. it ≡ slice_of bits.now place.now.low place.now.width) }
 {
     let most = bits.width() as u128;
     if place.low >= most {
-        return exactly(bits, 0, 0);
+        return bits.part(alloc, 0, 0);
     }
     let rest = most - place.low;
     match place.up_to(rest) {
-        Some(width) => exactly(bits, place.low as u32, width as u32),
-        None => exactly(bits, place.low as u32, rest as u32),
-    }
-}
-
-/// So many bits from a place on.
-fn exactly(bits: &Bits, low: u32, width: u32) -> Bits
-    requires { low + width ≤ length bits.now }
-    ensures { result ≡ slice_of bits.now low width }
-{
-    // Its clause says that the width is within `WIDTH_LIMIT`.
-    let _most = bits.width();
-    match bits.slice(low as i128, width as i128) {
-        Ok(slice) => slice,
-        Err(_) => unreachable!(),
+        Some(width) => bits.part(alloc, place.low as u32, width as u32),
+        None => bits.part(alloc, place.low as u32, rest as u32),
     }
 }
 
 /// The bits of an integer in two's complement in these places.
 #[tactic(auto, using(crate::proofs::InPlaces::same_above))]
-fn cut_integer(z: i128, place: &Places) -> Bits
+fn cut_integer(alloc: Global, z: i128, place: &Places) -> Result<Vector, AllocError>
     requires { place.now.width ≤ WIDTH_LIMIT }
-    ensures { result ≡ int_bits place.now.width (floor_div z (2 ^ place.now.low)) }
+    ensures { IfOk result (λ it. it ≡ int_bits place.now.width (floor_div z (2 ^ place.now.low))) }
 {
     match place.up_to(WIDTH_LIMIT as u128) {
         Some(width) => {
             if place.low < 127 {
-                some_of_integer(z, place.low as u32, width as u32)
+                Vector::part_of_int(alloc, z, place.low as u32, width as u32)
             } else {
-                some_of_integer(z, 127, width as u32)
+                Vector::part_of_int(alloc, z, 127, width as u32)
             }
         }
         None => unreachable!(),
-    }
-}
-
-/// So many bits of an integer from a place on.
-fn some_of_integer(z: i128, low: u32, width: u32) -> Bits
-    requires { width ≤ WIDTH_LIMIT }
-    ensures { result ≡ int_bits width (floor_div z (2 ^ low)) }
-{
-    match Bits::slice_int(z, low as i128, width as i128) {
-        Ok(slice) => slice,
-        Err(_) => unreachable!(),
     }
 }
 
@@ -242,50 +214,50 @@ fn some_of_integer(z: i128, low: u32, width: u32) -> Bits
 
 /// The bits with others in these places, which they fill, from the first to the last.
 #[tactic(auto, using(crate::proofs::InPlaces::none_put, crate::proofs::InPlaces::place_inside, crate::proofs::InPlaces::width_inside, crate::proofs::InPlaces::room_inside, crate::proofs::InPlaces::one_put, crate::proofs::InPlaces::all_put))]
-pub(crate) fn write_bits(bits: &Bits, part: &Bits, places: &[Places]) -> Bits
+pub(crate) fn write_bits(
+    alloc: Global,
+    bits: &Vector,
+    part: &Vector,
+    places: &[Places],
+) -> Result<Vector, AllocError>
     requires { rules.fill (length part.now) places.now (length bits.now) ≡ true }
-    ensures { result ≡ rules.write_bits places.now part.now bits.now }
+    ensures { IfOk result (λ it. it ≡ rules.write_bits places.now part.now bits.now) }
 {
     let mut left = part.width();
-    let mut made = bits.copy();
+    let mut made = bits.share()?;
     for place in places {
         match place.up_to(left as u128) {
             Some(width) => {
                 left -= width as u32;
-                made = with_some(&made, place, part, left);
+                made = with_some(alloc, &made, place, part, left)?;
             }
             None => unreachable!(),
         }
     }
-    made
+    Ok(made)
 }
 
 /// The bits with some of others in these places: those from one on.
 #[tactic(auto, using(crate::proofs::InPlaces::part_inside))]
-fn with_some(bits: &Bits, place: &Places, part: &Bits, from: u32) -> Bits
+fn with_some(
+    alloc: Global,
+    bits: &Vector,
+    place: &Places,
+    part: &Vector,
+    from: u32,
+) -> Result<Vector, AllocError>
     requires enough { from + place.now.width ≤ length part.now }
     requires inside { place.now.low + place.now.width ≤ length bits.now }
-    ensures { result ≡ with_slice bits.now place.now.low (slice_of part.now from place.now.width) }
+    ensures { IfOk result (λ it. it ≡ with_slice bits.now place.now.low (slice_of part.now from place.now.width)) }
 {
     // Their clauses say that the widths are within `WIDTH_LIMIT`.
     let _most = bits.width();
     let _all = part.width();
     match place.up_to(WIDTH_LIMIT as u128) {
         Some(width) => {
-            let some = exactly(part, from, width as u32);
-            with_part(bits, place.low as u32, &some)
+            let some = part.part(alloc, from, width as u32)?;
+            bits.replaced(alloc, place.low as u32, &some)
         }
         None => unreachable!(),
-    }
-}
-
-/// The bits with others from a place on.
-fn with_part(bits: &Bits, low: u32, part: &Bits) -> Bits
-    requires { low + length part.now ≤ length bits.now }
-    ensures { result ≡ with_slice bits.now low part.now }
-{
-    match bits.with_slice(low as i128, part) {
-        Ok(made) => made,
-        Err(_) => unreachable!(),
     }
 }

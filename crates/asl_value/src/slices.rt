@@ -11,9 +11,9 @@ use crate::failure::Failure;
 use crate::operators::plain_bits;
 use crate::places::{Places, are_within, read_bits, read_integer};
 use crate::value::Value;
-use asl_bits::Bits;
 use asl_syn::code::DynCode;
 use asl_syn::token::Span;
+use asl_vector::Vector;
 use sqlite_items::Items;
 use std::alloc::Global;
 
@@ -44,7 +44,7 @@ pub fn slices_of(
         (rules.slices_of WIDTH_LIMIT span (all_slices shapes.now) (map value_of given.now) (value_of value.now)) }
 {
     match value {
-        Value::Bits(bits, _) => slices_of_bits(alloc, span, shapes, given, bits.get()),
+        Value::Bits(bits, _) => slices_of_bits(alloc, span, shapes, given, bits),
         Value::Int(integer) => slices_of_integer(alloc, span, shapes, given, *integer),
         _ => Err(Failure::WrongKind(span)),
     }
@@ -57,13 +57,13 @@ fn slices_of_bits(
     span: Span,
     shapes: &[SliceShape],
     given: &[Value],
-    bits: &Bits,
+    bits: &Vector,
 ) -> Result<Value, Failure>
     ensures { Is value_of result
         (bits_sliced (rules.tested WIDTH_LIMIT span (Some (length bits.now)) (rules.slicings (all_slices shapes.now) (map value_of given.now))) bits.now) }
 {
     let places = places_among(alloc, span, shapes, given, bits.width())?;
-    Ok(plain_bits(alloc, read_bits(bits, places.as_slice()))?)
+    Ok(plain_bits(read_bits(alloc, bits, places.as_slice())?))
 }
 
 /// The bits of slices of an integer.
@@ -79,7 +79,7 @@ fn slices_of_integer(
         (integer_sliced (rules.tested WIDTH_LIMIT span None (rules.slicings (all_slices shapes.now) (map value_of given.now))) integer) }
 {
     let places = tested_places(alloc, span, shapes, given, None)?;
-    Ok(plain_bits(alloc, read_integer(integer, places.as_slice()))?)
+    Ok(plain_bits(read_integer(alloc, integer, places.as_slice())?))
 }
 
 /// Slices with the values of their expressions in order, and the place of their faults.
@@ -102,13 +102,7 @@ pub(crate) fn slice_places(
 {
     match value {
         Value::Bits(bits, _) => {
-            places_among(
-                alloc,
-                cuts.span,
-                cuts.shapes,
-                cuts.given,
-                bits.get().width(),
-            )
+            places_among(alloc, cuts.span, cuts.shapes, cuts.given, bits.width())
         }
         _ => Err(Failure::WrongKind(cuts.span)),
     }

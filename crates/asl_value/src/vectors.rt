@@ -11,10 +11,9 @@ use crate::operators::plain_bits;
 use crate::places::{Places, are_within, cut, fill, read_bits, write_bits};
 use crate::value::{Value, share_view};
 use crate::views::{BitField, View};
-use asl_bits::Bits;
-use asl_shared::Shared;
 use asl_syn::code::DynCode;
 use asl_syn::token::Span;
+use asl_vector::Vector;
 use sqlite_items::Items;
 use std::alloc::{AllocError, Global};
 
@@ -28,9 +27,7 @@ pub fn bitfield(
     ensures { Is value_of result (rules.bitfield_of span field.now (value_of value.now)) }
 {
     match value {
-        Value::Bits(bits, _) => {
-            Ok(plain_bits(alloc, cut(bits.get(), &Places::of_field(field)))?)
-        }
+        Value::Bits(bits, _) => { Ok(plain_bits(cut(alloc, bits, &Places::of_field(field))?)) }
         _ => Err(Failure::WrongKind(span)),
     }
 }
@@ -110,7 +107,7 @@ pub(crate) fn bits_at(
     ensures { Is value_of result (rules.bits_at span places.now (value_of value.now)) }
 {
     match value {
-        Value::Bits(bits, _) => Ok(plain_bits(alloc, read_bits(bits.get(), places))?),
+        Value::Bits(bits, _) => Ok(plain_bits(read_bits(alloc, bits, places)?)),
         _ => Err(Failure::WrongKind(span)),
     }
 }
@@ -128,7 +125,7 @@ pub(crate) fn with_places(
 {
     match (part, value) {
         (Value::Bits(part, _), Value::Bits(bits, view)) => {
-            put_bits(alloc, span, places, part.get(), bits.get(), view)
+            put_bits(alloc, span, places, part, bits, view)
         }
         _ => Err(Failure::WrongKind(span)),
     }
@@ -138,8 +135,8 @@ fn put_bits(
     alloc: Global,
     span: Span,
     places: &[Places],
-    part: &Bits,
-    bits: &Bits,
+    part: &Vector,
+    bits: &Vector,
     view: &Option<View>,
 ) -> Result<Value, Failure>
     ensures { Is value_of result (filled span places.now part.now bits.now (view_of view.now)) }
@@ -147,8 +144,5 @@ fn put_bits(
     if !fill(part.width(), places, bits.width()) {
         return Err(Failure::WrongKind(span));
     }
-    Ok(Value::Bits(
-        Shared::new(alloc, write_bits(bits, part, places))?,
-        share_view(view)?,
-    ))
+    Ok(Value::Bits(write_bits(alloc, bits, part, places)?, share_view(view)?))
 }

@@ -4,6 +4,7 @@
 -- word, over Formals, which speaks of the rules alone; `exec_word` and `exec` Stepping, where calls make up a run over words, over
 -- WordTexts, which speaks of the text of such a run by the rules alone.
 pub mod Lines
+pub mod Named
 pub mod Words
 pub mod Writing
 pub mod WordBits

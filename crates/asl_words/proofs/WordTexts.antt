@@ -1,14 +1,15 @@
 -- The text of a run over words: it begins with what stood before it, and with that of fewer words.
 use Rattle.std.proofs.Common.{◌≡◌, ℕ, zero, suc, ◌-◌, ◌<◌, List, [], ◌∷◌, ◌++◌, Option, refl, sym, ap, ◌∙◌, subst, arith}
-use Rattle.asl_rules.specs.runs.Machines.{GivenUp, run_of, text_of_run}
+use Rattle.asl_rules.specs.runs.Machines.{GivenUp, text_of_run}
 use Rattle.asl_rules.specs.runs.Plans.{Meter, Outcome, Done, Thrown, Halt, final, starting}
-use Rattle.asl_rules.specs.declarations.Programs.{Environment}
+use Rattle.asl_rules.specs.declarations.Programs.{Environment, Entries}
 use Rattle.asl_rules.specs.runs.States.{Binding, Core}
 use Rattle.asl_rules.specs.runs.Told.{Begins, appended}
 use Rattle.asl_rules.specs.values.Values.{Value}
-use Rattle.asl_rules.specs.runs.Words.{WordsEnd, AllReturned, WordThrew, WordHalted, behind_word, run_words, word_line, word_value, words_final}
+use Rattle.asl_rules.specs.report.WordList.{Word}
+use Rattle.asl_rules.specs.runs.Words.{WordsEnd, AllReturned, WordThrew, WordHalted, behind_word, entry_for, run_word, run_words, word_line, words_final}
 use Rattle.asl_laws.proofs.runs.Budget.{same_text, longer}
-use Rattle.asl_laws.proofs.runs.WordRuns.{behind_words, words_behind_words, run_of_after, words_after, line_starts}
+use Rattle.asl_laws.proofs.runs.WordRuns.{behind_words, words_behind_words, run_of_after, run_word_after, words_after, line_starts}
 
 -- ---- a call that was given up
 
@@ -21,12 +22,12 @@ held_before env id args globals old new steps (suc n) g =
 
 -- ---- one word
 
--- the call of a word, behind its line
-abbrev pub called_with : Environment → ℕ → ℕ → List Binding → Meter → Outcome Core (Option Value)
-called_with env id n globals h = run_of env id (word_value n ∷ []) globals (starting h.steps (appended h.told (word_line h.text_open n)))
+-- the call for a word, behind its line
+abbrev pub called_with : Environment → Entries → Word → List Binding → Meter → Outcome Core (Option Value)
+called_with env es w globals h = run_word env (entry_for es w) w globals (starting h.steps (appended h.told (word_line h.text_open w)))
 
-pub words_next : (env : Environment) (id n : ℕ) (ns : List ℕ) (globals : List Binding) (h : Meter) → run_words env id (n ∷ ns) globals h ≡ behind_word (run_words env id ns) (called_with env id n globals h)
-words_next env id n ns globals h = ap (λ k. behind_word (run_words env id ns) (run_of env id (word_value n ∷ []) globals k)) (line_starts h n)
+pub words_next : (env : Environment) (es : Entries) (w : Word) (ws : List Word) (globals : List Binding) (h : Meter) → run_words env es (w ∷ ws) globals h ≡ behind_word (run_words env es ws) (called_with env es w globals h)
+words_next env es w ws globals h = ap (λ k. behind_word (run_words env es ws) (run_word env (entry_for es w) w globals k)) (line_starts h w)
 
 one_final : (r : Outcome Core (Option Value)) → words_final (behind_word AllReturned r) ≡ final r
 one_final (Done x c h) = refl
@@ -34,27 +35,27 @@ one_final (Thrown x c h) = refl
 one_final (Halt e c h) = refl
 
 -- the text of a word alone is that of its call
-pub one_told : (env : Environment) (id n : ℕ) (globals : List Binding) (h : Meter) → (words_final (run_words env id (n ∷ []) globals h)).told ≡ (final (called_with env id n globals h)).told
-one_told env id n globals h = ap (λ r. (words_final r).told) (words_next env id n [] globals h) ∙ ap (λ (k : Meter). k.told) (one_final (called_with env id n globals h))
+pub one_told : (env : Environment) (es : Entries) (w : Word) (globals : List Binding) (h : Meter) → (words_final (run_words env es (w ∷ []) globals h)).told ≡ (final (called_with env es w globals h)).told
+one_told env es w globals h = ap (λ r. (words_final r).told) (words_next env es w [] globals h) ∙ ap (λ (k : Meter). k.told) (one_final (called_with env es w globals h))
 
 -- and it begins with the line of the word
-pub line_first : (env : Environment) (id n : ℕ) (globals : List Binding) (h : Meter) → Begins (appended h.told (word_line h.text_open n)) (words_final (run_words env id (n ∷ []) globals h)).told
-line_first env id n globals h =
-    subst (λ t. Begins (appended h.told (word_line h.text_open n)) t) (sym (one_told env id n globals h))
-    (run_of_after env id (word_value n ∷ []) globals (starting h.steps (appended h.told (word_line h.text_open n)))).told
+pub line_first : (env : Environment) (es : Entries) (w : Word) (globals : List Binding) (h : Meter) → Begins (appended h.told (word_line h.text_open w)) (words_final (run_words env es (w ∷ []) globals h)).told
+line_first env es w globals h =
+    subst (λ t. Begins (appended h.told (word_line h.text_open w)) t) (sym (one_told env es w globals h))
+    (run_word_after env (entry_for es w) w globals (starting h.steps (appended h.told (word_line h.text_open w)))).told
 
 -- ---- fewer words
 
-after_some : (env : Environment) (id : ℕ) (ns : List ℕ) (r : WordsEnd) → Begins (words_final r).told (words_final (behind_words (run_words env id ns) r)).told
-after_some env id ns (AllReturned globals h) = (words_after env id ns globals h).told
-after_some env id ns (WordThrew x globals h) = same_text h.told
-after_some env id ns (WordHalted e globals h) = same_text h.told
+after_some : (env : Environment) (es : Entries) (ws : List Word) (r : WordsEnd) → Begins (words_final r).told (words_final (behind_words (run_words env es ws) r)).told
+after_some env es ws (AllReturned globals h) = (words_after env es ws globals h).told
+after_some env es ws (WordThrew x globals h) = same_text h.told
+after_some env es ws (WordHalted e globals h) = same_text h.told
 
-pub fewer_words : (env : Environment) (id : ℕ) (ms ns : List ℕ) (globals : List Binding) (h : Meter) → Begins (words_final (run_words env id ms globals h)).told (words_final (run_words env id (ms ++ ns) globals h)).told
-fewer_words env id ms ns globals h =
-    subst (λ r. Begins (words_final (run_words env id ms globals h)).told (words_final r).told) (sym (words_behind_words env id ms ns globals h))
-    (after_some env id ns (run_words env id ms globals h))
+pub fewer_words : (env : Environment) (es : Entries) (vs ws : List Word) (globals : List Binding) (h : Meter) → Begins (words_final (run_words env es vs globals h)).told (words_final (run_words env es (vs ++ ws) globals h)).told
+fewer_words env es vs ws globals h =
+    subst (λ r. Begins (words_final (run_words env es vs globals h)).told (words_final r).told) (sym (words_behind_words env es vs ws globals h))
+    (after_some env es ws (run_words env es vs globals h))
 
 -- words behind others that all returned
-pub words_behind_returned : (env : Environment) (id : ℕ) (ms ns : List ℕ) (globals after : List Binding) (h k : Meter) → run_words env id ms globals h ≡ AllReturned after k → run_words env id (ms ++ ns) globals h ≡ run_words env id ns after k
-words_behind_returned env id ms ns globals after h k e = words_behind_words env id ms ns globals h ∙ ap (behind_words (run_words env id ns)) e
+pub words_behind_returned : (env : Environment) (es : Entries) (vs ws : List Word) (globals after : List Binding) (h k : Meter) → run_words env es vs globals h ≡ AllReturned after k → run_words env es (vs ++ ws) globals h ≡ run_words env es ws after k
+words_behind_returned env es vs ws globals after h k e = words_behind_words env es vs ws globals h ∙ ap (behind_words (run_words env es ws)) e

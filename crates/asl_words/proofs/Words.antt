@@ -1,8 +1,8 @@
 -- What the digits of a line are worth, by hex and by the definition.
-use Rattle.std.proofs.Common.{◌≡◌, ℕ, ◌+◌, ◌*◌, ◌%◌, nat_lt, ◌<◌, ◌≤◌, Bool, true, false, List, [], ◌∷◌, length, Option, Some, None, Result, Ok, Err, refl, sym, ap, ◌∙◌, arith}
+use Rattle.std.proofs.Common.{◌≡◌, ℕ, ◌+◌, ◌*◌, ◌%◌, nat_lt, ◌<◌, ◌≤◌, Bool, true, false, List, [], ◌∷◌, length, Option, Some, None, Result, Ok, Err, ◌⊎◌, inl, inr, refl, sym, ap, ◌∙◌, arith}
 use Rattle.std.specs.Prelude.{IsOk, ◌↔◌}
 use Rattle.std.specs.Char.{digit_value}
-use Rattle.std.specs.Int.{from_be_bytes, w32}
+use Rattle.std.specs.Int.{from_be_bytes, w16, w32}
 use Rattle.std.specs.List.{list_all}
 use Rattle.std.specs.Str.Parse.{digits_value_after}
 use Rattle.std.proofs.lemmas.Bool.Decides.{nat_tests}
@@ -11,7 +11,7 @@ use Rattle.hex.proofs.HexLemmas.{IsOk-decode_sized, decode_of-even, decode_pairs
 use Rattle.hex.specs.Hex.{decode_pairs, decode_sized, digit_or_error, hex_digit_value, is_hex_digit, ◌>>=◌}
 use Rattle.hex.specs.declared.error.FromHexError.{FromHexError}
 use Rattle.asl_syn.specs.declared.code.StaticCode.TheVariants.{N02, N03}
-use Rattle.asl_rules.specs.report.WordList.{is_digit}
+use Rattle.asl_rules.specs.report.WordList.{has_word_length, is_digit}
 use Rattle.asl_words.specs.private.Steps.{word_of}
 
 -- both crates have the same digits
@@ -51,13 +51,20 @@ digits_value_after-is n i (a ∷ b ∷ rest) bytes e =
     rw (read.6, high, low, same) (digits_value_after-is (n * 256 + (read.0 * 16 + read.1)) (i + 2) rest read.2 read.5)
 
 -- four bytes, packed at once
-from_be_bytes-is : (bytes : List ℕ) → length bytes ≡ 4 → from_be_bytes w32 bytes ≡ bytes_after 0 bytes
-from_be_bytes-is (a ∷ b ∷ c ∷ d ∷ []) h = omega arith
-from_be_bytes-is [] h = cc h
-from_be_bytes-is (a ∷ []) h = cc h
-from_be_bytes-is (a ∷ b ∷ []) h = cc h
-from_be_bytes-is (a ∷ b ∷ c ∷ []) h = cc h
-from_be_bytes-is (a ∷ b ∷ c ∷ d ∷ e ∷ rest) h = absurd (omega arith)
+four_bytes : (bytes : List ℕ) → length bytes ≡ 4 → from_be_bytes w32 bytes ≡ bytes_after 0 bytes
+four_bytes (a ∷ b ∷ c ∷ d ∷ []) h = omega arith
+four_bytes [] h = cc h
+four_bytes (a ∷ []) h = cc h
+four_bytes (a ∷ b ∷ []) h = cc h
+four_bytes (a ∷ b ∷ c ∷ []) h = cc h
+four_bytes (a ∷ b ∷ c ∷ d ∷ e ∷ rest) h = absurd (omega arith)
+
+-- and two
+two_bytes : (bytes : List ℕ) → length bytes ≡ 2 → from_be_bytes w16 bytes ≡ bytes_after 0 bytes
+two_bytes (a ∷ b ∷ []) h = omega arith
+two_bytes [] h = cc h
+two_bytes (a ∷ []) h = cc h
+two_bytes (a ∷ b ∷ c ∷ rest) h = absurd (omega arith)
 
 -- tests that are the same are passed by the same lists
 list_all-is : (p q : ℕ → Bool) → ((b : ℕ) → p b ≡ q b) → (bs : List ℕ) → list_all p bs ≡ list_all q bs
@@ -74,37 +81,59 @@ not_all : (b : Bool) → (b ≡ true → ⊥) → b ≡ false
 not_all false h = refl
 not_all true h = absurd (h refl)
 
--- eight bytes are digits where they decode
-decode_sized-digits : (line : List ℕ) → length line ≡ 8 → IsOk (decode_sized line 4) ↔ (list_all is_digit line ≡ true)
-decode_sized-digits line h =
-    let both = IsOk-decode_sized line 4 in
+-- a line of twice as many bytes as are asked for has digits alone where it decodes
+digits_decode : (line : List ℕ) (n : ℕ) → length line ≡ 2 * n → IsOk (decode_sized line n) ↔ (list_all is_digit line ≡ true)
+digits_decode line n h =
+    let both = IsOk-decode_sized line n in
     let same = list_all-is is_hex_digit is_digit is_hex_digit-is line in (
       λ ok. sym same ∙ list_all-from_AllPass is_hex_digit line (both.0 ok).1,
       λ all. both.1 (h, AllPass-from_list_all is_hex_digit line (same ∙ all)),
     )
 
--- a line of eight bytes that doesn't decode
-pub word_of-digit : (line : List ℕ) (number before : ℕ) (e : FromHexError) → length line ≡ 8 → Err e ≡ decode_sized line 4
+-- ---- the answers of a line of eight bytes, or of four, whose length is right
+
+-- it doesn't decode
+pub word_of-digit : (line : List ℕ) (n number before : ℕ) (e : FromHexError) → length line ≡ 2 * n → has_word_length line ≡ true → Err e ≡ decode_sized line n
     → word_of line number before ≡ Err (record { code = N02; line = number })
-word_of-digit line number before e len read =
-    let none : list_all is_digit line ≡ false = not_all (list_all is_digit line) (λ all. cc (read ∙ (ok_is (decode_sized line 4) ((decode_sized-digits line len).1 all)).1)) in
-    rw (len, none) refl
+word_of-digit line n number before e len right read =
+    let none : list_all is_digit line ≡ false = not_all (list_all is_digit line) (λ all. cc (read ∙ (ok_is (decode_sized line n) ((digits_decode line n len).1 all)).1)) in
+    rw (right, none) refl
 
--- a line of eight digits that is a word too many
-pub word_of-many : (line bytes : List ℕ) (number before : ℕ) → length line ≡ 8 → Ok bytes ≡ decode_sized line 4 → 65536 ≤ before
+-- it has digits alone, and is a word too many
+pub word_of-many : (line bytes : List ℕ) (n number before : ℕ) → length line ≡ 2 * n → has_word_length line ≡ true → Ok bytes ≡ decode_sized line n → 65536 ≤ before
     → word_of line number before ≡ Err (record { code = N03; line = number })
-word_of-many line bytes number before len read many =
-    let all = (decode_sized-digits line len).0 (rw (← read) refl) in
+word_of-many line bytes n number before len right read many =
+    let all = (digits_decode line n len).0 (rw (← read) refl) in
     let above : nat_lt 65536 (before + 1) ≡ true = grind (arith, nat_tests) in
-    rw (len, all, above) refl
+    rw (right, all, above) refl
 
--- a line of eight digits that is none too many
-pub word_of-read : (line bytes : List ℕ) (number before word : ℕ) → length line ≡ 8 → Ok bytes ≡ decode_sized line 4 → before < 65536
-    → word ≡ from_be_bytes w32 bytes → word_of line number before ≡ Ok word
-word_of-read line bytes number before word len read few packed =
-    let all = (decode_sized-digits line len).0 (rw (← read) refl) in
+-- or none too many
+word_of-read : (line bytes : List ℕ) (n number before word : ℕ) → length line ≡ 2 * n → has_word_length line ≡ true → Ok bytes ≡ decode_sized line n → before < 65536
+    → (length bytes ≡ n → word ≡ bytes_after 0 bytes) → word_of line number before ≡ Ok (record { bits = word; digits = length line })
+word_of-read line bytes n number before word len right read few packed =
+    let all = (digits_decode line n len).0 (rw (← read) refl) in
     let within : nat_lt 65536 (before + 1) ≡ false = grind (arith, nat_tests) in
     let even : length line % 2 ≡ 0 = omega arith in
-    let pairs : decode_pairs 0 line ≡ Ok bytes = sym (decode_of-even line even) ∙ sym (decode_sized-twice line 4 len) ∙ sym read in
-    let four : length bytes ≡ 4 = omega (arith, (decode_pairs-ok 0 line bytes pairs).1) in
-    rw (len, all, within) (ap Ok (sym (packed ∙ from_be_bytes-is bytes four ∙ sym (digits_value_after-is 0 0 line bytes pairs))))
+    let pairs : decode_pairs 0 line ≡ Ok bytes = sym (decode_of-even line even) ∙ sym (decode_sized-twice line n len) ∙ sym read in
+    let as_many : length bytes ≡ n = omega (arith, (decode_pairs-ok 0 line bytes pairs).1) in
+    rw (right, all, within) (ap (λ m. Ok (record { bits = m; digits = length line })) (digits_value_after-is 0 0 line bytes pairs ∙ sym (packed as_many)))
+
+right_length : (line : List ℕ) (n : ℕ) → length line ≡ n → (n ≡ 8) ⊎ (n ≡ 4) → has_word_length line ≡ true
+right_length line n len (inl h) = rw (len, h) refl
+right_length line n len (inr h) = rw (len, h) refl
+
+pub eight : (line : List ℕ) → length line ≡ 8 → has_word_length line ≡ true
+eight line len = right_length line 8 len (inl refl)
+
+pub four : (line : List ℕ) → length line ≡ 4 → has_word_length line ≡ true
+four line len = right_length line 4 len (inr refl)
+
+pub long_read : (line bytes : List ℕ) (number before word : ℕ) → length line ≡ 8 → Ok bytes ≡ decode_sized line 4 → before < 65536
+    → word ≡ from_be_bytes w32 bytes → word_of line number before ≡ Ok (record { bits = word; digits = 8 })
+long_read line bytes number before word len read few packed =
+    word_of-read line bytes 4 number before word len (eight line len) read few (λ h. packed ∙ four_bytes bytes h) ∙ ap (λ n. Ok (record { bits = word; digits = n })) len
+
+pub short_read : (line bytes : List ℕ) (number before word : ℕ) → length line ≡ 4 → Ok bytes ≡ decode_sized line 2 → before < 65536
+    → word ≡ from_be_bytes w16 bytes → word_of line number before ≡ Ok (record { bits = word; digits = 4 })
+short_read line bytes number before word len read few packed =
+    word_of-read line bytes 2 number before word len (four line len) read few (λ h. packed ∙ two_bytes bytes h) ∙ ap (λ n. Ok (record { bits = word; digits = n })) len

@@ -3,8 +3,9 @@ ghost use Rattle.std.specs.Prelude.{◌≡◌, ◌≤◌, ◌<◌, ◌++◌, [],
 ghost use Rattle.asl_io.specs.Faults.{Rises};
 ghost use Rattle.asl_io.specs.Told.{Takes, TakesPrefix};
 ghost use Rattle.asl_rules.specs.report.Texts.{line_feed};
-ghost use Rattle.asl_rules.specs.runs.Words.{digit_text, digits_text, word_line};
+ghost use Rattle.asl_rules.specs.runs.Words.{digit_text, digits_text, word_digits, word_line};
 
+use crate::Word;
 use asl_io::{Sink, SinkFault, put_all};
 
 /// Writes a text.
@@ -32,7 +33,7 @@ fn close<K: Sink>(sink: &mut K, is_open: bool) -> Result<(), SinkFault>
 }
 
 /// Writes the line of a word, on a line of its own.
-pub(crate) fn put_line<K: Sink>(sink: &mut K, is_open: bool, word: u32) -> Result<(), SinkFault>
+pub(crate) fn put_line<K: Sink>(sink: &mut K, is_open: bool, word: Word) -> Result<(), SinkFault>
     ensures text { MatchResult result
         (λ it. Takes (K.written sink.old) (K.written sink.new) (word_line is_open word))
         (λ e. TakesPrefix (K.written sink.old) (K.written sink.new) (word_line is_open word)) }
@@ -41,11 +42,48 @@ pub(crate) fn put_line<K: Sink>(sink: &mut K, is_open: bool, word: u32) -> Resul
     ensures same_full { K.full sink.new ≡ K.full sink.old }
 {
     close(sink, is_open)?;
-    put(sink, &word_text(word))
+    put_word(sink, word)
 }
 
-/// The line of a word: 8 hexadecimal digits in lower case, the highest first.
-fn word_text(word: u32) -> [u8; 14]
+/// Writes the line of a word: its hexadecimal digits in lower case, the highest first.
+fn put_word<K: Sink>(sink: &mut K, word: Word) -> Result<(), SinkFault>
+    ensures text { MatchResult result
+        (λ it. Takes (K.written sink.old) (K.written sink.new) (codes "word " ++ (word_digits word ++ line_feed)))
+        (λ e. TakesPrefix (K.written sink.old) (K.written sink.new) (codes "word " ++ (word_digits word ++ line_feed))) }
+    ensures count_stays { OnOk result (K.faults sink.new ≡ K.faults sink.old) }
+    ensures count_rises { OnErr result ((K.faults sink.old ≤ K.faults sink.new) × Rises (K.faults sink.old) (K.faults sink.new)) }
+    ensures same_full { K.full sink.new ≡ K.full sink.old }
+{
+    if word.is_short() {
+        put(sink, &short_text(word.bits))
+    } else {
+        put(sink, &long_text(word.bits))
+    }
+}
+
+/// The line of the lowest 16 bits of a word.
+fn short_text(word: u32) -> [u8; 10]
+    ensures { result ≡ codes "word " ++ (digits_text 4 word ++ line_feed) }
+{
+    let second = word / 16;
+    let third = second / 16;
+    let fourth = third / 16;
+    [
+        b'w',
+        b'o',
+        b'r',
+        b'd',
+        b' ',
+        digit(fourth % 16),
+        digit(third % 16),
+        digit(second % 16),
+        digit(word % 16),
+        b'\n',
+    ]
+}
+
+/// The line of the 32 bits of a word.
+fn long_text(word: u32) -> [u8; 14]
     ensures { result ≡ codes "word " ++ (digits_text 8 word ++ line_feed) }
 {
     let second = word / 16;

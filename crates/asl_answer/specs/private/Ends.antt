@@ -6,7 +6,7 @@ use Rattle.asl_rules.specs.private.Grown.{AreGrown}
 use Rattle.asl_rules.specs.declarations.Programs.{Accepted, verdict}
 use Rattle.asl_rules.specs.report.Report.{outcome_line, globals_text}
 use Rattle.asl_rules.specs.Tests.{Tests}
-use Rattle.asl_rules.specs.declared.entry.Entry.TheVariants.{Main, Decode}
+use Rattle.asl_rules.specs.declared.entry.Entry.TheVariants.{Main}
 use Rattle.asl_tree.specs.Sealed.{Sealed}
 use Rattle.asl_machine.specs.Storage.{Var}
 use Rattle.asl_machine.specs.Work.{Work, globals_of}
@@ -72,12 +72,4 @@ pub record Starts (t : Tests) (c : Sealed) : Type 0 where
   pub asked : c.asked ≡ Main
   pub accepted : Accepted
   pub is : verdict c.asked c.decls t ≡ Ok accepted
-  pub main : accepted.main ≡ c.main
-
--- a program that was accepted with the entry `decode`
-pub record Decodes (t : Tests) (c : Sealed) : Type 0 where
-  pub grown : AreGrown c.decls
-  pub asked : c.asked ≡ Decode
-  pub accepted : Accepted
-  pub is : verdict c.asked c.decls t ≡ Ok accepted
-  pub main : accepted.main ≡ c.main
+  pub main : accepted.entries.main ≡ c.entries.main

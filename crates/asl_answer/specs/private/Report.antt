@@ -6,7 +6,7 @@ use Rattle.asl_rules.specs.report.Made.{made_text}
 use Rattle.asl_rules.specs.Tests.{Tests}
 use Rattle.asl_rules.specs.report.Texts.{Text, File, usage_line, long_line, many_line}
 use Rattle.asl_rules.specs.report.Report.{Answer, answer, on_reading, on_words_read, on_check, on_run, on_words, on_made, made_file}
-use Rattle.asl_rules.specs.report.WordList.{words_read}
+use Rattle.asl_rules.specs.report.WordList.{Word, words_read}
 
 -- what came of all reading: the source files with the bytes of the word list, none where there is no list; the name of a file that is too long; or more
 -- source files than are allowed
@@ -22,7 +22,7 @@ check_answer t read files = on_reading files (on_check t files) (read files)
 abbrev pub run_answer : Tests → Reader → ℕ → List File → Answer
 run_answer t read steps files = on_reading files (on_run t steps files) (read files)
 
-abbrev pub exec_answer : Tests → Reader → ℕ → List ℕ → List File → Answer
+abbrev pub exec_answer : Tests → Reader → ℕ → List Word → List File → Answer
 exec_answer t read steps words files = on_reading files (on_words t steps words files) (read files)
 
 -- the same by the bytes of the word list

@@ -7,4 +7,4 @@ use Rattle.asl_machine.specs.Work.{IsCallable}
 
 -- its entry, where it has one, can be called with nothing
 abbrev pub HasCallableMain : Sealed → Type 0
-HasCallableMain c = (t : Tests) → Suits t → (id : ℕ) → c.main ≡ Some id → IsCallable t c id []
+HasCallableMain c = (t : Tests) → Suits t → (id : ℕ) → c.entries.main ≡ Some id → IsCallable t c id []

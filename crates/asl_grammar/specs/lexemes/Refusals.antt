@@ -14,7 +14,7 @@ max_lexemes = 200000
 
 -- the width limit of the program; definitions take the limit as a number
 abbrev pub max_width : ℕ
-max_width = 128
+max_width = 2048
 
 -- whether the text begins with two underscores
 abbrev pub is_reserved : List ℕ → Bool

@@ -1,13 +1,14 @@
 -- Calls from outside, and calls for words, with more steps.
-use Rattle.std.proofs.Common.{ℕ, inl, inr, List, [], ◌∷◌, Option, refl, sym, subst}
+use Rattle.std.proofs.Common.{ℕ, inl, inr, List, [], ◌∷◌, Option, Some, None, refl, sym, subst}
 use Rattle.asl_rules.specs.runs.Told.{Begins}
 use Rattle.asl_rules.specs.values.Values.{Value}
 use Rattle.asl_rules.specs.runs.States.{Binding, Core, resting}
 use Rattle.asl_rules.specs.runs.Plans.{Meter, Faulted, Stuck, Outcome, Done, Thrown, Halt, final, wrote, meanings}
-use Rattle.asl_rules.specs.declarations.Programs.{Environment}
+use Rattle.asl_rules.specs.declarations.Programs.{Environment, Entries}
 use Rattle.asl_rules.specs.runs.Evaluation.{nodes, call_of}
 use Rattle.asl_rules.specs.runs.Machines.{most_open, run_of}
-use Rattle.asl_rules.specs.runs.Words.{WordsEnd, behind_word, run_words, word_line, word_value, words_final}
+use Rattle.asl_rules.specs.report.WordList.{Word}
+use Rattle.asl_rules.specs.runs.Words.{WordsEnd, behind_word, entry_for, run_word, run_words, word_line, word_value, words_final}
 use Rattle.asl_laws.proofs.runs.Budget.{longer, After, self, grows}
 use Rattle.asl_laws.proofs.runs.WordRuns.{words_after}
 use Rattle.asl_laws.specs.Budgets.{with_more, with_more_left, Spent, SameWithMore, WordsSpent, SameWordsWithMore}
@@ -42,11 +43,20 @@ word_more : (k : ℕ) (r s : Outcome Core (Option Value)) (f : List Binding → 
 word_more k r s f (inl e) m a = subst (λ x. SameWordsWithMore k (behind_word f x) (behind_word f s)) (sym e) (same_word k s f m)
 word_more k r s f (inr q) m a = inr (spent_word s f (words_final (behind_word f r)).told q.0 (longer q.1 (behind_after r f a).told))
 
-each_more : (env : Environment) (id : ℕ) (words : List ℕ) (k : ℕ) (globals : List Binding) (h : Meter) → SameWordsWithMore k (run_words env id words globals (with_more k h)) (run_words env id words globals h)
-each_more env id [] k globals h = inl refl
-each_more env id (n ∷ words) k globals h =
-    let begun = wrote h (word_line h.text_open n) in
-    word_more k (run_of env id (word_value n ∷ []) globals (with_more k begun)) (run_of env id (word_value n ∷ []) globals begun) (run_words env id words) (call_more env id (word_value n ∷ []) globals begun k) (each_more env id words k) (words_after env id words)
+one_more : (env : Environment) (o : Option ℕ) (w : Word) (globals : List Binding) (h : Meter) (k : ℕ) →
+    SameWithMore k (run_word env o w globals (with_more k h)) (run_word env o w globals h)
+one_more env None w globals h k = inl refl
+one_more env (Some id) w globals h k = call_more env id (word_value w ∷ []) globals h k
 
-pub words_more : (env : Environment) (id : ℕ) (words : List ℕ) (globals : List Binding) (h : Meter) (k : ℕ) → SameWordsWithMore k (run_words env id words globals (with_more k h)) (run_words env id words globals h)
-words_more env id words globals h k = each_more env id words k globals h
+each_more : (env : Environment) (es : Entries) (words : List Word) (k : ℕ) (globals : List Binding) (h : Meter) →
+    SameWordsWithMore k (run_words env es words globals (with_more k h)) (run_words env es words globals h)
+each_more env es [] k globals h = inl refl
+each_more env es (w ∷ words) k globals h =
+    let begun = wrote h (word_line h.text_open w) in
+    let o = entry_for es w in
+    word_more k (run_word env o w globals (with_more k begun)) (run_word env o w globals begun) (run_words env es words)
+    (one_more env o w globals begun k) (each_more env es words k) (words_after env es words)
+
+pub words_more : (env : Environment) (es : Entries) (words : List Word) (globals : List Binding) (h : Meter) (k : ℕ) →
+    SameWordsWithMore k (run_words env es words globals (with_more k h)) (run_words env es words globals h)
+words_more env es words globals h k = each_more env es words k globals h

@@ -15,7 +15,7 @@ use Rattle.asl_rules.specs.declarations.Scopes.{Signature}
 use Rattle.asl_rules.specs.declarations.Declarations.{globals_rule}
 use Rattle.asl_rules.specs.statements.Acting.{in_order}
 use Rattle.asl_rules.specs.statements.Stmts.{found_stmt}
-use Rattle.asl_rules.specs.declarations.Programs.{Accepted, Head, accepted, funcs_of, signatures, signatures_rule, overloads_rule, may_end}
+use Rattle.asl_rules.specs.declarations.Programs.{Accepted, Head, accepted, entries, funcs_of, signatures, signatures_rule, overloads_rule, may_end}
 use Rattle.asl_rules.specs.declarations.Programs.{body_of, tree_func, body_rule, bodies_rule, entry_rule, verdict}
 use Rattle.asl_rules.proofs.basics.Inversions.{bind_ok, then_ok, need_ok, ok_ok}
 use Rattle.asl_laws.proofs.verdict.OneVerdict.{one_test}
@@ -115,7 +115,7 @@ module _ (t : Tests) where
       let same : s.value ≡ hs = ok_ok s.value hs o.then in
       let b = bodies_are_well (signatures s.value) s.value
       (subst (λ (hs : List Head). (bodies_lines t (signatures hs) hs).outcome ≡ Ok tt) (sym same) q.1.1) in (
-        accepted entry.None None (signatures s.value) b.0 g.value,
+        accepted entry.None (entries None None) (signatures s.value) b.0 g.value,
         ap (λ r. r >> cycles_rule ds ds >> globals_rule t ds >>= λ names. signatures_rule t names (funcs_of ds)
             >>= λ hs. overloads_rule [] hs >> bodies_rule t (signatures hs) hs >>= λ trees. entry_rule entry.None (signatures hs)
             >>= λ main. Ok (accepted entry.None main (signatures hs) trees names)) n.first ∙

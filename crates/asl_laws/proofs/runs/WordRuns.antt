@@ -16,11 +16,12 @@ use Rattle.asl_rules.specs.types.Numbers.{Numbers, present}
 use Rattle.asl_rules.specs.runs.States.{Binding, Core, of_type, kept, entered, resting}
 use Rattle.asl_rules.specs.runs.Pures.{◌>>=◌, there, known}
 use Rattle.asl_rules.specs.runs.Plans.{Meter, starting, wrote, Outcome, Done, Thrown, Halt, final, Pure, Good, Bad, lift, meanings, run}
-use Rattle.asl_rules.specs.declarations.Programs.{Environment, funcs_of, origin}
+use Rattle.asl_rules.specs.declarations.Programs.{Environment, Entries, funcs_of, origin}
 use Rattle.asl_rules.specs.runs.Evaluation.{nodes, meaning, call_of, declare, declared, type_at, type_under, params_bound, formals_bound, entering, run_with, run_body}
 use Rattle.asl_rules.specs.runs.Machines.{most_open, run_of}
 use Rattle.asl_rules.specs.report.Texts.{line_feed}
-use Rattle.asl_rules.specs.runs.Words.{WordsEnd, AllReturned, WordThrew, WordHalted, behind_word, digits_text, run_words, word_line, word_value, words_final}
+use Rattle.asl_rules.specs.report.WordList.{Word}
+use Rattle.asl_rules.specs.runs.Words.{WordsEnd, AllReturned, WordThrew, WordHalted, behind_word, digits_text, entry_for, is_short, run_word, run_words, word_digits, word_line, word_value, word_width, words_final}
 use Rattle.asl_laws.proofs.runs.Budget.{After, self, on, put_after, run_after, grows}
 use Rattle.asl_laws.proofs.runs.Shift.{retold, retold_end, Commutes, run_shift, shifts, behind, behind_commutes, behind_nothing, OwnText, own_text_kept, run_keeps, keeps}
 
@@ -38,12 +39,12 @@ behind_twice f g k same (Done o c h) = same c.globals h
 behind_twice f g k same (Thrown x c h) = refl
 behind_twice f g k same (Halt e c h) = refl
 
-pub words_behind_words : (env : Environment) (id : ℕ) (ms ns : List ℕ) (globals : List Binding) (h : Meter) →
-    run_words env id (ms ++ ns) globals h ≡ behind_words (run_words env id ns) (run_words env id ms globals h)
-words_behind_words env id [] ns globals h = refl
-words_behind_words env id (m ∷ ms) ns globals h =
-    behind_twice (run_words env id (ms ++ ns)) (run_words env id ms) (run_words env id ns) (words_behind_words env id ms ns)
-    (run_of env id (word_value m ∷ []) globals (wrote h (word_line h.text_open m)))
+pub words_behind_words : (env : Environment) (es : Entries) (ms ns : List Word) (globals : List Binding) (h : Meter) →
+    run_words env es (ms ++ ns) globals h ≡ behind_words (run_words env es ns) (run_words env es ms globals h)
+words_behind_words env es [] ns globals h = refl
+words_behind_words env es (m ∷ ms) ns globals h =
+    behind_twice (run_words env es (ms ++ ns)) (run_words env es ms) (run_words env es ns) (words_behind_words env es ms ns)
+    (run_word env (entry_for es m) m globals (wrote h (word_line h.text_open m)))
 
 -- ---- texts only grow
 
@@ -51,17 +52,23 @@ pub run_of_after : (env : Environment) (id : ℕ) (args : List Value) (globals :
 unfolding run_of
 run_of_after env id args globals h = run_after (meanings (nodes env) most_open) (grows (nodes env) most_open) (call_of env id args (resting globals)) h
 
+pub run_word_after : (env : Environment) (o : Option ℕ) (w : Word) (globals : List Binding) (h : Meter) →
+    After h (final (run_word env o w globals h))
+run_word_after env None w globals h = self h
+run_word_after env (Some id) w globals h = run_of_after env id (word_value w ∷ []) globals h
+
 word_after : (k : List Binding → Meter → WordsEnd) → ((gs : List Binding) (h : Meter) → After h (words_final (k gs h))) → (h : Meter) (r : Outcome Core (Option Value)) → After h (final r) → After h (words_final (behind_word k r))
 word_after k each h (Done o c h1) a = on a (each c.globals h1)
 word_after k each h (Thrown x c h1) a = a
 word_after k each h (Halt e c h1) a = a
 
-pub words_after : (env : Environment) (id : ℕ) (ns : List ℕ) (globals : List Binding) (h : Meter) → After h (words_final (run_words env id ns globals h))
-words_after env id [] globals h = self h
-words_after env id (n ∷ ns) globals h =
-    let line = word_line h.text_open n in
-    word_after (run_words env id ns) (words_after env id ns) h (run_of env id (word_value n ∷ []) globals (wrote h line))
-    (on (put_after h line) (run_of_after env id (word_value n ∷ []) globals (wrote h line)))
+pub words_after : (env : Environment) (es : Entries) (ws : List Word) (globals : List Binding) (h : Meter) →
+    After h (words_final (run_words env es ws globals h))
+words_after env es [] globals h = self h
+words_after env es (w ∷ ws) globals h =
+    let line = word_line h.text_open w in
+    word_after (run_words env es ws) (words_after env es ws) h (run_word env (entry_for es w) w globals (wrote h line))
+    (on (put_after h line) (run_word_after env (entry_for es w) w globals (wrote h line)))
 
 -- ---- the text that stood before
 
@@ -75,47 +82,63 @@ run_of_shift : (F : Option (List ℕ) → Option (List ℕ)) → Commutes F → 
 unfolding run_of
 run_of_shift F k env id args globals h = run_shift F k (meanings (nodes env) most_open) (shifts F k (nodes env) most_open) (call_of env id args (resting globals)) h
 
+run_word_shift : (F : Option (List ℕ) → Option (List ℕ)) → Commutes F →
+    (env : Environment) (o : Option ℕ) (w : Word) (globals : List Binding) (h : Meter) →
+    run_word env o w globals (retold F h) ≡ retold_end F (run_word env o w globals h)
+run_word_shift F k env None w globals h = refl
+run_word_shift F k env (Some id) w globals h = run_of_shift F k env id (word_value w ∷ []) globals h
+
 word_shift : (F : Option (List ℕ) → Option (List ℕ)) (k : List Binding → Meter → WordsEnd) → ((gs : List Binding) (h : Meter) → k gs (retold F h) ≡ retold_words F (k gs h))
     → (r : Outcome Core (Option Value)) → behind_word k (retold_end F r) ≡ retold_words F (behind_word k r)
 word_shift F k same (Done o c h) = same c.globals h
 word_shift F k same (Thrown x c h) = refl
 word_shift F k same (Halt e c h) = refl
 
-pub words_shift : (F : Option (List ℕ) → Option (List ℕ)) → Commutes F → (env : Environment) (id : ℕ) (ns : List ℕ) (globals : List Binding) (h : Meter) →
-    run_words env id ns globals (retold F h) ≡ retold_words F (run_words env id ns globals h)
-words_shift F k env id [] globals h = refl
-words_shift F k env id (n ∷ ns) globals h =
-    let line = word_line h.text_open n in
-    ap (λ t. behind_word (run_words env id ns) (run_of env id (word_value n ∷ []) globals (record (wrote h line) { told = t }))) (sym (k h.told line))
-    ∙ ap (behind_word (run_words env id ns)) (run_of_shift F k env id (word_value n ∷ []) globals (wrote h line))
-    ∙ word_shift F (run_words env id ns) (words_shift F k env id ns) (run_of env id (word_value n ∷ []) globals (wrote h line))
+pub words_shift : (F : Option (List ℕ) → Option (List ℕ)) → Commutes F →
+    (env : Environment) (es : Entries) (ws : List Word) (globals : List Binding) (h : Meter) →
+    run_words env es ws globals (retold F h) ≡ retold_words F (run_words env es ws globals h)
+words_shift F k env es [] globals h = refl
+words_shift F k env es (w ∷ ws) globals h =
+    let line = word_line h.text_open w in
+    ap (λ t. behind_word (run_words env es ws) (run_word env (entry_for es w) w globals (record (wrote h line) { told = t })))
+    (sym (k h.told line))
+    ∙ ap (behind_word (run_words env es ws)) (run_word_shift F k env (entry_for es w) w globals (wrote h line))
+    ∙ word_shift F (run_words env es ws) (words_shift F k env es ws) (run_word env (entry_for es w) w globals (wrote h line))
 
 -- words over a text are the words over no text, with their own text behind the other
-pub words_behind : (env : Environment) (id : ℕ) (ns : List ℕ) (globals : List Binding) (steps : ℕ) (old : Option (List ℕ)) →
-    run_words env id ns globals (starting steps old) ≡ retold_words (behind old) (run_words env id ns globals (starting steps (Some [])))
-words_behind env id ns globals steps old =
-    ap (λ t. run_words env id ns globals (starting steps t)) (sym (behind_nothing old))
-    ∙ words_shift (behind old) (behind_commutes old) env id ns globals (starting steps (Some []))
+pub words_behind : (env : Environment) (es : Entries) (ws : List Word) (globals : List Binding) (steps : ℕ) (old : Option (List ℕ)) →
+    run_words env es ws globals (starting steps old) ≡ retold_words (behind old) (run_words env es ws globals (starting steps (Some [])))
+words_behind env es ws globals steps old =
+    ap (λ t. run_words env es ws globals (starting steps t)) (sym (behind_nothing old))
+    ∙ words_shift (behind old) (behind_commutes old) env es ws globals (starting steps (Some []))
 
 -- and these have a text of their own
 run_of_keeps : (env : Environment) (id : ℕ) (args : List Value) (globals : List Binding) (h : Meter) → OwnText h → OwnText (final (run_of env id args globals h))
 unfolding run_of
 run_of_keeps env id args globals h p = run_keeps OwnText own_text_kept (meanings (nodes env) most_open) (keeps OwnText own_text_kept (nodes env) most_open) (call_of env id args (resting globals)) h p
 
+run_word_keeps : (env : Environment) (o : Option ℕ) (w : Word) (globals : List Binding) (h : Meter) → OwnText h →
+    OwnText (final (run_word env o w globals h))
+run_word_keeps env None w globals h p = p
+run_word_keeps env (Some id) w globals h p = run_of_keeps env id (word_value w ∷ []) globals h p
+
 word_keeps : (k : List Binding → Meter → WordsEnd) → ((gs : List Binding) (h : Meter) → OwnText h → OwnText (words_final (k gs h))) → (r : Outcome Core (Option Value)) → OwnText (final r) → OwnText (words_final (behind_word k r))
 word_keeps k each (Done o c h) p = each c.globals h p
 word_keeps k each (Thrown x c h) p = p
 word_keeps k each (Halt e c h) p = p
 
-words_keep : (env : Environment) (id : ℕ) (ns : List ℕ) (globals : List Binding) (h : Meter) → OwnText h → OwnText (words_final (run_words env id ns globals h))
-words_keep env id [] globals h p = p
-words_keep env id (n ∷ ns) globals h p =
-    let line = word_line h.text_open n in
-    word_keeps (run_words env id ns) (words_keep env id ns) (run_of env id (word_value n ∷ []) globals (wrote h line))
-    (run_of_keeps env id (word_value n ∷ []) globals (wrote h line) (own_text_kept.wrote h line p))
+words_keep : (env : Environment) (es : Entries) (ws : List Word) (globals : List Binding) (h : Meter) → OwnText h →
+    OwnText (words_final (run_words env es ws globals h))
+words_keep env es [] globals h p = p
+words_keep env es (w ∷ ws) globals h p =
+    let line = word_line h.text_open w in
+    word_keeps (run_words env es ws) (words_keep env es ws) (run_word env (entry_for es w) w globals (wrote h line))
+    (run_word_keeps env (entry_for es w) w globals (wrote h line) (own_text_kept.wrote h line p))
 
-pub words_own_text : (env : Environment) (id : ℕ) (ns : List ℕ) (globals : List Binding) (steps : ℕ) → OwnText (words_final (run_words env id ns globals (starting steps (Some []))))
-words_own_text env id ns globals steps = words_keep env id ns globals (starting steps (Some [])) (record { text = []; told = refl; text_open = refl })
+pub words_own_text : (env : Environment) (es : Entries) (ws : List Word) (globals : List Binding) (steps : ℕ) →
+    OwnText (words_final (run_words env es ws globals (starting steps (Some []))))
+words_own_text env es ws globals steps =
+    words_keep env es ws globals (starting steps (Some [])) (record { text = []; told = refl; text_open = refl })
 
 -- ---- the line of a word
 
@@ -123,13 +146,22 @@ closed_behind : (xs rest : List ℕ) → ((b : Bool) → open_after b rest ≡ f
 closed_behind [] rest h b = h b
 closed_behind (x ∷ xs) rest h b = closed_behind xs rest h (not (x == 10))
 
-line_closes : (b is_open : Bool) (n : ℕ) → open_after b (word_line is_open n) ≡ false
-line_closes b is_open n =
-    closed_behind (if is_open then line_feed else []) _ (closed_behind (codes "word ") (digits_text 8 n ++ line_feed) (closed_behind (digits_text 8 n) line_feed (λ c. refl))) b
+digits_close : (n m : ℕ) (b : Bool) → open_after b (digits_text n m ++ line_feed) ≡ false
+digits_close n m b = closed_behind (digits_text n m) line_feed (λ c. refl) b
+
+word_closes : (short : Bool) (m : ℕ) (b : Bool) → open_after b (cond short (digits_text 4 m) (digits_text 8 m) ++ line_feed) ≡ false
+word_closes true m b = digits_close 4 m b
+word_closes false m b = digits_close 8 m b
+
+line_closes : (b is_open : Bool) (w : Word) → open_after b (word_line is_open w) ≡ false
+line_closes b is_open w =
+    closed_behind (if is_open then line_feed else []) _
+    (closed_behind (codes "word ") (word_digits w ++ line_feed) (word_closes (is_short w) w.bits)) b
 
 -- so a call behind it begins as any call does
-pub line_starts : (h : Meter) (n : ℕ) → wrote h (word_line h.text_open n) ≡ starting h.steps (appended h.told (word_line h.text_open n))
-line_starts h n = ap (λ b. record { steps = h.steps; told = appended h.told (word_line h.text_open n); text_open = b }) (line_closes h.text_open h.text_open n)
+pub line_starts : (h : Meter) (w : Word) → wrote h (word_line h.text_open w) ≡ starting h.steps (appended h.told (word_line h.text_open w))
+line_starts h w =
+    ap (λ b. record { steps = h.steps; told = appended h.told (word_line h.text_open w); text_open = b }) (line_closes h.text_open h.text_open w)
 
 -- ---- the bitfields of a word
 
@@ -207,9 +239,12 @@ run_viewed env id T bs globals h =
     ap (λ x. run_of env id (x ∷ []) globals h) u.1 ∙ run_plain env id bs u.0 globals h
 
 -- one word more: its line, and a call with the word in any type
-pub words_step : (env : Environment) (id n : ℕ) (ns : List ℕ) (T : Closed) (globals : List Binding) (h : Meter) →
-    run_words env id (n ∷ ns) globals h
-    ≡ behind_word (run_words env id ns) (run_of env id (viewed T (word_value n) ∷ []) globals (starting h.steps (appended h.told (word_line h.text_open n))))
-words_step env id n ns T globals h =
-    ap (λ k. behind_word (run_words env id ns) (run_of env id (word_value n ∷ []) globals k)) (line_starts h n)
-    ∙ ap (behind_word (run_words env id ns)) (sym (run_viewed env id T (bits_of 32 n) globals (starting h.steps (appended h.told (word_line h.text_open n)))))
+pub words_step : (env : Environment) (es : Entries) (id : ℕ) (w : Word) (ws : List Word) (T : Closed) (globals : List Binding) (h : Meter) →
+    entry_for es w ≡ Some id → run_words env es (w ∷ ws) globals h
+    ≡ behind_word (run_words env es ws)
+    (run_of env id (viewed T (word_value w) ∷ []) globals (starting h.steps (appended h.told (word_line h.text_open w))))
+words_step env es id w ws T globals h is =
+    ap (λ o. behind_word (run_words env es ws) (run_word env o w globals (wrote h (word_line h.text_open w)))) is
+    ∙ ap (λ k. behind_word (run_words env es ws) (run_of env id (word_value w ∷ []) globals k)) (line_starts h w)
+    ∙ ap (behind_word (run_words env es ws))
+    (sym (run_viewed env id T (bits_of (word_width w) w.bits) globals (starting h.steps (appended h.told (word_line h.text_open w)))))

@@ -20,7 +20,7 @@ use Rattle.asl_rules.specs.expressions.Exprs.{written}
 use Rattle.asl_rules.specs.statements.Acting.{Listed, in_order}
 use Rattle.asl_rules.specs.statements.Stmts.{found_stmt}
 use Rattle.asl_rules.specs.declarations.Declarations.{in_names, names_of_program}
-use Rattle.asl_rules.specs.declarations.Programs.{body_scope, funcs_of, Head, params_free, formals_free, param_written, params_rule, formals_rule, result_rule, limit_typed, params_are_integers, limit_rule, with_formals, signature_rule, signatures_rule, signatures, may_end, body_of, tree_func, bodies_rule, origin, accepted}
+use Rattle.asl_rules.specs.declarations.Programs.{Entries, body_scope, funcs_of, Head, params_free, formals_free, param_written, params_rule, formals_rule, result_rule, limit_typed, params_are_integers, limit_rule, with_formals, signature_rule, signatures_rule, signatures, may_end, body_of, tree_func, bodies_rule, origin, accepted}
 use Rattle.asl_rules.specs.private.Belonging.{Belong}
 use Rattle.asl_rules.specs.private.Agreement.{types_in, no_atoms, GlobalsMatch, Agrees}
 use Rattle.asl_rules.specs.runs.States.{Binding, Core, entered, restored, resting}
@@ -143,7 +143,7 @@ zero_more n = omega arith
 abbrev states : Core → Core → Entering
 states p i = record { params = p; inner = i }
 
-module _ (tests : Tests) (right : IsRight tests) (ds : List Decl) (asked : Asked) (main : Option ℕ) (loose : Bool) (heads : List Head) (trees : List TreeFunc) (w : WellNamed (names_of_program tests ds)) (s : FormedSubs tests right (types_in (names_of_program tests ds)) (well_declared (names_of_program tests ds) w) (signatures heads))
+module _ (tests : Tests) (right : IsRight tests) (ds : List Decl) (asked : Asked) (main : Entries) (loose : Bool) (heads : List Head) (trees : List TreeFunc) (w : WellNamed (names_of_program tests ds)) (s : FormedSubs tests right (types_in (names_of_program tests ds)) (well_declared (names_of_program tests ds) w) (signatures heads))
     (heads_are : signatures_rule tests (names_of_program tests ds) (funcs_of ds) ≡ Ok heads) (bodies : bodies_rule tests (signatures heads) heads ≡ Ok trees) where
   abbrev base : List Entry
   base = names_of_program tests ds

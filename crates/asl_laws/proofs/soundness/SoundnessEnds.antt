@@ -21,7 +21,7 @@ use Rattle.asl_rules.specs.declarations.Routines.{Routine, routine_named}
 use Rattle.asl_rules.specs.statements.Stmts.{invoke_rule, found_stmt}
 use Rattle.asl_rules.specs.expressions.Calls.{chosen, Called, call_begun, routine_taken, procedure_of, procedure_rule}
 use Rattle.asl_rules.specs.declarations.Declarations.{names_of_program}
-use Rattle.asl_rules.specs.declarations.Programs.{Accepted, accepted, environment}
+use Rattle.asl_rules.specs.declarations.Programs.{Entries, Accepted, accepted, environment}
 use Rattle.asl_rules.specs.runs.States.{Binding, Core, resting}
 use Rattle.asl_rules.specs.private.Belonging.{InType}
 use Rattle.asl_rules.specs.private.Agreement.{types_in, GlobalsMatch, Agrees}
@@ -94,7 +94,7 @@ no_procedures tests right ds base w j s span i ps es c is_found h k =
 
 -- ---- of a program
 
-module _ (tests : Tests) (right : IsRight tests) (ds : List Decl) (asked : Entered_by) (main : Option ℕ) (subs : List Signature) (funcs : List TreeFunc) (w : WellNamed (names_of_program tests ds)) (s : FormedSubs tests right (types_in (names_of_program tests ds)) (well_declared (names_of_program tests ds) w) subs) where
+module _ (tests : Tests) (right : IsRight tests) (ds : List Decl) (asked : Entered_by) (main : Entries) (subs : List Signature) (funcs : List TreeFunc) (w : WellNamed (names_of_program tests ds)) (s : FormedSubs tests right (types_in (names_of_program tests ds)) (well_declared (names_of_program tests ds) w) subs) where
   abbrev base : List Entry
   base = names_of_program tests ds
 

@@ -1,14 +1,9 @@
--- The entry that was asked for can be called from outside: `main` with nothing, and `decode` with any 32 bits.
-use Rattle.std.proofs.Common.{◌≡◌, ℕ, suc, ◌+◌, ℤ, pos, negsuc, Bool, true, false, ◌&&◌, cond, List, [], ◌∷◌, length, Option, Some, None, Ok, refl, sym, ap, ◌∙◌, subst, arith}
+-- The entries can be called from outside: `main` with nothing, `decode` with any 32 bits, and `decode16` with any 16.
+use Rattle.std.proofs.Common.{◌≡◌, ℕ, suc, ◌+◌, ℤ, pos, negsuc, Bool, true, false, ◌&&◌, cond, List, [], ◌∷◌, length, Option, Some, None, refl, sym, ap, ◌∙◌, subst, arith}
 use Rattle.std.specs.Prelude.{slice_get, codes}
 use Rattle.std.specs.Str.{bytes_eq}
-use Rattle.asl_syn.specs.declared.code.StaticCode.TheVariants.{T24}
-use Rattle.asl_syn.specs.declared.tree.Decl.{Decl}
 use Rattle.asl_poly.specs.Poly.{constant_value}
 use Rattle.asl_cons.proofs.Results.{constant_is}
-use Rattle.asl_rules.specs.declared.entry.Entry.TheVariants as entry
-use Rattle.asl_rules.specs.Faults.{fault_of}
-use Rattle.asl_rules.specs.Tests.{Tests}
 use Rattle.asl_rules.specs.types.Types.{Ty, Parts, integer_of, boolean, bits_of, enumeration_of, record_of, exception_of, tuple_of, array_of, named, no_part, part, width_of, is_bits}
 use Rattle.asl_rules.specs.types.Closed.{Assignment, type_with, width_at}
 use Rattle.asl_rules.specs.values.Values.{Value, bits_with, is_width, has}
@@ -17,14 +12,12 @@ use Rattle.asl_rules.specs.declarations.Scopes.{Signature, Param, is_absent}
 use Rattle.asl_rules.specs.runs.States.{Binding}
 use Rattle.asl_rules.specs.private.Belonging.{Belong}
 use Rattle.asl_rules.specs.private.Agreement.{types_in, no_atoms, GlobalsMatch}
-use Rattle.asl_rules.specs.declarations.Programs.{has_integer, has_no_param, has_no_formal, is_main, is_wide, has_word, is_decode, entry_from, entry_found, entry_rule, Accepted}
+use Rattle.asl_rules.specs.declarations.Programs.{has_integer, has_no_param, has_no_formal, is_main, is_wide, has_word, takes_word, entry_from, Accepted}
 use Rattle.asl_laws.specs.Soundness.{IsCall}
-use Rattle.asl_rules.proofs.basics.Inversions.{err_ok, ok_ok}
 use Rattle.asl_rules.proofs.basics.Tests.{no, both, none_some, some_same}
 use Rattle.asl_rules.proofs.values.SameKind.{same_number, number_is}
 use Rattle.asl_rules.proofs.values.Viewing.{viewed_has, viewed_twice}
 use Rattle.asl_rules.proofs.values.Bare.{viewed_built}
-use Rattle.asl_laws.proofs.soundness.SoundnessFacts.{Facts}
 
 -- ---- the first such subprogram
 
@@ -50,10 +43,6 @@ first_by is false n f fs o id e next h =
 first_of : (is : Signature → Bool) (n : ℕ) (fs : List Signature) (id : ℕ) → entry_from is n fs ≡ Some id → First is n fs id
 first_of is n [] id h = none_some id h
 first_of is n (f ∷ fs) id h = first_by is (is f) n f fs (entry_from is (suc n) fs) id refl (first_of is (suc n) fs id) h
-
-found_so : (o : Option ℕ) (id : ℕ) → entry_found o ≡ Ok (Some id) → o ≡ Some id
-found_so None id h = err_ok (fault_of T24 _) (Some id) h
-found_so (Some n) id h = ok_ok (Some n) (Some id) h
 
 zero_on : (p : ℕ) → 0 + p ≡ p
 zero_on p = omega arith
@@ -93,27 +82,25 @@ only_formal (part T Ts) = T
 abbrev pub word_for : Parts → List Bool → Value
 word_for Ts bs = viewed (type_with (only_formal Ts) no_atoms) (bits_with bs [])
 
-word_belongs : (d : List ℕ → Option Ty) (Ts : Parts) (bs : List Bool) → has_word Ts ≡ true → length bs ≡ 32 → Belong d no_atoms (word_for Ts bs ∷ []) Ts
-word_belongs d no_part bs h e = no h
-word_belongs d (part T (part U Ts)) bs h e = no h
-word_belongs d (part T no_part) bs h e =
-    let p = both (is_bits T) (is_wide 32 (constant_value (width_of T))) h in
-    let w : width_at (width_of T) no_atoms ≡ pos (length bs) = constant_is no_atoms (width_of T) (pos 32) (wide_is 32 (constant_value (width_of T)) p.1) ∙ ap pos (sym e) in
+word_belongs : (d : List ℕ → Option Ty) (n : ℕ) (Ts : Parts) (bs : List Bool) → has_word n Ts ≡ true → length bs ≡ n →
+    Belong d no_atoms (word_for Ts bs ∷ []) Ts
+word_belongs d n no_part bs h e = no h
+word_belongs d n (part T (part U Ts)) bs h e = no h
+word_belongs d n (part T no_part) bs h e =
+    let p = both (is_bits T) (is_wide n (constant_value (width_of T))) h in
+    let w : width_at (width_of T) no_atoms ≡ pos (length bs) = constant_is no_atoms (width_of T) (pos n) (wide_is n (constant_value (width_of T)) p.1) ∙ ap pos (sym e) in
     let i = bits_have no_atoms T bs p.0 w in
     ((viewed_has (type_with T no_atoms) (bits_with bs []) i, viewed_built d (type_with T no_atoms) (bits_with bs []) tt, viewed_twice (type_with T no_atoms) (bits_with bs [])), tt)
 
 -- ---- calls
 
-module _ (t : Tests) (ds : List Decl) (a : Accepted) (f : Facts t ds a) (id : ℕ) (globals : List Binding) (m : GlobalsMatch a.names globals) (is : a.main ≡ Some id) where
-  entry_is : entry_rule a.asked a.signatures ≡ Ok (Some id)
-  entry_is = subst (λ (z : Accepted). z.main ≡ Some id → entry_rule z.asked z.signatures ≡ Ok (Some id)) f.is (λ q. f.entry ∙ ap (λ o. Ok o) q) is
-
+module _ (a : Accepted) (id : ℕ) (globals : List Binding) (m : GlobalsMatch a.names globals) where
   at_place : (g : Signature → Bool) (r : First g 0 a.signatures id) → slice_get a.signatures id ≡ Some r.signature
   at_place g r = ap (λ n. slice_get a.signatures n) (r.id_is ∙ zero_on r.place) ∙ r.stands
 
-  pub main_call : a.asked ≡ entry.Main → IsCall a id [] globals
-  main_call q =
-      let r = first_of is_main 0 a.signatures id (found_so (entry_from is_main 0 a.signatures) id (subst (λ z. entry_rule z a.signatures ≡ Ok (Some id)) q entry_is)) in
+  pub main_call : entry_from is_main 0 a.signatures ≡ Some id → IsCall a id [] globals
+  main_call first =
+      let r = first_of is_main 0 a.signatures id first in
       let s = r.signature in
       let p = both (bytes_eq s.name (codes "main")) (has_no_param s.params && (has_no_formal s.formals && has_integer s.result)) r.fits in
       let u = both (has_no_param s.params) (has_no_formal s.formals && has_integer s.result) p.1 in
@@ -121,20 +108,21 @@ module _ (t : Tests) (ds : List Decl) (a : Accepted) (f : Facts t ds a) (id : �
       record { signature = s; is = at_place is_main r; no_params = no_params s.params u.0; args_belong = subst (Belong (types_in a.names) no_atoms []) (sym (no_formals s.formals v.0)) tt; globals_match = m }
 
   -- a call with a word, in the type of the formal
-  pub record DecodeCall (bs : List Bool) : Type 0 where
+  pub record WordCall (bs : List Bool) : Type 0 where
     pub signature : Signature
     pub stands : slice_get a.signatures id ≡ Some signature
     pub call : IsCall a id (word_for signature.formals bs ∷ []) globals
 
-  pub decode_call : a.asked ≡ entry.Decode → (bs : List Bool) → length bs ≡ 32 → DecodeCall bs
-  decode_call q bs e =
-      let r = first_of is_decode 0 a.signatures id (found_so (entry_from is_decode 0 a.signatures) id (subst (λ z. entry_rule z a.signatures ≡ Ok (Some id)) q entry_is)) in
+  pub word_call : (name : List ℕ) (n : ℕ) → entry_from (takes_word name n) 0 a.signatures ≡ Some id → (bs : List Bool) → length bs ≡ n →
+      WordCall bs
+  word_call name n first bs e =
+      let r = first_of (takes_word name n) 0 a.signatures id first in
       let s = r.signature in
-      let p = both (bytes_eq s.name (codes "decode")) (has_no_param s.params && (has_word s.formals && is_absent s.result)) r.fits in
-      let u = both (has_no_param s.params) (has_word s.formals && is_absent s.result) p.1 in
-      let v = both (has_word s.formals) (is_absent s.result) u.1 in
+      let p = both (bytes_eq s.name name) (has_no_param s.params && (has_word n s.formals && is_absent s.result)) r.fits in
+      let u = both (has_no_param s.params) (has_word n s.formals && is_absent s.result) p.1 in
+      let v = both (has_word n s.formals) (is_absent s.result) u.1 in
       record {
         signature = s;
-        stands = at_place is_decode r;
-        call = record { signature = s; is = at_place is_decode r; no_params = no_params s.params u.0; args_belong = word_belongs (types_in a.names) s.formals bs v.0 e; globals_match = m };
+        stands = at_place (takes_word name n) r;
+        call = record { signature = s; is = at_place (takes_word name n) r; no_params = no_params s.params u.0; args_belong = word_belongs (types_in a.names) n s.formals bs v.0 e; globals_match = m };
       }

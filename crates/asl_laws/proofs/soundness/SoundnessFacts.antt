@@ -1,5 +1,5 @@
 -- What a program that is well formed says of its parts: its names, its signatures and its bodies, and each subprogram by its number.
-use Rattle.std.proofs.Common.{◌≡◌, ℕ, zero, suc, List, [], ◌∷◌, Option, Some, Ok, refl, sym, ap, ◌∙◌, subst}
+use Rattle.std.proofs.Common.{◌≡◌, ℕ, zero, suc, List, [], ◌∷◌, Some, Ok, refl, sym, ap, ◌∙◌, subst}
 use Rattle.std.specs.Prelude.{slice_get}
 use Rattle.asl_syn.specs.declared.tree.Decl.{Decl}
 use Rattle.asl_syn.specs.declared.tree.Func.{Func}
@@ -10,7 +10,7 @@ use Rattle.asl_rules.specs.declarations.Uses.{cycles_rule}
 use Rattle.asl_rules.specs.declarations.Scopes.{Entry, Signature}
 use Rattle.asl_rules.specs.runs.Trees.{TreeFunc}
 use Rattle.asl_rules.specs.declarations.Declarations.{names_of_program, globals_rule}
-use Rattle.asl_rules.specs.declarations.Programs.{funcs_of, Head, params_free, formals_free, params_rule, formals_rule, result_rule, limit_typed, params_are_integers, limit_rule, signature_rule, signatures_rule, signatures, overloads_rule, body_rule, bodies_rule, entry_rule, verdict, Accepted, accepted}
+use Rattle.asl_rules.specs.declarations.Programs.{Entries, funcs_of, Head, params_free, formals_free, params_rule, formals_rule, result_rule, limit_typed, params_are_integers, limit_rule, signature_rule, signatures_rule, signatures, overloads_rule, body_rule, bodies_rule, entry_rule, verdict, Accepted, accepted}
 use Rattle.asl_rules.proofs.basics.Inversions.{ok_ok, bind_ok, then_ok}
 use Rattle.asl_rules.proofs.basics.Tests.{some_same, none_some}
 use Rattle.asl_laws.proofs.scopes.Globals.{names_same}
@@ -20,7 +20,7 @@ pub record Facts (t : Tests) (ds : List Decl) (a : Accepted) : Type 0 where
   pub heads : List Head
   pub trees : List TreeFunc
   pub asked : Asked
-  pub main : Option ℕ
+  pub main : Entries
   pub apart : names_rule [] (all_declared ds) ≡ Ok tt
   pub globals : globals_rule t ds ≡ Ok (names_of_program t ds)
   pub heads_are : signatures_rule t (names_of_program t ds) (funcs_of ds) ≡ Ok heads

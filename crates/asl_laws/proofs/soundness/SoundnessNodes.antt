@@ -1,6 +1,6 @@
 -- Each node that a run enters, where each pair of forms does the same: the state agrees with the scope that the node was judged in, what the node gives is in its
 -- type, and each caller's frame agrees with the scope of the call that it waits for.
-use Rattle.std.proofs.Common.{◌≡◌, ℕ, inl, inr, Bool, true, List, [], ◌∷◌, Option, Ok, refl, sym, ◌∙◌, subst, false, ◌⊎◌}
+use Rattle.std.proofs.Common.{◌≡◌, ℕ, inl, inr, Bool, true, List, [], ◌∷◌, Ok, refl, sym, ◌∙◌, subst, false, ◌⊎◌}
 use Rattle.asl_syn.specs.declared.tree.Expr.{Expr}
 use Rattle.asl_syn.specs.declared.tree.Stmt.{Stmt}
 use Rattle.asl_syn.specs.declared.tree.Decl.{Decl}
@@ -12,7 +12,7 @@ use Rattle.asl_rules.specs.expressions.Typing.{Typed}
 use Rattle.asl_rules.specs.runs.Trees.{TreeFunc, Tree, Act}
 use Rattle.asl_rules.specs.expressions.Exprs.{typed}
 use Rattle.asl_rules.specs.declarations.Declarations.{names_of_program}
-use Rattle.asl_rules.specs.declarations.Programs.{Accepted, accepted}
+use Rattle.asl_rules.specs.declarations.Programs.{Entries, Accepted, accepted}
 use Rattle.asl_rules.specs.runs.States.{Binding, Core, resting, Frame}
 use Rattle.asl_rules.specs.private.Belonging.{Sound}
 use Rattle.asl_rules.specs.private.Agreement.{types_in, GlobalsMatch, Agrees}
@@ -43,7 +43,7 @@ HasFrame (f ∷ fs) = Unit {0}
 abbrev pub AtNode : Tests → List Decl → Accepted → Entered Expr Stmt → Core → Type 0
 AtNode t ds a n c = Sound c × NodeVisited t ds a n c × CallersWait t ds a c.globals c.callers c.live
 
-module _ (tests : Tests) (right : IsRight tests) (ds : List Decl) (asked : Entered_by) (main : Option ℕ) (subs : List Signature) (funcs : List TreeFunc) (w : WellNamed (names_of_program tests ds)) (s : FormedSubs tests right (types_in (names_of_program tests ds)) (well_declared (names_of_program tests ds) w) subs) where
+module _ (tests : Tests) (right : IsRight tests) (ds : List Decl) (asked : Entered_by) (main : Entries) (subs : List Signature) (funcs : List TreeFunc) (w : WellNamed (names_of_program tests ds)) (s : FormedSubs tests right (types_in (names_of_program tests ds)) (well_declared (names_of_program tests ds) w) subs) where
   abbrev base : List Entry
   base = names_of_program tests ds
 

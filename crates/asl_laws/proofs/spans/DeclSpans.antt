@@ -24,7 +24,7 @@ use Rattle.asl_rules.specs.declarations.Uses.{cycles_rule}
 use Rattle.asl_rules.specs.statements.Acting.{in_order}
 use Rattle.asl_rules.specs.statements.Stmts.{found_stmt}
 use Rattle.asl_rules.specs.declarations.Declarations.{fields_written, def_rule, supertype_rule, type_decl_rule}
-use Rattle.asl_rules.specs.declarations.Programs.{params_free, formals_free, param_written, params_rule, formals_rule, result_rule, type_is_integer, params_are_integers, Head, overloads_rule, body_rule, bodies_rule, body_of, origin, entry_found, entry_rule}
+use Rattle.asl_rules.specs.declarations.Programs.{params_free, formals_free, param_written, params_rule, formals_rule, result_rule, type_is_integer, params_are_integers, Head, overloads_rule, body_rule, bodies_rule, body_of, origin, entry_from, entry_found, entry16_rule, entry_rule, is_decode, main_rule}
 use Rattle.asl_rules.proofs.verdict.SameRules.{AllOf}
 use Rattle.asl_laws.specs.Spans.{Each, all_of, maybe, of_name, of_names, type_spans, stmt_spans, formal_spans, param_spans, def_spans, decl_spans}
 use Rattle.asl_laws.proofs.spans.SpanLayers.{all_there}
@@ -155,7 +155,15 @@ module _ (t : Tests) (P : Fault → Type 0) where
   entry_found_stands None p = search steps
   entry_found_stands (Some n) p = tt
 
+  main_stands : (o : Option ℕ) → At P origin → Stands P (main_rule o)
+  main_stands o p = bound P (entry_found o) _ (entry_found_stands o p) (λ main. tt)
+
+  entry16_stands : (main o : Option ℕ) → At P origin → Stands P (entry16_rule main o)
+  entry16_stands main o p = bound P (entry_found o) _ (entry_found_stands o p) (λ entry16. tt)
+
   pub entry_stands : (e : Entry) (fs : List Signature) → At P origin → Stands P (entry_rule e fs)
   entry_stands entry.None fs p = tt
-  entry_stands entry.Main fs p = entry_found_stands _ p
-  entry_stands entry.Decode fs p = entry_found_stands _ p
+  entry_stands entry.Main fs p = main_stands _ p
+  entry_stands entry.Decode fs p = main_stands _ p
+  entry_stands entry.Decode16 fs p = entry16_stands None _ p
+  entry_stands entry.Both fs p = bound P (entry_found (entry_from is_decode 0 fs)) _ (entry_found_stands _ p) (λ main. entry16_stands main _ p)

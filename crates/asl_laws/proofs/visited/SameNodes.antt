@@ -1,5 +1,5 @@
 -- Where each pair of forms does the same, the tree of each node that a call visits does what the node does. What calls from outside are is a premise.
-use Rattle.std.proofs.Common.{◌≡◌, ℕ, inl, inr, Bool, List, [], ◌∷◌, Option, refl, sym, ap, ◌∙◌, subst, false, true, Ok}
+use Rattle.std.proofs.Common.{◌≡◌, ℕ, inl, inr, Bool, List, [], ◌∷◌, refl, sym, ap, ◌∙◌, subst, false, true, Ok}
 use Rattle.asl_syn.specs.declared.tree.Decl.{Decl}
 use Rattle.asl_syn.specs.declared.tree.Expr.{Expr, out-Expr}
 use Rattle.asl_syn.specs.declared.tree.Stmt.{Stmt, out-Stmt}
@@ -11,7 +11,7 @@ use Rattle.asl_rules.specs.declarations.Scopes.{Entry, Signature, with_class}
 use Rattle.asl_rules.specs.runs.Trees.{TreeFunc, Tree, Act}
 use Rattle.asl_rules.specs.statements.Falling.{falls}
 use Rattle.asl_rules.specs.declarations.Declarations.{names_of_program}
-use Rattle.asl_rules.specs.declarations.Programs.{Accepted, accepted, environment}
+use Rattle.asl_rules.specs.declarations.Programs.{Entries, Accepted, accepted, environment}
 use Rattle.asl_rules.specs.runs.States.{Binding, Core, resting}
 use Rattle.asl_rules.specs.private.Agreement.{types_in, GlobalsMatch, Agrees}
 use Rattle.asl_rules.specs.runs.Plans.{Meter, Faulted, Outcome, Done, Thrown, Halt}
@@ -48,7 +48,7 @@ all_same : (t : Tests) (ds : List Decl) (a : Accepted) (vs : List (Visit Core Ex
 all_same t ds a [] h = tt
 all_same t ds a (v ∷ vs) h = (h.0, all_same t ds a vs h.1)
 
-module _ (tests : Tests) (right : IsRight tests) (ds : List Decl) (asked : Entered_by) (main : Option ℕ) (subs : List Signature) (funcs : List TreeFunc) (w : WellNamed (names_of_program tests ds)) (s : FormedSubs tests right (types_in (names_of_program tests ds)) (well_declared (names_of_program tests ds) w) subs) where
+module _ (tests : Tests) (right : IsRight tests) (ds : List Decl) (asked : Entered_by) (main : Entries) (subs : List Signature) (funcs : List TreeFunc) (w : WellNamed (names_of_program tests ds)) (s : FormedSubs tests right (types_in (names_of_program tests ds)) (well_declared (names_of_program tests ds) w) subs) where
   abbrev base : List Entry
   base = names_of_program tests ds
 

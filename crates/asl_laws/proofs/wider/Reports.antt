@@ -11,10 +11,10 @@ use Rattle.asl_rules.specs.Tests.{Tests, IsRight}
 use Rattle.asl_rules.specs.values.Values.{Value}
 use Rattle.asl_rules.specs.runs.States.{Binding, Core}
 use Rattle.asl_rules.specs.runs.Plans.{Meter, Faulted, Stuck, Outcome, Done, Thrown, Halt, starting}
-use Rattle.asl_rules.specs.declarations.Programs.{environment, Accepted, verdict}
+use Rattle.asl_rules.specs.declarations.Programs.{environment, Accepted, Entries, verdict}
 use Rattle.asl_rules.specs.runs.Machines.{run_of}
-use Rattle.asl_rules.specs.runs.Words.{WordsEnd, AllReturned, WordThrew, WordHalted, run_words}
-use Rattle.asl_rules.specs.report.WordList.{ListFault, words_read}
+use Rattle.asl_rules.specs.runs.Words.{WordsEnd, AllReturned, WordThrew, WordHalted, run_words, wanted}
+use Rattle.asl_rules.specs.report.WordList.{ListFault, Word, words_read}
 use Rattle.asl_rules.specs.runs.Evaluation.{initial_globals}
 use Rattle.asl_laws.specs.Soundness.{NotStuck}
 use Rattle.asl_rules.specs.report.Made.{made_text}
@@ -69,13 +69,13 @@ run_stays t u p q le e ds a ok id args globals h f =
     ∙ out_fits _ _ (run_wider (environment t ds) u.limit le id args globals h) f
 
 pub words_stay : (t u : Tests) → IsRight t → IsRight u → t.limit ≤ u.limit → (e : Entry) (ds : List Decl) (a : Accepted) →
-    verdict e ds t ≡ Ok a → (id : ℕ) (words : List ℕ) (globals : List Binding) (h : Meter)
-    → WordsFitLimit (run_words (environment t ds) id words globals h) →
-    run_words (environment u ds) id words globals h ≡ run_words (environment t ds) id words globals h
-words_stay t u p q le e ds a ok id words globals h f =
-    ap (λ v. run_words (environment v ds) id words globals h) (tests_are t u p q)
-    ∙ ap (λ env. run_words env id words globals h) (same_environment t u.limit le e ds a ok)
-    ∙ words_fit (environment t ds) u.limit le _ _ (words_wider (environment t ds) u.limit le id words globals h) f
+    verdict e ds t ≡ Ok a → (es : Entries) (words : List Word) (globals : List Binding) (h : Meter)
+    → WordsFitLimit (run_words (environment t ds) es words globals h) →
+    run_words (environment u ds) es words globals h ≡ run_words (environment t ds) es words globals h
+words_stay t u p q le e ds a ok es words globals h f =
+    ap (λ v. run_words (environment v ds) es words globals h) (tests_are t u p q)
+    ∙ ap (λ env. run_words env es words globals h) (same_environment t u.limit le e ds a ok)
+    ∙ words_fit (environment t ds) u.limit le _ _ (words_wider (environment t ds) u.limit le es words globals h) f
 
 -- ---- reports
 
@@ -97,8 +97,8 @@ files_same (all files) P f g h k = k files h
 files_same (long name) P f g h k = refl
 files_same many P f g h k = refl
 
-read_words_same : (name : Text) (r : Result (List ℕ) ListFault) (P : List ℕ → Type 0) (f g : List ℕ → Answer) → OnWords r P →
-    ((words : List ℕ) → P words → g words ≡ f words) → on_words_read name r g ≡ on_words_read name r f
+read_words_same : (name : Text) (r : Result (List Word) ListFault) (P : List Word → Type 0) (f g : List Word → Answer) → OnWords r P →
+    ((words : List Word) → P words → g words ≡ f words) → on_words_read name r g ≡ on_words_read name r f
 read_words_same name (Ok words) P f g h k = k words h
 read_words_same name (Err e) P f g h k = refl
 
@@ -106,8 +106,8 @@ by_long : (b : Bool) (P : Type 0) (x y z : Answer) → UnlessLong b P → (P →
 by_long true P x y z h k = refl
 by_long false P x y z h k = k h
 
-list_same : (name bytes : Text) (P : List ℕ → Type 0) (f g : List ℕ → Answer) → OnList bytes P →
-    ((words : List ℕ) → P words → g words ≡ f words) → on_list name bytes g ≡ on_list name bytes f
+list_same : (name bytes : Text) (P : List Word → Type 0) (f g : List Word → Answer) → OnList bytes P →
+    ((words : List Word) → P words → g words ≡ f words) → on_list name bytes g ≡ on_list name bytes f
 list_same name bytes P f g h k = by_long (is_long bytes) (OnWords (words_read bytes) P) _ (on_words_read name (words_read bytes) f)
     (on_words_read name (words_read bytes) g) h (λ i. read_words_same name (words_read bytes) P f g i k)
 
@@ -122,8 +122,8 @@ module _ (t u : Tests) (p : IsRight t) (q : IsRight u) (le : t.limit ≤ u.limit
 
   -- a run of the entry
   begun_same : (end : Outcome Core (Option Value) → Answer) (ds : List Decl) (a : Accepted) (steps : ℕ) → verdict entry.Main ds t ≡ Ok a →
-      RunsWell t ds → RunFits (environment t ds) steps a.main →
-      begun end (environment u ds) steps a.main ≡ begun end (environment t ds) steps a.main
+      RunsWell t ds → RunFits (environment t ds) steps a.entries.main →
+      begun end (environment u ds) steps a.entries.main ≡ begun end (environment t ds) steps a.entries.main
   begun_same end ds a steps ok well =
       let w = well.run a ok steps in
       subst (λ o. RunFits (environment t ds) steps o → begun end (environment u ds) steps o ≡ begun end (environment t ds) steps o)
@@ -132,56 +132,54 @@ module _ (t u : Tests) (p : IsRight t) (q : IsRight u) (le : t.limit ≤ u.limit
       ∙ ap end (run_stays t u p q le entry.Main ds a ok w.0 [] (initial_globals (environment t ds)) (starting steps (Some []))
       (fits_of _ w.1.1 f)))
 
-  worked_same : (files : List File) (ds : List Decl) (a : Accepted) (steps : ℕ) (words : List ℕ) → verdict entry.Decode ds t ≡ Ok a →
-      RunsWell t ds → WordsFit (environment t ds) steps words a.main →
-      worked files (environment u ds) steps words a.main ≡ worked files (environment t ds) steps words a.main
-  worked_same files ds a steps words ok well =
-      let w = well.words a ok steps words in
-      subst (λ o. WordsFit (environment t ds) steps words o →
-      worked files (environment u ds) steps words o ≡ worked files (environment t ds) steps words o) (sym w.1.0) (λ f.
-      ap (λ gs. words_answer files (length words) (run_words (environment u ds) w.0 words gs (starting steps (Some []))))
-      (globals_same entry.Decode ds a ok)
+  worked_same : (files : List File) (ds : List Decl) (a : Accepted) (steps : ℕ) (words : List Word) → verdict (wanted words) ds t ≡ Ok a →
+      RunsWell t ds → WordsFit (environment t ds) steps words a.entries →
+      worked files (environment u ds) steps words a.entries ≡ worked files (environment t ds) steps words a.entries
+  worked_same files ds a steps words ok well f =
+      ap (λ gs. words_answer files (length words) (run_words (environment u ds) a.entries words gs (starting steps (Some []))))
+      (globals_same (wanted words) ds a ok)
       ∙ ap (λ r. words_answer files (length words) r)
-      (words_stay t u p q le entry.Decode ds a ok w.0 words (initial_globals (environment t ds)) (starting steps (Some []))
-      (words_of _ w.1.1 f)))
+      (words_stay t u p q le (wanted words) ds a ok a.entries words (initial_globals (environment t ds)) (starting steps (Some []))
+      (words_of _ (well.words a words ok steps) f))
 
   -- what comes of a verdict that is the same
-  on_same : (files : List File) (e : Entry) (ds : List Decl) (a : Accepted) (f g : Option ℕ → Answer) → verdict e ds t ≡ Ok a →
-      g a.main ≡ f a.main → on_verdict files g (verdict e ds u) ≡ on_verdict files f (verdict e ds t)
+  on_same : (files : List File) (e : Entry) (ds : List Decl) (a : Accepted) (f g : Entries → Answer) → verdict e ds t ≡ Ok a →
+      g a.entries ≡ f a.entries → on_verdict files g (verdict e ds u) ≡ on_verdict files f (verdict e ds t)
   on_same files e ds a f g ok h = ap (on_verdict files g) (verdict_same e ds a ok) ∙ h ∙ sym (ap (on_verdict files f) ok)
 
   module _ (read other : Reader) (x : IsReadingAt t.limit read) (y : IsReadingAt u.limit other) where
-    reading_same : (files : List File) (e : Entry) (P : List Decl → Option ℕ → Type 0) (f g : List Decl → Answer) →
+    reading_same : (files : List File) (e : Entry) (P : List Decl → Entries → Type 0) (f g : List Decl → Answer) →
         Accepts t e P (read files)
-        → ((ds : List Decl) (a : Accepted) → verdict e ds t ≡ Ok a → RunsWell t ds → P ds a.main → g ds ≡ f ds) →
+        → ((ds : List Decl) (a : Accepted) → verdict e ds t ≡ Ok a → RunsWell t ds → P ds a.entries → g ds ≡ f ds) →
         on_reading files g (other files) ≡ on_reading files f (read files)
     reading_same files e P f g (ds, a, r, ok, h) k =
         ap (on_reading files g) (read_same u.limit t.limit le read other x y files ds r)
         ∙ k ds a ok (reports_run_well t p files ds (subst (λ z. ReadsAt t.limit files z) r (x files))) h
         ∙ sym (ap (on_reading files f) r)
 
-    check_same : (files : List File) → Accepts t entry.None (λ ds main. Unit {0}) (read files) →
+    check_same : (files : List File) → Accepts t entry.None (λ ds found. Unit {0}) (read files) →
         on_reading files (on_check u files) (other files) ≡ on_reading files (on_check t files) (read files)
-    check_same files h = reading_same files entry.None (λ ds main. Unit {0}) (on_check t files) (on_check u files) h
+    check_same files h = reading_same files entry.None (λ ds found. Unit {0}) (on_check t files) (on_check u files) h
         (λ ds a ok well i. on_same files entry.None ds a _ _ ok refl)
 
-    run_same : (steps : ℕ) (files : List File) → Accepts t entry.Main (λ ds main. RunFits (environment t ds) steps main) (read files) →
+    run_same : (steps : ℕ) (files : List File) →
+        Accepts t entry.Main (λ ds found. RunFits (environment t ds) steps found.main) (read files) →
         on_reading files (on_run u steps files) (other files) ≡ on_reading files (on_run t steps files) (read files)
-    run_same steps files h = reading_same files entry.Main (λ ds main. RunFits (environment t ds) steps main) (on_run t steps files)
+    run_same steps files h = reading_same files entry.Main (λ ds found. RunFits (environment t ds) steps found.main) (on_run t steps files)
         (on_run u steps files) h (λ ds a ok well i. on_same files entry.Main ds a _ _ ok
         (begun_same (run_answer files) ds a steps ok well i))
 
-    words_same : (steps : ℕ) (words : List ℕ) (files : List File) →
-        Accepts t entry.Decode (λ ds main. WordsFit (environment t ds) steps words main) (read files) →
+    words_same : (steps : ℕ) (words : List Word) (files : List File) →
+        Accepts t (wanted words) (λ ds found. WordsFit (environment t ds) steps words found) (read files) →
         on_reading files (on_words u steps words files) (other files) ≡ on_reading files (on_words t steps words files) (read files)
-    words_same steps words files h = reading_same files entry.Decode (λ ds main. WordsFit (environment t ds) steps words main)
+    words_same steps words files h = reading_same files (wanted words) (λ ds found. WordsFit (environment t ds) steps words found)
         (on_words t steps words files) (on_words u steps words files) h
-        (λ ds a ok well i. on_same files entry.Decode ds a _ _ ok (worked_same files ds a steps words ok well i))
+        (λ ds a ok well i. on_same files (wanted words) ds a _ _ ok (worked_same files ds a steps words ok well i))
 
     made_same : (number size : ℕ) (text : Text) (files : List File) →
-        Accepts t entry.Main (λ ds main. RunFits (environment t ds) default_steps main) (read files) →
+        Accepts t entry.Main (λ ds found. RunFits (environment t ds) default_steps found.main) (read files) →
         on_reading files (on_made u number size text files) (other files) ≡ on_reading files (on_made t number size text files) (read files)
-    made_same number size text files h = reading_same files entry.Main (λ ds main. RunFits (environment t ds) default_steps main)
+    made_same number size text files h = reading_same files entry.Main (λ ds found. RunFits (environment t ds) default_steps found.main)
         (on_made t number size text files) (on_made u number size text files) h
         (λ ds a ok well i. on_same files entry.Main ds a _ _ ok
         (begun_same (made_answer (made_words number size (length text) (length ds)) files) ds a default_steps ok well i))

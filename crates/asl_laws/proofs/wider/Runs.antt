@@ -25,7 +25,7 @@ use Rattle.asl_syn.specs.declared.tree.Param.{Param}
 use Rattle.asl_syn.specs.declared.tree.Func.{Func}
 use Rattle.asl_syn.specs.Layers.{ExprLayer, StmtLayer}
 use Rattle.asl_rules.specs.types.Alone.{Polynomials}
-use Rattle.asl_rules.specs.declarations.Programs.{Environment, funcs_of, origin}
+use Rattle.asl_rules.specs.declarations.Programs.{Environment, funcs_of, origin, Entries}
 use Rattle.asl_rules.specs.statements.Locals.{is_var}
 use Rattle.asl_rules.specs.values.Values.{Value, Exit}
 use Rattle.asl_rules.specs.runs.States.{Binding, Core, entered, restored, resting}
@@ -52,7 +52,8 @@ use Rattle.asl_rules.specs.runs.Evaluation.{choice_in, otherwise_in, held, Step,
 use Rattle.asl_rules.specs.runs.Evaluation.{updated, store_at, Stores, Assigning, assign_each, assigning_layer, assigned, stmt_node}
 use Rattle.asl_rules.specs.runs.Evaluation.{meaning, expr_span, stmt_span}
 use Rattle.asl_rules.specs.runs.Machines.{most_open, run_of}
-use Rattle.asl_rules.specs.runs.Words.{WordsEnd, AllReturned, WordThrew, WordHalted, behind_word, run_words, word_line, word_value}
+use Rattle.asl_rules.specs.report.WordList.{Word}
+use Rattle.asl_rules.specs.runs.Words.{WordsEnd, AllReturned, WordThrew, WordHalted, behind_word, entry_for, run_word, run_words, word_line, word_value}
 use Rattle.asl_rules.proofs.verdict.SameConstants.{pure_same}
 use Rattle.asl_laws.specs.Wider.{IsNarrow, WordsFitLimit}
 use Rattle.asl_laws.proofs.wider.Steps.{Wider, wider_same, wider_equal, wider_bind, wider_step}
@@ -409,13 +410,20 @@ module _ (env : Environment) (m : ℕ) (le : env.limit ≤ m) where
   behind_wider r s f g (inl e) w = subst (λ z. WordsWider (behind_word f r) (behind_word g z)) (sym e) (one_behind r f g w)
   behind_wider r s f g (inr i) w = inr (behind_narrow r f i)
 
-  pub words_wider : (id : ℕ) (words : List ℕ) (globals : List Binding) (h : Meter) →
-      WordsWider (run_words env id words globals h) (run_words wide id words globals h)
-  words_wider id [] globals h = inl refl
-  words_wider id (n ∷ ns) globals h =
-      let begun = wrote h (word_line h.text_open n) in
-      behind_wider (run_of env id (word_value n ∷ []) globals begun) (run_of wide id (word_value n ∷ []) globals begun)
-      (run_words env id ns) (run_words wide id ns) (run_wider id (word_value n ∷ []) globals begun) (words_wider id ns)
+  word_wider : (o : Option ℕ) (w : Word) (globals : List Binding) (h : Meter) →
+      OutWider (run_word env o w globals h) (run_word wide o w globals h)
+  unfolding OutWider
+  word_wider None w globals h = inl refl
+  word_wider (Some id) w globals h = run_wider id (word_value w ∷ []) globals h
+
+  pub words_wider : (es : Entries) (words : List Word) (globals : List Binding) (h : Meter) →
+      WordsWider (run_words env es words globals h) (run_words wide es words globals h)
+  words_wider es [] globals h = inl refl
+  words_wider es (w ∷ ws) globals h =
+      let begun = wrote h (word_line h.text_open w) in
+      let o = entry_for es w in
+      behind_wider (run_word env o w globals begun) (run_word wide o w globals begun)
+      (run_words env es ws) (run_words wide es ws) (word_wider o w globals begun) (words_wider es ws)
 
 words_fit_not : (env : Environment) (m : ℕ) (le : env.limit ≤ m) (r : WordsEnd) → WordsFitLimit r → NarrowWords env m le r → ⊥
 words_fit_not env m le (AllReturned globals h) f n = n

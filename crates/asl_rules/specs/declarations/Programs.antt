@@ -229,15 +229,21 @@ is_wide n None = false
 is_wide n (Some (pos w)) = w == n
 is_wide n (Some (negsuc w)) = false
 
--- one formal of 32 bits
-abbrev pub has_word : Parts → Bool
-has_word no_part = false
-has_word (part T no_part) = is_bits T && is_wide 32 (constant_value (width_of T))
-has_word (part T (part U Ts)) = false
+-- one formal of n bits
+abbrev pub has_word : ℕ → Parts → Bool
+has_word n no_part = false
+has_word n (part T no_part) = is_bits T && is_wide n (constant_value (width_of T))
+has_word n (part T (part U Ts)) = false
 
--- a procedure that takes a word
+-- a procedure of this name that takes a word of n bits
+abbrev pub takes_word : List ℕ → ℕ → Signature → Bool
+takes_word name n f = bytes_eq f.name name && (has_no_param f.params && (has_word n f.formals && is_absent f.result))
+
 abbrev pub is_decode : Signature → Bool
-is_decode f = bytes_eq f.name (codes "decode") && (has_no_param f.params && (has_word f.formals && is_absent f.result))
+is_decode f = takes_word (codes "decode") 32 f
+
+abbrev pub is_decode16 : Signature → Bool
+is_decode16 f = takes_word (codes "decode16") 16 f
 
 -- the number of the first that is such an entry, counted from n
 abbrev pub entry_from : (Signature → Bool) → ℕ → List Signature → Option ℕ
@@ -252,25 +258,42 @@ abbrev pub entry_found : Option ℕ → Result (Option ℕ) Fault
 entry_found None = fault T24 origin
 entry_found (Some n) = Ok (Some n)
 
--- the entry that is asked for
-abbrev pub entry_rule : Entry → List Signature → Result (Option ℕ) Fault
-entry_rule entry.None fs = Ok None
-entry_rule entry.Main fs = entry_found (entry_from is_main 0 fs)
-entry_rule entry.Decode fs = entry_found (entry_from is_decode 0 fs)
+-- the numbers of the subprograms that are entries, where they were asked for: the one that a run begins with or that is called for words of 32 bits, and the
+-- one that is called for words of 16 bits
+pub record Entries : Type 0 where
+  pub main : Option ℕ
+  pub entry16 : Option ℕ
+
+abbrev pub entries : Option ℕ → Option ℕ → Entries
+entries main entry16 = record { main = main; entry16 = entry16 }
+
+abbrev pub main_rule : Option ℕ → Result Entries Fault
+main_rule found = entry_found found >>= λ main. Ok (entries main None)
+
+abbrev pub entry16_rule : Option ℕ → Option ℕ → Result Entries Fault
+entry16_rule main found = entry_found found >>= λ entry16. Ok (entries main entry16)
+
+-- the entries that are asked for
+abbrev pub entry_rule : Entry → List Signature → Result Entries Fault
+entry_rule entry.None fs = Ok (entries None None)
+entry_rule entry.Main fs = main_rule (entry_from is_main 0 fs)
+entry_rule entry.Decode fs = main_rule (entry_from is_decode 0 fs)
+entry_rule entry.Decode16 fs = entry16_rule None (entry_from is_decode16 0 fs)
+entry_rule entry.Both fs = entry_found (entry_from is_decode 0 fs) >>= λ main. entry16_rule main (entry_from is_decode16 0 fs)
 
 -- ---- the verdict
 
--- a program that is well formed: the entry that was asked for, the number of the subprogram that it is, where one was, the subprograms in source order with
--- their signatures and their trees, and the names that are visible outside bodies
+-- a program that is well formed: the entries that were asked for, the numbers of the subprograms that they are, the subprograms in source order with their
+-- signatures and their trees, and the names that are visible outside bodies
 pub record Accepted : Type 0 where
   pub asked : Entry
-  pub main : Option ℕ
+  pub entries : Entries
   pub signatures : List Signature
   pub funcs : List TreeFunc
   pub names : List scopes.Entry
 
-abbrev pub accepted : Entry → Option ℕ → List Signature → List TreeFunc → List scopes.Entry → Accepted
-accepted e main fs trees names = record { asked = e; main = main; signatures = fs; funcs = trees; names = names }
+abbrev pub accepted : Entry → Entries → List Signature → List TreeFunc → List scopes.Entry → Accepted
+accepted e found fs trees names = record { asked = e; entries = found; signatures = fs; funcs = trees; names = names }
 
 -- the program that is accepted, or its one fault
 unfoldable pub verdict : Entry → List Decl → Tests → Result Accepted Fault
@@ -281,8 +304,8 @@ verdict e ds t =
     signatures_rule t names (funcs_of ds) >>= λ hs.
     overloads_rule [] hs >>
     bodies_rule t (signatures hs) hs >>= λ trees.
-    entry_rule e (signatures hs) >>= λ main.
-    Ok (accepted e main (signatures hs) trees names)
+    entry_rule e (signatures hs) >>= λ found.
+    Ok (accepted e found (signatures hs) trees names)
 
 -- declarations that are well formed with their entry under this width limit, by right tests
 pub record ProgramOk (limit : ℕ) (e : Entry) (ds : List Decl) (a : Accepted) : Type 0 where

@@ -10,11 +10,11 @@ use Rattle.asl_rules.specs.Tests.{Tests}
 use Rattle.asl_rules.specs.values.Values.{Value}
 use Rattle.asl_rules.specs.runs.States.{Binding, Core}
 use Rattle.asl_rules.specs.runs.Plans.{Outcome, Done, Thrown, Halt, End, Faulted, Stuck, starting}
-use Rattle.asl_rules.specs.declarations.Programs.{Environment, environment, Accepted, verdict}
+use Rattle.asl_rules.specs.declarations.Programs.{Environment, environment, Entries, Accepted, verdict}
 use Rattle.asl_rules.specs.runs.Machines.{run_of}
-use Rattle.asl_rules.specs.runs.Words.{WordsEnd, AllReturned, WordThrew, WordHalted, run_words}
+use Rattle.asl_rules.specs.runs.Words.{WordsEnd, AllReturned, WordThrew, WordHalted, run_words, wanted}
 use Rattle.asl_rules.specs.runs.Evaluation.{initial_globals}
-use Rattle.asl_rules.specs.report.WordList.{ListFault, words_read}
+use Rattle.asl_rules.specs.report.WordList.{ListFault, Word, words_read}
 use Rattle.asl_rules.specs.report.Made.{made_text}
 use Rattle.asl_rules.specs.report.Texts.{Text, File, fault_line, dynamic_line, usage_line, long_line, many_line, list_fault_line, made_words, accepted_line, returned_line, uncaught_line, done_line, closing, global_line}
 
@@ -60,11 +60,11 @@ on_files (long name) go = answer (long_line name) 1
 on_files many go = answer many_line 1
 
 -- the answer where a word list was read, and what follows where it has no fault
-abbrev pub on_words_read : Text → Result (List ℕ) ListFault → (List ℕ → Answer) → Answer
+abbrev pub on_words_read : Text → Result (List Word) ListFault → (List Word → Answer) → Answer
 on_words_read name (Ok words) go = go words
 on_words_read name (Err f) go = answer (list_fault_line name f) 1
 
-abbrev pub on_list : Text → Text → (List ℕ → Answer) → Answer
+abbrev pub on_list : Text → Text → (List Word → Answer) → Answer
 on_list name bytes go = if is_long bytes then answer (long_line name) 1 else on_words_read name (words_read bytes) go
 
 -- ---- the end of a run
@@ -116,34 +116,34 @@ abbrev pub begun : (Outcome Core (Option Value) → Answer) → Environment → 
 begun end env steps None = answer [] 0
 begun end env steps (Some main) = end (run_of env main [] (initial_globals env) (starting steps (Some [])))
 
-abbrev pub started : List File → Environment → ℕ → Option ℕ → Answer
-started files env steps main = begun (run_answer files) env steps main
+abbrev pub started : List File → Environment → ℕ → Entries → Answer
+started files env steps found = begun (run_answer files) env steps found.main
 
--- calls of it, one for each word
-abbrev pub worked : List File → Environment → ℕ → List ℕ → Option ℕ → Answer
-worked files env steps words None = answer [] 0
-worked files env steps words (Some decode) = words_answer files (length words) (run_words env decode words (initial_globals env) (starting steps (Some [])))
+-- calls for words, one for each
+abbrev pub worked : List File → Environment → ℕ → List Word → Entries → Answer
+worked files env steps words found = words_answer files (length words) (run_words env found words (initial_globals env) (starting steps (Some [])))
 
 -- ---- programs
 
 -- the answer for declarations by their verdict: their fault, or what comes of them where they are accepted
-abbrev pub on_verdict : List File → (Option ℕ → Answer) → Result Accepted Fault → Answer
-on_verdict files go (Ok a) = go a.main
+abbrev pub on_verdict : List File → (Entries → Answer) → Result Accepted Fault → Answer
+on_verdict files go (Ok a) = go a.entries
 on_verdict files go (Err f) = answer (fault_line files f) 1
 
 -- the answers for files that were read to these declarations, by right tests
 abbrev pub on_check : Tests → List File → List Decl → Answer
-on_check t files ds = on_verdict files (λ main. answer (accepted_line (length ds)) 0) (verdict entry.None ds t)
+on_check t files ds = on_verdict files (λ found. answer (accepted_line (length ds)) 0) (verdict entry.None ds t)
 
 abbrev pub on_run : Tests → ℕ → List File → List Decl → Answer
 on_run t steps files ds = on_verdict files (started files (environment t ds) steps) (verdict entry.Main ds t)
 
-abbrev pub on_words : Tests → ℕ → List ℕ → List File → List Decl → Answer
-on_words t steps words files ds = on_verdict files (worked files (environment t ds) steps words) (verdict entry.Decode ds t)
+abbrev pub on_words : Tests → ℕ → List Word → List File → List Decl → Answer
+on_words t steps words files ds = on_verdict files (worked files (environment t ds) steps words) (verdict (wanted words) ds t)
 
 abbrev pub on_made : Tests → ℕ → ℕ → Text → List File → List Decl → Answer
 on_made t number size text files ds =
-    on_verdict files (begun (made_answer (made_words number size (length text) (length ds)) files) (environment t ds) default_steps) (verdict entry.Main ds t)
+    on_verdict files (λ found. begun (made_answer (made_words number size (length text) (length ds)) files) (environment t ds) default_steps found.main)
+    (verdict entry.Main ds t)
 
 -- the answer for files that are read to declarations, or have a fault
 abbrev pub on_reading : List File → (List Decl → Answer) → Result (List Decl) Fault → Answer

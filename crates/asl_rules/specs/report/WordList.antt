@@ -1,7 +1,7 @@
 -- The words that a text lists, or its first fault.
 --
 -- A line ends in LF (10), the last one also without; tabs (9), CRs (13) and spaces (32) at the end of a line are dropped. A line that is blank then, or
--- begins with `//`, is passed over, and each other line writes a word in 8 hexadecimal digits. There are at most 65,536 words.
+-- begins with `//`, is passed over, and each other line writes a word in 8 or 4 hexadecimal digits. There are at most 65,536 words.
 use Rattle.std.specs.Prelude.{ℕ, ◌-◌, ◌==◌, Bool, not, ◌||◌, nat_eq, nat_lt, List, [], ◌∷◌, length, take, map, filter, Option, Some, None, Result, Ok, Err, codes, if◌then◌else◌}
 use Rattle.std.specs.List.{enumerate_from, filter_map, list_all, slice_split, starts_with, suffix_len}
 use Rattle.std.specs.Char.{digit_value}
@@ -36,6 +36,11 @@ word_lines text = filter (λ line. not (is_passed_over line.1)) (enumerate_from 
 
 -- ---- words and faults
 
+-- a word: its number, and in how many hexadecimal digits it is written
+pub record Word : Type 0 where
+  pub bits : ℕ
+  pub digits : ℕ
+
 -- a code, and the number of the line that has it
 pub record ListFault : Type 0 where
   pub code : StaticCode
@@ -48,10 +53,14 @@ at_line code line = Some (record { code = code; line = line })
 abbrev pub is_digit : ℕ → Bool
 is_digit b = nat_lt (digit_value b) 16
 
+-- a word is written in 8 digits or in 4
+abbrev pub has_word_length : Text → Bool
+has_word_length line = (length line == 8) || (length line == 4)
+
 -- the fault of a line with its number, which writes the n-th word, counted from 1
 abbrev pub fault_of : ℕ → ℕ × Text → Option ListFault
 fault_of n (number, line) =
-    if not (length line == 8) then at_line N01 number
+    if not (has_word_length line) then at_line N01 number
     else (if not (list_all is_digit line) then at_line N02 number
     else (if nat_lt 65536 n then at_line N03 number else None))
 
@@ -59,15 +68,19 @@ fault_of n (number, line) =
 abbrev pub faults_of : Text → List ListFault
 faults_of text = filter_map (λ nth. fault_of nth.0 nth.1) (enumerate_from 1 (word_lines text))
 
+-- the word that a line writes
+abbrev pub word_in : Text → Word
+word_in line = record { bits = digits_value 16 line; digits = length line }
+
 -- the words of a text, where it has no fault
-abbrev pub words_of : Text → List ℕ
-words_of text = map (λ line. digits_value 16 line.1) (word_lines text)
+abbrev pub words_of : Text → List Word
+words_of text = map (λ line. word_in line.1) (word_lines text)
 
 -- the first of the faults, or else the words
-abbrev pub words_unless : List ListFault → List ℕ → Result (List ℕ) ListFault
+abbrev pub words_unless : List ListFault → List Word → Result (List Word) ListFault
 words_unless [] words = Ok words
 words_unless (first ∷ more) words = Err first
 
 -- the words that a text lists, or its first fault
-unfoldable pub words_read : Text → Result (List ℕ) ListFault
+unfoldable pub words_read : Text → Result (List Word) ListFault
 words_read text = words_unless (faults_of text) (words_of text)

@@ -14,6 +14,7 @@ loop-rest-init c =
     record {
       counted = omega arith;
       answer = rw none (answer_from-start c.args.bytes.now);
+      shapes = search rules;
       few = search rules;
     }
 
@@ -24,5 +25,6 @@ loop-rest-preserved c =
     record {
       counted = omega (arith, length-after_first rest some, ap length c.first_line.ensures.rest);
       answer = read_more c.args.bytes.now rest _ _ _ _ _ _ c.loop-rest.invariant.answer c.first_line.ensures.line c.first_line.ensures.rest c.without_end.ensures c.in_ok-read_line.ensures.read;
+      shapes = c.in_ok-read_line.ensures.shapes c.loop-rest.invariant.shapes;
       few = c.in_ok-read_line.ensures.few c.loop-rest.invariant.few;
     }

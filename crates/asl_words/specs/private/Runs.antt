@@ -1,13 +1,14 @@
--- What contracts see of a run over words: the entry of a machine's program is called once for each word, in order, up to the first call that doesn't return.
+-- What contracts see of a run over words: an entry of a machine's program is called once for each word, in order, up to the first call that doesn't return.
 use Rattle.std.specs.Prelude.{◌≡◌, ℕ, true, List, ◌∷◌, ◌++◌, Option, Some, None}
 use Rattle.asl_rules.specs.types.Closed.{Closed}
 use Rattle.asl_rules.specs.runs.Plans.{Meter, Faulted}
-use Rattle.asl_rules.specs.declarations.Programs.{Environment, environment}
+use Rattle.asl_rules.specs.declarations.Programs.{environment}
 use Rattle.asl_rules.specs.runs.States.{Binding}
 use Rattle.asl_rules.specs.Tests.{Tests}
 use Rattle.asl_rules.specs.runs.Told.{Begins, Part}
 use Rattle.asl_rules.specs.values.Values as rules
 use Rattle.asl_rules.specs.types.Views.{viewed}
+use Rattle.asl_rules.specs.report.WordList.{Word}
 use Rattle.asl_rules.specs.runs.Words.{WordsEnd, AllReturned, WordThrew, WordHalted, run_words, word_line, word_value}
 use Rattle.asl_value.specs.View.{value_of}
 use Rattle.asl_machine.specs.declared.stage.Stage.{Stage}
@@ -21,14 +22,9 @@ use Rattle.asl_words.specs.declared.running.ExecEnd.TheVariants.{Done, Uncaught,
 abbrev pub meter_of : Work → Option (List ℕ) → Meter
 meter_of w told = record { steps = w.steps; told = told; text_open = w.text_open }
 
--- what calls of a subprogram come to; without one there is no call
-abbrev pub words_by : Environment → Option ℕ → List ℕ → List Binding → Meter → WordsEnd
-words_by env None words globals h = AllReturned globals h
-words_by env (Some decode) words globals h = run_words env decode words globals h
-
 -- what words come to on a machine, where the sink holds this text
-abbrev pub words_with : Tests → Work → List ℕ → Option (List ℕ) → WordsEnd
-words_with t w words told = words_by (environment t w.checked.decls) w.checked.main words (globals_of t w) (meter_of w told)
+abbrev pub words_with : Tests → Work → List Word → Option (List ℕ) → WordsEnd
+words_with t w words told = run_words (environment t w.checked.decls) w.checked.entries words (globals_of t w) (meter_of w told)
 
 -- words end so, with these globals and this meter
 abbrev pub EndsWords : Stage → List Binding → Meter → WordsEnd → Type 0
@@ -54,10 +50,10 @@ pub record Between (old new whole : Option (List ℕ)) : Type 0 where
   pub behind : Begins new whole
 
 -- the machine hasn't ended, and stands as before one of the words: the sink took the text of those in front of it, and behind that a part of its line
-pub record StandsBefore (t : Tests) (old new : Work) (words : List ℕ) (told told1 : Option (List ℕ)) : Type 0 where
-  pub done : List ℕ
-  pub word : ℕ
-  pub rest : List ℕ
+pub record StandsBefore (t : Tests) (old new : Work) (words : List Word) (told told1 : Option (List ℕ)) : Type 0 where
+  pub done : List Word
+  pub word : Word
+  pub rest : List Word
   pub is : words ≡ done ++ word ∷ rest
   pub ready : is_ready new.stage ≡ true
   pub text : Option (List ℕ)
@@ -65,6 +61,6 @@ pub record StandsBefore (t : Tests) (old new : Work) (words : List ℕ) (told to
   pub line : Part text told1 (word_line new.text_open word)
 
 -- a word as an argument: its bits, with the bitfields of some type
-pub record IsWord (word : ℕ) (x : rules.Value) : Type 0 where
+pub record IsWord (word : Word) (x : rules.Value) : Type 0 where
   pub type_is : Closed
   pub is : x ≡ viewed type_is (word_value word)

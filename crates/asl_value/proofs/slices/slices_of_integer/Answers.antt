@@ -10,8 +10,8 @@ use Rattle.asl_value.proofs.slices.slices_of_integer.Goals as goal
 pub returns : goal.returns
 returns c =
     let places : c.as_slice.result.now ≡ c.in_ok-places.places = c.as_slice.ensures in
-    let read = simp (to_z-of_z, c.ranges.integer) at c.read_integer.ensures in
+    let read = simp (to_z-of_z, c.ranges.integer) at c.in_ok-read_integer.ensures in
     integer_read (tested WIDTH_LIMIT c.args.span None (slicings (all_slices c.args.shapes.now) (map value_of c.args.given.now))) c.in_ok-places.places c.args.integer c.ranges.integer c.in_ok-places.ensures.is ∙
     ap (λ l. Good (plain_bits (read_int l c.args.integer))) (sym places) ∙
     ap (λ b. Good (plain_bits b)) (sym read) ∙
-    ap Good (sym c.in_ok-plain_bits.ensures)
+    ap Good (sym c.plain_bits.ensures)

@@ -9,4 +9,4 @@ returns-in_err-close-clause-text g c =
     rw p.1 (TakesPrefix-more _ _ _ _ c.in_err-close.ensures.text)
 
 pub returns-clause-text : goal.returns-clause-text
-returns-clause-text g c = rw (← c.word_text.ensures) (written_behind c.put.result _ _ _ _ _ c.in_ok-close.ensures.text c.put.ensures.text)
+returns-clause-text g c = written_behind c.put_word.result _ _ _ _ _ c.in_ok-close.ensures.text c.put_word.ensures.text

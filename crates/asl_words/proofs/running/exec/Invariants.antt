@@ -1,4 +1,4 @@
-use Rattle.std.proofs.Common.{◌≡◌, Some, true, take}
+use Rattle.std.proofs.Common.{◌≡◌, true, take}
 use Rattle.asl_rules.specs.Tests.{Tests}
 use Rattle.asl_types.specs.Suits.{Suits}
 use Rattle.asl_machine.specs.Stages.{is_ready}
@@ -10,7 +10,6 @@ abbrev pub invariant-loop-word : goal.invariant-loop-word
 invariant-loop-word g l = record {
   ready : is_ready l.machine.stage ≡ true;
   checked : l.machine.checked ≡ l.fn.machine.checked;
-  main : l.fn.machine.checked.main ≡ Some l.decode;
   leaves : (t : Tests) → Suits t → LeavesWords t l.machine (g.K.Sink.written l.sink) (words_with t l.fn.machine (take l.word-index l.words) (g.K.Sink.written l.fn.sink));
   count : g.K.Sink.faults l.sink ≡ g.K.Sink.faults l.fn.sink;
   full : g.K.Sink.full l.sink ≡ g.K.Sink.full l.fn.sink;

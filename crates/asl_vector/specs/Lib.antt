@@ -1,0 +1,1 @@
+-- No definitions of its own: contracts cite those of asl_bits.
