@@ -1,5 +1,5 @@
 // A machine with instructions of 32 bits, of which the most frequent have a short form of 16 bits. `asl exec` calls `decode` for a
-// word of 8 digits, and `decode16` for one of 4, which makes the long form and executes that.
+// word of 8 digits, and `decode16` for one of 4, which builds the long form and executes it.
 //
 //   31   28 27   24 23   20 19   16 15                  0
 //   code    d       n       m       operand
@@ -35,7 +35,7 @@ begin
   end;
 end;
 
-// The place of the next instruction is 4 bytes behind one of 32 bits, and 2 behind one of 16.
+// The next instruction is 4 bytes after one of 32 bits, and 2 bytes after one of 16.
 func decode(word: Instruction)
 begin
   execute(word);
