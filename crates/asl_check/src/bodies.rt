@@ -17,6 +17,7 @@ use asl_subprograms::{Param, Signature, Subprograms};
 use asl_syn::code::{Refused, StaticCode};
 use asl_syn::tree::Func;
 use asl_tree::act::TreeFunc;
+use asl_tree::body::TreeBody;
 use asl_types::answer::fault;
 use asl_types::{Scope, Ty};
 use sqlite_items::Items;
@@ -95,7 +96,7 @@ fn tree_func(
         formals,
         result,
         limit: signature.limit(),
-        body: acts.into_inner(),
+        body: TreeBody::new(acts.into_inner())?,
     })
 }
 

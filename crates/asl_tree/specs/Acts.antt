@@ -146,7 +146,7 @@ all_catchers cs = catchers_from (map catcher_of cs)
 -- ---- subprograms
 
 abbrev pub func_of : TreeFunc → rules.TreeFunc
-func_of f = record { span = f.span; params = f.params; formals = f.formals; result = f.result; limit = f.limit; body = all_acts f.body }
+func_of f = record { span = f.span; params = f.params; formals = f.formals; result = f.result; limit = f.limit; body = all_acts f.body.list }
 
 abbrev pub all_funcs : List TreeFunc → List rules.TreeFunc
 all_funcs fs = map func_of fs

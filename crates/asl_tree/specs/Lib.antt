@@ -1,4 +1,5 @@
 pub mod View
 pub mod Acts
+pub mod Bodies
 pub mod Sealed
 pub mod private
