@@ -318,7 +318,7 @@ pub(crate) fn run_body<K: Sink, N: Nodes<K>>(
         (at K.Sink run.old sink.old) (at K.Sink run.new sink.new) }
 {
     enter(here.setting().alloc, run, id, frame)?;
-    match here.exec_all(run, sink, &func.body) {
+    match here.exec_all(run, sink, func.body.list()) {
         Ok(exit) => {
             let given = body_gives(here.setting().alloc, func, exit)?;
             leave(run);
