@@ -6,7 +6,8 @@ ghost use Rattle.asl_rules.specs.declarations.Scopes.{Entry};
 ghost use Rattle.asl_rules.specs.Tests.{Tests};
 ghost use Rattle.asl_types.specs.private.Answers.{Met};
 ghost use Rattle.asl_types.specs.Suits.{Suits};
-ghost use Rattle.asl_tree.specs.Acts.{func_of, all_funcs, all_acts};
+ghost use Rattle.asl_tree.specs.Acts.{all_acts};
+ghost use Rattle.asl_tree.specs.Funcs.{func_of, all_funcs};
 ghost use Rattle.asl_decl.specs.Heads.{head_of, heads_of};
 
 use asl_blocks::body::{Body, Listed};
@@ -17,6 +18,7 @@ use asl_subprograms::{Param, Signature, Subprograms};
 use asl_syn::code::{Refused, StaticCode};
 use asl_syn::tree::Func;
 use asl_tree::act::TreeFunc;
+use asl_tree::body::TreeBody;
 use asl_types::answer::fault;
 use asl_types::{Scope, Ty};
 use sqlite_items::Items;
@@ -95,7 +97,7 @@ fn tree_func(
         formals,
         result,
         limit: signature.limit(),
-        body: acts.into_inner(),
+        body: TreeBody::new(acts.into_inner())?,
     })
 }
 

@@ -3,7 +3,7 @@ ghost use Rattle.std.specs.Prelude.{◌≡◌, map, option_map, slice_get, Some,
 ghost use Rattle.asl_rules.specs.runs.Forms as forms;
 ghost use Rattle.asl_rules.specs.private.TypedMeaning as rules;
 ghost use Rattle.asl_rules.specs.private.TypedMeaning.{list_of};
-ghost use Rattle.asl_tree.specs.Acts.{all_funcs, func_of};
+ghost use Rattle.asl_tree.specs.Funcs.{all_funcs, func_of};
 ghost use Rattle.asl_tree.specs.View.{all_trees};
 ghost use Rattle.asl_value.specs.View.{value_of};
 ghost use Rattle.asl_branches.specs.Meets.{at, Is, Ran};
@@ -318,7 +318,7 @@ pub(crate) fn run_body<K: Sink, N: Nodes<K>>(
         (at K.Sink run.old sink.old) (at K.Sink run.new sink.new) }
 {
     enter(here.setting().alloc, run, id, frame)?;
-    match here.exec_all(run, sink, &func.body) {
+    match here.exec_all(run, sink, func.body.list()) {
         Ok(exit) => {
             let given = body_gives(here.setting().alloc, func, exit)?;
             leave(run);

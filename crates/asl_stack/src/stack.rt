@@ -10,6 +10,7 @@ use asl_syn::code::DynCode;
 use asl_syn::token::Span;
 use asl_syn::tree::{BinaryOperator, Direction, UnaryOperator};
 use asl_tree::act::{Act, Alternative, Bounds, Catcher, Choice, Guard, Last, Simple, TreeFunc};
+use asl_tree::body::TreeBody;
 use asl_tree::tree::{Callee, Note, Tree};
 use asl_types::Ty;
 use asl_value::{Kind, Name, Shell, Supers, Value};
@@ -325,15 +326,15 @@ fn result_of(is_function: bool) -> Option<Ty> {
 }
 
 /// A subprogram without parameters and formals that may be active 2,001 times.
-fn subprogram(alloc: Global, is_function: bool, body: List) -> TreeFunc {
-    TreeFunc {
+fn subprogram(alloc: Global, is_function: bool, body: List) -> Result<TreeFunc, AllocError> {
+    Ok(TreeFunc {
         span: AT,
         params: Items::new(alloc),
         formals: Items::new(alloc),
         result: result_of(is_function),
         limit: 2_001,
-        body,
-    }
+        body: TreeBody::new(body)?,
+    })
 }
 
 /// `return f();` in a function, and else `f();`.
@@ -361,9 +362,9 @@ fn chain(alloc: Global, is_function: bool, more: usize) -> Result<Items<TreeFunc
     let mut funcs = Items::new(alloc);
     for id in 0..more {
         let body = calling(alloc, is_function, id.wrapping_add(1))?;
-        funcs.push(subprogram(alloc, is_function, body))?;
+        funcs.push(subprogram(alloc, is_function, body)?)?;
     }
-    funcs.push(subprogram(alloc, is_function, last(alloc, is_function)?))?;
+    funcs.push(subprogram(alloc, is_function, last(alloc, is_function)?)?)?;
     Ok(funcs)
 }
 
@@ -414,7 +415,7 @@ fn run_nested(
 ) -> Result<Option<Value>, Stop> {
     let value = returning(alloc, open(alloc, from, step, nodes)?)?;
     let body = nested(alloc, from, step, count, value)?;
-    run_first(alloc, items(alloc, [subprogram(alloc, true, body)])?)
+    run_first(alloc, items(alloc, [subprogram(alloc, true, body)?])?)
 }
 
 /// Runs such subprograms.
@@ -425,7 +426,10 @@ fn run_chain(alloc: Global, is_function: bool, more: usize) -> Result<Option<Val
 /// Runs a subprogram that calls itself.
 fn run_recursion(alloc: Global, is_function: bool) -> Result<Option<Value>, Stop> {
     let body = calling(alloc, is_function, 0)?;
-    run_first(alloc, items(alloc, [subprogram(alloc, is_function, body)])?)
+    run_first(
+        alloc,
+        items(alloc, [subprogram(alloc, is_function, body)?])?,
+    )
 }
 
 /// Whether such a run gives 1 or nothing; not where it ends for more than 2,000 open nodes.

@@ -2,6 +2,7 @@
 //!
 //! Where a type can have a `Drop` by hand it has one, so that a drop of one is a call, as `Held` of asl_shared says.
 
+use crate::body::TreeBody;
 use crate::tree::{Callee, Tree};
 use asl_rules::slot::Slot;
 use asl_shape::{PatternShape, TypeShape};
@@ -255,7 +256,8 @@ pub struct TreeFunc {
     pub result: Option<Ty>,
     /// How often it may be active at one time.
     pub limit: i128,
-    pub body: Items<Act>,
+    /// Its statements, with how many slots of a frame the names that they declare need, beside its parameters and formals.
+    pub body: TreeBody,
 }
 
 impl Drop for TreeFunc {
@@ -266,8 +268,9 @@ impl Drop for TreeFunc {
             formals: _formals,
             result,
             limit: _limit,
-            body: _body,
+            body,
         } = self;
         drop(result);
+        drop(body);
     }
 }

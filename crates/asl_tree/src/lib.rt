@@ -2,10 +2,12 @@
 #![tactic(auto)]
 
 pub mod act;
+pub mod body;
 mod checked;
 pub mod lists;
 pub mod nodes;
 pub mod places;
+mod slots;
 pub mod tree;
 
 pub use checked::{Checked, Global, Parts, SubId};
