@@ -47,7 +47,7 @@ keeps_err A B (stop.Stuck mistake span) s s1 k = k
 -- ---- one behind another
 
 pub rounds : (s s1 s2 : Run) → SameRound s s1 → SameRound s1 s2 → SameRound s s2
-rounds s s1 s2 a b = record { handled = b.handled ∙ a.handled; callers = b.callers ∙ a.callers; live = b.live ∙ a.live }
+rounds s s1 s2 a b = record { handled = b.handled ∙ a.handled; callers = b.callers ∙ a.callers; slots = b.slots ∙ a.slots; live = b.live ∙ a.live }
 
 keeps_behind : {A : Type 0} (r : Result A Stopped) (s s1 s2 : Run) → SameRound s s1 → Keeps r s1 s2 → Keeps r s s2
 keeps_behind (Ok x) s s1 s2 a k = rounds s s1 s2 a k
@@ -56,6 +56,23 @@ keeps_behind (Err stop.SinkFault) s s1 s2 a k = k
 keeps_behind (Err (stop.Thrown x)) s s1 s2 a k = rounds s s1 s2 a k
 keeps_behind (Err (stop.Fault code span)) s s1 s2 a k = k
 keeps_behind (Err (stop.Stuck mistake span)) s s1 s2 a k = k
+
+grows_err : {B : Type 0} (n : Option ℕ) (e : Stopped) (s s1 : Run) → Grows {A = B} n (Err e) s s1
+grows_err None e s s1 = tt
+grows_err (Some n) e s s1 = tt
+
+-- a frame that had no more values before grows by so many at most
+grows_behind : {A : Type 0} (n : Option ℕ) (r : Result A Stopped) (s s1 s2 : Run) → height_of s1 ≤ height_of s → Grows n r s1 s2 →
+    Grows n r s s2
+grows_behind None r s s1 s2 p g = tt
+grows_behind (Some n) (Ok x) s s1 s2 p g = omega arith
+grows_behind (Some n) (Err e) s s1 s2 p g = tt
+
+-- where nothing was added
+grows_none : {A : Type 0} (n : Option ℕ) (r : Result A Stopped) (s : Run) → Grows n r s s
+grows_none None r s = tt
+grows_none (Some n) (Ok x) s = omega arith
+grows_none (Some n) (Err e) s = tt
 
 -- ---- parts
 
@@ -115,7 +132,7 @@ counts_given w (Err (stop.Fault code span)) p n e = refl
 counts_given w (Err (stop.Stuck mistake span)) p n e = refl
 
 keeps_given : {A B : Type 0} (w : A → B) (r : Result A Stopped) (p : Pure B) (s : Run) → Is w r p → Keeps r s s
-keeps_given w (Ok x) p s e = record { handled = refl; callers = refl; live = refl }
+keeps_given w (Ok x) p s e = record { handled = refl; callers = refl; slots = refl; live = refl }
 keeps_given w (Err stop.NoMemory) p s e = tt
 keeps_given w (Err stop.SinkFault) p s e = absurd e
 keeps_given w (Err (stop.Thrown x)) p s e = absurd e
@@ -187,7 +204,7 @@ ended w h p q a0 a1 a2 r u n = record {
 pub all_done : {A B : Type 0} (w : A → B) (h : Setting) (x : A) (q : BareCore → Runs B) (a0 a : At) →
     Underway h (λ c. Ret (w x) c) a q a0 → Ran w (Ok x) h q a0 a
 all_done w h x q a0 a u = ended w h (λ c. Ret (w x) c) q a0 a a (Ok x) u
-    (record { meets = refl; counts = refl; same_full = refl; keeps = record { handled = refl; callers = refl; live = refl } })
+    (record { meets = refl; counts = refl; same_full = refl; keeps = record { handled = refl; callers = refl; slots = refl; live = refl } })
 
 -- memory is wanting
 pub out_of_memory : {A B : Type 0} (w : A → B) (h : Setting) (p q : BareCore → Runs B) (a0 a : At) →
