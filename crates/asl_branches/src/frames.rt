@@ -138,7 +138,7 @@ impl Frames {
         value: Value,
     ) -> Result<(), Failure>
         requires { at < length self.old.values }
-        ensures { Changed result (updated WIDTH_LIMIT holds_bits (all_steps steps.now) (value_of value)) at self.old.values self.new.values }
+        ensures changed { Changed result (updated WIDTH_LIMIT holds_bits (all_steps steps.now) (value_of value)) at self.old.values self.new.values }
         ensures same { self.new ≡ record self.old { values = self.new.values } }
     {
         self.store.replace_in(alloc, at as u32, steps, holds_bits, value)
@@ -154,7 +154,7 @@ impl Frames {
         value: Value,
     ) -> Result<(), Failure>
         requires { at < length self.old.globals }
-        ensures { Changed result (updated WIDTH_LIMIT holds_bits (all_steps steps.now) (value_of value)) at self.old.globals self.new.globals }
+        ensures changed { Changed result (updated WIDTH_LIMIT holds_bits (all_steps steps.now) (value_of value)) at self.old.globals self.new.globals }
         ensures same { self.new ≡ record self.old { globals = self.new.globals } }
     {
         self.store.replace_global(alloc, at, steps, holds_bits, value)
