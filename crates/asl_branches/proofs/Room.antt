@@ -12,12 +12,16 @@ no_less s s1 e p = omega (arith, e, p)
 
 pub still_list : (s s1 : Run) (x : Acts) → s1.frames.slots ≡ s.frames.slots → height_of s1 ≤ height_of s → FitsList (room_of s) x → FitsList (room_of s1) x
 still_list s s1 x e p f = fits_more (room_of s) (room_of s1) x (no_less s s1 e p) f
+
 pub still_branches : (s s1 : Run) (x : Branches) → s1.frames.slots ≡ s.frames.slots → height_of s1 ≤ height_of s → FitsBranches (room_of s) x → FitsBranches (room_of s1) x
 still_branches s s1 x e p f = fits_more_branches (room_of s) (room_of s1) x (no_less s s1 e p) f
+
 pub still_alternatives : (s s1 : Run) (x : Alternatives) → s1.frames.slots ≡ s.frames.slots → height_of s1 ≤ height_of s → FitsAlternatives (room_of s) x → FitsAlternatives (room_of s1) x
 still_alternatives s s1 x e p f = fits_more_alternatives (room_of s) (room_of s1) x (no_less s s1 e p) f
+
 pub still_catchers : (s s1 : Run) (x : Catchers) → s1.frames.slots ≡ s.frames.slots → height_of s1 ≤ height_of s → FitsCatchers (room_of s) x → FitsCatchers (room_of s1) x
 still_catchers s s1 x e p f = fits_more_catchers (room_of s) (room_of s1) x (no_less s s1 e p) f
+
 pub still_last : (s s1 : Run) (x : Last) → s1.frames.slots ≡ s.frames.slots → height_of s1 ≤ height_of s → FitsLast (room_of s) x → FitsLast (room_of s1) x
 still_last s s1 x e p f = fits_more_last (room_of s) (room_of s1) x (no_less s s1 e p) f
 

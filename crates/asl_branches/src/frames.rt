@@ -141,7 +141,8 @@ impl Frames {
         ensures changed { Changed result (updated WIDTH_LIMIT holds_bits (all_steps steps.now) (value_of value)) at self.old.values self.new.values }
         ensures same { self.new ≡ record self.old { values = self.new.values } }
     {
-        self.store.replace_in(alloc, at as u32, steps, holds_bits, value)
+        self.store
+            .replace_in(alloc, at as u32, steps, holds_bits, value)
     }
 
     /// The same in a global.
@@ -157,7 +158,8 @@ impl Frames {
         ensures changed { Changed result (updated WIDTH_LIMIT holds_bits (all_steps steps.now) (value_of value)) at self.old.globals self.new.globals }
         ensures same { self.new ≡ record self.old { globals = self.new.globals } }
     {
-        self.store.replace_global(alloc, at, steps, holds_bits, value)
+        self.store
+            .replace_global(alloc, at, steps, holds_bits, value)
     }
 
     // ---- calls

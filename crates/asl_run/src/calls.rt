@@ -301,11 +301,11 @@ fn call_limited<K: Sink, N: Nodes<K>>(
     let params = listed(alloc, given.params.as_slice())?;
     let args = given.args.as_slice();
     let params = params_of(alloc, called.span, widths, params, args)?;
-    run_with(here, run, sink, called, params, args)
+    run_func(here, run, sink, called, params, args)
 }
 
 /// Runs a subprogram with these parameters and arguments, of which there are as many as it has formals.
-pub(crate) fn run_with<K: Sink, N: Nodes<K>>(
+pub(crate) fn run_func<K: Sink, N: Nodes<K>>(
     here: &N,
     run: &mut Run,
     sink: &mut K,

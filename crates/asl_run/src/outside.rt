@@ -7,7 +7,7 @@ ghost use Rattle.asl_value.specs.View.{value_of};
 ghost use Rattle.asl_branches.specs.Meets.{Counts, Runs};
 ghost use Rattle.asl_branches.specs.View.{program_of};
 
-use crate::calls::{Called, run_with};
+use crate::calls::{Called, run_func};
 use crate::knot::{eval, exec_all};
 use crate::level::Level;
 use asl_branches::run::Run;
@@ -88,5 +88,5 @@ fn call_func<K: Sink>(
         id,
         func,
     };
-    run_with(&below, run, sink, called, Vec::new(here.alloc), args)
+    run_func(&below, run, sink, called, Vec::new(here.alloc), args)
 }
