@@ -8,7 +8,7 @@ use Rattle.asl_rules.specs.runs.Cuts.{Cutting, cuttings}
 use Rattle.asl_rules.specs.runs.Trees.{Tree, Act}
 use Rattle.asl_rules.specs.private.TypedMeaning.{BareCore, BareFrame, TreeProgram, tree_nodes}
 use Rattle.asl_tree.specs.declared.act.TreeFunc.{TreeFunc}
-use Rattle.asl_tree.specs.Acts.{all_funcs}
+use Rattle.asl_tree.specs.Funcs.{all_funcs}
 use Rattle.asl_value.specs.View.{value_of}
 use Rattle.asl_value.specs.declared.failure.Failure.{Failure}
 use Rattle.asl_value.specs.declared.failure.Failure.TheVariants as failure

@@ -16,7 +16,7 @@ use Rattle.asl_rules.specs.declarations.Declarations.{names_of_program}
 use Rattle.asl_rules.specs.Tests.{Tests}
 use Rattle.asl_laws.proofs.soundness.SoundnessFacts.{facts_of}
 use Rattle.asl_types.specs.Suits.{Suits}
-use Rattle.asl_tree.specs.Acts.{all_funcs}
+use Rattle.asl_tree.specs.Funcs.{all_funcs}
 use Rattle.asl_tree.specs.declared.act.TreeFunc.{TreeFunc}
 use Rattle.asl_tree.specs.declared.checked.Global.{Global}
 use Rattle.asl_tree.specs.Sealed.{Cell, cell_in, cell_of, cells_in, cells_of, HasItsType, IsSealed}

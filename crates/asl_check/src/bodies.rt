@@ -6,7 +6,8 @@ ghost use Rattle.asl_rules.specs.declarations.Scopes.{Entry};
 ghost use Rattle.asl_rules.specs.Tests.{Tests};
 ghost use Rattle.asl_types.specs.private.Answers.{Met};
 ghost use Rattle.asl_types.specs.Suits.{Suits};
-ghost use Rattle.asl_tree.specs.Acts.{func_of, all_funcs, all_acts};
+ghost use Rattle.asl_tree.specs.Acts.{all_acts};
+ghost use Rattle.asl_tree.specs.Funcs.{func_of, all_funcs};
 ghost use Rattle.asl_decl.specs.Heads.{head_of, heads_of};
 
 use asl_blocks::body::{Body, Listed};

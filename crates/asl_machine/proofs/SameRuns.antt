@@ -22,7 +22,7 @@ use Rattle.asl_laws.proofs.runs.PlansKeep.{EndsIn}
 use Rattle.asl_laws.proofs.soundness.Soundness.{soundness}
 use Rattle.asl_laws.proofs.soundness.SoundnessFacts.{facts_of}
 use Rattle.asl_syn.specs.declared.token.Span.{Span}
-use Rattle.asl_tree.specs.Acts.{all_funcs}
+use Rattle.asl_tree.specs.Funcs.{all_funcs}
 use Rattle.asl_tree.specs.Sealed.{Sealed, IsMade, IsSealed}
 use Rattle.asl_tree.specs.declared.act.TreeFunc.{TreeFunc}
 use Rattle.asl_tree.specs.declared.checked.Global.{Global}

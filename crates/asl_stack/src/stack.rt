@@ -424,7 +424,10 @@ fn run_chain(alloc: Global, is_function: bool, more: usize) -> Result<Option<Val
 /// Runs a subprogram that calls itself.
 fn run_recursion(alloc: Global, is_function: bool) -> Result<Option<Value>, Stop> {
     let body = calling(alloc, is_function, 0)?;
-    run_first(alloc, items(alloc, [subprogram(alloc, is_function, body)?])?)
+    run_first(
+        alloc,
+        items(alloc, [subprogram(alloc, is_function, body)?])?,
+    )
 }
 
 /// Whether such a run gives 1 or nothing; not where it ends for more than 2,000 open nodes.

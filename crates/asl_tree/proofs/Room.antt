@@ -1,5 +1,5 @@
--- So many free places are enough for statements exactly where they are at least the room of these, and then more are.
-use Rattle.std.proofs.Common.{◌≡◌, ℕ, suc, ◌+◌, ◌-◌, ◌≤◌, max, Bool, true, false, arith}
+-- So many free places are enough for statements exactly where they are at least their room, and then more are too.
+use Rattle.std.proofs.Common.{◌≡◌, ℕ, suc, ◌+◌, ◌-◌, ◌≤◌, ◌<◌, ◌^◌, max, Bool, true, false, arith}
 use Rattle.std.proofs.Math.Nat.{le-max_left, le-max_right, max-le}
 use Rattle.asl_rules.specs.runs.Trees.{Act, Acts, Branches, Alternatives, Catchers, Last, Pass, Unreachable, Assert, Declare, DeclareFirst, Assign, Invoke, If, Case, For, While, Repeat, Return, Throw, Try, Print, no_act, act_and, no_branch, branch_and, no_alternative, alternative_and, no_catcher, catcher_and, none_last, otherwise}
 use Rattle.asl_tree.specs.private.Room.{names_taken, name_caught, declared, FitsAct, FitsList, FitsBranches, FitsAlternatives, FitsCatchers, FitsLast, act_room, list_room, branches_room, alternatives_room, catchers_room, last_room}
@@ -142,3 +142,7 @@ fits_more_catchers r q cs up fits = room_fits_catchers q cs (more (fits_room_cat
 
 pub fits_more_last : (r q : ℕ) (last : Last) → r ≤ q → FitsLast r last → FitsLast q last
 fits_more_last r q last up fits = room_fits_last q last (more (fits_room_last r last fits) up)
+
+-- where more places than a number counts are needed, no number of places is enough
+pub wants_more : (ss : Acts) → ¬ (list_room ss < 2 ^ 32) → ¬ FitsList (2 ^ 32 - 1) ss
+wants_more ss far fits = far (omega (arith, fits_room (2 ^ 32 - 1) ss fits))

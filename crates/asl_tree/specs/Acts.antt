@@ -1,4 +1,4 @@
--- The typed trees of statements and of subprograms of the rules that those of the code stand for.
+-- The typed trees of statements of the rules that those of the code stand for.
 use Rattle.std.specs.Prelude.{List, [], ◌∷◌, map, Option, Some, None}
 use Rattle.std.specs.Option.{option_map}
 use Rattle.asl_rules.specs.runs.Trees as rules
@@ -13,7 +13,6 @@ use Rattle.asl_tree.specs.declared.act.Taken.{Taken}
 use Rattle.asl_tree.specs.declared.act.Taken.TheVariants as taken
 use Rattle.asl_tree.specs.declared.act.TreeItem.{TreeItem}
 use Rattle.asl_tree.specs.declared.act.TreeItem.TheVariants as item
-use Rattle.asl_tree.specs.declared.act.TreeFunc.{TreeFunc}
 use Rattle.asl_tree.specs.declared.act.Simple.{Simple}
 use Rattle.asl_tree.specs.declared.act.Simple.TheVariants as a
 use Rattle.asl_tree.specs.declared.act.Act.{Act}
@@ -142,11 +141,3 @@ all_alternatives more = alternatives_from (map alternative_of more)
 
 abbrev pub all_catchers : List Catcher → rules.Catchers
 all_catchers cs = catchers_from (map catcher_of cs)
-
--- ---- subprograms
-
-abbrev pub func_of : TreeFunc → rules.TreeFunc
-func_of f = record { span = f.span; params = f.params; formals = f.formals; result = f.result; limit = f.limit; body = all_acts f.body.list }
-
-abbrev pub all_funcs : List TreeFunc → List rules.TreeFunc
-all_funcs fs = map func_of fs

@@ -17,7 +17,7 @@ use Rattle.asl_rules.specs.runs.States.{Binding}
 use Rattle.asl_rules.specs.runs.Evaluation.{initial_globals}
 use Rattle.asl_value.specs.View.{value_of}
 use Rattle.asl_types.specs.Suits.{Suits}
-use Rattle.asl_tree.specs.Acts.{all_funcs}
+use Rattle.asl_tree.specs.Funcs.{all_funcs}
 use Rattle.asl_tree.specs.declared.act.TreeFunc.{TreeFunc}
 use Rattle.asl_tree.specs.declared.checked.Global.{Global}
 use Rattle.asl_tree.specs.declared.checked.Parts.{Parts}

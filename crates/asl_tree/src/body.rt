@@ -43,6 +43,7 @@ impl Model for TreeBody {
 impl TreeBody {
     /// A body of these statements. Where their names need more slots than a `u32` counts, the answer is want of memory: no machine
     /// has such a frame.
+    #[tactic(auto, using(crate::proofs::Room::room_fits, crate::proofs::Room::wants_more))]
     pub fn new(list: Items<Act>) -> Result<TreeBody, AllocError>
         ensures same { IfOk result (λ body. body.list ≡ list) }
         ensures least { IfOk result (λ body. body.slots ≡ list_room (all_acts list)) }

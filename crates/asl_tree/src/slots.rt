@@ -22,7 +22,7 @@ fn parts(taken: &[bool]) -> Option<u32>
     Some(count)
 }
 
-/// How many names a declaration takes its value apart into.
+/// How many names a declaration gives its value to.
 fn names(taken: &Taken) -> Option<u32>
     ensures { SomeIff result (names_taken (taken_of taken.now) < 2 ^ 32) (names_taken (taken_of taken.now)) }
 {
@@ -66,7 +66,7 @@ fn act_names(act: &Act) -> Option<u32>
     }
 }
 
-/// Of a statement.
+/// Of a statement: the most that are bound at one time, its own names or those of the lists in it.
 #[cycle(rooms)]
 fn act_slots(act: &Act) -> Option<u32>
     ensures { SomeIff result (act_room (act_of act.now) < 2 ^ 32) (act_room (act_of act.now)) }
@@ -96,8 +96,9 @@ fn act_slots(act: &Act) -> Option<u32>
     }
 }
 
-/// Of a list, in which a statement stands behind the names that those before it declare.
+/// Of a list, in which a statement comes after the names that those before it declare.
 #[cycle(rooms)]
+#[tactic(auto, using(crate::proofs::Room::declared_within))]
 pub(crate) fn list_slots(acts: &[Act]) -> Option<u32>
     ensures { SomeIff result (list_room (all_acts acts.now) < 2 ^ 32) (list_room (all_acts acts.now)) }
 {
@@ -110,6 +111,7 @@ pub(crate) fn list_slots(acts: &[Act]) -> Option<u32>
     Some(most)
 }
 
+/// Of lists that come after an `elsif` each.
 #[cycle(rooms)]
 fn branch_slots(branches: &[Branch]) -> Option<u32>
     ensures { SomeIff result (branches_room (all_branches branches.now) < 2 ^ 32) (branches_room (all_branches branches.now)) }
@@ -123,6 +125,7 @@ fn branch_slots(branches: &[Branch]) -> Option<u32>
     Some(most)
 }
 
+/// Of lists that come after a `when` each.
 #[cycle(rooms)]
 fn alternative_slots(alternatives: &[Alternative]) -> Option<u32>
     ensures { SomeIff result (alternatives_room (all_alternatives alternatives.now) < 2 ^ 32) (alternatives_room (all_alternatives alternatives.now)) }
@@ -136,7 +139,7 @@ fn alternative_slots(alternatives: &[Alternative]) -> Option<u32>
     Some(most)
 }
 
-/// The exception that is caught takes a place in front of the list where it has a name.
+/// Of the lists of a `catch`: the exception takes a place in front of its list where it has a name.
 #[cycle(rooms)]
 fn catcher_slots(catchers: &[Catcher]) -> Option<u32>
     ensures { SomeIff result (catchers_room (all_catchers catchers.now) < 2 ^ 32) (catchers_room (all_catchers catchers.now)) }
@@ -153,6 +156,7 @@ fn catcher_slots(catchers: &[Catcher]) -> Option<u32>
     Some(most)
 }
 
+/// Of the list of an `otherwise`.
 #[cycle(rooms)]
 fn last_slots(last: &Last) -> Option<u32>
     ensures { SomeIff result (last_room (last_of last.now) < 2 ^ 32) (last_room (last_of last.now)) }

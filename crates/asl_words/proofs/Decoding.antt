@@ -29,7 +29,7 @@ use Rattle.asl_rules.proofs.values.Viewing.{viewed_twice}
 use Rattle.asl_types.specs.private.Codes.{parts_code}
 use Rattle.asl_subprograms.specs.private.SignatureCodes.{param_code}
 use Rattle.asl_types.specs.Suits.{Suits}
-use Rattle.asl_tree.specs.Acts.{func_of, all_funcs}
+use Rattle.asl_tree.specs.Funcs.{func_of, all_funcs}
 use Rattle.asl_tree.specs.Sealed.{Sealed, IsMade, IsSealed}
 use Rattle.asl_tree.specs.declared.act.TreeFunc.{TreeFunc}
 use Rattle.asl_tree.specs.declared.checked.Global.{Global}

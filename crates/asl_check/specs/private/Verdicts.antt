@@ -9,7 +9,7 @@ use Rattle.asl_rules.specs.Faults.{◌>>=◌}
 use Rattle.asl_rules.specs.declarations.Programs as rules
 use Rattle.asl_rules.specs.declarations.Programs.{Entries, verdict}
 use Rattle.asl_rules.specs.Tests.{Tests}
-use Rattle.asl_tree.specs.Acts.{all_funcs}
+use Rattle.asl_tree.specs.Funcs.{all_funcs}
 use Rattle.asl_tree.specs.Sealed.{Sealed}
 use Rattle.asl_decl.specs.Entered.{entries_of}
 use Rattle.asl_check.specs.declared.program.Accepted.{Accepted}

@@ -3,7 +3,7 @@ use Rattle.asl_rules.specs.Faults.{◌>>=◌}
 use Rattle.asl_rules.specs.declarations.Programs.{bodies_rule}
 use Rattle.asl_rules.specs.Tests.{Tests}
 use Rattle.asl_types.specs.Suits.{Suits}
-use Rattle.asl_tree.specs.Acts.{func_of}
+use Rattle.asl_tree.specs.Funcs.{func_of}
 use Rattle.asl_decl.specs.Heads.{heads_of}
 use Rattle.asl_check.proofs.bodies.check_bodies.Given as goal
 
