@@ -6,3 +6,4 @@ pub mod Room
 pub mod Listing
 pub mod Choosing
 pub mod Catching
+pub mod Packing

@@ -1,14 +1,15 @@
 -- How the rules see what a run works on.
-use Rattle.std.specs.Prelude.{ℕ, ◌-◌, List, Option, length, map, option_map, reverse}
+use Rattle.std.specs.Prelude.{ℕ, ◌-◌, ◌≤◌, Bool, true, false, List, Option, length, map, option_map, reverse}
 use Rattle.asl_bits.specs.declared.TheConstants.{WIDTH_LIMIT}
 use Rattle.asl_rules.specs.values.Values as rules
 use Rattle.asl_rules.specs.runs.Plans.{Meter, Meaning, meanings}
 use Rattle.asl_rules.specs.runs.Plans as plans
 use Rattle.asl_rules.specs.runs.Cuts.{Cutting, cuttings}
-use Rattle.asl_rules.specs.runs.Trees.{Tree, Act}
+use Rattle.asl_rules.specs.runs.Trees.{Tree, Act, Acts}
 use Rattle.asl_rules.specs.private.TypedMeaning.{BareCore, BareFrame, TreeProgram, tree_nodes}
 use Rattle.asl_tree.specs.declared.act.TreeFunc.{TreeFunc}
 use Rattle.asl_tree.specs.Funcs.{all_funcs}
+use Rattle.asl_tree.specs.private.Room.{FitsList}
 use Rattle.asl_value.specs.View.{value_of}
 use Rattle.asl_value.specs.declared.failure.Failure.{Failure}
 use Rattle.asl_value.specs.declared.failure.Failure.TheVariants as failure
@@ -62,6 +63,11 @@ height_of r = length r.frames.values
 
 abbrev pub room_of : Run → ℕ
 room_of r = r.frames.slots - length r.frames.values
+
+-- so many free places are enough for a list, and for a name in front of it where there is one
+abbrev pub FitsNamed : Bool → ℕ → Acts → Type 0
+FitsNamed true r ss = (1 ≤ r) × FitsList (r - 1) ss
+FitsNamed false r ss = FitsList r ss
 
 -- ---- programs
 

@@ -4,11 +4,11 @@ ghost use Rattle.asl_rules.specs.runs.StatementForms as forms;
 ghost use Rattle.asl_rules.specs.private.TypedMeaning as rules;
 ghost use Rattle.asl_rules.specs.private.TypedMeaning.{acts_of, caught_as, in_bare, itself};
 ghost use Rattle.asl_tree.specs.Acts.{all_acts, all_catchers, last_of};
-ghost use Rattle.asl_tree.specs.private.Room.{FitsCatchers, FitsLast, FitsList, FitsNamed};
+ghost use Rattle.asl_tree.specs.private.Room.{FitsCatchers, FitsLast, FitsList};
 ghost use Rattle.asl_tree.specs.declared.act.Catcher.TheVariants.{Catch};
 ghost use Rattle.asl_value.specs.View.{value_of};
 ghost use Rattle.asl_branches.specs.Meets.{Acts, at, NoneRefused, Ran};
-ghost use Rattle.asl_branches.specs.View.{exit_of, room_of};
+ghost use Rattle.asl_branches.specs.View.{exit_of, room_of, FitsNamed};
 
 use crate::below::Nodes;
 use crate::lists::{exec_scope, exec_scope_with};
@@ -40,7 +40,7 @@ pub fn throw_again(run: &Run, span: Span) -> Result<Exit, Stop>
 }
 
 /// A list, and the catchers of what it throws.
-#[tactic(auto, using(crate::proofs::Stacks::cut_values))]
+#[tactic(auto, using(crate::proofs::Stacks::cut_values, crate::proofs::Stacks::cut_height))]
 pub fn exec_try<K: Sink, N: Nodes<K>>(
     here: &N,
     run: &mut Run,

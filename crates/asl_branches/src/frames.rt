@@ -1,12 +1,13 @@
 //! The frames of a run over their store. The names of a frame take its slots in order, and give them back in the opposite order:
 //! so what is bound is a list, and behind it is the room that is left.
-ghost use Rattle.std.specs.Prelude.{◌≡◌, ◌∷◌, ◌++◌, ◌<◌, [], OnOk, length, set, slice_get, take};
+ghost use Rattle.std.specs.Prelude.{◌≡◌, ◌∷◌, ◌++◌, ◌<◌, ◌≤◌, [], OnOk, length, set, slice_get, take};
 ghost use Rattle.std.specs.Option.{option_copied};
 ghost use Rattle.asl_bits.specs.declared.TheConstants.{WIDTH_LIMIT};
 ghost use Rattle.asl_rules.specs.private.ByPlace.{updated};
 ghost use Rattle.asl_value.specs.private.Forms.{all_steps};
 ghost use Rattle.asl_value.specs.View.{value_of};
 ghost use Rattle.asl_branches.specs.Framed.{Changed};
+ghost use Rattle.asl_branches.specs.private.Packing.{IsFrame, bound_in};
 
 use asl_store::Store;
 use asl_value::{Failure, Step, Value};
@@ -33,13 +34,13 @@ pub struct Frames {
 
 impl Model for Frames {
     ghost use Rattle.asl_branches.specs.Framed.{Framed};
-    ghost use Rattle.asl_branches.specs.private.Packing.{AreFilled, IsFilled, bound_in, kept_in};
+    ghost use Rattle.asl_branches.specs.private.Packing.{AreFilled, IsFrame, bound_in, kept_in};
 
     ghost Value = { Framed };
 
     ghost view = { λ f. record { globals = f.store.globals; values = bound_in f.store.newest; slots = length f.store.newest; callers = kept_in f.store.older f.callers.items } };
 
-    ghost invariant = { λ f. IsFilled f.height f.store.newest × AreFilled f.store.older f.callers.items };
+    ghost invariant = { λ f. IsFrame f.height f.store.newest × AreFilled f.store.older f.callers.items };
 }
 
 impl Frames {
@@ -103,9 +104,9 @@ impl Frames {
     pub fn truncate(&mut self, height: usize)
         ensures { self.new ≡ record self.old { values = take height self.old.values } }
     {
-        while self.height > height {
-            self.height -= 1;
-            self.store.unbind(self.height as u32);
+        if height < self.height {
+            unbind_from(&mut self.store, height, self.height);
+            self.height = height;
         }
     }
 
@@ -172,17 +173,11 @@ impl Frames {
             height: self.height,
             handled,
         };
-        self.callers.push(caller)?;
-        match self.store.push_frame(slots) {
-            Ok(()) => {
-                self.height = 0;
-                Ok(())
-            }
-            Err(error) => {
-                let _caller = self.callers.pop();
-                Err(error)
-            }
-        }
+        self.callers.reserve(1)?;
+        self.store.push_frame(slots)?;
+        self.callers.push(caller).unwrap();
+        self.height = 0;
+        Ok(())
     }
 
     /// Leaves the present frame for its caller's, and gives the exceptions that are being handled there.
@@ -203,5 +198,22 @@ impl Frames {
         ensures taken { self.new ≡ record self.old { globals = globals.old.items } }
     {
         self.store.swap_globals(globals);
+    }
+}
+
+/// Binds the slots from this one on to none, of which those up to the end are bound.
+fn unbind_from(store: &mut Store, height: usize, end: usize)
+    requires filled { IsFrame end store.old.newest }
+    requires ordered { height ≤ end }
+    ensures filled { IsFrame height store.new.newest }
+    ensures values { bound_in store.new.newest ≡ take height (bound_in store.old.newest) }
+    ensures slots { length store.new.newest ≡ length store.old.newest }
+    ensures globals { store.new.globals ≡ store.old.globals }
+    ensures older { store.new.older ≡ store.old.older }
+{
+    let mut at = end;
+    while at > height {
+        at -= 1;
+        store.unbind(at as u32);
     }
 }

@@ -4,11 +4,11 @@ ghost use Rattle.asl_rules.specs.runs.StatementForms as forms;
 ghost use Rattle.asl_rules.specs.private.TypedMeaning as rules;
 ghost use Rattle.asl_rules.specs.private.TypedMeaning.{acts_of, in_bare};
 ghost use Rattle.asl_tree.specs.Acts.{all_acts};
-ghost use Rattle.asl_tree.specs.private.Room.{FitsList, FitsNamed};
+ghost use Rattle.asl_tree.specs.private.Room.{FitsList};
 ghost use Rattle.asl_value.specs.View.{value_of};
 ghost use Rattle.asl_branches.specs.private.InOrder.{evaluated};
 ghost use Rattle.asl_branches.specs.Meets.{at, Ran, SameBut};
-ghost use Rattle.asl_branches.specs.View.{core_of, exit_of, height_of, room_of};
+ghost use Rattle.asl_branches.specs.View.{core_of, exit_of, height_of, room_of, FitsNamed};
 
 use crate::below::Nodes;
 use crate::run::Run;
@@ -49,7 +49,7 @@ pub fn eval_all<K: Sink, N: Nodes<K>>(
 }
 
 /// Statements with a scope of their own.
-#[tactic(auto, using(crate::proofs::Stacks::cut_values))]
+#[tactic(auto, using(crate::proofs::Stacks::cut_values, crate::proofs::Stacks::cut_height))]
 pub fn exec_scope<K: Sink, N: Nodes<K>>(
     here: &N,
     run: &mut Run,
@@ -69,7 +69,7 @@ pub fn exec_scope<K: Sink, N: Nodes<K>>(
 }
 
 /// Statements in whose scope a value stands before them.
-#[tactic(auto, using(crate::proofs::Stacks::cut_values))]
+#[tactic(auto, using(crate::proofs::Stacks::cut_values, crate::proofs::Stacks::cut_height))]
 pub fn exec_scope_with<K: Sink, N: Nodes<K>>(
     here: &N,
     run: &mut Run,

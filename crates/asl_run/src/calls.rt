@@ -3,7 +3,7 @@ ghost use Rattle.std.specs.Prelude.{◌≡◌, ◌+◌, ◌<◌, ◌≤◌, leng
 ghost use Rattle.asl_rules.specs.runs.Forms as forms;
 ghost use Rattle.asl_rules.specs.private.TypedMeaning as rules;
 ghost use Rattle.asl_rules.specs.private.TypedMeaning.{list_of};
-ghost use Rattle.asl_tree.specs.Acts.{all_funcs, func_of};
+ghost use Rattle.asl_tree.specs.Funcs.{all_funcs, func_of};
 ghost use Rattle.asl_tree.specs.View.{all_trees};
 ghost use Rattle.asl_value.specs.View.{value_of};
 ghost use Rattle.asl_branches.specs.Meets.{at, Is, Ran};

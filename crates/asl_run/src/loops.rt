@@ -6,11 +6,11 @@ ghost use Rattle.asl_rules.specs.runs.StatementForms as forms;
 ghost use Rattle.asl_rules.specs.private.TypedMeaning.{acts_of, in_bare, indexed};
 ghost use Rattle.asl_rules.specs.values.Values.{int};
 ghost use Rattle.asl_tree.specs.Acts.{all_acts, maybe_tree};
-ghost use Rattle.asl_tree.specs.private.Room.{FitsList, FitsNamed};
+ghost use Rattle.asl_tree.specs.private.Room.{FitsList};
 ghost use Rattle.asl_tree.specs.View.{tree_of};
 ghost use Rattle.asl_value.specs.View.{value_of};
 ghost use Rattle.asl_branches.specs.Meets.{at, Is, Ran};
-ghost use Rattle.asl_branches.specs.View.{exit_of, room_of};
+ghost use Rattle.asl_branches.specs.View.{exit_of, room_of, FitsNamed};
 ghost use Rattle.asl_run.specs.private.Looping.{between, limit_asked, turn_until};
 
 use asl_branches::below::Nodes;

@@ -1,5 +1,5 @@
 -- Frames whose slots are bound in order, and the lists of values that they stand for.
-use Rattle.std.specs.Prelude.{ℕ, zero, suc, List, [], ◌∷◌, Option, Some, None, length}
+use Rattle.std.specs.Prelude.{ℕ, zero, suc, ◌<◌, ◌^◌, List, [], ◌∷◌, Option, Some, None, length}
 use Rattle.asl_value.specs.declared.value.Value.{Value}
 use Rattle.asl_branches.specs.Framed.{Kept}
 use Rattle.asl_branches.specs.declared.frames.Caller.{Caller}
@@ -13,6 +13,10 @@ IsFilled (suc n) [] = ⊥
 IsFilled (suc n) (None ∷ os) = ⊥
 IsFilled (suc n) (Some x ∷ os) = IsFilled n os
 
+-- a frame in which so many are bound: its slots have numbers of 32 bits
+abbrev pub IsFrame : {A : Type 0} → ℕ → List (Option A) → Type 0
+IsFrame n os = IsFilled n os × (length os < 2 ^ 32)
+
 -- what is bound, in order
 abbrev pub bound_in : {A : Type 0} → List (Option A) → List A
 bound_in [] = []
@@ -24,9 +28,12 @@ abbrev pub AreFilled : List (List (Option Value)) → List Caller → Type 0
 AreFilled [] [] = Unit {0}
 AreFilled [] (c ∷ cs) = ⊥
 AreFilled (f ∷ fs) [] = ⊥
-AreFilled (f ∷ fs) (c ∷ cs) = IsFilled c.height f × AreFilled fs cs
+AreFilled (f ∷ fs) (c ∷ cs) = IsFrame c.height f × AreFilled fs cs
+
+abbrev pub kept : List (Option Value) → Caller → Kept
+kept f c = record { values = bound_in f; slots = length f; handled = c.handled.items }
 
 abbrev pub kept_in : List (List (Option Value)) → List Caller → List Kept
 kept_in [] cs = []
 kept_in (f ∷ fs) [] = []
-kept_in (f ∷ fs) (c ∷ cs) = record { values = bound_in f; slots = length f; handled = c.handled.items } ∷ kept_in fs cs
+kept_in (f ∷ fs) (c ∷ cs) = kept f c ∷ kept_in fs cs
