@@ -7,3 +7,4 @@ pub mod Listing
 pub mod Choosing
 pub mod Catching
 pub mod Packing
+pub mod Framing

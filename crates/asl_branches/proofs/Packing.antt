@@ -152,7 +152,7 @@ slots_set i os os1 o e = ap length e ∙ length-set os i o
 -- ---- a frame in which none is bound
 
 filled_new : {A : Type 0} (n : ℕ) → IsFilled {A = A} zero (replicate n None)
-filled_new zero = tt
+filled_new {A} zero = tt
 filled_new {A} (suc n) = filled_new {A} n
 
 pub frame_new : {A : Type 0} (n : ℕ) (os : List (Option A)) → n < 2 ^ 32 → os ≡ replicate n None → IsFrame zero os

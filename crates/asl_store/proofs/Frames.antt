@@ -18,6 +18,13 @@ view_of a = stored a.globals.items a.marks.items a.slots.items a.base a.sizes.it
 abbrev pub IsKept : Inside → Type 0
 IsKept a = (length a.marks.items ≡ length a.slots.items) × ((a.base ≡ all_of a.sizes.items) × (a.base ≤ length a.slots.items))
 
+same_stored : (gs : List Value) (n n1 : List (Option Value)) (o o1 : List (List (Option Value))) → n ≡ n1 → o ≡ o1 →
+    ◌≡◌ {A = Stored} (record { globals = gs; newest = n; older = o }) (record { globals = gs; newest = n1; older = o1 })
+same_stored gs n n1 o o1 newest older = λ k. record { globals = gs; newest = newest k; older = older k }
+
+seen_same : (ms ms1 : List Bool) (xs xs1 : List Value) → ms ≡ ms1 → xs ≡ xs1 → seen ms xs ≡ seen ms1 xs1
+seen_same ms ms1 xs xs1 marks slots = λ k. seen (marks k) (slots k)
+
 -- ---- frames
 
 more_slots : {A : Type 0} (ms : List Bool) (xs : List A) (c : ℕ) (x : A) → length ms ≡ length xs →
@@ -28,17 +35,15 @@ more_slots ms xs c x e = seen-append ms (replicate c false) xs (replicate c x) e
 last_piece : {A : Type 0} (ns : List ℕ) (b : ℕ) (os tail : List A) → b ≡ all_of ns → b ≤ length os →
     split (ns ++ (length os - b) ∷ []) (os ++ tail) ≡ split ns os ++ drop b os ∷ []
 last_piece ns b os tail e le =
-    let n : ℕ = length os - b in
-    let within : all_of ns ≤ length os = omega arith in
-    let a_within : b ≤ length os = omega arith in
+    let inside : all_of ns ≤ length os = omega arith in
     let size = length-drop b os in
-    let n_within : n ≤ length (drop b os) = omega (arith, size) in
-    let whole : length (drop b os) ≤ n = omega (arith, size) in
-    split-push ns n (os ++ tail)
-    ∙ ap (λ a. split ns (os ++ tail) ++ take n (drop a (os ++ tail)) ∷ []) (sym e)
-    ∙ ap (λ ps. ps ++ take n (drop b (os ++ tail)) ∷ []) (split-append ns os tail within)
-    ∙ ap (λ ys. split ns os ++ take n ys ∷ []) (drop-append-le b os tail a_within)
-    ∙ ap (λ ys. split ns os ++ ys ∷ []) (take-append-le n (drop b os) tail n_within ∙ take_all n (drop b os) whole)
+    let begin : length os - b ≤ length (drop b os) = omega (arith, size) in
+    let whole : length (drop b os) ≤ length os - b = omega (arith, size) in
+    split-push ns (length os - b) (os ++ tail)
+    ∙ ap (λ a. split ns (os ++ tail) ++ take (length os - b) (drop a (os ++ tail)) ∷ []) (sym e)
+    ∙ ap (λ ps. ps ++ take (length os - b) (drop b (os ++ tail)) ∷ []) (split-append ns os tail inside)
+    ∙ ap (λ ys. split ns os ++ take (length os - b) ys ∷ []) (drop-append-le b os tail le)
+    ∙ ap (λ ys. split ns os ++ ys ∷ []) (take-append-le (length os - b) (drop b os) tail begin ∙ take_all (length os - b) (drop b os) whole)
 
 -- so many slots more, behind those of the newest frame
 pub pushed : (a : Inside) (s : Stored) (ms : List Bool) (xs : List Value) (b c : ℕ) (ns : List ℕ) (x : Value) → IsKept a → view_of a ≡ s →
@@ -49,13 +54,16 @@ pushed a s ms xs b c ns x kept is at sizes marks slots =
     let os : List (Option Value) = seen a.marks.items a.slots.items in
     let tail : List (Option Value) = replicate c None in
     let long : length os ≡ length a.slots.items = length-seen a.marks.items a.slots.items kept.0 in
-    let now : seen ms xs ≡ os ++ tail = (λ k. seen (marks k) (slots k)) ∙ more_slots a.marks.items a.slots.items c x kept.0 in
-    let newest : drop b (seen ms xs) ≡ tail = (λ k. drop ((at ∙ sym long) k) (now k)) ∙ drop-append_seam os tail in
+    let now : seen ms xs ≡ os ++ tail =
+        seen_same ms _ xs _ marks slots ∙ more_slots a.marks.items a.slots.items c x kept.0 in
+    let end : b ≡ length os = at ∙ sym long in
+    let newest : drop b (seen ms xs) ≡ tail = ap (drop b) now ∙ ap (λ n. drop n (os ++ tail)) end ∙ drop-append_seam os tail in
     let sizes_are : ns ≡ a.sizes.items ++ (length os - a.base) ∷ [] = sizes ∙ ap (λ n. a.sizes.items ++ (n - a.base) ∷ []) (sym long) in
     let older : split ns (seen ms xs) ≡ split a.sizes.items os ++ drop a.base os ∷ [] =
-        (λ k. split (sizes_are k) (now k)) ∙ last_piece a.sizes.items a.base os tail kept.1.0 (omega (arith, long, kept.1.1)) in
-    (λ k. record { globals = a.globals.items; newest = newest k; older = older k })
-    ∙ ap (λ (t : Stored). record { globals = t.globals; newest = tail; older = t.older ++ t.newest ∷ [] }) is
+        ap (split ns) now ∙ ap (λ l. split l (os ++ tail)) sizes_are
+        ∙ last_piece a.sizes.items a.base os tail kept.1.0 (omega (arith, long, kept.1.1)) in
+    same_stored a.globals.items _ _ _ _ newest older
+    ∙ ap {B = Stored} (λ (t : Stored). record { globals = t.globals; newest = tail; older = t.older ++ t.newest ∷ [] }) is
 
 -- and what holds of the parts then
 pub pushed_kept : (a : Inside) (ms : List Bool) (xs : List Value) (b c : ℕ) (ns : List ℕ) (x : Value) → IsKept a → b ≡ length a.slots.items →
@@ -76,15 +84,16 @@ pub popped : (a : Inside) (s : Stored) (ms : List Bool) (xs : List Value) (b n :
     s.older ≡ split ns (seen ms xs) ++ drop b (seen ms xs) ∷ []
 popped a s ms xs b n ns kept is sizes at marks slots =
     let os : List (Option Value) = seen a.marks.items a.slots.items in
-    let m : ℕ = all_of ns in
-    let sum : a.base ≡ m + n = kept.1.0 ∙ ap all_of sizes ∙ all_of-push ns n in
-    let begins : b ≡ m = omega (arith, at, sum) in
-    let within : m ≤ m + n = omega arith in
-    let now : seen ms xs ≡ take (m + n) os =
-        (λ k. seen (marks k) (slots k)) ∙ seen-take a.base a.marks.items a.slots.items ∙ ap (λ k. take k os) sum in
-    let older : split ns (seen ms xs) ≡ split ns os = ap (split ns) now ∙ split-take ns (m + n) os within in
-    let newest : drop b (seen ms xs) ≡ take n (drop m os) = (λ k. drop (begins k) (now k)) ∙ drop-take m n os in
-    sym (ap (λ (t : Stored). t.older) is) ∙ ap (λ us. split us os) sizes ∙ split-push ns n os ∙ sym (λ k. older k ++ newest k ∷ [])
+    let sum : a.base ≡ all_of ns + n = kept.1.0 ∙ ap all_of sizes ∙ all_of-push ns n in
+    let begins : b ≡ all_of ns = omega (arith, at, sum) in
+    let inside : all_of ns ≤ all_of ns + n = omega arith in
+    let now : seen ms xs ≡ take (all_of ns + n) os =
+        seen_same ms _ xs _ marks slots ∙ seen-take a.base a.marks.items a.slots.items ∙ ap (λ k. take k os) sum in
+    let older : split ns (seen ms xs) ≡ split ns os = ap (split ns) now ∙ split-take ns (all_of ns + n) os inside in
+    let newest : drop b (seen ms xs) ≡ take n (drop (all_of ns) os) =
+        ap (drop b) now ∙ ap (λ k. drop k (take (all_of ns + n) os)) begins ∙ drop-take (all_of ns) n os in
+    sym (ap (λ (t : Stored). t.older) is) ∙ ap (λ us. split us os) sizes ∙ split-push ns n os
+    ∙ sym (ap (λ ps. ps ++ drop b (seen ms xs) ∷ []) older ∙ ap (λ ys. split ns os ++ ys ∷ []) newest)
 
 -- the frame before it begins where the slots of those before that end
 pub begins_before : (a : Inside) (n : ℕ) (ns : List ℕ) → IsKept a → a.sizes.items ≡ ns ++ n ∷ [] → (n ≤ a.base) × (a.base - n ≡ all_of ns)
@@ -129,13 +138,13 @@ changed a s ms xs i o kept is now =
     let newest : drop a.base (seen ms xs) ≡ set (drop a.base os) i o = ap (drop a.base) now ∙ drop-set-add a.base os i o in
     let older : split a.sizes.items (seen ms xs) ≡ split a.sizes.items os =
         ap (split a.sizes.items) now ∙ split-set a.sizes.items os (a.base + i) o behind in
-    (λ k. record { globals = a.globals.items; newest = newest k; older = older k }) ∙ ap (λ (t : Stored). with_slot t i o) is
+    same_stored a.globals.items _ _ _ _ newest older ∙ ap (λ (t : Stored). with_slot t i o) is
 
 pub marked : (a : Inside) (s : Stored) (ms : List Bool) (xs : List Value) (i : ℕ) (m : Bool) (x : Value) → IsKept a → view_of a ≡ s →
     ms ≡ set a.marks.items (a.base + i) m → xs ≡ set a.slots.items (a.base + i) x →
     stored a.globals.items ms xs a.base a.sizes.items ≡ with_slot s i (seen_one m x)
 marked a s ms xs i m x kept is marks slots =
-    changed a s ms xs i (seen_one m x) kept is ((λ k. seen (marks k) (slots k)) ∙ seen-set a.marks.items a.slots.items (a.base + i) m x)
+    changed a s ms xs i (seen_one m x) kept is (seen_same ms _ xs _ marks slots ∙ seen-set a.marks.items a.slots.items (a.base + i) m x)
 
 pub marked_kept : (a : Inside) (ms : List Bool) (xs : List Value) (i : ℕ) (m : Bool) (x : Value) → IsKept a →
     ms ≡ set a.marks.items i m → xs ≡ set a.slots.items i x → (length ms ≡ length xs) × ((a.base ≡ all_of a.sizes.items) × (a.base ≤ length xs))
@@ -167,3 +176,8 @@ pub replaced_kept : (a : Inside) (xs : List Value) (i : ℕ) (x : Value) → IsK
 replaced_kept a xs i x kept slots =
     let two : length xs ≡ length a.slots.items = ap length slots ∙ length-set a.slots.items i x in
     (kept.0 ∙ sym two, (kept.1.0, omega (arith, two, kept.1.1)))
+
+-- ---- globals
+
+pub global_within : (a : Inside) (s : Stored) (i : ℕ) → view_of a ≡ s → i < length s.globals → i < length a.globals.items
+global_within a s i is h = omega (arith, ap (λ (t : Stored). length t.globals) is, h)

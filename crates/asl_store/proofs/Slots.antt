@@ -1,5 +1,5 @@
 -- Slots by their marks and what they hold, and their pieces.
-use Rattle.std.proofs.Common.{◌≡◌, ℕ, zero, suc, ◌+◌, ◌-◌, ◌<◌, ◌≤◌, Bool, true, false, true≢false, List, [], ◌∷◌, ◌++◌, length, take, drop, set, replicate, slice_get, Option, None, Some, IsSome, refl, sym, ap, ◌∙◌, arith, append_assoc, append-nil, length-drop, take-take, drop-drop}
+use Rattle.std.proofs.Common.{◌≡◌, ℕ, zero, suc, ◌+◌, ◌-◌, ◌<◌, ◌≤◌, Bool, true, false, true≢false, List, [], ◌∷◌, ◌++◌, length, take, drop, set, replicate, slice_get, Option, None, Some, IsSome, Result, Ok, is_ok, if◌then◌else◌, option_to_list, refl, sym, ap, ◌∙◌, arith, append_assoc, append-nil, length-drop, take-take, drop-drop}
 use Rattle.std.proofs.lemmas.List.{drop-append-le, drop-set-add, drop-take, take-append-le, take-set-le}
 use Rattle.asl_store.specs.Stored.{all_of, bound_at, seen, seen_one, split}
 
@@ -18,7 +18,7 @@ seen-append (m ∷ ms) ns [] ys e = absurd (omega arith)
 seen-append (m ∷ ms) ns (x ∷ xs) ys e = ap (λ os. seen_one m x ∷ os) (seen-append ms ns xs ys (omega arith))
 
 pub seen-replicate : {A : Type 0} (n : ℕ) (x : A) → seen (replicate n false) (replicate n x) ≡ replicate n None
-seen-replicate zero x = refl
+seen-replicate {A} zero x = refl
 seen-replicate {A} (suc n) x = ap (λ (os : List (Option A)). None ∷ os) (seen-replicate n x)
 
 pub seen-set : {A : Type 0} (ms : List Bool) (xs : List A) (i : ℕ) (m : Bool) (x : A) → seen (set ms i m) (set xs i x) ≡ set (seen ms xs) i (seen_one m x)
@@ -115,8 +115,17 @@ pub added_one : {A : Type 0} (xs ys : List A) (n : ℕ) (y : A) → 0 < n → ys
 added_one xs ys zero y h e = absurd (omega arith)
 added_one xs ys (suc n) y h e =
     let less : suc n - 1 ≡ n = omega arith in
-    (λ k. e k ++ replicate (less k) y) ∙ append_assoc xs (y ∷ []) (replicate n y)
+    ap (λ zs. zs ++ replicate (suc n - 1) y) e ∙ ap (λ m. (xs ++ y ∷ []) ++ replicate m y) less ∙ append_assoc xs (y ∷ []) (replicate n y)
 
 pub added_all : {A : Type 0} (xs ys : List A) (n : ℕ) (y : A) → n ≡ 0 → xs ++ replicate n y ≡ ys → xs ≡ ys
 added_all xs ys zero y h e = sym (append-nil xs) ∙ e
 added_all xs ys (suc n) y h e = absurd (omega arith)
+
+-- ---- what calls on a list of sizes leave
+
+pub push_done : {A E : Type 0} (r : Result (Unit {0}) E) (u : Unit {0}) (xs ys : List A) (x : A) → r ≡ Ok u →
+    ys ≡ (if is_ok r then xs ++ x ∷ [] else xs) → ys ≡ xs ++ x ∷ []
+push_done r u xs ys x done e = e ∙ ap (λ q. if is_ok q then xs ++ x ∷ [] else xs) done
+
+pub pop_done : {A : Type 0} (o : Option A) (xs ys : List A) (x : A) → o ≡ Some x → xs ≡ ys ++ option_to_list o → xs ≡ ys ++ x ∷ []
+pop_done o xs ys x done e = e ∙ ap (λ q. ys ++ option_to_list q) done

@@ -60,11 +60,13 @@ impl Store {
         ensures refused { OnErr result (self.new ≡ self.old) }
     {
         let count = slots as usize;
+        let end = self.slots.len();
+        let size = end - self.base;
         self.sizes.reserve(1)?;
         self.marks.reserve(count)?;
         self.slots.reserve(count)?;
-        self.sizes.push(self.slots.len() - self.base).unwrap();
-        self.base = self.slots.len();
+        self.sizes.push(size).unwrap();
+        self.base = end;
         add_marks(&mut self.marks, count);
         add_slots(&mut self.slots, count);
         Ok(())
@@ -109,7 +111,8 @@ impl Store {
         requires { IsSome (bound_at self.now.newest slot) }
         ensures { bound_at self.now.newest slot ≡ Some result.now }
     {
-        &self.slots[self.base + slot as usize]
+        let at = self.base + slot as usize;
+        &self.slots[at]
     }
 
     /// Binds a slot that is bound to another value.

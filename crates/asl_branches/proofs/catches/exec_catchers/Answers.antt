@@ -52,8 +52,8 @@ loop-catcher-preserved g c =
           (omega (arith, c.loop-catcher-test.true)) c.catcher-item.is c.catcher_parts-is_named.ensures c.loop-catcher.invariant.fits).1;
     }
 
-pub handle-requires-then-is_caught-clause-room : goal.handle-requires-then-is_caught-clause-room
-handle-requires-then-is_caught-clause-room g c =
+pub handle-requires-clause-room : goal.handle-requires-clause-room
+handle-requires-clause-room g c =
     let parts = catcher_fits (room_of c.args.run.now) c.args.it.catchers.now c.loop-catcher.catcher-index c.catcher-item.result
     c.catcher_parts-is_named.result.0 c.catcher_parts-is_named.result.1.now c.catcher_parts-is_named.result.2.now
     (omega (arith, c.loop-catcher-test.true)) c.catcher-item.is c.catcher_parts-is_named.ensures c.loop-catcher.invariant.fits in

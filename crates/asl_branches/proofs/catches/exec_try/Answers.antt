@@ -7,11 +7,11 @@ use Rattle.asl_branches.proofs.catches.exec_try.Goals as goal
 pub exec_catchers-requires-clause-catchers : goal.exec_catchers-requires-clause-catchers
 exec_catchers-requires-clause-catchers g c =
     fits_more_catchers (room_of c.args.run.now) _ (all_catchers c.args.it.catchers.now)
-    (no_less_cut c.args.run.now c.exec_scope.new.run _ c.height.result c.in-Err-Thrown.ensures.keeps c.height.ensures c.truncate.ensures)
+    (no_less_cut c.args.run.now c.exec_scope.new.run _ c.height-height.result c.in-Err-Thrown.ensures.keeps c.height-height.ensures c.truncate.ensures)
     c.requires.catchers
 
 pub exec_catchers-requires-clause-last : goal.exec_catchers-requires-clause-last
 exec_catchers-requires-clause-last g c =
     fits_more_last (room_of c.args.run.now) _ (last_of c.args.it.last.now)
-    (no_less_cut c.args.run.now c.exec_scope.new.run _ c.height.result c.in-Err-Thrown.ensures.keeps c.height.ensures c.truncate.ensures)
+    (no_less_cut c.args.run.now c.exec_scope.new.run _ c.height-height.result c.in-Err-Thrown.ensures.keeps c.height-height.ensures c.truncate.ensures)
     c.requires.last

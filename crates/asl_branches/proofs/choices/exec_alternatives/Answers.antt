@@ -51,8 +51,8 @@ loop-other-preserved g c =
           (omega (arith, c.loop-other-test.true)) c.other-item.is c.alternative_parts.ensures c.loop-other.invariant.fits).1;
     }
 
-pub exec_scope-requires-then-branch-clause-room : goal.exec_scope-requires-then-branch-clause-room
-exec_scope-requires-then-branch-clause-room g c =
+pub exec_scope-requires-clause-room : goal.exec_scope-requires-clause-room
+exec_scope-requires-clause-room g c =
     let h = g.N.Nodes.setting c.args.here.now in
     let w = c.alternative_parts.result.0.now in
     let ss = c.alternative_parts.result.1.now in
