@@ -33,10 +33,14 @@ pub struct Frames {
 }
 
 impl Model for Frames {
-    ghost use Rattle.asl_branches.specs.Framed.{Framed};
-    ghost use Rattle.asl_branches.specs.private.Packing.{AreFilled, IsFrame, bound_in, kept_in};
+    ghost use Rattle.asl_branches.specs.Framed.{Framed, framed_code};
 
     ghost Value = { Framed };
+
+    ghost coded = { framed_code };
+
+    ghost use Rattle.std.specs.Prelude.{length};
+    ghost use Rattle.asl_branches.specs.private.Packing.{AreFilled, IsFrame, bound_in, kept_in};
 
     ghost view = { λ f. record { globals = f.store.globals; values = bound_in f.store.newest; slots = length f.store.newest; callers = kept_in f.store.older f.callers.items } };
 

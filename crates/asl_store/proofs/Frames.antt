@@ -55,13 +55,13 @@ pushed a s ms xs b c ns x kept is at sizes marks slots =
     let tail : List (Option Value) = replicate c None in
     let long : length os ≡ length a.slots.items = length-seen a.marks.items a.slots.items kept.0 in
     let now : seen ms xs ≡ os ++ tail =
-        seen_same ms _ xs _ marks slots ∙ more_slots a.marks.items a.slots.items c x kept.0 in
+    seen_same ms _ xs _ marks slots ∙ more_slots a.marks.items a.slots.items c x kept.0 in
     let end : b ≡ length os = at ∙ sym long in
     let newest : drop b (seen ms xs) ≡ tail = ap (drop b) now ∙ ap (λ n. drop n (os ++ tail)) end ∙ drop-append_seam os tail in
     let sizes_are : ns ≡ a.sizes.items ++ (length os - a.base) ∷ [] = sizes ∙ ap (λ n. a.sizes.items ++ (n - a.base) ∷ []) (sym long) in
     let older : split ns (seen ms xs) ≡ split a.sizes.items os ++ drop a.base os ∷ [] =
-        ap (split ns) now ∙ ap (λ l. split l (os ++ tail)) sizes_are
-        ∙ last_piece a.sizes.items a.base os tail kept.1.0 (omega (arith, long, kept.1.1)) in
+    ap (split ns) now ∙ ap (λ l. split l (os ++ tail)) sizes_are
+    ∙ last_piece a.sizes.items a.base os tail kept.1.0 (omega (arith, long, kept.1.1)) in
     same_stored a.globals.items _ _ _ _ newest older
     ∙ ap {B = Stored} (λ (t : Stored). record { globals = t.globals; newest = tail; older = t.older ++ t.newest ∷ [] }) is
 
@@ -71,11 +71,11 @@ pub pushed_kept : (a : Inside) (ms : List Bool) (xs : List Value) (b c : ℕ) (n
     (length ms ≡ length xs) × ((b ≡ all_of ns) × (b ≤ length xs))
 pushed_kept a ms xs b c ns x kept at sizes marks slots =
     let more_marks : length ms ≡ length a.marks.items + c =
-        ap length marks ∙ length-append a.marks.items (replicate c false) ∙ ap (λ n. length a.marks.items + n) (length-replicate c false) in
+    ap length marks ∙ length-append a.marks.items (replicate c false) ∙ ap (λ n. length a.marks.items + n) (length-replicate c false) in
     let more : length xs ≡ length a.slots.items + c =
-        ap length slots ∙ length-append a.slots.items (replicate c x) ∙ ap (λ n. length a.slots.items + n) (length-replicate c x) in
+    ap length slots ∙ length-append a.slots.items (replicate c x) ∙ ap (λ n. length a.slots.items + n) (length-replicate c x) in
     let all : all_of ns ≡ all_of a.sizes.items + (length a.slots.items - a.base) =
-        ap all_of sizes ∙ all_of-push a.sizes.items (length a.slots.items - a.base) in
+    ap all_of sizes ∙ all_of-push a.sizes.items (length a.slots.items - a.base) in
     (omega (arith, more_marks, more, kept.0), (omega (arith, all, at, kept.1.0, kept.1.1), omega (arith, more, at)))
 
 -- the newest frame is cut off
@@ -88,10 +88,10 @@ popped a s ms xs b n ns kept is sizes at marks slots =
     let begins : b ≡ all_of ns = omega (arith, at, sum) in
     let inside : all_of ns ≤ all_of ns + n = omega arith in
     let now : seen ms xs ≡ take (all_of ns + n) os =
-        seen_same ms _ xs _ marks slots ∙ seen-take a.base a.marks.items a.slots.items ∙ ap (λ k. take k os) sum in
+    seen_same ms _ xs _ marks slots ∙ seen-take a.base a.marks.items a.slots.items ∙ ap (λ k. take k os) sum in
     let older : split ns (seen ms xs) ≡ split ns os = ap (split ns) now ∙ split-take ns (all_of ns + n) os inside in
     let newest : drop b (seen ms xs) ≡ take n (drop (all_of ns) os) =
-        ap (drop b) now ∙ ap (λ k. drop k (take (all_of ns + n) os)) begins ∙ drop-take (all_of ns) n os in
+    ap (drop b) now ∙ ap (λ k. drop k (take (all_of ns + n) os)) begins ∙ drop-take (all_of ns) n os in
     sym (ap (λ (t : Stored). t.older) is) ∙ ap (λ us. split us os) sizes ∙ split-push ns n os
     ∙ sym (ap (λ ps. ps ++ drop b (seen ms xs) ∷ []) older ∙ ap (λ ys. split ns os ++ ys ∷ []) newest)
 
@@ -115,7 +115,7 @@ popped_kept a ms xs b n ns kept sizes at marks slots =
 pub some_before : (a : Inside) (s : Stored) → view_of a ≡ s → 0 < length s.older → 0 < length a.sizes.items
 some_before a s is h =
     let as_many : length s.older ≡ length a.sizes.items =
-        ap (λ (t : Stored). length t.older) (sym is) ∙ length-split a.sizes.items (seen a.marks.items a.slots.items) in
+    ap (λ (t : Stored). length t.older) (sym is) ∙ length-split a.sizes.items (seen a.marks.items a.slots.items) in
     omega (arith, as_many, h)
 
 -- ---- slots
@@ -124,7 +124,7 @@ some_before a s is h =
 pub within : (a : Inside) (s : Stored) (i : ℕ) → IsKept a → view_of a ≡ s → i < length s.newest → a.base + i < length a.slots.items
 within a s i kept is h =
     let size : length s.newest ≡ length (seen a.marks.items a.slots.items) - a.base =
-        ap (λ (t : Stored). length t.newest) (sym is) ∙ length-drop a.base (seen a.marks.items a.slots.items) in
+    ap (λ (t : Stored). length t.newest) (sym is) ∙ length-drop a.base (seen a.marks.items a.slots.items) in
     omega (arith, size, h, length-seen a.marks.items a.slots.items kept.0)
 
 pub bound_is_within : (a : Inside) (s : Stored) (i : ℕ) → IsKept a → view_of a ≡ s → IsSome (bound_at s.newest i) → a.base + i < length a.slots.items
@@ -137,7 +137,7 @@ changed a s ms xs i o kept is now =
     let behind : all_of a.sizes.items ≤ a.base + i = omega (arith, kept.1.0) in
     let newest : drop a.base (seen ms xs) ≡ set (drop a.base os) i o = ap (drop a.base) now ∙ drop-set-add a.base os i o in
     let older : split a.sizes.items (seen ms xs) ≡ split a.sizes.items os =
-        ap (split a.sizes.items) now ∙ split-set a.sizes.items os (a.base + i) o behind in
+    ap (split a.sizes.items) now ∙ split-set a.sizes.items os (a.base + i) o behind in
     same_stored a.globals.items _ _ _ _ newest older ∙ ap (λ (t : Stored). with_slot t i o) is
 
 pub marked : (a : Inside) (s : Stored) (ms : List Bool) (xs : List Value) (i : ℕ) (m : Bool) (x : Value) → IsKept a → view_of a ≡ s →

@@ -1,10 +1,12 @@
 -- What contracts see of a store.
-use Rattle.std.specs.Prelude.{◌≡◌, ℕ, ◌+◌, Bool, true, false, List, [], ◌∷◌, Option, Some, None, Result, drop, set, slice_get, take}
+use Rattle.std.specs.Prelude.{◌≡◌, ℕ, ◌+◌, Bool, true, false, List, [], ◌∷◌, Option, Some, None, Result, drop, refl, set, slice_get, take}
+use Rattle.std.specs.Coded.{Coded, code_by, coded×, coded_list, coded_option}
 use Rattle.asl_rules.specs.runs.Plans.{Pure}
 use Rattle.asl_rules.specs.values.Values as rules
 use Rattle.asl_value.specs.View.{value_of}
 use Rattle.asl_value.specs.declared.failure.Failure.{Failure}
 use Rattle.asl_value.specs.declared.value.Value.{Value}
+use Rattle.asl_value.specs.contracts.value.Value as values
 use Rattle.asl_value.specs.private.Answers.{Changes}
 
 -- a frame: for each of its slots the value that it is bound to, none where it isn't bound
@@ -16,6 +18,11 @@ pub record Stored : Type 0 where
   pub globals : List Value
   pub newest : List (Option Value)
   pub older : List (List (Option Value))
+
+abbrev pub stored_code : Coded Stored
+stored_code = code_by (List Value × (List (Option Value) × List (List (Option Value))))
+    (coded× (coded_list values.the_row.coded) (coded× (coded_list (coded_option values.the_row.coded)) (coded_list (coded_list (coded_option values.the_row.coded)))))
+    (λ s. (s.globals, (s.newest, s.older))) (λ p. record { globals = p.0; newest = p.1.0; older = p.1.1 }) (λ _. refl)
 
 -- ---- slots
 

@@ -29,9 +29,11 @@ pub struct Store {
 
 impl Model for Store {
     ghost use Rattle.std.specs.Prelude.{◌≡◌, ◌≤◌, length, drop};
-    ghost use Rattle.asl_store.specs.Stored.{Stored, all_of, seen, split};
+    ghost use Rattle.asl_store.specs.Stored.{Stored, all_of, seen, split, stored_code};
 
     ghost Value = { Stored };
+
+    ghost coded = { stored_code };
 
     ghost view = { λ s. record { globals = s.globals.items; newest = drop s.base (seen s.marks.items s.slots.items); older = split s.sizes.items (seen s.marks.items s.slots.items) } };
 
@@ -92,7 +94,7 @@ impl Store {
         ensures { self.new ≡ with_slot self.old slot (Some value) }
     {
         let at = self.base + slot as usize;
-        self.slots[at] = value;
+        put(&mut self.slots, at, value);
         self.marks[at] = true;
     }
 
@@ -102,7 +104,7 @@ impl Store {
         ensures { self.new ≡ with_slot self.old slot None }
     {
         let at = self.base + slot as usize;
-        self.slots[at] = Value::Bool(false);
+        put(&mut self.slots, at, Value::Bool(false));
         self.marks[at] = false;
     }
 
@@ -121,7 +123,7 @@ impl Store {
         ensures { self.new ≡ with_slot self.old slot (Some value) }
     {
         let at = self.base + slot as usize;
-        self.slots[at] = value;
+        put(&mut self.slots, at, value);
     }
 
     /// Replaces a part of the value that a slot is bound to, in place where each part on the way has one owner. At a fault the
@@ -162,7 +164,7 @@ impl Store {
         requires { at < length self.old.globals }
         ensures { self.new ≡ record self.old { globals = set self.old.globals at value } }
     {
-        self.globals[at] = value;
+        put(&mut self.globals, at, value);
     }
 
     /// Replaces a part of the value of a global, as `replace_in` does.
@@ -187,6 +189,15 @@ impl Store {
     {
         mem::swap(&mut self.globals, globals);
     }
+}
+
+/// One of these values becomes another.
+fn put(values: &mut Vec<Value>, at: usize, value: Value)
+    requires { at < vec_len values.old }
+    ensures { values.new.items ≡ set values.old.items at value }
+{
+    let old = mem::replace(&mut values[at], value);
+    drop(old);
 }
 
 /// So many slots more, which hold `FALSE`.

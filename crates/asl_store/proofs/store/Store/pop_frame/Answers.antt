@@ -1,4 +1,4 @@
-use Rattle.std.proofs.Common.{arith, refl, sym, ap}
+use Rattle.std.proofs.Common.{ap, arith, refl}
 use Rattle.asl_store.specs.Stored.{Stored}
 use Rattle.asl_store.proofs.Frames.{begins_before, popped, popped_kept, some_before}
 use Rattle.asl_store.proofs.Slots.{pop_done}
@@ -20,11 +20,12 @@ invariant_of-self c =
     (pop_done c.pop.result c.self.inside.sizes.items c.pop.new.self.items c.unwrap-size.result c.unwrap-size.ensures c.pop.ensures.items)
     refl c.truncate-2.ensures.items c.truncate.ensures.items
 
-pub returns : goal.returns
-returns c = record {
-  frames = popped c.self.inside c.args.self.now c.truncate-2.new.self.items c.truncate.new.self.items _ c.unwrap-size.result c.pop.new.self.items
-      c.self.invariant c.self.view_is
-      (pop_done c.pop.result c.self.inside.sizes.items c.pop.new.self.items c.unwrap-size.result c.unwrap-size.ensures c.pop.ensures.items)
-      refl c.truncate-2.ensures.items c.truncate.ensures.items;
-  globals = ap (λ (s : Stored). s.globals) c.self.view_is;
-}
+pub returns-clause-frames : goal.returns-clause-frames
+returns-clause-frames c =
+    popped c.self.inside c.args.self.now c.truncate-2.new.self.items c.truncate.new.self.items _ c.unwrap-size.result c.pop.new.self.items
+    c.self.invariant c.self.view_is
+    (pop_done c.pop.result c.self.inside.sizes.items c.pop.new.self.items c.unwrap-size.result c.unwrap-size.ensures c.pop.ensures.items)
+    refl c.truncate-2.ensures.items c.truncate.ensures.items
+
+pub returns-clause-globals : goal.returns-clause-globals
+returns-clause-globals c = ap (λ (s : Stored). s.globals) c.self.view_is

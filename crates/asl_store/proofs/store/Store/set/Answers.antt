@@ -7,13 +7,13 @@ overflow_add-at c =
     let inner = bound_is_within c.self.inside c.args.self.now c.args.slot c.self.invariant c.self.view_is c.requires in
     omega (arith, inner, c.self.inside.slots.ok.0, c.self.inside.slots.ok.1, c.self.inside.slots.small)
 
-pub index_mut-requires : goal.index_mut-requires
-index_mut-requires c =
+pub put-requires : goal.put-requires
+put-requires c =
     let inner = bound_is_within c.self.inside c.args.self.now c.args.slot c.self.invariant c.self.view_is c.requires in
     omega (arith, inner, c.self.inside.slots.ok.0)
 
 pub invariant_of-self : goal.invariant_of-self
-invariant_of-self c = replaced_kept c.self.inside _ (c.self.inside.base + c.args.slot) c.args.value c.self.invariant refl
+invariant_of-self c = replaced_kept c.self.inside _ (c.self.inside.base + c.args.slot) c.args.value c.self.invariant c.put.ensures
 
 pub returns : goal.returns
-returns c = replaced c.self.inside c.args.self.now _ c.args.slot c.args.value c.self.invariant c.self.view_is c.requires refl
+returns c = replaced c.self.inside c.args.self.now _ c.args.slot c.args.value c.self.invariant c.self.view_is c.requires c.put.ensures
