@@ -1,5 +1,5 @@
 -- What the calls of a store do to its frames.
-use Rattle.std.proofs.Common.{◌≡◌, ℕ, ◌+◌, ◌-◌, ◌<◌, ◌≤◌, Bool, false, List, [], ◌∷◌, ◌++◌, length, take, drop, set, replicate, slice_get, Option, None, Some, IsSome, refl, sym, ap, ◌∙◌, subst, arith, length-append, length-drop, length-set, length-take-le, take_all}
+use Rattle.std.proofs.Common.{◌≡◌, ℕ, ◌+◌, ◌-◌, ◌<◌, ◌≤◌, Bool, false, List, [], ◌∷◌, ◌++◌, length, take, drop, set, replicate, slice_get, Option, None, Some, IsSome, sym, ap, ◌∙◌, subst, arith, length-append, length-drop, length-set, length-take-le, take_all}
 use Rattle.std.proofs.Math.Seq.{drop-append_seam}
 use Rattle.std.proofs.lemmas.List.{drop-append-le, drop-set-add, drop-take, length-replicate, take-append-le}
 use Rattle.asl_value.specs.declared.value.Value.{Value}

@@ -1,4 +1,4 @@
-use Rattle.std.proofs.Common.{◌+◌, ◌<◌, length, refl, ◌∙◌, arith}
+use Rattle.std.proofs.Common.{◌+◌, length, refl, ◌∙◌, arith}
 use Rattle.std.proofs.lemmas.Option.{slice_get_read}
 use Rattle.asl_store.proofs.Frames.{bound_is_within, got}
 use Rattle.asl_store.proofs.store.Store.get.Goals as goal

@@ -1,4 +1,4 @@
-use Rattle.std.proofs.Common.{◌+◌, refl, arith}
+use Rattle.std.proofs.Common.{◌+◌, arith}
 use Rattle.asl_store.proofs.Frames.{bound_is_within, replaced, replaced_kept}
 use Rattle.asl_store.proofs.store.Store.set.Goals as goal
 
