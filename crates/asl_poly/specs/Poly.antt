@@ -1,10 +1,11 @@
 -- What the operations on polynomials answer: the value of the result, when it is too large, and its terms.
-use Rattle.std.specs.Prelude.{◌≡◌, ℕ, ◌+◌, ◌*◌, ◌/◌, ◌≤◌, ◌==◌, if◌then◌else◌, ℤ, pos, ◌+ℤ◌, ◌-ℤ◌, ◌*ℤ◌, ◌≤ℤ◌, List, [], length, unsigned_abs, Option, None, Result, Ok, Err}
+use Rattle.std.specs.Prelude.{◌≡◌, ℕ, ◌+◌, ◌*◌, ◌/◌, ◌%◌, ◌≤◌, ◌==◌, Bool, false, ◌&&◌, ◌||◌, if◌then◌else◌, ℤ, pos, negsuc, ◌+ℤ◌, ◌-ℤ◌, ◌*ℤ◌, ◌≤ℤ◌, List, [], ◌∷◌, length, unsigned_abs, Option, Some, None, Result, Ok, Err}
+use Rattle.std.specs.Option.{is_none}
 use Rattle.asl_poly.specs.declared.PolyRefused.{PolyRefused}
 use Rattle.asl_poly.specs.declared.PolyRefused.TheVariants.{TooLarge, NoMemory}
 use Rattle.asl_poly.specs.WidthLimits.{heaviest, highest, most_atoms, finest}
-use Rattle.asl_poly.specs.Terms.{Polynomial, of_terms, value}
-use Rattle.asl_poly.specs.Limits.{IsMap, weight, degree, atoms_of_both}
+use Rattle.asl_poly.specs.Terms.{Summand, Polynomial, of_terms, value}
+use Rattle.asl_poly.specs.Limits.{IsMap, weight, degree, note_terms, atoms_of_both}
 use Rattle.asl_poly.specs.Operations.{constant_of, constant_terms, atom_terms, sum_terms, difference_terms, product_terms}
 use Rattle.asl_poly.specs.Denominators.{IsLowest, least_common_multiple, raised, lowest}
 use Rattle.asl_poly.specs.Fractions.{SameFraction, fraction_at, worth}
@@ -130,6 +131,45 @@ substitute_map by p = lowest (replaced by [] (with_common_denominator by p.terms
 -- the integer that p is, where it has no atom and is whole
 unfoldable pub constant_value : Polynomial → Option ℤ
 constant_value p = if p.denominator == 1 then constant_of p.terms else None
+
+-- ---- What crates above ask of terms: each question has the denominator in it, and none of them reads terms by itself.
+
+-- the integer that p times its denominator is, where it has no atom
+abbrev pub number_over : Polynomial → Option ℤ
+number_over p = constant_of p.terms
+
+-- p has an atom
+abbrev pub varies : Polynomial → Bool
+varies p = is_none (number_over p)
+
+-- a number that k, which is above 0, divides
+abbrev pub is_multiple : ℕ → Option ℤ → Bool
+is_multiple k None = false
+is_multiple k (Some z) = unsigned_abs z % k == 0
+
+-- k divides p: for some integers at the atoms at least, and where there is no atom, for good
+abbrev pub may_divide : ℕ → Polynomial → Bool
+may_divide k p = varies p || is_multiple k (constant_value p)
+
+abbrev pub is_one : ℤ → Bool
+is_one (pos n) = n == 1
+is_one (negsuc n) = false
+
+abbrev pub is_only : ℕ → List ℕ → Bool
+is_only n (x ∷ []) = x == n
+is_only n xs = false
+
+abbrev pub is_factor : ℕ → List Summand → Bool
+is_factor n (t ∷ []) = is_one t.coefficient && is_only n t.factors
+is_factor n ts = false
+
+-- p is the atom n alone
+abbrev pub is_atom : ℕ → Polynomial → Bool
+is_atom n p = (p.denominator == 1) && is_factor n p.terms
+
+-- the atoms of p, each once, after those of `seen`
+abbrev pub with_atoms_of : List ℕ → Polynomial → List ℕ
+with_atoms_of seen p = note_terms seen p.terms
 
 -- the answer r of an operation that makes m within its limits
 abbrev pub Gives : Type 0 → Polynomial → Result Polynomial PolyRefused → Type 0

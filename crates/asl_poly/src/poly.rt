@@ -9,7 +9,7 @@ ghost use Rattle.asl_poly.specs.Limits.{IsMap};
 ghost use Rattle.asl_poly.specs.Operations.{product_terms};
 ghost use Rattle.asl_poly.specs.Denominators.{lowest, raised};
 ghost use Rattle.asl_poly.specs.Substitute.{common_denominator, raised_terms};
-ghost use Rattle.asl_poly.specs.Poly.{IsPolynomial, Same, IsConstant, IsOffset, IsSum, IsDifference, IsProduct, IsQuotient, IsSubstituted, sum_denominator, ConstantFits, SumFits, ProductFits, QuotientFits, SubstituteFits, constant_map, atom_map, sum_map, difference_map, product_map, quotient_map, substitute_map, constant_value, Gives};
+ghost use Rattle.asl_poly.specs.Poly.{IsPolynomial, Same, IsConstant, IsOffset, IsSum, IsDifference, IsProduct, IsQuotient, IsSubstituted, sum_denominator, ConstantFits, SumFits, ProductFits, QuotientFits, SubstituteFits, constant_map, atom_map, sum_map, difference_map, product_map, quotient_map, substitute_map, constant_value, number_over, Gives};
 
 use crate::constant::{constant_of, offset_of};
 use crate::denominators::{common_divisor, divided, least_common_multiple, multiples};
@@ -337,6 +337,7 @@ impl Poly {
     /// The integer that this times the denominator is for all integers at its atoms, `None` where there is none. It is
     /// within the greatest weight. It takes no memory.
     pub fn number(&self) -> Option<i128>
+        ensures is { result ≡ number_over self.now }
         ensures light { IfSome result (λ c. unsigned_abs c ≤ heaviest) }
         ensures value { MatchOption result ((c : ℤ) → ((a : ℕ → ℤ) → value a self.now.terms ≡ c) → ⊥) (λ c. (a : ℕ → ℤ) → value a self.now.terms ≡ c) }
     {
