@@ -55,6 +55,10 @@ product_fits p q =
     && (nat_le (degree p.terms + degree q.terms) highest
     && (nat_le (length (atoms_of_both p.terms q.terms)) most_atoms && nat_le (p.denominator * q.denominator) finest))
 
+-- the limit of a width that is divided by k
+unfoldable pub quotient_fits : Polynomial → ℕ → Bool
+quotient_fits p k = nat_le (p.denominator * k) finest
+
 abbrev pub integer_end : Option ℤ → Option End
 integer_end z = bind z (λ n. Some (Int n))
 

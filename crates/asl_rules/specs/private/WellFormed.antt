@@ -2,9 +2,10 @@
 -- types.
 use Rattle.std.specs.Prelude.{◌≡◌, ℕ, pos, nat_le, nat_lt, ◌&&◌, Bool, true, false, List, [], ◌∷◌, Option, Some, None}
 use Rattle.asl_poly.specs.Terms.{Polynomial}
+use Rattle.asl_poly.specs.Poly.{IsConstant}
 use Rattle.asl_rules.specs.types.Types.{Ty, Fields, Parts, View, integer_of, boolean, bits_of, enumeration_of, record_of, exception_of, tuple_of, array_of, named, no_field, field, no_part, part, kind, misfit}
 use Rattle.asl_rules.specs.Tests.{Tests, IsRight}
-use Rattle.asl_rules.specs.types.Closed.{Assignment, type_with, width_at, closed}
+use Rattle.asl_rules.specs.types.Closed.{Assignment, type_with, closed}
 use Rattle.asl_rules.specs.types.Views.{viewed}
 use Rattle.asl_rules.specs.values.Values.{Value, FieldValues, Values, int, bool, bits_with, label, record_with, exception_with, tuple_with, array_with, no_value_of, value_of_field, no_value, value}
 
@@ -49,7 +50,7 @@ AllInside n (f ∷ fs) = ((nat_le f.low f.high && nat_lt f.high n) ≡ true) × 
 -- bits with bitfields have one width whatever the atoms stand for, within which these lie
 abbrev pub ShapedView : Polynomial → View → Type 0
 ShapedView w [] = Unit {0}
-ShapedView w (f ∷ fs) = (n : ℕ) × ((a : Assignment) → width_at w a ≡ pos n) × AllInside n (f ∷ fs)
+ShapedView w (f ∷ fs) = (n : ℕ) × IsConstant w (pos n) × AllInside n (f ∷ fs)
 
 -- names agree with the declarations and stand for structures, enumerations have a label, bitfields lie within their bits, and exceptions have a name
 -- wherever they are fields, parts or elements
