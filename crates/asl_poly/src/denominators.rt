@@ -31,8 +31,8 @@ fn greatest_common_divisor(d: u128, e: u128) -> u128
     gcd(d, e)
 }
 
-// The least number that both divide.
-pub(crate) fn least_common_multiple(d: u128, e: u128) -> u128
+/// The least number that both divide.
+pub fn least_common_multiple(d: u128, e: u128) -> u128
     requires some { 0 < d }
     requires left { d ≤ 2 ^ 16 }
     requires right { e ≤ 2 ^ 64 }

@@ -19,6 +19,7 @@ ghost use Rattle.std.specs.Prelude.{◌≢◌, ℕ, ℤ};
 ghost use Rattle.asl_poly.specs.Terms.{Polynomial};
 ghost use Rattle.asl_poly.specs.Poly.{IsPolynomial, SameAt};
 
+pub use denominators::least_common_multiple;
 pub use limits::{FINEST, HEAVIEST, HIGHEST, MOST_ATOMS};
 pub use poly::Poly;
 use std::alloc::AllocError;

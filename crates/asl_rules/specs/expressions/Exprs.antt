@@ -31,7 +31,8 @@ use Rattle.asl_rules.specs.runs.Trees.{Tree}
 use Rattle.asl_rules.specs.types.Effects.{all_together, greatest}
 use Rattle.asl_rules.specs.declarations.Scopes.{Scope, Standing, Stored, Subprogram, TypeName, Label, standing_of, storage_of, type_of_name, with_class, reading}
 use Rattle.asl_rules.specs.declarations.Layouts.{slot_of, layout_of}
-use Rattle.asl_rules.specs.types.Arithmetic.{Combination, operator, Reading, literal, named, negated, combined, divided, no_arithmetic, arithmetic, divisor}
+use Rattle.asl_rules.specs.declared.joining.Combination.{Combination}
+use Rattle.asl_rules.specs.types.Arithmetic.{operator, Reading, literal, named, negated, combined, divided, no_arithmetic, arithmetic, divisor}
 use Rattle.asl_rules.specs.types.Widths.{width_of_number, width_of_standing, width_difference, width_combined, width_divided, number_of_standing, number_combined, number_divided, held, storage_has_atom, bounded}
 use Rattle.asl_rules.specs.expressions.Typing.{Found, Typed, Width, Number, Operand, width_as, number_as, width_note, in_class, finish, finish_all, operands, types_of, trees_of}
 use Rattle.asl_rules.specs.expressions.Operations.{operation, operation_of_two}

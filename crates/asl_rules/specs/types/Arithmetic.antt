@@ -8,18 +8,44 @@ use Rattle.asl_syn.specs.declared.tree.BinaryOperator.{BinaryOperator}
 use Rattle.asl_syn.specs.declared.tree.BinaryOperator.TheVariants as binary
 use Rattle.asl_syn.specs.declared.tree.Bitfield.TheOpen as ex
 use Rattle.asl_syn.specs.declared.tree.Bitfield.TheFolds.{fold-Expr}
+use Rattle.asl_rules.specs.declared.joining.Combination.{Combination}
+use Rattle.asl_rules.specs.declared.joining.Combination.TheVariants.{Sum, Difference, Product}
+use Rattle.asl_rules.specs.declared.joining.Joining.{Joining}
+use Rattle.asl_rules.specs.declared.joining.Joining.TheVariants.{Combines, Divides, JoinsNothing}
 
 -- ---- what an expression is as arithmetic
 
-pub data Combination : Type 0 where
-  sum : Combination
-  difference : Combination
-  product : Combination
-
+-- the operator that combines so
 abbrev pub operator : Combination → BinaryOperator
-operator sum = binary.Add
-operator difference = binary.Subtract
-operator product = binary.Multiply
+operator Sum = binary.Add
+operator Difference = binary.Subtract
+operator Product = binary.Multiply
+
+-- what an operator does in a width
+abbrev pub joining : BinaryOperator → Joining
+joining binary.LogicalAnd = JoinsNothing
+joining binary.LogicalOr = JoinsNothing
+joining binary.Implies = JoinsNothing
+joining binary.Equivalent = JoinsNothing
+joining binary.Equal = JoinsNothing
+joining binary.NotEqual = JoinsNothing
+joining binary.Less = JoinsNothing
+joining binary.LessEqual = JoinsNothing
+joining binary.Greater = JoinsNothing
+joining binary.GreaterEqual = JoinsNothing
+joining binary.Add = Combines Sum
+joining binary.Subtract = Combines Difference
+joining binary.BitAnd = JoinsNothing
+joining binary.BitOr = JoinsNothing
+joining binary.BitXor = JoinsNothing
+joining binary.Concatenate = JoinsNothing
+joining binary.Multiply = Combines Product
+joining binary.DivideExact = Divides
+joining binary.DivideFloor = JoinsNothing
+joining binary.Modulo = JoinsNothing
+joining binary.ShiftLeft = JoinsNothing
+joining binary.ShiftRight = JoinsNothing
+joining binary.Power = JoinsNothing
 
 -- over its parts; a division is by a number that is written
 pub data Reading (E : Type 0) : Type 0 where
@@ -35,30 +61,10 @@ reading_of_one unary.Negate a = negated a
 reading_of_one unary.Not a = no_arithmetic
 reading_of_one unary.Complement a = no_arithmetic
 
-abbrev pub reading_of_two : {E : Type 0} → BinaryOperator → E → E → Reading E
-reading_of_two binary.LogicalAnd a b = no_arithmetic
-reading_of_two binary.LogicalOr a b = no_arithmetic
-reading_of_two binary.Implies a b = no_arithmetic
-reading_of_two binary.Equivalent a b = no_arithmetic
-reading_of_two binary.Equal a b = no_arithmetic
-reading_of_two binary.NotEqual a b = no_arithmetic
-reading_of_two binary.Less a b = no_arithmetic
-reading_of_two binary.LessEqual a b = no_arithmetic
-reading_of_two binary.Greater a b = no_arithmetic
-reading_of_two binary.GreaterEqual a b = no_arithmetic
-reading_of_two binary.Add a b = combined sum a b
-reading_of_two binary.Subtract a b = combined difference a b
-reading_of_two binary.BitAnd a b = no_arithmetic
-reading_of_two binary.BitOr a b = no_arithmetic
-reading_of_two binary.BitXor a b = no_arithmetic
-reading_of_two binary.Concatenate a b = no_arithmetic
-reading_of_two binary.Multiply a b = combined product a b
-reading_of_two binary.DivideExact a b = divided a b
-reading_of_two binary.DivideFloor a b = no_arithmetic
-reading_of_two binary.Modulo a b = no_arithmetic
-reading_of_two binary.ShiftLeft a b = no_arithmetic
-reading_of_two binary.ShiftRight a b = no_arithmetic
-reading_of_two binary.Power a b = no_arithmetic
+abbrev pub reading_of_two : {E : Type 0} → Joining → E → E → Reading E
+reading_of_two (Combines o) a b = combined o a b
+reading_of_two Divides a b = divided a b
+reading_of_two JoinsNothing a b = no_arithmetic
 
 -- the one table of what stands for a number
 abbrev pub arithmetic : {B I E F P L T : Type 0} → ex.Expr-F B I E F P L T → Reading E
@@ -67,7 +73,7 @@ arithmetic (ex.Bits span text) = no_arithmetic
 arithmetic (ex.Bool span b) = no_arithmetic
 arithmetic (ex.Name span name) = named name
 arithmetic (ex.Unary span o a) = reading_of_one o a
-arithmetic (ex.Binary span o a b) = reading_of_two o a b
+arithmetic (ex.Binary span o a b) = reading_of_two (joining o) a b
 arithmetic (ex.Conditional span c a b) = no_arithmetic
 arithmetic (ex.Tuple span es) = no_arithmetic
 arithmetic (ex.Construct span i fs) = no_arithmetic
@@ -117,9 +123,9 @@ pub record Read (N : Type 0) : Type 0 where
 
 module _ {N : Type 0} (ops : Arithmetic N) where
   abbrev pub of_two : Combination → N → N → N
-  of_two sum a b = ops.plus a b
-  of_two difference a b = ops.minus a b
-  of_two product a b = ops.times a b
+  of_two Sum a b = ops.plus a b
+  of_two Difference a b = ops.minus a b
+  of_two Product a b = ops.times a b
 
   abbrev pub negative : N → N
   negative a = ops.minus (ops.literal 0) a

@@ -12,7 +12,8 @@ use Rattle.asl_poly.specs.Denominators.{least_common_multiple}
 use Rattle.asl_poly.specs.Poly.{constant_map, sum_map, difference_map, product_map, quotient_map, constant_value, weight_over, with_atoms_of, is_multiple, may_divide}
 use Rattle.asl_cons.specs.Arithmetic.{fits, sum_fits, product_fits, quotient_fits}
 use Rattle.asl_rules.specs.Faults.{◌>>◌, need, fault, found_or}
-use Rattle.asl_rules.specs.types.Arithmetic.{Combination, sum, difference, product}
+use Rattle.asl_rules.specs.declared.joining.Combination.{Combination}
+use Rattle.asl_rules.specs.declared.joining.Combination.TheVariants.{Sum, Difference, Product}
 use Rattle.asl_rules.specs.types.Types.{Ty, is_integer, size, depth}
 use Rattle.asl_rules.specs.values.Values.{Value, int}
 use Rattle.asl_rules.specs.declarations.Scopes.{Counted, Storage, Standing, Stored, Label, known_value}
@@ -56,9 +57,9 @@ abbrev pub width_product : Span → Polynomial → Polynomial → Result Polynom
 width_product span p q = need (product_fits p q) T20 span >> Ok (product_map p q)
 
 abbrev pub width_combined : Span → Combination → Polynomial → Polynomial → Result Polynomial Fault
-width_combined span sum p q = width_sum span p q
-width_combined span difference p q = width_difference span p q
-width_combined span product p q = width_product span p q
+width_combined span Sum p q = width_sum span p q
+width_combined span Difference p q = width_difference span p q
+width_combined span Product p q = width_product span p q
 
 -- `p DIV k`: k divides p where it has no atom (T19), and the denominator, before lowest terms, is within the limit (T20)
 abbrev pub width_divided : Span → Polynomial → ℕ → Result Polynomial Fault
@@ -87,9 +88,9 @@ number_of_standing span (Some (Label T x)) = fault T05 span
 number_of_standing span o = fault T02 span
 
 abbrev pub number_combined : Span → Combination → ℤ → ℤ → Result ℤ Fault
-number_combined span sum a b = held span (a +ℤ b)
-number_combined span difference a b = held span (a -ℤ b)
-number_combined span product a b = held span (a *ℤ b)
+number_combined span Sum a b = held span (a +ℤ b)
+number_combined span Difference a b = held span (a -ℤ b)
+number_combined span Product a b = held span (a *ℤ b)
 
 -- k divides the number (T19)
 abbrev pub number_divided : Span → ℤ → ℕ → Result ℤ Fault
