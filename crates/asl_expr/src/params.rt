@@ -1,8 +1,7 @@
 //! What stands for the parameters of a call: the widths in braces, or the whole widths of arguments.
 
 ghost use Rattle.std.specs.Prelude.{◌≡◌, pos, map, option_map, OnOk, IfOk};
-ghost use Rattle.asl_poly.specs.Poly.{constant_map};
-ghost use Rattle.asl_rules.specs.types.Alone.{is_atom, is_only};
+ghost use Rattle.asl_poly.specs.Poly.{constant_map, is_atom, is_only};
 ghost use Rattle.asl_rules.specs.expressions.Calls as rules;
 ghost use Rattle.asl_rules.specs.expressions.Calls.{given};
 ghost use Rattle.asl_rules.specs.expressions.Exprs.{found};
@@ -146,9 +145,9 @@ fn is_only(atom: Atom, atoms: &[Atom]) -> bool
 /// Whether a width is this atom alone.
 #[tactic(auto, using(crate::proofs::ParamLemmas::not_one))]
 fn is_alone(atom: Atom, width: &Poly) -> bool
-    ensures { result ≡ is_atom atom width.now.terms }
+    ensures { result ≡ is_atom atom width.now }
 {
-    if width.terms() != 1 {
+    if width.denominator() != 1 || width.terms() != 1 {
         return false;
     }
     match width.term(0) {

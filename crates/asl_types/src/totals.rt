@@ -1,8 +1,8 @@
-//! Sums of many widths, whose weights and atoms all count together, before any terms cancel.
+//! Sums of many widths, whose weights, denominators and atoms all count together, before any terms cancel.
 
 ghost use Rattle.std.specs.Prelude.{◌≡◌, ◌≤◌, ◌^◌, ◌<◌, length, IfOk};
 ghost use Rattle.asl_poly.specs.Limits as limits;
-ghost use Rattle.asl_poly.specs.Poly.{SumFits, Gives};
+ghost use Rattle.asl_poly.specs.Poly.{SumFits, Gives, with_atoms_of};
 ghost use Rattle.asl_rules.specs.expressions.Slicing.{no_width};
 ghost use Rattle.asl_rules.specs.types.Widths as rules;
 ghost use Rattle.asl_types.specs.private.Answers.{Agrees};
@@ -11,17 +11,19 @@ ghost use Rattle.asl_types.specs.private.Totals.{IsTotal, IsWithin, adds, added}
 use crate::answer::fault;
 use crate::integers::constant_width;
 use crate::tests::within_limits;
-use asl_poly::{Atom, HEAVIEST, MOST_ATOMS, Poly, PolyRefused};
+use asl_poly::{Atom, FINEST, HEAVIEST, MOST_ATOMS, Poly, PolyRefused, least_common_multiple};
 use asl_syn::code::{Refused, StaticCode};
 use asl_syn::token::Span;
 use sqlite_items::Items;
 use std::alloc::{AllocError, Global};
 
-/// A sum within the limits: the width, the weights of all that was added, and their atoms, each once.
+/// A sum within the limits: the width, the weight of all that was added over one denominator, which is the least common multiple of
+/// theirs, and their atoms, each once.
 #[derive(Drop)]
 struct Within {
     sum: Poly,
     weight: u128,
+    denominator: u128,
     atoms: Items<Atom>,
 }
 
@@ -38,7 +40,7 @@ enum Sign {
     Minus,
 }
 
-/// The weight of a width: the sum of the absolute values of its coefficients.
+/// The weight of the terms of a width: the sum of the absolute values of its coefficients.
 #[tactic(auto, using(crate::proofs::TotalLemmas::weight_last))]
 fn weight_of(p: &Poly) -> u128
     ensures is { result ≡ limits.weight p.now.terms }
@@ -53,6 +55,15 @@ fn weight_of(p: &Poly) -> u128
         }
     }
     total
+}
+
+/// The denominator of a width, from 1 to 65,536.
+fn denominator_of(p: &Poly) -> u128
+    ensures is { result ≡ p.now.denominator }
+    ensures some { 0 < result }
+    ensures few { result ≤ 2 ^ 16 }
+{
+    p.denominator() as u128
 }
 
 /// Whether an atom is among these.
@@ -82,7 +93,7 @@ fn note_factors(atoms: &mut Items<Atom>, factors: &[Atom]) -> Result<(), AllocEr
 /// The atoms with those of a width behind them, each once.
 #[tactic(auto, using(crate::proofs::TotalLemmas::noted_last))]
 fn note_width(atoms: &mut Items<Atom>, p: &Poly) -> Result<(), AllocError>
-    ensures { IfOk result (λ _. atoms.new ≡ limits.note_terms atoms.old p.now.terms) }
+    ensures { IfOk result (λ _. atoms.new ≡ with_atoms_of atoms.old p.now) }
 {
     for place in 0..p.terms() {
         match p.term(place) {
@@ -103,26 +114,37 @@ fn added(alloc: Global, sign: Sign, p: &Poly, q: &Poly) -> Result<Poly, PolyRefu
     }
 }
 
-/// A sum within the limits with one more width.
+/// A sum within the limits with one more width, whose atoms these are.
 fn more(alloc: Global, within: Within, sign: Sign, p: &Poly) -> Result<Total, AllocError>
     ensures { (x : rules.Total) → IsWithin within x → IfOk result (λ t. IsTotal t (adds sign x p.now)) }
 {
     let Within {
         sum,
         weight,
+        denominator,
         mut atoms,
     } = within;
-    if weight > HEAVIEST {
+    if denominator == 0 || denominator > FINEST || weight > HEAVIEST {
         return Ok(Total { within: None });
     }
-    let weight = weight + weight_of(p);
+    let own = denominator_of(p);
+    let common = least_common_multiple(denominator, own);
     note_width(&mut atoms, p)?;
-    if weight > HEAVIEST || atoms.len() > MOST_ATOMS {
+    if common > FINEST || atoms.len() > MOST_ATOMS {
+        return Ok(Total { within: None });
+    }
+    let weight = weight * (common / denominator) + weight_of(p) * (common / own);
+    if weight > HEAVIEST {
         return Ok(Total { within: None });
     }
     match added(alloc, sign, &sum, p) {
         Ok(sum) => Ok(Total {
-            within: Some(Within { sum, weight, atoms }),
+            within: Some(Within {
+                sum,
+                weight,
+                denominator: common,
+                atoms,
+            }),
         }),
         Err(PolyRefused::TooLarge) => Ok(Total { within: None }),
         Err(PolyRefused::NoMemory) => Err(AllocError),
@@ -150,6 +172,7 @@ impl Total {
             within: Some(Within {
                 sum: constant_width(alloc, 0)?,
                 weight: 0,
+                denominator: 1,
                 atoms: Items::new(alloc),
             }),
         })
@@ -190,6 +213,7 @@ impl Total {
                 let Within {
                     sum,
                     weight: _,
+                    denominator: _,
                     atoms: _atoms,
                 } = within;
                 Ok(sum)

@@ -92,9 +92,13 @@ number_combined span Sum a b = held span (a +ℤ b)
 number_combined span Difference a b = held span (a -ℤ b)
 number_combined span Product a b = held span (a *ℤ b)
 
+-- a multiple of k divided by k
+abbrev pub exact_quotient : ℤ → ℕ → ℤ
+exact_quotient a k = floor_div a k
+
 -- k divides the number (T19)
 abbrev pub number_divided : Span → ℤ → ℕ → Result ℤ Fault
-number_divided span a k = need (is_multiple k (Some a)) T19 span >> Ok (floor_div a k)
+number_divided span a k = need (is_multiple k (Some a)) T19 span >> Ok (exact_quotient a k)
 
 -- whether a name is an atom, or a `let` that stands for a text with one
 abbrev pub counted_has_atom : Option Counted → Bool
