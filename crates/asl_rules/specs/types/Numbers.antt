@@ -1,6 +1,6 @@
 -- The numbers that width expressions stand for, where names stand for numbers. They are fractions, which no limit bounds and which are taken as they come,
 -- not in lowest terms; to find them takes no step.
-use Rattle.std.specs.Prelude.{◌≡◌, ℕ, ◌*◌, ℤ, pos, negsuc, List, [], ◌∷◌, if◌then◌else◌, Option, Some, None, option_map, option_and_then}
+use Rattle.std.specs.Prelude.{ℕ, ◌*◌, ℤ, pos, ◌-ℤ◌, ◌*ℤ◌, List, [], ◌∷◌, if◌then◌else◌, Option, Some, None, option_map, option_and_then}
 use Rattle.std.specs.Str.{bytes_eq}
 use Rattle.asl_syn.specs.declared.tree.Expr.{Expr}
 use Rattle.asl_poly.specs.Fractions.{Fraction, SameFraction, whole, plus, times}
@@ -20,7 +20,7 @@ abbrev pub FractionOf : Type 0
 FractionOf = Worth Fraction
 
 abbrev pub less : Fraction → Fraction → Fraction
-less r s = plus r (times (whole (negsuc 0)) s)
+less r s = record { number = r.number *ℤ pos s.denominator -ℤ s.number *ℤ pos r.denominator; denominator = r.denominator * s.denominator }
 
 -- a fraction divided by a number above 0
 abbrev pub parted : Fraction → ℕ → Fraction
