@@ -21,7 +21,7 @@ more_left u v c r e h = omega (arith, ints)
 past_it : (u v c : ℤ) (r n : ℕ) → v +ℤ pos r ≡ c → r < n → (v +ℤ pos n) ≤ℤ u → u ≤ℤ c → ⊥
 past_it u v c r n e l h k = omega (arith, ints)
 
-at_most_floor : (x c : ℤ) (n : ℕ) → 0 < n → (x ≤ℤ floor_div c n) ↔ ((x *ℤ pos n) ≤ℤ c)
+pub at_most_floor : (x c : ℤ) (n : ℕ) → 0 < n → (x ≤ℤ floor_div c n) ↔ ((x *ℤ pos n) ≤ℤ c)
 at_most_floor x c n p = (
   (λ h. more_left (x *ℤ pos n) (floor_div c n *ℤ pos n) c (floor_mod c n) (floor_law c n p).0 (times_pos x (floor_div c n) n h)),
   λ h. elim (at_most_or x (floor_div c n)) [

@@ -33,7 +33,7 @@ use Rattle.asl_rules.proofs.values.Shapes.{named_parts}
 use Rattle.asl_rules.proofs.values.Keeping.{written_once}
 use Rattle.asl_rules.proofs.values.Viewing.{width_is}
 use Rattle.asl_rules.proofs.expressions.OperatorForms.{Gives}
-use Rattle.asl_cons.proofs.Covering.{value_constant_map}
+use Rattle.asl_rules.proofs.values.Rounded.{constant_at}
 
 -- ---- the fields of a type without atoms
 
@@ -203,7 +203,7 @@ module _ (d : List ℕ → Option Ty) (w : WellDeclared d) (av : Assignment) (te
       (record {
         same = r;
         gives = subst (Gives d av (bits_wide (bitfield_width g))) (sym r)
-            (subst (λ z. is_width (length (read_bits (places_of_field g ∷ []) bs)) z ≡ true) (sym (value_constant_map av (pos (bitfield_width g)))) (subst (λ j. is_width (length (read_bits (places_of_field g ∷ []) bs)) (pos j) ≡ true) l (number_is (length (read_bits (places_of_field g ∷ []) bs)))), tt, refl);
+            (subst (λ z. is_width (length (read_bits (places_of_field g ∷ []) bs)) z ≡ true) (sym (constant_at av (pos (bitfield_width g)))) (subst (λ j. is_width (length (read_bits (places_of_field g ∷ []) bs)) (pos j) ≡ true) l (number_is (length (read_bits (places_of_field g ∷ []) bs)))), tt, refl);
       })
 
   -- a field of a record or an exception, or a bitfield of bits
@@ -261,7 +261,7 @@ module _ (d : List ℕ → Option Ty) (w : WellDeclared d) (av : Assignment) (te
   within_gives : (b : Bool) (span : Span) (fs : List BitField) (bs : List Bool) (v : View) → length (read_bits (places_of_fields fs) bs) ≡ all_wide fs → Gives d av (bits_wide (all_wide fs)) (cond b (Good (places_of_fields fs)) (Bad (Faulted D14 span)) >>= λ ps. bits_at span ps (bits_with bs v))
   within_gives false span fs bs v e = tt
   within_gives true span fs bs v e =
-      (subst (λ z. is_width (length (read_bits (places_of_fields fs) bs)) z ≡ true) (sym (value_constant_map av (pos (all_wide fs)))) (subst (λ j. is_width (length (read_bits (places_of_fields fs) bs)) (pos j) ≡ true) e (number_is (length (read_bits (places_of_fields fs) bs)))), tt, refl)
+      (subst (λ z. is_width (length (read_bits (places_of_fields fs) bs)) z ≡ true) (sym (constant_at av (pos (all_wide fs)))) (subst (λ j. is_width (length (read_bits (places_of_fields fs) bs)) (pos j) ≡ true) e (number_is (length (read_bits (places_of_fields fs) bs)))), tt, refl)
 
   -- bitfields that are taken together, by their names and by their places
   pub bitfields_give : (limit : ℕ) (span : Span) (is : List Ident) (T : Ty) (fs : List BitField) (x : Value) → Shaped d T → bitfields_in is (view_of T) ≡ Ok fs → is_bits T ≡ true → InType d av x T →

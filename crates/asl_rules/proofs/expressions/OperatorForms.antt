@@ -163,7 +163,9 @@ module _ (d : List ℕ → Option Ty) (av : Assignment) (tests : Tests) (right :
   -- two bit vectors of one width
   equal_lengths : (S T : Ty) (bs cs : List Bool) → tests.same (width_of S) (width_of T) ≡ true → is_width (length bs) (width_at (width_of S) av) ≡ true → is_width (length cs) (width_at (width_of T) av) ≡ true → (length bs == length cs) ≡ true
   equal_lengths S T bs cs e h k =
-      same_width (length bs) (length cs) (width_at (width_of T) av) (subst (λ z. is_width (length bs) z ≡ true) ((right.same_yes (width_of S) (width_of T) e).same av) h) k
+      let i = right.same_yes (width_of S) (width_of T) e in
+      same_width (length bs) (length cs) (width_at (width_of T) av)
+      (subst (λ z. is_width (length bs) z ≡ true) (same_width_at av (width_of S) (width_of T) i.left i.right (i.same av)) h) k
 
   -- ---- values that can be compared
 

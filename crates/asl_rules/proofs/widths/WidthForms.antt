@@ -36,7 +36,7 @@ use Rattle.asl_rules.specs.expressions.Typing.{Found, Width, Number, width_as, n
 use Rattle.asl_rules.specs.expressions.Slicing.{FoundSlice}
 use Rattle.asl_rules.specs.types.Writing.{FoundPart, FoundBitfield, FoundType}
 use Rattle.asl_rules.specs.expressions.Patterns.{FoundPattern}
-use Rattle.asl_rules.specs.expressions.Exprs.{FoundField, ExprOf, found, width, width_of, number_of, name_read, negative_tree, combined_tree, divided_tree, span_of, expr_rule, given_rule, slice_rule, type_rule, part_rule, bitfield_rule, pattern_rule}
+use Rattle.asl_rules.specs.expressions.Exprs.{FoundField, found, width, width_of, number_of, width_rule, number_rule, name_read, negative_tree, combined_tree, divided_tree, span_of, expr_rule, given_rule, slice_rule, type_rule, part_rule, bitfield_rule, pattern_rule}
 use Rattle.asl_rules.proofs.basics.Inversions.{ok_ok, err_ok, bind_ok, then_ok, found_ok}
 use Rattle.asl_rules.proofs.basics.Opening.{opened}
 use Rattle.asl_rules.proofs.basics.Tests.{none_some, some_same}
@@ -160,10 +160,7 @@ module _ (t : Tests) (P : Expr → Scope → Polynomial → Type 0) (forms : Wid
   both span binary.DivideExact e f G w h = division span e f G w h
   both span o e f G w h = err_ok (fault_of T19 span) w h
 
-  abbrev width_at : ExprOf → Scope → Result Width Fault
-  width_at x G = width_of (span_of x) (arithmetic x) G
-
-  layer : (y : Below) (G : Scope) (w : Width) → width_at (opened t (trees y)) G ≡ Ok w → P (roll-Expr (trees y)) G w.poly
+  layer : (y : Below) (G : Scope) (w : Width) → width_rule (opened t (trees y)) G ≡ Ok w → P (roll-Expr (trees y)) G w.poly
   layer (ex.Int span n) G w h = width_made (width_of_number span (pos n)) (tree.Int (width_note span) n) w (P (roll-Expr (ex.Int span n)) G) (λ p e. forms.whole span n G p e) h
   layer (ex.Name span name) G w h =
       width_made (width_of_standing span (standing_of name G.names)) (name_read span name G) w (P (roll-Expr (ex.Name span name)) G) (λ p e. forms.name span name G p e) h
@@ -174,7 +171,7 @@ module _ (t : Tests) (P : Expr → Scope → Polynomial → Type 0) (forms : Wid
   step : (x : ExprLayer) (y : Below) → trees y ≡ x → Holds (roll-Expr x)
   unfolding Holds
   step x y is G w h =
-      subst (λ z. P (roll-Expr z) G w.poly) is (layer y G w (ap (λ z. width_at (opened t z) G) is ∙ sym (ap (λ (f : Found). f.width G) (found_roll t x)) ∙ h))
+      subst (λ z. P (roll-Expr z) G w.poly) is (layer y G w (ap (λ z. width_rule (opened t z) G) is ∙ sym (ap (λ (f : Found). f.width G) (found_roll t x)) ∙ h))
 
   holds : (e : Expr) → Holds e
   holds = ind-Expr Any Any Holds Any Any Any Any (λ x y is. tt) (λ x y is. tt) step (λ x y is. tt) (λ x y is. tt) (λ x y is. tt) (λ x y is. tt)
@@ -228,10 +225,7 @@ module _ (t : Tests) (P : Expr → Scope → ℤ → Type 0) (forms : NumberForm
   number_both span binary.DivideExact e f G w h = number_division span e f G w h
   number_both span o e f G w h = err_ok (fault_of T19 span) w h
 
-  abbrev number_found : ExprOf → Scope → Result Number Fault
-  number_found x G = number_of (span_of x) (arithmetic x) G
-
-  number_at : (y : Under) (G : Scope) (w : Number) → number_found (opened t (parts y)) G ≡ Ok w → P (roll-Expr (parts y)) G w.number
+  number_at : (y : Under) (G : Scope) (w : Number) → number_rule (opened t (parts y)) G ≡ Ok w → P (roll-Expr (parts y)) G w.number
   number_at (ex.Int span n) G w h = subst (P (roll-Expr (ex.Int span n)) G) (ap (λ (v : Number). v.number) (ok_ok (number_as (pos n) (tree.Int (width_note span) n)) w (then_ok (need (fits (pos n)) T20 span) _ w h).then)) (forms.whole span n G)
   number_at (ex.Name span name) G w h =
       number_made (number_of_standing span (standing_of name G.names)) (name_read span name G) w (P (roll-Expr (ex.Name span name)) G) (λ z e. forms.name span name G z e) h
@@ -242,7 +236,7 @@ module _ (t : Tests) (P : Expr → Scope → ℤ → Type 0) (forms : NumberForm
   number_step : (x : ExprLayer) (y : Under) → parts y ≡ x → Counts (roll-Expr x)
   unfolding Counts
   number_step x y is G w h =
-      subst (λ z. P (roll-Expr z) G w.number) is (number_at y G w (ap (λ z. number_found (opened t z) G) is ∙ sym (ap (λ (f : Found). f.number G) (found_roll t x)) ∙ h))
+      subst (λ z. P (roll-Expr z) G w.number) is (number_at y G w (ap (λ z. number_rule (opened t z) G) is ∙ sym (ap (λ (f : Found). f.number G) (found_roll t x)) ∙ h))
 
   counts : (e : Expr) → Counts e
   counts = ind-Expr Any Any Counts Any Any Any Any (λ x y is. tt) (λ x y is. tt) number_step (λ x y is. tt) (λ x y is. tt) (λ x y is. tt) (λ x y is. tt)

@@ -209,13 +209,22 @@ names_atom no_arithmetic G = false
 
 -- ---- each node
 
+abbrev pub width_rule : ExprOf → Scope → Result Width Fault
+width_rule layer = width_of (span_of layer) (arithmetic layer)
+
+abbrev pub number_rule : ExprOf → Scope → Result Number Fault
+number_rule layer = number_of (span_of layer) (arithmetic layer)
+
+abbrev pub atom_rule : ExprOf → Scope → Bool
+atom_rule layer = names_atom (arithmetic layer)
+
 abbrev pub expr_rule : Tests → ExprOf → Found
 expr_rule t layer = record {
   span = span_of layer;
   typed = typed_rule t layer;
-  width = width_of (span_of layer) (arithmetic layer);
-  number = number_of (span_of layer) (arithmetic layer);
-  has_atom = names_atom (arithmetic layer);
+  width = width_rule layer;
+  number = number_rule layer;
+  has_atom = atom_rule layer;
   divisor = divisor (arithmetic layer);
 }
 

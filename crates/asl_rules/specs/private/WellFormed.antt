@@ -2,10 +2,11 @@
 -- types.
 use Rattle.std.specs.Prelude.{◌≡◌, ℕ, pos, nat_le, nat_lt, ◌&&◌, Bool, true, false, List, [], ◌∷◌, Option, Some, None}
 use Rattle.asl_poly.specs.Terms.{Polynomial}
-use Rattle.asl_poly.specs.Poly.{IsConstant}
+use Rattle.asl_poly.specs.Poly.{IsPolynomial}
+use Rattle.asl_cons.specs.Constraint.{AllEnds}
 use Rattle.asl_rules.specs.types.Types.{Ty, Fields, Parts, View, integer_of, boolean, bits_of, enumeration_of, record_of, exception_of, tuple_of, array_of, named, no_field, field, no_part, part, kind, misfit}
 use Rattle.asl_rules.specs.Tests.{Tests, IsRight}
-use Rattle.asl_rules.specs.types.Closed.{Assignment, type_with, closed}
+use Rattle.asl_rules.specs.types.Closed.{Assignment, type_with, width_at, closed}
 use Rattle.asl_rules.specs.types.Views.{viewed}
 use Rattle.asl_rules.specs.values.Values.{Value, FieldValues, Values, int, bool, bits_with, label, record_with, exception_with, tuple_with, array_with, no_value_of, value_of_field, no_value, value}
 
@@ -50,7 +51,7 @@ AllInside n (f ∷ fs) = ((nat_le f.low f.high && nat_lt f.high n) ≡ true) × 
 -- bits with bitfields have one width whatever the atoms stand for, within which these lie
 abbrev pub ShapedView : Polynomial → View → Type 0
 ShapedView w [] = Unit {0}
-ShapedView w (f ∷ fs) = (n : ℕ) × IsConstant w (pos n) × AllInside n (f ∷ fs)
+ShapedView w (f ∷ fs) = (n : ℕ) × ((a : Assignment) → width_at w a ≡ pos n) × AllInside n (f ∷ fs)
 
 -- names agree with the declarations and stand for structures, enumerations have a label, bitfields lie within their bits, and exceptions have a name
 -- wherever they are fields, parts or elements
@@ -74,10 +75,32 @@ abbrev mutual
   ShapedParts declared no_part = Unit {0}
   ShapedParts declared (part T ts) = (is_nameless_exception T ≡ false) × Shaped declared T × ShapedParts declared ts
 
+-- widths, and ends of constraints, are polynomials within the limits
+abbrev mutual
+  pub Within : Ty → Type 0
+  Within (integer_of ps) = AllEnds ps
+  Within boolean = Unit {0}
+  Within (bits_of w view) = IsPolynomial w
+  Within (enumeration_of name labels) = Unit {0}
+  Within (record_of name fs) = WithinFields fs
+  Within (exception_of name fs) = WithinFields fs
+  Within (tuple_of ts) = WithinParts ts
+  Within (array_of n T) = Within T
+  Within (named name supers T) = Within T
+
+  pub WithinFields : Fields → Type 0
+  WithinFields no_field = Unit {0}
+  WithinFields (field f T fs) = Within T × WithinFields fs
+
+  pub WithinParts : Parts → Type 0
+  WithinParts no_part = Unit {0}
+  WithinParts (part T ts) = Within T × WithinParts ts
+
 -- a type of storage and of expressions
 pub record WellFormed (declared : List ℕ → Option Ty) (T : Ty) : Type 0 where
   pub shaped : Shaped declared T
   pub has_name : is_nameless_exception T ≡ false
+  pub within : Within T
 
 -- a type without atoms
 abbrev pub Fixed : Ty → Type 0
