@@ -186,16 +186,16 @@ pub fn budget_law()
     ensures words { (env : Environment) (entries : Entries) (words : List Word) (globals : List Binding) (h : Meter) (k : ℕ) → SameWordsWithMore k (run_words env entries words globals (with_more k h)) (run_words env entries words globals h) }
 {}
 
-/// Widths over fractions, which no limit bounds. Where integers agree with what names stand for, a width has the fraction of its
-/// expression (`worth`), and an end of a constraint that names no atom is its integer (`number`). In a scope in which `let`s count as
-/// names that stand for themselves, the test whether two widths are the same says yes exactly where they have one fraction at all such
-/// integers (`same`), and there are such integers whatever the names that stand for themselves stand for (`integers`). The names outside
+/// Widths over fractions, which no limit bounds. Where integers agree with what names stand for, an end of a constraint that names no
+/// atom is the integer of its expression (`number`). In a scope in which `let`s count as names that stand for themselves, a width has
+/// the fraction of its expression there (`worth`), the test whether two widths are the same says yes exactly where they have one fraction
+/// at all such integers (`same`), and there are such integers whatever the names that stand for themselves stand for (`integers`). The names outside
 /// bodies are such a scope (`outside`). So are those at the head of a body (`heads`), behind each statement (`statements`), in loops
 /// (`indices`) and in catchers (`catchers`): what stood there before stands for the same. And behind a `let` of one integer, where its
 /// initialiser is a width, the name stands for the fraction of its initialiser (`statements`).
 #[tactic(auto)]
 pub fn widths_law()
-    ensures worth { (t : Tests) (e : Expr) (G : Scope) (w : Width) (a : Integers) → width t e G ≡ Ok w → Obeys G.names a → HasWorth e G.names a w.poly }
+    ensures worth { (t : Tests) (e : Expr) (G : Scope) (w : Width) (a : Integers) → WellCounted G.names → width t e G ≡ Ok w → Obeys G.names a → HasWorth e G.names a w.poly }
     ensures number { (t : Tests) (e : Expr) (G : Scope) (n : Number) (a : Integers) → (found t e).number G ≡ Ok n → Obeys G.names a → HasWhole e G.names a n.number }
     ensures same { (t : Tests) → IsRight t → (e f : Expr) (G : Scope) (v w : Width) → WellCounted G.names → width t e G ≡ Ok v → width t f G ≡ Ok w → (t.same v.poly w.poly ≡ true) ↔ SameWorth G.names e f }
     ensures integers { (names : List Names) → WellCounted names → (b : ℕ → ℤ) → HasIntegers names b }
