@@ -52,13 +52,14 @@ StmtSays t (st.Throw span e) G after a = Unit {0}
 StmtSays t (st.Try span ss catchers last) G after a = Unit {0}
 StmtSays t (st.Print span kind items) G after a = Unit {0}
 
--- the names that stood before stand for the same fractions, and the same integers agree with them
+-- what stood before stands still, for the same fractions, and the same integers agree with the names
 pub record StandsAsBefore (before after : List Entry) : Type 0 where
   pub counted : WellCounted after
   pub same : (a : Integers) → Obeys after a ↔ Obeys before a
+  pub stands : (name : List ℕ) (s : Storage) → storage_of name before ≡ Some s → storage_of name after ≡ Some s
   pub kept : (a : Integers) (name : List ℕ) (s : Storage) → storage_of name before ≡ Some s → fraction_for after a name ≡ fraction_for before a name
 
 -- so they do behind a statement, and a name that it declares stands for what it says
 pub record SaysSo (t : Tests) (s : Stmt) (B : Body) (d : Done) : Type 0 where
   pub before : StandsAsBefore B.scope.names d.names
-  pub says : (a : Integers) → StmtSays t (out-Stmt s) B.scope d.names a
+  pub says : (a : Integers) → Obeys B.scope.names a → StmtSays t (out-Stmt s) B.scope d.names a
