@@ -1,8 +1,8 @@
 -- Fractions beside integers: an integer lies from a fraction on where it lies from the least integer on that isn't below it, and likewise up to one; and a
 -- fraction is a number of bits where it is whole. The same fraction rounds to the same integers.
-use Rattle.std.proofs.Common.{◌≡◌, ℕ, zero, suc, ◌+◌, ◌*◌, ◌<◌, ◌≤◌, ◌==◌, Bool, true, false, inl, inr, refl, sym, ap, ap₂, ◌∙◌, subst, arith}
-use Rattle.std.specs.Prelude.{◌↔◌, ◌≤ℤ◌, if◌then◌else◌}
-use Rattle.std.proofs.Math.IntN.{ℤ, pos, negsuc, ◌+ℤ◌, ◌-ℤ◌, ◌*ℤ◌, neg_ℤ, *ℤ_comm}
+use Rattle.std.proofs.Common.{◌≡◌, ℕ, zero, suc, ◌+◌, ◌*◌, ◌/◌, ◌%◌, ◌<◌, ◌≤◌, ◌==◌, Bool, true, false, inl, inr, refl, sym, ap, ap₂, ◌∙◌, subst, arith}
+use Rattle.std.specs.Prelude.{◌↔◌, ◌≤ℤ◌, if◌then◌else◌, unsigned_abs}
+use Rattle.std.proofs.Math.IntN.{ℤ, pos, negsuc, ◌+ℤ◌, ◌-ℤ◌, ◌*ℤ◌, neg_ℤ, *ℤ_comm, pos-*ℤ-pos}
 use Rattle.std.proofs.lemmas.Int.{ints}
 use Rattle.std.proofs.lemmas.Bool.{cases_Bool}
 use Rattle.std.proofs.lemmas.Bool.Decides.{nat_tests}
@@ -11,6 +11,7 @@ use Rattle.asl_num.proofs.Laws.{floor_law}
 use Rattle.asl_poly.specs.Terms.{Polynomial, value}
 use Rattle.asl_poly.specs.Fractions.{Fraction, SameFraction, whole, fraction_at}
 use Rattle.asl_poly.specs.Poly.{IsPolynomial, HasWidth, SameAt, constant_map}
+use Rattle.asl_poly.proofs.Divisors.{divides_exact}
 use Rattle.asl_poly.proofs.Bounds.{times_pos, less_of_times}
 use Rattle.asl_poly.proofs.Ring.{mul-one, neg-mul, swap_last}
 use Rattle.asl_cons.proofs.Covering.{value_constant_map, denominator_constant_map}
@@ -103,6 +104,20 @@ none_of_whole r z h w =
     let l = floor_law r.number r.denominator h in
     let f : floor r *ℤ pos r.denominator ≡ z *ℤ pos r.denominator = ap (λ y. y *ℤ pos r.denominator) e in
     (e, omega (arith, ints, l.0, f, n))
+
+-- ---- multiples
+
+multiple_of : (y : ℤ) (k : ℕ) → unsigned_abs y % k ≡ 0 → (w : ℤ) × (y ≡ w *ℤ pos k)
+multiple_of (pos a) k e = (pos (a / k), sym (pos-*ℤ-pos (a / k) k ∙ ap pos (divides_exact k a e)))
+multiple_of (negsuc a) k e =
+    (neg_ℤ (pos (suc a / k)), sym (neg-mul (pos (suc a / k)) (pos k) ∙ ap neg_ℤ (pos-*ℤ-pos (suc a / k) k ∙ ap pos (divides_exact k (suc a) e))))
+
+-- the quotient of a multiple
+pub exact_is : (y : ℤ) (k : ℕ) → 0 < k → unsigned_abs y % k ≡ 0 → y ≡ floor_div y k *ℤ pos k
+exact_is y k h e =
+    let w = multiple_of y k e in
+    let n = none_of_whole (record { number = y; denominator = k }) w.0 h (mul-one y ∙ w.1) in
+    w.1 ∙ ap (λ z. z *ℤ pos k) (sym n.0)
 
 is_zero_nat : (n : ℕ) → (n == 0) ≡ true → n ≡ 0
 is_zero_nat n h = grind (arith, nat_tests)
