@@ -17,7 +17,9 @@ use Rattle.asl_rules.specs.Tests.{Tests}
 use Rattle.asl_rules.specs.types.Types.{Ty, Fields, Parts, Widths, View, no_part, part}
 use Rattle.asl_rules.specs.values.Values.{Value, int}
 use Rattle.asl_rules.specs.declarations.Scopes.{Scope, Counted, Standing, Stored, Label, Signature, Param}
-use Rattle.asl_rules.specs.types.Widths.{Total, length_of, width_of_counted, width_of_known, width_of_standing, width_of_binary, number_of_counted, number_of_known, number_of_standing, number_of_binary}
+use Rattle.asl_rules.specs.types.Widths.{Total, length_of, width_of_counted, width_of_known, width_of_standing, width_combined, width_divided, number_of_counted, number_of_known, number_of_standing, number_combined, number_divided}
+use Rattle.asl_rules.specs.declared.joining.Combination.{Combination}
+use Rattle.asl_rules.specs.declared.joining.Combination.TheVariants.{Sum, Difference, Product}
 use Rattle.asl_rules.specs.expressions.Typing.{Found, Operand, operands}
 use Rattle.asl_rules.specs.expressions.Operations.{unary_rule, binary_rule}
 use Rattle.asl_rules.specs.values.Members.{bitfields_in, constructed, given_once, all_fit}
@@ -60,9 +62,13 @@ module _ (t : Tests) (P : Fault → Type 0) where
   standing_width span (Some (Stored s)) p = search (steps, counted_width)
   standing_width span o p = search steps
 
-  pub binary_width : (span : Span) (o : BinaryOperator) (p q : Polynomial) → At P span → Stands P (width_of_binary span o p q)
-  binary_width span binary.Add p q h = search steps
-  binary_width span o p q h = search steps
+  pub combined_width : (span : Span) (o : Combination) (p q : Polynomial) → At P span → Stands P (width_combined span o p q)
+  combined_width span Sum p q h = search steps
+  combined_width span Difference p q h = search steps
+  combined_width span Product p q h = search steps
+
+  pub divided_width : (span : Span) (p : Polynomial) (k : ℕ) → At P span → Stands P (width_divided span p k)
+  divided_width span p k h = search steps
 
   known_number : (span : Span) (o : Option Value) → At P span → Stands P (number_of_known span o)
   known_number span (Some (int z)) p = tt
@@ -76,9 +82,13 @@ module _ (t : Tests) (P : Fault → Type 0) where
   standing_number span (Some (Stored s)) p = search (steps, counted_number)
   standing_number span o p = search steps
 
-  pub binary_number : (span : Span) (o : BinaryOperator) (a b : ℤ) → At P span → Stands P (number_of_binary span o a b)
-  binary_number span binary.Add a b p = search steps
-  binary_number span o a b p = search steps
+  pub combined_number : (span : Span) (o : Combination) (a b : ℤ) → At P span → Stands P (number_combined span o a b)
+  combined_number span Sum a b p = search steps
+  combined_number span Difference a b p = search steps
+  combined_number span Product a b p = search steps
+
+  pub divided_number : (span : Span) (a : ℤ) (k : ℕ) → At P span → Stands P (number_divided span a k)
+  divided_number span a k p = search steps
 
   -- ---- several expressions
 
@@ -288,4 +298,4 @@ module _ (t : Tests) (P : Fault → Type 0) where
   part_patterns [] Ts G h = tt
 
 -- beside the steps, all that these rules are made of
-pub ruleset rows = (unary_stands, binary_stands, name_stands, standing_width, binary_width, standing_number, binary_number, operands_there, construct_stands, bitfields_stand, slices_stand, adds_stand, call_stands, one_bit_stands, bit_range_stands, parts_stand, fields_there, view_stands, types_stand, length_stands, all_patterns, part_patterns)
+pub ruleset rows = (unary_stands, binary_stands, name_stands, standing_width, combined_width, divided_width, standing_number, combined_number, divided_number, operands_there, construct_stands, bitfields_stand, slices_stand, adds_stand, call_stands, one_bit_stands, bit_range_stands, parts_stand, fields_there, view_stands, types_stand, length_stands, all_patterns, part_patterns)
