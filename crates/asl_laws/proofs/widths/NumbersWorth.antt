@@ -76,6 +76,27 @@ whole_parted span y z k l h =
     let one : 1 * k ≡ k = omega arith in
     mul-one y ∙ e ∙ ap₂ (λ w n. w *ℤ pos n) (ok_ok (exact_quotient y k) z u.then) (sym one)
 
+-- ---- integers in the place of fractions
+
+pub negated_whole : (span : Span) (r : Fraction) (y z : ℤ) → IsWhole y r → held span (pos 0 -ℤ y) ≡ Ok z → IsWhole z (less (whole (pos 0)) r)
+negated_whole span r y z w h =
+    subst (λ x. IsWhole x (less (whole (pos 0)) r)) (held_is span (pos 0 -ℤ y) z h)
+    (same_trans (less (whole (pos 0)) r) (less (whole (pos 0)) (whole y)) (whole (pos 0 -ℤ y)) (omega arith)
+    (less_same (whole (pos 0)) r (whole (pos 0)) (whole y) refl w) (whole_less (pos 0) y))
+
+pub combined_whole : (span : Span) (o : Combination) (r s : Fraction) (x y z : ℤ) → IsWhole x r → IsWhole y s → number_combined span o x y ≡ Ok z →
+    IsWhole z (of_two fractions o r s)
+combined_whole span o r s x y z v w h =
+    subst (λ u. IsWhole u (of_two fractions o r s)) (combined_number span o x y z h)
+    (same_trans (of_two fractions o r s) (of_two fractions o (whole x) (whole y)) (whole (number_by o x y))
+    (some_of_two o (whole x) (whole y) (omega arith) (omega arith))
+    (same_of_two o r s (whole x) (whole y) v w) (whole_of_two o x y))
+
+pub divided_whole : (span : Span) (r : Fraction) (y z : ℤ) (k : ℕ) → 0 < k → IsWhole y r → number_divided span y k ≡ Ok z → IsWhole z (parted r k)
+divided_whole span r y z k l w h =
+    same_trans (parted r k) (parted (whole y) k) (whole z) (some_parted (whole y) k (omega arith) l)
+    (parted_same r (whole y) k w) (whole_parted span y z k l h)
+
 -- ---- names
 
 known_is : (span : Span) (o : Option Value) (x z : ℤ) → ((y : ℤ) → o ≡ Some (int y) → x ≡ y) → number_of_known span o ≡ Ok z → x ≡ z
@@ -150,9 +171,7 @@ module _ (t : Tests) where
         number = less (whole (pos 0)) w.number;
         proper = some_both (whole (pos 0)) w.number (omega arith) w.proper;
         is = worth_roll fractions (ex.Unary span unary.Negate e) (standing_for G.names a) ∙ worth_of_one fractions (fraction e (standing_for G.names a)) w.number w.is;
-        same = subst (λ x. IsWhole x (less (whole (pos 0)) w.number)) (held_is span (pos 0 -ℤ y) z h)
-            (same_trans (less (whole (pos 0)) w.number) (less (whole (pos 0)) (whole y)) (whole (pos 0 -ℤ y)) (omega arith)
-            (less_same (whole (pos 0)) w.number (whole (pos 0)) (whole y) refl w.same) (whole_less (pos 0) y));
+        same = negated_whole span w.number y z w.same h;
       };
     combined = λ span o e f G x y z v w h a g.
       let r = v a g in
@@ -162,10 +181,7 @@ module _ (t : Tests) where
         proper = some_of_two o r.number s.number r.proper s.proper;
         is = worth_of_operator fractions o span e f (standing_for G.names a)
             ∙ worth_of_two fractions o (fraction e (standing_for G.names a)) (fraction f (standing_for G.names a)) r.number s.number r.is s.is;
-        same = subst (λ u. IsWhole u (of_two fractions o r.number s.number)) (combined_number span o x y z h)
-            (same_trans (of_two fractions o r.number s.number) (of_two fractions o (whole x) (whole y)) (whole (number_by o x y))
-            (some_of_two o (whole x) (whole y) (omega arith) (omega arith))
-            (same_of_two o r.number s.number (whole x) (whole y) r.same s.same) (whole_of_two o x y));
+        same = combined_whole span o r.number s.number x y z r.same s.same h;
       };
     divided = λ span e f k G y z v i h a g.
       let r = v a g in
@@ -175,8 +191,7 @@ module _ (t : Tests) where
         proper = some_parted r.number k r.proper l;
         is = worth_roll fractions (ex.Binary span binary.DivideExact e f) (standing_for G.names a)
             ∙ worth_of_quotient fractions _ (fraction e (standing_for G.names a)) k r.number (written_divisor fractions f k i) r.is;
-        same = same_trans (parted r.number k) (parted (whole y) k) (whole z) (some_parted (whole y) k (omega arith) l)
-            (parted_same r.number (whole y) k r.same) (whole_parted span y z k l h);
+        same = divided_whole span r.number y z k l r.same h;
       };
   }
 

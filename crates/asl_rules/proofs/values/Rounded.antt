@@ -176,6 +176,12 @@ module _ (a : Assignment) where
   pub same_width_at : (p q : Polynomial) → IsPolynomial p → IsPolynomial q → SameAt a p q → width_at p a ≡ width_at q a
   same_width_at p q h k e = same_width_in (fraction_at a p) (fraction_at a q) h.lowest.positive k.lowest.positive e
 
+  -- terms without atoms over 1
+  pub constant_width : (p : Polynomial) (z : ℤ) → (value a p.terms ≡ z) × (p.denominator ≡ 1) → width_at p a ≡ z
+  constant_width p z w =
+      width_of_whole (fraction_at a p) z (subst (λ n. 0 < n) (sym w.1) (omega arith))
+      (mul-one (value a p.terms) ∙ w.0 ∙ sym (ap (λ n. z *ℤ pos n) w.1 ∙ mul-one z))
+
   -- the width that a number is
   pub constant_at : (z : ℤ) → width_at (constant_map z) a ≡ z
   constant_at z =

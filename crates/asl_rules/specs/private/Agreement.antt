@@ -1,10 +1,10 @@
 -- States that agree with scopes at an assignment of integers to the atoms, which is fixed for a frame: each name that stands for storage has a value there
 -- that belongs to its type, and where it counts in widths, its integer; each caller's frame holds the names of some scope at an assignment of its own; and
 -- what is being handled are exceptions.
-use Rattle.std.specs.Prelude.{◌≡◌, ℕ, ◌<◌, ℤ, pos, true, false, List, [], ◌∷◌, ◌++◌, Option, Some, None}
+use Rattle.std.specs.Prelude.{◌≡◌, ℕ, ◌<◌, pos, true, false, List, [], ◌∷◌, ◌++◌, Option, Some, None}
 use Rattle.asl_poly.specs.Poly.{HasWidth}
 use Rattle.asl_rules.specs.types.Types.{Ty, kind, exceptions}
-use Rattle.asl_rules.specs.types.Closed.{Assignment, type_with}
+use Rattle.asl_rules.specs.types.Closed.{Assignment, type_with, width_at}
 use Rattle.asl_rules.specs.values.Values.{Value, int}
 use Rattle.asl_rules.specs.declarations.Scopes.{Counted, Entry, Standing, Stored, Subprogram, TypeName, Label, Storage, standing_of, type_of_name, known_value, next_atom}
 use Rattle.asl_rules.specs.private.WellFormed.{WellFormed, Fixed}
@@ -25,10 +25,10 @@ abbrev pub IsKnown : Option Value → Value → Type 0
 IsKnown None x = Unit {0}
 IsKnown (Some y) x = x ≡ y
 
--- what counts in widths is the integer that its polynomial is
+-- what counts in widths is the integer of its polynomial, which is whole
 abbrev pub CountsAs : Assignment → Option Counted → Value → Type 0
 CountsAs a None x = Unit {0}
-CountsAs a (Some c) x = (z : ℤ) × (x ≡ int z) × HasWidth c.poly a z
+CountsAs a (Some c) x = (x ≡ int (width_at c.poly a)) × HasWidth c.poly a (width_at c.poly a)
 
 -- a binding holds the storage of this name, whose type is well formed
 pub record Holds (declared : List ℕ → Option Ty) (a : Assignment) (name : List ℕ) (s : Storage) (b : Binding) : Type 0 where
