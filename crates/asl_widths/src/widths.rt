@@ -33,7 +33,9 @@ use asl_tree::tree::{Note, Tree};
 use asl_types::answer::fault;
 use asl_types::integers::any_integer;
 use asl_types::kinds::is_integer;
-use asl_types::widths::{width_difference, width_divided, width_of_number, width_product, width_sum};
+use asl_types::widths::{
+    width_difference, width_divided, width_of_number, width_product, width_sum,
+};
 use asl_types::{Counted, Standing, Storage};
 use asl_value::Value;
 use sqlite_items::Boxed;
@@ -249,13 +251,7 @@ fn divisor(e: &Expr) -> Option<u128>
     ensures some { IfSome result (λ k. 0 < k) }
 {
     match e {
-        Expr::Int(_, n) => {
-            if *n == 0 {
-                None
-            } else {
-                Some(*n)
-            }
-        }
+        Expr::Int(_, n) => { if *n == 0 { None } else { Some(*n) } }
         // no other form is a number that is written
         _ => None,
     }
@@ -272,7 +268,13 @@ fn divided_tree(
     ensures { IfOk result (λ it. tree_of it ≡ rules.divided_tree span (tree_of a) at k) }
 {
     let b = nodes::int(alloc, noted(alloc, at)?, k)?;
-    nodes::binary(alloc, noted(alloc, span)?, BinaryOperator::DivideExact, a, b)
+    nodes::binary(
+        alloc,
+        noted(alloc, span)?,
+        BinaryOperator::DivideExact,
+        a,
+        b,
+    )
 }
 
 /// A width divided by an expression: T19 where that isn't written as a number above 0, or where the width has no atom and isn't a

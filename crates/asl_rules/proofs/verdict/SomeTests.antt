@@ -67,8 +67,8 @@ is_lowest : (p : Polynomial) → 0 < p.denominator → Dec (IsLowest p)
 is_lowest p some = as_well (λ e. lowest_of_one p some e) (λ h. one_of_lowest p h) (nats (greatest_common_divisor p.denominator (sizes p.terms)) 1)
 
 lowest_by : (p : Polynomial) → Dec (1 ≤ p.denominator) → Dec (IsLowest p)
-lowest_by p (inl some) = is_lowest p some
-lowest_by p (inr none) = inr (λ h. none h.positive)
+lowest_by p (inl some) = is_lowest p (omega (arith, some))
+lowest_by p (inr none) = inr (λ h. let k : 0 < p.denominator = h.positive in none (omega (arith, k)))
 
 is_polynomial : (p : Polynomial) → Dec (IsPolynomial p)
 is_polynomial p =
