@@ -17,7 +17,8 @@ use Rattle.asl_rules.specs.declarations.Scopes.{Scope, type_of_name}
 use Rattle.asl_rules.specs.types.Widths.{bounded, length_of}
 use Rattle.asl_rules.specs.private.Worth.{AllOf, AtomsOf}
 use Rattle.asl_rules.specs.types.Shapes as shapes
-use Rattle.asl_rules.specs.types.Alone.{Polynomials, polynomial, is_one, is_only, is_atom, is_alone}
+use Rattle.asl_poly.specs.Poly.{is_one, is_only, is_factor, is_atom}
+use Rattle.asl_rules.specs.types.Alone.{Polynomials, polynomial, is_alone}
 use Rattle.asl_rules.specs.expressions.Typing.{Found, Width}
 use Rattle.asl_rules.specs.expressions.Slicing.{FoundSlice}
 use Rattle.asl_rules.specs.expressions.Patterns.{FoundPattern}
@@ -39,15 +40,18 @@ not_only : (n : ℕ) (xs : List ℕ) → AllOf Never xs → is_only n xs ≡ fal
 not_only n [] h = refl
 not_only n (x ∷ xs) h = absurd h.0
 
-never_atom : (n : ℕ) (ts : List Summand) → AtomsOf Never ts → is_atom n ts ≡ false
-never_atom n [] h = refl
-never_atom n (t ∷ []) h = ap (λ b. is_one t.coefficient && b) (not_only n t.factors h.0) ∙ never_and (is_one t.coefficient)
-never_atom n (t ∷ u ∷ ts) h = refl
+never_factor : (n : ℕ) (ts : List Summand) → AtomsOf Never ts → is_factor n ts ≡ false
+never_factor n [] h = refl
+never_factor n (t ∷ []) h = ap (λ b. is_one t.coefficient && b) (not_only n t.factors h.0) ∙ never_and (is_one t.coefficient)
+never_factor n (t ∷ u ∷ ts) h = refl
+
+never_atom : (n : ℕ) (p : Polynomial) → AtomsOf Never p.terms → is_atom n p ≡ false
+never_atom n p h = ap (λ b. (p.denominator == 1) && b) (never_factor n p.terms h) ∙ never_and (p.denominator == 1)
 
 never_alone : (n : ℕ) (T : Ty) → Over Never T → rules.is_width_alone n T ≡ false
 never_alone n (integer_of ps) h = refl
 never_alone n boolean h = refl
-never_alone n (bits_of w view) h = never_atom n w.terms h
+never_alone n (bits_of w view) h = never_atom n w h
 never_alone n (enumeration_of name labels) h = refl
 never_alone n (record_of name fs) h = refl
 never_alone n (exception_of name fs) h = refl

@@ -37,7 +37,7 @@ use Rattle.asl_rules.specs.runs.Plans.{Faulted, Stuck, Pure, Good, Bad}
 use Rattle.asl_rules.specs.values.Operators.{in_range, integer_of as integer_value, quotient, divided, raised, plain_bits, of_integers, of_booleans, of_labels, of_one_enumeration, of_one_width, of_bits, of_bits_and_integer, binary_value, unary_value}
 use Rattle.asl_rules.proofs.basics.Inversions.{ok_ok, bind_ok, then_ok, need_ok}
 use Rattle.std.proofs.lemmas.Int.{ints}
-use Rattle.asl_rules.proofs.basics.Tests.{no, both, and_true, either, name_is}
+use Rattle.asl_rules.proofs.basics.Tests.{no, both, either, name_is}
 use Rattle.asl_rules.proofs.values.SameKind.{equal_kinds, same_number, number_is}
 use Rattle.asl_rules.proofs.values.KindOf.{has_kind}
 use Rattle.asl_rules.proofs.values.Viewing.{same_width, width_is}
