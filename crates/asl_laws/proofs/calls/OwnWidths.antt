@@ -1,5 +1,5 @@
 -- A formal is written as the width of a parameter alone, for a run, just where its type is that for the rules.
-use Rattle.std.proofs.Common.{◌≡◌, ℕ, pos, Bool, true, false, ◌&&◌, List, [], ◌∷◌, Some, Ok, refl, sym, ap, ◌∙◌, subst, map}
+use Rattle.std.proofs.Common.{◌≡◌, ℕ, pos, Bool, true, false, ◌==◌, ◌&&◌, List, [], ◌∷◌, Some, Ok, refl, sym, ap, ◌∙◌, subst, map}
 use Rattle.std.specs.Prelude.{nat_le, length}
 use Rattle.asl_syn.specs.declared.code.StaticCode.TheVariants.{T02, T19, T20}
 use Rattle.asl_syn.specs.declared.tree.Expr.{Expr}
@@ -7,7 +7,7 @@ use Rattle.asl_syn.specs.declared.tree.TypeExpr.{TypeExpr, out-TypeExpr}
 use Rattle.asl_syn.specs.declared.tree.Bitfield.TheOpen as ex
 use Rattle.asl_syn.specs.declared.tree.Bitfield.TheFolds.{fold_out-TypeExpr}
 use Rattle.asl_syn.specs.Layers.{TypeLayer}
-use Rattle.asl_poly.specs.Terms.{Summand}
+use Rattle.asl_poly.specs.Terms.{Summand, Polynomial}
 use Rattle.asl_poly.specs.Poly.{constant_value}
 use Rattle.asl_rules.specs.Faults.{need, found_or}
 use Rattle.asl_rules.specs.Tests.{Tests}

@@ -137,9 +137,6 @@ terms_over p h = over_by p (constant_of p.terms) (one_value p.terms (constant_of
 one_distance : (x c d : ℤ) → x +ℤ c ≡ x +ℤ d → c ≡ d
 one_distance x c d e = omega (arith, ints)
 
-nowhere : ℕ → ℤ
-nowhere n = pos 0
-
 at_distance : (p q : Polynomial) (c : ℤ) → IsOffset p q c → Dec (IsAbove (Width p) (Width q))
 at_distance p q c d =
     as_well (λ l. record { by = c; least = l; apart = d })
