@@ -30,7 +30,7 @@ use Rattle.asl_rules.specs.expressions.Slicing.{FoundSlice, all_operands, all_in
 use Rattle.asl_rules.specs.types.Writing.{WrittenPart, FoundPart, WrittenEnd, WrittenField, FoundBitfield, Written, FoundType, written_as, range_of_widths, range_of_numbers, range_rule, one_width, one_number, only_rule, all_parts, parts_written, part_shapes, part_trees, field_shapes, field_trees, type_shapes, all_sizes, integer_written, integer_rule, most_parts, end_rule, one_bit_rule, bit_range_rule, all_fields, all_numbered, view_rule, within_limits, bits_written, bits_rule, name_written, named_written, types_in_order, types_written, tuple_written, array_written, array_rule, converted_to, as_rule, all_placed, names_once}
 use Rattle.asl_rules.specs.expressions.Patterns.{FoundPattern, Matched, matched, all_match, as_many, parts_match, set_matched, mask_matched, end_matched, value_matched, range_matched, pure_typed, tuple_pattern_rule, matching, in_rule}
 use Rattle.asl_rules.specs.expressions.Calls.{Giving, Replacing, given, replacing, written_first, argument_first, widths_given, polys, is_width_alone, given_by_argument, widths_omitted, widths_rule, replaced_by, fits_replaced, params_fit, arguments_fit, both_fit, call_begun, chosen, routine_taken, routine_called, function_called, function_of, function_rule, routine_params, routine_type, routine_formals, call_tree}
-use Rattle.asl_rules.specs.expressions.Exprs.{FoundField, name_of_standing, name_rule, apart, conditional_of, conditional_rule, operation_rule, operation_rule_of_two, tuple_with, tuple_rule, values_given, names_given, construct_rule, field_rule, bitfields_rule, element_rule, name_read, width_of, number_of, combined_tree, divided_tree}
+use Rattle.asl_rules.specs.expressions.Exprs.{FoundField, name_of_standing, name_rule, apart, conditional_of, conditional_rule, operation_rule, operation_rule_of_two, tuple_with, tuple_rule, values_given, names_given, construct_rule, field_rule, bitfields_rule, element_rule, name_read, width_of as width_read, number_of, combined_tree, divided_tree}
 use Rattle.asl_rules.specs.declared.joining.Combination.{Combination}
 use Rattle.asl_rules.specs.types.Arithmetic.{combined, divided}
 use Rattle.asl_rules.proofs.verdict.Alike.{Alike, alike_ok, alike_err, alike_self, steps, step, after, alike_cond, Equal, Both, Same, in_class_alike, finish_alike, by_tree, SameOperands, operand_same, effects_same, types_same, finish_all_alike}
@@ -331,7 +331,7 @@ module _ (t : Tests) (A B : List Entry) (subs : List Signature) where
       (λ z u. step SameNumbers (held span (pos 0 -ℤ z.number)) _ _ (λ n. alike_ok SameNumbers (number_as n (tree.Unary (width_note span) unary.Negate z.tree)) (number_as n (tree.Unary (width_note span) unary.Negate u)) refl)))
 
   pub combined_width : (span : Span) (o : Combination) (a b : Found) (k : Effect) → WidthSame a → WidthSame b →
-      Alike SameWidths (width_of span (combined o a b) (first k)) (width_of span (combined o a b) (second k))
+      Alike SameWidths (width_read span (combined o a b) (first k)) (width_read span (combined o a b) (second k))
   combined_width span o a b k h i =
       let made : Width → Width → Result Width Fault = λ p q. width_combined span o p.poly q.poly >>= λ r. Ok (width_as r (combined_tree span o p.tree q.tree)) in
       steps SameWidths SameWidths (a.width (first k)) (a.width (second k)) _ _ (h.width_is k) (with_poly SameWidths (λ p. b.width (first k) >>= λ q. made p q) (λ p. b.width (second k) >>= λ q. made p q) (λ p u.
@@ -348,7 +348,7 @@ module _ (t : Tests) (A B : List Entry) (subs : List Signature) where
 
   -- a divisor is the same in every scope
   pub divided_width : (span : Span) (a b : Found) (k : Effect) → WidthSame a →
-      Alike SameWidths (width_of span (divided a b) (first k)) (width_of span (divided a b) (second k))
+      Alike SameWidths (width_read span (divided a b) (first k)) (width_read span (divided a b) (second k))
   divided_width span a b k h =
       let made : Width → Result Width Fault = λ p. found_or b.divisor T19 span >>= λ n. width_divided span p.poly n >>= λ r. Ok (width_as r (divided_tree span p.tree b.span n)) in
       steps SameWidths SameWidths (a.width (first k)) (a.width (second k)) _ _ (h.width_is k) (with_poly SameWidths made made (λ p u.
