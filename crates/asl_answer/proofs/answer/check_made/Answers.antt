@@ -28,7 +28,7 @@ returns-in_ok-words-in-Ok-clause-answer g c = λ t u.
     c.as_bytes.ensures.value ∙ c.in_ok-words-in-Ok.ensures
     ∙ ap (λ n. made_words c.args.number c.args.size n c.len-declarations.result) bytes_are
     ∙ ap (λ n. made_words c.args.number c.args.size (length bytes) n) declarations_are in
-    answered t Main files decls c.in-Ok.checked (λ ds. begun (made_answer words files) (environment t ds) default_steps) c.run_made.result _ _ (c.in-Ok.ensures t u)
+    answered t Main files decls c.in-Ok.checked (λ ds found. begun (made_answer words files) (environment t ds) default_steps found.main) c.run_made.result _ _ (c.in-Ok.ensures t u)
     (subst (λ text. Answers c.run_made.result (g.K.Sink.written c.args.out.now) (g.K.Sink.written c.run_made.new.out) (begun (made_answer text files) (environment t c.in-Ok.checked.decls) default_steps c.in-Ok.checked.entries.main)) words_are
     (subst (λ sources. Answers c.run_made.result (g.K.Sink.written c.args.out.now) (g.K.Sink.written c.run_made.new.out) (begun (made_answer c.as_bytes.result.now (map file_of sources)) (environment t c.in-Ok.checked.decls) default_steps c.in-Ok.checked.entries.main)) c.from_ref-sources.ensures.value
     (c.run_made.ensures.answer t u)))
