@@ -18,9 +18,15 @@ use std::marker::Model;
 /// (`modulo` looks at the right operand only), where a pair of parts gives no part, where there would be more than 64
 /// parts, where a constant end does not fit 128 bits, and where an end is beyond the limits of polynomials. A part is
 /// constant where its ends have no atom.
-#[derive(Drop)]
 pub struct Cons {
     parts: Vec<Part>,
+}
+
+// By hand, so that a drop of one is a call, as `Held` of asl_shared says.
+impl Drop for Cons {
+    fn drop(self) {
+        let Cons { parts: _parts } = self;
+    }
 }
 
 impl Model for Cons {

@@ -18,9 +18,15 @@ use substitute::{replaced, substitute_fits};
 /// greatest monomial first and the constant term last, none with the coefficient 0.
 ///
 /// Monomials are compared by their greatest atom, then by the next one; a prefix of a monomial is smaller than it.
-#[derive(Drop)]
 pub struct Poly {
     terms: Vec<Term>,
+}
+
+// By hand, so that a drop of one is a call, as `Held` of asl_shared says.
+impl Drop for Poly {
+    fn drop(self) {
+        let Poly { terms: _terms } = self;
+    }
 }
 
 impl Model for Poly {

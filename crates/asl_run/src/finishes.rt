@@ -78,10 +78,8 @@ fn throw(span: Span, x: Value) -> Result<Exit, Stop>
     ensures acts { (run : Run) → Acts result (forms.thrown span (value_of x)) run run }
     ensures none_refused { NoneRefused result }
 {
-    match x {
-        Value::Exception(own, supers, name, fields) => Err(Stop::Thrown(Value::Exception(
-            own, supers, name, fields,
-        ))),
+    match &x {
+        Value::Exception(_, _, _, _) => Err(Stop::Thrown(x)),
         _ => Err(Stop::Stuck(Mistake::WrongKind, span)),
     }
 }

@@ -26,7 +26,6 @@ use std::alloc::{AllocError, Global};
 
 /// A written type with numbers in place of its expressions.
 #[cycle(filled)]
-#[derive(Drop)]
 pub enum Filled {
     /// Integers, in a constraint where it has parts, whose ends are numbers.
     Integer(Items<Part>),
@@ -38,6 +37,20 @@ pub enum Filled {
     Tuple(Items<Filled>),
     /// The length, and the type of the elements.
     Array(u128, Boxed<Filled>),
+}
+
+// By hand, so that a drop of one is a call, as `Held` of asl_shared says.
+impl Drop for Filled {
+    fn drop(self) {
+        match self {
+            Filled::Integer(_parts) => {}
+            Filled::Boolean => {}
+            Filled::Bits(_span, _width, _view) => {}
+            Filled::Known(_ty) => {}
+            Filled::Tuple(parts) => drop(parts),
+            Filled::Array(_length, element) => drop(element),
+        }
+    }
 }
 
 // ---- kinds

@@ -98,14 +98,14 @@ fn first_label(alloc: Global, labels: &[Name]) -> Result<Name, AllocError>
 fn named_as(name: &Name, supers: &Supers, x: Value) -> Result<Value, AllocError>
     ensures { IfOk result (λ it. value_of it ≡ values.named_as name.now supers.now (value_of x)) }
 {
-    match x {
+    match &x {
         Value::Exception(_, _, written, fields) => Ok(Value::Exception(
             name.share()?,
             supers.share()?,
-            written,
-            fields,
+            written.share()?,
+            fields.share()?,
         )),
-        other => Ok(other),
+        _ => Ok(x),
     }
 }
 

@@ -7,7 +7,6 @@ use sqlite_items::{Boxed, Items};
 
 /// A pattern.
 #[cycle(patterns)]
-#[derive(Drop)]
 pub enum PatternShape {
     /// `-`
     Anything,
@@ -27,6 +26,22 @@ pub enum PatternShape {
     Between(Span),
 }
 
+// By hand, so that a drop of one is a call, as `Held` of asl_shared says.
+impl Drop for PatternShape {
+    fn drop(self) {
+        match self {
+            PatternShape::Anything => {}
+            PatternShape::OneOf(_negated, parts) => drop(parts),
+            PatternShape::Masked(_span, _digits) => {}
+            PatternShape::AtMost(_span) => {}
+            PatternShape::AtLeast(_span) => {}
+            PatternShape::InParts(_span, parts) => drop(parts),
+            PatternShape::EqualTo(_span) => {}
+            PatternShape::Between(_span) => {}
+        }
+    }
+}
+
 /// A part of a constraint.
 #[derive(Clone, Copy, PartialEq, Eq)]
 pub enum PartShape {
@@ -37,7 +52,6 @@ pub enum PartShape {
 }
 
 /// A bitfield with its name.
-#[derive(Drop)]
 pub enum BitfieldShape {
     /// `[e] name`
     OnePlace(Name),
@@ -45,9 +59,18 @@ pub enum BitfieldShape {
     ManyPlaces(Name),
 }
 
+// By hand, so that a drop of one is a call, as `Held` of asl_shared says.
+impl Drop for BitfieldShape {
+    fn drop(self) {
+        match self {
+            BitfieldShape::OnePlace(_name) => {}
+            BitfieldShape::ManyPlaces(_name) => {}
+        }
+    }
+}
+
 /// A written type.
 #[cycle(type_shapes)]
-#[derive(Drop)]
 pub enum TypeShape {
     /// Integers, in a constraint where it has parts.
     IntegerOf(Items<PartShape>),
@@ -62,8 +85,22 @@ pub enum TypeShape {
     ArrayOf(Boxed<TypeShape>),
 }
 
+// By hand, so that a drop of one is a call, as `Held` of asl_shared says.
+impl Drop for TypeShape {
+    fn drop(self) {
+        match self {
+            TypeShape::IntegerOf(_parts) => {}
+            TypeShape::Boolean => {}
+            TypeShape::OneBit(_span) => {}
+            TypeShape::BitsOf(_span, _fields) => {}
+            TypeShape::Known(_ty) => {}
+            TypeShape::TupleOf(parts) => drop(parts),
+            TypeShape::ArrayOf(element) => drop(element),
+        }
+    }
+}
+
 /// A field of a construction, in the order of the type.
-#[derive(Drop)]
 pub struct FieldGiven {
     /// Its name.
     pub name: Name,
@@ -71,4 +108,15 @@ pub struct FieldGiven {
     pub ty: Ty,
     /// The place of its value among those that are given, from 0.
     pub place: usize,
+}
+
+// By hand, so that a drop of one is a call, as `Held` of asl_shared says.
+impl Drop for FieldGiven {
+    fn drop(self) {
+        let FieldGiven {
+            name: _name,
+            ty: _ty,
+            place: _place,
+        } = self;
+    }
 }

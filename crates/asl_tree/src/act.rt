@@ -197,7 +197,6 @@ impl Drop for Choice {
 
 /// A statement. Each with lists has its span first.
 #[cycle(acts)]
-#[derive(Drop)]
 pub enum Act {
     /// One without lists.
     Simple(Simple),
@@ -215,33 +214,102 @@ pub enum Act {
     Try(Span, Items<Act>, Items<Catcher>, Last),
 }
 
+// By hand, so that a drop of one is a call, as `Held` of asl_shared says.
+impl Drop for Act {
+    #[cycle(dropping)]
+    fn drop(self) {
+        match self {
+            Act::Simple(_simple) => {}
+            Act::If(_span, condition, then, elsifs, other) => {
+                drop(condition);
+                drop(then);
+                drop(elsifs);
+                drop(other);
+            }
+            Act::Case(_span, subject, alternatives, last) => {
+                drop(subject);
+                drop(alternatives);
+                drop(last);
+            }
+            Act::For(_span, _bounds, body) => drop(body),
+            Act::While(_span, _guard, body) => drop(body),
+            Act::Repeat(_span, body, _guard) => drop(body),
+            Act::Try(_span, body, catchers, last) => {
+                drop(body);
+                drop(catchers);
+                drop(last);
+            }
+        }
+    }
+}
+
 /// `elsif e then ..`
 #[cycle(acts)]
-#[derive(Drop)]
 pub enum Branch {
     Elsif(Tree, Items<Act>),
 }
 
+// By hand, so that a drop of one is a call, as `Held` of asl_shared says.
+impl Drop for Branch {
+    #[cycle(dropping)]
+    fn drop(self) {
+        match self {
+            Branch::Elsif(condition, body) => {
+                drop(condition);
+                drop(body);
+            }
+        }
+    }
+}
+
 /// `when p, q where e => ..`
 #[cycle(acts)]
-#[derive(Drop)]
 pub enum Alternative {
     When(Choice, Items<Act>),
 }
 
+// By hand, so that a drop of one is a call, as `Held` of asl_shared says.
+impl Drop for Alternative {
+    #[cycle(dropping)]
+    fn drop(self) {
+        match self {
+            Alternative::When(_choice, body) => drop(body),
+        }
+    }
+}
+
 /// `when x: T => ..`: whether the exception has a name there, and the name of the type.
 #[cycle(acts)]
-#[derive(Drop)]
 pub enum Catcher {
     Catch(bool, Name, Items<Act>),
 }
 
+// By hand, so that a drop of one is a call, as `Held` of asl_shared says.
+impl Drop for Catcher {
+    #[cycle(dropping)]
+    fn drop(self) {
+        match self {
+            Catcher::Catch(_is_named, _name, body) => drop(body),
+        }
+    }
+}
+
 /// `otherwise => ..`
 #[cycle(acts)]
-#[derive(Drop)]
 pub enum Last {
     None,
     Otherwise(Items<Act>),
+}
+
+// By hand, so that a drop of one is a call, as `Held` of asl_shared says.
+impl Drop for Last {
+    #[cycle(dropping)]
+    fn drop(self) {
+        match self {
+            Last::None => {}
+            Last::Otherwise(body) => drop(body),
+        }
+    }
 }
 
 /// A subprogram.

@@ -43,7 +43,6 @@ pub enum Callee {
 
 /// An expression. Each has its note first.
 #[cycle(trees)]
-#[derive(Drop)]
 pub enum Tree {
     /// An integer literal with its value.
     Int(Note, u128),
@@ -79,6 +78,52 @@ pub enum Tree {
     As(Note, Boxed<Tree>, TypeShape, Items<Tree>),
     /// `e IN p`: the expressions of the pattern in order.
     In(Note, Boxed<Tree>, PatternShape, Items<Tree>),
+}
+
+// By hand, so that a drop of one is a call, as `Held` of asl_shared says.
+impl Drop for Tree {
+    fn drop(self) {
+        match self {
+            Tree::Int(_note, _number) => {}
+            Tree::Constant(_note, _value) => {}
+            Tree::Read(_note, _slot) => {}
+            Tree::Unary(_note, _operator, operand) => drop(operand),
+            Tree::Binary(_note, _operator, left, right) => {
+                drop(left);
+                drop(right);
+            }
+            Tree::Conditional(_note, condition, then, other) => {
+                drop(condition);
+                drop(then);
+                drop(other);
+            }
+            Tree::Tuple(_note, parts) => drop(parts),
+            Tree::Construct(_note, _shell, _fields, values) => drop(values),
+            Tree::Call(_note, _callee, _widths, params, arguments) => {
+                drop(params);
+                drop(arguments);
+            }
+            Tree::Field(_note, record, _place) => drop(record),
+            Tree::Bitfield(_note, bits, _field) => drop(bits),
+            Tree::Bitfields(_note, bits, _fields) => drop(bits),
+            Tree::Slices(_note, sliced, _shapes, ends) => {
+                drop(sliced);
+                drop(ends);
+            }
+            Tree::Element(_note, array, index) => {
+                drop(array);
+                drop(index);
+            }
+            Tree::As(_note, value, _shape, sizes) => {
+                drop(value);
+                drop(sizes);
+            }
+            Tree::In(_note, value, _shape, ends) => {
+                drop(value);
+                drop(ends);
+            }
+        }
+    }
 }
 
 impl Tree {

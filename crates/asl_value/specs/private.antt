@@ -10,3 +10,4 @@ pub mod Answers
 pub mod Reaching
 pub mod Supers
 pub mod SupersFall
+pub mod Taken

@@ -23,7 +23,6 @@ use std::alloc::{AllocError, Global};
 use std::marker::Model;
 
 /// The digits of a literal: a bit where the place is fixed, `None` where it is free.
-#[derive(Drop)]
 pub enum MaskDigits {
     /// At most 128.
     Narrow(MaskOf<1>),
@@ -31,6 +30,17 @@ pub enum MaskDigits {
     Wide(Shared<Mask>),
     /// More. No text that is read has them.
     TooWide(WideDigits),
+}
+
+// By hand, so that a drop of one is a call, as `Held` of asl_shared says.
+impl Drop for MaskDigits {
+    fn drop(self) {
+        match self {
+            MaskDigits::Narrow(_mask) => {}
+            MaskDigits::Wide(_mask) => {}
+            MaskDigits::TooWide(_digits) => {}
+        }
+    }
 }
 
 /// More digits than the widest bits have places.

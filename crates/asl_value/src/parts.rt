@@ -18,13 +18,22 @@ use sqlite_items::Items;
 use std::alloc::{AllocError, Global};
 
 /// What a construction makes.
-#[derive(Drop)]
 pub enum Shell {
     /// A record: the name of the declaration that writes its type.
     Record(Name),
     /// An exception: the name that it is built with, the names that this reaches, and the name of the declaration that writes
     /// its type.
     Exception(Name, Supers, Name),
+}
+
+// By hand, so that a drop of one is a call, as `Held` of asl_shared says.
+impl Drop for Shell {
+    fn drop(self) {
+        match self {
+            Shell::Record(_written) => {}
+            Shell::Exception(_name, _supers, _written) => {}
+        }
+    }
 }
 
 /// The element of an array at an index, over the same parts: D06 where there is none.

@@ -333,12 +333,14 @@ fn put_field(
     ensures { Is value_of result
         (places.updated WIDTH_LIMIT holds_bits (places.into_field span place ∷ all_steps rest.now) (value_of new) (value_of value)) }
 {
-    match value {
-        Value::Record(name, fields) => {
+    match &value {
+        Value::Record(_, _) => {
+            let (name, fields) = value.into_record();
             let changed = put_in_fields(alloc, fields, span, place, rest, holds_bits, new)?;
             Ok(Value::Record(name, changed))
         }
-        Value::Exception(own, supers, name, fields) => {
+        Value::Exception(_, _, _, _) => {
+            let (own, supers, name, fields) = value.into_exception();
             let changed = put_in_fields(alloc, fields, span, place, rest, holds_bits, new)?;
             Ok(Value::Exception(own, supers, name, changed))
         }
@@ -383,8 +385,9 @@ fn put_element(
     ensures { Is value_of result
         (places.updated WIDTH_LIMIT holds_bits (places.into_element span (value_of index.now) ∷ all_steps rest.now) (value_of new) (value_of value)) }
 {
-    match (value, index) {
-        (Value::Array(kind, elements), Value::Int(i)) => {
+    match (&value, index) {
+        (Value::Array(_, _), Value::Int(i)) => {
+            let (kind, elements) = value.into_array();
             let changed = put_in_elements(alloc, elements, span, *i, rest, holds_bits, new)?;
             Ok(Value::Array(kind, changed))
         }

@@ -11,11 +11,21 @@ use std::marker::Model;
 pub type View = Shared<Items<BitField>>;
 
 /// A bitfield: its name, and its highest and its lowest place.
-#[derive(Drop)]
 pub struct BitField {
     name: Name,
     high: u128,
     low: u128,
+}
+
+// By hand, so that a drop of one is a call, as `Held` of asl_shared says.
+impl Drop for BitField {
+    fn drop(self) {
+        let BitField {
+            name: _name,
+            high: _high,
+            low: _low,
+        } = self;
+    }
 }
 
 impl Model for BitField {

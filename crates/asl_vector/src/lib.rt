@@ -17,9 +17,15 @@ use std::alloc::{AllocError, Global};
 use std::marker::Model;
 
 /// A bitvector.
-#[derive(Drop)]
 pub struct Vector {
     form: Form,
+}
+
+// By hand, so that a drop of one is a call, as `Held` of asl_shared says.
+impl Drop for Vector {
+    fn drop(self) {
+        let Vector { form: _form } = self;
+    }
 }
 
 /// How a bitvector is kept.
