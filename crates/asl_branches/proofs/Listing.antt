@@ -1,5 +1,5 @@
 -- Statements and expressions in order, one by one.
-use Rattle.std.proofs.Common.{◌≡◌, ℕ, ◌+◌, ◌<◌, inr, List, [], ◌∷◌, ◌++◌, Ok, length, get_or, drop, map, sym, ap, ◌∙◌, subst}
+use Rattle.std.proofs.Common.{◌≡◌, ℕ, ◌+◌, ◌<◌, inr, List, [], ◌∷◌, ◌++◌, Option, None, Result, Ok, length, get_or, drop, map, sym, ap, ◌∙◌, subst}
 use Rattle.std.proofs.lemmas.List.{map-append}
 use Rattle.asl_rules.specs.runs.Cuts.{rest, cuts}
 use Rattle.asl_rules.specs.runs.Forms.{eval_all}
@@ -15,9 +15,11 @@ use Rattle.asl_value.specs.declared.value.Value.{Value as Stored}
 use Rattle.asl_value.specs.View.{value_of}
 use Rattle.asl_branches.specs.declared.setting.Setting.{Setting}
 use Rattle.asl_branches.specs.declared.stop.Exit.TheVariants as exit
-use Rattle.asl_branches.specs.Meets.{At, Evaluates, Executes, Left, Underway}
+use Rattle.asl_branches.specs.Meets.{At, Counts, Evaluates, Executes, InTurn, Left, RanBy, Underway}
 use Rattle.asl_branches.specs.View.{core_of, meter_of, meaning_of, cutting_of}
-use Rattle.asl_branches.proofs.Answered.{rounds, turned_eval}
+use Rattle.asl_branches.proofs.Answered.{keeps_behind, rounds, turned_eval}
+use Rattle.asl_branches.proofs.Turns.{meets_left}
+use Rattle.asl_branches.specs.declared.stop.Stop.{Stop as Stopped}
 use Rattle.asl_branches.proofs.Fronts.{at_front}
 
 -- ---- statements
@@ -27,8 +29,8 @@ all_acted ts c = in_order (acts_of (all_acts ts)) c
 
 -- a statement ended normally, and those behind it are left
 pub act_next : (h : Setting) (ts : List Act) (k : ℕ) (t : Act) (q : BareCore → Runs Exit) (a0 a1 a2 : At) → k < length ts →
-    t ≡ get_or ts k t → Executes (Ok exit.Normal) h t a1 a2 → Underway h (all_acted (drop k ts)) a1 q a0 →
-    Underway h (all_acted (drop (k + 1) ts)) a2 q a0
+    t ≡ get_or ts k t → Executes (Ok exit.Normal) h t a1 a2 → InTurn h (all_acted (drop k ts)) a1 q a0 →
+    InTurn h (all_acted (drop (k + 1) ts)) a2 q a0
 act_next h ts k t q a0 a1 a2 within here n u =
     let fs = h.funcs.now in
     let d = h.depth in
@@ -48,6 +50,18 @@ act_next h ts k t q a0 a1 a2 within here n u =
       full = n.same_full ∙ u.full;
       round = rounds a0.run a1.run a2.run u.round n.keeps;
     }
+
+-- a list stops where a statement does, or returns
+pub list_ended : {A : Type 0} (w : A → Exit) (h : Setting) (p q : BareCore → Runs Exit) (a0 a1 a2 : At) (r : Result A Stopped) (n : Option ℕ) →
+    InTurn h p a1 q a0 → RanBy n w r h p a1 a2 → RanBy None w r h q a0 a2
+list_ended w h p q a0 a1 a2 r n u m = record {
+  meets = meets_left w h.funcs.now h.depth (p (core_of a1.run)) (q (core_of a0.run)) (meter_of a0.run a0.told)
+      (meter_of a1.run a1.told) u.left r (core_of a2.run) (meter_of a2.run a2.told) m.meets;
+  counts = subst (λ k. Counts r k a2.faults) u.count m.counts;
+  same_full = m.same_full ∙ u.full;
+  keeps = keeps_behind r a0.run a1.run a2.run u.round m.keeps;
+  grows = tt;
+}
 
 -- ---- expressions
 

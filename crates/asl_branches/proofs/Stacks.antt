@@ -1,5 +1,5 @@
 -- Stacks whose newest is last in the code and first in the rules, and what is cut off them.
-use Rattle.std.proofs.Common.{◌≡◌, ℕ, List, [], ◌∷◌, ◌++◌, length, take, map, refl, sym, ap, ◌∙◌}
+use Rattle.std.proofs.Common.{◌≡◌, ◌≤◌, ℕ, List, [], ◌∷◌, ◌++◌, length, take, map, refl, sym, ap, ◌∙◌, arith, length-take}
 use Rattle.std.specs.Prelude.{reverse}
 use Rattle.std.proofs.lemmas.List.{length-map, map-append, reverse-append, take-map}
 use Rattle.asl_value.specs.declared.value.Value.{Value as Stored}
@@ -29,3 +29,6 @@ handled_back xs ys x e = ap (λ l. take (length xs) l) e ∙ cut_again xs x
 
 pub cut_values : (xs ys : List Stored) → map value_of (take (length xs) ys) ≡ take (length (map value_of xs)) (map value_of ys)
 cut_values xs ys = sym (ap (λ n. take n (map value_of ys)) (length-map xs value_of) ∙ take-map value_of (length xs) ys)
+
+pub cut_height : {A : Type 0} (n : ℕ) (xs : List A) → length (take n xs) ≤ n
+cut_height n xs = omega (arith, length-take n xs)

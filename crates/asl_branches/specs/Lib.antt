@@ -1,3 +1,4 @@
+pub mod Framed
 pub mod View
 pub mod Meets
 pub mod private

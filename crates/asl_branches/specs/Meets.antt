@@ -1,5 +1,5 @@
 -- How the interpreter's answers are related to the rules.
-use Rattle.std.specs.Prelude.{◌≡◌, ◌≤◌, ℕ, Bool, List, ◌++◌, map, Option, Result, Ok, Err}
+use Rattle.std.specs.Prelude.{◌≡◌, ◌≤◌, ◌+◌, ℕ, Bool, List, ◌++◌, map, Option, None, Some, Result, Ok, Err}
 use Rattle.asl_io.specs.Faults.{Rises}
 use Rattle.asl_io.specs.declared.sink.Sink.{Ghosts}
 use Rattle.asl_rules.specs.runs.Plans.{Meter, Faulted, Stuck, Outcome, Done, Thrown, Halt, run, Pure, Good, Bad}
@@ -8,6 +8,7 @@ use Rattle.asl_rules.specs.runs.Told.{appended, open_after, Part}
 use Rattle.asl_rules.specs.private.TypedMeaning.{BareCore, Runs as Plans}
 use Rattle.asl_rules.specs.values.Values as rules
 use Rattle.asl_tree.specs.Acts.{act_of}
+use Rattle.asl_tree.specs.private.Room.{declared}
 use Rattle.asl_tree.specs.View.{tree_of}
 use Rattle.asl_tree.specs.declared.act.Act.{Act}
 use Rattle.asl_tree.specs.declared.act.TreeFunc.{TreeFunc}
@@ -19,7 +20,7 @@ use Rattle.asl_branches.specs.declared.setting.Setting.{Setting}
 use Rattle.asl_branches.specs.declared.stop.Exit.{Exit}
 use Rattle.asl_branches.specs.declared.stop.Stop.{Stop}
 use Rattle.asl_branches.specs.declared.stop.Stop.TheVariants as stop
-use Rattle.asl_branches.specs.View.{exit_of, mistake_of, core_of, meter_of, meaning_of, cutting_of}
+use Rattle.asl_branches.specs.View.{exit_of, mistake_of, core_of, meter_of, meaning_of, cutting_of, height_of}
 
 -- an answer, with what stands after it, is what the rules give; or the run was given up at one of these meters
 abbrev pub Meets : {A B : Type 0} → (A → B) → Result A Stop → BareCore → Meter → Outcome BareCore B → (Meter → Type 0) → Type 0
@@ -85,13 +86,15 @@ Counts (Err (stop.Stuck mistake span)) before after = after ≡ before
 -- what stands round the present frame is the same
 pub record SameRound (s s1 : Run) : Type 0 where
   pub handled : s1.handled.items ≡ s.handled.items
-  pub callers : s1.callers.items ≡ s.callers.items
+  pub callers : s1.frames.callers ≡ s.frames.callers
+  pub slots : s1.frames.slots ≡ s.frames.slots
   pub live : s1.live.items ≡ s.live.items
 
 -- all is the same but the values in places
 pub record SameBut (s s1 : Run) : Type 0 where
   pub handled : s1.handled.items ≡ s.handled.items
-  pub callers : s1.callers.items ≡ s.callers.items
+  pub callers : s1.frames.callers ≡ s.frames.callers
+  pub slots : s1.frames.slots ≡ s.frames.slots
   pub live : s1.live.items ≡ s.live.items
   pub steps : s1.steps ≡ s.steps
   pub text_open : s1.text_open ≡ s.text_open
@@ -104,6 +107,14 @@ Keeps (Err stop.SinkFault) s s1 = Unit {0}
 Keeps (Err (stop.Thrown x)) s s1 = SameRound s s1
 Keeps (Err (stop.Fault code span)) s s1 = Unit {0}
 Keeps (Err (stop.Stuck mistake span)) s s1 = Unit {0}
+
+-- ---- the height of the present frame
+
+-- so many values are added to the frame at most, where nothing stops; with no number nothing is said
+abbrev pub Grows : {A : Type 0} → Option ℕ → Result A Stop → Run → Run → Type 0
+Grows None r s s1 = Unit {0}
+Grows (Some n) (Ok x) s s1 = height_of s1 ≤ n + height_of s
+Grows (Some n) (Err e) s s1 = Unit {0}
 
 -- ---- all that an answer says
 
@@ -118,30 +129,35 @@ abbrev pub at : {K : Type 0} → Ghosts K → Run → K → At
 at sink s k = record { run = s; told = sink.written k; faults = sink.faults k; full = sink.full k }
 
 -- between these, an answer is what the rules give, or the run was given up where it may be; the sink counts its faults, is as
--- full as it was, and what stands round the frame is kept
-pub record Answers {A B : Type 0} (view : A → B) (result : Result A Stop) (r : Outcome BareCore B) (C : Meter → Type 0)
+-- full as it was, what stands round the frame is kept, and the frame grows by so many values at most
+pub record Answers {A B : Type 0} (n : Option ℕ) (view : A → B) (result : Result A Stop) (r : Outcome BareCore B) (C : Meter → Type 0)
     (a a1 : At) : Type 0 where
   pub meets : Meets view result (core_of a1.run) (meter_of a1.run a1.told) r C
   pub counts : Counts result a.faults a1.faults
   pub same_full : a1.full ≡ a.full
   pub keeps : Keeps result a.run a1.run
+  pub grows : Grows n result a.run a1.run
 
 -- that of a plan, where the nodes below are run in this setting
-abbrev pub Ran : {A B : Type 0} → (A → B) → Result A Stop → Setting → (BareCore → Plans B) → At → At → Type 0
-Ran view result h q a a1 =
-    Answers view result (run (meaning_of h.funcs.now h.depth) (q (core_of a.run)) (meter_of a.run a.told))
+abbrev pub RanBy : {A B : Type 0} → Option ℕ → (A → B) → Result A Stop → Setting → (BareCore → Plans B) → At → At → Type 0
+RanBy n view result h q a a1 =
+    Answers n view result (run (meaning_of h.funcs.now h.depth) (q (core_of a.run)) (meter_of a.run a.told))
     (cuts (meaning_of h.funcs.now h.depth) (cutting_of h.funcs.now h.depth) (q (core_of a.run)) (meter_of a.run a.told)) a a1
+
+-- that of one that leaves no more values in the frame than there were
+abbrev pub Ran : {A B : Type 0} → (A → B) → Result A Stop → Setting → (BareCore → Plans B) → At → At → Type 0
+Ran view result h q a a1 = RanBy (Some 0) view result h q a a1
 
 -- that of an expression
 abbrev pub Evaluates : Result Value Stop → Setting → Tree → At → At → Type 0
 Evaluates result h e a a1 =
-    Answers value_of result ((meaning_of h.funcs.now h.depth).expr (tree_of e) (core_of a.run) (meter_of a.run a.told))
+    Answers (Some 0) value_of result ((meaning_of h.funcs.now h.depth).expr (tree_of e) (core_of a.run) (meter_of a.run a.told))
     ((cutting_of h.funcs.now h.depth).expr (tree_of e) (core_of a.run) (meter_of a.run a.told)) a a1
 
--- that of a statement
+-- that of a statement, whose names stay in the frame
 abbrev pub Executes : Result Exit Stop → Setting → Act → At → At → Type 0
 Executes result h t a a1 =
-    Answers exit_of result ((meaning_of h.funcs.now h.depth).stmt (act_of t) (core_of a.run) (meter_of a.run a.told))
+    Answers (Some (declared (act_of t))) exit_of result ((meaning_of h.funcs.now h.depth).stmt (act_of t) (core_of a.run) (meter_of a.run a.told))
     ((cutting_of h.funcs.now h.depth).stmt (act_of t) (core_of a.run) (meter_of a.run a.told)) a a1
 
 -- ---- parts
@@ -154,6 +170,14 @@ pub record Left {A : Type 0} (fs : List TreeFunc) (d : ℕ) (q : Plans A) (h : M
 -- between two turns of a loop: what is left to do is left of what there was to do at first, and all else that an answer says
 -- has held so far
 pub record Underway {A : Type 0} (h : Setting) (p : BareCore → Plans A) (a : At) (q : BareCore → Plans A) (a0 : At) : Type 0 where
+  pub left : Left h.funcs.now h.depth (p (core_of a.run)) (meter_of a.run a.told) (q (core_of a0.run)) (meter_of a0.run a0.told)
+  pub count : a.faults ≡ a0.faults
+  pub full : a.full ≡ a0.full
+  pub round : SameRound a0.run a.run
+  pub height : height_of a.run ≤ height_of a0.run
+
+-- the same between two statements of a list, of whose names nothing is said
+pub record InTurn {A : Type 0} (h : Setting) (p : BareCore → Plans A) (a : At) (q : BareCore → Plans A) (a0 : At) : Type 0 where
   pub left : Left h.funcs.now h.depth (p (core_of a.run)) (meter_of a.run a.told) (q (core_of a0.run)) (meter_of a0.run a0.told)
   pub count : a.faults ≡ a0.faults
   pub full : a.full ≡ a0.full

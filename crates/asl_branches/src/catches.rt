@@ -4,10 +4,11 @@ ghost use Rattle.asl_rules.specs.runs.StatementForms as forms;
 ghost use Rattle.asl_rules.specs.private.TypedMeaning as rules;
 ghost use Rattle.asl_rules.specs.private.TypedMeaning.{acts_of, caught_as, in_bare, itself};
 ghost use Rattle.asl_tree.specs.Acts.{all_acts, all_catchers, last_of};
+ghost use Rattle.asl_tree.specs.private.Room.{FitsCatchers, FitsLast, FitsList};
 ghost use Rattle.asl_tree.specs.declared.act.Catcher.TheVariants.{Catch};
 ghost use Rattle.asl_value.specs.View.{value_of};
 ghost use Rattle.asl_branches.specs.Meets.{Acts, at, NoneRefused, Ran};
-ghost use Rattle.asl_branches.specs.View.{exit_of};
+ghost use Rattle.asl_branches.specs.View.{exit_of, room_of, FitsNamed};
 
 use crate::below::Nodes;
 use crate::lists::{exec_scope, exec_scope_with};
@@ -39,7 +40,7 @@ pub fn throw_again(run: &Run, span: Span) -> Result<Exit, Stop>
 }
 
 /// A list, and the catchers of what it throws.
-#[tactic(auto, using(crate::proofs::Stacks::cut_values))]
+#[tactic(auto, using(crate::proofs::Stacks::cut_values, crate::proofs::Stacks::cut_height))]
 pub fn exec_try<K: Sink, N: Nodes<K>>(
     here: &N,
     run: &mut Run,
@@ -48,15 +49,18 @@ pub fn exec_try<K: Sink, N: Nodes<K>>(
     it: Try,
 ) -> Result<Exit, Stop>
     requires ready { N.ready here.now }
+    requires room { FitsList (room_of run.old) (all_acts list.now) }
+    requires catchers { FitsCatchers (room_of run.old) (all_catchers it.catchers.now) }
+    requires last { FitsLast (room_of run.old) (last_of it.last.now) }
     ensures { Ran exit_of result (N.setting here.now)
         (forms.try_list in_bare itself (acts_of (all_acts list.now)) (rules.catches_of (all_catchers it.entry.catchers.now)) (rules.last_of (last_of it.entry.last.now)))
         (at K.Sink run.old sink.old) (at K.Sink run.new sink.new) }
 {
-    let height = run.frame.len();
+    let height = run.frames.height();
     match exec_scope(here, run, sink, list) {
         Ok(exit) => Ok(exit),
         Err(Stop::Thrown(x)) => {
-            run.frame.truncate(height);
+            run.frames.truncate(height);
             exec_catchers(here, run, sink, x, it)
         }
         Err(stop) => Err(stop),
@@ -72,6 +76,8 @@ fn exec_catchers<K: Sink, N: Nodes<K>>(
     it: Try,
 ) -> Result<Exit, Stop>
     requires ready { N.ready here.now }
+    requires catchers { FitsCatchers (room_of run.old) (all_catchers it.catchers.now) }
+    requires last { FitsLast (room_of run.old) (last_of it.last.now) }
     ensures { Ran exit_of result (N.setting here.now)
         (forms.catchers in_bare itself (value_of x) (rules.catches_of (all_catchers it.entry.catchers.now)) (rules.last_of (last_of it.entry.last.now)))
         (at K.Sink run.old sink.old) (at K.Sink run.new sink.new) }
@@ -103,6 +109,7 @@ fn exec_uncaught<K: Sink, N: Nodes<K>>(
     last: &Last,
 ) -> Result<Exit, Stop>
     requires ready { N.ready here.now }
+    requires room { FitsLast (room_of run.old) (last_of last.now) }
     ensures { Ran exit_of result (N.setting here.now)
         (forms.uncaught in_bare (value_of x) (rules.last_of (last_of last.now)))
         (at K.Sink run.old sink.old) (at K.Sink run.new sink.new) }
@@ -136,6 +143,7 @@ fn handle<K: Sink, N: Nodes<K>>(
     list: &Items<Act>,
 ) -> Result<Exit, Stop>
     requires ready { N.ready here.now }
+    requires room { FitsNamed is_named (room_of run.old) (all_acts list.now) }
     ensures { Ran exit_of result (N.setting here.now)
         (forms.handling in_bare (value_of x) (forms.catch_list in_bare (caught_as is_named) (value_of x) (acts_of (all_acts list.now))))
         (at K.Sink run.old sink.old) (at K.Sink run.new sink.new) }
@@ -165,6 +173,7 @@ fn exec_caught<K: Sink, N: Nodes<K>>(
     list: &Items<Act>,
 ) -> Result<Exit, Stop>
     requires ready { N.ready here.now }
+    requires room { FitsNamed is_named (room_of run.old) (all_acts list.now) }
     ensures { Ran exit_of result (N.setting here.now)
         (forms.catch_list in_bare (caught_as is_named) (value_of x) (acts_of (all_acts list.now)))
         (at K.Sink run.old sink.old) (at K.Sink run.new sink.new) }

@@ -9,11 +9,12 @@ ghost use Rattle.asl_rules.specs.private.TypedMeaning.{in_bare, itself};
 ghost use Rattle.asl_shape.specs.View.{all_patterns};
 ghost use Rattle.asl_tree.specs.Acts.{all_alternatives, last_of, maybe_tree};
 ghost use Rattle.asl_tree.specs.View.{tree_of, all_trees};
+ghost use Rattle.asl_tree.specs.private.Room.{FitsAlternatives, FitsLast};
 ghost use Rattle.asl_tree.specs.declared.act.Alternative.TheVariants.{When};
 ghost use Rattle.asl_value.specs.View.{value_of};
 ghost use Rattle.asl_branches.specs.private.Choosing.{chosen, guard};
 ghost use Rattle.asl_branches.specs.Meets.{at, Ran};
-ghost use Rattle.asl_branches.specs.View.{exit_of};
+ghost use Rattle.asl_branches.specs.View.{exit_of, room_of};
 
 use crate::below::Nodes;
 use crate::lists::{eval_all, exec_scope};
@@ -47,6 +48,8 @@ pub fn exec_case<K: Sink, N: Nodes<K>>(
     case: Case,
 ) -> Result<Exit, Stop>
     requires ready { N.ready here.now }
+    requires alternatives { FitsAlternatives (room_of run.old) (all_alternatives case.others.now) }
+    requires last { FitsLast (room_of run.old) (last_of case.last.now) }
     ensures { Ran exit_of result (N.setting here.now)
         (forms.case_of in_bare itself case.entry.span (tree_of e.now)
         (rules.choices_of WIDTH_LIMIT (all_alternatives case.entry.others.now)) (rules.last_of (last_of case.entry.last.now)))
@@ -65,6 +68,8 @@ fn exec_alternatives<K: Sink, N: Nodes<K>>(
     case: Case,
 ) -> Result<Exit, Stop>
     requires ready { N.ready here.now }
+    requires alternatives { FitsAlternatives (room_of run.old) (all_alternatives case.others.now) }
+    requires last { FitsLast (room_of run.old) (last_of case.last.now) }
     ensures { Ran exit_of result (N.setting here.now)
         (forms.alternatives in_bare itself case.entry.span (value_of x.now)
         (rules.choices_of WIDTH_LIMIT (all_alternatives case.entry.others.now)) (rules.last_of (last_of case.entry.last.now)))
@@ -100,6 +105,7 @@ fn exec_last<K: Sink, N: Nodes<K>>(
     last: &Last,
 ) -> Result<Exit, Stop>
     requires ready { N.ready here.now }
+    requires room { FitsLast (room_of run.old) (last_of last.now) }
     ensures { Ran exit_of result (N.setting here.now)
         (forms.no_match in_bare span (rules.last_of (last_of last.now)))
         (at K.Sink run.old sink.old) (at K.Sink run.new sink.new) }

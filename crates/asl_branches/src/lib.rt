@@ -5,6 +5,7 @@
 pub mod below;
 pub mod catches;
 pub mod choices;
+pub mod frames;
 pub mod lists;
 pub mod run;
 pub mod setting;

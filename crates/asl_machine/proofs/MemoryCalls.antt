@@ -37,31 +37,31 @@ pub record Moved (old between new : Memory) (begun ended : Run) : Type 0 where
   pub marks : between.marks.items ≡ old.marks.items
   pub vars : between.vars.items ≡ taken old.marks.items old.values.items old.vars.items
   pub marks_back : new.marks.items ≡ between.marks.items
-  pub values_back : new.values.items ≡ given between.marks.items ended.globals.items between.vars.items
-  pub vars_back : new.vars.items ≡ taken between.marks.items ended.globals.items between.vars.items
+  pub values_back : new.values.items ≡ given between.marks.items ended.frames.globals between.vars.items
+  pub vars_back : new.vars.items ≡ taken between.marks.items ended.frames.globals between.vars.items
   pub steps_back : new.steps ≡ ended.steps
 
 -- the storage is what the run left
-storage_is : (old between new : Memory) (begun ended : Run) → Moved old between new begun ended → storage_of new ≡ ended.globals.items
+storage_is : (old between new : Memory) (begun ended : Run) → Moved old between new begun ended → storage_of new ≡ ended.frames.globals
 storage_is old between new begun ended m =
     ap (λ ms. given ms new.values.items new.vars.items) m.marks_back ∙ ap (λ xs. given between.marks.items xs new.vars.items) m.values_back ∙
-    ap (λ vs. given between.marks.items (given between.marks.items ended.globals.items between.vars.items) vs) m.vars_back ∙ back between.marks.items ended.globals.items between.vars.items
+    ap (λ vs. given between.marks.items (given between.marks.items ended.frames.globals between.vars.items) vs) m.vars_back ∙ back between.marks.items ended.frames.globals between.vars.items
 
-arranged_is : (c : Sealed) (old between new : Memory) (begun ended : Run) → Moved old between new begun ended → ((t : Tests) → Suits t → length (map value_of ended.globals.items) ≡ length (initial_of t c)) → arranged c old → arranged c new
+arranged_is : (c : Sealed) (old between new : Memory) (begun ended : Run) → Moved old between new begun ended → ((t : Tests) → Suits t → length (map value_of ended.frames.globals) ≡ length (initial_of t c)) → arranged c old → arranged c new
 arranged_is c old between new begun ended m n a =
-    let vars : new.vars.items ≡ taken old.marks.items ended.globals.items (taken old.marks.items old.values.items old.vars.items) =
-    m.vars_back ∙ ap (λ ms. taken ms ended.globals.items between.vars.items) m.marks ∙ ap (λ vs. taken old.marks.items ended.globals.items vs) m.vars in
-    let values : new.values.items ≡ given old.marks.items ended.globals.items (taken old.marks.items old.values.items old.vars.items) =
-    m.values_back ∙ ap (λ ms. given ms ended.globals.items between.vars.items) m.marks ∙ ap (λ vs. given old.marks.items ended.globals.items vs) m.vars in
+    let vars : new.vars.items ≡ taken old.marks.items ended.frames.globals (taken old.marks.items old.values.items old.vars.items) =
+    m.vars_back ∙ ap (λ ms. taken ms ended.frames.globals between.vars.items) m.marks ∙ ap (λ vs. taken old.marks.items ended.frames.globals vs) m.vars in
+    let values : new.values.items ≡ given old.marks.items ended.frames.globals (taken old.marks.items old.values.items old.vars.items) =
+    m.values_back ∙ ap (λ ms. given ms ended.frames.globals between.vars.items) m.marks ∙ ap (λ vs. given old.marks.items ended.frames.globals vs) m.vars in
     subst (λ ms. Arranged c ms new.values.items new.vars.items) (sym (m.marks_back ∙ m.marks))
     (subst (λ xs. Arranged c old.marks.items xs new.vars.items) (sym values)
-    (subst (λ vs. Arranged c old.marks.items (given old.marks.items ended.globals.items (taken old.marks.items old.values.items old.vars.items)) vs) (sym vars)
-    (arranged_after c old.marks.items old.values.items ended.globals.items old.vars.items n a)))
+    (subst (λ vs. Arranged c old.marks.items (given old.marks.items ended.frames.globals (taken old.marks.items old.values.items old.vars.items)) vs) (sym vars)
+    (arranged_after c old.marks.items old.values.items ended.frames.globals old.vars.items n a)))
 
 -- the variables have the names that they had
 named_is : (c : Sealed) (old between new : Memory) (begun ended : Run) → Moved old between new begun ended → named c old → named c new
 named_is c old between new begun ended m n t u =
-    ap names m.vars_back ∙ same_names between.marks.items ended.globals.items between.vars.items ∙ ap names m.vars ∙
+    ap names m.vars_back ∙ same_names between.marks.items ended.frames.globals between.vars.items ∙ ap names m.vars ∙
     same_names old.marks.items old.values.items old.vars.items ∙ n t u
 
 module _ (c : Sealed) (fs : List TreeFunc) (gs : List Global) (sealed : IsSealed c.decls c.asked c.entries fs gs) (id : ℕ) (args : List rules.Value) (call : (t : Tests) → Suits t → IsCallable t c id args)
@@ -114,13 +114,13 @@ module _ (c : Sealed) (fs : List TreeFunc) (gs : List Global) (sealed : IsSealed
   pub memory_held : OnOk result (held c new)
   memory_held = returned_held c fs gs sealed id args (storage_of old) (storage_of new) h call old.steps told _ _ result (memory_meets told1 refl)
 
-  roomy : (t : Tests) → Suits t → IfRan result (length (map value_of ended.globals.items) ≡ length (initial_of t c))
+  roomy : (t : Tests) → Suits t → IfRan result (length (map value_of ended.frames.globals) ≡ length (initial_of t c))
   roomy t u = room_after t u c fs gs sealed id args (storage_of old) h (call t u) (roomy_before t u) begun ended m.begins (Some []) ran.own result own
 
   pub memory_arranged : IfRan result (arranged c new)
   memory_arranged = by result roomy
     where
-      by : (r : Result (Option Value) Stop) → ((t : Tests) → Suits t → IfRan r (length (map value_of ended.globals.items) ≡ length (initial_of t c))) → IfRan r (arranged c new)
+      by : (r : Result (Option Value) Stop) → ((t : Tests) → Suits t → IfRan r (length (map value_of ended.frames.globals) ≡ length (initial_of t c))) → IfRan r (arranged c new)
       by (Ok x) n = arranged_is c old between new begun ended m n a
       by (Err stop.NoMemory) n = tt
       by (Err stop.SinkFault) n = tt

@@ -143,10 +143,10 @@ stuck bs r m span c h k e never = let s = halt_same bs r (Stuck m span) c h k e 
 
 -- the state of a run that begins over these values
 pub record Begins (run : Run) (values : List Value) : Type 0 where
-  pub globals : run.globals.items ≡ values
-  pub frame : run.frame.items ≡ []
+  pub globals : run.frames.globals ≡ values
+  pub frame : run.frames.values ≡ []
   pub handled : run.handled.items ≡ []
-  pub callers : run.callers.items ≡ []
+  pub callers : run.frames.callers ≡ []
   pub live : run.live.items ≡ []
   pub text : run.text_open ≡ false
 
@@ -180,7 +180,7 @@ met_over t c fs id args values n begun ended b told told1 result met =
 
 -- over the values of storage, a call of the typed trees ends as the program's does
 pub call_meets : (t : Tests) → Suits t → (c : Sealed) (fs : List TreeFunc) (gs : List Global) → IsSealed c.decls c.asked c.entries fs gs → (id : ℕ) (args : List rules.Value) (values : List Value) → HoldStorage c values → IsCallable t c id args →
-    length (map value_of values) ≡ length (initial_of t c) → (begun ended : Run) → Begins begun values → (after : List Value) → after ≡ ended.globals.items → (told told1 : Option (List ℕ)) (result : Result (Option Value) Stop) →
+    length (map value_of values) ≡ length (initial_of t c) → (begun ended : Run) → Begins begun values → (after : List Value) → after ≡ ended.frames.globals → (told told1 : Option (List ℕ)) (result : Result (Option Value) Stop) →
     Runs (option_map value_of) result fs most_open (tree_call (program_of fs) id args) begun told ended told1 →
     CallMeets result (globals_with t c after) (meter_of ended told1) (run_over t c id args values begun.steps told) (GivenUp (text_over t c id args values told) told told1 begun.steps (begun.steps - ended.steps))
 call_meets t r c fs gs sealed id args values held call n begun ended b after same told told1 result met =
@@ -276,7 +276,7 @@ room_in bs (Halt e c h) k = same_length bs c.globals k
 
 pub room_after : (t : Tests) → Suits t → (c : Sealed) (fs : List TreeFunc) (gs : List Global) → IsSealed c.decls c.asked c.entries fs gs → (id : ℕ) (args : List rules.Value) (values : List Value) → HoldStorage c values → IsCallable t c id args →
     length (map value_of values) ≡ length (initial_of t c) → (begun ended : Run) → Begins begun values → (told told1 : Option (List ℕ)) (result : Result (Option Value) Stop) →
-    Runs (option_map value_of) result fs most_open (tree_call (program_of fs) id args) begun told ended told1 → IfRan result (length (map value_of ended.globals.items) ≡ length (initial_of t c))
+    Runs (option_map value_of) result fs most_open (tree_call (program_of fs) id args) begun told ended told1 → IfRan result (length (map value_of ended.frames.globals) ≡ length (initial_of t c))
 room_after t r c fs gs sealed id args values held call n begun ended b told told1 result met = by result (met)
   where
     o : Outcome Core (Option rules.Value)
@@ -289,7 +289,7 @@ room_after t r c fs gs sealed id args values held call n begun ended b told told
     roomy = subst (EndsIn (λ (z : BareCore). length z.globals ≡ length (initial_of t c))) (sym same)
         (room_in (initial_of t c) o (kept_under (initial_of t c) (map value_of values) o (run_of_keeps (environment t c.decls) id args (globals_with t c values) (meter_of begun told))))
 
-    by : (result : Result (Option Value) Stop) → Runs (option_map value_of) result fs most_open (tree_call (program_of fs) id args) begun told ended told1 → IfRan result (length (map value_of ended.globals.items) ≡ length (initial_of t c))
+    by : (result : Result (Option Value) Stop) → Runs (option_map value_of) result fs most_open (tree_call (program_of fs) id args) begun told ended told1 → IfRan result (length (map value_of ended.frames.globals) ≡ length (initial_of t c))
     by (Ok x) e = subst (EndsIn (λ (z : BareCore). length z.globals ≡ length (initial_of t c))) e roomy
     by (Err stop.NoMemory) w = tt
     by (Err stop.SinkFault) w = tt

@@ -4,7 +4,7 @@ ghost use Rattle.asl_machine.specs.private.Memory.{arranged, held, named, storag
 ghost use Rattle.asl_machine.specs.Storage.{given, given_one, taken, taken_one, marks_of, values_in, vars_from};
 ghost use Rattle.asl_machine.specs.Work.{IsInitial};
 
-use asl_run::Run;
+use asl_run::{Frames, Run};
 use asl_tree::{Checked, Global as Storage};
 use asl_value::{Name, Value, copy};
 use std::alloc::{AllocError, Global};
@@ -139,12 +139,12 @@ pub(crate) fn exchange(marks: &[bool], values: &mut Vec<Value>, vars: &mut Vec<G
 
 /// The state of a run that begins: the values of storage are moved into it.
 pub(crate) fn enter(alloc: Global, memory: &mut Memory) -> Run
-    ensures globals { result.globals.items ≡ storage_of memory.old }
+    ensures globals { result.frames.globals ≡ storage_of memory.old }
     ensures vars { memory.new.vars.items ≡ taken memory.old.marks.items memory.old.values.items memory.old.vars.items }
     ensures marks { memory.new.marks.items ≡ memory.old.marks.items }
-    ensures frame { result.frame.items ≡ [] }
+    ensures frame { result.frames.values ≡ [] }
     ensures handled { result.handled.items ≡ [] }
-    ensures callers { result.callers.items ≡ [] }
+    ensures callers { result.frames.callers ≡ [] }
     ensures live { result.live.items ≡ [] }
     ensures steps { result.steps ≡ memory.old.steps }
     ensures text { result.text_open ≡ false }
@@ -155,10 +155,8 @@ pub(crate) fn enter(alloc: Global, memory: &mut Memory) -> Run
         &mut memory.vars,
     );
     Run {
-        globals: mem::replace(&mut memory.values, Vec::new(alloc)),
-        frame: Vec::new(alloc),
+        frames: Frames::new(alloc, mem::replace(&mut memory.values, Vec::new(alloc))),
         handled: Vec::new(alloc),
-        callers: Vec::new(alloc),
         live: Vec::new(alloc),
         steps: memory.steps,
         text_open: false,
@@ -167,13 +165,13 @@ pub(crate) fn enter(alloc: Global, memory: &mut Memory) -> Run
 
 /// After a run, which left text open or not: the values of storage are moved back.
 pub(crate) fn leave(memory: &mut Memory, run: &mut Run, text_open: bool)
-    ensures values { memory.new.values.items ≡ given memory.old.marks.items run.old.globals.items memory.old.vars.items }
-    ensures vars { memory.new.vars.items ≡ taken memory.old.marks.items run.old.globals.items memory.old.vars.items }
+    ensures values { memory.new.values.items ≡ given memory.old.marks.items run.old.frames.globals memory.old.vars.items }
+    ensures vars { memory.new.vars.items ≡ taken memory.old.marks.items run.old.frames.globals memory.old.vars.items }
     ensures marks { memory.new.marks.items ≡ memory.old.marks.items }
     ensures steps { memory.new.steps ≡ run.old.steps }
     ensures text { memory.new.text_open ≡ text_open }
 {
-    mem::swap(&mut memory.values, &mut run.globals);
+    run.frames.swap_globals(&mut memory.values);
     exchange(
         memory.marks.as_slice(),
         &mut memory.values,

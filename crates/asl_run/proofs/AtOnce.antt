@@ -36,6 +36,8 @@ use Rattle.asl_value.specs.private.Numbers.{answer_of}
 use Rattle.asl_value.specs.View as view
 use Rattle.asl_value.specs.View.{value_of}
 use Rattle.asl_value.proofs.Integers.{exact}
+use Rattle.asl_value.specs.declared.value.Value.{Value as Stored}
+use Rattle.asl_branches.specs.Framed.{Framed}
 use Rattle.asl_branches.specs.declared.run.Run.{Run}
 use Rattle.asl_branches.specs.View.{core_of, meter_of, program_of, meaning_of}
 use Rattle.asl_run.specs.declared.at_once.AtOnce.{AtOnce}
@@ -170,15 +172,19 @@ begun (Some x) fs d e s n n1 has deep p = λ told. expr_done fs d (tree_of e) x 
 
 -- ---- places
 
-pub put_local : (b : Bool) (i : ℕ) (x : Value) (s s1 : Run) → Sets b i x s.frame s1.frame → s1 ≡ record s { frame = s1.frame } → Puts b (Some x) (Local i) s s1
-put_local false i x s s1 e is = is ∙ ap (λ new. record s { frame = new }) e
-put_local true i x s s1 e is = λ holds span.
-    local_put holds span i [] x (core_of s) ∙ ap (λ (r : Pure (List Value)). r >>= λ xs. Good (record (core_of s) { frame = xs })) (e holds span) ∙ ap (λ (t : Run). Good (core_of t)) (sym is)
+pub put_local : (b : Bool) (i : ℕ) (x : Value) (s : Run) (fs : Framed) → Sets b i x s.frames.values fs.values →
+    fs ≡ record s.frames { values = fs.values } → Puts b (Some x) (Local i) s (record s { frames = fs })
+put_local false i x s fs e is = ap (λ (g : Framed). record s { frames = g }) (is ∙ ap (λ (vs : List Stored). record s.frames { values = vs }) e)
+put_local true i x s fs e is = λ holds span.
+    local_put holds span i [] x (core_of s) ∙ ap (λ (r : Pure (List Value)). r >>= λ xs. Good (record (core_of s) { frame = xs })) (e holds span)
+    ∙ ap (λ (g : Framed). Good (core_of (record s { frames = g }))) (sym is)
 
-pub put_global : (b : Bool) (i : ℕ) (x : Value) (s s1 : Run) → Sets b i x s.globals s1.globals → s1 ≡ record s { globals = s1.globals } → Puts b (Some x) (Global i) s s1
-put_global false i x s s1 e is = is ∙ ap (λ new. record s { globals = new }) e
-put_global true i x s s1 e is = λ holds span.
-    global_put holds span i [] x (core_of s) ∙ ap (λ (r : Pure (List Value)). r >>= λ xs. Good (record (core_of s) { globals = xs })) (e holds span) ∙ ap (λ (t : Run). Good (core_of t)) (sym is)
+pub put_global : (b : Bool) (i : ℕ) (x : Value) (s : Run) (fs : Framed) → Sets b i x s.frames.globals fs.globals →
+    fs ≡ record s.frames { globals = fs.globals } → Puts b (Some x) (Global i) s (record s { frames = fs })
+put_global false i x s fs e is = ap (λ (g : Framed). record s { frames = g }) (is ∙ ap (λ (vs : List Stored). record s.frames { globals = vs }) e)
+put_global true i x s fs e is = λ holds span.
+    global_put holds span i [] x (core_of s) ∙ ap (λ (r : Pure (List Value)). r >>= λ xs. Good (record (core_of s) { globals = xs })) (e holds span)
+    ∙ ap (λ (g : Framed). Good (core_of (record s { frames = g }))) (sym is)
 
 -- ---- assignments
 

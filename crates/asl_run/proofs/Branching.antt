@@ -11,6 +11,7 @@ use Rattle.asl_rules.specs.private.TypedMeaning.{BareCore, Runs, acts_of, branch
 use Rattle.asl_rules.specs.values.Values.{Exit}
 use Rattle.asl_tree.specs.Acts.{AlternativeFirst, BranchFirst, CatcherFirst, act_rule, alternative_rule, branch_rule, catcher_rule, last_rule, branch_of, all_acts, all_branches}
 use Rattle.asl_tree.specs.View.{tree_of}
+use Rattle.asl_tree.specs.private.Room.{FitsBranches, FitsList}
 use Rattle.asl_tree.specs.declared.act.Act.{Act as Doing}
 use Rattle.asl_tree.specs.declared.act.Act.TheFolds.{fold-roll-Branch}
 use Rattle.asl_tree.specs.declared.act.Act.TheOpen as layers
@@ -29,9 +30,24 @@ use Rattle.asl_branches.proofs.Answered.{turn_eval_failed}
 use Rattle.asl_branches.proofs.Fronts.{at_front}
 use Rattle.asl_run.proofs.Turning.{asked_next, chosen_next, truth_failed}
 
-branch_when : (e : Asked) (ss : List Doing) (bs : List Branch) → branches_of (all_branches (when.Elsif e ss ∷ bs)) ≡ record { condition = tree_of e; body = acts_of (all_acts ss) } ∷ branches_of (all_branches bs)
-branch_when e ss bs = ap (λ (f : BranchFirst). branches_of (f (all_branches bs)))
-    (ap branch_of (sym (when.rolls-Elsif e ss)) ∙ fold-roll-Branch rules.Act AlternativeFirst BranchFirst CatcherFirst rules.Last act_rule alternative_rule branch_rule catcher_rule last_rule (layers.Elsif e ss))
+first_branch : (e : Asked) (ss : List Doing) (bs : List Branch) → all_branches (when.Elsif e ss ∷ bs) ≡
+    rules.branch_and (tree_of e) (all_acts ss) (all_branches bs)
+first_branch e ss bs = ap (λ (f : BranchFirst). f (all_branches bs))
+    (ap branch_of (sym (when.rolls-Elsif e ss)) ∙
+    fold-roll-Branch rules.Act AlternativeFirst BranchFirst CatcherFirst rules.Last act_rule alternative_rule branch_rule catcher_rule
+    last_rule (layers.Elsif e ss))
+
+branch_when : (e : Asked) (ss : List Doing) (bs : List Branch) → branches_of (all_branches (when.Elsif e ss ∷ bs)) ≡
+    record { condition = tree_of e; body = acts_of (all_acts ss) } ∷ branches_of (all_branches bs)
+branch_when e ss bs = ap branches_of (first_branch e ss bs)
+
+-- a branch's list fits, and so do the branches behind it
+pub branch_fits : (r : ℕ) (bs : List Branch) (k : ℕ) (b : Branch) (e : Asked) (ss : List Doing) → k < length bs → b ≡ get_or bs k b →
+    b ≡ when.Elsif e ss → FitsBranches r (all_branches (drop k bs)) →
+    FitsList r (all_acts ss) × FitsBranches r (all_branches (drop (k + 1) bs))
+branch_fits r bs k b e ss within here is fits =
+    subst (λ us. FitsBranches r us)
+    (ap all_branches (at_front bs k b within here ∙ ap (λ a. a ∷ drop (k + 1) bs) is) ∙ first_branch e ss (drop (k + 1) bs)) fits
 
 -- what these branches and the last do
 abbrev pub all_from : Span → List Branch → List Act → BareCore → Runs Exit

@@ -1,5 +1,5 @@
 -- The entry into a node.
-use Rattle.std.proofs.Common.{◌≡◌, ℕ, zero, suc, ◌-◌, ◌<◌, ◌==◌, Bool, true, false, if◌then◌else◌, List, Result, Ok, Err, sym, ap, ◌∙◌, subst, arith}
+use Rattle.std.proofs.Common.{◌≡◌, ℕ, zero, suc, ◌+◌, ◌-◌, ◌<◌, ◌==◌, Bool, true, false, if◌then◌else◌, List, Result, Ok, Err, length, get_or, drop, sym, ap, ◌∙◌, subst, arith}
 use Rattle.asl_syn.specs.declared.token.Span.{Span}
 use Rattle.asl_syn.specs.declared.code.DynCode.TheVariants.{D12, D13}
 use Rattle.asl_rules.specs.runs.Cuts as cut
@@ -8,14 +8,20 @@ use Rattle.asl_rules.specs.runs.Plans.{Meter, Outcome, Done, Halt, Faulted, ente
 use Rattle.asl_rules.specs.runs.Trees.{Tree, Act, tree_at, act_at}
 use Rattle.asl_rules.specs.private.TypedMeaning.{BareCore, tree_node, act_node}
 use Rattle.asl_rules.specs.values.Values as rules
+use Rattle.asl_tree.specs.Acts.{act_of, all_acts}
+use Rattle.asl_tree.specs.private.Room.{FitsAct, FitsList, declared}
+use Rattle.asl_tree.specs.declared.act.Act.{Act as Doing}
 use Rattle.asl_tree.specs.declared.act.TreeFunc.{TreeFunc}
+use Rattle.asl_tree.proofs.Room.{fits_more}
 use Rattle.asl_value.specs.declared.value.Value.{Value}
 use Rattle.asl_value.specs.View.{value_of}
 use Rattle.asl_branches.specs.declared.stop.Exit.{Exit}
 use Rattle.asl_branches.specs.declared.stop.Stop.{Stop as Stopped}
 use Rattle.asl_branches.specs.declared.stop.Stop.TheVariants as stop
-use Rattle.asl_branches.specs.Meets.{Meets}
-use Rattle.asl_branches.specs.View.{exit_of, program_of, meaning_of, cutting_of}
+use Rattle.asl_branches.specs.declared.setting.Setting.{Setting}
+use Rattle.asl_branches.specs.Meets.{At, Executes, Meets}
+use Rattle.asl_branches.specs.View.{exit_of, program_of, meaning_of, cutting_of, room_of}
+use Rattle.asl_branches.proofs.Fronts.{at_front}
 
 -- an answer that one part has, another has that gives the same
 meets_same : {A B : Type 0} (w : A → B) (r : Result A Stopped) (c : BareCore) (h : Meter) (p q : Outcome BareCore B) (C D : Meter → Type 0) → p ≡ q → ((u : Meter) → C u → D u) → Meets w r c h p C → Meets w r c h q D
@@ -104,3 +110,17 @@ stmt_done fs (suc d) t x c c1 h h1 deep has m =
     let one : d ≡ suc d - 1 = omega arith in
     stepped (act_at t) false c h (run (meaning_of fs d) (act_node (program_of fs) t c)) has ∙
     ap (λ n. run (meaning_of fs n) (act_node (program_of fs) t c) (record h { steps = h.steps - 1 })) one ∙ m
+
+-- ---- lists
+
+-- the statement in front fits, and those behind it fit behind its names
+pub act_fits : (r : ℕ) (ts : List Doing) (k : ℕ) (t : Doing) → k < length ts → t ≡ get_or ts k t → FitsList r (all_acts (drop k ts)) →
+    FitsAct r (act_of t) × FitsList (r - declared (act_of t)) (all_acts (drop (k + 1) ts))
+act_fits r ts k t within here fits = subst (λ us. FitsList r (all_acts us)) (at_front ts k t within here) fits
+
+-- once it is executed, they fit the frame
+pub acts_fit : (h : Setting) (ts : List Doing) (k : ℕ) (t : Doing) (x : Exit) (a a1 : At) → k < length ts → t ≡ get_or ts k t →
+    Executes (Ok x) h t a a1 → FitsList (room_of a.run) (all_acts (drop k ts)) → FitsList (room_of a1.run) (all_acts (drop (k + 1) ts))
+acts_fit h ts k t x a a1 within here n fits =
+    fits_more (room_of a.run - declared (act_of t)) (room_of a1.run) (all_acts (drop (k + 1) ts)) (omega (arith, n.keeps.slots, n.grows))
+    (act_fits (room_of a.run) ts k t within here fits).1

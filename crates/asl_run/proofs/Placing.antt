@@ -1,5 +1,7 @@
 -- Stores among values and in places.
-use Rattle.std.proofs.Common.{◌≡◌, ℕ, zero, suc, ◌<◌, inl, Bool, true, false, List, [], ◌∷◌, length, get_or, map, Option, Some, None, Err, refl, sym, ap, ◌∙◌, arith}
+use Rattle.std.proofs.Common.{◌≡◌, ℕ, zero, suc, ◌<◌, inl, Bool, true, false, List, [], ◌∷◌, length, get_or, map, Option, Some, None, Result, Ok, Err, refl, sym, ap, ◌∙◌, subst, arith, length-set}
+use Rattle.std.proofs.lemmas.List.{get_or_default}
+use Rattle.std.proofs.lemmas.Option.{get_or_from_slice_get, slice_get_within}
 use Rattle.std.specs.Prelude.{option_map, slice_get, slice_set}
 use Rattle.asl_bits.specs.declared.TheConstants.{WIDTH_LIMIT}
 use Rattle.asl_syn.specs.declared.token.Span.{Span}
@@ -19,6 +21,7 @@ use Rattle.asl_value.specs.private.Answers.{Changes}
 use Rattle.asl_value.specs.View.{value_of}
 use Rattle.asl_branches.specs.declared.stop.Stop.{Stop}
 use Rattle.asl_branches.specs.declared.stop.Stop.TheVariants as stop
+use Rattle.asl_branches.specs.Framed.{Changed}
 use Rattle.asl_branches.specs.Meets.{Meets, Stores}
 use Rattle.asl_branches.specs.View.{exit_of, mistake_of, stop_of, meaning_of, cutting_of}
 use Rattle.asl_run.specs.private.Storing.{stored_in}
@@ -61,6 +64,30 @@ stores_failed (failure.Fault code at) holds span i ss y xs x z h e u = (stored_b
 stores_failed (failure.WrongKind at) holds span i ss y xs x z h e u = (stored_bad holds span i ss y xs x _ h e u.0, ap (slice_set xs i) u.1 ∙ same_set xs i x e)
 stores_failed (failure.UnknownType at) holds span i ss y xs x z h e u = (stored_bad holds span i ss y xs x _ h e u.0, ap (slice_set xs i) u.1 ∙ same_set xs i x e)
 stores_failed failure.NoMemory holds span i ss y xs x z h e u = tt
+
+-- a store in place gives what the rules give
+pub changed_good : (holds : Bool) (span : Span) (i : ℕ) (ss : List Step) (y : rules.Value) (xs zs : List Value) (u : Unit {0}) →
+    Changed (Ok u) (updated WIDTH_LIMIT holds ss y) i xs zs → stored_in holds span i ss y (map value_of xs) ≡ Good (map value_of zs)
+changed_good holds span i ss y xs zs u t =
+    stored_good holds span i ss y xs t.old t.new (slice_get_within xs i t.old t.was) (sym (get_or_from_slice_get xs i t.old t.old t.was)) t.changes
+    ∙ ap (λ (l : List Value). Good (map value_of l)) (sym t.now_is)
+
+pub changed_failed : (f : Failure) (holds : Bool) (span : Span) (i : ℕ) (ss : List Step) (y : rules.Value) (xs zs : List Value) →
+    Changed (Err f) (updated WIDTH_LIMIT holds ss y) i xs zs → Stores (Err (stop_of f)) (stored_in holds span i ss y (map value_of xs)) xs zs
+changed_failed f holds span i ss y xs zs t =
+    subst (λ (l : List Value). Stores (Err (stop_of f)) (stored_in holds span i ss y (map value_of xs)) xs l) (sym t.now_is)
+    (stores_failed f holds span i ss y xs t.old t.new (slice_get_within xs i t.old t.was) (sym (get_or_from_slice_get xs i t.old t.old t.was)) t.changes)
+
+pub changed_length : (r : Result (Unit {0}) Failure) (f : rules.Value → Pure rules.Value) (i : ℕ) (xs zs : List Value) → Changed r f i xs zs →
+    length zs ≡ length xs
+changed_length r f i xs zs t = ap length t.now_is ∙ length-set xs i t.new
+
+-- a value that takes nothing of the one that it replaces
+pub set_good : (holds : Bool) (span : Span) (i : ℕ) (y : Value) (xs : List Value) → i < length xs →
+    ((x : rules.Value) → adopted x (value_of y) ≡ value_of y) → stored_in holds span i [] (value_of y) (map value_of xs) ≡ Good (map value_of (slice_set xs i y))
+set_good holds span i y xs h free =
+    stored_good holds span i [] (value_of y) xs (get_or xs i y) y h (get_or_default xs i y (get_or xs i y) h)
+    (ap Good (takes_nothing holds (value_of (get_or xs i y)) (value_of y) (free (value_of (get_or xs i y)))))
 
 -- ---- in places
 

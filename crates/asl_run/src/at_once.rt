@@ -2,7 +2,7 @@
 //! storage and operators on these, a few levels deep, and assignments of these to names. Nothing is built on the way. Where an
 //! expression is none of these, where it has no value, or where a step or a level is wanting, nothing is done: then its node
 //! is entered as any other.
-ghost use Rattle.std.specs.Prelude.{◌≡◌, ◌∷◌, [], List, Some};
+ghost use Rattle.std.specs.Prelude.{◌≡◌, ◌∷◌, [], List, Some, length};
 ghost use Rattle.asl_bits.specs.declared.TheConstants.{WIDTH_LIMIT};
 ghost use Rattle.asl_syn.specs.declared.token.Span.{Span as At};
 ghost use Rattle.asl_rules.specs.runs.Forms as forms;
@@ -21,10 +21,11 @@ ghost use Rattle.asl_tree.specs.declared.act.TreeFunc.{TreeFunc};
 ghost use Rattle.asl_value.specs.private.Numbers.{answer_of};
 ghost use Rattle.asl_value.specs.View.{value_of};
 ghost use Rattle.asl_branches.specs.Meets.{SameBut, SameRound};
-ghost use Rattle.asl_branches.specs.View.{core_of, program_of};
+ghost use Rattle.asl_branches.specs.View.{core_of, height_of, program_of};
 ghost use Rattle.asl_run.specs.private.AtOnce.{Did, decided_as, decision, element_in, Ends, Executed, Finds, Gives, Puts, Sets, found};
 
 use crate::places::value_at;
+use asl_branches::frames::Frames;
 use asl_branches::run::Run;
 use asl_num as num;
 use asl_num::NumFault;
@@ -34,7 +35,6 @@ use asl_syn::tree::{BinaryOperator, UnaryOperator};
 use asl_tree::act::{Act, Simple, TreePlace};
 use asl_tree::tree::Tree;
 use asl_value::{Kind, Value, element_of};
-use std::mem;
 
 /// What was found at once: a value, or neither.
 #[derive(Clone, Copy)]
@@ -411,17 +411,32 @@ pub fn evaluated(run: &Run, left: &mut u64, depth: u32, e: &Tree) -> AtOnce
 
 // ---- assignments
 
-/// One of the values becomes another, which takes nothing of it; whether there is that one.
-fn put_in(values: &mut Vec<Value>, at: usize, value: Value) -> bool
+/// One of the values of the frame becomes another, which takes nothing of it; whether there is that one.
+fn put_local(frames: &mut Frames, at: usize, value: Value) -> bool
     requires { (x : Seen) → adopted x (value_of value) ≡ value_of value }
-    ensures { Sets result at (value_of value) values.old values.new }
+    ensures sets { Sets result at (value_of value) frames.old.values frames.new.values }
+    ensures as_many { length frames.new.values ≡ length frames.old.values }
+    ensures same { frames.new ≡ record frames.old { values = frames.new.values } }
 {
-    if at >= values.len() {
+    if at >= frames.height() {
         drop(value);
         return false;
     }
-    let old = mem::replace(&mut values[at], value);
-    drop(old);
+    frames.set(at, value);
+    true
+}
+
+/// One of the globals becomes another, which takes nothing of it; whether there is that one.
+fn put_global(frames: &mut Frames, at: usize, value: Value) -> bool
+    requires { (x : Seen) → adopted x (value_of value) ≡ value_of value }
+    ensures sets { Sets result at (value_of value) frames.old.globals frames.new.globals }
+    ensures same { frames.new ≡ record frames.old { globals = frames.new.globals } }
+{
+    if at >= frames.globals() {
+        drop(value);
+        return false;
+    }
+    frames.set_global(at, value);
     true
 }
 
@@ -430,10 +445,11 @@ fn put_at(run: &mut Run, slot: Slot, value: Value) -> bool
     requires { (x : Seen) → adopted x (value_of value) ≡ value_of value }
     ensures puts { Puts result (Some (value_of value)) slot run.old run.new }
     ensures same { SameBut run.old run.new }
+    ensures height { height_of run.new ≡ height_of run.old }
 {
     match slot {
-        Slot::Local(i) => put_in(&mut run.frame, i, value),
-        Slot::Global(i) => put_in(&mut run.globals, i, value),
+        Slot::Local(i) => put_local(&mut run.frames, i, value),
+        Slot::Global(i) => put_global(&mut run.frames, i, value),
     }
 }
 
@@ -441,6 +457,7 @@ fn put_at(run: &mut Run, slot: Slot, value: Value) -> bool
 fn put(run: &mut Run, slot: Slot, it: AtOnce) -> bool
     ensures puts { Puts result (found it) slot run.old run.new }
     ensures same { SameBut run.old run.new }
+    ensures height { height_of run.new ≡ height_of run.old }
 {
     match it {
         AtOnce::Integer(z) => put_at(run, slot, Value::Int(z)),
@@ -453,6 +470,7 @@ fn put(run: &mut Run, slot: Slot, it: AtOnce) -> bool
 fn assign(run: &mut Run, steps: u64, depth: u32, target: &TreePlace, e: &Tree) -> bool
     ensures meets { (fs : List TreeFunc) → Executed result fs depth (assignment (tree_of e.now) (stores WIDTH_LIMIT (holds_bits (tree_type (tree_of e.now))) (place_of target.now ∷ []))) run.old steps run.new }
     ensures keeps { SameRound run.old run.new }
+    ensures height { height_of run.new ≡ height_of run.old }
 {
     if !target.way.is_empty() {
         return false;
@@ -474,6 +492,7 @@ fn assign(run: &mut Run, steps: u64, depth: u32, target: &TreePlace, e: &Tree) -
 fn assign_one(run: &mut Run, steps: u64, depth: u32, targets: &[TreePlace], e: &Tree) -> bool
     ensures meets { (fs : List TreeFunc) → Executed result fs depth (assignment (tree_of e.now) (stores WIDTH_LIMIT (holds_bits (tree_type (tree_of e.now))) (all_places targets.now))) run.old steps run.new }
     ensures keeps { SameRound run.old run.new }
+    ensures height { height_of run.new ≡ height_of run.old }
 {
     if targets.len() == 1 {
         assign(run, steps, depth, &targets[0], e)
@@ -486,6 +505,7 @@ fn assign_one(run: &mut Run, steps: u64, depth: u32, targets: &[TreePlace], e: &
 fn simple(run: &mut Run, steps: u64, depth: u32, s: &Simple) -> bool
     ensures meets { (fs : List TreeFunc) → Executed result fs depth (act_node (program_of fs) (simple_of s.now)) run.old steps run.new }
     ensures keeps { SameRound run.old run.new }
+    ensures height { height_of run.new ≡ height_of run.old }
 {
     match s {
         Simple::Assign(_, targets, e) => assign_one(run, steps, depth, targets.as_slice(), e),
@@ -498,6 +518,7 @@ fn simple(run: &mut Run, steps: u64, depth: u32, s: &Simple) -> bool
 pub fn executed(run: &mut Run, depth: u32, s: &Act) -> bool
     ensures meets { (fs : List TreeFunc) → Did result fs depth s.now run.old run.new }
     ensures keeps { SameRound run.old run.new }
+    ensures height { height_of run.new ≡ height_of run.old }
 {
     let steps = run.steps;
     if steps == 0 || depth == 0 {

@@ -1,19 +1,19 @@
 //! Calls of subprograms.
-ghost use Rattle.std.specs.Prelude.{◌≡◌, map, option_map, slice_get, Some, IfOk, OnOk};
+ghost use Rattle.std.specs.Prelude.{◌≡◌, ◌+◌, ◌<◌, ◌≤◌, length, map, option_map, slice_get, Some, IfOk, OnOk};
 ghost use Rattle.asl_rules.specs.runs.Forms as forms;
 ghost use Rattle.asl_rules.specs.private.TypedMeaning as rules;
 ghost use Rattle.asl_rules.specs.private.TypedMeaning.{list_of};
 ghost use Rattle.asl_tree.specs.Funcs.{all_funcs, func_of};
 ghost use Rattle.asl_tree.specs.View.{all_trees};
 ghost use Rattle.asl_value.specs.View.{value_of};
-ghost use Rattle.asl_branches.specs.Meets.{at, Is, Ran};
-ghost use Rattle.asl_branches.specs.View.{exit_of};
-ghost use Rattle.asl_run.specs.private.Calling.{body_of, call_given, ended, frame_called, frame_given, in_own_frame, Enters, Leaves};
+ghost use Rattle.asl_branches.specs.Meets.{at, Is, Ran, SameBut};
+ghost use Rattle.asl_branches.specs.View.{exit_of, room_of};
+ghost use Rattle.asl_run.specs.private.Calling.{body_of, call_given, ended, Bound, BoundFormals, Enters, EntersWith, Leaves, RanBody};
 
 use asl_allowed::activations::has_room;
 use asl_branches::below::Nodes;
-use asl_branches::lists::eval_all;
-use asl_branches::run::{Caller, Run};
+use asl_branches::lists::{eval_all, push};
+use asl_branches::run::Run;
 use asl_branches::stop::{Exit, Mistake, Stop};
 use asl_io::Sink;
 use asl_shape::{params_of, routine};
@@ -60,45 +60,6 @@ fn listed(alloc: Global, values: &[Value]) -> Result<Vec<Value>, AllocError>
     Ok(list)
 }
 
-/// The first places of a frame, with the parameters of the call: those in braces, or else the widths of arguments.
-fn frame_for(
-    alloc: Global,
-    span: Span,
-    widths: &[usize],
-    formals: &[Ty],
-    given: Given,
-) -> Result<Vec<Value>, Stop>
-    ensures { Is (λ frame. map value_of frame.items) result
-        (frame_called span widths.now formals.now (map value_of given.params) (map value_of given.args)) }
-{
-    let params = listed(alloc, given.params.as_slice())?;
-    let params = params_of(alloc, span, widths, params, given.args.as_slice())?;
-    frame_of(alloc, span, formals, params, given.args.as_slice())
-}
-
-/// Parameters, and behind them the formals, each with the bitfields of its type: the first places of a frame.
-pub(crate) fn frame_of(
-    alloc: Global,
-    span: Span,
-    formals: &[Ty],
-    params: Vec<Value>,
-    args: &[Value],
-) -> Result<Vec<Value>, Stop>
-    ensures { Is (λ frame. map value_of frame.items) result
-        (frame_given span formals.now (map value_of params.items) (map value_of args.now)) }
-{
-    if formals.len() != args.len() {
-        return Err(Stop::Stuck(Mistake::WrongKind, span));
-    }
-    let mut frame = params;
-    let mut i = 0;
-    while i < formals.len() {
-        frame.push(see(alloc, &formals[i], &args[i])?)?;
-        i += 1;
-    }
-    Ok(frame)
-}
-
 /// What a body gives: in a function a value, as the type of the result keeps it, and none in a procedure.
 fn body_gives(alloc: Global, func: &TreeFunc, exit: Exit) -> Result<Option<Value>, Stop>
     ensures { Is (option_map value_of) result
@@ -132,30 +93,71 @@ fn returned(
 
 // ---- frames
 
-/// Enters the frame of a callee.
-fn enter(alloc: Global, run: &mut Run, id: usize, frame: Vec<Value>) -> Result<(), AllocError>
-    ensures enters { OnOk result (Enters run.old run.new id (map value_of frame.items)) }
+/// How many slots the frame of a callee has: those of its parameters and formals, and those of its body.
+fn slots_for(params: usize, formals: usize, body: u32) -> Result<u32, AllocError>
+    ensures { IfOk result (λ slots. slots ≡ params + formals + body) }
+{
+    match params.checked_add(formals) {
+        None => Err(AllocError),
+        Some(places) => match u32::try_from(places) {
+            Err(_) => Err(AllocError),
+            Ok(places) => match places.checked_add(body) {
+                None => Err(AllocError),
+                Some(slots) => Ok(slots),
+            },
+        },
+    }
+}
+
+/// Enters the frame of a callee, of so many slots.
+fn enter(alloc: Global, run: &mut Run, id: usize, slots: u32) -> Result<(), AllocError>
+    ensures enters { OnOk result (Enters run.old run.new id slots) }
     ensures steps { run.new.steps ≡ run.old.steps }
     ensures text_open { run.new.text_open ≡ run.old.text_open }
 {
-    let caller = Caller {
-        values: mem::replace(&mut run.frame, frame),
-        handled: mem::replace(&mut run.handled, Vec::new(alloc)),
-    };
-    run.callers.push(caller)?;
     run.live.push(id)?;
+    let handled = mem::replace(&mut run.handled, Vec::new(alloc));
+    run.frames.enter(slots, handled)?;
     Ok(())
 }
 
 /// Leaves the frame of a callee.
 fn leave(run: &mut Run)
+    requires { 0 < length run.old.frames.callers }
     ensures { Leaves run.old run.new }
 {
-    if let Some(caller) = run.callers.pop() {
-        run.frame = caller.values;
-        run.handled = caller.handled;
-    }
+    run.handled = run.frames.leave();
     let _id = run.live.pop();
+}
+
+/// The next places of the frame take the parameters.
+fn bind_params(run: &mut Run, params: Vec<Value>)
+    requires room { length params.items ≤ room_of run.old }
+    ensures bound { Bound (map value_of params.items) run.old run.new }
+{
+    for x in params {
+        push(run, x);
+    }
+}
+
+/// The next places of the frame take the formals, each with the bitfields of its type, of as many.
+fn bind_formals(
+    alloc: Global,
+    run: &mut Run,
+    formals: &[Ty],
+    args: &[Value],
+) -> Result<(), AllocError>
+    requires as_many { length formals.now ≡ length args.now }
+    requires room { length formals.now ≤ room_of run.old }
+    ensures bound { OnOk result (BoundFormals formals.now (map value_of args.now) run.old run.new) }
+    ensures same { SameBut run.old run.new }
+{
+    let mut i = 0;
+    while i < formals.len() {
+        push(run, see(alloc, &formals[i], &args[i])?);
+        i += 1;
+    }
+    Ok(())
 }
 
 // ---- calls
@@ -279,7 +281,6 @@ fn call_own<K: Sink, N: Nodes<K>>(
 }
 
 /// D11 where it is as often active as it may be.
-#[tactic(auto, using(crate::proofs::Frames::called_frame))]
 fn call_limited<K: Sink, N: Nodes<K>>(
     here: &N,
     run: &mut Run,
@@ -297,27 +298,68 @@ fn call_limited<K: Sink, N: Nodes<K>>(
     if !has_room(called.id, run.live.as_slice(), called.func.limit) {
         return Err(Stop::Fault(DynCode::D11, called.span));
     }
-    let formals = called.func.formals.as_slice();
-    let frame = frame_for(here.setting().alloc, called.span, widths, formals, given)?;
-    run_body(here, run, sink, called.id, called.func, frame)
+    let alloc = here.setting().alloc;
+    let params = listed(alloc, given.params.as_slice())?;
+    let args = given.args.as_slice();
+    let params = params_of(alloc, called.span, widths, params, args)?;
+    run_func(here, run, sink, called, params, args)
 }
 
-/// Runs the body of a subprogram in a frame of its own.
-#[tactic(auto, using(crate::proofs::Frames::entered_core))]
-pub(crate) fn run_body<K: Sink, N: Nodes<K>>(
+/// Runs a subprogram with these parameters and arguments, of which there are as many as it has formals.
+pub(crate) fn run_func<K: Sink, N: Nodes<K>>(
     here: &N,
     run: &mut Run,
     sink: &mut K,
-    id: usize,
-    func: &TreeFunc,
-    frame: Vec<Value>,
+    called: Called,
+    params: Vec<Value>,
+    args: &[Value],
 ) -> Result<Option<Value>, Stop>
     requires ready { N.ready here.now }
     ensures { Ran (option_map value_of) result (N.setting here.now)
-        (in_own_frame id (func_of func.now) (map value_of frame.items))
+        (rules.run_with called.entry.span called.entry.id (func_of called.entry.func.now) (map value_of params.items) (map value_of args.now))
         (at K.Sink run.old sink.old) (at K.Sink run.new sink.new) }
 {
-    enter(here.setting().alloc, run, id, frame)?;
+    let func = called.func;
+    if func.formals.as_slice().len() != args.len() {
+        return Err(Stop::Stuck(Mistake::WrongKind, called.span));
+    }
+    enter_with(here.setting().alloc, run, called, params, args)?;
+    run_body(here, run, sink, func)
+}
+
+/// Enters the frame of a subprogram, with its parameters and its formals in the first places.
+fn enter_with(
+    alloc: Global,
+    run: &mut Run,
+    called: Called,
+    params: Vec<Value>,
+    args: &[Value],
+) -> Result<(), AllocError>
+    requires as_many { length called.func.now.formals ≡ length args.now }
+    ensures enters { OnOk result (EntersWith called.entry.id called.entry.func.now (map value_of params.items) (map value_of args.now) run.old run.new) }
+    ensures steps { run.new.steps ≡ run.old.steps }
+    ensures text_open { run.new.text_open ≡ run.old.text_open }
+{
+    let formals = called.func.formals.as_slice();
+    let slots = slots_for(params.len(), formals.len(), called.func.body.slots())?;
+    enter(alloc, run, called.id, slots)?;
+    bind_params(run, params);
+    bind_formals(alloc, run, formals, args)
+}
+
+/// Runs the body of a subprogram in its frame, which was entered, and leaves it.
+fn run_body<K: Sink, N: Nodes<K>>(
+    here: &N,
+    run: &mut Run,
+    sink: &mut K,
+    func: &TreeFunc,
+) -> Result<Option<Value>, Stop>
+    requires ready { N.ready here.now }
+    requires entered { 0 < length run.old.frames.callers }
+    requires room { func.now.body.slots ≤ room_of run.old }
+    ensures { RanBody result (N.setting here.now) func.now
+        (at K.Sink run.old sink.old) (at K.Sink run.new sink.new) }
+{
     match here.exec_all(run, sink, func.body.list()) {
         Ok(exit) => {
             let given = body_gives(here.setting().alloc, func, exit)?;

@@ -1,16 +1,18 @@
 //! What is done with the value of one expression, and what a variable begins with.
-ghost use Rattle.std.specs.Prelude.{◌≡◌, ◌∷◌, Bool, List, length, map, replicate, IfOk, OnOk};
+ghost use Rattle.std.specs.Prelude.{◌≡◌, ◌+◌, ◌≤◌, ◌∷◌, [], Bool, List, Some, length, map, replicate, IfOk, OnOk};
 ghost use Rattle.asl_rules.specs.private.ByPlace.{seen_where as rule_seen};
 ghost use Rattle.asl_rules.specs.runs.Plans.{Good, lift};
 ghost use Rattle.asl_rules.specs.runs.StatementForms as forms;
 ghost use Rattle.asl_rules.specs.private.TypedMeaning as rules;
 ghost use Rattle.asl_rules.specs.values.Values as values;
+ghost use Rattle.asl_tree.specs.Acts.{taken_of};
+ghost use Rattle.asl_tree.specs.private.Room.{names_taken, parts_taken};
 ghost use Rattle.asl_value.specs.View.{value_of};
 ghost use Rattle.asl_branches.specs.declared.run.Run.{Run};
-ghost use Rattle.asl_branches.specs.Meets.{Acts, Keeps, NoneRefused, SameBut};
-ghost use Rattle.asl_branches.specs.View.{core_of};
+ghost use Rattle.asl_branches.specs.Meets.{Acts, Grows, Keeps, NoneRefused, SameBut};
+ghost use Rattle.asl_branches.specs.View.{core_of, height_of, room_of};
 ghost use Rattle.asl_run.specs.declared.finishes.After.TheVariants as done;
-ghost use Rattle.asl_run.specs.private.Finishes.{finished, begun, parts_pushed, tuple_pushed};
+ghost use Rattle.asl_run.specs.private.Finishes.{finished, begun, named_after, parts_pushed, tuple_pushed};
 ghost use Rattle.asl_syn.specs.declared.token.Span.{Span};
 
 use asl_branches::lists::push;
@@ -50,9 +52,11 @@ pub struct First<'r> {
 
 /// Does what is done with a value.
 pub fn finish(alloc: Global, run: &mut Run, after: After, x: Value) -> Result<Exit, Stop>
+    requires room { named_after after ≤ room_of run.old }
     ensures acts { Acts result (finished after.entry (value_of x)) run.old run.new }
     ensures none_refused { NoneRefused result }
     ensures keeps { Keeps result run.old run.new }
+    ensures grows { Grows (Some (named_after after.entry)) result run.old run.new }
 {
     match after {
         After::Assert(span) => holds(span, x),
@@ -95,15 +99,17 @@ fn declare(
     taken: &Taken,
     x: Value,
 ) -> Result<Exit, Stop>
+    requires room { names_taken (taken_of taken.now) ≤ room_of run.old }
     ensures acts { Acts result (finished (done.Declare span ty.entry taken.entry) (value_of x)) run.old run.new }
     ensures none_refused { NoneRefused result }
     ensures keeps { Keeps result run.old run.new }
+    ensures grows { Grows (Some (names_taken (taken_of taken.now))) result run.old run.new }
 {
     let x = Held::new(seen_where(alloc, ty, x)?);
     match taken {
         Taken::Nothing => Ok(Exit::Normal),
         Taken::Whole => {
-            push(run, x.into_inner())?;
+            push(run, x.into_inner());
             Ok(Exit::Normal)
         }
         Taken::InParts(names) => declare_tuple(run, span, names.as_slice(), x.get()),
@@ -125,11 +131,13 @@ fn seen_where(alloc: Global, ty: &Option<Ty>, x: Value) -> Result<Value, AllocEr
 
 /// Declares the parts of a tuple that have a name, where there are as many.
 fn declare_tuple(run: &mut Run, span: Span, named: &[bool], x: &Value) -> Result<Exit, Stop>
+    requires room { parts_taken named.now ≤ room_of run.old }
     ensures acts { Acts result
         (λ c. lift (tuple_pushed span named.now (value_of x.now) c) c forms.done_normal)
         run.old run.new }
     ensures none_refused { NoneRefused result }
     ensures keeps { Keeps result run.old run.new }
+    ensures grows { Grows (Some (parts_taken named.now)) result run.old run.new }
 {
     match x {
         Value::Tuple(parts) => declare_parts(run, span, named, parts.get().as_slice()),
@@ -139,11 +147,13 @@ fn declare_tuple(run: &mut Run, span: Span, named: &[bool], x: &Value) -> Result
 
 /// Declares the parts that have a name, where there are as many.
 fn declare_parts(run: &mut Run, span: Span, named: &[bool], parts: &[Value]) -> Result<Exit, Stop>
+    requires room { parts_taken named.now ≤ room_of run.old }
     ensures acts { Acts result
         (λ c. lift (parts_pushed span named.now (map value_of parts.now) c) c forms.done_normal)
         run.old run.new }
     ensures none_refused { NoneRefused result }
     ensures keeps { Keeps result run.old run.new }
+    ensures grows { Grows (Some (parts_taken named.now)) result run.old run.new }
 {
     if named.len() != parts.len() {
         return Err(Stop::Stuck(Mistake::WrongKind, span));
@@ -155,11 +165,13 @@ fn declare_parts(run: &mut Run, span: Span, named: &[bool], parts: &[Value]) -> 
 /// The parts that have a name, of as many, each in the next place.
 #[tactic(auto, using(crate::proofs::Taking::parts_ended))]
 fn push_named(run: &mut Run, named: &[bool], parts: &[Value]) -> Result<(), AllocError>
-    requires { length named.now ≡ length parts.now }
+    requires as_many { length named.now ≡ length parts.now }
+    requires room { parts_taken named.now ≤ room_of run.old }
     ensures ok { OnOk result ((span : Span)
         → parts_pushed span named.now (map value_of parts.now) (core_of run.old)
         ≡ Good (core_of run.new)) }
     ensures round { SameBut run.old run.new }
+    ensures height { OnOk result (height_of run.new ≡ parts_taken named.now + height_of run.old) }
 {
     let mut i = 0;
     while i < parts.len() {
@@ -172,13 +184,15 @@ fn push_named(run: &mut Run, named: &[bool], parts: &[Value]) -> Result<(), Allo
 /// A part takes the next place, where it has a name.
 #[tactic(auto, using(crate::proofs::Taking::part_then))]
 fn push_part(run: &mut Run, is_named: bool, part: &Value) -> Result<(), AllocError>
+    requires room { parts_taken (is_named ∷ []) ≤ room_of run.old }
     ensures ok { OnOk result ((span : Span) (others : List Bool) (xs : List values.Value)
         → parts_pushed span (is_named ∷ others) (value_of part.now ∷ xs) (core_of run.old)
         ≡ parts_pushed span others xs (core_of run.new)) }
     ensures round { SameBut run.old run.new }
+    ensures height { OnOk result (height_of run.new ≡ parts_taken (is_named ∷ []) + height_of run.old) }
 {
     if is_named {
-        push(run, copy(part)?)?;
+        push(run, copy(part)?);
         Ok(())
     } else {
         Ok(())
@@ -187,9 +201,11 @@ fn push_part(run: &mut Run, is_named: bool, part: &Value) -> Result<(), AllocErr
 
 /// Declares so many places with the first value of a type.
 pub fn begin(alloc: Global, run: &mut Run, first: First, sizes: &[Value]) -> Result<Exit, Stop>
+    requires room { first.count ≤ room_of run.old }
     ensures acts { Acts result (begun first.entry (map value_of sizes.now)) run.old run.new }
     ensures none_refused { NoneRefused result }
     ensures keeps { Keeps result run.old run.new }
+    ensures grows { Grows (Some first.entry.count) result run.old run.new }
 {
     let x = Held::new(first_of(alloc, first.span, first.whole, first.shape, sizes)?);
     push_times(run, first.count, x.get())?;
@@ -199,13 +215,15 @@ pub fn begin(alloc: Global, run: &mut Run, first: First, sizes: &[Value]) -> Res
 /// So many places take a copy of this value.
 #[tactic(auto, using(crate::proofs::Slots::one_more, crate::proofs::Slots::none_more))]
 fn push_times(run: &mut Run, count: usize, value: &Value) -> Result<(), AllocError>
+    requires room { count ≤ room_of run.old }
     ensures ok { OnOk result
         (core_of run.new ≡ rules.with_next (replicate count (value_of value.now)) (core_of run.old)) }
     ensures round { SameBut run.old run.new }
+    ensures height { OnOk result (height_of run.new ≡ count + height_of run.old) }
 {
     let mut left = count;
     while left > 0 {
-        push(run, copy(value)?)?;
+        push(run, copy(value)?);
         left -= 1;
     }
     Ok(())

@@ -1,10 +1,12 @@
 //! The entry into a node: it takes a step, and is refused where none is left (D13) or where no node more may be open (D12).
 //! What is evaluated or executed at once isn't entered so.
+ghost use Rattle.std.specs.Prelude.{None};
 ghost use Rattle.asl_rules.specs.runs.StatementForms as forms;
 ghost use Rattle.asl_rules.specs.private.TypedMeaning.{acts_of};
-ghost use Rattle.asl_tree.specs.Acts.{all_acts};
-ghost use Rattle.asl_branches.specs.Meets.{Evaluates, Executes, Ran, at};
-ghost use Rattle.asl_branches.specs.View.{exit_of};
+ghost use Rattle.asl_tree.specs.Acts.{act_of, all_acts};
+ghost use Rattle.asl_tree.specs.private.Room.{FitsAct, FitsList};
+ghost use Rattle.asl_branches.specs.Meets.{Evaluates, Executes, RanBy, at};
+ghost use Rattle.asl_branches.specs.View.{exit_of, room_of};
 
 use crate::at_once::{AtOnce, evaluated, executed};
 use crate::exprs::eval_node;
@@ -71,6 +73,7 @@ fn enter_expr<K: Sink>(here: Setting, run: &mut Run, sink: &mut K, e: &Tree) -> 
 /// Executes a statement.
 #[cycle(run)]
 pub fn exec<K: Sink>(here: Setting, run: &mut Run, sink: &mut K, s: &Act) -> Result<Exit, Stop>
+    requires room { FitsAct (room_of run.old) (act_of s.now) }
     ensures { Executes result here.entry s.now (at K.Sink run.old sink.old) (at K.Sink run.new sink.new) }
 {
     if executed(run, here.depth, s) {
@@ -84,6 +87,7 @@ pub fn exec<K: Sink>(here: Setting, run: &mut Run, sink: &mut K, s: &Act) -> Res
 #[cycle(run)]
 #[tactic(auto, using(crate::proofs::Entries::stmt_stepless, crate::proofs::Entries::stmt_deep, crate::proofs::Entries::stmt_entered))]
 fn enter_stmt<K: Sink>(here: Setting, run: &mut Run, sink: &mut K, s: &Act) -> Result<Exit, Stop>
+    requires room { FitsAct (room_of run.old) (act_of s.now) }
     ensures { Executes result here.entry s.now (at K.Sink run.old sink.old) (at K.Sink run.new sink.new) }
 {
     if run.steps == 0 {
@@ -117,7 +121,8 @@ pub fn exec_all<K: Sink>(
     sink: &mut K,
     list: &Items<Act>,
 ) -> Result<Exit, Stop>
-    ensures { Ran exit_of result here.entry (forms.in_order (acts_of (all_acts list.now)))
+    requires room { FitsList (room_of run.old) (all_acts list.now) }
+    ensures { RanBy None exit_of result here.entry (forms.in_order (acts_of (all_acts list.now)))
         (at K.Sink run.old sink.old) (at K.Sink run.new sink.new) }
 {
     for s in list.as_slice() {

@@ -17,7 +17,8 @@ mod outside;
 mod places;
 mod stmts;
 
-pub use asl_branches::run::{Caller, Run};
+pub use asl_branches::frames::Frames;
+pub use asl_branches::run::Run;
 pub use asl_branches::setting::Setting;
 pub use asl_branches::stop::{Exit, Mistake, Stop};
 pub use knot::{eval, exec, exec_all};

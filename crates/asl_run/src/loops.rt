@@ -6,10 +6,11 @@ ghost use Rattle.asl_rules.specs.runs.StatementForms as forms;
 ghost use Rattle.asl_rules.specs.private.TypedMeaning.{acts_of, in_bare, indexed};
 ghost use Rattle.asl_rules.specs.values.Values.{int};
 ghost use Rattle.asl_tree.specs.Acts.{all_acts, maybe_tree};
+ghost use Rattle.asl_tree.specs.private.Room.{FitsList};
 ghost use Rattle.asl_tree.specs.View.{tree_of};
 ghost use Rattle.asl_value.specs.View.{value_of};
 ghost use Rattle.asl_branches.specs.Meets.{at, Is, Ran};
-ghost use Rattle.asl_branches.specs.View.{exit_of};
+ghost use Rattle.asl_branches.specs.View.{exit_of, room_of, FitsNamed};
 ghost use Rattle.asl_run.specs.private.Looping.{between, limit_asked, turn_until};
 
 use asl_branches::below::Nodes;
@@ -116,6 +117,7 @@ pub fn exec_for<K: Sink, N: Nodes<K>>(
     body: &Items<Act>,
 ) -> Result<Exit, Stop>
     requires ready { N.ready here.now }
+    requires room { FitsNamed true (room_of run.old) (all_acts body.now) }
     ensures { Ran exit_of result (N.setting here.now)
         (forms.for_loop in_bare indexed span (tree_of it.now.from) it.now.direction (tree_of it.now.to) (maybe_tree it.now.limit) (acts_of (all_acts body.now)))
         (at K.Sink run.old sink.old) (at K.Sink run.new sink.new) }
@@ -142,6 +144,7 @@ fn for_bounds<K: Sink, N: Nodes<K>>(
     body: &Items<Act>,
 ) -> Result<Exit, Stop>
     requires ready { N.ready here.now }
+    requires room { FitsNamed true (room_of run.old) (all_acts body.now) }
     ensures { Ran exit_of result (N.setting here.now)
         (between it.entry.span it.entry.direction (value_of it.entry.first.now) (value_of it.entry.last.now) (acts_of (all_acts body.now)) it.entry.count)
         (at K.Sink run.old sink.old) (at K.Sink run.new sink.new) }
@@ -198,6 +201,7 @@ fn for_indices<K: Sink, N: Nodes<K>>(
     body: &Items<Act>,
 ) -> Result<Exit, Stop>
     requires ready { N.ready here.now }
+    requires room { FitsNamed true (room_of run.old) (all_acts body.now) }
     requires within { forms.is_past it.direction it.last it.first ≡ false }
     ensures { Ran exit_of result (N.setting here.now)
         (forms.index_turn in_bare indexed it.span it.direction it.last (acts_of (all_acts body.now)) it.count it.first)
@@ -223,6 +227,7 @@ fn for_turns<K: Sink, N: Nodes<K>>(
     body: &Items<Act>,
 ) -> Result<Exit, Stop>
     requires ready { N.ready here.now }
+    requires room { FitsNamed true (room_of run.old) (all_acts body.now) }
     requires within { forms.is_past it.direction it.last it.first ≡ false }
     ensures { Ran exit_of result (N.setting here.now)
         (forms.index_turn in_bare indexed it.span it.direction it.last (acts_of (all_acts body.now)) it.count it.first)
@@ -253,6 +258,7 @@ fn exec_turn<K: Sink, N: Nodes<K>>(
     body: &Items<Act>,
 ) -> Result<Exit, Stop>
     requires ready { N.ready here.now }
+    requires room { FitsNamed true (room_of run.old) (all_acts body.now) }
     ensures { Ran exit_of result (N.setting here.now)
         (forms.scope_with in_bare (indexed (int i)) (acts_of (all_acts body.now)))
         (at K.Sink run.old sink.old) (at K.Sink run.new sink.new) }
@@ -272,6 +278,7 @@ pub fn exec_while<K: Sink, N: Nodes<K>>(
     body: &Items<Act>,
 ) -> Result<Exit, Stop>
     requires ready { N.ready here.now }
+    requires room { FitsList (room_of run.old) (all_acts body.now) }
     ensures { Ran exit_of result (N.setting here.now)
         (forms.while_loop in_bare span (tree_of it.now.condition) (maybe_tree it.now.limit) (acts_of (all_acts body.now)))
         (at K.Sink run.old sink.old) (at K.Sink run.new sink.new) }
@@ -295,6 +302,7 @@ fn while_turns<K: Sink, N: Nodes<K>>(
     body: &Items<Act>,
 ) -> Result<Exit, Stop>
     requires ready { N.ready here.now }
+    requires room { FitsList (room_of run.old) (all_acts body.now) }
     ensures { Ran exit_of result (N.setting here.now)
         (λ c. forms.asked it.span (tree_of condition.now) c
         (turn_until it.until it.span (tree_of condition.now) (acts_of (all_acts body.now)) it.count) forms.done_normal)
@@ -320,6 +328,7 @@ pub fn exec_repeat<K: Sink, N: Nodes<K>>(
     body: &Items<Act>,
 ) -> Result<Exit, Stop>
     requires ready { N.ready here.now }
+    requires room { FitsList (room_of run.old) (all_acts body.now) }
     ensures { Ran exit_of result (N.setting here.now)
         (forms.repeat_loop in_bare span (acts_of (all_acts body.now)) (tree_of it.now.condition) (maybe_tree it.now.limit))
         (at K.Sink run.old sink.old) (at K.Sink run.new sink.new) }
@@ -346,6 +355,7 @@ fn exec_turns<K: Sink, N: Nodes<K>>(
     body: &Items<Act>,
 ) -> Result<Exit, Stop>
     requires ready { N.ready here.now }
+    requires room { FitsList (room_of run.old) (all_acts body.now) }
     ensures { Ran exit_of result (N.setting here.now)
         (turn_until it.until it.span (tree_of condition.now) (acts_of (all_acts body.now)) it.count)
         (at K.Sink run.old sink.old) (at K.Sink run.new sink.new) }

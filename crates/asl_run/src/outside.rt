@@ -7,7 +7,7 @@ ghost use Rattle.asl_value.specs.View.{value_of};
 ghost use Rattle.asl_branches.specs.Meets.{Counts, Runs};
 ghost use Rattle.asl_branches.specs.View.{program_of};
 
-use crate::calls::{frame_of, run_body};
+use crate::calls::{Called, run_func};
 use crate::knot::{eval, exec_all};
 use crate::level::Level;
 use asl_branches::run::Run;
@@ -64,7 +64,6 @@ pub fn call<K: Sink>(
     }
 }
 
-#[tactic(auto, using(crate::proofs::Frames::given_frame))]
 fn call_func<K: Sink>(
     here: Setting,
     run: &mut Run,
@@ -79,12 +78,15 @@ fn call_func<K: Sink>(
     ensures counts { Counts result (K.faults sink.old) (K.faults sink.new) }
     ensures same_full { K.full sink.new ≡ K.full sink.old }
 {
-    let formals = func.formals.as_slice();
-    let frame = frame_of(here.alloc, func.span, formals, Vec::new(here.alloc), args)?;
     let below = Level {
         setting: here,
         eval: eval::<K>,
         exec: exec_all::<K>,
     };
-    run_body(&below, run, sink, id, func, frame)
+    let called = Called {
+        span: func.span,
+        id,
+        func,
+    };
+    run_func(&below, run, sink, called, Vec::new(here.alloc), args)
 }

@@ -1,6 +1,6 @@
 //! Statements: each function does what the rules say of a node, or of statements in order. Its answer is `Stuck` exactly
 //! where they give no outcome.
-ghost use Rattle.std.specs.Prelude.{◌≡◌, []};
+ghost use Rattle.std.specs.Prelude.{◌≡◌, ◌≤◌, [], Some};
 ghost use Rattle.asl_rules.specs.runs.Forms.{eval_all as in_turn};
 ghost use Rattle.asl_rules.specs.runs.Plans.{Eval};
 ghost use Rattle.asl_rules.specs.runs.StatementForms as forms;
@@ -9,10 +9,11 @@ ghost use Rattle.asl_rules.specs.private.TypedMeaning as rules;
 ghost use Rattle.asl_rules.specs.private.TypedMeaning.{list_of, acts_of, in_bare, itself};
 ghost use Rattle.asl_tree.specs.Acts.{act_of, simple_of, all_acts, all_branches, all_items};
 ghost use Rattle.asl_tree.specs.View.{tree_of, all_trees};
+ghost use Rattle.asl_tree.specs.private.Room.{FitsAct, FitsBranches, FitsList, declared};
 ghost use Rattle.asl_tree.specs.declared.act.Branch.TheVariants.{Elsif};
-ghost use Rattle.asl_branches.specs.Meets.{at, Ran};
-ghost use Rattle.asl_branches.specs.View.{exit_of, program_of};
-ghost use Rattle.asl_run.specs.private.Finishes.{finished, begun};
+ghost use Rattle.asl_branches.specs.Meets.{at, Ran, RanBy};
+ghost use Rattle.asl_branches.specs.View.{exit_of, program_of, room_of};
+ghost use Rattle.asl_run.specs.private.Finishes.{finished, begun, named_after};
 
 use crate::assignments::exec_assign;
 use crate::calls::{Call, exec_invoke};
@@ -76,7 +77,8 @@ pub fn exec_node<K: Sink, N: Nodes<K>>(
     s: &Act,
 ) -> Result<Exit, Stop>
     requires ready { N.ready here.now }
-    ensures { Ran exit_of result (N.setting here.now)
+    requires room { FitsAct (room_of run.old) (act_of s.now) }
+    ensures { RanBy (Some (declared (act_of s.now))) exit_of result (N.setting here.now)
         (rules.act_node (program_of (N.setting here.now).funcs.now) (act_of s.now))
         (at K.Sink run.old sink.old) (at K.Sink run.new sink.new) }
 {
@@ -125,7 +127,8 @@ fn exec_simple<K: Sink, N: Nodes<K>>(
     s: &Simple,
 ) -> Result<Exit, Stop>
     requires ready { N.ready here.now }
-    ensures { Ran exit_of result (N.setting here.now)
+    requires room { FitsAct (room_of run.old) (simple_of s.now) }
+    ensures { RanBy (Some (declared (simple_of s.now))) exit_of result (N.setting here.now)
         (rules.act_node (program_of (N.setting here.now).funcs.now) (simple_of s.now))
         (at K.Sink run.old sink.old) (at K.Sink run.new sink.new) }
 {
@@ -178,7 +181,8 @@ fn exec_after<K: Sink, N: Nodes<K>>(
     after: After,
 ) -> Result<Exit, Stop>
     requires ready { N.ready here.now }
-    ensures { Ran exit_of result (N.setting here.now)
+    requires room { named_after after ≤ room_of run.old }
+    ensures { RanBy (Some (named_after after.entry)) exit_of result (N.setting here.now)
         (λ c. Eval (tree_of e.now) c (finished after.entry))
         (at K.Sink run.old sink.old) (at K.Sink run.new sink.new) }
 {
@@ -195,7 +199,8 @@ fn exec_declare_first<K: Sink, N: Nodes<K>>(
     sizes: &[Tree],
 ) -> Result<Exit, Stop>
     requires ready { N.ready here.now }
-    ensures { Ran exit_of result (N.setting here.now)
+    requires room { first.count ≤ room_of run.old }
+    ensures { RanBy (Some first.entry.count) exit_of result (N.setting here.now)
         (λ c. in_turn (list_of (all_trees sizes.now)) [] c (begun first.entry))
         (at K.Sink run.old sink.old) (at K.Sink run.new sink.new) }
 {
@@ -246,6 +251,8 @@ fn exec_branches<K: Sink, N: Nodes<K>>(
     last: &Items<Act>,
 ) -> Result<Exit, Stop>
     requires ready { N.ready here.now }
+    requires others { FitsBranches (room_of run.old) (all_branches others.now) }
+    requires last { FitsList (room_of run.old) (all_acts last.now) }
     ensures { Ran exit_of result (N.setting here.now)
         (forms.branches in_bare itself span (rules.branches_of (all_branches others.now)) (acts_of (all_acts last.now)))
         (at K.Sink run.old sink.old) (at K.Sink run.new sink.new) }

@@ -3,7 +3,7 @@
 use asl_io::MemSink;
 use asl_rules::effect::Effect;
 use asl_rules::slot::Slot;
-use asl_run::{Run, Stop, call};
+use asl_run::{Frames, Run, Stop, call};
 use asl_shape::{FieldGiven, PartShape, PatternShape, Routine, SliceShape, TypeShape};
 use asl_shared::{Held, Shared};
 use asl_syn::code::DynCode;
@@ -380,10 +380,8 @@ fn array(alloc: Global) -> Result<Value, AllocError> {
 /// A state with one global, an array.
 fn state(alloc: Global) -> Result<Run, AllocError> {
     Ok(Run {
-        globals: Vec::from_array(alloc, [array(alloc)?])?,
-        frame: Vec::new(alloc),
+        frames: Frames::new(alloc, Vec::from_array(alloc, [array(alloc)?])?),
         handled: Vec::new(alloc),
-        callers: Vec::new(alloc),
         live: Vec::new(alloc),
         steps: 1_000_000,
         text_open: false,

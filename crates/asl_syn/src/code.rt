@@ -29,7 +29,7 @@ pub enum StaticCode {
     M02,
     /// The 200,001st token of a file.
     M03,
-    /// A word of a word list whose length is not 8.
+    /// A word of a word list whose length is neither 8 nor 4.
     N01,
     /// A byte in a word of a word list that is no digit.
     N02,

@@ -1,5 +1,5 @@
 -- What is evaluated and executed at once.
-use Rattle.std.specs.Prelude.{◌≡◌, ℕ, ℤ, Bool, true, false, List, [], map, Option, Some, None, Vec}
+use Rattle.std.specs.Prelude.{◌≡◌, ℕ, ℤ, Bool, true, false, List, [], map, Option, Some, None}
 use Rattle.asl_bits.specs.declared.TheConstants.{WIDTH_LIMIT}
 use Rattle.asl_syn.specs.declared.token.Span.{Span}
 use Rattle.asl_rules.specs.declared.slot.Slot.{Slot}
@@ -64,9 +64,9 @@ decided_as (Some r) = Already r
 -- ---- stores
 
 -- a value was stored among values, or they are the same
-abbrev pub Sets : {Z : Type 0} → Bool → ℕ → rules.Value → Vec Value Z → Vec Value Z → Type 0
+abbrev pub Sets : Bool → ℕ → rules.Value → List Value → List Value → Type 0
 Sets false i x old new = new ≡ old
-Sets true i x old new = (holds : Bool) (span : Span) → stored_in holds span i [] x (map value_of old.items) ≡ Good (map value_of new.items)
+Sets true i x old new = (holds : Bool) (span : Span) → stored_in holds span i [] x (map value_of old) ≡ Good (map value_of new)
 
 -- what was found was stored in a place, or the state is the same
 abbrev pub Puts : Bool → Option rules.Value → Slot → Run → Run → Type 0

@@ -1,33 +1,27 @@
 -- Calls as parts of a run.
-use Rattle.std.specs.Prelude.{◌≡◌, ℕ, List, [], ◌∷◌, ◌++◌, Option, None, Some, map}
+use Rattle.std.specs.Prelude.{◌≡◌, ℕ, ◌+◌, ◌≤◌, List, [], ◌∷◌, ◌++◌, Option, None, Some, Result, length, option_map}
 use Rattle.asl_syn.specs.declared.token.Span.{Span}
 use Rattle.asl_rules.specs.runs.Forms as forms
 use Rattle.asl_rules.specs.runs.Forms.{Keeps}
-use Rattle.asl_rules.specs.runs.Plans.{Stuck, EndReached, Pure, Good, Bad}
-use Rattle.asl_rules.specs.runs.Pures.{◌>>=◌}
+use Rattle.asl_rules.specs.runs.Plans.{Stuck, EndReached, Pure, Good, Bad, run}
+use Rattle.asl_rules.specs.runs.Cuts.{cuts}
 use Rattle.asl_rules.specs.runs.StatementForms.{in_order}
-use Rattle.asl_rules.specs.runs.Trees as trees
 use Rattle.asl_rules.specs.private.TypedMeaning as rules
 use Rattle.asl_rules.specs.types.Types.{Ty}
 use Rattle.asl_rules.specs.private.TypedMeaning.{BareCore, Runs, list_of, acts_of}
 use Rattle.asl_rules.specs.values.Values.{Value, Exit, Normal, Returned}
+use Rattle.asl_tree.specs.Acts.{all_acts}
 use Rattle.asl_tree.specs.View.{all_trees, callee_of}
 use Rattle.asl_tree.specs.declared.act.TreeFunc.{TreeFunc}
+use Rattle.asl_value.specs.declared.value.Value.{Value as Stored}
 use Rattle.asl_value.specs.View.{value_of}
-use Rattle.asl_branches.specs.declared.run.Caller.{Caller}
+use Rattle.asl_branches.specs.Framed.{Kept}
 use Rattle.asl_branches.specs.declared.run.Run.{Run}
-use Rattle.asl_branches.specs.View.{program_of}
+use Rattle.asl_branches.specs.declared.setting.Setting.{Setting}
+use Rattle.asl_branches.specs.declared.stop.Stop.{Stop}
+use Rattle.asl_branches.specs.Meets.{Answers, At, SameBut}
+use Rattle.asl_branches.specs.View.{core_of, cutting_of, height_of, meaning_of, meter_of, program_of, room_of}
 use Rattle.asl_run.specs.declared.calls.Call.{Call}
-
--- ---- the first places of a frame
-
--- parameters, and behind them the formals
-abbrev pub frame_given : Span → List Ty → List Value → List Value → Pure (List Value)
-frame_given span Ts ps xs = rules.formals_seen span Ts xs >>= λ ys. Good (ps ++ ys)
-
--- with the parameters of the call
-abbrev pub frame_called : Span → List ℕ → List Ty → List Value → List Value → Pure (List Value)
-frame_called span is Ts ps xs = rules.params_of span is ps xs >>= λ qs. frame_given span Ts qs xs
 
 -- ---- bodies
 
@@ -45,26 +39,60 @@ ended span r (Returned o) = forms.returned span r o
 ended span None Normal = Good None
 ended span (Some f) Normal = Bad (Stuck EndReached span)
 
--- a body over these first places of its frame
-abbrev pub in_own_frame : ℕ → trees.TreeFunc → List Value → BareCore → Runs (Option Value)
-in_own_frame id f xs c = forms.in_frame f.span (rules.result_seen f.result) (rules.restored c) (in_order (acts_of f.body) (rules.entered id xs c))
-
 -- ---- frames
 
--- a call enters the frame of the callee
-pub record Enters (s s1 : Run) (id : ℕ) (frame : List Value) : Type 0 where
-  pub callers_are : s1.callers.items ≡ s.callers.items ++ record { values = s.frame; handled = s.handled } ∷ []
-  pub live_are : s1.live.items ≡ s.live.items ++ id ∷ []
-  pub frame_is : map value_of s1.frame.items ≡ frame
-  pub nothing_handled : s1.handled.items ≡ []
-  pub same_globals : s1.globals.items ≡ s.globals.items
+-- the present frame, as it waits for a call
+abbrev pub waiting : Run → Kept
+waiting s = record { values = s.frames.values; slots = s.frames.slots; handled = s.handled.items }
 
--- and leaves it
+-- a call enters a frame of the callee, of so many slots
+pub record Enters (s s1 : Run) (id : ℕ) (slots : ℕ) : Type 0 where
+  pub frames_are : s1.frames ≡ record { globals = s.frames.globals; values = []; slots = slots; callers = s.frames.callers ++ waiting s ∷ [] }
+  pub live_are : s1.live.items ≡ s.live.items ++ id ∷ []
+  pub nothing_handled : s1.handled.items ≡ []
+
+-- the next places of the frame took these values
+pub record Bound (xs : List Value) (s s1 : Run) : Type 0 where
+  pub core_is : core_of s1 ≡ rules.with_next xs (core_of s)
+  pub height_is : height_of s1 ≡ length xs + height_of s
+  pub same : SameBut s s1
+
+-- they took formals, each with the bitfields of its type
+pub record BoundFormals (Ts : List Ty) (xs : List Value) (s s1 : Run) : Type 0 where
+  pub ys : List Value
+  pub seen : (span : Span) → rules.formals_seen span Ts xs ≡ Good ys
+  pub bound : Bound ys s s1
+
+-- the frame of a subprogram was entered, with parameters and formals in its first places and room for the names of its body
+pub record EntersWith (id : ℕ) (f : TreeFunc) (ps xs : List Value) (s s1 : Run) : Type 0 where
+  pub ys : List Value
+  pub seen : (span : Span) → rules.formals_seen span f.formals xs ≡ Good ys
+  pub core_is : core_of s1 ≡ rules.entered id (ps ++ ys) (core_of s)
+  pub callers_are : s1.frames.callers ≡ s.frames.callers ++ waiting s ∷ []
+  pub live_are : s1.live.items ≡ s.live.items ++ id ∷ []
+  pub room : f.body.slots ≤ room_of s1
+
+-- a frame was left: the state is that of a caller before the call, but for the globals
 pub record Leaves (s s1 : Run) : Type 0 where
-  pub frame_is : (callers : List Caller) (caller : Caller) → s.callers.items ≡ callers ++ caller ∷ [] → s1.frame ≡ caller.values
-  pub handled_are : (callers : List Caller) (caller : Caller) → s.callers.items ≡ callers ++ caller ∷ [] → s1.handled ≡ caller.handled
-  pub callers_are : (callers : List Caller) (caller : Caller) → s.callers.items ≡ callers ++ caller ∷ [] → s1.callers.items ≡ callers
+  pub frames_are : s.frames.callers ≡ s1.frames.callers ++ waiting s1 ∷ []
   pub live_are : (ids : List ℕ) (id : ℕ) → s.live.items ≡ ids ++ id ∷ [] → s1.live.items ≡ ids
-  pub same_globals : s1.globals.items ≡ s.globals.items
+  pub same_globals : s1.frames.globals ≡ s.frames.globals
   pub same_steps : s1.steps ≡ s.steps
   pub same_text : s1.text_open ≡ s.text_open
+
+-- a body in its frame, which was entered from a state
+abbrev pub body_in : TreeFunc → BareCore → BareCore → Runs (Option Value)
+body_in f c0 c = forms.in_frame f.span (rules.result_seen f.result) (rules.restored c0) (in_order (acts_of (all_acts f.body.list)) c)
+
+-- it was run, and its frame left: the state is that from which it was entered, but for the globals
+abbrev pub RanFrom : Run → Result (Option Stored) Stop → Setting → TreeFunc → At → At → Type 0
+RanFrom s0 r h f a a1 =
+    Answers (Some 0) (option_map value_of) r
+    (run (meaning_of h.funcs.now h.depth) (body_in f (core_of s0) (core_of a.run)) (meter_of a.run a.told))
+    (cuts (meaning_of h.funcs.now h.depth) (cutting_of h.funcs.now h.depth) (body_in f (core_of s0) (core_of a.run)) (meter_of a.run a.told))
+    (record a { run = s0 }) a1
+
+-- whatever state it was entered from
+abbrev pub RanBody : Result (Option Stored) Stop → Setting → TreeFunc → At → At → Type 0
+RanBody r h f a a1 = (s0 : Run) (id : ℕ) → a.run.frames.callers ≡ s0.frames.callers ++ waiting s0 ∷ [] →
+    a.run.live.items ≡ s0.live.items ++ id ∷ [] → RanFrom s0 r h f a a1

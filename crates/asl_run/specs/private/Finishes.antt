@@ -1,5 +1,5 @@
 -- What is done with the value of one expression, and what a variable begins with.
-use Rattle.std.specs.Prelude.{Bool, List, Some}
+use Rattle.std.specs.Prelude.{ℕ, Bool, List, Some}
 use Rattle.asl_bits.specs.declared.TheConstants.{WIDTH_LIMIT}
 use Rattle.asl_syn.specs.declared.token.Span.{Span}
 use Rattle.asl_rules.specs.values.Operators.{truth}
@@ -12,6 +12,7 @@ use Rattle.asl_rules.specs.values.Values.{Value, Exit, Returned}
 use Rattle.asl_rules.specs.types.Written.{filled}
 use Rattle.asl_shape.specs.View.{type_of}
 use Rattle.asl_tree.specs.Acts.{taken_of}
+use Rattle.asl_tree.specs.private.Room.{names_taken}
 use Rattle.asl_run.specs.declared.finishes.After.{After}
 use Rattle.asl_run.specs.declared.finishes.After.TheVariants as after
 use Rattle.asl_run.specs.declared.finishes.First.{First}
@@ -21,6 +22,13 @@ finished (after.Assert span) x c = lift (truth span x) c (λ b. choose b (done_n
 finished (after.Declare span T b) x c = lift (declared span T.now (taken_of b.now) x c) c done_normal
 finished after.Return x c = Ret (Returned (Some x)) c
 finished (after.Throw span) x c = thrown span x c
+
+-- how many names get a value
+abbrev pub named_after : After → ℕ
+named_after (after.Assert span) = 0
+named_after (after.Declare span T b) = names_taken (taken_of b.now)
+named_after after.Return = 0
+named_after (after.Throw span) = 0
 
 -- so many names, each with the first value of the type
 abbrev pub begun : First → List Value → BareCore → Runs Exit

@@ -3,7 +3,7 @@ use Rattle.asl_machine.proofs.MemoryCalls.{Moved, memory_meets, memory_took, mem
 use Rattle.asl_machine.proofs.runs.run_trees.Given
 use Rattle.asl_machine.proofs.runs.run_trees.Goals as goal
 
-moved : (g : Given.Over) (c : goal.After-drop-run-5 g) → Moved c.args.memory.now c.enter-run.new.memory c.leave.new.memory c.enter-run.result c.call_noted-answer.new.run
+moved : (g : Given.Over) (c : goal.After-drop-run-7 g) → Moved c.args.memory.now c.enter-run.new.memory c.leave.new.memory c.enter-run.result c.call_noted-answer.new.run
 moved g c = record {
   begins = record {
     globals = c.enter-run.ensures.globals;

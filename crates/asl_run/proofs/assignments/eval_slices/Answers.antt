@@ -1,4 +1,4 @@
-use Rattle.std.proofs.Common.{map, inl, Ok, Err, refl, subst}
+use Rattle.std.proofs.Common.{map, inl, Ok, Err, refl, subst, arith}
 use Rattle.std.proofs.lemmas.Result.{err_from_is_err_and}
 use Rattle.asl_rules.specs.private.ByPlace.{into_slices}
 use Rattle.asl_rules.specs.runs.Plans.{Ret}
@@ -30,7 +30,7 @@ returns-in_err-shapes g c =
     (all_evaluated h.funcs.now h.depth (list_of (all_trees c.args.es.now)) (core_of c.args.run.now)
     (λ xs c1. Ret (into_slices c.args.span (all_slices c.args.shapes.now) xs) c1))
     _ c.in_ok-zs.zs (Err stop.NoMemory) _ _ _ c.in_ok-zs.ensures
-    (record { meets = inl refl; counts = refl; same_full = refl; keeps = tt }))
+    (record { meets = inl refl; counts = refl; same_full = refl; keeps = tt; grows = tt }))
 
 pub returns : goal.returns
 returns g c =
@@ -43,4 +43,10 @@ returns g c =
     _ zs (Ok (Slices c.args.span c.in_ok-shapes.shapes zs)) _ _ _ c.in_ok-zs.ensures
     (subst (λ ss. Ran step_of (Ok (Slices c.args.span c.in_ok-shapes.shapes zs)) h
     (λ c1. Ret (into_slices c.args.span (all_slices ss) (map value_of zs)) c1) a1 a1) c.in_ok-shapes.ensures
-    (record { meets = refl; counts = refl; same_full = refl; keeps = record { handled = refl; callers = refl; live = refl } }))
+    (record {
+      meets = refl;
+      counts = refl;
+      same_full = refl;
+      keeps = record { handled = refl; callers = refl; slots = refl; live = refl };
+      grows = omega arith;
+    }))

@@ -49,4 +49,4 @@ returns g c =
     (subst (λ ss. Acts c.assign_at.result
     (λ c3. lift (stored WIDTH_LIMIT c.args.holds_bits t.span t.slot (value_of c.into_inner.result) (all_steps ss) c3) c3 done_normal)
     c.eval_steps.new.run c.assign_at.new.run) steps c.assign_at.ensures.acts))
-    c.assign_at.ensures.none_refused c.assign_at.ensures.keeps)
+    c.assign_at.ensures.none_refused c.assign_at.ensures.keeps c.assign_at.ensures.grows)

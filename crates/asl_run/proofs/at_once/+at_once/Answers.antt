@@ -1,7 +1,7 @@
-use Rattle.std.proofs.Common.{◌≡◌, ◌-◌, ◌<◌, ◌∙◌, None, Some, ap, arith, rules, subst, sym}
+use Rattle.std.proofs.Common.{◌≡◌, ◌-◌, ◌<◌, ◌∙◌, None, ap, arith, rules, subst, sym}
 use Rattle.asl_bits.specs.declared.TheConstants.{WIDTH_LIMIT}
 use Rattle.asl_rules.specs.runs.Forms.{behind_left}
-use Rattle.asl_rules.specs.values.Operators.{of_booleans, of_integers, strictness, unary_value}
+use Rattle.asl_rules.specs.values.Operators.{of_integers, strictness, unary_value}
 use Rattle.asl_rules.specs.runs.Trees as trees
 use Rattle.asl_rules.specs.private.TypedMeaning.{tree_node, value_at}
 use Rattle.asl_rules.specs.values.Values.{bool, int}

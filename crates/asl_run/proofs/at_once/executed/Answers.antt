@@ -1,4 +1,4 @@
-use Rattle.std.proofs.Common.{◌≡◌, ◌-◌, ◌<◌, arith, subst, sym}
+use Rattle.std.proofs.Common.{◌-◌, ◌<◌, arith, subst, sym}
 use Rattle.asl_rules.specs.private.TypedMeaning.{act_node}
 use Rattle.asl_branches.specs.View.{program_of}
 use Rattle.asl_run.specs.private.AtOnce.{Executed}

@@ -1,4 +1,4 @@
-use Rattle.std.proofs.Common.{None, Some, Ok, Err, refl, subst}
+use Rattle.std.proofs.Common.{None, Some, Ok, Err, refl, subst, arith}
 use Rattle.std.proofs.lemmas.Result.{err_from_is_err_and}
 use Rattle.std.specs.Prelude.{option_map}
 use Rattle.asl_rules.specs.runs.Forms.{procedure_gives}
@@ -29,7 +29,7 @@ returns-in-Some g c =
     _ (Some c.in-Some._x) (Err (stop.Stuck mistake.WrongKind c.args.call.span)) _ _ _
     (subst (λ o. Ran (option_map value_of) (Ok o) h (call_given h.funcs.now c.args.call) (at g.K.Sink c.args.run.now c.args.sink.now)
     (at g.K.Sink c.call_subprogram.new.run c.call_subprogram.new.sink)) c.in-Some.is c.in_ok-call_subprogram.ensures)
-    (record { meets = refl; counts = refl; same_full = refl; keeps = tt })
+    (record { meets = refl; counts = refl; same_full = refl; keeps = tt; grows = tt })
 
 pub returns-in-None : goal.returns-in-None
 returns-in-None g c =
@@ -39,4 +39,4 @@ returns-in-None g c =
     _ None (Ok exit.Normal) _ _ _
     (subst (λ o. Ran (option_map value_of) (Ok o) h (call_given h.funcs.now c.args.call) (at g.K.Sink c.args.run.now c.args.sink.now)
     (at g.K.Sink c.call_subprogram.new.run c.call_subprogram.new.sink)) c.in-None.is c.in_ok-call_subprogram.ensures)
-    (record { meets = refl; counts = refl; same_full = refl; keeps = record { handled = refl; callers = refl; live = refl } })
+    (record { meets = refl; counts = refl; same_full = refl; keeps = record { handled = refl; callers = refl; slots = refl; live = refl }; grows = omega arith })

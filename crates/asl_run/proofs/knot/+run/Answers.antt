@@ -1,12 +1,17 @@
 use Rattle.std.proofs.Common.{◌≡◌, ◌<◌, ◌∙◌, Ok, ap, length, get_or, of_z, rules, subst, to_z}
 use Rattle.std.specs.Int.{w128}
 use Rattle.asl_rules.specs.values.Values.{bool, int}
+use Rattle.asl_tree.specs.Acts.{act_of}
+use Rattle.asl_tree.specs.private.Room.{FitsAct}
 use Rattle.asl_value.specs.declared.value.Value.TheVariants as variants
 use Rattle.asl_value.specs.View.{value_of}
+use Rattle.asl_branches.specs.declared.stop.Exit.TheVariants as exit
 use Rattle.asl_branches.specs.Meets.{Executes, at}
+use Rattle.asl_branches.specs.View.{room_of}
 use Rattle.asl_branches.proofs.Listing.{act_next}
 use Rattle.asl_run.specs.private.AtOnce.{Did, found}
 use Rattle.asl_run.proofs.AtOnce.{answered, truth_there}
+use Rattle.asl_run.proofs.Entries.{act_fits, acts_fit}
 use Rattle.asl_run.proofs.Turning.{int_there}
 use Rattle.asl_run.proofs.knot.+run.Goals as goal
 
@@ -14,9 +19,22 @@ pub exec_all-loop-s-preserved : goal.exec_all-loop-s-preserved
 exec_all-loop-s-preserved g t c =
     let here : c.s-item.result ≡ get_or c.args.list.now c.loop-s.s-index c.s-item.result = search rules in
     let within : c.loop-s.s-index < length c.args.list.now = search rules in
-    act_next c.args.here c.args.list.now c.loop-s.s-index c.s-item.result _ _ _ _ within here
-    (subst (λ x. Executes (Ok x) c.args.here c.s-item.result (at g.K.Sink c.loop-s.run c.loop-s.sink)
-    (at g.K.Sink c.exec.new.run c.exec.new.sink)) c.in-Normal.is c.in_ok-exec.ensures) c.loop-s.invariant
+    let ended : Executes (Ok exit.Normal) c.args.here c.s-item.result (at g.K.Sink c.loop-s.run c.loop-s.sink)
+    (at g.K.Sink c.exec.new.run c.exec.new.sink) =
+    subst (λ x. Executes (Ok x) c.args.here c.s-item.result (at g.K.Sink c.loop-s.run c.loop-s.sink)
+    (at g.K.Sink c.exec.new.run c.exec.new.sink)) c.in-Normal.is c.in_ok-exec.ensures in
+    record {
+      turn = act_next c.args.here c.args.list.now c.loop-s.s-index c.s-item.result _ _ _ _ within here ended c.loop-s.invariant.turn;
+      fits = acts_fit c.args.here c.args.list.now c.loop-s.s-index c.s-item.result exit.Normal _ _ within here ended c.loop-s.invariant.fits;
+    }
+
+pub exec_all-exec-requires : goal.exec_all-exec-requires
+exec_all-exec-requires g t c =
+    let here : c.s-item.result ≡ get_or c.args.list.now c.loop-s.s-index c.s-item.result = search rules in
+    let within : c.loop-s.s-index < length c.args.list.now = search rules in
+    let fits : FitsAct (room_of c.loop-s.run) (act_of c.s-item.result) =
+    (act_fits (room_of c.loop-s.run) c.args.list.now c.loop-s.s-index c.s-item.result within here c.loop-s.invariant.fits).0 in
+    search (rules, fits)
 
 pub eval-returns-in-Integer : goal.eval-returns-in-Integer
 eval-returns-in-Integer g t c = record {
@@ -29,6 +47,7 @@ eval-returns-in-Integer g t c = record {
   counts = search rules;
   same_full = search rules;
   keeps = search rules;
+  grows = search rules;
 }
 
 pub eval-returns-in-Truth : goal.eval-returns-in-Truth
@@ -40,6 +59,7 @@ eval-returns-in-Truth g t c = record {
   counts = search rules;
   same_full = search rules;
   keeps = search rules;
+  grows = search rules;
 }
 
 pub exec-returns-then-executed : goal.exec-returns-then-executed
@@ -50,6 +70,7 @@ exec-returns-then-executed g t c = record {
   counts = search rules;
   same_full = search rules;
   keeps = search rules;
+  grows = search rules;
 }
 
 pub exec-returns-else-executed : goal.exec-returns-else-executed

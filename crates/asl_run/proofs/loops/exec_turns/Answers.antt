@@ -4,11 +4,18 @@ use Rattle.asl_rules.specs.runs.StatementForms.{scope}
 use Rattle.asl_rules.specs.private.TypedMeaning.{acts_of, in_bare}
 use Rattle.asl_tree.specs.Acts.{all_acts}
 use Rattle.asl_tree.specs.View.{tree_of}
+use Rattle.asl_tree.proofs.Room.{fits_more}
 use Rattle.asl_branches.specs.declared.stop.Exit.TheVariants as exit
 use Rattle.asl_branches.specs.Meets.{Evaluates, Ran, at}
-use Rattle.asl_branches.specs.View.{exit_of}
+use Rattle.asl_branches.specs.View.{exit_of, room_of}
+use Rattle.asl_branches.proofs.Room.{no_less_left}
 use Rattle.asl_run.proofs.Turning.{until_ended, until_list_failed, until_truth_failed, until_turned}
 use Rattle.asl_run.proofs.loops.exec_turns.Goals as goal
+
+pub exec_scope-requires-clause-room : goal.exec_scope-requires-clause-room
+exec_scope-requires-clause-room g c =
+    fits_more (room_of c.args.run.now) (room_of c.loop-left.run) (all_acts c.args.body.now)
+    (no_less_left (g.N.Nodes.setting c.args.here.now) _ _ _ _ c.loop-left.invariant) c.requires.room
 
 pub returns-in_err-exec_scope : goal.returns-in_err-exec_scope
 returns-in_err-exec_scope g c =

@@ -1,12 +1,14 @@
-use Rattle.std.proofs.Common.{false}
+use Rattle.std.proofs.Common.{ℕ, false}
 use Rattle.std.proofs.lemmas.Result.{err_from_is_err_and}
 use Rattle.asl_rules.specs.runs.StatementForms as forms
 use Rattle.asl_rules.specs.private.TypedMeaning.{acts_of}
 use Rattle.asl_tree.specs.Acts.{all_acts, maybe_tree}
 use Rattle.asl_tree.specs.View.{tree_of}
-use Rattle.asl_branches.specs.View.{core_of, exit_of}
+use Rattle.asl_tree.proofs.Room.{fits_more}
+use Rattle.asl_branches.specs.View.{core_of, exit_of, room_of}
 use Rattle.asl_branches.proofs.Answered.{failed, met}
-use Rattle.asl_run.specs.private.Looping.{turn_until}
+use Rattle.asl_branches.proofs.Room.{no_less_after}
+use Rattle.asl_run.specs.private.Looping.{limit_asked, turn_until}
 use Rattle.asl_run.proofs.Turning.{limit_evaluated}
 use Rattle.asl_run.proofs.loops.exec_while.Goals as goal
 
@@ -19,6 +21,12 @@ returns-in_err-count g c =
     (λ n c2. forms.asked c.args.span (tree_of c.args.it.now.condition) c2
     (turn_until false c.args.span (tree_of c.args.it.now.condition) (acts_of (all_acts c.args.body.now)) n) forms.done_normal))
     _ c.in_err-count.field-0.0 _ _ c.in_err-count.ensures)
+
+pub while_turns-requires-clause-room : goal.while_turns-requires-clause-room
+while_turns-requires-clause-room g c =
+    fits_more (room_of c.args.run.now) (room_of c.turns_of.new.run) (all_acts c.args.body.now)
+    (no_less_after (λ (n : ℕ). n) (g.N.Nodes.setting c.args.here.now) (limit_asked c.args.span (maybe_tree c.args.it.now.limit)) _ _ _
+    c.in_ok-count.ensures) c.requires.room
 
 pub returns : goal.returns
 returns g c =

@@ -16,6 +16,7 @@ returns-then-abs_diff-it g c = record {
   counts = search rules;
   same_full = search rules;
   keeps = search rules;
+  grows = search rules;
 }
 
 pub returns-else-abs_diff-it : goal.returns-else-abs_diff-it
@@ -30,4 +31,5 @@ returns-else-abs_diff-it g c = record {
   counts = search rules;
   same_full = search rules;
   keeps = search rules;
+  grows = search rules;
 }

@@ -1,4 +1,4 @@
-use Rattle.std.proofs.Common.{Ok, rules, arith, subst}
+use Rattle.std.proofs.Common.{true, Ok, rules, arith, subst}
 use mir.Syntax.{w128}
 use mir.Val.{to_z}
 use Rattle.std.proofs.lemmas.Result.{err_from_is_err_and}
@@ -6,9 +6,15 @@ use Rattle.asl_rules.specs.private.TypedMeaning.{acts_of}
 use Rattle.asl_tree.specs.Acts.{all_acts}
 use Rattle.asl_branches.specs.declared.stop.Exit.TheVariants as exit
 use Rattle.asl_branches.specs.Meets.{Ran, at}
-use Rattle.asl_branches.specs.View.{exit_of}
+use Rattle.asl_branches.specs.View.{exit_of, room_of}
+use Rattle.asl_branches.proofs.Room.{fits_more_named, no_less_left}
 use Rattle.asl_run.proofs.Turning.{index_ended, index_list_failed, index_returned, index_turned, turn_at}
 use Rattle.asl_run.proofs.loops.for_turns.Goals as goal
+
+pub exec_turn-requires-clause-room : goal.exec_turn-requires-clause-room
+exec_turn-requires-clause-room g c =
+    fits_more_named true (room_of c.args.run.now) (room_of c.loop-left.run) (all_acts c.args.body.now)
+    (no_less_left (g.N.Nodes.setting c.args.here.now) _ _ _ _ c.loop-left.invariant.turns) c.requires.room
 
 pub returns-in_err-exec_turn : goal.returns-in_err-exec_turn
 returns-in_err-exec_turn g c =

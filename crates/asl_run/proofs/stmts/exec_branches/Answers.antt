@@ -1,13 +1,15 @@
-use Rattle.std.proofs.Common.{◌≡◌, true, false, Ok, rules, arith, subst, sym, ap, ◌∙◌}
+use Rattle.std.proofs.Common.{◌≡◌, true, false, Ok, rules, arith, le_trans, subst, sym, ap, ◌∙◌}
 use Rattle.std.proofs.lemmas.Result.{err_from_is_err_and}
 use Rattle.asl_rules.specs.runs.Plans.{Good}
 use Rattle.asl_rules.specs.runs.StatementForms.{scope}
 use Rattle.asl_rules.specs.private.TypedMeaning.{acts_of, in_bare}
 use Rattle.asl_tree.specs.Acts.{all_acts}
 use Rattle.asl_branches.specs.Meets.{Evaluates, at}
-use Rattle.asl_branches.specs.View.{exit_of}
+use Rattle.asl_tree.proofs.Room.{fits_more}
+use Rattle.asl_branches.specs.View.{exit_of, room_of}
 use Rattle.asl_branches.proofs.Answered.{ended}
-use Rattle.asl_run.proofs.Branching.{branch_asked, branch_failed, branch_truth_failed, branches_ended}
+use Rattle.asl_branches.proofs.Room.{no_less_eval, no_less_left}
+use Rattle.asl_run.proofs.Branching.{branch_asked, branch_failed, branch_fits, branch_truth_failed, branches_ended}
 use Rattle.asl_run.proofs.stmts.exec_branches.Goals as goal
 
 pub returns-in_err-eval : goal.returns-in_err-eval
@@ -16,7 +18,7 @@ returns-in_err-eval g c =
     rw (p.1, p.2) (branch_failed (g.N.Nodes.setting c.args.here.now) c.args.span c.args.others.now c.loop-branch.branch-index
     c.branch-item.result c.branch_parts.result.0.now c.branch_parts.result.1.now (acts_of (all_acts c.args.last.now))
     c.in_err-eval.field-0.0 _ _ _ _ (omega (arith, c.loop-branch-test.true)) c.branch-item.is c.branch_parts.ensures
-    c.in_err-eval.ensures c.loop-branch.invariant)
+    c.in_err-eval.ensures c.loop-branch.invariant.left)
 
 pub returns-in_err-truth : goal.returns-in_err-truth
 returns-in_err-truth g c =
@@ -27,7 +29,7 @@ returns-in_err-truth g c =
     c.branch_parts.result.0.now c.branch_parts.result.1.now (acts_of (all_acts c.args.last.now)) c.get.result.now
     c.in_err-truth.field-0.0 _ _ _ _ (omega (arith, c.loop-branch-test.true)) c.branch-item.is c.branch_parts.ensures
     (subst (λ v. Evaluates (Ok v) h c.branch_parts.result.0.now (at g.K.Sink c.loop-branch.run c.loop-branch.sink)
-    (at g.K.Sink c.eval.new.run c.eval.new.sink)) (sym here) c.in_ok-eval.ensures) c.in_err-truth.ensures c.loop-branch.invariant)
+    (at g.K.Sink c.eval.new.run c.eval.new.sink)) (sym here) c.in_ok-eval.ensures) c.in_err-truth.ensures c.loop-branch.invariant.left)
 
 pub returns-then-branch : goal.returns-then-branch
 returns-then-branch g c =
@@ -40,18 +42,38 @@ returns-then-branch g c =
     c.branch_parts.ensures
     (subst (λ v. Evaluates (Ok v) h c.branch_parts.result.0.now (at g.K.Sink c.loop-branch.run c.loop-branch.sink)
     (at g.K.Sink c.eval.new.run c.eval.new.sink)) (sym here) c.in_ok-eval.ensures) (c.in_ok-truth.ensures ∙ ap Good c.if-branch.true)
-    c.loop-branch.invariant) c.exec_scope.ensures
+    c.loop-branch.invariant.left) c.exec_scope.ensures
 
 pub loop-branch-preserved : goal.loop-branch-preserved
 loop-branch-preserved g c =
     let h = g.N.Nodes.setting c.args.here.now in
     let here : c.get.result.now ≡ c.in_ok-eval.field-0 = search rules in
-    branch_asked h c.args.span c.args.others.now c.loop-branch.branch-index c.branch-item.result c.branch_parts.result.0.now
-    c.branch_parts.result.1.now (acts_of (all_acts c.args.last.now)) c.get.result.now false _ _ _ _
-    (omega (arith, c.loop-branch-test.true)) c.branch-item.is c.branch_parts.ensures
-    (subst (λ v. Evaluates (Ok v) h c.branch_parts.result.0.now (at g.K.Sink c.loop-branch.run c.loop-branch.sink)
-    (at g.K.Sink c.eval.new.run c.eval.new.sink)) (sym here) c.in_ok-eval.ensures) (c.in_ok-truth.ensures ∙ ap Good c.if-branch.false)
-    c.loop-branch.invariant
+    record {
+      left = branch_asked h c.args.span c.args.others.now c.loop-branch.branch-index c.branch-item.result c.branch_parts.result.0.now
+          c.branch_parts.result.1.now (acts_of (all_acts c.args.last.now)) c.get.result.now false _ _ _ _
+          (omega (arith, c.loop-branch-test.true)) c.branch-item.is c.branch_parts.ensures
+          (subst (λ v. Evaluates (Ok v) h c.branch_parts.result.0.now (at g.K.Sink c.loop-branch.run c.loop-branch.sink)
+          (at g.K.Sink c.eval.new.run c.eval.new.sink)) (sym here) c.in_ok-eval.ensures) (c.in_ok-truth.ensures ∙ ap Good c.if-branch.false)
+          c.loop-branch.invariant.left;
+      fits = (branch_fits (room_of c.args.run.now) c.args.others.now c.loop-branch.branch-index c.branch-item.result
+          c.branch_parts.result.0.now c.branch_parts.result.1.now (omega (arith, c.loop-branch-test.true)) c.branch-item.is
+          c.branch_parts.ensures c.loop-branch.invariant.fits).1;
+    }
+
+pub exec_scope-requires-clause-room : goal.exec_scope-requires-clause-room
+exec_scope-requires-clause-room g c =
+    let h = g.N.Nodes.setting c.args.here.now in
+    let parts = branch_fits (room_of c.args.run.now) c.args.others.now c.loop-branch.branch-index c.branch-item.result
+    c.branch_parts.result.0.now c.branch_parts.result.1.now (omega (arith, c.loop-branch-test.true)) c.branch-item.is
+    c.branch_parts.ensures c.loop-branch.invariant.fits in
+    let so_far = no_less_left h _ _ _ _ c.loop-branch.invariant.left in
+    let here = no_less_eval h c.branch_parts.result.0.now _ _ _ c.in_ok-eval.ensures in
+    fits_more (room_of c.args.run.now) (room_of c.eval.new.run) (all_acts c.branch_parts.result.1.now) (le_trans so_far here) parts.0
+
+pub exec_scope-requires-2-clause-room : goal.exec_scope-requires-2-clause-room
+exec_scope-requires-2-clause-room g c =
+    fits_more (room_of c.args.run.now) (room_of c.loop-branch.run) (all_acts c.args.last.now)
+    (no_less_left (g.N.Nodes.setting c.args.here.now) _ _ _ _ c.loop-branch.invariant.left) c.requires.last
 
 pub returns : goal.returns
 returns g c =
@@ -59,4 +81,4 @@ returns g c =
     let last = acts_of (all_acts c.args.last.now) in
     ended exit_of h (scope in_bare last) _ _ _ _ c.exec_scope-2.result
     (branches_ended h c.args.span c.args.others.now c.loop-branch.branch-index last _ _ _ (omega (arith, c.loop-branch-test.false))
-    c.loop-branch.invariant) c.exec_scope-2.ensures
+    c.loop-branch.invariant.left) c.exec_scope-2.ensures

@@ -17,6 +17,7 @@ loop-item-preserved-in-Verbatim g c = record {
   count = search rules;
   full = search rules;
   round = search rules;
+  height = c.loop-item.invariant.height;
 }
 
 pub loop-item-preserved : goal.loop-item-preserved
@@ -29,6 +30,7 @@ loop-item-preserved g c = record {
   count = search rules;
   full = search rules;
   round = search rules;
+  height = omega (arith, c.loop-item.invariant.height, c.in_ok-x.ensures.grows);
 }
 
 pub returns-in_err-put_string-in-Verbatim : goal.returns-in_err-put_string-in-Verbatim
@@ -51,6 +53,7 @@ returns-in_err-put_string-in-Verbatim g c = record {
   counts = search rules;
   same_full = search rules;
   keeps = search rules;
+  grows = search rules;
 }
 
 pub returns-in_err-x : goal.returns-in_err-x
@@ -67,6 +70,7 @@ returns-in_err-x g c = record {
   counts = search rules;
   same_full = search rules;
   keeps = search rules;
+  grows = search rules;
 }
 
 pub returns-in_err-put_value : goal.returns-in_err-put_value
@@ -90,4 +94,5 @@ returns-in_err-put_value g c = record {
   counts = search rules;
   same_full = search rules;
   keeps = search rules;
+  grows = search rules;
 }
