@@ -5,7 +5,7 @@ use Rattle.std.proofs.lemmas.Bool.{and_parts}
 use Rattle.std.proofs.lemmas.Bool.Decides.{nat_tests}
 use Rattle.asl_poly.specs.Terms.{Polynomial}
 use Rattle.asl_poly.specs.Limits.{weight, degree, atoms_of_both}
-use Rattle.asl_poly.specs.Poly.{SumFits, ProductFits}
+use Rattle.asl_poly.specs.Poly.{SumFits, ProductFits, sum_denominator, weight_over}
 use Rattle.asl_cons.specs.declared.End.{End}
 use Rattle.asl_cons.specs.declared.End.TheVariants.{Int, Width}
 use Rattle.asl_cons.specs.declared.ends.Operation.{Operation}
@@ -32,28 +32,49 @@ light_back (Width p) h = tt
 
 sum_in : (p q : Polynomial) → SumFits p q → sum_fits p q ≡ true
 unfolding sum_fits
-sum_in p q h = rw (le_true (weight p.terms + weight q.terms) (2 ^ 62) h.light, le_true (length (atoms_of_both p.terms q.terms)) 8 h.few) refl
+sum_in p q h =
+    rw (
+      le_true (weight_over (sum_denominator p q) p + weight_over (sum_denominator p q) q) (2 ^ 62) h.light,
+      le_true (length (atoms_of_both p.terms q.terms)) 8 h.few,
+      le_true (sum_denominator p q) (2 ^ 16) h.fine,
+    ) refl
 
 pub sum_back : (p q : Polynomial) → sum_fits p q ≡ true → SumFits p q
 unfolding sum_fits
 sum_back p q e =
-    let f = and_parts (nat_le (weight p.terms + weight q.terms) (2 ^ 62)) (nat_le (length (atoms_of_both p.terms q.terms)) 8) e in
-    record { light = true_le (weight p.terms + weight q.terms) (2 ^ 62) f.0; few = true_le (length (atoms_of_both p.terms q.terms)) 8 f.1 }
+    let heavy : ℕ = weight_over (sum_denominator p q) p + weight_over (sum_denominator p q) q in
+    let f = and_parts (nat_le heavy (2 ^ 62)) (nat_le (length (atoms_of_both p.terms q.terms)) 8 && nat_le (sum_denominator p q)
+    (2 ^ 16)) e in
+    let g = and_parts (nat_le (length (atoms_of_both p.terms q.terms)) 8) (nat_le (sum_denominator p q) (2 ^ 16)) f.1 in
+    record {
+      light = true_le heavy (2 ^ 62) f.0;
+      few = true_le (length (atoms_of_both p.terms q.terms)) 8 g.0;
+      fine = true_le (sum_denominator p q) (2 ^ 16) g.1;
+    }
 
 product_in : (p q : Polynomial) → ProductFits p q → product_fits p q ≡ true
 unfolding product_fits
 product_in p q h =
-    rw (le_true (weight p.terms * weight q.terms) (2 ^ 62) h.light, le_true (degree p.terms + degree q.terms) 4 h.low, le_true (length (atoms_of_both p.terms q.terms)) 8 h.few) refl
+    rw (
+      le_true (weight p.terms * weight q.terms) (2 ^ 62) h.light,
+      le_true (degree p.terms + degree q.terms) 4 h.low,
+      le_true (length (atoms_of_both p.terms q.terms)) 8 h.few,
+      le_true (p.denominator * q.denominator) (2 ^ 16) h.fine,
+    ) refl
 
 pub product_back : (p q : Polynomial) → product_fits p q ≡ true → ProductFits p q
 unfolding product_fits
 product_back p q e =
-    let f = and_parts (nat_le (weight p.terms * weight q.terms) (2 ^ 62)) (nat_le (degree p.terms + degree q.terms) 4 && nat_le (length (atoms_of_both p.terms q.terms)) 8) e in
-    let g = and_parts (nat_le (degree p.terms + degree q.terms) 4) (nat_le (length (atoms_of_both p.terms q.terms)) 8) f.1 in
+    let few : Bool = nat_le (length (atoms_of_both p.terms q.terms)) 8 in
+    let fine : Bool = nat_le (p.denominator * q.denominator) (2 ^ 16) in
+    let f = and_parts (nat_le (weight p.terms * weight q.terms) (2 ^ 62)) (nat_le (degree p.terms + degree q.terms) 4 && (few && fine)) e in
+    let g = and_parts (nat_le (degree p.terms + degree q.terms) 4) (few && fine) f.1 in
+    let h = and_parts few fine g.1 in
     record {
       light = true_le (weight p.terms * weight q.terms) (2 ^ 62) f.0;
       low = true_le (degree p.terms + degree q.terms) 4 g.0;
-      few = true_le (length (atoms_of_both p.terms q.terms)) 8 g.1;
+      few = true_le (length (atoms_of_both p.terms q.terms)) 8 h.0;
+      fine = true_le (p.denominator * q.denominator) (2 ^ 16) h.1;
     }
 
 shown_in : (e f : End) (fit : Bool) (m : Polynomial) → LightEnd e → LightEnd f → fit ≡ true → Some (shown m) ≡ width_end (light_end e && (light_end f && fit)) m

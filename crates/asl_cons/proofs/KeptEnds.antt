@@ -1,15 +1,17 @@
 -- The ends that the arithmetic makes are polynomials within the limits, where those of the operands are.
-use Rattle.std.proofs.Common.{◌≡◌, ℕ, ◌^◌, ◌≤◌, ◌&&◌, Bool, true, false, cond, List, [], ◌∷◌, ◌++◌, length, Option, Some, None, refl, subst, arith}
+use Rattle.std.proofs.Common.{◌≡◌, ℕ, ◌^◌, ◌≤◌, ◌&&◌, Bool, true, false, cond, List, [], ◌∷◌, ◌++◌, length, Option, Some, None, ◌*◌, refl, subst, arith}
 use Rattle.std.specs.Prelude.{nat_le, unsigned_abs, ◌+ℤ◌, ◌-ℤ◌, ◌*ℤ◌}
 use Rattle.std.proofs.Math.IntN.{ℤ, pos}
 use Rattle.std.proofs.lemmas.Bool.{and_parts}
 use Rattle.asl_num.specs.Exact.{floor_div}
 use Rattle.asl_poly.specs.Terms.{Polynomial}
-use Rattle.asl_poly.specs.Operations.{constant_term, is_zero, sum_terms, difference_terms, product_terms}
+use Rattle.asl_poly.specs.Operations.{constant_term, constant_terms, is_zero, sum_terms, difference_terms, product_terms}
 use Rattle.asl_poly.specs.Limits.{weight, atoms_of}
-use Rattle.asl_poly.specs.Poly.{IsPolynomial, constant_value, constant_map, sum_map, difference_map, product_map}
+use Rattle.asl_poly.specs.Denominators.{raised}
+use Rattle.asl_poly.specs.Poly.{IsPolynomial, sum_denominator, constant_value, constant_map, sum_map, difference_map, product_map}
 use Rattle.asl_poly.proofs.Maps as maps
 use Rattle.asl_poly.proofs.Maps.{sorted_constant}
+use Rattle.asl_poly.proofs.LowestTerms.{one_is_polynomial, lowest_polynomial}
 use Rattle.asl_cons.specs.declared.End.{End}
 use Rattle.asl_cons.specs.declared.End.TheVariants.{Int, Width}
 use Rattle.asl_cons.specs.declared.Part.{Part}
@@ -18,6 +20,7 @@ use Rattle.asl_cons.specs.declared.arithmetic.Operator.{Operator}
 use Rattle.asl_cons.specs.declared.arithmetic.Operator.TheVariants.{Add, Sub, Mul, DivFloor, Shl, Shr}
 use Rattle.asl_cons.specs.Operator.{part_by}
 use Rattle.asl_cons.specs.Arithmetic.{bind, exact, number_of, shown_by, shown, integer_end, width_end, widths, ends_with, light_end, sum_fits, product_fits, sum_end, difference_end, product_end, range_of, point_in, point_of, power_of_two, part, part_of, sum_part, difference_part, product_with, product_part, modulo_part, quotient_part, shifted_up_part, shifted_down_part, limited, with_each, all_pairs, each_part, by_pairs, sum_parts, difference_parts, product_parts, modulo_parts, quotient_parts, shifted_up_parts, shifted_down_parts, union_parts}
+use Rattle.asl_cons.proofs.Covering.{Ends}
 use Rattle.asl_cons.proofs.EndsAsWidths.{true_le, sum_back, product_back}
 use Rattle.asl_cons.proofs.Results.{some_same, none_some, begun, both_lists, ended}
 
@@ -33,7 +36,9 @@ constant_few false z = omega arith
 
 constant_is_one : (z : ℤ) → unsigned_abs z ≤ 2 ^ 62 → IsPolynomial (constant_map z)
 unfolding constant_map
-constant_is_one z h = record { sorted = sorted_constant z; light = constant_light (is_zero z) z h; few = constant_few (is_zero z) z }
+constant_is_one z h =
+    one_is_polynomial (constant_terms z)
+    (record { sorted = sorted_constant z; light = constant_light (is_zero z) z h; few = constant_few (is_zero z) z })
 
 poly_is_one : (e : End) → IsEnd e → light_end e ≡ true → IsPolynomial (poly_of e)
 poly_is_one (Int z) i h = constant_is_one z (true_le (unsigned_abs z) (2 ^ 62) h)
@@ -77,15 +82,24 @@ module _ (op : ℤ → ℤ → ℤ) (fit : Polynomial → Polynomial → Bool) (
 
 sum_stays : Stays sum_fits sum_map
 unfolding sum_map
-sum_stays p q i j h = maps.sum_map p.terms q.terms (sum_terms p.terms q.terms) i j (sum_back p q h) refl
+sum_stays p q i j h =
+    let f = sum_back p q h in
+    lowest_polynomial (sum_terms (raised (sum_denominator p q) p) (raised (sum_denominator p q) q)) (sum_denominator p q)
+    (maps.sum_map p q i j f) (maps.common_some p q i j) f.fine
 
 difference_stays : Stays sum_fits difference_map
 unfolding difference_map
-difference_stays p q i j h = maps.difference_map p.terms q.terms (difference_terms p.terms q.terms) i j (sum_back p q h) refl
+difference_stays p q i j h =
+    let f = sum_back p q h in
+    lowest_polynomial (difference_terms (raised (sum_denominator p q) p) (raised (sum_denominator p q) q)) (sum_denominator p q)
+    (maps.difference_map p q i j f) (maps.common_some p q i j) f.fine
 
 product_stays : Stays product_fits product_map
 unfolding product_map
-product_stays p q i j h = maps.product_map p.terms q.terms (product_terms p.terms q.terms) i j (product_back p q h) refl
+product_stays p q i j h =
+    let f = product_back p q h in
+    lowest_polynomial (product_terms p.terms q.terms) (p.denominator * q.denominator) (maps.product_map p q i.map j.map f)
+    (maps.product_some p q i j) f.fine
 
 sum_is_end : (e f g : End) → IsEnd e → IsEnd f → sum_end e f ≡ Some g → IsEnd g
 sum_is_end e f g i j h = ends_with_end (λ x y. x +ℤ y) sum_fits sum_map sum_stays e f g (number_of e) (number_of f) i j h
@@ -97,9 +111,6 @@ product_is_end : (e f g : End) → IsEnd e → IsEnd f → product_end e f ≡ S
 product_is_end e f g i j h = ends_with_end (λ x y. x *ℤ y) product_fits product_map product_stays e f g (number_of e) (number_of f) i j h
 
 -- ---- parts
-
-abbrev pub Ends : Part → Type 0
-Ends p = IsEnd p.low × IsEnd p.high
 
 part_ends : (o u : Option End) (r : Part) → ((g : End) → o ≡ Some g → IsEnd g) → ((g : End) → u ≡ Some g → IsEnd g) → part_of o u ≡ Some r → Ends r
 part_ends o u r f k h = let e = ended o u r h in subst Ends e.is (f e.low e.first, k e.high e.rest)

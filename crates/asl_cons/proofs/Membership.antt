@@ -1,17 +1,18 @@
 -- `inclusion_law`.
-use Rattle.std.proofs.Common.{◌⊎◌, inl, inr, ◌≡◌, ℕ, List, [], ◌∷◌, refl, arith}
+use Rattle.std.proofs.Common.{◌⊎◌, inl, inr, ◌≡◌, ℕ, ◌<◌, List, [], ◌∷◌, subst, arith}
 use Rattle.std.specs.Prelude.{◌≤ℤ◌, Option, Some, None, MatchOption}
-use Rattle.std.proofs.Math.IntN.{ℤ, pos, ◌+ℤ◌}
+use Rattle.std.proofs.Math.IntN.{ℤ, pos, ◌+ℤ◌, ◌*ℤ◌}
 use Rattle.std.proofs.lemmas.Int.{ints}
 use Rattle.asl_poly.specs.Terms.{Polynomial, value}
-use Rattle.asl_poly.specs.Operations.{constant_of}
-use Rattle.asl_poly.specs.Poly.{IsConstant}
-use Rattle.asl_poly.proofs.Maps.{one_value}
+use Rattle.asl_poly.specs.Poly.{IsConstant, IsAtMost, IsAtLeast, constant_value}
+use Rattle.asl_poly.proofs.Ring.{swap_last}
+use Rattle.asl_poly.proofs.Maps.{one_number}
+use Rattle.asl_poly.proofs.Bounds.{times_pos, less_of_times}
 use Rattle.asl_cons.specs.declared.End.{End}
 use Rattle.asl_cons.specs.declared.End.TheVariants.{Int, Width}
 use Rattle.asl_cons.specs.declared.Part.{Part}
 use Rattle.asl_cons.specs.Constraint.{poly_of, IsEnd, AllEnds, InSome, In, HasEnd, IsFixed, InFixed, Holds, Held, IsCovered, AllCovered, Below}
-use Rattle.asl_cons.proofs.Covering.{int_end}
+use Rattle.asl_cons.proofs.Covering.{int_end, end_some}
 
 -- whether an end is constant can be told
 
@@ -21,7 +22,7 @@ found p (Some c) m = inl (c, m)
 
 constant_or : (e : End) → IsEnd e → ((c : ℤ) × HasEnd e c) ⊎ ((c : ℤ) → HasEnd e c → ⊥)
 constant_or (Int z) h = inl (z, int_end z)
-constant_or (Width p) h = found p (constant_of p.terms) (one_value p.terms (constant_of p.terms) h refl)
+constant_or (Width p) h = found p (constant_value p) (one_number p h)
 
 fixed_or : (p : Part) → IsEnd p.low → IsEnd p.high → ((l : ℤ) × (h : ℤ) × IsFixed p l h) ⊎ ((l h : ℤ) → IsFixed p l h → ⊥)
 fixed_or p hl hh = elim (constant_or p.low hl) [
@@ -34,35 +35,68 @@ fixed_or p hl hh = elim (constant_or p.low hl) [
 
 -- the integers of a part lie in the parts that cover it
 
-holds_in : (a : ℕ → ℤ) (i : ℤ) (q : Part) → Holds q i → (value a (poly_of q.low).terms ≤ℤ i) × (i ≤ℤ value a (poly_of q.high).terms)
-holds_in a i q h =
-    let x : value a (poly_of q.low).terms ≡ h.l = h.fixed.low a in
-    let y : value a (poly_of q.high).terms ≡ h.h = h.fixed.high a in
-    let b : h.l ≤ℤ i = h.least in
-    let c : i ≤ℤ h.h = h.most in
-    (rw x b, rw y c)
+at_most : (v l i : ℤ) (d : ℕ) → v ≡ l *ℤ pos d → l ≤ℤ i → v ≤ℤ (i *ℤ pos d)
+at_most v l i d e h = rw e (times_pos l i d h)
+
+at_least : (v h i : ℤ) (d : ℕ) → v ≡ h *ℤ pos d → i ≤ℤ h → (i *ℤ pos d) ≤ℤ v
+at_least v h i d e k = rw e (times_pos i h d k)
+
+holds_in : (a : ℕ → ℤ) (i : ℤ) (q : Part) → Holds q i → IsAtMost a (poly_of q.low) i × IsAtLeast a (poly_of q.high) i
+holds_in a i q h = (
+  at_most (value a (poly_of q.low).terms) h.l i (poly_of q.low).denominator (h.fixed.low a) h.least,
+  at_least (value a (poly_of q.high).terms) h.h i (poly_of q.high).denominator (h.fixed.high a) h.most,
+)
 
 fixed_in : (a : ℕ → ℤ) (i : ℤ) (qs : List Part) → InFixed i qs → InSome a i qs
 fixed_in a i [] h = h
 fixed_in a i (q ∷ qs) h = elim h [ inl k ↦ inl (holds_in a i q k) | inr k ↦ inr (fixed_in a i qs k) ]
 
-lower : (x y b i : ℤ) → x ≡ y +ℤ b → pos 0 ≤ℤ b → x ≤ℤ i → y ≤ℤ i
-lower x y b i e l h = omega (arith, ints)
+no_more : (x y b z : ℤ) → x ≡ y +ℤ b → pos 0 ≤ℤ b → x ≤ℤ z → y ≤ℤ z
+no_more x y b z e l h = omega (arith, ints)
 
-higher : (x y b i : ℤ) → x ≡ y +ℤ b → pos 0 ≤ℤ b → i ≤ℤ y → i ≤ℤ x
-higher x y b i e l h = omega (arith, ints)
+no_less : (x y b z : ℤ) → x ≡ y +ℤ b → pos 0 ≤ℤ b → z ≤ℤ y → z ≤ℤ x
+no_less x y b z e l h = omega (arith, ints)
 
-held_in : (a : ℕ → ℤ) (i : ℤ) (p : Part) (qs : List Part) → Held p qs → value a (poly_of p.low).terms ≤ℤ i → i ≤ℤ value a (poly_of p.high).terms → InSome a i qs
-held_in a i p [] h l m = h
-held_in a i p (q ∷ qs) h l m = elim h [
-  | inl k ↦ inl (lower (value a (poly_of p.low).terms) (value a (poly_of q.low).terms) k.0.by i (k.0.apart a) k.0.least l, higher (value a (poly_of q.high).terms) (value a (poly_of p.high).terms) k.1.by i (k.1.apart a) k.1.least m)
-  | inr k ↦ inr (held_in a i p qs k l m)
+-- two fractions v over d and w over e, one number apart, and an integer
+lower : (v w b i : ℤ) (d e : ℕ) → 0 < d → v *ℤ pos e ≡ w *ℤ pos d +ℤ b → pos 0 ≤ℤ b → v ≤ℤ (i *ℤ pos d) → w ≤ℤ (i *ℤ pos e)
+lower v w b i d e p s l h =
+    less_of_times w (i *ℤ pos e) d p
+    (no_more (v *ℤ pos e) (w *ℤ pos d) b ((i *ℤ pos e) *ℤ pos d) s l
+    (subst (λ z. (v *ℤ pos e) ≤ℤ z) (swap_last i (pos d) (pos e)) (times_pos v (i *ℤ pos d) e h)))
+
+higher : (v w b i : ℤ) (d e : ℕ) → 0 < d → w *ℤ pos d ≡ v *ℤ pos e +ℤ b → pos 0 ≤ℤ b → (i *ℤ pos d) ≤ℤ v → (i *ℤ pos e) ≤ℤ w
+higher v w b i d e p s l h =
+    less_of_times (i *ℤ pos e) w d p
+    (no_less (w *ℤ pos d) (v *ℤ pos e) b ((i *ℤ pos e) *ℤ pos d) s l
+    (subst (λ z. z ≤ℤ (v *ℤ pos e)) (swap_last i (pos d) (pos e)) (times_pos (i *ℤ pos d) v e h)))
+
+held_in : (a : ℕ → ℤ) (i : ℤ) (p : Part) (qs : List Part) → IsEnd p.low → IsEnd p.high → Held p qs
+    → IsAtMost a (poly_of p.low) i → IsAtLeast a (poly_of p.high) i → InSome a i qs
+held_in a i p [] x y h l m = h
+held_in a i p (q ∷ qs) x y h l m = elim h [
+  | inl k ↦ inl (
+    lower (value a (poly_of p.low).terms) (value a (poly_of q.low).terms) k.0.by i (poly_of p.low).denominator (poly_of q.low).denominator
+        (end_some p.low x) (k.0.apart a) k.0.least l,
+    higher (value a (poly_of p.high).terms) (value a (poly_of q.high).terms) k.1.by i (poly_of p.high).denominator
+        (poly_of q.high).denominator (end_some p.high y) (k.1.apart a) k.1.least m,
+  )
+  | inr k ↦ inr (held_in a i p qs x y k l m)
 ]
 
-covered_in : (a : ℕ → ℤ) (i : ℤ) (p : Part) (qs : List Part) → IsEnd p.low → IsEnd p.high → IsCovered qs p → value a (poly_of p.low).terms ≤ℤ i → i ≤ℤ value a (poly_of p.high).terms → InSome a i qs
+-- an end that is the integer c, and an integer beside it
+from_low : (a : ℕ → ℤ) (e : End) (c i : ℤ) → IsEnd e → HasEnd e c → IsAtMost a (poly_of e) i → c ≤ℤ i
+from_low a e c i x h l =
+    less_of_times c i (poly_of e).denominator (end_some e x) (subst (λ z. z ≤ℤ (i *ℤ pos (poly_of e).denominator)) (h a) l)
+
+to_high : (a : ℕ → ℤ) (e : End) (c i : ℤ) → IsEnd e → HasEnd e c → IsAtLeast a (poly_of e) i → i ≤ℤ c
+to_high a e c i x h l =
+    less_of_times i c (poly_of e).denominator (end_some e x) (subst (λ z. (i *ℤ pos (poly_of e).denominator) ≤ℤ z) (h a) l)
+
+covered_in : (a : ℕ → ℤ) (i : ℤ) (p : Part) (qs : List Part) → IsEnd p.low → IsEnd p.high → IsCovered qs p
+    → IsAtMost a (poly_of p.low) i → IsAtLeast a (poly_of p.high) i → InSome a i qs
 covered_in a i p qs hl hh c l m = elim (fixed_or p hl hh) [
-  | inl (x, y, f) ↦ fixed_in a i qs (c.constant x y f i (rw (f.low a) at l) (rw (f.high a) at m))
-  | inr n ↦ held_in a i p qs (c.symbolic n) l m
+  | inl (x, y, f) ↦ fixed_in a i qs (c.constant x y f i (from_low a p.low x i hl f.low l) (to_high a p.high y i hh f.high m))
+  | inr n ↦ held_in a i p qs hl hh (c.symbolic n) l m
 ]
 
 all_in : (a : ℕ → ℤ) (i : ℤ) (ps qs : List Part) → AllEnds ps → AllCovered ps qs → InSome a i ps → InSome a i qs

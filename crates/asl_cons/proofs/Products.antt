@@ -9,35 +9,15 @@ use Rattle.std.proofs.lemmas.Bool.{and_parts}
 use Rattle.std.proofs.lemmas.Bool.Decides.{nat_tests, Decides-eqb}
 use Rattle.asl_num.specs.Exact.{floor_div, floor_mod}
 use Rattle.asl_num.proofs.Laws.{floor_law}
-use Rattle.asl_poly.specs.Poly.{product_map}
+use Rattle.asl_poly.specs.Poly.{IsAtMost, IsAtLeast, constant_map, product_map}
 use Rattle.asl_poly.proofs.Ring.{add-mul}
+use Rattle.asl_poly.proofs.Bounds.{times_pos, times_most, product_most, product_least}
 use Rattle.asl_cons.specs.declared.End.{End}
 use Rattle.asl_cons.specs.declared.End.TheVariants.{Int}
 use Rattle.asl_cons.specs.declared.Part.{Part}
-use Rattle.asl_cons.specs.Constraint.{InSome, In}
+use Rattle.asl_cons.specs.Constraint.{poly_of, InSome, In}
 use Rattle.asl_cons.specs.Arithmetic.{bind, exact, number_of, range_of, point_in, point_of, power_of_two, integer_end, product_fits, product_end, part, part_of, modulo_part, quotient_part, shifted_up_part, shifted_down_part, product_range, scaled_part, product_with, product_part, limited, each_part, modulo_parts, quotient_parts, shifted_up_parts, shifted_down_parts, product_parts}
-use Rattle.asl_cons.proofs.Covering.{end_value, value_constant_map}
-use Rattle.asl_cons.proofs.Results.{some_same, none_some, value_product_map, Between, number_end, integer_end_is, ends_is, begun, ended, nothing, limited_in, pairs_in}
-
--- ---- the order and products
-
-add_pos : (y : ℤ) (k n : ℕ) → (y *ℤ pos n) ≤ℤ ((y +ℤ pos k) *ℤ pos n)
-add_pos y k n = rw (add-mul y (pos k) (pos n)) (more (y *ℤ pos n) (k * n))
-  where
-    more : (z : ℤ) (m : ℕ) → z ≤ℤ (z +ℤ pos m)
-    more z m = omega (arith, ints)
-
--- y is x and a number more
-apart : (x y : ℤ) → x ≤ℤ y → (k : ℕ) × (y ≡ x +ℤ pos k)
-apart x y h = (unsigned_abs (y -ℤ x), by_parts x y h)
-  where
-    by_parts : (x y : ℤ) → x ≤ℤ y → y ≡ x +ℤ pos (unsigned_abs (y -ℤ x))
-    by_parts x y h = omega (arith, ints)
-
-pub times_pos : (x y : ℤ) (n : ℕ) → x ≤ℤ y → (x *ℤ pos n) ≤ℤ (y *ℤ pos n)
-times_pos x y n h =
-    let k = apart x y h in
-    subst (λ z. (x *ℤ pos n) ≤ℤ (z *ℤ pos n)) (sym k.1) (add_pos x k.0 n)
+use Rattle.asl_cons.proofs.Results.{some_same, none_some, IsWhole, int_is, Bounded, Most, Least, bound_of, bounded_by, Between, number_end, integer_end_is, ends_is, begun, ended, nothing, limited_in, pairs_in}
 
 -- ---- division
 
@@ -61,15 +41,25 @@ floor_up x y n p h = by_law (floor_div x n) (floor_div y n) (floor_mod x n) (flo
 
 -- ---- constant parts
 
-range_by : (p : Part) (a : ℕ → ℤ) (o q : Option ℤ) (r : ℤ × ℤ) → number_of p.low ≡ o → number_of p.high ≡ q → bind o (λ l. bind q (λ h. Some (l, h))) ≡ Some r → (end_value a p.low ≡ r.0) × (end_value a p.high ≡ r.1)
+range_by : (p : Part) (a : ℕ → ℤ) (o q : Option ℤ) (r : ℤ × ℤ) → number_of p.low ≡ o → number_of p.high ≡ q
+    → bind o (λ l. bind q (λ h. Some (l, h))) ≡ Some r
+    → IsWhole a (poly_of p.low) r.0 × IsWhole a (poly_of p.high) r.1
 range_by p a None q r e f g = none_some r g
 range_by p a (Some l) None r e f g = none_some r g
 range_by p a (Some l) (Some h) r e f g =
-    let s : (l, h) ≡ r = some_same (l, h) r g in
-    (number_end p.low a l e ∙ ap (λ (t : ℤ × ℤ). t.0) s, number_end p.high a h f ∙ ap (λ (t : ℤ × ℤ). t.1) s)
+    let s : (l, h) ≡ r = some_same (l, h) r g in (
+      subst (IsWhole a (poly_of p.low)) (ap (λ (t : ℤ × ℤ). t.0) s) (number_end p.low a l e),
+      subst (IsWhole a (poly_of p.high)) (ap (λ (t : ℤ × ℤ). t.1) s) (number_end p.high a h f),
+    )
 
-range_is : (p : Part) (a : ℕ → ℤ) (r : ℤ × ℤ) → range_of p ≡ Some r → (end_value a p.low ≡ r.0) × (end_value a p.high ≡ r.1)
+range_is : (p : Part) (a : ℕ → ℤ) (r : ℤ × ℤ) → range_of p ≡ Some r → IsWhole a (poly_of p.low) r.0 × IsWhole a (poly_of p.high) r.1
 range_is p a r h = range_by p a (number_of p.low) (number_of p.high) r refl refl h
+
+-- an integer between the ends of a constant part
+range_holds : (p : Part) (a : ℕ → ℤ) (r : ℤ × ℤ) (x : ℤ) → range_of p ≡ Some r → Between a x p → (r.0 ≤ℤ x) × (x ≤ℤ r.1)
+range_holds p a r x h i =
+    let s = range_is p a r h in
+    (bound_of Most a (poly_of p.low) r.0 x s.0 i.0, bound_of Least a (poly_of p.high) r.1 x s.1 i.1)
 
 -- a step behind an option
 record Taken {A B : Type 0} (o : Option A) (f : A → Option B) (y : B) : Type 0 where
@@ -117,13 +107,17 @@ record One (least : ℕ) (y m : ℤ) : Type 0 where
 one_of : (least : ℕ) (q : Part) (a : ℕ → ℤ) (y m : ℤ) → point_of least q ≡ Some m → Between a y q → One least y m
 one_of least q a y m h i =
     let t = taken (range_of q) (λ r. point_in least r.0 r.1) m h in
-    let r = range_is q a t.one t.first in
+    let r = range_holds q a t.one y t.first i in
     let p = point_is least t.one.0 t.one.1 m t.then in
-    record { at = p.at; is = p.is; same = squeezed m y (subst (λ z. z ≤ℤ y) (r.0 ∙ p.low) i.0) (subst (λ z. y ≤ℤ z) (r.1 ∙ p.high) i.1); enough = p.enough }
+    record { at = p.at; is = p.is; same = squeezed m y (subst (λ z. z ≤ℤ y) p.low r.0) (subst (λ z. y ≤ℤ z) p.high r.1); enough = p.enough }
 
 -- a part between two integers
+part_holds : (a : ℕ → ℤ) (e f : End) (l h z : ℤ) → IsWhole a (poly_of e) l → IsWhole a (poly_of f) h → l ≤ℤ z → z ≤ℤ h
+    → Between a z (part e f)
+part_holds a e f l h z u v i j = (bounded_by Most a (poly_of e) l z u i, bounded_by Least a (poly_of f) h z v j)
+
 integers : (a : ℕ → ℤ) (l h z : ℤ) → l ≤ℤ z → z ≤ℤ h → Between a z (part (Int l) (Int h))
-integers a l h z i j = (subst (λ y. y ≤ℤ z) (sym (value_constant_map a l)) i, subst (λ y. z ≤ℤ y) (sym (value_constant_map a h)) j)
+integers a l h z i j = part_holds a (Int l) (Int h) l h z (int_is a l) (int_is a h) i j
 
 -- ---- remainders: the right parts alone
 
@@ -160,12 +154,12 @@ quotient_sound a p q r x y h i j =
     let t = taken (range_of p) (λ s. bind (point_of 1 q) (λ m. Some (part (Int (floor_div s.0 (unsigned_abs m))) (Int (floor_div s.1 (unsigned_abs m)))))) r h in
     let u = taken (point_of 1 q) (λ m. Some (part (Int (floor_div t.one.0 (unsigned_abs m))) (Int (floor_div t.one.1 (unsigned_abs m))))) r t.then in
     let o = one_of 1 q a y u.one u.first j in
-    let s = range_is p a t.one t.first in
+    let s = range_holds p a t.one x t.first i in
     let n : ℕ = unsigned_abs u.one in
     let big : 0 < n = more_than n o.at (abs_is u.one o.at o.is) o.enough in
     subst (λ z. Between a (floor_div x (unsigned_abs z)) r) (sym o.same)
     (subst (Between a (floor_div x n)) (some_same (part (Int (floor_div t.one.0 n)) (Int (floor_div t.one.1 n))) r u.then)
-    (integers a (floor_div t.one.0 n) (floor_div t.one.1 n) (floor_div x n) (floor_up t.one.0 x n big (subst (λ z. z ≤ℤ x) s.0 i.0)) (floor_up x t.one.1 n big (subst (λ z. x ≤ℤ z) s.1 i.1))))
+    (integers a (floor_div t.one.0 n) (floor_div t.one.1 n) (floor_div x n) (floor_up t.one.0 x n big s.0) (floor_up x t.one.1 n big s.1)))
   where
     more_than : (n k : ℕ) → n ≡ k → 1 ≤ k → 0 < n
     more_than n k e h = omega arith
@@ -184,12 +178,12 @@ shifted_down_sound a p q r x y h i j =
     let t = taken (range_of p) (λ s. bind (point_of 0 q) (λ k. Some (part (Int (floor_div s.0 (2 ^ unsigned_abs k))) (Int (floor_div s.1 (2 ^ unsigned_abs k)))))) r h in
     let u = taken (point_of 0 q) (λ k. Some (part (Int (floor_div t.one.0 (2 ^ unsigned_abs k))) (Int (floor_div t.one.1 (2 ^ unsigned_abs k))))) r t.then in
     let o = one_of 0 q a y u.one u.first j in
-    let s = range_is p a t.one t.first in
+    let s = range_holds p a t.one x t.first i in
     let n : ℕ = 2 ^ unsigned_abs u.one in
     let big : 0 < n = some_power (unsigned_abs u.one) in
     subst (λ z. Between a (floor_div x (2 ^ unsigned_abs z)) r) (sym o.same)
     (subst (Between a (floor_div x n)) (some_same (part (Int (floor_div t.one.0 n)) (Int (floor_div t.one.1 n))) r u.then)
-    (integers a (floor_div t.one.0 n) (floor_div t.one.1 n) (floor_div x n) (floor_up t.one.0 x n big (subst (λ z. z ≤ℤ x) s.0 i.0)) (floor_up x t.one.1 n big (subst (λ z. x ≤ℤ z) s.1 i.1))))
+    (integers a (floor_div t.one.0 n) (floor_div t.one.1 n) (floor_div x n) (floor_up t.one.0 x n big s.0) (floor_up x t.one.1 n big s.1)))
 
 pub shifted_down_in : (a : ℕ → ℤ) (ps qs : List Part) (x y : ℤ) → In a x ps → In a y qs → In a (floor_div x (2 ^ unsigned_abs y)) (shifted_down_parts ps qs)
 unfolding shifted_down_parts
@@ -201,12 +195,12 @@ shifted_up_sound a p q r x y h i j =
     let u = taken (point_of 0 q) (λ k. part_of (integer_end (exact (t.one.0 *ℤ power_of_two k))) (integer_end (exact (t.one.1 *ℤ power_of_two k)))) r t.then in
     let e = ended (integer_end (exact (t.one.0 *ℤ power_of_two u.one))) (integer_end (exact (t.one.1 *ℤ power_of_two u.one))) r u.then in
     let o = one_of 0 q a y u.one u.first j in
-    let s = range_is p a t.one t.first in
+    let s = range_holds p a t.one x t.first i in
     subst (λ z. Between a (x *ℤ power_of_two z) r) (sym o.same)
-    (subst (Between a (x *ℤ power_of_two u.one)) e.is (
-      subst (λ z. z ≤ℤ (x *ℤ power_of_two u.one)) (sym (integer_end_is (t.one.0 *ℤ power_of_two u.one) e.low a e.first)) (times_pos t.one.0 x (2 ^ unsigned_abs u.one) (subst (λ z. z ≤ℤ x) s.0 i.0)),
-      subst (λ z. (x *ℤ power_of_two u.one) ≤ℤ z) (sym (integer_end_is (t.one.1 *ℤ power_of_two u.one) e.high a e.rest)) (times_pos x t.one.1 (2 ^ unsigned_abs u.one) (subst (λ z. x ≤ℤ z) s.1 i.1)),
-    ))
+    (subst (Between a (x *ℤ power_of_two u.one)) e.is
+    (part_holds a e.low e.high (t.one.0 *ℤ power_of_two u.one) (t.one.1 *ℤ power_of_two u.one) (x *ℤ power_of_two u.one)
+    (integer_end_is (t.one.0 *ℤ power_of_two u.one) e.low a e.first) (integer_end_is (t.one.1 *ℤ power_of_two u.one) e.high a e.rest)
+    (times_pos t.one.0 x (2 ^ unsigned_abs u.one) s.0) (times_pos x t.one.1 (2 ^ unsigned_abs u.one) s.1)))
 
 pub shifted_up_in : (a : ℕ → ℤ) (ps qs : List Part) (x y : ℤ) → In a x ps → In a y qs → In a (x *ℤ power_of_two y) (shifted_up_parts ps qs)
 unfolding shifted_up_parts
@@ -283,37 +277,46 @@ corners_high l h m k x y i j p q =
 
 range_sound : (a : ℕ → ℤ) (p q r : Part) (s u : ℤ × ℤ) (x y : ℤ) → range_of p ≡ Some s → range_of q ≡ Some u → product_range s u ≡ Some r → Between a x p → Between a y q → Between a (x *ℤ y) r
 range_sound a p q r s u x y e f h i j =
-    let v = range_is p a s e in
-    let w = range_is q a u f in
+    let v = range_holds p a s x e i in
+    let w = range_holds q a u y f j in
     let L : ℤ = int_min (int_min (s.0 *ℤ u.0) (s.0 *ℤ u.1)) (int_min (s.1 *ℤ u.0) (s.1 *ℤ u.1)) in
     let M : ℤ = int_max (int_max (s.0 *ℤ u.0) (s.0 *ℤ u.1)) (int_max (s.1 *ℤ u.0) (s.1 *ℤ u.1)) in
     let g = ended (integer_end (exact L)) (integer_end (exact M)) r h in
-    let i0 : s.0 ≤ℤ x = subst (λ z. z ≤ℤ x) v.0 i.0 in
-    let i1 : x ≤ℤ s.1 = subst (λ z. x ≤ℤ z) v.1 i.1 in
-    let j0 : u.0 ≤ℤ y = subst (λ z. z ≤ℤ y) w.0 j.0 in
-    let j1 : y ≤ℤ u.1 = subst (λ z. y ≤ℤ z) w.1 j.1 in
-    subst (Between a (x *ℤ y)) g.is (
-      subst (λ z. z ≤ℤ (x *ℤ y)) (sym (integer_end_is L g.low a g.first)) (corners_low s.0 s.1 u.0 u.1 x y i0 i1 j0 j1),
-      subst (λ z. (x *ℤ y) ≤ℤ z) (sym (integer_end_is M g.high a g.rest)) (corners_high s.0 s.1 u.0 u.1 x y i0 i1 j0 j1),
-    )
+    subst (Between a (x *ℤ y)) g.is
+    (part_holds a g.low g.high L M (x *ℤ y) (integer_end_is L g.low a g.first) (integer_end_is M g.high a g.rest)
+    (corners_low s.0 s.1 u.0 u.1 x y v.0 v.1 w.0 w.1) (corners_high s.0 s.1 u.0 u.1 x y v.0 v.1 w.0 w.1))
 
-times_left : (n : ℕ) (x y : ℤ) → x ≤ℤ y → (pos n *ℤ x) ≤ℤ (pos n *ℤ y)
-times_left n x y h = rw (*ℤ_comm (pos n) x, *ℤ_comm (pos n) y) (times_pos x y n h)
+-- the integer w, at least 0
+abbrev Is : ℤ → ℤ → Type 0
+Is v w = (v ≡ w) × (pos 0 ≤ℤ v)
 
-product_end_is : (e f g : End) (a : ℕ → ℤ) → product_end e f ≡ Some g → end_value a g ≡ end_value a e *ℤ end_value a f
-product_end_is e f g a h = ends_is (λ x y. x *ℤ y) product_fits product_map value_product_map e f g a h
+product_end_most : (e f g : End) (a : ℕ → ℤ) (x y : ℤ) → Bounded Is a (poly_of e) x → IsAtMost a (poly_of f) y → product_end e f ≡ Some g
+    → IsAtMost a (poly_of g) (x *ℤ y)
+product_end_most =
+    ends_is Is Most Most (λ x y. x *ℤ y) product_fits product_map
+    (λ u v x y h k. subst (λ z. (u *ℤ v) ≤ℤ (z *ℤ y)) h.0 (times_most u v y h.1 k))
+    (λ a p q x y h k. product_most a p q x y h.0 h.1 k)
+
+product_end_least : (e f g : End) (a : ℕ → ℤ) (x y : ℤ) → Bounded Is a (poly_of e) x → IsAtLeast a (poly_of f) y → product_end e f ≡ Some g
+    → IsAtLeast a (poly_of g) (x *ℤ y)
+product_end_least =
+    ends_is Is Least Least (λ x y. x *ℤ y) product_fits product_map
+    (λ u v x y h k. subst (λ z. (z *ℤ y) ≤ℤ (u *ℤ v)) h.0 (times_most u y v h.1 k))
+    (λ a p q x y h k. product_least a p q x y h.0 h.1 k)
 
 scaled_sound : (a : ℕ → ℤ) (p q r : Part) (s : ℤ × ℤ) (x y : ℤ) → range_of p ≡ Some s → scaled_part s q ≡ Some r → Between a x p → Between a y q → Between a (x *ℤ y) r
 scaled_sound a p q r s x y e h i j =
     let t = taken (point_in 0 s.0 s.1) (λ c. part_of (product_end (Int c) q.low) (product_end (Int c) q.high)) r h in
     let g = ended (product_end (Int t.one) q.low) (product_end (Int t.one) q.high) r t.then in
-    let v = range_is p a s e in
+    let v = range_holds p a s x e i in
     let k = point_is 0 s.0 s.1 t.one t.first in
-    let same : x ≡ t.one = squeezed t.one x (subst (λ z. z ≤ℤ x) (v.0 ∙ k.low) i.0) (subst (λ z. x ≤ℤ z) (v.1 ∙ k.high) i.1) in
-    subst (λ z. Between a (z *ℤ y) r) (sym (same ∙ k.is))
-    (subst (Between a (pos k.at *ℤ y)) g.is (
-      subst (λ z. z ≤ℤ (pos k.at *ℤ y)) (sym (product_end_is (Int t.one) q.low g.low a g.first ∙ ap (λ z. z *ℤ end_value a q.low) (value_constant_map a t.one ∙ k.is))) (times_left k.at (end_value a q.low) y j.0),
-      subst (λ z. (pos k.at *ℤ y) ≤ℤ z) (sym (product_end_is (Int t.one) q.high g.high a g.rest ∙ ap (λ z. z *ℤ end_value a q.high) (value_constant_map a t.one ∙ k.is))) (times_left k.at y (end_value a q.high) j.1),
+    let same : x ≡ t.one = squeezed t.one x (subst (λ z. z ≤ℤ x) k.low v.0) (subst (λ z. x ≤ℤ z) k.high v.1) in
+    let b : Bounded Is a (constant_map t.one) t.one = bounded_by Is a (constant_map t.one) t.one t.one (int_is a t.one)
+    (refl, subst (λ z. pos 0 ≤ℤ z) (sym k.is) (no_less k.at)) in
+    subst (λ z. Between a (z *ℤ y) r) (sym same)
+    (subst (Between a (t.one *ℤ y)) g.is (
+      product_end_most (Int t.one) q.low g.low a t.one y b j.0 g.first,
+      product_end_least (Int t.one) q.high g.high a t.one y b j.1 g.rest,
     ))
 
 product_by : (a : ℕ → ℤ) (p q r : Part) (o u : Option (ℤ × ℤ)) (x y : ℤ) → range_of p ≡ o → range_of q ≡ u → product_with o u p q ≡ Some r → Between a x p → Between a y q → Between a (x *ℤ y) r

@@ -1,12 +1,13 @@
 -- `arithmetic_law`: sums, differences and unions have what they stand for; the others stand in Products.
-use Rattle.std.proofs.Common.{◌≡◌, inl, inr, ◌&&◌, Bool, true, false, cond, List, [], ◌∷◌, ◌++◌, length, Option, Some, None, refl, sym, ap, ap₂, ◌∙◌, subst, ℕ, arith}
-use Rattle.std.specs.Prelude.{◌≤ℤ◌, ◌+ℤ◌, ◌-ℤ◌, ◌*ℤ◌, nat_le}
+use Rattle.std.proofs.Common.{◌≡◌, inl, inr, ◌&&◌, Bool, true, false, cond, List, [], ◌∷◌, ◌++◌, length, Option, Some, None, refl, sym, ap, ◌∙◌, subst, ℕ, arith}
+use Rattle.std.specs.Prelude.{◌≤ℤ◌, ◌+ℤ◌, ◌-ℤ◌, ◌*ℤ◌, ◌==◌, nat_le}
 use Rattle.std.proofs.Math.IntN.{ℤ, pos}
 use Rattle.std.proofs.lemmas.Int.{ints}
 use Rattle.asl_poly.specs.Terms.{Summand, Polynomial, value}
-use Rattle.asl_poly.specs.Operations.{constant_of, constant_if, sum_terms, difference_terms, product_terms}
-use Rattle.asl_poly.specs.Poly.{constant_value, sum_map, difference_map, product_map}
-use Rattle.asl_poly.proofs.Maps.{value_sum, value_difference, value_product}
+use Rattle.asl_poly.specs.Operations.{constant_of, constant_if}
+use Rattle.asl_poly.specs.Poly.{IsAtMost, IsAtLeast, constant_value, constant_map, sum_map, difference_map}
+use Rattle.asl_poly.proofs.Divisors.{is_same}
+use Rattle.asl_poly.proofs.Bounds.{sum_most, sum_least, difference_most, difference_least}
 use Rattle.asl_poly.proofs.Ring.{mul-one}
 use Rattle.asl_cons.specs.declared.End.{End}
 use Rattle.asl_cons.specs.declared.End.TheVariants.{Int, Width}
@@ -14,7 +15,7 @@ use Rattle.asl_cons.specs.declared.Part.{Part}
 use Rattle.asl_cons.specs.Constraint.{poly_of, InSome, In}
 use Rattle.asl_cons.specs.Arithmetic.{exact, number_of, shown_by, shown, integer_end, width_end, widths, ends_with, light_end, sum_fits, sum_end, difference_end, part, part_of, sum_part, difference_part, limited, with_part, joined_parts, with_each, all_pairs, by_pairs, sum_parts, difference_parts, union_parts}
 use Rattle.asl_cons.proofs.ExactResults.{exact_some}
-use Rattle.asl_cons.proofs.Covering.{end_value, value_constant_map}
+use Rattle.asl_cons.proofs.Covering.{value_constant_map, denominator_constant_map}
 
 pub some_same : {A : Type 0} (x y : A) → Some x ≡ Some y → x ≡ y
 some_same x y h = cc
@@ -22,84 +23,141 @@ some_same x y h = cc
 pub none_some : {A B : Type 0} (x : A) → None ≡ Some x → B
 none_some x h = absurd cc
 
--- ---- values of polynomials
+-- ---- what an end is
 
-one_term : (a : ℕ → ℤ) (t : Summand) (ts : List Summand) (ms : List ℕ) (z : ℤ) → t.factors ≡ ms → constant_if ms ts t.coefficient ≡ Some z → value a (t ∷ ts) ≡ z
-one_term a t [] [] z f h = let e : t.coefficient ≡ z = cc in let m : t.coefficient *ℤ pos 1 ≡ t.coefficient = mul-one t.coefficient in rw (f, m) (omega (arith, ints))
-one_term a t (u ∷ us) [] z f h = none_some z h
-one_term a t ts (x ∷ xs) z f h = none_some z h
+number_of_one : (a : ℕ → ℤ) (t : Summand) (ts : List Summand) (ms : List ℕ) (z : ℤ) → t.factors ≡ ms
+    → constant_if ms ts t.coefficient ≡ Some z → value a (t ∷ ts) ≡ z
+number_of_one a t [] [] z f h =
+    let e : t.coefficient ≡ z = cc in let m : t.coefficient *ℤ pos 1 ≡ t.coefficient = mul-one t.coefficient in
+    rw (f, m) (omega (arith, ints))
+number_of_one a t (u ∷ us) [] z f h = none_some z h
+number_of_one a t ts (x ∷ xs) z f h = none_some z h
 
-constant_terms_are : (a : ℕ → ℤ) (ts : List Summand) (z : ℤ) → constant_of ts ≡ Some z → value a ts ≡ z
-constant_terms_are a [] z h = cc
-constant_terms_are a (t ∷ ts) z h = one_term a t ts t.factors z refl h
+number_of_terms : (a : ℕ → ℤ) (ts : List Summand) (z : ℤ) → constant_of ts ≡ Some z → value a ts ≡ z
+number_of_terms a [] z h = cc
+number_of_terms a (t ∷ ts) z h = number_of_one a t ts t.factors z refl h
 
-pub constant_is : (a : ℕ → ℤ) (p : Polynomial) (z : ℤ) → constant_value p ≡ Some z → value a p.terms ≡ z
+-- the terms have the value z, and the denominator is 1
+abbrev pub IsWhole : (ℕ → ℤ) → Polynomial → ℤ → Type 0
+IsWhole a p z = (value a p.terms ≡ z) × (p.denominator ≡ 1)
+
+constant_by : (b : Bool) (a : ℕ → ℤ) (p : Polynomial) (z : ℤ) → (p.denominator == 1) ≡ b → cond b (constant_of p.terms) None ≡ Some z
+    → IsWhole a p z
+constant_by true a p z e h = (number_of_terms a p.terms z h, is_same p.denominator 1 e)
+constant_by false a p z e h = none_some z h
+
+pub constant_is : (a : ℕ → ℤ) (p : Polynomial) (z : ℤ) → constant_value p ≡ Some z → IsWhole a p z
 unfolding constant_value
-constant_is a p z h = constant_terms_are a p.terms z h
+constant_is a p z h = constant_by (p.denominator == 1) a p z refl h
 
-pub value_sum_map : (a : ℕ → ℤ) (p q : Polynomial) → value a (sum_map p q).terms ≡ value a p.terms +ℤ value a q.terms
-unfolding sum_map
-value_sum_map a p q = value_sum a p.terms q.terms (sum_terms p.terms q.terms) refl
+pub int_is : (a : ℕ → ℤ) (z : ℤ) → IsWhole a (constant_map z) z
+int_is a z = (value_constant_map a z, denominator_constant_map z)
 
-pub value_difference_map : (a : ℕ → ℤ) (p q : Polynomial) → value a (difference_map p q).terms ≡ value a p.terms -ℤ value a q.terms
-unfolding difference_map
-value_difference_map a p q = value_difference a p.terms q.terms (difference_terms p.terms q.terms) refl
-
-pub value_product_map : (a : ℕ → ℤ) (p q : Polynomial) → value a (product_map p q).terms ≡ value a p.terms *ℤ value a q.terms
-unfolding product_map
-value_product_map a p q = value_product a p.terms q.terms (product_terms p.terms q.terms) refl
-
--- ---- ends
-
-pub number_end : (e : End) (a : ℕ → ℤ) (z : ℤ) → number_of e ≡ Some z → end_value a e ≡ z
-number_end (Int y) a z h = value_constant_map a y ∙ some_same y z h
+pub number_end : (e : End) (a : ℕ → ℤ) (z : ℤ) → number_of e ≡ Some z → IsWhole a (poly_of e) z
+number_end (Int y) a z h = subst (IsWhole a (constant_map y)) (some_same y z h) (int_is a y)
 number_end (Width p) a z h = constant_is a p z h
 
-shown_by_is : (o : Option ℤ) (p : Polynomial) (a : ℕ → ℤ) → constant_value p ≡ o → end_value a (shown_by o p) ≡ value a p.terms
-shown_by_is (Some c) p a e = value_constant_map a c ∙ sym (constant_is a p c e)
-shown_by_is None p a e = refl
+-- both are one number over one denominator
+abbrev pub Alike : (ℕ → ℤ) → Polynomial → Polynomial → Type 0
+Alike a p q = (value a p.terms ≡ value a q.terms) × (p.denominator ≡ q.denominator)
 
-pub shown_is : (p : Polynomial) (a : ℕ → ℤ) → end_value a (shown p) ≡ value a p.terms
+whole_alike : (a : ℕ → ℤ) (p q : Polynomial) (z : ℤ) → IsWhole a p z → IsWhole a q z → Alike a p q
+whole_alike a p q z h k = (h.0 ∙ sym k.0, h.1 ∙ sym k.1)
+
+shown_by_is : (o : Option ℤ) (p : Polynomial) (a : ℕ → ℤ) → constant_value p ≡ o → Alike a (poly_of (shown_by o p)) p
+shown_by_is (Some c) p a e = whole_alike a (constant_map c) p c (int_is a c) (constant_is a p c e)
+shown_by_is None p a e = (refl, refl)
+
+pub shown_is : (p : Polynomial) (a : ℕ → ℤ) → Alike a (poly_of (shown p)) p
 shown_is p a = shown_by_is (constant_value p) p a refl
 
-integer_end_by : (o : Option ℤ) (z : ℤ) (g : End) (a : ℕ → ℤ) → exact z ≡ o → integer_end o ≡ Some g → end_value a g ≡ z
+integer_end_by : (o : Option ℤ) (z : ℤ) (g : End) (a : ℕ → ℤ) → exact z ≡ o → integer_end o ≡ Some g → IsWhole a (poly_of g) z
 integer_end_by None z g a e h = none_some g h
-integer_end_by (Some n) z g a e h = ap (end_value a) (sym (some_same (Int n) g h)) ∙ value_constant_map a n ∙ (exact_some z n e).1
+integer_end_by (Some n) z g a e h =
+    subst (λ f. IsWhole a (poly_of f) z) (some_same (Int n) g h) (subst (IsWhole a (constant_map n)) (exact_some z n e).1 (int_is a n))
 
-pub integer_end_is : (z : ℤ) (g : End) (a : ℕ → ℤ) → integer_end (exact z) ≡ Some g → end_value a g ≡ z
+pub integer_end_is : (z : ℤ) (g : End) (a : ℕ → ℤ) → integer_end (exact z) ≡ Some g → IsWhole a (poly_of g) z
 integer_end_is z g a h = integer_end_by (exact z) z g a refl h
 
-width_end_is : (b : Bool) (p : Polynomial) (g : End) (a : ℕ → ℤ) → width_end b p ≡ Some g → end_value a g ≡ value a p.terms
-width_end_is true p g a h = ap (end_value a) (sym (some_same (shown p) g h)) ∙ shown_is p a
+width_end_is : (b : Bool) (p : Polynomial) (g : End) (a : ℕ → ℤ) → width_end b p ≡ Some g → Alike a (poly_of g) p
+width_end_is true p g a h = subst (λ f. Alike a (poly_of f) p) (some_same (shown p) g h) (shown_is p a)
 width_end_is false p g a h = none_some g h
 
--- what an operation makes of polynomials has the value that it makes of theirs
-abbrev pub Makes : (ℤ → ℤ → ℤ) → (Polynomial → Polynomial → Polynomial) → Type 0
-Makes op made = (a : ℕ → ℤ) (p q : Polynomial) → value a (made p q).terms ≡ op (value a p.terms) (value a q.terms)
+-- ---- bounds of ends
 
-module _ (op : ℤ → ℤ → ℤ) (fit : Polynomial → Polynomial → Bool) (made : Polynomial → Polynomial → Polynomial) (is : Makes op made) where
-  widths_is : (e f g : End) (a : ℕ → ℤ) → widths fit made e f ≡ Some g → end_value a g ≡ op (end_value a e) (end_value a f)
-  widths_is e f g a h = width_end_is (light_end e && (light_end f && fit (poly_of e) (poly_of f))) (made (poly_of e) (poly_of f)) g a h ∙ is a (poly_of e) (poly_of f)
+-- the number of p is to x, times the denominator, as R says
+abbrev pub Bounded : (ℤ → ℤ → Type 0) → (ℕ → ℤ) → Polynomial → ℤ → Type 0
+Bounded R a p x = R (value a p.terms) (x *ℤ pos p.denominator)
 
-  ends_by : (e f g : End) (a : ℕ → ℤ) (o p : Option ℤ) → number_of e ≡ o → number_of f ≡ p → ends_with o p op (widths fit made e f) ≡ Some g → end_value a g ≡ op (end_value a e) (end_value a f)
-  ends_by e f g a (Some x) (Some y) q r h = integer_end_is (op x y) g a h ∙ ap₂ op (sym (number_end e a x q)) (sym (number_end f a y r))
-  ends_by e f g a (Some x) None q r h = widths_is e f g a h
-  ends_by e f g a None p q r h = widths_is e f g a h
+abbrev pub Most : ℤ → ℤ → Type 0
+Most v w = v ≤ℤ w
 
-  pub ends_is : (e f g : End) (a : ℕ → ℤ) → ends_with (number_of e) (number_of f) op (widths fit made e f) ≡ Some g → end_value a g ≡ op (end_value a e) (end_value a f)
-  ends_is e f g a h = ends_by e f g a (number_of e) (number_of f) refl refl h
+abbrev pub Least : ℤ → ℤ → Type 0
+Least v w = w ≤ℤ v
 
-sum_end_is : (e f g : End) (a : ℕ → ℤ) → sum_end e f ≡ Some g → end_value a g ≡ end_value a e +ℤ end_value a f
-sum_end_is e f g a h = ends_is (λ x y. x +ℤ y) sum_fits sum_map value_sum_map e f g a h
+module _ (R : ℤ → ℤ → Type 0) (a : ℕ → ℤ) (p : Polynomial) where
+  pub bound_of : (z x : ℤ) → IsWhole a p z → Bounded R a p x → R z x
+  bound_of z x w h = rw (w.0, w.1, mul-one x) at h
 
-difference_end_is : (e f g : End) (a : ℕ → ℤ) → difference_end e f ≡ Some g → end_value a g ≡ end_value a e -ℤ end_value a f
-difference_end_is e f g a h = ends_is (λ x y. x -ℤ y) sum_fits difference_map value_difference_map e f g a h
+  pub bounded_by : (z x : ℤ) → IsWhole a p z → R z x → Bounded R a p x
+  bounded_by z x w h = rw (w.0, w.1, mul-one x) h
+
+  alike_bounded : (q : Polynomial) (x : ℤ) → Alike a p q → Bounded R a q x → Bounded R a p x
+  alike_bounded q x e h = rw (e.0, e.1) h
+
+-- where an operation keeps bounds on integers and on polynomials, it keeps them on ends
+module _ (P Q R : ℤ → ℤ → Type 0) (op : ℤ → ℤ → ℤ) (fit : Polynomial → Polynomial → Bool) (made : Polynomial → Polynomial → Polynomial)
+    (numbers : (u v x y : ℤ) → P u x → Q v y → R (op u v) (op x y))
+    (kept : (a : ℕ → ℤ) (p q : Polynomial) (x y : ℤ) → Bounded P a p x → Bounded Q a q y → Bounded R a (made p q) (op x y)) where
+  widths_is : (e f g : End) (a : ℕ → ℤ) (x y : ℤ) → Bounded P a (poly_of e) x → Bounded Q a (poly_of f) y → widths fit made e f ≡ Some g
+      → Bounded R a (poly_of g) (op x y)
+  widths_is e f g a x y i j h =
+      alike_bounded R a (poly_of g) (made (poly_of e) (poly_of f)) (op x y)
+      (width_end_is (light_end e && (light_end f && fit (poly_of e) (poly_of f))) (made (poly_of e) (poly_of f)) g a h)
+      (kept a (poly_of e) (poly_of f) x y i j)
+
+  ends_by : (e f g : End) (a : ℕ → ℤ) (x y : ℤ) (o p : Option ℤ) → number_of e ≡ o → number_of f ≡ p → Bounded P a (poly_of e) x
+      → Bounded Q a (poly_of f) y
+      → ends_with o p op (widths fit made e f) ≡ Some g → Bounded R a (poly_of g) (op x y)
+  ends_by e f g a x y (Some u) (Some v) q r i j h =
+      bounded_by R a (poly_of g) (op u v) (op x y) (integer_end_is (op u v) g a h)
+      (numbers u v x y (bound_of P a (poly_of e) u x (number_end e a u q) i) (bound_of Q a (poly_of f) v y (number_end f a v r) j))
+  ends_by e f g a x y (Some u) None q r i j h = widths_is e f g a x y i j h
+  ends_by e f g a x y None p q r i j h = widths_is e f g a x y i j h
+
+  pub ends_is : (e f g : End) (a : ℕ → ℤ) (x y : ℤ) → Bounded P a (poly_of e) x → Bounded Q a (poly_of f) y
+      → ends_with (number_of e) (number_of f) op (widths fit made e f) ≡ Some g → Bounded R a (poly_of g) (op x y)
+  ends_is e f g a x y i j h = ends_by e f g a x y (number_of e) (number_of f) refl refl i j h
+
+sums : (l m x y : ℤ) → l ≤ℤ x → m ≤ℤ y → (l +ℤ m) ≤ℤ (x +ℤ y)
+sums l m x y h k = omega (arith, ints)
+
+differences : (l m x y : ℤ) → l ≤ℤ x → y ≤ℤ m → (l -ℤ m) ≤ℤ (x -ℤ y)
+differences l m x y h k = omega (arith, ints)
+
+sum_end_most : (e f g : End) (a : ℕ → ℤ) (x y : ℤ) → IsAtMost a (poly_of e) x → IsAtMost a (poly_of f) y → sum_end e f ≡ Some g
+    → IsAtMost a (poly_of g) (x +ℤ y)
+sum_end_most = ends_is Most Most Most (λ x y. x +ℤ y) sum_fits sum_map (λ u v x y h k. sums u v x y h k) sum_most
+
+sum_end_least : (e f g : End) (a : ℕ → ℤ) (x y : ℤ) → IsAtLeast a (poly_of e) x → IsAtLeast a (poly_of f) y → sum_end e f ≡ Some g
+    → IsAtLeast a (poly_of g) (x +ℤ y)
+sum_end_least = ends_is Least Least Least (λ x y. x +ℤ y) sum_fits sum_map (λ u v x y h k. sums x y u v h k) sum_least
+
+difference_end_most : (e f g : End) (a : ℕ → ℤ) (x y : ℤ) → IsAtMost a (poly_of e) x → IsAtLeast a (poly_of f) y
+    → difference_end e f ≡ Some g → IsAtMost a (poly_of g) (x -ℤ y)
+difference_end_most =
+    ends_is Most Least Most (λ x y. x -ℤ y) sum_fits difference_map (λ u v x y h k. differences u v x y h k) difference_most
+
+difference_end_least : (e f g : End) (a : ℕ → ℤ) (x y : ℤ) → IsAtLeast a (poly_of e) x → IsAtMost a (poly_of f) y
+    → difference_end e f ≡ Some g → IsAtLeast a (poly_of g) (x -ℤ y)
+difference_end_least =
+    ends_is Least Most Least (λ x y. x -ℤ y) sum_fits difference_map (λ u v x y h k. differences x y u v h k) difference_least
 
 -- ---- parts
 
 -- an integer between the ends of a part
 abbrev pub Between : (ℕ → ℤ) → ℤ → Part → Type 0
-Between a z p = (end_value a p.low ≤ℤ z) × (z ≤ℤ end_value a p.high)
+Between a z p = IsAtMost a (poly_of p.low) z × IsAtLeast a (poly_of p.high) z
 
 pub some_left : (a : ℕ → ℤ) (z : ℤ) (ps qs : List Part) → InSome a z ps → InSome a z (ps ++ qs)
 some_left a z [] qs h = absurd h
@@ -194,27 +252,17 @@ module _ (op : Part → Part → Option Part) (f : ℤ → ℤ → ℤ) (a : ℕ
 
 -- ---- sums and differences
 
-sums : (l m x y : ℤ) → l ≤ℤ x → m ≤ℤ y → (l +ℤ m) ≤ℤ (x +ℤ y)
-sums l m x y h k = omega (arith, ints)
-
-differences : (l m x y : ℤ) → l ≤ℤ x → y ≤ℤ m → (l -ℤ m) ≤ℤ (x -ℤ y)
-differences l m x y h k = omega (arith, ints)
-
 sum_sound : (a : ℕ → ℤ) (p q r : Part) (x y : ℤ) → sum_part p q ≡ Some r → Between a x p → Between a y q → Between a (x +ℤ y) r
 sum_sound a p q r x y h i j =
     let e = ended (sum_end p.low q.low) (sum_end p.high q.high) r h in
-    subst (Between a (x +ℤ y)) e.is (
-      subst (λ z. z ≤ℤ (x +ℤ y)) (sym (sum_end_is p.low q.low e.low a e.first)) (sums (end_value a p.low) (end_value a q.low) x y i.0 j.0),
-      subst (λ z. (x +ℤ y) ≤ℤ z) (sym (sum_end_is p.high q.high e.high a e.rest)) (sums x y (end_value a p.high) (end_value a q.high) i.1 j.1),
-    )
+    subst (Between a (x +ℤ y)) e.is
+    (sum_end_most p.low q.low e.low a x y i.0 j.0 e.first, sum_end_least p.high q.high e.high a x y i.1 j.1 e.rest)
 
 difference_sound : (a : ℕ → ℤ) (p q r : Part) (x y : ℤ) → difference_part p q ≡ Some r → Between a x p → Between a y q → Between a (x -ℤ y) r
 difference_sound a p q r x y h i j =
     let e = ended (difference_end p.low q.high) (difference_end p.high q.low) r h in
-    subst (Between a (x -ℤ y)) e.is (
-      subst (λ z. z ≤ℤ (x -ℤ y)) (sym (difference_end_is p.low q.high e.low a e.first)) (differences (end_value a p.low) (end_value a q.high) x y i.0 j.1),
-      subst (λ z. (x -ℤ y) ≤ℤ z) (sym (difference_end_is p.high q.low e.high a e.rest)) (differences x y (end_value a p.high) (end_value a q.low) i.1 j.0),
-    )
+    subst (Between a (x -ℤ y)) e.is
+    (difference_end_most p.low q.high e.low a x y i.0 j.1 e.first, difference_end_least p.high q.low e.high a x y i.1 j.0 e.rest)
 
 pub sum_in : (a : ℕ → ℤ) (ps qs : List Part) (x y : ℤ) → In a x ps → In a y qs → In a (x +ℤ y) (sum_parts ps qs)
 unfolding sum_parts

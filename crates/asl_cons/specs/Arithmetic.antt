@@ -3,9 +3,9 @@ use Rattle.std.specs.Prelude.{◌==◌, ◌&&◌, nat_le, nat_lt, ℕ, ◌+◌, 
 use Rattle.std.specs.Int.{int_min, int_max}
 use Rattle.asl_num.specs.Exact.{floor_div}
 use Rattle.asl_poly.specs.Terms.{Polynomial}
-use Rattle.asl_poly.specs.WidthLimits.{heaviest, highest, most_atoms}
+use Rattle.asl_poly.specs.WidthLimits.{heaviest, highest, most_atoms, finest}
 use Rattle.asl_poly.specs.Limits.{weight, degree, atoms_of_both}
-use Rattle.asl_poly.specs.Poly.{constant_value, sum_map, difference_map, product_map}
+use Rattle.asl_poly.specs.Poly.{constant_value, sum_denominator, weight_over, sum_map, difference_map, product_map}
 use Rattle.asl_cons.specs.declared.End.{End}
 use Rattle.asl_cons.specs.declared.End.TheVariants.{Int, Width}
 use Rattle.asl_cons.specs.declared.Part.{Part}
@@ -25,7 +25,7 @@ fits (negsuc n) = nat_lt n (2 ^ 127)
 unfoldable pub exact : ℤ → Option ℤ
 exact z = if fits z then Some z else None
 
--- the integer that an end without atoms is
+-- the integer that an end is, where it has no atom and is whole
 abbrev pub number_of : End → Option ℤ
 number_of (Int z) = Some z
 number_of (Width p) = constant_value p
@@ -34,7 +34,7 @@ abbrev pub shown_by : Option ℤ → Polynomial → End
 shown_by (Some c) p = Int c
 shown_by None p = Width p
 
--- the polynomial as an end, an integer where it has no atom
+-- the polynomial as an end, an integer where it is one
 abbrev pub shown : Polynomial → End
 shown p = shown_by (constant_value p) p
 
@@ -45,11 +45,19 @@ light_end (Width p) = true
 
 -- the limits of widths, for the sum or difference, and for the product
 unfoldable pub sum_fits : Polynomial → Polynomial → Bool
-sum_fits p q = nat_le (weight p.terms + weight q.terms) heaviest && nat_le (length (atoms_of_both p.terms q.terms)) most_atoms
+sum_fits p q =
+    nat_le (weight_over (sum_denominator p q) p + weight_over (sum_denominator p q) q) heaviest
+    && (nat_le (length (atoms_of_both p.terms q.terms)) most_atoms && nat_le (sum_denominator p q) finest)
 
 unfoldable pub product_fits : Polynomial → Polynomial → Bool
 product_fits p q =
-    nat_le (weight p.terms * weight q.terms) heaviest && (nat_le (degree p.terms + degree q.terms) highest && nat_le (length (atoms_of_both p.terms q.terms)) most_atoms)
+    nat_le (weight p.terms * weight q.terms) heaviest
+    && (nat_le (degree p.terms + degree q.terms) highest
+    && (nat_le (length (atoms_of_both p.terms q.terms)) most_atoms && nat_le (p.denominator * q.denominator) finest))
+
+-- the limit of a width that is divided by k
+unfoldable pub quotient_fits : Polynomial → ℕ → Bool
+quotient_fits p k = nat_le (p.denominator * k) finest
 
 abbrev pub integer_end : Option ℤ → Option End
 integer_end z = bind z (λ n. Some (Int n))
@@ -66,7 +74,7 @@ ends_with (Some x) (Some y) op other = integer_end (exact (op x y))
 ends_with (Some x) None op other = other
 ends_with None y op other = other
 
--- two ends without atoms are 128-bit integers; where one has an atom, the limits of widths hold for both
+-- two ends that are integers give a 128-bit integer; where one isn't an integer, the limits of widths hold for both
 abbrev pub sum_end : End → End → Option End
 sum_end e f = ends_with (number_of e) (number_of f) (λ x y. x +ℤ y) (widths sum_fits sum_map e f)
 

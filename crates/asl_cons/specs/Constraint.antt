@@ -44,7 +44,7 @@ pub record IsConstraint (ps : List Part) : Type 0 where
 abbrev pub HasEnd : End → ℤ → Type 0
 HasEnd e c = IsConstant (poly_of e) c
 
--- the part is constant, from l to h
+-- the part is constant, from l to h: both ends are integers
 pub record IsFixed (p : Part) (l h : ℤ) : Type 0 where
   pub low : HasEnd p.low l
   pub high : HasEnd p.high h
@@ -62,7 +62,8 @@ abbrev pub InFixed : ℤ → List Part → Type 0
 InFixed i [] = ⊥
 InFixed i (p ∷ ps) = Holds p i ⊎ InFixed i ps
 
--- e is f and one number of at least 0, for all integers at the atoms
+-- e is f and one number of at least 0, for all integers at the atoms: the number is `by` over the product of the denominators,
+-- so it may be a fraction
 pub record IsAbove (e f : End) : Type 0 where
   pub by : ℤ
   pub least : pos 0 ≤ℤ by

@@ -6,9 +6,8 @@ ghost use Rattle.asl_cons.specs.Arithmetic.{limited, union_parts, sum_parts, dif
 
 use crate::Part;
 use crate::arithmetic::{MOST_PARTS, Operator, by_moduli, by_pairs};
-use crate::ends::within_limits;
 use crate::inclusion::all_covered;
-use crate::parts::copy_part;
+use crate::parts::{copy_part, part_within_limits};
 use std::alloc::{AllocError, Global};
 use std::marker::Model;
 
@@ -17,7 +16,7 @@ use std::marker::Model;
 /// The arithmetic takes each pair of parts, the left part first. It gives the whole constraint where an operand is whole
 /// (`modulo` looks at the right operand only), where a pair of parts gives no part, where there would be more than 64
 /// parts, where a constant end does not fit 128 bits, and where an end is beyond the limits of polynomials. A part is
-/// constant where its ends have no atom.
+/// constant where both of its ends are integers: they have no atom, and are whole.
 #[derive(Drop)]
 pub struct Cons {
     parts: Vec<Part>,
@@ -50,8 +49,7 @@ fn all_within_limits(ps: &[Part])
     ensures { AllEnds ps.now }
 {
     for p in ps {
-        within_limits(&p.low);
-        within_limits(&p.high);
+        part_within_limits(p);
     }
 }
 
@@ -75,8 +73,8 @@ impl Cons {
     }
 
     /// Whether `other` is whole, or every integer of the constant parts of this lies in a constant part of `other` and each
-    /// other part `p..q` of this has a part `r..s` in `other` with `p - r` and `s - q` constants of at least 0. The whole
-    /// constraint is below the whole one only. It takes no memory.
+    /// other part `p..q` of this has a part `r..s` in `other` with `p - r` and `s - q` constants of at least 0, which may be
+    /// fractions. The whole constraint is below the whole one only. It takes no memory.
     pub fn below(&self, other: &Cons) -> bool
         ensures { IsTrue result ↔ Below self.now other.now }
     {

@@ -18,7 +18,7 @@ pub(crate) enum Operation {
     Product,
 }
 
-// The value of an end without atoms.
+// The integer that an end is, where it has no atom and is whole.
 pub(crate) fn number_of(e: &End) -> Option<i128>
     ensures number { result ≡ number_of e.now }
     ensures value { MatchOption result ((c : ℤ) → HasEnd e.now c → ⊥) (λ c. HasEnd e.now c) }
@@ -95,7 +95,7 @@ fn on_widths(alloc: Global, op: Operation, e: &End, f: &End) -> Result<Poly, Pol
     }
 }
 
-// The polynomial as an end, which is an integer where it has no atom.
+// The polynomial as an end, which is an integer where it is one for all integers at its atoms.
 fn shown(p: Poly) -> End
     ensures { result ≡ shown p }
 {
@@ -105,7 +105,7 @@ fn shown(p: Poly) -> End
     }
 }
 
-// The result on two ends of which one has an atom, `None` beyond the limits of polynomials.
+// The result on two ends of which one is no integer, `None` beyond the limits of polynomials.
 fn widths(alloc: Global, op: Operation, e: &End, f: &End) -> Result<Option<End>, AllocError>
     ensures { IfOk result (λ r. r ≡ widths_by op e.now f.now) }
 {
@@ -116,8 +116,8 @@ fn widths(alloc: Global, op: Operation, e: &End, f: &End) -> Result<Option<End>,
     }
 }
 
-// What the operation gives: a 128-bit integer where no end has an atom, and otherwise a polynomial; `None` where the result
-// does not fit.
+// What the operation gives: on two integers a 128-bit integer, and otherwise a polynomial, or the integer that it is; `None`
+// where the result does not fit.
 pub(crate) fn combined(
     alloc: Global,
     op: Operation,

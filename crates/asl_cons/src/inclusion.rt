@@ -1,43 +1,50 @@
 //! Whether one constraint is below another.
 
 ghost use Rattle.std.specs.Prelude.{◌≡◌, ◌≢◌, ◌↔◌, ◌⊎◌, ℤ, pos, ◌≤ℤ◌, List, [], IsTrue, MatchOption};
-ghost use Rattle.asl_cons.specs.Constraint.{HasEnd, IsFixed, Holds, InFixed, IsAbove, Held, IsCovered, AllCovered};
+ghost use Rattle.asl_cons.specs.declared.End.TheVariants.{Int, Width};
+ghost use Rattle.asl_cons.specs.Constraint.{IsFixed, Holds, InFixed, IsAbove, Held, IsCovered, AllCovered};
 
-use crate::ends::number_of;
-use crate::parts::range_of;
+use crate::integers::at_most;
+use crate::parts::{part_within_limits, range_of};
 use crate::{End, Part};
+use asl_poly::Poly;
 
 // Whether `e` is `f` and one number of at least 0, for all integers at the atoms.
 fn above(e: &End, f: &End) -> bool
     ensures { IsTrue result ↔ IsAbove e.now f.now }
 {
-    match number_of(e) {
-        Some(x) => match number_of(f) {
-            Some(y) => x >= y,
-            None => false,
-        },
-        None => match number_of(f) {
-            Some(_) => false,
-            None => wider(e, f),
-        },
-    }
-}
-
-// The same for two ends with atoms.
-fn wider(e: &End, f: &End) -> bool
-    requires left { (c : ℤ) → HasEnd e.now c → ⊥ }
-    requires right { (c : ℤ) → HasEnd f.now c → ⊥ }
-    ensures { IsTrue result ↔ IsAbove e.now f.now }
-{
     match e {
-        End::Int(_) => false,
+        End::Int(x) => match f {
+            End::Int(y) => x >= y,
+            End::Width(q) => above_width(*x, q),
+        },
         End::Width(p) => match f {
-            End::Int(_) => false,
+            End::Int(y) => above_integer(p, *y),
             End::Width(q) => match p.offset(q) {
                 Some(c) => c >= 0,
                 None => false,
             },
         },
+    }
+}
+
+// The same for an integer above a width, which may be a fraction without atoms.
+fn above_width(x: i128, q: &Poly) -> bool
+    ensures { IsTrue result ↔ IsAbove (Int x) (Width q.now) }
+{
+    match q.number() {
+        Some(c) => !at_most(x, c - 1, q.denominator()),
+        None => false,
+    }
+}
+
+// The same for a width above an integer.
+fn above_integer(p: &Poly, y: i128) -> bool
+    ensures { IsTrue result ↔ IsAbove (Width p.now) (Int y) }
+{
+    match p.number() {
+        Some(c) => at_most(y, c, p.denominator()),
+        None => false,
     }
 }
 
@@ -57,6 +64,7 @@ fn held(p: &Part, qs: &[Part]) -> bool
 fn end_from(q: &Part, i: i128) -> Option<i128>
     ensures { MatchOption result (Holds q.now i → ⊥) (λ h. (i ≤ℤ h) × ((j : ℤ) → i ≤ℤ j → j ≤ℤ h → Holds q.now j)) }
 {
+    part_within_limits(q);
     match range_of(q) {
         None => None,
         Some((l, h)) => { if l <= i && i <= h { Some(h) } else { None } }
@@ -98,6 +106,7 @@ fn covers(l: i128, h: i128, qs: &[Part]) -> bool
 fn covered(p: &Part, qs: &[Part]) -> bool
     ensures { IsTrue result ↔ IsCovered qs.now p.now }
 {
+    part_within_limits(p);
     match range_of(p) {
         Some((l, h)) => covers(l, h, qs),
         None => held(p, qs),

@@ -1,6 +1,6 @@
 //! Arithmetic on 128-bit integers, `None` where the result does not fit.
 
-ghost use Rattle.std.specs.Prelude.{◌≡◌, ◌*ℤ◌, ◌≤ℤ◌, pos, Some, unsigned_abs};
+ghost use Rattle.std.specs.Prelude.{◌≡◌, ◌↔◌, ◌*ℤ◌, ◌≤ℤ◌, pos, Some, IsTrue, unsigned_abs};
 ghost use Rattle.std.specs.Int.{int_min, int_max};
 ghost use Rattle.asl_num.specs.Exact.{floor_div};
 ghost use Rattle.asl_cons.specs.Arithmetic.{exact, power_of_two};
@@ -26,6 +26,17 @@ pub(crate) fn quotient(x: i128, m: i128) -> Option<i128>
     ensures { result ≡ Some (floor_div x (unsigned_abs m)) }
 {
     asl_num::div_floor(x, m).ok()
+}
+
+// Whether `d` times `x` is at most `c`. The product may be past 128 bits, so `x` is compared with the quotient rounded down.
+pub(crate) fn at_most(x: i128, c: i128, d: i128) -> bool
+    requires { pos 1 ≤ℤ d }
+    ensures { IsTrue result ↔ ((x *ℤ d) ≤ℤ c) }
+{
+    match quotient(c, d) {
+        Some(most) => x <= most,
+        None => false,
+    }
 }
 
 // The least of four integers.

@@ -29,7 +29,7 @@ pub use ranges::Ranges;
 pub enum End {
     /// This integer.
     Int(i128),
-    /// The value of this polynomial. A result of the arithmetic that has no atom is an `Int`.
+    /// The value of this polynomial, which may be a fraction. A result of the arithmetic that is an integer is an `Int`.
     Width(Poly),
 }
 

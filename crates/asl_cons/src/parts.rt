@@ -3,10 +3,10 @@
 ghost use Rattle.std.specs.Prelude.{◌≡◌, ◌<◌, ℤ, pos, ◌*ℤ◌, IfOk, MatchOption};
 ghost use Rattle.asl_num.specs.Exact.{floor_div};
 ghost use Rattle.asl_cons.specs.declared.End.TheVariants.{Int};
-ghost use Rattle.asl_cons.specs.Constraint.{IsFixed};
+ghost use Rattle.asl_cons.specs.Constraint.{IsEnd, IsFixed};
 ghost use Rattle.asl_cons.specs.Arithmetic.{part, range_of, point_in, sum_part, difference_part, product_range, scaled_part, product_part, modulo_part, quotient_part, shifted_up_part, shifted_down_part};
 
-use crate::ends::{Operation, combined, copy_end, number_of};
+use crate::ends::{Operation, combined, copy_end, number_of, within_limits};
 use crate::integers::{least, most, product, quotient, shifted_up};
 use crate::{End, Part};
 use std::alloc::{AllocError, Global};
@@ -19,6 +19,15 @@ pub(crate) fn range_of(p: &Part) -> Option<(i128, i128)>
     let low = number_of(&p.low)?;
     let high = number_of(&p.high)?;
     Some((low, high))
+}
+
+// The ends of a part that are no integers are polynomials within the limits. This says so of them, and does nothing.
+pub(crate) fn part_within_limits(p: &Part)
+    ensures low { IsEnd p.now.low }
+    ensures high { IsEnd p.now.high }
+{
+    within_limits(&p.low);
+    within_limits(&p.high);
 }
 
 // A copy of a part.

@@ -9,7 +9,7 @@ use Rattle.asl_syn.specs.declared.code.Fault.{Fault}
 use Rattle.asl_syn.specs.declared.code.StaticCode.TheVariants.{T11}
 use Rattle.asl_syn.specs.declared.tree.Expr.{Expr}
 use Rattle.asl_poly.specs.Terms.{Summand}
-use Rattle.asl_rules.specs.types.Alone.{is_atom}
+use Rattle.asl_poly.specs.Poly.{is_factor}
 use Rattle.asl_rules.specs.expressions.Calls.{Given, Giving, Replacing, given, replacing, written_first, argument_first, widths_given, widths_omitted, widths_rule, given_by_argument, is_width_alone}
 use Rattle.asl_rules.specs.expressions.Exprs.{found}
 use Rattle.asl_rules.specs.Faults.{◌>>=◌, ◌>>◌, need, found_or}
@@ -170,7 +170,7 @@ giving_none all atom Ts ts i past before =
 
 -- ---- an atom alone
 
-pub not_one : (atom : ℕ) (ts : List Summand) → (length ts ≡ 1 → ⊥) → false ≡ is_atom atom ts
+pub not_one : (atom : ℕ) (ts : List Summand) → (length ts ≡ 1 → ⊥) → false ≡ is_factor atom ts
 not_one atom [] h = refl
 not_one atom (t ∷ []) h = absurd (h refl)
 not_one atom (t ∷ u ∷ ts) h = refl

@@ -1,8 +1,7 @@
 //! What stands for the parameters of a call: the widths in braces, or the whole widths of arguments.
 
 ghost use Rattle.std.specs.Prelude.{◌≡◌, pos, map, option_map, OnOk, IfOk};
-ghost use Rattle.asl_poly.specs.Poly.{constant_map};
-ghost use Rattle.asl_rules.specs.types.Alone.{is_atom, is_only};
+ghost use Rattle.asl_poly.specs.Poly.{constant_map, is_atom, is_factor, is_only};
 ghost use Rattle.asl_rules.specs.expressions.Calls as rules;
 ghost use Rattle.asl_rules.specs.expressions.Calls.{given};
 ghost use Rattle.asl_rules.specs.expressions.Exprs.{found};
@@ -143,10 +142,10 @@ fn is_only(atom: Atom, atoms: &[Atom]) -> bool
     }
 }
 
-/// Whether a width is this atom alone.
+/// Whether a width has this atom as its only term.
 #[tactic(auto, using(crate::proofs::ParamLemmas::not_one))]
-fn is_alone(atom: Atom, width: &Poly) -> bool
-    ensures { result ≡ is_atom atom width.now.terms }
+fn is_factor(atom: Atom, width: &Poly) -> bool
+    ensures { result ≡ is_factor atom width.now.terms }
 {
     if width.terms() != 1 {
         return false;
@@ -155,6 +154,13 @@ fn is_alone(atom: Atom, width: &Poly) -> bool
         None => false,
         Some((coefficient, atoms)) => coefficient == 1 && is_only(atom, atoms),
     }
+}
+
+/// Whether a width is this atom alone.
+fn is_alone(atom: Atom, width: &Poly) -> bool
+    ensures { result ≡ is_atom atom width.now }
+{
+    width.denominator() == 1 && is_factor(atom, width)
 }
 
 /// Whether the type is bits of this parameter alone, without a name.

@@ -2,6 +2,7 @@
 pub mod Lines
 pub mod Sites
 pub mod Statements
+pub mod Steady
 pub mod Programs
 pub mod Verdicts
 pub mod TreeLines

@@ -1,5 +1,6 @@
 -- Each form of expression with its typed tree: both do the same and keep what soundness claims. `AllExprs` has the table of all forms.
 pub mod Claims
+pub mod AskedFractions
 pub mod Standing
 pub mod ElementForms
 pub mod ExprForms

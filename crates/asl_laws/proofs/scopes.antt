@@ -2,6 +2,7 @@
 pub mod Moved
 pub mod Agreeing
 pub mod GrownTexts
+pub mod HeldRules
 pub mod WellTyped
 pub mod OverScope
 pub mod ScopesOver

@@ -1,5 +1,7 @@
 -- Width polynomials: what they are worth, which atoms they have, and where two are the same.
 pub mod PresentNumbers
+pub mod WholeWidths
+pub mod Substituting
 pub mod SameByWorth
 pub mod TypesOver
 pub mod NumbersWorth
@@ -10,3 +12,4 @@ pub mod Omitted
 pub mod WidthValues
 pub mod Obeying
 pub mod Asking
+pub mod OutsideWidths

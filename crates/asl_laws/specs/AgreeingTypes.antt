@@ -20,11 +20,12 @@ use Rattle.asl_rules.specs.declarations.Declarations.{names_of_program}
 use Rattle.asl_rules.specs.declarations.Programs.{Head, funcs_of, signatures, signatures_rule}
 use Rattle.asl_rules.specs.private.WellFormed.{WellFormed, WellDeclared, ShapedParts}
 use Rattle.asl_rules.specs.private.Agreement.{types_in}
+use Rattle.asl_rules.specs.private.Worth.{IsHeld}
 use Rattle.asl_laws.specs.Evaluated.{names_after}
 
--- what a name stands for has a well-formed type
+-- what a name stands for has a well-formed type, and counts as a width within the limits
 abbrev pub StandsFormed : (List ℕ → Option Ty) → Standing → Type 0
-StandsFormed declared (Stored s) = WellFormed declared s.ty
+StandsFormed declared (Stored s) = WellFormed declared s.ty × IsHeld s.counted
 StandsFormed declared Subprogram = Unit {0}
 StandsFormed declared (TypeName T) = WellFormed declared T
 StandsFormed declared (Label T x) = WellFormed declared T

@@ -1,5 +1,5 @@
 -- What the names outside bodies stand for, by the declarations alone: no static rule is cited, so that what a run does doesn't hang on the verdict.
-use Rattle.std.specs.Prelude.{◌≡◌, ℕ, ℤ, List, [], ◌∷◌, if◌then◌else◌, Option, Some, None, option_map, option_and_then}
+use Rattle.std.specs.Prelude.{◌≡◌, ℕ, ◌==◌, ℤ, List, [], ◌∷◌, if◌then◌else◌, Option, Some, None, option_map, option_and_then}
 use Rattle.asl_syn.specs.declared.tree.Expr.{Expr}
 use Rattle.asl_syn.specs.declared.tree.TypeExpr.{TypeExpr}
 use Rattle.asl_syn.specs.declared.tree.Ident.{Ident}
@@ -10,15 +10,17 @@ use Rattle.asl_syn.specs.declared.tree.TypeDecl.{TypeDecl}
 use Rattle.asl_syn.specs.declared.tree.StorageDecl.{StorageDecl}
 use Rattle.asl_syn.specs.declared.tree.Decl.{Decl}
 use Rattle.asl_syn.specs.declared.tree.Decl.TheVariants as dc
+use Rattle.asl_num.specs.Exact.{floor_mod}
+use Rattle.asl_poly.specs.Fractions.{Fraction}
 use Rattle.asl_rules.specs.types.Closed as cl
-use Rattle.asl_rules.specs.types.Closed.{Closed, ClosedFields, closed}
-use Rattle.asl_rules.specs.values.Values.{Value, label}
+use Rattle.asl_rules.specs.types.Closed.{Closed, ClosedFields, closed, floor}
+use Rattle.asl_rules.specs.values.Values.{Value, int, label}
 use Rattle.asl_rules.specs.types.Views.{viewed}
 use Rattle.asl_rules.specs.declarations.Scopes.{Storage, standing_of, storage_of}
 use Rattle.asl_rules.specs.declarations.Declarations.{labels, is_var}
 use Rattle.asl_rules.specs.runs.Plans.{Pure, Good}
 use Rattle.asl_rules.specs.runs.Pures.{◌>>=◌, found_type}
-use Rattle.asl_rules.specs.types.Numbers.{Numbers, integer_of_value, all_numbers}
+use Rattle.asl_rules.specs.types.Numbers.{Numbers, integer_of_value, wholes, all_fractions}
 use Rattle.asl_rules.specs.types.Shaped.{sizes_in}
 use Rattle.asl_rules.specs.types.Written.{Sized, type_span}
 use Rattle.asl_rules.specs.declarations.Constants.{constant}
@@ -93,8 +95,16 @@ pub record TypeDescribed (env : Environment) (d : TypeDecl) : Type 0 where
 
 -- ---- storage
 
+-- the integers that fractions are, where all are whole
+abbrev pub whole_value : Fraction → Option Value
+whole_value r = if floor_mod r.number r.denominator == 0 then Some (int (floor r)) else None
+
+abbrev pub whole_values : List Fraction → Option (List Value)
+whole_values [] = Some []
+whole_values (r ∷ rs) = option_and_then (λ x. option_map (λ xs. x ∷ xs) (whole_values rs)) (whole_value r)
+
 abbrev pub sized_known : Environment → TypeExpr → Option Sized
-sized_known env t = option_and_then (sized_at env t) (all_numbers (known_numbers env) (sizes_in t))
+sized_known env t = option_and_then (sized_at env t) (option_and_then whole_values (all_fractions (wholes (known_numbers env)) (sizes_in t)))
 
 -- storage begins with its initialiser, or with the first value of its type
 abbrev pub begins_with : Environment → Option TypeExpr → Option Expr → Option (Pure Value)

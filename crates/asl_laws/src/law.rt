@@ -48,12 +48,11 @@ ghost use Rattle.asl_laws.specs.Reported.{RunsWell};
 ghost use Rattle.asl_laws.specs.Codes.{HasRuleCode, HasReadingCode};
 ghost use Rattle.asl_laws.specs.Visited.{AllSame};
 ghost use Rattle.asl_laws.specs.Wider.{Fits, FitsLimit, WordsFitLimit};
-ghost use Rattle.asl_laws.specs.WidthScopes.{AsksNothing, AsksSo};
-ghost use Rattle.asl_laws.specs.WidthWorth.{HasWorth, SameWorth, HasIntegers};
+ghost use Rattle.asl_laws.specs.WidthScopes.{StandsAsBefore, SaysSo};
+ghost use Rattle.asl_laws.specs.WidthWorth.{CountsWithin, HasWorth, HasWhole, SameWorth, HasIntegers};
 ghost use Rattle.asl_rules.specs.expressions.Exprs.{found, width};
 ghost use Rattle.asl_rules.specs.expressions.Typing.{Width, Number};
-ghost use Rattle.asl_rules.specs.private.Worth.{Integers, standing_for, Obeys, WellCounted};
-ghost use Rattle.asl_rules.specs.types.Numbers.{number};
+ghost use Rattle.asl_rules.specs.private.Worth.{Integers, Obeys, WellCounted};
 ghost use Rattle.asl_syn.specs.declared.tree.Func.{Func};
 
 /// One run: for each program, state and node there is exactly one outcome, with one state, one number of steps left and
@@ -94,8 +93,8 @@ pub fn law2()
 /// each caller agrees with the scope of the call that it waits for, whose typed tree calls the subprogram that is active behind it.
 /// Each expression with a type gives values of it from each state that agrees with its scope. The globals hold what was declared,
 /// however a call ends. Typed trees do what the trees do that they were judged from. A width expression that is evaluated, wherever
-/// it is written, gives the integer that it has as a width, or the fault D01, or D12 or D13 as any node may, and leaves the state as
-/// it was; so does an end of a constraint (`width_values`).
+/// it is written, gives the integer that it is as a width, or the fault D01, or D03 where a division isn't exact, or D12 or D13 as any
+/// node may, and leaves the state as it was; so does an end of a constraint (`width_values`).
 #[tactic(auto)]
 pub fn law3()
     ensures { (limit : ℕ) (e : Entry) (files : List File) (ds : List Decl) (a : Accepted) → ReadsAt limit files (Ok ds) → (p : ProgramOk limit e ds a) → Soundness p.tests ds a × SameMeaning p.tests ds a }
@@ -187,22 +186,23 @@ pub fn budget_law()
     ensures words { (env : Environment) (entries : Entries) (words : List Word) (globals : List Binding) (h : Meter) (k : ℕ) → SameWordsWithMore k (run_words env entries words globals (with_more k h)) (run_words env entries words globals h) }
 {}
 
-/// Widths over plain integers, which no limit bounds. Where names stand for integers that agree with what stands there, a width has the
-/// plain integer of its expression (`worth`), and so has an end of a constraint that names no atom (`number`). In a scope in which `let`s
-/// count as names that stand for themselves, the test whether two widths are the same says yes exactly where they have one plain integer
-/// at all such integers (`same`), and there are such integers whatever the names that stand for themselves stand for (`integers`). The
-/// names outside bodies are such a scope (`outside`). So are those at the head of a body, of which nothing more is asked (`heads`); those
-/// behind each statement, of which what is asked is that a `let` of one integer, where its initialiser is a width, has the plain integer
-/// of its initialiser (`statements`); and those in loops (`indices`) and in catchers (`catchers`), of which nothing more is asked.
+/// Widths over fractions, which no limit bounds. Where integers agree with what names stand for, an end of a constraint that names no
+/// atom is the integer of its expression (`number`), and where what the names count as is within the limits, a width has the fraction of
+/// its expression (`worth`). In a scope in which `let`s count as names that stand for themselves, the test whether two
+/// widths are the same says yes exactly where they have one fraction at all such integers (`same`), and there are such integers whatever
+/// the names that stand for themselves stand for (`integers`). The names outside
+/// bodies are such a scope (`outside`). So are those at the head of a body (`heads`), behind each statement (`statements`), in loops
+/// (`indices`) and in catchers (`catchers`): what stood there before stands for the same. And behind a `let` of one integer, where its
+/// initialiser is a width, the name stands for the fraction of its initialiser (`statements`).
 #[tactic(auto)]
 pub fn widths_law()
-    ensures worth { (t : Tests) (e : Expr) (G : Scope) (w : Width) (a : Integers) → width t e G ≡ Ok w → Obeys G.names a → HasWorth e G.names a w.poly }
-    ensures number { (t : Tests) (e : Expr) (G : Scope) (n : Number) (a : Integers) → (found t e).number G ≡ Ok n → Obeys G.names a → number e (standing_for a) ≡ Some n.number }
+    ensures worth { (t : Tests) (e : Expr) (G : Scope) (w : Width) (a : Integers) → CountsWithin G.names → width t e G ≡ Ok w → Obeys G.names a → HasWorth e G.names a w.poly }
+    ensures number { (t : Tests) (e : Expr) (G : Scope) (n : Number) (a : Integers) → (found t e).number G ≡ Ok n → Obeys G.names a → HasWhole e G.names a n.number }
     ensures same { (t : Tests) → IsRight t → (e f : Expr) (G : Scope) (v w : Width) → WellCounted G.names → width t e G ≡ Ok v → width t f G ≡ Ok w → (t.same v.poly w.poly ≡ true) ↔ SameWorth G.names e f }
     ensures integers { (names : List Names) → WellCounted names → (b : ℕ → ℤ) → HasIntegers names b }
     ensures outside { (t : Tests) (ds : List Decl) → WellCounted (names_of_program t ds) }
-    ensures heads { (t : Tests) (ds : List Decl) (f : Func) (head : Head) → signature_rule t (names_of_program t ds) f ≡ Ok head → AsksNothing (names_of_program t ds) head.names }
-    ensures statements { (t : Tests) (s : Stmt) (B : Body) (d : Done) → WellCounted B.scope.names → found_stmt t s B ≡ Ok d → AsksSo t s B d }
-    ensures indices { (i : Ident) (T : Ty) (B : Body) → WellCounted B.scope.names → is_free i.text B.scope.names ≡ true → AsksNothing B.scope.names (with_index i T B).scope.names }
-    ensures catchers { (o : Option Ident) (T : Ty) (B C : Body) → WellCounted B.scope.names → with_caught o T B ≡ Ok C → AsksNothing B.scope.names C.scope.names }
+    ensures heads { (t : Tests) (ds : List Decl) (f : Func) (head : Head) → signature_rule t (names_of_program t ds) f ≡ Ok head → StandsAsBefore (names_of_program t ds) head.names }
+    ensures statements { (t : Tests) (s : Stmt) (B : Body) (d : Done) → WellCounted B.scope.names → found_stmt t s B ≡ Ok d → SaysSo t s B d }
+    ensures indices { (i : Ident) (T : Ty) (B : Body) → WellCounted B.scope.names → is_free i.text B.scope.names ≡ true → StandsAsBefore B.scope.names (with_index i T B).scope.names }
+    ensures catchers { (o : Option Ident) (T : Ty) (B C : Body) → WellCounted B.scope.names → with_caught o T B ≡ Ok C → StandsAsBefore B.scope.names C.scope.names }
 {}

@@ -1,4 +1,4 @@
--- Polynomials as lists of terms: their value, and their normal form.
+-- Polynomials as lists of terms over a denominator: the value of the terms, and their normal form.
 use Rattle.std.specs.Prelude.{◌≡◌, ◌≢◌, ℕ, ◌≤◌, ℤ, pos, ◌+ℤ◌, ◌*ℤ◌, List, [], ◌∷◌, length, nat_lt, if◌then◌else◌}
 use Rattle.std.specs.declared.cmp.Ordering.{Ordering}
 use Rattle.std.specs.declared.cmp.Ordering.TheVariants.{Less, Equal, Greater}
@@ -9,14 +9,18 @@ pub record Summand : Type 0 where
   pub coefficient : ℤ
   pub factors : List ℕ
 
--- a polynomial: the sum of its terms
+-- a polynomial: the sum of its terms, over a denominator
 pub record Polynomial : Type 0 where
   pub terms : List Summand
+  pub denominator : ℕ
+
+abbrev pub over : List Summand → ℕ → Polynomial
+over ts d = record { terms = ts; denominator = d }
 
 abbrev pub of_terms : List Summand → Polynomial
-of_terms ts = record { terms = ts }
+of_terms ts = over ts 1
 
--- ---- the value, where `a` gives an integer to each atom
+-- ---- the value of the terms, where `a` gives an integer to each atom
 
 abbrev pub product : (ℕ → ℤ) → List ℕ → ℤ
 product a [] = pos 1

@@ -12,3 +12,7 @@ highest = 4
 -- the most atoms
 abbrev pub most_atoms : ℕ
 most_atoms = 8
+
+-- the greatest denominator, before the lowest terms are found
+abbrev pub finest : ℕ
+finest = 2 ^ 16

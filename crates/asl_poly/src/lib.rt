@@ -1,12 +1,14 @@
 //! Polynomials over unknown integers, for widths such as `2*N + 1`.
 //!
-//! A [`Poly`] is kept in normal form, so two widths are compared by their values for all integers and not by how they are
-//! written: `N + N` and `2*N` are the same. Each `Poly` is within three limits: its weight, the sum of the absolute values
-//! of its coefficients, is at most [`HEAVIEST`]; its degree, the number of factors of a term, is at most [`HIGHEST`]; and it
-//! has at most [`MOST_ATOMS`] atoms.
+//! A [`Poly`] has integer coefficients over a denominator, and is kept in normal form and in lowest terms, so two widths are
+//! compared by their values for all integers and not by how they are written: `N + N` and `2*N` are the same, and so are
+//! `2*N DIV 2` and `N`. Each `Poly` is within four limits: its weight, the sum of the absolute values of its coefficients,
+//! is at most [`HEAVIEST`]; its degree, the number of factors of a term, is at most [`HIGHEST`]; it has at most
+//! [`MOST_ATOMS`] atoms; and its denominator is at most [`FINEST`].
 #![tactic(auto)]
 
 mod constant;
+mod denominators;
 mod limits;
 mod monomial;
 mod poly;
@@ -17,7 +19,8 @@ ghost use Rattle.std.specs.Prelude.{◌≢◌, ℕ, ℤ};
 ghost use Rattle.asl_poly.specs.Terms.{Polynomial};
 ghost use Rattle.asl_poly.specs.Poly.{IsPolynomial, SameAt};
 
-pub use limits::{HEAVIEST, HIGHEST, MOST_ATOMS};
+pub use denominators::least_common_multiple;
+pub use limits::{FINEST, HEAVIEST, HIGHEST, MOST_ATOMS};
 pub use poly::Poly;
 use std::alloc::AllocError;
 use std::marker::Model;
@@ -40,8 +43,8 @@ impl Model for Atom {
 /// Why there is no polynomial.
 #[derive(Clone, Copy, Debug, PartialEq, Eq, Error)]
 pub enum PolyRefused {
-    /// The weight would be above 2^62, the degree above 4, or the number of atoms above 8. All three are counted over the
-    /// operands, before any terms cancel.
+    /// The weight would be above 2^62, the degree above 4, the number of atoms above 8, or the denominator above 65,536. All
+    /// are counted over the operands, before any terms cancel and before the lowest terms are found.
     #[error("the polynomial is past the limits")]
     TooLarge,
     /// There is no memory left.
@@ -60,7 +63,7 @@ impl From<AllocError> for PolyRefused {
     }
 }
 
-/// Two different polynomials within the limits have different values for some integers at their atoms.
+/// Two different polynomials within the limits, in lowest terms, have different values for some integers at their atoms.
 pub fn law4()
     ensures { (p q : Polynomial) → IsPolynomial p → IsPolynomial q → p ≢ q → (a : ℕ → ℤ) × (SameAt a p q → ⊥) }
 {}

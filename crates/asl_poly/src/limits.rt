@@ -1,11 +1,12 @@
 //! The weight, the degree and the atoms of terms, and the limits of sums and products.
 
-ghost use Rattle.std.specs.Prelude.{◌≡◌, ◌≤◌, ◌^◌, ◌↔◌, IsTrue, IfOk, length};
-ghost use Rattle.asl_poly.specs.Terms.{of_terms};
+ghost use Rattle.std.specs.Prelude.{◌≡◌, ◌<◌, ◌≤◌, ◌^◌, ◌↔◌, IsTrue, IfOk, length};
+ghost use Rattle.asl_poly.specs.Terms.{over};
 ghost use Rattle.asl_poly.specs.Limits.{weight, degree, has_atom, note_factors, note_terms, atoms_of_both};
 ghost use Rattle.asl_poly.specs.Poly.{SumFits, ProductFits};
 
 use crate::Atom;
+use crate::denominators::least_common_multiple;
 use crate::term::Term;
 use std::alloc::{AllocError, Global};
 
@@ -17,6 +18,9 @@ pub const HIGHEST: usize = 4;
 
 /// The most atoms of a polynomial.
 pub const MOST_ATOMS: usize = 8;
+
+/// The greatest denominator of a polynomial, also before the lowest terms are found: 65,536.
+pub const FINEST: u128 = 65536;
 
 // The sum of the absolute coefficients.
 pub(crate) fn weight(ts: &[Term]) -> u128
@@ -85,27 +89,50 @@ fn few(alloc: Global, p: &[Term], q: &[Term]) -> Result<bool, AllocError>
     Ok(seen.len() <= MOST_ATOMS)
 }
 
-// Whether the sum of the two, or their difference, is within the limits.
-pub(crate) fn sum_fits(alloc: Global, p: &[Term], q: &[Term]) -> Result<bool, AllocError>
+// Whether the sum of the two, the terms `p` over `d` and `q` over `e`, or their difference, is within the limits.
+pub(crate) fn sum_fits(
+    alloc: Global,
+    p: &[Term],
+    d: u128,
+    q: &[Term],
+    e: u128,
+) -> Result<bool, AllocError>
     requires left { weight p.now ≤ 2 ^ 62 }
     requires right { weight q.now ≤ 2 ^ 62 }
-    ensures { IfOk result (λ b. IsTrue b ↔ SumFits (of_terms p.now) (of_terms q.now)) }
+    requires below_left { 0 < d }
+    requires below_right { 0 < e }
+    requires fine_left { d ≤ 2 ^ 16 }
+    requires fine_right { e ≤ 2 ^ 16 }
+    ensures { IfOk result (λ b. IsTrue b ↔ SumFits (over p.now d) (over q.now e)) }
 {
-    let light = weight(p) + weight(q) <= HEAVIEST;
+    let n = least_common_multiple(d, e);
+    if n > FINEST {
+        return Ok(false);
+    }
+    let light = weight(p) * (n / d) + weight(q) * (n / e) <= HEAVIEST;
     let few = few(alloc, p, q)?;
     Ok(light && few)
 }
 
-// Whether the product of the two is within the limits.
-pub(crate) fn product_fits(alloc: Global, p: &[Term], q: &[Term]) -> Result<bool, AllocError>
+// Whether the product of the two, the terms `p` over `d` and `q` over `e`, is within the limits.
+pub(crate) fn product_fits(
+    alloc: Global,
+    p: &[Term],
+    d: u128,
+    q: &[Term],
+    e: u128,
+) -> Result<bool, AllocError>
     requires left { weight p.now ≤ 2 ^ 62 }
     requires right { weight q.now ≤ 2 ^ 62 }
     requires low { degree p.now ≤ 4 }
     requires flat { degree q.now ≤ 4 }
-    ensures { IfOk result (λ b. IsTrue b ↔ ProductFits (of_terms p.now) (of_terms q.now)) }
+    requires fine_left { d ≤ 2 ^ 16 }
+    requires fine_right { e ≤ 2 ^ 16 }
+    ensures { IfOk result (λ b. IsTrue b ↔ ProductFits (over p.now d) (over q.now e)) }
 {
     let light = weight(p) * weight(q) <= HEAVIEST;
     let low = degree(p) + degree(q) <= HIGHEST;
     let few = few(alloc, p, q)?;
-    Ok(light && low && few)
+    let fine = d * e <= FINEST;
+    Ok(light && low && few && fine)
 }

@@ -5,6 +5,7 @@ pub mod Shapes
 pub mod KindOf
 pub mod Viewing
 pub mod Satisfying
+pub mod Rounded
 pub mod Constrained
 pub mod Keeping
 pub mod Bitless

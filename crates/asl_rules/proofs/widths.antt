@@ -1,8 +1,10 @@
 -- Width polynomials: what they are worth, which atoms they have, and where two are the same.
-pub mod WidthForms
 pub mod WorthForms
+pub mod WidthForms
+pub mod Ratios
+pub mod WidthsHeld
 pub mod WidthsWorth
 pub mod WidthAtoms
-pub mod WidthsHeld
 pub mod Counting
 pub mod ScopesCounted
+pub mod Totals

@@ -9,5 +9,6 @@ pub mod Alone
 pub mod Widths
 pub mod Shapes
 pub mod Shaped
+pub mod Present
 pub mod Written
 pub mod Writing

@@ -1,10 +1,11 @@
--- The value of a polynomial where each atom is 0 is the number in its last term.
-use Rattle.std.proofs.Common.{◌≡◌, ◌≢◌, ℕ, zero, suc, ◌-◌, List, [], ◌∷◌, length, Some, refl, sym, ap, ◌∙◌, arith}
-use Rattle.std.specs.Prelude.{ℤ, pos, ◌+ℤ◌, ◌*ℤ◌, slice_get}
+-- The value of the terms of a width where each atom is 0 is the number in the last one.
+use Rattle.std.proofs.Common.{◌≡◌, ◌≢◌, ℕ, zero, suc, ◌-◌, ◌^◌, ◌≤◌, List, [], ◌∷◌, length, Some, refl, sym, ap, ◌∙◌, arith}
+use Rattle.std.specs.Prelude.{ℤ, pos, ◌+ℤ◌, ◌*ℤ◌, slice_get, unsigned_abs}
 use Rattle.std.proofs.Math.IntN.{zero-*ℤ, *ℤ_comm, +ℤ_idl}
 use Rattle.std.proofs.lemmas.Int.{ints}
 use Rattle.std.specs.declared.cmp.Ordering.TheVariants.{Less}
 use Rattle.asl_poly.specs.Terms.{Summand, Polynomial, product, value, order, Sorted}
+use Rattle.asl_poly.specs.Limits.{weight}
 use Rattle.asl_poly.specs.Poly.{IsPolynomial}
 use Rattle.asl_poly.proofs.Ring.{mul-one}
 use Rattle.asl_shape.specs.private.Numbers.{last_number}
@@ -41,7 +42,7 @@ last (u ∷ v ∷ ts) (suc n) t s h e = by u.factors refl (last (v ∷ ts) n t s
 pub last_is : (p : Polynomial) (n : ℕ) (c : ℤ) (xs : List ℕ) → IsPolynomial p → n ≡ length p.terms → n ≢ 0 → slice_get p.terms (n - 1) ≡ Some (record { coefficient = c; factors = xs }) → last_number c xs ≡ value zeros p.terms
 last_is p n c xs is e h k =
     let up : length p.terms ≡ suc (n - 1) = omega arith in
-    sym (last p.terms (n - 1) (record { coefficient = c; factors = xs }) is.sorted up k)
+    sym (last p.terms (n - 1) (record { coefficient = c; factors = xs }) is.map.sorted up k)
 
 no_terms : (ts : List Summand) → length ts ≡ 0 → pos 0 ≡ value zeros ts
 no_terms [] h = refl
@@ -49,3 +50,19 @@ no_terms (t ∷ ts) h = absurd (omega (arith, h))
 
 pub none_is : (p : Polynomial) (n : ℕ) → n ≡ length p.terms → n ≡ 0 → pos 0 ≡ value zeros p.terms
 none_is p n e h = no_terms p.terms (omega arith)
+
+-- ---- its weight
+
+light_term : (ts : List Summand) (n : ℕ) (t : Summand) → slice_get ts n ≡ Some t → unsigned_abs t.coefficient ≤ weight ts
+light_term [] n t e = absurd cc
+light_term (u ∷ ts) zero t e = let f : u ≡ t = cc in omega (arith, ap (λ (w : Summand). unsigned_abs w.coefficient) f)
+light_term (u ∷ ts) (suc n) t e = omega (arith, light_term ts n t e)
+
+light_number : (c : ℤ) (xs : List ℕ) → unsigned_abs (last_number c xs) ≤ unsigned_abs c
+light_number c [] = omega arith
+light_number c (x ∷ xs) = omega arith
+
+pub light_is : (p : Polynomial) (n : ℕ) (c z : ℤ) (xs : List ℕ) → IsPolynomial p → slice_get p.terms n ≡ Some (record { coefficient = c; factors = xs }) → z ≡ last_number c xs → unsigned_abs z ≤ 2 ^ 62
+light_is p n c z xs is k e =
+    let a : unsigned_abs z ≡ unsigned_abs (last_number c xs) = ap unsigned_abs e in
+    omega (arith, a, light_number c xs, light_term p.terms n (record { coefficient = c; factors = xs }) k, is.map.light)

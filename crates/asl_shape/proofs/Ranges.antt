@@ -2,15 +2,22 @@
 use Rattle.std.proofs.Common.{◌≡◌, ℕ, suc, ◌+◌, ◌<◌, ◌≤◌, ◌==◌, Bool, true, false, cond, List, [], ◌∷◌, length, get_or, drop, Option, Some, None, refl, ap, ◌∙◌, arith}
 use Rattle.std.specs.Prelude.{ℤ, pos, ◌||◌}
 use Rattle.asl_cons.specs.declared.Part.{Part}
-use Rattle.asl_rules.specs.types.Closed.{Range, end_at, ranges_at, constraint_at, in_one, in_some, is_in, lowest, first_in, not_above}
+use Rattle.asl_rules.specs.types.Closed.{Range, floor, ceiling, end_at, ranges_at, constraint_at, in_one, in_some, is_in, lowest, first_in, not_above}
 use Rattle.asl_value.proofs.Among.{at_front, none_after}
 use Rattle.asl_shape.specs.private.Numbers.{range}
 
 abbrev pub ranges : List Part → List Range
 ranges ps = ranges_at ps (λ n. pos 0)
 
+-- the least and the greatest integer of a part
+abbrev low : Part → ℤ
+low p = ceiling (end_at p.low (λ n. pos 0))
+
+abbrev high : Part → ℤ
+high p = floor (end_at p.high (λ n. pos 0))
+
 abbrev pub end : Part → Range
-end p = range (end_at p.low (λ n. pos 0)) (end_at p.high (λ n. pos 0))
+end p = range (low p) (high p)
 
 pub in_here : (z : ℤ) (ps : List Part) (i : ℕ) (p : Part) (all : Bool) → i < length ps → p ≡ get_or ps i p → in_one z (end p) ≡ true → all ≡ in_some z (ranges (drop i ps)) → all ≡ true
 in_here z ps i p all within here this before = before ∙ ap (λ l. in_some z (ranges l)) (at_front ps i p within here) ∙ ap (λ b. b || in_some z (ranges (drop (i + 1) ps))) this
@@ -32,11 +39,11 @@ pub parts_have : (z : ℤ) (ps : List Part) → (length ps == 0) ≡ false → i
 parts_have z [] h = cc
 parts_have z (p ∷ ps) h = refl
 
-pub lowest_here : (ps : List Part) (i : ℕ) (p : Part) (all : Option ℤ) → i < length ps → p ≡ get_or ps i p → not_above (end_at p.low (λ n. pos 0)) (end_at p.high (λ n. pos 0)) ≡ true → all ≡ lowest (ranges (drop i ps)) → all ≡ Some (end_at p.low (λ n. pos 0))
-lowest_here ps i p all within here this before = before ∙ ap (λ l. lowest (ranges l)) (at_front ps i p within here) ∙ ap (λ b. cond b (Some (end_at p.low (λ n. pos 0))) (lowest (ranges (drop (i + 1) ps)))) this
+pub lowest_here : (ps : List Part) (i : ℕ) (p : Part) (all : Option ℤ) → i < length ps → p ≡ get_or ps i p → not_above (low p) (high p) ≡ true → all ≡ lowest (ranges (drop i ps)) → all ≡ Some (low p)
+lowest_here ps i p all within here this before = before ∙ ap (λ l. lowest (ranges l)) (at_front ps i p within here) ∙ ap (λ b. cond b (Some (low p)) (lowest (ranges (drop (i + 1) ps)))) this
 
-pub lowest_later : (ps : List Part) (i : ℕ) (p : Part) (all : Option ℤ) → i < length ps → p ≡ get_or ps i p → not_above (end_at p.low (λ n. pos 0)) (end_at p.high (λ n. pos 0)) ≡ false → all ≡ lowest (ranges (drop i ps)) → all ≡ lowest (ranges (drop (i + 1) ps))
-lowest_later ps i p all within here this before = before ∙ ap (λ l. lowest (ranges l)) (at_front ps i p within here) ∙ ap (λ b. cond b (Some (end_at p.low (λ n. pos 0))) (lowest (ranges (drop (i + 1) ps)))) this
+pub lowest_later : (ps : List Part) (i : ℕ) (p : Part) (all : Option ℤ) → i < length ps → p ≡ get_or ps i p → not_above (low p) (high p) ≡ false → all ≡ lowest (ranges (drop i ps)) → all ≡ lowest (ranges (drop (i + 1) ps))
+lowest_later ps i p all within here this before = before ∙ ap (λ l. lowest (ranges l)) (at_front ps i p within here) ∙ ap (λ b. cond b (Some (low p)) (lowest (ranges (drop (i + 1) ps)))) this
 
 pub lowest_none : (ps : List Part) (i : ℕ) (all : Option ℤ) → length ps ≤ i → all ≡ lowest (ranges (drop i ps)) → all ≡ None
 lowest_none ps i all past before = before ∙ ap (λ l. lowest (ranges l)) (none_after ps i past)

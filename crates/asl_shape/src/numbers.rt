@@ -1,5 +1,6 @@
 //! Types in which no name of a body stands: their widths and constraints as numbers.
-ghost use Rattle.std.specs.Prelude.{◌≡◌, pos};
+ghost use Rattle.std.specs.Prelude.{◌≡◌, ◌≤◌, ◌^◌, pos, unsigned_abs};
+ghost use Rattle.asl_poly.specs.Terms.{value};
 ghost use Rattle.asl_rules.specs.types.Closed as rules;
 ghost use Rattle.asl_shape.specs.private.Numbers.{last_number, range};
 
@@ -7,10 +8,11 @@ use crate::matching::is_at_most;
 use asl_cons::{End, Part};
 use asl_poly::{Atom, Poly};
 
-/// The number that a width stands for.
-#[tactic(auto, using(crate::proofs::AtZero::last_is, crate::proofs::AtZero::none_is))]
-pub(crate) fn number_of(width: &Poly) -> i128
-    ensures { result ≡ rules.width_at width.now (λ n. pos 0) }
+/// The number that the terms of a width are, over its denominator.
+#[tactic(auto, using(crate::proofs::AtZero::last_is, crate::proofs::AtZero::none_is, crate::proofs::AtZero::light_is))]
+fn terms_number(width: &Poly) -> i128
+    ensures is { result ≡ value (λ n. pos 0) width.now.terms }
+    ensures light { unsigned_abs result ≤ 2 ^ 62 }
 {
     let count = width.terms();
     if count == 0 {
@@ -32,13 +34,36 @@ fn number_in(coefficient: i128, factors: &[Atom]) -> i128
     }
 }
 
-/// The number at an end of a part.
-fn end_of(end: &End) -> i128
-    ensures { result ≡ rules.end_at end.now (λ n. pos 0) }
+/// How many bits a width is, where that is a whole number, and else -1, which no bits have.
+pub(crate) fn number_of(width: &Poly) -> i128
+    ensures { result ≡ rules.width_at width.now (λ n. pos 0) }
+{
+    let number = terms_number(width);
+    let denominator = width.denominator();
+    if number.rem_euclid(denominator) == 0 {
+        number.div_euclid(denominator)
+    } else {
+        -1
+    }
+}
+
+/// The least integer from a low end on.
+fn low_of(end: &End) -> i128
+    ensures { result ≡ rules.ceiling (rules.end_at end.now (λ n. pos 0)) }
 {
     match end {
         End::Int(z) => *z,
-        End::Width(width) => number_of(width),
+        End::Width(width) => -(-terms_number(width)).div_euclid(width.denominator()),
+    }
+}
+
+/// The greatest integer up to a high end.
+fn high_of(end: &End) -> i128
+    ensures { result ≡ rules.floor (rules.end_at end.now (λ n. pos 0)) }
+{
+    match end {
+        End::Int(z) => *z,
+        End::Width(width) => terms_number(width).div_euclid(width.denominator()),
     }
 }
 
@@ -55,7 +80,7 @@ fn is_in_some(z: i128, parts: &[Part]) -> bool
     ensures { result ≡ rules.in_some z (rules.ranges_at parts.now (λ n. pos 0)) }
 {
     for part in parts {
-        if is_in_one(z, end_of(&part.low), end_of(&part.high)) {
+        if is_in_one(z, low_of(&part.low), high_of(&part.high)) {
             return true;
         }
     }
@@ -80,8 +105,8 @@ fn lowest(parts: &[Part]) -> Option<i128>
     ensures { result ≡ rules.lowest (rules.ranges_at parts.now (λ n. pos 0)) }
 {
     for part in parts {
-        let low = end_of(&part.low);
-        if is_at_most(low, end_of(&part.high)) {
+        let low = low_of(&part.low);
+        if is_at_most(low, high_of(&part.high)) {
             return Some(low);
         }
     }

@@ -12,6 +12,10 @@ enum Parts {
     UpTo(i128, u128, i128),
     /// One atom alone.
     Point(u128),
+    /// One part, from a half to an integer.
+    HalfTo(i128),
+    /// One part, from the half of an atom and an integer to the atom.
+    HalfOf(u128, i128),
 }
 
 #[derive(Clone, Copy)]
@@ -164,6 +168,37 @@ const APPLIED: &[(Operator, Parts, Parts, Parts)] = &[
         Parts::Point(5),
         Parts::Ints(&[(0, 0)]),
     ),
+    // An end that isn't whole is no integer, and the sum of two of them is one.
+    (
+        Operator::Left,
+        Parts::HalfTo(5),
+        Parts::Ints(&[]),
+        Parts::HalfTo(5),
+    ),
+    (
+        Operator::Add,
+        Parts::HalfTo(5),
+        Parts::HalfTo(5),
+        Parts::Ints(&[(1, 10)]),
+    ),
+    (
+        Operator::Subtract,
+        Parts::HalfTo(5),
+        Parts::Ints(&[(0, 0)]),
+        Parts::HalfTo(5),
+    ),
+    (
+        Operator::Multiply,
+        Parts::Ints(&[(2, 2)]),
+        Parts::HalfTo(5),
+        Parts::Ints(&[(1, 10)]),
+    ),
+    (
+        Operator::Modulo,
+        Parts::Ints(&[(1, 3)]),
+        Parts::HalfTo(1),
+        Parts::Ints(&[]),
+    ),
 ];
 
 fn applications() -> &'static [(Operator, Parts, Parts, Parts)] {
@@ -184,6 +219,14 @@ const INCLUDED: &[(Parts, Parts, bool)] = &[
     (Parts::UpTo(0, 5, 0), Parts::UpTo(-1, 5, 2), true),
     (Parts::UpTo(-1, 5, 2), Parts::UpTo(0, 5, 0), false),
     (Parts::UpTo(0, 5, 0), Parts::UpTo(0, 6, 0), false),
+    (Parts::Ints(&[(1, 5)]), Parts::HalfTo(5), false),
+    (Parts::HalfTo(5), Parts::Ints(&[(0, 5)]), true),
+    (Parts::HalfTo(5), Parts::Ints(&[(1, 5)]), false),
+    (Parts::HalfTo(5), Parts::Ints(&[(i128::MIN, i128::MAX)]), true),
+    (Parts::HalfTo(5), Parts::HalfTo(6), true),
+    (Parts::HalfTo(5), Parts::HalfTo(4), false),
+    (Parts::HalfOf(5, 1), Parts::HalfOf(5, 0), true),
+    (Parts::HalfOf(5, 0), Parts::HalfOf(5, 1), false),
 ];
 
 fn inclusions() -> &'static [(Parts, Parts, bool)] {
@@ -193,6 +236,16 @@ fn inclusions() -> &'static [(Parts, Parts, bool)] {
 /// An atom and an integer.
 fn atom_and(alloc: Global, atom: u128, more: i128) -> Result<Poly, PolyRefused> {
     Poly::atom(alloc, Atom(atom))?.add(alloc, &Poly::constant(alloc, more)?)
+}
+
+/// The half of an atom and an integer.
+fn half_of(alloc: Global, atom: u128, more: i128) -> Result<Poly, PolyRefused> {
+    atom_and(alloc, atom, more)?.div(alloc, 2)
+}
+
+/// The half of an atom and one, less the half of the atom.
+fn half(alloc: Global) -> Result<Poly, PolyRefused> {
+    half_of(alloc, 5, 1)?.sub(alloc, &half_of(alloc, 5, 0)?)
 }
 
 fn constant_parts(alloc: Global, spans: &[(i128, i128)]) -> Result<Vec<Part>, AllocError> {
@@ -223,6 +276,12 @@ fn constraint(alloc: Global, parts: Parts) -> Option<Cons> {
             let high = atom_and(alloc, atom, 0).ok()?;
             one_part(alloc, End::Width(low), End::Width(high))?
         }
+        Parts::HalfTo(high) => one_part(alloc, End::Width(half(alloc).ok()?), End::Int(high))?,
+        Parts::HalfOf(atom, more) => {
+            let low = half_of(alloc, atom, more).ok()?;
+            let high = atom_and(alloc, atom, 0).ok()?;
+            one_part(alloc, End::Width(low), End::Width(high))?
+        }
     };
     Cons::from_parts(alloc, parts).ok()
 }
@@ -246,6 +305,8 @@ fn counts(parts: Parts) -> (usize, usize) {
         Parts::Ints(spans) => (spans.len(), spans.len().saturating_mul(2)),
         Parts::UpTo(_, _, _) => (1, 1),
         Parts::Point(_) => (1, 0),
+        Parts::HalfTo(_) => (1, 1),
+        Parts::HalfOf(_, _) => (1, 0),
     }
 }
 

@@ -13,6 +13,7 @@ enum Step {
     Add(usize, usize),
     Subtract(usize, usize),
     Multiply(usize, usize),
+    Divide(usize, i128),
     /// A polynomial with these in place of atoms, by the numbers of the atoms.
     Replace(usize, &'static [(u128, usize)]),
 }
@@ -26,6 +27,8 @@ enum Fact {
     Constant(usize, Option<i128>),
     /// One is another and this integer, or not.
     Offset(usize, usize, Option<i128>),
+    /// One has this denominator.
+    Denominator(usize, i128),
     /// One has so many terms.
     Terms(usize, u32),
     /// The term at a place has this coefficient and so many atoms, or there is none.
@@ -36,6 +39,9 @@ enum Fact {
 
 /// The greatest weight.
 const HEAVIEST: i128 = 4611686018427387904;
+
+/// The greatest denominator.
+const FINEST: i128 = 65536;
 
 const CALCULATIONS: &[(&[Step], &[Fact])] = &[
     // The second, the fourth and the fifth power of eight names and one. The coefficients of the fourth are 4! over the
@@ -128,6 +134,137 @@ const CALCULATIONS: &[(&[Step], &[Fact])] = &[
             Fact::TooLarge(Step::Replace(3, &[(0, 1)])),
         ],
     ),
+    // Halves are compared by values: twice a name over two is the name, and the half of a name and one is a half more.
+    (
+        &[
+            Step::Name(7),
+            Step::Add(0, 0),
+            Step::Divide(1, 2),
+            Step::Divide(0, 2),
+            Step::Sum(1, 1),
+            Step::Replace(4, &[(0, 0)]),
+            Step::Divide(5, 2),
+            Step::Subtract(6, 3),
+            Step::Add(7, 7),
+            Step::Divide(7, 2),
+            Step::Multiply(3, 3),
+        ],
+        &[
+            Fact::Same(2, 0, true),
+            Fact::Same(3, 0, false),
+            Fact::Denominator(2, 1),
+            Fact::Denominator(3, 2),
+            Fact::Term(3, 0, Some((1, 1))),
+            Fact::Constant(7, None),
+            Fact::Denominator(7, 2),
+            Fact::Offset(6, 3, Some(2)),
+            Fact::Offset(3, 0, None),
+            Fact::Constant(8, Some(1)),
+            Fact::Denominator(9, 4),
+            Fact::Denominator(10, 4),
+        ],
+    ),
+    // Denominators count before the lowest terms are found, each operation's own.
+    (
+        &[
+            Step::Name(7),
+            Step::Number(FINEST + 1),
+            Step::Multiply(1, 0),
+            Step::Divide(0, FINEST),
+            Step::Divide(0, 256),
+            Step::Divide(4, 256),
+            Step::Divide(0, 257),
+            Step::Divide(0, 32768),
+            Step::Add(3, 7),
+            Step::Multiply(4, 4),
+        ],
+        &[
+            Fact::Denominator(3, FINEST),
+            Fact::Same(5, 3, true),
+            Fact::Denominator(8, FINEST),
+            Fact::Denominator(9, FINEST),
+            Fact::TooLarge(Step::Divide(0, FINEST + 1)),
+            Fact::TooLarge(Step::Divide(2, FINEST + 1)),
+            Fact::TooLarge(Step::Divide(4, 257)),
+            Fact::TooLarge(Step::Divide(0, i128::MAX)),
+            Fact::TooLarge(Step::Add(4, 6)),
+            Fact::TooLarge(Step::Subtract(4, 6)),
+            Fact::TooLarge(Step::Multiply(4, 6)),
+        ],
+    ),
+    // A weight counts over the common denominator, and a quotient keeps it.
+    (
+        &[
+            Step::Name(0),
+            Step::Name(1),
+            Step::Number(HEAVIEST),
+            Step::Multiply(2, 0),
+            Step::Divide(3, 3),
+            Step::Divide(0, 3),
+            Step::Divide(1, 2),
+            Step::Number(HEAVIEST / 2),
+            Step::Multiply(7, 0),
+            Step::Divide(8, 3),
+            Step::Number(HEAVIEST / 4),
+            Step::Multiply(10, 0),
+            Step::Divide(11, 3),
+            Step::Add(12, 6),
+            Step::Number(HEAVIEST - 1),
+        ],
+        &[
+            Fact::Denominator(4, 3),
+            Fact::Denominator(13, 6),
+            Fact::TooLarge(Step::Add(4, 5)),
+            Fact::TooLarge(Step::Add(9, 6)),
+            Fact::TooLarge(Step::Add(14, 5)),
+        ],
+    ),
+    // What replaces names has its denominators in one for all terms, times that of the whole.
+    (
+        &[
+            Step::Name(0),
+            Step::Name(1),
+            Step::Divide(0, 256),
+            Step::Divide(1, 256),
+            Step::Divide(1, 257),
+            Step::Replace(2, &[(0, 3)]),
+            Step::Sum(2, 0),
+            Step::Divide(0, FINEST),
+            Step::Number(FINEST),
+            Step::Multiply(8, 1),
+            Step::Divide(9, 3),
+            Step::Divide(0, 2),
+            Step::Add(1, 1),
+            Step::Replace(11, &[(0, 12)]),
+            Step::Multiply(0, 1),
+            Step::Replace(14, &[(0, 11), (1, 11)]),
+        ],
+        &[
+            Fact::Denominator(5, FINEST),
+            Fact::TooLarge(Step::Replace(2, &[(0, 4)])),
+            Fact::TooLarge(Step::Replace(6, &[(0, 2), (1, 4)])),
+            Fact::TooLarge(Step::Replace(7, &[(0, 10)])),
+            Fact::Same(13, 1, true),
+            Fact::Denominator(15, 4),
+        ],
+    ),
+    // The weight of what replaces names counts over that one denominator.
+    (
+        &[
+            Step::Name(0),
+            Step::Name(1),
+            Step::Number(HEAVIEST / 2),
+            Step::Multiply(2, 0),
+            Step::Add(3, 1),
+            Step::Divide(1, 2),
+            Step::Subtract(4, 0),
+            Step::Replace(6, &[(1, 5)]),
+        ],
+        &[
+            Fact::TooLarge(Step::Replace(4, &[(1, 5)])),
+            Fact::Denominator(7, 2),
+        ],
+    ),
 ];
 
 fn calculations() -> &'static [(&'static [Step], &'static [Fact])] {
@@ -165,6 +302,13 @@ fn replaced(
     at(made, place)?.substitute(alloc, pairs.as_slice())
 }
 
+fn divided(alloc: Global, polynomial: &Poly, number: i128) -> Result<Poly, PolyRefused> {
+    if number < 1 {
+        return Err(PolyRefused::NoMemory);
+    }
+    polynomial.div(alloc, number)
+}
+
 fn made_by(alloc: Global, made: &[Poly], step: Step) -> Result<Poly, PolyRefused> {
     match step {
         Step::Number(number) => Poly::constant(alloc, number),
@@ -173,6 +317,7 @@ fn made_by(alloc: Global, made: &[Poly], step: Step) -> Result<Poly, PolyRefused
         Step::Add(left, right) => at(made, left)?.add(alloc, at(made, right)?),
         Step::Subtract(left, right) => at(made, left)?.sub(alloc, at(made, right)?),
         Step::Multiply(left, right) => at(made, left)?.mul(alloc, at(made, right)?),
+        Step::Divide(place, number) => divided(alloc, at(made, place)?, number),
         Step::Replace(place, by) => replaced(alloc, made, place, by),
     }
 }
@@ -199,6 +344,7 @@ fn holds(alloc: Global, made: &[Poly], fact: Fact) -> Result<bool, PolyRefused> 
         Fact::Same(left, right, want) => at(made, left)?.same(at(made, right)?) == want,
         Fact::Constant(place, want) => at(made, place)?.as_constant() == want,
         Fact::Offset(left, right, want) => at(made, left)?.offset(at(made, right)?) == want,
+        Fact::Denominator(place, want) => at(made, place)?.denominator() == want,
         Fact::Terms(place, want) => at(made, place)?.terms() == want,
         Fact::Term(place, term, want) => term_at(at(made, place)?, term) == want,
         Fact::TooLarge(step) => { matches!(made_by(alloc, made, step), Err(PolyRefused::TooLarge)) }

@@ -1,24 +1,45 @@
 -- Types with widths in the place of atoms: when there is one, and lists that are built one by one.
-use Rattle.std.proofs.Common.{◌≡◌, ℕ, suc, ◌+◌, ◌<◌, ◌≤◌, Bool, true, false, nat_le, cond, Option, Some, None, List, [], ◌∷◌, ◌++◌, length, get_or, drop, refl, sym, ap, ◌∙◌, arith}
+use Rattle.std.proofs.Common.{◌≡◌, ℕ, suc, ◌+◌, ◌*◌, ◌^◌, ◌<◌, ◌≤◌, Bool, true, false, nat_le, cond, Option, Some, None, List, [], ◌∷◌, ◌++◌, length, get_or, drop, refl, sym, ap, ◌∙◌, arith}
 use Rattle.std.specs.Prelude.{option_map}
 use Rattle.std.proofs.lemmas.Bool.Decides.{nat_tests}
-use Rattle.asl_poly.specs.Terms.{Polynomial}
+use Rattle.asl_poly.specs.WidthLimits.{finest}
+use Rattle.asl_poly.specs.Terms.{Summand, Polynomial}
+use Rattle.asl_poly.specs.Substitute.{ReplacedFits, common_denominator, with_common_denominator}
 use Rattle.asl_poly.specs.Poly.{SubstituteFits, substitute_map}
 use Rattle.asl_cons.specs.declared.Part.{Part}
 use Rattle.asl_cons.specs.Arithmetic as cons
-use Rattle.asl_rules.specs.types.Types.{Ty, Parts, no_part, part, Widths, substitute_fits, substituted, substituted_end, substituted_ranges, substitute, substitute_parts, with_type}
+use Rattle.asl_rules.specs.types.Types.{Ty, Parts, no_part, part, Widths, replaced_fits, substitute_fits, substituted, substituted_end, substituted_ranges, substitute, substitute_parts, with_type}
+use Rattle.asl_rules.proofs.basics.Tests.{both, and_true}
 use Rattle.asl_types.specs.View.{parts_of}
 use Rattle.asl_types.proofs.Rest.{at_next, none_after}
 
 -- ---- one width
 
+fine_yes : (n : ℕ) → n ≤ 2 ^ 16 → nat_le n finest ≡ true
+fine_yes n h = grind (arith, nat_tests, h)
+
+fine_no : (n : ℕ) → nat_le n finest ≡ true → n ≤ 2 ^ 16
+fine_no n e = grind (arith, nat_tests, e)
+
+terms_fit : (by : Widths) (ts : List Summand) → ReplacedFits by ts → replaced_fits by ts ≡ true
+unfolding replaced_fits
+terms_fit by ts h = grind (arith, nat_tests, h.light, h.low, h.few)
+
+terms_fit_so : (by : Widths) (ts : List Summand) → replaced_fits by ts ≡ true → ReplacedFits by ts
+unfolding replaced_fits
+terms_fit_so by ts e = record { light = grind (arith, nat_tests, e); low = grind (arith, nat_tests, e); few = grind (arith, nat_tests, e) }
+
 fits : (by : Widths) (p : Polynomial) → SubstituteFits by p → substitute_fits by p ≡ true
 unfolding substitute_fits
-fits by p h = grind (arith, nat_tests, h.light, h.low, h.few)
+fits by p h =
+    and_true (replaced_fits by (with_common_denominator by p.terms)) (nat_le (common_denominator by p.terms * p.denominator) finest)
+    (terms_fit by (with_common_denominator by p.terms) h.terms) (fine_yes (common_denominator by p.terms * p.denominator) h.fine)
 
 fits_so : (by : Widths) (p : Polynomial) → substitute_fits by p ≡ true → SubstituteFits by p
 unfolding substitute_fits
-fits_so by p e = record { light = grind (arith, nat_tests, e); low = grind (arith, nat_tests, e); few = grind (arith, nat_tests, e) }
+fits_so by p e =
+    let q = both (replaced_fits by (with_common_denominator by p.terms)) (nat_le (common_denominator by p.terms * p.denominator) finest) e in
+    record { terms = terms_fit_so by (with_common_denominator by p.terms) q.0; fine = fine_no (common_denominator by p.terms * p.denominator) q.1 }
 
 fits_not : (by : Widths) (p : Polynomial) → (SubstituteFits by p → ⊥) → substitute_fits by p ≡ false
 fits_not by p h = by_test (substitute_fits by p) refl

@@ -2,8 +2,12 @@
 use Rattle.std.proofs.Common.{◌≡◌, ◌↔◌, nat_eq, Bool, true, false, List, [], ◌∷◌, length, inl, refl, sym, ap, subst, ◌∙◌, arith}
 use Rattle.std.specs.Prelude.{pos, IsTrue}
 use Rattle.std.proofs.lemmas.Bool.Decides.{nat_tests}
-use Rattle.asl_poly.specs.Terms.{Polynomial, Summand, of_terms, value}
-use Rattle.asl_poly.proofs.Maps.{same_map}
+use Rattle.asl_poly.specs.Terms.{Polynomial, Summand, of_terms}
+use Rattle.asl_poly.specs.Limits.{IsMap}
+use Rattle.asl_poly.specs.Denominators.{DivideEach, sizes}
+use Rattle.asl_poly.proofs.LowestTerms.{one_is_polynomial}
+use Rattle.asl_poly.proofs.SameFractions.{same_polynomial, same_of_equal, same_everywhere}
+use Rattle.std.proofs.Math.Nat.{mod_self}
 use Rattle.asl_poly.specs.Poly.{IsPolynomial, Same, constant_map}
 use Rattle.asl_cons.specs.declared.Part.{Part}
 use Rattle.asl_cons.specs.Constraint.{AllEnds, Below}
@@ -13,8 +17,11 @@ zero_map : constant_map (pos 0) ≡ of_terms []
 unfolding constant_map
 zero_map = refl
 
+no_terms_map : IsMap []
+no_terms_map = record { sorted = tt; light = omega arith; few = omega arith }
+
 zero_polynomial : IsPolynomial (constant_map (pos 0))
-zero_polynomial = subst IsPolynomial (sym zero_map) (record { sorted = tt; light = omega arith; few = omega arith })
+zero_polynomial = subst IsPolynomial (sym zero_map) (one_is_polynomial [] no_terms_map)
 
 -- two truths that follow from one another
 same_truth : (b c : Bool) → (b ≡ true → c ≡ true) → (c ≡ true → b ≡ true) → b ≡ c
@@ -31,21 +38,22 @@ below_is t r b ps qs hp hq h = same_truth b (t.below ps qs) (λ e. r.below_all p
 pub whole_is : (t : Tests) (r : IsRight t) (ps : List Part) → AllEnds ps → true ≡ t.below ps []
 whole_is t r ps hp = sym (r.below_all ps [] (record { left = hp; right = tt; below = inl refl }))
 
-same_polynomial : (p q : Polynomial) → IsPolynomial p → IsPolynomial q → Same p q → p ≡ q
-same_polynomial p q hp hq s = ap of_terms (same_map p.terms q.terms hp hq s)
+none : (ts : List Summand) → length ts ≡ 0 → ts ≡ []
+none [] h = refl
+none (t ∷ ts) h = absurd (omega (arith, h))
 
-no_terms : (p : Polynomial) → length p.terms ≡ 0 → p ≡ constant_map (pos 0)
-no_terms p h = ap of_terms (none p.terms h) ∙ sym zero_map
-  where
-    none : (ts : List Summand) → length ts ≡ 0 → ts ≡ []
-    none [] h = refl
-    none (t ∷ ts) h = absurd (omega (arith, h))
+-- without terms the denominator is 1, in lowest terms
+no_terms : (p : Polynomial) → IsPolynomial p → length p.terms ≡ 0 → p ≡ constant_map (pos 0)
+no_terms p hp h =
+    let e : p.terms ≡ [] = none p.terms h in
+    let each : DivideEach p.denominator (sizes p.terms) = subst (λ ts. DivideEach p.denominator (sizes ts)) (sym e) tt in
+    same_polynomial p (of_terms []) e (hp.lowest.lowest p.denominator (mod_self p.denominator) each) ∙ sym zero_map
 
 pub zero_is : (t : Tests) (r : IsRight t) (p : Polynomial) → IsPolynomial p → nat_eq (length p.terms) 0 ≡ t.same p (constant_map (pos 0))
 zero_is t r p hp = same_is t r (nat_eq (length p.terms) 0) p (constant_map (pos 0)) hp zero_polynomial (yes, no)
   where
     yes : nat_eq (length p.terms) 0 ≡ true → Same p (constant_map (pos 0))
-    yes e a = ap (λ q. value a q.terms) (no_terms p (grind (arith, nat_tests, e)))
+    yes e = same_of_equal p (constant_map (pos 0)) (no_terms p hp (grind (arith, nat_tests, e)))
 
     no : Same p (constant_map (pos 0)) → nat_eq (length p.terms) 0 ≡ true
-    no e = ap (λ (q : Polynomial). nat_eq (length q.terms) 0) (same_polynomial p (constant_map (pos 0)) hp zero_polynomial e ∙ zero_map)
+    no e = ap (λ (q : Polynomial). nat_eq (length q.terms) 0) (same_everywhere p (constant_map (pos 0)) hp zero_polynomial e ∙ zero_map)

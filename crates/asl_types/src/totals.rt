@@ -1,8 +1,8 @@
-//! Sums of many widths, whose weights and atoms all count together, before any terms cancel.
+//! Sums of many widths, whose weights, denominators and atoms all count together, before any terms cancel.
 
-ghost use Rattle.std.specs.Prelude.{◌≡◌, ◌≤◌, ◌^◌, ◌<◌, length, IfOk};
+ghost use Rattle.std.specs.Prelude.{◌≡◌, ◌≤◌, ◌^◌, ◌<◌, ◌*◌, ◌/◌, length, IfOk};
 ghost use Rattle.asl_poly.specs.Limits as limits;
-ghost use Rattle.asl_poly.specs.Poly.{SumFits, Gives};
+ghost use Rattle.asl_poly.specs.Poly.{SumFits, Gives, with_atoms_of};
 ghost use Rattle.asl_rules.specs.expressions.Slicing.{no_width};
 ghost use Rattle.asl_rules.specs.types.Widths as rules;
 ghost use Rattle.asl_types.specs.private.Answers.{Agrees};
@@ -11,17 +11,19 @@ ghost use Rattle.asl_types.specs.private.Totals.{IsTotal, IsWithin, adds, added}
 use crate::answer::fault;
 use crate::integers::constant_width;
 use crate::tests::within_limits;
-use asl_poly::{Atom, HEAVIEST, MOST_ATOMS, Poly, PolyRefused};
+use asl_poly::{Atom, FINEST, HEAVIEST, MOST_ATOMS, Poly, PolyRefused, least_common_multiple};
 use asl_syn::code::{Refused, StaticCode};
 use asl_syn::token::Span;
 use sqlite_items::Items;
 use std::alloc::{AllocError, Global};
 
-/// A sum within the limits: the width, the weights of all that was added, and their atoms, each once.
+/// A sum within the limits: the width, the weight of all that was added over one denominator, which is the least common multiple of
+/// theirs, and their atoms, each once.
 #[derive(Drop)]
 struct Within {
     sum: Poly,
     weight: u128,
+    denominator: u128,
     atoms: Items<Atom>,
 }
 
@@ -38,7 +40,7 @@ enum Sign {
     Minus,
 }
 
-/// The weight of a width: the sum of the absolute values of its coefficients.
+/// The weight of the terms of a width: the sum of the absolute values of its coefficients.
 #[tactic(auto, using(crate::proofs::TotalLemmas::weight_last))]
 fn weight_of(p: &Poly) -> u128
     ensures is { result ≡ limits.weight p.now.terms }
@@ -53,6 +55,15 @@ fn weight_of(p: &Poly) -> u128
         }
     }
     total
+}
+
+/// The denominator of a width, from 1 to 65,536.
+fn denominator_of(p: &Poly) -> u128
+    ensures is { result ≡ p.now.denominator }
+    ensures some { 0 < result }
+    ensures few { result ≤ 2 ^ 16 }
+{
+    p.denominator() as u128
 }
 
 /// Whether an atom is among these.
@@ -82,7 +93,7 @@ fn note_factors(atoms: &mut Items<Atom>, factors: &[Atom]) -> Result<(), AllocEr
 /// The atoms with those of a width behind them, each once.
 #[tactic(auto, using(crate::proofs::TotalLemmas::noted_last))]
 fn note_width(atoms: &mut Items<Atom>, p: &Poly) -> Result<(), AllocError>
-    ensures { IfOk result (λ _. atoms.new ≡ limits.note_terms atoms.old p.now.terms) }
+    ensures { IfOk result (λ _. atoms.new ≡ with_atoms_of atoms.old p.now) }
 {
     for place in 0..p.terms() {
         match p.term(place) {
@@ -103,6 +114,17 @@ fn added(alloc: Global, sign: Sign, p: &Poly, q: &Poly) -> Result<Poly, PolyRefu
     }
 }
 
+/// A weight over a denominator that is a multiple of its own.
+fn weight_over(weight: u128, common: u128, own: u128) -> u128
+    requires light { weight ≤ 2 ^ 62 }
+    requires fine { common ≤ 2 ^ 16 }
+    requires some { 0 < own }
+    ensures is { result ≡ weight * (common / own) }
+    ensures within { result ≤ 2 ^ 78 }
+{
+    weight * (common / own)
+}
+
 /// A sum within the limits with one more width.
 fn more(alloc: Global, within: Within, sign: Sign, p: &Poly) -> Result<Total, AllocError>
     ensures { (x : rules.Total) → IsWithin within x → IfOk result (λ t. IsTotal t (adds sign x p.now)) }
@@ -110,19 +132,42 @@ fn more(alloc: Global, within: Within, sign: Sign, p: &Poly) -> Result<Total, Al
     let Within {
         sum,
         weight,
+        denominator,
         mut atoms,
     } = within;
+    within_limits(p);
+    if denominator == 0 {
+        return Ok(Total { within: None });
+    }
+    if denominator > FINEST {
+        return Ok(Total { within: None });
+    }
     if weight > HEAVIEST {
         return Ok(Total { within: None });
     }
-    let weight = weight + weight_of(p);
+    let own = denominator_of(p);
+    let common = least_common_multiple(denominator, own);
+    if common > FINEST {
+        return Ok(Total { within: None });
+    }
     note_width(&mut atoms, p)?;
-    if weight > HEAVIEST || atoms.len() > MOST_ATOMS {
+    if atoms.len() > MOST_ATOMS {
+        return Ok(Total { within: None });
+    }
+    let before = weight_over(weight, common, denominator);
+    let another = weight_over(weight_of(p), common, own);
+    let weight = before + another;
+    if weight > HEAVIEST {
         return Ok(Total { within: None });
     }
     match added(alloc, sign, &sum, p) {
         Ok(sum) => Ok(Total {
-            within: Some(Within { sum, weight, atoms }),
+            within: Some(Within {
+                sum,
+                weight,
+                denominator: common,
+                atoms,
+            }),
         }),
         Err(PolyRefused::TooLarge) => Ok(Total { within: None }),
         Err(PolyRefused::NoMemory) => Err(AllocError),
@@ -136,7 +181,10 @@ fn with_width(alloc: Global, total: Total, sign: Sign, p: &Poly) -> Result<Total
 {
     let Total { within } = total;
     match within {
-        None => Ok(Total { within: None }),
+        None => {
+            within_limits(p);
+            Ok(Total { within: None })
+        }
         Some(within) => more(alloc, within, sign, p),
     }
 }
@@ -150,6 +198,7 @@ impl Total {
             within: Some(Within {
                 sum: constant_width(alloc, 0)?,
                 weight: 0,
+                denominator: 1,
                 atoms: Items::new(alloc),
             }),
         })
@@ -170,7 +219,6 @@ impl Total {
     }
 
     /// The sum with a number added.
-    #[tactic(auto, using(crate::proofs::TotalLemmas::number_is))]
     pub fn plus_number(self, alloc: Global, number: u32) -> Result<Total, AllocError>
         ensures { (x : rules.Total) → IsTotal self x → IfOk result (λ t. IsTotal t (rules.plus_number x number)) }
     {
@@ -190,6 +238,7 @@ impl Total {
                 let Within {
                     sum,
                     weight: _,
+                    denominator: _,
                     atoms: _atoms,
                 } = within;
                 Ok(sum)

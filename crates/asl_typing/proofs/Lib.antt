@@ -3,4 +3,5 @@ pub mod ConstructRows
 pub mod GivenLemmas
 pub mod GivenPlaces
 pub mod GivenTypes
+pub mod LiteralLemmas
 pub mod MemberRows

@@ -1,11 +1,12 @@
 //! Widths: the polynomials and the integers that expressions stand for where a width, a length or an end of a constraint is
 //! asked for, within the limits.
 
-ghost use Rattle.std.specs.Prelude.{◌≡◌, pos, ◌+ℤ◌, ◌-ℤ◌, ◌*ℤ◌, Ok, option_map, IfOk};
+ghost use Rattle.std.specs.Prelude.{◌≡◌, ◌<◌, ◌%◌, unsigned_abs, pos, ◌+ℤ◌, ◌-ℤ◌, ◌*ℤ◌, Ok, option_map, IfOk, IfSome};
 ghost use Rattle.asl_cons.specs.Arithmetic.{fits};
 ghost use Rattle.asl_poly.specs.Poly.{constant_map, constant_value};
 ghost use Rattle.asl_rules.specs.expressions.Exprs as rules;
-ghost use Rattle.asl_rules.specs.expressions.Exprs.{name_read, width_of_operation, number_of_operation};
+ghost use Rattle.asl_rules.specs.expressions.Exprs.{name_read, negative_tree, combined_tree};
+ghost use Rattle.asl_rules.specs.types.Arithmetic as arithmetic;
 ghost use Rattle.asl_rules.specs.Faults.{need, found_or};
 ghost use Rattle.asl_widths.specs.private.Steps.{and_then, after};
 ghost use Rattle.asl_rules.specs.declarations.Scopes.{standing_of, storage_of};
@@ -16,11 +17,12 @@ ghost use Rattle.asl_rules.specs.types.Widths as limits;
 ghost use Rattle.asl_types.specs.private.Standings.{storage_view, value_behind};
 ghost use Rattle.asl_types.specs.private.Answers.{Met, Agrees};
 ghost use Rattle.asl_subprograms.specs.private.ContextView.{scope_of};
-ghost use Rattle.asl_tree.specs.View.{note_view};
+ghost use Rattle.asl_tree.specs.View.{note_view, tree_of};
 ghost use Rattle.asl_widths.specs.WidthViews.{width_of, number_of};
 
 use asl_poly::{HEAVIEST, Poly};
 use asl_rules::effect::Effect;
+use asl_rules::joining::{Combination, Joining};
 use asl_subprograms::Context;
 use asl_syn::code::{Refused, StaticCode};
 use asl_syn::token::Span;
@@ -31,7 +33,9 @@ use asl_tree::tree::{Note, Tree};
 use asl_types::answer::fault;
 use asl_types::integers::any_integer;
 use asl_types::kinds::is_integer;
-use asl_types::widths::{width_difference, width_of_number, width_product, width_sum};
+use asl_types::widths::{
+    width_difference, width_divided, width_of_number, width_product, width_sum,
+};
 use asl_types::{Counted, Standing, Storage};
 use asl_value::Value;
 use sqlite_items::Boxed;
@@ -173,7 +177,7 @@ fn literal_width(alloc: Global, span: Span, n: u128) -> Result<Width, Refused>
 
 /// The opposite of a width, else T20.
 fn negated_width(alloc: Global, span: Span, a: Width) -> Result<Width, Refused>
-    ensures { Met width_of result (and_then (limits.width_difference span (constant_map (pos 0)) (width_of a).poly) (λ r. Ok (width_as r (rules_trees.Unary (width_note span) UnaryOperator.Negate (width_of a).tree)))) }
+    ensures { Met width_of result (and_then (limits.width_difference span (constant_map (pos 0)) (width_of a).poly) (λ r. Ok (width_as r (negative_tree span (width_of a).tree)))) }
 {
     let (poly, tree) = a.into_parts();
     let zero = width_of_literal(alloc, span, 0)?;
@@ -182,55 +186,113 @@ fn negated_width(alloc: Global, span: Span, a: Width) -> Result<Width, Refused>
     Ok(Width { poly, tree })
 }
 
-/// What an operator makes of widths: T20 where that passes the limits, and T19 where it is none of `+`, `-` and `*`.
-fn width_of_binary(
+/// The operator that combines numbers so.
+fn operator(o: Combination) -> BinaryOperator
+    ensures { result ≡ arithmetic.operator o }
+{
+    match o {
+        Combination::Sum => BinaryOperator::Add,
+        Combination::Difference => BinaryOperator::Subtract,
+        Combination::Product => BinaryOperator::Multiply,
+    }
+}
+
+/// What an operator does in a width.
+fn joining(op: BinaryOperator) -> Joining
+    ensures { result ≡ arithmetic.joining op }
+{
+    match op {
+        BinaryOperator::Add => Joining::Combines(Combination::Sum),
+        BinaryOperator::Subtract => Joining::Combines(Combination::Difference),
+        BinaryOperator::Multiply => Joining::Combines(Combination::Product),
+        BinaryOperator::DivideExact => Joining::Divides,
+        // no other operator stands in a width
+        _ => Joining::JoinsNothing,
+    }
+}
+
+/// Two widths combined: T20 where that passes the limits.
+fn width_combined(
     alloc: Global,
     span: Span,
-    op: BinaryOperator,
+    o: Combination,
     p: &Poly,
     q: &Poly,
 ) -> Result<Poly, Refused>
-    ensures { Met (λ r. r) result (limits.width_of_binary span op p.now q.now) }
+    ensures { Met (λ r. r) result (limits.width_combined span o p.now q.now) }
 {
-    match op {
-        BinaryOperator::Add => width_sum(alloc, span, p, q),
-        BinaryOperator::Subtract => width_difference(alloc, span, p, q),
-        BinaryOperator::Multiply => width_product(alloc, span, p, q),
-        _ => fault(StaticCode::T19, span),
+    match o {
+        Combination::Sum => width_sum(alloc, span, p, q),
+        Combination::Difference => width_difference(alloc, span, p, q),
+        Combination::Product => width_product(alloc, span, p, q),
     }
 }
 
-/// An operation on widths.
-fn width_operation(
+/// Two widths combined, with their trees.
+fn combined_width(
     alloc: Global,
     span: Span,
-    op: BinaryOperator,
+    o: Combination,
     a: Width,
     b: Width,
 ) -> Result<Width, Refused>
-    ensures { Met width_of result (width_of_operation span op (width_of a) (width_of b)) }
+    ensures { Met width_of result (and_then (limits.width_combined span o (width_of a).poly (width_of b).poly) (λ r. Ok (width_as r (combined_tree span o (width_of a).tree (width_of b).tree)))) }
 {
     let (p, a) = a.into_parts();
     let (q, b) = b.into_parts();
-    let poly = width_of_binary(alloc, span, op, &p, &q)?;
-    let tree = nodes::binary(alloc, noted(alloc, span)?, op, a, b)?;
+    let poly = width_combined(alloc, span, o, &p, &q)?;
+    let tree = nodes::binary(alloc, noted(alloc, span)?, operator(o), a, b)?;
     Ok(Width { poly, tree })
 }
 
-/// Whether widths may be joined by this operator.
-fn has_width(op: BinaryOperator) -> bool
-    ensures { result ≡ limits.has_width op }
+/// The number above 0 that an expression is written as, where it is one.
+fn divisor(e: &Expr) -> Option<u128>
+    ensures is { (t : Tests) → result ≡ (rules.found t e.now).divisor }
+    ensures some { IfSome result (λ k. 0 < k) }
 {
-    match op {
-        BinaryOperator::Add => true,
-        BinaryOperator::Subtract => true,
-        BinaryOperator::Multiply => true,
-        _ => false,
+    match e {
+        Expr::Int(_, n) => { if *n == 0 { None } else { Some(*n) } }
+        // no other form is a number that is written
+        _ => None,
     }
 }
 
+/// The tree of a division by a number that is written at this place.
+fn divided_tree(
+    alloc: Global,
+    span: Span,
+    a: Boxed<Tree>,
+    at: Span,
+    k: u128,
+) -> Result<Boxed<Tree>, AllocError>
+    ensures { IfOk result (λ it. tree_of it ≡ rules.divided_tree span (tree_of a) at k) }
+{
+    let b = nodes::int(alloc, noted(alloc, at)?, k)?;
+    nodes::binary(
+        alloc,
+        noted(alloc, span)?,
+        BinaryOperator::DivideExact,
+        a,
+        b,
+    )
+}
+
+/// A width divided by an expression: T19 where that isn't written as a number above 0, or where the width has no atom and isn't a
+/// multiple of it, and T20 where the denominator passes its limit.
+fn divided_width(alloc: Global, span: Span, a: Width, b: &Expr) -> Result<Width, Refused>
+    ensures { (t : Tests) → Met width_of result (and_then (found_or (rules.found t b.now).divisor StaticCode.T19 span) (λ k. and_then (limits.width_divided span (width_of a).poly k) (λ r. Ok (width_as r (rules.divided_tree span (width_of a).tree (rules.found t b.now).span k))))) }
+{
+    let Some(k) = divisor(b) else {
+        return fault(StaticCode::T19, span);
+    };
+    let (p, a) = a.into_parts();
+    let poly = width_divided(alloc, span, &p, k)?;
+    let tree = divided_tree(alloc, span, a, place(b), k)?;
+    Ok(Width { poly, tree })
+}
+
 /// The polynomial that an expression stands for as a width, or its one fault: of integer literals, names of constants, global
-/// `let`s, parameters, integer formals, `let`s and loop indices, `+`, `-` and `*`.
+/// `let`s, parameters, integer formals, `let`s and loop indices, `+`, `-`, `*`, and `DIV` by a number above 0 that is written.
 pub fn type_width(alloc: Global, context: Context, e: &Expr) -> Result<Width, Refused>
     ensures { (t : Tests) → Met width_of result (rules.width t e.now (scope_of context.entry)) }
 {
@@ -245,14 +307,18 @@ pub fn type_width(alloc: Global, context: Context, e: &Expr) -> Result<Width, Re
             UnaryOperator::Not => fault(StaticCode::T19, *span),
             UnaryOperator::Complement => fault(StaticCode::T19, *span),
         },
-        Expr::Binary(span, op, a, b) => {
-            if !has_width(*op) {
-                return fault(StaticCode::T19, *span);
+        Expr::Binary(span, op, a, b) => match joining(*op) {
+            Joining::Combines(o) => {
+                let a = type_width(alloc, context, a.get())?;
+                let b = type_width(alloc, context, b.get())?;
+                combined_width(alloc, *span, o, a, b)
             }
-            let a = type_width(alloc, context, a.get())?;
-            let b = type_width(alloc, context, b.get())?;
-            width_operation(alloc, *span, *op, a, b)
-        }
+            Joining::Divides => {
+                let a = type_width(alloc, context, a.get())?;
+                divided_width(alloc, *span, a, b.get())
+            }
+            Joining::JoinsNothing => fault(StaticCode::T19, *span),
+        },
         // no other form is a width
         _ => fault(StaticCode::T19, place(e)),
     }
@@ -368,7 +434,7 @@ fn held_product(span: Span, y: i128, z: i128) -> Result<i128, Refused>
 
 /// The opposite of an integer, else T20.
 fn negated_number(alloc: Global, span: Span, a: Number) -> Result<Number, Refused>
-    ensures { Met number_of result (and_then (limits.held span (pos 0 -ℤ (number_of a).number)) (λ n. Ok (number_as n (rules_trees.Unary (width_note span) UnaryOperator.Negate (number_of a).tree)))) }
+    ensures { Met number_of result (and_then (limits.held span (pos 0 -ℤ (number_of a).number)) (λ n. Ok (number_as n (negative_tree span (number_of a).tree)))) }
 {
     let (number, tree) = a.into_parts();
     let number = held_difference(span, 0, number)?;
@@ -376,32 +442,71 @@ fn negated_number(alloc: Global, span: Span, a: Number) -> Result<Number, Refuse
     Ok(Number { number, tree })
 }
 
-/// What an operator makes of integers: T20 where 128 bits don't hold it, and T19 where it is none of `+`, `-` and `*`.
-fn number_of_binary(span: Span, op: BinaryOperator, y: i128, z: i128) -> Result<i128, Refused>
-    ensures { Agrees result (limits.number_of_binary span op y z) }
+/// Two integers combined: T20 where 128 bits don't hold it.
+fn number_combined(span: Span, o: Combination, y: i128, z: i128) -> Result<i128, Refused>
+    ensures { Agrees result (limits.number_combined span o y z) }
 {
-    match op {
-        BinaryOperator::Add => held_sum(span, y, z),
-        BinaryOperator::Subtract => held_difference(span, y, z),
-        BinaryOperator::Multiply => held_product(span, y, z),
-        _ => fault(StaticCode::T19, span),
+    match o {
+        Combination::Sum => held_sum(span, y, z),
+        Combination::Difference => held_difference(span, y, z),
+        Combination::Product => held_product(span, y, z),
     }
 }
 
-/// An operation on integers.
-fn number_operation(
+/// Two integers combined, with their trees.
+fn combined_number(
     alloc: Global,
     span: Span,
-    op: BinaryOperator,
+    o: Combination,
     a: Number,
     b: Number,
 ) -> Result<Number, Refused>
-    ensures { Met number_of result (number_of_operation span op (number_of a) (number_of b)) }
+    ensures { Met number_of result (and_then (limits.number_combined span o (number_of a).number (number_of b).number) (λ n. Ok (number_as n (combined_tree span o (number_of a).tree (number_of b).tree)))) }
 {
     let (y, a) = a.into_parts();
     let (z, b) = b.into_parts();
-    let number = number_of_binary(span, op, y, z)?;
-    let tree = nodes::binary(alloc, noted(alloc, span)?, op, a, b)?;
+    let number = number_combined(span, o, y, z)?;
+    let tree = nodes::binary(alloc, noted(alloc, span)?, operator(o), a, b)?;
+    Ok(Number { number, tree })
+}
+
+/// An integer divided by `k`, of which it is a multiple.
+fn exact_quotient(z: i128, k: u128) -> i128
+    requires some { 0 < k }
+    requires exact { unsigned_abs z % k ≡ 0 }
+    ensures { result ≡ limits.exact_quotient z k }
+{
+    if k <= GREATEST {
+        z.div_euclid(k as i128)
+    } else if z == 0 {
+        0
+    } else {
+        // only -2^127 is a multiple of so great a number, and it is so of 2^127 alone
+        -1
+    }
+}
+
+/// An integer divided by `k`: T19 where it isn't a multiple of it.
+fn number_divided(span: Span, z: i128, k: u128) -> Result<i128, Refused>
+    requires { 0 < k }
+    ensures { Agrees result (limits.number_divided span z k) }
+{
+    if z.unsigned_abs() % k != 0 {
+        return fault(StaticCode::T19, span);
+    }
+    Ok(exact_quotient(z, k))
+}
+
+/// An integer divided by an expression: T19 where that isn't written as a number above 0 of which the integer is a multiple.
+fn divided_number(alloc: Global, span: Span, a: Number, b: &Expr) -> Result<Number, Refused>
+    ensures { (t : Tests) → Met number_of result (and_then (found_or (rules.found t b.now).divisor StaticCode.T19 span) (λ k. and_then (limits.number_divided span (number_of a).number k) (λ n. Ok (number_as n (rules.divided_tree span (number_of a).tree (rules.found t b.now).span k))))) }
+{
+    let Some(k) = divisor(b) else {
+        return fault(StaticCode::T19, span);
+    };
+    let (z, a) = a.into_parts();
+    let number = number_divided(span, z, k)?;
+    let tree = divided_tree(alloc, span, a, place(b), k)?;
     Ok(Number { number, tree })
 }
 
@@ -420,14 +525,18 @@ pub fn type_number(alloc: Global, context: Context, e: &Expr) -> Result<Number, 
             UnaryOperator::Not => fault(StaticCode::T19, *span),
             UnaryOperator::Complement => fault(StaticCode::T19, *span),
         },
-        Expr::Binary(span, op, a, b) => {
-            if !has_width(*op) {
-                return fault(StaticCode::T19, *span);
+        Expr::Binary(span, op, a, b) => match joining(*op) {
+            Joining::Combines(o) => {
+                let a = type_number(alloc, context, a.get())?;
+                let b = type_number(alloc, context, b.get())?;
+                combined_number(alloc, *span, o, a, b)
             }
-            let a = type_number(alloc, context, a.get())?;
-            let b = type_number(alloc, context, b.get())?;
-            number_operation(alloc, *span, *op, a, b)
-        }
+            Joining::Divides => {
+                let a = type_number(alloc, context, a.get())?;
+                divided_number(alloc, *span, a, b.get())
+            }
+            Joining::JoinsNothing => fault(StaticCode::T19, *span),
+        },
         // no other form is a width
         _ => fault(StaticCode::T19, place(e)),
     }
@@ -457,9 +566,11 @@ pub fn has_atom(context: Context, e: &Expr) -> bool
             UnaryOperator::Not => false,
             UnaryOperator::Complement => false,
         },
-        Expr::Binary(_, op, a, b) => {
-            has_width(*op) && (has_atom(context, a.get()) || has_atom(context, b.get()))
-        }
+        Expr::Binary(_, op, a, b) => match joining(*op) {
+            Joining::Combines(_) => has_atom(context, a.get()) || has_atom(context, b.get()),
+            Joining::Divides => has_atom(context, a.get()) || has_atom(context, b.get()),
+            Joining::JoinsNothing => false,
+        },
         // no other form is a width
         _ => false,
     }

@@ -8,7 +8,6 @@ use Rattle.asl_syn.specs.declared.tree.Expr.{Expr}
 use Rattle.asl_syn.specs.declared.tree.Func.{Func}
 use Rattle.asl_syn.specs.declared.tree.Param.{Param as WrittenParam}
 use Rattle.asl_poly.specs.Terms.{Polynomial}
-use Rattle.asl_poly.specs.Substitute.{replaced_at}
 use Rattle.asl_rules.specs.Faults.{need, found_or}
 use Rattle.asl_rules.specs.Tests.{Tests, IsRight}
 use Rattle.asl_rules.specs.types.Types.{Parts, kinds, kinds_eq, same_kinds}
@@ -31,7 +30,9 @@ use Rattle.asl_rules.proofs.basics.Tests.{both, some_same, none_some}
 use Rattle.asl_rules.proofs.values.SameKind.{same_number}
 use Rattle.asl_laws.proofs.expressions.Claims.{Here, Asked}
 use Rattle.asl_laws.proofs.expressions.TreePlans.{AllAsked, AllGive, append_nil}
+use Rattle.asl_rules.specs.private.WellFormed.{ShapedParts}
 use Rattle.asl_laws.proofs.values.Routines.{AllIn, AllWide}
+use Rattle.asl_laws.proofs.values.Replacing.{behind}
 use Rattle.asl_laws.proofs.widths.TypesOver.{Never}
 use Rattle.asl_laws.proofs.scopes.OverScope.{IsAtomOf, NamesOver, type_over}
 use Rattle.asl_laws.proofs.widths.Omitted.{formal_width}
@@ -112,9 +113,9 @@ pub record ParamsSo (a : Assignment) (span : Span) (f : Func) (qs : List Param) 
   pub params_are : params_of span (outside c) f ys xs ≡ Good params
   pub widths_are : bare.params_of span r.places ys xs ≡ Good params
   pub wide : AllWide a (polys r.given) params
-  pub same : (n : ℕ) → IsAtomOf qs n → replaced_at a (replaced_by qs r.given) n ≡ integers_of (params ++ xs) n
+  pub same : (n : ℕ) → IsAtomOf qs n → behind (replaced_by qs r.given) a n ≡ integers_of (params ++ xs) n
 
-frame_at : (a : Assignment) (qs : List Param) (gs : List Given) (ps xs : List Value) → AtomsFrom 0 qs → Paired qs gs → AllWide a (polys gs) ps → (n : ℕ) → IsAtomOf qs n → replaced_at a (replaced_by qs gs) n ≡ integers_of (ps ++ xs) n
+frame_at : (a : Assignment) (qs : List Param) (gs : List Given) (ps xs : List Value) → AtomsFrom 0 qs → Paired qs gs → AllWide a (polys gs) ps → (n : ℕ) → IsAtomOf qs n → behind (replaced_by qs gs) a n ≡ integers_of (ps ++ xs) n
 frame_at a qs gs ps xs t p w n i = same_at a (integers_of (ps ++ xs)) 0 qs gs ps xs t p w (follows (integers_of (ps ++ xs)) 0 (ps ++ xs) (λ m. ap (integers_of (ps ++ xs)) (nothing_more m))) n i
   where
     nothing_more : (m : ℕ) → m + 0 ≡ m
@@ -135,25 +136,25 @@ module _ (tests : Tests) (right : IsRight tests) (base : List Entry) (subs : Lis
     pub paired : Paired s.params r.given
     pub gives : (f : Func) (h : Head) (ys xs : List Value) (c : Core) → HeadIs tests base f h → h.signature ≡ s → GlobalsMatch base c.globals → AllGive tests right base subs loose H asked ys → AllIn (types_in base) H.present (types_of os) xs → ParamsSo H.present span f s.params r ys xs c
 
-  omitted_params : (H : Here) (span : Span) (s : Signature) (os : List Operand) (r : Replacing) → next_atom base ≡ 0 → NamesOver Never base → kinds_eq (kinds s.formals) (kinds (types_of os)) ≡ true → widths_omitted span s.params s.formals os ≡ Ok r →
+  omitted_params : (H : Here) (span : Span) (s : Signature) (os : List Operand) (r : Replacing) → next_atom base ≡ 0 → NamesOver Never base → kinds_eq (kinds s.formals) (kinds (types_of os)) ≡ true → ShapedParts (types_in base) (types_of os) → widths_omitted span s.params s.formals os ≡ Ok r →
       (f : Func) (h : Head) (ys xs : List Value) (c : Core) → HeadIs tests base f h → h.signature ≡ s → GlobalsMatch base c.globals → AllGive tests right base subs loose H [] ys → AllIn (types_in base) H.present (types_of os) xs → ParamsSo H.present span f s.params r ys xs c
-  omitted_params H span s os r z g k o f h (y ∷ ys) xs c i e m v x = absurd v
-  omitted_params H span s os r z g k o f h [] xs c i e m v x =
+  omitted_params H span s os r z g k t o f h (y ∷ ys) xs c i e m v x = absurd v
+  omitted_params H span s os r z g k t o f h [] xs c i e m v x =
       let p = width_over (outside c) f.params 0 in
       let q = signature_of f h s i e in
       let d = omitted_same tests right (types_in base) H.present p i.params.1
       (λ b w j. subst (λ n. polynomial b (λ name. width_over (outside c) f.params n name) ≡ Some w.poly) z (formal_width tests (outside c) f.params base i.before i.params b w (outside_is tests base c m) i.params_new i.params_are j))
       (λ name T j. type_over Never tests base name T g (types_back tests f.params [] base i.params name T i.params_are j))
       span 0 f.params i.params.0 f.formals i.formals os xs r (params_many tests f.params base i.params i.params_are) (params_atoms tests f.params base i.params z i.params_are) i.formals_are
-      (subst (λ Ts. kinds_eq (kinds Ts) (kinds (types_of os)) ≡ true) (sym q.1) k) x
+      (subst (λ Ts. kinds_eq (kinds Ts) (kinds (types_of os)) ≡ true) (sym q.1) k) x t
       (subst (λ Ts. widths_omitted span i.params.0 Ts os ≡ Ok r) (sym q.1) (subst (λ ps. widths_omitted span ps s.formals os ≡ Ok r) (sym q.0) o)) in
       record { params = d.values; params_are = d.run_is; widths_are = d.tree_is; wide = d.wide; same = frame_at H.present s.params r.given d.values xs (atoms_of f h s z i e) (subst (λ ps. Paired ps r.given) q.0 d.paired) d.wide }
 
-  pub params_asked : (H : Here) (span : Span) (s : Signature) (es : List Expr) (os : List Operand) (r : Replacing) → next_atom base ≡ 0 → NamesOver Never base → kinds_eq (kinds s.formals) (kinds (types_of os)) ≡ true → widths_rule span s (map (found tests) es) os H.scope ≡ Ok r → ParamsAsked H span s es os r
-  params_asked H span s [] os r z g k h =
+  pub params_asked : (H : Here) (span : Span) (s : Signature) (es : List Expr) (os : List Operand) (r : Replacing) → next_atom base ≡ 0 → NamesOver Never base → kinds_eq (kinds s.formals) (kinds (types_of os)) ≡ true → ShapedParts (types_in base) (types_of os) → widths_rule span s (map (found tests) es) os H.scope ≡ Ok r → ParamsAsked H span s es os r
+  params_asked H span s [] os r z g k t h =
       let o = is_omitted span s.params s.formals os r h in
-      record { asked = []; asks = subst (λ ts. AllAsked tests right base subs loose H.scope [] ts []) (sym o.no_trees) tt; paired = o.paired; gives = omitted_params H span s os r z g k h }
-  params_asked H span s (b ∷ es) os r z g k h =
+      record { asked = []; asks = subst (λ ts. AllAsked tests right base subs loose H.scope [] ts []) (sym o.no_trees) tt; paired = o.paired; gives = omitted_params H span s os r z g k t h }
+  params_asked H span s (b ∷ es) os r z g k t h =
       let u = then_ok (need (length (map (found tests) (b ∷ es)) == length s.params) T11 span) (widths_given (map (found tests) (b ∷ es)) H.scope) r h in
       let q = widths_asked tests right base subs loose H (b ∷ es) r u.then in
       let n = same_number (length (map (found tests) (b ∷ es))) (length s.params) (need_ok (length (map (found tests) (b ∷ es)) == length s.params) T11 span tt u.first) in

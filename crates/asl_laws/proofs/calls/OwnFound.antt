@@ -18,7 +18,7 @@ use Rattle.asl_rules.specs.declarations.Scopes.{Entry, Signature, Chosen, choose
 use Rattle.asl_rules.specs.runs.Trees.{Tree, Note, TreeFunc, own, of_library}
 use Rattle.asl_rules.specs.expressions.Typing.{Typed, Operand, operands, effects_of, types_of, trees_in, trees_of, trees_from, note}
 use Rattle.asl_rules.specs.expressions.Calls as rules
-use Rattle.asl_rules.specs.expressions.Calls.{Replacing, Called, replaced_by, widths_rule, params_fit, arguments_fit, both_fit, procedure_effect, procedure_rule, procedure_of, routine_taken, call_begun, call_tree, function_of, function_rule, routine_params, routine_formals, widths_given, polys, routine_type}
+use Rattle.asl_rules.specs.expressions.Calls.{Replacing, Called, replaced_by, widths_rule, both_fit, procedure_effect, procedure_rule, procedure_of, routine_taken, call_begun, call_tree, function_of, function_rule, routine_params, widths_given, polys, routine_type}
 use Rattle.asl_rules.specs.statements.Acting.{Done as StmtDone}
 use Rattle.asl_rules.specs.statements.Stmts.{invoked, invoke_rule}
 use Rattle.asl_rules.specs.expressions.Exprs.{found}
@@ -92,8 +92,9 @@ module _ (tests : Tests) (right : IsRight tests) (ds : List Decl) (loose : Bool)
   both_found H span i ps es os c q r ops is widths a =
       let is2 : choose i.text (types_of os) subs ≡ Some q = subst (λ z. choose i.text (types_of os) z ≡ Some q) a.subs_are is in
       let formed_os = operands_formed tests right ds base subs loose trees w es H.scope os (scope_good H.present base H.scope.names c w a.agrees) (subst (FormedSubs tests right (types_in base) (well_declared base w)) (sym a.subs_are) s) ops in
+      let shaped = all_shaped tests right ds loose heads trees w s heads_are bodies (types_of os) formed_os in
       let asks = params_asked tests right base subs loose H span q.signature ps os r (program_atoms tests ds) (program_over tests Never ds)
-      (chosen_kinds tests right ds loose heads trees w s heads_are bodies i.text (types_of os) q (all_shaped tests right ds loose heads trees w s heads_are bodies (types_of os) formed_os) is2) widths in
+      (chosen_kinds tests right ds loose heads trees w s heads_are bodies i.text (types_of os) q shaped is2) shaped widths in
       all_same tests right base subs loose H (Finds span i.text q.number r.places) ps r.trees asks.asked [] c (λ ys c1. eval_all es [] c1 (λ xs c2. Ret (ys, xs) c2)) (λ ys d1. eval_all (trees_in os) [] d1 (λ xs d2. Ret (ys, xs) d2)) asks.asks a
       (λ ys c1 y a1. all_same tests right base subs loose H (Finds span i.text q.number r.places) es (trees_in os) (asked_of tests right base subs loose os) [] c1 (λ xs c2. Ret (ys, xs) c2) (λ xs d2. Ret (ys, xs) d2) (operands_asked tests right base subs loose H.scope es os ops) a1
       (λ xs c2 x a2. (refl, found_so H span i.text ps os r ys xs c2 q is2 formed_os (all_in tests right base subs loose H os xs x) a2 asks y)))

@@ -10,7 +10,7 @@ use Rattle.asl_rules.specs.Faults.{need}
 use Rattle.asl_rules.specs.Tests.{Tests, IsRight}
 use Rattle.asl_rules.specs.types.Types.{Ty, Parts, no_part, part, kind, integers, is_integer}
 use Rattle.asl_rules.specs.types.Closed as cl
-use Rattle.asl_rules.specs.types.Closed.{Assignment, Closed, type_with, width_at}
+use Rattle.asl_rules.specs.types.Closed.{Assignment, Closed, type_with}
 use Rattle.asl_rules.specs.values.Values.{Value, int, bool, bits_with, label, record_with, exception_with, tuple_with, array_with}
 use Rattle.asl_rules.specs.types.Views.{viewed}
 use Rattle.asl_rules.specs.declarations.Scopes.{Counted, Entry, Signature, Standing, fixed, atom_at, next_atom, standing_of, is_free, is_absent}
@@ -40,7 +40,7 @@ use Rattle.asl_laws.proofs.values.OfType.{of_integers}
 use Rattle.asl_rules.proofs.values.Viewing.{viewed_has, viewed_twice}
 use Rattle.asl_rules.proofs.values.Bare.{viewed_built}
 use Rattle.asl_rules.proofs.values.Constructs.{seen_is}
-use Rattle.asl_laws.proofs.widths.SameByWorth.{value_atom}
+use Rattle.asl_laws.proofs.widths.WholeWidths.{atom_counts}
 use Rattle.asl_laws.proofs.widths.Omitted.{atoms_last, none_snoc}
 use Rattle.asl_rules.proofs.widths.Counting.{absent_is}
 use Rattle.asl_laws.proofs.scopes.Agreeing.{declared_agrees, erased_declared}
@@ -151,7 +151,7 @@ module _ (tests : Tests) (right : IsRight tests) (ds : List Decl) (base : List E
   counts_by av n T x false e h f = tt
   counts_by av n T x true e h f =
       let z = of_integers av T x h (equal_kinds (kind T) integers e) in
-      ap (viewed (type_with T av)) z.1 ∙ viewed_int (type_with T av) z.0 ∙ ap int (sym (value_atom av n ∙ f z.0 z.1))
+      atom_counts av n (viewed (type_with T av) x) z.0 (ap (viewed (type_with T av)) z.1 ∙ viewed_int (type_with T av) z.0) (f z.0 z.1)
 
   -- ---- formals
 

@@ -23,6 +23,8 @@ use Rattle.asl_rules.specs.expressions.Calls as rules
 use Rattle.asl_rules.specs.expressions.Calls.{Giving, Replacing, given, polys}
 use Rattle.asl_rules.specs.declarations.Declarations.{in_names}
 use Rattle.asl_rules.specs.declarations.Programs.{formals_rule}
+use Rattle.asl_poly.specs.Poly.{HasWidth}
+use Rattle.asl_rules.specs.private.WellFormed.{Shaped, ShapedParts}
 use Rattle.asl_rules.specs.private.Belonging.{InType}
 use Rattle.asl_rules.specs.runs.Evaluation as runs
 use Rattle.asl_rules.specs.runs.Evaluation.{width_of_bits}
@@ -30,11 +32,13 @@ use Rattle.asl_rules.proofs.basics.Inversions.{ok_ok, bind_ok, found_ok}
 use Rattle.asl_rules.proofs.basics.Tests.{no, both, some_same, none_some}
 use Rattle.asl_rules.proofs.values.SameKind.{equal_kinds, tests_equal}
 use Rattle.asl_rules.proofs.values.Viewing.{width_is}
-use Rattle.asl_rules.proofs.expressions.OperatorForms.{is_bitvector}
+use Rattle.asl_rules.proofs.expressions.OperatorForms.{is_bitvector, within_width}
+use Rattle.asl_rules.proofs.values.Rounded.{is_width_at}
 use Rattle.asl_laws.proofs.values.Routines.{AllIn, AllWide}
 use Rattle.asl_laws.proofs.widths.TypesOver.{Never, Over}
 use Rattle.asl_laws.proofs.calls.OwnWidths.{alone_same}
 use Rattle.asl_laws.proofs.calls.OwnArguments.{AtomsFrom, Paired}
+use Rattle.asl_laws.proofs.expressions.Claims.{IsWidth}
 
 alone_bits : (n : ℕ) (T : Ty) → rules.is_width_alone n T ≡ true → kind T ≡ bitvectors
 alone_bits n (bits_of w view) h = refl
@@ -59,22 +63,26 @@ module _ (tests : Tests) (right : IsRight tests) (d : List ℕ → Option Ty) (a
   pub record GivenSo (n : ℕ) (gs : List Formal) (xs all : List Value) (r : Giving) : Type 0 where
     pub run_is : runs.given_by p n gs xs ≡ Some (int (width_at r.given.width a))
     pub tree_is : option_and_then width_of_bits (slice_get all r.place) ≡ Some (int (width_at r.given.width a))
+    pub wide : IsWidth a r.given.width (int (width_at r.given.width a))
 
-  bits_width : (n : ℕ) (T S : Ty) (x : Value) → rules.is_width_alone n T ≡ true → kind_eq (kind T) (kind S) ≡ true → InType d a x S → width_of_bits x ≡ Some (int (width_at (width_of S) a))
-  bits_width n T S x h k i =
+  bits_width : (n : ℕ) (T S : Ty) (x : Value) → rules.is_width_alone n T ≡ true → kind_eq (kind T) (kind S) ≡ true → Shaped d S → InType d a x S →
+      (width_of_bits x ≡ Some (int (width_at (width_of S) a))) × IsWidth a (width_of S) (int (width_at (width_of S) a))
+  bits_width n T S x h k s i =
       let e : kind S ≡ bitvectors = sym (equal_kinds (kind T) (kind S) k) ∙ alone_bits n T h in
       let z = is_bitvector d a tests right S x (tests_equal (kind S) bitvectors e) i in
-      ap width_of_bits z.2 ∙ ap (λ w. Some (int w)) (sym (width_is (length z.0) (width_at (width_of S) a) z.3))
+      let l = width_is (length z.0) (width_at (width_of S) a) z.3 in
+      let m = within_width d S s in
+      (ap width_of_bits z.2 ∙ ap (λ w. Some (int w)) (sym l), (refl, subst (HasWidth (width_of S) a) (sym l) (is_width_at a (width_of S) (length z.0) m l), m))
 
-  given_one : (b : Bool) (n k : ℕ) (g : Formal) (gs : List Formal) (T : Ty) (o : Operand) (x : Value) (xs all : List Value) (rest : Option Giving) (r : Giving) → runs.is_width_alone p n (out-TypeExpr g.ty) ≡ b → rules.is_width_alone n T ≡ b → kind_eq (kind T) (kind o.typed.ty) ≡ true → InType d a x o.typed.ty → slice_get all k ≡ Some x →
+  given_one : (b : Bool) (n k : ℕ) (g : Formal) (gs : List Formal) (T : Ty) (o : Operand) (x : Value) (xs all : List Value) (rest : Option Giving) (r : Giving) → runs.is_width_alone p n (out-TypeExpr g.ty) ≡ b → rules.is_width_alone n T ≡ b → kind_eq (kind T) (kind o.typed.ty) ≡ true → Shaped d o.typed.ty → InType d a x o.typed.ty → slice_get all k ≡ Some x →
       cond b (Some (record { place = k; given = given (width_of o.typed.ty) o.span })) rest ≡ Some r → (rest ≡ Some r → GivenSo n gs xs all r) → GivenSo n (g ∷ gs) (x ∷ xs) all r
-  given_one true n k g gs T o x xs all rest r e f h i q z next =
-      let w = bits_width n T o.typed.ty x f h i in
+  given_one true n k g gs T o x xs all rest r e f h s i q z next =
+      let w = bits_width n T o.typed.ty x f h s i in
       subst (λ (y : Giving). GivenSo n (g ∷ gs) (x ∷ xs) all y) (some_same (record { place = k; given = given (width_of o.typed.ty) o.span }) r z)
-      (record { run_is = ap (λ b. cond b (width_of_bits x) (runs.given_by p n gs xs)) e ∙ w; tree_is = ap (option_and_then width_of_bits) q ∙ w })
-  given_one false n k g gs T o x xs all rest r e f h i q z next =
+      (record { run_is = ap (λ b. cond b (width_of_bits x) (runs.given_by p n gs xs)) e ∙ w.0; tree_is = ap (option_and_then width_of_bits) q ∙ w.0; wide = w.1 })
+  given_one false n k g gs T o x xs all rest r e f h s i q z next =
       let m = next z in
-      record { run_is = ap (λ b. cond b (width_of_bits x) (runs.given_by p n gs xs)) e ∙ m.run_is; tree_is = m.tree_is }
+      record { run_is = ap (λ b. cond b (width_of_bits x) (runs.given_by p n gs xs)) e ∙ m.run_is; tree_is = m.tree_is; wide = m.wide }
 
   zero_on : (k : ℕ) → k ≡ 0 + k
   zero_on k = omega arith
@@ -82,22 +90,22 @@ module _ (tests : Tests) (right : IsRight tests) (d : List ℕ → Option Ty) (a
   suc_on : (m k : ℕ) → suc m + k ≡ m + suc k
   suc_on m k = omega arith
 
-  pub given_same : (n k : ℕ) (gs : List Formal) (Ts : Parts) (os : List Operand) (xs all : List Value) (r : Giving) → formals_rule tests gs over ≡ Ok Ts → kinds_eq (kinds Ts) (kinds (types_of os)) ≡ true → AllIn d a (types_of os) xs → ((m : ℕ) → slice_get xs m ≡ slice_get all (m + k)) →
+  pub given_same : (n k : ℕ) (gs : List Formal) (Ts : Parts) (os : List Operand) (xs all : List Value) (r : Giving) → formals_rule tests gs over ≡ Ok Ts → kinds_eq (kinds Ts) (kinds (types_of os)) ≡ true → AllIn d a (types_of os) xs → ShapedParts d (types_of os) → ((m : ℕ) → slice_get xs m ≡ slice_get all (m + k)) →
       rules.given_by_argument n k Ts os ≡ Some r → GivenSo n gs xs all r
-  given_same n k [] Ts os xs all r h q i at z = none_some r (subst (λ Us. rules.given_by_argument n k Us os ≡ Some r) (sym (ok_ok no_part Ts h)) z)
-  given_same n k (g ∷ gs) Ts [] xs all r h q i at z =
+  given_same n k [] Ts os xs all r h q i c at z = none_some r (subst (λ Us. rules.given_by_argument n k Us os ≡ Some r) (sym (ok_ok no_part Ts h)) z)
+  given_same n k (g ∷ gs) Ts [] xs all r h q i c at z =
       let W = bind_ok (written tests g.ty false (in_names over)) _ Ts h in
       let R = bind_ok (formals_rule tests gs over) _ Ts W.then in
       no (subst (λ Us. kinds_eq (kinds Us) (kinds (types_of [])) ≡ true) (sym (ok_ok (part W.value.ty R.value) Ts R.then)) q)
-  given_same n k (g ∷ gs) Ts (o ∷ os) [] all r h q i at z = absurd i
-  given_same n k (g ∷ gs) Ts (o ∷ os) (x ∷ xs) all r h q i at z =
+  given_same n k (g ∷ gs) Ts (o ∷ os) [] all r h q i c at z = absurd i
+  given_same n k (g ∷ gs) Ts (o ∷ os) (x ∷ xs) all r h q i c at z =
       let W = bind_ok (written tests g.ty false (in_names over)) _ Ts h in
       let R = bind_ok (formals_rule tests gs over) _ Ts W.then in
       let e = ok_ok (part W.value.ty R.value) Ts R.then in
       let q2 = both (kind_eq (kind W.value.ty) (kind o.typed.ty)) (kinds_eq (kinds R.value) (kinds (types_of os))) (subst (λ Us. kinds_eq (kinds Us) (kinds (types_of (o ∷ os))) ≡ true) (sym e) q) in
-      given_one (rules.is_width_alone n W.value.ty) n k g gs W.value.ty o x xs all (rules.given_by_argument n (suc k) R.value os) r (alone_same tests p (in_names over) widths fixed n g.ty W.value W.first) refl q2.0 i.0 (ap (slice_get all) (zero_on k) ∙ sym (at 0))
+      given_one (rules.is_width_alone n W.value.ty) n k g gs W.value.ty o x xs all (rules.given_by_argument n (suc k) R.value os) r (alone_same tests p (in_names over) widths fixed n g.ty W.value W.first) refl q2.0 c.1 i.0 (ap (slice_get all) (zero_on k) ∙ sym (at 0))
       (subst (λ Us. rules.given_by_argument n k Us (o ∷ os) ≡ Some r) (sym e) z)
-      (λ y. given_same n (suc k) gs R.value os xs all r R.first q2.1 i.1 (λ m. at (suc m) ∙ ap (slice_get all) (suc_on m k)) y)
+      (λ y. given_same n (suc k) gs R.value os xs all r R.first q2.1 i.1 c.2 (λ m. at (suc m) ∙ ap (slice_get all) (suc_on m k)) y)
 
   -- ---- all parameters of a call without braces
 
@@ -111,24 +119,24 @@ module _ (tests : Tests) (right : IsRight tests) (d : List ℕ → Option Ty) (a
   start_on : (m : ℕ) → m ≡ m + 0
   start_on m = omega arith
 
-  pub omitted_same : (span : Span) (n : ℕ) (vs : List WrittenParam) (qs : List Param) (gs : List Formal) (Ts : Parts) (os : List Operand) (xs : List Value) (r : Replacing) → AsMany vs qs → AtomsFrom n qs → formals_rule tests gs over ≡ Ok Ts → kinds_eq (kinds Ts) (kinds (types_of os)) ≡ true → AllIn d a (types_of os) xs →
+  pub omitted_same : (span : Span) (n : ℕ) (vs : List WrittenParam) (qs : List Param) (gs : List Formal) (Ts : Parts) (os : List Operand) (xs : List Value) (r : Replacing) → AsMany vs qs → AtomsFrom n qs → formals_rule tests gs over ≡ Ok Ts → kinds_eq (kinds Ts) (kinds (types_of os)) ≡ true → AllIn d a (types_of os) xs → ShapedParts d (types_of os) →
       rules.widths_omitted span qs Ts os ≡ Ok r → OmittedSo span n vs qs gs xs r
-  omitted_same span n [] [] gs Ts os xs r m t h k i e =
+  omitted_same span n [] [] gs Ts os xs r m t h k i c e =
       subst (λ (z : Replacing). OmittedSo span n [] [] gs xs z) (ok_ok (rules.replacing [] [] []) r e) (record { values = []; run_is = refl; tree_is = refl; wide = tt; paired = tt })
-  omitted_same span n [] (q ∷ qs) gs Ts os xs r m t h k i e = absurd m
-  omitted_same span n (v ∷ vs) [] gs Ts os xs r m t h k i e = absurd m
-  omitted_same span n (v ∷ vs) (q ∷ qs) gs Ts os xs r m t h k i e =
+  omitted_same span n [] (q ∷ qs) gs Ts os xs r m t h k i c e = absurd m
+  omitted_same span n (v ∷ vs) [] gs Ts os xs r m t h k i c e = absurd m
+  omitted_same span n (v ∷ vs) (q ∷ qs) gs Ts os xs r m t h k i c e =
       let u = bind_ok (found_or (rules.given_by_argument q.atom 0 Ts os) T11 span) _ r e in
       let s = bind_ok (rules.widths_omitted span qs Ts os) _ r u.then in
       let f = found_ok (rules.given_by_argument q.atom 0 Ts os) T11 span u.value u.first in
-      let g = given_same n 0 gs Ts os xs xs u.value h k i (λ j. ap (slice_get xs) (start_on j)) (subst (λ l. rules.given_by_argument l 0 Ts os ≡ Some u.value) t.0 f) in
-      let o = omitted_same span (n + 2) vs qs gs Ts os xs s.value m t.1 h k i s.first in
+      let g = given_same n 0 gs Ts os xs xs u.value h k i c (λ j. ap (slice_get xs) (start_on j)) (subst (λ l. rules.given_by_argument l 0 Ts os ≡ Some u.value) t.0 f) in
+      let o = omitted_same span (n + 2) vs qs gs Ts os xs s.value m t.1 h k i c s.first in
       let y = int (width_at u.value.given.width a) in
       subst (λ (z : Replacing). OmittedSo span n (v ∷ vs) (q ∷ qs) gs xs z) (ok_ok (rules.argument_first u.value.given u.value.place s.value) r s.then)
       (record {
         values = y ∷ o.values;
         run_is = ap (λ w. pures.◌>>=◌ (pures.there span w) (λ z. pures.◌>>=◌ (runs.omitted span p (n + 2) vs gs xs) (λ zs. Good (z ∷ zs)))) g.run_is ∙ ap (λ w. pures.◌>>=◌ w (λ zs. Good (y ∷ zs))) o.run_is;
         tree_is = ap (λ w. pures.◌>>=◌ (pures.there span w) (λ z. pures.◌>>=◌ (bare.widths_of span s.value.places xs) (λ zs. Good (z ∷ zs)))) g.tree_is ∙ ap (λ w. pures.◌>>=◌ w (λ zs. Good (y ∷ zs))) o.tree_is;
-        wide = (refl, o.wide);
+        wide = (g.wide, o.wide);
         paired = o.paired;
       })

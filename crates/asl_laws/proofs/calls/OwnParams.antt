@@ -11,7 +11,8 @@ use Rattle.asl_poly.specs.Poly.{atom_map}
 use Rattle.asl_rules.specs.Faults.{need}
 use Rattle.asl_rules.specs.Tests.{Tests, IsRight}
 use Rattle.asl_rules.specs.types.Types.{Ty, Parts, only_width}
-use Rattle.asl_rules.specs.types.Closed.{Assignment, type_with, width_at}
+use Rattle.asl_rules.specs.types.Closed.{Assignment, type_with}
+use Rattle.asl_rules.specs.types.Views.{viewed}
 use Rattle.asl_rules.specs.values.Values.{Value, int}
 use Rattle.asl_rules.specs.declarations.Scopes.{Counted, Entry, Signature, Param, Storage, Standing, Stored, Subprogram, TypeName, Label, fixed, atom_at, next_atom, standing_of, is_free}
 use Rattle.asl_rules.specs.private.WellFormed.{WellFormed}
@@ -28,12 +29,14 @@ use Rattle.asl_rules.specs.runs.Plans.{Pure as PureOf, Good}
 use Rattle.asl_rules.specs.runs.Pures as pures
 use Rattle.asl_rules.specs.runs.Evaluation.{declare, declared, type_under, param_value, param_under, params_bound, formals_bound, Entering, entering, under_written, result_at as keeps_at}
 use Rattle.asl_rules.specs.private.TypedMeaning as bare
-use Rattle.asl_rules.specs.private.TypedMeaning.{BareCore, with_next, formals_seen}
+use Rattle.asl_rules.specs.private.TypedMeaning.{with_next, formals_seen}
 use Rattle.asl_rules.specs.private.Erasure.{erased}
 use Rattle.asl_rules.proofs.basics.Inversions.{ok_ok, bind_ok, then_ok, need_ok}
 use Rattle.asl_rules.proofs.basics.Tests.{no, both, some_same, none_some}
 use Rattle.asl_rules.proofs.values.Constructs.{seen_is}
-use Rattle.asl_laws.proofs.widths.SameByWorth.{value_atom}
+use Rattle.asl_laws.proofs.scopes.HeldRules.{only_ends}
+use Rattle.asl_laws.proofs.widths.WholeWidths.{atom_width, atom_counts}
+use Rattle.asl_rules.proofs.widths.WidthsHeld.{atom_is_polynomial}
 use Rattle.asl_laws.proofs.widths.Omitted.{atoms_last}
 use Rattle.asl_rules.proofs.scopes.Lookups.{before_is, behind}
 use Rattle.asl_laws.proofs.scopes.Agreeing.{declared_agrees, erased_declared}
@@ -113,13 +116,13 @@ module _ (tests : Tests) (right : IsRight tests) (ds : List Decl) (base : List E
   itself_next span name names av c z a f e =
       let n = next_atom names in
       let T = type_or_itself None n in
-      let is : width_at (atom_map n) av ≡ z = value_atom av n ∙ e in
-      let belongs : InType (types_in base) av (int z) T = (length_gives (types_in base) av tests right (atom_map n) z is, tt, refl) in
+      let held = atom_is_polynomial n in
+      let belongs : InType (types_in base) av (int z) T = (length_gives (types_in base) av tests right (atom_map n) z held (atom_width av n z e), tt, refl) in
       record {
         state = declared name (int z) (of_value (int z)) false c;
         is = refl;
         agrees = declared_agrees base names av c (fixed name T (Some (atom_at n))) (int z) (of_value (int z)) false a f (refl, refl, λ m. no m)
-            (record { name_is = refl; under_is = belongs; mutable_is = refl; well_formed = integer_formed tests right (types_in base) (well_declared base w) (only_width (atom_map n)); belongs = belongs; known = tt; counts = ap int (sym is) });
+            (record { name_is = refl; under_is = belongs; mutable_is = refl; well_formed = integer_formed tests right (types_in base) (well_declared base w) (only_width (atom_map n)) (only_ends (atom_map n) held); belongs = belongs; known = tt; counts = atom_counts av n (int z) z refl e });
         erased_so = erased_declared name (int z) (of_value (int z)) false c;
         around_is = refl;
       }
@@ -129,7 +132,7 @@ module _ (tests : Tests) (right : IsRight tests) (ds : List Decl) (base : List E
   typed_next span name names av c T z a f wf h e =
       let n = next_atom names in
       subst (λ y. Next tests right ds base subs loose funcs w names av c name T (Some (atom_at n)) y (declare span name false (Some (of_type (type_with T av))) (int z) c)) (seen_is av T (int z) ∙ viewed_int (type_with T av) z)
-      (declare_next tests right ds base subs loose funcs w span name names av c T (Some (atom_at n)) (int z) a f wf h tt (viewed_int (type_with T av) z ∙ ap int (sym (value_atom av n ∙ e))))
+      (declare_next tests right ds base subs loose funcs w span name names av c T (Some (atom_at n)) (int z) a f wf h tt (atom_counts av n (viewed (type_with T av) (int z)) z (viewed_int (type_with T av) z) e))
 
   param_next : (span : Span) (name : List ℕ) (names : List Entry) (av : Assignment) (c : Core) (ty : Option TypeExpr) (T : Option Ty) (z : ℤ) → Agrees base names av c → CountedFixed names → is_free name names ≡ true → param_written tests ty names ≡ Ok T → HasOption av T (int z) → av (next_atom names) ≡ z →
       Next tests right ds base subs loose funcs w names av c name (type_or_itself T (next_atom names)) (Some (atom_at (next_atom names))) (int z) (declare span name false (param_under (env tests right ds base subs loose funcs w) c ty (int z)) (int z) c)

@@ -1,5 +1,5 @@
 -- A formal is written as the width of a parameter alone, for a run, just where its type is that for the rules.
-use Rattle.std.proofs.Common.{◌≡◌, ℕ, pos, Bool, true, false, ◌&&◌, List, [], ◌∷◌, Some, Ok, refl, sym, ap, ◌∙◌, subst, map}
+use Rattle.std.proofs.Common.{◌≡◌, ℕ, pos, Bool, true, false, ◌==◌, ◌&&◌, List, [], ◌∷◌, Some, Ok, refl, sym, ap, ◌∙◌, subst, map}
 use Rattle.std.specs.Prelude.{nat_le, length}
 use Rattle.asl_syn.specs.declared.code.StaticCode.TheVariants.{T02, T19, T20}
 use Rattle.asl_syn.specs.declared.tree.Expr.{Expr}
@@ -7,7 +7,7 @@ use Rattle.asl_syn.specs.declared.tree.TypeExpr.{TypeExpr, out-TypeExpr}
 use Rattle.asl_syn.specs.declared.tree.Bitfield.TheOpen as ex
 use Rattle.asl_syn.specs.declared.tree.Bitfield.TheFolds.{fold_out-TypeExpr}
 use Rattle.asl_syn.specs.Layers.{TypeLayer}
-use Rattle.asl_poly.specs.Terms.{Summand}
+use Rattle.asl_poly.specs.Terms.{Summand, Polynomial}
 use Rattle.asl_poly.specs.Poly.{constant_value}
 use Rattle.asl_rules.specs.Faults.{need, found_or}
 use Rattle.asl_rules.specs.Tests.{Tests}
@@ -17,7 +17,8 @@ use Rattle.asl_rules.specs.declarations.Scopes.{Scope, type_of_name}
 use Rattle.asl_rules.specs.types.Widths.{bounded, length_of}
 use Rattle.asl_rules.specs.private.Worth.{AllOf, AtomsOf}
 use Rattle.asl_rules.specs.types.Shapes as shapes
-use Rattle.asl_rules.specs.types.Alone.{Polynomials, polynomial, is_one, is_only, is_atom, is_alone}
+use Rattle.asl_poly.specs.Poly.{is_one, is_only, is_factor, is_atom}
+use Rattle.asl_rules.specs.types.Alone.{Polynomials, polynomial, is_alone}
 use Rattle.asl_rules.specs.expressions.Typing.{Found, Width}
 use Rattle.asl_rules.specs.expressions.Slicing.{FoundSlice}
 use Rattle.asl_rules.specs.expressions.Patterns.{FoundPattern}
@@ -39,15 +40,18 @@ not_only : (n : ℕ) (xs : List ℕ) → AllOf Never xs → is_only n xs ≡ fal
 not_only n [] h = refl
 not_only n (x ∷ xs) h = absurd h.0
 
-never_atom : (n : ℕ) (ts : List Summand) → AtomsOf Never ts → is_atom n ts ≡ false
-never_atom n [] h = refl
-never_atom n (t ∷ []) h = ap (λ b. is_one t.coefficient && b) (not_only n t.factors h.0) ∙ never_and (is_one t.coefficient)
-never_atom n (t ∷ u ∷ ts) h = refl
+never_factor : (n : ℕ) (ts : List Summand) → AtomsOf Never ts → is_factor n ts ≡ false
+never_factor n [] h = refl
+never_factor n (t ∷ []) h = ap (λ b. is_one t.coefficient && b) (not_only n t.factors h.0) ∙ never_and (is_one t.coefficient)
+never_factor n (t ∷ u ∷ ts) h = refl
+
+never_atom : (n : ℕ) (p : Polynomial) → AtomsOf Never p.terms → is_atom n p ≡ false
+never_atom n p h = ap (λ b. (p.denominator == 1) && b) (never_factor n p.terms h) ∙ never_and (p.denominator == 1)
 
 never_alone : (n : ℕ) (T : Ty) → Over Never T → rules.is_width_alone n T ≡ false
 never_alone n (integer_of ps) h = refl
 never_alone n boolean h = refl
-never_alone n (bits_of w view) h = never_atom n w.terms h
+never_alone n (bits_of w view) h = never_atom n w h
 never_alone n (enumeration_of name labels) h = refl
 never_alone n (record_of name fs) h = refl
 never_alone n (exception_of name fs) h = refl

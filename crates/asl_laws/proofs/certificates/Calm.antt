@@ -4,7 +4,6 @@ use Rattle.std.proofs.Common.{◌∙◌, subst, append_assoc, arith}
 use Rattle.std.specs.Prelude.{if◌then◌else◌, codes, is_some}
 use Rattle.std.specs.Str.{bytes_eq}
 use Rattle.std.specs.List.{list_all, slice_split, onto_first}
-use Rattle.std.proofs.lemmas.Slice.Eq.{bytes_eq-Decides}
 use Rattle.std.proofs.lemmas.Bool.Decides.{nat_tests}
 use Rattle.asl_grammar.specs.lexemes.Bytes.{is_name_start, is_name_byte}
 use Rattle.asl_grammar.specs.lexemes.Words.{word_of}
@@ -13,13 +12,13 @@ use Rattle.asl_rules.proofs.basics.Tests.{both, and_true, or_first, or_second}
 use Rattle.asl_laws.specs.certificates.Texts.{with_commas}
 use Rattle.asl_laws.specs.certificates.Format.{begins, byte_first, is_opening, is_closing, level, outer_parts, is_digit, is_number, is_name}
 use Rattle.asl_laws.specs.certificates.Format.{is_star, in_order, is_term_of, is_term, term_in, terms_rise, is_sign, without_minus}
-use Rattle.asl_laws.specs.certificates.Format.{is_width}
+use Rattle.asl_laws.specs.certificates.Format.{is_sum}
 use Rattle.asl_laws.proofs.certificates.Lines.{same_nat, nat_same}
-use Rattle.asl_laws.proofs.certificates.Spellings.{no_way, either_is, begins_is}
+use Rattle.asl_laws.proofs.certificates.Spellings.{no_way, begins_is}
 
 -- ---- bytes
 
--- bytes of numbers, names and widths
+-- bytes of numbers, names and sums
 unfoldable pub quiet : ℕ → Bool
 quiet b = is_digit b || (is_name_byte b || ((b == 42) || ((b == 43) || (b == 45))))
 
@@ -124,14 +123,12 @@ unfolding All quiet
 minus_quiet t true e h = subst Quiet (sym (begins_is (codes "-") t e)) (refl, h)
 minus_quiet t false e h = h
 
-pub width_quiet : (t : Text) → is_width t ≡ true → Quiet t
-unfolding All quiet
-width_quiet t h =
-    either_is (bytes_eq t (codes "0")) _ h (λ k. subst Quiet (sym ((bytes_eq-Decides t (codes "0")).0 k)) (refl, tt)) (λ k.
+pub sum_quiet : (t : Text) → is_sum t ≡ true → Quiet t
+sum_quiet t h =
     let a = both (list_all is_term (slice_split is_sign (without_minus t)))
-    (terms_rise (map term_in (slice_split is_sign (without_minus t)))) k in
+    (terms_rise (map term_in (slice_split is_sign (without_minus t)))) h in
     minus_quiet t (begins (codes "-") t) refl
-    (split_quiet is_sign sign_quiet (without_minus t) (parts_of is_term Quiet term_quiet (slice_split is_sign (without_minus t)) a.0)))
+    (split_quiet is_sign sign_quiet (without_minus t) (parts_of is_term Quiet term_quiet (slice_split is_sign (without_minus t)) a.0))
 
 -- ---- texts without a byte
 

@@ -11,7 +11,7 @@ use Rattle.std.proofs.lemmas.Bool.Decides.{nat_tests}
 use Rattle.asl_rules.specs.report.Texts.{Text}
 use Rattle.asl_rules.proofs.basics.Tests.{both, and_true, or_first, or_second}
 use Rattle.asl_laws.specs.certificates.Texts.{with_commas, first_line}
-use Rattle.asl_laws.specs.certificates.Format.{begins, closes, inside, framed, byte_first, is_opening, is_closing, level, outer_parts}
+use Rattle.asl_laws.specs.certificates.Format.{begins, closes, inside, framed, byte_first, is_opening, outer_parts}
 use Rattle.asl_laws.specs.certificates.Format.{is_digit, is_number, is_name, is_width, ends_of, are_ends, is_range, is_colon, is_bracket}
 use Rattle.asl_laws.specs.certificates.Format.{are_numbers, is_bitfield_of, is_bitfield, all_parts, before_close, is_view, is_bits}
 use Rattle.asl_laws.specs.certificates.Format.{before_bracket, is_type, is_space, is_plus, is_length_of, is_span_of, is_span, is_effect}
@@ -21,18 +21,16 @@ use Rattle.asl_laws.specs.certificates.Spellings.{TypeSpelled, SpanSpelled, Effe
 use Rattle.asl_laws.specs.certificates.Spellings.{LineSpelled}
 use Rattle.asl_laws.proofs.certificates.Lines.{same_nat}
 use Rattle.asl_laws.proofs.certificates.Spellings.{no_way}
-use Rattle.asl_laws.proofs.certificates.Calm.{quiet, quiet_isnt, All, all_of, Quiet, number_quiet, names_quiet, Parts, width_quiet, Free}
+use Rattle.asl_laws.proofs.certificates.Calm.{quiet, All, all_of, number_quiet, names_quiet, Parts, Free}
 use Rattle.asl_laws.proofs.certificates.Calm.{free_append, quiet_free, free_by, split_at, split_none, bytes_first, Calm, calm_append, still}
-use Rattle.asl_laws.proofs.certificates.Calm.{not_false, calm_still, and_all, quiet_still, quiet_calm, suc_less, calm_commas, append_none}
+use Rattle.asl_laws.proofs.certificates.Calm.{calm_still, and_all, quiet_calm, calm_commas, append_none}
 use Rattle.asl_laws.proofs.certificates.Calm.{parted}
+use Rattle.asl_laws.proofs.certificates.Steady.{begins_so, opens, closes_at, width_steady}
 
 -- ---- fronts and ends
 
 bytes_same : (t : Text) → bytes_eq t t ≡ true
 bytes_same t = (bytes_eq-Decides t t).1 refl
-
-begins_so : (front t : Text) → begins front (front ++ t) ≡ true
-begins_so front t = (bytes_eq-Decides front (take (length front) (front ++ t))).1 (sym (take-append_seam front t))
 
 nat_le_so : (m n : ℕ) → m ≤ n → nat_le m n ≡ true
 nat_le_so m n h = grind (arith, nat_tests)
@@ -106,44 +104,23 @@ differ_so s t n = by (bytes_eq s t) refl
     by false e = refl
 
 width_fine : (t : Text) → IsWidth t → Fine is_width t
-unfolding quiet
-width_fine t h = record { is = h; free = quiet_free 32 refl t (width_quiet t h); calm = λ k. quiet_calm k t (width_quiet t h) }
+width_fine t h = let s = width_steady t h in record { is = h; free = s.space; calm = s.calm }
 
 range_fine : (t : Text) → Range t → Fine is_range t
 unfolding quiet All still Free
-range_fine t (inl h) = record {
-  is = ap are_ends (ends_none t (quiet_free 46 refl t (width_quiet t h))) ∙ h;
-  free = quiet_free 32 refl t (width_quiet t h);
-  calm = λ k. quiet_calm k t (width_quiet t h);
-}
+range_fine t (inl h) = let s = width_steady t h in record { is = ap are_ends (ends_none t s.dot) ∙ h; free = s.space; calm = s.calm }
 range_fine t (inr r) =
-    let l = width_quiet r.low r.low_is in
-    let h = width_quiet r.high r.high_is in
-    let e : ends_of t ≡ r.low ∷ r.high ∷ [] = ap ends_of r.is
-    ∙ (ends_at r.low r.high (quiet_free 46 refl r.low l) ∙ ap (λ z. r.low ∷ z) (ends_none r.high (quiet_free 46 refl r.high h))) in
+    let l = width_steady r.low r.low_is in
+    let h = width_steady r.high r.high_is in
+    let e : ends_of t ≡ r.low ∷ r.high ∷ [] = ap ends_of r.is ∙ (ends_at r.low r.high l.dot ∙ ap (λ z. r.low ∷ z) (ends_none r.high h.dot)) in
     record {
       is = ap are_ends e ∙ and_all (is_width r.low) (is_width r.high) (not (bytes_eq r.low r.high)) r.low_is r.high_is
           (differ_so r.low r.high r.differ);
-      free = subst (Free 32) (sym r.is)
-          (free_append 32 r.low (codes ".." ++ r.high) (quiet_free 32 refl r.low l) (refl, (refl, quiet_free 32 refl r.high h)));
+      free = subst (Free 32) (sym r.is) (free_append 32 r.low (codes ".." ++ r.high) l.space (refl, (refl, h.space)));
       calm = λ k. subst (λ z. Calm k z k) (sym r.is)
-          (calm_append k k k r.low (codes ".." ++ r.high) (quiet_calm k r.low l)
-          (calm_append k k k (codes "..") r.high (calm_still k (codes "..") (refl, (refl, tt))) (quiet_calm k r.high h)));
+          (calm_append k k k r.low (codes ".." ++ r.high) (l.calm k)
+          (calm_append k k k (codes "..") r.high (calm_still k (codes "..") (refl, (refl, tt))) (h.calm k)));
     }
-
-opens : (k b : ℕ) → (b == 44) ≡ false → is_opening b ≡ true → Calm k (b ∷ []) (suc k)
-unfolding Calm bytes_first
-opens k b n o rest =
-    ap (λ x. if x && (k == 0) then [] ∷ outer_parts k rest else byte_first b (outer_parts (level k b) rest)) n
-    ∙ ap (λ x. byte_first b (outer_parts (if x then suc k else (if is_closing b then k - 1 else k)) rest)) o
-
-closes_at : (k b : ℕ) → (b == 44) ≡ false → is_opening b ≡ false → is_closing b ≡ true → Calm (suc k) (b ∷ []) k
-unfolding Calm bytes_first
-closes_at k b n o c rest =
-    ap (λ x. if x && (suc k == 0) then [] ∷ outer_parts (suc k) rest else byte_first b (outer_parts (level (suc k) b) rest)) n ∙
-    (ap (λ x. byte_first b (outer_parts (if x then suc (suc k) else (if is_closing b then suc k - 1 else suc k)) rest)) o ∙
-    (ap (λ x. byte_first b (outer_parts (if x then suc k - 1 else suc k) rest)) c
-    ∙ ap (λ j. byte_first b (outer_parts j rest)) (suc_less k)))
 
 bitfield_fine : (t : Text) → BitfieldSpelled t → Fine is_bitfield t
 unfolding quiet All still Free
@@ -246,19 +223,6 @@ unfolding Free Calm bytes_first
 view_so v (inl e) = (ap is_view e, (subst (Free 32) (sym e) tt, λ k. subst (λ z. Calm k z k) (sym e) (λ rest. refl)))
 view_so v (inr f) = view_by v f.fields f.is f.fields_are
 
-close_at : (w rest : Text) → Quiet w → before_close 0 (w ++ (41 ∷ rest)) ≡ w
-unfolding All quiet still
-close_at [] rest h = refl
-close_at (b ∷ w) rest h =
-    let s = quiet_still b h.0 in
-    let a = both (not (b == 44)) (not (is_opening b) && not (is_closing b)) s in
-    let c = both (not (is_opening b)) (not (is_closing b)) a.1 in
-    ap (λ x. if x && true then [] else b ∷ before_close (level 0 b) (w ++ (41 ∷ rest))) (quiet_isnt 41 refl b h.0) ∙
-    (ap (λ x. b ∷ before_close (if x then suc 0 else (if is_closing b then 0 - 1 else 0)) (w ++ (41 ∷ rest)))
-    (not_false (is_opening b) c.0) ∙
-    (ap (λ x. b ∷ before_close (if x then 0 - 1 else 0) (w ++ (41 ∷ rest))) (not_false (is_closing b) c.1)
-    ∙ ap (λ z. b ∷ z) (close_at w rest h.1)))
-
 bracket_at : (s rest : Text) → Free 93 s → before_bracket (s ++ (93 ∷ rest)) ≡ s
 unfolding Free
 bracket_at [] rest f = refl
@@ -278,8 +242,7 @@ behind_byte w c rest =
 bits_so : (t : Text) → Bits t → (begins (codes "bits(") t && is_bits (drop 5 t)) ≡ true
 bits_so t b =
     let d = b.width ++ (41 ∷ b.view) in
-    let q = width_quiet b.width b.width_is in
-    let c : before_close 0 d ≡ b.width = close_at b.width b.view q in
+    let c : before_close 0 d ≡ b.width = (width_steady b.width b.width_is).closed b.view in
     let k = behind_byte b.width 41 b.view in
     let v = view_so b.view b.view_is in
     ap (λ z. begins (codes "bits(") z && is_bits (drop 5 z)) b.is ∙
@@ -350,17 +313,17 @@ type_fine (suc n) t (inr (inr (inr (inl i)))) =
           (opens_behind (codes "integer") 123 (all_of still (codes "integer") refl) refl refl) (λ j. closes_at j 125 refl refl refl) p.1 k);
     }
 type_fine (suc n) t (inr (inr (inr (inr (inl b))))) =
-    let q = width_quiet b.width b.width_is in
+    let q = width_steady b.width b.width_is in
     let v = view_so b.view b.view_is in
     record {
       is = or_second (bytes_eq t (codes "integer")) _
           (or_second (bytes_eq t (codes "boolean")) _ (or_second (is_name t) _ (or_second _ _ (or_first _ _ (bits_so t b)))));
       free = subst (Free 32) (sym b.is)
           (free_append 32 (codes "bits(") _
-          (free_by 32 (codes "bits(") refl) (free_append 32 b.width _ (quiet_free 32 refl b.width q) (refl, v.1.0)));
+          (free_by 32 (codes "bits(") refl) (free_append 32 b.width _ q.space (refl, v.1.0)));
       calm = λ k. subst (λ z. Calm k z k) (sym b.is)
           (calm_append k (suc k) k (codes "bits(") _ (opens_behind (codes "bits") 40 (all_of still (codes "bits") refl) refl refl k)
-          (calm_append (suc k) (suc k) k b.width _ (quiet_calm (suc k) b.width q) (calm_append (suc k) k k (codes ")") b.view
+          (calm_append (suc k) (suc k) k b.width _ (q.calm (suc k)) (calm_append (suc k) k k (codes ")") b.view
           (closes_at k 41 refl refl refl) (v.1.1 k))));
     }
 type_fine (suc n) t (inr (inr (inr (inr (inr (inl u)))))) =

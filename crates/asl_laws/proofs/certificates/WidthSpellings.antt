@@ -1,21 +1,25 @@
 -- Widths are recognised exactly where they are put together from terms.
-use Rattle.std.proofs.Common.{◌≡◌, inl, inr, ℕ, ◌==◌, Bool, true, false, ◌&&◌, ◌||◌, not, List, [], ◌∷◌, ◌++◌, map, drop, refl, sym, ap}
+use Rattle.std.proofs.Common.{◌≡◌, ◌⊎◌, inl, inr, length, ℕ, ◌==◌, Bool, true, false, ◌&&◌, ◌||◌, not, List, [], ◌∷◌, ◌++◌, map, drop, refl, sym, ap}
 use Rattle.std.proofs.Common.{◌∙◌, subst, append_assoc}
 use Rattle.std.specs.Prelude.{if◌then◌else◌, codes, is_some}
 use Rattle.std.specs.Str.{bytes_eq}
 use Rattle.std.specs.List.{list_all, slice_split, onto_first, join_with_byte}
 use Rattle.std.proofs.lemmas.Slice.Eq.{bytes_eq-Decides}
+use Rattle.std.proofs.Math.Seq.{drop-append_seam}
 use Rattle.asl_grammar.specs.lexemes.Bytes.{is_name_start, is_name_byte}
 use Rattle.asl_grammar.specs.lexemes.Words.{word_of}
 use Rattle.asl_rules.specs.report.Texts.{Text}
 use Rattle.asl_rules.proofs.basics.Tests.{both, and_true, or_first, or_second}
 use Rattle.asl_laws.specs.certificates.Texts.{factors_text}
 use Rattle.asl_laws.specs.certificates.Format.{begins, is_digit, is_number, is_name, is_star, in_order, is_term_of, is_term, term_in}
-use Rattle.asl_laws.specs.certificates.Format.{terms_rise, is_sign, are_terms, without_minus}
-use Rattle.asl_laws.specs.certificates.Spellings.{IsName, IsWidth, Each, TermSpelled, signed, terms_in, TermsSpelled, WidthSpelled}
+use Rattle.asl_laws.specs.certificates.Format.{terms_rise, is_sign, are_terms, without_minus, before_close}
+use Rattle.asl_laws.specs.certificates.Format.{is_sum, is_denominator, is_quotient}
+use Rattle.asl_laws.specs.certificates.Spellings.{IsName, IsWidth, Each, TermSpelled, signed, terms_in, TermsSpelled, QuotientSpelled, WidthSpelled}
 use Rattle.asl_laws.specs.certificates.Spellings.{WidthLaw}
 use Rattle.asl_laws.proofs.certificates.Lines.{same_nat}
 use Rattle.asl_laws.proofs.certificates.Spellings.{no_way, either_is, begins_is, rejoined}
+use Rattle.asl_laws.proofs.certificates.Calm.{sum_quiet}
+use Rattle.asl_laws.proofs.certificates.Steady.{Quotient, quotient_parts, close_past, begins_so}
 
 append_none : (t : Text) → t ++ [] ≡ t
 append_none [] = refl
@@ -121,9 +125,32 @@ minus_by : (t : Text) (x : Bool) → begins (codes "-") t ≡ x → are_terms (s
 minus_by t true e h = terms_by t (drop 1 t) true (begins_is (codes "-") t e) h
 minus_by t false e h = terms_by t t false refl h
 
+sum_spelled : (t : Text) → is_sum t ≡ true → TermsSpelled t
+sum_spelled t h = minus_by t (begins (codes "-") t) refl h
+
+-- a denominator above 1
+denominator_above : (n : Text) → is_denominator n ≡ true → ((n ≡ codes "0") ⊎ (n ≡ codes "1")) → ⊥
+denominator_above n h z =
+    let b = both (is_number n) (not (bytes_eq n (codes "0") || bytes_eq n (codes "1"))) h in
+    true_false (bytes_eq n (codes "0") || bytes_eq n (codes "1")) (one_of z) (not_so (bytes_eq n (codes "0") || bytes_eq n (codes "1")) b.1)
+  where
+    one_of : ((n ≡ codes "0") ⊎ (n ≡ codes "1")) → (bytes_eq n (codes "0") || bytes_eq n (codes "1")) ≡ true
+    one_of (inl e) = or_first (bytes_eq n (codes "0")) _ ((bytes_eq-Decides n (codes "0")).1 e)
+    one_of (inr e) = or_second (bytes_eq n (codes "0")) _ ((bytes_eq-Decides n (codes "1")).1 e)
+
+quotient_spelled : (t : Text) → Quotient t → QuotientSpelled t
+quotient_spelled t r = record {
+  terms = r.terms;
+  denominator = r.denominator;
+  is = r.is;
+  terms_are = sum_spelled r.terms r.terms_are;
+  denominator_is = (both (is_number r.denominator) (not (bytes_eq r.denominator (codes "0") || bytes_eq r.denominator (codes "1"))) r.denominator_is).0;
+  above_1 = denominator_above r.denominator r.denominator_is;
+}
+
 width_spelled : (t : Text) → IsWidth t → WidthSpelled t
 width_spelled t h = either_is (bytes_eq t (codes "0")) _ h (λ k. inl ((bytes_eq-Decides t (codes "0")).0 k))
-    (λ k. inr (minus_by t (begins (codes "-") t) refl k))
+    (λ k. inr (either_is (is_sum t) _ k (λ s. inl (sum_spelled t s)) (λ q. inr (quotient_spelled t (quotient_parts t q)))))
 
 -- ---- and what is put together so is recognised
 
@@ -194,12 +221,15 @@ each_weaker P Q f (t ∷ ts) h = (f t h.0, each_weaker P Q f ts h.1)
 no_star : (p : ℕ → Bool) → p 42 ≡ false → (t : Text) → All p t → All (λ b. not (is_star b)) t
 no_star p n = all_weaker p (λ b. not (is_star b)) (λ b h. is_not (b == 42) (isnt p 42 n b h))
 
-differ : (c : Text) → (c ≡ codes "0" → ⊥) → not (bytes_eq c (codes "0")) ≡ true
-differ c n = by (bytes_eq c (codes "0")) refl
+other : (s c : Text) → (c ≡ s → ⊥) → bytes_eq c s ≡ false
+other s c n = by (bytes_eq c s) refl
   where
-    by : (x : Bool) → bytes_eq c (codes "0") ≡ x → not x ≡ true
-    by true e = absurd (n ((bytes_eq-Decides c (codes "0")).0 e))
+    by : (x : Bool) → bytes_eq c s ≡ x → x ≡ false
+    by true e = absurd (n ((bytes_eq-Decides c s).0 e))
     by false e = refl
+
+differ : (c : Text) → (c ≡ codes "0" → ⊥) → not (bytes_eq c (codes "0")) ≡ true
+differ c n = is_not (bytes_eq c (codes "0")) (other (codes "0") c n)
 
 term_so : (t : Text) → TermSpelled t → is_term t ≡ true
 term_so t s =
@@ -288,9 +318,35 @@ minus_so t false first more e h r =
     (ap (λ x. are_terms (slice_split is_sign (if x then drop 1 (first ++ signed more) else (first ++ signed more))))
     (bare_so first (signed more) h.0) ∙ terms_so (first ++ signed more) first more refl h r)
 
+sum_so : (t : Text) → TermsSpelled t → is_sum t ≡ true
+sum_so t s = minus_so t s.minus s.first s.more s.is s.terms_are s.rise
+
+denominator_so : (n : Text) → is_number n ≡ true → (((n ≡ codes "0") ⊎ (n ≡ codes "1")) → ⊥) → is_denominator n ≡ true
+denominator_so n i a =
+    and_true (is_number n) (not (bytes_eq n (codes "0") || bytes_eq n (codes "1"))) i
+    (is_not (bytes_eq n (codes "0") || bytes_eq n (codes "1"))
+    (neither (bytes_eq n (codes "0")) (bytes_eq n (codes "1")) (other (codes "0") n (λ e. a (inl e))) (other (codes "1") n (λ e. a (inr e)))))
+
+quotient_so : (t : Text) → QuotientSpelled t → (begins (codes "(") t && is_quotient (drop 1 t)) ≡ true
+quotient_so t q =
+    let w = q.terms in
+    let n = q.denominator in
+    let d = w ++ (codes ")/" ++ n) in
+    let s : is_sum w ≡ true = sum_so w q.terms_are in
+    let c : before_close 0 d ≡ w = close_past 0 w (codes ")/" ++ n) (sum_quiet w s) ∙ append_none w in
+    let e : d ≡ (w ++ codes ")/") ++ n = sym (append_assoc w (codes ")/") n) in
+    let b : begins (w ++ codes ")/") d ≡ true = ap (begins (w ++ codes ")/")) e ∙ begins_so (w ++ codes ")/") n in
+    let r : drop (length (w ++ codes ")/")) d ≡ n = ap (drop (length (w ++ codes ")/"))) e ∙ drop-append_seam (w ++ codes ")/") n in
+    ap (λ z. begins (codes "(") z && is_quotient (drop 1 z)) q.is ∙
+    and_true (begins (codes "(") (codes "(" ++ d)) (is_quotient d) (begins_so (codes "(") d)
+    (ap (λ v. is_sum v && (begins (v ++ codes ")/") d && is_denominator (drop (length (v ++ codes ")/")) d))) c ∙
+    and_true (is_sum w) _ s
+    (and_true (begins (w ++ codes ")/") d) (is_denominator (drop (length (w ++ codes ")/")) d)) b (ap is_denominator r ∙ denominator_so n q.denominator_is q.above_1)))
+
 width_so : (t : Text) → WidthSpelled t → IsWidth t
 width_so t (inl e) = or_first (bytes_eq t (codes "0")) _ ((bytes_eq-Decides t (codes "0")).1 e)
-width_so t (inr s) = or_second (bytes_eq t (codes "0")) _ (minus_so t s.minus s.first s.more s.is s.terms_are s.rise)
+width_so t (inr (inl s)) = or_second (bytes_eq t (codes "0")) _ (or_first (is_sum t) _ (sum_so t s))
+width_so t (inr (inr q)) = or_second (bytes_eq t (codes "0")) _ (or_second (is_sum t) _ (quotient_so t q))
 
 pub width_law : (t : Text) → WidthLaw t
 width_law t = record { spelled = width_spelled t; recognised = width_so t }

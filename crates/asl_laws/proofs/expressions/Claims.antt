@@ -1,8 +1,11 @@
 -- What is claimed of expressions and statements with their typed trees, in a program with these names outside bodies and these subprograms, at an assignment of
 -- integers to the atoms that is fixed for a frame.
-use Rattle.std.proofs.Common.{◌≡◌, ◌⊎◌, ℕ, Bool, true, List, [], ◌∷◌, ◌++◌, Option, Some, None, Ok}
+use Rattle.std.proofs.Common.{◌≡◌, ◌⊎◌, ℕ, pos, Bool, true, List, [], ◌∷◌, ◌++◌, Option, Some, None, Ok}
+use Rattle.asl_syn.specs.declared.token.Span.{Span}
 use Rattle.asl_syn.specs.declared.tree.Expr.{Expr}
 use Rattle.asl_syn.specs.declared.tree.Stmt.{Stmt}
+use Rattle.asl_poly.specs.Terms.{Polynomial}
+use Rattle.asl_poly.specs.Poly.{IsPolynomial, HasWidth}
 use Rattle.asl_rules.specs.Tests.{Tests}
 use Rattle.asl_rules.specs.types.Types.{Ty}
 use Rattle.asl_rules.specs.types.Closed.{Assignment, Closed, type_with, width_at}
@@ -11,7 +14,8 @@ use Rattle.asl_rules.specs.declared.effect.Effect.{Effect}
 use Rattle.asl_rules.specs.declared.effect.Effect.TheVariants.{Pure}
 use Rattle.asl_rules.specs.private.WellFormed.{WellFormed, Built}
 use Rattle.asl_rules.specs.runs.Trees.{Tree, Act}
-use Rattle.asl_rules.specs.expressions.Typing.{Typed, Width, Number}
+use Rattle.asl_rules.specs.runs.Trees as tree
+use Rattle.asl_rules.specs.expressions.Typing.{Typed, Width, Number, width_note}
 use Rattle.asl_rules.specs.expressions.Exprs.{found, typed, width}
 use Rattle.asl_rules.specs.statements.Acting.{Done}
 use Rattle.asl_rules.specs.statements.Stmts.{found_stmt}
@@ -45,13 +49,15 @@ pub record Here : Type 0 where
   pub present : Assignment
   pub around : Around
 
--- what an expression is asked for: its type, in the class of the scope or as one that is Pure, what it is as a width or a number, or its type where its width is known
+-- what an expression is asked for: its type, in the class of the scope or as one that is Pure, what it is as a width or a number, its type where its width is
+-- known, or the number above 0 that it is written as, where a width is divided by it
 pub data Asked : Type 0 where
   of_type : Typed → Asked
   of_pure : Typed → Asked
   of_width : Width → Asked
   of_number : Number → Asked
   of_known : Typed → Width → Asked
+  of_divisor : Span → ℕ → Asked
 
 abbrev pub tree_asked : Asked → Tree
 tree_asked (of_type S) = S.tree
@@ -59,6 +65,7 @@ tree_asked (of_pure S) = S.tree
 tree_asked (of_width W) = W.tree
 tree_asked (of_number N) = N.tree
 tree_asked (of_known S W) = S.tree
+tree_asked (of_divisor span k) = tree.Int (width_note span) k
 
 abbrev pub Answers : Tests → Asked → Expr → Scope → Type 0
 Answers t (of_type S) e G = typed t e G ≡ Ok S
@@ -66,13 +73,19 @@ Answers t (of_pure S) e G = typed t e (with_class G Pure) ≡ Ok S
 Answers t (of_width W) e G = width t e G ≡ Ok W
 Answers t (of_number N) e G = (found t e).number G ≡ Ok N
 Answers t (of_known S W) e G = (typed t e G ≡ Ok S) × (width t e G ≡ Ok W)
+Answers t (of_divisor span k) e G = ((found t e).divisor ≡ Some k) × ((found t e).span ≡ span)
+
+-- the integer of a width that is evaluated: it is whole there, and within the limits
+abbrev pub IsWidth : Assignment → Polynomial → Value → Type 0
+IsWidth a p x = (x ≡ int (width_at p a)) × HasWidth p a (width_at p a) × IsPolynomial p
 
 abbrev pub GivesAsked : (List ℕ → Option Ty) → Assignment → Asked → Value → Type 0
 GivesAsked d a (of_type S) x = InType d a x S.ty
 GivesAsked d a (of_pure S) x = InType d a x S.ty
-GivesAsked d a (of_width W) x = x ≡ int (width_at W.poly a)
+GivesAsked d a (of_width W) x = IsWidth a W.poly x
 GivesAsked d a (of_number N) x = x ≡ int N.number
-GivesAsked d a (of_known S W) x = x ≡ int (width_at W.poly a)
+GivesAsked d a (of_known S W) x = IsWidth a W.poly x
+GivesAsked d a (of_divisor span k) x = x ≡ int (pos k)
 
 -- a result, where the body has one, at the parameters of the body; its bits get the bitfields of the result where the body ends
 abbrev pub GivesResult : (List ℕ → Option Ty) → Assignment → Option Ty → Option Value → Type 0

@@ -1,7 +1,9 @@
 -- Forms of expression with their typed trees: both do the same, and give a value of the type, in a state that agrees with the scope.
 use Rattle.std.proofs.Common.{◌≡◌, ℕ, pos, inl, inr, ◌&&◌, Bool, true, false, not, List, [], ◌∷◌, length, Option, Some, None, option_map, Ok, refl, sym, ap, ◌∙◌, subst, map}
+use Rattle.std.specs.Prelude.{nat_le}
+use Rattle.asl_poly.specs.WidthLimits.{heaviest}
 use Rattle.asl_syn.specs.declared.token.Span.{Span}
-use Rattle.asl_syn.specs.declared.code.StaticCode.TheVariants.{S03, T02, T05, T08}
+use Rattle.asl_syn.specs.declared.code.StaticCode.TheVariants.{S03, T02, T05, T08, T20}
 use Rattle.asl_syn.specs.declared.tree.Expr.{Expr}
 use Rattle.asl_syn.specs.declared.tree.Bitfield.TheOpen as ex
 use Rattle.asl_syn.specs.declared.tree.Decl.{Decl}
@@ -16,7 +18,7 @@ use Rattle.asl_rules.specs.Tests.{Tests, IsRight}
 use Rattle.asl_rules.specs.types.Types.{Ty, boolean, tuple_of, bits_wide, is_boolean, is_integer, join, bare}
 use Rattle.asl_rules.specs.types.Closed.{Assignment, parts_with}
 use Rattle.asl_rules.specs.declarations.Scopes.{Entry, Signature, Storage, Standing, Stored, Subprogram, TypeName, Label, standing_of, reading}
-use Rattle.asl_rules.specs.private.WellFormed.{WellFormed, BuiltAll}
+use Rattle.asl_rules.specs.private.WellFormed.{Shaped, WellFormed, BuiltAll}
 use Rattle.asl_rules.specs.declarations.Layouts.{slot_of, layout_of}
 use Rattle.asl_rules.specs.runs.Trees as tree
 use Rattle.asl_rules.specs.runs.Trees.{Tree, TreeFunc, Note, tree_at}
@@ -52,7 +54,7 @@ use Rattle.asl_rules.proofs.scopes.Lookups.{Finds, finds, label_value, label_out
 use Rattle.asl_rules.proofs.scopes.Naming.{WellNamed, well_declared}
 use Rattle.asl_rules.proofs.expressions.OperatorForms.{Gives, OneKind, literal_gives, binary_gives, unary_gives}
 use Rattle.asl_laws.proofs.expressions.ElementForms.{element_gives}
-use Rattle.asl_cons.proofs.Covering.{value_constant_map}
+use Rattle.asl_rules.proofs.values.Rounded.{constant_at}
 use Rattle.asl_rules.proofs.scopes.Slots.{has_names, slot_is}
 use Rattle.asl_rules.proofs.basics.Opening.{in_class_is, finish_is, bounded_ok}
 use Rattle.asl_laws.proofs.expressions.Claims.{Here, At}
@@ -110,9 +112,10 @@ module _ (tests : Tests) (right : IsRight tests) (ds : List Decl) (base : List E
   bits_by : (H : Here) (S : Typed) (span : Span) (t : List ℕ) (o : Option (List Bool)) (c : Core) → literal_of tests.limit t ≡ o → bits_rule_of H.scope.class span o ≡ Ok S → At tests base subs loose H c → Formed H S (ex.Bits span t) c
   bits_by H S span t None c q h a = err_ok (fault_of S03 span) S h
   bits_by H S span t (Some bs) c q h a =
-      formed H S (ex.Bits span t) c span (bits_wide (length bs)) Pure (λ n. tree.Constant n (plain_bits bs)) (in_class_is H.scope.class span Pure (bits_wide (length bs)) (λ n. tree.Constant n (plain_bits bs)) S h) refl
+      let u = then_ok (need (nat_le (length bs) heaviest) T20 span) _ S h in
+      formed H S (ex.Bits span t) c span (bits_wide (length bs)) Pure (λ n. tree.Constant n (plain_bits bs)) (in_class_is H.scope.class span Pure (bits_wide (length bs)) (λ n. tree.Constant n (plain_bits bs)) S u.then) refl
       (subst (λ o. Same tests right base subs loose H (Out tests right base subs loose H (bits_wide (length bs))) (at_once (there span (option_map plain_bits o)) c) (Ret (plain_bits bs) (erased c))) (sym q)
-      (refl, (refl, ((subst (λ z. is_width (length bs) z ≡ true) (sym (value_constant_map H.present (pos (length bs)))) (number_is (length bs)), tt, refl), a))))
+      (refl, (refl, ((subst (λ z. is_width (length bs) z ≡ true) (sym (constant_at H.present (pos (length bs)))) (number_is (length bs)), tt, refl), a))))
 
   pub bits_formed : (H : Here) (S : Typed) (span : Span) (t : List ℕ) (c : Core) → bits_rule_of H.scope.class span (literal_of tests.limit t) ≡ Ok S → At tests base subs loose H c → Formed H S (ex.Bits span t) c
   bits_formed H S span t c h a = bits_by H S span t (literal_of tests.limit t) c refl h a
@@ -141,36 +144,40 @@ module _ (tests : Tests) (right : IsRight tests) (ds : List Decl) (base : List E
 
   -- ---- operators
 
-  pub operation_formed : (H : Here) (S : Typed) (span : Span) (o : UnaryOperator) (e : Expr) (c : Core) → operation_rule span o (found tests e) H.scope ≡ Ok S → At tests base subs loose H c → Formed H S (ex.Unary span o e) c
-  operation_formed H S span o e c h a =
+  -- an operand's value, and that its type is well formed
+  abbrev Lies : Here → Value → Ty → Type 0
+  Lies H x T = InType (types_in base) H.present x T × Shaped (types_in base) T
+
+  pub operation_formed : (H : Here) (S : Typed) (span : Span) (o : UnaryOperator) (e : Expr) (c : Core) → ((T : Typed) → typed tests e H.scope ≡ Ok T → WellFormed (types_in base) T.ty) → operation_rule span o (found tests e) H.scope ≡ Ok S → At tests base subs loose H c → Formed H S (ex.Unary span o e) c
+  operation_formed H S span o e c good h a =
       let t = bind_ok (typed tests e H.scope) _ S h in
       let u = bind_ok (unary_rule span o t.value.ty) _ S t.then in
       let make : Note → Tree = λ n. tree.Unary n o t.value.tree in
       formed H S (ex.Unary span o e) c span u.value t.value.effect make (in_class_is H.scope.class span t.value.effect u.value make S u.then) refl
-      (behind_same tests right base subs loose H u.value e t.value c (unary_value span o) (unary_value span o) t.first a (λ x i. (refl, unary_gives (types_in base) H.present tests right span o t.value.ty u.value x u.first i)))
+      (behind_same tests right base subs loose H u.value e t.value c (unary_value span o) (unary_value span o) t.first a (λ x i. (refl, unary_gives (types_in base) H.present tests right span o t.value.ty u.value x u.first (i, (good t.value t.first).shaped))))
 
-  right_same : (H : Here) (span : Span) (o : BinaryOperator) (b : Expr) (x : Value) (S U : Ty) (V : Typed) (c : Core) → OneKind S V.ty → typed tests b H.scope ≡ Ok V → binary_rule tests span o S V.ty ≡ Ok U → InType (types_in base) H.present x S → At tests base subs loose H c →
+  right_same : (H : Here) (span : Span) (o : BinaryOperator) (b : Expr) (x : Value) (S U : Ty) (V : Typed) (c : Core) → OneKind S V.ty → Shaped (types_in base) V.ty → typed tests b H.scope ≡ Ok V → binary_rule tests span o S V.ty ≡ Ok U → Lies H x S → At tests base subs loose H c →
       Same tests right base subs loose H (Out tests right base subs loose H U) (ask_right tests.limit span o b x c) (ask_right tests.limit span o V.tree x (erased c))
-  right_same H span o b x S U V c k h r i a =
-      behind_same tests right base subs loose H U b V c (binary_value tests.limit span o x) (binary_value tests.limit span o x) h a (λ y j. (refl, binary_gives (types_in base) H.present tests right span o S V.ty U x y k r i j))
+  right_same H span o b x S U V c k s h r i a =
+      behind_same tests right base subs loose H U b V c (binary_value tests.limit span o x) (binary_value tests.limit span o x) h a (λ y j. (refl, binary_gives (types_in base) H.present tests right span o S V.ty U x y k r i (j, s)))
 
-  decided_same : (H : Here) (span : Span) (o : BinaryOperator) (b : Expr) (x : Value) (S : Ty) (V : Typed) (c : Core) (d : Decided) → OneKind S V.ty → typed tests b H.scope ≡ Ok V → binary_rule tests span o S V.ty ≡ Ok boolean → InType (types_in base) H.present x S → At tests base subs loose H c →
+  decided_same : (H : Here) (span : Span) (o : BinaryOperator) (b : Expr) (x : Value) (S : Ty) (V : Typed) (c : Core) (d : Decided) → OneKind S V.ty → Shaped (types_in base) V.ty → typed tests b H.scope ≡ Ok V → binary_rule tests span o S V.ty ≡ Ok boolean → Lies H x S → At tests base subs loose H c →
       Same tests right base subs loose H (Out tests right base subs loose H boolean) (unless_decided tests.limit span o b x c d) (unless_decided tests.limit span o V.tree x (erased c) d)
-  decided_same H span o b x S V c (Already r) k h q i a = (refl, (refl, ((refl, tt, refl), a)))
-  decided_same H span o b x S V c ByRight k h q i a = right_same H span o b x S boolean V c k h q i a
+  decided_same H span o b x S V c (Already r) k s h q i a = (refl, (refl, ((refl, tt, refl), a)))
+  decided_same H span o b x S V c ByRight k s h q i a = right_same H span o b x S boolean V c k s h q i a
 
-  lazy_same : (H : Here) (span : Span) (o : BinaryOperator) (b : Expr) (x : Value) (S U : Ty) (V : Typed) (c : Core) (f : Bool → Decided) → OneKind S V.ty → typed tests b H.scope ≡ Ok V → binary_rule tests span o S V.ty ≡ Ok U → (is_boolean S ≡ true) × (boolean ≡ U) → InType (types_in base) H.present x S → At tests base subs loose H c →
+  lazy_same : (H : Here) (span : Span) (o : BinaryOperator) (b : Expr) (x : Value) (S U : Ty) (V : Typed) (c : Core) (f : Bool → Decided) → OneKind S V.ty → Shaped (types_in base) V.ty → typed tests b H.scope ≡ Ok V → binary_rule tests span o S V.ty ≡ Ok U → (is_boolean S ≡ true) × (boolean ≡ U) → Lies H x S → At tests base subs loose H c →
       Same tests right base subs loose H (Out tests right base subs loose H U) (behind_left tests.limit span o b x (Lazy f) c) (behind_left tests.limit span o V.tree x (Lazy f) (erased c))
-  lazy_same H span o b x S U V c f k h q e i a =
+  lazy_same H span o b x S U V c f k s h q e i a =
       subst (λ W. Same tests right base subs loose H (Out tests right base subs loose H W) (behind_left tests.limit span o b x (Lazy f) c) (behind_left tests.limit span o V.tree x (Lazy f) (erased c))) e.1
-      (truth_same tests right base subs loose H (Out tests right base subs loose H boolean) span x S c (λ p. unless_decided tests.limit span o b x c (f p)) (λ p. unless_decided tests.limit span o V.tree x (erased c) (f p)) e.0 i (λ p. decided_same H span o b x S V c (f p) k h (q ∙ ap Ok (sym e.1)) i a))
+      (truth_same tests right base subs loose H (Out tests right base subs loose H boolean) span x S c (λ p. unless_decided tests.limit span o b x c (f p)) (λ p. unless_decided tests.limit span o V.tree x (erased c) (f p)) e.0 i.0 (λ p. decided_same H span o b x S V c (f p) k s h (q ∙ ap Ok (sym e.1)) i a))
 
-  left_same : (H : Here) (span : Span) (o : BinaryOperator) (b : Expr) (x : Value) (S U : Ty) (V : Typed) (c : Core) → OneKind S V.ty → typed tests b H.scope ≡ Ok V → binary_rule tests span o S V.ty ≡ Ok U → InType (types_in base) H.present x S → At tests base subs loose H c →
+  left_same : (H : Here) (span : Span) (o : BinaryOperator) (b : Expr) (x : Value) (S U : Ty) (V : Typed) (c : Core) → OneKind S V.ty → Shaped (types_in base) V.ty → typed tests b H.scope ≡ Ok V → binary_rule tests span o S V.ty ≡ Ok U → Lies H x S → At tests base subs loose H c →
       Same tests right base subs loose H (Out tests right base subs loose H U) (behind_left tests.limit span o b x (strictness o) c) (behind_left tests.limit span o V.tree x (strictness o) (erased c))
-  left_same H span binary.LogicalAnd b x S U V c k h r i a = lazy_same H span binary.LogicalAnd b x S U V c (λ p. decides (not p) false) k h r (boolean_operands span S V.ty U r) i a
-  left_same H span binary.LogicalOr b x S U V c k h r i a = lazy_same H span binary.LogicalOr b x S U V c (λ p. decides p true) k h r (boolean_operands span S V.ty U r) i a
-  left_same H span binary.Implies b x S U V c k h r i a = lazy_same H span binary.Implies b x S U V c (λ p. decides (not p) true) k h r (boolean_operands span S V.ty U r) i a
-  left_same H span o b x S U V c k h r i a = right_same H span o b x S U V c k h r i a
+  left_same H span binary.LogicalAnd b x S U V c k s h r i a = lazy_same H span binary.LogicalAnd b x S U V c (λ p. decides (not p) false) k s h r (boolean_operands span S V.ty U r) i a
+  left_same H span binary.LogicalOr b x S U V c k s h r i a = lazy_same H span binary.LogicalOr b x S U V c (λ p. decides p true) k s h r (boolean_operands span S V.ty U r) i a
+  left_same H span binary.Implies b x S U V c k s h r i a = lazy_same H span binary.Implies b x S U V c (λ p. decides (not p) true) k s h r (boolean_operands span S V.ty U r) i a
+  left_same H span o b x S U V c k s h r i a = right_same H span o b x S U V c k s h r i a
 
   pub two_formed : (H : Here) (S : Typed) (span : Span) (o : BinaryOperator) (e b : Expr) (c : Core) → ((e : Expr) (T : Typed) → typed tests e H.scope ≡ Ok T → WellFormed (types_in base) T.ty) → operation_rule_of_two tests span o (found tests e) (found tests b) H.scope ≡ Ok S → At tests base subs loose H c → Formed H S (ex.Binary span o e b) c
   two_formed H S span o e b c good h a =
@@ -181,7 +188,7 @@ module _ (tests : Tests) (right : IsRight tests) (ds : List Decl) (base : List E
       let make : Note → Tree = λ n. tree.Binary n o t.value.tree v.value.tree in
       formed H S (ex.Binary span o e b) c span u.value k make (finish_is H.scope.class span (together t.value.effect v.value.effect) k u.value make S u.then) refl
       (operand tests right base subs loose H (Out tests right base subs loose H u.value) e t.value c (λ x c1. behind_left tests.limit span o b x (strictness o) c1) (λ x c1. behind_left tests.limit span o v.value.tree x (strictness o) c1) t.first a
-      (λ x c1 i a1. left_same H span o b x t.value.ty u.value v.value c1 (one_kind (types_in base) (well_declared base w) t.value.ty v.value.ty (good e t.value t.first).shaped (good b v.value v.first).shaped) v.first u.first i a1))
+      (λ x c1 i a1. left_same H span o b x t.value.ty u.value v.value c1 (one_kind (types_in base) (well_declared base w) t.value.ty v.value.ty (good e t.value t.first).shaped (good b v.value v.first).shaped) (good b v.value v.first).shaped v.first u.first (i, (good e t.value t.first).shaped) a1))
 
   -- ---- elements, tuples, conditionals
 

@@ -14,7 +14,6 @@ use Rattle.asl_syn.specs.declared.tree.TypeExpr.{TypeExpr}
 use Rattle.asl_syn.specs.declared.tree.Bitfield.TheOpen as ex
 use Rattle.asl_syn.specs.declared.tree.Bitfield.TheFolds.{fold-roll-Pattern, para-roll-Pattern, map-Pattern, ind-Pattern}
 use Rattle.asl_poly.specs.Poly.{constant_map}
-use Rattle.asl_cons.proofs.Covering.{value_constant_map}
 use Rattle.asl_mask.specs.Digits.{mask_matches}
 use Rattle.asl_rules.specs.declared.effect.Effect.TheVariants.{Pure}
 use Rattle.asl_rules.specs.Faults.{◌>>◌, need, found_or}
@@ -44,6 +43,7 @@ use Rattle.asl_rules.specs.values.Matching as runs
 use Rattle.asl_rules.specs.values.Matching.{matches, any_match, all_match as each_match, mask_match, value_match, negated_or}
 use Rattle.asl_rules.proofs.basics.Inversions.{ok_ok, bind_ok, then_ok, need_ok, found_ok}
 use Rattle.asl_rules.proofs.basics.Tests.{no, both, some_same, none_some}
+use Rattle.asl_rules.proofs.values.Rounded.{same_width_at, constant_at}
 use Rattle.asl_rules.proofs.values.Shapes.{named_parts}
 use Rattle.asl_rules.proofs.values.SameKind.{same_number, number_is}
 use Rattle.asl_rules.proofs.basics.Opening.{pattern_opened}
@@ -249,7 +249,7 @@ module _ (tests : Tests) (right : IsRight tests) (base : List Entry) (subs : Lis
 
   mask_width : (ms : List (Option Bool)) (bs : List Bool) (T : Ty) → is_width (length bs) (width_at (width_of T) av) ≡ true → SameWidth (width_of T) (constant_map (pos (length ms))) → (length ms == length bs) ≡ true
   mask_width ms bs T h e =
-      let k : (length bs == length ms) ≡ true = subst (λ z. is_width (length bs) z ≡ true) (e.same av ∙ value_constant_map av (pos (length ms))) h in
+      let k : (length bs == length ms) ≡ true = subst (λ z. is_width (length bs) z ≡ true) (same_width_at av (width_of T) (constant_map (pos (length ms))) e.left e.right (e.same av) ∙ constant_at av (pos (length ms))) h in
       subst (λ n. (n == length bs) ≡ true) (same_number (length bs) (length ms) k) (number_is (length bs))
 
   compared_ok : (span : Span) (T S : Ty) → comparable tests T23 span T S ≡ Ok tt → binary_rule tests span binary.Equal T S ≡ Ok boolean
@@ -288,8 +288,8 @@ module _ (tests : Tests) (right : IsRight tests) (base : List Entry) (subs : Lis
       subst (λ v. Decided (matches tests.limit (between span) v (y ∷ z ∷ rest)) rest) (sym a.1) (subst (λ v. Decided (matches tests.limit (between span) (int a.0) (v ∷ z ∷ rest)) rest) (sym b.1) (subst (λ v. Decided (matches tests.limit (between span) (int a.0) (int b.0 ∷ v ∷ rest)) rest) (sym c.1) refl))
 
   -- `==`
-  equal_decided : (span : Span) (x y : Value) (T S : Ty) (rest : List Value) → OneKind T S → comparable tests T23 span T S ≡ Ok tt → InType d av x T → InType d av y S → Decided (value_match tests.limit span x (y ∷ rest)) rest
-  equal_decided span x y T S rest e h i j = by (binary_value tests.limit span binary.Equal x y) (binary_gives d av tests right span binary.Equal T S boolean x y e (compared_ok span T S h) i j)
+  equal_decided : (span : Span) (x y : Value) (T S : Ty) (rest : List Value) → OneKind T S → comparable tests T23 span T S ≡ Ok tt → TypeShaped d T → TypeShaped d S → InType d av x T → InType d av y S → Decided (value_match tests.limit span x (y ∷ rest)) rest
+  equal_decided span x y T S rest e h l m i j = by (binary_value tests.limit span binary.Equal x y) (binary_gives d av tests right span binary.Equal T S boolean x y e (compared_ok span T S h) (i, l) (j, m))
     where
       by : (r : PureOf Value) → Gives d av boolean r → Decided (r >>= λ v. truth span v >>= λ b. runs.matched b rest) rest
       by (Good v) g = let b = is_bool d av tests right boolean v refl g in subst (λ z. Decided (truth span z >>= λ b. runs.matched b rest) rest) (sym b.1) refl
@@ -396,7 +396,7 @@ module _ (tests : Tests) (right : IsRight tests) (base : List Entry) (subs : Lis
         asked = of_pure s.value ∷ [];
         shape_is = refl;
         asks = one_asked e.0 s.value s.first;
-        decides = λ x xs rest i g. one_value (λ zs. Decided (matches tests.limit (equal_to span) x zs) rest) (of_pure s.value) xs rest g (λ y j. equal_decided span x y T s.value.ty rest (one_kind d known.declared T s.value.ty of_type (known.formed e.0 s.value s.first).shaped) k.first i j);
+        decides = λ x xs rest i g. one_value (λ zs. Decided (matches tests.limit (equal_to span) x zs) rest) (of_pure s.value) xs rest g (λ y j. equal_decided span x y T s.value.ty rest (one_kind d known.declared T s.value.ty of_type (known.formed e.0 s.value s.first).shaped) k.first of_type (known.formed e.0 s.value s.first).shaped i j);
       })
   layer_says (ex.RangePattern span e f) T m known of_type h =
       let s = bind_ok (typed tests e.0 (with_class H.scope Pure)) _ m h in

@@ -15,8 +15,8 @@ use Rattle.asl_syn.specs.declared.tree.Bitfield.TheOpen as ex
 use Rattle.asl_syn.specs.declared.tree.Bitfield.TheFolds.{fold_out-Slice, map-Slice}
 use Rattle.asl_syn.specs.declared.tree.Decl.{Decl}
 use Rattle.asl_poly.specs.Terms.{Polynomial}
-use Rattle.asl_poly.specs.Poly.{constant_map, sum_map, difference_map}
-use Rattle.asl_cons.proofs.Covering.{value_constant_map}
+use Rattle.asl_poly.specs.Poly.{IsPolynomial, HasWidth, constant_map}
+use Rattle.asl_cons.proofs.Covering.{int_end}
 use Rattle.asl_rules.specs.declared.effect.Effect.TheVariants.{Pure}
 use Rattle.asl_rules.specs.types.Effects.{all_together, greatest}
 use Rattle.asl_rules.specs.Tests.{Tests, IsRight}
@@ -27,7 +27,7 @@ use Rattle.asl_rules.specs.types.Shapes.{SliceShape, at_bit, high_low, low_width
 use Rattle.asl_rules.specs.types.Shaped.{Shaped, slice_layer, slice_parts, exprs_in, shapes_in, itself}
 use Rattle.asl_rules.specs.runs.Trees as tree
 use Rattle.asl_rules.specs.runs.Trees.{Tree, Note, TreeFunc}
-use Rattle.asl_rules.specs.types.Widths.{Total, plus, minus, plus_number}
+use Rattle.asl_rules.specs.types.Widths.{Total, plus, minus, plus_number, totalled}
 use Rattle.asl_rules.specs.expressions.Typing.{Found, Typed, Operand, operand as operand_at, operands, effects_of, trees_in, trees_of}
 use Rattle.asl_rules.specs.expressions.Slicing.{FoundSlice, all_operands, shapes_of, all_integers, no_width, all_add, sliced_width, sliceable, slices_rule}
 use Rattle.asl_rules.specs.types.Writing.{FoundPart, FoundBitfield, FoundType}
@@ -43,14 +43,19 @@ use Rattle.asl_rules.specs.runs.Forms.{behind_more}
 use Rattle.asl_rules.specs.private.Erasure.{erased}
 use Rattle.asl_rules.proofs.basics.Inversions.{ok_ok, bind_ok, then_ok, need_ok}
 use Rattle.asl_rules.proofs.basics.Tests.{both}
-use Rattle.asl_cons.proofs.Results.{value_sum_map, value_difference_map}
+use Rattle.asl_rules.proofs.values.Rounded.{width_at_is}
+use Rattle.asl_rules.proofs.widths.Totals.{Fits, Counts, step_plus, step_minus, step_number, begun, fits_of, sum_of_total}
+use Rattle.asl_rules.proofs.widths.WidthsHeld.{CountsHeld, constant_held}
 use Rattle.asl_rules.proofs.expressions.OperatorForms.{Gives, is_int}
 use Rattle.asl_rules.proofs.scopes.Naming.{WellNamed}
 use Rattle.asl_rules.proofs.basics.Opening.{found_field, found_bitfield, found_part, finish_is}
-use Rattle.asl_laws.proofs.expressions.Claims.{Here, Asked, of_type, of_known, GivesAsked, At}
+use Rattle.asl_laws.proofs.expressions.Claims.{Here, Asked, of_type, of_known, IsWidth, GivesAsked, At}
 use Rattle.asl_laws.proofs.expressions.TreePlans.{Same, Out, AllAsked, AllGive, list_from, behind_more_same}
 use Rattle.asl_laws.proofs.expressions.MatchForms.{asks_both, split}
 use Rattle.asl_laws.proofs.expressions.ExprForms.{Formed, formed}
+use Rattle.asl_laws.proofs.scopes.HeldRules.{slice_step, all_add_step, sliced_held}
+use Rattle.asl_laws.proofs.widths.PresentNumbers.{counts_held}
+use Rattle.asl_laws.proofs.widths.WholeWidths.{sum_width, difference_width}
 use Rattle.asl_laws.proofs.values.Sliced.{all_widths, slices_give}
 
 abbrev SliceLayer : Type 0
@@ -133,11 +138,15 @@ module _ (tests : Tests) (right : IsRight tests) (base : List Entry) (subs : Lis
   two_values q r P (x ∷ y ∷ []) g k = k x y g.0 g.1.0
   two_values q r P (x ∷ y ∷ z ∷ zs) g k = absurd g.1.1
 
+  -- what the sum so far is grows by this integer, where all parts together are within the limits
+  abbrev pub Adds : Total → Total → ℤ → Type 0
+  Adds y z n = Counts y → Fits z → (m : ℤ) → HasWidth y.sum av m → HasWidth z.sum av (m +ℤ n)
+
   -- a slice with the values of its expressions
   record Cuts (shape : SliceShape) (xs rest : List Value) (y z : Total) : Type 0 where
     pub slicing : Slicing
     pub is : sliced shape (xs ++ rest) ≡ Some (record { slicing = slicing; left = rest })
-    pub adds : width_at z.sum av ≡ width_at y.sum av +ℤ slicing.width
+    pub adds : Adds y z slicing.width
 
   record SliceSays (p : Shaped SliceShape Expr) (f : FoundSlice) (os : List Operand) (y z : Total) : Type 0 where
     pub asked : List Asked
@@ -148,33 +157,53 @@ module _ (tests : Tests) (right : IsRight tests) (base : List Entry) (subs : Lis
   is_number : (S : Typed) (x : Value) → is_integer S.ty ≡ true → InType (types_in base) av x S.ty → (z : ℤ) × (x ≡ int z)
   is_number S x h i = is_int (types_in base) av tests right S.ty x h i
 
+  one_wide : IsPolynomial (constant_map (pos 1))
+  one_wide = constant_held (pos 1) (omega arith)
+
+  adds_number : (y : Total) → Adds y (plus_number y 1) (pos 1)
+  adds_number y c f m h = sum_width av y.sum (constant_map (pos 1)) m (pos 1) c.held one_wide h (int_end (pos 1) av)
+
+  adds_width : (y : Total) (q : Polynomial) → HasWidth q av (width_at q av) → IsPolynomial q → Adds y (plus y q) (width_at q av)
+  adds_width y q e i c f m h = sum_width av y.sum q m (width_at q av) c.held i h e
+
+  adds_range : (y : Total) (p q : Polynomial) → HasWidth p av (width_at p av) → IsPolynomial p → HasWidth q av (width_at q av) → IsPolynomial q →
+      Adds y (plus_number (minus (plus y p) q) 1) (width_at p av -ℤ width_at q av +ℤ pos 1)
+  adds_range y p q e i g j c f m h =
+      let u = plus y p in
+      let v = minus u q in
+      let some_u = (step_plus y p i).some c.some in
+      let some_v = (step_minus u q j).some some_u in
+      let fit_v : Fits v = (step_number v 1).back some_v f in
+      let fit_u : Fits u = (step_minus u q j).back some_u fit_v in
+      let count_u : Counts u = (step_plus y p i).keeps c fit_u in
+      let count_v : Counts v = (step_minus u q j).keeps count_u fit_v in
+      let first = sum_width av y.sum p m (width_at p av) c.held i h e in
+      let second = difference_width av u.sum q (m +ℤ width_at p av) (width_at q av) count_u.held j first g in
+      subst (HasWidth (plus_number v 1).sum av) (one_less m (width_at p av) (width_at q av))
+      (sum_width av v.sum (constant_map (pos 1)) ((m +ℤ width_at p av) -ℤ width_at q av) (pos 1) count_v.held one_wide second (int_end (pos 1) av))
+
   cut_bit : (x : Value) (rest : List Value) (y : Total) → (i : ℤ) × (x ≡ int i) → Cuts at_bit (x ∷ []) rest y (plus_number y 1)
   cut_bit x rest y n =
       subst (λ v. Cuts at_bit (v ∷ []) rest y (plus_number y 1)) (sym n.1)
-      (record { slicing = record { low = n.0; width = pos 1 }; is = refl; adds = value_sum_map av y.sum (constant_map (pos 1)) ∙ ap (λ u. width_at y.sum av +ℤ u) (value_constant_map av (pos 1)) })
+      (record { slicing = record { low = n.0; width = pos 1 }; is = refl; adds = adds_number y })
 
-  cut_high_low : (u v : Value) (rest : List Value) (y : Total) (p q : Polynomial) → u ≡ int (width_at p av) → v ≡ int (width_at q av) → Cuts high_low (u ∷ v ∷ []) rest y (plus_number (minus (plus y p) q) 1)
+  cut_high_low : (u v : Value) (rest : List Value) (y : Total) (p q : Polynomial) → IsWidth av p u → IsWidth av q v → Cuts high_low (u ∷ v ∷ []) rest y (plus_number (minus (plus y p) q) 1)
   cut_high_low u v rest y p q g h =
-      subst (λ a. Cuts high_low (a ∷ v ∷ []) rest y (plus_number (minus (plus y p) q) 1)) (sym g)
-      (subst (λ b. Cuts high_low (int (width_at p av) ∷ b ∷ []) rest y (plus_number (minus (plus y p) q) 1)) (sym h)
-      (record {
-        slicing = record { low = width_at q av; width = width_at p av -ℤ width_at q av +ℤ pos 1 };
-        is = refl;
-        adds = value_sum_map av (difference_map (sum_map y.sum p) q) (constant_map (pos 1)) ∙ ap (λ n. width_at (difference_map (sum_map y.sum p) q) av +ℤ n) (value_constant_map av (pos 1))
-            ∙ ap (λ n. n +ℤ pos 1) (value_difference_map av (sum_map y.sum p) q) ∙ ap (λ n. (n -ℤ width_at q av) +ℤ pos 1) (value_sum_map av y.sum p) ∙ one_less (width_at y.sum av) (width_at p av) (width_at q av);
-      }))
+      subst (λ a. Cuts high_low (a ∷ v ∷ []) rest y (plus_number (minus (plus y p) q) 1)) (sym g.0)
+      (subst (λ b. Cuts high_low (int (width_at p av) ∷ b ∷ []) rest y (plus_number (minus (plus y p) q) 1)) (sym h.0)
+      (record { slicing = record { low = width_at q av; width = width_at p av -ℤ width_at q av +ℤ pos 1 }; is = refl; adds = adds_range y p q g.1 g.2 h.1 h.2 }))
 
-  cut_low_width : (u v : Value) (rest : List Value) (y : Total) (q : Polynomial) → (i : ℤ) × (u ≡ int i) → v ≡ int (width_at q av) → Cuts low_width (u ∷ v ∷ []) rest y (plus y q)
+  cut_low_width : (u v : Value) (rest : List Value) (y : Total) (q : Polynomial) → (i : ℤ) × (u ≡ int i) → IsWidth av q v → Cuts low_width (u ∷ v ∷ []) rest y (plus y q)
   cut_low_width u v rest y q n h =
       subst (λ a. Cuts low_width (a ∷ v ∷ []) rest y (plus y q)) (sym n.1)
-      (subst (λ b. Cuts low_width (int n.0 ∷ b ∷ []) rest y (plus y q)) (sym h)
-      (record { slicing = record { low = n.0; width = width_at q av }; is = refl; adds = value_sum_map av y.sum q }))
+      (subst (λ b. Cuts low_width (int n.0 ∷ b ∷ []) rest y (plus y q)) (sym h.0)
+      (record { slicing = record { low = n.0; width = width_at q av }; is = refl; adds = adds_width y q h.1 h.2 }))
 
-  cut_factor_width : (u v : Value) (rest : List Value) (y : Total) (q : Polynomial) → (i : ℤ) × (u ≡ int i) → v ≡ int (width_at q av) → Cuts factor_width (u ∷ v ∷ []) rest y (plus y q)
+  cut_factor_width : (u v : Value) (rest : List Value) (y : Total) (q : Polynomial) → (i : ℤ) × (u ≡ int i) → IsWidth av q v → Cuts factor_width (u ∷ v ∷ []) rest y (plus y q)
   cut_factor_width u v rest y q n h =
       subst (λ a. Cuts factor_width (a ∷ v ∷ []) rest y (plus y q)) (sym n.1)
-      (subst (λ b. Cuts factor_width (int n.0 ∷ b ∷ []) rest y (plus y q)) (sym h)
-      (record { slicing = record { low = n.0 *ℤ width_at q av; width = width_at q av }; is = refl; adds = value_sum_map av y.sum q }))
+      (subst (λ b. Cuts factor_width (int n.0 ∷ b ∷ []) rest y (plus y q)) (sym h.0)
+      (record { slicing = record { low = n.0 *ℤ width_at q av; width = width_at q av }; is = refl; adds = adds_width y q h.1 h.2 }))
 
   -- each form
   layer_says : (x : SliceLayer) (os : List Operand) (y z : Total) → (slice_rule (opened x)).operands H.scope ≡ Ok os → all_integers os ≡ true → (slice_rule (opened x)).adds y H.scope ≡ Ok z → SliceSays (own_parts x) (slice_rule (opened x)) os y z
@@ -241,7 +270,7 @@ module _ (tests : Tests) (right : IsRight tests) (base : List Entry) (subs : Lis
   pub record AllCut (shapes : List SliceShape) (xs : List Value) (y z : Total) : Type 0 where
     pub list : List Slicing
     pub are : slicings shapes xs ≡ Some list
-    pub adds : width_at z.sum av ≡ width_at y.sum av +ℤ all_widths list
+    pub adds : Adds y z (all_widths list)
 
   pub record AllSay (ss : List Slice) (os : List Operand) (y z : Total) : Type 0 where
     pub asked : List Asked
@@ -249,19 +278,21 @@ module _ (tests : Tests) (right : IsRight tests) (base : List Entry) (subs : Lis
     pub shapes_are : shapes_in slice_parts ss ≡ shapes_of (map (found_slice tests) ss)
     pub cuts : (xs : List Value) → Give asked xs → AllCut (shapes_of (map (found_slice tests) ss)) xs y z
 
-  pub all_say : (ss : List Slice) (os : List Operand) (y z : Total) → all_operands (map (found_slice tests) ss) H.scope ≡ Ok os → all_integers os ≡ true → all_add (map (found_slice tests) ss) y H.scope ≡ Ok z → AllSay ss os y z
-  all_say [] os y z h i k =
+  pub all_say : CountsHeld H.scope.names → (ss : List Slice) (os : List Operand) (y z : Total) → all_operands (map (found_slice tests) ss) H.scope ≡ Ok os → all_integers os ≡ true → all_add (map (found_slice tests) ss) y H.scope ≡ Ok z → AllSay ss os y z
+  all_say held [] os y z h i k =
       subst (λ w. AllSay [] os y w) (ok_ok y z k)
       (subst (λ w. AllSay [] w y y) (ok_ok [] os h)
-      (record { asked = []; asks = tt; shapes_are = refl; cuts = λ xs g. record { list = []; are = refl; adds = at_end (width_at y.sum av) } }))
-  all_say (s ∷ ss) os y z h i k =
+      (record { asked = []; asks = tt; shapes_are = refl; cuts = λ xs g. record { list = []; are = refl; adds = λ c f m e. subst (HasWidth y.sum av) (at_end m) e } }))
+  all_say held (s ∷ ss) os y z h i k =
       let m = bind_ok ((found_slice tests s).operands H.scope) _ os h in
       let n = bind_ok (all_operands (map (found_slice tests) ss) H.scope) _ os m.then in
       let are : m.value ++ n.value ≡ os = ok_ok (m.value ++ n.value) os n.then in
       let j = integers_both m.value n.value (subst (λ u. all_integers u ≡ true) (sym are) i) in
       let u = bind_ok ((found_slice tests s).adds y H.scope) _ z k in
       let p = slice_says s m.value y u.value m.first j.0 u.first in
-      let q = all_say ss n.value u.value z n.first j.1 u.then in
+      let q = all_say held ss n.value u.value z n.first j.1 u.then in
+      let one = slice_step tests s H.scope y u.value held u.first in
+      let more = all_add_step tests ss H.scope u.value z held u.then in
       let shapes = shapes_of (map (found_slice tests) ss) in
       let shape = (found_slice tests s).shape in
       subst (λ w. AllSay (s ∷ ss) w y z) are
@@ -276,9 +307,17 @@ module _ (tests : Tests) (right : IsRight tests) (base : List Entry) (subs : Lis
             record {
               list = c.slicing ∷ r.list;
               are = ap (λ w. first_slicing (sliced shape w) (slicings shapes)) d.are ∙ ap (λ w. first_slicing w (slicings shapes)) c.is ∙ ap (λ w. first_slicing (Some (record { slicing = c.slicing; left = d.second })) (λ l. w)) r.are;
-              adds = r.adds ∙ ap (λ w. w +ℤ all_widths r.list) c.adds ∙ further (width_at y.sum av) c.slicing.width (all_widths r.list);
+              adds = λ counts fits m e.
+                  let middle = more.back (one.some counts.some) fits in
+                  subst (HasWidth z.sum av) (further m c.slicing.width (all_widths r.list))
+                  (r.adds (one.keeps counts middle) fits (m +ℤ c.slicing.width) (c.adds counts middle m e));
             };
       })
+
+-- how many bits all slices have
+pub sums_to : (a : Assignment) (span : Span) (z : Total) (w : Polynomial) (n : ℤ) → totalled span z ≡ Ok w → IsPolynomial w → HasWidth z.sum a (pos 0 +ℤ n) → width_at w a ≡ n
+sums_to a span z w n h i e =
+    width_at_is a w n i (subst (HasWidth w a) (sym (from_nothing n)) (subst (λ p. HasWidth p a (pos 0 +ℤ n)) (sum_of_total span z w h) e))
 
 module _ (tests : Tests) (right : IsRight tests) (ds : List Decl) (base : List Entry) (subs : List Signature) (loose : Bool) (funcs : List TreeFunc) (w : WellNamed base) where
   pub slices_formed : (H : Here) (S : Typed) (span : Span) (e : Expr) (ss : List Slice) (c : Core) → slices_rule span (found tests e) (map (found_slice tests) ss) H.scope ≡ Ok S → At tests base subs loose H c → Formed tests right ds base subs loose funcs w H S (ex.Slices span e ss) c
@@ -289,11 +328,11 @@ module _ (tests : Tests) (right : IsRight tests) (ds : List Decl) (base : List E
       let g = then_ok (sliceable span t.value.ty o.value) _ S o.then in
       let v = bind_ok (sliced_width span fs H.scope) _ S g.then in
       let z = bind_ok (all_add fs no_width H.scope) _ v.value v.first in
-      let n = then_ok _ (Ok z.value.sum) v.value z.then in
-      let sum_is : z.value.sum ≡ v.value = ok_ok z.value.sum v.value n.then in
+      let held = counts_held H.present base H.scope.names c a.agrees in
+      let fits = fits_of span z.value v.value z.then in
       let k = both (is_bits t.value.ty || is_integer t.value.ty) (all_integers o.value) (need_ok ((is_bits t.value.ty || is_integer t.value.ty) && all_integers o.value) T08 span tt g.first) in
       let b = either (is_bits t.value.ty) (is_integer t.value.ty) k.0 in
-      let s = all_say tests right base subs loose H ss o.value no_width z.value o.first k.1 z.first in
+      let s = all_say tests right base subs loose H held ss o.value no_width z.value o.first k.1 z.first in
       let shapes = shapes_of fs in
       let U : Ty = bits_of v.value [] in
       let ks = t.value.effect ∷ effects_of o.value in
@@ -306,5 +345,5 @@ module _ (tests : Tests) (right : IsRight tests) (ds : List Decl) (base : List E
       (λ x xs i j.
       let r = s.cuts xs j in
       let same : f x xs ≡ l x xs = ap (λ u. slices_of tests.limit span u xs x) s.shapes_are in
-      let wide = ap (λ p. width_at p H.present) (sym sum_is) ∙ r.adds ∙ ap (λ y. y +ℤ all_widths r.list) (value_constant_map H.present (pos 0)) ∙ sym (from_nothing (all_widths r.list)) in
+      let wide = sums_to H.present span z.value v.value (all_widths r.list) z.then (sliced_held tests span ss H.scope v.value held v.first) (r.adds begun fits (pos 0) (int_end (pos 0) H.present)) in
       (same, subst (Gives (types_in base) H.present U) (sym same) (slices_give (types_in base) H.present tests right tests.limit span shapes xs r.list v.value t.value.ty x r.are wide b i)))))

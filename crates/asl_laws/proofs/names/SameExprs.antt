@@ -9,6 +9,7 @@ use Rattle.asl_syn.specs.declared.code.StaticCode.TheVariants.{T02, T09, T11, T1
 use Rattle.asl_syn.specs.declared.tree.Ident.{Ident}
 use Rattle.asl_syn.specs.declared.tree.UnaryOperator.{UnaryOperator}
 use Rattle.asl_syn.specs.declared.tree.UnaryOperator.TheVariants as unary
+use Rattle.asl_syn.specs.declared.tree.BinaryOperator.{BinaryOperator}
 use Rattle.asl_syn.specs.declared.tree.Expr.{Expr}
 use Rattle.asl_syn.specs.declared.tree.Pattern.{Pattern}
 use Rattle.asl_syn.specs.declared.tree.Slice.{Slice}
@@ -42,7 +43,10 @@ use Rattle.asl_rules.specs.expressions.Calls.{routine_called, function_called, f
 use Rattle.asl_rules.specs.expressions.Calls.{procedure_rule}
 use Rattle.asl_rules.specs.expressions.Exprs.{FoundField, name_of_standing, tuple_with, values_given, names_given, expr_rule, given_rule}
 use Rattle.asl_rules.specs.expressions.Exprs.{slice_rule, part_rule, bitfield_rule, type_rule, pattern_rule, found, found_type, found_slice}
-use Rattle.asl_rules.specs.expressions.Exprs.{found_pattern}
+use Rattle.asl_rules.specs.expressions.Exprs.{found_pattern, typed_rule, width_of, number_of, names_atom}
+use Rattle.asl_rules.specs.declared.joining.Joining.{Joining}
+use Rattle.asl_rules.specs.declared.joining.Joining.TheVariants.{Combines, Divides, JoinsNothing}
+use Rattle.asl_rules.specs.types.Arithmetic.{joining, reading_of_two, divisor}
 use Rattle.asl_rules.specs.declarations.UsedNames.{Use, of_value, of_subprogram, of_type, Each, expr_uses, pattern_uses, slice_uses}
 use Rattle.asl_rules.specs.declarations.UsedNames.{type_uses}
 use Rattle.asl_laws.proofs.names.ByUses as by_uses
@@ -70,6 +74,7 @@ expr_in X ss f = record {
   width = λ G. f.width (scope_at X ss G.class);
   number = λ G. f.number (scope_at X ss G.class);
   has_atom = λ G. f.has_atom (scope_at X ss G.class);
+  divisor = f.divisor;
 }
 
 abbrev pub slice_in : List Entry → List Signature → FoundSlice → FoundSlice
@@ -336,6 +341,7 @@ module _ (t : Tests) (A B : List Entry) (ss rs : List Signature) where
     width = λ G. fault T19 span;
     number = λ G. fault T19 span;
     has_atom = λ G. false;
+    divisor = None;
   }
 
   name_same : (span : Span) (name : List ℕ) (k : Effect) → SameAt A B ss rs (of_value span name) →
@@ -348,6 +354,22 @@ module _ (t : Tests) (A B : List Entry) (ss rs : List Signature) where
   unary_same span unary.Not a = λ i. expr_in A ss (expr_rule t (ex.Unary span unary.Not (a.1 i)))
   unary_same span unary.Complement a = λ i. expr_in A ss (expr_rule t (ex.Unary span unary.Complement (a.1 i)))
 
+  -- what joins two expressions
+  abbrev two_at : List Entry → List Signature → Span → BinaryOperator → Joining → Found → Found → Found
+  two_at X us span o j a b = record {
+    span = span;
+    typed = λ G. typed_rule t (ex.Binary span o a b) (scope_at X us G.class);
+    width = λ G. width_of span (reading_of_two j a b) (scope_at X us G.class);
+    number = λ G. number_of span (reading_of_two j a b) (scope_at X us G.class);
+    has_atom = λ G. names_atom (reading_of_two j a b) (scope_at X us G.class);
+    divisor = divisor (reading_of_two j a b);
+  }
+
+  two_same : (span : Span) (o : BinaryOperator) (j : Joining) (a b : EE) → two_at A ss span o j a.0 b.0 ≡ two_at B rs span o j a.0 b.0
+  two_same span o (Combines c) a b = λ i. two_at A ss span o (Combines c) (a.1 i) (b.1 i)
+  two_same span o Divides a b = λ i. two_at A ss span o Divides (a.1 i) (b.1 i)
+  two_same span o JoinsNothing a b = λ i. two_at A ss span o JoinsNothing (a.1 i) (b.1 i)
+
   expr_step : (y : ex.Expr-F BB CC EE FF PP SS TT) → OwnExpr (SameAt A B ss rs) y → ExprSame (expr_rule t (expr_below y))
   expr_step (ex.Int span n) own = refl
   expr_step (ex.Bits span text) own = refl
@@ -358,9 +380,10 @@ module _ (t : Tests) (A B : List Entry) (ss rs : List Signature) where
     width = λ G. width_of_standing span (own.0 i) >>= λ p. Ok (width_as p (tree.Read (width_note span) (own.1 i)));
     number = λ G. number_of_standing span (own.0 i) >>= λ z. Ok (number_as z (tree.Read (width_note span) (own.1 i)));
     has_atom = λ G. storage_has_atom (storage_in (own.0 i));
+    divisor = None;
   }
   expr_step (ex.Unary span o a) own = unary_same span o a
-  expr_step (ex.Binary span o a b) own = λ i. expr_in A ss (expr_rule t (ex.Binary span o (a.1 i) (b.1 i)))
+  expr_step (ex.Binary span o a b) own = two_same span o (joining o) a b
   expr_step (ex.Conditional span c a b) own = λ i. expr_in A ss (expr_rule t (ex.Conditional span (c.1 i) (a.1 i) (b.1 i)))
   expr_step (ex.Tuple span es) own = λ i. no_width_at span (λ G. operands_same es G.class i >>= λ os. tuple_with G.class span os)
   expr_step (ex.Construct span n fs) own = λ i. no_width_at span

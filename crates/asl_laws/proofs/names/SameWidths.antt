@@ -23,7 +23,10 @@ use Rattle.asl_rules.specs.types.Writing.{FoundPart, FoundBitfield, FoundType, a
 use Rattle.asl_rules.specs.types.Writing.{bits_written, tuple_written, named_written}
 use Rattle.asl_rules.specs.expressions.Patterns.{FoundPattern}
 use Rattle.asl_rules.specs.expressions.Exprs.{FoundField, expr_rule, given_rule, slice_rule, part_rule, bitfield_rule, type_rule}
-use Rattle.asl_rules.specs.expressions.Exprs.{pattern_rule, found_type}
+use Rattle.asl_rules.specs.expressions.Exprs.{pattern_rule, found_type, width_of, number_of, names_atom}
+use Rattle.asl_rules.specs.declared.joining.Joining.{Joining}
+use Rattle.asl_rules.specs.declared.joining.Joining.TheVariants.{Combines, Divides, JoinsNothing}
+use Rattle.asl_rules.specs.types.Arithmetic.{joining, reading_of_two}
 use Rattle.asl_rules.specs.declarations.UsedNames.{Use, of_value, of_subprogram, of_type, Each, type_uses}
 use Rattle.asl_laws.proofs.names.ByUses as by_uses
 use Rattle.asl_laws.proofs.names.ByUses.{OwnExpr, OwnType}
@@ -143,6 +146,19 @@ module _ (t : Tests) (A B : List Entry) (ss rs : List Signature) where
   unary_same span unary.Not a = refl
   unary_same span unary.Complement a = refl
 
+  -- what joins two expressions
+  abbrev two_at : List Entry → List Signature → Span → Joining → Found → Found → InWidth
+  two_at X us span j a b = record {
+    width = λ G. width_of span (reading_of_two j a b) (scope_at X us G.class);
+    number = λ G. number_of span (reading_of_two j a b) (scope_at X us G.class);
+    has_atom = λ G. names_atom (reading_of_two j a b) (scope_at X us G.class);
+  }
+
+  two_same : (span : Span) (j : Joining) (a b : EE) → two_at A ss span j a.0 b.0 ≡ two_at B rs span j a.0 b.0
+  two_same span (Combines c) a b = λ i. two_at A ss span (Combines c) (as_found a.0 (a.1 i)) (as_found b.0 (b.1 i))
+  two_same span Divides a b = λ i. two_at A ss span Divides (as_found a.0 (a.1 i)) (as_found b.0 (b.1 i))
+  two_same span JoinsNothing a b = refl
+
   expr_step : (y : ex.Expr-F BB CC EE FF PP SS TT) → OwnExpr (SameInWidths A B) y →
       WidthSame (expr_rule t (map-Expr BB CC EE FF PP SS TT FoundBitfield FoundPart Found FoundField FoundPattern FoundSlice FoundType
       (λ x. x.0) (λ x. x.0) (λ x. x.0) (λ x. x.0) (λ x. x.0) (λ x. x.0) (λ x. x.0) y))
@@ -152,7 +168,7 @@ module _ (t : Tests) (A B : List Entry) (ss rs : List Signature) where
     has_atom = λ G. storage_has_atom (storage_in (own.0 i));
   }
   expr_step (ex.Unary span o a) own = unary_same span o a
-  expr_step (ex.Binary span o a b) own = λ i. width_in A ss (expr_rule t (ex.Binary span o (as_found a.0 (a.1 i)) (as_found b.0 (b.1 i))))
+  expr_step (ex.Binary span o a b) own = two_same span (joining o) a b
   -- no other form is a width
   expr_step y own = refl
 

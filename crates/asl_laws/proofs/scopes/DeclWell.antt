@@ -63,7 +63,7 @@ abbrev pub NamedBy : List ℕ → Ty → Type 0
 NamedBy n T = (supers : List (List ℕ)) × (V : Ty) × (T ≡ named n supers V)
 
 abbrev pub StandsWell : (List ℕ → Option Ty) → List ℕ → Standing → Type 0
-StandsWell D n (Stored s) = WellFormed D s.ty × (x : Value) × (s.initial ≡ Some x) × InType D no_atoms x s.ty
+StandsWell D n (Stored s) = WellFormed D s.ty × (x : Value) × (s.initial ≡ Some x) × InType D no_atoms x s.ty × (s.counted ≡ None)
 StandsWell D n Subprogram = Unit {0}
 StandsWell D n (TypeName T) = WellFormed D T × OnceIn (fields_of T) × NamedBy n T
 StandsWell D n (Label T x) = WellFormed D T × InType D no_atoms x T
@@ -84,7 +84,7 @@ in_type_grows : (d D : List ℕ → Option Ty) → Extends d D → (x : Value) (
 in_type_grows d D g x T i = (i.0, built_grows d D g x i.1, i.2)
 
 stands_grows : (d D : List ℕ → Option Ty) → Extends d D → (n : List ℕ) (st : Standing) → StandsWell d n st → StandsWell D n st
-stands_grows d D g n (Stored s) w = (well_formed_grows d D g s.ty w.0, w.1, w.2, in_type_grows d D g w.1 s.ty w.3)
+stands_grows d D g n (Stored s) w = (well_formed_grows d D g s.ty w.0, w.1, w.2, in_type_grows d D g w.1 s.ty w.3, w.4)
 stands_grows d D g n Subprogram w = tt
 stands_grows d D g n (TypeName T) w = (well_formed_grows d D g T w.0, w.1, w.2)
 stands_grows d D g n (Label T x) w = (well_formed_grows d D g T w.0, in_type_grows d D g x T w.1)
@@ -387,7 +387,7 @@ module _ (tests : Tests) (right : IsRight tests) (d D : List ℕ → Option Ty) 
       let i = bind_ok (storage_rule tests s (is_var s.kind) s.ty s.init G) (λ i. Ok (global s.name.text i.ty (is_var s.kind) i.value ∷ [])) es h in
       let g = storage_good s (is_var s.kind) s.ty s.init i.value i.first in
       subst (AllWell D) (ok_ok (global s.name.text i.value.ty (is_var s.kind) i.value.value ∷ []) es i.then)
-      ((well_formed_grows d D grow i.value.ty g.0, i.value.value, refl, in_type_grows d D grow i.value.value i.value.ty g.1), tt)
+      ((well_formed_grows d D grow i.value.ty g.0, i.value.value, refl, in_type_grows d D grow i.value.value i.value.ty g.1, refl), tt)
 
   pub decl_well : (e : Decl) (es : List Entry) → decl_rule tests e G ≡ Ok es → HasLabels e → ((n : List ℕ) (T : Ty) → standing_of n es ≡ Some (TypeName T) → D n ≡ Some T) → AllWell D es
   decl_well (dc.Type t) es h u own = type_well t es h u own

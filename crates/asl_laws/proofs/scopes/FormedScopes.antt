@@ -1,6 +1,7 @@
 -- In scopes whose names have well-formed types, expressions have such types; statements, loops and catchers keep such scopes; and
 -- so do declarations and signatures, in programs that are refused too.
-use Rattle.std.proofs.Common.{◌≡◌, ℕ, true, false, List, [], ◌∷◌, ◌++◌, Option, Some, None, Result, Ok, Err, inl, inr, refl, ap, subst}
+use Rattle.std.specs.Prelude.{if◌then◌else◌, ◌||◌}
+use Rattle.std.proofs.Common.{◌≡◌, ℕ, Bool, true, false, List, [], ◌∷◌, ◌++◌, Option, Some, None, Result, Ok, Err, inl, inr, refl, ap, subst}
 use Rattle.asl_syn.specs.declared.token.Span.{Span}
 use Rattle.asl_syn.specs.declared.code.Fault.{Fault}
 use Rattle.asl_syn.specs.declared.code.StaticCode.TheVariants.{T01, T05}
@@ -17,24 +18,27 @@ use Rattle.asl_syn.specs.declared.tree.LocalKind.TheVariants as local
 use Rattle.asl_syn.specs.declared.tree.TypeExpr.{TypeExpr}
 use Rattle.asl_rules.specs.Faults.{need, found_or}
 use Rattle.asl_rules.specs.Tests.{Tests, IsRight}
-use Rattle.asl_rules.specs.types.Types.{Ty, Parts, tuple_of, named, no_part, part, tuple_parts}
+use Rattle.asl_rules.specs.types.Types.{Ty, Parts, tuple_of, named, no_part, part, tuple_parts, is_integer}
 use Rattle.asl_rules.specs.runs.Trees as tree
 use Rattle.asl_rules.specs.declarations.Scopes.{Scope, Body, Entry, Counted, atom_at, next_atom, fixed, variable, is_free, type_of_name, body_names}
-use Rattle.asl_rules.specs.expressions.Typing.{Operand}
+use Rattle.asl_rules.specs.expressions.Typing.{Operand, Width}
 use Rattle.asl_rules.specs.types.Writing.{WrittenPart, range_rule}
-use Rattle.asl_rules.specs.expressions.Exprs.{found, typed, written}
+use Rattle.asl_rules.specs.expressions.Exprs.{found, typed, written, width}
 use Rattle.asl_rules.specs.statements.Acting.{Done, operand_of, fits}
-use Rattle.asl_rules.specs.statements.Locals.{Initialised, initialised_with, taken, itself, initialised_as, declared, unannotated, type_declared, part_declared, written_or, initialised, binders_free, bound_parts, bound_in, bound, bind_rule, names_rule, vars_rule}
+use Rattle.asl_rules.specs.statements.Locals.{Initialised, initialised_with, taken, itself, counted_as, initialised_as, declared, unannotated, type_declared, part_declared, written_or, initialised, binders_free, bound_parts, bound_in, bound, bind_rule, names_rule, vars_rule}
 use Rattle.asl_rules.specs.statements.Branches.{of_range, index_type, with_caught}
 use Rattle.asl_rules.specs.private.WellFormed.{WellFormed, WellDeclared, Shaped, ShapedParts}
+use Rattle.asl_rules.specs.private.Worth.{IsHeld}
 use Rattle.asl_rules.proofs.basics.Inversions.{ok_ok, bind_ok, then_ok, found_ok}
 use Rattle.asl_rules.proofs.basics.Tests.{none_some, some_same}
 use Rattle.asl_rules.proofs.widths.Counting.{standing_back}
 use Rattle.asl_rules.proofs.widths.ScopesCounted.{ended_names}
+use Rattle.asl_rules.proofs.widths.WidthsHeld.{atom_is_polynomial, width_is_held}
 use Rattle.asl_rules.proofs.scopes.KeptNames.{DeclarationsKeep, stmt_keeps}
 use Rattle.asl_laws.specs.AgreeingTypes.{StandsFormed, NamesFormed, ScopeFormed, TypesFormed, KeepsFormed}
 use Rattle.asl_laws.proofs.values.Widening.{widened_formed}
-use Rattle.asl_laws.proofs.scopes.WellTyped.{type_formed, typed_in_formed, written_in_formed}
+use Rattle.asl_laws.proofs.scopes.HeldRules.{range_by}
+use Rattle.asl_laws.proofs.scopes.WellTyped.{counts_formed, type_formed, typed_in_formed, written_in_formed}
 
 -- ---- one name more
 
@@ -42,10 +46,18 @@ pub added : (d : List ℕ → Option Ty) (names : List Entry) (e : Entry) → Na
     NamesFormed d (names ++ e ∷ [])
 added d names e g s name st h = elim (standing_back name names e st h) [ inl k ↦ g name st k | inr k ↦ subst (StandsFormed d) k s ]
 
-declared_formed : (d : List ℕ → Option Ty) (kind : LocalKind) (name : List ℕ) (T : Ty) (o : Option Counted) → WellFormed d T →
+declared_formed : (d : List ℕ → Option Ty) (kind : LocalKind) (name : List ℕ) (T : Ty) (o : Option Counted) → WellFormed d T → IsHeld o →
     StandsFormed d (declared kind name T o).standing
-declared_formed d local.Let name T o w = w
-declared_formed d local.Var name T o w = w
+declared_formed d local.Let name T o w c = (w, c)
+declared_formed d local.Var name T o w c = (w, tt)
+
+-- what counts as itself is within the limits
+held_if : (b : Bool) (c : Counted) → IsHeld (Some c) → IsHeld (if b then Some c else None)
+held_if true c h = h
+held_if false c h = tt
+
+pub itself_held : (T : Ty) (names : List Entry) → IsHeld (itself T names)
+itself_held T names = held_if (is_integer T) (atom_at (next_atom names)) (atom_is_polynomial (next_atom names))
 
 unannotated_formed : (d : List ℕ → Option Ty) (kind : LocalKind) (S : Ty) → WellFormed d S → WellFormed d (unannotated kind S)
 unannotated_formed d local.Let S w = w
@@ -109,7 +121,7 @@ module _ (t : Tests) (right : IsRight t) (d : List ℕ → Option Ty) (known : W
       let S : Ty = part_declared kind o T in
       parts_added bs kind o Ts (names ++ declared kind i.text S (itself S names) ∷ []) more
       (added d names (declared kind i.text S (itself S names)) g
-      (declared_formed d kind i.text S (itself S names) (part_declared_formed d kind o T (record { shaped = h.1; has_name = h.0 }))))
+      (declared_formed d kind i.text S (itself S names) (part_declared_formed d kind o T (record { shaped = h.1; has_name = h.0 })) (itself_held S names)))
       h.2 k
 
   bound_in_formed : (bs : List Binder) (kind : LocalKind) (o : Option Ty) (p : Option Parts) (names more : List Entry) →
@@ -117,6 +129,16 @@ module _ (t : Tests) (right : IsRight t) (d : List ℕ → Option Ty) (known : W
       bound_in bs kind o p names ≡ Some more → NamesFormed d more
   bound_in_formed bs kind o None names more g f k = none_some more k
   bound_in_formed bs kind o (Some Ts) names more g f k = parts_added bs kind o Ts names more g (f Ts refl) k
+
+  -- and so is a width expression
+  counted_held : (e : Expr) (G : Scope) (w : Result Width Fault) (b : Bool) (n : ℕ) → NamesFormed d G.names → width t e G ≡ w → IsHeld (Some (counted_as w b n))
+  counted_held e G (Ok w) b n g q = width_is_held t e G (counts_formed d G.names g) w q
+  counted_held e G (Err f) b n g q = atom_is_polynomial n
+
+  initialised_held : (T : Ty) (e : Expr) (G : Scope) → NamesFormed d G.names → IsHeld (initialised_as t T e G)
+  initialised_held T e G g =
+      held_if (is_integer T) (counted_as ((found t e).width G) ((found t e).has_atom G) (next_atom G.names))
+      (counted_held e G ((found t e).width G) ((found t e).has_atom G) (next_atom G.names) g refl)
 
   bound_formed : (span : Span) (kind : LocalKind) (b : Bind) (e : Expr) (i : Initialised) (G : Scope) (r : Done) →
       NamesFormed d G.names → WellFormed d i.value.ty → WrittenFormed d i.written →
@@ -129,7 +151,7 @@ module _ (t : Tests) (right : IsRight t) (d : List ℕ → Option Ty) (known : W
       subst (NamesFormed d)
       (ended_names G.class span true i.value.effect names (tree.Declare span i.written tree.whole i.value.tree) r u.then)
       (added d G.names (declared kind x.text T o) g
-      (declared_formed d kind x.text T o (type_declared_formed d kind i.written i.value.ty a f)))
+      (declared_formed d kind x.text T o (type_declared_formed d kind i.written i.value.ty a f) (initialised_held T e G g)))
   bound_formed span kind (Single (Unbound at)) e i G r g a f h =
       subst (NamesFormed d) (ended_names G.class span true i.value.effect G.names
       (tree.Declare span i.written tree.nothing i.value.tree) r h) g
@@ -155,7 +177,7 @@ module _ (t : Tests) (right : IsRight t) (d : List ℕ → Option Ty) (known : W
   names_rule_formed [] T names more g w h = subst (NamesFormed d) (ok_ok names more h) g
   names_rule_formed (i ∷ is) T names more g w h =
       let u = then_ok (need (is_free i.text names) T01 i.span) (names_rule is T (names ++ variable i.text T ∷ [])) more h in
-      names_rule_formed is T (names ++ variable i.text T ∷ []) more (added d names (variable i.text T) g w) w u.then
+      names_rule_formed is T (names ++ variable i.text T ∷ []) more (added d names (variable i.text T) g (w, tt)) w u.then
 
   vars_formed : (span : Span) (is : List Ident) (ty : TypeExpr) (G : Scope) (r : Done) → ScopeFormed d G →
       vars_rule t span is ty G ≡ Ok r → NamesFormed d r.names
@@ -174,13 +196,15 @@ module _ (t : Tests) (right : IsRight t) (d : List ℕ → Option Ty) (known : W
 
   -- ---- indices and caught exceptions
 
-  range_formed : (r : Result WrittenPart Fault) → WellFormed d (of_range r)
-  range_formed (Ok p) = record { shaped = tt; has_name = refl }
-  range_formed (Err f) = record { shaped = tt; has_name = refl }
+  range_formed : (a b : Expr) (G : Scope) (r : Result WrittenPart Fault) → NamesFormed d G.names → range_rule (found t a) (found t b) G ≡ r → WellFormed d (of_range r)
+  range_formed a b G (Ok p) g q =
+      let k = range_by t ((found t a).has_atom G || (found t b).has_atom G) a b G p (counts_formed d G.names g) q in
+      record { shaped = (k, tt); has_name = refl }
+  range_formed a b G (Err f) g q = record { shaped = tt; has_name = refl }
 
-  index_formed : (x : Direction) (a b : Expr) (G : Scope) → WellFormed d (index_type t x a b G)
-  index_formed Up a b G = range_formed (range_rule (found t a) (found t b) G)
-  index_formed Down a b G = range_formed (range_rule (found t b) (found t a) G)
+  index_formed : (x : Direction) (a b : Expr) (G : Scope) → NamesFormed d G.names → WellFormed d (index_type t x a b G)
+  index_formed Up a b G g = range_formed a b G (range_rule (found t a) (found t b) G) g refl
+  index_formed Down a b G g = range_formed b a G (range_rule (found t b) (found t a) G) g refl
 
   caught_formed : (i : Option Ident) (name : List ℕ) (T : Ty) (B C : Body) → ScopeFormed d B.scope →
       type_of_name name B.scope.names ≡ Some T → with_caught i T B ≡ Ok C → ScopeFormed d C.scope
@@ -190,7 +214,7 @@ module _ (t : Tests) (right : IsRight t) (d : List ℕ → Option Ty) (known : W
       subst (λ (z : Body). ScopeFormed d z.scope) (ok_ok (body_names B (B.scope.names ++ fixed i.text T None ∷ [])) C u.then)
       (record {
         names =
-            added d B.scope.names (fixed i.text T None) g.names (type_formed d B.scope.names name g.names T h);
+            added d B.scope.names (fixed i.text T None) g.names (type_formed d B.scope.names name g.names T h, tt);
         results = g.results;
       })
 
@@ -208,7 +232,7 @@ keeps_formed t right d known = record {
   stmt = λ s B r g h. stmt_keeps t (ScopeFormed d) (kept t right d known) s B r g h;
   index = λ i x a b B g. record {
     names = added d B.scope.names (fixed i.text (index_type t x a b B.scope) (Some (atom_at (next_atom B.scope.names)))) g.names
-        (index_formed t right d known x a b B.scope);
+        (index_formed t right d known x a b B.scope g.names, atom_is_polynomial (next_atom B.scope.names));
     results = g.results;
   };
   caught = caught_formed t right d known;

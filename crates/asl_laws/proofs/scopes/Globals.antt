@@ -24,6 +24,7 @@ use Rattle.asl_laws.specs.BeforeRuns.{HoldsInitial}
 use Rattle.asl_rules.specs.private.Belonging.{InType}
 use Rattle.asl_rules.specs.private.Agreement.{no_atoms, IsUnder, IsKnown, HoldsGlobal, types_in, AllMatch, GlobalsMatch, global_matches}
 use Rattle.asl_rules.specs.declarations.Uses.{uses}
+use Rattle.asl_rules.specs.private.Worth.{IsHeld}
 use Rattle.asl_rules.specs.private.Grown.{is_def_grown, is_grown, AreGrown}
 use Rattle.asl_rules.specs.runs.Plans.{Good}
 use Rattle.asl_rules.specs.declarations.Constants.{constant}
@@ -167,7 +168,7 @@ module _ (tests : Tests) (right : IsRight tests) (ds : List Decl) (distinct : Di
   over_at n = rounds_over tests Never n ds
 
   good_at : (n : ℕ) → Well n → GoodNames (types_at n) (at_round n)
-  good_at n w name (Stored s) h = (stands_well n w name (Stored s) tt h).0
+  good_at n w name (Stored s) h = let k = stands_well n w name (Stored s) tt h in (k.0, subst IsHeld (sym k.4) tt)
   good_at n w name Subprogram h = tt
   good_at n w name (TypeName T) h = let k = stands_well n w name (TypeName T) tt h in (k.0, k.1, fixed_never T ((over_at n).standing name (TypeName T) h))
   good_at n w name (Label T x) h = let k = stands_well n w name (Label T x) tt h in (k.0, in_any (types_at n) T x (fixed_never T ((over_at n).standing name (Label T x) h)) k.1)

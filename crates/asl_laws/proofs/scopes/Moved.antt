@@ -4,6 +4,7 @@ use Rattle.std.proofs.Common.{◌≡◌, ℕ, ◌<◌, ℤ, Bool, true, false, c
 use Rattle.std.proofs.lemmas.Bool.Decides.{nat_tests}
 use Rattle.std.specs.Prelude.{◌==◌}
 use Rattle.std.specs.Str.{bytes_eq}
+use Rattle.asl_poly.specs.Poly.{HasWidth}
 use Rattle.asl_rules.specs.types.Types.{Ty}
 use Rattle.asl_rules.specs.types.Closed.{Assignment, type_with}
 use Rattle.asl_rules.specs.declarations.Scopes.{Storage, standing_of, Counted, Entry, Standing, Stored, Subprogram, TypeName, Label, next_atom}
@@ -17,7 +18,7 @@ use Rattle.asl_rules.proofs.basics.Tests.{some_same, none_some}
 use Rattle.asl_rules.proofs.values.SameKind.{number_is}
 use Rattle.asl_rules.proofs.widths.WidthAtoms.{Good}
 use Rattle.asl_laws.proofs.scopes.OverScope.{StandingOver, CountedOver, EachOver}
-use Rattle.asl_laws.proofs.scopes.ScopesOver.{Below, value_moved, type_moved}
+use Rattle.asl_laws.proofs.scopes.ScopesOver.{Below, value_moved, width_moved, type_moved}
 
 pub in_type_moved : (d : List ℕ → Option Ty) (a b : Assignment) (T : Ty) (x : Value) → type_with T a ≡ type_with T b → InType d a x T → InType d b x T
 in_type_moved d a b T x e i = (subst (λ C. has x C ≡ true) e i.0, i.1, subst (λ C. viewed C x ≡ x) e i.2)
@@ -29,7 +30,10 @@ under_moved d a b (of_value y) T e h = in_type_moved d a b T y e h
 module _ (A : ℕ → Type 0) (a b : Assignment) (same : (n : ℕ) → A n → a n ≡ b n) (d : List ℕ → Option Ty) where
   counts_moved : (o : Option Counted) (x : Value) → ((c : Counted) → o ≡ Some c → Good A c.poly) → CountsAs a o x → CountsAs b o x
   counts_moved None x g h = tt
-  counts_moved (Some c) x g h = h ∙ ap int (value_moved A a b same c.poly.terms (g c refl))
+  counts_moved (Some c) x g h =
+      let v = value_moved A a b same c.poly.terms (g c refl) in
+      let e = width_moved A a b same c.poly (g c refl) in
+      (h.0 ∙ ap int e, subst (HasWidth c.poly b) e (sym v ∙ h.1), h.2)
 
   local_moved : (name : List ℕ) (x : Standing) (u : Binding) → StandingOver A x → CountedOver A x → local_matches d a name x u → local_matches d b name x u
   local_moved name (Stored s) u t g h =

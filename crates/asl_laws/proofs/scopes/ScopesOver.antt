@@ -14,14 +14,15 @@ use Rattle.asl_syn.specs.declared.tree.TypeDef.TheVariants as td
 use Rattle.asl_syn.specs.declared.tree.StorageDecl.{StorageDecl}
 use Rattle.asl_syn.specs.declared.tree.Decl.{Decl}
 use Rattle.asl_syn.specs.declared.tree.Decl.TheVariants as dc
-use Rattle.asl_poly.specs.Terms.{Summand, value, product}
+use Rattle.asl_poly.specs.Terms.{Summand, Polynomial, value, product}
+use Rattle.asl_poly.specs.Fractions.{fraction_at}
 use Rattle.asl_cons.specs.declared.End.{End}
 use Rattle.asl_cons.specs.declared.End.TheVariants.{Int, Width}
 use Rattle.asl_cons.specs.declared.Part.{Part}
 use Rattle.asl_rules.specs.Faults.{need, none_at, fault_of, fitted}
 use Rattle.asl_rules.specs.Tests.{Tests}
 use Rattle.asl_rules.specs.types.Types.{Ty, Fields, Parts, integer_of, boolean, bits_of, enumeration_of, record_of, exception_of, tuple_of, array_of, named, no_field, field, no_part, part, structure, kind, misfit}
-use Rattle.asl_rules.specs.types.Closed.{Assignment, Range, Closed, ClosedFields, ClosedParts, width_at, end_at, ranges_at, constraint_at, type_with, fields_with, parts_with, closed}
+use Rattle.asl_rules.specs.types.Closed.{Assignment, Range, width_in, range_in, width_at, end_at, ranges_at, constraint_at, type_with, fields_with, parts_with, closed}
 use Rattle.asl_rules.specs.types.Closed as cl
 use Rattle.asl_rules.specs.declarations.Scopes.{Entry, Standing, Stored, Subprogram, TypeName, Label, next_atom, subprogram, standing_of, is_local}
 use Rattle.asl_rules.specs.expressions.Exprs.{found, found_type, typed, written}
@@ -53,17 +54,20 @@ module _ (A : ℕ → Type 0) (a b : Assignment) (same : (n : ℕ) → A n → a
   value_moved [] h = refl
   value_moved (t ∷ ts) h = ap₂ (λ y z. y +ℤ z) (ap (λ y. t.coefficient *ℤ y) (product_moved t.factors h.0)) (value_moved ts h.1)
 
+  -- a polynomial is the same fraction
+  pub fraction_moved : (p : Polynomial) → AtomsOf A p.terms → fraction_at a p ≡ fraction_at b p
+  fraction_moved p h = ap (λ z. record { number = z; denominator = p.denominator }) (value_moved p.terms h)
+
+  pub width_moved : (p : Polynomial) → AtomsOf A p.terms → width_at p a ≡ width_at p b
+  width_moved p h = ap width_in (fraction_moved p h)
+
   end_moved : (e : End) → EndOver A e → end_at e a ≡ end_at e b
   end_moved (Int z) h = refl
-  end_moved (Width p) h = value_moved p.terms h
-
-  range : ℤ → ℤ → Range
-  range l h = record { low = l; high = h }
+  end_moved (Width p) h = fraction_moved p h
 
   ranges_moved : (ps : List Part) → PartsOver A ps → ranges_at ps a ≡ ranges_at ps b
-  unfolding range
   ranges_moved [] h = refl
-  ranges_moved (p ∷ ps) h = ap₂ (λ (r : Range) rs. r ∷ rs) (ap₂ range (end_moved p.low h.0.low) (end_moved p.high h.0.high)) (ranges_moved ps h.1)
+  ranges_moved (p ∷ ps) h = ap₂ (λ (r : Range) rs. r ∷ rs) (ap₂ range_in (end_moved p.low h.0.low) (end_moved p.high h.0.high)) (ranges_moved ps h.1)
 
   constraint_moved : (ps : List Part) → PartsOver A ps → constraint_at ps a ≡ constraint_at ps b
   constraint_moved [] h = refl
@@ -77,7 +81,7 @@ module _ (a b : Assignment) where
     pub never_moved : (T : Ty) → Over Never T → type_with T a ≡ type_with T b
     never_moved (integer_of ps) h = ap cl.integer_in (constraint_moved Never a b no_atom ps h)
     never_moved boolean h = refl
-    never_moved (bits_of w view) h = ap (λ z. cl.bits_of z view) (value_moved Never a b no_atom w.terms h)
+    never_moved (bits_of w view) h = ap (λ z. cl.bits_of z view) (width_moved Never a b no_atom w h)
     never_moved (enumeration_of name labels) h = refl
     never_moved (record_of name fs) h = ap (cl.record_of name) (fields_moved fs h)
     never_moved (exception_of name fs) h = ap (cl.exception_of name) (fields_moved fs h)
@@ -98,7 +102,7 @@ module _ (A : ℕ → Type 0) (a b : Assignment) (same : (n : ℕ) → A n → a
     pub type_moved : (T : Ty) → Over A T → type_with T a ≡ type_with T b
     type_moved (integer_of ps) h = ap cl.integer_in (constraint_moved A a b same ps h)
     type_moved boolean h = refl
-    type_moved (bits_of w view) h = ap (λ z. cl.bits_of z view) (value_moved A a b same w.terms h)
+    type_moved (bits_of w view) h = ap (λ z. cl.bits_of z view) (width_moved A a b same w h)
     type_moved (enumeration_of name labels) h = refl
     type_moved (record_of name fs) h = ap (cl.record_of name) (fields_moved a b fs h)
     type_moved (exception_of name fs) h = ap (cl.exception_of name) (fields_moved a b fs h)

@@ -1,6 +1,6 @@
 -- The types of expressions and the types that are written are well formed, where those of the visible names and of the results of subprograms are.
 use Rattle.std.proofs.Common.{◌≡◌, ℕ, ℤ, pos, negsuc, ◌&&◌, suc, length, cond, Bool, true, false, List, [], ◌∷◌, Option, Some, None, option_map, Ok, Result, refl, sym, ap, ◌∙◌, subst, map}
-use Rattle.std.specs.Prelude.{nat_le, nat_lt, ◌==◌}
+use Rattle.std.specs.Prelude.{nat_le, nat_lt, ◌==◌, if◌then◌else◌}
 use Rattle.std.specs.Str.{bytes_eq}
 use Rattle.asl_syn.specs.declared.token.Span.{Span}
 use Rattle.asl_syn.specs.declared.code.StaticCode.TheVariants.{S03, T02, T05, T06, T08, T09, T11, T15, T16, T18, T19, T20}
@@ -20,18 +20,22 @@ use Rattle.asl_syn.specs.declared.tree.Bitfield.TheOpen as ex
 use Rattle.asl_syn.specs.declared.tree.Bitfield.TheFolds.{fold-roll-Expr, fold-roll-TypeExpr, map-Expr, map-TypeExpr, ind-Expr, ind-TypeExpr}
 use Rattle.asl_syn.specs.Layers.{ExprLayer, TypeLayer}
 use Rattle.asl_poly.specs.Terms.{Polynomial}
-use Rattle.asl_poly.specs.Poly.{constant_map, constant_value, substitute_map}
-use Rattle.asl_poly.specs.Substitute.{replaced, replaced_at}
-use Rattle.asl_poly.proofs.Substitution.{substituted_value}
+use Rattle.asl_poly.specs.WidthLimits.{heaviest}
+use Rattle.asl_poly.specs.Poly.{IsPolynomial, IsConstant, constant_map, constant_value}
 use Rattle.asl_cons.specs.declared.Part.{Part}
 use Rattle.asl_cons.specs.Arithmetic as cons
+use Rattle.asl_cons.specs.Arithmetic.{fits}
+use Rattle.asl_cons.specs.Constraint.{AllEnds}
+use Rattle.asl_cons.proofs.EndsAsWidths.{true_le}
+use Rattle.asl_cons.proofs.KeptEnds.{sum_keeps, difference_keeps, product_keeps, quotient_keeps, modulo_keeps, shifted_up_keeps, shifted_down_keeps}
+use Rattle.asl_rules.specs.declared.joining.Combination.TheVariants.{Sum}
 use Rattle.asl_rules.specs.declared.effect.Effect.{Effect}
 use Rattle.asl_rules.specs.declared.effect.Effect.TheVariants.{Pure}
 use Rattle.asl_rules.specs.Faults.{◌>>=◌, ◌>>◌, need, found_or, fault_of}
 use Rattle.asl_rules.specs.Tests.{Tests, IsRight}
-use Rattle.asl_rules.specs.types.Types.{Ty, Fields, Parts, View, BitField, Widths, integer_of, boolean, bits_of, enumeration_of, record_of, exception_of, tuple_of, array_of, named, no_field, field, no_part, part, is_integer, is_boolean, is_bits, same_kind, join, bare, width_of, bits_wide, substitute, substitute_parts, with_type, substituted_ranges, substitute_fits, same_kinds}
+use Rattle.asl_rules.specs.types.Types.{Ty, Fields, Parts, View, BitField, Widths, integer_of, boolean, bits_of, enumeration_of, record_of, exception_of, tuple_of, array_of, named, no_field, field, no_part, part, is_integer, is_boolean, is_bits, same_kind, join, bare, width_of, bits_wide, substitute, substitute_parts, with_type, substituted, substituted_ranges, same_kinds, constraint_of, view_of, only_number, from_to, bitfield_width}
 use Rattle.asl_rules.specs.types.Closed.{Assignment, width_at}
-use Rattle.asl_rules.specs.declarations.Scopes.{Scope, with_class, reading, Signature, Chosen, choose, choose_from, Entry, Standing, Stored, Subprogram, TypeName, Label, standing_of, type_in, type_of_name}
+use Rattle.asl_rules.specs.declarations.Scopes.{Scope, with_class, reading, Signature, Chosen, choose, choose_from, Entry, Standing, Stored, Subprogram, TypeName, Label, is_subprogram, standing_of, type_in, type_of_name}
 use Rattle.asl_rules.specs.private.WellFormed.{WellFormed, WellDeclared, Shaped, ShapedFields, ShapedParts, AllInside, ShapedView}
 use Rattle.asl_rules.specs.declarations.Routines.{Routine, UInt, SInt, Zeros, Ones, ZeroExtend, SignExtend, IsZero, IsOnes, Len, Abs, Min, Max, routine_named}
 use Rattle.asl_rules.specs.types.Widths.{bounded, length_of, width_sum}
@@ -46,19 +50,26 @@ use Rattle.asl_rules.specs.declarations.Layouts.{slot_of, layout_of}
 use Rattle.asl_rules.specs.expressions.Slicing.{FoundSlice, all_operands, sliceable, sliced_width, shapes_of}
 use Rattle.asl_rules.specs.expressions.Patterns.{FoundPattern}
 use Rattle.asl_rules.specs.expressions.Typing.{Found, Typed, Operand, operand, operands, effects_of, types_of, trees_of, trees_from, in_class, finish}
-use Rattle.asl_rules.specs.expressions.Operations.{of_integers, of_booleans, additive, bitwise, concatenated, compared, same_widths, comparable, binary_rule, unary_rule}
-use Rattle.asl_rules.specs.values.Members.{member_named, Member, a_field, a_bitfield, member_type, member_tree, numbered, one_further, field_among, bitfield_in, bitfields_named, all_wide, member_of, element_in, indexed, Constructed, constructed, constructed_of, constructed_as, given_once, all_fit, places_given, texts_of}
+use Rattle.asl_rules.specs.expressions.Operations.{arithmetic, any_parts, of_integers, of_booleans, additive, bitwise, concatenated, compared, same_widths, comparable, binary_rule, unary_rule}
+use Rattle.asl_rules.specs.values.Members.{has_room, bitfields_in, member_named, Member, a_field, a_bitfield, member_type, member_tree, numbered, one_further, field_among, bitfield_in, bitfields_named, all_wide, member_of, element_in, indexed, Constructed, constructed, constructed_of, constructed_as, given_once, all_fit, places_given, texts_of}
 use Rattle.asl_rules.specs.types.Writing.{Written, WrittenField, Numbered, FoundType, FoundPart, FoundBitfield, written_as, most_parts, parts_written, all_numbered, placed, placed_from, all_placed, names_once, view_rule, within_limits, all_parts, all_fields, types_in_order, types_written}
-use Rattle.asl_rules.specs.expressions.Calls.{bits_of_first, routine_type, routine_params, polys, widths_given, routine_taken, call_tree, chosen, widths_rule, both_fit, replaced_by, function_of, call_begun}
+use Rattle.asl_rules.specs.expressions.Calls.{first_width, unsigned, signed, bits_of_first, routine_type, routine_params, polys, widths_given, routine_taken, call_tree, chosen, widths_rule, both_fit, replaced_by, function_of, call_begun}
 use Rattle.asl_rules.specs.expressions.Exprs.{literal_type, FoundField, values_given, names_given, found_slice, found_pattern, found, found_type, typed, written, typed_rule, written_rule, expr_rule, given_rule, slice_rule, part_rule, bitfield_rule, type_rule, pattern_rule, apart, name_of_standing, bits_rule_of}
-use Rattle.asl_rules.proofs.basics.Inversions.{ok_ok, err_ok, bind_ok, then_ok, found_ok}
-use Rattle.asl_laws.proofs.expressions.MemberNamed.{member_ok}
+use Rattle.asl_rules.proofs.basics.Inversions.{ok_ok, err_ok, bind_ok, then_ok, need_ok, found_ok}
+use Rattle.asl_laws.proofs.expressions.MemberNamed.{member_ok, member_room}
 use Rattle.asl_rules.proofs.basics.Tests.{some_same, none_some, mapped}
 use Rattle.asl_laws.proofs.values.Joining.{join_is_well_formed}
 use Rattle.asl_rules.proofs.values.Bare.{bare_is_well_formed}
 use Rattle.asl_rules.proofs.scopes.Naming.{GoodStanding, GoodNames}
 use Rattle.asl_laws.specs.AgreeingTypes.{StandsFormed, NamesFormed, MaybeFormed, ResultsFormed}
 use Rattle.asl_cons.proofs.Results.{constant_is}
+use Rattle.asl_rules.specs.private.Worth.{IsHeld}
+use Rattle.asl_rules.proofs.expressions.OperatorForms.{within_ends, within_width}
+use Rattle.asl_rules.proofs.values.Rounded.{constant_width, width_at_is, is_width_at}
+use Rattle.asl_rules.proofs.widths.Counting.{stored_of}
+use Rattle.asl_rules.proofs.widths.WidthsHeld.{CountsHeld, constant_held, combined_held, zero_held, width_is_held}
+use Rattle.asl_laws.proofs.widths.Substituting.{AllWithin, substituted_is, ranges_held, constant_replaced}
+use Rattle.asl_laws.proofs.scopes.HeldRules.{AllHeld, only_ends, replaced_within, parts_held, sliced_held, given_held, widths_held}
 use Rattle.asl_rules.proofs.basics.Opening.{opened, type_opened, found_field, found_bitfield, found_part, in_class_is, finish_is, bounded_ok}
 
 -- where a row ends, its type is the one that is given
@@ -89,6 +100,10 @@ stands_formed d Subprogram g = tt
 stands_formed d (TypeName T) g = g.0
 stands_formed d (Label T x) g = g.0
 
+-- so what the names count as is within the limits
+pub counts_formed : (d : List ℕ → Option Ty) (names : List Entry) → NamesFormed d names → CountsHeld names
+counts_formed d names g name s c e q = subst IsHeld q (g name (Stored s) (stored_of (standing_of name names) s e)).1
+
 pub good_formed : (d : List ℕ → Option Ty) (names : List Entry) → GoodNames d names → NamesFormed d names
 good_formed d names g name st h = stands_formed d st (g name st h)
 
@@ -110,14 +125,18 @@ module _ (tests : Tests) (right : IsRight tests) (d : List ℕ → Option Ty) (d
   abbrev pub FormedSubs : List Signature → Type 0
   FormedSubs fs = ResultsFormed d fs
 
-  pub integer_formed : (ps : List Part) → WellFormed d (integer_of ps)
-  integer_formed ps = record { shaped = tt; has_name = refl }
+  pub integer_formed : (ps : List Part) → AllEnds ps → WellFormed d (integer_of ps)
+  integer_formed ps e = record { shaped = e; has_name = refl }
 
   pub boolean_formed : WellFormed d boolean
   boolean_formed = record { shaped = tt; has_name = refl }
 
-  pub bits_formed : (p : Polynomial) → WellFormed d (bits_of p [])
-  bits_formed p = record { shaped = tt; has_name = refl }
+  pub bits_formed : (p : Polynomial) → IsPolynomial p → WellFormed d (bits_of p [])
+  bits_formed p i = record { shaped = (i, tt); has_name = refl }
+
+  -- as many bits as a width may be
+  pub wide_formed : (n : ℕ) → nat_le n heaviest ≡ true → WellFormed d (bits_wide n)
+  wide_formed n h = bits_formed (constant_map (pos n)) (constant_held (pos n) (true_le n heaviest h))
 
   -- ---- operators
 
@@ -130,57 +149,75 @@ module _ (tests : Tests) (right : IsRight tests) (d : List ℕ → Option Ty) (d
   compared_formed : (span : Span) (S T U : Ty) → compared tests span S T ≡ Ok U → WellFormed d U
   compared_formed span S T U h = let p = then_ok (comparable tests T08 span S T) (Ok boolean) U h in subst (WellFormed d) (ok_ok boolean U p.then) boolean_formed
 
-  bitwise_formed : (span : Span) (S T U : Ty) → bitwise tests span S T ≡ Ok U → WellFormed d U
-  bitwise_formed span S T U h =
+  bitwise_formed : (span : Span) (S T U : Ty) → Shaped d S → bitwise tests span S T ≡ Ok U → WellFormed d U
+  bitwise_formed span S T U s h =
       let p = then_ok (need (is_bits S && is_bits T) T08 span) (need (same_widths tests S T) T06 span >> Ok (bits_of (width_of S) [])) U h in
       let q = then_ok (need (same_widths tests S T) T06 span) (Ok (bits_of (width_of S) [])) U p.then in
-      subst (WellFormed d) (ok_ok (bits_of (width_of S) []) U q.then) (bits_formed (width_of S))
+      subst (WellFormed d) (ok_ok (bits_of (width_of S) []) U q.then) (bits_formed (width_of S) (within_width d S s))
 
-  additive_by : (b c : Bool) (span : Span) (V S T U : Ty) → WellFormed d V → cond b (Ok V) (need c T08 span >> need (same_widths tests S T) T06 span >> Ok (bits_of (width_of S) [])) ≡ Ok U → WellFormed d U
-  additive_by true c span V S T U w h = subst (WellFormed d) (ok_ok V U h) w
-  additive_by false c span V S T U w h =
+  additive_by : (b c : Bool) (span : Span) (V S T U : Ty) → WellFormed d V → Shaped d S → cond b (Ok V) (need c T08 span >> need (same_widths tests S T) T06 span >> Ok (bits_of (width_of S) [])) ≡ Ok U → WellFormed d U
+  additive_by true c span V S T U w s h = subst (WellFormed d) (ok_ok V U h) w
+  additive_by false c span V S T U w s h =
       let p = then_ok (need c T08 span) (need (same_widths tests S T) T06 span >> Ok (bits_of (width_of S) [])) U h in
       let q = then_ok (need (same_widths tests S T) T06 span) (Ok (bits_of (width_of S) [])) U p.then in
-      subst (WellFormed d) (ok_ok (bits_of (width_of S) []) U q.then) (bits_formed (width_of S))
+      subst (WellFormed d) (ok_ok (bits_of (width_of S) []) U q.then) (bits_formed (width_of S) (within_width d S s))
 
-  additive_formed : (span : Span) (op : List Part → List Part → List Part) (S T U : Ty) → additive tests span op S T ≡ Ok U → WellFormed d U
-  additive_formed span op S T U h = additive_by (is_integer S && is_integer T) _ span _ S T U (integer_formed _) h
+  -- an operation on constraints keeps their ends within the limits
+  abbrev Keeps : (List Part → List Part → List Part) → Type 0
+  Keeps op = (ps qs : List Part) → AllEnds ps → AllEnds qs → AllEnds (op ps qs)
 
-  concatenated_formed : (span : Span) (S T U : Ty) → concatenated span S T ≡ Ok U → WellFormed d U
-  concatenated_formed span S T U h =
+  additive_formed : (span : Span) (op : List Part → List Part → List Part) (S T U : Ty) → Keeps op → Shaped d S → Shaped d T → additive tests span op S T ≡ Ok U → WellFormed d U
+  additive_formed span op S T U k s t h =
+      additive_by (is_integer S && is_integer T) _ span _ S T U (integer_formed _ (k (constraint_of S) (constraint_of T) (within_ends d S s) (within_ends d T t))) s h
+
+  concatenated_formed : (span : Span) (S T U : Ty) → Shaped d S → Shaped d T → concatenated span S T ≡ Ok U → WellFormed d U
+  concatenated_formed span S T U s t h =
       let p = then_ok (need (is_bits S && is_bits T) T08 span) (width_sum span (width_of S) (width_of T) >>= λ w. Ok (bits_of w [])) U h in
       let q = bind_ok (width_sum span (width_of S) (width_of T)) (λ w. Ok (bits_of w [])) U p.then in
-      subst (WellFormed d) (ok_ok (bits_of q.value []) U q.then) (bits_formed q.value)
+      subst (WellFormed d) (ok_ok (bits_of q.value []) U q.then)
+      (bits_formed q.value (combined_held span Sum (width_of S) (width_of T) q.value (within_width d S s) (within_width d T t) q.first))
 
-  pub binary_formed : (span : Span) (o : BinaryOperator) (S T U : Ty) → binary_rule tests span o S T ≡ Ok U → WellFormed d U
-  binary_formed span binary.LogicalAnd S T U h = of_booleans_formed span S T U h
-  binary_formed span binary.LogicalOr S T U h = of_booleans_formed span S T U h
-  binary_formed span binary.Implies S T U h = of_booleans_formed span S T U h
-  binary_formed span binary.Equivalent S T U h = of_booleans_formed span S T U h
-  binary_formed span binary.Equal S T U h = compared_formed span S T U h
-  binary_formed span binary.NotEqual S T U h = compared_formed span S T U h
-  binary_formed span binary.Less S T U h = of_integers_formed span S T boolean U boolean_formed h
-  binary_formed span binary.LessEqual S T U h = of_integers_formed span S T boolean U boolean_formed h
-  binary_formed span binary.Greater S T U h = of_integers_formed span S T boolean U boolean_formed h
-  binary_formed span binary.GreaterEqual S T U h = of_integers_formed span S T boolean U boolean_formed h
-  binary_formed span binary.Add S T U h = additive_formed span cons.sum_parts S T U h
-  binary_formed span binary.Subtract S T U h = additive_formed span cons.difference_parts S T U h
-  binary_formed span binary.BitAnd S T U h = bitwise_formed span S T U h
-  binary_formed span binary.BitOr S T U h = bitwise_formed span S T U h
-  binary_formed span binary.BitXor S T U h = bitwise_formed span S T U h
-  binary_formed span binary.Concatenate S T U h = concatenated_formed span S T U h
-  binary_formed span binary.Multiply S T U h = of_integers_formed span S T (integer_of _) U (integer_formed _) h
-  binary_formed span binary.DivideExact S T U h = of_integers_formed span S T (integer_of _) U (integer_formed _) h
-  binary_formed span binary.DivideFloor S T U h = of_integers_formed span S T (integer_of _) U (integer_formed _) h
-  binary_formed span binary.Modulo S T U h = of_integers_formed span S T (integer_of _) U (integer_formed _) h
-  binary_formed span binary.ShiftLeft S T U h = of_integers_formed span S T (integer_of _) U (integer_formed _) h
-  binary_formed span binary.ShiftRight S T U h = of_integers_formed span S T (integer_of _) U (integer_formed _) h
-  binary_formed span binary.Power S T U h = of_integers_formed span S T (integer_of _) U (integer_formed _) h
+  -- arithmetic between integers
+  arithmetic_formed : (span : Span) (op : List Part → List Part → List Part) (S T U : Ty) → Keeps op → Shaped d S → Shaped d T → arithmetic span op S T ≡ Ok U → WellFormed d U
+  arithmetic_formed span op S T U k s t h =
+      of_integers_formed span S T (integer_of (op (constraint_of S) (constraint_of T))) U
+      (integer_formed (op (constraint_of S) (constraint_of T)) (k (constraint_of S) (constraint_of T) (within_ends d S s) (within_ends d T t))) h
 
-  pub unary_formed : (span : Span) (o : UnaryOperator) (S U : Ty) → unary_rule span o S ≡ Ok U → WellFormed d U
-  unary_formed span unary.Negate S U h = let p = then_ok (need (is_integer S) T08 span) _ U h in subst (WellFormed d) (ok_ok _ U p.then) (integer_formed _)
-  unary_formed span unary.Not S U h = let p = then_ok (need (is_boolean S) T08 span) (Ok boolean) U h in subst (WellFormed d) (ok_ok boolean U p.then) boolean_formed
-  unary_formed span unary.Complement S U h = let p = then_ok (need (is_bits S) T08 span) (Ok (bits_of (width_of S) [])) U h in subst (WellFormed d) (ok_ok (bits_of (width_of S) []) U p.then) (bits_formed (width_of S))
+  pub binary_formed : (span : Span) (o : BinaryOperator) (S T U : Ty) → Shaped d S → Shaped d T → binary_rule tests span o S T ≡ Ok U → WellFormed d U
+  binary_formed span binary.LogicalAnd S T U s t h = of_booleans_formed span S T U h
+  binary_formed span binary.LogicalOr S T U s t h = of_booleans_formed span S T U h
+  binary_formed span binary.Implies S T U s t h = of_booleans_formed span S T U h
+  binary_formed span binary.Equivalent S T U s t h = of_booleans_formed span S T U h
+  binary_formed span binary.Equal S T U s t h = compared_formed span S T U h
+  binary_formed span binary.NotEqual S T U s t h = compared_formed span S T U h
+  binary_formed span binary.Less S T U s t h = of_integers_formed span S T boolean U boolean_formed h
+  binary_formed span binary.LessEqual S T U s t h = of_integers_formed span S T boolean U boolean_formed h
+  binary_formed span binary.Greater S T U s t h = of_integers_formed span S T boolean U boolean_formed h
+  binary_formed span binary.GreaterEqual S T U s t h = of_integers_formed span S T boolean U boolean_formed h
+  binary_formed span binary.Add S T U s t h = additive_formed span cons.sum_parts S T U sum_keeps s t h
+  binary_formed span binary.Subtract S T U s t h = additive_formed span cons.difference_parts S T U difference_keeps s t h
+  binary_formed span binary.BitAnd S T U s t h = bitwise_formed span S T U s h
+  binary_formed span binary.BitOr S T U s t h = bitwise_formed span S T U s h
+  binary_formed span binary.BitXor S T U s t h = bitwise_formed span S T U s h
+  binary_formed span binary.Concatenate S T U s t h = concatenated_formed span S T U s t h
+  binary_formed span binary.Multiply S T U s t h = arithmetic_formed span cons.product_parts S T U product_keeps s t h
+  binary_formed span binary.DivideExact S T U s t h = arithmetic_formed span any_parts S T U (λ ps qs i j. tt) s t h
+  binary_formed span binary.DivideFloor S T U s t h = arithmetic_formed span cons.quotient_parts S T U quotient_keeps s t h
+  binary_formed span binary.Modulo S T U s t h = arithmetic_formed span cons.modulo_parts S T U (λ ps qs i j. modulo_keeps ps qs) s t h
+  binary_formed span binary.ShiftLeft S T U s t h = arithmetic_formed span cons.shifted_up_parts S T U shifted_up_keeps s t h
+  binary_formed span binary.ShiftRight S T U s t h = arithmetic_formed span cons.shifted_down_parts S T U shifted_down_keeps s t h
+  binary_formed span binary.Power S T U s t h = arithmetic_formed span any_parts S T U (λ ps qs i j. tt) s t h
+
+  pub unary_formed : (span : Span) (o : UnaryOperator) (S U : Ty) → Shaped d S → unary_rule span o S ≡ Ok U → WellFormed d U
+  unary_formed span unary.Negate S U s h =
+      let V : Ty = integer_of (cons.difference_parts (only_number (pos 0)) (constraint_of S)) in
+      let p = then_ok (need (is_integer S) T08 span) (Ok V) U h in
+      subst (WellFormed d) (ok_ok V U p.then)
+      (integer_formed (cons.difference_parts (only_number (pos 0)) (constraint_of S)) (difference_keeps (only_number (pos 0)) (constraint_of S) ((tt, tt), tt) (within_ends d S s)))
+  unary_formed span unary.Not S U s h = let p = then_ok (need (is_boolean S) T08 span) (Ok boolean) U h in subst (WellFormed d) (ok_ok boolean U p.then) boolean_formed
+  unary_formed span unary.Complement S U s h =
+      let p = then_ok (need (is_bits S) T08 span) (Ok (bits_of (width_of S) [])) U h in
+      subst (WellFormed d) (ok_ok (bits_of (width_of S) []) U p.then) (bits_formed (width_of S) (within_width d S s))
 
   -- ---- members and elements
 
@@ -197,16 +234,27 @@ module _ (tests : Tests) (right : IsRight tests) (d : List ℕ → Option Ty) (d
   member_by None m next h = none_some m h
   member_by (Some q) m next h = subst (λ (z : Member). WellFormed d (member_type z)) (some_same (a_field q.0 q.1) m h) (next q refl)
 
-  bitfield_by : (o : Option BitField) (m : Member) → option_map (λ b. a_bitfield b) o ≡ Some m → WellFormed d (member_type m)
-  bitfield_by None m h = none_some m h
-  bitfield_by (Some b) m h = subst (λ (z : Member). WellFormed d (member_type z)) (some_same (a_bitfield b) m h) (bits_formed _)
+  bitfield_by : (o : Option BitField) (m : Member) → has_room m ≡ true → option_map (λ b. a_bitfield b) o ≡ Some m → WellFormed d (member_type m)
+  bitfield_by None m r h = none_some m h
+  bitfield_by (Some b) m r h =
+      let e = some_same (a_bitfield b) m h in
+      subst (λ (z : Member). WellFormed d (member_type z)) e (wide_formed (bitfield_width b) (subst (λ z. has_room z ≡ true) (sym e) r))
 
-  pub member_formed : (S : Ty) (f : List ℕ) (m : Member) → Shaped d S → member_of S f ≡ Some m → WellFormed d (member_type m)
-  member_formed (record_of n fs) f m s h = member_by (numbered f fs) m (λ q k. fields_formed fs f q s.1 k) h
-  member_formed (exception_of n fs) f m s h = member_by (numbered f fs) m (λ q k. fields_formed fs f q s.1 k) h
-  member_formed (bits_of p u) f m s h = bitfield_by (bitfield_in f u) m h
-  member_formed (named n supers S) f m s h = member_formed S f m s.2 h
-  member_formed S f m s h = none_some m h
+  pub member_formed : (S : Ty) (f : List ℕ) (m : Member) → Shaped d S → has_room m ≡ true → member_of S f ≡ Some m → WellFormed d (member_type m)
+  member_formed (record_of n fs) f m s r h = member_by (numbered f fs) m (λ q k. fields_formed fs f q s.1 k) h
+  member_formed (exception_of n fs) f m s r h = member_by (numbered f fs) m (λ q k. fields_formed fs f q s.1 k) h
+  member_formed (bits_of p u) f m s r h = bitfield_by (bitfield_in f u) m r h
+  member_formed (named n supers S) f m s r h = member_formed S f m s.2 r h
+  member_formed S f m s r h = none_some m h
+
+  -- several bitfields are no wider than widths may be
+  pub fields_wide : (span : Span) (is : List Ident) (T : Ty) (fs : List BitField) → bitfields_named span is T ≡ Ok fs → WellFormed d (bits_wide (all_wide fs))
+  fields_wide span is T fs h =
+      let b = bind_ok (bitfields_in is (view_of T)) _ fs h in
+      let n = then_ok (need (is_bits T) T15 span) _ fs b.then in
+      let m = then_ok (need (nat_le (all_wide b.value) heaviest) T20 span) (Ok b.value) fs n.then in
+      subst (λ gs. WellFormed d (bits_wide (all_wide gs))) (ok_ok b.value fs m.then)
+      (wide_formed (all_wide b.value) (need_ok (nat_le (all_wide b.value) heaviest) T20 span tt m.first))
 
   pub element_formed : (S U : Ty) → Shaped d S → element_in S ≡ Some U → WellFormed d U
   element_formed (array_of n T) U s h = subst (WellFormed d) (some_same T U h) (record { shaped = s.1; has_name = s.0 })
@@ -221,17 +269,13 @@ module _ (tests : Tests) (right : IsRight tests) (d : List ℕ → Option Ty) (d
 
   -- ---- atoms replaced by widths
 
-  replaced_width : (by : Widths) (p : Polynomial) (a : Assignment) → width_at (substitute_map by p) a ≡ width_at p (replaced_at a by)
-  unfolding substitute_map
-  replaced_width by p a = substituted_value a by p.terms (replaced by [] p.terms) refl
-
-  view_replaced : (by : Widths) (p : Polynomial) (u : View) → ShapedView p u → ShapedView (substitute_map by p) u
-  view_replaced by p [] s = tt
-  view_replaced by p (f ∷ fs) s = (s.0, (λ a. replaced_width by p a ∙ s.1 (replaced_at a by)), s.2)
-
-  bits_replaced : (b : Bool) (by : Widths) (p : Polynomial) (u : View) (U : Ty) → ShapedView p u → option_map (λ v. bits_of v u) (cond b (Some (substitute_map by p)) None) ≡ Some U → WellFormed d U
-  bits_replaced true by p u U s h = subst (WellFormed d) (some_same (bits_of (substitute_map by p) u) U h) (record { shaped = view_replaced by p u s; has_name = refl })
-  bits_replaced false by p u U s h = none_some U h
+  -- bits with bitfields have one width, whatever stands for atoms
+  view_replaced : (by : Widths) (p q : Polynomial) (u : View) → AllWithin by → IsPolynomial p → substituted by p ≡ Some q → ShapedView p u → ShapedView q u
+  view_replaced by p q [] w i k s = tt
+  view_replaced by p q (f ∷ fs) w i k s =
+      let c : IsConstant p (pos s.0) = λ a. is_width_at a p s.0 i (s.1 a) in
+      let j = (substituted_is by p q w i k).1 in
+      (s.0, (λ a. width_at_is a q (pos s.0) j (constant_replaced by p q (pos s.0) w i c k a)), s.2)
 
   parts_by : (o : Option Ty) (q : Option Parts) (us : Parts) → ((V : Ty) → o ≡ Some V → WellFormed d V) → ((vs : Parts) → q ≡ Some vs → ShapedParts d vs) → with_type o q ≡ Some us → ShapedParts d us
   parts_by None q us f g h = none_some us h
@@ -239,45 +283,72 @@ module _ (tests : Tests) (right : IsRight tests) (d : List ℕ → Option Ty) (d
   parts_by (Some V) (Some vs) us f g h = let v = f V refl in subst (ShapedParts d) (some_same (part V vs) us h) (v.has_name, v.shaped, g vs refl)
 
   mutual
-    pub substitute_formed : (by : Widths) (T U : Ty) → WellFormed d T → substitute by T ≡ Some U → WellFormed d U
-    substitute_formed by (integer_of ps) U w h = let m = mapped (λ qs. integer_of qs) (substituted_ranges by ps) U h in subst (WellFormed d) m.gives (integer_formed m.one)
-    substitute_formed by (bits_of p u) U w h = bits_replaced (substitute_fits by p) by p u U w.shaped h
-    substitute_formed by (tuple_of ts) U w h =
+    pub substitute_formed : (by : Widths) (T U : Ty) → AllWithin by → WellFormed d T → substitute by T ≡ Some U → WellFormed d U
+    substitute_formed by (integer_of ps) U g w h =
+        let m = mapped (λ qs. integer_of qs) (substituted_ranges by ps) U h in
+        subst (WellFormed d) m.gives (integer_formed m.one (ranges_held by ps m.one g w.shaped m.is))
+    substitute_formed by (bits_of p u) U g w h =
+        let m = mapped (λ v. bits_of v u) (substituted by p) U h in
+        subst (WellFormed d) m.gives
+        (record { shaped = ((substituted_is by p m.one g w.shaped.0 m.is).1, view_replaced by p m.one u g w.shaped.0 m.is w.shaped.1); has_name = refl })
+    substitute_formed by (tuple_of ts) U g w h =
         let m = mapped (λ us. tuple_of us) (substitute_parts by ts) U h in
-        subst (WellFormed d) m.gives (record { shaped = parts_replaced by ts m.one w.shaped m.is; has_name = refl })
-    substitute_formed by (array_of n T) U w h =
+        subst (WellFormed d) m.gives (record { shaped = parts_replaced by ts m.one g w.shaped m.is; has_name = refl })
+    substitute_formed by (array_of n T) U g w h =
         let m = mapped (λ V. array_of n V) (substitute by T) U h in
-        let v = substitute_formed by T m.one (record { shaped = w.shaped.1; has_name = w.shaped.0 }) m.is in
+        let v = substitute_formed by T m.one g (record { shaped = w.shaped.1; has_name = w.shaped.0 }) m.is in
         subst (WellFormed d) m.gives (record { shaped = (v.has_name, v.shaped); has_name = refl })
-    substitute_formed by boolean U w h = subst (WellFormed d) (some_same boolean U h) w
-    substitute_formed by (enumeration_of n ls) U w h = subst (WellFormed d) (some_same (enumeration_of n ls) U h) w
-    substitute_formed by (record_of n fs) U w h = subst (WellFormed d) (some_same (record_of n fs) U h) w
-    substitute_formed by (exception_of n fs) U w h = subst (WellFormed d) (some_same (exception_of n fs) U h) w
-    substitute_formed by (named n supers T) U w h = subst (WellFormed d) (some_same (named n supers T) U h) w
+    substitute_formed by boolean U g w h = subst (WellFormed d) (some_same boolean U h) w
+    substitute_formed by (enumeration_of n ls) U g w h = subst (WellFormed d) (some_same (enumeration_of n ls) U h) w
+    substitute_formed by (record_of n fs) U g w h = subst (WellFormed d) (some_same (record_of n fs) U h) w
+    substitute_formed by (exception_of n fs) U g w h = subst (WellFormed d) (some_same (exception_of n fs) U h) w
+    substitute_formed by (named n supers T) U g w h = subst (WellFormed d) (some_same (named n supers T) U h) w
 
-    parts_replaced : (by : Widths) (ts us : Parts) → ShapedParts d ts → substitute_parts by ts ≡ Some us → ShapedParts d us
-    parts_replaced by no_part us s h = subst (ShapedParts d) (some_same no_part us h) tt
-    parts_replaced by (part T ts) us s h = parts_by (substitute by T) (substitute_parts by ts) us (λ V k. substitute_formed by T V (record { shaped = s.1; has_name = s.0 }) k) (λ vs k. parts_replaced by ts vs s.2 k) h
+    parts_replaced : (by : Widths) (ts us : Parts) → AllWithin by → ShapedParts d ts → substitute_parts by ts ≡ Some us → ShapedParts d us
+    parts_replaced by no_part us g s h = subst (ShapedParts d) (some_same no_part us h) tt
+    parts_replaced by (part T ts) us g s h = parts_by (substitute by T) (substitute_parts by ts) us (λ V k. substitute_formed by T V g (record { shaped = s.1; has_name = s.0 }) k) (λ vs k. parts_replaced by ts vs g s.2 k) h
 
   -- ---- calls
 
-  first_formed : (ps : List Polynomial) → WellFormed d (bits_of_first ps)
-  first_formed [] = boolean_formed
-  first_formed (p ∷ ps) = bits_formed p
+  first_formed : (ps : List Polynomial) → AllHeld ps → WellFormed d (bits_of_first ps)
+  first_formed [] h = boolean_formed
+  first_formed (p ∷ ps) h = bits_formed p h.0
 
-  routine_formed : (r : Routine) (ps : List Polynomial) (Ts : Parts) → WellFormed d (routine_type r ps Ts)
-  routine_formed UInt ps Ts = integer_formed _
-  routine_formed SInt ps Ts = integer_formed _
-  routine_formed Zeros ps Ts = first_formed ps
-  routine_formed Ones ps Ts = first_formed ps
-  routine_formed ZeroExtend ps Ts = first_formed ps
-  routine_formed SignExtend ps Ts = first_formed ps
-  routine_formed IsZero ps Ts = boolean_formed
-  routine_formed IsOnes ps Ts = boolean_formed
-  routine_formed Len ps Ts = integer_formed _
-  routine_formed Abs ps Ts = integer_formed _
-  routine_formed Min ps Ts = integer_formed _
-  routine_formed Max ps Ts = integer_formed _
+  first_held : (Ts : Parts) → ShapedParts d Ts → IsPolynomial (first_width Ts)
+  first_held no_part s = zero_held
+  first_held (part T Ts) s = within_width d T s.1
+
+  unsigned_ends : (o : Option ℤ) → AllEnds (unsigned o)
+  unsigned_ends None = tt
+  unsigned_ends (Some (negsuc k)) = tt
+  unsigned_ends (Some (pos k)) = by (nat_le k 127) _ _
+    where
+      by : (b : Bool) (y z : ℤ) → AllEnds (if b then from_to y z else [])
+      by true y z = ((tt, tt), tt)
+      by false y z = tt
+
+  signed_ends : (o : Option ℤ) → AllEnds (signed o)
+  signed_ends None = tt
+  signed_ends (Some (negsuc k)) = tt
+  signed_ends (Some (pos k)) = by (nat_le 1 k && nat_le k 128) _ _
+    where
+      by : (b : Bool) (y z : ℤ) → AllEnds (if b then from_to y z else [])
+      by true y z = ((tt, tt), tt)
+      by false y z = tt
+
+  routine_formed : (r : Routine) (ps : List Polynomial) (Ts : Parts) → AllHeld ps → ShapedParts d Ts → WellFormed d (routine_type r ps Ts)
+  routine_formed UInt ps Ts h s = integer_formed _ (unsigned_ends (constant_value (first_width Ts)))
+  routine_formed SInt ps Ts h s = integer_formed _ (signed_ends (constant_value (first_width Ts)))
+  routine_formed Zeros ps Ts h s = first_formed ps h
+  routine_formed Ones ps Ts h s = first_formed ps h
+  routine_formed ZeroExtend ps Ts h s = first_formed ps h
+  routine_formed SignExtend ps Ts h s = first_formed ps h
+  routine_formed IsZero ps Ts h s = boolean_formed
+  routine_formed IsOnes ps Ts h s = boolean_formed
+  routine_formed Len ps Ts h s = integer_formed _ (only_ends (first_width Ts) (first_held Ts s))
+  routine_formed Abs ps Ts h s = integer_formed [] tt
+  routine_formed Min ps Ts h s = integer_formed [] tt
+  routine_formed Max ps Ts h s = integer_formed [] tt
 
   chosen_formed : (n : ℕ) (name : List ℕ) (Ts : Parts) (fs : List Signature) (c : Chosen) → FormedSubs fs → choose_from n name Ts fs ≡ Some c → FormedResult c.signature.result
   chosen_formed n name Ts [] c s h = none_some c h
@@ -291,20 +362,24 @@ module _ (tests : Tests) (right : IsRight tests) (d : List ℕ → Option Ty) (d
   result_of None T s h = none_some T h
   result_of (Some U) T s h = subst (WellFormed d) (some_same U T h) s
 
-  function_layer : (span : Span) (i : Ident) (ps es : List Found) (G : Scope) (S : Typed) (o : Option Routine) (os : List Operand) → FormedSubs G.subs → function_of tests span i ps os G o ≡ Ok S → WellFormed d S.ty
-  function_layer span i ps es G S (Some r) os s h =
+  function_layer : (span : Span) (i : Ident) (ps : List Expr) (G : Scope) (S : Typed) (o : Option Routine) (os : List Operand) → NamesFormed d G.names → FormedSubs G.subs → ShapedParts d (types_of os) →
+      function_of tests span i (map (found tests) ps) os G o ≡ Ok S → WellFormed d S.ty
+  function_layer span i ps G S (Some r) os g s z h =
+      let c = counts_formed d G.names g in
       let k = then_ok (routine_taken span r os) _ S h in
-      let n = then_ok (need (length ps == routine_params r) T11 span) _ S k.then in
-      let w = bind_ok (widths_given ps G) _ S n.then in
-      subst (WellFormed d) (end_type G.class span (all_together Pure (effects_of os)) (greater (greatest Pure (effects_of os)) Pure) (routine_type r (polys w.value.given) (types_of os)) (call_tree (of_library r) w.value os) S w.then) (routine_formed r (polys w.value.given) (types_of os))
-  function_layer span i ps es G S None os s h =
+      let n = then_ok (need (length (map (found tests) ps) == routine_params r) T11 span) _ S k.then in
+      let w = bind_ok (widths_given (map (found tests) ps) G) _ S n.then in
+      subst (WellFormed d) (end_type G.class span (all_together Pure (effects_of os)) (greater (greatest Pure (effects_of os)) Pure) (routine_type r (polys w.value.given) (types_of os)) (call_tree (of_library r) w.value os) S w.then) (routine_formed r (polys w.value.given) (types_of os) (given_held tests ps G w.value c w.first) z)
+  function_layer span i ps G S None os g s z h =
+      let c = counts_formed d G.names g in
       let f = bind_ok (chosen span i os G.subs) _ S h in
       let T = bind_ok (found_or f.value.signature.result T18 span) _ S f.then in
-      let w = bind_ok (widths_rule span f.value.signature ps os G) _ S T.then in
+      let w = bind_ok (widths_rule span f.value.signature (map (found tests) ps) os G) _ S T.then in
       let b = then_ok (both_fit tests span f.value.signature w.value.given os (replaced_by f.value.signature.params w.value.given)) _ S w.then in
       let u = bind_ok (found_or (substitute (replaced_by f.value.signature.params w.value.given) T.value) T20 span) _ S b.then in
       subst (WellFormed d) (end_type G.class span (all_together Pure (effects_of os)) (greater (greatest Pure (effects_of os)) f.value.signature.class) u.value (call_tree (own f.value.number) w.value os) S u.then)
       (substitute_formed (replaced_by f.value.signature.params w.value.given) T.value u.value
+      (replaced_within f.value.signature.params w.value.given (widths_held tests d span f.value.signature ps os G w.value c z w.first))
       (result_of f.value.signature.result T.value (chosen_formed 0 i.text (types_of os) G.subs f.value s (found_ok (choose i.text (types_of os) G.subs) T09 span f.value f.first)) (found_ok f.value.signature.result T18 span T.value T.first))
       (found_ok (substitute (replaced_by f.value.signature.params w.value.given) T.value) T20 span u.value u.first))
 
@@ -342,7 +417,7 @@ module _ (tests : Tests) (right : IsRight tests) (d : List ℕ → Option Ty) (d
       let z = bind_ok (found_or (constant_value p) T16 span) _ u n.then in
       let v = bind_ok (all_placed span z.value n.value) _ u z.then in
       let o = then_ok (need (names_once v.value []) T15 span) (Ok v.value) u v.then in
-      subst (ShapedView p) (ok_ok v.value u o.then) (view_by span p z.value n.value v.value (λ a. constant_is a p z.value (found_ok (constant_value p) T16 span z.value z.first)) v.first)
+      subst (ShapedView p) (ok_ok v.value u o.then) (view_by span p z.value n.value v.value (λ a. constant_width a p z.value (constant_is a p z.value (found_ok (constant_value p) T16 span z.value z.first))) v.first)
 
   -- ---- by induction over trees
 
@@ -369,12 +444,22 @@ module _ (tests : Tests) (right : IsRight tests) (d : List ℕ → Option Ty) (d
   type_trees = map-TypeExpr ((b : Bitfield) × Any b) ((p : ConstraintPart) × Any p) ((e : Expr) × Formed e) ((f : FieldValue) × Any f) ((p : Pattern) × Any p) ((s : Slice) × Any s) ((t : TypeExpr) × TypeFormed t)
       Bitfield ConstraintPart Expr FieldValue Pattern Slice TypeExpr (λ x. x.0) (λ x. x.0) (λ x. x.0) (λ x. x.0) (λ x. x.0) (λ x. x.0) (λ x. x.0)
 
+  literal_formed : (n : ℕ) → WellFormed d (literal_type n)
+  literal_formed n = by (fits (pos n))
+    where
+      by : (b : Bool) → WellFormed d (integer_of (if b then only_number (pos n) else []))
+      by true = integer_formed (only_number (pos n)) ((tt, tt), tt)
+      by false = integer_formed [] tt
+
   literal_layer : (class : Effect) (span : Span) (o : Option (List Bool)) (S : Typed) → bits_rule_of class span o ≡ Ok S → WellFormed d S.ty
   literal_layer class span None S h = err_ok (fault_of S03 span) S h
-  literal_layer class span (Some bs) S h = subst (WellFormed d) (class_type class span Pure (bits_wide (length bs)) (λ n. tree.Constant n (bits_with bs [])) S h) (bits_formed (constant_map (pos (length bs))))
+  literal_layer class span (Some bs) S h =
+      let u = then_ok (need (nat_le (length bs) heaviest) T20 span) _ S h in
+      subst (WellFormed d) (class_type class span Pure (bits_wide (length bs)) (λ n. tree.Constant n (bits_with bs [])) S u.then)
+      (wide_formed (length bs) (need_ok (nat_le (length bs) heaviest) T20 span tt u.first))
 
   standing_formed : (span : Span) (name : List ℕ) (o : Option Standing) (G : Scope) (S : Typed) → ((st : Standing) → o ≡ Some st → StandsFormed d st) → name_of_standing span name o G ≡ Ok S → WellFormed d S.ty
-  standing_formed span name (Some (Stored s)) G S g h = subst (WellFormed d) (class_type G.class span (reading s) s.ty (λ n. tree.Read n (slot_of name (layout_of G.names))) S h) (g (Stored s) refl)
+  standing_formed span name (Some (Stored s)) G S g h = subst (WellFormed d) (class_type G.class span (reading s) s.ty (λ n. tree.Read n (slot_of name (layout_of G.names))) S h) (g (Stored s) refl).0
   standing_formed span name (Some (Label T x)) G S g h = subst (WellFormed d) (class_type G.class span Pure T (λ n. tree.Constant n x) S h) (g (Label T x) refl)
   standing_formed span name (Some Subprogram) G S g h = err_ok (fault_of T02 span) S h
   standing_formed span name (Some (TypeName T)) G S g h = err_ok (fault_of T02 span) S h
@@ -389,19 +474,20 @@ module _ (tests : Tests) (right : IsRight tests) (d : List ℕ → Option Ty) (d
       subst (λ l. ShapedParts d (types_of l)) (ok_ok (operand (found tests e.0).span s.value ∷ r.value) os r.then) (w.has_name, w.shaped, operands_formed es G r.value g u r.first)
 
   layer_formed : (y : Below) (G : Scope) (S : Typed) → NamesFormed d G.names → FormedSubs G.subs → typed_rule tests (opened tests (trees y)) G ≡ Ok S → WellFormed d S.ty
-  layer_formed (ex.Int span n) G S g u h = subst (WellFormed d) (class_type G.class span Pure (literal_type n) (λ m. tree.Int m n) S h) (integer_formed _)
+  layer_formed (ex.Int span n) G S g u h = subst (WellFormed d) (class_type G.class span Pure (literal_type n) (λ m. tree.Int m n) S h) (literal_formed n)
   layer_formed (ex.Bits span t) G S g u h = literal_layer G.class span (literal_of tests.limit t) S h
   layer_formed (ex.Bool span b) G S g u h = subst (WellFormed d) (class_type G.class span Pure boolean (λ n. tree.Constant n (bool b)) S h) boolean_formed
   layer_formed (ex.Name span name) G S g u h = standing_formed span name (standing_of name G.names) G S (g name) h
   layer_formed (ex.Unary span o a) G S g u h =
       let t = bind_ok (typed tests a.0 G) _ S h in
       let v = bind_ok (unary_rule span o t.value.ty) _ S t.then in
-      subst (WellFormed d) (class_type G.class span t.value.effect v.value (λ n. tree.Unary n o t.value.tree) S v.then) (unary_formed span o t.value.ty v.value v.first)
+      subst (WellFormed d) (class_type G.class span t.value.effect v.value (λ n. tree.Unary n o t.value.tree) S v.then) (unary_formed span o t.value.ty v.value (a.1 G t.value g u t.first).shaped v.first)
   layer_formed (ex.Binary span o a b) G S g u h =
       let t = bind_ok (typed tests a.0 G) _ S h in
       let v = bind_ok (typed tests b.0 G) _ S t.then in
       let r = bind_ok (binary_rule tests span o t.value.ty v.value.ty) _ S v.then in
-      subst (WellFormed d) (end_type G.class span (together t.value.effect v.value.effect) (greater t.value.effect v.value.effect) r.value (λ n. tree.Binary n o t.value.tree v.value.tree) S r.then) (binary_formed span o t.value.ty v.value.ty r.value r.first)
+      subst (WellFormed d) (end_type G.class span (together t.value.effect v.value.effect) (greater t.value.effect v.value.effect) r.value (λ n. tree.Binary n o t.value.tree v.value.tree) S r.then)
+      (binary_formed span o t.value.ty v.value.ty r.value (a.1 G t.value g u t.first).shaped (b.1 G v.value g u v.first).shaped r.first)
   layer_formed (ex.Conditional span c a b) G S g u h =
       let z = bind_ok (typed tests c.0 G) _ S h in
       let s = bind_ok (typed tests a.0 G) _ S z.then in
@@ -426,21 +512,25 @@ module _ (tests : Tests) (right : IsRight tests) (d : List ℕ → Option Ty) (d
       subst (WellFormed d) (end_type G.class span (all_together Pure (effects_of o.value)) (greater (greatest Pure (effects_of o.value)) Pure) c.value.ty (λ n. tree.Construct n c.value.shell p.value (trees_of o.value)) S p.then) (constructed_formed i (type_of_name i.text G.names) c.value (type_formed d G.names i.text g) c.first)
   layer_formed (ex.Call span i ps es) G S g u h =
       let b = bind_ok (call_begun i (map (found tests) (map (λ e. e.0) es)) G) _ S h in
-      function_layer span i (map (found tests) (map (λ e. e.0) ps)) (map (found tests) (map (λ e. e.0) es)) G S (routine_named i.text) b.value u b.then
+      let o = bind_ok (operands (map (found tests) (map (λ e. e.0) es)) G) _ b.value b.first in
+      let n = then_ok (need (is_subprogram (standing_of i.text G.names)) T02 i.span) (Ok o.value) b.value o.then in
+      let z : ShapedParts d (types_of b.value) = subst (λ l. ShapedParts d (types_of l)) (ok_ok o.value b.value n.then) (operands_formed es G o.value g u o.first) in
+      function_layer span i (map (λ e. e.0) ps) G S (routine_named i.text) b.value g u z b.then
   layer_formed (ex.Field span a i) G S g u h =
       let t = bind_ok (typed tests a.0 G) _ S h in
       let m = bind_ok (member_named i t.value.ty) _ S t.then in
-      subst (WellFormed d) (class_type G.class span t.value.effect (member_type m.value) (member_tree t.value.tree m.value) S m.then) (member_formed t.value.ty i.text m.value (a.1 G t.value g u t.first).shaped (member_ok i t.value.ty m.value m.first))
+      subst (WellFormed d) (class_type G.class span t.value.effect (member_type m.value) (member_tree t.value.tree m.value) S m.then) (member_formed t.value.ty i.text m.value (a.1 G t.value g u t.first).shaped (member_room i t.value.ty m.value m.first) (member_ok i t.value.ty m.value m.first))
   layer_formed (ex.Fields span a is) G S g u h =
       let t = bind_ok (typed tests a.0 G) _ S h in
       let f = bind_ok (bitfields_named span is t.value.ty) _ S t.then in
-      subst (WellFormed d) (class_type G.class span t.value.effect (bits_wide (all_wide f.value)) (λ n. tree.Bitfields n t.value.tree f.value) S f.then) (bits_formed _)
+      subst (WellFormed d) (class_type G.class span t.value.effect (bits_wide (all_wide f.value)) (λ n. tree.Bitfields n t.value.tree f.value) S f.then) (fields_wide span is t.value.ty f.value f.first)
   layer_formed (ex.Slices span a ss) G S g u h =
       let t = bind_ok (typed tests a.0 G) _ S h in
       let o = bind_ok (all_operands (map (found_slice tests) (map (λ s. s.0) ss)) G) _ S t.then in
       let k = then_ok (sliceable span t.value.ty o.value) _ S o.then in
       let w = bind_ok (sliced_width span (map (found_slice tests) (map (λ s. s.0) ss)) G) _ S k.then in
-      subst (WellFormed d) (end_type G.class span (all_together Pure (t.value.effect ∷ effects_of o.value)) (greatest Pure (t.value.effect ∷ effects_of o.value)) (bits_of w.value []) (λ n. tree.Slices n t.value.tree (shapes_of (map (found_slice tests) (map (λ s. s.0) ss))) (trees_of o.value)) S w.then) (bits_formed w.value)
+      subst (WellFormed d) (end_type G.class span (all_together Pure (t.value.effect ∷ effects_of o.value)) (greatest Pure (t.value.effect ∷ effects_of o.value)) (bits_of w.value []) (λ n. tree.Slices n t.value.tree (shapes_of (map (found_slice tests) (map (λ s. s.0) ss))) (trees_of o.value)) S w.then)
+      (bits_formed w.value (sliced_held tests span (map (λ s. s.0) ss) G w.value (counts_formed d G.names g) w.first))
   layer_formed (ex.Element span a i) G S g u h =
       let t = bind_ok (typed tests a.0 G) _ S h in
       let v = bind_ok (typed tests i.0 G) _ S t.then in
@@ -473,6 +563,9 @@ module _ (tests : Tests) (right : IsRight tests) (d : List ℕ → Option Ty) (d
       let w = t.1 outside G s.value g s.first in
       subst (λ l. ShapedParts d (types_written l)) (ok_ok (s.value ∷ r.value) Ws r.then) (w.has_name, w.shaped, parts_formed ts outside G r.value g r.first)
 
+  one_light : nat_le 1 heaviest ≡ true
+  one_light = refl
+
   written_is : (T : Ty) (s : TypeShape) (ts : List Tree) (W : Written) → WellFormed d T → (let r : Result Written Fault = Ok (written_as T s ts) in r) ≡ Ok W → WellFormed d W.ty
   written_is T s ts W w h = subst (λ (z : Written). WellFormed d z.ty) (ok_ok (written_as T s ts) W h) w
 
@@ -480,9 +573,9 @@ module _ (tests : Tests) (right : IsRight tests) (d : List ℕ → Option Ty) (d
   type_layer_formed (ex.IntegerType span ps) outside G W g h =
       let p = bind_ok (all_parts (map (found_part tests) (map (λ p. p.0) ps)) G) _ W h in
       let n = then_ok (need (nat_le (length p.value) most_parts) T20 span) _ W p.then in
-      written_is (integer_of (parts_written p.value)) _ _ W (integer_formed _) n.then
+      written_is (integer_of (parts_written p.value)) _ _ W (integer_formed _ (parts_held tests (map (λ p. p.0) ps) G p.value (counts_formed d G.names g) p.first)) n.then
   type_layer_formed (ex.BooleanType span) outside G W g h = written_is boolean _ _ W boolean_formed h
-  type_layer_formed (ex.BitType span) outside G W g h = written_is (bits_wide 1) _ _ W (bits_formed _) h
+  type_layer_formed (ex.BitType span) outside G W g h = written_is (bits_wide 1) _ _ W (wide_formed 1 one_light) h
   type_layer_formed (ex.NamedType span name) outside G W g h =
       let t = bind_ok (found_or (type_of_name name G.names) T02 span) _ W h in
       written_is t.value _ _ W (type_formed d G.names name g t.value (found_ok (type_of_name name G.names) T02 span t.value t.first)) t.then
@@ -491,7 +584,8 @@ module _ (tests : Tests) (right : IsRight tests) (d : List ℕ → Option Ty) (d
       let x = bind_ok (all_fields (map (found_bitfield tests) (map (λ f. f.0) fs)) G) _ W w.then in
       let v = bind_ok (view_rule span w.value.poly x.value) _ W x.then in
       let n = then_ok (need (within_limits tests.limit outside w.value.poly) T20 span) _ W v.then in
-      written_is (bits_of w.value.poly v.value) _ _ W (record { shaped = view_shaped span w.value.poly x.value v.value v.first; has_name = refl }) n.then
+      let i = width_is_held tests e.0 G (counts_formed d G.names g) w.value w.first in
+      written_is (bits_of w.value.poly v.value) _ _ W (record { shaped = (i, view_shaped span w.value.poly x.value v.value v.first); has_name = refl }) n.then
   type_layer_formed (ex.TupleType span ts) outside G W g h =
       let s = bind_ok (types_in_order outside (map (found_type tests) (map (λ t. t.0) ts)) G) _ W h in
       let t = bind_ok (bounded span (tuple_of (types_written s.value))) _ W s.then in

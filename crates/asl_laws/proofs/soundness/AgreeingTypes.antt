@@ -8,7 +8,8 @@ use Rattle.asl_syn.specs.declared.tree.Param.{Param as WrittenParam}
 use Rattle.asl_syn.specs.declared.tree.TypeExpr.{TypeExpr}
 use Rattle.asl_grammar.specs.Reading.{File, ReadsAt}
 use Rattle.asl_rules.specs.Tests.{Tests, IsRight}
-use Rattle.asl_rules.specs.types.Types.{Ty, Parts, no_part, part}
+use Rattle.asl_poly.specs.Poly.{atom_map}
+use Rattle.asl_rules.specs.types.Types.{Ty, Parts, no_part, part, only_width}
 use Rattle.asl_rules.specs.declarations.Names.{names_rule, all_declared}
 use Rattle.asl_rules.specs.declarations.Scopes.{Entry, Param, fixed, next_atom}
 use Rattle.asl_rules.specs.expressions.Exprs.{written}
@@ -19,11 +20,13 @@ use Rattle.asl_rules.specs.private.Agreement.{types_in}
 use Rattle.asl_rules.specs.private.Grown.{AreGrown}
 use Rattle.asl_rules.specs.private.WellFormed.{WellFormed, WellDeclared, ShapedParts}
 use Rattle.asl_rules.proofs.basics.Inversions.{ok_ok, bind_ok, then_ok}
+use Rattle.asl_rules.proofs.widths.WidthsHeld.{atom_is_polynomial}
 use Rattle.asl_rules.proofs.scopes.Naming.{WellNamed, well_declared}
 use Rattle.asl_rules.proofs.verdict.Distinct.{Distinct, distinct_of}
 use Rattle.asl_laws.specs.AgreeingTypes.{NamesFormed, MaybeFormed, ResultsFormed, NamesAgree, ParamsFormed, HeadFormed, HeadsFormed, DeclarationsAgree}
 use Rattle.asl_laws.specs.Evaluated.{names_after}
-use Rattle.asl_laws.proofs.scopes.FormedScopes.{added}
+use Rattle.asl_laws.proofs.scopes.FormedScopes.{added, itself_held}
+use Rattle.asl_laws.proofs.scopes.HeldRules.{only_ends}
 use Rattle.asl_laws.proofs.scopes.Globals.{AllBelong, grown_labels, names_good, round_named}
 use Rattle.asl_laws.proofs.scopes.GrownTexts.{read_grown_at}
 use Rattle.asl_laws.proofs.scopes.WellTyped.{integer_formed, written_in_formed, good_formed}
@@ -48,7 +51,7 @@ module _ (t : Tests) (right : IsRight t) (d : List ℕ → Option Ty) (known : W
       (written_in_formed t right d known ty false (in_names names) v.value g v.first)
 
   own_type : (T : Option Ty) (n : ℕ) → MaybeFormed d T → WellFormed d (type_or_itself T n)
-  own_type None n g = integer_formed t right d known _
+  own_type None n g = integer_formed t right d known (only_width (atom_map n)) (only_ends (atom_map n) (atom_is_polynomial n))
   own_type (Some T) n g = g
 
   params_formed : (ps : List WrittenParam) (before : List Param) (names : List Entry) (r : List Param × List Entry) →
@@ -61,7 +64,7 @@ module _ (t : Tests) (right : IsRight t) (d : List ℕ → Option Ty) (known : W
       let w = maybe_written p.ty v.value names g v.first in
       params_formed ps (before ++ record { atom = next_atom names; ty = v.value } ∷ [])
       (names ++ param_entry p.name.text v.value (next_atom names) ∷ []) r
-      (added d names (param_entry p.name.text v.value (next_atom names)) g (own_type v.value (next_atom names) w))
+      (added d names (param_entry p.name.text v.value (next_atom names)) g (own_type v.value (next_atom names) w, atom_is_polynomial (next_atom names)))
       (params_snoc d before (record { atom = next_atom names; ty = v.value }) b w) v.then
 
   formals_formed : (fs : List Formal) (names : List Entry) (Ts : Parts) → NamesFormed d names → formals_rule t fs names ≡ Ok Ts →
@@ -79,7 +82,7 @@ module _ (t : Tests) (right : IsRight t) (d : List ℕ → Option Ty) (known : W
   with_formals_formed (f ∷ fs) no_part names g h = g
   with_formals_formed (f ∷ fs) (part T Ts) names g h =
       with_formals_formed fs Ts (names ++ fixed f.name.text T (itself T names) ∷ [])
-      (added d names (fixed f.name.text T (itself T names)) g (record { shaped = h.1; has_name = h.0 })) h.2
+      (added d names (fixed f.name.text T (itself T names)) g (record { shaped = h.1; has_name = h.0 }, itself_held T names)) h.2
 
   result_formed : (o : Option TypeExpr) (T : Option Ty) (names : List Entry) → NamesFormed d names → result_rule t o names ≡ Ok T →
       MaybeFormed d T

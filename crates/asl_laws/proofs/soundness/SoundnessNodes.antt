@@ -25,7 +25,9 @@ use Rattle.asl_rules.proofs.basics.Tests.{no}
 use Rattle.asl_rules.proofs.scopes.Naming.{WellNamed, well_declared}
 use Rattle.asl_laws.proofs.scopes.WellTyped.{FormedSubs}
 use Rattle.asl_laws.proofs.runs.Several.{Several, one, two, expr_enters, stmt_enters}
-use Rattle.asl_laws.proofs.expressions.Claims.{Here, Asked, of_type, of_pure, of_width, of_number, of_known, StmtClaim, At, ExprIn, StmtIn, our_each, around_of, Around, Caller, caller_at, by_expr, by_stmt, IsOutermost, Bound, IsCaller, Waiting, StandsOver, Stands}
+use Rattle.asl_laws.proofs.expressions.Claims.{Here, Asked, of_type, of_pure, of_width, of_number, of_known, of_divisor, StmtClaim, At, ExprIn, StmtIn, our_each, around_of, Around, Caller, caller_at, by_expr, by_stmt, IsOutermost, Bound, IsCaller, Waiting, StandsOver, Stands}
+use Rattle.asl_rules.proofs.widths.WidthForms.{is_written}
+use Rattle.asl_laws.proofs.expressions.WidthTrees.{divisor_as, divisor_typed}
 use Rattle.asl_laws.proofs.expressions.AllExprs.{Others}
 use Rattle.asl_laws.proofs.statements.AllStmts.{OtherStmts}
 use Rattle.asl_laws.proofs.soundness.GivenTypes.{typed_run}
@@ -111,6 +113,7 @@ module _ (tests : Tests) (right : IsRight tests) (ds : List Decl) (asked : Enter
     asked_in H (of_width W) = H
     asked_in H (of_number N) = H
     asked_in H (of_known S W) = H
+    asked_in H (of_divisor span k) = H
 
     lesser_stands : (H : Here) (ids : List ℕ) → StandsIn subs H.scope.class ids → StandsIn subs Pure ids
     lesser_stands H [] n = n
@@ -122,6 +125,7 @@ module _ (tests : Tests) (right : IsRight tests) (ds : List Decl) (asked : Enter
     expr_stands H (of_width W) e t c p = (stands_at H c p.at).0
     expr_stands H (of_number N) e t c p = (stands_at H c p.at).0
     expr_stands H (of_known S W) e t c p = (stands_at H c p.at).0
+    expr_stands H (of_divisor span k) e t c p = (stands_at H c p.at).0
 
     pub body_stands : (j : StmtClaim) (x : Stmt) (t : Act) (c : Core) → StmtIn tests base subs false j x t c → IsBodyOf subs j.body c.live
     unfolding bound
@@ -135,6 +139,11 @@ module _ (tests : Tests) (right : IsRight tests) (ds : List Decl) (asked : Enter
     expr_judged H (of_number N) e t c p =
         inr (inr (N, p.answers, λ d h. number_gives tests right ds base subs funcs w d e H.scope N H.present c h p.answers p.at.agrees))
     expr_judged H (of_known S W) e t c p = inl (S, p.answers.0, gives H S e c p.answers.0 p.at.agrees p.at.subs_are p.at.around_is)
+    expr_judged H (of_divisor span k) e t c p =
+        let i = is_written tests e k p.answers.0 in
+        let h = divisor_typed tests e k i H.scope in
+        let S = divisor_as tests i.span k in
+        inl (S, h, gives H S e c h p.at.agrees p.at.subs_are p.at.around_is)
 
     asked_subs : (H : Here) (i : Asked) → (asked_in H i).scope.subs ≡ H.scope.subs
     asked_subs H (of_type S) = refl
@@ -142,6 +151,7 @@ module _ (tests : Tests) (right : IsRight tests) (ds : List Decl) (asked : Enter
     asked_subs H (of_width W) = refl
     asked_subs H (of_number N) = refl
     asked_subs H (of_known S W) = refl
+    asked_subs H (of_divisor span k) = refl
 
     asked_names : (H : Here) (i : Asked) → (asked_in H i).scope.names ≡ H.scope.names
     asked_names H (of_type S) = refl
@@ -149,6 +159,7 @@ module _ (tests : Tests) (right : IsRight tests) (ds : List Decl) (asked : Enter
     asked_names H (of_width W) = refl
     asked_names H (of_number N) = refl
     asked_names H (of_known S W) = refl
+    asked_names H (of_divisor span k) = refl
 
     asked_rules : (H : Here) (i : Asked) → Ruled H.scope.names H.scope.subs → KeepsRules (asked_in H i).scope
     asked_rules H (of_type S) r = keeps_rules H.scope r
@@ -156,6 +167,7 @@ module _ (tests : Tests) (right : IsRight tests) (ds : List Decl) (asked : Enter
     asked_rules H (of_width W) r = keeps_rules H.scope r
     asked_rules H (of_number N) r = keeps_rules H.scope r
     asked_rules H (of_known S W) r = keeps_rules H.scope r
+    asked_rules H (of_divisor span k) r = keeps_rules H.scope r
 
     expr_visited : (H : Here) (i : Asked) (e : Expr) (t : Tree) (c : Core) → ExprIn tests base subs false H i e t c → ExprVisited tests ds whole e c
     expr_visited H i e t c p = record {

@@ -4,7 +4,7 @@ use Rattle.std.specs.Prelude.{ℕ, suc, ℤ, pos, negsuc, Bool, true, false, if�
 use Rattle.asl_syn.specs.declared.token.Span.{Span}
 use Rattle.asl_syn.specs.declared.code.Fault.{Fault}
 use Rattle.asl_syn.specs.declared.code.StaticCode.{StaticCode}
-use Rattle.asl_syn.specs.declared.code.StaticCode.TheVariants.{T02, T11}
+use Rattle.asl_syn.specs.declared.code.StaticCode.TheVariants.{T02, T11, T19}
 use Rattle.asl_syn.specs.declared.tree.Ident.{Ident}
 use Rattle.asl_syn.specs.declared.tree.UnaryOperator.{UnaryOperator}
 use Rattle.asl_syn.specs.declared.tree.UnaryOperator.TheVariants as unary
@@ -17,7 +17,12 @@ use Rattle.asl_rules.specs.Tests.{Tests}
 use Rattle.asl_rules.specs.types.Types.{Ty, Fields, Parts, Widths, View, no_part, part}
 use Rattle.asl_rules.specs.values.Values.{Value, int}
 use Rattle.asl_rules.specs.declarations.Scopes.{Scope, Counted, Standing, Stored, Label, Signature, Param}
-use Rattle.asl_rules.specs.types.Widths.{Total, length_of, width_of_counted, width_of_known, width_of_standing, width_of_binary, number_of_counted, number_of_known, number_of_standing, number_of_binary}
+use Rattle.asl_rules.specs.types.Widths.{Total, length_of, width_of_counted, width_of_known, width_of_standing, width_combined, width_divided, number_of_counted, number_of_known, number_of_standing, number_combined, number_divided}
+use Rattle.asl_rules.specs.types.Arithmetic.{reading_of_two}
+use Rattle.asl_rules.specs.declared.joining.Joining.{Joining}
+use Rattle.asl_rules.specs.declared.joining.Joining.TheVariants.{Combines, Divides, JoinsNothing}
+use Rattle.asl_rules.specs.declared.joining.Combination.{Combination}
+use Rattle.asl_rules.specs.declared.joining.Combination.TheVariants.{Sum, Difference, Product}
 use Rattle.asl_rules.specs.expressions.Typing.{Found, Operand, operands}
 use Rattle.asl_rules.specs.expressions.Operations.{unary_rule, binary_rule}
 use Rattle.asl_rules.specs.values.Members.{bitfields_in, constructed, given_once, all_fit}
@@ -25,10 +30,10 @@ use Rattle.asl_rules.specs.expressions.Slicing.{FoundSlice, all_operands, all_ad
 use Rattle.asl_rules.specs.types.Writing.{WrittenField, WrittenEnd, Numbered, end_rule, one_bit_rule, bit_range_rule, FoundPart, FoundBitfield, FoundType, all_parts, all_fields, all_numbered, all_placed, view_rule, types_in_order}
 use Rattle.asl_rules.specs.expressions.Patterns.{FoundPattern, all_match, parts_match}
 use Rattle.asl_rules.specs.expressions.Calls.{Given, Giving, given_by_argument, is_width_alone, function_rule, Replacing, widths_given, widths_omitted, widths_rule, params_fit, arguments_fit, fits_written, function_of, procedure_of, procedure_rule, call_begun}
-use Rattle.asl_rules.specs.expressions.Exprs.{FoundField, name_of_standing, values_given, names_given, construct_rule}
+use Rattle.asl_rules.specs.expressions.Exprs.{FoundField, name_of_standing, width_of, number_of, values_given, names_given, construct_rule}
 use Rattle.asl_rules.proofs.verdict.SameRules.{AllOf}
 use Rattle.asl_laws.proofs.spans.OtherCodes.{Other}
-use Rattle.asl_laws.proofs.spans.Standing.{At, Answers, Stands, then_with, then_stands, bound, next, refused, steps, typed_there, width_there, ExprStands, SliceStands, GivenStands, PatternStands, PartStands, EndsStand, BitfieldStands, TypeStands, NamesStand}
+use Rattle.asl_laws.proofs.spans.Standing.{At, Answers, Stands, then_with, then_stands, bound, next, refused, found_at, steps, typed_there, width_there, ExprStands, SliceStands, GivenStands, PatternStands, PartStands, EndsStand, BitfieldStands, TypeStands, NamesStand}
 
 module _ (t : Tests) (P : Fault → Type 0) where
   -- ---- operators
@@ -60,9 +65,13 @@ module _ (t : Tests) (P : Fault → Type 0) where
   standing_width span (Some (Stored s)) p = search (steps, counted_width)
   standing_width span o p = search steps
 
-  pub binary_width : (span : Span) (o : BinaryOperator) (p q : Polynomial) → At P span → Stands P (width_of_binary span o p q)
-  binary_width span binary.Add p q h = search steps
-  binary_width span o p q h = search steps
+  pub combined_width : (span : Span) (o : Combination) (p q : Polynomial) → At P span → Stands P (width_combined span o p q)
+  combined_width span Sum p q h = search steps
+  combined_width span Difference p q h = search steps
+  combined_width span Product p q h = search steps
+
+  pub divided_width : (span : Span) (p : Polynomial) (k : ℕ) → At P span → Stands P (width_divided span p k)
+  divided_width span p k h = search steps
 
   known_number : (span : Span) (o : Option Value) → At P span → Stands P (number_of_known span o)
   known_number span (Some (int z)) p = tt
@@ -76,9 +85,28 @@ module _ (t : Tests) (P : Fault → Type 0) where
   standing_number span (Some (Stored s)) p = search (steps, counted_number)
   standing_number span o p = search steps
 
-  pub binary_number : (span : Span) (o : BinaryOperator) (a b : ℤ) → At P span → Stands P (number_of_binary span o a b)
-  binary_number span binary.Add a b p = search steps
-  binary_number span o a b p = search steps
+  pub combined_number : (span : Span) (o : Combination) (a b : ℤ) → At P span → Stands P (number_combined span o a b)
+  combined_number span Sum a b p = search steps
+  combined_number span Difference a b p = search steps
+  combined_number span Product a b p = search steps
+
+  pub divided_number : (span : Span) (a : ℤ) (k : ℕ) → At P span → Stands P (number_divided span a k)
+  divided_number span a k p = search steps
+
+  -- what joins two expressions
+  pub two_widths : (span : Span) (j : Joining) (a b : Found) (G : Scope) → At P span → ExprStands P a → ExprStands P b → Stands P (width_of span (reading_of_two j a b) G)
+  two_widths span (Combines o) a b G p h k =
+      bound P (a.width G) _ (h.width_at G) (λ v. bound P (b.width G) _ (k.width_at G) (λ w. bound P (width_combined span o v.poly w.poly) _ (combined_width span o v.poly w.poly p) (λ r. tt)))
+  two_widths span Divides a b G p h k =
+      bound P (a.width G) _ (h.width_at G) (λ v. bound P (found_or b.divisor T19 span) _ (found_at P b.divisor T19 span p tt) (λ n. bound P (width_divided span v.poly n) _ (divided_width span v.poly n p) (λ r. tt)))
+  two_widths span JoinsNothing a b G p h k = refused P T19 span p tt
+
+  pub two_numbers : (span : Span) (j : Joining) (a b : Found) (G : Scope) → At P span → ExprStands P a → ExprStands P b → Stands P (number_of span (reading_of_two j a b) G)
+  two_numbers span (Combines o) a b G p h k =
+      bound P (a.number G) _ (h.number_at G) (λ v. bound P (b.number G) _ (k.number_at G) (λ w. bound P (number_combined span o v.number w.number) _ (combined_number span o v.number w.number p) (λ r. tt)))
+  two_numbers span Divides a b G p h k =
+      bound P (a.number G) _ (h.number_at G) (λ v. bound P (found_or b.divisor T19 span) _ (found_at P b.divisor T19 span p tt) (λ n. bound P (number_divided span v.number n) _ (divided_number span v.number n p) (λ r. tt)))
+  two_numbers span JoinsNothing a b G p h k = refused P T19 span p tt
 
   -- ---- several expressions
 
@@ -288,4 +316,4 @@ module _ (t : Tests) (P : Fault → Type 0) where
   part_patterns [] Ts G h = tt
 
 -- beside the steps, all that these rules are made of
-pub ruleset rows = (unary_stands, binary_stands, name_stands, standing_width, binary_width, standing_number, binary_number, operands_there, construct_stands, bitfields_stand, slices_stand, adds_stand, call_stands, one_bit_stands, bit_range_stands, parts_stand, fields_there, view_stands, types_stand, length_stands, all_patterns, part_patterns)
+pub ruleset rows = (unary_stands, binary_stands, name_stands, standing_width, combined_width, divided_width, standing_number, combined_number, divided_number, two_widths, two_numbers, operands_there, construct_stands, bitfields_stand, slices_stand, adds_stand, call_stands, one_bit_stands, bit_range_stands, parts_stand, fields_there, view_stands, types_stand, length_stands, all_patterns, part_patterns)

@@ -56,6 +56,7 @@ use Rattle.asl_laws.proofs.expressions.ExprForms.{env, found_at}
 use Rattle.asl_rules.proofs.expressions.Places.{tree_typed}
 use Rattle.asl_laws.proofs.statements.StmtForms.{here, Held, OutAct, Acted, acted, operand_typed, ended_is, ends_here}
 use Rattle.asl_laws.proofs.statements.AssignStores.{store_same}
+use Rattle.asl_laws.proofs.widths.PresentNumbers.{counts_held}
 use Rattle.asl_laws.proofs.statements.AssignForms.{Ways, suffixes_formed, suffixes_same}
 
 shift : (m n : ℕ) → suc m + n ≡ m + suc n
@@ -267,7 +268,8 @@ module _ (tests : Tests) (right : IsRight tests) (ds : List Decl) (base : List E
       let k1 : all_parts_fit tests (at ∷ l.value) o ≡ Ok tt = subst (λ v. all_parts_fit tests v o ≡ Ok tt) (sym are) k in
       let f = then_ok (part_fits tests (part_of p.way (Some o.typed.ty)) r.value.ty o.span) _ tt k1 in
       let g : part_fits tests (Some t.0.ty) r.value.ty o.span ≡ Ok tt = subst (λ v. part_fits tests v r.value.ty o.span ≡ Ok tt) t.0.ty_is f.first in
-      let formed = suffixes_formed tests right ds base subs loose funcs w G p.suffixes s.value.ty r.value (scope_good av base G.names c w a.agrees p.name.text (Stored s.value) stands) r.first in
+      let good = scope_good av base G.names c w a.agrees p.name.text (Stored s.value) stands in
+      let formed = suffixes_formed tests right ds base subs loose funcs w G p.name t.0.suffixes p.suffixes s.value.ty r.value (counts_held av base G.names c a.agrees) good.0 t.0.typed_so r.first in
       let rest = all_stored c o x holds none ps l.value us a t.1 l.first f.then in
       let v : StoreThere = record { steps = map step_ahead r.value.steps; put = stored tests.limit holds p.name.span (slot_of p.name.text (layout_of G.names)) t.0.one } in
       subst (λ e. Stored_all (u ∷ us) (stores tests.limit holds (tree_places e) x)) are
@@ -334,7 +336,7 @@ module _ (tests : Tests) (right : IsRight tests) (ds : List Decl) (base : List E
       subst (λ (z : StoreHere). Same tests right base subs loose H Q (eval_steps z.steps [] c (λ ns c1. lift (z.put ns c1) c1 k)) (eval_steps v.steps [] (erased c) (λ ns c1. lift (v.put ns c1) c1 l))) t.first_is
       (subst (λ (z : StoreThere). Same tests right base subs loose H Q (eval_steps (steps_of t.name t.suffixes) [] c (λ ns c1. lift (store_at e t.name t.one ns c1) c1 k)) (eval_steps z.steps [] (erased c) (λ ns c1. lift (z.put ns c1) c1 l))) t.second_is
       (suffixes_same tests right ds base subs loose funcs w H Q t.name t.suffixes t.typed_list t.storage.ty t.reached [] [] c (λ ns c1. lift (store_at e t.name t.one ns c1) c1 k) (λ ns c1. lift (stored tests.limit t.holds t.name.span slot t.one ns c1) c1 l)
-      (scope_good av base G.names c w a.agrees t.name.text (Stored t.storage) t.stands) t.typed_so t.behind_is a
+      (scope_good av base G.names c w a.agrees t.name.text (Stored t.storage) t.stands).0 t.typed_so t.behind_is a
       (λ ss ps c1 ways a1. store_then Q u v t ss ps c1 k l ways a1 next)))
 
   stores_same : (Q : Exit → Exit → Core → Type 0) (us : List StoreHere) (vs : List StoreThere) (c : Core) → AllTwo us vs → At tests base subs loose H c → ((c1 : Core) → At tests base subs loose H c1 → Q Normal Normal c1) → Same tests right base subs loose H Q (store_each us c) (store_each vs (erased c))

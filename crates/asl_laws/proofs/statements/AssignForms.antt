@@ -7,11 +7,10 @@ use Rattle.asl_syn.specs.declared.tree.PlacedSuffix.{PlacedSuffix}
 use Rattle.asl_syn.specs.declared.tree.Suffix.{Suffix}
 use Rattle.asl_syn.specs.declared.tree.Suffix.TheVariants.{FieldOf, FieldsOf, SlicesOf, ElementOf}
 use Rattle.asl_syn.specs.declared.tree.Decl.{Decl}
-use Rattle.std.specs.Prelude.{nat_le, pos, ◌+ℤ◌}
+use Rattle.std.specs.Prelude.{nat_le, pos}
 use Rattle.asl_rules.specs.Faults.{need, found_or}
 use Rattle.asl_rules.specs.Tests.{Tests, IsRight}
 use Rattle.asl_rules.specs.types.Types.{Ty, bits_of, is_bits, is_integer, view_of, bits_wide}
-use Rattle.asl_rules.specs.types.Closed.{width_at}
 use Rattle.asl_rules.specs.declarations.Scopes.{Scope, Entry, Signature}
 use Rattle.asl_rules.specs.private.WellFormed.{WellFormed}
 use Rattle.asl_rules.specs.runs.Trees.{TreeFunc}
@@ -30,14 +29,18 @@ use Rattle.asl_rules.specs.runs.StatementForms.{eval_step, eval_steps}
 use Rattle.asl_rules.specs.runs.Evaluation.{Does, Step, into_field, into_fields, into_slices, into_element, step_of, steps_of}
 use Rattle.asl_rules.specs.private.TypedMeaning.{BareCore, Runs, step_ahead}
 use Rattle.asl_rules.specs.private.Erasure.{erased}
-use Rattle.asl_cons.proofs.Covering.{value_constant_map}
+use Rattle.asl_cons.proofs.Covering.{int_end}
+use Rattle.asl_rules.proofs.widths.Totals.{begun, fits_of}
+use Rattle.asl_rules.proofs.widths.WidthsHeld.{CountsHeld}
 use Rattle.asl_rules.proofs.basics.Inversions.{ok_ok, bind_ok, then_ok, need_ok, found_ok}
-use Rattle.asl_laws.proofs.expressions.MemberNamed.{member_ok}
+use Rattle.asl_laws.proofs.expressions.MemberNamed.{member_ok, member_room}
 use Rattle.asl_rules.proofs.basics.Tests.{both}
 use Rattle.asl_rules.proofs.scopes.Naming.{WellNamed, well_declared}
-use Rattle.asl_laws.proofs.scopes.WellTyped.{member_formed, element_formed, bits_formed}
+use Rattle.asl_laws.proofs.scopes.WellTyped.{member_formed, fields_wide, element_formed, bits_formed}
+use Rattle.asl_laws.proofs.scopes.HeldRules.{sliced_held}
+use Rattle.asl_laws.proofs.widths.PresentNumbers.{counts_held}
 use Rattle.asl_laws.proofs.values.Sliced.{all_widths}
-use Rattle.asl_laws.proofs.expressions.SliceForms.{all_say, from_nothing}
+use Rattle.asl_laws.proofs.expressions.SliceForms.{all_say, sums_to}
 use Rattle.asl_laws.proofs.expressions.Claims.{Here, At}
 use Rattle.asl_laws.proofs.expressions.TreePlans.{Same, operand, append_nil, all_same, list_from}
 use Rattle.asl_laws.proofs.expressions.ExprForms.{env}
@@ -55,30 +58,47 @@ module _ (tests : Tests) (right : IsRight tests) (ds : List Decl) (base : List E
   member_leads H T span f m t e U ss ps n = field_step (env tests right ds base subs loose funcs w) (well_declared base w) H.present tests right T U span f.text m ss ps t.shaped e n
 
   -- the type behind a suffix is well formed
-  pub suffix_formed : (G : Scope) (y : TypedSuffix) (T : Ty) (b : Behind) → WellFormed (types_in base) T → behind_suffix y T G ≡ Ok b → WellFormed (types_in base) b.ty
-  suffix_formed G (by_field at f) T b t h =
-      let m = bind_ok (member_named f T) _ b h in
-      subst (λ (z : Behind). WellFormed (types_in base) z.ty) (ok_ok (behind (member_type m.value) (member_step at m.value)) b m.then) (member_formed tests right (types_in base) (well_declared base w) T f.text m.value t.shaped (member_ok f T m.value m.first))
-  suffix_formed G (by_bitfields at fs) T b t h =
-      let m = bind_ok (named_in_type at fs T) _ b h in
-      subst (λ (z : Behind). WellFormed (types_in base) z.ty) (ok_ok (behind (bits_wide (all_wide m.value)) _) b m.then) (bits_formed tests right (types_in base) (well_declared base w) _)
-  suffix_formed G (by_slices at ss os) T b t h =
-      let n = then_ok (need (is_bits T && all_integers os) T08 at) _ b h in
-      let v = bind_ok (sliced_width at ss G) _ b n.then in
-      subst (λ (z : Behind). WellFormed (types_in base) z.ty) (ok_ok (behind (bits_of v.value []) _) b v.then) (bits_formed tests right (types_in base) (well_declared base w) v.value)
-  suffix_formed G (by_element at I) T b t h =
-      let v = bind_ok (indexed at T I.ty) _ b h in
-      let e = bind_ok (found_or (element_in T) T08 at) _ v.value v.first in
-      let n = then_ok (need (is_integer I.ty) T08 at) (Ok e.value) v.value e.then in
+  pub suffix_formed : (G : Scope) (span : Span) (s : Suffix) (y : TypedSuffix) (T : Ty) (b : Behind) → CountsHeld G.names → WellFormed (types_in base) T → typed_suffix tests span s G ≡ Ok y → behind_suffix y T G ≡ Ok b →
+      WellFormed (types_in base) b.ty
+  suffix_formed G span (FieldOf f) y T b c t h g =
+      let g1 : behind_suffix (by_field span f) T G ≡ Ok b = subst (λ z. behind_suffix z T G ≡ Ok b) (sym (ok_ok (by_field span f) y h)) g in
+      let m = bind_ok (member_named f T) _ b g1 in
+      subst (λ (z : Behind). WellFormed (types_in base) z.ty) (ok_ok (behind (member_type m.value) (member_step span m.value)) b m.then)
+      (member_formed tests right (types_in base) (well_declared base w) T f.text m.value t.shaped (member_room f T m.value m.first) (member_ok f T m.value m.first))
+  suffix_formed G span (FieldsOf fs) y T b c t h g =
+      let g1 : behind_suffix (by_bitfields span fs) T G ≡ Ok b = subst (λ z. behind_suffix z T G ≡ Ok b) (sym (ok_ok (by_bitfields span fs) y h)) g in
+      let m = bind_ok (named_in_type span fs T) _ b g1 in
+      subst (λ (z : Behind). WellFormed (types_in base) z.ty) (ok_ok (behind (bits_wide (all_wide m.value)) _) b m.then)
+      (fields_wide tests right (types_in base) (well_declared base w) span fs T m.value m.first)
+  suffix_formed G span (SlicesOf sl) y T b c t h g =
+      let o = bind_ok (all_operands (found_slices tests sl) G) _ y h in
+      let g1 : behind_suffix (by_slices span (found_slices tests sl) o.value) T G ≡ Ok b = subst (λ z. behind_suffix z T G ≡ Ok b) (sym (ok_ok (by_slices span (found_slices tests sl) o.value) y o.then)) g in
+      let n = then_ok (need (is_bits T && all_integers o.value) T08 span) _ b g1 in
+      let v = bind_ok (sliced_width span (found_slices tests sl) G) _ b n.then in
+      subst (λ (z : Behind). WellFormed (types_in base) z.ty) (ok_ok (behind (bits_of v.value []) _) b v.then)
+      (bits_formed tests right (types_in base) (well_declared base w) v.value (sliced_held tests span sl G v.value c v.first))
+  suffix_formed G span (ElementOf e) y T b c t h g =
+      let I = bind_ok (typed tests e G) _ y h in
+      let g1 : behind_suffix (by_element span I.value) T G ≡ Ok b = subst (λ z. behind_suffix z T G ≡ Ok b) (sym (ok_ok (by_element span I.value) y I.then)) g in
+      let v = bind_ok (indexed span T I.value.ty) _ b g1 in
+      let x = bind_ok (found_or (element_in T) T08 span) _ v.value v.first in
+      let n = then_ok (need (is_integer I.value.ty) T08 span) (Ok x.value) v.value x.then in
       subst (λ (z : Behind). WellFormed (types_in base) z.ty) (ok_ok (behind v.value _) b v.then)
-      (element_formed tests right (types_in base) (well_declared base w) T v.value t.shaped (found_ok (element_in T) T08 at e.value e.first ∙ ap Some (ok_ok e.value v.value n.then)))
+      (element_formed tests right (types_in base) (well_declared base w) T v.value t.shaped (found_ok (element_in T) T08 span x.value x.first ∙ ap Some (ok_ok x.value v.value n.then)))
 
-  pub suffixes_formed : (G : Scope) (ys : List TypedSuffix) (T : Ty) (r : Reached) → WellFormed (types_in base) T → behind_suffixes ys T G ≡ Ok r → WellFormed (types_in base) r.ty
-  suffixes_formed G [] T r t h = subst (λ (z : Reached). WellFormed (types_in base) z.ty) (ok_ok (reached T []) r h) t
-  suffixes_formed G (y ∷ ys) T r t h =
-      let b = bind_ok (behind_suffix y T G) _ r h in
-      let q = bind_ok (behind_suffixes ys b.value.ty G) _ r b.then in
-      subst (λ (z : Reached). WellFormed (types_in base) z.ty) (ok_ok (reached q.value.ty (b.value.step ∷ q.value.steps)) r q.then) (suffixes_formed G ys b.value.ty q.value (suffix_formed G y T b.value t b.first) q.first)
+  pub suffixes_formed : (G : Scope) (i : Ident) (xs : List PlacedSuffix) (ys : List TypedSuffix) (T : Ty) (r : Reached) → CountsHeld G.names → WellFormed (types_in base) T → typed_suffixes tests i xs G ≡ Ok ys → behind_suffixes ys T G ≡ Ok r →
+      WellFormed (types_in base) r.ty
+  suffixes_formed G i [] ys T r c t h g =
+      let g1 : behind_suffixes [] T G ≡ Ok r = subst (λ z. behind_suffixes z T G ≡ Ok r) (sym (ok_ok [] ys h)) g in
+      subst (λ (z : Reached). WellFormed (types_in base) z.ty) (ok_ok (reached T []) r g1) t
+  suffixes_formed G i (x ∷ xs) ys T r c t h g =
+      let y = bind_ok (typed_suffix tests (up_to i x.end) x.suffix G) _ ys h in
+      let zs = bind_ok (typed_suffixes tests i xs G) _ ys y.then in
+      let g1 : behind_suffixes (y.value ∷ zs.value) T G ≡ Ok r = subst (λ z. behind_suffixes z T G ≡ Ok r) (sym (ok_ok (y.value ∷ zs.value) ys zs.then)) g in
+      let b = bind_ok (behind_suffix y.value T G) _ r g1 in
+      let q = bind_ok (behind_suffixes zs.value b.value.ty G) _ r b.then in
+      subst (λ (z : Reached). WellFormed (types_in base) z.ty) (ok_ok (reached q.value.ty (b.value.step ∷ q.value.steps)) r q.then)
+      (suffixes_formed G i xs zs.value b.value.ty q.value c (suffix_formed G (up_to i x.end) x.suffix y.value T b.value c t y.first b.first) zs.first q.first)
 
   -- ---- the operands of a suffix
 
@@ -110,9 +130,9 @@ module _ (tests : Tests) (right : IsRight tests) (ds : List Decl) (base : List E
       let p = both (is_bits T) (all_integers o.value) (need_ok (is_bits T && all_integers o.value) T08 span tt n.first) in
       let v = bind_ok (sliced_width span (found_slices tests sl) H.scope) _ b n.then in
       let z = bind_ok (all_add (found_slices tests sl) no_width H.scope) _ v.value v.first in
-      let u = then_ok _ (Ok z.value.sum) v.value z.then in
-      let sum_is : z.value.sum ≡ v.value = ok_ok z.value.sum v.value u.then in
-      let s = all_say tests right base subs loose H sl o.value no_width z.value o.first p.1 z.first in
+      let held = counts_held H.present base H.scope.names c a.agrees in
+      let fits = fits_of span z.value v.value z.then in
+      let s = all_say tests right base subs loose H held sl o.value no_width z.value o.first p.1 z.first in
       let shapes = shapes_of (found_slices tests sl) in
       let e = ok_ok (behind (bits_of v.value []) _) b v.then in
       subst (λ (x : Behind). Same tests right base subs loose H Q (eval_step (step_of span (SlicesOf sl)) c k) (eval_step (step_ahead x.step) (erased c) l)) e
@@ -120,7 +140,7 @@ module _ (tests : Tests) (right : IsRight tests) (ds : List Decl) (base : List E
       (all_same tests right base subs loose H Q (exprs_in slice_parts sl) (trees_in o.value) s.asked [] c (λ zs c1. k (into_slices span (shapes_in slice_parts sl) zs) c1) (λ zs c1. l (places.into_slices span shapes zs) c1) s.asks a
       (λ xs c1 i a1.
       let r = s.cuts xs i in
-      let wide = ap (λ q. width_at q H.present) (sym sum_is) ∙ r.adds ∙ ap (λ q. q +ℤ all_widths r.list) (value_constant_map H.present (pos 0)) ∙ sym (from_nothing (all_widths r.list)) in
+      let wide = sums_to H.present span z.value v.value (all_widths r.list) z.then (sliced_held tests span sl H.scope v.value held v.first) (r.adds begun fits (pos 0) (int_end (pos 0) H.present)) in
       next (into_slices span (shapes_in slice_parts sl) xs) (places.into_slices span shapes xs) c1
       (subst (λ (x : Behind). Leads H T x.ty (into_slices span (shapes_in slice_parts sl) xs) (places.into_slices span shapes xs)) e
       (λ U ss ps q. slices_step (env tests right ds base subs loose funcs w) (well_declared base w) H.present tests right T U span (shapes_in slice_parts sl) shapes xs r.list v.value ss ps s.shapes_are t.shaped p.0 r.are wide q)) a1)))
@@ -156,7 +176,7 @@ module _ (tests : Tests) (right : IsRight tests) (ds : List Decl) (base : List E
       let e = ok_ok (reached q.value.ty (b.value.step ∷ q.value.steps)) r q.then in
       subst (λ (z : Reached). Same tests right base subs loose H Q (eval_steps (steps_of i (x ∷ xs)) before c k) (eval_steps (map step_ahead z.steps) placed (erased c) l)) e
       (suffix_same H Q (up_to i x.end) x.suffix y.value T b.value c (λ n c1. eval_steps (steps_of i xs) (before ++ n ∷ []) c1 k) (λ n c1. eval_steps (map step_ahead q.value.steps) (placed ++ n ∷ []) c1 l) t y.first b.first a
-      (λ n m c1 lead a1. suffixes_same H Q i xs zs.value b.value.ty q.value (before ++ n ∷ []) (placed ++ m ∷ []) c1 k l (suffix_formed H.scope y.value T b.value t b.first) zs.first q.first a1
+      (λ n m c1 lead a1. suffixes_same H Q i xs zs.value b.value.ty q.value (before ++ n ∷ []) (placed ++ m ∷ []) c1 k l (suffix_formed H.scope (up_to i x.end) x.suffix y.value T b.value (counts_held H.present base H.scope.names c1 a1.agrees) t y.first b.first) zs.first q.first a1
       (λ ss ps c2 ways a2.
       subst (λ us. Same tests right base subs loose H Q (k us c2) (l ((placed ++ m ∷ []) ++ ps) (erased c2))) (sym (append_assoc before (n ∷ []) ss))
       (subst (λ us. Same tests right base subs loose H Q (k (before ++ n ∷ ss) c2) (l us (erased c2))) (sym (append_assoc placed (m ∷ []) ps))

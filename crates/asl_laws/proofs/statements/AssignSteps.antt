@@ -33,7 +33,7 @@ use Rattle.asl_rules.specs.private.ByPlace as places
 use Rattle.asl_rules.specs.private.ByPlace.{with_field_at, with_field_in}
 use Rattle.asl_rules.specs.values.Structures.{field_of, with_field_value, field_type, in_field, with_field, with_value_at, inside, element_of, with_element}
 use Rattle.asl_rules.specs.runs.Evaluation.{Step, into_field, into_fields, into_slices, into_element, updated, types_of}
-use Rattle.asl_cons.proofs.Covering.{value_constant_map}
+use Rattle.asl_rules.proofs.values.Rounded.{constant_at}
 use Rattle.asl_rules.proofs.basics.Inversions.{ok_ok, err_ok}
 use Rattle.asl_rules.proofs.basics.Tests.{no, both, and_true, some_same, none_some, same_name}
 use Rattle.asl_rules.proofs.values.Shapes.{named_parts, array_is}
@@ -245,7 +245,7 @@ module _ (d : List ℕ → Option Ty) (w : WellDeclared d) (av : Assignment) (te
       }
 
   wide_constant : (n m : ℕ) → n ≡ m → width_at (width_of (bits_wide n)) av ≡ pos m
-  wide_constant n m e = value_constant_map av (pos n) ∙ ap pos e
+  wide_constant n m e = constant_at av (pos n) ∙ ap pos e
 
   plus_nothing : (n : ℕ) → n ≡ n + 0
   plus_nothing n = omega arith
@@ -307,7 +307,7 @@ module _ (d : List ℕ → Option Ty) (w : WellDeclared d) (av : Assignment) (te
       }) j
   member_put span f (bits_of p u) m (bits_with bs v) y t e i j =
       subst (λ z. InType d av (bits_with bs z) (bits_of p u) → Put (bits_of p u) (bits_with bs z) (with_field types span f y (bits_with bs z)) (member_put_in span m y (bits_with bs z))) (same_view bs bs u v i.2)
-      (λ l. bitfield_by span f p u (bitfield_in f u) m bs y refl t e l j) i
+      (λ l. bitfield_by span f p u (bitfield_in f u) m bs y refl t.1 e l j) i
   member_put span f (named n supers T) m x y t e i j =
       let p = named_parts av x n supers T i.0 in
       let r = member_put span f T m x y t.2 e (p.1, i.1, i.2) j in
@@ -349,7 +349,7 @@ module _ (d : List ℕ → Option Ty) (w : WellDeclared d) (av : Assignment) (te
   bits_in : (T : Ty) (x : Value) → Shaped d T → is_bits T ≡ true → InType d av x T → BitsIn T x
   bits_in (bits_of p u) (bits_with bs v) t k i =
       let e = same_view bs bs u v i.2 in
-      record { bits = bs; view = v; is = refl; view_is = e; inside = λ is fs h. inside_of p u bs is fs t i.0 (subst (λ z. bitfields_in is z ≡ Ok fs) (sym e) h) }
+      record { bits = bs; view = v; is = refl; view_is = e; inside = λ is fs h. inside_of p u bs is fs t.1 i.0 (subst (λ z. bitfields_in is z ≡ Ok fs) (sym e) h) }
   bits_in (named n supers T) x t k i = let r = bits_in T x t.2 k ((named_parts av x n supers T i.0).1, i.1, i.2) in record { bits = r.bits; view = r.view; is = r.is; view_is = r.view_is; inside = r.inside }
   bits_in (integer_of ps) x t k i = no k
   bits_in boolean x t k i = no k

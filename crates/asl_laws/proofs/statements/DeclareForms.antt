@@ -20,12 +20,12 @@ use Rattle.asl_rules.specs.types.Closed.{Assignment, type_with, width_at}
 use Rattle.asl_rules.specs.declarations.Scopes.{Entry, Signature, Counted, atom_at, next_atom, is_free}
 use Rattle.asl_rules.specs.private.WellFormed.{WellFormed, Built}
 use Rattle.asl_rules.specs.runs.Trees as tree
-use Rattle.asl_rules.specs.runs.Trees.{TreeFunc, Taken}
+use Rattle.asl_rules.specs.runs.Trees.{TreeFunc}
 use Rattle.asl_rules.specs.expressions.Typing.{Typed, Width}
 use Rattle.asl_rules.specs.expressions.Exprs.{found, typed, written}
 use Rattle.asl_rules.specs.statements.Acting.{Done, done, operand_of, fits}
 use Rattle.asl_rules.specs.statements.Locals as rules
-use Rattle.asl_rules.specs.statements.Locals.{counted_as, initialised_as, is_var, unannotated, Initialised, initialised_with, initialised, type_declared, one_declared, none_declared, bound, bind_rule}
+use Rattle.asl_rules.specs.statements.Locals.{counted_as, initialised_as, is_var, unannotated, Initialised, initialised_with, initialised, type_declared, bind_rule}
 use Rattle.asl_rules.specs.values.Values.{Value, int, has, Exit}
 use Rattle.asl_rules.specs.types.Views.{viewed}
 use Rattle.asl_rules.specs.runs.States.{Under, of_type, of_value, Core, kept}
@@ -48,7 +48,7 @@ use Rattle.asl_rules.proofs.values.Constructs.{seen_is}
 use Rattle.asl_rules.proofs.expressions.OperatorForms.{is_int}
 use Rattle.asl_rules.proofs.scopes.Naming.{WellNamed, well_declared, scope_good}
 use Rattle.asl_laws.proofs.scopes.WellTyped.{FormedSubs, typed_formed, written_formed}
-use Rattle.asl_laws.proofs.widths.SameByWorth.{value_atom}
+use Rattle.asl_laws.proofs.widths.WholeWidths.{atom_counts}
 use Rattle.asl_laws.proofs.widths.TypesOver.{Over}
 use Rattle.asl_laws.proofs.scopes.OverScope.{EachOver}
 use Rattle.asl_laws.proofs.scopes.ScopesOver.{Below, type_same_on}
@@ -213,7 +213,7 @@ module _ (tests : Tests) (right : IsRight tests) (ds : List Decl) (base : List E
       operand_also tests right base subs loose (spot j) (OutAct tests right ds base subs loose funcs w j true) e d.value (of_width W) c (λ x c1. stores span i local.Let t x c1) (λ x c1. stores_bare span d.written x c1) s.typed_is g held.at
       (λ x c1 v l a. let p = s.placed x c1 v a in
       stored_same j span i local.Let t d.written (type_declared local.Let d.written d.value.ty) (Some (record { poly = W.poly; has_atom = b })) j.present x c1 q p (λ m k. refl) s.over s.formed free a held.scope_good
-      (sym p.seen ∙ ap (seen_where d.written) l ∙ int_seen j.present d.written (width_at W.poly j.present)))
+      (sym p.seen ∙ ap (seen_where d.written) l.0 ∙ int_seen j.present d.written (width_at W.poly j.present), l.1, l.2))
   one_counted j span i t e d (Err f) b c q g n s free held =
       let D = type_declared local.Let d.written d.value.ty in
       let m = next_atom j.body.scope.names in
@@ -221,7 +221,7 @@ module _ (tests : Tests) (right : IsRight tests) (ds : List Decl) (base : List E
       (λ x c1 v a. let p = s.placed x c1 v a in
       let z = is_int (types_in base) j.present tests right D p.value n p.belongs in
       stored_same j span i local.Let t d.written D (Some (atom_at m)) (extended m z.0 j.present) x c1 q p (extended_same j.body.scope.names z.0 j.present) s.over s.formed free a held.scope_good
-      (z.1 ∙ ap int (sym (value_atom (extended m z.0 j.present) m ∙ extended_at m z.0 j.present))))
+      (atom_counts (extended m z.0 j.present) m p.value z.0 z.1 (extended_at m z.0 j.present)))
 
   one_let : (j : StmtClaim) (span : Span) (i : Ident) (t : Option TypeExpr) (e : Expr) (d : Initialised) (x : Bool) (c : Core) → is_integer (type_declared local.Let d.written d.value.ty) ≡ x →
       (j.body.scope.names ++ rules.declared local.Let i.text (type_declared local.Let d.written d.value.ty) (cond x (Some (counted_as ((found tests e).width j.body.scope) ((found tests e).has_atom j.body.scope) (next_atom j.body.scope.names))) None) ∷ []) ≡ j.done.names →

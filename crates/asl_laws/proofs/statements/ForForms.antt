@@ -22,14 +22,14 @@ use Rattle.asl_rules.specs.Tests.{Tests, IsRight}
 use Rattle.asl_rules.specs.types.Types.{Ty, integer_of, is_integer}
 use Rattle.asl_rules.specs.types.Closed as cl
 use Rattle.asl_rules.specs.types.Views.{viewed}
-use Rattle.asl_rules.specs.types.Closed.{Closed, Assignment, type_with, width_at, end_at, in_one, in_some, not_above}
+use Rattle.asl_rules.specs.types.Closed.{Closed, Assignment, floor, ceiling, range_in, type_with, width_at, end_at, in_one, not_above}
 use Rattle.asl_rules.specs.types.Effects.{greater, all_together}
 use Rattle.asl_rules.specs.values.Operators.{less}
 use Rattle.asl_rules.specs.declarations.Scopes.{Scope, Entry, Signature, body_names, with_names, fixed, atom_at, next_atom, is_free}
 use Rattle.asl_rules.specs.private.WellFormed.{WellFormed}
 use Rattle.asl_rules.specs.runs.Trees as tree
 use Rattle.asl_rules.specs.runs.Trees.{TreeFunc, Act}
-use Rattle.asl_rules.specs.expressions.Typing.{Typed}
+use Rattle.asl_rules.specs.expressions.Typing.{Typed, Width}
 use Rattle.asl_rules.specs.types.Writing.{WrittenPart, range_rule, range_of_widths, range_of_numbers}
 use Rattle.asl_rules.specs.expressions.Exprs.{found, typed, width}
 use Rattle.asl_rules.specs.statements.Acting.{Done, Listed, done, block, operand_of}
@@ -46,17 +46,20 @@ use Rattle.asl_rules.specs.private.TypedMeaning.{BareCore, Runs, in_bare, acts_o
 use Rattle.asl_rules.specs.private.Erasure.{erased, values_of}
 use Rattle.asl_rules.proofs.basics.Inversions.{ok_ok, bind_ok, then_ok, need_ok}
 use Rattle.asl_rules.proofs.basics.Tests.{or_first, and_true, no}
-use Rattle.asl_rules.proofs.values.Constrained.{is_not_above, shown_is}
+use Rattle.asl_rules.proofs.values.Constrained.{is_not_above}
 use Rattle.asl_rules.proofs.expressions.OperatorForms.{is_int}
 use Rattle.asl_rules.proofs.scopes.Naming.{WellNamed, well_declared}
 use Rattle.asl_laws.proofs.scopes.WellTyped.{integer_formed}
-use Rattle.asl_laws.proofs.widths.SameByWorth.{value_atom}
+use Rattle.asl_laws.proofs.scopes.HeldRules.{range_by}
+use Rattle.asl_laws.proofs.widths.PresentNumbers.{counts_held}
+use Rattle.asl_laws.proofs.widths.WholeWidths.{whole_floor, whole_ceiling, whole_ends, atom_counts}
+use Rattle.asl_rules.proofs.widths.WidthsHeld.{CountsHeld}
 use Rattle.asl_laws.proofs.scopes.ScopesOver.{type_same_on}
 use Rattle.asl_laws.proofs.scopes.BodiesOver.{index_type_over}
 use Rattle.asl_laws.proofs.scopes.ScopesKept.{GoodScope, index_scope}
 use Rattle.asl_laws.proofs.scopes.Moved.{agrees_moved, extended, extended_at, extended_same}
 use Rattle.asl_laws.proofs.scopes.Agreeing.{declared_agrees, erased_declared}
-use Rattle.asl_laws.proofs.expressions.Claims.{Here, Asked, of_width, of_number, Answers, GivesAsked, StmtClaim, At}
+use Rattle.asl_laws.proofs.expressions.Claims.{Here, Asked, of_width, of_number, IsWidth, Answers, GivesAsked, StmtClaim, At}
 use Rattle.asl_laws.proofs.expressions.TreePlans.{operand, operand_also, append_nil}
 use Rattle.asl_rules.proofs.scopes.Longer.{Longer, list_longer, same_on_fewer, same_on_both}
 use Rattle.asl_laws.proofs.statements.StmtForms.{here, Held, OutAct, ActSame, Acted, acted, operand_typed, ended_is}
@@ -108,10 +111,15 @@ next_between Down first last i b h = (not_less (i -ℤ pos 1) last h, next_below
 abbrev Holds_index : Assignment → Ty → Direction → ℤ → ℤ → Type 0
 Holds_index a T d first last = (i : ℤ) → Between d first last i → has_type a (int i) T ≡ true
 
-in_range_of : (a : Assignment) (l h : End) (y v i : ℤ) → end_at l a ≡ y → end_at h a ≡ v → y ≤ℤ i → i ≤ℤ v → has_type a (int i) (integer_of (cons.part l h ∷ [])) ≡ true
+in_range_of : (a : Assignment) (l h : End) (y v i : ℤ) → ceiling (end_at l a) ≡ y → floor (end_at h a) ≡ v → y ≤ℤ i → i ≤ℤ v → has_type a (int i) (integer_of (cons.part l h ∷ [])) ≡ true
 in_range_of a l h y v i e f p q =
-    or_first (in_one i (record { low = end_at l a; high = end_at h a })) false
-    (and_true (not_above (end_at l a) i) (not_above i (end_at h a)) (is_not_above (end_at l a) i (subst (λ z. z ≤ℤ i) (sym e) p)) (is_not_above i (end_at h a) (subst (λ z. i ≤ℤ z) (sym f) q)))
+    or_first (in_one i (range_in (end_at l a) (end_at h a))) false
+    (and_true (not_above (ceiling (end_at l a)) i) (not_above i (floor (end_at h a)))
+    (is_not_above (ceiling (end_at l a)) i (subst (λ z. z ≤ℤ i) (sym e) p)) (is_not_above i (floor (end_at h a)) (subst (λ z. i ≤ℤ z) (sym f) q)))
+
+-- the integer of a width is whole, so it is the end of a range that the width is
+width_ends : (a : Assignment) (W : Width) (x : Value) → IsWidth a W.poly x → (ceiling (end_at (cons.shown W.poly) a) ≡ width_at W.poly a) × (floor (end_at (cons.shown W.poly) a) ≡ width_at W.poly a)
+width_ends a W x o = whole_ends a W.poly (width_at W.poly a) o.2 o.1
 
 pub viewed_int : (C : Closed) (z : ℤ) → viewed C (int z) ≡ int z
 viewed_int (cl.named n supers C) z = viewed_int C z
@@ -186,7 +194,7 @@ module _ (tests : Tests) (right : IsRight tests) (ds : List Decl) (base : List E
       let before = agrees_moved base names j.present later c held.scope_good.over.each s held.at.agrees in
       let more : Agrees base (names ++ entry ∷ []) later (declared i.text (int z) (of_value (int z)) false c) =
       declared_agrees base names later c entry (int z) (of_value (int z)) false before k.free (refl, refl, λ m. no m)
-      (record { name_is = refl; under_is = in_it; mutable_is = refl; well_formed = k.formed; belongs = in_it; known = tt; counts = ap int (sym (value_atom later n ∙ extended_at n z j.present)) }) in
+      (record { name_is = refl; under_is = in_it; mutable_is = refl; well_formed = k.formed; belongs = in_it; known = tt; counts = atom_counts later n (int z) z refl (extended_at n z j.present) }) in
       with_entry j entry (int z) (of_value (int z)) later l ss c k.listed held k.names s more (index_scope tests i d a b j.body k.free held.scope_good)
 
   type_later : (j : StmtClaim) (d : Direction) (a b : Expr) (later : Assignment) (c : Core) → HeldAt j c → SameOn j.body.scope.names j.present later → type_with (index_type tests d a b j.body.scope) j.present ≡ type_with (index_type tests d a b j.body.scope) later
@@ -232,12 +240,13 @@ module _ (tests : Tests) (right : IsRight tests) (ds : List Decl) (base : List E
   Follows j d T k l = (first last : ℤ) (c : Core) → Holds_index j.present T d first last → At tests base subs loose (spot j) c → Both j true (k (int first) (int last) c) (l (int first) (int last) (erased c))
 
   bounds_known : (j : StmtClaim) (d : Direction) (T : Ty) (a b : Expr) (S U : Typed) (p q : Asked) (y v : ℤ) (c : Core) (k : Go) (l : Run_on) → typed tests a j.body.scope ≡ Ok S → typed tests b j.body.scope ≡ Ok U → Answers tests p a j.body.scope → Answers tests q b j.body.scope →
-      ((x : Value) → GivesAsked (types_in base) j.present p x → x ≡ int y) → ((x : Value) → GivesAsked (types_in base) j.present q x → x ≡ int v) → Holds_index j.present T d y v → At tests base subs loose (spot j) c → Follows j d T k l →
+      ((x : Value) → GivesAsked (types_in base) j.present p x → x ≡ int y) → ((x : Value) → GivesAsked (types_in base) j.present q x → x ≡ int v) →
+      ((x z : Value) → GivesAsked (types_in base) j.present p x → GivesAsked (types_in base) j.present q z → Holds_index j.present T d y v) → At tests base subs loose (spot j) c → Follows j d T k l →
       Both j true (Eval a c (λ x c1. Eval b c1 (λ z c2. k x z c2))) (Eval S.tree (erased c) (λ x c1. Eval U.tree c1 (λ z c2. l x z c2)))
   bounds_known j d T a b S U p q y v c k l h g m n f r t at next =
       operand_also tests right base subs loose (spot j) (OutAct tests right ds base subs loose funcs w j true) a S p c (λ x c1. Eval b c1 (λ z c2. k x z c2)) (λ x c1. Eval U.tree c1 (λ z c2. l x z c2)) h m at
       (λ x c1 i o a1. operand_also tests right base subs loose (spot j) (OutAct tests right ds base subs loose funcs w j true) b U q c1 (λ z c2. k x z c2) (λ z c2. l x z c2) g n a1
-      (λ z c2 i2 o2 a2. subst (λ x1. Both j true (k x1 z c2) (l x1 z (erased c2))) (sym (f x o)) (subst (λ z1. Both j true (k (int y) z1 c2) (l (int y) z1 (erased c2))) (sym (r z o2)) (next y v c2 t a2))))
+      (λ z c2 i2 o2 a2. subst (λ x1. Both j true (k x1 z c2) (l x1 z (erased c2))) (sym (f x o)) (subst (λ z1. Both j true (k (int y) z1 c2) (l (int y) z1 (erased c2))) (sym (r z o2)) (next y v c2 (t x z o o2) a2))))
 
   bounds_unknown : (j : StmtClaim) (d : Direction) (T : Ty) (a b : Expr) (S U : Typed) (c : Core) (k : Go) (l : Run_on) → typed tests a j.body.scope ≡ Ok S → typed tests b j.body.scope ≡ Ok U → is_integer S.ty ≡ true → is_integer U.ty ≡ true →
       ((first last : ℤ) → Holds_index j.present T d first last) → At tests base subs loose (spot j) c → Follows j d T k l →
@@ -265,28 +274,28 @@ module _ (tests : Tests) (right : IsRight tests) (ds : List Decl) (base : List E
       let u = bind_ok (width tests a j.body.scope) _ r e in
       let v = bind_ok (width tests b j.body.scope) _ r u.then in
       subst (λ (z : WrittenPart). Follows j Up (integer_of (z.part ∷ [])) k l → Bounds j Up (integer_of (z.part ∷ [])) a b S U c k l) (ok_ok _ r v.then)
-      (bounds_known j Up (integer_of (cons.part (cons.shown u.value.poly) (cons.shown v.value.poly) ∷ [])) a b S U (of_width u.value) (of_width v.value) (width_at u.value.poly j.present) (width_at v.value.poly j.present) c k l h g u.first v.first (λ x o. o) (λ x o. o)
-      (λ i p. in_range_of j.present (cons.shown u.value.poly) (cons.shown v.value.poly) _ _ i (shown_is u.value.poly j.present) (shown_is v.value.poly j.present) p.0 p.1) at)
+      (bounds_known j Up (integer_of (cons.part (cons.shown u.value.poly) (cons.shown v.value.poly) ∷ [])) a b S U (of_width u.value) (of_width v.value) (width_at u.value.poly j.present) (width_at v.value.poly j.present) c k l h g u.first v.first (λ x o. o.0) (λ x o. o.0)
+      (λ x z o o2 i p. in_range_of j.present (cons.shown u.value.poly) (cons.shown v.value.poly) _ _ i (width_ends j.present u.value x o).0 (width_ends j.present v.value z o2).1 p.0 p.1) at)
   up_bounds false j r a b S U c k l e h g at =
       let u = bind_ok ((found tests a).number j.body.scope) _ r e in
       let v = bind_ok ((found tests b).number j.body.scope) _ r u.then in
       subst (λ (z : WrittenPart). Follows j Up (integer_of (z.part ∷ [])) k l → Bounds j Up (integer_of (z.part ∷ [])) a b S U c k l) (ok_ok _ r v.then)
       (bounds_known j Up (integer_of (cons.part (Int u.value.number) (Int v.value.number) ∷ [])) a b S U (of_number u.value) (of_number v.value) u.value.number v.value.number c k l h g u.first v.first (λ x o. o) (λ x o. o)
-      (λ i p. in_range_of j.present (Int u.value.number) (Int v.value.number) _ _ i refl refl p.0 p.1) at)
+      (λ x z o o2 i p. in_range_of j.present (Int u.value.number) (Int v.value.number) _ _ i (whole_ceiling u.value.number) (whole_floor v.value.number) p.0 p.1) at)
 
   down_bounds : (x : Bool) (j : StmtClaim) (r : WrittenPart) (a b : Expr) (S U : Typed) (c : Core) (k : Go) (l : Run_on) → (if_of x b a j.body.scope) ≡ Ok r → typed tests a j.body.scope ≡ Ok S → typed tests b j.body.scope ≡ Ok U → At tests base subs loose (spot j) c → Follows j Down (integer_of (r.part ∷ [])) k l → Bounds j Down (integer_of (r.part ∷ [])) a b S U c k l
   down_bounds true j r a b S U c k l e h g at =
       let v = bind_ok (width tests b j.body.scope) _ r e in
       let u = bind_ok (width tests a j.body.scope) _ r v.then in
       subst (λ (z : WrittenPart). Follows j Down (integer_of (z.part ∷ [])) k l → Bounds j Down (integer_of (z.part ∷ [])) a b S U c k l) (ok_ok _ r u.then)
-      (bounds_known j Down (integer_of (cons.part (cons.shown v.value.poly) (cons.shown u.value.poly) ∷ [])) a b S U (of_width u.value) (of_width v.value) (width_at u.value.poly j.present) (width_at v.value.poly j.present) c k l h g u.first v.first (λ x o. o) (λ x o. o)
-      (λ i p. in_range_of j.present (cons.shown v.value.poly) (cons.shown u.value.poly) _ _ i (shown_is v.value.poly j.present) (shown_is u.value.poly j.present) p.0 p.1) at)
+      (bounds_known j Down (integer_of (cons.part (cons.shown v.value.poly) (cons.shown u.value.poly) ∷ [])) a b S U (of_width u.value) (of_width v.value) (width_at u.value.poly j.present) (width_at v.value.poly j.present) c k l h g u.first v.first (λ x o. o.0) (λ x o. o.0)
+      (λ x z o o2 i p. in_range_of j.present (cons.shown v.value.poly) (cons.shown u.value.poly) _ _ i (width_ends j.present v.value z o2).0 (width_ends j.present u.value x o).1 p.0 p.1) at)
   down_bounds false j r a b S U c k l e h g at =
       let v = bind_ok ((found tests b).number j.body.scope) _ r e in
       let u = bind_ok ((found tests a).number j.body.scope) _ r v.then in
       subst (λ (z : WrittenPart). Follows j Down (integer_of (z.part ∷ [])) k l → Bounds j Down (integer_of (z.part ∷ [])) a b S U c k l) (ok_ok _ r u.then)
       (bounds_known j Down (integer_of (cons.part (Int v.value.number) (Int u.value.number) ∷ [])) a b S U (of_number u.value) (of_number v.value) u.value.number v.value.number c k l h g u.first v.first (λ x o. o) (λ x o. o)
-      (λ i p. in_range_of j.present (Int v.value.number) (Int u.value.number) _ _ i refl refl p.0 p.1) at)
+      (λ x z o o2 i p. in_range_of j.present (Int v.value.number) (Int u.value.number) _ _ i (whole_ceiling v.value.number) (whole_floor u.value.number) p.0 p.1) at)
 
   bounds_by : (j : StmtClaim) (d : Direction) (a b : Expr) (S U : Typed) (c : Core) (k : Go) (l : Run_on) → typed tests a j.body.scope ≡ Ok S → typed tests b j.body.scope ≡ Ok U → is_integer S.ty ≡ true → is_integer U.ty ≡ true → At tests base subs loose (spot j) c →
       (r : Result WrittenPart Fault) → by_direction d a b j.body.scope ≡ r → Follows j d (of_range r) k l → Bounds j d (of_range r) a b S U c k l
@@ -300,9 +309,14 @@ module _ (tests : Tests) (right : IsRight tests) (ds : List Decl) (base : List E
   type_is Up a b G = refl
   type_is Down a b G = refl
 
-  range_formed : (r : Result WrittenPart Fault) → WellFormed (types_in base) (of_range r)
-  range_formed (Ok p) = integer_formed tests right (types_in base) (well_declared base w) (p.part ∷ [])
-  range_formed (Err f) = integer_formed tests right (types_in base) (well_declared base w) []
+  range_formed : (a b : Expr) (G : Scope) (r : Result WrittenPart Fault) → CountsHeld G.names → range_rule (found tests a) (found tests b) G ≡ r → WellFormed (types_in base) (of_range r)
+  range_formed a b G (Ok p) h e =
+      integer_formed tests right (types_in base) (well_declared base w) (p.part ∷ []) (range_by tests ((found tests a).has_atom G || (found tests b).has_atom G) a b G p h e, tt)
+  range_formed a b G (Err f) h e = integer_formed tests right (types_in base) (well_declared base w) [] tt
+
+  index_formed : (d : Direction) (a b : Expr) (G : Scope) → CountsHeld G.names → WellFormed (types_in base) (index_type tests d a b G)
+  index_formed Up a b G h = range_formed a b G (range_rule (found tests a) (found tests b) G) h refl
+  index_formed Down a b G h = range_formed b a G (range_rule (found tests b) (found tests a) G) h refl
 
   pub for_acted : (j : StmtClaim) (span : Span) (i : Ident) (a : Expr) (d : Direction) (b : Expr) (limit : Option Expr) (ss : List Stmt) (c : Core) → for_rule tests span i a d b limit (map (found_stmt tests) ss) j.body ≡ Ok j.done → HeldAt j c → Acted tests right ds base subs loose funcs w j true (st.For span i a d b limit ss) c
   for_acted j span i a d b limit ss c h held =
@@ -322,7 +336,7 @@ module _ (tests : Tests) (right : IsRight tests) (ds : List Decl) (base : List E
       let T = index_type tests d a b G in
       acted tests right ds base subs loose funcs w j true (st.For span i a d b limit ss) c (done G.names e act) (ended_is G.class span (all_together Pure (S.effect ∷ U.effect ∷ [])) e G.names act j.done f.then) refl
       (λ z.
-      let loop : Loop j i d a b ss l.value = record { free = need_ok (is_free i.text G.names) T01 i.span tt r2.then; listed = l.first; formed = subst (WellFormed (types_in base)) (type_is d a b G) (range_formed (by_direction d a b G)); names = ap (λ (y : Done). y.names) z } in
+      let loop : Loop j i d a b ss l.value = record { free = need_ok (is_free i.text G.names) T01 i.span tt r2.then; listed = l.first; formed = index_formed d a b G (counts_held j.present base G.names c held.at.agrees); names = ap (λ (y : Done). y.names) z } in
       let go : Go = λ x y c2. limited span limit c2 (λ n c3. lift (whole_number span x) c3 (λ first. lift (whole_number span y) c3 (λ last. index_turns frames (with_index i) span d last ss n first c3))) in
       let run_on : Run_on = λ x y c2. limited span (tree_in m.value) c2 (λ n c3. lift (whole_number span x) c3 (λ first. lift (whole_number span y) c3 (λ last. index_turns in_bare indexed span d last (acts_of l.value.acts) n first c3))) in
       let next : Follows j d T go run_on = λ first last c2 t at.

@@ -23,8 +23,8 @@ use Rattle.asl_rules.specs.runs.Trees.{TreeFunc}
 use Rattle.asl_rules.specs.values.Members.{has_name}
 use Rattle.asl_rules.specs.statements.Acting.{Done, done}
 use Rattle.asl_rules.specs.statements.Locals as rules
-use Rattle.asl_rules.specs.statements.Locals.{is_var, Initialised, initialised, type_declared, part_declared, itself, taken, written_or, binders_free, bound_parts, bound_in, bind_rule}
-use Rattle.asl_rules.specs.values.Values.{Value, Values, int, tuple_with, no_value, value, has, parts_in, is_exception}
+use Rattle.asl_rules.specs.statements.Locals.{is_var, initialised, type_declared, part_declared, itself, taken, written_or, binders_free, bound_parts, bound_in, bind_rule}
+use Rattle.asl_rules.specs.values.Values.{Value, Values, tuple_with, no_value, value, has, parts_in, is_exception}
 use Rattle.asl_rules.specs.types.Views.{viewed}
 use Rattle.asl_rules.specs.runs.States.{Under, of_type, of_value, Core, kept}
 use Rattle.asl_rules.specs.private.Belonging.{InType}
@@ -36,7 +36,7 @@ use Rattle.asl_rules.specs.values.Structures.{values_in, parts}
 use Rattle.asl_rules.specs.runs.StatementForms.{done_normal}
 use Rattle.asl_rules.specs.runs.Evaluation.{declared, unders_of_values, unders_of_parts, unders_in, unders_or, declare_each, bound_to}
 use Rattle.asl_rules.specs.private.TypedMeaning as bare
-use Rattle.asl_rules.specs.private.TypedMeaning.{BareCore, with_next, parts_taken}
+use Rattle.asl_rules.specs.private.TypedMeaning.{with_next, parts_taken}
 use Rattle.asl_rules.specs.private.Erasure.{erased, values_of}
 use Rattle.asl_rules.proofs.basics.Inversions.{bind_ok, then_ok, found_ok}
 use Rattle.asl_rules.proofs.basics.Tests.{no, both, some_same, none_some}
@@ -45,7 +45,7 @@ use Rattle.asl_rules.proofs.values.Bare.{viewed_built}
 use Rattle.asl_rules.proofs.values.Constructs.{seen_is}
 use Rattle.asl_rules.proofs.expressions.OperatorForms.{is_int}
 use Rattle.asl_rules.proofs.scopes.Naming.{WellNamed}
-use Rattle.asl_laws.proofs.widths.SameByWorth.{value_atom}
+use Rattle.asl_laws.proofs.widths.WholeWidths.{atom_counts}
 use Rattle.asl_laws.proofs.widths.TypesOver.{AllOver, all_more}
 use Rattle.asl_laws.proofs.scopes.OverScope.{NamesOver}
 use Rattle.asl_laws.proofs.scopes.ScopesOver.{Below, type_same_on}
@@ -168,7 +168,7 @@ module _ (tests : Tests) (right : IsRight tests) (ds : List Decl) (base : List E
   next_by local.Let names a D y true q i =
       let z = is_int d a tests right D y q i in
       let n = next_atom names in
-      record { later = extended n z.0 a; same = extended_same names z.0 a; counts = z.1 ∙ ap int (sym (value_atom (extended n z.0 a) n ∙ extended_at n z.0 a)) }
+      record { later = extended n z.0 a; same = extended_same names z.0 a; counts = atom_counts (extended n z.0 a) n y z.0 z.1 (extended_at n z.0 a) }
 
   record Bindings (span : Span) (bs : List Binder) (kind : LocalKind) (us : List Under) (xs ys : List Value) (names after : List Entry) (a : Assignment) (c : Core) : Type 0 where
     state : Core

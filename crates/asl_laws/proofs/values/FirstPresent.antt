@@ -1,106 +1,78 @@
--- The first value of a type belongs to it at the integers of the atoms: it is that of a type without atoms that is the same there.
-use Rattle.std.proofs.Common.{◌≡◌, ℕ, true, false, List, [], ◌∷◌, Option, Some, refl, sym, ap, ap₂, ◌∙◌, subst}
+-- The first value of a type belongs to it at the integers of the atoms, where it is one: a width that isn't whole there has none.
+use Rattle.std.proofs.Common.{◌≡◌, ℕ, zero, suc, ◌&&◌, true, List, Option, refl, sym, ap, ap₂, ◌∙◌, subst}
+use Rattle.std.specs.Prelude.{◌==◌}
 use Rattle.asl_syn.specs.declared.token.Span.{Span}
-use Rattle.asl_poly.specs.Terms.{Polynomial}
-use Rattle.asl_poly.specs.Poly.{constant_map}
-use Rattle.asl_cons.proofs.Covering.{value_constant_map}
-use Rattle.asl_cons.specs.declared.End.TheVariants.{Int}
-use Rattle.asl_cons.specs.declared.Part.{Part}
-use Rattle.asl_cons.specs.Arithmetic as cons
-use Rattle.asl_rules.specs.types.Types as ty
-use Rattle.asl_rules.specs.types.Types.{Ty, Parts, integer_of, boolean, bits_of, enumeration_of, record_of, exception_of, tuple_of, array_of, named, no_part, part, kind, kinds}
+use Rattle.asl_rules.specs.types.Types.{Ty, Parts, integer_of, boolean, bits_of, enumeration_of, record_of, exception_of, tuple_of, array_of, named, no_part, part, kind, kind_eq}
 use Rattle.asl_rules.specs.types.Closed as cl
-use Rattle.asl_rules.specs.types.Closed.{Assignment, Closed, Range, width_at, end_at, ranges_at, constraint_at, type_with, parts_with, closed}
-use Rattle.asl_rules.specs.values.Values.{Value, has}
-use Rattle.asl_rules.specs.types.Views.{viewed}
-use Rattle.asl_rules.specs.private.WellFormed.{WellFormed, WellDeclared, Shaped, ShapedParts, ShapedView, is_nameless_exception}
+use Rattle.asl_rules.specs.types.Closed.{Assignment, Closed, first_in, width_at, constraint_at, type_with, parts_with, closed}
+use Rattle.asl_rules.specs.values.Values.{Value, Values, tuple_with, array_with, no_value, value, count, has, parts_in, all_in, repeated}
+use Rattle.asl_rules.specs.types.Views.{viewed, parts_viewed}
+use Rattle.asl_rules.specs.private.WellFormed.{WellFormed, WellDeclared, ShapedParts, BuiltAll}
 use Rattle.asl_rules.specs.private.Belonging.{InType}
-use Rattle.asl_rules.specs.private.Agreement.{no_atoms}
 use Rattle.asl_rules.specs.runs.Plans.{Good}
-use Rattle.asl_rules.specs.types.Written.{first_value}
-use Rattle.asl_rules.proofs.values.FirstValues.{first_in_type}
+use Rattle.asl_rules.specs.runs.Pures.{◌>>=◌}
+use Rattle.asl_rules.specs.types.Written.{first_value, first_parts}
+use Rattle.asl_rules.proofs.basics.Tests.{and_true}
+use Rattle.asl_rules.proofs.values.SameKind.{kind_is, number_is}
+use Rattle.asl_rules.proofs.values.FirstValues.{good_same, good_behind, first_is_in, first_integer_is, first_bits_are, count_repeated, all_repeated, repeated_seen, repeated_built, first_in_type}
 
 abbrev inside : Closed → Closed
 inside (cl.named name supers C) = C
 inside C = C
 
-module _ (av : Assignment) where
-  abbrev parts_fixed : List Part → List Part
-  parts_fixed [] = []
-  parts_fixed (p ∷ ps) = cons.part (Int (end_at p.low av)) (Int (end_at p.high av)) ∷ parts_fixed ps
+module _ (av : Assignment) (d : List ℕ → Option Ty) (wd : WellDeclared d) (limit : ℕ) (span : Span) where
+  -- a type that is the same without atoms
+  fixed_first : (T : Ty) → WellFormed d T → closed T ≡ type_with T av → (x : Value) → first_value limit span (type_with T av) ≡ Good x → InType d av x T
+  fixed_first T f e x h =
+      let i = first_in_type limit span d T f x (ap (first_value limit span) e ∙ h) in
+      (subst (λ C. has x C ≡ true) e i.0, i.1, subst (λ C. viewed C x ≡ x) e i.2)
 
-  abbrev mutual
-    without : Ty → Ty
-    without (integer_of ps) = integer_of (parts_fixed ps)
-    without (bits_of w u) = bits_of (constant_map (width_at w av)) u
-    without (tuple_of ts) = tuple_of (all_without ts)
-    without (array_of n T) = array_of n (without T)
-    without T = T
-
-    all_without : Parts → Parts
-    all_without no_part = no_part
-    all_without (part T ts) = part (without T) (all_without ts)
-
-  ranges_same : (ps : List Part) → ranges_at (parts_fixed ps) no_atoms ≡ ranges_at ps av
-  ranges_same [] = refl
-  ranges_same (p ∷ ps) = ap (λ rs. record { low = end_at p.low av; high = end_at p.high av } ∷ rs) (ranges_same ps)
-
-  constraint_same : (ps : List Part) → constraint_at (parts_fixed ps) no_atoms ≡ constraint_at ps av
-  constraint_same [] = refl
-  constraint_same (p ∷ ps) = ap Some (ranges_same (p ∷ ps))
+  elements_have : (n : ℕ) (x : Value) (T : Ty) → all_in (repeated n x) (type_with T av) ≡ true →
+      ((kind_eq (kind T) (kind T) && (count (repeated n x) == n)) && all_in (repeated n x) (type_with T av)) ≡ true
+  elements_have n x T h =
+      and_true (kind_eq (kind T) (kind T) && (count (repeated n x) == n)) (all_in (repeated n x) (type_with T av))
+      (and_true (kind_eq (kind T) (kind T)) (count (repeated n x) == n) (kind_is (kind T)) (subst (λ i. (i == n) ≡ true) (sym (count_repeated n x)) (number_is n))) h
 
   mutual
-    kind_without : (T : Ty) → kind (without T) ≡ kind T
-    kind_without (tuple_of ts) = ap ty.tuples (kinds_without ts)
-    kind_without (array_of n T) = ap (ty.arrays n) (kind_without T)
-    kind_without T = refl
+    first_present_in : (T : Ty) → WellFormed d T → (x : Value) → first_value limit span (type_with T av) ≡ Good x → InType d av x T
+    first_present_in (integer_of ps) f x h =
+        let r = first_integer_is span (first_in (constraint_at ps av)) x h in
+        subst (λ y. InType d av y (integer_of ps)) r.value_is (first_is_in (constraint_at ps av) r.one r.is, tt, refl)
+    first_present_in (bits_of w u) f x h =
+        let r = first_bits_are limit span (width_at w av) u x h in
+        subst (λ y. InType d av y (bits_of w u)) r.value_is (r.wide, tt, refl)
+    first_present_in boolean f x h = fixed_first boolean f refl x h
+    first_present_in (enumeration_of name labels) f x h = fixed_first (enumeration_of name labels) f refl x h
+    first_present_in (record_of name fs) f x h = fixed_first (record_of name fs) f (sym (ap inside (wd.fixed name _ f.shaped.0.stands av))) x h
+    first_present_in (exception_of name fs) f x h = fixed_first (exception_of name fs) f (sym (ap inside (wd.fixed name _ f.shaped.0.stands av))) x h
+    first_present_in (named name supers T) f x h = fixed_first (named name supers T) f (sym (wd.fixed name _ f.shaped.1.stands av)) x h
+    first_present_in (tuple_of ts) f x h =
+        let r = good_behind (first_parts limit span (parts_with ts av)) (λ xs. Good (tuple_with xs)) x h in
+        let p = parts_present ts f.shaped r.one r.is in
+        subst (λ y. InType d av y (tuple_of ts)) (good_same (tuple_with r.one) x r.then) (p.0, p.1, ap (λ ys. tuple_with ys) p.2)
+    first_present_in (array_of zero T) f x h =
+        subst (λ y. InType d av y (array_of zero T)) (good_same (array_with (kind T) no_value) x h) (elements_have zero (tuple_with no_value) T refl, tt, refl)
+    first_present_in (array_of (suc n) T) f x h =
+        let r = good_behind (first_value limit span (type_with T av)) (λ y. Good (array_with (kind T) (repeated (suc n) y))) x h in
+        let p = first_present_in T (record { shaped = f.shaped.1; has_name = f.shaped.0 }) r.one r.is in
+        subst (λ y. InType d av y (array_of (suc n) T)) (good_same (array_with (kind T) (repeated (suc n) r.one)) x r.then) (
+          elements_have (suc n) r.one T (all_repeated (suc n) r.one (type_with T av) p.0),
+          repeated_built d (suc n) r.one p.1,
+          ap (λ ys. array_with (kind T) ys) (repeated_seen (suc n) r.one (type_with T av) p.2),
+        )
 
-    kinds_without : (ts : Parts) → kinds (all_without ts) ≡ kinds ts
-    kinds_without no_part = refl
-    kinds_without (part T ts) = ap₂ ty.one_more (kind_without T) (kinds_without ts)
+    parts_present : (ts : Parts) → ShapedParts d ts → (xs : Values) → first_parts limit span (parts_with ts av) ≡ Good xs →
+        (parts_in xs (parts_with ts av) ≡ true) × BuiltAll d xs × (parts_viewed (parts_with ts av) xs ≡ xs)
+    parts_present no_part s xs h =
+        subst (λ ys. (parts_in ys (parts_with no_part av) ≡ true) × BuiltAll d ys × (parts_viewed (parts_with no_part av) ys ≡ ys)) (good_same no_value xs h) (refl, tt, refl)
+    parts_present (part T ts) s xs h =
+        let r = good_behind (first_value limit span (type_with T av)) (λ x. first_parts limit span (parts_with ts av) >>= λ ys. Good (value x ys)) xs h in
+        let q = good_behind (first_parts limit span (parts_with ts av)) (λ ys. Good (value r.one ys)) xs r.then in
+        let a = first_present_in T (record { shaped = s.1; has_name = s.0 }) r.one r.is in
+        let b = parts_present ts s.2 q.one q.is in
+        subst (λ ys. (parts_in ys (parts_with (part T ts) av) ≡ true) × BuiltAll d ys × (parts_viewed (parts_with (part T ts) av) ys ≡ ys)) (good_same (value r.one q.one) xs q.then)
+        (and_true (has r.one (type_with T av)) (parts_in q.one (parts_with ts av)) a.0 b.0, (a.1, b.1), ap₂ (λ y ys. value y ys) a.2 b.2)
 
-  name_without : (T : Ty) → is_nameless_exception T ≡ false → is_nameless_exception (without T) ≡ false
-  name_without (integer_of ps) h = refl
-  name_without (bits_of w u) h = refl
-  name_without (tuple_of ts) h = refl
-  name_without (array_of n T) h = refl
-  name_without T h = h
-
-  module _ (d : List ℕ → Option Ty) (wd : WellDeclared d) where
-    mutual
-      closed_without : (T : Ty) → Shaped d T → closed (without T) ≡ type_with T av
-      closed_without (integer_of ps) s = ap cl.integer_in (constraint_same ps)
-      closed_without boolean s = refl
-      closed_without (bits_of w u) s = ap (λ z. cl.bits_of z u) (value_constant_map no_atoms (width_at w av))
-      closed_without (enumeration_of name labels) s = refl
-      closed_without (record_of name fs) s = sym (ap inside (wd.fixed name _ s.0.stands av))
-      closed_without (exception_of name fs) s = sym (ap inside (wd.fixed name _ s.0.stands av))
-      closed_without (tuple_of ts) s = ap cl.tuple_of (parts_without ts s)
-      closed_without (array_of n T) s = ap (λ k. cl.array_of n k (closed (without T))) (kind_without T) ∙ ap (cl.array_of n (kind T)) (closed_without T s.1)
-      closed_without (named name supers T) s = sym (wd.fixed name _ s.1.stands av)
-
-      parts_without : (ts : Parts) → ShapedParts d ts → parts_with (all_without ts) no_atoms ≡ parts_with ts av
-      parts_without no_part s = refl
-      parts_without (part T ts) s = ap₂ cl.part (closed_without T s.1) (parts_without ts s.2)
-
-    view_without : (w : Polynomial) (u : ty.View) → ShapedView w u → ShapedView (constant_map (width_at w av)) u
-    view_without w [] s = tt
-    view_without w (f ∷ fs) s = (s.0, (λ a. value_constant_map a (width_at w av) ∙ s.1 av), s.2)
-
-    mutual
-      shaped_without : (T : Ty) → Shaped d T → Shaped d (without T)
-      shaped_without (bits_of w u) s = view_without w u s
-      shaped_without (tuple_of ts) s = all_shaped ts s
-      shaped_without (array_of n T) s = (name_without T s.0, shaped_without T s.1)
-      shaped_without (integer_of ps) s = tt
-      shaped_without T s = s
-
-      all_shaped : (ts : Parts) → ShapedParts d ts → ShapedParts d (all_without ts)
-      all_shaped no_part s = tt
-      all_shaped (part T ts) s = (name_without T s.0, shaped_without T s.1, all_shaped ts s.2)
-
-    pub first_present : (limit : ℕ) (span : Span) (T : Ty) → WellFormed d T → (x : Value) → first_value limit span (type_with T av) ≡ Good x → InType d av x T
-    first_present limit span T f x h =
-        let e = closed_without T f.shaped in
-        let i = first_in_type limit span d (without T) (record { shaped = shaped_without T f.shaped; has_name = name_without T f.has_name }) x (ap (first_value limit span) e ∙ h) in
-        (subst (λ C. has x C ≡ true) e i.0, i.1, subst (λ C. viewed C x ≡ x) e i.2)
+module _ (av : Assignment) (d : List ℕ → Option Ty) (wd : WellDeclared d) where
+  pub first_present : (limit : ℕ) (span : Span) (T : Ty) → WellFormed d T → (x : Value) → first_value limit span (type_with T av) ≡ Good x → InType d av x T
+  first_present limit span T f x h = first_present_in av d wd limit span T f x h

@@ -27,7 +27,9 @@ use Rattle.asl_laws.proofs.expressions.Twins.{SameEnd}
 use Rattle.asl_laws.proofs.soundness.SoundnessVisits.{AllHold, twins_visits, visits_hold}
 use Rattle.asl_laws.proofs.soundness.SoundnessEnds.{CallSame}
 use Rattle.asl_laws.proofs.runs.Several.{Several, one, two, expr_enters, stmt_enters}
-use Rattle.asl_laws.proofs.expressions.Claims.{Here, Asked, of_type, of_pure, of_width, of_number, of_known, tree_asked, GivesAsked, StmtClaim, At, Over, Ends, ExprIn, StmtIn, our_each, our, around_of}
+use Rattle.asl_laws.proofs.expressions.Claims.{Here, Asked, of_type, of_pure, of_width, of_number, of_known, of_divisor, tree_asked, GivesAsked, StmtClaim, At, Over, Ends, ExprIn, StmtIn, our_each, our, around_of}
+use Rattle.asl_rules.proofs.widths.WidthForms.{is_written}
+use Rattle.asl_laws.proofs.expressions.WidthTrees.{divisor_as, divisor_typed}
 use Rattle.asl_laws.proofs.expressions.AllExprs.{Others}
 use Rattle.asl_laws.proofs.statements.AllStmts.{OtherStmts, all_forms, all_meet}
 use Rattle.asl_laws.specs.Visited.{TreeDoes, ActDoes, ExprSame, StmtSame, NodeSame, AllSame}
@@ -80,12 +82,20 @@ module _ (tests : Tests) (right : IsRight tests) (ds : List Decl) (asked : Enter
         (λ d h. same_end (λ c1. GlobalsMatch base c1.globals) (λ y c1. Ends tests base subs false j (falls x) y c1) (λ y c1. Over tests base subs false j.body.scope.names j.present j.around y c1)
         ((meaning (environment tests ds) d).stmt x c h) ((tree_meaning (trees_of tests whole) d).stmt t (erased c) h) ((all_meet tests right ds base subs false funcs w s (o false) (q false) d).stmt (one (j, falls x)) x t c h (p, refl)))
 
+    typed_same : (H : Here) (S : Typed) (e : Expr) (t : Tree) (c : Core) → ExprIn tests base subs false H (of_type S) e t c → ExprSame tests ds whole e c
+    typed_same H S e t c p = record { scope = H.scope; present = H.present; subs_are = p.at.subs_are; stands = expr_stands tests right ds asked main subs funcs w s (o true) (q true) H (of_type S) e t c p; judged = inl (S, p.answers, expr_does H (of_type S) e t c p, find (asked_in tests right ds asked main subs funcs w s (o true) (q true) H (of_type S)) S e c p.answers (anywhere (asked_in tests right ds asked main subs funcs w s (o true) (q true) H (of_type S)) c p.at.agrees p.at.subs_are p.at.around_is)); agrees = p.at.agrees }
+
     expr_same : (H : Here) (i : Asked) (e : Expr) (t : Tree) (c : Core) → ExprIn tests base subs false H i e t c → ExprSame tests ds whole e c
-    expr_same H (of_type S) e t c p = record { scope = H.scope; present = H.present; subs_are = p.at.subs_are; stands = expr_stands tests right ds asked main subs funcs w s (o true) (q true) H (of_type S) e t c p; judged = inl (S, p.answers, expr_does H (of_type S) e t c p, find (asked_in tests right ds asked main subs funcs w s (o true) (q true) H (of_type S)) S e c p.answers (anywhere (asked_in tests right ds asked main subs funcs w s (o true) (q true) H (of_type S)) c p.at.agrees p.at.subs_are p.at.around_is)); agrees = p.at.agrees }
+    expr_same H (of_type S) e t c p = typed_same H S e t c p
     expr_same H (of_pure S) e t c p = record { scope = with_class H.scope Pure; present = H.present; subs_are = p.at.subs_are; stands = expr_stands tests right ds asked main subs funcs w s (o true) (q true) H (of_pure S) e t c p; judged = inl (S, p.answers, expr_does H (of_pure S) e t c p, find (asked_in tests right ds asked main subs funcs w s (o true) (q true) H (of_pure S)) S e c p.answers (anywhere (asked_in tests right ds asked main subs funcs w s (o true) (q true) H (of_pure S)) c p.at.agrees p.at.subs_are p.at.around_is)); agrees = p.at.agrees }
     expr_same H (of_width W) e t c p = record { scope = H.scope; present = H.present; subs_are = p.at.subs_are; stands = expr_stands tests right ds asked main subs funcs w s (o true) (q true) H (of_width W) e t c p; judged = inr (inl (W, p.answers, expr_does H (of_width W) e t c p)); agrees = p.at.agrees }
     expr_same H (of_number N) e t c p = record { scope = H.scope; present = H.present; subs_are = p.at.subs_are; stands = expr_stands tests right ds asked main subs funcs w s (o true) (q true) H (of_number N) e t c p; judged = inr (inr (N, p.answers, expr_does H (of_number N) e t c p)); agrees = p.at.agrees }
     expr_same H (of_known S W) e t c p = record { scope = H.scope; present = H.present; subs_are = p.at.subs_are; stands = expr_stands tests right ds asked main subs funcs w s (o true) (q true) H (of_known S W) e t c p; judged = inl (S, p.answers.0, expr_does H (of_known S W) e t c p, find (asked_in tests right ds asked main subs funcs w s (o true) (q true) H (of_known S W)) S e c p.answers.0 (anywhere (asked_in tests right ds asked main subs funcs w s (o true) (q true) H (of_known S W)) c p.at.agrees p.at.subs_are p.at.around_is)); agrees = p.at.agrees }
+    -- a divisor is an integer, as any literal
+    expr_same H (of_divisor span k) e t c p =
+        let i = is_written tests e k p.answers.0 in
+        let S = divisor_as tests i.span k in
+        typed_same H S e S.tree c (record { answers = divisor_typed tests e k i H.scope; is_tree = refl; at = p.at })
 
     stmt_same : (j : StmtClaim) (x : Stmt) (t : Act) (c : Core) → StmtIn tests base subs false j x t c → StmtSame tests ds whole x c
     stmt_same j x t c p = record { body = j.body; done = j.done; present = j.present; subs_are = p.at.subs_are; stands = body_stands tests right ds asked main subs funcs w s (o true) (q true) j x t c p; judged = p.is_found; agrees = p.at.agrees; same = stmt_does j x t c p; chosen = find_stmt j x c p.is_found (anywhere (record { scope = j.body.scope; present = j.present; around = j.around }) c p.at.agrees p.at.subs_are p.at.around_is) }

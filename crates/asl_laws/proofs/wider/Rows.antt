@@ -4,7 +4,7 @@ use Rattle.std.proofs.Common.{sym, ap, ap₂, subst, ◌∙◌}
 use Rattle.std.specs.Prelude.{Result, ◌==◌, nat_le, ℤ, pos, negsuc}
 use Rattle.asl_syn.specs.declared.token.Span.{Span}
 use Rattle.asl_syn.specs.declared.code.Fault.{Fault}
-use Rattle.asl_syn.specs.declared.code.StaticCode.TheVariants.{S03, T05, T06, T11, T18, T20, T23}
+use Rattle.asl_syn.specs.declared.code.StaticCode.TheVariants.{S03, T05, T06, T11, T18, T19, T20, T23}
 use Rattle.asl_syn.specs.declared.tree.Ident.{Ident}
 use Rattle.asl_syn.specs.declared.tree.BinaryOperator.{BinaryOperator}
 use Rattle.asl_syn.specs.declared.tree.BinaryOperator.TheVariants as binary
@@ -15,16 +15,19 @@ use Rattle.asl_rules.specs.declared.effect.Effect.TheVariants.{Pure}
 use Rattle.asl_rules.specs.Faults.{◌>>=◌, ◌>>◌, need, found_or, fitted}
 use Rattle.asl_rules.specs.Tests.{Tests}
 use Rattle.asl_rules.specs.types.Types as ty
-use Rattle.asl_rules.specs.types.Types.{Ty, Parts, Widths, View, no_part, part, tuple_parts, misfit, misfit_inside, misfit_of_parts}
+use Rattle.asl_rules.specs.types.Types.{Ty, Parts, Widths, no_part, part, tuple_parts, misfit, misfit_inside, misfit_of_parts}
 use Rattle.asl_rules.specs.types.Types.{or_else, by_names, joined, join, same_kind, integer_of, boolean, bits_of, enumeration_of, record_of}
-use Rattle.asl_rules.specs.types.Types.{exception_of, tuple_of, array_of, named, constraint_of, parts_of, element_of, width_of, is_bits}
+use Rattle.asl_rules.specs.types.Types.{exception_of, tuple_of, array_of, named, parts_of, element_of, width_of, is_bits}
 use Rattle.asl_rules.specs.types.Types.{is_boolean, substitute, only_width}
 use Rattle.asl_rules.specs.types.Effects.{together, greater, all_together, greatest}
 use Rattle.asl_rules.specs.declarations.Routines.{Routine, routine_named}
 use Rattle.asl_rules.specs.runs.Trees as tree
 use Rattle.asl_rules.specs.declarations.Scopes.{Scope, Signature, Param, Chosen, type_of_name, with_class}
-use Rattle.asl_rules.specs.types.Widths.{Total, plus, totalled}
-use Rattle.asl_rules.specs.expressions.Typing.{Found, Typed, Width, Operand, operand, operands, finish}
+use Rattle.asl_rules.specs.types.Widths.{Total, plus, totalled, width_combined, width_divided, number_combined, number_divided}
+use Rattle.asl_rules.specs.declared.joining.Joining.{Joining}
+use Rattle.asl_rules.specs.declared.joining.Joining.TheVariants.{Combines, Divides, JoinsNothing}
+use Rattle.asl_rules.specs.types.Arithmetic.{reading_of_two}
+use Rattle.asl_rules.specs.expressions.Typing.{Found, Typed, Width, Number, Operand, width_as, number_as, operand, operands, finish}
 use Rattle.asl_rules.specs.expressions.Operations.{operation_of_two, binary_rule}
 use Rattle.asl_rules.specs.values.Members.{element_at, construction, constructed, given_once, all_fit}
 use Rattle.asl_rules.specs.expressions.Slicing.{FoundSlice, all_operands, all_add, no_width, sliced_width, sliceable, slices_behind}
@@ -40,7 +43,8 @@ use Rattle.asl_rules.specs.expressions.Calls.{fits_written, params_fit, argument
 use Rattle.asl_rules.specs.expressions.Calls.{routine_taken, routine_called, function_called, function_of, function_rule, procedure_called}
 use Rattle.asl_rules.specs.expressions.Calls.{procedure_of, procedure_rule}
 use Rattle.asl_rules.specs.expressions.Exprs.{FoundField, bits_rule_of, apart, conditional_of, conditional_rule, operation_rule_of_two}
-use Rattle.asl_rules.specs.expressions.Exprs.{tuple_rule, values_given, names_given, construct_rule, element_rule}
+use Rattle.asl_rules.specs.expressions.Exprs.{tuple_rule, values_given, names_given, construct_rule, element_rule, width_of as read_width, number_of, names_atom}
+use Rattle.asl_rules.specs.expressions.Exprs.{combined_tree, divided_tree}
 use Rattle.asl_rules.specs.values.Vectors.{literal_digits, literal_of}
 use Rattle.asl_laws.proofs.wider.Steps.{within_both}
 use Rattle.asl_laws.proofs.wider.Stays.{Stays, stays_same, stays_equal, stays_bind, stays_step, stays_then, stays_after, stays_need}
@@ -55,6 +59,42 @@ pub record FoundStays (e f : Found) : Type 0 where
   pub width_same : (G : Scope) → f.width G ≡ e.width G
   pub number_same : (G : Scope) → f.number G ≡ e.number G
   pub atom_same : (G : Scope) → f.has_atom G ≡ e.has_atom G
+  pub divisor_same : f.divisor ≡ e.divisor
+
+-- ---- operations in widths
+
+-- a divisor, and where it stands
+abbrev divisor_of : Found → Option ℕ × Span
+divisor_of f = (f.divisor, f.span)
+
+divisors_same : (e f : Found) → FoundStays e f → divisor_of f ≡ divisor_of e
+divisors_same e f s = ap₂ (λ d span. (d, span)) s.divisor_same s.span_same
+
+pub two_width : (span : Span) (j : Joining) (e f g h : Found) (G : Scope) → FoundStays e g → FoundStays f h →
+    read_width span (reading_of_two j g h) G ≡ read_width span (reading_of_two j e f) G
+two_width span (Combines o) e f g h G s t =
+    ap₂ (λ (x y : Result Width Fault). x >>= λ p. y >>= λ q. width_combined span o p.poly q.poly >>= λ r. Ok (width_as r (combined_tree span o p.tree q.tree)))
+    (s.width_same G) (t.width_same G)
+two_width span Divides e f g h G s t =
+    ap₂ (λ (x : Result Width Fault) (d : Option ℕ × Span). x >>= λ p. found_or d.0 T19 span >>= λ k. width_divided span p.poly k >>= λ r. Ok (width_as r (divided_tree span p.tree d.1 k)))
+    (s.width_same G) (divisors_same f h t)
+two_width span JoinsNothing e f g h G s t = refl
+
+pub two_number : (span : Span) (j : Joining) (e f g h : Found) (G : Scope) → FoundStays e g → FoundStays f h →
+    number_of span (reading_of_two j g h) G ≡ number_of span (reading_of_two j e f) G
+two_number span (Combines o) e f g h G s t =
+    ap₂ (λ (x y : Result Number Fault). x >>= λ p. y >>= λ q. number_combined span o p.number q.number >>= λ n. Ok (number_as n (combined_tree span o p.tree q.tree)))
+    (s.number_same G) (t.number_same G)
+two_number span Divides e f g h G s t =
+    ap₂ (λ (x : Result Number Fault) (d : Option ℕ × Span). x >>= λ p. found_or d.0 T19 span >>= λ k. number_divided span p.number k >>= λ n. Ok (number_as n (divided_tree span p.tree d.1 k)))
+    (s.number_same G) (divisors_same f h t)
+two_number span JoinsNothing e f g h G s t = refl
+
+pub two_atom : (j : Joining) (e f g h : Found) (G : Scope) → FoundStays e g → FoundStays f h →
+    names_atom (reading_of_two j g h) G ≡ names_atom (reading_of_two j e f) G
+two_atom (Combines o) e f g h G s t = ap₂ (λ x y. x || y) (s.atom_same G) (t.atom_same G)
+two_atom Divides e f g h G s t = ap₂ (λ x y. x || y) (s.atom_same G) (t.atom_same G)
+two_atom JoinsNothing e f g h G s t = refl
 
 pub record SliceStays (s q : FoundSlice) : Type 0 where
   pub operands_stay : (G : Scope) → Stays (s.operands G) (q.operands G)

@@ -1,7 +1,7 @@
 -- Runs under a wider limit: each node does the same, or is too wide under the narrower one; so do calls from outside, and calls for words.
 use Rattle.std.proofs.Common.{◌≡◌, ℕ, zero, suc, ◌+◌, ◌≤◌, pos, Bool, true, false, ◌&&◌, cond, inl, inr, ◌⊎◌, List, [], ◌∷◌, ◌++◌, Option}
 use Rattle.std.proofs.Common.{Some, None, refl, sym, ap, ap₂, subst, map}
-use Rattle.std.specs.Prelude.{slice_get, option_and_then}
+use Rattle.std.specs.Prelude.{slice_get}
 use Rattle.std.specs.Str.{bytes_eq}
 use Rattle.asl_syn.specs.declared.token.Span.{Span}
 use Rattle.asl_syn.specs.declared.code.DynCode.TheVariants.{D11, D12}
@@ -29,12 +29,12 @@ use Rattle.asl_rules.specs.declarations.Programs.{Environment, funcs_of, origin,
 use Rattle.asl_rules.specs.statements.Locals.{is_var}
 use Rattle.asl_rules.specs.values.Values.{Value, Exit}
 use Rattle.asl_rules.specs.runs.States.{Binding, Core, entered, restored, resting}
-use Rattle.asl_rules.specs.types.Numbers.{Numbers, present, outside, all_numbers}
+use Rattle.asl_rules.specs.types.Numbers.{Numbers, present, outside}
 use Rattle.asl_rules.specs.declarations.Routines.{Routine, routine_named}
 use Rattle.asl_rules.specs.values.Library.{routine_value}
 use Rattle.asl_rules.specs.values.Structures.{parts, field_of, element_of}
 use Rattle.asl_rules.specs.values.Vectors.{literal_bits, slices_of, slice_places, bitfields_named, bitfields_of, bits_at}
-use Rattle.asl_rules.specs.types.Written.{Sized, type_of_sized, converted, type_span, kind_written}
+use Rattle.asl_rules.specs.types.Written.{Sized, converted, type_span, kind_written}
 use Rattle.asl_rules.specs.types.Shaped.{exprs_in, shapes_in, slice_parts, pattern_parts, type_parts, shapes_of_patterns, sizes_in}
 use Rattle.asl_rules.specs.types.Shaped.{shape_of}
 use Rattle.asl_rules.specs.declarations.Constants.{constant}
@@ -57,7 +57,7 @@ use Rattle.asl_rules.specs.runs.Words.{WordsEnd, AllReturned, WordThrew, WordHal
 use Rattle.asl_rules.proofs.verdict.SameConstants.{pure_same}
 use Rattle.asl_laws.specs.Wider.{IsNarrow, WordsFitLimit}
 use Rattle.asl_laws.proofs.wider.Steps.{Wider, wider_same, wider_equal, wider_bind, wider_step}
-use Rattle.asl_laws.proofs.wider.Pures.{SizedSame, sized_same, sized_type, literal_wider, slices_wider, slice_places_wider}
+use Rattle.asl_laws.proofs.wider.Pures.{SizedSame, sized_same, literal_wider, slices_wider, slice_places_wider}
 use Rattle.asl_laws.proofs.wider.Pures.{with_slices_wider, bitfields_wider, with_bitfields_wider, routine_wider, is_matched_wider}
 use Rattle.asl_laws.proofs.wider.Pures.{matched_in_wider, converted_wider}
 use Rattle.asl_laws.proofs.wider.Plans.{OutWider, NarrowEnd, out_same, WiderMeaning, Widens, SameExpr, runs_relate, StoresWider}
@@ -72,13 +72,8 @@ module _ (env : Environment) (m : ℕ) (le : env.limit ≤ m) where
 
   -- ---- written types stand for the same
 
-  type_of : (t : TypeExpr) (o : Option (List Value)) →
-      option_and_then (λ zs. type_of_sized (sized_at wide t zs)) o ≡ option_and_then (λ zs. type_of_sized (sized_at env t zs)) o
-  type_of t None = refl
-  type_of t (Some zs) = sized_type env.limit m le (type_span t) zs (shape_of (types_of env) t)
-
   type_same : (f : Numbers) (t : TypeExpr) → type_at wide f t ≡ type_at env f t
-  type_same f t = type_of t (all_numbers f (sizes_in t))
+  type_same f t = refl
 
   stored_same : (c : Core) (t : Option TypeExpr) (x : Value) → stored_under wide c t x ≡ stored_under env c t x
   stored_same c None x = refl

@@ -2,6 +2,7 @@
 use Rattle.std.proofs.Common.{◌≡◌, ℕ, ◌≤◌, Bool, cond, ◌&&◌, ◌||◌, List, [], ◌∷◌, map, Ok, refl, sym, ap, ap₂, subst}
 use Rattle.std.specs.Prelude.{pos, ◌-ℤ◌}
 use Rattle.asl_syn.specs.declared.code.StaticCode.TheVariants.{T19}
+use Rattle.asl_syn.specs.declared.tree.UnaryOperator.{UnaryOperator}
 use Rattle.asl_syn.specs.declared.tree.UnaryOperator.TheVariants as unary
 use Rattle.asl_syn.specs.declared.tree.Bitfield.{Bitfield, roll-Bitfield}
 use Rattle.asl_syn.specs.declared.tree.ConstraintPart.{ConstraintPart, roll-ConstraintPart}
@@ -25,7 +26,10 @@ use Rattle.asl_rules.specs.runs.Trees as tree
 use Rattle.asl_rules.specs.declarations.Scopes.{Scope}
 use Rattle.asl_rules.specs.values.Vectors.{literal_digits}
 use Rattle.asl_rules.specs.types.Shapes as shape
-use Rattle.asl_rules.specs.types.Widths.{width_difference, held, has_width}
+use Rattle.asl_rules.specs.types.Widths.{width_difference, held}
+use Rattle.asl_rules.specs.declared.joining.Joining.{Joining}
+use Rattle.asl_rules.specs.declared.joining.Joining.TheVariants.{Combines, Divides, JoinsNothing}
+use Rattle.asl_rules.specs.types.Arithmetic.{joining, reading_of_one, reading_of_two, arithmetic, divisor}
 use Rattle.asl_rules.specs.expressions.Typing.{Found, Width, Number, width_as, number_as, width_note}
 use Rattle.asl_rules.specs.expressions.Operations.{operation}
 use Rattle.asl_rules.specs.values.Members.{field_behind, bitfields_behind}
@@ -34,14 +38,14 @@ use Rattle.asl_rules.specs.types.Writing.{FoundPart, FoundBitfield, FoundType}
 use Rattle.asl_rules.specs.expressions.Patterns.{FoundPattern, end_matched, value_matched, range_matched, set_matched, pure_typed}
 use Rattle.asl_rules.specs.expressions.Exprs.{FoundField, found, found_type, found_slice, found_pattern, typed_rule, width_rule}
 use Rattle.asl_rules.specs.expressions.Exprs.{number_rule, atom_rule, written_rule, expr_rule, given_rule, slice_rule, part_rule}
-use Rattle.asl_rules.specs.expressions.Exprs.{bitfield_rule, type_rule, pattern_rule, width_of_operation, number_of_operation, span_of}
+use Rattle.asl_rules.specs.expressions.Exprs.{bitfield_rule, type_rule, pattern_rule, span_of}
 use Rattle.asl_rules.specs.expressions.Exprs.{type_span}
 use Rattle.asl_laws.proofs.wider.Stays.{Stays, stays_same, stays_bind, Pairs, pairs_of}
 use Rattle.asl_laws.proofs.wider.Rows.{FoundStays, SliceStays, GivenStays, TypeStays, PatternStays, PartSame, BitfieldSame, wide_tests}
 use Rattle.asl_laws.proofs.wider.Rows.{operands_stay, range_same, only_same, one_bit_same, bit_range_same, high_low_adds, second_adds}
 use Rattle.asl_laws.proofs.wider.Rows.{slices_stay, all_match_stay, tuple_pattern_stays, pure_stays, in_stays, tuple_type_stays}
 use Rattle.asl_laws.proofs.wider.Rows.{array_stays, as_stays, integer_stays, unary_stays, element_stays, tuple_stays, bits_stays}
-use Rattle.asl_laws.proofs.wider.Rows.{binary_stays, conditional_stays, construct_stays, call_stays, mask_stays, bits_type_stays}
+use Rattle.asl_laws.proofs.wider.Rows.{binary_stays, conditional_stays, construct_stays, call_stays, mask_stays, bits_type_stays, two_width, two_number, two_atom}
 
 -- what is found at trees by these tests
 module _ (v : Tests) where
@@ -160,9 +164,7 @@ module _ (t : Tests) (m : ℕ) (le : t.limit ≤ m) where
       ap (λ r. r >>= λ (p : Width). width_difference span (constant_map (pos 0)) p.poly
       >>= λ q. Ok (width_as q (tree.Unary (width_note span) unary.Negate p.tree))) (a.1.width_same G)
   layer_width (ex.Unary span o a) G = refl
-  layer_width (ex.Binary span o a b) G =
-      ap₂ (λ r s. cond (has_width o) (r >>= λ p. s >>= λ q. width_of_operation span o p q) (fault T19 span)) (a.1.width_same G)
-      (b.1.width_same G)
+  layer_width (ex.Binary span o a b) G = two_width span (joining o) (found t a.0) (found t b.0) (found u a.0) (found u b.0) G a.1 b.1
   layer_width y G = refl
 
   layer_number : (y : ExprNode shown) (G : Scope) →
@@ -171,21 +173,35 @@ module _ (t : Tests) (m : ℕ) (le : t.limit ≤ m) where
       ap (λ r. r >>= λ (z : Number). held span (pos 0 -ℤ z.number)
       >>= λ n. Ok (number_as n (tree.Unary (width_note span) unary.Negate z.tree))) (a.1.number_same G)
   layer_number (ex.Unary span o a) G = refl
-  layer_number (ex.Binary span o a b) G =
-      ap₂ (λ r s. cond (has_width o) (r >>= λ y. s >>= λ z. number_of_operation span o y z) (fault T19 span)) (a.1.number_same G)
-      (b.1.number_same G)
+  layer_number (ex.Binary span o a b) G = two_number span (joining o) (found t a.0) (found t b.0) (found u a.0) (found u b.0) G a.1 b.1
   layer_number y G = refl
 
   layer_atom : (y : ExprNode shown) (G : Scope) →
       atom_rule (opened_expr u (expr_trees shown y)) G ≡ atom_rule (opened_expr t (expr_trees shown y)) G
   layer_atom (ex.Unary span unary.Negate a) G = a.1.atom_same G
   layer_atom (ex.Unary span o a) G = refl
-  layer_atom (ex.Binary span o a b) G = ap₂ (λ x y. has_width o && (x || y)) (a.1.atom_same G) (b.1.atom_same G)
+  layer_atom (ex.Binary span o a b) G = two_atom (joining o) (found t a.0) (found t b.0) (found u a.0) (found u b.0) G a.1 b.1
   layer_atom y G = refl
 
   layer_span : (y : ExprNode shown) → span_of (opened_expr u (expr_trees shown y)) ≡ span_of (opened_expr t (expr_trees shown y))
   layer_span (ex.Int span n) = refl
   layer_span y = refl
+
+  -- a divisor doesn't ask for what is found at parts
+  two_divisor : {E F : Type 0} (j : Joining) (a b : E) (c d : F) → divisor (reading_of_two j c d) ≡ divisor (reading_of_two j a b)
+  two_divisor (Combines o) a b c d = refl
+  two_divisor Divides a b c d = refl
+  two_divisor JoinsNothing a b c d = refl
+
+  one_divisor : {E F : Type 0} (o : UnaryOperator) (a : E) (c : F) → divisor (reading_of_one o c) ≡ divisor (reading_of_one o a)
+  one_divisor unary.Negate a c = refl
+  one_divisor unary.Not a c = refl
+  one_divisor unary.Complement a c = refl
+
+  layer_divisor : (y : ExprNode shown) → divisor (arithmetic (opened_expr u (expr_trees shown y))) ≡ divisor (arithmetic (opened_expr t (expr_trees shown y)))
+  layer_divisor (ex.Unary span o a) = one_divisor o (found t a.0) (found u a.0)
+  layer_divisor (ex.Binary span o a b) = two_divisor (joining o) (found t a.0) (found t b.0) (found u a.0) (found u b.0)
+  layer_divisor y = refl
 
   layer_expr : (y : ExprNode shown) → FoundStays (expr_rule t (opened_expr t (expr_trees shown y)))
       (expr_rule u (opened_expr u (expr_trees shown y)))
@@ -195,6 +211,7 @@ module _ (t : Tests) (m : ℕ) (le : t.limit ≤ m) where
     width_same = layer_width y;
     number_same = layer_number y;
     atom_same = layer_atom y;
+    divisor_same = layer_divisor y;
   }
 
   layer_given : (y : FieldValueNode shown) → GivenStays (given_rule (opened_given t (given_trees shown y)))

@@ -1,29 +1,30 @@
 -- The polynomial of a width expression by the static rule is the one that the expression has over what its names stand for, so that omitted parameters
 -- are found alike on both sides.
-use Rattle.std.proofs.Common.{◌≡◌, ℕ, List, ℤ, pos, Option, Some, None, sym, ap, ap₂, ◌∙◌}
+use Rattle.std.proofs.Common.{◌≡◌, ℕ, List, ℤ, pos, Option, Some, None, sym, ap, ◌∙◌}
 use Rattle.asl_syn.specs.declared.token.Span.{Span}
 use Rattle.asl_syn.specs.declared.tree.Expr.{Expr}
 use Rattle.asl_syn.specs.declared.tree.Bitfield.TheOpen as ex
 use Rattle.asl_syn.specs.declared.tree.UnaryOperator.TheVariants as unary
-use Rattle.asl_syn.specs.declared.tree.BinaryOperator.{BinaryOperator}
 use Rattle.asl_syn.specs.declared.tree.BinaryOperator.TheVariants as binary
 use Rattle.asl_syn.specs.declared.code.StaticCode.TheVariants.{T02, T05, T19, T20}
-use Rattle.std.specs.Prelude.{nat_le, Ok, option_and_then}
+use Rattle.std.specs.Prelude.{nat_le, Ok}
 use Rattle.asl_poly.specs.Terms.{Polynomial}
-use Rattle.asl_poly.specs.Poly.{constant_map, sum_map, difference_map, product_map}
-use Rattle.asl_cons.specs.Arithmetic.{sum_fits, product_fits}
-use Rattle.asl_rules.specs.Faults.{need, fault_of}
+use Rattle.asl_poly.specs.Poly.{constant_map, sum_map, difference_map, product_map, quotient_map, may_divide}
+use Rattle.asl_cons.specs.Arithmetic.{sum_fits, product_fits, quotient_fits}
+use Rattle.asl_rules.specs.declared.joining.Combination.{Combination}
+use Rattle.asl_rules.specs.declared.joining.Combination.TheVariants.{Sum, Difference, Product}
+use Rattle.asl_rules.specs.Faults.{◌>>◌, need, fault_of}
 use Rattle.asl_rules.specs.Tests.{Tests}
 use Rattle.asl_rules.specs.types.Types.{is_integer}
 use Rattle.asl_rules.specs.values.Values.{Value, int, bool, bits_with, label, record_with, exception_with, tuple_with, array_with}
 use Rattle.asl_rules.specs.declarations.Scopes.{Counted, Scope, Standing, Stored, Subprogram, TypeName, Label, standing_of, known_value}
 use Rattle.asl_poly.specs.WidthLimits.{heaviest}
-use Rattle.asl_rules.specs.types.Widths.{weight_of, width_of_number, width_of_known, width_of_counted, width_of_standing, width_of_binary, width_difference}
+use Rattle.asl_rules.specs.types.Widths.{weight_of, width_of_number, width_of_known, width_of_counted, width_of_standing, width_difference, width_combined, width_divided}
 use Rattle.asl_rules.specs.expressions.Typing.{Width}
 use Rattle.asl_rules.specs.expressions.Exprs.{width}
-use Rattle.asl_rules.specs.types.Arithmetic.{of_one, of_two}
+use Rattle.asl_rules.specs.types.Arithmetic.{of_two}
 use Rattle.asl_rules.specs.types.Alone.{Polynomials, polynomials, polynomial}
-use Rattle.asl_rules.proofs.widths.WorthForms.{worth_roll}
+use Rattle.asl_rules.proofs.widths.WorthForms.{worth_roll, worth_of_one, worth_of_operator, worth_of_two, worth_of_quotient, written_divisor}
 use Rattle.asl_rules.proofs.basics.Inversions.{ok_ok, err_ok, then_ok}
 use Rattle.asl_rules.proofs.widths.WidthForms.{WidthForms, by_width_forms}
 
@@ -68,11 +69,16 @@ standing_is span None p h = err_ok (fault_of T02 span) p h
 difference_is : (span : Span) (p q r : Polynomial) → width_difference span p q ≡ Ok r → r ≡ difference_map p q
 difference_is span p q r h = let u = then_ok (need (sum_fits p q) T20 span) (Ok (difference_map p q)) r h in sym (ok_ok (difference_map p q) r u.then)
 
-binary_is : (span : Span) (o : BinaryOperator) (p q r : Polynomial) → width_of_binary span o p q ≡ Ok r → of_two polynomials o p q ≡ Some r
-binary_is span binary.Add p q r h = let u = then_ok (need (sum_fits p q) T20 span) (Ok (sum_map p q)) r h in ap Some (ok_ok (sum_map p q) r u.then)
-binary_is span binary.Subtract p q r h = ap Some (sym (difference_is span p q r h))
-binary_is span binary.Multiply p q r h = let u = then_ok (need (product_fits p q) T20 span) (Ok (product_map p q)) r h in ap Some (ok_ok (product_map p q) r u.then)
-binary_is span o p q r h = err_ok (fault_of T19 span) r h
+combined_is : (span : Span) (o : Combination) (p q r : Polynomial) → width_combined span o p q ≡ Ok r → r ≡ of_two polynomials o p q
+combined_is span Sum p q r h = let u = then_ok (need (sum_fits p q) T20 span) (Ok (sum_map p q)) r h in sym (ok_ok (sum_map p q) r u.then)
+combined_is span Difference p q r h = difference_is span p q r h
+combined_is span Product p q r h = let u = then_ok (need (product_fits p q) T20 span) (Ok (product_map p q)) r h in sym (ok_ok (product_map p q) r u.then)
+
+divided_is : (span : Span) (p r : Polynomial) (k : ℕ) → width_divided span p k ≡ Ok r → r ≡ quotient_map p k
+divided_is span p r k h =
+    let u = then_ok (need (may_divide k p) T19 span) (need (quotient_fits p k) T20 span >> Ok (quotient_map p k)) r h in
+    let v = then_ok (need (quotient_fits p k) T20 span) (Ok (quotient_map p k)) r u.then in
+    sym (ok_ok (quotient_map p k) r v.then)
 
 number_is : (span : Span) (z : ℤ) (p : Polynomial) → width_of_number span z ≡ Ok p → p ≡ constant_map z
 number_is span z p h = let u = then_ok (need (nat_le (weight_of z) heaviest) T20 span) (Ok (constant_map z)) p h in sym (ok_ok (constant_map z) p u.then)
@@ -90,8 +96,10 @@ module _ (t : Tests) (f : Polynomials) where
   by_forms = record {
     whole = λ span n G p h g. worth_roll polynomials (ex.Int span n) f ∙ ap Some (sym (number_is span (pos n) p h));
     name = λ span name G p h g. worth_roll polynomials (ex.Name span name) f ∙ g span name p h;
-    negated = λ span e G p q w h g. worth_roll polynomials (ex.Unary span unary.Negate e) f ∙ ap (option_and_then (of_one polynomials unary.Negate)) (w g) ∙ ap Some (sym (difference_is span (constant_map (pos 0)) p q h));
-    combined = λ span o e k G p q r v w h g. worth_roll polynomials (ex.Binary span o e k) f ∙ ap₂ (λ x y. option_and_then (λ a. option_and_then (of_two polynomials o a) y) x) (v g) (w g) ∙ binary_is span o p q r h;
+    negated = λ span e G p q w h g. worth_roll polynomials (ex.Unary span unary.Negate e) f ∙ worth_of_one polynomials (polynomial e f) p (w g) ∙ ap Some (sym (difference_is span (constant_map (pos 0)) p q h));
+    combined = λ span o e k G p q r v w h g. worth_of_operator polynomials o span e k f ∙ worth_of_two polynomials o (polynomial e f) (polynomial k f) p q (v g) (w g) ∙ ap Some (sym (combined_is span o p q r h));
+    divided = λ span e k n G p q v i h g. worth_roll polynomials (ex.Binary span binary.DivideExact e k) f
+        ∙ worth_of_quotient polynomials _ (polynomial e f) n p (written_divisor polynomials k n i) (v g) ∙ ap Some (sym (divided_is span p q n h));
   }
 
   pub polynomial_is : (e : Expr) (G : Scope) (w : Width) → AgreesOn f G → width t e G ≡ Ok w → polynomial e f ≡ Some w.poly

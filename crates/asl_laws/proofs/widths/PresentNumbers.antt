@@ -1,77 +1,175 @@
 -- In a state that agrees with a scope, a width expression has the number of its polynomial, and a number its own: what a run takes for the expressions of a type that
 -- is written at a place.
-use Rattle.std.proofs.Common.{◌≡◌, ℕ, ℤ, pos, Bool, true, false, cond, List, [], ◌∷◌, Option, Some, None, Ok, refl, sym, ap, ◌∙◌, subst}
-use Rattle.std.specs.Prelude.{◌-ℤ◌}
+use Rattle.std.proofs.Common.{◌≡◌, ℕ, ℤ, pos, Bool, true, false, cond, List, [], ◌∷◌, Option, Some, None, Ok, refl, sym, ap, ◌∙◌, subst, arith}
+use Rattle.std.specs.Prelude.{◌-ℤ◌, ◌*ℤ◌, nat_le, option_map}
+use Rattle.asl_poly.specs.WidthLimits.{heaviest}
 use Rattle.std.specs.Str.{bytes_eq}
 use Rattle.asl_syn.specs.declared.token.Span.{Span}
-use Rattle.asl_syn.specs.declared.code.StaticCode.TheVariants.{T02, T05, T19}
+use Rattle.asl_syn.specs.declared.code.StaticCode.TheVariants.{T02, T05, T19, T20}
 use Rattle.asl_syn.specs.declared.tree.Expr.{Expr}
 use Rattle.asl_syn.specs.declared.tree.Bitfield.TheOpen as ex
 use Rattle.asl_syn.specs.declared.tree.UnaryOperator.TheVariants as unary
+use Rattle.asl_syn.specs.declared.tree.BinaryOperator.TheVariants as binary
 use Rattle.asl_poly.specs.Terms.{Polynomial, value}
-use Rattle.asl_poly.specs.Poly.{constant_map, constant_value}
-use Rattle.asl_cons.proofs.Covering.{value_constant_map}
+use Rattle.asl_poly.specs.Fractions.{Fraction, SameFraction, whole, fraction_at}
+use Rattle.asl_poly.specs.Poly.{IsPolynomial, HasWidth, constant_map, constant_value}
+use Rattle.asl_poly.proofs.Ring.{mul-one}
+use Rattle.asl_cons.proofs.Covering.{int_end}
 use Rattle.asl_rules.specs.Faults.{need, fault_of}
 use Rattle.asl_rules.specs.Tests.{Tests}
 use Rattle.asl_rules.specs.types.Types.{Ty, is_integer}
 use Rattle.asl_rules.specs.types.Closed.{Assignment, width_at}
 use Rattle.asl_rules.specs.values.Values.{Value, int, bool, bits_with, label, record_with, exception_with, tuple_with, array_with}
 use Rattle.asl_rules.specs.declarations.Scopes.{Counted, Scope, Entry, Storage, Standing, Stored, Subprogram, TypeName, Label, standing_of, known_value}
-use Rattle.asl_rules.specs.types.Widths.{width_of_counted, width_of_standing, number_of_counted, number_of_standing}
+use Rattle.asl_rules.specs.types.Widths.{weight_of, width_of_counted, width_of_standing, number_of_counted, number_of_standing}
 use Rattle.asl_rules.specs.expressions.Typing.{Width, Number}
 use Rattle.asl_rules.specs.expressions.Exprs.{found, width}
-use Rattle.asl_rules.specs.types.Numbers.{Numbers, integers, number, integer_of_value, fixed_number, number_among, or_number, present}
+use Rattle.asl_rules.specs.types.Numbers.{Numbers, less, parted, fractions, fraction, wholes, IsWhole, integer_of_value, fixed_number, number_among, or_number, present}
 use Rattle.asl_rules.specs.runs.States.{Binding, Core}
 use Rattle.asl_rules.specs.private.Agreement.{types_in, IsKnown, CountsAs, global_matches, AllMatch, local_matches, FrameMatches, GlobalsMatch, Agrees}
-use Rattle.asl_rules.specs.runs.Evaluation.{value_of}
+use Rattle.asl_rules.specs.runs.Evaluation.{value_of, or_value}
 use Rattle.asl_rules.proofs.basics.Inversions.{ok_ok, err_ok, then_ok, found_ok}
 use Rattle.asl_rules.proofs.basics.Tests.{some_same, some_none, none_some}
+use Rattle.asl_rules.proofs.widths.Counting.{stored_of}
 use Rattle.asl_rules.proofs.widths.WidthForms.{WidthForms, NumberForms, by_width_forms, by_number_forms}
-use Rattle.asl_rules.proofs.widths.WorthForms.{worth_roll, worth_of_one, worth_of_two}
-use Rattle.asl_rules.proofs.widths.WidthsWorth.{number_is, difference_is, binary_is}
+use Rattle.asl_rules.specs.types.Arithmetic.{of_two}
+use Rattle.asl_rules.proofs.widths.WorthForms.{worth_roll, worth_of_one, worth_of_operator, worth_of_two, worth_of_quotient, written_divisor}
+use Rattle.asl_rules.proofs.widths.Ratios.{Proper, some_both, some_parted, constant_same}
+use Rattle.asl_rules.proofs.widths.WidthsHeld.{CountsHeld, number_held, name_held, difference_held, combined_held, divided_held, above_0, zero_held}
+use Rattle.asl_rules.proofs.widths.WidthsWorth.{number_is, difference_is, combined_is, divided_is, some_of_two}
+use Rattle.asl_rules.proofs.values.Rounded.{constant_width, constant_at}
 use Rattle.asl_cons.proofs.Results.{constant_is}
 use Rattle.asl_laws.proofs.widths.NumbersWorth as numbers
-use Rattle.asl_laws.proofs.widths.NumbersWorth.{held_is}
-use Rattle.asl_rules.proofs.scopes.Lookups.{stored_same, before_is, behind, absent_value}
+use Rattle.asl_rules.proofs.scopes.Lookups.{Finds, stored_same, before_is, behind, absent_value, finds}
 
 -- ---- expressions, where the names of a scope have their numbers
 
+-- the polynomial is whole at these integers
+abbrev pub IsWholeAt : Assignment → Polynomial → Type 0
+IsWholeAt av p = HasWidth p av (width_at p av)
+
 module _ (f : Numbers) (av : Assignment) where
-  -- a name in a width stands for the integer of its polynomial, and one in a number for that number
+  -- a name in a width stands for the integer of its polynomial, which is whole, and one in a number for that number
   pub record NumbersAgree (G : Scope) : Type 0 where
-    pub widths : (span : Span) (name : List ℕ) (p : Polynomial) → width_of_standing span (standing_of name G.names) ≡ Ok p → f name ≡ Some (width_at p av)
+    pub widths : (span : Span) (name : List ℕ) (p : Polynomial) → width_of_standing span (standing_of name G.names) ≡ Ok p → (f name ≡ Some (width_at p av)) × IsWholeAt av p
     pub numbers : (span : Span) (name : List ℕ) (z : ℤ) → number_of_standing span (standing_of name G.names) ≡ Ok z → f name ≡ Some z
 
+  -- the fraction of an expression, which the polynomial is
+  pub record HasFraction (e : Expr) (p : Polynomial) : Type 0 where
+    pub held : IsPolynomial p
+    pub number : Fraction
+    pub proper : Proper number
+    pub is : fraction e (wholes f) ≡ Some number
+    pub same : SameFraction number (fraction_at av p)
+
   Wide : Expr → Scope → Polynomial → Type 0
-  Wide e G p = NumbersAgree G → number e f ≡ Some (width_at p av)
+  Wide e G p = NumbersAgree G → CountsHeld G.names → HasFraction e p
 
   wide_forms : WidthForms Wide
   unfolding Wide
   wide_forms = record {
-    whole = λ span n G p h g. worth_roll integers (ex.Int span n) f ∙ ap Some (sym (number_is av span (pos n) p h));
-    name = λ span name G p h g. worth_roll integers (ex.Name span name) f ∙ g.widths span name p h;
-    negated = λ span e G p q w h g. worth_roll integers (ex.Unary span unary.Negate e) f ∙ worth_of_one integers unary.Negate (number e f) (value av p.terms) (w g)
-        ∙ ap Some (sym (difference_is av span (constant_map (pos 0)) p q (pos 0) (value av p.terms) (value_constant_map av (pos 0)) refl h));
-    combined = λ span o e d G p q r v w h g. worth_roll integers (ex.Binary span o e d) f ∙ worth_of_two integers o (number e f) (number d f) (value av p.terms) (value av q.terms) (v g) (w g) ∙ binary_is av span o p q r h;
+    whole = λ span n G p h g w. record {
+      held = number_held span (pos n) p h;
+      number = whole (pos n);
+      proper = omega arith;
+      is = worth_roll fractions (ex.Int span n) (wholes f);
+      same = number_is av span (pos n) p h;
+    };
+    name = λ span name G p h g w.
+        let k = g.widths span name p h in
+        record {
+          held = name_held G.names w span name (standing_of name G.names) p refl h;
+          number = whole (width_at p av);
+          proper = omega arith;
+          is = worth_roll fractions (ex.Name span name) (wholes f) ∙ ap (option_map whole) k.0;
+          same = sym (mul-one (value av p.terms) ∙ k.1);
+        };
+    negated = λ span e G p q v h g w.
+        let x = v g w in
+        record {
+          held = difference_held span (constant_map (pos 0)) p q zero_held x.held h;
+          number = less (whole (pos 0)) x.number;
+          proper = some_both (whole (pos 0)) x.number (omega arith) x.proper;
+          is = worth_roll fractions (ex.Unary span unary.Negate e) (wholes f) ∙ worth_of_one fractions (fraction e (wholes f)) x.number x.is;
+          same = difference_is av span (constant_map (pos 0)) p q (whole (pos 0)) x.number zero_held x.held (sym (constant_same av (pos 0))) x.same h;
+        };
+    combined = λ span o e d G p q r v w h g k.
+        let x = v g k in
+        let y = w g k in
+        record {
+          held = combined_held span o p q r x.held y.held h;
+          number = of_two fractions o x.number y.number;
+          proper = some_of_two o x.number y.number x.proper y.proper;
+          is = worth_of_operator fractions o span e d (wholes f)
+              ∙ worth_of_two fractions o (fraction e (wholes f)) (fraction d (wholes f)) x.number y.number x.is y.is;
+          same = combined_is av span o p q r x.number y.number x.held y.held x.same y.same h;
+        };
+    divided = λ span e d k G p q v i h g w.
+        let x = v g w in
+        record {
+          held = divided_held span p q k x.held (above_0 d k i) h;
+          number = parted x.number k;
+          proper = some_parted x.number k x.proper (above_0 d k i);
+          is = worth_roll fractions (ex.Binary span binary.DivideExact e d) (wholes f)
+              ∙ worth_of_quotient fractions _ (fraction e (wholes f)) k x.number (written_divisor fractions d k i) x.is;
+          same = divided_is av span p q k x.number x.held (above_0 d k i) x.same h;
+        };
   }
 
+  -- the fraction of an expression, which is this integer
+  pub record IsNumber (e : Expr) (z : ℤ) : Type 0 where
+    pub number : Fraction
+    pub proper : Proper number
+    pub is : fraction e (wholes f) ≡ Some number
+    pub same : IsWhole z number
+
   Counted_so : Expr → Scope → ℤ → Type 0
-  Counted_so e G z = NumbersAgree G → number e f ≡ Some z
+  Counted_so e G z = NumbersAgree G → IsNumber e z
 
   number_forms : NumberForms Counted_so
   unfolding Counted_so
   number_forms = record {
-    whole = λ span n G g. worth_roll integers (ex.Int span n) f;
-    name = λ span name G z h g. worth_roll integers (ex.Name span name) f ∙ g.numbers span name z h;
-    negated = λ span e G y z w h g. worth_roll integers (ex.Unary span unary.Negate e) f ∙ worth_of_one integers unary.Negate (number e f) y (w g) ∙ ap Some (held_is span (pos 0 -ℤ y) z h);
-    combined = λ span o e d G x y z v w h g. worth_roll integers (ex.Binary span o e d) f ∙ worth_of_two integers o (number e f) (number d f) x y (v g) (w g) ∙ numbers.binary_is span o x y z h;
+    whole = λ span n G g. record { number = whole (pos n); proper = omega arith; is = worth_roll fractions (ex.Int span n) (wholes f); same = refl };
+    name = λ span name G z h g. record {
+      number = whole z;
+      proper = omega arith;
+      is = worth_roll fractions (ex.Name span name) (wholes f) ∙ ap (option_map whole) (g.numbers span name z h);
+      same = refl;
+    };
+    negated = λ span e G y z v h g.
+        let x = v g in
+        record {
+          number = less (whole (pos 0)) x.number;
+          proper = some_both (whole (pos 0)) x.number (omega arith) x.proper;
+          is = worth_roll fractions (ex.Unary span unary.Negate e) (wholes f) ∙ worth_of_one fractions (fraction e (wholes f)) x.number x.is;
+          same = numbers.negated_whole span x.number y z x.same h;
+        };
+    combined = λ span o e d G x y z v w h g.
+        let r = v g in
+        let s = w g in
+        record {
+          number = of_two fractions o r.number s.number;
+          proper = some_of_two o r.number s.number r.proper s.proper;
+          is = worth_of_operator fractions o span e d (wholes f)
+              ∙ worth_of_two fractions o (fraction e (wholes f)) (fraction d (wholes f)) r.number s.number r.is s.is;
+          same = numbers.combined_whole span o r.number s.number x y z r.same s.same h;
+        };
+    divided = λ span e d k G y z v i h g.
+        let r = v g in
+        record {
+          number = parted r.number k;
+          proper = some_parted r.number k r.proper (above_0 d k i);
+          is = worth_roll fractions (ex.Binary span binary.DivideExact e d) (wholes f)
+              ∙ worth_of_quotient fractions _ (fraction e (wholes f)) k r.number (written_divisor fractions d k i) r.is;
+          same = numbers.divided_whole span r.number y z k (above_0 d k i) r.same h;
+        };
   }
 
-  pub width_has : (t : Tests) (e : Expr) (G : Scope) (w : Width) → NumbersAgree G → width t e G ≡ Ok w → number e f ≡ Some (width_at w.poly av)
+  pub width_has : (t : Tests) (e : Expr) (G : Scope) (w : Width) → NumbersAgree G → CountsHeld G.names → width t e G ≡ Ok w → HasFraction e w.poly
   unfolding Wide
-  width_has t e G w g h = by_width_forms t Wide wide_forms e G w h g
+  width_has t e G w g k h = by_width_forms t Wide wide_forms e G w h g k
 
-  pub number_has : (t : Tests) (e : Expr) (G : Scope) (w : Number) → NumbersAgree G → (found t e).number G ≡ Ok w → number e f ≡ Some w.number
+  pub number_has : (t : Tests) (e : Expr) (G : Scope) (w : Number) → NumbersAgree G → (found t e).number G ≡ Ok w → IsNumber e w.number
   unfolding Counted_so
   number_has t e G w g h = by_number_forms t Counted_so number_forms e G w h g
 
@@ -164,15 +262,39 @@ module _ (av : Assignment) where
   known_says s y b e i k l = binding_number b y (i ∙ known_fixed s.is_mutable s.initial (int y) e) (subst (λ o. IsKnown o b.value) e k)
 
   counted_says : (s : Storage) (c : Counted) (b : Binding) → s.is_mutable ≡ false → s.counted ≡ Some c → Says s (width_at c.poly av) b
-  counted_says s c b f e i k l = binding_number b (width_at c.poly av) (i ∙ f) (subst (λ o. CountsAs av o b.value) e l)
+  counted_says s c b f e i k l = binding_number b (width_at c.poly av) (i ∙ f) (subst (λ o. CountsAs av o b.value) e l).0
+
+  -- what counts in widths is whole
+  counted_whole : (base names : List Entry) (c : Core) (name : List ℕ) (s : Storage) (k : Counted) → Agrees base names av c →
+      standing_of name names ≡ Some (Stored s) → s.counted ≡ Some k → IsWholeAt av k.poly
+  counted_whole base names c name s k a h e = counted_in (or_value (value_of name c.frame) (value_of name c.globals)) (finds av base names c name s a h)
+    where
+      counted_in : (o : Option Value) → Finds av (types_in base) s o → IsWholeAt av k.poly
+      counted_in None f = absurd f
+      counted_in (Some x) f = (subst (λ m. CountsAs av m x) e f.2).1
+
+  -- and within the limits
+  pub counts_held : (base names : List Entry) (c : Core) → Agrees base names av c → CountsHeld names
+  counts_held base names c a name s k h e = counted_in (or_value (value_of name c.frame) (value_of name c.globals)) (finds av base names c name s a (stored_of (standing_of name names) s h))
+    where
+      counted_in : (o : Option Value) → Finds av (types_in base) s o → IsPolynomial k.poly
+      counted_in None f = absurd f
+      counted_in (Some x) f = (subst (λ m. CountsAs av m x) e f.2).2
 
   -- a name of storage in a width
   stored_width : (base names : List Entry) (c : Core) (span : Span) (name : List ℕ) (s : Storage) (p : Polynomial) (o : Option Counted) (v : Option Value) → s.counted ≡ o → known_value s ≡ v → CountedFixed names → Agrees base names av c → standing_of name names ≡ Some (Stored s) →
-      width_of_counted span o v ≡ Ok p → present c name ≡ Some (width_at p av)
+      width_of_counted span o v ≡ Ok p → (present c name ≡ Some (width_at p av)) × IsWholeAt av p
   stored_width base names c span name s p (Some k) v eo ev g a h w =
-      storage_number base names c name s (width_at k.poly av) a h (λ b. counted_says s k b (g name s k h eo) eo)
-      ∙ ap Some (ap (λ q. width_at q av) (ok_ok k.poly p w))
-  stored_width base names c span name s p None (Some (int y)) eo ev g a h w = storage_number base names c name s y a h (λ b. known_says s y b ev) ∙ ap Some (sym (number_is av span y p w))
+      let same : k.poly ≡ p = ok_ok k.poly p w in (
+        storage_number base names c name s (width_at k.poly av) a h (λ b. counted_says s k b (g name s k h eo) eo) ∙ ap Some (ap (λ q. width_at q av) same),
+        subst (IsWholeAt av) same (counted_whole base names c name s k a h eo),
+      )
+  stored_width base names c span name s p None (Some (int y)) eo ev g a h w =
+      let u = then_ok (need (nat_le (weight_of y) heaviest) T20 span) (Ok (constant_map y)) p w in
+      let same : constant_map y ≡ p = ok_ok (constant_map y) p u.then in (
+        storage_number base names c name s y a h (λ b. known_says s y b ev) ∙ ap Some (sym (constant_at av y) ∙ ap (λ q. width_at q av) same),
+        subst (IsWholeAt av) same (subst (λ z. HasWidth (constant_map y) av z) (sym (constant_at av y)) (int_end y av)),
+      )
   stored_width base names c span name s p None (Some (bool b)) eo ev g a h w = err_ok (fault_of T19 span) p w
   stored_width base names c span name s p None (Some (bits_with bs u)) eo ev g a h w = err_ok (fault_of T19 span) p w
   stored_width base names c span name s p None (Some (label n l)) eo ev g a h w = err_ok (fault_of T19 span) p w
@@ -187,7 +309,7 @@ module _ (av : Assignment) where
       number_of_counted span o v ≡ Ok z → present c name ≡ Some z
   stored_number base names c span name s z (Some k) v eo ev g a h w =
       storage_number base names c name s (width_at k.poly av) a h (λ b. counted_says s k b (g name s k h eo) eo)
-      ∙ ap Some (constant_is av k.poly z (found_ok (constant_value k.poly) T19 span z w))
+      ∙ ap Some (constant_width av k.poly z (constant_is av k.poly z (found_ok (constant_value k.poly) T19 span z w)))
   stored_number base names c span name s z None (Some (int y)) eo ev g a h w = storage_number base names c name s y a h (λ b. known_says s y b ev) ∙ ap Some (ok_ok y z w)
   stored_number base names c span name s z None (Some (bool b)) eo ev g a h w = err_ok (fault_of T19 span) z w
   stored_number base names c span name s z None (Some (bits_with bs u)) eo ev g a h w = err_ok (fault_of T19 span) z w
@@ -198,7 +320,7 @@ module _ (av : Assignment) where
   stored_number base names c span name s z None (Some (array_with k xs)) eo ev g a h w = err_ok (fault_of T19 span) z w
   stored_number base names c span name s z None None eo ev g a h w = err_ok (fault_of T19 span) z w
 
-  width_name : (base names : List Entry) (c : Core) (span : Span) (name : List ℕ) (p : Polynomial) (o : Option Standing) → standing_of name names ≡ o → CountedFixed names → Agrees base names av c → width_of_standing span o ≡ Ok p → present c name ≡ Some (width_at p av)
+  width_name : (base names : List Entry) (c : Core) (span : Span) (name : List ℕ) (p : Polynomial) (o : Option Standing) → standing_of name names ≡ o → CountedFixed names → Agrees base names av c → width_of_standing span o ≡ Ok p → (present c name ≡ Some (width_at p av)) × IsWholeAt av p
   width_name base names c span name p (Some (Stored s)) e g a h =
       let u = then_ok (need (is_integer s.ty) T05 span) (width_of_counted span s.counted (known_value s)) p h in
       stored_width base names c span name s p s.counted (known_value s) refl refl g a e u.then

@@ -1,9 +1,10 @@
--- Widths that have one number wherever the names agree with the scope are the same: so this is what "the same width" means.
-use Rattle.std.proofs.Common.{◌≡◌, ℕ, ℤ, pos, true, List, [], ◌∷◌, Option, Some, None, Ok, refl, sym, ap, ◌∙◌, arith}
+-- Widths that have one fraction wherever the names agree with the scope are the same: so this is what "the same width" means.
+use Rattle.std.proofs.Common.{◌≡◌, ℕ, ℤ, pos, true, List, [], ◌∷◌, Option, Some, None, Ok, refl, sym, ap, subst, ◌∙◌, arith}
 use Rattle.std.specs.Prelude.{◌+ℤ◌, ◌*ℤ◌, ◌↔◌}
 use Rattle.std.proofs.lemmas.Int.{ints}
 use Rattle.asl_syn.specs.declared.tree.Expr.{Expr}
 use Rattle.asl_poly.specs.Terms.{Summand, value, product}
+use Rattle.asl_poly.specs.Fractions.{Fraction, SameFraction, fraction_at}
 use Rattle.asl_poly.specs.Poly.{atom_map, Same}
 use Rattle.asl_poly.proofs.Ring.{mul-one, one-mul}
 use Rattle.asl_rules.specs.Tests.{Tests, SameWidth, IsRight}
@@ -11,13 +12,13 @@ use Rattle.asl_rules.specs.values.Values.{Value, int, bool, bits_with, label, re
 use Rattle.asl_rules.specs.declarations.Scopes.{Counted, Scope, Entry, Storage, atom_at, name_at, storage_of, known_value}
 use Rattle.asl_rules.specs.expressions.Typing.{Width}
 use Rattle.asl_rules.specs.expressions.Exprs.{width}
-use Rattle.asl_rules.specs.types.Numbers.{number}
-use Rattle.asl_rules.specs.private.Worth.{Integers, standing_for, by_place, Obeys, Alone, AllAlone, AtomsAlone, WellCounted}
-use Rattle.asl_rules.proofs.basics.Tests.{some_same}
+use Rattle.asl_rules.specs.types.Numbers.{fraction}
+use Rattle.asl_rules.specs.private.Worth.{Integers, standing_for, by_place, AreSame, Obeys, Alone, AllAlone, AtomsAlone, WellCounted}
+use Rattle.asl_rules.proofs.widths.Ratios.{same_trans}
 use Rattle.asl_rules.proofs.widths.WidthsWorth.{width_is_worth, same_is_worth_same}
 use Rattle.asl_rules.proofs.widths.WidthAtoms.{width_is_alone}
 use Rattle.asl_rules.proofs.widths.WidthsHeld.{width_is_held}
-use Rattle.asl_laws.specs.WidthWorth.{HasWorth, SameWorth, HasIntegers}
+use Rattle.asl_laws.specs.WidthWorth.{CountsWithin, HasWorth, SameWorth, HasIntegers}
 
 -- ---- the integers of names, where each name that stands for itself is given one by its place
 
@@ -74,24 +75,32 @@ known_number names w b name s z e k None q = ap (counted_number b None) k
 known_number names w b name s z e k (Some c) q = absurd (none_known (known_value s) z (w.unknown name s c e q) k)
 
 obeys : (names : List Entry) → WellCounted names → (b : ℕ → ℤ) → Obeys names (numbers_of names b)
-obeys names w b = record {
-  known = λ name s z e k. stored_number names b name s e ∙ known_number names w b name s z e k s.counted refl;
-  counted = λ name s e c q. value_is names b c.poly.terms (w.alone name s c e q) ∙ sym (with_count names b name s c e q);
-}
+obeys names w b = record { known = λ name s z e k. stored_number names b name s e ∙ known_number names w b name s z e k s.counted refl }
+
+both_some : (r s : Fraction) (o p : Option Fraction) → o ≡ Some r → p ≡ Some s → AreSame o p → SameFraction r s
+both_some r s o p e f h = subst (λ q. AreSame (Some r) q) f (subst (λ q. AreSame q p) e h)
 
 pub same_by_worth : (t : Tests) (e f : Expr) (G : Scope) → WellCounted G.names → (v w : Width) → width t e G ≡ Ok v → width t f G ≡ Ok w →
-    AtomsAlone G.names v.poly.terms → AtomsAlone G.names w.poly.terms → ((a : Integers) → Obeys G.names a → number e (standing_for a) ≡ number f (standing_for a)) → Same v.poly w.poly
+    AtomsAlone G.names v.poly.terms → AtomsAlone G.names w.poly.terms → SameWorth G.names e f → Same v.poly w.poly
 same_by_worth t e f G g v w h k m n same b =
-    let o : Obeys G.names (numbers_of G.names b) = obeys G.names g b in
-    sym (value_is G.names b v.poly.terms m) ∙ some_same _ _ (sym (width_is_worth t e G (numbers_of G.names b) o v h) ∙ same (numbers_of G.names b) o ∙ width_is_worth t f G (numbers_of G.names b) o w k)
-    ∙ value_is G.names b w.poly.terms n
+    let a : Integers = numbers_of G.names b in
+    let o : Obeys G.names a = obeys G.names g b in
+    let x = width_is_worth t e G a o g.within v h in
+    let y = width_is_worth t f G a o g.within w k in
+    let one : SameFraction x.number y.number =
+    both_some x.number y.number (fraction e (standing_for G.names a)) (fraction f (standing_for G.names a)) x.is y.is (same a o) in
+    let at : SameFraction (fraction_at (by_place G.names a) v.poly) (fraction_at (by_place G.names a) w.poly) =
+    same_trans (fraction_at (by_place G.names a) v.poly) x.number (fraction_at (by_place G.names a) w.poly) x.proper (sym x.same)
+    (same_trans x.number y.number (fraction_at (by_place G.names a) w.poly) y.proper one y.same) in
+    sym (ap (λ z. z *ℤ pos w.poly.denominator) (value_is G.names b v.poly.terms m)) ∙ at
+    ∙ ap (λ z. z *ℤ pos v.poly.denominator) (value_is G.names b w.poly.terms n)
 
--- so, in a scope whose `let`s count as names that stand for themselves, two widths are the same exactly where they have one number for all integers that agree
--- with the scope
+-- so, in a scope whose `let`s count as names that stand for themselves, two widths are the same exactly where they have one fraction for all integers that
+-- agree with the scope
 pub same_is_the_words : (t : Tests) (e f : Expr) (G : Scope) → WellCounted G.names → (v w : Width) → width t e G ≡ Ok v → width t f G ≡ Ok w →
-    Same v.poly w.poly ↔ ((a : Integers) → Obeys G.names a → number e (standing_for a) ≡ number f (standing_for a))
+    Same v.poly w.poly ↔ SameWorth G.names e f
 same_is_the_words t e f G g v w h k =
-    (same_is_worth_same t e f G v w h k, same_by_worth t e f G g v w h k (width_is_alone t e G g v h) (width_is_alone t f G g w k))
+    (λ s a o. same_is_worth_same t e f G v w g.within h k s a o, same_by_worth t e f G g v w h k (width_is_alone t e G g v h) (width_is_alone t f G g w k))
 
 -- so the test of two widths says yes exactly there
 pub test_is_worth : (t : Tests) → IsRight t → (e f : Expr) (G : Scope) (v w : Width) → WellCounted G.names → width t e G ≡ Ok v →
@@ -102,9 +111,9 @@ test_is_worth t r e f G v w g h k =
     λ s. record { left = width_is_held t e G g.within v h; right = width_is_held t f G g.within w k; same = s } in
     (λ s. q.0 (r.same_yes v.poly w.poly s).same, λ s. r.same_all v.poly w.poly (both (q.1 s)))
 
-pub has_worth : (t : Tests) (e : Expr) (G : Scope) (w : Width) (a : Integers) → width t e G ≡ Ok w → Obeys G.names a →
+pub has_worth : (t : Tests) (e : Expr) (G : Scope) (w : Width) (a : Integers) → CountsWithin G.names → width t e G ≡ Ok w → Obeys G.names a →
     HasWorth e G.names a w.poly
-has_worth t e G w a h o = (value (by_place G.names a) w.poly.terms, width_is_worth t e G a o w h, refl)
+has_worth t e G w a g h o = let x = width_is_worth t e G a o g w h in (x.number, x.is, x.same)
 
 pub has_integers : (names : List Entry) → WellCounted names → (b : ℕ → ℤ) → HasIntegers names b
 has_integers names w b = (numbers_of names b, obeys names w b, λ n h. atom_is names b n h)

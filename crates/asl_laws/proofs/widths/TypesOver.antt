@@ -1,11 +1,11 @@
 -- Types over some atoms: their widths and ends have no others. What types are made of keeps this: arithmetic, joins, bare types, and atoms replaced by widths.
-use Rattle.std.proofs.Common.{◌≡◌, ℕ, Bool, true, false, ℤ, pos, List, [], ◌∷◌, ◌++◌, length, Option, Some, None, refl, subst}
+use Rattle.std.proofs.Common.{◌≡◌, ℕ, ◌*◌, Bool, true, false, ℤ, pos, List, [], ◌∷◌, ◌++◌, length, Option, Some, None, refl, subst}
 use Rattle.std.specs.Prelude.{◌+ℤ◌, ◌-ℤ◌, ◌*ℤ◌, nat_le, unsigned_abs, if◌then◌else◌}
 use Rattle.asl_num.specs.Exact.{floor_div}
 use Rattle.asl_syn.specs.declared.code.StaticCode.{StaticCode}
 use Rattle.asl_poly.specs.Terms.{Summand, Polynomial}
 use Rattle.asl_poly.specs.Operations.{gather, product_terms, constant_term}
-use Rattle.asl_poly.specs.Substitute.{map_at, times_maps, replaced}
+use Rattle.asl_poly.specs.Substitute.{map_at, times_maps, replaced, raised_terms, common_denominator, with_common_denominator}
 use Rattle.asl_poly.specs.Poly.{constant_value, sum_map, difference_map, product_map, substitute_map}
 use Rattle.asl_cons.specs.declared.End.{End}
 use Rattle.asl_cons.specs.declared.End.TheVariants.{Int, Width}
@@ -17,7 +17,7 @@ use Rattle.asl_rules.specs.types.Types.{Ty, Parts, Widths, integer_of, boolean, 
 use Rattle.asl_rules.specs.private.Worth.{AllOf, AtomsOf}
 pub use Rattle.asl_laws.specs.ScopeRules.{EndOver, PartOver, PartsOver, Never, Over, FieldsOver, AllOver}
 use Rattle.asl_rules.proofs.basics.Tests.{some_same, none_some, mapped}
-use Rattle.asl_rules.proofs.widths.WidthAtoms.{Good, gather_in, multiply_in, constant_good, sum_good, difference_good, product_good}
+use Rattle.asl_rules.proofs.widths.WidthAtoms.{Good, gather_in, multiply_in, lowest_good, constant_good, sum_good, difference_good, product_good}
 
 -- ---- over more atoms
 
@@ -338,9 +338,16 @@ module _ (A : ℕ → Type 0) where
         let one : List Summand = constant_term t.coefficient ∷ [] in
         replaced_over (gather sum (times_maps by one t.factors)) ts (gather_in A sum (times_maps by one t.factors) h (times_over one t.factors (tt, tt) k.0)) k.1
 
+    raised_over : (n : ℕ) (ts : List Summand) → AtomsOf Replaced ts → AtomsOf Replaced (raised_terms by n ts)
+    raised_over n [] h = tt
+    raised_over n (t ∷ ts) h = (h.0, raised_over n ts h.1)
+
     substitute_map_over : (p : Polynomial) → Good Replaced p → Good A (substitute_map by p)
     unfolding substitute_map
-    substitute_map_over p h = replaced_over [] p.terms tt h
+    substitute_map_over p h =
+        let n = common_denominator by p.terms in
+        lowest_good A (replaced by [] (with_common_denominator by p.terms)) (n * p.denominator)
+        (replaced_over [] (with_common_denominator by p.terms) tt (raised_over n p.terms h))
 
     if_substituted : (b : Bool) (p q : Polynomial) → Good Replaced p → (if b then Some (substitute_map by p) else None) ≡ Some q → Good A q
     if_substituted true p q h k = subst (Good A) (some_same (substitute_map by p) q k) (substitute_map_over p h)

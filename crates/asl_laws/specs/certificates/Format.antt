@@ -109,9 +109,26 @@ are_terms ts = list_all is_term ts && terms_rise (map term_in ts)
 abbrev pub without_minus : Text → Text
 without_minus t = if begins (codes "-") t then drop 1 t else t
 
--- `0`, or terms with signs between, a `-` before the first where it is below 0
+-- the text before the first `)` outside of brackets, where so many are open at the beginning
+abbrev pub before_close : ℕ → Text → Text
+before_close n [] = []
+before_close n (b ∷ bs) = if (b == 41) && (n == 0) then [] else b ∷ before_close (level n b) bs
+
+-- terms with signs between, a `-` before the first where it is below 0
+abbrev pub is_sum : Text → Bool
+is_sum t = are_terms (slice_split is_sign (without_minus t))
+
+-- a number above 1
+abbrev pub is_denominator : Text → Bool
+is_denominator t = is_number t && not (bytes_eq t (codes "0") || bytes_eq t (codes "1"))
+
+-- what stands behind `(`: terms, the bracket that closes, and what they are divided by
+abbrev pub is_quotient : Text → Bool
+is_quotient t = is_sum (before_close 0 t) && (begins (before_close 0 t ++ codes ")/") t && is_denominator (drop (length (before_close 0 t ++ codes ")/")) t))
+
+-- `0`, terms, or terms over a denominator
 abbrev pub is_width : Text → Bool
-is_width t = bytes_eq t (codes "0") || are_terms (slice_split is_sign (without_minus t))
+is_width t = bytes_eq t (codes "0") || (is_sum t || (begins (codes "(") t && is_quotient (drop 1 t)))
 
 -- ---- types
 
@@ -154,11 +171,6 @@ abbrev pub all_parts : (Text → Bool) → List Text → Bool
 all_parts is [] = false
 all_parts is (t ∷ []) = false
 all_parts is (t ∷ u ∷ ts) = list_all is (t ∷ u ∷ ts)
-
--- the text before the first `)` outside of brackets, where so many are open at the beginning
-abbrev pub before_close : ℕ → Text → Text
-before_close n [] = []
-before_close n (b ∷ bs) = if (b == 41) && (n == 0) then [] else b ∷ before_close (level n b) bs
 
 -- nothing, or bitfields in braces
 abbrev pub is_view : Text → Bool

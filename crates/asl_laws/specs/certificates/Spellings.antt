@@ -51,9 +51,18 @@ pub record TermsSpelled (t : Text) : Type 0 where
   pub terms_are : Each TermSpelled (first ∷ terms_in more)
   pub rise : terms_rise (map term_in (first ∷ terms_in more)) ≡ true
 
--- `0`, or terms that rise
+-- terms in brackets, and a number above 1 that they are divided by
+pub record QuotientSpelled (t : Text) : Type 0 where
+  pub terms : Text
+  pub denominator : Text
+  pub is : t ≡ codes "(" ++ (terms ++ (codes ")/" ++ denominator))
+  pub terms_are : TermsSpelled terms
+  pub denominator_is : IsNumber denominator
+  pub above_1 : ((denominator ≡ codes "0") ⊎ (denominator ≡ codes "1")) → ⊥
+
+-- `0`, terms that rise, or such terms over a denominator
 abbrev pub WidthSpelled : Text → Type 0
-WidthSpelled t = (t ≡ codes "0") ⊎ TermsSpelled t
+WidthSpelled t = (t ≡ codes "0") ⊎ (TermsSpelled t ⊎ QuotientSpelled t)
 
 -- widths are recognised exactly where they are spelled so
 pub record WidthLaw (t : Text) : Type 0 where

@@ -90,9 +90,13 @@ abbrev pub terms_text : List Term → Text
 terms_text [] = codes "0"
 terms_text (t ∷ ts) = (if is_below_0 t.coefficient then codes "-" else []) ++ (term_text t ++ more_terms ts)
 
+-- terms over a denominator, which is shown where it is above 1
+abbrev pub over_text : ℕ → Text → Text
+over_text d t = if d == 1 then t else codes "(" ++ (t ++ (codes ")/" ++ decimal d))
+
 -- a width over the visible names
 abbrev pub width_text : List Entry → Polynomial → Text
-width_text names p = terms_text (sorted_terms (map (term_over names) p.terms))
+width_text names p = over_text p.denominator (terms_text (sorted_terms (map (term_over names) p.terms)))
 
 -- ---- types
 

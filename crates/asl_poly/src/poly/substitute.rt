@@ -3,17 +3,16 @@
 //! The weight is found first, since a product of weights may be above every machine integer although the result is within
 //! the limits: a factor of weight 0 makes its term vanish. So weights are counted up to a cap above the limit.
 
-ghost use Rattle.std.specs.Prelude.{◌≡◌, ◌≤◌, ◌<◌, ◌+◌, ◌*◌, ◌^◌, ◌↔◌, [], ◌∷◌, IsTrue, IfOk, OnOk, min, unsigned_abs, length};
-ghost use Rattle.asl_poly.specs.Terms.{of_terms};
+ghost use Rattle.std.specs.Prelude.{ℕ, ◌≡◌, ◌≤◌, ◌<◌, ◌+◌, ◌*◌, ◌^◌, ◌↔◌, [], ◌∷◌, IsTrue, IfOk, OnOk, MatchOption, min, unsigned_abs, length};
 ghost use Rattle.asl_poly.specs.Limits.{IsMap, weight, degree};
 ghost use Rattle.asl_poly.specs.Operations.{constant_term, gather, product_terms};
-ghost use Rattle.asl_poly.specs.Substitute.{map_at, AreMaps, AllMaps, factors_weight, replaced_weight, factors_degree, replaced_degree, note_maps, note_replaced, times_maps, replaced};
-ghost use Rattle.asl_poly.specs.Poly.{SubstituteFits};
+ghost use Rattle.asl_poly.specs.Substitute.{map_at, denominator_at, AllFine, factors_denominator, common_denominator, raised_term, raised_terms, AreMaps, AllMaps, factors_weight, replaced_weight, factors_degree, replaced_degree, note_maps, note_replaced, times_maps, replaced, ReplacedFits};
 
 use crate::Atom;
-use crate::limits::{HEAVIEST, HIGHEST, MOST_ATOMS, degree, note_terms, weight};
+use crate::denominators::least_common_multiple;
+use crate::limits::{FINEST, HEAVIEST, HIGHEST, MOST_ATOMS, degree, note_terms, weight};
 use crate::poly::Poly;
-use crate::term::{Term, atom_term, constant_term};
+use crate::term::{Term, atom_term, constant_term, copy_term, multiple};
 use crate::terms::{add_scaled, copied, multiplied, single};
 use std::alloc::{AllocError, Global};
 
@@ -33,6 +32,107 @@ fn map_at(alloc: Global, by: &[(Atom, Poly)], x: Atom) -> Result<Vec<Term>, Allo
         }
     }
     single(alloc, atom_term(alloc, x)?)
+}
+
+// The denominator of what `by` has for the atom.
+fn denominator_at(by: &[(Atom, Poly)], x: Atom) -> u128
+    ensures { result ≡ denominator_at by.now x }
+{
+    for e in by {
+        let y = &e.0;
+        if x.0 == y.0 {
+            let p = &e.1;
+            return p.denominator;
+        }
+    }
+    1
+}
+
+// The denominators of what stands for atoms are from 1 to the limit. This says so, and does nothing.
+pub(crate) fn all_fine(by: &[(Atom, Poly)])
+    ensures { AllFine by.now }
+{
+    for e in by {
+        let p = &e.1;
+        let _ = p.denominator();
+    }
+}
+
+// The product of the denominators of what stands for the atoms.
+fn factors_denominator(by: &[(Atom, Poly)], xs: &[Atom]) -> u128
+    requires short { length xs.now ≤ 4 }
+    requires fine { AllFine by.now }
+    ensures is { result ≡ factors_denominator by.now xs.now }
+    ensures few { result ≤ 2 ^ 64 }
+    ensures some { 0 < result }
+{
+    let mut product = 1u128;
+    for x in xs {
+        let n = denominator_at(by, *x);
+        product *= n;
+    }
+    product
+}
+
+// The least common multiple of the denominators of the terms, `None` where it is past the limit.
+fn common_denominator_within(by: &[(Atom, Poly)], ts: &[Term]) -> Option<u128>
+    requires low { degree ts.now ≤ 4 }
+    requires fine { AllFine by.now }
+    ensures { MatchOption result (2 ^ 16 < common_denominator by.now ts.now) (λ n. (n ≡ common_denominator by.now ts.now) × (0 < n) × (n ≤ 2 ^ 16)) }
+{
+    let mut n = 1u128;
+    for t in ts {
+        let m = factors_denominator(by, t.atoms());
+        n = least_common_multiple(n, m);
+        if n > FINEST {
+            return None;
+        }
+    }
+    Some(n)
+}
+
+// The same, without the premise on the denominators, which holds of every `Poly`.
+pub(crate) fn common_denominator(by: &[(Atom, Poly)], ts: &[Term]) -> Option<u128>
+    requires low { degree ts.now ≤ 4 }
+    ensures { MatchOption result (2 ^ 16 < common_denominator by.now ts.now) (λ n. (n ≡ common_denominator by.now ts.now) × (0 < n) × (n ≤ 2 ^ 16)) }
+{
+    all_fine(by);
+    common_denominator_within(by, ts)
+}
+
+// The term over the denominator `n`, a multiple of its own.
+fn raised_term(alloc: Global, by: &[(Atom, Poly)], n: u128, t: &Term) -> Result<Term, AllocError>
+    requires short { length t.now.factors ≤ 4 }
+    requires light { unsigned_abs t.now.coefficient ≤ 2 ^ 62 }
+    requires few { n ≤ 2 ^ 16 }
+    ensures { IfOk result (λ r. r ≡ raised_term by.now n t.now) }
+{
+    all_fine(by);
+    let k = n / factors_denominator(by, t.atoms());
+    let mut u = copy_term(alloc, t)?;
+    let c = multiple(k, t.coefficient());
+    u.set(c);
+    Ok(u)
+}
+
+// Each term over the denominator `n`, a multiple of theirs.
+pub(crate) fn raised_terms(
+    alloc: Global,
+    by: &[(Atom, Poly)],
+    n: u128,
+    ts: &[Term],
+) -> Result<Vec<Term>, AllocError>
+    requires low { degree ts.now ≤ 4 }
+    requires light { weight ts.now ≤ 2 ^ 62 }
+    requires few { n ≤ 2 ^ 16 }
+    ensures { IfOk result (λ v. v.items ≡ raised_terms by.now n ts.now) }
+{
+    let mut terms = Vec::new(alloc);
+    for t in ts {
+        let u = raised_term(alloc, by, n, t)?;
+        terms.push(u)?;
+    }
+    Ok(terms)
 }
 
 // The product of the weights that stand for the atoms, or CAP where it is more.
@@ -75,16 +175,24 @@ fn weight_of_map(q: &[Term]) -> u128
     weight(q)
 }
 
+// The weight of a term with its atoms replaced, or CAP where it is more.
+fn term_weight(alloc: Global, by: &[(Atom, Poly)], t: &Term) -> Result<u128, AllocError>
+    requires light { unsigned_abs t.now.coefficient ≤ 2 ^ 100 }
+    ensures { IfOk result (λ n. n ≡ min (2 ^ 63) (unsigned_abs t.now.coefficient * factors_weight by.now t.now.factors)) }
+{
+    let product = factors_weight(alloc, by, t.atoms())?;
+    let c = t.coefficient().unsigned_abs().min(CAP);
+    Ok(capped_product(c, product))
+}
+
 // The weight of the result before terms cancel, or CAP where it is more.
 fn replaced_weight(alloc: Global, by: &[(Atom, Poly)], p: &[Term]) -> Result<u128, AllocError>
-    requires light { weight p.now ≤ 2 ^ 62 }
+    requires light { weight p.now ≤ 2 ^ 100 }
     ensures { IfOk result (λ n. n ≡ min (2 ^ 63) (replaced_weight by.now p.now)) }
 {
     let mut sum = 0u128;
     for t in p {
-        let product = factors_weight(alloc, by, t.atoms())?;
-        let c = t.coefficient().unsigned_abs();
-        sum = capped_sum(sum, capped_product(c, product));
+        sum = capped_sum(sum, term_weight(alloc, by, t)?);
     }
     Ok(sum)
 }
@@ -230,9 +338,9 @@ pub(crate) fn substitute_fits(
     by: &[(Atom, Poly)],
     p: &[Term],
 ) -> Result<bool, AllocError>
-    requires light { weight p.now ≤ 2 ^ 62 }
+    requires light { weight p.now ≤ 2 ^ 100 }
     requires low { degree p.now ≤ 4 }
-    ensures { IfOk result (λ b. IsTrue b ↔ SubstituteFits by.now (of_terms p.now)) }
+    ensures { IfOk result (λ b. IsTrue b ↔ ReplacedFits by.now p.now) }
 {
     let light = replaced_weight(alloc, by, p)? <= HEAVIEST;
     let low = replaced_degree(alloc, by, p)? <= HIGHEST;

@@ -3,11 +3,13 @@ use Rattle.std.proofs.Common.{◌≡◌, ℕ, Bool, true, false, cond, List, [],
 use Rattle.std.specs.Str.{bytes_eq}
 use Rattle.asl_rules.specs.types.Types.{Ty, Fields, no_field, field}
 use Rattle.asl_rules.specs.values.Members.{fields_of}
-use Rattle.asl_rules.specs.declarations.Scopes.{Entry, Standing, Stored, Subprogram, TypeName, Label, standing_of, type_in, type_of_name}
+use Rattle.asl_rules.specs.values.Values.{Value}
+use Rattle.asl_rules.specs.declarations.Scopes.{Counted, Entry, Standing, Stored, Subprogram, TypeName, Label, standing_of, type_in, type_of_name}
 use Rattle.asl_rules.specs.private.WellFormed.{WellFormed, Fixed, WellDeclared}
 use Rattle.asl_rules.specs.types.Closed.{Assignment}
 use Rattle.asl_rules.specs.private.Belonging.{InType}
-use Rattle.asl_rules.specs.private.Agreement.{types_in, FrameMatches, local_matches, Agrees}
+use Rattle.asl_rules.specs.private.Worth.{IsHeld}
+use Rattle.asl_rules.specs.private.Agreement.{types_in, CountsAs, FrameMatches, local_matches, Agrees}
 use Rattle.asl_rules.specs.runs.States.{Binding, Core}
 use Rattle.asl_rules.proofs.basics.Tests.{some_same, none_some}
 use Rattle.asl_rules.proofs.scopes.Lookups.{Apart, behind, before_is}
@@ -23,9 +25,9 @@ abbrev pub OnceIn : Option Fields → Type 0
 OnceIn None = Unit {0}
 OnceIn (Some fs) = FieldsOnce fs
 
--- what a name stands for is well formed
+-- what a name stands for is well formed, and counts as a width within the limits
 abbrev pub GoodStanding : (List ℕ → Option Ty) → Standing → Type 0
-GoodStanding d (Stored s) = WellFormed d s.ty
+GoodStanding d (Stored s) = WellFormed d s.ty × IsHeld s.counted
 GoodStanding d Subprogram = Unit {0}
 GoodStanding d (TypeName T) = WellFormed d T × OnceIn (fields_of T) × Fixed T
 GoodStanding d (Label T x) = WellFormed d T × ((a : Assignment) → InType d a x T)
@@ -64,8 +66,12 @@ good_first : (d : List ℕ → Option Ty) (m : Bool) (own st : Standing) (o : Op
 good_first d true own st o g h next = subst (GoodStanding d) (some_same own st h) g
 good_first d false own st o g h next = next h
 
+held_count : (av : Assignment) (o : Option Counted) (x : Value) → CountsAs av o x → IsHeld o
+held_count av None x h = tt
+held_count av (Some c) x h = h.2
+
 local_good : (av : Assignment) (d : List ℕ → Option Ty) (n : List ℕ) (st : Standing) (b : Binding) → local_matches d av n st b → GoodStanding d st
-local_good av d n (Stored s) b m = m.well_formed
+local_good av d n (Stored s) b m = (m.well_formed, held_count av s.counted b.value m.counts)
 local_good av d n Subprogram b m = absurd m
 local_good av d n (TypeName T) b m = absurd m
 local_good av d n (Label T x) b m = absurd m

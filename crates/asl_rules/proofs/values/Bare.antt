@@ -224,7 +224,7 @@ mutual
   bare_shaped : (d : List ℕ → Option Ty) (T : Ty) → Shaped d T → Shaped d (bare T)
   bare_shaped d (integer_of ps) s = s
   bare_shaped d boolean s = s
-  bare_shaped d (bits_of w u) s = tt
+  bare_shaped d (bits_of w u) s = (s.0, tt)
   bare_shaped d (enumeration_of n labels) s = s
   bare_shaped d (record_of n fs) s = s
   bare_shaped d (exception_of n fs) s = s

@@ -68,16 +68,16 @@ zero_or : (b : Bool) (rs : List Range) (z : ℤ) → in_some (pos 0) rs ≡ b �
 zero_or true rs z q h = subst (λ y. in_some y rs ≡ true) (some_same (pos 0) z h) q
 zero_or false rs z q h = lowest_in rs z h
 
-first_is_in : (c : Option (List Range)) (z : ℤ) → first_in c ≡ Some z → is_in z c ≡ true
+pub first_is_in : (c : Option (List Range)) (z : ℤ) → first_in c ≡ Some z → is_in z c ≡ true
 first_is_in None z h = refl
 first_is_in (Some rs) z h = zero_or (in_some (pos 0) rs) rs z refl h
 
-record FirstInteger (o : Option ℤ) (x : Value) : Type 0 where
-  one : ℤ
-  is : o ≡ Some one
-  value_is : int one ≡ x
+pub record FirstInteger (o : Option ℤ) (x : Value) : Type 0 where
+  pub one : ℤ
+  pub is : o ≡ Some one
+  pub value_is : int one ≡ x
 
-first_integer_is : (span : Span) (o : Option ℤ) (x : Value) → first_integer span o ≡ Good x → FirstInteger o x
+pub first_integer_is : (span : Span) (o : Option ℤ) (x : Value) → first_integer span o ≡ Good x → FirstInteger o x
 first_integer_is span None x h = bad_good (Faulted D16 span) x h
 first_integer_is span (Some z) x h = record { one = z; is = refl; value_is = good_same (int z) x h }
 
@@ -85,16 +85,16 @@ length_copies : {A : Type 0} (n : ℕ) (b : A) → length (replicate n b) ≡ n
 length_copies zero b = refl
 length_copies (suc n) b = ap suc (length_copies n b)
 
-record FirstBits (w : ℤ) (u : View) (x : Value) : Type 0 where
-  one : List Bool
-  value_is : bits_with one u ≡ x
-  wide : is_width (length one) w ≡ true
+pub record FirstBits (w : ℤ) (u : View) (x : Value) : Type 0 where
+  pub one : List Bool
+  pub value_is : bits_with one u ≡ x
+  pub wide : is_width (length one) w ≡ true
 
 bits_by : (b : Bool) (span : Span) (n : ℕ) (u : View) (x : Value) → cond b (Good (bits_with (replicate n false) u)) (Bad (Faulted D14 span)) ≡ Good x → FirstBits (pos n) u x
 bits_by true span n u x h = record { one = replicate n false; value_is = good_same (bits_with (replicate n false) u) x h; wide = ap (λ k. k == n) (length_copies n false) ∙ number_is n }
 bits_by false span n u x h = bad_good (Faulted D14 span) x h
 
-first_bits_are : (limit : ℕ) (span : Span) (w : ℤ) (u : View) (x : Value) → first_bits limit span w u ≡ Good x → FirstBits w u x
+pub first_bits_are : (limit : ℕ) (span : Span) (w : ℤ) (u : View) (x : Value) → first_bits limit span w u ≡ Good x → FirstBits w u x
 first_bits_are limit span (pos n) u x h = bits_by (nat_le n limit) span n u x h
 first_bits_are limit span (negsuc n) u x h = bad_good (Faulted D14 span) x h
 
@@ -104,15 +104,15 @@ first_among : (labels : List (List ℕ)) → HasLabel labels → is_among (first
 first_among [] h = absurd h
 first_among (l ∷ ls) h = or_first (bytes_eq l l) (is_among l ls) (name_is l)
 
-count_repeated : (n : ℕ) (x : Value) → count (repeated n x) ≡ n
+pub count_repeated : (n : ℕ) (x : Value) → count (repeated n x) ≡ n
 count_repeated zero x = refl
 count_repeated (suc n) x = ap suc (count_repeated n x)
 
-all_repeated : (n : ℕ) (x : Value) (T : Closed) → has x T ≡ true → all_in (repeated n x) T ≡ true
+pub all_repeated : (n : ℕ) (x : Value) (T : Closed) → has x T ≡ true → all_in (repeated n x) T ≡ true
 all_repeated zero x T h = refl
 all_repeated (suc n) x T h = and_true (has x T) (all_in (repeated n x) T) h (all_repeated n x T h)
 
-repeated_seen : (n : ℕ) (x : Value) (T : Closed) → viewed T x ≡ x → all_viewed T (repeated n x) ≡ repeated n x
+pub repeated_seen : (n : ℕ) (x : Value) (T : Closed) → viewed T x ≡ x → all_viewed T (repeated n x) ≡ repeated n x
 repeated_seen zero x T h = refl
 repeated_seen (suc n) x T h = ap₂ (λ y ys. value y ys) h (repeated_seen n x T h)
 
@@ -141,7 +141,7 @@ abbrev BuiltInside : (List ℕ → Option Ty) → Value → Type 0
 BuiltInside d (exception_with own supers n xs) = SeenAs d (exception_of n) n xs × BuiltFields d xs
 BuiltInside d x = Built d x
 
-repeated_built : (d : List ℕ → Option Ty) (n : ℕ) (x : Value) → Built d x → BuiltAll d (repeated n x)
+pub repeated_built : (d : List ℕ → Option Ty) (n : ℕ) (x : Value) → Built d x → BuiltAll d (repeated n x)
 repeated_built d zero x b = tt
 repeated_built d (suc n) x b = (b, repeated_built d n x b)
 

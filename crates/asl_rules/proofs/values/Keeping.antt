@@ -7,6 +7,7 @@ use Rattle.asl_rules.specs.types.Types.{View}
 use Rattle.asl_rules.specs.types.Closed.{is_in, width_at, constraint_at}
 use Rattle.asl_rules.specs.Tests.{Tests, IsRight}
 use Rattle.asl_syn.specs.declared.code.StaticCode.TheVariants.{T05, T06, T07}
+use Rattle.asl_rules.proofs.values.Rounded.{same_width_at}
 use Rattle.asl_rules.proofs.values.Constrained.{below_keeps}
 use Rattle.asl_rules.specs.values.Values.{Value, Values, FieldValues, int, bool, bits_with, label, record_with, exception_with, tuple_with, array_with, no_value, value, count, kind_of, is_exception, is_width}
 use Rattle.asl_rules.specs.types.Closed.{Assignment}
@@ -190,14 +191,14 @@ module _ (av : Assignment) (tests : Tests) (right : IsRight tests) where
   int_step : (d : List ℕ → Option Ty) (z : ℤ) → Steps d (int z)
   int_step d z (integer_of ps) T a s t k m h =
       let i = right.below_yes ps (constraint_of T) (it_holds (tests.below ps (constraint_of T)) T07 m) in
-      int_belongs T z k (below_keeps ps (constraint_of T) av z i.left i.below h)
+      int_belongs T z k (below_keeps ps (constraint_of T) av z i.left i.right i.below h)
   int_step d z (named n supers S) T a s t k m h = no (sym a)
   int_step d z S T a s t k m h = no h
 
   bits_step : (d : List ℕ → Option Ty) (bs : List Bool) (v : View) → Steps d (bits_with bs v)
   bits_step d bs v (bits_of w u) T a s t k m h =
       let i = right.same_yes w (width_of T) (it_holds (tests.same w (width_of T)) T06 m) in
-      bits_belong T bs v k (subst (λ z. is_width (length bs) z ≡ true) (i.same av) h)
+      bits_belong T bs v k (subst (λ z. is_width (length bs) z ≡ true) (same_width_at av w (width_of T) i.left i.right (i.same av)) h)
   bits_step d bs v (named n supers S) T a s t k m h = no (sym a)
   bits_step d bs v S T a s t k m h = no h
 

@@ -14,6 +14,7 @@ use Rattle.asl_syn.specs.declared.tree.Slice.{Slice, roll-Slice}
 use Rattle.asl_syn.specs.declared.tree.TypeExpr.{TypeExpr, roll-TypeExpr}
 use Rattle.asl_syn.specs.declared.tree.Bitfield.TheOpen as ex
 use Rattle.asl_syn.specs.declared.tree.Bitfield.TheFolds.{fold-Bitfield, fold-ConstraintPart, fold-FieldValue, fold-roll-Bitfield, fold-roll-ConstraintPart, fold-roll-Expr, fold-roll-FieldValue, fold-roll-Pattern, fold-roll-Slice, fold-roll-TypeExpr, map-Bitfield, map-ConstraintPart, map-Expr, map-FieldValue, map-Pattern, map-Slice, map-TypeExpr, ind-Expr, ind-TypeExpr}
+use Rattle.asl_poly.specs.WidthLimits.{heaviest}
 use Rattle.asl_cons.specs.Arithmetic.{fits}
 use Rattle.asl_rules.specs.declared.effect.Effect.{Effect}
 use Rattle.asl_rules.specs.declared.effect.Effect.TheVariants.{Pure}
@@ -25,16 +26,19 @@ use Rattle.asl_rules.specs.runs.Trees as tree
 use Rattle.asl_rules.specs.values.Values.{bool, bits_with, tuple_with}
 use Rattle.asl_rules.specs.values.Vectors.{literal_digits, literal_of, literal_bits}
 use Rattle.asl_rules.specs.declarations.Scopes.{Entry, Signature, standing_of}
-use Rattle.asl_rules.specs.types.Widths.{width_of_number, has_width}
+use Rattle.asl_rules.specs.declared.joining.Joining.{Joining}
+use Rattle.asl_rules.specs.declared.joining.Joining.TheVariants.{Combines, Divides, JoinsNothing}
+use Rattle.asl_rules.specs.types.Arithmetic.{joining, reading_of_two}
+use Rattle.asl_rules.specs.types.Widths.{width_of_number}
 use Rattle.asl_rules.specs.expressions.Typing.{Found, width_as, number_as, width_note}
 use Rattle.asl_rules.specs.expressions.Slicing.{FoundSlice}
 use Rattle.asl_rules.specs.types.Writing.{FoundPart, FoundBitfield, FoundType, written_as}
 use Rattle.asl_rules.specs.expressions.Patterns.{FoundPattern, matched}
-use Rattle.asl_rules.specs.expressions.Exprs.{literal_type, FoundField, found, found_type, found_slice, found_pattern, typed_rule, width_rule, number_rule, atom_rule, written_rule, expr_rule, given_rule, slice_rule, part_rule, bitfield_rule, type_rule, pattern_rule}
+use Rattle.asl_rules.specs.expressions.Exprs.{literal_type, FoundField, found, found_type, found_slice, found_pattern, typed_rule, width_of, number_of, names_atom, width_rule, number_rule, atom_rule, written_rule, expr_rule, given_rule, slice_rule, part_rule, bitfield_rule, type_rule, pattern_rule}
 use Rattle.asl_rules.specs.declarations.UsedNames.{Use, Uses, of_value, of_subprogram, of_type, name_of, Each, joined, in_bitfield, in_part, in_expr, in_field, in_pattern, in_slice, in_type, bitfield_uses, part_uses, given_uses, expr_uses, pattern_uses, slice_uses, type_uses}
-use Rattle.asl_rules.proofs.verdict.Alike.{Alike, alike_ok, alike_err, step, after, alike_cond, Same, Both, in_class_alike}
-use Rattle.asl_rules.proofs.verdict.SameRules.{shown, AllOf, SameWidths, SameNumbers, SameWritten, TypedSame, WidthSame, OperandsSame, AddsSame, GivenSame, PartSame, BitfieldSame, WrittenSame, PatternSame, name_alike, unary_alike, binary_alike, conditional_alike, tuple_alike, construct_alike, field_alike, bitfields_alike, element_alike, name_width, name_number, name_atom, negated_width, negated_number, combined_width, combined_number, call_alike, bit_operands, bit_adds, high_low_operands, high_low_adds, low_width_operands, low_width_adds, factor_width_operands, factor_width_adds, slices_alike, set_alike, tuple_pattern_alike, mask_alike, end_alike, value_alike, range_alike, in_alike, range_part, only_part, integer_alike, one_bit_alike, bit_range_alike, bits_alike, named_alike, tuple_written_alike, array_alike, as_alike}
-use Rattle.std.specs.Prelude.{option_map}
+use Rattle.asl_rules.proofs.verdict.Alike.{Alike, alike_ok, alike_err, step, after, Same, Both, in_class_alike}
+use Rattle.asl_rules.proofs.verdict.SameRules.{shown, AllOf, SameWidths, SameNumbers, SameWritten, TypedSame, WidthSame, OperandsSame, AddsSame, GivenSame, PartSame, BitfieldSame, WrittenSame, PatternSame, name_alike, unary_alike, binary_alike, conditional_alike, tuple_alike, construct_alike, field_alike, bitfields_alike, element_alike, name_width, name_number, name_atom, negated_width, negated_number, combined_width, combined_number, divided_width, divided_number, call_alike, bit_operands, bit_adds, high_low_operands, high_low_adds, low_width_operands, low_width_adds, factor_width_operands, factor_width_adds, slices_alike, set_alike, tuple_pattern_alike, mask_alike, end_alike, value_alike, range_alike, in_alike, range_part, only_part, integer_alike, one_bit_alike, bit_range_alike, bits_alike, named_alike, tuple_written_alike, array_alike, as_alike}
+use Rattle.std.specs.Prelude.{nat_le, option_map}
 use Rattle.asl_rules.specs.types.Shapes.{SliceShape, PatternShape, PartShape, BitfieldShape}
 use Rattle.asl_rules.specs.types.Shaped.{Shaped, TypeOver, itself, exprs_in, shapes_in, given_layer, slice_layer, pattern_layer, part_layer, bitfield_layer, type_layer}
 use Rattle.asl_rules.specs.values.Operators.{strictness, unary_value, truth}
@@ -256,7 +260,7 @@ module _ (t : Tests) (A B : List Entry) (subs : List Signature) where
 
   layer_typed : (y : ex.Expr-F BB CC EE FF PP SS TT) → Agree A B (in_expr (using_expr (trees_expr y))) → Called A B (in_expr (using_expr (trees_expr y))) → (k : Effect) → Alike Same (typed_rule t (opened_expr (trees_expr y)) (record { names = A; subs = subs; class = k })) (typed_rule t (opened_expr (trees_expr y)) (record { names = B; subs = subs; class = k }))
   layer_typed (ex.Int span n) g l k = in_class_alike k span Pure (literal_type n) (λ m. tree.Int m n) (λ m. tree.Int m n)
-  layer_typed (ex.Bits span text) g l k = step Same (found_or (literal_of t.limit text) S03 span) _ _ (λ bs. in_class_alike k span Pure (bits_wide (length bs)) (λ n. tree.Constant n (bits_with bs [])) (λ n. tree.Constant n (bits_with bs [])))
+  layer_typed (ex.Bits span text) g l k = step Same (found_or (literal_of t.limit text) S03 span) _ _ (λ bs. after Same (need (nat_le (length bs) heaviest) T20 span) _ _ (in_class_alike k span Pure (bits_wide (length bs)) (λ n. tree.Constant n (bits_with bs [])) (λ n. tree.Constant n (bits_with bs []))))
   layer_typed (ex.Bool span b) g l k = in_class_alike k span Pure boolean (λ n. tree.Constant n (bool b)) (λ n. tree.Constant n (bool b))
   layer_typed (ex.Name span name) g l k = name_alike t A B subs span name k g.0
   layer_typed (ex.Unary span o a) g l k = unary_alike t A B subs span o (found t a.0) k ((a.1 g).typed_is l)
@@ -289,12 +293,17 @@ module _ (t : Tests) (A B : List Entry) (subs : List Signature) where
   width_unary span unary.Not a g k = alike_err SameWidths (fault_of T19 span)
   width_unary span unary.Complement a g k = alike_err SameWidths (fault_of T19 span)
 
+  width_two : (span : Span) (j : Joining) (a b : EE) → Agree A B (expr_uses a.0 ++ expr_uses b.0) → (k : Effect) →
+      Alike SameWidths (width_of span (reading_of_two j (found t a.0) (found t b.0)) (record { names = A; subs = subs; class = k })) (width_of span (reading_of_two j (found t a.0) (found t b.0)) (record { names = B; subs = subs; class = k }))
+  width_two span (Combines o) a b g k = combined_width t A B subs span o (found t a.0) (found t b.0) k (a.1 (left A B (expr_uses a.0) (expr_uses b.0) g)).width_is (b.1 (right A B (expr_uses a.0) (expr_uses b.0) g)).width_is
+  width_two span Divides a b g k = divided_width t A B subs span (found t a.0) (found t b.0) k (a.1 (left A B (expr_uses a.0) (expr_uses b.0) g)).width_is
+  width_two span JoinsNothing a b g k = alike_err SameWidths (fault_of T19 span)
+
   layer_width : (y : ex.Expr-F BB CC EE FF PP SS TT) → Agree A B (in_expr (using_expr (trees_expr y))) → (k : Effect) → Alike SameWidths (width_rule (opened_expr (trees_expr y)) (record { names = A; subs = subs; class = k })) (width_rule (opened_expr (trees_expr y)) (record { names = B; subs = subs; class = k }))
   layer_width (ex.Int span n) g k = step SameWidths (width_of_number span (pos n)) _ _ (λ p. alike_ok SameWidths (width_as p (tree.Int (width_note span) n)) (width_as p (tree.Int (width_note span) n)) refl)
   layer_width (ex.Name span name) g k = name_width t A B subs span name k g.0
   layer_width (ex.Unary span o a) g k = width_unary span o a g k
-  layer_width (ex.Binary span o a b) g k =
-      alike_cond SameWidths (has_width o) (has_width o) _ _ _ _ refl (combined_width t A B subs span o (found t a.0) (found t b.0) k (a.1 (left A B (expr_uses a.0) (expr_uses b.0) g)).width_is (b.1 (right A B (expr_uses a.0) (expr_uses b.0) g)).width_is) (alike_err SameWidths (fault_of T19 span))
+  layer_width (ex.Binary span o a b) g k = width_two span (joining o) a b g k
   -- no other form is a width
   layer_width y g k = alike_err SameWidths (fault_of T19 _)
 
@@ -303,12 +312,17 @@ module _ (t : Tests) (A B : List Entry) (subs : List Signature) where
   number_unary span unary.Not a g k = alike_err SameNumbers (fault_of T19 span)
   number_unary span unary.Complement a g k = alike_err SameNumbers (fault_of T19 span)
 
+  number_two : (span : Span) (j : Joining) (a b : EE) → Agree A B (expr_uses a.0 ++ expr_uses b.0) → (k : Effect) →
+      Alike SameNumbers (number_of span (reading_of_two j (found t a.0) (found t b.0)) (record { names = A; subs = subs; class = k })) (number_of span (reading_of_two j (found t a.0) (found t b.0)) (record { names = B; subs = subs; class = k }))
+  number_two span (Combines o) a b g k = combined_number t A B subs span o (found t a.0) (found t b.0) k (a.1 (left A B (expr_uses a.0) (expr_uses b.0) g)).width_is (b.1 (right A B (expr_uses a.0) (expr_uses b.0) g)).width_is
+  number_two span Divides a b g k = divided_number t A B subs span (found t a.0) (found t b.0) k (a.1 (left A B (expr_uses a.0) (expr_uses b.0) g)).width_is
+  number_two span JoinsNothing a b g k = alike_err SameNumbers (fault_of T19 span)
+
   layer_number : (y : ex.Expr-F BB CC EE FF PP SS TT) → Agree A B (in_expr (using_expr (trees_expr y))) → (k : Effect) → Alike SameNumbers (number_rule (opened_expr (trees_expr y)) (record { names = A; subs = subs; class = k })) (number_rule (opened_expr (trees_expr y)) (record { names = B; subs = subs; class = k }))
   layer_number (ex.Int span n) g k = after SameNumbers (need (fits (pos n)) T20 span) _ _ (alike_ok SameNumbers (number_as (pos n) (tree.Int (width_note span) n)) (number_as (pos n) (tree.Int (width_note span) n)) refl)
   layer_number (ex.Name span name) g k = name_number t A B subs span name k g.0
   layer_number (ex.Unary span o a) g k = number_unary span o a g k
-  layer_number (ex.Binary span o a b) g k =
-      alike_cond SameNumbers (has_width o) (has_width o) _ _ _ _ refl (combined_number t A B subs span o (found t a.0) (found t b.0) k (a.1 (left A B (expr_uses a.0) (expr_uses b.0) g)).width_is (b.1 (right A B (expr_uses a.0) (expr_uses b.0) g)).width_is) (alike_err SameNumbers (fault_of T19 span))
+  layer_number (ex.Binary span o a b) g k = number_two span (joining o) a b g k
   -- no other form is a width
   layer_number y g k = alike_err SameNumbers (fault_of T19 _)
 
@@ -317,10 +331,15 @@ module _ (t : Tests) (A B : List Entry) (subs : List Signature) where
   atom_unary span unary.Not a g k = refl
   atom_unary span unary.Complement a g k = refl
 
+  atom_two : (j : Joining) (a b : EE) → Agree A B (expr_uses a.0 ++ expr_uses b.0) → (k : Effect) → names_atom (reading_of_two j (found t a.0) (found t b.0)) (record { names = A; subs = subs; class = k }) ≡ names_atom (reading_of_two j (found t a.0) (found t b.0)) (record { names = B; subs = subs; class = k })
+  atom_two (Combines o) a b g k = ap₂ (λ x z. x || z) ((a.1 (left A B (expr_uses a.0) (expr_uses b.0) g)).width_is.atom_is k) ((b.1 (right A B (expr_uses a.0) (expr_uses b.0) g)).width_is.atom_is k)
+  atom_two Divides a b g k = ap₂ (λ x z. x || z) ((a.1 (left A B (expr_uses a.0) (expr_uses b.0) g)).width_is.atom_is k) ((b.1 (right A B (expr_uses a.0) (expr_uses b.0) g)).width_is.atom_is k)
+  atom_two JoinsNothing a b g k = refl
+
   layer_atom : (y : ex.Expr-F BB CC EE FF PP SS TT) → Agree A B (in_expr (using_expr (trees_expr y))) → (k : Effect) → atom_rule (opened_expr (trees_expr y)) (record { names = A; subs = subs; class = k }) ≡ atom_rule (opened_expr (trees_expr y)) (record { names = B; subs = subs; class = k })
   layer_atom (ex.Name span name) g k = name_atom t A B subs name g.0
   layer_atom (ex.Unary span o a) g k = atom_unary span o a g k
-  layer_atom (ex.Binary span o a b) g k = ap (λ z. has_width o && z) (ap₂ (λ x z. x || z) ((a.1 (left A B (expr_uses a.0) (expr_uses b.0) g)).width_is.atom_is k) ((b.1 (right A B (expr_uses a.0) (expr_uses b.0) g)).width_is.atom_is k))
+  layer_atom (ex.Binary span o a b) g k = atom_two (joining o) a b g k
   layer_atom y g k = refl
 
   layer_expr : (y : ex.Expr-F BB CC EE FF PP SS TT) → Agree A B (in_expr (using_expr (trees_expr y))) → WidthSame t A B subs (expr_rule t (opened_expr (trees_expr y)))

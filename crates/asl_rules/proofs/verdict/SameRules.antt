@@ -22,7 +22,7 @@ use Rattle.asl_rules.specs.runs.Trees as tree
 use Rattle.asl_rules.specs.runs.Trees.{Tree, Note, own}
 use Rattle.asl_rules.specs.declarations.Scopes.{Entry, Scope, Signature, Param, Chosen, Standing, Stored, Subprogram, TypeName, Label, standing_of, storage_of, storage_in, type_of_name, type_in, is_subprogram, reading, choose}
 use Rattle.asl_rules.specs.declarations.Layouts.{slot_of, layout_of}
-use Rattle.asl_rules.specs.types.Widths.{Total, plus, minus, plus_number, totalled, width_of_standing, width_of_binary, width_difference, number_of_standing, number_of_binary, held, storage_has_atom, bounded, length_of}
+use Rattle.asl_rules.specs.types.Widths.{Total, plus, minus, plus_number, totalled, width_of_standing, width_difference, width_combined, width_divided, number_of_standing, number_combined, number_divided, held, storage_has_atom, bounded, length_of}
 use Rattle.asl_rules.specs.expressions.Typing.{Found, Typed, Width, Number, Operand, operand, operands, width_as, number_as, width_note, in_class, finish, finish_all, effects_of, types_of, trees_of, trees_from}
 use Rattle.asl_rules.specs.expressions.Operations.{operation, operation_of_two, unary_rule, binary_rule, comparable}
 use Rattle.asl_rules.specs.values.Members.{field_behind, bitfields_behind, bitfields_named, element_at, indexed, member_named, member_type, member_tree, construction, constructed, given_once, all_fit, places_given, texts_of, all_wide}
@@ -30,7 +30,9 @@ use Rattle.asl_rules.specs.expressions.Slicing.{FoundSlice, all_operands, all_in
 use Rattle.asl_rules.specs.types.Writing.{WrittenPart, FoundPart, WrittenEnd, WrittenField, FoundBitfield, Written, FoundType, written_as, range_of_widths, range_of_numbers, range_rule, one_width, one_number, only_rule, all_parts, parts_written, part_shapes, part_trees, field_shapes, field_trees, type_shapes, all_sizes, integer_written, integer_rule, most_parts, end_rule, one_bit_rule, bit_range_rule, all_fields, all_numbered, view_rule, within_limits, bits_written, bits_rule, name_written, named_written, types_in_order, types_written, tuple_written, array_written, array_rule, converted_to, as_rule, all_placed, names_once}
 use Rattle.asl_rules.specs.expressions.Patterns.{FoundPattern, Matched, matched, all_match, as_many, parts_match, set_matched, mask_matched, end_matched, value_matched, range_matched, pure_typed, tuple_pattern_rule, matching, in_rule}
 use Rattle.asl_rules.specs.expressions.Calls.{Giving, Replacing, given, replacing, written_first, argument_first, widths_given, polys, is_width_alone, given_by_argument, widths_omitted, widths_rule, replaced_by, fits_replaced, params_fit, arguments_fit, both_fit, call_begun, chosen, routine_taken, routine_called, function_called, function_of, function_rule, routine_params, routine_type, routine_formals, call_tree}
-use Rattle.asl_rules.specs.expressions.Exprs.{FoundField, name_of_standing, name_rule, apart, conditional_of, conditional_rule, operation_rule, operation_rule_of_two, tuple_with, tuple_rule, values_given, names_given, construct_rule, field_rule, bitfields_rule, element_rule, name_read, width_of_operation, number_of_operation}
+use Rattle.asl_rules.specs.expressions.Exprs.{FoundField, name_of_standing, name_rule, apart, conditional_of, conditional_rule, operation_rule, operation_rule_of_two, tuple_with, tuple_rule, values_given, names_given, construct_rule, field_rule, bitfields_rule, element_rule, name_read, width_of as width_read, number_of, combined_tree, divided_tree}
+use Rattle.asl_rules.specs.declared.joining.Combination.{Combination}
+use Rattle.asl_rules.specs.types.Arithmetic.{combined, divided}
 use Rattle.asl_rules.proofs.verdict.Alike.{Alike, alike_ok, alike_err, alike_self, steps, step, after, alike_cond, Equal, Both, Same, in_class_alike, finish_alike, by_tree, SameOperands, operand_same, effects_same, types_same, finish_all_alike}
 use Rattle.asl_rules.specs.types.Shapes as shape
 use Rattle.asl_rules.specs.types.Shapes.{PatternShape, one_place, many_places, equal_to}
@@ -328,19 +330,38 @@ module _ (t : Tests) (A B : List Entry) (subs : List Signature) where
       (λ z. held span (pos 0 -ℤ z.number) >>= λ n. Ok (number_as n (tree.Unary (width_note span) unary.Negate z.tree)))
       (λ z u. step SameNumbers (held span (pos 0 -ℤ z.number)) _ _ (λ n. alike_ok SameNumbers (number_as n (tree.Unary (width_note span) unary.Negate z.tree)) (number_as n (tree.Unary (width_note span) unary.Negate u)) refl)))
 
-  pub combined_width : (span : Span) (o : BinaryOperator) (a b : Found) (k : Effect) → WidthSame a → WidthSame b →
-      Alike SameWidths (a.width (first k) >>= λ p. b.width (first k) >>= λ q. width_of_operation span o p q) (a.width (second k) >>= λ p. b.width (second k) >>= λ q. width_of_operation span o p q)
+  pub combined_width : (span : Span) (o : Combination) (a b : Found) (k : Effect) → WidthSame a → WidthSame b →
+      Alike SameWidths (width_read span (combined o a b) (first k)) (width_read span (combined o a b) (second k))
   combined_width span o a b k h i =
-      steps SameWidths SameWidths (a.width (first k)) (a.width (second k)) _ _ (h.width_is k) (with_poly SameWidths (λ p. b.width (first k) >>= λ q. width_of_operation span o p q) (λ p. b.width (second k) >>= λ q. width_of_operation span o p q) (λ p u.
-      steps SameWidths SameWidths (b.width (first k)) (b.width (second k)) _ _ (i.width_is k) (with_poly SameWidths (λ q. width_of_operation span o p q) (λ q. width_of_operation span o (record p { tree = u }) q) (λ q v.
-      step SameWidths (width_of_binary span o p.poly q.poly) _ _ (λ r. alike_ok SameWidths (width_as r (tree.Binary (width_note span) o p.tree q.tree)) (width_as r (tree.Binary (width_note span) o u v)) refl)))))
+      let made : Width → Width → Result Width Fault = λ p q. width_combined span o p.poly q.poly >>= λ r. Ok (width_as r (combined_tree span o p.tree q.tree)) in
+      steps SameWidths SameWidths (a.width (first k)) (a.width (second k)) _ _ (h.width_is k) (with_poly SameWidths (λ p. b.width (first k) >>= λ q. made p q) (λ p. b.width (second k) >>= λ q. made p q) (λ p u.
+      steps SameWidths SameWidths (b.width (first k)) (b.width (second k)) _ _ (i.width_is k) (with_poly SameWidths (λ q. made p q) (λ q. made (record p { tree = u }) q) (λ q v.
+      step SameWidths (width_combined span o p.poly q.poly) _ _ (λ r. alike_ok SameWidths (width_as r (combined_tree span o p.tree q.tree)) (width_as r (combined_tree span o u v)) refl)))))
 
-  pub combined_number : (span : Span) (o : BinaryOperator) (a b : Found) (k : Effect) → WidthSame a → WidthSame b →
-      Alike SameNumbers (a.number (first k) >>= λ y. b.number (first k) >>= λ z. number_of_operation span o y z) (a.number (second k) >>= λ y. b.number (second k) >>= λ z. number_of_operation span o y z)
+  pub combined_number : (span : Span) (o : Combination) (a b : Found) (k : Effect) → WidthSame a → WidthSame b →
+      Alike SameNumbers (number_of span (combined o a b) (first k)) (number_of span (combined o a b) (second k))
   combined_number span o a b k h i =
-      steps SameNumbers SameNumbers (a.number (first k)) (a.number (second k)) _ _ (h.number_is k) (with_number SameNumbers (λ y. b.number (first k) >>= λ z. number_of_operation span o y z) (λ y. b.number (second k) >>= λ z. number_of_operation span o y z) (λ y u.
-      steps SameNumbers SameNumbers (b.number (first k)) (b.number (second k)) _ _ (i.number_is k) (with_number SameNumbers (λ z. number_of_operation span o y z) (λ z. number_of_operation span o (record y { tree = u }) z) (λ z v.
-      step SameNumbers (number_of_binary span o y.number z.number) _ _ (λ n. alike_ok SameNumbers (number_as n (tree.Binary (width_note span) o y.tree z.tree)) (number_as n (tree.Binary (width_note span) o u v)) refl)))))
+      let made : Number → Number → Result Number Fault = λ y z. number_combined span o y.number z.number >>= λ n. Ok (number_as n (combined_tree span o y.tree z.tree)) in
+      steps SameNumbers SameNumbers (a.number (first k)) (a.number (second k)) _ _ (h.number_is k) (with_number SameNumbers (λ y. b.number (first k) >>= λ z. made y z) (λ y. b.number (second k) >>= λ z. made y z) (λ y u.
+      steps SameNumbers SameNumbers (b.number (first k)) (b.number (second k)) _ _ (i.number_is k) (with_number SameNumbers (λ z. made y z) (λ z. made (record y { tree = u }) z) (λ z v.
+      step SameNumbers (number_combined span o y.number z.number) _ _ (λ n. alike_ok SameNumbers (number_as n (combined_tree span o y.tree z.tree)) (number_as n (combined_tree span o u v)) refl)))))
+
+  -- a divisor is the same in every scope
+  pub divided_width : (span : Span) (a b : Found) (k : Effect) → WidthSame a →
+      Alike SameWidths (width_read span (divided a b) (first k)) (width_read span (divided a b) (second k))
+  divided_width span a b k h =
+      let made : Width → Result Width Fault = λ p. found_or b.divisor T19 span >>= λ n. width_divided span p.poly n >>= λ r. Ok (width_as r (divided_tree span p.tree b.span n)) in
+      steps SameWidths SameWidths (a.width (first k)) (a.width (second k)) _ _ (h.width_is k) (with_poly SameWidths made made (λ p u.
+      step SameWidths (found_or b.divisor T19 span) _ _ (λ n.
+      step SameWidths (width_divided span p.poly n) _ _ (λ r. alike_ok SameWidths (width_as r (divided_tree span p.tree b.span n)) (width_as r (divided_tree span u b.span n)) refl))))
+
+  pub divided_number : (span : Span) (a b : Found) (k : Effect) → WidthSame a →
+      Alike SameNumbers (number_of span (divided a b) (first k)) (number_of span (divided a b) (second k))
+  divided_number span a b k h =
+      let made : Number → Result Number Fault = λ z. found_or b.divisor T19 span >>= λ n. number_divided span z.number n >>= λ m. Ok (number_as m (divided_tree span z.tree b.span n)) in
+      steps SameNumbers SameNumbers (a.number (first k)) (a.number (second k)) _ _ (h.number_is k) (with_number SameNumbers made made (λ z u.
+      step SameNumbers (found_or b.divisor T19 span) _ _ (λ n.
+      step SameNumbers (number_divided span z.number n) _ _ (λ m. alike_ok SameNumbers (number_as m (divided_tree span z.tree b.span n)) (number_as m (divided_tree span u b.span n)) refl))))
 
   -- ---- calls
 

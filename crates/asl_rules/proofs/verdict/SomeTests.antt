@@ -1,22 +1,25 @@
 -- Right tests exist: whether two widths are the same, and whether a constraint is below another, is decided.
-use Rattle.std.proofs.Common.{◌≡◌, ◌⊎◌, inl, inr, ℕ, zero, suc, ◌^◌, List, [], ◌∷◌, length, Option, Some, None, refl, ap, sym, ◌∙◌, arith}
+use Rattle.std.proofs.Common.{◌≡◌, ◌⊎◌, inl, inr, ℕ, zero, suc, ◌<◌, ◌≤◌, ◌^◌, List, [], ◌∷◌, length, Option, Some, None, refl, ap, sym, ◌∙◌, arith}
 use Rattle.std.specs.Prelude.{◌≤ℤ◌, ◌<ℤ◌, MatchOption, unsigned_abs}
 use Rattle.std.specs.declared.cmp.Ordering.{Ordering}
 use Rattle.std.specs.declared.cmp.Ordering.TheVariants.{Less, Equal, Greater}
-use Rattle.std.proofs.Math.IntN.{ℤ, pos, ◌+ℤ◌, ◌-ℤ◌}
+use Rattle.std.proofs.Math.IntN.{ℤ, pos, ◌+ℤ◌, ◌-ℤ◌, ◌*ℤ◌}
 use Rattle.std.proofs.lemmas.Int.{ints}
 use Rattle.asl_poly.specs.Terms.{Summand, Polynomial, value, order, AllUpTo, Falls, AllBelow, IsTerm, Sorted}
 use Rattle.asl_poly.specs.Limits.{weight, atoms_of, IsMap}
 use Rattle.asl_poly.specs.Operations.{constant_of, varying_part, constant_part}
-use Rattle.asl_poly.specs.Poly.{IsOffset}
+use Rattle.asl_poly.specs.Denominators.{IsLowest, greatest_common_divisor, multiples, sizes}
+use Rattle.asl_poly.specs.Poly.{IsPolynomial, IsConstant, IsOffset, constant_map, constant_value}
 use Rattle.asl_poly.proofs.DistinctValues.{same_term}
-use Rattle.asl_poly.proofs.Maps.{same_map, one_value}
-use Rattle.asl_poly.proofs.Offset.{differ_bodies, bodies_differ}
+use Rattle.asl_poly.proofs.Maps.{one_value, one_answer}
+use Rattle.asl_poly.proofs.LowestTerms.{lowest_of_one, one_of_lowest}
+use Rattle.asl_poly.proofs.SameFractions.{same_polynomial, same_of_equal, same_everywhere}
+use Rattle.asl_poly.proofs.Offset.{found_offset}
 use Rattle.asl_cons.specs.declared.End.{End}
 use Rattle.asl_cons.specs.declared.End.TheVariants.{Int, Width}
 use Rattle.asl_cons.specs.declared.Part.{Part}
 use Rattle.asl_cons.specs.Constraint.{IsEnd, AllEnds, HasEnd, IsFixed, Holds, InFixed, IsAbove, Held, IsCovered, AllCovered, Below}
-use Rattle.asl_cons.proofs.Covering.{int_end, not_above_free, free_not_above, differ_not, not_holds, free_not_holds, covered_fixed, covered_free}
+use Rattle.asl_cons.proofs.Covering.{Ends, value_constant_map, int_end, integer_above, integer_not_above, above_integer, not_above_integer, widths_not_above, not_holds, free_not_holds, covered_fixed, covered_free}
 use Rattle.asl_rules.specs.Tests.{Tests, SameWidth, Inside, IsRight}
 use Rattle.asl_rules.proofs.basics.Deciding.{Dec, yes, yes_holds, holds_yes, as_well, both, either, neither, nats, at_most, integers, at_most_z, lists}
 
@@ -59,16 +62,34 @@ same_summand s t = as_well (λ p. same_term s t p.0 p.1) (λ h. (ap (λ u. u.coe
 same_terms : (ss ts : List Summand) → Dec (ss ≡ ts)
 same_terms = lists same_summand
 
+-- a polynomial is in lowest terms where the greatest common divisor of its denominator and its coefficients is 1
+is_lowest : (p : Polynomial) → 0 < p.denominator → Dec (IsLowest p)
+is_lowest p some = as_well (λ e. lowest_of_one p some e) (λ h. one_of_lowest p h) (nats (greatest_common_divisor p.denominator (sizes p.terms)) 1)
+
+lowest_by : (p : Polynomial) → Dec (1 ≤ p.denominator) → Dec (IsLowest p)
+lowest_by p (inl some) = is_lowest p (omega (arith, some))
+lowest_by p (inr none) = inr (λ h. let k : 0 < p.denominator = h.positive in none (omega (arith, k)))
+
+is_polynomial : (p : Polynomial) → Dec (IsPolynomial p)
+is_polynomial p =
+    as_well (λ h. record { map = h.0; lowest = h.1.0; fine = h.1.1 }) (λ h. (h.map, (h.lowest, h.fine)))
+    (both (is_map p.terms) (both (lowest_by p (at_most 1 p.denominator)) (at_most p.denominator (2 ^ 16))))
+
+same_polynomials : (p q : Polynomial) → Dec (p ≡ q)
+same_polynomials p q =
+    as_well (λ h. same_polynomial p q h.0 h.1) (λ e. (ap (λ (z : Polynomial). z.terms) e, ap (λ (z : Polynomial). z.denominator) e))
+    (both (same_terms p.terms q.terms) (nats p.denominator q.denominator))
+
 same_width : (p q : Polynomial) → Dec (SameWidth p q)
 same_width p q =
-    as_well (λ m. record { left = m.0; right = m.1.0; same = λ a. ap (value a) m.1.1 }) (λ h. (h.left, (h.right, same_map p.terms q.terms h.left h.right h.same)))
-    (both (is_map p.terms) (both (is_map q.terms) (same_terms p.terms q.terms)))
+    as_well (λ m. record { left = m.0; right = m.1.0; same = same_of_equal p q m.1.1 }) (λ h. (h.left, (h.right, same_everywhere p q h.left h.right h.same)))
+    (both (is_polynomial p) (both (is_polynomial q) (same_polynomials p q)))
 
 -- ---- ends
 
 is_end : (e : End) → Dec (IsEnd e)
 is_end (Int z) = inl tt
-is_end (Width p) = is_map p.terms
+is_end (Width p) = is_polynomial p
 
 ends : (ps : List Part) → Dec (AllEnds ps)
 ends [] = inl tt
@@ -77,13 +98,13 @@ ends (p ∷ ps) = both (both (is_end p.low) (is_end p.high)) (ends ps)
 abbrev Number : End → Type 0
 Number e = ((c : ℤ) × HasEnd e c) ⊎ ((c : ℤ) → HasEnd e c → ⊥)
 
-found : (p : Polynomial) (r : Option ℤ) → MatchOption r ((c : ℤ) → ((a : ℕ → ℤ) → value a p.terms ≡ c) → ⊥) (λ c. (a : ℕ → ℤ) → value a p.terms ≡ c) → Number (Width p)
+found : (p : Polynomial) (r : Option ℤ) → MatchOption r ((c : ℤ) → IsConstant p c → ⊥) (λ c. IsConstant p c) → Number (Width p)
 found p None m = inr m
 found p (Some c) m = inl (c, m)
 
 number : (e : End) → IsEnd e → Number e
 number (Int z) h = inl (z, int_end z)
-number (Width p) h = found p (constant_of p.terms) (one_value p.terms (constant_of p.terms) h refl)
+number (Width p) h = found p (constant_value p) (one_answer p (constant_value p) h refl)
 
 abbrev Fixed : Part → Type 0
 Fixed p = ((l : ℤ) × (h : ℤ) × IsFixed p l h) ⊎ ((l h : ℤ) → IsFixed p l h → ⊥)
@@ -101,20 +122,16 @@ fixed p e f = fixed_by p (number p.low e) (number p.high f)
 nowhere : ℕ → ℤ
 nowhere n = pos 0
 
-back : (x y : ℤ) → x ≡ y +ℤ (x -ℤ y)
-back x y = omega (arith, ints)
+-- the integer that the terms are, where they have no atom
+abbrev Over : Polynomial → Type 0
+Over p = ((c : ℤ) × ((a : ℕ → ℤ) → value a p.terms ≡ c)) ⊎ ((c : ℤ) → ((a : ℕ → ℤ) → value a p.terms ≡ c) → ⊥)
 
-least_of : (x y : ℤ) → y ≤ℤ x → pos 0 ≤ℤ (x -ℤ y)
-least_of x y h = grind (arith, ints)
+over_by : (p : Polynomial) (r : Option ℤ) → MatchOption r ((c : ℤ) → ((a : ℕ → ℤ) → value a p.terms ≡ c) → ⊥) (λ c. (a : ℕ → ℤ) → value a p.terms ≡ c) → Over p
+over_by p None m = inr m
+over_by p (Some c) m = inl (c, m)
 
-least_back : (x y z : ℤ) → x ≡ y +ℤ z → pos 0 ≤ℤ z → y ≤ℤ x
-least_back x y z e h = grind (arith, ints)
-
-both_fixed : (e f : End) (x y : ℤ) → HasEnd e x → HasEnd f y → Dec (IsAbove e f)
-both_fixed e f x y hx hy =
-    as_well (λ l. record { by = x -ℤ y; least = least_of x y l; apart = λ a. hx a ∙ back x y ∙ ap (λ z. z +ℤ (x -ℤ y)) (sym (hy a)) })
-    (λ h. least_back x y h.by (sym (hx nowhere) ∙ h.apart nowhere ∙ ap (λ z. z +ℤ h.by) (hy nowhere)) h.least)
-    (at_most_z y x)
+terms_over : (p : Polynomial) → IsPolynomial p → Over p
+terms_over p h = over_by p (constant_of p.terms) (one_value p.terms (constant_of p.terms) h.map refl)
 
 -- a distance is one number
 one_distance : (x c d : ℤ) → x +ℤ c ≡ x +ℤ d → c ≡ d
@@ -123,26 +140,45 @@ one_distance x c d e = omega (arith, ints)
 at_distance : (p q : Polynomial) (c : ℤ) → IsOffset p q c → Dec (IsAbove (Width p) (Width q))
 at_distance p q c d =
     as_well (λ l. record { by = c; least = l; apart = d })
-    (λ h. let e : h.by ≡ c = one_distance (value nowhere q.terms) h.by c (sym (h.apart nowhere) ∙ d nowhere) in let l : pos 0 ≤ℤ h.by = h.least in rw e at l)
+    (λ h. let e : h.by ≡ c = one_distance (value nowhere q.terms *ℤ pos p.denominator) h.by c (sym (h.apart nowhere) ∙ d nowhere) in let l : pos 0 ≤ℤ h.by = h.least in rw e at l)
     (at_most_z (pos 0) c)
 
-free_above : (p q : Polynomial) → IsMap p.terms → IsMap q.terms → Dec (varying_part p.terms ≡ varying_part q.terms) → Dec (IsAbove (Width p) (Width q))
-free_above p q m n (inl e) = at_distance p q (constant_part p.terms -ℤ constant_part q.terms) (bodies_differ p.terms q.terms m n e)
-free_above p q m n (inr w) = inr (differ_not (Width p) (Width q) p q refl refl (λ c d. w (differ_bodies p.terms q.terms c m n d)))
+-- the terms with atoms over one denominator
+abbrev Bodies : Polynomial → Polynomial → Type 0
+Bodies p q = multiples q.denominator (varying_part p.terms) ≡ multiples p.denominator (varying_part q.terms)
 
-none_fixed : (e f : End) → IsEnd e → IsEnd f → ((c : ℤ) → HasEnd e c → ⊥) → ((c : ℤ) → HasEnd f c → ⊥) → Dec (IsAbove e f)
-none_fixed (Int z) f m n v w = absurd (v z (int_end z))
-none_fixed (Width p) (Int z) m n v w = absurd (w z (int_end z))
-none_fixed (Width p) (Width q) m n v w = free_above p q m n (same_terms (varying_part p.terms) (varying_part q.terms))
+distance : Polynomial → Polynomial → ℤ
+distance p q = pos q.denominator *ℤ constant_part p.terms -ℤ pos p.denominator *ℤ constant_part q.terms
 
-above_by : (e f : End) → IsEnd e → IsEnd f → Number e → Number f → Dec (IsAbove e f)
-above_by e f m n (inl (x, hx)) (inl (y, hy)) = both_fixed e f x y hx hy
-above_by e f m n (inl (x, hx)) (inr w) = inr (not_above_free e f x hx w)
-above_by e f m n (inr v) (inl (y, hy)) = inr (free_not_above e f y hy v)
-above_by e f m n (inr v) (inr w) = none_fixed e f m n v w
+widths_by : (p q : Polynomial) → IsPolynomial p → IsPolynomial q → Dec (Bodies p q) → Dec (IsAbove (Width p) (Width q))
+unfolding distance
+widths_by p q h k (inl e) =
+    at_distance p q (distance p q) (found_offset p q h k p.terms q.terms q.denominator p.denominator (Some (distance p q)) refl refl refl refl (e, refl))
+widths_by p q h k (inr n) =
+    inr (widths_not_above p q (found_offset p q h k p.terms q.terms q.denominator p.denominator None refl refl refl refl n))
+
+widths : (p q : Polynomial) → IsPolynomial p → IsPolynomial q → Dec (IsAbove (Width p) (Width q))
+widths p q h k = widths_by p q h k (same_terms (multiples q.denominator (varying_part p.terms)) (multiples p.denominator (varying_part q.terms)))
+
+-- an integer above a width, and a width above an integer: the integer times the denominator is compared with the number of the terms
+integer_over : (x : ℤ) (q : Polynomial) → Over q → Dec (IsAbove (Int x) (Width q))
+integer_over x q (inl (c, e)) = as_well ((integer_above x c q e).0) ((integer_above x c q e).1) (at_most_z c (x *ℤ pos q.denominator))
+integer_over x q (inr n) = inr (integer_not_above x q n)
+
+over_integer : (p : Polynomial) (y : ℤ) → Over p → Dec (IsAbove (Width p) (Int y))
+over_integer p y (inl (c, e)) = as_well ((above_integer p y c e).0) ((above_integer p y c e).1) (at_most_z (y *ℤ pos p.denominator) c)
+over_integer p y (inr n) = inr (not_above_integer p y n)
+
+integers_over : (x y : ℤ) → Dec (IsAbove (Int x) (Int y))
+integers_over x y =
+    as_well (λ h. record { by = h.by; least = h.least; apart = h.apart }) (λ h. record { by = h.by; least = h.least; apart = h.apart })
+    (integer_over x (constant_map y) (inl (y, λ a. value_constant_map a y)))
 
 above : (e f : End) → IsEnd e → IsEnd f → Dec (IsAbove e f)
-above e f m n = above_by e f m n (number e m) (number f n)
+above (Int x) (Int y) m n = integers_over x y
+above (Int x) (Width q) m n = integer_over x q (terms_over q n)
+above (Width p) (Int y) m n = over_integer p y (terms_over p m)
+above (Width p) (Width q) m n = widths p q m n
 
 held : (p : Part) (qs : List Part) → IsEnd p.low → IsEnd p.high → AllEnds qs → Dec (Held p qs)
 held p [] l h m = inr (λ x. x)
@@ -150,16 +186,16 @@ held p (q ∷ qs) l h m = either (both (above p.low q.low l m.0.0) (above q.high
 
 -- ---- coverage
 
-holds_by : (q : Part) (i : ℤ) → Fixed q → Dec (Holds q i)
-holds_by q i (inl (l, h, f)) = elim (both (at_most_z l i) (at_most_z i h)) [
+holds_by : (q : Part) (i : ℤ) → Ends q → Fixed q → Dec (Holds q i)
+holds_by q i e (inl (l, h, f)) = elim (both (at_most_z l i) (at_most_z i h)) [
   | inl p ↦ inl (record { l = l; h = h; fixed = f; least = p.0; most = p.1 })
-  | inr n ↦ inr (not_holds q l h i f n)
+  | inr n ↦ inr (not_holds q l h i e f n)
 ]
-holds_by q i (inr n) = inr (free_not_holds q i n)
+holds_by q i e (inr n) = inr (free_not_holds q i n)
 
 inside : (i : ℤ) (qs : List Part) → AllEnds qs → Dec (InFixed i qs)
 inside i [] m = inr (λ x. x)
-inside i (q ∷ qs) m = either (holds_by q i (fixed q m.0.0 m.0.1)) (inside i qs m.1)
+inside i (q ∷ qs) m = either (holds_by q i m.0 (fixed q m.0.0 m.0.1)) (inside i qs m.1)
 
 -- all from l on, n of them
 abbrev AllIn : List Part → ℕ → ℤ → Type 0
@@ -221,7 +257,7 @@ covers_by qs m l h (inl a) =
 covers_by qs m l h (inr n) = inl (λ i b c. absurd (empty l h i n b c))
 
 covered_by : (p : Part) (qs : List Part) → IsEnd p.low → IsEnd p.high → AllEnds qs → Fixed p → Dec (IsCovered qs p)
-covered_by p qs e f m (inl (l, h, g)) = as_well ((covered_fixed p qs l h g).0) ((covered_fixed p qs l h g).1) (covers_by qs m l h (at_most_z l h))
+covered_by p qs e f m (inl (l, h, g)) = as_well ((covered_fixed p qs l h (e, f) g).0) ((covered_fixed p qs l h (e, f) g).1) (covers_by qs m l h (at_most_z l h))
 covered_by p qs e f m (inr n) = as_well ((covered_free p qs n).0) ((covered_free p qs n).1) (held p qs e f m)
 
 all_covered : (ps qs : List Part) → AllEnds ps → AllEnds qs → Dec (AllCovered ps qs)

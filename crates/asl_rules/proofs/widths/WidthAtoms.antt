@@ -1,25 +1,26 @@
 -- The atoms of a width are among those of what the names of the scope count as: names that stand for themselves, where each `let` counts as such.
-use Rattle.std.proofs.Common.{inl, inr, ◌≡◌, ℕ, ℤ, pos, negsuc, List, [], ◌∷◌, Option, Some, None, Ok, refl, ap, subst}
+use Rattle.std.proofs.Common.{inl, inr, ◌≡◌, ℕ, ◌*◌, ◌/◌, ℤ, pos, negsuc, List, [], ◌∷◌, Option, Some, None, Ok, refl, ap, subst}
 use Rattle.std.specs.Prelude.{nat_lt, nat_le, ◌+ℤ◌}
 use Rattle.std.specs.declared.cmp.Ordering.{Ordering}
 use Rattle.std.specs.declared.cmp.Ordering.TheVariants.{Less, Equal, Greater}
 use Rattle.asl_syn.specs.declared.token.Span.{Span}
 use Rattle.asl_syn.specs.declared.code.StaticCode.TheVariants.{T02, T05, T19, T20}
 use Rattle.asl_syn.specs.declared.tree.Expr.{Expr}
-use Rattle.asl_syn.specs.declared.tree.BinaryOperator.{BinaryOperator}
-use Rattle.asl_syn.specs.declared.tree.BinaryOperator.TheVariants as binary
 use Rattle.asl_poly.specs.Terms.{Summand, Polynomial, order}
-use Rattle.asl_poly.specs.Operations.{insert, placed, joined, is_zero, gather, put_factor, all_factors, scaled, multiply, constant_term}
-use Rattle.asl_poly.specs.Poly.{constant_map, sum_map, difference_map, product_map}
+use Rattle.asl_poly.specs.Operations.{insert, placed, joined, is_zero, gather, put_factor, all_factors, scaled, multiply, constant_term, sum_terms, difference_terms, product_terms}
+use Rattle.asl_poly.specs.Denominators.{greatest_common_divisor, sizes, divided, raised, lowest}
+use Rattle.asl_poly.specs.Poly.{sum_denominator, constant_map, sum_map, difference_map, product_map, quotient_map, may_divide}
+use Rattle.asl_rules.specs.declared.joining.Combination.{Combination}
+use Rattle.asl_rules.specs.declared.joining.Combination.TheVariants.{Sum, Difference, Product}
 use Rattle.std.proofs.lemmas.Bool.{cases_Bool}
-use Rattle.asl_cons.specs.Arithmetic.{sum_fits, product_fits}
-use Rattle.asl_rules.specs.Faults.{need, fault_of}
+use Rattle.asl_cons.specs.Arithmetic.{sum_fits, product_fits, quotient_fits}
+use Rattle.asl_rules.specs.Faults.{◌>>◌, need, fault_of}
 use Rattle.asl_rules.specs.Tests.{Tests}
 use Rattle.asl_rules.specs.types.Types.{is_integer}
 use Rattle.asl_rules.specs.values.Values.{Value, int, bool, bits_with, label, record_with, exception_with, tuple_with, array_with}
 use Rattle.asl_rules.specs.declarations.Scopes.{Counted, Scope, Entry, Storage, Standing, Stored, Subprogram, TypeName, Label, standing_of, storage_of, storage_in, known_value}
 use Rattle.asl_poly.specs.WidthLimits.{heaviest}
-use Rattle.asl_rules.specs.types.Widths.{weight_of, width_of_number, width_of_known, width_of_counted, width_of_storage, width_of_standing, width_of_binary, width_sum, width_difference, width_product}
+use Rattle.asl_rules.specs.types.Widths.{weight_of, width_of_number, width_of_known, width_of_counted, width_of_storage, width_of_standing, width_sum, width_difference, width_product, width_combined, width_divided}
 use Rattle.asl_rules.specs.expressions.Typing.{Width}
 use Rattle.asl_rules.specs.expressions.Exprs.{width}
 use Rattle.asl_rules.specs.private.Worth.{Alone, AllOf, AtomsOf, AtomsAlone, WellCounted}
@@ -67,17 +68,39 @@ pub constant_good : (A : ℕ → Type 0) (z : ℤ) → Good A (constant_map z)
 unfolding constant_map
 constant_good A z = elim (cases_Bool (is_zero z)) [ inl e ↦ rw e tt | inr e ↦ rw e (tt, tt) ]
 
+divided_in : (A : ℕ → Type 0) (k : ℕ) (ts : List Summand) → AtomsOf A ts → AtomsOf A (divided k ts)
+divided_in A k [] h = tt
+divided_in A k (t ∷ ts) h = (h.0, divided_in A k ts h.1)
+
+-- lowest terms have the same atoms
+pub lowest_good : (A : ℕ → Type 0) (ts : List Summand) (d : ℕ) → AtomsOf A ts → Good A (lowest ts d)
+unfolding lowest
+lowest_good A ts d h = divided_in A (greatest_common_divisor d (sizes ts)) ts h
+
+raised_in : (A : ℕ → Type 0) (n : ℕ) (p : Polynomial) → Good A p → AtomsOf A (raised n p)
+raised_in A n p h = scaled_in A (constant_term (pos (n / p.denominator))) p.terms tt h
+
 pub sum_good : (A : ℕ → Type 0) (p q : Polynomial) → Good A p → Good A q → Good A (sum_map p q)
 unfolding sum_map
-sum_good A p q h k = gather_in A p.terms (scaled (constant_term (pos 1)) q.terms) h (scaled_in A (constant_term (pos 1)) q.terms tt k)
+sum_good A p q h k =
+    let n = sum_denominator p q in
+    lowest_good A (sum_terms (raised n p) (raised n q)) n
+    (gather_in A (raised n p) (scaled (constant_term (pos 1)) (raised n q)) (raised_in A n p h) (scaled_in A (constant_term (pos 1)) (raised n q) tt (raised_in A n q k)))
 
 pub difference_good : (A : ℕ → Type 0) (p q : Polynomial) → Good A p → Good A q → Good A (difference_map p q)
 unfolding difference_map
-difference_good A p q h k = gather_in A p.terms (scaled (constant_term (negsuc 0)) q.terms) h (scaled_in A (constant_term (negsuc 0)) q.terms tt k)
+difference_good A p q h k =
+    let n = sum_denominator p q in
+    lowest_good A (difference_terms (raised n p) (raised n q)) n
+    (gather_in A (raised n p) (scaled (constant_term (negsuc 0)) (raised n q)) (raised_in A n p h) (scaled_in A (constant_term (negsuc 0)) (raised n q) tt (raised_in A n q k)))
 
 pub product_good : (A : ℕ → Type 0) (p q : Polynomial) → Good A p → Good A q → Good A (product_map p q)
 unfolding product_map
-product_good A p q h k = multiply_in A [] p.terms q.terms tt h k
+product_good A p q h k = lowest_good A (product_terms p.terms q.terms) (p.denominator * q.denominator) (multiply_in A [] p.terms q.terms tt h k)
+
+pub quotient_good : (A : ℕ → Type 0) (p : Polynomial) (k : ℕ) → Good A p → Good A (quotient_map p k)
+unfolding quotient_map
+quotient_good A p k h = lowest_good A p.terms (p.denominator * k) h
 
 pub number_alone : (A : ℕ → Type 0) (span : Span) (z : ℤ) (p : Polynomial) → width_of_number span z ≡ Ok p → Good A p
 number_alone A span z p h =
@@ -89,7 +112,7 @@ sum_alone A span p q r e f h =
     let u = then_ok (need (sum_fits p q) T20 span) (Ok (sum_map p q)) r h in
     subst (Good A) (ok_ok (sum_map p q) r u.then) (sum_good A p q e f)
 
-difference_alone : (A : ℕ → Type 0) (span : Span) (p q r : Polynomial) → Good A p → Good A q → width_difference span p q ≡ Ok r → Good A r
+pub difference_alone : (A : ℕ → Type 0) (span : Span) (p q r : Polynomial) → Good A p → Good A q → width_difference span p q ≡ Ok r → Good A r
 difference_alone A span p q r e f h =
     let u = then_ok (need (sum_fits p q) T20 span) (Ok (difference_map p q)) r h in
     subst (Good A) (ok_ok (difference_map p q) r u.then) (difference_good A p q e f)
@@ -99,15 +122,20 @@ product_alone A span p q r e f h =
     let u = then_ok (need (product_fits p q) T20 span) (Ok (product_map p q)) r h in
     subst (Good A) (ok_ok (product_map p q) r u.then) (product_good A p q e f)
 
-binary_alone : (A : ℕ → Type 0) (span : Span) (o : BinaryOperator) (p q r : Polynomial) → Good A p → Good A q → width_of_binary span o p q ≡ Ok r → Good A r
-binary_alone A span binary.Add p q r e f h = sum_alone A span p q r e f h
-binary_alone A span binary.Subtract p q r e f h = difference_alone A span p q r e f h
-binary_alone A span binary.Multiply p q r e f h = product_alone A span p q r e f h
-binary_alone A span o p q r e f h = err_ok (fault_of T19 span) r h
+pub combined_alone : (A : ℕ → Type 0) (span : Span) (o : Combination) (p q r : Polynomial) → Good A p → Good A q → width_combined span o p q ≡ Ok r → Good A r
+combined_alone A span Sum p q r e f h = sum_alone A span p q r e f h
+combined_alone A span Difference p q r e f h = difference_alone A span p q r e f h
+combined_alone A span Product p q r e f h = product_alone A span p q r e f h
+
+pub divided_alone : (A : ℕ → Type 0) (span : Span) (p r : Polynomial) (k : ℕ) → Good A p → width_divided span p k ≡ Ok r → Good A r
+divided_alone A span p r k e h =
+    let u = then_ok (need (may_divide k p) T19 span) (need (quotient_fits p k) T20 span >> Ok (quotient_map p k)) r h in
+    let v = then_ok (need (quotient_fits p k) T20 span) (Ok (quotient_map p k)) r u.then in
+    subst (Good A) (ok_ok (quotient_map p k) r v.then) (quotient_good A p k e)
 
 -- ---- A
 
-known_alone : (A : ℕ → Type 0) (span : Span) (o : Option Value) (p : Polynomial) → width_of_known span o ≡ Ok p → Good A p
+pub known_alone : (A : ℕ → Type 0) (span : Span) (o : Option Value) (p : Polynomial) → width_of_known span o ≡ Ok p → Good A p
 known_alone A span (Some (int y)) p h = number_alone A span y p h
 known_alone A span (Some (bool b)) p h = err_ok (fault_of T19 span) p h
 known_alone A span (Some (bits_with bs v)) p h = err_ok (fault_of T19 span) p h
@@ -150,7 +178,8 @@ module _ (t : Tests) (A : ℕ → Type 0) where
     whole = λ span n G p h g. number_alone A span (pos n) p h;
     name = λ span name G p h g. name_alone A G.names g span name (standing_of name G.names) p refl h;
     negated = λ span e G p q w h g. difference_alone A span (constant_map (pos 0)) p q (constant_good A (pos 0)) (w g) h;
-    combined = λ span o e f G p q r v w h g. binary_alone A span o p q r (v g) (w g) h;
+    combined = λ span o e f G p q r v w h g. combined_alone A span o p q r (v g) (w g) h;
+    divided = λ span e f k G p q v i h g. divided_alone A span p q k (v g) h;
   }
 
   -- the atoms of a width are among those of what the names count as

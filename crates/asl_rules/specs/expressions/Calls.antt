@@ -5,7 +5,7 @@ use Rattle.asl_syn.specs.declared.code.Fault.{Fault}
 use Rattle.asl_syn.specs.declared.code.StaticCode.TheVariants.{T02, T09, T11, T12, T13, T18, T20}
 use Rattle.asl_syn.specs.declared.tree.Ident.{Ident}
 use Rattle.asl_poly.specs.Terms.{Polynomial}
-use Rattle.asl_poly.specs.Poly.{constant_value}
+use Rattle.asl_poly.specs.Poly.{constant_value, is_atom}
 use Rattle.asl_cons.specs.declared.Part.{Part}
 use Rattle.asl_rules.specs.declared.effect.Effect.{Effect}
 use Rattle.asl_rules.specs.declared.effect.Effect.TheVariants.{Pure}
@@ -15,7 +15,6 @@ use Rattle.asl_rules.specs.Tests.{Tests}
 use Rattle.asl_rules.specs.types.Types.{Ty, Parts, Kinds, Widths, integers, bitvectors, no_kind, one_more, integer_of, boolean, bits_of, no_part, part, kinds, kinds_eq, width_of, only_width, from_to, misfit, substitute}
 use Rattle.asl_rules.specs.runs.Trees as tree
 use Rattle.asl_rules.specs.runs.Trees.{Tree, Callee, own, of_library}
-use Rattle.asl_rules.specs.types.Alone.{is_atom}
 use Rattle.asl_rules.specs.types.Effects.{greater, at_most, all_together, greatest}
 use Rattle.asl_rules.specs.declarations.Scopes.{Scope, Signature, Chosen, Param, standing_of, is_subprogram, is_absent, choose}
 use Rattle.asl_rules.specs.expressions.Typing.{Found, Typed, Operand, finish_all, operands, effects_of, types_of, trees_of, trees_from}
@@ -131,7 +130,7 @@ polys (g ∷ gs) = g.width ∷ polys gs
 
 -- the type is `bits(P)` with this parameter alone, without a name
 abbrev pub is_width_alone : ℕ → Ty → Bool
-is_width_alone atom (bits_of w view) = is_atom atom w.terms
+is_width_alone atom (bits_of w view) = is_atom atom w
 is_width_alone atom T = false
 
 -- an argument by its place

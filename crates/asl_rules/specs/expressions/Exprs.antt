@@ -1,6 +1,6 @@
 -- The type, the effect and the typed tree of an expression, or its one fault. Each row has its conditions in order, each with its code and its place; the typing
 -- derivation asks that all hold, and the one fault is the first that fails.
-use Rattle.std.specs.Prelude.{ℕ, pos, ◌-ℤ◌, Bool, false, ◌&&◌, ◌||◌, if◌then◌else◌, List, [], ◌∷◌, length, Option, Some, None, Result, Ok}
+use Rattle.std.specs.Prelude.{ℕ, pos, ◌-ℤ◌, Bool, false, ◌&&◌, ◌||◌, if◌then◌else◌, List, [], ◌∷◌, length, nat_le, Option, Some, None, Result, Ok}
 use Rattle.asl_syn.specs.declared.token.Span.{Span}
 use Rattle.asl_syn.specs.declared.code.Fault.{Fault}
 use Rattle.asl_syn.specs.declared.code.StaticCode.{StaticCode}
@@ -14,7 +14,9 @@ use Rattle.asl_syn.specs.declared.tree.Pattern.{Pattern}
 use Rattle.asl_syn.specs.declared.tree.UnaryOperator.{UnaryOperator}
 use Rattle.asl_syn.specs.declared.tree.UnaryOperator.TheVariants as unary
 use Rattle.asl_syn.specs.declared.tree.BinaryOperator.{BinaryOperator}
+use Rattle.asl_syn.specs.declared.tree.BinaryOperator.TheVariants as binary
 use Rattle.asl_syn.specs.declared.tree.Ident.{Ident}
+use Rattle.asl_poly.specs.WidthLimits.{heaviest}
 use Rattle.asl_poly.specs.Poly.{constant_map}
 use Rattle.asl_cons.specs.Arithmetic.{fits}
 use Rattle.asl_rules.specs.declared.effect.Effect.{Effect}
@@ -30,7 +32,9 @@ use Rattle.asl_rules.specs.runs.Trees.{Tree}
 use Rattle.asl_rules.specs.types.Effects.{all_together, greatest}
 use Rattle.asl_rules.specs.declarations.Scopes.{Scope, Standing, Stored, Subprogram, TypeName, Label, standing_of, storage_of, type_of_name, with_class, reading}
 use Rattle.asl_rules.specs.declarations.Layouts.{slot_of, layout_of}
-use Rattle.asl_rules.specs.types.Widths.{width_of_number, width_of_standing, width_of_binary, width_difference, number_of_standing, number_of_binary, held, storage_has_atom, has_width, bounded}
+use Rattle.asl_rules.specs.declared.joining.Combination.{Combination}
+use Rattle.asl_rules.specs.types.Arithmetic.{operator, Reading, literal, named, negated, combined, divided, no_arithmetic, arithmetic, divisor}
+use Rattle.asl_rules.specs.types.Widths.{width_of_number, width_of_standing, width_difference, width_combined, width_divided, number_of_standing, number_combined, number_divided, held, storage_has_atom, bounded}
 use Rattle.asl_rules.specs.expressions.Typing.{Found, Typed, Width, Number, Operand, width_as, number_as, width_note, in_class, finish, finish_all, operands, types_of, trees_of}
 use Rattle.asl_rules.specs.expressions.Operations.{operation, operation_of_two}
 use Rattle.asl_rules.specs.values.Members.{construction, field_behind, bitfields_behind, element_at}
@@ -50,8 +54,9 @@ pub record FoundField : Type 0 where
 abbrev pub literal_type : ℕ → Ty
 literal_type n = integer_of (if fits (pos n) then only_number (pos n) else [])
 
+-- no width is past the limit of widths, whatever the limit of bits is
 abbrev pub bits_literal : Effect → Span → List Bool → Result Typed Fault
-bits_literal class span bs = in_class class span Pure (bits_wide (length bs)) (λ n. tree.Constant n (bits_with bs []))
+bits_literal class span bs = need (nat_le (length bs) heaviest) T20 span >> in_class class span Pure (bits_wide (length bs)) (λ n. tree.Constant n (bits_with bs []))
 
 -- a literal of bits has a number at each digit
 abbrev pub bits_rule_of : Effect → Span → Option (List Bool) → Result Typed Fault
@@ -168,81 +173,62 @@ typed_rule t (ex.In span a p) G = in_rule span a p G
 abbrev pub name_read : Span → List ℕ → Scope → Tree
 name_read span name G = tree.Read (width_note span) (slot_of name (layout_of G.names))
 
-abbrev pub width_of_operation : Span → BinaryOperator → Width → Width → Result Width Fault
-width_of_operation span o p q = width_of_binary span o p.poly q.poly >>= λ r. Ok (width_as r (tree.Binary (width_note span) o p.tree q.tree))
+abbrev pub negative_tree : Span → Tree → Tree
+negative_tree span p = tree.Unary (width_note span) unary.Negate p
+
+abbrev pub combined_tree : Span → Combination → Tree → Tree → Tree
+combined_tree span o p q = tree.Binary (width_note span) (operator o) p q
+
+abbrev pub divided_tree : Span → Tree → Span → ℕ → Tree
+divided_tree span p at k = tree.Binary (width_note span) binary.DivideExact p (tree.Int (width_note at) k)
 
 -- the polynomial of a width expression
-abbrev pub width_rule : ExprOf → Scope → Result Width Fault
-width_rule (ex.Int span n) G = width_of_number span (pos n) >>= λ p. Ok (width_as p (tree.Int (width_note span) n))
-width_rule (ex.Bits span text) G = fault T19 span
-width_rule (ex.Bool span b) G = fault T19 span
-width_rule (ex.Name span name) G = width_of_standing span (standing_of name G.names) >>= λ p. Ok (width_as p (name_read span name G))
-width_rule (ex.Unary span unary.Negate a) G =
-    a.width G >>= λ p. width_difference span (constant_map (pos 0)) p.poly >>= λ r. Ok (width_as r (tree.Unary (width_note span) unary.Negate p.tree))
-width_rule (ex.Unary span unary.Not a) G = fault T19 span
-width_rule (ex.Unary span unary.Complement a) G = fault T19 span
-width_rule (ex.Binary span o a b) G = if has_width o then (a.width G >>= λ p. b.width G >>= λ q. width_of_operation span o p q) else fault T19 span
-width_rule (ex.Conditional span c a b) G = fault T19 span
-width_rule (ex.Tuple span es) G = fault T19 span
-width_rule (ex.Construct span i gs) G = fault T19 span
-width_rule (ex.Call span i ps es) G = fault T19 span
-width_rule (ex.Field span a i) G = fault T19 span
-width_rule (ex.Fields span a iss) G = fault T19 span
-width_rule (ex.Slices span a ss) G = fault T19 span
-width_rule (ex.Element span a i) G = fault T19 span
-width_rule (ex.As span a T) G = fault T19 span
-width_rule (ex.In span a p) G = fault T19 span
-
-abbrev pub number_of_operation : Span → BinaryOperator → Number → Number → Result Number Fault
-number_of_operation span o y z = number_of_binary span o y.number z.number >>= λ n. Ok (number_as n (tree.Binary (width_note span) o y.tree z.tree))
+abbrev pub width_of : Span → Reading Found → Scope → Result Width Fault
+width_of span (literal n) G = width_of_number span (pos n) >>= λ p. Ok (width_as p (tree.Int (width_note span) n))
+width_of span (named name) G = width_of_standing span (standing_of name G.names) >>= λ p. Ok (width_as p (name_read span name G))
+width_of span (negated a) G = a.width G >>= λ p. width_difference span (constant_map (pos 0)) p.poly >>= λ r. Ok (width_as r (negative_tree span p.tree))
+width_of span (combined o a b) G = a.width G >>= λ p. b.width G >>= λ q. width_combined span o p.poly q.poly >>= λ r. Ok (width_as r (combined_tree span o p.tree q.tree))
+width_of span (divided a b) G = a.width G >>= λ p. found_or b.divisor T19 span >>= λ k. width_divided span p.poly k >>= λ r. Ok (width_as r (divided_tree span p.tree b.span k))
+width_of span no_arithmetic G = fault T19 span
 
 -- the number of a width expression that names no atom
-abbrev pub number_rule : ExprOf → Scope → Result Number Fault
-number_rule (ex.Int span n) G = need (fits (pos n)) T20 span >> Ok (number_as (pos n) (tree.Int (width_note span) n))
-number_rule (ex.Bits span text) G = fault T19 span
-number_rule (ex.Bool span b) G = fault T19 span
-number_rule (ex.Name span name) G = number_of_standing span (standing_of name G.names) >>= λ z. Ok (number_as z (name_read span name G))
-number_rule (ex.Unary span unary.Negate a) G =
-    a.number G >>= λ z. held span (pos 0 -ℤ z.number) >>= λ n. Ok (number_as n (tree.Unary (width_note span) unary.Negate z.tree))
-number_rule (ex.Unary span unary.Not a) G = fault T19 span
-number_rule (ex.Unary span unary.Complement a) G = fault T19 span
-number_rule (ex.Binary span o a b) G = if has_width o then (a.number G >>= λ y. b.number G >>= λ z. number_of_operation span o y z) else fault T19 span
-number_rule (ex.Conditional span c a b) G = fault T19 span
-number_rule (ex.Tuple span es) G = fault T19 span
-number_rule (ex.Construct span i gs) G = fault T19 span
-number_rule (ex.Call span i ps es) G = fault T19 span
-number_rule (ex.Field span a i) G = fault T19 span
-number_rule (ex.Fields span a iss) G = fault T19 span
-number_rule (ex.Slices span a ss) G = fault T19 span
-number_rule (ex.Element span a i) G = fault T19 span
-number_rule (ex.As span a T) G = fault T19 span
-number_rule (ex.In span a p) G = fault T19 span
+abbrev pub number_of : Span → Reading Found → Scope → Result Number Fault
+number_of span (literal n) G = need (fits (pos n)) T20 span >> Ok (number_as (pos n) (tree.Int (width_note span) n))
+number_of span (named name) G = number_of_standing span (standing_of name G.names) >>= λ z. Ok (number_as z (name_read span name G))
+number_of span (negated a) G = a.number G >>= λ z. held span (pos 0 -ℤ z.number) >>= λ n. Ok (number_as n (negative_tree span z.tree))
+number_of span (combined o a b) G = a.number G >>= λ y. b.number G >>= λ z. number_combined span o y.number z.number >>= λ n. Ok (number_as n (combined_tree span o y.tree z.tree))
+number_of span (divided a b) G = a.number G >>= λ z. found_or b.divisor T19 span >>= λ k. number_divided span z.number k >>= λ n. Ok (number_as n (divided_tree span z.tree b.span k))
+number_of span no_arithmetic G = fault T19 span
 
 -- whether a width expression names an atom, the texts that `let`s stand for included
-abbrev pub atom_rule : ExprOf → Scope → Bool
-atom_rule (ex.Int span n) G = false
-atom_rule (ex.Bits span text) G = false
-atom_rule (ex.Bool span b) G = false
-atom_rule (ex.Name span name) G = storage_has_atom (storage_of name G.names)
-atom_rule (ex.Unary span unary.Negate a) G = a.has_atom G
-atom_rule (ex.Unary span unary.Not a) G = false
-atom_rule (ex.Unary span unary.Complement a) G = false
-atom_rule (ex.Binary span o a b) G = has_width o && (a.has_atom G || b.has_atom G)
-atom_rule (ex.Conditional span c a b) G = false
-atom_rule (ex.Tuple span es) G = false
-atom_rule (ex.Construct span i gs) G = false
-atom_rule (ex.Call span i ps es) G = false
-atom_rule (ex.Field span a i) G = false
-atom_rule (ex.Fields span a iss) G = false
-atom_rule (ex.Slices span a ss) G = false
-atom_rule (ex.Element span a i) G = false
-atom_rule (ex.As span a T) G = false
-atom_rule (ex.In span a p) G = false
+abbrev pub names_atom : Reading Found → Scope → Bool
+names_atom (literal n) G = false
+names_atom (named name) G = storage_has_atom (storage_of name G.names)
+names_atom (negated a) G = a.has_atom G
+names_atom (combined o a b) G = a.has_atom G || b.has_atom G
+names_atom (divided a b) G = a.has_atom G || b.has_atom G
+names_atom no_arithmetic G = false
 
 -- ---- each node
 
+abbrev pub width_rule : ExprOf → Scope → Result Width Fault
+width_rule layer = width_of (span_of layer) (arithmetic layer)
+
+abbrev pub number_rule : ExprOf → Scope → Result Number Fault
+number_rule layer = number_of (span_of layer) (arithmetic layer)
+
+abbrev pub atom_rule : ExprOf → Scope → Bool
+atom_rule layer = names_atom (arithmetic layer)
+
 abbrev pub expr_rule : Tests → ExprOf → Found
-expr_rule t layer = record { span = span_of layer; typed = typed_rule t layer; width = width_rule layer; number = number_rule layer; has_atom = atom_rule layer }
+expr_rule t layer = record {
+  span = span_of layer;
+  typed = typed_rule t layer;
+  width = width_rule layer;
+  number = number_rule layer;
+  has_atom = atom_rule layer;
+  divisor = divisor (arithmetic layer);
+}
 
 abbrev pub given_rule : ex.FieldValue-F FoundBitfield FoundPart Found FoundField FoundPattern FoundSlice FoundType → FoundField
 given_rule (ex.Given i e) = record { name = i; value = e }

@@ -52,7 +52,7 @@ all_integers [] = true
 all_integers (o ∷ os) = is_integer o.typed.ty && all_integers os
 
 abbrev pub no_width : Total
-no_width = record { sum = constant_map (pos 0); weight = 0; atoms = [] }
+no_width = record { sum = constant_map (pos 0); weight = 0; denominator = 1; atoms = [] }
 
 abbrev pub all_add : List FoundSlice → Total → Scope → Result Total Fault
 all_add [] x G = Ok x

@@ -1,5 +1,5 @@
 -- What is found at an expression in a scope: its type, its effect and its typed tree, and what it is as a width. No condition asks for a tree.
-use Rattle.std.specs.Prelude.{ℤ, Bool, List, [], ◌∷◌, Result, Ok}
+use Rattle.std.specs.Prelude.{ℕ, ℤ, Bool, List, [], ◌∷◌, Option, Result, Ok}
 use Rattle.asl_syn.specs.declared.token.Span.{Span}
 use Rattle.asl_syn.specs.declared.code.Fault.{Fault}
 use Rattle.asl_syn.specs.declared.code.StaticCode.TheVariants.{T12, T13}
@@ -36,13 +36,14 @@ abbrev pub number_as : ℤ → Tree → Number
 number_as z t = record { number = z; tree = t }
 
 -- where it stands, and in each scope its type, its effect and its tree, and where a width is asked for the polynomial and the number that it stands for, and
--- whether it names an atom
+-- whether it names an atom; and the number above 0 that it is written as
 pub record Found : Type 0 where
   pub span : Span
   pub typed : Scope → Result Typed Fault
   pub width : Scope → Result Width Fault
   pub number : Scope → Result Number Fault
   pub has_atom : Scope → Bool
+  pub divisor : Option ℕ
 
 -- ---- the end of a row
 

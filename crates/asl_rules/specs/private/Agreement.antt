@@ -2,6 +2,7 @@
 -- that belongs to its type, and where it counts in widths, its integer; each caller's frame holds the names of some scope at an assignment of its own; and
 -- what is being handled are exceptions.
 use Rattle.std.specs.Prelude.{◌≡◌, ℕ, ◌<◌, pos, true, false, List, [], ◌∷◌, ◌++◌, Option, Some, None}
+use Rattle.asl_poly.specs.Poly.{IsPolynomial, HasWidth}
 use Rattle.asl_rules.specs.types.Types.{Ty, kind, exceptions}
 use Rattle.asl_rules.specs.types.Closed.{Assignment, type_with, width_at}
 use Rattle.asl_rules.specs.values.Values.{Value, int}
@@ -24,10 +25,10 @@ abbrev pub IsKnown : Option Value → Value → Type 0
 IsKnown None x = Unit {0}
 IsKnown (Some y) x = x ≡ y
 
--- what counts in widths is the integer of its polynomial
+-- what counts in widths is the integer of its polynomial, which is whole and within the limits
 abbrev pub CountsAs : Assignment → Option Counted → Value → Type 0
 CountsAs a None x = Unit {0}
-CountsAs a (Some c) x = x ≡ int (width_at c.poly a)
+CountsAs a (Some c) x = (x ≡ int (width_at c.poly a)) × HasWidth c.poly a (width_at c.poly a) × IsPolynomial c.poly
 
 -- a binding holds the storage of this name, whose type is well formed
 pub record Holds (declared : List ℕ → Option Ty) (a : Assignment) (name : List ℕ) (s : Storage) (b : Binding) : Type 0 where

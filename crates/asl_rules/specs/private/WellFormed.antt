@@ -2,6 +2,8 @@
 -- types.
 use Rattle.std.specs.Prelude.{◌≡◌, ℕ, pos, nat_le, nat_lt, ◌&&◌, Bool, true, false, List, [], ◌∷◌, Option, Some, None}
 use Rattle.asl_poly.specs.Terms.{Polynomial}
+use Rattle.asl_poly.specs.Poly.{IsPolynomial}
+use Rattle.asl_cons.specs.Constraint.{AllEnds}
 use Rattle.asl_rules.specs.types.Types.{Ty, Fields, Parts, View, integer_of, boolean, bits_of, enumeration_of, record_of, exception_of, tuple_of, array_of, named, no_field, field, no_part, part, kind, misfit}
 use Rattle.asl_rules.specs.Tests.{Tests, IsRight}
 use Rattle.asl_rules.specs.types.Closed.{Assignment, type_with, width_at, closed}
@@ -51,13 +53,13 @@ abbrev pub ShapedView : Polynomial → View → Type 0
 ShapedView w [] = Unit {0}
 ShapedView w (f ∷ fs) = (n : ℕ) × ((a : Assignment) → width_at w a ≡ pos n) × AllInside n (f ∷ fs)
 
--- names agree with the declarations and stand for structures, enumerations have a label, bitfields lie within their bits, and exceptions have a name
--- wherever they are fields, parts or elements
+-- names agree with the declarations and stand for structures, widths and ends of constraints are polynomials within the limits, enumerations have a label,
+-- bitfields lie within their bits, and exceptions have a name wherever they are fields, parts or elements
 abbrev mutual
   pub Shaped : (List ℕ → Option Ty) → Ty → Type 0
-  Shaped declared (integer_of ps) = Unit {0}
+  Shaped declared (integer_of ps) = AllEnds ps
   Shaped declared boolean = Unit {0}
-  Shaped declared (bits_of w view) = ShapedView w view
+  Shaped declared (bits_of w view) = IsPolynomial w × ShapedView w view
   Shaped declared (enumeration_of name labels) = Written declared name (enumeration_of name labels) × HasLabel labels
   Shaped declared (record_of name fs) = Written declared name (record_of name fs) × ShapedFields declared fs
   Shaped declared (exception_of name fs) = Written declared name (exception_of name fs) × ShapedFields declared fs

@@ -1,28 +1,47 @@
--- Integers for names that agree with a scope, and scopes in which each `let` counts as names that stand for themselves.
-use Rattle.std.specs.Prelude.{◌≡◌, ℕ, ◌<◌, ℤ, List, [], ◌∷◌, Some, None}
+-- Integers for names that agree with a scope, the fractions that names stand for then, and scopes in which each `let` counts as names that stand for
+-- themselves.
+use Rattle.std.specs.Prelude.{◌≡◌, ℕ, ◌<◌, ℤ, List, [], ◌∷◌, Option, Some, None}
 use Rattle.asl_poly.specs.Terms.{Summand}
-use Rattle.asl_poly.specs.Poly.{IsPolynomial, HasWidth}
+use Rattle.asl_poly.specs.Fractions.{Fraction, SameFraction, whole, fraction_at}
+use Rattle.asl_poly.specs.Poly.{IsPolynomial}
 use Rattle.asl_rules.specs.values.Values.{int}
 use Rattle.asl_rules.specs.declarations.Scopes.{Counted, Entry, Storage, atom_at, next_atom, name_at, storage_of, known_value}
-use Rattle.asl_rules.specs.types.Numbers.{Numbers}
+use Rattle.asl_rules.specs.types.Numbers.{Fractions}
 
--- an integer for each name
+-- an integer for each name; that of a `let` that counts as a width with other names in it isn't looked at
 abbrev pub Integers : Type 0
 Integers = List ℕ → ℤ
-
--- the names stand for these
-abbrev pub standing_for : Integers → Numbers
-standing_for a name = Some (a name)
 
 -- the integers of the names by their atoms
 abbrev pub by_place : List Entry → Integers → ℕ → ℤ
 by_place names a n = a (name_at names n)
 
--- the integers agree with the names: a constant and a global `let` have their values, and each other integer that can't be assigned has what it counts
--- as, which for a `let` is its initialiser
+-- what a name with this integer counts as
+abbrev pub counted_for : (ℕ → ℤ) → ℤ → Option Counted → Fraction
+counted_for b z None = whole z
+counted_for b z (Some c) = fraction_at b c.poly
+
+abbrev pub stored_for : (ℕ → ℤ) → ℤ → Option Storage → Fraction
+stored_for b z None = whole z
+stored_for b z (Some s) = counted_for b z s.counted
+
+-- the fraction that a name stands for: its integer, and where it counts in widths, that of what it counts as
+abbrev pub fraction_for : List Entry → Integers → List ℕ → Fraction
+fraction_for names a name = stored_for (by_place names a) (a name) (storage_of name names)
+
+abbrev pub standing_for : List Entry → Integers → Fractions
+standing_for names a name = Some (fraction_for names a name)
+
+-- both are one fraction
+abbrev pub AreSame : Option Fraction → Option Fraction → Type 0
+AreSame (Some r) (Some s) = SameFraction r s
+AreSame (Some r) None = ⊥
+AreSame None (Some s) = ⊥
+AreSame None None = Unit {0}
+
+-- the integers agree with the names: a constant and a global `let` have their values
 pub record Obeys (names : List Entry) (a : Integers) : Type 0 where
   pub known : (name : List ℕ) (s : Storage) (z : ℤ) → storage_of name names ≡ Some s → known_value s ≡ Some (int z) → a name ≡ z
-  pub counted : (name : List ℕ) (s : Storage) → storage_of name names ≡ Some s → (c : Counted) → s.counted ≡ Some c → HasWidth c.poly (by_place names a) (a name)
 
 -- ---- scopes in which a `let` counts as names that stand for themselves
 
@@ -45,6 +64,11 @@ AllAlone names xs = AllOf (Alone names) xs
 
 abbrev pub AtomsAlone : List Entry → List Summand → Type 0
 AtomsAlone names ts = AtomsOf (Alone names) ts
+
+-- what counts in widths is within the limits
+abbrev pub IsHeld : Option Counted → Type 0
+IsHeld None = Unit {0}
+IsHeld (Some c) = IsPolynomial c.poly
 
 -- what a name counts as has atoms of such names alone and is within the limits, and no name that counts has a value that is known before any run
 pub record WellCounted (names : List Entry) : Type 0 where

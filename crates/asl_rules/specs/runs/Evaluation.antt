@@ -55,9 +55,10 @@ use Rattle.asl_rules.specs.values.Vectors.{slice_places, with_slices, bitfields_
 use Rattle.asl_rules.specs.values.Matching.{is_matched}
 use Rattle.asl_rules.specs.declarations.Routines.{Routine, routine_named}
 use Rattle.asl_rules.specs.values.Library.{routine_value}
-use Rattle.asl_rules.specs.types.Numbers.{Numbers, integer_of_value, present, outside, all_numbers}
+use Rattle.asl_rules.specs.types.Numbers.{Numbers, wholes, integer_of_value, present, outside, all_fractions}
+use Rattle.asl_rules.specs.types.Present.{present_type}
 use Rattle.asl_rules.specs.types.Alone.{Polynomials, polynomial, is_alone}
-use Rattle.asl_rules.specs.types.Written.{Sized, sized, type_of_sized, type_span, kind_written}
+use Rattle.asl_rules.specs.types.Written.{Sized, sized, type_span, kind_written}
 use Rattle.asl_rules.specs.runs.Pures.{◌>>=◌, there, known, found_type}
 use Rattle.asl_rules.specs.declarations.Constants.{constant}
 use Rattle.asl_rules.specs.runs.ByNames.{Asks, Views, expr_plan, types_among}
@@ -136,7 +137,7 @@ sized_at env t zs = sized env.limit (type_span t) zs (shape_of (types_of env) t)
 
 -- the type that is written, where names stand for these integers
 abbrev pub type_at : Environment → Numbers → TypeExpr → Option Closed
-type_at env f t = option_and_then (λ zs. type_of_sized (sized_at env t zs)) (all_numbers f (sizes_in t))
+type_at env f t = option_and_then (λ rs. present_type rs (shape_of (types_of env) t)) (all_fractions (wholes f) (sizes_in t))
 
 -- ---- declarations
 

@@ -1,8 +1,8 @@
 -- Width expressions as polynomials over what their names stand for, without limits; and whether one is an atom alone.
-use Rattle.std.specs.Prelude.{ℕ, ◌==◌, ℤ, pos, negsuc, Bool, false, ◌&&◌, List, [], ◌∷◌, Option, Some, None}
+use Rattle.std.specs.Prelude.{ℕ, pos, Bool, false, Option, Some, None}
 use Rattle.asl_syn.specs.declared.tree.Expr.{Expr}
-use Rattle.asl_poly.specs.Terms.{Summand, Polynomial}
-use Rattle.asl_poly.specs.Poly.{constant_map, sum_map, difference_map, product_map}
+use Rattle.asl_poly.specs.Terms.{Polynomial}
+use Rattle.asl_poly.specs.Poly.{constant_map, sum_map, difference_map, product_map, quotient_map, is_atom}
 use Rattle.asl_rules.specs.types.Arithmetic.{Arithmetic, Named, Worth, worth}
 
 -- which polynomials names stand for, where they stand for one
@@ -13,25 +13,12 @@ abbrev pub PolynomialOf : Type 0
 PolynomialOf = Worth Polynomial
 
 abbrev pub polynomials : Arithmetic Polynomial
-polynomials = record { literal = λ n. constant_map (pos n); plus = sum_map; minus = difference_map; times = product_map }
+polynomials = record { literal = λ n. constant_map (pos n); plus = sum_map; minus = difference_map; times = product_map; over = quotient_map }
 
 abbrev pub polynomial : Expr → PolynomialOf
 polynomial = worth polynomials
 
-abbrev pub is_one : ℤ → Bool
-is_one (pos n) = n == 1
-is_one (negsuc n) = false
-
-abbrev pub is_only : ℕ → List ℕ → Bool
-is_only n (x ∷ []) = x == n
-is_only n xs = false
-
--- the terms are this atom alone
-abbrev pub is_atom : ℕ → List Summand → Bool
-is_atom n (t ∷ []) = is_one t.coefficient && is_only n t.factors
-is_atom n ts = false
-
 -- there is a polynomial, and it is this atom alone
 abbrev pub is_alone : ℕ → Option Polynomial → Bool
 is_alone n None = false
-is_alone n (Some p) = is_atom n p.terms
+is_alone n (Some p) = is_atom n p

@@ -1,7 +1,9 @@
 -- Types as a run sees them: widths are numbers, constraints are ranges of integers, and nothing in them names a value.
-use Rattle.std.specs.Prelude.{ℕ, ℤ, pos, negsuc, Bool, true, false, ◌&&◌, ◌||◌, if◌then◌else◌, nat_le, List, [], ◌∷◌, Option, Some, None}
+use Rattle.std.specs.Prelude.{ℕ, ◌==◌, ℤ, pos, negsuc, ◌-ℤ◌, Bool, true, false, ◌&&◌, ◌||◌, if◌then◌else◌, nat_le, List, [], ◌∷◌, Option, Some, None}
 use Rattle.std.specs.Str.{bytes_eq}
-use Rattle.asl_poly.specs.Terms.{Polynomial, value}
+use Rattle.asl_num.specs.Exact.{floor_div, floor_mod}
+use Rattle.asl_poly.specs.Terms.{Polynomial}
+use Rattle.asl_poly.specs.Fractions.{Fraction, whole, fraction_at}
 use Rattle.asl_cons.specs.declared.End.{End}
 use Rattle.asl_cons.specs.declared.End.TheVariants.{Int, Width}
 use Rattle.asl_cons.specs.declared.Part.{Part}
@@ -102,22 +104,37 @@ abbrev pub field_among : List ℕ → ClosedFields → Option Closed
 field_among f no_field = None
 field_among f (field g T fs) = if bytes_eq g f then Some T else field_among f fs
 
--- ---- types with an integer for each atom
+-- ---- types with an integer for each atom: widths and ends are fractions then, of which a closed type has the integers that lie in it
 
 -- which integers the atoms of widths stand for
 abbrev pub Assignment : Type 0
 Assignment = ℕ → ℤ
 
-abbrev pub width_at : Polynomial → Assignment → ℤ
-width_at p a = value a p.terms
+-- the greatest integer up to a fraction, and the least from it on
+abbrev pub floor : Fraction → ℤ
+floor r = floor_div r.number r.denominator
 
-abbrev pub end_at : End → Assignment → ℤ
-end_at (Int z) a = z
-end_at (Width p) a = width_at p a
+abbrev pub ceiling : Fraction → ℤ
+ceiling r = pos 0 -ℤ floor_div (pos 0 -ℤ r.number) r.denominator
+
+-- how many bits a width is; one that isn't whole is that of no bits, as one below 0 is
+abbrev pub width_in : Fraction → ℤ
+width_in r = if floor_mod r.number r.denominator == 0 then floor r else negsuc 0
+
+-- the integers from one fraction to another
+abbrev pub range_in : Fraction → Fraction → Range
+range_in r s = record { low = ceiling r; high = floor s }
+
+abbrev pub width_at : Polynomial → Assignment → ℤ
+width_at p a = width_in (fraction_at a p)
+
+abbrev pub end_at : End → Assignment → Fraction
+end_at (Int z) a = whole z
+end_at (Width p) a = fraction_at a p
 
 abbrev pub ranges_at : List Part → Assignment → List Range
 ranges_at [] a = []
-ranges_at (p ∷ ps) a = record { low = end_at p.low a; high = end_at p.high a } ∷ ranges_at ps a
+ranges_at (p ∷ ps) a = range_in (end_at p.low a) (end_at p.high a) ∷ ranges_at ps a
 
 -- no parts are the whole constraint
 abbrev pub constraint_at : List Part → Assignment → Option (List Range)

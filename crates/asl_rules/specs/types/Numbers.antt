@@ -1,8 +1,9 @@
--- The numbers that width expressions stand for, where names stand for integers. They are plain integers, which no limit
--- bounds, and to find them takes no step.
-use Rattle.std.specs.Prelude.{ℕ, ℤ, pos, ◌+ℤ◌, ◌-ℤ◌, ◌*ℤ◌, List, [], ◌∷◌, if◌then◌else◌, Option, Some, None, option_map}
+-- The numbers that width expressions stand for, where names stand for numbers. They are fractions, which no limit bounds and which are taken as they come,
+-- not in lowest terms; to find them takes no step.
+use Rattle.std.specs.Prelude.{ℕ, ◌*◌, ℤ, pos, ◌-ℤ◌, ◌*ℤ◌, List, [], ◌∷◌, if◌then◌else◌, Option, Some, None, option_map, option_and_then}
 use Rattle.std.specs.Str.{bytes_eq}
 use Rattle.asl_syn.specs.declared.tree.Expr.{Expr}
+use Rattle.asl_poly.specs.Fractions.{Fraction, SameFraction, whole, plus, times}
 use Rattle.asl_rules.specs.values.Values.{Value, int}
 use Rattle.asl_rules.specs.runs.States.{Binding, Core}
 use Rattle.asl_rules.specs.types.Arithmetic.{Arithmetic, Named, Worth, worth}
@@ -11,14 +12,33 @@ use Rattle.asl_rules.specs.types.Arithmetic.{Arithmetic, Named, Worth, worth}
 abbrev pub Numbers : Type 0
 Numbers = Named ℤ
 
-abbrev pub NumberOf : Type 0
-NumberOf = Worth ℤ
+-- and which fractions
+abbrev pub Fractions : Type 0
+Fractions = Named Fraction
 
-abbrev pub integers : Arithmetic ℤ
-integers = record { literal = pos; plus = ◌+ℤ◌; minus = ◌-ℤ◌; times = ◌*ℤ◌ }
+abbrev pub FractionOf : Type 0
+FractionOf = Worth Fraction
 
-abbrev pub number : Expr → NumberOf
-number = worth integers
+abbrev pub less : Fraction → Fraction → Fraction
+less r s = record { number = r.number *ℤ pos s.denominator -ℤ s.number *ℤ pos r.denominator; denominator = r.denominator * s.denominator }
+
+-- a fraction divided by a number above 0
+abbrev pub parted : Fraction → ℕ → Fraction
+parted r k = record { number = r.number; denominator = r.denominator * k }
+
+abbrev pub fractions : Arithmetic Fraction
+fractions = record { literal = λ n. whole (pos n); plus = plus; minus = less; times = times; over = parted }
+
+abbrev pub fraction : Expr → FractionOf
+fraction = worth fractions
+
+-- integers as fractions
+abbrev pub wholes : Numbers → Fractions
+wholes f name = option_map whole (f name)
+
+-- the fraction is this integer
+abbrev pub IsWhole : ℤ → Fraction → Type 0
+IsWhole z r = SameFraction r (whole z)
 
 -- ---- the names of a state that can't be assigned
 
@@ -45,11 +65,7 @@ present c name = or_number (number_among name c.frame) (number_among name c.glob
 abbrev pub outside : Core → Numbers
 outside c name = number_among name c.globals
 
--- expressions in order, as values
-abbrev pub number_first : Option ℤ → Option (List Value) → Option (List Value)
-number_first None rest = None
-number_first (Some z) rest = option_map (λ xs. int z ∷ xs) rest
-
-abbrev pub all_numbers : Numbers → List Expr → Option (List Value)
-all_numbers f [] = Some []
-all_numbers f (e ∷ es) = number_first (number e f) (all_numbers f es)
+-- what expressions in order stand for, where all stand for something
+abbrev pub all_fractions : Fractions → List Expr → Option (List Fraction)
+all_fractions f [] = Some []
+all_fractions f (e ∷ es) = option_and_then (λ r. option_map (λ rs. r ∷ rs) (all_fractions f es)) (fraction e f)

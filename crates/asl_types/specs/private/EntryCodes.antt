@@ -100,7 +100,7 @@ abbrev summand_code : Coded Summand
 summand_code = code_by (ℤ × List ℕ) (coded× coded_ℤ (coded_list coded_ℕ)) (λ t. (t.coefficient, t.factors)) (λ p. record { coefficient = p.0; factors = p.1 }) (λ _. refl)
 
 abbrev polynomial_code : Coded Polynomial
-polynomial_code = code_by (List Summand) (coded_list summand_code) (λ p. p.terms) (λ ts. record { terms = ts }) (λ _. refl)
+polynomial_code = code_by (List Summand × ℕ) (coded× (coded_list summand_code) coded_ℕ) (λ p. (p.terms, p.denominator)) (λ q. record { terms = q.0; denominator = q.1 }) (λ _. refl)
 
 abbrev counted_code : Coded Counted
 counted_code = code_by (Polynomial × Bool) (coded× polynomial_code coded_bool) (λ c. (c.poly, c.has_atom)) (λ p. record { poly = p.0; has_atom = p.1 }) (λ _. refl)

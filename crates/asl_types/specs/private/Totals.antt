@@ -1,31 +1,29 @@
 -- Sums of many widths: those of the code, and those of the rules.
-use Rattle.std.specs.Prelude.{◌≡◌, ◌≤◌, ◌^◌, nat_le, false, ◌&&◌, length, Option, Some, None}
+use Rattle.std.specs.Prelude.{◌≡◌, ◌<◌, nat_le, false, ◌&&◌, length, Option, Some, None}
 use Rattle.asl_poly.specs.Terms.{Polynomial}
-use Rattle.asl_poly.specs.Limits.{weight}
 use Rattle.asl_poly.specs.Poly.{sum_map, difference_map}
-use Rattle.asl_poly.proofs.Atoms.{Distinct, FactorsIn}
+use Rattle.asl_rules.proofs.widths.Totals.{Fits, Counts}
 use Rattle.asl_rules.specs.types.Widths as rules
-use Rattle.asl_poly.specs.WidthLimits.{heaviest, most_atoms}
+use Rattle.asl_poly.specs.WidthLimits.{heaviest, most_atoms, finest}
 use Rattle.asl_rules.specs.types.Widths.{plus, minus}
 use Rattle.asl_types.specs.declared.totals.Total.{Total}
 use Rattle.asl_types.specs.declared.totals.Within.{Within}
 use Rattle.asl_types.specs.declared.totals.Sign.{Sign}
 use Rattle.asl_types.specs.declared.totals.Sign.TheVariants.{Plus, Minus}
 
--- the sum, its weight and its atoms, which are within the limits
+-- the sum, its weight, its denominator and its atoms, which are within the limits
 pub record IsWithin (w : Within) (x : rules.Total) : Type 0 where
   pub sum : w.sum ≡ x.sum
   pub weighs : w.weight ≡ x.weight
+  pub over : w.denominator ≡ x.denominator
   pub atoms : w.atoms ≡ x.atoms
-  pub light : x.weight ≤ 2 ^ 62
-  pub few : length x.atoms ≤ 8
-  pub lighter : weight x.sum.terms ≤ x.weight
-  pub inside : FactorsIn x.atoms x.sum.terms
-  pub distinct : Distinct x.atoms
+  pub fits : Fits x
+  pub counts : Counts x
 
 -- past the limits
-abbrev pub IsPast : rules.Total → Type 0
-IsPast x = (nat_le x.weight heaviest && nat_le (length x.atoms) most_atoms) ≡ false
+pub record IsPast (x : rules.Total) : Type 0 where
+  pub positive : 0 < x.denominator
+  pub past : (nat_le x.weight heaviest && (nat_le (length x.atoms) most_atoms && nat_le x.denominator finest)) ≡ false
 
 abbrev pub IsTotalOf : Option Within → rules.Total → Type 0
 IsTotalOf (Some w) x = IsWithin w x

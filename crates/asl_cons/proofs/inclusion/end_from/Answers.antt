@@ -14,7 +14,8 @@ returns-else-l-i c =
     let f : SFits w128 c.in-Some.l = search rules in
     let g : SFits w128 c.in-Some.h = search rules in
     let k : SFits w128 c.args.i = search rules in
-    not_holds c.args.q.now c.in-Some.l c.in-Some.h c.args.i c.in-Some.ensures.value (λ n.
+    not_holds c.args.q.now c.in-Some.l c.in-Some.h c.args.i
+    (c.part_within_limits.ensures.low, c.part_within_limits.ensures.high) c.in-Some.ensures.value (λ n.
     elim c.else-l-i.branch [
       | else-l-i-via-then-l-i+else-i-h w ↦ omega (arith, ints, w.if-i-h.false, n.1)
       | else-l-i-via-else-l-i w ↦ omega (arith, ints, w.if-l-i.false, n.0)

@@ -1,7 +1,7 @@
 use Rattle.asl_laws.proofs.widths.SameByWorth.{has_worth, test_is_worth, has_integers}
 use Rattle.asl_laws.proofs.widths.NumbersWorth.{number_is_worth}
 use Rattle.asl_rules.proofs.widths.ScopesCounted.{names_counted}
-use Rattle.asl_laws.proofs.widths.Asking.{head_asks, stmt_asks, index_asks, caught_asks}
+use Rattle.asl_laws.proofs.widths.Asking.{head_asks, stmt_says, index_asks, caught_asks}
 use Rattle.asl_laws.proofs.law.widths_law.Goals as goal
 
 pub returns-clause-worth : goal.returns-clause-worth
@@ -23,7 +23,7 @@ pub returns-clause-heads : goal.returns-clause-heads
 returns-clause-heads c = head_asks
 
 pub returns-clause-statements : goal.returns-clause-statements
-returns-clause-statements c = stmt_asks
+returns-clause-statements c = stmt_says
 
 pub returns-clause-indices : goal.returns-clause-indices
 returns-clause-indices c = index_asks

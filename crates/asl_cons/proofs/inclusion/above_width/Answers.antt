@@ -1,0 +1,19 @@
+use Rattle.std.proofs.Common.{rules, ◌-ℤ◌, pos}
+use mir.Val.{SFits}
+use mir.Syntax.{w128}
+use Rattle.std.proofs.lemmas.Int.{to_z-of_z}
+use Rattle.asl_cons.proofs.Covering.{integer_not_above, iff_never}
+use Rattle.asl_cons.proofs.Rounding.{width_below}
+use Rattle.asl_cons.proofs.inclusion.above_width.Goals as goal
+
+pub returns-in-Some : goal.returns-in-Some
+returns-in-Some c =
+    let f : SFits w128 c.args.x = search rules in
+    let g : SFits w128 c.denominator.result = search rules in
+    let h : SFits w128 c.in-Some.c = search rules in
+    let i : SFits w128 (c.in-Some.c -ℤ pos 1) = search rules in
+    width_below c.args.x c.args.q.now c.in-Some.c c.denominator.result c.at_most.result c.denominator.ensures.is
+    (simp to_z-of_z at c.at_most.ensures) c.in-Some.ensures.value
+
+pub returns-in-None : goal.returns-in-None
+returns-in-None c = iff_never (integer_not_above c.args.x c.args.q.now c.in-None.ensures.value)
