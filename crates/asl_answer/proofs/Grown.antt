@@ -6,11 +6,11 @@ use Rattle.asl_grammar.specs.Reading.{File, Reads}
 use Rattle.asl_rules.specs.private.Grown.{AreGrown}
 use Rattle.asl_rules.specs.Tests.{Tests}
 use Rattle.asl_laws.proofs.scopes.GrownTexts.{read_grown}
-use Rattle.asl_rules.proofs.verdict.SomeTests.{some_tests}
+use Rattle.asl_rules.proofs.verdict.SomeTests.{some_tests, limit_within}
 use Rattle.asl_types.specs.Suits.{Suits}
 
 pub grown : (files : List File) (ds : List Decl) → Reads files (Ok ds) → AreGrown ds
 grown files ds r = read_grown files ds r
 
 pub some_suits : (t : Tests) × Suits t
-some_suits = let s = some_tests WIDTH_LIMIT in (s.tests, record { right = s.right; limit = s.within })
+some_suits = let s = some_tests WIDTH_LIMIT limit_within in (s.tests, record { right = s.right; limit = s.within })

@@ -9,7 +9,7 @@ use Rattle.asl_rules.specs.types.Types.{Ty, Parts}
 use Rattle.asl_rules.specs.declarations.Scopes.{Body, Entry, body_names, is_free, fixed, atom_at, next_atom}
 use Rattle.asl_rules.specs.statements.Branches.{with_caught, with_index, index_type, index_rule}
 use Rattle.asl_rules.proofs.basics.Inversions.{ok_ok, then_ok}
-use Rattle.asl_rules.proofs.verdict.SomeTests.{SomeTests, some_tests}
+use Rattle.asl_rules.proofs.verdict.SomeTests.{SomeTests, some_tests, limit_within}
 use Rattle.asl_types.specs.Suits.{Suits}
 use Rattle.asl_bits.specs.declared.TheConstants.{WIDTH_LIMIT}
 use Rattle.asl_syn.specs.declared.tree.Direction.{Direction}
@@ -68,7 +68,7 @@ met_then v w NoMemory r s f is h = tt
 
 -- there are some
 pub suiting : SomeTests WIDTH_LIMIT
-suiting = some_tests WIDTH_LIMIT
+suiting = some_tests WIDTH_LIMIT limit_within
 
 pub suits : Suits suiting.tests
 suits = record { right = suiting.right; limit = suiting.within }

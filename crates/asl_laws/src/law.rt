@@ -6,6 +6,7 @@ ghost use Rattle.asl_bits.specs.declared.TheConstants.{WIDTH_LIMIT};
 ghost use Rattle.asl_grammar.specs.Reading.{File, ReadsAt, Reader, IsReadingAt};
 ghost use Rattle.asl_grammar.specs.lexemes.Refusals.{max_width};
 ghost use Rattle.asl_grammar.specs.lexemes.Texts.{LiesIn};
+ghost use Rattle.asl_poly.specs.WidthLimits.{heaviest};
 ghost use Rattle.asl_rules.specs.private.Agreement.{types_in};
 ghost use Rattle.asl_laws.specs.AgreeingTypes.{DeclarationsAgree, ScopeFormed, TypesFormed, KeepsFormed};
 ghost use Rattle.asl_laws.specs.Answers.{FaultOfFiles, FilesOk, OneAnswer};
@@ -65,19 +66,19 @@ pub fn law1()
     ensures start { (t : Tests) (ds : List Decl) → BeginsSo t ds }
 {}
 
-/// One answer. Under each width limit there are right tests (`tests`). Files, each entry and each width limit have exactly one of these, a
-/// program that is well formed or one single fault (`one`), and where there is a file at all, the fault's span lies within one of the files
-/// (`within`). What the rules evaluate before any run, of declarations whose names are apart, is never stuck: it gives a value of its type,
-/// or has a dynamic fault (`evaluates`). So a fault of the code T04 that is met after reading is the dynamic fault with which the evaluation
-/// of an initialiser or of the limit of a subprogram ends, with its code and at its place in that expression; or it is that of a type
-/// without a first value, at the type of storage that has no initialiser; or it stands at a call or a global `var` in an initialiser or a
-/// limit (`cause`). A fault that is met as files are read has one of the codes L01 to L05, M03, and S01 to S03
-/// (`reading_codes`); one that is met after reading has one of the codes T01 to T25, and a dynamic code only beside T04 (`codes`). A command
-/// has one report: it is the same by all right tests of one width limit, and by whatever reads files as the grammar says (`report`).
+/// One answer. Under each width limit up to 2^62, which is the greatest weight of a width, there are right tests (`tests`). Files, each entry
+/// and each such limit have exactly one of these, a program that is well formed or one single fault (`one`), and where there is a file at all,
+/// the fault's span lies within one of the files (`within`). What the rules evaluate before any run, of declarations whose names are apart, is
+/// never stuck: it gives a value of its type, or has a dynamic fault (`evaluates`). So a fault of the code T04 that is met after reading is the
+/// dynamic fault with which the evaluation of an initialiser or of the limit of a subprogram ends, with its code and at its place in that
+/// expression; or it is that of a type without a first value, at the type of storage that has no initialiser; or it stands at a call or a
+/// global `var` in an initialiser or a limit (`cause`). A fault that is met as files are read has one of the codes L01 to L05, M03, and S01 to
+/// S03 (`reading_codes`); one that is met after reading has one of the codes T01 to T25, and a dynamic code only beside T04 (`codes`). A
+/// command has one report: it is the same by all right tests of one width limit, and by whatever reads files as the grammar says (`report`).
 #[tactic(auto)]
 pub fn law2()
-    ensures tests { (limit : ℕ) → (t : Tests) × (IsRight t × (t.limit ≡ limit)) }
-    ensures one { (limit : ℕ) (e : Entry) (files : List File) → OneAnswer limit e files }
+    ensures tests { (limit : ℕ) → limit ≤ heaviest → (t : Tests) × (IsRight t × (t.limit ≡ limit)) }
+    ensures one { (limit : ℕ) → limit ≤ heaviest → (e : Entry) (files : List File) → OneAnswer limit e files }
     ensures within { (limit : ℕ) (e : Entry) (file : File) (files : List File) (f : Fault) → FaultOfFiles limit e (file ∷ files) f → LiesIn 0 (map (λ g. g.1) (file ∷ files)) f.span }
     ensures evaluates { (t : Tests) → IsRight t → (files : List File) (ds : List Decl) → ReadsAt t.limit files (Ok ds) → names_rule [] (all_declared ds) ≡ Ok tt → Evaluates t ds }
     ensures cause { (limit : ℕ) (e : Entry) (files : List File) (ds : List Decl) (f : Fault) → ReadsAt limit files (Ok ds) → (p : FaultOf limit e ds f) → f.code ≡ T04 → HasCause p.tests ds f }
@@ -100,15 +101,15 @@ pub fn law3()
     ensures { (limit : ℕ) (e : Entry) (files : List File) (ds : List Decl) (a : Accepted) → ReadsAt limit files (Ok ds) → (p : ProgramOk limit e ds a) → Soundness p.tests ds a × SameMeaning p.tests ds a }
 {}
 
-/// Law 5. The width limit decides nothing but what is too wide. Files that have a derivation have the same one under each wider limit,
-/// with the same typed trees, signatures and names (`derivation`). Of declarations that are accepted, a call from outside that ends
+/// Law 5. The width limit decides nothing but what is too wide. Files that have a derivation have the same one under each wider limit up
+/// to 2^62, with the same typed trees, signatures and names (`derivation`). Of declarations that are accepted, a call from outside that ends
 /// neither with the fault D14 nor stuck is the same call under a wider limit: its outcome, its state, its text and the steps left (`run`);
 /// so are the calls for words (`words`). So a command whose files are accepted, and whose run doesn't end with the fault D14, has the same
 /// report (`report`). So has one that comes to no program: it is none, there are too many files, a file or its list of words is too long,
 /// or that list has a fault. The reading of this program and its bits have one limit (`one_limit`).
 #[tactic(auto)]
 pub fn law5()
-    ensures derivation { (l m : ℕ) → l ≤ m → (e : Entry) (files : List File) (a : Accepted) → FilesOk l e files a → FilesOk m e files a }
+    ensures derivation { (l m : ℕ) → l ≤ m → m ≤ heaviest → (e : Entry) (files : List File) (a : Accepted) → FilesOk l e files a → FilesOk m e files a }
     ensures run { (t u : Tests) → IsRight t → IsRight u → t.limit ≤ u.limit → (e : Entry) (ds : List Decl) (a : Accepted) → verdict e ds t ≡ Ok a → (id : ℕ) (args : List Value) (globals : List Binding) (h : Meter) → FitsLimit (run_of (environment t ds) id args globals h) → run_of (environment u ds) id args globals h ≡ run_of (environment t ds) id args globals h }
     ensures words { (t u : Tests) → IsRight t → IsRight u → t.limit ≤ u.limit → (e : Entry) (ds : List Decl) (a : Accepted) → verdict e ds t ≡ Ok a → (entries : Entries) (words : List Word) (globals : List Binding) (h : Meter) → WordsFitLimit (run_words (environment t ds) entries words globals h) → run_words (environment u ds) entries words globals h ≡ run_words (environment t ds) entries words globals h }
     ensures report { (t u : Tests) → IsRight t → IsRight u → t.limit ≤ u.limit → (read other : Reader) → IsReadingAt t.limit read → IsReadingAt u.limit other → (command : Command) (held : Text → Text) → Fits t read command held → report_of u other command held ≡ report_of t read command held }

@@ -1,7 +1,8 @@
 -- What comes in beside a program's text: the width limit, and tests that can't be computed from the text alone, whether two widths are the same, and whether
 -- a constraint is below another. Whatever right tests are taken, they answer alike.
-use Rattle.std.specs.Prelude.{◌≡◌, ℕ, Bool, true, List}
+use Rattle.std.specs.Prelude.{◌≡◌, ◌≤◌, ℕ, Bool, true, List}
 use Rattle.asl_poly.specs.Terms.{Polynomial}
+use Rattle.asl_poly.specs.WidthLimits.{heaviest}
 use Rattle.asl_poly.specs.Poly.{IsPolynomial, Same}
 use Rattle.asl_cons.specs.declared.Part.{Part}
 use Rattle.asl_cons.specs.Constraint.{AllEnds, Below}
@@ -23,8 +24,9 @@ pub record Inside (ps qs : List Part) : Type 0 where
   pub right : AllEnds qs
   pub below : Below ps qs
 
--- the two tests are right; the limit may be any number
+-- the two tests are right; the limit may be any number up to the weight that a width may have
 pub record IsRight (t : Tests) : Type 0 where
+  pub within : t.limit ≤ heaviest
   pub same_yes : (p q : Polynomial) → t.same p q ≡ true → SameWidth p q
   pub same_all : (p q : Polynomial) → SameWidth p q → t.same p q ≡ true
   pub below_yes : (ps qs : List Part) → t.below ps qs ≡ true → Inside ps qs

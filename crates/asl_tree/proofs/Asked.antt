@@ -21,7 +21,7 @@ use Rattle.asl_rules.specs.Faults.{◌>>=◌, fault_of}
 use Rattle.asl_rules.specs.Tests.{Tests}
 use Rattle.asl_rules.proofs.basics.Inversions.{ok_ok, err_ok, bind_ok, then_ok}
 use Rattle.asl_rules.proofs.basics.Tests.{some_none}
-use Rattle.asl_rules.proofs.verdict.SomeTests.{some_tests}
+use Rattle.asl_rules.proofs.verdict.SomeTests.{some_tests, limit_within}
 use Rattle.asl_types.specs.Suits.{Suits}
 use Rattle.asl_tree.specs.Sealed.{IsMade, IsSealed}
 use Rattle.asl_tree.specs.declared.act.TreeFunc.{TreeFunc}
@@ -29,7 +29,7 @@ use Rattle.asl_tree.specs.declared.checked.Global.{Global}
 
 -- right tests for the width limit of the code
 pub some_suits : (t : Tests) × Suits t
-some_suits = let s = some_tests WIDTH_LIMIT in (s.tests, record { right = s.right; limit = s.within })
+some_suits = let s = some_tests WIDTH_LIMIT limit_within in (s.tests, record { right = s.right; limit = s.within })
 
 -- ---- what the rule finds
 

@@ -3,5 +3,4 @@ pub mod ConstructRows
 pub mod GivenLemmas
 pub mod GivenPlaces
 pub mod GivenTypes
-pub mod LiteralLemmas
 pub mod MemberRows

@@ -68,7 +68,6 @@ pub fn type_bool(alloc: Global, class: Effect, span: Span, b: bool) -> Result<Bo
 }
 
 /// Bits that are written.
-#[tactic(auto, using(crate::proofs::LiteralLemmas::light_literal))]
 fn type_digits(
     alloc: Global,
     class: Effect,

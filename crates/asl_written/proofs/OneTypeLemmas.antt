@@ -19,7 +19,7 @@ use Rattle.asl_rules.specs.types.Writing.{Written, FoundPart, FoundBitfield, Fou
 use Rattle.asl_rules.proofs.basics.Inversions.{ok_ok, bind_ok, then_ok}
 use Rattle.asl_rules.proofs.basics.Opening.{type_opened}
 use Rattle.asl_rules.proofs.basics.Tests.{no, some_none, some_same, both, either, same_name}
-use Rattle.asl_rules.proofs.verdict.SomeTests.{some_tests}
+use Rattle.asl_rules.proofs.verdict.SomeTests.{some_tests, limit_within}
 use Rattle.asl_bits.specs.declared.TheConstants.{WIDTH_LIMIT}
 use Rattle.asl_types.specs.private.Alike.{AllAre, Alike, IsAlike}
 use Rattle.asl_types.specs.Suits.{Suits}
@@ -107,6 +107,6 @@ pub marked_types : (b outside : Bool) (ws : List TypeExpr) (G : Scope) (g : Type
     → ((t : Tests) → Suits t → (types_in_order outside (found_types t ws) G >>= λ Ws. Ok (with_types no_types Ws)) ≡ Ok g) → IsAlike b (parts_of g.types)
 marked_types false outside ws G g e h = tt
 marked_types true outside ws G g e h =
-    let s = some_tests WIDTH_LIMIT in
+    let s = some_tests WIDTH_LIMIT limit_within in
     let a = bind_ok (types_in_order outside (found_types s.tests ws) G) _ g (h s.tests (record { right = s.right; limit = s.within })) in
     subst Alike (sym (parts_all a.value) ∙ ap (λ (x : TypesSeen). parts_of x.types) (ok_ok (with_types no_types a.value) g a.then)) (alike s.tests outside G ws a.value (sym e) a.first)

@@ -1,9 +1,7 @@
 -- Forms of expression with their typed trees: both do the same, and give a value of the type, in a state that agrees with the scope.
 use Rattle.std.proofs.Common.{◌≡◌, ℕ, pos, inl, inr, ◌&&◌, Bool, true, false, not, List, [], ◌∷◌, length, Option, Some, None, option_map, Ok, refl, sym, ap, ◌∙◌, subst, map}
-use Rattle.std.specs.Prelude.{nat_le}
-use Rattle.asl_poly.specs.WidthLimits.{heaviest}
 use Rattle.asl_syn.specs.declared.token.Span.{Span}
-use Rattle.asl_syn.specs.declared.code.StaticCode.TheVariants.{S03, T02, T05, T08, T20}
+use Rattle.asl_syn.specs.declared.code.StaticCode.TheVariants.{S03, T02, T05, T08}
 use Rattle.asl_syn.specs.declared.tree.Expr.{Expr}
 use Rattle.asl_syn.specs.declared.tree.Bitfield.TheOpen as ex
 use Rattle.asl_syn.specs.declared.tree.Decl.{Decl}
@@ -112,8 +110,7 @@ module _ (tests : Tests) (right : IsRight tests) (ds : List Decl) (base : List E
   bits_by : (H : Here) (S : Typed) (span : Span) (t : List ℕ) (o : Option (List Bool)) (c : Core) → literal_of tests.limit t ≡ o → bits_rule_of H.scope.class span o ≡ Ok S → At tests base subs loose H c → Formed H S (ex.Bits span t) c
   bits_by H S span t None c q h a = err_ok (fault_of S03 span) S h
   bits_by H S span t (Some bs) c q h a =
-      let u = then_ok (need (nat_le (length bs) heaviest) T20 span) _ S h in
-      formed H S (ex.Bits span t) c span (bits_wide (length bs)) Pure (λ n. tree.Constant n (plain_bits bs)) (in_class_is H.scope.class span Pure (bits_wide (length bs)) (λ n. tree.Constant n (plain_bits bs)) S u.then) refl
+      formed H S (ex.Bits span t) c span (bits_wide (length bs)) Pure (λ n. tree.Constant n (plain_bits bs)) (in_class_is H.scope.class span Pure (bits_wide (length bs)) (λ n. tree.Constant n (plain_bits bs)) S h) refl
       (subst (λ o. Same tests right base subs loose H (Out tests right base subs loose H (bits_wide (length bs))) (at_once (there span (option_map plain_bits o)) c) (Ret (plain_bits bs) (erased c))) (sym q)
       (refl, (refl, ((subst (λ z. is_width (length bs) z ≡ true) (sym (constant_at H.present (pos (length bs)))) (number_is (length bs)), tt, refl), a))))
 

@@ -4,6 +4,7 @@ use Rattle.std.specs.Prelude.{not, is_some, option_and_then, nat_le, reverse}
 use Rattle.std.specs.Option.{option_map_or}
 use Rattle.std.specs.List.{cons_option, list_any}
 use Rattle.std.proofs.lemmas.Bool.Decides.{nat_tests}
+use Rattle.std.proofs.lemmas.List.{length-map}
 use Rattle.std.proofs.lemmas.List.Folds.{list_any-append}
 use Rattle.asl_syn.specs.declared.code.StaticCode.{StaticCode}
 use Rattle.asl_syn.specs.declared.code.StaticCode.TheVariants.{L04}
@@ -15,14 +16,24 @@ use Rattle.asl_quote.specs.Quotes.{closes, content_step, quote_digit, quote_run,
 use Rattle.asl_quote.proofs.Contents.{is_digital, content_closed, digit_count-cons}
 use Rattle.asl_mask.specs.Digits.{fixed_bits}
 use Rattle.asl_mask.specs.Texts.{mask_of}
-use Rattle.asl_mask.proofs.Texts.{length-mask_of, bits_of_text}
+use Rattle.asl_mask.proofs.Texts.{length-mask_of, bits_of_text, fixed_bits-is}
 use Rattle.asl_grammar.specs.lexemes.Lexemes.{IsLexeme, IsQuoted}
 use Rattle.asl_grammar.specs.lexemes.Refusals.{refusal, too_many}
-use Rattle.asl_rules.specs.values.Vectors.{literal_of}
+use Rattle.asl_cons.proofs.EndsAsWidths.{true_le}
+use Rattle.asl_rules.specs.values.Vectors.{literal_digits, literal_of}
 
 -- the text has the bits of a literal under this width limit
 abbrev pub IsLiteral : ℕ → List ℕ → Type 0
 IsLiteral limit text = (bs : List Bool) × (literal_of limit text ≡ Some bs)
+
+-- it has as many digits as the limit allows
+pub digits_within : (limit : ℕ) (text : List ℕ) (bs : List Bool) → literal_of limit text ≡ Some bs → length bs ≤ limit
+digits_within limit text bs = by (nat_le (length (literal_digits text)) limit) refl
+  where
+    by : (b : Bool) → nat_le (length (literal_digits text)) limit ≡ b → cond b (fixed_bits (literal_digits text)) None ≡ Some bs → length bs ≤ limit
+    by true e h =
+        subst (λ n. n ≤ limit) (ap length (fixed_bits-is (literal_digits text) bs h) ∙ length-map bs (λ b. Some b)) (true_le (length (literal_digits text)) limit e)
+    by false e h = absurd cc
 
 -- ---- the closing quote
 

@@ -1,7 +1,8 @@
 -- The types of expressions and the types that are written are well formed, where those of the visible names and of the results of subprograms are.
-use Rattle.std.proofs.Common.{◌≡◌, ℕ, ℤ, pos, negsuc, ◌&&◌, suc, length, cond, Bool, true, false, List, [], ◌∷◌, Option, Some, None, option_map, Ok, Result, refl, sym, ap, ◌∙◌, subst, map}
+use Rattle.std.proofs.Common.{◌≡◌, ◌≤◌, ℕ, ℤ, pos, negsuc, ◌&&◌, suc, length, cond, Bool, true, false, List, [], ◌∷◌, Option, Some, None, option_map, Ok, Result, refl, sym, ap, ◌∙◌, subst, map}
 use Rattle.std.specs.Prelude.{nat_le, nat_lt, ◌==◌, if◌then◌else◌}
 use Rattle.std.specs.Str.{bytes_eq}
+use Rattle.std.proofs.Math.Nat.{le_trans}
 use Rattle.asl_syn.specs.declared.token.Span.{Span}
 use Rattle.asl_syn.specs.declared.code.StaticCode.TheVariants.{S03, T02, T05, T06, T08, T09, T11, T15, T16, T18, T19, T20}
 use Rattle.asl_syn.specs.declared.tree.Ident.{Ident}
@@ -56,6 +57,7 @@ use Rattle.asl_rules.specs.types.Writing.{Written, WrittenField, Numbered, Found
 use Rattle.asl_rules.specs.expressions.Calls.{first_width, unsigned, signed, bits_of_first, routine_type, routine_params, polys, widths_given, routine_taken, call_tree, chosen, widths_rule, both_fit, replaced_by, function_of, call_begun}
 use Rattle.asl_rules.specs.expressions.Exprs.{literal_type, FoundField, values_given, names_given, found_slice, found_pattern, found, found_type, typed, written, typed_rule, written_rule, expr_rule, given_rule, slice_rule, part_rule, bitfield_rule, type_rule, pattern_rule, apart, name_of_standing, bits_rule_of}
 use Rattle.asl_rules.proofs.basics.Inversions.{ok_ok, err_ok, bind_ok, then_ok, need_ok, found_ok}
+use Rattle.asl_laws.proofs.reading.Literals.{digits_within}
 use Rattle.asl_laws.proofs.expressions.MemberNamed.{member_ok, member_room}
 use Rattle.asl_rules.proofs.basics.Tests.{some_same, none_some, mapped}
 use Rattle.asl_laws.proofs.values.Joining.{join_is_well_formed}
@@ -135,8 +137,11 @@ module _ (tests : Tests) (right : IsRight tests) (d : List ℕ → Option Ty) (d
   bits_formed p i = record { shaped = (i, tt); has_name = refl }
 
   -- as many bits as a width may be
+  light_formed : (n : ℕ) → n ≤ heaviest → WellFormed d (bits_wide n)
+  light_formed n h = bits_formed (constant_map (pos n)) (constant_held (pos n) h)
+
   pub wide_formed : (n : ℕ) → nat_le n heaviest ≡ true → WellFormed d (bits_wide n)
-  wide_formed n h = bits_formed (constant_map (pos n)) (constant_held (pos n) (true_le n heaviest h))
+  wide_formed n h = light_formed n (true_le n heaviest h)
 
   -- ---- operators
 
@@ -451,12 +456,13 @@ module _ (tests : Tests) (right : IsRight tests) (d : List ℕ → Option Ty) (d
       by true = integer_formed (only_number (pos n)) ((tt, tt), tt)
       by false = integer_formed [] tt
 
-  literal_layer : (class : Effect) (span : Span) (o : Option (List Bool)) (S : Typed) → bits_rule_of class span o ≡ Ok S → WellFormed d S.ty
-  literal_layer class span None S h = err_ok (fault_of S03 span) S h
-  literal_layer class span (Some bs) S h =
-      let u = then_ok (need (nat_le (length bs) heaviest) T20 span) _ S h in
-      subst (WellFormed d) (class_type class span Pure (bits_wide (length bs)) (λ n. tree.Constant n (bits_with bs [])) S u.then)
-      (wide_formed (length bs) (need_ok (nat_le (length bs) heaviest) T20 span tt u.first))
+  -- a literal has as many digits as the limit allows, and so as a width may have
+  literal_layer : (class : Effect) (span : Span) (text : List ℕ) (o : Option (List Bool)) (S : Typed) →
+      literal_of tests.limit text ≡ o → bits_rule_of class span o ≡ Ok S → WellFormed d S.ty
+  literal_layer class span text None S q h = err_ok (fault_of S03 span) S h
+  literal_layer class span text (Some bs) S q h =
+      subst (WellFormed d) (class_type class span Pure (bits_wide (length bs)) (λ n. tree.Constant n (bits_with bs [])) S h)
+      (light_formed (length bs) (le_trans (digits_within tests.limit text bs q) right.within))
 
   standing_formed : (span : Span) (name : List ℕ) (o : Option Standing) (G : Scope) (S : Typed) → ((st : Standing) → o ≡ Some st → StandsFormed d st) → name_of_standing span name o G ≡ Ok S → WellFormed d S.ty
   standing_formed span name (Some (Stored s)) G S g h = subst (WellFormed d) (class_type G.class span (reading s) s.ty (λ n. tree.Read n (slot_of name (layout_of G.names))) S h) (g (Stored s) refl).0
@@ -475,7 +481,7 @@ module _ (tests : Tests) (right : IsRight tests) (d : List ℕ → Option Ty) (d
 
   layer_formed : (y : Below) (G : Scope) (S : Typed) → NamesFormed d G.names → FormedSubs G.subs → typed_rule tests (opened tests (trees y)) G ≡ Ok S → WellFormed d S.ty
   layer_formed (ex.Int span n) G S g u h = subst (WellFormed d) (class_type G.class span Pure (literal_type n) (λ m. tree.Int m n) S h) (literal_formed n)
-  layer_formed (ex.Bits span t) G S g u h = literal_layer G.class span (literal_of tests.limit t) S h
+  layer_formed (ex.Bits span t) G S g u h = literal_layer G.class span t (literal_of tests.limit t) S refl h
   layer_formed (ex.Bool span b) G S g u h = subst (WellFormed d) (class_type G.class span Pure boolean (λ n. tree.Constant n (bool b)) S h) boolean_formed
   layer_formed (ex.Name span name) G S g u h = standing_formed span name (standing_of name G.names) G S (g name) h
   layer_formed (ex.Unary span o a) G S g u h =

@@ -1,5 +1,6 @@
 -- Right tests of one width limit answer alike, so a program has one verdict, and files have one answer.
-use Rattle.std.proofs.Common.{◌≡◌, ℕ, ◌⊎◌, inl, inr, Bool, true, false, List, Result, Ok, Err, refl, ap, sym, ◌∙◌, subst}
+use Rattle.std.proofs.Common.{◌≡◌, ◌≤◌, ℕ, ◌⊎◌, inl, inr, Bool, true, false, List, Result, Ok, Err, refl, ap, sym, ◌∙◌, subst}
+use Rattle.asl_poly.specs.WidthLimits.{heaviest}
 use Rattle.asl_syn.specs.declared.code.Fault.{Fault}
 use Rattle.asl_syn.specs.declared.tree.Decl.{Decl}
 use Rattle.asl_grammar.specs.Reading.{File, ReadsAt}
@@ -35,9 +36,9 @@ err_same h = cc
 ok_err : {A : Type 0} {x : A} {f : Fault} → (let r : Result A Fault = Ok x in r) ≡ Err f → ⊥
 ok_err h = cc
 
--- right tests exist under each limit
-pub right_tests : (limit : ℕ) → (t : Tests) × (IsRight t × (t.limit ≡ limit))
-right_tests limit = let s = some_tests limit in (s.tests, (s.right, s.within))
+-- right tests exist under each limit that a width may have
+pub right_tests : (limit : ℕ) → limit ≤ heaviest → (t : Tests) × (IsRight t × (t.limit ≡ limit))
+right_tests limit light = let s = some_tests limit light in (s.tests, (s.right, s.within))
 
 -- ---- declarations
 
@@ -60,8 +61,8 @@ decided : (limit : ℕ) (s : SomeTests limit) (e : Entry) (ds : List Decl) (r : 
 decided limit s e ds (Ok a) h = inl (a, record { tests = s.tests; right = s.right; within = s.within; is = h })
 decided limit s e ds (Err f) h = inr (f, record { tests = s.tests; right = s.right; within = s.within; is = h })
 
-pub some_verdict : (limit : ℕ) (e : Entry) (ds : List Decl) → Judged limit e ds
-some_verdict limit e ds = decided limit (some_tests limit) e ds (verdict e ds (some_tests limit).tests) refl
+pub some_verdict : (limit : ℕ) → limit ≤ heaviest → (e : Entry) (ds : List Decl) → Judged limit e ds
+some_verdict limit light e ds = let s = some_tests limit light in decided limit s e ds (verdict e ds s.tests) refl
 
 -- ---- files
 
@@ -92,9 +93,9 @@ judged : (limit : ℕ) (e : Entry) (files : List File) (ds : List Decl) → Read
 judged limit e files ds k (inl (a, p)) = record { answer = Ok a; is = record { decls = ds; reads = k; ok = p }; only = only_accepted limit e files ds k a p }
 judged limit e files ds k (inr (f, p)) = record { answer = Err f; is = inr (ds, k, p); only = only_faulty limit e files ds k f p }
 
-answered : (limit : ℕ) (e : Entry) (files : List File) (r : Result (List Decl) Fault) → ReadsAt limit files r → OneAnswer limit e files
-answered limit e files (Ok ds) k = judged limit e files ds k (some_verdict limit e ds)
-answered limit e files (Err f) k = record { answer = Err f; is = inl k; only = only_refused limit e files f k }
+answered : (limit : ℕ) → limit ≤ heaviest → (e : Entry) (files : List File) (r : Result (List Decl) Fault) → ReadsAt limit files r → OneAnswer limit e files
+answered limit light e files (Ok ds) k = judged limit e files ds k (some_verdict limit light e ds)
+answered limit light e files (Err f) k = record { answer = Err f; is = inl k; only = only_refused limit e files f k }
 
-pub one_answer : (limit : ℕ) (e : Entry) (files : List File) → OneAnswer limit e files
-one_answer limit e files = answered limit e files ((some_reader_at limit).0 files) ((some_reader_at limit).1 files)
+pub one_answer : (limit : ℕ) → limit ≤ heaviest → (e : Entry) (files : List File) → OneAnswer limit e files
+one_answer limit light e files = answered limit light e files ((some_reader_at limit).0 files) ((some_reader_at limit).1 files)

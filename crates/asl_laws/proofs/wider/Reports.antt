@@ -1,6 +1,7 @@
 -- A command has the same report under a wider limit, where its program is accepted and its run doesn't end with the fault D14.
 use Rattle.std.proofs.Common.{◌≡◌, ℕ, ◌≤◌, Bool, true, false, cond, List, [], ◌∷◌, length, Option, Some, Result, Ok, Err, refl, sym, ap}
 use Rattle.std.proofs.Common.{subst, ◌∙◌}
+use Rattle.asl_poly.specs.WidthLimits.{heaviest}
 use Rattle.asl_syn.specs.Command.{Command, usage, check, run, exec, self, default_steps}
 use Rattle.asl_syn.specs.declared.tree.Decl.{Decl}
 use Rattle.asl_grammar.specs.Reading.{File, Reader, ReadsAt, IsReadingAt}
@@ -34,24 +35,24 @@ use Rattle.asl_laws.proofs.wider.Reading.{reads_stay, read_same}
 
 -- ---- the tests
 
-right_at : (t : Tests) (m : ℕ) → IsRight t → IsRight (record t { limit = m })
-right_at t m r = record { same_yes = r.same_yes; same_all = r.same_all; below_yes = r.below_yes; below_all = r.below_all }
+right_at : (t : Tests) (m : ℕ) → m ≤ heaviest → IsRight t → IsRight (record t { limit = m })
+right_at t m light r = record { within = light; same_yes = r.same_yes; same_all = r.same_all; below_yes = r.below_yes; below_all = r.below_all }
 
 -- right tests of the wider limit are those of the narrower one with another limit
 tests_are : (t u : Tests) → IsRight t → IsRight u → u ≡ record t { limit = u.limit }
-tests_are t u p q = one_test u (record t { limit = u.limit }) q (right_at t u.limit p) refl
+tests_are t u p q = one_test u (record t { limit = u.limit }) q (right_at t u.limit q.within p) refl
 
 -- ---- a derivation
 
-pub derivation_stays : (l m : ℕ) → l ≤ m → (e : Entry) (files : List File) (a : Accepted) → FilesOk l e files a → FilesOk m e files a
-derivation_stays l m le e files a h =
+pub derivation_stays : (l m : ℕ) → l ≤ m → m ≤ heaviest → (e : Entry) (files : List File) (a : Accepted) → FilesOk l e files a → FilesOk m e files a
+derivation_stays l m le light e files a h =
     let p = h.ok in
     record {
       decls = h.decls;
       reads = reads_stay m l le files h.decls h.reads;
       ok = record {
         tests = record p.tests { limit = m };
-        right = right_at p.tests m p.right;
+        right = right_at p.tests m light p.right;
         within = refl;
         is = same_verdict p.tests m (subst (λ n. n ≤ m) (sym p.within) le) e h.decls a p.is;
       };

@@ -14,7 +14,6 @@ use Rattle.asl_syn.specs.declared.tree.Slice.{Slice, roll-Slice}
 use Rattle.asl_syn.specs.declared.tree.TypeExpr.{TypeExpr, roll-TypeExpr}
 use Rattle.asl_syn.specs.declared.tree.Bitfield.TheOpen as ex
 use Rattle.asl_syn.specs.declared.tree.Bitfield.TheFolds.{fold-Bitfield, fold-ConstraintPart, fold-FieldValue, fold-roll-Bitfield, fold-roll-ConstraintPart, fold-roll-Expr, fold-roll-FieldValue, fold-roll-Pattern, fold-roll-Slice, fold-roll-TypeExpr, map-Bitfield, map-ConstraintPart, map-Expr, map-FieldValue, map-Pattern, map-Slice, map-TypeExpr, ind-Expr, ind-TypeExpr}
-use Rattle.asl_poly.specs.WidthLimits.{heaviest}
 use Rattle.asl_cons.specs.Arithmetic.{fits}
 use Rattle.asl_rules.specs.declared.effect.Effect.{Effect}
 use Rattle.asl_rules.specs.declared.effect.Effect.TheVariants.{Pure}
@@ -38,7 +37,7 @@ use Rattle.asl_rules.specs.expressions.Exprs.{literal_type, FoundField, found, f
 use Rattle.asl_rules.specs.declarations.UsedNames.{Use, Uses, of_value, of_subprogram, of_type, name_of, Each, joined, in_bitfield, in_part, in_expr, in_field, in_pattern, in_slice, in_type, bitfield_uses, part_uses, given_uses, expr_uses, pattern_uses, slice_uses, type_uses}
 use Rattle.asl_rules.proofs.verdict.Alike.{Alike, alike_ok, alike_err, step, after, Same, Both, in_class_alike}
 use Rattle.asl_rules.proofs.verdict.SameRules.{shown, AllOf, SameWidths, SameNumbers, SameWritten, TypedSame, WidthSame, OperandsSame, AddsSame, GivenSame, PartSame, BitfieldSame, WrittenSame, PatternSame, name_alike, unary_alike, binary_alike, conditional_alike, tuple_alike, construct_alike, field_alike, bitfields_alike, element_alike, name_width, name_number, name_atom, negated_width, negated_number, combined_width, combined_number, divided_width, divided_number, call_alike, bit_operands, bit_adds, high_low_operands, high_low_adds, low_width_operands, low_width_adds, factor_width_operands, factor_width_adds, slices_alike, set_alike, tuple_pattern_alike, mask_alike, end_alike, value_alike, range_alike, in_alike, range_part, only_part, integer_alike, one_bit_alike, bit_range_alike, bits_alike, named_alike, tuple_written_alike, array_alike, as_alike}
-use Rattle.std.specs.Prelude.{nat_le, option_map}
+use Rattle.std.specs.Prelude.{option_map}
 use Rattle.asl_rules.specs.types.Shapes.{SliceShape, PatternShape, PartShape, BitfieldShape}
 use Rattle.asl_rules.specs.types.Shaped.{Shaped, TypeOver, itself, exprs_in, shapes_in, given_layer, slice_layer, pattern_layer, part_layer, bitfield_layer, type_layer}
 use Rattle.asl_rules.specs.values.Operators.{strictness, unary_value, truth}
@@ -260,7 +259,7 @@ module _ (t : Tests) (A B : List Entry) (subs : List Signature) where
 
   layer_typed : (y : ex.Expr-F BB CC EE FF PP SS TT) → Agree A B (in_expr (using_expr (trees_expr y))) → Called A B (in_expr (using_expr (trees_expr y))) → (k : Effect) → Alike Same (typed_rule t (opened_expr (trees_expr y)) (record { names = A; subs = subs; class = k })) (typed_rule t (opened_expr (trees_expr y)) (record { names = B; subs = subs; class = k }))
   layer_typed (ex.Int span n) g l k = in_class_alike k span Pure (literal_type n) (λ m. tree.Int m n) (λ m. tree.Int m n)
-  layer_typed (ex.Bits span text) g l k = step Same (found_or (literal_of t.limit text) S03 span) _ _ (λ bs. after Same (need (nat_le (length bs) heaviest) T20 span) _ _ (in_class_alike k span Pure (bits_wide (length bs)) (λ n. tree.Constant n (bits_with bs [])) (λ n. tree.Constant n (bits_with bs []))))
+  layer_typed (ex.Bits span text) g l k = step Same (found_or (literal_of t.limit text) S03 span) _ _ (λ bs. in_class_alike k span Pure (bits_wide (length bs)) (λ n. tree.Constant n (bits_with bs [])) (λ n. tree.Constant n (bits_with bs [])))
   layer_typed (ex.Bool span b) g l k = in_class_alike k span Pure boolean (λ n. tree.Constant n (bool b)) (λ n. tree.Constant n (bool b))
   layer_typed (ex.Name span name) g l k = name_alike t A B subs span name k g.0
   layer_typed (ex.Unary span o a) g l k = unary_alike t A B subs span o (found t a.0) k ((a.1 g).typed_is l)

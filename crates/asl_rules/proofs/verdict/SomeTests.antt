@@ -1,11 +1,13 @@
--- Right tests exist: whether two widths are the same, and whether a constraint is below another, is decided.
+-- Right tests exist under each limit that a width may have: whether two widths are the same, and whether a constraint is below another, is decided.
 use Rattle.std.proofs.Common.{◌≡◌, ◌⊎◌, inl, inr, ℕ, zero, suc, ◌<◌, ◌≤◌, ◌^◌, List, [], ◌∷◌, length, Option, Some, None, refl, ap, sym, ◌∙◌, arith}
 use Rattle.std.specs.Prelude.{◌≤ℤ◌, ◌<ℤ◌, MatchOption, unsigned_abs}
 use Rattle.std.specs.declared.cmp.Ordering.{Ordering}
 use Rattle.std.specs.declared.cmp.Ordering.TheVariants.{Less, Equal, Greater}
 use Rattle.std.proofs.Math.IntN.{ℤ, pos, ◌+ℤ◌, ◌-ℤ◌, ◌*ℤ◌}
 use Rattle.std.proofs.lemmas.Int.{ints}
+use Rattle.asl_bits.specs.declared.TheConstants.{WIDTH_LIMIT}
 use Rattle.asl_poly.specs.Terms.{Summand, Polynomial, value, order, AllUpTo, Falls, AllBelow, IsTerm, Sorted}
+use Rattle.asl_poly.specs.WidthLimits.{heaviest}
 use Rattle.asl_poly.specs.Limits.{weight, atoms_of, IsMap}
 use Rattle.asl_poly.specs.Operations.{constant_of, varying_part, constant_part}
 use Rattle.asl_poly.specs.Denominators.{IsLowest, greatest_common_divisor, multiples, sizes}
@@ -293,9 +295,10 @@ is_inside ps qs = inside_by ps qs (ends ps) (ends qs)
 tests : ℕ → Tests
 tests limit = record { limit = limit; same = λ p q. yes (same_width p q); below = λ ps qs. yes (is_inside ps qs) }
 
-right : (limit : ℕ) → IsRight (tests limit)
+right : (limit : ℕ) → limit ≤ heaviest → IsRight (tests limit)
 unfolding tests
-right limit = record {
+right limit light = record {
+  within = light;
   same_yes = λ p q h. yes_holds (same_width p q) h;
   same_all = λ p q h. holds_yes (same_width p q) h;
   below_yes = λ ps qs h. yes_holds (is_inside ps qs) h;
@@ -312,5 +315,9 @@ pub record SomeTests (limit : ℕ) : Type 0 where
   pub right : IsRight tests
   pub within : tests.limit ≡ limit
 
-pub some_tests : (limit : ℕ) → SomeTests limit
-some_tests limit = record { tests = tests limit; right = right limit; within = within limit }
+pub some_tests : (limit : ℕ) → limit ≤ heaviest → SomeTests limit
+some_tests limit light = record { tests = tests limit; right = right limit light; within = within limit }
+
+-- the limit of this program's bits is one
+pub limit_within : WIDTH_LIMIT ≤ heaviest
+limit_within = omega arith

@@ -1,6 +1,6 @@
 -- The type, the effect and the typed tree of an expression, or its one fault. Each row has its conditions in order, each with its code and its place; the typing
 -- derivation asks that all hold, and the one fault is the first that fails.
-use Rattle.std.specs.Prelude.{ℕ, pos, ◌-ℤ◌, Bool, false, ◌&&◌, ◌||◌, if◌then◌else◌, List, [], ◌∷◌, length, nat_le, Option, Some, None, Result, Ok}
+use Rattle.std.specs.Prelude.{ℕ, pos, ◌-ℤ◌, Bool, false, ◌&&◌, ◌||◌, if◌then◌else◌, List, [], ◌∷◌, length, Option, Some, None, Result, Ok}
 use Rattle.asl_syn.specs.declared.token.Span.{Span}
 use Rattle.asl_syn.specs.declared.code.Fault.{Fault}
 use Rattle.asl_syn.specs.declared.code.StaticCode.{StaticCode}
@@ -16,7 +16,6 @@ use Rattle.asl_syn.specs.declared.tree.UnaryOperator.TheVariants as unary
 use Rattle.asl_syn.specs.declared.tree.BinaryOperator.{BinaryOperator}
 use Rattle.asl_syn.specs.declared.tree.BinaryOperator.TheVariants as binary
 use Rattle.asl_syn.specs.declared.tree.Ident.{Ident}
-use Rattle.asl_poly.specs.WidthLimits.{heaviest}
 use Rattle.asl_poly.specs.Poly.{constant_map}
 use Rattle.asl_cons.specs.Arithmetic.{fits}
 use Rattle.asl_rules.specs.declared.effect.Effect.{Effect}
@@ -54,9 +53,8 @@ pub record FoundField : Type 0 where
 abbrev pub literal_type : ℕ → Ty
 literal_type n = integer_of (if fits (pos n) then only_number (pos n) else [])
 
--- no width is past the limit of widths, whatever the limit of bits is
 abbrev pub bits_literal : Effect → Span → List Bool → Result Typed Fault
-bits_literal class span bs = need (nat_le (length bs) heaviest) T20 span >> in_class class span Pure (bits_wide (length bs)) (λ n. tree.Constant n (bits_with bs []))
+bits_literal class span bs = in_class class span Pure (bits_wide (length bs)) (λ n. tree.Constant n (bits_with bs []))
 
 -- a literal of bits has a number at each digit
 abbrev pub bits_rule_of : Effect → Span → Option (List Bool) → Result Typed Fault
