@@ -1,6 +1,6 @@
 -- What is found at expressions and written types depends on the names that they use alone, but for trees, and of these a subprogram's is as good as none
 -- where it isn't called. So does the value of an expression before any run.
-use Rattle.std.proofs.Common.{◌≡◌, pos, Bool, ◌&&◌, ◌||◌, List, [], ◌∷◌, ◌++◌, map, length, refl, sym, ap, ap₂, subst, ℕ, ◌∙◌}
+use Rattle.std.proofs.Common.{◌≡◌, pos, Bool, ◌||◌, List, [], ◌∷◌, ◌++◌, map, length, refl, sym, ap, ap₂, subst, ℕ, ◌∙◌}
 use Rattle.asl_syn.specs.declared.token.Span.{Span}
 use Rattle.asl_syn.specs.declared.code.StaticCode.TheVariants.{S03, T19, T20}
 use Rattle.asl_syn.specs.declared.tree.UnaryOperator.{UnaryOperator}

@@ -1,5 +1,5 @@
 -- Fractions that are the same, where their denominators are above 0, and what operations make of them: the same again.
-use Rattle.std.proofs.Common.{◌≡◌, ℕ, ◌+◌, ◌*◌, ◌<◌, refl, sym, ap, ap₂, ◌∙◌, arith}
+use Rattle.std.proofs.Common.{◌≡◌, ℕ, ◌*◌, ◌<◌, sym, ap, ap₂, ◌∙◌, arith}
 use Rattle.std.proofs.Math.IntN.{ℤ, pos, ◌+ℤ◌, ◌-ℤ◌, ◌*ℤ◌, *ℤ_comm, pos-*ℤ-pos}
 use Rattle.asl_poly.specs.Terms.{Polynomial, value}
 use Rattle.asl_poly.specs.Fractions.{Fraction, SameFraction, whole, plus, times, fraction_at}

@@ -1,26 +1,25 @@
 -- Sums of many widths, over one denominator: if all parts together are within the limits, so is the sum of them, and of the first of them, which are in lowest
 -- terms.
-use Rattle.std.proofs.Common.{◌≡◌, ℕ, zero, suc, ◌+◌, ◌*◌, ◌/◌, ◌%◌, ◌<◌, ◌≤◌, ◌==◌, inl, inr, ℤ, pos, negsuc, Bool, true, false, List, [], ◌∷◌, ◌++◌, length, Ok, refl, sym, ap, ◌∙◌, subst, arith}
+use Rattle.std.proofs.Common.{◌≡◌, ℕ, zero, suc, ◌+◌, ◌*◌, ◌/◌, ◌%◌, ◌<◌, ◌≤◌, pos, negsuc, Bool, true, false, List, [], ◌∷◌, ◌++◌, length, Ok, refl, sym, ap, ◌∙◌, subst, arith}
 use Rattle.std.specs.Prelude.{nat_le, ◌&&◌, unsigned_abs}
 use Rattle.std.proofs.Math.Nat.{mod_self, mod-one, div_self, div-one, dvd-mod_iff, mul-le-mul_right, le_of_mul-le-mul_right, eq_of_mul-eq-mul_left}
 use Rattle.std.proofs.lemmas.Nat.{mod_below}
 use Rattle.std.proofs.lemmas.Nat.Gcd.{dvd_of_mod-eq-zero, mod-eq-zero_of_dvd}
 use Rattle.std.proofs.lemmas.Bool.Decides.{nat_tests}
-use Rattle.std.proofs.lemmas.Bool.{cases_Bool}
 use Rattle.asl_syn.specs.declared.token.Span.{Span}
 use Rattle.asl_syn.specs.declared.code.StaticCode.TheVariants.{T20}
 use Rattle.asl_poly.specs.WidthLimits.{heaviest, most_atoms, finest}
 use Rattle.asl_poly.specs.Terms.{Summand, Polynomial}
 use Rattle.asl_poly.specs.Limits.{weight, has_atom, note, note_factors, note_terms, atoms_of_both}
-use Rattle.asl_poly.specs.Operations.{is_zero, constant_term, constant_terms, gather, scaled, sum_terms, difference_terms}
-use Rattle.asl_poly.specs.Denominators.{Divides, greatest_common_divisor, least_common_multiple, sizes, divided, multiples, raised, lowest}
-use Rattle.asl_poly.specs.Poly.{IsPolynomial, SumFits, sum_denominator, weight_over, constant_map, sum_map, difference_map}
+use Rattle.asl_poly.specs.Operations.{is_zero, constant_term, constant_terms, gather, scaled}
+use Rattle.asl_poly.specs.Denominators.{Divides, greatest_common_divisor, least_common_multiple, sizes, divided, raised, lowest}
+use Rattle.asl_poly.specs.Poly.{IsPolynomial, SumFits, weight_over, constant_map, sum_map, difference_map}
 use Rattle.asl_poly.proofs.Atoms.{AllIn, FactorsIn, Distinct, pigeonhole, distinct_terms, terms_have, in_keep, terms_in, gather_in, scaled_in}
 use Rattle.asl_poly.proofs.NormalForm.{weight_gather, weight_scaled}
 use Rattle.asl_poly.proofs.Divisors.{divides_exact, multiple_divides, divides_trans, divides_le, divisor_some, divisor_divides, divisor_most, multiple_left, multiple_right, multiple_some, raised_some}
 use Rattle.asl_poly.proofs.LowestTerms.{weight_multiples, divided_back}
 use Rattle.asl_cons.proofs.EndsAsWidths.{true_le}
-use Rattle.asl_rules.specs.Faults.{◌>>◌, need}
+use Rattle.asl_rules.specs.Faults.{need}
 use Rattle.asl_rules.specs.types.Widths.{Total, plus, minus, plus_number, totalled}
 use Rattle.asl_rules.specs.expressions.Slicing.{no_width}
 use Rattle.asl_rules.proofs.basics.Inversions.{ok_ok, then_ok, need_ok}
@@ -347,7 +346,7 @@ step_minus x p i =
 
 -- ---- numbers
 
-number_weight : (n : ℕ) → weight (constant_map (pos n)).terms ≡ n
+pub number_weight : (n : ℕ) → weight (constant_map (pos n)).terms ≡ n
 unfolding constant_map
 number_weight n = by (is_zero (pos n)) refl
   where

@@ -1,5 +1,5 @@
 -- What holds of each width expression with its polynomial, and of each end with its number, where it holds by their forms.
-use Rattle.std.proofs.Common.{◌≡◌, ℕ, zero, suc, ℤ, pos, List, Option, Some, None, Result, Ok, refl, sym, ap, ◌∙◌, subst}
+use Rattle.std.proofs.Common.{◌≡◌, ℕ, zero, suc, ℤ, pos, List, Some, Result, Ok, refl, sym, ap, ◌∙◌, subst}
 use Rattle.std.specs.Prelude.{◌-ℤ◌}
 use Rattle.asl_syn.specs.declared.token.Span.{Span}
 use Rattle.asl_syn.specs.declared.code.Fault.{Fault}
@@ -30,7 +30,7 @@ use Rattle.asl_rules.specs.Tests.{Tests}
 use Rattle.asl_rules.specs.runs.Trees as tree
 use Rattle.asl_rules.specs.runs.Trees.{Tree}
 use Rattle.asl_rules.specs.declarations.Scopes.{Scope, standing_of}
-use Rattle.asl_rules.specs.types.Arithmetic.{operator, joining, Reading, combined, divided, reading_of_one, reading_of_two, arithmetic, divisor}
+use Rattle.asl_rules.specs.types.Arithmetic.{operator, joining, combined, divided, reading_of_one, reading_of_two, arithmetic, divisor}
 use Rattle.asl_rules.specs.types.Widths.{width_of_number, width_of_standing, width_difference, width_combined, width_divided, number_of_standing, number_combined, number_divided, held}
 use Rattle.asl_rules.specs.expressions.Typing.{Found, Width, Number, width_as, number_as, width_note}
 use Rattle.asl_rules.specs.expressions.Slicing.{FoundSlice}

@@ -1,6 +1,6 @@
 -- The polynomial of a width expression has the expression's fraction, wherever the integers of the names agree with the scope. So two widths that are the same
 -- have one fraction there.
-use Rattle.std.proofs.Common.{◌≡◌, ℕ, ℤ, pos, List, Option, Some, None, Ok, ◌*◌, ◌<◌, refl, sym, ap, ap₂, ◌∙◌, subst, arith}
+use Rattle.std.proofs.Common.{◌≡◌, ℕ, ℤ, pos, List, Option, Some, None, Ok, ◌*◌, ◌<◌, refl, sym, ap, ◌∙◌, subst, arith}
 use Rattle.std.specs.Prelude.{nat_le}
 use Rattle.asl_syn.specs.declared.token.Span.{Span}
 use Rattle.asl_syn.specs.declared.code.StaticCode.TheVariants.{T02, T05, T19, T20}
@@ -8,7 +8,7 @@ use Rattle.asl_syn.specs.declared.tree.Expr.{Expr}
 use Rattle.asl_syn.specs.declared.tree.Bitfield.TheOpen as ex
 use Rattle.asl_syn.specs.declared.tree.UnaryOperator.TheVariants as unary
 use Rattle.asl_syn.specs.declared.tree.BinaryOperator.TheVariants as binary
-use Rattle.asl_poly.specs.Terms.{Polynomial, value}
+use Rattle.asl_poly.specs.Terms.{Polynomial}
 use Rattle.asl_poly.specs.Fractions.{Fraction, SameFraction, whole, plus, times, fraction_at}
 use Rattle.asl_poly.specs.Poly.{IsPolynomial, constant_map, sum_map, difference_map, product_map, quotient_map, may_divide, Same}
 use Rattle.asl_poly.specs.WidthLimits.{heaviest}
@@ -23,11 +23,11 @@ use Rattle.asl_rules.specs.declarations.Scopes.{Counted, Scope, Storage, Standin
 use Rattle.asl_rules.specs.types.Widths.{weight_of, width_of_number, width_of_known, width_of_counted, width_of_storage, width_of_standing, width_sum, width_difference, width_product, width_combined, width_divided}
 use Rattle.asl_rules.specs.expressions.Typing.{Width}
 use Rattle.asl_rules.specs.expressions.Exprs.{width}
-use Rattle.asl_rules.specs.types.Arithmetic.{of_two, operator}
+use Rattle.asl_rules.specs.types.Arithmetic.{of_two}
 use Rattle.asl_rules.specs.types.Numbers.{less, parted, fractions, fraction}
 use Rattle.asl_rules.specs.private.Worth.{Integers, counted_for, stored_for, fraction_for, standing_for, by_place, AreSame, Obeys}
 use Rattle.asl_rules.proofs.widths.WidthForms.{WidthForms, by_width_forms}
-use Rattle.asl_rules.proofs.widths.WorthForms.{IsWritten, worth_roll, worth_of_one, worth_of_operator, worth_of_two, worth_of_quotient, written_divisor}
+use Rattle.asl_rules.proofs.widths.WorthForms.{worth_roll, worth_of_one, worth_of_operator, worth_of_two, worth_of_quotient, written_divisor}
 use Rattle.asl_rules.proofs.widths.WidthsHeld.{CountsHeld, name_held, number_held, difference_held, combined_held, divided_held, above_0, zero_held}
 use Rattle.asl_rules.proofs.widths.Ratios.{Proper, same_trans, plus_same, less_same, times_same, parted_same, some_both, some_parted, constant_same, sum_same, difference_same, product_same, quotient_same}
 use Rattle.asl_rules.proofs.basics.Inversions.{ok_ok, err_ok, then_ok}

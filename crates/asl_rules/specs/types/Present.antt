@@ -1,7 +1,7 @@
 -- Types as they are written, where each expression in them stands for a fraction: what a value is stored, passed and returned under.
 use Rattle.std.specs.Prelude.{ℕ, ℤ, pos, negsuc, List, [], ◌∷◌, Option, Some, None, option_map, option_and_then}
 use Rattle.asl_poly.specs.Fractions.{Fraction}
-use Rattle.asl_rules.specs.types.Types.{View, BitField}
+use Rattle.asl_rules.specs.types.Types.{BitField}
 use Rattle.asl_rules.specs.types.Closed as cl
 use Rattle.asl_rules.specs.types.Closed.{Range, Closed, ClosedParts, kind_at, width_in, range_in}
 use Rattle.asl_rules.specs.types.Shapes as shapes
