@@ -109,7 +109,8 @@ module _ (d : List ℕ → Option Ty) (av : Assignment) (tests : Tests) (right :
 
   -- ---- integers
 
-  integer_if : (b : Bool) (ps : List Part) (z : ℤ) (span : Span) → AllEnds ps → In av z ps → Gives d av (integer_of ps) (cond b (Good (int z)) (Bad (Faulted D01 span)))
+  integer_if : (b : Bool) (ps : List Part) (z : ℤ) (span : Span) → AllEnds ps → In av z ps →
+      Gives d av (integer_of ps) (cond b (Good (int z)) (Bad (Faulted D01 span)))
   integer_if true ps z span e k = (in_is_in ps av z e k, tt, refl)
   integer_if false ps z span e k = tt
 
@@ -141,14 +142,19 @@ module _ (d : List ℕ → Option Ty) (av : Assignment) (tests : Tests) (right :
 
   -- ---- operands of the kinds that a rule asks for
 
-  both_integers : (span : Span) (o : BinaryOperator) (S T V : Ty) (x y : Value) → is_integer S ≡ true → is_integer T ≡ true → Lies x S → Lies y T → ((a b : ℤ) → In av a (constraint_of S) → In av b (constraint_of T) → Gives d av V (of_integers span o a b)) → Gives d av V (binary_value tests.limit span o x y)
+  both_integers : (span : Span) (o : BinaryOperator) (S T V : Ty) (x y : Value) → is_integer S ≡ true → is_integer T ≡ true → Lies x S →
+      Lies y T → ((a b : ℤ) → In av a (constraint_of S) → In av b (constraint_of T) → Gives d av V (of_integers span o a b)) →
+      Gives d av V (binary_value tests.limit span o x y)
   both_integers span o S T V x y p q i j f =
       let a = is_int S x p i.0 in
       let b = is_int T y q j.0 in
       subst (λ z. Gives d av V (binary_value tests.limit span o z y)) (sym a.1) (subst (λ z. Gives d av V (binary_value tests.limit span o (int a.0) z)) (sym b.1)
-      (f a.0 b.0 (int_in S a.0 i.1 (subst (λ z. has_type av z S ≡ true) a.1 i.0.0)) (int_in T b.0 j.1 (subst (λ z. has_type av z T ≡ true) b.1 j.0.0))))
+      (f a.0 b.0 (int_in S a.0 i.1 (subst (λ z. has_type av z S ≡ true) a.1 i.0.0))
+      (int_in T b.0 j.1 (subst (λ z. has_type av z T ≡ true) b.1 j.0.0))))
 
-  on_integers : (span : Span) (o : BinaryOperator) (S T V U : Ty) (x y : Value) → operations.of_integers span S T V ≡ Ok U → Lies x S → Lies y T → ((a b : ℤ) → In av a (constraint_of S) → In av b (constraint_of T) → Gives d av V (of_integers span o a b)) → Gives d av U (binary_value tests.limit span o x y)
+  on_integers : (span : Span) (o : BinaryOperator) (S T V U : Ty) (x y : Value) → operations.of_integers span S T V ≡ Ok U → Lies x S →
+      Lies y T → ((a b : ℤ) → In av a (constraint_of S) → In av b (constraint_of T) → Gives d av V (of_integers span o a b)) →
+      Gives d av U (binary_value tests.limit span o x y)
   on_integers span o S T V U x y h i j f =
       let p = then_ok (need (is_integer S && is_integer T) T08 span) (Ok V) U h in
       let q = both (is_integer S) (is_integer T) (need_ok (is_integer S && is_integer T) T08 span tt p.first) in
@@ -267,7 +273,8 @@ module _ (d : List ℕ → Option Ty) (av : Assignment) (tests : Tests) (right :
   if_ok false V U r h f g = g refl h
 
   record Adds (span : Span) (o : BinaryOperator) (op : List Part → List Part → List Part) : Type 0 where
-    pub integers : (ps qs : List Part) (a b : ℤ) → AllEnds ps → AllEnds qs → In av a ps → In av b qs → Gives d av (integer_of (op ps qs)) (of_integers span o a b)
+    pub integers : (ps qs : List Part) (a b : ℤ) → AllEnds ps → AllEnds qs → In av a ps → In av b qs →
+        Gives d av (integer_of (op ps qs)) (of_integers span o a b)
     pub bits : (T : Ty) (a b : List Bool) → is_width (length a) (width_at (width_of T) av) ≡ true → (length a == length b) ≡ true → Gives d av (bits_of (width_of T) []) (of_bits tests.limit span o a b)
     pub mixed : (T : Ty) (a : List Bool) (z : ℤ) → is_width (length a) (width_at (width_of T) av) ≡ true → Gives d av (bits_of (width_of T) []) (of_bits_and_integer span o a z)
 
@@ -284,17 +291,22 @@ module _ (d : List ℕ → Option Ty) (av : Assignment) (tests : Tests) (right :
       subst (λ z. Gives d av (bits_of (width_of S) []) (binary_value tests.limit span o (bits_with a.0 a.1) z)) (sym b.1) (w.mixed S a.0 b.0 a.3))
       )
 
-  adds : (span : Span) (o : BinaryOperator) (op : List Part → List Part → List Part) (S T U : Ty) (x y : Value) → operations.additive tests span op S T ≡ Ok U → Lies x S → Lies y T → Adds span o op → Gives d av U (binary_value tests.limit span o x y)
+  adds : (span : Span) (o : BinaryOperator) (op : List Part → List Part → List Part) (S T U : Ty) (x y : Value) →
+      operations.additive tests span op S T ≡ Ok U → Lies x S → Lies y T → Adds span o op →
+      Gives d av U (binary_value tests.limit span o x y)
   adds span o op S T U x y h i j w =
       if_ok (is_integer S && is_integer T) (integer_of (op (constraint_of S) (constraint_of T))) U _ h
       (λ e v.
       let q = both (is_integer S) (is_integer T) e in
-      subst (λ W. Gives d av W (binary_value tests.limit span o x y)) v (both_integers span o S T (integer_of (op (constraint_of S) (constraint_of T))) x y q.0 q.1 i j (λ a b k l. w.integers (constraint_of S) (constraint_of T) a b (within_ends d S i.1) (within_ends d T j.1) k l)))
+      subst (λ W. Gives d av W (binary_value tests.limit span o x y)) v
+      (both_integers span o S T (integer_of (op (constraint_of S) (constraint_of T))) x y q.0 q.1 i j
+      (λ a b k l. w.integers (constraint_of S) (constraint_of T) a b (within_ends d S i.1) (within_ends d T j.1) k l)))
       (λ e r.
       let m = then_ok (need (is_bits S && (is_bits T || is_integer T)) T08 span) (need (same_widths tests S T) T06 span >> Ok (bits_of (width_of S) [])) U r in
       let n = then_ok (need (same_widths tests S T) T06 span) (Ok (bits_of (width_of S) [])) U m.then in
       let q = both (is_bits S) (is_bits T || is_integer T) (need_ok (is_bits S && (is_bits T || is_integer T)) T08 span tt m.first) in
-      subst (λ W. Gives d av W (binary_value tests.limit span o x y)) (ok_ok (bits_of (width_of S) []) U n.then) (add_bits span o op S T x y w q.0 q.1 (need_ok (same_widths tests S T) T06 span tt n.first) i.0 j.0))
+      subst (λ W. Gives d av W (binary_value tests.limit span o x y)) (ok_ok (bits_of (width_of S) []) U n.then)
+      (add_bits span o op S T x y w q.0 q.1 (need_ok (same_widths tests S T) T06 span tt n.first) i.0 j.0))
 
   -- ---- bit by bit
 
@@ -328,17 +340,21 @@ module _ (d : List ℕ → Option Ty) (av : Assignment) (tests : Tests) (right :
   whole_plus x y = rw (mul-one x, mul-one y) refl
 
   -- the sum of two widths is as many bits as both
-  sum_wide : (span : Span) (p q r : Polynomial) (m n : ℕ) → IsPolynomial p → IsPolynomial q → width_at p av ≡ pos m → width_at q av ≡ pos n → width_sum span p q ≡ Ok r →
+  sum_wide : (span : Span) (p q r : Polynomial) (m n : ℕ) → IsPolynomial p → IsPolynomial q → width_at p av ≡ pos m →
+      width_at q av ≡ pos n → width_sum span p q ≡ Ok r →
       width_at r av ≡ pos m +ℤ pos n
   sum_wide span p q r m n h k e f s =
       let x : SameFraction (whole (pos m)) (fraction_at av p) = sym (width_whole av p (pos m) (is_width_at av p m h e)) in
       let y : SameFraction (whole (pos n)) (fraction_at av q) = sym (width_whole av q (pos n) (is_width_at av q n k f)) in
-      let z : SameFraction (plus (whole (pos m)) (whole (pos n))) (fraction_at av r) = sum_is av span p q r (whole (pos m)) (whole (pos n)) h k x y s in
+      let z : SameFraction (plus (whole (pos m)) (whole (pos n))) (fraction_at av r) = sum_is av span p q r (whole (pos m)) (whole (pos n))
+      h k x y s in
       let w : SameFraction (fraction_at av r) (whole (pos m +ℤ pos n)) =
-      same_trans (fraction_at av r) (plus (whole (pos m)) (whole (pos n))) (whole (pos m +ℤ pos n)) (omega arith) (sym z) (whole_plus (pos m) (pos n)) in
+      same_trans (fraction_at av r) (plus (whole (pos m)) (whole (pos n))) (whole (pos m +ℤ pos n)) (omega arith) (sym z)
+      (whole_plus (pos m) (pos n)) in
       width_at_is av r (pos m +ℤ pos n) (combined_held span Sum p q r h k s) (whole_width av r (pos m +ℤ pos n) w)
 
-  concatenates : (span : Span) (S T U : Ty) (x y : Value) → operations.concatenated span S T ≡ Ok U → Lies x S → Lies y T → Gives d av U (binary_value tests.limit span binary.Concatenate x y)
+  concatenates : (span : Span) (S T U : Ty) (x y : Value) → operations.concatenated span S T ≡ Ok U → Lies x S → Lies y T →
+      Gives d av U (binary_value tests.limit span binary.Concatenate x y)
   concatenates span S T U x y h i j =
       let m = then_ok (need (is_bits S && is_bits T) T08 span) (width_sum span (width_of S) (width_of T) >>= λ w. Ok (bits_of w [])) U h in
       let n = bind_ok (width_sum span (width_of S) (width_of T)) (λ w. Ok (bits_of w [])) U m.then in
@@ -354,13 +370,28 @@ module _ (d : List ℕ → Option Ty) (av : Assignment) (tests : Tests) (right :
 
   -- ---- operators
 
-  pub binary_gives : (span : Span) (o : BinaryOperator) (S T U : Ty) (x y : Value) → OneKind S T → binary_rule tests span o S T ≡ Ok U → Lies x S → Lies y T → Gives d av U (binary_value tests.limit span o x y)
+  pub binary_gives : (span : Span) (o : BinaryOperator) (S T U : Ty) (x y : Value) → OneKind S T → binary_rule tests span o S T ≡ Ok U →
+      Lies x S → Lies y T → Gives d av U (binary_value tests.limit span o x y)
   binary_gives span binary.LogicalAnd S T U x y e h i j = on_booleans span binary.LogicalAnd S T U x y h i.0 j.0 (λ a b. (refl, tt, refl))
   binary_gives span binary.LogicalOr S T U x y e h i j = on_booleans span binary.LogicalOr S T U x y h i.0 j.0 (λ a b. (refl, tt, refl))
   binary_gives span binary.Implies S T U x y e h i j = on_booleans span binary.Implies S T U x y h i.0 j.0 (λ a b. (refl, tt, refl))
   binary_gives span binary.Equivalent S T U x y e h i j = on_booleans span binary.Equivalent S T U x y h i.0 j.0 (λ a b. (refl, tt, refl))
-  binary_gives span binary.Equal S T U x y e h i j = compares span binary.Equal S T U x y e h i.0 j.0 (record { integers = λ a b. (refl, tt, refl); booleans = λ a b. (refl, tt, refl); labels = λ b. (refl, tt, refl); bits = equal_bits span })
-  binary_gives span binary.NotEqual S T U x y e h i j = compares span binary.NotEqual S T U x y e h i.0 j.0 (record { integers = λ a b. (refl, tt, refl); booleans = λ a b. (refl, tt, refl); labels = λ b. (refl, tt, refl); bits = unequal_bits span })
+  binary_gives span binary.Equal S T U x y e h i j =
+      compares span binary.Equal S T U x y e h i.0 j.0
+      (record {
+        integers = λ a b. (refl, tt, refl);
+        booleans = λ a b. (refl, tt, refl);
+        labels = λ b. (refl, tt, refl);
+        bits = equal_bits span;
+      })
+  binary_gives span binary.NotEqual S T U x y e h i j =
+      compares span binary.NotEqual S T U x y e h i.0 j.0
+      (record {
+        integers = λ a b. (refl, tt, refl);
+        booleans = λ a b. (refl, tt, refl);
+        labels = λ b. (refl, tt, refl);
+        bits = unequal_bits span;
+      })
   binary_gives span binary.Less S T U x y e h i j = on_integers span binary.Less S T boolean U x y h i j (λ a b k l. (refl, tt, refl))
   binary_gives span binary.LessEqual S T U x y e h i j = on_integers span binary.LessEqual S T boolean U x y h i j (λ a b k l. (refl, tt, refl))
   binary_gives span binary.Greater S T U x y e h i j = on_integers span binary.Greater S T boolean U x y h i j (λ a b k l. (refl, tt, refl))
@@ -371,20 +402,73 @@ module _ (d : List ℕ → Option Ty) (av : Assignment) (tests : Tests) (right :
     mixed = λ R a z k. plain_gives R a (int_bits (length a) (pos (bits_value a) +ℤ z)) k (length-bits_of (length a) _);
   })
   binary_gives span binary.Subtract S T U x y e h i j = adds span binary.Subtract cons.difference_parts S T U x y h i j (record {
-    integers = λ ps qs a b m n k l. integer_gives (difference_parts ps qs) span (a -ℤ b) (difference_keeps ps qs m n) (difference_in av ps qs a b k l);
+    integers =
+        λ ps qs a b m n k l. integer_gives (difference_parts ps qs) span (a -ℤ b) (difference_keeps ps qs m n)
+        (difference_in av ps qs a b k l);
     bits = λ R a b k e. by_length (length a == length b) (bits_of (width_of R) []) _ _ e (plain_gives R a (int_bits (length a) (pos (bits_value a) -ℤ pos (bits_value b))) k (length-bits_of (length a) _));
     mixed = λ R a z k. plain_gives R a (int_bits (length a) (pos (bits_value a) -ℤ z)) k (length-bits_of (length a) _);
   })
-  binary_gives span binary.BitAnd S T U x y e h i j = bitwise span binary.BitAnd S T U x y h i.0 j.0 (λ R a b k e. by_length (length a == length b) (bits_of (width_of R) []) _ _ e (plain_gives R a (zipped and_bit a b) k (zipped_length and_bit a b (number_of_lengths a b e))))
-  binary_gives span binary.BitOr S T U x y e h i j = bitwise span binary.BitOr S T U x y h i.0 j.0 (λ R a b k e. by_length (length a == length b) (bits_of (width_of R) []) _ _ e (plain_gives R a (zipped or_bit a b) k (zipped_length or_bit a b (number_of_lengths a b e))))
-  binary_gives span binary.BitXor S T U x y e h i j = bitwise span binary.BitXor S T U x y h i.0 j.0 (λ R a b k e. by_length (length a == length b) (bits_of (width_of R) []) _ _ e (plain_gives R a (zipped xor_bit a b) k (zipped_length xor_bit a b (number_of_lengths a b e))))
+  binary_gives span binary.BitAnd S T U x y e h i j =
+      bitwise span binary.BitAnd S T U x y h i.0 j.0
+      (λ R a b k e. by_length (length a == length b) (bits_of (width_of R) []) _ _ e
+      (plain_gives R a (zipped and_bit a b) k (zipped_length and_bit a b (number_of_lengths a b e))))
+  binary_gives span binary.BitOr S T U x y e h i j =
+      bitwise span binary.BitOr S T U x y h i.0 j.0
+      (λ R a b k e. by_length (length a == length b) (bits_of (width_of R) []) _ _ e
+      (plain_gives R a (zipped or_bit a b) k (zipped_length or_bit a b (number_of_lengths a b e))))
+  binary_gives span binary.BitXor S T U x y e h i j =
+      bitwise span binary.BitXor S T U x y h i.0 j.0
+      (λ R a b k e. by_length (length a == length b) (bits_of (width_of R) []) _ _ e
+      (plain_gives R a (zipped xor_bit a b) k (zipped_length xor_bit a b (number_of_lengths a b e))))
   binary_gives span binary.DivideExact S T U x y e h i j = on_integers span binary.DivideExact S T (integer_of []) U x y h i j (λ a b k l. divided_gives (integer_of []) span b (quotient span a) (λ n e p. exact_if (floor_mod a n == 0) (floor_div a n) span))
-  binary_gives span binary.Power S T U x y e h i j = on_integers span binary.Power S T (integer_of []) U x y h i j (λ a b k l. raised_gives (integer_of []) span b (λ n. integer_value span (int_pow a n)) (λ n e. integer_gives [] span (int_pow a n) tt (inl refl)))
-  binary_gives span binary.Multiply S T U x y e h i j = on_integers span binary.Multiply S T (integer_of (product_parts (constraint_of S) (constraint_of T))) U x y h i j (λ a b k l. integer_gives (product_parts (constraint_of S) (constraint_of T)) span (a *ℤ b) (product_keeps (constraint_of S) (constraint_of T) (within_ends d S i.1) (within_ends d T j.1)) (product_in av (constraint_of S) (constraint_of T) a b k l))
-  binary_gives span binary.DivideFloor S T U x y e h i j = on_integers span binary.DivideFloor S T (integer_of (quotient_parts (constraint_of S) (constraint_of T))) U x y h i j (λ a b k l. divided_gives (integer_of (quotient_parts (constraint_of S) (constraint_of T))) span b (λ n. Good (int (floor_div a n))) (λ n e p. (in_is_in (quotient_parts (constraint_of S) (constraint_of T)) av (floor_div a n) (quotient_keeps (constraint_of S) (constraint_of T) (within_ends d S i.1) (within_ends d T j.1)) (subst (λ z. In av (floor_div a z) (quotient_parts (constraint_of S) (constraint_of T))) (ap unsigned_abs e) (quotient_in av (constraint_of S) (constraint_of T) a b k l)), tt, refl)))
-  binary_gives span binary.Modulo S T U x y e h i j = on_integers span binary.Modulo S T (integer_of (modulo_parts (constraint_of S) (constraint_of T))) U x y h i j (λ a b k l. divided_gives (integer_of (modulo_parts (constraint_of S) (constraint_of T))) span b (λ n. Good (int (pos (floor_mod a n)))) (λ n e p. (in_is_in (modulo_parts (constraint_of S) (constraint_of T)) av (pos (floor_mod a n)) (modulo_keeps (constraint_of S) (constraint_of T)) (modulo_in av (constraint_of S) (constraint_of T) a n (above n p) (subst (λ z. In av z (constraint_of T)) e l)), tt, refl)))
-  binary_gives span binary.ShiftLeft S T U x y e h i j = on_integers span binary.ShiftLeft S T (integer_of (shifted_up_parts (constraint_of S) (constraint_of T))) U x y h i j (λ a b k l. raised_gives (integer_of (shifted_up_parts (constraint_of S) (constraint_of T))) span b (λ n. integer_value span (a *ℤ pos (2 ^ n))) (λ n e. integer_gives (shifted_up_parts (constraint_of S) (constraint_of T)) span (a *ℤ pos (2 ^ n)) (shifted_up_keeps (constraint_of S) (constraint_of T) (within_ends d S i.1) (within_ends d T j.1)) (subst (λ z. In av (a *ℤ pos (2 ^ z)) (shifted_up_parts (constraint_of S) (constraint_of T))) (ap unsigned_abs e) (shifted_up_in av (constraint_of S) (constraint_of T) a b k l))))
-  binary_gives span binary.ShiftRight S T U x y e h i j = on_integers span binary.ShiftRight S T (integer_of (shifted_down_parts (constraint_of S) (constraint_of T))) U x y h i j (λ a b k l. raised_gives (integer_of (shifted_down_parts (constraint_of S) (constraint_of T))) span b (λ n. Good (int (floor_div a (2 ^ n)))) (λ n e. (in_is_in (shifted_down_parts (constraint_of S) (constraint_of T)) av (floor_div a (2 ^ n)) (shifted_down_keeps (constraint_of S) (constraint_of T) (within_ends d S i.1) (within_ends d T j.1)) (subst (λ z. In av (floor_div a (2 ^ z)) (shifted_down_parts (constraint_of S) (constraint_of T))) (ap unsigned_abs e) (shifted_down_in av (constraint_of S) (constraint_of T) a b k l)), tt, refl)))
+  binary_gives span binary.Power S T U x y e h i j =
+      on_integers span binary.Power S T (integer_of []) U x y h i j
+      (λ a b k l. raised_gives (integer_of []) span b (λ n. integer_value span (int_pow a n))
+      (λ n e. integer_gives [] span (int_pow a n) tt (inl refl)))
+  binary_gives span binary.Multiply S T U x y e h i j =
+      on_integers span binary.Multiply S T (integer_of (product_parts (constraint_of S) (constraint_of T))) U x y h i j
+      (λ a b k l. integer_gives (product_parts (constraint_of S) (constraint_of T)) span (a *ℤ b)
+      (product_keeps (constraint_of S) (constraint_of T) (within_ends d S i.1) (within_ends d T j.1))
+      (product_in av (constraint_of S) (constraint_of T) a b k l))
+  binary_gives span binary.DivideFloor S T U x y e h i j =
+      on_integers span binary.DivideFloor S T (integer_of (quotient_parts (constraint_of S) (constraint_of T))) U x y h i j
+      (λ a b k l. divided_gives (integer_of (quotient_parts (constraint_of S) (constraint_of T))) span b (λ n. Good (int (floor_div a n)))
+      (λ n e p. (
+        in_is_in (quotient_parts (constraint_of S) (constraint_of T)) av (floor_div a n)
+            (quotient_keeps (constraint_of S) (constraint_of T) (within_ends d S i.1) (within_ends d T j.1))
+            (subst (λ z. In av (floor_div a z) (quotient_parts (constraint_of S) (constraint_of T))) (ap unsigned_abs e)
+            (quotient_in av (constraint_of S) (constraint_of T) a b k l)),
+        tt,
+        refl,
+      )))
+  binary_gives span binary.Modulo S T U x y e h i j =
+      on_integers span binary.Modulo S T (integer_of (modulo_parts (constraint_of S) (constraint_of T))) U x y h i j
+      (λ a b k l. divided_gives (integer_of (modulo_parts (constraint_of S) (constraint_of T))) span b
+      (λ n. Good (int (pos (floor_mod a n)))) (λ n e p. (
+        in_is_in (modulo_parts (constraint_of S) (constraint_of T)) av (pos (floor_mod a n))
+            (modulo_keeps (constraint_of S) (constraint_of T))
+            (modulo_in av (constraint_of S) (constraint_of T) a n (above n p) (subst (λ z. In av z (constraint_of T)) e l)),
+        tt,
+        refl,
+      )))
+  binary_gives span binary.ShiftLeft S T U x y e h i j =
+      on_integers span binary.ShiftLeft S T (integer_of (shifted_up_parts (constraint_of S) (constraint_of T))) U x y h i j
+      (λ a b k l. raised_gives (integer_of (shifted_up_parts (constraint_of S) (constraint_of T))) span b
+      (λ n. integer_value span (a *ℤ pos (2 ^ n))) (λ n e. integer_gives (shifted_up_parts (constraint_of S) (constraint_of T)) span
+      (a *ℤ pos (2 ^ n)) (shifted_up_keeps (constraint_of S) (constraint_of T) (within_ends d S i.1) (within_ends d T j.1))
+      (subst (λ z. In av (a *ℤ pos (2 ^ z)) (shifted_up_parts (constraint_of S) (constraint_of T))) (ap unsigned_abs e)
+      (shifted_up_in av (constraint_of S) (constraint_of T) a b k l))))
+  binary_gives span binary.ShiftRight S T U x y e h i j =
+      on_integers span binary.ShiftRight S T (integer_of (shifted_down_parts (constraint_of S) (constraint_of T))) U x y h i j
+      (λ a b k l. raised_gives (integer_of (shifted_down_parts (constraint_of S) (constraint_of T))) span b
+      (λ n. Good (int (floor_div a (2 ^ n)))) (λ n e. (
+        in_is_in (shifted_down_parts (constraint_of S) (constraint_of T)) av (floor_div a (2 ^ n))
+            (shifted_down_keeps (constraint_of S) (constraint_of T) (within_ends d S i.1) (within_ends d T j.1))
+            (subst (λ z. In av (floor_div a (2 ^ z)) (shifted_down_parts (constraint_of S) (constraint_of T))) (ap unsigned_abs e)
+            (shifted_down_in av (constraint_of S) (constraint_of T) a b k l)),
+        tt,
+        refl,
+      )))
   binary_gives span binary.Concatenate S T U x y e h i j = concatenates span S T U x y h i j
 
   number_ends : (z : ℤ) → AllEnds (only_number z)
@@ -400,7 +484,8 @@ module _ (d : List ℕ → Option Ty) (av : Assignment) (tests : Tests) (right :
       by true = integer_gives (only_number (pos n)) span (pos n) (number_ends (pos n)) (only_in (pos n))
       by false = integer_gives [] span (pos n) tt (inl refl)
 
-  pub unary_gives : (span : Span) (o : UnaryOperator) (S U : Ty) (x : Value) → unary_rule span o S ≡ Ok U → Lies x S → Gives d av U (unary_value span o x)
+  pub unary_gives : (span : Span) (o : UnaryOperator) (S U : Ty) (x : Value) → unary_rule span o S ≡ Ok U → Lies x S →
+      Gives d av U (unary_value span o x)
   unary_gives span unary.Negate S U x h i =
       let V : Ty = integer_of (difference_parts (only_number (pos 0)) (constraint_of S)) in
       let p = then_ok (need (is_integer S) T08 span) (Ok V) U h in
@@ -408,7 +493,8 @@ module _ (d : List ℕ → Option Ty) (av : Assignment) (tests : Tests) (right :
       subst (λ W. Gives d av W (unary_value span unary.Negate x)) (ok_ok V U p.then)
       (subst (λ z. Gives d av V (unary_value span unary.Negate z)) (sym a.1) (integer_gives (difference_parts (only_number (pos 0)) (constraint_of S)) span (pos 0 -ℤ a.0)
       (difference_keeps (only_number (pos 0)) (constraint_of S) (number_ends (pos 0)) (within_ends d S i.1))
-      (difference_in av (only_number (pos 0)) (constraint_of S) (pos 0) a.0 (only_in (pos 0)) (int_in S a.0 i.1 (subst (λ z. has_type av z S ≡ true) a.1 i.0.0)))))
+      (difference_in av (only_number (pos 0)) (constraint_of S) (pos 0) a.0 (only_in (pos 0))
+      (int_in S a.0 i.1 (subst (λ z. has_type av z S ≡ true) a.1 i.0.0)))))
   unary_gives span unary.Not S U x h i =
       let p = then_ok (need (is_boolean S) T08 span) (Ok boolean) U h in
       let a = is_bool S x (need_ok (is_boolean S) T08 span tt p.first) i.0 in

@@ -80,22 +80,26 @@ shown_is p a = sym (end_is (shown p) a) ∙ shown_fraction p a
 module _ (a : Assignment) (z : ℤ) where
   low_in : (e : End) → IsEnd e → not_above (ceiling (end_at e a)) z ≡ true → IsAtMost a (poly_of e) z
   low_in e i h =
-      let k : (end_at e a).number ≤ℤ (z *ℤ pos (end_at e a).denominator) = (ceiling_is (end_at e a) z (end_proper e a i)).0 (not_above_is (ceiling (end_at e a)) z h) in
+      let k : (end_at e a).number ≤ℤ (z *ℤ pos (end_at e a).denominator) = (ceiling_is (end_at e a) z (end_proper e a i)).0
+      (not_above_is (ceiling (end_at e a)) z h) in
       subst (λ (r : Fraction). r.number ≤ℤ (z *ℤ pos r.denominator)) (sym (end_is e a)) k
 
   in_low : (e : End) → IsEnd e → IsAtMost a (poly_of e) z → not_above (ceiling (end_at e a)) z ≡ true
   in_low e i h =
-      let k : (end_at e a).number ≤ℤ (z *ℤ pos (end_at e a).denominator) = subst (λ (r : Fraction). r.number ≤ℤ (z *ℤ pos r.denominator)) (end_is e a) h in
+      let k : (end_at e a).number ≤ℤ (z *ℤ pos (end_at e a).denominator) = subst (λ (r : Fraction). r.number ≤ℤ (z *ℤ pos r.denominator))
+      (end_is e a) h in
       is_not_above (ceiling (end_at e a)) z ((ceiling_is (end_at e a) z (end_proper e a i)).1 k)
 
   high_in : (e : End) → IsEnd e → not_above z (floor (end_at e a)) ≡ true → IsAtLeast a (poly_of e) z
   high_in e i h =
-      let k : (z *ℤ pos (end_at e a).denominator) ≤ℤ (end_at e a).number = (floor_is (end_at e a) z (end_proper e a i)).0 (not_above_is z (floor (end_at e a)) h) in
+      let k : (z *ℤ pos (end_at e a).denominator) ≤ℤ (end_at e a).number = (floor_is (end_at e a) z (end_proper e a i)).0
+      (not_above_is z (floor (end_at e a)) h) in
       subst (λ (r : Fraction). (z *ℤ pos r.denominator) ≤ℤ r.number) (sym (end_is e a)) k
 
   in_high : (e : End) → IsEnd e → IsAtLeast a (poly_of e) z → not_above z (floor (end_at e a)) ≡ true
   in_high e i h =
-      let k : (z *ℤ pos (end_at e a).denominator) ≤ℤ (end_at e a).number = subst (λ (r : Fraction). (z *ℤ pos r.denominator) ≤ℤ r.number) (end_is e a) h in
+      let k : (z *ℤ pos (end_at e a).denominator) ≤ℤ (end_at e a).number = subst (λ (r : Fraction). (z *ℤ pos r.denominator) ≤ℤ r.number)
+      (end_is e a) h in
       is_not_above z (floor (end_at e a)) ((floor_is (end_at e a) z (end_proper e a i)).1 k)
 
 -- the integers of a part
@@ -115,7 +119,8 @@ pub in_some_is : (ps : List Part) (a : Assignment) (z : ℤ) → AllEnds ps → 
 in_some_is [] a z i h = absurd h
 in_some_is (p ∷ ps) a z i (inl k) =
     or_first (in_one z (range_at p a)) (in_some z (ranges_at ps a))
-    (and_true (not_above (ceiling (end_at p.low a)) z) (not_above z (floor (end_at p.high a))) (in_low a z p.low i.0.0 k.0) (in_high a z p.high i.0.1 k.1))
+    (and_true (not_above (ceiling (end_at p.low a)) z) (not_above z (floor (end_at p.high a))) (in_low a z p.low i.0.0 k.0)
+    (in_high a z p.high i.0.1 k.1))
 in_some_is (p ∷ ps) a z i (inr k) = or_second (in_one z (range_at p a)) (in_some z (ranges_at ps a)) (in_some_is ps a z i.1 k)
 
 pub is_in_in : (ps : List Part) (a : Assignment) (z : ℤ) → AllEnds ps → is_in z (constraint_at ps a) ≡ true → In a z ps
@@ -131,5 +136,6 @@ in_is_in (p ∷ ps) a z i (inl e) = nil_cons p ps e
 in_is_in (p ∷ ps) a z i (inr k) = in_some_is (p ∷ ps) a z i k
 
 -- an integer of a constraint lies in each that this is below
-pub below_keeps : (ps qs : List Part) (a : Assignment) (z : ℤ) → AllEnds ps → AllEnds qs → Below ps qs → is_in z (constraint_at ps a) ≡ true → is_in z (constraint_at qs a) ≡ true
+pub below_keeps : (ps qs : List Part) (a : Assignment) (z : ℤ) → AllEnds ps → AllEnds qs → Below ps qs →
+    is_in z (constraint_at ps a) ≡ true → is_in z (constraint_at qs a) ≡ true
 below_keeps ps qs a z i j b h = in_is_in qs a z j (below_in a z ps qs i b (is_in_in ps a z i h))

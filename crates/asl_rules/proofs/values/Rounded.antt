@@ -1,5 +1,5 @@
--- Fractions beside integers: an integer lies from a fraction on where it lies from the least integer on that isn't below it, and likewise up to one; and a
--- fraction is a number of bits where it is whole. The same fraction rounds to the same integers.
+-- Fractions beside integers: an integer lies from a fraction on where it lies from the least integer on that isn't below it, and likewise
+-- up to one; and a fraction is a number of bits where it is whole. The same fraction rounds to the same integers.
 use Rattle.std.proofs.Common.{◌≡◌, ℕ, suc, ◌/◌, ◌%◌, ◌<◌, ◌==◌, Bool, true, false, refl, sym, ap, ◌∙◌, subst, arith}
 use Rattle.std.specs.Prelude.{◌↔◌, ◌≤ℤ◌, if◌then◌else◌, unsigned_abs}
 use Rattle.std.proofs.Math.IntN.{ℤ, pos, negsuc, ◌-ℤ◌, ◌*ℤ◌, neg_ℤ, pos-*ℤ-pos}
@@ -39,7 +39,8 @@ ceiling_is r z h =
     let both = at_most_floor (pos 0 -ℤ z) (pos 0 -ℤ r.number) r.denominator h in
     let e = negative_times z r.denominator in (
       (λ k.
-          let a : ((pos 0 -ℤ z) *ℤ pos r.denominator) ≤ℤ (pos 0 -ℤ r.number) = both.0 (turned (floor_div (pos 0 -ℤ r.number) r.denominator) z k) in
+          let a : ((pos 0 -ℤ z) *ℤ pos r.denominator) ≤ℤ (pos 0 -ℤ r.number) = both.0
+          (turned (floor_div (pos 0 -ℤ r.number) r.denominator) z k) in
           let b : (pos 0 -ℤ z *ℤ pos r.denominator) ≤ℤ (pos 0 -ℤ r.number) = subst (λ y. y ≤ℤ (pos 0 -ℤ r.number)) e a in
           grind (arith, ints, b)),
       λ k.
@@ -53,16 +54,20 @@ ceiling_is r z h =
 module _ (r s : Fraction) (hr : Proper r) (hs : Proper s) (e : SameFraction r s) where
   pub over_same : (z : ℤ) → (z *ℤ pos r.denominator) ≤ℤ r.number → (z *ℤ pos s.denominator) ≤ℤ s.number
   over_same z h =
-      let a : ((z *ℤ pos r.denominator) *ℤ pos s.denominator) ≤ℤ (r.number *ℤ pos s.denominator) = times_pos (z *ℤ pos r.denominator) r.number s.denominator h in
+      let a : ((z *ℤ pos r.denominator) *ℤ pos s.denominator) ≤ℤ (r.number *ℤ pos s.denominator) = times_pos (z *ℤ pos r.denominator)
+      r.number s.denominator h in
       let b : ((z *ℤ pos s.denominator) *ℤ pos r.denominator) ≤ℤ (s.number *ℤ pos r.denominator) =
-      subst (λ y. y ≤ℤ (s.number *ℤ pos r.denominator)) (swap_last z (pos r.denominator) (pos s.denominator)) (subst (λ y. ((z *ℤ pos r.denominator) *ℤ pos s.denominator) ≤ℤ y) e a) in
+      subst (λ y. y ≤ℤ (s.number *ℤ pos r.denominator)) (swap_last z (pos r.denominator) (pos s.denominator))
+      (subst (λ y. ((z *ℤ pos r.denominator) *ℤ pos s.denominator) ≤ℤ y) e a) in
       less_of_times (z *ℤ pos s.denominator) s.number r.denominator hr b
 
   pub under_same : (z : ℤ) → r.number ≤ℤ (z *ℤ pos r.denominator) → s.number ≤ℤ (z *ℤ pos s.denominator)
   under_same z h =
-      let a : (r.number *ℤ pos s.denominator) ≤ℤ ((z *ℤ pos r.denominator) *ℤ pos s.denominator) = times_pos r.number (z *ℤ pos r.denominator) s.denominator h in
+      let a : (r.number *ℤ pos s.denominator) ≤ℤ ((z *ℤ pos r.denominator) *ℤ pos s.denominator) = times_pos r.number
+      (z *ℤ pos r.denominator) s.denominator h in
       let b : (s.number *ℤ pos r.denominator) ≤ℤ ((z *ℤ pos s.denominator) *ℤ pos r.denominator) =
-      subst (λ y. (s.number *ℤ pos r.denominator) ≤ℤ y) (swap_last z (pos r.denominator) (pos s.denominator)) (subst (λ y. y ≤ℤ ((z *ℤ pos r.denominator) *ℤ pos s.denominator)) e a) in
+      subst (λ y. (s.number *ℤ pos r.denominator) ≤ℤ y) (swap_last z (pos r.denominator) (pos s.denominator))
+      (subst (λ y. y ≤ℤ ((z *ℤ pos r.denominator) *ℤ pos s.denominator)) e a) in
       less_of_times s.number (z *ℤ pos s.denominator) r.denominator hr b
 
   floor_up : floor r ≤ℤ floor s
@@ -92,14 +97,16 @@ same_ceiling r s h k e = one_of_two (ceiling r) (ceiling s) (ceiling_down s r k 
 whole_of_none : (r : Fraction) → Proper r → floor_mod r.number r.denominator ≡ 0 → IsWhole (floor r) r
 whole_of_none r h e =
     let l = floor_law r.number r.denominator h in
-    let m : floor r *ℤ pos r.denominator ≡ r.number = let f : pos (floor_mod r.number r.denominator) ≡ pos 0 = ap pos e in omega (arith, ints, l.0, f) in
+    let m : floor r *ℤ pos r.denominator ≡ r.number = let f : pos (floor_mod r.number r.denominator) ≡ pos 0 = ap pos e in omega
+    (arith, ints, l.0, f) in
     mul-one r.number ∙ sym m
 
 pub none_of_whole : (r : Fraction) (z : ℤ) → Proper r → IsWhole z r → (floor r ≡ z) × (floor_mod r.number r.denominator ≡ 0)
 none_of_whole r z h w =
     let n : r.number ≡ z *ℤ pos r.denominator = sym (mul-one r.number) ∙ w in
     let up : z ≤ℤ floor r = (floor_is r z h).1 (grind (arith, ints, n)) in
-    let at : (floor r *ℤ pos r.denominator) ≤ℤ (z *ℤ pos r.denominator) = subst (λ y. (floor r *ℤ pos r.denominator) ≤ℤ y) n ((floor_is r (floor r) h).0 (grind (arith, ints))) in
+    let at : (floor r *ℤ pos r.denominator) ≤ℤ (z *ℤ pos r.denominator) = subst (λ y. (floor r *ℤ pos r.denominator) ≤ℤ y) n
+    ((floor_is r (floor r) h).0 (grind (arith, ints))) in
     let e : floor r ≡ z = one_of_two (floor r) z (less_of_times (floor r) z r.denominator h at) up in
     let l = floor_law r.number r.denominator h in
     let f : floor r *ℤ pos r.denominator ≡ z *ℤ pos r.denominator = ap (λ y. y *ℤ pos r.denominator) e in
@@ -109,8 +116,11 @@ none_of_whole r z h w =
 
 multiple_of : (y : ℤ) (k : ℕ) → unsigned_abs y % k ≡ 0 → (w : ℤ) × (y ≡ w *ℤ pos k)
 multiple_of (pos a) k e = (pos (a / k), sym (pos-*ℤ-pos (a / k) k ∙ ap pos (divides_exact k a e)))
-multiple_of (negsuc a) k e =
-    (neg_ℤ (pos (suc a / k)), sym (neg-mul (pos (suc a / k)) (pos k) ∙ ap neg_ℤ (pos-*ℤ-pos (suc a / k) k ∙ ap pos (divides_exact k (suc a) e))))
+multiple_of (negsuc a) k e = (
+  neg_ℤ (pos (suc a / k)),
+  sym (neg-mul (pos (suc a / k)) (pos k) ∙ ap neg_ℤ
+      (pos-*ℤ-pos (suc a / k) k ∙ ap pos (divides_exact k (suc a) e))),
+)
 
 -- the quotient of a multiple
 pub exact_is : (y : ℤ) (k : ℕ) → 0 < k → unsigned_abs y % k ≡ 0 → y ≡ floor_div y k *ℤ pos k
@@ -149,7 +159,8 @@ pub same_width_in : (r s : Fraction) → Proper r → Proper s → SameFraction 
 same_width_in r s h k e = by (floor_mod r.number r.denominator == 0) (floor_mod s.number s.denominator == 0) refl refl
   where
     -- one that is the same as a whole one is whole
-    also : (p q : Fraction) → Proper p → Proper q → SameFraction p q → (floor_mod p.number p.denominator == 0) ≡ true → width_in p ≡ width_in q
+    also : (p q : Fraction) → Proper p → Proper q → SameFraction p q → (floor_mod p.number p.denominator == 0) ≡ true →
+        width_in p ≡ width_in q
     also p q i j f b =
         let w : IsWhole (floor p) p = whole_of_none p i (is_zero_nat (floor_mod p.number p.denominator) b) in
         width_of_whole p (floor p) i w ∙ sym (width_of_whole q (floor p) j (moved p q (floor p) i f w))
@@ -186,7 +197,8 @@ module _ (a : Assignment) where
   pub constant_at : (z : ℤ) → width_at (constant_map z) a ≡ z
   constant_at z =
       let some : 0 < (constant_map z).denominator = subst (λ n. 0 < n) (sym (denominator_constant_map z)) (omega arith) in
-      width_of_whole (fraction_at a (constant_map z)) z some (mul-one (value a (constant_map z).terms) ∙ value_constant_map a z ∙ sym (one_over z))
+      width_of_whole (fraction_at a (constant_map z)) z some
+      (mul-one (value a (constant_map z).terms) ∙ value_constant_map a z ∙ sym (one_over z))
     where
       one_over : (z : ℤ) → z *ℤ pos (constant_map z).denominator ≡ z
       one_over z = ap (λ n. z *ℤ pos n) (denominator_constant_map z) ∙ mul-one z

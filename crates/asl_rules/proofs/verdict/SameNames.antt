@@ -293,9 +293,13 @@ module _ (t : Tests) (A B : List Entry) (subs : List Signature) where
   width_unary span unary.Complement a g k = alike_err SameWidths (fault_of T19 span)
 
   width_two : (span : Span) (j : Joining) (a b : EE) → Agree A B (expr_uses a.0 ++ expr_uses b.0) → (k : Effect) →
-      Alike SameWidths (width_of span (reading_of_two j (found t a.0) (found t b.0)) (record { names = A; subs = subs; class = k })) (width_of span (reading_of_two j (found t a.0) (found t b.0)) (record { names = B; subs = subs; class = k }))
-  width_two span (Combines o) a b g k = combined_width t A B subs span o (found t a.0) (found t b.0) k (a.1 (left A B (expr_uses a.0) (expr_uses b.0) g)).width_is (b.1 (right A B (expr_uses a.0) (expr_uses b.0) g)).width_is
-  width_two span Divides a b g k = divided_width t A B subs span (found t a.0) (found t b.0) k (a.1 (left A B (expr_uses a.0) (expr_uses b.0) g)).width_is
+      Alike SameWidths (width_of span (reading_of_two j (found t a.0) (found t b.0)) (record { names = A; subs = subs; class = k }))
+      (width_of span (reading_of_two j (found t a.0) (found t b.0)) (record { names = B; subs = subs; class = k }))
+  width_two span (Combines o) a b g k =
+      combined_width t A B subs span o (found t a.0) (found t b.0) k (a.1 (left A B (expr_uses a.0) (expr_uses b.0) g)).width_is
+      (b.1 (right A B (expr_uses a.0) (expr_uses b.0) g)).width_is
+  width_two span Divides a b g k =
+      divided_width t A B subs span (found t a.0) (found t b.0) k (a.1 (left A B (expr_uses a.0) (expr_uses b.0) g)).width_is
   width_two span JoinsNothing a b g k = alike_err SameWidths (fault_of T19 span)
 
   layer_width : (y : ex.Expr-F BB CC EE FF PP SS TT) → Agree A B (in_expr (using_expr (trees_expr y))) → (k : Effect) → Alike SameWidths (width_rule (opened_expr (trees_expr y)) (record { names = A; subs = subs; class = k })) (width_rule (opened_expr (trees_expr y)) (record { names = B; subs = subs; class = k }))
@@ -312,9 +316,13 @@ module _ (t : Tests) (A B : List Entry) (subs : List Signature) where
   number_unary span unary.Complement a g k = alike_err SameNumbers (fault_of T19 span)
 
   number_two : (span : Span) (j : Joining) (a b : EE) → Agree A B (expr_uses a.0 ++ expr_uses b.0) → (k : Effect) →
-      Alike SameNumbers (number_of span (reading_of_two j (found t a.0) (found t b.0)) (record { names = A; subs = subs; class = k })) (number_of span (reading_of_two j (found t a.0) (found t b.0)) (record { names = B; subs = subs; class = k }))
-  number_two span (Combines o) a b g k = combined_number t A B subs span o (found t a.0) (found t b.0) k (a.1 (left A B (expr_uses a.0) (expr_uses b.0) g)).width_is (b.1 (right A B (expr_uses a.0) (expr_uses b.0) g)).width_is
-  number_two span Divides a b g k = divided_number t A B subs span (found t a.0) (found t b.0) k (a.1 (left A B (expr_uses a.0) (expr_uses b.0) g)).width_is
+      Alike SameNumbers (number_of span (reading_of_two j (found t a.0) (found t b.0)) (record { names = A; subs = subs; class = k }))
+      (number_of span (reading_of_two j (found t a.0) (found t b.0)) (record { names = B; subs = subs; class = k }))
+  number_two span (Combines o) a b g k =
+      combined_number t A B subs span o (found t a.0) (found t b.0) k (a.1 (left A B (expr_uses a.0) (expr_uses b.0) g)).width_is
+      (b.1 (right A B (expr_uses a.0) (expr_uses b.0) g)).width_is
+  number_two span Divides a b g k =
+      divided_number t A B subs span (found t a.0) (found t b.0) k (a.1 (left A B (expr_uses a.0) (expr_uses b.0) g)).width_is
   number_two span JoinsNothing a b g k = alike_err SameNumbers (fault_of T19 span)
 
   layer_number : (y : ex.Expr-F BB CC EE FF PP SS TT) → Agree A B (in_expr (using_expr (trees_expr y))) → (k : Effect) → Alike SameNumbers (number_rule (opened_expr (trees_expr y)) (record { names = A; subs = subs; class = k })) (number_rule (opened_expr (trees_expr y)) (record { names = B; subs = subs; class = k }))
@@ -330,9 +338,16 @@ module _ (t : Tests) (A B : List Entry) (subs : List Signature) where
   atom_unary span unary.Not a g k = refl
   atom_unary span unary.Complement a g k = refl
 
-  atom_two : (j : Joining) (a b : EE) → Agree A B (expr_uses a.0 ++ expr_uses b.0) → (k : Effect) → names_atom (reading_of_two j (found t a.0) (found t b.0)) (record { names = A; subs = subs; class = k }) ≡ names_atom (reading_of_two j (found t a.0) (found t b.0)) (record { names = B; subs = subs; class = k })
-  atom_two (Combines o) a b g k = ap₂ (λ x z. x || z) ((a.1 (left A B (expr_uses a.0) (expr_uses b.0) g)).width_is.atom_is k) ((b.1 (right A B (expr_uses a.0) (expr_uses b.0) g)).width_is.atom_is k)
-  atom_two Divides a b g k = ap₂ (λ x z. x || z) ((a.1 (left A B (expr_uses a.0) (expr_uses b.0) g)).width_is.atom_is k) ((b.1 (right A B (expr_uses a.0) (expr_uses b.0) g)).width_is.atom_is k)
+  atom_two : (j : Joining) (a b : EE) → Agree A B (expr_uses a.0 ++ expr_uses b.0) → (k : Effect) →
+      names_atom (reading_of_two j (found t a.0) (found t b.0))
+      (record { names = A; subs = subs; class = k }) ≡ names_atom (reading_of_two j (found t a.0) (found t b.0))
+      (record { names = B; subs = subs; class = k })
+  atom_two (Combines o) a b g k =
+      ap₂ (λ x z. x || z) ((a.1 (left A B (expr_uses a.0) (expr_uses b.0) g)).width_is.atom_is k)
+      ((b.1 (right A B (expr_uses a.0) (expr_uses b.0) g)).width_is.atom_is k)
+  atom_two Divides a b g k =
+      ap₂ (λ x z. x || z) ((a.1 (left A B (expr_uses a.0) (expr_uses b.0) g)).width_is.atom_is k)
+      ((b.1 (right A B (expr_uses a.0) (expr_uses b.0) g)).width_is.atom_is k)
   atom_two JoinsNothing a b g k = refl
 
   layer_atom : (y : ex.Expr-F BB CC EE FF PP SS TT) → Agree A B (in_expr (using_expr (trees_expr y))) → (k : Effect) → atom_rule (opened_expr (trees_expr y)) (record { names = A; subs = subs; class = k }) ≡ atom_rule (opened_expr (trees_expr y)) (record { names = B; subs = subs; class = k })

@@ -1,4 +1,5 @@
--- Right tests exist under each limit that a width may have: whether two widths are the same, and whether a constraint is below another, is decided.
+-- Right tests exist under each limit that a width may have: whether two widths are the same, and whether a constraint is below another, is
+-- decided.
 use Rattle.std.proofs.Common.{◌≡◌, ◌⊎◌, inl, inr, ℕ, zero, suc, ◌<◌, ◌≤◌, ◌^◌, List, [], ◌∷◌, length, Option, Some, None, refl, ap, sym, ◌∙◌, arith}
 use Rattle.std.specs.Prelude.{◌≤ℤ◌, ◌<ℤ◌, MatchOption, unsigned_abs}
 use Rattle.std.specs.declared.cmp.Ordering.{Ordering}
@@ -66,7 +67,8 @@ same_terms = lists same_summand
 
 -- a polynomial is in lowest terms where the greatest common divisor of its denominator and its coefficients is 1
 is_lowest : (p : Polynomial) → 0 < p.denominator → Dec (IsLowest p)
-is_lowest p some = as_well (λ e. lowest_of_one p some e) (λ h. one_of_lowest p h) (nats (greatest_common_divisor p.denominator (sizes p.terms)) 1)
+is_lowest p some =
+    as_well (λ e. lowest_of_one p some e) (λ h. one_of_lowest p h) (nats (greatest_common_divisor p.denominator (sizes p.terms)) 1)
 
 lowest_by : (p : Polynomial) → Dec (1 ≤ p.denominator) → Dec (IsLowest p)
 lowest_by p (inl some) = is_lowest p (omega (arith, some))
@@ -84,7 +86,8 @@ same_polynomials p q =
 
 same_width : (p q : Polynomial) → Dec (SameWidth p q)
 same_width p q =
-    as_well (λ m. record { left = m.0; right = m.1.0; same = same_of_equal p q m.1.1 }) (λ h. (h.left, (h.right, same_everywhere p q h.left h.right h.same)))
+    as_well (λ m. record { left = m.0; right = m.1.0; same = same_of_equal p q m.1.1 })
+    (λ h. (h.left, (h.right, same_everywhere p q h.left h.right h.same)))
     (both (is_polynomial p) (both (is_polynomial q) (same_polynomials p q)))
 
 -- ---- ends
@@ -128,7 +131,8 @@ nowhere n = pos 0
 abbrev Over : Polynomial → Type 0
 Over p = ((c : ℤ) × ((a : ℕ → ℤ) → value a p.terms ≡ c)) ⊎ ((c : ℤ) → ((a : ℕ → ℤ) → value a p.terms ≡ c) → ⊥)
 
-over_by : (p : Polynomial) (r : Option ℤ) → MatchOption r ((c : ℤ) → ((a : ℕ → ℤ) → value a p.terms ≡ c) → ⊥) (λ c. (a : ℕ → ℤ) → value a p.terms ≡ c) → Over p
+over_by : (p : Polynomial) (r : Option ℤ) → MatchOption r ((c : ℤ) → ((a : ℕ → ℤ) → value a p.terms ≡ c) → ⊥)
+    (λ c. (a : ℕ → ℤ) → value a p.terms ≡ c) → Over p
 over_by p None m = inr m
 over_by p (Some c) m = inl (c, m)
 
@@ -142,7 +146,8 @@ one_distance x c d e = omega (arith, ints)
 at_distance : (p q : Polynomial) (c : ℤ) → IsOffset p q c → Dec (IsAbove (Width p) (Width q))
 at_distance p q c d =
     as_well (λ l. record { by = c; least = l; apart = d })
-    (λ h. let e : h.by ≡ c = one_distance (value nowhere q.terms *ℤ pos p.denominator) h.by c (sym (h.apart nowhere) ∙ d nowhere) in let l : pos 0 ≤ℤ h.by = h.least in rw e at l)
+    (λ h. let e : h.by ≡ c = one_distance (value nowhere q.terms *ℤ pos p.denominator) h.by c (sym (h.apart nowhere) ∙ d nowhere) in
+    let l : pos 0 ≤ℤ h.by = h.least in rw e at l)
     (at_most_z (pos 0) c)
 
 -- the terms with atoms over one denominator
@@ -155,12 +160,14 @@ distance p q = pos q.denominator *ℤ constant_part p.terms -ℤ pos p.denominat
 widths_by : (p q : Polynomial) → IsPolynomial p → IsPolynomial q → Dec (Bodies p q) → Dec (IsAbove (Width p) (Width q))
 unfolding distance
 widths_by p q h k (inl e) =
-    at_distance p q (distance p q) (found_offset p q h k p.terms q.terms q.denominator p.denominator (Some (distance p q)) refl refl refl refl (e, refl))
+    at_distance p q (distance p q) (found_offset p q h k p.terms q.terms q.denominator p.denominator (Some (distance p q))
+    refl refl refl refl (e, refl))
 widths_by p q h k (inr n) =
     inr (widths_not_above p q (found_offset p q h k p.terms q.terms q.denominator p.denominator None refl refl refl refl n))
 
 widths : (p q : Polynomial) → IsPolynomial p → IsPolynomial q → Dec (IsAbove (Width p) (Width q))
-widths p q h k = widths_by p q h k (same_terms (multiples q.denominator (varying_part p.terms)) (multiples p.denominator (varying_part q.terms)))
+widths p q h k =
+    widths_by p q h k (same_terms (multiples q.denominator (varying_part p.terms)) (multiples p.denominator (varying_part q.terms)))
 
 -- an integer above a width, and a width above an integer: the integer times the denominator is compared with the number of the terms
 integer_over : (x : ℤ) (q : Polynomial) → Over q → Dec (IsAbove (Int x) (Width q))
@@ -259,7 +266,8 @@ covers_by qs m l h (inl a) =
 covers_by qs m l h (inr n) = inl (λ i b c. absurd (empty l h i n b c))
 
 covered_by : (p : Part) (qs : List Part) → IsEnd p.low → IsEnd p.high → AllEnds qs → Fixed p → Dec (IsCovered qs p)
-covered_by p qs e f m (inl (l, h, g)) = as_well ((covered_fixed p qs l h (e, f) g).0) ((covered_fixed p qs l h (e, f) g).1) (covers_by qs m l h (at_most_z l h))
+covered_by p qs e f m (inl (l, h, g)) =
+    as_well ((covered_fixed p qs l h (e, f) g).0) ((covered_fixed p qs l h (e, f) g).1) (covers_by qs m l h (at_most_z l h))
 covered_by p qs e f m (inr n) = as_well ((covered_free p qs n).0) ((covered_free p qs n).1) (held p qs e f m)
 
 all_covered : (ps qs : List Part) → AllEnds ps → AllEnds qs → Dec (AllCovered ps qs)

@@ -83,19 +83,23 @@ module _ (a : ℕ → ℤ) where
   pub constant_same : (z : ℤ) → SameFraction (fraction_at a (constant_map z)) (whole z)
   constant_same z = mul-one (value a (constant_map z).terms) ∙ int_end z a
 
-  pub sum_same : (p q : Polynomial) → IsPolynomial p → IsPolynomial q → SameFraction (fraction_at a (sum_map p q)) (plus (fraction_at a p) (fraction_at a q))
+  pub sum_same : (p q : Polynomial) → IsPolynomial p → IsPolynomial q →
+      SameFraction (fraction_at a (sum_map p q)) (plus (fraction_at a p) (fraction_at a q))
   unfolding sum_map
   sum_same p q h k = sum_value a p q h k
 
-  pub difference_same : (p q : Polynomial) → IsPolynomial p → IsPolynomial q → SameFraction (fraction_at a (difference_map p q)) (less (fraction_at a p) (fraction_at a q))
+  pub difference_same : (p q : Polynomial) → IsPolynomial p → IsPolynomial q →
+      SameFraction (fraction_at a (difference_map p q)) (less (fraction_at a p) (fraction_at a q))
   unfolding difference_map
   difference_same p q h k = difference_value a p q h k
 
-  pub product_same : (p q : Polynomial) → IsPolynomial p → IsPolynomial q → SameFraction (fraction_at a (product_map p q)) (times (fraction_at a p) (fraction_at a q))
+  pub product_same : (p q : Polynomial) → IsPolynomial p → IsPolynomial q →
+      SameFraction (fraction_at a (product_map p q)) (times (fraction_at a p) (fraction_at a q))
   unfolding product_map
   product_same p q h k = product_value a p q h k
 
-  pub quotient_same : (p : Polynomial) (k : ℕ) → IsPolynomial p → 0 < k → SameFraction (fraction_at a (quotient_map p k)) (parted (fraction_at a p) k)
+  pub quotient_same : (p : Polynomial) (k : ℕ) → IsPolynomial p → 0 < k →
+      SameFraction (fraction_at a (quotient_map p k)) (parted (fraction_at a p) k)
   unfolding quotient_map
   quotient_same p k h l = quotient_value a p k h l
 

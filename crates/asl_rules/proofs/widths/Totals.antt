@@ -1,5 +1,5 @@
--- Sums of many widths, over one denominator: if all parts together are within the limits, so is the sum of them, and of the first of them, which are in lowest
--- terms.
+-- Sums of many widths, over one denominator: if all parts together are within the limits, so is the sum of them, and of the first of them,
+-- which are in lowest terms.
 use Rattle.std.proofs.Common.{◌≡◌, ℕ, zero, suc, ◌+◌, ◌*◌, ◌/◌, ◌%◌, ◌<◌, ◌≤◌, pos, negsuc, Bool, true, false, List, [], ◌∷◌, ◌++◌, length, Ok, refl, sym, ap, ◌∙◌, subst, arith}
 use Rattle.std.specs.Prelude.{nat_le, ◌&&◌, unsigned_abs}
 use Rattle.std.proofs.Math.Nat.{mod_self, mod-one, div_self, div-one, dvd-mod_iff, mul-le-mul_right, le_of_mul-le-mul_right, eq_of_mul-eq-mul_left}
@@ -45,7 +45,8 @@ module _ (d e : ℕ) (sd : 0 < d) (se : 0 < e) where
       let whole : q * r ≡ d * e = divides_exact r (d * e) k in
       let a : q * (r / d) ≡ e = eq_of_mul-eq-mul_left d sd (q * (r / d)) e (turned_product q (r / d) r d e whole (divides_exact d r i)) in
       let swapped : d * e ≡ e * d = omega arith in
-      let b : q * (r / e) ≡ d = eq_of_mul-eq-mul_left e se (q * (r / e)) d (turned_product q (r / e) r e d (whole ∙ swapped) (divides_exact e r j)) in
+      let b : q * (r / e) ≡ d = eq_of_mul-eq-mul_left e se (q * (r / e)) d
+      (turned_product q (r / e) r e d (whole ∙ swapped) (divides_exact e r j)) in
       let in_d : Divides q d = multiple_divides q (r / e) d (sym b ∙ (omega arith)) in
       let in_e : Divides q e = multiple_divides q (r / d) e (sym a ∙ (omega arith)) in
       let most : q ≤ g = divisor_most d (e ∷ []) q sd in_d (in_e, tt) in
@@ -65,7 +66,8 @@ module _ (d e : ℕ) (sd : 0 < d) (se : 0 < e) where
       let some : 0 < (d * e) % r = omega (arith, h) in
       let swapped : d * e ≡ e * d = omega arith in
       let s : least_common_multiple d e ≤ (d * e) % r = again ((d * e) % r) below some
-      (rest_divides d (d * e) r (multiple_divides d e (d * e) swapped) i) (rest_divides e (d * e) r (multiple_divides e d (d * e) refl) j) in
+      (rest_divides d (d * e) r (multiple_divides d e (d * e) swapped) i) (rest_divides e (d * e) r (multiple_divides e d (d * e) refl) j)
+      in
       omega (arith, s, below)
 
   least_by : (b r : ℕ) → r < b → 0 < r → Divides d r → Divides e r → least_common_multiple d e ≤ r
@@ -86,7 +88,8 @@ module _ (d e : ℕ) (sd : 0 < d) (se : 0 < e) where
       by (suc m) h =
           let below : n % least_common_multiple d e < least_common_multiple d e = mod_below n (least_common_multiple d e) some in
           let s : least_common_multiple d e ≤ n % least_common_multiple d e = least_most (n % least_common_multiple d e) (omega (arith, h))
-          (rest_divides d n (least_common_multiple d e) i (multiple_left d e)) (rest_divides e n (least_common_multiple d e) j (multiple_right d e)) in
+          (rest_divides d n (least_common_multiple d e) i (multiple_left d e))
+          (rest_divides e n (least_common_multiple d e) j (multiple_right d e)) in
           absurd (omega (arith, s, below))
 
 -- ---- totals
@@ -144,7 +147,8 @@ length_terms seen [] = omega arith
 length_terms seen (t ∷ ts) = omega (arith, length_factors seen t.factors, length_terms (note_factors seen t.factors) ts)
 
 both_inside : (ys : List ℕ) (p q : List Summand) → FactorsIn ys p → AllIn (note_terms ys q) (note_terms (note_terms [] p) q)
-both_inside ys p q h = terms_in (note_terms ys q) (note_terms [] p) q (terms_in (note_terms ys q) [] p tt (in_keep ys q p h)) (terms_have ys q)
+both_inside ys p q h =
+    terms_in (note_terms ys q) (note_terms [] p) q (terms_in (note_terms ys q) [] p tt (in_keep ys q p h)) (terms_have ys q)
 
 divided_inside : (k : ℕ) (ys : List ℕ) (ts : List Summand) → FactorsIn ys ts → FactorsIn ys (divided k ts)
 divided_inside k ys [] h = tt
@@ -163,7 +167,8 @@ module _ (x y : Total) (p : Polynomial) (n : ℕ) (i : IsPolynomial p) (sn : 0 <
   joined_back s f =
       let one : 0 < n / x.denominator = raised_some x.denominator n sn j.left in
       let more : x.weight * 1 ≤ x.weight * (n / x.denominator) = omega (arith, mul-le-mul_right x.weight one) in
-      let long : length x.atoms ≤ length y.atoms = subst (λ (l : List ℕ). length x.atoms ≤ length l) (sym j.atoms) (length_terms x.atoms p.terms) in
+      let long : length x.atoms ≤ length y.atoms = subst (λ (l : List ℕ). length x.atoms ≤ length l) (sym j.atoms)
+      (length_terms x.atoms p.terms) in
       record {
         light = omega (arith, more, j.weighs, f.light);
         few = omega (arith, long, f.few);
@@ -201,7 +206,9 @@ module _ (x y : Total) (p : Polynomial) (n : ℕ) (i : IsPolynomial p) (sn : 0 <
 
     -- over n the sum so far, times n, weighs no more than its parts, times the least multiple
     first_weight : (weight x.sum.terms * (least / x.sum.denominator)) * n ≤ (x.weight * (n / x.denominator)) * least
-    first_weight = by (weight x.sum.terms) (least / x.sum.denominator) x.sum.denominator x.denominator x.weight (n / x.denominator) least n l1 n1 c.lighter c.held.lowest.positive c.some
+    first_weight =
+        by (weight x.sum.terms) (least / x.sum.denominator) x.sum.denominator x.denominator x.weight (n / x.denominator)
+        least n l1 n1 c.lighter c.held.lowest.positive c.some
       where
         by : (w l s d W k L m : ℕ) → l * s ≡ L → k * d ≡ m → w * d ≤ W * s → 0 < s → 0 < d → (w * l) * m ≤ (W * k) * L
         by w l s d W k L m a b h ps pd =
@@ -223,7 +230,8 @@ module _ (x y : Total) (p : Polynomial) (n : ℕ) (i : IsPolynomial p) (sn : 0 <
     both_weigh =
         let a = first_weight in
         let b = second_weight in
-        let u : y.weight * least ≡ (x.weight * (n / x.denominator) + weight p.terms * (n / p.denominator)) * least = ap (λ m. m * least) j.weighs in
+        let u : y.weight * least ≡ (x.weight * (n / x.denominator) + weight p.terms * (n / p.denominator)) * least = ap (λ m. m * least)
+        j.weighs in
         omega (arith, a, b, u)
 
     sum_light : weight x.sum.terms * (least / x.sum.denominator) + weight p.terms * (least / p.denominator) ≤ y.weight
@@ -244,7 +252,8 @@ module _ (x y : Total) (p : Polynomial) (n : ℕ) (i : IsPolynomial p) (sn : 0 <
             arith,
             long,
             pigeonhole (atoms_of_both x.sum.terms p.terms) (note_terms x.atoms p.terms)
-                (distinct_terms (note_terms [] x.sum.terms) p.terms (distinct_terms [] x.sum.terms tt)) (both_inside x.atoms x.sum.terms p.terms c.inside),
+                (distinct_terms (note_terms [] x.sum.terms) p.terms (distinct_terms [] x.sum.terms tt))
+                (both_inside x.atoms x.sum.terms p.terms c.inside),
           );
       fine = omega (arith, divides_le least n sn whole, j.over, f.fine);
     }
@@ -258,9 +267,12 @@ module _ (x y : Total) (p : Polynomial) (n : ℕ) (i : IsPolynomial p) (sn : 0 <
         let q = divisor_divides least (sizes ts) in
         let w : g * weight (divided g ts) ≡ weight ts = sym (weight_multiples g (divided g ts)) ∙ ap weight (divided_back g ts q.1) in
         let d : least / g * g ≡ least = divides_exact g least q.0 in
-        let m : weight ts * n ≤ (weight x.sum.terms * (least / x.sum.denominator) + weight p.terms * (least / p.denominator)) * n = mul-le-mul_right n h in
-        let u : (weight (divided g ts) * n) * g ≡ weight ts * n = let s : (weight (divided g ts) * n) * g ≡ (g * weight (divided g ts)) * n = omega arith in s ∙ ap (λ z. z * n) w in
-        let v : (y.weight * (least / g)) * g ≡ y.weight * least = let s : (y.weight * (least / g)) * g ≡ y.weight * (least / g * g) = omega arith in s ∙ ap (λ z. y.weight * z) d in
+        let m : weight ts * n ≤ (weight x.sum.terms * (least / x.sum.denominator) + weight p.terms * (least / p.denominator))
+        * n = mul-le-mul_right n h in
+        let u : (weight (divided g ts) * n) * g ≡ weight ts * n = let s : (weight (divided g ts) * n) * g ≡ (g * weight (divided g ts))
+        * n = omega arith in s ∙ ap (λ z. z * n) w in
+        let v : (y.weight * (least / g)) * g ≡ y.weight * least = let s : (y.weight * (least / g))
+        * g ≡ y.weight * (least / g * g) = omega arith in s ∙ ap (λ z. y.weight * z) d in
         let t : (weight (divided g ts) * n) * g ≤ (y.weight * (least / g)) * g = omega (arith, u, v, m, both_weigh) in
         le_of_mul-le-mul_right t (divisor_some least (sizes ts))
 
@@ -280,11 +292,13 @@ module _ (x y : Total) (p : Polynomial) (n : ℕ) (i : IsPolynomial p) (sn : 0 <
     both_terms : Summand → List Summand
     both_terms s = gather (raised least x.sum) (scaled s (raised least p))
 
-    terms_light : (s : Summand) → unsigned_abs s.coefficient ≡ 1 → weight (both_terms s) ≤ weight x.sum.terms * (least / x.sum.denominator) + weight p.terms * (least / p.denominator)
+    terms_light : (s : Summand) → unsigned_abs s.coefficient ≡ 1 →
+        weight (both_terms s) ≤ weight x.sum.terms * (least / x.sum.denominator) + weight p.terms * (least / p.denominator)
     unfolding both_terms
     terms_light s one =
         let a = weight_gather (raised least x.sum) (scaled s (raised least p)) in
-        let b : weight (scaled s (raised least p)) ≡ 1 * weight (raised least p) = weight_scaled s (raised least p) ∙ ap (λ m. m * weight (raised least p)) one in
+        let b : weight (scaled s (raised least p)) ≡ 1 * weight (raised least p) = weight_scaled s (raised least p) ∙ ap
+        (λ m. m * weight (raised least p)) one in
         let u = weight_multiples (least / x.sum.denominator) x.sum.terms in
         let v = weight_multiples (least / p.denominator) p.terms in
         omega (arith, a, b, u, v)
@@ -295,19 +309,25 @@ module _ (x y : Total) (p : Polynomial) (n : ℕ) (i : IsPolynomial p) (sn : 0 <
         let ys = note_terms x.atoms p.terms in
         gather_in ys (raised least x.sum) (scaled s (raised least p))
         (scaled_in ys (constant_term (pos (least / x.sum.denominator))) x.sum.terms tt (in_keep x.atoms p.terms x.sum.terms c.inside))
-        (scaled_in ys s (raised least p) h (scaled_in ys (constant_term (pos (least / p.denominator))) p.terms tt (terms_have x.atoms p.terms)))
+        (scaled_in ys s (raised least p) h (scaled_in ys (constant_term (pos (least / p.denominator))) p.terms tt
+        (terms_have x.atoms p.terms)))
 
-    made : (s : Summand) → unsigned_abs s.coefficient ≡ 1 → AllIn (note_terms x.atoms p.terms) s.factors → y.sum ≡ lowest (both_terms s) least → IsPolynomial y.sum → Counts y
+    made : (s : Summand) → unsigned_abs s.coefficient ≡ 1 → AllIn (note_terms x.atoms p.terms) s.factors →
+        y.sum ≡ lowest (both_terms s) least → IsPolynomial y.sum → Counts y
     made s one h e held = record {
       some = subst (λ m. 0 < m) (sym j.over) sn;
       held = held;
-      divides = subst (λ m. Divides y.sum.denominator m) (sym j.over) (subst (λ (q : Polynomial). Divides q.denominator n) (sym e) (lowered_divides (both_terms s)));
+      divides =
+          subst (λ m. Divides y.sum.denominator m) (sym j.over)
+          (subst (λ (q : Polynomial). Divides q.denominator n) (sym e) (lowered_divides (both_terms s)));
       lighter =
           subst (λ m. weight y.sum.terms * m ≤ y.weight * y.sum.denominator) (sym j.over)
-          (subst (λ (q : Polynomial). weight q.terms * n ≤ y.weight * q.denominator) (sym e) (lowered_weight (both_terms s) (terms_light s one)));
+          (subst (λ (q : Polynomial). weight q.terms * n ≤ y.weight * q.denominator) (sym e)
+          (lowered_weight (both_terms s) (terms_light s one)));
       inside =
           subst (λ (l : List ℕ). FactorsIn l y.sum.terms) (sym j.atoms)
-          (subst (λ (q : Polynomial). FactorsIn (note_terms x.atoms p.terms) q.terms) (sym e) (lowered_inside (note_terms x.atoms p.terms) (both_terms s) (terms_inside s h)));
+          (subst (λ (q : Polynomial). FactorsIn (note_terms x.atoms p.terms) q.terms) (sym e)
+          (lowered_inside (note_terms x.atoms p.terms) (both_terms s) (terms_inside s h)));
       distinct = subst Distinct (sym j.atoms) (distinct_terms x.atoms p.terms c.distinct);
     }
 
@@ -321,8 +341,22 @@ module _ (x y : Total) (p : Polynomial) (n : ℕ) (i : IsPolynomial p) (sn : 0 <
 
 -- ---- the steps
 
-with_part_joined : (x : Total) (p s : Polynomial) → Joined x (record { sum = s; weight = x.weight * (least_common_multiple x.denominator p.denominator / x.denominator) + weight_over (least_common_multiple x.denominator p.denominator) p; denominator = least_common_multiple x.denominator p.denominator; atoms = note_terms x.atoms p.terms }) p (least_common_multiple x.denominator p.denominator)
-with_part_joined x p s = record { over = refl; left = multiple_left x.denominator p.denominator; right = multiple_right x.denominator p.denominator; weighs = refl; atoms = refl }
+with_part_joined : (x : Total) (p s : Polynomial) →
+    Joined x (record {
+      sum = s;
+      weight = x.weight * (least_common_multiple x.denominator p.denominator / x.denominator) + weight_over
+          (least_common_multiple x.denominator p.denominator) p;
+      denominator = least_common_multiple x.denominator p.denominator;
+      atoms = note_terms x.atoms p.terms;
+    }) p (least_common_multiple x.denominator p.denominator)
+with_part_joined x p s =
+    record {
+      over = refl;
+      left = multiple_left x.denominator p.denominator;
+      right = multiple_right x.denominator p.denominator;
+      weighs = refl;
+      atoms = refl;
+    }
 
 pub step_plus : (x : Total) (p : Polynomial) → IsPolynomial p → Step x (plus x p)
 step_plus x p i =
@@ -377,7 +411,8 @@ number_joined x n s = record {
       let w = number_weight n in
       let o : x.denominator / (constant_map (pos n)).denominator ≡ x.denominator = ap (λ m. x.denominator / m) (number_over n) ∙ all in
       let a : x.weight * 1 ≡ x.weight * (x.denominator / x.denominator) = ap (λ m. x.weight * m) (sym one) in
-      let b : n * x.denominator ≡ weight (constant_map (pos n)).terms * (x.denominator / (constant_map (pos n)).denominator) = ap (λ m. m * x.denominator) (sym w) ∙ ap (λ m. weight (constant_map (pos n)).terms * m) (sym o) in
+      let b : n * x.denominator ≡ weight (constant_map (pos n)).terms * (x.denominator / (constant_map (pos n)).denominator) = ap
+      (λ m. m * x.denominator) (sym w) ∙ ap (λ m. weight (constant_map (pos n)).terms * m) (sym o) in
       omega (arith, a, b);
   atoms = sym (number_atoms n x.atoms);
 }
@@ -392,7 +427,9 @@ pub step_number : (x : Total) (n : ℕ) → Step x (plus_number x n)
 step_number x n = record {
   some = λ s. s;
   back = λ s f. joined_back x (plus_number x n) (constant_map (pos n)) x.denominator (number_held x n s f) s (number_joined x n s) s f;
-  keeps = λ c f. sum_made x (plus_number x n) (constant_map (pos n)) x.denominator (number_held x n c.some f) c.some (number_joined x n c.some) c f refl;
+  keeps =
+      λ c f. sum_made x (plus_number x n) (constant_map (pos n)) x.denominator (number_held x n c.some f) c.some (number_joined x n c.some)
+      c f refl;
 }
 
 -- ---- the first total, and the last
@@ -423,7 +460,8 @@ fits_of span y w h =
 
 pub sum_of_total : (span : Span) (y : Total) (w : Polynomial) → totalled span y ≡ Ok w → y.sum ≡ w
 sum_of_total span y w h =
-    let u = then_ok (need (nat_le y.weight heaviest && (nat_le (length y.atoms) most_atoms && nat_le y.denominator finest)) T20 span) (Ok y.sum) w h in
+    let u = then_ok (need (nat_le y.weight heaviest && (nat_le (length y.atoms) most_atoms && nat_le y.denominator finest)) T20 span)
+    (Ok y.sum) w h in
     ok_ok y.sum w u.then
 
 pub ended : (span : Span) (x y : Total) (w : Polynomial) → Counts x → Step x y → totalled span y ≡ Ok w → IsPolynomial w

@@ -85,18 +85,21 @@ unfolding sum_map
 sum_good A p q h k =
     let n = sum_denominator p q in
     lowest_good A (sum_terms (raised n p) (raised n q)) n
-    (gather_in A (raised n p) (scaled (constant_term (pos 1)) (raised n q)) (raised_in A n p h) (scaled_in A (constant_term (pos 1)) (raised n q) tt (raised_in A n q k)))
+    (gather_in A (raised n p) (scaled (constant_term (pos 1)) (raised n q)) (raised_in A n p h)
+    (scaled_in A (constant_term (pos 1)) (raised n q) tt (raised_in A n q k)))
 
 pub difference_good : (A : ℕ → Type 0) (p q : Polynomial) → Good A p → Good A q → Good A (difference_map p q)
 unfolding difference_map
 difference_good A p q h k =
     let n = sum_denominator p q in
     lowest_good A (difference_terms (raised n p) (raised n q)) n
-    (gather_in A (raised n p) (scaled (constant_term (negsuc 0)) (raised n q)) (raised_in A n p h) (scaled_in A (constant_term (negsuc 0)) (raised n q) tt (raised_in A n q k)))
+    (gather_in A (raised n p) (scaled (constant_term (negsuc 0)) (raised n q)) (raised_in A n p h)
+    (scaled_in A (constant_term (negsuc 0)) (raised n q) tt (raised_in A n q k)))
 
 pub product_good : (A : ℕ → Type 0) (p q : Polynomial) → Good A p → Good A q → Good A (product_map p q)
 unfolding product_map
-product_good A p q h k = lowest_good A (product_terms p.terms q.terms) (p.denominator * q.denominator) (multiply_in A [] p.terms q.terms tt h k)
+product_good A p q h k =
+    lowest_good A (product_terms p.terms q.terms) (p.denominator * q.denominator) (multiply_in A [] p.terms q.terms tt h k)
 
 pub quotient_good : (A : ℕ → Type 0) (p : Polynomial) (k : ℕ) → Good A p → Good A (quotient_map p k)
 unfolding quotient_map
@@ -112,7 +115,8 @@ sum_alone A span p q r e f h =
     let u = then_ok (need (sum_fits p q) T20 span) (Ok (sum_map p q)) r h in
     subst (Good A) (ok_ok (sum_map p q) r u.then) (sum_good A p q e f)
 
-pub difference_alone : (A : ℕ → Type 0) (span : Span) (p q r : Polynomial) → Good A p → Good A q → width_difference span p q ≡ Ok r → Good A r
+pub difference_alone : (A : ℕ → Type 0) (span : Span) (p q r : Polynomial) → Good A p → Good A q → width_difference span p q ≡ Ok r →
+    Good A r
 difference_alone A span p q r e f h =
     let u = then_ok (need (sum_fits p q) T20 span) (Ok (difference_map p q)) r h in
     subst (Good A) (ok_ok (difference_map p q) r u.then) (difference_good A p q e f)
@@ -122,7 +126,8 @@ product_alone A span p q r e f h =
     let u = then_ok (need (product_fits p q) T20 span) (Ok (product_map p q)) r h in
     subst (Good A) (ok_ok (product_map p q) r u.then) (product_good A p q e f)
 
-pub combined_alone : (A : ℕ → Type 0) (span : Span) (o : Combination) (p q r : Polynomial) → Good A p → Good A q → width_combined span o p q ≡ Ok r → Good A r
+pub combined_alone : (A : ℕ → Type 0) (span : Span) (o : Combination) (p q r : Polynomial) → Good A p → Good A q →
+    width_combined span o p q ≡ Ok r → Good A r
 combined_alone A span Sum p q r e f h = sum_alone A span p q r e f h
 combined_alone A span Difference p q r e f h = difference_alone A span p q r e f h
 combined_alone A span Product p q r e f h = product_alone A span p q r e f h

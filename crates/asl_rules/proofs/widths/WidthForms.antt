@@ -47,16 +47,20 @@ pub record WidthForms (P : Expr → Scope → Polynomial → Type 0) : Type 0 wh
   pub whole : (span : Span) (n : ℕ) (G : Scope) (p : Polynomial) → width_of_number span (pos n) ≡ Ok p → P (roll-Expr (ex.Int span n)) G p
   pub name : (span : Span) (name : List ℕ) (G : Scope) (p : Polynomial) → width_of_standing span (standing_of name G.names) ≡ Ok p → P (roll-Expr (ex.Name span name)) G p
   pub negated : (span : Span) (e : Expr) (G : Scope) (p q : Polynomial) → P e G p → width_difference span (constant_map (pos 0)) p ≡ Ok q → P (roll-Expr (ex.Unary span unary.Negate e)) G q
-  pub combined : (span : Span) (o : Combination) (e f : Expr) (G : Scope) (p q r : Polynomial) → P e G p → P f G q → width_combined span o p q ≡ Ok r → P (roll-Expr (ex.Binary span (operator o) e f)) G r
-  pub divided : (span : Span) (e f : Expr) (k : ℕ) (G : Scope) (p q : Polynomial) → P e G p → IsWritten f k → width_divided span p k ≡ Ok q → P (roll-Expr (ex.Binary span binary.DivideExact e f)) G q
+  pub combined : (span : Span) (o : Combination) (e f : Expr) (G : Scope) (p q r : Polynomial) → P e G p → P f G q →
+      width_combined span o p q ≡ Ok r → P (roll-Expr (ex.Binary span (operator o) e f)) G r
+  pub divided : (span : Span) (e f : Expr) (k : ℕ) (G : Scope) (p q : Polynomial) → P e G p → IsWritten f k →
+      width_divided span p k ≡ Ok q → P (roll-Expr (ex.Binary span binary.DivideExact e f)) G q
 
 -- and of ends
 pub record NumberForms (P : Expr → Scope → ℤ → Type 0) : Type 0 where
   pub whole : (span : Span) (n : ℕ) (G : Scope) → P (roll-Expr (ex.Int span n)) G (pos n)
   pub name : (span : Span) (name : List ℕ) (G : Scope) (z : ℤ) → number_of_standing span (standing_of name G.names) ≡ Ok z → P (roll-Expr (ex.Name span name)) G z
   pub negated : (span : Span) (e : Expr) (G : Scope) (y z : ℤ) → P e G y → held span (pos 0 -ℤ y) ≡ Ok z → P (roll-Expr (ex.Unary span unary.Negate e)) G z
-  pub combined : (span : Span) (o : Combination) (e f : Expr) (G : Scope) (x y z : ℤ) → P e G x → P f G y → number_combined span o x y ≡ Ok z → P (roll-Expr (ex.Binary span (operator o) e f)) G z
-  pub divided : (span : Span) (e f : Expr) (k : ℕ) (G : Scope) (y z : ℤ) → P e G y → IsWritten f k → number_divided span y k ≡ Ok z → P (roll-Expr (ex.Binary span binary.DivideExact e f)) G z
+  pub combined : (span : Span) (o : Combination) (e f : Expr) (G : Scope) (x y z : ℤ) → P e G x → P f G y →
+      number_combined span o x y ≡ Ok z → P (roll-Expr (ex.Binary span (operator o) e f)) G z
+  pub divided : (span : Span) (e f : Expr) (k : ℕ) (G : Scope) (y z : ℤ) → P e G y → IsWritten f k → number_divided span y k ≡ Ok z →
+      P (roll-Expr (ex.Binary span binary.DivideExact e f)) G z
 
 width_made : (r : Result Polynomial Fault) (x : Tree) (w : Width) (Q : Polynomial → Type 0) → ((p : Polynomial) → r ≡ Ok p → Q p) → (r >>= λ p. Ok (width_as p x)) ≡ Ok w → Q w.poly
 width_made r x w Q f h =
@@ -90,9 +94,12 @@ none_of_two Divides a b k h = none_some k h
 none_of_two JoinsNothing a b k h = none_some k h
 
 module _ (t : Tests) where
-  number_written : (f : Expr) (span : Span) (n k : ℕ) → f ≡ roll-Expr (ex.Int span n) → divisor (arithmetic (opened t (ex.Int span n))) ≡ Some k → IsWritten f k
+  number_written : (f : Expr) (span : Span) (n k : ℕ) → f ≡ roll-Expr (ex.Int span n) →
+      divisor (arithmetic (opened t (ex.Int span n))) ≡ Some k → IsWritten f k
   number_written f span zero k e h = none_some k h
-  number_written f span (suc n) k e h = let same = some_same (suc n) k h in record { span = span; less = n; above_0 = sym same; is = e ∙ ap (λ m. roll-Expr (ex.Int span m)) same }
+  number_written f span (suc n) k e h =
+      let same = some_same (suc n) k h in
+      record { span = span; less = n; above_0 = sym same; is = e ∙ ap (λ m. roll-Expr (ex.Int span m)) same }
 
   layer_written : (f : Expr) (x : ExprLayer) (k : ℕ) → f ≡ roll-Expr x → divisor (arithmetic (opened t x)) ≡ Some k → IsWritten f k
   layer_written f (ex.Int span n) k e h = number_written f span n k e h
@@ -108,7 +115,9 @@ module _ (t : Tests) where
   roll_written x k h = layer_written (roll-Expr x) x k refl (sym (ap (λ (z : Found). z.divisor) (found_roll t x)) ∙ h)
 
   written : (f : Expr) → Written f
-  written = ind-Expr Any Any Written Any Any Any Any (λ x y is. tt) (λ x y is. tt) (λ x y is. roll_written x) (λ x y is. tt) (λ x y is. tt) (λ x y is. tt) (λ x y is. tt)
+  written =
+      ind-Expr Any Any Written Any Any Any Any (λ x y is. tt) (λ x y is. tt) (λ x y is. roll_written x) (λ x y is. tt) (λ x y is. tt)
+      (λ x y is. tt) (λ x y is. tt)
 
   -- an expression with a divisor is that number, as it is written
   pub is_written : (f : Expr) (k : ℕ) → (found t f).divisor ≡ Some k → IsWritten f k
@@ -128,32 +137,40 @@ module _ (t : Tests) (P : Expr → Scope → Polynomial → Type 0) (forms : Wid
   trees = map-Expr ((b : Bitfield) × Any b) ((p : ConstraintPart) × Any p) ((e : Expr) × Holds e) ((f : FieldValue) × Any f) ((p : Pattern) × Any p) ((s : Slice) × Any s) ((t : TypeExpr) × Any t)
       Bitfield ConstraintPart Expr FieldValue Pattern Slice TypeExpr (λ b. b.0) (λ p. p.0) (λ e. e.0) (λ f. f.0) (λ p. p.0) (λ s. s.0) (λ t. t.0)
 
-  negation : (span : Span) (o : UnaryOperator) (e : (e : Expr) × Holds e) (G : Scope) (w : Width) → width_of span (reading_of_one o (found t e.0)) G ≡ Ok w → P (roll-Expr (ex.Unary span o e.0)) G w.poly
+  negation : (span : Span) (o : UnaryOperator) (e : (e : Expr) × Holds e) (G : Scope) (w : Width) →
+      width_of span (reading_of_one o (found t e.0)) G ≡ Ok w → P (roll-Expr (ex.Unary span o e.0)) G w.poly
   unfolding Holds
   negation span unary.Negate e G w h =
       let u = bind_ok (width t e.0 G) _ w h in
-      width_made (width_difference span (constant_map (pos 0)) u.value.poly) (negative_tree span u.value.tree) w (P (roll-Expr (ex.Unary span unary.Negate e.0)) G)
+      width_made (width_difference span (constant_map (pos 0)) u.value.poly) (negative_tree span u.value.tree) w
+      (P (roll-Expr (ex.Unary span unary.Negate e.0)) G)
       (λ q f. forms.negated span e.0 G u.value.poly q (e.1 G u.value u.first) f) u.then
   negation span unary.Not e G w h = err_ok (fault_of T19 span) w h
   negation span unary.Complement e G w h = err_ok (fault_of T19 span) w h
 
-  operation : (span : Span) (o : Combination) (e f : (e : Expr) × Holds e) (G : Scope) (w : Width) → width_of span (combined o (found t e.0) (found t f.0)) G ≡ Ok w → P (roll-Expr (ex.Binary span (operator o) e.0 f.0)) G w.poly
+  operation : (span : Span) (o : Combination) (e f : (e : Expr) × Holds e) (G : Scope) (w : Width) →
+      width_of span (combined o (found t e.0) (found t f.0)) G ≡ Ok w → P (roll-Expr (ex.Binary span (operator o) e.0 f.0)) G w.poly
   unfolding Holds
   operation span o e f G w h =
       let u = bind_ok (width t e.0 G) _ w h in
       let v = bind_ok (width t f.0 G) _ w u.then in
-      width_made (width_combined span o u.value.poly v.value.poly) (combined_tree span o u.value.tree v.value.tree) w (P (roll-Expr (ex.Binary span (operator o) e.0 f.0)) G)
+      width_made (width_combined span o u.value.poly v.value.poly) (combined_tree span o u.value.tree v.value.tree) w
+      (P (roll-Expr (ex.Binary span (operator o) e.0 f.0)) G)
       (λ r g. forms.combined span o e.0 f.0 G u.value.poly v.value.poly r (e.1 G u.value u.first) (f.1 G v.value v.first) g) v.then
 
-  division : (span : Span) (e f : (e : Expr) × Holds e) (G : Scope) (w : Width) → width_of span (divided (found t e.0) (found t f.0)) G ≡ Ok w → P (roll-Expr (ex.Binary span binary.DivideExact e.0 f.0)) G w.poly
+  division : (span : Span) (e f : (e : Expr) × Holds e) (G : Scope) (w : Width) →
+      width_of span (divided (found t e.0) (found t f.0)) G ≡ Ok w → P (roll-Expr (ex.Binary span binary.DivideExact e.0 f.0)) G w.poly
   unfolding Holds
   division span e f G w h =
       let u = bind_ok (width t e.0 G) _ w h in
       let k = bind_ok (found_or (found t f.0).divisor T19 span) _ w u.then in
-      width_made (width_divided span u.value.poly k.value) (divided_tree span u.value.tree (found t f.0).span k.value) w (P (roll-Expr (ex.Binary span binary.DivideExact e.0 f.0)) G)
-      (λ r g. forms.divided span e.0 f.0 k.value G u.value.poly r (e.1 G u.value u.first) (is_written t f.0 k.value (found_ok (found t f.0).divisor T19 span k.value k.first)) g) k.then
+      width_made (width_divided span u.value.poly k.value) (divided_tree span u.value.tree (found t f.0).span k.value) w
+      (P (roll-Expr (ex.Binary span binary.DivideExact e.0 f.0)) G)
+      (λ r g. forms.divided span e.0 f.0 k.value G u.value.poly r (e.1 G u.value u.first)
+      (is_written t f.0 k.value (found_ok (found t f.0).divisor T19 span k.value k.first)) g) k.then
 
-  both : (span : Span) (o : BinaryOperator) (e f : (e : Expr) × Holds e) (G : Scope) (w : Width) → width_of span (reading_of_two (joining o) (found t e.0) (found t f.0)) G ≡ Ok w → P (roll-Expr (ex.Binary span o e.0 f.0)) G w.poly
+  both : (span : Span) (o : BinaryOperator) (e f : (e : Expr) × Holds e) (G : Scope) (w : Width) →
+      width_of span (reading_of_two (joining o) (found t e.0) (found t f.0)) G ≡ Ok w → P (roll-Expr (ex.Binary span o e.0 f.0)) G w.poly
   both span binary.Add e f G w h = operation span Sum e f G w h
   both span binary.Subtract e f G w h = operation span Difference e f G w h
   both span binary.Multiply e f G w h = operation span Product e f G w h
@@ -193,32 +210,40 @@ module _ (t : Tests) (P : Expr → Scope → ℤ → Type 0) (forms : NumberForm
   parts = map-Expr ((b : Bitfield) × Any b) ((p : ConstraintPart) × Any p) ((e : Expr) × Counts e) ((f : FieldValue) × Any f) ((p : Pattern) × Any p) ((s : Slice) × Any s) ((t : TypeExpr) × Any t)
       Bitfield ConstraintPart Expr FieldValue Pattern Slice TypeExpr (λ b. b.0) (λ p. p.0) (λ e. e.0) (λ f. f.0) (λ p. p.0) (λ s. s.0) (λ t. t.0)
 
-  number_negation : (span : Span) (o : UnaryOperator) (e : (e : Expr) × Counts e) (G : Scope) (w : Number) → number_of span (reading_of_one o (found t e.0)) G ≡ Ok w → P (roll-Expr (ex.Unary span o e.0)) G w.number
+  number_negation : (span : Span) (o : UnaryOperator) (e : (e : Expr) × Counts e) (G : Scope) (w : Number) →
+      number_of span (reading_of_one o (found t e.0)) G ≡ Ok w → P (roll-Expr (ex.Unary span o e.0)) G w.number
   unfolding Counts
   number_negation span unary.Negate e G w h =
       let u = bind_ok ((found t e.0).number G) _ w h in
-      number_made (held span (pos 0 -ℤ u.value.number)) (negative_tree span u.value.tree) w (P (roll-Expr (ex.Unary span unary.Negate e.0)) G)
+      number_made (held span (pos 0 -ℤ u.value.number)) (negative_tree span u.value.tree) w
+      (P (roll-Expr (ex.Unary span unary.Negate e.0)) G)
       (λ z f. forms.negated span e.0 G u.value.number z (e.1 G u.value u.first) f) u.then
   number_negation span unary.Not e G w h = err_ok (fault_of T19 span) w h
   number_negation span unary.Complement e G w h = err_ok (fault_of T19 span) w h
 
-  number_operation : (span : Span) (o : Combination) (e f : (e : Expr) × Counts e) (G : Scope) (w : Number) → number_of span (combined o (found t e.0) (found t f.0)) G ≡ Ok w → P (roll-Expr (ex.Binary span (operator o) e.0 f.0)) G w.number
+  number_operation : (span : Span) (o : Combination) (e f : (e : Expr) × Counts e) (G : Scope) (w : Number) →
+      number_of span (combined o (found t e.0) (found t f.0)) G ≡ Ok w → P (roll-Expr (ex.Binary span (operator o) e.0 f.0)) G w.number
   unfolding Counts
   number_operation span o e f G w h =
       let u = bind_ok ((found t e.0).number G) _ w h in
       let v = bind_ok ((found t f.0).number G) _ w u.then in
-      number_made (number_combined span o u.value.number v.value.number) (combined_tree span o u.value.tree v.value.tree) w (P (roll-Expr (ex.Binary span (operator o) e.0 f.0)) G)
+      number_made (number_combined span o u.value.number v.value.number) (combined_tree span o u.value.tree v.value.tree) w
+      (P (roll-Expr (ex.Binary span (operator o) e.0 f.0)) G)
       (λ z g. forms.combined span o e.0 f.0 G u.value.number v.value.number z (e.1 G u.value u.first) (f.1 G v.value v.first) g) v.then
 
-  number_division : (span : Span) (e f : (e : Expr) × Counts e) (G : Scope) (w : Number) → number_of span (divided (found t e.0) (found t f.0)) G ≡ Ok w → P (roll-Expr (ex.Binary span binary.DivideExact e.0 f.0)) G w.number
+  number_division : (span : Span) (e f : (e : Expr) × Counts e) (G : Scope) (w : Number) →
+      number_of span (divided (found t e.0) (found t f.0)) G ≡ Ok w → P (roll-Expr (ex.Binary span binary.DivideExact e.0 f.0)) G w.number
   unfolding Counts
   number_division span e f G w h =
       let u = bind_ok ((found t e.0).number G) _ w h in
       let k = bind_ok (found_or (found t f.0).divisor T19 span) _ w u.then in
-      number_made (number_divided span u.value.number k.value) (divided_tree span u.value.tree (found t f.0).span k.value) w (P (roll-Expr (ex.Binary span binary.DivideExact e.0 f.0)) G)
-      (λ z g. forms.divided span e.0 f.0 k.value G u.value.number z (e.1 G u.value u.first) (is_written t f.0 k.value (found_ok (found t f.0).divisor T19 span k.value k.first)) g) k.then
+      number_made (number_divided span u.value.number k.value) (divided_tree span u.value.tree (found t f.0).span k.value) w
+      (P (roll-Expr (ex.Binary span binary.DivideExact e.0 f.0)) G)
+      (λ z g. forms.divided span e.0 f.0 k.value G u.value.number z (e.1 G u.value u.first)
+      (is_written t f.0 k.value (found_ok (found t f.0).divisor T19 span k.value k.first)) g) k.then
 
-  number_both : (span : Span) (o : BinaryOperator) (e f : (e : Expr) × Counts e) (G : Scope) (w : Number) → number_of span (reading_of_two (joining o) (found t e.0) (found t f.0)) G ≡ Ok w → P (roll-Expr (ex.Binary span o e.0 f.0)) G w.number
+  number_both : (span : Span) (o : BinaryOperator) (e f : (e : Expr) × Counts e) (G : Scope) (w : Number) →
+      number_of span (reading_of_two (joining o) (found t e.0) (found t f.0)) G ≡ Ok w → P (roll-Expr (ex.Binary span o e.0 f.0)) G w.number
   number_both span binary.Add e f G w h = number_operation span Sum e f G w h
   number_both span binary.Subtract e f G w h = number_operation span Difference e f G w h
   number_both span binary.Multiply e f G w h = number_operation span Product e f G w h

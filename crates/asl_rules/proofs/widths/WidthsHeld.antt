@@ -100,7 +100,8 @@ difference_held span p q r a b h =
     let u = then_ok (need (sum_fits p q) T20 span) (Ok (difference_map p q)) r h in
     subst IsPolynomial (ok_ok (difference_map p q) r u.then) (difference_polynomial p q a b (sum_back p q (need_ok (sum_fits p q) T20 span tt u.first)))
 
-pub combined_held : (span : Span) (o : Combination) (p q r : Polynomial) → IsPolynomial p → IsPolynomial q → width_combined span o p q ≡ Ok r → IsPolynomial r
+pub combined_held : (span : Span) (o : Combination) (p q r : Polynomial) → IsPolynomial p → IsPolynomial q →
+    width_combined span o p q ≡ Ok r → IsPolynomial r
 combined_held span Sum p q r a b h =
     let u = then_ok (need (sum_fits p q) T20 span) (Ok (sum_map p q)) r h in
     subst IsPolynomial (ok_ok (sum_map p q) r u.then) (sum_polynomial p q a b (sum_back p q (need_ok (sum_fits p q) T20 span tt u.first)))
@@ -117,7 +118,8 @@ pub divided_held : (span : Span) (p r : Polynomial) (k : ℕ) → IsPolynomial p
 divided_held span p r k a l h =
     let u = then_ok (need (may_divide k p) T19 span) (need (quotient_fits p k) T20 span >> Ok (quotient_map p k)) r h in
     let v = then_ok (need (quotient_fits p k) T20 span) (Ok (quotient_map p k)) r u.then in
-    subst IsPolynomial (ok_ok (quotient_map p k) r v.then) (quotient_polynomial p k a l (quotient_back p k (need_ok (quotient_fits p k) T20 span tt v.first)))
+    subst IsPolynomial (ok_ok (quotient_map p k) r v.then)
+    (quotient_polynomial p k a l (quotient_back p k (need_ok (quotient_fits p k) T20 span tt v.first)))
 
 -- ---- names
 
@@ -145,7 +147,8 @@ stored_held names w span name s p e h =
     let u = then_ok (need (is_integer s.ty) T05 span) (width_of_counted span s.counted (known_value s)) p h in
     counted_held span s.counted (known_value s) p (λ c q. w name s c e q) u.then
 
-pub name_held : (names : List Entry) → CountsHeld names → (span : Span) (name : List ℕ) (o : Option Standing) (p : Polynomial) → standing_of name names ≡ o → width_of_standing span o ≡ Ok p → IsPolynomial p
+pub name_held : (names : List Entry) → CountsHeld names → (span : Span) (name : List ℕ) (o : Option Standing) (p : Polynomial) →
+    standing_of name names ≡ o → width_of_standing span o ≡ Ok p → IsPolynomial p
 name_held names w span name (Some (Stored s)) p e h = stored_held names w span name s p (ap storage_in e) h
 name_held names w span name (Some (Label T x)) p e h = err_ok (fault_of T05 span) p h
 name_held names w span name (Some Subprogram) p e h = err_ok (fault_of T02 span) p h

@@ -1,5 +1,5 @@
--- The polynomial of a width expression has the expression's fraction, wherever the integers of the names agree with the scope. So two widths that are the same
--- have one fraction there.
+-- The polynomial of a width expression has the expression's fraction, wherever the integers of the names agree with the scope. So two
+-- widths that are the same have one fraction there.
 use Rattle.std.proofs.Common.{◌≡◌, ℕ, ℤ, pos, List, Option, Some, None, Ok, ◌*◌, ◌<◌, refl, sym, ap, ◌∙◌, subst, arith}
 use Rattle.std.specs.Prelude.{nat_le}
 use Rattle.asl_syn.specs.declared.token.Span.{Span}
@@ -47,7 +47,8 @@ number_is a span z p h =
 pub proper_at : (a : ℕ → ℤ) (p : Polynomial) → IsPolynomial p → Proper (fraction_at a p)
 proper_at a p h = h.lowest.positive
 
-module _ (a : ℕ → ℤ) (span : Span) (p q r : Polynomial) (x y : Fraction) (i : IsPolynomial p) (j : IsPolynomial q) (e : Is a p x) (f : Is a q y) where
+module _ (a : ℕ → ℤ) (span : Span) (p q r : Polynomial) (x y : Fraction) (i : IsPolynomial p) (j : IsPolynomial q) (e : Is a p x)
+    (f : Is a q y) where
   both_at : 0 < p.denominator * q.denominator
   both_at = some_both (fraction_at a p) (fraction_at a q) i.lowest.positive j.lowest.positive
 
@@ -72,18 +73,21 @@ module _ (a : ℕ → ℤ) (span : Span) (p q r : Polynomial) (x y : Fraction) (
       (same_trans (times x y) (times (fraction_at a p) (fraction_at a q)) (fraction_at a (product_map p q)) both_at
       (times_same x y (fraction_at a p) (fraction_at a q) e f) (sym (product_same a p q i j)))
 
-pub combined_is : (a : ℕ → ℤ) (span : Span) (o : Combination) (p q r : Polynomial) (x y : Fraction) → IsPolynomial p → IsPolynomial q → Is a p x → Is a q y →
+pub combined_is : (a : ℕ → ℤ) (span : Span) (o : Combination) (p q r : Polynomial) (x y : Fraction) → IsPolynomial p → IsPolynomial q →
+    Is a p x → Is a q y →
     width_combined span o p q ≡ Ok r → Is a r (of_two fractions o x y)
 combined_is a span Sum p q r x y i j e f h = sum_is a span p q r x y i j e f h
 combined_is a span Difference p q r x y i j e f h = difference_is a span p q r x y i j e f h
 combined_is a span Product p q r x y i j e f h = product_is a span p q r x y i j e f h
 
-pub divided_is : (a : ℕ → ℤ) (span : Span) (p r : Polynomial) (k : ℕ) (x : Fraction) → IsPolynomial p → 0 < k → Is a p x → width_divided span p k ≡ Ok r → Is a r (parted x k)
+pub divided_is : (a : ℕ → ℤ) (span : Span) (p r : Polynomial) (k : ℕ) (x : Fraction) → IsPolynomial p → 0 < k → Is a p x →
+    width_divided span p k ≡ Ok r → Is a r (parted x k)
 divided_is a span p r k x i l e h =
     let u = then_ok (need (may_divide k p) T19 span) (need (quotient_fits p k) T20 span >> Ok (quotient_map p k)) r h in
     let v = then_ok (need (quotient_fits p k) T20 span) (Ok (quotient_map p k)) r u.then in
     subst (λ s. Is a s (parted x k)) (ok_ok (quotient_map p k) r v.then)
-    (same_trans (parted x k) (parted (fraction_at a p) k) (fraction_at a (quotient_map p k)) (some_parted (fraction_at a p) k i.lowest.positive l)
+    (same_trans (parted x k) (parted (fraction_at a p) k) (fraction_at a (quotient_map p k))
+    (some_parted (fraction_at a p) k i.lowest.positive l)
     (parted_same x (fraction_at a p) k e) (sym (quotient_same a p k i l)))
 
 pub some_of_two : (o : Combination) (x y : Fraction) → Proper x → Proper y → Proper (of_two fractions o x y)
@@ -93,7 +97,8 @@ some_of_two Product x y h k = some_both x y h k
 
 -- ---- names
 
-known_is : (a : ℕ → ℤ) (span : Span) (o : Option Value) (p : Polynomial) (z : ℤ) → ((y : ℤ) → o ≡ Some (int y) → z ≡ y) → width_of_known span o ≡ Ok p → Is a p (whole z)
+known_is : (a : ℕ → ℤ) (span : Span) (o : Option Value) (p : Polynomial) (z : ℤ) → ((y : ℤ) → o ≡ Some (int y) → z ≡ y) →
+    width_of_known span o ≡ Ok p → Is a p (whole z)
 known_is a span (Some (int y)) p z k h = subst (λ x. Is a p (whole x)) (sym (k y refl)) (number_is a span y p h)
 known_is a span (Some (bool b)) p z k h = err_ok (fault_of T19 span) p h
 known_is a span (Some (bits_with bs v)) p z k h = err_ok (fault_of T19 span) p h
@@ -104,7 +109,8 @@ known_is a span (Some (tuple_with xs)) p z k h = err_ok (fault_of T19 span) p h
 known_is a span (Some (array_with k1 xs)) p z k h = err_ok (fault_of T19 span) p h
 known_is a span None p z k h = err_ok (fault_of T19 span) p h
 
-pub counted_is : (a : ℕ → ℤ) (span : Span) (o : Option Counted) (v : Option Value) (p : Polynomial) (z : ℤ) → ((y : ℤ) → v ≡ Some (int y) → z ≡ y) →
+pub counted_is : (a : ℕ → ℤ) (span : Span) (o : Option Counted) (v : Option Value) (p : Polynomial) (z : ℤ) →
+    ((y : ℤ) → v ≡ Some (int y) → z ≡ y) →
     width_of_counted span o v ≡ Ok p → Is a p (counted_for a z o)
 counted_is a span None v p z k h = known_is a span v p z k h
 counted_is a span (Some x) v p z k h = subst (λ q. Is a q (fraction_at a x.poly)) (ok_ok x.poly p h) refl
@@ -113,13 +119,15 @@ module _ (G : Scope) (a : Integers) (agrees : Obeys G.names a) where
   abbrev At : ℕ → ℤ
   At = by_place G.names a
 
-  stored_is : (span : Span) (name : List ℕ) (s : Storage) (p : Polynomial) → storage_of name G.names ≡ Some s → width_of_storage span s ≡ Ok p → Is At p (fraction_for G.names a name)
+  stored_is : (span : Span) (name : List ℕ) (s : Storage) (p : Polynomial) → storage_of name G.names ≡ Some s →
+      width_of_storage span s ≡ Ok p → Is At p (fraction_for G.names a name)
   stored_is span name s p e h =
       let u = then_ok (need (is_integer s.ty) T05 span) (width_of_counted span s.counted (known_value s)) p h in
       subst (λ o. Is At p (stored_for At (a name) o)) (sym e)
       (counted_is At span s.counted (known_value s) p (a name) (λ y k. agrees.known name s y e k) u.then)
 
-  name_is : (span : Span) (name : List ℕ) (o : Option Standing) (p : Polynomial) → standing_of name G.names ≡ o → width_of_standing span o ≡ Ok p → Is At p (fraction_for G.names a name)
+  name_is : (span : Span) (name : List ℕ) (o : Option Standing) (p : Polynomial) → standing_of name G.names ≡ o →
+      width_of_standing span o ≡ Ok p → Is At p (fraction_for G.names a name)
   name_is span name (Some (Stored s)) p e h = stored_is span name s p (ap storage_in e) h
   name_is span name (Some (Label T x)) p e h = err_ok (fault_of T05 span) p h
   name_is span name (Some Subprogram) p e h = err_ok (fault_of T02 span) p h
@@ -131,7 +139,8 @@ counted_proper : (b : ℕ → ℤ) (z : ℤ) (o : Option Counted) → ((c : Coun
 counted_proper b z None f = omega arith
 counted_proper b z (Some c) f = (f c refl).lowest.positive
 
-stored_proper : (b : ℕ → ℤ) (z : ℤ) (o : Option Storage) → ((s : Storage) (c : Counted) → o ≡ Some s → s.counted ≡ Some c → IsPolynomial c.poly) → Proper (stored_for b z o)
+stored_proper : (b : ℕ → ℤ) (z : ℤ) (o : Option Storage) →
+    ((s : Storage) (c : Counted) → o ≡ Some s → s.counted ≡ Some c → IsPolynomial c.poly) → Proper (stored_for b z o)
 stored_proper b z None f = omega arith
 stored_proper b z (Some s) f = counted_proper b z s.counted (λ c e. f s c refl e)
 
@@ -188,7 +197,8 @@ module _ (t : Tests) where
           number = of_two fractions o x.number y.number;
           proper = some_of_two o x.number y.number x.proper y.proper;
           is = worth_of_operator fractions o span e f (standing_for G.names a)
-              ∙ worth_of_two fractions o (fraction e (standing_for G.names a)) (fraction f (standing_for G.names a)) x.number y.number x.is y.is;
+              ∙ worth_of_two fractions o (fraction e (standing_for G.names a)) (fraction f (standing_for G.names a))
+              x.number y.number x.is y.is;
           same = combined_is (by_place G.names a) span o p q r x.number y.number x.held y.held x.same y.same h;
         };
     divided = λ span e f k G p q v i h a g w.
@@ -204,12 +214,14 @@ module _ (t : Tests) where
   }
 
   -- the polynomial of a width expression has the expression's fraction
-  pub width_is_worth : (e : Expr) (G : Scope) (a : Integers) → Obeys G.names a → CountsHeld G.names → (w : Width) → width t e G ≡ Ok w → Worth e G a w.poly
+  pub width_is_worth : (e : Expr) (G : Scope) (a : Integers) → Obeys G.names a → CountsHeld G.names → (w : Width) → width t e G ≡ Ok w →
+      Worth e G a w.poly
   unfolding Worthy
   width_is_worth e G a g k w h = by_width_forms t Worthy by_forms e G w h a g k
 
   -- widths that are the same have one fraction wherever the names agree with the scope
-  pub same_is_worth_same : (e f : Expr) (G : Scope) (v w : Width) → CountsHeld G.names → width t e G ≡ Ok v → width t f G ≡ Ok w → Same v.poly w.poly →
+  pub same_is_worth_same : (e f : Expr) (G : Scope) (v w : Width) → CountsHeld G.names → width t e G ≡ Ok v → width t f G ≡ Ok w →
+      Same v.poly w.poly →
       (a : Integers) → Obeys G.names a → AreSame (fraction e (standing_for G.names a)) (fraction f (standing_for G.names a))
   same_is_worth_same e f G v w c h k s a g =
       let x = width_is_worth e G a g c v h in

@@ -27,16 +27,24 @@ pub record IsWritten (f : Expr) (k : ℕ) : Type 0 where
 module _ {N : Type 0} (ops : Arithmetic N) where
   abbrev laid : ExprLayer → ex.Expr-F Unread Unread (Read N) Unread Unread Unread Unread
   laid = map-Expr Bitfield ConstraintPart Expr FieldValue Pattern Slice TypeExpr Unread Unread (Read N) Unread Unread Unread Unread
-      (fold-Bitfield Unread Unread (Read N) Unread Unread Unread Unread (λ _. tt) (λ _. tt) (read_layer ops) (λ _. tt) (λ _. tt) (λ _. tt) (λ _. tt))
-      (fold-ConstraintPart Unread Unread (Read N) Unread Unread Unread Unread (λ _. tt) (λ _. tt) (read_layer ops) (λ _. tt) (λ _. tt) (λ _. tt) (λ _. tt))
+      (fold-Bitfield Unread Unread (Read N) Unread Unread Unread Unread (λ _. tt) (λ _. tt) (read_layer ops) (λ _. tt) (λ _. tt) (λ _. tt)
+      (λ _. tt))
+      (fold-ConstraintPart Unread Unread (Read N) Unread Unread Unread Unread (λ _. tt) (λ _. tt) (read_layer ops) (λ _. tt) (λ _. tt)
+      (λ _. tt) (λ _. tt))
       (read ops)
-      (fold-FieldValue Unread Unread (Read N) Unread Unread Unread Unread (λ _. tt) (λ _. tt) (read_layer ops) (λ _. tt) (λ _. tt) (λ _. tt) (λ _. tt))
-      (fold-Pattern Unread Unread (Read N) Unread Unread Unread Unread (λ _. tt) (λ _. tt) (read_layer ops) (λ _. tt) (λ _. tt) (λ _. tt) (λ _. tt))
-      (fold-Slice Unread Unread (Read N) Unread Unread Unread Unread (λ _. tt) (λ _. tt) (read_layer ops) (λ _. tt) (λ _. tt) (λ _. tt) (λ _. tt))
-      (fold-TypeExpr Unread Unread (Read N) Unread Unread Unread Unread (λ _. tt) (λ _. tt) (read_layer ops) (λ _. tt) (λ _. tt) (λ _. tt) (λ _. tt))
+      (fold-FieldValue Unread Unread (Read N) Unread Unread Unread Unread (λ _. tt) (λ _. tt) (read_layer ops) (λ _. tt) (λ _. tt) (λ _. tt)
+      (λ _. tt))
+      (fold-Pattern Unread Unread (Read N) Unread Unread Unread Unread (λ _. tt) (λ _. tt) (read_layer ops) (λ _. tt) (λ _. tt) (λ _. tt)
+      (λ _. tt))
+      (fold-Slice Unread Unread (Read N) Unread Unread Unread Unread (λ _. tt) (λ _. tt) (read_layer ops) (λ _. tt) (λ _. tt) (λ _. tt)
+      (λ _. tt))
+      (fold-TypeExpr Unread Unread (Read N) Unread Unread Unread Unread (λ _. tt) (λ _. tt) (read_layer ops) (λ _. tt) (λ _. tt) (λ _. tt)
+      (λ _. tt))
 
   pub read_roll : (x : ExprLayer) → read ops (roll-Expr x) ≡ read_layer ops (laid x)
-  read_roll x = fold-roll-Expr Unread Unread (Read N) Unread Unread Unread Unread (λ _. tt) (λ _. tt) (read_layer ops) (λ _. tt) (λ _. tt) (λ _. tt) (λ _. tt) x
+  read_roll x =
+      fold-roll-Expr Unread Unread (Read N) Unread Unread Unread Unread (λ _. tt) (λ _. tt) (read_layer ops) (λ _. tt) (λ _. tt) (λ _. tt)
+      (λ _. tt) x
 
   pub worth_roll : (x : ExprLayer) (f : Named N) → worth ops (roll-Expr x) f ≡ worth_of ops (arithmetic (laid x)) f
   worth_roll x f = ap (λ (r : Read N). r.worth f) (read_roll x)
@@ -57,7 +65,8 @@ module _ {N : Type 0} (ops : Arithmetic N) where
   pub worth_of_two : (o : Combination) (m n : Option N) (x y : N) → m ≡ Some x → n ≡ Some y → both ops o m n ≡ Some (of_two ops o x y)
   worth_of_two o m n x y e f = ap₂ (λ p q. both ops o p q) e f
 
-  pub worth_of_operator : (o : Combination) (span : Span) (e f : Expr) (g : Named N) → worth ops (roll-Expr (ex.Binary span (operator o) e f)) g ≡ both ops o (worth ops e g) (worth ops f g)
+  pub worth_of_operator : (o : Combination) (span : Span) (e f : Expr) (g : Named N) →
+      worth ops (roll-Expr (ex.Binary span (operator o) e f)) g ≡ both ops o (worth ops e g) (worth ops f g)
   worth_of_operator Sum span e f g = worth_roll (ex.Binary span binary.Add e f) g
   worth_of_operator Difference span e f g = worth_roll (ex.Binary span binary.Subtract e f) g
   worth_of_operator Product span e f g = worth_roll (ex.Binary span binary.Multiply e f) g
