@@ -1,5 +1,5 @@
 -- What holds of parts that are all one type, by the first of them.
-use Rattle.std.proofs.Common.{◌≡◌, ◌≢◌, ℕ, zero, suc, Bool, true, false, ◌&&◌, List, [], ◌∷◌, map, length, Option, Some, None, refl, sym, ap, ap₂, ◌∙◌, subst, arith}
+use Rattle.std.proofs.Common.{◌≡◌, ◌≢◌, ℕ, zero, suc, Bool, true, false, ◌&&◌, List, [], ◌∷◌, length, Option, Some, None, refl, sym, ap, ap₂, ◌∙◌, subst, arith}
 use Rattle.std.specs.Prelude.{replicate}
 use Rattle.asl_syn.specs.declared.code.StaticCode.{StaticCode}
 use Rattle.asl_rules.proofs.basics.Tests.{some_none, some_same}
@@ -7,7 +7,7 @@ use Rattle.asl_rules.specs.Tests.{Tests}
 use Rattle.asl_rules.specs.types.Types as rules
 use Rattle.asl_rules.specs.types.Types.{Ty, Parts, Kinds, no_kind, part, integer_of, boolean, bits_of, enumeration_of, record_of, exception_of, tuple_of, array_of, named, tuple_parts, kind, kinds, one_more, same_kind, same_kinds, misfit_inside, misfit_of_parts, or_else, bare, bare_parts, widened, widened_parts}
 use Rattle.asl_value.specs.declared.value.Kind.{Kind}
-use Rattle.asl_value.specs.View.{kind_of, all_kinds, kinds_of}
+use Rattle.asl_value.specs.View.{kind_of, all_kinds}
 use Rattle.asl_types.specs.declared.ty.Form.{Form}
 use Rattle.asl_types.specs.declared.ty.Form.TheVariants as t
 use Rattle.asl_types.specs.private.Alike.{AllAre, Alike, IsAlike, own_parts}

@@ -1,5 +1,5 @@
 -- Sums of many widths: what their weights, their denominators and their atoms say of the sum.
-use Rattle.std.proofs.Common.{◌≡◌, ℕ, ◌+◌, ◌*◌, ◌/◌, ◌^◌, ◌<◌, ◌≤◌, ◌⊎◌, inl, inr, ℤ, pos, negsuc, nat_le, Bool, true, false, ◌&&◌, List, [], ◌∷◌, ◌++◌, length, drop, get_or, Option, Some, None, refl, sym, ap, ap₂, subst, ◌∙◌, arith}
+use Rattle.std.proofs.Common.{◌≡◌, ℕ, ◌+◌, ◌*◌, ◌/◌, ◌^◌, ◌<◌, ◌≤◌, ◌⊎◌, inl, inr, ℤ, pos, nat_le, Bool, true, false, ◌&&◌, List, [], ◌∷◌, length, drop, get_or, Option, Some, None, refl, sym, ap, ap₂, subst, ◌∙◌, arith}
 use Rattle.std.specs.Prelude.{slice_get, unsigned_abs, Result, Ok, Err, IfOk, if◌then◌else◌}
 use Rattle.std.proofs.Math.Nat.{mul-le-mul_left, mul-le-mul_right, le_of_mul-le-mul_right, le_antisymm, div-le_self, mod_self, mod-one, div_self, div-one}
 use Rattle.std.proofs.lemmas.Bool.Decides.{nat_tests}
@@ -27,7 +27,7 @@ use Rattle.asl_rules.specs.types.Widths as rules
 use Rattle.asl_poly.specs.WidthLimits.{heaviest, most_atoms, finest}
 use Rattle.asl_rules.proofs.basics.Tests.{both}
 use Rattle.asl_rules.proofs.widths.Totals.{Fits, Counts, Step, least_most, step_plus, step_minus, begun}
-use Rattle.asl_types.specs.declared.totals.Within.{Within}
+use Rattle.asl_types.specs.declared.totals.within.Within.{Within}
 use Rattle.asl_types.specs.declared.totals.Sign.{Sign}
 use Rattle.asl_types.specs.declared.totals.Sign.TheVariants.{Plus, Minus}
 use Rattle.asl_types.specs.declared.totals.Total.{Total}
@@ -98,7 +98,8 @@ over_greater v d m n p h i l =
 -- ---- one more width
 
 both_inside : (ys : List ℕ) (p q : List Summand) → FactorsIn ys p → AllIn (note_terms ys q) (note_terms (note_terms [] p) q)
-both_inside ys p q h = terms_in (note_terms ys q) (note_terms [] p) q (terms_in (note_terms ys q) [] p tt (in_keep ys q p h)) (terms_have ys q)
+both_inside ys p q h =
+    terms_in (note_terms ys q) (note_terms [] p) q (terms_in (note_terms ys q) [] p tt (in_keep ys q p h)) (terms_have ys q)
 
 -- the denominator of all parts and of one more
 abbrev common : rules.Total → Polynomial → ℕ
@@ -146,54 +147,70 @@ module _ (x : rules.Total) (p : Polynomial) (c : Counts x) (i : IsPolynomial p) 
 
   both_light : weighed x p ≤ 2 ^ 62 → weight_over (sum_denominator x.sum p) x.sum + weight_over (sum_denominator x.sum p) p ≤ 2 ^ 62
   both_light light =
-      let a = over_greater (weight x.sum.terms) x.sum.denominator (sum_denominator x.sum p) (common x p) c.held.lowest.positive (multiple_left x.sum.denominator p.denominator) sum_divides less_common in
-      let b = over_greater (weight p.terms) p.denominator (sum_denominator x.sum p) (common x p) i.lowest.positive (multiple_right x.sum.denominator p.denominator) (multiple_right x.denominator p.denominator) less_common in
+      let n = sum_denominator x.sum p in
+      let left = multiple_left x.sum.denominator p.denominator in
+      let right = multiple_right x.sum.denominator p.denominator in
+      let all = multiple_right x.denominator p.denominator in
+      let a = over_greater (weight x.sum.terms) x.sum.denominator n (common x p) c.held.lowest.positive left sum_divides less_common in
+      let b = over_greater (weight p.terms) p.denominator n (common x p) i.lowest.positive right all less_common in
       let d = part_lighter in
       omega (arith, a, b, d, light)
 
   both_fit : weighed x p ≤ 2 ^ 62 → length (note_terms x.atoms p.terms) ≤ 8 → common x p ≤ 2 ^ 16 → SumFits x.sum p
-  both_fit light few fine = record {
-    light = both_light light;
-    few =
-        omega (arith, few, pigeonhole (atoms_of_both x.sum.terms p.terms) (note_terms x.atoms p.terms) (distinct_terms (note_terms [] x.sum.terms) p.terms (distinct_terms [] x.sum.terms tt)) (both_inside x.atoms x.sum.terms p.terms c.inside));
-    fine = omega (arith, less_common, fine);
-  }
+  both_fit light few fine =
+      let distinct = distinct_terms (note_terms [] x.sum.terms) p.terms (distinct_terms [] x.sum.terms tt) in
+      let inside = both_inside x.atoms x.sum.terms p.terms c.inside in
+      let no_more = pigeonhole (atoms_of_both x.sum.terms p.terms) (note_terms x.atoms p.terms) distinct inside in
+      record { light = both_light light; few = omega (arith, few, no_more); fine = omega (arith, less_common, fine) }
 
 -- ---- the sums of the code
 
--- what all parts and one more weigh
-abbrev pub raised_weight : Within → Polynomial → ℕ
-raised_weight w p =
-    w.weight * (least_common_multiple w.denominator p.denominator / w.denominator)
-    + weight p.terms * (least_common_multiple w.denominator p.denominator / p.denominator)
+-- the denominator of all parts and of one more
+abbrev pub raised_denominator : Within → Polynomial → ℕ
+raised_denominator w p = least_common_multiple w.denominator p.denominator
 
-pub common_as : (w : Within) (p : Polynomial) (d n : ℕ) → d ≡ p.denominator → n ≡ least_common_multiple w.denominator d → n ≡ least_common_multiple w.denominator p.denominator
+-- and what they weigh over it
+abbrev pub raised_weight : Within → Polynomial → ℕ
+raised_weight w p = w.weight * (raised_denominator w p / w.denominator) + weight p.terms * (raised_denominator w p / p.denominator)
+
+pub common_as : (w : Within) (p : Polynomial) (d n : ℕ) → d ≡ p.denominator → n ≡ least_common_multiple w.denominator d
+    → n ≡ raised_denominator w p
 common_as w p d n e f = f ∙ ap (least_common_multiple w.denominator) e
 
-pub raised_as : (w : Within) (p : Polynomial) (d n v : ℕ) → d ≡ p.denominator → n ≡ least_common_multiple w.denominator d → v ≡ weight p.terms → w.weight * (n / w.denominator) + v * (n / d) ≡ raised_weight w p
+pub common_some : (d e n : ℕ) → 0 < d → 0 < e → n ≡ least_common_multiple d e → 0 < n
+common_some d e n sd se h = subst (λ m. 0 < m) (sym h) (multiple_some d e sd se)
+
+pub raised_as : (w : Within) (p : Polynomial) (d n v : ℕ) → d ≡ p.denominator → n ≡ least_common_multiple w.denominator d
+    → v ≡ weight p.terms → w.weight * (n / w.denominator) + v * (n / d) ≡ raised_weight w p
 raised_as w p d n v e f g =
     let k = common_as w p d n e f in
+    let m = raised_denominator w p in
     ap₂ (λ x y. w.weight * (x / w.denominator) + v * (x / y)) k e
-    ∙ ap (λ z. w.weight * (least_common_multiple w.denominator p.denominator / w.denominator) + z * (least_common_multiple w.denominator p.denominator / p.denominator)) g
+    ∙ ap (λ z. w.weight * (m / w.denominator) + z * (m / p.denominator)) g
 
 module _ (w : Within) (x : rules.Total) (p : Polynomial) (h : IsWithin w x) where
-  same_common : least_common_multiple w.denominator p.denominator ≡ common x p
+  same_common : raised_denominator w p ≡ common x p
   same_common = ap (λ d. least_common_multiple d p.denominator) h.over
 
   same_weighed : raised_weight w p ≡ weighed x p
   same_weighed =
-      ap₂ (λ m d. m * (least_common_multiple d p.denominator / d) + weight p.terms * (least_common_multiple d p.denominator / p.denominator)) h.weighs h.over
+      let n = λ (d : ℕ). least_common_multiple d p.denominator in
+      ap₂ (λ m d. m * (n d / d) + weight p.terms * (n d / p.denominator)) h.weighs h.over
 
   same_noted : note_terms w.atoms p.terms ≡ note_terms x.atoms p.terms
   same_noted = ap (λ l. note_terms l p.terms) h.atoms
 
-  pub fits : IsPolynomial p → raised_weight w p ≤ 2 ^ 62 → length (note_terms w.atoms p.terms) ≤ 8 → least_common_multiple w.denominator p.denominator ≤ 2 ^ 16 → SumFits w.sum p
+  pub fits : IsPolynomial p → raised_weight w p ≤ 2 ^ 62 → length (note_terms w.atoms p.terms) ≤ 8 → raised_denominator w p ≤ 2 ^ 16
+      → SumFits w.sum p
   fits i light few fine =
-      subst (λ s. SumFits s p) (sym h.sum)
-      (both_fit x p h.counts i (subst (λ m. m ≤ 2 ^ 62) same_weighed light) (subst (λ (l : List ℕ). length l ≤ 8) same_noted few) (subst (λ m. m ≤ 2 ^ 16) same_common fine))
+      let lighter = subst (λ m. m ≤ 2 ^ 62) same_weighed light in
+      let fewer = subst (λ (l : List ℕ). length l ≤ 8) same_noted few in
+      let coarser = subst (λ m. m ≤ 2 ^ 16) same_common fine in
+      subst (λ s. SumFits s p) (sym h.sum) (both_fit x p h.counts i lighter fewer coarser)
 
-  pub within : (v : Within) (sign : Sign) → IsPolynomial p → v.sum ≡ added sign w.sum p → v.weight ≡ raised_weight w p → v.denominator ≡ least_common_multiple w.denominator p.denominator →
-      v.atoms ≡ note_terms w.atoms p.terms → v.weight ≤ 2 ^ 62 → length v.atoms ≤ 8 → v.denominator ≤ 2 ^ 16 → IsWithin v (adds sign x p)
+  pub within : (v : Within) (sign : Sign) → IsPolynomial p → v.sum ≡ added sign w.sum p → v.weight ≡ raised_weight w p
+      → v.denominator ≡ raised_denominator w p → v.atoms ≡ note_terms w.atoms p.terms → v.weight ≤ 2 ^ 62 → length v.atoms ≤ 8
+      → v.denominator ≤ 2 ^ 16 → IsWithin v (adds sign x p)
   within v sign i s n d a light few fine =
       let weighs : v.weight ≡ (adds sign x p).weight = n ∙ same_weighed ∙ sym (weight_of sign x p) in
       let over : v.denominator ≡ (adds sign x p).denominator = d ∙ same_common ∙ sym (denominator_of sign x p) in
@@ -255,14 +272,14 @@ too_much w n d (inl h) k l m = omega (arith, h, k)
 too_much w n d (inr (inl h)) k l m = omega (arith, h, l)
 too_much w n d (inr (inr h)) k l m = omega (arith, h, m)
 
-pub past : (w : Within) (x : rules.Total) (sign : Sign) (p : Polynomial) → IsWithin w x → IsPolynomial p →
-    (2 ^ 62 < raised_weight w p) ⊎ ((8 < length (note_terms w.atoms p.terms)) ⊎ (2 ^ 16 < least_common_multiple w.denominator p.denominator)) → IsPast (adds sign x p)
+pub past : (w : Within) (x : rules.Total) (sign : Sign) (p : Polynomial) → IsWithin w x → IsPolynomial p
+    → (2 ^ 62 < raised_weight w p) ⊎ ((8 < length (note_terms w.atoms p.terms)) ⊎ (2 ^ 16 < raised_denominator w p)) → IsPast (adds sign x p)
 past w x sign p h i over =
     let weighs : (adds sign x p).weight ≡ raised_weight w p = weight_of sign x p ∙ sym (same_weighed w x p h) in
     let atoms : (adds sign x p).atoms ≡ note_terms w.atoms p.terms = atoms_of sign x p ∙ sym (same_noted w x p h) in
-    let fine : (adds sign x p).denominator ≡ least_common_multiple w.denominator p.denominator = denominator_of sign x p ∙ sym (same_common w x p h) in
+    let fine : (adds sign x p).denominator ≡ raised_denominator w p = denominator_of sign x p ∙ sym (same_common w x p h) in
     past_by (adds sign x p) ((step_of sign x p i).some h.counts.some)
-    (λ f. too_much (raised_weight w p) (length (note_terms w.atoms p.terms)) (least_common_multiple w.denominator p.denominator) over
+    (λ f. too_much (raised_weight w p) (length (note_terms w.atoms p.terms)) (raised_denominator w p) over
     (subst (λ m. m ≤ 2 ^ 62) weighs f.light) (subst (λ (l : List ℕ). length l ≤ 8) atoms f.few) (subst (λ m. m ≤ 2 ^ 16) fine f.fine))
 
 still_past : (x : rules.Total) → IsPast x → Fits x → ⊥
@@ -315,11 +332,11 @@ common_number x z some = ap (least_common_multiple x.denominator) (denominator_c
 
 pub number_is : (x : rules.Total) (n : ℕ) → 0 < x.denominator → rules.plus x (constant_map (pos n)) ≡ rules.plus_number x n
 number_is x n some =
+    let c = constant_map (pos n) in
     let e = common_number x (pos n) some in
-    same_total (sum_map x.sum (constant_map (pos n))) (weighed x (constant_map (pos n))) (x.weight + n * x.denominator) (common x (constant_map (pos n))) x.denominator
-    (note_terms x.atoms (constant_map (pos n)).terms) x.atoms
-    (ap (λ m. x.weight * (common x (constant_map (pos n)) / x.denominator) + m * (common x (constant_map (pos n)) / (constant_map (pos n)).denominator)) (number_weight n)
-    ∙ number_over x.weight n x.denominator (common x (constant_map (pos n))) (constant_map (pos n)).denominator some e (denominator_constant_map (pos n)))
+    same_total (sum_map x.sum c) (weighed x c) (x.weight + n * x.denominator) (common x c) x.denominator (note_terms x.atoms c.terms) x.atoms
+    (ap (λ m. x.weight * (common x c / x.denominator) + m * (common x c / c.denominator)) (number_weight n)
+    ∙ number_over x.weight n x.denominator (common x c) c.denominator some e (denominator_constant_map (pos n)))
     e (number_atoms n x.atoms)
 
 total_some : (w : Option Within) (x : rules.Total) → IsTotalOf w x → 0 < x.denominator
@@ -327,10 +344,12 @@ total_some None x h = h.positive
 total_some (Some w) x h = h.counts.some
 
 -- the sum with a number is the sum with its width
-with_number : (t u : Option Within) (x : rules.Total) (n : ℕ) (p : Polynomial) → p ≡ constant_map (pos n) → IsTotalOf t x → IsTotalOf u (adds Plus x p) → IsTotalOf u (rules.plus_number x n)
+with_number : (t u : Option Within) (x : rules.Total) (n : ℕ) (p : Polynomial) → p ≡ constant_map (pos n) → IsTotalOf t x
+    → IsTotalOf u (adds Plus x p) → IsTotalOf u (rules.plus_number x n)
 with_number t u x n p e h k = subst (IsTotalOf u) (ap (rules.plus x) e ∙ number_is x n (total_some t x h)) k
 
-pub number_answer : {E : Type 0} (t : Option Within) (r : Result Total E) (x : rules.Total) (n : ℕ) (p : Polynomial) → p ≡ constant_map (pos n) → IsTotalOf t x → IfOk r (λ u. IsTotal u (adds Plus x p)) → IfOk r (λ u. IsTotal u (rules.plus_number x n))
+pub number_answer : {E : Type 0} (t : Option Within) (r : Result Total E) (x : rules.Total) (n : ℕ) (p : Polynomial) → p ≡ constant_map (pos n)
+    → IsTotalOf t x → IfOk r (λ u. IsTotal u (adds Plus x p)) → IfOk r (λ u. IsTotal u (rules.plus_number x n))
 number_answer t (Ok u) x n p e h k = with_number t u.within x n p e h k
 number_answer t (Err z) x n p e h k = tt
 

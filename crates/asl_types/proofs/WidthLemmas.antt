@@ -1,12 +1,11 @@
 -- Widths within the limits: the limits as facts and as tests, and what an operation's answer makes of a rule.
-use Rattle.std.proofs.Common.{◌≡◌, ℕ, ◌+◌, ◌*◌, ◌^◌, ◌<◌, ◌≤◌, ℤ, pos, negsuc, nat_le, Bool, true, false, ◌&&◌, length, refl, sym, ap, subst, ◌∙◌, arith}
+use Rattle.std.proofs.Common.{◌≡◌, ℕ, ◌^◌, ◌<◌, ℤ, pos, negsuc, nat_le, Bool, true, false, refl, sym, ap, subst, ◌∙◌, arith}
 use Rattle.std.specs.Prelude.{Result, Ok, Err, unsigned_abs}
 use Rattle.std.proofs.lemmas.Bool.Decides.{nat_tests}
 use Rattle.asl_syn.specs.declared.token.Span.{Span}
 use Rattle.asl_syn.specs.declared.code.Refused.{Refused}
 use Rattle.asl_syn.specs.declared.code.StaticCode.TheVariants.{T19, T20}
 use Rattle.asl_poly.specs.Terms.{Polynomial}
-use Rattle.asl_poly.specs.Limits.{weight, degree, atoms_of_both}
 use Rattle.asl_poly.specs.Poly.{IsPolynomial, Gives, ConstantFits, SumFits, ProductFits, QuotientFits, constant_map, sum_map, difference_map, product_map, quotient_map, may_divide}
 use Rattle.asl_poly.proofs.Made.{too_coarse}
 use Rattle.asl_poly.specs.declared.PolyRefused.{PolyRefused}

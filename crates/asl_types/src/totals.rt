@@ -1,5 +1,7 @@
 //! Sums of many widths, whose weights, denominators and atoms all count together, before any terms cancel.
 
+mod within;
+
 ghost use Rattle.std.specs.Prelude.{◌≡◌, ◌≤◌, ◌^◌, ◌<◌, ◌*◌, ◌/◌, length, IfOk};
 ghost use Rattle.asl_poly.specs.Limits as limits;
 ghost use Rattle.asl_poly.specs.Poly.{SumFits, Gives, with_atoms_of};
@@ -16,16 +18,7 @@ use asl_syn::code::{Refused, StaticCode};
 use asl_syn::token::Span;
 use sqlite_items::Items;
 use std::alloc::{AllocError, Global};
-
-/// A sum within the limits: the width, the weight of all that was added over one denominator, which is the least common multiple of
-/// theirs, and their atoms, each once.
-#[derive(Drop)]
-struct Within {
-    sum: Poly,
-    weight: u128,
-    denominator: u128,
-    atoms: Items<Atom>,
-}
+use within::Within;
 
 /// A sum of many widths. Once it is past the limits it stays so.
 #[derive(Drop)]
@@ -136,15 +129,6 @@ fn more(alloc: Global, within: Within, sign: Sign, p: &Poly) -> Result<Total, Al
         mut atoms,
     } = within;
     within_limits(p);
-    if denominator == 0 {
-        return Ok(Total { within: None });
-    }
-    if denominator > FINEST {
-        return Ok(Total { within: None });
-    }
-    if weight > HEAVIEST {
-        return Ok(Total { within: None });
-    }
     let own = denominator_of(p);
     let common = least_common_multiple(denominator, own);
     if common > FINEST {

@@ -7,7 +7,7 @@ use Rattle.asl_rules.specs.types.Widths as rules
 use Rattle.asl_poly.specs.WidthLimits.{heaviest, most_atoms, finest}
 use Rattle.asl_rules.specs.types.Widths.{plus, minus}
 use Rattle.asl_types.specs.declared.totals.Total.{Total}
-use Rattle.asl_types.specs.declared.totals.Within.{Within}
+use Rattle.asl_types.specs.declared.totals.within.Within.{Within}
 use Rattle.asl_types.specs.declared.totals.Sign.{Sign}
 use Rattle.asl_types.specs.declared.totals.Sign.TheVariants.{Plus, Minus}
 

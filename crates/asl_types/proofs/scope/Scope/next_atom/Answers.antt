@@ -1,4 +1,4 @@
-use Rattle.std.proofs.Common.{◌≡◌, ◌*◌, ap, sym, ◌∙◌}
+use Rattle.std.proofs.Common.{◌*◌, ap, sym, ◌∙◌}
 use Rattle.asl_types.proofs.NumberLemmas.{atoms}
 use Rattle.asl_types.proofs.scope.Scope.next_atom.Goals as goal
 

@@ -3,4 +3,4 @@ use Rattle.asl_types.proofs.TotalLemmas.{nothing}
 use Rattle.asl_types.proofs.totals.Total.new.Goals as goal
 
 pub returns : goal.returns
-returns c = nothing (record { sum = c.in_ok-constant_width.field-0; weight = 0; denominator = 1; atoms = c.new.result }) c.in_ok-constant_width.ensures refl refl c.new.ensures
+returns c = nothing _ c.in_ok-constant_width.ensures refl refl c.new.ensures
