@@ -1,27 +1,34 @@
 -- Written types with numbers are what the rules make of them.
-use Rattle.std.proofs.Common.{◌≡◌, ℕ, List, [], ◌∷◌, Option, Some, None, refl, ap, ◌∙◌}
+use Rattle.std.proofs.Common.{◌≡◌, ℕ, List, [], ◌∷◌, Option, Some, None, refl, sym, ap, ap₂, ◌∙◌}
 use Rattle.std.specs.Prelude.{ℤ, pos, negsuc, option_map, option_and_then}
 use Rattle.asl_syn.specs.declared.token.Span.{Span}
 use Rattle.asl_cons.specs.declared.Part.{Part}
-use Rattle.asl_rules.specs.types.Closed.{ranges_at}
+use Rattle.asl_poly.specs.Fractions.{whole}
+use Rattle.asl_rules.specs.types.Closed.{range_in, ranges_at}
 use Rattle.asl_rules.specs.types.Shapes as shapes
 use Rattle.asl_rules.specs.types.Shapes.{PartShape, BitfieldShape, TypeShape, TypeShapes}
 use Rattle.asl_rules.specs.types.Types.{View}
 use Rattle.asl_rules.specs.values.Values.{Value, int, bool, bits_with, label, record_with, exception_with, tuple_with, array_with}
 use Rattle.asl_rules.specs.types.Written as rules
 use Rattle.asl_rules.specs.types.Written.{Sized, SizedRanges, SizedView, SizedParts, all_ranges, part_range, all_bitfields, bitfield_at, filled, parts_filled, with_range, with_bitfield}
+use Rattle.asl_shape.specs.private.Numbers.{range}
 use Rattle.asl_shape.specs.private.Filled as f
 use Rattle.asl_shape.specs.private.Filled.{Filled, Fills, sized_as, sized_parts}
 use Rattle.asl_shape.specs.private.Filling.{Taken, taken, and_then, made_as, next_part, all_parts, part_from, all_fields, filling, all_fillings}
+use Rattle.asl_shape.proofs.WholeEnds.{whole_floor, whole_ceiling}
 
 -- ---- constraints
 
 abbrev ranges_of : Taken (List Part) → SizedRanges
 ranges_of t = record { ranges = ranges_at t.made (λ n. pos 0); left = t.left }
 
+-- the ends are integers, so nothing is rounded
+whole_range : (a b : ℤ) → range_in (whole a) (whole b) ≡ range a b
+whole_range a b = ap₂ range (whole_ceiling a) (whole_floor b)
+
 one_range : (a b : ℤ) (o : Option (Taken (List Part))) → with_range a b (option_map ranges_of o) ≡ option_map ranges_of (and_then (λ q qs. q ∷ qs) (taken (part_from a b) []) (λ _. o))
 one_range a b None = refl
-one_range a b (Some t) = refl
+one_range a b (Some t) = ap (λ r. Some (record { ranges = r ∷ ranges_at t.made (λ n. pos 0); left = t.left })) (sym (whole_range a b))
 
 ranges_are : (ps : List PartShape) (zs : List Value) → all_ranges ps zs ≡ option_map ranges_of (all_parts ps zs)
 ranges_are [] zs = refl

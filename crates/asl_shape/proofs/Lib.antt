@@ -4,6 +4,7 @@ pub mod Patterns
 pub mod Fields
 pub mod OmittedWidths
 pub mod AtZero
+pub mod WholeEnds
 pub mod Ranges
 pub mod ValueKinds
 pub mod Having

@@ -1,8 +1,9 @@
 //! Types in which no name of a body stands: their widths and constraints as numbers.
-ghost use Rattle.std.specs.Prelude.{◌≡◌, ◌≤◌, ◌^◌, pos, unsigned_abs};
+ghost use Rattle.std.specs.Prelude.{◌≡◌, ◌≤◌, ◌^◌, pos, ◌≤ℤ◌, unsigned_abs};
 ghost use Rattle.asl_poly.specs.Terms.{value};
+ghost use Rattle.asl_poly.specs.Fractions.{fraction_at};
 ghost use Rattle.asl_rules.specs.types.Closed as rules;
-ghost use Rattle.asl_shape.specs.private.Numbers.{last_number, range};
+ghost use Rattle.asl_shape.specs.private.Numbers.{last_number, over, range};
 
 use crate::matching::is_at_most;
 use asl_cons::{End, Part};
@@ -34,36 +35,62 @@ fn number_in(coefficient: i128, factors: &[Atom]) -> i128
     }
 }
 
-/// How many bits a width is, where that is a whole number, and else -1, which no bits have.
+/// A number over a denominator, rounded down.
+fn rounded_down(number: i128, denominator: i128) -> i128
+    requires positive { pos 1 ≤ℤ denominator }
+    requires light { unsigned_abs number ≤ 2 ^ 62 }
+    ensures is { result ≡ rules.floor (over number (unsigned_abs denominator)) }
+    ensures light { unsigned_abs result ≤ 2 ^ 62 }
+{
+    number.div_euclid(denominator)
+}
+
+/// How many bits a width is where that is a whole number. Else it is -1, a width that no bits have.
 pub(crate) fn number_of(width: &Poly) -> i128
     ensures { result ≡ rules.width_at width.now (λ n. pos 0) }
 {
     let number = terms_number(width);
     let denominator = width.denominator();
     if number.rem_euclid(denominator) == 0 {
-        number.div_euclid(denominator)
+        rounded_down(number, denominator)
     } else {
         -1
     }
 }
 
+/// The least integer that is not below a width.
+fn ceiling_of(width: &Poly) -> i128
+    ensures { result ≡ rules.ceiling (fraction_at (λ n. pos 0) width.now) }
+{
+    -rounded_down(-terms_number(width), width.denominator())
+}
+
+/// The greatest integer that is not above a width.
+fn floor_of(width: &Poly) -> i128
+    ensures { result ≡ rules.floor (fraction_at (λ n. pos 0) width.now) }
+{
+    rounded_down(terms_number(width), width.denominator())
+}
+
 /// The least integer from a low end on.
+#[tactic(auto, using(crate::proofs::WholeEnds::whole_ceiling))]
 fn low_of(end: &End) -> i128
     ensures { result ≡ rules.ceiling (rules.end_at end.now (λ n. pos 0)) }
 {
     match end {
         End::Int(z) => *z,
-        End::Width(width) => -(-terms_number(width)).div_euclid(width.denominator()),
+        End::Width(width) => ceiling_of(width),
     }
 }
 
 /// The greatest integer up to a high end.
+#[tactic(auto, using(crate::proofs::WholeEnds::whole_floor))]
 fn high_of(end: &End) -> i128
     ensures { result ≡ rules.floor (rules.end_at end.now (λ n. pos 0)) }
 {
     match end {
         End::Int(z) => *z,
-        End::Width(width) => terms_number(width).div_euclid(width.denominator()),
+        End::Width(width) => floor_of(width),
     }
 }
 
