@@ -202,12 +202,29 @@ fn joining(op: BinaryOperator) -> Joining
     ensures { result ≡ arithmetic.joining op }
 {
     match op {
+        BinaryOperator::LogicalAnd => Joining::JoinsNothing,
+        BinaryOperator::LogicalOr => Joining::JoinsNothing,
+        BinaryOperator::Implies => Joining::JoinsNothing,
+        BinaryOperator::Equivalent => Joining::JoinsNothing,
+        BinaryOperator::Equal => Joining::JoinsNothing,
+        BinaryOperator::NotEqual => Joining::JoinsNothing,
+        BinaryOperator::Less => Joining::JoinsNothing,
+        BinaryOperator::LessEqual => Joining::JoinsNothing,
+        BinaryOperator::Greater => Joining::JoinsNothing,
+        BinaryOperator::GreaterEqual => Joining::JoinsNothing,
         BinaryOperator::Add => Joining::Combines(Combination::Sum),
         BinaryOperator::Subtract => Joining::Combines(Combination::Difference),
+        BinaryOperator::BitAnd => Joining::JoinsNothing,
+        BinaryOperator::BitOr => Joining::JoinsNothing,
+        BinaryOperator::BitXor => Joining::JoinsNothing,
+        BinaryOperator::Concatenate => Joining::JoinsNothing,
         BinaryOperator::Multiply => Joining::Combines(Combination::Product),
         BinaryOperator::DivideExact => Joining::Divides,
-        // no other operator stands in a width
-        _ => Joining::JoinsNothing,
+        BinaryOperator::DivideFloor => Joining::JoinsNothing,
+        BinaryOperator::Modulo => Joining::JoinsNothing,
+        BinaryOperator::ShiftLeft => Joining::JoinsNothing,
+        BinaryOperator::ShiftRight => Joining::JoinsNothing,
+        BinaryOperator::Power => Joining::JoinsNothing,
     }
 }
 
