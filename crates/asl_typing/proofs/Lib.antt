@@ -4,3 +4,4 @@ pub mod GivenLemmas
 pub mod GivenPlaces
 pub mod GivenTypes
 pub mod MemberRows
+pub mod Fitting
