@@ -156,4 +156,4 @@ too_large t r p n h = by (t.same p (constant_map (pos n))) refl
   where
     by : (b : Bool) → t.same p (constant_map (pos n)) ≡ b → false ≡ b
     by false e = refl
-    by true e = absurd (h (record { light = omega (arith, (r.right.same_yes p (constant_map (pos n)) e).right.light, weighs n) }))
+    by true e = absurd (h (record { light = omega (arith, (r.right.same_yes p (constant_map (pos n)) e).right.map.light, weighs n) }))
