@@ -24,9 +24,13 @@ pub record Inside (ps qs : List Part) : Type 0 where
   pub right : AllEnds qs
   pub below : Below ps qs
 
+-- no bits within the limit are wider than the weight that a width may have
+unfoldable pub IsLight : ℕ → Type 0
+IsLight limit = limit ≤ heaviest
+
 -- the two tests are right; the limit may be any number up to the weight that a width may have
 pub record IsRight (t : Tests) : Type 0 where
-  pub within : t.limit ≤ heaviest
+  pub within : IsLight t.limit
   pub same_yes : (p q : Polynomial) → t.same p q ≡ true → SameWidth p q
   pub same_all : (p q : Polynomial) → SameWidth p q → t.same p q ≡ true
   pub below_yes : (ps qs : List Part) → t.below ps qs ≡ true → Inside ps qs

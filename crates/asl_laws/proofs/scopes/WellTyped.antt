@@ -57,6 +57,7 @@ use Rattle.asl_rules.specs.types.Writing.{Written, WrittenField, Numbered, Found
 use Rattle.asl_rules.specs.expressions.Calls.{first_width, unsigned, signed, bits_of_first, routine_type, routine_params, polys, widths_given, routine_taken, call_tree, chosen, widths_rule, both_fit, replaced_by, function_of, call_begun}
 use Rattle.asl_rules.specs.expressions.Exprs.{literal_type, FoundField, values_given, names_given, found_slice, found_pattern, found, found_type, typed, written, typed_rule, written_rule, expr_rule, given_rule, slice_rule, part_rule, bitfield_rule, type_rule, pattern_rule, apart, name_of_standing, bits_rule_of}
 use Rattle.asl_rules.proofs.basics.Inversions.{ok_ok, err_ok, bind_ok, then_ok, need_ok, found_ok}
+use Rattle.asl_rules.proofs.verdict.SomeTests.{limit_light}
 use Rattle.asl_laws.proofs.reading.Literals.{digits_within}
 use Rattle.asl_laws.proofs.expressions.MemberNamed.{member_ok, member_room}
 use Rattle.asl_rules.proofs.basics.Tests.{some_same, none_some, mapped}
@@ -481,7 +482,7 @@ module _ (tests : Tests) (right : IsRight tests) (d : List ℕ → Option Ty) (d
   literal_layer class span text None S q h = err_ok (fault_of S03 span) S h
   literal_layer class span text (Some bs) S q h =
       subst (WellFormed d) (class_type class span Pure (bits_wide (length bs)) (λ n. tree.Constant n (bits_with bs [])) S h)
-      (light_formed (length bs) (le_trans (digits_within tests.limit text bs q) right.within))
+      (light_formed (length bs) (le_trans (digits_within tests.limit text bs q) (limit_light tests.limit right.within)))
 
   standing_formed : (span : Span) (name : List ℕ) (o : Option Standing) (G : Scope) (S : Typed) → ((st : Standing) → o ≡ Some st → StandsFormed d st) → name_of_standing span name o G ≡ Ok S → WellFormed d S.ty
   standing_formed span name (Some (Stored s)) G S g h =

@@ -37,11 +37,11 @@ use Rattle.asl_laws.proofs.wider.Reading.{reads_stay, read_same}
 
 right_at : (t : Tests) (m : ℕ) → m ≤ heaviest → IsRight t → IsRight (record t { limit = m })
 right_at t m light r =
-    record { within = light; same_yes = r.same_yes; same_all = r.same_all; below_yes = r.below_yes; below_all = r.below_all }
+    record { within = light_limit m light; same_yes = r.same_yes; same_all = r.same_all; below_yes = r.below_yes; below_all = r.below_all }
 
 -- right tests of the wider limit are those of the narrower one with another limit
 tests_are : (t u : Tests) → IsRight t → IsRight u → u ≡ record t { limit = u.limit }
-tests_are t u p q = one_test u (record t { limit = u.limit }) q (right_at t u.limit q.within p) refl
+tests_are t u p q = one_test u (record t { limit = u.limit }) q (right_at t u.limit (limit_light u.limit q.within) p) refl
 
 -- ---- a derivation
 

@@ -23,7 +23,7 @@ use Rattle.asl_cons.specs.declared.End.TheVariants.{Int, Width}
 use Rattle.asl_cons.specs.declared.Part.{Part}
 use Rattle.asl_cons.specs.Constraint.{IsEnd, AllEnds, HasEnd, IsFixed, Holds, InFixed, IsAbove, Held, IsCovered, AllCovered, Below}
 use Rattle.asl_cons.proofs.Covering.{Ends, value_constant_map, int_end, integer_above, integer_not_above, above_integer, not_above_integer, widths_not_above, not_holds, free_not_holds, covered_fixed, covered_free}
-use Rattle.asl_rules.specs.Tests.{Tests, SameWidth, Inside, IsRight}
+use Rattle.asl_rules.specs.Tests.{Tests, SameWidth, Inside, IsRight, IsLight}
 use Rattle.asl_rules.proofs.basics.Deciding.{Dec, yes, yes_holds, holds_yes, as_well, both, either, neither, nats, at_most, integers, at_most_z, lists}
 
 -- ---- polynomials
@@ -303,10 +303,18 @@ is_inside ps qs = inside_by ps qs (ends ps) (ends qs)
 tests : ℕ → Tests
 tests limit = record { limit = limit; same = λ p q. yes (same_width p q); below = λ ps qs. yes (is_inside ps qs) }
 
+pub light_limit : (limit : ℕ) → limit ≤ heaviest → IsLight limit
+unfolding IsLight
+light_limit limit light = light
+
+pub limit_light : (limit : ℕ) → IsLight limit → limit ≤ heaviest
+unfolding IsLight
+limit_light limit light = light
+
 right : (limit : ℕ) → limit ≤ heaviest → IsRight (tests limit)
 unfolding tests
 right limit light = record {
-  within = light;
+  within = light_limit limit light;
   same_yes = λ p q h. yes_holds (same_width p q) h;
   same_all = λ p q h. holds_yes (same_width p q) h;
   below_yes = λ ps qs h. yes_holds (is_inside ps qs) h;
