@@ -9,6 +9,7 @@ use Rattle.asl_rules.specs.declared.entry.Entry.{Entry}
 use Rattle.asl_rules.specs.declared.entry.Entry.TheVariants as entry
 use Rattle.asl_laws.specs.Answers.{FilesOk}
 use Rattle.asl_rules.specs.Tests.{Tests, IsRight}
+use Rattle.asl_rules.proofs.verdict.SomeTests.{light_limit, limit_light}
 use Rattle.asl_rules.specs.values.Values.{Value}
 use Rattle.asl_rules.specs.runs.States.{Binding, Core}
 use Rattle.asl_rules.specs.runs.Plans.{Meter, Faulted, Stuck, Outcome, Done, Thrown, Halt, starting}
