@@ -47,17 +47,21 @@ Paired (p ∷ ps) [] = ⊥
 Paired (p ∷ ps) (g ∷ gs) = Paired ps gs
 
 -- the atoms of the parameters stand for their values
-same_by : (b : Bool) (a av : Assignment) (n : ℕ) (p : Param) (ps : List Param) (g : Given) (rest : ℤ) → (n == p.atom) ≡ b → av p.atom ≡ width_at g.width a → ((n ≡ p.atom) ⊎ IsAtomOf ps n) → (IsAtomOf ps n → rest ≡ av n) → cond b (width_at g.width a) rest ≡ av n
+same_by : (b : Bool) (a av : Assignment) (n : ℕ) (p : Param) (ps : List Param) (g : Given) (rest : ℤ) → (n == p.atom) ≡ b →
+    av p.atom ≡ width_at g.width a → ((n ≡ p.atom) ⊎ IsAtomOf ps n) → (IsAtomOf ps n → rest ≡ av n) →
+    cond b (width_at g.width a) rest ≡ av n
 same_by true a av n p ps g rest q e i next = sym e ∙ ap av (sym (same_number n p.atom q))
 same_by false a av n p ps g rest q e (inl k) next = no (sym q ∙ subst (λ m. (n == m) ≡ true) k (number_is n))
 same_by false a av n p ps g rest q e (inr k) next = next k
 
-pub same_at : (a av : Assignment) (m : ℕ) (ps : List Param) (gs : List Given) (xs ys : List Value) → AtomsFrom m ps → Paired ps gs → AllWide a (polys gs) xs → Follows av m (xs ++ ys) → (n : ℕ) → IsAtomOf ps n → behind (replaced_by ps gs) a n ≡ av n
+pub same_at : (a av : Assignment) (m : ℕ) (ps : List Param) (gs : List Given) (xs ys : List Value) → AtomsFrom m ps → Paired ps gs →
+    AllWide a (polys gs) xs → Follows av m (xs ++ ys) → (n : ℕ) → IsAtomOf ps n → behind (replaced_by ps gs) a n ≡ av n
 same_at a av m [] gs xs ys f c w v n i = absurd i
 same_at a av m (p ∷ ps) [] xs ys f c w v n i = absurd c
 same_at a av m (p ∷ ps) (g ∷ gs) [] ys f c w v n i = absurd w
 same_at a av m (p ∷ ps) (g ∷ gs) (x ∷ xs) ys f c w v n i =
-    same_by (n == p.atom) a av n p ps g (behind (replaced_by ps gs) a n) refl (ap av f.0 ∙ v.0 (width_at g.width a) w.0.0) i (λ k. same_at a av (m + 2) ps gs xs ys f.1 c w.1 v.1 n k)
+    same_by (n == p.atom) a av n p ps g (behind (replaced_by ps gs) a n) refl (ap av f.0 ∙ v.0 (width_at g.width a) w.0.0) i
+    (λ k. same_at a av (m + 2) ps gs xs ys f.1 c w.1 v.1 n k)
 
 -- what is given is within the limits, and whole for the caller
 abbrev pub AllFit : Assignment → List Given → Type 0
@@ -82,9 +86,12 @@ fit_whole a (p ∷ ps) [] f = tt
 fit_whole a (p ∷ ps) (g ∷ gs) f = (f.0.0, fit_whole a ps gs f.1)
 
 -- for the caller a type with its parameters replaced is what it is in the frame
-pub in_frame : (d : List ℕ → Option Ty) (a av : Assignment) (ps : List Param) (gs : List Given) → AllFit a gs → ((n : ℕ) → IsAtomOf ps n → behind (replaced_by ps gs) a n ≡ av n) → (T U : Ty) → Over (IsAtomOf ps) T → Shaped d T → substitute (replaced_by ps gs) T ≡ Some U → type_with U a ≡ type_with T av
+pub in_frame : (d : List ℕ → Option Ty) (a av : Assignment) (ps : List Param) (gs : List Given) → AllFit a gs →
+    ((n : ℕ) → IsAtomOf ps n → behind (replaced_by ps gs) a n ≡ av n) → (T U : Ty) → Over (IsAtomOf ps) T → Shaped d T →
+    substitute (replaced_by ps gs) T ≡ Some U → type_with U a ≡ type_with T av
 in_frame d a av ps gs fit same T U o s k =
-    type_replaced (replaced_by ps gs) a (fit_within a ps gs fit) (fit_whole a ps gs fit) d (IsAtomOf ps) T U o s k ∙ type_moved (IsAtomOf ps) (behind (replaced_by ps gs) a) av same T o
+    type_replaced (replaced_by ps gs) a (fit_within a ps gs fit) (fit_whole a ps gs fit) d (IsAtomOf ps) T U o s k ∙ type_moved
+    (IsAtomOf ps) (behind (replaced_by ps gs) a) av same T o
 
 -- what a function gives belongs to the type of the call
 pub result_in : (d : List ℕ → Option Ty) (a av : Assignment) (T U : Ty) (x : Value) → type_with U a ≡ type_with T av → InType d av x T → InType d a x U
@@ -96,17 +103,22 @@ module _ (tests : Tests) (right : IsRight tests) (ds : List Decl) (base : List E
   AllFormed (part T Ts) = WellFormed (types_in base) T × AllFormed Ts
 
   -- a value of a type that fits
-  pub fits_in : (a av : Assignment) (span at : Span) (ps : List Param) (gs : List Given) (S T : Ty) (x : Value) → AllFit a gs → ((n : ℕ) → IsAtomOf ps n → behind (replaced_by ps gs) a n ≡ av n) → Over (IsAtomOf ps) T → WellFormed (types_in base) S → WellFormed (types_in base) T → fits_replaced tests span (replaced_by ps gs) S T at ≡ Ok tt →
+  pub fits_in : (a av : Assignment) (span at : Span) (ps : List Param) (gs : List Given) (S T : Ty) (x : Value) → AllFit a gs →
+      ((n : ℕ) → IsAtomOf ps n → behind (replaced_by ps gs) a n ≡ av n) → Over (IsAtomOf ps) T → WellFormed (types_in base) S →
+      WellFormed (types_in base) T → fits_replaced tests span (replaced_by ps gs) S T at ≡ Ok tt →
       has_type a x S ≡ true → Built (types_in base) x → has_type av x T ≡ true
   fits_in a av span at ps gs S T x fit same o s t f h b =
       let U = bind_ok (found_or (substitute (replaced_by ps gs) T) T20 span) _ tt f in
       let k = found_ok (substitute (replaced_by ps gs) T) T20 span U.value U.first in
-      let u = substitute_formed tests right (types_in base) (well_declared base w) (replaced_by ps gs) T U.value (fit_within a ps gs fit) t k in
+      let u =
+      substitute_formed tests right (types_in base) (well_declared base w) (replaced_by ps gs) T U.value (fit_within a ps gs fit) t k in
       subst (λ C. has x C ≡ true) (in_frame (types_in base) a av ps gs fit same T U.value o t.shaped k)
       (satisfying_keeps a tests right (types_in base) (well_declared base w) S U.value x s u b (fitted_ok (misfit tests S U.value) at tt U.then) h)
 
   -- arguments that fit belong to the formals
-  pub arguments_in : (a av : Assignment) (span : Span) (ps : List Param) (gs : List Given) → AllFit a gs → ((n : ℕ) → IsAtomOf ps n → behind (replaced_by ps gs) a n ≡ av n) → (Ts : Parts) (os : List Operand) (xs : List Value) → kinds_eq (kinds Ts) (kinds (types_of os)) ≡ true → AllOver (IsAtomOf ps) Ts → AllFormed (types_of os) → AllFormed Ts →
+  pub arguments_in : (a av : Assignment) (span : Span) (ps : List Param) (gs : List Given) → AllFit a gs →
+      ((n : ℕ) → IsAtomOf ps n → behind (replaced_by ps gs) a n ≡ av n) → (Ts : Parts) (os : List Operand) (xs : List Value) →
+      kinds_eq (kinds Ts) (kinds (types_of os)) ≡ true → AllOver (IsAtomOf ps) Ts → AllFormed (types_of os) → AllFormed Ts →
       arguments_fit tests span (replaced_by ps gs) Ts os ≡ Ok tt → AllIn (types_in base) a (types_of os) xs → HasAll tests right ds base subs loose funcs w av Ts xs
   arguments_in a av span ps gs fit same no_part [] [] k o s t f i = tt
   arguments_in a av span ps gs fit same no_part [] (x ∷ xs) k o s t f i = absurd i

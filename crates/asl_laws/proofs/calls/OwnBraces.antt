@@ -115,7 +115,8 @@ pub record ParamsSo (a : Assignment) (span : Span) (f : Func) (qs : List Param) 
   pub wide : AllWide a (polys r.given) params
   pub same : (n : ℕ) → IsAtomOf qs n → behind (replaced_by qs r.given) a n ≡ integers_of (params ++ xs) n
 
-frame_at : (a : Assignment) (qs : List Param) (gs : List Given) (ps xs : List Value) → AtomsFrom 0 qs → Paired qs gs → AllWide a (polys gs) ps → (n : ℕ) → IsAtomOf qs n → behind (replaced_by qs gs) a n ≡ integers_of (ps ++ xs) n
+frame_at : (a : Assignment) (qs : List Param) (gs : List Given) (ps xs : List Value) → AtomsFrom 0 qs → Paired qs gs →
+    AllWide a (polys gs) ps → (n : ℕ) → IsAtomOf qs n → behind (replaced_by qs gs) a n ≡ integers_of (ps ++ xs) n
 frame_at a qs gs ps xs t p w n i = same_at a (integers_of (ps ++ xs)) 0 qs gs ps xs t p w (follows (integers_of (ps ++ xs)) 0 (ps ++ xs) (λ m. ap (integers_of (ps ++ xs)) (nothing_more m))) n i
   where
     nothing_more : (m : ℕ) → m + 0 ≡ m
@@ -136,7 +137,9 @@ module _ (tests : Tests) (right : IsRight tests) (base : List Entry) (subs : Lis
     pub paired : Paired s.params r.given
     pub gives : (f : Func) (h : Head) (ys xs : List Value) (c : Core) → HeadIs tests base f h → h.signature ≡ s → GlobalsMatch base c.globals → AllGive tests right base subs loose H asked ys → AllIn (types_in base) H.present (types_of os) xs → ParamsSo H.present span f s.params r ys xs c
 
-  omitted_params : (H : Here) (span : Span) (s : Signature) (os : List Operand) (r : Replacing) → next_atom base ≡ 0 → NamesOver Never base → kinds_eq (kinds s.formals) (kinds (types_of os)) ≡ true → ShapedParts (types_in base) (types_of os) → widths_omitted span s.params s.formals os ≡ Ok r →
+  omitted_params : (H : Here) (span : Span) (s : Signature) (os : List Operand) (r : Replacing) → next_atom base ≡ 0 →
+      NamesOver Never base → kinds_eq (kinds s.formals) (kinds (types_of os)) ≡ true → ShapedParts (types_in base) (types_of os) →
+      widths_omitted span s.params s.formals os ≡ Ok r →
       (f : Func) (h : Head) (ys xs : List Value) (c : Core) → HeadIs tests base f h → h.signature ≡ s → GlobalsMatch base c.globals → AllGive tests right base subs loose H [] ys → AllIn (types_in base) H.present (types_of os) xs → ParamsSo H.present span f s.params r ys xs c
   omitted_params H span s os r z g k t o f h (y ∷ ys) xs c i e m v x = absurd v
   omitted_params H span s os r z g k t o f h [] xs c i e m v x =
@@ -150,7 +153,9 @@ module _ (tests : Tests) (right : IsRight tests) (base : List Entry) (subs : Lis
       (subst (λ Ts. widths_omitted span i.params.0 Ts os ≡ Ok r) (sym q.1) (subst (λ ps. widths_omitted span ps s.formals os ≡ Ok r) (sym q.0) o)) in
       record { params = d.values; params_are = d.run_is; widths_are = d.tree_is; wide = d.wide; same = frame_at H.present s.params r.given d.values xs (atoms_of f h s z i e) (subst (λ ps. Paired ps r.given) q.0 d.paired) d.wide }
 
-  pub params_asked : (H : Here) (span : Span) (s : Signature) (es : List Expr) (os : List Operand) (r : Replacing) → next_atom base ≡ 0 → NamesOver Never base → kinds_eq (kinds s.formals) (kinds (types_of os)) ≡ true → ShapedParts (types_in base) (types_of os) → widths_rule span s (map (found tests) es) os H.scope ≡ Ok r → ParamsAsked H span s es os r
+  pub params_asked : (H : Here) (span : Span) (s : Signature) (es : List Expr) (os : List Operand) (r : Replacing) → next_atom base ≡ 0 →
+      NamesOver Never base → kinds_eq (kinds s.formals) (kinds (types_of os)) ≡ true → ShapedParts (types_in base) (types_of os) →
+      widths_rule span s (map (found tests) es) os H.scope ≡ Ok r → ParamsAsked H span s es os r
   params_asked H span s [] os r z g k t h =
       let o = is_omitted span s.params s.formals os r h in
       record { asked = []; asks = subst (λ ts. AllAsked tests right base subs loose H.scope [] ts []) (sym o.no_trees) tt; paired = o.paired; gives = omitted_params H span s os r z g k t h }

@@ -189,26 +189,34 @@ module _ (tests : Tests) (right : IsRight tests) (ds : List Decl) (loose : Bool)
   -- a call with its operands, and what follows it
   calls_same : {A : Type 0} (H : Here) (Q : A → A → Core → Type 0) (span : Span) (i : Ident) (ps es : List Expr) (os : List Operand) (c : Core) (q : Chosen) (r : Replacing) (k : Option Value → Core → Does A) (l : Option Value → BareCore → Runs A) →
       Opens tests base subs loose H q.number → routine_named i.text ≡ None → operands (map (found tests) es) H.scope ≡ Ok os → choose i.text (types_of os) H.scope.subs ≡ Some q → widths_rule span q.signature (map (found tests) ps) os H.scope ≡ Ok r → both_fit tests span q.signature r.given os (replaced_by q.signature.params r.given) ≡ Ok tt → At tests base subs loose H c →
-      ((a : Assignment) (x : Option Value) (c1 : Core) → AllFit H.present r.given → ((n : ℕ) → IsAtomOf q.signature.params n → behind (replaced_by q.signature.params r.given) H.present n ≡ a n) → ResultOver q.signature → GivesCall (types_in base) a q.signature.result x → At tests base subs loose H c1 → Same tests right base subs loose H Q (k x c1) (l x (erased c1))) →
+      ((a : Assignment) (x : Option Value) (c1 : Core) → AllFit H.present r.given →
+      ((n : ℕ) → IsAtomOf q.signature.params n → behind (replaced_by q.signature.params r.given) H.present n ≡ a n) →
+      ResultOver q.signature → GivesCall (types_in base) a q.signature.result x → At tests base subs loose H c1 →
+      Same tests right base subs loose H Q (k x c1) (l x (erased c1))) →
       Same tests right base subs loose H Q (call ps es c (called (env tests right ds base subs loose trees w) span i.text) k) (call (list_of (trees_from r.trees)) (list_of (trees_of os)) (erased c) (call_of (program tests right ds base subs loose trees w) span (own q.number) r.places) l)
   calls_same H Q span i ps es os c q r k l op none ops is widths fit a next =
       let f : List Value → List Value → Core → Does (Option Value) = called (env tests right ds base subs loose trees w) span i.text in
       let g : List Value → List Value → BareCore → Runs (Option Value) = call_of (program tests right ds base subs loose trees w) span (own q.number) r.places in
       let is2 : choose i.text (types_of os) subs ≡ Some q = subst (λ z. choose i.text (types_of os) z ≡ Some q) a.subs_are is in
       let formed_os = operands_formed tests right ds base subs loose trees w es H.scope os (scope_good H.present base H.scope.names c w a.agrees) (subst (FormedSubs tests right (types_in base) (well_declared base w)) (sym a.subs_are) s) ops in
-      let asks = params_asked tests right base subs loose H span q.signature ps os r (program_atoms tests ds) (program_over tests Never ds) (chosen_kinds i.text (types_of os) q (all_shaped (types_of os) formed_os) is2) (all_shaped (types_of os) formed_os) widths in
+      let asks =
+      params_asked tests right base subs loose H span q.signature ps os r (program_atoms tests ds) (program_over tests Never ds)
+      (chosen_kinds i.text (types_of os) q (all_shaped (types_of os) formed_os) is2) (all_shaped (types_of os) formed_os) widths in
       subst (λ ts. Same tests right base subs loose H Q (call ps es c f k) (call ts (list_of (trees_of os)) (erased c) g l)) (sym (list_from r.trees))
       (subst (λ us. Same tests right base subs loose H Q (call ps es c f k) (call r.trees us (erased c) g l)) (sym (list_from (trees_in os)))
       (called_same tests right base subs loose H Q ps es r.trees (trees_in os) asks.asked (asked_of tests right base subs loose os) c f g k l asks.asks (operands_asked tests right base subs loose H.scope es os ops) a
       (λ ys xs c2 y x a2.
       let o = call_chosen H span i.text ps os r ys xs c2 q op none is2 fit formed_os (all_in tests right base subs loose H os xs x) a2 asks y in
       twins_weaker (our tests base subs loose) (Gave H o.assignment q.signature.result) (λ v z c1. Same tests right base subs loose H Q (k v c1) (l z (erased c1))) (Throws tests right base subs loose H) (λ v c1. Same tests right base subs loose H Q (Raise v c1) (Raise v (erased c1)))
-      (λ v z c1 t. subst (λ u. Same tests right base subs loose H Q (k v c1) (l u (erased c1))) t.0 (next o.assignment v c1 o.fit o.same o.over t.1.0 t.1.1))
+      (λ v z c1 t. subst (λ u. Same tests right base subs loose H Q (k v c1) (l u (erased c1))) t.0
+      (next o.assignment v c1 o.fit o.same o.over t.1.0 t.1.1))
       (λ v c1 t. (refl, refl, t)) (f ys xs c2) (g ys xs (erased c2)) o.does)))
 
   -- ---- a function
 
-  gives_by : (H : Here) (span : Span) (T U : Ty) (q : Signature) (r : Replacing) (a : Assignment) (x : Option Value) (c : Core) → q.result ≡ Some T → substitute (replaced_by q.params r.given) T ≡ Some U → Shaped (types_in base) T → AllFit H.present r.given → ((n : ℕ) → IsAtomOf q.params n → behind (replaced_by q.params r.given) H.present n ≡ a n) → ResultOver q →
+  gives_by : (H : Here) (span : Span) (T U : Ty) (q : Signature) (r : Replacing) (a : Assignment) (x : Option Value) (c : Core) →
+      q.result ≡ Some T → substitute (replaced_by q.params r.given) T ≡ Some U → Shaped (types_in base) T → AllFit H.present r.given →
+      ((n : ℕ) → IsAtomOf q.params n → behind (replaced_by q.params r.given) H.present n ≡ a n) → ResultOver q →
       GivesCall (types_in base) a (Some T) x → At tests base subs loose H c → Same tests right base subs loose H (Out tests right base subs loose H U) (function_gives span x c) (function_gives span x (erased c))
   gives_by H span T U q r a None c t u shaped fit same over g at = absurd g
   gives_by H span T U q r a (Some y) c t u shaped fit same over g at =
@@ -226,8 +234,12 @@ module _ (tests : Tests) (right : IsRight tests) (ds : List Decl) (loose : Bool)
       let fit = then_ok (both_fit tests span q r.value.given os by) _ S r.then in
       let U = bind_ok (found_or (substitute by T.value) T20 span) _ S fit.then in
       let u = found_ok (substitute by T.value) T20 span U.value U.first in
-      let is2 : choose i.text (types_of os) subs ≡ Some f.value = subst (λ z. choose i.text (types_of os) z ≡ Some f.value) a.subs_are (found_ok (choose i.text (types_of os) H.scope.subs) T09 span f.value f.first) in
-      let formed_result : WellFormed (types_in base) T.value = subst (FormedResult (types_in base)) t (chosen_formed tests right ds base subs loose trees w 0 i.text (types_of os) subs f.value s is2) in
+      let is2 : choose i.text (types_of os) subs ≡ Some f.value =
+      subst (λ z. choose i.text (types_of os) z ≡ Some f.value) a.subs_are
+      (found_ok (choose i.text (types_of os) H.scope.subs) T09 span f.value f.first) in
+      let formed_result : WellFormed (types_in base) T.value =
+      subst (FormedResult (types_in base)) t
+      (chosen_formed tests right ds base subs loose trees w 0 i.text (types_of os) subs f.value s is2) in
       let k = greater (greatest Pure (effects_of os)) q.class in
       let make : Note → Tree = call_tree (own f.value.number) r.value os in
       let ends = finish_is H.scope.class span (all_together Pure (effects_of os)) k U.value make S U.then in
@@ -238,7 +250,8 @@ module _ (tests : Tests) (right : IsRight tests) (ds : List Decl) (loose : Bool)
       } in
       formed tests right ds base subs loose trees w H S (ex.Call span i ps es) c span U.value k make ends refl
       (calls_same H (Out tests right base subs loose H U.value) span i ps es os c f.value r.value (function_gives span) (function_gives span) op none ops (found_ok (choose i.text (types_of os) H.scope.subs) T09 span f.value f.first) r.first fit.first a
-      (λ av x c1 fits same over g a1. gives_by H span T.value U.value q r.value av x c1 t u formed_result.shaped fits same over (subst (λ z. GivesCall (types_in base) av z x) t g) a1))
+      (λ av x c1 fits same over g a1. gives_by H span T.value U.value q r.value av x c1 t u formed_result.shaped fits same over
+      (subst (λ z. GivesCall (types_in base) av z x) t g) a1))
 
   -- ---- a procedure
 

@@ -41,7 +41,8 @@ use Rattle.asl_rules.proofs.widths.WidthsHeld.{atom_is_polynomial}
 use Rattle.asl_laws.proofs.calls.OwnBodies.{params_atoms}
 
 -- one name more
-pub named_good : (d : List ℕ → Option Ty) (names : List Entry) (name : List ℕ) (T : Ty) (k : Option Counted) → GoodNames d names → WellFormed d T → IsHeld k → GoodNames d (names ++ fixed name T k ∷ [])
+pub named_good : (d : List ℕ → Option Ty) (names : List Entry) (name : List ℕ) (T : Ty) (k : Option Counted) → GoodNames d names →
+    WellFormed d T → IsHeld k → GoodNames d (names ++ fixed name T k ∷ [])
 named_good d names name T k g f c n st h = elim (standing_back n names (fixed name T k) st h) [
   | inl e ↦ g n st e
   | inr e ↦ subst (GoodStanding d) e (f, c)
@@ -79,7 +80,9 @@ module _ (tests : Tests) (right : IsRight tests) (ds : List Decl) (base : List E
       subst (WellFormed (types_in base)) (some_same u.value.ty T (ok_ok (Some u.value.ty) (Some T) u.then)) (written_formed tests right (types_in base) (well_declared base w) ty false (in_names names) u.value g u.first)
 
   itself_good : (o : Option TypeExpr) (names : List Entry) (T : Option Ty) (n : ℕ) → GoodNames (types_in base) names → param_written tests o names ≡ Ok T → WellFormed (types_in base) (type_or_itself T n)
-  itself_good o names None n g h = integer_formed tests right (types_in base) (well_declared base w) (only_width (atom_map n)) (only_ends (atom_map n) (atom_is_polynomial n))
+  itself_good o names None n g h =
+      integer_formed tests right (types_in base) (well_declared base w) (only_width (atom_map n))
+      (only_ends (atom_map n) (atom_is_polynomial n))
   itself_good o names (Some T) n g h = written_good o names T g h
 
   pub params_names : (ps : List WrittenParam) (pre : List Param) (names : List Entry) (r : List Param × List Entry) → GoodNames (types_in base) names → params_rule tests ps pre names ≡ Ok r → GoodNames (types_in base) r.1
@@ -88,7 +91,8 @@ module _ (tests : Tests) (right : IsRight tests) (ds : List Decl) (base : List E
       let v = bind_ok (param_written tests p.ty names) _ r h in
       let n = next_atom names in
       params_names ps (pre ++ record { atom = n; ty = v.value } ∷ []) (names ++ param_entry p.name.text v.value n ∷ []) r
-      (named_good (types_in base) names p.name.text (type_or_itself v.value n) (Some (atom_at n)) g (itself_good p.ty names v.value n g v.first) (atom_is_polynomial n)) v.then
+      (named_good (types_in base) names p.name.text (type_or_itself v.value n) (Some (atom_at n)) g
+      (itself_good p.ty names v.value n g v.first) (atom_is_polynomial n)) v.then
 
   formals_good : (fs : List Formal) (names : List Entry) (Ts : Parts) → GoodNames (types_in base) names → formals_rule tests fs names ≡ Ok Ts → AllFormed tests right ds base subs loose funcs w Ts
   formals_good [] names Ts g h = subst (AllFormed tests right ds base subs loose funcs w) (ok_ok no_part Ts h) tt
@@ -113,14 +117,22 @@ module _ (tests : Tests) (right : IsRight tests) (ds : List Decl) (base : List E
 
   -- ---- values of parameters
 
-  option_has : (a av : Assignment) (span : Span) (all : List Param) (gs : List Given) (g : Given) (o : Option TypeExpr) (T : Option Ty) (names : List Entry) (n : ℕ) → AllFit a gs → HasWidth g.width a (width_at g.width a) × IsPolynomial g.width → ((m : ℕ) → IsAtomOf all m → behind (replaced_by all gs) a m ≡ av m) → param_written tests o names ≡ Ok T → Over (IsAtomOf all) (type_or_itself T n) →
+  option_has : (a av : Assignment) (span : Span) (all : List Param) (gs : List Given) (g : Given) (o : Option TypeExpr) (T : Option Ty)
+      (names : List Entry) (n : ℕ) → AllFit a gs → HasWidth g.width a (width_at g.width a) × IsPolynomial g.width →
+      ((m : ℕ) → IsAtomOf all m → behind (replaced_by all gs) a m ≡ av m) → param_written tests o names ≡ Ok T →
+      Over (IsAtomOf all) (type_or_itself T n) →
       GoodNames (types_in base) names → fits_written tests span (replaced_by all gs) T g ≡ Ok tt → HasOption tests right ds base subs loose funcs w av T (int (width_at g.width a))
   option_has a av span all gs g o None names n fit own same h over good f = tt
   option_has a av span all gs g o (Some T) names n fit own same h over good f =
-      fits_in tests right ds base subs loose funcs w a av span g.span all gs (integer_of (only_width g.width)) T (int (width_at g.width a)) fit same over (integer_formed tests right (types_in base) (well_declared base w) (only_width g.width) (only_ends g.width own.1)) (written_good o names T good h) f
+      fits_in tests right ds base subs loose funcs w a av span g.span all gs (integer_of (only_width g.width)) T (int (width_at g.width a))
+      fit same over (integer_formed tests right (types_in base) (well_declared base w) (only_width g.width) (only_ends g.width own.1))
+      (written_good o names T good h) f
       (length_gives (types_in base) a tests right g.width (width_at g.width a) own.1 own.0) tt
 
-  params_by : (a av : Assignment) (span : Span) (all : List Param) (given : List Given) → AllFit a given → ((m : ℕ) → IsAtomOf all m → behind (replaced_by all given) a m ≡ av m) → (ps : List WrittenParam) (qs : List Param) (gs : List Given) (names : List Entry) (xs : List Value) → Along tests ps names qs → ((m : ℕ) → IsAtomOf qs m → IsAtomOf all m) →
+  params_by : (a av : Assignment) (span : Span) (all : List Param) (given : List Given) → AllFit a given →
+      ((m : ℕ) → IsAtomOf all m → behind (replaced_by all given) a m ≡ av m) →
+      (ps : List WrittenParam) (qs : List Param) (gs : List Given) (names : List Entry) (xs : List Value) → Along tests ps names qs →
+      ((m : ℕ) → IsAtomOf qs m → IsAtomOf all m) →
       NamesOver (IsAtomOf all) names → GoodNames (types_in base) names → Paired qs gs → AllWide a (polys gs) xs → params_fit tests span (replaced_by all given) qs gs ≡ Ok tt → HasParams tests right ds base subs loose funcs w av ps names xs
   params_by a av span all given fit same [] [] [] names [] l i over good c k f = tt
   params_by a av span all given fit same [] [] [] names (x ∷ xs) l i over good c k f = absurd k
@@ -136,20 +148,28 @@ module _ (tests : Tests) (right : IsRight tests) (ds : List Decl) (base : List E
       let u = then_ok (fits_written tests span (replaced_by all given) q.ty g) (params_fit tests span (replaced_by all given) qs gs) tt f in
       let T = type_or_itself q.ty n in
       let o = param_over tests A p.ty names q.ty n over at l.0 in
-      let here = subst (HasOption tests right ds base subs loose funcs w av q.ty) (sym k.0.0) (option_has a av span all given g p.ty q.ty names n fit (k.0.1, k.0.2) same l.0 o good u.first) in
+      let here =
+      subst (HasOption tests right ds base subs loose funcs w av q.ty) (sym k.0.0)
+      (option_has a av span all given g p.ty q.ty names n fit (k.0.1, k.0.2) same l.0 o good u.first) in
       let next = params_by a av span all given fit same ps qs gs (names ++ param_entry p.name.text q.ty n ∷ []) xs l.2 (λ m j. i m (inr j))
       (added_over A names (param_entry p.name.text q.ty n) over o (counted_in A p.name.text T (Some (atom_at n)) (λ c h. itself_in A n c at h)))
-      (named_good (types_in base) names p.name.text T (Some (atom_at n)) good (itself_good p.ty names q.ty n good l.0) (atom_is_polynomial n)) c k.1 u.then in
+      (named_good (types_in base) names p.name.text T (Some (atom_at n)) good (itself_good p.ty names q.ty n good l.0)
+      (atom_is_polynomial n)) c k.1 u.then in
       ((width_at g.width a, k.0.0), λ S h. subst (λ V. HasOption tests right ds base subs loose funcs w av V x × HasParams tests right ds base subs loose funcs w av ps (names ++ param_entry p.name.text V n ∷ []) xs) (ok_ok q.ty S (sym l.0 ∙ h)) (here, next))
 
   -- the atoms of the parameters stand in the frame for what replaces them at the caller
-  pub given_at : (a : Assignment) (ps : List WrittenParam) (r : List Param × List Entry) (gs : List Given) (xs ys : List Value) → next_atom base ≡ 0 → params_rule tests ps [] base ≡ Ok r → Paired r.0 gs → AllWide a (polys gs) xs → (n : ℕ) → IsAtomOf r.0 n → behind (replaced_by r.0 gs) a n ≡ integers_of (xs ++ ys) n
+  pub given_at : (a : Assignment) (ps : List WrittenParam) (r : List Param × List Entry) (gs : List Given) (xs ys : List Value) →
+      next_atom base ≡ 0 → params_rule tests ps [] base ≡ Ok r → Paired r.0 gs → AllWide a (polys gs) xs → (n : ℕ) → IsAtomOf r.0 n →
+      behind (replaced_by r.0 gs) a n ≡ integers_of (xs ++ ys) n
   given_at a ps r gs xs ys zero h c k =
       let av = integers_of (xs ++ ys) in
       same_at a av 0 r.0 gs xs ys (params_atoms tests ps base r zero h) c k (follows av 0 (xs ++ ys) (λ n. ap av (nothing_more n)))
 
   -- what is given to parameters is of the types that are written there
-  pub params_have : (a av : Assignment) (span : Span) (ps : List WrittenParam) (r : List Param × List Entry) (gs : List Given) (xs : List Value) → names_of_program tests ds ≡ base → params_rule tests ps [] base ≡ Ok r → ((n : ℕ) → IsAtomOf r.0 n → behind (replaced_by r.0 gs) a n ≡ av n) → Paired r.0 gs → AllWide a (polys gs) xs →
+  pub params_have : (a av : Assignment) (span : Span) (ps : List WrittenParam) (r : List Param × List Entry) (gs : List Given)
+      (xs : List Value) → names_of_program tests ds ≡ base → params_rule tests ps [] base ≡ Ok r →
+      ((n : ℕ) → IsAtomOf r.0 n → behind (replaced_by r.0 gs) a n ≡ av n) → Paired r.0 gs → AllWide a (polys gs) xs →
       params_fit tests span (replaced_by r.0 gs) r.0 gs ≡ Ok tt → HasParams tests right ds base subs loose funcs w av ps base xs
   params_have a av span ps r gs xs is h same c k f =
-      params_by a av span r.0 gs (all_fit a gs xs k) same ps r.0 gs base xs (along_all tests ps base r h) (λ m i. i) (subst (NamesOver (IsAtomOf r.0)) is (program_over tests (IsAtomOf r.0) ds)) w.good c k f
+      params_by a av span r.0 gs (all_fit a gs xs k) same ps r.0 gs base xs (along_all tests ps base r h) (λ m i. i)
+      (subst (NamesOver (IsAtomOf r.0)) is (program_over tests (IsAtomOf r.0) ds)) w.good c k f

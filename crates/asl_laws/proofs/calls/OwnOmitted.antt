@@ -65,7 +65,8 @@ module _ (tests : Tests) (right : IsRight tests) (d : List ℕ → Option Ty) (a
     pub tree_is : option_and_then width_of_bits (slice_get all r.place) ≡ Some (int (width_at r.given.width a))
     pub wide : IsWidth a r.given.width (int (width_at r.given.width a))
 
-  bits_width : (n : ℕ) (T S : Ty) (x : Value) → rules.is_width_alone n T ≡ true → kind_eq (kind T) (kind S) ≡ true → Shaped d S → InType d a x S →
+  bits_width : (n : ℕ) (T S : Ty) (x : Value) → rules.is_width_alone n T ≡ true → kind_eq (kind T) (kind S) ≡ true → Shaped d S →
+      InType d a x S →
       (width_of_bits x ≡ Some (int (width_at (width_of S) a))) × IsWidth a (width_of S) (int (width_at (width_of S) a))
   bits_width n T S x h k s i =
       let e : kind S ≡ bitvectors = sym (equal_kinds (kind T) (kind S) k) ∙ alone_bits n T h in
@@ -74,7 +75,9 @@ module _ (tests : Tests) (right : IsRight tests) (d : List ℕ → Option Ty) (a
       let m = within_width d S s in
       (ap width_of_bits z.2 ∙ ap (λ w. Some (int w)) (sym l), (refl, subst (HasWidth (width_of S) a) (sym l) (is_width_at a (width_of S) (length z.0) m l), m))
 
-  given_one : (b : Bool) (n k : ℕ) (g : Formal) (gs : List Formal) (T : Ty) (o : Operand) (x : Value) (xs all : List Value) (rest : Option Giving) (r : Giving) → runs.is_width_alone p n (out-TypeExpr g.ty) ≡ b → rules.is_width_alone n T ≡ b → kind_eq (kind T) (kind o.typed.ty) ≡ true → Shaped d o.typed.ty → InType d a x o.typed.ty → slice_get all k ≡ Some x →
+  given_one : (b : Bool) (n k : ℕ) (g : Formal) (gs : List Formal) (T : Ty) (o : Operand) (x : Value) (xs all : List Value)
+      (rest : Option Giving) (r : Giving) → runs.is_width_alone p n (out-TypeExpr g.ty) ≡ b → rules.is_width_alone n T ≡ b →
+      kind_eq (kind T) (kind o.typed.ty) ≡ true → Shaped d o.typed.ty → InType d a x o.typed.ty → slice_get all k ≡ Some x →
       cond b (Some (record { place = k; given = given (width_of o.typed.ty) o.span })) rest ≡ Some r → (rest ≡ Some r → GivenSo n gs xs all r) → GivenSo n (g ∷ gs) (x ∷ xs) all r
   given_one true n k g gs T o x xs all rest r e f h s i q z next =
       let w = bits_width n T o.typed.ty x f h s i in
@@ -90,9 +93,12 @@ module _ (tests : Tests) (right : IsRight tests) (d : List ℕ → Option Ty) (a
   suc_on : (m k : ℕ) → suc m + k ≡ m + suc k
   suc_on m k = omega arith
 
-  pub given_same : (n k : ℕ) (gs : List Formal) (Ts : Parts) (os : List Operand) (xs all : List Value) (r : Giving) → formals_rule tests gs over ≡ Ok Ts → kinds_eq (kinds Ts) (kinds (types_of os)) ≡ true → AllIn d a (types_of os) xs → ShapedParts d (types_of os) → ((m : ℕ) → slice_get xs m ≡ slice_get all (m + k)) →
+  pub given_same : (n k : ℕ) (gs : List Formal) (Ts : Parts) (os : List Operand) (xs all : List Value) (r : Giving) →
+      formals_rule tests gs over ≡ Ok Ts → kinds_eq (kinds Ts) (kinds (types_of os)) ≡ true → AllIn d a (types_of os) xs →
+      ShapedParts d (types_of os) → ((m : ℕ) → slice_get xs m ≡ slice_get all (m + k)) →
       rules.given_by_argument n k Ts os ≡ Some r → GivenSo n gs xs all r
-  given_same n k [] Ts os xs all r h q i c at z = none_some r (subst (λ Us. rules.given_by_argument n k Us os ≡ Some r) (sym (ok_ok no_part Ts h)) z)
+  given_same n k [] Ts os xs all r h q i c at z =
+      none_some r (subst (λ Us. rules.given_by_argument n k Us os ≡ Some r) (sym (ok_ok no_part Ts h)) z)
   given_same n k (g ∷ gs) Ts [] xs all r h q i c at z =
       let W = bind_ok (written tests g.ty false (in_names over)) _ Ts h in
       let R = bind_ok (formals_rule tests gs over) _ Ts W.then in
@@ -103,7 +109,9 @@ module _ (tests : Tests) (right : IsRight tests) (d : List ℕ → Option Ty) (a
       let R = bind_ok (formals_rule tests gs over) _ Ts W.then in
       let e = ok_ok (part W.value.ty R.value) Ts R.then in
       let q2 = both (kind_eq (kind W.value.ty) (kind o.typed.ty)) (kinds_eq (kinds R.value) (kinds (types_of os))) (subst (λ Us. kinds_eq (kinds Us) (kinds (types_of (o ∷ os))) ≡ true) (sym e) q) in
-      given_one (rules.is_width_alone n W.value.ty) n k g gs W.value.ty o x xs all (rules.given_by_argument n (suc k) R.value os) r (alone_same tests p (in_names over) widths fixed n g.ty W.value W.first) refl q2.0 c.1 i.0 (ap (slice_get all) (zero_on k) ∙ sym (at 0))
+      given_one (rules.is_width_alone n W.value.ty) n k g gs W.value.ty o x xs all (rules.given_by_argument n (suc k) R.value os) r
+      (alone_same tests p (in_names over) widths fixed n g.ty W.value W.first) refl q2.0 c.1 i.0
+      (ap (slice_get all) (zero_on k) ∙ sym (at 0))
       (subst (λ Us. rules.given_by_argument n k Us (o ∷ os) ≡ Some r) (sym e) z)
       (λ y. given_same n (suc k) gs R.value os xs all r R.first q2.1 i.1 c.2 (λ m. at (suc m) ∙ ap (slice_get all) (suc_on m k)) y)
 
@@ -119,7 +127,9 @@ module _ (tests : Tests) (right : IsRight tests) (d : List ℕ → Option Ty) (a
   start_on : (m : ℕ) → m ≡ m + 0
   start_on m = omega arith
 
-  pub omitted_same : (span : Span) (n : ℕ) (vs : List WrittenParam) (qs : List Param) (gs : List Formal) (Ts : Parts) (os : List Operand) (xs : List Value) (r : Replacing) → AsMany vs qs → AtomsFrom n qs → formals_rule tests gs over ≡ Ok Ts → kinds_eq (kinds Ts) (kinds (types_of os)) ≡ true → AllIn d a (types_of os) xs → ShapedParts d (types_of os) →
+  pub omitted_same : (span : Span) (n : ℕ) (vs : List WrittenParam) (qs : List Param) (gs : List Formal) (Ts : Parts) (os : List Operand)
+      (xs : List Value) (r : Replacing) → AsMany vs qs → AtomsFrom n qs → formals_rule tests gs over ≡ Ok Ts →
+      kinds_eq (kinds Ts) (kinds (types_of os)) ≡ true → AllIn d a (types_of os) xs → ShapedParts d (types_of os) →
       rules.widths_omitted span qs Ts os ≡ Ok r → OmittedSo span n vs qs gs xs r
   omitted_same span n [] [] gs Ts os xs r m t h k i c e =
       subst (λ (z : Replacing). OmittedSo span n [] [] gs xs z) (ok_ok (rules.replacing [] [] []) r e) (record { values = []; run_is = refl; tree_is = refl; wide = tt; paired = tt })
@@ -129,7 +139,9 @@ module _ (tests : Tests) (right : IsRight tests) (d : List ℕ → Option Ty) (a
       let u = bind_ok (found_or (rules.given_by_argument q.atom 0 Ts os) T11 span) _ r e in
       let s = bind_ok (rules.widths_omitted span qs Ts os) _ r u.then in
       let f = found_ok (rules.given_by_argument q.atom 0 Ts os) T11 span u.value u.first in
-      let g = given_same n 0 gs Ts os xs xs u.value h k i c (λ j. ap (slice_get xs) (start_on j)) (subst (λ l. rules.given_by_argument l 0 Ts os ≡ Some u.value) t.0 f) in
+      let g =
+      given_same n 0 gs Ts os xs xs u.value h k i c (λ j. ap (slice_get xs) (start_on j))
+      (subst (λ l. rules.given_by_argument l 0 Ts os ≡ Some u.value) t.0 f) in
       let o = omitted_same span (n + 2) vs qs gs Ts os xs s.value m t.1 h k i c s.first in
       let y = int (width_at u.value.given.width a) in
       subst (λ (z : Replacing). OmittedSo span n (v ∷ vs) (q ∷ qs) gs xs z) (ok_ok (rules.argument_first u.value.given u.value.place s.value) r s.then)

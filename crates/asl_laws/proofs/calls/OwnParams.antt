@@ -117,7 +117,8 @@ module _ (tests : Tests) (right : IsRight tests) (ds : List Decl) (base : List E
       let n = next_atom names in
       let T = type_or_itself None n in
       let held = atom_is_polynomial n in
-      let belongs : InType (types_in base) av (int z) T = (length_gives (types_in base) av tests right (atom_map n) z held (atom_width av n z e), tt, refl) in
+      let belongs : InType (types_in base) av (int z) T =
+      (length_gives (types_in base) av tests right (atom_map n) z held (atom_width av n z e), tt, refl) in
       record {
         state = declared name (int z) (of_value (int z)) false c;
         is = refl;
@@ -132,7 +133,8 @@ module _ (tests : Tests) (right : IsRight tests) (ds : List Decl) (base : List E
   typed_next span name names av c T z a f wf h e =
       let n = next_atom names in
       subst (λ y. Next tests right ds base subs loose funcs w names av c name T (Some (atom_at n)) y (declare span name false (Some (of_type (type_with T av))) (int z) c)) (seen_is av T (int z) ∙ viewed_int (type_with T av) z)
-      (declare_next tests right ds base subs loose funcs w span name names av c T (Some (atom_at n)) (int z) a f wf h tt (atom_counts av n (viewed (type_with T av) (int z)) z (viewed_int (type_with T av) z) e))
+      (declare_next tests right ds base subs loose funcs w span name names av c T (Some (atom_at n)) (int z) a f wf h tt
+      (atom_counts av n (viewed (type_with T av) (int z)) z (viewed_int (type_with T av) z) e))
 
   param_next : (span : Span) (name : List ℕ) (names : List Entry) (av : Assignment) (c : Core) (ty : Option TypeExpr) (T : Option Ty) (z : ℤ) → Agrees base names av c → CountedFixed names → is_free name names ≡ true → param_written tests ty names ≡ Ok T → HasOption av T (int z) → av (next_atom names) ≡ z →
       Next tests right ds base subs loose funcs w names av c name (type_or_itself T (next_atom names)) (Some (atom_at (next_atom names))) (int z) (declare span name false (param_under (env tests right ds base subs loose funcs w) c ty (int z)) (int z) c)

@@ -112,7 +112,8 @@ range_fine t (inl h) = let s = width_steady t h in record { is = ap are_ends (en
 range_fine t (inr r) =
     let l = width_steady r.low r.low_is in
     let h = width_steady r.high r.high_is in
-    let e : ends_of t ≡ r.low ∷ r.high ∷ [] = ap ends_of r.is ∙ (ends_at r.low r.high l.dot ∙ ap (λ z. r.low ∷ z) (ends_none r.high h.dot)) in
+    let e : ends_of t ≡ r.low ∷ r.high ∷ [] =
+    ap ends_of r.is ∙ (ends_at r.low r.high l.dot ∙ ap (λ z. r.low ∷ z) (ends_none r.high h.dot)) in
     record {
       is = ap are_ends e ∙ and_all (is_width r.low) (is_width r.high) (not (bytes_eq r.low r.high)) r.low_is r.high_is
           (differ_so r.low r.high r.differ);

@@ -1,4 +1,5 @@
--- Widths as they stand in longer texts: they have no space and no point, stay in one part, and the bracket behind them is the first that closes.
+-- Widths as they stand in longer texts: they have no space and no point, stay in one part, and the bracket behind them is the first that
+-- closes.
 use Rattle.std.proofs.Common.{◌≡◌, ℕ, suc, ◌-◌, ◌==◌, true, false, ◌&&◌, ◌||◌, not, [], ◌∷◌, ◌++◌, length, take, drop, refl, sym, ap, ◌∙◌, subst, append_assoc}
 use Rattle.std.specs.Prelude.{if◌then◌else◌, codes}
 use Rattle.std.specs.Str.{bytes_eq}
@@ -72,7 +73,8 @@ close_past n (b ∷ w) rest h =
     let c = both (not (is_opening b)) (not (is_closing b)) a.1 in
     ap (λ x. if x && (n == 0) then [] else b ∷ before_close (level n b) (w ++ rest)) (quiet_isnt 41 refl b h.0) ∙
     (ap (λ x. b ∷ before_close (if x then suc n else (if is_closing b then n - 1 else n)) (w ++ rest)) (not_false (is_opening b) c.0) ∙
-    (ap (λ x. b ∷ before_close (if x then n - 1 else n) (w ++ rest)) (not_false (is_closing b) c.1) ∙ ap (λ z. b ∷ z) (close_past n w rest h.1)))
+    (ap (λ x. b ∷ before_close (if x then n - 1 else n) (w ++ rest)) (not_false (is_closing b) c.1) ∙ ap (λ z. b ∷ z)
+    (close_past n w rest h.1)))
 
 quiet_steady : (t : Text) → Quiet t → Steady t
 unfolding quiet
@@ -102,7 +104,8 @@ bracketed w n q m = record {
 quotient_steady : (t : Text) → Quotient t → Steady t
 quotient_steady t r =
     subst Steady (sym r.is) (bracketed r.terms r.denominator (sum_quiet r.terms r.terms_are)
-    (number_quiet r.denominator (both (is_number r.denominator) (not (bytes_eq r.denominator (codes "0") || bytes_eq r.denominator (codes "1"))) r.denominator_is).0))
+    (number_quiet r.denominator (both (is_number r.denominator)
+    (not (bytes_eq r.denominator (codes "0") || bytes_eq r.denominator (codes "1"))) r.denominator_is).0))
 
 nothing_quiet : Quiet (codes "0")
 unfolding All quiet
@@ -110,5 +113,6 @@ nothing_quiet = (refl, tt)
 
 pub width_steady : (t : Text) → is_width t ≡ true → Steady t
 width_steady t h =
-    either_is (bytes_eq t (codes "0")) _ h (λ k. subst Steady (sym ((bytes_eq-Decides t (codes "0")).0 k)) (quiet_steady (codes "0") nothing_quiet))
+    either_is (bytes_eq t (codes "0")) _ h (λ k. subst Steady (sym ((bytes_eq-Decides t (codes "0")).0 k))
+    (quiet_steady (codes "0") nothing_quiet))
     (λ k. either_is (is_sum t) _ k (λ s. quiet_steady t (sum_quiet t s)) (λ q. quotient_steady t (quotient_parts t q)))

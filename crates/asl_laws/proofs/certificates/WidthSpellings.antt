@@ -144,7 +144,8 @@ quotient_spelled t r = record {
   denominator = r.denominator;
   is = r.is;
   terms_are = sum_spelled r.terms r.terms_are;
-  denominator_is = (both (is_number r.denominator) (not (bytes_eq r.denominator (codes "0") || bytes_eq r.denominator (codes "1"))) r.denominator_is).0;
+  denominator_is =
+      (both (is_number r.denominator) (not (bytes_eq r.denominator (codes "0") || bytes_eq r.denominator (codes "1"))) r.denominator_is).0;
   above_1 = denominator_above r.denominator r.denominator_is;
 }
 
@@ -325,7 +326,8 @@ denominator_so : (n : Text) → is_number n ≡ true → (((n ≡ codes "0") ⊎
 denominator_so n i a =
     and_true (is_number n) (not (bytes_eq n (codes "0") || bytes_eq n (codes "1"))) i
     (is_not (bytes_eq n (codes "0") || bytes_eq n (codes "1"))
-    (neither (bytes_eq n (codes "0")) (bytes_eq n (codes "1")) (other (codes "0") n (λ e. a (inl e))) (other (codes "1") n (λ e. a (inr e)))))
+    (neither (bytes_eq n (codes "0")) (bytes_eq n (codes "1")) (other (codes "0") n (λ e. a (inl e)))
+    (other (codes "1") n (λ e. a (inr e)))))
 
 quotient_so : (t : Text) → QuotientSpelled t → (begins (codes "(") t && is_quotient (drop 1 t)) ≡ true
 quotient_so t q =
@@ -341,7 +343,8 @@ quotient_so t q =
     and_true (begins (codes "(") (codes "(" ++ d)) (is_quotient d) (begins_so (codes "(") d)
     (ap (λ v. is_sum v && (begins (v ++ codes ")/") d && is_denominator (drop (length (v ++ codes ")/")) d))) c ∙
     and_true (is_sum w) _ s
-    (and_true (begins (w ++ codes ")/") d) (is_denominator (drop (length (w ++ codes ")/")) d)) b (ap is_denominator r ∙ denominator_so n q.denominator_is q.above_1)))
+    (and_true (begins (w ++ codes ")/") d) (is_denominator (drop (length (w ++ codes ")/")) d)) b
+    (ap is_denominator r ∙ denominator_so n q.denominator_is q.above_1)))
 
 width_so : (t : Text) → WidthSpelled t → IsWidth t
 width_so t (inl e) = or_first (bytes_eq t (codes "0")) _ ((bytes_eq-Decides t (codes "0")).1 e)

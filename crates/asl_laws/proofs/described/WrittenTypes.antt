@@ -68,7 +68,8 @@ fixed_by false i y h = ap (option_and_then integer_of_value) h
 abbrev IsFixed : Option ℤ → Polynomial → Type 0
 IsFixed o p = (o ≡ Some (width_at p no_atoms)) × HasWidth p no_atoms (width_at p no_atoms)
 
-known_width : (span : Span) (s : Storage) (p : Polynomial) (v : Option Value) → known_value s ≡ v → width_of_known span v ≡ Ok p → IsFixed (fixed_storage s) p
+known_width : (span : Span) (s : Storage) (p : Polynomial) (v : Option Value) → known_value s ≡ v → width_of_known span v ≡ Ok p →
+    IsFixed (fixed_storage s) p
 known_width span s p (Some (int y)) e h =
     let w = number_width no_atoms span y p h in
     let is : width_at p no_atoms ≡ y = width_at_is no_atoms p y (number_held span y p h) w in
@@ -100,7 +101,8 @@ module _ (t : Tests) (ds : List Decl) (g : Outside t ds) where
   abbrev env : Environment
   env = environment t ds
 
-  width_of_name : (span : Span) (name : List ℕ) (p : Polynomial) (o : Option Standing) → standing_of name names ≡ o → width_of_standing span o ≡ Ok p → IsFixed (known_numbers env name) p
+  width_of_name : (span : Span) (name : List ℕ) (p : Polynomial) (o : Option Standing) → standing_of name names ≡ o →
+      width_of_standing span o ≡ Ok p → IsFixed (known_numbers env name) p
   width_of_name span name p (Some (Stored s)) e h =
       let u = then_ok (need (is_integer s.ty) T05 span) (width_of_counted span s.counted (known_value s)) p h in
       let k : s.counted ≡ None = formed t ds g.brings name (Stored s) e in
@@ -164,16 +166,20 @@ module _ (t : Tests) (ds : List Decl) (g : Outside t ds) where
       let n = none_of_whole r z h w in
       ap (λ m. if m == 0 then Some (int (floor r)) else None) n.1 ∙ ap (λ y. Some (int y)) n.0
 
-  one_more : (r : Fraction) (rs : List Fraction) (z : ℤ) (xs : List Value) → whole_value r ≡ Some (int z) → whole_values rs ≡ Some xs → whole_values (r ∷ rs) ≡ Some (int z ∷ xs)
+  one_more : (r : Fraction) (rs : List Fraction) (z : ℤ) (xs : List Value) → whole_value r ≡ Some (int z) → whole_values rs ≡ Some xs →
+      whole_values (r ∷ rs) ≡ Some (int z ∷ xs)
   one_more r rs z xs e f = ap (option_and_then (λ x. option_map (λ ys. x ∷ ys) (whole_values rs))) e ∙ ap (option_map (λ ys. int z ∷ ys)) f
 
-  valued : (es : List Expr) (ts : List Tree) (qs : List Asked) (rs : List Fraction) → AllAsked t g.right names [] true (in_names names) es ts qs → AllRatios no_atoms qs rs → Valued qs rs
+  valued : (es : List Expr) (ts : List Tree) (qs : List Asked) (rs : List Fraction) →
+      AllAsked t g.right names [] true (in_names names) es ts qs → AllRatios no_atoms qs rs → Valued qs rs
   unfolding at_names
   valued [] [] [] [] h i = record { values = []; are = refl; give = tt }
   valued (e ∷ es) (u ∷ ts) (of_width W ∷ qs) (r ∷ rs) h i =
       let x = outside_whole t e (in_names names) W none_counted h.0 in
       let rest = valued es ts qs rs h.2 i.1 in
-      let w : IsWhole x.number r = same_trans r (fraction_at no_atoms W.poly) (whole x.number) i.0.0.lowest.positive i.0.2 (width_whole no_atoms W.poly x.number x.is) in
+      let w : IsWhole x.number r =
+      same_trans r (fraction_at no_atoms W.poly) (whole x.number) i.0.0.lowest.positive i.0.2
+      (width_whole no_atoms W.poly x.number x.is) in
       record { values = int x.number ∷ rest.values; are = one_more r rs x.number rest.values (one_value r x.number i.0.1 w) rest.are; give = (width_value no_atoms W.poly x.number x.held x.is, rest.give) }
   valued (e ∷ es) (u ∷ ts) (of_number N ∷ qs) (r ∷ rs) h i =
       let rest = valued es ts qs rs h.2 i.1 in
@@ -193,15 +199,23 @@ module _ (t : Tests) (ds : List Decl) (g : Outside t ds) where
   pub begun : (ty : TypeExpr) (outside : Bool) (W : Written) → written t ty outside (in_names names) ≡ Ok W → Begun ty (closed W.ty)
   unfolding at_names
   begun ty outside W h =
-      let q = type_says t g.right names [] true at_names (λ name T o. type_fixed (types_in names) names name g.named.good T o) (λ name. refl) ty outside W h in
-      let v = numbered t g.right names [] true at_names (known_numbers env) numbers_agree (λ name s c e k. some_none c (sym k ∙ none_counted name s (stored_of (standing_of name names) s e))) (type_parts ty).exprs W.sizes q.asked q.asks q.numeric in
+      let q =
+      type_says t g.right names [] true at_names (λ name T o. type_fixed (types_in names) names name g.named.good T o)
+      (λ name. refl) ty outside W h in
+      let v =
+      numbered t g.right names [] true at_names (known_numbers env) numbers_agree
+      (λ name s c e k. some_none c (sym k ∙ none_counted name s (stored_of (standing_of name names) s e)))
+      (type_parts ty).exprs W.sizes q.asked q.asks q.numeric in
       let x = valued (type_parts ty).exprs W.sizes q.asked v.values q.asks v.ratios in
       let k = q.fills (type_span ty) x.values [] x.give in
       let is : sized t.limit (type_span ty) x.values (shape_of (types_of env) ty) ≡ Some k.one =
-      ap (sized t.limit (type_span ty) x.values) q.shape_is ∙ ap (λ l. filled t.limit (type_span ty) W.shape l) (sym (append_nil x.values)) ∙ k.is in
+      ap (sized t.limit (type_span ty) x.values) q.shape_is ∙ ap (λ l. filled t.limit (type_span ty) W.shape l) (sym (append_nil x.values))
+      ∙ k.is in
       record {
         sized = k.one;
-        is = ap (λ o. option_and_then (sized_at env ty) (option_and_then whole_values o)) v.are ∙ ap (option_and_then (sized_at env ty)) x.are ∙ is;
+        is =
+            ap (λ o. option_and_then (sized_at env ty) (option_and_then whole_values o)) v.are ∙ ap (option_and_then (sized_at env ty))
+            x.are ∙ is;
         type_is = k.type_is;
         begins = filled_by ty x.values k.one (shape_of (types_of env) ty) is;
       }

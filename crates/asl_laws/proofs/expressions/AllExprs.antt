@@ -49,16 +49,19 @@ module _ (tests : Tests) (right : IsRight tests) (ds : List Decl) (base : List E
       typed_formed tests right (types_in base) (well_declared base w) e H.scope T (scope_good H.present base H.scope.names c w a.agrees) (subst (FormedSubs tests right (types_in base) (well_declared base w)) (sym a.subs_are) s) h
 
   -- the types of operands are well formed
-  all_good : (H : Here) (c : Core) → At tests base subs loose H c → (es : List Expr) (os : List Operand) → operands (map (found tests) es) H.scope ≡ Ok os → ShapedParts (types_in base) (types_of os)
+  all_good : (H : Here) (c : Core) → At tests base subs loose H c → (es : List Expr) (os : List Operand) →
+      operands (map (found tests) es) H.scope ≡ Ok os → ShapedParts (types_in base) (types_of os)
   all_good H c a [] os h = subst (λ l. ShapedParts (types_in base) (types_of l)) (ok_ok [] os h) tt
   all_good H c a (e ∷ es) os h =
       let u = bind_ok (typed tests e H.scope) _ os h in
       let v = bind_ok (operands (map (found tests) es) H.scope) _ os u.then in
       let f = good H c a e u.value u.first in
-      subst (λ l. ShapedParts (types_in base) (types_of l)) (ok_ok (operand (found tests e).span u.value ∷ v.value) os v.then) (f.has_name, f.shaped, all_good H c a es v.value v.first)
+      subst (λ l. ShapedParts (types_in base) (types_of l)) (ok_ok (operand (found tests e).span u.value ∷ v.value) os v.then)
+      (f.has_name, f.shaped, all_good H c a es v.value v.first)
 
   call_by : Others → (H : Here) (S : Typed) (e : Expr) (span : Span) (i : Ident) (ps es : List Expr) (os : List Operand) (r : Option Routine) (c : Core) → typed tests e H.scope ≡ Ok S → routine_named i.text ≡ r → is_subprogram (standing_of i.text H.scope.names) ≡ true → operands (map (found tests) es) H.scope ≡ Ok os → function_of tests span i (map (found tests) ps) os H.scope r ≡ Ok S → At tests base subs loose H c → Formed tests right ds base subs loose funcs w H S (ex.Call span i ps es) c
-  call_by o H S e span i ps es os (Some r) c t q p g h a = library_formed tests right ds base subs loose funcs w H S span i ps es os r c (all_good H c a es os g) q g h a
+  call_by o H S e span i ps es os (Some r) c t q p g h a =
+      library_formed tests right ds base subs loose funcs w H S span i ps es os r c (all_good H c a es os g) q g h a
   call_by o H S e span i ps es os None c t q p g h a = o.own H S e span i ps es os c t q p g h a
 
   call_formed : Others → (H : Here) (S : Typed) (e : Expr) (span : Span) (i : Ident) (ps es : List Expr) (c : Core) → typed tests e H.scope ≡ Ok S → function_rule tests span i (map (found tests) ps) (map (found tests) es) H.scope ≡ Ok S → At tests base subs loose H c → Formed tests right ds base subs loose funcs w H S (ex.Call span i ps es) c
@@ -83,7 +86,8 @@ module _ (tests : Tests) (right : IsRight tests) (ds : List Decl) (base : List E
   layer_formed o H S x (ex.Bits span t) c k h a = bits_formed tests right ds base subs loose funcs w H S span t c h a
   layer_formed o H S x (ex.Bool span b) c k h a = bool_formed tests right ds base subs loose funcs w H S span b c h a
   layer_formed o H S x (ex.Name span name) c k h a = name_formed tests right ds base subs loose funcs w H S span name c h a
-  layer_formed o H S x (ex.Unary span u e) c k h a = operation_formed tests right ds base subs loose funcs w H S span u e c (good H c a e) h a
+  layer_formed o H S x (ex.Unary span u e) c k h a =
+      operation_formed tests right ds base subs loose funcs w H S span u e c (good H c a e) h a
   layer_formed o H S x (ex.Binary span b e f) c k h a = two_formed tests right ds base subs loose funcs w H S span b e f c (good H c a) h a
   layer_formed o H S x (ex.Conditional span e f g) c k h a = conditional_formed tests right ds base subs loose funcs w H S span e f g c (good H c a) h a
   layer_formed o H S x (ex.Tuple span es) c k h a = tuple_formed tests right ds base subs loose funcs w H S span es c h a
@@ -116,4 +120,5 @@ module _ (tests : Tests) (right : IsRight tests) (ds : List Decl) (base : List E
   asked_formed o H (of_width W) e c h a = let f = width_formed tests right ds base subs loose funcs w H W e c h a in record { at = f.at; does = f.does }
   asked_formed o H (of_number N) e c h a = let f = number_formed tests right ds base subs loose funcs w H N e c h a in record { at = f.at; does = f.does }
   asked_formed o H (of_known S W) e c h a = let f = known_formed tests right ds base subs loose funcs w H S W e c h.0 h.1 a in record { at = f.at; does = f.does }
-  asked_formed o H (of_divisor span k) e c h a = let f = divisor_formed tests right ds base subs loose funcs w H span k e c h.0 h.1 a in record { at = f.at; does = f.does }
+  asked_formed o H (of_divisor span k) e c h a =
+      let f = divisor_formed tests right ds base subs loose funcs w H span k e c h.0 h.1 a in record { at = f.at; does = f.does }

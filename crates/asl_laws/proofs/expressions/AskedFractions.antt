@@ -46,7 +46,8 @@ module _ (av : Assignment) where
   no_ratio [] rest g = refl
   no_ratio (r ∷ rs) rest g = absurd g
 
-  pub one_ratio : (P : List Fraction → Type 0) (q : Asked) (rs rest : List Fraction) → AllRatios (q ∷ []) rs → ((r : Fraction) → HasRatio q r → P (r ∷ rest)) → P (rs ++ rest)
+  pub one_ratio : (P : List Fraction → Type 0) (q : Asked) (rs rest : List Fraction) → AllRatios (q ∷ []) rs →
+      ((r : Fraction) → HasRatio q r → P (r ∷ rest)) → P (rs ++ rest)
   one_ratio P q [] rest g k = absurd g
   one_ratio P q (r ∷ []) rest g k = k r g.0
   one_ratio P q (r ∷ s ∷ rs) rest g k = absurd g.1
@@ -66,13 +67,15 @@ module _ (av : Assignment) where
 
   -- ---- as ends of ranges, and as widths
 
-  pub width_bounds : (W : Width) (r : Fraction) → HasRatio (of_width W) r → (ceiling r ≡ ceiling (end_at (cons.shown W.poly) av)) × (floor r ≡ floor (end_at (cons.shown W.poly) av))
+  pub width_bounds : (W : Width) (r : Fraction) → HasRatio (of_width W) r →
+      (ceiling r ≡ ceiling (end_at (cons.shown W.poly) av)) × (floor r ≡ floor (end_at (cons.shown W.poly) av))
   width_bounds W r h =
       let e = shown_is W.poly av in
       let s = fraction_at av W.poly in
       (same_ceiling r s h.1 h.0.lowest.positive h.2 ∙ sym (ap ceiling e), same_floor r s h.1 h.0.lowest.positive h.2 ∙ sym (ap floor e))
 
-  pub number_bounds : (N : Number) (r : Fraction) → HasRatio (of_number N) r → (ceiling r ≡ ceiling (whole N.number)) × (floor r ≡ floor (whole N.number))
+  pub number_bounds : (N : Number) (r : Fraction) → HasRatio (of_number N) r →
+      (ceiling r ≡ ceiling (whole N.number)) × (floor r ≡ floor (whole N.number))
   number_bounds N r h = (same_ceiling r (whole N.number) h.0 (omega arith) h.1, same_floor r (whole N.number) h.0 (omega arith) h.1)
 
   pub ratio_width : (W : Width) (r : Fraction) → HasRatio (of_width W) r → width_in r ≡ width_at W.poly av

@@ -85,7 +85,10 @@ module _ (tests : Tests) (right : IsRight tests) (base : List Entry) (subs : Lis
   routine_same U span (Bad (Stuck mistake at)) c g a = absurd g
 
 module _ (tests : Tests) (right : IsRight tests) (ds : List Decl) (base : List Entry) (subs : List Signature) (loose : Bool) (funcs : List TreeFunc) (w : WellNamed base) where
-  pub library_formed : (H : Here) (S : Typed) (span : Span) (i : Ident) (ps es : List Expr) (os : List Operand) (r : Routine) (c : Core) → ShapedParts (types_in base) (types_of os) → routine_named i.text ≡ Some r → operands (map (found tests) es) H.scope ≡ Ok os → function_of tests span i (map (found tests) ps) os H.scope (Some r) ≡ Ok S → At tests base subs loose H c → Formed tests right ds base subs loose funcs w H S (ex.Call span i ps es) c
+  pub library_formed : (H : Here) (S : Typed) (span : Span) (i : Ident) (ps es : List Expr) (os : List Operand) (r : Routine) (c : Core) →
+      ShapedParts (types_in base) (types_of os) → routine_named i.text ≡ Some r → operands (map (found tests) es) H.scope ≡ Ok os →
+      function_of tests span i (map (found tests) ps) os H.scope (Some r) ≡ Ok S → At tests base subs loose H c →
+      Formed tests right ds base subs loose funcs w H S (ex.Call span i ps es) c
   library_formed H S span i ps es os r c shaped name o h a =
       let t = then_ok (routine_taken span r os) _ S h in
       let n = then_ok (need (length (map (found tests) ps) == routine_params r) T11 span) _ S t.then in
@@ -104,4 +107,6 @@ module _ (tests : Tests) (right : IsRight tests) (ds : List Decl) (base : List E
       (called_same tests right base subs loose H (Out tests right base subs loose H U) ps es v.value.trees (trees_in os) q.asked (asked_of tests right base subs loose os) c f g (function_gives span) (function_gives span) q.asks (operands_asked tests right base subs loose H.scope es os o) a
       (λ ys xs c2 y x a2.
       subst (λ z. Same tests right base subs loose H (Out tests right base subs loose H U) (follow (call_named (env tests right ds base subs loose funcs w) span i.text ys xs c2 z) (function_gives span)) (follow (routine_gives (routine_value tests.limit span r ys xs) (erased c2)) (function_gives span))) (sym name)
-      (routine_same tests right base subs loose H U span (routine_value tests.limit span r ys xs) c2 (routine_in (types_in base) H.present tests right span r (polys v.value.given) (types_of os) ys xs (q.wide ys y) many (all_in tests right base subs loose H os xs x) shaped taken) a2)))))
+      (routine_same tests right base subs loose H U span (routine_value tests.limit span r ys xs) c2
+      (routine_in (types_in base) H.present tests right span r (polys v.value.given) (types_of os) ys xs (q.wide ys y) many
+      (all_in tests right base subs loose H os xs x) shaped taken) a2)))))

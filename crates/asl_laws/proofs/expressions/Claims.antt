@@ -49,8 +49,8 @@ pub record Here : Type 0 where
   pub present : Assignment
   pub around : Around
 
--- what an expression is asked for: its type, in the class of the scope or as one that is Pure, what it is as a width or a number, its type where its width is
--- known, or the number above 0 that it is written as, where a width is divided by it
+-- what an expression is asked for: its type, in the class of the scope or as one that is Pure, what it is as a width or a number, its type
+-- where its width is known, or the number above 0 that it is written as, where a width is divided by it
 pub data Asked : Type 0 where
   of_type : Typed → Asked
   of_pure : Typed → Asked

@@ -145,35 +145,52 @@ module _ (tests : Tests) (right : IsRight tests) (ds : List Decl) (base : List E
   abbrev Lies : Here → Value → Ty → Type 0
   Lies H x T = InType (types_in base) H.present x T × Shaped (types_in base) T
 
-  pub operation_formed : (H : Here) (S : Typed) (span : Span) (o : UnaryOperator) (e : Expr) (c : Core) → ((T : Typed) → typed tests e H.scope ≡ Ok T → WellFormed (types_in base) T.ty) → operation_rule span o (found tests e) H.scope ≡ Ok S → At tests base subs loose H c → Formed H S (ex.Unary span o e) c
+  pub operation_formed : (H : Here) (S : Typed) (span : Span) (o : UnaryOperator) (e : Expr) (c : Core) →
+      ((T : Typed) → typed tests e H.scope ≡ Ok T → WellFormed (types_in base) T.ty) →
+      operation_rule span o (found tests e) H.scope ≡ Ok S → At tests base subs loose H c → Formed H S (ex.Unary span o e) c
   operation_formed H S span o e c good h a =
       let t = bind_ok (typed tests e H.scope) _ S h in
       let u = bind_ok (unary_rule span o t.value.ty) _ S t.then in
       let make : Note → Tree = λ n. tree.Unary n o t.value.tree in
       formed H S (ex.Unary span o e) c span u.value t.value.effect make (in_class_is H.scope.class span t.value.effect u.value make S u.then) refl
-      (behind_same tests right base subs loose H u.value e t.value c (unary_value span o) (unary_value span o) t.first a (λ x i. (refl, unary_gives (types_in base) H.present tests right span o t.value.ty u.value x u.first (i, (good t.value t.first).shaped))))
+      (behind_same tests right base subs loose H u.value e t.value c (unary_value span o) (unary_value span o) t.first a
+      (λ x i. (refl, unary_gives (types_in base) H.present tests right span o t.value.ty u.value x u.first (i, (good t.value t.first).shaped))))
 
-  right_same : (H : Here) (span : Span) (o : BinaryOperator) (b : Expr) (x : Value) (S U : Ty) (V : Typed) (c : Core) → OneKind S V.ty → Shaped (types_in base) V.ty → typed tests b H.scope ≡ Ok V → binary_rule tests span o S V.ty ≡ Ok U → Lies H x S → At tests base subs loose H c →
+  right_same : (H : Here) (span : Span) (o : BinaryOperator) (b : Expr) (x : Value) (S U : Ty) (V : Typed) (c : Core) → OneKind S V.ty →
+      Shaped (types_in base) V.ty → typed tests b H.scope ≡ Ok V → binary_rule tests span o S V.ty ≡ Ok U → Lies H x S →
+      At tests base subs loose H c →
       Same tests right base subs loose H (Out tests right base subs loose H U) (ask_right tests.limit span o b x c) (ask_right tests.limit span o V.tree x (erased c))
   right_same H span o b x S U V c k s h r i a =
-      behind_same tests right base subs loose H U b V c (binary_value tests.limit span o x) (binary_value tests.limit span o x) h a (λ y j. (refl, binary_gives (types_in base) H.present tests right span o S V.ty U x y k r i (j, s)))
+      behind_same tests right base subs loose H U b V c (binary_value tests.limit span o x) (binary_value tests.limit span o x) h a
+      (λ y j. (refl, binary_gives (types_in base) H.present tests right span o S V.ty U x y k r i (j, s)))
 
-  decided_same : (H : Here) (span : Span) (o : BinaryOperator) (b : Expr) (x : Value) (S : Ty) (V : Typed) (c : Core) (d : Decided) → OneKind S V.ty → Shaped (types_in base) V.ty → typed tests b H.scope ≡ Ok V → binary_rule tests span o S V.ty ≡ Ok boolean → Lies H x S → At tests base subs loose H c →
+  decided_same : (H : Here) (span : Span) (o : BinaryOperator) (b : Expr) (x : Value) (S : Ty) (V : Typed) (c : Core) (d : Decided) →
+      OneKind S V.ty → Shaped (types_in base) V.ty → typed tests b H.scope ≡ Ok V → binary_rule tests span o S V.ty ≡ Ok boolean →
+      Lies H x S → At tests base subs loose H c →
       Same tests right base subs loose H (Out tests right base subs loose H boolean) (unless_decided tests.limit span o b x c d) (unless_decided tests.limit span o V.tree x (erased c) d)
   decided_same H span o b x S V c (Already r) k s h q i a = (refl, (refl, ((refl, tt, refl), a)))
   decided_same H span o b x S V c ByRight k s h q i a = right_same H span o b x S boolean V c k s h q i a
 
-  lazy_same : (H : Here) (span : Span) (o : BinaryOperator) (b : Expr) (x : Value) (S U : Ty) (V : Typed) (c : Core) (f : Bool → Decided) → OneKind S V.ty → Shaped (types_in base) V.ty → typed tests b H.scope ≡ Ok V → binary_rule tests span o S V.ty ≡ Ok U → (is_boolean S ≡ true) × (boolean ≡ U) → Lies H x S → At tests base subs loose H c →
+  lazy_same : (H : Here) (span : Span) (o : BinaryOperator) (b : Expr) (x : Value) (S U : Ty) (V : Typed) (c : Core) (f : Bool → Decided) →
+      OneKind S V.ty → Shaped (types_in base) V.ty → typed tests b H.scope ≡ Ok V → binary_rule tests span o S V.ty ≡ Ok U →
+      (is_boolean S ≡ true) × (boolean ≡ U) → Lies H x S → At tests base subs loose H c →
       Same tests right base subs loose H (Out tests right base subs loose H U) (behind_left tests.limit span o b x (Lazy f) c) (behind_left tests.limit span o V.tree x (Lazy f) (erased c))
   lazy_same H span o b x S U V c f k s h q e i a =
       subst (λ W. Same tests right base subs loose H (Out tests right base subs loose H W) (behind_left tests.limit span o b x (Lazy f) c) (behind_left tests.limit span o V.tree x (Lazy f) (erased c))) e.1
-      (truth_same tests right base subs loose H (Out tests right base subs loose H boolean) span x S c (λ p. unless_decided tests.limit span o b x c (f p)) (λ p. unless_decided tests.limit span o V.tree x (erased c) (f p)) e.0 i.0 (λ p. decided_same H span o b x S V c (f p) k s h (q ∙ ap Ok (sym e.1)) i a))
+      (truth_same tests right base subs loose H (Out tests right base subs loose H boolean) span x S c
+      (λ p. unless_decided tests.limit span o b x c (f p)) (λ p. unless_decided tests.limit span o V.tree x (erased c) (f p)) e.0 i.0
+      (λ p. decided_same H span o b x S V c (f p) k s h (q ∙ ap Ok (sym e.1)) i a))
 
-  left_same : (H : Here) (span : Span) (o : BinaryOperator) (b : Expr) (x : Value) (S U : Ty) (V : Typed) (c : Core) → OneKind S V.ty → Shaped (types_in base) V.ty → typed tests b H.scope ≡ Ok V → binary_rule tests span o S V.ty ≡ Ok U → Lies H x S → At tests base subs loose H c →
+  left_same : (H : Here) (span : Span) (o : BinaryOperator) (b : Expr) (x : Value) (S U : Ty) (V : Typed) (c : Core) → OneKind S V.ty →
+      Shaped (types_in base) V.ty → typed tests b H.scope ≡ Ok V → binary_rule tests span o S V.ty ≡ Ok U → Lies H x S →
+      At tests base subs loose H c →
       Same tests right base subs loose H (Out tests right base subs loose H U) (behind_left tests.limit span o b x (strictness o) c) (behind_left tests.limit span o V.tree x (strictness o) (erased c))
-  left_same H span binary.LogicalAnd b x S U V c k s h r i a = lazy_same H span binary.LogicalAnd b x S U V c (λ p. decides (not p) false) k s h r (boolean_operands span S V.ty U r) i a
-  left_same H span binary.LogicalOr b x S U V c k s h r i a = lazy_same H span binary.LogicalOr b x S U V c (λ p. decides p true) k s h r (boolean_operands span S V.ty U r) i a
-  left_same H span binary.Implies b x S U V c k s h r i a = lazy_same H span binary.Implies b x S U V c (λ p. decides (not p) true) k s h r (boolean_operands span S V.ty U r) i a
+  left_same H span binary.LogicalAnd b x S U V c k s h r i a =
+      lazy_same H span binary.LogicalAnd b x S U V c (λ p. decides (not p) false) k s h r (boolean_operands span S V.ty U r) i a
+  left_same H span binary.LogicalOr b x S U V c k s h r i a =
+      lazy_same H span binary.LogicalOr b x S U V c (λ p. decides p true) k s h r (boolean_operands span S V.ty U r) i a
+  left_same H span binary.Implies b x S U V c k s h r i a =
+      lazy_same H span binary.Implies b x S U V c (λ p. decides (not p) true) k s h r (boolean_operands span S V.ty U r) i a
   left_same H span o b x S U V c k s h r i a = right_same H span o b x S U V c k s h r i a
 
   pub two_formed : (H : Here) (S : Typed) (span : Span) (o : BinaryOperator) (e b : Expr) (c : Core) → ((e : Expr) (T : Typed) → typed tests e H.scope ≡ Ok T → WellFormed (types_in base) T.ty) → operation_rule_of_two tests span o (found tests e) (found tests b) H.scope ≡ Ok S → At tests base subs loose H c → Formed H S (ex.Binary span o e b) c
@@ -185,7 +202,9 @@ module _ (tests : Tests) (right : IsRight tests) (ds : List Decl) (base : List E
       let make : Note → Tree = λ n. tree.Binary n o t.value.tree v.value.tree in
       formed H S (ex.Binary span o e b) c span u.value k make (finish_is H.scope.class span (together t.value.effect v.value.effect) k u.value make S u.then) refl
       (operand tests right base subs loose H (Out tests right base subs loose H u.value) e t.value c (λ x c1. behind_left tests.limit span o b x (strictness o) c1) (λ x c1. behind_left tests.limit span o v.value.tree x (strictness o) c1) t.first a
-      (λ x c1 i a1. left_same H span o b x t.value.ty u.value v.value c1 (one_kind (types_in base) (well_declared base w) t.value.ty v.value.ty (good e t.value t.first).shaped (good b v.value v.first).shaped) (good b v.value v.first).shaped v.first u.first (i, (good e t.value t.first).shaped) a1))
+      (λ x c1 i a1. left_same H span o b x t.value.ty u.value v.value c1
+      (one_kind (types_in base) (well_declared base w) t.value.ty v.value.ty (good e t.value t.first).shaped
+      (good b v.value v.first).shaped) (good b v.value v.first).shaped v.first u.first (i, (good e t.value t.first).shaped) a1))
 
   -- ---- elements, tuples, conditionals
 

@@ -249,7 +249,10 @@ module _ (tests : Tests) (right : IsRight tests) (base : List Entry) (subs : Lis
 
   mask_width : (ms : List (Option Bool)) (bs : List Bool) (T : Ty) → is_width (length bs) (width_at (width_of T) av) ≡ true → SameWidth (width_of T) (constant_map (pos (length ms))) → (length ms == length bs) ≡ true
   mask_width ms bs T h e =
-      let k : (length bs == length ms) ≡ true = subst (λ z. is_width (length bs) z ≡ true) (same_width_at av (width_of T) (constant_map (pos (length ms))) e.left e.right (e.same av) ∙ constant_at av (pos (length ms))) h in
+      let k : (length bs == length ms) ≡ true =
+      subst (λ z. is_width (length bs) z ≡ true)
+      (same_width_at av (width_of T) (constant_map (pos (length ms))) e.left e.right (e.same av) ∙ constant_at av (pos (length ms)))
+      h in
       subst (λ n. (n == length bs) ≡ true) (same_number (length bs) (length ms) k) (number_is (length bs))
 
   compared_ok : (span : Span) (T S : Ty) → comparable tests T23 span T S ≡ Ok tt → binary_rule tests span binary.Equal T S ≡ Ok boolean
@@ -288,8 +291,11 @@ module _ (tests : Tests) (right : IsRight tests) (base : List Entry) (subs : Lis
       subst (λ v. Decided (matches tests.limit (between span) v (y ∷ z ∷ rest)) rest) (sym a.1) (subst (λ v. Decided (matches tests.limit (between span) (int a.0) (v ∷ z ∷ rest)) rest) (sym b.1) (subst (λ v. Decided (matches tests.limit (between span) (int a.0) (int b.0 ∷ v ∷ rest)) rest) (sym c.1) refl))
 
   -- `==`
-  equal_decided : (span : Span) (x y : Value) (T S : Ty) (rest : List Value) → OneKind T S → comparable tests T23 span T S ≡ Ok tt → TypeShaped d T → TypeShaped d S → InType d av x T → InType d av y S → Decided (value_match tests.limit span x (y ∷ rest)) rest
-  equal_decided span x y T S rest e h l m i j = by (binary_value tests.limit span binary.Equal x y) (binary_gives d av tests right span binary.Equal T S boolean x y e (compared_ok span T S h) (i, l) (j, m))
+  equal_decided : (span : Span) (x y : Value) (T S : Ty) (rest : List Value) → OneKind T S → comparable tests T23 span T S ≡ Ok tt →
+      TypeShaped d T → TypeShaped d S → InType d av x T → InType d av y S → Decided (value_match tests.limit span x (y ∷ rest)) rest
+  equal_decided span x y T S rest e h l m i j =
+      by (binary_value tests.limit span binary.Equal x y)
+      (binary_gives d av tests right span binary.Equal T S boolean x y e (compared_ok span T S h) (i, l) (j, m))
     where
       by : (r : PureOf Value) → Gives d av boolean r → Decided (r >>= λ v. truth span v >>= λ b. runs.matched b rest) rest
       by (Good v) g = let b = is_bool d av tests right boolean v refl g in subst (λ z. Decided (truth span z >>= λ b. runs.matched b rest) rest) (sym b.1) refl
@@ -396,7 +402,11 @@ module _ (tests : Tests) (right : IsRight tests) (base : List Entry) (subs : Lis
         asked = of_pure s.value ∷ [];
         shape_is = refl;
         asks = one_asked e.0 s.value s.first;
-        decides = λ x xs rest i g. one_value (λ zs. Decided (matches tests.limit (equal_to span) x zs) rest) (of_pure s.value) xs rest g (λ y j. equal_decided span x y T s.value.ty rest (one_kind d known.declared T s.value.ty of_type (known.formed e.0 s.value s.first).shaped) k.first of_type (known.formed e.0 s.value s.first).shaped i j);
+        decides =
+            λ x xs rest i g. one_value (λ zs. Decided (matches tests.limit (equal_to span) x zs) rest) (of_pure s.value) xs rest g
+            (λ y j. equal_decided span x y T s.value.ty rest
+            (one_kind d known.declared T s.value.ty of_type (known.formed e.0 s.value s.first).shaped) k.first of_type
+            (known.formed e.0 s.value s.first).shaped i j);
       })
   layer_says (ex.RangePattern span e f) T m known of_type h =
       let s = bind_ok (typed tests e.0 (with_class H.scope Pure)) _ m h in

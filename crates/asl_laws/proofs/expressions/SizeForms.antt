@@ -115,8 +115,10 @@ module _ (tests : Tests) (right : IsRight tests) (base : List Entry) (subs : Lis
     pub numeric : AllNumeric asked
     pub shape_is : p.shape ≡ W.shape
     pub asks : Asks p.exprs W.trees asked
-    pub ranges : (xs rest : List Value) (k : List Value → Option SizedRanges) → Give asked xs → part_range W.shape (xs ++ rest) k ≡ with_range (ceiling (end_at W.part.low av)) (floor (end_at W.part.high av)) (k rest)
-    pub present : (rs rest : List Fraction) → Ratios asked rs → part_by W.shape (rs ++ rest) ≡ Some (record { made = range_in (end_at W.part.low av) (end_at W.part.high av); left = rest })
+    pub ranges : (xs rest : List Value) (k : List Value → Option SizedRanges) → Give asked xs →
+        part_range W.shape (xs ++ rest) k ≡ with_range (ceiling (end_at W.part.low av)) (floor (end_at W.part.high av)) (k rest)
+    pub present : (rs rest : List Fraction) → Ratios asked rs →
+        part_by W.shape (rs ++ rest) ≡ Some (record { made = range_in (end_at W.part.low av) (end_at W.part.high av); left = rest })
 
   -- a bitfield whose ends are these numbers
   pub record FieldSays (p : Shaped BitfieldShape Expr) (W : WrittenField) : Type 0 where
@@ -125,7 +127,8 @@ module _ (tests : Tests) (right : IsRight tests) (base : List Entry) (subs : Lis
     pub shape_is : p.shape ≡ W.shape
     pub asks : Asks p.exprs W.trees asked
     pub places : (xs rest : List Value) (k : List Value → Option SizedView) (h l : ℕ) → width_at W.high.width av ≡ pos h → width_at W.low.width av ≡ pos l → Give asked xs → bitfield_at W.shape (xs ++ rest) k ≡ with_bitfield W.name h l (k rest)
-    pub present : (rs rest : List Fraction) (h l : ℕ) → width_at W.high.width av ≡ pos h → width_at W.low.width av ≡ pos l → Ratios asked rs →
+    pub present : (rs rest : List Fraction) (h l : ℕ) → width_at W.high.width av ≡ pos h → width_at W.low.width av ≡ pos l →
+        Ratios asked rs →
         bitfield_by W.shape (rs ++ rest) ≡ Some (record { made = record { name = W.name; high = h; low = l }; left = rest })
 
   -- what the values make of a shape: the type that was judged
@@ -141,7 +144,8 @@ module _ (tests : Tests) (right : IsRight tests) (base : List Entry) (subs : Lis
     pub shape_is : p.shape (types_among base) ≡ Some W.shape
     pub asks : Asks p.exprs W.sizes asked
     pub fills : (whole : Span) (xs rest : List Value) → Give asked xs → Fills W.ty (filled tests.limit whole W.shape (xs ++ rest)) rest
-    pub present : (rs rest : List Fraction) → Ratios asked rs → type_by W.shape (rs ++ rest) ≡ Some (record { made = type_with W.ty av; left = rest })
+    pub present : (rs rest : List Fraction) → Ratios asked rs →
+        type_by W.shape (rs ++ rest) ≡ Some (record { made = type_with W.ty av; left = rest })
 
   abbrev pub GoodPart : ConstraintPart → Type 0
   GoodPart p = (W : WrittenPart) → found_part tests p H.scope ≡ Ok W → PartSays (range_parts p) W
@@ -167,7 +171,8 @@ module _ (tests : Tests) (right : IsRight tests) (base : List Entry) (subs : Lis
       one_value tests right base subs loose H (λ zs. part_range only zs k ≡ with_range (ceiling (end_at P.low av)) (floor (end_at P.high av)) (k rest)) q xs rest h
       (λ y i. let e = f y i in ap (λ v. part_range only (v ∷ rest) k) e.0 ∙ ap (λ v. with_range v z (k rest)) (sym e.1) ∙ ap (λ v. with_range (ceiling (end_at P.low av)) v (k rest)) (sym e.2))
 
-  two_ranges : (q r : Asked) (y z : ℤ) (P Q : Part) (xs rest : List Value) (k : List Value → Option SizedRanges) → Ends q y P → Ends r z Q → Give (q ∷ r ∷ []) xs →
+  two_ranges : (q r : Asked) (y z : ℤ) (P Q : Part) (xs rest : List Value) (k : List Value → Option SizedRanges) → Ends q y P → Ends r z Q →
+      Give (q ∷ r ∷ []) xs →
       part_range from_to (xs ++ rest) k ≡ with_range (ceiling (end_at P.low av)) (floor (end_at Q.high av)) (k rest)
   two_ranges q r y z P Q xs rest k f f2 h =
       two_values tests right base subs loose H (λ zs. part_range from_to zs k ≡ with_range (ceiling (end_at P.low av)) (floor (end_at Q.high av)) (k rest)) q r xs rest h
@@ -193,14 +198,17 @@ module _ (tests : Tests) (right : IsRight tests) (base : List Entry) (subs : Lis
   bounds : ℤ → ℤ → Range
   bounds l h = record { low = l; high = h }
 
-  one_present : (q : Asked) (P : Part) (rs rest : List Fraction) → ((r : Fraction) → HasRatio av q r → (ceiling r ≡ ceiling (end_at P.low av)) × (floor r ≡ floor (end_at P.high av))) → Ratios (q ∷ []) rs →
+  one_present : (q : Asked) (P : Part) (rs rest : List Fraction) →
+      ((r : Fraction) → HasRatio av q r → (ceiling r ≡ ceiling (end_at P.low av)) × (floor r ≡ floor (end_at P.high av))) →
+      Ratios (q ∷ []) rs →
       part_by only (rs ++ rest) ≡ Some (record { made = range_in (end_at P.low av) (end_at P.high av); left = rest })
   unfolding bounds
   one_present q P rs rest f h =
       one_ratio av (λ ss. part_by only ss ≡ Some (record { made = range_in (end_at P.low av) (end_at P.high av); left = rest })) q rs rest h
       (λ r i. let e = f r i in ap₂ (λ l u. Some (record { made = bounds l u; left = rest })) e.0 e.1)
 
-  two_present : (q r : Asked) (P Q : Part) (rs rest : List Fraction) → ((s : Fraction) → HasRatio av q s → (ceiling s ≡ ceiling (end_at P.low av)) × (floor s ≡ floor (end_at P.high av))) →
+  two_present : (q r : Asked) (P Q : Part) (rs rest : List Fraction) →
+      ((s : Fraction) → HasRatio av q s → (ceiling s ≡ ceiling (end_at P.low av)) × (floor s ≡ floor (end_at P.high av))) →
       ((s : Fraction) → HasRatio av r s → (ceiling s ≡ ceiling (end_at Q.low av)) × (floor s ≡ floor (end_at Q.high av))) → Ratios (q ∷ r ∷ []) rs →
       part_by from_to (rs ++ rest) ≡ Some (record { made = range_in (end_at P.low av) (end_at Q.high av); left = rest })
   unfolding bounds
@@ -333,7 +341,8 @@ module _ (tests : Tests) (right : IsRight tests) (base : List Entry) (subs : Lis
     pub shapes_are : shapes_in range_parts ps ≡ part_shapes Ws
     pub asks : Asks (exprs_in range_parts ps) (part_trees Ws) asked
     pub ranges : (xs rest : List Value) → Give asked xs → all_ranges (part_shapes Ws) (xs ++ rest) ≡ Some (record { ranges = ranges_at (parts_written Ws) av; left = rest })
-    pub present : (rs rest : List Fraction) → Ratios asked rs → in_order part_by (part_shapes Ws) (rs ++ rest) ≡ Some (record { made = ranges_at (parts_written Ws) av; left = rest })
+    pub present : (rs rest : List Fraction) → Ratios asked rs →
+        in_order part_by (part_shapes Ws) (rs ++ rest) ≡ Some (record { made = ranges_at (parts_written Ws) av; left = rest })
 
   no_values : (xs rest : List Value) → Give [] xs → xs ++ rest ≡ rest
   no_values [] rest g = refl
@@ -375,7 +384,8 @@ module _ (tests : Tests) (right : IsRight tests) (base : List Entry) (subs : Lis
     pub shapes_are : shapes_in bitfield_parts bs ≡ field_shapes Ws
     pub asks : Asks (exprs_in bitfield_parts bs) (field_trees Ws) asked
     pub view : (span : Span) (z : ℤ) (ns : List Numbered) (u : View) (xs rest : List Value) → all_numbered Ws ≡ Ok ns → all_placed span z ns ≡ Ok u → Give asked xs → all_bitfields (field_shapes Ws) (xs ++ rest) ≡ Some (record { view = u; left = rest })
-    pub present : (span : Span) (z : ℤ) (ns : List Numbered) (u : View) (rs rest : List Fraction) → all_numbered Ws ≡ Ok ns → all_placed span z ns ≡ Ok u → Ratios asked rs →
+    pub present : (span : Span) (z : ℤ) (ns : List Numbered) (u : View) (rs rest : List Fraction) → all_numbered Ws ≡ Ok ns →
+        all_placed span z ns ≡ Ok u → Ratios asked rs →
         in_order bitfield_by (field_shapes Ws) (rs ++ rest) ≡ Some (record { made = u; left = rest })
 
   record Placing (z : ℤ) (n : Numbered) (x : BitField) : Type 0 where
@@ -408,7 +418,8 @@ module _ (tests : Tests) (right : IsRight tests) (base : List Entry) (subs : Lis
     pub placed : all_placed span z numbers ≡ Ok others
     pub are : own ∷ others ≡ u
 
-  first_placed : (W : WrittenField) (Ws : List WrittenField) (span : Span) (z : ℤ) (ns : List Numbered) (u : View) → all_numbered (W ∷ Ws) ≡ Ok ns → all_placed span z ns ≡ Ok u → FirstPlaced W Ws span z u
+  first_placed : (W : WrittenField) (Ws : List WrittenField) (span : Span) (z : ℤ) (ns : List Numbered) (u : View) →
+      all_numbered (W ∷ Ws) ≡ Ok ns → all_placed span z ns ≡ Ok u → FirstPlaced W Ws span z u
   first_placed W Ws span z ns u n p =
       let hi = bind_ok (found_or (constant_value W.high.width) T19 W.high.span) _ ns n in
       let lo = bind_ok (found_or (constant_value W.low.width) T19 W.low.span) _ ns hi.then in
@@ -484,7 +495,8 @@ module _ (tests : Tests) (right : IsRight tests) (base : List Entry) (subs : Lis
     pub shapes_are : shaped.type_shapes (types_among base) (shapes_in type_parts ts) ≡ Some (type_shapes Ws)
     pub asks : Asks (exprs_in type_parts ts) (all_sizes Ws) asked
     pub fills : (whole : Span) (xs rest : List Value) → Give asked xs → PartsFill (types_written Ws) (parts_filled tests.limit whole (type_shapes Ws) (xs ++ rest)) rest
-    pub present : (rs rest : List Fraction) → Ratios asked rs → parts_by (type_shapes Ws) (rs ++ rest) ≡ Some (record { made = parts_with (types_written Ws) av; left = rest })
+    pub present : (rs rest : List Fraction) → Ratios asked rs →
+        parts_by (type_shapes Ws) (rs ++ rest) ≡ Some (record { made = parts_with (types_written Ws) av; left = rest })
 
   types_say : (ts : List ((t : TypeExpr) × GoodType t)) (outside : Bool) (Ws : List Written) → types_in_order outside (map (found_type tests) (map (λ t. t.0) ts)) H.scope ≡ Ok Ws → TypesSay (map (λ t. t.0) ts) Ws
   types_say [] outside Ws h =
@@ -556,7 +568,8 @@ module _ (tests : Tests) (right : IsRight tests) (base : List Entry) (subs : Lis
   integer_fills whole (W ∷ Ws) zs rest e =
       record { one = record { type_is = cl.integer_in (Some (ranges_at (parts_written (W ∷ Ws)) av)); first = first_integer whole (first_in (Some (ranges_at (parts_written (W ∷ Ws)) av))); left = rest }; is = ap (option_and_then (λ (r : SizedRanges). integer_filled whole (Some r.ranges) r.left)) e; type_is = refl; left = refl }
 
-  integer_present : (Ws : List WrittenPart) (rs rest : List Fraction) → in_order part_by (part_shapes Ws) rs ≡ Some (record { made = ranges_at (parts_written Ws) av; left = rest }) →
+  integer_present : (Ws : List WrittenPart) (rs rest : List Fraction) →
+      in_order part_by (part_shapes Ws) rs ≡ Some (record { made = ranges_at (parts_written Ws) av; left = rest }) →
       made_into (λ c. cl.integer_in c) (constraint_by (part_shapes Ws) rs) ≡ Some (record { made = cl.integer_in (constraint_at (parts_written Ws) av); left = rest })
   integer_present [] rs rest e = ap (made_into (λ (ranges : List Range). cl.integer_in None)) e
   integer_present (W ∷ Ws) rs rest e = ap (λ o. made_into (λ c. cl.integer_in c) (made_into (λ ranges. Some ranges) o)) e
@@ -570,7 +583,8 @@ module _ (tests : Tests) (right : IsRight tests) (base : List Entry) (subs : Lis
       let o = then_ok (need (names_once v.value []) T15 span) (Ok v.value) u v.then in
       s.view span z.value n.value u xs rest n.first (v.first ∙ ap Ok (ok_ok v.value u o.then)) g
 
-  view_present : (bs : List Bitfield) (Ws : List WrittenField) (s : FieldsSay bs Ws) (span : Span) (p : Polynomial) (u : View) (rs rest : List Fraction) → view_rule span p Ws ≡ Ok u → Ratios s.asked rs →
+  view_present : (bs : List Bitfield) (Ws : List WrittenField) (s : FieldsSay bs Ws) (span : Span) (p : Polynomial) (u : View)
+      (rs rest : List Fraction) → view_rule span p Ws ≡ Ok u → Ratios s.asked rs →
       in_order bitfield_by (field_shapes Ws) (rs ++ rest) ≡ Some (record { made = u; left = rest })
   view_present bs [] s span p u rs rest h g = s.present span (pos 0) [] u rs rest refl h g
   view_present bs (W ∷ Ws) s span p u rs rest h g =
@@ -631,7 +645,8 @@ module _ (tests : Tests) (right : IsRight tests) (base : List Entry) (subs : Lis
   apart z = type_layer own_expr own_field own_part own_type (map-TypeExpr Bitfield ConstraintPart Expr FieldValue Pattern Slice TypeExpr (Bitfield × Unread) (ConstraintPart × Unread) (Expr × Unread) (FieldValue × Unread) (Pattern × Unread) (Slice × Unread) (TypeExpr × Shaped TypeOver Expr)
       (λ b. (b, tt)) (λ p. (p, tt)) (λ e. (e, tt)) (λ f. (f, tt)) (λ p. (p, tt)) (λ s. (s, tt)) (λ t. (t, type_parts t)) z)
 
-  layer_says : (y : Below) (outside : Bool) (W : Written) → written_rule tests (type_opened tests (trees y)) outside H.scope ≡ Ok W → TypeSays (apart (trees y)) W
+  layer_says : (y : Below) (outside : Bool) (W : Written) → written_rule tests (type_opened tests (trees y)) outside H.scope ≡ Ok W →
+      TypeSays (apart (trees y)) W
   layer_says (ex.IntegerType span ps) outside W h =
       let p = bind_ok (all_parts (map (found_part tests) (map (λ p. p.0) ps)) H.scope) _ W h in
       let n = then_ok (need (nat_le (length p.value) most_parts) T20 span) _ W p.then in

@@ -166,7 +166,8 @@ module _ (tests : Tests) (right : IsRight tests) (base : List Entry) (subs : Lis
   adds_width : (y : Total) (q : Polynomial) → HasWidth q av (width_at q av) → IsPolynomial q → Adds y (plus y q) (width_at q av)
   adds_width y q e i c f m h = sum_width av y.sum q m (width_at q av) c.held i h e
 
-  adds_range : (y : Total) (p q : Polynomial) → HasWidth p av (width_at p av) → IsPolynomial p → HasWidth q av (width_at q av) → IsPolynomial q →
+  adds_range : (y : Total) (p q : Polynomial) → HasWidth p av (width_at p av) → IsPolynomial p → HasWidth q av (width_at q av) →
+      IsPolynomial q →
       Adds y (plus_number (minus (plus y p) q) 1) (width_at p av -ℤ width_at q av +ℤ pos 1)
   adds_range y p q e i g j c f m h =
       let u = plus y p in
@@ -180,26 +181,30 @@ module _ (tests : Tests) (right : IsRight tests) (base : List Entry) (subs : Lis
       let first = sum_width av y.sum p m (width_at p av) c.held i h e in
       let second = difference_width av u.sum q (m +ℤ width_at p av) (width_at q av) count_u.held j first g in
       subst (HasWidth (plus_number v 1).sum av) (one_less m (width_at p av) (width_at q av))
-      (sum_width av v.sum (constant_map (pos 1)) ((m +ℤ width_at p av) -ℤ width_at q av) (pos 1) count_v.held one_wide second (int_end (pos 1) av))
+      (sum_width av v.sum (constant_map (pos 1)) ((m +ℤ width_at p av) -ℤ width_at q av) (pos 1) count_v.held one_wide second
+      (int_end (pos 1) av))
 
   cut_bit : (x : Value) (rest : List Value) (y : Total) → (i : ℤ) × (x ≡ int i) → Cuts at_bit (x ∷ []) rest y (plus_number y 1)
   cut_bit x rest y n =
       subst (λ v. Cuts at_bit (v ∷ []) rest y (plus_number y 1)) (sym n.1)
       (record { slicing = record { low = n.0; width = pos 1 }; is = refl; adds = adds_number y })
 
-  cut_high_low : (u v : Value) (rest : List Value) (y : Total) (p q : Polynomial) → IsWidth av p u → IsWidth av q v → Cuts high_low (u ∷ v ∷ []) rest y (plus_number (minus (plus y p) q) 1)
+  cut_high_low : (u v : Value) (rest : List Value) (y : Total) (p q : Polynomial) → IsWidth av p u → IsWidth av q v →
+      Cuts high_low (u ∷ v ∷ []) rest y (plus_number (minus (plus y p) q) 1)
   cut_high_low u v rest y p q g h =
       subst (λ a. Cuts high_low (a ∷ v ∷ []) rest y (plus_number (minus (plus y p) q) 1)) (sym g.0)
       (subst (λ b. Cuts high_low (int (width_at p av) ∷ b ∷ []) rest y (plus_number (minus (plus y p) q) 1)) (sym h.0)
       (record { slicing = record { low = width_at q av; width = width_at p av -ℤ width_at q av +ℤ pos 1 }; is = refl; adds = adds_range y p q g.1 g.2 h.1 h.2 }))
 
-  cut_low_width : (u v : Value) (rest : List Value) (y : Total) (q : Polynomial) → (i : ℤ) × (u ≡ int i) → IsWidth av q v → Cuts low_width (u ∷ v ∷ []) rest y (plus y q)
+  cut_low_width : (u v : Value) (rest : List Value) (y : Total) (q : Polynomial) → (i : ℤ) × (u ≡ int i) → IsWidth av q v →
+      Cuts low_width (u ∷ v ∷ []) rest y (plus y q)
   cut_low_width u v rest y q n h =
       subst (λ a. Cuts low_width (a ∷ v ∷ []) rest y (plus y q)) (sym n.1)
       (subst (λ b. Cuts low_width (int n.0 ∷ b ∷ []) rest y (plus y q)) (sym h.0)
       (record { slicing = record { low = n.0; width = width_at q av }; is = refl; adds = adds_width y q h.1 h.2 }))
 
-  cut_factor_width : (u v : Value) (rest : List Value) (y : Total) (q : Polynomial) → (i : ℤ) × (u ≡ int i) → IsWidth av q v → Cuts factor_width (u ∷ v ∷ []) rest y (plus y q)
+  cut_factor_width : (u v : Value) (rest : List Value) (y : Total) (q : Polynomial) → (i : ℤ) × (u ≡ int i) → IsWidth av q v →
+      Cuts factor_width (u ∷ v ∷ []) rest y (plus y q)
   cut_factor_width u v rest y q n h =
       subst (λ a. Cuts factor_width (a ∷ v ∷ []) rest y (plus y q)) (sym n.1)
       (subst (λ b. Cuts factor_width (int n.0 ∷ b ∷ []) rest y (plus y q)) (sym h.0)
@@ -278,7 +283,9 @@ module _ (tests : Tests) (right : IsRight tests) (base : List Entry) (subs : Lis
     pub shapes_are : shapes_in slice_parts ss ≡ shapes_of (map (found_slice tests) ss)
     pub cuts : (xs : List Value) → Give asked xs → AllCut (shapes_of (map (found_slice tests) ss)) xs y z
 
-  pub all_say : CountsHeld H.scope.names → (ss : List Slice) (os : List Operand) (y z : Total) → all_operands (map (found_slice tests) ss) H.scope ≡ Ok os → all_integers os ≡ true → all_add (map (found_slice tests) ss) y H.scope ≡ Ok z → AllSay ss os y z
+  pub all_say : CountsHeld H.scope.names → (ss : List Slice) (os : List Operand) (y z : Total) →
+      all_operands (map (found_slice tests) ss) H.scope ≡ Ok os → all_integers os ≡ true →
+      all_add (map (found_slice tests) ss) y H.scope ≡ Ok z → AllSay ss os y z
   all_say held [] os y z h i k =
       subst (λ w. AllSay [] os y w) (ok_ok y z k)
       (subst (λ w. AllSay [] w y y) (ok_ok [] os h)
@@ -315,7 +322,8 @@ module _ (tests : Tests) (right : IsRight tests) (base : List Entry) (subs : Lis
       })
 
 -- how many bits all slices have
-pub sums_to : (a : Assignment) (span : Span) (z : Total) (w : Polynomial) (n : ℤ) → totalled span z ≡ Ok w → IsPolynomial w → HasWidth z.sum a (pos 0 +ℤ n) → width_at w a ≡ n
+pub sums_to : (a : Assignment) (span : Span) (z : Total) (w : Polynomial) (n : ℤ) → totalled span z ≡ Ok w → IsPolynomial w →
+    HasWidth z.sum a (pos 0 +ℤ n) → width_at w a ≡ n
 sums_to a span z w n h i e =
     width_at_is a w n i (subst (HasWidth w a) (sym (from_nothing n)) (subst (λ p. HasWidth p a (pos 0 +ℤ n)) (sum_of_total span z w h) e))
 
@@ -345,5 +353,7 @@ module _ (tests : Tests) (right : IsRight tests) (ds : List Decl) (base : List E
       (λ x xs i j.
       let r = s.cuts xs j in
       let same : f x xs ≡ l x xs = ap (λ u. slices_of tests.limit span u xs x) s.shapes_are in
-      let wide = sums_to H.present span z.value v.value (all_widths r.list) z.then (sliced_held tests span ss H.scope v.value held v.first) (r.adds begun fits (pos 0) (int_end (pos 0) H.present)) in
+      let wide =
+      sums_to H.present span z.value v.value (all_widths r.list) z.then (sliced_held tests span ss H.scope v.value held v.first)
+      (r.adds begun fits (pos 0) (int_end (pos 0) H.present)) in
       (same, subst (Gives (types_in base) H.present U) (sym same) (slices_give (types_in base) H.present tests right tests.limit span shapes xs r.list v.value t.value.ty x r.are wide b i)))))

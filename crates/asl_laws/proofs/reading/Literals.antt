@@ -30,9 +30,11 @@ IsLiteral limit text = (bs : List Bool) × (literal_of limit text ≡ Some bs)
 pub digits_within : (limit : ℕ) (text : List ℕ) (bs : List Bool) → literal_of limit text ≡ Some bs → length bs ≤ limit
 digits_within limit text bs = by (nat_le (length (literal_digits text)) limit) refl
   where
-    by : (b : Bool) → nat_le (length (literal_digits text)) limit ≡ b → cond b (fixed_bits (literal_digits text)) None ≡ Some bs → length bs ≤ limit
+    by : (b : Bool) → nat_le (length (literal_digits text)) limit ≡ b → cond b (fixed_bits (literal_digits text)) None ≡ Some bs →
+        length bs ≤ limit
     by true e h =
-        subst (λ n. n ≤ limit) (ap length (fixed_bits-is (literal_digits text) bs h) ∙ length-map bs (λ b. Some b)) (true_le (length (literal_digits text)) limit e)
+        subst (λ n. n ≤ limit) (ap length (fixed_bits-is (literal_digits text) bs h) ∙ length-map bs (λ b. Some b))
+        (true_le (length (literal_digits text)) limit e)
     by false e h = absurd cc
 
 -- ---- the closing quote

@@ -312,7 +312,11 @@ module _ (tests : Tests) (right : IsRight tests) (d D : List ℕ → Option Ty) 
 
   -- the tests of right tests are one
   fits : (S T : Ty) → misfit tests S T ≡ None → Fits S T
-  fits S T h t r = misfit_any t tests.limit S T ∙ ap (λ (q : Tests). misfit q S T) (one_test (record t { limit = tests.limit }) tests (record { within = right.within; same_yes = r.same_yes; same_all = r.same_all; below_yes = r.below_yes; below_all = r.below_all }) right refl) ∙ h
+  fits S T h t r =
+      misfit_any t tests.limit S T ∙ ap (λ (q : Tests). misfit q S T)
+      (one_test (record t { limit = tests.limit }) tests
+      (record { within = right.within; same_yes = r.same_yes; same_all = r.same_all; below_yes = r.below_yes; below_all = r.below_all })
+      right refl) ∙ h
 
   supers_good : (o : Option Ident) (T : Ty) (supers : List (List ℕ)) → OfKind (structure T) → supertype_rule tests o T G ≡ Ok supers → Nearest D (structure T) supers
   supers_good None T supers of_kind h = subst (Nearest D (structure T)) (ok_ok [] supers h) tt

@@ -121,7 +121,8 @@ module _ (t : Tests) (right : IsRight t) (d : List ℕ → Option Ty) (known : W
       let S : Ty = part_declared kind o T in
       parts_added bs kind o Ts (names ++ declared kind i.text S (itself S names) ∷ []) more
       (added d names (declared kind i.text S (itself S names)) g
-      (declared_formed d kind i.text S (itself S names) (part_declared_formed d kind o T (record { shaped = h.1; has_name = h.0 })) (itself_held S names)))
+      (declared_formed d kind i.text S (itself S names) (part_declared_formed d kind o T (record { shaped = h.1; has_name = h.0 }))
+      (itself_held S names)))
       h.2 k
 
   bound_in_formed : (bs : List Binder) (kind : LocalKind) (o : Option Ty) (p : Option Parts) (names more : List Entry) →
@@ -131,7 +132,8 @@ module _ (t : Tests) (right : IsRight t) (d : List ℕ → Option Ty) (known : W
   bound_in_formed bs kind o (Some Ts) names more g f k = parts_added bs kind o Ts names more g (f Ts refl) k
 
   -- and so is a width expression
-  counted_held : (e : Expr) (G : Scope) (w : Result Width Fault) (b : Bool) (n : ℕ) → NamesFormed d G.names → width t e G ≡ w → IsHeld (Some (counted_as w b n))
+  counted_held : (e : Expr) (G : Scope) (w : Result Width Fault) (b : Bool) (n : ℕ) → NamesFormed d G.names → width t e G ≡ w →
+      IsHeld (Some (counted_as w b n))
   counted_held e G (Ok w) b n g q = width_is_held t e G (counts_formed d G.names g) w q
   counted_held e G (Err f) b n g q = atom_is_polynomial n
 
@@ -196,7 +198,8 @@ module _ (t : Tests) (right : IsRight t) (d : List ℕ → Option Ty) (known : W
 
   -- ---- indices and caught exceptions
 
-  range_formed : (a b : Expr) (G : Scope) (r : Result WrittenPart Fault) → NamesFormed d G.names → range_rule (found t a) (found t b) G ≡ r → WellFormed d (of_range r)
+  range_formed : (a b : Expr) (G : Scope) (r : Result WrittenPart Fault) → NamesFormed d G.names →
+      range_rule (found t a) (found t b) G ≡ r → WellFormed d (of_range r)
   range_formed a b G (Ok p) g q =
       let k = range_by t ((found t a).has_atom G || (found t b).has_atom G) a b G p (counts_formed d G.names g) q in
       record { shaped = (k, tt); has_name = refl }

@@ -485,7 +485,8 @@ module _ (A : ℕ → Type 0) (tests : Tests) where
   literal_over : (class : Effect) (span : Span) (o : Option (List Bool)) (S : Typed) → bits_rule_of class span o ≡ Ok S → Over A S.ty
   literal_over class span None S h = err_ok (fault_of S03 span) S h
   literal_over class span (Some bs) S h =
-      subst (Over A) (class_type class span Pure (bits_wide (length bs)) (λ n. tree.Constant n (bits_with bs [])) S h) (bits_over (length bs))
+      subst (Over A) (class_type class span Pure (bits_wide (length bs)) (λ n. tree.Constant n (bits_with bs [])) S h)
+      (bits_over (length bs))
 
   standing_over : (span : Span) (name : List ℕ) (o : Option Standing) (G : Scope) (S : Typed) → ((st : Standing) → o ≡ Some st → StandingOver A st) → name_of_standing span name o G ≡ Ok S → Over A S.ty
   standing_over span name (Some (Stored s)) G S g h = subst (Over A) (class_type G.class span (reading s) s.ty (λ n. tree.Read n (slot_of name (layout_of G.names))) S h) (g (Stored s) refl)

@@ -1,6 +1,6 @@
 -- The scopes of a program: the types of names outside bodies have no atoms, and the types of the names of a body have atoms of names of that body alone. So a
 -- type is the same type for two assignments that agree on the atoms of its scope.
-use Rattle.std.proofs.Common.{◌≡◌, ℕ, zero, suc, Bool, true, false, ℤ, pos, List, [], ◌∷◌, ◌++◌, length, map, Option, Some, None, Result, Ok, Err, refl, sym, ap, ap₂, ◌∙◌, subst}
+use Rattle.std.proofs.Common.{◌≡◌, ℕ, zero, suc, Bool, true, false, pos, List, [], ◌∷◌, ◌++◌, length, map, Option, Some, None, Result, Ok, Err, refl, sym, ap, ap₂, ◌∙◌, subst}
 use Rattle.std.specs.Prelude.{if◌then◌else◌, ◌+ℤ◌, ◌*ℤ◌, not}
 use Rattle.std.specs.Str.{bytes_eq}
 use Rattle.asl_syn.specs.declared.code.Fault.{Fault}
@@ -67,7 +67,8 @@ module _ (A : ℕ → Type 0) (a b : Assignment) (same : (n : ℕ) → A n → a
 
   ranges_moved : (ps : List Part) → PartsOver A ps → ranges_at ps a ≡ ranges_at ps b
   ranges_moved [] h = refl
-  ranges_moved (p ∷ ps) h = ap₂ (λ (r : Range) rs. r ∷ rs) (ap₂ range_in (end_moved p.low h.0.low) (end_moved p.high h.0.high)) (ranges_moved ps h.1)
+  ranges_moved (p ∷ ps) h =
+      ap₂ (λ (r : Range) rs. r ∷ rs) (ap₂ range_in (end_moved p.low h.0.low) (end_moved p.high h.0.high)) (ranges_moved ps h.1)
 
   constraint_moved : (ps : List Part) → PartsOver A ps → constraint_at ps a ≡ constraint_at ps b
   constraint_moved [] h = refl

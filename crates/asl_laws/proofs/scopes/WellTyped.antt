@@ -160,7 +160,8 @@ module _ (tests : Tests) (right : IsRight tests) (d : List ℕ → Option Ty) (d
       let q = then_ok (need (same_widths tests S T) T06 span) (Ok (bits_of (width_of S) [])) U p.then in
       subst (WellFormed d) (ok_ok (bits_of (width_of S) []) U q.then) (bits_formed (width_of S) (within_width d S s))
 
-  additive_by : (b c : Bool) (span : Span) (V S T U : Ty) → WellFormed d V → Shaped d S → cond b (Ok V) (need c T08 span >> need (same_widths tests S T) T06 span >> Ok (bits_of (width_of S) [])) ≡ Ok U → WellFormed d U
+  additive_by : (b c : Bool) (span : Span) (V S T U : Ty) → WellFormed d V → Shaped d S →
+      cond b (Ok V) (need c T08 span >> need (same_widths tests S T) T06 span >> Ok (bits_of (width_of S) [])) ≡ Ok U → WellFormed d U
   additive_by true c span V S T U w s h = subst (WellFormed d) (ok_ok V U h) w
   additive_by false c span V S T U w s h =
       let p = then_ok (need c T08 span) (need (same_widths tests S T) T06 span >> Ok (bits_of (width_of S) [])) U h in
@@ -171,9 +172,11 @@ module _ (tests : Tests) (right : IsRight tests) (d : List ℕ → Option Ty) (d
   abbrev Keeps : (List Part → List Part → List Part) → Type 0
   Keeps op = (ps qs : List Part) → AllEnds ps → AllEnds qs → AllEnds (op ps qs)
 
-  additive_formed : (span : Span) (op : List Part → List Part → List Part) (S T U : Ty) → Keeps op → Shaped d S → Shaped d T → additive tests span op S T ≡ Ok U → WellFormed d U
+  additive_formed : (span : Span) (op : List Part → List Part → List Part) (S T U : Ty) → Keeps op → Shaped d S → Shaped d T →
+      additive tests span op S T ≡ Ok U → WellFormed d U
   additive_formed span op S T U k s t h =
-      additive_by (is_integer S && is_integer T) _ span _ S T U (integer_formed _ (k (constraint_of S) (constraint_of T) (within_ends d S s) (within_ends d T t))) s h
+      additive_by (is_integer S && is_integer T) _ span _ S T U
+      (integer_formed _ (k (constraint_of S) (constraint_of T) (within_ends d S s) (within_ends d T t))) s h
 
   concatenated_formed : (span : Span) (S T U : Ty) → Shaped d S → Shaped d T → concatenated span S T ≡ Ok U → WellFormed d U
   concatenated_formed span S T U s t h =
@@ -183,12 +186,15 @@ module _ (tests : Tests) (right : IsRight tests) (d : List ℕ → Option Ty) (d
       (bits_formed q.value (combined_held span Sum (width_of S) (width_of T) q.value (within_width d S s) (within_width d T t) q.first))
 
   -- arithmetic between integers
-  arithmetic_formed : (span : Span) (op : List Part → List Part → List Part) (S T U : Ty) → Keeps op → Shaped d S → Shaped d T → arithmetic span op S T ≡ Ok U → WellFormed d U
+  arithmetic_formed : (span : Span) (op : List Part → List Part → List Part) (S T U : Ty) → Keeps op → Shaped d S → Shaped d T →
+      arithmetic span op S T ≡ Ok U → WellFormed d U
   arithmetic_formed span op S T U k s t h =
       of_integers_formed span S T (integer_of (op (constraint_of S) (constraint_of T))) U
-      (integer_formed (op (constraint_of S) (constraint_of T)) (k (constraint_of S) (constraint_of T) (within_ends d S s) (within_ends d T t))) h
+      (integer_formed (op (constraint_of S) (constraint_of T))
+      (k (constraint_of S) (constraint_of T) (within_ends d S s) (within_ends d T t))) h
 
-  pub binary_formed : (span : Span) (o : BinaryOperator) (S T U : Ty) → Shaped d S → Shaped d T → binary_rule tests span o S T ≡ Ok U → WellFormed d U
+  pub binary_formed : (span : Span) (o : BinaryOperator) (S T U : Ty) → Shaped d S → Shaped d T → binary_rule tests span o S T ≡ Ok U →
+      WellFormed d U
   binary_formed span binary.LogicalAnd S T U s t h = of_booleans_formed span S T U h
   binary_formed span binary.LogicalOr S T U s t h = of_booleans_formed span S T U h
   binary_formed span binary.Implies S T U s t h = of_booleans_formed span S T U h
@@ -218,8 +224,10 @@ module _ (tests : Tests) (right : IsRight tests) (d : List ℕ → Option Ty) (d
       let V : Ty = integer_of (cons.difference_parts (only_number (pos 0)) (constraint_of S)) in
       let p = then_ok (need (is_integer S) T08 span) (Ok V) U h in
       subst (WellFormed d) (ok_ok V U p.then)
-      (integer_formed (cons.difference_parts (only_number (pos 0)) (constraint_of S)) (difference_keeps (only_number (pos 0)) (constraint_of S) ((tt, tt), tt) (within_ends d S s)))
-  unary_formed span unary.Not S U s h = let p = then_ok (need (is_boolean S) T08 span) (Ok boolean) U h in subst (WellFormed d) (ok_ok boolean U p.then) boolean_formed
+      (integer_formed (cons.difference_parts (only_number (pos 0)) (constraint_of S))
+      (difference_keeps (only_number (pos 0)) (constraint_of S) ((tt, tt), tt) (within_ends d S s)))
+  unary_formed span unary.Not S U s h =
+      let p = then_ok (need (is_boolean S) T08 span) (Ok boolean) U h in subst (WellFormed d) (ok_ok boolean U p.then) boolean_formed
   unary_formed span unary.Complement S U s h =
       let p = then_ok (need (is_bits S) T08 span) (Ok (bits_of (width_of S) [])) U h in
       subst (WellFormed d) (ok_ok (bits_of (width_of S) []) U p.then) (bits_formed (width_of S) (within_width d S s))
@@ -239,13 +247,15 @@ module _ (tests : Tests) (right : IsRight tests) (d : List ℕ → Option Ty) (d
   member_by None m next h = none_some m h
   member_by (Some q) m next h = subst (λ (z : Member). WellFormed d (member_type z)) (some_same (a_field q.0 q.1) m h) (next q refl)
 
-  bitfield_by : (o : Option BitField) (m : Member) → has_room m ≡ true → option_map (λ b. a_bitfield b) o ≡ Some m → WellFormed d (member_type m)
+  bitfield_by : (o : Option BitField) (m : Member) → has_room m ≡ true → option_map (λ b. a_bitfield b) o ≡ Some m →
+      WellFormed d (member_type m)
   bitfield_by None m r h = none_some m h
   bitfield_by (Some b) m r h =
       let e = some_same (a_bitfield b) m h in
       subst (λ (z : Member). WellFormed d (member_type z)) e (wide_formed (bitfield_width b) (subst (λ z. has_room z ≡ true) (sym e) r))
 
-  pub member_formed : (S : Ty) (f : List ℕ) (m : Member) → Shaped d S → has_room m ≡ true → member_of S f ≡ Some m → WellFormed d (member_type m)
+  pub member_formed : (S : Ty) (f : List ℕ) (m : Member) → Shaped d S → has_room m ≡ true → member_of S f ≡ Some m →
+      WellFormed d (member_type m)
   member_formed (record_of n fs) f m s r h = member_by (numbered f fs) m (λ q k. fields_formed fs f q s.1 k) h
   member_formed (exception_of n fs) f m s r h = member_by (numbered f fs) m (λ q k. fields_formed fs f q s.1 k) h
   member_formed (bits_of p u) f m s r h = bitfield_by (bitfield_in f u) m r h
@@ -253,7 +263,8 @@ module _ (tests : Tests) (right : IsRight tests) (d : List ℕ → Option Ty) (d
   member_formed S f m s r h = none_some m h
 
   -- several bitfields are no wider than widths may be
-  pub fields_wide : (span : Span) (is : List Ident) (T : Ty) (fs : List BitField) → bitfields_named span is T ≡ Ok fs → WellFormed d (bits_wide (all_wide fs))
+  pub fields_wide : (span : Span) (is : List Ident) (T : Ty) (fs : List BitField) → bitfields_named span is T ≡ Ok fs →
+      WellFormed d (bits_wide (all_wide fs))
   fields_wide span is T fs h =
       let b = bind_ok (bitfields_in is (view_of T)) _ fs h in
       let n = then_ok (need (is_bits T) T15 span) _ fs b.then in
@@ -275,7 +286,8 @@ module _ (tests : Tests) (right : IsRight tests) (d : List ℕ → Option Ty) (d
   -- ---- atoms replaced by widths
 
   -- bits with bitfields have one width, whatever stands for atoms
-  view_replaced : (by : Widths) (p q : Polynomial) (u : View) → AllWithin by → IsPolynomial p → substituted by p ≡ Some q → ShapedView p u → ShapedView q u
+  view_replaced : (by : Widths) (p q : Polynomial) (u : View) → AllWithin by → IsPolynomial p → substituted by p ≡ Some q → ShapedView p u →
+      ShapedView q u
   view_replaced by p q [] w i k s = tt
   view_replaced by p q (f ∷ fs) w i k s =
       let c : IsConstant p (pos s.0) = λ a. is_width_at a p s.0 i (s.1 a) in
@@ -311,7 +323,9 @@ module _ (tests : Tests) (right : IsRight tests) (d : List ℕ → Option Ty) (d
 
     parts_replaced : (by : Widths) (ts us : Parts) → AllWithin by → ShapedParts d ts → substitute_parts by ts ≡ Some us → ShapedParts d us
     parts_replaced by no_part us g s h = subst (ShapedParts d) (some_same no_part us h) tt
-    parts_replaced by (part T ts) us g s h = parts_by (substitute by T) (substitute_parts by ts) us (λ V k. substitute_formed by T V g (record { shaped = s.1; has_name = s.0 }) k) (λ vs k. parts_replaced by ts vs g s.2 k) h
+    parts_replaced by (part T ts) us g s h =
+        parts_by (substitute by T) (substitute_parts by ts) us
+        (λ V k. substitute_formed by T V g (record { shaped = s.1; has_name = s.0 }) k) (λ vs k. parts_replaced by ts vs g s.2 k) h
 
   -- ---- calls
 
@@ -367,14 +381,17 @@ module _ (tests : Tests) (right : IsRight tests) (d : List ℕ → Option Ty) (d
   result_of None T s h = none_some T h
   result_of (Some U) T s h = subst (WellFormed d) (some_same U T h) s
 
-  function_layer : (span : Span) (i : Ident) (ps : List Expr) (G : Scope) (S : Typed) (o : Option Routine) (os : List Operand) → NamesFormed d G.names → FormedSubs G.subs → ShapedParts d (types_of os) →
+  function_layer : (span : Span) (i : Ident) (ps : List Expr) (G : Scope) (S : Typed) (o : Option Routine) (os : List Operand) →
+      NamesFormed d G.names → FormedSubs G.subs → ShapedParts d (types_of os) →
       function_of tests span i (map (found tests) ps) os G o ≡ Ok S → WellFormed d S.ty
   function_layer span i ps G S (Some r) os g s z h =
       let c = counts_formed d G.names g in
       let k = then_ok (routine_taken span r os) _ S h in
       let n = then_ok (need (length (map (found tests) ps) == routine_params r) T11 span) _ S k.then in
       let w = bind_ok (widths_given (map (found tests) ps) G) _ S n.then in
-      subst (WellFormed d) (end_type G.class span (all_together Pure (effects_of os)) (greater (greatest Pure (effects_of os)) Pure) (routine_type r (polys w.value.given) (types_of os)) (call_tree (of_library r) w.value os) S w.then) (routine_formed r (polys w.value.given) (types_of os) (given_held tests ps G w.value c w.first) z)
+      subst (WellFormed d) (end_type G.class span (all_together Pure (effects_of os)) (greater (greatest Pure (effects_of os)) Pure)
+      (routine_type r (polys w.value.given) (types_of os)) (call_tree (of_library r) w.value os) S w.then)
+      (routine_formed r (polys w.value.given) (types_of os) (given_held tests ps G w.value c w.first) z)
   function_layer span i ps G S None os g s z h =
       let c = counts_formed d G.names g in
       let f = bind_ok (chosen span i os G.subs) _ S h in
@@ -422,7 +439,9 @@ module _ (tests : Tests) (right : IsRight tests) (d : List ℕ → Option Ty) (d
       let z = bind_ok (found_or (constant_value p) T16 span) _ u n.then in
       let v = bind_ok (all_placed span z.value n.value) _ u z.then in
       let o = then_ok (need (names_once v.value []) T15 span) (Ok v.value) u v.then in
-      subst (ShapedView p) (ok_ok v.value u o.then) (view_by span p z.value n.value v.value (λ a. constant_width a p z.value (constant_is a p z.value (found_ok (constant_value p) T16 span z.value z.first))) v.first)
+      subst (ShapedView p) (ok_ok v.value u o.then)
+      (view_by span p z.value n.value v.value (λ a. constant_width a p z.value
+      (constant_is a p z.value (found_ok (constant_value p) T16 span z.value z.first))) v.first)
 
   -- ---- by induction over trees
 
@@ -465,7 +484,9 @@ module _ (tests : Tests) (right : IsRight tests) (d : List ℕ → Option Ty) (d
       (light_formed (length bs) (le_trans (digits_within tests.limit text bs q) right.within))
 
   standing_formed : (span : Span) (name : List ℕ) (o : Option Standing) (G : Scope) (S : Typed) → ((st : Standing) → o ≡ Some st → StandsFormed d st) → name_of_standing span name o G ≡ Ok S → WellFormed d S.ty
-  standing_formed span name (Some (Stored s)) G S g h = subst (WellFormed d) (class_type G.class span (reading s) s.ty (λ n. tree.Read n (slot_of name (layout_of G.names))) S h) (g (Stored s) refl).0
+  standing_formed span name (Some (Stored s)) G S g h =
+      subst (WellFormed d) (class_type G.class span (reading s) s.ty (λ n. tree.Read n (slot_of name (layout_of G.names))) S h)
+      (g (Stored s) refl).0
   standing_formed span name (Some (Label T x)) G S g h = subst (WellFormed d) (class_type G.class span Pure T (λ n. tree.Constant n x) S h) (g (Label T x) refl)
   standing_formed span name (Some Subprogram) G S g h = err_ok (fault_of T02 span) S h
   standing_formed span name (Some (TypeName T)) G S g h = err_ok (fault_of T02 span) S h
@@ -480,19 +501,22 @@ module _ (tests : Tests) (right : IsRight tests) (d : List ℕ → Option Ty) (d
       subst (λ l. ShapedParts d (types_of l)) (ok_ok (operand (found tests e.0).span s.value ∷ r.value) os r.then) (w.has_name, w.shaped, operands_formed es G r.value g u r.first)
 
   layer_formed : (y : Below) (G : Scope) (S : Typed) → NamesFormed d G.names → FormedSubs G.subs → typed_rule tests (opened tests (trees y)) G ≡ Ok S → WellFormed d S.ty
-  layer_formed (ex.Int span n) G S g u h = subst (WellFormed d) (class_type G.class span Pure (literal_type n) (λ m. tree.Int m n) S h) (literal_formed n)
+  layer_formed (ex.Int span n) G S g u h =
+      subst (WellFormed d) (class_type G.class span Pure (literal_type n) (λ m. tree.Int m n) S h) (literal_formed n)
   layer_formed (ex.Bits span t) G S g u h = literal_layer G.class span t (literal_of tests.limit t) S refl h
   layer_formed (ex.Bool span b) G S g u h = subst (WellFormed d) (class_type G.class span Pure boolean (λ n. tree.Constant n (bool b)) S h) boolean_formed
   layer_formed (ex.Name span name) G S g u h = standing_formed span name (standing_of name G.names) G S (g name) h
   layer_formed (ex.Unary span o a) G S g u h =
       let t = bind_ok (typed tests a.0 G) _ S h in
       let v = bind_ok (unary_rule span o t.value.ty) _ S t.then in
-      subst (WellFormed d) (class_type G.class span t.value.effect v.value (λ n. tree.Unary n o t.value.tree) S v.then) (unary_formed span o t.value.ty v.value (a.1 G t.value g u t.first).shaped v.first)
+      subst (WellFormed d) (class_type G.class span t.value.effect v.value (λ n. tree.Unary n o t.value.tree) S v.then)
+      (unary_formed span o t.value.ty v.value (a.1 G t.value g u t.first).shaped v.first)
   layer_formed (ex.Binary span o a b) G S g u h =
       let t = bind_ok (typed tests a.0 G) _ S h in
       let v = bind_ok (typed tests b.0 G) _ S t.then in
       let r = bind_ok (binary_rule tests span o t.value.ty v.value.ty) _ S v.then in
-      subst (WellFormed d) (end_type G.class span (together t.value.effect v.value.effect) (greater t.value.effect v.value.effect) r.value (λ n. tree.Binary n o t.value.tree v.value.tree) S r.then)
+      subst (WellFormed d) (end_type G.class span (together t.value.effect v.value.effect) (greater t.value.effect v.value.effect) r.value
+      (λ n. tree.Binary n o t.value.tree v.value.tree) S r.then)
       (binary_formed span o t.value.ty v.value.ty r.value (a.1 G t.value g u t.first).shaped (b.1 G v.value g u v.first).shaped r.first)
   layer_formed (ex.Conditional span c a b) G S g u h =
       let z = bind_ok (typed tests c.0 G) _ S h in
@@ -520,22 +544,28 @@ module _ (tests : Tests) (right : IsRight tests) (d : List ℕ → Option Ty) (d
       let b = bind_ok (call_begun i (map (found tests) (map (λ e. e.0) es)) G) _ S h in
       let o = bind_ok (operands (map (found tests) (map (λ e. e.0) es)) G) _ b.value b.first in
       let n = then_ok (need (is_subprogram (standing_of i.text G.names)) T02 i.span) (Ok o.value) b.value o.then in
-      let z : ShapedParts d (types_of b.value) = subst (λ l. ShapedParts d (types_of l)) (ok_ok o.value b.value n.then) (operands_formed es G o.value g u o.first) in
+      let z : ShapedParts d (types_of b.value) =
+      subst (λ l. ShapedParts d (types_of l)) (ok_ok o.value b.value n.then) (operands_formed es G o.value g u o.first) in
       function_layer span i (map (λ e. e.0) ps) G S (routine_named i.text) b.value g u z b.then
   layer_formed (ex.Field span a i) G S g u h =
       let t = bind_ok (typed tests a.0 G) _ S h in
       let m = bind_ok (member_named i t.value.ty) _ S t.then in
-      subst (WellFormed d) (class_type G.class span t.value.effect (member_type m.value) (member_tree t.value.tree m.value) S m.then) (member_formed t.value.ty i.text m.value (a.1 G t.value g u t.first).shaped (member_room i t.value.ty m.value m.first) (member_ok i t.value.ty m.value m.first))
+      subst (WellFormed d) (class_type G.class span t.value.effect (member_type m.value) (member_tree t.value.tree m.value) S m.then)
+      (member_formed t.value.ty i.text m.value (a.1 G t.value g u t.first).shaped (member_room i t.value.ty m.value m.first)
+      (member_ok i t.value.ty m.value m.first))
   layer_formed (ex.Fields span a is) G S g u h =
       let t = bind_ok (typed tests a.0 G) _ S h in
       let f = bind_ok (bitfields_named span is t.value.ty) _ S t.then in
-      subst (WellFormed d) (class_type G.class span t.value.effect (bits_wide (all_wide f.value)) (λ n. tree.Bitfields n t.value.tree f.value) S f.then) (fields_wide span is t.value.ty f.value f.first)
+      subst (WellFormed d) (class_type G.class span t.value.effect (bits_wide (all_wide f.value))
+      (λ n. tree.Bitfields n t.value.tree f.value) S f.then) (fields_wide span is t.value.ty f.value f.first)
   layer_formed (ex.Slices span a ss) G S g u h =
       let t = bind_ok (typed tests a.0 G) _ S h in
       let o = bind_ok (all_operands (map (found_slice tests) (map (λ s. s.0) ss)) G) _ S t.then in
       let k = then_ok (sliceable span t.value.ty o.value) _ S o.then in
       let w = bind_ok (sliced_width span (map (found_slice tests) (map (λ s. s.0) ss)) G) _ S k.then in
-      subst (WellFormed d) (end_type G.class span (all_together Pure (t.value.effect ∷ effects_of o.value)) (greatest Pure (t.value.effect ∷ effects_of o.value)) (bits_of w.value []) (λ n. tree.Slices n t.value.tree (shapes_of (map (found_slice tests) (map (λ s. s.0) ss))) (trees_of o.value)) S w.then)
+      subst (WellFormed d) (end_type G.class span (all_together Pure (t.value.effect ∷ effects_of o.value))
+      (greatest Pure (t.value.effect ∷ effects_of o.value)) (bits_of w.value [])
+      (λ n. tree.Slices n t.value.tree (shapes_of (map (found_slice tests) (map (λ s. s.0) ss))) (trees_of o.value)) S w.then)
       (bits_formed w.value (sliced_held tests span (map (λ s. s.0) ss) G w.value (counts_formed d G.names g) w.first))
   layer_formed (ex.Element span a i) G S g u h =
       let t = bind_ok (typed tests a.0 G) _ S h in
@@ -579,7 +609,8 @@ module _ (tests : Tests) (right : IsRight tests) (d : List ℕ → Option Ty) (d
   type_layer_formed (ex.IntegerType span ps) outside G W g h =
       let p = bind_ok (all_parts (map (found_part tests) (map (λ p. p.0) ps)) G) _ W h in
       let n = then_ok (need (nat_le (length p.value) most_parts) T20 span) _ W p.then in
-      written_is (integer_of (parts_written p.value)) _ _ W (integer_formed _ (parts_held tests (map (λ p. p.0) ps) G p.value (counts_formed d G.names g) p.first)) n.then
+      written_is (integer_of (parts_written p.value)) _ _ W
+      (integer_formed _ (parts_held tests (map (λ p. p.0) ps) G p.value (counts_formed d G.names g) p.first)) n.then
   type_layer_formed (ex.BooleanType span) outside G W g h = written_is boolean _ _ W boolean_formed h
   type_layer_formed (ex.BitType span) outside G W g h = written_is (bits_wide 1) _ _ W (wide_formed 1 one_light) h
   type_layer_formed (ex.NamedType span name) outside G W g h =
@@ -591,7 +622,8 @@ module _ (tests : Tests) (right : IsRight tests) (d : List ℕ → Option Ty) (d
       let v = bind_ok (view_rule span w.value.poly x.value) _ W x.then in
       let n = then_ok (need (within_limits tests.limit outside w.value.poly) T20 span) _ W v.then in
       let i = width_is_held tests e.0 G (counts_formed d G.names g) w.value w.first in
-      written_is (bits_of w.value.poly v.value) _ _ W (record { shaped = (i, view_shaped span w.value.poly x.value v.value v.first); has_name = refl }) n.then
+      written_is (bits_of w.value.poly v.value) _ _ W
+      (record { shaped = (i, view_shaped span w.value.poly x.value v.value v.first); has_name = refl }) n.then
   type_layer_formed (ex.TupleType span ts) outside G W g h =
       let s = bind_ok (types_in_order outside (map (found_type tests) (map (λ t. t.0) ts)) G) _ W h in
       let t = bind_ok (bounded span (tuple_of (types_written s.value))) _ W s.then in

@@ -64,7 +64,8 @@ module _ (t : Tests) (right : IsRight t) (d : List ℕ → Option Ty) (known : W
       let w = maybe_written p.ty v.value names g v.first in
       params_formed ps (before ++ record { atom = next_atom names; ty = v.value } ∷ [])
       (names ++ param_entry p.name.text v.value (next_atom names) ∷ []) r
-      (added d names (param_entry p.name.text v.value (next_atom names)) g (own_type v.value (next_atom names) w, atom_is_polynomial (next_atom names)))
+      (added d names (param_entry p.name.text v.value (next_atom names)) g
+      (own_type v.value (next_atom names) w, atom_is_polynomial (next_atom names)))
       (params_snoc d before (record { atom = next_atom names; ty = v.value }) b w) v.then
 
   formals_formed : (fs : List Formal) (names : List Entry) (Ts : Parts) → NamesFormed d names → formals_rule t fs names ≡ Ok Ts →

@@ -90,7 +90,8 @@ word_belongs d n (part T (part U Ts)) bs h e = no h
 word_belongs d n (part T no_part) bs h e =
     let p = both (is_bits T) (is_wide n (constant_value (width_of T))) h in
     let w : width_at (width_of T) no_atoms ≡ pos (length bs) =
-    constant_width no_atoms (width_of T) (pos n) (constant_is no_atoms (width_of T) (pos n) (wide_is n (constant_value (width_of T)) p.1)) ∙ ap pos (sym e) in
+    constant_width no_atoms (width_of T) (pos n) (constant_is no_atoms (width_of T) (pos n) (wide_is n (constant_value (width_of T)) p.1))
+    ∙ ap pos (sym e) in
     let i = bits_have no_atoms T bs p.0 w in
     ((viewed_has (type_with T no_atoms) (bits_with bs []) i, viewed_built d (type_with T no_atoms) (bits_with bs []) tt, viewed_twice (type_with T no_atoms) (bits_with bs [])), tt)
 

@@ -25,7 +25,9 @@ good_snoc d names e g s name st h = elim (standing_back name names e st h) [ inl
 
 module _ (tests : Tests) (right : IsRight tests) (d : List ℕ → Option Ty) (declared : WellDeclared d) where
   param_formed : (o : Option TypeExpr) (T : Option Ty) (n : ℕ) (names : List Entry) → GoodNames d names → param_written tests o names ≡ Ok T → WellFormed d (type_or_itself T n)
-  param_formed None T n names g h = subst (λ z. WellFormed d (type_or_itself z n)) (ok_ok None T h) (integer_formed tests right d declared (only_width (atom_map n)) (only_ends (atom_map n) (atom_is_polynomial n)))
+  param_formed None T n names g h =
+      subst (λ z. WellFormed d (type_or_itself z n)) (ok_ok None T h)
+      (integer_formed tests right d declared (only_width (atom_map n)) (only_ends (atom_map n) (atom_is_polynomial n)))
   param_formed (Some ty) T n names g h =
       let v = bind_ok (written tests ty false (in_names names)) _ T h in
       subst (λ z. WellFormed d (type_or_itself z n)) (ok_ok (Some v.value.ty) T v.then) (written_formed tests right d declared ty false (in_names names) v.value g v.first)
@@ -35,7 +37,8 @@ module _ (tests : Tests) (right : IsRight tests) (d : List ℕ → Option Ty) (d
   params_good (p ∷ ps) before names r g h =
       let v = bind_ok (param_written tests p.ty names) _ r h in
       params_good ps (before ++ record { atom = next_atom names; ty = v.value } ∷ []) (names ++ param_entry p.name.text v.value (next_atom names) ∷ []) r
-      (good_snoc d names (param_entry p.name.text v.value (next_atom names)) g (param_formed p.ty v.value (next_atom names) names g v.first, atom_is_polynomial (next_atom names))) v.then
+      (good_snoc d names (param_entry p.name.text v.value (next_atom names)) g
+      (param_formed p.ty v.value (next_atom names) names g v.first, atom_is_polynomial (next_atom names))) v.then
 
   pub result_formed : (o : Option TypeExpr) (T : Option Ty) (names : List Entry) → GoodNames d names → result_rule tests o names ≡ Ok T → FormedResult tests right d declared T
   result_formed None T names g h = subst (FormedResult tests right d declared) (ok_ok None T h) tt

@@ -94,18 +94,24 @@ module _ (t : Tests) (P : Fault → Type 0) where
   divided_number span a k p = search steps
 
   -- what joins two expressions
-  pub two_widths : (span : Span) (j : Joining) (a b : Found) (G : Scope) → At P span → ExprStands P a → ExprStands P b → Stands P (width_of span (reading_of_two j a b) G)
+  pub two_widths : (span : Span) (j : Joining) (a b : Found) (G : Scope) → At P span → ExprStands P a → ExprStands P b →
+      Stands P (width_of span (reading_of_two j a b) G)
   two_widths span (Combines o) a b G p h k =
-      bound P (a.width G) _ (h.width_at G) (λ v. bound P (b.width G) _ (k.width_at G) (λ w. bound P (width_combined span o v.poly w.poly) _ (combined_width span o v.poly w.poly p) (λ r. tt)))
+      bound P (a.width G) _ (h.width_at G) (λ v. bound P (b.width G) _ (k.width_at G)
+      (λ w. bound P (width_combined span o v.poly w.poly) _ (combined_width span o v.poly w.poly p) (λ r. tt)))
   two_widths span Divides a b G p h k =
-      bound P (a.width G) _ (h.width_at G) (λ v. bound P (found_or b.divisor T19 span) _ (found_at P b.divisor T19 span p tt) (λ n. bound P (width_divided span v.poly n) _ (divided_width span v.poly n p) (λ r. tt)))
+      bound P (a.width G) _ (h.width_at G) (λ v. bound P (found_or b.divisor T19 span) _ (found_at P b.divisor T19 span p tt)
+      (λ n. bound P (width_divided span v.poly n) _ (divided_width span v.poly n p) (λ r. tt)))
   two_widths span JoinsNothing a b G p h k = refused P T19 span p tt
 
-  pub two_numbers : (span : Span) (j : Joining) (a b : Found) (G : Scope) → At P span → ExprStands P a → ExprStands P b → Stands P (number_of span (reading_of_two j a b) G)
+  pub two_numbers : (span : Span) (j : Joining) (a b : Found) (G : Scope) → At P span → ExprStands P a → ExprStands P b →
+      Stands P (number_of span (reading_of_two j a b) G)
   two_numbers span (Combines o) a b G p h k =
-      bound P (a.number G) _ (h.number_at G) (λ v. bound P (b.number G) _ (k.number_at G) (λ w. bound P (number_combined span o v.number w.number) _ (combined_number span o v.number w.number p) (λ r. tt)))
+      bound P (a.number G) _ (h.number_at G) (λ v. bound P (b.number G) _ (k.number_at G)
+      (λ w. bound P (number_combined span o v.number w.number) _ (combined_number span o v.number w.number p) (λ r. tt)))
   two_numbers span Divides a b G p h k =
-      bound P (a.number G) _ (h.number_at G) (λ v. bound P (found_or b.divisor T19 span) _ (found_at P b.divisor T19 span p tt) (λ n. bound P (number_divided span v.number n) _ (divided_number span v.number n p) (λ r. tt)))
+      bound P (a.number G) _ (h.number_at G) (λ v. bound P (found_or b.divisor T19 span) _ (found_at P b.divisor T19 span p tt)
+      (λ n. bound P (number_divided span v.number n) _ (divided_number span v.number n p) (λ r. tt)))
   two_numbers span JoinsNothing a b G p h k = refused P T19 span p tt
 
   -- ---- several expressions
@@ -316,4 +322,5 @@ module _ (t : Tests) (P : Fault → Type 0) where
   part_patterns [] Ts G h = tt
 
 -- beside the steps, all that these rules are made of
-pub ruleset rows = (unary_stands, binary_stands, name_stands, standing_width, combined_width, divided_width, standing_number, combined_number, divided_number, two_widths, two_numbers, operands_there, construct_stands, bitfields_stand, slices_stand, adds_stand, call_stands, one_bit_stands, bit_range_stands, parts_stand, fields_there, view_stands, types_stand, length_stands, all_patterns, part_patterns)
+pub ruleset rows =
+    (unary_stands, binary_stands, name_stands, standing_width, combined_width, divided_width, standing_number, combined_number, divided_number, two_widths, two_numbers, operands_there, construct_stands, bitfields_stand, slices_stand, adds_stand, call_stands, one_bit_stands, bit_range_stands, parts_stand, fields_there, view_stands, types_stand, length_stands, all_patterns, part_patterns)

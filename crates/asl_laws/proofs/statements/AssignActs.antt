@@ -269,7 +269,9 @@ module _ (tests : Tests) (right : IsRight tests) (ds : List Decl) (base : List E
       let f = then_ok (part_fits tests (part_of p.way (Some o.typed.ty)) r.value.ty o.span) _ tt k1 in
       let g : part_fits tests (Some t.0.ty) r.value.ty o.span ≡ Ok tt = subst (λ v. part_fits tests v r.value.ty o.span ≡ Ok tt) t.0.ty_is f.first in
       let good = scope_good av base G.names c w a.agrees p.name.text (Stored s.value) stands in
-      let formed = suffixes_formed tests right ds base subs loose funcs w G p.name t.0.suffixes p.suffixes s.value.ty r.value (counts_held av base G.names c a.agrees) good.0 t.0.typed_so r.first in
+      let formed =
+      suffixes_formed tests right ds base subs loose funcs w G p.name t.0.suffixes p.suffixes s.value.ty r.value
+      (counts_held av base G.names c a.agrees) good.0 t.0.typed_so r.first in
       let rest = all_stored c o x holds none ps l.value us a t.1 l.first f.then in
       let v : StoreThere = record { steps = map step_ahead r.value.steps; put = stored tests.limit holds p.name.span (slot_of p.name.text (layout_of G.names)) t.0.one } in
       subst (λ e. Stored_all (u ∷ us) (stores tests.limit holds (tree_places e) x)) are

@@ -58,35 +58,42 @@ module _ (tests : Tests) (right : IsRight tests) (ds : List Decl) (base : List E
   member_leads H T span f m t e U ss ps n = field_step (env tests right ds base subs loose funcs w) (well_declared base w) H.present tests right T U span f.text m ss ps t.shaped e n
 
   -- the type behind a suffix is well formed
-  pub suffix_formed : (G : Scope) (span : Span) (s : Suffix) (y : TypedSuffix) (T : Ty) (b : Behind) → CountsHeld G.names → WellFormed (types_in base) T → typed_suffix tests span s G ≡ Ok y → behind_suffix y T G ≡ Ok b →
+  pub suffix_formed : (G : Scope) (span : Span) (s : Suffix) (y : TypedSuffix) (T : Ty) (b : Behind) → CountsHeld G.names →
+      WellFormed (types_in base) T → typed_suffix tests span s G ≡ Ok y → behind_suffix y T G ≡ Ok b →
       WellFormed (types_in base) b.ty
   suffix_formed G span (FieldOf f) y T b c t h g =
       let g1 : behind_suffix (by_field span f) T G ≡ Ok b = subst (λ z. behind_suffix z T G ≡ Ok b) (sym (ok_ok (by_field span f) y h)) g in
       let m = bind_ok (member_named f T) _ b g1 in
       subst (λ (z : Behind). WellFormed (types_in base) z.ty) (ok_ok (behind (member_type m.value) (member_step span m.value)) b m.then)
-      (member_formed tests right (types_in base) (well_declared base w) T f.text m.value t.shaped (member_room f T m.value m.first) (member_ok f T m.value m.first))
+      (member_formed tests right (types_in base) (well_declared base w) T f.text m.value t.shaped (member_room f T m.value m.first)
+      (member_ok f T m.value m.first))
   suffix_formed G span (FieldsOf fs) y T b c t h g =
-      let g1 : behind_suffix (by_bitfields span fs) T G ≡ Ok b = subst (λ z. behind_suffix z T G ≡ Ok b) (sym (ok_ok (by_bitfields span fs) y h)) g in
+      let g1 : behind_suffix (by_bitfields span fs) T G ≡ Ok b =
+      subst (λ z. behind_suffix z T G ≡ Ok b) (sym (ok_ok (by_bitfields span fs) y h)) g in
       let m = bind_ok (named_in_type span fs T) _ b g1 in
       subst (λ (z : Behind). WellFormed (types_in base) z.ty) (ok_ok (behind (bits_wide (all_wide m.value)) _) b m.then)
       (fields_wide tests right (types_in base) (well_declared base w) span fs T m.value m.first)
   suffix_formed G span (SlicesOf sl) y T b c t h g =
       let o = bind_ok (all_operands (found_slices tests sl) G) _ y h in
-      let g1 : behind_suffix (by_slices span (found_slices tests sl) o.value) T G ≡ Ok b = subst (λ z. behind_suffix z T G ≡ Ok b) (sym (ok_ok (by_slices span (found_slices tests sl) o.value) y o.then)) g in
+      let g1 : behind_suffix (by_slices span (found_slices tests sl) o.value) T G ≡ Ok b =
+      subst (λ z. behind_suffix z T G ≡ Ok b) (sym (ok_ok (by_slices span (found_slices tests sl) o.value) y o.then)) g in
       let n = then_ok (need (is_bits T && all_integers o.value) T08 span) _ b g1 in
       let v = bind_ok (sliced_width span (found_slices tests sl) G) _ b n.then in
       subst (λ (z : Behind). WellFormed (types_in base) z.ty) (ok_ok (behind (bits_of v.value []) _) b v.then)
       (bits_formed tests right (types_in base) (well_declared base w) v.value (sliced_held tests span sl G v.value c v.first))
   suffix_formed G span (ElementOf e) y T b c t h g =
       let I = bind_ok (typed tests e G) _ y h in
-      let g1 : behind_suffix (by_element span I.value) T G ≡ Ok b = subst (λ z. behind_suffix z T G ≡ Ok b) (sym (ok_ok (by_element span I.value) y I.then)) g in
+      let g1 : behind_suffix (by_element span I.value) T G ≡ Ok b =
+      subst (λ z. behind_suffix z T G ≡ Ok b) (sym (ok_ok (by_element span I.value) y I.then)) g in
       let v = bind_ok (indexed span T I.value.ty) _ b g1 in
       let x = bind_ok (found_or (element_in T) T08 span) _ v.value v.first in
       let n = then_ok (need (is_integer I.value.ty) T08 span) (Ok x.value) v.value x.then in
       subst (λ (z : Behind). WellFormed (types_in base) z.ty) (ok_ok (behind v.value _) b v.then)
-      (element_formed tests right (types_in base) (well_declared base w) T v.value t.shaped (found_ok (element_in T) T08 span x.value x.first ∙ ap Some (ok_ok x.value v.value n.then)))
+      (element_formed tests right (types_in base) (well_declared base w) T v.value t.shaped
+      (found_ok (element_in T) T08 span x.value x.first ∙ ap Some (ok_ok x.value v.value n.then)))
 
-  pub suffixes_formed : (G : Scope) (i : Ident) (xs : List PlacedSuffix) (ys : List TypedSuffix) (T : Ty) (r : Reached) → CountsHeld G.names → WellFormed (types_in base) T → typed_suffixes tests i xs G ≡ Ok ys → behind_suffixes ys T G ≡ Ok r →
+  pub suffixes_formed : (G : Scope) (i : Ident) (xs : List PlacedSuffix) (ys : List TypedSuffix) (T : Ty) (r : Reached) →
+      CountsHeld G.names → WellFormed (types_in base) T → typed_suffixes tests i xs G ≡ Ok ys → behind_suffixes ys T G ≡ Ok r →
       WellFormed (types_in base) r.ty
   suffixes_formed G i [] ys T r c t h g =
       let g1 : behind_suffixes [] T G ≡ Ok r = subst (λ z. behind_suffixes z T G ≡ Ok r) (sym (ok_ok [] ys h)) g in
@@ -94,11 +101,13 @@ module _ (tests : Tests) (right : IsRight tests) (ds : List Decl) (base : List E
   suffixes_formed G i (x ∷ xs) ys T r c t h g =
       let y = bind_ok (typed_suffix tests (up_to i x.end) x.suffix G) _ ys h in
       let zs = bind_ok (typed_suffixes tests i xs G) _ ys y.then in
-      let g1 : behind_suffixes (y.value ∷ zs.value) T G ≡ Ok r = subst (λ z. behind_suffixes z T G ≡ Ok r) (sym (ok_ok (y.value ∷ zs.value) ys zs.then)) g in
+      let g1 : behind_suffixes (y.value ∷ zs.value) T G ≡ Ok r =
+      subst (λ z. behind_suffixes z T G ≡ Ok r) (sym (ok_ok (y.value ∷ zs.value) ys zs.then)) g in
       let b = bind_ok (behind_suffix y.value T G) _ r g1 in
       let q = bind_ok (behind_suffixes zs.value b.value.ty G) _ r b.then in
       subst (λ (z : Reached). WellFormed (types_in base) z.ty) (ok_ok (reached q.value.ty (b.value.step ∷ q.value.steps)) r q.then)
-      (suffixes_formed G i xs zs.value b.value.ty q.value c (suffix_formed G (up_to i x.end) x.suffix y.value T b.value c t y.first b.first) zs.first q.first)
+      (suffixes_formed G i xs zs.value b.value.ty q.value c (suffix_formed G (up_to i x.end) x.suffix y.value T b.value c t y.first b.first)
+      zs.first q.first)
 
   -- ---- the operands of a suffix
 
@@ -140,7 +149,9 @@ module _ (tests : Tests) (right : IsRight tests) (ds : List Decl) (base : List E
       (all_same tests right base subs loose H Q (exprs_in slice_parts sl) (trees_in o.value) s.asked [] c (λ zs c1. k (into_slices span (shapes_in slice_parts sl) zs) c1) (λ zs c1. l (places.into_slices span shapes zs) c1) s.asks a
       (λ xs c1 i a1.
       let r = s.cuts xs i in
-      let wide = sums_to H.present span z.value v.value (all_widths r.list) z.then (sliced_held tests span sl H.scope v.value held v.first) (r.adds begun fits (pos 0) (int_end (pos 0) H.present)) in
+      let wide =
+      sums_to H.present span z.value v.value (all_widths r.list) z.then (sliced_held tests span sl H.scope v.value held v.first)
+      (r.adds begun fits (pos 0) (int_end (pos 0) H.present)) in
       next (into_slices span (shapes_in slice_parts sl) xs) (places.into_slices span shapes xs) c1
       (subst (λ (x : Behind). Leads H T x.ty (into_slices span (shapes_in slice_parts sl) xs) (places.into_slices span shapes xs)) e
       (λ U ss ps q. slices_step (env tests right ds base subs loose funcs w) (well_declared base w) H.present tests right T U span (shapes_in slice_parts sl) shapes xs r.list v.value ss ps s.shapes_are t.shaped p.0 r.are wide q)) a1)))

@@ -111,14 +111,17 @@ next_between Down first last i b h = (not_less (i -ℤ pos 1) last h, next_below
 abbrev Holds_index : Assignment → Ty → Direction → ℤ → ℤ → Type 0
 Holds_index a T d first last = (i : ℤ) → Between d first last i → has_type a (int i) T ≡ true
 
-in_range_of : (a : Assignment) (l h : End) (y v i : ℤ) → ceiling (end_at l a) ≡ y → floor (end_at h a) ≡ v → y ≤ℤ i → i ≤ℤ v → has_type a (int i) (integer_of (cons.part l h ∷ [])) ≡ true
+in_range_of : (a : Assignment) (l h : End) (y v i : ℤ) → ceiling (end_at l a) ≡ y → floor (end_at h a) ≡ v → y ≤ℤ i → i ≤ℤ v →
+    has_type a (int i) (integer_of (cons.part l h ∷ [])) ≡ true
 in_range_of a l h y v i e f p q =
     or_first (in_one i (range_in (end_at l a) (end_at h a))) false
     (and_true (not_above (ceiling (end_at l a)) i) (not_above i (floor (end_at h a)))
-    (is_not_above (ceiling (end_at l a)) i (subst (λ z. z ≤ℤ i) (sym e) p)) (is_not_above i (floor (end_at h a)) (subst (λ z. i ≤ℤ z) (sym f) q)))
+    (is_not_above (ceiling (end_at l a)) i (subst (λ z. z ≤ℤ i) (sym e) p))
+    (is_not_above i (floor (end_at h a)) (subst (λ z. i ≤ℤ z) (sym f) q)))
 
 -- the integer of a width is whole, so it is the end of a range that the width is
-width_ends : (a : Assignment) (W : Width) (x : Value) → IsWidth a W.poly x → (ceiling (end_at (cons.shown W.poly) a) ≡ width_at W.poly a) × (floor (end_at (cons.shown W.poly) a) ≡ width_at W.poly a)
+width_ends : (a : Assignment) (W : Width) (x : Value) → IsWidth a W.poly x →
+    (ceiling (end_at (cons.shown W.poly) a) ≡ width_at W.poly a) × (floor (end_at (cons.shown W.poly) a) ≡ width_at W.poly a)
 width_ends a W x o = whole_ends a W.poly (width_at W.poly a) o.2 o.1
 
 pub viewed_int : (C : Closed) (z : ℤ) → viewed C (int z) ≡ int z
@@ -240,13 +243,16 @@ module _ (tests : Tests) (right : IsRight tests) (ds : List Decl) (base : List E
   Follows j d T k l = (first last : ℤ) (c : Core) → Holds_index j.present T d first last → At tests base subs loose (spot j) c → Both j true (k (int first) (int last) c) (l (int first) (int last) (erased c))
 
   bounds_known : (j : StmtClaim) (d : Direction) (T : Ty) (a b : Expr) (S U : Typed) (p q : Asked) (y v : ℤ) (c : Core) (k : Go) (l : Run_on) → typed tests a j.body.scope ≡ Ok S → typed tests b j.body.scope ≡ Ok U → Answers tests p a j.body.scope → Answers tests q b j.body.scope →
-      ((x : Value) → GivesAsked (types_in base) j.present p x → x ≡ int y) → ((x : Value) → GivesAsked (types_in base) j.present q x → x ≡ int v) →
-      ((x z : Value) → GivesAsked (types_in base) j.present p x → GivesAsked (types_in base) j.present q z → Holds_index j.present T d y v) → At tests base subs loose (spot j) c → Follows j d T k l →
+      ((x : Value) → GivesAsked (types_in base) j.present p x → x ≡ int y) →
+      ((x : Value) → GivesAsked (types_in base) j.present q x → x ≡ int v) →
+      ((x z : Value) → GivesAsked (types_in base) j.present p x → GivesAsked (types_in base) j.present q z → Holds_index j.present T d y v)
+      → At tests base subs loose (spot j) c → Follows j d T k l →
       Both j true (Eval a c (λ x c1. Eval b c1 (λ z c2. k x z c2))) (Eval S.tree (erased c) (λ x c1. Eval U.tree c1 (λ z c2. l x z c2)))
   bounds_known j d T a b S U p q y v c k l h g m n f r t at next =
       operand_also tests right base subs loose (spot j) (OutAct tests right ds base subs loose funcs w j true) a S p c (λ x c1. Eval b c1 (λ z c2. k x z c2)) (λ x c1. Eval U.tree c1 (λ z c2. l x z c2)) h m at
       (λ x c1 i o a1. operand_also tests right base subs loose (spot j) (OutAct tests right ds base subs loose funcs w j true) b U q c1 (λ z c2. k x z c2) (λ z c2. l x z c2) g n a1
-      (λ z c2 i2 o2 a2. subst (λ x1. Both j true (k x1 z c2) (l x1 z (erased c2))) (sym (f x o)) (subst (λ z1. Both j true (k (int y) z1 c2) (l (int y) z1 (erased c2))) (sym (r z o2)) (next y v c2 (t x z o o2) a2))))
+      (λ z c2 i2 o2 a2. subst (λ x1. Both j true (k x1 z c2) (l x1 z (erased c2))) (sym (f x o))
+      (subst (λ z1. Both j true (k (int y) z1 c2) (l (int y) z1 (erased c2))) (sym (r z o2)) (next y v c2 (t x z o o2) a2))))
 
   bounds_unknown : (j : StmtClaim) (d : Direction) (T : Ty) (a b : Expr) (S U : Typed) (c : Core) (k : Go) (l : Run_on) → typed tests a j.body.scope ≡ Ok S → typed tests b j.body.scope ≡ Ok U → is_integer S.ty ≡ true → is_integer U.ty ≡ true →
       ((first last : ℤ) → Holds_index j.present T d first last) → At tests base subs loose (spot j) c → Follows j d T k l →
@@ -275,13 +281,15 @@ module _ (tests : Tests) (right : IsRight tests) (ds : List Decl) (base : List E
       let v = bind_ok (width tests b j.body.scope) _ r u.then in
       subst (λ (z : WrittenPart). Follows j Up (integer_of (z.part ∷ [])) k l → Bounds j Up (integer_of (z.part ∷ [])) a b S U c k l) (ok_ok _ r v.then)
       (bounds_known j Up (integer_of (cons.part (cons.shown u.value.poly) (cons.shown v.value.poly) ∷ [])) a b S U (of_width u.value) (of_width v.value) (width_at u.value.poly j.present) (width_at v.value.poly j.present) c k l h g u.first v.first (λ x o. o.0) (λ x o. o.0)
-      (λ x z o o2 i p. in_range_of j.present (cons.shown u.value.poly) (cons.shown v.value.poly) _ _ i (width_ends j.present u.value x o).0 (width_ends j.present v.value z o2).1 p.0 p.1) at)
+      (λ x z o o2 i p. in_range_of j.present (cons.shown u.value.poly) (cons.shown v.value.poly) _ _ i (width_ends j.present u.value x o).0
+      (width_ends j.present v.value z o2).1 p.0 p.1) at)
   up_bounds false j r a b S U c k l e h g at =
       let u = bind_ok ((found tests a).number j.body.scope) _ r e in
       let v = bind_ok ((found tests b).number j.body.scope) _ r u.then in
       subst (λ (z : WrittenPart). Follows j Up (integer_of (z.part ∷ [])) k l → Bounds j Up (integer_of (z.part ∷ [])) a b S U c k l) (ok_ok _ r v.then)
       (bounds_known j Up (integer_of (cons.part (Int u.value.number) (Int v.value.number) ∷ [])) a b S U (of_number u.value) (of_number v.value) u.value.number v.value.number c k l h g u.first v.first (λ x o. o) (λ x o. o)
-      (λ x z o o2 i p. in_range_of j.present (Int u.value.number) (Int v.value.number) _ _ i (whole_ceiling u.value.number) (whole_floor v.value.number) p.0 p.1) at)
+      (λ x z o o2 i p. in_range_of j.present (Int u.value.number) (Int v.value.number) _ _ i (whole_ceiling u.value.number)
+      (whole_floor v.value.number) p.0 p.1) at)
 
   down_bounds : (x : Bool) (j : StmtClaim) (r : WrittenPart) (a b : Expr) (S U : Typed) (c : Core) (k : Go) (l : Run_on) → (if_of x b a j.body.scope) ≡ Ok r → typed tests a j.body.scope ≡ Ok S → typed tests b j.body.scope ≡ Ok U → At tests base subs loose (spot j) c → Follows j Down (integer_of (r.part ∷ [])) k l → Bounds j Down (integer_of (r.part ∷ [])) a b S U c k l
   down_bounds true j r a b S U c k l e h g at =
@@ -289,13 +297,15 @@ module _ (tests : Tests) (right : IsRight tests) (ds : List Decl) (base : List E
       let u = bind_ok (width tests a j.body.scope) _ r v.then in
       subst (λ (z : WrittenPart). Follows j Down (integer_of (z.part ∷ [])) k l → Bounds j Down (integer_of (z.part ∷ [])) a b S U c k l) (ok_ok _ r u.then)
       (bounds_known j Down (integer_of (cons.part (cons.shown v.value.poly) (cons.shown u.value.poly) ∷ [])) a b S U (of_width u.value) (of_width v.value) (width_at u.value.poly j.present) (width_at v.value.poly j.present) c k l h g u.first v.first (λ x o. o.0) (λ x o. o.0)
-      (λ x z o o2 i p. in_range_of j.present (cons.shown v.value.poly) (cons.shown u.value.poly) _ _ i (width_ends j.present v.value z o2).0 (width_ends j.present u.value x o).1 p.0 p.1) at)
+      (λ x z o o2 i p. in_range_of j.present (cons.shown v.value.poly) (cons.shown u.value.poly) _ _ i (width_ends j.present v.value z o2).0
+      (width_ends j.present u.value x o).1 p.0 p.1) at)
   down_bounds false j r a b S U c k l e h g at =
       let v = bind_ok ((found tests b).number j.body.scope) _ r e in
       let u = bind_ok ((found tests a).number j.body.scope) _ r v.then in
       subst (λ (z : WrittenPart). Follows j Down (integer_of (z.part ∷ [])) k l → Bounds j Down (integer_of (z.part ∷ [])) a b S U c k l) (ok_ok _ r u.then)
       (bounds_known j Down (integer_of (cons.part (Int v.value.number) (Int u.value.number) ∷ [])) a b S U (of_number u.value) (of_number v.value) u.value.number v.value.number c k l h g u.first v.first (λ x o. o) (λ x o. o)
-      (λ x z o o2 i p. in_range_of j.present (Int v.value.number) (Int u.value.number) _ _ i (whole_ceiling v.value.number) (whole_floor u.value.number) p.0 p.1) at)
+      (λ x z o o2 i p. in_range_of j.present (Int v.value.number) (Int u.value.number) _ _ i (whole_ceiling v.value.number)
+      (whole_floor u.value.number) p.0 p.1) at)
 
   bounds_by : (j : StmtClaim) (d : Direction) (a b : Expr) (S U : Typed) (c : Core) (k : Go) (l : Run_on) → typed tests a j.body.scope ≡ Ok S → typed tests b j.body.scope ≡ Ok U → is_integer S.ty ≡ true → is_integer U.ty ≡ true → At tests base subs loose (spot j) c →
       (r : Result WrittenPart Fault) → by_direction d a b j.body.scope ≡ r → Follows j d (of_range r) k l → Bounds j d (of_range r) a b S U c k l
@@ -309,9 +319,11 @@ module _ (tests : Tests) (right : IsRight tests) (ds : List Decl) (base : List E
   type_is Up a b G = refl
   type_is Down a b G = refl
 
-  range_formed : (a b : Expr) (G : Scope) (r : Result WrittenPart Fault) → CountsHeld G.names → range_rule (found tests a) (found tests b) G ≡ r → WellFormed (types_in base) (of_range r)
+  range_formed : (a b : Expr) (G : Scope) (r : Result WrittenPart Fault) → CountsHeld G.names →
+      range_rule (found tests a) (found tests b) G ≡ r → WellFormed (types_in base) (of_range r)
   range_formed a b G (Ok p) h e =
-      integer_formed tests right (types_in base) (well_declared base w) (p.part ∷ []) (range_by tests ((found tests a).has_atom G || (found tests b).has_atom G) a b G p h e, tt)
+      integer_formed tests right (types_in base) (well_declared base w) (p.part ∷ [])
+      (range_by tests ((found tests a).has_atom G || (found tests b).has_atom G) a b G p h e, tt)
   range_formed a b G (Err f) h e = integer_formed tests right (types_in base) (well_declared base w) [] tt
 
   index_formed : (d : Direction) (a b : Expr) (G : Scope) → CountsHeld G.names → WellFormed (types_in base) (index_type tests d a b G)

@@ -26,17 +26,22 @@ module _ (av : Assignment) (tests : Tests) (right : IsRight tests) (d : List ℕ
       let h = satisfying_keeps av tests right d w S T x s t i.1 m i.0 in
       (viewed_has (type_with T av) x h, viewed_built d (type_with T av) x i.1, viewed_twice (type_with T av) x)
 
-  left_either : (ps qs : List Part) (x : Value) → AllEnds ps → AllEnds qs → has_type av x (integer_of ps) ≡ true → has_type av x (integer_of (union_parts ps qs)) ≡ true
+  left_either : (ps qs : List Part) (x : Value) → AllEnds ps → AllEnds qs → has_type av x (integer_of ps) ≡ true →
+      has_type av x (integer_of (union_parts ps qs)) ≡ true
   left_either ps qs (int z) a b h = in_is_in (union_parts ps qs) av z (union_keeps ps qs a b) (union_left av ps qs z (is_in_in ps av z a h))
   left_either ps qs x a b h = no h
 
-  right_either : (ps qs : List Part) (x : Value) → AllEnds ps → AllEnds qs → has_type av x (integer_of qs) ≡ true → has_type av x (integer_of (union_parts ps qs)) ≡ true
-  right_either ps qs (int z) a b h = in_is_in (union_parts ps qs) av z (union_keeps ps qs a b) (union_right av ps qs z (is_in_in qs av z b h))
+  right_either : (ps qs : List Part) (x : Value) → AllEnds ps → AllEnds qs → has_type av x (integer_of qs) ≡ true →
+      has_type av x (integer_of (union_parts ps qs)) ≡ true
+  right_either ps qs (int z) a b h =
+      in_is_in (union_parts ps qs) av z (union_keeps ps qs a b) (union_right av ps qs z (is_in_in qs av z b h))
   right_either ps qs x a b h = no h
 
-  either_has : (S T U : Ty) (x : Value) → Shaped d S → Shaped d T → either S T ≡ Some U → (has_type av x S ≡ true) ⊎ (has_type av x T ≡ true) → has_type av x U ≡ true
+  either_has : (S T U : Ty) (x : Value) → Shaped d S → Shaped d T → either S T ≡ Some U →
+      (has_type av x S ≡ true) ⊎ (has_type av x T ≡ true) → has_type av x U ≡ true
   either_has (integer_of ps) (integer_of qs) U x a b e k =
-      subst (λ V. has_type av x V ≡ true) (some_same (integer_of (union_parts ps qs)) U e) (⊎_elim (left_either ps qs x a b) (right_either ps qs x a b) k)
+      subst (λ V. has_type av x V ≡ true) (some_same (integer_of (union_parts ps qs)) U e)
+      (⊎_elim (left_either ps qs x a b) (right_either ps qs x a b) k)
   either_has S T U x a b e k = none_some U e
 
   join_by : (o p : Option StaticCode) (S T U : Ty) (x : Value) → WellFormed d S → WellFormed d T → Built d x → misfit tests S T ≡ o → misfit tests T S ≡ p → joined o p S T ≡ Some U → (has_type av x S ≡ true) ⊎ (has_type av x T ≡ true) → has_type av x U ≡ true

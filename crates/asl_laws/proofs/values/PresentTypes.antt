@@ -29,18 +29,22 @@ use Rattle.asl_laws.proofs.expressions.ExprForms.{env}
 use Rattle.asl_laws.proofs.expressions.SizeForms.{AllNumeric, type_says}
 use Rattle.asl_laws.proofs.widths.PresentNumbers.{NumbersAgree, width_has, number_has, CountedFixed, counts_held, present_agree}
 
-module _ (tests : Tests) (right : IsRight tests) (base : List Entry) (subs : List Signature) (loose : Bool) (H : Here) (f : Numbers) (g : NumbersAgree f H.present H.scope) (k : CountsHeld H.scope.names) where
+module _ (tests : Tests) (right : IsRight tests) (base : List Entry) (subs : List Signature) (loose : Bool) (H : Here) (f : Numbers)
+    (g : NumbersAgree f H.present H.scope) (k : CountsHeld H.scope.names) where
   -- the fractions of expressions
   pub record Numbered (es : List Expr) (qs : List Asked) : Type 0 where
     pub values : List Fraction
     pub are : all_fractions (wholes f) es ≡ Some values
     pub ratios : AllRatios H.present qs values
 
-  one_more : (e : Expr) (es : List Expr) (r : Fraction) (rs : List Fraction) → fraction e (wholes f) ≡ Some r → all_fractions (wholes f) es ≡ Some rs →
+  one_more : (e : Expr) (es : List Expr) (r : Fraction) (rs : List Fraction) → fraction e (wholes f) ≡ Some r →
+      all_fractions (wholes f) es ≡ Some rs →
       all_fractions (wholes f) (e ∷ es) ≡ Some (r ∷ rs)
-  one_more e es r rs h n = ap (option_and_then (λ x. option_map (λ xs. x ∷ xs) (all_fractions (wholes f) es))) h ∙ ap (option_map (λ l. r ∷ l)) n
+  one_more e es r rs h n =
+      ap (option_and_then (λ x. option_map (λ xs. x ∷ xs) (all_fractions (wholes f) es))) h ∙ ap (option_map (λ l. r ∷ l)) n
 
-  pub numbered : (es : List Expr) (ts : List Tree) (qs : List Asked) → AllAsked tests right base subs loose H.scope es ts qs → AllNumeric qs → Numbered es qs
+  pub numbered : (es : List Expr) (ts : List Tree) (qs : List Asked) → AllAsked tests right base subs loose H.scope es ts qs →
+      AllNumeric qs → Numbered es qs
   numbered [] [] [] h n = record { values = []; are = refl; ratios = tt }
   numbered (e ∷ es) (t ∷ ts) (of_width W ∷ qs) h n =
       let r = numbered es ts qs h.2 n.1 in
@@ -66,7 +70,9 @@ module _ (tests : Tests) (right : IsRight tests) (ds : List Decl) (base : List E
   type_by H f c t outside W g a h =
       let good = scope_good H.present base H.scope.names c w a in
       let q = type_says tests right base subs loose H (λ name T o. type_fixed (types_in base) H.scope.names name good T o) (λ name. same_types H.present base H.scope.names c name a) t outside W h in
-      let v = numbered tests right base subs loose H f g (counts_held H.present base H.scope.names c a) (type_parts t).exprs W.sizes q.asked q.asks q.numeric in
+      let v =
+      numbered tests right base subs loose H f g (counts_held H.present base H.scope.names c a)
+      (type_parts t).exprs W.sizes q.asked q.asks q.numeric in
       ap (option_and_then (λ rs. present_type rs (shape_of (types_among base) t))) v.are
       ∙ ap (present_type v.values) q.shape_is
       ∙ ap (λ l. option_map (λ (x : Taken Closed). x.made) (shape_by W.shape l)) (sym (append_nil v.values))

@@ -1,5 +1,5 @@
--- A type whose atoms are replaced by widths is, for integers at the atoms of these where the widths are whole, what the type is where its atoms have the
--- integers of the widths.
+-- A type whose atoms are replaced by widths is, for integers at the atoms of these where the widths are whole, what the type is where its
+-- atoms have the integers of the widths.
 use Rattle.std.proofs.Common.{◌≡◌, inl, inr, ℕ, ◌==◌, ℤ, pos, List, [], ◌∷◌, Option, Some, None, refl, sym, ap, ap₂, ◌∙◌, subst, arith}
 use Rattle.std.specs.Prelude.{◌+ℤ◌, ◌*ℤ◌, if◌then◌else◌}
 use Rattle.std.proofs.lemmas.Int.{ints}
@@ -69,12 +69,14 @@ are_whole [] a h x = atom_alone (a x)
 are_whole (e ∷ by) a h x = elim (cases_Bool (x == e.0)) [ inl z ↦ rw z h.0 | inr z ↦ rw z (are_whole by a h.1 x) ]
 
 module _ (by : Widths) (a : Assignment) (within : AllWithin by) (whole : AllWhole by a) where
-  same_fraction : (p q : Polynomial) → IsPolynomial p → substituted by p ≡ Some q → SameFraction (fraction_at a q) (fraction_at (behind by a) p)
+  same_fraction : (p q : Polynomial) → IsPolynomial p → substituted by p ≡ Some q →
+      SameFraction (fraction_at a q) (fraction_at (behind by a) p)
   same_fraction p q i k = replaced_same by a (behind by a) p q within (are_whole by a whole) i k
 
   pub polynomial_replaced : (p q : Polynomial) → IsPolynomial p → substituted by p ≡ Some q → width_at q a ≡ width_at p (behind by a)
   polynomial_replaced p q i k =
-      same_width_in (fraction_at a q) (fraction_at (behind by a) p) (substituted_is by p q within i k).1.lowest.positive i.lowest.positive (same_fraction p q i k)
+      same_width_in (fraction_at a q) (fraction_at (behind by a) p) (substituted_is by p q within i k).1.lowest.positive i.lowest.positive
+      (same_fraction p q i k)
 
   -- ---- ends
 
@@ -88,13 +90,16 @@ module _ (by : Widths) (a : Assignment) (within : AllWithin by) (whole : AllWhol
   bounds : ℤ → ℤ → Range
   bounds l h = record { low = l; high = h }
 
-  range_replaced : (p q : Part) → IsEnd p.low × IsEnd p.high → substituted_end by p.low ≡ Some q.low → substituted_end by p.high ≡ Some q.high →
+  range_replaced : (p q : Part) → IsEnd p.low × IsEnd p.high → substituted_end by p.low ≡ Some q.low →
+      substituted_end by p.high ≡ Some q.high →
       range_in (end_at q.low a) (end_at q.high a) ≡ range_in (end_at p.low (behind by a)) (end_at p.high (behind by a))
   unfolding bounds
   range_replaced p q i l h =
       ap₂ bounds
-      (same_ceiling (end_at q.low a) (end_at p.low (behind by a)) (end_proper q.low a (end_held by p.low q.low within i.0 l)) (end_proper p.low (behind by a) i.0) (end_replaced p.low q.low i.0 l))
-      (same_floor (end_at q.high a) (end_at p.high (behind by a)) (end_proper q.high a (end_held by p.high q.high within i.1 h)) (end_proper p.high (behind by a) i.1) (end_replaced p.high q.high i.1 h))
+      (same_ceiling (end_at q.low a) (end_at p.low (behind by a)) (end_proper q.low a (end_held by p.low q.low within i.0 l))
+      (end_proper p.low (behind by a) i.0) (end_replaced p.low q.low i.0 l))
+      (same_floor (end_at q.high a) (end_at p.high (behind by a)) (end_proper q.high a (end_held by p.high q.high within i.1 h))
+      (end_proper p.high (behind by a) i.1) (end_replaced p.high q.high i.1 h))
 
   ranges_replaced : (ps qs : List Part) → AllEnds ps → substituted_ranges by ps ≡ Some qs → ranges_at qs a ≡ ranges_at ps (behind by a)
   ranges_replaced [] qs i k = ap (λ z. ranges_at z a) (sym (some_same [] qs k))
@@ -109,7 +114,8 @@ module _ (by : Widths) (a : Assignment) (within : AllWithin by) (whole : AllWhol
       ap (λ z. ranges_at z a) (sym (some_same (u.value ∷ v.value) qs v.next)) ∙
       ap₂ (λ (r : Range) rs. r ∷ rs) (range_replaced p u.value i.0 low high) (ranges_replaced ps v.value i.1 v.is)
 
-  constraint_replaced : (ps qs : List Part) → AllEnds ps → substituted_ranges by ps ≡ Some qs → constraint_at qs a ≡ constraint_at ps (behind by a)
+  constraint_replaced : (ps qs : List Part) → AllEnds ps → substituted_ranges by ps ≡ Some qs →
+      constraint_at qs a ≡ constraint_at ps (behind by a)
   constraint_replaced [] qs i k = ap (λ z. constraint_at z a) (sym (some_same [] qs k))
   constraint_replaced (p ∷ ps) qs i k =
       let u = got (cons.part_of (substituted_end by p.low) (substituted_end by p.high)) _ qs k in
@@ -119,8 +125,10 @@ module _ (by : Widths) (a : Assignment) (within : AllWithin by) (whole : AllWhol
 
   -- ---- types
 
-  with_replaced : (o : Option Ty) (q : Option Parts) (T : Ty) (ts us : Parts) → ((V : Ty) → o ≡ Some V → type_with V a ≡ type_with T (behind by a)) →
-      ((vs : Parts) → q ≡ Some vs → parts_with vs a ≡ parts_with ts (behind by a)) → with_type o q ≡ Some us → parts_with us a ≡ parts_with (part T ts) (behind by a)
+  with_replaced : (o : Option Ty) (q : Option Parts) (T : Ty) (ts us : Parts) →
+      ((V : Ty) → o ≡ Some V → type_with V a ≡ type_with T (behind by a)) →
+      ((vs : Parts) → q ≡ Some vs → parts_with vs a ≡ parts_with ts (behind by a)) → with_type o q ≡ Some us → parts_with us a ≡ parts_with
+      (part T ts) (behind by a)
   with_replaced None q T ts us f g k = none_some us k
   with_replaced (Some V) None T ts us f g k = none_some us k
   with_replaced (Some V) (Some vs) T ts us f g k = ap (λ z. parts_with z a) (sym (some_same (part V vs) us k)) ∙ ap₂ cl.part (f V refl) (g vs refl)
@@ -145,11 +153,14 @@ module _ (by : Widths) (a : Assignment) (within : AllWithin by) (whole : AllWhol
       type_replaced (record_of name fs) U h s k =
           ap (λ V. type_with V a) (sym (some_same (record_of name fs) U k)) ∙ ap (cl.record_of name) (fields_moved a (behind by a) fs h)
       type_replaced (exception_of name fs) U h s k =
-          ap (λ V. type_with V a) (sym (some_same (exception_of name fs) U k)) ∙ ap (cl.exception_of name) (fields_moved a (behind by a) fs h)
+          ap (λ V. type_with V a) (sym (some_same (exception_of name fs) U k)) ∙ ap (cl.exception_of name)
+          (fields_moved a (behind by a) fs h)
       type_replaced (named name supers T) U h s k =
           ap (λ V. type_with V a) (sym (some_same (named name supers T) U k)) ∙ ap (cl.named name supers) (never_moved a (behind by a) T h)
 
-      parts_replaced : (ts us : Parts) → AllOver A ts → ShapedParts d ts → substitute_parts by ts ≡ Some us → parts_with us a ≡ parts_with ts (behind by a)
+      parts_replaced : (ts us : Parts) → AllOver A ts → ShapedParts d ts → substitute_parts by ts ≡ Some us →
+          parts_with us a ≡ parts_with ts (behind by a)
       parts_replaced no_part us h s k = ap (λ z. parts_with z a) (sym (some_same no_part us k))
       parts_replaced (part T ts) us h s k =
-          with_replaced (substitute by T) (substitute_parts by ts) T ts us (λ V l. type_replaced T V h.0 s.1 l) (λ vs l. parts_replaced ts vs h.1 s.2 l) k
+          with_replaced (substitute by T) (substitute_parts by ts) T ts us (λ V l. type_replaced T V h.0 s.1 l)
+          (λ vs l. parts_replaced ts vs h.1 s.2 l) k

@@ -93,14 +93,18 @@ module _ (d : List ℕ → Option Ty) (av : Assignment) (tests : Tests) (right :
   no_arguments P no_part (x ∷ xs) i h k = absurd i
   no_arguments P (part T Ts) xs i h k = no h
 
-  one_bits : (P : Parts → List Value → Type 0) (Ts : Parts) (xs : List Value) → AllIn d av Ts xs → ShapedParts d Ts → kinds_eq of_bits (kinds Ts) ≡ true →
-      ((T : Ty) (bs : List Bool) (v : _) → IsPolynomial (width_of T) → width_at (width_of T) av ≡ pos (length bs) → P (part T no_part) (bits_with bs v ∷ [])) → P Ts xs
+  one_bits : (P : Parts → List Value → Type 0) (Ts : Parts) (xs : List Value) → AllIn d av Ts xs → ShapedParts d Ts →
+      kinds_eq of_bits (kinds Ts) ≡ true →
+      ((T : Ty) (bs : List Bool) (v : _) → IsPolynomial (width_of T) → width_at (width_of T) av ≡ pos (length bs) → P (part T no_part)
+      (bits_with bs v ∷ [])) → P Ts xs
   one_bits P no_part xs i s h k = no h
   one_bits P (part T Ts) [] i s h k = absurd i
   one_bits P (part T Ts) (x ∷ xs) i s h k =
       let p = both (kind_eq bitvectors (kind T)) (kinds_eq no_kind (kinds Ts)) h in
       let b = is_bitvector d av tests right T x (bits_kind T p.0) i.0 in
-      no_arguments (λ Us zs. P (part T Us) (x ∷ zs)) Ts xs i.1 p.1 (subst (λ y. P (part T no_part) (y ∷ [])) (sym b.2) (k T b.0 b.1 (within_width d T s.1) (width_is (length b.0) (width_at (width_of T) av) b.3)))
+      no_arguments (λ Us zs. P (part T Us) (x ∷ zs)) Ts xs i.1 p.1
+      (subst (λ y. P (part T no_part) (y ∷ [])) (sym b.2)
+      (k T b.0 b.1 (within_width d T s.1) (width_is (length b.0) (width_at (width_of T) av) b.3)))
 
   one_integer : (P : Parts → List Value → Type 0) (Ts : Parts) (xs : List Value) → AllIn d av Ts xs → kinds_eq of_integer (kinds Ts) ≡ true → ((T : Ty) (z : ℤ) → P (part T no_part) (int z ∷ [])) → P Ts xs
   one_integer P no_part xs i h k = no h
@@ -124,10 +128,12 @@ module _ (d : List ℕ → Option Ty) (av : Assignment) (tests : Tests) (right :
   within l h z k =
       or_first (in_one z (range_in (whole l) (whole h))) false
       (and_true (not_above (ceiling (whole l)) z) (not_above z (floor (whole h)))
-      (subst (λ y. not_above y z ≡ true) (sym (whole_ceiling l)) (is_not_above l z k.0)) (subst (λ y. not_above z y ≡ true) (sym (whole_floor h)) (is_not_above z h k.1)))
+      (subst (λ y. not_above y z ≡ true) (sym (whole_ceiling l)) (is_not_above l z k.0))
+      (subst (λ y. not_above z y ≡ true) (sym (whole_floor h)) (is_not_above z h k.1)))
 
   in_range_of : (l h : ℤ) (span : Span) (z : ℤ) → (l ≤ℤ z) × (z ≤ℤ h) → Gives d av (integer_of (from_to l h)) (integer_value span z)
-  in_range_of l h span z k = integer_gives d av tests right (from_to l h) span z ((tt, tt), tt) (is_in_in (from_to l h) av z ((tt, tt), tt) (within l h z k))
+  in_range_of l h span z k =
+      integer_gives d av tests right (from_to l h) span z ((tt, tt), tt) (is_in_in (from_to l h) av z ((tt, tt), tt) (within l h z k))
 
   any_integer : (span : Span) (z : ℤ) → Gives d av (integer_of []) (integer_value span z)
   any_integer span z = integer_gives d av tests right [] span z tt (inl refl)
@@ -156,7 +162,9 @@ module _ (d : List ℕ → Option Ty) (av : Assignment) (tests : Tests) (right :
       is = same_number (length bs) k (sym w ∙ constant_width av p (pos k) (constant_is av p (pos k) e))
 
       by : (b : Bool) → (nat_le 1 k && nat_le k 128) ≡ b → Gives d av (integer_of (cond b (from_to (neg_ℤ (pos (2 ^ (k - 1)))) (pos (2 ^ (k - 1) - 1))) [])) (routine_value tests.limit span SInt [] (bits_with bs [] ∷ []))
-      by true h = in_range_of (neg_ℤ (pos (2 ^ (k - 1)))) (pos (2 ^ (k - 1) - 1)) span (signed_value bs) (signed_within bs k is (le_is 1 k (both (nat_le 1 k) (nat_le k 128) h).0))
+      by true h =
+          in_range_of (neg_ℤ (pos (2 ^ (k - 1)))) (pos (2 ^ (k - 1) - 1)) span (signed_value bs)
+          (signed_within bs k is (le_is 1 k (both (nat_le 1 k) (nat_le k 128) h).0))
       by false h = any_integer span (signed_value bs)
 
   copies_give : (span : Span) (b : Bool) (p : Polynomial) → Gives d av (bits_of p []) (copies tests.limit span b (width_at p av))
@@ -186,19 +194,58 @@ module _ (d : List ℕ → Option Ty) (av : Assignment) (tests : Tests) (right :
       let e = whole_ends av p n i h in
       or_first (in_one n (range_in (end_at (shown p) av) (end_at (shown p) av))) false
       (and_true (not_above (ceiling (end_at (shown p) av)) n) (not_above n (floor (end_at (shown p) av)))
-      (subst (λ y. not_above y n ≡ true) (sym e.0) (is_not_above n n (self n))) (subst (λ y. not_above n y ≡ true) (sym e.1) (is_not_above n n (self n))))
+      (subst (λ y. not_above y n ≡ true) (sym e.0) (is_not_above n n (self n)))
+      (subst (λ y. not_above n y ≡ true) (sym e.1) (is_not_above n n (self n))))
 
   -- each subprogram
-  pub routine_in : (span : Span) (r : Routine) (ps : List Polynomial) (Ts : Parts) (ys xs : List Value) → AllWide av ps ys → (length ps == routine_params r) ≡ true → AllIn d av Ts xs → ShapedParts d Ts → kinds_eq (routine_formals r) (kinds Ts) ≡ true → Gives d av (routine_type r ps Ts) (routine_value tests.limit span r ys xs)
-  routine_in span UInt ps Ts ys xs w n i s k = no_params (λ qs zs. Gives d av (routine_type UInt qs Ts) (routine_value tests.limit span UInt zs xs)) ps ys w n (one_bits (λ Us zs. Gives d av (routine_type UInt [] Us) (routine_value tests.limit span UInt [] zs)) Ts xs i s k (λ T bs v m e. unsigned_gives (constant_value (width_of T)) (width_of T) span bs refl e))
-  routine_in span SInt ps Ts ys xs w n i s k = no_params (λ qs zs. Gives d av (routine_type SInt qs Ts) (routine_value tests.limit span SInt zs xs)) ps ys w n (one_bits (λ Us zs. Gives d av (routine_type SInt [] Us) (routine_value tests.limit span SInt [] zs)) Ts xs i s k (λ T bs v m e. signed_gives (constant_value (width_of T)) (width_of T) span bs refl e))
-  routine_in span Zeros ps Ts ys xs w n i s k = one_param (λ qs zs. Gives d av (routine_type Zeros qs Ts) (routine_value tests.limit span Zeros zs xs)) ps ys w n (λ p. no_arguments (λ Us zs. Gives d av (routine_type Zeros (p ∷ []) Us) (routine_value tests.limit span Zeros (int (width_at p av) ∷ []) zs)) Ts xs i k (copies_give span false p))
-  routine_in span Ones ps Ts ys xs w n i s k = one_param (λ qs zs. Gives d av (routine_type Ones qs Ts) (routine_value tests.limit span Ones zs xs)) ps ys w n (λ p. no_arguments (λ Us zs. Gives d av (routine_type Ones (p ∷ []) Us) (routine_value tests.limit span Ones (int (width_at p av) ∷ []) zs)) Ts xs i k (copies_give span true p))
-  routine_in span ZeroExtend ps Ts ys xs w n i s k = one_param (λ qs zs. Gives d av (routine_type ZeroExtend qs Ts) (routine_value tests.limit span ZeroExtend zs xs)) ps ys w n (λ p. one_bits (λ Us zs. Gives d av (routine_type ZeroExtend (p ∷ []) Us) (routine_value tests.limit span ZeroExtend (int (width_at p av) ∷ []) zs)) Ts xs i s k (λ T bs v m e. extended_gives span false p bs))
-  routine_in span SignExtend ps Ts ys xs w n i s k = one_param (λ qs zs. Gives d av (routine_type SignExtend qs Ts) (routine_value tests.limit span SignExtend zs xs)) ps ys w n (λ p. one_bits (λ Us zs. Gives d av (routine_type SignExtend (p ∷ []) Us) (routine_value tests.limit span SignExtend (int (width_at p av) ∷ []) zs)) Ts xs i s k (λ T bs v m e. extended_gives span true p bs))
-  routine_in span IsZero ps Ts ys xs w n i s k = no_params (λ qs zs. Gives d av (routine_type IsZero qs Ts) (routine_value tests.limit span IsZero zs xs)) ps ys w n (one_bits (λ Us zs. Gives d av (routine_type IsZero [] Us) (routine_value tests.limit span IsZero [] zs)) Ts xs i s k (λ T bs v m e. (refl, tt, refl)))
-  routine_in span IsOnes ps Ts ys xs w n i s k = no_params (λ qs zs. Gives d av (routine_type IsOnes qs Ts) (routine_value tests.limit span IsOnes zs xs)) ps ys w n (one_bits (λ Us zs. Gives d av (routine_type IsOnes [] Us) (routine_value tests.limit span IsOnes [] zs)) Ts xs i s k (λ T bs v m e. (refl, tt, refl)))
-  routine_in span Len ps Ts ys xs w n i s k = no_params (λ qs zs. Gives d av (routine_type Len qs Ts) (routine_value tests.limit span Len zs xs)) ps ys w n (one_bits (λ Us zs. Gives d av (routine_type Len [] Us) (routine_value tests.limit span Len [] zs)) Ts xs i s k (λ T bs v m e. (length_gives (width_of T) (pos (length bs)) m (is_width_at av (width_of T) (length bs) m e), tt, refl)))
-  routine_in span Abs ps Ts ys xs w n i s k = no_params (λ qs zs. Gives d av (routine_type Abs qs Ts) (routine_value tests.limit span Abs zs xs)) ps ys w n (one_integer (λ Us zs. Gives d av (routine_type Abs [] Us) (routine_value tests.limit span Abs [] zs)) Ts xs i k (λ T z. any_integer span (absolute z)))
-  routine_in span Min ps Ts ys xs w n i s k = no_params (λ qs zs. Gives d av (routine_type Min qs Ts) (routine_value tests.limit span Min zs xs)) ps ys w n (two_integers (λ Us zs. Gives d av (routine_type Min [] Us) (routine_value tests.limit span Min [] zs)) Ts xs i k (λ T U y z. (in_is_in [] av (lesser y z) tt (inl refl), tt, refl)))
-  routine_in span Max ps Ts ys xs w n i s k = no_params (λ qs zs. Gives d av (routine_type Max qs Ts) (routine_value tests.limit span Max zs xs)) ps ys w n (two_integers (λ Us zs. Gives d av (routine_type Max [] Us) (routine_value tests.limit span Max [] zs)) Ts xs i k (λ T U y z. (in_is_in [] av (greater y z) tt (inl refl), tt, refl)))
+  pub routine_in : (span : Span) (r : Routine) (ps : List Polynomial) (Ts : Parts) (ys xs : List Value) → AllWide av ps ys →
+      (length ps == routine_params r) ≡ true → AllIn d av Ts xs → ShapedParts d Ts → kinds_eq (routine_formals r) (kinds Ts) ≡ true →
+      Gives d av (routine_type r ps Ts) (routine_value tests.limit span r ys xs)
+  routine_in span UInt ps Ts ys xs w n i s k =
+      no_params (λ qs zs. Gives d av (routine_type UInt qs Ts) (routine_value tests.limit span UInt zs xs)) ps ys w n
+      (one_bits (λ Us zs. Gives d av (routine_type UInt [] Us) (routine_value tests.limit span UInt [] zs)) Ts xs i s k
+      (λ T bs v m e. unsigned_gives (constant_value (width_of T)) (width_of T) span bs refl e))
+  routine_in span SInt ps Ts ys xs w n i s k =
+      no_params (λ qs zs. Gives d av (routine_type SInt qs Ts) (routine_value tests.limit span SInt zs xs)) ps ys w n
+      (one_bits (λ Us zs. Gives d av (routine_type SInt [] Us) (routine_value tests.limit span SInt [] zs)) Ts xs i s k
+      (λ T bs v m e. signed_gives (constant_value (width_of T)) (width_of T) span bs refl e))
+  routine_in span Zeros ps Ts ys xs w n i s k =
+      one_param (λ qs zs. Gives d av (routine_type Zeros qs Ts) (routine_value tests.limit span Zeros zs xs)) ps ys w n
+      (λ p. no_arguments (λ Us zs. Gives d av (routine_type Zeros (p ∷ []) Us)
+      (routine_value tests.limit span Zeros (int (width_at p av) ∷ []) zs)) Ts xs i k (copies_give span false p))
+  routine_in span Ones ps Ts ys xs w n i s k =
+      one_param (λ qs zs. Gives d av (routine_type Ones qs Ts) (routine_value tests.limit span Ones zs xs)) ps ys w n
+      (λ p. no_arguments (λ Us zs. Gives d av (routine_type Ones (p ∷ []) Us)
+      (routine_value tests.limit span Ones (int (width_at p av) ∷ []) zs)) Ts xs i k (copies_give span true p))
+  routine_in span ZeroExtend ps Ts ys xs w n i s k =
+      one_param (λ qs zs. Gives d av (routine_type ZeroExtend qs Ts) (routine_value tests.limit span ZeroExtend zs xs)) ps ys w n
+      (λ p. one_bits (λ Us zs. Gives d av (routine_type ZeroExtend (p ∷ []) Us)
+      (routine_value tests.limit span ZeroExtend (int (width_at p av) ∷ []) zs)) Ts xs i s k (λ T bs v m e. extended_gives span false p bs))
+  routine_in span SignExtend ps Ts ys xs w n i s k =
+      one_param (λ qs zs. Gives d av (routine_type SignExtend qs Ts) (routine_value tests.limit span SignExtend zs xs)) ps ys w n
+      (λ p. one_bits (λ Us zs. Gives d av (routine_type SignExtend (p ∷ []) Us)
+      (routine_value tests.limit span SignExtend (int (width_at p av) ∷ []) zs)) Ts xs i s k (λ T bs v m e. extended_gives span true p bs))
+  routine_in span IsZero ps Ts ys xs w n i s k =
+      no_params (λ qs zs. Gives d av (routine_type IsZero qs Ts) (routine_value tests.limit span IsZero zs xs)) ps ys w n
+      (one_bits (λ Us zs. Gives d av (routine_type IsZero [] Us) (routine_value tests.limit span IsZero [] zs)) Ts xs i s k
+      (λ T bs v m e. (refl, tt, refl)))
+  routine_in span IsOnes ps Ts ys xs w n i s k =
+      no_params (λ qs zs. Gives d av (routine_type IsOnes qs Ts) (routine_value tests.limit span IsOnes zs xs)) ps ys w n
+      (one_bits (λ Us zs. Gives d av (routine_type IsOnes [] Us) (routine_value tests.limit span IsOnes [] zs)) Ts xs i s k
+      (λ T bs v m e. (refl, tt, refl)))
+  routine_in span Len ps Ts ys xs w n i s k =
+      no_params (λ qs zs. Gives d av (routine_type Len qs Ts) (routine_value tests.limit span Len zs xs)) ps ys w n
+      (one_bits (λ Us zs. Gives d av (routine_type Len [] Us) (routine_value tests.limit span Len [] zs)) Ts xs i s k
+      (λ T bs v m e. (length_gives (width_of T) (pos (length bs)) m (is_width_at av (width_of T) (length bs) m e), tt, refl)))
+  routine_in span Abs ps Ts ys xs w n i s k =
+      no_params (λ qs zs. Gives d av (routine_type Abs qs Ts) (routine_value tests.limit span Abs zs xs)) ps ys w n
+      (one_integer (λ Us zs. Gives d av (routine_type Abs [] Us) (routine_value tests.limit span Abs [] zs)) Ts xs i k
+      (λ T z. any_integer span (absolute z)))
+  routine_in span Min ps Ts ys xs w n i s k =
+      no_params (λ qs zs. Gives d av (routine_type Min qs Ts) (routine_value tests.limit span Min zs xs)) ps ys w n
+      (two_integers (λ Us zs. Gives d av (routine_type Min [] Us) (routine_value tests.limit span Min [] zs)) Ts xs i k
+      (λ T U y z. (in_is_in [] av (lesser y z) tt (inl refl), tt, refl)))
+  routine_in span Max ps Ts ys xs w n i s k =
+      no_params (λ qs zs. Gives d av (routine_type Max qs Ts) (routine_value tests.limit span Max zs xs)) ps ys w n
+      (two_integers (λ Us zs. Gives d av (routine_type Max [] Us) (routine_value tests.limit span Max [] zs)) Ts xs i k
+      (λ T U y z. (in_is_in [] av (greater y z) tt (inl refl), tt, refl)))

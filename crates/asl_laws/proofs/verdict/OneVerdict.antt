@@ -93,7 +93,8 @@ judged : (limit : ℕ) (e : Entry) (files : List File) (ds : List Decl) → Read
 judged limit e files ds k (inl (a, p)) = record { answer = Ok a; is = record { decls = ds; reads = k; ok = p }; only = only_accepted limit e files ds k a p }
 judged limit e files ds k (inr (f, p)) = record { answer = Err f; is = inr (ds, k, p); only = only_faulty limit e files ds k f p }
 
-answered : (limit : ℕ) → limit ≤ heaviest → (e : Entry) (files : List File) (r : Result (List Decl) Fault) → ReadsAt limit files r → OneAnswer limit e files
+answered : (limit : ℕ) → limit ≤ heaviest → (e : Entry) (files : List File) (r : Result (List Decl) Fault) → ReadsAt limit files r →
+    OneAnswer limit e files
 answered limit light e files (Ok ds) k = judged limit e files ds k (some_verdict limit light e ds)
 answered limit light e files (Err f) k = record { answer = Err f; is = inl k; only = only_refused limit e files f k }
 

@@ -182,7 +182,9 @@ module _ (tests : Tests) (right : IsRight tests) (ds : List Decl) (base : List E
       let e = ok_ok (behind v.value (into_element at I.value.tree)) b v.then in
       (at, I.value.tree, more, ap (λ (z : Behind). z.step ∷ more) (sym e), λ z k q. go k (subst (λ (r : Behind). Fits r.ty k) e (element_fits at T v.value x z k el i q)))
 
-  suffixes_find : (G : Scope) (i : Ident) (xs : List PlacedSuffix) (ys : List TypedSuffix) (T : Ty) (r : Reached) (x : Value) → CountsHeld G.names → WellFormed d T → typed_suffixes tests i xs G ≡ Ok ys → behind_suffixes ys T G ≡ Ok r → Fits T x → SuffixesFind xs r.steps x
+  suffixes_find : (G : Scope) (i : Ident) (xs : List PlacedSuffix) (ys : List TypedSuffix) (T : Ty) (r : Reached) (x : Value) →
+      CountsHeld G.names → WellFormed d T → typed_suffixes tests i xs G ≡ Ok ys → behind_suffixes ys T G ≡ Ok r → Fits T x →
+      SuffixesFind xs r.steps x
   suffixes_find G i [] ys T r x c t h g f =
       let g1 : behind_suffixes [] T G ≡ Ok r = subst (λ z. behind_suffixes z T G ≡ Ok r) (sym (ok_ok [] ys h)) g in
       ap (λ (z : Reached). z.steps) (sym (ok_ok (reached T []) r g1))
@@ -195,7 +197,9 @@ module _ (tests : Tests) (right : IsRight tests) (ds : List Decl) (base : List E
       let e = ok_ok (reached q.value.ty (b.value.step ∷ q.value.steps)) r q.then in
       subst (λ (z : Reached). SuffixesFind (p ∷ xs) z.steps x) e
       (suffix_finds G (up_to i p.end) p.suffix y.value T b.value q.value.steps x (SuffixesFind xs) t y.first b.first f
-      (λ z k. suffixes_find G i xs zs.value b.value.ty q.value z c (suffix_formed tests right ds base subs loose funcs w G (up_to i p.end) p.suffix y.value T b.value c t y.first b.first) zs.first q.first k))
+      (λ z k. suffixes_find G i xs zs.value b.value.ty q.value z c
+      (suffix_formed tests right ds base subs loose funcs w G (up_to i p.end) p.suffix y.value T b.value c t y.first b.first)
+      zs.first q.first k))
 
   -- ---- a place
 
@@ -210,7 +214,8 @@ module _ (tests : Tests) (right : IsRight tests) (ds : List Decl) (base : List E
       let f = found_at av d s o (finds av base G.names c i.text s a st) in
       let e = known_good i.span o f.one x f.is h in (
         subst (λ z. value_at (slot_of i.text (layout_of G.names)) (erased c) ≡ Some z) e (slot_is f.one i.text G.names c (has_names av base G.names c w.outside a) f.is),
-        subst (SuffixesFind xs r.steps) e (suffixes_find G i xs ys s.ty r f.one (counts_held av base G.names c a) (scope_good av base G.names c w a i.text (Stored s) st).0 t g (inl f.belongs)),
+        subst (SuffixesFind xs r.steps) e (suffixes_find G i xs ys s.ty r f.one (counts_held av base G.names c a)
+            (scope_good av base G.names c w a i.text (Stored s) st).0 t g (inl f.belongs)),
       )
 
   -- ---- the places of a target

@@ -82,8 +82,10 @@ module _ (tests : Tests) (right : IsRight tests) (ds : List Decl) (asked : Enter
         (λ d h. same_end (λ c1. GlobalsMatch base c1.globals) (λ y c1. Ends tests base subs false j (falls x) y c1) (λ y c1. Over tests base subs false j.body.scope.names j.present j.around y c1)
         ((meaning (environment tests ds) d).stmt x c h) ((tree_meaning (trees_of tests whole) d).stmt t (erased c) h) ((all_meet tests right ds base subs false funcs w s (o false) (q false) d).stmt (one (j, falls x)) x t c h (p, refl)))
 
-    typed_same : (H : Here) (S : Typed) (e : Expr) (t : Tree) (c : Core) → ExprIn tests base subs false H (of_type S) e t c → ExprSame tests ds whole e c
-    typed_same H S e t c p = record { scope = H.scope; present = H.present; subs_are = p.at.subs_are; stands = expr_stands tests right ds asked main subs funcs w s (o true) (q true) H (of_type S) e t c p; judged = inl (S, p.answers, expr_does H (of_type S) e t c p, find (asked_in tests right ds asked main subs funcs w s (o true) (q true) H (of_type S)) S e c p.answers (anywhere (asked_in tests right ds asked main subs funcs w s (o true) (q true) H (of_type S)) c p.at.agrees p.at.subs_are p.at.around_is)); agrees = p.at.agrees }
+    typed_same : (H : Here) (S : Typed) (e : Expr) (t : Tree) (c : Core) → ExprIn tests base subs false H (of_type S) e t c →
+        ExprSame tests ds whole e c
+    typed_same H S e t c p =
+        record { scope = H.scope; present = H.present; subs_are = p.at.subs_are; stands = expr_stands tests right ds asked main subs funcs w s (o true) (q true) H (of_type S) e t c p; judged = inl (S, p.answers, expr_does H (of_type S) e t c p, find (asked_in tests right ds asked main subs funcs w s (o true) (q true) H (of_type S)) S e c p.answers (anywhere (asked_in tests right ds asked main subs funcs w s (o true) (q true) H (of_type S)) c p.at.agrees p.at.subs_are p.at.around_is)); agrees = p.at.agrees }
 
     expr_same : (H : Here) (i : Asked) (e : Expr) (t : Tree) (c : Core) → ExprIn tests base subs false H i e t c → ExprSame tests ds whole e c
     expr_same H (of_type S) e t c p = typed_same H S e t c p

@@ -36,7 +36,8 @@ use Rattle.asl_laws.proofs.wider.Reading.{reads_stay, read_same}
 -- ---- the tests
 
 right_at : (t : Tests) (m : ℕ) → m ≤ heaviest → IsRight t → IsRight (record t { limit = m })
-right_at t m light r = record { within = light; same_yes = r.same_yes; same_all = r.same_all; below_yes = r.below_yes; below_all = r.below_all }
+right_at t m light r =
+    record { within = light; same_yes = r.same_yes; same_all = r.same_all; below_yes = r.below_yes; below_all = r.below_all }
 
 -- right tests of the wider limit are those of the narrower one with another limit
 tests_are : (t u : Tests) → IsRight t → IsRight u → u ≡ record t { limit = u.limit }
@@ -44,7 +45,8 @@ tests_are t u p q = one_test u (record t { limit = u.limit }) q (right_at t u.li
 
 -- ---- a derivation
 
-pub derivation_stays : (l m : ℕ) → l ≤ m → m ≤ heaviest → (e : Entry) (files : List File) (a : Accepted) → FilesOk l e files a → FilesOk m e files a
+pub derivation_stays : (l m : ℕ) → l ≤ m → m ≤ heaviest → (e : Entry) (files : List File) (a : Accepted) → FilesOk l e files a →
+    FilesOk m e files a
 derivation_stays l m le light e files a h =
     let p = h.ok in
     record {

@@ -73,20 +73,24 @@ divisors_same e f s = ap₂ (λ d span. (d, span)) s.divisor_same s.span_same
 pub two_width : (span : Span) (j : Joining) (e f g h : Found) (G : Scope) → FoundStays e g → FoundStays f h →
     read_width span (reading_of_two j g h) G ≡ read_width span (reading_of_two j e f) G
 two_width span (Combines o) e f g h G s t =
-    ap₂ (λ (x y : Result Width Fault). x >>= λ p. y >>= λ q. width_combined span o p.poly q.poly >>= λ r. Ok (width_as r (combined_tree span o p.tree q.tree)))
+    ap₂ (λ (x y : Result Width Fault). x >>= λ p. y >>= λ q. width_combined span o p.poly q.poly >>= λ r. Ok
+    (width_as r (combined_tree span o p.tree q.tree)))
     (s.width_same G) (t.width_same G)
 two_width span Divides e f g h G s t =
-    ap₂ (λ (x : Result Width Fault) (d : Option ℕ × Span). x >>= λ p. found_or d.0 T19 span >>= λ k. width_divided span p.poly k >>= λ r. Ok (width_as r (divided_tree span p.tree d.1 k)))
+    ap₂ (λ (x : Result Width Fault) (d : Option ℕ × Span). x >>= λ p. found_or d.0 T19 span >>= λ k. width_divided span p.poly k >>= λ r. Ok
+    (width_as r (divided_tree span p.tree d.1 k)))
     (s.width_same G) (divisors_same f h t)
 two_width span JoinsNothing e f g h G s t = refl
 
 pub two_number : (span : Span) (j : Joining) (e f g h : Found) (G : Scope) → FoundStays e g → FoundStays f h →
     number_of span (reading_of_two j g h) G ≡ number_of span (reading_of_two j e f) G
 two_number span (Combines o) e f g h G s t =
-    ap₂ (λ (x y : Result Number Fault). x >>= λ p. y >>= λ q. number_combined span o p.number q.number >>= λ n. Ok (number_as n (combined_tree span o p.tree q.tree)))
+    ap₂ (λ (x y : Result Number Fault). x >>= λ p. y >>= λ q. number_combined span o p.number q.number >>= λ n. Ok
+    (number_as n (combined_tree span o p.tree q.tree)))
     (s.number_same G) (t.number_same G)
 two_number span Divides e f g h G s t =
-    ap₂ (λ (x : Result Number Fault) (d : Option ℕ × Span). x >>= λ p. found_or d.0 T19 span >>= λ k. number_divided span p.number k >>= λ n. Ok (number_as n (divided_tree span p.tree d.1 k)))
+    ap₂ (λ (x : Result Number Fault) (d : Option ℕ × Span). x >>= λ p. found_or d.0 T19 span >>= λ k. number_divided span p.number k
+    >>= λ n. Ok (number_as n (divided_tree span p.tree d.1 k)))
     (s.number_same G) (divisors_same f h t)
 two_number span JoinsNothing e f g h G s t = refl
 

@@ -1,7 +1,6 @@
 -- What is found at expressions, patterns and written types stays under a wider limit, by one induction over trees.
-use Rattle.std.proofs.Common.{◌≡◌, ℕ, ◌≤◌, Bool, cond, ◌&&◌, ◌||◌, List, [], ◌∷◌, map, Ok, refl, sym, ap, ap₂, subst}
+use Rattle.std.proofs.Common.{◌≡◌, ℕ, ◌≤◌, Bool, List, [], ◌∷◌, map, Ok, refl, sym, ap, subst}
 use Rattle.std.specs.Prelude.{pos, ◌-ℤ◌}
-use Rattle.asl_syn.specs.declared.code.StaticCode.TheVariants.{T19}
 use Rattle.asl_syn.specs.declared.tree.UnaryOperator.{UnaryOperator}
 use Rattle.asl_syn.specs.declared.tree.UnaryOperator.TheVariants as unary
 use Rattle.asl_syn.specs.declared.tree.Bitfield.{Bitfield, roll-Bitfield}
@@ -20,7 +19,7 @@ use Rattle.asl_laws.proofs.spans.Inductions.{Shown, Steps, BitfieldNode, Constra
 use Rattle.asl_laws.proofs.spans.Inductions.{SliceNode, TypeExprNode, bitfield_trees, part_trees, expr_trees, given_trees, pattern_trees}
 use Rattle.asl_laws.proofs.spans.Inductions.{slice_trees, type_trees, each_expr, each_pattern, each_slice, each_type}
 use Rattle.asl_poly.specs.Poly.{constant_map}
-use Rattle.asl_rules.specs.Faults.{◌>>=◌, fault}
+use Rattle.asl_rules.specs.Faults.{◌>>=◌}
 use Rattle.asl_rules.specs.Tests.{Tests}
 use Rattle.asl_rules.specs.runs.Trees as tree
 use Rattle.asl_rules.specs.declarations.Scopes.{Scope}
@@ -198,7 +197,8 @@ module _ (t : Tests) (m : ℕ) (le : t.limit ≤ m) where
   one_divisor unary.Not a c = refl
   one_divisor unary.Complement a c = refl
 
-  layer_divisor : (y : ExprNode shown) → divisor (arithmetic (opened_expr u (expr_trees shown y))) ≡ divisor (arithmetic (opened_expr t (expr_trees shown y)))
+  layer_divisor : (y : ExprNode shown) → divisor (arithmetic (opened_expr u (expr_trees shown y))) ≡ divisor (arithmetic
+      (opened_expr t (expr_trees shown y)))
   layer_divisor (ex.Unary span o a) = one_divisor o (found t a.0) (found u a.0)
   layer_divisor (ex.Binary span o a b) = two_divisor (joining o) (found t a.0) (found t b.0) (found u a.0) (found u b.0)
   layer_divisor y = refl

@@ -1,6 +1,6 @@
 -- What names stand for in the scopes of bodies: at the head of a body, behind each statement, in loops and catchers.
 use Rattle.std.proofs.Common.{◌≡◌, ℕ, true, false, List, [], ◌∷◌, ◌++◌, Option, Some, None, Result, Ok, refl, sym, ap, ◌∙◌, subst}
-use Rattle.std.specs.Prelude.{◌↔◌, ◌&&◌, not}
+use Rattle.std.specs.Prelude.{◌&&◌, not}
 use Rattle.asl_syn.specs.declared.token.Span.{Span}
 use Rattle.asl_syn.specs.declared.code.Fault.{Fault}
 use Rattle.asl_syn.specs.declared.code.StaticCode.TheVariants.{T01}
@@ -34,7 +34,7 @@ use Rattle.asl_rules.specs.private.Worth.{Integers, Obeys, WellCounted}
 use Rattle.asl_laws.specs.WidthScopes.{StmtSays, SaysSo, StandsAsBefore}
 use Rattle.asl_rules.proofs.basics.Answering.{OfAnswer, steps_before, of_this}
 use Rattle.asl_rules.proofs.basics.Inversions.{ok_ok, bind_ok, then_ok, need_ok}
-use Rattle.asl_rules.proofs.scopes.KeptNames.{DeclarationsKeep, stmt_opened, stmt_keeps}
+use Rattle.asl_rules.proofs.scopes.KeptNames.{DeclarationsKeep, stmt_opened}
 use Rattle.asl_rules.proofs.widths.ScopesCounted.{Fresh, fresh_start, fresh_more, tested, names_counted, bind_counted, vars_counted}
 use Rattle.asl_laws.proofs.widths.Obeying.{nothing_more, further, variable_nothing, atom_nothing, plain_nothing, itself_nothing, bind_says}
 
@@ -150,7 +150,8 @@ module _ (t : Tests) where
   abbrev LayerSays : StmtLayer → Body → Done → Type 0
   LayerSays x B d = StandsAsBefore B.scope.names d.names × ((a : Integers) → Obeys B.scope.names a → StmtSays t x B.scope d.names a)
 
-  same_names : (B : Body) (d : Done) (r : Result Done Fault) → WellCounted B.scope.names → r ≡ Ok d → KeepsNames B r → StandsAsBefore B.scope.names d.names
+  same_names : (B : Body) (d : Done) (r : Result Done Fault) → WellCounted B.scope.names → r ≡ Ok d → KeepsNames B r →
+      StandsAsBefore B.scope.names d.names
   same_names B d r w h k =
       let e = of_this (λ (z : Done). z.names ≡ B.scope.names) r d h k in
       subst (StandsAsBefore B.scope.names) (sym e) (nothing_more B.scope.names w)

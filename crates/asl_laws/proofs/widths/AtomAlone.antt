@@ -1,5 +1,5 @@
 -- A polynomial is the same as an atom exactly where it is that atom alone.
-use Rattle.std.proofs.Common.{◌≡◌, ℕ, ◌==◌, ℤ, pos, negsuc, true, List, [], ◌∷◌, sym, ap, ap₂, ◌∙◌, subst}
+use Rattle.std.proofs.Common.{◌≡◌, ℕ, ◌==◌, ℤ, pos, negsuc, true, List, [], ◌∷◌, sym, ap, ap₂, subst}
 use Rattle.asl_poly.specs.Terms.{Summand, Polynomial, over}
 use Rattle.asl_poly.specs.Operations.{atom_terms}
 use Rattle.asl_poly.specs.Poly.{IsPolynomial, Same, atom_map, is_one, is_only, is_factor, is_atom}

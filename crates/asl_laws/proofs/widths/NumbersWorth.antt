@@ -56,7 +56,8 @@ whole_of_two Sum x y = rw (mul-one x, mul-one y) refl
 whole_of_two Difference x y = whole_less x y
 whole_of_two Product x y = refl
 
-same_of_two : (o : Combination) (r s t u : Fraction) → SameFraction r t → SameFraction s u → SameFraction (of_two fractions o r s) (of_two fractions o t u)
+same_of_two : (o : Combination) (r s t u : Fraction) → SameFraction r t → SameFraction s u →
+    SameFraction (of_two fractions o r s) (of_two fractions o t u)
 same_of_two Sum r s t u e f = plus_same r s t u e f
 same_of_two Difference r s t u e f = less_same r s t u e f
 same_of_two Product r s t u e f = times_same r s t u e f
@@ -72,19 +73,22 @@ is_zero_nat n h = grind (arith, nat_tests)
 whole_parted : (span : Span) (y z : ℤ) (k : ℕ) → 0 < k → number_divided span y k ≡ Ok z → SameFraction (parted (whole y) k) (whole z)
 whole_parted span y z k l h =
     let u = then_ok (need (is_multiple k (Some y)) T19 span) (Ok (exact_quotient y k)) z h in
-    let e : y ≡ floor_div y k *ℤ pos k = exact_is y k l (is_zero_nat (unsigned_abs y % k) (need_ok (is_multiple k (Some y)) T19 span tt u.first)) in
+    let e : y ≡ floor_div y k *ℤ pos k =
+    exact_is y k l (is_zero_nat (unsigned_abs y % k) (need_ok (is_multiple k (Some y)) T19 span tt u.first)) in
     let one : 1 * k ≡ k = omega arith in
     mul-one y ∙ e ∙ ap₂ (λ w n. w *ℤ pos n) (ok_ok (exact_quotient y k) z u.then) (sym one)
 
 -- ---- integers in the place of fractions
 
-pub negated_whole : (span : Span) (r : Fraction) (y z : ℤ) → IsWhole y r → held span (pos 0 -ℤ y) ≡ Ok z → IsWhole z (less (whole (pos 0)) r)
+pub negated_whole : (span : Span) (r : Fraction) (y z : ℤ) → IsWhole y r → held span (pos 0 -ℤ y) ≡ Ok z →
+    IsWhole z (less (whole (pos 0)) r)
 negated_whole span r y z w h =
     subst (λ x. IsWhole x (less (whole (pos 0)) r)) (held_is span (pos 0 -ℤ y) z h)
     (same_trans (less (whole (pos 0)) r) (less (whole (pos 0)) (whole y)) (whole (pos 0 -ℤ y)) (omega arith)
     (less_same (whole (pos 0)) r (whole (pos 0)) (whole y) refl w) (whole_less (pos 0) y))
 
-pub combined_whole : (span : Span) (o : Combination) (r s : Fraction) (x y z : ℤ) → IsWhole x r → IsWhole y s → number_combined span o x y ≡ Ok z →
+pub combined_whole : (span : Span) (o : Combination) (r s : Fraction) (x y z : ℤ) → IsWhole x r → IsWhole y s →
+    number_combined span o x y ≡ Ok z →
     IsWhole z (of_two fractions o r s)
 combined_whole span o r s x y z v w h =
     subst (λ u. IsWhole u (of_two fractions o r s)) (combined_number span o x y z h)
@@ -92,7 +96,8 @@ combined_whole span o r s x y z v w h =
     (some_of_two o (whole x) (whole y) (omega arith) (omega arith))
     (same_of_two o r s (whole x) (whole y) v w) (whole_of_two o x y))
 
-pub divided_whole : (span : Span) (r : Fraction) (y z : ℤ) (k : ℕ) → 0 < k → IsWhole y r → number_divided span y k ≡ Ok z → IsWhole z (parted r k)
+pub divided_whole : (span : Span) (r : Fraction) (y z : ℤ) (k : ℕ) → 0 < k → IsWhole y r → number_divided span y k ≡ Ok z →
+    IsWhole z (parted r k)
 divided_whole span r y z k l w h =
     same_trans (parted r k) (parted (whole y) k) (whole z) (some_parted (whole y) k (omega arith) l)
     (parted_same r (whole y) k w) (whole_parted span y z k l h)
@@ -113,7 +118,8 @@ known_is span None x z k h = err_ok (fault_of T19 span) z h
 whole_name : (x z : ℤ) → x ≡ z → IsWhole z (whole x)
 whole_name x z e = ap (λ y. y *ℤ pos 1) e
 
-counted_whole : (b : ℕ → ℤ) (span : Span) (o : Option Counted) (v : Option Value) (x z : ℤ) → ((y : ℤ) → v ≡ Some (int y) → x ≡ y) → number_of_counted span o v ≡ Ok z →
+counted_whole : (b : ℕ → ℤ) (span : Span) (o : Option Counted) (v : Option Value) (x z : ℤ) → ((y : ℤ) → v ≡ Some (int y) → x ≡ y) →
+    number_of_counted span o v ≡ Ok z →
     Proper (counted_for b x o) × IsWhole z (counted_for b x o)
 counted_whole b span None v x z k h = (omega arith, whole_name x z (known_is span v x z k h))
 counted_whole b span (Some c) v x z k h =
@@ -124,13 +130,15 @@ module _ (G : Scope) (a : Integers) (agrees : Obeys G.names a) where
   abbrev Wholly : List ℕ → ℤ → Type 0
   Wholly name z = Proper (fraction_for G.names a name) × IsWhole z (fraction_for G.names a name)
 
-  stored_is : (span : Span) (name : List ℕ) (s : Storage) (z : ℤ) → storage_of name G.names ≡ Some s → number_of_storage span s ≡ Ok z → Wholly name z
+  stored_is : (span : Span) (name : List ℕ) (s : Storage) (z : ℤ) → storage_of name G.names ≡ Some s → number_of_storage span s ≡ Ok z →
+      Wholly name z
   stored_is span name s z e h =
       let u = then_ok (need (is_integer s.ty) T05 span) (number_of_counted span s.counted (known_value s)) z h in
       subst (λ o. Proper (stored_for (by_place G.names a) (a name) o) × IsWhole z (stored_for (by_place G.names a) (a name) o)) (sym e)
       (counted_whole (by_place G.names a) span s.counted (known_value s) (a name) z (λ y k. agrees.known name s y e k) u.then)
 
-  name_is : (span : Span) (name : List ℕ) (o : Option Standing) (z : ℤ) → standing_of name G.names ≡ o → number_of_standing span o ≡ Ok z → Wholly name z
+  name_is : (span : Span) (name : List ℕ) (o : Option Standing) (z : ℤ) → standing_of name G.names ≡ o → number_of_standing span o ≡ Ok z →
+      Wholly name z
   name_is span name (Some (Stored s)) z e h = stored_is span name s z (ap storage_in e) h
   name_is span name (Some (Label T x)) z e h = err_ok (fault_of T05 span) z h
   name_is span name (Some Subprogram) z e h = err_ok (fault_of T02 span) z h
@@ -170,7 +178,9 @@ module _ (t : Tests) where
         record {
           number = less (whole (pos 0)) w.number;
           proper = some_both (whole (pos 0)) w.number (omega arith) w.proper;
-          is = worth_roll fractions (ex.Unary span unary.Negate e) (standing_for G.names a) ∙ worth_of_one fractions (fraction e (standing_for G.names a)) w.number w.is;
+          is =
+              worth_roll fractions (ex.Unary span unary.Negate e) (standing_for G.names a) ∙ worth_of_one fractions
+              (fraction e (standing_for G.names a)) w.number w.is;
           same = negated_whole span w.number y z w.same h;
         };
     combined = λ span o e f G x y z v w h a g.
@@ -180,7 +190,8 @@ module _ (t : Tests) where
           number = of_two fractions o r.number s.number;
           proper = some_of_two o r.number s.number r.proper s.proper;
           is = worth_of_operator fractions o span e f (standing_for G.names a)
-              ∙ worth_of_two fractions o (fraction e (standing_for G.names a)) (fraction f (standing_for G.names a)) r.number s.number r.is s.is;
+              ∙ worth_of_two fractions o (fraction e (standing_for G.names a)) (fraction f (standing_for G.names a))
+              r.number s.number r.is s.is;
           same = combined_whole span o r.number s.number x y z r.same s.same h;
         };
     divided = λ span e f k G y z v i h a g.
@@ -195,6 +206,7 @@ module _ (t : Tests) where
         };
   }
 
-  pub number_is_worth : (e : Expr) (G : Scope) (a : Integers) → Obeys G.names a → (w : Number) → (found t e).number G ≡ Ok w → HasWhole e G.names a w.number
+  pub number_is_worth : (e : Expr) (G : Scope) (a : Integers) → Obeys G.names a → (w : Number) → (found t e).number G ≡ Ok w →
+      HasWhole e G.names a w.number
   unfolding Worthy
   number_is_worth e G a g w h = let x = by_number_forms t Worthy by_forms e G w h a g in (x.number, x.is, x.same)

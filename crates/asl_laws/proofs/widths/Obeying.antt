@@ -1,7 +1,7 @@
 -- What names stand for, where one name more is declared: those before it stand for the same, and it stands for what it counts as.
 use Rattle.std.proofs.Common.{◌≡◌, ◌⊎◌, inl, inr, ℕ, ℤ, Bool, true, false, cond, List, [], ◌∷◌, ◌++◌}
 use Rattle.std.proofs.Common.{Option, Some, None, Result, Ok, Err, refl, sym, ap, ◌∙◌, subst}
-use Rattle.std.specs.Prelude.{◌↔◌, ◌&&◌, not}
+use Rattle.std.specs.Prelude.{◌&&◌, not}
 use Rattle.std.specs.Str.{bytes_eq}
 use Rattle.std.proofs.lemmas.Slice.Eq.{bytes_eq-Decides}
 use Rattle.asl_syn.specs.declared.token.Span.{Span}
@@ -35,9 +35,9 @@ use Rattle.asl_rules.specs.statements.Locals.{type_declared, part_declared}
 use Rattle.asl_rules.specs.statements.Locals.{written_or, initialised, binders_free, bound_parts, bound_in, bound, bind_rule}
 use Rattle.asl_rules.specs.private.Worth.{Integers, counted_for, stored_for, fraction_for, standing_for, by_place, AreSame, Obeys, Alone, AtomsAlone, WellCounted}
 use Rattle.asl_laws.specs.WidthScopes.{IsIntegerName, Stands, Declares, StandsAsBefore}
-use Rattle.asl_rules.proofs.basics.Inversions.{ok_ok, err_ok, bind_ok, then_ok, need_ok, found_ok}
+use Rattle.asl_rules.proofs.basics.Inversions.{err_ok, bind_ok, then_ok, need_ok, found_ok}
 use Rattle.asl_rules.proofs.basics.Tests.{some_same, none_some}
-use Rattle.asl_rules.proofs.widths.Counting.{name_kept, storage_kept, stored_of, standing_new, absent_is, last_name}
+use Rattle.asl_rules.proofs.widths.Counting.{name_kept, storage_kept, stored_of, standing_new, absent_is}
 use Rattle.asl_rules.proofs.widths.Counting.{NewCounted, well_kept, variable_counts, atom_counts}
 use Rattle.asl_rules.proofs.widths.ScopesCounted.{Fresh, fresh_start, fresh_more, tested, ended_names, stored_is}
 use Rattle.asl_rules.proofs.widths.ScopesCounted.{plain_counts, itself_counts, declared_counts}
@@ -91,7 +91,8 @@ module _ (names : List Entry) (w : WellCounted names) (e : Entry) (u : Unknown e
   counted_kept : (z : ℤ) (o : Option Counted) → ((c : Counted) → o ≡ Some c → AtomsAlone names c.poly.terms) →
       counted_for (by_place (names ++ e ∷ []) a) z o ≡ counted_for (by_place names a) z o
   counted_kept z None h = refl
-  counted_kept z (Some c) h = ap (λ n. record { number = n; denominator = c.poly.denominator }) (sym (same_value names (e ∷ []) a c.poly (h c refl)))
+  counted_kept z (Some c) h =
+      ap (λ n. record { number = n; denominator = c.poly.denominator }) (sym (same_value names (e ∷ []) a c.poly (h c refl)))
 
   kept : (name : List ℕ) (s : Storage) → storage_of name names ≡ Some s → fraction_for (names ++ e ∷ []) a name ≡ fraction_for names a name
   kept name s h =
@@ -100,7 +101,8 @@ module _ (names : List Entry) (w : WellCounted names) (e : Entry) (u : Unknown e
       ∙ sym (ap (stored_for (by_place names a) (a name)) h)
 
 -- what was added to the names
-one_nothing : (names : List Entry) (w : WellCounted names) (e : Entry) → NewCounted names e → Unknown e → StandsAsBefore names (names ++ e ∷ [])
+one_nothing : (names : List Entry) (w : WellCounted names) (e : Entry) → NewCounted names e → Unknown e →
+    StandsAsBefore names (names ++ e ∷ [])
 one_nothing names w e n u = record {
   counted = well_kept names e w n;
   same = λ a. (before names w e u a, with_last names w e u a);
@@ -134,7 +136,8 @@ variable_nothing names name T w f = one_nothing names w (variable name T) (varia
 pub atom_nothing : (names : List Entry) (name : List ℕ) (T : Ty) → WellCounted names → is_free name names ≡ true →
     StandsAsBefore names (names ++ fixed name T (Some (atom_at (next_atom names))) ∷ [])
 atom_nothing names name T w f =
-    one_nothing names w (fixed name T (Some (atom_at (next_atom names)))) (atom_counts names name T f) (fixed_unknown name T (Some (atom_at (next_atom names))))
+    one_nothing names w (fixed name T (Some (atom_at (next_atom names)))) (atom_counts names name T f)
+    (fixed_unknown name T (Some (atom_at (next_atom names))))
 
 pub plain_nothing : (names : List Entry) (name : List ℕ) (T : Ty) → WellCounted names → is_free name names ≡ true →
     StandsAsBefore names (names ++ fixed name T None ∷ [])
@@ -142,7 +145,8 @@ plain_nothing names name T w f = one_nothing names w (fixed name T None) (plain_
 
 pub itself_nothing : (names : List Entry) (name : List ℕ) (T : Ty) → WellCounted names → is_free name names ≡ true →
     StandsAsBefore names (names ++ fixed name T (itself T names) ∷ [])
-itself_nothing names name T w f = one_nothing names w (fixed name T (itself T names)) (itself_counts names name T f) (fixed_unknown name T (itself T names))
+itself_nothing names name T w f =
+    one_nothing names w (fixed name T (itself T names)) (itself_counts names name T f) (fixed_unknown name T (itself T names))
 
 -- ---- declarations with an initialiser
 
@@ -165,7 +169,8 @@ module _ (t : Tests) (e : Expr) (G : Scope) (w : WellCounted G.names) (name : Li
 
   let_says : (b : Bool) (r : Result Width Fault) → is_integer T ≡ b → width t e G ≡ r → (a : Integers) → Obeys G.names a →
       (let k = cond b (Some (counted_as r ((found t e).has_atom G) (next_atom G.names))) None in
-      IsIntegerName name (with_let k) → (v : Width) → width t e G ≡ Ok v → AreSame (fraction e (standing_for G.names a)) (standing_for (with_let k) a name))
+      IsIntegerName name (with_let k) → (v : Width) → width t e G ≡ Ok v → AreSame (fraction e (standing_for G.names a))
+      (standing_for (with_let k) a name))
   let_says true (Ok u) i q a o n v h =
       let c : Counted = record { poly = u.poly; has_atom = (found t e).has_atom G } in
       let x = width_is_worth t e G a o w.within u q in
@@ -179,7 +184,8 @@ module _ (t : Tests) (e : Expr) (G : Scope) (w : WellCounted G.names) (name : Li
       not_both : (b : Bool) → b ≡ true → b ≡ false → ⊥
       not_both b g h = cc
 
-  declared_says : (kind : LocalKind) (a : Integers) → Obeys G.names a → (let after = G.names ++ declared kind name T (initialised_as t T e G) ∷ [] in
+  declared_says : (kind : LocalKind) (a : Integers) → Obeys G.names a →
+      (let after = G.names ++ declared kind name T (initialised_as t T e G) ∷ [] in
       (i : Ident) → i.text ≡ name → Declares t kind (Single (Bound i)) e G after a)
   declared_says local.Let a o i q =
       let after = with_let (initialised_as t T e G) in
@@ -205,7 +211,8 @@ part_nothing local.Var names name T w f = variable_nothing names name T w f
 binders_nothing : (bs : List Binder) (kind : LocalKind) (o : Option Ty) (Ts : Parts) (base names more : List Entry)
     (before : List (List ℕ)) → WellCounted names → Fresh base before names → binders_free bs before base ≡ Ok tt → bound_parts bs kind o Ts names ≡ Some more →
     StandsAsBefore names more
-binders_nothing [] kind o no_part base names more before w f h k = subst (StandsAsBefore names) (some_same names more k) (nothing_more names w)
+binders_nothing [] kind o no_part base names more before w f h k =
+    subst (StandsAsBefore names) (some_same names more k) (nothing_more names w)
 binders_nothing [] kind o (part T Ts) base names more before w f h k = none_some more k
 binders_nothing (Bound i ∷ bs) kind o no_part base names more before w f h k = none_some more k
 binders_nothing (Unbound at ∷ bs) kind o no_part base names more before w f h k = none_some more k
@@ -231,7 +238,8 @@ module _ (t : Tests) where
   abbrev Leaves : LocalKind → Bind → Expr → Scope → List Entry → Type 0
   Leaves kind b e G after = StandsAsBefore G.names after × ((a : Integers) → Obeys G.names a → Declares t kind b e G after a)
 
-  several_says : (kind : LocalKind) (at : Span) (bs : List Binder) (e : Expr) (G : Scope) (after : List Entry) → StandsAsBefore G.names after →
+  several_says : (kind : LocalKind) (at : Span) (bs : List Binder) (e : Expr) (G : Scope) (after : List Entry) →
+      StandsAsBefore G.names after →
       Leaves kind (Several at bs) e G after
   several_says local.Let at bs e G after s = (s, λ a o. tt)
   several_says local.Var at bs e G after s = (s, λ a o. tt)
@@ -250,7 +258,8 @@ module _ (t : Tests) where
       let names : List Entry = G.names ++ declared kind x.text T (initialised_as t T e G) ∷ [] in
       subst (λ z. Leaves kind (Single (Bound x)) e G z)
       (ended_names G.class span true i.value.effect names (tree.Declare span i.written tree.whole i.value.tree) d u.then) (
-        one_nothing G.names w (declared kind x.text T (initialised_as t T e G)) (declared_counts t kind e G x.text T w free) (let_unknown t e G w x.text free T kind (initialised_as t T e G)),
+        one_nothing G.names w (declared kind x.text T (initialised_as t T e G)) (declared_counts t kind e G x.text T w free)
+            (let_unknown t e G w x.text free T kind (initialised_as t T e G)),
         λ a o. declared_says t e G w x.text free T kind a o x refl,
       )
   bound_says span kind (Single (Unbound at)) e i G d w h =

@@ -50,7 +50,8 @@ pub record Whole (p : Polynomial) : Type 0 where
 -- ---- names
 
 number_whole : (span : Span) (z : ℤ) (p : Polynomial) → width_of_known span (Some (int z)) ≡ Ok p → Whole p
-number_whole span z p h = record { number = z; is = number_width no_atoms span z p h; held = number_held span z p h; over = number_alone Never span z p h }
+number_whole span z p h =
+    record { number = z; is = number_width no_atoms span z p h; held = number_held span z p h; over = number_alone Never span z p h }
 
 known_whole : (span : Span) (v : Option Value) (p : Polynomial) → width_of_known span v ≡ Ok p → Whole p
 known_whole span (Some (int y)) p h = number_whole span y p h
@@ -63,7 +64,8 @@ known_whole span (Some (tuple_with xs)) p h = err_ok (fault_of T19 span) p h
 known_whole span (Some (array_with k xs)) p h = err_ok (fault_of T19 span) p h
 known_whole span None p h = err_ok (fault_of T19 span) p h
 
-name_whole : (names : List Entry) → NoneCounted names → (span : Span) (name : List ℕ) (p : Polynomial) (o : Option Standing) → standing_of name names ≡ o → width_of_standing span o ≡ Ok p → Whole p
+name_whole : (names : List Entry) → NoneCounted names → (span : Span) (name : List ℕ) (p : Polynomial) (o : Option Standing) →
+    standing_of name names ≡ o → width_of_standing span o ≡ Ok p → Whole p
 name_whole names c span name p (Some (Stored s)) e h =
     let u = then_ok (need (is_integer s.ty) T05 span) (width_of_counted span s.counted (known_value s)) p h in
     known_whole span (known_value s) p (subst (λ (k : Option Counted). width_of_counted span k (known_value s) ≡ Ok p) (c name s e) u.then)
@@ -92,7 +94,8 @@ is_nothing : (n : ℕ) → (n == 0) ≡ true → n ≡ 0
 is_nothing n h = grind (arith, nat_tests)
 
 -- the integer that is divided
-multiple_of : (p : Polynomial) (k : ℕ) (o : Option ℤ) → constant_value p ≡ o → is_multiple k o ≡ true → (z : ℤ) × (constant_value p ≡ Some z) × (unsigned_abs z % k ≡ 0)
+multiple_of : (p : Polynomial) (k : ℕ) (o : Option ℤ) → constant_value p ≡ o → is_multiple k o ≡ true →
+    (z : ℤ) × (constant_value p ≡ Some z) × (unsigned_abs z % k ≡ 0)
 multiple_of p k None e h = no h
 multiple_of p k (Some z) e h = (z, e, is_nothing (unsigned_abs z % k) h)
 
@@ -102,7 +105,10 @@ no_rest z k h e = let l = floor_law z k h in let x : z ≡ floor_div z k *ℤ po
 divided_whole : (span : Span) (p q : Polynomial) (k : ℕ) → 0 < k → Whole p → width_divided span p k ≡ Ok q → Whole q
 divided_whole span p q k l x h =
     let u = then_ok (need (may_divide k p) T19 span) (need (quotient_fits p k) T20 span >> Ok (quotient_map p k)) q h in
-    let m = multiple_of p k (constant_value p) refl (second_of (varies p) (is_multiple k (constant_value p)) (need_ok (may_divide k p) T19 span tt u.first) (never_varies p x.held x.over)) in
+    let m =
+    multiple_of p k (constant_value p) refl
+    (second_of (varies p) (is_multiple k (constant_value p)) (need_ok (may_divide k p) T19 span tt u.first)
+    (never_varies p x.held x.over)) in
     let c = results.constant_is no_atoms p m.0 m.1 in
     let w : HasWidth p no_atoms m.0 = c.0 ∙ sym (mul-one m.0) ∙ ap (λ n. m.0 *ℤ pos n) (sym c.1) in
     record {

@@ -72,7 +72,8 @@ difference_is span p q r h = let u = then_ok (need (sum_fits p q) T20 span) (Ok 
 combined_is : (span : Span) (o : Combination) (p q r : Polynomial) → width_combined span o p q ≡ Ok r → r ≡ of_two polynomials o p q
 combined_is span Sum p q r h = let u = then_ok (need (sum_fits p q) T20 span) (Ok (sum_map p q)) r h in sym (ok_ok (sum_map p q) r u.then)
 combined_is span Difference p q r h = difference_is span p q r h
-combined_is span Product p q r h = let u = then_ok (need (product_fits p q) T20 span) (Ok (product_map p q)) r h in sym (ok_ok (product_map p q) r u.then)
+combined_is span Product p q r h =
+    let u = then_ok (need (product_fits p q) T20 span) (Ok (product_map p q)) r h in sym (ok_ok (product_map p q) r u.then)
 
 divided_is : (span : Span) (p r : Polynomial) (k : ℕ) → width_divided span p k ≡ Ok r → r ≡ quotient_map p k
 divided_is span p r k h =
@@ -96,10 +97,15 @@ module _ (t : Tests) (f : Polynomials) where
   by_forms = record {
     whole = λ span n G p h g. worth_roll polynomials (ex.Int span n) f ∙ ap Some (sym (number_is span (pos n) p h));
     name = λ span name G p h g. worth_roll polynomials (ex.Name span name) f ∙ g span name p h;
-    negated = λ span e G p q w h g. worth_roll polynomials (ex.Unary span unary.Negate e) f ∙ worth_of_one polynomials (polynomial e f) p (w g) ∙ ap Some (sym (difference_is span (constant_map (pos 0)) p q h));
-    combined = λ span o e k G p q r v w h g. worth_of_operator polynomials o span e k f ∙ worth_of_two polynomials o (polynomial e f) (polynomial k f) p q (v g) (w g) ∙ ap Some (sym (combined_is span o p q r h));
+    negated =
+        λ span e G p q w h g. worth_roll polynomials (ex.Unary span unary.Negate e) f ∙ worth_of_one polynomials (polynomial e f) p (w g)
+        ∙ ap Some (sym (difference_is span (constant_map (pos 0)) p q h));
+    combined =
+        λ span o e k G p q r v w h g. worth_of_operator polynomials o span e k f ∙ worth_of_two polynomials o (polynomial e f)
+        (polynomial k f) p q (v g) (w g) ∙ ap Some (sym (combined_is span o p q r h));
     divided = λ span e k n G p q v i h g. worth_roll polynomials (ex.Binary span binary.DivideExact e k) f
-        ∙ worth_of_quotient polynomials _ (polynomial e f) n p (written_divisor polynomials k n i) (v g) ∙ ap Some (sym (divided_is span p q n h));
+        ∙ worth_of_quotient polynomials _ (polynomial e f) n p (written_divisor polynomials k n i) (v g) ∙ ap Some
+        (sym (divided_is span p q n h));
   }
 
   pub polynomial_is : (e : Expr) (G : Scope) (w : Width) → AgreesOn f G → width t e G ≡ Ok w → polynomial e f ≡ Some w.poly

@@ -1,7 +1,7 @@
 -- In a state that agrees with a scope, a width expression has the number of its polynomial, and a number its own: what a run takes for the expressions of a type that
 -- is written at a place.
 use Rattle.std.proofs.Common.{◌≡◌, ℕ, ℤ, pos, Bool, true, false, cond, List, [], ◌∷◌, Option, Some, None, Ok, refl, sym, ap, ◌∙◌, subst, arith}
-use Rattle.std.specs.Prelude.{◌-ℤ◌, ◌*ℤ◌, nat_le, option_map}
+use Rattle.std.specs.Prelude.{nat_le, option_map}
 use Rattle.asl_poly.specs.WidthLimits.{heaviest}
 use Rattle.std.specs.Str.{bytes_eq}
 use Rattle.asl_syn.specs.declared.token.Span.{Span}
@@ -51,7 +51,8 @@ IsWholeAt av p = HasWidth p av (width_at p av)
 module _ (f : Numbers) (av : Assignment) where
   -- a name in a width stands for the integer of its polynomial, which is whole, and one in a number for that number
   pub record NumbersAgree (G : Scope) : Type 0 where
-    pub widths : (span : Span) (name : List ℕ) (p : Polynomial) → width_of_standing span (standing_of name G.names) ≡ Ok p → (f name ≡ Some (width_at p av)) × IsWholeAt av p
+    pub widths : (span : Span) (name : List ℕ) (p : Polynomial) → width_of_standing span (standing_of name G.names) ≡ Ok p →
+        (f name ≡ Some (width_at p av)) × IsWholeAt av p
     pub numbers : (span : Span) (name : List ℕ) (z : ℤ) → number_of_standing span (standing_of name G.names) ≡ Ok z → f name ≡ Some z
 
   -- the fraction of an expression, which the polynomial is
@@ -90,8 +91,11 @@ module _ (f : Numbers) (av : Assignment) where
           held = difference_held span (constant_map (pos 0)) p q zero_held x.held h;
           number = less (whole (pos 0)) x.number;
           proper = some_both (whole (pos 0)) x.number (omega arith) x.proper;
-          is = worth_roll fractions (ex.Unary span unary.Negate e) (wholes f) ∙ worth_of_one fractions (fraction e (wholes f)) x.number x.is;
-          same = difference_is av span (constant_map (pos 0)) p q (whole (pos 0)) x.number zero_held x.held (sym (constant_same av (pos 0))) x.same h;
+          is =
+              worth_roll fractions (ex.Unary span unary.Negate e) (wholes f) ∙ worth_of_one fractions (fraction e (wholes f)) x.number x.is;
+          same =
+              difference_is av span (constant_map (pos 0)) p q (whole (pos 0)) x.number zero_held x.held (sym (constant_same av (pos 0)))
+              x.same h;
         };
     combined = λ span o e d G p q r v w h g k.
         let x = v g k in
@@ -129,7 +133,8 @@ module _ (f : Numbers) (av : Assignment) where
   number_forms : NumberForms Counted_so
   unfolding Counted_so
   number_forms = record {
-    whole = λ span n G g. record { number = whole (pos n); proper = omega arith; is = worth_roll fractions (ex.Int span n) (wholes f); same = refl };
+    whole =
+        λ span n G g. record { number = whole (pos n); proper = omega arith; is = worth_roll fractions (ex.Int span n) (wholes f); same = refl };
     name = λ span name G z h g. record {
       number = whole z;
       proper = omega arith;
@@ -141,7 +146,8 @@ module _ (f : Numbers) (av : Assignment) where
         record {
           number = less (whole (pos 0)) x.number;
           proper = some_both (whole (pos 0)) x.number (omega arith) x.proper;
-          is = worth_roll fractions (ex.Unary span unary.Negate e) (wholes f) ∙ worth_of_one fractions (fraction e (wholes f)) x.number x.is;
+          is =
+              worth_roll fractions (ex.Unary span unary.Negate e) (wholes f) ∙ worth_of_one fractions (fraction e (wholes f)) x.number x.is;
           same = numbers.negated_whole span x.number y z x.same h;
         };
     combined = λ span o e d G x y z v w h g.
@@ -165,7 +171,8 @@ module _ (f : Numbers) (av : Assignment) where
         };
   }
 
-  pub width_has : (t : Tests) (e : Expr) (G : Scope) (w : Width) → NumbersAgree G → CountsHeld G.names → width t e G ≡ Ok w → HasFraction e w.poly
+  pub width_has : (t : Tests) (e : Expr) (G : Scope) (w : Width) → NumbersAgree G → CountsHeld G.names → width t e G ≡ Ok w →
+      HasFraction e w.poly
   unfolding Wide
   width_has t e G w g k h = by_width_forms t Wide wide_forms e G w h g k
 
@@ -267,7 +274,8 @@ module _ (av : Assignment) where
   -- what counts in widths is whole
   counted_whole : (base names : List Entry) (c : Core) (name : List ℕ) (s : Storage) (k : Counted) → Agrees base names av c →
       standing_of name names ≡ Some (Stored s) → s.counted ≡ Some k → IsWholeAt av k.poly
-  counted_whole base names c name s k a h e = counted_in (or_value (value_of name c.frame) (value_of name c.globals)) (finds av base names c name s a h)
+  counted_whole base names c name s k a h e =
+      counted_in (or_value (value_of name c.frame) (value_of name c.globals)) (finds av base names c name s a h)
     where
       counted_in : (o : Option Value) → Finds av (types_in base) s o → IsWholeAt av k.poly
       counted_in None f = absurd f
@@ -275,7 +283,9 @@ module _ (av : Assignment) where
 
   -- and within the limits
   pub counts_held : (base names : List Entry) (c : Core) → Agrees base names av c → CountsHeld names
-  counts_held base names c a name s k h e = counted_in (or_value (value_of name c.frame) (value_of name c.globals)) (finds av base names c name s a (stored_of (standing_of name names) s h))
+  counts_held base names c a name s k h e =
+      counted_in (or_value (value_of name c.frame) (value_of name c.globals))
+      (finds av base names c name s a (stored_of (standing_of name names) s h))
     where
       counted_in : (o : Option Value) → Finds av (types_in base) s o → IsPolynomial k.poly
       counted_in None f = absurd f
@@ -286,13 +296,15 @@ module _ (av : Assignment) where
       width_of_counted span o v ≡ Ok p → (present c name ≡ Some (width_at p av)) × IsWholeAt av p
   stored_width base names c span name s p (Some k) v eo ev g a h w =
       let same : k.poly ≡ p = ok_ok k.poly p w in (
-        storage_number base names c name s (width_at k.poly av) a h (λ b. counted_says s k b (g name s k h eo) eo) ∙ ap Some (ap (λ q. width_at q av) same),
+        storage_number base names c name s (width_at k.poly av) a h (λ b. counted_says s k b (g name s k h eo) eo) ∙ ap Some
+            (ap (λ q. width_at q av) same),
         subst (IsWholeAt av) same (counted_whole base names c name s k a h eo),
       )
   stored_width base names c span name s p None (Some (int y)) eo ev g a h w =
       let u = then_ok (need (nat_le (weight_of y) heaviest) T20 span) (Ok (constant_map y)) p w in
       let same : constant_map y ≡ p = ok_ok (constant_map y) p u.then in (
-        storage_number base names c name s y a h (λ b. known_says s y b ev) ∙ ap Some (sym (constant_at av y) ∙ ap (λ q. width_at q av) same),
+        storage_number base names c name s y a h (λ b. known_says s y b ev) ∙ ap Some
+            (sym (constant_at av y) ∙ ap (λ q. width_at q av) same),
         subst (IsWholeAt av) same (subst (λ z. HasWidth (constant_map y) av z) (sym (constant_at av y)) (int_end y av)),
       )
   stored_width base names c span name s p None (Some (bool b)) eo ev g a h w = err_ok (fault_of T19 span) p w
@@ -320,7 +332,9 @@ module _ (av : Assignment) where
   stored_number base names c span name s z None (Some (array_with k xs)) eo ev g a h w = err_ok (fault_of T19 span) z w
   stored_number base names c span name s z None None eo ev g a h w = err_ok (fault_of T19 span) z w
 
-  width_name : (base names : List Entry) (c : Core) (span : Span) (name : List ℕ) (p : Polynomial) (o : Option Standing) → standing_of name names ≡ o → CountedFixed names → Agrees base names av c → width_of_standing span o ≡ Ok p → (present c name ≡ Some (width_at p av)) × IsWholeAt av p
+  width_name : (base names : List Entry) (c : Core) (span : Span) (name : List ℕ) (p : Polynomial) (o : Option Standing) →
+      standing_of name names ≡ o → CountedFixed names → Agrees base names av c → width_of_standing span o ≡ Ok p →
+      (present c name ≡ Some (width_at p av)) × IsWholeAt av p
   width_name base names c span name p (Some (Stored s)) e g a h =
       let u = then_ok (need (is_integer s.ty) T05 span) (width_of_counted span s.counted (known_value s)) p h in
       stored_width base names c span name s p s.counted (known_value s) refl refl g a e u.then

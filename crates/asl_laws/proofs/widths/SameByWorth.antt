@@ -95,8 +95,8 @@ same_by_worth t e f G g v w h k m n same b =
     sym (ap (λ z. z *ℤ pos w.poly.denominator) (value_is G.names b v.poly.terms m)) ∙ at
     ∙ ap (λ z. z *ℤ pos v.poly.denominator) (value_is G.names b w.poly.terms n)
 
--- so, in a scope whose `let`s count as names that stand for themselves, two widths are the same exactly where they have one fraction for all integers that
--- agree with the scope
+-- so, in a scope whose `let`s count as names that stand for themselves, two widths are the same exactly where they have one fraction for
+-- all integers that agree with the scope
 pub same_is_the_words : (t : Tests) (e f : Expr) (G : Scope) → WellCounted G.names → (v w : Width) → width t e G ≡ Ok v → width t f G ≡ Ok w →
     Same v.poly w.poly ↔ SameWorth G.names e f
 same_is_the_words t e f G g v w h k =
@@ -111,7 +111,8 @@ test_is_worth t r e f G v w g h k =
     λ s. record { left = width_is_held t e G g.within v h; right = width_is_held t f G g.within w k; same = s } in
     (λ s. q.0 (r.same_yes v.poly w.poly s).same, λ s. r.same_all v.poly w.poly (both (q.1 s)))
 
-pub has_worth : (t : Tests) (e : Expr) (G : Scope) (w : Width) (a : Integers) → CountsWithin G.names → width t e G ≡ Ok w → Obeys G.names a →
+pub has_worth : (t : Tests) (e : Expr) (G : Scope) (w : Width) (a : Integers) → CountsWithin G.names → width t e G ≡ Ok w →
+    Obeys G.names a →
     HasWorth e G.names a w.poly
 has_worth t e G w a g h o = let x = width_is_worth t e G a o g w h in (x.number, x.is, x.same)
 

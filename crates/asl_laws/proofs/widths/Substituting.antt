@@ -1,6 +1,7 @@
--- Atoms that are replaced by widths: the result is within the limits, and where the widths are whole, it is what the polynomial is at their integers.
+-- Atoms that are replaced by widths: the result is within the limits, and where the widths are whole, it is what the polynomial is at their
+-- integers.
 use Rattle.std.proofs.Common.{◌≡◌, ℕ, ◌*◌, ◌<◌, ◌==◌, inl, inr, ℤ, pos, Bool, true, false, List, [], ◌∷◌, length, Some, None, refl, sym, ap, ◌∙◌, subst, arith}
-use Rattle.std.specs.Prelude.{◌+ℤ◌, ◌*ℤ◌, nat_le, ◌&&◌, if◌then◌else◌}
+use Rattle.std.specs.Prelude.{◌*ℤ◌, nat_le, ◌&&◌, if◌then◌else◌}
 use Rattle.std.proofs.Math.IntN.{*ℤ_comm, pos-*ℤ-pos}
 use Rattle.std.proofs.lemmas.Int.{ints}
 use Rattle.std.proofs.lemmas.Bool.{cases_Bool}
@@ -57,7 +58,9 @@ fine_within (e ∷ by) h = fine_one e by h.0 (fine_within by h.1)
 replaced_back : (by : Widths) (ts : List Summand) → replaced_fits by ts ≡ true → ReplacedFits by ts
 unfolding replaced_fits
 replaced_back by ts h =
-    let p = both (nat_le (replaced_weight by ts) heaviest) (nat_le (replaced_degree by ts) highest && nat_le (length (note_replaced by [] ts)) most_atoms) h in
+    let p =
+    both (nat_le (replaced_weight by ts) heaviest)
+    (nat_le (replaced_degree by ts) highest && nat_le (length (note_replaced by [] ts)) most_atoms) h in
     let q = both (nat_le (replaced_degree by ts) highest) (nat_le (length (note_replaced by [] ts)) most_atoms) p.1 in
     record { light = true_le (replaced_weight by ts) heaviest p.0; low = true_le (replaced_degree by ts) highest q.0; few = true_le (length (note_replaced by [] ts)) most_atoms q.1 }
 
@@ -69,14 +72,17 @@ map_held by p w i h =
     let f = fine_within by w in
     let q = both (replaced_fits by es) (nat_le (n * p.denominator) finest) h in
     let m = made_map by p f i n refl es refl (replaced by [] es) (all_within by w es) (replaced_back by es q.0) refl in
-    lowest_polynomial (replaced by [] es) (n * p.denominator) m (some_product n p.denominator (common_denominator_some by f p.terms) i.lowest.positive) (true_le (n * p.denominator) finest q.1)
+    lowest_polynomial (replaced by [] es) (n * p.denominator) m
+    (some_product n p.denominator (common_denominator_some by f p.terms) i.lowest.positive) (true_le (n * p.denominator) finest q.1)
 
-if_held : (b : Bool) (by : Widths) (p q : Polynomial) → substitute_fits by p ≡ b → AllWithin by → IsPolynomial p → (if b then Some (substitute_map by p) else None) ≡ Some q →
+if_held : (b : Bool) (by : Widths) (p q : Polynomial) → substitute_fits by p ≡ b → AllWithin by → IsPolynomial p →
+    (if b then Some (substitute_map by p) else None) ≡ Some q →
     (substitute_map by p ≡ q) × IsPolynomial q
 if_held true by p q e w i h = let s = some_same (substitute_map by p) q h in (s, subst IsPolynomial s (map_held by p w i e))
 if_held false by p q e w i h = none_some q h
 
-pub substituted_is : (by : Widths) (p q : Polynomial) → AllWithin by → IsPolynomial p → substituted by p ≡ Some q → (substitute_map by p ≡ q) × IsPolynomial q
+pub substituted_is : (by : Widths) (p q : Polynomial) → AllWithin by → IsPolynomial p → substituted by p ≡ Some q →
+    (substitute_map by p ≡ q) × IsPolynomial q
 substituted_is by p q w i h = if_held (substitute_fits by p) by p q refl w i h
 
 pub end_held : (by : Widths) (e f : End) → AllWithin by → IsEnd e → substituted_end by e ≡ Some f → IsEnd f
@@ -102,7 +108,8 @@ ranges_held by (p ∷ ps) qs w i h =
 abbrev pub AreWhole : Widths → (ℕ → ℤ) → (ℕ → ℤ) → Type 0
 AreWhole by a b = (x : ℕ) → value a (map_at by x) ≡ b x *ℤ pos (denominator_at by x)
 
-pub replaced_same : (by : Widths) (a b : ℕ → ℤ) (p q : Polynomial) → AllWithin by → AreWhole by a b → IsPolynomial p → substituted by p ≡ Some q →
+pub replaced_same : (by : Widths) (a b : ℕ → ℤ) (p q : Polynomial) → AllWithin by → AreWhole by a b → IsPolynomial p →
+    substituted by p ≡ Some q →
     SameFraction (fraction_at a q) (fraction_at b p)
 replaced_same by a b p q w h i k =
     let f = fine_within by w in
@@ -126,14 +133,18 @@ constant_worth f p z e =
     over : (z : ℤ) (d e : ℕ) → (z *ℤ pos d) *ℤ pos e ≡ z *ℤ pos (e * d)
     over z d e = mul_assoc z (pos d) (pos e) ∙ ap (λ y. z *ℤ y) (*ℤ_comm (pos d) (pos e) ∙ pos-*ℤ-pos e d)
 
-pub constant_replaced : (by : Widths) (p q : Polynomial) (z : ℤ) → AllWithin by → IsPolynomial p → IsConstant p z → substituted by p ≡ Some q → IsConstant q z
+pub constant_replaced : (by : Widths) (p q : Polynomial) (z : ℤ) → AllWithin by → IsPolynomial p → IsConstant p z →
+    substituted by p ≡ Some q → IsConstant q z
 constant_replaced by p q z w i c k a =
     let f = fine_within by w in
     let e : p.terms ≡ constant_terms (z *ℤ pos p.denominator) = constant_is p.terms (z *ℤ pos p.denominator) i.map c in
     let o : IsWhole z (worth (replaced_at a by) p) = constant_worth (replaced_at a by) p z e in
     let s : SameFraction (fraction_at a (substitute_map by p)) (worth (replaced_at a by) p) = substitute_is by p f i a in
     subst (λ r. HasWidth r a z) (substituted_is by p q w i k).0
-    (whole_width a (substitute_map by p) z (same_trans (fraction_at a (substitute_map by p)) (worth (replaced_at a by) p) (whole z) (worth_some by p f i a) s o))
+    (whole_width a (substitute_map by p) z (same_trans (fraction_at a (substitute_map by p)) (worth (replaced_at a by) p) (whole z)
+    (worth_some by p f i a) s o))
   where
     worth_some : (by : Widths) (p : Polynomial) → AllFine by → IsPolynomial p → (a : ℕ → ℤ) → 0 < (worth (replaced_at a by) p).denominator
-    worth_some by p f i a = some_product (sum_of (replaced_at a by) p.terms).denominator p.denominator (some_sum (replaced_at a by) p.terms (λ x. (f x).0)) i.lowest.positive
+    worth_some by p f i a =
+        some_product (sum_of (replaced_at a by) p.terms).denominator p.denominator (some_sum (replaced_at a by) p.terms (λ x. (f x).0))
+        i.lowest.positive

@@ -62,40 +62,48 @@ module _ (a : ℕ → ℤ) where
   pub number_width : (span : Span) (z : ℤ) (p : Polynomial) → width_of_number span z ≡ Ok p → HasWidth p a z
   number_width span z p h = has_whole p (whole z) z (omega arith) (number_is a span z p h) refl
 
-  pub combined_width : (span : Span) (o : Combination) (p q r : Polynomial) (y v : ℤ) → IsPolynomial p → IsPolynomial q → HasWidth p a y → HasWidth q a v →
+  pub combined_width : (span : Span) (o : Combination) (p q r : Polynomial) (y v : ℤ) → IsPolynomial p → IsPolynomial q → HasWidth p a y →
+      HasWidth q a v →
       width_combined span o p q ≡ Ok r → HasWidth r a (number_by o y v)
   combined_width span o p q r y v i j e f h =
       has_whole r (of_two fractions o (whole y) (whole v)) (number_by o y v) (some_of_two o (whole y) (whole v) (omega arith) (omega arith))
       (combined_is a span o p q r (whole y) (whole v) i j (is_whole p y e) (is_whole q v f) h) (whole_of_two o y v)
 
-  pub sum_width : (p q : Polynomial) (y v : ℤ) → IsPolynomial p → IsPolynomial q → HasWidth p a y → HasWidth q a v → HasWidth (sum_map p q) a (y +ℤ v)
+  pub sum_width : (p q : Polynomial) (y v : ℤ) → IsPolynomial p → IsPolynomial q → HasWidth p a y → HasWidth q a v →
+      HasWidth (sum_map p q) a (y +ℤ v)
   sum_width p q y v i j e f =
       let r = fraction_at a p in
       let s = fraction_at a q in
       whole_width a (sum_map p q) (y +ℤ v)
       (same_trans (fraction_at a (sum_map p q)) (plus r s) (whole (y +ℤ v)) (some_both r s i.lowest.positive j.lowest.positive) (sum_same a p q i j)
-      (same_trans (plus r s) (plus (whole y) (whole v)) (whole (y +ℤ v)) (omega arith) (plus_same r s (whole y) (whole v) (width_whole a p y e) (width_whole a q v f)) (whole_of_two Sum y v)))
+      (same_trans (plus r s) (plus (whole y) (whole v)) (whole (y +ℤ v)) (omega arith)
+      (plus_same r s (whole y) (whole v) (width_whole a p y e) (width_whole a q v f)) (whole_of_two Sum y v)))
 
-  pub difference_width : (p q : Polynomial) (y v : ℤ) → IsPolynomial p → IsPolynomial q → HasWidth p a y → HasWidth q a v → HasWidth (difference_map p q) a (y -ℤ v)
+  pub difference_width : (p q : Polynomial) (y v : ℤ) → IsPolynomial p → IsPolynomial q → HasWidth p a y → HasWidth q a v →
+      HasWidth (difference_map p q) a (y -ℤ v)
   difference_width p q y v i j e f =
       let r = fraction_at a p in
       let s = fraction_at a q in
       whole_width a (difference_map p q) (y -ℤ v)
       (same_trans (fraction_at a (difference_map p q)) (less r s) (whole (y -ℤ v)) (some_both r s i.lowest.positive j.lowest.positive) (difference_same a p q i j)
-      (same_trans (less r s) (less (whole y) (whole v)) (whole (y -ℤ v)) (omega arith) (less_same r s (whole y) (whole v) (width_whole a p y e) (width_whole a q v f)) (whole_of_two Difference y v)))
+      (same_trans (less r s) (less (whole y) (whole v)) (whole (y -ℤ v)) (omega arith)
+      (less_same r s (whole y) (whole v) (width_whole a p y e) (width_whole a q v f)) (whole_of_two Difference y v)))
 
-  pub negated_width : (span : Span) (p q : Polynomial) (y : ℤ) → IsPolynomial p → HasWidth p a y → width_difference span (constant_map (pos 0)) p ≡ Ok q →
+  pub negated_width : (span : Span) (p q : Polynomial) (y : ℤ) → IsPolynomial p → HasWidth p a y →
+      width_difference span (constant_map (pos 0)) p ≡ Ok q →
       HasWidth q a (pos 0 -ℤ y)
   negated_width span p q y i e h = combined_width span Difference (constant_map (pos 0)) p q (pos 0) y zero_held i (int_end (pos 0) a) e h
 
-  pub divided_width : (span : Span) (p q : Polynomial) (k : ℕ) (y : ℤ) → IsPolynomial p → 0 < k → HasWidth p a y → floor_mod y k ≡ 0 → width_divided span p k ≡ Ok q →
+  pub divided_width : (span : Span) (p q : Polynomial) (k : ℕ) (y : ℤ) → IsPolynomial p → 0 < k → HasWidth p a y → floor_mod y k ≡ 0 →
+      width_divided span p k ≡ Ok q →
       HasWidth q a (floor_div y k)
   divided_width span p q k y i l e m h =
       has_whole q (parted (whole y) k) (floor_div y k) (some_parted (whole y) k (omega arith) l)
       (divided_is a span p q k (whole y) i l (is_whole p y e) h) (quotient_whole y k l m)
 
   -- as an end of a range
-  pub whole_ends : (p : Polynomial) (z : ℤ) → IsPolynomial p → HasWidth p a z → (ceiling (end_at (shown p) a) ≡ z) × (floor (end_at (shown p) a) ≡ z)
+  pub whole_ends : (p : Polynomial) (z : ℤ) → IsPolynomial p → HasWidth p a z →
+      (ceiling (end_at (shown p) a) ≡ z) × (floor (end_at (shown p) a) ≡ z)
   whole_ends p z i h =
       let e = shown_is p a in
       let w = width_whole a p z h in (

@@ -202,10 +202,12 @@ module _ (tests : Tests) (right : IsRight tests) (ds : List Decl) (base : List E
   combined_node c P Q R span Sum e f g k r d h = node (ex.Binary span binary.Add e f) c R (combined c P Q R span Sum e f g k r) d h
   combined_node c P Q R span Difference e f g k r d h =
       node (ex.Binary span binary.Subtract e f) c R (combined c P Q R span Difference e f g k r) d h
-  combined_node c P Q R span Product e f g k r d h = node (ex.Binary span binary.Multiply e f) c R (combined c P Q R span Product e f g k r) d h
+  combined_node c P Q R span Product e f g k r d h =
+      node (ex.Binary span binary.Multiply e f) c R (combined c P Q R span Product e f g k r) d h
 
   -- a divisor that is written
-  literal_gives : (c : Core) (f : Expr) (k : ℕ) → IsWritten f k → (d : ℕ) (h : Meter) → GivesInteger c (λ y. y ≡ pos k) ((nodes_at d).expr f c h)
+  literal_gives : (c : Core) (f : Expr) (k : ℕ) → IsWritten f k → (d : ℕ) (h : Meter) →
+      GivesInteger c (λ y. y ≡ pos k) ((nodes_at d).expr f c h)
   literal_gives c f k i d h =
       subst (λ e. GivesInteger c (λ y. y ≡ pos k) ((nodes_at d).expr e c h)) (sym i.is)
       (node (ex.Int i.span k) c (λ y. y ≡ pos k) (λ d1 h1. made (nodes_at d1) c h1 (λ y. y ≡ pos k) i.span (pos k) refl) d h)
