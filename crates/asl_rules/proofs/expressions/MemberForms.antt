@@ -202,13 +202,8 @@ module _ (d : List ℕ → Option Ty) (w : WellDeclared d) (av : Assignment) (te
       subst (λ k. MemberGives span f k (bits_with bs (g0 ∷ gs))) (some_same (a_bitfield g) m e)
       (record {
         same = r;
-        gives = subst (Gives d av (bits_wide (bitfield_width g))) (sym r) (
-          subst (λ z. is_width (length (read_bits (places_of_field g ∷ []) bs)) z ≡ true) (sym (constant_at av (pos (bitfield_width g))))
-              (subst (λ j. is_width (length (read_bits (places_of_field g ∷ []) bs)) (pos j) ≡ true) l
-              (number_is (length (read_bits (places_of_field g ∷ []) bs)))),
-          tt,
-          refl,
-        );
+        gives = subst (Gives d av (bits_wide (bitfield_width g))) (sym r)
+            (subst (λ z. is_width (length (read_bits (places_of_field g ∷ []) bs)) z ≡ true) (sym (constant_at av (pos (bitfield_width g)))) (subst (λ j. is_width (length (read_bits (places_of_field g ∷ []) bs)) (pos j) ≡ true) l (number_is (length (read_bits (places_of_field g ∷ []) bs)))), tt, refl);
       })
 
   -- a field of a record or an exception, or a bitfield of bits
@@ -266,13 +261,8 @@ module _ (d : List ℕ → Option Ty) (w : WellDeclared d) (av : Assignment) (te
 
   within_gives : (b : Bool) (span : Span) (fs : List BitField) (bs : List Bool) (v : View) → length (read_bits (places_of_fields fs) bs) ≡ all_wide fs → Gives d av (bits_wide (all_wide fs)) (cond b (Good (places_of_fields fs)) (Bad (Faulted D14 span)) >>= λ ps. bits_at span ps (bits_with bs v))
   within_gives false span fs bs v e = tt
-  within_gives true span fs bs v e = (
-    subst (λ z. is_width (length (read_bits (places_of_fields fs) bs)) z ≡ true) (sym (constant_at av (pos (all_wide fs))))
-        (subst (λ j. is_width (length (read_bits (places_of_fields fs) bs)) (pos j) ≡ true) e
-        (number_is (length (read_bits (places_of_fields fs) bs)))),
-    tt,
-    refl,
-  )
+  within_gives true span fs bs v e =
+      (subst (λ z. is_width (length (read_bits (places_of_fields fs) bs)) z ≡ true) (sym (constant_at av (pos (all_wide fs)))) (subst (λ j. is_width (length (read_bits (places_of_fields fs) bs)) (pos j) ≡ true) e (number_is (length (read_bits (places_of_fields fs) bs)))), tt, refl)
 
   -- bitfields that are taken together, by their names and by their places
   pub bitfields_give : (limit : ℕ) (span : Span) (is : List Ident) (T : Ty) (fs : List BitField) (x : Value) → Shaped d T → bitfields_in is (view_of T) ≡ Ok fs → is_bits T ≡ true → InType d av x T →
@@ -280,11 +270,8 @@ module _ (d : List ℕ → Option Ty) (w : WellDeclared d) (av : Assignment) (te
   bitfields_give limit span is (bits_of p u) fs (bits_with bs v) t h k i =
       let e : u ≡ v = same_view bs bs u v i.2 in
       let r : (bitfields_named span is (bits_with bs v) >>= λ gs. bitfields_of limit span gs (bits_with bs v)) ≡ bitfields_of limit span fs (bits_with bs v) =
-      ap (λ z. z >>= λ gs. bitfields_of limit span gs (bits_with bs v)) (subst (λ z. each_named span is z ≡ Good fs) e (each_found span is u fs h)) in (
-        r,
-        subst (Gives d av (bits_wide (all_wide fs))) (sym r)
-            (within_gives (nat_le (total_width (places_of_fields fs)) limit) span fs bs v (width_of_view p u is fs bs t.1 h i.0)),
-      )
+      ap (λ z. z >>= λ gs. bitfields_of limit span gs (bits_with bs v)) (subst (λ z. each_named span is z ≡ Good fs) e (each_found span is u fs h)) in
+      (r, subst (Gives d av (bits_wide (all_wide fs))) (sym r) (within_gives (nat_le (total_width (places_of_fields fs)) limit) span fs bs v (width_of_view p u is fs bs t.1 h i.0)))
   bitfields_give limit span is (named n supers T) fs x t h k i = bitfields_give limit span is T fs x t.2 h k ((named_parts av x n supers T i.0).1, i.1, i.2)
   bitfields_give limit span is (integer_of ps) fs x t h k i = no k
   bitfields_give limit span is boolean fs x t h k i = no k

@@ -346,8 +346,8 @@ module _ (d : List ℕ → Option Ty) (av : Assignment) (tests : Tests) (right :
   sum_wide span p q r m n h k e f s =
       let x : SameFraction (whole (pos m)) (fraction_at av p) = sym (width_whole av p (pos m) (is_width_at av p m h e)) in
       let y : SameFraction (whole (pos n)) (fraction_at av q) = sym (width_whole av q (pos n) (is_width_at av q n k f)) in
-      let z : SameFraction (plus (whole (pos m)) (whole (pos n))) (fraction_at av r) = sum_is av span p q r (whole (pos m)) (whole (pos n))
-      h k x y s in
+      let z : SameFraction (plus (whole (pos m)) (whole (pos n))) (fraction_at av r) =
+      sum_is av span p q r (whole (pos m)) (whole (pos n)) h k x y s in
       let w : SameFraction (fraction_at av r) (whole (pos m +ℤ pos n)) =
       same_trans (fraction_at av r) (plus (whole (pos m)) (whole (pos n))) (whole (pos m +ℤ pos n)) (omega arith) (sym z)
       (whole_plus (pos m) (pos n)) in
@@ -378,20 +378,10 @@ module _ (d : List ℕ → Option Ty) (av : Assignment) (tests : Tests) (right :
   binary_gives span binary.Equivalent S T U x y e h i j = on_booleans span binary.Equivalent S T U x y h i.0 j.0 (λ a b. (refl, tt, refl))
   binary_gives span binary.Equal S T U x y e h i j =
       compares span binary.Equal S T U x y e h i.0 j.0
-      (record {
-        integers = λ a b. (refl, tt, refl);
-        booleans = λ a b. (refl, tt, refl);
-        labels = λ b. (refl, tt, refl);
-        bits = equal_bits span;
-      })
+      (record { integers = λ a b. (refl, tt, refl); booleans = λ a b. (refl, tt, refl); labels = λ b. (refl, tt, refl); bits = equal_bits span })
   binary_gives span binary.NotEqual S T U x y e h i j =
       compares span binary.NotEqual S T U x y e h i.0 j.0
-      (record {
-        integers = λ a b. (refl, tt, refl);
-        booleans = λ a b. (refl, tt, refl);
-        labels = λ b. (refl, tt, refl);
-        bits = unequal_bits span;
-      })
+      (record { integers = λ a b. (refl, tt, refl); booleans = λ a b. (refl, tt, refl); labels = λ b. (refl, tt, refl); bits = unequal_bits span })
   binary_gives span binary.Less S T U x y e h i j = on_integers span binary.Less S T boolean U x y h i j (λ a b k l. (refl, tt, refl))
   binary_gives span binary.LessEqual S T U x y e h i j = on_integers span binary.LessEqual S T boolean U x y h i j (λ a b k l. (refl, tt, refl))
   binary_gives span binary.Greater S T U x y e h i j = on_integers span binary.Greater S T boolean U x y h i j (λ a b k l. (refl, tt, refl))
@@ -433,24 +423,12 @@ module _ (d : List ℕ → Option Ty) (av : Assignment) (tests : Tests) (right :
   binary_gives span binary.DivideFloor S T U x y e h i j =
       on_integers span binary.DivideFloor S T (integer_of (quotient_parts (constraint_of S) (constraint_of T))) U x y h i j
       (λ a b k l. divided_gives (integer_of (quotient_parts (constraint_of S) (constraint_of T))) span b (λ n. Good (int (floor_div a n)))
-      (λ n e p. (
-        in_is_in (quotient_parts (constraint_of S) (constraint_of T)) av (floor_div a n)
-            (quotient_keeps (constraint_of S) (constraint_of T) (within_ends d S i.1) (within_ends d T j.1))
-            (subst (λ z. In av (floor_div a z) (quotient_parts (constraint_of S) (constraint_of T))) (ap unsigned_abs e)
-            (quotient_in av (constraint_of S) (constraint_of T) a b k l)),
-        tt,
-        refl,
-      )))
+      (λ n e p. (in_is_in (quotient_parts (constraint_of S) (constraint_of T)) av (floor_div a n) (quotient_keeps (constraint_of S) (constraint_of T) (within_ends d S i.1) (within_ends d T j.1)) (subst (λ z. In av (floor_div a z) (quotient_parts (constraint_of S) (constraint_of T))) (ap unsigned_abs e) (quotient_in av (constraint_of S) (constraint_of T) a b k l)), tt, refl)))
   binary_gives span binary.Modulo S T U x y e h i j =
       on_integers span binary.Modulo S T (integer_of (modulo_parts (constraint_of S) (constraint_of T))) U x y h i j
       (λ a b k l. divided_gives (integer_of (modulo_parts (constraint_of S) (constraint_of T))) span b
-      (λ n. Good (int (pos (floor_mod a n)))) (λ n e p. (
-        in_is_in (modulo_parts (constraint_of S) (constraint_of T)) av (pos (floor_mod a n))
-            (modulo_keeps (constraint_of S) (constraint_of T))
-            (modulo_in av (constraint_of S) (constraint_of T) a n (above n p) (subst (λ z. In av z (constraint_of T)) e l)),
-        tt,
-        refl,
-      )))
+      (λ n. Good (int (pos (floor_mod a n)))) (λ n e p.
+      (in_is_in (modulo_parts (constraint_of S) (constraint_of T)) av (pos (floor_mod a n)) (modulo_keeps (constraint_of S) (constraint_of T)) (modulo_in av (constraint_of S) (constraint_of T) a n (above n p) (subst (λ z. In av z (constraint_of T)) e l)), tt, refl)))
   binary_gives span binary.ShiftLeft S T U x y e h i j =
       on_integers span binary.ShiftLeft S T (integer_of (shifted_up_parts (constraint_of S) (constraint_of T))) U x y h i j
       (λ a b k l. raised_gives (integer_of (shifted_up_parts (constraint_of S) (constraint_of T))) span b
@@ -461,14 +439,8 @@ module _ (d : List ℕ → Option Ty) (av : Assignment) (tests : Tests) (right :
   binary_gives span binary.ShiftRight S T U x y e h i j =
       on_integers span binary.ShiftRight S T (integer_of (shifted_down_parts (constraint_of S) (constraint_of T))) U x y h i j
       (λ a b k l. raised_gives (integer_of (shifted_down_parts (constraint_of S) (constraint_of T))) span b
-      (λ n. Good (int (floor_div a (2 ^ n)))) (λ n e. (
-        in_is_in (shifted_down_parts (constraint_of S) (constraint_of T)) av (floor_div a (2 ^ n))
-            (shifted_down_keeps (constraint_of S) (constraint_of T) (within_ends d S i.1) (within_ends d T j.1))
-            (subst (λ z. In av (floor_div a (2 ^ z)) (shifted_down_parts (constraint_of S) (constraint_of T))) (ap unsigned_abs e)
-            (shifted_down_in av (constraint_of S) (constraint_of T) a b k l)),
-        tt,
-        refl,
-      )))
+      (λ n. Good (int (floor_div a (2 ^ n)))) (λ n e.
+      (in_is_in (shifted_down_parts (constraint_of S) (constraint_of T)) av (floor_div a (2 ^ n)) (shifted_down_keeps (constraint_of S) (constraint_of T) (within_ends d S i.1) (within_ends d T j.1)) (subst (λ z. In av (floor_div a (2 ^ z)) (shifted_down_parts (constraint_of S) (constraint_of T))) (ap unsigned_abs e) (shifted_down_in av (constraint_of S) (constraint_of T) a b k l)), tt, refl)))
   binary_gives span binary.Concatenate S T U x y e h i j = concatenates span S T U x y h i j
 
   number_ends : (z : ℤ) → AllEnds (only_number z)

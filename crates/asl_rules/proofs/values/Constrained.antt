@@ -80,26 +80,26 @@ shown_is p a = sym (end_is (shown p) a) ∙ shown_fraction p a
 module _ (a : Assignment) (z : ℤ) where
   low_in : (e : End) → IsEnd e → not_above (ceiling (end_at e a)) z ≡ true → IsAtMost a (poly_of e) z
   low_in e i h =
-      let k : (end_at e a).number ≤ℤ (z *ℤ pos (end_at e a).denominator) = (ceiling_is (end_at e a) z (end_proper e a i)).0
-      (not_above_is (ceiling (end_at e a)) z h) in
+      let k : (end_at e a).number ≤ℤ (z *ℤ pos (end_at e a).denominator) =
+      (ceiling_is (end_at e a) z (end_proper e a i)).0 (not_above_is (ceiling (end_at e a)) z h) in
       subst (λ (r : Fraction). r.number ≤ℤ (z *ℤ pos r.denominator)) (sym (end_is e a)) k
 
   in_low : (e : End) → IsEnd e → IsAtMost a (poly_of e) z → not_above (ceiling (end_at e a)) z ≡ true
   in_low e i h =
-      let k : (end_at e a).number ≤ℤ (z *ℤ pos (end_at e a).denominator) = subst (λ (r : Fraction). r.number ≤ℤ (z *ℤ pos r.denominator))
-      (end_is e a) h in
+      let k : (end_at e a).number ≤ℤ (z *ℤ pos (end_at e a).denominator) =
+      subst (λ (r : Fraction). r.number ≤ℤ (z *ℤ pos r.denominator)) (end_is e a) h in
       is_not_above (ceiling (end_at e a)) z ((ceiling_is (end_at e a) z (end_proper e a i)).1 k)
 
   high_in : (e : End) → IsEnd e → not_above z (floor (end_at e a)) ≡ true → IsAtLeast a (poly_of e) z
   high_in e i h =
-      let k : (z *ℤ pos (end_at e a).denominator) ≤ℤ (end_at e a).number = (floor_is (end_at e a) z (end_proper e a i)).0
-      (not_above_is z (floor (end_at e a)) h) in
+      let k : (z *ℤ pos (end_at e a).denominator) ≤ℤ (end_at e a).number =
+      (floor_is (end_at e a) z (end_proper e a i)).0 (not_above_is z (floor (end_at e a)) h) in
       subst (λ (r : Fraction). (z *ℤ pos r.denominator) ≤ℤ r.number) (sym (end_is e a)) k
 
   in_high : (e : End) → IsEnd e → IsAtLeast a (poly_of e) z → not_above z (floor (end_at e a)) ≡ true
   in_high e i h =
-      let k : (z *ℤ pos (end_at e a).denominator) ≤ℤ (end_at e a).number = subst (λ (r : Fraction). (z *ℤ pos r.denominator) ≤ℤ r.number)
-      (end_is e a) h in
+      let k : (z *ℤ pos (end_at e a).denominator) ≤ℤ (end_at e a).number =
+      subst (λ (r : Fraction). (z *ℤ pos r.denominator) ≤ℤ r.number) (end_is e a) h in
       is_not_above z (floor (end_at e a)) ((floor_is (end_at e a) z (end_proper e a i)).1 k)
 
 -- the integers of a part

@@ -39,8 +39,8 @@ ceiling_is r z h =
     let both = at_most_floor (pos 0 -ℤ z) (pos 0 -ℤ r.number) r.denominator h in
     let e = negative_times z r.denominator in (
       (λ k.
-          let a : ((pos 0 -ℤ z) *ℤ pos r.denominator) ≤ℤ (pos 0 -ℤ r.number) = both.0
-          (turned (floor_div (pos 0 -ℤ r.number) r.denominator) z k) in
+          let a : ((pos 0 -ℤ z) *ℤ pos r.denominator) ≤ℤ (pos 0 -ℤ r.number) =
+          both.0 (turned (floor_div (pos 0 -ℤ r.number) r.denominator) z k) in
           let b : (pos 0 -ℤ z *ℤ pos r.denominator) ≤ℤ (pos 0 -ℤ r.number) = subst (λ y. y ≤ℤ (pos 0 -ℤ r.number)) e a in
           grind (arith, ints, b)),
       λ k.
@@ -54,8 +54,8 @@ ceiling_is r z h =
 module _ (r s : Fraction) (hr : Proper r) (hs : Proper s) (e : SameFraction r s) where
   pub over_same : (z : ℤ) → (z *ℤ pos r.denominator) ≤ℤ r.number → (z *ℤ pos s.denominator) ≤ℤ s.number
   over_same z h =
-      let a : ((z *ℤ pos r.denominator) *ℤ pos s.denominator) ≤ℤ (r.number *ℤ pos s.denominator) = times_pos (z *ℤ pos r.denominator)
-      r.number s.denominator h in
+      let a : ((z *ℤ pos r.denominator) *ℤ pos s.denominator) ≤ℤ (r.number *ℤ pos s.denominator) =
+      times_pos (z *ℤ pos r.denominator) r.number s.denominator h in
       let b : ((z *ℤ pos s.denominator) *ℤ pos r.denominator) ≤ℤ (s.number *ℤ pos r.denominator) =
       subst (λ y. y ≤ℤ (s.number *ℤ pos r.denominator)) (swap_last z (pos r.denominator) (pos s.denominator))
       (subst (λ y. ((z *ℤ pos r.denominator) *ℤ pos s.denominator) ≤ℤ y) e a) in
@@ -63,8 +63,8 @@ module _ (r s : Fraction) (hr : Proper r) (hs : Proper s) (e : SameFraction r s)
 
   pub under_same : (z : ℤ) → r.number ≤ℤ (z *ℤ pos r.denominator) → s.number ≤ℤ (z *ℤ pos s.denominator)
   under_same z h =
-      let a : (r.number *ℤ pos s.denominator) ≤ℤ ((z *ℤ pos r.denominator) *ℤ pos s.denominator) = times_pos r.number
-      (z *ℤ pos r.denominator) s.denominator h in
+      let a : (r.number *ℤ pos s.denominator) ≤ℤ ((z *ℤ pos r.denominator) *ℤ pos s.denominator) =
+      times_pos r.number (z *ℤ pos r.denominator) s.denominator h in
       let b : (s.number *ℤ pos r.denominator) ≤ℤ ((z *ℤ pos s.denominator) *ℤ pos r.denominator) =
       subst (λ y. (s.number *ℤ pos r.denominator) ≤ℤ y) (swap_last z (pos r.denominator) (pos s.denominator))
       (subst (λ y. y ≤ℤ ((z *ℤ pos r.denominator) *ℤ pos s.denominator)) e a) in
@@ -97,16 +97,16 @@ same_ceiling r s h k e = one_of_two (ceiling r) (ceiling s) (ceiling_down s r k 
 whole_of_none : (r : Fraction) → Proper r → floor_mod r.number r.denominator ≡ 0 → IsWhole (floor r) r
 whole_of_none r h e =
     let l = floor_law r.number r.denominator h in
-    let m : floor r *ℤ pos r.denominator ≡ r.number = let f : pos (floor_mod r.number r.denominator) ≡ pos 0 = ap pos e in omega
-    (arith, ints, l.0, f) in
+    let m : floor r *ℤ pos r.denominator ≡ r.number =
+    let f : pos (floor_mod r.number r.denominator) ≡ pos 0 = ap pos e in omega (arith, ints, l.0, f) in
     mul-one r.number ∙ sym m
 
 pub none_of_whole : (r : Fraction) (z : ℤ) → Proper r → IsWhole z r → (floor r ≡ z) × (floor_mod r.number r.denominator ≡ 0)
 none_of_whole r z h w =
     let n : r.number ≡ z *ℤ pos r.denominator = sym (mul-one r.number) ∙ w in
     let up : z ≤ℤ floor r = (floor_is r z h).1 (grind (arith, ints, n)) in
-    let at : (floor r *ℤ pos r.denominator) ≤ℤ (z *ℤ pos r.denominator) = subst (λ y. (floor r *ℤ pos r.denominator) ≤ℤ y) n
-    ((floor_is r (floor r) h).0 (grind (arith, ints))) in
+    let at : (floor r *ℤ pos r.denominator) ≤ℤ (z *ℤ pos r.denominator) =
+    subst (λ y. (floor r *ℤ pos r.denominator) ≤ℤ y) n ((floor_is r (floor r) h).0 (grind (arith, ints))) in
     let e : floor r ≡ z = one_of_two (floor r) z (less_of_times (floor r) z r.denominator h at) up in
     let l = floor_law r.number r.denominator h in
     let f : floor r *ℤ pos r.denominator ≡ z *ℤ pos r.denominator = ap (λ y. y *ℤ pos r.denominator) e in
@@ -116,11 +116,8 @@ none_of_whole r z h w =
 
 multiple_of : (y : ℤ) (k : ℕ) → unsigned_abs y % k ≡ 0 → (w : ℤ) × (y ≡ w *ℤ pos k)
 multiple_of (pos a) k e = (pos (a / k), sym (pos-*ℤ-pos (a / k) k ∙ ap pos (divides_exact k a e)))
-multiple_of (negsuc a) k e = (
-  neg_ℤ (pos (suc a / k)),
-  sym (neg-mul (pos (suc a / k)) (pos k) ∙ ap neg_ℤ
-      (pos-*ℤ-pos (suc a / k) k ∙ ap pos (divides_exact k (suc a) e))),
-)
+multiple_of (negsuc a) k e =
+    (neg_ℤ (pos (suc a / k)), sym (neg-mul (pos (suc a / k)) (pos k) ∙ ap neg_ℤ (pos-*ℤ-pos (suc a / k) k ∙ ap pos (divides_exact k (suc a) e))))
 
 -- the quotient of a multiple
 pub exact_is : (y : ℤ) (k : ℕ) → 0 < k → unsigned_abs y % k ≡ 0 → y ≡ floor_div y k *ℤ pos k

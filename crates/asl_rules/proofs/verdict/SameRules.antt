@@ -333,8 +333,8 @@ module _ (t : Tests) (A B : List Entry) (subs : List Signature) where
   pub combined_width : (span : Span) (o : Combination) (a b : Found) (k : Effect) → WidthSame a → WidthSame b →
       Alike SameWidths (width_read span (combined o a b) (first k)) (width_read span (combined o a b) (second k))
   combined_width span o a b k h i =
-      let made : Width → Width → Result Width Fault = λ p q. width_combined span o p.poly q.poly >>= λ r. Ok
-      (width_as r (combined_tree span o p.tree q.tree)) in
+      let made : Width → Width → Result Width Fault =
+      λ p q. width_combined span o p.poly q.poly >>= λ r. Ok (width_as r (combined_tree span o p.tree q.tree)) in
       steps SameWidths SameWidths (a.width (first k)) (a.width (second k)) _ _ (h.width_is k)
       (with_poly SameWidths (λ p. b.width (first k) >>= λ q. made p q) (λ p. b.width (second k) >>= λ q. made p q) (λ p u.
       steps SameWidths SameWidths (b.width (first k)) (b.width (second k)) _ _ (i.width_is k)
@@ -345,8 +345,8 @@ module _ (t : Tests) (A B : List Entry) (subs : List Signature) where
   pub combined_number : (span : Span) (o : Combination) (a b : Found) (k : Effect) → WidthSame a → WidthSame b →
       Alike SameNumbers (number_of span (combined o a b) (first k)) (number_of span (combined o a b) (second k))
   combined_number span o a b k h i =
-      let made : Number → Number → Result Number Fault = λ y z. number_combined span o y.number z.number >>= λ n. Ok
-      (number_as n (combined_tree span o y.tree z.tree)) in
+      let made : Number → Number → Result Number Fault =
+      λ y z. number_combined span o y.number z.number >>= λ n. Ok (number_as n (combined_tree span o y.tree z.tree)) in
       steps SameNumbers SameNumbers (a.number (first k)) (a.number (second k)) _ _ (h.number_is k)
       (with_number SameNumbers (λ y. b.number (first k) >>= λ z. made y z) (λ y. b.number (second k) >>= λ z. made y z) (λ y u.
       steps SameNumbers SameNumbers (b.number (first k)) (b.number (second k)) _ _ (i.number_is k)
@@ -358,7 +358,8 @@ module _ (t : Tests) (A B : List Entry) (subs : List Signature) where
   pub divided_width : (span : Span) (a b : Found) (k : Effect) → WidthSame a →
       Alike SameWidths (width_read span (divided a b) (first k)) (width_read span (divided a b) (second k))
   divided_width span a b k h =
-      let made : Width → Result Width Fault = λ p. found_or b.divisor T19 span >>= λ n. width_divided span p.poly n >>= λ r. Ok
+      let made : Width → Result Width Fault =
+      λ p. found_or b.divisor T19 span >>= λ n. width_divided span p.poly n >>= λ r. Ok
       (width_as r (divided_tree span p.tree b.span n)) in
       steps SameWidths SameWidths (a.width (first k)) (a.width (second k)) _ _ (h.width_is k) (with_poly SameWidths made made (λ p u.
       step SameWidths (found_or b.divisor T19 span) _ _ (λ n.
@@ -368,7 +369,8 @@ module _ (t : Tests) (A B : List Entry) (subs : List Signature) where
   pub divided_number : (span : Span) (a b : Found) (k : Effect) → WidthSame a →
       Alike SameNumbers (number_of span (divided a b) (first k)) (number_of span (divided a b) (second k))
   divided_number span a b k h =
-      let made : Number → Result Number Fault = λ z. found_or b.divisor T19 span >>= λ n. number_divided span z.number n >>= λ m. Ok
+      let made : Number → Result Number Fault =
+      λ z. found_or b.divisor T19 span >>= λ n. number_divided span z.number n >>= λ m. Ok
       (number_as m (divided_tree span z.tree b.span n)) in
       steps SameNumbers SameNumbers (a.number (first k)) (a.number (second k)) _ _ (h.number_is k)
       (with_number SameNumbers made made (λ z u.

@@ -45,8 +45,8 @@ module _ (d e : ℕ) (sd : 0 < d) (se : 0 < e) where
       let whole : q * r ≡ d * e = divides_exact r (d * e) k in
       let a : q * (r / d) ≡ e = eq_of_mul-eq-mul_left d sd (q * (r / d)) e (turned_product q (r / d) r d e whole (divides_exact d r i)) in
       let swapped : d * e ≡ e * d = omega arith in
-      let b : q * (r / e) ≡ d = eq_of_mul-eq-mul_left e se (q * (r / e)) d
-      (turned_product q (r / e) r e d (whole ∙ swapped) (divides_exact e r j)) in
+      let b : q * (r / e) ≡ d =
+      eq_of_mul-eq-mul_left e se (q * (r / e)) d (turned_product q (r / e) r e d (whole ∙ swapped) (divides_exact e r j)) in
       let in_d : Divides q d = multiple_divides q (r / e) d (sym b ∙ (omega arith)) in
       let in_e : Divides q e = multiple_divides q (r / d) e (sym a ∙ (omega arith)) in
       let most : q ≤ g = divisor_most d (e ∷ []) q sd in_d (in_e, tt) in
@@ -167,8 +167,8 @@ module _ (x y : Total) (p : Polynomial) (n : ℕ) (i : IsPolynomial p) (sn : 0 <
   joined_back s f =
       let one : 0 < n / x.denominator = raised_some x.denominator n sn j.left in
       let more : x.weight * 1 ≤ x.weight * (n / x.denominator) = omega (arith, mul-le-mul_right x.weight one) in
-      let long : length x.atoms ≤ length y.atoms = subst (λ (l : List ℕ). length x.atoms ≤ length l) (sym j.atoms)
-      (length_terms x.atoms p.terms) in
+      let long : length x.atoms ≤ length y.atoms =
+      subst (λ (l : List ℕ). length x.atoms ≤ length l) (sym j.atoms) (length_terms x.atoms p.terms) in
       record {
         light = omega (arith, more, j.weighs, f.light);
         few = omega (arith, long, f.few);
@@ -230,8 +230,8 @@ module _ (x y : Total) (p : Polynomial) (n : ℕ) (i : IsPolynomial p) (sn : 0 <
     both_weigh =
         let a = first_weight in
         let b = second_weight in
-        let u : y.weight * least ≡ (x.weight * (n / x.denominator) + weight p.terms * (n / p.denominator)) * least = ap (λ m. m * least)
-        j.weighs in
+        let u : y.weight * least ≡ (x.weight * (n / x.denominator) + weight p.terms * (n / p.denominator)) * least =
+        ap (λ m. m * least) j.weighs in
         omega (arith, a, b, u)
 
     sum_light : weight x.sum.terms * (least / x.sum.denominator) + weight p.terms * (least / p.denominator) ≤ y.weight
@@ -267,12 +267,12 @@ module _ (x y : Total) (p : Polynomial) (n : ℕ) (i : IsPolynomial p) (sn : 0 <
         let q = divisor_divides least (sizes ts) in
         let w : g * weight (divided g ts) ≡ weight ts = sym (weight_multiples g (divided g ts)) ∙ ap weight (divided_back g ts q.1) in
         let d : least / g * g ≡ least = divides_exact g least q.0 in
-        let m : weight ts * n ≤ (weight x.sum.terms * (least / x.sum.denominator) + weight p.terms * (least / p.denominator))
-        * n = mul-le-mul_right n h in
-        let u : (weight (divided g ts) * n) * g ≡ weight ts * n = let s : (weight (divided g ts) * n) * g ≡ (g * weight (divided g ts))
-        * n = omega arith in s ∙ ap (λ z. z * n) w in
-        let v : (y.weight * (least / g)) * g ≡ y.weight * least = let s : (y.weight * (least / g))
-        * g ≡ y.weight * (least / g * g) = omega arith in s ∙ ap (λ z. y.weight * z) d in
+        let m : weight ts * n ≤ (weight x.sum.terms * (least / x.sum.denominator) + weight p.terms * (least / p.denominator)) * n =
+        mul-le-mul_right n h in
+        let u : (weight (divided g ts) * n) * g ≡ weight ts * n =
+        let s : (weight (divided g ts) * n) * g ≡ (g * weight (divided g ts)) * n = omega arith in s ∙ ap (λ z. z * n) w in
+        let v : (y.weight * (least / g)) * g ≡ y.weight * least =
+        let s : (y.weight * (least / g)) * g ≡ y.weight * (least / g * g) = omega arith in s ∙ ap (λ z. y.weight * z) d in
         let t : (weight (divided g ts) * n) * g ≤ (y.weight * (least / g)) * g = omega (arith, u, v, m, both_weigh) in
         le_of_mul-le-mul_right t (divisor_some least (sizes ts))
 
@@ -297,8 +297,8 @@ module _ (x y : Total) (p : Polynomial) (n : ℕ) (i : IsPolynomial p) (sn : 0 <
     unfolding both_terms
     terms_light s one =
         let a = weight_gather (raised least x.sum) (scaled s (raised least p)) in
-        let b : weight (scaled s (raised least p)) ≡ 1 * weight (raised least p) = weight_scaled s (raised least p) ∙ ap
-        (λ m. m * weight (raised least p)) one in
+        let b : weight (scaled s (raised least p)) ≡ 1 * weight (raised least p) =
+        weight_scaled s (raised least p) ∙ ap (λ m. m * weight (raised least p)) one in
         let u = weight_multiples (least / x.sum.denominator) x.sum.terms in
         let v = weight_multiples (least / p.denominator) p.terms in
         omega (arith, a, b, u, v)
@@ -342,21 +342,9 @@ module _ (x y : Total) (p : Polynomial) (n : ℕ) (i : IsPolynomial p) (sn : 0 <
 -- ---- the steps
 
 with_part_joined : (x : Total) (p s : Polynomial) →
-    Joined x (record {
-      sum = s;
-      weight = x.weight * (least_common_multiple x.denominator p.denominator / x.denominator) + weight_over
-          (least_common_multiple x.denominator p.denominator) p;
-      denominator = least_common_multiple x.denominator p.denominator;
-      atoms = note_terms x.atoms p.terms;
-    }) p (least_common_multiple x.denominator p.denominator)
+    Joined x (record { sum = s; weight = x.weight * (least_common_multiple x.denominator p.denominator / x.denominator) + weight_over (least_common_multiple x.denominator p.denominator) p; denominator = least_common_multiple x.denominator p.denominator; atoms = note_terms x.atoms p.terms }) p (least_common_multiple x.denominator p.denominator)
 with_part_joined x p s =
-    record {
-      over = refl;
-      left = multiple_left x.denominator p.denominator;
-      right = multiple_right x.denominator p.denominator;
-      weighs = refl;
-      atoms = refl;
-    }
+    record { over = refl; left = multiple_left x.denominator p.denominator; right = multiple_right x.denominator p.denominator; weighs = refl; atoms = refl }
 
 pub step_plus : (x : Total) (p : Polynomial) → IsPolynomial p → Step x (plus x p)
 step_plus x p i =
@@ -411,8 +399,8 @@ number_joined x n s = record {
       let w = number_weight n in
       let o : x.denominator / (constant_map (pos n)).denominator ≡ x.denominator = ap (λ m. x.denominator / m) (number_over n) ∙ all in
       let a : x.weight * 1 ≡ x.weight * (x.denominator / x.denominator) = ap (λ m. x.weight * m) (sym one) in
-      let b : n * x.denominator ≡ weight (constant_map (pos n)).terms * (x.denominator / (constant_map (pos n)).denominator) = ap
-      (λ m. m * x.denominator) (sym w) ∙ ap (λ m. weight (constant_map (pos n)).terms * m) (sym o) in
+      let b : n * x.denominator ≡ weight (constant_map (pos n)).terms * (x.denominator / (constant_map (pos n)).denominator) =
+      ap (λ m. m * x.denominator) (sym w) ∙ ap (λ m. weight (constant_map (pos n)).terms * m) (sym o) in
       omega (arith, a, b);
   atoms = sym (number_atoms n x.atoms);
 }
@@ -460,7 +448,8 @@ fits_of span y w h =
 
 pub sum_of_total : (span : Span) (y : Total) (w : Polynomial) → totalled span y ≡ Ok w → y.sum ≡ w
 sum_of_total span y w h =
-    let u = then_ok (need (nat_le y.weight heaviest && (nat_le (length y.atoms) most_atoms && nat_le y.denominator finest)) T20 span)
+    let u =
+    then_ok (need (nat_le y.weight heaviest && (nat_le (length y.atoms) most_atoms && nat_le y.denominator finest)) T20 span)
     (Ok y.sum) w h in
     ok_ok y.sum w u.then
 

@@ -86,8 +86,7 @@ divided_is a span p r k x i l e h =
     let u = then_ok (need (may_divide k p) T19 span) (need (quotient_fits p k) T20 span >> Ok (quotient_map p k)) r h in
     let v = then_ok (need (quotient_fits p k) T20 span) (Ok (quotient_map p k)) r u.then in
     subst (λ s. Is a s (parted x k)) (ok_ok (quotient_map p k) r v.then)
-    (same_trans (parted x k) (parted (fraction_at a p) k) (fraction_at a (quotient_map p k))
-    (some_parted (fraction_at a p) k i.lowest.positive l)
+    (same_trans (parted x k) (parted (fraction_at a p) k) (fraction_at a (quotient_map p k)) (some_parted (fraction_at a p) k i.lowest.positive l)
     (parted_same x (fraction_at a p) k e) (sym (quotient_same a p k i l)))
 
 pub some_of_two : (o : Combination) (x y : Fraction) → Proper x → Proper y → Proper (of_two fractions o x y)
