@@ -4,4 +4,3 @@ pub mod GivenLemmas
 pub mod GivenPlaces
 pub mod GivenTypes
 pub mod MemberRows
-pub mod Fitting

@@ -1,10 +1,8 @@
 -- Written types in order, one by one.
-use Rattle.std.proofs.Common.{◌≡◌, ℕ, ◌+◌, ◌<◌, ◌≤◌, Bool, length, get_or, drop, List, [], ◌∷◌, ◌++◌, Result, Ok, Err, refl, sym, ap, subst, ◌∙◌, append_assoc}
+use Rattle.std.proofs.Common.{◌≡◌, ℕ, ◌+◌, ◌<◌, ◌≤◌, Bool, length, get_or, drop, List, [], ◌∷◌, ◌++◌, Result, Ok, Err, refl, sym, ap, ◌∙◌, append_assoc}
 use Rattle.std.proofs.lemmas.List.{drop_all}
 use Rattle.asl_syn.specs.declared.token.Span.{Span}
 use Rattle.asl_syn.specs.declared.code.Fault.{Fault}
-use Rattle.asl_syn.specs.declared.code.Refused.{Refused}
-use Rattle.asl_syn.specs.declared.code.Refused.TheVariants.{At, NoMemory}
 use Rattle.asl_syn.specs.declared.tree.TypeExpr.{TypeExpr}
 use Rattle.asl_rules.specs.Faults.{◌>>=◌}
 use Rattle.asl_rules.specs.declarations.Scopes.{Scope}
@@ -16,13 +14,10 @@ use Rattle.asl_rules.specs.types.Widths.{bounded}
 use Rattle.asl_rules.specs.types.Writing.{Written, types_in_order, types_written, type_shapes, all_sizes, tuple_written, written_as}
 use Rattle.asl_rules.specs.expressions.Exprs.{found_type}
 use Rattle.asl_types.proofs.Rest.{at_next}
-use Rattle.asl_types.specs.private.Answers.{Met}
 use Rattle.asl_types.specs.View.{parts_of}
 use Rattle.asl_shape.specs.View.{types_from}
-use Rattle.asl_written.specs.declared.written.TypesWritten.{TypesWritten}
-use Rattle.asl_written.specs.WrittenViews.{written_of}
 use Rattle.asl_written.proofs.ConstraintLemmas.{append_none}
-use Rattle.asl_written.specs.private.WrittenTypes.{found_types, types_view, TypesSeen, no_types, with_type, all_ty, all_shapes, with_types, behind_types, tuple_from}
+use Rattle.asl_written.specs.private.WrittenTypes.{found_types, TypesSeen, no_types, with_type, all_ty, all_shapes, with_types, behind_types, tuple_from}
 
 abbrev Types : Type 0
 Types = Result (List Written) Fault
@@ -56,14 +51,6 @@ types_stop t outside all ts i ty g f G within here w before =
     before
     ∙ ap (λ xs. behind_types g (types_in_order outside (found_types t xs) G)) (at_next ts i ty within here)
     ∙ ap (λ r. behind_types g (r >>= λ x. types_in_order outside (found_types t (drop (i + 1) ts)) G >>= λ xs. Ok (x ∷ xs))) w
-
--- the first that is refused is the answer for all
-pub types_refused : (t : Tests) (outside : Bool) (all : Result TypesSeen Fault) (ts : List TypeExpr) (i : ℕ) (ty : TypeExpr) (g : TypesSeen) (e : Refused)
-    (r : Result TypesWritten Refused) (G : Scope) → i < length ts → ty ≡ get_or ts i ty → r ≡ Err e → Met written_of (Err e) ((found_type t ty).ty outside G) →
-    all ≡ behind_types g (types_in_order outside (found_types t (drop i ts)) G) → Met types_view r all
-types_refused t outside all ts i ty g (At f) r G within here is met before =
-    subst (λ z. Met types_view z all) (sym is) (types_stop t outside all ts i ty g f G within here met before)
-types_refused t outside all ts i ty g NoMemory r G within here is met before = subst (λ z. Met types_view z all) (sym is) tt
 
 pub types_last : (t : Tests) (outside : Bool) (all : Result TypesSeen Fault) (ts : List TypeExpr) (i : ℕ) (g : TypesSeen) (G : Scope) → length ts ≤ i →
     all ≡ behind_types g (types_in_order outside (found_types t (drop i ts)) G) → all ≡ Ok g
