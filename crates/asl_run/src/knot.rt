@@ -19,7 +19,7 @@ use asl_io::Sink;
 use asl_syn::code::DynCode;
 use asl_tree::act::Act;
 use asl_tree::tree::Tree;
-use asl_value::Value;
+use asl_value::{Value, plain_bits};
 use sqlite_items::Items;
 
 /// The value of an expression.
@@ -28,7 +28,7 @@ pub fn eval<K: Sink>(here: Setting, run: &mut Run, sink: &mut K, e: &Tree) -> Re
     ensures { Evaluates result here.entry e.now (at K.Sink run.old sink.old) (at K.Sink run.new sink.new) }
 {
     let mut left = run.steps;
-    match evaluated(run, &mut left, here.depth, e) {
+    match evaluated(here.alloc, run, &mut left, here.depth, e) {
         AtOnce::Integer(z) => {
             run.steps = left;
             Ok(Value::Int(z))
@@ -36,6 +36,10 @@ pub fn eval<K: Sink>(here: Setting, run: &mut Run, sink: &mut K, e: &Tree) -> Re
         AtOnce::Truth(b) => {
             run.steps = left;
             Ok(Value::Bool(b))
+        }
+        AtOnce::Bits(bits) => {
+            run.steps = left;
+            Ok(plain_bits(bits))
         }
         AtOnce::Neither => enter_expr(here, run, sink, e),
     }
@@ -76,7 +80,7 @@ pub fn exec<K: Sink>(here: Setting, run: &mut Run, sink: &mut K, s: &Act) -> Res
     requires room { FitsAct (room_of run.old) (act_of s.now) }
     ensures { Executes result here.entry s.now (at K.Sink run.old sink.old) (at K.Sink run.new sink.new) }
 {
-    if executed(run, here.depth, s) {
+    if executed(here.alloc, run, here.depth, s) {
         Ok(Exit::Normal)
     } else {
         enter_stmt(here, run, sink, s)

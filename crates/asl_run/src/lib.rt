@@ -5,6 +5,7 @@
 
 mod assignments;
 mod at_once;
+mod bits;
 mod calls;
 mod exprs;
 mod finishes;
@@ -14,6 +15,7 @@ mod loops;
 mod operations;
 mod output;
 mod outside;
+mod parts;
 mod places;
 mod stmts;
 
