@@ -1,9 +1,8 @@
-//! What is evaluated and executed at once: integers, booleans, and bits without bitfields, by literals, names of storage, elements
-//! and fields of what is held there, operators, conditionals, slices, and the library's subprograms on these, some levels deep,
-//! and assignments of these to names. What is held in a place is read where it stands, and nothing is built on the way. Where an
-//! expression is none of these, where it has no value, or where a step, a level or memory is wanting, nothing is done: then its
-//! node is entered as any other.
-ghost use Rattle.std.specs.Prelude.{◌≡◌, ◌∷◌, [], ℕ, Bool, true, List, Option, Some, length, map, option_map, slice_get};
+//! What is evaluated at once: integers, booleans, and bits without bitfields, by literals, names of storage, elements and fields of
+//! what is held there, operators, conditionals, slices, and the library's subprograms on these, some levels deep. What is held in a
+//! place is read where it stands, and nothing is built on the way. Where an expression is none of these, where it has no value, or
+//! where a step, a level or memory is wanting, nothing is done: then its node is entered as any other.
+ghost use Rattle.std.specs.Prelude.{◌≡◌, ◌∷◌, [], ℕ, Bool, List, option_map};
 ghost use Rattle.std.specs.Option.{option_copied};
 ghost use Rattle.asl_bits.specs.declared.TheConstants.{WIDTH_LIMIT};
 ghost use Rattle.asl_syn.specs.declared.token.Span.{Span as At};
@@ -12,39 +11,33 @@ ghost use Rattle.asl_rules.specs.runs.Forms as forms;
 ghost use Rattle.asl_rules.specs.values.Operators as operators;
 ghost use Rattle.asl_rules.specs.values.Vectors.{slices_of};
 ghost use Rattle.asl_rules.specs.runs.Plans.{Good, Pure};
-ghost use Rattle.asl_rules.specs.runs.StatementForms.{assignment};
-ghost use Rattle.asl_rules.specs.private.HoldsBits.{holds_bits};
-ghost use Rattle.asl_rules.specs.runs.Trees.{of_library, tree_type};
-ghost use Rattle.asl_rules.specs.private.TypedMeaning.{act_node, call_of, list_of, stores, tree_node, value_at as held};
+ghost use Rattle.asl_rules.specs.runs.Trees.{of_library};
+ghost use Rattle.asl_rules.specs.private.TypedMeaning.{call_of, list_of, tree_node};
 ghost use Rattle.asl_rules.specs.values.Values.{Value as Seen, bool, int};
-ghost use Rattle.asl_rules.specs.types.Views.{adopted, stripping};
+ghost use Rattle.asl_rules.specs.types.Views.{stripping};
 ghost use Rattle.asl_shape.specs.View.{routine_of};
-ghost use Rattle.asl_tree.specs.Acts.{place_of as placed_at, all_places, simple_of};
 ghost use Rattle.asl_tree.specs.View.{all_trees, tree_of};
 ghost use Rattle.asl_tree.specs.declared.act.TreeFunc.{TreeFunc};
 ghost use Rattle.asl_value.specs.private.Numbers.{answer_of};
 ghost use Rattle.asl_value.specs.View.{all_slices, slice_of, value_of};
-ghost use Rattle.asl_branches.specs.Meets.{SameBut, SameRound};
-ghost use Rattle.asl_branches.specs.View.{core_of, height_of, program_of};
-ghost use Rattle.asl_run.specs.private.AtOnce.{CutsAt, Did, decided_as, decision, Ends, Executed, Finds, Gives, Puts, Sets, TakesNothing, found};
+ghost use Rattle.asl_branches.specs.View.{program_of};
+ghost use Rattle.asl_run.specs.private.AtOnce.{CutsAt, decided_as, decision, Ends, Finds, Gives, found};
 
 use crate::bits;
 use crate::bits::{
-    Cut, bare, complement, has_fields, of_bits, of_bits_alone, of_bits_and_integer, of_width,
+    Cut, bare, complement, of_bits, of_bits_alone, of_bits_and_integer, of_width,
     of_width_and_bits, place_of, places_of,
 };
 use crate::parts::{element_in, field_in};
 use crate::places::value_at;
-use asl_branches::frames::Frames;
 use asl_branches::run::Run;
 use asl_num as num;
 use asl_num::NumFault;
 use asl_rules::slot::Slot;
 use asl_shape::Routine;
 use asl_syn::tree::{BinaryOperator, UnaryOperator};
-use asl_tree::act::{Act, Simple, TreePlace};
 use asl_tree::tree::{Callee, Tree};
-use asl_value::{SliceShape, Value, plain_bits};
+use asl_value::{SliceShape, Value};
 use asl_vector::Vector;
 use std::alloc::Global;
 
@@ -69,7 +62,7 @@ pub struct Reach {
 }
 
 /// The levels of an expression that are looked at.
-const LEVELS: u32 = 8;
+pub const LEVELS: u32 = 8;
 
 // ---- values
 
@@ -478,7 +471,13 @@ fn sliced(
 
 /// The places of one slice.
 #[cycle(at_once)]
-fn cut_at(run: &Run, left: &mut u64, reach: Reach, shape: SliceShape, es: &[Tree]) -> Option<Cut>
+pub fn cut_at(
+    run: &Run,
+    left: &mut u64,
+    reach: Reach,
+    shape: SliceShape,
+    es: &[Tree],
+) -> Option<Cut>
     ensures { (fs : List TreeFunc) → CutsAt result (slice_of shape) fs reach.depth (list_of (all_trees es.now)) run.now left.old left.new }
 {
     if es.len() == 1 {
@@ -673,178 +672,4 @@ pub fn evaluated(alloc: Global, run: &Run, left: &mut u64, depth: u32, e: &Tree)
         levels: LEVELS,
     };
     evaluate(run, left, reach, e)
-}
-
-// ---- assignments
-
-/// One of the values of the frame becomes another, which takes nothing of it; whether there is that one.
-fn put_local(frames: &mut Frames, at: usize, value: Value) -> bool
-    requires { TakesNothing (slice_get (map value_of frames.old.values) at) (value_of value) }
-    ensures sets { Sets result at (value_of value) frames.old.values frames.new.values }
-    ensures as_many { length frames.new.values ≡ length frames.old.values }
-    ensures same { frames.new ≡ record frames.old { values = frames.new.values } }
-{
-    if at >= frames.height() {
-        drop(value);
-        return false;
-    }
-    frames.set(at, value);
-    true
-}
-
-/// One of the globals becomes another, which takes nothing of it; whether there is that one.
-fn put_global(frames: &mut Frames, at: usize, value: Value) -> bool
-    requires { TakesNothing (slice_get (map value_of frames.old.globals) at) (value_of value) }
-    ensures sets { Sets result at (value_of value) frames.old.globals frames.new.globals }
-    ensures same { frames.new ≡ record frames.old { globals = frames.new.globals } }
-{
-    if at >= frames.globals() {
-        drop(value);
-        return false;
-    }
-    frames.set_global(at, value);
-    true
-}
-
-/// A place takes a value that takes nothing of the old one; whether there is that place.
-fn put_at(run: &mut Run, slot: Slot, value: Value) -> bool
-    requires { TakesNothing (held slot (core_of run.old)) (value_of value) }
-    ensures puts { Puts result (Some (value_of value)) slot run.old run.new }
-    ensures same { SameBut run.old run.new }
-    ensures height { height_of run.new ≡ height_of run.old }
-{
-    match slot {
-        Slot::Local(i) => put_local(&mut run.frames, i, value),
-        Slot::Global(i) => put_global(&mut run.frames, i, value),
-    }
-}
-
-/// Whether a place holds bits that are seen with no bitfields.
-fn holds_bare_bits(run: &Run, slot: Slot) -> bool
-    ensures { result ≡ true → (bits : List Bool) → TakesNothing (held slot (core_of run.now)) (operators.plain_bits bits) }
-{
-    match value_at(run, slot) {
-        Some(value) => is_bare(value),
-        None => false,
-    }
-}
-
-/// Whether a value is bits that are seen with no bitfields.
-fn is_bare(value: &Value) -> bool
-    ensures { result ≡ true → (bits : List Bool) → adopted (value_of value.now) (operators.plain_bits bits) ≡ operators.plain_bits bits }
-{
-    match value {
-        Value::Bits(_, view) => !has_fields(view),
-        // any other value may be left to the node
-        _ => false,
-    }
-}
-
-/// A place takes bits, where those that it holds have no bitfields; whether it did.
-fn put_bits(run: &mut Run, slot: Slot, bits: Vector) -> bool
-    ensures puts { Puts result (Some (operators.plain_bits bits)) slot run.old run.new }
-    ensures same { SameBut run.old run.new }
-    ensures height { height_of run.new ≡ height_of run.old }
-{
-    if holds_bare_bits(run, slot) {
-        put_at(run, slot, plain_bits(bits))
-    } else {
-        drop(bits);
-        false
-    }
-}
-
-/// A place takes what was found; whether it did.
-fn put(run: &mut Run, slot: Slot, it: AtOnce) -> bool
-    ensures puts { Puts result (found it) slot run.old run.new }
-    ensures same { SameBut run.old run.new }
-    ensures height { height_of run.new ≡ height_of run.old }
-{
-    match it {
-        AtOnce::Integer(z) => put_at(run, slot, Value::Int(z)),
-        AtOnce::Truth(b) => put_at(run, slot, Value::Bool(b)),
-        AtOnce::Bits(bits) => put_bits(run, slot, bits),
-        AtOnce::Neither => false,
-    }
-}
-
-/// An assignment to a name, where so many steps are left; whether it was executed.
-fn assign(
-    alloc: Global,
-    run: &mut Run,
-    steps: u64,
-    depth: u32,
-    target: &TreePlace,
-    e: &Tree,
-) -> bool
-    ensures meets { (fs : List TreeFunc) → Executed result fs depth (assignment (tree_of e.now) (stores WIDTH_LIMIT (holds_bits (tree_type (tree_of e.now))) (placed_at target.now ∷ []))) run.old steps run.new }
-    ensures keeps { SameRound run.old run.new }
-    ensures height { height_of run.new ≡ height_of run.old }
-{
-    if !target.way.is_empty() {
-        return false;
-    }
-    if !target.steps.is_empty() {
-        return false;
-    }
-    let mut left = steps;
-    let it = evaluated(alloc, run, &mut left, depth, e);
-    if put(run, target.slot, it) {
-        run.steps = left;
-        true
-    } else {
-        false
-    }
-}
-
-/// An assignment to names, where so many steps are left; whether it was executed.
-fn assign_one(
-    alloc: Global,
-    run: &mut Run,
-    steps: u64,
-    depth: u32,
-    targets: &[TreePlace],
-    e: &Tree,
-) -> bool
-    ensures meets { (fs : List TreeFunc) → Executed result fs depth (assignment (tree_of e.now) (stores WIDTH_LIMIT (holds_bits (tree_type (tree_of e.now))) (all_places targets.now))) run.old steps run.new }
-    ensures keeps { SameRound run.old run.new }
-    ensures height { height_of run.new ≡ height_of run.old }
-{
-    if targets.len() == 1 {
-        assign(alloc, run, steps, depth, &targets[0], e)
-    } else {
-        false
-    }
-}
-
-/// A statement without lists, where so many steps are left; whether it was executed.
-fn simple(alloc: Global, run: &mut Run, steps: u64, depth: u32, s: &Simple) -> bool
-    ensures meets { (fs : List TreeFunc) → Executed result fs depth (act_node (program_of fs) (simple_of s.now)) run.old steps run.new }
-    ensures keeps { SameRound run.old run.new }
-    ensures height { height_of run.new ≡ height_of run.old }
-{
-    match s {
-        Simple::Assign(_, targets, e) => {
-            assign_one(alloc, run, steps, depth, targets.as_slice(), e)
-        }
-        // any form may be left to its node
-        _ => false,
-    }
-}
-
-/// Executes a statement, where that is an assignment which is executed at once; whether it was.
-pub fn executed(alloc: Global, run: &mut Run, depth: u32, s: &Act) -> bool
-    ensures meets { (fs : List TreeFunc) → Did result fs depth s.now run.old run.new }
-    ensures keeps { SameRound run.old run.new }
-    ensures height { height_of run.new ≡ height_of run.old }
-{
-    let steps = run.steps;
-    if steps == 0 || depth == 0 {
-        return false;
-    }
-    match s {
-        Act::Simple(s) => simple(alloc, run, steps - 1, depth - 1, s),
-        // any form may be left to its node
-        _ => false,
-    }
 }

@@ -8,7 +8,8 @@ ghost use Rattle.asl_tree.specs.private.Room.{FitsAct, FitsList};
 ghost use Rattle.asl_branches.specs.Meets.{Evaluates, Executes, RanBy, at};
 ghost use Rattle.asl_branches.specs.View.{exit_of, room_of};
 
-use crate::at_once::{AtOnce, evaluated, executed};
+use crate::acts_at_once::executed;
+use crate::at_once::{AtOnce, evaluated};
 use crate::exprs::eval_node;
 use crate::level::Level;
 use crate::stmts::{act_span, exec_node};
@@ -80,10 +81,9 @@ pub fn exec<K: Sink>(here: Setting, run: &mut Run, sink: &mut K, s: &Act) -> Res
     requires room { FitsAct (room_of run.old) (act_of s.now) }
     ensures { Executes result here.entry s.now (at K.Sink run.old sink.old) (at K.Sink run.new sink.new) }
 {
-    if executed(here.alloc, run, here.depth, s) {
-        Ok(Exit::Normal)
-    } else {
-        enter_stmt(here, run, sink, s)
+    match executed(here.alloc, run, here.depth, s) {
+        Some(exit) => Ok(exit),
+        None => enter_stmt(here, run, sink, s),
     }
 }
 

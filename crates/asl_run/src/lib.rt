@@ -3,6 +3,7 @@
 //! functions of `knot.rt` call one another, and how many nodes more may be open falls with each node that is entered.
 #![tactic(auto)]
 
+mod acts_at_once;
 mod assignments;
 mod at_once;
 mod bits;

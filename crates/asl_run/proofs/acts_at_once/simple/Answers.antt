@@ -3,7 +3,7 @@ use Rattle.asl_rules.specs.private.TypedMeaning.{act_node}
 use Rattle.asl_branches.specs.View.{program_of}
 use Rattle.asl_run.specs.private.AtOnce.{Executed}
 use Rattle.asl_run.proofs.Stated.{assign_is}
-use Rattle.asl_run.proofs.at_once.simple.Goals as goal
+use Rattle.asl_run.proofs.acts_at_once.simple.Goals as goal
 
 pub returns-in-Assign-clause-meets : goal.returns-in-Assign-clause-meets
 returns-in-Assign-clause-meets c = λ fs.

@@ -4,7 +4,7 @@ use Rattle.asl_branches.specs.View.{program_of}
 use Rattle.asl_run.specs.private.AtOnce.{Executed}
 use Rattle.asl_run.proofs.AtOnce.{entered}
 use Rattle.asl_run.proofs.Stated.{simple_is}
-use Rattle.asl_run.proofs.at_once.executed.Goals as goal
+use Rattle.asl_run.proofs.acts_at_once.executed.Goals as goal
 
 pub returns-in-Simple-clause-meets : goal.returns-in-Simple-clause-meets
 returns-in-Simple-clause-meets c = λ fs.

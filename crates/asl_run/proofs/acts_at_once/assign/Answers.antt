@@ -4,7 +4,7 @@ use Rattle.asl_rules.specs.runs.Trees.{tree_type}
 use Rattle.asl_tree.specs.View.{tree_of}
 use Rattle.asl_run.specs.private.AtOnce.{found}
 use Rattle.asl_run.proofs.AtOnce.{assigned}
-use Rattle.asl_run.proofs.at_once.assign.Goals as goal
+use Rattle.asl_run.proofs.acts_at_once.assign.Goals as goal
 
 pub returns-then-put-clause-meets : goal.returns-then-put-clause-meets
 returns-then-put-clause-meets c = λ fs.
