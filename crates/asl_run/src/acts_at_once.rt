@@ -316,6 +316,7 @@ fn as_value(it: AtOnce) -> Option<Value>
 }
 
 /// Whether bits occur in a type that is written.
+#[tactic(auto, using(asl_types::proofs::Seen::unseen))]
 fn gives_fields(ty: &Option<Ty>) -> bool
     ensures { result ≡ false → (x : Seen) → seen_where ty.now x ≡ x }
 {

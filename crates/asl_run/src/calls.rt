@@ -99,7 +99,7 @@ fn returned(
 }
 
 /// A value with the bitfields of a type: where no bits occur in that, the value itself.
-#[tactic(auto, using(asl_rules::proofs::values::Bitless::nothing_to_see))]
+#[tactic(auto, using(asl_types::proofs::Seen::unseen))]
 fn kept(alloc: Global, ty: &Ty, x: Held<Value>) -> Result<Value, AllocError>
     ensures { IfOk result (λ it. value_of it ≡ seen_as ty.now (value_of x)) }
 {
