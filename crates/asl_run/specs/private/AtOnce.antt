@@ -1,13 +1,19 @@
 -- What is evaluated and executed at once.
-use Rattle.std.specs.Prelude.{◌≡◌, ℕ, ℤ, Bool, true, false, List, [], map, Option, Some, None}
+use Rattle.std.specs.Prelude.{◌≡◌, ◌+◌, ◌≤◌, ℕ, pos, Bool, true, false, List, [], ◌∷◌, length, map, Option, Some, None}
 use Rattle.asl_bits.specs.declared.TheConstants.{WIDTH_LIMIT}
+use Rattle.asl_bits.specs.Lists.{with_slice}
 use Rattle.asl_syn.specs.declared.token.Span.{Span}
 use Rattle.asl_rules.specs.declared.slot.Slot.{Slot}
 use Rattle.asl_rules.specs.values.Operators.{Strictness, Strict, Lazy, Decided, Already, ByRight}
+use Rattle.asl_rules.specs.runs.Forms.{at_once, behind_all}
 use Rattle.asl_rules.specs.runs.Plans.{Meter, Pure, Good, Done, run}
-use Rattle.asl_rules.specs.runs.Pures.{◌>>=◌, known}
-use Rattle.asl_rules.specs.values.Structures.{element_of}
-use Rattle.asl_rules.specs.private.TypedMeaning.{BareCore, Runs as Plans, stored}
+use Rattle.asl_rules.specs.runs.Trees.{Tree as RuleTree}
+use Rattle.asl_rules.specs.private.TypedMeaning.{BareCore, Runs as Plans, put, stored, value_at}
+use Rattle.asl_rules.specs.types.Shapes.{SliceShape}
+use Rattle.asl_rules.specs.types.Types.{View}
+use Rattle.asl_rules.specs.types.Views.{adopted}
+use Rattle.asl_rules.specs.values.Operators.{plain_bits}
+use Rattle.asl_rules.specs.values.Vectors.{slicings}
 use Rattle.asl_rules.specs.values.Values as rules
 use Rattle.asl_tree.specs.Acts.{act_of}
 use Rattle.asl_tree.specs.View.{tree_of}
@@ -17,7 +23,8 @@ use Rattle.asl_tree.specs.declared.tree.Tree.{Tree}
 use Rattle.asl_branches.specs.declared.run.Run.{Run}
 use Rattle.asl_branches.specs.View.{core_of, meter_of, meaning_of}
 use Rattle.asl_run.specs.declared.at_once.AtOnce.{AtOnce}
-use Rattle.asl_run.specs.declared.at_once.AtOnce.TheVariants.{Integer, Truth, Neither}
+use Rattle.asl_run.specs.declared.at_once.AtOnce.TheVariants.{Integer, Truth, Bits, Neither}
+use Rattle.asl_run.specs.declared.bits.Cut.{Cut}
 use Rattle.asl_run.specs.private.Storing.{stored_in}
 use Rattle.asl_value.specs.declared.value.Value.{Value}
 use Rattle.asl_value.specs.View.{value_of}
@@ -26,6 +33,7 @@ use Rattle.asl_value.specs.View.{value_of}
 abbrev pub found : AtOnce → Option rules.Value
 found (Integer z) = Some (rules.int z)
 found (Truth b) = Some (rules.bool b)
+found (Bits bs) = Some (plain_bits bs)
 found Neither = None
 
 -- an operation on values gives it
@@ -47,9 +55,23 @@ abbrev pub Finds : Option rules.Value → List TreeFunc → ℕ → Tree → Run
 Finds None fs d e s n n1 = Unit {0}
 Finds (Some x) fs d e s n n1 = (told : Option (List ℕ)) → (meaning_of fs d).expr (tree_of e) (core_of s) (meter_at n told s) ≡ Done x (core_of s) (meter_at n1 told s)
 
--- the element at an index of an array that is held in a place
-abbrev pub element_in : Span → Span → Option rules.Value → ℤ → Pure rules.Value
-element_in at span array z = known at array >>= λ x. element_of span x (rules.int z)
+-- ---- slices
+
+-- a slice with these values has these places
+pub record Cuts (shape : SliceShape) (given : List rules.Value) (cut : Cut) : Type 0 where
+  pub read : slicings (shape ∷ []) given ≡ Some (record { low = pos cut.low; width = pos cut.width } ∷ [])
+  pub within : cut.width ≤ WIDTH_LIMIT
+
+-- the expressions of a slice have values with which it has these places, and the state stays as it is
+pub record CutBy (cut : Cut) (shape : SliceShape) (fs : List TreeFunc) (d : ℕ) (es : List RuleTree) (s : Run) (n n1 : ℕ) : Type 0 where
+  pub given : List rules.Value
+  pub cuts : Cuts shape given cut
+  pub gives : (told : Option (List ℕ)) (f : List rules.Value → Pure rules.Value) →
+      run (meaning_of fs d) (behind_all es (core_of s) f) (meter_at n told s) ≡ run (meaning_of fs d) (at_once (f given) (core_of s)) (meter_at n1 told s)
+
+abbrev pub CutsAt : Option Cut → SliceShape → List TreeFunc → ℕ → List RuleTree → Run → ℕ → ℕ → Type 0
+CutsAt None shape fs d es s n n1 = Unit {0}
+CutsAt (Some cut) shape fs d es s n n1 = CutBy cut shape fs d es s n n1
 
 -- ---- operators that their left operand may decide
 
@@ -63,6 +85,10 @@ decided_as (Some r) = Already r
 
 -- ---- stores
 
+-- a value takes nothing of what stands in a place
+abbrev pub TakesNothing : Option rules.Value → rules.Value → Type 0
+TakesNothing o y = (x : rules.Value) → o ≡ Some x → adopted x y ≡ y
+
 -- a value was stored among values, or they are the same
 abbrev pub Sets : Bool → ℕ → rules.Value → List Value → List Value → Type 0
 Sets false i x old new = new ≡ old
@@ -74,14 +100,45 @@ Puts false o slot s s1 = s1 ≡ s
 Puts true None slot s s1 = ⊥
 Puts true (Some x) slot s s1 = (holds : Bool) (span : Span) → stored WIDTH_LIMIT holds span slot x [] (core_of s) ≡ Good (core_of s1)
 
+-- bits with a part in these places, of which there are as many
+pub record Parted (z : Value) (cut : Cut) (part : List Bool) (x : rules.Value) : Type 0 where
+  pub bits : List Bool
+  pub view : View
+  pub was : x ≡ rules.bits_with bits view
+  pub fills : length part ≡ cut.width
+  pub inside : cut.low + cut.width ≤ length bits
+  pub is : value_of z ≡ rules.bits_with (with_slice bits cut.low part) view
+
+abbrev pub WithPart : Option Value → Cut → List Bool → rules.Value → Type 0
+WithPart None cut part x = Unit {0}
+WithPart (Some z) cut part x = Parted z cut part x
+
+-- a part was stored in these places of the bits that a place holds, or the state is the same
+pub record PutPart (part : List Bool) (cut : Cut) (slot : Slot) (s s1 : Run) : Type 0 where
+  pub bits : List Bool
+  pub view : View
+  pub was : value_at slot (core_of s) ≡ Some (rules.bits_with bits view)
+  pub fills : length part ≡ cut.width
+  pub inside : cut.low + cut.width ≤ length bits
+  pub now_is : (span : Span) → put span slot (rules.bits_with (with_slice bits cut.low part) view) (core_of s) ≡ Good (core_of s1)
+
+abbrev pub PutsPart : Bool → List Bool → Cut → Slot → Run → Run → Type 0
+PutsPart false part cut slot s s1 = s1 ≡ s
+PutsPart true part cut slot s s1 = PutPart part cut slot s s1
+
 -- ---- statements
 
--- a plan was executed, where so many steps are left before it, or the state is the same
-abbrev pub Executed : Bool → List TreeFunc → ℕ → (BareCore → Plans rules.Exit) → Run → ℕ → Run → Type 0
-Executed false fs d q s n s1 = s1 ≡ s
-Executed true fs d q s n s1 = (told : Option (List ℕ)) → run (meaning_of fs d) (q (core_of s)) (meter_at n told s) ≡ Done rules.Normal (core_of s1) (meter_of s1 told)
+-- the normal end of what was executed
+abbrev pub did : Bool → Option rules.Exit
+did false = None
+did true = Some rules.Normal
+
+-- a plan was executed and ended so, where so many steps are left before it, or the state is the same
+abbrev pub Executed : Option rules.Exit → List TreeFunc → ℕ → (BareCore → Plans rules.Exit) → Run → ℕ → Run → Type 0
+Executed None fs d q s n s1 = s1 ≡ s
+Executed (Some x) fs d q s n s1 = (told : Option (List ℕ)) → run (meaning_of fs d) (q (core_of s)) (meter_at n told s) ≡ Done x (core_of s1) (meter_of s1 told)
 
 -- a statement was
-abbrev pub Did : Bool → List TreeFunc → ℕ → Act → Run → Run → Type 0
-Did false fs d t s s1 = s1 ≡ s
-Did true fs d t s s1 = (told : Option (List ℕ)) → (meaning_of fs d).stmt (act_of t) (core_of s) (meter_of s told) ≡ Done rules.Normal (core_of s1) (meter_of s1 told)
+abbrev pub Did : Option rules.Exit → List TreeFunc → ℕ → Act → Run → Run → Type 0
+Did None fs d t s s1 = s1 ≡ s
+Did (Some x) fs d t s s1 = (told : Option (List ℕ)) → (meaning_of fs d).stmt (act_of t) (core_of s) (meter_of s told) ≡ Done x (core_of s1) (meter_of s1 told)
