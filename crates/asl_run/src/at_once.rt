@@ -21,7 +21,7 @@ ghost use Rattle.asl_tree.specs.declared.act.TreeFunc.{TreeFunc};
 ghost use Rattle.asl_value.specs.private.Numbers.{answer_of};
 ghost use Rattle.asl_value.specs.View.{all_slices, slice_of, value_of};
 ghost use Rattle.asl_branches.specs.View.{program_of};
-ghost use Rattle.asl_run.specs.private.AtOnce.{CutsAt, decided_as, decision, Ends, Finds, Gives, found};
+ghost use Rattle.asl_run.specs.private.AtOnce.{CutsAt, decided_as, decision, Ends, Finds, Gives, Leaf, found};
 
 use crate::bits;
 use crate::bits::{
@@ -348,7 +348,7 @@ fn behind_integer(
 ) -> AtOnce
     ensures { (fs : List TreeFunc) (at : At) → Ends (found result) fs reach.depth (forms.behind_left WIDTH_LIMIT at operator (tree_of b.now) (int x) (operators.strictness operator)) run.now left.old left.new }
 {
-    match evaluate(run, left, reach, b) {
+    match operand(run, left, reach, b) {
         AtOnce::Integer(y) => of_integers(operator, x, y),
         AtOnce::Truth(_) => AtOnce::Neither,
         AtOnce::Bits(_) => AtOnce::Neither,
@@ -399,6 +399,31 @@ fn behind_bits(
     }
 }
 
+/// A node without nodes below is entered, which gives this; nothing where it can't be.
+fn leaf(left: &mut u64, reach: Reach, it: AtOnce) -> AtOnce
+    ensures { Leaf result it reach.depth left.old left.new }
+{
+    if *left == 0 || reach.depth == 0 {
+        drop(it);
+        return AtOnce::Neither;
+    }
+    *left -= 1;
+    it
+}
+
+/// The value of an operand. Literals and names, which most operands are, take no call.
+#[cycle(at_once)]
+fn operand(run: &Run, left: &mut u64, reach: Reach, e: &Tree) -> AtOnce
+    ensures { (fs : List TreeFunc) → Finds (found result) fs reach.depth e.now run.now left.old left.new }
+{
+    match e {
+        Tree::Int(_, n) => leaf(left, reach, literal(*n)),
+        Tree::Read(_, slot) => leaf(left, reach, seen(value_at(run, *slot))),
+        // any other is evaluated as it is elsewhere
+        _ => evaluate(run, left, reach, e),
+    }
+}
+
 /// The values of both operands, and what the operator gives of them.
 #[cycle(at_once)]
 fn operation(
@@ -411,7 +436,7 @@ fn operation(
 ) -> AtOnce
     ensures { (fs : List TreeFunc) (at : At) → Ends (found result) fs reach.depth (forms.operation WIDTH_LIMIT at operator (tree_of a.now) (tree_of b.now)) run.now left.old left.new }
 {
-    match evaluate(run, left, reach, a) {
+    match operand(run, left, reach, a) {
         AtOnce::Integer(x) => behind_integer(run, left, reach, operator, x, b),
         AtOnce::Truth(x) => behind_truth(run, left, reach, operator, x, b),
         AtOnce::Bits(x) => behind_bits(run, left, reach, operator, &x, b),

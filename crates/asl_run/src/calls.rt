@@ -190,6 +190,23 @@ fn bind_formals(
     Ok(())
 }
 
+/// The parameters of a callee: those in braces, or else the widths of arguments in these places.
+fn params_given(
+    alloc: Global,
+    span: Span,
+    widths: &[usize],
+    given: Given,
+) -> Result<Vec<Value>, Stop>
+    ensures { Is (λ list. map value_of list.items) result
+        (rules.params_of span widths.now (map value_of given.entry.params.now) (map value_of given.entry.args.now)) }
+{
+    if widths.is_empty() && given.params.is_empty() {
+        return Ok(Vec::new(alloc));
+    }
+    let params = listed(alloc, given.params)?;
+    Ok(params_of(alloc, span, widths, params, given.args)?)
+}
+
 // ---- calls
 
 /// The values of parameters and of arguments.
@@ -356,9 +373,7 @@ fn call_limited<K: Sink, N: Nodes<K>>(
     if !may_enter(called.id, run.live.as_slice(), called.func.limit) {
         return Err(Stop::Fault(DynCode::D11, called.span));
     }
-    let alloc = here.setting().alloc;
-    let params = listed(alloc, given.params)?;
-    let params = params_of(alloc, called.span, widths, params, given.args)?;
+    let params = params_given(here.setting().alloc, called.span, widths, given)?;
     run_func(here, run, sink, called, params, given.args)
 }
 

@@ -1,5 +1,5 @@
 -- What is evaluated and executed at once.
-use Rattle.std.specs.Prelude.{◌≡◌, ◌+◌, ◌≤◌, ℕ, pos, Bool, true, false, List, [], ◌∷◌, length, map, Option, Some, None}
+use Rattle.std.specs.Prelude.{◌≡◌, ◌+◌, ◌-◌, ◌<◌, ◌≤◌, ℕ, pos, Bool, true, false, List, [], ◌∷◌, length, map, Option, Some, None}
 use Rattle.asl_bits.specs.declared.TheConstants.{WIDTH_LIMIT}
 use Rattle.asl_bits.specs.Lists.{with_slice}
 use Rattle.asl_syn.specs.declared.token.Span.{Span}
@@ -54,6 +54,13 @@ Ends (Some x) fs d q s n n1 = (told : Option (List ℕ)) → run (meaning_of fs 
 abbrev pub Finds : Option rules.Value → List TreeFunc → ℕ → Tree → Run → ℕ → ℕ → Type 0
 Finds None fs d e s n n1 = Unit {0}
 Finds (Some x) fs d e s n n1 = (told : Option (List ℕ)) → (meaning_of fs d).expr (tree_of e) (core_of s) (meter_at n told s) ≡ Done x (core_of s) (meter_at n1 told s)
+
+-- a node without nodes below was entered and gives what was found there, or nothing is found
+abbrev pub Leaf : AtOnce → AtOnce → ℕ → ℕ → ℕ → Type 0
+Leaf (Integer z) it d n n1 = (it ≡ Integer z) × ((0 < d) × ((0 < n) × (n1 ≡ n - 1)))
+Leaf (Truth b) it d n n1 = (it ≡ Truth b) × ((0 < d) × ((0 < n) × (n1 ≡ n - 1)))
+Leaf (Bits bs) it d n n1 = (it ≡ Bits bs) × ((0 < d) × ((0 < n) × (n1 ≡ n - 1)))
+Leaf Neither it d n n1 = Unit {0}
 
 -- ---- slices
 
