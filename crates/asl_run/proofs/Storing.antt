@@ -70,6 +70,14 @@ stores_are holds (p ∷ ps) x = first (part_in p.span p.way x) (stores_are holds
 
 -- ---- parts
 
+-- one place takes the whole value
+pub stores_whole : (holds : Bool) (ps : List TreePlace) (p : TreePlace) (x : Value) → length ps ≡ 1 → p ≡ get_or ps 0 p → p.way ≡ [] → stores WIDTH_LIMIT holds (all_places ps) x ≡ Good (taking holds p x ∷ [])
+stores_whole holds [] p x one here whole = absurd (omega (arith, one))
+stores_whole holds (q ∷ []) p x one here whole =
+    ap (λ (r : TreePlace). stores WIDTH_LIMIT holds (all_places (r ∷ [])) x) (sym here) ∙
+    ap (λ (is : List ℕ). part_in p.span is x >>= λ y. Good (taking holds p y ∷ [])) whole
+stores_whole holds (q ∷ r ∷ ps) p x one here whole = absurd (omega (arith, one))
+
 -- the part in front was found, and comes behind those before it
 pub part_found : (ps : List TreePlace) (x : Value) (k : ℕ) (p : TreePlace) (ys zs : List Stored) (y : Stored) → k < length ps → p ≡ get_or ps k p → part_in p.span p.way x ≡ Good (value_of y) → zs ≡ ys ++ y ∷ [] →
     parts_behind (map value_of zs) (drop (k + 1) ps) x ≡ parts_behind (map value_of ys) (drop k ps) x

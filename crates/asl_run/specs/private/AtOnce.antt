@@ -5,7 +5,6 @@ use Rattle.asl_bits.specs.Lists.{with_slice}
 use Rattle.asl_syn.specs.declared.token.Span.{Span}
 use Rattle.asl_rules.specs.declared.slot.Slot.{Slot}
 use Rattle.asl_rules.specs.values.Operators.{Strictness, Strict, Lazy, Decided, Already, ByRight}
-use Rattle.asl_rules.specs.runs.Forms.{at_once, behind_all}
 use Rattle.asl_rules.specs.runs.Plans.{Meter, Pure, Good, Done, run}
 use Rattle.asl_rules.specs.runs.Trees.{Tree as RuleTree}
 use Rattle.asl_rules.specs.private.TypedMeaning.{BareCore, Runs as Plans, put, stored, value_at}
@@ -69,12 +68,18 @@ pub record Cuts (shape : SliceShape) (given : List rules.Value) (cut : Cut) : Ty
   pub read : slicings (shape ∷ []) given ≡ Some (record { low = pos cut.low; width = pos cut.width } ∷ [])
   pub within : cut.width ≤ WIDTH_LIMIT
 
--- the expressions of a slice have values with which it has these places, and the state stays as it is
+-- expressions in order give these values and leave the state as it is, where so many steps are left before them and so many after
+abbrev pub Listed : List TreeFunc → ℕ → List RuleTree → List rules.Value → Run → ℕ → ℕ → Type 0
+Listed fs d [] [] s n n1 = n1 ≡ n
+Listed fs d [] (x ∷ xs) s n n1 = ⊥
+Listed fs d (e ∷ es) [] s n n1 = ⊥
+Listed fs d (e ∷ es) (x ∷ xs) s n n1 = (m : ℕ) × (((told : Option (List ℕ)) → (meaning_of fs d).expr e (core_of s) (meter_at n told s) ≡ Done x (core_of s) (meter_at m told s)) × Listed fs d es xs s m n1)
+
+-- those of a slice have values with which it has these places
 pub record CutBy (cut : Cut) (shape : SliceShape) (fs : List TreeFunc) (d : ℕ) (es : List RuleTree) (s : Run) (n n1 : ℕ) : Type 0 where
   pub given : List rules.Value
   pub cuts : Cuts shape given cut
-  pub gives : (told : Option (List ℕ)) (f : List rules.Value → Pure rules.Value) →
-      run (meaning_of fs d) (behind_all es (core_of s) f) (meter_at n told s) ≡ run (meaning_of fs d) (at_once (f given) (core_of s)) (meter_at n1 told s)
+  pub listed : Listed fs d es given s n n1
 
 abbrev pub CutsAt : Option Cut → SliceShape → List TreeFunc → ℕ → List RuleTree → Run → ℕ → ℕ → Type 0
 CutsAt None shape fs d es s n n1 = Unit {0}
