@@ -50,7 +50,7 @@ use Rattle.asl_run.specs.declared.at_once.AtOnce.{AtOnce}
 use Rattle.asl_run.specs.declared.at_once.AtOnce.TheVariants as variants_of
 use Rattle.asl_run.specs.declared.bits.Cut.{Cut}
 use Rattle.asl_run.specs.private.AtOnce.{CutBy, Cuts, decision, Did, Ends, Executed, Finds, found, Gives, Leaf, Listed, meter_at, PutPart, Puts, Sets}
-use Rattle.asl_run.proofs.Bits.{adopts_nothing, one_filled, places_found}
+use Rattle.asl_run.proofs.BitsAtOnce.{adopts_nothing, one_filled, places_found}
 use Rattle.asl_run.proofs.Entries.{expr_done, stmt_done}
 use Rattle.asl_run.proofs.Placing.{global_put, local_put}
 

@@ -280,7 +280,7 @@ fn element<'r>(run: &'r Run, left: &mut u64, reach: Reach, a: &Tree, i: &Tree) -
     ensures { (fs : List TreeFunc) (at : At) → Ends (option_map value_of (option_copied result)) fs reach.depth (forms.element at (tree_of a.now) (tree_of i.now)) run.now left.old left.new }
 {
     match reached(run, left, reach, a) {
-        Some(array) => match evaluate(run, left, reach, i) {
+        Some(array) => match operand(run, left, reach, i) {
             AtOnce::Integer(z) => element_in(array, z),
             AtOnce::Truth(_) => None,
             AtOnce::Bits(_) => None,
@@ -646,8 +646,8 @@ fn node(run: &Run, left: &mut u64, reach: Reach, e: &Tree) -> AtOnce
             operation(run, left, reach, *operator, a.get(), b.get())
         }
         Tree::Unary(_, operator, a) => unary(run, left, reach, *operator, a.get()),
-        Tree::Conditional(_, e, a, b) => {
-            conditional(run, left, reach, e.get(), a.get(), b.get())
+        Tree::Conditional(_, condition, a, b) => {
+            conditional(run, left, reach, condition.get(), a.get(), b.get())
         }
         Tree::Slices(_, a, shapes, es) => sliced(
             run,

@@ -202,7 +202,7 @@ pub fn place_of(shape: SliceShape, i: i128) -> Option<Cut>
 }
 
 /// The place of `[i]`.
-#[tactic(auto, using(crate::proofs::Bits::bit_cut))]
+#[tactic(auto, using(crate::proofs::BitsAtOnce::bit_cut))]
 fn bit_at(i: i128) -> Option<Cut>
     ensures { IfSome result (Cuts shapes.at_bit (int i ∷ [])) }
 {
@@ -229,7 +229,7 @@ pub fn places_of(shape: SliceShape, first: i128, second: i128) -> Option<Cut>
 }
 
 /// The places of `[high:low]`.
-#[tactic(auto, using(crate::proofs::Bits::ends_cut))]
+#[tactic(auto, using(crate::proofs::BitsAtOnce::ends_cut))]
 fn between(high: i128, low: i128) -> Option<Cut>
     ensures { IfSome result (Cuts shapes.high_low (int high ∷ int low ∷ [])) }
 {
@@ -244,7 +244,7 @@ fn between(high: i128, low: i128) -> Option<Cut>
 }
 
 /// The places of `[low +: width]`.
-#[tactic(auto, using(crate::proofs::Bits::low_cut))]
+#[tactic(auto, using(crate::proofs::BitsAtOnce::low_cut))]
 fn from_low(low: i128, width: i128) -> Option<Cut>
     ensures { IfSome result (Cuts shapes.low_width (int low ∷ int width ∷ [])) }
 {
@@ -259,22 +259,24 @@ fn from_low(low: i128, width: i128) -> Option<Cut>
 }
 
 /// The places of `[factor *: width]`.
-#[tactic(auto, using(crate::proofs::Bits::factor_cut))]
+#[tactic(auto, using(crate::proofs::BitsAtOnce::factor_cut))]
 fn from_factor(factor: i128, width: i128) -> Option<Cut>
     ensures { IfSome result (Cuts shapes.factor_width (int factor ∷ int width ∷ [])) }
 {
-    if 0 <= factor && factor <= WIDTH_LIMIT as i128 && 0 <= width && width <= WIDTH_LIMIT as i128 {
-        Some(Cut {
-            low: factor as u32 * width as u32,
+    if factor < 0 || factor > WIDTH_LIMIT as i128 || width < 0 || width > WIDTH_LIMIT as i128 {
+        return None;
+    }
+    match (factor as u32).checked_mul(width as u32) {
+        Some(low) => Some(Cut {
+            low,
             width: width as u32,
-        })
-    } else {
-        None
+        }),
+        None => None,
     }
 }
 
 /// The bits of one slice of bits.
-#[tactic(auto, using(crate::proofs::Bits::bits_cut))]
+#[tactic(auto, using(crate::proofs::BitsAtOnce::bits_cut))]
 pub fn part(alloc: Global, bits: &Vector, cut: Cut) -> AtOnce
     ensures { (span : At) (shape : Shape) (given : List Seen) → Cuts shape given cut → Gives (found result) (vectors.slices_of WIDTH_LIMIT span (shape ∷ []) given (operators.plain_bits bits.now)) }
 {
@@ -286,7 +288,7 @@ pub fn part(alloc: Global, bits: &Vector, cut: Cut) -> AtOnce
 }
 
 /// The bits of one slice of an integer.
-#[tactic(auto, using(crate::proofs::Bits::integer_cut))]
+#[tactic(auto, using(crate::proofs::BitsAtOnce::integer_cut))]
 pub fn part_of_integer(alloc: Global, z: i128, cut: Cut) -> AtOnce
     ensures { (span : At) (shape : Shape) (given : List Seen) → Cuts shape given cut → Gives (found result) (vectors.slices_of WIDTH_LIMIT span (shape ∷ []) given (int z)) }
 {
@@ -300,7 +302,7 @@ pub fn part_of_integer(alloc: Global, z: i128, cut: Cut) -> AtOnce
 // ---- the library
 
 /// An integer that was asked of bits.
-#[tactic(auto, using(crate::proofs::Bits::number_found))]
+#[tactic(auto, using(crate::proofs::BitsAtOnce::number_found))]
 fn number(r: Result<i128, BitsRefused>) -> AtOnce
     ensures { (span : At) (z : ℤ) → IsInt r z → Gives (found result) (operators.integer_of span z) }
 {
@@ -336,7 +338,7 @@ pub fn of_width(alloc: Global, which: Routine, width: i128) -> AtOnce
 }
 
 /// So many bits 0.
-#[tactic(auto, using(crate::proofs::Bits::copies_found))]
+#[tactic(auto, using(crate::proofs::BitsAtOnce::copies_found))]
 fn zeros(alloc: Global, width: i128) -> AtOnce
     ensures { (span : At) → Gives (found result) (library.copies WIDTH_LIMIT span false width) }
 {
@@ -348,7 +350,7 @@ fn zeros(alloc: Global, width: i128) -> AtOnce
 }
 
 /// So many bits 1.
-#[tactic(auto, using(crate::proofs::Bits::copies_found))]
+#[tactic(auto, using(crate::proofs::BitsAtOnce::copies_found))]
 fn ones(alloc: Global, width: i128) -> AtOnce
     ensures { (span : At) → Gives (found result) (library.copies WIDTH_LIMIT span true width) }
 {

@@ -15,9 +15,6 @@ decreases-operand l = 8 * l.reach.levels + 1
 abbrev pub decreases-field : goal.decreases-field
 decreases-field l = 8 * l.reach.levels + 1
 
-abbrev pub decreases-element : goal.decreases-element
-decreases-element l = 8 * l.reach.levels + 1
-
 abbrev pub decreases-bit_place : goal.decreases-bit_place
 decreases-bit_place l = 8 * l.reach.levels + 1
 
@@ -39,8 +36,8 @@ decreases-unary l = 8 * l.reach.levels + 1
 abbrev pub decreases-conditional : goal.decreases-conditional
 decreases-conditional l = 8 * l.reach.levels + 1
 
-abbrev pub decreases-part : goal.decreases-part
-decreases-part l = 8 * l.reach.levels + 2
+abbrev pub decreases-element : goal.decreases-element
+decreases-element l = 8 * l.reach.levels + 2
 
 abbrev pub decreases-behind_integer : goal.decreases-behind_integer
 decreases-behind_integer l = 8 * l.reach.levels + 2
@@ -56,6 +53,9 @@ decreases-cut_at l = 8 * l.reach.levels + 2
 
 abbrev pub decreases-library : goal.decreases-library
 decreases-library l = 8 * l.reach.levels + 2
+
+abbrev pub decreases-part : goal.decreases-part
+decreases-part l = 8 * l.reach.levels + 3
 
 abbrev pub decreases-operation : goal.decreases-operation
 decreases-operation l = 8 * l.reach.levels + 3
