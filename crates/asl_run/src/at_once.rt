@@ -640,12 +640,12 @@ fn node(run: &Run, left: &mut u64, reach: Reach, e: &Tree) -> AtOnce
         Tree::Int(_, n) => literal(*n),
         Tree::Constant(_, value) => plain(value),
         Tree::Read(_, slot) => seen(value_at(run, *slot)),
-        Tree::Field(_, a, place) => seen(field(run, left, reach, a.get(), *place)),
-        Tree::Element(_, a, i) => seen(element(run, left, reach, a.get(), i.get())),
         Tree::Binary(_, operator, a, b) => {
             operation(run, left, reach, *operator, a.get(), b.get())
         }
         Tree::Unary(_, operator, a) => unary(run, left, reach, *operator, a.get()),
+        Tree::Field(_, a, place) => seen(field(run, left, reach, a.get(), *place)),
+        Tree::Element(_, a, i) => seen(element(run, left, reach, a.get(), i.get())),
         Tree::Conditional(_, condition, a, b) => {
             conditional(run, left, reach, condition.get(), a.get(), b.get())
         }
