@@ -1,5 +1,7 @@
 use Rattle.std.proofs.Common.{◌≡◌, ◌<◌, ◌∙◌, Ok, ap, length, get_or, of_z, rules, subst, to_z}
 use Rattle.std.specs.Int.{w128}
+use Rattle.std.specs.Prelude.{option_map}
+use Rattle.asl_rules.specs.values.Operators.{plain_bits}
 use Rattle.asl_rules.specs.values.Values.{bool, int}
 use Rattle.asl_tree.specs.Acts.{act_of}
 use Rattle.asl_tree.specs.private.Room.{FitsAct}
@@ -7,7 +9,7 @@ use Rattle.asl_value.specs.declared.value.Value.TheVariants as variants
 use Rattle.asl_value.specs.View.{value_of}
 use Rattle.asl_branches.specs.declared.stop.Exit.TheVariants as exit
 use Rattle.asl_branches.specs.Meets.{Executes, at}
-use Rattle.asl_branches.specs.View.{room_of}
+use Rattle.asl_branches.specs.View.{exit_of, room_of}
 use Rattle.asl_branches.proofs.Listing.{act_next}
 use Rattle.asl_run.specs.private.AtOnce.{Did, found}
 use Rattle.asl_run.proofs.AtOnce.{answered, truth_there}
@@ -62,10 +64,22 @@ eval-returns-in-Truth g t c = record {
   grows = search rules;
 }
 
-pub exec-returns-then-executed : goal.exec-returns-then-executed
-exec-returns-then-executed g t c = record {
+pub eval-returns-in-Bits : goal.eval-returns-in-Bits
+eval-returns-in-Bits g t c = record {
   meets =
-      subst (λ b. Did b c.args.here.funcs.now c.args.here.depth c.args.s.now c.args.run.now c.executed.new.run) c.if-executed.true
+      answered c.evaluated.result (plain_bits c.in-Bits.bits) (value_of c.plain_bits.result) c.args.here.funcs.now
+      c.args.here.depth c.args.e.now c.args.run.now c.evaluated.new.left (g.K.Sink.written c.args.sink.now)
+      (ap found c.in-Bits.is) c.plain_bits.ensures c.evaluated.ensures;
+  counts = search rules;
+  same_full = search rules;
+  keeps = search rules;
+  grows = search rules;
+}
+
+pub exec-returns-in-Some : goal.exec-returns-in-Some
+exec-returns-in-Some g t c = record {
+  meets =
+      subst (λ o. Did (option_map exit_of o) c.args.here.funcs.now c.args.here.depth c.args.s.now c.args.run.now c.executed.new.run) c.in-Some.is
       (c.executed.ensures.meets c.args.here.funcs.now) (g.K.Sink.written c.args.sink.now);
   counts = search rules;
   same_full = search rules;
@@ -73,8 +87,9 @@ exec-returns-then-executed g t c = record {
   grows = search rules;
 }
 
-pub exec-returns-else-executed : goal.exec-returns-else-executed
-exec-returns-else-executed g t c =
-    let same = subst (λ b. Did b c.args.here.funcs.now c.args.here.depth c.args.s.now c.args.run.now c.executed.new.run) c.if-executed.false (c.executed.ensures.meets c.args.here.funcs.now) in
+pub exec-returns-in-None : goal.exec-returns-in-None
+exec-returns-in-None g t c =
+    let same = subst (λ o. Did (option_map exit_of o) c.args.here.funcs.now c.args.here.depth c.args.s.now c.args.run.now c.executed.new.run) c.in-None.is
+    (c.executed.ensures.meets c.args.here.funcs.now) in
     subst (λ s. Executes c.enter_stmt.result c.args.here c.args.s.now (at g.K.Sink s c.args.sink.now)
     (at g.K.Sink c.enter_stmt.new.run c.enter_stmt.new.sink)) same c.enter_stmt.ensures
