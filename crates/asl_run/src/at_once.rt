@@ -424,6 +424,15 @@ fn operand(run: &Run, left: &mut u64, reach: Reach, e: &Tree) -> AtOnce
     }
 }
 
+/// Whether an expression is a call of a subprogram of the program, which is never evaluated at once.
+fn calls_own(e: &Tree) -> bool {
+    match e {
+        Tree::Call(_, Callee::Own(_), _, _, _) => true,
+        // any other may be tried
+        _ => false,
+    }
+}
+
 /// The values of both operands, and what the operator gives of them.
 #[cycle(at_once)]
 fn operation(
@@ -436,6 +445,9 @@ fn operation(
 ) -> AtOnce
     ensures { (fs : List TreeFunc) (at : At) → Ends (found result) fs reach.depth (forms.operation WIDTH_LIMIT at operator (tree_of a.now) (tree_of b.now)) run.now left.old left.new }
 {
+    if calls_own(a) || calls_own(b) {
+        return AtOnce::Neither;
+    }
     match operand(run, left, reach, a) {
         AtOnce::Integer(x) => behind_integer(run, left, reach, operator, x, b),
         AtOnce::Truth(x) => behind_truth(run, left, reach, operator, x, b),
@@ -691,6 +703,9 @@ fn evaluate(run: &Run, left: &mut u64, reach: Reach, e: &Tree) -> AtOnce
 pub fn evaluated(alloc: Global, run: &Run, left: &mut u64, depth: u32, e: &Tree) -> AtOnce
     ensures { (fs : List TreeFunc) → Finds (found result) fs depth e.now run.now left.old left.new }
 {
+    if calls_own(e) {
+        return AtOnce::Neither;
+    }
     let reach = Reach {
         alloc,
         depth,

@@ -4,6 +4,7 @@
 #![tactic(auto)]
 
 mod acts_at_once;
+mod asking;
 mod assignments;
 mod at_once;
 mod bits;
