@@ -1,13 +1,12 @@
 //! Calls of subprograms.
-ghost use Rattle.std.specs.Prelude.{◌≡◌, ◌+◌, ◌<◌, ◌≤◌, ◌∷◌, [], length, map, option_map, pos, reverse, slice_get, Some, IfOk, OnOk};
+ghost use Rattle.std.specs.Prelude.{◌≡◌, ◌+◌, ◌<◌, ◌≤◌, [], length, map, option_map, pos, reverse, slice_get, Some, IfOk, OnOk};
 ghost use Rattle.asl_rules.specs.runs.Forms as forms;
 ghost use Rattle.asl_rules.specs.private.ByPlace.{seen_as};
-ghost use Rattle.asl_rules.specs.runs.Plans.{Eval};
 ghost use Rattle.asl_rules.specs.values.Operators.{less};
 ghost use Rattle.asl_rules.specs.private.TypedMeaning as rules;
 ghost use Rattle.asl_rules.specs.private.TypedMeaning.{list_of};
 ghost use Rattle.asl_tree.specs.Funcs.{all_funcs, func_of};
-ghost use Rattle.asl_tree.specs.View.{all_trees, tree_of};
+ghost use Rattle.asl_tree.specs.View.{all_trees};
 ghost use Rattle.asl_value.specs.View.{value_of};
 ghost use Rattle.asl_branches.specs.Meets.{at, Is, Ran, SameBut};
 ghost use Rattle.asl_branches.specs.View.{exit_of, room_of};
@@ -265,35 +264,38 @@ fn call_subprogram<K: Sink, N: Nodes<K>>(
     ensures { Ran (option_map value_of) result (N.setting here.now) (call_given (N.setting here.now).funcs.now call.entry)
         (at K.Sink run.old sink.old) (at K.Sink run.new sink.new) }
 {
-    if call.params.is_empty() && call.args.len() == 1 {
-        return call_on_one(here, run, sink, call, &call.args[0]);
+    if call.params.is_empty() {
+        return call_on(here, run, sink, call, &[]);
     }
     let params = eval_all(here, run, sink, call.params)?;
-    let args = eval_all(here, run, sink, call.args)?;
-    let given = Given {
-        params: params.as_slice(),
-        args: args.as_slice(),
-    };
-    call_with(here, run, sink, call, given)
+    call_on(here, run, sink, call, params.as_slice())
 }
 
-/// The same for one argument and no parameters, which takes no list.
-fn call_on_one<K: Sink, N: Nodes<K>>(
+/// The arguments, and what the callee gives for these parameters and their values. One argument takes no list.
+fn call_on<K: Sink, N: Nodes<K>>(
     here: &N,
     run: &mut Run,
     sink: &mut K,
     call: Call,
-    e: &Tree,
+    params: &[Value],
 ) -> Result<Option<Value>, Stop>
     requires ready { N.ready here.now }
     ensures { Ran (option_map value_of) result (N.setting here.now)
-        (λ c. Eval (tree_of e.now) c (λ x c1. body_of (N.setting here.now).funcs.now call.entry [] (x ∷ []) c1))
+        (λ c. forms.eval_all (list_of (all_trees call.entry.args.now)) [] c (body_of (N.setting here.now).funcs.now call.entry (map value_of params.now)))
         (at K.Sink run.old sink.old) (at K.Sink run.new sink.new) }
 {
-    let x = Held::new(here.eval(run, sink, e)?);
+    if call.args.len() == 1 {
+        let x = Held::new(here.eval(run, sink, &call.args[0])?);
+        let given = Given {
+            params,
+            args: slice::from_ref(x.get()),
+        };
+        return call_with(here, run, sink, call, given);
+    }
+    let args = eval_all(here, run, sink, call.args)?;
     let given = Given {
-        params: &[],
-        args: slice::from_ref(x.get()),
+        params,
+        args: args.as_slice(),
     };
     call_with(here, run, sink, call, given)
 }

@@ -20,26 +20,10 @@ returns-in_err-params g c =
     (λ ys c1. eval_all (list_of (all_trees c.args.call.args.now)) [] c1 (body_of h.funcs.now c.args.call ys)))
     _ c.in_err-params.field-0.0 _ _ c.in_err-params.ensures)
 
-pub returns-in_err-args : goal.returns-in_err-args
-returns-in_err-args g c =
-    let h = g.N.Nodes.setting c.args.here.now in
-    let p = err_from_is_err_and c.from_residual-in_err-args.result c.from_residual-in_err-args.ensures.1 in
-    rw (p.1, p.2) (met (map value_of) (option_map value_of) h.funcs.now h.depth _ _ _
-    (all_evaluated h.funcs.now h.depth (list_of (all_trees c.args.call.params.now)) (core_of c.args.run.now)
-    (λ ys c1. eval_all (list_of (all_trees c.args.call.args.now)) [] c1 (body_of h.funcs.now c.args.call ys)))
-    _ c.in_ok-params.params _ _ _ _ c.in_ok-params.ensures
-    (failed (map value_of) (option_map value_of) h.funcs.now h.depth _ _ _
-    (all_evaluated h.funcs.now h.depth (list_of (all_trees c.args.call.args.now)) (core_of c.eval_all.new.run)
-    (body_of h.funcs.now c.args.call (map value_of c.in_ok-params.params))) _ c.in_err-args.field-0.0 _ _ c.in_err-args.ensures))
-
 pub returns : goal.returns
 returns g c =
     let h = g.N.Nodes.setting c.args.here.now in
     met (map value_of) (option_map value_of) h.funcs.now h.depth _ _ _
     (all_evaluated h.funcs.now h.depth (list_of (all_trees c.args.call.params.now)) (core_of c.args.run.now)
     (λ ys c1. eval_all (list_of (all_trees c.args.call.args.now)) [] c1 (body_of h.funcs.now c.args.call ys)))
-    _ c.in_ok-params.params _ _ _ _ c.in_ok-params.ensures
-    (met (map value_of) (option_map value_of) h.funcs.now h.depth _ _ _
-    (all_evaluated h.funcs.now h.depth (list_of (all_trees c.args.call.args.now)) (core_of c.eval_all.new.run)
-    (body_of h.funcs.now c.args.call (map value_of c.in_ok-params.params)))
-    _ c.in_ok-args.args _ _ _ _ c.in_ok-args.ensures c.call_with.ensures)
+    _ c.in_ok-params.params _ _ _ _ c.in_ok-params.ensures c.call_on.ensures

@@ -1,0 +1,30 @@
+use Rattle.std.proofs.Common.{[], ◌∷◌, map, subst}
+use Rattle.std.proofs.lemmas.Result.{err_from_is_err_and}
+use Rattle.std.specs.Prelude.{option_map}
+use Rattle.asl_rules.specs.runs.Forms.{eval_all}
+use Rattle.asl_rules.specs.private.TypedMeaning.{list_of}
+use Rattle.asl_tree.specs.View.{all_trees}
+use Rattle.asl_value.specs.View.{value_of}
+use Rattle.asl_branches.specs.View.{core_of}
+use Rattle.asl_branches.proofs.Answered.{failed, met}
+use Rattle.asl_branches.proofs.Turns.{all_evaluated}
+use Rattle.asl_run.specs.private.Calling.{body_of}
+use Rattle.asl_run.proofs.calls.call_on.Goals as goal
+
+-- with one argument: `one_evaluated` of asl_branches in place of `all_evaluated`, over `one_tree` of proofs/AtOnce
+
+pub returns-in_err-args : goal.returns-in_err-args
+returns-in_err-args g c =
+    let h = g.N.Nodes.setting c.args.here.now in
+    let p = err_from_is_err_and c.from_residual-in_err-args.result c.from_residual-in_err-args.ensures.1 in
+    rw (p.1, p.2) (failed (map value_of) (option_map value_of) h.funcs.now h.depth _ _ _
+    (all_evaluated h.funcs.now h.depth (list_of (all_trees c.args.call.args.now)) (core_of c.args.run.now)
+    (body_of h.funcs.now c.args.call (map value_of c.args.params.now))) _ c.in_err-args.field-0.0 _ _ c.in_err-args.ensures)
+
+pub returns : goal.returns
+returns g c =
+    let h = g.N.Nodes.setting c.args.here.now in
+    met (map value_of) (option_map value_of) h.funcs.now h.depth _ _ _
+    (all_evaluated h.funcs.now h.depth (list_of (all_trees c.args.call.args.now)) (core_of c.args.run.now)
+    (body_of h.funcs.now c.args.call (map value_of c.args.params.now)))
+    _ c.in_ok-args.args _ _ _ _ c.in_ok-args.ensures c.call_with.ensures
