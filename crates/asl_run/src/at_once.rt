@@ -62,7 +62,7 @@ pub struct Reach {
 }
 
 /// The levels of an expression that are looked at.
-pub const LEVELS: u32 = 8;
+pub const LEVELS: u32 = 12;
 
 // ---- values
 
