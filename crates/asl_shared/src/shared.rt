@@ -1,8 +1,9 @@
 //! A value with several owners.
-ghost use Rattle.std.specs.Prelude.{◌≡◌, IfOk, MatchResult};
+ghost use Rattle.std.specs.Prelude.{◌≡◌, IsTrue, IsFalse, IfOk, MatchResult};
 
 use std::alloc::{AllocError, Global};
 use std::marker::Model;
+use std::mem;
 use std::rc::Rc;
 
 /// A value with several owners, which contracts see as the value.
@@ -25,6 +26,20 @@ impl<T> Shared<T> {
         ensures { result.now ≡ self.now }
     {
         self.inner.as_ref()
+    }
+
+    /// Exchanges the value for another, where this is its only owner: whether it is.
+    pub fn swap(&mut self, other: &mut T) -> bool
+        ensures swapped { IsTrue result → (self.new ≡ other.old) × (other.new ≡ self.old) }
+        ensures same { IsFalse result → (self.new ≡ self.old) × (other.new ≡ other.old) }
+    {
+        match Rc::get_mut(&mut self.inner) {
+            Some(value) => {
+                mem::swap(value, other);
+                true
+            }
+            None => false,
+        }
     }
 
     /// The value itself, where this is its only owner, and else the owner back.

@@ -365,11 +365,12 @@ fn put_in_fields(
     }
     let part = field_at(span, place, fields.get().as_slice())?;
     let part = Held::new(part);
-    let mut owned = into_owned_fields(alloc, fields)?;
+    let mut fields = fields;
+    let mut owned = take_fields(alloc, &mut fields)?;
     set_field(&mut owned, place, Value::Bool(false))?;
     let changed = put(alloc, part.into_inner(), rest, holds_bits, new)?;
     set_field(&mut owned, place, changed)?;
-    Ok(Shared::new(alloc, owned)?)
+    Ok(put_back(alloc, fields, owned)?)
 }
 
 /// The fields with another value in a place, where no bits occur in its type: nothing is taken of the one that stood there.
@@ -385,9 +386,10 @@ fn put_whole_field(
     if place >= fields.get().len() {
         return Err(Failure::WrongKind(span));
     }
-    let mut owned = into_owned_fields(alloc, fields)?;
+    let mut fields = fields;
+    let mut owned = take_fields(alloc, &mut fields)?;
     set_field(&mut owned, place, new.into_inner())?;
-    Ok(Shared::new(alloc, owned)?)
+    Ok(put_back(alloc, fields, owned)?)
 }
 
 /// The array with another value at the end of the steps behind the element at an index.
@@ -452,11 +454,12 @@ fn put_in_place(
     }
     let part = value_at(span, at, elements.get().as_slice())?;
     let part = Held::new(part);
-    let mut owned = into_owned(alloc, elements)?;
+    let mut elements = elements;
+    let mut owned = take_elements(alloc, &mut elements)?;
     owned.set(at, Value::Bool(false));
     let changed = put(alloc, part.into_inner(), rest, holds_bits, new)?;
     owned.set(at, changed);
-    Ok(Shared::new(alloc, owned)?)
+    Ok(put_back(alloc, elements, owned)?)
 }
 
 /// The elements with another value in a place, where no bits occur in its type: nothing is taken of the one that stood there.
@@ -472,9 +475,10 @@ fn put_whole_element(
     if at >= elements.get().len() {
         return Err(Failure::Fault(DynCode::D06, span));
     }
-    let mut owned = into_owned(alloc, elements)?;
+    let mut elements = elements;
+    let mut owned = take_elements(alloc, &mut elements)?;
     owned.set(at, new.into_inner());
-    Ok(Shared::new(alloc, owned)?)
+    Ok(put_back(alloc, elements, owned)?)
 }
 
 /// Gives the field in a place another value.
@@ -514,13 +518,35 @@ fn value_at(span: Span, at: usize, elements: &[Value]) -> Result<Value, Failure>
     }
 }
 
-/// The elements, with no other owner.
-fn into_owned(alloc: Global, elements: Shared<Items<Value>>) -> Result<Items<Value>, AllocError>
-    ensures { IfOk result (λ it. it ≡ elements) }
+/// The list behind an owner, whose other owners keep it. It is taken out where there is no other, and copied else.
+fn take_elements(
+    alloc: Global,
+    elements: &mut Shared<Items<Value>>,
+) -> Result<Items<Value>, AllocError>
+    ensures { IfOk result (λ it. it ≡ elements.old) }
 {
-    match elements.take() {
-        Ok(owned) => Ok(owned),
-        Err(shared) => copy_all(alloc, shared.get().as_slice()),
+    let mut owned = Items::new(alloc);
+    if elements.swap(&mut owned) {
+        Ok(owned)
+    } else {
+        copy_all(alloc, elements.get().as_slice())
+    }
+}
+
+/// A list behind an owner from which one was taken, or behind another where that has more owners.
+fn put_back<T: Drop>(
+    alloc: Global,
+    owner: Shared<Items<T>>,
+    list: Items<T>,
+) -> Result<Shared<Items<T>>, AllocError>
+    ensures { IfOk result (λ it. it ≡ list) }
+{
+    let mut owner = owner;
+    let mut list = list;
+    if owner.swap(&mut list) {
+        Ok(owner)
+    } else {
+        Ok(Shared::new(alloc, list)?)
     }
 }
 
@@ -535,16 +561,18 @@ fn copy_all(alloc: Global, values: &[Value]) -> Result<Items<Value>, AllocError>
     Ok(copies)
 }
 
-/// The fields, with no other owner.
-fn into_owned_fields(
+/// The fields behind an owner, as `take_elements` takes elements.
+fn take_fields(
     alloc: Global,
-    fields: Shared<Items<FieldValue>>,
+    fields: &mut Shared<Items<FieldValue>>,
 ) -> Result<Items<FieldValue>, AllocError>
-    ensures { IfOk result (λ it. it ≡ fields) }
+    ensures { IfOk result (λ it. it ≡ fields.old) }
 {
-    match fields.take() {
-        Ok(owned) => Ok(owned),
-        Err(shared) => copy_fields(alloc, shared.get().as_slice()),
+    let mut owned = Items::new(alloc);
+    if fields.swap(&mut owned) {
+        Ok(owned)
+    } else {
+        copy_fields(alloc, fields.get().as_slice())
     }
 }
 
