@@ -158,12 +158,7 @@ fn is_guarded<K: Sink, N: Nodes<K>>(
         (λ b. choose b (guard it.entry.span (maybe_tree it.entry.choice.now.condition) c) (Ret false c)))
         (at K.Sink run.old sink.old) (at K.Sink run.new sink.new) }
 {
-    if !is_matched(
-        here.setting().alloc,
-        it.choice.patterns.as_slice(),
-        zs,
-        x,
-    )? {
+    if !is_matched(here.setting().alloc, it.choice.patterns.as_slice(), zs, x)? {
         return Ok(false);
     }
     match &it.choice.condition {

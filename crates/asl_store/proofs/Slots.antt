@@ -5,21 +5,35 @@ use Rattle.asl_store.specs.Stored.{all_of, bound_at, seen, seen_one, split}
 
 -- ---- slots by their marks
 
-pub length-seen : {A : Type 0} (ms : List Bool) (xs : List A) → length ms ≡ length xs → length (seen ms xs) ≡ length xs
-length-seen [] [] e = refl
-length-seen [] (x ∷ xs) e = absurd (omega arith)
-length-seen (m ∷ ms) [] e = absurd (omega arith)
-length-seen (m ∷ ms) (x ∷ xs) e = ap suc (length-seen ms xs (omega arith))
+-- there are at least as many slots as marks
+pub length-seen : {A : Type 0} (ms : List Bool) (xs : List A) → length ms ≤ length xs → length (seen ms xs) ≡ length ms
+length-seen [] xs e = refl
+length-seen (m ∷ ms) [] e = absurd (omega (arith, e))
+length-seen (m ∷ ms) (x ∷ xs) e = ap suc (length-seen ms xs (omega (arith, e)))
 
-pub seen-append : {A : Type 0} (ms ns : List Bool) (xs ys : List A) → length ms ≡ length xs → seen (ms ++ ns) (xs ++ ys) ≡ seen ms xs ++ seen ns ys
-seen-append [] ns [] ys e = refl
-seen-append [] ns (x ∷ xs) ys e = absurd (omega arith)
-seen-append (m ∷ ms) ns [] ys e = absurd (omega arith)
-seen-append (m ∷ ms) ns (x ∷ xs) ys e = ap (λ os. seen_one m x ∷ os) (seen-append ms ns xs ys (omega arith))
+-- slots behind the last mark aren't seen
+pub seen-behind : {A : Type 0} (ms : List Bool) (xs ys : List A) → length ms ≤ length xs → seen ms (xs ++ ys) ≡ seen ms xs
+seen-behind [] xs ys e = refl
+seen-behind (m ∷ ms) [] ys e = absurd (omega (arith, e))
+seen-behind (m ∷ ms) (x ∷ xs) ys e = ap (λ os. seen_one m x ∷ os) (seen-behind ms xs ys (omega (arith, e)))
 
-pub seen-replicate : {A : Type 0} (n : ℕ) (x : A) → seen (replicate n false) (replicate n x) ≡ replicate n None
-seen-replicate {A} zero x = refl
-seen-replicate {A} (suc n) x = ap (λ (os : List (Option A)). None ∷ os) (seen-replicate n x)
+-- more marks of slots that aren't bound
+pub seen-more : {A : Type 0} (ms : List Bool) (xs : List A) (n : ℕ) → length ms + n ≤ length xs → seen (ms ++ replicate n false) xs ≡ seen ms xs ++ replicate n None
+seen-more [] xs zero e = refl
+seen-more [] [] (suc n) e = absurd (omega (arith, e))
+seen-more [] (x ∷ xs) (suc n) e = ap (λ os. None ∷ os) (seen-more [] xs n (omega (arith, e)))
+seen-more (m ∷ ms) [] n e = absurd (omega (arith, e))
+seen-more (m ∷ ms) (x ∷ xs) n e = ap (λ os. seen_one m x ∷ os) (seen-more ms xs n (omega (arith, e)))
+
+-- what is seen before a place is the same where the slots before it are
+pub seen-before : {A : Type 0} (n : ℕ) (ms : List Bool) (xs ys : List A) → take n xs ≡ take n ys → seen (take n ms) xs ≡ seen (take n ms) ys
+seen-before n ms xs ys e = sym (seen-cut n ms xs) ∙ ap (seen (take n ms)) e ∙ seen-cut n ms ys
+  where
+    seen-cut : {A : Type 0} (n : ℕ) (ms : List Bool) (xs : List A) → seen (take n ms) (take n xs) ≡ seen (take n ms) xs
+    seen-cut zero ms xs = refl
+    seen-cut (suc n) [] xs = refl
+    seen-cut (suc n) (m ∷ ms) [] = refl
+    seen-cut (suc n) (m ∷ ms) (x ∷ xs) = ap (λ os. seen_one m x ∷ os) (seen-cut n ms xs)
 
 pub seen-set : {A : Type 0} (ms : List Bool) (xs : List A) (i : ℕ) (m : Bool) (x : A) → seen (set ms i m) (set xs i x) ≡ set (seen ms xs) i (seen_one m x)
 seen-set [] xs i m x = refl

@@ -1,5 +1,5 @@
 //! Globals and frames.
-ghost use Rattle.std.specs.Prelude.{◌≡◌, ◌∷◌, ◌++◌, ◌+◌, ◌<◌, ◌≤◌, [], Some, None, Bool, false, IsSome, List, OnErr, OnOk, length, replicate, set, slice_get, vec_capacity, vec_len};
+ghost use Rattle.std.specs.Prelude.{◌≡◌, ◌∷◌, ◌++◌, ◌+◌, ◌<◌, ◌≤◌, [], Some, None, Bool, false, IsSome, List, OnErr, OnOk, length, replicate, set, slice_get, take, vec_capacity, vec_len};
 ghost use Rattle.std.specs.Option.{option_copied};
 ghost use Rattle.asl_bits.specs.declared.TheConstants.{WIDTH_LIMIT};
 ghost use Rattle.asl_rules.specs.private.ByPlace.{updated};
@@ -17,9 +17,10 @@ use std::mem;
 #[derive(Drop)]
 pub struct Store {
     globals: Vec<Value>,
-    /// The slots of all frames, those of the newest last. A slot that isn't bound holds `FALSE`.
+    /// The slots of all frames, those of the newest last, and behind them those that were in use before. A slot that isn't bound
+    /// holds `FALSE`.
     slots: Vec<Value>,
-    /// Of each slot whether it is bound.
+    /// Of each slot that is in use whether it is bound.
     marks: Vec<bool>,
     /// Where the slots of the newest frame begin.
     base: usize,
@@ -37,7 +38,7 @@ impl Model for Store {
 
     ghost view = { λ s. record { globals = s.globals.items; newest = drop s.base (seen s.marks.items s.slots.items); older = split s.sizes.items (seen s.marks.items s.slots.items) } };
 
-    ghost invariant = { λ s. (length s.marks.items ≡ length s.slots.items) × ((s.base ≡ all_of s.sizes.items) × (s.base ≤ length s.slots.items)) };
+    ghost invariant = { λ s. (length s.marks.items ≤ length s.slots.items) × ((s.base ≡ all_of s.sizes.items) × (s.base ≤ length s.marks.items)) };
 }
 
 impl Store {
@@ -62,15 +63,18 @@ impl Store {
         ensures refused { OnErr result (self.new ≡ self.old) }
     {
         let count = slots as usize;
-        let end = self.slots.len();
+        let end = self.marks.len();
         let size = end - self.base;
         self.sizes.reserve(1)?;
         self.marks.reserve(count)?;
-        self.slots.reserve(count)?;
+        let spare = self.slots.len() - end;
+        if spare < count {
+            self.slots.reserve(count - spare)?;
+            add_slots(&mut self.slots, count - spare);
+        }
         self.sizes.push(size).unwrap();
         self.base = end;
         add_marks(&mut self.marks, count);
-        add_slots(&mut self.slots, count);
         Ok(())
     }
 
@@ -81,7 +85,7 @@ impl Store {
         ensures globals { self.new.globals ≡ self.old.globals }
     {
         let size = self.sizes.pop().unwrap();
-        self.slots.truncate(self.base);
+        clear(&mut self.slots, &self.marks, self.base);
         self.marks.truncate(self.base);
         self.base -= size;
     }
@@ -198,6 +202,21 @@ fn put(values: &mut Vec<Value>, at: usize, value: Value)
 {
     let old = mem::replace(&mut values[at], value);
     drop(old);
+}
+
+/// The slots from one on that are bound hold `FALSE` again.
+fn clear(slots: &mut Vec<Value>, marks: &Vec<bool>, from: usize)
+    requires within { length marks.now.items ≤ vec_len slots.old }
+    ensures same { take from slots.new.items ≡ take from slots.old.items }
+    ensures length { length slots.new.items ≡ length slots.old.items }
+{
+    let mut at = from;
+    while at < marks.len() {
+        if marks[at] {
+            put(slots, at, Value::Bool(false));
+        }
+        at += 1;
+    }
 }
 
 /// So many slots more, which hold `FALSE`.
