@@ -1,18 +1,19 @@
-//! What is executed at once: assignments to names and to slices of the bits that they hold, declarations and `return`, where their
-//! expressions are evaluated at once. Where one isn't, or there is no such place, nothing is done, and the node is entered.
+//! What is executed at once: assignments to names and to slices of the bits that they hold, declarations, `return`, and an `if` of
+//! such statements, where their expressions are evaluated at once. Where one isn't, or there is no such place, nothing is done, and
+//! the node is entered.
 ghost use Rattle.std.specs.Prelude.{◌≡◌, ◌≤◌, ◌+◌, ◌∷◌, [], Bool, true, false, List, Some, IfOk, length, map, option_map, slice_get};
 ghost use Rattle.asl_bits.specs.declared.TheConstants.{WIDTH_LIMIT};
 ghost use Rattle.asl_bits.specs.Lists.{with_slice};
 ghost use Rattle.asl_syn.specs.declared.token.Span.{Span as At};
 ghost use Rattle.asl_rules.specs.private.ByPlace.{seen_where};
 ghost use Rattle.asl_rules.specs.private.HoldsBits.{holds_bits};
-ghost use Rattle.asl_rules.specs.private.TypedMeaning.{act_node, stores, value_at as held};
-ghost use Rattle.asl_rules.specs.runs.StatementForms.{assignment, return_value};
+ghost use Rattle.asl_rules.specs.private.TypedMeaning.{act_node, acts_of, in_bare, stores, value_at as held};
+ghost use Rattle.asl_rules.specs.runs.StatementForms.{assignment, branch, return_value, scope};
 ghost use Rattle.asl_rules.specs.runs.Trees.{Declare, into_slices, tree_type};
 ghost use Rattle.asl_rules.specs.types.Views.{adopted};
 ghost use Rattle.asl_rules.specs.values.Operators as operators;
 ghost use Rattle.asl_rules.specs.values.Values.{Value as Seen, bits_with};
-ghost use Rattle.asl_tree.specs.Acts.{act_of, all_places, place_of, simple_of, step_of, taken_of};
+ghost use Rattle.asl_tree.specs.Acts.{act_of, all_acts, all_places, place_of, simple_of, step_of, taken_of};
 ghost use Rattle.asl_tree.specs.View.{all_trees, tree_of};
 ghost use Rattle.asl_tree.specs.private.Room.{FitsAct, declared, names_taken};
 ghost use Rattle.asl_tree.specs.declared.act.TreeFunc.{TreeFunc};
@@ -21,7 +22,7 @@ ghost use Rattle.asl_branches.specs.Meets.{SameBut, SameRound};
 ghost use Rattle.asl_branches.specs.View.{core_of, exit_of, height_of, program_of, room_of};
 ghost use Rattle.asl_run.specs.private.AtOnce.{Did, Executed, Puts, PutsPart, Sets, TakesNothing, WithPart, did, found};
 
-use crate::at_once::{AtOnce, LEVELS, Reach, cut_at, evaluated};
+use crate::at_once::{AtOnce, LEVELS, Reach, calls_own, cut_at, evaluated};
 use crate::bits::{Cut, has_fields};
 use crate::places::value_at;
 use asl_branches::frames::Frames;
@@ -384,11 +385,89 @@ fn simple(run: &mut Run, here: Entered, s: &Simple) -> Option<Exit>
     ensures height { height_of run.new ≤ declared (simple_of s.now) + height_of run.old }
 {
     match s {
-        Simple::Assign(_, targets, e) => normal(assign_one(run, here, targets.as_slice(), e)),
         Simple::Declare(_, ty, taken, e) => normal(declare(run, here, ty, taken, e)),
+        // any other declares nothing
+        _ => staying(run, here, s),
+    }
+}
+
+/// A statement that declares nothing: how it ended, where it was executed.
+fn staying(run: &mut Run, here: Entered, s: &Simple) -> Option<Exit>
+    ensures meets { (fs : List TreeFunc) → Executed (option_map exit_of result) fs here.depth (act_node (program_of fs) (simple_of s.now)) run.old here.steps run.new }
+    ensures keeps { SameRound run.old run.new }
+    ensures height { height_of run.new ≡ height_of run.old }
+{
+    match s {
+        Simple::Assign(_, targets, e) => normal(assign_one(run, here, targets.as_slice(), e)),
         Simple::Return(_, Some(e)) => returned(run, here, e),
         // any form may be left to its node
         _ => None,
+    }
+}
+
+// ---- `if`
+
+/// A list in a scope of its own, of no statement or of one that declares nothing: how it ended, where it was executed.
+fn scoped(run: &mut Run, here: Entered, list: &[Act]) -> Option<Exit>
+    ensures meets { (fs : List TreeFunc) → Executed (option_map exit_of result) fs here.depth (scope in_bare (acts_of (all_acts list.now))) run.old here.steps run.new }
+    ensures keeps { SameRound run.old run.new }
+    ensures height { height_of run.new ≡ height_of run.old }
+{
+    if list.is_empty() {
+        run.steps = here.steps;
+        return Some(Exit::Normal);
+    }
+    if list.len() != 1 || here.steps == 0 || here.depth == 0 {
+        return None;
+    }
+    match &list[0] {
+        Act::Simple(s) => staying(
+            run,
+            Entered {
+                alloc: here.alloc,
+                steps: here.steps - 1,
+                depth: here.depth - 1,
+            },
+            s,
+        ),
+        // any form may be left to its node
+        _ => None,
+    }
+}
+
+/// An `if` without `elsif`: how it ended, where it was executed.
+fn branched(run: &mut Run, here: Entered, e: &Tree, first: &[Act], last: &[Act]) -> Option<Exit>
+    ensures meets { (fs : List TreeFunc) (at : At) → Executed (option_map exit_of result) fs here.depth (branch in_bare at (tree_of e.now) (acts_of (all_acts first.now)) (scope in_bare (acts_of (all_acts last.now)))) run.old here.steps run.new }
+    ensures keeps { SameRound run.old run.new }
+    ensures height { height_of run.new ≡ height_of run.old }
+{
+    let mut left = here.steps;
+    match evaluated(here.alloc, run, &mut left, here.depth, e) {
+        AtOnce::Truth(holds) => {
+            let behind = Entered {
+                alloc: here.alloc,
+                steps: left,
+                depth: here.depth,
+            };
+            if holds {
+                scoped(run, behind, first)
+            } else {
+                scoped(run, behind, last)
+            }
+        }
+        AtOnce::Integer(_) => None,
+        AtOnce::Bits(_) => None,
+        AtOnce::Neither => None,
+    }
+}
+
+/// Whether a list may be executed at once. Where it isn't, the condition before it need not be evaluated twice.
+fn is_short(list: &[Act]) -> bool {
+    match list {
+        [] => true,
+        [Act::Simple(Simple::Assign(_, _, e))] => !calls_own(e),
+        [Act::Simple(Simple::Return(_, Some(e)))] => !calls_own(e),
+        _ => false,
     }
 }
 
@@ -413,6 +492,18 @@ pub fn executed(alloc: Global, run: &mut Run, depth: u32, s: &Act) -> Option<Exi
             },
             s,
         ),
+        Act::If(_, e, first, others, last) => {
+            let (first, last) = (first.as_slice(), last.as_slice());
+            if !others.is_empty() || !is_short(first) || !is_short(last) {
+                return None;
+            }
+            let here = Entered {
+                alloc,
+                steps: steps - 1,
+                depth: depth - 1,
+            };
+            branched(run, here, e, first, last)
+        }
         // any form may be left to its node
         _ => None,
     }

@@ -425,7 +425,7 @@ fn operand(run: &Run, left: &mut u64, reach: Reach, e: &Tree) -> AtOnce
 }
 
 /// Whether an expression is a call of a subprogram of the program, which is never evaluated at once.
-fn calls_own(e: &Tree) -> bool {
+pub fn calls_own(e: &Tree) -> bool {
     match e {
         Tree::Call(_, Callee::Own(_), _, _, _) => true,
         // any other may be tried
