@@ -4,10 +4,10 @@ use Rattle.asl_syn.specs.declared.token.Span.{Span}
 use Rattle.asl_syn.specs.declared.code.DynCode.TheVariants.{D12, D13}
 use Rattle.asl_rules.specs.runs.Cuts as cut
 use Rattle.asl_rules.specs.runs.Cuts.{cuts}
-use Rattle.asl_rules.specs.runs.Plans.{Meter, Outcome, Done, Halt, Faulted, enter, run}
+use Rattle.asl_rules.specs.runs.Plans.{Meter, Outcome, Done, Halt, Faulted, Good, enter, run}
 use Rattle.asl_rules.specs.declared.slot.Slot.{Slot}
 use Rattle.asl_rules.specs.runs.Pures.{known}
-use Rattle.asl_rules.specs.runs.Trees.{Tree, Act, Note, Read, tree_at, act_at}
+use Rattle.asl_rules.specs.runs.Trees.{Constant, Tree, Act, Note, Read, tree_at, act_at}
 use Rattle.asl_rules.specs.private.TypedMeaning.{BareCore, tree_node, act_node, value_at}
 use Rattle.asl_rules.specs.values.Values as rules
 use Rattle.asl_tree.specs.Acts.{act_of, all_acts}
@@ -82,6 +82,14 @@ read_entered fs d n slot r c h h1 deep has is given =
     expr_entered fs d (Read n slot) r c c h h1 deep has
     (subst (λ m. Meets value_of r c m (run (meaning_of fs (d - 1)) (tree_node (program_of fs) (Read n slot) c) (record h { steps = h.steps - 1 })) (cuts (meaning_of fs (d - 1)) (cutting_of fs (d - 1)) (tree_node (program_of fs) (Read n slot) c) (record h { steps = h.steps - 1 })))
     (sym is) (at_once_meets value_of fs (d - 1) r (known n.span (value_at slot c)) c (record h { steps = h.steps - 1 }) given))
+
+-- a literal or a label gives its value, or memory is wanting
+pub constant_entered : (fs : List TreeFunc) (d : ℕ) (n : Note) (x : rules.Value) (r : Result Value Stopped) (c : BareCore) (h h1 : Meter) → 0 < d → 0 < h.steps → h1 ≡ record h { steps = h.steps - 1 } → Is value_of r (Good x) →
+    Meets value_of r c h1 ((meaning_of fs d).expr (Constant n x) c h) ((cutting_of fs d).expr (Constant n x) c h)
+constant_entered fs d n x r c h h1 deep has is given =
+    expr_entered fs d (Constant n x) r c c h h1 deep has
+    (subst (λ m. Meets value_of r c m (run (meaning_of fs (d - 1)) (tree_node (program_of fs) (Constant n x) c) (record h { steps = h.steps - 1 })) (cuts (meaning_of fs (d - 1)) (cutting_of fs (d - 1)) (tree_node (program_of fs) (Constant n x) c) (record h { steps = h.steps - 1 })))
+    (sym is) (at_once_meets value_of fs (d - 1) r (Good x) c (record h { steps = h.steps - 1 }) given))
 
 -- what an expression gives once it is entered
 pub expr_done : (fs : List TreeFunc) (d : ℕ) (e : Tree) (x : rules.Value) (c c1 : BareCore) (h h1 : Meter) → 0 < d → 0 < h.steps →

@@ -3,7 +3,7 @@
 ghost use Rattle.std.specs.Prelude.{◌≡◌, ℕ, List, Option, None, Some};
 ghost use Rattle.asl_rules.specs.runs.StatementForms as forms;
 ghost use Rattle.asl_rules.specs.private.TypedMeaning.{acts_of};
-ghost use Rattle.asl_rules.specs.runs.Trees.{Note, Read};
+ghost use Rattle.asl_rules.specs.runs.Trees.{Constant, Note, Read};
 ghost use Rattle.asl_tree.specs.Acts.{act_of, all_acts};
 ghost use Rattle.asl_tree.specs.private.Room.{FitsAct, FitsList};
 ghost use Rattle.asl_value.specs.View.{value_of};
@@ -25,7 +25,7 @@ use asl_syn::code::DynCode;
 use asl_syn::token::Span;
 use asl_tree::act::Act;
 use asl_tree::tree::Tree;
-use asl_value::{Value, plain_bits};
+use asl_value::{Value, copy, plain_bits};
 use sqlite_items::Items;
 
 /// The value of an expression.
@@ -35,6 +35,9 @@ pub fn eval<K: Sink>(here: Setting, run: &mut Run, sink: &mut K, e: &Tree) -> Re
 {
     if let Tree::Read(note, slot) = e {
         return enter_read(here, run, note.span, *slot);
+    }
+    if let Tree::Constant(note, x) = e {
+        return enter_constant(here, run, note.span, x);
     }
     let mut left = run.steps;
     match evaluated(here.alloc, run, &mut left, here.depth, e) {
@@ -70,6 +73,24 @@ fn enter_read(here: Setting, run: &mut Run, span: Span, slot: Slot) -> Result<Va
     }
     run.steps -= 1;
     read(run, span, slot)
+}
+
+/// The value of a literal or a label whose node is entered.
+#[tactic(auto, using(crate::proofs::Entries::expr_stepless, crate::proofs::Entries::expr_deep, crate::proofs::Entries::constant_entered))]
+fn enter_constant(here: Setting, run: &mut Run, span: Span, x: &Value) -> Result<Value, Stop>
+    ensures { (note : Note) (told : Option (List ℕ)) (faults : ℕ) (full : Option ℕ) → note.span ≡ span → Answers (Some 0) value_of result
+        ((meaning_of here.entry.funcs.now here.entry.depth).expr (Constant note (value_of x.now)) (core_of run.old) (meter_of run.old told))
+        ((cutting_of here.entry.funcs.now here.entry.depth).expr (Constant note (value_of x.now)) (core_of run.old) (meter_of run.old told))
+        (record { run = run.old; told = told; faults = faults; full = full }) (record { run = run.new; told = told; faults = faults; full = full }) }
+{
+    if run.steps == 0 {
+        return Err(Stop::Fault(DynCode::D13, span));
+    }
+    if here.depth == 0 {
+        return Err(Stop::Fault(DynCode::D12, span));
+    }
+    run.steps -= 1;
+    Ok(copy(x)?)
 }
 
 /// The value of an expression whose node is entered.
