@@ -493,7 +493,8 @@ pub fn executed(alloc: Global, run: &mut Run, depth: u32, s: &Act) -> Option<Exi
             s,
         ),
         Act::If(_, e, first, others, last) => {
-            let (first, last) = (first.as_slice(), last.as_slice());
+            let first = first.as_slice();
+            let last = last.as_slice();
             if !others.is_empty() || !is_short(first) || !is_short(last) {
                 return None;
             }
