@@ -222,7 +222,11 @@ const INCLUDED: &[(Parts, Parts, bool)] = &[
     (Parts::Ints(&[(1, 5)]), Parts::HalfTo(5), false),
     (Parts::HalfTo(5), Parts::Ints(&[(0, 5)]), true),
     (Parts::HalfTo(5), Parts::Ints(&[(1, 5)]), false),
-    (Parts::HalfTo(5), Parts::Ints(&[(i128::MIN, i128::MAX)]), true),
+    (
+        Parts::HalfTo(5),
+        Parts::Ints(&[(i128::MIN, i128::MAX)]),
+        true,
+    ),
     (Parts::HalfTo(5), Parts::HalfTo(6), true),
     (Parts::HalfTo(5), Parts::HalfTo(4), false),
     (Parts::HalfOf(5, 1), Parts::HalfOf(5, 0), true),
