@@ -2,6 +2,7 @@
 pub mod WorthForms
 pub mod WidthForms
 pub mod Ratios
+pub mod Known
 pub mod WidthsHeld
 pub mod WidthsWorth
 pub mod WidthAtoms

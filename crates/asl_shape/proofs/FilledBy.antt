@@ -10,7 +10,7 @@ use Rattle.asl_rules.specs.types.Shapes.{PartShape, BitfieldShape, TypeShape, Ty
 use Rattle.asl_rules.specs.types.Types.{View}
 use Rattle.asl_rules.specs.values.Values.{Value, int, bool, bits_with, label, record_with, exception_with, tuple_with, array_with}
 use Rattle.asl_rules.specs.types.Written as rules
-use Rattle.asl_rules.specs.types.Written.{Sized, SizedRanges, SizedView, SizedParts, all_ranges, part_range, all_bitfields, bitfield_at, filled, parts_filled, with_range, with_bitfield}
+use Rattle.asl_rules.specs.types.Written.{Sized, SizedRanges, SizedView, SizedParts, all_ranges, all_bitfields, filled, parts_filled, with_range, with_bitfield}
 use Rattle.asl_shape.specs.private.Numbers.{range}
 use Rattle.asl_shape.specs.private.Filled as f
 use Rattle.asl_shape.specs.private.Filled.{Filled, Fills, sized_as, sized_parts}

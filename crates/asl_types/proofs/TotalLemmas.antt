@@ -26,7 +26,7 @@ use Rattle.asl_rules.specs.expressions.Slicing.{no_width}
 use Rattle.asl_rules.specs.types.Widths as rules
 use Rattle.asl_poly.specs.WidthLimits.{heaviest, most_atoms, finest}
 use Rattle.asl_rules.proofs.basics.Tests.{both}
-use Rattle.asl_rules.proofs.widths.Totals.{Fits, Counts, Step, least_most, step_plus, step_minus, begun}
+use Rattle.asl_rules.proofs.widths.Totals.{Fits, Counts, Step, least_most, step_plus, step_minus, begun, number_weight}
 use Rattle.asl_types.specs.declared.totals.within.Within.{Within}
 use Rattle.asl_types.specs.declared.totals.Sign.{Sign}
 use Rattle.asl_types.specs.declared.totals.Sign.TheVariants.{Plus, Minus}
@@ -291,14 +291,6 @@ past_stays x sign p i h =
     past_by (adds sign x p) (s.some h.positive) (λ f. still_past x h (s.back h.positive f))
 
 -- ---- numbers
-
-number_weight : (n : ℕ) → weight (constant_map (pos n)).terms ≡ n
-unfolding constant_map
-number_weight n = by (is_zero (pos n)) refl
-  where
-    by : (b : Bool) → is_zero (pos n) ≡ b → weight (if is_zero (pos n) then [] else constant_term (pos n) ∷ []) ≡ n
-    by true e = ap (λ c. weight (if c then [] else constant_term (pos n) ∷ [])) e ∙ sym (grind (arith, nat_tests, e))
-    by false e = ap (λ c. weight (if c then [] else constant_term (pos n) ∷ [])) e ∙ omega arith
 
 number_atoms : (n : ℕ) (seen : List ℕ) → note_terms seen (constant_map (pos n)).terms ≡ seen
 unfolding constant_map

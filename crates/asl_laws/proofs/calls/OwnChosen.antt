@@ -3,7 +3,7 @@ use Rattle.std.proofs.Common.{◌≡◌, ℕ, suc, ◌+◌, ℤ, Bool, true, fal
 use Rattle.std.specs.Prelude.{slice_get}
 use Rattle.std.specs.Str.{bytes_eq}
 use Rattle.asl_syn.specs.declared.token.Span.{Span}
-use Rattle.asl_syn.specs.declared.code.StaticCode.TheVariants.{T02, T04, T05, T19}
+use Rattle.asl_syn.specs.declared.code.StaticCode.TheVariants.{T02, T04, T05}
 use Rattle.asl_syn.specs.declared.tree.Decl.{Decl}
 use Rattle.asl_syn.specs.declared.tree.Expr.{Expr}
 use Rattle.asl_syn.specs.declared.tree.Formal.{Formal}
@@ -46,6 +46,7 @@ use Rattle.asl_laws.proofs.calls.OwnParams.{none_counted}
 use Rattle.asl_laws.proofs.calls.OwnKinds.{kind_is}
 use Rattle.asl_rules.specs.private.WellFormed.{ShapedParts}
 use Rattle.asl_rules.proofs.values.KindsByNames.{all_by_names}
+use Rattle.asl_rules.proofs.widths.Known.{integer_of_width}
 
 -- ---- a judged head, taken apart
 
@@ -104,15 +105,9 @@ head_is t base f h e =
 -- ---- what is outside bodies
 
 known_number : (span : Span) (v : Option Value) (p : Polynomial) → width_of_known span v ≡ Ok p → (y : ℤ) × ((v ≡ Some (int y)) × (constant_map y ≡ p))
-known_number span (Some (int y)) p h = (y, (refl, ok_ok (constant_map y) p (then_ok _ (Ok (constant_map y)) p h).then))
-known_number span (Some (bool b)) p h = err_ok (fault_of T19 span) p h
-known_number span (Some (bits_with bs u)) p h = err_ok (fault_of T19 span) p h
-known_number span (Some (label n l)) p h = err_ok (fault_of T19 span) p h
-known_number span (Some (record_with n xs)) p h = err_ok (fault_of T19 span) p h
-known_number span (Some (exception_with own supers n xs)) p h = err_ok (fault_of T19 span) p h
-known_number span (Some (tuple_with xs)) p h = err_ok (fault_of T19 span) p h
-known_number span (Some (array_with k xs)) p h = err_ok (fault_of T19 span) p h
-known_number span None p h = err_ok (fault_of T19 span) p h
+known_number span v p h =
+    let w = integer_of_width span v p h in
+    (w.number, (w.is, ok_ok (constant_map w.number) p (then_ok _ (Ok (constant_map w.number)) p w.made).then))
 
 outside_by : (base : List Entry) (c : Core) → GlobalsMatch base c.globals → (span : Span) (name : List ℕ) (p : Polynomial) (o : Option Standing) → standing_of name base ≡ o → width_of_standing span o ≡ Ok p → option_map constant_map (outside c name) ≡ Some p
 outside_by base c m span name p (Some (Stored s)) e h =

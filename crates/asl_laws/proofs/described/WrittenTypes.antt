@@ -2,7 +2,7 @@
 use Rattle.std.proofs.Common.{◌≡◌, ℕ, ◌==◌, ℤ, Bool, true, false, cond, List, [], ◌∷◌, Option, Some, None, option_map, Ok, refl, sym, ap, ◌∙◌, subst}
 use Rattle.std.specs.Prelude.{option_and_then, if◌then◌else◌}
 use Rattle.asl_syn.specs.declared.token.Span.{Span}
-use Rattle.asl_syn.specs.declared.code.StaticCode.TheVariants.{T02, T05, T19}
+use Rattle.asl_syn.specs.declared.code.StaticCode.TheVariants.{T02, T05}
 use Rattle.asl_syn.specs.declared.tree.Expr.{Expr}
 use Rattle.asl_syn.specs.declared.tree.TypeExpr.{TypeExpr}
 use Rattle.asl_syn.specs.declared.tree.Decl.{Decl}
@@ -13,7 +13,7 @@ use Rattle.asl_rules.specs.Faults.{need, fault_of}
 use Rattle.asl_rules.specs.Tests.{Tests, IsRight}
 use Rattle.asl_rules.specs.types.Types.{is_integer}
 use Rattle.asl_rules.specs.types.Closed.{Closed, floor, width_at, closed}
-use Rattle.asl_rules.specs.values.Values.{Value, int, bool, bits_with, label, record_with, exception_with, tuple_with, array_with}
+use Rattle.asl_rules.specs.values.Values.{Value, int}
 use Rattle.asl_rules.specs.declarations.Names.{all_declared}
 use Rattle.asl_rules.specs.declarations.Scopes.{Entry, Standing, Stored, Subprogram, TypeName, Label, Storage, standing_of, storage_in, known_value}
 use Rattle.asl_rules.specs.types.Widths.{width_of_known, width_of_counted, width_of_standing, number_of_known, number_of_counted, number_of_standing}
@@ -30,7 +30,7 @@ use Rattle.asl_rules.specs.declarations.Programs.{Environment, environment}
 use Rattle.asl_rules.specs.types.Written.{Sized, sized, filled, type_span}
 use Rattle.asl_rules.specs.runs.Evaluation.{types_of, sized_at, initial_globals}
 use Rattle.asl_laws.specs.Described.{fixed_storage, known_numbers, written_type, whole_value, whole_values, sized_known}
-use Rattle.asl_rules.proofs.basics.Inversions.{ok_ok, err_ok, then_ok}
+use Rattle.asl_rules.proofs.basics.Inversions.{err_ok, then_ok}
 use Rattle.asl_rules.proofs.basics.Tests.{none_some, some_none}
 use Rattle.asl_rules.proofs.values.Rounded.{none_of_whole, width_at_is}
 use Rattle.asl_rules.proofs.widths.Counting.{stored_of}
@@ -45,6 +45,7 @@ use Rattle.asl_laws.proofs.widths.OutsideWidths.{NoneCounted, outside_whole}
 use Rattle.asl_laws.proofs.widths.WholeWidths.{number_width, width_value}
 use Rattle.asl_rules.proofs.verdict.Distinct.{Distinct, In}
 use Rattle.asl_rules.proofs.verdict.Settled.{Brought}
+use Rattle.asl_rules.proofs.widths.Known.{integer_of_width, integer_of_number}
 use Rattle.asl_laws.proofs.widths.PresentNumbers.{NumbersAgree}
 use Rattle.asl_laws.proofs.described.FirstFilled.{Begins, filled_begins}
 use Rattle.asl_laws.proofs.described.Forms.{formed}
@@ -70,29 +71,14 @@ IsFixed o p = (o ≡ Some (width_at p no_atoms)) × HasWidth p no_atoms (width_a
 
 known_width : (span : Span) (s : Storage) (p : Polynomial) (v : Option Value) → known_value s ≡ v → width_of_known span v ≡ Ok p →
     IsFixed (fixed_storage s) p
-known_width span s p (Some (int y)) e h =
-    let w = number_width no_atoms span y p h in
-    let is : width_at p no_atoms ≡ y = width_at_is no_atoms p y (number_held span y p h) w in
-    (fixed_by s.is_mutable s.initial y e ∙ ap Some (sym is), subst (HasWidth p no_atoms) (sym is) w)
-known_width span s p (Some (bool b)) e h = err_ok (fault_of T19 span) p h
-known_width span s p (Some (bits_with bs u)) e h = err_ok (fault_of T19 span) p h
-known_width span s p (Some (label n l)) e h = err_ok (fault_of T19 span) p h
-known_width span s p (Some (record_with n xs)) e h = err_ok (fault_of T19 span) p h
-known_width span s p (Some (exception_with own supers n xs)) e h = err_ok (fault_of T19 span) p h
-known_width span s p (Some (tuple_with xs)) e h = err_ok (fault_of T19 span) p h
-known_width span s p (Some (array_with k xs)) e h = err_ok (fault_of T19 span) p h
-known_width span s p None e h = err_ok (fault_of T19 span) p h
+known_width span s p v e h =
+    let k = integer_of_width span v p h in
+    let w = number_width no_atoms span k.number p k.made in
+    let is : width_at p no_atoms ≡ k.number = width_at_is no_atoms p k.number (number_held span k.number p k.made) w in
+    (fixed_by s.is_mutable s.initial k.number (e ∙ k.is) ∙ ap Some (sym is), subst (HasWidth p no_atoms) (sym is) w)
 
 known_number : (span : Span) (s : Storage) (z : ℤ) (v : Option Value) → known_value s ≡ v → number_of_known span v ≡ Ok z → fixed_storage s ≡ Some z
-known_number span s z (Some (int y)) e h = fixed_by s.is_mutable s.initial y e ∙ ap Some (ok_ok y z h)
-known_number span s z (Some (bool b)) e h = err_ok (fault_of T19 span) z h
-known_number span s z (Some (bits_with bs u)) e h = err_ok (fault_of T19 span) z h
-known_number span s z (Some (label n l)) e h = err_ok (fault_of T19 span) z h
-known_number span s z (Some (record_with n xs)) e h = err_ok (fault_of T19 span) z h
-known_number span s z (Some (exception_with own supers n xs)) e h = err_ok (fault_of T19 span) z h
-known_number span s z (Some (tuple_with xs)) e h = err_ok (fault_of T19 span) z h
-known_number span s z (Some (array_with k xs)) e h = err_ok (fault_of T19 span) z h
-known_number span s z None e h = err_ok (fault_of T19 span) z h
+known_number span s z v e h = fixed_by s.is_mutable s.initial z (e ∙ integer_of_number span v z h)
 
 module _ (t : Tests) (ds : List Decl) (g : Outside t ds) where
   abbrev names : List Entry

@@ -39,7 +39,7 @@ use Rattle.asl_rules.specs.expressions.Typing.{Found, Typed, Width, Number, type
 use Rattle.asl_cons.specs.Arithmetic.{fits}
 use Rattle.asl_rules.specs.expressions.Exprs as rules
 use Rattle.asl_rules.specs.expressions.Exprs.{literal_type, found, typed, width, typed_rule, width_rule, number_rule, name_read, negative_tree, combined_tree, divided_tree, name_of_standing, operation_rule, operation_rule_of_two, span_of}
-use Rattle.asl_rules.specs.values.Values.{Value, int, bool, bits_with, label, record_with, exception_with, tuple_with, array_with}
+use Rattle.asl_rules.specs.values.Values.{Value, int}
 use Rattle.asl_rules.specs.runs.States.{Core}
 use Rattle.asl_rules.specs.private.Agreement.{types_in, IsKnown, CountsAs}
 use Rattle.asl_rules.specs.runs.Plans.{Faulted, Eval, Good, Bad}
@@ -63,6 +63,7 @@ use Rattle.asl_rules.proofs.scopes.Lookups.{Finds, finds}
 use Rattle.asl_rules.proofs.scopes.Naming.{WellNamed}
 use Rattle.asl_rules.proofs.scopes.Slots.{has_names, slot_is}
 use Rattle.asl_rules.proofs.basics.Opening.{opened, unrolled, in_class_is, finish_is}
+use Rattle.asl_rules.proofs.widths.Known.{integer_of_width}
 use Rattle.asl_laws.proofs.runs.Several.{one}
 use Rattle.asl_laws.proofs.expressions.Claims.{Here, Asked, of_width, of_number, of_known, of_divisor, tree_asked, Answers, IsWidth, GivesAsked, At}
 use Rattle.asl_laws.proofs.expressions.TreePlans.{Same, operand_also}
@@ -91,16 +92,10 @@ is_known None y z k e = absurd cc
 
 known_width : (av : Assignment) (span : Span) (o : Option Value) (p : Polynomial) (y : ℤ) → ((z : ℤ) → o ≡ Some (int z) → y ≡ z) →
     width_of_known span o ≡ Ok p → IsWidth av p (int y)
-known_width av span (Some (int z)) p y k h =
-    subst (λ v. IsWidth av p (int v)) (sym (k z refl)) (width_value av p z (number_held span z p h) (number_width av span z p h))
-known_width av span (Some (bool b)) p y k h = err_ok (fault_of T19 span) p h
-known_width av span (Some (bits_with bs v)) p y k h = err_ok (fault_of T19 span) p h
-known_width av span (Some (label n l)) p y k h = err_ok (fault_of T19 span) p h
-known_width av span (Some (record_with n xs)) p y k h = err_ok (fault_of T19 span) p h
-known_width av span (Some (exception_with own supers n xs)) p y k h = err_ok (fault_of T19 span) p h
-known_width av span (Some (tuple_with xs)) p y k h = err_ok (fault_of T19 span) p h
-known_width av span (Some (array_with e xs)) p y k h = err_ok (fault_of T19 span) p h
-known_width av span None p y k h = err_ok (fault_of T19 span) p h
+known_width av span o p y k h =
+    let w = integer_of_width span o p h in
+    subst (λ v. IsWidth av p (int v)) (sym (k w.number w.is))
+    (width_value av p w.number (number_held span w.number p w.made) (number_width av span w.number p w.made))
 
 -- the integer of a name in a width, and in an end that names no atom
 pub counted_width : (av : Assignment) (span : Span) (o : Option Counted) (v : Option Value) (p : Polynomial) (y : ℤ) →
@@ -435,26 +430,24 @@ module _ (tests : Tests) (right : IsRight tests) (ds : List Decl) (base : List E
         is = ok_ok (width_as v.value (divided_tree span t.value.tree (found tests f).span k.value)) W v.then;
       }
 
-  width_sum : (H : Here) (W : Width) (span : Span) (e f : Expr) (c : Core) → Combined H span Sum e f W → At tests base subs loose H c →
-      Widened H (of_width W) (ex.Binary span binary.Add e f) c
-  width_sum H W span e f c m a =
-      width_made H W (ex.Binary span binary.Add e f) c m.poly (combined_tree span Sum m.left.tree m.right_one.tree) m.is refl
-      (combined_widths H span Sum e f (of_width m.left) (of_width m.right_one)
-      m.left.poly m.right_one.poly m.poly c m.is_poly m.is_left m.is_right (λ x g. g) (λ x g. g) a)
+  -- a node of an operator that combines evaluates both operands, as its tree does
+  combined_node : (H : Here) (P : Value → Type 0) (span : Span) (o : Combination) (e f : Expr) (T : Ty) (k : Effect) (t u : Tree) (c : Core) →
+      Both H P (Eval e c (λ x c1. behind f c1 (binary_value tests.limit span (operator o) x)))
+      (Eval t (erased c) (λ x c1. behind u c1 (binary_value tests.limit span (operator o) x))) →
+      Both H P (expr_node (env tests right ds base subs loose funcs w) (ex.Binary span (operator o) e f) c)
+      (tree_node (program tests right ds base subs loose funcs w)
+      (tree.Binary (record { span = span; ty = T; effect = k }) (operator o) t u) (erased c))
+  combined_node H P span Sum e f T k t u c d = d
+  combined_node H P span Difference e f T k t u c d = d
+  combined_node H P span Product e f T k t u c d = d
 
-  width_less : (H : Here) (W : Width) (span : Span) (e f : Expr) (c : Core) → Combined H span Difference e f W →
-      At tests base subs loose H c → Widened H (of_width W) (ex.Binary span binary.Subtract e f) c
-  width_less H W span e f c m a =
-      width_made H W (ex.Binary span binary.Subtract e f) c m.poly (combined_tree span Difference m.left.tree m.right_one.tree) m.is refl
-      (combined_widths H span Difference e f (of_width m.left) (of_width m.right_one)
-      m.left.poly m.right_one.poly m.poly c m.is_poly m.is_left m.is_right (λ x g. g) (λ x g. g) a)
-
-  width_product : (H : Here) (W : Width) (span : Span) (e f : Expr) (c : Core) → Combined H span Product e f W →
-      At tests base subs loose H c → Widened H (of_width W) (ex.Binary span binary.Multiply e f) c
-  width_product H W span e f c m a =
-      width_made H W (ex.Binary span binary.Multiply e f) c m.poly (combined_tree span Product m.left.tree m.right_one.tree) m.is refl
-      (combined_widths H span Product e f (of_width m.left) (of_width m.right_one)
-      m.left.poly m.right_one.poly m.poly c m.is_poly m.is_left m.is_right (λ x g. g) (λ x g. g) a)
+  width_combined_node : (H : Here) (W : Width) (span : Span) (o : Combination) (e f : Expr) (c : Core) → Combined H span o e f W →
+      At tests base subs loose H c → Widened H (of_width W) (ex.Binary span (operator o) e f) c
+  width_combined_node H W span o e f c m a =
+      width_made H W (ex.Binary span (operator o) e f) c m.poly (combined_tree span o m.left.tree m.right_one.tree) m.is refl
+      (combined_node H (IsWidth H.present m.poly) span o e f (width_note span).ty (width_note span).effect m.left.tree m.right_one.tree c
+      (combined_widths H span o e f (of_width m.left) (of_width m.right_one)
+      m.left.poly m.right_one.poly m.poly c m.is_poly m.is_left m.is_right (λ x g. g) (λ x g. g) a))
 
   width_quotient : (H : Here) (W : Width) (span : Span) (e f : Expr) (c : Core) → Divided H span e f W → At tests base subs loose H c →
       Widened H (of_width W) (ex.Binary span binary.DivideExact e f) c
@@ -467,9 +460,9 @@ module _ (tests : Tests) (right : IsRight tests) (ds : List Decl) (base : List E
   width_two : (H : Here) (W : Width) (span : Span) (o : BinaryOperator) (e f : Expr) (c : Core) →
       rules.width_of span (reading_of_two (joining o) (found tests e) (found tests f)) H.scope ≡ Ok W → At tests base subs loose H c →
       Widened H (of_width W) (ex.Binary span o e f) c
-  width_two H W span binary.Add e f c h a = width_sum H W span e f c (combined_of H W span Sum e f h) a
-  width_two H W span binary.Subtract e f c h a = width_less H W span e f c (combined_of H W span Difference e f h) a
-  width_two H W span binary.Multiply e f c h a = width_product H W span e f c (combined_of H W span Product e f h) a
+  width_two H W span binary.Add e f c h a = width_combined_node H W span Sum e f c (combined_of H W span Sum e f h) a
+  width_two H W span binary.Subtract e f c h a = width_combined_node H W span Difference e f c (combined_of H W span Difference e f h) a
+  width_two H W span binary.Multiply e f c h a = width_combined_node H W span Product e f c (combined_of H W span Product e f h) a
   width_two H W span binary.DivideExact e f c h a = width_quotient H W span e f c (divided_of H W span e f h) a
   -- no other operator has a place in a width
   width_two H W span o e f c h a = err_ok (fault_of T19 span) W h
@@ -567,21 +560,18 @@ module _ (tests : Tests) (right : IsRight tests) (ds : List Decl) (base : List E
       (divided_same H (Is v.value) span e f (of_number t.value) (tree.Int (width_note at) k.value) t.value.number k.value c t.first (literal_divisor H (Is v.value) f k.value d) (above_0 f k.value (is_written tests f k.value d))
       (λ x g. (g, λ n. ap int (quotient_is span t.value.number v.value k.value v.first))) a)
 
+  number_combined_node : (H : Here) (N : Number) (span : Span) (o : Combination) (e f : Expr) (c : Core) → CombinedNumbers H span o e f N →
+      At tests base subs loose H c → Widened H (of_number N) (ex.Binary span (operator o) e f) c
+  number_combined_node H N span o e f c m a =
+      number_made H N (ex.Binary span (operator o) e f) c m.number (combined_tree span o m.left.tree m.right_one.tree) m.is refl
+      (combined_node H (Is m.number) span o e f (width_note span).ty (width_note span).effect m.left.tree m.right_one.tree c (combined_numbers H span o e f N m c a))
+
   number_two : (H : Here) (N : Number) (span : Span) (o : BinaryOperator) (e f : Expr) (c : Core) →
       rules.number_of span (reading_of_two (joining o) (found tests e) (found tests f)) H.scope ≡ Ok N → At tests base subs loose H c →
       Widened H (of_number N) (ex.Binary span o e f) c
-  number_two H N span binary.Add e f c h a =
-      let m = numbers_of H N span Sum e f h in
-      number_made H N (ex.Binary span binary.Add e f) c m.number (combined_tree span Sum m.left.tree m.right_one.tree) m.is refl
-      (combined_numbers H span Sum e f N m c a)
-  number_two H N span binary.Subtract e f c h a =
-      let m = numbers_of H N span Difference e f h in
-      number_made H N (ex.Binary span binary.Subtract e f) c m.number (combined_tree span Difference m.left.tree m.right_one.tree) m.is refl
-      (combined_numbers H span Difference e f N m c a)
-  number_two H N span binary.Multiply e f c h a =
-      let m = numbers_of H N span Product e f h in
-      number_made H N (ex.Binary span binary.Multiply e f) c m.number (combined_tree span Product m.left.tree m.right_one.tree) m.is refl
-      (combined_numbers H span Product e f N m c a)
+  number_two H N span binary.Add e f c h a = number_combined_node H N span Sum e f c (numbers_of H N span Sum e f h) a
+  number_two H N span binary.Subtract e f c h a = number_combined_node H N span Difference e f c (numbers_of H N span Difference e f h) a
+  number_two H N span binary.Multiply e f c h a = number_combined_node H N span Product e f c (numbers_of H N span Product e f h) a
   number_two H N span binary.DivideExact e f c h a = number_quotient H N span e f c h a
   -- no other operator has a place in a number
   number_two H N span o e f c h a = err_ok (fault_of T19 span) N h
@@ -701,29 +691,22 @@ module _ (tests : Tests) (right : IsRight tests) (ds : List Decl) (base : List E
       (divided_widths H span e f (of_known t.left m.left) t.right_one.tree m.left.poly m.poly m.by c m.is_poly m.some_by
       (t.is_left, m.is_left) (typed_divisor H (IsWidth H.present m.poly) f t.right_one m.by t.is_right m.is_by) (λ x g. g) a)
 
+  known_combined : (H : Here) (S : Typed) (W : Width) (span : Span) (o : Combination) (e f : Expr) (c : Core) →
+      BothTyped H S span (operator o) e f → Combined H span o e f W → At tests base subs loose H c →
+      Widened H (of_known S W) (ex.Binary span (operator o) e f) c
+  known_combined H S W span o e f c t m a =
+      known_made H S W (ex.Binary span (operator o) e f) c span t.ty t.effect
+      (λ n. tree.Binary n (operator o) t.left.tree t.right_one.tree) m.poly (combined_tree span o m.left.tree m.right_one.tree) t.is m.is refl
+      (combined_node H (IsWidth H.present m.poly) span o e f t.ty t.effect t.left.tree t.right_one.tree c
+      (combined_widths H span o e f (of_known t.left m.left) (of_known t.right_one m.right_one)
+      m.left.poly m.right_one.poly m.poly c m.is_poly (t.is_left, m.is_left) (t.is_right, m.is_right) (λ x g. g) (λ x g. g) a))
+
   known_two : (H : Here) (S : Typed) (W : Width) (span : Span) (o : BinaryOperator) (e f : Expr) (c : Core) → BothTyped H S span o e f →
       rules.width_of span (reading_of_two (joining o) (found tests e) (found tests f)) H.scope ≡ Ok W → At tests base subs loose H c →
       Widened H (of_known S W) (ex.Binary span o e f) c
-  known_two H S W span binary.Add e f c t h a =
-      let m = combined_of H W span Sum e f h in
-      known_made H S W (ex.Binary span binary.Add e f) c span t.ty t.effect (λ n. tree.Binary n binary.Add t.left.tree t.right_one.tree)
-      m.poly (combined_tree span Sum m.left.tree m.right_one.tree) t.is m.is refl
-      (combined_widths H span Sum e f (of_known t.left m.left) (of_known t.right_one m.right_one)
-      m.left.poly m.right_one.poly m.poly c m.is_poly (t.is_left, m.is_left) (t.is_right, m.is_right) (λ x g. g) (λ x g. g) a)
-  known_two H S W span binary.Subtract e f c t h a =
-      let m = combined_of H W span Difference e f h in
-      known_made H S W (ex.Binary span binary.Subtract e f) c span t.ty t.effect
-      (λ n. tree.Binary n binary.Subtract t.left.tree t.right_one.tree) m.poly (combined_tree span Difference m.left.tree m.right_one.tree)
-      t.is m.is refl
-      (combined_widths H span Difference e f (of_known t.left m.left) (of_known t.right_one m.right_one)
-      m.left.poly m.right_one.poly m.poly c m.is_poly (t.is_left, m.is_left) (t.is_right, m.is_right) (λ x g. g) (λ x g. g) a)
-  known_two H S W span binary.Multiply e f c t h a =
-      let m = combined_of H W span Product e f h in
-      known_made H S W (ex.Binary span binary.Multiply e f) c span t.ty t.effect
-      (λ n. tree.Binary n binary.Multiply t.left.tree t.right_one.tree) m.poly (combined_tree span Product m.left.tree m.right_one.tree)
-      t.is m.is refl
-      (combined_widths H span Product e f (of_known t.left m.left) (of_known t.right_one m.right_one)
-      m.left.poly m.right_one.poly m.poly c m.is_poly (t.is_left, m.is_left) (t.is_right, m.is_right) (λ x g. g) (λ x g. g) a)
+  known_two H S W span binary.Add e f c t h a = known_combined H S W span Sum e f c t (combined_of H W span Sum e f h) a
+  known_two H S W span binary.Subtract e f c t h a = known_combined H S W span Difference e f c t (combined_of H W span Difference e f h) a
+  known_two H S W span binary.Multiply e f c t h a = known_combined H S W span Product e f c t (combined_of H W span Product e f h) a
   known_two H S W span binary.DivideExact e f c t h a = known_quotient H S W span e f c t (divided_of H W span e f h) a
   -- no other operator has a place in a width
   known_two H S W span o e f c t h a = err_ok (fault_of T19 span) W h

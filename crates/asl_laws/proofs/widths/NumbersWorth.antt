@@ -20,7 +20,7 @@ use Rattle.asl_rules.specs.declared.joining.Combination.TheVariants.{Sum, Differ
 use Rattle.asl_rules.specs.Faults.{need, fault_of}
 use Rattle.asl_rules.specs.Tests.{Tests}
 use Rattle.asl_rules.specs.types.Types.{is_integer}
-use Rattle.asl_rules.specs.values.Values.{Value, int, bool, bits_with, label, record_with, exception_with, tuple_with, array_with}
+use Rattle.asl_rules.specs.values.Values.{Value, int}
 use Rattle.asl_rules.specs.declarations.Scopes.{Counted, Scope, Storage, Standing, Stored, Subprogram, TypeName, Label, standing_of, storage_of, storage_in, known_value}
 use Rattle.asl_rules.specs.types.Widths.{held, exact_quotient, number_of_known, number_of_counted, number_of_storage, number_of_standing, number_combined, number_divided}
 use Rattle.asl_rules.specs.expressions.Typing.{Number}
@@ -35,6 +35,7 @@ use Rattle.asl_rules.proofs.widths.WidthsWorth.{some_of_two}
 use Rattle.asl_rules.proofs.widths.WidthForms.{NumberForms, by_number_forms}
 use Rattle.asl_rules.proofs.widths.WorthForms.{worth_roll, worth_of_one, worth_of_operator, worth_of_two, worth_of_quotient, written_divisor}
 use Rattle.asl_rules.proofs.basics.Inversions.{ok_ok, err_ok, then_ok, need_ok, found_ok}
+use Rattle.asl_rules.proofs.widths.Known.{integer_of_number}
 use Rattle.asl_laws.specs.WidthWorth.{HasWhole}
 
 -- two integers combined
@@ -105,15 +106,7 @@ divided_whole span r y z k l w h =
 -- ---- names
 
 pub known_is : (span : Span) (o : Option Value) (x z : ℤ) → ((y : ℤ) → o ≡ Some (int y) → x ≡ y) → number_of_known span o ≡ Ok z → x ≡ z
-known_is span (Some (int y)) x z k h = k y refl ∙ ok_ok y z h
-known_is span (Some (bool b)) x z k h = err_ok (fault_of T19 span) z h
-known_is span (Some (bits_with bs v)) x z k h = err_ok (fault_of T19 span) z h
-known_is span (Some (label n l)) x z k h = err_ok (fault_of T19 span) z h
-known_is span (Some (record_with n xs)) x z k h = err_ok (fault_of T19 span) z h
-known_is span (Some (exception_with own supers n xs)) x z k h = err_ok (fault_of T19 span) z h
-known_is span (Some (tuple_with xs)) x z k h = err_ok (fault_of T19 span) z h
-known_is span (Some (array_with k1 xs)) x z k h = err_ok (fault_of T19 span) z h
-known_is span None x z k h = err_ok (fault_of T19 span) z h
+known_is span o x z k h = k z (integer_of_number span o z h)
 
 whole_name : (x z : ℤ) → x ≡ z → IsWhole z (whole x)
 whole_name x z e = ap (λ y. y *ℤ pos 1) e

@@ -22,7 +22,7 @@ use Rattle.asl_rules.specs.types.Types.{is_integer}
 use Rattle.asl_rules.specs.types.Widths.{width_of_known, width_of_counted, width_of_standing, width_divided}
 use Rattle.asl_cons.specs.Arithmetic.{quotient_fits}
 use Rattle.asl_poly.specs.Poly.{quotient_map}
-use Rattle.asl_rules.specs.values.Values.{Value, int, bool, bits_with, label, record_with, exception_with, tuple_with, array_with}
+use Rattle.asl_rules.specs.values.Values.{Value, int}
 use Rattle.asl_rules.specs.declarations.Scopes.{Counted, Scope, Entry, Standing, Stored, Subprogram, TypeName, Label, Storage, standing_of, known_value}
 use Rattle.asl_rules.specs.expressions.Typing.{Width}
 use Rattle.asl_rules.specs.expressions.Exprs.{width}
@@ -33,6 +33,7 @@ use Rattle.asl_rules.proofs.values.Rounded.{exact_is}
 use Rattle.asl_rules.proofs.widths.WidthForms.{WidthForms, by_width_forms}
 use Rattle.asl_rules.proofs.widths.WidthAtoms.{Good, constant_good, number_alone, difference_alone, combined_alone, divided_alone}
 use Rattle.asl_rules.proofs.widths.WidthsHeld.{number_held, difference_held, combined_held, above_0, divided_held, zero_held}
+use Rattle.asl_rules.proofs.widths.Known.{integer_of_width}
 use Rattle.asl_laws.proofs.scopes.ScopesOver.{value_moved}
 use Rattle.asl_laws.proofs.widths.TypesOver.{Never}
 use Rattle.asl_laws.proofs.widths.WholeWidths.{number_width, combined_width, negated_width, divided_width}
@@ -54,15 +55,7 @@ number_whole span z p h =
     record { number = z; is = number_width no_atoms span z p h; held = number_held span z p h; over = number_alone Never span z p h }
 
 known_whole : (span : Span) (v : Option Value) (p : Polynomial) → width_of_known span v ≡ Ok p → Whole p
-known_whole span (Some (int y)) p h = number_whole span y p h
-known_whole span (Some (bool b)) p h = err_ok (fault_of T19 span) p h
-known_whole span (Some (bits_with bs u)) p h = err_ok (fault_of T19 span) p h
-known_whole span (Some (label n l)) p h = err_ok (fault_of T19 span) p h
-known_whole span (Some (record_with n xs)) p h = err_ok (fault_of T19 span) p h
-known_whole span (Some (exception_with own supers n xs)) p h = err_ok (fault_of T19 span) p h
-known_whole span (Some (tuple_with xs)) p h = err_ok (fault_of T19 span) p h
-known_whole span (Some (array_with k xs)) p h = err_ok (fault_of T19 span) p h
-known_whole span None p h = err_ok (fault_of T19 span) p h
+known_whole span v p h = let w = integer_of_width span v p h in number_whole span w.number p w.made
 
 name_whole : (names : List Entry) → NoneCounted names → (span : Span) (name : List ℕ) (p : Polynomial) (o : Option Standing) →
     standing_of name names ≡ o → width_of_standing span o ≡ Ok p → Whole p

@@ -16,7 +16,7 @@ use Rattle.asl_rules.specs.declared.joining.Combination.TheVariants.{Sum, Differ
 use Rattle.asl_rules.specs.Faults.{◌>>◌, need, fault_of}
 use Rattle.asl_rules.specs.Tests.{Tests}
 use Rattle.asl_rules.specs.types.Types.{is_integer}
-use Rattle.asl_rules.specs.values.Values.{Value, int, bool, bits_with, label, record_with, exception_with, tuple_with, array_with}
+use Rattle.asl_rules.specs.values.Values.{Value, int}
 use Rattle.asl_rules.specs.declarations.Scopes.{Counted, Scope, Standing, Stored, Subprogram, TypeName, Label, standing_of, known_value}
 use Rattle.asl_poly.specs.WidthLimits.{heaviest}
 use Rattle.asl_rules.specs.types.Widths.{weight_of, width_of_number, width_of_known, width_of_counted, width_of_standing, width_difference, width_combined, width_divided}
@@ -27,6 +27,7 @@ use Rattle.asl_rules.specs.types.Alone.{Polynomials, polynomials, polynomial}
 use Rattle.asl_rules.proofs.widths.WorthForms.{worth_roll, worth_of_one, worth_of_operator, worth_of_two, worth_of_quotient, written_divisor}
 use Rattle.asl_rules.proofs.basics.Inversions.{ok_ok, err_ok, then_ok}
 use Rattle.asl_rules.proofs.widths.WidthForms.{WidthForms, by_width_forms}
+use Rattle.asl_rules.proofs.widths.Known.{integer_of_width}
 
 -- what a name stands for in widths
 abbrev pub of_known : Option Value → Option Polynomial
@@ -45,15 +46,10 @@ abbrev pub in_scope : Scope → Polynomials
 in_scope G name = of_standing (standing_of name G.names)
 
 known_is : (span : Span) (o : Option Value) (p : Polynomial) → width_of_known span o ≡ Ok p → of_known o ≡ Some p
-known_is span (Some (int z)) p h = let u = then_ok (need (nat_le (weight_of z) heaviest) T20 span) (Ok (constant_map z)) p h in ap Some (ok_ok (constant_map z) p u.then)
-known_is span (Some (bool b)) p h = err_ok (fault_of T19 span) p h
-known_is span (Some (bits_with bs v)) p h = err_ok (fault_of T19 span) p h
-known_is span (Some (label n l)) p h = err_ok (fault_of T19 span) p h
-known_is span (Some (record_with n xs)) p h = err_ok (fault_of T19 span) p h
-known_is span (Some (exception_with own supers n xs)) p h = err_ok (fault_of T19 span) p h
-known_is span (Some (tuple_with xs)) p h = err_ok (fault_of T19 span) p h
-known_is span (Some (array_with k xs)) p h = err_ok (fault_of T19 span) p h
-known_is span None p h = err_ok (fault_of T19 span) p h
+known_is span o p h =
+    let w = integer_of_width span o p h in
+    let u = then_ok (need (nat_le (weight_of w.number) heaviest) T20 span) (Ok (constant_map w.number)) p w.made in
+    ap of_known w.is ∙ ap Some (ok_ok (constant_map w.number) p u.then)
 
 counted_is : (span : Span) (o : Option Counted) (v : Option Value) (p : Polynomial) → width_of_counted span o v ≡ Ok p → of_counted o v ≡ Some p
 counted_is span None v p h = known_is span v p h

@@ -19,7 +19,7 @@ use Rattle.asl_rules.specs.Faults.{need, fault_of}
 use Rattle.asl_rules.specs.Tests.{Tests}
 use Rattle.asl_rules.specs.types.Types.{Ty, is_integer}
 use Rattle.asl_rules.specs.types.Closed.{Assignment, width_at}
-use Rattle.asl_rules.specs.values.Values.{Value, int, bool, bits_with, label, record_with, exception_with, tuple_with, array_with}
+use Rattle.asl_rules.specs.values.Values.{Value, int}
 use Rattle.asl_rules.specs.declarations.Scopes.{Counted, Scope, Entry, Storage, Standing, Stored, Subprogram, TypeName, Label, standing_of, known_value}
 use Rattle.asl_rules.specs.types.Widths.{weight_of, width_of_counted, width_of_standing, number_of_counted, number_of_standing}
 use Rattle.asl_rules.specs.expressions.Typing.{Width, Number}
@@ -41,6 +41,7 @@ use Rattle.asl_rules.proofs.values.Rounded.{constant_width, constant_at}
 use Rattle.asl_cons.proofs.Results.{constant_is}
 use Rattle.asl_laws.proofs.widths.NumbersWorth as numbers
 use Rattle.asl_rules.proofs.scopes.Lookups.{Finds, stored_same, before_is, behind, absent_value, finds}
+use Rattle.asl_rules.proofs.widths.Known.{integer_of_width, integer_of_number}
 
 -- ---- expressions, where the names of a scope have their numbers
 
@@ -300,21 +301,15 @@ module _ (av : Assignment) where
             (ap (λ q. width_at q av) same),
         subst (IsWholeAt av) same (counted_whole base names c name s k a h eo),
       )
-  stored_width base names c span name s p None (Some (int y)) eo ev g a h w =
-      let u = then_ok (need (nat_le (weight_of y) heaviest) T20 span) (Ok (constant_map y)) p w in
+  stored_width base names c span name s p None v eo ev g a h w =
+      let k = integer_of_width span v p w in
+      let y = k.number in
+      let u = then_ok (need (nat_le (weight_of y) heaviest) T20 span) (Ok (constant_map y)) p k.made in
       let same : constant_map y ≡ p = ok_ok (constant_map y) p u.then in (
-        storage_number base names c name s y a h (λ b. known_says s y b ev) ∙ ap Some
+        storage_number base names c name s y a h (λ b. known_says s y b (ev ∙ k.is)) ∙ ap Some
             (sym (constant_at av y) ∙ ap (λ q. width_at q av) same),
         subst (IsWholeAt av) same (subst (λ z. HasWidth (constant_map y) av z) (sym (constant_at av y)) (int_end y av)),
       )
-  stored_width base names c span name s p None (Some (bool b)) eo ev g a h w = err_ok (fault_of T19 span) p w
-  stored_width base names c span name s p None (Some (bits_with bs u)) eo ev g a h w = err_ok (fault_of T19 span) p w
-  stored_width base names c span name s p None (Some (label n l)) eo ev g a h w = err_ok (fault_of T19 span) p w
-  stored_width base names c span name s p None (Some (record_with n xs)) eo ev g a h w = err_ok (fault_of T19 span) p w
-  stored_width base names c span name s p None (Some (exception_with own supers n xs)) eo ev g a h w = err_ok (fault_of T19 span) p w
-  stored_width base names c span name s p None (Some (tuple_with xs)) eo ev g a h w = err_ok (fault_of T19 span) p w
-  stored_width base names c span name s p None (Some (array_with k xs)) eo ev g a h w = err_ok (fault_of T19 span) p w
-  stored_width base names c span name s p None None eo ev g a h w = err_ok (fault_of T19 span) p w
 
   -- and in a number
   stored_number : (base names : List Entry) (c : Core) (span : Span) (name : List ℕ) (s : Storage) (z : ℤ) (o : Option Counted) (v : Option Value) → s.counted ≡ o → known_value s ≡ v → CountedFixed names → Agrees base names av c → standing_of name names ≡ Some (Stored s) →
@@ -322,15 +317,8 @@ module _ (av : Assignment) where
   stored_number base names c span name s z (Some k) v eo ev g a h w =
       storage_number base names c name s (width_at k.poly av) a h (λ b. counted_says s k b (g name s k h eo) eo)
       ∙ ap Some (constant_width av k.poly z (constant_is av k.poly z (found_ok (constant_value k.poly) T19 span z w)))
-  stored_number base names c span name s z None (Some (int y)) eo ev g a h w = storage_number base names c name s y a h (λ b. known_says s y b ev) ∙ ap Some (ok_ok y z w)
-  stored_number base names c span name s z None (Some (bool b)) eo ev g a h w = err_ok (fault_of T19 span) z w
-  stored_number base names c span name s z None (Some (bits_with bs u)) eo ev g a h w = err_ok (fault_of T19 span) z w
-  stored_number base names c span name s z None (Some (label n l)) eo ev g a h w = err_ok (fault_of T19 span) z w
-  stored_number base names c span name s z None (Some (record_with n xs)) eo ev g a h w = err_ok (fault_of T19 span) z w
-  stored_number base names c span name s z None (Some (exception_with own supers n xs)) eo ev g a h w = err_ok (fault_of T19 span) z w
-  stored_number base names c span name s z None (Some (tuple_with xs)) eo ev g a h w = err_ok (fault_of T19 span) z w
-  stored_number base names c span name s z None (Some (array_with k xs)) eo ev g a h w = err_ok (fault_of T19 span) z w
-  stored_number base names c span name s z None None eo ev g a h w = err_ok (fault_of T19 span) z w
+  stored_number base names c span name s z None v eo ev g a h w =
+      storage_number base names c name s z a h (λ b. known_says s z b (ev ∙ integer_of_number span v z w))
 
   width_name : (base names : List Entry) (c : Core) (span : Span) (name : List ℕ) (p : Polynomial) (o : Option Standing) →
       standing_of name names ≡ o → CountedFixed names → Agrees base names av c → width_of_standing span o ≡ Ok p →

@@ -17,7 +17,7 @@ use Rattle.asl_cons.specs.Arithmetic.{sum_fits, product_fits, quotient_fits}
 use Rattle.asl_rules.specs.Faults.{◌>>◌, need, fault_of}
 use Rattle.asl_rules.specs.Tests.{Tests}
 use Rattle.asl_rules.specs.types.Types.{is_integer}
-use Rattle.asl_rules.specs.values.Values.{Value, int, bool, bits_with, label, record_with, exception_with, tuple_with, array_with}
+use Rattle.asl_rules.specs.values.Values.{Value}
 use Rattle.asl_rules.specs.declarations.Scopes.{Counted, Scope, Entry, Storage, Standing, Stored, Subprogram, TypeName, Label, standing_of, storage_of, storage_in, known_value}
 use Rattle.asl_poly.specs.WidthLimits.{heaviest}
 use Rattle.asl_rules.specs.types.Widths.{weight_of, width_of_number, width_of_known, width_of_counted, width_of_storage, width_of_standing, width_sum, width_difference, width_product, width_combined, width_divided}
@@ -26,6 +26,7 @@ use Rattle.asl_rules.specs.expressions.Exprs.{width}
 use Rattle.asl_rules.specs.private.Worth.{Alone, AllOf, AtomsOf, AtomsAlone, WellCounted}
 use Rattle.asl_rules.proofs.basics.Inversions.{ok_ok, err_ok, then_ok}
 use Rattle.asl_rules.proofs.widths.WidthForms.{WidthForms, by_width_forms}
+use Rattle.asl_rules.proofs.widths.Known.{integer_of_width}
 
 -- ---- the operations make no new atoms
 
@@ -141,15 +142,7 @@ divided_alone A span p r k e h =
 -- ---- A
 
 pub known_alone : (A : ℕ → Type 0) (span : Span) (o : Option Value) (p : Polynomial) → width_of_known span o ≡ Ok p → Good A p
-known_alone A span (Some (int y)) p h = number_alone A span y p h
-known_alone A span (Some (bool b)) p h = err_ok (fault_of T19 span) p h
-known_alone A span (Some (bits_with bs v)) p h = err_ok (fault_of T19 span) p h
-known_alone A span (Some (label n l)) p h = err_ok (fault_of T19 span) p h
-known_alone A span (Some (record_with n xs)) p h = err_ok (fault_of T19 span) p h
-known_alone A span (Some (exception_with own supers n xs)) p h = err_ok (fault_of T19 span) p h
-known_alone A span (Some (tuple_with xs)) p h = err_ok (fault_of T19 span) p h
-known_alone A span (Some (array_with k xs)) p h = err_ok (fault_of T19 span) p h
-known_alone A span None p h = err_ok (fault_of T19 span) p h
+known_alone A span o p h = let w = integer_of_width span o p h in number_alone A span w.number p w.made
 
 counted_alone : (A : ℕ → Type 0) (span : Span) (o : Option Counted) (v : Option Value) (p : Polynomial) → ((c : Counted) → o ≡ Some c → Good A c.poly) → width_of_counted span o v ≡ Ok p → Good A p
 counted_alone A span None v p c h = known_alone A span v p h

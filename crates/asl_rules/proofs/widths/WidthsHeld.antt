@@ -19,7 +19,7 @@ use Rattle.asl_rules.specs.declared.joining.Combination.TheVariants.{Sum, Differ
 use Rattle.asl_rules.specs.Faults.{◌>>◌, need, fault_of}
 use Rattle.asl_rules.specs.Tests.{Tests}
 use Rattle.asl_rules.specs.types.Types.{is_integer}
-use Rattle.asl_rules.specs.values.Values.{Value, int, bool, bits_with, label, record_with, exception_with, tuple_with, array_with}
+use Rattle.asl_rules.specs.values.Values.{Value}
 use Rattle.asl_rules.specs.declarations.Scopes.{Counted, Scope, Entry, Storage, Standing, Stored, Subprogram, TypeName, Label, standing_of, storage_of, storage_in, known_value}
 use Rattle.asl_poly.specs.WidthLimits.{heaviest, finest}
 use Rattle.asl_rules.specs.types.Widths.{weight_of, width_of_number, width_of_known, width_of_counted, width_of_storage, width_of_standing, width_difference, width_combined, width_divided}
@@ -28,6 +28,7 @@ use Rattle.asl_rules.specs.expressions.Exprs.{width}
 use Rattle.asl_rules.proofs.basics.Inversions.{ok_ok, err_ok, then_ok, need_ok}
 use Rattle.asl_rules.proofs.widths.WorthForms.{IsWritten}
 use Rattle.asl_rules.proofs.widths.WidthForms.{WidthForms, by_width_forms}
+use Rattle.asl_rules.proofs.widths.Known.{integer_of_width}
 
 -- ---- the tests of the limits
 
@@ -128,15 +129,7 @@ abbrev pub CountsHeld : List Entry → Type 0
 CountsHeld names = (name : List ℕ) (s : Storage) (c : Counted) → storage_of name names ≡ Some s → s.counted ≡ Some c → IsPolynomial c.poly
 
 known_held : (span : Span) (o : Option Value) (p : Polynomial) → width_of_known span o ≡ Ok p → IsPolynomial p
-known_held span (Some (int y)) p h = number_held span y p h
-known_held span (Some (bool b)) p h = err_ok (fault_of T19 span) p h
-known_held span (Some (bits_with bs v)) p h = err_ok (fault_of T19 span) p h
-known_held span (Some (label n l)) p h = err_ok (fault_of T19 span) p h
-known_held span (Some (record_with n xs)) p h = err_ok (fault_of T19 span) p h
-known_held span (Some (exception_with own supers n xs)) p h = err_ok (fault_of T19 span) p h
-known_held span (Some (tuple_with xs)) p h = err_ok (fault_of T19 span) p h
-known_held span (Some (array_with k xs)) p h = err_ok (fault_of T19 span) p h
-known_held span None p h = err_ok (fault_of T19 span) p h
+known_held span o p h = let w = integer_of_width span o p h in number_held span w.number p w.made
 
 counted_held : (span : Span) (o : Option Counted) (v : Option Value) (p : Polynomial) → ((c : Counted) → o ≡ Some c → IsPolynomial c.poly) → width_of_counted span o v ≡ Ok p → IsPolynomial p
 counted_held span None v p f h = known_held span v p h

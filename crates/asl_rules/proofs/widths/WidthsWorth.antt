@@ -1,6 +1,6 @@
 -- The polynomial of a width expression has the expression's fraction, wherever the integers of the names agree with the scope. So two
 -- widths that are the same have one fraction there.
-use Rattle.std.proofs.Common.{◌≡◌, ℕ, ℤ, pos, List, Option, Some, None, Ok, ◌*◌, ◌<◌, refl, sym, ap, ◌∙◌, subst, arith}
+use Rattle.std.proofs.Common.{◌≡◌, ℕ, ℤ, Bool, pos, List, Option, Some, None, Ok, ◌*◌, ◌<◌, refl, sym, ap, ◌∙◌, subst, arith}
 use Rattle.std.specs.Prelude.{nat_le}
 use Rattle.asl_syn.specs.declared.token.Span.{Span}
 use Rattle.asl_syn.specs.declared.code.StaticCode.TheVariants.{T02, T05, T19, T20}
@@ -18,7 +18,7 @@ use Rattle.asl_rules.specs.declared.joining.Combination.TheVariants.{Sum, Differ
 use Rattle.asl_rules.specs.Faults.{◌>>◌, need, fault_of}
 use Rattle.asl_rules.specs.Tests.{Tests}
 use Rattle.asl_rules.specs.types.Types.{is_integer}
-use Rattle.asl_rules.specs.values.Values.{Value, int, bool, bits_with, label, record_with, exception_with, tuple_with, array_with}
+use Rattle.asl_rules.specs.values.Values.{Value, int}
 use Rattle.asl_rules.specs.declarations.Scopes.{Counted, Scope, Storage, Standing, Stored, Subprogram, TypeName, Label, standing_of, storage_of, storage_in, known_value}
 use Rattle.asl_rules.specs.types.Widths.{weight_of, width_of_number, width_of_known, width_of_counted, width_of_storage, width_of_standing, width_sum, width_difference, width_product, width_combined, width_divided}
 use Rattle.asl_rules.specs.expressions.Typing.{Width}
@@ -31,6 +31,7 @@ use Rattle.asl_rules.proofs.widths.WorthForms.{worth_roll, worth_of_one, worth_o
 use Rattle.asl_rules.proofs.widths.WidthsHeld.{CountsHeld, name_held, number_held, difference_held, combined_held, divided_held, above_0, zero_held}
 use Rattle.asl_rules.proofs.widths.Ratios.{Proper, same_trans, plus_same, less_same, times_same, parted_same, some_both, some_parted, constant_same, sum_same, difference_same, product_same, quotient_same}
 use Rattle.asl_rules.proofs.basics.Inversions.{ok_ok, err_ok, then_ok}
+use Rattle.asl_rules.proofs.widths.Known.{integer_of_width}
 
 -- ---- the operations
 
@@ -47,6 +48,12 @@ number_is a span z p h =
 pub proper_at : (a : ℕ → ℤ) (p : Polynomial) → IsPolynomial p → Proper (fraction_at a p)
 proper_at a p h = h.lowest.positive
 
+-- what is made within the limits is worth what it is
+limited_is : (a : ℕ → ℤ) (span : Span) (fits : Bool) (made r : Polynomial) (x : Fraction) → Is a made x →
+    (need fits T20 span >> Ok made) ≡ Ok r → Is a r x
+limited_is a span fits made r x is h =
+    let u = then_ok (need fits T20 span) (Ok made) r h in subst (λ s. Is a s x) (ok_ok made r u.then) is
+
 module _ (a : ℕ → ℤ) (span : Span) (p q r : Polynomial) (x y : Fraction) (i : IsPolynomial p) (j : IsPolynomial q) (e : Is a p x)
     (f : Is a q y) where
   both_at : 0 < p.denominator * q.denominator
@@ -54,24 +61,21 @@ module _ (a : ℕ → ℤ) (span : Span) (p q r : Polynomial) (x y : Fraction) (
 
   pub sum_is : width_sum span p q ≡ Ok r → Is a r (plus x y)
   sum_is h =
-      let u = then_ok (need (sum_fits p q) T20 span) (Ok (sum_map p q)) r h in
-      subst (λ s. Is a s (plus x y)) (ok_ok (sum_map p q) r u.then)
+      limited_is a span (sum_fits p q) (sum_map p q) r (plus x y)
       (same_trans (plus x y) (plus (fraction_at a p) (fraction_at a q)) (fraction_at a (sum_map p q)) both_at
-      (plus_same x y (fraction_at a p) (fraction_at a q) e f) (sym (sum_same a p q i j)))
+      (plus_same x y (fraction_at a p) (fraction_at a q) e f) (sym (sum_same a p q i j))) h
 
   pub difference_is : width_difference span p q ≡ Ok r → Is a r (less x y)
   difference_is h =
-      let u = then_ok (need (sum_fits p q) T20 span) (Ok (difference_map p q)) r h in
-      subst (λ s. Is a s (less x y)) (ok_ok (difference_map p q) r u.then)
+      limited_is a span (sum_fits p q) (difference_map p q) r (less x y)
       (same_trans (less x y) (less (fraction_at a p) (fraction_at a q)) (fraction_at a (difference_map p q)) both_at
-      (less_same x y (fraction_at a p) (fraction_at a q) e f) (sym (difference_same a p q i j)))
+      (less_same x y (fraction_at a p) (fraction_at a q) e f) (sym (difference_same a p q i j))) h
 
   pub product_is : width_product span p q ≡ Ok r → Is a r (times x y)
   product_is h =
-      let u = then_ok (need (product_fits p q) T20 span) (Ok (product_map p q)) r h in
-      subst (λ s. Is a s (times x y)) (ok_ok (product_map p q) r u.then)
+      limited_is a span (product_fits p q) (product_map p q) r (times x y)
       (same_trans (times x y) (times (fraction_at a p) (fraction_at a q)) (fraction_at a (product_map p q)) both_at
-      (times_same x y (fraction_at a p) (fraction_at a q) e f) (sym (product_same a p q i j)))
+      (times_same x y (fraction_at a p) (fraction_at a q) e f) (sym (product_same a p q i j))) h
 
 pub combined_is : (a : ℕ → ℤ) (span : Span) (o : Combination) (p q r : Polynomial) (x y : Fraction) → IsPolynomial p → IsPolynomial q →
     Is a p x → Is a q y →
@@ -98,15 +102,9 @@ some_of_two Product x y h k = some_both x y h k
 
 known_is : (a : ℕ → ℤ) (span : Span) (o : Option Value) (p : Polynomial) (z : ℤ) → ((y : ℤ) → o ≡ Some (int y) → z ≡ y) →
     width_of_known span o ≡ Ok p → Is a p (whole z)
-known_is a span (Some (int y)) p z k h = subst (λ x. Is a p (whole x)) (sym (k y refl)) (number_is a span y p h)
-known_is a span (Some (bool b)) p z k h = err_ok (fault_of T19 span) p h
-known_is a span (Some (bits_with bs v)) p z k h = err_ok (fault_of T19 span) p h
-known_is a span (Some (label n l)) p z k h = err_ok (fault_of T19 span) p h
-known_is a span (Some (record_with n xs)) p z k h = err_ok (fault_of T19 span) p h
-known_is a span (Some (exception_with own supers n xs)) p z k h = err_ok (fault_of T19 span) p h
-known_is a span (Some (tuple_with xs)) p z k h = err_ok (fault_of T19 span) p h
-known_is a span (Some (array_with k1 xs)) p z k h = err_ok (fault_of T19 span) p h
-known_is a span None p z k h = err_ok (fault_of T19 span) p h
+known_is a span o p z k h =
+    let w = integer_of_width span o p h in
+    subst (λ x. Is a p (whole x)) (sym (k w.number w.is)) (number_is a span w.number p w.made)
 
 pub counted_is : (a : ℕ → ℤ) (span : Span) (o : Option Counted) (v : Option Value) (p : Polynomial) (z : ℤ) →
     ((y : ℤ) → v ≡ Some (int y) → z ≡ y) →
