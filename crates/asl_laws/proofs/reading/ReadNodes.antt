@@ -1,0 +1,1 @@
+-- Each form of statement and declaration as it is read: the spans of what it is written out as lie in the file, where those of its parts do.
