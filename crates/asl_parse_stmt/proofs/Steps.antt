@@ -94,27 +94,27 @@ pub name_statement_is : (d : ℕ) (st : Cursor) → reading d name_statement st 
 unfolding name_statement ending
 name_statement_is d st = simp bind_bind
 
-pub if_statement_is : (d : ℕ) (st : Cursor) → reading d if_statement st ≡ bind (run_opens (kind.If ∷ []) st.left st.toks) (λ t m. bind (symbol d IfBody m) (λ x m1. Ok ((rs.ReadIf (span_to (ahead st.toks) m1.last) x.0 x.1 x.2 x.3), (record m1 { left = st.left }))))
+pub if_statement_is : (d : ℕ) (st : Cursor) → reading d if_statement st ≡ bind (run_opens (kind.If ∷ []) st.left st.toks) (λ t m. bind (symbol d IfBody m) (λ x m1. Ok ((rs.If (span_to (ahead st.toks) m1.last) x.0 x.1 x.2 x.3), (record m1 { left = st.left }))))
 unfolding if_statement
 if_statement_is d st = simp bind_bind
 
-pub case_statement_is : (d : ℕ) (st : Cursor) → reading d case_statement st ≡ bind (run_opens (kind.Case ∷ []) st.left st.toks) (λ t m. bind (symbol d CaseBody m) (λ x m1. Ok ((rs.ReadCase (span_to (ahead st.toks) m1.last) x.0 x.1 x.2), (record m1 { left = st.left }))))
+pub case_statement_is : (d : ℕ) (st : Cursor) → reading d case_statement st ≡ bind (run_opens (kind.Case ∷ []) st.left st.toks) (λ t m. bind (symbol d CaseBody m) (λ x m1. Ok ((rs.Case (span_to (ahead st.toks) m1.last) x.0 x.1 x.2), (record m1 { left = st.left }))))
 unfolding case_statement
 case_statement_is d st = simp bind_bind
 
-pub for_statement_is : (d : ℕ) (st : Cursor) → reading d for_statement st ≡ bind (run_opens (kind.For ∷ []) st.left st.toks) (λ t m. bind (symbol d ForBody m) (λ x m1. Ok ((rs.ReadFor (span_to (ahead st.toks) m1.last) x.0 x.1 x.2 x.3 x.4 x.5), (record m1 { left = st.left }))))
+pub for_statement_is : (d : ℕ) (st : Cursor) → reading d for_statement st ≡ bind (run_opens (kind.For ∷ []) st.left st.toks) (λ t m. bind (symbol d ForBody m) (λ x m1. Ok ((rs.For (span_to (ahead st.toks) m1.last) x.0 x.1 x.2 x.3 x.4 x.5), (record m1 { left = st.left }))))
 unfolding for_statement
 for_statement_is d st = simp bind_bind
 
-pub while_statement_is : (d : ℕ) (st : Cursor) → reading d while_statement st ≡ bind (run_opens (kind.While ∷ []) st.left st.toks) (λ t m. bind (symbol d WhileBody m) (λ x m1. Ok ((rs.ReadWhile (span_to (ahead st.toks) m1.last) x.0 x.1 x.2), (record m1 { left = st.left }))))
+pub while_statement_is : (d : ℕ) (st : Cursor) → reading d while_statement st ≡ bind (run_opens (kind.While ∷ []) st.left st.toks) (λ t m. bind (symbol d WhileBody m) (λ x m1. Ok ((rs.While (span_to (ahead st.toks) m1.last) x.0 x.1 x.2), (record m1 { left = st.left }))))
 unfolding while_statement
 while_statement_is d st = simp bind_bind
 
-pub repeat_statement_is : (d : ℕ) (st : Cursor) → reading d repeat_statement st ≡ bind (run_opens (kind.Repeat ∷ []) st.left st.toks) (λ t m. bind (symbol d RepeatBody m) (λ x m1. Ok ((rs.ReadRepeat (span_to (ahead st.toks) m1.last) x.0 x.1 x.2), (record m1 { left = st.left }))))
+pub repeat_statement_is : (d : ℕ) (st : Cursor) → reading d repeat_statement st ≡ bind (run_opens (kind.Repeat ∷ []) st.left st.toks) (λ t m. bind (symbol d RepeatBody m) (λ x m1. Ok ((rs.Repeat (span_to (ahead st.toks) m1.last) x.0 x.1 x.2), (record m1 { left = st.left }))))
 unfolding repeat_statement
 repeat_statement_is d st = simp bind_bind
 
-pub try_statement_is : (d : ℕ) (st : Cursor) → reading d try_statement st ≡ bind (run_opens (kind.Try ∷ []) st.left st.toks) (λ t m. bind (symbol d TryBody m) (λ x m1. Ok ((rs.ReadTry (span_to (ahead st.toks) m1.last) x.0 x.1 x.2), (record m1 { left = st.left }))))
+pub try_statement_is : (d : ℕ) (st : Cursor) → reading d try_statement st ≡ bind (run_opens (kind.Try ∷ []) st.left st.toks) (λ t m. bind (symbol d TryBody m) (λ x m1. Ok ((rs.Try (span_to (ahead st.toks) m1.last) x.0 x.1 x.2), (record m1 { left = st.left }))))
 unfolding try_statement
 try_statement_is d st = simp bind_bind
 

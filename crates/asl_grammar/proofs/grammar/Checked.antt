@@ -1239,37 +1239,37 @@ f_name_statement =
 f_if_statement : Facts if_statement false (kind.If ∷ []) []
 unfolding if_statement
 f_if_statement =
-    let raw : Facts {A = ReadStmt} (by (λ r. rs.ReadIf (whole r.1) r.0.1.0 r.0.1.1 r.0.1.2 r.0.1.3) (spanned (scope (into (kind.If ∷ []) IfBody)))) false (kind.If ∷ []) [] = (by_f (spanned_f (scope_f (into_f {s = IfBody})))) in
+    let raw : Facts {A = ReadStmt} (by (λ r. rs.If (whole r.1) r.0.1.0 r.0.1.1 r.0.1.2 r.0.1.3) (spanned (scope (into (kind.If ∷ []) IfBody)))) false (kind.If ∷ []) [] = (by_f (spanned_f (scope_f (into_f {s = IfBody})))) in
     fit (kind.If ∷ []) [] raw refl refl
 
 f_case_statement : Facts case_statement false (kind.Case ∷ []) []
 unfolding case_statement
 f_case_statement =
-    let raw : Facts {A = ReadStmt} (by (λ r. rs.ReadCase (whole r.1) r.0.1.0 r.0.1.1 r.0.1.2) (spanned (scope (into (kind.Case ∷ []) CaseBody)))) false (kind.Case ∷ []) [] = (by_f (spanned_f (scope_f (into_f {s = CaseBody})))) in
+    let raw : Facts {A = ReadStmt} (by (λ r. rs.Case (whole r.1) r.0.1.0 r.0.1.1 r.0.1.2) (spanned (scope (into (kind.Case ∷ []) CaseBody)))) false (kind.Case ∷ []) [] = (by_f (spanned_f (scope_f (into_f {s = CaseBody})))) in
     fit (kind.Case ∷ []) [] raw refl refl
 
 f_for_statement : Facts for_statement false (kind.For ∷ []) []
 unfolding for_statement
 f_for_statement =
-    let raw : Facts {A = ReadStmt} (by (λ r. rs.ReadFor (whole r.1) r.0.1.0 r.0.1.1 r.0.1.2 r.0.1.3 r.0.1.4 r.0.1.5) (spanned (scope (into (kind.For ∷ []) ForBody)))) false (kind.For ∷ []) [] = (by_f (spanned_f (scope_f (into_f {s = ForBody})))) in
+    let raw : Facts {A = ReadStmt} (by (λ r. rs.For (whole r.1) r.0.1.0 r.0.1.1 r.0.1.2 r.0.1.3 r.0.1.4 r.0.1.5) (spanned (scope (into (kind.For ∷ []) ForBody)))) false (kind.For ∷ []) [] = (by_f (spanned_f (scope_f (into_f {s = ForBody})))) in
     fit (kind.For ∷ []) [] raw refl refl
 
 f_while_statement : Facts while_statement false (kind.While ∷ []) []
 unfolding while_statement
 f_while_statement =
-    let raw : Facts {A = ReadStmt} (by (λ r. rs.ReadWhile (whole r.1) r.0.1.0 r.0.1.1 r.0.1.2) (spanned (scope (into (kind.While ∷ []) WhileBody)))) false (kind.While ∷ []) [] = (by_f (spanned_f (scope_f (into_f {s = WhileBody})))) in
+    let raw : Facts {A = ReadStmt} (by (λ r. rs.While (whole r.1) r.0.1.0 r.0.1.1 r.0.1.2) (spanned (scope (into (kind.While ∷ []) WhileBody)))) false (kind.While ∷ []) [] = (by_f (spanned_f (scope_f (into_f {s = WhileBody})))) in
     fit (kind.While ∷ []) [] raw refl refl
 
 f_repeat_statement : Facts repeat_statement false (kind.Repeat ∷ []) []
 unfolding repeat_statement
 f_repeat_statement =
-    let raw : Facts {A = ReadStmt} (by (λ r. rs.ReadRepeat (whole r.1) r.0.1.0 r.0.1.1 r.0.1.2) (spanned (scope (into (kind.Repeat ∷ []) RepeatBody)))) false (kind.Repeat ∷ []) [] = (by_f (spanned_f (scope_f (into_f {s = RepeatBody})))) in
+    let raw : Facts {A = ReadStmt} (by (λ r. rs.Repeat (whole r.1) r.0.1.0 r.0.1.1 r.0.1.2) (spanned (scope (into (kind.Repeat ∷ []) RepeatBody)))) false (kind.Repeat ∷ []) [] = (by_f (spanned_f (scope_f (into_f {s = RepeatBody})))) in
     fit (kind.Repeat ∷ []) [] raw refl refl
 
 f_try_statement : Facts try_statement false (kind.Try ∷ []) []
 unfolding try_statement
 f_try_statement =
-    let raw : Facts {A = ReadStmt} (by (λ r. rs.ReadTry (whole r.1) r.0.1.0 r.0.1.1 r.0.1.2) (spanned (scope (into (kind.Try ∷ []) TryBody)))) false (kind.Try ∷ []) [] = (by_f (spanned_f (scope_f (into_f {s = TryBody})))) in
+    let raw : Facts {A = ReadStmt} (by (λ r. rs.Try (whole r.1) r.0.1.0 r.0.1.1 r.0.1.2) (spanned (scope (into (kind.Try ∷ []) TryBody)))) false (kind.Try ∷ []) [] = (by_f (spanned_f (scope_f (into_f {s = TryBody})))) in
     fit (kind.Try ∷ []) [] raw refl refl
 
 f_statement : Facts statement false (kind.Name ∷ kind.OpenParen ∷ kind.Minus ∷ kind.Assert ∷ kind.Case ∷ kind.For ∷ kind.If ∷ kind.Let ∷ kind.Pass ∷ kind.Print ∷ kind.PrintLine ∷ kind.Repeat ∷ kind.Return ∷ kind.Throw ∷ kind.Try ∷ kind.Unreachable ∷ kind.Var ∷ kind.While ∷ kind.Getter ∷ kind.Setter ∷ []) []
@@ -1293,7 +1293,7 @@ f_loop_limit =
 f_otherwise : Facts otherwise false (kind.Otherwise ∷ []) (kind.Name ∷ kind.OpenParen ∷ kind.Minus ∷ kind.Assert ∷ kind.Case ∷ kind.For ∷ kind.If ∷ kind.Let ∷ kind.Pass ∷ kind.Print ∷ kind.PrintLine ∷ kind.Repeat ∷ kind.Return ∷ kind.Throw ∷ kind.Try ∷ kind.Unreachable ∷ kind.Var ∷ kind.While ∷ kind.Getter ∷ kind.Setter ∷ [])
 unfolding otherwise
 f_otherwise =
-    let raw : Facts {A = ReadOtherwise} (by (λ r. ro.ReadOtherwise r.1.1) (seq (tok (kind.Otherwise ∷ [])) (seq (tok (kind.FatArrow ∷ [])) block))) false (kind.Otherwise ∷ []) (kind.Name ∷ kind.OpenParen ∷ kind.Minus ∷ kind.Assert ∷ kind.Case ∷ kind.For ∷ kind.If ∷ kind.Let ∷ kind.Pass ∷ kind.Print ∷ kind.PrintLine ∷ kind.Repeat ∷ kind.Return ∷ kind.Throw ∷ kind.Try ∷ kind.Unreachable ∷ kind.Var ∷ kind.While ∷ kind.Getter ∷ kind.Setter ∷ []) = (by_f (seq_f tok_f (seq_f tok_f f_block refl) refl)) in
+    let raw : Facts {A = ReadOtherwise} (by (λ r. ro.Otherwise r.1.1) (seq (tok (kind.Otherwise ∷ [])) (seq (tok (kind.FatArrow ∷ [])) block))) false (kind.Otherwise ∷ []) (kind.Name ∷ kind.OpenParen ∷ kind.Minus ∷ kind.Assert ∷ kind.Case ∷ kind.For ∷ kind.If ∷ kind.Let ∷ kind.Pass ∷ kind.Print ∷ kind.PrintLine ∷ kind.Repeat ∷ kind.Return ∷ kind.Throw ∷ kind.Try ∷ kind.Unreachable ∷ kind.Var ∷ kind.While ∷ kind.Getter ∷ kind.Setter ∷ []) = (by_f (seq_f tok_f (seq_f tok_f f_block refl) refl)) in
     fit (kind.Otherwise ∷ []) (kind.Name ∷ kind.OpenParen ∷ kind.Minus ∷ kind.Assert ∷ kind.Case ∷ kind.For ∷ kind.If ∷ kind.Let ∷ kind.Pass ∷ kind.Print ∷ kind.PrintLine ∷ kind.Repeat ∷ kind.Return ∷ kind.Throw ∷ kind.Try ∷ kind.Unreachable ∷ kind.Var ∷ kind.While ∷ kind.Getter ∷ kind.Setter ∷ []) raw refl refl
 
 f_maybe_otherwise : Facts maybe_otherwise true (kind.Otherwise ∷ []) (kind.Name ∷ kind.OpenParen ∷ kind.Minus ∷ kind.Assert ∷ kind.Case ∷ kind.For ∷ kind.If ∷ kind.Let ∷ kind.Otherwise ∷ kind.Pass ∷ kind.Print ∷ kind.PrintLine ∷ kind.Repeat ∷ kind.Return ∷ kind.Throw ∷ kind.Try ∷ kind.Unreachable ∷ kind.Var ∷ kind.While ∷ kind.Getter ∷ kind.Setter ∷ [])
@@ -1335,7 +1335,7 @@ f_target_parts =
 f_else_if : Facts else_if false (kind.ElsIf ∷ []) (kind.Name ∷ kind.OpenParen ∷ kind.Minus ∷ kind.Assert ∷ kind.Case ∷ kind.For ∷ kind.If ∷ kind.Let ∷ kind.Pass ∷ kind.Print ∷ kind.PrintLine ∷ kind.Repeat ∷ kind.Return ∷ kind.Throw ∷ kind.Try ∷ kind.Unreachable ∷ kind.Var ∷ kind.While ∷ kind.Getter ∷ kind.Setter ∷ [])
 unfolding else_if
 f_else_if =
-    let raw : Facts {A = ReadElseIf} (by (λ r. re.ReadElseIf r.1.0 r.1.1.1) (seq (tok (kind.ElsIf ∷ [])) (seq expression (seq (tok (kind.Then ∷ [])) block)))) false (kind.ElsIf ∷ []) (kind.Name ∷ kind.OpenParen ∷ kind.Minus ∷ kind.Assert ∷ kind.Case ∷ kind.For ∷ kind.If ∷ kind.Let ∷ kind.Pass ∷ kind.Print ∷ kind.PrintLine ∷ kind.Repeat ∷ kind.Return ∷ kind.Throw ∷ kind.Try ∷ kind.Unreachable ∷ kind.Var ∷ kind.While ∷ kind.Getter ∷ kind.Setter ∷ []) = (by_f (seq_f tok_f (seq_f f_expression (seq_f tok_f f_block refl) refl) refl)) in
+    let raw : Facts {A = ReadElseIf} (by (λ r. re.ElseIf r.1.0 r.1.1.1) (seq (tok (kind.ElsIf ∷ [])) (seq expression (seq (tok (kind.Then ∷ [])) block)))) false (kind.ElsIf ∷ []) (kind.Name ∷ kind.OpenParen ∷ kind.Minus ∷ kind.Assert ∷ kind.Case ∷ kind.For ∷ kind.If ∷ kind.Let ∷ kind.Pass ∷ kind.Print ∷ kind.PrintLine ∷ kind.Repeat ∷ kind.Return ∷ kind.Throw ∷ kind.Try ∷ kind.Unreachable ∷ kind.Var ∷ kind.While ∷ kind.Getter ∷ kind.Setter ∷ []) = (by_f (seq_f tok_f (seq_f f_expression (seq_f tok_f f_block refl) refl) refl)) in
     fit (kind.ElsIf ∷ []) (kind.Name ∷ kind.OpenParen ∷ kind.Minus ∷ kind.Assert ∷ kind.Case ∷ kind.For ∷ kind.If ∷ kind.Let ∷ kind.Pass ∷ kind.Print ∷ kind.PrintLine ∷ kind.Repeat ∷ kind.Return ∷ kind.Throw ∷ kind.Try ∷ kind.Unreachable ∷ kind.Var ∷ kind.While ∷ kind.Getter ∷ kind.Setter ∷ []) raw refl refl
 
 f_else_ifs : Facts else_ifs true (kind.ElsIf ∷ []) (kind.Name ∷ kind.OpenParen ∷ kind.Minus ∷ kind.Assert ∷ kind.Case ∷ kind.ElsIf ∷ kind.For ∷ kind.If ∷ kind.Let ∷ kind.Pass ∷ kind.Print ∷ kind.PrintLine ∷ kind.Repeat ∷ kind.Return ∷ kind.Throw ∷ kind.Try ∷ kind.Unreachable ∷ kind.Var ∷ kind.While ∷ kind.Getter ∷ kind.Setter ∷ [])
@@ -1371,7 +1371,7 @@ f_where_clause =
 f_alternative : Facts alternative false (kind.When ∷ []) (kind.Name ∷ kind.OpenParen ∷ kind.Minus ∷ kind.Assert ∷ kind.Case ∷ kind.For ∷ kind.If ∷ kind.Let ∷ kind.Pass ∷ kind.Print ∷ kind.PrintLine ∷ kind.Repeat ∷ kind.Return ∷ kind.Throw ∷ kind.Try ∷ kind.Unreachable ∷ kind.Var ∷ kind.While ∷ kind.Getter ∷ kind.Setter ∷ [])
 unfolding alternative
 f_alternative =
-    let raw : Facts {A = ReadAlternative} (by (λ r. ra.ReadWhen r.1.0 r.1.1.0 r.1.1.1.1) (seq (tok (kind.When ∷ [])) (seq patterns (seq where_clause (seq (tok (kind.FatArrow ∷ [])) block))))) false (kind.When ∷ []) (kind.Name ∷ kind.OpenParen ∷ kind.Minus ∷ kind.Assert ∷ kind.Case ∷ kind.For ∷ kind.If ∷ kind.Let ∷ kind.Pass ∷ kind.Print ∷ kind.PrintLine ∷ kind.Repeat ∷ kind.Return ∷ kind.Throw ∷ kind.Try ∷ kind.Unreachable ∷ kind.Var ∷ kind.While ∷ kind.Getter ∷ kind.Setter ∷ []) = (by_f (seq_f tok_f (seq_f f_patterns (seq_f f_where_clause (seq_f tok_f f_block refl) refl) refl) refl)) in
+    let raw : Facts {A = ReadAlternative} (by (λ r. ra.When r.1.0 r.1.1.0 r.1.1.1.1) (seq (tok (kind.When ∷ [])) (seq patterns (seq where_clause (seq (tok (kind.FatArrow ∷ [])) block))))) false (kind.When ∷ []) (kind.Name ∷ kind.OpenParen ∷ kind.Minus ∷ kind.Assert ∷ kind.Case ∷ kind.For ∷ kind.If ∷ kind.Let ∷ kind.Pass ∷ kind.Print ∷ kind.PrintLine ∷ kind.Repeat ∷ kind.Return ∷ kind.Throw ∷ kind.Try ∷ kind.Unreachable ∷ kind.Var ∷ kind.While ∷ kind.Getter ∷ kind.Setter ∷ []) = (by_f (seq_f tok_f (seq_f f_patterns (seq_f f_where_clause (seq_f tok_f f_block refl) refl) refl) refl)) in
     fit (kind.When ∷ []) (kind.Name ∷ kind.OpenParen ∷ kind.Minus ∷ kind.Assert ∷ kind.Case ∷ kind.For ∷ kind.If ∷ kind.Let ∷ kind.Pass ∷ kind.Print ∷ kind.PrintLine ∷ kind.Repeat ∷ kind.Return ∷ kind.Throw ∷ kind.Try ∷ kind.Unreachable ∷ kind.Var ∷ kind.While ∷ kind.Getter ∷ kind.Setter ∷ []) raw refl refl
 
 f_alternatives : Facts alternatives true (kind.When ∷ []) (kind.Name ∷ kind.OpenParen ∷ kind.Minus ∷ kind.Assert ∷ kind.Case ∷ kind.For ∷ kind.If ∷ kind.Let ∷ kind.Pass ∷ kind.Print ∷ kind.PrintLine ∷ kind.Repeat ∷ kind.Return ∷ kind.Throw ∷ kind.Try ∷ kind.Unreachable ∷ kind.Var ∷ kind.When ∷ kind.While ∷ kind.Getter ∷ kind.Setter ∷ [])

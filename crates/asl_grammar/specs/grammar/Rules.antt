@@ -870,27 +870,27 @@ name_statement = by (λ r. name_statement_of r.0.0 (whole r.1) r.0.1) (spanned (
 
 -- "if" expr "then" stmt* ("elsif" expr "then" stmt*)* ("else" stmt*)? "end" ";"
 unfoldable pub if_statement : Rule (ReadStmt)
-if_statement = by (λ r. rs.ReadIf (whole r.1) r.0.1.0 r.0.1.1 r.0.1.2 r.0.1.3) (spanned (scope (into (kind.If ∷ []) IfBody)))
+if_statement = by (λ r. rs.If (whole r.1) r.0.1.0 r.0.1.1 r.0.1.2 r.0.1.3) (spanned (scope (into (kind.If ∷ []) IfBody)))
 
 -- "case" expr "of" alt* other? "end" ";"
 unfoldable pub case_statement : Rule (ReadStmt)
-case_statement = by (λ r. rs.ReadCase (whole r.1) r.0.1.0 r.0.1.1 r.0.1.2) (spanned (scope (into (kind.Case ∷ []) CaseBody)))
+case_statement = by (λ r. rs.Case (whole r.1) r.0.1.0 r.0.1.1 r.0.1.2) (spanned (scope (into (kind.Case ∷ []) CaseBody)))
 
 -- "for" NAME "=" expr ("to" | "downto") expr limit? "do" stmt* "end" ";"
 unfoldable pub for_statement : Rule (ReadStmt)
-for_statement = by (λ r. rs.ReadFor (whole r.1) r.0.1.0 r.0.1.1 r.0.1.2 r.0.1.3 r.0.1.4 r.0.1.5) (spanned (scope (into (kind.For ∷ []) ForBody)))
+for_statement = by (λ r. rs.For (whole r.1) r.0.1.0 r.0.1.1 r.0.1.2 r.0.1.3 r.0.1.4 r.0.1.5) (spanned (scope (into (kind.For ∷ []) ForBody)))
 
 -- "while" expr limit? "do" stmt* "end" ";"
 unfoldable pub while_statement : Rule (ReadStmt)
-while_statement = by (λ r. rs.ReadWhile (whole r.1) r.0.1.0 r.0.1.1 r.0.1.2) (spanned (scope (into (kind.While ∷ []) WhileBody)))
+while_statement = by (λ r. rs.While (whole r.1) r.0.1.0 r.0.1.1 r.0.1.2) (spanned (scope (into (kind.While ∷ []) WhileBody)))
 
 -- "repeat" stmt* "until" expr limit? ";"
 unfoldable pub repeat_statement : Rule (ReadStmt)
-repeat_statement = by (λ r. rs.ReadRepeat (whole r.1) r.0.1.0 r.0.1.1 r.0.1.2) (spanned (scope (into (kind.Repeat ∷ []) RepeatBody)))
+repeat_statement = by (λ r. rs.Repeat (whole r.1) r.0.1.0 r.0.1.1 r.0.1.2) (spanned (scope (into (kind.Repeat ∷ []) RepeatBody)))
 
 -- "try" stmt* "catch" (catcher+ other? | other) "end" ";"
 unfoldable pub try_statement : Rule (ReadStmt)
-try_statement = by (λ r. rs.ReadTry (whole r.1) r.0.1.0 r.0.1.1 r.0.1.2) (spanned (scope (into (kind.Try ∷ []) TryBody)))
+try_statement = by (λ r. rs.Try (whole r.1) r.0.1.0 r.0.1.1 r.0.1.2) (spanned (scope (into (kind.Try ∷ []) TryBody)))
 
 -- stmt, one of the forms above
 unfoldable pub statement : Rule (ReadStmt)
@@ -906,7 +906,7 @@ loop_limit = opt (by (λ r. r.1) (seq (tok (kind.LoopLimit ∷ [])) expression))
 
 -- other = "otherwise" "=>" stmt*
 unfoldable pub otherwise : Rule (ReadOtherwise)
-otherwise = by (λ r. ro.ReadOtherwise r.1.1) (seq (tok (kind.Otherwise ∷ [])) (seq (tok (kind.FatArrow ∷ [])) block))
+otherwise = by (λ r. ro.Otherwise r.1.1) (seq (tok (kind.Otherwise ∷ [])) (seq (tok (kind.FatArrow ∷ [])) block))
 
 -- other?
 unfoldable pub maybe_otherwise : Rule (ReadOtherwise)
@@ -933,7 +933,7 @@ target_parts = by (λ r. r.0) (seq two_targets (tok (kind.CloseParen ∷ [])))
 
 -- "elsif" expr "then" stmt*
 unfoldable pub else_if : Rule (ReadElseIf)
-else_if = by (λ r. re.ReadElseIf r.1.0 r.1.1.1) (seq (tok (kind.ElsIf ∷ [])) (seq expression (seq (tok (kind.Then ∷ [])) block)))
+else_if = by (λ r. re.ElseIf r.1.0 r.1.1.1) (seq (tok (kind.ElsIf ∷ [])) (seq expression (seq (tok (kind.Then ∷ [])) block)))
 
 unfoldable pub else_ifs : Rule (List ReadElseIf)
 else_ifs = many else_if
@@ -955,7 +955,7 @@ where_clause = opt (by (λ r. r.1) (seq (tok (kind.Where ∷ [])) expression))
 
 -- alt = "when" pattern,.. ("where" expr)? "=>" stmt*
 unfoldable pub alternative : Rule (ReadAlternative)
-alternative = by (λ r. ra.ReadWhen r.1.0 r.1.1.0 r.1.1.1.1) (seq (tok (kind.When ∷ [])) (seq patterns (seq where_clause (seq (tok (kind.FatArrow ∷ [])) block))))
+alternative = by (λ r. ra.When r.1.0 r.1.1.0 r.1.1.1.1) (seq (tok (kind.When ∷ [])) (seq patterns (seq where_clause (seq (tok (kind.FatArrow ∷ [])) block))))
 
 -- alt*
 unfoldable pub alternatives : Rule (List ReadAlternative)
