@@ -5,8 +5,9 @@ ghost use Rattle.std.specs.Prelude.{◌≡◌, IfOk};
 use crate::exprs::{copy_maybe_expr, copy_maybe_type, copy_type};
 use crate::names::{copy_ident, copy_idents, copy_maybe_ident};
 use crate::reads::copy_read_stmts;
+use crate::stmts::copy_stmts;
 use asl_syn::read::{Accessor, ReadDecl, ReadFunc};
-use asl_syn::tree::{Formal, Param, StorageDecl, TypeDecl, TypeDef};
+use asl_syn::tree::{Decl, Formal, Func, Param, StorageDecl, TypeDecl, TypeDef};
 use sqlite_items::Items;
 use std::alloc::{AllocError, Global};
 
@@ -96,7 +97,7 @@ fn copy_storage(alloc: Global, decl: &StorageDecl) -> Result<StorageDecl, AllocE
 }
 
 /// A copy of a subprogram.
-fn copy_func(alloc: Global, func: &ReadFunc) -> Result<ReadFunc, AllocError>
+fn copy_read_func(alloc: Global, func: &ReadFunc) -> Result<ReadFunc, AllocError>
     ensures { IfOk result (λ copy. copy ≡ func.now) }
 {
     Ok(ReadFunc {
@@ -136,7 +137,7 @@ pub fn copy_decl(alloc: Global, decl: &ReadDecl) -> Result<ReadDecl, AllocError>
     match decl {
         ReadDecl::Type(decl) => Ok(ReadDecl::Type(copy_type_decl(alloc, decl)?)),
         ReadDecl::Storage(decl) => Ok(ReadDecl::Storage(copy_storage(alloc, decl)?)),
-        ReadDecl::Func(func) => Ok(ReadDecl::Func(copy_func(alloc, func)?)),
+        ReadDecl::Func(func) => Ok(ReadDecl::Func(copy_read_func(alloc, func)?)),
         ReadDecl::Accessor(accessor) => { Ok(ReadDecl::Accessor(copy_accessor(alloc, accessor)?)) }
     }
 }
@@ -150,4 +151,31 @@ pub fn copy_decls(alloc: Global, items: &[ReadDecl]) -> Result<Items<ReadDecl>, 
         copies.push(copy_decl(alloc, item)?)?;
     }
     Ok(copies)
+}
+
+/// A copy of a subprogram that is written out.
+fn copy_func(alloc: Global, func: &Func) -> Result<Func, AllocError>
+    ensures { IfOk result (λ copy. copy ≡ func.now) }
+{
+    Ok(Func {
+        span: func.span,
+        qualifier: func.qualifier,
+        name: copy_ident(alloc, &func.name)?,
+        params: copy_params(alloc, func.params.as_slice())?,
+        formals: copy_formals(alloc, func.formals.as_slice())?,
+        result: copy_maybe_type(alloc, &func.result)?,
+        limit: copy_maybe_expr(alloc, &func.limit)?,
+        body: copy_stmts(alloc, func.body.as_slice())?,
+    })
+}
+
+/// A copy of a declaration that is written out.
+pub fn copy_written(alloc: Global, decl: &Decl) -> Result<Decl, AllocError>
+    ensures { IfOk result (λ copy. copy ≡ decl.now) }
+{
+    match decl {
+        Decl::Type(decl) => Ok(Decl::Type(copy_type_decl(alloc, decl)?)),
+        Decl::Storage(decl) => Ok(Decl::Storage(copy_storage(alloc, decl)?)),
+        Decl::Func(func) => Ok(Decl::Func(copy_func(alloc, func)?)),
+    }
 }

@@ -4,10 +4,11 @@ use Rattle.asl_syn.specs.declared.code.Fault.{Fault}
 use Rattle.asl_syn.specs.declared.code.Refused.{Refused}
 use Rattle.asl_syn.specs.declared.code.Refused.TheVariants.{At, NoMemory}
 use Rattle.asl_syn.specs.declared.tree.Decl.{Decl}
+use Rattle.asl_syn.specs.declared.read.ReadDecl.{ReadDecl}
 use Rattle.asl_rules.specs.declared.entry.Entry.{Entry}
 use Rattle.asl_rules.specs.Faults.{◌>>=◌}
 use Rattle.asl_rules.specs.declarations.Programs as rules
-use Rattle.asl_rules.specs.declarations.Programs.{Entries, verdict}
+use Rattle.asl_rules.specs.declarations.Programs.{Entries, final_decls, read_verdict, verdict}
 use Rattle.asl_rules.specs.Tests.{Tests}
 use Rattle.asl_tree.specs.Funcs.{all_funcs}
 use Rattle.asl_tree.specs.Sealed.{Sealed}
@@ -32,3 +33,9 @@ abbrev pub IsVerdict : Tests → Entry → List Decl → Result Sealed Refused �
 IsVerdict t e ds (Ok checked) = (checked.decls ≡ ds) × ((checked.asked ≡ e) × (entries_in (verdict e ds t) ≡ Ok checked.entries))
 IsVerdict t e ds (Err (At f)) = verdict e ds t ≡ Err f
 IsVerdict t e ds (Err NoMemory) = Unit {0}
+
+-- the same of declarations as they are read: those that are sealed are the ones with the bodies that replace others
+abbrev pub IsReadVerdict : Tests → Entry → List ReadDecl → Result Sealed Refused → Type 0
+IsReadVerdict t e ds (Ok checked) = (checked.decls ≡ final_decls ds) × ((checked.asked ≡ e) × (entries_in (read_verdict e ds t) ≡ Ok checked.entries))
+IsReadVerdict t e ds (Err (At f)) = read_verdict e ds t ≡ Err f
+IsReadVerdict t e ds (Err NoMemory) = Unit {0}
