@@ -18,17 +18,8 @@ use std::alloc::{AllocError, Global};
 fn write_func(alloc: Global, func: ReadFunc) -> Result<Func, AllocError>
     ensures { IfOk result (λ written. written ≡ rules.func_written func) }
 {
-    let ReadFunc {
-        span,
-        word: _word,
-        qualifier,
-        name,
-        params,
-        formals,
-        result,
-        limit,
-        body,
-    } = func;
+    let (span, qualifier) = (func.span, func.qualifier);
+    let (name, params, formals, result, limit, body) = func.into_parts();
     let (result, limit) = (Held::new(result), Held::new(limit));
     let body = write_stmts(alloc, body)?;
     Ok(Func {
@@ -44,23 +35,12 @@ fn write_func(alloc: Global, func: ReadFunc) -> Result<Func, AllocError>
 }
 
 /// What the two subprograms that an accessor is have in common.
+#[derive(Drop)]
 struct Heading {
     span: Span,
     name: Ident,
     params: Items<Param>,
     formals: Items<Formal>,
-}
-
-// By hand, so that a drop of one is a call, as `Held` of asl_shared says.
-impl Drop for Heading {
-    fn drop(self) {
-        let Heading {
-            span: _span,
-            name: _name,
-            params: _params,
-            formals: _formals,
-        } = self;
-    }
 }
 
 /// The function that an accessor is: a copy of its heading and of the type of its value, with the word and the body of
@@ -124,17 +104,8 @@ fn write_accessor(
     accessor: Accessor,
     written: &mut Items<Decl>,
 ) -> Result<(), AllocError> {
-    let Accessor {
-        span,
-        word: _word,
-        name,
-        params,
-        formals,
-        value,
-        qualifier,
-        getter,
-        setter,
-    } = accessor;
+    let (span, qualifier) = (accessor.span, accessor.qualifier);
+    let (name, params, formals, value, getter, setter) = accessor.into_parts();
     let heading = Heading {
         span,
         name,

@@ -97,20 +97,10 @@ pub fn replaced(alloc: Global, program: &ReadProgram) -> Result<ReadProgram, Ref
 // ---- what the checker judges, which keeps no copy of the program
 
 /// A declaration that is put in the place of another.
+#[derive(Drop)]
 struct Swap {
     place: usize,
     decl: Decl,
-}
-
-// By hand, so that a drop of one is a call, as `Held` of asl_shared says.
-impl Drop for Swap {
-    fn drop(self) {
-        let Swap {
-            place: _place,
-            decl,
-        } = self;
-        drop(decl);
-    }
 }
 
 /// A program that is written out with the bodies that may be replaced, and the declarations that replace them.
@@ -246,8 +236,7 @@ fn push_body(place: usize, body: Items<Decl>, swaps: &mut Items<Swap>) -> Result
 /// T26, and the first that matches an `impdef` which one before it matches is T27.
 pub fn parted(alloc: Global, program: ReadProgram) -> Result<Replacing, Refused> {
     let parts = match_bodies(alloc, program.decls.as_slice())?;
-    let ReadProgram { decls } = program;
-    let mut rest = reversed(alloc, decls)?;
+    let mut rest = reversed(alloc, program.into_decls())?;
     let mut writing = Writing {
         decls: Items::new(alloc),
         bodies: Items::new(alloc),

@@ -27,7 +27,7 @@ fn write_stmt(alloc: Global, stmt: ReadStmt, written: &mut Items<Stmt>) -> Resul
                 parameters,
                 arguments,
                 suffixes,
-                value,
+                value: Held::new(value),
             };
             write_store(alloc, store, written)?;
         }

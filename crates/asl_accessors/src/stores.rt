@@ -16,28 +16,14 @@ use sqlite_items::Items;
 use std::alloc::{AllocError, Global};
 
 /// `f{p}(e) suffixes = e;`
+#[derive(Drop)]
 pub struct Store {
     pub at: Span,
     pub name: Ident,
     pub parameters: Items<Expr>,
     pub arguments: Items<Expr>,
     pub suffixes: Items<PlacedSuffix>,
-    pub value: Expr,
-}
-
-// By hand, so that a drop of one is a call, as `Held` of asl_shared says.
-impl Drop for Store {
-    fn drop(self) {
-        let Store {
-            at: _at,
-            name: _name,
-            parameters: _parameters,
-            arguments: _arguments,
-            suffixes: _suffixes,
-            value,
-        } = self;
-        drop(value);
-    }
+    pub value: Held<Expr>,
 }
 
 /// `let NAME = e;` or `var NAME = e;`
@@ -105,7 +91,7 @@ fn write_whole(alloc: Global, store: Store, written: &mut Items<Stmt>) -> Result
         value,
     } = store;
     let mut all = Items::new(alloc);
-    all.push(value)?;
+    all.push(value.into_inner())?;
     all.append(arguments)?;
     written.push(Stmt::Invoke(at, name, parameters, all))?;
     Ok(())
@@ -181,8 +167,8 @@ fn write_part(alloc: Global, store: Store, written: &mut Items<Stmt>) -> Result<
         suffixes,
         value,
     } = store;
-    let value_at = place(&value);
-    let values = all_values(alloc, value, arguments)?;
+    let value_at = place(value.get());
+    let values = all_values(alloc, value.into_inner(), arguments)?;
     let spans = places_of(alloc, values.as_slice())?;
     write_values(alloc, at, values, written)?;
     let spans = &spans.as_slice()[1..];

@@ -105,6 +105,37 @@ impl Drop for ReadFunc {
     }
 }
 
+impl ReadFunc {
+    ghost use Rattle.std.specs.Prelude.{◌≡◌};
+
+    /// Its name, parameters, formals, result, limit and body.
+    pub fn into_parts(
+        self,
+    ) -> (
+        Ident,
+        Items<Param>,
+        Items<Formal>,
+        Option<TypeExpr>,
+        Option<Expr>,
+        Items<ReadStmt>,
+    )
+        ensures { result ≡ (self.name, self.params, self.formals, self.result, self.limit, self.body) }
+    {
+        let ReadFunc {
+            span: _span,
+            word: _word,
+            qualifier: _qualifier,
+            name,
+            params,
+            formals,
+            result,
+            limit,
+            body,
+        } = self;
+        (name, params, formals, result, limit, body)
+    }
+}
+
 /// `accessor f{N}(x: T) <=> v: T begin getter .. end; setter .. end; end;`, with the qualifier of the getter.
 pub struct Accessor {
     pub span: Span,
@@ -135,6 +166,37 @@ impl Drop for Accessor {
     }
 }
 
+impl Accessor {
+    ghost use Rattle.std.specs.Prelude.{◌≡◌};
+
+    /// Its name, parameters, formals and value, and the bodies of the getter and the setter.
+    pub fn into_parts(
+        self,
+    ) -> (
+        Ident,
+        Items<Param>,
+        Items<Formal>,
+        Formal,
+        Items<ReadStmt>,
+        Items<ReadStmt>,
+    )
+        ensures { result ≡ (self.name, self.params, self.formals, self.value, self.getter, self.setter) }
+    {
+        let Accessor {
+            span: _span,
+            word: _word,
+            name,
+            params,
+            formals,
+            value,
+            qualifier: _qualifier,
+            getter,
+            setter,
+        } = self;
+        (name, params, formals, value, getter, setter)
+    }
+}
+
 /// A declaration as it is read.
 #[derive(Drop)]
 pub enum ReadDecl {
@@ -153,5 +215,17 @@ pub struct ReadProgram {
 impl Drop for ReadProgram {
     fn drop(self) {
         let ReadProgram { decls: _decls } = self;
+    }
+}
+
+impl ReadProgram {
+    ghost use Rattle.std.specs.Prelude.{◌≡◌};
+
+    /// Its declarations.
+    pub fn into_decls(self) -> Items<ReadDecl>
+        ensures { result ≡ self.decls }
+    {
+        let ReadProgram { decls } = self;
+        decls
     }
 }
