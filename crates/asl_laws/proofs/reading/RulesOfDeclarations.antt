@@ -1,12 +1,13 @@
 -- What the rules of declarations read has its spans in the file.
 -- Written by tools/grammar/generate.py from tools/grammar/table.py.
-use Rattle.std.proofs.Common.{ℕ, inl, inr, List, Option, sym, subst}
+use Rattle.std.proofs.Common.{ℕ, inl, inr, List, Option, Some, sym, subst}
 use Rattle.asl_syn.specs.declared.tree.Expr.{Expr}
 use Rattle.asl_syn.specs.declared.tree.TypeExpr.{TypeExpr}
 use Rattle.asl_syn.specs.declared.tree.Formal.{Formal}
 use Rattle.asl_syn.specs.declared.tree.Param.{Param}
 use Rattle.asl_syn.specs.declared.tree.TypeDef.{TypeDef}
 use Rattle.asl_syn.specs.declared.tree.StorageKind.{StorageKind}
+use Rattle.asl_syn.specs.declared.tree.StorageKind.TheVariants as sk
 use Rattle.asl_syn.specs.declared.tree.Qualifier.{Qualifier}
 use Rattle.asl_syn.specs.declared.tree.Ident.{Ident}
 use Rattle.asl_syn.specs.declared.read.ReadStmt.{ReadStmt}
@@ -17,9 +18,10 @@ use Rattle.asl_grammar.specs.grammar.Cursor.{whole}
 use Rattle.asl_grammar.specs.grammar.Rules.{formal, formal_list, maybe_formals, formals, param, param_list, maybe_param_list, params, maybe_params, label_list, label_braces, labels, no_members, listed_members, some_members, maybe_some_members, member_braces, members, record_type, exception_type, type_definition, supertype, type_decl, fixed_kind, fixed_storage, typed_var, global_rest, global_var, result_type, recursion_limit, written_qualifier, qualifier, body_word, maybe_body_word, function, getter, setter, accessor, behind_word, bodied, declaration, program}
 use Rattle.asl_rules.proofs.verdict.SameRules.{AllOf}
 use Rattle.asl_laws.proofs.reading.Inside.{whole_in, in_opt}
-use Rattle.asl_laws.proofs.reading.Predicates.{in_pair, IdentIn, ExprIn, TypeExprIn, FormalIn, ParamIn, TypeDefIn, QualifierIn, StorageKindIn, seconds_in, or_nil_in}
+use Rattle.asl_laws.proofs.reading.Predicates.{in_pair, IdentIn, ExprIn, TypeExprIn, FormalIn, ParamIn, TypeDefIn, ReadStmtIn, ReadDeclIn, QualifierIn, StorageKindIn, BodyWordIn, BodiedIn, seconds_in, or_nil_in}
 use Rattle.asl_laws.proofs.reading.StmtNodes.{labels_node, record_node, exception_node, param_node}
-use Rattle.asl_laws.proofs.reading.Builds.{untyped_in}
+use Rattle.asl_laws.proofs.reading.ReadNodes.{read_type_node, read_storage_node}
+use Rattle.asl_laws.proofs.reading.Builds.{bodied_of_in, untyped_in}
 use Rattle.asl_laws.proofs.reading.Combining.{all_inside, opt_inside}
 use Rattle.asl_laws.proofs.reading.Symbols.{In}
 use Rattle.asl_laws.proofs.reading.RulesOfExpressions.{name_inside, type_expression_inside, expression_inside}
@@ -123,7 +125,7 @@ module _ (n size limit : ℕ) where
 
   type_decl_inside : (v : ReadDecl) → In n size limit type_decl v → ReadDeclIn n size limit v
   unfolding type_decl
-  type_decl_inside v (x, h, e) = subst (ReadDeclIn n size limit) (sym e) (whole_in n size x.1 h.1, (name_inside n size limit x.0.1.0 h.0.1.0, (type_definition_inside x.0.1.1.1.0 h.0.1.1.1.0, supertype_inside x.0.1.1.1.1.0 h.0.1.1.1.1.0)))
+  type_decl_inside v (x, h, e) = subst (ReadDeclIn n size limit) (sym e) (read_type_node n size limit (record { span = whole x.1; name = x.0.1.0; def = x.0.1.1.1.0; supertype = x.0.1.1.1.1.0 }) (whole_in n size x.1 h.1) (name_inside n size limit x.0.1.0 h.0.1.0) (type_definition_inside x.0.1.1.1.0 h.0.1.1.1.0) (supertype_inside x.0.1.1.1.1.0 h.0.1.1.1.1.0))
 
   fixed_kind_inside : (v : StorageKind) → In n size limit fixed_kind v → StorageKindIn n size limit v
   unfolding fixed_kind
@@ -132,7 +134,7 @@ module _ (n size limit : ℕ) where
 
   fixed_storage_inside : (v : ReadDecl) → In n size limit fixed_storage v → ReadDeclIn n size limit v
   unfolding fixed_storage
-  fixed_storage_inside v (x, h, e) = subst (ReadDeclIn n size limit) (sym e) (whole_in n size x.1 h.1, (name_inside n size limit x.0.1.0 h.0.1.0, (typed_inside n size limit x.0.1.1.0 h.0.1.1.0, value_inside n size limit x.0.1.1.1 h.0.1.1.1)))
+  fixed_storage_inside v (x, h, e) = subst (ReadDeclIn n size limit) (sym e) (read_storage_node n size limit (record { span = whole x.1; kind = x.0.0; name = x.0.1.0; ty = x.0.1.1.0; init = Some x.0.1.1.1 }) (whole_in n size x.1 h.1) (name_inside n size limit x.0.1.0 h.0.1.0) (typed_inside n size limit x.0.1.1.0 h.0.1.1.0) (value_inside n size limit x.0.1.1.1 h.0.1.1.1))
 
   typed_var_inside : (v : Option TypeExpr × Option Expr) → In n size limit typed_var v → in_opt (TypeExprIn n size limit) v.0 × in_opt (ExprIn n size limit) v.1
   unfolding typed_var
@@ -145,7 +147,7 @@ module _ (n size limit : ℕ) where
 
   global_var_inside : (v : ReadDecl) → In n size limit global_var v → ReadDeclIn n size limit v
   unfolding global_var
-  global_var_inside v (x, h, e) = subst (ReadDeclIn n size limit) (sym e) (whole_in n size x.1 h.1, (name_inside n size limit x.0.1.0 h.0.1.0, ((global_rest_inside x.0.1.1 h.0.1.1).0, (global_rest_inside x.0.1.1 h.0.1.1).1)))
+  global_var_inside v (x, h, e) = subst (ReadDeclIn n size limit) (sym e) (read_storage_node n size limit (record { span = whole x.1; kind = sk.Var; name = x.0.1.0; ty = x.0.1.1.0; init = x.0.1.1.1 }) (whole_in n size x.1 h.1) (name_inside n size limit x.0.1.0 h.0.1.0) ((global_rest_inside x.0.1.1 h.0.1.1).0) ((global_rest_inside x.0.1.1 h.0.1.1).1))
 
   result_type_inside : (v : Option TypeExpr) → In n size limit result_type v → in_opt (TypeExprIn n size limit) v
   unfolding result_type

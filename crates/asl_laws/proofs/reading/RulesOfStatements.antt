@@ -23,8 +23,9 @@ use Rattle.asl_grammar.specs.grammar.Build.{VarRest}
 use Rattle.asl_grammar.specs.grammar.Rules.{pass, unreachable, assert, bind_name, no_binder, binder, more_binders, two_binders, several, other_bind, local_bind, value, let_statement, names_typed, no_value, maybe_value, typed_value, var_rest, var_names, var_other, var_tail, var_statement, no_target, targets, other_target, assignment, return_statement, throw_statement, print_kind, verbatim, print_item, print_items, maybe_print_items, print_arguments, print_statement, simple_statement, parameters, maybe_parameters, call_arguments, call_ends, target_suffixes, assigned, after_call, called, name_statement_rest, name_statement, if_statement, case_statement, for_statement, while_statement, repeat_statement, try_statement, statement, block, loop_limit, otherwise, maybe_otherwise, place, target, more_targets, two_targets, target_parts, else_if, else_ifs, else_block, maybe_else, if_body, where_clause, alternative, alternatives, case_body, direction, for_body, while_body, repeat_body, caught_type, catcher, catchers, some_catchers, handlers, try_body}
 use Rattle.asl_rules.proofs.verdict.SameRules.{AllOf}
 use Rattle.asl_laws.proofs.reading.Inside.{whole_in, in_opt}
-use Rattle.asl_laws.proofs.reading.Predicates.{in_pair, in_sum, IdentIn, ExprIn, PlacedSuffixIn, TargetIn, BinderIn, BindIn, PrintItemIn, StmtIn, DirectionIn, PrintKindIn, VarTailIn, VarRestIn, seconds_in, or_nil_in, behind_in}
+use Rattle.asl_laws.proofs.reading.Predicates.{in_pair, in_sum, IdentIn, ExprIn, PlacedSuffixIn, TargetIn, BinderIn, BindIn, PrintItemIn, StmtIn, ReadStmtIn, ReadElseIfIn, ReadAlternativeIn, ReadOtherwiseIn, ReadCatcherIn, DirectionIn, PrintKindIn, VarTailIn, VarRestIn, seconds_in, or_nil_in, behind_in}
 use Rattle.asl_laws.proofs.reading.StmtNodes.{discarded_node, targets_node, pass_node, unreachable_node, assert_node, print_node, local_node, assign_node, return_node, throw_node, several_node}
+use Rattle.asl_laws.proofs.reading.ReadNodes.{read_simple_node, read_if_node, read_case_node, read_for_node, read_while_node, read_repeat_node, read_try_node, read_when_node, read_else_if_node, read_otherwise_node}
 use Rattle.asl_laws.proofs.reading.Builds.{place_of_in, var_tail_of_in, var_of_in, name_statement_of_in, or_no_otherwise_in, no_catchers_in, catch_of_in}
 use Rattle.asl_laws.proofs.reading.Combining.{all_inside, opt_inside}
 use Rattle.asl_laws.proofs.reading.Symbols.{In}
@@ -240,31 +241,31 @@ module _ (n size limit : ℕ) where
 
   if_statement_inside : (v : ReadStmt) → In n size limit if_statement v → ReadStmtIn n size limit v
   unfolding if_statement
-  if_statement_inside v (x, h, e) = subst (ReadStmtIn n size limit) (sym e) (whole_in n size x.1 h.1, (h.0.1.0, (h.0.1.1, (h.0.1.2, h.0.1.3))))
+  if_statement_inside v (x, h, e) = subst (ReadStmtIn n size limit) (sym e) (read_if_node n size limit (whole x.1) x.0.1.0 x.0.1.1 x.0.1.2 x.0.1.3 (whole_in n size x.1 h.1) h.0.1.0 h.0.1.1 h.0.1.2 h.0.1.3)
 
   case_statement_inside : (v : ReadStmt) → In n size limit case_statement v → ReadStmtIn n size limit v
   unfolding case_statement
-  case_statement_inside v (x, h, e) = subst (ReadStmtIn n size limit) (sym e) (whole_in n size x.1 h.1, (h.0.1.0, (h.0.1.1, h.0.1.2)))
+  case_statement_inside v (x, h, e) = subst (ReadStmtIn n size limit) (sym e) (read_case_node n size limit (whole x.1) x.0.1.0 x.0.1.1 x.0.1.2 (whole_in n size x.1 h.1) h.0.1.0 h.0.1.1 h.0.1.2)
 
   for_statement_inside : (v : ReadStmt) → In n size limit for_statement v → ReadStmtIn n size limit v
   unfolding for_statement
-  for_statement_inside v (x, h, e) = subst (ReadStmtIn n size limit) (sym e) (whole_in n size x.1 h.1, (h.0.1.0, (h.0.1.1, (h.0.1.3, (h.0.1.4, h.0.1.5)))))
+  for_statement_inside v (x, h, e) = subst (ReadStmtIn n size limit) (sym e) (read_for_node n size limit (whole x.1) x.0.1.0 x.0.1.1 x.0.1.2 x.0.1.3 x.0.1.4 x.0.1.5 (whole_in n size x.1 h.1) h.0.1.0 h.0.1.1 h.0.1.3 h.0.1.4 h.0.1.5)
 
   while_statement_inside : (v : ReadStmt) → In n size limit while_statement v → ReadStmtIn n size limit v
   unfolding while_statement
-  while_statement_inside v (x, h, e) = subst (ReadStmtIn n size limit) (sym e) (whole_in n size x.1 h.1, (h.0.1.0, (h.0.1.1, h.0.1.2)))
+  while_statement_inside v (x, h, e) = subst (ReadStmtIn n size limit) (sym e) (read_while_node n size limit (whole x.1) x.0.1.0 x.0.1.1 x.0.1.2 (whole_in n size x.1 h.1) h.0.1.0 h.0.1.1 h.0.1.2)
 
   repeat_statement_inside : (v : ReadStmt) → In n size limit repeat_statement v → ReadStmtIn n size limit v
   unfolding repeat_statement
-  repeat_statement_inside v (x, h, e) = subst (ReadStmtIn n size limit) (sym e) (whole_in n size x.1 h.1, (h.0.1.0, (h.0.1.1, h.0.1.2)))
+  repeat_statement_inside v (x, h, e) = subst (ReadStmtIn n size limit) (sym e) (read_repeat_node n size limit (whole x.1) x.0.1.0 x.0.1.1 x.0.1.2 (whole_in n size x.1 h.1) h.0.1.0 h.0.1.1 h.0.1.2)
 
   try_statement_inside : (v : ReadStmt) → In n size limit try_statement v → ReadStmtIn n size limit v
   unfolding try_statement
-  try_statement_inside v (x, h, e) = subst (ReadStmtIn n size limit) (sym e) (whole_in n size x.1 h.1, (h.0.1.0, (h.0.1.1, h.0.1.2)))
+  try_statement_inside v (x, h, e) = subst (ReadStmtIn n size limit) (sym e) (read_try_node n size limit (whole x.1) x.0.1.0 x.0.1.1 x.0.1.2 (whole_in n size x.1 h.1) h.0.1.0 h.0.1.1 h.0.1.2)
 
   statement_inside : (v : ReadStmt) → In n size limit statement v → ReadStmtIn n size limit v
   unfolding statement
-  statement_inside v (inl h) = subst (ReadStmtIn n size limit) (sym h.2) (simple_statement_inside h.0 h.1)
+  statement_inside v (inl h) = subst (ReadStmtIn n size limit) (sym h.2) (read_simple_node n size limit h.0 (simple_statement_inside h.0 h.1))
   statement_inside v (inr (inl h)) = name_statement_inside v h
   statement_inside v (inr (inr (inl h))) = if_statement_inside v h
   statement_inside v (inr (inr (inr (inl h)))) = case_statement_inside v h
@@ -283,7 +284,7 @@ module _ (n size limit : ℕ) where
 
   otherwise_inside : (v : ReadOtherwise) → In n size limit otherwise v → ReadOtherwiseIn n size limit v
   unfolding otherwise
-  otherwise_inside v (x, h, e) = subst (ReadOtherwiseIn n size limit) (sym e) (block_inside x.1.1 h.1.1)
+  otherwise_inside v (x, h, e) = subst (ReadOtherwiseIn n size limit) (sym e) (read_otherwise_node n size limit x.1.1 (block_inside x.1.1 h.1.1))
 
   maybe_otherwise_inside : (v : ReadOtherwise) → In n size limit maybe_otherwise v → ReadOtherwiseIn n size limit v
   unfolding maybe_otherwise
@@ -313,7 +314,7 @@ module _ (n size limit : ℕ) where
 
   else_if_inside : (v : ReadElseIf) → In n size limit else_if v → ReadElseIfIn n size limit v
   unfolding else_if
-  else_if_inside v (x, h, e) = subst (ReadElseIfIn n size limit) (sym e) (expression_inside n size limit x.1.0 h.1.0, block_inside x.1.1.1 h.1.1.1)
+  else_if_inside v (x, h, e) = subst (ReadElseIfIn n size limit) (sym e) (read_else_if_node n size limit x.1.0 x.1.1.1 (expression_inside n size limit x.1.0 h.1.0) (block_inside x.1.1.1 h.1.1.1))
 
   else_ifs_inside : (v : List ReadElseIf) → In n size limit else_ifs v → AllOf (ReadElseIfIn n size limit) v
   unfolding else_ifs
@@ -337,7 +338,7 @@ module _ (n size limit : ℕ) where
 
   alternative_inside : (v : ReadAlternative) → In n size limit alternative v → ReadAlternativeIn n size limit v
   unfolding alternative
-  alternative_inside v (x, h, e) = subst (ReadAlternativeIn n size limit) (sym e) (patterns_inside n size limit x.1.0 h.1.0, (where_clause_inside x.1.1.0 h.1.1.0, block_inside x.1.1.1.1 h.1.1.1.1))
+  alternative_inside v (x, h, e) = subst (ReadAlternativeIn n size limit) (sym e) (read_when_node n size limit x.1.0 x.1.1.0 x.1.1.1.1 (patterns_inside n size limit x.1.0 h.1.0) (where_clause_inside x.1.1.0 h.1.1.0) (block_inside x.1.1.1.1 h.1.1.1.1))
 
   alternatives_inside : (v : List ReadAlternative) → In n size limit alternatives v → AllOf (ReadAlternativeIn n size limit) v
   unfolding alternatives

@@ -4,7 +4,7 @@ use Rattle.std.proofs.Common.{ℕ}
 use Rattle.asl_grammar.specs.grammar.Rules.{Sym, Val, Rule, after, Parenthesized, Arguments, Braced, Operand, IfParts, Bracketed, Width, SetParts, PatternParts, ConstraintParts, Bitfields, TypeParts, ArrayParts, TargetParts, IfBody, CaseBody, ForBody, WhileBody, RepeatBody, TryBody, Program}
 use Rattle.asl_rules.proofs.verdict.SameRules.{AllOf}
 use Rattle.asl_laws.proofs.reading.Inside.{in_opt, Inside}
-use Rattle.asl_laws.proofs.reading.Predicates.{IdentIn, ExprIn, TypeExprIn, ConstraintPartIn, BitfieldIn, PatternIn, SuffixIn, TargetIn, DirectionIn, BracesIn}
+use Rattle.asl_laws.proofs.reading.Predicates.{IdentIn, ExprIn, TypeExprIn, ConstraintPartIn, BitfieldIn, PatternIn, SuffixIn, TargetIn, ReadStmtIn, ReadElseIfIn, ReadAlternativeIn, ReadOtherwiseIn, ReadCatcherIn, ReadDeclIn, DirectionIn, BracesIn}
 
 module _ (n size limit : ℕ) where
   -- what is asked of what is read behind a token that opens a level

@@ -30,7 +30,11 @@ use Rattle.asl_syn.specs.declared.tree.Decl.{Decl}
 use Rattle.asl_syn.specs.declared.tree.Decl.TheVariants as dc
 use Rattle.asl_syn.specs.declared.read.ReadStmt.{ReadStmt}
 use Rattle.asl_syn.specs.declared.read.ReadAlternative.TheOpen as rs
-use Rattle.asl_syn.specs.declared.read.ReadAlternative.TheFolds.{fold-ReadStmt}
+use Rattle.asl_syn.specs.declared.read.ReadAlternative.TheFolds.{fold-ReadAlternative, fold-ReadCatcher, fold-ReadElseIf, fold-ReadOtherwise, fold-ReadStmt}
+use Rattle.asl_syn.specs.declared.read.ReadAlternative.{ReadAlternative}
+use Rattle.asl_syn.specs.declared.read.ReadCatcher.{ReadCatcher}
+use Rattle.asl_syn.specs.declared.read.ReadElseIf.{ReadElseIf}
+use Rattle.asl_syn.specs.declared.read.ReadOtherwise.{ReadOtherwise}
 use Rattle.asl_syn.specs.declared.read.ReadFunc.{ReadFunc}
 use Rattle.asl_syn.specs.declared.read.Accessor.{Accessor}
 use Rattle.asl_syn.specs.declared.read.ReadDecl.{ReadDecl}
@@ -105,22 +109,44 @@ stmt_layer_written (rs.While at c l ss) = stm.While at c l (joined ss) ∷ []
 stmt_layer_written (rs.Repeat at ss c l) = stm.Repeat at (joined ss) c l ∷ []
 stmt_layer_written (rs.Try at ss cs o) = stm.Try at (joined ss) cs o ∷ []
 
-abbrev pub branch_written : rs.ReadElseIf-F Alternative Catcher ElseIf Otherwise (List Stmt) → ElseIf
-branch_written (rs.ElseIf c ss) = ei.ElseIf c (joined ss)
+abbrev pub else_if_layer_written : rs.ReadElseIf-F Alternative Catcher ElseIf Otherwise (List Stmt) → ElseIf
+else_if_layer_written (rs.ElseIf c ss) = ei.ElseIf c (joined ss)
 
-abbrev pub alternative_written : rs.ReadAlternative-F Alternative Catcher ElseIf Otherwise (List Stmt) → Alternative
-alternative_written (rs.When ps e ss) = al.When ps e (joined ss)
+abbrev pub alternative_layer_written : rs.ReadAlternative-F Alternative Catcher ElseIf Otherwise (List Stmt) → Alternative
+alternative_layer_written (rs.When ps e ss) = al.When ps e (joined ss)
 
-abbrev pub catcher_written : rs.ReadCatcher-F Alternative Catcher ElseIf Otherwise (List Stmt) → Catcher
-catcher_written (rs.Catch i t ss) = ca.Catch i t (joined ss)
+abbrev pub catcher_layer_written : rs.ReadCatcher-F Alternative Catcher ElseIf Otherwise (List Stmt) → Catcher
+catcher_layer_written (rs.Catch i t ss) = ca.Catch i t (joined ss)
 
-abbrev pub otherwise_written : rs.ReadOtherwise-F Alternative Catcher ElseIf Otherwise (List Stmt) → Otherwise
-otherwise_written rs.NoOtherwise = ot.NoOtherwise
-otherwise_written (rs.Otherwise ss) = ot.Otherwise (joined ss)
+abbrev pub otherwise_layer_written : rs.ReadOtherwise-F Alternative Catcher ElseIf Otherwise (List Stmt) → Otherwise
+otherwise_layer_written rs.NoOtherwise = ot.NoOtherwise
+otherwise_layer_written (rs.Otherwise ss) = ot.Otherwise (joined ss)
 
--- what a statement is written out as
+-- what a statement is written out as, and what stands in statements
 abbrev pub stmt_written : ReadStmt → List Stmt
-stmt_written = fold-ReadStmt Alternative Catcher ElseIf Otherwise (List Stmt) alternative_written catcher_written branch_written otherwise_written stmt_layer_written
+stmt_written =
+    fold-ReadStmt Alternative Catcher ElseIf Otherwise (List Stmt)
+    alternative_layer_written catcher_layer_written else_if_layer_written otherwise_layer_written stmt_layer_written
+
+abbrev pub else_if_written : ReadElseIf → ElseIf
+else_if_written =
+    fold-ReadElseIf Alternative Catcher ElseIf Otherwise (List Stmt)
+    alternative_layer_written catcher_layer_written else_if_layer_written otherwise_layer_written stmt_layer_written
+
+abbrev pub alternative_written : ReadAlternative → Alternative
+alternative_written =
+    fold-ReadAlternative Alternative Catcher ElseIf Otherwise (List Stmt)
+    alternative_layer_written catcher_layer_written else_if_layer_written otherwise_layer_written stmt_layer_written
+
+abbrev pub catcher_written : ReadCatcher → Catcher
+catcher_written =
+    fold-ReadCatcher Alternative Catcher ElseIf Otherwise (List Stmt)
+    alternative_layer_written catcher_layer_written else_if_layer_written otherwise_layer_written stmt_layer_written
+
+abbrev pub otherwise_written : ReadOtherwise → Otherwise
+otherwise_written =
+    fold-ReadOtherwise Alternative Catcher ElseIf Otherwise (List Stmt)
+    alternative_layer_written catcher_layer_written else_if_layer_written otherwise_layer_written stmt_layer_written
 
 abbrev pub list_written : List ReadStmt → List Stmt
 list_written ss = joined (map stmt_written ss)
