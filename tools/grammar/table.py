@@ -239,7 +239,7 @@ rule('call_arguments', 'List Expr × List Expr', seq('maybe_parameters', 'argume
 rule('target_suffixes', 'List PlacedSuffix', scope('suffixes'), 'suffix*, each opening a level until the end of the target')
 rule('assigned', 'List PlacedSuffix × Expr', seq('target_suffixes', 'value'), 'suffix* "=" expr ";"')
 rule('call_ends', 'Option (List PlacedSuffix × Expr)', make('None', tok('Semicolon')), '";"')
-rule('after_call', 'Option (List PlacedSuffix × Expr)', either('call_ends', by('Some', 'assigned')), '";" | suffix* "=" expr ";"', acc=True)
+rule('after_call', 'Option (List PlacedSuffix × Expr)', either('call_ends', by('Some', 'assigned')), '";" | suffix* "=" expr ";"')
 rule('called', '(List Expr × List Expr) × Option (List PlacedSuffix × Expr)', seq('call_arguments', 'after_call'), 'args ";" | args suffix* "=" expr ";"')
 rule('name_statement_rest', '((List Expr × List Expr) × Option (List PlacedSuffix × Expr)) ⊎ (List PlacedSuffix × Expr)', either(by('inl', 'called'), by('inr', 'assigned')), acc='ends')
 rule('name_statement', 'ReadStmt', node('name_statement_of $0 $s $1', 'name', 'name_statement_rest'), 'NAME args ";" | NAME args suffix* "=" expr ";" | lhs "=" expr ";" where lhs begins with a name')

@@ -15,14 +15,15 @@ use Rattle.asl_syn.specs.declared.tree.Qualifier.TheVariants as ql
 use Rattle.asl_syn.specs.declared.tree.Direction.TheVariants as dr
 use Rattle.asl_syn.specs.declared.tree.PrintKind.TheVariants as pk
 use Rattle.asl_syn.specs.declared.read.ReadStmt.TheVariants as rs
+use Rattle.asl_syn.specs.declared.read.BodyWord.TheVariants as bw
 use Rattle.asl_grammar.specs.declared.parts.Bodied.TheVariants as bo
 use Rattle.asl_syn.specs.declared.token.Span.{Span}
 use Rattle.asl_grammar.specs.declared.kinds.Kind.TheVariants as kind
 use Rattle.asl_grammar.specs.grammar.Cursor.{Cursor, starts, ahead, span_to}
 use Rattle.asl_grammar.specs.grammar.Combinators.{tok, seq, either, by}
 use Rattle.asl_grammar.specs.grammar.Reader.{bind, pick, run_tok, run_opens}
-use Rattle.asl_grammar.specs.grammar.Build.{or_nil, behind, or_unqualified, name_statement_of, or_no_otherwise, no_catchers, untyped, VarRest, Untyped}
-use Rattle.asl_grammar.specs.grammar.Rules.{TargetParts, IfBody, CaseBody, ForBody, WhileBody, RepeatBody, TryBody, name, integer_literal, bits_literal, boolean_literal, literal, parenthesized, arguments, named, post_literal, post_parenthesized, post_named, prefixed_by, unary, power, product, sum, comparison, equality, logic, integer_type, boolean_type, bit_type, named_type, bits_type, tuple_type, array_type, type_expression, as_chain, conditional, open_expression, expression, pass, unreachable, assert, bind_name, no_binder, binder, more_binders, two_binders, several, other_bind, local_bind, value, let_statement, names_typed, no_value, maybe_value, typed_value, var_rest, var_names, var_other, var_tail, var_statement, no_target, targets, other_target, assignment, return_statement, throw_statement, print_kind, verbatim, print_item, print_items, maybe_print_items, print_statement, simple_statement, parameters, maybe_parameters, call_arguments, assigned, called, name_statement_rest, name_statement, if_statement, case_statement, for_statement, while_statement, repeat_statement, try_statement, statement, block, loop_limit, otherwise, maybe_otherwise, place, target, more_targets, two_targets, else_if, else_ifs, else_block, maybe_else, where_clause, alternative, alternatives, direction, for_body, caught_type, catcher, catchers, some_catchers, handlers, formal, formal_list, maybe_formals, formals, param, param_list, maybe_param_list, params, maybe_params, label_list, labels, no_members, listed_members, some_members, maybe_some_members, member_braces, members, record_type, exception_type, type_definition, supertype, type_decl, fixed_kind, fixed_storage, typed_var, global_rest, global_var, result_type, recursion_limit, written_qualifier, qualifier, body_word, maybe_body_word, function, accessor, behind_word, bodied, declaration, program}
+use Rattle.asl_grammar.specs.grammar.Build.{or_nil, behind, or_unqualified, name_statement_of, or_no_otherwise, no_catchers, untyped, or_no_word, VarRest, Untyped}
+use Rattle.asl_grammar.specs.grammar.Rules.{TargetParts, IfBody, CaseBody, ForBody, WhileBody, RepeatBody, TryBody, name, integer_literal, bits_literal, boolean_literal, literal, parenthesized, arguments, named, post_literal, post_parenthesized, post_named, prefixed_by, unary, power, product, sum, comparison, equality, logic, integer_type, boolean_type, bit_type, named_type, bits_type, tuple_type, array_type, type_expression, as_chain, conditional, open_expression, expression, pass, unreachable, assert, bind_name, no_binder, binder, more_binders, two_binders, several, other_bind, local_bind, value, let_statement, names_typed, no_value, maybe_value, typed_value, var_rest, var_names, var_other, var_tail, var_statement, no_target, targets, other_target, assignment, return_statement, throw_statement, print_kind, verbatim, print_item, print_items, maybe_print_items, print_statement, simple_statement, parameters, maybe_parameters, call_arguments, call_ends, assigned, after_call, called, name_statement_rest, name_statement, if_statement, case_statement, for_statement, while_statement, repeat_statement, try_statement, statement, block, loop_limit, otherwise, maybe_otherwise, place, target, more_targets, two_targets, else_if, else_ifs, else_block, maybe_else, where_clause, alternative, alternatives, direction, for_body, caught_type, catcher, catchers, some_catchers, handlers, formal, formal_list, maybe_formals, formals, param, param_list, maybe_param_list, params, maybe_params, label_list, labels, no_members, listed_members, some_members, maybe_some_members, member_braces, members, record_type, exception_type, type_definition, supertype, type_decl, fixed_kind, fixed_storage, typed_var, global_rest, global_var, result_type, recursion_limit, written_qualifier, qualifier, body_word, maybe_body_word, function, getter, setter, accessor, behind_word, bodied, declaration, program}
 use Rattle.asl_parse_expr.specs.private.Code.{reading, symbol, then, ending}
 use Rattle.asl_parse_expr.proofs.Loops.{bind_bind, optional_as, optional_plain, choice_as, run_items, items_are, run_more, more_are, commas_are, run_listed, listed_are}
 
@@ -82,9 +83,17 @@ pub maybe_print_items_is : (d : ℕ) (st : Cursor) → reading d maybe_print_ite
 unfolding maybe_print_items print_items print_item verbatim expression open_expression conditional as_chain logic equality comparison sum product power unary prefixed_by post_literal literal integer_literal bits_literal boolean_literal post_parenthesized parenthesized post_named named name
 maybe_print_items_is d st = optional_as d print_items st (λ x end. Ok ((or_nil) x, end)) (bind (reading d print_items st) (λ x m. Ok ((or_nil (Some x)), m))) (refl)
 
+pub simple_statement_is : (d : ℕ) (st : Cursor) → reading d simple_statement st ≡ pick (starts (kind.Pass ∷ []) st.toks) (reading d pass st) (pick (starts (kind.Unreachable ∷ []) st.toks) (reading d unreachable st) (pick (starts (kind.Assert ∷ []) st.toks) (reading d assert st) (pick (starts (kind.Let ∷ []) st.toks) (reading d let_statement st) (pick (starts (kind.Var ∷ []) st.toks) (reading d var_statement st) (pick (starts (kind.Minus ∷ kind.OpenParen ∷ []) st.toks) (reading d assignment st) (pick (starts (kind.Return ∷ []) st.toks) (reading d return_statement st) (pick (starts (kind.Throw ∷ []) st.toks) (reading d throw_statement st) (reading d print_statement st))))))))
+unfolding simple_statement pass unreachable assert let_statement var_statement assignment other_target no_target targets return_statement throw_statement
+simple_statement_is d st = refl
+
 pub maybe_parameters_is : (d : ℕ) (st : Cursor) → reading d maybe_parameters st ≡ pick (starts (kind.OpenBrace ∷ []) st.toks) (bind (reading d parameters st) (λ x m. Ok ((or_nil (Some x)), m))) (Ok ((or_nil None), st))
 unfolding maybe_parameters parameters
 maybe_parameters_is d st = optional_as d parameters st (λ x end. Ok ((or_nil) x, end)) (bind (reading d parameters st) (λ x m. Ok ((or_nil (Some x)), m))) (refl)
+
+pub after_call_is : (d : ℕ) (st : Cursor) → reading d after_call st ≡ pick (starts (kind.Semicolon ∷ []) st.toks) (reading d call_ends st) (bind (reading d assigned st) (λ x m. Ok ((Some x), m)))
+unfolding after_call call_ends
+after_call_is d st = refl
 
 pub name_statement_rest_ends : {B : Type 0} (d : ℕ) (from : Span) (f : Span → (((List Expr × List Expr) × Option (List PlacedSuffix × Expr)) ⊎ (List PlacedSuffix × Expr)) → B) (st : Cursor) → ending from f (reading d name_statement_rest st) ≡ pick (starts (kind.OpenBrace ∷ kind.OpenParen ∷ []) st.toks) (bind (reading d called st) (λ x m. Ok (f (span_to from m.last) (inl x), m))) (bind (reading d assigned st) (λ x m. Ok (f (span_to from m.last) (inr x), m)))
 unfolding name_statement_rest called call_arguments maybe_parameters parameters arguments ending
@@ -250,9 +259,25 @@ pub qualifier_is : (d : ℕ) (st : Cursor) → reading d qualifier st ≡ pick (
 unfolding qualifier written_qualifier
 qualifier_is d st = optional_as d written_qualifier st (λ x end. Ok ((or_unqualified) x, end)) (bind (reading d written_qualifier st) (λ x m. Ok ((or_unqualified (Some x)), m))) (refl)
 
+pub body_word_is : (d : ℕ) (st : Cursor) → reading d body_word st ≡ pick (starts (kind.ImpDef ∷ []) st.toks) (bind (run_tok (kind.ImpDef ∷ []) st st.toks) (λ t m. Ok (bw.ImpDef, m))) (bind (run_tok (kind.Implementation ∷ []) st st.toks) (λ t m. Ok (bw.Implementation, m)))
+unfolding body_word
+body_word_is d st = refl
+
+pub maybe_body_word_is : (d : ℕ) (st : Cursor) → reading d maybe_body_word st ≡ pick (starts (kind.ImpDef ∷ kind.Implementation ∷ []) st.toks) (bind (reading d body_word st) (λ x m. Ok ((or_no_word (Some x)), m))) (Ok ((or_no_word None), st))
+unfolding maybe_body_word body_word
+maybe_body_word_is d st = optional_as d body_word st (λ x end. Ok ((or_no_word) x, end)) (bind (reading d body_word st) (λ x m. Ok ((or_no_word (Some x)), m))) (refl)
+
 pub function_is : (d : ℕ) (st : Cursor) → reading d function st ≡ bind (reading d qualifier st) (λ x m. bind (run_tok (kind.Func ∷ []) m m.toks) (λ t m1. bind (reading d name m1) (λ x1 m2. bind (reading d maybe_params m2) (λ x2 m3. bind (reading d formals m3) (λ x3 m4. bind (reading d result_type m4) (λ x4 m5. bind (reading d recursion_limit m5) (λ x5 m6. bind (run_tok (kind.Begin ∷ []) m6 m6.toks) (λ t1 m7. bind (reading d block m7) (λ x6 m8. bind (run_tok (kind.End ∷ []) m8 m8.toks) (λ t2 m9. bind (run_tok (kind.Semicolon ∷ []) m9 m9.toks) (λ t3 m10. Ok ((bo.Subprogram x x1 x2 x3 x4 x5 x6), m10))))))))))))
 unfolding function
 function_is d st = simp bind_bind
+
+pub accessor_is : (d : ℕ) (st : Cursor) → reading d accessor st ≡ bind (run_tok (kind.Accessor ∷ []) st st.toks) (λ t m. bind (reading d name m) (λ x m1. bind (reading d maybe_params m1) (λ x1 m2. bind (reading d formals m2) (λ x2 m3. bind (run_tok (kind.Access ∷ []) m3 m3.toks) (λ t1 m4. bind (reading d formal m4) (λ x3 m5. bind (run_tok (kind.Begin ∷ []) m5 m5.toks) (λ t2 m6. bind (reading d getter m6) (λ x4 m7. bind (reading d setter m7) (λ x5 m8. bind (run_tok (kind.End ∷ []) m8 m8.toks) (λ t3 m9. bind (run_tok (kind.Semicolon ∷ []) m9 m9.toks) (λ t4 m10. Ok ((bo.Accessor x x1 x2 x3 x4.0 x4.1 x5), m10))))))))))))
+unfolding accessor
+accessor_is d st = simp bind_bind
+
+pub behind_word_is : (d : ℕ) (st : Cursor) → reading d behind_word st ≡ pick (starts (kind.Pure ∷ kind.ReadOnly ∷ kind.Func ∷ []) st.toks) (reading d function st) (reading d accessor st)
+unfolding behind_word function qualifier written_qualifier
+behind_word_is d st = refl
 
 pub declaration_is : (d : ℕ) (st : Cursor) → reading d declaration st ≡ pick (starts (kind.TypeWord ∷ []) st.toks) (reading d type_decl st) (pick (starts (kind.Constant ∷ kind.Let ∷ []) st.toks) (reading d fixed_storage st) (pick (starts (kind.Var ∷ []) st.toks) (reading d global_var st) (reading d bodied st)))
 unfolding declaration type_decl fixed_storage fixed_kind global_var
