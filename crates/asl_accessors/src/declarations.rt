@@ -1,6 +1,6 @@
 //! Declarations, written out.
 
-ghost use Rattle.std.specs.Prelude.{◌≡◌, ◌++◌, IfOk, OnOk};
+ghost use Rattle.std.specs.Prelude.{◌≡◌, ◌++◌, ◌∷◌, IfOk, OnOk};
 ghost use Rattle.asl_rules.specs.declarations.WrittenOut as rules;
 
 use crate::statements::write_stmts;
@@ -51,7 +51,9 @@ fn write_getter(
     ty: &TypeExpr,
     qualifier: Qualifier,
     body: Items<ReadStmt>,
-) -> Result<Func, AllocError> {
+) -> Result<Func, AllocError>
+    ensures { IfOk result (λ f. f ≡ record { span = heading.now.span; qualifier = qualifier; name = heading.now.name; params = heading.now.params; formals = heading.now.formals; result = Some ty.now; limit = None; body = rules.list_written body }) }
+{
     let body = write_stmts(alloc, body)?;
     let name = copy_ident(alloc, &heading.name)?;
     let params = copy_params(alloc, heading.params.as_slice())?;
@@ -75,7 +77,9 @@ fn write_setter(
     heading: Heading,
     value: Formal,
     body: Items<ReadStmt>,
-) -> Result<Func, AllocError> {
+) -> Result<Func, AllocError>
+    ensures { IfOk result (λ f. f ≡ record { span = heading.span; qualifier = Qualifier.Unqualified; name = heading.name; params = heading.params; formals = value ∷ heading.formals; result = None; limit = None; body = rules.list_written body }) }
+{
     let Heading {
         span,
         name,
@@ -103,7 +107,9 @@ fn write_accessor(
     alloc: Global,
     accessor: Accessor,
     written: &mut Items<Decl>,
-) -> Result<(), AllocError> {
+) -> Result<(), AllocError>
+    ensures { OnOk result (written.new ≡ written.old ++ rules.decl_written (ReadDecl.Accessor accessor)) }
+{
     let (span, qualifier) = (accessor.span, accessor.qualifier);
     let (name, params, formals, value, getter, setter) = accessor.into_parts();
     let heading = Heading {

@@ -1,6 +1,6 @@
 //! The keys of headers: equal where two headers are the same tree, spans aside.
 
-ghost use Rattle.std.specs.Prelude.{◌≡◌, ◌++◌, [], ◌∷◌, OnOk, IfOk, map, length};
+ghost use Rattle.std.specs.Prelude.{◌≡◌, ◌++◌, ◌∷◌, false, OnOk, IfOk, map};
 ghost use Rattle.asl_rules.specs.declarations.Keys as rules;
 
 use asl_syn::read::{Accessor, ReadFunc};
@@ -202,7 +202,9 @@ fn push_expr(alloc: Global, key: &mut Key, expr: &Expr) -> Result<(), AllocError
 }
 
 #[cycle(keys)]
-fn push_exprs(alloc: Global, key: &mut Key, items: &[Expr]) -> Result<(), AllocError> {
+fn push_exprs(alloc: Global, key: &mut Key, items: &[Expr]) -> Result<(), AllocError>
+    ensures { OnOk result (key.new.items ≡ key.old.items ++ rules.list_key (map rules.expr_key items.now)) }
+{
     key.push(items.len() as u128)?;
     for item in items {
         push_expr(alloc, key, item)?;
@@ -211,14 +213,18 @@ fn push_exprs(alloc: Global, key: &mut Key, items: &[Expr]) -> Result<(), AllocE
 }
 
 #[cycle(keys)]
-fn push_field(alloc: Global, key: &mut Key, field: &FieldValue) -> Result<(), AllocError> {
+fn push_field(alloc: Global, key: &mut Key, field: &FieldValue) -> Result<(), AllocError>
+    ensures { OnOk result (key.new.items ≡ key.old.items ++ rules.field_key field.now) }
+{
     let FieldValue::Given(name, value) = field;
     push_name(key, name)?;
     push_expr(alloc, key, value)
 }
 
 #[cycle(keys)]
-fn push_fields(alloc: Global, key: &mut Key, items: &[FieldValue]) -> Result<(), AllocError> {
+fn push_fields(alloc: Global, key: &mut Key, items: &[FieldValue]) -> Result<(), AllocError>
+    ensures { OnOk result (key.new.items ≡ key.old.items ++ rules.list_key (map rules.field_key items.now)) }
+{
     key.push(items.len() as u128)?;
     for item in items {
         push_field(alloc, key, item)?;
@@ -234,14 +240,18 @@ fn push_two(
     form: u128,
     first: &Expr,
     second: &Expr,
-) -> Result<(), AllocError> {
+) -> Result<(), AllocError>
+    ensures { OnOk result (key.new.items ≡ key.old.items ++ form ∷ (rules.expr_key first.now ++ rules.expr_key second.now)) }
+{
     key.push(form)?;
     push_expr(alloc, key, first)?;
     push_expr(alloc, key, second)
 }
 
 #[cycle(keys)]
-fn push_slice(alloc: Global, key: &mut Key, slice: &Slice) -> Result<(), AllocError> {
+fn push_slice(alloc: Global, key: &mut Key, slice: &Slice) -> Result<(), AllocError>
+    ensures { OnOk result (key.new.items ≡ key.old.items ++ rules.slice_key slice.now) }
+{
     match slice {
         Slice::BitAt(index) => {
             key.push(0)?;
@@ -254,7 +264,9 @@ fn push_slice(alloc: Global, key: &mut Key, slice: &Slice) -> Result<(), AllocEr
 }
 
 #[cycle(keys)]
-fn push_slices(alloc: Global, key: &mut Key, items: &[Slice]) -> Result<(), AllocError> {
+fn push_slices(alloc: Global, key: &mut Key, items: &[Slice]) -> Result<(), AllocError>
+    ensures { OnOk result (key.new.items ≡ key.old.items ++ rules.list_key (map rules.slice_key items.now)) }
+{
     key.push(items.len() as u128)?;
     for item in items {
         push_slice(alloc, key, item)?;
@@ -263,7 +275,9 @@ fn push_slices(alloc: Global, key: &mut Key, items: &[Slice]) -> Result<(), Allo
 }
 
 #[cycle(keys)]
-fn push_part(alloc: Global, key: &mut Key, part: &ConstraintPart) -> Result<(), AllocError> {
+fn push_part(alloc: Global, key: &mut Key, part: &ConstraintPart) -> Result<(), AllocError>
+    ensures { OnOk result (key.new.items ≡ key.old.items ++ rules.part_key part.now) }
+{
     match part {
         ConstraintPart::Only(only) => {
             key.push(0)?;
@@ -274,7 +288,9 @@ fn push_part(alloc: Global, key: &mut Key, part: &ConstraintPart) -> Result<(), 
 }
 
 #[cycle(keys)]
-fn push_parts(alloc: Global, key: &mut Key, items: &[ConstraintPart]) -> Result<(), AllocError> {
+fn push_parts(alloc: Global, key: &mut Key, items: &[ConstraintPart]) -> Result<(), AllocError>
+    ensures { OnOk result (key.new.items ≡ key.old.items ++ rules.list_key (map rules.part_key items.now)) }
+{
     key.push(items.len() as u128)?;
     for item in items {
         push_part(alloc, key, item)?;
@@ -283,7 +299,9 @@ fn push_parts(alloc: Global, key: &mut Key, items: &[ConstraintPart]) -> Result<
 }
 
 #[cycle(keys)]
-fn push_bitfield(alloc: Global, key: &mut Key, bitfield: &Bitfield) -> Result<(), AllocError> {
+fn push_bitfield(alloc: Global, key: &mut Key, bitfield: &Bitfield) -> Result<(), AllocError>
+    ensures { OnOk result (key.new.items ≡ key.old.items ++ rules.bitfield_key bitfield.now) }
+{
     match bitfield {
         Bitfield::OneBit(index, name) => {
             key.push(0)?;
@@ -298,7 +316,9 @@ fn push_bitfield(alloc: Global, key: &mut Key, bitfield: &Bitfield) -> Result<()
 }
 
 #[cycle(keys)]
-fn push_bitfields(alloc: Global, key: &mut Key, items: &[Bitfield]) -> Result<(), AllocError> {
+fn push_bitfields(alloc: Global, key: &mut Key, items: &[Bitfield]) -> Result<(), AllocError>
+    ensures { OnOk result (key.new.items ≡ key.old.items ++ rules.list_key (map rules.bitfield_key items.now)) }
+{
     key.push(items.len() as u128)?;
     for item in items {
         push_bitfield(alloc, key, item)?;
@@ -307,7 +327,9 @@ fn push_bitfields(alloc: Global, key: &mut Key, items: &[Bitfield]) -> Result<()
 }
 
 #[cycle(keys)]
-fn push_pattern(alloc: Global, key: &mut Key, pattern: &Pattern) -> Result<(), AllocError> {
+fn push_pattern(alloc: Global, key: &mut Key, pattern: &Pattern) -> Result<(), AllocError>
+    ensures { OnOk result (key.new.items ≡ key.old.items ++ rules.pattern_key pattern.now) }
+{
     match pattern {
         Pattern::AnyPattern(_) => {
             key.push(0)?;
@@ -343,7 +365,9 @@ fn push_pattern(alloc: Global, key: &mut Key, pattern: &Pattern) -> Result<(), A
 }
 
 #[cycle(keys)]
-fn push_patterns(alloc: Global, key: &mut Key, items: &[Pattern]) -> Result<(), AllocError> {
+fn push_patterns(alloc: Global, key: &mut Key, items: &[Pattern]) -> Result<(), AllocError>
+    ensures { OnOk result (key.new.items ≡ key.old.items ++ rules.list_key (map rules.pattern_key items.now)) }
+{
     key.push(items.len() as u128)?;
     for item in items {
         push_pattern(alloc, key, item)?;
@@ -390,7 +414,9 @@ fn push_type(alloc: Global, key: &mut Key, ty: &TypeExpr) -> Result<(), AllocErr
 }
 
 #[cycle(keys)]
-fn push_types(alloc: Global, key: &mut Key, items: &[TypeExpr]) -> Result<(), AllocError> {
+fn push_types(alloc: Global, key: &mut Key, items: &[TypeExpr]) -> Result<(), AllocError>
+    ensures { OnOk result (key.new.items ≡ key.old.items ++ rules.list_key (map rules.type_key items.now)) }
+{
     key.push(items.len() as u128)?;
     for item in items {
         push_type(alloc, key, item)?;
@@ -398,7 +424,9 @@ fn push_types(alloc: Global, key: &mut Key, items: &[TypeExpr]) -> Result<(), Al
     Ok(())
 }
 
-fn push_maybe_type(alloc: Global, key: &mut Key, ty: &Option<TypeExpr>) -> Result<(), AllocError> {
+fn push_maybe_type(alloc: Global, key: &mut Key, ty: &Option<TypeExpr>) -> Result<(), AllocError>
+    ensures { OnOk result (key.new.items ≡ key.old.items ++ rules.maybe_key rules.type_key ty.now) }
+{
     match ty {
         None => {
             key.push(0)?;
@@ -411,7 +439,9 @@ fn push_maybe_type(alloc: Global, key: &mut Key, ty: &Option<TypeExpr>) -> Resul
     }
 }
 
-fn push_maybe_expr(alloc: Global, key: &mut Key, e: &Option<Expr>) -> Result<(), AllocError> {
+fn push_maybe_expr(alloc: Global, key: &mut Key, e: &Option<Expr>) -> Result<(), AllocError>
+    ensures { OnOk result (key.new.items ≡ key.old.items ++ rules.maybe_key rules.expr_key e.now) }
+{
     match e {
         None => {
             key.push(0)?;

@@ -1,6 +1,7 @@
 //! Which `implementation` matches which `impdef`.
 
 ghost use Rattle.std.specs.Prelude.{◌≡◌, IfOk, length};
+ghost use Rattle.asl_accessors.specs.Judged.{IsMatched};
 
 use crate::keys::{Key, accessor_key, func_key};
 use asl_syn::code::{Fault, Refused, StaticCode};
@@ -158,7 +159,8 @@ fn part_of<'a>(
 /// What becomes of each declaration. The first `implementation` that no `impdef` matches is T26, and the first that matches
 /// an `impdef` which one before it matches is T27.
 pub fn match_bodies(alloc: Global, decls: &[ReadDecl]) -> Result<Vec<Part>, Refused>
-    ensures { IfOk result (λ parts. length parts.items ≡ length decls.now) }
+    ensures matched { IsMatched decls.now result }
+    ensures each { IfOk result (λ parts. length parts.items ≡ length decls.now) }
 {
     let headers = headers_of(alloc, decls)?;
     let mut impdefs = impdefs(alloc, headers.as_slice())?;

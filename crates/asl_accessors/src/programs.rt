@@ -1,6 +1,7 @@
 //! Whole programs: written out, and with the bodies that replace others.
 
-ghost use Rattle.std.specs.Prelude.{◌≡◌, ◌++◌, IfOk, length};
+ghost use Rattle.std.specs.Prelude.{◌≡◌, [], false, IfOk};
+ghost use Rattle.asl_accessors.specs.Judged.{final_of, IsMatched};
 ghost use Rattle.asl_rules.specs.declarations.Programs.{default_decls, final_decls};
 ghost use Rattle.asl_rules.specs.declarations.Replacing as replacing;
 ghost use Rattle.asl_rules.specs.declarations.WrittenOut as rules;
@@ -14,6 +15,7 @@ use asl_syn::read::{BodyWord, ReadDecl, ReadProgram};
 use asl_syn::tree::{Decl, Program};
 use sqlite_items::Items;
 use std::alloc::{AllocError, Global};
+use std::marker::Model;
 
 // ---- what callers who keep the program are given
 
@@ -51,7 +53,8 @@ fn without_word(decl: ReadDecl) -> ReadDecl
 
 /// The program with the bodies that may be replaced, and without those that replace them.
 pub fn defaults(alloc: Global, program: &ReadProgram) -> Result<ReadProgram, Refused>
-    ensures { IfOk result (λ made. made.decls ≡ replacing.defaults program.now.decls) }
+    ensures matched { IsMatched program.now.decls result }
+    ensures made { IfOk result (λ made. made.decls ≡ replacing.defaults program.now.decls) }
 {
     let parts = match_bodies(alloc, program.decls.as_slice())?;
     let mut decls = Items::new(alloc);
@@ -76,7 +79,8 @@ fn places_of(alloc: Global, parts: &[Part]) -> Result<Vec<usize>, AllocError> {
 
 /// The program with the bodies that replace others.
 pub fn replaced(alloc: Global, program: &ReadProgram) -> Result<ReadProgram, Refused>
-    ensures { IfOk result (λ made. made.decls ≡ replacing.replaced program.now.decls) }
+    ensures matched { IsMatched program.now.decls result }
+    ensures made { IfOk result (λ made. made.decls ≡ replacing.replaced program.now.decls) }
 {
     let parts = match_bodies(alloc, program.decls.as_slice())?;
     let places = places_of(alloc, parts.as_slice())?;
@@ -119,19 +123,34 @@ impl Drop for Replacing {
     }
 }
 
+impl Model for Replacing {
+    ghost use Rattle.std.specs.Prelude.{map};
+    ghost use Rattle.asl_accessors.specs.Judged.{Both};
+
+    ghost Value = { Both };
+
+    ghost view = { λ r. record { defaults = r.decls; swaps = map (λ s. (s.place, s.decl)) r.swaps } };
+}
+
 impl Replacing {
     /// Whether a body replaces another.
-    pub fn replaces(&self) -> bool {
+    pub fn replaces(&self) -> bool
+        ensures { result ≡ false → self.now.swaps ≡ [] }
+    {
         !self.swaps.is_empty()
     }
 
     /// The declarations with the bodies that may be replaced.
-    pub fn defaults(&self) -> &[Decl] {
+    pub fn defaults(&self) -> &[Decl]
+        ensures { result.now ≡ self.now.defaults }
+    {
         self.decls.as_slice()
     }
 
     /// The program with the bodies that replace others.
-    pub fn replaced(self) -> Program {
+    pub fn replaced(self) -> Program
+        ensures { result.decls ≡ final_of self }
+    {
         let Replacing { decls, swaps } = self;
         let mut decls = decls;
         let mut rest = swaps;
@@ -234,7 +253,11 @@ fn push_body(place: usize, body: Items<Decl>, swaps: &mut Items<Swap>) -> Result
 
 /// A program, written out, with the declarations that replace others. The first `implementation` that no `impdef` matches is
 /// T26, and the first that matches an `impdef` which one before it matches is T27.
-pub fn parted(alloc: Global, program: ReadProgram) -> Result<Replacing, Refused> {
+pub fn parted(alloc: Global, program: ReadProgram) -> Result<Replacing, Refused>
+    ensures matched { IsMatched program.decls result }
+    ensures defaults { IfOk result (λ r. r.defaults ≡ default_decls program.decls) }
+    ensures replaced { IfOk result (λ r. final_of r ≡ final_decls program.decls) }
+{
     let parts = match_bodies(alloc, program.decls.as_slice())?;
     let mut rest = reversed(alloc, program.into_decls())?;
     let mut writing = Writing {

@@ -89,7 +89,9 @@ pub fn write_stmts(alloc: Global, stmts: Items<ReadStmt>) -> Result<Items<Stmt>,
 
 /// The branches of an `if`, written out.
 #[cycle(writing)]
-fn write_else_ifs(alloc: Global, branches: Items<ReadElseIf>) -> Result<Items<ElseIf>, AllocError> {
+fn write_else_ifs(alloc: Global, branches: Items<ReadElseIf>) -> Result<Items<ElseIf>, AllocError>
+    ensures { IfOk result (λ written. written ≡ map rules.else_if_written branches) }
+{
     let mut rest = reversed(alloc, branches)?;
     let mut written = Items::new(alloc);
     while let Some(ReadElseIf::ElseIf(condition, body)) = rest.pop() {
@@ -105,7 +107,9 @@ fn write_else_ifs(alloc: Global, branches: Items<ReadElseIf>) -> Result<Items<El
 fn write_alternatives(
     alloc: Global,
     alternatives: Items<ReadAlternative>,
-) -> Result<Items<Alternative>, AllocError> {
+) -> Result<Items<Alternative>, AllocError>
+    ensures { IfOk result (λ written. written ≡ map rules.alternative_written alternatives) }
+{
     let mut rest = reversed(alloc, alternatives)?;
     let mut written = Items::new(alloc);
     while let Some(ReadAlternative::When(patterns, condition, body)) = rest.pop() {
@@ -118,10 +122,9 @@ fn write_alternatives(
 
 /// The catchers of a `try`, written out.
 #[cycle(writing)]
-fn write_catchers(
-    alloc: Global,
-    catchers: Items<ReadCatcher>,
-) -> Result<Items<Catcher>, AllocError> {
+fn write_catchers(alloc: Global, catchers: Items<ReadCatcher>) -> Result<Items<Catcher>, AllocError>
+    ensures { IfOk result (λ written. written ≡ map rules.catcher_written catchers) }
+{
     let mut rest = reversed(alloc, catchers)?;
     let mut written = Items::new(alloc);
     while let Some(ReadCatcher::Catch(name, ty, body)) = rest.pop() {
@@ -133,7 +136,9 @@ fn write_catchers(
 
 /// What is done otherwise, written out.
 #[cycle(writing)]
-fn write_otherwise(alloc: Global, otherwise: ReadOtherwise) -> Result<Otherwise, AllocError> {
+fn write_otherwise(alloc: Global, otherwise: ReadOtherwise) -> Result<Otherwise, AllocError>
+    ensures { IfOk result (λ written. written ≡ rules.otherwise_written otherwise) }
+{
     match otherwise {
         ReadOtherwise::NoOtherwise => Ok(Otherwise::NoOtherwise),
         ReadOtherwise::Otherwise(body) => Ok(Otherwise::Otherwise(write_stmts(alloc, body)?)),

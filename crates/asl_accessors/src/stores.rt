@@ -1,8 +1,9 @@
 //! Statements that store through an accessor, written out.
 
-ghost use Rattle.std.specs.Prelude.{◌≡◌, ◌++◌, [], ◌∷◌, None, IfOk, OnOk, length, map};
+ghost use Rattle.std.specs.Prelude.{◌≡◌, ◌<◌, ◌++◌, [], ◌∷◌, IfOk, OnOk, length, map};
 ghost use Rattle.asl_rules.specs.expressions.Exprs.{expr_span};
 ghost use Rattle.asl_rules.specs.declarations.WrittenOut as rules;
+ghost use Rattle.asl_accessors.specs.private.Names.{names_at};
 
 use crate::lists::reversed;
 use crate::made::{made_place, made_value};
@@ -68,7 +69,9 @@ fn places_of(alloc: Global, values: &[Expr]) -> Result<Vec<Span>, AllocError>
 }
 
 /// The names of the arguments, each where the argument stands.
-fn arguments_named(alloc: Global, at: Span, spans: &[Span]) -> Result<Items<Expr>, AllocError> {
+fn arguments_named(alloc: Global, at: Span, spans: &[Span]) -> Result<Items<Expr>, AllocError>
+    ensures { IfOk result (λ names. names ≡ names_at at 1 spans.now) }
+{
     let mut names = Items::new(alloc);
     let mut number = 1;
     for span in spans {
@@ -104,7 +107,9 @@ fn got(
     name: &Ident,
     parameters: &[Expr],
     spans: &[Span],
-) -> Result<Stmt, AllocError> {
+) -> Result<Stmt, AllocError>
+    ensures { IfOk result (λ s. s ≡ rules.bound at LocalKind.Var (rules.ident at (rules.made_place at)) (Expr.Call at name.now parameters.now (names_at at 1 spans.now))) }
+{
     let place = Ident {
         span: at,
         text: made_place(alloc, at)?,
@@ -123,7 +128,9 @@ fn stored(
     name: &Ident,
     suffixes: Items<PlacedSuffix>,
     value: Span,
-) -> Result<Stmt, AllocError> {
+) -> Result<Stmt, AllocError>
+    ensures { IfOk result (λ s. s ≡ Stmt.Assign at (Target.Place (rules.stored_to name.now 0 suffixes) (rules.ident name.now.span (rules.made_place at)) suffixes) (Expr.Name value (rules.made_value at 0))) }
+{
     let span = stored_to(name, 0, suffixes.as_slice());
     let place = Ident {
         span: name.span,
@@ -140,7 +147,9 @@ fn given_back(
     name: Ident,
     parameters: Items<Expr>,
     spans: &[Span],
-) -> Result<Stmt, AllocError> {
+) -> Result<Stmt, AllocError>
+    ensures { IfOk result (λ s. s ≡ Stmt.Invoke at name parameters (Expr.Name at (rules.made_place at) ∷ names_at at 1 spans.now)) }
+{
     let mut arguments = Items::new(alloc);
     arguments.push(Expr::Name(at, made_place(alloc, at)?))?;
     arguments.append(arguments_named(alloc, at, spans)?)?;
@@ -158,7 +167,10 @@ fn all_values(alloc: Global, value: Expr, arguments: Items<Expr>) -> Result<Item
 }
 
 /// The statements that take the value, store into it, and give it back.
-fn write_part(alloc: Global, store: Store, written: &mut Items<Stmt>) -> Result<(), AllocError> {
+fn write_part(alloc: Global, store: Store, written: &mut Items<Stmt>) -> Result<(), AllocError>
+    requires { 0 < length store.suffixes }
+    ensures { OnOk result (written.new ≡ written.old ++ rules.stored store.at store.name store.parameters store.arguments store.suffixes store.value) }
+{
     let Store {
         at,
         name,

@@ -9,8 +9,13 @@ use Rattle.asl_syn.specs.declared.tree.BinaryOperator.{BinaryOperator}
 use Rattle.asl_syn.specs.declared.tree.BinaryOperator.TheVariants as bin
 use Rattle.asl_syn.specs.declared.tree.Expr.{Expr}
 use Rattle.asl_syn.specs.declared.tree.TypeExpr.{TypeExpr}
+use Rattle.asl_syn.specs.declared.tree.Bitfield.{Bitfield}
+use Rattle.asl_syn.specs.declared.tree.ConstraintPart.{ConstraintPart}
+use Rattle.asl_syn.specs.declared.tree.FieldValue.{FieldValue}
+use Rattle.asl_syn.specs.declared.tree.Pattern.{Pattern}
+use Rattle.asl_syn.specs.declared.tree.Slice.{Slice}
 use Rattle.asl_syn.specs.declared.tree.Bitfield.TheOpen as ex
-use Rattle.asl_syn.specs.declared.tree.Bitfield.TheFolds.{fold-Expr, fold-TypeExpr}
+use Rattle.asl_syn.specs.declared.tree.Bitfield.TheFolds.{fold-Bitfield, fold-ConstraintPart, fold-Expr, fold-FieldValue, fold-Pattern, fold-Slice, fold-TypeExpr}
 use Rattle.asl_syn.specs.declared.tree.Formal.{Formal}
 use Rattle.asl_syn.specs.declared.tree.Param.{Param}
 use Rattle.asl_syn.specs.declared.tree.Qualifier.{Qualifier}
@@ -105,32 +110,32 @@ expr_layer_key (ex.Element span a i) = 13 ∷ (a ++ i)
 expr_layer_key (ex.As span a t) = 14 ∷ (a ++ t)
 expr_layer_key (ex.In span a p) = 15 ∷ (a ++ p)
 
-abbrev pub given_key : ex.FieldValue-F Key Key Key Key Key Key Key → Key
-given_key (ex.Given i e) = name_key i ++ e
+abbrev pub given_layer_key : ex.FieldValue-F Key Key Key Key Key Key Key → Key
+given_layer_key (ex.Given i e) = name_key i ++ e
 
-abbrev pub slice_key : ex.Slice-F Key Key Key Key Key Key Key → Key
-slice_key (ex.BitAt e) = 0 ∷ e
-slice_key (ex.HighLow a b) = 1 ∷ (a ++ b)
-slice_key (ex.LowWidth a b) = 2 ∷ (a ++ b)
-slice_key (ex.FactorWidth a b) = 3 ∷ (a ++ b)
+abbrev pub slice_layer_key : ex.Slice-F Key Key Key Key Key Key Key → Key
+slice_layer_key (ex.BitAt e) = 0 ∷ e
+slice_layer_key (ex.HighLow a b) = 1 ∷ (a ++ b)
+slice_layer_key (ex.LowWidth a b) = 2 ∷ (a ++ b)
+slice_layer_key (ex.FactorWidth a b) = 3 ∷ (a ++ b)
 
-abbrev pub part_key : ex.ConstraintPart-F Key Key Key Key Key Key Key → Key
-part_key (ex.Only e) = 0 ∷ e
-part_key (ex.FromTo a b) = 1 ∷ (a ++ b)
+abbrev pub part_layer_key : ex.ConstraintPart-F Key Key Key Key Key Key Key → Key
+part_layer_key (ex.Only e) = 0 ∷ e
+part_layer_key (ex.FromTo a b) = 1 ∷ (a ++ b)
 
-abbrev pub bitfield_key : ex.Bitfield-F Key Key Key Key Key Key Key → Key
-bitfield_key (ex.OneBit e i) = 0 ∷ (e ++ name_key i)
-bitfield_key (ex.BitRange a b i) = 1 ∷ (a ++ (b ++ name_key i))
+abbrev pub bitfield_layer_key : ex.Bitfield-F Key Key Key Key Key Key Key → Key
+bitfield_layer_key (ex.OneBit e i) = 0 ∷ (e ++ name_key i)
+bitfield_layer_key (ex.BitRange a b i) = 1 ∷ (a ++ (b ++ name_key i))
 
-abbrev pub pattern_key : ex.Pattern-F Key Key Key Key Key Key Key → Key
-pattern_key (ex.AnyPattern span) = 0 ∷ []
-pattern_key (ex.SetPattern span b ps) = 1 ∷ truth b ∷ list_key ps
-pattern_key (ex.MaskPattern span text) = 2 ∷ digits_key text
-pattern_key (ex.AtMost span e) = 3 ∷ e
-pattern_key (ex.AtLeast span e) = 4 ∷ e
-pattern_key (ex.TuplePattern span ps) = 5 ∷ list_key ps
-pattern_key (ex.ValuePattern span e) = 6 ∷ e
-pattern_key (ex.RangePattern span a b) = 7 ∷ (a ++ b)
+abbrev pub pattern_layer_key : ex.Pattern-F Key Key Key Key Key Key Key → Key
+pattern_layer_key (ex.AnyPattern span) = 0 ∷ []
+pattern_layer_key (ex.SetPattern span b ps) = 1 ∷ truth b ∷ list_key ps
+pattern_layer_key (ex.MaskPattern span text) = 2 ∷ digits_key text
+pattern_layer_key (ex.AtMost span e) = 3 ∷ e
+pattern_layer_key (ex.AtLeast span e) = 4 ∷ e
+pattern_layer_key (ex.TuplePattern span ps) = 5 ∷ list_key ps
+pattern_layer_key (ex.ValuePattern span e) = 6 ∷ e
+pattern_layer_key (ex.RangePattern span a b) = 7 ∷ (a ++ b)
 
 abbrev pub type_layer_key : ex.TypeExpr-F Key Key Key Key Key Key Key → Key
 type_layer_key (ex.IntegerType span ps) = 0 ∷ list_key ps
@@ -142,10 +147,25 @@ type_layer_key (ex.TupleType span ts) = 5 ∷ list_key ts
 type_layer_key (ex.ArrayType span e t) = 6 ∷ (e ++ t)
 
 abbrev pub expr_key : Expr → Key
-expr_key = fold-Expr Key Key Key Key Key Key Key bitfield_key part_key expr_layer_key given_key pattern_key slice_key type_layer_key
+expr_key = fold-Expr Key Key Key Key Key Key Key bitfield_layer_key part_layer_key expr_layer_key given_layer_key pattern_layer_key slice_layer_key type_layer_key
 
 abbrev pub type_key : TypeExpr → Key
-type_key = fold-TypeExpr Key Key Key Key Key Key Key bitfield_key part_key expr_layer_key given_key pattern_key slice_key type_layer_key
+type_key = fold-TypeExpr Key Key Key Key Key Key Key bitfield_layer_key part_layer_key expr_layer_key given_layer_key pattern_layer_key slice_layer_key type_layer_key
+
+abbrev pub field_key : FieldValue → Key
+field_key = fold-FieldValue Key Key Key Key Key Key Key bitfield_layer_key part_layer_key expr_layer_key given_layer_key pattern_layer_key slice_layer_key type_layer_key
+
+abbrev pub slice_key : Slice → Key
+slice_key = fold-Slice Key Key Key Key Key Key Key bitfield_layer_key part_layer_key expr_layer_key given_layer_key pattern_layer_key slice_layer_key type_layer_key
+
+abbrev pub part_key : ConstraintPart → Key
+part_key = fold-ConstraintPart Key Key Key Key Key Key Key bitfield_layer_key part_layer_key expr_layer_key given_layer_key pattern_layer_key slice_layer_key type_layer_key
+
+abbrev pub bitfield_key : Bitfield → Key
+bitfield_key = fold-Bitfield Key Key Key Key Key Key Key bitfield_layer_key part_layer_key expr_layer_key given_layer_key pattern_layer_key slice_layer_key type_layer_key
+
+abbrev pub pattern_key : Pattern → Key
+pattern_key = fold-Pattern Key Key Key Key Key Key Key bitfield_layer_key part_layer_key expr_layer_key given_layer_key pattern_layer_key slice_layer_key type_layer_key
 
 -- ---- headers
 
