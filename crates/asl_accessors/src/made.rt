@@ -9,7 +9,7 @@ use itoa::Buffer;
 use std::alloc::{AllocError, Global};
 
 /// Adds the digits of a number.
-fn push_number(text: &mut Vec<u8>, number: u32) -> Result<(), AllocError>
+fn push_number(text: &mut Vec<u8>, number: usize) -> Result<(), AllocError>
     ensures { OnOk result (text.new.items ≡ text.old.items ++ decimal number) }
 {
     let mut buffer = Buffer::new();
@@ -17,14 +17,14 @@ fn push_number(text: &mut Vec<u8>, number: u32) -> Result<(), AllocError>
 }
 
 /// The name of the value with this number, in a statement that begins here.
-pub fn made_value(alloc: Global, at: Span, number: u32) -> Result<Text, AllocError>
+pub fn made_value(alloc: Global, at: Span, number: usize) -> Result<Text, AllocError>
     ensures { IfOk result (λ text. text ≡ made_value at number) }
 {
     let mut text = Vec::new(alloc);
     text.extend_from_slice(b"__")?;
     push_number(&mut text, number)?;
     text.extend_from_slice(b"@")?;
-    push_number(&mut text, at.start)?;
+    push_number(&mut text, at.start as usize)?;
     Ok(Text::from_vec(text))
 }
 
@@ -34,6 +34,6 @@ pub fn made_place(alloc: Global, at: Span) -> Result<Text, AllocError>
 {
     let mut text = Vec::new(alloc);
     text.extend_from_slice(b"__t@")?;
-    push_number(&mut text, at.start)?;
+    push_number(&mut text, at.start as usize)?;
     Ok(Text::from_vec(text))
 }

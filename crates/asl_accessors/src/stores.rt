@@ -43,16 +43,16 @@ fn write_values(
 ) -> Result<(), AllocError>
     ensures { OnOk result (written.new ≡ written.old ++ rules.values_bound at 0 values) }
 {
+    let count = values.len();
     let mut rest = reversed(alloc, values)?;
-    let mut number = 0;
     while let Some(value) = rest.pop() {
+        let number = count - rest.len() - 1;
         let value = Held::new(value);
         let name = Ident {
             span: place(value.get()),
             text: made_value(alloc, at, number)?,
         };
         written.push(bound(at, LocalKind::Let, name, value.into_inner()))?;
-        number += 1;
     }
     Ok(())
 }
@@ -73,10 +73,8 @@ fn arguments_named(alloc: Global, at: Span, spans: &[Span]) -> Result<Items<Expr
     ensures { IfOk result (λ names. names ≡ names_at at 1 spans.now) }
 {
     let mut names = Items::new(alloc);
-    let mut number = 1;
-    for span in spans {
-        names.push(Expr::Name(*span, made_value(alloc, at, number)?))?;
-        number += 1;
+    for (place, span) in spans.iter().enumerate() {
+        names.push(Expr::Name(*span, made_value(alloc, at, place + 1)?))?;
     }
     Ok(names)
 }
