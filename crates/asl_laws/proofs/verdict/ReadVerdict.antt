@@ -63,6 +63,27 @@ of_steps e ds t a s =
     ∙ ap (λ r. r >>= λ x. verdict e (final_decls ds) t) s.default_is
     ∙ s.final_is
 
+-- once the first of the two programs is accepted, the verdict is that on the second
+pub read_both : (e : Entry) (ds : List ReadDecl) (t : Tests) (a : Accepted) → bodies_matched ds ≡ Ok tt → verdict e (default_decls ds) t ≡ Ok a →
+    read_verdict e ds t ≡ verdict e (final_decls ds) t
+unfolding read_verdict
+read_both e ds t a m d =
+    ap (λ r. r >> (verdict e (default_decls ds) t >>= λ x. verdict e (final_decls ds) t)) m
+    ∙ ap (λ r. r >>= λ x. verdict e (final_decls ds) t) d
+
+twice : {A : Type 0} (r : Result A Fault) → (r >>= λ x. r) ≡ r
+twice (Ok x) = refl
+twice (Err f) = refl
+
+-- and where they are one program, it is that on this one
+pub read_same : (e : Entry) (ds : List ReadDecl) (t : Tests) → bodies_matched ds ≡ Ok tt → default_decls ds ≡ final_decls ds →
+    read_verdict e ds t ≡ verdict e (final_decls ds) t
+unfolding read_verdict
+read_same e ds t m s =
+    ap (λ r. r >> (verdict e (default_decls ds) t >>= λ x. verdict e (final_decls ds) t)) m
+    ∙ ap (λ es. verdict e es t >>= λ x. verdict e (final_decls ds) t) s
+    ∙ twice (verdict e (final_decls ds) t)
+
 -- a program with a fault: that of the bodies that replace others, else that of the program without them, else that of the program with them
 abbrev pub Faulty : Entry → List ReadDecl → Tests → Fault → Type 0
 Faulty e ds t f =

@@ -4,7 +4,7 @@ use Rattle.asl_rules.specs.private.Grown.{AreGrown}
 use Rattle.asl_rules.specs.declarations.Programs.{entries, verdict}
 use Rattle.asl_tree.specs.Sealed.{Sealed, IsSealed}
 use Rattle.asl_check.specs.private.Verdicts.{entries_in}
-use Rattle.asl_check.proofs.program.check.Goals as goal
+use Rattle.asl_check.proofs.program.check_written.Goals as goal
 
 pub make-requires : goal.make-requires
 make-requires c = subst AreGrown (sym c.as_slice.ensures) c.requires
