@@ -16,4 +16,5 @@ pub mod RulesOfDeclarations
 pub mod Made
 pub mod Files
 pub mod Trees
+pub mod Plain
 pub mod Codes

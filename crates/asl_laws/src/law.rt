@@ -45,6 +45,7 @@ ghost use Rattle.asl_syn.specs.declared.tree.Decl.{Decl};
 ghost use Rattle.asl_syn.specs.declared.read.ReadDecl.{ReadDecl};
 ghost use Rattle.asl_laws.specs.Budgets.{with_more, SameWithMore, SameWordsWithMore};
 ghost use Rattle.asl_laws.specs.Evaluated.{Evaluates, HasCause};
+ghost use Rattle.asl_laws.specs.Plain.{as_read};
 ghost use Rattle.asl_laws.specs.Placeless.{StandSame, JudgesSame};
 ghost use Rattle.asl_laws.specs.Reported.{RunsWell};
 ghost use Rattle.asl_laws.specs.Codes.{HasRuleCode, HasReadingCode};
@@ -99,6 +100,15 @@ pub fn written_law()
     ensures accepted { (limit : ℕ) (e : Entry) (ds : List ReadDecl) (a : Accepted) → ReadOk limit e ds a ↔ BothOk limit e ds a }
     ensures fault { (limit : ℕ) → limit ≤ heaviest → (e : Entry) (ds : List ReadDecl) (f : Fault) → ReadFault limit e ds f ↔ FirstFault limit e ds f }
     ensures reports { (t : Tests) (files : List File) (ds : List ReadDecl) → ReportsFinal t files ds }
+{}
+
+/// A program without accessors, and without bodies that replace others, is itself: both programs that come of it are it (`first`, `last`), so
+/// what is said of it as it is read is what the rules say of it (`same`).
+#[tactic(auto, using(crate::proofs::reading::Plain::default_same, crate::proofs::reading::Plain::final_same, crate::proofs::reading::Plain::verdict_same))]
+pub fn plain_law()
+    ensures first { (ds : List Decl) → default_decls (as_read ds) ≡ ds }
+    ensures last { (ds : List Decl) → final_decls (as_read ds) ≡ ds }
+    ensures same { (e : Entry) (ds : List Decl) (t : Tests) → read_verdict e (as_read ds) t ≡ verdict e ds t }
 {}
 
 /// Soundness: no run of a well-formed program is stuck. Each state that it visits is sound, each node that it visits was judged, with

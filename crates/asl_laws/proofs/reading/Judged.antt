@@ -52,7 +52,7 @@ module _ (R : ReadDecl → Type 0) where
 
 -- ---- what is written out
 
-module _ (P : List Decl → Type 0) (none : P []) (more : (as bs : List Decl) → P as → P bs → P (as ++ bs)) where
+module _ (P : List Decl → Type 0) (none : P []) (more : (ds es : List Decl) → P ds → P es → P (ds ++ es)) where
   -- the word of a body isn't written out
   wordless : (d : ReadDecl) → P (decl_written d) → P (decl_written (without_word d))
   wordless (rd.Type d) h = h

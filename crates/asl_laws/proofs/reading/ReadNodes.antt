@@ -11,7 +11,7 @@ use Rattle.asl_syn.specs.declared.tree.FieldValue.{FieldValue}
 use Rattle.asl_syn.specs.declared.tree.Pattern.{Pattern}
 use Rattle.asl_syn.specs.declared.tree.Slice.{Slice}
 use Rattle.asl_syn.specs.declared.tree.TypeExpr.{TypeExpr}
-use Rattle.asl_syn.specs.declared.tree.Bitfield.TheOpen as open
+use Rattle.asl_syn.specs.declared.tree.Bitfield.TheOpen as layer
 use Rattle.asl_syn.specs.declared.tree.Bitfield.TheFolds.{fold_out-Expr, map-Expr}
 use Rattle.asl_syn.specs.declared.tree.PlacedSuffix.{PlacedSuffix}
 use Rattle.asl_syn.specs.declared.tree.Binder.TheVariants as bd
@@ -69,22 +69,22 @@ module _ (n size limit : ℕ) where
   -- ---- where expressions stand
 
   layer_place : (l : ExprLayer) → Each (MarkIn n size limit) (in_expr (map-Expr Bitfield ConstraintPart Expr FieldValue Pattern Slice TypeExpr Spans Spans Spans Spans Spans Spans Spans bitfield_spans part_spans expr_spans given_spans pattern_spans slice_spans type_spans l)) → P n size limit (span_of l)
-  layer_place (open.Int span i) h = h
-  layer_place (open.Bool span b) h = h
-  layer_place (open.Name span name) h = h
-  layer_place (open.Bits span text) h = h.0
-  layer_place (open.Unary span o a) h = h.0
-  layer_place (open.Binary span o a b) h = h.0
-  layer_place (open.Conditional span c a b) h = h.0
-  layer_place (open.Tuple span es) h = h.0
-  layer_place (open.Construct span i fs) h = h.0
-  layer_place (open.Call span i ps es) h = h.0
-  layer_place (open.Field span a i) h = h.0
-  layer_place (open.Fields span a is) h = h.0
-  layer_place (open.Slices span a ss) h = h.0
-  layer_place (open.Element span a i) h = h.0
-  layer_place (open.As span a t) h = h.0
-  layer_place (open.In span a p) h = h.0
+  layer_place (layer.Int span i) h = h
+  layer_place (layer.Bool span b) h = h
+  layer_place (layer.Name span name) h = h
+  layer_place (layer.Bits span text) h = h.0
+  layer_place (layer.Unary span o a) h = h.0
+  layer_place (layer.Binary span o a b) h = h.0
+  layer_place (layer.Conditional span c a b) h = h.0
+  layer_place (layer.Tuple span es) h = h.0
+  layer_place (layer.Construct span i fs) h = h.0
+  layer_place (layer.Call span i ps es) h = h.0
+  layer_place (layer.Field span a i) h = h.0
+  layer_place (layer.Fields span a is) h = h.0
+  layer_place (layer.Slices span a ss) h = h.0
+  layer_place (layer.Element span a i) h = h.0
+  layer_place (layer.As span a t) h = h.0
+  layer_place (layer.In span a p) h = h.0
 
   expr_place : (e : Expr) → ExprIn n size limit e → P n size limit (expr_span e)
   expr_place e h = layer_place (out-Expr e) (subst (Each (MarkIn n size limit)) (fold_out-Expr Spans Spans Spans Spans Spans Spans Spans in_bitfield in_part in_expr in_field in_pattern in_slice in_type e) h)

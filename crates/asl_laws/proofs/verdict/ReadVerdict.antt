@@ -147,11 +147,12 @@ module _ (Q : Fault → Type 0) (f : Fault) where
 
   headers_say : (all before ds : List ReadDecl) → AllOf (λ d. HeaderSays Q (header_of d)) ds → headers_matched all before ds ≡ Err f → Q f
   headers_say all before [] s h = absurd (no_ok tt f h)
-  headers_say all before (d ∷ ds) s h = by (behind_err (header_matched all before (header_of d)) (headers_matched all (before ++ d ∷ []) ds) f h)
+  headers_say all before (d ∷ ds) s h = by (headers_say all (before ++ d ∷ []) ds s.1) (behind_err (header_matched all before (header_of d)) (headers_matched all (before ++ d ∷ []) ds) f h)
     where
-      by : (header_matched all before (header_of d) ≡ Err f) ⊎ ((header_matched all before (header_of d) ≡ Ok tt) × (headers_matched all (before ++ d ∷ []) ds ≡ Err f)) → Q f
-      by (inl m) = header_says all before (header_of d) s.0 m
-      by (inr m) = headers_say all (before ++ d ∷ []) ds s.1 m.1
+      by : (headers_matched all (before ++ d ∷ []) ds ≡ Err f → Q f) →
+          (header_matched all before (header_of d) ≡ Err f) ⊎ ((header_matched all before (header_of d) ≡ Ok tt) × (headers_matched all (before ++ d ∷ []) ds ≡ Err f)) → Q f
+      by more (inl m) = header_says all before (header_of d) s.0 m
+      by more (inr m) = more m.1
 
   pub bodies_say : (ds : List ReadDecl) → AllOf (λ d. HeaderSays Q (header_of d)) ds → bodies_matched ds ≡ Err f → Q f
   unfolding bodies_matched
