@@ -104,7 +104,7 @@ pub fn written_law()
 
 /// A program without accessors, and without bodies that replace others, is itself: both programs that come of it are it (`first`, `last`), so
 /// what is said of it as it is read is what the rules say of it (`same`).
-#[tactic(auto, using(crate::proofs::reading::Plain::default_same, crate::proofs::reading::Plain::final_same, crate::proofs::reading::Plain::verdict_same))]
+#[tactic(auto)]
 pub fn plain_law()
     ensures first { (ds : List Decl) → default_decls (as_read ds) ≡ ds }
     ensures last { (ds : List Decl) → final_decls (as_read ds) ≡ ds }
