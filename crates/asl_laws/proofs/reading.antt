@@ -17,4 +17,5 @@ pub mod Made
 pub mod Files
 pub mod Trees
 pub mod Plain
+pub mod MadeNames
 pub mod Codes

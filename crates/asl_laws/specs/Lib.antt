@@ -11,6 +11,7 @@ pub mod WidthScopes
 pub mod Wider
 pub mod AgreeingTypes
 pub mod Answers
+pub mod MadeNames
 pub mod Plain
 pub mod WrittenVerdicts
 pub mod BeforeRuns

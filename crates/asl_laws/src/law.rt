@@ -1,11 +1,12 @@
 //! The laws of the definitions, each as the contract of a function without parameters.
 #![tactic(auto)]
 
-ghost use Rattle.std.specs.Prelude.{◌≡◌, ℕ, ℤ, true, List, Ok, Option, Some, ◌≤◌, ◌↔◌, ◌⊎◌, [], ◌∷◌, length, map, Err};
+ghost use Rattle.std.specs.Prelude.{◌≡◌, ℕ, ℤ, true, List, Ok, Option, Some, ◌≤◌, ◌<◌, ◌^◌, ◌↔◌, ◌⊎◌, [], ◌∷◌, length, map, Err};
 ghost use Rattle.asl_bits.specs.declared.TheConstants.{WIDTH_LIMIT};
 ghost use Rattle.asl_grammar.specs.Reading.{File, ReadsAt, Reader, IsReadingAt};
 ghost use Rattle.asl_grammar.specs.lexemes.Refusals.{max_width};
 ghost use Rattle.asl_grammar.specs.lexemes.Texts.{LiesIn};
+ghost use Rattle.asl_grammar.specs.lexemes.Tokens.{Tokens};
 ghost use Rattle.asl_poly.specs.WidthLimits.{heaviest};
 ghost use Rattle.asl_rules.specs.private.Agreement.{types_in};
 ghost use Rattle.asl_laws.specs.AgreeingTypes.{DeclarationsAgree, ScopeFormed, TypesFormed, KeepsFormed};
@@ -45,6 +46,7 @@ ghost use Rattle.asl_syn.specs.declared.tree.Decl.{Decl};
 ghost use Rattle.asl_syn.specs.declared.read.ReadDecl.{ReadDecl};
 ghost use Rattle.asl_laws.specs.Budgets.{with_more, SameWithMore, SameWordsWithMore};
 ghost use Rattle.asl_laws.specs.Evaluated.{Evaluates, HasCause};
+ghost use Rattle.asl_laws.specs.MadeNames.{MadeApart, NoneMade};
 ghost use Rattle.asl_laws.specs.Plain.{as_read};
 ghost use Rattle.asl_laws.specs.Placeless.{StandSame, JudgesSame};
 ghost use Rattle.asl_laws.specs.Reported.{RunsWell};
@@ -58,6 +60,8 @@ ghost use Rattle.asl_rules.specs.expressions.Exprs.{found, width};
 ghost use Rattle.asl_rules.specs.expressions.Typing.{Width, Number};
 ghost use Rattle.asl_rules.specs.private.Worth.{Integers, Obeys, WellCounted};
 ghost use Rattle.asl_syn.specs.declared.tree.Func.{Func};
+ghost use Rattle.asl_syn.specs.declared.token.Span.{Span};
+ghost use Rattle.asl_syn.specs.declared.token.Token.{Token};
 
 /// One run: for each program, state and node there is exactly one outcome, with one state, one number of steps left and
 /// one text after it. A call takes one step for each node that it enters, and never are more than 2,000 nodes open. An
@@ -109,6 +113,14 @@ pub fn plain_law()
     ensures first { (ds : List Decl) → default_decls (as_read ds) ≡ ds }
     ensures last { (ds : List Decl) → final_decls (as_read ds) ≡ ds }
     ensures same { (e : Entry) (ds : List Decl) (t : Tests) → read_verdict e (as_read ds) t ≡ verdict e ds t }
+{}
+
+/// Made names need no scope of their own. No token of a text is spelled like one, so no text names what they stand for (`unwritten`). Two of
+/// them are the same only if they are the names of one value, or of the place, of statements that begin at the same byte (`apart`).
+#[tactic(auto)]
+pub fn made_law()
+    ensures unwritten { (limit : ℕ) (file : ℕ) (text : List ℕ) (ts : List Token) → Tokens limit file text ts → NoneMade text ts }
+    ensures apart { (at : Span) (bt : Span) → at.start < 2 ^ 64 → bt.start < 2 ^ 64 → MadeApart at bt }
 {}
 
 /// Soundness: no run of a well-formed program is stuck. Each state that it visits is sound, each node that it visits was judged, with
