@@ -243,9 +243,11 @@ module _ (n size limit : ℕ) where
 
   pub bodied_of_in : (span : Span) (w : BodyWord) (x : Bodied) → P n size limit span → BodiedIn n size limit x → ReadDeclIn n size limit (bodied_of span w x)
   bodied_of_in span w (bo.Subprogram q i ps fs result most ss) p h =
-      read_func_node n size limit _ p h.1.0 h.1.1.0 h.1.1.1.0 h.1.1.1.1.0 h.1.1.1.1.1.0 h.1.1.1.1.1.1
+      read_func_node n size limit (record { span = span; word = w; qualifier = q; name = i; params = ps; formals = fs; result = result; limit = most; body = ss })
+      p h.1.0 h.1.1.0 h.1.1.1.0 h.1.1.1.1.0 h.1.1.1.1.1.0 h.1.1.1.1.1.1
   bodied_of_in span w (bo.Accessor i ps fs value q getter setter) p h =
-      read_accessor_node n size limit _ p h.0 h.1.0 h.1.1.0 h.1.1.1.0 h.1.1.1.1.1.0 h.1.1.1.1.1.1
+      read_accessor_node n size limit (record { span = span; word = w; name = i; params = ps; formals = fs; value = value; qualifier = q; getter = getter; setter = setter })
+      p h.0 h.1.0 h.1.1.0 h.1.1.1.0 h.1.1.1.1.1.0 h.1.1.1.1.1.1
 
   pub untyped_in : (e : Expr) → ExprIn n size limit e → in_pair (in_opt (TypeExprIn n size limit)) (in_opt (ExprIn n size limit)) (untyped e)
   untyped_in e h = (tt, h)

@@ -1,5 +1,5 @@
 -- Made names: no token is one, and those of two statements differ.
-use Rattle.std.proofs.Common.{◌≡◌, ℕ, ◌+◌, ◌≤◌, ◌<◌, ◌^◌, ◌/◌, ◌%◌, ◌⊎◌, inl, inr, true, false, List, [], ◌∷◌, ◌++◌, None, Some, refl, sym, ap, ap₂, ◌∙◌, subst, arith}
+use Rattle.std.proofs.Common.{◌≡◌, ℕ, ◌+◌, ◌≤◌, ◌<◌, ◌^◌, ◌/◌, ◌%◌, ◌⊎◌, inl, inr, true, false, List, [], ◌∷◌, ◌++◌, Option, None, Some, refl, sym, ap, ap₂, ◌∙◌, subst, arith}
 use Rattle.std.proofs.Math.Nat.{mod-lt}
 use Rattle.std.proofs.lemmas.Fmt.{decimal_by_steps, decimal_injective}
 use Rattle.std.specs.Fmt.{decimal}
@@ -12,6 +12,8 @@ use Rattle.asl_syn.specs.declared.token.Word.TheVariants as word
 use Rattle.asl_syn.specs.declared.token.Token.{Token}
 use Rattle.asl_syn.specs.declared.token.TokenKind.{TokenKind}
 use Rattle.asl_syn.specs.declared.token.TokenKind.TheVariants as kinds
+use Rattle.asl_quote.specs.declared.QuoteState.{QuoteState}
+use Rattle.asl_quote.specs.declared.QuoteState.TheVariants as at
 use Rattle.asl_grammar.specs.Reading.{Text}
 use Rattle.asl_grammar.specs.lexemes.Tokens.{Tokens}
 use Rattle.asl_grammar.specs.lexemes.Lexemes.{IsLexeme}
@@ -39,24 +41,21 @@ both_ways xs ys h e k = no_way (sym h ∙ ap is_reserved e ∙ k)
     no_way : true ≡ false → ⊥
     no_way h = cc
 
+false_true : false ≡ true → ⊥
+false_true h = cc
+
+quoteless : (q : QuoteState) → (let o : Option QuoteState = None in o) ≡ Some q → ⊥
+quoteless q h = cc
+
 -- what begins with two underscores is refused as a name, and is no other lexeme
 no_lexeme : (limit : ℕ) (k : TokenKind) (rest : List ℕ) → IsLexeme (95 ∷ 95 ∷ rest) k → refusal limit k (95 ∷ 95 ∷ rest) 0 ≡ None → ⊥
 no_lexeme limit kinds.Name rest h r = cc
-no_lexeme limit (kinds.Int n) rest (inl h) r = absurd h.0
-no_lexeme limit (kinds.Int n) [] (inr h) r = absurd h.0
-no_lexeme limit (kinds.Int n) (b ∷ rest) (inr h) r = absurd h.0
-no_lexeme limit kinds.Bits rest h r = quoteless h.0.0
-  where
-    quoteless : None ≡ Some _ → ⊥
-    quoteless h = cc
-no_lexeme limit kinds.Mask rest h r = quoteless h.0.0
-  where
-    quoteless : None ≡ Some _ → ⊥
-    quoteless h = cc
-no_lexeme limit kinds.Text rest h r = quoteless h.0
-  where
-    quoteless : None ≡ Some _ → ⊥
-    quoteless h = cc
+no_lexeme limit (kinds.Int n) rest (inl h) r = false_true h.0
+no_lexeme limit (kinds.Int n) [] (inr h) r = false_true h.0
+no_lexeme limit (kinds.Int n) (b ∷ rest) (inr h) r = false_true h.0
+no_lexeme limit kinds.Bits rest h r = quoteless at.Bits h.0.0
+no_lexeme limit kinds.Mask rest h r = quoteless at.Bits h.0.0
+no_lexeme limit kinds.Text rest h r = quoteless at.Text h.0
 no_lexeme limit (kinds.Word w) rest h r = both_ways (95 ∷ 95 ∷ rest) (word_spelling w) refl h (word_free w)
 no_lexeme limit (kinds.Mark m) rest h r = both_ways (95 ∷ 95 ∷ rest) (mark_spelling m) refl h (mark_free m)
 
@@ -115,7 +114,7 @@ apart (x ∷ xs) (y ∷ ys) us vs g h e =
 
 -- digits, and behind them a byte that is none, don't begin like a letter
 no_letter : (xs us vs : List ℕ) → Digits xs → xs ++ (64 ∷ us) ≡ 116 ∷ vs → ⊥
-no_letter [] us vs g e = absurd cc
+no_letter [] us vs g e = omega (arith, head_same 64 116 us vs e)
 no_letter (x ∷ xs) us vs g e = no_digit x g.0 (subst (λ b. 57 < b) (sym (head_same x 116 _ vs e)) (omega arith))
 
 behind_two : (xs ys : List ℕ) → 95 ∷ 95 ∷ xs ≡ 95 ∷ 95 ∷ ys → xs ≡ ys

@@ -15,7 +15,7 @@ use Rattle.asl_syn.specs.declared.tree.Func.{Func}
 use Rattle.asl_syn.specs.declared.tree.Decl.{Decl}
 use Rattle.asl_syn.specs.declared.tree.Decl.TheVariants as dc
 use Rattle.asl_syn.specs.declared.tree.Alternative.TheOpen as st
-use Rattle.asl_syn.specs.declared.tree.Alternative.TheFolds.{fold-roll-Alternative, fold-roll-Catcher, fold-roll-ElseIf, fold-roll-Otherwise, fold-roll-Stmt}
+use Rattle.asl_syn.specs.declared.tree.Alternative.TheFolds.{fold-roll-Alternative, fold-roll-Catcher, fold-roll-ElseIf, fold-roll-Otherwise, fold-roll-Stmt, map-Stmt}
 use Rattle.asl_syn.specs.declared.read.ReadAlternative.{ReadAlternative, roll-ReadAlternative}
 use Rattle.asl_syn.specs.declared.read.ReadCatcher.{ReadCatcher, roll-ReadCatcher}
 use Rattle.asl_syn.specs.declared.read.ReadElseIf.{ReadElseIf, roll-ReadElseIf}
@@ -24,6 +24,7 @@ use Rattle.asl_syn.specs.declared.read.ReadStmt.{ReadStmt, roll-ReadStmt}
 use Rattle.asl_syn.specs.declared.read.ReadDecl.{ReadDecl}
 use Rattle.asl_syn.specs.declared.read.ReadAlternative.TheOpen as node
 use Rattle.asl_syn.specs.declared.read.ReadAlternative.TheFolds.{fold-roll-ReadAlternative, fold-roll-ReadCatcher, fold-roll-ReadElseIf, fold-roll-ReadOtherwise, fold-roll-ReadStmt}
+use Rattle.asl_syn.specs.declared.read.ReadAlternative.TheFolds.{map-ReadAlternative, map-ReadCatcher, map-ReadElseIf, map-ReadOtherwise, map-ReadStmt}
 use Rattle.asl_rules.specs.declared.entry.Entry.{Entry}
 use Rattle.asl_rules.specs.Tests.{Tests}
 use Rattle.asl_rules.specs.Faults.{◌>>=◌}
@@ -57,23 +58,29 @@ abbrev WithStmt : Type 0
 WithStmt = (x : Stmt) × SameStmt x
 
 -- one layer of what is read, written out
-stmt_is : (z : node.ReadStmt-F ReadAlternative ReadCatcher ReadElseIf ReadOtherwise ReadStmt) → stmt_written (roll-ReadStmt z) ≡ _
+stmt_is : (z : node.ReadStmt-F ReadAlternative ReadCatcher ReadElseIf ReadOtherwise ReadStmt) →
+    stmt_written (roll-ReadStmt z) ≡ stmt_layer_written (map-ReadStmt ReadAlternative ReadCatcher ReadElseIf ReadOtherwise ReadStmt Alternative Catcher ElseIf Otherwise (List Stmt) alternative_written catcher_written else_if_written otherwise_written stmt_written z)
 stmt_is z = fold-roll-ReadStmt Alternative Catcher ElseIf Otherwise (List Stmt) alternative_layer_written catcher_layer_written else_if_layer_written otherwise_layer_written stmt_layer_written z
 
-else_if_is : (z : node.ReadElseIf-F ReadAlternative ReadCatcher ReadElseIf ReadOtherwise ReadStmt) → else_if_written (roll-ReadElseIf z) ≡ _
+else_if_is : (z : node.ReadElseIf-F ReadAlternative ReadCatcher ReadElseIf ReadOtherwise ReadStmt) →
+    else_if_written (roll-ReadElseIf z) ≡ else_if_layer_written (map-ReadElseIf ReadAlternative ReadCatcher ReadElseIf ReadOtherwise ReadStmt Alternative Catcher ElseIf Otherwise (List Stmt) alternative_written catcher_written else_if_written otherwise_written stmt_written z)
 else_if_is z = fold-roll-ReadElseIf Alternative Catcher ElseIf Otherwise (List Stmt) alternative_layer_written catcher_layer_written else_if_layer_written otherwise_layer_written stmt_layer_written z
 
-alternative_is : (z : node.ReadAlternative-F ReadAlternative ReadCatcher ReadElseIf ReadOtherwise ReadStmt) → alternative_written (roll-ReadAlternative z) ≡ _
+alternative_is : (z : node.ReadAlternative-F ReadAlternative ReadCatcher ReadElseIf ReadOtherwise ReadStmt) →
+    alternative_written (roll-ReadAlternative z) ≡ alternative_layer_written (map-ReadAlternative ReadAlternative ReadCatcher ReadElseIf ReadOtherwise ReadStmt Alternative Catcher ElseIf Otherwise (List Stmt) alternative_written catcher_written else_if_written otherwise_written stmt_written z)
 alternative_is z = fold-roll-ReadAlternative Alternative Catcher ElseIf Otherwise (List Stmt) alternative_layer_written catcher_layer_written else_if_layer_written otherwise_layer_written stmt_layer_written z
 
-catcher_is : (z : node.ReadCatcher-F ReadAlternative ReadCatcher ReadElseIf ReadOtherwise ReadStmt) → catcher_written (roll-ReadCatcher z) ≡ _
+catcher_is : (z : node.ReadCatcher-F ReadAlternative ReadCatcher ReadElseIf ReadOtherwise ReadStmt) →
+    catcher_written (roll-ReadCatcher z) ≡ catcher_layer_written (map-ReadCatcher ReadAlternative ReadCatcher ReadElseIf ReadOtherwise ReadStmt Alternative Catcher ElseIf Otherwise (List Stmt) alternative_written catcher_written else_if_written otherwise_written stmt_written z)
 catcher_is z = fold-roll-ReadCatcher Alternative Catcher ElseIf Otherwise (List Stmt) alternative_layer_written catcher_layer_written else_if_layer_written otherwise_layer_written stmt_layer_written z
 
-otherwise_is : (z : node.ReadOtherwise-F ReadAlternative ReadCatcher ReadElseIf ReadOtherwise ReadStmt) → otherwise_written (roll-ReadOtherwise z) ≡ _
+otherwise_is : (z : node.ReadOtherwise-F ReadAlternative ReadCatcher ReadElseIf ReadOtherwise ReadStmt) →
+    otherwise_written (roll-ReadOtherwise z) ≡ otherwise_layer_written (map-ReadOtherwise ReadAlternative ReadCatcher ReadElseIf ReadOtherwise ReadStmt Alternative Catcher ElseIf Otherwise (List Stmt) alternative_written catcher_written else_if_written otherwise_written stmt_written z)
 otherwise_is z = fold-roll-ReadOtherwise Alternative Catcher ElseIf Otherwise (List Stmt) alternative_layer_written catcher_layer_written else_if_layer_written otherwise_layer_written stmt_layer_written z
 
 -- and of what is not, as it is read
-read_is : (x : st.Stmt-F Alternative Catcher ElseIf Otherwise Stmt) → stmt_read (roll-Stmt x) ≡ _
+read_is : (x : st.Stmt-F Alternative Catcher ElseIf Otherwise Stmt) →
+    stmt_read (roll-Stmt x) ≡ stmt_layer_read (map-Stmt Alternative Catcher ElseIf Otherwise Stmt ReadAlternative ReadCatcher ReadElseIf ReadOtherwise ReadStmt alternative_read catcher_read else_if_read otherwise_read stmt_read x)
 read_is x = fold-roll-Stmt ReadAlternative ReadCatcher ReadElseIf ReadOtherwise ReadStmt alternative_layer_read catcher_layer_read else_if_layer_read otherwise_layer_read stmt_layer_read x
 
 -- ---- lists

@@ -1,6 +1,6 @@
 -- Each form of statement and declaration as it is read: the spans of what it is written out as lie in the file, where those of its
 -- parts do.
-use Rattle.std.proofs.Common.{ℕ, suc, List, [], ◌∷◌, ◌++◌, map, Option, Some, None, sym, subst, codes, arith}
+use Rattle.std.proofs.Common.{ℕ, ◌≤◌, suc, List, [], ◌∷◌, ◌++◌, map, Option, Some, None, sym, subst, codes, arith}
 use Rattle.asl_syn.specs.declared.token.Span.{Span}
 use Rattle.asl_syn.specs.declared.tree.Ident.{Ident}
 use Rattle.asl_syn.specs.declared.tree.Bitfield.{Bitfield}
