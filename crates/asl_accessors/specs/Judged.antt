@@ -1,5 +1,7 @@
 -- What comes of a program that is read: the two programs that are judged, written out.
-use Rattle.std.specs.Prelude.{◌≡◌, ℕ, List, [], ◌∷◌, Result, Ok, Err, slice_set}
+use Rattle.std.specs.Prelude.{◌≡◌, ℕ, List, [], ◌∷◌, Result, Ok, Err, refl, slice_set}
+use Rattle.std.specs.Coded.{Coded, code_by, coded×, coded_ℕ, coded_list}
+use Rattle.asl_syn.specs.contracts.tree.Decl.{the_row}
 use Rattle.asl_syn.specs.declared.code.Refused.{Refused}
 use Rattle.asl_syn.specs.declared.code.Refused.TheVariants.{At, NoMemory}
 use Rattle.asl_syn.specs.declared.read.ReadDecl.{ReadDecl}
@@ -10,6 +12,10 @@ use Rattle.asl_rules.specs.declarations.Replacing.{bodies_matched}
 pub record Both : Type 0 where
   pub defaults : List Decl
   pub swaps : List (ℕ × Decl)
+
+abbrev pub both_code : Coded Both
+both_code = code_by (List Decl × List (ℕ × Decl)) (coded× (coded_list the_row.coded) (coded_list (coded× coded_ℕ the_row.coded)))
+    (λ b. (b.defaults, b.swaps)) (λ p. record { defaults = p.0; swaps = p.1 }) (λ _. refl)
 
 abbrev pub swapped : List (ℕ × Decl) → List Decl → List Decl
 swapped [] ds = ds

@@ -90,7 +90,11 @@ pub fn replaced(alloc: Global, program: &ReadProgram) -> Result<ReadProgram, Ref
         match parts[place] {
             Part::Stays => decls.push(without_word(copy_decl(alloc, decl)?))?,
             Part::Replaced(number) | Part::AlsoReplaced(number) => {
-                decls.push(without_word(copy_decl(alloc, &all[places[number]])?))?;
+                if let Some(place) = places.get(number)
+                    && let Some(body) = all.get(*place)
+                {
+                    decls.push(without_word(copy_decl(alloc, body)?))?;
+                }
             }
             Part::Replaces => {}
         }
@@ -125,9 +129,11 @@ impl Drop for Replacing {
 
 impl Model for Replacing {
     ghost use Rattle.std.specs.Prelude.{map};
-    ghost use Rattle.asl_accessors.specs.Judged.{Both};
+    ghost use Rattle.asl_accessors.specs.Judged.{Both, both_code};
 
     ghost Value = { Both };
+
+    ghost coded = { both_code };
 
     ghost view = { λ r. record { defaults = r.decls; swaps = map (λ s. (s.place, s.decl)) r.swaps } };
 }
@@ -164,67 +170,95 @@ impl Replacing {
     }
 }
 
-/// Declarations that are being written out: those that stay, the ones that each `implementation` is written out as, where these
-/// go first, and where else.
+/// Where an `impdef` was written out: the number of the `implementation` that replaces it, and the places of its declarations.
+#[derive(Clone, Copy, Drop)]
+struct Hole {
+    number: usize,
+    from: usize,
+    to: usize,
+}
+
+/// Declarations that are being written out: those that stay, the ones that each `implementation` is written out as, and where
+/// these go first, and where else.
 #[derive(Drop)]
 struct Writing {
     decls: Items<Decl>,
     bodies: Items<Items<Decl>>,
-    firsts: Vec<(usize, usize)>,
-    others: Vec<(usize, usize)>,
+    firsts: Vec<Hole>,
+    others: Vec<Hole>,
 }
 
 impl Writing {
     /// Writes out a declaration, behind what is written.
     fn write(&mut self, alloc: Global, part: Part, decl: ReadDecl) -> Result<(), AllocError> {
-        let place = self.decls.len();
         match part {
-            Part::Stays => {}
-            Part::Replaced(number) => self.firsts.push((number, place))?,
-            Part::AlsoReplaced(number) => self.others.push((number, place))?,
+            Part::Stays => write_decl(alloc, decl, &mut self.decls)?,
+            Part::Replaced(number) => {
+                let hole = self.write_hole(alloc, number, decl)?;
+                self.firsts.push(hole)?;
+            }
+            Part::AlsoReplaced(number) => {
+                let hole = self.write_hole(alloc, number, decl)?;
+                self.others.push(hole)?;
+            }
             Part::Replaces => {
                 let mut body = Items::new(alloc);
                 write_decl(alloc, decl, &mut body)?;
                 self.bodies.push(body)?;
-                return Ok(());
-            }
-        }
-        write_decl(alloc, decl, &mut self.decls)
-    }
-
-    /// What goes into all places but the first of each body: copies.
-    fn push_copies(&self, alloc: Global, swaps: &mut Items<Swap>) -> Result<(), AllocError> {
-        for (number, place) in &self.others {
-            if let Some(body) = self.bodies.get(*number) {
-                for (offset, decl) in body.as_slice().iter().enumerate() {
-                    let decl = copy_written(alloc, decl)?;
-                    swaps.push(Swap {
-                        place: place + offset,
-                        decl,
-                    })?;
-                }
             }
         }
         Ok(())
     }
 
-    /// Where the body of each `implementation` goes first.
-    fn places(&self, alloc: Global) -> Result<Vec<usize>, AllocError> {
-        let mut places = Vec::new(alloc);
+    /// Writes out an `impdef` that is replaced.
+    fn write_hole(
+        &mut self,
+        alloc: Global,
+        number: usize,
+        decl: ReadDecl,
+    ) -> Result<Hole, AllocError> {
+        let from = self.decls.len();
+        write_decl(alloc, decl, &mut self.decls)?;
+        Ok(Hole {
+            number,
+            from,
+            to: self.decls.len(),
+        })
+    }
+
+    /// What goes into all places but the first of each body: copies.
+    fn push_copies(&self, alloc: Global, swaps: &mut Items<Swap>) -> Result<(), AllocError> {
+        for hole in &self.others {
+            if let Some(body) = self.bodies.get(hole.number) {
+                push_copy(alloc, *hole, body.as_slice(), swaps)?;
+            }
+        }
+        Ok(())
+    }
+
+    /// Where each body goes first, by its number.
+    fn holes(&self, alloc: Global) -> Result<Vec<Hole>, AllocError> {
+        let mut holes = Vec::new(alloc);
         for _body in self.bodies.as_slice() {
-            places.push(0)?;
+            holes.push(Hole {
+                number: 0,
+                from: 0,
+                to: 0,
+            })?;
         }
-        for (number, place) in &self.firsts {
-            places[*number] = *place;
+        for hole in &self.firsts {
+            if let Some(first) = holes.get_mut(hole.number) {
+                *first = *hole;
+            }
         }
-        Ok(places)
+        Ok(holes)
     }
 
     /// The program, with all that goes into a place.
     fn finish(self, alloc: Global) -> Result<Replacing, AllocError> {
         let mut swaps = Items::new(alloc);
         self.push_copies(alloc, &mut swaps)?;
-        let mut places = self.places(alloc)?;
+        let mut holes = self.holes(alloc)?;
         let Writing {
             decls,
             bodies,
@@ -233,20 +267,41 @@ impl Writing {
         } = self;
         let mut rest = bodies;
         while let Some(body) = rest.pop() {
-            if let Some(place) = places.pop() {
-                push_body(place, body, &mut swaps)?;
+            if let Some(hole) = holes.pop() {
+                push_body(hole, body, &mut swaps)?;
             }
         }
         Ok(Replacing { decls, swaps })
     }
 }
 
-/// The declarations of a body, from this place on.
-fn push_body(place: usize, body: Items<Decl>, swaps: &mut Items<Swap>) -> Result<(), AllocError> {
+/// Copies of the declarations of a body, each with its place.
+fn push_copy(
+    alloc: Global,
+    hole: Hole,
+    body: &[Decl],
+    swaps: &mut Items<Swap>,
+) -> Result<(), AllocError> {
+    let mut place = hole.from;
+    for decl in body {
+        if place < hole.to {
+            let decl = copy_written(alloc, decl)?;
+            swaps.push(Swap { place, decl })?;
+            place += 1;
+        }
+    }
+    Ok(())
+}
+
+/// The declarations of a body, each with its place, the last one first.
+fn push_body(hole: Hole, body: Items<Decl>, swaps: &mut Items<Swap>) -> Result<(), AllocError> {
+    let mut place = hole.to;
     let mut rest = body;
     while let Some(decl) = rest.pop() {
-        let place = place + rest.len();
-        swaps.push(Swap { place, decl })?;
+        if hole.from < place {
+            place -= 1;
+            swaps.push(Swap { place, decl })?;
+        }
     }
     Ok(())
 }
