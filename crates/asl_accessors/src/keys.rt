@@ -232,22 +232,6 @@ fn push_fields(alloc: Global, key: &mut Key, items: &[FieldValue]) -> Result<(),
     Ok(())
 }
 
-/// Two expressions, behind the number of their form.
-#[cycle(keys)]
-fn push_two(
-    alloc: Global,
-    key: &mut Key,
-    form: u128,
-    first: &Expr,
-    second: &Expr,
-) -> Result<(), AllocError>
-    ensures { OnOk result (key.new.items ≡ key.old.items ++ form ∷ (rules.expr_key first.now ++ rules.expr_key second.now)) }
-{
-    key.push(form)?;
-    push_expr(alloc, key, first)?;
-    push_expr(alloc, key, second)
-}
-
 #[cycle(keys)]
 fn push_slice(alloc: Global, key: &mut Key, slice: &Slice) -> Result<(), AllocError>
     ensures { OnOk result (key.new.items ≡ key.old.items ++ rules.slice_key slice.now) }
@@ -257,9 +241,21 @@ fn push_slice(alloc: Global, key: &mut Key, slice: &Slice) -> Result<(), AllocEr
             key.push(0)?;
             push_expr(alloc, key, index)
         }
-        Slice::HighLow(high, low) => push_two(alloc, key, 1, high, low),
-        Slice::LowWidth(low, width) => push_two(alloc, key, 2, low, width),
-        Slice::FactorWidth(factor, width) => push_two(alloc, key, 3, factor, width),
+        Slice::HighLow(high, low) => {
+            key.push(1)?;
+            push_expr(alloc, key, high)?;
+            push_expr(alloc, key, low)
+        }
+        Slice::LowWidth(low, width) => {
+            key.push(2)?;
+            push_expr(alloc, key, low)?;
+            push_expr(alloc, key, width)
+        }
+        Slice::FactorWidth(factor, width) => {
+            key.push(3)?;
+            push_expr(alloc, key, factor)?;
+            push_expr(alloc, key, width)
+        }
     }
 }
 
@@ -283,7 +279,11 @@ fn push_part(alloc: Global, key: &mut Key, part: &ConstraintPart) -> Result<(), 
             key.push(0)?;
             push_expr(alloc, key, only)
         }
-        ConstraintPart::FromTo(low, high) => push_two(alloc, key, 1, low, high),
+        ConstraintPart::FromTo(low, high) => {
+            key.push(1)?;
+            push_expr(alloc, key, low)?;
+            push_expr(alloc, key, high)
+        }
     }
 }
 
@@ -309,7 +309,9 @@ fn push_bitfield(alloc: Global, key: &mut Key, bitfield: &Bitfield) -> Result<()
             push_name(key, name)
         }
         Bitfield::BitRange(high, low, name) => {
-            push_two(alloc, key, 1, high, low)?;
+            key.push(1)?;
+            push_expr(alloc, key, high)?;
+            push_expr(alloc, key, low)?;
             push_name(key, name)
         }
     }
@@ -360,7 +362,11 @@ fn push_pattern(alloc: Global, key: &mut Key, pattern: &Pattern) -> Result<(), A
             key.push(6)?;
             push_expr(alloc, key, value)
         }
-        Pattern::RangePattern(_, low, high) => push_two(alloc, key, 7, low, high),
+        Pattern::RangePattern(_, low, high) => {
+            key.push(7)?;
+            push_expr(alloc, key, low)?;
+            push_expr(alloc, key, high)
+        }
     }
 }
 
