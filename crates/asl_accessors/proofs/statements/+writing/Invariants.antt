@@ -8,20 +8,20 @@ invariant-write_stmts-loop-stmt l = l.written ++ joined (map stmt_written (rever
 abbrev pub decreases-write_stmts-loop-stmt : goal.decreases-write_stmts-loop-stmt
 decreases-write_stmts-loop-stmt l = length l.rest
 
-abbrev pub invariant-write_else_ifs-loop-pattern : goal.invariant-write_else_ifs-loop-pattern
-invariant-write_else_ifs-loop-pattern l = l.written ++ map else_if_written (reverse l.rest) ≡ map else_if_written l.fn.branches
+abbrev pub invariant-write_else_ifs-loop-condition : goal.invariant-write_else_ifs-loop-condition
+invariant-write_else_ifs-loop-condition l = l.written ++ map else_if_written (reverse l.rest) ≡ map else_if_written l.fn.branches
 
-abbrev pub decreases-write_else_ifs-loop-pattern : goal.decreases-write_else_ifs-loop-pattern
-decreases-write_else_ifs-loop-pattern l = length l.rest
+abbrev pub decreases-write_else_ifs-loop-condition : goal.decreases-write_else_ifs-loop-condition
+decreases-write_else_ifs-loop-condition l = length l.rest
 
-abbrev pub invariant-write_alternatives-loop-pattern : goal.invariant-write_alternatives-loop-pattern
-invariant-write_alternatives-loop-pattern l = l.written ++ map alternative_written (reverse l.rest) ≡ map alternative_written l.fn.alternatives
+abbrev pub invariant-write_alternatives-loop-patterns : goal.invariant-write_alternatives-loop-patterns
+invariant-write_alternatives-loop-patterns l = l.written ++ map alternative_written (reverse l.rest) ≡ map alternative_written l.fn.alternatives
 
-abbrev pub decreases-write_alternatives-loop-pattern : goal.decreases-write_alternatives-loop-pattern
-decreases-write_alternatives-loop-pattern l = length l.rest
+abbrev pub decreases-write_alternatives-loop-patterns : goal.decreases-write_alternatives-loop-patterns
+decreases-write_alternatives-loop-patterns l = length l.rest
 
-abbrev pub invariant-write_catchers-loop-pattern : goal.invariant-write_catchers-loop-pattern
-invariant-write_catchers-loop-pattern l = l.written ++ map catcher_written (reverse l.rest) ≡ map catcher_written l.fn.catchers
+abbrev pub invariant-write_catchers-loop-name : goal.invariant-write_catchers-loop-name
+invariant-write_catchers-loop-name l = l.written ++ map catcher_written (reverse l.rest) ≡ map catcher_written l.fn.catchers
 
-abbrev pub decreases-write_catchers-loop-pattern : goal.decreases-write_catchers-loop-pattern
-decreases-write_catchers-loop-pattern l = length l.rest
+abbrev pub decreases-write_catchers-loop-name : goal.decreases-write_catchers-loop-name
+decreases-write_catchers-loop-name l = length l.rest
