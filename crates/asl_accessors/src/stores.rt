@@ -165,7 +165,7 @@ fn all_values(alloc: Global, value: Expr, arguments: Items<Expr>) -> Result<Item
 }
 
 /// The statements that take the value, store into it, and give it back.
-#[tactic(auto, using(crate::proofs::Stores::part_is))]
+#[tactic(auto, using(crate::proofs::PartsStored::part_is))]
 fn write_part(alloc: Global, store: Store, written: &mut Items<Stmt>) -> Result<(), AllocError>
     requires { 0 < length store.suffixes }
     ensures { OnOk result (written.new ≡ written.old ++ rules.stored store.at store.name store.parameters store.arguments store.suffixes store.value) }
