@@ -136,8 +136,11 @@ fn is_chosen<K: Sink, N: Nodes<K>>(
         (chosen it.entry.span (value_of x.now) (all_patterns it.entry.choice.now.patterns) (all_trees it.entry.choice.now.trees) (maybe_tree it.entry.choice.now.condition))
         (at K.Sink run.old sink.old) (at K.Sink run.new sink.new) }
 {
+    if it.choice.trees.is_empty() {
+        return is_guarded(here, run, sink, x, it, &[]);
+    }
     let zs = eval_all(here, run, sink, it.choice.trees.as_slice())?;
-    is_guarded(here, run, sink, x, it, zs)
+    is_guarded(here, run, sink, x, it, zs.as_slice())
 }
 
 /// The same, with the values of the expressions in the patterns.
@@ -147,20 +150,15 @@ fn is_guarded<K: Sink, N: Nodes<K>>(
     sink: &mut K,
     x: &Value,
     it: Pick,
-    zs: Items<Value>,
+    zs: &[Value],
 ) -> Result<bool, Stop>
     requires ready { N.ready here.now }
     ensures { Ran rules.itself result (N.setting here.now)
-        (λ c. lift (matching.is_matched WIDTH_LIMIT (all_patterns it.entry.choice.now.patterns) (map value_of zs) (value_of x.now)) c
+        (λ c. lift (matching.is_matched WIDTH_LIMIT (all_patterns it.entry.choice.now.patterns) (map value_of zs.now) (value_of x.now)) c
         (λ b. choose b (guard it.entry.span (maybe_tree it.entry.choice.now.condition) c) (Ret false c)))
         (at K.Sink run.old sink.old) (at K.Sink run.new sink.new) }
 {
-    if !is_matched(
-        here.setting().alloc,
-        it.choice.patterns.as_slice(),
-        zs.as_slice(),
-        x,
-    )? {
+    if !is_matched(here.setting().alloc, it.choice.patterns.as_slice(), zs, x)? {
         return Ok(false);
     }
     match &it.choice.condition {

@@ -2,8 +2,7 @@
 use Rattle.std.proofs.Common.{◌≡◌, ℕ, ◌+◌, ◌<◌, ◌≤◌, Bool, List, ◌∷◌, length, get_or, drop, Ok, Err, sym, ap, ◌∙◌, subst}
 use Rattle.std.proofs.lemmas.List.{at_drop_all}
 use Rattle.asl_syn.specs.declared.token.Span.{Span}
-use Rattle.asl_rules.specs.values.Operators.{truth}
-use Rattle.asl_rules.specs.runs.Plans.{Good, choose, lift}
+use Rattle.asl_rules.specs.runs.Plans.{choose}
 use Rattle.asl_rules.specs.runs.StatementForms.{branch, branches, scope}
 use Rattle.asl_rules.specs.runs.Trees as rules
 use Rattle.asl_rules.specs.runs.Trees.{Act}
@@ -18,17 +17,13 @@ use Rattle.asl_tree.specs.declared.act.Act.TheOpen as layers
 use Rattle.asl_tree.specs.declared.act.Branch.{Branch}
 use Rattle.asl_tree.specs.declared.act.Branch.TheVariants as when
 use Rattle.asl_tree.specs.declared.tree.Tree.{Tree as Asked}
-use Rattle.asl_value.specs.private.Answers as answers
-use Rattle.asl_value.specs.View.{value_of}
-use Rattle.asl_value.specs.declared.failure.Failure.{Failure}
-use Rattle.asl_value.specs.declared.value.Value.{Value as Stored}
 use Rattle.asl_branches.specs.declared.setting.Setting.{Setting}
 use Rattle.asl_branches.specs.declared.stop.Stop.{Stop as Stopped}
-use Rattle.asl_branches.specs.Meets.{At, Evaluates, Ran, Underway}
-use Rattle.asl_branches.specs.View.{exit_of, stop_of}
-use Rattle.asl_branches.proofs.Answered.{turn_eval_failed}
+use Rattle.asl_branches.specs.Meets.{At, Ran, Underway}
+use Rattle.asl_branches.specs.View.{exit_of}
 use Rattle.asl_branches.proofs.Fronts.{at_front}
-use Rattle.asl_run.proofs.Turning.{asked_next, chosen_next, truth_failed}
+use Rattle.asl_run.specs.private.Asking.{condition}
+use Rattle.asl_run.proofs.Asked.{asked_next, asking_failed}
 
 first_branch : (e : Asked) (ss : List Doing) (bs : List Branch) → all_branches (when.Elsif e ss ∷ bs) ≡
     rules.branch_and (tree_of e) (all_acts ss) (all_branches bs)
@@ -65,45 +60,22 @@ at_branch h span bs k b e ss last q a0 a1 within here is u =
     (ap (λ us. branches_of (all_branches us)) (at_front bs k b within here ∙ ap (λ a. a ∷ drop (k + 1) bs) is) ∙ branch_when e
     ss (drop (k + 1) bs)) u
 
--- its condition was asked
-asks : (h : Setting) (span : Span) (bs : List Branch) (k : ℕ) (b : Branch) (e : Asked) (ss : List Doing) (last : List Act) (v : Stored)
-    (q : BareCore → Runs Exit) (a0 a1 a2 : At) → k < length bs → b ≡ get_or bs k b → b ≡ when.Elsif e ss → Evaluates (Ok v) h e a1 a2 →
-    Underway h (all_from span (drop k bs) last) a1 q a0 →
-    Underway h (λ c. lift (truth span (value_of v)) c (λ y. choose y (scope in_bare (acts_of (all_acts ss)) c)
-    (all_from span (drop (k + 1) bs) last c))) a2 q a0
-asks h span bs k b e ss last v q a0 a1 a2 within here is n u =
-    asked_next h span (tree_of e) (scope in_bare (acts_of (all_acts ss))) (all_from span (drop (k + 1) bs) last) v q a0 a1 a2 n
+-- its condition was asked: where it holds, the list is left, and where it doesn't, the branches behind it
+pub branch_asked : (h : Setting) (span : Span) (bs : List Branch) (k : ℕ) (b : Branch) (e : Asked) (ss : List Doing) (last : List Act)
+    (y : Bool) (q : BareCore → Runs Exit) (a0 a1 a2 : At) → k < length bs → b ≡ get_or bs k b → b ≡ when.Elsif e ss →
+    Ran itself (Ok y) h (condition span (tree_of e)) a1 a2 → Underway h (all_from span (drop k bs) last) a1 q a0 →
+    Underway h (λ c. choose y (scope in_bare (acts_of (all_acts ss)) c) (all_from span (drop (k + 1) bs) last c)) a2 q a0
+branch_asked h span bs k b e ss last y q a0 a1 a2 within here is n u =
+    asked_next h span (tree_of e) (scope in_bare (acts_of (all_acts ss))) (all_from span (drop (k + 1) bs) last) y q a0 a1 a2 n
     (at_branch h span bs k b e ss last q a0 a1 within here is u)
 
--- where it holds, the list is left, and where it doesn't, the branches behind it
-pub branch_asked : (h : Setting) (span : Span) (bs : List Branch) (k : ℕ) (b : Branch) (e : Asked) (ss : List Doing)
-    (last : List Act) (v : Stored)
-    (y : Bool) (q : BareCore → Runs Exit) (a0 a1 a2 : At) → k < length bs → b ≡ get_or bs k b → b ≡ when.Elsif e ss →
-    Evaluates (Ok v) h e a1 a2 → truth span (value_of v) ≡ Good y → Underway h (all_from span (drop k bs) last) a1 q a0 →
-    Underway h (λ c. choose y (scope in_bare (acts_of (all_acts ss)) c) (all_from span (drop (k + 1) bs) last c)) a2 q a0
-branch_asked h span bs k b e ss last v y q a0 a1 a2 within here is n holds u =
-    chosen_next h span (value_of v) y (scope in_bare (acts_of (all_acts ss))) (all_from span (drop (k + 1) bs) last) q a0 a2 holds
-    (asks h span bs k b e ss last v q a0 a1 a2 within here is n u)
-
--- where it is no boolean
-pub branch_truth_failed : (h : Setting) (span : Span) (bs : List Branch) (k : ℕ) (b : Branch) (e : Asked) (ss : List Doing)
-    (last : List Act)
-    (v : Stored) (t : Failure) (q : BareCore → Runs Exit) (a0 a1 a2 : At) → k < length bs → b ≡ get_or bs k b → b ≡ when.Elsif e ss →
-    Evaluates (Ok v) h e a1 a2 → answers.Is (λ (y : Bool). y) (Err t) (truth span (value_of v)) →
-    Underway h (all_from span (drop k bs) last) a1 q a0 → Ran exit_of (Err (stop_of t)) h q a0 a2
-branch_truth_failed h span bs k b e ss last v t q a0 a1 a2 within here is n fails u =
-    truth_failed h span (value_of v) t (scope in_bare (acts_of (all_acts ss))) (all_from span (drop (k + 1) bs) last) q a0 a2 fails
-    (asks h span bs k b e ss last v q a0 a1 a2 within here is n u)
-
 -- where it stops the run
-pub branch_failed : (h : Setting) (span : Span) (bs : List Branch) (k : ℕ) (b : Branch) (e : Asked) (ss : List Doing)
-    (last : List Act) (r : Stopped)
-    (q : BareCore → Runs Exit) (a0 a1 a2 : At) → k < length bs → b ≡ get_or bs k b → b ≡ when.Elsif e ss → Evaluates (Err r) h e a1 a2 →
-    Underway h (all_from span (drop k bs) last) a1 q a0 → Ran exit_of (Err r) h q a0 a2
+pub branch_failed : (h : Setting) (span : Span) (bs : List Branch) (k : ℕ) (b : Branch) (e : Asked) (ss : List Doing) (last : List Act)
+    (r : Stopped) (q : BareCore → Runs Exit) (a0 a1 a2 : At) → k < length bs → b ≡ get_or bs k b → b ≡ when.Elsif e ss →
+    Ran itself (Err r) h (condition span (tree_of e)) a1 a2 → Underway h (all_from span (drop k bs) last) a1 q a0 →
+    Ran exit_of (Err r) h q a0 a2
 branch_failed h span bs k b e ss last r q a0 a1 a2 within here is n u =
-    turn_eval_failed exit_of h (tree_of e)
-    (λ x c. lift (truth span x) c (λ y. choose y (scope in_bare (acts_of (all_acts ss)) c)
-    (all_from span (drop (k + 1) bs) last c))) q a0 a1 a2 r n
+    asking_failed h span (tree_of e) (scope in_bare (acts_of (all_acts ss))) (all_from span (drop (k + 1) bs) last) r q a0 a1 a2 n
     (at_branch h span bs k b e ss last q a0 a1 within here is u)
 
 -- no branch is left

@@ -5,8 +5,10 @@ use Rattle.asl_syn.specs.declared.code.DynCode.TheVariants.{D12, D13}
 use Rattle.asl_rules.specs.runs.Cuts as cut
 use Rattle.asl_rules.specs.runs.Cuts.{cuts}
 use Rattle.asl_rules.specs.runs.Plans.{Meter, Outcome, Done, Halt, Faulted, enter, run}
-use Rattle.asl_rules.specs.runs.Trees.{Tree, Act, tree_at, act_at}
-use Rattle.asl_rules.specs.private.TypedMeaning.{BareCore, tree_node, act_node}
+use Rattle.asl_rules.specs.declared.slot.Slot.{Slot}
+use Rattle.asl_rules.specs.runs.Pures.{known}
+use Rattle.asl_rules.specs.runs.Trees.{Tree, Act, Note, Read, tree_at, act_at}
+use Rattle.asl_rules.specs.private.TypedMeaning.{BareCore, tree_node, act_node, value_at}
 use Rattle.asl_rules.specs.values.Values as rules
 use Rattle.asl_tree.specs.Acts.{act_of, all_acts}
 use Rattle.asl_tree.specs.private.Room.{FitsAct, FitsList, declared}
@@ -19,9 +21,10 @@ use Rattle.asl_branches.specs.declared.stop.Exit.{Exit}
 use Rattle.asl_branches.specs.declared.stop.Stop.{Stop as Stopped}
 use Rattle.asl_branches.specs.declared.stop.Stop.TheVariants as stop
 use Rattle.asl_branches.specs.declared.setting.Setting.{Setting}
-use Rattle.asl_branches.specs.Meets.{At, Executes, Meets}
+use Rattle.asl_branches.specs.Meets.{At, Executes, Is, Meets}
 use Rattle.asl_branches.specs.View.{exit_of, program_of, meaning_of, cutting_of, room_of}
 use Rattle.asl_branches.proofs.Fronts.{at_front}
+use Rattle.asl_branches.proofs.Turns.{at_once_meets}
 
 -- an answer that one part has, another has that gives the same
 meets_same : {A B : Type 0} (w : A → B) (r : Result A Stopped) (c : BareCore) (h : Meter) (p q : Outcome BareCore B) (C D : Meter → Type 0) → p ≡ q → ((u : Meter) → C u → D u) → Meets w r c h p C → Meets w r c h q D
@@ -71,6 +74,14 @@ expr_entered fs (suc d) e r c c1 h h1 deep has m =
     (ap (λ n. run (meaning_of fs n) (tree_node (program_of fs) e c) (record h { steps = h.steps - 1 })) one ∙ sym (stepped (tree_at e) false c h (run (meaning_of fs d) (tree_node (program_of fs) e c)) has))
     (λ u w. cut_later h.steps (cuts (meaning_of fs d) (cutting_of fs d) (tree_node (program_of fs) e c) (record h { steps = h.steps - 1 }) u) has
     (subst (λ n. cuts (meaning_of fs n) (cutting_of fs n) (tree_node (program_of fs) e c) (record h { steps = h.steps - 1 }) u) one w)) m
+
+-- a name gives what its place holds
+pub read_entered : (fs : List TreeFunc) (d : ℕ) (n : Note) (slot : Slot) (r : Result Value Stopped) (c : BareCore) (h h1 : Meter) → 0 < d → 0 < h.steps → h1 ≡ record h { steps = h.steps - 1 } → Is value_of r (known n.span (value_at slot c)) →
+    Meets value_of r c h1 ((meaning_of fs d).expr (Read n slot) c h) ((cutting_of fs d).expr (Read n slot) c h)
+read_entered fs d n slot r c h h1 deep has is given =
+    expr_entered fs d (Read n slot) r c c h h1 deep has
+    (subst (λ m. Meets value_of r c m (run (meaning_of fs (d - 1)) (tree_node (program_of fs) (Read n slot) c) (record h { steps = h.steps - 1 })) (cuts (meaning_of fs (d - 1)) (cutting_of fs (d - 1)) (tree_node (program_of fs) (Read n slot) c) (record h { steps = h.steps - 1 })))
+    (sym is) (at_once_meets value_of fs (d - 1) r (known n.span (value_at slot c)) c (record h { steps = h.steps - 1 }) given))
 
 -- what an expression gives once it is entered
 pub expr_done : (fs : List TreeFunc) (d : ℕ) (e : Tree) (x : rules.Value) (c c1 : BareCore) (h h1 : Meter) → 0 < d → 0 < h.steps →

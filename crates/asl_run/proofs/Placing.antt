@@ -84,10 +84,12 @@ changed_length r f i xs zs t = ap length t.now_is ∙ length-set xs i t.new
 
 -- a value that takes nothing of the one that it replaces
 pub set_good : (holds : Bool) (span : Span) (i : ℕ) (y : Value) (xs : List Value) → i < length xs →
-    ((x : rules.Value) → adopted x (value_of y) ≡ value_of y) → stored_in holds span i [] (value_of y) (map value_of xs) ≡ Good (map value_of (slice_set xs i y))
+    ((x : rules.Value) → slice_get (map value_of xs) i ≡ Some x → adopted x (value_of y) ≡ value_of y) → stored_in holds span i [] (value_of y) (map value_of xs) ≡ Good (map value_of (slice_set xs i y))
 set_good holds span i y xs h free =
-    stored_good holds span i [] (value_of y) xs (get_or xs i y) y h (get_or_default xs i y (get_or xs i y) h)
-    (ap Good (takes_nothing holds (value_of (get_or xs i y)) (value_of y) (free (value_of (get_or xs i y)))))
+    let x = get_or xs i y in
+    let here = get_or_default xs i y x h in
+    stored_good holds span i [] (value_of y) xs x y h here
+    (ap Good (takes_nothing holds (value_of x) (value_of y) (free (value_of x) (read_there xs i x h here))))
 
 -- ---- in places
 

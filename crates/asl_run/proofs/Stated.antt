@@ -1,9 +1,9 @@
 -- What statements stand for that have several parts.
-use Rattle.std.proofs.Common.{◌≡◌, ℕ, List, Some, Result, sym, ap, ◌∙◌, subst}
+use Rattle.std.proofs.Common.{◌≡◌, ℕ, List, [], ◌∷◌, length, get_or, map, Some, Result, sym, ap, ◌∙◌, subst, arith}
 use Rattle.asl_syn.specs.declared.token.Span.{Span}
 use Rattle.asl_rules.specs.runs.Trees as rules
 use Rattle.asl_rules.specs.private.TypedMeaning.{act_node}
-use Rattle.asl_tree.specs.Acts.{AlternativeFirst, BranchFirst, CatcherFirst, act_of, act_rule, all_acts, all_alternatives, all_branches, all_catchers, all_places, alternative_rule, branch_rule, catcher_rule, last_of, last_rule, maybe_tree, simple_of}
+use Rattle.asl_tree.specs.Acts.{AlternativeFirst, BranchFirst, CatcherFirst, act_of, act_rule, all_acts, all_alternatives, all_branches, all_catchers, all_places, alternative_rule, branch_rule, catcher_rule, last_of, last_rule, maybe_tree, simple_of, step_of}
 use Rattle.asl_tree.specs.View.{callee_of, tree_of, all_trees}
 use Rattle.asl_tree.specs.private.Room.{declared}
 use Rattle.asl_tree.specs.declared.act.Act.{Act}
@@ -19,8 +19,13 @@ use Rattle.asl_tree.specs.declared.act.Last.{Last}
 use Rattle.asl_tree.specs.declared.act.Simple.{Simple}
 use Rattle.asl_tree.specs.declared.act.Simple.TheVariants as simple
 use Rattle.asl_tree.specs.declared.act.TreePlace.{TreePlace}
+use Rattle.asl_tree.specs.declared.act.TreeStep.{TreeStep}
+use Rattle.asl_tree.specs.declared.act.TreeStep.TheVariants as step
 use Rattle.asl_tree.specs.declared.tree.Callee.{Callee}
 use Rattle.asl_tree.specs.declared.tree.Tree.{Tree}
+use Rattle.asl_value.specs.View.{slice_of}
+use Rattle.asl_value.specs.declared.slices.SliceShape.{SliceShape}
+use Rattle.asl_value.specs.declared.slices.SliceShape.TheVariants as shapes
 use Rattle.asl_branches.specs.declared.setting.Setting.{Setting}
 use Rattle.asl_branches.specs.declared.stop.Exit.{Exit}
 use Rattle.asl_branches.specs.declared.stop.Stop.{Stop}
@@ -37,6 +42,23 @@ pub invoke_is : (s : Simple) (span : Span) (f : Callee) (is is1 : List ℕ) (ps 
 invoke_is s span f is is1 ps ps1 es es1 at i p h =
     ap simple_of at ∙ ap (λ us. rules.Invoke span (callee_of f) us (all_trees ps) (all_trees es)) (sym i) ∙ ap (λ us. rules.Invoke span (callee_of f) is1 (all_trees us) (all_trees es)) (sym p)
     ∙ ap (λ us. rules.Invoke span (callee_of f) is1 (all_trees ps1) (all_trees us)) (sym h)
+
+-- ---- lists of one
+
+pub one_alone : {A B : Type 0} (f : A → B) (xs : List A) (x y : A) → length xs ≡ 1 → x ≡ get_or xs 0 y → map f xs ≡ f x ∷ []
+one_alone f [] x y one here = absurd (omega (arith, one))
+one_alone f (z ∷ []) x y one here = ap (λ v. f v ∷ []) (sym here)
+one_alone f (z ∷ w ∷ xs) x y one here = absurd (omega (arith, one))
+
+-- one slice of a place
+pub slice_is : (t : TreeStep) (span : Span) (ss ss1 : List SliceShape) (es es1 : List Tree) (shape : SliceShape) →
+    t ≡ step.Slices span ss es → ss1 ≡ ss → es1 ≡ es → length ss ≡ 1 → shape ≡ get_or ss1 0 shapes.AtBit →
+    step_of t ≡ rules.into_slices span (slice_of shape ∷ []) (all_trees es1)
+slice_is t span ss ss1 es es1 shape is s e one here =
+    ap step_of is
+    ∙ ap (λ l. rules.into_slices span l (all_trees es))
+    (one_alone slice_of ss shape shapes.AtBit one (here ∙ ap (λ l. get_or l 0 shapes.AtBit) s))
+    ∙ ap (λ l. rules.into_slices span (slice_of shape ∷ []) (all_trees l)) (sym e)
 
 -- ---- statements with lists
 

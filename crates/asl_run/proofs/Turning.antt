@@ -4,17 +4,13 @@ use Rattle.std.specs.Prelude.{ℤ, List}
 use mathlib.Core.Bool.{beq}
 use Rattle.asl_syn.specs.declared.token.Span.{Span}
 use Rattle.asl_syn.specs.declared.tree.Direction.{Direction}
-use Rattle.asl_rules.specs.values.Operators.{truth}
-use Rattle.asl_rules.specs.runs.Plans.{Ret, Good, choose, follow, lift}
+use Rattle.asl_rules.specs.runs.Plans.{Ret, choose, follow, lift}
 use Rattle.asl_rules.specs.runs.Limits.{most_turns}
 use Rattle.asl_rules.specs.runs.StatementForms.{asked, go_on, index_turn, is_past, limited, next_index, scope, scope_with, turns_in, whole_number}
 use Rattle.asl_rules.specs.runs.Trees.{Tree, Act}
-use Rattle.asl_rules.specs.private.TypedMeaning.{BareCore, Runs, in_bare, indexed}
+use Rattle.asl_rules.specs.private.TypedMeaning.{BareCore, Runs, in_bare, indexed, itself}
 use Rattle.asl_rules.specs.values.Values.{Value, Exit, Normal, int}
 use Rattle.asl_tree.specs.declared.act.TreeFunc.{TreeFunc}
-use Rattle.asl_value.specs.private.Answers as answers
-use Rattle.asl_value.specs.declared.failure.Failure.{Failure}
-use Rattle.asl_value.specs.declared.failure.Failure.TheVariants as failure
 use Rattle.asl_value.specs.declared.value.FieldValue.TheFolds.{fold-roll-Value}
 use Rattle.asl_value.specs.declared.value.FieldValue.TheOpen as layers
 use Rattle.asl_value.specs.declared.value.Value.{Value as Stored}
@@ -25,43 +21,15 @@ use Rattle.asl_branches.specs.declared.setting.Setting.{Setting}
 use Rattle.asl_branches.specs.declared.stop.Exit.{Exit as Ending}
 use Rattle.asl_branches.specs.declared.stop.Exit.TheVariants as exit
 use Rattle.asl_branches.specs.declared.stop.Stop.{Stop as Stopped}
-use Rattle.asl_branches.specs.Meets.{At, Is, Ran, Underway}
-use Rattle.asl_branches.specs.View.{core_of, exit_of, stop_of}
-use Rattle.asl_branches.proofs.Answered.{Valued, all_done, ended, lift_failed, same_plan, turn_failed, turned, turned_eval}
+use Rattle.asl_branches.specs.Meets.{At, Ran, Underway}
+use Rattle.asl_branches.specs.View.{core_of, exit_of}
+use Rattle.asl_branches.proofs.Answered.{all_done, same_plan, turn_failed, turned}
 use Rattle.asl_branches.proofs.Turns.{Goes, goes_eval, goes_lift, goes_ret}
+use Rattle.asl_run.specs.private.Asking.{condition}
 use Rattle.asl_run.specs.private.Looping.{limit_asked, turn_until}
+use Rattle.asl_run.proofs.Asked.{asked_next, asking_failed}
 use Rattle.asl_run.proofs.Lefts.{goes_follow}
 use Rattle.asl_run.proofs.Rounds.{index_more, turn_after, until_more}
-
--- ---- a condition
-
--- it was evaluated
-pub asked_next : (h : Setting) (span : Span) (e : Tree) (f g : BareCore → Runs Exit) (v : Stored) (q : BareCore → Runs Exit)
-    (a0 a1 a2 : At) →
-    Valued (Ok v) h e a1 a2 → Underway h (λ c. asked span e c f g) a1 q a0 →
-    Underway h (λ c. lift (truth span (value_of v)) c (λ b. choose b (f c) (g c))) a2 q a0
-asked_next h span e f g v q a0 a1 a2 n u = turned_eval h e (λ x c. lift (truth span x) c (λ b. choose b (f c) (g c))) q a0 a1 a2 v n u
-
--- it is a boolean
-pub chosen_next : (h : Setting) (span : Span) (v : Value) (b : Bool) (f g : BareCore → Runs Exit) (q : BareCore → Runs Exit) (a0 a1 : At) →
-    truth span v ≡ Good b → Underway h (λ c. lift (truth span v) c (λ b. choose b (f c) (g c))) a1 q a0 →
-    Underway h (λ c. choose b (f c) (g c)) a1 q a0
-chosen_next h span v b f g q a0 a1 e u = subst (λ r. Underway h (λ c. lift r c (λ b. choose b (f c) (g c))) a1 q a0) e u
-
-is_of : (f : Failure) (span : Span) (v : Value) → answers.Is (λ (b : Bool). b) (Err f) (truth span v) → Is (λ (b : Bool). b) (Err (stop_of f)) (truth span v)
-is_of (failure.Fault code at) span v e = e
-is_of (failure.WrongKind at) span v e = e
-is_of (failure.UnknownType at) span v e = e
-is_of failure.NoMemory span v e = tt
-
--- it is none
-pub truth_failed : (h : Setting) (span : Span) (v : Value) (t : Failure) (f g : BareCore → Runs Exit) (q : BareCore → Runs Exit)
-    (a0 a1 : At) →
-    answers.Is (λ (b : Bool). b) (Err t) (truth span v) → Underway h (λ c. lift (truth span v) c (λ b. choose b (f c) (g c))) a1 q a0 →
-    Ran exit_of (Err (stop_of t)) h q a0 a1
-truth_failed h span v t f g q a0 a1 e u =
-    ended exit_of h (λ c. lift (truth span v) c (λ b. choose b (f c) (g c))) q a0 a1 a1 (Err (stop_of t)) u
-    (lift_failed (λ (b : Bool). b) exit_of h (stop_of t) (truth span v) (λ c b. choose b (f c) (g c)) a1 (is_of t span v e))
 
 -- ---- `while` and `repeat`
 
@@ -85,42 +53,35 @@ until_list_failed h b span e ss n r q a0 a1 a2 has m u =
     (goes_follow h.funcs.now h.depth (scope in_bare ss (core_of a1.run)) (until_behind b span e ss n)) m
     (at_until h b span e ss n q a0 a1 has u)
 
-until_asks : (h : Setting) (b : Bool) (span : Span) (e : Tree) (ss : List Act) (n : ℕ) (v : Stored) (q : BareCore → Runs Exit)
-    (a0 a1 a2 a3 : At) →
-    0 < n → Ran exit_of (Ok exit.Normal) h (scope in_bare ss) a1 a2 → Valued (Ok v) h e a2 a3 → Underway h
-    (turn_until b span e ss n) a1 q a0 →
-    Underway h (λ c. lift (truth span (value_of v)) c (λ t. choose t (turn_after b true span e ss (n - 1) c)
-    (turn_after b false span e ss (n - 1) c)))
-    a3 q a0
-until_asks h b span e ss n v q a0 a1 a2 a3 has m r u =
-    asked_next h span e (turn_after b true span e ss (n - 1)) (turn_after b false span e ss (n - 1)) v q a0 a2 a3 r
-    (turned exit_of h (scope in_bare ss) (until_first b span e ss n) q (until_behind b span e ss n) a0 a1 a2 exit.Normal
+until_asks : (h : Setting) (b : Bool) (span : Span) (e : Tree) (ss : List Act) (n : ℕ) (q : BareCore → Runs Exit) (a0 a1 a2 : At) →
+    0 < n → Ran exit_of (Ok exit.Normal) h (scope in_bare ss) a1 a2 → Underway h (turn_until b span e ss n) a1 q a0 →
+    Underway h (λ c. asked span e c (turn_after b true span e ss (n - 1)) (turn_after b false span e ss (n - 1))) a2 q a0
+until_asks h b span e ss n q a0 a1 a2 has m u =
+    turned exit_of h (scope in_bare ss) (until_first b span e ss n) q (until_behind b span e ss n) a0 a1 a2 exit.Normal
     (goes_follow h.funcs.now h.depth (scope in_bare ss (core_of a1.run)) (until_behind b span e ss n)) m
-    (at_until h b span e ss n q a0 a1 has u))
+    (at_until h b span e ss n q a0 a1 has u)
 
-pub until_truth_failed : (h : Setting) (b : Bool) (span : Span) (e : Tree) (ss : List Act) (n : ℕ) (v : Stored) (t : Failure)
+-- its condition did
+pub until_asking_failed : (h : Setting) (b : Bool) (span : Span) (e : Tree) (ss : List Act) (n : ℕ) (r : Stopped)
     (q : BareCore → Runs Exit) (a0 a1 a2 a3 : At) → 0 < n → Ran exit_of (Ok exit.Normal) h (scope in_bare ss) a1 a2 →
-    Valued (Ok v) h e a2 a3 → answers.Is (λ (b : Bool). b) (Err t) (truth span (value_of v)) →
-    Underway h (turn_until b span e ss n) a1 q a0 → Ran exit_of (Err (stop_of t)) h q a0 a3
-until_truth_failed h b span e ss n v t q a0 a1 a2 a3 has m r fails u =
-    truth_failed h span (value_of v) t (turn_after b true span e ss (n - 1)) (turn_after b false span e ss (n - 1)) q a0 a3 fails
-    (until_asks h b span e ss n v q a0 a1 a2 a3 has m r u)
+    Ran itself (Err r) h (condition span e) a2 a3 → Underway h (turn_until b span e ss n) a1 q a0 → Ran exit_of (Err r) h q a0 a3
+until_asking_failed h b span e ss n r q a0 a1 a2 a3 has m fails u =
+    asking_failed h span e (turn_after b true span e ss (n - 1)) (turn_after b false span e ss (n - 1)) r q a0 a2 a3 fails
+    (until_asks h b span e ss n q a0 a1 a2 has m u)
 
 -- what comes after a turn, by what its condition is
 after_is : (b t : Bool) (span : Span) (e : Tree) (ss : List Act) (n : ℕ) (c : BareCore) → choose t (turn_after b true span e ss n c) (turn_after b false span e ss n c) ≡ turn_after b t span e ss n c
 after_is b true span e ss n c = refl
 after_is b false span e ss n c = refl
 
-until_answered : (h : Setting) (b : Bool) (span : Span) (e : Tree) (ss : List Act) (n : ℕ) (v : Stored) (t : Bool)
-    (q : BareCore → Runs Exit)
-    (a0 a1 a2 a3 : At) → 0 < n → Ran exit_of (Ok exit.Normal) h (scope in_bare ss) a1 a2 → Valued (Ok v) h e a2 a3 →
-    truth span (value_of v) ≡ Good t → Underway h (turn_until b span e ss n) a1 q a0 →
-    Underway h (turn_after b t span e ss (n - 1)) a3 q a0
-until_answered h b span e ss n v t q a0 a1 a2 a3 has m r is u =
+until_answered : (h : Setting) (b : Bool) (span : Span) (e : Tree) (ss : List Act) (n : ℕ) (t : Bool) (q : BareCore → Runs Exit)
+    (a0 a1 a2 a3 : At) → 0 < n → Ran exit_of (Ok exit.Normal) h (scope in_bare ss) a1 a2 → Ran itself (Ok t) h (condition span e) a2 a3 →
+    Underway h (turn_until b span e ss n) a1 q a0 → Underway h (turn_after b t span e ss (n - 1)) a3 q a0
+until_answered h b span e ss n t q a0 a1 a2 a3 has m answers u =
     let yes = turn_after b true span e ss (n - 1) in
     let no = turn_after b false span e ss (n - 1) in
     same_plan h (λ c. choose t (yes c) (no c)) (turn_after b t span e ss (n - 1)) q a0 a3 (after_is b t span e ss (n - 1) (core_of a3.run))
-    (chosen_next h span (value_of v) t yes no q a0 a3 is (until_asks h b span e ss n v q a0 a1 a2 a3 has m r u))
+    (asked_next h span e yes no t q a0 a2 a3 answers (until_asks h b span e ss n q a0 a1 a2 has m u))
 
 -- the condition ends the loop
 ends : (b t : Bool) (span : Span) (e : Tree) (ss : List Act) (n : ℕ) (c : BareCore) → beq t b ≡ true → turn_after b t span e ss n c ≡ Ret Normal c
@@ -129,14 +90,12 @@ ends true false span e ss n c is = cc
 ends false true span e ss n c is = cc
 ends false false span e ss n c is = refl
 
-pub until_ended : (h : Setting) (b : Bool) (span : Span) (e : Tree) (ss : List Act) (n : ℕ) (v : Stored) (t : Bool)
-    (q : BareCore → Runs Exit)
-    (a0 a1 a2 a3 : At) → 0 < n → Ran exit_of (Ok exit.Normal) h (scope in_bare ss) a1 a2 → Valued (Ok v) h e a2 a3 →
-    truth span (value_of v) ≡ Good t → beq t b ≡ true → Underway h (turn_until b span e ss n) a1 q a0 →
-    Ran exit_of (Ok exit.Normal) h q a0 a3
-until_ended h b span e ss n v t q a0 a1 a2 a3 has m r answers is u =
+pub until_ended : (h : Setting) (b : Bool) (span : Span) (e : Tree) (ss : List Act) (n : ℕ) (t : Bool) (q : BareCore → Runs Exit)
+    (a0 a1 a2 a3 : At) → 0 < n → Ran exit_of (Ok exit.Normal) h (scope in_bare ss) a1 a2 → Ran itself (Ok t) h (condition span e) a2 a3 →
+    beq t b ≡ true → Underway h (turn_until b span e ss n) a1 q a0 → Ran exit_of (Ok exit.Normal) h q a0 a3
+until_ended h b span e ss n t q a0 a1 a2 a3 has m answers is u =
     all_done exit_of h exit.Normal q a0 a3 (same_plan h (turn_after b t span e ss (n - 1)) (λ c. Ret Normal c) q a0 a3
-    (ends b t span e ss (n - 1) (core_of a3.run) is) (until_answered h b span e ss n v t q a0 a1 a2 a3 has m r answers u))
+    (ends b t span e ss (n - 1) (core_of a3.run) is) (until_answered h b span e ss n t q a0 a1 a2 a3 has m answers u))
 
 -- it doesn't
 goes_round : (b t : Bool) (span : Span) (e : Tree) (ss : List Act) (n : ℕ) (c : BareCore) → beq t b ≡ false → turn_after b t span e ss n c ≡ turn_until b span e ss n c
@@ -145,14 +104,12 @@ goes_round true false span e ss n c isnt = refl
 goes_round false true span e ss n c isnt = refl
 goes_round false false span e ss n c isnt = cc
 
-pub until_turned : (h : Setting) (b : Bool) (span : Span) (e : Tree) (ss : List Act) (n : ℕ) (v : Stored) (t : Bool)
-    (q : BareCore → Runs Exit)
-    (a0 a1 a2 a3 : At) → 0 < n → Ran exit_of (Ok exit.Normal) h (scope in_bare ss) a1 a2 → Valued (Ok v) h e a2 a3 →
-    truth span (value_of v) ≡ Good t → beq t b ≡ false → Underway h (turn_until b span e ss n) a1 q a0 →
-    Underway h (turn_until b span e ss (n - 1)) a3 q a0
-until_turned h b span e ss n v t q a0 a1 a2 a3 has m r answers isnt u =
+pub until_turned : (h : Setting) (b : Bool) (span : Span) (e : Tree) (ss : List Act) (n : ℕ) (t : Bool) (q : BareCore → Runs Exit)
+    (a0 a1 a2 a3 : At) → 0 < n → Ran exit_of (Ok exit.Normal) h (scope in_bare ss) a1 a2 → Ran itself (Ok t) h (condition span e) a2 a3 →
+    beq t b ≡ false → Underway h (turn_until b span e ss n) a1 q a0 → Underway h (turn_until b span e ss (n - 1)) a3 q a0
+until_turned h b span e ss n t q a0 a1 a2 a3 has m answers isnt u =
     same_plan h (turn_after b t span e ss (n - 1)) (turn_until b span e ss (n - 1)) q a0 a3
-    (goes_round b t span e ss (n - 1) (core_of a3.run) isnt) (until_answered h b span e ss n v t q a0 a1 a2 a3 has m r answers u)
+    (goes_round b t span e ss (n - 1) (core_of a3.run) isnt) (until_answered h b span e ss n t q a0 a1 a2 a3 has m answers u)
 
 -- ---- a limit
 

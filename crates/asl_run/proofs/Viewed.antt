@@ -33,11 +33,24 @@ binary_is e n o a a1 b b1 is l r =
     ap tree_of (is ∙ sym (node.rolls-Binary n o a b)) ∙ fold-roll-Tree rules.Tree tree_rule (layers.Binary n o a b)
     ∙ ap (λ u. rules.Binary (note_view n) o (tree_of u) (tree_of b)) (sym l) ∙ ap (λ u. rules.Binary (note_view n) o (tree_of a1) (tree_of u)) (sym r)
 
-pub element_is : (e : Tree) (n m : Note) (s : Slot) (a a1 i i1 : Tree) → e ≡ node.Element n a i → a1 ≡ a → a1 ≡ node.Read m s → i1 ≡ i → tree_of e ≡ rules.Element (note_view n) (rules.Read (note_view m) s) (tree_of i1)
-element_is e n m s a a1 i i1 is l read r =
+pub int_is : (e : Tree) (n : Note) (z : ℕ) → e ≡ node.Int n z → tree_of e ≡ rules.Int (note_view n) z
+int_is e n z is = ap tree_of (is ∙ sym (node.rolls-Int n z)) ∙ fold-roll-Tree rules.Tree tree_rule (layers.Int n z)
+
+pub field_is : (e : Tree) (n : Note) (a a1 : Tree) (i : ℕ) → e ≡ node.Field n a i → a1 ≡ a → tree_of e ≡ rules.Field (note_view n) (tree_of a1) i
+field_is e n a a1 i is l =
+    ap tree_of (is ∙ sym (node.rolls-Field n a i)) ∙ fold-roll-Tree rules.Tree tree_rule (layers.Field n a i)
+    ∙ ap (λ u. rules.Field (note_view n) (tree_of u) i) (sym l)
+
+pub element_is : (e : Tree) (n : Note) (a a1 i i1 : Tree) → e ≡ node.Element n a i → a1 ≡ a → i1 ≡ i → tree_of e ≡ rules.Element (note_view n) (tree_of a1) (tree_of i1)
+element_is e n a a1 i i1 is l r =
     ap tree_of (is ∙ sym (node.rolls-Element n a i)) ∙ fold-roll-Tree rules.Tree tree_rule (layers.Element n a i)
-    ∙ ap (λ u. rules.Element (note_view n) (tree_of u) (tree_of i)) (sym l) ∙ ap (λ u. rules.Element (note_view n) u (tree_of i)) (read_is a1 m s read)
-    ∙ ap (λ u. rules.Element (note_view n) (rules.Read (note_view m) s) (tree_of u)) (sym r)
+    ∙ ap (λ u. rules.Element (note_view n) (tree_of u) (tree_of i)) (sym l) ∙ ap (λ u. rules.Element (note_view n) (tree_of a1) (tree_of u)) (sym r)
+
+pub conditional_is : (e : Tree) (n : Note) (p p1 a a1 b b1 : Tree) → e ≡ node.Conditional n p a b → p1 ≡ p → a1 ≡ a → b1 ≡ b → tree_of e ≡ rules.Conditional (note_view n) (tree_of p1) (tree_of a1) (tree_of b1)
+conditional_is e n p p1 a a1 b b1 is q l r =
+    ap tree_of (is ∙ sym (node.rolls-Conditional n p a b)) ∙ fold-roll-Tree rules.Tree tree_rule (layers.Conditional n p a b)
+    ∙ ap (λ u. rules.Conditional (note_view n) (tree_of u) (tree_of a) (tree_of b)) (sym q) ∙ ap (λ u. rules.Conditional (note_view n) (tree_of p1) (tree_of u) (tree_of b)) (sym l)
+    ∙ ap (λ u. rules.Conditional (note_view n) (tree_of p1) (tree_of a1) (tree_of u)) (sym r)
 
 pub construct_is : (e : Tree) (n : Note) (s : Shell) (gs gs1 : List FieldGiven) (es es1 : List Tree) → e ≡ node.Construct n s gs es → gs1 ≡ gs → es1 ≡ es → tree_of e ≡ rules.Construct (note_view n) (shell_of s) (all_given gs1) (all_trees es1)
 construct_is e n s gs gs1 es es1 is g h =

@@ -7,3 +7,4 @@ pub mod Pieces
 pub mod Below
 pub mod AtOnce
 pub mod Looping
+pub mod Asking

@@ -64,6 +64,9 @@ fn store<K: Sink, N: Nodes<K>>(
         (λ c. lift (rules.stores WIDTH_LIMIT holds_bits (all_places targets.now) (value_of value)) c (λ ss. forms.store_each ss c))
         (at K.Sink run.old sink.old) (at K.Sink run.new sink.new) }
 {
+    if targets.len() == 1 && targets[0].way.is_empty() {
+        return store_at(here, run, sink, &targets[0], holds_bits, value);
+    }
     let parts = parts_of(here.setting().alloc, targets, value)?;
     store_all(here, run, sink, targets, holds_bits, parts.as_slice())
 }
@@ -104,7 +107,7 @@ fn store_all<K: Sink, N: Nodes<K>>(
     Ok(Exit::Normal)
 }
 
-/// A place takes a value: the operands of its steps are evaluated, and then it is stored.
+/// A place takes a copy of a value.
 fn store_one<K: Sink, N: Nodes<K>>(
     here: &N,
     run: &mut Run,
@@ -118,7 +121,24 @@ fn store_one<K: Sink, N: Nodes<K>>(
         (forms.store_each (taking holds_bits target.now (value_of part.now) ∷ []))
         (at K.Sink run.old sink.old) (at K.Sink run.new sink.new) }
 {
-    let part = Held::new(copy(part)?);
+    store_at(here, run, sink, target, holds_bits, copy(part)?)
+}
+
+/// A place takes a value: the operands of its steps are evaluated, and then it is stored.
+fn store_at<K: Sink, N: Nodes<K>>(
+    here: &N,
+    run: &mut Run,
+    sink: &mut K,
+    target: &TreePlace,
+    holds_bits: bool,
+    value: Value,
+) -> Result<Exit, Stop>
+    requires ready { N.ready here.now }
+    ensures { Ran exit_of result (N.setting here.now)
+        (forms.store_each (taking holds_bits target.now (value_of value) ∷ []))
+        (at K.Sink run.old sink.old) (at K.Sink run.new sink.new) }
+{
+    let part = Held::new(value);
     let steps = eval_steps(here, run, sink, target.steps.as_slice())?;
     let storing = Storing {
         span: target.span,

@@ -1,52 +1,61 @@
-//! What is evaluated and executed at once: integers and booleans by literals, names of storage, elements of arrays in such
-//! storage and operators on these, a few levels deep, and assignments of these to names. Nothing is built on the way. Where an
-//! expression is none of these, where it has no value, or where a step or a level is wanting, nothing is done: then its node
-//! is entered as any other.
-ghost use Rattle.std.specs.Prelude.{◌≡◌, ◌∷◌, [], List, Some, length};
+//! What is evaluated at once: integers, booleans, and bits without bitfields, by literals, names of storage, elements and
+//! fields of what is held there, operators, conditionals, slices, and the library's subprograms on these, some levels deep.
+//! What is held in a place is read where it stands, and nothing is built on the way. Where an expression is none of these,
+//! where it has no value, or where a step, a level or memory is wanting, nothing is done: then its node is entered as any other.
+ghost use Rattle.std.specs.Prelude.{◌≡◌, ◌-◌, ◌∷◌, [], Bool, List, option_map};
+ghost use Rattle.std.specs.Option.{option_copied};
 ghost use Rattle.asl_bits.specs.declared.TheConstants.{WIDTH_LIMIT};
 ghost use Rattle.asl_syn.specs.declared.token.Span.{Span as At};
+ghost use Rattle.asl_rules.specs.private.ByPlace as places;
 ghost use Rattle.asl_rules.specs.runs.Forms as forms;
 ghost use Rattle.asl_rules.specs.values.Operators as operators;
-ghost use Rattle.asl_rules.specs.runs.Plans.{Good};
-ghost use Rattle.asl_rules.specs.runs.Pures.{known};
-ghost use Rattle.asl_rules.specs.runs.StatementForms.{assignment};
-ghost use Rattle.asl_rules.specs.private.HoldsBits.{holds_bits};
-ghost use Rattle.asl_rules.specs.runs.Trees.{Note as NoteOf, Read, tree_type};
-ghost use Rattle.asl_rules.specs.private.TypedMeaning.{act_node, stores, tree_node, value_at as held};
+ghost use Rattle.asl_rules.specs.values.Vectors.{slices_of};
+ghost use Rattle.asl_rules.specs.runs.Plans.{Good, Pure};
+ghost use Rattle.asl_rules.specs.private.TypedMeaning.{list_of, tree_node};
 ghost use Rattle.asl_rules.specs.values.Values.{Value as Seen, bool, int};
-ghost use Rattle.asl_rules.specs.types.Views.{adopted};
-ghost use Rattle.asl_tree.specs.Acts.{place_of, all_places, simple_of};
-ghost use Rattle.asl_tree.specs.View.{tree_of};
+ghost use Rattle.asl_rules.specs.types.Views.{stripping};
+ghost use Rattle.asl_shape.specs.View.{routine_of};
+ghost use Rattle.asl_tree.specs.View.{all_trees, tree_of};
 ghost use Rattle.asl_tree.specs.declared.act.TreeFunc.{TreeFunc};
+ghost use Rattle.asl_tree.specs.declared.tree.Tree.{Tree as TypedTree};
 ghost use Rattle.asl_value.specs.private.Numbers.{answer_of};
-ghost use Rattle.asl_value.specs.View.{value_of};
-ghost use Rattle.asl_branches.specs.Meets.{SameBut, SameRound};
-ghost use Rattle.asl_branches.specs.View.{core_of, height_of, program_of};
-ghost use Rattle.asl_run.specs.private.AtOnce.{Did, decided_as, decision, element_in, Ends, Executed, Finds, Gives, Puts, Sets, found};
+ghost use Rattle.asl_value.specs.View.{all_slices, slice_of, value_of};
+ghost use Rattle.asl_branches.specs.View.{program_of};
+ghost use Rattle.asl_branches.specs.declared.run.Run.{Run as State};
+ghost use Rattle.asl_run.specs.private.AtOnce.{CutsAt, decided_as, decision, Ends, Finds, Gives, found, library_call};
 
+use crate::bits;
+use crate::bits::{
+    Cut, bare, complement, of_bits, of_bits_alone, of_bits_and_integer, of_width,
+    of_width_and_bits, place_of, places_of,
+};
+use crate::parts::{element_in, field_in};
 use crate::places::value_at;
-use asl_branches::frames::Frames;
 use asl_branches::run::Run;
 use asl_num as num;
 use asl_num::NumFault;
 use asl_rules::slot::Slot;
-use asl_syn::token::Span;
+use asl_shape::Routine;
 use asl_syn::tree::{BinaryOperator, UnaryOperator};
-use asl_tree::act::{Act, Simple, TreePlace};
-use asl_tree::tree::Tree;
-use asl_value::{Kind, Value, element_of};
+use asl_tree::tree::{Callee, Tree};
+use asl_value::{SliceShape, Value};
+use asl_vector::Vector;
+use std::alloc::Global;
 
-/// What was found at once: a value, or neither.
-#[derive(Clone, Copy)]
+/// What was found at once: a value, or none.
+#[derive(Drop)]
 pub enum AtOnce {
     Integer(i128),
     Truth(bool),
+    /// Bits without bitfields.
+    Bits(Vector),
     Neither,
 }
 
-/// How far down nodes may be entered.
+/// How far down nodes may be entered, and the allocator.
 #[derive(Clone, Copy)]
 pub struct Reach {
+    pub alloc: Global,
     /// How many nodes more may be open.
     pub depth: u32,
     /// How many levels more are looked at.
@@ -54,7 +63,7 @@ pub struct Reach {
 }
 
 /// The levels of an expression that are looked at.
-const LEVELS: u32 = 5;
+pub const LEVELS: u32 = 12;
 
 // ---- values
 
@@ -65,8 +74,19 @@ fn plain(value: &Value) -> AtOnce
     match value {
         Value::Int(z) => AtOnce::Integer(*z),
         Value::Bool(b) => AtOnce::Truth(*b),
+        Value::Bits(bits, view) => bare(bits, view),
         // any other value may be left to the node
         _ => AtOnce::Neither,
+    }
+}
+
+/// What is found where a value stands.
+fn seen(there: Option<&Value>) -> AtOnce
+    ensures { (r : Pure Seen) → Gives (option_map value_of (option_copied there.entry)) r → Gives (found result) r }
+{
+    match there {
+        Some(value) => plain(value),
+        None => AtOnce::Neither,
     }
 }
 
@@ -77,16 +97,6 @@ fn literal(n: u128) -> AtOnce
     match i128::try_from(n) {
         Ok(z) => AtOnce::Integer(z),
         Err(_) => AtOnce::Neither,
-    }
-}
-
-/// What is held in a place.
-fn stored(run: &Run, slot: Slot) -> AtOnce
-    ensures { (span : At) → Gives (found result) (known span (held slot (core_of run.now))) }
-{
-    match value_at(run, slot) {
-        Some(value) => plain(value),
-        None => AtOnce::Neither,
     }
 }
 
@@ -217,51 +227,71 @@ fn decided(operator: BinaryOperator, a: bool) -> Option<bool>
 
 // ---- expressions
 
-/// Whether the elements of an array have no parts.
-fn has_plain_elements(array: &Value) -> bool {
-    match array {
-        Value::Array(kind, _) => match kind.get() {
-            Kind::Integers => true,
-            Kind::Booleans => true,
-            // an array of any elements may be left to its node
-            _ => false,
-        },
-        // any value may be left to its node
-        _ => false,
-    }
-}
-
-/// The element at an index of an array in a place.
-fn element(run: &Run, span: Span, slot: Slot, index: i128) -> AtOnce
-    ensures { (at : At) → Gives (found result) (element_in at span (held slot (core_of run.now)) index) }
-{
-    match value_at(run, slot) {
-        None => AtOnce::Neither,
-        Some(array) => {
-            if !has_plain_elements(array) {
-                return AtOnce::Neither;
-            }
-            match element_of(span, array, &Value::Int(index)) {
-                Ok(x) => plain(&x),
-                Err(_) => AtOnce::Neither,
-            }
-        }
-    }
-}
-
-/// An element of an array that is held in a place.
+/// What stands in a place, or where a way of fields and elements from there ends, so far down.
 #[cycle(at_once)]
-fn indexed(run: &Run, left: &mut u64, reach: Reach, span: Span, slot: Slot, i: &Tree) -> AtOnce
-    ensures { (fs : List TreeFunc) (at : NoteOf) → Ends (found result) fs reach.depth (forms.element span (Read at slot) (tree_of i.now)) run.now left.old left.new }
+fn reached<'r>(run: &'r Run, left: &mut u64, reach: Reach, e: &Tree) -> Option<&'r Value>
+    ensures { (fs : List TreeFunc) → Finds (option_map value_of (option_copied result)) fs reach.depth
+        e.now run.now left.old left.new }
 {
-    if *left == 0 || reach.depth == 0 {
-        return AtOnce::Neither;
+    if *left == 0 || reach.depth == 0 || reach.levels == 0 {
+        return None;
     }
     *left -= 1;
-    match evaluate(run, left, reach, i) {
-        AtOnce::Integer(z) => element(run, span, slot, z),
-        AtOnce::Truth(_) => AtOnce::Neither,
-        AtOnce::Neither => AtOnce::Neither,
+    let below = Reach {
+        alloc: reach.alloc,
+        depth: reach.depth - 1,
+        levels: reach.levels - 1,
+    };
+    part(run, left, below, e)
+}
+
+/// The same once the expression is entered.
+#[cycle(at_once)]
+fn part<'r>(run: &'r Run, left: &mut u64, reach: Reach, e: &Tree) -> Option<&'r Value>
+    ensures { (fs : List TreeFunc) → Ends (option_map value_of (option_copied result)) fs reach.depth
+        (tree_node (program_of fs) (tree_of e.now)) run.now left.old left.new }
+{
+    match e {
+        Tree::Read(_, slot) => value_at(run, *slot),
+        Tree::Field(_, a, place) => field(run, left, reach, a.get(), *place),
+        Tree::Element(_, a, i) => element(run, left, reach, a.get(), i.get()),
+        // any form may be left to its node
+        _ => None,
+    }
+}
+
+/// The field in a place of what is reached.
+#[cycle(at_once)]
+fn field<'r>(
+    run: &'r Run,
+    left: &mut u64,
+    reach: Reach,
+    a: &Tree,
+    place: usize,
+) -> Option<&'r Value>
+    ensures { (fs : List TreeFunc) (at : At) → Ends (option_map value_of (option_copied result)) fs reach.depth
+        (λ c. forms.behind (tree_of a.now) c (places.field_in at place)) run.now left.old left.new }
+{
+    match reached(run, left, reach, a) {
+        Some(value) => field_in(value, place),
+        None => None,
+    }
+}
+
+/// The element at an index of what is reached.
+#[cycle(at_once)]
+fn element<'r>(run: &'r Run, left: &mut u64, reach: Reach, a: &Tree, i: &Tree) -> Option<&'r Value>
+    ensures { (fs : List TreeFunc) (at : At) → Ends (option_map value_of (option_copied result)) fs reach.depth
+        (forms.element at (tree_of a.now) (tree_of i.now)) run.now left.old left.new }
+{
+    match reached(run, left, reach, a) {
+        Some(array) => match operand(run, left, reach, i) {
+            AtOnce::Integer(z) => element_in(array, z),
+            AtOnce::Truth(_) => None,
+            AtOnce::Bits(_bits) => None,
+            AtOnce::Neither => None,
+        },
+        None => None,
     }
 }
 
@@ -287,14 +317,27 @@ fn of_truth(operator: UnaryOperator, x: bool) -> AtOnce
     }
 }
 
+/// An operator with bits as its operand.
+fn of_vector(alloc: Global, operator: UnaryOperator, x: &Vector) -> AtOnce
+    ensures { (at : At) → Gives (found result) (operators.unary_value at operator (operators.plain_bits x.now)) }
+{
+    match operator {
+        UnaryOperator::Negate => AtOnce::Neither,
+        UnaryOperator::Not => AtOnce::Neither,
+        UnaryOperator::Complement => complement(alloc, x),
+    }
+}
+
 /// The value of the operand, and what the operator gives of it.
 #[cycle(at_once)]
 fn unary(run: &Run, left: &mut u64, reach: Reach, operator: UnaryOperator, a: &Tree) -> AtOnce
-    ensures { (fs : List TreeFunc) (at : At) → Ends (found result) fs reach.depth (λ c. forms.behind (tree_of a.now) c (operators.unary_value at operator)) run.now left.old left.new }
+    ensures { (fs : List TreeFunc) (at : At) → Ends (found result) fs reach.depth
+        (λ c. forms.behind (tree_of a.now) c (operators.unary_value at operator)) run.now left.old left.new }
 {
     match evaluate(run, left, reach, a) {
         AtOnce::Integer(x) => of_integer(operator, x),
         AtOnce::Truth(x) => of_truth(operator, x),
+        AtOnce::Bits(x) => of_vector(reach.alloc, operator, &x),
         AtOnce::Neither => AtOnce::Neither,
     }
 }
@@ -309,11 +352,14 @@ fn behind_integer(
     x: i128,
     b: &Tree,
 ) -> AtOnce
-    ensures { (fs : List TreeFunc) (at : At) → Ends (found result) fs reach.depth (forms.behind_left WIDTH_LIMIT at operator (tree_of b.now) (int x) (operators.strictness operator)) run.now left.old left.new }
+    ensures { (fs : List TreeFunc) (at : At) → Ends (found result) fs reach.depth
+        (forms.behind_left WIDTH_LIMIT at operator (tree_of b.now) (int x) (operators.strictness operator))
+        run.now left.old left.new }
 {
-    match evaluate(run, left, reach, b) {
+    match operand(run, left, reach, b) {
         AtOnce::Integer(y) => of_integers(operator, x, y),
         AtOnce::Truth(_) => AtOnce::Neither,
+        AtOnce::Bits(_bits) => AtOnce::Neither,
         AtOnce::Neither => AtOnce::Neither,
     }
 }
@@ -328,7 +374,9 @@ fn behind_truth(
     x: bool,
     b: &Tree,
 ) -> AtOnce
-    ensures { (fs : List TreeFunc) (at : At) → Ends (found result) fs reach.depth (forms.behind_left WIDTH_LIMIT at operator (tree_of b.now) (bool x) (operators.strictness operator)) run.now left.old left.new }
+    ensures { (fs : List TreeFunc) (at : At) → Ends (found result) fs reach.depth
+        (forms.behind_left WIDTH_LIMIT at operator (tree_of b.now) (bool x) (operators.strictness operator))
+        run.now left.old left.new }
 {
     if let Some(r) = decided(operator, x) {
         return AtOnce::Truth(r);
@@ -336,7 +384,66 @@ fn behind_truth(
     match evaluate(run, left, reach, b) {
         AtOnce::Truth(y) => of_truths(operator, x, y),
         AtOnce::Integer(_) => AtOnce::Neither,
+        AtOnce::Bits(_bits) => AtOnce::Neither,
         AtOnce::Neither => AtOnce::Neither,
+    }
+}
+
+/// An operator behind bits.
+#[cycle(at_once)]
+fn behind_bits(
+    run: &Run,
+    left: &mut u64,
+    reach: Reach,
+    operator: BinaryOperator,
+    x: &Vector,
+    b: &Tree,
+) -> AtOnce
+    ensures { (fs : List TreeFunc) (at : At) → Ends (found result) fs reach.depth
+        (forms.behind_left WIDTH_LIMIT at operator (tree_of b.now) (operators.plain_bits x.now) (operators.strictness operator))
+        run.now left.old left.new }
+{
+    match evaluate(run, left, reach, b) {
+        AtOnce::Bits(y) => of_bits(reach.alloc, operator, x, &y),
+        AtOnce::Integer(z) => of_bits_and_integer(reach.alloc, operator, x, z),
+        AtOnce::Truth(_) => AtOnce::Neither,
+        AtOnce::Neither => AtOnce::Neither,
+    }
+}
+
+/// A node without nodes below is entered, which gives this; nothing where it can't be.
+fn leaf(left: &mut u64, reach: Reach, it: AtOnce) -> AtOnce
+    ensures { (fs : List TreeFunc) (e : TypedTree) (s : State) →
+        Ends (found it) fs (reach.depth - 1) (tree_node (program_of fs) (tree_of e)) s (left.old - 1) (left.old - 1) →
+        Finds (found result) fs reach.depth e s left.old left.new }
+{
+    if *left == 0 || reach.depth == 0 {
+        drop(it);
+        return AtOnce::Neither;
+    }
+    *left -= 1;
+    it
+}
+
+/// The value of an operand. Literals and names, which most operands are, take no call.
+#[cycle(at_once)]
+fn operand(run: &Run, left: &mut u64, reach: Reach, e: &Tree) -> AtOnce
+    ensures { (fs : List TreeFunc) → Finds (found result) fs reach.depth e.now run.now left.old left.new }
+{
+    match e {
+        Tree::Int(_, n) => leaf(left, reach, literal(*n)),
+        Tree::Read(_, slot) => leaf(left, reach, seen(value_at(run, *slot))),
+        // any other is evaluated as it is elsewhere
+        _ => evaluate(run, left, reach, e),
+    }
+}
+
+/// Whether an expression is a call of a subprogram of the program, which is never evaluated at once.
+fn calls_own(e: &Tree) -> bool {
+    match e {
+        Tree::Call(_, Callee::Own(_), _, _, _) => true,
+        // any other may be tried
+        _ => false,
     }
 }
 
@@ -350,33 +457,255 @@ fn operation(
     a: &Tree,
     b: &Tree,
 ) -> AtOnce
-    ensures { (fs : List TreeFunc) (at : At) → Ends (found result) fs reach.depth (forms.operation WIDTH_LIMIT at operator (tree_of a.now) (tree_of b.now)) run.now left.old left.new }
+    ensures { (fs : List TreeFunc) (at : At) → Ends (found result) fs reach.depth
+        (forms.operation WIDTH_LIMIT at operator (tree_of a.now) (tree_of b.now)) run.now left.old left.new }
 {
-    match evaluate(run, left, reach, a) {
+    if calls_own(a) || calls_own(b) {
+        return AtOnce::Neither;
+    }
+    match operand(run, left, reach, a) {
         AtOnce::Integer(x) => behind_integer(run, left, reach, operator, x, b),
         AtOnce::Truth(x) => behind_truth(run, left, reach, operator, x, b),
+        AtOnce::Bits(x) => behind_bits(run, left, reach, operator, &x, b),
         AtOnce::Neither => AtOnce::Neither,
     }
 }
 
+/// The branch that a condition takes. What is found has no bitfields to lose.
+#[cycle(at_once)]
+fn conditional(run: &Run, left: &mut u64, reach: Reach, e: &Tree, a: &Tree, b: &Tree) -> AtOnce
+    ensures { (fs : List TreeFunc) (at : At) (holds : Bool) → Ends (found result) fs reach.depth
+        (forms.conditional (stripping holds) at (tree_of e.now) (tree_of a.now) (tree_of b.now)) run.now left.old left.new }
+{
+    match evaluate(run, left, reach, e) {
+        AtOnce::Truth(x) => {
+            if x {
+                evaluate(run, left, reach, a)
+            } else {
+                evaluate(run, left, reach, b)
+            }
+        }
+        AtOnce::Integer(_) => AtOnce::Neither,
+        AtOnce::Bits(_bits) => AtOnce::Neither,
+        AtOnce::Neither => AtOnce::Neither,
+    }
+}
+
+// ---- slices
+
+/// One slice of bits or of an integer.
+#[cycle(at_once)]
+fn sliced(
+    run: &Run,
+    left: &mut u64,
+    reach: Reach,
+    a: &Tree,
+    shapes: &[SliceShape],
+    es: &[Tree],
+) -> AtOnce
+    ensures { (fs : List TreeFunc) (at : At) → Ends (found result) fs reach.depth
+        (λ c. forms.behind_more (tree_of a.now) (list_of (all_trees es.now)) c
+        (λ x zs. slices_of WIDTH_LIMIT at (all_slices shapes.now) zs x)) run.now left.old left.new }
+{
+    if shapes.len() != 1 {
+        return AtOnce::Neither;
+    }
+    match evaluate(run, left, reach, a) {
+        AtOnce::Bits(bits) => match cut_at(run, left, reach, shapes[0], es) {
+            Some(cut) => bits::part(reach.alloc, &bits, cut),
+            None => AtOnce::Neither,
+        },
+        AtOnce::Integer(z) => match cut_at(run, left, reach, shapes[0], es) {
+            Some(cut) => bits::part_of_integer(reach.alloc, z, cut),
+            None => AtOnce::Neither,
+        },
+        AtOnce::Truth(_) => AtOnce::Neither,
+        AtOnce::Neither => AtOnce::Neither,
+    }
+}
+
+/// The places of one slice.
+#[cycle(at_once)]
+pub fn cut_at(
+    run: &Run,
+    left: &mut u64,
+    reach: Reach,
+    shape: SliceShape,
+    es: &[Tree],
+) -> Option<Cut>
+    ensures { (fs : List TreeFunc) → CutsAt result (slice_of shape) fs reach.depth
+        (list_of (all_trees es.now)) run.now left.old left.new }
+{
+    if es.len() == 1 {
+        return bit_place(run, left, reach, shape, &es[0]);
+    }
+    if es.len() == 2 {
+        return two_places(run, left, reach, shape, &es[0], &es[1]);
+    }
+    None
+}
+
+/// The place of `[i]`.
+#[cycle(at_once)]
+fn bit_place(run: &Run, left: &mut u64, reach: Reach, shape: SliceShape, e: &Tree) -> Option<Cut>
+    ensures { (fs : List TreeFunc) → CutsAt result (slice_of shape) fs reach.depth
+        (tree_of e.now ∷ []) run.now left.old left.new }
+{
+    match evaluate(run, left, reach, e) {
+        AtOnce::Integer(i) => place_of(shape, i),
+        AtOnce::Truth(_) => None,
+        AtOnce::Bits(_bits) => None,
+        AtOnce::Neither => None,
+    }
+}
+
+/// The places of a slice with two expressions.
+#[cycle(at_once)]
+fn two_places(
+    run: &Run,
+    left: &mut u64,
+    reach: Reach,
+    shape: SliceShape,
+    first: &Tree,
+    second: &Tree,
+) -> Option<Cut>
+    ensures { (fs : List TreeFunc) → CutsAt result (slice_of shape) fs reach.depth
+        (tree_of first.now ∷ tree_of second.now ∷ []) run.now left.old left.new }
+{
+    match evaluate(run, left, reach, first) {
+        AtOnce::Integer(i) => match evaluate(run, left, reach, second) {
+            AtOnce::Integer(j) => places_of(shape, i, j),
+            AtOnce::Truth(_) => None,
+            AtOnce::Bits(_bits) => None,
+            AtOnce::Neither => None,
+        },
+        AtOnce::Truth(_) => None,
+        AtOnce::Bits(_bits) => None,
+        AtOnce::Neither => None,
+    }
+}
+
+// ---- the library
+
+/// A subprogram of the library on bits, on a width, or on both.
+#[cycle(at_once)]
+fn library(
+    run: &Run,
+    left: &mut u64,
+    reach: Reach,
+    which: Routine,
+    params: &[Tree],
+    args: &[Tree],
+) -> AtOnce
+    ensures { (fs : List TreeFunc) (at : At) → Ends (found result) fs reach.depth
+        (library_call at (routine_of which) (list_of (all_trees params.now)) (list_of (all_trees args.now))) run.now left.old left.new }
+{
+    if params.is_empty() && args.len() == 1 {
+        return on_bits(run, left, reach, which, &args[0]);
+    }
+    if params.len() == 1 && args.is_empty() {
+        return of_its_width(run, left, reach, which, &params[0]);
+    }
+    if params.len() == 1 && args.len() == 1 {
+        return to_width(run, left, reach, which, &params[0], &args[0]);
+    }
+    AtOnce::Neither
+}
+
+/// One on bits.
+#[cycle(at_once)]
+fn on_bits(run: &Run, left: &mut u64, reach: Reach, which: Routine, e: &Tree) -> AtOnce
+    ensures { (fs : List TreeFunc) (at : At) → Ends (found result) fs reach.depth
+        (library_call at (routine_of which) [] (tree_of e.now ∷ [])) run.now left.old left.new }
+{
+    match evaluate(run, left, reach, e) {
+        AtOnce::Bits(x) => of_bits_alone(which, &x),
+        AtOnce::Integer(_) => AtOnce::Neither,
+        AtOnce::Truth(_) => AtOnce::Neither,
+        AtOnce::Neither => AtOnce::Neither,
+    }
+}
+
+/// One on a width.
+#[cycle(at_once)]
+fn of_its_width(run: &Run, left: &mut u64, reach: Reach, which: Routine, width: &Tree) -> AtOnce
+    ensures { (fs : List TreeFunc) (at : At) → Ends (found result) fs reach.depth
+        (library_call at (routine_of which) (tree_of width.now ∷ []) []) run.now left.old left.new }
+{
+    match evaluate(run, left, reach, width) {
+        AtOnce::Integer(w) => of_width(reach.alloc, which, w),
+        AtOnce::Truth(_) => AtOnce::Neither,
+        AtOnce::Bits(_bits) => AtOnce::Neither,
+        AtOnce::Neither => AtOnce::Neither,
+    }
+}
+
+/// One on a width and on bits.
+#[cycle(at_once)]
+fn to_width(
+    run: &Run,
+    left: &mut u64,
+    reach: Reach,
+    which: Routine,
+    width: &Tree,
+    e: &Tree,
+) -> AtOnce
+    ensures { (fs : List TreeFunc) (at : At) → Ends (found result) fs reach.depth
+        (library_call at (routine_of which) (tree_of width.now ∷ []) (tree_of e.now ∷ [])) run.now left.old left.new }
+{
+    match evaluate(run, left, reach, width) {
+        AtOnce::Integer(w) => match evaluate(run, left, reach, e) {
+            AtOnce::Bits(x) => of_width_and_bits(reach.alloc, which, w, &x),
+            AtOnce::Integer(_) => AtOnce::Neither,
+            AtOnce::Truth(_) => AtOnce::Neither,
+            AtOnce::Neither => AtOnce::Neither,
+        },
+        AtOnce::Truth(_) => AtOnce::Neither,
+        AtOnce::Bits(_bits) => AtOnce::Neither,
+        AtOnce::Neither => AtOnce::Neither,
+    }
+}
+
+// ---- nodes
+
 /// What an expression gives once it is entered.
 #[cycle(at_once)]
 fn node(run: &Run, left: &mut u64, reach: Reach, e: &Tree) -> AtOnce
-    ensures { (fs : List TreeFunc) → Ends (found result) fs reach.depth (tree_node (program_of fs) (tree_of e.now)) run.now left.old left.new }
+    ensures { (fs : List TreeFunc) → Ends (found result) fs reach.depth
+        (tree_node (program_of fs) (tree_of e.now)) run.now left.old left.new }
 {
     match e {
         Tree::Int(_, n) => literal(*n),
         Tree::Constant(_, value) => plain(value),
-        Tree::Read(_, slot) => stored(run, *slot),
+        Tree::Read(_, slot) => seen(value_at(run, *slot)),
         Tree::Binary(_, operator, a, b) => {
             operation(run, left, reach, *operator, a.get(), b.get())
         }
-        Tree::Element(note, a, i) => match a.get() {
-            Tree::Read(_, slot) => indexed(run, left, reach, note.span, *slot, i.get()),
-            // any form may be left to its node
-            _ => AtOnce::Neither,
-        },
         Tree::Unary(_, operator, a) => unary(run, left, reach, *operator, a.get()),
+        Tree::Field(_, a, place) => seen(field(run, left, reach, a.get(), *place)),
+        Tree::Element(_, a, i) => seen(element(run, left, reach, a.get(), i.get())),
+        Tree::Conditional(_, condition, a, b) => {
+            conditional(run, left, reach, condition.get(), a.get(), b.get())
+        }
+        Tree::Slices(_, a, shapes, es) => sliced(
+            run,
+            left,
+            reach,
+            a.get(),
+            shapes.as_slice(),
+            es.as_slice(),
+        ),
+        Tree::Call(_, callee, _, params, args) => match callee {
+            Callee::OfLibrary(which) => library(
+                run,
+                left,
+                reach,
+                *which,
+                params.as_slice(),
+                args.as_slice(),
+            ),
+            Callee::Own(_) => AtOnce::Neither,
+        },
         // any form may be left to its node
         _ => AtOnce::Neither,
     }
@@ -392,6 +721,7 @@ fn evaluate(run: &Run, left: &mut u64, reach: Reach, e: &Tree) -> AtOnce
     }
     *left -= 1;
     let below = Reach {
+        alloc: reach.alloc,
         depth: reach.depth - 1,
         levels: reach.levels - 1,
     };
@@ -399,134 +729,16 @@ fn evaluate(run: &Run, left: &mut u64, reach: Reach, e: &Tree) -> AtOnce
 }
 
 /// What an expression gives where `depth` nodes more may be open, and the steps that are left.
-pub fn evaluated(run: &Run, left: &mut u64, depth: u32, e: &Tree) -> AtOnce
+pub fn evaluated(alloc: Global, run: &Run, left: &mut u64, depth: u32, e: &Tree) -> AtOnce
     ensures { (fs : List TreeFunc) → Finds (found result) fs depth e.now run.now left.old left.new }
 {
+    if calls_own(e) {
+        return AtOnce::Neither;
+    }
     let reach = Reach {
+        alloc,
         depth,
         levels: LEVELS,
     };
     evaluate(run, left, reach, e)
-}
-
-// ---- assignments
-
-/// One of the values of the frame becomes another, which takes nothing of it; whether there is that one.
-fn put_local(frames: &mut Frames, at: usize, value: Value) -> bool
-    requires { (x : Seen) → adopted x (value_of value) ≡ value_of value }
-    ensures sets { Sets result at (value_of value) frames.old.values frames.new.values }
-    ensures as_many { length frames.new.values ≡ length frames.old.values }
-    ensures same { frames.new ≡ record frames.old { values = frames.new.values } }
-{
-    if at >= frames.height() {
-        drop(value);
-        return false;
-    }
-    frames.set(at, value);
-    true
-}
-
-/// One of the globals becomes another, which takes nothing of it; whether there is that one.
-fn put_global(frames: &mut Frames, at: usize, value: Value) -> bool
-    requires { (x : Seen) → adopted x (value_of value) ≡ value_of value }
-    ensures sets { Sets result at (value_of value) frames.old.globals frames.new.globals }
-    ensures same { frames.new ≡ record frames.old { globals = frames.new.globals } }
-{
-    if at >= frames.globals() {
-        drop(value);
-        return false;
-    }
-    frames.set_global(at, value);
-    true
-}
-
-/// A place takes a value that takes nothing of the old one; whether there is that place.
-fn put_at(run: &mut Run, slot: Slot, value: Value) -> bool
-    requires { (x : Seen) → adopted x (value_of value) ≡ value_of value }
-    ensures puts { Puts result (Some (value_of value)) slot run.old run.new }
-    ensures same { SameBut run.old run.new }
-    ensures height { height_of run.new ≡ height_of run.old }
-{
-    match slot {
-        Slot::Local(i) => put_local(&mut run.frames, i, value),
-        Slot::Global(i) => put_global(&mut run.frames, i, value),
-    }
-}
-
-/// A place takes what was found; whether it did.
-fn put(run: &mut Run, slot: Slot, it: AtOnce) -> bool
-    ensures puts { Puts result (found it) slot run.old run.new }
-    ensures same { SameBut run.old run.new }
-    ensures height { height_of run.new ≡ height_of run.old }
-{
-    match it {
-        AtOnce::Integer(z) => put_at(run, slot, Value::Int(z)),
-        AtOnce::Truth(b) => put_at(run, slot, Value::Bool(b)),
-        AtOnce::Neither => false,
-    }
-}
-
-/// An assignment to a name, where so many steps are left; whether it was executed.
-fn assign(run: &mut Run, steps: u64, depth: u32, target: &TreePlace, e: &Tree) -> bool
-    ensures meets { (fs : List TreeFunc) → Executed result fs depth (assignment (tree_of e.now) (stores WIDTH_LIMIT (holds_bits (tree_type (tree_of e.now))) (place_of target.now ∷ []))) run.old steps run.new }
-    ensures keeps { SameRound run.old run.new }
-    ensures height { height_of run.new ≡ height_of run.old }
-{
-    if !target.way.is_empty() {
-        return false;
-    }
-    if !target.steps.is_empty() {
-        return false;
-    }
-    let mut left = steps;
-    let it = evaluated(run, &mut left, depth, e);
-    if put(run, target.slot, it) {
-        run.steps = left;
-        true
-    } else {
-        false
-    }
-}
-
-/// An assignment to names, where so many steps are left; whether it was executed.
-fn assign_one(run: &mut Run, steps: u64, depth: u32, targets: &[TreePlace], e: &Tree) -> bool
-    ensures meets { (fs : List TreeFunc) → Executed result fs depth (assignment (tree_of e.now) (stores WIDTH_LIMIT (holds_bits (tree_type (tree_of e.now))) (all_places targets.now))) run.old steps run.new }
-    ensures keeps { SameRound run.old run.new }
-    ensures height { height_of run.new ≡ height_of run.old }
-{
-    if targets.len() == 1 {
-        assign(run, steps, depth, &targets[0], e)
-    } else {
-        false
-    }
-}
-
-/// A statement without lists, where so many steps are left; whether it was executed.
-fn simple(run: &mut Run, steps: u64, depth: u32, s: &Simple) -> bool
-    ensures meets { (fs : List TreeFunc) → Executed result fs depth (act_node (program_of fs) (simple_of s.now)) run.old steps run.new }
-    ensures keeps { SameRound run.old run.new }
-    ensures height { height_of run.new ≡ height_of run.old }
-{
-    match s {
-        Simple::Assign(_, targets, e) => assign_one(run, steps, depth, targets.as_slice(), e),
-        // any form may be left to its node
-        _ => false,
-    }
-}
-
-/// Executes a statement, where that is an assignment which is executed at once; whether it was.
-pub fn executed(run: &mut Run, depth: u32, s: &Act) -> bool
-    ensures meets { (fs : List TreeFunc) → Did result fs depth s.now run.old run.new }
-    ensures keeps { SameRound run.old run.new }
-    ensures height { height_of run.new ≡ height_of run.old }
-{
-    let steps = run.steps;
-    if steps == 0 || depth == 0 {
-        return false;
-    }
-    match s {
-        Act::Simple(s) => simple(run, steps - 1, depth - 1, s),
-        // any form may be left to its node
-        _ => false,
-    }
 }

@@ -1,6 +1,8 @@
 //! Calls of subprograms.
-ghost use Rattle.std.specs.Prelude.{◌≡◌, ◌+◌, ◌<◌, ◌≤◌, length, map, option_map, slice_get, Some, IfOk, OnOk};
+ghost use Rattle.std.specs.Prelude.{◌≡◌, ◌+◌, ◌<◌, ◌≤◌, [], length, map, option_map, pos, reverse, slice_get, Some, IfOk, OnOk};
 ghost use Rattle.asl_rules.specs.runs.Forms as forms;
+ghost use Rattle.asl_rules.specs.private.ByPlace.{seen_as};
+ghost use Rattle.asl_rules.specs.values.Operators.{less};
 ghost use Rattle.asl_rules.specs.private.TypedMeaning as rules;
 ghost use Rattle.asl_rules.specs.private.TypedMeaning.{list_of};
 ghost use Rattle.asl_tree.specs.Funcs.{all_funcs, func_of};
@@ -17,6 +19,7 @@ use asl_branches::run::Run;
 use asl_branches::stop::{Exit, Mistake, Stop};
 use asl_io::Sink;
 use asl_shape::{params_of, routine};
+use asl_shared::Held;
 use asl_syn::code::DynCode;
 use asl_syn::token::Span;
 use asl_tree::act::TreeFunc;
@@ -24,9 +27,8 @@ use asl_tree::tree::{Callee, Tree};
 use asl_types::Ty;
 use asl_types::seeing::see;
 use asl_value::{Value, copy};
-use sqlite_items::Items;
 use std::alloc::{AllocError, Global};
-use std::mem;
+use std::{mem, slice};
 
 /// A call: what is called, the places of the arguments whose widths stand for parameters that are omitted, the parameters in
 /// braces, and the arguments.
@@ -83,15 +85,42 @@ fn returned(
     ensures { Is (option_map value_of) result
         (forms.returned span (rules.result_seen ty.now) (option_map value_of given)) }
 {
-    match (ty, given) {
-        (None, None) => Ok(None),
-        (Some(ty), Some(x)) => Ok(Some(see(alloc, ty, &x)?)),
-        (None, Some(_)) => Err(Stop::Stuck(Mistake::WrongKind, span)),
-        (Some(_), None) => Err(Stop::Stuck(Mistake::WrongKind, span)),
+    match ty {
+        None => match given {
+            None => Ok(None),
+            Some(_) => Err(Stop::Stuck(Mistake::WrongKind, span)),
+        },
+        Some(ty) => match given {
+            None => Err(Stop::Stuck(Mistake::WrongKind, span)),
+            Some(x) => Ok(Some(kept(alloc, ty, Held::new(x))?)),
+        },
+    }
+}
+
+/// A value with the bitfields of a type. Where no bits occur in the type, that is the value itself.
+#[tactic(auto, using(asl_types::proofs::Seen::unseen))]
+fn kept(alloc: Global, ty: &Ty, x: Held<Value>) -> Result<Value, AllocError>
+    ensures { IfOk result (λ it. value_of it ≡ seen_as ty.now (value_of x)) }
+{
+    if ty.holds_bits() {
+        see(alloc, ty, x.get())
+    } else {
+        Ok(x.into_inner())
     }
 }
 
 // ---- frames
+
+/// Whether a subprogram may be active once more. Its activations are counted only if those of all subprograms reach its limit.
+#[tactic(auto, using(crate::proofs::Called::few_active))]
+fn may_enter(id: usize, live: &[usize], limit: i128) -> bool
+    ensures { result ≡ less (pos (forms.activations id (reverse live.now))) limit }
+{
+    if (live.len() as i128) < limit {
+        return true;
+    }
+    has_room(id, live, limit)
+}
 
 /// How many slots the frame of a callee has: those of its parameters and formals, and those of its body.
 fn slots_for(params: usize, formals: usize, body: u32) -> Result<u32, AllocError>
@@ -160,13 +189,30 @@ fn bind_formals(
     Ok(())
 }
 
+/// The parameters of a callee: those in braces, or else the widths of arguments in these places.
+fn params_given(
+    alloc: Global,
+    span: Span,
+    widths: &[usize],
+    given: Given,
+) -> Result<Vec<Value>, Stop>
+    ensures { Is (λ list. map value_of list.items) result
+        (rules.params_of span widths.now (map value_of given.entry.params.now) (map value_of given.entry.args.now)) }
+{
+    if widths.is_empty() && given.params.is_empty() {
+        return Ok(Vec::new(alloc));
+    }
+    let params = listed(alloc, given.params)?;
+    Ok(params_of(alloc, span, widths, params, given.args)?)
+}
+
 // ---- calls
 
 /// The values of parameters and of arguments.
-#[derive(Drop)]
-pub struct Given {
-    pub params: Items<Value>,
-    pub args: Items<Value>,
+#[derive(Clone, Copy)]
+pub struct Given<'r> {
+    pub params: &'r [Value],
+    pub args: &'r [Value],
 }
 
 /// The value of a call.
@@ -218,9 +264,40 @@ fn call_subprogram<K: Sink, N: Nodes<K>>(
     ensures { Ran (option_map value_of) result (N.setting here.now) (call_given (N.setting here.now).funcs.now call.entry)
         (at K.Sink run.old sink.old) (at K.Sink run.new sink.new) }
 {
+    if call.params.is_empty() {
+        return call_on(here, run, sink, call, &[]);
+    }
     let params = eval_all(here, run, sink, call.params)?;
+    call_on(here, run, sink, call, params.as_slice())
+}
+
+/// The arguments, and what the callee gives for these parameters and their values. One argument takes no list.
+fn call_on<K: Sink, N: Nodes<K>>(
+    here: &N,
+    run: &mut Run,
+    sink: &mut K,
+    call: Call,
+    params: &[Value],
+) -> Result<Option<Value>, Stop>
+    requires ready { N.ready here.now }
+    ensures { Ran (option_map value_of) result (N.setting here.now)
+        (λ c. forms.eval_all (list_of (all_trees call.entry.args.now)) [] c (body_of (N.setting here.now).funcs.now call.entry (map value_of params.now)))
+        (at K.Sink run.old sink.old) (at K.Sink run.new sink.new) }
+{
+    if call.args.len() == 1 {
+        let x = Held::new(here.eval(run, sink, &call.args[0])?);
+        let given = Given {
+            params,
+            args: slice::from_ref(x.get()),
+        };
+        return call_with(here, run, sink, call, given);
+    }
     let args = eval_all(here, run, sink, call.args)?;
-    call_with(here, run, sink, call, Given { params, args })
+    let given = Given {
+        params,
+        args: args.as_slice(),
+    };
+    call_with(here, run, sink, call, given)
 }
 
 /// What the callee gives.
@@ -233,7 +310,7 @@ fn call_with<K: Sink, N: Nodes<K>>(
 ) -> Result<Option<Value>, Stop>
     requires ready { N.ready here.now }
     ensures { Ran (option_map value_of) result (N.setting here.now)
-        (body_of (N.setting here.now).funcs.now call.entry (map value_of given.params) (map value_of given.args))
+        (body_of (N.setting here.now).funcs.now call.entry (map value_of given.entry.params.now) (map value_of given.entry.args.now))
         (at K.Sink run.old sink.old) (at K.Sink run.new sink.new) }
 {
     match call.callee {
@@ -242,8 +319,8 @@ fn call_with<K: Sink, N: Nodes<K>>(
             here.setting().alloc,
             call.span,
             which,
-            given.params.as_slice(),
-            given.args.as_slice(),
+            given.params,
+            given.args,
         )?)),
     }
 }
@@ -259,7 +336,7 @@ fn call_own<K: Sink, N: Nodes<K>>(
 ) -> Result<Option<Value>, Stop>
     requires ready { N.ready here.now }
     ensures { Ran (option_map value_of) result (N.setting here.now)
-        (λ c. rules.called call.entry.span id call.entry.widths.now (map value_of given.params) (map value_of given.args) c
+        (λ c. rules.called call.entry.span id call.entry.widths.now (map value_of given.entry.params.now) (map value_of given.entry.args.now) c
         (slice_get (all_funcs (N.setting here.now).funcs.now) id))
         (at K.Sink run.old sink.old) (at K.Sink run.new sink.new) }
 {
@@ -291,18 +368,15 @@ fn call_limited<K: Sink, N: Nodes<K>>(
 ) -> Result<Option<Value>, Stop>
     requires ready { N.ready here.now }
     ensures { Ran (option_map value_of) result (N.setting here.now)
-        (λ c. rules.called called.entry.span called.entry.id widths.now (map value_of given.params) (map value_of given.args) c
+        (λ c. rules.called called.entry.span called.entry.id widths.now (map value_of given.entry.params.now) (map value_of given.entry.args.now) c
         (Some (func_of called.entry.func.now)))
         (at K.Sink run.old sink.old) (at K.Sink run.new sink.new) }
 {
-    if !has_room(called.id, run.live.as_slice(), called.func.limit) {
+    if !may_enter(called.id, run.live.as_slice(), called.func.limit) {
         return Err(Stop::Fault(DynCode::D11, called.span));
     }
-    let alloc = here.setting().alloc;
-    let params = listed(alloc, given.params.as_slice())?;
-    let args = given.args.as_slice();
-    let params = params_of(alloc, called.span, widths, params, args)?;
-    run_func(here, run, sink, called, params, args)
+    let params = params_given(here.setting().alloc, called.span, widths, given)?;
+    run_func(here, run, sink, called, params, given.args)
 }
 
 /// Runs a subprogram with these parameters and arguments, of which there are as many as it has formals.

@@ -48,6 +48,38 @@ pub fn eval_node<K: Sink, N: Nodes<K>>(
         (at K.Sink run.old sink.old) (at K.Sink run.new sink.new) }
 {
     match e {
+        Tree::Call(note, callee, widths, params, args) => eval_call(
+            here,
+            run,
+            sink,
+            Call {
+                span: note.span,
+                callee: *callee,
+                widths: widths.as_slice(),
+                params: params.as_slice(),
+                args: args.as_slice(),
+            },
+        ),
+        // any other form
+        _ => eval_form(here, run, sink, e),
+    }
+}
+
+/// The same for any form. A function begins by clearing the slots of all its arms on the stack. Of the forms that aren't
+/// evaluated at once, a call is the most frequent, so it gets a function without the other arms.
+#[inline(never)]
+fn eval_form<K: Sink, N: Nodes<K>>(
+    here: &N,
+    run: &mut Run,
+    sink: &mut K,
+    e: &Tree,
+) -> Result<Value, Stop>
+    requires ready { N.ready here.now }
+    ensures { Ran value_of result (N.setting here.now)
+        (tree_node (program_of (N.setting here.now).funcs.now) (tree_of e.now))
+        (at K.Sink run.old sink.old) (at K.Sink run.new sink.new) }
+{
+    match e {
         Tree::Int(note, n) => Ok(literal(note.span, *n)?),
         Tree::Constant(_, x) => Ok(copy(x)?),
         Tree::Read(note, slot) => read(run, note.span, *slot),

@@ -1,25 +1,31 @@
 //! The entry into a node: it takes a step, and is refused where none is left (D13) or where no node more may be open (D12).
 //! What is evaluated or executed at once isn't entered so.
-ghost use Rattle.std.specs.Prelude.{None};
+ghost use Rattle.std.specs.Prelude.{◌≡◌, ℕ, List, Option, None, Some};
 ghost use Rattle.asl_rules.specs.runs.StatementForms as forms;
 ghost use Rattle.asl_rules.specs.private.TypedMeaning.{acts_of};
+ghost use Rattle.asl_rules.specs.runs.Trees.{Note, Read};
 ghost use Rattle.asl_tree.specs.Acts.{act_of, all_acts};
 ghost use Rattle.asl_tree.specs.private.Room.{FitsAct, FitsList};
-ghost use Rattle.asl_branches.specs.Meets.{Evaluates, Executes, RanBy, at};
-ghost use Rattle.asl_branches.specs.View.{exit_of, room_of};
+ghost use Rattle.asl_value.specs.View.{value_of};
+ghost use Rattle.asl_branches.specs.Meets.{Answers, Evaluates, Executes, RanBy, at};
+ghost use Rattle.asl_branches.specs.View.{core_of, cutting_of, exit_of, meaning_of, meter_of, room_of};
 
-use crate::at_once::{AtOnce, evaluated, executed};
+use crate::acts_at_once::executed;
+use crate::at_once::{AtOnce, evaluated};
 use crate::exprs::eval_node;
 use crate::level::Level;
+use crate::places::read;
 use crate::stmts::{act_span, exec_node};
 use asl_branches::run::Run;
 use asl_branches::setting::Setting;
 use asl_branches::stop::{Exit, Stop};
 use asl_io::Sink;
+use asl_rules::slot::Slot;
 use asl_syn::code::DynCode;
+use asl_syn::token::Span;
 use asl_tree::act::Act;
 use asl_tree::tree::Tree;
-use asl_value::Value;
+use asl_value::{Value, plain_bits};
 use sqlite_items::Items;
 
 /// The value of an expression.
@@ -27,8 +33,11 @@ use sqlite_items::Items;
 pub fn eval<K: Sink>(here: Setting, run: &mut Run, sink: &mut K, e: &Tree) -> Result<Value, Stop>
     ensures { Evaluates result here.entry e.now (at K.Sink run.old sink.old) (at K.Sink run.new sink.new) }
 {
+    if let Tree::Read(note, slot) = e {
+        return enter_read(here, run, note.span, *slot);
+    }
     let mut left = run.steps;
-    match evaluated(run, &mut left, here.depth, e) {
+    match evaluated(here.alloc, run, &mut left, here.depth, e) {
         AtOnce::Integer(z) => {
             run.steps = left;
             Ok(Value::Int(z))
@@ -37,8 +46,32 @@ pub fn eval<K: Sink>(here: Setting, run: &mut Run, sink: &mut K, e: &Tree) -> Re
             run.steps = left;
             Ok(Value::Bool(b))
         }
+        AtOnce::Bits(bits) => {
+            run.steps = left;
+            Ok(plain_bits(bits))
+        }
         AtOnce::Neither => enter_expr(here, run, sink, e),
     }
+}
+
+/// The value of a name whose node is entered. It has no node below, so nothing is made ready for one.
+#[tactic(auto, using(crate::proofs::Entries::expr_stepless, crate::proofs::Entries::expr_deep, crate::proofs::Entries::read_entered))]
+pub fn enter_read(here: Setting, run: &mut Run, span: Span, slot: Slot) -> Result<Value, Stop>
+    ensures { (note : Note) (told : Option (List ℕ)) (faults : ℕ) (full : Option ℕ) → note.span ≡ span →
+        Answers (Some 0) value_of result
+        ((meaning_of here.entry.funcs.now here.entry.depth).expr (Read note slot) (core_of run.old) (meter_of run.old told))
+        ((cutting_of here.entry.funcs.now here.entry.depth).expr (Read note slot) (core_of run.old) (meter_of run.old told))
+        (record { run = run.old; told = told; faults = faults; full = full })
+        (record { run = run.new; told = told; faults = faults; full = full }) }
+{
+    if run.steps == 0 {
+        return Err(Stop::Fault(DynCode::D13, span));
+    }
+    if here.depth == 0 {
+        return Err(Stop::Fault(DynCode::D12, span));
+    }
+    run.steps -= 1;
+    read(run, span, slot)
 }
 
 /// The value of an expression whose node is entered.
@@ -76,10 +109,9 @@ pub fn exec<K: Sink>(here: Setting, run: &mut Run, sink: &mut K, s: &Act) -> Res
     requires room { FitsAct (room_of run.old) (act_of s.now) }
     ensures { Executes result here.entry s.now (at K.Sink run.old sink.old) (at K.Sink run.new sink.new) }
 {
-    if executed(run, here.depth, s) {
-        Ok(Exit::Normal)
-    } else {
-        enter_stmt(here, run, sink, s)
+    match executed(here.alloc, run, here.depth, s) {
+        Some(exit) => Ok(exit),
+        None => enter_stmt(here, run, sink, s),
     }
 }
 

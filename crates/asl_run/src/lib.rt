@@ -3,8 +3,11 @@
 //! functions of `knot.rt` call one another, and how many nodes more may be open falls with each node that is entered.
 #![tactic(auto)]
 
+mod acts_at_once;
+mod asking;
 mod assignments;
 mod at_once;
+mod bits;
 mod calls;
 mod exprs;
 mod finishes;
@@ -14,6 +17,7 @@ mod loops;
 mod operations;
 mod output;
 mod outside;
+mod parts;
 mod places;
 mod stmts;
 

@@ -13,6 +13,7 @@ ghost use Rattle.asl_branches.specs.Meets.{at, Is, Ran};
 ghost use Rattle.asl_branches.specs.View.{exit_of, room_of, FitsNamed};
 ghost use Rattle.asl_run.specs.private.Looping.{between, limit_asked, turn_until};
 
+use crate::asking::ask;
 use asl_branches::below::Nodes;
 use asl_branches::lists::{exec_scope, exec_scope_with};
 use asl_branches::run::Run;
@@ -24,7 +25,7 @@ use asl_syn::token::Span;
 use asl_syn::tree::Direction;
 use asl_tree::act::{Act, Bounds, Guard};
 use asl_tree::tree::Tree;
-use asl_value::{Value, truth};
+use asl_value::Value;
 use sqlite_items::Items;
 
 // ---- what a loop has
@@ -308,8 +309,7 @@ fn while_turns<K: Sink, N: Nodes<K>>(
         (turn_until it.until it.span (tree_of condition.now) (acts_of (all_acts body.now)) it.count) forms.done_normal)
         (at K.Sink run.old sink.old) (at K.Sink run.new sink.new) }
 {
-    let x = Held::new(here.eval(run, sink, condition)?);
-    if truth(it.span, x.get())? {
+    if ask(here, run, sink, it.span, condition)? {
         exec_turns(here, run, sink, it, condition, body)
     } else {
         Ok(Exit::Normal)
@@ -366,8 +366,7 @@ fn exec_turns<K: Sink, N: Nodes<K>>(
             Exit::Normal => {}
             Exit::Returned(x) => return Ok(Exit::Returned(x)),
         }
-        let x = Held::new(here.eval(run, sink, condition)?);
-        let holds = truth(it.span, x.get())?;
+        let holds = ask(here, run, sink, it.span, condition)?;
         if holds == it.until {
             return Ok(Exit::Normal);
         }

@@ -15,6 +15,7 @@ ghost use Rattle.asl_branches.specs.Meets.{at, Ran, RanBy};
 ghost use Rattle.asl_branches.specs.View.{exit_of, program_of, room_of};
 ghost use Rattle.asl_run.specs.private.Finishes.{finished, begun, named_after};
 
+use crate::asking::ask;
 use crate::assignments::exec_assign;
 use crate::calls::{Call, exec_invoke};
 use crate::finishes::{After, First, begin, finish};
@@ -27,13 +28,11 @@ use asl_branches::lists::{eval_all, exec_scope};
 use asl_branches::run::Run;
 use asl_branches::stop::{Exit, Stop};
 use asl_io::Sink;
-use asl_shared::Held;
 use asl_syn::code::DynCode;
 use asl_syn::token::Span;
 use asl_syn::tree::PrintKind;
 use asl_tree::act::{Act, Branch, Simple, TreeItem};
 use asl_tree::tree::Tree;
-use asl_value::truth;
 use sqlite_items::Items;
 
 /// Where a statement stands.
@@ -85,8 +84,7 @@ pub fn exec_node<K: Sink, N: Nodes<K>>(
     match s {
         Act::Simple(s) => exec_simple(here, run, sink, s),
         Act::If(span, e, first, others, last) => {
-            let x = Held::new(here.eval(run, sink, e)?);
-            if truth(*span, x.get())? {
+            if ask(here, run, sink, *span, e)? {
                 exec_scope(here, run, sink, first)
             } else {
                 exec_branches(here, run, sink, *span, others.as_slice(), last)
@@ -259,8 +257,7 @@ fn exec_branches<K: Sink, N: Nodes<K>>(
 {
     for branch in others {
         let (e, list) = branch_parts(branch);
-        let x = Held::new(here.eval(run, sink, e)?);
-        if truth(span, x.get())? {
+        if ask(here, run, sink, span, e)? {
             return exec_scope(here, run, sink, list);
         }
     }

@@ -35,6 +35,7 @@ returns g c =
     met (map value_of) itself h.funcs.now h.depth _ _ _
     (all_evaluated h.funcs.now h.depth (list_of (all_trees it.trees)) (core_of c.args.run.now)
     (λ zs c1. lift (is_matched WIDTH_LIMIT (all_patterns it.patterns) zs (value_of c.args.x.now)) c1
-    (λ b. choose b (guard c.args.it.span (maybe_tree it.condition) c1) (Ret false c1)))) _ c.in_ok-zs.zs c.is_guarded.result _ _ _
+    (λ b. choose b (guard c.args.it.span (maybe_tree it.condition) c1) (Ret false c1)))) _ c.in_ok-zs.zs c.is_guarded-2.result _ _ _
     (subst (λ es. Ran (map value_of) (Ok c.in_ok-zs.zs) h (evaluated es) (at g.K.Sink c.args.run.now c.args.sink.now)
-    (at g.K.Sink c.eval_all.new.run c.eval_all.new.sink)) c.as_slice.ensures c.in_ok-zs.ensures) c.is_guarded.ensures
+    (at g.K.Sink c.eval_all.new.run c.eval_all.new.sink)) c.as_slice.ensures c.in_ok-zs.ensures)
+    (rw c.as_slice-2.ensures at c.is_guarded-2.ensures)

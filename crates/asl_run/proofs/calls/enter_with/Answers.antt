@@ -23,7 +23,13 @@ pub returns-clause-enters : goal.returns-clause-enters
 returns-clause-enters c =
     enters_ok c.args.called.id c.in_ok-slots.slots c.args.called.func.now (map value_of c.args.params.items) (map value_of c.args.args.now)
     c.args.run.now c.enter.new.run c.bind_params.new.run c.bind_formals.new.run c.bind_formals.result
-    (omega (arith, c.in_ok-slots.ensures, c.slots.ensures.slots, ap length c.as_slice-formals.ensures, length-map c.args.params.items value_of))
+    (omega (
+      arith,
+      c.in_ok-slots.ensures,
+      c.slots.ensures.slots,
+      ap length c.as_slice-formals.ensures,
+      length-map c.args.params.items value_of,
+    ))
     c.in_ok-enter.ensures.enters c.bind_params.ensures.bound
     (subst (λ Ts. OnOk c.bind_formals.result (BoundFormals Ts (map value_of c.args.args.now) c.bind_params.new.run c.bind_formals.new.run))
     c.as_slice-formals.ensures c.bind_formals.ensures.bound)

@@ -28,7 +28,13 @@ returns-in-Some g c =
     _ (Some c.in-Some.x) (Ok c.in-Some.x) _ _ _
     (subst (λ o. Ran (option_map value_of) (Ok o) h (call_given h.funcs.now c.args.call) (at g.K.Sink c.args.run.now c.args.sink.now)
     (at g.K.Sink c.call_subprogram.new.run c.call_subprogram.new.sink)) c.in-Some.is c.in_ok-x.ensures)
-    (record { meets = refl; counts = refl; same_full = refl; keeps = record { handled = refl; callers = refl; slots = refl; live = refl }; grows = omega arith })
+    (record {
+      meets = refl;
+      counts = refl;
+      same_full = refl;
+      keeps = record { handled = refl; callers = refl; slots = refl; live = refl };
+      grows = omega arith;
+    })
 
 pub returns-in-None : goal.returns-in-None
 returns-in-None g c =

@@ -39,4 +39,10 @@ returns-in-None g c =
     _ None (Ok exit.Normal) _ _ _
     (subst (λ o. Ran (option_map value_of) (Ok o) h (call_given h.funcs.now c.args.call) (at g.K.Sink c.args.run.now c.args.sink.now)
     (at g.K.Sink c.call_subprogram.new.run c.call_subprogram.new.sink)) c.in-None.is c.in_ok-call_subprogram.ensures)
-    (record { meets = refl; counts = refl; same_full = refl; keeps = record { handled = refl; callers = refl; slots = refl; live = refl }; grows = omega arith })
+    (record {
+      meets = refl;
+      counts = refl;
+      same_full = refl;
+      keeps = record { handled = refl; callers = refl; slots = refl; live = refl };
+      grows = omega arith;
+    })

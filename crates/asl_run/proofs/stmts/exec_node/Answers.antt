@@ -1,9 +1,12 @@
 use Rattle.std.proofs.Common.{subst, sym}
+use Rattle.asl_rules.specs.private.TypedMeaning.{itself}
+use Rattle.asl_tree.specs.View.{tree_of}
 use Rattle.asl_tree.specs.Acts.{all_acts, all_alternatives, all_branches, all_catchers}
 use Rattle.asl_tree.specs.private.Room.{FitsAlternatives, FitsBranches, FitsCatchers}
 use Rattle.asl_tree.proofs.Room.{fits_more, fits_more_branches}
 use Rattle.asl_branches.specs.View.{room_of}
-use Rattle.asl_branches.proofs.Room.{no_less_eval}
+use Rattle.asl_branches.proofs.Room.{no_less_after}
+use Rattle.asl_run.specs.private.Asking.{condition}
 use Rattle.asl_run.proofs.Fitting.{case_fits, for_fits, if_fits, repeat_fits, simple_fits, try_fits, while_fits}
 use Rattle.asl_run.proofs.stmts.exec_node.Goals as goal
 
@@ -14,23 +17,26 @@ pub exec_scope-requires-clause-room : goal.exec_scope-requires-clause-room
 exec_scope-requires-clause-room g c =
     let fits = if_fits (room_of c.args.run.now) c.args.s.now c.in-If.span c.in-If.e c.in-If.first c.in-If.others c.in-If.last c.in-If.is
     c.requires.room in
-    fits_more (room_of c.args.run.now) (room_of c.eval.new.run) (all_acts c.in-If.first)
-    (no_less_eval (g.N.Nodes.setting c.args.here.now) c.in-If.e _ _ _ c.in_ok-eval-in-If.ensures) fits.0
+    fits_more (room_of c.args.run.now) (room_of c.ask.new.run) (all_acts c.in-If.first)
+    (no_less_after itself (g.N.Nodes.setting c.args.here.now) (condition c.in-If.span (tree_of c.in-If.e)) _ _ _
+    c.in_ok-ask-in-If.ensures) fits.0
 
 pub exec_branches-requires-clause-others : goal.exec_branches-requires-clause-others
 exec_branches-requires-clause-others g c =
     let fits = if_fits (room_of c.args.run.now) c.args.s.now c.in-If.span c.in-If.e c.in-If.first c.in-If.others c.in-If.last c.in-If.is
     c.requires.room in
-    subst (λ bs. FitsBranches (room_of c.eval.new.run) (all_branches bs)) (sym c.as_slice.ensures)
-    (fits_more_branches (room_of c.args.run.now) (room_of c.eval.new.run) (all_branches c.in-If.others)
-    (no_less_eval (g.N.Nodes.setting c.args.here.now) c.in-If.e _ _ _ c.in_ok-eval-in-If.ensures) fits.1.0)
+    subst (λ bs. FitsBranches (room_of c.ask.new.run) (all_branches bs)) (sym c.as_slice.ensures)
+    (fits_more_branches (room_of c.args.run.now) (room_of c.ask.new.run) (all_branches c.in-If.others)
+    (no_less_after itself (g.N.Nodes.setting c.args.here.now) (condition c.in-If.span (tree_of c.in-If.e)) _ _ _
+    c.in_ok-ask-in-If.ensures) fits.1.0)
 
 pub exec_branches-requires-clause-last : goal.exec_branches-requires-clause-last
 exec_branches-requires-clause-last g c =
     let fits = if_fits (room_of c.args.run.now) c.args.s.now c.in-If.span c.in-If.e c.in-If.first c.in-If.others c.in-If.last c.in-If.is
     c.requires.room in
-    fits_more (room_of c.args.run.now) (room_of c.eval.new.run) (all_acts c.in-If.last)
-    (no_less_eval (g.N.Nodes.setting c.args.here.now) c.in-If.e _ _ _ c.in_ok-eval-in-If.ensures) fits.1.1
+    fits_more (room_of c.args.run.now) (room_of c.ask.new.run) (all_acts c.in-If.last)
+    (no_less_after itself (g.N.Nodes.setting c.args.here.now) (condition c.in-If.span (tree_of c.in-If.e)) _ _ _
+    c.in_ok-ask-in-If.ensures) fits.1.1
 
 pub exec_case-requires-clause-alternatives : goal.exec_case-requires-clause-alternatives
 exec_case-requires-clause-alternatives g c =

@@ -4,7 +4,7 @@ use Rattle.asl_value.specs.View.{value_of}
 use Rattle.asl_value.specs.declared.value.Value.{Value}
 use Rattle.asl_branches.specs.Framed.{Framed}
 use Rattle.asl_run.proofs.Placing.{set_good}
-use Rattle.asl_run.proofs.at_once.put_global.Goals as goal
+use Rattle.asl_run.proofs.acts_at_once.put_global.Goals as goal
 
 pub returns : goal.returns
 returns c =

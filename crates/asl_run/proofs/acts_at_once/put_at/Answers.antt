@@ -1,8 +1,8 @@
 use Rattle.std.proofs.Common.{Some, subst, sym}
 use Rattle.asl_value.specs.View.{value_of}
 use Rattle.asl_run.specs.private.AtOnce.{Puts}
-use Rattle.asl_run.proofs.AtOnce.{put_global, put_local}
-use Rattle.asl_run.proofs.at_once.put_at.Goals as goal
+use Rattle.asl_run.proofs.ActsAtOnce.{put_global, put_local}
+use Rattle.asl_run.proofs.acts_at_once.put_at.Goals as goal
 
 pub returns-in-Local-clause-puts : goal.returns-in-Local-clause-puts
 returns-in-Local-clause-puts c =
