@@ -190,6 +190,7 @@ fn bind_formals(
 }
 
 /// The parameters of a callee: those in braces, or else the widths of arguments in these places.
+#[inline(never)]
 fn params_given(
     alloc: Global,
     span: Span,
@@ -254,6 +255,7 @@ pub fn exec_invoke<K: Sink, N: Nodes<K>>(
 }
 
 /// The parameters in braces, the arguments, and what the callee gives for their values: a function a value, a procedure none.
+/// What a case needs of the native stack is in a function of its own, since this one is open as long as the callee is.
 fn call_subprogram<K: Sink, N: Nodes<K>>(
     here: &N,
     run: &mut Run,
@@ -265,8 +267,24 @@ fn call_subprogram<K: Sink, N: Nodes<K>>(
         (at K.Sink run.old sink.old) (at K.Sink run.new sink.new) }
 {
     if call.params.is_empty() {
-        return call_on(here, run, sink, call, &[]);
+        call_on(here, run, sink, call, &[])
+    } else {
+        call_on_params(here, run, sink, call)
     }
+}
+
+/// The same with a list of the values of the parameters.
+#[inline(never)]
+fn call_on_params<K: Sink, N: Nodes<K>>(
+    here: &N,
+    run: &mut Run,
+    sink: &mut K,
+    call: Call,
+) -> Result<Option<Value>, Stop>
+    requires ready { N.ready here.now }
+    ensures { Ran (option_map value_of) result (N.setting here.now) (call_given (N.setting here.now).funcs.now call.entry)
+        (at K.Sink run.old sink.old) (at K.Sink run.new sink.new) }
+{
     let params = eval_all(here, run, sink, call.params)?;
     call_on(here, run, sink, call, params.as_slice())
 }
@@ -281,17 +299,56 @@ fn call_on<K: Sink, N: Nodes<K>>(
 ) -> Result<Option<Value>, Stop>
     requires ready { N.ready here.now }
     ensures { Ran (option_map value_of) result (N.setting here.now)
-        (λ c. forms.eval_all (list_of (all_trees call.entry.args.now)) [] c (body_of (N.setting here.now).funcs.now call.entry (map value_of params.now)))
+        (λ c. forms.eval_all (list_of (all_trees call.entry.args.now)) [] c
+        (body_of (N.setting here.now).funcs.now call.entry (map value_of params.now)))
         (at K.Sink run.old sink.old) (at K.Sink run.new sink.new) }
 {
     if call.args.len() == 1 {
-        let x = Held::new(here.eval(run, sink, &call.args[0])?);
-        let given = Given {
-            params,
-            args: slice::from_ref(x.get()),
-        };
-        return call_with(here, run, sink, call, given);
+        call_on_one(here, run, sink, call, params)
+    } else {
+        call_on_list(here, run, sink, call, params)
     }
+}
+
+/// The same with one argument.
+#[inline(never)]
+fn call_on_one<K: Sink, N: Nodes<K>>(
+    here: &N,
+    run: &mut Run,
+    sink: &mut K,
+    call: Call,
+    params: &[Value],
+) -> Result<Option<Value>, Stop>
+    requires ready { N.ready here.now }
+    requires one { length call.args.now ≡ 1 }
+    ensures { Ran (option_map value_of) result (N.setting here.now)
+        (λ c. forms.eval_all (list_of (all_trees call.entry.args.now)) [] c
+        (body_of (N.setting here.now).funcs.now call.entry (map value_of params.now)))
+        (at K.Sink run.old sink.old) (at K.Sink run.new sink.new) }
+{
+    let x = Held::new(here.eval(run, sink, &call.args[0])?);
+    let given = Given {
+        params,
+        args: slice::from_ref(x.get()),
+    };
+    call_with(here, run, sink, call, given)
+}
+
+/// The same with a list of the values of the arguments.
+#[inline(never)]
+fn call_on_list<K: Sink, N: Nodes<K>>(
+    here: &N,
+    run: &mut Run,
+    sink: &mut K,
+    call: Call,
+    params: &[Value],
+) -> Result<Option<Value>, Stop>
+    requires ready { N.ready here.now }
+    ensures { Ran (option_map value_of) result (N.setting here.now)
+        (λ c. forms.eval_all (list_of (all_trees call.entry.args.now)) [] c
+        (body_of (N.setting here.now).funcs.now call.entry (map value_of params.now)))
+        (at K.Sink run.old sink.old) (at K.Sink run.new sink.new) }
+{
     let args = eval_all(here, run, sink, call.args)?;
     let given = Given {
         params,

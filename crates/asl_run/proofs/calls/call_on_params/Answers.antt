@@ -10,7 +10,7 @@ use Rattle.asl_branches.specs.View.{core_of}
 use Rattle.asl_branches.proofs.Answered.{failed, met}
 use Rattle.asl_branches.proofs.Turns.{all_evaluated}
 use Rattle.asl_run.specs.private.Calling.{body_of}
-use Rattle.asl_run.proofs.calls.call_subprogram.Goals as goal
+use Rattle.asl_run.proofs.calls.call_on_params.Goals as goal
 
 pub returns-in_err-params : goal.returns-in_err-params
 returns-in_err-params g c =
@@ -27,8 +27,8 @@ returns g c =
     met (map value_of) (option_map value_of) h.funcs.now h.depth _ _ _
     (all_evaluated h.funcs.now h.depth (list_of (all_trees c.args.call.params.now)) (core_of c.args.run.now)
     (λ ys c1. eval_all (list_of (all_trees c.args.call.args.now)) [] c1 (body_of h.funcs.now c.args.call ys)))
-    _ c.in_ok-params.params c.call_on-2.result _ _ _ c.in_ok-params.ensures
-    (subst (λ ps. Ran (option_map value_of) c.call_on-2.result h
+    _ c.in_ok-params.params c.call_on.result _ _ _ c.in_ok-params.ensures
+    (subst (λ ps. Ran (option_map value_of) c.call_on.result h
     (λ c1. eval_all (list_of (all_trees c.args.call.args.now)) [] c1 (body_of h.funcs.now c.args.call (map value_of ps)))
-    (at g.K.Sink c.eval_all.new.run c.eval_all.new.sink) (at g.K.Sink c.call_on-2.new.run c.call_on-2.new.sink))
-    c.as_slice.ensures c.call_on-2.ensures)
+    (at g.K.Sink c.eval_all.new.run c.eval_all.new.sink) (at g.K.Sink c.call_on.new.run c.call_on.new.sink))
+    c.as_slice.ensures c.call_on.ensures)
