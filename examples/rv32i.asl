@@ -7,7 +7,8 @@
 //   0000000b   the words after this one go to memory, from address 0 on
 //   0000100b   runs what is in memory, from address 0 to ECALL or another trap
 //
-// The lists in rv32i/ are made from the assembly beside them by rv32i/assemble.
+// The lists in rv32i/ are made from the assembly beside them by rv32i/assemble. rv32i/console.asl puts another body in the place of
+// the one here that says what ECALL does.
 
 // A type of bits with names for some of them. Fields may overlap, and other slices can be taken too.
 type Instruction of bits(32) {[6:0] opcode, [11:7] rd, [14:12] funct3, [19:15] rs1, [24:20] rs2, [31:25] funct7};
@@ -32,7 +33,7 @@ constant LOAD = '0000000 00000 00000 000 00000 0001011';
 constant RUN = '0000000 00000 00000 001 00000 0001011';
 
 // The state. At first all of it is zeros, and the mode is `stepping`, the first label.
-var X: array [[32]] of bits(32);
+var registers: array [[32]] of bits(32);
 var PC: bits(32);
 var memory: array [[BYTES]] of bits(8);
 var mode: Mode;
@@ -49,38 +50,52 @@ begin
   return if holds then Zeros{31}() :: '1' else Zeros{32}();
 end;
 
-// x0 is never written, and so reads as zero. A single step prints what it changes.
-func write(rd: bits(5), value: bits(32))
+// A register is read by the getter and written by the setter. x0 is never written, and so reads as zero. A single step prints what
+// it changes.
+accessor X(number: bits(5)) <=> value: bits(32)
 begin
-  if rd != '00000' then
-    X[[UInt(rd)]] = value;
-    if mode == stepping then println("x", UInt(rd), " = ", SInt(value)); end;
+  readonly getter
+    return registers[[UInt(number)]];
+  end;
+
+  setter
+    if number != '00000' then
+      registers[[UInt(number)]] = value;
+      if mode == stepping then println("x", UInt(number), " = ", SInt(value)); end;
+    end;
   end;
 end;
 
-// N is a parameter: a width, and a number in the body. Its constraint allows the three sizes of a load, and each call is
+// N is a parameter: a width, and a number in the bodies. Its constraint allows the three sizes of a load or a store, and each use is
 // checked to have one of them before anything runs. Memory is little-endian; `k *: 8` is the k-th slice of 8 bits.
-func load{N: integer{8, 16, 32}}(address: bits(32)) => bits(N)
+accessor Memory{N: integer{8, 16, 32}}(address: bits(32)) <=> value: bits(N)
 begin
-  let first = UInt(address);
-  if first MOD (N DIV 8) != 0 then throw LoadMisaligned{value = address}; end;
-  if first + N DIV 8 > BYTES then throw LoadFault{value = address}; end;
-  var value: bits(N);
-  for k = 0 to N DIV 8 - 1 do
-    value[k *: 8] = memory[[first + k]];
+  getter
+    let first = UInt(address);
+    if first MOD (N DIV 8) != 0 then throw LoadMisaligned{value = address}; end;
+    if first + N DIV 8 > BYTES then throw LoadFault{value = address}; end;
+    var loaded: bits(N);
+    for k = 0 to N DIV 8 - 1 do
+      loaded[k *: 8] = memory[[first + k]];
+    end;
+    return loaded;
   end;
-  return value;
+
+  setter
+    let first = UInt(address);
+    if first MOD (N DIV 8) != 0 then throw StoreMisaligned{value = address}; end;
+    if first + N DIV 8 > BYTES then throw StoreFault{value = address}; end;
+    for k = 0 to N DIV 8 - 1 do
+      memory[[first + k]] = value[k *: 8];
+    end;
+    if mode == stepping then println("memory ", first, " = ", SInt(value)); end;
+  end;
 end;
 
-func store{N: integer{8, 16, 32}}(address: bits(32), value: bits(N))
+// What ECALL does. An `implementation` with the same header, in another file, takes the place of this body.
+impdef func call_environment()
 begin
-  let first = UInt(address);
-  if first MOD (N DIV 8) != 0 then throw StoreMisaligned{value = address}; end;
-  if first + N DIV 8 > BYTES then throw StoreFault{value = address}; end;
-  for k = 0 to N DIV 8 - 1 do
-    memory[[first + k]] = value[k *: 8];
-  end;
-  if mode == stepping then println("memory ", first, " = ", SInt(value)); end;
+  throw EnvironmentCall{value = Zeros{32}()};
 end;
 
 // The word at PC, which is always aligned.
@@ -112,19 +127,19 @@ end;
 // by n takes a slice whose width depends on n, and extends it: that the result has 32 bits is checked for all n.
 func execute(word: Instruction)
 begin
-  let left = X[[UInt(word.rs1)]];
-  let right = X[[UInt(word.rs2)]];
+  let left = X(word.rs1);
+  let right = X(word.rs2);
   var next = PC + 4;
   case word of
     //    funct7  rs2   rs1 funct3 rd  opcode
-    when 'xxxxxxx xxxxx xxxxx xxx xxxxx 0110111' => write(word.rd, immediate_u(word));                        // LUI
-    when 'xxxxxxx xxxxx xxxxx xxx xxxxx 0010111' => write(word.rd, PC + immediate_u(word));                   // AUIPC
+    when 'xxxxxxx xxxxx xxxxx xxx xxxxx 0110111' => X(word.rd) = immediate_u(word);                           // LUI
+    when 'xxxxxxx xxxxx xxxxx xxx xxxxx 0010111' => X(word.rd) = PC + immediate_u(word);                      // AUIPC
     when 'xxxxxxx xxxxx xxxxx xxx xxxxx 1101111' =>                                                           // JAL
       next = aligned(PC + immediate_j(word));
-      write(word.rd, PC + 4);
+      X(word.rd) = PC + 4;
     when 'xxxxxxx xxxxx xxxxx 000 xxxxx 1100111' =>                                                           // JALR
       next = aligned((left + immediate_i(word))[31:1] :: '0');
-      write(word.rd, PC + 4);
+      X(word.rd) = PC + 4;
 
     when 'xxxxxxx xxxxx xxxxx 000 xxxxx 1100011' => next = branch(word, left == right);                       // BEQ
     when 'xxxxxxx xxxxx xxxxx 001 xxxxx 1100011' => next = branch(word, left != right);                       // BNE
@@ -134,56 +149,56 @@ begin
     when 'xxxxxxx xxxxx xxxxx 111 xxxxx 1100011' => next = branch(word, UInt(left) >= UInt(right));           // BGEU
 
     when 'xxxxxxx xxxxx xxxxx 000 xxxxx 0000011' =>                                                           // LB
-      write(word.rd, SignExtend{32}(load{8}(left + immediate_i(word))));
+      X(word.rd) = SignExtend{32}(Memory{8}(left + immediate_i(word)));
     when 'xxxxxxx xxxxx xxxxx 001 xxxxx 0000011' =>                                                           // LH
-      write(word.rd, SignExtend{32}(load{16}(left + immediate_i(word))));
+      X(word.rd) = SignExtend{32}(Memory{16}(left + immediate_i(word)));
     when 'xxxxxxx xxxxx xxxxx 010 xxxxx 0000011' =>                                                           // LW
-      write(word.rd, load{32}(left + immediate_i(word)));
+      X(word.rd) = Memory{32}(left + immediate_i(word));
     when 'xxxxxxx xxxxx xxxxx 100 xxxxx 0000011' =>                                                           // LBU
-      write(word.rd, ZeroExtend{32}(load{8}(left + immediate_i(word))));
+      X(word.rd) = ZeroExtend{32}(Memory{8}(left + immediate_i(word)));
     when 'xxxxxxx xxxxx xxxxx 101 xxxxx 0000011' =>                                                           // LHU
-      write(word.rd, ZeroExtend{32}(load{16}(left + immediate_i(word))));
-    when 'xxxxxxx xxxxx xxxxx 000 xxxxx 0100011' => store(left + immediate_s(word), right[7:0]);              // SB
-    when 'xxxxxxx xxxxx xxxxx 001 xxxxx 0100011' => store(left + immediate_s(word), right[15:0]);             // SH
-    when 'xxxxxxx xxxxx xxxxx 010 xxxxx 0100011' => store(left + immediate_s(word), right);                   // SW
+      X(word.rd) = ZeroExtend{32}(Memory{16}(left + immediate_i(word)));
+    when 'xxxxxxx xxxxx xxxxx 000 xxxxx 0100011' => Memory(left + immediate_s(word)) = right[7:0];            // SB
+    when 'xxxxxxx xxxxx xxxxx 001 xxxxx 0100011' => Memory(left + immediate_s(word)) = right[15:0];           // SH
+    when 'xxxxxxx xxxxx xxxxx 010 xxxxx 0100011' => Memory(left + immediate_s(word)) = right;                 // SW
 
-    when 'xxxxxxx xxxxx xxxxx 000 xxxxx 0010011' => write(word.rd, left + immediate_i(word));                 // ADDI
+    when 'xxxxxxx xxxxx xxxxx 000 xxxxx 0010011' => X(word.rd) = left + immediate_i(word);                    // ADDI
     when 'xxxxxxx xxxxx xxxxx 010 xxxxx 0010011' =>                                                           // SLTI
-      write(word.rd, flag(SInt(left) < SInt(immediate_i(word))));
+      X(word.rd) = flag(SInt(left) < SInt(immediate_i(word)));
     when 'xxxxxxx xxxxx xxxxx 011 xxxxx 0010011' =>                                                           // SLTIU
-      write(word.rd, flag(UInt(left) < UInt(immediate_i(word))));
-    when 'xxxxxxx xxxxx xxxxx 100 xxxxx 0010011' => write(word.rd, left XOR immediate_i(word));               // XORI
-    when 'xxxxxxx xxxxx xxxxx 110 xxxxx 0010011' => write(word.rd, left OR immediate_i(word));                // ORI
-    when 'xxxxxxx xxxxx xxxxx 111 xxxxx 0010011' => write(word.rd, left AND immediate_i(word));               // ANDI
+      X(word.rd) = flag(UInt(left) < UInt(immediate_i(word)));
+    when 'xxxxxxx xxxxx xxxxx 100 xxxxx 0010011' => X(word.rd) = left XOR immediate_i(word);                  // XORI
+    when 'xxxxxxx xxxxx xxxxx 110 xxxxx 0010011' => X(word.rd) = left OR immediate_i(word);                   // ORI
+    when 'xxxxxxx xxxxx xxxxx 111 xxxxx 0010011' => X(word.rd) = left AND immediate_i(word);                  // ANDI
     when '0000000 xxxxx xxxxx 001 xxxxx 0010011' =>                                                           // SLLI
       let n = UInt(word.rs2);
-      write(word.rd, left[31 - n:0] :: Zeros{n}());
+      X(word.rd) = left[31 - n:0] :: Zeros{n}();
     when '0000000 xxxxx xxxxx 101 xxxxx 0010011' =>                                                           // SRLI
       let n = UInt(word.rs2);
-      write(word.rd, ZeroExtend{32}(left[31:n]));
+      X(word.rd) = ZeroExtend{32}(left[31:n]);
     when '0100000 xxxxx xxxxx 101 xxxxx 0010011' =>                                                           // SRAI
       let n = UInt(word.rs2);
-      write(word.rd, SignExtend{32}(left[31:n]));
+      X(word.rd) = SignExtend{32}(left[31:n]);
 
-    when '0000000 xxxxx xxxxx 000 xxxxx 0110011' => write(word.rd, left + right);                             // ADD
-    when '0100000 xxxxx xxxxx 000 xxxxx 0110011' => write(word.rd, left - right);                             // SUB
+    when '0000000 xxxxx xxxxx 000 xxxxx 0110011' => X(word.rd) = left + right;                                // ADD
+    when '0100000 xxxxx xxxxx 000 xxxxx 0110011' => X(word.rd) = left - right;                                // SUB
     when '0000000 xxxxx xxxxx 001 xxxxx 0110011' =>                                                           // SLL
       let n = UInt(right[4:0]);
-      write(word.rd, left[31 - n:0] :: Zeros{n}());
-    when '0000000 xxxxx xxxxx 010 xxxxx 0110011' => write(word.rd, flag(SInt(left) < SInt(right)));           // SLT
-    when '0000000 xxxxx xxxxx 011 xxxxx 0110011' => write(word.rd, flag(UInt(left) < UInt(right)));           // SLTU
-    when '0000000 xxxxx xxxxx 100 xxxxx 0110011' => write(word.rd, left XOR right);                           // XOR
+      X(word.rd) = left[31 - n:0] :: Zeros{n}();
+    when '0000000 xxxxx xxxxx 010 xxxxx 0110011' => X(word.rd) = flag(SInt(left) < SInt(right));              // SLT
+    when '0000000 xxxxx xxxxx 011 xxxxx 0110011' => X(word.rd) = flag(UInt(left) < UInt(right));              // SLTU
+    when '0000000 xxxxx xxxxx 100 xxxxx 0110011' => X(word.rd) = left XOR right;                              // XOR
     when '0000000 xxxxx xxxxx 101 xxxxx 0110011' =>                                                           // SRL
       let n = UInt(right[4:0]);
-      write(word.rd, ZeroExtend{32}(left[31:n]));
+      X(word.rd) = ZeroExtend{32}(left[31:n]);
     when '0100000 xxxxx xxxxx 101 xxxxx 0110011' =>                                                           // SRA
       let n = UInt(right[4:0]);
-      write(word.rd, SignExtend{32}(left[31:n]));
-    when '0000000 xxxxx xxxxx 110 xxxxx 0110011' => write(word.rd, left OR right);                            // OR
-    when '0000000 xxxxx xxxxx 111 xxxxx 0110011' => write(word.rd, left AND right);                           // AND
+      X(word.rd) = SignExtend{32}(left[31:n]);
+    when '0000000 xxxxx xxxxx 110 xxxxx 0110011' => X(word.rd) = left OR right;                               // OR
+    when '0000000 xxxxx xxxxx 111 xxxxx 0110011' => X(word.rd) = left AND right;                              // AND
 
     when 'xxxxxxx xxxxx xxxxx 000 xxxxx 0001111' => pass;                                                     // FENCE
-    when '0000000 00000 00000 000 00000 1110011' => throw EnvironmentCall{value = Zeros{32}()};               // ECALL
+    when '0000000 00000 00000 000 00000 1110011' => call_environment();                                       // ECALL
     when '0000000 00001 00000 000 00000 1110011' => throw Breakpoint{value = PC};                             // EBREAK
     otherwise => throw IllegalInstruction{value = word};
   end;
@@ -211,14 +226,14 @@ begin
     elsif word == RUN then
       run();
     elsif mode == loading then
-      store(PC, word);
+      Memory(PC) = word;
       PC = PC + 4;
     else
       execute(word);
     end;
   catch
     when EnvironmentCall =>
-      println("environment call at ", UInt(PC), ", x10 = ", SInt(X[[10]]));
+      println("environment call at ", UInt(PC), ", x10 = ", SInt(X('01010')));
       mode = stepping;
       PC = PC + 4;
     when it: Trap =>

@@ -1,4 +1,4 @@
-# asl exec --steps 469497 --words examples/rv32i/fibonacci.words examples/rv32i.asl
+# asl exec --steps 495992 --words examples/rv32i/fibonacci.words examples/rv32i.asl
 # Number 12 of the sequence 0, 1, 1, 2, 3, 5 .. by recursion: 144, in x10. x1 has the return address, x2 the stack.
 load
     addi x2, x0, 256        # the stack grows down from the end of memory

@@ -1,4 +1,4 @@
-# asl exec --steps 6631 --words examples/rv32i/length.words examples/rv32i.asl
+# asl exec --steps 6990 --words examples/rv32i/length.words examples/rv32i.asl
 # The length of a string that ends with a zero: 13, in x10. The string stands behind the program.
 load
     auipc x6, 0             # x6 = the address of this word, 0

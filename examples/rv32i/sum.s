@@ -1,4 +1,4 @@
-# asl exec --steps 3292 --words examples/rv32i/sum.words examples/rv32i.asl
+# asl exec --steps 3495 --words examples/rv32i/sum.words examples/rv32i.asl
 # The sum of the numbers from 1 to 10: 55, in x10.
 load
     addi x10, x0, 0         # the sum so far

@@ -1,4 +1,4 @@
-# asl exec --steps 9665 --words examples/rv32i/trace.words examples/rv32i.asl
+# asl exec --steps 10410 --words examples/rv32i/trace.words examples/rv32i.asl
 # A trace that has each instruction, with operands at the edges, and each trap. Branches and jumps say how far they go.
 
 # numbers to work with

@@ -104,11 +104,13 @@ def declaration_words():
 
 
 def class_of_word_kinds():
-    """The class of each kind of word. A word that no rule takes is refused wherever it occurs."""
+    """The class of each kind of word. A word that no rule takes is refused wherever it occurs. Those that are names wherever a
+    name may stand are colored as what they are in an accessor."""
     used = kinds_in(rules.RULES)
     found = {kind: "Statement" if kind in used else "LeftOut" for kind in [*rules.WORDS, "LeftOut"]}
     found.update({kind: "Declaration" for kind in declaration_words()})
     found.update({kind: "Type" for kind in kinds_before("type_definition")})
+    found.update({kind: "Declaration" for kind in kinds_in(["name"]) & set(rules.WORDS)})
     found.update({kind: "WordOperator" for kind in operator_words()})
     found.update({kind: "Boolean" for kind in kinds_in(["boolean_literal"])})
     return found

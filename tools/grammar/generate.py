@@ -427,6 +427,7 @@ FIRSTS = {
         ('EQUALITY_OPERATORS', operators('equality_rest'), 'The operators of a chain of equations.'),
         ('EXPRESSION', listing(part('expression')), 'An expression.'),
         ('LITERAL', listing(part('literal')), 'A literal that is an expression.'),
+        ('NAME', listing(part('name')), 'A name.'),
         ('LOGIC_OPERATORS', listing(part('logic_links')), 'The logical operators.'),
         ('OTHER_PREFIX_OPERATORS', RULES['other_unary'].body.p.arg, 'The operators before an operand, without `-`.'),
         ('PREFIX_OPERATORS', RULES['unary'].body.p.arg, 'The operators before an operand.'),
@@ -438,10 +439,13 @@ FIRSTS = {
         ('UNARY', listing(part('unary')), 'An operand.'),
     ],
     'asl_parse_stmt': [
+        ('BODY_WORD', listing(part('body_word')), 'Whether a body may be replaced, or replaces another.'),
+        ('CALLED', listing(part('called')), 'The parameters or the arguments of a call.'),
         ('DECLARATION', listing(part('declaration')), 'A declaration.'),
         ('FIXED_STORAGE', listing(part('fixed_storage')), 'A constant, or a `let` of the whole program.'),
-        ('INVOKED', listing(part('invoked')), 'The parameters or the arguments of a call.'),
+        ('FUNCTION', listing(part('function')), 'A subprogram, behind the word of its body.'),
         ('PRINT_ITEM', listing(part('print_item')), 'What `print` writes.'),
+        ('SIMPLE_STATEMENT', listing(part('simple_statement')), 'A statement that holds no other and begins with no name.'),
         ('SOME_MEMBERS', listing(part('some_members')), 'What stands in the braces of a record.'),
         ('STATEMENT', listing(part('statement')), 'A statement.'),
         ('WRITTEN_QUALIFIER', listing(part('written_qualifier')), 'A qualifier.'),
@@ -462,7 +466,7 @@ for crate, found in FIRSTS.items():
 # ---- samples
 
 exec(open(os.path.join(HERE, 'samples.py')).read())
-SPELLING = dict(zip('( ) [ ] { } ; , . .. : :: = == => ! != && || --> <-> < <= << > >= >> + +: - * *: ^ /'.split(), MARKS))
+SPELLING = dict(zip('( ) [ ] { } ; , . .. : :: = == => ! != && || --> <-> < <= << > >= >> + +: - * *: ^ / <=>'.split(), MARKS))
 LETTERS = {'AND': 'BitAnd', 'OR': 'BitOr', 'XOR': 'BitXor', 'EOR': 'BitEor', 'DIV': 'Div', 'DIVRM': 'DivRm', 'MOD': 'Mod', 'NOT': 'Not', 'IN': 'In', 'TRUE': 'True', 'FALSE': 'False', 'type': 'TypeWord', 'println': 'PrintLine', 'downto': 'DownTo', 'elsif': 'ElsIf',
            'looplimit': 'LoopLimit', 'recurselimit': 'RecurseLimit', 'readonly': 'ReadOnly'}
 LETTERS.update({w.lower(): w for w in WORDS if w.lower() not in [x.lower() for x in LETTERS.values()] and w not in ('BitAnd', 'BitOr', 'BitXor', 'Div', 'DivRm', 'Mod', 'Not', 'In', 'True', 'False')})

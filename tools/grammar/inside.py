@@ -50,7 +50,7 @@ def type_of(text):
 
 
 # types whose values have no span, and of which some are read by rules
-READ_PLAIN = ('SliceForm', 'Qualifier', 'Direction', 'PrintKind', 'StorageKind')
+READ_PLAIN = ('SliceForm', 'Qualifier', 'Direction', 'PrintKind', 'StorageKind', 'BodyWord')
 PLAIN = READ_PLAIN + ('ℕ', 'Bool', 'TokenKind', 'Kind', 'UnaryOperator', 'BinaryOperator', 'LocalKind', 'Text')
 
 
@@ -161,8 +161,8 @@ class Rules:
 
     def __init__(self, grammar):
         self.grammar = grammar
-        self.tree_of = {a: t for table in (grammar.TREES, grammar.PARTS) for t, a in table.items() if a}
-        self.nodes = [name for module in ('Nodes', 'StmtNodes') for name in lemmas(grammar, module)]
+        self.tree_of = {a: t for table in (grammar.TREES, grammar.READ_TREES, grammar.PARTS) for t, a in table.items() if a}
+        self.nodes = [name for module in ('Nodes', 'StmtNodes', 'ReadNodes') for name in lemmas(grammar, module)]
         self.functions = {}
         lines = grammar.build.split('\n')
         for name in re.findall(r'^abbrev pub (\w+) : Type 0', grammar.build, re.M):
@@ -290,20 +290,21 @@ class Rules:
         if head in ('kind_of', 'same_kind', 'unary_of'):
             return Built(type_of({'kind_of': 'Kind', 'same_kind': 'Bool', 'unary_of': 'UnaryOperator'}[head]), self.call(head, [go(x).value for x in arguments]), None)
         alias, _, variant = head.rpartition('.')
-        if alias == 'dc': return self.declaration(variant, arguments[0], go)
+        if alias == 'rd': return self.declaration(variant, arguments[0], go)
         parts = [go(x) for x in arguments]
         value = self.call(head, [x.value for x in parts])
         if not alias: return Built(type_of('VarRest'), value, self.pairs([x.proof for x in parts]))
         tree = self.tree_of[alias]
         if tree in PLAIN: return Built(type_of(tree), value, 'tt')
         if tree in self.grammar.PARTS: return Built(type_of(tree), value, self.pairs([x.proof for x in parts]))
-        return Built(type_of(tree), value, self.node(snake(variant), parts, parts))
+        form = ('read_' if tree in self.grammar.READ_TREES else '') + snake(variant)
+        return Built(type_of(tree), value, self.node(form, parts, parts))
 
     def declaration(self, variant, e, go):
         """a declaration is a variant with a record of its parts"""
         parts = {name: go(x) for name, x in e[1].items()}
         of_parts = Built(None, record(parts), None)
-        return Built(type_of('Decl'), f'dc.{variant} ({of_parts.value})', self.node(snake(variant), [of_parts], list(parts.values())))
+        return Built(type_of('ReadDecl'), f'rd.{variant} ({of_parts.value})', self.node('read_' + snake(variant), [of_parts], list(parts.values())))
 
     def node(self, form, arguments, parts):
         """the lemma of a form of tree; where it has none, what is asked of the tree computes to what is asked of its parts"""
@@ -359,7 +360,7 @@ class Rules:
 
 # ---- the files
 
-BY_HAND = ('Inside', 'Predicates', 'Nodes', 'StmtNodes', 'Builds', 'Combining')
+BY_HAND = ('Inside', 'Predicates', 'Nodes', 'StmtNodes', 'ReadNodes', 'Builds', 'Combining')
 FILES = {'Names and literals': ('RulesOfExpressions', 'expressions, and those of types, patterns and slices that stand in them'),
          'Braces behind a name': ('RulesOfParts', 'braces behind a name, of slices, patterns and types'),
          'Statements': ('RulesOfStatements', 'statements'),

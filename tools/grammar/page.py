@@ -31,12 +31,13 @@ taken.
 - MASK: like BITS, but with at least one `x` or one group. A group is `0`, `1` and spaces in parentheses, with at least one
   digit; each of its digits counts as `x`.
 - STRING: between `"` and `"`, the bytes 0x20 to 0x7E except `"` and `\`, and `\n`, `\t`, `\\`, `\"`.
-- Marks: `( ) [ ] { } ; , . .. : :: = == => != ! && || --> <-> < <= << > >= >> + +: - * *: ^ /`; no production has `/`.
-- Words: `AND DIV DIVRM EOR FALSE IN MOD NOT OR TRUE XOR array as assert begin bit bits boolean case catch constant do downto
-  else elsif end enumeration exception for func if integer let looplimit of otherwise pass print println pure readonly record
-  recurselimit repeat return subtypes then throw to try type unreachable until var when where while`; `EOR` is read as `XOR`.
+- Marks: `( ) [ ] { } ; , . .. : :: = == => != ! && || --> <-> < <= <=> << > >= >> + +: - * *: ^ /`; no production has `/`.
+- Words: `AND DIV DIVRM EOR FALSE IN MOD NOT OR TRUE XOR accessor array as assert begin bit bits boolean case catch constant do
+  downto else elsif end enumeration exception for func if impdef implementation integer let looplimit of otherwise pass print
+  println pure readonly record recurselimit repeat return subtypes then throw to try type unreachable until var when where
+  while`; `EOR` is read as `XOR`. `getter` and `setter` are names, which the production of an accessor asks for by their text.
 - Words that the profile leaves out, which are S03 wherever they occur: `real string collection pragma noreturn ARBITRARY
-  accessor impdef implementation config`.
+  config`.
 
 ## Productions
 
@@ -61,13 +62,25 @@ edge cases.
 '''
 
 
+# Rules whose alternatives are productions of their own.
+INNER = {'simple_statement', 'behind_word'}
+
+
+def rule_in(node):
+    """The name of the rule whose value a node makes into another, or of the rule that it is."""
+    while node.kind == 'by':
+        node = node.p
+    return node.name
+
+
 def alternatives(name):
     """The productions of a rule's alternatives."""
     p, found = RULES[name].body, []
     while p.kind == 'either':
-        found.append(p.p)
+        found.append(rule_in(p.p))
         p = p.q
-    return [RULES[it.name].comment for it in [*found, p]]
+    found.append(rule_in(p))
+    return [it for inner in found for it in (alternatives(inner) if inner in INNER else [RULES[inner].comment])]
 
 
 def named():
@@ -86,7 +99,8 @@ def without_note(production):
 
 
 PRODUCTIONS = named()
-PRODUCTIONS['decl'] = ' | '.join(map(without_note, alternatives('declaration')))
+BODIED = RULES['maybe_body_word'].comment
+PRODUCTIONS['decl'] = ' | '.join([*map(without_note, alternatives('declaration')[:-1]), *(f'{BODIED} {it}' for it in alternatives('behind_word'))])
 PRODUCTIONS['stmt'] = ' | '.join(dict.fromkeys(map(without_note, alternatives('statement'))))
 PRODUCTIONS['set'] = '"!"? "{" pattern,.. "}"'
 PRODUCTIONS['prim'] = 'INT | BITS | "TRUE" | "FALSE" | ' + RULES['named'].comment.replace('NAME args', 'NAME args', 1) + ' | "(" expr,.. ")"'

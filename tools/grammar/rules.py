@@ -11,12 +11,12 @@ CRATES = os.path.normpath(os.path.join(HERE, '..', '..', 'crates'))
 LITERALS = {'Name': 'Name', 'Int': 'IntegerLiteral', 'Bits': 'BitsLiteral', 'Mask': 'MaskLiteral', 'Text': 'StringLiteral'}
 MARKS = ('OpenParen CloseParen OpenBracket CloseBracket OpenBrace CloseBrace Semicolon Comma Dot DotDot Colon ColonColon '
          'Assign Equal FatArrow Bang NotEqual AndAnd OrOr Implies Iff Less LessEqual ShiftLeft Greater GreaterEqual '
-         'ShiftRight Plus PlusColon Minus Star StarColon Caret Slash').split()
+         'ShiftRight Plus PlusColon Minus Star StarColon Caret Slash Access').split()
 WORDS = ('BitAnd Div DivRm False In Mod Not BitOr True BitXor Array As Assert Begin Bit Bits Boolean Case Catch Constant Do '
          'DownTo Else ElsIf End Enumeration Exception For Func If Integer Let LoopLimit Of Otherwise Pass Print PrintLine '
          'Pure ReadOnly Record RecurseLimit Repeat Return Subtypes Then Throw To Try TypeWord Unreachable Until Var When '
-         'Where While').split()
-LEFT_OUT = 'Real StringWord Collection Pragma NoReturn Arbitrary Accessor ImpDef Implementation Config'.split()
+         'Where While Accessor ImpDef Implementation Getter Setter').split()
+LEFT_OUT = 'Real StringWord Collection Pragma NoReturn Arbitrary Config'.split()
 KINDS = {kind: n for n, kind in enumerate(list(LITERALS.values()) + MARKS + WORDS + ['LeftOut'])}
 WORD_KINDS = {**{word: word for word in WORDS}, 'BitEor': 'BitXor', **{word: 'LeftOut' for word in LEFT_OUT}}
 
@@ -326,7 +326,8 @@ OUT['asl_grammar/src/operators.rt'] = code
 
 # rules
 TREES = dict(Expr='ex', FieldValue='fv', Slice='sl', TypeExpr='ty', ConstraintPart='cp', Bitfield='bf', Pattern='pa', Suffix='su', PlacedSuffix=None, Target='tg', Binder='bd', Bind='bi', PrintItem='pi', Stmt='stm', ElseIf='ei', Alternative='al', Otherwise='ot', Catcher='ca', Formal=None, Param=None, TypeDef='td', StorageKind='sk', Qualifier='ql', Decl='dc', Ident=None, LocalKind='lk', Direction='dr', PrintKind='pk')
-PARTS = dict(AfterName='an', Braces='br', VarTail='vt', SliceForm='sf')
+READ_TREES = dict(ReadStmt='rs', ReadElseIf='re', ReadAlternative='ra', ReadOtherwise='ro', ReadCatcher='rc', BodyWord='bw', ReadDecl='rd')
+PARTS = dict(AfterName='an', Braces='br', VarTail='vt', SliceForm='sf', Bodied='bo')
 COMBINATORS = 'G tok opens into seq either opt many by spanned scope closed trail costs follows'.split()
 build = open(os.path.join(CRATES, 'asl_grammar/specs/grammar/Build.antt')).read()
 HELPERS = re.findall(r'^(?:abbrev|unfoldable) pub (\w+) :', build, re.M) + ['VarRest', 'MoreNames', 'Typed', 'Untyped']
@@ -337,7 +338,7 @@ def imports(body):
     found = set(re.findall(r'[\w]+', re.sub(r'--.*', '', body)))
     plain = re.sub(r'--.*', '', body)
     lines = []
-    for table, where in ((TREES, 'asl_syn.specs.declared.tree'), (PARTS, 'asl_grammar.specs.declared.parts')):
+    for table, where in ((TREES, 'asl_syn.specs.declared.tree'), (READ_TREES, 'asl_syn.specs.declared.read'), (PARTS, 'asl_grammar.specs.declared.parts')):
         for t, a in table.items():
             if re.search(rf'(?<![\w.]){t}(?![\w])', plain): lines.append(f'use Rattle.{where}.{t}.{{{t}}}\n')
             if a and re.search(rf'(?<![\w.]){a}\.', plain): lines.append(f'use Rattle.{where}.{t}.TheVariants as {a}\n')

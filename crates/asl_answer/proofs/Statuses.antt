@@ -2,7 +2,7 @@
 use Rattle.std.proofs.Common.{◌≡◌, ◌<◌, ◌∙◌, ℕ, List, [], ◌∷◌, length, Option, Some, None, Result, Ok, Err, refl, sym, ap, arith}
 use Rattle.asl_syn.specs.Command.{Command, usage, check, run, exec, self, default_steps}
 use Rattle.asl_syn.specs.declared.code.Fault.{Fault}
-use Rattle.asl_syn.specs.declared.tree.Decl.{Decl}
+use Rattle.asl_syn.specs.declared.read.ReadDecl.{ReadDecl}
 use Rattle.asl_rules.specs.values.Values.{Value}
 use Rattle.asl_rules.specs.runs.States.{Binding, Core}
 use Rattle.asl_rules.specs.runs.Plans.{Outcome, Done, Thrown, Halt, End, Faulted, Stuck}
@@ -69,7 +69,7 @@ of_verdict : (command : Command) (files : List File) (go : Entries → Answer) �
 of_verdict command files go each (Ok a) = each a.entries
 of_verdict command files go each (Err f) = one_is command
 
-of_reading : (command : Command) (files : List File) (go : List Decl → Answer) → ((ds : List Decl) → IsOrdinary command (go ds).status) → (r : Result (List Decl) Fault) → IsOrdinary command (on_reading files go r).status
+of_reading : (command : Command) (files : List File) (go : List ReadDecl → Answer) → ((ds : List ReadDecl) → IsOrdinary command (go ds).status) → (r : Result (List ReadDecl) Fault) → IsOrdinary command (on_reading files go r).status
 of_reading command files go each (Ok ds) = each ds
 of_reading command files go each (Err f) = one_is command
 
@@ -77,16 +77,16 @@ of_list : (command : Command) (name : Text) (go : List Word → Answer) → ((wo
 of_list command name go each (Ok words) = each words
 of_list command name go each (Err f) = one_is command
 
-of_check : (t : Tests) (command : Command) (files : List File) (ds : List Decl) → IsOrdinary command (on_check t files ds).status
+of_check : (t : Tests) (command : Command) (files : List File) (ds : List ReadDecl) → IsOrdinary command (on_check t files ds).status
 of_check t command files ds = of_verdict command files _ (λ found. zero_is command) _
 
-of_run_on : (t : Tests) (command : Command) (steps : ℕ) (files : List File) (ds : List Decl) → IsOrdinary command (on_run t steps files ds).status
+of_run_on : (t : Tests) (command : Command) (steps : ℕ) (files : List File) (ds : List ReadDecl) → IsOrdinary command (on_run t steps files ds).status
 of_run_on t command steps files ds = of_verdict command files _ (λ found. of_begun command (run_answer files) (of_run command files) _ steps found.main) _
 
-of_words_on : (t : Tests) (command : Command) (steps : ℕ) (words : List Word) (files : List File) (ds : List Decl) → IsOrdinary command (on_words t steps words files ds).status
+of_words_on : (t : Tests) (command : Command) (steps : ℕ) (words : List Word) (files : List File) (ds : List ReadDecl) → IsOrdinary command (on_words t steps words files ds).status
 of_words_on t command steps words files ds = of_verdict command files _ (λ found. of_worked command files _ steps words found) _
 
-of_made_on : (t : Tests) (command : Command) (number size : ℕ) (text : Text) (files : List File) (ds : List Decl) → IsOrdinary command (on_made t number size text files ds).status
+of_made_on : (t : Tests) (command : Command) (number size : ℕ) (text : Text) (files : List File) (ds : List ReadDecl) → IsOrdinary command (on_made t number size text files ds).status
 of_made_on t command number size text files ds =
     let words = made_words number size (length text) (length ds) in
     of_verdict command files _ (λ found. of_begun command (made_answer words files) (of_made_run command words files) _ default_steps found.main) _

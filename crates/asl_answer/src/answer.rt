@@ -4,7 +4,7 @@ ghost use Rattle.asl_line.specs.private.Model.{meaning_of, HasSize};
 ghost use Rattle.std.specs.List.{All};
 ghost use Rattle.asl_words.specs.Shapes.{HasShape};
 ghost use Rattle.asl_words.specs.declared.TheConstants.{MOST_WORDS};
-ghost use Rattle.asl_rules.specs.private.Grown.{AreGrown};
+ghost use Rattle.asl_rules.specs.private.Grown.{AreReadGrown};
 ghost use Rattle.asl_rules.specs.Tests.{Tests};
 ghost use Rattle.asl_types.specs.Suits.{Suits};
 ghost use Rattle.asl_rules.specs.report.Made.{made_text};
@@ -28,7 +28,7 @@ use asl_parse::parse;
 use asl_rules::entry::Entry;
 use asl_syn::code::{Fault, Refused};
 use asl_syn::place::Source;
-use asl_syn::tree::Program;
+use asl_syn::read::ReadProgram;
 use asl_words::{Word, WordFault, read_words, wanted};
 use std::alloc::Global;
 
@@ -52,11 +52,11 @@ fn refuse<K: Sink>(
 fn check_program<K: Sink>(
     alloc: Global,
     sources: &[Source],
-    program: Program,
+    program: ReadProgram,
     out: &mut K,
 ) -> Result<Status, Stop>
     requires short { AreShort sources.now }
-    requires grown { AreGrown program.decls }
+    requires grown { AreReadGrown program.decls }
     ensures answer { (t : Tests) → Suits t → Answers result (K.written out.old) (K.written out.new) (on_check t (map file_of sources.now) program.decls) }
     ensures cause { HasCause result (K.faults out.old) (K.faults out.new) }
     ensures same_full { K.full out.new ≡ K.full out.old }
@@ -76,12 +76,12 @@ fn check_program<K: Sink>(
 fn check_and_run<K: Sink>(
     alloc: Global,
     sources: &[Source],
-    program: Program,
+    program: ReadProgram,
     steps: u32,
     out: &mut K,
 ) -> Result<Status, Stop>
     requires short { AreShort sources.now }
-    requires grown { AreGrown program.decls }
+    requires grown { AreReadGrown program.decls }
     ensures answer { (t : Tests) → Suits t → Answers result (K.written out.old) (K.written out.new) (on_run t steps (map file_of sources.now) program.decls) }
     ensures cause { HasCause result (K.faults out.old) (K.faults out.new) }
     ensures same_full { K.full out.new ≡ K.full out.old }
@@ -97,13 +97,13 @@ fn check_and_run<K: Sink>(
 fn check_and_exec<K: Sink>(
     alloc: Global,
     sources: &[Source],
-    program: Program,
+    program: ReadProgram,
     steps: u32,
     words: &[Word],
     out: &mut K,
 ) -> Result<Status, Stop>
     requires short { AreShort sources.now }
-    requires grown { AreGrown program.decls }
+    requires grown { AreReadGrown program.decls }
     requires shapes { All HasShape words.now }
     requires few { length words.now ≤ MOST_WORDS }
     ensures answer { (t : Tests) → Suits t → Answers result (K.written out.old) (K.written out.new) (on_words t steps words.now (map file_of sources.now) program.decls) }
@@ -123,11 +123,11 @@ fn check_made<K: Sink>(
     number: u32,
     size: u32,
     source: &Source,
-    program: Program,
+    program: ReadProgram,
     out: &mut K,
 ) -> Result<Status, Stop>
     requires short { AreShort (source.now ∷ []) }
-    requires grown { AreGrown program.decls }
+    requires grown { AreReadGrown program.decls }
     ensures answer { (t : Tests) → Suits t → Answers result (K.written out.old) (K.written out.new) (on_made t number size source.now.bytes.items (file_of source.now ∷ []) program.decls) }
     ensures cause { HasCause result (K.faults out.old) (K.faults out.new) }
     ensures same_full { K.full out.new ≡ K.full out.old }

@@ -1,6 +1,6 @@
 //! Machines over texts, and calls of their `main`.
 ghost use Rattle.std.specs.Prelude.{◌≡◌, IfSome};
-ghost use Rattle.asl_rules.specs.private.Grown.{AreGrown};
+ghost use Rattle.asl_rules.specs.private.Grown.{AreReadGrown};
 ghost use Rattle.asl_calls.specs.private.Callable.{HasCallableMain};
 
 use asl_check::check;
@@ -9,7 +9,7 @@ use asl_machine::{Machine, Outcome, RunRefused};
 use asl_parse::parse;
 use asl_rules::entry::Entry;
 use asl_syn::place::{MAX_BYTES, Source};
-use asl_syn::tree::Program;
+use asl_syn::read::ReadProgram;
 use asl_tree::Checked;
 use std::alloc::Global;
 
@@ -18,8 +18,8 @@ const STEPS: u64 = 1_000_000;
 
 /// The program of a text; none where there is a fault, or memory is wanting.
 #[tactic(auto, using(crate::proofs::Callable::grown))]
-fn program_of(alloc: Global, text: &[u8]) -> Option<Program>
-    ensures { IfSome result (λ program. AreGrown program.decls) }
+fn program_of(alloc: Global, text: &[u8]) -> Option<ReadProgram>
+    ensures { IfSome result (λ program. AreReadGrown program.decls) }
 {
     if MAX_BYTES < text.len() {
         return None;
@@ -35,8 +35,8 @@ fn program_of(alloc: Global, text: &[u8]) -> Option<Program>
 
 /// The program, checked with the entry `main`; none where there is a fault, or memory is wanting.
 #[tactic(auto, using(crate::proofs::Callable::has_callable_main))]
-fn checked_of(alloc: Global, program: Program) -> Option<Checked>
-    requires { AreGrown program.decls }
+fn checked_of(alloc: Global, program: ReadProgram) -> Option<Checked>
+    requires { AreReadGrown program.decls }
     ensures { IfSome result HasCallableMain }
 {
     match check(alloc, program, Entry::Main) {

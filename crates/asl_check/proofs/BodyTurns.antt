@@ -1,5 +1,5 @@
 -- The bodies of subprograms: the names that each begins with stand behind those outside, and are visible no more behind it.
-use Rattle.std.proofs.Common.{◌≡◌, Bool, true, false, cond, List, [], ◌∷◌, ◌++◌, length, take, map, Option, Some, None, Result, Ok, Err, suc, refl, sym, ap, ◌∙◌, append_assoc, ℕ, ◌+◌, ◌<◌, get_or, drop}
+use Rattle.std.proofs.Common.{◌≡◌, Bool, true, false, cond, List, [], ◌∷◌, ◌++◌, length, take, map, Option, Result, Ok, Err, suc, refl, sym, ap, ◌∙◌, append_assoc}
 use Rattle.std.proofs.Math.Seq.{take-append_seam}
 use Rattle.asl_syn.specs.declared.code.Fault.{Fault}
 use Rattle.asl_syn.specs.declared.tree.Formal.{Formal}
@@ -14,20 +14,20 @@ use Rattle.asl_rules.specs.Tests.{Tests}
 use Rattle.asl_rules.specs.types.Types.{Ty, Parts, no_part, part}
 use Rattle.asl_types.specs.View.{parts_of}
 use Rattle.asl_rules.specs.runs.Trees.{TreeFunc}
-use Rattle.asl_rules.specs.declarations.Scopes.{Scope, Body, Entry, Signature, Param, is_free, fixed, with_entry}
+use Rattle.asl_rules.specs.declarations.Scopes.{Body, Entry, Signature, Param, is_free, fixed, with_entry}
 use Rattle.asl_rules.specs.statements.Locals.{itself}
 use Rattle.asl_rules.specs.statements.Acting.{Listed, in_order}
 use Rattle.asl_rules.specs.statements.Stmts.{found_stmt}
-use Rattle.asl_rules.specs.declarations.Programs.{Head, Accepted, accepted, may_end, tree_func, param_entry, funcs_of, signatures, signatures_rule, overloads_rule, body_rule, bodies_rule, entry_rule, types_in, verdict}
+use Rattle.asl_rules.specs.declarations.Programs.{Head, accepted, may_end, tree_func, param_entry, funcs_of, signatures, signatures_rule, overloads_rule, body_rule, bodies_rule, entry_rule, types_in, verdict}
 use Rattle.asl_rules.specs.declared.entry.Entry.{Entry as Asked}
 use Rattle.asl_rules.specs.declarations.Names.{names_rule, all_declared}
 use Rattle.asl_rules.specs.declarations.Uses.{cycles_rule}
 use Rattle.asl_rules.specs.declarations.Declarations.{globals_rule}
 use Rattle.asl_syn.specs.declared.tree.Decl.{Decl}
 use Rattle.asl_rules.proofs.scopes.Longer.{Longer, longer_self, longer_on, list_longer}
-use Rattle.asl_decl.specs.Heads.{Declared, declared_with, declared_rule, params_declared, formals_declared, names_of_body, head_of, heads_of}
+use Rattle.asl_decl.specs.Heads.{declared_with, declared_rule, params_declared, formals_declared, names_of_body, head_of, heads_of}
 use Rattle.asl_check.specs.private.Bringing.{with_entry_found}
-use Rattle.asl_blocks.proofs.Chains.{then_same, then_then, then_itself, append_nothing, next_of}
+use Rattle.asl_blocks.proofs.Chains.{then_same, then_then}
 
 with_longer : (e : Entry) (names : List Entry) → Longer names (with_entry e names)
 with_longer e names = by (is_free e.name names)

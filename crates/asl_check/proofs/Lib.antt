@@ -1,2 +1,3 @@
 pub mod BodyTurns
 pub mod GlobalTurns
+pub mod ReadVerdicts

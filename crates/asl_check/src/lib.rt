@@ -5,4 +5,4 @@ mod bodies;
 mod globals;
 mod program;
 
-pub use program::{Accepted, check, check_decls};
+pub use program::{Accepted, check, check_decls, check_written};

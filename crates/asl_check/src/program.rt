@@ -1,7 +1,7 @@
 //! Whole programs.
 
 ghost use Rattle.std.specs.Prelude.{◌≡◌, length, map, IfOk};
-ghost use Rattle.asl_rules.specs.private.Grown.{AreGrown};
+ghost use Rattle.asl_rules.specs.private.Grown.{AreGrown, AreReadGrown};
 ghost use Rattle.asl_rules.specs.declarations.Programs.{entries};
 ghost use Rattle.asl_tree.specs.Sealed.{IsSealed};
 ghost use Rattle.asl_rules.specs.declarations.Programs.{verdict};
@@ -10,14 +10,17 @@ ghost use Rattle.asl_check.specs.private.Bringing.{with_bodies, with_entry_found
 ghost use Rattle.asl_rules.specs.Tests.{Tests};
 ghost use Rattle.asl_types.specs.private.Answers.{Met};
 ghost use Rattle.asl_types.specs.Suits.{Suits};
-ghost use Rattle.asl_check.specs.private.Verdicts.{accepted_of, HasEntries, IsVerdict};
+ghost use Rattle.asl_check.specs.private.Verdicts.{accepted_of, both_verdict, HasEntries, IsReadVerdict, IsVerdict, Seals};
+ghost use Rattle.asl_accessors.specs.Judged.{final_of};
 
 use crate::bodies::check_bodies;
 use crate::globals::find_globals;
+use asl_accessors::{Replacing, parted};
 use asl_decl::{Entries, Table, find_entries};
 use asl_rules::entry::Entry;
 use asl_subprograms::Subprograms;
 use asl_syn::code::Refused;
+use asl_syn::read::ReadProgram;
 use asl_syn::tree::{Decl, Func, Program};
 use asl_tree::act::TreeFunc;
 use asl_tree::{Checked, Global as Cell, Parts, SubId};
@@ -134,11 +137,11 @@ fn make(alloc: Global, decls: &[Decl], entry: Entry) -> Result<Made, Refused>
     })
 }
 
-/// Checks a program such as texts give: each enumeration has a label, and storage has a type or an initialiser. That is less than
-/// being what some files are read to, and all that the rules and soundness rest on. The program is accepted, and sealed, exactly
-/// if it is well formed with the entries that are asked for, and otherwise refused at its one fault, by any right tests under the
-/// width limit. Want of memory says nothing.
-pub fn check(alloc: Global, program: Program, entry: Entry) -> Result<Checked, Refused>
+/// Checks a program that is written out, such as texts give: each enumeration has a label, and storage has a type or an
+/// initialiser. That is less than being what some files are read to and written out as, and all that the rules and soundness
+/// rest on. The program is accepted, and sealed, exactly if it is well formed with the entries that are asked for, and
+/// otherwise refused at its one fault, by any right tests under the width limit. Want of memory says nothing.
+pub fn check_written(alloc: Global, program: Program, entry: Entry) -> Result<Checked, Refused>
     requires { AreGrown program.decls }
     ensures { (t : Tests) → Suits t → IsVerdict t entry program.decls result }
 {
@@ -156,4 +159,32 @@ pub fn check(alloc: Global, program: Program, entry: Entry) -> Result<Checked, R
         subs: funcs,
         globals,
     }))
+}
+
+/// Checks both programs that come of what is read: first the one with the bodies that may be replaced, and then the one with
+/// those that replace them, which is sealed.
+fn check_both(alloc: Global, parted: Replacing, entry: Entry) -> Result<Checked, Refused>
+    requires { AreGrown (final_of parted) }
+    ensures { (t : Tests) → Suits t → Seals entry (final_of parted) (both_verdict entry parted t) result }
+{
+    check_decls(alloc, parted.defaults(), entry)?;
+    let program = parted.replaced(alloc)?;
+    check_written(alloc, program, entry)
+}
+
+/// Checks a program as it is read, such as texts give. First each body that replaces another is looked at (T26, T27); then the
+/// program is judged with the bodies that may be replaced, and last with those that replace them, which is the program that is
+/// sealed. It is accepted exactly if both are well formed with the entries that are asked for, and otherwise refused at its one
+/// fault, by any right tests under the width limit. Want of memory says nothing.
+pub fn check(alloc: Global, program: ReadProgram, entry: Entry) -> Result<Checked, Refused>
+    requires { AreReadGrown program.decls }
+    ensures { (t : Tests) → Suits t → IsReadVerdict t entry program.decls result }
+{
+    let parted = parted(alloc, program)?;
+    if parted.replaces() {
+        check_both(alloc, parted, entry)
+    } else {
+        let program = parted.replaced(alloc)?;
+        check_written(alloc, program, entry)
+    }
 }

@@ -2,7 +2,7 @@
 use Rattle.std.proofs.Common.{◌≡◌, ℕ, ◌+◌, ◌⊎◌, inl, inr, List, [], ◌∷◌, ◌++◌, map, Result, Ok, Err, refl, ap, sym, ◌∙◌, subst}
 use Rattle.asl_syn.specs.declared.code.Fault.{Fault}
 use Rattle.asl_syn.specs.declared.token.Token.{Token}
-use Rattle.asl_syn.specs.declared.tree.Decl.{Decl}
+use Rattle.asl_syn.specs.declared.read.ReadDecl.{ReadDecl}
 use Rattle.asl_grammar.specs.lexemes.Refusals.{max_width}
 use Rattle.asl_grammar.specs.lexemes.Files.{AllTokens, FirstLexFault}
 use Rattle.asl_grammar.specs.Reading.{Text, File, HasTrees, FirstSyntaxFault, AreParsed, AreRefused, Parsed, ReadsAt, Reads, Reader, IsReadingAt, IsReading}
@@ -10,7 +10,7 @@ use Rattle.asl_grammar.proofs.lexemes.OneReadingOfFiles.{one_all_tokens, one_fir
 use Rattle.asl_grammar.proofs.grammar.OneFault.{one_parse, one_syntax_fault, no_tree_where_fault}
 use Rattle.asl_grammar.proofs.grammar.Ends.{Known, tree_or_fault}
 
-one_list : (texts : List Text) (tss : List (List Token)) (ds es : List Decl) → HasTrees texts tss ds → HasTrees texts tss es → ds ≡ es
+one_list : (texts : List Text) (tss : List (List Token)) (ds es : List ReadDecl) → HasTrees texts tss ds → HasTrees texts tss es → ds ≡ es
 one_list [] [] ds es a b = a ∙ sym b
 one_list [] (ts ∷ tss) ds es a b = absurd a
 one_list (text ∷ texts) [] ds es a b = absurd a
@@ -27,14 +27,14 @@ one_fault n (text ∷ texts) (ts ∷ tss) f g (inl a) (inr (v, p, b)) = absurd (
 one_fault n (text ∷ texts) (ts ∷ tss) f g (inr (v, p, a)) (inl b) = absurd (no_tree_where_fault n text ts g v b p)
 one_fault n (text ∷ texts) (ts ∷ tss) f g (inr (v, p, a)) (inr (w, q, b)) = one_fault (n + 1) texts tss f g a b
 
-never_both : (n : ℕ) (texts : List Text) (tss : List (List Token)) (ds : List Decl) (f : Fault) → HasTrees texts tss ds → FirstSyntaxFault n texts tss f → ⊥
+never_both : (n : ℕ) (texts : List Text) (tss : List (List Token)) (ds : List ReadDecl) (f : Fault) → HasTrees texts tss ds → FirstSyntaxFault n texts tss f → ⊥
 never_both n [] tss ds f a b = b
 never_both n (text ∷ texts) [] ds f a b = b
 never_both n (text ∷ texts) (ts ∷ tss) ds f (v, vs, p, r, e) (inl b) = no_tree_where_fault n text ts f v b p
 never_both n (text ∷ texts) (ts ∷ tss) ds f (v, vs, p, r, e) (inr (w, q, b)) = never_both (n + 1) texts tss vs f r b
 
 abbrev Trees : ℕ → List Text → List (List Token) → Type 0
-Trees n texts tss = ((ds : List Decl) × HasTrees texts tss ds) ⊎ ((f : Fault) × FirstSyntaxFault n texts tss f)
+Trees n texts tss = ((ds : List ReadDecl) × HasTrees texts tss ds) ⊎ ((f : Fault) × FirstSyntaxFault n texts tss f)
 
 with_text : (n : ℕ) (text : Text) (texts : List Text) (ts : List Token) (tss : List (List Token)) → Known n text ts → Trees (n + 1) texts tss → Trees n (text ∷ texts) (ts ∷ tss)
 with_text n text texts ts tss (inl (v, p)) (inl (vs, r)) = inl (v ++ vs, (v, vs, p, r, refl))
@@ -50,17 +50,17 @@ some_trees n limit m (text ∷ texts) (ts ∷ tss) a = with_text n text texts ts
 -- ---- what the grammar says of texts, and what files are read to, under a width limit
 
 module _ (limit : ℕ) where
-  one_parsed_list : (texts : List Text) (ds es : List Decl) → AreParsed limit texts ds → AreParsed limit texts es → ds ≡ es
+  one_parsed_list : (texts : List Text) (ds es : List ReadDecl) → AreParsed limit texts ds → AreParsed limit texts es → ds ≡ es
   one_parsed_list texts ds es a b =
       let same : b.tokens ≡ a.tokens = one_all_tokens limit 0 texts b.tokens a.tokens b.lexemes a.lexemes in
       one_list texts a.tokens ds es a.trees (subst (λ tss. HasTrees texts tss es) same b.trees)
 
-  never_refused : (texts : List Text) (ds : List Decl) (f : Fault) → AreParsed limit texts ds → AreRefused limit texts f → ⊥
+  never_refused : (texts : List Text) (ds : List ReadDecl) (f : Fault) → AreParsed limit texts ds → AreRefused limit texts f → ⊥
   never_refused texts ds f a b =
       let same : b.tokens ≡ a.tokens = one_all_tokens limit 0 texts b.tokens a.tokens b.lexemes a.lexemes in
       never_both 0 texts a.tokens ds f a.trees (subst (λ tss. FirstSyntaxFault 0 texts tss f) same b.fault)
 
-  never_parsed : (texts : List Text) (ds : List Decl) (f : Fault) → AreParsed limit texts ds → FirstLexFault limit 0 texts f ⊎ AreRefused limit texts f → ⊥
+  never_parsed : (texts : List Text) (ds : List ReadDecl) (f : Fault) → AreParsed limit texts ds → FirstLexFault limit 0 texts f ⊎ AreRefused limit texts f → ⊥
   never_parsed texts ds f a (inl b) = never_both_of_files limit 0 texts a.tokens f a.lexemes b
   never_parsed texts ds f a (inr b) = never_refused texts ds f a b
 
@@ -72,14 +72,14 @@ module _ (limit : ℕ) where
       let same : b.tokens ≡ a.tokens = one_all_tokens limit 0 texts b.tokens a.tokens b.lexemes a.lexemes in
       one_fault 0 texts a.tokens f g a.fault (subst (λ tss. FirstSyntaxFault 0 texts tss g) same b.fault)
 
-  one_parsed : (texts : List Text) (r s : Result (List Decl) Fault) → Parsed limit texts r → Parsed limit texts s → r ≡ s
+  one_parsed : (texts : List Text) (r s : Result (List ReadDecl) Fault) → Parsed limit texts r → Parsed limit texts s → r ≡ s
   one_parsed texts (Ok ds) (Ok es) a b = ap Ok (one_parsed_list texts ds es a b)
   one_parsed texts (Ok ds) (Err g) a b = absurd (never_parsed texts ds g a b)
   one_parsed texts (Err f) (Ok es) a b = absurd (never_parsed texts es f b a)
   one_parsed texts (Err f) (Err g) a b = ap Err (one_parsed_fault texts f g a b)
 
   abbrev SomeParsed : List Text → Type 0
-  SomeParsed texts = (r : Result (List Decl) Fault) × Parsed limit texts r
+  SomeParsed texts = (r : Result (List ReadDecl) Fault) × Parsed limit texts r
 
   from_trees : (texts : List Text) (tss : List (List Token)) → AllTokens limit 0 texts tss → Trees 0 texts tss → SomeParsed texts
   from_trees texts tss a (inl (ds, t)) = (Ok ds, record { tokens = tss; lexemes = a; trees = t })
@@ -89,10 +89,10 @@ module _ (limit : ℕ) where
   from_tokens texts (inl (tss, a)) = from_trees texts tss a (some_trees 0 limit 0 texts tss a)
   from_tokens texts (inr (f, b)) = (Err f, inl b)
 
-  pub one_answer_at : (files : List File) (r s : Result (List Decl) Fault) → ReadsAt limit files r → ReadsAt limit files s → r ≡ s
+  pub one_answer_at : (files : List File) (r s : Result (List ReadDecl) Fault) → ReadsAt limit files r → ReadsAt limit files s → r ≡ s
   one_answer_at files r s a b = one_parsed (map (λ f. f.1) files) r s a b
 
-  some_answer : (files : List File) → (r : Result (List Decl) Fault) × ReadsAt limit files r
+  some_answer : (files : List File) → (r : Result (List ReadDecl) Fault) × ReadsAt limit files r
   some_answer files = let texts = map (λ (f : File). f.1) files in from_tokens texts (some_reading_of_files limit 0 texts)
 
   pub some_reader_at : (read : Reader) × IsReadingAt limit read
@@ -100,7 +100,7 @@ module _ (limit : ℕ) where
 
 -- ---- under the limit of the program
 
-pub one_answer : (files : List File) (r s : Result (List Decl) Fault) → Reads files r → Reads files s → r ≡ s
+pub one_answer : (files : List File) (r s : Result (List ReadDecl) Fault) → Reads files r → Reads files s → r ≡ s
 one_answer = one_answer_at max_width
 
 pub some_reader : (read : Reader) × IsReading read

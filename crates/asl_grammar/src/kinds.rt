@@ -48,6 +48,7 @@ pub enum Kind {
     StarColon,
     Caret,
     Slash,
+    Access,
     BitAnd,
     Div,
     DivRm,
@@ -104,6 +105,11 @@ pub enum Kind {
     When,
     Where,
     While,
+    Accessor,
+    ImpDef,
+    Implementation,
+    Getter,
+    Setter,
     LeftOut,
 }
 
@@ -145,6 +151,7 @@ fn kind_of_mark(mark: Mark) -> Kind
         Mark::StarColon => Kind::StarColon,
         Mark::Caret => Kind::Caret,
         Mark::Slash => Kind::Slash,
+        Mark::Access => Kind::Access,
     }
 }
 
@@ -208,6 +215,11 @@ fn kind_of_word(word: Word) -> Kind
         Word::When => Kind::When,
         Word::Where => Kind::Where,
         Word::While => Kind::While,
+        Word::Accessor => Kind::Accessor,
+        Word::ImpDef => Kind::ImpDef,
+        Word::Implementation => Kind::Implementation,
+        Word::Getter => Kind::Getter,
+        Word::Setter => Kind::Setter,
         Word::BitEor => Kind::BitXor,
         Word::Real => Kind::LeftOut,
         Word::StringWord => Kind::LeftOut,
@@ -215,9 +227,6 @@ fn kind_of_word(word: Word) -> Kind
         Word::Pragma => Kind::LeftOut,
         Word::NoReturn => Kind::LeftOut,
         Word::Arbitrary => Kind::LeftOut,
-        Word::Accessor => Kind::LeftOut,
-        Word::ImpDef => Kind::LeftOut,
-        Word::Implementation => Kind::LeftOut,
         Word::Config => Kind::LeftOut,
     }
 }

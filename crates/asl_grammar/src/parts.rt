@@ -1,7 +1,8 @@
 //! Parts of trees that only the grammar knows: what was read behind a name, before it is known what it belongs to.
 #![tactic(auto)]
 
-use asl_syn::tree::{Bind, Expr, FieldValue, Ident, TypeExpr};
+use asl_syn::read::ReadStmt;
+use asl_syn::tree::{Bind, Expr, FieldValue, Formal, Ident, Param, Qualifier, TypeExpr};
 use sqlite_items::Items;
 
 /// What stands in braces behind a name.
@@ -31,6 +32,31 @@ pub enum VarTail {
     Declared(Items<Ident>, TypeExpr),
     /// What is declared, with its type and its initial value.
     Initialised(Bind, Option<TypeExpr>, Expr),
+}
+
+/// A declaration with a body, behind its word.
+#[derive(Drop)]
+pub enum Bodied {
+    /// `func f{N}(x: T) => T recurselimit e begin .. end;`
+    Subprogram(
+        Qualifier,
+        Ident,
+        Items<Param>,
+        Items<Formal>,
+        Option<TypeExpr>,
+        Option<Expr>,
+        Items<ReadStmt>,
+    ),
+    /// `accessor f{N}(x: T) <=> v: T begin getter .. end; setter .. end; end;`, with the qualifier of the getter.
+    Accessor(
+        Ident,
+        Items<Param>,
+        Items<Formal>,
+        Formal,
+        Qualifier,
+        Items<ReadStmt>,
+        Items<ReadStmt>,
+    ),
 }
 
 /// How a slice with two expressions is written.

@@ -4,7 +4,7 @@ use Rattle.std.specs.Prelude.{◌≡◌, None, Some}
 use Rattle.asl_syn.specs.declared.code.DynCode.{DynCode}
 use Rattle.asl_syn.specs.declared.code.Fault.{Fault}
 use Rattle.asl_syn.specs.declared.code.StaticCode.{StaticCode}
-use Rattle.asl_syn.specs.declared.code.StaticCode.TheVariants.{L01, L02, L03, L04, L05, S01, S02, S03, M01, M02, M03, N01, N02, N03, T01, T02, T03, T04, T05, T06, T07, T08, T09, T10, T11, T12, T13, T14, T15, T16, T17, T18, T19, T20, T21, T23, T24, T25}
+use Rattle.asl_syn.specs.declared.code.StaticCode.TheVariants.{L01, L02, L03, L04, L05, S01, S02, S03, M01, M02, M03, N01, N02, N03, T01, T02, T03, T04, T05, T06, T07, T08, T09, T10, T11, T12, T13, T14, T15, T16, T17, T18, T19, T20, T21, T23, T24, T25, T26, T27}
 
 -- the code of a rule: none of lexemes, of syntax, of files or of word lists
 abbrev pub IsOfRules : StaticCode → Type 0
@@ -46,6 +46,8 @@ IsOfRules T21 = Unit {0}
 IsOfRules T23 = Unit {0}
 IsOfRules T24 = Unit {0}
 IsOfRules T25 = Unit {0}
+IsOfRules T26 = Unit {0}
+IsOfRules T27 = Unit {0}
 
 -- a fault of the rules, which has a dynamic code only beside T04
 pub record HasRuleCode (f : Fault) : Type 0 where
@@ -92,6 +94,8 @@ IsOfReading T21 = ⊥
 IsOfReading T23 = ⊥
 IsOfReading T24 = ⊥
 IsOfReading T25 = ⊥
+IsOfReading T26 = ⊥
+IsOfReading T27 = ⊥
 
 pub record HasReadingCode (f : Fault) : Type 0 where
   pub code : IsOfReading f.code

@@ -11,6 +11,9 @@ pub mod WidthScopes
 pub mod Wider
 pub mod AgreeingTypes
 pub mod Answers
+pub mod MadeNames
+pub mod Plain
+pub mod WrittenVerdicts
 pub mod BeforeRuns
 pub mod Chosen
 pub mod Described

@@ -4,12 +4,13 @@ use Rattle.asl_syn.specs.Command.{Command, usage, check, run, exec, self, defaul
 use Rattle.asl_syn.specs.declared.code.DynCode.TheVariants.{D14}
 use Rattle.asl_syn.specs.declared.code.Fault.{Fault}
 use Rattle.asl_syn.specs.declared.tree.Decl.{Decl}
+use Rattle.asl_syn.specs.declared.read.ReadDecl.{ReadDecl}
 use Rattle.asl_grammar.specs.Reading.{Reader}
 use Rattle.asl_rules.specs.declared.entry.Entry.{Entry}
 use Rattle.asl_rules.specs.declared.entry.Entry.TheVariants as entry
 use Rattle.asl_rules.specs.Tests.{Tests}
 use Rattle.asl_rules.specs.runs.Plans.{End, Faulted, Stuck, Outcome, Done, Thrown, Halt, starting}
-use Rattle.asl_rules.specs.declarations.Programs.{Environment, environment, Entries, Accepted, verdict}
+use Rattle.asl_rules.specs.declarations.Programs.{Environment, environment, Entries, Accepted, final_decls, read_verdict}
 use Rattle.asl_rules.specs.runs.Machines.{run_of}
 use Rattle.asl_rules.specs.runs.Words.{WordsEnd, AllReturned, WordThrew, WordHalted, run_words, wanted}
 use Rattle.asl_rules.specs.report.WordList.{ListFault, Word, words_read}
@@ -59,9 +60,9 @@ RunFits env steps (Some main) = NotTooWide (run_of env main [] (initial_globals 
 abbrev pub WordsFit : Environment → ℕ → List Word → Entries → Type 0
 WordsFit env steps words found = WordsNotTooWide (run_words env found words (initial_globals env) (starting steps (Some [])))
 
--- files that were read to declarations which are accepted with this entry, and this holds of them
-abbrev pub Accepts : Tests → Entry → (List Decl → Entries → Type 0) → Result (List Decl) Fault → Type 0
-Accepts t e P r = (ds : List Decl) × (a : Accepted) × (r ≡ Ok ds) × (verdict e ds t ≡ Ok a) × P ds a.entries
+-- files that were read to declarations which are accepted with this entry, and this holds of the program that runs
+abbrev pub Accepts : Tests → Entry → (List Decl → Entries → Type 0) → Result (List ReadDecl) Fault → Type 0
+Accepts t e P r = (ds : List ReadDecl) × (a : Accepted) × (r ≡ Ok ds) × (read_verdict e ds t ≡ Ok a) × P (final_decls ds) a.entries
 
 -- where all source files were read, and where a word list has no fault
 abbrev pub OnFiles : Reading → (List File → Type 0) → Type 0

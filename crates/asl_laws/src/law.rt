@@ -1,15 +1,16 @@
 //! The laws of the definitions, each as the contract of a function without parameters.
 #![tactic(auto)]
 
-ghost use Rattle.std.specs.Prelude.{◌≡◌, ℕ, ℤ, true, List, Ok, Option, Some, ◌≤◌, ◌↔◌, [], ◌∷◌, map, Err};
+ghost use Rattle.std.specs.Prelude.{◌≡◌, ℕ, ℤ, true, List, Ok, Option, Some, ◌≤◌, ◌<◌, ◌^◌, ◌↔◌, ◌⊎◌, [], ◌∷◌, length, map, Err};
 ghost use Rattle.asl_bits.specs.declared.TheConstants.{WIDTH_LIMIT};
 ghost use Rattle.asl_grammar.specs.Reading.{File, ReadsAt, Reader, IsReadingAt};
 ghost use Rattle.asl_grammar.specs.lexemes.Refusals.{max_width};
 ghost use Rattle.asl_grammar.specs.lexemes.Texts.{LiesIn};
+ghost use Rattle.asl_grammar.specs.lexemes.Tokens.{Tokens};
 ghost use Rattle.asl_poly.specs.WidthLimits.{heaviest};
 ghost use Rattle.asl_rules.specs.private.Agreement.{types_in};
 ghost use Rattle.asl_laws.specs.AgreeingTypes.{DeclarationsAgree, ScopeFormed, TypesFormed, KeepsFormed};
-ghost use Rattle.asl_laws.specs.Answers.{FaultOfFiles, FilesOk, OneAnswer};
+ghost use Rattle.asl_laws.specs.Answers.{AreJudged, FaultOfFiles, FilesOk, OneAnswer};
 ghost use Rattle.asl_laws.specs.BeforeRuns.{BeginsSo};
 ghost use Rattle.asl_laws.specs.Described.{Describes};
 ghost use Rattle.asl_rules.specs.runs.Machines.{run_of, visits_of};
@@ -17,7 +18,7 @@ ghost use Rattle.asl_rules.specs.declarations.Names.{names_rule, all_declared};
 ghost use Rattle.asl_laws.specs.OneRun.{OneRun};
 ghost use Rattle.asl_rules.specs.runs.Plans.{Meter};
 ghost use Rattle.asl_rules.specs.declarations.Declarations.{names_of_program};
-ghost use Rattle.asl_rules.specs.declarations.Programs.{Head, funcs_of, signatures, signatures_rule, Environment, Entries, Accepted, ProgramOk, FaultOf, environment, verdict, signature_rule};
+ghost use Rattle.asl_rules.specs.declarations.Programs.{Head, funcs_of, signatures, signatures_rule, Environment, Entries, Accepted, ProgramOk, ReadOk, ReadFault, default_decls, environment, final_decls, read_verdict, signature_rule, verdict};
 ghost use Rattle.asl_rules.specs.declarations.Scopes.{Entry as Names, Scope, Body, is_free, type_of_name};
 ghost use Rattle.asl_rules.specs.statements.Acting.{Done};
 ghost use Rattle.asl_rules.specs.statements.Branches.{index_type, with_index, with_caught};
@@ -42,19 +43,25 @@ ghost use Rattle.asl_syn.specs.Command.{Command};
 ghost use Rattle.asl_syn.specs.declared.code.Fault.{Fault};
 ghost use Rattle.asl_syn.specs.declared.code.StaticCode.TheVariants.{T04};
 ghost use Rattle.asl_syn.specs.declared.tree.Decl.{Decl};
+ghost use Rattle.asl_syn.specs.declared.read.ReadDecl.{ReadDecl};
 ghost use Rattle.asl_laws.specs.Budgets.{with_more, SameWithMore, SameWordsWithMore};
 ghost use Rattle.asl_laws.specs.Evaluated.{Evaluates, HasCause};
+ghost use Rattle.asl_laws.specs.MadeNames.{MadeApart, NoneMade};
+ghost use Rattle.asl_laws.specs.Plain.{as_read};
 ghost use Rattle.asl_laws.specs.Placeless.{StandSame, JudgesSame};
 ghost use Rattle.asl_laws.specs.Reported.{RunsWell};
 ghost use Rattle.asl_laws.specs.Codes.{HasRuleCode, HasReadingCode};
 ghost use Rattle.asl_laws.specs.Visited.{AllSame};
 ghost use Rattle.asl_laws.specs.Wider.{Fits, FitsLimit, WordsFitLimit};
 ghost use Rattle.asl_laws.specs.WidthScopes.{StandsAsBefore, SaysSo};
+ghost use Rattle.asl_laws.specs.WrittenVerdicts.{BothOk, FirstFault, ReportsFinal};
 ghost use Rattle.asl_laws.specs.WidthWorth.{CountsWithin, HasWorth, HasWhole, SameWorth, HasIntegers};
 ghost use Rattle.asl_rules.specs.expressions.Exprs.{found, width};
 ghost use Rattle.asl_rules.specs.expressions.Typing.{Width, Number};
 ghost use Rattle.asl_rules.specs.private.Worth.{Integers, Obeys, WellCounted};
 ghost use Rattle.asl_syn.specs.declared.tree.Func.{Func};
+ghost use Rattle.asl_syn.specs.declared.token.Span.{Span};
+ghost use Rattle.asl_syn.specs.declared.token.Token.{Token};
 
 /// One run: for each program, state and node there is exactly one outcome, with one state, one number of steps left and
 /// one text after it. A call takes one step for each node that it enters, and never are more than 2,000 nodes open. An
@@ -69,22 +76,51 @@ pub fn law1()
 /// One answer. Under each width limit up to 2^62, which is the greatest weight of a width, there are right tests (`tests`). Files, each entry
 /// and each such limit have exactly one of these, a program that is well formed or one single fault (`one`), and where there is a file at all,
 /// the fault's span lies within one of the files (`within`). What the rules evaluate before any run, of declarations whose names are apart, is
-/// never stuck: it gives a value of its type, or has a dynamic fault (`evaluates`). So a fault of the code T04 that is met after reading is the
+/// never stuck: it gives a value of its type, or has a dynamic fault (`evaluates`). So a fault of the code T04 that is met after reading, of the
+/// program with the bodies that may be replaced or of that with those that replace them, is the
 /// dynamic fault with which the evaluation of an initialiser or of the limit of a subprogram ends, with its code and at its place in that
 /// expression; or it is that of a type without a first value, at the type of storage that has no initialiser; or it stands at a call or a
 /// global `var` in an initialiser or a limit (`cause`). A fault that is met as files are read has one of the codes L01 to L05, M03, and S01 to
-/// S03 (`reading_codes`); one that is met after reading has one of the codes T01 to T25, and a dynamic code only beside T04 (`codes`). A
+/// S03 (`reading_codes`); one that is met after reading has one of the codes T01 to T27, and a dynamic code only beside T04 (`codes`). A
 /// command has one report: it is the same by all right tests of one width limit, and by whatever reads files as the grammar says (`report`).
 #[tactic(auto)]
 pub fn law2()
     ensures tests { (limit : ℕ) → limit ≤ heaviest → (t : Tests) × (IsRight t × (t.limit ≡ limit)) }
     ensures one { (limit : ℕ) → limit ≤ heaviest → (e : Entry) (files : List File) → OneAnswer limit e files }
     ensures within { (limit : ℕ) (e : Entry) (file : File) (files : List File) (f : Fault) → FaultOfFiles limit e (file ∷ files) f → LiesIn 0 (map (λ g. g.1) (file ∷ files)) f.span }
-    ensures evaluates { (t : Tests) → IsRight t → (files : List File) (ds : List Decl) → ReadsAt t.limit files (Ok ds) → names_rule [] (all_declared ds) ≡ Ok tt → Evaluates t ds }
-    ensures cause { (limit : ℕ) (e : Entry) (files : List File) (ds : List Decl) (f : Fault) → ReadsAt limit files (Ok ds) → (p : FaultOf limit e ds f) → f.code ≡ T04 → HasCause p.tests ds f }
+    ensures evaluates { (t : Tests) → IsRight t → (files : List File) (ds : List Decl) → AreJudged t.limit files ds → names_rule [] (all_declared ds) ≡ Ok tt → Evaluates t ds }
+    ensures cause { (limit : ℕ) (e : Entry) (files : List File) (ds : List ReadDecl) (f : Fault) → ReadsAt limit files (Ok ds) → (p : ReadFault limit e ds f) → f.code ≡ T04 → HasCause p.tests (default_decls ds) f ⊎ HasCause p.tests (final_decls ds) f }
     ensures reading_codes { (limit : ℕ) (files : List File) (f : Fault) → ReadsAt limit files (Err f) → HasReadingCode f }
-    ensures codes { (limit : ℕ) (e : Entry) (files : List File) (ds : List Decl) (f : Fault) → ReadsAt limit files (Ok ds) → FaultOf limit e ds f → HasRuleCode f }
+    ensures codes { (limit : ℕ) (e : Entry) (files : List File) (ds : List ReadDecl) (f : Fault) → ReadsAt limit files (Ok ds) → ReadFault limit e ds f → HasRuleCode f }
     ensures report { (t u : Tests) → IsRight t → IsRight u → t.limit ≡ u.limit → (limit : ℕ) (read other : Reader) → IsReadingAt limit read → IsReadingAt limit other → (command : Command) (held : Text → Text) → report_of t read command held ≡ report_of u other command held }
+{}
+
+/// What is read is written out, and bodies are replaced, before anything is judged. A program is accepted exactly if no body that replaces
+/// another has a fault, and both programs that come of it are well formed, written out: the one with the bodies that may be replaced, and
+/// the one with those that replace them (`accepted`). Else it has their first fault, in this order (`fault`). Its runs and calls are those of
+/// the second, and the number of its declarations is that of all that were read (`reports`).
+#[tactic(auto)]
+pub fn written_law()
+    ensures accepted { (limit : ℕ) (e : Entry) (ds : List ReadDecl) (a : Accepted) → ReadOk limit e ds a ↔ BothOk limit e ds a }
+    ensures fault { (limit : ℕ) → limit ≤ heaviest → (e : Entry) (ds : List ReadDecl) (f : Fault) → ReadFault limit e ds f ↔ FirstFault limit e ds f }
+    ensures reports { (t : Tests) (files : List File) (ds : List ReadDecl) → ReportsFinal t files ds }
+{}
+
+/// A program without accessors, and without bodies that replace others, is itself: both programs that come of it are it (`first`, `last`), so
+/// what is said of it as it is read is what the rules say of it (`same`).
+#[tactic(auto)]
+pub fn plain_law()
+    ensures first { (ds : List Decl) → default_decls (as_read ds) ≡ ds }
+    ensures last { (ds : List Decl) → final_decls (as_read ds) ≡ ds }
+    ensures same { (e : Entry) (ds : List Decl) (t : Tests) → read_verdict e (as_read ds) t ≡ verdict e ds t }
+{}
+
+/// Made names need no scope of their own. No token of a text is spelled like one, so no text names what they stand for (`unwritten`). Two of
+/// them are the same only if they are the names of one value, or of the place, of statements that begin at the same byte (`apart`).
+#[tactic(auto)]
+pub fn made_law()
+    ensures unwritten { (limit : ℕ) (file : ℕ) (text : List ℕ) (ts : List Token) → Tokens limit file text ts → NoneMade text ts }
+    ensures apart { (at : Span) (bt : Span) → at.start < 2 ^ 64 → bt.start < 2 ^ 64 → MadeApart at bt }
 {}
 
 /// Soundness: no run of a well-formed program is stuck. Each state that it visits is sound, each node that it visits was judged, with
@@ -98,7 +134,7 @@ pub fn law2()
 /// node may, and leaves the state as it was; so does an end of a constraint (`width_values`).
 #[tactic(auto)]
 pub fn law3()
-    ensures { (limit : ℕ) (e : Entry) (files : List File) (ds : List Decl) (a : Accepted) → ReadsAt limit files (Ok ds) → (p : ProgramOk limit e ds a) → Soundness p.tests ds a × SameMeaning p.tests ds a }
+    ensures { (limit : ℕ) (e : Entry) (files : List File) (ds : List Decl) (a : Accepted) → AreJudged limit files ds → (p : ProgramOk limit e ds a) → Soundness p.tests ds a × SameMeaning p.tests ds a }
 {}
 
 /// Law 5. The width limit decides nothing but what is too wide. Files that have a derivation have the same one under each wider limit up
@@ -124,8 +160,8 @@ pub fn law5()
 /// statement leaves such a scope, and the lists of a loop and of a catcher are judged in such a scope (`kept`).
 #[tactic(auto, using(asl_rules::proofs::values::KindsByNames::kinds_by_names))]
 pub fn kinds_law()
-    ensures declared { (limit : ℕ) (e : Entry) (files : List File) (ds : List Decl) (a : Accepted) → ReadsAt limit files (Ok ds) → (p : ProgramOk limit e ds a) → WellDeclared (types_in a.names) }
-    ensures agree { (t : Tests) → IsRight t → (files : List File) (ds : List Decl) → ReadsAt t.limit files (Ok ds) → names_rule [] (all_declared ds) ≡ Ok tt → DeclarationsAgree t ds }
+    ensures declared { (limit : ℕ) (e : Entry) (files : List File) (ds : List Decl) (a : Accepted) → AreJudged limit files ds → (p : ProgramOk limit e ds a) → WellDeclared (types_in a.names) }
+    ensures agree { (t : Tests) → IsRight t → (files : List File) (ds : List Decl) → AreJudged t.limit files ds → names_rule [] (all_declared ds) ≡ Ok tt → DeclarationsAgree t ds }
     ensures types { (t : Tests) → IsRight t → (declared : List ℕ → Option Ty) → WellDeclared declared → (G : Scope) → ScopeFormed declared G → TypesFormed t declared G }
     ensures kept { (t : Tests) → IsRight t → (declared : List ℕ → Option Ty) → WellDeclared declared → KeepsFormed t declared }
     ensures kinds { (declared : List ℕ → Option Ty) → WellDeclared declared → (S T : Ty) → Shaped declared S → Shaped declared T → same_kind S T ≡ kind_eq (kind S) (kind T) }
@@ -155,7 +191,7 @@ pub fn scopes_law()
 /// its type.
 #[tactic(auto)]
 pub fn environment_law()
-    ensures described { (limit : ℕ) (e : Entry) (files : List File) (ds : List Decl) (a : Accepted) → ReadsAt limit files (Ok ds) → (p : ProgramOk limit e ds a) → Describes (environment p.tests ds) }
+    ensures described { (limit : ℕ) (e : Entry) (files : List File) (ds : List Decl) (a : Accepted) → AreJudged limit files ds → (p : ProgramOk limit e ds a) → Describes (environment p.tests ds) }
 {}
 
 /// No report is put together from a stuck run (`never_stuck`). Where files are read to declarations that are accepted with the entry
@@ -163,7 +199,7 @@ pub fn environment_law()
 /// accepted with the entries that these need, neither are the calls of `decode` and `decode16`, which `exec` reports.
 #[tactic(auto)]
 pub fn run_law()
-    ensures never_stuck { (t : Tests) → IsRight t → (files : List File) (ds : List Decl) → ReadsAt t.limit files (Ok ds) → RunsWell t ds }
+    ensures never_stuck { (t : Tests) → IsRight t → (files : List File) (ds : List Decl) → AreJudged t.limit files ds → RunsWell t ds }
 {}
 
 /// Each node that a call visits, an expression or a statement, was judged, with the program's own subprograms and in the body of the one
@@ -174,7 +210,7 @@ pub fn run_law()
 /// that is assigned; and the values that a construction gives to its fields (`same`).
 #[tactic(auto)]
 pub fn visit_law()
-    ensures same { (limit : ℕ) (e : Entry) (files : List File) (ds : List Decl) (a : Accepted) → ReadsAt limit files (Ok ds) → (p : ProgramOk limit e ds a) → (id : ℕ) (args : List Value) (globals : List Binding) (h : Meter) → IsCall a id args globals → AllSame p.tests ds a (visits_of (environment p.tests ds) id args globals h) }
+    ensures same { (limit : ℕ) (e : Entry) (files : List File) (ds : List Decl) (a : Accepted) → AreJudged limit files ds → (p : ProgramOk limit e ds a) → (id : ℕ) (args : List Value) (globals : List Binding) (h : Meter) → IsCall a id args globals → AllSame p.tests ds a (visits_of (environment p.tests ds) id args globals h) }
 {}
 
 /// The number of steps decides nothing but whether a run ends for want of steps. With k steps more a call from outside has the same

@@ -7,7 +7,7 @@ ghost use Rattle.asl_grammar.specs.lexemes.Marks.{mark_spelling, mark_of};
 use asl_syn::token::{Mark, Word};
 
 /// All words.
-const WORDS: [Word; 67] = [
+const WORDS: [Word; 69] = [
     Word::BitAnd,
     Word::Div,
     Word::DivRm,
@@ -65,20 +65,22 @@ const WORDS: [Word; 67] = [
     Word::When,
     Word::Where,
     Word::While,
+    Word::Accessor,
+    Word::ImpDef,
+    Word::Implementation,
     Word::Real,
     Word::StringWord,
     Word::Collection,
     Word::Pragma,
     Word::NoReturn,
     Word::Arbitrary,
-    Word::Accessor,
-    Word::ImpDef,
-    Word::Implementation,
     Word::Config,
+    Word::Getter,
+    Word::Setter,
 ];
 
 /// All marks.
-const MARKS: [Mark; 34] = [
+const MARKS: [Mark; 35] = [
     Mark::OpenParen,
     Mark::CloseParen,
     Mark::OpenBracket,
@@ -113,6 +115,7 @@ const MARKS: [Mark; 34] = [
     Mark::StarColon,
     Mark::Caret,
     Mark::Slash,
+    Mark::Access,
 ];
 
 /// How a word is spelled.
@@ -177,16 +180,18 @@ fn word_spelling(word: Word) -> &'static [u8]
         Word::When => b"when",
         Word::Where => b"where",
         Word::While => b"while",
+        Word::Accessor => b"accessor",
+        Word::ImpDef => b"impdef",
+        Word::Implementation => b"implementation",
         Word::Real => b"real",
         Word::StringWord => b"string",
         Word::Collection => b"collection",
         Word::Pragma => b"pragma",
         Word::NoReturn => b"noreturn",
         Word::Arbitrary => b"ARBITRARY",
-        Word::Accessor => b"accessor",
-        Word::ImpDef => b"impdef",
-        Word::Implementation => b"implementation",
         Word::Config => b"config",
+        Word::Getter => b"getter",
+        Word::Setter => b"setter",
     }
 }
 
@@ -229,6 +234,7 @@ fn mark_spelling(mark: Mark) -> &'static [u8]
         Mark::StarColon => b"*:",
         Mark::Caret => b"^",
         Mark::Slash => b"/",
+        Mark::Access => b"<=>",
     }
 }
 

@@ -3,7 +3,7 @@ use Rattle.std.proofs.Common.{◌≡◌, ◌≢◌, ℕ, zero, suc, ◌-◌, Boo
 use Rattle.std.proofs.lemmas.List.{length-map}
 use Rattle.asl_syn.specs.declared.token.Token.{Token}
 use Rattle.asl_syn.specs.declared.token.Span.{Span}
-use Rattle.asl_syn.specs.declared.tree.Decl.{Decl}
+use Rattle.asl_syn.specs.declared.read.ReadDecl.{ReadDecl}
 use Rattle.asl_syn.specs.declared.code.Fault.{Fault}
 use Rattle.asl_syn.specs.declared.code.Refused.{Refused}
 use Rattle.asl_syn.specs.declared.code.Refused.TheVariants.{At, NoMemory}
@@ -56,32 +56,32 @@ no_fault f h = cc
 
 -- ---- the outcome for all tokens
 
-abbrev pub read : List ℕ → List Token → Outcome (List Decl)
+abbrev pub read : List ℕ → List Token → Outcome (List ReadDecl)
 read bytes toks = parse Sym Val rule (suc max_levels) Program (start max_levels (lexemes bytes toks))
 
-abbrev ended : Outcome (List Decl) → Outcome (List Decl)
+abbrev ended : Outcome (List ReadDecl) → Outcome (List ReadDecl)
 ended o = bind o (λ v end. finish v end end.toks)
 
-pub failed : (bytes : List ℕ) (toks : List Token) (r : Result (List Decl) ParseError) (e : ParseError) → (e ≢ OutOfMemory → read bytes toks ≡ Err e) → IsErrAnd r (λ x. x ≡ e) → IsOutcome (outcome max_levels (lexemes bytes toks)) r
+pub failed : (bytes : List ℕ) (toks : List Token) (r : Result (List ReadDecl) ParseError) (e : ParseError) → (e ≢ OutOfMemory → read bytes toks ≡ Err e) → IsErrAnd r (λ x. x ≡ e) → IsOutcome (outcome max_levels (lexemes bytes toks)) r
 failed bytes toks (Ok a) e h same = absurd same
 failed bytes toks (Err x) e h same = λ no. ap ended (h (λ is. no (same ∙ is))) ∙ ap Err (sym same)
 
-none_left : (v : List Decl) (end : Cursor) (ts : List Lexeme) → length ts ≡ 0 → finish v end ts ≡ Ok (v, end)
+none_left : (v : List ReadDecl) (end : Cursor) (ts : List Lexeme) → length ts ≡ 0 → finish v end ts ≡ Ok (v, end)
 none_left v end [] l = refl
 none_left v end (t ∷ ts) l = absurd cc
 
-pub finished : (bytes : List ℕ) (toks : List Token) (v : List Decl) (end : Cursor) → read bytes toks ≡ Ok (v, end) → length end.toks ≡ 0 → IsOutcome (outcome max_levels (lexemes bytes toks)) (Ok v)
+pub finished : (bytes : List ℕ) (toks : List Token) (v : List ReadDecl) (end : Cursor) → read bytes toks ≡ Ok (v, end) → length end.toks ≡ 0 → IsOutcome (outcome max_levels (lexemes bytes toks)) (Ok v)
 finished bytes toks v end h l = (end, ap ended h ∙ none_left v end end.toks l)
 
-some_left : (v : List Decl) (end : Cursor) (ts : List Lexeme) → (length ts ≡ 0 → ⊥) → finish v end ts ≡ Err (Syntax (length ts))
+some_left : (v : List ReadDecl) (end : Cursor) (ts : List Lexeme) → (length ts ≡ 0 → ⊥) → finish v end ts ≡ Err (Syntax (length ts))
 some_left v end [] l = absurd (l refl)
 some_left v end (t ∷ ts) l = refl
 
-pub unfinished : (bytes : List ℕ) (toks : List Token) (v : List Decl) (end : Cursor) (n : ℕ) → read bytes toks ≡ Ok (v, end) → n ≡ length end.toks → (n ≡ 0 → ⊥) → IsOutcome (outcome max_levels (lexemes bytes toks)) (Err (Syntax n))
+pub unfinished : (bytes : List ℕ) (toks : List Token) (v : List ReadDecl) (end : Cursor) (n : ℕ) → read bytes toks ≡ Ok (v, end) → n ≡ length end.toks → (n ≡ 0 → ⊥) → IsOutcome (outcome max_levels (lexemes bytes toks)) (Err (Syntax n))
 unfinished bytes toks v end n h l more = λ no. ap ended h ∙ some_left v end end.toks (λ z. more (l ∙ z)) ∙ ap (λ k. Err (Syntax k)) (sym l)
 
-pub tree_is : (bytes : List ℕ) (toks : List Token) (v : List Decl) → IsOutcome (outcome max_levels (lexemes bytes toks)) (Ok v) → Parses bytes toks v
+pub tree_is : (bytes : List ℕ) (toks : List Token) (v : List ReadDecl) → IsOutcome (outcome max_levels (lexemes bytes toks)) (Ok v) → Parses bytes toks v
 tree_is bytes toks v (end, h) = parsed_tree Sym Val rule after each covered Program max_levels (lexemes bytes toks) v end h
 
-pub given_back : (x : Refused) (f : Fault) → (let r : Result (List Decl) Refused = Err x in r) ≡ Err (At f) → x ≡ At f
+pub given_back : (x : Refused) (f : Fault) → (let r : Result (List ReadDecl) Refused = Err x in r) ≡ Err (At f) → x ≡ At f
 given_back x f h = cc

@@ -6,7 +6,7 @@ use Rattle.std.proofs.Math.Seq.{drop-cons}
 use Rattle.std.specs.Prelude.{IsErrAnd}
 use Rattle.asl_syn.specs.declared.place.Source.{Source}
 use Rattle.asl_syn.specs.declared.token.Token.{Token}
-use Rattle.asl_syn.specs.declared.tree.Decl.{Decl}
+use Rattle.asl_syn.specs.declared.read.ReadDecl.{ReadDecl}
 use Rattle.asl_syn.specs.declared.code.Fault.{Fault}
 use Rattle.asl_syn.specs.declared.code.Refused.{Refused}
 use Rattle.asl_syn.specs.declared.code.Refused.TheVariants.{At}
@@ -14,7 +14,7 @@ use Rattle.asl_grammar.specs.grammar.Faults.{Parses, SyntaxFault}
 use Rattle.asl_grammar.specs.lexemes.Refusals.{max_width}
 use Rattle.asl_grammar.specs.Reading.{Text, File, text_of, file_of, HasTrees, FirstSyntaxFault, Parsed, Reads}
 
-pub one_more : (texts : List Text) (tss : List (List Token)) (ds : List Decl) (text : Text) (ts : List Token) (v : List Decl) →
+pub one_more : (texts : List Text) (tss : List (List Token)) (ds : List ReadDecl) (text : Text) (ts : List Token) (v : List ReadDecl) →
     HasTrees texts tss ds → Parses text ts v → HasTrees (texts ++ text ∷ []) (tss ++ ts ∷ []) (ds ++ v)
 one_more [] [] ds text ts v none p = (v, [], p, refl, ap (λ z. z ++ v) none ∙ sym (append-nil v))
 one_more [] (us ∷ tss) ds text ts v a p = absurd a
@@ -22,7 +22,7 @@ one_more (x ∷ texts) [] ds text ts v a p = absurd a
 one_more (x ∷ texts) (us ∷ tss) ds text ts v (w, ws, q, r, e) p =
     (w, ws ++ v, q, one_more texts tss ws text ts v r p, ap (λ z. z ++ v) e ∙ append_assoc w ws v)
 
-pub fault_behind : (n : ℕ) (texts others : List Text) (tss uss : List (List Token)) (ds : List Decl) (text : Text) (ts : List Token) (f : Fault) →
+pub fault_behind : (n : ℕ) (texts others : List Text) (tss uss : List (List Token)) (ds : List ReadDecl) (text : Text) (ts : List Token) (f : Fault) →
     HasTrees texts tss ds → SyntaxFault (n + length texts) text ts f → FirstSyntaxFault n (texts ++ text ∷ others) (tss ++ ts ∷ uss) f
 fault_behind n [] others [] uss ds text ts f a s = let e : n + 0 ≡ n = add-zero n in inl (subst (λ z. SyntaxFault z text ts f) e s)
 fault_behind n [] others (us ∷ tss) uss ds text ts f a s = absurd a
@@ -39,10 +39,10 @@ cut xs i x within is =
 more : {A : Type 0} (xs : List A) (i : ℕ) (x : A) → i < length xs → get_or xs i x ≡ x → take (i + 1) xs ≡ take i xs ++ x ∷ []
 more xs i x within is = take_more xs i x within ∙ ap (λ b. take i xs ++ b ∷ []) is
 
-module _ (texts : List Text) (tss : List (List Token)) (i : ℕ) (text : Text) (ts : List Token) (ds : List Decl)
+module _ (texts : List Text) (tss : List (List Token)) (i : ℕ) (text : Text) (ts : List Token) (ds : List ReadDecl)
     (within : i < length texts) (within_tokens : i < length tss) (is : get_or texts i text ≡ text) (are : get_or tss i ts ≡ ts)
     (before : HasTrees (take i texts) (take i tss) ds) where
-  pub next : (v : List Decl) → Parses text ts v → HasTrees (take (i + 1) texts) (take (i + 1) tss) (ds ++ v)
+  pub next : (v : List ReadDecl) → Parses text ts v → HasTrees (take (i + 1) texts) (take (i + 1) tss) (ds ++ v)
   next v p =
       subst (λ z. HasTrees z (take (i + 1) tss) (ds ++ v)) (sym (more texts i text within is))
       (subst (λ z. HasTrees (take i texts ++ text ∷ []) z (ds ++ v)) (sym (more tss i ts within_tokens are))
@@ -73,5 +73,5 @@ texts_are : (files : List Source) → map text_of files ≡ map (λ (f : File). 
 texts_are [] = refl
 texts_are (s ∷ files) = ap (λ ts. text_of s ∷ ts) (texts_are files)
 
-pub read_to : (files : List Source) (r : Result (List Decl) Fault) → Parsed max_width (map text_of files) r → Reads (map file_of files) r
+pub read_to : (files : List Source) (r : Result (List ReadDecl) Fault) → Parsed max_width (map text_of files) r → Reads (map file_of files) r
 read_to files r p = subst (λ texts. Parsed max_width texts r) (texts_are files) p

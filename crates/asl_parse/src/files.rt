@@ -9,8 +9,8 @@ use crate::tree::tree_of;
 use asl_lex::tokens::tokens_of_all;
 use asl_syn::code::Refused;
 use asl_syn::place::{MAX_BYTES, Source};
+use asl_syn::read::{ReadDecl, ReadProgram};
 use asl_syn::token::Token;
-use asl_syn::tree::{Decl, Program};
 use sqlite_items::Items;
 use std::alloc::Global;
 
@@ -19,7 +19,7 @@ fn trees_of_all(
     alloc: Global,
     files: &[Source],
     tokens: &[Vec<Token>],
-) -> Result<Items<Decl>, Refused>
+) -> Result<Items<ReadDecl>, Refused>
     requires few { length files.now ≤ 64 }
     requires small { All (λ s. vec_len s.bytes ≤ MAX_BYTES) files.now }
     requires same { length tokens.now ≡ length files.now }
@@ -41,7 +41,7 @@ fn trees_of_all(
 
 /// The declarations of the files, in the order of the files and of the declarations in them, where each text is good. Else
 /// the one fault: of the lexemes of the first file that has one, or else the syntax fault of the first file that has one.
-pub fn parse(alloc: Global, files: &[Source]) -> Result<Program, Refused>
+pub fn parse(alloc: Global, files: &[Source]) -> Result<ReadProgram, Refused>
     requires few { length files.now ≤ 64 }
     requires small { All (λ s. vec_len s.bytes ≤ MAX_BYTES) files.now }
     ensures program { IfOk result (λ p. Reads (map file_of files.now) (TheOk p.decls)) }
@@ -49,5 +49,5 @@ pub fn parse(alloc: Global, files: &[Source]) -> Result<Program, Refused>
 {
     let tokens = tokens_of_all(alloc, files)?;
     let decls = trees_of_all(alloc, files, tokens.as_slice())?;
-    Ok(Program { decls })
+    Ok(ReadProgram { decls })
 }

@@ -15,8 +15,8 @@ use asl_parse_expr::tokens::Tokens;
 use asl_parse_stmt::declarations::program;
 use asl_syn::code::{Fault, Refused, StaticCode};
 use asl_syn::place::MAX_BYTES;
+use asl_syn::read::ReadDecl;
 use asl_syn::token::{Span, Token};
-use asl_syn::tree::Decl;
 use sqlite_items::Items;
 use std::alloc::Global;
 
@@ -24,7 +24,7 @@ use std::alloc::Global;
 const MAX_LEVELS: usize = 100;
 
 /// Reads all tokens of a file.
-fn outcome_of(alloc: Global, bytes: &[u8], toks: &[Token]) -> Result<Items<Decl>, ParseError>
+fn outcome_of(alloc: Global, bytes: &[u8], toks: &[Token]) -> Result<Items<ReadDecl>, ParseError>
     ensures { IsOutcome (outcome max_levels (lexemes bytes.now toks.now)) result }
 {
     let mut tokens = Tokens {
@@ -147,7 +147,7 @@ pub fn tree_of(
     file: u32,
     bytes: &[u8],
     toks: &[Token],
-) -> Result<Items<Decl>, Refused>
+) -> Result<Items<ReadDecl>, Refused>
     requires { length bytes.now ≤ MAX_BYTES }
     ensures tree { IfOk result (λ v. Parses bytes.now toks.now v) }
     ensures fault { (f : TheFault) → result ≡ Err (At f) → SyntaxFault file bytes.now toks.now f }

@@ -59,11 +59,11 @@ pub links_by_is : (d : ℕ) (operator : Kind) (from : Span) (left : Expr) (st : 
 unfolding links_by then
 links_by_is d operator from left st = chain_is d equality (operator ∷ []) from left st
 
-pub type_expression_is : (d : ℕ) (st : Cursor) → reading d type_expression st ≡ pick (starts (kind.Integer ∷ []) st.toks) (reading d integer_type st) (pick (starts (kind.Boolean ∷ []) st.toks) (reading d boolean_type st) (pick (starts (kind.Bit ∷ []) st.toks) (reading d bit_type st) (pick (starts (kind.Name ∷ []) st.toks) (reading d named_type st) (pick (starts (kind.Bits ∷ []) st.toks) (reading d bits_type st) (pick (starts (kind.OpenParen ∷ []) st.toks) (reading d tuple_type st) (reading d array_type st))))))
+pub type_expression_is : (d : ℕ) (st : Cursor) → reading d type_expression st ≡ pick (starts (kind.Integer ∷ []) st.toks) (reading d integer_type st) (pick (starts (kind.Boolean ∷ []) st.toks) (reading d boolean_type st) (pick (starts (kind.Bit ∷ []) st.toks) (reading d bit_type st) (pick (starts (kind.Name ∷ kind.Getter ∷ kind.Setter ∷ []) st.toks) (reading d named_type st) (pick (starts (kind.Bits ∷ []) st.toks) (reading d bits_type st) (pick (starts (kind.OpenParen ∷ []) st.toks) (reading d tuple_type st) (reading d array_type st))))))
 unfolding type_expression integer_type boolean_type bit_type named_type bits_type tuple_type
 type_expression_is d st = refl
 
-pub as_type_is : (d : ℕ) (st : Cursor) → reading d as_type st ≡ pick (starts (kind.Integer ∷ kind.Boolean ∷ kind.Bit ∷ kind.Name ∷ kind.Bits ∷ kind.OpenParen ∷ kind.Array ∷ []) st.toks) (reading d type_expression st) (reading d constraint_type st)
+pub as_type_is : (d : ℕ) (st : Cursor) → reading d as_type st ≡ pick (starts (kind.Integer ∷ kind.Boolean ∷ kind.Bit ∷ kind.Name ∷ kind.Getter ∷ kind.Setter ∷ kind.Bits ∷ kind.OpenParen ∷ kind.Array ∷ []) st.toks) (reading d type_expression st) (reading d constraint_type st)
 unfolding as_type type_expression integer_type boolean_type bit_type named_type bits_type tuple_type array_type
 as_type_is d st = refl
 
@@ -79,11 +79,11 @@ pub more_expressions_is : (d : ℕ) (found : List (Expr)) (st : Cursor) → then
 unfolding more_expressions then behind
 more_expressions_is d found st = more_are d expression found st
 
-pub maybe_expressions_is : (d : ℕ) (st : Cursor) → reading d maybe_expressions st ≡ pick (starts (kind.If ∷ kind.Minus ∷ kind.Bang ∷ kind.Not ∷ kind.IntegerLiteral ∷ kind.BitsLiteral ∷ kind.True ∷ kind.False ∷ kind.OpenParen ∷ kind.Name ∷ []) st.toks) (bind (reading d expressions st) (λ x m. Ok ((or_nil (Some x)), m))) (Ok ((or_nil None), st))
+pub maybe_expressions_is : (d : ℕ) (st : Cursor) → reading d maybe_expressions st ≡ pick (starts (kind.If ∷ kind.Minus ∷ kind.Bang ∷ kind.Not ∷ kind.IntegerLiteral ∷ kind.BitsLiteral ∷ kind.True ∷ kind.False ∷ kind.OpenParen ∷ kind.Name ∷ kind.Getter ∷ kind.Setter ∷ []) st.toks) (bind (reading d expressions st) (λ x m. Ok ((or_nil (Some x)), m))) (Ok ((or_nil None), st))
 unfolding maybe_expressions expressions expression open_expression conditional as_chain logic equality comparison sum product power unary prefixed_by post_literal literal integer_literal bits_literal boolean_literal post_parenthesized parenthesized post_named named name
 maybe_expressions_is d st = optional_as d expressions st (λ x end. Ok ((or_nil) x, end)) (bind (reading d expressions st) (λ x m. Ok ((or_nil (Some x)), m))) (refl)
 
-pub maybe_expression_is : (d : ℕ) (st : Cursor) → reading d maybe_expression st ≡ pick (starts (kind.If ∷ kind.Minus ∷ kind.Bang ∷ kind.Not ∷ kind.IntegerLiteral ∷ kind.BitsLiteral ∷ kind.True ∷ kind.False ∷ kind.OpenParen ∷ kind.Name ∷ []) st.toks) (bind (reading d expression st) (λ x m. Ok ((Some x), m))) (Ok (None, st))
+pub maybe_expression_is : (d : ℕ) (st : Cursor) → reading d maybe_expression st ≡ pick (starts (kind.If ∷ kind.Minus ∷ kind.Bang ∷ kind.Not ∷ kind.IntegerLiteral ∷ kind.BitsLiteral ∷ kind.True ∷ kind.False ∷ kind.OpenParen ∷ kind.Name ∷ kind.Getter ∷ kind.Setter ∷ []) st.toks) (bind (reading d expression st) (λ x m. Ok ((Some x), m))) (Ok (None, st))
 unfolding maybe_expression expression open_expression conditional as_chain logic equality comparison sum product power unary prefixed_by post_literal literal integer_literal bits_literal boolean_literal post_parenthesized parenthesized post_named named name
 maybe_expression_is d st = optional_plain d expression st (bind (reading d expression st) (λ x m. Ok ((Some x), m))) (refl)
 
@@ -95,7 +95,7 @@ pub more_field_values_is : (d : ℕ) (found : List (FieldValue)) (st : Cursor) �
 unfolding more_field_values then behind
 more_field_values_is d found st = more_are d field_value found st
 
-pub braced_in_is : (d : ℕ) (st : Cursor) → reading d braced_in st ≡ pick (starts (kind.CloseBrace ∷ []) st.toks) (reading d empty_braces st) (pick (starts (kind.Minus ∷ []) st.toks) (reading d minus_in_braces st) (pick (starts (kind.Name ∷ []) st.toks) (reading d name_in_braces st) (reading d other_in_braces st)))
+pub braced_in_is : (d : ℕ) (st : Cursor) → reading d braced_in st ≡ pick (starts (kind.CloseBrace ∷ []) st.toks) (reading d empty_braces st) (pick (starts (kind.Minus ∷ []) st.toks) (reading d minus_in_braces st) (pick (starts (kind.Name ∷ kind.Getter ∷ kind.Setter ∷ []) st.toks) (reading d name_in_braces st) (reading d other_in_braces st)))
 unfolding braced_in empty_braces minus_in_braces name_in_braces name
 braced_in_is d st = refl
 

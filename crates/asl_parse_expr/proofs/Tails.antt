@@ -182,7 +182,7 @@ post_rest_is d from left st = bind_bind (reading d suffixes st) _ _ ∙ fold_fir
 
 -- ---- behind a prefix operator or a name that was read
 
-late_first : {A : Type 0} (p : Rule A) → first (seq (spanned unary) p) ≡ kind.Minus ∷ kind.Bang ∷ kind.Not ∷ kind.IntegerLiteral ∷ kind.BitsLiteral ∷ kind.True ∷ kind.False ∷ kind.OpenParen ∷ kind.Name ∷ []
+late_first : {A : Type 0} (p : Rule A) → first (seq (spanned unary) p) ≡ kind.Minus ∷ kind.Bang ∷ kind.Not ∷ kind.IntegerLiteral ∷ kind.BitsLiteral ∷ kind.True ∷ kind.False ∷ kind.OpenParen ∷ kind.Name ∷ kind.Getter ∷ kind.Setter ∷ []
 unfolding unary prefixed_by post_literal post_parenthesized post_named literal integer_literal bits_literal boolean_literal parenthesized named name
 late_first p = refl
 
@@ -199,24 +199,24 @@ abbrev late_go : {A : Type 0} → ℕ → Rule A → (Expr × Extent → A → E
 late_go d p f left u m = bind (reading d unary m) (λ e m1. bind (then (f (e, extent m.toks m1.last)) (reading d p m1)) (λ x end. Ok (x, record end { left = left })))
 
 late_folded : {A : Type 0} (d : ℕ) (p : Rule A) (f : Expr × Extent → A → Expr) (st : Cursor) → then {A = (Expr × Extent) × A} (λ r. f r.0 r.1) (reading d (scope (costs true (seq (spanned unary) p))) st)
-    ≡ bind (charge (kind.Minus ∷ kind.Bang ∷ kind.Not ∷ kind.IntegerLiteral ∷ kind.BitsLiteral ∷ kind.True ∷ kind.False ∷ kind.OpenParen ∷ kind.Name ∷ []) true st) (late_go d p f st.left)
+    ≡ bind (charge (kind.Minus ∷ kind.Bang ∷ kind.Not ∷ kind.IntegerLiteral ∷ kind.BitsLiteral ∷ kind.True ∷ kind.False ∷ kind.OpenParen ∷ kind.Name ∷ kind.Getter ∷ kind.Setter ∷ []) true st) (late_go d p f st.left)
 late_folded {A} d p f st = late_straight d p (λ r. f r.0 r.1) st
     ∙ ap (λ cs. bind (charge cs true st) (λ u m. bind (reading d unary m) (λ e m1. bind (reading d p m1) (λ r end. Ok (f (e, extent m.toks m1.last) r, record end { left = st.left }))))) (late_first p)
-    ∙ bind_same (charge (kind.Minus ∷ kind.Bang ∷ kind.Not ∷ kind.IntegerLiteral ∷ kind.BitsLiteral ∷ kind.True ∷ kind.False ∷ kind.OpenParen ∷ kind.Name ∷ []) true st) _ (late_go d p f st.left)
+    ∙ bind_same (charge (kind.Minus ∷ kind.Bang ∷ kind.Not ∷ kind.IntegerLiteral ∷ kind.BitsLiteral ∷ kind.True ∷ kind.False ∷ kind.OpenParen ∷ kind.Name ∷ kind.Getter ∷ kind.Setter ∷ []) true st) _ (late_go d p f st.left)
     (λ u m. bind_same (reading d unary m) _ _ (λ e m1. fold_first (reading d p m1) (f (e, extent m.toks m1.last)) _ (λ x end. Ok (x, record end { left = st.left })) (λ r end. refl)))
 
 pub late_expression_is : (d : ℕ) (from : Span) (operator : UnaryOperator) (st : Cursor) → then (late_of from operator) (reading d late_expression st)
-    ≡ bind (charge (kind.Minus ∷ kind.Bang ∷ kind.Not ∷ kind.IntegerLiteral ∷ kind.BitsLiteral ∷ kind.True ∷ kind.False ∷ kind.OpenParen ∷ kind.Name ∷ []) true st) (λ u m. bind (reading d unary m) (λ e m1. bind (then (finished from (prefixed_at from operator (e, extent m.toks m1.last))) (reading d rest m1)) (λ x end. Ok (x, record end { left = st.left }))))
+    ≡ bind (charge (kind.Minus ∷ kind.Bang ∷ kind.Not ∷ kind.IntegerLiteral ∷ kind.BitsLiteral ∷ kind.True ∷ kind.False ∷ kind.OpenParen ∷ kind.Name ∷ kind.Getter ∷ kind.Setter ∷ []) true st) (λ u m. bind (reading d unary m) (λ e m1. bind (then (finished from (prefixed_at from operator (e, extent m.toks m1.last))) (reading d rest m1)) (λ x end. Ok (x, record end { left = st.left }))))
 unfolding late_expression
 late_expression_is d from operator st = late_folded d rest (λ x r. finished from (prefixed_at from operator x) r) st
 
 pub late_sum_is : (d : ℕ) (from : Span) (operator : UnaryOperator) (st : Cursor) → then (late_sum_of from operator) (reading d late_sum st)
-    ≡ bind (charge (kind.Minus ∷ kind.Bang ∷ kind.Not ∷ kind.IntegerLiteral ∷ kind.BitsLiteral ∷ kind.True ∷ kind.False ∷ kind.OpenParen ∷ kind.Name ∷ []) true st) (λ u m. bind (reading d unary m) (λ e m1. bind (then (chained from (prefixed_at from operator (e, extent m.toks m1.last))) (reading d sum_rests m1)) (λ x end. Ok (x, record end { left = st.left }))))
+    ≡ bind (charge (kind.Minus ∷ kind.Bang ∷ kind.Not ∷ kind.IntegerLiteral ∷ kind.BitsLiteral ∷ kind.True ∷ kind.False ∷ kind.OpenParen ∷ kind.Name ∷ kind.Getter ∷ kind.Setter ∷ []) true st) (λ u m. bind (reading d unary m) (λ e m1. bind (then (chained from (prefixed_at from operator (e, extent m.toks m1.last))) (reading d sum_rests m1)) (λ x end. Ok (x, record end { left = st.left }))))
 unfolding late_sum
 late_sum_is d from operator st = late_folded d sum_rests (λ x r. chained from (prefixed_at from operator x) r) st
 
 -- behind its operand
-pub late_sum_rest : (d : ℕ) (from : Span) (operator : UnaryOperator) (st m m1 : Cursor) (operand : Expr) → charge (kind.Minus ∷ kind.Bang ∷ kind.Not ∷ kind.IntegerLiteral ∷ kind.BitsLiteral ∷ kind.True ∷ kind.False ∷ kind.OpenParen ∷ kind.Name ∷ []) true st ≡ Ok (tt, m) → reading d unary m ≡ Ok (operand, m1)
+pub late_sum_rest : (d : ℕ) (from : Span) (operator : UnaryOperator) (st m m1 : Cursor) (operand : Expr) → charge (kind.Minus ∷ kind.Bang ∷ kind.Not ∷ kind.IntegerLiteral ∷ kind.BitsLiteral ∷ kind.True ∷ kind.False ∷ kind.OpenParen ∷ kind.Name ∷ kind.Getter ∷ kind.Setter ∷ []) true st ≡ Ok (tt, m) → reading d unary m ≡ Ok (operand, m1)
     → then (late_sum_of from operator) (reading d late_sum st) ≡ bind (then (chained from (ex.Unary (span_to from m1.last) operator operand)) (reading d sum_rests m1)) (λ x end. Ok (x, record end { left = st.left }))
 late_sum_rest d from operator st m m1 operand h k = let e = late_sum_is d from operator st in rw (e, h, k) refl
 
@@ -292,11 +292,11 @@ unfolding minus_pattern
 minus_straight d st = simp bind_bind
 
 late_range_at : (d : ℕ) (from : Span) (st : Cursor) → bind (reading d maybe_late_range st) (λ x end. Ok (minus_pattern_of from (span_to from end.last) x, end))
-    ≡ pick (starts (kind.Minus ∷ kind.Bang ∷ kind.Not ∷ kind.IntegerLiteral ∷ kind.BitsLiteral ∷ kind.True ∷ kind.False ∷ kind.OpenParen ∷ kind.Name ∷ []) st.toks) (ending from (late_range_of from un.Negate) (reading d late_range st)) (Ok (pa.AnyPattern (span_to from st.last), st))
+    ≡ pick (starts (kind.Minus ∷ kind.Bang ∷ kind.Not ∷ kind.IntegerLiteral ∷ kind.BitsLiteral ∷ kind.True ∷ kind.False ∷ kind.OpenParen ∷ kind.Name ∷ kind.Getter ∷ kind.Setter ∷ []) st.toks) (ending from (late_range_of from un.Negate) (reading d late_range st)) (Ok (pa.AnyPattern (span_to from st.last), st))
 unfolding maybe_late_range late_range late_sum ending unary prefixed_by post_literal post_parenthesized post_named literal integer_literal bits_literal boolean_literal parenthesized named name
 late_range_at d from st = optional_as d late_range st (λ x end. Ok (minus_pattern_of from (span_to from end.last) x, end)) (ending from (late_range_of from un.Negate) (reading d late_range st)) refl
 
-pub minus_pattern_is : (d : ℕ) (st : Cursor) → reading d minus_pattern st ≡ bind (run_tok (kind.Minus ∷ []) st st.toks) (λ t m. pick (starts (kind.Minus ∷ kind.Bang ∷ kind.Not ∷ kind.IntegerLiteral ∷ kind.BitsLiteral ∷ kind.True ∷ kind.False ∷ kind.OpenParen ∷ kind.Name ∷ []) m.toks)
+pub minus_pattern_is : (d : ℕ) (st : Cursor) → reading d minus_pattern st ≡ bind (run_tok (kind.Minus ∷ []) st st.toks) (λ t m. pick (starts (kind.Minus ∷ kind.Bang ∷ kind.Not ∷ kind.IntegerLiteral ∷ kind.BitsLiteral ∷ kind.True ∷ kind.False ∷ kind.OpenParen ∷ kind.Name ∷ kind.Getter ∷ kind.Setter ∷ []) m.toks)
     (ending (ahead st.toks) (late_range_of (ahead st.toks) un.Negate) (reading d late_range m)) (Ok (pa.AnyPattern (span_to (ahead st.toks) m.last), m)))
 minus_pattern_is d st = minus_straight d st ∙ bind_same (run_tok (kind.Minus ∷ []) st st.toks) _ _ (λ t m. late_range_at d (ahead st.toks) m)
 

@@ -6,7 +6,7 @@ ghost use Rattle.asl_grammar.specs.grammar.Rules as rules;
 ghost use Rattle.asl_parse_expr.specs.private.Code.{cursor_of, Met, reading, then};
 ghost use Rattle.asl_parse_expr.specs.private.Nests.{Nests};
 
-use crate::firsts::{AFTER_NAME, LITERAL, OTHER_PREFIX_OPERATORS, UNARY};
+use crate::firsts::{AFTER_NAME, LITERAL, NAME, OTHER_PREFIX_OPERATORS, UNARY};
 use crate::grammar::{Grammar, Symbol, Value};
 use crate::names::name;
 use crate::operators::unary_node;
@@ -362,7 +362,7 @@ impl<F: Fn(Global, &mut Tokens<'_>, usize, Symbol) -> Result<Value, ParseError>>
             empty_braces(tokens, self.depth)
         } else if tokens.starts(&[Kind::Minus]) {
             self.minus_in_braces(tokens)
-        } else if tokens.starts(&[Kind::Name]) {
+        } else if tokens.starts(&NAME) {
             self.name_in_braces(tokens)
         } else {
             self.other_in_braces(tokens)

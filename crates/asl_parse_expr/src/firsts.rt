@@ -21,7 +21,7 @@ pub const COMPARISON_OPERATORS: [Kind; 4] = [
 pub const EQUALITY_OPERATORS: [Kind; 2] = [Kind::Equal, Kind::NotEqual];
 
 /// An expression.
-pub const EXPRESSION: [Kind; 10] = [
+pub const EXPRESSION: [Kind; 12] = [
     Kind::If,
     Kind::Minus,
     Kind::Bang,
@@ -32,6 +32,8 @@ pub const EXPRESSION: [Kind; 10] = [
     Kind::False,
     Kind::OpenParen,
     Kind::Name,
+    Kind::Getter,
+    Kind::Setter,
 ];
 
 /// A literal that is an expression.
@@ -41,6 +43,9 @@ pub const LITERAL: [Kind; 4] = [
     Kind::True,
     Kind::False,
 ];
+
+/// A name.
+pub const NAME: [Kind; 3] = [Kind::Name, Kind::Getter, Kind::Setter];
 
 /// The logical operators.
 pub const LOGIC_OPERATORS: [Kind; 4] = [Kind::AndAnd, Kind::OrOr, Kind::Implies, Kind::Iff];
@@ -78,18 +83,20 @@ pub const SUM_OPERATORS: [Kind; 6] = [
 ];
 
 /// A type.
-pub const TYPE_EXPRESSION: [Kind; 7] = [
+pub const TYPE_EXPRESSION: [Kind; 9] = [
     Kind::Integer,
     Kind::Boolean,
     Kind::Bit,
     Kind::Name,
+    Kind::Getter,
+    Kind::Setter,
     Kind::Bits,
     Kind::OpenParen,
     Kind::Array,
 ];
 
 /// An operand.
-pub const UNARY: [Kind; 9] = [
+pub const UNARY: [Kind; 11] = [
     Kind::Minus,
     Kind::Bang,
     Kind::Not,
@@ -99,4 +106,6 @@ pub const UNARY: [Kind; 9] = [
     Kind::False,
     Kind::OpenParen,
     Kind::Name,
+    Kind::Getter,
+    Kind::Setter,
 ];

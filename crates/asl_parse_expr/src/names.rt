@@ -4,6 +4,7 @@ ghost use Rattle.std.specs.Prelude.{◌≡◌};
 ghost use Rattle.asl_grammar.specs.grammar.Rules as rules;
 ghost use Rattle.asl_parse_expr.specs.private.Code.{cursor_of, Met, reading};
 
+use crate::firsts::NAME;
 use crate::tokens::{Tokens, ident};
 use asl_grammar::error::ParseError;
 use asl_grammar::kinds::Kind;
@@ -17,7 +18,7 @@ pub fn name(alloc: Global, tokens: &mut Tokens<'_>, depth: usize) -> Result<Iden
     ensures { Met (reading depth rules.name (cursor_of tokens.old)) result (cursor_of tokens.new) }
 {
     let bytes = tokens.bytes;
-    let token = tokens.take(Kind::Name)?;
+    let token = tokens.take_any(&NAME)?;
     Ok(ident(alloc, bytes, token)?)
 }
 

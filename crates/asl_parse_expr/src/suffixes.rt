@@ -6,7 +6,7 @@ ghost use Rattle.asl_grammar.specs.grammar.Rules as rules;
 ghost use Rattle.asl_parse_expr.specs.private.Code.{cursor_of, Met, reading, then};
 ghost use Rattle.asl_parse_expr.specs.private.Nests.{Nests};
 
-use crate::firsts::{SLICE_FORM, SUFFIX};
+use crate::firsts::{NAME, SLICE_FORM, SUFFIX};
 use crate::grammar::{Grammar, Symbol, Value, nested};
 use crate::names::{name, names};
 use crate::tokens::{Tokens, span_to};
@@ -81,7 +81,7 @@ fn field_list(alloc: Global, tokens: &mut Tokens<'_>, depth: usize) -> Result<Su
 fn dotted(alloc: Global, tokens: &mut Tokens<'_>, depth: usize) -> Result<Suffix, ParseError>
     ensures { Met (reading depth rules.dotted (cursor_of tokens.old)) result (cursor_of tokens.new) }
 {
-    if tokens.starts(&[Kind::Name]) {
+    if tokens.starts(&NAME) {
         Ok(Suffix::FieldOf(name(alloc, tokens, depth)?))
     } else {
         field_list(alloc, tokens, depth)

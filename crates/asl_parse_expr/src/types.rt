@@ -6,7 +6,7 @@ ghost use Rattle.asl_grammar.specs.grammar.Rules as rules;
 ghost use Rattle.asl_parse_expr.specs.private.Code.{cursor_of, Met, reading, then};
 ghost use Rattle.asl_parse_expr.specs.private.Nests.{Nests};
 
-use crate::firsts::TYPE_EXPRESSION;
+use crate::firsts::{NAME, TYPE_EXPRESSION};
 use crate::grammar::{Grammar, Symbol, Value, nested};
 use crate::names::name;
 use crate::tokens::{Tokens, text_at};
@@ -50,7 +50,7 @@ fn named_type(alloc: Global, tokens: &mut Tokens<'_>, depth: usize) -> Result<Ty
     ensures { Met (reading depth rules.named_type (cursor_of tokens.old)) result (cursor_of tokens.new) }
 {
     let bytes = tokens.bytes;
-    let token = tokens.take(Kind::Name)?;
+    let token = tokens.take_any(&NAME)?;
     Ok(TypeExpr::NamedType(token.span, text_at(alloc, bytes, token.span)?))
 }
 
@@ -431,7 +431,7 @@ impl<F: Fn(Global, &mut Tokens<'_>, usize, Symbol) -> Result<Value, ParseError>>
             boolean_type(tokens, self.depth)
         } else if tokens.starts(&[Kind::Bit]) {
             bit_type(tokens, self.depth)
-        } else if tokens.starts(&[Kind::Name]) {
+        } else if tokens.starts(&NAME) {
             named_type(self.alloc, tokens, self.depth)
         } else if tokens.starts(&[Kind::Bits]) {
             self.bits_type(tokens)

@@ -9,6 +9,7 @@ use asl_grammar::error::ParseError;
 use asl_grammar::kinds::Kind;
 use asl_grammar::parts::VarTail;
 use asl_parse_expr::expressions::expression;
+use asl_parse_expr::firsts::NAME;
 use asl_parse_expr::names::{name, names};
 use asl_parse_expr::tokens::Tokens;
 use asl_parse_expr::types::{type_expression, typed};
@@ -56,7 +57,7 @@ fn no_binder(tokens: &mut Tokens<'_>, depth: usize) -> Result<Binder, ParseError
 fn binder(alloc: Global, tokens: &mut Tokens<'_>, depth: usize) -> Result<Binder, ParseError>
     ensures { Met (reading depth rules.binder (cursor_of tokens.old)) result (cursor_of tokens.new) }
 {
-    if tokens.starts(&[Kind::Name]) {
+    if tokens.starts(&NAME) {
         Ok(Binder::Bound(name(alloc, tokens, depth)?))
     } else {
         no_binder(tokens, depth)
@@ -123,7 +124,7 @@ fn other_bind(alloc: Global, tokens: &mut Tokens<'_>, depth: usize) -> Result<Bi
 fn local_bind(alloc: Global, tokens: &mut Tokens<'_>, depth: usize) -> Result<Bind, ParseError>
     ensures { Met (reading depth rules.local_bind (cursor_of tokens.old)) result (cursor_of tokens.new) }
 {
-    if tokens.starts(&[Kind::Name]) {
+    if tokens.starts(&NAME) {
         Ok(Bind::Single(Binder::Bound(name(alloc, tokens, depth)?)))
     } else {
         other_bind(alloc, tokens, depth)
@@ -239,7 +240,7 @@ fn var_names(alloc: Global, tokens: &mut Tokens<'_>, depth: usize) -> Result<Var
 fn var_tail(alloc: Global, tokens: &mut Tokens<'_>, depth: usize) -> Result<VarTail, ParseError>
     ensures { Met (reading depth rules.var_tail (cursor_of tokens.old)) result (cursor_of tokens.new) }
 {
-    if tokens.starts(&[Kind::Name]) {
+    if tokens.starts(&NAME) {
         return var_names(alloc, tokens, depth);
     }
     let bind = other_bind(alloc, tokens, depth)?;

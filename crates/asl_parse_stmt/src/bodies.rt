@@ -15,7 +15,8 @@ use asl_parse_expr::names::name;
 use asl_parse_expr::patterns::patterns;
 use asl_parse_expr::tokens::Tokens;
 use asl_shared::Held;
-use asl_syn::tree::{Alternative, Catcher, Direction, ElseIf, Expr, Ident, Otherwise, Stmt};
+use asl_syn::read::{ReadAlternative, ReadCatcher, ReadElseIf, ReadOtherwise, ReadStmt};
+use asl_syn::tree::{Direction, Expr, Ident};
 use sqlite_items::Items;
 use std::alloc::Global;
 
@@ -73,12 +74,12 @@ fn caught_type(
     Ok(Some(name(alloc, tokens, depth)?))
 }
 
-fn catch_of(first: Ident, ty: Option<Ident>, body: Items<Stmt>) -> Catcher
+fn catch_of(first: Ident, ty: Option<Ident>, body: Items<ReadStmt>) -> ReadCatcher
     ensures { result ≡ build.catch_of first ty body }
 {
     match ty {
-        None => Catcher::Catch(None, first, body),
-        Some(ty) => Catcher::Catch(Some(first), ty, body),
+        None => ReadCatcher::Catch(None, first, body),
+        Some(ty) => ReadCatcher::Catch(Some(first), ty, body),
     }
 }
 
@@ -107,8 +108,8 @@ pub struct Bodies<F> {
     pub block: F,
 }
 
-impl<F: Fn(Global, &mut Tokens<'_>, usize) -> Result<Items<Stmt>, ParseError>> Bodies<F> {
-    fn block(&self, tokens: &mut Tokens<'_>) -> Result<Items<Stmt>, ParseError>
+impl<F: Fn(Global, &mut Tokens<'_>, usize) -> Result<Items<ReadStmt>, ParseError>> Bodies<F> {
+    fn block(&self, tokens: &mut Tokens<'_>) -> Result<Items<ReadStmt>, ParseError>
         requires { Nests self.now.depth (F.pre self.now.block) (F.post self.now.block) }
         ensures { Met (reading self.now.depth rules.block (cursor_of tokens.old)) result (cursor_of tokens.new) }
     {
@@ -120,7 +121,7 @@ impl<F: Fn(Global, &mut Tokens<'_>, usize) -> Result<Items<Stmt>, ParseError>> B
     pub fn if_body(
         &self,
         tokens: &mut Tokens<'_>,
-    ) -> Result<(Expr, Items<Stmt>, Items<ElseIf>, Items<Stmt>), ParseError>
+    ) -> Result<(Expr, Items<ReadStmt>, Items<ReadElseIf>, Items<ReadStmt>), ParseError>
         requires { Nests self.now.depth (F.pre self.now.block) (F.post self.now.block) }
         ensures { Met (reading self.now.depth rules.if_body (cursor_of tokens.old)) result (cursor_of tokens.new) }
     {
@@ -135,7 +136,7 @@ impl<F: Fn(Global, &mut Tokens<'_>, usize) -> Result<Items<Stmt>, ParseError>> B
     }
 
     #[tactic(auto, unfolding(asl_grammar::specs::grammar::Rules::else_if))]
-    fn else_if(&self, tokens: &mut Tokens<'_>) -> Result<ElseIf, ParseError>
+    fn else_if(&self, tokens: &mut Tokens<'_>) -> Result<ReadElseIf, ParseError>
         requires { Nests self.now.depth (F.pre self.now.block) (F.post self.now.block) }
         ensures { Met (reading self.now.depth rules.else_if (cursor_of tokens.old)) result (cursor_of tokens.new) }
     {
@@ -143,11 +144,11 @@ impl<F: Fn(Global, &mut Tokens<'_>, usize) -> Result<Items<Stmt>, ParseError>> B
         let condition = Held::new(expression(self.alloc, tokens, self.depth)?);
         tokens.take(Kind::Then)?;
         let body = self.block(tokens)?;
-        Ok(ElseIf::ElseIf(condition.into_inner(), body))
+        Ok(ReadElseIf::ElseIf(condition.into_inner(), body))
     }
 
     #[tactic(auto, using(crate::proofs::Steps::else_ifs_is))]
-    fn else_ifs(&self, tokens: &mut Tokens<'_>) -> Result<Items<ElseIf>, ParseError>
+    fn else_ifs(&self, tokens: &mut Tokens<'_>) -> Result<Items<ReadElseIf>, ParseError>
         requires { Nests self.now.depth (F.pre self.now.block) (F.post self.now.block) }
         ensures { Met (reading self.now.depth rules.else_ifs (cursor_of tokens.old)) result (cursor_of tokens.new) }
     {
@@ -162,7 +163,7 @@ impl<F: Fn(Global, &mut Tokens<'_>, usize) -> Result<Items<Stmt>, ParseError>> B
     }
 
     #[tactic(auto, unfolding(asl_grammar::specs::grammar::Rules::else_block))]
-    fn maybe_else(&self, tokens: &mut Tokens<'_>) -> Result<Items<Stmt>, ParseError>
+    fn maybe_else(&self, tokens: &mut Tokens<'_>) -> Result<Items<ReadStmt>, ParseError>
         requires { Nests self.now.depth (F.pre self.now.block) (F.post self.now.block) }
         ensures { Met (reading self.now.depth rules.maybe_else (cursor_of tokens.old)) result (cursor_of tokens.new) }
     {
@@ -174,21 +175,21 @@ impl<F: Fn(Global, &mut Tokens<'_>, usize) -> Result<Items<Stmt>, ParseError>> B
     }
 
     #[tactic(auto, unfolding(asl_grammar::specs::grammar::Rules::otherwise))]
-    fn otherwise(&self, tokens: &mut Tokens<'_>) -> Result<Otherwise, ParseError>
+    fn otherwise(&self, tokens: &mut Tokens<'_>) -> Result<ReadOtherwise, ParseError>
         requires { Nests self.now.depth (F.pre self.now.block) (F.post self.now.block) }
         ensures { Met (reading self.now.depth rules.otherwise (cursor_of tokens.old)) result (cursor_of tokens.new) }
     {
         tokens.take(Kind::Otherwise)?;
         tokens.take(Kind::FatArrow)?;
-        Ok(Otherwise::Otherwise(self.block(tokens)?))
+        Ok(ReadOtherwise::Otherwise(self.block(tokens)?))
     }
 
-    fn maybe_otherwise(&self, tokens: &mut Tokens<'_>) -> Result<Otherwise, ParseError>
+    fn maybe_otherwise(&self, tokens: &mut Tokens<'_>) -> Result<ReadOtherwise, ParseError>
         requires { Nests self.now.depth (F.pre self.now.block) (F.post self.now.block) }
         ensures { Met (reading self.now.depth rules.maybe_otherwise (cursor_of tokens.old)) result (cursor_of tokens.new) }
     {
         if !tokens.starts(&[Kind::Otherwise]) {
-            return Ok(Otherwise::NoOtherwise);
+            return Ok(ReadOtherwise::NoOtherwise);
         }
         self.otherwise(tokens)
     }
@@ -198,7 +199,7 @@ impl<F: Fn(Global, &mut Tokens<'_>, usize) -> Result<Items<Stmt>, ParseError>> B
     pub fn case_body(
         &self,
         tokens: &mut Tokens<'_>,
-    ) -> Result<(Expr, Items<Alternative>, Otherwise), ParseError>
+    ) -> Result<(Expr, Items<ReadAlternative>, ReadOtherwise), ParseError>
         requires { Nests self.now.depth (F.pre self.now.block) (F.post self.now.block) }
         ensures { Met (reading self.now.depth rules.case_body (cursor_of tokens.old)) result (cursor_of tokens.new) }
     {
@@ -212,7 +213,7 @@ impl<F: Fn(Global, &mut Tokens<'_>, usize) -> Result<Items<Stmt>, ParseError>> B
     }
 
     #[tactic(auto, unfolding(asl_grammar::specs::grammar::Rules::alternative))]
-    fn alternative(&self, tokens: &mut Tokens<'_>) -> Result<Alternative, ParseError>
+    fn alternative(&self, tokens: &mut Tokens<'_>) -> Result<ReadAlternative, ParseError>
         requires { Nests self.now.depth (F.pre self.now.block) (F.post self.now.block) }
         ensures { Met (reading self.now.depth rules.alternative (cursor_of tokens.old)) result (cursor_of tokens.new) }
     {
@@ -221,11 +222,11 @@ impl<F: Fn(Global, &mut Tokens<'_>, usize) -> Result<Items<Stmt>, ParseError>> B
         let condition = Held::new(where_clause(self.alloc, tokens, self.depth)?);
         tokens.take(Kind::FatArrow)?;
         let body = self.block(tokens)?;
-        Ok(Alternative::When(patterns, condition.into_inner(), body))
+        Ok(ReadAlternative::When(patterns, condition.into_inner(), body))
     }
 
     #[tactic(auto, using(crate::proofs::Steps::alternatives_is))]
-    fn alternatives(&self, tokens: &mut Tokens<'_>) -> Result<Items<Alternative>, ParseError>
+    fn alternatives(&self, tokens: &mut Tokens<'_>) -> Result<Items<ReadAlternative>, ParseError>
         requires { Nests self.now.depth (F.pre self.now.block) (F.post self.now.block) }
         ensures { Met (reading self.now.depth rules.alternatives (cursor_of tokens.old)) result (cursor_of tokens.new) }
     {
@@ -243,7 +244,7 @@ impl<F: Fn(Global, &mut Tokens<'_>, usize) -> Result<Items<Stmt>, ParseError>> B
     pub fn for_body(
         &self,
         tokens: &mut Tokens<'_>,
-    ) -> Result<(Ident, Expr, Direction, Expr, Option<Expr>, Items<Stmt>), ParseError>
+    ) -> Result<(Ident, Expr, Direction, Expr, Option<Expr>, Items<ReadStmt>), ParseError>
         requires { Nests self.now.depth (F.pre self.now.block) (F.post self.now.block) }
         ensures { Met (reading self.now.depth rules.for_body (cursor_of tokens.old)) result (cursor_of tokens.new) }
     {
@@ -263,7 +264,7 @@ impl<F: Fn(Global, &mut Tokens<'_>, usize) -> Result<Items<Stmt>, ParseError>> B
     pub fn while_body(
         &self,
         tokens: &mut Tokens<'_>,
-    ) -> Result<(Expr, Option<Expr>, Items<Stmt>), ParseError>
+    ) -> Result<(Expr, Option<Expr>, Items<ReadStmt>), ParseError>
         requires { Nests self.now.depth (F.pre self.now.block) (F.post self.now.block) }
         ensures { Met (reading self.now.depth rules.while_body (cursor_of tokens.old)) result (cursor_of tokens.new) }
     {
@@ -281,7 +282,7 @@ impl<F: Fn(Global, &mut Tokens<'_>, usize) -> Result<Items<Stmt>, ParseError>> B
     pub fn repeat_body(
         &self,
         tokens: &mut Tokens<'_>,
-    ) -> Result<(Items<Stmt>, Expr, Option<Expr>), ParseError>
+    ) -> Result<(Items<ReadStmt>, Expr, Option<Expr>), ParseError>
         requires { Nests self.now.depth (F.pre self.now.block) (F.post self.now.block) }
         ensures { Met (reading self.now.depth rules.repeat_body (cursor_of tokens.old)) result (cursor_of tokens.new) }
     {
@@ -298,7 +299,7 @@ impl<F: Fn(Global, &mut Tokens<'_>, usize) -> Result<Items<Stmt>, ParseError>> B
     pub fn try_body(
         &self,
         tokens: &mut Tokens<'_>,
-    ) -> Result<(Items<Stmt>, Items<Catcher>, Otherwise), ParseError>
+    ) -> Result<(Items<ReadStmt>, Items<ReadCatcher>, ReadOtherwise), ParseError>
         requires { Nests self.now.depth (F.pre self.now.block) (F.post self.now.block) }
         ensures { Met (reading self.now.depth rules.try_body (cursor_of tokens.old)) result (cursor_of tokens.new) }
     {
@@ -310,7 +311,10 @@ impl<F: Fn(Global, &mut Tokens<'_>, usize) -> Result<Items<Stmt>, ParseError>> B
         Ok((body, catchers, otherwise))
     }
 
-    fn handlers(&self, tokens: &mut Tokens<'_>) -> Result<(Items<Catcher>, Otherwise), ParseError>
+    fn handlers(
+        &self,
+        tokens: &mut Tokens<'_>,
+    ) -> Result<(Items<ReadCatcher>, ReadOtherwise), ParseError>
         requires { Nests self.now.depth (F.pre self.now.block) (F.post self.now.block) }
         ensures { Met (reading self.now.depth rules.handlers (cursor_of tokens.old)) result (cursor_of tokens.new) }
     {
@@ -326,7 +330,7 @@ impl<F: Fn(Global, &mut Tokens<'_>, usize) -> Result<Items<Stmt>, ParseError>> B
     fn some_catchers(
         &self,
         tokens: &mut Tokens<'_>,
-    ) -> Result<(Items<Catcher>, Otherwise), ParseError>
+    ) -> Result<(Items<ReadCatcher>, ReadOtherwise), ParseError>
         requires { Nests self.now.depth (F.pre self.now.block) (F.post self.now.block) }
         ensures { Met (reading self.now.depth rules.some_catchers (cursor_of tokens.old)) result (cursor_of tokens.new) }
     {
@@ -339,7 +343,7 @@ impl<F: Fn(Global, &mut Tokens<'_>, usize) -> Result<Items<Stmt>, ParseError>> B
     }
 
     #[tactic(auto, unfolding(asl_grammar::specs::grammar::Rules::catcher))]
-    fn catcher(&self, tokens: &mut Tokens<'_>) -> Result<Catcher, ParseError>
+    fn catcher(&self, tokens: &mut Tokens<'_>) -> Result<ReadCatcher, ParseError>
         requires { Nests self.now.depth (F.pre self.now.block) (F.post self.now.block) }
         ensures { Met (reading self.now.depth rules.catcher (cursor_of tokens.old)) result (cursor_of tokens.new) }
     {
@@ -352,7 +356,7 @@ impl<F: Fn(Global, &mut Tokens<'_>, usize) -> Result<Items<Stmt>, ParseError>> B
     }
 
     #[tactic(auto, using(crate::proofs::Steps::catchers_is))]
-    fn catchers(&self, tokens: &mut Tokens<'_>) -> Result<Items<Catcher>, ParseError>
+    fn catchers(&self, tokens: &mut Tokens<'_>) -> Result<Items<ReadCatcher>, ParseError>
         requires { Nests self.now.depth (F.pre self.now.block) (F.post self.now.block) }
         ensures { Met (reading self.now.depth rules.catchers (cursor_of tokens.old)) result (cursor_of tokens.new) }
     {

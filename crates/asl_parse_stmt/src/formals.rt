@@ -7,6 +7,7 @@ ghost use Rattle.asl_parse_expr.specs.private.Code.{cursor_of, Met, reading};
 use crate::firsts::SOME_MEMBERS;
 use asl_grammar::error::ParseError;
 use asl_grammar::kinds::Kind;
+use asl_parse_expr::firsts::NAME;
 use asl_parse_expr::names::name;
 use asl_parse_expr::tokens::Tokens;
 use asl_parse_expr::types::{type_expression, typed};
@@ -14,8 +15,9 @@ use asl_syn::tree::{Formal, Param};
 use sqlite_items::Items;
 use std::alloc::Global;
 
+/// A name with its type.
 #[tactic(auto, unfolding(asl_grammar::specs::grammar::Rules::formal))]
-fn formal(alloc: Global, tokens: &mut Tokens<'_>, depth: usize) -> Result<Formal, ParseError>
+pub fn formal(alloc: Global, tokens: &mut Tokens<'_>, depth: usize) -> Result<Formal, ParseError>
     ensures { Met (reading depth rules.formal (cursor_of tokens.old)) result (cursor_of tokens.new) }
 {
     let name = name(alloc, tokens, depth)?;
@@ -51,7 +53,7 @@ fn maybe_formals(
 ) -> Result<Items<Formal>, ParseError>
     ensures { Met (reading depth rules.maybe_formals (cursor_of tokens.old)) result (cursor_of tokens.new) }
 {
-    if !tokens.starts(&[Kind::Name]) {
+    if !tokens.starts(&NAME) {
         return Ok(Items::new(alloc));
     }
     formal_list(alloc, tokens, depth)
@@ -110,7 +112,7 @@ fn maybe_param_list(
 ) -> Result<Items<Param>, ParseError>
     ensures { Met (reading depth rules.maybe_param_list (cursor_of tokens.old)) result (cursor_of tokens.new) }
 {
-    if !tokens.starts(&[Kind::Name]) {
+    if !tokens.starts(&NAME) {
         return Ok(Items::new(alloc));
     }
     param_list(alloc, tokens, depth)
@@ -151,7 +153,7 @@ fn listed_members(
             return Ok(found);
         }
         tokens.take(Kind::Comma)?;
-        if !tokens.starts(&[Kind::Name]) {
+        if !tokens.starts(&NAME) {
             return Ok(found);
         }
         found.push(formal(alloc, tokens, depth)?)?;

@@ -6,6 +6,7 @@ ghost use Rattle.asl_parse_expr.specs.private.Code.{cursor_of, Met, reading};
 
 use asl_grammar::error::ParseError;
 use asl_grammar::kinds::Kind;
+use asl_parse_expr::firsts::NAME;
 use asl_parse_expr::names::name;
 use asl_parse_expr::tokens::Tokens;
 use asl_syn::tree::{Ident, TypeDef};
@@ -27,7 +28,7 @@ fn label_list(
             return Ok(found);
         }
         tokens.take(Kind::Comma)?;
-        if !tokens.starts(&[Kind::Name]) {
+        if !tokens.starts(&NAME) {
             return Ok(found);
         }
         found.push(name(alloc, tokens, depth)?)?;

@@ -1,11 +1,12 @@
 //! The statements that hold no others.
 
 ghost use Rattle.std.specs.Prelude.{◌≡◌};
+ghost use Rattle.asl_grammar.specs.grammar.Build as build;
 ghost use Rattle.asl_grammar.specs.grammar.Rules as rules;
 ghost use Rattle.asl_parse_expr.specs.private.Code.{cursor_of, Met, reading};
 
 use crate::binders::value;
-use crate::firsts::INVOKED;
+use crate::firsts::CALLED;
 use crate::targets::{other_target, place_of, target_suffixes};
 use asl_grammar::error::ParseError;
 use asl_grammar::kinds::Kind;
@@ -13,7 +14,9 @@ use asl_parse_expr::expressions::{arguments, expression, maybe_expression, maybe
 use asl_parse_expr::names::name;
 use asl_parse_expr::tokens::Tokens;
 use asl_shared::Held;
-use asl_syn::tree::{Expr, PlacedSuffix, Stmt};
+use asl_syn::read::ReadStmt;
+use asl_syn::token::Span;
+use asl_syn::tree::{Expr, Ident, PlacedSuffix, Stmt};
 use sqlite_items::Items;
 use std::alloc::Global;
 
@@ -70,17 +73,16 @@ fn maybe_parameters(
     Ok(found)
 }
 
-#[tactic(auto, unfolding(asl_grammar::specs::grammar::Rules::call_arguments, asl_grammar::specs::grammar::Rules::invoked))]
-fn invoked(
+#[tactic(auto, unfolding(asl_grammar::specs::grammar::Rules::call_arguments))]
+fn call_arguments(
     alloc: Global,
     tokens: &mut Tokens<'_>,
     depth: usize,
 ) -> Result<(Items<Expr>, Items<Expr>), ParseError>
-    ensures { Met (reading depth rules.invoked (cursor_of tokens.old)) result (cursor_of tokens.new) }
+    ensures { Met (reading depth rules.call_arguments (cursor_of tokens.old)) result (cursor_of tokens.new) }
 {
     let parameters = maybe_parameters(alloc, tokens, depth)?;
     let arguments = arguments(alloc, tokens, depth)?;
-    tokens.take(Kind::Semicolon)?;
     Ok((parameters, arguments))
 }
 
@@ -97,23 +99,57 @@ fn assigned(
     Ok((suffixes, value))
 }
 
-/// A call, or an assignment to a place.
+/// Behind a call: its end, or what is stored through it.
+fn after_call(
+    alloc: Global,
+    tokens: &mut Tokens<'_>,
+    depth: usize,
+) -> Result<Option<(Items<PlacedSuffix>, Expr)>, ParseError>
+    ensures { Met (reading depth rules.after_call (cursor_of tokens.old)) result (cursor_of tokens.new) }
+{
+    if tokens.starts(&[Kind::Semicolon]) {
+        tokens.take(Kind::Semicolon)?;
+        Ok(None)
+    } else {
+        Ok(Some(assigned(alloc, tokens, depth)?))
+    }
+}
+
+fn called_of(
+    name: Ident,
+    span: Span,
+    parts: (Items<Expr>, Items<Expr>),
+    stored: Option<(Items<PlacedSuffix>, Expr)>,
+) -> ReadStmt
+    ensures { result ≡ build.called_of name span parts stored }
+{
+    let (parameters, arguments) = parts;
+    match stored {
+        None => ReadStmt::Simple(Stmt::Invoke(span, name, parameters, arguments)),
+        Some((suffixes, value)) => {
+            ReadStmt::Store(span, name, parameters, arguments, suffixes, value)
+        }
+    }
+}
+
+/// A call, a store through one, or an assignment to a place.
 pub fn name_statement(
     alloc: Global,
     tokens: &mut Tokens<'_>,
     depth: usize,
-) -> Result<Stmt, ParseError>
+) -> Result<ReadStmt, ParseError>
     ensures { Met (reading depth rules.name_statement (cursor_of tokens.old)) result (cursor_of tokens.new) }
 {
     let from = tokens.ahead();
     let name = name(alloc, tokens, depth)?;
-    if tokens.starts(&INVOKED) {
-        let (parameters, arguments) = invoked(alloc, tokens, depth)?;
-        Ok(Stmt::Invoke(tokens.since(from), name, parameters, arguments))
+    if tokens.starts(&CALLED) {
+        let parts = call_arguments(alloc, tokens, depth)?;
+        let stored = after_call(alloc, tokens, depth)?;
+        Ok(called_of(name, tokens.since(from), parts, stored))
     } else {
         let (suffixes, value) = assigned(alloc, tokens, depth)?;
         let target = place_of(name, suffixes);
-        Ok(Stmt::Assign(tokens.since(from), target, value))
+        Ok(ReadStmt::Simple(Stmt::Assign(tokens.since(from), target, value)))
     }
 }
 

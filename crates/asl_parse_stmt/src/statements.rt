@@ -6,7 +6,7 @@ ghost use Rattle.asl_parse_expr.specs.private.Code.{cursor_of, Met, reading};
 
 use crate::binders::{let_statement, var_statement};
 use crate::bodies::Bodies;
-use crate::firsts::STATEMENT;
+use crate::firsts::{SIMPLE_STATEMENT, STATEMENT};
 use crate::levels::nest;
 use crate::printing::print_statement;
 use crate::simple::{
@@ -14,13 +14,48 @@ use crate::simple::{
 };
 use asl_grammar::error::ParseError;
 use asl_grammar::kinds::Kind;
+use asl_parse_expr::firsts::NAME;
 use asl_parse_expr::tokens::Tokens;
+use asl_syn::read::ReadStmt;
 use asl_syn::tree::Stmt;
 use sqlite_items::Items;
 use std::alloc::Global;
 
+/// A statement that holds no other and begins with no name.
+pub fn simple_statement(
+    alloc: Global,
+    tokens: &mut Tokens<'_>,
+    depth: usize,
+) -> Result<Stmt, ParseError>
+    ensures { Met (reading depth rules.simple_statement (cursor_of tokens.old)) result (cursor_of tokens.new) }
+{
+    if tokens.starts(&[Kind::Pass]) {
+        pass(tokens, depth)
+    } else if tokens.starts(&[Kind::Unreachable]) {
+        unreachable(tokens, depth)
+    } else if tokens.starts(&[Kind::Assert]) {
+        assert(alloc, tokens, depth)
+    } else if tokens.starts(&[Kind::Let]) {
+        let_statement(alloc, tokens, depth)
+    } else if tokens.starts(&[Kind::Var]) {
+        var_statement(alloc, tokens, depth)
+    } else if tokens.starts(&[Kind::Minus, Kind::OpenParen]) {
+        assignment(alloc, tokens, depth)
+    } else if tokens.starts(&[Kind::Return]) {
+        return_statement(alloc, tokens, depth)
+    } else if tokens.starts(&[Kind::Throw]) {
+        throw_statement(alloc, tokens, depth)
+    } else {
+        print_statement(alloc, tokens, depth)
+    }
+}
+
 #[cycle(statements)]
-fn if_statement(alloc: Global, tokens: &mut Tokens<'_>, depth: usize) -> Result<Stmt, ParseError>
+fn if_statement(
+    alloc: Global,
+    tokens: &mut Tokens<'_>,
+    depth: usize,
+) -> Result<ReadStmt, ParseError>
     ensures { Met (reading depth rules.if_statement (cursor_of tokens.old)) result (cursor_of tokens.new) }
 {
     let from = tokens.ahead();
@@ -33,7 +68,7 @@ fn if_statement(alloc: Global, tokens: &mut Tokens<'_>, depth: usize) -> Result<
     };
     let (condition, then_block, else_ifs, else_block) = bodies.if_body(tokens)?;
     tokens.left = left;
-    Ok(Stmt::If(
+    Ok(ReadStmt::If(
         tokens.since(from),
         condition,
         then_block,
@@ -43,7 +78,11 @@ fn if_statement(alloc: Global, tokens: &mut Tokens<'_>, depth: usize) -> Result<
 }
 
 #[cycle(statements)]
-fn case_statement(alloc: Global, tokens: &mut Tokens<'_>, depth: usize) -> Result<Stmt, ParseError>
+fn case_statement(
+    alloc: Global,
+    tokens: &mut Tokens<'_>,
+    depth: usize,
+) -> Result<ReadStmt, ParseError>
     ensures { Met (reading depth rules.case_statement (cursor_of tokens.old)) result (cursor_of tokens.new) }
 {
     let from = tokens.ahead();
@@ -56,11 +95,15 @@ fn case_statement(alloc: Global, tokens: &mut Tokens<'_>, depth: usize) -> Resul
     };
     let (subject, alternatives, otherwise) = bodies.case_body(tokens)?;
     tokens.left = left;
-    Ok(Stmt::Case(tokens.since(from), subject, alternatives, otherwise))
+    Ok(ReadStmt::Case(tokens.since(from), subject, alternatives, otherwise))
 }
 
 #[cycle(statements)]
-fn for_statement(alloc: Global, tokens: &mut Tokens<'_>, depth: usize) -> Result<Stmt, ParseError>
+fn for_statement(
+    alloc: Global,
+    tokens: &mut Tokens<'_>,
+    depth: usize,
+) -> Result<ReadStmt, ParseError>
     ensures { Met (reading depth rules.for_statement (cursor_of tokens.old)) result (cursor_of tokens.new) }
 {
     let from = tokens.ahead();
@@ -73,7 +116,7 @@ fn for_statement(alloc: Global, tokens: &mut Tokens<'_>, depth: usize) -> Result
     };
     let (name, first, direction, last, limit, body) = bodies.for_body(tokens)?;
     tokens.left = left;
-    Ok(Stmt::For(
+    Ok(ReadStmt::For(
         tokens.since(from),
         name,
         first,
@@ -85,7 +128,11 @@ fn for_statement(alloc: Global, tokens: &mut Tokens<'_>, depth: usize) -> Result
 }
 
 #[cycle(statements)]
-fn while_statement(alloc: Global, tokens: &mut Tokens<'_>, depth: usize) -> Result<Stmt, ParseError>
+fn while_statement(
+    alloc: Global,
+    tokens: &mut Tokens<'_>,
+    depth: usize,
+) -> Result<ReadStmt, ParseError>
     ensures { Met (reading depth rules.while_statement (cursor_of tokens.old)) result (cursor_of tokens.new) }
 {
     let from = tokens.ahead();
@@ -98,7 +145,7 @@ fn while_statement(alloc: Global, tokens: &mut Tokens<'_>, depth: usize) -> Resu
     };
     let (condition, limit, body) = bodies.while_body(tokens)?;
     tokens.left = left;
-    Ok(Stmt::While(tokens.since(from), condition, limit, body))
+    Ok(ReadStmt::While(tokens.since(from), condition, limit, body))
 }
 
 #[cycle(statements)]
@@ -106,7 +153,7 @@ fn repeat_statement(
     alloc: Global,
     tokens: &mut Tokens<'_>,
     depth: usize,
-) -> Result<Stmt, ParseError>
+) -> Result<ReadStmt, ParseError>
     ensures { Met (reading depth rules.repeat_statement (cursor_of tokens.old)) result (cursor_of tokens.new) }
 {
     let from = tokens.ahead();
@@ -119,11 +166,15 @@ fn repeat_statement(
     };
     let (body, condition, limit) = bodies.repeat_body(tokens)?;
     tokens.left = left;
-    Ok(Stmt::Repeat(tokens.since(from), body, condition, limit))
+    Ok(ReadStmt::Repeat(tokens.since(from), body, condition, limit))
 }
 
 #[cycle(statements)]
-fn try_statement(alloc: Global, tokens: &mut Tokens<'_>, depth: usize) -> Result<Stmt, ParseError>
+fn try_statement(
+    alloc: Global,
+    tokens: &mut Tokens<'_>,
+    depth: usize,
+) -> Result<ReadStmt, ParseError>
     ensures { Met (reading depth rules.try_statement (cursor_of tokens.old)) result (cursor_of tokens.new) }
 {
     let from = tokens.ahead();
@@ -136,27 +187,17 @@ fn try_statement(alloc: Global, tokens: &mut Tokens<'_>, depth: usize) -> Result
     };
     let (body, catchers, otherwise) = bodies.try_body(tokens)?;
     tokens.left = left;
-    Ok(Stmt::Try(tokens.since(from), body, catchers, otherwise))
+    Ok(ReadStmt::Try(tokens.since(from), body, catchers, otherwise))
 }
 
 #[cycle(statements)]
-fn statement(alloc: Global, tokens: &mut Tokens<'_>, depth: usize) -> Result<Stmt, ParseError>
+fn statement(alloc: Global, tokens: &mut Tokens<'_>, depth: usize) -> Result<ReadStmt, ParseError>
     ensures { Met (reading depth rules.statement (cursor_of tokens.old)) result (cursor_of tokens.new) }
 {
-    if tokens.starts(&[Kind::Pass]) {
-        pass(tokens, depth)
-    } else if tokens.starts(&[Kind::Unreachable]) {
-        unreachable(tokens, depth)
-    } else if tokens.starts(&[Kind::Assert]) {
-        assert(alloc, tokens, depth)
-    } else if tokens.starts(&[Kind::Let]) {
-        let_statement(alloc, tokens, depth)
-    } else if tokens.starts(&[Kind::Var]) {
-        var_statement(alloc, tokens, depth)
-    } else if tokens.starts(&[Kind::Name]) {
+    if tokens.starts(&SIMPLE_STATEMENT) {
+        Ok(ReadStmt::Simple(simple_statement(alloc, tokens, depth)?))
+    } else if tokens.starts(&NAME) {
         name_statement(alloc, tokens, depth)
-    } else if tokens.starts(&[Kind::Minus, Kind::OpenParen]) {
-        assignment(alloc, tokens, depth)
     } else if tokens.starts(&[Kind::If]) {
         if_statement(alloc, tokens, depth)
     } else if tokens.starts(&[Kind::Case]) {
@@ -167,14 +208,8 @@ fn statement(alloc: Global, tokens: &mut Tokens<'_>, depth: usize) -> Result<Stm
         while_statement(alloc, tokens, depth)
     } else if tokens.starts(&[Kind::Repeat]) {
         repeat_statement(alloc, tokens, depth)
-    } else if tokens.starts(&[Kind::Return]) {
-        return_statement(alloc, tokens, depth)
-    } else if tokens.starts(&[Kind::Throw]) {
-        throw_statement(alloc, tokens, depth)
-    } else if tokens.starts(&[Kind::Try]) {
-        try_statement(alloc, tokens, depth)
     } else {
-        print_statement(alloc, tokens, depth)
+        try_statement(alloc, tokens, depth)
     }
 }
 
@@ -185,7 +220,7 @@ pub fn block(
     alloc: Global,
     tokens: &mut Tokens<'_>,
     depth: usize,
-) -> Result<Items<Stmt>, ParseError>
+) -> Result<Items<ReadStmt>, ParseError>
     ensures { Met (reading depth rules.block (cursor_of tokens.old)) result (cursor_of tokens.new) }
 {
     let mut found = Items::new(alloc);

@@ -8,6 +8,7 @@ ghost use Rattle.asl_parse_expr.specs.private.Code.{cursor_of, Met, reading, the
 use crate::levels::nest;
 use asl_grammar::error::ParseError;
 use asl_grammar::kinds::Kind;
+use asl_parse_expr::firsts::NAME;
 use asl_parse_expr::names::name;
 use asl_parse_expr::suffixes::suffixes;
 use asl_parse_expr::tokens::{Tokens, end_of, span_to};
@@ -62,7 +63,7 @@ fn target(alloc: Global, tokens: &mut Tokens<'_>, depth: usize) -> Result<Target
 {
     if tokens.starts(&[Kind::Minus]) {
         no_target(tokens, depth)
-    } else if tokens.starts(&[Kind::Name]) {
+    } else if tokens.starts(&NAME) {
         let name = name(alloc, tokens, depth)?;
         let suffixes = target_suffixes(alloc, tokens, depth)?;
         Ok(place_of(name, suffixes))

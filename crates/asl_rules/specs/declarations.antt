@@ -8,4 +8,7 @@ pub mod Uses
 pub mod Barred
 pub mod Constants
 pub mod Declarations
+pub mod WrittenOut
+pub mod Keys
+pub mod Replacing
 pub mod Programs

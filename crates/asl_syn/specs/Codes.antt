@@ -1,7 +1,7 @@
 -- The bytes that are printed for each code.
 use Rattle.std.specs.Prelude.{ℕ, List, codes}
 use Rattle.asl_syn.specs.declared.code.StaticCode.{StaticCode}
-use Rattle.asl_syn.specs.declared.code.StaticCode.TheVariants.{L01, L02, L03, L04, L05, S01, S02, S03, M01, M02, M03, N01, N02, N03, T01, T02, T03, T04, T05, T06, T07, T08, T09, T10, T11, T12, T13, T14, T15, T16, T17, T18, T19, T20, T21, T23, T24, T25}
+use Rattle.asl_syn.specs.declared.code.StaticCode.TheVariants.{L01, L02, L03, L04, L05, S01, S02, S03, M01, M02, M03, N01, N02, N03, T01, T02, T03, T04, T05, T06, T07, T08, T09, T10, T11, T12, T13, T14, T15, T16, T17, T18, T19, T20, T21, T23, T24, T25, T26, T27}
 use Rattle.asl_syn.specs.declared.code.DynCode.{DynCode}
 use Rattle.asl_syn.specs.declared.code.DynCode.TheVariants.{D01, D02, D03, D04, D05, D06, D07, D08, D09, D10, D11, D12, D13, D14, D15, D16}
 
@@ -44,6 +44,8 @@ static_text T21 = codes "T21"
 static_text T23 = codes "T23"
 static_text T24 = codes "T24"
 static_text T25 = codes "T25"
+static_text T26 = codes "T26"
+static_text T27 = codes "T27"
 
 abbrev pub dynamic_text : DynCode → List ℕ
 dynamic_text D01 = codes "D01"

@@ -83,6 +83,10 @@ pub enum StaticCode {
     T24,
     /// A type that is not a subtype of the named one.
     T25,
+    /// An `implementation` that no `impdef` matches.
+    T26,
+    /// A second `implementation` of one `impdef`.
+    T27,
 }
 
 impl StaticCode {
@@ -132,6 +136,8 @@ impl StaticCode {
             StaticCode::T23 => "T23",
             StaticCode::T24 => "T24",
             StaticCode::T25 => "T25",
+            StaticCode::T26 => "T26",
+            StaticCode::T27 => "T27",
         }
     }
 }

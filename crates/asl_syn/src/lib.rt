@@ -3,5 +3,6 @@
 
 pub mod code;
 pub mod place;
+pub mod read;
 pub mod token;
 pub mod tree;

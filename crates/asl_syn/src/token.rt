@@ -11,8 +11,8 @@ pub struct Span {
     pub len: u32,
 }
 
-/// The reserved words: those with a meaning, and behind them those that are refused wherever they stand. `EOR` and
-/// `XOR` are two words with one meaning.
+/// The words: the reserved ones with a meaning, behind them those that are refused wherever they stand, and last the two
+/// that are names, and have a meaning in an accessor. `EOR` and `XOR` are two words with one meaning.
 #[derive(Clone, Copy, Debug, PartialEq, Eq)]
 pub enum Word {
     BitAnd,
@@ -72,16 +72,18 @@ pub enum Word {
     When,
     Where,
     While,
+    Accessor,
+    ImpDef,
+    Implementation,
     Real,
     StringWord,
     Collection,
     Pragma,
     NoReturn,
     Arbitrary,
-    Accessor,
-    ImpDef,
-    Implementation,
     Config,
+    Getter,
+    Setter,
 }
 
 /// The marks of the language.
@@ -121,6 +123,7 @@ pub enum Mark {
     StarColon,
     Caret,
     Slash,
+    Access,
 }
 
 /// What a token is.

@@ -6,12 +6,12 @@ endif
 syntax case match
 syntax iskeyword 48-57,65-90,97-122,_
 
-syntax keyword aslDeclaration constant func let pure readonly recurselimit subtypes type var
+syntax keyword aslDeclaration accessor constant func getter impdef implementation let pure readonly recurselimit setter subtypes type var
 syntax keyword aslStatement assert begin case catch do downto else elsif end for if looplimit of otherwise pass print println repeat return then throw to try unreachable until when where while
 syntax keyword aslWordOperator AND DIV DIVRM EOR IN MOD NOT OR XOR as
 syntax keyword aslType array bit bits boolean enumeration exception integer record
 syntax keyword aslBoolean FALSE TRUE
-syntax keyword aslLeftOut ARBITRARY accessor collection config impdef implementation noreturn pragma real string
+syntax keyword aslLeftOut ARBITRARY collection config noreturn pragma real string
 syntax keyword aslLibrary UInt SInt Zeros Ones ZeroExtend SignExtend IsZero IsOnes Len Abs Min Max
 
 syntax match aslStray /[^ \t\r]/
@@ -25,6 +25,7 @@ syntax match aslUnusedMark /\//
 syntax match aslOperator /!=\|&&\|::\|<<\|<=\|==\|>=\|>>\|||/
 syntax match aslPunctuation /\*:\|+:\|\.\.\|=>/
 syntax match aslOperator /-->\|<->/
+syntax match aslPunctuation /<=>/
 syntax match aslMalformed /'[0-9A-Za-z_() ]*'\=/
 syntax match aslMask /'\%([01x ]\|([01 ]*[01][01 ]*)\)*'/
 syntax match aslBits /'[01 ]*'/

@@ -1,6 +1,6 @@
 -- From the reader's outcome to what the grammar says.
 use Rattle.std.proofs.Common.{◌≡◌, Bool, ap, sym, ◌∙◌, arith, ℕ, suc, List, Ok, Err, refl}
-use Rattle.asl_syn.specs.declared.tree.Decl.{Decl}
+use Rattle.asl_syn.specs.declared.read.ReadDecl.{ReadDecl}
 use Rattle.asl_grammar.specs.grammar.Cursor.{Lexeme}
 use Rattle.asl_grammar.specs.declared.error.ParseError.{ParseError}
 use Rattle.asl_grammar.specs.declared.error.ParseError.TheVariants.{OutOfMemory, Syntax, TooDeep}
@@ -23,7 +23,7 @@ answers_err levels ts (TooDeep n y) h = (
   λ w k. let q : outcome levels ts ≡ Ok (w, k.1) = tree_parsed Sym Val rule after each covered Program levels ts w k in cc,
 )
 
-answers_of : (levels : ℕ) (ts : List Lexeme) (o : Outcome (List Decl)) → outcome levels ts ≡ o → Answers levels ts (without_end o)
+answers_of : (levels : ℕ) (ts : List Lexeme) (o : Outcome (List ReadDecl)) → outcome levels ts ≡ o → Answers levels ts (without_end o)
 answers_of levels ts (Ok r) h =
     let t = parsed_tree Sym Val rule after each covered Program levels ts r.0 r.1 h in
     (t, λ w k. one_tree Sym Val rule after each covered Program levels ts r.0 w t k)
@@ -42,4 +42,4 @@ same_fault : {A : Type 0} {m n : ℕ} {y z : Bool} → (let o : Outcome A = Err 
 same_fault h = (cc, cc)
 
 pub one_opener_is : (levels : ℕ) (ts : List Lexeme) (m n : ℕ) (y z : Bool) → Opener levels ts m y → Opener levels ts n z → (m ≡ n) × (y ≡ z)
-one_opener_is levels ts m n y z o p = same_fault {A = List Decl} (sym (opener_stops levels ts m y o) ∙ opener_stops levels ts n z p)
+one_opener_is levels ts m n y z o p = same_fault {A = List ReadDecl} (sym (opener_stops levels ts m y o) ∙ opener_stops levels ts n z p)

@@ -92,6 +92,15 @@ pub starts_right : (cs ds : Kinds) (ts : List Lexeme) → starts ds ts ≡ true 
 starts_right cs ds [] h = cc
 starts_right cs ds (t ∷ ts) h = among_append cs ds (kind_of t.kind) ∙ one_of_right _ _ h
 
+-- a kind is none of these
+abbrev pub IsNoneOf : Kinds → Kind → Type 0
+IsNoneOf [] k = Unit {0}
+IsNoneOf (c ∷ cs) k = (k ≡ c → ⊥) × IsNoneOf cs k
+
+pub none_among : (cs : Kinds) (k : Kind) → IsNoneOf cs k → among cs k ≡ true → ⊥
+none_among [] k n h = absurd cc
+none_among (c ∷ cs) k n h = elim (one_of_true (same_kind c k) (among cs k) h) [ inl e ↦ n.0 (sym (same_is c k e)) | inr e ↦ none_among cs k n.1 e ]
+
 among_apart : (cs ds : Kinds) (k : Kind) → apart cs ds ≡ true → among ds k ≡ true → among cs k ≡ false
 among_apart [] ds k a h = refl
 among_apart (c ∷ cs) ds k a h = go (among_apart cs ds k (both_true _ _ a).1 h) (same_kind c k) refl

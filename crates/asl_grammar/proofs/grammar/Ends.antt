@@ -2,7 +2,7 @@
 use Rattle.std.proofs.Common.{◌≡◌, ℕ, zero, suc, ◌⊎◌, inl, inr, Bool, true, false, List, [], ◌∷◌, length, Option, Some, None, Ok, Err, refl}
 use Rattle.asl_syn.specs.declared.code.Fault.{Fault}
 use Rattle.asl_syn.specs.declared.token.Token.{Token}
-use Rattle.asl_syn.specs.declared.tree.Decl.{Decl}
+use Rattle.asl_syn.specs.declared.read.ReadDecl.{ReadDecl}
 use Rattle.asl_grammar.specs.declared.error.ParseError.{ParseError}
 use Rattle.asl_grammar.specs.declared.error.ParseError.TheVariants.{OutOfMemory, Syntax, TooDeep}
 use Rattle.asl_grammar.specs.grammar.Kinds.{kind_of}
@@ -102,9 +102,9 @@ outcome_ends : (levels : ℕ) (ts : List Lexeme) → Ends (outcome levels ts)
 outcome_ends levels ts = ends_bind (parse Sym Val rule (suc levels) Program (start levels ts)) (λ v end. finish v end end.toks) (ends_n (suc levels) Program (start levels ts)) (λ v end. ends_finish v end end.toks)
 
 abbrev pub Known : ℕ → List ℕ → List Token → Type 0
-Known file bytes tokens = ((v : List Decl) × Parses bytes tokens v) ⊎ ((f : Fault) × SyntaxFault file bytes tokens f)
+Known file bytes tokens = ((v : List ReadDecl) × Parses bytes tokens v) ⊎ ((f : Fault) × SyntaxFault file bytes tokens f)
 
-known : (file : ℕ) (bytes : List ℕ) (tokens : List Token) (o : Outcome (List Decl)) → outcome max_levels (lexemes bytes tokens) ≡ o → Ends o → Known file bytes tokens
+known : (file : ℕ) (bytes : List ℕ) (tokens : List Token) (o : Outcome (List ReadDecl)) → outcome max_levels (lexemes bytes tokens) ≡ o → Ends o → Known file bytes tokens
 known file bytes tokens (Ok r) h e = inl (r.0, parsed_tree Sym Val rule after each covered Program max_levels (lexemes bytes tokens) r.0 r.1 h)
 known file bytes tokens (Err OutOfMemory) h e = absurd e
 known file bytes tokens (Err (Syntax n)) h e = inr (_, inl (not_allowed_at file (length bytes) (lexemes bytes tokens) n h))

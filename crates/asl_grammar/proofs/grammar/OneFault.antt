@@ -2,7 +2,7 @@
 use Rattle.std.proofs.Common.{◌≡◌, ℕ, suc, ◌+◌, ◌≤◌, inl, inr, List, [], ◌∷◌, ◌++◌, length, drop, Ok, Err, refl, ap, sym, ◌∙◌, arith, append_assoc, length-append}
 use Rattle.asl_syn.specs.declared.code.Fault.{Fault}
 use Rattle.asl_syn.specs.declared.token.Token.{Token}
-use Rattle.asl_syn.specs.declared.tree.Decl.{Decl}
+use Rattle.asl_syn.specs.declared.read.ReadDecl.{ReadDecl}
 use Rattle.asl_grammar.specs.declared.error.ParseError.TheVariants.{TooDeep}
 use Rattle.asl_grammar.specs.grammar.Cursor.{Lexeme}
 use Rattle.asl_grammar.specs.grammar.Reader.{parse}
@@ -57,15 +57,15 @@ one_syntax_fault file bytes tokens f g (inl a) (inr b) = absurd (not_both file (
 one_syntax_fault file bytes tokens f g (inr a) (inl b) = absurd (not_both file (length bytes) (lexemes bytes tokens) g f b a)
 one_syntax_fault file bytes tokens f g (inr a) (inr b) = one_level_fault (lexemes bytes tokens) f g a b
 
-level_no_tree : (ts : List Lexeme) (f : Fault) → TooManyLevels ts f → (v : List Decl) → Tree max_levels ts v → ⊥
+level_no_tree : (ts : List Lexeme) (f : Fault) → TooManyLevels ts f → (v : List ReadDecl) → Tree max_levels ts v → ⊥
 level_no_tree ts f a v t =
     let p : outcome max_levels ts ≡ Ok (v, t.1) = tree_parsed Sym Val rule after each covered Program max_levels ts v t in
     let q : parse Sym Val rule (suc max_levels) Program (start max_levels ts) ≡ Err (TooDeep (length (a.token ∷ a.rest)) a.late) = opener_stops max_levels ts (length (a.token ∷ a.rest)) a.late (opener_of ts f a) in
     cc
 
-pub no_tree_where_fault : (file : ℕ) (bytes : List ℕ) (tokens : List Token) (f : Fault) (v : List Decl) → SyntaxFault file bytes tokens f → Parses bytes tokens v → ⊥
+pub no_tree_where_fault : (file : ℕ) (bytes : List ℕ) (tokens : List Token) (f : Fault) (v : List ReadDecl) → SyntaxFault file bytes tokens f → Parses bytes tokens v → ⊥
 no_tree_where_fault file bytes tokens f v (inl a) t = a.no_tree v t
 no_tree_where_fault file bytes tokens f v (inr a) t = level_no_tree (lexemes bytes tokens) f a v t
 
-pub one_parse : (bytes : List ℕ) (tokens : List Token) (v w : List Decl) → Parses bytes tokens v → Parses bytes tokens w → v ≡ w
+pub one_parse : (bytes : List ℕ) (tokens : List Token) (v w : List ReadDecl) → Parses bytes tokens v → Parses bytes tokens w → v ≡ w
 one_parse bytes tokens v w p q = one_tree Sym Val rule after each covered Program max_levels (lexemes bytes tokens) v w p q

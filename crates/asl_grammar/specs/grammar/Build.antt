@@ -30,10 +30,16 @@ use Rattle.asl_syn.specs.declared.tree.Bind.TheVariants as bi
 use Rattle.asl_syn.specs.declared.tree.LocalKind.TheVariants as lk
 use Rattle.asl_syn.specs.declared.tree.Stmt.{Stmt}
 use Rattle.asl_syn.specs.declared.tree.Stmt.TheVariants as stm
-use Rattle.asl_syn.specs.declared.tree.Otherwise.{Otherwise}
-use Rattle.asl_syn.specs.declared.tree.Otherwise.TheVariants as ot
-use Rattle.asl_syn.specs.declared.tree.Catcher.{Catcher}
-use Rattle.asl_syn.specs.declared.tree.Catcher.TheVariants as ca
+use Rattle.asl_syn.specs.declared.read.ReadStmt.{ReadStmt}
+use Rattle.asl_syn.specs.declared.read.ReadStmt.TheVariants as rs
+use Rattle.asl_syn.specs.declared.read.ReadOtherwise.{ReadOtherwise}
+use Rattle.asl_syn.specs.declared.read.ReadOtherwise.TheVariants as ro
+use Rattle.asl_syn.specs.declared.read.ReadCatcher.{ReadCatcher}
+use Rattle.asl_syn.specs.declared.read.ReadCatcher.TheVariants as rc
+use Rattle.asl_syn.specs.declared.read.BodyWord.{BodyWord}
+use Rattle.asl_syn.specs.declared.read.BodyWord.TheVariants as bw
+use Rattle.asl_syn.specs.declared.read.ReadDecl.{ReadDecl}
+use Rattle.asl_syn.specs.declared.read.ReadDecl.TheVariants as rd
 use Rattle.asl_syn.specs.declared.tree.Qualifier.{Qualifier}
 use Rattle.asl_syn.specs.declared.tree.Qualifier.TheVariants as ql
 use Rattle.asl_grammar.specs.declared.parts.Braces.{Braces}
@@ -44,6 +50,8 @@ use Rattle.asl_grammar.specs.declared.parts.SliceForm.{SliceForm}
 use Rattle.asl_grammar.specs.declared.parts.SliceForm.TheVariants as sf
 use Rattle.asl_grammar.specs.declared.parts.VarTail.{VarTail}
 use Rattle.asl_grammar.specs.declared.parts.VarTail.TheVariants as vt
+use Rattle.asl_grammar.specs.declared.parts.Bodied.{Bodied}
+use Rattle.asl_grammar.specs.declared.parts.Bodied.TheVariants as bo
 use Rattle.asl_grammar.specs.grammar.Cursor.{Lexeme, Extent, end_of, span_to}
 use Rattle.asl_grammar.specs.grammar.Kinds.{kind_of}
 use Rattle.asl_grammar.specs.grammar.Operators.{binary_of}
@@ -283,21 +291,37 @@ abbrev pub var_of : Span → VarTail → Stmt
 var_of span (vt.Declared is ty) = stm.LocalVars span is ty
 var_of span (vt.Initialised b ty e) = stm.Local span lk.Var b ty e
 
-abbrev pub name_statement_of : Ident → Span → (List Expr × List Expr) ⊎ (List PlacedSuffix × Expr) → Stmt
-name_statement_of i span (inl r) = stm.Invoke span i r.0 r.1
-name_statement_of i span (inr r) = stm.Assign span (place_of i r.0) r.1
+-- a call, or a store through one
+abbrev pub called_of : Ident → Span → List Expr × List Expr → Option (List PlacedSuffix × Expr) → ReadStmt
+called_of i span r None = rs.Simple (stm.Invoke span i r.0 r.1)
+called_of i span r (Some s) = rs.Store span i r.0 r.1 s.0 s.1
 
-abbrev pub or_no_otherwise : Option Otherwise → Otherwise
-or_no_otherwise None = ot.NoOtherwise
+abbrev pub name_statement_of : Ident → Span → ((List Expr × List Expr) × Option (List PlacedSuffix × Expr)) ⊎ (List PlacedSuffix × Expr) → ReadStmt
+name_statement_of i span (inl r) = called_of i span r.0 r.1
+name_statement_of i span (inr r) = rs.Simple (stm.Assign span (place_of i r.0) r.1)
+
+abbrev pub or_no_otherwise : Option ReadOtherwise → ReadOtherwise
+or_no_otherwise None = ro.NoOtherwise
 or_no_otherwise (Some o) = o
 
-abbrev pub no_catchers : Otherwise → List Catcher × Otherwise
+abbrev pub no_catchers : ReadOtherwise → List ReadCatcher × ReadOtherwise
 no_catchers o = ([], o)
 
 -- `when NAME =>` catches a type, `when NAME : NAME =>` names the exception first
-abbrev pub catch_of : Ident → Option Ident → List Stmt → Catcher
-catch_of i None ss = ca.Catch None i ss
-catch_of i (Some t) ss = ca.Catch (Some i) t ss
+abbrev pub catch_of : Ident → Option Ident → List ReadStmt → ReadCatcher
+catch_of i None ss = rc.Catch None i ss
+catch_of i (Some t) ss = rc.Catch (Some i) t ss
 
 abbrev pub untyped : Expr → Option TypeExpr × Option Expr
 untyped e = (None, Some e)
+
+abbrev pub or_no_word : Option BodyWord → BodyWord
+or_no_word None = bw.NoWord
+or_no_word (Some w) = w
+
+-- a declaration with a body, behind its word
+abbrev pub bodied_of : Span → BodyWord → Bodied → ReadDecl
+bodied_of span w (bo.Subprogram q i ps fs result limit ss) =
+    rd.Func (record { span = span; word = w; qualifier = q; name = i; params = ps; formals = fs; result = result; limit = limit; body = ss })
+bodied_of span w (bo.Accessor i ps fs value q getter setter) =
+    rd.Accessor (record { span = span; word = w; name = i; params = ps; formals = fs; value = value; qualifier = q; getter = getter; setter = setter })

@@ -5,7 +5,7 @@ use Rattle.asl_syn.specs.declared.code.StaticCode.TheVariants.{S01, S02, S03}
 use Rattle.asl_syn.specs.declared.code.Fault.{Fault}
 use Rattle.asl_syn.specs.declared.token.Span.{Span}
 use Rattle.asl_syn.specs.declared.token.Token.{Token}
-use Rattle.asl_syn.specs.declared.tree.Decl.{Decl}
+use Rattle.asl_syn.specs.declared.read.ReadDecl.{ReadDecl}
 use Rattle.asl_grammar.specs.declared.kinds.Kind.TheVariants as kind
 use Rattle.asl_grammar.specs.grammar.Kinds.{kind_of, same_kind}
 use Rattle.asl_grammar.specs.grammar.Cursor.{Lexeme, with_text}
@@ -24,7 +24,7 @@ abbrev pub lexemes : List ℕ → List Token → List Lexeme
 lexemes bytes tokens = map (with_text bytes) tokens
 
 -- the tokens of a file have this tree
-abbrev pub Parses : List ℕ → List Token → List Decl → Type 0
+abbrev pub Parses : List ℕ → List Token → List ReadDecl → Type 0
 Parses bytes tokens tree = Tree max_levels (lexemes bytes tokens) tree
 
 -- where the next token stands, or the end of a file of this size
@@ -47,7 +47,7 @@ pub record NotAllowed (file size : ℕ) (ts : List Lexeme) (fault : Fault) : Typ
   pub is : ts ≡ front ++ rest
   pub goes_on : Front max_levels front
   pub no_longer : (longer others : List Lexeme) → ts ≡ longer ++ others → (any : ℕ) → Front any longer → length longer ≤ length front
-  pub no_tree : (w : List Decl) → Tree max_levels ts w → ⊥
+  pub no_tree : (w : List ReadDecl) → Tree max_levels ts w → ⊥
   pub says : fault ≡ refusal file size rest
 
 abbrev pub last_or : Lexeme → List Lexeme → Lexeme

@@ -51,6 +51,7 @@ kind_of_mark mk.Star = kind.Star
 kind_of_mark mk.StarColon = kind.StarColon
 kind_of_mark mk.Caret = kind.Caret
 kind_of_mark mk.Slash = kind.Slash
+kind_of_mark mk.Access = kind.Access
 
 abbrev pub kind_of_word : Word → Kind
 kind_of_word wd.BitAnd = kind.BitAnd
@@ -109,6 +110,11 @@ kind_of_word wd.Var = kind.Var
 kind_of_word wd.When = kind.When
 kind_of_word wd.Where = kind.Where
 kind_of_word wd.While = kind.While
+kind_of_word wd.Accessor = kind.Accessor
+kind_of_word wd.ImpDef = kind.ImpDef
+kind_of_word wd.Implementation = kind.Implementation
+kind_of_word wd.Getter = kind.Getter
+kind_of_word wd.Setter = kind.Setter
 kind_of_word wd.BitEor = kind.BitXor
 kind_of_word wd.Real = kind.LeftOut
 kind_of_word wd.StringWord = kind.LeftOut
@@ -116,9 +122,6 @@ kind_of_word wd.Collection = kind.LeftOut
 kind_of_word wd.Pragma = kind.LeftOut
 kind_of_word wd.NoReturn = kind.LeftOut
 kind_of_word wd.Arbitrary = kind.LeftOut
-kind_of_word wd.Accessor = kind.LeftOut
-kind_of_word wd.ImpDef = kind.LeftOut
-kind_of_word wd.Implementation = kind.LeftOut
 kind_of_word wd.Config = kind.LeftOut
 
 abbrev pub kind_of : TokenKind → Kind

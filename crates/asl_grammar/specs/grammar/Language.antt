@@ -1,6 +1,6 @@
 -- What the grammar says of a list of tokens.
 use Rattle.std.specs.Prelude.{◌≡◌, ℕ, Bool, List, ◌∷◌, ◌++◌, length, Result, Ok, Err}
-use Rattle.asl_syn.specs.declared.tree.Decl.{Decl}
+use Rattle.asl_syn.specs.declared.read.ReadDecl.{ReadDecl}
 use Rattle.asl_grammar.specs.grammar.Cursor.{Lexeme}
 use Rattle.asl_grammar.specs.declared.error.ParseError.{ParseError}
 use Rattle.asl_grammar.specs.declared.error.ParseError.TheVariants.{OutOfMemory, Syntax, TooDeep}
@@ -10,7 +10,7 @@ use Rattle.asl_grammar.specs.grammar.Syntax.{start, Parses, GoesOn, Refuses, Exc
 use Rattle.asl_grammar.specs.grammar.Opening.{Full}
 
 -- the tokens have this tree
-abbrev pub Tree : ℕ → List Lexeme → List Decl → Type 0
+abbrev pub Tree : ℕ → List Lexeme → List ReadDecl → Type 0
 Tree levels ts v = Parses Sym Val rule Program levels ts v
 
 -- a front that goes on
@@ -24,18 +24,18 @@ Opener levels ts left late = (front : List Lexeme) × (x : Lexeme) × (us : List
 -- where it stopped, and why
 abbrev pub Stops : ℕ → List Lexeme → ParseError → Type 0
 Stops levels ts OutOfMemory = Unit {0}
-Stops levels ts (Syntax n) = Refuses Front levels ts n × ((w : List Decl) → Tree levels ts w → ⊥)
-Stops levels ts (TooDeep n late) = Exceeds Front levels ts n × Opener levels ts n late × ((w : List Decl) → Tree levels ts w → ⊥)
+Stops levels ts (Syntax n) = Refuses Front levels ts n × ((w : List ReadDecl) → Tree levels ts w → ⊥)
+Stops levels ts (TooDeep n late) = Exceeds Front levels ts n × Opener levels ts n late × ((w : List ReadDecl) → Tree levels ts w → ⊥)
 
 -- the one tree, or the first token with which the front doesn't go on, or which opens a level too many, unless memory fails
-abbrev pub Answers : ℕ → List Lexeme → Result (List Decl) ParseError → Type 0
-Answers levels ts (Ok v) = Tree levels ts v × ((w : List Decl) → Tree levels ts w → v ≡ w)
+abbrev pub Answers : ℕ → List Lexeme → Result (List ReadDecl) ParseError → Type 0
+Answers levels ts (Ok v) = Tree levels ts v × ((w : List ReadDecl) → Tree levels ts w → v ≡ w)
 Answers levels ts (Err e) = Stops levels ts e
 
-abbrev pub without_end : Outcome (List Decl) → Result (List Decl) ParseError
+abbrev pub without_end : Outcome (List ReadDecl) → Result (List ReadDecl) ParseError
 without_end (Ok r) = Ok r.0
 without_end (Err e) = Err e
 
 -- the reader with one token of lookahead
-abbrev pub outcome : ℕ → List Lexeme → Outcome (List Decl)
+abbrev pub outcome : ℕ → List Lexeme → Outcome (List ReadDecl)
 outcome levels ts = parsed Sym Val rule Program levels ts

@@ -27,13 +27,6 @@ use Rattle.asl_syn.specs.declared.tree.PrintItem.{PrintItem}
 use Rattle.asl_syn.specs.declared.tree.PrintItem.TheVariants as pi
 use Rattle.asl_syn.specs.declared.tree.Stmt.{Stmt}
 use Rattle.asl_syn.specs.declared.tree.Stmt.TheVariants as stm
-use Rattle.asl_syn.specs.declared.tree.ElseIf.{ElseIf}
-use Rattle.asl_syn.specs.declared.tree.ElseIf.TheVariants as ei
-use Rattle.asl_syn.specs.declared.tree.Alternative.{Alternative}
-use Rattle.asl_syn.specs.declared.tree.Alternative.TheVariants as al
-use Rattle.asl_syn.specs.declared.tree.Otherwise.{Otherwise}
-use Rattle.asl_syn.specs.declared.tree.Otherwise.TheVariants as ot
-use Rattle.asl_syn.specs.declared.tree.Catcher.{Catcher}
 use Rattle.asl_syn.specs.declared.tree.Formal.{Formal}
 use Rattle.asl_syn.specs.declared.tree.Param.{Param}
 use Rattle.asl_syn.specs.declared.tree.TypeDef.{TypeDef}
@@ -42,14 +35,25 @@ use Rattle.asl_syn.specs.declared.tree.StorageKind.{StorageKind}
 use Rattle.asl_syn.specs.declared.tree.StorageKind.TheVariants as sk
 use Rattle.asl_syn.specs.declared.tree.Qualifier.{Qualifier}
 use Rattle.asl_syn.specs.declared.tree.Qualifier.TheVariants as ql
-use Rattle.asl_syn.specs.declared.tree.Decl.{Decl}
-use Rattle.asl_syn.specs.declared.tree.Decl.TheVariants as dc
 use Rattle.asl_syn.specs.declared.tree.Ident.{Ident}
 use Rattle.asl_syn.specs.declared.tree.LocalKind.TheVariants as lk
 use Rattle.asl_syn.specs.declared.tree.Direction.{Direction}
 use Rattle.asl_syn.specs.declared.tree.Direction.TheVariants as dr
 use Rattle.asl_syn.specs.declared.tree.PrintKind.{PrintKind}
 use Rattle.asl_syn.specs.declared.tree.PrintKind.TheVariants as pk
+use Rattle.asl_syn.specs.declared.read.ReadStmt.{ReadStmt}
+use Rattle.asl_syn.specs.declared.read.ReadStmt.TheVariants as rs
+use Rattle.asl_syn.specs.declared.read.ReadElseIf.{ReadElseIf}
+use Rattle.asl_syn.specs.declared.read.ReadElseIf.TheVariants as re
+use Rattle.asl_syn.specs.declared.read.ReadAlternative.{ReadAlternative}
+use Rattle.asl_syn.specs.declared.read.ReadAlternative.TheVariants as ra
+use Rattle.asl_syn.specs.declared.read.ReadOtherwise.{ReadOtherwise}
+use Rattle.asl_syn.specs.declared.read.ReadOtherwise.TheVariants as ro
+use Rattle.asl_syn.specs.declared.read.ReadCatcher.{ReadCatcher}
+use Rattle.asl_syn.specs.declared.read.BodyWord.{BodyWord}
+use Rattle.asl_syn.specs.declared.read.BodyWord.TheVariants as bw
+use Rattle.asl_syn.specs.declared.read.ReadDecl.{ReadDecl}
+use Rattle.asl_syn.specs.declared.read.ReadDecl.TheVariants as rd
 use Rattle.asl_grammar.specs.declared.parts.AfterName.{AfterName}
 use Rattle.asl_grammar.specs.declared.parts.AfterName.TheVariants as an
 use Rattle.asl_grammar.specs.declared.parts.Braces.{Braces}
@@ -58,13 +62,15 @@ use Rattle.asl_grammar.specs.declared.parts.VarTail.{VarTail}
 use Rattle.asl_grammar.specs.declared.parts.VarTail.TheVariants as vt
 use Rattle.asl_grammar.specs.declared.parts.SliceForm.{SliceForm}
 use Rattle.asl_grammar.specs.declared.parts.SliceForm.TheVariants as sf
+use Rattle.asl_grammar.specs.declared.parts.Bodied.{Bodied}
+use Rattle.asl_grammar.specs.declared.parts.Bodied.TheVariants as bo
 use Rattle.asl_grammar.specs.declared.kinds.Kind.{Kind}
 use Rattle.asl_grammar.specs.declared.kinds.Kind.TheVariants as kind
 use Rattle.asl_grammar.specs.grammar.Kinds.{kind_of, same_kind}
 use Rattle.asl_grammar.specs.grammar.Operators.{unary_of}
 use Rattle.asl_grammar.specs.grammar.Cursor.{Extent, Kinds, whole}
 use Rattle.asl_grammar.specs.grammar.Combinators.{G, tok, opens, into, seq, either, opt, many, by, spanned, scope, closed, trail, costs, follows}
-use Rattle.asl_grammar.specs.grammar.Build.{seconds, or_nil, behind, int_of, ident, or_unqualified, Link, Links, AsLinks, chained, compared, as_chained, logically, joined, finished, Posts, posted, parens_of, named_of, parameters_or, empty_or, braced, LateTail, NameTail, minus_in_braces_of, name_in_braces_of, slice_of, constraint_part_of, bitfield_of, pattern_of, SumTail, LateRange, minus_pattern_of, bang_pattern_of, pattern_parens_of, place_of, var_tail_of, var_of, name_statement_of, or_no_otherwise, no_catchers, catch_of, untyped, VarRest, MoreNames, Typed, Untyped}
+use Rattle.asl_grammar.specs.grammar.Build.{seconds, or_nil, behind, int_of, ident, or_unqualified, Link, Links, AsLinks, chained, compared, as_chained, logically, joined, finished, Posts, posted, parens_of, named_of, parameters_or, empty_or, braced, LateTail, NameTail, minus_in_braces_of, name_in_braces_of, slice_of, constraint_part_of, bitfield_of, pattern_of, SumTail, LateRange, minus_pattern_of, bang_pattern_of, pattern_parens_of, place_of, var_tail_of, var_of, name_statement_of, or_no_otherwise, no_catchers, catch_of, untyped, or_no_word, bodied_of, VarRest, MoreNames, Typed, Untyped}
 
 -- what stands behind a token that opens a level
 pub data Sym : Type 0 where
@@ -127,13 +133,13 @@ Val Bitfields = List Bitfield
 Val TypeParts = List TypeExpr
 Val ArrayParts = Expr × TypeExpr
 Val TargetParts = List Target
-Val IfBody = Expr × List Stmt × List ElseIf × List Stmt
-Val CaseBody = Expr × List Alternative × Otherwise
-Val ForBody = Ident × Expr × Direction × Expr × Option Expr × List Stmt
-Val WhileBody = Expr × Option Expr × List Stmt
-Val RepeatBody = List Stmt × Expr × Option Expr
-Val TryBody = List Stmt × List Catcher × Otherwise
-Val Program = List Decl
+Val IfBody = Expr × List ReadStmt × List ReadElseIf × List ReadStmt
+Val CaseBody = Expr × List ReadAlternative × ReadOtherwise
+Val ForBody = Ident × Expr × Direction × Expr × Option Expr × List ReadStmt
+Val WhileBody = Expr × Option Expr × List ReadStmt
+Val RepeatBody = List ReadStmt × Expr × Option Expr
+Val TryBody = List ReadStmt × List ReadCatcher × ReadOtherwise
+Val Program = List ReadDecl
 
 abbrev pub Rule : Type 0 → Type 1
 Rule A = G Sym Val A
@@ -142,7 +148,7 @@ Rule A = G Sym Val A
 
 -- NAME
 unfoldable pub name : Rule (Ident)
-name = by ident (tok (kind.Name ∷ []))
+name = by ident (tok (kind.Name ∷ kind.Getter ∷ kind.Setter ∷ []))
 
 -- NAME,..
 unfoldable pub names : Rule (List Ident)
@@ -357,7 +363,7 @@ bit_type = by (λ r. ty.BitType r.span) (tok (kind.Bit ∷ []))
 
 -- NAME
 unfoldable pub named_type : Rule (TypeExpr)
-named_type = by (λ r. ty.NamedType r.span r.text) (tok (kind.Name ∷ []))
+named_type = by (λ r. ty.NamedType r.span r.text) (tok (kind.Name ∷ kind.Getter ∷ kind.Setter ∷ []))
 
 -- "{" (bf,.. ","?)? "}"
 unfoldable pub bitfields : Rule (List Bitfield)
@@ -767,37 +773,6 @@ var_tail = either var_names var_other
 unfoldable pub var_statement : Rule (Stmt)
 var_statement = by (λ r. var_of (whole r.1) r.0.1) (spanned (seq (tok (kind.Var ∷ [])) var_tail))
 
--- "{" (expr,..)? "}"
-unfoldable pub parameters : Rule (List Expr)
-parameters = scope (by (λ r. r.1.0) (seq (opens (kind.OpenBrace ∷ [])) (seq maybe_expressions (tok (kind.CloseBrace ∷ [])))))
-
--- ("{" (expr,..)? "}")?
-unfoldable pub maybe_parameters : Rule (List Expr)
-maybe_parameters = by or_nil (opt parameters)
-
--- args = ("{" (expr,..)? "}")? "(" (expr,..)? ")"
-unfoldable pub call_arguments : Rule (List Expr × List Expr)
-call_arguments = seq maybe_parameters arguments
-
--- args ";"
-unfoldable pub invoked : Rule (List Expr × List Expr)
-invoked = by (λ r. r.0) (seq call_arguments (tok (kind.Semicolon ∷ [])))
-
--- suffix*, each opening a level until the end of the target
-unfoldable pub target_suffixes : Rule (List PlacedSuffix)
-target_suffixes = scope suffixes
-
--- suffix* "=" expr ";"
-unfoldable pub assigned : Rule (List PlacedSuffix × Expr)
-assigned = seq target_suffixes value
-
-unfoldable pub name_statement_rest : Rule ((List Expr × List Expr) ⊎ (List PlacedSuffix × Expr))
-name_statement_rest = either (by inl invoked) (by inr assigned)
-
--- NAME args ";" | lhs "=" expr ";" where lhs begins with a name
-unfoldable pub name_statement : Rule (Stmt)
-name_statement = by (λ r. name_statement_of r.0.0 (whole r.1) r.0.1) (spanned (seq name name_statement_rest))
-
 -- "-"
 unfoldable pub no_target : Rule (Target)
 no_target = by (λ r. tg.Discarded r.span) (tok (kind.Minus ∷ []))
@@ -814,26 +789,6 @@ other_target = either no_target targets
 unfoldable pub assignment : Rule (Stmt)
 assignment = by (λ r. stm.Assign (whole r.1) r.0.0 r.0.1) (spanned (seq other_target value))
 
--- "if" expr "then" stmt* ("elsif" expr "then" stmt*)* ("else" stmt*)? "end" ";"
-unfoldable pub if_statement : Rule (Stmt)
-if_statement = by (λ r. stm.If (whole r.1) r.0.1.0 r.0.1.1 r.0.1.2 r.0.1.3) (spanned (scope (into (kind.If ∷ []) IfBody)))
-
--- "case" expr "of" alt* other? "end" ";"
-unfoldable pub case_statement : Rule (Stmt)
-case_statement = by (λ r. stm.Case (whole r.1) r.0.1.0 r.0.1.1 r.0.1.2) (spanned (scope (into (kind.Case ∷ []) CaseBody)))
-
--- "for" NAME "=" expr ("to" | "downto") expr limit? "do" stmt* "end" ";"
-unfoldable pub for_statement : Rule (Stmt)
-for_statement = by (λ r. stm.For (whole r.1) r.0.1.0 r.0.1.1 r.0.1.2 r.0.1.3 r.0.1.4 r.0.1.5) (spanned (scope (into (kind.For ∷ []) ForBody)))
-
--- "while" expr limit? "do" stmt* "end" ";"
-unfoldable pub while_statement : Rule (Stmt)
-while_statement = by (λ r. stm.While (whole r.1) r.0.1.0 r.0.1.1 r.0.1.2) (spanned (scope (into (kind.While ∷ []) WhileBody)))
-
--- "repeat" stmt* "until" expr limit? ";"
-unfoldable pub repeat_statement : Rule (Stmt)
-repeat_statement = by (λ r. stm.Repeat (whole r.1) r.0.1.0 r.0.1.1 r.0.1.2) (spanned (scope (into (kind.Repeat ∷ []) RepeatBody)))
-
 -- "return" expr? ";"
 unfoldable pub return_statement : Rule (Stmt)
 return_statement = by (λ r. stm.Return (whole r.1) r.0.1.0) (spanned (seq (tok (kind.Return ∷ [])) (seq maybe_expression (tok (kind.Semicolon ∷ [])))))
@@ -841,10 +796,6 @@ return_statement = by (λ r. stm.Return (whole r.1) r.0.1.0) (spanned (seq (tok 
 -- "throw" expr? ";"
 unfoldable pub throw_statement : Rule (Stmt)
 throw_statement = by (λ r. stm.Throw (whole r.1) r.0.1.0) (spanned (seq (tok (kind.Throw ∷ [])) (seq maybe_expression (tok (kind.Semicolon ∷ [])))))
-
--- "try" stmt* "catch" (catcher+ other? | other) "end" ";"
-unfoldable pub try_statement : Rule (Stmt)
-try_statement = by (λ r. stm.Try (whole r.1) r.0.1.0 r.0.1.1 r.0.1.2) (spanned (scope (into (kind.Try ∷ []) TryBody)))
 
 -- "print" | "println"
 unfoldable pub print_kind : Rule (PrintKind)
@@ -874,12 +825,79 @@ print_arguments = scope (by (λ r. r.1.0) (seq (opens (kind.OpenParen ∷ [])) (
 unfoldable pub print_statement : Rule (Stmt)
 print_statement = by (λ r. stm.Print (whole r.1) r.0.0 r.0.1.0) (spanned (seq print_kind (seq print_arguments (tok (kind.Semicolon ∷ [])))))
 
+-- stmt, a form that holds no other and begins with no name
+unfoldable pub simple_statement : Rule (Stmt)
+simple_statement = either pass (either unreachable (either assert (either let_statement (either var_statement (either assignment (either return_statement (either throw_statement print_statement)))))))
+
+-- "{" (expr,..)? "}"
+unfoldable pub parameters : Rule (List Expr)
+parameters = scope (by (λ r. r.1.0) (seq (opens (kind.OpenBrace ∷ [])) (seq maybe_expressions (tok (kind.CloseBrace ∷ [])))))
+
+-- ("{" (expr,..)? "}")?
+unfoldable pub maybe_parameters : Rule (List Expr)
+maybe_parameters = by or_nil (opt parameters)
+
+-- args = ("{" (expr,..)? "}")? "(" (expr,..)? ")"
+unfoldable pub call_arguments : Rule (List Expr × List Expr)
+call_arguments = seq maybe_parameters arguments
+
+-- ";"
+unfoldable pub call_ends : Rule (Option (List PlacedSuffix × Expr))
+call_ends = by (λ r. None) (tok (kind.Semicolon ∷ []))
+
+-- suffix*, each opening a level until the end of the target
+unfoldable pub target_suffixes : Rule (List PlacedSuffix)
+target_suffixes = scope suffixes
+
+-- suffix* "=" expr ";"
+unfoldable pub assigned : Rule (List PlacedSuffix × Expr)
+assigned = seq target_suffixes value
+
+-- ";" | suffix* "=" expr ";"
+unfoldable pub after_call : Rule (Option (List PlacedSuffix × Expr))
+after_call = either call_ends (by Some assigned)
+
+-- args ";" | args suffix* "=" expr ";"
+unfoldable pub called : Rule ((List Expr × List Expr) × Option (List PlacedSuffix × Expr))
+called = seq call_arguments after_call
+
+unfoldable pub name_statement_rest : Rule (((List Expr × List Expr) × Option (List PlacedSuffix × Expr)) ⊎ (List PlacedSuffix × Expr))
+name_statement_rest = either (by inl called) (by inr assigned)
+
+-- NAME args ";" | NAME args suffix* "=" expr ";" | lhs "=" expr ";" where lhs begins with a name
+unfoldable pub name_statement : Rule (ReadStmt)
+name_statement = by (λ r. name_statement_of r.0.0 (whole r.1) r.0.1) (spanned (seq name name_statement_rest))
+
+-- "if" expr "then" stmt* ("elsif" expr "then" stmt*)* ("else" stmt*)? "end" ";"
+unfoldable pub if_statement : Rule (ReadStmt)
+if_statement = by (λ r. rs.If (whole r.1) r.0.1.0 r.0.1.1 r.0.1.2 r.0.1.3) (spanned (scope (into (kind.If ∷ []) IfBody)))
+
+-- "case" expr "of" alt* other? "end" ";"
+unfoldable pub case_statement : Rule (ReadStmt)
+case_statement = by (λ r. rs.Case (whole r.1) r.0.1.0 r.0.1.1 r.0.1.2) (spanned (scope (into (kind.Case ∷ []) CaseBody)))
+
+-- "for" NAME "=" expr ("to" | "downto") expr limit? "do" stmt* "end" ";"
+unfoldable pub for_statement : Rule (ReadStmt)
+for_statement = by (λ r. rs.For (whole r.1) r.0.1.0 r.0.1.1 r.0.1.2 r.0.1.3 r.0.1.4 r.0.1.5) (spanned (scope (into (kind.For ∷ []) ForBody)))
+
+-- "while" expr limit? "do" stmt* "end" ";"
+unfoldable pub while_statement : Rule (ReadStmt)
+while_statement = by (λ r. rs.While (whole r.1) r.0.1.0 r.0.1.1 r.0.1.2) (spanned (scope (into (kind.While ∷ []) WhileBody)))
+
+-- "repeat" stmt* "until" expr limit? ";"
+unfoldable pub repeat_statement : Rule (ReadStmt)
+repeat_statement = by (λ r. rs.Repeat (whole r.1) r.0.1.0 r.0.1.1 r.0.1.2) (spanned (scope (into (kind.Repeat ∷ []) RepeatBody)))
+
+-- "try" stmt* "catch" (catcher+ other? | other) "end" ";"
+unfoldable pub try_statement : Rule (ReadStmt)
+try_statement = by (λ r. rs.Try (whole r.1) r.0.1.0 r.0.1.1 r.0.1.2) (spanned (scope (into (kind.Try ∷ []) TryBody)))
+
 -- stmt, one of the forms above
-unfoldable pub statement : Rule (Stmt)
-statement = either pass (either unreachable (either assert (either let_statement (either var_statement (either name_statement (either assignment (either if_statement (either case_statement (either for_statement (either while_statement (either repeat_statement (either return_statement (either throw_statement (either try_statement print_statement))))))))))))))
+unfoldable pub statement : Rule (ReadStmt)
+statement = either (by rs.Simple simple_statement) (either name_statement (either if_statement (either case_statement (either for_statement (either while_statement (either repeat_statement try_statement))))))
 
 -- stmt*
-unfoldable pub block : Rule (List Stmt)
+unfoldable pub block : Rule (List ReadStmt)
 block = many statement
 
 -- limit? where limit = "looplimit" expr
@@ -887,11 +905,11 @@ unfoldable pub loop_limit : Rule (Option Expr)
 loop_limit = opt (by (λ r. r.1) (seq (tok (kind.LoopLimit ∷ [])) expression))
 
 -- other = "otherwise" "=>" stmt*
-unfoldable pub otherwise : Rule (Otherwise)
-otherwise = by (λ r. ot.Otherwise r.1.1) (seq (tok (kind.Otherwise ∷ [])) (seq (tok (kind.FatArrow ∷ [])) block))
+unfoldable pub otherwise : Rule (ReadOtherwise)
+otherwise = by (λ r. ro.Otherwise r.1.1) (seq (tok (kind.Otherwise ∷ [])) (seq (tok (kind.FatArrow ∷ [])) block))
 
 -- other?
-unfoldable pub maybe_otherwise : Rule (Otherwise)
+unfoldable pub maybe_otherwise : Rule (ReadOtherwise)
 maybe_otherwise = by or_no_otherwise (opt otherwise)
 
 -- NAME suffix*
@@ -914,21 +932,21 @@ unfoldable pub target_parts : Rule (List Target)
 target_parts = by (λ r. r.0) (seq two_targets (tok (kind.CloseParen ∷ [])))
 
 -- "elsif" expr "then" stmt*
-unfoldable pub else_if : Rule (ElseIf)
-else_if = by (λ r. ei.ElseIf r.1.0 r.1.1.1) (seq (tok (kind.ElsIf ∷ [])) (seq expression (seq (tok (kind.Then ∷ [])) block)))
+unfoldable pub else_if : Rule (ReadElseIf)
+else_if = by (λ r. re.ElseIf r.1.0 r.1.1.1) (seq (tok (kind.ElsIf ∷ [])) (seq expression (seq (tok (kind.Then ∷ [])) block)))
 
-unfoldable pub else_ifs : Rule (List ElseIf)
+unfoldable pub else_ifs : Rule (List ReadElseIf)
 else_ifs = many else_if
 
 -- "else" stmt*
-unfoldable pub else_block : Rule (List Stmt)
+unfoldable pub else_block : Rule (List ReadStmt)
 else_block = by (λ r. r.1) (seq (tok (kind.Else ∷ [])) block)
 
-unfoldable pub maybe_else : Rule (List Stmt)
+unfoldable pub maybe_else : Rule (List ReadStmt)
 maybe_else = by or_nil (opt else_block)
 
 -- expr "then" stmt* ("elsif" expr "then" stmt*)* ("else" stmt*)? "end" ";"
-unfoldable pub if_body : Rule (Expr × List Stmt × List ElseIf × List Stmt)
+unfoldable pub if_body : Rule (Expr × List ReadStmt × List ReadElseIf × List ReadStmt)
 if_body = by (λ r. (r.0, r.1.1.0, r.1.1.1.0, r.1.1.1.1.0)) (seq expression (seq (tok (kind.Then ∷ [])) (seq block (seq else_ifs (seq maybe_else (seq (tok (kind.End ∷ [])) (tok (kind.Semicolon ∷ []))))))))
 
 -- ("where" expr)?
@@ -936,15 +954,15 @@ unfoldable pub where_clause : Rule (Option Expr)
 where_clause = opt (by (λ r. r.1) (seq (tok (kind.Where ∷ [])) expression))
 
 -- alt = "when" pattern,.. ("where" expr)? "=>" stmt*
-unfoldable pub alternative : Rule (Alternative)
-alternative = by (λ r. al.When r.1.0 r.1.1.0 r.1.1.1.1) (seq (tok (kind.When ∷ [])) (seq patterns (seq where_clause (seq (tok (kind.FatArrow ∷ [])) block))))
+unfoldable pub alternative : Rule (ReadAlternative)
+alternative = by (λ r. ra.When r.1.0 r.1.1.0 r.1.1.1.1) (seq (tok (kind.When ∷ [])) (seq patterns (seq where_clause (seq (tok (kind.FatArrow ∷ [])) block))))
 
 -- alt*
-unfoldable pub alternatives : Rule (List Alternative)
+unfoldable pub alternatives : Rule (List ReadAlternative)
 alternatives = many alternative
 
 -- expr "of" alt* other? "end" ";"
-unfoldable pub case_body : Rule (Expr × List Alternative × Otherwise)
+unfoldable pub case_body : Rule (Expr × List ReadAlternative × ReadOtherwise)
 case_body = by (λ r. (r.0, r.1.1.0, r.1.1.1.0)) (seq expression (seq (tok (kind.Of ∷ [])) (seq alternatives (seq maybe_otherwise (seq (tok (kind.End ∷ [])) (tok (kind.Semicolon ∷ [])))))))
 
 -- "to" | "downto"
@@ -952,15 +970,15 @@ unfoldable pub direction : Rule (Direction)
 direction = either (by (λ r. dr.Up) (tok (kind.To ∷ []))) (by (λ r. dr.Down) (tok (kind.DownTo ∷ [])))
 
 -- NAME "=" expr ("to" | "downto") expr limit? "do" stmt* "end" ";"
-unfoldable pub for_body : Rule (Ident × Expr × Direction × Expr × Option Expr × List Stmt)
+unfoldable pub for_body : Rule (Ident × Expr × Direction × Expr × Option Expr × List ReadStmt)
 for_body = by (λ r. (r.0, r.1.1.0, r.1.1.1.0, r.1.1.1.1.0, r.1.1.1.1.1.0, r.1.1.1.1.1.1.1.0)) (seq name (seq (tok (kind.Assign ∷ [])) (seq expression (seq direction (seq expression (seq loop_limit (seq (tok (kind.Do ∷ [])) (seq block (seq (tok (kind.End ∷ [])) (tok (kind.Semicolon ∷ [])))))))))))
 
 -- expr limit? "do" stmt* "end" ";"
-unfoldable pub while_body : Rule (Expr × Option Expr × List Stmt)
+unfoldable pub while_body : Rule (Expr × Option Expr × List ReadStmt)
 while_body = by (λ r. (r.0, r.1.0, r.1.1.1.0)) (seq expression (seq loop_limit (seq (tok (kind.Do ∷ [])) (seq block (seq (tok (kind.End ∷ [])) (tok (kind.Semicolon ∷ [])))))))
 
 -- stmt* "until" expr limit? ";"
-unfoldable pub repeat_body : Rule (List Stmt × Expr × Option Expr)
+unfoldable pub repeat_body : Rule (List ReadStmt × Expr × Option Expr)
 repeat_body = by (λ r. (r.0, r.1.1.0, r.1.1.1.0)) (seq block (seq (tok (kind.Until ∷ [])) (seq expression (seq loop_limit (tok (kind.Semicolon ∷ []))))))
 
 -- (":" NAME)?
@@ -968,22 +986,22 @@ unfoldable pub caught_type : Rule (Option Ident)
 caught_type = opt (by (λ r. r.1) (seq (tok (kind.Colon ∷ [])) name))
 
 -- catcher = "when" (NAME ":")? NAME "=>" stmt*
-unfoldable pub catcher : Rule (Catcher)
+unfoldable pub catcher : Rule (ReadCatcher)
 catcher = by (λ r. catch_of r.1.0 r.1.1.0 r.1.1.1.1) (seq (tok (kind.When ∷ [])) (seq name (seq caught_type (seq (tok (kind.FatArrow ∷ [])) block))))
 
-unfoldable pub catchers : Rule (List Catcher)
+unfoldable pub catchers : Rule (List ReadCatcher)
 catchers = many catcher
 
 -- catcher+ other?
-unfoldable pub some_catchers : Rule (List Catcher × Otherwise)
+unfoldable pub some_catchers : Rule (List ReadCatcher × ReadOtherwise)
 some_catchers = by (λ r. (r.0 ∷ r.1.0, r.1.1)) (seq catcher (seq catchers maybe_otherwise))
 
 -- catcher+ other? | other
-unfoldable pub handlers : Rule (List Catcher × Otherwise)
+unfoldable pub handlers : Rule (List ReadCatcher × ReadOtherwise)
 handlers = either some_catchers (by no_catchers otherwise)
 
 -- stmt* "catch" (catcher+ other? | other) "end" ";"
-unfoldable pub try_body : Rule (List Stmt × List Catcher × Otherwise)
+unfoldable pub try_body : Rule (List ReadStmt × List ReadCatcher × ReadOtherwise)
 try_body = by (λ r. (r.0, r.1.1.0.0, r.1.1.0.1)) (seq block (seq (tok (kind.Catch ∷ [])) (seq handlers (seq (tok (kind.End ∷ [])) (tok (kind.Semicolon ∷ []))))))
 
 -- ---- Declarations
@@ -1074,16 +1092,16 @@ unfoldable pub supertype : Rule (Option Ident)
 supertype = opt (by (λ r. r.1) (seq (tok (kind.Subtypes ∷ [])) name))
 
 -- "type" NAME "of" tydef ("subtypes" NAME)? ";"
-unfoldable pub type_decl : Rule (Decl)
-type_decl = by (λ r. dc.Type (record { span = (whole r.1); name = r.0.1.0; def = r.0.1.1.1.0; supertype = r.0.1.1.1.1.0 })) (spanned (seq (tok (kind.TypeWord ∷ [])) (seq name (seq (tok (kind.Of ∷ [])) (seq type_definition (seq supertype (tok (kind.Semicolon ∷ []))))))))
+unfoldable pub type_decl : Rule (ReadDecl)
+type_decl = by (λ r. rd.Type (record { span = (whole r.1); name = r.0.1.0; def = r.0.1.1.1.0; supertype = r.0.1.1.1.1.0 })) (spanned (seq (tok (kind.TypeWord ∷ [])) (seq name (seq (tok (kind.Of ∷ [])) (seq type_definition (seq supertype (tok (kind.Semicolon ∷ []))))))))
 
 -- "constant" | "let"
 unfoldable pub fixed_kind : Rule (StorageKind)
 fixed_kind = either (by (λ r. sk.Constant) (tok (kind.Constant ∷ []))) (by (λ r. sk.Let) (tok (kind.Let ∷ [])))
 
 -- ("constant" | "let") NAME (":" type)? "=" expr ";"
-unfoldable pub fixed_storage : Rule (Decl)
-fixed_storage = by (λ r. dc.Storage (record { span = (whole r.1); kind = r.0.0; name = r.0.1.0; ty = r.0.1.1.0; init = Some r.0.1.1.1 })) (spanned (seq fixed_kind (seq name (seq typed value))))
+unfoldable pub fixed_storage : Rule (ReadDecl)
+fixed_storage = by (λ r. rd.Storage (record { span = (whole r.1); kind = r.0.0; name = r.0.1.0; ty = r.0.1.1.0; init = Some r.0.1.1.1 })) (spanned (seq fixed_kind (seq name (seq typed value))))
 
 -- ":" type ";" | ":" type "=" expr ";"
 unfoldable pub typed_var : Rule (Option TypeExpr × Option Expr)
@@ -1094,8 +1112,8 @@ unfoldable pub global_rest : Rule (Option TypeExpr × Option Expr)
 global_rest = either typed_var (by untyped value)
 
 -- "var" NAME (":" type)? "=" expr ";" | "var" NAME ":" type ";"
-unfoldable pub global_var : Rule (Decl)
-global_var = by (λ r. dc.Storage (record { span = (whole r.1); kind = sk.Var; name = r.0.1.0; ty = r.0.1.1.0; init = r.0.1.1.1 })) (spanned (seq (tok (kind.Var ∷ [])) (seq name global_rest)))
+unfoldable pub global_var : Rule (ReadDecl)
+global_var = by (λ r. rd.Storage (record { span = (whole r.1); kind = sk.Var; name = r.0.1.0; ty = r.0.1.1.0; init = r.0.1.1.1 })) (spanned (seq (tok (kind.Var ∷ [])) (seq name global_rest)))
 
 -- ("=>" type)?
 unfoldable pub result_type : Rule (Option TypeExpr)
@@ -1113,16 +1131,44 @@ written_qualifier = either (by (λ r. ql.Pure) (tok (kind.Pure ∷ []))) (by (λ
 unfoldable pub qualifier : Rule (Qualifier)
 qualifier = by or_unqualified (opt written_qualifier)
 
+-- "impdef" | "implementation"
+unfoldable pub body_word : Rule (BodyWord)
+body_word = either (by (λ r. bw.ImpDef) (tok (kind.ImpDef ∷ []))) (by (λ r. bw.Implementation) (tok (kind.Implementation ∷ [])))
+
+-- ("impdef" | "implementation")?
+unfoldable pub maybe_body_word : Rule (BodyWord)
+maybe_body_word = by or_no_word (opt body_word)
+
 -- ("pure" | "readonly")? "func" NAME ("{" (param,..)? "}")? "(" (formal,..)? ")" ("=>" type)? ("recurselimit" expr)? "begin" stmt* "end" ";"
-unfoldable pub function : Rule (Decl)
-function = by (λ r. dc.Func (record { span = (whole r.1); qualifier = r.0.0; name = r.0.1.1.0; params = r.0.1.1.1.0; formals = r.0.1.1.1.1.0; result = r.0.1.1.1.1.1.0; limit = r.0.1.1.1.1.1.1.0; body = r.0.1.1.1.1.1.1.1.1.0 })) (spanned (seq qualifier (seq (tok (kind.Func ∷ [])) (seq name (seq maybe_params (seq formals (seq result_type (seq recursion_limit (seq (tok (kind.Begin ∷ [])) (seq block (seq (tok (kind.End ∷ [])) (tok (kind.Semicolon ∷ [])))))))))))))
+unfoldable pub function : Rule (Bodied)
+function = by (λ r. bo.Subprogram r.0 r.1.1.0 r.1.1.1.0 r.1.1.1.1.0 r.1.1.1.1.1.0 r.1.1.1.1.1.1.0 r.1.1.1.1.1.1.1.1.0) (seq qualifier (seq (tok (kind.Func ∷ [])) (seq name (seq maybe_params (seq formals (seq result_type (seq recursion_limit (seq (tok (kind.Begin ∷ [])) (seq block (seq (tok (kind.End ∷ [])) (tok (kind.Semicolon ∷ []))))))))))))
+
+-- ("pure" | "readonly")? "getter" stmt* "end" ";"
+unfoldable pub getter : Rule (Qualifier × List ReadStmt)
+getter = by (λ r. (r.0, r.1.1.0)) (seq qualifier (seq (tok (kind.Getter ∷ [])) (seq block (seq (tok (kind.End ∷ [])) (tok (kind.Semicolon ∷ []))))))
+
+-- "setter" stmt* "end" ";"
+unfoldable pub setter : Rule (List ReadStmt)
+setter = by (λ r. r.1.0) (seq (tok (kind.Setter ∷ [])) (seq block (seq (tok (kind.End ∷ [])) (tok (kind.Semicolon ∷ [])))))
+
+-- "accessor" NAME ("{" (param,..)? "}")? "(" (formal,..)? ")" "<=>" NAME ":" type "begin" ("pure" | "readonly")? "getter" stmt* "end" ";" "setter" stmt* "end" ";" "end" ";"
+unfoldable pub accessor : Rule (Bodied)
+accessor = by (λ r. bo.Accessor r.1.0 r.1.1.0 r.1.1.1.0 r.1.1.1.1.1.0 r.1.1.1.1.1.1.1.0.0 r.1.1.1.1.1.1.1.0.1 r.1.1.1.1.1.1.1.1.0) (seq (tok (kind.Accessor ∷ [])) (seq name (seq maybe_params (seq formals (seq (tok (kind.Access ∷ [])) (seq formal (seq (tok (kind.Begin ∷ [])) (seq getter (seq setter (seq (tok (kind.End ∷ [])) (tok (kind.Semicolon ∷ []))))))))))))
+
+-- a subprogram or an accessor
+unfoldable pub behind_word : Rule (Bodied)
+behind_word = either function accessor
+
+-- ("impdef" | "implementation")?, and a subprogram or an accessor
+unfoldable pub bodied : Rule (ReadDecl)
+bodied = by (λ r. bodied_of (whole r.1) r.0.0 r.0.1) (spanned (seq maybe_body_word behind_word))
 
 -- decl, one of the forms above
-unfoldable pub declaration : Rule (Decl)
-declaration = either type_decl (either fixed_storage (either global_var function))
+unfoldable pub declaration : Rule (ReadDecl)
+declaration = either type_decl (either fixed_storage (either global_var bodied))
 
 -- program = decl*
-unfoldable pub program : Rule (List Decl)
+unfoldable pub program : Rule (List ReadDecl)
 program = many declaration
 
 -- ---- Symbols
@@ -1172,4 +1218,4 @@ after ForBody = []
 after WhileBody = []
 after RepeatBody = []
 after TryBody = []
-after Program = (kind.Constant ∷ kind.Func ∷ kind.Let ∷ kind.Pure ∷ kind.ReadOnly ∷ kind.TypeWord ∷ kind.Var ∷ [])
+after Program = (kind.Constant ∷ kind.Func ∷ kind.Let ∷ kind.Pure ∷ kind.ReadOnly ∷ kind.TypeWord ∷ kind.Var ∷ kind.Accessor ∷ kind.ImpDef ∷ kind.Implementation ∷ [])

@@ -1,16 +1,15 @@
 -- Texts that are split at bytes, and at the commas outside brackets: those between commas stay in one part.
 use Rattle.std.proofs.Common.{◌≡◌, ℕ, suc, ◌-◌, ◌==◌, Bool, true, false, ◌&&◌, ◌||◌, not, List, [], ◌∷◌, ◌++◌, map, drop, refl, sym, ap}
 use Rattle.std.proofs.Common.{◌∙◌, subst, append_assoc, arith}
-use Rattle.std.specs.Prelude.{if◌then◌else◌, codes, is_some}
+use Rattle.std.specs.Prelude.{if◌then◌else◌, codes}
 use Rattle.std.specs.Str.{bytes_eq}
 use Rattle.std.specs.List.{list_all, slice_split, onto_first}
 use Rattle.std.proofs.lemmas.Bool.Decides.{nat_tests}
 use Rattle.asl_grammar.specs.lexemes.Bytes.{is_name_start, is_name_byte}
-use Rattle.asl_grammar.specs.lexemes.Words.{word_of}
 use Rattle.asl_rules.specs.report.Texts.{Text}
 use Rattle.asl_rules.proofs.basics.Tests.{both, and_true, or_first, or_second}
 use Rattle.asl_laws.specs.certificates.Texts.{with_commas}
-use Rattle.asl_laws.specs.certificates.Format.{begins, byte_first, is_opening, is_closing, level, outer_parts, is_digit, is_number, is_name}
+use Rattle.asl_laws.specs.certificates.Format.{begins, byte_first, is_opening, is_closing, level, outer_parts, is_digit, is_number, is_word, is_name}
 use Rattle.asl_laws.specs.certificates.Format.{is_star, in_order, is_term_of, is_term, term_in, terms_rise, is_sign, without_minus}
 use Rattle.asl_laws.specs.certificates.Format.{is_sum}
 use Rattle.asl_laws.proofs.certificates.Lines.{same_nat, nat_same}
@@ -68,8 +67,8 @@ pub names_quiet : (t : Text) → is_name t ≡ true → Quiet t
 unfolding All
 names_quiet [] h = no_way h
 names_quiet (b ∷ bs) h =
-    let a = both (is_name_start b) (list_all is_name_byte bs && not (is_some (word_of (b ∷ bs)))) h in
-    let c = both (list_all is_name_byte bs) (not (is_some (word_of (b ∷ bs)))) a.1 in
+    let a = both (is_name_start b) (list_all is_name_byte bs && not (is_word (b ∷ bs))) h in
+    let c = both (list_all is_name_byte bs) (not (is_word (b ∷ bs))) a.1 in
     (name_quiet b (or_first (is_name_start b) _ a.0), all_weaker is_name_byte quiet name_quiet bs (all_of is_name_byte bs c.0))
 
 -- ---- split texts

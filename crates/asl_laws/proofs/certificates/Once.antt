@@ -9,8 +9,7 @@ use Rattle.asl_rules.specs.Faults.{◌>>=◌, ◌>>◌, need}
 use Rattle.asl_rules.specs.Tests.{Tests}
 use Rattle.asl_rules.specs.declarations.Scopes.{Scope, Body, Signature}
 use Rattle.asl_rules.specs.expressions.Typing.{Typed}
-use Rattle.asl_rules.specs.expressions.Exprs.{typed}
-use Rattle.asl_rules.specs.runs.Evaluation.{expr_span}
+use Rattle.asl_rules.specs.expressions.Exprs.{typed, expr_span}
 use Rattle.asl_rules.specs.statements.Acting.{FoundStmt, in_order}
 use Rattle.asl_rules.specs.declarations.Programs.{Head, body_of, may_end, tree_func, body_rule}
 use Rattle.asl_rules.proofs.verdict.SameRules.{AllOf}

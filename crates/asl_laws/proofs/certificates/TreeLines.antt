@@ -31,10 +31,7 @@ use Rattle.asl_rules.specs.expressions.Patterns.{FoundPattern, Matched, all_matc
 use Rattle.asl_rules.specs.values.Members.{Member, a_field, a_bitfield, member_tree}
 use Rattle.asl_rules.specs.declarations.Routines.{Routine, routine_named}
 use Rattle.asl_rules.specs.expressions.Calls.{call_begun, function_of}
-use Rattle.asl_rules.specs.runs.Evaluation.{expr_span}
-use Rattle.asl_rules.specs.expressions.Exprs.{ExprOf, FoundField, span_of, name_of_standing, typed_rule, found, found_slice, found_pattern}
-use Rattle.asl_rules.specs.expressions.Exprs.{typed, values_given, expr_rule, given_rule, slice_rule, part_rule, bitfield_rule, type_rule}
-use Rattle.asl_rules.specs.expressions.Exprs.{pattern_rule}
+use Rattle.asl_rules.specs.expressions.Exprs.{expr_span, ExprOf, FoundField, span_of, name_of_standing, typed_rule, found, found_slice, found_pattern, typed, values_given, expr_rule, given_rule, slice_rule, part_rule, bitfield_rule, type_rule, pattern_rule}
 use Rattle.asl_rules.proofs.basics.Inversions.{bind_ok, then_ok, need_ok, ok_ok}
 use Rattle.asl_rules.proofs.basics.Answering.{OfAnswer, steps_before, of_this}
 use Rattle.asl_rules.proofs.basics.Opening.{found_field, opened, unrolled, field_opened, pattern_opened}

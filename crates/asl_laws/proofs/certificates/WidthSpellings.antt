@@ -1,17 +1,16 @@
 -- Widths are recognised exactly where they are put together from terms.
 use Rattle.std.proofs.Common.{◌≡◌, ◌⊎◌, inl, inr, length, ℕ, ◌==◌, Bool, true, false, ◌&&◌, ◌||◌, not, List, [], ◌∷◌, ◌++◌, map, drop, refl, sym, ap}
 use Rattle.std.proofs.Common.{◌∙◌, subst, append_assoc}
-use Rattle.std.specs.Prelude.{if◌then◌else◌, codes, is_some}
+use Rattle.std.specs.Prelude.{if◌then◌else◌, codes}
 use Rattle.std.specs.Str.{bytes_eq}
 use Rattle.std.specs.List.{list_all, slice_split, onto_first, join_with_byte}
 use Rattle.std.proofs.lemmas.Slice.Eq.{bytes_eq-Decides}
 use Rattle.std.proofs.Math.Seq.{drop-append_seam}
 use Rattle.asl_grammar.specs.lexemes.Bytes.{is_name_start, is_name_byte}
-use Rattle.asl_grammar.specs.lexemes.Words.{word_of}
 use Rattle.asl_rules.specs.report.Texts.{Text}
 use Rattle.asl_rules.proofs.basics.Tests.{both, and_true, or_first, or_second}
 use Rattle.asl_laws.specs.certificates.Texts.{factors_text}
-use Rattle.asl_laws.specs.certificates.Format.{begins, is_digit, is_number, is_name, is_star, in_order, is_term_of, is_term, term_in}
+use Rattle.asl_laws.specs.certificates.Format.{begins, is_digit, is_number, is_word, is_name, is_star, in_order, is_term_of, is_term, term_in}
 use Rattle.asl_laws.specs.certificates.Format.{terms_rise, is_sign, are_terms, without_minus, before_close}
 use Rattle.asl_laws.specs.certificates.Format.{is_sum, is_denominator, is_quotient}
 use Rattle.asl_laws.specs.certificates.Spellings.{IsName, IsWidth, Each, TermSpelled, signed, terms_in, TermsSpelled, QuotientSpelled, WidthSpelled}
@@ -184,8 +183,8 @@ name_bytes : (t : Text) → is_name t ≡ true → All is_name_byte t
 unfolding All
 name_bytes [] h = no_way h
 name_bytes (b ∷ bs) h =
-    let a = both (is_name_start b) (list_all is_name_byte bs && not (is_some (word_of (b ∷ bs)))) h in
-    let c = both (list_all is_name_byte bs) (not (is_some (word_of (b ∷ bs)))) a.1 in
+    let a = both (is_name_start b) (list_all is_name_byte bs && not (is_word (b ∷ bs))) h in
+    let c = both (list_all is_name_byte bs) (not (is_word (b ∷ bs))) a.1 in
     (or_first (is_name_start b) _ a.0, all_of is_name_byte bs c.0)
 
 -- a byte of a class that another isn't of

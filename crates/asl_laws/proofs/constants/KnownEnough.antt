@@ -11,13 +11,13 @@ use Rattle.asl_rules.specs.runs.Pures.{◌>>=◌}
 use Rattle.asl_rules.specs.runs.ByNames.{expr_plan}
 use Rattle.asl_rules.specs.declarations.Constants.{Known, before_runs, known_parts, settled, constant}
 use Rattle.asl_rules.specs.declarations.Programs.{Environment}
-use Rattle.asl_rules.specs.runs.Evaluation.{in_state, tree_parts, meaning, expr_span}
+use Rattle.asl_rules.specs.expressions.Exprs.{expr_span, span_of}
+use Rattle.asl_rules.specs.runs.Evaluation.{in_state, tree_parts, meaning}
 use Rattle.asl_laws.specs.BeforeRuns.{HoldsInitial, EndsSo, IsBarred, HoldsCall, Enough, OneEvaluation}
 use Rattle.asl_laws.proofs.runs.Budget.{enter_some}
 use Rattle.asl_rules.proofs.constants.KnownParts.{known_layer, constant_out}
 use Rattle.asl_laws.proofs.constants.KnownTwins.{IsCall, Twin, PlansTwin, of_all}
 use Rattle.asl_laws.proofs.constants.KnownRuns.{node_before}
-use Rattle.asl_rules.specs.expressions.Exprs.{span_of}
 
 module _ (env : Environment) (c : Core) (K : Type 0) where
   -- a run ends as was known, and takes no more than n steps, or there is a call, which may be where K holds

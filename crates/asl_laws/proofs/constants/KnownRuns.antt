@@ -12,11 +12,11 @@ use Rattle.asl_rules.specs.runs.Pures.{◌>>=◌}
 use Rattle.asl_rules.specs.runs.ByNames.{expr_plan}
 use Rattle.asl_rules.specs.declarations.Constants.{Known, before_runs, known_parts, settled, constant}
 use Rattle.asl_rules.specs.declarations.Programs.{Environment}
-use Rattle.asl_rules.specs.runs.Evaluation.{in_state, tree_parts, meaning, expr_span}
+use Rattle.asl_rules.specs.expressions.Exprs.{expr_span, span_of}
+use Rattle.asl_rules.specs.runs.Evaluation.{in_state, tree_parts, meaning}
 use Rattle.asl_laws.specs.BeforeRuns.{HoldsInitial, RanOut, HoldsCall, AsBefore}
 use Rattle.asl_rules.proofs.constants.KnownParts.{known_layer, constant_out}
 use Rattle.asl_laws.proofs.constants.KnownTwins.{IsCall, Twin, PlansTwin, of_all}
-use Rattle.asl_rules.specs.expressions.Exprs.{span_of}
 
 module _ (env : Environment) (c : Core) where
   call_barred : {A B : Type 0} (span : Span) (q : Plan (List Entry) Known Known B) (f : B → Pure A) → IsCall q → HoldsCall (settled span env.names q >>= f)

@@ -2,7 +2,8 @@
 use Rattle.std.proofs.Common.{◌≡◌, ℕ, inl, inr, List, [], ◌∷◌, Ok, refl, true}
 use Rattle.asl_syn.specs.declared.tree.Decl.{Decl}
 use Rattle.asl_syn.specs.declared.tree.Decl.TheVariants as dc
-use Rattle.asl_grammar.specs.Reading.{File, ReadsAt}
+use Rattle.asl_grammar.specs.Reading.{File}
+use Rattle.asl_laws.specs.Answers.{AreJudged}
 use Rattle.asl_rules.specs.declared.entry.Entry.{Entry as Asked}
 use Rattle.asl_rules.specs.Tests.{Tests, IsRight}
 use Rattle.asl_rules.specs.declarations.Names.{names_rule, all_declared}
@@ -15,7 +16,7 @@ use Rattle.asl_laws.specs.Described.{Described, AllDescribed, Describes}
 use Rattle.asl_rules.proofs.basics.Inversions.{bind_ok, then_ok}
 use Rattle.asl_laws.proofs.constants.KnownTypes.{resting_agrees}
 use Rattle.asl_laws.proofs.scopes.Globals.{AllBelong, grown_labels, names_good, globals_good}
-use Rattle.asl_laws.proofs.scopes.GrownTexts.{read_grown_at}
+use Rattle.asl_laws.proofs.scopes.GrownTexts.{judged_grown}
 use Rattle.asl_laws.proofs.soundness.GivenTypes.{belong_by_forms}
 use Rattle.asl_laws.proofs.soundness.Soundness.{others_of}
 use Rattle.asl_laws.proofs.soundness.SoundnessEnds.{no_calls, no_procedures}
@@ -58,5 +59,5 @@ program_described t e ds a right grown h =
     all_described t ds (outside t ds right grown n.first c.first f.first) ds (λ d i. i)
 
 -- so it is of each program that is read from files
-pub read_described : (limit : ℕ) (e : Asked) (files : List File) (ds : List Decl) (a : Accepted) → ReadsAt limit files (Ok ds) → (p : ProgramOk limit e ds a) → Describes (environment p.tests ds)
-read_described limit e files ds a r p = program_described p.tests e ds a p.right (read_grown_at limit files ds r) p.is
+pub read_described : (limit : ℕ) (e : Asked) (files : List File) (ds : List Decl) (a : Accepted) → AreJudged limit files ds → (p : ProgramOk limit e ds a) → Describes (environment p.tests ds)
+read_described limit e files ds a r p = program_described p.tests e ds a p.right (judged_grown limit files ds r) p.is

@@ -1,6 +1,6 @@
 -- Where a fault of the code T04 comes from: an evaluation stopped with a dynamic fault, or a call or a global `var` stands where it may not.
 -- All other rules have other codes.
-use Rattle.std.proofs.Common.{◌≡◌, ℕ, inl, inr, Bool, true, List, [], Option, Some, None, Result, Ok, Err, refl, sym, ◌∙◌, subst}
+use Rattle.std.proofs.Common.{◌≡◌, ℕ, inl, inr, Bool, true, List, [], Option, Some, None, Result, Ok, Err, refl, sym, ◌∙◌, subst, ◌⊎◌, ◌∷◌}
 use Rattle.asl_syn.specs.declared.token.Span.{Span}
 use Rattle.asl_syn.specs.declared.code.Fault.{Fault}
 use Rattle.asl_syn.specs.declared.code.StaticCode.{StaticCode}
@@ -30,10 +30,10 @@ use Rattle.asl_rules.specs.runs.Plans.{Faulted, Stuck, Pure, Good, Bad}
 use Rattle.asl_rules.specs.declarations.Constants.{constant}
 use Rattle.asl_rules.specs.types.Written.{first_value}
 use Rattle.asl_rules.specs.declarations.Declarations.{in_names, evaluated}
-use Rattle.asl_rules.specs.declarations.Programs.{as_number, origin, verdict, FaultOf}
+use Rattle.asl_rules.specs.declarations.Programs.{as_number, origin, verdict, ReadFault, default_decls, final_decls}
 use Rattle.asl_rules.specs.private.Grown.{AreGrown}
 use Rattle.asl_rules.proofs.basics.Inversions.{ok_ok, err_ok}
-use Rattle.asl_laws.proofs.scopes.GrownTexts.{read_grown_at}
+use Rattle.asl_laws.proofs.scopes.GrownTexts.{judged_grown}
 use Rattle.asl_rules.proofs.values.Shapes.{integer_is}
 use Rattle.asl_rules.proofs.values.KindOf.{has_kind}
 use Rattle.asl_rules.proofs.values.SameKind.{equal_kinds}
@@ -47,6 +47,10 @@ use Rattle.asl_laws.proofs.spans.ValueEnds.{Ends, first_ends}
 use Rattle.asl_laws.proofs.spans.KnownSpans.{MaybeAt, known_there, barred_there}
 use Rattle.asl_laws.proofs.spans.ProgramSpans.{IsOutside, AsksOf, verdict_stands}
 use Rattle.asl_laws.proofs.evaluations.NeverStuck.{evaluates}
+use Rattle.asl_syn.specs.declared.read.ReadDecl.{ReadDecl}
+use Rattle.asl_laws.proofs.verdict.ReadVerdict.{Faulty, HeaderSays, bodies_say, fault_of_steps}
+use Rattle.asl_rules.proofs.verdict.SameRules.{AllOf}
+use Rattle.asl_rules.specs.declarations.Replacing.{Header, header_of, bodies_matched}
 
 -- the code isn't that of literals that are none
 abbrev other_than : StaticCode → Type 0
@@ -179,7 +183,26 @@ module _ (t : Tests) (ds : List Decl) where
   pub has_cause : IsRight t → AreGrown ds → (e : Asked) (f : Fault) → verdict e ds t ≡ Err f → f.code ≡ T04 → HasCause t ds f
   has_cause right grown e f h = (subst (λ r. Stands Caused r) h (all_caused right grown e (names_rule [] (all_declared ds)) refl)).has
 
--- so has one of declarations that are read from files
-pub read_cause : (limit : ℕ) (e : Asked) (files : List File) (ds : List Decl) (f : Fault) → ReadsAt limit files (Ok ds) →
-    (p : FaultOf limit e ds f) → f.code ≡ T04 → HasCause p.tests ds f
-read_cause limit e files ds f r p = has_cause p.tests ds p.right (read_grown_at limit files ds r) e f p.is
+header_says_no : (o : Option Header) → HeaderSays (λ f. f.code ≡ T04 → ⊥) o
+header_says_no None = tt
+header_says_no (Some h) = ((λ e. cc), (λ e. cc))
+
+headers_say_no : (ds : List ReadDecl) → AllOf (λ d. HeaderSays (λ f. f.code ≡ T04 → ⊥) (header_of d)) ds
+headers_say_no [] = tt
+headers_say_no (d ∷ ds) = (header_says_no (header_of d), headers_say_no ds)
+
+-- the fault of a body that replaces another has another code
+no_cause : (f : Fault) (ds : List ReadDecl) → bodies_matched ds ≡ Err f → f.code ≡ T04 → ⊥
+no_cause f ds m c = bodies_say (λ g. g.code ≡ T04 → ⊥) f ds (headers_say_no ds) m c
+
+-- so has one of declarations that are read from files: it is one of those that are judged
+pub read_cause : (limit : ℕ) (e : Asked) (files : List File) (ds : List ReadDecl) (f : Fault) → ReadsAt limit files (Ok ds) →
+    (p : ReadFault limit e ds f) → f.code ≡ T04 → HasCause p.tests (default_decls ds) f ⊎ HasCause p.tests (final_decls ds) f
+read_cause limit e files ds f r p c = by (fault_of_steps e ds p.tests f p.is)
+  where
+    by : Faulty e ds p.tests f → HasCause p.tests (default_decls ds) f ⊎ HasCause p.tests (final_decls ds) f
+    by (inl m) = absurd (no_cause f ds m c)
+    by (inr (m, inl d)) =
+        inl (has_cause p.tests (default_decls ds) p.right (judged_grown limit files (default_decls ds) (record { read = ds; reads = r; are = inl refl })) e f d c)
+    by (inr (m, inr (a, d, g))) =
+        inr (has_cause p.tests (final_decls ds) p.right (judged_grown limit files (final_decls ds) (record { read = ds; reads = r; are = inr refl })) e f g c)

@@ -4,7 +4,8 @@ use Rattle.std.specs.Prelude.{ℤ, pos, negsuc, nat_le}
 use Rattle.asl_syn.specs.declared.token.Span.{Span}
 use Rattle.asl_syn.specs.declared.code.DynCode.TheVariants.{D14}
 use Rattle.asl_syn.specs.declared.tree.Decl.{Decl}
-use Rattle.asl_grammar.specs.Reading.{File, ReadsAt}
+use Rattle.asl_grammar.specs.Reading.{File}
+use Rattle.asl_laws.specs.Answers.{AreJudged}
 use Rattle.asl_rules.specs.Tests.{Tests, IsRight}
 use Rattle.asl_rules.specs.types.Types.{Ty, View, Kind}
 use Rattle.asl_rules.specs.types.Closed.{Closed, integer_in, boolean, bits_of, enumeration_of, record_of, exception_of, tuple_of, array_of, named, ClosedFields, no_field, field, ClosedParts, no_part, part, first_in}
@@ -26,7 +27,7 @@ use Rattle.asl_laws.specs.Soundness.{NotStuck, GivesType}
 use Rattle.asl_laws.specs.Evaluated.{GivesOrFaults, ConstantsGiven, names_after, Evaluates}
 use Rattle.asl_rules.proofs.scopes.Naming.{WellNamed}
 use Rattle.asl_laws.proofs.scopes.Globals.{AllBelong, grown_labels, names_good, globals_good, round_named, round_match}
-use Rattle.asl_laws.proofs.scopes.GrownTexts.{read_grown_at}
+use Rattle.asl_laws.proofs.scopes.GrownTexts.{judged_grown}
 use Rattle.asl_rules.proofs.verdict.Distinct.{Distinct, distinct_of}
 use Rattle.asl_laws.proofs.evaluations.NoCalls.{ends_uncalled}
 use Rattle.asl_laws.proofs.constants.KnownStart.{starts, starts_at}
@@ -121,5 +122,5 @@ evaluates tests right ds grown apart =
     }
 
 -- of what is read from files
-pub read_evaluates : (t : Tests) → IsRight t → (files : List File) (ds : List Decl) → ReadsAt t.limit files (Ok ds) → names_rule [] (all_declared ds) ≡ Ok tt → Evaluates t ds
-read_evaluates t right files ds r apart = evaluates t right ds (read_grown_at t.limit files ds r) apart
+pub read_evaluates : (t : Tests) → IsRight t → (files : List File) (ds : List Decl) → AreJudged t.limit files ds → names_rule [] (all_declared ds) ≡ Ok tt → Evaluates t ds
+read_evaluates t right files ds r apart = evaluates t right ds (judged_grown t.limit files ds r) apart

@@ -13,7 +13,9 @@ use Rattle.asl_syn.specs.declared.tree.Suffix.TheVariants as su
 use Rattle.asl_syn.specs.declared.tree.PlacedSuffix.{PlacedSuffix}
 use Rattle.asl_syn.specs.declared.tree.LocalKind.TheVariants as lk
 use Rattle.asl_syn.specs.declared.tree.Stmt.{Stmt}
-use Rattle.asl_syn.specs.declared.tree.Otherwise.{Otherwise}
+use Rattle.asl_syn.specs.declared.read.ReadStmt.{ReadStmt}
+use Rattle.asl_syn.specs.declared.read.ReadOtherwise.{ReadOtherwise}
+use Rattle.asl_syn.specs.declared.read.BodyWord.{BodyWord}
 use Rattle.asl_grammar.specs.declared.parts.Braces.{Braces}
 use Rattle.asl_grammar.specs.declared.parts.Braces.TheVariants as br
 use Rattle.asl_grammar.specs.declared.parts.AfterName.{AfterName}
@@ -22,16 +24,19 @@ use Rattle.asl_grammar.specs.declared.parts.SliceForm.{SliceForm}
 use Rattle.asl_grammar.specs.declared.parts.SliceForm.TheVariants as sf
 use Rattle.asl_grammar.specs.declared.parts.VarTail.{VarTail}
 use Rattle.asl_grammar.specs.declared.parts.VarTail.TheVariants as vt
+use Rattle.asl_grammar.specs.declared.parts.Bodied.{Bodied}
+use Rattle.asl_grammar.specs.declared.parts.Bodied.TheVariants as bo
 use Rattle.asl_grammar.specs.grammar.Cursor.{Extent, end_of, span_to}
 use Rattle.asl_grammar.specs.grammar.Kinds.{kind_of}
 use Rattle.asl_grammar.specs.grammar.Operators.{binary_of}
-use Rattle.asl_grammar.specs.grammar.Build.{Link, Links, AsLinks, linked, chained, compared, as_chained, logically, one_link, joined, finished, suffix_on, suffixed, in_on, Posts, posted, parens_of, after_of, named_of, parameters_or, empty_or, braced, LateTail, NameTail, prefixed_at, late_of, after_name_of, parameters_from_minus, parameters_from_name, fields_from_name, minus_in_braces_of, name_in_braces_of, slice_by, slice_of, constraint_part_of, bitfield_of, pattern_of, SumTail, LateRange, late_sum_of, late_range_of, minus_pattern_of, bang_pattern_of, pattern_parens_of, last_end, place_of, VarRest, MoreNames, Typed, Untyped, var_tail_of, var_of, name_statement_of, or_no_otherwise, no_catchers, catch_of, untyped}
+use Rattle.asl_grammar.specs.grammar.Build.{Link, Links, AsLinks, linked, chained, compared, as_chained, logically, one_link, joined, finished, suffix_on, suffixed, in_on, Posts, posted, parens_of, after_of, named_of, parameters_or, empty_or, braced, LateTail, NameTail, prefixed_at, late_of, after_name_of, parameters_from_minus, parameters_from_name, fields_from_name, minus_in_braces_of, name_in_braces_of, slice_by, slice_of, constraint_part_of, bitfield_of, pattern_of, SumTail, LateRange, late_sum_of, late_range_of, minus_pattern_of, bang_pattern_of, pattern_parens_of, last_end, place_of, VarRest, MoreNames, Typed, Untyped, var_tail_of, var_of, called_of, name_statement_of, or_no_otherwise, no_catchers, catch_of, bodied_of, untyped}
 use Rattle.asl_rules.proofs.verdict.SameRules.{AllOf}
 use Rattle.asl_laws.specs.Spans.{slice_spans}
 use Rattle.asl_laws.proofs.reading.Inside.{ExtIn, in_opt, between_in}
-use Rattle.asl_laws.proofs.reading.Predicates.{P, FromIn, IdentIn, ExprIn, SliceIn, FieldValueIn, TypeExprIn, ConstraintPartIn, BitfieldIn, PatternIn, SuffixIn, PlacedSuffixIn, TargetIn, StmtIn, OtherwiseIn, CatcherIn, SliceFormIn, BracesIn, AfterNameIn, VarTailIn, VarRestIn, LinkIn, LinksIn, AsLinksIn, PostsIn, LateTailIn, NameTailIn, SumTailIn, LateRangeIn, in_pair, in_sum, of_each_in, of_each_names_in, span_from, or_nil_in, append_in}
+use Rattle.asl_laws.proofs.reading.Predicates.{P, FromIn, IdentIn, ExprIn, SliceIn, FieldValueIn, TypeExprIn, ConstraintPartIn, BitfieldIn, PatternIn, SuffixIn, PlacedSuffixIn, TargetIn, StmtIn, ReadStmtIn, ReadOtherwiseIn, ReadCatcherIn, ReadDeclIn, BodiedIn, SliceFormIn, BracesIn, AfterNameIn, VarTailIn, VarRestIn, LinkIn, LinksIn, AsLinksIn, PostsIn, LateTailIn, NameTailIn, SumTailIn, LateRangeIn, in_pair, in_sum, of_each_in, of_each_names_in, span_from, or_nil_in, append_in}
 use Rattle.asl_laws.proofs.reading.Nodes.{name_node, unary_node, binary_node, tuple_node, construct_node, call_node, field_node, fields_node, slices_node, element_node, as_node, in_node, bit_at_node, high_low_node, low_width_node, factor_width_node, given_node, only_node, from_to_node, one_bit_node, bit_range_node, any_pattern_node, set_pattern_node, tuple_pattern_node, value_pattern_node, range_pattern_node}
-use Rattle.asl_laws.proofs.reading.StmtNodes.{place_node, local_node, local_vars_node, assign_node, invoke_node, catch_node, no_otherwise_node}
+use Rattle.asl_laws.proofs.reading.StmtNodes.{place_node, local_node, local_vars_node, assign_node, invoke_node}
+use Rattle.asl_laws.proofs.reading.ReadNodes.{read_simple_node, read_store_node, read_catch_node, read_no_otherwise_node, read_func_node, read_accessor_node}
 
 module _ (n size limit : ℕ) where
   -- ---- operators between operands
@@ -217,20 +222,32 @@ module _ (n size limit : ℕ) where
   var_of_in span (vt.Declared is ty) p h = local_vars_node n size limit span is ty p h.0 h.1
   var_of_in span (vt.Initialised b ty e) p h = local_node n size limit span lk.Var b ty e p h.0 h.1.0 h.1.1
 
-  pub name_statement_of_in : (i : Ident) (span : Span) (x : (List Expr × List Expr) ⊎ (List PlacedSuffix × Expr)) → IdentIn n size limit i → P n size limit span → in_sum (in_pair (AllOf (ExprIn n size limit)) (AllOf (ExprIn n size limit))) (in_pair (AllOf (PlacedSuffixIn n size limit)) (ExprIn n size limit)) x → StmtIn n size limit (name_statement_of i span x)
-  name_statement_of_in i span (inl r) h p k = invoke_node n size limit span i r.0 r.1 p h k.0 k.1
-  name_statement_of_in i span (inr r) h p k = assign_node n size limit span (place_of i r.0) r.1 p (place_of_in i r.0 h k.0) k.1
+  pub called_of_in : (i : Ident) (span : Span) (r : List Expr × List Expr) (o : Option (List PlacedSuffix × Expr)) → IdentIn n size limit i → P n size limit span → in_pair (AllOf (ExprIn n size limit)) (AllOf (ExprIn n size limit)) r → in_opt (in_pair (AllOf (PlacedSuffixIn n size limit)) (ExprIn n size limit)) o → ReadStmtIn n size limit (called_of i span r o)
+  called_of_in i span r None h p k l = read_simple_node n size limit _ (invoke_node n size limit span i r.0 r.1 p h k.0 k.1)
+  called_of_in i span r (Some s) h p k l = read_store_node n size limit span i r.0 r.1 s.0 s.1 p h k.0 k.1 l.0 l.1
 
-  pub or_no_otherwise_in : (o : Option Otherwise) → in_opt (OtherwiseIn n size limit) o → OtherwiseIn n size limit (or_no_otherwise o)
-  or_no_otherwise_in None h = no_otherwise_node n size limit
+  pub name_statement_of_in : (i : Ident) (span : Span) (x : ((List Expr × List Expr) × Option (List PlacedSuffix × Expr)) ⊎ (List PlacedSuffix × Expr)) → IdentIn n size limit i → P n size limit span → in_sum (in_pair (in_pair (AllOf (ExprIn n size limit)) (AllOf (ExprIn n size limit))) (in_opt (in_pair (AllOf (PlacedSuffixIn n size limit)) (ExprIn n size limit)))) (in_pair (AllOf (PlacedSuffixIn n size limit)) (ExprIn n size limit)) x → ReadStmtIn n size limit (name_statement_of i span x)
+  name_statement_of_in i span (inl r) h p k = called_of_in i span r.0 r.1 h p k.0 k.1
+  name_statement_of_in i span (inr r) h p k = read_simple_node n size limit _ (assign_node n size limit span (place_of i r.0) r.1 p (place_of_in i r.0 h k.0) k.1)
+
+  pub or_no_otherwise_in : (o : Option ReadOtherwise) → in_opt (ReadOtherwiseIn n size limit) o → ReadOtherwiseIn n size limit (or_no_otherwise o)
+  or_no_otherwise_in None h = read_no_otherwise_node n size limit
   or_no_otherwise_in (Some o) h = h
 
-  pub no_catchers_in : (o : Otherwise) → OtherwiseIn n size limit o → in_pair (AllOf (CatcherIn n size limit)) (OtherwiseIn n size limit) (no_catchers o)
+  pub no_catchers_in : (o : ReadOtherwise) → ReadOtherwiseIn n size limit o → in_pair (AllOf (ReadCatcherIn n size limit)) (ReadOtherwiseIn n size limit) (no_catchers o)
   no_catchers_in o h = (tt, h)
 
-  pub catch_of_in : (i : Ident) (o : Option Ident) (ss : List Stmt) → IdentIn n size limit i → in_opt (IdentIn n size limit) o → AllOf (StmtIn n size limit) ss → CatcherIn n size limit (catch_of i o ss)
-  catch_of_in i None ss h k l = catch_node n size limit None i ss tt h l
-  catch_of_in i (Some t) ss h k l = catch_node n size limit (Some i) t ss h k l
+  pub catch_of_in : (i : Ident) (o : Option Ident) (ss : List ReadStmt) → IdentIn n size limit i → in_opt (IdentIn n size limit) o → AllOf (ReadStmtIn n size limit) ss → ReadCatcherIn n size limit (catch_of i o ss)
+  catch_of_in i None ss h k l = read_catch_node n size limit None i ss tt h l
+  catch_of_in i (Some t) ss h k l = read_catch_node n size limit (Some i) t ss h k l
+
+  pub bodied_of_in : (span : Span) (w : BodyWord) (x : Bodied) → P n size limit span → BodiedIn n size limit x → ReadDeclIn n size limit (bodied_of span w x)
+  bodied_of_in span w (bo.Subprogram q i ps fs result most ss) p h =
+      read_func_node n size limit (record { span = span; word = w; qualifier = q; name = i; params = ps; formals = fs; result = result; limit = most; body = ss })
+      p h.1.0 h.1.1.0 h.1.1.1.0 h.1.1.1.1.0 h.1.1.1.1.1.0 h.1.1.1.1.1.1
+  bodied_of_in span w (bo.Accessor i ps fs value q getter setter) p h =
+      read_accessor_node n size limit (record { span = span; word = w; name = i; params = ps; formals = fs; value = value; qualifier = q; getter = getter; setter = setter })
+      p h.0 h.1.0 h.1.1.0 h.1.1.1.0 h.1.1.1.1.1.0 h.1.1.1.1.1.1
 
   pub untyped_in : (e : Expr) → ExprIn n size limit e → in_pair (in_opt (TypeExprIn n size limit)) (in_opt (ExprIn n size limit)) (untyped e)
   untyped_in e h = (tt, h)

@@ -8,7 +8,7 @@ use Rattle.asl_syn.specs.declared.token.TokenKind.TheVariants as kinds
 use Rattle.asl_syn.specs.declared.token.Word.{Word}
 use Rattle.asl_syn.specs.declared.token.Word.TheVariants as word
 use Rattle.asl_syn.specs.declared.token.Token.{Token}
-use Rattle.asl_syn.specs.declared.tree.Decl.{Decl}
+use Rattle.asl_syn.specs.declared.read.ReadDecl.{ReadDecl}
 use Rattle.asl_grammar.specs.lexemes.Tokens.{Tokens}
 use Rattle.asl_grammar.specs.lexemes.Lexemes.{IsLexeme}
 use Rattle.asl_grammar.specs.lexemes.Refusals.{refusal}
@@ -68,7 +68,7 @@ module _ (n : ℕ) (text : Text) (limit : ℕ) (Q : (s : Sym) → Val s → Type
       (made s v h.0, h.1)
 
   -- what is asked of a whole text holds of each tree that it has
-  pub program_in : (ts : List Token) (v : List Decl) → Tokens limit n text ts → Parses text ts v → Q Program v
+  pub program_in : (ts : List Token) (v : List ReadDecl) → Tokens limit n text ts → Parses text ts v → Q Program v
   program_in ts v k (m, end, r, e) =
       (keeps m Program (start max_levels (lexemes text ts)) v end r
       (record { toks_in = ahead_in limit n text ts (tokens_stand limit n text ts k); last_in = omega arith })).0

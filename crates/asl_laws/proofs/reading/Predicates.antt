@@ -29,6 +29,13 @@ use Rattle.asl_syn.specs.declared.tree.Formal.{Formal}
 use Rattle.asl_syn.specs.declared.tree.Param.{Param}
 use Rattle.asl_syn.specs.declared.tree.TypeDef.{TypeDef}
 use Rattle.asl_syn.specs.declared.tree.Decl.{Decl}
+use Rattle.asl_syn.specs.declared.read.ReadStmt.{ReadStmt}
+use Rattle.asl_syn.specs.declared.read.ReadElseIf.{ReadElseIf}
+use Rattle.asl_syn.specs.declared.read.ReadAlternative.{ReadAlternative}
+use Rattle.asl_syn.specs.declared.read.ReadOtherwise.{ReadOtherwise}
+use Rattle.asl_syn.specs.declared.read.ReadCatcher.{ReadCatcher}
+use Rattle.asl_syn.specs.declared.read.BodyWord.{BodyWord}
+use Rattle.asl_syn.specs.declared.read.ReadDecl.{ReadDecl}
 use Rattle.asl_grammar.specs.declared.parts.Braces.{Braces}
 use Rattle.asl_grammar.specs.declared.parts.Braces.TheVariants as br
 use Rattle.asl_grammar.specs.declared.parts.AfterName.{AfterName}
@@ -36,8 +43,11 @@ use Rattle.asl_grammar.specs.declared.parts.AfterName.TheVariants as an
 use Rattle.asl_grammar.specs.declared.parts.VarTail.{VarTail}
 use Rattle.asl_grammar.specs.declared.parts.VarTail.TheVariants as vt
 use Rattle.asl_grammar.specs.declared.parts.SliceForm.{SliceForm}
+use Rattle.asl_grammar.specs.declared.parts.Bodied.{Bodied}
+use Rattle.asl_grammar.specs.declared.parts.Bodied.TheVariants as bo
 use Rattle.asl_grammar.specs.grammar.Cursor.{Lexeme, Extent}
 use Rattle.asl_grammar.specs.grammar.Build.{seconds, or_nil, behind, ident, Link, Links, AsLinks, Posts, LateTail, NameTail, SumTail, LateRange, VarRest, MoreNames, Typed, Untyped}
+use Rattle.asl_rules.specs.declarations.WrittenOut.{stmt_written, else_if_written, alternative_written, otherwise_written, catcher_written, decl_written}
 use Rattle.asl_rules.proofs.verdict.SameRules.{AllOf}
 use Rattle.asl_laws.specs.Spans.{Mark, place, literal, Spans, Each, all_of, of_names, maybe, expr_spans, given_spans, slice_spans, type_spans, part_spans, bitfield_spans, pattern_spans, suffix_spans, target_spans, binder_spans, bind_spans, item_spans, stmt_spans, branch_spans, alternative_spans, otherwise_spans, catcher_spans, formal_spans, param_spans, def_spans, decl_spans}
 use Rattle.asl_laws.proofs.reading.Literals.{IsLiteral}
@@ -139,6 +149,26 @@ module _ (n size limit : ℕ) where
   abbrev pub DeclIn : Decl → Type 0
   DeclIn d = Each MarkIn (decl_spans d)
 
+  -- ---- trees as they are read: by what they are written out as
+
+  abbrev pub ReadStmtIn : ReadStmt → Type 0
+  ReadStmtIn s = AllOf StmtIn (stmt_written s)
+
+  abbrev pub ReadElseIfIn : ReadElseIf → Type 0
+  ReadElseIfIn x = ElseIfIn (else_if_written x)
+
+  abbrev pub ReadAlternativeIn : ReadAlternative → Type 0
+  ReadAlternativeIn x = AlternativeIn (alternative_written x)
+
+  abbrev pub ReadOtherwiseIn : ReadOtherwise → Type 0
+  ReadOtherwiseIn x = OtherwiseIn (otherwise_written x)
+
+  abbrev pub ReadCatcherIn : ReadCatcher → Type 0
+  ReadCatcherIn x = CatcherIn (catcher_written x)
+
+  abbrev pub ReadDeclIn : ReadDecl → Type 0
+  ReadDeclIn d = AllOf DeclIn (decl_written d)
+
   -- ---- what has no span
 
   abbrev pub SliceFormIn : SliceForm → Type 0
@@ -155,6 +185,9 @@ module _ (n size limit : ℕ) where
 
   abbrev pub StorageKindIn : StorageKind → Type 0
   StorageKindIn x = Unit {0}
+
+  abbrev pub BodyWordIn : BodyWord → Type 0
+  BodyWordIn x = Unit {0}
 
   -- ---- parts that only the grammar knows
 
@@ -175,6 +208,12 @@ module _ (n size limit : ℕ) where
   VarRestIn (MoreNames is ty) = AllOf IdentIn is × TypeExprIn ty
   VarRestIn (Typed ty e) = TypeExprIn ty × in_opt ExprIn e
   VarRestIn (Untyped e) = ExprIn e
+
+  abbrev pub BodiedIn : Bodied → Type 0
+  BodiedIn (bo.Subprogram q i ps fs result most ss) =
+      QualifierIn q × (IdentIn i × (AllOf ParamIn ps × (AllOf FormalIn fs × (in_opt TypeExprIn result × (in_opt ExprIn most × AllOf ReadStmtIn ss)))))
+  BodiedIn (bo.Accessor i ps fs value q getter setter) =
+      IdentIn i × (AllOf ParamIn ps × (AllOf FormalIn fs × (FormalIn value × (QualifierIn q × (AllOf ReadStmtIn getter × AllOf ReadStmtIn setter)))))
 
   abbrev pub LinkIn : Link → Type 0
   LinkIn x = LexIn n size x.0 × (ExprIn x.1.0 × ExtIn n size x.1.1)

@@ -9,15 +9,19 @@ use Rattle.asl_syn.specs.declared.tree.TypeDef.{TypeDef}
 use Rattle.asl_syn.specs.declared.tree.StorageKind.{StorageKind}
 use Rattle.asl_syn.specs.declared.tree.StorageKind.TheVariants as sk
 use Rattle.asl_syn.specs.declared.tree.Qualifier.{Qualifier}
-use Rattle.asl_syn.specs.declared.tree.Decl.{Decl}
 use Rattle.asl_syn.specs.declared.tree.Ident.{Ident}
+use Rattle.asl_syn.specs.declared.read.ReadStmt.{ReadStmt}
+use Rattle.asl_syn.specs.declared.read.BodyWord.{BodyWord}
+use Rattle.asl_syn.specs.declared.read.ReadDecl.{ReadDecl}
+use Rattle.asl_grammar.specs.declared.parts.Bodied.{Bodied}
 use Rattle.asl_grammar.specs.grammar.Cursor.{whole}
-use Rattle.asl_grammar.specs.grammar.Rules.{formal, formal_list, maybe_formals, formals, param, param_list, maybe_param_list, params, maybe_params, label_list, label_braces, labels, no_members, listed_members, some_members, maybe_some_members, member_braces, members, record_type, exception_type, type_definition, supertype, type_decl, fixed_kind, fixed_storage, typed_var, global_rest, global_var, result_type, recursion_limit, written_qualifier, qualifier, function, declaration, program}
+use Rattle.asl_grammar.specs.grammar.Rules.{formal, formal_list, maybe_formals, formals, param, param_list, maybe_param_list, params, maybe_params, label_list, label_braces, labels, no_members, listed_members, some_members, maybe_some_members, member_braces, members, record_type, exception_type, type_definition, supertype, type_decl, fixed_kind, fixed_storage, typed_var, global_rest, global_var, result_type, recursion_limit, written_qualifier, qualifier, body_word, maybe_body_word, function, getter, setter, accessor, behind_word, bodied, declaration, program}
 use Rattle.asl_rules.proofs.verdict.SameRules.{AllOf}
 use Rattle.asl_laws.proofs.reading.Inside.{whole_in, in_opt}
-use Rattle.asl_laws.proofs.reading.Predicates.{in_pair, IdentIn, ExprIn, TypeExprIn, FormalIn, ParamIn, TypeDefIn, DeclIn, QualifierIn, StorageKindIn, seconds_in, or_nil_in}
-use Rattle.asl_laws.proofs.reading.StmtNodes.{labels_node, record_node, exception_node, param_node, type_node, storage_node, func_node}
-use Rattle.asl_laws.proofs.reading.Builds.{untyped_in}
+use Rattle.asl_laws.proofs.reading.Predicates.{in_pair, IdentIn, ExprIn, TypeExprIn, FormalIn, ParamIn, TypeDefIn, ReadStmtIn, ReadDeclIn, QualifierIn, StorageKindIn, BodyWordIn, BodiedIn, seconds_in, or_nil_in}
+use Rattle.asl_laws.proofs.reading.StmtNodes.{labels_node, record_node, exception_node, param_node}
+use Rattle.asl_laws.proofs.reading.ReadNodes.{read_type_node, read_storage_node}
+use Rattle.asl_laws.proofs.reading.Builds.{bodied_of_in, untyped_in}
 use Rattle.asl_laws.proofs.reading.Combining.{all_inside, opt_inside}
 use Rattle.asl_laws.proofs.reading.Symbols.{In}
 use Rattle.asl_laws.proofs.reading.RulesOfExpressions.{name_inside, type_expression_inside, expression_inside}
@@ -119,18 +123,18 @@ module _ (n size limit : ℕ) where
   unfolding supertype
   supertype_inside v h = opt_inside (λ x h. subst (IdentIn n size limit) (sym h.2) (name_inside n size limit h.0.1 h.1.1)) v h
 
-  type_decl_inside : (v : Decl) → In n size limit type_decl v → DeclIn n size limit v
+  type_decl_inside : (v : ReadDecl) → In n size limit type_decl v → ReadDeclIn n size limit v
   unfolding type_decl
-  type_decl_inside v (x, h, e) = subst (DeclIn n size limit) (sym e) (type_node n size limit (record { span = whole x.1; name = x.0.1.0; def = x.0.1.1.1.0; supertype = x.0.1.1.1.1.0 }) (whole_in n size x.1 h.1) (name_inside n size limit x.0.1.0 h.0.1.0) (type_definition_inside x.0.1.1.1.0 h.0.1.1.1.0) (supertype_inside x.0.1.1.1.1.0 h.0.1.1.1.1.0))
+  type_decl_inside v (x, h, e) = subst (ReadDeclIn n size limit) (sym e) (read_type_node n size limit (record { span = whole x.1; name = x.0.1.0; def = x.0.1.1.1.0; supertype = x.0.1.1.1.1.0 }) (whole_in n size x.1 h.1) (name_inside n size limit x.0.1.0 h.0.1.0) (type_definition_inside x.0.1.1.1.0 h.0.1.1.1.0) (supertype_inside x.0.1.1.1.1.0 h.0.1.1.1.1.0))
 
   fixed_kind_inside : (v : StorageKind) → In n size limit fixed_kind v → StorageKindIn n size limit v
   unfolding fixed_kind
   fixed_kind_inside v (inl h) = subst (StorageKindIn n size limit) (sym h.2) tt
   fixed_kind_inside v (inr h) = subst (StorageKindIn n size limit) (sym h.2) tt
 
-  fixed_storage_inside : (v : Decl) → In n size limit fixed_storage v → DeclIn n size limit v
+  fixed_storage_inside : (v : ReadDecl) → In n size limit fixed_storage v → ReadDeclIn n size limit v
   unfolding fixed_storage
-  fixed_storage_inside v (x, h, e) = subst (DeclIn n size limit) (sym e) (storage_node n size limit (record { span = whole x.1; kind = x.0.0; name = x.0.1.0; ty = x.0.1.1.0; init = Some x.0.1.1.1 }) (whole_in n size x.1 h.1) (name_inside n size limit x.0.1.0 h.0.1.0) (typed_inside n size limit x.0.1.1.0 h.0.1.1.0) (value_inside n size limit x.0.1.1.1 h.0.1.1.1))
+  fixed_storage_inside v (x, h, e) = subst (ReadDeclIn n size limit) (sym e) (read_storage_node n size limit (record { span = whole x.1; kind = x.0.0; name = x.0.1.0; ty = x.0.1.1.0; init = Some x.0.1.1.1 }) (whole_in n size x.1 h.1) (name_inside n size limit x.0.1.0 h.0.1.0) (typed_inside n size limit x.0.1.1.0 h.0.1.1.0) (value_inside n size limit x.0.1.1.1 h.0.1.1.1))
 
   typed_var_inside : (v : Option TypeExpr × Option Expr) → In n size limit typed_var v → in_opt (TypeExprIn n size limit) v.0 × in_opt (ExprIn n size limit) v.1
   unfolding typed_var
@@ -141,9 +145,9 @@ module _ (n size limit : ℕ) where
   global_rest_inside v (inl h) = typed_var_inside v h
   global_rest_inside v (inr h) = subst (in_pair (in_opt (TypeExprIn n size limit)) (in_opt (ExprIn n size limit))) (sym h.2) (untyped_in n size limit h.0 (value_inside n size limit h.0 h.1))
 
-  global_var_inside : (v : Decl) → In n size limit global_var v → DeclIn n size limit v
+  global_var_inside : (v : ReadDecl) → In n size limit global_var v → ReadDeclIn n size limit v
   unfolding global_var
-  global_var_inside v (x, h, e) = subst (DeclIn n size limit) (sym e) (storage_node n size limit (record { span = whole x.1; kind = sk.Var; name = x.0.1.0; ty = x.0.1.1.0; init = x.0.1.1.1 }) (whole_in n size x.1 h.1) (name_inside n size limit x.0.1.0 h.0.1.0) ((global_rest_inside x.0.1.1 h.0.1.1).0) ((global_rest_inside x.0.1.1 h.0.1.1).1))
+  global_var_inside v (x, h, e) = subst (ReadDeclIn n size limit) (sym e) (read_storage_node n size limit (record { span = whole x.1; kind = sk.Var; name = x.0.1.0; ty = x.0.1.1.0; init = x.0.1.1.1 }) (whole_in n size x.1 h.1) (name_inside n size limit x.0.1.0 h.0.1.0) ((global_rest_inside x.0.1.1 h.0.1.1).0) ((global_rest_inside x.0.1.1 h.0.1.1).1))
 
   result_type_inside : (v : Option TypeExpr) → In n size limit result_type v → in_opt (TypeExprIn n size limit) v
   unfolding result_type
@@ -162,17 +166,47 @@ module _ (n size limit : ℕ) where
   unfolding qualifier
   qualifier_inside v (x, h, e) = subst (QualifierIn n size limit) (sym e) tt
 
-  function_inside : (v : Decl) → In n size limit function v → DeclIn n size limit v
-  unfolding function
-  function_inside v (x, h, e) = subst (DeclIn n size limit) (sym e) (func_node n size limit (record { span = whole x.1; qualifier = x.0.0; name = x.0.1.1.0; params = x.0.1.1.1.0; formals = x.0.1.1.1.1.0; result = x.0.1.1.1.1.1.0; limit = x.0.1.1.1.1.1.1.0; body = x.0.1.1.1.1.1.1.1.1.0 }) (whole_in n size x.1 h.1) (name_inside n size limit x.0.1.1.0 h.0.1.1.0) (maybe_params_inside x.0.1.1.1.0 h.0.1.1.1.0) (formals_inside x.0.1.1.1.1.0 h.0.1.1.1.1.0) (result_type_inside x.0.1.1.1.1.1.0 h.0.1.1.1.1.1.0) (recursion_limit_inside x.0.1.1.1.1.1.1.0 h.0.1.1.1.1.1.1.0) (block_inside n size limit x.0.1.1.1.1.1.1.1.1.0 h.0.1.1.1.1.1.1.1.1.0))
+  body_word_inside : (v : BodyWord) → In n size limit body_word v → BodyWordIn n size limit v
+  unfolding body_word
+  body_word_inside v (inl h) = subst (BodyWordIn n size limit) (sym h.2) tt
+  body_word_inside v (inr h) = subst (BodyWordIn n size limit) (sym h.2) tt
 
-  declaration_inside : (v : Decl) → In n size limit declaration v → DeclIn n size limit v
+  maybe_body_word_inside : (v : BodyWord) → In n size limit maybe_body_word v → BodyWordIn n size limit v
+  unfolding maybe_body_word
+  maybe_body_word_inside v (x, h, e) = subst (BodyWordIn n size limit) (sym e) tt
+
+  function_inside : (v : Bodied) → In n size limit function v → BodiedIn n size limit v
+  unfolding function
+  function_inside v (x, h, e) = subst (BodiedIn n size limit) (sym e) (qualifier_inside x.0 h.0, (name_inside n size limit x.1.1.0 h.1.1.0, (maybe_params_inside x.1.1.1.0 h.1.1.1.0, (formals_inside x.1.1.1.1.0 h.1.1.1.1.0, (result_type_inside x.1.1.1.1.1.0 h.1.1.1.1.1.0, (recursion_limit_inside x.1.1.1.1.1.1.0 h.1.1.1.1.1.1.0, block_inside n size limit x.1.1.1.1.1.1.1.1.0 h.1.1.1.1.1.1.1.1.0))))))
+
+  getter_inside : (v : Qualifier × List ReadStmt) → In n size limit getter v → QualifierIn n size limit v.0 × AllOf (ReadStmtIn n size limit) v.1
+  unfolding getter
+  getter_inside v (x, h, e) = subst (in_pair (QualifierIn n size limit) (AllOf (ReadStmtIn n size limit))) (sym e) (qualifier_inside x.0 h.0, block_inside n size limit x.1.1.0 h.1.1.0)
+
+  setter_inside : (v : List ReadStmt) → In n size limit setter v → AllOf (ReadStmtIn n size limit) v
+  unfolding setter
+  setter_inside v (x, h, e) = subst (AllOf (ReadStmtIn n size limit)) (sym e) (block_inside n size limit x.1.0 h.1.0)
+
+  accessor_inside : (v : Bodied) → In n size limit accessor v → BodiedIn n size limit v
+  unfolding accessor
+  accessor_inside v (x, h, e) = subst (BodiedIn n size limit) (sym e) (name_inside n size limit x.1.0 h.1.0, (maybe_params_inside x.1.1.0 h.1.1.0, (formals_inside x.1.1.1.0 h.1.1.1.0, (formal_inside x.1.1.1.1.1.0 h.1.1.1.1.1.0, ((getter_inside x.1.1.1.1.1.1.1.0 h.1.1.1.1.1.1.1.0).0, ((getter_inside x.1.1.1.1.1.1.1.0 h.1.1.1.1.1.1.1.0).1, setter_inside x.1.1.1.1.1.1.1.1.0 h.1.1.1.1.1.1.1.1.0))))))
+
+  behind_word_inside : (v : Bodied) → In n size limit behind_word v → BodiedIn n size limit v
+  unfolding behind_word
+  behind_word_inside v (inl h) = function_inside v h
+  behind_word_inside v (inr h) = accessor_inside v h
+
+  bodied_inside : (v : ReadDecl) → In n size limit bodied v → ReadDeclIn n size limit v
+  unfolding bodied
+  bodied_inside v (x, h, e) = subst (ReadDeclIn n size limit) (sym e) (bodied_of_in n size limit (whole x.1) x.0.0 x.0.1 (whole_in n size x.1 h.1) (behind_word_inside x.0.1 h.0.1))
+
+  declaration_inside : (v : ReadDecl) → In n size limit declaration v → ReadDeclIn n size limit v
   unfolding declaration
   declaration_inside v (inl h) = type_decl_inside v h
   declaration_inside v (inr (inl h)) = fixed_storage_inside v h
   declaration_inside v (inr (inr (inl h))) = global_var_inside v h
-  declaration_inside v (inr (inr (inr h))) = function_inside v h
+  declaration_inside v (inr (inr (inr h))) = bodied_inside v h
 
-  pub program_inside : (v : List Decl) → In n size limit program v → AllOf (DeclIn n size limit) v
+  pub program_inside : (v : List ReadDecl) → In n size limit program v → AllOf (ReadDeclIn n size limit) v
   unfolding program
   program_inside v h = all_inside (declaration_inside) v h

@@ -1,6 +1,7 @@
 -- What a report is put together from isn't stuck, for all files that are read.
 use Rattle.std.proofs.Common.{List, [], Some, Ok}
-use Rattle.asl_grammar.specs.Reading.{File, ReadsAt}
+use Rattle.asl_grammar.specs.Reading.{File}
+use Rattle.asl_laws.specs.Answers.{AreJudged}
 use Rattle.asl_syn.specs.declared.tree.Decl.{Decl}
 use Rattle.asl_rules.specs.declared.entry.Entry.TheVariants as entry
 use Rattle.asl_rules.specs.runs.Evaluation.{initial_globals}
@@ -9,7 +10,7 @@ use Rattle.asl_rules.specs.runs.Plans.{starting}
 use Rattle.asl_rules.specs.runs.Words.{wanted}
 use Rattle.asl_rules.specs.declarations.Programs.{environment}
 use Rattle.asl_rules.specs.Tests.{IsRight, Tests}
-use Rattle.asl_laws.proofs.scopes.GrownTexts.{read_grown_at}
+use Rattle.asl_laws.proofs.scopes.GrownTexts.{judged_grown}
 use Rattle.asl_laws.proofs.soundness.Soundness.{soundness}
 use Rattle.asl_laws.proofs.soundness.SoundnessEntry.{main_call}
 use Rattle.asl_laws.proofs.soundness.SoundnessFacts.{facts_of}
@@ -38,5 +39,5 @@ grown_well t right ds grown = record {
       (have_entries a words (has_asked t (wanted words) ds a ok)) sound.initial;
 }
 
-pub reports_run_well : (t : Tests) → IsRight t → (files : List File) (ds : List Decl) → ReadsAt t.limit files (Ok ds) → RunsWell t ds
-reports_run_well t right files ds r = grown_well t right ds (read_grown_at t.limit files ds r)
+pub reports_run_well : (t : Tests) → IsRight t → (files : List File) (ds : List Decl) → AreJudged t.limit files ds → RunsWell t ds
+reports_run_well t right files ds r = grown_well t right ds (judged_grown t.limit files ds r)

@@ -6,7 +6,8 @@ use Rattle.asl_syn.specs.declared.tree.Formal.{Formal}
 use Rattle.asl_syn.specs.declared.tree.Func.{Func}
 use Rattle.asl_syn.specs.declared.tree.Param.{Param as WrittenParam}
 use Rattle.asl_syn.specs.declared.tree.TypeExpr.{TypeExpr}
-use Rattle.asl_grammar.specs.Reading.{File, ReadsAt}
+use Rattle.asl_grammar.specs.Reading.{File}
+use Rattle.asl_laws.specs.Answers.{AreJudged}
 use Rattle.asl_rules.specs.Tests.{Tests, IsRight}
 use Rattle.asl_poly.specs.Poly.{atom_map}
 use Rattle.asl_rules.specs.types.Types.{Ty, Parts, no_part, part, only_width}
@@ -28,7 +29,7 @@ use Rattle.asl_laws.specs.Evaluated.{names_after}
 use Rattle.asl_laws.proofs.scopes.FormedScopes.{added, itself_held}
 use Rattle.asl_laws.proofs.scopes.HeldRules.{only_ends}
 use Rattle.asl_laws.proofs.scopes.Globals.{AllBelong, grown_labels, names_good, round_named}
-use Rattle.asl_laws.proofs.scopes.GrownTexts.{read_grown_at}
+use Rattle.asl_laws.proofs.scopes.GrownTexts.{judged_grown}
 use Rattle.asl_laws.proofs.scopes.WellTyped.{integer_formed, written_in_formed, good_formed}
 use Rattle.asl_laws.proofs.soundness.GivenTypes.{belong_by_forms}
 use Rattle.asl_laws.proofs.soundness.Soundness.{others_of}
@@ -143,6 +144,6 @@ declarations_agree t right ds grown apart =
     }
 
 -- of what is read from files
-pub read_agree : (t : Tests) → IsRight t → (files : List File) (ds : List Decl) → ReadsAt t.limit files (Ok ds) →
+pub read_agree : (t : Tests) → IsRight t → (files : List File) (ds : List Decl) → AreJudged t.limit files ds →
     names_rule [] (all_declared ds) ≡ Ok tt → DeclarationsAgree t ds
-read_agree t right files ds r apart = declarations_agree t right ds (read_grown_at t.limit files ds r) apart
+read_agree t right files ds r apart = declarations_agree t right ds (judged_grown t.limit files ds r) apart

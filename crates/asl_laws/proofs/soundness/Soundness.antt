@@ -5,7 +5,8 @@ use Rattle.asl_syn.specs.declared.tree.Decl.{Decl}
 use Rattle.asl_syn.specs.declared.tree.Ident.{Ident}
 use Rattle.asl_syn.specs.declared.tree.Expr.{Expr}
 use Rattle.asl_syn.specs.declared.tree.Alternative.TheOpen as st
-use Rattle.asl_grammar.specs.Reading.{File, ReadsAt}
+use Rattle.asl_grammar.specs.Reading.{File}
+use Rattle.asl_laws.specs.Answers.{AreJudged}
 use Rattle.asl_rules.specs.declared.entry.Entry.{Entry as Asked}
 use Rattle.asl_rules.specs.Tests.{Tests, IsRight}
 use Rattle.asl_rules.specs.declarations.Scopes.{Entry, Signature}
@@ -31,7 +32,7 @@ use Rattle.asl_laws.proofs.soundness.SoundnessHeads.{heads_formed}
 use Rattle.asl_laws.proofs.soundness.SoundnessEnds.{no_calls, no_procedures, sound_with, same_with}
 use Rattle.asl_laws.proofs.soundness.SoundnessCalls.{call_same}
 use Rattle.asl_laws.proofs.calls.OwnForms.{own_formed, invoke_acted}
-use Rattle.asl_laws.proofs.scopes.GrownTexts.{read_grown_at}
+use Rattle.asl_laws.proofs.scopes.GrownTexts.{judged_grown}
 use Rattle.asl_syn.specs.declared.tree.Stmt.{Stmt}
 
 -- ---- a program
@@ -63,14 +64,14 @@ pub accepted_sound : (limit : ℕ) (e : Asked) (ds : List Decl) (a : Accepted) �
 accepted_sound limit e ds a grown p = soundness p.tests p.right ds a (facts_of p.tests e ds a p.is) grown
 
 -- and of each program that is read from files
-pub read_sound : (limit : ℕ) (e : Asked) (files : List File) (ds : List Decl) (a : Accepted) → ReadsAt limit files (Ok ds) → (p : ProgramOk limit e ds a) → Soundness p.tests ds a × SameMeaning p.tests ds a
-read_sound limit e files ds a r p = accepted_sound limit e ds a (read_grown_at limit files ds r) p
+pub read_sound : (limit : ℕ) (e : Asked) (files : List File) (ds : List Decl) (a : Accepted) → AreJudged limit files ds → (p : ProgramOk limit e ds a) → Soundness p.tests ds a × SameMeaning p.tests ds a
+read_sound limit e files ds a r p = accepted_sound limit e ds a (judged_grown limit files ds r) p
 
 -- the declared types of such a program agree with one another
-pub read_declared : (limit : ℕ) (e : Asked) (files : List File) (ds : List Decl) (a : Accepted) → ReadsAt limit files (Ok ds) → (p : ProgramOk limit e ds a) → WellDeclared (types_in a.names)
+pub read_declared : (limit : ℕ) (e : Asked) (files : List File) (ds : List Decl) (a : Accepted) → AreJudged limit files ds → (p : ProgramOk limit e ds a) → WellDeclared (types_in a.names)
 read_declared limit e files ds a r p =
     let f = facts_of p.tests e ds a p.is in
     let base = names_of_program p.tests ds in
     let belong = belong_by_forms p.tests p.right ds (λ b w. (no_calls p.tests p.right ds b w, others_of p.tests p.right ds b [] true [] w (no_procedures p.tests p.right ds b w))) in
-    let w : WellNamed base = well_named p.tests p.right ds base (read_grown_at limit files ds r) f.apart f.globals belong in
+    let w : WellNamed base = well_named p.tests p.right ds base (judged_grown limit files ds r) f.apart f.globals belong in
     subst (λ z. WellDeclared (types_in z.names)) f.is (well_declared base w)

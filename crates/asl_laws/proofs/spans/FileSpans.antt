@@ -5,6 +5,8 @@ use Rattle.asl_syn.specs.declared.token.Span.{Span}
 use Rattle.asl_syn.specs.declared.token.Token.{Token}
 use Rattle.asl_syn.specs.declared.code.Fault.{Fault}
 use Rattle.asl_syn.specs.declared.tree.Decl.{Decl}
+use Rattle.asl_syn.specs.declared.read.ReadDecl.{ReadDecl}
+use Rattle.asl_syn.specs.declared.read.ReadDecl.TheVariants as rd
 use Rattle.asl_grammar.specs.lexemes.Tokens.{Tokens}
 use Rattle.asl_grammar.specs.lexemes.Texts.{HasText, LiesIn}
 use Rattle.asl_grammar.specs.lexemes.Files.{AllTokens}
@@ -14,11 +16,17 @@ use Rattle.asl_grammar.specs.Reading.{Text, File, HasTrees, FirstSyntaxFault}
 use Rattle.asl_grammar.proofs.lexemes.Placing.{tokens_stand}
 use Rattle.asl_grammar.proofs.lexemes.Faults.{first_fault_stands}
 use Rattle.asl_rules.specs.declared.entry.Entry.{Entry}
+use Rattle.asl_rules.specs.Tests.{Tests}
+use Rattle.asl_rules.specs.declarations.Programs.{origin, default_decls, final_decls}
+use Rattle.asl_rules.specs.declarations.Replacing.{header_of}
+use Rattle.asl_rules.specs.declarations.WrittenOut.{decl_written}
 use Rattle.asl_laws.specs.Answers.{FaultOfFiles}
 use Rattle.asl_rules.proofs.verdict.SameRules.{AllOf}
 use Rattle.asl_laws.specs.Spans.{Mark, Each, Placed, all_of, decl_spans}
 use Rattle.asl_laws.proofs.spans.EachSpan.{each_placed}
+use Rattle.asl_laws.proofs.reading.Judged.{judged_each}
 use Rattle.asl_laws.proofs.spans.KnownSpans.{fault_there}
+use Rattle.asl_laws.proofs.verdict.ReadVerdict.{Faulty, HeaderSays, bodies_say, fault_of_steps}
 
 -- the span lies in the file of this number and this text
 abbrev pub Within : ℕ → Text → Span → Type 0
@@ -77,23 +85,53 @@ pub joined_decls : (P : Mark → Type 0) (ds es : List Decl) → Each P (all_of 
 joined_decls P [] es h k = k
 joined_decls P (d ∷ ds) es h k = (h.0, joined_decls P ds es h.1 k)
 
+-- the spans of what a declaration is written out as
+abbrev DeclStands : (Span → Type 0) → ReadDecl → Type 0
+DeclStands P d = Each (Placed P) (all_of decl_spans (decl_written d))
+
 -- the spans of the trees that the grammar reads lie in the file
 abbrev pub TreesStand : Type 0
-TreesStand = (limit n : ℕ) (text : Text) (ts : List Token) (v : List Decl) → Tokens limit n text ts → Parses text ts v → Each (Placed (Within n text)) (all_of decl_spans v)
+TreesStand = (limit n : ℕ) (text : Text) (ts : List Token) (v : List ReadDecl) → Tokens limit n text ts → Parses text ts v → AllOf (DeclStands (Within n text)) v
+
+each_decl : (P Q : Span → Type 0) → ((span : Span) → P span → Q span) → (ds : List ReadDecl) → AllOf (DeclStands P) ds → AllOf (DeclStands Q) ds
+each_decl P Q k [] h = tt
+each_decl P Q k (d ∷ ds) h = (each_placed P Q k (all_of decl_spans (decl_written d)) h.0, each_decl P Q k ds h.1)
+
+append_decls : (P : Span → Type 0) (ds es : List ReadDecl) → AllOf (DeclStands P) ds → AllOf (DeclStands P) es → AllOf (DeclStands P) (ds ++ es)
+append_decls P [] es h k = k
+append_decls P (d ∷ ds) es h k = (h.0, append_decls P ds es h.1 k)
+
+-- the name of a declaration with a body is among them
+header_stands : (P : Span → Type 0) (d : ReadDecl) → DeclStands P d → HeaderSays (λ f. P f.span) (header_of d)
+header_stands P (rd.Type d) h = tt
+header_stands P (rd.Storage d) h = tt
+header_stands P (rd.Func f) h = (h.0.1.0, h.0.1.0)
+header_stands P (rd.Accessor a) h = (h.0.1.0, h.0.1.0)
+
+headers_stand : (P : Span → Type 0) (ds : List ReadDecl) → AllOf (DeclStands P) ds → AllOf (λ d. HeaderSays (λ f. P f.span) (header_of d)) ds
+headers_stand P [] h = tt
+headers_stand P (d ∷ ds) h = (header_stands P d h.0, headers_stand P ds h.1)
 
 module _ (trees : TreesStand) where
-  all_trees : (limit n : ℕ) (texts : List Text) (tss : List (List Token)) (ds : List Decl) → AllTokens limit n texts tss → HasTrees texts tss ds → Each (Placed (LiesIn n texts)) (all_of decl_spans ds)
-  all_trees limit n [] [] ds k h = subst (λ es. Each (Placed (LiesIn n [])) (all_of decl_spans es)) (sym h) tt
+  all_trees : (limit n : ℕ) (texts : List Text) (tss : List (List Token)) (ds : List ReadDecl) → AllTokens limit n texts tss → HasTrees texts tss ds → AllOf (DeclStands (LiesIn n texts)) ds
+  all_trees limit n [] [] ds k h = subst (AllOf (DeclStands (LiesIn n []))) (sym h) tt
   all_trees limit n [] (ts ∷ tss) ds k h = absurd h
   all_trees limit n (text ∷ texts) [] ds k h = absurd h
   all_trees limit n (text ∷ texts) (ts ∷ tss) ds k (v, vs, p, r, e) =
-      subst (λ es. Each (Placed (LiesIn n (text ∷ texts))) (all_of decl_spans es)) (sym e) (joined_decls (Placed (LiesIn n (text ∷ texts))) v vs
-      (each_placed (Within n text) (LiesIn n (text ∷ texts)) (λ span h. inl h) (all_of decl_spans v) (trees limit n text ts v k.0 p))
-      (each_placed (LiesIn (n + 1) texts) (LiesIn n (text ∷ texts)) (λ span h. inr h) (all_of decl_spans vs) (all_trees limit (n + 1) texts tss vs k.1 r)))
+      subst (AllOf (DeclStands (LiesIn n (text ∷ texts)))) (sym e) (append_decls (LiesIn n (text ∷ texts)) v vs
+      (each_decl (Within n text) (LiesIn n (text ∷ texts)) (λ span h. inl h) v (trees limit n text ts v k.0 p))
+      (each_decl (LiesIn (n + 1) texts) (LiesIn n (text ∷ texts)) (λ span h. inr h) vs (all_trees limit (n + 1) texts tss vs k.1 r)))
+
+  -- the fault of declarations that are read stands where these do
+  read_fault_there : (P : Span → Type 0) (t : Tests) (e : Entry) (ds : List ReadDecl) (f : Fault) → P origin → AllOf (DeclStands P) ds → Faulty e ds t f → P f.span
+  read_fault_there P t e ds f o h (inl m) = bodies_say (λ g. P g.span) f ds (headers_stand P ds h) m
+  read_fault_there P t e ds f o h (inr (m, inl d)) = fault_there t P e (default_decls ds) f o (judged_each (λ es. Each (Placed P) (all_of decl_spans es)) tt (joined_decls (Placed P)) ds (default_decls ds) (inl refl) h) d
+  read_fault_there P t e ds f o h (inr (m, inr (a, d, g))) = fault_there t P e (final_decls ds) f o (judged_each (λ es. Each (Placed P) (all_of decl_spans es)) tt (joined_decls (Placed P)) ds (final_decls ds) (inr refl) h) g
 
   -- the fault of files stands in one of them, where there is a file at all
   pub files_fault_stands : (limit : ℕ) (e : Entry) (file : File) (files : List File) (f : Fault) → FaultOfFiles limit e (file ∷ files) f → LiesIn 0 (map (λ g. g.1) (file ∷ files)) f.span
   files_fault_stands limit e file files f (inl (inl h)) = first_fault_stands limit 0 (map (λ g. g.1) (file ∷ files)) f h
   files_fault_stands limit e file files f (inl (inr h)) = first_syntax_stands limit 0 (map (λ g. g.1) (file ∷ files)) h.tokens f h.lexemes h.fault
   files_fault_stands limit e file files f (inr (ds, r, h)) =
-      fault_there h.tests (LiesIn 0 (map (λ g. g.1) (file ∷ files))) e ds f (inl (refl, omega arith)) (all_trees limit 0 (map (λ g. g.1) (file ∷ files)) r.tokens ds r.lexemes r.trees) h.is
+      read_fault_there (LiesIn 0 (map (λ g. g.1) (file ∷ files))) h.tests e ds f (inl (refl, omega arith))
+      (all_trees limit 0 (map (λ g. g.1) (file ∷ files)) r.tokens ds r.lexemes r.trees) (fault_of_steps e ds h.tests f h.is)

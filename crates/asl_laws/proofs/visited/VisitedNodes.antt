@@ -1,7 +1,8 @@
 -- The typed tree of each node that a call visits does what the node does, for all files that are read.
 use Rattle.std.proofs.Common.{ℕ, List, [], Ok, subst, true, false, Bool}
 use Rattle.asl_syn.specs.declared.tree.Decl.{Decl}
-use Rattle.asl_grammar.specs.Reading.{File, ReadsAt}
+use Rattle.asl_grammar.specs.Reading.{File}
+use Rattle.asl_laws.specs.Answers.{AreJudged}
 use Rattle.asl_rules.specs.declared.entry.Entry.{Entry as Asked}
 use Rattle.asl_rules.specs.Tests.{Tests, IsRight}
 use Rattle.asl_rules.specs.values.Values.{Value}
@@ -15,7 +16,7 @@ use Rattle.asl_rules.specs.runs.Machines.{visits_of}
 use Rattle.asl_laws.specs.Soundness.{IsCall}
 use Rattle.asl_rules.proofs.scopes.Naming.{WellNamed, well_declared}
 use Rattle.asl_laws.proofs.scopes.Globals.{well_named}
-use Rattle.asl_laws.proofs.scopes.GrownTexts.{read_grown_at}
+use Rattle.asl_laws.proofs.scopes.GrownTexts.{judged_grown}
 use Rattle.asl_laws.proofs.expressions.AllExprs.{Others}
 use Rattle.asl_laws.proofs.calls.OwnForms.{own_formed, invoke_acted}
 use Rattle.asl_laws.proofs.soundness.GivenTypes.{belong_by_forms}
@@ -45,5 +46,5 @@ calls_same t right ds a f grown =
     subst (CallsSame t ds) f.is (visits_same t right ds f.asked f.main (signatures f.heads) f.trees w s own stmts
     (expr_chosen t right ds true f.heads f.trees w s f.heads_are f.bodies (own true) (stmts true)) (stmt_chosen t right ds true f.heads f.trees w s f.heads_are f.bodies (own true) (stmts true)) calls)
 
-pub read_same : (limit : ℕ) (e : Asked) (files : List File) (ds : List Decl) (a : Accepted) → ReadsAt limit files (Ok ds) → (p : ProgramOk limit e ds a) → CallsSame p.tests ds a
-read_same limit e files ds a r p = calls_same p.tests p.right ds a (facts_of p.tests e ds a p.is) (read_grown_at limit files ds r)
+pub read_same : (limit : ℕ) (e : Asked) (files : List File) (ds : List Decl) (a : Accepted) → AreJudged limit files ds → (p : ProgramOk limit e ds a) → CallsSame p.tests ds a
+read_same limit e files ds a r p = calls_same p.tests p.right ds a (facts_of p.tests e ds a p.is) (judged_grown limit files ds r)

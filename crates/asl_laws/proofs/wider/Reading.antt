@@ -6,7 +6,7 @@ use Rattle.asl_syn.specs.declared.code.StaticCode.TheVariants.{L04}
 use Rattle.asl_syn.specs.declared.token.Token.{Token}
 use Rattle.asl_syn.specs.declared.token.TokenKind.{TokenKind}
 use Rattle.asl_syn.specs.declared.token.TokenKind.TheVariants as kinds
-use Rattle.asl_syn.specs.declared.tree.Decl.{Decl}
+use Rattle.asl_syn.specs.declared.read.ReadDecl.{ReadDecl}
 use Rattle.asl_grammar.specs.lexemes.Refusals.{refusal, too_many}
 use Rattle.asl_grammar.specs.lexemes.Tokens.{Scan, scan_of, behind_gap, IsTokenAt, Yields, Front, Completes}
 use Rattle.asl_grammar.specs.lexemes.Files.{AllTokens}
@@ -65,7 +65,7 @@ module _ (m : ℕ) where
   tokens_stay l le n (text ∷ texts) [] h = absurd h
   tokens_stay l le n (text ∷ texts) (ts ∷ tss) h = (completes_stay (scan_of l n text) ts le h.0, tokens_stay l le (n + 1) texts tss h.1)
 
-  pub reads_stay : (l : ℕ) → l ≤ m → (files : List File) (ds : List Decl) → ReadsAt l files (Ok ds) → ReadsAt m files (Ok ds)
+  pub reads_stay : (l : ℕ) → l ≤ m → (files : List File) (ds : List ReadDecl) → ReadsAt l files (Ok ds) → ReadsAt m files (Ok ds)
   reads_stay l le files ds h = record {
     tokens = h.tokens;
     lexemes = tokens_stay l le 0 (map (λ f. f.1) files) h.tokens h.lexemes;
@@ -73,6 +73,6 @@ module _ (m : ℕ) where
   }
 
   pub read_same : (l : ℕ) → l ≤ m → (read other : Reader) → IsReadingAt l read → IsReadingAt m other →
-      (files : List File) (ds : List Decl) → read files ≡ Ok ds → other files ≡ Ok ds
+      (files : List File) (ds : List ReadDecl) → read files ≡ Ok ds → other files ≡ Ok ds
   read_same l le read other a b files ds e = one_answer_at m files (other files) (Ok ds) (b files)
       (reads_stay l le files ds (subst (λ r. ReadsAt l files r) e (a files)))

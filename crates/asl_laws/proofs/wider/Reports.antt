@@ -1,5 +1,5 @@
 -- A command has the same report under a wider limit, where its program is accepted and its run doesn't end with the fault D14.
-use Rattle.std.proofs.Common.{◌≡◌, ℕ, ◌≤◌, Bool, true, false, cond, List, [], ◌∷◌, length, Option, Some, Result, Ok, Err, refl, sym, ap}
+use Rattle.std.proofs.Common.{◌≡◌, ℕ, ◌≤◌, Bool, true, false, cond, List, [], ◌∷◌, length, Option, Some, Result, Ok, Err, refl, sym, ap, inr}
 use Rattle.std.proofs.Common.{subst, ◌∙◌}
 use Rattle.asl_poly.specs.WidthLimits.{heaviest}
 use Rattle.asl_syn.specs.Command.{Command, usage, check, run, exec, self, default_steps}
@@ -13,7 +13,7 @@ use Rattle.asl_rules.proofs.verdict.SomeTests.{light_limit, limit_light}
 use Rattle.asl_rules.specs.values.Values.{Value}
 use Rattle.asl_rules.specs.runs.States.{Binding, Core}
 use Rattle.asl_rules.specs.runs.Plans.{Meter, Faulted, Stuck, Outcome, Done, Thrown, Halt, starting}
-use Rattle.asl_rules.specs.declarations.Programs.{environment, Accepted, Entries, verdict}
+use Rattle.asl_rules.specs.declarations.Programs.{environment, Accepted, Entries, verdict, read_verdict, final_decls}
 use Rattle.asl_rules.specs.runs.Machines.{run_of}
 use Rattle.asl_rules.specs.runs.Words.{WordsEnd, AllReturned, WordThrew, WordHalted, run_words, wanted}
 use Rattle.asl_rules.specs.report.WordList.{ListFault, Word, words_read}
@@ -31,8 +31,10 @@ use Rattle.asl_laws.specs.Wider.{UnlessLong, OnList, Fits}
 use Rattle.asl_laws.proofs.reported.Reports.{reports_run_well}
 use Rattle.asl_laws.proofs.wider.Plans.{out_fits}
 use Rattle.asl_laws.proofs.wider.Runs.{run_wider, words_wider, words_fit}
-use Rattle.asl_laws.proofs.wider.Verdict.{same_verdict, same_environment}
+use Rattle.asl_laws.proofs.wider.Verdict.{same_verdict, same_environment, same_read_verdict}
 use Rattle.asl_laws.proofs.wider.Reading.{reads_stay, read_same}
+use Rattle.asl_syn.specs.declared.read.ReadDecl.{ReadDecl}
+use Rattle.asl_laws.proofs.verdict.ReadVerdict.{steps_of}
 
 -- ---- the tests
 
@@ -57,7 +59,7 @@ derivation_stays l m le light e files a h =
         tests = record p.tests { limit = m };
         right = right_at p.tests m light p.right;
         within = refl;
-        is = same_verdict p.tests m (subst (λ n. n ≤ m) (sym p.within) le) e h.decls a p.is;
+        is = same_read_verdict p.tests m (subst (λ n. n ≤ m) (sym p.within) le) e h.decls a p.is;
       };
     }
 
@@ -116,8 +118,8 @@ list_same name bytes P f g h k = by_long (is_long bytes) (OnWords (words_read by
     (on_words_read name (words_read bytes) g) h (λ i. read_words_same name (words_read bytes) P f g i k)
 
 module _ (t u : Tests) (p : IsRight t) (q : IsRight u) (le : t.limit ≤ u.limit) where
-  verdict_same : (e : Entry) (ds : List Decl) (a : Accepted) → verdict e ds t ≡ Ok a → verdict e ds u ≡ Ok a
-  verdict_same e ds a ok = ap (λ v. verdict e ds v) (tests_are t u p q) ∙ same_verdict t u.limit le e ds a ok
+  read_verdict_same : (e : Entry) (ds : List ReadDecl) (a : Accepted) → read_verdict e ds t ≡ Ok a → read_verdict e ds u ≡ Ok a
+  read_verdict_same e ds a ok = ap (λ v. read_verdict e ds v) (tests_are t u p q) ∙ same_read_verdict t u.limit le e ds a ok
 
   globals_same : (e : Entry) (ds : List Decl) (a : Accepted) → verdict e ds t ≡ Ok a →
       initial_globals (environment u ds) ≡ initial_globals (environment t ds)
@@ -147,18 +149,18 @@ module _ (t u : Tests) (p : IsRight t) (q : IsRight u) (le : t.limit ≤ u.limit
       (words_of _ (well.words a words ok steps) f))
 
   -- what comes of a verdict that is the same
-  on_same : (files : List File) (e : Entry) (ds : List Decl) (a : Accepted) (f g : Entries → Answer) → verdict e ds t ≡ Ok a →
-      g a.entries ≡ f a.entries → on_verdict files g (verdict e ds u) ≡ on_verdict files f (verdict e ds t)
-  on_same files e ds a f g ok h = ap (on_verdict files g) (verdict_same e ds a ok) ∙ h ∙ sym (ap (on_verdict files f) ok)
+  on_same : (files : List File) (e : Entry) (ds : List ReadDecl) (a : Accepted) (f g : Entries → Answer) → read_verdict e ds t ≡ Ok a →
+      g a.entries ≡ f a.entries → on_verdict files g (read_verdict e ds u) ≡ on_verdict files f (read_verdict e ds t)
+  on_same files e ds a f g ok h = ap (on_verdict files g) (read_verdict_same e ds a ok) ∙ h ∙ sym (ap (on_verdict files f) ok)
 
   module _ (read other : Reader) (x : IsReadingAt t.limit read) (y : IsReadingAt u.limit other) where
-    reading_same : (files : List File) (e : Entry) (P : List Decl → Entries → Type 0) (f g : List Decl → Answer) →
+    reading_same : (files : List File) (e : Entry) (P : List Decl → Entries → Type 0) (f g : List ReadDecl → Answer) →
         Accepts t e P (read files)
-        → ((ds : List Decl) (a : Accepted) → verdict e ds t ≡ Ok a → RunsWell t ds → P ds a.entries → g ds ≡ f ds) →
+        → ((ds : List ReadDecl) (a : Accepted) → read_verdict e ds t ≡ Ok a → RunsWell t (final_decls ds) → P (final_decls ds) a.entries → g ds ≡ f ds) →
         on_reading files g (other files) ≡ on_reading files f (read files)
     reading_same files e P f g (ds, a, r, ok, h) k =
         ap (on_reading files g) (read_same u.limit t.limit le read other x y files ds r)
-        ∙ k ds a ok (reports_run_well t p files ds (subst (λ z. ReadsAt t.limit files z) r (x files))) h
+        ∙ k ds a ok (reports_run_well t p files (final_decls ds) (record { read = ds; reads = subst (λ z. ReadsAt t.limit files z) r (x files); are = inr refl })) h
         ∙ sym (ap (on_reading files f) r)
 
     check_same : (files : List File) → Accepts t entry.None (λ ds found. Unit {0}) (read files) →
@@ -171,14 +173,14 @@ module _ (t u : Tests) (p : IsRight t) (q : IsRight u) (le : t.limit ≤ u.limit
         on_reading files (on_run u steps files) (other files) ≡ on_reading files (on_run t steps files) (read files)
     run_same steps files h = reading_same files entry.Main (λ ds found. RunFits (environment t ds) steps found.main) (on_run t steps files)
         (on_run u steps files) h (λ ds a ok well i. on_same files entry.Main ds a _ _ ok
-        (begun_same (run_answer files) ds a steps ok well i))
+        (begun_same (run_answer files) (final_decls ds) a steps (steps_of entry.Main ds t a ok).final_is well i))
 
     words_same : (steps : ℕ) (words : List Word) (files : List File) →
         Accepts t (wanted words) (λ ds found. WordsFit (environment t ds) steps words found) (read files) →
         on_reading files (on_words u steps words files) (other files) ≡ on_reading files (on_words t steps words files) (read files)
     words_same steps words files h = reading_same files (wanted words) (λ ds found. WordsFit (environment t ds) steps words found)
         (on_words t steps words files) (on_words u steps words files) h
-        (λ ds a ok well i. on_same files (wanted words) ds a _ _ ok (worked_same files ds a steps words ok well i))
+        (λ ds a ok well i. on_same files (wanted words) ds a _ _ ok (worked_same files (final_decls ds) a steps words (steps_of (wanted words) ds t a ok).final_is well i))
 
     made_same : (number size : ℕ) (text : Text) (files : List File) →
         Accepts t entry.Main (λ ds found. RunFits (environment t ds) default_steps found.main) (read files) →
@@ -186,7 +188,8 @@ module _ (t u : Tests) (p : IsRight t) (q : IsRight u) (le : t.limit ≤ u.limit
     made_same number size text files h = reading_same files entry.Main (λ ds found. RunFits (environment t ds) default_steps found.main)
         (on_made t number size text files) (on_made u number size text files) h
         (λ ds a ok well i. on_same files entry.Main ds a _ _ ok
-        (begun_same (made_answer (made_words number size (length text) (length ds)) files) ds a default_steps ok well i))
+        (begun_same (made_answer (made_words number size (length text) (length ds)) files) (final_decls ds) a default_steps
+        (steps_of entry.Main ds t a ok).final_is well i))
 
     pub report_same : (command : Command) (held : Text → Text) → Fits t read command held →
         report_of u other command held ≡ report_of t read command held

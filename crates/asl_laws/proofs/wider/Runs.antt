@@ -50,7 +50,8 @@ use Rattle.asl_rules.specs.runs.Evaluation.{entering, run_body, run_with, result
 use Rattle.asl_rules.specs.runs.Evaluation.{width_over, overload, Numbered, call_one, call_named, called, expr_node, frames, choice_layer}
 use Rattle.asl_rules.specs.runs.Evaluation.{choice_in, otherwise_in, held, Step, into_field, into_fields, into_slices, into_element}
 use Rattle.asl_rules.specs.runs.Evaluation.{updated, store_at, Stores, Assigning, assign_each, assigning_layer, assigned, stmt_node}
-use Rattle.asl_rules.specs.runs.Evaluation.{meaning, expr_span, stmt_span}
+use Rattle.asl_rules.specs.expressions.Exprs.{expr_span}
+use Rattle.asl_rules.specs.runs.Evaluation.{meaning, stmt_span}
 use Rattle.asl_rules.specs.runs.Machines.{most_open, run_of}
 use Rattle.asl_rules.specs.report.WordList.{Word}
 use Rattle.asl_rules.specs.runs.Words.{WordsEnd, AllReturned, WordThrew, WordHalted, behind_word, entry_for, run_word, run_words, word_line, word_value}

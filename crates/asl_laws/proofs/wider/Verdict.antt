@@ -40,7 +40,7 @@ use Rattle.asl_rules.specs.declarations.Declarations.{in_names, fields_written, 
 use Rattle.asl_rules.specs.declarations.Declarations.{evaluated, known, first_in, storage_rule, is_var, decl_rule, Judged, Waiting, Fine}
 use Rattle.asl_rules.specs.declarations.Declarations.{Faulty, judged, entries_of, entries, fine_where_used, all_fine, judged_by, still}
 use Rattle.asl_rules.specs.declarations.Declarations.{judgement, final, faulty, faults_rule, names_of_program, globals_rule}
-use Rattle.asl_rules.specs.declarations.Programs.{environment, funcs_of, params_free, formals_free, param_written, param_entry, params_rule}
+use Rattle.asl_rules.specs.declarations.Programs.{environment, funcs_of, params_free, formals_free, param_written, param_entry, params_rule, read_verdict, default_decls, final_decls}
 use Rattle.asl_rules.specs.declarations.Programs.{formals_rule, result_rule, limit_typed, type_is_integer, params_are_integers, as_number}
 use Rattle.asl_rules.specs.declarations.Programs.{limit_of_expr, limit_rule, Head, signature_rule, signatures_rule, signatures}
 use Rattle.asl_rules.specs.declarations.Programs.{overloads_rule, body_of, body_rule, bodies_rule, Accepted, verdict}
@@ -53,6 +53,8 @@ use Rattle.asl_laws.proofs.wider.Stays.{stays_after, all_pairs}
 use Rattle.asl_laws.proofs.wider.Rows.{wide_tests, misfit_same, fit_same}
 use Rattle.asl_laws.proofs.wider.Trees.{expr_stays, type_stays}
 use Rattle.asl_laws.proofs.wider.Stmts.{StmtStays, order_stays, stmt_stays, written_stays}
+use Rattle.asl_syn.specs.declared.read.ReadDecl.{ReadDecl}
+use Rattle.asl_laws.proofs.verdict.ReadVerdict.{steps_of, of_steps}
 
 -- ---- what is evaluated before any run
 
@@ -347,6 +349,16 @@ module _ (t : Tests) (m : ℕ) (le : t.limit ≤ m) where
 
   pub same_verdict : (e : Asked) (ds : List Decl) (a : Accepted) → verdict e ds t ≡ Ok a → verdict e ds u ≡ Ok a
   same_verdict e ds a h = stays_ok (verdict e ds t) (verdict e ds u) a (verdict_stays e ds) h
+
+  pub same_read_verdict : (e : Asked) (ds : List ReadDecl) (a : Accepted) → read_verdict e ds t ≡ Ok a → read_verdict e ds u ≡ Ok a
+  same_read_verdict e ds a h =
+      let s = steps_of e ds t a h in
+      of_steps e ds u a (record {
+        matched = s.matched;
+        first = s.first;
+        default_is = same_verdict e (default_decls ds) s.first s.default_is;
+        final_is = same_verdict e (final_decls ds) a s.final_is;
+      })
 
   -- what the names outside bodies stand for in a run
   pub same_names : (e : Asked) (ds : List Decl) (a : Accepted) → verdict e ds t ≡ Ok a → names_of_program u ds ≡ names_of_program t ds

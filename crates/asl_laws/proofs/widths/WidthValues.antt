@@ -32,7 +32,7 @@ use Rattle.asl_rules.specs.types.Widths.{number_of_counted, number_of_standing}
 use Rattle.asl_rules.specs.declarations.Scopes.{Scope, Entry, Signature, Counted, Storage}
 use Rattle.asl_rules.specs.declarations.Scopes.{Standing, Stored, Subprogram, TypeName, Label, standing_of, known_value}
 use Rattle.asl_rules.specs.expressions.Typing.{Width, Number}
-use Rattle.asl_rules.specs.expressions.Exprs.{found, width}
+use Rattle.asl_rules.specs.expressions.Exprs.{found, width, expr_span}
 use Rattle.asl_rules.specs.values.Values.{Value, int}
 use Rattle.asl_rules.specs.declarations.Programs.{Environment}
 use Rattle.asl_rules.specs.runs.States.{Core}
@@ -42,7 +42,7 @@ use Rattle.asl_rules.specs.runs.Plans.{Meter, Outcome, Done, Thrown, Halt, Fault
 use Rattle.asl_rules.specs.runs.Pures.{known}
 use Rattle.asl_rules.specs.values.Operators.{in_range, integer_of, quotient, unary_value, binary_value}
 use Rattle.asl_rules.specs.runs.Forms.{at_once, behind as with_operand}
-use Rattle.asl_rules.specs.runs.Evaluation.{meaning, value_of, or_value, label_in, value_or_label, expr_node, expr_span}
+use Rattle.asl_rules.specs.runs.Evaluation.{meaning, value_of, or_value, label_in, value_or_label, expr_node}
 use Rattle.asl_laws.specs.WidthValues.{GivesInteger, HasNumber}
 use Rattle.asl_rules.proofs.basics.Inversions.{err_ok, then_ok, need_ok}
 use Rattle.asl_rules.proofs.basics.Tests.{some_same, none_some}

@@ -62,10 +62,14 @@ is_number [] = false
 is_number (b ∷ []) = is_digit b
 is_number (b ∷ c ∷ bs) = not (b == 48) && list_all is_digit (b ∷ c ∷ bs)
 
+-- a word that is no name: all but the two that are words only where an accessor asks for them
+abbrev pub is_word : Text → Bool
+is_word t = is_some (word_of t) && not (bytes_eq t (codes "getter") || bytes_eq t (codes "setter"))
+
 -- a name of the language, which none of its words is
 abbrev pub is_name : Text → Bool
 is_name [] = false
-is_name (b ∷ bs) = is_name_start b && (list_all is_name_byte bs && not (is_some (word_of (b ∷ bs))))
+is_name (b ∷ bs) = is_name_start b && (list_all is_name_byte bs && not (is_word (b ∷ bs)))
 
 -- ---- widths
 

@@ -43,8 +43,8 @@ use Rattle.asl_rules.specs.runs.Trees as tree
 use Rattle.asl_rules.specs.runs.Trees.{Tree, Trees, Callee, own, of_library, no_tree, tree_and, tree_type}
 use Rattle.asl_rules.specs.declarations.Scopes.{Scope, Body, Entry, Signature, body_names, handling, with_class, type_of_name}
 use Rattle.asl_rules.specs.expressions.Typing.{Typed, Width}
-use Rattle.asl_rules.specs.expressions.Exprs.{found, typed}
-use Rattle.asl_rules.specs.runs.Evaluation.{expr_span, stmt_span}
+use Rattle.asl_rules.specs.expressions.Exprs.{found, typed, expr_span}
+use Rattle.asl_rules.specs.runs.Evaluation.{stmt_span}
 use Rattle.asl_rules.specs.statements.Acting.{Done, operand_of, reading_scope}
 use Rattle.asl_rules.specs.statements.Branches.{index_rule, index_type, with_index, is_exception, with_caught}
 use Rattle.asl_rules.specs.statements.Stmts.{found_stmt}

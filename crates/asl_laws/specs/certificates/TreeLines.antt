@@ -16,8 +16,7 @@ use Rattle.asl_rules.specs.runs.Trees.{Tree, Trees, no_tree, tree_and, Int, Cons
 use Rattle.asl_rules.specs.runs.Trees.{Call, Field, Bitfield as BitfieldTree, Bitfields, Slices, Element, As, In, note_of}
 use Rattle.asl_rules.specs.declarations.Scopes.{Scope, with_class}
 use Rattle.asl_rules.specs.expressions.Typing.{Typed}
-use Rattle.asl_rules.specs.expressions.Exprs.{typed}
-use Rattle.asl_rules.specs.runs.Evaluation.{expr_span}
+use Rattle.asl_rules.specs.expressions.Exprs.{typed, expr_span}
 use Rattle.asl_laws.specs.certificates.Texts.{Line, expr_line, of_expr}
 use Rattle.asl_laws.specs.certificates.Lines.{Lined, lined, gives, fails, at_next, ◌into◌, Unread, call_in, expr_sites, site_lines}
 

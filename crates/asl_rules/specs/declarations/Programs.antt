@@ -14,6 +14,7 @@ use Rattle.asl_syn.specs.declared.tree.Qualifier.TheVariants as qualifier
 use Rattle.asl_syn.specs.declared.tree.Decl.{Decl}
 use Rattle.asl_syn.specs.declared.tree.Decl.TheVariants as dc
 use Rattle.asl_syn.specs.declared.tree.Func.{Func}
+use Rattle.asl_syn.specs.declared.read.ReadDecl.{ReadDecl}
 use Rattle.asl_poly.specs.Poly.{atom_map, constant_value}
 use Rattle.asl_rules.specs.declared.effect.Effect.{Effect}
 use Rattle.asl_rules.specs.declared.effect.Effect.TheVariants.{Pure, Readonly, Writes}
@@ -34,6 +35,8 @@ use Rattle.asl_rules.specs.expressions.Exprs.{found, found_type, typed, written}
 use Rattle.asl_rules.specs.declarations.Uses.{cycles_rule}
 use Rattle.asl_rules.specs.declarations.Barred.{barred}
 use Rattle.asl_rules.specs.declarations.Declarations.{in_names, names_of_program, globals_rule, known}
+use Rattle.asl_rules.specs.declarations.WrittenOut.{written_out}
+use Rattle.asl_rules.specs.declarations.Replacing.{bodies_matched, defaults, replaced}
 use Rattle.asl_rules.specs.statements.Acting.{in_order}
 use Rattle.asl_rules.specs.statements.Locals.{itself}
 use Rattle.asl_rules.specs.statements.Stmts.{found_stmt}
@@ -320,6 +323,34 @@ pub record FaultOf (limit : ℕ) (e : Entry) (ds : List Decl) (f : Fault) : Type
   pub right : IsRight tests
   pub within : tests.limit ≡ limit
   pub is : verdict e ds tests ≡ Err f
+
+-- ---- programs as they are read
+
+-- what is judged of the declarations that are read: first with the bodies that may be replaced, and then with those that replace them, which runs
+abbrev pub default_decls : List ReadDecl → List Decl
+default_decls ds = written_out (defaults ds)
+
+abbrev pub final_decls : List ReadDecl → List Decl
+final_decls ds = written_out (replaced ds)
+
+-- the program that is accepted, with the bodies that replace others, or the one fault of what is read: that of the bodies that replace others, else that of the
+-- program without them, else that of the program with them
+unfoldable pub read_verdict : Entry → List ReadDecl → Tests → Result Accepted Fault
+read_verdict e ds t = bodies_matched ds >> verdict e (default_decls ds) t >>= λ a. verdict e (final_decls ds) t
+
+-- what is read is well formed with its entry under this width limit, by right tests
+pub record ReadOk (limit : ℕ) (e : Entry) (ds : List ReadDecl) (a : Accepted) : Type 0 where
+  pub tests : Tests
+  pub right : IsRight tests
+  pub within : tests.limit ≡ limit
+  pub is : read_verdict e ds tests ≡ Ok a
+
+-- what is read has this one fault
+pub record ReadFault (limit : ℕ) (e : Entry) (ds : List ReadDecl) (f : Fault) : Type 0 where
+  pub tests : Tests
+  pub right : IsRight tests
+  pub within : tests.limit ≡ limit
+  pub is : read_verdict e ds tests ≡ Err f
 
 -- ---- what a run needs of a program
 

@@ -5,7 +5,7 @@ use Rattle.asl_syn.specs.declared.token.Span.{Span}
 use Rattle.asl_syn.specs.declared.code.Fault.{Fault}
 use Rattle.asl_syn.specs.declared.code.StaticCode.{StaticCode}
 use Rattle.asl_syn.specs.declared.code.StaticCode.TheVariants.{S03, T02, T05, T06, T19, T20}
-use Rattle.asl_syn.specs.declared.tree.Expr.{Expr}
+use Rattle.asl_syn.specs.declared.tree.Expr.{Expr, out-Expr}
 use Rattle.asl_syn.specs.declared.tree.Bitfield.TheOpen as ex
 use Rattle.asl_syn.specs.declared.tree.Bitfield.TheFolds.{fold-Expr, fold-TypeExpr, fold-Slice, fold-Pattern}
 use Rattle.asl_syn.specs.declared.tree.TypeExpr.{TypeExpr}
@@ -144,6 +144,9 @@ span_of (ex.Slices span a ss) = span
 span_of (ex.Element span a i) = span
 span_of (ex.As span a t) = span
 span_of (ex.In span a p) = span
+
+abbrev pub expr_span : Expr → Span
+expr_span e = span_of (out-Expr e)
 
 abbrev pub ExprOf : Type 0
 ExprOf = ex.Expr-F FoundBitfield FoundPart Found FoundField FoundPattern FoundSlice FoundType

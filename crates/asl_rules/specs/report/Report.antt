@@ -3,14 +3,14 @@
 use Rattle.std.specs.Prelude.{ℕ, Bool, List, [], ◌∷◌, ◌++◌, length, nat_lt, if◌then◌else◌, Option, Some, None, Result, Ok, Err, codes}
 use Rattle.asl_syn.specs.Command.{Command, usage, check, run, exec, self, default_steps}
 use Rattle.asl_syn.specs.declared.code.Fault.{Fault}
-use Rattle.asl_syn.specs.declared.tree.Decl.{Decl}
+use Rattle.asl_syn.specs.declared.read.ReadDecl.{ReadDecl}
 use Rattle.asl_grammar.specs.Reading.{Reader}
 use Rattle.asl_rules.specs.declared.entry.Entry.TheVariants as entry
 use Rattle.asl_rules.specs.Tests.{Tests}
 use Rattle.asl_rules.specs.values.Values.{Value}
 use Rattle.asl_rules.specs.runs.States.{Binding, Core}
 use Rattle.asl_rules.specs.runs.Plans.{Outcome, Done, Thrown, Halt, End, Faulted, Stuck, starting}
-use Rattle.asl_rules.specs.declarations.Programs.{Environment, environment, Entries, Accepted, verdict}
+use Rattle.asl_rules.specs.declarations.Programs.{Environment, environment, Entries, Accepted, final_decls, read_verdict}
 use Rattle.asl_rules.specs.runs.Machines.{run_of}
 use Rattle.asl_rules.specs.runs.Words.{WordsEnd, AllReturned, WordThrew, WordHalted, run_words, wanted}
 use Rattle.asl_rules.specs.runs.Evaluation.{initial_globals}
@@ -131,22 +131,22 @@ on_verdict files go (Ok a) = go a.entries
 on_verdict files go (Err f) = answer (fault_line files f) 1
 
 -- the answers for files that were read to these declarations, by right tests
-abbrev pub on_check : Tests → List File → List Decl → Answer
-on_check t files ds = on_verdict files (λ found. answer (accepted_line (length ds)) 0) (verdict entry.None ds t)
+abbrev pub on_check : Tests → List File → List ReadDecl → Answer
+on_check t files ds = on_verdict files (λ found. answer (accepted_line (length ds)) 0) (read_verdict entry.None ds t)
 
-abbrev pub on_run : Tests → ℕ → List File → List Decl → Answer
-on_run t steps files ds = on_verdict files (started files (environment t ds) steps) (verdict entry.Main ds t)
+abbrev pub on_run : Tests → ℕ → List File → List ReadDecl → Answer
+on_run t steps files ds = on_verdict files (started files (environment t (final_decls ds)) steps) (read_verdict entry.Main ds t)
 
-abbrev pub on_words : Tests → ℕ → List Word → List File → List Decl → Answer
-on_words t steps words files ds = on_verdict files (worked files (environment t ds) steps words) (verdict (wanted words) ds t)
+abbrev pub on_words : Tests → ℕ → List Word → List File → List ReadDecl → Answer
+on_words t steps words files ds = on_verdict files (worked files (environment t (final_decls ds)) steps words) (read_verdict (wanted words) ds t)
 
-abbrev pub on_made : Tests → ℕ → ℕ → Text → List File → List Decl → Answer
+abbrev pub on_made : Tests → ℕ → ℕ → Text → List File → List ReadDecl → Answer
 on_made t number size text files ds =
-    on_verdict files (λ found. begun (made_answer (made_words number size (length text) (length ds)) files) (environment t ds) default_steps found.main)
-    (verdict entry.Main ds t)
+    on_verdict files (λ found. begun (made_answer (made_words number size (length text) (length ds)) files) (environment t (final_decls ds)) default_steps found.main)
+    (read_verdict entry.Main ds t)
 
 -- the answer for files that are read to declarations, or have a fault
-abbrev pub on_reading : List File → (List Decl → Answer) → Result (List Decl) Fault → Answer
+abbrev pub on_reading : List File → (List ReadDecl → Answer) → Result (List ReadDecl) Fault → Answer
 on_reading files go (Ok ds) = go ds
 on_reading files go (Err f) = answer (fault_line files f) 1
 

@@ -35,7 +35,7 @@ use Rattle.asl_syn.specs.declared.tree.Formal.{Formal}
 use Rattle.asl_syn.specs.declared.tree.Param.{Param}
 use Rattle.asl_syn.specs.declared.tree.Func.{Func}
 use Rattle.asl_syn.specs.Layers.{ExprLayer, TypeLayer, StmtLayer}
-use Rattle.asl_rules.specs.expressions.Exprs.{span_of}
+use Rattle.asl_rules.specs.expressions.Exprs.{expr_span}
 use Rattle.asl_poly.specs.Poly.{constant_map, atom_map}
 use Rattle.asl_rules.specs.types.Types.{Ty, Kind, kind_eq}
 use Rattle.asl_rules.specs.types.Closed as cl
@@ -459,9 +459,6 @@ stmt_node env (st.Try span ss hs o) c = try_list frames (catch_in env) ss hs (ot
 stmt_node env (st.Print span kind iss) c = print_items item_in kind iss c
 
 -- where a node stands
-abbrev pub expr_span : Expr → Span
-expr_span e = span_of (out-Expr e)
-
 abbrev pub stmt_layer_span : StmtLayer → Span
 stmt_layer_span (st.Pass span) = span
 stmt_layer_span (st.Unreachable span) = span

@@ -9,7 +9,7 @@ use Rattle.asl_parse_stmt.proofs.declarations.program.Goals as goal
 
 pub loop-turn-preserved : goal.loop-turn-preserved
 loop-turn-preserved c =
-    let e = one_more (λ n. run_items (reading c.args.depth declaration) (kind.TypeWord ∷ kind.Constant ∷ kind.Let ∷ kind.Var ∷ kind.Pure ∷ kind.ReadOnly ∷ kind.Func ∷ []) n c.loop-turn.found (cursor_of c.loop-turn.tokens)) _ c.loop-turn._turn c.loop-turn-test.true c.loop-turn.invariant in
+    let e = one_more (λ n. run_items (reading c.args.depth declaration) (kind.TypeWord ∷ kind.Constant ∷ kind.Let ∷ kind.Var ∷ kind.ImpDef ∷ kind.Implementation ∷ kind.Pure ∷ kind.ReadOnly ∷ kind.Func ∷ kind.Accessor ∷ []) n c.loop-turn.found (cursor_of c.loop-turn.tokens)) _ c.loop-turn._turn c.loop-turn-test.true c.loop-turn.invariant in
     first_of (search rules, grind (arith, common_steps))
 
 pub loop-turn-init : goal.loop-turn-init
@@ -19,10 +19,10 @@ loop-turn-init c =
 
 pub returns-then-not-starts : goal.returns-then-not-starts
 returns-then-not-starts c =
-    let e = one_more (λ n. run_items (reading c.args.depth declaration) (kind.TypeWord ∷ kind.Constant ∷ kind.Let ∷ kind.Var ∷ kind.Pure ∷ kind.ReadOnly ∷ kind.Func ∷ []) n c.loop-turn.found (cursor_of c.loop-turn.tokens)) _ c.loop-turn._turn c.loop-turn-test.true c.loop-turn.invariant in
+    let e = one_more (λ n. run_items (reading c.args.depth declaration) (kind.TypeWord ∷ kind.Constant ∷ kind.Let ∷ kind.Var ∷ kind.ImpDef ∷ kind.Implementation ∷ kind.Pure ∷ kind.ReadOnly ∷ kind.Func ∷ kind.Accessor ∷ []) n c.loop-turn.found (cursor_of c.loop-turn.tokens)) _ c.loop-turn._turn c.loop-turn-test.true c.loop-turn.invariant in
     first_of (search rules, grind (arith, common_steps))
 
 pub returns-in_err-declaration : goal.returns-in_err-declaration
 returns-in_err-declaration c =
-    let e = one_more (λ n. run_items (reading c.args.depth declaration) (kind.TypeWord ∷ kind.Constant ∷ kind.Let ∷ kind.Var ∷ kind.Pure ∷ kind.ReadOnly ∷ kind.Func ∷ []) n c.loop-turn.found (cursor_of c.loop-turn.tokens)) _ c.loop-turn._turn c.loop-turn-test.true c.loop-turn.invariant in
+    let e = one_more (λ n. run_items (reading c.args.depth declaration) (kind.TypeWord ∷ kind.Constant ∷ kind.Let ∷ kind.Var ∷ kind.ImpDef ∷ kind.Implementation ∷ kind.Pure ∷ kind.ReadOnly ∷ kind.Func ∷ kind.Accessor ∷ []) n c.loop-turn.found (cursor_of c.loop-turn.tokens)) _ c.loop-turn._turn c.loop-turn-test.true c.loop-turn.invariant in
     first_of (search rules, grind (arith, common_steps))

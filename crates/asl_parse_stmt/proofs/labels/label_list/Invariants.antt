@@ -6,4 +6,4 @@ use Rattle.asl_parse_expr.proofs.Loops.{run_listed}
 use Rattle.asl_parse_stmt.proofs.labels.label_list.Given as goal
 
 abbrev pub invariant-loop-turn : goal.invariant-loop-turn
-invariant-loop-turn l = reading l.depth label_list (cursor_of l.fn.tokens) ≡ run_listed (reading l.depth name) (kind.Comma ∷ []) (kind.Name ∷ []) (l._turn-end - l._turn) l.found (cursor_of l.tokens)
+invariant-loop-turn l = reading l.depth label_list (cursor_of l.fn.tokens) ≡ run_listed (reading l.depth name) (kind.Comma ∷ []) (kind.Name ∷ kind.Getter ∷ kind.Setter ∷ []) (l._turn-end - l._turn) l.found (cursor_of l.tokens)

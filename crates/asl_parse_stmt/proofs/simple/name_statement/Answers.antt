@@ -9,18 +9,23 @@ returns-in_err-name c =
     let e = name_statement_steps c.args.depth (cursor_of c.args.tokens.now) in
     first_of (search rules, grind (arith, common_steps))
 
-pub returns-in_err-parameters : goal.returns-in_err-parameters
-returns-in_err-parameters c =
+pub returns-in_err-parts : goal.returns-in_err-parts
+returns-in_err-parts c =
+    let e = name_statement_steps c.args.depth (cursor_of c.args.tokens.now) in
+    first_of (search rules, grind (arith, common_steps))
+
+pub returns-in_err-stored : goal.returns-in_err-stored
+returns-in_err-stored c =
+    let e = name_statement_steps c.args.depth (cursor_of c.args.tokens.now) in
+    first_of (search rules, grind (arith, common_steps))
+
+pub returns-in_ok-stored : goal.returns-in_ok-stored
+returns-in_ok-stored c =
     let e = name_statement_steps c.args.depth (cursor_of c.args.tokens.now) in
     first_of (search rules, grind (arith, common_steps))
 
 pub returns-in_err-suffixes : goal.returns-in_err-suffixes
 returns-in_err-suffixes c =
-    let e = name_statement_steps c.args.depth (cursor_of c.args.tokens.now) in
-    first_of (search rules, grind (arith, common_steps))
-
-pub returns-in_ok-parameters : goal.returns-in_ok-parameters
-returns-in_ok-parameters c =
     let e = name_statement_steps c.args.depth (cursor_of c.args.tokens.now) in
     first_of (search rules, grind (arith, common_steps))
 

@@ -10,7 +10,7 @@ use Rattle.asl_parse_stmt.proofs.statements.+statements.Goals as goal
 
 pub block-loop-turn-preserved : goal.block-loop-turn-preserved
 block-loop-turn-preserved t c =
-    let e = one_more (λ n. run_items (reading c.args.depth statement) (kind.Pass ∷ kind.Unreachable ∷ kind.Assert ∷ kind.Let ∷ kind.Var ∷ kind.Name ∷ kind.Minus ∷ kind.OpenParen ∷ kind.If ∷ kind.Case ∷ kind.For ∷ kind.While ∷ kind.Repeat ∷ kind.Return ∷ kind.Throw ∷ kind.Try ∷ kind.Print ∷ kind.PrintLine ∷ []) n c.loop-turn.found (cursor_of c.loop-turn.tokens)) _ c.loop-turn._turn c.loop-turn-test.true c.loop-turn.invariant in
+    let e = one_more (λ n. run_items (reading c.args.depth statement) (kind.Pass ∷ kind.Unreachable ∷ kind.Assert ∷ kind.Let ∷ kind.Var ∷ kind.Minus ∷ kind.OpenParen ∷ kind.Return ∷ kind.Throw ∷ kind.Print ∷ kind.PrintLine ∷ kind.Name ∷ kind.Getter ∷ kind.Setter ∷ kind.If ∷ kind.Case ∷ kind.For ∷ kind.While ∷ kind.Repeat ∷ kind.Try ∷ []) n c.loop-turn.found (cursor_of c.loop-turn.tokens)) _ c.loop-turn._turn c.loop-turn-test.true c.loop-turn.invariant in
     first_of (search rules, grind (arith, common_steps))
 
 pub if_statement-returns-in_err-depth : goal.if_statement-returns-in_err-depth
@@ -103,8 +103,13 @@ try_statement-returns t c =
     let e = try_statement_nests c.args.depth (cursor_of c.args.tokens.now) in
     first_of (search rules, grind (arith, common_steps))
 
-pub statement-returns-then-starts : goal.statement-returns-then-starts
-statement-returns-then-starts t c =
+pub statement-returns-in_err-simple_statement : goal.statement-returns-in_err-simple_statement
+statement-returns-in_err-simple_statement t c =
+    let e = statement_is c.args.depth (cursor_of c.args.tokens.now) in
+    first_of (search rules, grind (arith, common_steps))
+
+pub statement-returns-in_ok-simple_statement : goal.statement-returns-in_ok-simple_statement
+statement-returns-in_ok-simple_statement t c =
     let e = statement_is c.args.depth (cursor_of c.args.tokens.now) in
     first_of (search rules, grind (arith, common_steps))
 
@@ -138,48 +143,8 @@ statement-returns-then-starts-7 t c =
     let e = statement_is c.args.depth (cursor_of c.args.tokens.now) in
     first_of (search rules, grind (arith, common_steps))
 
-pub statement-returns-then-starts-8 : goal.statement-returns-then-starts-8
-statement-returns-then-starts-8 t c =
-    let e = statement_is c.args.depth (cursor_of c.args.tokens.now) in
-    first_of (search rules, grind (arith, common_steps))
-
-pub statement-returns-then-starts-9 : goal.statement-returns-then-starts-9
-statement-returns-then-starts-9 t c =
-    let e = statement_is c.args.depth (cursor_of c.args.tokens.now) in
-    first_of (search rules, grind (arith, common_steps))
-
-pub statement-returns-then-starts-10 : goal.statement-returns-then-starts-10
-statement-returns-then-starts-10 t c =
-    let e = statement_is c.args.depth (cursor_of c.args.tokens.now) in
-    first_of (search rules, grind (arith, common_steps))
-
-pub statement-returns-then-starts-11 : goal.statement-returns-then-starts-11
-statement-returns-then-starts-11 t c =
-    let e = statement_is c.args.depth (cursor_of c.args.tokens.now) in
-    first_of (search rules, grind (arith, common_steps))
-
-pub statement-returns-then-starts-12 : goal.statement-returns-then-starts-12
-statement-returns-then-starts-12 t c =
-    let e = statement_is c.args.depth (cursor_of c.args.tokens.now) in
-    first_of (search rules, grind (arith, common_steps))
-
-pub statement-returns-then-starts-13 : goal.statement-returns-then-starts-13
-statement-returns-then-starts-13 t c =
-    let e = statement_is c.args.depth (cursor_of c.args.tokens.now) in
-    first_of (search rules, grind (arith, common_steps))
-
-pub statement-returns-then-starts-14 : goal.statement-returns-then-starts-14
-statement-returns-then-starts-14 t c =
-    let e = statement_is c.args.depth (cursor_of c.args.tokens.now) in
-    first_of (search rules, grind (arith, common_steps))
-
-pub statement-returns-then-starts-15 : goal.statement-returns-then-starts-15
-statement-returns-then-starts-15 t c =
-    let e = statement_is c.args.depth (cursor_of c.args.tokens.now) in
-    first_of (search rules, grind (arith, common_steps))
-
-pub statement-returns-else-starts-15 : goal.statement-returns-else-starts-15
-statement-returns-else-starts-15 t c =
+pub statement-returns-else-starts-7 : goal.statement-returns-else-starts-7
+statement-returns-else-starts-7 t c =
     let e = statement_is c.args.depth (cursor_of c.args.tokens.now) in
     first_of (search rules, grind (arith, common_steps))
 

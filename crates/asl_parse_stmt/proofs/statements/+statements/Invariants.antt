@@ -30,4 +30,4 @@ abbrev pub decreases-try_statement : goal.decreases-try_statement
 decreases-try_statement l = l.depth * 3
 
 abbrev pub invariant-block-loop-turn : goal.invariant-block-loop-turn
-invariant-block-loop-turn l = reading l.depth block (cursor_of l.fn.tokens) ≡ run_items (reading l.depth statement) (kind.Pass ∷ kind.Unreachable ∷ kind.Assert ∷ kind.Let ∷ kind.Var ∷ kind.Name ∷ kind.Minus ∷ kind.OpenParen ∷ kind.If ∷ kind.Case ∷ kind.For ∷ kind.While ∷ kind.Repeat ∷ kind.Return ∷ kind.Throw ∷ kind.Try ∷ kind.Print ∷ kind.PrintLine ∷ []) (l._turn-end - l._turn) l.found (cursor_of l.tokens)
+invariant-block-loop-turn l = reading l.depth block (cursor_of l.fn.tokens) ≡ run_items (reading l.depth statement) (kind.Pass ∷ kind.Unreachable ∷ kind.Assert ∷ kind.Let ∷ kind.Var ∷ kind.Minus ∷ kind.OpenParen ∷ kind.Return ∷ kind.Throw ∷ kind.Print ∷ kind.PrintLine ∷ kind.Name ∷ kind.Getter ∷ kind.Setter ∷ kind.If ∷ kind.Case ∷ kind.For ∷ kind.While ∷ kind.Repeat ∷ kind.Try ∷ []) (l._turn-end - l._turn) l.found (cursor_of l.tokens)

@@ -1,4 +1,4 @@
-use Rattle.std.proofs.Common.{◌≡◌, ◌+◌, ◌*◌, ◌-◌, ◌++◌}
+use Rattle.std.proofs.Common.{◌≡◌, ◌+◌, ◌*◌, ◌-◌}
 use Rattle.asl_grammar.specs.grammar.Build.{behind}
 use Rattle.asl_grammar.specs.grammar.Rules.{target, more_targets}
 use Rattle.asl_parse_expr.specs.private.Code.{cursor_of, reading, then}

@@ -26,3 +26,8 @@ pub returns-then-not-starts : goal.returns-then-not-starts
 returns-then-not-starts g c =
     let e = one_more (λ n. run_chain (reading c.args.self.now.depth unary) (kind.Caret ∷ []) (kind.Caret ∷ []) c.args.from n c.loop-turn.left (cursor_of c.loop-turn.tokens)) _ c.loop-turn._turn c.loop-turn-test.true c.loop-turn.invariant in
     first_of (search rules, grind (arith, common_steps))
+
+pub returns-in_err-operator : goal.returns-in_err-operator
+returns-in_err-operator g c =
+    let e = one_more (λ n. run_chain (reading c.args.self.now.depth unary) (kind.Caret ∷ []) (kind.Caret ∷ []) c.args.from n c.loop-turn.left (cursor_of c.loop-turn.tokens)) _ c.loop-turn._turn c.loop-turn-test.true c.loop-turn.invariant in
+    first_of (search rules, grind (arith, common_steps))

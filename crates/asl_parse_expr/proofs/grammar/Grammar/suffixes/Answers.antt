@@ -21,3 +21,8 @@ pub returns-then-not-starts : goal.returns-then-not-starts
 returns-then-not-starts g c =
     let e = one_more (λ n. run_items (reading c.args.self.now.depth suffix) (kind.Dot ∷ kind.OpenBracket ∷ []) n c.loop-turn.found (cursor_of c.loop-turn.tokens)) _ c.loop-turn._turn c.loop-turn-test.true c.loop-turn.invariant in
     first_of (search rules, grind (arith, common_steps))
+
+pub returns-in_err-suffix : goal.returns-in_err-suffix
+returns-in_err-suffix g c =
+    let e = one_more (λ n. run_items (reading c.args.self.now.depth suffix) (kind.Dot ∷ kind.OpenBracket ∷ []) n c.loop-turn.found (cursor_of c.loop-turn.tokens)) _ c.loop-turn._turn c.loop-turn-test.true c.loop-turn.invariant in
+    first_of (search rules, grind (arith, common_steps))

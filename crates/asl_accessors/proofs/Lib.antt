@@ -1,0 +1,9 @@
+pub mod Depths
+pub mod KeyPlaces
+pub mod PartsFound
+pub mod PartsStored
+pub mod OthersInPlace
+pub mod PartsSaid
+pub mod PlacesHeld
+pub mod ProgramsParted
+pub mod ProgramsCopied

@@ -1,0 +1,14 @@
+use Rattle.std.proofs.Common.{◌≡◌, ◌++◌, drop}
+use Rattle.asl_copy.proofs.reads.+read_copies.Given as goal
+
+abbrev pub invariant-copy_read_stmts-loop-item : goal.invariant-copy_read_stmts-loop-item
+invariant-copy_read_stmts-loop-item l = l.copies ++ drop l.item-index l.items ≡ l.items
+
+abbrev pub invariant-copy_read_else_ifs-loop-item : goal.invariant-copy_read_else_ifs-loop-item
+invariant-copy_read_else_ifs-loop-item l = l.copies ++ drop l.item-index l.items ≡ l.items
+
+abbrev pub invariant-copy_read_alternatives-loop-item : goal.invariant-copy_read_alternatives-loop-item
+invariant-copy_read_alternatives-loop-item l = l.copies ++ drop l.item-index l.items ≡ l.items
+
+abbrev pub invariant-copy_read_catchers-loop-item : goal.invariant-copy_read_catchers-loop-item
+invariant-copy_read_catchers-loop-item l = l.copies ++ drop l.item-index l.items ≡ l.items
