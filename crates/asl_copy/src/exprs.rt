@@ -3,7 +3,8 @@
 ghost use Rattle.std.specs.Prelude.{◌≡◌, IfOk};
 
 use crate::names::{copy_ident, copy_idents, copy_text};
-use asl_syn::tree::{Bitfield, ConstraintPart, Expr, FieldValue, Pattern, Slice, TypeExpr};
+use asl_shared::Held;
+use asl_syn::tree::{Bitfield, ConstraintPart, Expr, FieldValue, Ident, Pattern, Slice, TypeExpr};
 use sqlite_items::{Boxed, Items};
 use std::alloc::{AllocError, Global};
 
@@ -106,6 +107,48 @@ pub fn copy_maybe_expr(alloc: Global, item: &Option<Expr>) -> Result<Option<Expr
     }
 }
 
+/// Copies of what a call has: the name, the parameters that are given, and the arguments.
+pub fn copy_call(
+    alloc: Global,
+    name: &Ident,
+    parameters: &[Expr],
+    arguments: &[Expr],
+) -> Result<(Ident, Items<Expr>, Items<Expr>), AllocError>
+    ensures { IfOk result (λ copies. copies ≡ (name.now, parameters.now, arguments.now)) }
+{
+    let name = copy_ident(alloc, name)?;
+    let parameters = copy_exprs(alloc, parameters)?;
+    let arguments = copy_exprs(alloc, arguments)?;
+    Ok((name, parameters, arguments))
+}
+
+/// Copies of an expression and of one that may be missing.
+pub fn copy_limited(
+    alloc: Global,
+    value: &Expr,
+    limit: &Option<Expr>,
+) -> Result<(Expr, Option<Expr>), AllocError>
+    ensures { IfOk result (λ copies. copies ≡ (value.now, limit.now)) }
+{
+    let limit = Held::new(copy_maybe_expr(alloc, limit)?);
+    let value = copy_expr(alloc, value)?;
+    Ok((value, limit.into_inner()))
+}
+
+/// Copies of the two ends of a loop and of its limit.
+pub fn copy_ends(
+    alloc: Global,
+    from: &Expr,
+    to: &Expr,
+    limit: &Option<Expr>,
+) -> Result<(Expr, Expr, Option<Expr>), AllocError>
+    ensures { IfOk result (λ copies. copies ≡ (from.now, to.now, limit.now)) }
+{
+    let from = Held::new(copy_expr(alloc, from)?);
+    let (to, limit) = copy_limited(alloc, to, limit)?;
+    Ok((from.into_inner(), to, limit))
+}
+
 /// A copy of a field of a construction.
 #[cycle(copies)]
 fn copy_field(alloc: Global, field: &FieldValue) -> Result<FieldValue, AllocError>
@@ -137,19 +180,19 @@ fn copy_slice(alloc: Global, slice: &Slice) -> Result<Slice, AllocError>
     match slice {
         Slice::BitAt(index) => Ok(Slice::BitAt(copy_expr(alloc, index)?)),
         Slice::HighLow(high, low) => {
-            let high = copy_expr(alloc, high)?;
+            let high = Held::new(copy_expr(alloc, high)?);
             let low = copy_expr(alloc, low)?;
-            Ok(Slice::HighLow(high, low))
+            Ok(Slice::HighLow(high.into_inner(), low))
         }
         Slice::LowWidth(low, width) => {
-            let low = copy_expr(alloc, low)?;
+            let low = Held::new(copy_expr(alloc, low)?);
             let width = copy_expr(alloc, width)?;
-            Ok(Slice::LowWidth(low, width))
+            Ok(Slice::LowWidth(low.into_inner(), width))
         }
         Slice::FactorWidth(factor, width) => {
-            let factor = copy_expr(alloc, factor)?;
+            let factor = Held::new(copy_expr(alloc, factor)?);
             let width = copy_expr(alloc, width)?;
-            Ok(Slice::FactorWidth(factor, width))
+            Ok(Slice::FactorWidth(factor.into_inner(), width))
         }
     }
 }
@@ -174,9 +217,9 @@ fn copy_part(alloc: Global, part: &ConstraintPart) -> Result<ConstraintPart, All
     match part {
         ConstraintPart::Only(only) => Ok(ConstraintPart::Only(copy_expr(alloc, only)?)),
         ConstraintPart::FromTo(low, high) => {
-            let low = copy_expr(alloc, low)?;
+            let low = Held::new(copy_expr(alloc, low)?);
             let high = copy_expr(alloc, high)?;
-            Ok(ConstraintPart::FromTo(low, high))
+            Ok(ConstraintPart::FromTo(low.into_inner(), high))
         }
     }
 }
@@ -200,15 +243,15 @@ fn copy_bitfield(alloc: Global, bitfield: &Bitfield) -> Result<Bitfield, AllocEr
 {
     match bitfield {
         Bitfield::OneBit(index, name) => {
-            let index = copy_expr(alloc, index)?;
             let name = copy_ident(alloc, name)?;
+            let index = copy_expr(alloc, index)?;
             Ok(Bitfield::OneBit(index, name))
         }
         Bitfield::BitRange(high, low, name) => {
-            let high = copy_expr(alloc, high)?;
-            let low = copy_expr(alloc, low)?;
             let name = copy_ident(alloc, name)?;
-            Ok(Bitfield::BitRange(high, low, name))
+            let high = Held::new(copy_expr(alloc, high)?);
+            let low = copy_expr(alloc, low)?;
+            Ok(Bitfield::BitRange(high.into_inner(), low, name))
         }
     }
 }
@@ -303,9 +346,9 @@ fn copy_pattern(alloc: Global, pattern: &Pattern) -> Result<Pattern, AllocError>
             Ok(Pattern::ValuePattern(*span, copy_expr(alloc, value)?))
         }
         Pattern::RangePattern(span, low, high) => {
-            let low = copy_expr(alloc, low)?;
+            let low = Held::new(copy_expr(alloc, low)?);
             let high = copy_expr(alloc, high)?;
-            Ok(Pattern::RangePattern(*span, low, high))
+            Ok(Pattern::RangePattern(*span, low.into_inner(), high))
         }
     }
 }
