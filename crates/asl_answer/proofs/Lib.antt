@@ -1,6 +1,7 @@
 pub mod Answering
 pub mod GlobalLines
 pub mod Grown
+pub mod MaskLines
 pub mod Programs
 pub mod RunLemmas
 pub mod Statuses

@@ -1,6 +1,6 @@
 -- The statuses of reports: 0 to 4, and 2 for no command alone.
 use Rattle.std.proofs.Common.{◌≡◌, ◌<◌, ◌∙◌, ℕ, List, [], ◌∷◌, length, Option, Some, None, Result, Ok, Err, refl, sym, ap, arith}
-use Rattle.asl_syn.specs.Command.{Command, usage, check, run, exec, self, default_steps}
+use Rattle.asl_syn.specs.Command.{Command, usage, check, run, exec, self, masks, default_steps}
 use Rattle.asl_syn.specs.declared.code.Fault.{Fault}
 use Rattle.asl_syn.specs.declared.read.ReadDecl.{ReadDecl}
 use Rattle.asl_rules.specs.values.Values.{Value}
@@ -12,7 +12,7 @@ use Rattle.asl_rules.specs.report.Texts.{Text, File, made_words}
 use Rattle.asl_rules.specs.runs.Words.{WordsEnd, AllReturned, WordThrew, WordHalted}
 use Rattle.asl_rules.specs.report.WordList.{ListFault, words_read, Word}
 use Rattle.asl_rules.specs.report.Made.{made_text}
-use Rattle.asl_rules.specs.report.Report.{Answer, halted, run_answer, words_answer, made_answer, begun, worked, on_verdict, on_reading, on_words_read, on_check, on_run, on_words, on_made, made_file}
+use Rattle.asl_rules.specs.report.Report.{Answer, halted, run_answer, words_answer, made_answer, begun, worked, on_verdict, on_reading, on_words_read, on_check, on_run, on_words, on_made, on_masks, made_file}
 use Rattle.asl_answer.specs.declared.status.Status.{Status}
 use Rattle.asl_answer.specs.declared.status.Status.TheVariants as status
 use Rattle.asl_grammar.specs.Reading.{Reader}
@@ -91,6 +91,9 @@ of_made_on t command number size text files ds =
     let words = made_words number size (length text) (length ds) in
     of_verdict command files _ (λ found. of_begun command (made_answer words files) (of_made_run command words files) _ default_steps found.main) _
 
+of_masks : (t : Tests) (command : Command) (budget : ℕ) (files : List File) (ds : List ReadDecl) → IsOrdinary command (on_masks t budget files ds).status
+of_masks t command budget files ds = of_verdict command files _ (λ found. zero_is command) _
+
 of_files : (t : Tests) (read : Reader) (command : Command) (files : List File) (bytes : Text) → IsOrdinary command (answer_on_files t read command files bytes).status
 unfolding answer_on_files
 of_files t read usage files bytes = record { low = omega arith; usage_alone = λ _. refl }
@@ -102,6 +105,7 @@ of_files t read (self number size) files bytes =
     let text = made_text number size in
     let made = made_file text ∷ [] in
     of_reading (self number size) made _ (of_made_on t (self number size) number size text made) (read made)
+of_files t read (masks budget names) files bytes = of_reading (masks budget names) files _ (of_masks t (masks budget names) budget files) (read files)
 
 of_answer : (t : Tests) (read : Reader) (command : Command) (came : Came) → IsOrdinary command (answer_of t read command came).status
 of_answer t read command (whole files bytes) = of_files t read command files bytes

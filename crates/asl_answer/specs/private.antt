@@ -1,5 +1,6 @@
 -- What restates something for proofs, nearer to how the code goes about it: a lemma ties each to what it restates.
 pub mod Ends
 pub mod Model
+pub mod Places
 pub mod Report
 pub mod Writes

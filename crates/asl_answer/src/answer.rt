@@ -10,11 +10,12 @@ ghost use Rattle.asl_types.specs.Suits.{Suits};
 ghost use Rattle.asl_rules.specs.report.Made.{made_text};
 ghost use Rattle.asl_rules.specs.report.Texts.{fault_line};
 ghost use Rattle.asl_grammar.specs.Reading.{Reader, IsReading};
-ghost use Rattle.asl_rules.specs.report.Report.{answer, on_check, on_made, on_run, on_words};
+ghost use Rattle.asl_rules.specs.report.Report.{answer, on_check, on_made, on_masks, on_run, on_words};
 ghost use Rattle.asl_answer.specs.private.Model.{came_in, file_of, AreShort, IsShort};
-ghost use Rattle.asl_answer.specs.private.Report.{answer_of, answer_on_files, check_answer, exec_answer, list_answer, made_answer, run_answer, self_answer};
+ghost use Rattle.asl_answer.specs.private.Report.{answer_of, answer_on_files, check_answer, exec_answer, list_answer, made_answer, masks_answer, run_answer, self_answer};
 ghost use Rattle.asl_answer.specs.private.Writes.{Answers, HasCause};
 
+use crate::masks::say_tables;
 use crate::reading::Reading;
 use crate::running::{exec_program, run_made, run_program};
 use crate::status::{Status, Stop};
@@ -29,6 +30,7 @@ use asl_rules::entry::Entry;
 use asl_syn::code::{Fault, Refused};
 use asl_syn::place::Source;
 use asl_syn::read::ReadProgram;
+use asl_table::tables;
 use asl_words::{Word, WordFault, read_words, wanted};
 use std::alloc::Global;
 
@@ -144,6 +146,29 @@ fn check_made<K: Sink>(
     }
 }
 
+/// Makes the tables of the masks of a program, checks it without an entry, and writes the lines of the tables, where the search for a
+/// word that no mask of a table matches splits at most `budget` times.
+fn check_and_show<K: Sink>(
+    alloc: Global,
+    sources: &[Source],
+    program: ReadProgram,
+    budget: u32,
+    out: &mut K,
+) -> Result<Status, Stop>
+    requires short { AreShort sources.now }
+    requires grown { AreReadGrown program.decls }
+    ensures answer { (t : Tests) → Suits t → Answers result (K.written out.old) (K.written out.new) (on_masks t budget (map file_of sources.now) program.decls) }
+    ensures cause { HasCause result (K.faults out.old) (K.faults out.new) }
+    ensures same_full { K.full out.new ≡ K.full out.old }
+{
+    let tables = tables(alloc, &program)?;
+    match check(alloc, program, Entry::None) {
+        Ok(_) => say_tables(alloc, sources, tables.as_slice(), budget, out),
+        Err(Refused::At(fault)) => refuse(alloc, sources, &fault, out),
+        Err(Refused::NoMemory) => Err(Stop::NoMemory),
+    }
+}
+
 /// Checks the files without an entry, and writes the answer.
 #[tactic(auto, using(crate::proofs::Grown::grown))]
 fn check_files<K: Sink>(alloc: Global, sources: &[Source], out: &mut K) -> Result<Status, Stop>
@@ -200,6 +225,28 @@ fn exec_files<K: Sink>(
 {
     match parse(alloc, sources) {
         Ok(program) => check_and_exec(alloc, sources, program, steps, words, out),
+        Err(Refused::At(fault)) => refuse(alloc, sources, &fault, out),
+        Err(Refused::NoMemory) => Err(Stop::NoMemory),
+    }
+}
+
+/// Checks the files without an entry, and writes the lines of the tables of their masks, where the search for a word that no mask of a
+/// table matches splits at most `budget` times.
+#[tactic(auto, using(crate::proofs::Grown::grown))]
+fn masks_files<K: Sink>(
+    alloc: Global,
+    sources: &[Source],
+    budget: u32,
+    out: &mut K,
+) -> Result<Status, Stop>
+    requires few { length sources.now ≤ 64 }
+    requires short { AreShort sources.now }
+    ensures answer { (t : Tests) → Suits t → (read : Reader) → IsReading read → Answers result (K.written out.old) (K.written out.new) (masks_answer t read budget (map file_of sources.now)) }
+    ensures cause { HasCause result (K.faults out.old) (K.faults out.new) }
+    ensures same_full { K.full out.new ≡ K.full out.old }
+{
+    match parse(alloc, sources) {
+        Ok(program) => check_and_show(alloc, sources, program, budget, out),
         Err(Refused::At(fault)) => refuse(alloc, sources, &fault, out),
         Err(Refused::NoMemory) => Err(Stop::NoMemory),
     }
@@ -268,7 +315,7 @@ fn answer_files<K: Sink>(
     match line {
         Line::Usage => say(
             out,
-            b"usage: asl check FILE.. | asl run [--steps N] FILE.. | asl exec [--steps N] --words W FILE.. | asl self NUMBER SIZE\n",
+            b"usage: asl check FILE.. | asl run [--steps N] FILE.. | asl exec [--steps N] --words W FILE.. | asl self NUMBER SIZE | asl masks [--budget N] FILE..\n",
             Status::Usage,
         ),
         Line::Check { .. } => check_files(alloc, sources, out),
@@ -279,6 +326,7 @@ fn answer_files<K: Sink>(
             ..
         } => exec_list(alloc, sources, *steps, name.as_str(), list, out),
         Line::Generate { number, size } => make_and_run(alloc, *number, *size, out),
+        Line::Masks { budget, .. } => masks_files(alloc, sources, *budget, out),
     }
 }
 

@@ -2,6 +2,8 @@
 #![tactic(auto)]
 
 mod answer;
+mod masks;
+mod places;
 mod reading;
 mod running;
 mod status;

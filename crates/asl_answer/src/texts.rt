@@ -12,8 +12,8 @@ use asl_syn::token::Span;
 use asl_words::WordFault;
 use std::alloc::{AllocError, Global};
 
-/// A place in a file, and a code.
-fn placed_text(
+/// A place in a file, and a code or other words.
+pub fn placed_text(
     alloc: Global,
     name: &str,
     line: usize,

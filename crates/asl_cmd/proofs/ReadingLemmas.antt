@@ -5,7 +5,7 @@ use Rattle.std.specs.List.{All}
 use Rattle.std.proofs.lemmas.List.{get_or-map, length-map}
 use Rattle.std.proofs.lemmas.List.{map-append}
 use Rattle.std.proofs.lemmas.List.Elements.{All-append}
-use Rattle.asl_syn.specs.Command.{Command, usage, check, run, exec, self, names_of, sources_of}
+use Rattle.asl_syn.specs.Command.{Command, usage, check, run, exec, self, masks, names_of, sources_of}
 use Rattle.asl_syn.specs.declared.place.Source.{Source}
 use Rattle.asl_rules.specs.report.Texts.{Text, File}
 use Rattle.asl_rules.specs.report.Report.{Reading, all, long, with_file, read_by}
@@ -137,3 +137,4 @@ sources_sure P (check names) h = h
 sources_sure P (run steps names) h = h
 sources_sure P (exec steps list names) h = all_front P names (list ∷ []) h
 sources_sure P (self number size) h = h
+sources_sure P (masks budget names) h = h

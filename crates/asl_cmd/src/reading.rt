@@ -78,9 +78,10 @@ fn source_names(line: &Line) -> &[String]
 {
     match line {
         Line::Usage | Line::Generate { .. } => &[],
-        Line::Check { files } | Line::Run { files, .. } | Line::Exec { files, .. } => {
-            files.as_slice()
-        }
+        Line::Check { files }
+        | Line::Run { files, .. }
+        | Line::Exec { files, .. }
+        | Line::Masks { files, .. } => files.as_slice(),
     }
 }
 
@@ -134,8 +135,10 @@ pub fn read_line<F: Files>(alloc: Global, line: &Line, files: &mut F) -> Result<
     let sources = read_all(alloc, names, files)?;
     match line {
         Line::Exec { list, .. } => read_list(alloc, sources, list.as_str(), files),
-        Line::Usage | Line::Check { .. } | Line::Run { .. } | Line::Generate { .. } => {
-            Ok(without_list(alloc, sources))
-        }
+        Line::Usage
+        | Line::Check { .. }
+        | Line::Run { .. }
+        | Line::Generate { .. }
+        | Line::Masks { .. } => Ok(without_list(alloc, sources)),
     }
 }

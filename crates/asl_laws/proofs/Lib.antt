@@ -19,3 +19,4 @@ pub mod values
 pub mod verdict
 pub mod widths
 pub mod certificates
+pub mod masks

@@ -3,6 +3,7 @@ pub mod Evaluated
 pub mod Placeless
 pub mod Reported
 pub mod Codes
+pub mod Masks
 pub mod ScopeRules
 pub mod Visited
 pub mod WidthValues

@@ -1,6 +1,6 @@
 -- What the width limit decides: nothing but whether a run ends with the fault D14.
 use Rattle.std.specs.Prelude.{◌≡◌, ◌≢◌, ℕ, Bool, true, false, List, [], ◌∷◌, Option, Some, None, Result, Ok, Err}
-use Rattle.asl_syn.specs.Command.{Command, usage, check, run, exec, self, default_steps}
+use Rattle.asl_syn.specs.Command.{Command, usage, check, run, exec, self, masks, default_steps}
 use Rattle.asl_syn.specs.declared.code.DynCode.TheVariants.{D14}
 use Rattle.asl_syn.specs.declared.code.Fault.{Fault}
 use Rattle.asl_syn.specs.declared.tree.Decl.{Decl}
@@ -91,3 +91,4 @@ Fits t read (exec steps list names) held = OnFiles (read_files held names)
     (λ files. OnList (held list) (λ words. Accepts t (wanted words) (λ ds found. WordsFit (environment t ds) steps words found) (read files)))
 Fits t read (self number size) held = Accepts t entry.Main (λ ds found. RunFits (environment t ds) default_steps found.main)
     (read (made_file (made_text number size) ∷ []))
+Fits t read (masks budget names) held = OnFiles (read_files held names) (λ files. Accepts t entry.None (λ ds found. Unit {0}) (read files))

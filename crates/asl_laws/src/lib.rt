@@ -3,3 +3,4 @@
 
 pub mod certificate;
 pub mod law;
+pub mod mask;

@@ -8,7 +8,7 @@ use Rattle.clap.specs.Words.{App, Row, Rule, Text, all_of, fault_of, first_of, n
 use Rattle.clap.specs.Walk.{one_of}
 use Rattle.clap.specs.declared.builder.ValueParser.TheVariants as vp
 use Rattle.clap.specs.declared.builder.ArgAction.TheVariants.{Set}
-use Rattle.asl_syn.specs.Command.{Command, usage, check, run, exec, self, default_steps}
+use Rattle.asl_syn.specs.Command.{Command, usage, check, run, exec, self, masks, default_steps, default_budget}
 
 -- the names of the files, at least one
 abbrev pub files_rule : Rule
@@ -17,6 +17,10 @@ files_rule = record (new_rule (codes "file")) { required = true; range = Some (r
 -- the steps of a run, 1 to 1,000,000,000
 abbrev pub steps_rule : Rule
 steps_rule = record (new_rule (codes "steps")) { long = Some (codes "steps"); action = Some Set; parser = Some (vp.Signed (pos 1) (pos 1000000000)) }
+
+-- the splits of masks, 1 to 1,000,000,000
+abbrev pub budget_rule : Rule
+budget_rule = record (new_rule (codes "budget")) { long = Some (codes "budget"); action = Some Set; parser = Some (vp.Signed (pos 1) (pos 1000000000)) }
 
 -- the name of the word list
 abbrev pub words_rule : Rule
@@ -42,11 +46,17 @@ exec_app = with_rule (with_rule (with_rule (new_app (codes "exec")) steps_rule) 
 abbrev pub self_app : App
 self_app = with_rule (with_rule (new_app (codes "self")) number_rule) size_rule
 
+abbrev pub masks_app : App
+masks_app = with_rule (with_rule (new_app (codes "masks")) budget_rule) files_rule
+
 abbrev pub bare_app : App
 bare_app = record (new_app (codes "asl")) { top = record (new_app (codes "asl")).top { subcommand_required = true; disable_help_subcommand = true } }
 
 abbrev pub asl_app : App
-asl_app = with_subcommand (with_subcommand (with_subcommand (with_subcommand bare_app check_app.top) run_app.top) exec_app.top) self_app.top
+asl_app =
+    with_subcommand
+    (with_subcommand (with_subcommand (with_subcommand (with_subcommand bare_app check_app.top) run_app.top) exec_app.top) self_app.top)
+    masks_app.top
 
 -- the text is a decimal number below 2^32, and a plus may stand before it
 abbrev pub is_number : Text → Bool
@@ -70,6 +80,10 @@ number_or t = within_or (option_and_then number_in t)
 abbrev pub steps_in : List Row → ℕ
 steps_in rows = number_or (one_of (codes "steps") rows) 1 1000000000 default_steps
 
+-- the splits that were given, or else the default
+abbrev pub budget_in : List Row → ℕ
+budget_in rows = number_or (one_of (codes "budget") rows) 1 1000000000 default_budget
+
 -- the names of files that were given
 abbrev pub files_in : List Row → List Text
 files_in rows = unwrap_or (all_of (codes "file") rows) []
@@ -91,7 +105,8 @@ command_from (Some (name, rows)) =
     if bytes_eq name (codes "check") then check (files_in rows)
     else (if bytes_eq name (codes "run") then run (steps_in rows) (files_in rows)
     else (if bytes_eq name (codes "exec") then exec (steps_in rows) (words_in rows) (files_in rows)
-    else self (number_of rows) (size_of rows)))
+    else (if bytes_eq name (codes "self") then self (number_of rows) (size_of rows)
+    else masks (budget_in rows) (files_in rows))))
 
 abbrev pub command_unless : Kinds → Option (Text × List Row) → Command
 command_unless [] found = command_from found

@@ -2,16 +2,19 @@
 ghost use Rattle.std.specs.Prelude.{◌≡◌, ◌≤◌, IfOk, Some, map, option_and_then, string_bytes};
 ghost use Rattle.clap.specs.Words.{found_of, rows_of, subcommand_rows_of};
 ghost use Rattle.clap.specs.Walk.{one_of};
-ghost use Rattle.asl_line.specs.Line.{line_of, command_from, number_or, number_in, within_or, files_in, steps_in, words_in};
+ghost use Rattle.asl_line.specs.Line.{line_of, command_from, number_or, number_in, within_or, files_in, steps_in, budget_in, words_in};
 ghost use Rattle.asl_line.specs.private.Model.{meaning_of, HasSize};
 
-use crate::commands::{MOST_SIZE, MOST_STEPS, asl_command};
+use crate::commands::{MOST_SIZE, MOST_SPLITS, MOST_STEPS, asl_command};
 use clap::ArgMatches;
 use clap::error::ErrorKind;
 use std::alloc::{AllocError, Global};
 
 /// The steps of a run where the command line gives no number.
 const DEFAULT_STEPS: u32 = 1_000_000;
+
+/// The splits of masks where the command line gives no number.
+const DEFAULT_BUDGET: u32 = 100_000;
 
 /// What a command line asks for: a command with its options and the names of its files.
 #[derive(Debug, Drop)]
@@ -38,6 +41,12 @@ pub enum Line {
     Generate {
         number: u32,
         size: u32,
+    },
+    /// Reads and checks the files, and writes the tables of their masks; the search for a word that no mask of a table matches splits
+    /// at most this often, 1 to 1,000,000,000.
+    Masks {
+        budget: u32,
+        files: Vec<String>,
     },
 }
 
@@ -72,6 +81,13 @@ fn steps_given(matches: &ArgMatches<'_>) -> u32
     ensures { result ≡ steps_in (rows_of (found_of matches.now)) }
 {
     number_given(matches, "steps", 1, MOST_STEPS, DEFAULT_STEPS)
+}
+
+/// The splits of masks that were given, or those of a search where none are.
+fn budget_given(matches: &ArgMatches<'_>) -> u32
+    ensures { result ≡ budget_in (rows_of (found_of matches.now)) }
+{
+    number_given(matches, "budget", 1, MOST_SPLITS, DEFAULT_BUDGET)
 }
 
 /// The names of the files that were given.
@@ -122,10 +138,14 @@ fn line_named(alloc: Global, name: &str, given: &ArgMatches<'_>) -> Result<Line,
         let list = words_given(alloc, given)?;
         let files = files_given(alloc, given)?;
         Ok(Line::Exec { steps, list, files })
-    } else {
+    } else if name == "self" {
         let number = number_given(given, "number", 0, u32::MAX, 0);
         let size = number_given(given, "size", 1, MOST_SIZE, 1);
         Ok(Line::Generate { number, size })
+    } else {
+        let budget = budget_given(given);
+        let files = files_given(alloc, given)?;
+        Ok(Line::Masks { budget, files })
     }
 }
 

@@ -2,4 +2,5 @@
 pub mod Texts
 pub mod WordList
 pub mod Made
+pub mod MaskTables
 pub mod Report

@@ -33,6 +33,11 @@ const LINES: &[(&str, &str)] = &[
     ("asl self 1 2001", "Usage"),
     ("asl self 4294967296 1", "Usage"),
     ("asl self --steps 5 1 1", "Usage"),
+    ("asl masks", "Usage"),
+    ("asl masks --budget 0 a", "Usage"),
+    ("asl masks --budget 1000000001 a", "Usage"),
+    ("asl masks --steps 5 a", "Usage"),
+    ("asl check --budget 5 a", "Usage"),
     (
         "asl run a --steps 5 b",
         "Run { steps: 5, files: [\"a\", \"b\"] }",
@@ -54,6 +59,14 @@ const LINES: &[(&str, &str)] = &[
     (
         "asl self 4294967295 2000",
         "Generate { number: 4294967295, size: 2000 }",
+    ),
+    (
+        "asl masks a b",
+        "Masks { budget: 100000, files: [\"a\", \"b\"] }",
+    ),
+    (
+        "asl masks a --budget 1000000000",
+        "Masks { budget: 1000000000, files: [\"a\"] }",
     ),
     ("asl check a b c", "Check { files: [\"a\", \"b\", \"c\"] }"),
 ];

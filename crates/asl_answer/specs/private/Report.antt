@@ -1,11 +1,11 @@
 -- The answer of a command, by what came of the reading of all its files.
 use Rattle.std.specs.Prelude.{ℕ, List, [], ◌∷◌}
-use Rattle.asl_syn.specs.Command.{Command, usage, check, run, exec, self}
+use Rattle.asl_syn.specs.Command.{Command, usage, check, run, exec, self, masks}
 use Rattle.asl_grammar.specs.Reading.{Reader}
 use Rattle.asl_rules.specs.report.Made.{made_text}
 use Rattle.asl_rules.specs.Tests.{Tests}
 use Rattle.asl_rules.specs.report.Texts.{Text, File, usage_line, long_line, many_line}
-use Rattle.asl_rules.specs.report.Report.{Answer, answer, on_reading, on_words_read, on_check, on_run, on_words, on_made, made_file}
+use Rattle.asl_rules.specs.report.Report.{Answer, answer, on_reading, on_words_read, on_check, on_run, on_words, on_made, on_masks, made_file}
 use Rattle.asl_rules.specs.report.WordList.{Word, words_read}
 
 -- what came of all reading: the source files with the bytes of the word list, none where there is no list; the name of a file that is too long; or more
@@ -35,6 +35,9 @@ made_answer t read number size text files = on_reading files (on_made t number s
 abbrev pub self_answer : Tests → Reader → ℕ → ℕ → Text → Answer
 self_answer t read number size text = made_answer t read number size text (made_file text ∷ [])
 
+abbrev pub masks_answer : Tests → Reader → ℕ → List File → Answer
+masks_answer t read budget files = on_reading files (on_masks t budget files) (read files)
+
 -- the answer where all was read
 unfoldable pub answer_on_files : Tests → Reader → Command → List File → Text → Answer
 answer_on_files t read usage files bytes = answer usage_line 2
@@ -42,6 +45,7 @@ answer_on_files t read (check names) files bytes = check_answer t read files
 answer_on_files t read (run steps names) files bytes = run_answer t read steps files
 answer_on_files t read (exec steps list names) files bytes = list_answer t read steps list files bytes
 answer_on_files t read (self number size) files bytes = self_answer t read number size (made_text number size)
+answer_on_files t read (masks budget names) files bytes = masks_answer t read budget files
 
 -- the answer for what came of the reading
 abbrev pub answer_of : Tests → Reader → Command → Came → Answer

@@ -1,6 +1,6 @@
 -- What comes of the files that a command names: the code reads all of them first, and then answers.
 use Rattle.std.specs.Prelude.{[], if◌then◌else◌}
-use Rattle.asl_syn.specs.Command.{Command, usage, check, run, exec, self}
+use Rattle.asl_syn.specs.Command.{Command, usage, check, run, exec, self, masks}
 use Rattle.asl_rules.specs.report.Texts.{Text}
 use Rattle.asl_rules.specs.report.Report.{Reading, all, long, many, is_long, read_files}
 use Rattle.asl_answer.specs.private.Report.{Came, whole, too_long, too_many}
@@ -22,3 +22,4 @@ came_of (check names) held = without_list (read_files held names)
 came_of (run steps names) held = without_list (read_files held names)
 came_of (exec steps list names) held = list_behind list (held list) (read_files held names)
 came_of (self number size) held = whole [] []
+came_of (masks budget names) held = without_list (read_files held names)

@@ -2,7 +2,7 @@
 use Rattle.std.proofs.Common.{◌≡◌, ℕ, ◌≤◌, Bool, true, false, cond, List, [], ◌∷◌, length, Option, Some, Result, Ok, Err, refl, sym, ap, inr}
 use Rattle.std.proofs.Common.{subst, ◌∙◌}
 use Rattle.asl_poly.specs.WidthLimits.{heaviest}
-use Rattle.asl_syn.specs.Command.{Command, usage, check, run, exec, self, default_steps}
+use Rattle.asl_syn.specs.Command.{Command, usage, check, run, exec, self, masks, default_steps}
 use Rattle.asl_syn.specs.declared.tree.Decl.{Decl}
 use Rattle.asl_grammar.specs.Reading.{File, Reader, ReadsAt, IsReadingAt}
 use Rattle.asl_rules.specs.declared.entry.Entry.{Entry}
@@ -22,7 +22,7 @@ use Rattle.asl_laws.specs.Soundness.{NotStuck}
 use Rattle.asl_rules.specs.report.Made.{made_text}
 use Rattle.asl_rules.specs.report.Texts.{Text, made_words}
 use Rattle.asl_rules.specs.report.Report.{Reading, all, long, many, Answer, is_long, on_files, on_words_read, on_list, read_files, begun}
-use Rattle.asl_rules.specs.report.Report.{worked, words_answer, made_answer, run_answer, on_verdict, on_check, on_run, on_words, on_made}
+use Rattle.asl_rules.specs.report.Report.{worked, words_answer, made_answer, run_answer, on_verdict, on_check, on_run, on_words, on_made, on_masks}
 use Rattle.asl_rules.specs.report.Report.{on_reading, made_file, report_of}
 use Rattle.asl_laws.proofs.verdict.OneVerdict.{one_test}
 use Rattle.asl_laws.specs.Reported.{RunsWell, WordsNotStuck}
@@ -168,6 +168,11 @@ module _ (t u : Tests) (p : IsRight t) (q : IsRight u) (le : t.limit ≤ u.limit
     check_same files h = reading_same files entry.None (λ ds found. Unit {0}) (on_check t files) (on_check u files) h
         (λ ds a ok well i. on_same files entry.None ds a _ _ ok refl)
 
+    masks_same : (budget : ℕ) (files : List File) → Accepts t entry.None (λ ds found. Unit {0}) (read files) →
+        on_reading files (on_masks u budget files) (other files) ≡ on_reading files (on_masks t budget files) (read files)
+    masks_same budget files h = reading_same files entry.None (λ ds found. Unit {0}) (on_masks t budget files) (on_masks u budget files) h
+        (λ ds a ok well i. on_same files entry.None ds a _ _ ok refl)
+
     run_same : (steps : ℕ) (files : List File) →
         Accepts t entry.Main (λ ds found. RunFits (environment t ds) steps found.main) (read files) →
         on_reading files (on_run u steps files) (other files) ≡ on_reading files (on_run t steps files) (read files)
@@ -200,3 +205,4 @@ module _ (t u : Tests) (p : IsRight t) (q : IsRight u) (le : t.limit ≤ u.limit
     report_same (exec steps list names) held h = files_same (read_files held names) _ _ _ h
         (λ files i. list_same list (held list) _ _ _ i (λ words j. words_same steps words files j))
     report_same (self number size) held h = made_same number size (made_text number size) (made_file (made_text number size) ∷ []) h
+    report_same (masks budget names) held h = files_same (read_files held names) _ _ _ h (masks_same budget)

@@ -1,7 +1,7 @@
 -- The report: what a command writes, and its status, as a function of the bytes that files hold. It is the same by all right tests, and by all that files are
 -- read to.
 use Rattle.std.specs.Prelude.{ℕ, Bool, List, [], ◌∷◌, ◌++◌, length, nat_lt, if◌then◌else◌, Option, Some, None, Result, Ok, Err, codes}
-use Rattle.asl_syn.specs.Command.{Command, usage, check, run, exec, self, default_steps}
+use Rattle.asl_syn.specs.Command.{Command, usage, check, run, exec, self, masks, default_steps}
 use Rattle.asl_syn.specs.declared.code.Fault.{Fault}
 use Rattle.asl_syn.specs.declared.read.ReadDecl.{ReadDecl}
 use Rattle.asl_grammar.specs.Reading.{Reader}
@@ -16,6 +16,7 @@ use Rattle.asl_rules.specs.runs.Words.{WordsEnd, AllReturned, WordThrew, WordHal
 use Rattle.asl_rules.specs.runs.Evaluation.{initial_globals}
 use Rattle.asl_rules.specs.report.WordList.{ListFault, Word, words_read}
 use Rattle.asl_rules.specs.report.Made.{made_text}
+use Rattle.asl_rules.specs.report.MaskTables.{masks_text}
 use Rattle.asl_rules.specs.report.Texts.{Text, File, fault_line, dynamic_line, usage_line, long_line, many_line, list_fault_line, made_words, accepted_line, returned_line, uncaught_line, done_line, closing, global_line}
 
 -- what is written, and the status of it
@@ -145,6 +146,9 @@ on_made t number size text files ds =
     on_verdict files (λ found. begun (made_answer (made_words number size (length text) (length ds)) files) (environment t (final_decls ds)) default_steps found.main)
     (read_verdict entry.Main ds t)
 
+abbrev pub on_masks : Tests → ℕ → List File → List ReadDecl → Answer
+on_masks t budget files ds = on_verdict files (λ found. answer (masks_text files budget ds) 0) (read_verdict entry.None ds t)
+
 -- the answer for files that are read to declarations, or have a fault
 abbrev pub on_reading : List File → (List ReadDecl → Answer) → Result (List ReadDecl) Fault → Answer
 on_reading files go (Ok ds) = go ds
@@ -167,3 +171,4 @@ report_of t read (self number size) held =
     let text = made_text number size in
     let files = made_file text ∷ [] in
     on_reading files (on_made t number size text files) (read files)
+report_of t read (masks budget names) held = on_files (read_files held names) (λ files. on_reading files (on_masks t budget files) (read files))

@@ -79,7 +79,7 @@ abbrev pub dynamic_line : List File → DynCode → Span → Text
 dynamic_line files code span = line_at files span (dynamic_text code)
 
 abbrev pub usage_line : Text
-usage_line = codes "usage: asl check FILE.. | asl run [--steps N] FILE.. | asl exec [--steps N] --words W FILE.. | asl self NUMBER SIZE" ++ line_feed
+usage_line = codes "usage: asl check FILE.. | asl run [--steps N] FILE.. | asl exec [--steps N] --words W FILE.. | asl self NUMBER SIZE | asl masks [--budget N] FILE.." ++ line_feed
 
 abbrev pub long_line : Text → Text
 long_line name = name ++ (codes ":1:1+0: M01" ++ line_feed)

@@ -30,3 +30,9 @@ unfolding answer_on_files
 returns-in-Generate-clause-answer g c = λ t u read is.
     subst (λ command. Answers c.make_and_run.result (g.K.Sink.written c.args.out.now) (g.K.Sink.written c.make_and_run.new.out) (answer_on_files t read command (map file_of c.args.sources.now) c.args.list.now))
     (sym (ap meaning_of c.in-Generate.is)) (c.make_and_run.ensures.answer t u read is)
+
+pub returns-in-Masks-clause-answer : goal.returns-in-Masks-clause-answer
+unfolding answer_on_files
+returns-in-Masks-clause-answer g c = λ t u read is.
+    subst (λ command. Answers c.masks_files.result (g.K.Sink.written c.args.out.now) (g.K.Sink.written c.masks_files.new.out) (answer_on_files t read command (map file_of c.args.sources.now) c.args.list.now))
+    (sym (ap meaning_of c.in-Masks.is)) (c.masks_files.ensures.answer t u read is)

@@ -1,0 +1,4 @@
+pub mod Widths
+pub mod Pairs
+pub mod View
+pub mod private

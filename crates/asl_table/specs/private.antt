@@ -1,0 +1,4 @@
+pub mod Listed
+pub mod Found
+pub mod Narrow
+pub mod Walk
