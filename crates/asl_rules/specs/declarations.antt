@@ -8,7 +8,6 @@ pub mod Uses
 pub mod Barred
 pub mod Constants
 pub mod Declarations
-pub mod Turns
 pub mod WrittenOut
 pub mod Keys
 pub mod Replacing
