@@ -10,3 +10,5 @@ pub mod Several
 pub mod PlansKeep
 pub mod GlobalsKept
 pub mod WordRuns
+pub mod Fewer
+pub mod SameBefore

@@ -1,0 +1,18 @@
+use Rattle.asl_laws.proofs.names.Settled.{stays_judged, all_turns, settled, all_well, only}
+use Rattle.asl_laws.proofs.names.ValuesStay.{values_stay}
+use Rattle.asl_laws.proofs.law.turns_law.Goals as goal
+
+pub returns-clause-still : goal.returns-clause-still
+returns-clause-still c = stays_judged
+
+pub returns-clause-ends : goal.returns-clause-ends
+returns-clause-ends c = all_turns
+
+pub returns-clause-settled : goal.returns-clause-settled
+returns-clause-settled c = λ t r ds. settled t ds (values_stay t r ds)
+
+pub returns-clause-only : goal.returns-clause-only
+returns-clause-only c = λ t r ds js s. only t ds js s (values_stay t r ds)
+
+pub returns-clause-well : goal.returns-clause-well
+returns-clause-well c = all_well

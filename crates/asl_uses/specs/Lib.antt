@@ -1,0 +1,2 @@
+pub mod StmtUses
+pub mod Uses

@@ -1,0 +1,2 @@
+//! Development only: definitions of calls.
+#![tactic(auto)]
