@@ -18,13 +18,11 @@ use Rattle.asl_rules.specs.declarations.Scopes.{Body, Entry, Signature, Param, i
 use Rattle.asl_rules.specs.statements.Locals.{itself}
 use Rattle.asl_rules.specs.statements.Acting.{Listed, in_order}
 use Rattle.asl_rules.specs.statements.Stmts.{found_stmt}
-use Rattle.asl_rules.specs.declarations.Signatures.{Head, may_end, tree_func, param_entry, signatures, signatures_rule, overloads_rule, body_rule, bodies_rule, types_in}
-use Rattle.asl_rules.specs.declarations.Programs.{accepted, entry_rule, verdict}
-use Rattle.asl_rules.specs.declarations.Environments.{funcs_of}
+use Rattle.asl_rules.specs.declarations.Programs.{Head, accepted, may_end, tree_func, param_entry, funcs_of, signatures, signatures_rule, overloads_rule, body_rule, bodies_rule, entry_rule, types_in, verdict}
 use Rattle.asl_rules.specs.declared.entry.Entry.{Entry as Asked}
 use Rattle.asl_rules.specs.declarations.Names.{names_rule, all_declared}
 use Rattle.asl_rules.specs.declarations.Uses.{cycles_rule}
-use Rattle.asl_rules.specs.declarations.Turns.{globals_rule}
+use Rattle.asl_rules.specs.declarations.Declarations.{globals_rule}
 use Rattle.asl_syn.specs.declared.tree.Decl.{Decl}
 use Rattle.asl_rules.proofs.scopes.Longer.{Longer, longer_self, longer_on, list_longer}
 use Rattle.asl_decl.specs.Heads.{declared_with, declared_rule, params_declared, formals_declared, names_of_body, head_of, heads_of}

@@ -17,7 +17,7 @@ use Rattle.asl_rules.specs.expressions.Exprs.{written}
 use Rattle.asl_rules.specs.statements.Locals.{itself}
 use Rattle.asl_rules.specs.declarations.Scopes.{Entry, Param, Standing, standing_of, is_free, is_absent, fixed, next_atom, with_entry}
 use Rattle.asl_rules.specs.declarations.Declarations.{in_names}
-use Rattle.asl_rules.specs.declarations.Signatures.{params_free, formals_free, param_written, result_rule, param_entry, params_rule, with_formals}
+use Rattle.asl_rules.specs.declarations.Programs.{params_free, formals_free, param_written, result_rule, param_entry, params_rule, with_formals}
 use Rattle.asl_rules.proofs.basics.Inversions.{ok_ok, bind_ok, then_ok, need_ok}
 use Rattle.asl_decl.specs.Heads.{params_declared, formals_declared}
 use Rattle.asl_decl.specs.private.HeadTypes.{maybe_written, params_after, IsFront}

@@ -13,7 +13,7 @@ use Rattle.asl_rules.specs.declarations.Scopes.{Entry, Param, with_class}
 use Rattle.asl_rules.specs.expressions.Exprs.{found, typed}
 use Rattle.asl_rules.specs.declarations.Barred.{barred}
 use Rattle.asl_rules.specs.declarations.Declarations.{in_names}
-use Rattle.asl_rules.specs.declarations.Signatures.{limit_typed, params_are_integers, limit_rule}
+use Rattle.asl_rules.specs.declarations.Programs.{limit_typed, params_are_integers, limit_rule}
 use Rattle.asl_decl.specs.private.Limits.{limit_after, limit_known, limit_by}
 
 in_order : (t : Tests) (f : Func) (o : Option Expr) (ps : List Param) (globals : List Entry) →

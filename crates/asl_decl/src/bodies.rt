@@ -2,7 +2,7 @@
 
 ghost use Rattle.std.specs.Prelude.{◌≡◌, IfOk, IfErr, OnOk, option_map};
 ghost use Rattle.asl_rules.specs.statements.Locals as locals;
-ghost use Rattle.asl_rules.specs.declarations.Signatures.{type_or_itself, param_entry};
+ghost use Rattle.asl_rules.specs.declarations.Programs.{type_or_itself, param_entry};
 ghost use Rattle.asl_rules.specs.declarations.Scopes as scopes;
 ghost use Rattle.asl_rules.specs.declarations.Scopes.{with_entry};
 ghost use Rattle.asl_rules.specs.types.Types.{integer_of, only_width};

@@ -1,11 +1,12 @@
 pub mod DefinitionLemmas
+pub mod Judgements
+pub mod Keeping
 pub mod LibraryNames
-pub mod Marking
 pub mod OnceLemmas
+pub mod Passing
 pub mod PhaseLemmas
-pub mod Places
-pub mod Settling
-pub mod Steps
+pub mod Serves
+pub mod Serving
 pub mod StorageLemmas
-pub mod Taking
+pub mod Turns
 pub mod ValueLemmas

@@ -7,8 +7,7 @@ use Rattle.asl_syn.specs.declared.tree.Expr.{Expr}
 use Rattle.asl_rules.specs.private.ByPlace.{seen_as}
 use Rattle.asl_rules.specs.types.Closed.{closed}
 use Rattle.asl_rules.specs.declarations.Constants.{constant}
-use Rattle.asl_rules.specs.declarations.InitialValues.{evaluated}
-use Rattle.asl_rules.specs.declarations.Declarations.{known}
+use Rattle.asl_rules.specs.declarations.Declarations.{evaluated, known}
 use Rattle.asl_rules.specs.declarations.Scopes.{Scope}
 use Rattle.asl_rules.specs.Tests.{Tests}
 use Rattle.asl_rules.specs.types.Types.{Ty}

@@ -16,5 +16,4 @@ pub mod SizeForms
 pub mod AsForms
 pub mod SliceForms
 pub mod CallForms
-pub mod LesserClass
 pub mod AllExprs

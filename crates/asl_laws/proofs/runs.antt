@@ -10,5 +10,3 @@ pub mod Several
 pub mod PlansKeep
 pub mod GlobalsKept
 pub mod WordRuns
-pub mod Fewer
-pub mod SameBefore

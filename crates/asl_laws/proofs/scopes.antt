@@ -7,11 +7,10 @@ pub mod WellTyped
 pub mod OverScope
 pub mod ScopesOver
 pub mod BodiesOver
-pub mod NamesClean
 pub mod MoreNames
 pub mod DeclWell
-pub mod NamesOutside
 pub mod ScopesKept
 pub mod Globals
 pub mod FormedScopes
 pub mod ScopeRules
+pub mod Placeless

@@ -8,8 +8,5 @@ pub mod SoundnessNodes
 pub mod SoundnessHeads
 pub mod SoundnessCalls
 pub mod Soundness
-pub mod SoundnessBefore
-pub mod SoundTurns
-pub mod ProgramSound
 pub mod SoundnessEntry
 pub mod AgreeingTypes

@@ -5,7 +5,6 @@ pub mod Reported
 pub mod Codes
 pub mod Masks
 pub mod ScopeRules
-pub mod Settled
 pub mod Visited
 pub mod WidthValues
 pub mod WidthWorth
@@ -22,4 +21,5 @@ pub mod Described
 pub mod OneRun
 pub mod Soundness
 pub mod Spans
+pub mod StmtUses
 pub mod certificates

@@ -5,7 +5,7 @@ use Rattle.asl_rules.specs.private.Agreement.{GlobalsMatch}
 use Rattle.asl_rules.specs.runs.States.{Binding}
 use Rattle.asl_rules.specs.Tests.{Tests}
 use Rattle.asl_rules.specs.values.Values as rules
-use Rattle.asl_laws.proofs.soundness.ProgramSound.{soundness}
+use Rattle.asl_laws.proofs.soundness.Soundness.{soundness}
 use Rattle.asl_laws.proofs.soundness.SoundnessFacts.{facts_of}
 use Rattle.asl_tree.specs.Sealed.{Sealed, Cell, cells_in, cells_of, IsSealed}
 use Rattle.asl_tree.specs.declared.act.TreeFunc.{TreeFunc}

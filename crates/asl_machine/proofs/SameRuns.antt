@@ -8,8 +8,7 @@ use Rattle.asl_rules.specs.private.Agreement.{types_in, no_atoms, GlobalsMatch}
 use Rattle.asl_rules.specs.private.Belonging.{Belong}
 use Rattle.asl_rules.specs.runs.Cuts.{cuts}
 use Rattle.asl_rules.specs.private.Erasure.{values_of, erased, erased_outcome}
-use Rattle.asl_rules.specs.runs.Machines.{GivenUp, run_of}
-use Rattle.asl_rules.specs.runs.Limits.{most_open}
+use Rattle.asl_rules.specs.runs.Machines.{GivenUp, most_open, run_of}
 use Rattle.asl_rules.specs.runs.Plans.{Meter, Mistake, starting, Outcome, Done, Thrown, Halt, Faulted, Stuck, final}
 use Rattle.asl_rules.specs.declarations.Programs.{Accepted, accepted, verdict, environment}
 use Rattle.asl_laws.specs.Soundness.{NotStuck, KeepsGlobals, IsCall, Soundness, SameMeaning, trees_of, tree_run}
@@ -20,7 +19,7 @@ use Rattle.asl_rules.specs.values.Values as rules
 use Rattle.asl_laws.proofs.runs.GlobalsKept.{SameBut, Kept, AtRest, run_of_keeps, run_of_rests}
 use Rattle.asl_rules.proofs.basics.Inversions.{ok_ok}
 use Rattle.asl_laws.proofs.runs.PlansKeep.{EndsIn}
-use Rattle.asl_laws.proofs.soundness.ProgramSound.{soundness}
+use Rattle.asl_laws.proofs.soundness.Soundness.{soundness}
 use Rattle.asl_laws.proofs.soundness.SoundnessFacts.{facts_of}
 use Rattle.asl_syn.specs.declared.token.Span.{Span}
 use Rattle.asl_tree.specs.Funcs.{all_funcs}

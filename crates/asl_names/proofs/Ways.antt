@@ -1,12 +1,22 @@
 -- Walks over a graph come to what there is a way to.
-use Rattle.std.proofs.Common.{◌≡◌, ℕ, zero, suc, ◌+◌, ◌<◌, ◌≤◌, ◌⊎◌, inl, inr, Bool, true, false, List, [], ◌∷◌, ◌++◌, length, get_or, set, refl, sym, ap, ◌∙◌, subst, arith, append_assoc}
+use Rattle.std.proofs.Common.{◌≡◌, ℕ, zero, suc, ◌+◌, ◌<◌, ◌≤◌, ◌⊎◌, inl, inr, Bool, true, false, List, [], ◌∷◌, ◌++◌, length, get_or, set, refl, sym, ap, ◌∙◌, subst, arith, append_assoc, get_or-set_same, get_or-set_other}
 use Rattle.std.specs.Prelude.{◌==◌}
-use Rattle.std.proofs.lemmas.Bool.{eqb-true}
+use Rattle.std.proofs.lemmas.Bool.{eq-eqb, eqb-true, eqb-false}
 use Rattle.std.proofs.lemmas.List.{append-nil}
-use Rattle.asl_turns.specs.Graphs.{Graph, row, has_mark, all_marked, is_among}
-use Rattle.asl_names.specs.private.Ways.{IsListed, is_way, HasWay, MarkedMore, Goes, FoundOne, MarkedTo, ClosedTo, HasWayFrom, Reached, StartedTo}
-use Rattle.asl_turns.proofs.Marks.{among_marked, marked_more, mark_kept}
+use Rattle.asl_names.specs.private.Orders.{Graph, row, has_mark, all_marked, is_among, IsListed, is_way, HasWay, MarkedMore, Goes, FoundOne, MarkedTo, ClosedTo, Reached}
 use Rattle.asl_rules.proofs.basics.Tests.{no, both, and_true, either, or_first, or_second}
+
+pub among_marked : (marks : List Bool) (ns : List ℕ) (k : ℕ) → all_marked marks ns ≡ true → is_among k ns ≡ true → has_mark marks k ≡ true
+among_marked marks [] k h i = no i
+among_marked marks (n ∷ ns) k h i =
+    let p = both (has_mark marks n) (all_marked marks ns) h in
+    either (n == k) (is_among k ns) i (λ q. subst (λ m. has_mark marks m ≡ true) (eqb-true n k q) p.0) (among_marked marks ns k p.1)
+
+pub marked_more : (marks more : List Bool) → ((k : ℕ) → has_mark marks k ≡ true → has_mark more k ≡ true) → (ns : List ℕ) → all_marked marks ns ≡ true → all_marked more ns ≡ true
+marked_more marks more f [] h = refl
+marked_more marks more f (n ∷ ns) h =
+    let p = both (has_mark marks n) (all_marked marks ns) h in
+    and_true (has_mark more n) (all_marked more ns) (f n p.0) (marked_more marks more f ns p.1)
 
 pub way_last : (g : Graph) (ks : List ℕ) (n k m : ℕ) → is_way g n ks k ≡ true → is_among m (row g k) ≡ true → is_way g n (ks ++ k ∷ []) m ≡ true
 way_last g [] n k m h i = and_true (is_among k (row g n)) (is_among m (row g k)) h i
@@ -34,6 +44,11 @@ pub at_place : (ns more : List ℕ) (i : ℕ) → i < length ns → get_or (ns +
 at_place [] more i h = absurd (omega (arith, h))
 at_place (n ∷ ns) more zero h = refl
 at_place (n ∷ ns) more (suc i) h = at_place ns more i (omega (arith, h))
+
+pub among_place : (ns : List ℕ) (i : ℕ) → i < length ns → is_among (get_or ns i 0) ns ≡ true
+among_place [] i h = absurd (omega (arith, h))
+among_place (n ∷ ns) zero h = or_first (n == n) (is_among n ns) (eq-eqb n n refl)
+among_place (n ∷ ns) (suc i) h = or_second (n == get_or ns i 0) (is_among (get_or ns i 0) ns) (among_place ns i (omega (arith, h)))
 
 pub closed_all : (g : Graph) (marks : List Bool) (nodes : List ℕ) (at : ℕ) → IsListed nodes marks → ClosedTo g marks nodes at → length nodes ≤ at → (k : ℕ) → has_mark marks k ≡ true → all_marked marks (row g k) ≡ true
 closed_all g marks nodes at l c e k h =
@@ -82,41 +97,23 @@ goes_more nodes ns all n w h = (
     by k (inl q) = w.2 k q
     by k (inr q) = either (n == k) false q (λ z. subst (λ m. is_among m ns ≡ true) (eqb-true n k z) h) (λ z. no z)
 
--- what holds of all that was found, and of what these use, holds of all that is found then
-goes_all : (P : ℕ → Type 0) (nodes ns all : List ℕ) → ((k : ℕ) → is_among k nodes ≡ true → P k) → ((k : ℕ) → is_among k ns ≡ true → P k) →
-    Goes nodes ns all → (k : ℕ) → is_among k all ≡ true → P k
-goes_all P nodes ns all f g q k i = by (among_split k nodes q.0 (subst (λ l. is_among k l ≡ true) q.1 i))
+-- what is found by a way, and then what those use
+pub goes_reached : (g : Graph) (start node : ℕ) (nodes all : List ℕ) → ((k : ℕ) → is_among k nodes ≡ true → HasWay g start k) → HasWay g start node → Goes nodes (row g node) all → (k : ℕ) → is_among k all ≡ true → HasWay g start k
+goes_reached g start node nodes all f w q k i = by (among_split k nodes q.0 (subst (λ l. is_among k l ≡ true) q.1 i))
   where
-    by : (is_among k nodes ≡ true) ⊎ (is_among k q.0 ≡ true) → P k
+    by : (is_among k nodes ≡ true) ⊎ (is_among k q.0 ≡ true) → HasWay g start k
     by (inl a) = f k a
-    by (inr a) = g k (q.2 k a)
+    by (inr a) = way_on g start node k w (q.2 k a)
 
--- what those use that were found is found by a way
-pub goes_reached : (g : Graph) (from to node : ℕ) (nodes all : List ℕ) → Reached g from to nodes → HasWayFrom g from to node →
-    Goes nodes (row g node) all → Reached g from to all
-goes_reached g from to node nodes all f w =
-    goes_all (HasWayFrom g from to) nodes (row g node) all f (λ k i. (w.0, w.1, w.2, way_on g w.0 node k w.3 i))
-
--- and so is what one uses from which the walk begins
-pub goes_first : (g : Graph) (from to node : ℕ) (nodes all : List ℕ) → from ≤ node → node < to → Reached g from to nodes →
-    Goes nodes (row g node) all → Reached g from to all
-goes_first g from to node nodes all a b f =
-    goes_all (HasWayFrom g from to) nodes (row g node) all f (λ k i. (node, a, b, ([], i)))
-
-pub started_next : (g : Graph) (marks more : List Bool) (from at : ℕ) → StartedTo g marks from at → MarkedMore marks more →
-    all_marked more (row g at) ≡ true → StartedTo g more from (at + 1)
-started_next g marks more from at f m h n a b = by (below_or n at (omega (arith, b)))
-  where
-    by : (n < at) ⊎ (n ≡ at) → all_marked more (row g n) ≡ true
-    by (inl q) = marked_more marks more m (row g n) (f n a q)
-    by (inr q) = subst (λ k. all_marked more (row g k) ≡ true) (sym q) h
-
-pub started_more : (g : Graph) (marks more : List Bool) (from to : ℕ) → StartedTo g marks from to → MarkedMore marks more →
-    StartedTo g more from to
-started_more g marks more from to f m n a b = marked_more marks more m (row g n) (f n a b)
+pub goes_first : (g : Graph) (start : ℕ) (all : List ℕ) → Goes [] (row g start) all → (k : ℕ) → is_among k all ≡ true → HasWay g start k
+goes_first g start all q k i = ([], q.2 k (subst (λ l. is_among k l ≡ true) q.1 i))
 
 pub set_more : (marks : List Bool) (n : ℕ) → n < length marks → MarkedMore marks (set marks n true)
-set_more marks n l = mark_kept marks n
+set_more marks n l k h = by (n == k) refl
+  where
+    by : (b : Bool) → (n == k) ≡ b → has_mark (set marks n true) k ≡ true
+    by true e = subst (λ m. has_mark (set marks n true) m ≡ true) (eqb-true n k e) (get_or-set_same marks n true false l)
+    by false e = get_or-set_other marks n k true false (λ z. eqb-false n k e (sym z)) ∙ h
 
 pub goes_one : (nodes ns all new : List ℕ) (n : ℕ) → Goes nodes ns all → FoundOne all n new → is_among n ns ≡ true → Goes nodes ns new
 goes_one nodes ns all new n w (inl e) h = subst (Goes nodes ns) (sym e) w
@@ -137,15 +134,11 @@ pub more_trans : (a b c : List Bool) → MarkedMore a b → MarkedMore b c → M
 more_trans a b c f g k h = g k (f k h)
 
 -- a mark is that of a way
-pub mark_way : (g : Graph) (from to : ℕ) (nodes : List ℕ) (marks : List Bool) → IsListed nodes marks → Reached g from to nodes →
-    (k : ℕ) → has_mark marks k ≡ true → HasWayFrom g from to k
-mark_way g from to nodes marks l r k h = r k (sym (l k) ∙ h)
+pub mark_way : (g : Graph) (start : ℕ) (nodes : List ℕ) (marks : List Bool) → IsListed nodes marks → Reached g start nodes → (k : ℕ) → has_mark marks k ≡ true → HasWay g start k
+mark_way g start nodes marks l r k h = r k (sym (l k) ∙ h)
 
-pub way_mark : (g : Graph) (from to : ℕ) (nodes : List ℕ) (marks : List Bool) (at : ℕ) → IsListed nodes marks → ClosedTo g marks nodes at →
-    length nodes ≤ at → StartedTo g marks from to → (k : ℕ) → HasWayFrom g from to k → has_mark marks k ≡ true
-way_mark g from to nodes marks at l c e s k w =
-    let way = w.3 in
-    way_marked g marks (closed_all g marks nodes at l c e) way.0 w.0 k (s w.0 w.1 w.2) way.1
+pub way_mark : (g : Graph) (start : ℕ) (nodes : List ℕ) (marks : List Bool) (at : ℕ) → IsListed nodes marks → ClosedTo g marks nodes at → length nodes ≤ at → all_marked marks (row g start) ≡ true → (k : ℕ) → HasWay g start k → has_mark marks k ≡ true
+way_mark g start nodes marks at l c e h k w = way_marked g marks (closed_all g marks nodes at l c e) w.0 start k h w.1
 
 pub marked_to_end : (marks : List Bool) (ns : List ℕ) (at : ℕ) → MarkedTo marks ns at → length ns ≤ at → all_marked marks ns ≡ true
 marked_to_end marks ns at t l = marked_to_all marks ns (λ i h. t i (omega (arith, h, l)))

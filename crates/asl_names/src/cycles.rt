@@ -1,27 +1,29 @@
 //! Declarations that reach themselves.
 
-ghost use Rattle.std.specs.Prelude.{◌≡◌, ℕ, ◌*◌, ◌^◌, ◌<◌, [], true, length, Ok, IfOk};
+ghost use Rattle.std.specs.Prelude.{◌≡◌, ℕ, ◌<◌, [], true, false, length, Ok, Some, IfOk};
+ghost use Rattle.std.specs.List.{slice_get};
+ghost use Rattle.asl_syn.specs.declared.tree.Decl.{Decl as Declaration};
 ghost use Rattle.asl_rules.specs.declarations.Names.{names_rule, all_declared};
-ghost use Rattle.asl_uses.specs.Uses as rules;
-ghost use Rattle.asl_turns.specs.Graphs.{has_mark};
+ghost use Rattle.asl_rules.specs.declarations.Uses as rules;
 ghost use Rattle.asl_names.specs.private.Answers.{Met};
+ghost use Rattle.asl_names.specs.private.Graphs.{graph_of};
+ghost use Rattle.asl_names.specs.private.Orders.{has_mark, IsOrder, HasEdges, HasWay};
 ghost use Rattle.asl_names.specs.private.Components.{IsFalling};
-ghost use Rattle.asl_names.specs.private.Cycles.{first_by};
-ghost use Rattle.asl_names.specs.private.Graphs as graphs;
-ghost use Rattle.asl_names.specs.private.Ways.{HasEdges, HasWay, HasWayFrom};
+ghost use Rattle.asl_names.specs.private.Cycles.{name_of, NoneBack};
 
 use crate::answer::fault;
 use crate::components::{Levels, levels_of};
+use crate::listed::{Listed, has_mark};
+use crate::order::order_of;
 use crate::reach::reaches_itself;
 use asl_syn::code::{Refused, StaticCode};
 use asl_syn::tree::{Decl, Ident};
-use asl_turns::has_mark;
 use sqlite_items::Items;
 use std::alloc::{AllocError, Global};
 
 /// The name of a declaration.
 fn name_of(d: &Decl) -> &Ident
-    ensures { result.now ≡ rules.name_in d.now }
+    ensures { result.now ≡ name_of d.now }
 {
     match d {
         Decl::Type(t) => &t.name,
@@ -30,74 +32,63 @@ fn name_of(d: &Decl) -> &Ident
     }
 }
 
-/// The node of the declaration with this place among so many.
-fn node_of(count: usize, place: usize, d: &Decl) -> usize
-    requires few { 3 * count < 2 ^ 64 }
-    requires within { place < count }
-    ensures { result ≡ graphs.node_of count place d.now }
-{
-    match d {
-        Decl::Type(_) => count + place,
-        Decl::Storage(_) => count + place,
-        Decl::Func(_) => 2 * count + place,
-    }
-}
-
-/// Whether a declaration is judged before all bodies: it is a type or storage, or one of these reaches it.
-fn is_first(d: &Decl, reached: &[bool], node: usize) -> bool
-    ensures { result ≡ first_by (has_mark reached.now node) d.now }
-{
-    match d {
-        Decl::Type(_) => true,
-        Decl::Storage(_) => true,
-        Decl::Func(_) => has_mark(reached, node),
-    }
-}
-
-/// Whether a declaration is judged before all bodies, and there is a way from its node back to it.
+/// Whether there is a way back to a node without a mark.
 fn is_back(
     alloc: Global,
     graph: &[Items<usize>],
-    reached: &[bool],
+    marks: &[bool],
     levels: &Levels,
-    d: &Decl,
     node: usize,
 ) -> Result<bool, AllocError>
     requires edges { HasEdges graph.now }
-    requires within { node < length graph.now }
     requires falls { levels.now.is_falling ≡ true → IsFalling graph.now levels.now.numbers }
-    ensures first { IfOk result (λ back. back ≡ true → first_by (has_mark reached.now node) d.now ≡ true) }
     ensures way { IfOk result (λ back. back ≡ true → HasWay graph.now node node) }
-    ensures none { IfOk result (λ back. first_by (has_mark reached.now node) d.now ≡ true → HasWay graph.now node node → back ≡ true) }
+    ensures none { IfOk result (λ back. has_mark marks.now node ≡ false → HasWay graph.now node node → back ≡ true) }
 {
-    if is_first(d, reached, node) && levels.may_return(graph, node) {
-        reaches_itself(alloc, graph, node)
-    } else {
+    if has_mark(marks, node) || !levels.may_return(graph, node) {
         Ok(false)
+    } else {
+        reaches_itself(alloc, graph, node)
     }
 }
 
-/// T03 at the first declaration that is judged before all bodies and reaches itself. It takes a time that grows with the
-/// graph: of those that may reach themselves the first does.
-pub(crate) fn check_cycles(
+/// T03 at the first declaration without a mark that reaches itself. It takes a time that grows with the graph: of those
+/// that may reach themselves the first does.
+fn check_rest(
     alloc: Global,
     decls: &[Decl],
     graph: &[Items<usize>],
-    reached: &[bool],
+    marks: &[bool],
 ) -> Result<(), Refused>
-    requires few { 3 * length decls.now < 2 ^ 64 }
     requires names { names_rule [] (all_declared decls.now) ≡ Ok tt }
-    requires graph { graph.now ≡ graphs.graph_of decls.now }
-    requires way { (k : ℕ) → has_mark reached.now k ≡ true → HasWayFrom graph.now (length decls.now) (2 * length decls.now) k }
-    requires mark { (k : ℕ) → HasWayFrom graph.now (length decls.now) (2 * length decls.now) k → has_mark reached.now k ≡ true }
-    ensures { Met (λ _. tt) result (rules.cycles_rule decls.now decls.now) }
+    requires graph { graph.now ≡ graph_of decls.now }
+    requires apart { (n : ℕ) (d : Declaration) → has_mark marks.now n ≡ true → slice_get decls.now n ≡ Some d → rules.reaches_itself decls.now d ≡ false }
+    ensures rule { Met (λ _. tt) result (rules.cycles_rule decls.now decls.now) }
+    ensures none { IfOk result (λ _. NoneBack decls.now (length decls.now)) }
 {
     let levels = levels_of(alloc, graph)?;
     for (place, d) in decls.iter().enumerate() {
-        let node = node_of(decls.len(), place, d);
-        if is_back(alloc, graph, reached, &levels, d, node)? {
+        if is_back(alloc, graph, marks, &levels, place)? {
             return fault(StaticCode::T03, name_of(d).span);
         }
     }
     Ok(())
+}
+
+/// An order of all declarations, in which each stands behind all that it uses; T03 at the first that reaches itself.
+#[tactic(auto, using(crate::proofs::CycleLemmas::apart_of, crate::proofs::CycleLemmas::all_in_order))]
+pub(crate) fn order_decls(
+    alloc: Global,
+    decls: &[Decl],
+    graph: &[Items<usize>],
+) -> Result<Listed, Refused>
+    requires names { names_rule [] (all_declared decls.now) ≡ Ok tt }
+    requires graph { graph.now ≡ graph_of decls.now }
+    ensures rule { Met (λ _. tt) result (rules.cycles_rule decls.now decls.now) }
+    ensures order { IfOk result (λ order. IsOrder graph.now order.nodes order.marks) }
+    ensures whole { IfOk result (λ order. (n : ℕ) → n < length decls.now → has_mark order.marks n ≡ true) }
+{
+    let order = order_of(alloc, graph)?;
+    check_rest(alloc, decls, graph, order.marks.as_slice())?;
+    Ok(order)
 }

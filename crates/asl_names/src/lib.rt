@@ -1,4 +1,5 @@
-//! The names of declarations: those that they use, and which declarations use which.
+//! The names of declarations: those that they use, which declarations use which, and an order in
+//! which each stands behind what it uses.
 #![tactic(auto)]
 
 mod answer;
@@ -10,14 +11,14 @@ mod expr_uses;
 pub mod firsts;
 mod graph;
 mod library;
-mod listed;
+pub mod listed;
 mod name_use;
 mod names;
+pub mod order;
+mod ordered;
 mod reach;
-mod stmt_uses;
-mod uses;
 
 pub use expr_uses::uses_in_expr;
 pub use library::LIBRARY;
 pub use name_use::Use;
-pub use uses::{Uses, uses_of_decls};
+pub use ordered::{Ordered, in_order};

@@ -8,4 +8,3 @@ pub mod ByPlace
 pub mod TypedMeaning
 pub mod Erasure
 pub mod Grown
-pub mod Judgements

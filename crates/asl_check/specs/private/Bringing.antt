@@ -4,8 +4,7 @@ use Rattle.asl_syn.specs.declared.code.Fault.{Fault}
 use Rattle.asl_rules.specs.declared.entry.Entry.{Entry}
 use Rattle.asl_rules.specs.Faults.{◌>>=◌}
 use Rattle.asl_rules.specs.Tests.{Tests}
-use Rattle.asl_rules.specs.declarations.Programs.{Accepted, accepted, entry_rule}
-use Rattle.asl_rules.specs.declarations.Signatures.{Head, signatures, bodies_rule}
+use Rattle.asl_rules.specs.declarations.Programs.{Accepted, Head, accepted, signatures, bodies_rule, entry_rule}
 use Rattle.asl_rules.specs.declarations.Scopes as scopes
 use Rattle.asl_rules.specs.declarations.Scopes.{Signature}
 use Rattle.asl_decl.specs.Heads.{Declared}

@@ -10,7 +10,7 @@ use Rattle.asl_rules.specs.Tests.{Tests}
 use Rattle.asl_rules.specs.types.Types.{Ty}
 use Rattle.asl_rules.specs.declarations.Scopes.{Scope, Entry, Param, next_atom, with_entry}
 use Rattle.asl_rules.specs.declarations.Declarations.{in_names}
-use Rattle.asl_rules.specs.declarations.Signatures.{param_entry}
+use Rattle.asl_rules.specs.declarations.Programs.{param_entry}
 use Rattle.asl_judge.specs.private.Definitions.{type_written}
 
 -- the type that is written, where one is

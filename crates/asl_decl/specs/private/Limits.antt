@@ -13,7 +13,7 @@ use Rattle.asl_rules.specs.declarations.Scopes.{Entry, Param, with_class}
 use Rattle.asl_rules.specs.expressions.Exprs.{found}
 use Rattle.asl_rules.specs.declarations.Barred.{barred}
 use Rattle.asl_rules.specs.declarations.Declarations.{in_names, known}
-use Rattle.asl_rules.specs.declarations.Signatures.{limit_typed, params_are_integers, limit_rule, as_number}
+use Rattle.asl_rules.specs.declarations.Programs.{limit_typed, params_are_integers, limit_rule, as_number}
 use Rattle.asl_judge.specs.private.Definitions.{type_found}
 
 -- the types of the parameters are integers, and then the number that is written, or the usual one

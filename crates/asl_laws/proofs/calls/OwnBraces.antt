@@ -18,7 +18,7 @@ use Rattle.asl_rules.specs.types.Alone.{polynomial}
 use Rattle.asl_rules.specs.expressions.Typing.{Operand, types_of}
 use Rattle.asl_rules.specs.expressions.Calls.{Given, Replacing, replacing, argument_first, given_by_argument, widths_given, widths_omitted, widths_rule, polys, replaced_by}
 use Rattle.asl_rules.specs.expressions.Exprs.{found}
-use Rattle.asl_rules.specs.declarations.Signatures.{Head, param_written, param_entry, params_rule}
+use Rattle.asl_rules.specs.declarations.Programs.{Head, param_written, param_entry, params_rule}
 use Rattle.asl_rules.specs.types.Numbers.{Numbers, outside}
 use Rattle.asl_rules.specs.runs.States.{Core}
 use Rattle.asl_rules.specs.private.Agreement.{types_in, GlobalsMatch}

@@ -24,10 +24,9 @@ use Rattle.asl_rules.specs.types.Widths.{width_of_known, width_of_counted, width
 use Rattle.asl_rules.specs.types.Writing.{Written}
 use Rattle.asl_rules.specs.expressions.Exprs.{found, written}
 use Rattle.asl_rules.specs.types.Alone.{Polynomials, polynomial}
-use Rattle.asl_rules.specs.declarations.Declarations.{in_names}
-use Rattle.asl_rules.specs.declarations.InitialValues.{evaluated}
+use Rattle.asl_rules.specs.declarations.Declarations.{in_names, evaluated}
 use Rattle.asl_rules.specs.declarations.Constants.{constant}
-use Rattle.asl_rules.specs.declarations.Signatures.{Head, class_of, params_free, formals_free, params_rule, param_written, param_entry, formals_rule, result_rule, limit_typed, params_are_integers, limit_rule, as_number, with_formals, signature_rule, signatures_rule, signatures, body_rule, bodies_rule}
+use Rattle.asl_rules.specs.declarations.Programs.{Head, class_of, params_free, formals_free, params_rule, param_written, param_entry, formals_rule, result_rule, limit_typed, params_are_integers, limit_rule, as_number, with_formals, signature_rule, signatures_rule, signatures, body_rule, bodies_rule}
 use Rattle.asl_rules.specs.types.Numbers.{Numbers, outside}
 use Rattle.asl_rules.specs.runs.States.{Core}
 use Rattle.asl_rules.specs.private.Agreement.{types_in, no_atoms, GlobalsMatch}

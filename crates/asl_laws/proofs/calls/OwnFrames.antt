@@ -21,7 +21,7 @@ use Rattle.asl_rules.specs.statements.Locals.{itself}
 use Rattle.asl_rules.specs.types.Writing.{Written}
 use Rattle.asl_rules.specs.expressions.Exprs.{written}
 use Rattle.asl_rules.specs.declarations.Declarations.{in_names}
-use Rattle.asl_rules.specs.declarations.Signatures.{formals_free, formals_rule, with_formals, types_in as list_types}
+use Rattle.asl_rules.specs.declarations.Programs.{formals_free, formals_rule, with_formals, types_in as list_types}
 use Rattle.asl_rules.specs.types.Numbers.{Numbers}
 use Rattle.asl_rules.specs.runs.States.{of_type, Core}
 use Rattle.asl_rules.specs.private.Belonging.{has_type}

@@ -20,7 +20,7 @@ use Rattle.asl_rules.specs.runs.Trees.{TreeFunc}
 use Rattle.asl_rules.specs.values.Members.{has_name}
 use Rattle.asl_rules.specs.expressions.Exprs.{written}
 use Rattle.asl_rules.specs.declarations.Declarations.{in_names}
-use Rattle.asl_rules.specs.declarations.Signatures.{formals_free, formals_rule, with_formals, types_in as list_types, param_written, type_or_itself, param_entry, params_rule, params_free, result_rule}
+use Rattle.asl_rules.specs.declarations.Programs.{formals_free, formals_rule, with_formals, types_in as list_types, param_written, type_or_itself, param_entry, params_rule, params_free, result_rule}
 use Rattle.asl_rules.specs.types.Numbers.{present}
 use Rattle.asl_rules.specs.runs.States.{of_type, of_value, Core, entered}
 use Rattle.asl_rules.specs.private.Belonging.{InType, has_type}

@@ -25,13 +25,8 @@ use Rattle.asl_rules.specs.types.Shaped.{shape_of, type_parts}
 use Rattle.asl_rules.specs.runs.Trees.{Tree}
 use Rattle.asl_rules.specs.runs.States.{resting}
 use Rattle.asl_rules.specs.private.Agreement.{no_atoms, types_in, Agrees}
-use Rattle.asl_rules.specs.declarations.Declarations.{in_names}
-use Rattle.asl_rules.specs.declarations.Turns.{Brought, Fine, final, scope_so_far, decl_rule, names_of_program}
-use Rattle.asl_rules.specs.declarations.Uses.{is_func}
-use Rattle.asl_rules.specs.private.Judgements.{CameOf}
-use Rattle.asl_rules.specs.declarations.Scopes.{Scope}
-use Rattle.asl_rules.specs.declarations.Environments.{Environment}
-use Rattle.asl_rules.specs.declarations.Programs.{environment}
+use Rattle.asl_rules.specs.declarations.Declarations.{in_names, names_of_program}
+use Rattle.asl_rules.specs.declarations.Programs.{Environment, environment}
 use Rattle.asl_rules.specs.types.Written.{Sized, sized, filled, type_span}
 use Rattle.asl_rules.specs.runs.Evaluation.{types_of, sized_at, initial_globals}
 use Rattle.asl_laws.specs.Described.{fixed_storage, known_numbers, written_type, whole_value, whole_values, sized_known}
@@ -49,23 +44,18 @@ use Rattle.asl_laws.proofs.expressions.TreePlans.{AllAsked, AllGive, append_nil}
 use Rattle.asl_laws.proofs.widths.OutsideWidths.{NoneCounted, outside_whole}
 use Rattle.asl_laws.proofs.widths.WholeWidths.{number_width, width_value}
 use Rattle.asl_rules.proofs.verdict.Distinct.{Distinct, In}
+use Rattle.asl_rules.proofs.verdict.Settled.{Brought}
 use Rattle.asl_rules.proofs.widths.Known.{integer_of_width, integer_of_number}
 use Rattle.asl_laws.proofs.widths.PresentNumbers.{NumbersAgree}
 use Rattle.asl_laws.proofs.described.FirstFilled.{Begins, filled_begins}
 use Rattle.asl_laws.proofs.described.Forms.{formed}
 use Rattle.asl_laws.proofs.expressions.Claims.{Here, Asked, of_type, of_pure, of_width, of_number, of_known, of_divisor, nothing_around}
 
--- what a declaration brings at the end of all turns
-pub record Brings (t : Tests) (ds : List Decl) (d : Decl) : Type 0 where
-  pub brought : Brought
-  pub is_of : CameOf d (Fine brought) ds (final t ds)
-  pub gives : decl_rule t ds (final t ds) d ≡ Ok brought
-
 -- what a well-formed program has outside its bodies
 pub record Outside (t : Tests) (ds : List Decl) : Type 0 where
   pub right : IsRight t
   pub distinct : Distinct (all_declared ds)
-  pub brings : (d : Decl) → In d ds → is_func d ≡ false → Brings t ds d
+  pub brings : (d : Decl) → In d ds → Brought t ds d
   pub named : WellNamed (names_of_program t ds)
   pub agrees : Agrees (names_of_program t ds) (names_of_program t ds) no_atoms (resting (initial_globals (environment t ds)))
 
@@ -101,7 +91,7 @@ module _ (t : Tests) (ds : List Decl) (g : Outside t ds) where
       width_of_standing span o ≡ Ok p → IsFixed (known_numbers env name) p
   width_of_name span name p (Some (Stored s)) e h =
       let u = then_ok (need (is_integer s.ty) T05 span) (width_of_counted span s.counted (known_value s)) p h in
-      let k : s.counted ≡ None = formed t ds name (Stored s) e in
+      let k : s.counted ≡ None = formed t ds g.brings name (Stored s) e in
       let w : width_of_known span (known_value s) ≡ Ok p = subst (λ c. width_of_counted span c (known_value s) ≡ Ok p) k u.then in
       let x = known_width span s p (known_value s) refl w in
       (ap (λ o. option_and_then fixed_storage (storage_in o)) e ∙ x.0, x.1)
@@ -113,7 +103,7 @@ module _ (t : Tests) (ds : List Decl) (g : Outside t ds) where
   number_of_name : (span : Span) (name : List ℕ) (z : ℤ) (o : Option Standing) → standing_of name names ≡ o → number_of_standing span o ≡ Ok z → known_numbers env name ≡ Some z
   number_of_name span name z (Some (Stored s)) e h =
       let u = then_ok (need (is_integer s.ty) T05 span) (number_of_counted span s.counted (known_value s)) z h in
-      let k : s.counted ≡ None = formed t ds name (Stored s) e in
+      let k : s.counted ≡ None = formed t ds g.brings name (Stored s) e in
       let w : number_of_known span (known_value s) ≡ Ok z = subst (λ c. number_of_counted span c (known_value s) ≡ Ok z) k u.then in
       ap (λ o. option_and_then fixed_storage (storage_in o)) e ∙ known_number span s z (known_value s) refl w
   number_of_name span name z (Some (Label T x)) e h = err_ok (fault_of T05 span) z h
@@ -126,10 +116,6 @@ module _ (t : Tests) (ds : List Decl) (g : Outside t ds) where
     widths = λ span name p h. width_of_name span name p (standing_of name names) refl h;
     numbers = λ span name z h. number_of_name span name z (standing_of name names) refl h;
   }
-
-  -- what a declaration was judged in at the end
-  abbrev pub last : Scope
-  last = scope_so_far ds (final t ds)
 
   -- ---- types
 
@@ -150,7 +136,7 @@ module _ (t : Tests) (ds : List Decl) (g : Outside t ds) where
   filled_by ty zs s (Some shape) h = filled_begins t.limit (type_span ty) shape zs s h
 
   none_counted : NoneCounted names
-  none_counted name s e = formed t ds name (Stored s) e
+  none_counted name s e = formed t ds g.brings name (Stored s) e
 
   at_names : Here
   at_names = record { scope = in_names names; present = no_atoms; around = nothing_around }

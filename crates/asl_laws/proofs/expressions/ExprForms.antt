@@ -21,7 +21,7 @@ use Rattle.asl_rules.specs.declarations.Layouts.{slot_of, layout_of}
 use Rattle.asl_rules.specs.runs.Trees as tree
 use Rattle.asl_rules.specs.runs.Trees.{Tree, TreeFunc, Note, tree_at}
 use Rattle.asl_rules.specs.types.Widths.{bounded}
-use Rattle.asl_rules.specs.declarations.Environments.{Environment}
+use Rattle.asl_rules.specs.declarations.Programs.{Environment}
 use Rattle.asl_rules.specs.types.Effects.{greater, together, all_together, greatest}
 use Rattle.asl_rules.specs.expressions.Typing.{Typed, typed_as, note, in_class, Operand, operands, effects_of, types_of, trees_in, trees_of}
 use Rattle.asl_rules.specs.expressions.Operations.{of_booleans, binary_rule, unary_rule}

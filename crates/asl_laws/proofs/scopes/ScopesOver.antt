@@ -1,25 +1,47 @@
 -- The scopes of a program: the types of names outside bodies have no atoms, and the types of the names of a body have atoms of names of that body alone. So a
 -- type is the same type for two assignments that agree on the atoms of its scope.
-use Rattle.std.proofs.Common.{◌≡◌, ℕ, suc, true, false, pos, List, [], ◌∷◌, Some, None, refl, sym, ap, ap₂, ◌∙◌, subst}
+use Rattle.std.proofs.Common.{◌≡◌, ℕ, zero, suc, Bool, true, false, pos, List, [], ◌∷◌, ◌++◌, length, map, Option, Some, None, Result, Ok, Err, refl, sym, ap, ap₂, ◌∙◌, subst}
 use Rattle.std.specs.Prelude.{if◌then◌else◌, ◌+ℤ◌, ◌*ℤ◌, not}
+use Rattle.std.specs.Str.{bytes_eq}
+use Rattle.asl_syn.specs.declared.code.Fault.{Fault}
+use Rattle.asl_syn.specs.declared.code.StaticCode.TheVariants.{S03, T04, T15}
+use Rattle.asl_syn.specs.declared.tree.Expr.{Expr}
+use Rattle.asl_syn.specs.declared.tree.TypeExpr.{TypeExpr}
+use Rattle.asl_syn.specs.declared.tree.Ident.{Ident}
+use Rattle.asl_syn.specs.declared.tree.Formal.{Formal}
+use Rattle.asl_syn.specs.declared.tree.TypeDef.{TypeDef}
+use Rattle.asl_syn.specs.declared.tree.TypeDef.TheVariants as td
+use Rattle.asl_syn.specs.declared.tree.StorageDecl.{StorageDecl}
+use Rattle.asl_syn.specs.declared.tree.Decl.{Decl}
+use Rattle.asl_syn.specs.declared.tree.Decl.TheVariants as dc
 use Rattle.asl_poly.specs.Terms.{Summand, Polynomial, value, product}
 use Rattle.asl_poly.specs.Fractions.{fraction_at}
 use Rattle.asl_cons.specs.declared.End.{End}
 use Rattle.asl_cons.specs.declared.End.TheVariants.{Int, Width}
 use Rattle.asl_cons.specs.declared.Part.{Part}
-use Rattle.asl_rules.specs.types.Types.{Ty, Fields, Parts, integer_of, boolean, bits_of, enumeration_of, record_of, exception_of, tuple_of, array_of, named, no_field, field, no_part, part, structure, kind}
-use Rattle.asl_rules.specs.types.Closed.{Assignment, Range, width_in, range_in, width_at, end_at, ranges_at, constraint_at, type_with, fields_with, parts_with}
+use Rattle.asl_rules.specs.Faults.{need, none_at, fault_of, fitted}
+use Rattle.asl_rules.specs.Tests.{Tests}
+use Rattle.asl_rules.specs.types.Types.{Ty, Fields, Parts, integer_of, boolean, bits_of, enumeration_of, record_of, exception_of, tuple_of, array_of, named, no_field, field, no_part, part, structure, kind, misfit}
+use Rattle.asl_rules.specs.types.Closed.{Assignment, Range, width_in, range_in, width_at, end_at, ranges_at, constraint_at, type_with, fields_with, parts_with, closed}
 use Rattle.asl_rules.specs.types.Closed as cl
-use Rattle.asl_rules.specs.declarations.Scopes.{Entry, Standing, Stored, Subprogram, TypeName, Label, next_atom, standing_of, is_local}
+use Rattle.asl_rules.specs.declarations.Scopes.{Entry, Standing, Stored, Subprogram, TypeName, Label, next_atom, subprogram, standing_of, is_local}
+use Rattle.asl_rules.specs.expressions.Exprs.{found, found_type, typed, written}
+use Rattle.asl_rules.specs.types.Written.{first_value}
+use Rattle.asl_rules.specs.declarations.Names.{library}
+use Rattle.asl_rules.specs.declarations.Uses.{uses}
+use Rattle.asl_rules.specs.declarations.Barred.{barred}
+use Rattle.asl_rules.specs.declarations.Declarations.{evaluated, with_type, Judged, Waiting, Fine, Faulty, Initial, fields_written, once, def_rule, supertype_rule, label_entries, storage_rule, unannotated, is_var, known, decl_rule, judged, judged_by, still, judgement, entries_of, entries, final, names_of_program, in_names, all_fine}
 use Rattle.asl_rules.specs.private.Worth.{AllOf, AtomsOf}
 use Rattle.asl_rules.specs.private.WellFormed.{Fixed}
 use Rattle.asl_rules.specs.private.Agreement.{SameOn}
-use Rattle.asl_rules.proofs.basics.Tests.{none_some}
+use Rattle.asl_rules.proofs.basics.Inversions.{ok_ok, err_ok, bind_ok, then_ok}
+use Rattle.asl_rules.proofs.basics.Tests.{none_some, some_same}
+use Rattle.asl_rules.proofs.basics.Opening.{bounded_ok}
 use Rattle.asl_rules.proofs.widths.Counting.{stored_of}
 pub use Rattle.asl_laws.specs.ScopeRules.{Below}
-use Rattle.asl_laws.proofs.widths.TypesOver.{EndOver, PartsOver, Never, Over, FieldsOver, AllOver, over_any}
-use Rattle.asl_laws.proofs.scopes.OverScope.{StandingOver, CountedOver, EachOver, NamesOver}
-use Rattle.asl_rules.proofs.verdict.EachName.{EachName, name_has}
+use Rattle.asl_laws.proofs.widths.TypesOver.{EndOver, PartsOver, Never, Over, FieldsOver, AllOver, over_any, widened_over}
+use Rattle.asl_laws.proofs.scopes.OverScope.{StandingOver, CountedOver, EachOver, NamesOver, typed_over, written_over}
+use Rattle.asl_rules.proofs.scopes.EachOnce.{entries_keep}
 
 -- ---- a type for assignments that agree on its atoms
 
@@ -109,14 +131,17 @@ Clean Subprogram = Unit {0}
 Clean (TypeName T) = Over Never T
 Clean (Label T x) = Over Never T
 
-abbrev pub IsClean : Entry → Type 0
-IsClean e = Clean e.standing
+abbrev AllClean : List Entry → Type 0
+AllClean [] = Unit {0}
+AllClean (e ∷ es) = Clean e.standing × AllClean es
 
-abbrev pub AllClean : List Entry → Type 0
-AllClean es = EachName IsClean es
+clean_if : (b : Bool) (y : Standing) (o : Option Standing) (x : Standing) → Clean y → (o ≡ Some x → Clean x) → (if b then Some y else o) ≡ Some x → Clean x
+clean_if true y o x c f h = subst (λ z. Clean z) (some_same y x h) c
+clean_if false y o x c f h = f h
 
-pub clean_at : (name : List ℕ) (es : List Entry) (x : Standing) → AllClean es → standing_of name es ≡ Some x → Clean x
-clean_at name es x c h = name_has (λ n st. Clean st) es name x c h
+clean_at : (name : List ℕ) (es : List Entry) (x : Standing) → AllClean es → standing_of name es ≡ Some x → Clean x
+clean_at name [] x c h = none_some x h
+clean_at name (e ∷ es) x c h = clean_if (bytes_eq e.name name) e.standing (standing_of name es) x c.0 (clean_at name es x c.1) h
 
 clean_standing : (A : ℕ → Type 0) (x : Standing) → Clean x → StandingOver A x
 clean_standing A (Stored s) c = over_any A s.ty c.1.1
@@ -131,25 +156,18 @@ clean_each : (A : ℕ → Type 0) (es : List Entry) → AllClean es → EachOver
 clean_each A [] c = tt
 clean_each A (e ∷ es) c = (clean_standing A e.standing c.0, (clean_counted A e.standing c.0, clean_each A es c.1))
 
-pub clean_over : (A : ℕ → Type 0) (es : List Entry) → AllClean es → NamesOver A es
+clean_over : (A : ℕ → Type 0) (es : List Entry) → AllClean es → NamesOver A es
 clean_over A es c = record {
   each = clean_each A es c;
   standing = λ name x h. clean_standing A x (clean_at name es x c h);
   counts = λ name s d h q. none_some d (sym (clean_at name es (Stored s) c (stored_of (standing_of name es) s h)).0 ∙ q);
 }
 
-clean_local : (x : Standing) → Clean x → is_local x ≡ false
-clean_local (Stored s) c = ap not c.1.0
-clean_local Subprogram c = refl
-clean_local (TypeName T) c = refl
-clean_local (Label T x) c = refl
+more_clean : (xs ys : List Entry) → AllClean xs → AllClean ys → AllClean (xs ++ ys)
+more_clean [] ys a b = b
+more_clean (x ∷ xs) ys a b = (a.0, more_clean xs ys a.1 b)
 
--- none of them is the name of a body
-pub clean_atoms : (es : List Entry) → AllClean es → next_atom es ≡ 0
-clean_atoms [] c = refl
-clean_atoms (e ∷ es) c = ap (λ b. if b then suc (suc (next_atom es)) else next_atom es) (clean_local e.standing c.0) ∙ clean_atoms es c.1
-
-pub structure_over : (T : Ty) → Over Never T → Over Never (structure T)
+structure_over : (T : Ty) → Over Never T → Over Never (structure T)
 structure_over (named name supers T) h = structure_over T h
 structure_over (integer_of ps) h = h
 structure_over boolean h = tt
@@ -159,3 +177,139 @@ structure_over (record_of name fs) h = h
 structure_over (exception_of name fs) h = h
 structure_over (tuple_of ts) h = h
 structure_over (array_of n T) h = h
+
+module _ (t : Tests) where
+  fields_clean : (fs : List Formal) (names : List Entry) (Fs : Fields) → AllClean names → fields_written t fs (in_names names) ≡ Ok Fs → FieldsOver Fs
+  fields_clean [] names Fs c h = subst (λ z. FieldsOver z) (ok_ok no_field Fs h) tt
+  fields_clean (f ∷ fs) names Fs c h =
+      let u = bind_ok (written t f.ty true (in_names names)) _ Fs h in
+      let v = bind_ok (fields_written t fs (in_names names)) _ Fs u.then in
+      subst (λ z. FieldsOver z) (ok_ok (field f.name.text u.value.ty v.value) Fs v.then)
+      (written_over Never t f.ty true (in_names names) u.value (clean_over Never names c) u.first, fields_clean fs names v.value c v.first)
+
+  def_clean : (name : List ℕ) (def : TypeDef) (names : List Entry) (T : Ty) → AllClean names → def_rule t name def (in_names names) ≡ Ok T → Over Never T
+  def_clean name (td.Alias ty) names T c h =
+      let u = bind_ok (written t ty true (in_names names)) _ T h in
+      subst (Over Never) (ok_ok u.value.ty T u.then) (written_over Never t ty true (in_names names) u.value (clean_over Never names c) u.first)
+  def_clean name (td.Labels span is) names T c h = subst (Over Never) (ok_ok _ T h) tt
+  def_clean name (td.Record span fs) names T c h =
+      let u = bind_ok (fields_written t fs (in_names names)) _ T h in
+      let v = then_ok (need (once fs []) T15 span) _ T u.then in
+      subst (Over Never) (bounded_ok span (record_of name u.value) T v.then) (fields_clean fs names u.value c u.first)
+  def_clean name (td.Exception span fs) names T c h =
+      let u = bind_ok (fields_written t fs (in_names names)) _ T h in
+      let v = then_ok (need (once fs []) T15 span) _ T u.then in
+      subst (Over Never) (bounded_ok span (exception_of name u.value) T v.then) (fields_clean fs names u.value c u.first)
+
+  labels_clean : (def : TypeDef) (name : List ℕ) (T : Ty) → Over Never T → AllClean (label_entries def name T)
+  labels_clean (td.Alias ty) name T h = tt
+  labels_clean (td.Labels span is) name T h = each is
+    where
+      each : (is : List Ident) → AllClean (label_entries (td.Labels span is) name T)
+      each [] = tt
+      each (i ∷ is) = (h, each is)
+  labels_clean (td.Record span fs) name T h = tt
+  labels_clean (td.Exception span fs) name T h = tt
+
+  unannotated_over : (b : Bool) (T : Ty) → Over Never T → Over Never (unannotated b T)
+  unannotated_over true T h = widened_over Never T h
+  unannotated_over false T h = h
+
+  storage_clean : (d : StorageDecl) (b : Bool) (o : Option TypeExpr) (p : Option Expr) (names : List Entry) (s : Initial) → AllClean names → storage_rule t d b o p (in_names names) ≡ Ok s → Over Never s.ty
+  storage_clean d b None None names s c h = err_ok (fault_of S03 d.span) s h
+  storage_clean d b (Some ty) None names s c h =
+      let u = bind_ok (written t ty true (in_names names)) _ s h in
+      let v = bind_ok (evaluated (first_value t.limit (found_type t ty).span (closed u.value.ty))) _ s u.then in
+      subst (λ (z : Initial). Over Never z.ty) (ok_ok (with_type u.value.ty v.value) s v.then) (written_over Never t ty true (in_names names) u.value (clean_over Never names c) u.first)
+  storage_clean d b None (Some e) names s c h =
+      let n = then_ok (none_at T04 (barred e names)) _ s h in
+      let u = bind_ok (typed t e (in_names names)) _ s n.then in
+      let v = bind_ok (known t e (in_names names)) _ s u.then in
+      subst (λ (z : Initial). Over Never z.ty) (ok_ok _ s v.then) (unannotated_over b u.value.ty (typed_over Never t e (in_names names) u.value (clean_over Never names c) tt u.first))
+  storage_clean d b (Some ty) (Some e) names s c h =
+      let n = then_ok (none_at T04 (barred e names)) _ s h in
+      let w = bind_ok (written t ty true (in_names names)) _ s n.then in
+      let u = bind_ok (typed t e (in_names names)) _ s w.then in
+      let f = then_ok (fitted (misfit t u.value.ty w.value.ty) (found t e).span) _ s u.then in
+      let v = bind_ok (known t e (in_names names)) _ s f.then in
+      subst (λ (z : Initial). Over Never z.ty) (ok_ok _ s v.then) (written_over Never t ty true (in_names names) w.value (clean_over Never names c) w.first)
+
+  decl_clean : (d : Decl) (names : List Entry) (es : List Entry) → AllClean names → decl_rule t d (in_names names) ≡ Ok es → AllClean es
+  decl_clean (dc.Type d) names es c h =
+      let u = bind_ok (def_rule t d.name.text d.def (in_names names)) _ es h in
+      let v = bind_ok (supertype_rule t d.supertype u.value (in_names names)) _ es u.then in
+      let k : Over Never (structure u.value) = structure_over u.value (def_clean d.name.text d.def names u.value c u.first) in
+      subst (λ z. AllClean z) (ok_ok _ es v.then) (k, labels_clean d.def d.name.text (named d.name.text v.value (structure u.value)) k)
+  decl_clean (dc.Storage d) names es c h =
+      let u = bind_ok (storage_rule t d (is_var d.kind) d.ty d.init (in_names names)) _ es h in
+      subst (λ z. AllClean z) (ok_ok _ es u.then) ((refl, (refl, storage_clean d (is_var d.kind) d.ty d.init names u.value c u.first)), tt)
+  decl_clean (dc.Func f) names es c h = subst (λ z. AllClean z) (ok_ok (subprogram f.name.text ∷ []) es h) (tt, tt)
+
+  abbrev BringsClean : Judged → Type 0
+  BringsClean Waiting = Unit {0}
+  BringsClean (Fine es) = AllClean es
+  BringsClean (Faulty f) = Unit {0}
+
+  judged_clean : (r : Result (List Entry) Fault) → ((es : List Entry) → r ≡ Ok es → AllClean es) → BringsClean (judged r)
+  judged_clean (Ok es) f = f es refl
+  judged_clean (Err e) f = tt
+
+  if_clean : (b : Bool) (j : Judged) → BringsClean j → BringsClean (if b then j else Waiting)
+  if_clean true j a = a
+  if_clean false j a = tt
+
+  still_clean : (j k : Judged) → BringsClean j → BringsClean k → BringsClean (still j k)
+  still_clean Waiting k a b = b
+  still_clean (Fine es) k a b = a
+  still_clean (Faulty f) k a b = tt
+
+  brought_clean : (j : Judged) → BringsClean j → AllClean (entries_of j)
+  brought_clean Waiting a = tt
+  brought_clean (Fine es) a = a
+  brought_clean (Faulty f) a = tt
+
+  entries_clean : (f : Decl → Judged) → ((d : Decl) → BringsClean (f d)) → (ds : List Decl) → AllClean (entries f ds)
+  entries_clean f a [] = tt
+  entries_clean f a (d ∷ ds) = more_clean (entries_of (f d)) (entries f ds) (brought_clean (f d) (a d)) (entries_clean f a ds)
+
+  library_clean : (ns : List (List ℕ)) → AllClean (map subprogram ns)
+  library_clean [] = tt
+  library_clean (n ∷ ns) = (tt, library_clean ns)
+
+  with_library : (f : Decl → Judged) → ((d : Decl) → BringsClean (f d)) → (ds : List Decl) → AllClean (map subprogram library ++ entries f ds)
+  with_library f a ds = more_clean (map subprogram library) (entries f ds) (library_clean library) (entries_clean f a ds)
+
+  by_clean : (f : Decl → Judged) → ((d : Decl) → BringsClean (f d)) → (ds : List Decl) (d : Decl) → BringsClean (judged_by t f ds d)
+  by_clean f a ds d =
+      let names : List Entry = map subprogram library ++ entries f ds in
+      if_clean (all_fine f (uses d) ds) (judged (decl_rule t d (in_names names))) (judged_clean (decl_rule t d (in_names names)) (λ es h. decl_clean d names es (with_library f a ds) h))
+
+  judgement_clean : (n : ℕ) (ds : List Decl) (d : Decl) → BringsClean (judgement t n ds d)
+  judgement_clean zero ds d = tt
+  judgement_clean (suc n) ds d =
+      still_clean (judgement t n ds d) (judged_by t (λ e. judgement t n ds e) ds d) (judgement_clean n ds d) (by_clean (λ e. judgement t n ds e) (λ e. judgement_clean n ds e) ds d)
+
+  -- the names after so many rounds have no atoms
+  pub rounds_over : (A : ℕ → Type 0) (n : ℕ) (ds : List Decl) → NamesOver A (map subprogram library ++ entries (judgement t n ds) ds)
+  rounds_over A n ds = clean_over A (map subprogram library ++ entries (judgement t n ds) ds) (with_library (judgement t n ds) (λ d. judgement_clean n ds d) ds)
+
+  program_clean : (ds : List Decl) → AllClean (names_of_program t ds)
+  program_clean ds = entries_keep AllClean more_clean (λ e es h. ((h.0, tt), h.1)) (entries (final t ds) ds) (map subprogram library) (entries_clean (final t ds) (λ d. judgement_clean (suc (length ds)) ds d) ds) (library_clean library)
+
+  -- the names that are visible in all bodies have no atoms
+  pub program_over : (A : ℕ → Type 0) (ds : List Decl) → NamesOver A (names_of_program t ds)
+  program_over A ds = clean_over A (names_of_program t ds) (program_clean ds)
+
+  -- and none of them is the name of a body
+  pub program_atoms : (ds : List Decl) → next_atom (names_of_program t ds) ≡ 0
+  program_atoms ds = no_local (names_of_program t ds) (program_clean ds)
+    where
+      outside : (x : Standing) → Clean x → is_local x ≡ false
+      outside (Stored s) c = ap not c.1.0
+      outside Subprogram c = refl
+      outside (TypeName T) c = refl
+      outside (Label T x) c = refl
+
+      no_local : (es : List Entry) → AllClean es → next_atom es ≡ 0
+      no_local [] c = refl
+      no_local (e ∷ es) c = ap (λ b. if b then suc (suc (next_atom es)) else next_atom es) (outside e.standing c.0) ∙ no_local es c.1

@@ -24,7 +24,7 @@ use Rattle.asl_rules.specs.private.WellFormed.{AllInside, Shaped, ShapedView, Bu
 use Rattle.asl_rules.specs.runs.States.{of_type, of_value, kept}
 use Rattle.asl_rules.specs.private.Belonging.{has_type, fields_have, all_have, InType}
 use Rattle.asl_rules.specs.private.Agreement.{no_atoms, types_in}
-use Rattle.asl_rules.specs.declarations.Environments.{Environment}
+use Rattle.asl_rules.specs.declarations.Programs.{Environment}
 use Rattle.asl_rules.specs.runs.Plans.{Faulted, Stuck, WrongKind, Pure, Good, Bad}
 use Rattle.asl_rules.specs.runs.Pures.{◌>>=◌, there}
 use Rattle.asl_rules.specs.values.Vectors.{Slicing, Places, slicings, tested, slice_places, with_slices, read_bits, write_bits, total_width, places_of_field, places_of_fields, bits_at, all_within, fill, with_places, bitfield_of, with_bitfield, bitfields_of, with_bitfields, named_among, bitfields_named}

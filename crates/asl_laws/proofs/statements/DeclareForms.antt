@@ -13,7 +13,7 @@ use Rattle.asl_syn.specs.declared.tree.Bind.TheVariants.{Single}
 use Rattle.asl_syn.specs.declared.tree.Alternative.TheOpen as st
 use Rattle.asl_syn.specs.declared.tree.Decl.{Decl}
 use Rattle.asl_rules.specs.Faults.{need}
-use Rattle.asl_rules.specs.declarations.Environments.{Environment}
+use Rattle.asl_rules.specs.declarations.Programs.{Environment}
 use Rattle.asl_rules.specs.Tests.{Tests, IsRight}
 use Rattle.asl_rules.specs.types.Types.{Ty, is_integer, misfit}
 use Rattle.asl_rules.specs.types.Closed.{Assignment, type_with, width_at}

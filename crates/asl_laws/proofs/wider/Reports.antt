@@ -31,7 +31,7 @@ use Rattle.asl_laws.specs.Wider.{UnlessLong, OnList, Fits}
 use Rattle.asl_laws.proofs.reported.Reports.{reports_run_well}
 use Rattle.asl_laws.proofs.wider.Plans.{out_fits}
 use Rattle.asl_laws.proofs.wider.Runs.{run_wider, words_wider, words_fit}
-use Rattle.asl_laws.proofs.wider.Verdict.{same_environment, same_read_verdict}
+use Rattle.asl_laws.proofs.wider.Verdict.{same_verdict, same_environment, same_read_verdict}
 use Rattle.asl_laws.proofs.wider.Reading.{reads_stay, read_same}
 use Rattle.asl_syn.specs.declared.read.ReadDecl.{ReadDecl}
 use Rattle.asl_laws.proofs.verdict.ReadVerdict.{steps_of}
@@ -59,7 +59,7 @@ derivation_stays l m le light e files a h =
         tests = record p.tests { limit = m };
         right = right_at p.tests m light p.right;
         within = refl;
-        is = same_read_verdict p.tests m (subst (λ n. n ≤ m) (sym p.within) le) p.right (right_at p.tests m light p.right) e h.decls a p.is;
+        is = same_read_verdict p.tests m (subst (λ n. n ≤ m) (sym p.within) le) e h.decls a p.is;
       };
     }
 
@@ -71,7 +71,7 @@ pub run_stays : (t u : Tests) → IsRight t → IsRight u → t.limit ≤ u.limi
     run_of (environment u ds) id args globals h ≡ run_of (environment t ds) id args globals h
 run_stays t u p q le e ds a ok id args globals h f =
     ap (λ v. run_of (environment v ds) id args globals h) (tests_are t u p q)
-    ∙ ap (λ env. run_of env id args globals h) (same_environment t u.limit le p (right_at t u.limit (limit_light u.limit q.within) p) e ds a ok)
+    ∙ ap (λ env. run_of env id args globals h) (same_environment t u.limit le e ds a ok)
     ∙ out_fits _ _ (run_wider (environment t ds) u.limit le id args globals h) f
 
 pub words_stay : (t u : Tests) → IsRight t → IsRight u → t.limit ≤ u.limit → (e : Entry) (ds : List Decl) (a : Accepted) →
@@ -80,7 +80,7 @@ pub words_stay : (t u : Tests) → IsRight t → IsRight u → t.limit ≤ u.lim
     run_words (environment u ds) es words globals h ≡ run_words (environment t ds) es words globals h
 words_stay t u p q le e ds a ok es words globals h f =
     ap (λ v. run_words (environment v ds) es words globals h) (tests_are t u p q)
-    ∙ ap (λ env. run_words env es words globals h) (same_environment t u.limit le p (right_at t u.limit (limit_light u.limit q.within) p) e ds a ok)
+    ∙ ap (λ env. run_words env es words globals h) (same_environment t u.limit le e ds a ok)
     ∙ words_fit (environment t ds) u.limit le _ _ (words_wider (environment t ds) u.limit le es words globals h) f
 
 -- ---- reports
@@ -119,12 +119,12 @@ list_same name bytes P f g h k = by_long (is_long bytes) (OnWords (words_read by
 
 module _ (t u : Tests) (p : IsRight t) (q : IsRight u) (le : t.limit ≤ u.limit) where
   read_verdict_same : (e : Entry) (ds : List ReadDecl) (a : Accepted) → read_verdict e ds t ≡ Ok a → read_verdict e ds u ≡ Ok a
-  read_verdict_same e ds a ok = ap (λ v. read_verdict e ds v) (tests_are t u p q) ∙ same_read_verdict t u.limit le p (right_at t u.limit (limit_light u.limit q.within) p) e ds a ok
+  read_verdict_same e ds a ok = ap (λ v. read_verdict e ds v) (tests_are t u p q) ∙ same_read_verdict t u.limit le e ds a ok
 
   globals_same : (e : Entry) (ds : List Decl) (a : Accepted) → verdict e ds t ≡ Ok a →
       initial_globals (environment u ds) ≡ initial_globals (environment t ds)
   globals_same e ds a ok = ap (λ v. initial_globals (environment v ds)) (tests_are t u p q)
-      ∙ ap initial_globals (same_environment t u.limit le p (right_at t u.limit (limit_light u.limit q.within) p) e ds a ok)
+      ∙ ap initial_globals (same_environment t u.limit le e ds a ok)
 
   -- a run of the entry
   begun_same : (end : Outcome Core (Option Value) → Answer) (ds : List Decl) (a : Accepted) (steps : ℕ) → verdict entry.Main ds t ≡ Ok a →

@@ -1,10 +1,10 @@
 -- A program that is accepted stays accepted under a wider limit, as the same program.
-use Rattle.std.proofs.Common.{◌≡◌, ℕ, suc, ◌≤◌, Bool, true, false, inl, inr, List, [], ◌∷◌, ◌++◌, length, map, Option, Some, None}
-use Rattle.std.proofs.Common.{Ok, Err, refl, sym, ap, ap₂, subst, ◌∙◌, ◌&&◌, ◌||◌, ◌⊎◌, not, cond, arith}
+use Rattle.std.proofs.Common.{◌≡◌, ℕ, zero, suc, ◌≤◌, Bool, true, false, cond, ◌&&◌, List, [], ◌∷◌, ◌++◌, length, map, Option, Some, None}
+use Rattle.std.proofs.Common.{Ok, Err, refl, sym, ap, ap₂, subst, ◌∙◌}
 use Rattle.std.specs.Prelude.{Result}
 use Rattle.asl_syn.specs.declared.token.Span.{Span}
 use Rattle.asl_syn.specs.declared.code.Fault.{Fault}
-use Rattle.asl_syn.specs.declared.code.StaticCode.TheVariants.{T02, T04, T05, T10, T25}
+use Rattle.asl_syn.specs.declared.code.StaticCode.TheVariants.{T02, T04, T05, T25}
 use Rattle.asl_syn.specs.declared.tree.Expr.{Expr}
 use Rattle.asl_syn.specs.declared.tree.TypeExpr.{TypeExpr}
 use Rattle.asl_syn.specs.declared.tree.Ident.{Ident}
@@ -20,53 +20,31 @@ use Rattle.asl_syn.specs.declared.tree.Decl.TheVariants as dc
 use Rattle.asl_rules.specs.declared.effect.Effect.TheVariants.{Pure as NoEffect}
 use Rattle.asl_rules.specs.declared.entry.Entry.{Entry as Asked}
 use Rattle.asl_rules.specs.Faults.{◌>>=◌, ◌>>◌, need, none_at, found_or, fitted}
-use Rattle.asl_rules.specs.Tests.{Tests, IsRight}
+use Rattle.asl_rules.specs.Tests.{Tests}
 use Rattle.asl_rules.specs.types.Types.{Ty, structure, misfit, is_integer}
 use Rattle.asl_rules.specs.types.Closed.{closed}
 use Rattle.asl_rules.specs.values.Values.{Value}
 use Rattle.asl_rules.specs.types.Written.{first_value}
-use Rattle.asl_rules.specs.declarations.Names.{names_rule, all_declared}
-use Rattle.asl_rules.specs.declarations.Uses.{is_judged_first, name_in, cycles_rule}
-use Rattle.asl_rules.specs.declarations.StmtUses.{head_uses}
-use Rattle.std.specs.Str.{bytes_eq}
-use Rattle.asl_rules.specs.declarations.Scopes.{Scope, Entry, Signature, Param, type_of_name, with_class}
+use Rattle.asl_rules.specs.declarations.Names.{library, names_rule, all_declared}
+use Rattle.asl_rules.specs.declarations.Uses.{Used, uses, cycles_rule}
+use Rattle.asl_rules.specs.declarations.Scopes.{Scope, Entry, Signature, Param, subprogram, type_of_name, with_entries, with_class}
 use Rattle.asl_rules.specs.declarations.Scopes.{next_atom}
 use Rattle.asl_rules.specs.expressions.Typing.{Typed}
-use Rattle.asl_rules.specs.expressions.Exprs.{typed, written, found, found_type, expr_span}
-use Rattle.asl_rules.specs.runs.Plans.{starting, Outcome, Done, Thrown, Halt, Faulted, Stuck, Pure, Good, Bad}
+use Rattle.asl_rules.specs.expressions.Exprs.{typed, written, found, found_type}
+use Rattle.asl_rules.specs.runs.Plans.{Faulted, Stuck, Pure, Good, Bad}
 use Rattle.asl_rules.specs.declarations.Constants.{constant}
-use Rattle.asl_rules.specs.declarations.Barred.{barred, limit_barred}
+use Rattle.asl_rules.specs.declarations.Barred.{barred}
 use Rattle.asl_rules.specs.statements.Acting.{in_order}
 use Rattle.asl_rules.specs.statements.Stmts.{found_stmt}
 use Rattle.asl_rules.specs.declarations.Declarations.{in_names, fields_written, def_rule, is_none, reached, supertype_rule, type_decl_rule}
-use Rattle.asl_rules.specs.declarations.InitialValues.{steps_before_runs, holds_call, evaluated, ended, run_before, value_before}
-use Rattle.asl_rules.specs.declarations.ImpureCalls.{impure_call}
-use Rattle.asl_rules.specs.runs.Limits.{most_open}
-use Rattle.asl_rules.specs.runs.States.{Core, resting}
-use Rattle.asl_rules.specs.runs.Evaluation.{initial_globals}
-use Rattle.asl_rules.specs.declarations.Declarations.{known, first_in, over, storage_rule, storage_decl_rule}
-use Rattle.asl_rules.specs.declarations.Environments.{is_var}
-use Rattle.asl_rules.specs.declarations.Turns.{Brought, Judged, Waiting, Fine, Faulty, judged, SoFar, names_so_far, subs_so_far, scope_so_far, decls_so_far, all_usable, decl_rule}
-use Rattle.asl_rules.specs.declarations.Turns.{final, faulty, all_named_fine, head_signature, signature_known, clashes_known, clashes_decl, clashes_before, clashes_own, is_clashing, late_clash, faults_rule, names_of_program, globals_rule}
-use Rattle.asl_rules.specs.declarations.Programs.{environment, read_verdict, default_decls, final_decls}
-use Rattle.asl_rules.specs.declarations.Environments.{funcs_of}
-use Rattle.asl_rules.specs.declarations.Signatures.{params_free, formals_free, param_written, param_entry, params_rule}
-use Rattle.asl_rules.specs.declarations.Signatures.{formals_rule, result_rule, limit_typed, type_is_integer, params_are_integers, as_number}
-use Rattle.asl_rules.specs.declarations.Signatures.{limit_of_expr, limit_rule, Head, signature_rule, signatures_rule, signatures}
-use Rattle.asl_rules.specs.declarations.Signatures.{overloads_rule, body_of, body_rule, bodies_rule}
-use Rattle.asl_rules.specs.declarations.Programs.{Accepted, verdict}
+use Rattle.asl_rules.specs.declarations.Declarations.{evaluated, known, first_in, storage_rule, is_var, decl_rule, Judged, Waiting, Fine}
+use Rattle.asl_rules.specs.declarations.Declarations.{Faulty, judged, entries_of, entries, fine_where_used, all_fine, judged_by, still}
+use Rattle.asl_rules.specs.declarations.Declarations.{judgement, final, faulty, faults_rule, names_of_program, globals_rule}
+use Rattle.asl_rules.specs.declarations.Programs.{environment, funcs_of, params_free, formals_free, param_written, param_entry, params_rule, read_verdict, default_decls, final_decls}
+use Rattle.asl_rules.specs.declarations.Programs.{formals_rule, result_rule, limit_typed, type_is_integer, params_are_integers, as_number}
+use Rattle.asl_rules.specs.declarations.Programs.{limit_of_expr, limit_rule, Head, signature_rule, signatures_rule, signatures}
+use Rattle.asl_rules.specs.declarations.Programs.{overloads_rule, body_of, body_rule, bodies_rule, Accepted, verdict}
 use Rattle.asl_rules.proofs.basics.Inversions.{then_ok, bind_ok}
-use Rattle.asl_rules.specs.private.Judgements.{EachJudged}
-use Rattle.asl_rules.proofs.verdict.Distinct.{In}
-use Rattle.asl_rules.proofs.verdict.Turning.{each_map}
-use Rattle.asl_laws.proofs.names.Brings.{all_bring}
-use Rattle.asl_laws.proofs.names.ValuesStay.{values_stay}
-use Rattle.asl_laws.proofs.names.Settled.{settled, only}
-use Rattle.asl_laws.proofs.names.Turned.{Still, all_still}
-use Rattle.asl_laws.proofs.wider.Overloads.{judged_together}
-use Rattle.asl_laws.specs.Settled.{outcome}
-use Rattle.asl_laws.proofs.wider.Plans.{OutWider}
-use Rattle.asl_laws.proofs.wider.Runs.{meanings_wider}
 use Rattle.asl_laws.proofs.wider.Steps.{Wider, wider_good}
 use Rattle.asl_laws.proofs.wider.Pures.{first_wider}
 use Rattle.asl_laws.proofs.wider.Known.{known_wider}
@@ -91,64 +69,58 @@ unfolding Stays
 stays_if (Ok x) s h = h x refl
 stays_if (Err e) s h = tt
 
-abbrev IsTaken : Judged → Type 0
-IsTaken Waiting = ⊥
-IsTaken (Fine b) = Unit {0}
-IsTaken (Faulty e) = Unit {0}
+-- ---- of all declarations
 
--- what is among these is among those with one more
-in_more : {P : Decl → Type 0} (bs : List Decl) (d : Decl) → ((e : Decl) → In e bs → P e) → P d → (e : Decl) → In e (bs ++ d ∷ []) → P e
-in_more {P} [] d f p e (inl q) = subst P q p
-in_more [] d f p e (inr i) = absurd i
-in_more (b ∷ bs) d f p e (inl q) = f e (inl q)
-in_more (b ∷ bs) d f p e (inr i) = in_more bs d (λ x j. f x (inr j)) p e i
+abbrev All : (Decl → Type 0) → List Decl → Type 0
+All P [] = Unit {0}
+All P (d ∷ ds) = P d × All P ds
 
--- behind a test that holds
-stays_behind : {X : Type 0} (c : Result (Unit {0}) Fault) (r s : Result X Fault) → (c ≡ Ok tt → Stays r s) → Stays (c >> r) (c >> s)
-stays_behind (Ok tt) r s h = h refl
-stays_behind (Err e) r s h = stays_err e (Err e)
+all_map : (P Q : Decl → Type 0) (ds : List Decl) → ((d : Decl) → P d → Q d) → All P ds → All Q ds
+all_map P Q [] f h = tt
+all_map P Q (d ∷ ds) f h = (f d h.0, all_map P Q ds f h.1)
 
--- ---- faults of declarations
+all_both : (P Q R : Decl → Type 0) (ds : List Decl) → ((d : Decl) → P d → Q d → R d) → All P ds → All Q ds → All R ds
+all_both P Q R [] f h k = tt
+all_both P Q R (d ∷ ds) f h k = (f d h.0 k.0, all_both P Q R ds f h.1 k.1)
 
 abbrev IsFaulty : Judged → Type 0
 IsFaulty Waiting = ⊥
-IsFaulty (Fine b) = ⊥
+IsFaulty (Fine es) = ⊥
 IsFaulty (Faulty f) = Unit {0}
 
 abbrev Fair : Judged → Type 0
 Fair j = IsFaulty j → ⊥
 
-abbrev AllFair : SoFar → Type 0
-AllFair [] = Unit {0}
-AllFair (j ∷ js) = Fair j × AllFair js
+entries_same : (f g : Decl → Judged) (ds : List Decl) → All (λ d. g d ≡ f d) ds → entries g ds ≡ entries f ds
+entries_same f g [] h = refl
+entries_same f g (d ∷ ds) h = ap₂ (λ j es. entries_of j ++ es) h.0 (entries_same f g ds h.1)
 
-faulty_fair : (j : Judged) → faulty j ≡ Ok tt → Fair j
-faulty_fair Waiting h = λ x. x
-faulty_fair (Fine b) h = λ x. x
-faulty_fair (Faulty f) h = λ x. err_ok h
-  where
-    err_ok : {f : Fault} → (let r : Result (Unit {0}) Fault = Err f in r) ≡ Ok tt → ⊥
-    err_ok h = cc
-
-fair_all : (t : Tests) (all : List Decl) (so_far : SoFar) (before ds : List Decl) (js : SoFar) → length js ≡ length ds →
-    faults_rule t all so_far before ds js ≡ Ok tt → AllFair js
-fair_all t all so_far before ds [] n h = tt
-fair_all t all so_far before [] (j ∷ js) n h = absurd (no_length n)
-  where
-    no_length : suc (length js) ≡ 0 → ⊥
-    no_length q = omega (arith, q)
-fair_all t all so_far before (d ∷ ds) (j ∷ js) n h =
-    let c = then_ok (late_clash t all so_far before d j) _ tt h in
-    let p = then_ok (faulty j) (faults_rule t all so_far (before ++ d ∷ []) ds js) tt c.then in
-    (faulty_fair j p.first, fair_all t all so_far (before ++ d ∷ []) ds js (omega (arith, n)) p.then)
+fine_same : (f g : Decl → Judged) (us : Used) (ds : List Decl) → All (λ d. g d ≡ f d) ds → all_fine g us ds ≡ all_fine f us ds
+fine_same f g us [] h = refl
+fine_same f g us (d ∷ ds) h = ap₂ (λ j b. fine_where_used j d us && b) h.0 (fine_same f g us ds h.1)
 
 -- a judgement that isn't faulty stays
-judged_same : (r s : Result Brought Fault) → Stays r s → Fair (judged r) → judged s ≡ judged r
+judged_same : (r s : Result (List Entry) Fault) → Stays r s → Fair (judged r) → judged s ≡ judged r
 unfolding Stays
-judged_same (Ok b) s h k = ap judged h
+judged_same (Ok es) s h k = ap judged h
 judged_same (Err e) s h k = absurd (k tt)
 
-module _ (t : Tests) (m : ℕ) (le : t.limit ≤ m) (right : IsRight t) (wide : IsRight (wide_tests t m le)) where
+cond_judged : (b : Bool) (r s : Result (List Entry) Fault) → Stays r s → Fair (cond b (judged r) Waiting) →
+    cond b (judged s) Waiting ≡ cond b (judged r) Waiting
+cond_judged true r s h k = judged_same r s h k
+cond_judged false r s h k = refl
+
+still_fair : (j k : Judged) → Fair (still j k) → Fair j
+still_fair Waiting k h = λ x. x
+still_fair (Fine es) k h = λ x. x
+still_fair (Faulty f) k h = h
+
+still_same : (j k l : Judged) → Fair (still j k) → (Fair k → l ≡ k) → still j l ≡ still j k
+still_same Waiting k l h e = e h
+still_same (Fine es) k l h e = refl
+still_same (Faulty f) k l h e = refl
+
+module _ (t : Tests) (m : ℕ) (le : t.limit ≤ m) where
   abbrev u : Tests
   u = wide_tests t m le
 
@@ -188,53 +160,93 @@ module _ (t : Tests) (m : ℕ) (le : t.limit ≤ m) (right : IsRight t) (wide : 
       (evaluated_stays (first_value t.limit at (closed T)) (first_value m at (closed T)) (first_wider t.limit m le at (closed T)))
       (λ x. stays_same _)
 
-  -- the value of an initialiser: a run that gives one gives it under a wider limit too
-  ended_stays : (at : Span) (r s : Outcome Core Value) → OutWider r s → Stays (ended at r) (ended at s)
-  unfolding OutWider
-  ended_stays at r s (inl e) = stays_equal _ _ (ap (ended at) e)
-  ended_stays at (Done x c h) s (inr n) = absurd n
-  ended_stays at (Thrown x c h) s (inr n) = absurd n
-  ended_stays at (Halt (Faulted code span) c h) s (inr n) = stays_err _ _
-  ended_stays at (Halt (Stuck mistake span) c h) s (inr n) = stays_err _ _
-
-  run_wider_before : (ds : List Decl) (e : Expr) (G : Scope) → OutWider (run_before (over t ds G) e) (run_before (over u ds G) e)
-  unfolding run_before
-  run_wider_before ds e G =
-      let env = over t ds G in
-      (meanings_wider env m le most_open).expr e (resting (initial_globals env)) (starting steps_before_runs None)
-
-  value_stays : (ds : List Decl) (e : Expr) (G : Scope) → Stays (value_before (over t ds G) e) (value_before (over u ds G) e)
-  value_stays ds e G = by (holds_call e)
-    where
-      by : (c : Bool) → Stays (cond c (ended (expr_span e) (run_before (over t ds G) e)) (evaluated (constant t.limit e G.names)))
-          (cond c (ended (expr_span e) (run_before (over u ds G) e)) (evaluated (constant m e G.names)))
-      by true = ended_stays (expr_span e) (run_before (over t ds G) e) (run_before (over u ds G) e) (run_wider_before ds e G)
-      by false = known_stays e G
-
-  storage_stays : (ds : List Decl) (d : StorageDecl) (k : Bool) (w : Option TypeExpr) (o : Option Expr) (G : Scope) →
-      Stays (storage_rule t ds d k w o G) (storage_rule u ds d k w o G)
-  storage_stays ds d k None None G = stays_same _
-  storage_stays ds d k (Some w) None G = stays_bind (written t w true G) (written u w true G) _ _ (written_stays t m le w true G) (λ W.
+  storage_stays : (d : StorageDecl) (k : Bool) (w : Option TypeExpr) (o : Option Expr) (G : Scope) →
+      Stays (storage_rule t d k w o G) (storage_rule u d k w o G)
+  storage_stays d k None None G = stays_same _
+  storage_stays d k (Some w) None G = stays_bind (written t w true G) (written u w true G) _ _ (written_stays t m le w true G) (λ W.
       subst (λ at. Stays (first_in t (found_type t w).span W.ty) (first_in u at W.ty)) (sym (type_stays t m le w).span_same)
       (first_stays (found_type t w).span W.ty))
-  storage_stays ds d k None (Some e) G = stays_after (none_at T04 (barred e G.names)) _ _
+  storage_stays d k None (Some e) G = stays_after (none_at T04 (barred e G.names)) _ _
       (stays_bind (typed t e G) (typed u e G) _ _ ((expr_stays t m le e).typed_stays G)
-      (λ S. stays_after (none_at T04 (impure_call G.subs S.tree)) _ _
-      (stays_bind (value_before (over t ds G) e) (value_before (over u ds G) e) _ _ (value_stays ds e G) (λ x. stays_same _))))
-  storage_stays ds d k (Some w) (Some e) G =
+      (λ S. stays_bind (known t e G) (known u e G) _ _ (known_stays e G) (λ x. stays_same _)))
+  storage_stays d k (Some w) (Some e) G =
       stays_after (none_at T04 (barred e G.names)) _ _
       (stays_bind (written t w true G) (written u w true G) _ _ (written_stays t m le w true G)
       (λ W. stays_bind (typed t e G) (typed u e G) _ _ ((expr_stays t m le e).typed_stays G) (λ S.
       stays_then (fitted (misfit t S.ty W.ty) (found t e).span) (fitted (misfit u S.ty W.ty) (found u e).span) _ _
       (stays_equal _ _ (fit_same t m le S.ty W.ty (found u e).span
       ∙ ap (λ at. fitted (misfit t S.ty W.ty) at) (expr_stays t m le e).span_same))
-      (stays_after (none_at T04 (impure_call G.subs S.tree)) _ _
-      (stays_bind (value_before (over t ds G) e) (value_before (over u ds G) e) _ _ (value_stays ds e G) (λ x. stays_same _))))))
+      (stays_bind (known t e G) (known u e G) _ _ (known_stays e G) (λ x. stays_same _)))))
 
-  storage_decl_stays : (ds : List Decl) (d : StorageDecl) (G : Scope) → Stays (storage_decl_rule t ds d G) (storage_decl_rule u ds d G)
-  storage_decl_stays ds d G =
-      stays_bind (storage_rule t ds d (is_var d.kind) d.ty d.init G) (storage_rule u ds d (is_var d.kind) d.ty d.init G)
-      _ _ (storage_stays ds d (is_var d.kind) d.ty d.init G) (λ s. stays_same _)
+  decl_stays : (d : Decl) (G : Scope) → Stays (decl_rule t d G) (decl_rule u d G)
+  decl_stays (dc.Type d) G = type_decl_stays d G
+  decl_stays (dc.Storage d) G = stays_bind (storage_rule t d (is_var d.kind) d.ty d.init G) (storage_rule u d (is_var d.kind) d.ty d.init G)
+      _ _ (storage_stays d (is_var d.kind) d.ty d.init G) (λ s. stays_same _)
+  decl_stays (dc.Func f) G = stays_same _
+
+  -- ---- rounds: where no declaration is faulty at the end, none was before, and each is judged alike
+
+  module _ (ds : List Decl) where
+    abbrev FairAt : ℕ → Type 0
+    FairAt n = All (λ d. Fair (judgement t n ds d)) ds
+
+    abbrev SameAt : ℕ → Type 0
+    SameAt n = All (λ d. judgement u n ds d ≡ judgement t n ds d) ds
+
+    judged_by_same : (f g : Decl → Judged) (d : Decl) → All (λ e. g e ≡ f e) ds → Fair (judged_by t f ds d) →
+        judged_by u g ds d ≡ judged_by t f ds d
+    judged_by_same f g d h k =
+        ap₂ (λ b es. cond b (judged (decl_rule u d (in_names (map subprogram library ++ es)))) Waiting) (fine_same f g (uses d) ds h)
+        (entries_same f g ds h)
+        ∙ cond_judged (all_fine f (uses d) ds) (decl_rule t d (in_names (map subprogram library ++ entries f ds)))
+        (decl_rule u d (in_names (map subprogram library ++ entries f ds)))
+        (decl_stays d (in_names (map subprogram library ++ entries f ds))) k
+
+    before : (n : ℕ) → FairAt (suc n) → FairAt n
+    before n h = all_map (λ d. Fair (judgement t (suc n) ds d)) (λ d. Fair (judgement t n ds d)) ds
+        (λ d k. still_fair (judgement t n ds d) (judged_by t (λ e. judgement t n ds e) ds d) k) h
+
+    step_same : (n : ℕ) (e : SameAt n) (d : Decl) → judgement u n ds d ≡ judgement t n ds d → Fair (judgement t (suc n) ds d) →
+        judgement u (suc n) ds d ≡ judgement t (suc n) ds d
+    step_same n e d i k =
+        ap (λ j. still j (judged_by u (λ x. judgement u n ds x) ds d)) i
+        ∙ still_same (judgement t n ds d) (judged_by t (λ x. judgement t n ds x) ds d) (judged_by u (λ x. judgement u n ds x) ds d) k
+        (judged_by_same (λ x. judgement t n ds x) (λ x. judgement u n ds x) d e)
+
+    rounds_same : (n : ℕ) → FairAt n → SameAt n
+    rounds_same zero h = all_map (λ d. Fair (judgement t zero ds d)) (λ d. judgement u zero ds d ≡ judgement t zero ds d) ds (λ d k. refl) h
+    rounds_same (suc n) h =
+        let e = rounds_same n (before n h) in
+        all_both (λ d. judgement u n ds d ≡ judgement t n ds d) (λ d. Fair (judgement t (suc n) ds d))
+        (λ d. judgement u (suc n) ds d ≡ judgement t (suc n) ds d) ds (step_same n e) e h
+
+    faulty_fair : (j : Judged) → faulty j ≡ Ok tt → Fair j
+    faulty_fair Waiting h = λ x. x
+    faulty_fair (Fine es) h = λ x. x
+    faulty_fair (Faulty f) h = λ x. err_ok h
+      where
+        err_ok : {f : Fault} → (let r : Result (Unit {0}) Fault = Err f in r) ≡ Ok tt → ⊥
+        err_ok h = cc
+
+    fair_all : (es : List Decl) → faults_rule t ds es ≡ Ok tt → All (λ d. Fair (final t ds d)) es
+    fair_all [] h = tt
+    fair_all (d ∷ es) h = let p = then_ok (faulty (final t ds d)) (faults_rule t ds es) tt h in
+        (faulty_fair (final t ds d) p.first, fair_all es p.then)
+
+    finals_same : faults_rule t ds ds ≡ Ok tt → All (λ d. final u ds d ≡ final t ds d) ds
+    finals_same h = rounds_same (suc (length ds)) (fair_all ds h)
+
+    faults_all : (es : List Decl) → All (λ d. final u ds d ≡ final t ds d) es → faults_rule u ds es ≡ faults_rule t ds es
+    faults_all [] h = refl
+    faults_all (d ∷ es) h = ap₂ (λ j r. faulty j >> r) h.0 (faults_all es h.1)
+
+    pub names_same : faults_rule t ds ds ≡ Ok tt → names_of_program u ds ≡ names_of_program t ds
+    names_same h = ap (λ es. with_entries es (map subprogram library)) (entries_same (final t ds) (final u ds) ds (finals_same h))
+
+    globals_stay : Stays (globals_rule t ds) (globals_rule u ds)
+    globals_stay = stays_if (globals_rule t ds) (globals_rule u ds) (λ names h.
+        let p = then_ok (faults_rule t ds ds) (Ok (names_of_program t ds)) names h in
+        ap₂ (λ r ns. r >> Ok ns) (faults_all ds (finals_same p.first)) (names_same p.first) ∙ h)
 
   -- ---- signatures
 
@@ -263,7 +275,7 @@ module _ (t : Tests) (m : ℕ) (le : t.limit ≤ m) (right : IsRight t) (wide : 
 
   limit_typed_stays : (o : Option Expr) (globals : List Entry) → Stays (limit_typed t o globals) (limit_typed u o globals)
   limit_typed_stays None globals = stays_same _
-  limit_typed_stays (Some e) globals = stays_after (none_at T04 (limit_barred e globals)) _ _
+  limit_typed_stays (Some e) globals = stays_after (none_at T04 (barred e globals)) _ _
       (stays_bind (typed t e (with_class (in_names globals) NoEffect)) (typed u e (with_class (in_names globals) NoEffect)) _ _
       ((expr_stays t m le e).typed_stays (with_class (in_names globals) NoEffect)) (λ S. stays_same _))
 
@@ -322,149 +334,18 @@ module _ (t : Tests) (m : ℕ) (le : t.limit ≤ m) (right : IsRight t) (wide : 
   bodies_stay subs (h ∷ hs) = stays_bind (body_rule t subs h) (body_rule u subs h) _ _ (body_stays subs h)
       (λ f. stays_bind (bodies_rule t subs hs) (bodies_rule u subs hs) _ _ (bodies_stay subs hs) (λ fs. stays_same _))
 
-  -- ---- declarations where what came of all so far is visible
-
-  decl_stays : (ds : List Decl) (js : SoFar) (d : Decl) → Stays (decl_rule t ds js d) (decl_rule u ds js d)
-  decl_stays ds js (dc.Type d) =
-      stays_bind (type_decl_rule t d (scope_so_far ds js)) (type_decl_rule u d (scope_so_far ds js)) _ _ (type_decl_stays d (scope_so_far ds js)) (λ es. stays_same _)
-  decl_stays ds js (dc.Storage d) =
-      stays_bind (storage_decl_rule t (decls_so_far ds js) d (scope_so_far ds js)) (storage_decl_rule u (decls_so_far ds js) d (scope_so_far ds js)) _ _
-      (storage_decl_stays (decls_so_far ds js) d (scope_so_far ds js)) (λ es. stays_same _)
-  decl_stays ds js (dc.Func f) =
-      stays_bind (signature_rule t (names_so_far ds js) f) (signature_rule u (names_so_far ds js) f) _ _ (signature_stays (names_so_far ds js) f)
-      (λ h. stays_bind (body_rule t (subs_so_far ds js) h) (body_rule u (subs_so_far ds js) h) _ _ (body_stays (subs_so_far ds js) h) (λ tree. stays_same _))
-
-  -- outcomes that agree with themselves, where none is faulty, do so under a wider limit too
-  outcome_stays : (b : Bool) (j : Judged) (r s : Result Brought Fault) → Stays r s → Fair j → j ≡ cond b (judged r) Waiting → j ≡ cond b (judged s) Waiting
-  outcome_stays true j r s h f q = q ∙ sym (judged_same r s h (subst Fair q f))
-  outcome_stays false j r s h f q = q
-
-  each_settled : (ds : List Decl) (js : SoFar) (es : List Decl) (ks : SoFar) → EachJudged (λ d j. j ≡ outcome t ds js d) es ks → AllFair ks →
-      EachJudged (λ d j. j ≡ outcome u ds js d) es ks
-  each_settled ds js [] [] a f = tt
-  each_settled ds js [] (k ∷ ks) a f = absurd a
-  each_settled ds js (d ∷ es) [] a f = absurd a
-  each_settled ds js (d ∷ es) (k ∷ ks) a f = (
-    outcome_stays (is_judged_first ds d && all_usable d [] ds js) k (decl_rule t ds js d) (decl_rule u ds js d) (decl_stays ds js d) f.0 a.0,
-    each_settled ds js es ks a.1 f.1,
-  )
-
-  all_long : (P : Decl → Judged → Type 0) (es : List Decl) (ks : SoFar) → EachJudged P es ks → length ks ≡ length es
-  all_long P [] [] a = refl
-  all_long P [] (k ∷ ks) a = absurd a
-  all_long P (e ∷ es) [] a = absurd a
-  all_long P (e ∷ es) (k ∷ ks) a = ap suc (all_long P es ks a.1)
-
-  module _ (ds : List Decl) (cycles : cycles_rule ds ds ≡ Ok tt) where
-    abbrev AllOk : Tests → Type 0
-    AllOk v = faults_rule v ds (final t ds) [] ds (final t ds) ≡ Ok tt
-
-    -- what comes of all is the same, whichever turns were taken
-    finals_same : AllOk t → final u ds ≡ final t ds
-    finals_same h =
-        let last = final t ds in
-        let s = settled t ds (values_stay t right ds) in
-        sym (only u ds last (each_settled ds last ds last s (fair_all t ds last [] ds last (all_long (λ d j. j ≡ outcome t ds last d) ds last s) h)) (values_stay u wide ds) cycles)
-
-    -- a subprogram that is judged before all other bodies has a signature, where none is faulty
-    has_signature : AllOk t → (g : Func) → In (dc.Func g) ds → is_judged_first ds (dc.Func g) ≡ true →
-        (h : Head) × (signature_rule t (names_of_program t ds) g ≡ Ok h)
-    has_signature ok g i first =
-        let b = all_bring t ds cycles ok (dc.Func g) i first in
-        let h = bind_ok (signature_rule t (names_of_program t ds) g) _ b.brought (b.gives refl) in
-        (h.value, h.first)
-
-    -- so what is known of it is the same
-    known_same : AllOk t → (g : Func) → In (dc.Func g) ds → is_judged_first ds (dc.Func g) ≡ true →
-        signature_known u ds (final t ds) g ≡ signature_known t ds (final t ds) g
-    known_same ok g i first =
-        let h = has_signature ok g i first in
-        let names = names_of_program t ds in
-        let wide : signature_rule u names g ≡ Ok h.0 = stays_ok (signature_rule t names g) (signature_rule u names g) h.0 (signature_stays names g) h.1 in
-        ap (λ r. cond (all_named_fine (head_uses g) ds (final t ds)) (head_signature r) None) (wide ∙ sym h.1)
-
-    clash_same : AllOk t → (f : Func) → is_judged_first ds (dc.Func f) ≡ true → (s : Signature) (e : Decl) → In e ds →
-        clashes_decl u ds (final t ds) f s e ≡ clashes_decl t ds (final t ds) f s e
-    clash_same ok f first s (dc.Type d) i = refl
-    clash_same ok f first s (dc.Storage d) i = refl
-    clash_same ok f first s (dc.Func g) i = by (bytes_eq g.name.text f.name.text) refl
-      where
-        by : (b : Bool) → bytes_eq g.name.text f.name.text ≡ b →
-            (b && clashes_known s (signature_known u ds (final t ds) g)) ≡ (b && clashes_known s (signature_known t ds (final t ds) g))
-        by true q = ap (clashes_known s) (known_same ok g i (sym (judged_together f g q ds) ∙ first))
-        by false q = refl
-
-    before_same : AllOk t → (f : Func) → is_judged_first ds (dc.Func f) ≡ true → (s : Signature) (es : List Decl) → ((e : Decl) → In e es → In e ds) →
-        clashes_before u ds (final t ds) f s es ≡ clashes_before t ds (final t ds) f s es
-    before_same ok f first s [] among = refl
-    before_same ok f first s (e ∷ es) among =
-        ap₂ (λ x y. x || y) (clash_same ok f first s e (among e (inl refl))) (before_same ok f first s es (λ d i. among d (inr i)))
-
-    own_same : AllOk t → (f : Func) → is_judged_first ds (dc.Func f) ≡ true → (es : List Decl) → ((e : Decl) → In e es → In e ds) → (o : Option Signature) →
-        clashes_own u ds (final t ds) es f o ≡ clashes_own t ds (final t ds) es f o
-    own_same ok f first es among None = refl
-    own_same ok f first es among (Some s) = before_same ok f first s es among
-
-    clashing_same : AllOk t → (es : List Decl) → ((e : Decl) → In e es → In e ds) → (d : Decl) → In d ds → is_judged_first ds d ≡ true →
-        is_clashing u ds (final t ds) es d ≡ is_clashing t ds (final t ds) es d
-    clashing_same ok es among (dc.Type d) i first = refl
-    clashing_same ok es among (dc.Storage d) i first = refl
-    clashing_same ok es among (dc.Func f) i first =
-        ap (clashes_own u ds (final t ds) es f) (known_same ok f i first) ∙ own_same ok f first es among (signature_known t ds (final t ds) f)
-
-    late_same : AllOk t → (es : List Decl) → ((e : Decl) → In e es → In e ds) → (d : Decl) → In d ds → (j : Judged) →
-        (j ≡ Waiting) ⊎ (is_judged_first ds d ≡ true) → late_clash u ds (final t ds) es d j ≡ late_clash t ds (final t ds) es d j
-    late_same ok es among d i Waiting k = refl
-    late_same ok es among d i (Fine b) (inl w) = absurd (subst IsTaken w tt)
-    late_same ok es among d i (Fine b) (inr first) = ap (λ c. need (not c) T10 (name_in d).span) (clashing_same ok es among d i first)
-    late_same ok es among d i (Faulty e) (inl w) = absurd (subst IsTaken w tt)
-    late_same ok es among d i (Faulty e) (inr first) = ap (λ c. need (not c) T10 (name_in d).span) (clashing_same ok es among d i first)
-
-    -- known signatures are the same where none is faulty, so none clashes
-    each_stays : AllOk t → (bs : List Decl) → ((e : Decl) → In e bs → In e ds) → (es : List Decl) → ((e : Decl) → In e es → In e ds) → (ks : SoFar) →
-        EachJudged (λ d j. (j ≡ Waiting) ⊎ (is_judged_first ds d ≡ true)) es ks →
-        faults_rule u ds (final t ds) bs es ks ≡ faults_rule t ds (final t ds) bs es ks
-    each_stays ok bs before es among [] a = no_more es
-      where
-        no_more : (es : List Decl) → faults_rule u ds (final t ds) bs es [] ≡ faults_rule t ds (final t ds) bs es []
-        no_more [] = refl
-        no_more (d ∷ es) = refl
-    each_stays ok bs before [] among (k ∷ ks) a = refl
-    each_stays ok bs before (d ∷ es) among (k ∷ ks) a =
-        ap₂ (λ x y. x >> faulty k >> y) (late_same ok bs before d (among d (inl refl)) k a.0)
-        (each_stays ok (bs ++ d ∷ []) (in_more bs d before (among d (inl refl))) es (λ e i. among e (inr i)) ks a.1)
-
-    turn_taken : (d : Decl) (j : Judged) → Still t ds (final t ds) d j → (j ≡ Waiting) ⊎ (is_judged_first ds d ≡ true)
-    turn_taken d j (inl w) = inl w
-    turn_taken d j (inr s) = inr s.first
-
-    faults_stay : AllOk t → AllOk u
-    faults_stay ok =
-        each_stays ok [] (λ e i. absurd i) ds (λ e i. i) (final t ds)
-        (each_map (Still t ds (final t ds)) (λ d j. (j ≡ Waiting) ⊎ (is_judged_first ds d ≡ true)) ds (final t ds) (λ d j c s. turn_taken d j s) (all_still t ds))
-        ∙ ok
-
-    pub names_same : AllOk t → names_of_program u ds ≡ names_of_program t ds
-    names_same h = ap (names_so_far ds) (finals_same h)
-
-    globals_stay : Stays (globals_rule t ds) (globals_rule u ds)
-    globals_stay = stays_if (globals_rule t ds) (globals_rule u ds) (λ names h.
-        let p = then_ok (faults_rule t ds (final t ds) [] ds (final t ds)) (Ok (names_of_program t ds)) names h in
-        ap (λ js. faults_rule u ds js [] ds js >> Ok (names_so_far ds js)) (finals_same p.first)
-        ∙ ap (λ r. r >> Ok (names_of_program t ds)) (faults_stay p.first) ∙ p.then)
-
   -- ---- the verdict
 
   verdict_stays : (e : Asked) (ds : List Decl) → Stays (verdict e ds t) (verdict e ds u)
   unfolding verdict
   verdict_stays e ds =
-      stays_after (names_rule [] (all_declared ds)) _ _ (stays_behind (cycles_rule ds ds) _ _ (λ cycles.
-      (stays_bind (globals_rule t ds) (globals_rule u ds) _ _ (globals_stay ds cycles) (λ names.
+      stays_after (names_rule [] (all_declared ds)) _ _ (stays_after (cycles_rule ds ds) _ _
+      (stays_bind (globals_rule t ds) (globals_rule u ds) _ _ (globals_stay ds) (λ names.
       stays_bind (signatures_rule t names (funcs_of ds)) (signatures_rule u names (funcs_of ds)) _ _ (signatures_stay names (funcs_of ds))
       (λ hs.
       stays_after (overloads_rule [] hs) _ _
       (stays_bind (bodies_rule t (signatures hs) hs) (bodies_rule u (signatures hs) hs) _ _ (bodies_stay (signatures hs) hs)
-      (λ trees. stays_same _)))))))
+      (λ trees. stays_same _))))))
 
   pub same_verdict : (e : Asked) (ds : List Decl) (a : Accepted) → verdict e ds t ≡ Ok a → verdict e ds u ≡ Ok a
   same_verdict e ds a h = stays_ok (verdict e ds t) (verdict e ds u) a (verdict_stays e ds) h
@@ -486,7 +367,7 @@ module _ (t : Tests) (m : ℕ) (le : t.limit ≤ m) (right : IsRight t) (wide : 
       let p = then_ok (names_rule [] (all_declared ds)) _ a h in
       let c = then_ok (cycles_rule ds ds) _ a p.then in
       let n = bind_ok (globals_rule t ds) _ a c.then in
-      names_same ds c.first (then_ok (faults_rule t ds (final t ds) [] ds (final t ds)) (Ok (names_of_program t ds)) n.value n.first).first
+      names_same ds (then_ok (faults_rule t ds ds) (Ok (names_of_program t ds)) n.value n.first).first
 
   pub same_environment : (e : Asked) (ds : List Decl) (a : Accepted) → verdict e ds t ≡ Ok a →
       environment u ds ≡ record (environment t ds) { limit = m }

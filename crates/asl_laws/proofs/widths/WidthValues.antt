@@ -34,7 +34,7 @@ use Rattle.asl_rules.specs.declarations.Scopes.{Standing, Stored, Subprogram, Ty
 use Rattle.asl_rules.specs.expressions.Typing.{Width, Number}
 use Rattle.asl_rules.specs.expressions.Exprs.{found, width, expr_span}
 use Rattle.asl_rules.specs.values.Values.{Value, int}
-use Rattle.asl_rules.specs.declarations.Environments.{Environment}
+use Rattle.asl_rules.specs.declarations.Programs.{Environment}
 use Rattle.asl_rules.specs.runs.States.{Core}
 use Rattle.asl_rules.specs.runs.Trees.{TreeFunc}
 use Rattle.asl_rules.specs.private.Agreement.{IsPlain, AllPlain, CountsAs, Agrees}

@@ -2,7 +2,7 @@ use Rattle.std.proofs.Common.{rules, arith, ◌≡◌, map, drop, ◌∷◌, ◌
 use Rattle.std.proofs.lemmas.List.{map-append}
 use Rattle.asl_syn.specs.declared.tree.Func.{Func}
 use Rattle.asl_rules.specs.Faults.{◌>>=◌}
-use Rattle.asl_rules.specs.declarations.Signatures.{body_rule, bodies_rule}
+use Rattle.asl_rules.specs.declarations.Programs.{body_rule, bodies_rule}
 use Rattle.asl_rules.specs.declarations.Scopes.{Signature}
 use Rattle.asl_tree.specs.Funcs.{func_of}
 use Rattle.asl_decl.specs.Heads.{head_of, heads_of}

@@ -1,6 +1,6 @@
 use Rattle.std.proofs.Common.{◌≡◌, ◌++◌, drop, map, Ok}
 use Rattle.asl_rules.specs.Faults.{◌>>=◌}
-use Rattle.asl_rules.specs.declarations.Signatures.{bodies_rule}
+use Rattle.asl_rules.specs.declarations.Programs.{bodies_rule}
 use Rattle.asl_rules.specs.Tests.{Tests}
 use Rattle.asl_types.specs.Suits.{Suits}
 use Rattle.asl_tree.specs.Funcs.{func_of}

@@ -1,5 +1,5 @@
 use Rattle.std.proofs.Common.{sym, subst}
-use Rattle.asl_rules.specs.declarations.Environments.{is_var}
+use Rattle.asl_rules.specs.declarations.Declarations.{is_var}
 use Rattle.asl_types.specs.private.Answers.{Met}
 use Rattle.asl_subprograms.specs.private.ContextView.{scope_of}
 use Rattle.asl_judge.specs.private.Brought.{initial_of}

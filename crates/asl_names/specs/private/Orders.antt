@@ -1,0 +1,103 @@
+-- Nodes of a graph: those with a mark, orders in which each stands behind all that it uses, and the ways from node to node.
+use Rattle.std.specs.Prelude.{◌≡◌, ℕ, ◌+◌, ◌<◌, ◌⊎◌, Bool, true, false, ◌&&◌, ◌||◌, ◌==◌, List, [], ◌∷◌, ◌++◌, length, slice_index, slice_index_or}
+
+-- of each node those that it uses
+abbrev pub Graph : Type 0
+Graph = List (List ℕ)
+
+-- the nodes that one uses
+abbrev pub row : Graph → ℕ → List ℕ
+row g n = slice_index_or g n []
+
+-- the node has its mark
+abbrev pub has_mark : List Bool → ℕ → Bool
+has_mark marks n = slice_index_or marks n false
+
+abbrev pub all_marked : List Bool → List ℕ → Bool
+all_marked marks [] = true
+all_marked marks (n ∷ ns) = has_mark marks n && all_marked marks ns
+
+-- how many have no mark
+abbrev pub unmarked : List Bool → ℕ
+unmarked [] = 0
+unmarked (true ∷ marks) = unmarked marks
+unmarked (false ∷ marks) = 1 + unmarked marks
+
+abbrev pub is_among : ℕ → List ℕ → Bool
+is_among n [] = false
+is_among n (m ∷ ms) = (m == n) || is_among n ms
+
+-- the nodes with a mark are those that are listed
+abbrev pub IsListed : List ℕ → List Bool → Type 0
+IsListed nodes marks = (n : ℕ) → has_mark marks n ≡ is_among n nodes
+
+-- what stays where a node gets its mark and is listed
+abbrev pub room : List ℕ → List Bool → ℕ
+room nodes marks = unmarked marks + length nodes
+
+-- ---- orders
+
+-- all of the first are among the second
+abbrev pub all_among : List ℕ → List ℕ → Bool
+all_among [] ms = true
+all_among (n ∷ ns) ms = is_among n ms && all_among ns ms
+
+-- each of these uses only those before it
+abbrev pub each_behind : Graph → List ℕ → List ℕ → Bool
+each_behind g before [] = true
+each_behind g before (n ∷ ns) = all_among (row g n) before && each_behind g (before ++ n ∷ []) ns
+
+abbrev pub IsOrder : Graph → List ℕ → List Bool → Type 0
+IsOrder g nodes marks = (length marks ≡ length g) × (each_behind g [] nodes ≡ true) × IsListed nodes marks
+
+-- each node without a mark uses one without
+abbrev pub IsStuck : Graph → List Bool → Type 0
+IsStuck g marks = (n : ℕ) → n < length g → has_mark marks n ≡ false → all_marked marks (row g n) ≡ false
+
+-- ---- ways
+
+-- a way from one node over these to another
+abbrev pub is_way : Graph → ℕ → List ℕ → ℕ → Bool
+is_way g n [] m = is_among m (row g n)
+is_way g n (k ∷ ks) m = is_among k (row g n) && is_way g k ks m
+
+abbrev pub HasWay : Graph → ℕ → ℕ → Type 0
+HasWay g n m = (ks : List ℕ) × (is_way g n ks m ≡ true)
+
+-- each node that is used is one of the graph
+abbrev pub HasEdges : Graph → Type 0
+HasEdges g = (n k : ℕ) → is_among k (row g n) ≡ true → k < length g
+
+-- ---- walks
+
+-- the nodes of the first list are among the second
+abbrev pub Within : List ℕ → List ℕ → Type 0
+Within ns ms = (k : ℕ) → is_among k ns ≡ true → is_among k ms ≡ true
+
+-- the marks of the first are among the second
+abbrev pub MarkedMore : List Bool → List Bool → Type 0
+MarkedMore marks more = (k : ℕ) → has_mark marks k ≡ true → has_mark more k ≡ true
+
+-- the second list is the first, and then some of these
+abbrev pub Goes : List ℕ → List ℕ → List ℕ → Type 0
+Goes nodes ns all = (more : List ℕ) × (all ≡ nodes ++ more) × Within more ns
+
+-- these nodes are of a graph of so many
+abbrev pub Below : List ℕ → ℕ → Type 0
+Below ns count = (k : ℕ) → is_among k ns ≡ true → k < count
+
+-- the second list is the first, or with this one more
+abbrev pub FoundOne : List ℕ → ℕ → List ℕ → Type 0
+FoundOne nodes n all = (all ≡ nodes) ⊎ (all ≡ nodes ++ n ∷ [])
+
+-- the first so many of these have their marks
+abbrev pub MarkedTo : List Bool → List ℕ → ℕ → Type 0
+MarkedTo marks ns at = (i : ℕ) → i < at → has_mark marks (slice_index ns i) ≡ true
+
+-- all that the first so many of these use has its mark
+abbrev pub ClosedTo : Graph → List Bool → List ℕ → ℕ → Type 0
+ClosedTo g marks nodes at = (i : ℕ) → i < at → all_marked marks (row g (slice_index nodes i)) ≡ true
+
+-- each of these has a way from a node
+abbrev pub Reached : Graph → ℕ → List ℕ → Type 0
+Reached g start nodes = (k : ℕ) → is_among k nodes ≡ true → HasWay g start k

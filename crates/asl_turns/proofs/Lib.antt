@@ -1,4 +1,0 @@
-mod FirstReady
-pub mod Marks
-mod Placing
-mod Settling

@@ -1,2 +1,0 @@
-pub mod StmtUses
-pub mod Uses

@@ -1,2 +1,0 @@
-//! Development only: definitions of calls.
-#![tactic(auto)]
