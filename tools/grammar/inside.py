@@ -398,7 +398,7 @@ def files(grammar):
         text += grammar.from_module(grammar.PRE + 'Cursor', grammar.CURSOR, body) + grammar.from_module(grammar.PRE + 'Build', grammar.HELPERS, body)
         text += grammar.from_module(grammar.PRE + 'Combinators', grammar.COMBINATORS, body)
         text += grammar.from_module(grammar.PRE + 'Rules', ['Sym', 'Val', 'Rule', 'rule', 'after'] + symbols + grammar.ORDER, body)
-        text += grammar.from_module('Rattle.asl_rules.proofs.verdict.SameRules', ['AllOf'], body)
+        text += grammar.from_module('Rattle.asl_laws.proofs.basics.Lists', ['AllOf'], body)
         for module in BY_HAND:
             text += re.sub(r'built_(\w+)', r'\1 as built_\1', grammar.from_module(READING + module, lemmas(grammar, module), body))
         if own != 'Symbols': text += grammar.from_module(READING + 'Symbols', ['SymIn', 'In'], body)

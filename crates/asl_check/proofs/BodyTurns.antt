@@ -22,7 +22,7 @@ use Rattle.asl_rules.specs.declarations.Programs.{Head, accepted, may_end, tree_
 use Rattle.asl_rules.specs.declared.entry.Entry.{Entry as Asked}
 use Rattle.asl_rules.specs.declarations.Names.{names_rule, all_declared}
 use Rattle.asl_rules.specs.declarations.Uses.{cycles_rule}
-use Rattle.asl_rules.specs.declarations.Declarations.{globals_rule}
+use Rattle.asl_rules.specs.declarations.Turns.{globals_rule}
 use Rattle.asl_syn.specs.declared.tree.Decl.{Decl}
 use Rattle.asl_rules.proofs.scopes.Longer.{Longer, longer_self, longer_on, list_longer}
 use Rattle.asl_decl.specs.Heads.{declared_with, declared_rule, params_declared, formals_declared, names_of_body, head_of, heads_of}

@@ -12,7 +12,7 @@ use Rattle.asl_rules.specs.declarations.Programs.{Entries, verdict, accepted, Ac
 use Rattle.asl_rules.specs.declarations.Scopes.{Entry, Signature, storage_of}
 use Rattle.asl_rules.specs.runs.States.{Binding}
 use Rattle.asl_rules.specs.runs.Evaluation.{global_in, globals_among, cons_some}
-use Rattle.asl_rules.specs.declarations.Declarations.{names_of_program}
+use Rattle.asl_rules.specs.declarations.Turns.{names_of_program}
 use Rattle.asl_rules.specs.Tests.{Tests}
 use Rattle.asl_laws.proofs.soundness.SoundnessFacts.{facts_of}
 use Rattle.asl_types.specs.Suits.{Suits}

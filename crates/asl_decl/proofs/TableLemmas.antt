@@ -1,35 +1,21 @@
--- What declarations bring, from the judgements of all and the signatures over the names outside bodies.
-use Rattle.std.proofs.Common.{◌≡◌, List, [], ◌∷◌, ◌++◌, map, Result, Ok, Err, refl, sym, ap, ◌∙◌}
+-- What declarations bring: the judgements of all, and the signatures over the names outside bodies.
+use Rattle.std.proofs.Common.{◌≡◌, List, [], Result, Ok, Err, refl, sym, ap, ◌∙◌}
 use Rattle.asl_syn.specs.declared.code.Fault.{Fault}
 use Rattle.asl_syn.specs.declared.tree.Decl.{Decl}
 use Rattle.asl_syn.specs.declared.tree.Func.{Func}
 use Rattle.asl_rules.specs.Faults.{◌>>=◌, ◌>>◌}
 use Rattle.asl_rules.specs.Tests.{Tests}
-use Rattle.asl_rules.specs.declarations.Names.{library, names_rule, all_declared}
+use Rattle.asl_rules.specs.declarations.Names.{names_rule, all_declared}
 use Rattle.asl_rules.specs.declarations.Uses.{cycles_rule}
-use Rattle.asl_rules.specs.declarations.Scopes.{Entry, Signature, subprogram, with_entry, with_entries}
-use Rattle.asl_rules.specs.declarations.Declarations.{Judged, entries_of, entries, final, faults_rule, names_of_program}
+use Rattle.asl_rules.specs.declarations.Scopes.{Entry, Signature}
+use Rattle.asl_rules.specs.declarations.Turns.{final, faults_rule, names_of_program}
 use Rattle.asl_rules.specs.declarations.Programs.{Head, funcs_of, signatures_rule, overloads_rule}
-use Rattle.asl_judge.specs.private.Passes.{with_judgements, names_judged}
 use Rattle.asl_judge.specs.Tables.{declarations_rule}
 use Rattle.asl_subprograms.specs.private.Apart.{apart_rule}
 use Rattle.asl_decl.specs.Heads.{heads_of, Declared, declared_with, declared_rule}
 use Rattle.asl_decl.specs.private.Signatures.{signatures_found, declared_found}
 use Rattle.asl_decl.proofs.ApartLemmas.{overloads_are}
 use Rattle.asl_decl.proofs.SignatureLemmas.{heads_are, signatures_are}
-
--- ---- the names
-
-all_both : (xs ys es : List Entry) → with_entries (xs ++ ys) es ≡ with_entries ys (with_entries xs es)
-all_both [] ys es = refl
-all_both (x ∷ xs) ys es = all_both xs ys (with_entry x es)
-
-all_judged : (f : Decl → Judged) (ds : List Decl) (es : List Entry) → with_judgements (map f ds) es ≡ with_entries (entries f ds) es
-all_judged f [] es = refl
-all_judged f (d ∷ ds) es = all_judged f ds (with_entries (entries_of (f d)) es) ∙ sym (all_both (entries_of (f d)) (entries f ds) es)
-
-names_are : (t : Tests) (ds : List Decl) → names_judged t ds ≡ names_of_program t ds
-names_are t ds = all_judged (final t ds) ds (map subprogram library)
 
 -- ---- subprograms
 
@@ -57,13 +43,13 @@ module _ (t : Tests) (ds : List Decl) where
   three_steps (Err e) b c N f = refl
 
   declared_is : declared_rule t ds ≡ (declarations_rule t ds >> subprograms_rule t (funcs_of ds) (names_of_program t ds))
-  declared_is = three_steps (names_rule [] (all_declared ds)) (cycles_rule ds ds) (faults_rule t ds ds) (names_of_program t ds) (subprograms_rule t (funcs_of ds))
+  declared_is = three_steps (names_rule [] (all_declared ds)) (cycles_rule ds ds) (faults_rule (final t ds)) (names_of_program t ds) (subprograms_rule t (funcs_of ds))
 
   -- where names, order, types and storage are well formed, what is left is found over the names outside bodies
-  pub table_then : (names : List Entry) (fs : List Func) → declarations_rule t ds ≡ Ok tt → names ≡ names_judged t ds → fs ≡ funcs_of ds → declared_rule t ds ≡ declared_found t fs names
+  pub table_then : (names : List Entry) (fs : List Func) → declarations_rule t ds ≡ Ok tt → names ≡ names_of_program t ds → fs ≡ funcs_of ds → declared_rule t ds ≡ declared_found t fs names
   table_then names fs h n e =
       declared_is
       ∙ ap (λ r. r >> subprograms_rule t (funcs_of ds) (names_of_program t ds)) h
       ∙ subprograms_are t (funcs_of ds) (names_of_program t ds)
-      ∙ ap (declared_found t (funcs_of ds)) (sym (n ∙ names_are t ds))
+      ∙ ap (declared_found t (funcs_of ds)) (sym n)
       ∙ ap (λ gs. declared_found t gs names) (sym e)

@@ -10,7 +10,7 @@ use Rattle.asl_rules.specs.Tests.{Tests}
 use Rattle.asl_rules.specs.types.Types.{Parts, part}
 use Rattle.asl_rules.specs.declarations.Names.{names_rule, all_declared}
 use Rattle.asl_rules.specs.declarations.Uses.{cycles_rule}
-use Rattle.asl_rules.specs.declarations.Declarations.{globals_rule}
+use Rattle.asl_rules.specs.declarations.Turns.{globals_rule}
 use Rattle.asl_rules.specs.declarations.Scopes.{Entry, Signature, Param, fixed, with_entry}
 use Rattle.asl_rules.specs.statements.Locals.{itself}
 use Rattle.asl_rules.specs.declarations.Programs.{Head, funcs_of, param_entry, signatures_rule, overloads_rule}

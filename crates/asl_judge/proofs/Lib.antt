@@ -1,12 +1,11 @@
 pub mod DefinitionLemmas
-pub mod Judgements
-pub mod Keeping
 pub mod LibraryNames
+pub mod Marking
 pub mod OnceLemmas
-pub mod Passing
 pub mod PhaseLemmas
-pub mod Serves
-pub mod Serving
+pub mod Places
+pub mod Settling
+pub mod Steps
 pub mod StorageLemmas
-pub mod Turns
+pub mod Taking
 pub mod ValueLemmas

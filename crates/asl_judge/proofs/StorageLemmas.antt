@@ -15,7 +15,7 @@ use Rattle.asl_rules.specs.expressions.Typing.{Typed}
 use Rattle.asl_rules.specs.types.Writing.{Written}
 use Rattle.asl_rules.specs.expressions.Exprs.{found, written, typed}
 use Rattle.asl_rules.specs.declarations.Barred.{barred}
-use Rattle.asl_rules.specs.declarations.Declarations.{Initial, with_type, known, storage_rule}
+use Rattle.asl_rules.specs.declarations.Declarations.{with_type, known, storage_rule}
 use Rattle.asl_judge.specs.private.Definitions.{both_found}
 
 pub both_is : (t : Tests) (d : StorageDecl) (b : Bool) (ty : TypeExpr) (e : Expr) (G : Scope) → storage_rule t d b (Some ty) (Some e) G ≡ both_found t ty e G

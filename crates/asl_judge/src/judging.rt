@@ -1,8 +1,9 @@
 //! What a declaration brings into the scope of all bodies.
 
-ghost use Rattle.std.specs.Prelude.{◌≡◌, ℕ, List, IfOk, IfErr, OnOk};
+ghost use Rattle.std.specs.Prelude.{◌≡◌, ℕ, List, IfOk, OnOk};
 ghost use Rattle.asl_rules.specs.declarations.Declarations as rules;
-ghost use Rattle.asl_rules.specs.declarations.Scopes.{with_entries};
+ghost use Rattle.asl_rules.specs.declarations.Names.{labels_of};
+ghost use Rattle.asl_rules.specs.declarations.Turns as turns;
 ghost use Rattle.asl_rules.specs.Tests.{Tests};
 ghost use Rattle.asl_rules.specs.types.Types as types;
 ghost use Rattle.asl_rules.specs.values.Values as values;
@@ -11,6 +12,7 @@ ghost use Rattle.asl_types.specs.private.Answers.{Met};
 ghost use Rattle.asl_subprograms.specs.private.ContextView.{scope_of};
 ghost use Rattle.asl_types.specs.Suits.{Suits};
 ghost use Rattle.asl_judge.specs.private.Brought.{brought_of, labels_brought};
+ghost use Rattle.asl_judge.specs.private.Settling.{StandFor, HaveStandIns, all_settled};
 
 use crate::definitions::{define, name_of};
 use crate::storage::{initial_storage, is_var};
@@ -45,8 +47,9 @@ impl<'a> Drop for Brought<'a> {
 }
 
 /// The labels that a definition writes.
-fn labels_in(def: &TypeDef) -> &[Ident]
-    ensures { (name : List ℕ) (T : types.Ty) → labels_brought result.now name T ≡ rules.label_entries def.now name T }
+pub(crate) fn labels_in(def: &TypeDef) -> &[Ident]
+    ensures labels { result.now ≡ labels_of def.now }
+    ensures entries { (name : List ℕ) (T : types.Ty) → labels_brought result.now name T ≡ rules.label_entries def.now name T }
 {
     match def {
         TypeDef::Labels(_, labels) => labels.as_slice(),
@@ -57,7 +60,8 @@ fn labels_in(def: &TypeDef) -> &[Ident]
 }
 
 fn judge_type<'a>(alloc: Global, context: Context, d: &'a TypeDecl) -> Result<Brought<'a>, Refused>
-    ensures { (t : Tests) → Suits t → Met brought_of result (rules.type_decl_rule t d.now (scope_of context.entry)) }
+    ensures rule { (t : Tests) → Suits t → Met brought_of result (rules.type_decl_rule t d.now (scope_of context.entry)) }
+    ensures stands { IfOk result (λ b. StandFor (turns.reserved (Decl.Type d.now)) (brought_of b)) }
 {
     let name = d.name.text.as_slice();
     let ty = Held::new(define(alloc, context, name, &d.def)?);
@@ -71,7 +75,8 @@ fn judge_storage<'a>(
     context: Context,
     d: &'a StorageDecl,
 ) -> Result<Brought<'a>, Refused>
-    ensures { (t : Tests) → Suits t → Met brought_of result (rules.storage_decl_rule t d.now (scope_of context.entry)) }
+    ensures rule { (t : Tests) → Suits t → Met brought_of result (rules.storage_decl_rule t d.now (scope_of context.entry)) }
+    ensures stands { IfOk result (λ b. StandFor (turns.reserved (Decl.Storage d.now)) (brought_of b)) }
 {
     let initial = initial_storage(alloc, context, d)?;
     let name = d.name.text.as_slice();
@@ -84,7 +89,8 @@ pub(crate) fn judge<'a>(
     context: Context,
     d: &'a Decl,
 ) -> Result<Brought<'a>, Refused>
-    ensures { (t : Tests) → Suits t → Met brought_of result (rules.decl_rule t d.now (scope_of context.entry)) }
+    ensures rule { (t : Tests) → Suits t → Met brought_of result (rules.decl_rule t d.now (scope_of context.entry)) }
+    ensures stands { IfOk result (λ b. StandFor (turns.reserved d.now) (brought_of b)) }
 {
     match d {
         Decl::Type(d) => judge_type(alloc, context, d),
@@ -101,39 +107,41 @@ fn label_value(alloc: Global, name: &Name, label: &Ident) -> Result<Value, Alloc
     Ok(Value::Label(name.share()?, name_of(alloc, label.text.as_slice())?))
 }
 
-/// The labels of a type become visible, each where it isn't.
-fn bring_labels<'a>(
+/// The labels of a type are settled in turn.
+fn settle_labels(
     alloc: Global,
-    names: &mut Scope<'a>,
+    names: &mut Scope<'_>,
     name: &Name,
     ty: &Ty,
-    labels: &'a [Ident],
-) -> Result<(), Refused>
-    ensures brought { OnOk result (names.new ≡ with_entries (labels_brought labels.now name.now ty.now) names.old) }
-    ensures memory { IfErr result (λ e. e ≡ Refused.NoMemory) }
+    labels: &[Ident],
+) -> Result<(), AllocError>
+    requires { HaveStandIns (labels_brought labels.now name.now ty.now) names.old }
+    ensures { OnOk result (names.new ≡ all_settled (labels_brought labels.now name.now ty.now) names.old) }
 {
     for label in labels {
         let value = label_value(alloc, name, label)?;
-        names.declare_label(label.text.as_slice(), ty.copy()?, value)?;
+        names.settle_label(label.text.as_slice(), ty.copy()?, value);
     }
     Ok(())
 }
 
 impl<'a> Brought<'a> {
-    /// The names that a declaration brings become visible in order, each where it isn't.
-    pub(crate) fn bring(&self, alloc: Global, names: &mut Scope<'a>) -> Result<(), Refused>
-        ensures brought { OnOk result (names.new ≡ with_entries (brought_of self.now) names.old) }
-        ensures memory { IfErr result (λ e. e ≡ Refused.NoMemory) }
+    /// The names that a declaration brings are settled in turn: each takes the place of its stand-in. That of a subprogram
+    /// has none.
+    pub(crate) fn settle(&self, alloc: Global, names: &mut Scope<'_>) -> Result<(), AllocError>
+        requires { HaveStandIns (brought_of self.now) names.old }
+        ensures { OnOk result (names.new ≡ all_settled (brought_of self.now) names.old) }
     {
         match self {
             Brought::Type(name, ty, labels) => {
-                names.declare_type(name, ty.copy()?)?;
-                bring_labels(alloc, names, &name_of(alloc, name)?, ty, labels)
+                names.settle_type(name, ty.copy()?);
+                settle_labels(alloc, names, &name_of(alloc, name)?, ty, labels)
             }
             Brought::Storage(name, ty, is_mutable, value) => {
-                names.declare_global(name, ty.copy()?, *is_mutable, copy(value)?)
+                names.settle_global(name, ty.copy()?, *is_mutable, copy(value)?);
+                Ok(())
             }
-            Brought::Subprogram(name) => names.declare_subprogram(name),
+            Brought::Subprogram(_) => Ok(()),
         }
     }
 }

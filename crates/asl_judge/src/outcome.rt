@@ -1,13 +1,14 @@
 //! What came of a declaration.
 
-ghost use Rattle.std.specs.Prelude.{◌≡◌, IfOk, IfErr, OnOk};
-ghost use Rattle.asl_rules.specs.declarations.Declarations as rules;
+ghost use Rattle.std.specs.Prelude.{◌≡◌, IfOk, OnOk};
+ghost use Rattle.asl_rules.specs.declarations.Declarations.{decl_rule};
+ghost use Rattle.asl_rules.specs.declarations.Turns as rules;
 ghost use Rattle.asl_rules.specs.Tests.{Tests};
-ghost use Rattle.asl_rules.specs.declarations.Scopes.{with_entries};
 ghost use Rattle.asl_types.specs.private.Answers.{Met};
 ghost use Rattle.asl_subprograms.specs.private.ContextView.{scope_of};
 ghost use Rattle.asl_types.specs.Suits.{Suits};
-ghost use Rattle.asl_judge.specs.private.Passes.{judged_of, all_judged, first_fault};
+ghost use Rattle.asl_judge.specs.private.Outcomes.{judged_of, all_judged};
+ghost use Rattle.asl_judge.specs.private.Settling.{CameBy, brings, HaveStandIns, all_settled};
 
 use crate::judging::{Brought, judge};
 use asl_subprograms::Context;
@@ -19,7 +20,7 @@ use std::alloc::{AllocError, Global};
 /// What came of a declaration.
 #[derive(Drop)]
 pub(crate) enum Outcome<'a> {
-    /// It waits for one that isn't well formed.
+    /// It waits, since it was not its turn.
     Waiting,
     Fine(Brought<'a>),
     Faulty(Fault),
@@ -47,14 +48,14 @@ impl<'a> Outcome<'a> {
         }
     }
 
-    /// What a well-formed declaration brings becomes visible.
-    pub(crate) fn bring(&self, alloc: Global, names: &mut Scope<'a>) -> Result<(), Refused>
-        ensures brought { OnOk result (names.new ≡ with_entries (rules.entries_of (judged_of self.now)) names.old) }
-        ensures memory { IfErr result (λ e. e ≡ Refused.NoMemory) }
+    /// The names of a well-formed declaration are settled.
+    pub(crate) fn settle(&self, alloc: Global, names: &mut Scope<'_>) -> Result<(), AllocError>
+        requires { HaveStandIns (brings (judged_of self.now)) names.old }
+        ensures { OnOk result (names.new ≡ all_settled (brings (judged_of self.now)) names.old) }
     {
         match self {
             Outcome::Waiting => Ok(()),
-            Outcome::Fine(brought) => brought.bring(alloc, names),
+            Outcome::Fine(brought) => brought.settle(alloc, names),
             Outcome::Faulty(_) => Ok(()),
         }
     }
@@ -66,7 +67,8 @@ pub(crate) fn judge_over<'a>(
     context: Context,
     d: &'a Decl,
 ) -> Result<Outcome<'a>, AllocError>
-    ensures { (t : Tests) → Suits t → IfOk result (λ o. judged_of o ≡ rules.judged (rules.decl_rule t d.now (scope_of context.entry))) }
+    ensures judged { (t : Tests) → Suits t → IfOk result (λ o. judged_of o ≡ rules.judged (decl_rule t d.now (scope_of context.entry))) }
+    ensures came { IfOk result (λ o. CameBy (rules.reserved d.now) (judged_of o)) }
 {
     match judge(alloc, context, d) {
         Ok(brought) => Ok(Outcome::Fine(brought)),
@@ -77,7 +79,7 @@ pub(crate) fn judge_over<'a>(
 
 /// The first fault.
 pub(crate) fn check_all(outcomes: &[Outcome<'_>]) -> Result<(), Refused>
-    ensures { Met (λ _. tt) result (first_fault (all_judged outcomes.now)) }
+    ensures { Met (λ _. tt) result (rules.faults_rule (all_judged outcomes.now)) }
 {
     for outcome in outcomes {
         outcome.check()?;

@@ -11,6 +11,7 @@ pub mod calls
 pub mod constants
 pub mod expressions
 pub mod names
+pub mod placeless
 pub mod runs
 pub mod scopes
 pub mod soundness

@@ -16,4 +16,5 @@ pub mod SizeForms
 pub mod AsForms
 pub mod SliceForms
 pub mod CallForms
+pub mod LesserClass
 pub mod AllExprs

@@ -9,8 +9,8 @@ pub mod ScopesOver
 pub mod BodiesOver
 pub mod MoreNames
 pub mod DeclWell
+pub mod NamesOutside
 pub mod ScopesKept
 pub mod Globals
 pub mod FormedScopes
 pub mod ScopeRules
-pub mod Placeless

@@ -8,5 +8,6 @@ pub mod SoundnessNodes
 pub mod SoundnessHeads
 pub mod SoundnessCalls
 pub mod Soundness
+pub mod SoundnessBefore
 pub mod SoundnessEntry
 pub mod AgreeingTypes

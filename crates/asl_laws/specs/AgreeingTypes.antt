@@ -16,7 +16,7 @@ use Rattle.asl_rules.specs.expressions.Exprs.{typed, written}
 use Rattle.asl_rules.specs.statements.Acting.{Done}
 use Rattle.asl_rules.specs.statements.Branches.{index_type, with_index, with_caught}
 use Rattle.asl_rules.specs.statements.Stmts.{found_stmt}
-use Rattle.asl_rules.specs.declarations.Declarations.{names_of_program}
+use Rattle.asl_rules.specs.declarations.Turns.{names_of_program}
 use Rattle.asl_rules.specs.declarations.Programs.{Head, funcs_of, signatures, signatures_rule}
 use Rattle.asl_rules.specs.private.WellFormed.{WellFormed, WellDeclared, ShapedParts}
 use Rattle.asl_rules.specs.private.Agreement.{types_in}
@@ -85,9 +85,9 @@ abbrev pub HeadsFormed : (List ℕ → Option Ty) → List Head → Type 0
 HeadsFormed declared [] = Unit {0}
 HeadsFormed declared (h ∷ hs) = HeadFormed declared h × HeadsFormed declared hs
 
--- in each round in which declarations are judged, in the scope of all signatures, and in the signatures themselves
+-- in each turn in which a declaration is judged, in the scope of all signatures, and in the signatures themselves
 pub record DeclarationsAgree (t : Tests) (ds : List Decl) : Type 0 where
-  pub rounds : (n : ℕ) → NamesAgree (names_after t n ds)
+  pub each_turn : (n : ℕ) → NamesAgree (names_after t n ds)
   pub all : NamesAgree (names_of_program t ds)
   pub heads : (hs : List Head) → signatures_rule t (names_of_program t ds) (funcs_of ds) ≡ Ok hs →
       HeadsFormed (types_in (names_of_program t ds)) hs × ResultsFormed (types_in (names_of_program t ds)) (signatures hs)

@@ -3,18 +3,16 @@
 use Rattle.std.specs.Prelude.{◌≡◌, ℕ, zero, suc, true, false, ◌⊎◌, List, [], ◌∷◌, Some, None, slice_get, ℤ, ◌++◌}
 use Rattle.std.specs.Str.{bytes_eq}
 use Rattle.asl_syn.specs.declared.token.Span.{Span}
-use Rattle.asl_syn.specs.declared.tree.Decl.{Decl}
 use Rattle.asl_syn.specs.declared.tree.Expr.{Expr}
 use Rattle.asl_syn.specs.declared.tree.Func.{Func}
 use Rattle.asl_syn.specs.declared.tree.Bitfield.TheOpen as ex
 use Rattle.asl_syn.specs.declared.tree.Alternative.TheOpen as st
 use Rattle.asl_syn.specs.Layers.{ExprLayer, StmtLayer}
-use Rattle.asl_rules.specs.Tests.{Tests}
 use Rattle.asl_rules.specs.types.Types.{BitField}
 use Rattle.asl_rules.specs.types.Shaped.{exprs_in, shapes_in, given_parts}
 use Rattle.asl_rules.specs.types.Numbers.{outside}
 use Rattle.asl_rules.specs.declarations.Routines.{routine_named}
-use Rattle.asl_rules.specs.declarations.Programs.{funcs_of, environment}
+use Rattle.asl_rules.specs.declarations.Programs.{Environment, funcs_of}
 use Rattle.asl_rules.specs.runs.Trees as tree
 use Rattle.asl_rules.specs.runs.Trees.{Note, Tree, Trees, Callee, own, of_library, Shell, FieldGiven, Act, TreeStep, into_field, into_bitfield, into_bitfields, into_slices, into_element, TreePlace}
 use Rattle.asl_rules.specs.values.Values.{Value, FieldValues, int, bool, bits_with, label, record_with, exception_with, tuple_with, array_with, no_value_of, value_of_field}
@@ -44,11 +42,11 @@ Gave P (Thrown x c h) = Unit {0}
 Gave P (Halt e c h) = Unit {0}
 
 -- where an expression gives a value, and where several do, however many nodes may be open and whatever the meter is
-abbrev pub OfValue : Tests → List Decl → Expr → Core → (Value → Type 0) → Type 0
-OfValue t ds e c P = (d : ℕ) (h : Meter) → Gave (λ x c1. P x) ((meaning (environment t ds) d).expr e c h)
+abbrev pub OfValue : Environment → Expr → Core → (Value → Type 0) → Type 0
+OfValue env e c P = (d : ℕ) (h : Meter) → Gave (λ x c1. P x) ((meaning env d).expr e c h)
 
-abbrev pub OfValues : Tests → List Decl → List Expr → Core → (List Value → Type 0) → Type 0
-OfValues t ds es c P = (d : ℕ) (h : Meter) → Gave (λ xs c1. P xs) (run (meaning (environment t ds) d) (eval_all es [] c (λ xs c1. Ret xs c1)) h)
+abbrev pub OfValues : Environment → List Expr → Core → (List Value → Type 0) → Type 0
+OfValues env es c P = (d : ℕ) (h : Meter) → Gave (λ xs c1. P xs) (run (meaning env d) (eval_all es [] c (λ xs c1. Ret xs c1)) h)
 
 -- ---- calls
 
@@ -58,20 +56,20 @@ both_given ps es c = eval_all ps [] c (λ ys c1. eval_all es [] c1 (λ xs c2. Re
 
 -- of these values the subprogram of this number is the one that the run finds, and its parameters are those that the tree takes, from the braces or from the
 -- arguments in these places
-pub record FindsOwn (t : Tests) (ds : List Decl) (span : Span) (name : List ℕ) (id : ℕ) (widths : List ℕ) (ys xs : List Value) (c : Core) : Type 0 where
+pub record FindsOwn (env : Environment) (span : Span) (name : List ℕ) (id : ℕ) (widths : List ℕ) (ys xs : List Value) (c : Core) : Type 0 where
   pub func : Func
-  pub is_found : overload (environment t ds) (outside c) 0 (funcs_of ds) name xs ≡ Some (record { id = id; func = func })
+  pub is_found : overload env (outside c) 0 (funcs_of env.decls) name xs ≡ Some (record { id = id; func = func })
   pub params : List Value
   pub params_are : params_of span (outside c) func ys xs ≡ Good params
   pub tree_has : bare.params_of span widths ys xs ≡ Good params
 
-abbrev pub FindsCallee : Tests → List Decl → Span → List ℕ → Callee → List ℕ → List Value → List Value → Core → Type 0
-FindsCallee t ds span name (own id) widths ys xs c = (routine_named name ≡ None) × FindsOwn t ds span name id widths ys xs c
-FindsCallee t ds span name (of_library r) widths ys xs c = routine_named name ≡ Some r
+abbrev pub FindsCallee : Environment → Span → List ℕ → Callee → List ℕ → List Value → List Value → Core → Type 0
+FindsCallee env span name (own id) widths ys xs c = (routine_named name ≡ None) × FindsOwn env span name id widths ys xs c
+FindsCallee env span name (of_library r) widths ys xs c = routine_named name ≡ Some r
 
-abbrev pub CallFinds : Tests → List Decl → Span → List ℕ → List Expr → List Expr → Callee → List ℕ → Core → Type 0
-CallFinds t ds span name ps es callee widths c =
-    (d : ℕ) (h : Meter) → Gave (λ v c1. FindsCallee t ds span name callee widths v.0 v.1 c1) (run (meaning (environment t ds) d) (both_given ps es c) h)
+abbrev pub CallFinds : Environment → Span → List ℕ → List Expr → List Expr → Callee → List ℕ → Core → Type 0
+CallFinds env span name ps es callee widths c =
+    (d : ℕ) (h : Meter) → Gave (λ v c1. FindsCallee env span name callee widths v.0 v.1 c1) (run (meaning env d) (both_given ps es c) h)
 
 -- ---- fields and bitfields
 
@@ -148,45 +146,45 @@ PlacesFind P (q ∷ qs) (p ∷ ps) = PlaceFinds P q p × PlacesFind P qs ps
 
 -- ---- all forms
 
-abbrev pub ExprChosen : Tests → List Decl → ExprLayer → Tree → Core → Type 0
-ExprChosen t ds (ex.Int span n) a c = Unit {0}
-ExprChosen t ds (ex.Bits span text) a c = Unit {0}
-ExprChosen t ds (ex.Bool span b) a c = Unit {0}
-ExprChosen t ds (ex.Name span name) a c = Unit {0}
-ExprChosen t ds (ex.Unary span o e) a c = Unit {0}
-ExprChosen t ds (ex.Binary span o e f) a c = Unit {0}
-ExprChosen t ds (ex.Conditional span e f g) a c = Unit {0}
-ExprChosen t ds (ex.Tuple span es) a c = Unit {0}
-ExprChosen t ds (ex.Construct span i fs) a c =
+abbrev pub ExprChosen : Environment → ExprLayer → Tree → Core → Type 0
+ExprChosen env (ex.Int span n) a c = Unit {0}
+ExprChosen env (ex.Bits span text) a c = Unit {0}
+ExprChosen env (ex.Bool span b) a c = Unit {0}
+ExprChosen env (ex.Name span name) a c = Unit {0}
+ExprChosen env (ex.Unary span o e) a c = Unit {0}
+ExprChosen env (ex.Binary span o e f) a c = Unit {0}
+ExprChosen env (ex.Conditional span e f g) a c = Unit {0}
+ExprChosen env (ex.Tuple span es) a c = Unit {0}
+ExprChosen env (ex.Construct span i fs) a c =
     (n : Note) × (s : Shell) × (gs : List FieldGiven) × (es : Trees) × (a ≡ tree.Construct n s gs es) × GivenByName (shapes_in given_parts fs) gs
-    × OfValues t ds (exprs_in given_parts fs) c (λ xs. constructed span (types_of (environment t ds) i.text) (shapes_in given_parts fs) xs ≡ places.constructed span s gs xs)
-ExprChosen t ds (ex.Call span i ps es) a c =
-    (n : Note) × (f : Callee) × (widths : List ℕ) × (ts : Trees) × (us : Trees) × (a ≡ tree.Call n f widths ts us) × CallFinds t ds span i.text ps es f widths c
-ExprChosen t ds (ex.Field span e i) a c =
-    ((n : Note) × (b : Tree) × (k : ℕ) × (a ≡ tree.Field n b k) × OfValue t ds e c (HasFieldAt i.text k))
-    ⊎ ((n : Note) × (b : Tree) × (f : BitField) × (a ≡ tree.Bitfield n b f) × OfValue t ds e c (HasBitfield i.text f))
-ExprChosen t ds (ex.Fields span e is) a c = (n : Note) × (b : Tree) × (fs : List BitField) × (a ≡ tree.Bitfields n b fs) × OfValue t ds e c (λ x. bitfields_named span is x ≡ Good fs)
-ExprChosen t ds (ex.Slices span e ss) a c = Unit {0}
-ExprChosen t ds (ex.Element span e f) a c = Unit {0}
-ExprChosen t ds (ex.As span e ty) a c = Unit {0}
-ExprChosen t ds (ex.In span e p) a c = Unit {0}
+    × OfValues env (exprs_in given_parts fs) c (λ xs. constructed span (types_of env i.text) (shapes_in given_parts fs) xs ≡ places.constructed span s gs xs)
+ExprChosen env (ex.Call span i ps es) a c =
+    (n : Note) × (f : Callee) × (widths : List ℕ) × (ts : Trees) × (us : Trees) × (a ≡ tree.Call n f widths ts us) × CallFinds env span i.text ps es f widths c
+ExprChosen env (ex.Field span e i) a c =
+    ((n : Note) × (b : Tree) × (k : ℕ) × (a ≡ tree.Field n b k) × OfValue env e c (HasFieldAt i.text k))
+    ⊎ ((n : Note) × (b : Tree) × (f : BitField) × (a ≡ tree.Bitfield n b f) × OfValue env e c (HasBitfield i.text f))
+ExprChosen env (ex.Fields span e is) a c = (n : Note) × (b : Tree) × (fs : List BitField) × (a ≡ tree.Bitfields n b fs) × OfValue env e c (λ x. bitfields_named span is x ≡ Good fs)
+ExprChosen env (ex.Slices span e ss) a c = Unit {0}
+ExprChosen env (ex.Element span e f) a c = Unit {0}
+ExprChosen env (ex.As span e ty) a c = Unit {0}
+ExprChosen env (ex.In span e p) a c = Unit {0}
 
 -- of a statement; what an assignment finds is said for each of the states that agree with its scope
-abbrev pub StmtChosen : Tests → List Decl → (Core → Type 0) → StmtLayer → Act → Core → Type 0
-StmtChosen t ds P (st.Pass span) a c = Unit {0}
-StmtChosen t ds P (st.Unreachable span) a c = Unit {0}
-StmtChosen t ds P (st.Assert span e) a c = Unit {0}
-StmtChosen t ds P (st.Local span kind b ty e) a c = Unit {0}
-StmtChosen t ds P (st.LocalVars span is ty) a c = Unit {0}
-StmtChosen t ds P (st.Assign span x e) a c = (at : Span) × (ps : List TreePlace) × (b : Tree) × (a ≡ tree.Assign at ps b) × PlacesFind P (named_places x) ps
-StmtChosen t ds P (st.Invoke span i ps es) a c =
-    (at : Span) × (f : Callee) × (widths : List ℕ) × (ts : Trees) × (us : Trees) × (a ≡ tree.Invoke at f widths ts us) × CallFinds t ds span i.text ps es f widths c
-StmtChosen t ds P (st.If span e ss es last) a c = Unit {0}
-StmtChosen t ds P (st.Case span e alts last) a c = Unit {0}
-StmtChosen t ds P (st.For span i e d f limit ss) a c = Unit {0}
-StmtChosen t ds P (st.While span e limit ss) a c = Unit {0}
-StmtChosen t ds P (st.Repeat span ss e limit) a c = Unit {0}
-StmtChosen t ds P (st.Return span e) a c = Unit {0}
-StmtChosen t ds P (st.Throw span e) a c = Unit {0}
-StmtChosen t ds P (st.Try span ss cs last) a c = Unit {0}
-StmtChosen t ds P (st.Print span kind is) a c = Unit {0}
+abbrev pub StmtChosen : Environment → (Core → Type 0) → StmtLayer → Act → Core → Type 0
+StmtChosen env P (st.Pass span) a c = Unit {0}
+StmtChosen env P (st.Unreachable span) a c = Unit {0}
+StmtChosen env P (st.Assert span e) a c = Unit {0}
+StmtChosen env P (st.Local span kind b ty e) a c = Unit {0}
+StmtChosen env P (st.LocalVars span is ty) a c = Unit {0}
+StmtChosen env P (st.Assign span x e) a c = (at : Span) × (ps : List TreePlace) × (b : Tree) × (a ≡ tree.Assign at ps b) × PlacesFind P (named_places x) ps
+StmtChosen env P (st.Invoke span i ps es) a c =
+    (at : Span) × (f : Callee) × (widths : List ℕ) × (ts : Trees) × (us : Trees) × (a ≡ tree.Invoke at f widths ts us) × CallFinds env span i.text ps es f widths c
+StmtChosen env P (st.If span e ss es last) a c = Unit {0}
+StmtChosen env P (st.Case span e alts last) a c = Unit {0}
+StmtChosen env P (st.For span i e d f limit ss) a c = Unit {0}
+StmtChosen env P (st.While span e limit ss) a c = Unit {0}
+StmtChosen env P (st.Repeat span ss e limit) a c = Unit {0}
+StmtChosen env P (st.Return span e) a c = Unit {0}
+StmtChosen env P (st.Throw span e) a c = Unit {0}
+StmtChosen env P (st.Try span ss cs last) a c = Unit {0}
+StmtChosen env P (st.Print span kind is) a c = Unit {0}

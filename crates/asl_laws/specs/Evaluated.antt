@@ -1,5 +1,5 @@
 -- What is evaluated before any run gives a value of its type, or has a dynamic fault: no evaluation that the rules ask for is stuck.
-use Rattle.std.specs.Prelude.{◌≡◌, ℕ, true, ◌⊎◌, List, [], ◌∷◌, ◌++◌, map, Option, Some, None, Ok}
+use Rattle.std.specs.Prelude.{◌≡◌, ℕ, true, ◌⊎◌, List, [], ◌∷◌, Option, Some, None, Ok}
 use Rattle.asl_syn.specs.declared.token.Span.{Span}
 use Rattle.asl_syn.specs.declared.tree.Expr.{Expr}
 use Rattle.asl_syn.specs.declared.tree.StorageDecl.{StorageDecl}
@@ -11,8 +11,7 @@ use Rattle.asl_syn.specs.declared.code.DynCode.{DynCode}
 use Rattle.asl_rules.specs.declared.effect.Effect.{Effect}
 use Rattle.asl_rules.specs.Tests.{Tests}
 use Rattle.asl_rules.specs.types.Closed.{Closed, closed}
-use Rattle.asl_rules.specs.declarations.Names.{library}
-use Rattle.asl_rules.specs.declarations.Scopes.{Entry, subprogram, with_class}
+use Rattle.asl_rules.specs.declarations.Scopes.{Entry, with_class}
 use Rattle.asl_rules.specs.expressions.Typing.{Typed}
 use Rattle.asl_rules.specs.types.Writing.{Written}
 use Rattle.asl_rules.specs.expressions.Exprs.{typed, written, found_type}
@@ -23,7 +22,8 @@ use Rattle.asl_rules.specs.types.Written.{first_value}
 use Rattle.asl_rules.specs.private.Belonging.{InType}
 use Rattle.asl_rules.specs.private.Agreement.{types_in, no_atoms}
 use Rattle.asl_laws.specs.Spans.{IsAmong, expr_spans}
-use Rattle.asl_rules.specs.declarations.Declarations.{in_names, entries, judgement, names_of_program}
+use Rattle.asl_rules.specs.declarations.Declarations.{in_names}
+use Rattle.asl_rules.specs.declarations.Turns.{names_so_far, turns, all_waiting, names_of_program}
 
 -- what an evaluation gives has this property, where it gives a value; it isn't stuck
 abbrev pub GivesOrFaults : {A : Type 0} → (A → Type 0) → Pure A → Type 0
@@ -37,13 +37,14 @@ ConstantsGiven t names =
     (e : Expr) (k : Effect) (S : Typed) → barred e names ≡ None → typed t e (with_class (in_names names) k) ≡ Ok S →
     GivesOrFaults (λ x. InType (types_in names) no_atoms x S.ty) (constant t.limit e names)
 
--- what is well formed after so many rounds
+-- the names that are visible after so many turns
 abbrev pub names_after : Tests → ℕ → List Decl → List Entry
-names_after t n ds = map subprogram library ++ entries (judgement t n ds) ds
+names_after t n ds = names_so_far ds (turns t n ds (all_waiting ds))
 
--- so it is in each round in which declarations are judged, and in the scope of all signatures; and each type has a first value or the fault that it has none
+-- so it is in each turn in which a declaration is judged, and in the scope of all signatures; and each type has a first value or the fault
+-- that it has none
 pub record Evaluates (t : Tests) (ds : List Decl) : Type 0 where
-  pub rounds : (n : ℕ) → ConstantsGiven t (names_after t n ds)
+  pub each_turn : (n : ℕ) → ConstantsGiven t (names_after t n ds)
   pub all : ConstantsGiven t (names_of_program t ds)
   pub first : (at : Span) (T : Closed) → GivesOrFaults (λ x. Unit {0}) (first_value t.limit at T)
 
@@ -59,7 +60,7 @@ abbrev pub StandsIn : Decl → List Decl → Type 0
 StandsIn d [] = ⊥
 StandsIn d (e ∷ ds) = (e ≡ d) ⊎ StandsIn d ds
 
--- the names of a round, or those that are visible in all bodies
+-- the names of a turn, or those that are visible in all bodies
 abbrev pub AreVisible : Tests → List Decl → List Entry → Type 0
 AreVisible t ds names = ((n : ℕ) × (names_after t n ds ≡ names)) ⊎ (names_of_program t ds ≡ names)
 

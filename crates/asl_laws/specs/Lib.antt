@@ -5,6 +5,7 @@ pub mod Reported
 pub mod Codes
 pub mod Masks
 pub mod ScopeRules
+pub mod Settled
 pub mod Visited
 pub mod WidthValues
 pub mod WidthWorth

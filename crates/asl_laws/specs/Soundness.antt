@@ -18,7 +18,7 @@ use Rattle.asl_rules.specs.expressions.Typing.{Typed, Width, Number}
 use Rattle.asl_rules.specs.expressions.Exprs.{found, typed, width}
 use Rattle.asl_rules.specs.statements.Acting.{Done as StmtDone}
 use Rattle.asl_rules.specs.statements.Stmts.{found_stmt}
-use Rattle.asl_rules.specs.declarations.Programs.{Accepted, environment}
+use Rattle.asl_rules.specs.declarations.Programs.{Accepted, Environment, environment}
 use Rattle.asl_rules.specs.values.Values.{Value}
 use Rattle.asl_rules.specs.runs.States.{Binding, Frame, Core, resting}
 use Rattle.asl_rules.specs.private.Belonging.{InType, Belong, Sound}
@@ -48,19 +48,19 @@ GivesType base names a T (Halt e c h) = GlobalsMatch base c.globals
 -- ---- the nodes that are visited
 
 -- from the state on an expression gives values of the type, however many nodes may be open and whatever the meter is
-abbrev pub ValuesIn : Tests → List Decl → Accepted → Expr → Scope → Assignment → Ty → Core → Type 0
-ValuesIn t ds a e G present T c = (d : ℕ) (h : Meter) → NotStuck ((meaning (environment t ds) d).expr e c h) × GivesType a.names G.names present T ((meaning (environment t ds) d).expr e c h)
+abbrev pub ValuesIn : Environment → Accepted → Expr → Scope → Assignment → Ty → Core → Type 0
+ValuesIn env a e G present T c = (d : ℕ) (h : Meter) → NotStuck ((meaning env d).expr e c h) × GivesType a.names G.names present T ((meaning env d).expr e c h)
 
 -- and a width, or a number that is written in a type, an integer of which P says which one it is
-abbrev pub IntegersIn : Tests → List Decl → Expr → (ℤ → Type 0) → Core → Type 0
-IntegersIn t ds e P c = (d : ℕ) (h : Meter) → GivesInteger c P ((meaning (environment t ds) d).expr e c h)
+abbrev pub IntegersIn : Environment → Expr → (ℤ → Type 0) → Core → Type 0
+IntegersIn env e P c = (d : ℕ) (h : Meter) → GivesInteger c P ((meaning env d).expr e c h)
 
 -- an expression has a type, and gives values of it, or is a width or a number that is written in a type, and gives its integer
-abbrev pub IsJudged : Tests → List Decl → Accepted → Expr → Scope → Assignment → Core → Type 0
-IsJudged t ds a e G present c =
-    ((S : Typed) × (typed t e G ≡ Ok S) × ValuesIn t ds a e G present S.ty c) ⊎
-    (((W : Width) × (width t e G ≡ Ok W) × IntegersIn t ds e (λ z. HasWidth W.poly present z × HasNumber e c z) c) ⊎
-    ((N : Number) × ((found t e).number G ≡ Ok N) × IntegersIn t ds e (λ z. (z ≡ N.number) × HasNumber e c z) c))
+abbrev pub IsJudged : Tests → Environment → Accepted → Expr → Scope → Assignment → Core → Type 0
+IsJudged t env a e G present c =
+    ((S : Typed) × (typed t e G ≡ Ok S) × ValuesIn env a e G present S.ty c) ⊎
+    (((W : Width) × (width t e G ≡ Ok W) × IntegersIn env e (λ z. HasWidth W.poly present z × HasNumber e c z) c) ⊎
+    ((N : Number) × ((found t e).number G ≡ Ok N) × IntegersIn env e (λ z. (z ≡ N.number) × HasNumber e c z) c))
 
 -- a node that was judged in this class stands in the body of the subprogram that was called last, whose class is at least that
 abbrev pub StandsIn : List Signature → Effect → List ℕ → Type 0
@@ -74,14 +74,14 @@ IsBodyOf subs b (id ∷ ids) = (s : Signature) × (slice_get subs id ≡ Some s)
 
 -- the expression was judged with the program's own subprograms, in the body of the one that was called last, in a scope in which each `let` counts as names
 -- that stand for themselves, and which keeps the rules of scopes; a condition of a statement and a pattern may be judged in a lesser class than the body
-pub record ExprVisited (t : Tests) (ds : List Decl) (a : Accepted) (e : Expr) (c : Core) : Type 0 where
+pub record ExprVisited (t : Tests) (env : Environment) (a : Accepted) (e : Expr) (c : Core) : Type 0 where
   pub scope : Scope
   pub present : Assignment
   pub subs_are : scope.subs ≡ a.signatures
   pub stands : StandsIn a.signatures scope.class c.live
   pub counted : WellCounted scope.names
   pub rules : KeepsRules scope
-  pub judged : IsJudged t ds a e scope present c
+  pub judged : IsJudged t env a e scope present c
   pub agrees : Agrees a.names scope.names present c
 
 -- so was the statement, in the class and with the result of that subprogram
@@ -96,9 +96,9 @@ pub record StmtVisited (t : Tests) (a : Accepted) (s : Stmt) (c : Core) : Type 0
   pub judged : found_stmt t s body ≡ Ok done
   pub agrees : Agrees a.names body.scope.names present c
 
-abbrev pub NodeVisited : Tests → List Decl → Accepted → Entered Expr Stmt → Core → Type 0
-NodeVisited t ds a (AtExpr e) c = ExprVisited t ds a e c
-NodeVisited t ds a (AtStmt s) c = StmtVisited t a s c
+abbrev pub NodeVisited : Tests → Environment → Accepted → Entered Expr Stmt → Core → Type 0
+NodeVisited t env a (AtExpr e) c = ExprVisited t env a e c
+NodeVisited t env a (AtStmt s) c = StmtVisited t a s c
 
 -- ---- the frames of the callers
 
@@ -115,9 +115,9 @@ waiting globals f fs ids = record { globals = globals; frame = f.names; handled 
 
 -- a call that a frame waits for: in this state, with the globals as they are now, it was judged as a visited expression is, and its typed tree calls the
 -- subprogram of this number
-pub record ExprWaits (t : Tests) (ds : List Decl) (a : Accepted) (id : ℕ) (c : Core) : Type 0 where
+pub record ExprWaits (t : Tests) (env : Environment) (a : Accepted) (id : ℕ) (c : Core) : Type 0 where
   pub node : Expr
-  pub visited : ExprVisited t ds a node c
+  pub visited : ExprVisited t env a node c
   pub typing : Typed
   pub is_typed : typed t node visited.scope ≡ Ok typing
   pub calls : TreeCalls typing.tree id
@@ -130,17 +130,17 @@ pub record StmtWaits (t : Tests) (a : Accepted) (id : ℕ) (c : Core) : Type 0 w
 
 -- the outermost frame is what there is between two calls from outside; each other agrees with the scope of a call that it waits for, and whose subprogram is the
 -- next that is active
-abbrev pub CallersWait : Tests → List Decl → Accepted → List Binding → List Frame → List ℕ → Type 0
-CallersWait t ds a globals [] ids = ⊥
-CallersWait t ds a globals (f ∷ fs) [] = ⊥
-CallersWait t ds a globals (f ∷ []) (id ∷ ids) = (f ≡ record { names = []; handled = [] }) × (ids ≡ [])
-CallersWait t ds a globals (f ∷ g ∷ fs) (id ∷ ids) =
-    (ExprWaits t ds a id (waiting globals f (g ∷ fs) ids) ⊎ StmtWaits t a id (waiting globals f (g ∷ fs) ids)) × CallersWait t ds a globals (g ∷ fs) ids
+abbrev pub CallersWait : Tests → Environment → Accepted → List Binding → List Frame → List ℕ → Type 0
+CallersWait t env a globals [] ids = ⊥
+CallersWait t env a globals (f ∷ fs) [] = ⊥
+CallersWait t env a globals (f ∷ []) (id ∷ ids) = (f ≡ record { names = []; handled = [] }) × (ids ≡ [])
+CallersWait t env a globals (f ∷ g ∷ fs) (id ∷ ids) =
+    (ExprWaits t env a id (waiting globals f (g ∷ fs) ids) ⊎ StmtWaits t a id (waiting globals f (g ∷ fs) ids)) × CallersWait t env a globals (g ∷ fs) ids
 
 -- each visit of a run
-abbrev pub AllVisited : Tests → List Decl → Accepted → List (Visit Core Expr Stmt) → Type 0
-AllVisited t ds a [] = Unit {0}
-AllVisited t ds a (v ∷ vs) = Sound v.state × NodeVisited t ds a v.node v.state × CallersWait t ds a v.state.globals v.state.callers v.state.live × AllVisited t ds a vs
+abbrev pub AllVisited : Tests → Environment → Accepted → List (Visit Core Expr Stmt) → Type 0
+AllVisited t env a [] = Unit {0}
+AllVisited t env a (v ∷ vs) = Sound v.state × NodeVisited t env a v.node v.state × CallersWait t env a v.state.globals v.state.callers v.state.live × AllVisited t env a vs
 
 -- ---- calls from outside
 
@@ -158,14 +158,18 @@ KeepsGlobals names (Done x c h) = GlobalsMatch names c.globals
 KeepsGlobals names (Thrown x c h) = GlobalsMatch names c.globals
 KeepsGlobals names (Halt e c h) = GlobalsMatch names c.globals
 
-pub record Soundness (t : Tests) (ds : List Decl) (a : Accepted) : Type 0 where
-  pub initial : GlobalsMatch a.names (initial_globals (environment t ds))
-  pub never_stuck : (id : ℕ) (args : List Value) (globals : List Binding) (h : Meter) → IsCall a id args globals → NotStuck (run_of (environment t ds) id args globals h)
-  pub keeps_globals : (id : ℕ) (args : List Value) (globals : List Binding) (h : Meter) → IsCall a id args globals → KeepsGlobals a.names (run_of (environment t ds) id args globals h)
-  pub visited : (id : ℕ) (args : List Value) (globals : List Binding) (h : Meter) → IsCall a id args globals → AllVisited t ds a (visits_of (environment t ds) id args globals h)
+pub record SoundRuns (t : Tests) (env : Environment) (a : Accepted) : Type 0 where
+  pub initial : GlobalsMatch a.names (initial_globals env)
+  pub never_stuck : (id : ℕ) (args : List Value) (globals : List Binding) (h : Meter) → IsCall a id args globals → NotStuck (run_of env id args globals h)
+  pub keeps_globals : (id : ℕ) (args : List Value) (globals : List Binding) (h : Meter) → IsCall a id args globals → KeepsGlobals a.names (run_of env id args globals h)
+  pub visited : (id : ℕ) (args : List Value) (globals : List Binding) (h : Meter) → IsCall a id args globals → AllVisited t env a (visits_of env id args globals h)
   pub typed_values : (d : ℕ) (e : Expr) (G : Scope) (S : Typed) (p : Assignment) (c : Core) (h : Meter) → typed t e G ≡ Ok S → G.subs ≡ a.signatures → Agrees a.names G.names p c →
-      NotStuck ((meaning (environment t ds) d).expr e c h) × GivesType a.names G.names p S.ty ((meaning (environment t ds) d).expr e c h)
-  pub width_values : WidthValues t ds a
+      NotStuck ((meaning env d).expr e c h) × GivesType a.names G.names p S.ty ((meaning env d).expr e c h)
+  pub width_values : WidthValues t env a
+
+-- of a program
+abbrev pub Soundness : Tests → List Decl → Accepted → Type 0
+Soundness t ds a = SoundRuns t (environment t ds) a
 
 -- ---- typed trees
 
@@ -176,8 +180,11 @@ abbrev pub tree_run : TreeProgram → ℕ → List Value → BareCore → Meter 
 tree_run p id args c h = run (tree_meaning p most_open) (tree_call p id args c) h
 
 -- the typed tree of an expression that the rules accept does what the expression does, in states that agree with its scope; and so does a call
-pub record SameMeaning (t : Tests) (ds : List Decl) (a : Accepted) : Type 0 where
+pub record SameRuns (t : Tests) (env : Environment) (a : Accepted) : Type 0 where
   pub expr : (d : ℕ) (e : Expr) (G : Scope) (S : Typed) (p : Assignment) (c : Core) (h : Meter) → typed t e G ≡ Ok S → G.subs ≡ a.signatures → Agrees a.names G.names p c →
-      (tree_meaning (trees_of t a) d).expr S.tree (erased c) h ≡ erased_outcome ((meaning (environment t ds) d).expr e c h)
+      (tree_meaning (trees_of t a) d).expr S.tree (erased c) h ≡ erased_outcome ((meaning env d).expr e c h)
   pub call : (id : ℕ) (args : List Value) (globals : List Binding) (h : Meter) → IsCall a id args globals →
-      tree_run (trees_of t a) id args (erased (resting globals)) h ≡ erased_outcome (run_of (environment t ds) id args globals h)
+      tree_run (trees_of t a) id args (erased (resting globals)) h ≡ erased_outcome (run_of env id args globals h)
+
+abbrev pub SameMeaning : Tests → List Decl → Accepted → Type 0
+SameMeaning t ds a = SameRuns t (environment t ds) a

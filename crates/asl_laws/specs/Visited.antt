@@ -12,7 +12,7 @@ use Rattle.asl_rules.specs.expressions.Typing.{Typed, Width, Number}
 use Rattle.asl_rules.specs.expressions.Exprs.{found, typed, width}
 use Rattle.asl_rules.specs.statements.Acting.{Done}
 use Rattle.asl_rules.specs.statements.Stmts.{found_stmt}
-use Rattle.asl_rules.specs.declarations.Programs.{Accepted, environment}
+use Rattle.asl_rules.specs.declarations.Programs.{Accepted, Environment, environment}
 use Rattle.asl_rules.specs.runs.States.{Core}
 use Rattle.asl_rules.specs.private.Agreement.{Agrees}
 use Rattle.asl_rules.specs.runs.Plans.{Meter}
@@ -26,30 +26,30 @@ use Rattle.asl_laws.specs.Chosen.{ExprChosen, StmtChosen}
 -- ---- a tree does the same, whatever number of nodes may be open and whatever the meter is
 
 -- as the expression
-abbrev pub TreeDoes : Tests → List Decl → Accepted → Expr → Tree → Core → Type 0
-TreeDoes t ds a e tree c = (d : ℕ) (h : Meter) → (tree_meaning (trees_of t a) d).expr tree (erased c) h ≡ erased_outcome ((meaning (environment t ds) d).expr e c h)
+abbrev pub TreeDoes : Tests → Environment → Accepted → Expr → Tree → Core → Type 0
+TreeDoes t env a e tree c = (d : ℕ) (h : Meter) → (tree_meaning (trees_of t a) d).expr tree (erased c) h ≡ erased_outcome ((meaning env d).expr e c h)
 
 -- as the statement
-abbrev pub ActDoes : Tests → List Decl → Accepted → Stmt → Act → Core → Type 0
-ActDoes t ds a s act c = (d : ℕ) (h : Meter) → (tree_meaning (trees_of t a) d).stmt act (erased c) h ≡ erased_outcome ((meaning (environment t ds) d).stmt s c h)
+abbrev pub ActDoes : Tests → Environment → Accepted → Stmt → Act → Core → Type 0
+ActDoes t env a s act c = (d : ℕ) (h : Meter) → (tree_meaning (trees_of t a) d).stmt act (erased c) h ≡ erased_outcome ((meaning env d).stmt s c h)
 
 -- ---- the nodes that are visited
 
 -- an expression has a type, or is a width or a number that is written in a type; the tree of that judgement does the same, and has what the run finds by names and
 -- by values. A width and a number are of no form that finds something by values
-abbrev pub IsJudgedSame : Tests → List Decl → Accepted → Expr → Scope → Core → Type 0
-IsJudgedSame t ds a e G c =
-    ((S : Typed) × (typed t e G ≡ Ok S) × TreeDoes t ds a e S.tree c × ExprChosen t ds (out-Expr e) S.tree c) ⊎ (((W : Width) × (width t e G ≡ Ok W) × TreeDoes t ds a e W.tree c) ⊎ ((N : Number) × ((found t e).number G ≡ Ok N) × TreeDoes t ds a e N.tree c))
+abbrev pub IsJudgedSame : Tests → Environment → Accepted → Expr → Scope → Core → Type 0
+IsJudgedSame t env a e G c =
+    ((S : Typed) × (typed t e G ≡ Ok S) × TreeDoes t env a e S.tree c × ExprChosen env (out-Expr e) S.tree c) ⊎ (((W : Width) × (width t e G ≡ Ok W) × TreeDoes t env a e W.tree c) ⊎ ((N : Number) × ((found t e).number G ≡ Ok N) × TreeDoes t env a e N.tree c))
 
-pub record ExprSame (t : Tests) (ds : List Decl) (a : Accepted) (e : Expr) (c : Core) : Type 0 where
+pub record ExprSame (t : Tests) (env : Environment) (a : Accepted) (e : Expr) (c : Core) : Type 0 where
   pub scope : Scope
   pub present : Assignment
   pub subs_are : scope.subs ≡ a.signatures
   pub stands : StandsIn a.signatures scope.class c.live
-  pub judged : IsJudgedSame t ds a e scope c
+  pub judged : IsJudgedSame t env a e scope c
   pub agrees : Agrees a.names scope.names present c
 
-pub record StmtSame (t : Tests) (ds : List Decl) (a : Accepted) (s : Stmt) (c : Core) : Type 0 where
+pub record StmtSame (t : Tests) (env : Environment) (a : Accepted) (s : Stmt) (c : Core) : Type 0 where
   pub body : Body
   pub done : Done
   pub present : Assignment
@@ -57,13 +57,17 @@ pub record StmtSame (t : Tests) (ds : List Decl) (a : Accepted) (s : Stmt) (c : 
   pub stands : IsBodyOf a.signatures body c.live
   pub judged : found_stmt t s body ≡ Ok done
   pub agrees : Agrees a.names body.scope.names present c
-  pub same : ActDoes t ds a s done.act c
-  pub chosen : StmtChosen t ds (Agrees a.names body.scope.names present) (out-Stmt s) done.act c
+  pub same : ActDoes t env a s done.act c
+  pub chosen : StmtChosen env (Agrees a.names body.scope.names present) (out-Stmt s) done.act c
 
-abbrev pub NodeSame : Tests → List Decl → Accepted → Entered Expr Stmt → Core → Type 0
-NodeSame t ds a (AtExpr e) c = ExprSame t ds a e c
-NodeSame t ds a (AtStmt s) c = StmtSame t ds a s c
+abbrev pub NodeSame : Tests → Environment → Accepted → Entered Expr Stmt → Core → Type 0
+NodeSame t env a (AtExpr e) c = ExprSame t env a e c
+NodeSame t env a (AtStmt s) c = StmtSame t env a s c
 
+abbrev pub EachSame : Tests → Environment → Accepted → List (Visit Core Expr Stmt) → Type 0
+EachSame t env a [] = Unit {0}
+EachSame t env a (v ∷ vs) = NodeSame t env a v.node v.state × EachSame t env a vs
+
+-- in a program
 abbrev pub AllSame : Tests → List Decl → Accepted → List (Visit Core Expr Stmt) → Type 0
-AllSame t ds a [] = Unit {0}
-AllSame t ds a (v ∷ vs) = NodeSame t ds a v.node v.state × AllSame t ds a vs
+AllSame t ds a vs = EachSame t (environment t ds) a vs

@@ -1,8 +1,7 @@
 -- What width expressions give that are evaluated, wherever they are written: in types, in constraints, in braces, in slices.
-use Rattle.std.specs.Prelude.{◌≡◌, ℕ, ℤ, ◌⊎◌, List, Some, Ok}
+use Rattle.std.specs.Prelude.{◌≡◌, ℕ, ℤ, ◌⊎◌, Some, Ok}
 use Rattle.asl_syn.specs.declared.code.DynCode.{DynCode}
 use Rattle.asl_syn.specs.declared.code.DynCode.TheVariants.{D01, D03, D12, D13}
-use Rattle.asl_syn.specs.declared.tree.Decl.{Decl}
 use Rattle.asl_syn.specs.declared.tree.Expr.{Expr}
 use Rattle.asl_poly.specs.Fractions.{Fraction}
 use Rattle.asl_poly.specs.Poly.{HasWidth}
@@ -12,7 +11,7 @@ use Rattle.asl_rules.specs.types.Numbers.{fraction, wholes, IsWhole, present}
 use Rattle.asl_rules.specs.declarations.Scopes.{Scope}
 use Rattle.asl_rules.specs.expressions.Typing.{Width, Number}
 use Rattle.asl_rules.specs.expressions.Exprs.{found, width}
-use Rattle.asl_rules.specs.declarations.Programs.{Accepted, environment}
+use Rattle.asl_rules.specs.declarations.Programs.{Accepted, Environment}
 use Rattle.asl_rules.specs.values.Values.{Value, int}
 use Rattle.asl_rules.specs.runs.States.{Core}
 use Rattle.asl_rules.specs.private.Agreement.{Agrees}
@@ -37,10 +36,10 @@ HasNumber e c z = (r : Fraction) × (fraction e (wholes (present c)) ≡ Some r)
 
 -- in a state that agrees with its scope a width gives the integer that its polynomial is there, and an end of a constraint that names no
 -- atom its own; each is what the expression is over fractions
-pub record WidthValues (t : Tests) (ds : List Decl) (a : Accepted) : Type 0 where
+pub record WidthValues (t : Tests) (env : Environment) (a : Accepted) : Type 0 where
   pub widths : (d : ℕ) (e : Expr) (G : Scope) (W : Width) (p : Assignment) (c : Core) (h : Meter) →
       width t e G ≡ Ok W → Agrees a.names G.names p c →
-      GivesInteger c (λ z. HasWidth W.poly p z × HasNumber e c z) ((meaning (environment t ds) d).expr e c h)
+      GivesInteger c (λ z. HasWidth W.poly p z × HasNumber e c z) ((meaning env d).expr e c h)
   pub numbers : (d : ℕ) (e : Expr) (G : Scope) (N : Number) (p : Assignment) (c : Core) (h : Meter) →
       (found t e).number G ≡ Ok N → Agrees a.names G.names p c →
-      GivesInteger c (λ z. (z ≡ N.number) × HasNumber e c z) ((meaning (environment t ds) d).expr e c h)
+      GivesInteger c (λ z. (z ≡ N.number) × HasNumber e c z) ((meaning env d).expr e c h)

@@ -17,7 +17,8 @@ ghost use Rattle.asl_rules.specs.runs.Machines.{run_of, visits_of};
 ghost use Rattle.asl_rules.specs.declarations.Names.{names_rule, all_declared};
 ghost use Rattle.asl_laws.specs.OneRun.{OneRun};
 ghost use Rattle.asl_rules.specs.runs.Plans.{Meter};
-ghost use Rattle.asl_rules.specs.declarations.Declarations.{names_of_program};
+ghost use Rattle.asl_rules.specs.declarations.Turns.{SoFar, turns, all_waiting, final, faults_rule, names_of_program};
+ghost use Rattle.asl_rules.specs.declarations.Uses.{cycles_rule};
 ghost use Rattle.asl_rules.specs.declarations.Programs.{Head, funcs_of, signatures, signatures_rule, Environment, Entries, Accepted, ProgramOk, ReadOk, ReadFault, default_decls, environment, final_decls, read_verdict, signature_rule, verdict};
 ghost use Rattle.asl_rules.specs.declarations.Scopes.{Entry as Names, Scope, Body, is_free, type_of_name};
 ghost use Rattle.asl_rules.specs.statements.Acting.{Done};
@@ -45,11 +46,12 @@ ghost use Rattle.asl_syn.specs.declared.code.StaticCode.TheVariants.{T04};
 ghost use Rattle.asl_syn.specs.declared.tree.Decl.{Decl};
 ghost use Rattle.asl_syn.specs.declared.read.ReadDecl.{ReadDecl};
 ghost use Rattle.asl_laws.specs.Budgets.{with_more, SameWithMore, SameWordsWithMore};
-ghost use Rattle.asl_laws.specs.Evaluated.{Evaluates, HasCause};
+ghost use Rattle.asl_laws.specs.Evaluated.{Evaluates, HasCause, names_after};
 ghost use Rattle.asl_laws.specs.MadeNames.{MadeApart, NoneMade};
 ghost use Rattle.asl_laws.specs.Plain.{as_read};
 ghost use Rattle.asl_laws.specs.Placeless.{StandSame, JudgesSame};
 ghost use Rattle.asl_laws.specs.Reported.{RunsWell};
+ghost use Rattle.asl_laws.specs.Settled.{StaysJudged, Settled, AllWell};
 ghost use Rattle.asl_laws.specs.Codes.{HasRuleCode, HasReadingCode};
 ghost use Rattle.asl_laws.specs.Visited.{AllSame};
 ghost use Rattle.asl_laws.specs.Wider.{Fits, FitsLimit, WordsFitLimit};
@@ -154,7 +156,7 @@ pub fn law5()
 
 /// Kinds by names. Where types agree with what is declared, comparing declared names by the names and comparing kinds by structure is
 /// the same (`kinds`). In each program that is read they do, be it accepted or refused. Each name of a well-formed program stands for one
-/// type, and what is declared agrees (`declared`). Of declarations whose names are apart, so do the names in each round in which they are
+/// type, and what is declared agrees (`declared`). Of declarations whose names are apart, so do the names in each turn in which one is
 /// judged, those of the scope of all signatures, and the types of the signatures with the names that bodies begin with (`agree`). In a scope
 /// whose names and results have well-formed types, expressions have such types, and so are the types that are written (`types`). Each
 /// statement leaves such a scope, and the lists of a loop and of a catcher are judged in such a scope (`kept`).
@@ -183,6 +185,20 @@ pub fn scopes_law()
     ensures indices { (t : Tests) (i : Ident) (d : Direction) (a b : Expr) (B : Body) → KeepsRules B.scope → is_free i.text B.scope.names ≡ true → KeepsRules (with_index i (index_type t d a b B.scope) B).scope }
     ensures catchers { (t : Tests) (o : Option Ident) (name : List ℕ) (T : Ty) (B C : Body) → KeepsRules B.scope → type_of_name name B.scope.names ≡ Some T → with_caught o T B ≡ Ok C → KeepsRules C.scope }
     ensures places { (t : Tests) (G : Scope) (names : List Names) → StandSame G.names names → JudgesSame t G names }
+{}
+
+/// The order of declarations decides nothing. Those of types and of storage are judged in turns, one at a time, and what was judged at a turn,
+/// well formed or faulty, is so at each later one, where it is judged so by the names that are visible then (`still`). After as many turns as
+/// there are declarations none is left (`ends`). Then each that takes a turn, and uses well-formed ones alone, is what its rule says of it where
+/// the names of the program are visible, and each other one waits (`settled`). If no declaration reaches itself, no other outcomes have this
+/// property, in whichever order they are found (`only`), and if besides none is faulty, each that takes a turn is well formed (`well`).
+#[tactic(auto)]
+pub fn turns_law()
+    ensures still { (t : Tests) (ds : List Decl) (n m : ℕ) → n ≤ m → StaysJudged t (names_after t m ds) ds (turns t n ds (all_waiting ds)) (turns t m ds (all_waiting ds)) }
+    ensures ends { (t : Tests) (ds : List Decl) (n : ℕ) → length ds ≤ n → turns t n ds (all_waiting ds) ≡ final t ds }
+    ensures settled { (t : Tests) (ds : List Decl) → Settled t ds (final t ds) }
+    ensures only { (t : Tests) (ds : List Decl) (js : SoFar) → Settled t ds js → cycles_rule ds ds ≡ Ok tt → js ≡ final t ds }
+    ensures well { (t : Tests) (ds : List Decl) → cycles_rule ds ds ≡ Ok tt → faults_rule (final t ds) ≡ Ok tt → AllWell ds (final t ds) }
 {}
 
 /// For all files that are read to declarations which are well formed, the names of the environment are what the declarations alone

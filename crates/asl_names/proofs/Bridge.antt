@@ -1,12 +1,10 @@
--- The graph of a program is of its declarations: an edge is a use, a way a path, and an order one of declarations.
-use Rattle.std.proofs.Common.{◌≡◌, ℕ, zero, suc, ◌+◌, ◌<◌, inl, inr, Bool, true, false, not, ◌&&◌, ◌||◌, cond, List, [], ◌∷◌, ◌++◌, length, map, get_or, Option, Some, None, refl, sym, ap, ◌∙◌, subst, arith, append_assoc}
+-- The graph of a program is of its declarations: an edge is a use, and a way a path.
+use Rattle.std.proofs.Common.{◌≡◌, ℕ, zero, suc, ◌+◌, inl, inr, Bool, true, false, not, ◌&&◌, ◌||◌, cond, List, [], ◌∷◌, ◌++◌, length, map, get_or, Option, Some, None, refl, sym, ap, ◌∙◌, subst, arith}
 use Rattle.std.specs.Prelude.{◌==◌}
 use Rattle.std.specs.List.{slice_get}
 use Rattle.std.specs.Str.{bytes_eq}
 use Rattle.std.specs.Cmp.Lexicographic.{bytes_decides, nat_list_eq_equiv}
 use Rattle.std.proofs.lemmas.Bool.{eq-eqb, eqb-true}
-use Rattle.std.proofs.lemmas.Option.{slice_get_within}
-use Rattle.std.proofs.lemmas.List.{append-nil}
 use Rattle.asl_syn.specs.declared.tree.Decl.{Decl}
 use Rattle.asl_syn.specs.declared.tree.Decl.TheVariants as dc
 use Rattle.asl_syn.specs.declared.tree.Ident.{Ident}
@@ -14,11 +12,12 @@ use Rattle.asl_rules.specs.declarations.Names.{Declared, declared_as, declared_b
 use Rattle.asl_rules.specs.declarations.Uses.{Used, uses, is_declared, declares, any_declared, uses_one_of, leads_by, leads_to, reaches_itself}
 use Rattle.asl_names.specs.private.Firsts.{Places, first_place, kept_by, kept}
 use Rattle.asl_names.specs.private.Graphs.{all_kept, plain_names, named_at, all_places, declarers, with_used, added, graph_of}
-use Rattle.asl_names.specs.private.Orders.{Graph, row, has_mark, all_marked, is_among, all_among, each_behind, IsStuck, is_way, HasWay}
-use Rattle.asl_rules.proofs.basics.Tests.{no, some_none, some_same, both, either, or_first, or_second, and_true, same_name, name_is}
+use Rattle.asl_turns.specs.Graphs.{Graph, row, is_among}
+use Rattle.asl_names.specs.private.Ways.{is_way, HasWay}
+use Rattle.asl_rules.proofs.basics.Tests.{no, some_none, some_same, both, either, or_second, and_true, same_name, name_is}
 use Rattle.asl_rules.proofs.basics.Tests.{none_some}
 use Rattle.asl_rules.proofs.verdict.Distinct.{In, Distinct, Plain, NotIn, front_not_in, rest_distinct, plain_in}
-use Rattle.asl_rules.proofs.verdict.Reaching.{step_of, leads_step, Reaches, short, Ordered, ordered_apart, UsesOne, none_stuck}
+use Rattle.asl_rules.proofs.verdict.Reaching.{step_of, leads_step, Reaches, short}
 
 -- ---- places of declarations
 
@@ -327,141 +326,3 @@ module _ (ds : List Decl) (distinct : Distinct (all_declared ds)) where
 
   pub reaches_way : (n : ℕ) (d : Decl) → At ds n d → reaches_itself ds d ≡ true → HasWay (graph_of ds) n n
   reaches_way n d a h = leads_way (length ds) n n d d a a h
-
-  -- ---- an order is one of declarations
-
-  with_taken : Option Decl → List Decl → List Decl
-  with_taken None acc = acc
-  with_taken (Some d) acc = d ∷ acc
-
-  taken : List ℕ → List Decl → List Decl
-  taken [] acc = acc
-  taken (n ∷ ns) acc = taken ns (with_taken (slice_get ds n) acc)
-
-  -- the declarations at these places are among those
-  Holds : List ℕ → List Decl → Type 0
-  Holds before acc = (k : ℕ) (d : Decl) → is_among k before ≡ true → At ds k d → In d acc
-
-  pub among_all : (k : ℕ) (ns ms : List ℕ) → all_among ns ms ≡ true → is_among k ns ≡ true → is_among k ms ≡ true
-  among_all k [] ms h i = no i
-  among_all k (n ∷ ns) ms h i =
-      let p = both (is_among n ms) (all_among ns ms) h in
-      either (n == k) (is_among k ns) i (λ q. subst (λ z. is_among z ms ≡ true) (eqb-true n k q) p.0) (among_all k ns ms p.1)
-
-  holds_more : (before : List ℕ) (acc : List Decl) (n : ℕ) → Holds before acc → Holds (before ++ n ∷ []) (with_taken (slice_get ds n) acc)
-  unfolding Holds with_taken
-  holds_more before acc n h k d i a =
-      either (is_among k before) ((n == k) || false) (sym (among_both k before (n ∷ [])) ∙ i)
-      (λ q. later (slice_get ds n) (h k d q a))
-      (λ q. here (sym (or_nothing (n == k)) ∙ q))
-    where
-      later : (o : Option Decl) → In d acc → In d (with_taken o acc)
-      later None j = j
-      later (Some e) j = inr j
-
-      here : (n == k) ≡ true → In d (with_taken (slice_get ds n) acc)
-      here q = subst (λ o. In d (with_taken o acc)) (sym (ap (slice_get ds) (eqb-true n k q) ∙ a)) (inl refl)
-
-  ordered_more : (before : List ℕ) (acc : List Decl) (n : ℕ) → Holds before acc → Ordered ds acc → all_among (row (graph_of ds) n) before ≡ true → Ordered ds (with_taken (slice_get ds n) acc)
-  unfolding Holds with_taken
-  ordered_more before acc n h o r = by (slice_get ds n) refl
-    where
-      by : (p : Option Decl) → slice_get ds n ≡ p → Ordered ds (with_taken p acc)
-      by None q = o
-      by (Some d) q = ((at_in ds n d q, λ e i u. let m = in_at ds e i in h m.0 e (among_all m.0 (row (graph_of ds) n) before r (edge_is n m.0 d e q m.1 ∙ u)) m.1), o)
-
-  ordered_taken : (before ns : List ℕ) (acc : List Decl) → Holds before acc → Ordered ds acc → each_behind (graph_of ds) before ns ≡ true → Ordered ds (taken ns acc) × Holds (before ++ ns) (taken ns acc)
-  unfolding taken
-  ordered_taken before [] acc h o b = (o, subst (λ l. Holds l acc) (sym (append-nil before)) h)
-  ordered_taken before (n ∷ ns) acc h o b =
-      let p = both (all_among (row (graph_of ds) n) before) (each_behind (graph_of ds) (before ++ n ∷ []) ns) b in
-      let r = ordered_taken (before ++ n ∷ []) ns (with_taken (slice_get ds n) acc) (holds_more before acc n h) (ordered_more before acc n h o p.0) p.1 in
-      (r.0, subst (λ l. Holds l (taken ns (with_taken (slice_get ds n) acc))) (append_assoc before (n ∷ []) ns) r.1)
-
-  -- none of an order reaches itself
-  pub order_apart : (nodes : List ℕ) → each_behind (graph_of ds) [] nodes ≡ true → (n : ℕ) (d : Decl) → is_among n nodes ≡ true → At ds n d → reaches_itself ds d ≡ false
-  unfolding Holds
-  order_apart nodes b n d i a =
-      let r = ordered_taken [] nodes [] (λ k d q. no q) tt b in
-      ordered_apart ds (taken nodes []) r.0 d (r.1 n d i a)
-
-  -- ---- what is left
-
-  -- the declarations without a mark
-  left_out : List Bool → ℕ → List Decl → List Decl
-  left_out marks n [] = []
-  left_out marks n (d ∷ xs) = cond (has_mark marks n) (left_out marks (suc n) xs) (d ∷ left_out marks (suc n) xs)
-
-  record Left (marks : List Bool) (n : ℕ) (xs : List Decl) (d : Decl) : Type 0 where
-    pub place : ℕ
-    pub at : At xs place d
-    pub unmarked : has_mark marks (n + place) ≡ false
-
-  left_of : (marks : List Bool) (n : ℕ) (xs : List Decl) (d : Decl) → In d (left_out marks n xs) → Left marks n xs d
-  unfolding left_out
-  left_of marks n [] d i = absurd i
-  left_of marks n (x ∷ xs) d i = by (has_mark marks n) refl i (left_of marks (suc n) xs d)
-    where
-      next : Left marks (suc n) xs d → Left marks n (x ∷ xs) d
-      next r = let z : suc n + r.place ≡ n + suc r.place = omega arith in record { place = suc r.place; at = r.at; unmarked = subst (λ m. has_mark marks m ≡ false) z r.unmarked }
-
-      by : (b : Bool) → has_mark marks n ≡ b → In d (cond b (left_out marks (suc n) xs) (x ∷ left_out marks (suc n) xs)) → (In d (left_out marks (suc n) xs) → Left marks (suc n) xs d) → Left marks n (x ∷ xs) d
-      by true q j f = next (f j)
-      by false q (inl e) f = let z : n ≡ n + 0 = omega arith in record { place = 0; at = ap Some e; unmarked = subst (λ m. has_mark marks m ≡ false) z q }
-      by false q (inr j) f = next (f j)
-
-  is_left : (marks : List Bool) (n : ℕ) (xs : List Decl) (j : ℕ) (d : Decl) → At xs j d → has_mark marks (n + j) ≡ false → In d (left_out marks n xs)
-  unfolding left_out
-  is_left marks n [] j d a h = none_some d a
-  is_left marks n (x ∷ xs) zero d a h =
-      let z : n + zero ≡ n = omega arith in
-      subst (λ b. In d (cond b (left_out marks (suc n) xs) (x ∷ left_out marks (suc n) xs))) (sym (ap (has_mark marks) (sym z) ∙ h)) (inl (some_same x d a))
-  is_left marks n (x ∷ xs) (suc j) d a h =
-      let z : n + suc j ≡ suc n + j = omega arith in
-      by (has_mark marks n) (is_left marks (suc n) xs j d a (ap (has_mark marks) (sym z) ∙ h))
-    where
-      by : (b : Bool) → In d (left_out marks (suc n) xs) → In d (cond b (left_out marks (suc n) xs) (x ∷ left_out marks (suc n) xs))
-      by true i = i
-      by false i = inr i
-
-  pub one_unmarked : (marks : List Bool) (ns : List ℕ) → all_marked marks ns ≡ false → (j : ℕ) × (is_among j ns ≡ true) × (has_mark marks j ≡ false)
-  one_unmarked marks [] h = no (sym h)
-  one_unmarked marks (n ∷ ns) h = by (has_mark marks n) refl h (one_unmarked marks ns)
-    where
-      by : (b : Bool) → has_mark marks n ≡ b → (b && all_marked marks ns) ≡ false → (all_marked marks ns ≡ false → (j : ℕ) × (is_among j ns ≡ true) × (has_mark marks j ≡ false)) → (j : ℕ) × (is_among j (n ∷ ns) ≡ true) × (has_mark marks j ≡ false)
-      by false q k f = (n, or_first (n == n) (is_among n ns) (eq-eqb n n refl), q)
-      by true q k f = let r = f k in (r.0, or_second (n == r.0) (is_among r.0 ns) r.1, r.2)
-
-  -- where none of those that are left reaches itself, none is left
-  pub none_left_out : (marks : List Bool) → IsStuck (graph_of ds) marks → ((n : ℕ) (d : Decl) → At ds n d → has_mark marks n ≡ false → reaches_itself ds d ≡ false) → (n : ℕ) → n < length ds → has_mark marks n ≡ true
-  none_left_out marks s r n l = by (has_mark marks n) refl
-    where
-      here : (m : ℕ) → has_mark marks (0 + m) ≡ false → has_mark marks m ≡ false
-      here m h = let z : 0 + m ≡ m = omega arith in ap (has_mark marks) (sym z) ∙ h
-
-      there : (m : ℕ) → has_mark marks m ≡ false → has_mark marks (0 + m) ≡ false
-      there m h = let z : m ≡ 0 + m = omega arith in ap (has_mark marks) (sym z) ∙ h
-
-      uses_left : (d : Decl) → In d (left_out marks 0 ds) → UsesOne ds d (left_out marks 0 ds)
-      uses_left d i =
-          let p = left_of marks 0 ds d i in
-          let w = slice_get_within ds p.place d p.at in
-          let small : p.place < length (graph_of ds) = subst (λ m. p.place < m) (sym (length_map ds)) w in
-          let j = one_unmarked marks (row (graph_of ds) p.place) (s p.place small (here p.place p.unmarked)) in
-          let e = edge_at p.place j.0 j.1 in
-          record { one = e.0; is_in = is_left marks 0 ds j.0 e.0 e.1 (there j.0 j.2); is_used = sym (edge_is p.place j.0 d e.0 p.at e.1) ∙ j.1 }
-        where
-          length_map : (xs : List Decl) → length (map (λ d. added (declarers ds) (uses d) []) xs) ≡ length xs
-          length_map [] = refl
-          length_map (x ∷ xs) = ap suc (length_map xs)
-
-      by : (b : Bool) → has_mark marks n ≡ b → b ≡ true
-      by true q = refl
-      by false q =
-          let d = some_at ds n l in
-          absurd (none_stuck ds (left_out marks 0 ds) (λ d i. let p = left_of marks 0 ds d i in at_in ds p.place d p.at) (λ d i. let p = left_of marks 0 ds d i in r p.place d p.at (here p.place p.unmarked)) uses_left d.0 (is_left marks 0 ds n d.0 d.1 (there n q)))
-        where
-          some_at : (xs : List Decl) (n : ℕ) → n < length xs → (d : Decl) × At xs n d
-          some_at [] n l = absurd (omega (arith, l))
-          some_at (x ∷ xs) zero l = (x, refl)
-          some_at (x ∷ xs) (suc n) l = some_at xs n (omega (arith, l))

@@ -1,10 +1,11 @@
 -- Numbers that don't rise along edges: a node on a cycle uses one of its own number.
-use Rattle.std.proofs.Common.{◌≡◌, ℕ, zero, suc, ◌+◌, ◌<◌, ◌≤◌, ◌⊎◌, inl, inr, Bool, true, false, ◌&&◌, ◌||◌, List, [], ◌∷◌, length, get_or, refl, sym, ap, ◌∙◌, subst, arith}
+use Rattle.std.proofs.Common.{◌≡◌, ℕ, zero, suc, ◌+◌, ◌<◌, ◌≤◌, ◌⊎◌, inl, inr, true, List, [], ◌∷◌, length, refl, sym, ap, ◌∙◌, subst, arith}
 use Rattle.std.specs.Prelude.{◌==◌, nat_le}
 use Rattle.std.proofs.lemmas.Bool.{eq-eqb, eqb-true, leb-true}
-use Rattle.asl_names.specs.private.Orders.{Graph, row, is_among, is_way, HasWay}
+use Rattle.asl_turns.specs.Graphs.{Graph, row, is_among}
+use Rattle.asl_names.specs.private.Ways.{is_way, HasWay}
 use Rattle.asl_names.specs.private.Components.{level, has_level, are_below, IsFalling}
-use Rattle.asl_rules.proofs.basics.Tests.{no, both, and_true, either, or_first, or_second}
+use Rattle.asl_rules.proofs.basics.Tests.{no, both, either, or_first, or_second}
 use Rattle.asl_names.proofs.Ways.{below_or}
 
 le_of : (m n : ℕ) → nat_le m n ≡ true → m ≤ n

@@ -1,5 +1,5 @@
 -- The rule of declarations that reach themselves, by the graph.
-use Rattle.std.proofs.Common.{◌≡◌, ℕ, zero, suc, ◌+◌, ◌<◌, ◌⊎◌, inl, inr, Bool, true, false, not, List, [], ◌∷◌, length, get_or, map, Some, Ok, Err, refl, sym, ap, ◌∙◌, subst, arith}
+use Rattle.std.proofs.Common.{◌≡◌, ℕ, zero, suc, ◌<◌, Bool, true, false, not, List, [], ◌∷◌, length, get_or, map, Some, Ok, Err, refl, sym, ap, ◌∙◌, subst}
 use Rattle.std.proofs.lemmas.Option.{slice_get_within, slice_get-get_or}
 use Rattle.asl_syn.specs.declared.code.StaticCode.TheVariants.{T03}
 use Rattle.asl_syn.specs.declared.tree.Decl.{Decl}
@@ -9,12 +9,11 @@ use Rattle.asl_rules.specs.Faults.{◌>>◌, need, fault_of}
 use Rattle.asl_rules.specs.declarations.Names.{names_rule, all_declared}
 use Rattle.asl_rules.specs.declarations.Uses.{leads_by, leads_to, reaches_itself, cycles_rule}
 use Rattle.asl_names.specs.private.Graphs.{graph_of}
-use Rattle.asl_names.specs.private.Orders.{has_mark, IsOrder, IsStuck, HasWay, HasEdges}
-use Rattle.asl_names.specs.private.Cycles.{name_of, NoneBack}
+use Rattle.asl_names.specs.private.Ways.{HasWay, HasEdges}
+use Rattle.asl_names.specs.private.Cycles.{name_of}
 use Rattle.asl_rules.proofs.basics.Tests.{no, some_same}
 use Rattle.asl_rules.proofs.verdict.Distinct.{distinct_of}
-use Rattle.asl_names.proofs.Ways.{below_or}
-use Rattle.asl_names.proofs.Bridge.{At, edge_at, way_reaches, reaches_way, order_apart, none_left_out}
+use Rattle.asl_names.proofs.Bridge.{At, edge_at, way_reaches, reaches_way}
 
 length_map : {A B : Type 0} (f : A → B) (xs : List A) → length (map f xs) ≡ length xs
 length_map f [] = refl
@@ -60,24 +59,3 @@ is_false false h = refl
 
 pub not_back : (ds : List Decl) (n : ℕ) (d : Decl) (back : Bool) → names_rule [] (all_declared ds) ≡ Ok tt → At ds n d → back ≡ false → (HasWay (graph_of ds) n n → back ≡ true) → reaches_itself ds d ≡ false
 not_back ds n d back h a q f = is_false (reaches_itself ds d) (λ r. no (sym q ∙ f (reaches_way ds (distinct_of (all_declared ds) [] h) n d a r)))
-
-pub apart_of : (ds : List Decl) (nodes : List ℕ) (marks : List Bool) → names_rule [] (all_declared ds) ≡ Ok tt → IsOrder (graph_of ds) nodes marks → (n : ℕ) (d : Decl) → has_mark marks n ≡ true → At ds n d → reaches_itself ds d ≡ false
-apart_of ds nodes marks h o n d m a = order_apart ds (distinct_of (all_declared ds) [] h) nodes o.1 n d (sym (o.2 n) ∙ m) a
-
-pub none_back_next : (ds : List Decl) (at : ℕ) (d : Decl) → NoneBack ds at → At ds at d → reaches_itself ds d ≡ false → NoneBack ds (at + 1)
-none_back_next ds at d f a h n e l b = by (below_or n at (omega (arith, l)))
-  where
-    by : (n < at) ⊎ (n ≡ at) → reaches_itself ds e ≡ false
-    by (inl q) = f n e q b
-    by (inr q) = subst (λ x. reaches_itself ds x ≡ false) (at_one ds at d e a (subst (λ m. At ds m e) q b)) h
-
-pub all_in_order : (ds : List Decl) (marks : List Bool) → names_rule [] (all_declared ds) ≡ Ok tt → IsStuck (graph_of ds) marks → NoneBack ds (length ds) → (n : ℕ) → n < length ds → has_mark marks n ≡ true
-all_in_order ds marks h s r n l = none_left_out ds (distinct_of (all_declared ds) [] h) marks s (λ m d a q. r m d (slice_get_within ds m d a) a) n l
-
-pub rest_apart : (ds : List Decl) (marks : List Bool) (n : ℕ) (d : Decl) (back : Bool) → names_rule [] (all_declared ds) ≡ Ok tt → At ds n d → ((m : ℕ) (e : Decl) → has_mark marks m ≡ true → At ds m e → reaches_itself ds e ≡ false) →
-    back ≡ false → (has_mark marks n ≡ false → HasWay (graph_of ds) n n → back ≡ true) → reaches_itself ds d ≡ false
-rest_apart ds marks n d back h a r q f = by (has_mark marks n) refl
-  where
-    by : (b : Bool) → has_mark marks n ≡ b → reaches_itself ds d ≡ false
-    by true e = r n d e a
-    by false e = not_back ds n d back h a q (f e)

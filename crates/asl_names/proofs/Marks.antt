@@ -1,10 +1,11 @@
--- Marks, the nodes that are listed with them, and orders.
-use Rattle.std.proofs.Common.{◌≡◌, ◌≢◌, ℕ, zero, suc, ◌+◌, ◌<◌, Bool, true, false, ◌&&◌, ◌||◌, List, [], ◌∷◌, ◌++◌, length, get_or, set, replicate, refl, sym, ap, ◌∙◌, subst, arith, get_or-set_same, get_or-set_other, append_assoc}
-use Rattle.std.proofs.lemmas.List.{append-nil, length-set}
-use Rattle.std.proofs.lemmas.Bool.{eq-eqb, eqb-true, eqb-false}
+-- Marks, and the nodes that are listed with them.
+use Rattle.std.proofs.Common.{◌≡◌, ◌≢◌, ℕ, zero, suc, ◌+◌, ◌<◌, Bool, true, false, ◌||◌, List, [], ◌∷◌, ◌++◌, length, get_or, set, replicate, refl, sym, ap, ◌∙◌, subst, arith, get_or-set_same, get_or-set_other}
+use Rattle.std.proofs.lemmas.Bool.{eqb-true, eqb-false}
 use Rattle.std.specs.Prelude.{◌==◌}
-use Rattle.asl_names.specs.private.Orders.{Graph, row, has_mark, all_marked, unmarked, is_among, IsListed, room, all_among, each_behind, IsOrder}
-use Rattle.asl_rules.proofs.basics.Tests.{no, both, and_true, or_first, or_second}
+use Rattle.asl_turns.specs.Graphs.{has_mark, is_among}
+use Rattle.asl_names.specs.private.Ways.{unmarked, IsListed, room}
+use Rattle.asl_rules.proofs.basics.Tests.{no}
+use Rattle.asl_turns.proofs.Marks.{among_last}
 
 -- ---- one more mark
 
@@ -14,10 +15,6 @@ unmarked_set (true ∷ marks) zero l h = no (sym h)
 unmarked_set (false ∷ marks) zero l h = refl
 unmarked_set (true ∷ marks) (suc n) l h = unmarked_set marks n (omega (arith, l)) h
 unmarked_set (false ∷ marks) (suc n) l h = let e = unmarked_set marks n (omega (arith, l)) h in omega (arith, e)
-
-among_last : (n : ℕ) (ns : List ℕ) → is_among n (ns ++ n ∷ []) ≡ true
-among_last n [] = or_first (n == n) false (eq-eqb n n refl)
-among_last n (m ∷ ns) = or_second (m == n) (is_among n (ns ++ n ∷ [])) (among_last n ns)
 
 among_other : (n m : ℕ) (ns : List ℕ) → (n == m) ≡ false → is_among m (ns ++ n ∷ []) ≡ is_among m ns
 among_other n m [] h = ap (λ b. b || false) h
@@ -50,23 +47,3 @@ none_listed (suc count) (suc n) = none_listed count n
 
 pub listed_none : (count : ℕ) → IsListed [] (replicate count false)
 listed_none count = none_listed count
-
--- ---- orders
-
-marked_among : (nodes : List ℕ) (marks : List Bool) → IsListed nodes marks → (ns : List ℕ) → all_marked marks ns ≡ all_among ns nodes
-marked_among nodes marks h [] = refl
-marked_among nodes marks h (n ∷ ns) = ap (λ b. b && all_marked marks ns) (h n) ∙ ap (λ b. is_among n nodes && b) (marked_among nodes marks h ns)
-
-each_last : (g : Graph) (before ns : List ℕ) (n : ℕ) → each_behind g before ns ≡ true → all_among (row g n) (before ++ ns) ≡ true → each_behind g before (ns ++ n ∷ []) ≡ true
-each_last g before [] n h k = and_true (all_among (row g n) before) true (subst (λ l. all_among (row g n) l ≡ true) (append-nil before) k) refl
-each_last g before (m ∷ ns) n h k =
-    let p = both (all_among (row g m) before) (each_behind g (before ++ m ∷ []) ns) h in
-    and_true (all_among (row g m) before) (each_behind g (before ++ m ∷ []) (ns ++ n ∷ [])) p.0
-    (each_last g (before ++ m ∷ []) ns n p.1 (subst (λ l. all_among (row g n) l ≡ true) (sym (append_assoc before (m ∷ []) ns)) k))
-
-pub order_more : (g : Graph) (nodes : List ℕ) (marks : List Bool) (n : ℕ) → IsOrder g nodes marks → n < length g → all_marked marks (row g n) ≡ true → IsOrder g (nodes ++ n ∷ []) (set marks n true)
-order_more g nodes marks n o l h = (
-  length-set marks n true ∙ o.0,
-  each_last g [] nodes n o.1 (sym (marked_among nodes marks o.2 (row g n)) ∙ h),
-  listed_more nodes marks n (omega (arith, o.0, l)) o.2,
-)

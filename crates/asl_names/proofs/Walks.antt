@@ -1,6 +1,5 @@
 -- The walks over the names are the rules: what is kept answers as the declarations before do.
-use Rattle.std.proofs.Common.{◌≡◌, ℕ, Bool, true, false, ◌&&◌, not, if◌then◌else◌, cond, List, [], ◌∷◌, ◌++◌, map, Option, Some, None, Result, Ok, Err, refl, sym, ap, subst, ◌∙◌}
-use Rattle.std.proofs.lemmas.List.{map-append}
+use Rattle.std.proofs.Common.{◌≡◌, ℕ, Bool, true, false, ◌&&◌, not, cond, List, [], ◌∷◌, ◌++◌, Option, Some, None, Result, Ok, Err, refl, sym, ap, ◌∙◌}
 use Rattle.std.specs.Str.{bytes_eq}
 use Rattle.std.specs.Cmp.Lexicographic.{bytes_decides, nat_list_eq_equiv}
 use Rattle.asl_syn.specs.declared.code.Fault.{Fault}
@@ -9,7 +8,7 @@ use Rattle.asl_syn.specs.declared.code.StaticCode.TheVariants.{T01}
 use Rattle.asl_syn.specs.declared.token.Span.{Span}
 use Rattle.asl_syn.specs.declared.tree.Decl.{Decl}
 use Rattle.asl_rules.specs.Faults.{◌>>=◌, ◌>>◌, need}
-use Rattle.asl_rules.specs.declarations.Names.{Declared, declared_as, library, is_listed, may_share, standing, is_new, names_rule, declared_by, all_declared}
+use Rattle.asl_rules.specs.declarations.Names.{Declared, library, is_listed, may_share, standing, is_new, names_rule, declared_by, all_declared}
 use Rattle.asl_names.specs.private.Known.{Known, known, with_first, with_name, is_free, after_name, after_names, after_decls}
 
 -- the first of two

@@ -1,22 +1,12 @@
 -- Walks over a graph come to what there is a way to.
-use Rattle.std.proofs.Common.{◌≡◌, ℕ, zero, suc, ◌+◌, ◌<◌, ◌≤◌, ◌⊎◌, inl, inr, Bool, true, false, List, [], ◌∷◌, ◌++◌, length, get_or, set, refl, sym, ap, ◌∙◌, subst, arith, append_assoc, get_or-set_same, get_or-set_other}
+use Rattle.std.proofs.Common.{◌≡◌, ℕ, zero, suc, ◌+◌, ◌<◌, ◌≤◌, ◌⊎◌, inl, inr, Bool, true, false, List, [], ◌∷◌, ◌++◌, length, get_or, set, refl, sym, ap, ◌∙◌, subst, arith, append_assoc}
 use Rattle.std.specs.Prelude.{◌==◌}
-use Rattle.std.proofs.lemmas.Bool.{eq-eqb, eqb-true, eqb-false}
+use Rattle.std.proofs.lemmas.Bool.{eqb-true}
 use Rattle.std.proofs.lemmas.List.{append-nil}
-use Rattle.asl_names.specs.private.Orders.{Graph, row, has_mark, all_marked, is_among, IsListed, is_way, HasWay, MarkedMore, Goes, FoundOne, MarkedTo, ClosedTo, Reached}
+use Rattle.asl_turns.specs.Graphs.{Graph, row, has_mark, all_marked, is_among}
+use Rattle.asl_names.specs.private.Ways.{IsListed, is_way, HasWay, MarkedMore, Goes, FoundOne, MarkedTo, ClosedTo, Reached}
+use Rattle.asl_turns.proofs.Marks.{among_marked, marked_more, mark_kept}
 use Rattle.asl_rules.proofs.basics.Tests.{no, both, and_true, either, or_first, or_second}
-
-pub among_marked : (marks : List Bool) (ns : List ℕ) (k : ℕ) → all_marked marks ns ≡ true → is_among k ns ≡ true → has_mark marks k ≡ true
-among_marked marks [] k h i = no i
-among_marked marks (n ∷ ns) k h i =
-    let p = both (has_mark marks n) (all_marked marks ns) h in
-    either (n == k) (is_among k ns) i (λ q. subst (λ m. has_mark marks m ≡ true) (eqb-true n k q) p.0) (among_marked marks ns k p.1)
-
-pub marked_more : (marks more : List Bool) → ((k : ℕ) → has_mark marks k ≡ true → has_mark more k ≡ true) → (ns : List ℕ) → all_marked marks ns ≡ true → all_marked more ns ≡ true
-marked_more marks more f [] h = refl
-marked_more marks more f (n ∷ ns) h =
-    let p = both (has_mark marks n) (all_marked marks ns) h in
-    and_true (has_mark more n) (all_marked more ns) (f n p.0) (marked_more marks more f ns p.1)
 
 pub way_last : (g : Graph) (ks : List ℕ) (n k m : ℕ) → is_way g n ks k ≡ true → is_among m (row g k) ≡ true → is_way g n (ks ++ k ∷ []) m ≡ true
 way_last g [] n k m h i = and_true (is_among k (row g n)) (is_among m (row g k)) h i
@@ -44,11 +34,6 @@ pub at_place : (ns more : List ℕ) (i : ℕ) → i < length ns → get_or (ns +
 at_place [] more i h = absurd (omega (arith, h))
 at_place (n ∷ ns) more zero h = refl
 at_place (n ∷ ns) more (suc i) h = at_place ns more i (omega (arith, h))
-
-pub among_place : (ns : List ℕ) (i : ℕ) → i < length ns → is_among (get_or ns i 0) ns ≡ true
-among_place [] i h = absurd (omega (arith, h))
-among_place (n ∷ ns) zero h = or_first (n == n) (is_among n ns) (eq-eqb n n refl)
-among_place (n ∷ ns) (suc i) h = or_second (n == get_or ns i 0) (is_among (get_or ns i 0) ns) (among_place ns i (omega (arith, h)))
 
 pub closed_all : (g : Graph) (marks : List Bool) (nodes : List ℕ) (at : ℕ) → IsListed nodes marks → ClosedTo g marks nodes at → length nodes ≤ at → (k : ℕ) → has_mark marks k ≡ true → all_marked marks (row g k) ≡ true
 closed_all g marks nodes at l c e k h =
@@ -109,11 +94,7 @@ pub goes_first : (g : Graph) (start : ℕ) (all : List ℕ) → Goes [] (row g s
 goes_first g start all q k i = ([], q.2 k (subst (λ l. is_among k l ≡ true) q.1 i))
 
 pub set_more : (marks : List Bool) (n : ℕ) → n < length marks → MarkedMore marks (set marks n true)
-set_more marks n l k h = by (n == k) refl
-  where
-    by : (b : Bool) → (n == k) ≡ b → has_mark (set marks n true) k ≡ true
-    by true e = subst (λ m. has_mark (set marks n true) m ≡ true) (eqb-true n k e) (get_or-set_same marks n true false l)
-    by false e = get_or-set_other marks n k true false (λ z. eqb-false n k e (sym z)) ∙ h
+set_more marks n l = mark_kept marks n
 
 pub goes_one : (nodes ns all new : List ℕ) (n : ℕ) → Goes nodes ns all → FoundOne all n new → is_among n ns ≡ true → Goes nodes ns new
 goes_one nodes ns all new n w (inl e) h = subst (Goes nodes ns) (sym e) w

@@ -6,4 +6,4 @@ pub mod Firsts
 pub mod Graphs
 pub mod Known
 pub mod UseView
-pub mod Orders
+pub mod Ways

@@ -3,9 +3,9 @@
 
 ghost use Rattle.std.specs.Prelude.{◌≡◌, true, IfOk};
 ghost use Rattle.asl_names.specs.private.Components as numbers;
-ghost use Rattle.asl_names.specs.private.Orders as rules;
+ghost use Rattle.asl_names.specs.private.Ways as rules;
 
-use crate::order::row;
+use asl_turns::row;
 use sqlite_items::Items;
 use std::alloc::{AllocError, Global};
 

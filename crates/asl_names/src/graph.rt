@@ -3,14 +3,19 @@
 ghost use Rattle.std.specs.Prelude.{◌≡◌, [], map, IfOk, OnOk};
 ghost use Rattle.asl_rules.specs.declarations.UsedNames.{name_of};
 ghost use Rattle.asl_rules.specs.declarations.Uses as uses;
+ghost use Rattle.asl_names.specs.private.Answers.{Met};
+ghost use Rattle.asl_names.specs.private.Cycles.{order_rule};
 ghost use Rattle.asl_names.specs.private.Firsts.{first_place};
 ghost use Rattle.asl_names.specs.private.Graphs as graphs;
 ghost use Rattle.asl_names.specs.private.UseView.{use_of, all_uses};
 
+use crate::cycles::check_cycles;
 use crate::decl_uses::uses_in_decl;
 use crate::declarers::declared_places;
 use crate::firsts::Firsts;
 use crate::name_use::Use;
+use crate::names::check_names;
+use asl_syn::code::Refused;
 use asl_syn::tree::Decl;
 use sqlite_items::Items;
 use std::alloc::{AllocError, Global};
@@ -49,8 +54,8 @@ fn row_of(alloc: Global, table: &Firsts<'_>, d: &Decl) -> Result<Items<usize>, A
     Ok(places)
 }
 
-/// Of each declaration the places of those that it uses.
-pub(crate) fn uses_of(alloc: Global, decls: &[Decl]) -> Result<Items<Items<usize>>, AllocError>
+/// For each declaration the places of those that it uses.
+fn uses_of(alloc: Global, decls: &[Decl]) -> Result<Items<Items<usize>>, AllocError>
     ensures { IfOk result (λ graph. graph ≡ graphs.graph_of decls.now) }
 {
     let table = declared_places(alloc, decls)?;
@@ -58,5 +63,17 @@ pub(crate) fn uses_of(alloc: Global, decls: &[Decl]) -> Result<Items<Items<usize
     for d in decls {
         graph.push(row_of(alloc, &table, d)?)?;
     }
+    Ok(graph)
+}
+
+/// For each declaration the places of those that it uses; T01 at the first name that is taken, then T03 at the first
+/// declaration that reaches itself. It takes a time that grows with the text.
+pub fn graph_of_decls(alloc: Global, decls: &[Decl]) -> Result<Items<Items<usize>>, Refused>
+    ensures rule { Met (λ _. tt) result (order_rule decls.now) }
+    ensures graph { IfOk result (λ graph. graph ≡ graphs.graph_of decls.now) }
+{
+    check_names(alloc, decls)?;
+    let graph = uses_of(alloc, decls)?;
+    check_cycles(alloc, decls, graph.as_slice())?;
     Ok(graph)
 }

@@ -1,5 +1,4 @@
-//! The names of declarations: those that they use, which declarations use which, and an order in
-//! which each stands behind what it uses.
+//! The names of declarations: those that they use, and which declarations use which.
 #![tactic(auto)]
 
 mod answer;
@@ -11,14 +10,12 @@ mod expr_uses;
 pub mod firsts;
 mod graph;
 mod library;
-pub mod listed;
+mod listed;
 mod name_use;
 mod names;
-pub mod order;
-mod ordered;
 mod reach;
 
 pub use expr_uses::uses_in_expr;
+pub use graph::graph_of_decls;
 pub use library::LIBRARY;
 pub use name_use::Use;
-pub use ordered::{Ordered, in_order};

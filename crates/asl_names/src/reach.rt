@@ -1,10 +1,11 @@
 //! Nodes that there is a way to.
 
 ghost use Rattle.std.specs.Prelude.{◌≡◌, ℕ, ◌<◌, [], true, false, length, IfOk, OnOk};
-ghost use Rattle.asl_names.specs.private.Orders.{row, has_mark, all_marked, room, IsListed, HasWay, HasEdges, Below, MarkedMore, Goes, FoundOne};
+ghost use Rattle.asl_turns.specs.Graphs.{has_mark, all_marked};
+ghost use Rattle.asl_names.specs.private.Ways.{room, IsListed, HasWay, HasEdges, Below, MarkedMore, Goes, FoundOne};
 
-use crate::listed::{Listed, has_mark};
-use crate::order::row;
+use crate::listed::Listed;
+use asl_turns::{has_mark, row};
 use sqlite_items::Items;
 use std::alloc::{AllocError, Global};
 

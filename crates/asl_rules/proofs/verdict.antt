@@ -1,14 +1,10 @@
--- Law 2: right tests exist and answer alike, so files have one answer; and declarations are judged alike in each order.
+-- Law 2: right tests exist and answer alike, so files have one answer; and declarations are judged in turns, each behind all that it uses.
 pub mod SomeTests
-pub mod Alike
-pub mod SameRules
-pub mod SameConstants
-pub mod SameNames
-pub mod SameDeclarations
 pub mod Distinct
 pub mod Settling
 pub mod Reaching
-pub mod AllJudged
-pub mod Settled
+pub mod Turning
+pub mod Named
+pub mod EachName
+pub mod AfterTurns
 pub mod SharedNames
-pub mod OneJudgement

@@ -8,6 +8,7 @@ pub mod Uses
 pub mod Barred
 pub mod Constants
 pub mod Declarations
+pub mod Turns
 pub mod WrittenOut
 pub mod Keys
 pub mod Replacing

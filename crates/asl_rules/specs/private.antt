@@ -8,3 +8,4 @@ pub mod ByPlace
 pub mod TypedMeaning
 pub mod Erasure
 pub mod Grown
+pub mod Judgements

@@ -3,21 +3,22 @@ use Rattle.std.proofs.Common.{◌≡◌, ℕ, zero, suc, ◌+◌, ◌-◌, ◌*�
 use Rattle.std.specs.Prelude.{not}
 use Rattle.std.specs.Str.{bytes_eq}
 use Rattle.std.specs.List.{AllByRecursion, IsDistinct}
-use Rattle.std.specs.Map.{lookup, keys_of}
+use Rattle.std.specs.Map.{lookup, set_value, keys_of}
 use Rattle.std.specs.Cmp.Lexicographic.{bytes_decides, nat_list_eq_equiv}
+use Rattle.std.proofs.lemmas.Map.{keys-set_value}
 use Rattle.std.proofs.lemmas.Map.Keys.{IsDistinct-head, IsDistinct-tail}
 use Rattle.indexmap.specs.IndexMap.{IndexMap, insert_entry}
 use Rattle.asl_rules.specs.declared.slot.Slot.TheVariants as slot
 use Rattle.asl_rules.specs.declarations.Scopes as scopes
-use Rattle.asl_rules.specs.declarations.Scopes.{Entry, is_free, is_local, next_atom}
+use Rattle.asl_rules.specs.declarations.Scopes.{Entry, standing_of, is_free, is_local, next_atom}
 use Rattle.asl_types.specs.declared.scope.Form.{Form}
 use Rattle.asl_types.specs.declared.scope.Form.TheVariants.{Local, Global, Subprogram, TypeName, Label}
 use Rattle.asl_types.specs.declared.scope.Standing.{Standing}
 use Rattle.asl_types.specs.declared.scope.Standing.TheVariants as standing
 use Rattle.asl_types.specs.declared.scope.Declared.{Declared}
-use Rattle.asl_types.specs.private.Standings.{form_view, standing_view, slot_by, HasSlot, entries_of, more_locals, more_globals, Numbered, same_name, IsKept}
+use Rattle.asl_types.specs.private.Standings.{form_view, standing_view, storage_sort, slot_by, HasSlot, entries_of, more_locals, more_globals, Numbered, same_name, IsKept}
 use Rattle.asl_rules.specs.declarations.Layouts.{place_of, number_before, slot_among, slot_of, local_name, global_name, local_names, global_names, layout_of}
-use Rattle.asl_types.proofs.ScopeLemmas.{map-new}
+use Rattle.asl_types.proofs.ScopeLemmas.{map-new, sort-found}
 
 abbrev Held : Type 0
 Held = List (Bor (List ℕ) × Declared)
@@ -272,6 +273,74 @@ kept-same es fs kept h = subst IsKept (sym h) kept
 
 pub kept-none : (fs : Held) → fs ≡ [] → IsDistinct same_name (keys_of fs) → IsKept fs
 kept-none fs h distinct = record { numbered = subst (Numbered 0 0) (sym h) tt; distinct = distinct }
+
+-- ---- names that are settled
+
+same_locals : (f k : Form) (l : ℕ) → storage_sort (form_view f) ≡ storage_sort (form_view k) → more_locals f l ≡ more_locals k l
+same_locals f k l h = counted f ∙ ap by h ∙ sym (counted k)
+  where
+    by : Option Bool → ℕ
+    by None = l
+    by (Some true) = l
+    by (Some false) = suc l
+
+    counted : (f : Form) → more_locals f l ≡ by (storage_sort (form_view f))
+    counted (Local T m c) = refl
+    counted (Global T m x) = refl
+    counted Subprogram = refl
+    counted (TypeName T) = refl
+    counted (Label T x) = refl
+
+same_globals : (f k : Form) (g : ℕ) → storage_sort (form_view f) ≡ storage_sort (form_view k) → more_globals f g ≡ more_globals k g
+same_globals f k g h = counted f ∙ ap by h ∙ sym (counted k)
+  where
+    by : Option Bool → ℕ
+    by None = g
+    by (Some true) = suc g
+    by (Some false) = g
+
+    counted : (f : Form) → more_globals f g ≡ by (storage_sort (form_view f))
+    counted (Local T m c) = refl
+    counted (Global T m x) = refl
+    counted Subprogram = refl
+    counted (TypeName T) = refl
+    counted (Label T x) = refl
+
+-- a name that is declared otherwise, as something of the same sort
+module _ (test : Bor (List ℕ) → Bool) (d w : Declared) (before : w.before ≡ d.before)
+    (sort : storage_sort (form_view d.form) ≡ storage_sort (form_view w.form)) where
+  numbered_settled : (l g : ℕ) (es : Held) → Numbered l g es → lookup test es ≡ Some d → Numbered l g (set_value test es w)
+  numbered_settled l g [] n h = tt
+  numbered_settled l g (e ∷ es) n h = by (test e.0) h (numbered_settled (more_locals e.1.form l) (more_globals e.1.form g) es n.2)
+    where
+      here : e.1 ≡ d → Numbered l g ((e.0, w) ∷ es)
+      here q =
+          let m = subst (λ (x : Declared). Numbered l g ((e.0, x) ∷ es)) q n in (
+            ap (λ b. b.locals) before ∙ m.0,
+            ap (λ b. b.globals) before ∙ m.1,
+            subst (λ k. Numbered k (more_globals w.form g) es) (same_locals d.form w.form l sort)
+                (subst (λ k. Numbered (more_locals d.form l) k es) (same_globals d.form w.form g sort) m.2),
+          )
+
+      by : (t : Bool) → cond t (Some e.1) (lookup test es) ≡ Some d →
+          (lookup test es ≡ Some d → Numbered (more_locals e.1.form l) (more_globals e.1.form g) (set_value test es w)) →
+          Numbered l g (cond t ((e.0, w) ∷ es) (e ∷ set_value test es w))
+      by true q next = here (some_same e.1 d q)
+      by false q next = (n.0, n.1, next q)
+
+  kept_settled : (es fs : Held) → IsKept es → lookup test es ≡ Some d → fs ≡ set_value test es w → IsKept fs
+  kept_settled es fs kept h e = record {
+    numbered = subst (Numbered 0 0) (sym e) (numbered_settled 0 0 es kept.numbered h);
+    distinct = subst (IsDistinct same_name) (sym (ap keys_of e ∙ keys-set_value test es w)) kept.distinct;
+  }
+
+-- the numbers stay, since each name counts as what it did
+pub kept-settled : (es fs : Held) (names : List Entry) (name : List ℕ) (d w : Declared) (f : Form) → IsKept es → entries_of es ≡ names →
+    lookup (λ k. bytes_eq name k.now) es ≡ Some d → option_map storage_sort (standing_of name names) ≡ Some (storage_sort (form_view f)) →
+    w.form ≡ f → w.before ≡ d.before → fs ≡ set_value (λ k. bytes_eq name k.now) es w → IsKept fs
+kept-settled es fs names name d w f kept v h s q b e =
+    let r = some_same (storage_sort (form_view d.form)) (storage_sort (form_view f)) (sort-found es names name (Some d) _ v h s) in
+    kept_settled (λ k. bytes_eq name k.now) d w b (r ∙ sym (ap (λ g. storage_sort (form_view g)) q)) es fs kept h e
 
 -- ---- atoms
 

@@ -1,12 +1,12 @@
 //! The visible names and what they stand for.
 
-ghost use Rattle.std.specs.Prelude.{◌≡◌, ◌*◌, true, false, [], length, take, IfOk, OnOk, IfErr, IfSome};
+ghost use Rattle.std.specs.Prelude.{◌≡◌, ◌*◌, true, false, [], Some, length, take, IfOk, OnOk, IfErr, IfSome};
 ghost use Rattle.std.specs.Option.{option_map};
 ghost use Rattle.asl_value.specs.View.{value_of};
 ghost use Rattle.asl_rules.specs.declarations.Scopes as rules;
 ghost use Rattle.asl_rules.specs.declarations.Scopes.{with_entry};
 ghost use Rattle.asl_rules.specs.declarations.Layouts.{slot_of, local_names, global_names, layout_of};
-ghost use Rattle.asl_types.specs.private.Standings.{storage_view, standing_view, value_behind, form_view, entry_view, slot_by, HasSlot};
+ghost use Rattle.asl_types.specs.private.Standings.{storage_view, standing_view, value_behind, form_view, entry_view, storage_sort, is_outside, settled, slot_by, HasSlot};
 
 use crate::ty::Ty;
 use asl_poly::{Atom, Poly};
@@ -18,6 +18,7 @@ use asl_value::Value;
 use indexmap::IndexMap;
 use std::alloc::{AllocError, Global};
 use std::marker::Model;
+use std::mem;
 
 /// What a name of a body counts as in widths: a polynomial, and whether the text that it stands for names an atom.
 #[derive(Drop)]
@@ -112,6 +113,14 @@ struct Numbers {
 struct Declared {
     form: Form,
     before: Numbers,
+}
+
+/// A name is declared as this from now on.
+fn declare_as(d: &mut Declared, form: Form)
+    ensures form { d.new.form ≡ form }
+    ensures before { d.new.before ≡ d.old.before }
+{
+    drop(mem::replace(&mut d.form, form));
 }
 
 /// What a name stands for that was declared so.
@@ -350,6 +359,44 @@ impl<'a> Scope<'a> {
         ensures memory { IfErr result (λ e. e ≡ Refused.NoMemory) }
     {
         self.declare(name, Form::Label(ty, value))
+    }
+
+    /// A name that is visible stands for something else of its sort. It keeps its place, and all storage its slot.
+    fn settle(&mut self, name: &[u8], form: Form)
+        requires { option_map storage_sort (rules.standing_of name.now self.old) ≡ Some (storage_sort (form_view form)) }
+        ensures { self.new ≡ settled name.now (form_view form) self.old }
+    {
+        match self.declared.get_mut(name) {
+            None => drop(form),
+            Some(d) => declare_as(d, form),
+        }
+    }
+
+    /// A name that stands for a subprogram stands for a type.
+    #[tactic(auto, using(crate::proofs::ScopeLemmas::subprogram_sort))]
+    pub fn settle_type(&mut self, name: &[u8], ty: Ty)
+        requires { rules.is_subprogram (rules.standing_of name.now self.old) ≡ true }
+        ensures { self.new ≡ settled name.now (rules.TypeName ty) self.old }
+    {
+        self.settle(name, Form::TypeName(ty));
+    }
+
+    /// A name that stands for a subprogram stands for a label of an enumeration.
+    #[tactic(auto, using(crate::proofs::ScopeLemmas::subprogram_sort))]
+    pub fn settle_label(&mut self, name: &[u8], ty: Ty, value: Value)
+        requires { rules.is_subprogram (rules.standing_of name.now self.old) ≡ true }
+        ensures { self.new ≡ settled name.now (rules.Label ty (value_of value)) self.old }
+    {
+        self.settle(name, Form::Label(ty, value));
+    }
+
+    /// A name that stands for storage outside bodies stands for other such storage.
+    #[tactic(auto, using(crate::proofs::ScopeLemmas::outside_sort))]
+    pub fn settle_global(&mut self, name: &[u8], ty: Ty, is_mutable: bool, value: Value)
+        requires { is_outside (rules.standing_of name.now self.old) ≡ true }
+        ensures { self.new ≡ settled name.now (rules.global name.now ty is_mutable (value_of value)).standing self.old }
+    {
+        self.settle(name, Form::Global(ty, is_mutable, value));
     }
 
     /// The first `len` names stay visible.

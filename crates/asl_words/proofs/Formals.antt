@@ -12,7 +12,7 @@ use Rattle.asl_rules.specs.statements.Acting.{in_order}
 use Rattle.asl_rules.specs.private.Agreement.{types_in, no_atoms}
 use Rattle.asl_rules.specs.private.Belonging.{InType, Belong}
 use Rattle.asl_rules.specs.types.Closed.{type_with}
-use Rattle.asl_rules.specs.declarations.Declarations.{names_of_program}
+use Rattle.asl_rules.specs.declarations.Turns.{names_of_program}
 use Rattle.asl_rules.specs.runs.Evaluation.{initial_globals}
 use Rattle.asl_rules.specs.Faults.{need}
 use Rattle.asl_rules.specs.private.Grown.{AreGrown}

@@ -16,7 +16,6 @@ use Rattle.asl_rules.specs.runs.Trees.{TreeFunc}
 use Rattle.asl_rules.specs.statements.Acting.{Listed, in_order}
 use Rattle.asl_rules.specs.statements.Stmts.{found_stmt}
 use Rattle.asl_rules.specs.statements.Locals.{itself}
-use Rattle.asl_rules.specs.declarations.Declarations.{names_of_program}
 use Rattle.asl_rules.specs.declarations.Programs.{Head, body_scope, body_of, may_end, tree_func, body_rule, signature_rule, params_rule, param_written, param_entry, with_formals}
 use Rattle.asl_rules.specs.private.Agreement.{types_in, SameOn}
 use Rattle.asl_rules.proofs.basics.Inversions.{ok_ok, bind_ok, then_ok, need_ok}
@@ -25,7 +24,8 @@ use Rattle.asl_rules.proofs.widths.Counting.{no_fewer}
 use Rattle.asl_laws.proofs.widths.Omitted.{atoms_last}
 use Rattle.asl_laws.proofs.widths.TypesOver.{Over, Never}
 use Rattle.asl_laws.proofs.scopes.OverScope.{IsAtomOf, SubsOver, NamesOver}
-use Rattle.asl_laws.proofs.scopes.ScopesOver.{type_moved, program_over}
+use Rattle.asl_laws.proofs.scopes.ScopesOver.{type_moved}
+use Rattle.asl_laws.proofs.scopes.NamesOutside.{NamesOutside, outside_over}
 use Rattle.asl_laws.proofs.scopes.BodiesOver.{params_over, signature_over}
 use Rattle.asl_laws.proofs.scopes.ScopesKept.{head_scope}
 use Rattle.asl_rules.proofs.scopes.Naming.{WellNamed, well_declared}
@@ -104,20 +104,19 @@ module _ (tests : Tests) (right : IsRight tests) (ds : List Decl) (base : List E
     pub ok : BodyOk tests right ds base subs loose funcs w h list a
     pub is : tree_func h list.acts ≡ t
 
-  pub body_ok : (f : Func) (h : Head) (t : TreeFunc) (a : Assignment) → names_of_program tests ds ≡ base → SubsOver subs → FormedResult (types_in base) h.signature.result → signature_rule tests base f ≡ Ok h → body_rule tests subs h ≡ Ok t → BodyWith h t a
-  body_ok f h t a same over formed judged body =
+  pub body_ok : (f : Func) (h : Head) (t : TreeFunc) (a : Assignment) → NamesOutside base → SubsOver subs → FormedResult (types_in base) h.signature.result → signature_rule tests base f ≡ Ok h → body_rule tests subs h ≡ Ok t → BodyWith h t a
+  body_ok f h t a out over formed judged body =
       let l = bind_ok (in_order (map (found_stmt tests) h.func.body) Pure (body_of subs h)) _ t body in
       let e = then_ok (need (may_end h.signature.result h.func) T17 h.func.name.span) (Ok (tree_func h l.value.acts)) t l.then in
-      let names : (A : ℕ → Type 0) → NamesOver A base = λ A. subst (NamesOver A) same (program_over tests A ds) in
-      let head = signature_over tests base f h (names Never) judged in
+      let head = signature_over tests base f h (outside_over base out Never) judged in
       record {
         list = l.value;
         ok = record {
           judged = l.first;
           ends = need_ok (may_end h.signature.result h.func) T17 h.func.name.span tt e.first;
           formed = formed;
-          scope_good = head_scope tests ds f h (body_scope subs h) refl over (subst (λ ns. signature_rule tests ns f ≡ Ok h) (sym same) judged);
-          result_is = λ b s. result_same h.signature.result h.signature.params h.names a b head.result (params_below f h (names (IsAtomOf [])) (head_is tests base f h judged)) s;
+          scope_good = head_scope tests base out f h (body_scope subs h) refl over judged;
+          result_is = λ b s. result_same h.signature.result h.signature.params h.names a b head.result (params_below f h (outside_over base out (IsAtomOf [])) (head_is tests base f h judged)) s;
         };
         is = ok_ok (tree_func h l.value.acts) t e.then;
       }

@@ -5,7 +5,8 @@ use Rattle.asl_syn.specs.declared.token.Span.{Span}
 use Rattle.asl_syn.specs.declared.tree.Decl.{Decl}
 use Rattle.asl_syn.specs.declared.tree.Func.{Func}
 use Rattle.asl_syn.specs.declared.code.DynCode.TheVariants.{D11}
-use Rattle.asl_rules.specs.declared.effect.Effect.TheVariants.{Pure}
+use Rattle.asl_rules.specs.declared.effect.Effect.TheVariants.{Pure, Writes}
+use Rattle.asl_rules.specs.types.Effects.{at_most}
 use Rattle.asl_rules.specs.Tests.{Tests, IsRight}
 use Rattle.asl_rules.specs.types.Types.{Ty}
 use Rattle.asl_rules.specs.types.Closed.{Assignment, Closed, type_with}
@@ -41,6 +42,7 @@ use Rattle.asl_rules.proofs.scopes.Naming.{WellNamed, well_declared}
 use Rattle.asl_laws.proofs.scopes.WellTyped.{FormedSubs}
 use Rattle.asl_laws.proofs.expressions.Twins.{Twins}
 use Rattle.asl_laws.proofs.expressions.Claims.{Here, StmtClaim, GivesResult, FormedResult, result_at, At, our, Around, around_of, Bound}
+use Rattle.asl_laws.proofs.expressions.Standing.{below_both}
 use Rattle.asl_laws.proofs.expressions.TreePlans.{Same, Throws, append_nil}
 use Rattle.asl_laws.proofs.expressions.ExprForms.{env, program}
 use Rattle.asl_laws.proofs.statements.ListForms.{list_same}
@@ -74,8 +76,8 @@ module _ (tests : Tests) (right : IsRight tests) (ds : List Decl) (base : List E
   back_at : (outer : Bool) (H : Here) (c c1 : Core) → At tests base subs outer H c → GlobalsMatch base c1.globals → At tests base subs outer H (restored c c1)
   back_at outer H c c1 a g = record { agrees = restored_agrees base H.scope.names H.present c c1 a.agrees g; subs_are = a.subs_are; around_is = a.around_is; stands = a.stands; counted = a.counted }
 
-  back_over : (outer : Bool) (H : Here) (x : Value) (c c1 : Core) → At tests base subs outer H c → Raised (types_in base) x → GlobalsMatch base c1.globals → Throws tests right base subs loose H x (restored c c1)
-  back_over outer H x c c1 a r g = record { raised = r; more = []; later = H.present; same = λ n l. refl; agrees = subst (λ ns. Agrees base ns H.present (restored c c1)) (sym (append_nil H.scope.names)) (back_at outer H c c1 a g).agrees; around_is = a.around_is }
+  back_over : (outer : Bool) (H : Here) (x : Value) (c c1 : Core) → At tests base subs outer H c → Raised (types_in base) x → at_most Writes H.scope.class ≡ true → GlobalsMatch base c1.globals → Throws tests right base subs loose H x (restored c c1)
+  back_over outer H x c c1 a r k g = record { raised = r; writes = k; more = []; later = H.present; same = λ n l. refl; agrees = subst (λ ns. Agrees base ns H.present (restored c c1)) (sym (append_nil H.scope.names)) (back_at outer H c c1 a g).agrees; around_is = a.around_is }
 
   -- what a caller gets, who may stand outside bodies
   abbrev pub Gets : Bool → Here → (Option Value → Option Value → Core → Type 0) → Assignment → Option Ty → Type 0
@@ -109,9 +111,9 @@ module _ (tests : Tests) (right : IsRight tests) (ds : List Decl) (base : List E
     pub result_is : (b : Assignment) → SameOn h.names a b → result_at b h.signature.result ≡ result_at a h.signature.result
 
   -- a body, in a frame of its own
-  pub body_same : (outer : Bool) (H : Here) (Q : Option Value → Option Value → Core → Type 0) (h : Head) (l : Listed) (a : Assignment) (r : Around) (span : Span) (c inner : Core) → FormedSubs tests right (types_in base) (well_declared base w) subs → BodyOk h l a → Bound tests base subs loose (IsBodyOf subs (body_of subs h) r.live) → At tests base subs loose (in_body h a r) inner → At tests base subs outer H c → Gets outer H Q a h.signature.result →
+  pub body_same : (outer : Bool) (H : Here) (Q : Option Value → Option Value → Core → Type 0) (h : Head) (l : Listed) (a : Assignment) (r : Around) (span : Span) (c inner : Core) → FormedSubs tests right (types_in base) (well_declared base w) subs → BodyOk h l a → at_most h.signature.class H.scope.class ≡ true → Bound tests base subs loose (IsBodyOf subs (body_of subs h) r.live) → At tests base subs loose (in_body h a r) inner → At tests base subs outer H c → Gets outer H Q a h.signature.result →
       Same tests right base subs loose H Q (in_frame span (seen_by span a h.signature.result) (restored c) (plan.in_order h.func.body inner)) (in_frame span (result_seen h.signature.result) (bare.restored (erased c)) (plan.in_order (acts_of l.acts) (erased inner)))
-  body_same outer H Q h l a r span c inner s ok b m n q =
+  body_same outer H Q h l a r span c inner s ok below b m n q =
       let T = h.signature.result in
       let j : StmtClaim = record { body = body_of subs h; done = done h.names Pure (tree.Pass span); present = a; params = a; around = r } in
       list_same tests right ds base subs loose funcs w j Pure l
@@ -120,7 +122,7 @@ module _ (tests : Tests) (right : IsRight tests) (ds : List Decl) (base : List E
       h.func.body inner ok.judged (record { at = m; subs_formed = s; formed = ok.formed; result_is = ok.result_is; handles = λ k. no k; scope_good = ok.scope_good; body_is = b })
       (λ c1 e f. normal_same outer H Q T h.func a span c c1 ok.ends f n e.agrees.globals q)
       (λ o c1 e. returned_same outer H Q T a span c c1 o e.gives n e.agrees.globals q)
-      (λ x c1 e. (refl, refl, back_over outer H x c c1 n e.raised e.agrees.globals))
+      (λ x c1 e. (refl, refl, back_over outer H x c c1 n e.raised (below_both Writes h.signature.class H.scope.class e.writes below) e.agrees.globals))
 
   -- ---- a call
 
@@ -138,6 +140,7 @@ module _ (tests : Tests) (right : IsRight tests) (ds : List Decl) (base : List E
     pub erased_so : erased states.inner ≡ bare.entered id (params ++ formals) (erased c)
     pub assignment : Assignment
     pub is_signature : slice_get subs id ≡ Some h.signature
+    pub allowed : at_most h.signature.class H.scope.class ≡ true
     pub inside : At tests base subs loose (in_body h assignment (around_of (entered id c))) states.inner
     pub body : BodyOk h l assignment
     pub keeps_are : keeps_at (env tests right ds base subs loose funcs w) h.func.name.span (present states.params) h.func.result ≡ seen_by h.func.name.span assignment h.signature.result
@@ -156,7 +159,7 @@ module _ (tests : Tests) (right : IsRight tests) (ds : List Decl) (base : List E
       (subst (λ k. Same tests right base subs loose H Q (in_frame at k (restored c) (plan.in_order h.func.body b.states.inner)) (bare.run_with span id f b.params xs (erased c))) (sym b.keeps_are)
       (subst (λ r. Same tests right base subs loose H Q (in_frame at (seen_by at b.assignment h.signature.result) (restored c) (plan.in_order h.func.body b.states.inner)) (lift r (erased c) after)) (sym b.formals_are)
       (subst (λ d. Same tests right base subs loose H Q (in_frame at (seen_by at b.assignment h.signature.result) (restored c) (plan.in_order h.func.body b.states.inner)) (in_frame at (result_seen h.signature.result) (bare.restored (erased c)) (plan.in_order (acts_of l.acts) d))) b.erased_so
-      (body_same loose H Q h l b.assignment (around_of (entered id c)) at c b.states.inner s b.body (inr (h.signature, b.is_signature, refl, refl)) b.inside a q))))
+      (body_same loose H Q h l b.assignment (around_of (entered id c)) at c b.states.inner s b.body b.allowed (inr (h.signature, b.is_signature, refl, refl)) b.inside a q))))
 
   -- the chosen subprogram, and what it gives
   pub own_same : (H : Here) (Q : Option Value → Option Value → Core → Type 0) (span : Span) (name : List ℕ) (id : ℕ) (h : Head) (l : Listed) (places : List ℕ) (ys xs : List Value) (c : Core) → FormedSubs tests right (types_in base) (well_declared base w) subs → routine_named name ≡ None →

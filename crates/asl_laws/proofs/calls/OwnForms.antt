@@ -10,6 +10,7 @@ use Rattle.asl_syn.specs.declared.tree.Bitfield.TheOpen as ex
 use Rattle.asl_syn.specs.declared.tree.Alternative.TheOpen as st
 use Rattle.asl_syn.specs.declared.tree.Decl.{Decl}
 use Rattle.asl_syn.specs.declared.tree.Func.{Func}
+use Rattle.asl_rules.specs.declared.effect.Effect.{Effect}
 use Rattle.asl_rules.specs.declared.effect.Effect.TheVariants.{Pure}
 use Rattle.asl_rules.specs.types.Effects.{all_together, greatest, greater, at_most}
 use Rattle.asl_rules.specs.Faults.{need, found_or}
@@ -19,13 +20,13 @@ use Rattle.asl_rules.specs.types.Types.{Ty, kinds, kinds_eq, substitute, Parts, 
 use Rattle.asl_rules.specs.types.Closed.{Assignment}
 use Rattle.asl_rules.specs.declarations.Scopes.{Entry, Signature, Chosen, choose, standing_of, is_subprogram, is_absent, choose_from}
 use Rattle.asl_rules.specs.runs.Trees.{Tree, Note, TreeFunc, own}
-use Rattle.asl_rules.specs.expressions.Typing.{Typed, Operand, operands, effects_of, types_of, trees_in, trees_of, trees_from, note}
+use Rattle.asl_rules.specs.expressions.Typing.{Typed, typed_as, in_class, finish}
+use Rattle.asl_rules.specs.expressions.Typing.{Operand, operands, effects_of, types_of, trees_in, trees_of, trees_from, note}
 use Rattle.asl_rules.specs.expressions.Calls as rules
 use Rattle.asl_rules.specs.expressions.Calls.{Replacing, Called, replaced_by, widths_rule, params_fit, arguments_fit, both_fit, procedure_effect, procedure_rule, procedure_of, routine_taken, call_begun, call_tree, function_of}
 use Rattle.asl_rules.specs.statements.Acting.{Done}
 use Rattle.asl_rules.specs.statements.Stmts.{invoked, invoke_rule, found_stmt}
 use Rattle.asl_rules.specs.expressions.Exprs.{found, typed}
-use Rattle.asl_rules.specs.declarations.Declarations.{names_of_program}
 use Rattle.asl_rules.specs.declarations.Programs.{body_scope, funcs_of, Head, signature_rule, signatures_rule, signatures, body_rule, bodies_rule}
 use Rattle.asl_rules.specs.values.Values.{Value}
 use Rattle.asl_rules.specs.types.Numbers.{outside}
@@ -44,6 +45,7 @@ use Rattle.asl_laws.proofs.scopes.WellTyped.{FormedSubs}
 use Rattle.asl_rules.proofs.basics.Opening.{finish_is}
 use Rattle.asl_laws.proofs.expressions.Twins.{twins_weaker}
 use Rattle.asl_laws.proofs.expressions.Claims.{Here, StmtClaim, FormedResult, At, our, by_expr, by_stmt}
+use Rattle.asl_laws.proofs.expressions.Standing.{below_both, second_below}
 use Rattle.asl_laws.proofs.expressions.TreePlans.{Same, Out, Throws, AllGive, asked_of, operands_asked, list_from}
 use Rattle.asl_laws.proofs.expressions.ExprForms.{env, program, Formed, formed}
 use Rattle.asl_laws.proofs.statements.StmtForms.{here, Held, Acted, OutAct, acted, ends_here}
@@ -52,7 +54,7 @@ use Rattle.asl_laws.proofs.expressions.CallForms.{all_in, called_same}
 use Rattle.asl_rules.proofs.values.KindOf.{has_kind}
 use Rattle.asl_laws.proofs.widths.TypesOver.{Never}
 use Rattle.asl_laws.proofs.scopes.OverScope.{IsAtomOf, ResultOver}
-use Rattle.asl_laws.proofs.scopes.ScopesOver.{program_over, program_atoms}
+use Rattle.asl_laws.proofs.scopes.NamesOutside.{NamesOutside, outside_over, outside_atoms}
 use Rattle.asl_laws.proofs.scopes.BodiesOver.{signature_over, signatures_over}
 use Rattle.asl_laws.proofs.calls.OwnCalls.{GivesCall, Begins, own_same}
 use Rattle.asl_laws.proofs.calls.OwnFrames.{integers_of}
@@ -66,21 +68,25 @@ use Rattle.asl_rules.specs.private.WellFormed.{WellFormed, Shaped, ShapedParts}
 use Rattle.asl_laws.proofs.values.Replacing.{behind}
 use Rattle.asl_rules.proofs.values.KindsByNames.{all_by_names}
 use Rattle.std.specs.Str.{bytes_eq}
-use Rattle.asl_laws.proofs.calls.OwnStanding.{Opens, opened_stands, chosen_at}
+use Rattle.asl_laws.proofs.calls.OwnStanding.{Opens, opened_stands, chosen_at, chosen_below}
 use Rattle.asl_syn.specs.declared.tree.Stmt.{Stmt}
 
 nothing_more : (n : ℕ) → n ≡ n + 0
 nothing_more n = omega arith
 
+finish_below : (class : Effect) (span : Span) (ok : Bool) (k : Effect) (T : Ty) (make : Note → Tree) (S : Typed) →
+    finish class span ok k T make ≡ Ok S → at_most k class ≡ true
+finish_below class span ok k T make S h =
+    let a = then_ok (need ok T13 span) (in_class class span k T make) S h in
+    let b = then_ok (need (at_most k class) T12 span) (Ok (typed_as span T k make)) S a.then in
+    need_ok (at_most k class) T12 span tt b.first
+
 none_there : {A : Type 0} (o : Option A) → is_absent o ≡ true → o ≡ None
 none_there None h = refl
 none_there (Some x) h = no h
 
-module _ (tests : Tests) (right : IsRight tests) (ds : List Decl) (loose : Bool) (heads : List Head) (trees : List TreeFunc) (w : WellNamed (names_of_program tests ds)) (s : FormedSubs tests right (types_in (names_of_program tests ds)) (well_declared (names_of_program tests ds) w) (signatures heads))
-    (heads_are : signatures_rule tests (names_of_program tests ds) (funcs_of ds) ≡ Ok heads) (bodies : bodies_rule tests (signatures heads) heads ≡ Ok trees) where
-  abbrev base : List Entry
-  base = names_of_program tests ds
-
+module _ (tests : Tests) (right : IsRight tests) (ds : List Decl) (base : List Entry) (out : NamesOutside base) (loose : Bool) (heads : List Head) (trees : List TreeFunc) (w : WellNamed base) (s : FormedSubs tests right (types_in base) (well_declared base w) (signatures heads))
+    (heads_are : signatures_rule tests base (funcs_of ds) ≡ Ok heads) (bodies : bodies_rule tests (signatures heads) heads ≡ Ok trees) where
   abbrev subs : List Signature
   subs = signatures heads
 
@@ -113,13 +119,13 @@ module _ (tests : Tests) (right : IsRight tests) (ds : List Decl) (loose : Bool)
       let h = head_at f head i in
       let av = integers_of (po.params ++ xs) in
       let by = replaced_by i.params.0 r.given in
-      let over = signature_over tests base f h (program_over tests Never ds) judged in
+      let over = signature_over tests base f h (outside_over base out Never) judged in
       let fits = then_ok (params_fit tests span by i.params.0 r.given) (arguments_fit tests span by i.formals os) tt fit in
-      let hp = params_have tests right ds base subs loose trees w H.present av span f.params i.params r.given po.params refl i.params_are po.same paired po.wide fits.first in
+      let hp = params_have tests right ds base subs loose trees w H.present av span f.params i.params r.given po.params out i.params_are po.same paired po.wide fits.first in
       let fit_all = all_fit H.present r.given po.params po.wide in
       let ha = arguments_in tests right ds base subs loose trees w H.present av span i.params.0 r.given fit_all po.same i.formals os xs kinds_so over.formals formed_os (formals_formed tests right ds base subs loose trees w f.params i.params f.formals i.formals i.params_are i.formals_are) fits.then in_os in
-      let fr = frames_good tests right ds base subs loose trees w span f.name.span number f i.before i.params i.formals i.result H.scope.names H.present po.params xs c (program_atoms tests ds) i.params_new i.formals_new i.params_are i.formals_are i.result_is hp ha at.agrees in
-      let bw = body_ok tests right ds base subs loose trees w f h t av refl (signatures_over tests base (funcs_of ds) heads (program_over tests Never ds) heads_are) formed_so judged body in
+      let fr = frames_good tests right ds base subs loose trees w span f.name.span number f i.before i.params i.formals i.result H.scope.names H.present po.params xs c (outside_atoms base out) i.params_new i.formals_new i.params_are i.formals_are i.result_is hp ha at.agrees in
+      let bw = body_ok tests right ds base subs loose trees w f h t av out (signatures_over tests base (funcs_of ds) heads (outside_over base out Never) heads_are) formed_so judged body in
       let b : Begins tests right ds base subs loose trees w H span number h bw.list r.places ys xs c = record {
         limit_is = head_limit tests right ds base subs loose trees w span f h (head_is tests base f h judged);
         tree_is = tree_is ∙ ap Some (sym bw.is);
@@ -133,6 +139,7 @@ module _ (tests : Tests) (right : IsRight tests) (ds : List Decl) (loose : Bool)
         erased_so = fr.erased_so;
         assignment = av;
         is_signature = is_signature;
+        allowed = op.allowed h.signature is_signature;
         inside = record { agrees = fr.agrees; subs_are = refl; around_is = fr.around_is; stands = opened_stands tests base subs loose H number h.signature c op is_signature at; counted = inr (ruled tests (body_scope subs h) bw.ok.scope_good) };
         body = bw.ok;
         keeps_are = fr.keeps_are;
@@ -176,7 +183,7 @@ module _ (tests : Tests) (right : IsRight tests) (ds : List Decl) (loose : Bool)
   call_chosen : (H : Here) (span : Span) (name : List ℕ) (ps : List Expr) (os : List Operand) (r : Replacing) (ys xs : List Value) (c : Core) (q : Chosen) → Opens tests base subs loose H q.number → routine_named name ≡ None → choose name (types_of os) subs ≡ Some q → both_fit tests span q.signature r.given os (replaced_by q.signature.params r.given) ≡ Ok tt →
       AllFormed tests right ds base subs loose trees w (types_of os) → AllIn (types_in base) H.present (types_of os) xs → At tests base subs loose H c → (k : ParamsAsked tests right base subs loose H span q.signature ps os r) → AllGive tests right base subs loose H k.asked ys → CallOk H span name q.number q.signature r ys xs c
   call_chosen H span name ps os r ys xs c q op none is fit formed_os in_os at k gives =
-      let m = chose tests right ds base subs loose trees w c 0 (funcs_of ds) heads trees name xs (types_of os) q at.agrees.globals (program_atoms tests ds) heads_are bodies (λ n. ap (slice_get trees) (nothing_more n)) (kinds_are H.present os xs in_os) (all_shaped (types_of os) formed_os) head_formals is in
+      let m = chose tests right ds base subs loose trees w c 0 (funcs_of ds) heads trees name xs (types_of os) q at.agrees.globals (outside_atoms base out) heads_are bodies (λ n. ap (slice_get trees) (nothing_more n)) (kinds_are H.present os xs in_os) (all_shaped (types_of os) formed_os) head_formals is in
       let i = head_is tests base m.func m.head m.judged in
       let e : (head_at m.func m.head i).signature ≡ q.signature = ap (λ (z : Head). z.signature) i.is ∙ m.signature_is in
       let is_signature : slice_get subs q.number ≡ Some (head_at m.func m.head i).signature = chosen_at name (types_of os) subs q is ∙ ap Some (sym e) in
@@ -200,7 +207,7 @@ module _ (tests : Tests) (right : IsRight tests) (ds : List Decl) (loose : Bool)
       let is2 : choose i.text (types_of os) subs ≡ Some q = subst (λ z. choose i.text (types_of os) z ≡ Some q) a.subs_are is in
       let formed_os = operands_formed tests right ds base subs loose trees w es H.scope os (scope_good H.present base H.scope.names c w a.agrees) (subst (FormedSubs tests right (types_in base) (well_declared base w)) (sym a.subs_are) s) ops in
       let asks =
-      params_asked tests right base subs loose H span q.signature ps os r (program_atoms tests ds) (program_over tests Never ds)
+      params_asked tests right base subs loose H span q.signature ps os r (outside_atoms base out) (outside_over base out Never)
       (chosen_kinds i.text (types_of os) q (all_shaped (types_of os) formed_os) is2) (all_shaped (types_of os) formed_os) widths in
       subst (λ ts. Same tests right base subs loose H Q (call ps es c f k) (call ts (list_of (trees_of os)) (erased c) g l)) (sym (list_from r.trees))
       (subst (λ us. Same tests right base subs loose H Q (call ps es c f k) (call r.trees us (erased c) g l)) (sym (list_from (trees_in os)))
@@ -247,6 +254,9 @@ module _ (tests : Tests) (right : IsRight tests) (ds : List Decl) (loose : Bool)
         caller = by_expr H e S;
         at = refl;
         is_caller = (is_typed, (note span U.value k, r.value.places, trees_from r.value.trees, trees_of os, ap (λ (z : Typed). z.tree) (sym ends)));
+        allowed = chosen_below i.text (types_of os) subs f.value H.scope.class is2
+            (below_both q.class k H.scope.class (second_below (greatest Pure (effects_of os)) q.class)
+            (finish_below H.scope.class span (all_together Pure (effects_of os)) k U.value make S U.then));
       } in
       formed tests right ds base subs loose trees w H S (ex.Call span i ps es) c span U.value k make ends refl
       (calls_same H (Out tests right base subs loose H U.value) span i ps es os c f.value r.value (function_gives span) (function_gives span) op none ops (found_ok (choose i.text (types_of os) H.scope.subs) T09 span f.value f.first) r.first fit.first a
@@ -280,6 +290,11 @@ module _ (tests : Tests) (right : IsRight tests) (ds : List Decl) (loose : Bool)
         caller = by_stmt j x;
         at = refl;
         is_caller = (is_found, (span, r.value.places, trees_from r.value.trees, trees_of os, ap (λ (z : Done). z.act) (sym done_is)), k.body_is);
+        allowed = chosen_below i.text (types_of os) subs f.value G.class
+            (subst (λ z. choose i.text (types_of os) z ≡ Some f.value) k.at.subs_are
+            (found_ok (choose i.text (types_of os) G.subs) T09 span f.value f.first))
+            (below_both q.class (procedure_effect os q.class) G.class (second_below (greatest Pure (effects_of os)) q.class)
+            (need_ok (at_most (procedure_effect os q.class) G.class) T12 span tt v.first));
       } in
       acted tests right ds base subs loose trees w j true (st.Invoke span i ps es) c d done_is refl
       (λ e2. calls_same (here tests right ds base subs loose trees w j) (OutAct tests right ds base subs loose trees w j true) span i ps es os c f.value r.value (procedure_gives span) (procedure_gives span) op name ops (found_ok (choose i.text (types_of os) G.subs) T09 span f.value f.first) r.first fit.first k.at

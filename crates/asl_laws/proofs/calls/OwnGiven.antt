@@ -18,7 +18,7 @@ use Rattle.asl_rules.specs.runs.Trees.{TreeFunc}
 use Rattle.asl_rules.specs.expressions.Typing.{Operand, operand, operands, types_of}
 use Rattle.asl_rules.specs.expressions.Exprs.{found, typed, written}
 use Rattle.asl_rules.specs.expressions.Calls.{Given, polys, replaced_by, fits_written, params_fit}
-use Rattle.asl_rules.specs.declarations.Declarations.{in_names, names_of_program}
+use Rattle.asl_rules.specs.declarations.Declarations.{in_names}
 use Rattle.asl_rules.specs.declarations.Programs.{formals_rule, param_written, type_or_itself, param_entry, params_rule}
 use Rattle.asl_rules.specs.private.Agreement.{types_in}
 use Rattle.asl_rules.proofs.basics.Inversions.{ok_ok, bind_ok, then_ok}
@@ -29,7 +29,7 @@ use Rattle.asl_laws.proofs.scopes.WellTyped.{FormedSubs, typed_formed, written_f
 use Rattle.asl_laws.proofs.values.Routines.{AllWide, length_gives}
 use Rattle.asl_laws.proofs.widths.TypesOver.{Over}
 use Rattle.asl_laws.proofs.scopes.OverScope.{IsAtomOf, NamesOver}
-use Rattle.asl_laws.proofs.scopes.ScopesOver.{program_over}
+use Rattle.asl_laws.proofs.scopes.NamesOutside.{NamesOutside, outside_over}
 use Rattle.asl_laws.proofs.scopes.BodiesOver.{added_over, counted_in, itself_in, param_over}
 use Rattle.asl_laws.proofs.expressions.TreePlans.{append_nil}
 use Rattle.asl_laws.proofs.calls.OwnFrames.{integers_of, follows}
@@ -167,9 +167,9 @@ module _ (tests : Tests) (right : IsRight tests) (ds : List Decl) (base : List E
 
   -- what is given to parameters is of the types that are written there
   pub params_have : (a av : Assignment) (span : Span) (ps : List WrittenParam) (r : List Param × List Entry) (gs : List Given)
-      (xs : List Value) → names_of_program tests ds ≡ base → params_rule tests ps [] base ≡ Ok r →
+      (xs : List Value) → NamesOutside base → params_rule tests ps [] base ≡ Ok r →
       ((n : ℕ) → IsAtomOf r.0 n → behind (replaced_by r.0 gs) a n ≡ av n) → Paired r.0 gs → AllWide a (polys gs) xs →
       params_fit tests span (replaced_by r.0 gs) r.0 gs ≡ Ok tt → HasParams tests right ds base subs loose funcs w av ps base xs
-  params_have a av span ps r gs xs is h same c k f =
+  params_have a av span ps r gs xs out h same c k f =
       params_by a av span r.0 gs (all_fit a gs xs k) same ps r.0 gs base xs (along_all tests ps base r h) (λ m i. i)
-      (subst (NamesOver (IsAtomOf r.0)) is (program_over tests (IsAtomOf r.0) ds)) w.good c k f
+      (outside_over base out (IsAtomOf r.0)) w.good c k f

@@ -37,6 +37,12 @@ chosen_from all n name Ts (f ∷ fs) q at h = by (bytes_eq f.name name && same_k
 pub chosen_at : (name : List ℕ) (Ts : Parts) (subs : List Signature) (q : Chosen) → choose name Ts subs ≡ Some q → slice_get subs q.number ≡ Some q.signature
 chosen_at name Ts subs q h = chosen_from subs 0 name Ts subs q (λ m. ap (slice_get subs) (no_more m)) h
 
+-- what is allowed of the subprogram that is chosen is allowed of that of its number
+pub chosen_below : (name : List ℕ) (Ts : Parts) (subs : List Signature) (q : Chosen) (class : Effect) → choose name Ts subs ≡ Some q →
+    at_most q.signature.class class ≡ true → (s : Signature) → slice_get subs q.number ≡ Some s → at_most s.class class ≡ true
+chosen_below name Ts subs q class h k s e =
+    subst (λ (z : Signature). at_most z.class class ≡ true) (some_same q.signature s (sym (chosen_at name Ts subs q h) ∙ e)) k
+
 -- ---- a body
 
 pub itself_below : (k : Effect) → at_most k k ≡ true
@@ -50,6 +56,7 @@ module _ (tests : Tests) (base : List Entry) (subs : List Signature) (loose : Bo
     pub caller : Caller
     pub at : caller_at caller ≡ H
     pub is_caller : IsCaller tests base subs loose caller id
+    pub allowed : (s : Signature) → slice_get subs id ≡ Some s → at_most s.class H.scope.class ≡ true
 
   waits : (H : Here) (id : ℕ) (c : Core) → (k : Opens H id) → At tests base subs loose H c → Waiting tests base subs loose (record { names = c.frame; handled = c.handled }) c.callers id c.live
   waits H id c k a = record {

@@ -7,7 +7,7 @@ use Rattle.asl_rules.specs.Faults.{◌>>=◌, ◌>>◌}
 use Rattle.asl_rules.specs.Tests.{Tests}
 use Rattle.asl_rules.specs.declarations.Names.{names_rule, all_declared}
 use Rattle.asl_rules.specs.declarations.Uses.{cycles_rule}
-use Rattle.asl_rules.specs.declarations.Declarations.{globals_rule}
+use Rattle.asl_rules.specs.declarations.Turns.{globals_rule}
 use Rattle.asl_rules.specs.declarations.Programs.{accepted, funcs_of, signatures, signatures_rule, overloads_rule, bodies_rule, entry_rule}
 use Rattle.asl_rules.specs.declarations.Programs.{verdict}
 use Rattle.asl_laws.specs.certificates.Certificates.{heads_of}

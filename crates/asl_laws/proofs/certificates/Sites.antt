@@ -27,7 +27,7 @@ use Rattle.asl_rules.specs.expressions.Exprs.{FoundField, typed_rule, found, fou
 use Rattle.asl_rules.specs.expressions.Exprs.{expr_rule, given_rule, slice_rule, part_rule, bitfield_rule, type_rule, pattern_rule}
 use Rattle.asl_rules.proofs.basics.Inversions.{bind_ok, then_ok, need_ok}
 use Rattle.asl_rules.proofs.basics.Opening.{found_field, found_bitfield, found_part, opened, field_opened, pattern_opened}
-use Rattle.asl_rules.proofs.verdict.SameRules.{AllOf}
+use Rattle.asl_laws.proofs.basics.Lists.{AllOf}
 use Rattle.asl_laws.proofs.spans.Inductions.{Shown, Exprs, Givens, Patterns, Slices, ExprNode, FieldValueNode, PatternNode, SliceNode}
 use Rattle.asl_laws.proofs.spans.Inductions.{expr_trees, given_trees, pattern_trees, slice_trees, Steps, each_expr, each_pattern}
 use Rattle.asl_laws.proofs.spans.Inductions.{each_slice}

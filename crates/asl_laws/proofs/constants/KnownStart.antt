@@ -1,6 +1,6 @@
 -- As a run begins, each name has the value that it has before any run: what stands for storage outside bodies comes from its declaration.
-use Rattle.std.proofs.Common.{◌≡◌, ℕ, zero, suc, Bool, true, false, cond, ◌⊎◌, inl, inr, List, [], ◌∷◌, ◌++◌, Option, Some, None, Result, Ok, Err, refl, sym, ap, ◌∙◌, subst, map}
-use Rattle.std.specs.Prelude.{length, option_map, option_and_then}
+use Rattle.std.proofs.Common.{◌≡◌, ℕ, Bool, true, false, cond, ◌⊎◌, inl, inr, List, [], ◌∷◌, Option, Some, None, Ok, Err, refl, sym, ap, ◌∙◌, subst}
+use Rattle.std.specs.Prelude.{Result, length, option_map, option_and_then}
 use Rattle.std.specs.Str.{bytes_eq}
 use Rattle.asl_syn.specs.declared.code.Fault.{Fault}
 use Rattle.asl_syn.specs.declared.tree.Ident.{Ident}
@@ -13,17 +13,17 @@ use Rattle.asl_rules.specs.Faults.{◌>>=◌}
 use Rattle.asl_rules.specs.Tests.{Tests}
 use Rattle.asl_rules.specs.types.Types.{Ty, named, structure}
 use Rattle.asl_rules.specs.values.Values.{Value}
-use Rattle.asl_rules.specs.declarations.Names.{library}
-use Rattle.asl_rules.specs.declarations.Scopes.{Entry, Standing, Stored, Subprogram, TypeName, Label, Storage, Scope, standing_of, storage_in, storage_of, subprogram}
-use Rattle.asl_rules.specs.declarations.Declarations.{Judged, Waiting, Fine, Faulty, judged, entries_of, entries, all_fine, def_rule, supertype_rule, label_entries, type_entries, storage_rule, decl_rule, in_names, judged_by, still, judgement, final, names_of_program}
+use Rattle.asl_rules.specs.declarations.Scopes.{Entry, Standing, Stored, Subprogram, TypeName, Label, Storage, Scope, standing_of, storage_in, storage_of}
+use Rattle.asl_rules.specs.declarations.Declarations.{def_rule, supertype_rule, label_entries, type_entries, storage_rule, decl_rule, in_names}
 use Rattle.asl_rules.specs.declarations.Declarations as decl
-use Rattle.asl_rules.specs.declarations.Uses.{uses}
 use Rattle.asl_rules.specs.runs.States.{Binding, resting}
 use Rattle.asl_rules.specs.declarations.Constants.{initial_value}
 use Rattle.asl_rules.specs.runs.Evaluation.{value_of, or_value, label_in, global_with, global_in, cons_some, globals_among}
 use Rattle.asl_laws.specs.BeforeRuns.{HoldsInitial, BeginsSo}
-use Rattle.asl_rules.proofs.basics.Tests.{same_name, name_is, some_same, none_some, no}
-use Rattle.asl_rules.proofs.scopes.EachOnce.{entries_keep}
+use Rattle.asl_laws.specs.Evaluated.{names_after}
+use Rattle.asl_rules.proofs.basics.Tests.{same_name, name_is, no}
+use Rattle.asl_rules.proofs.verdict.Distinct.{In}
+use Rattle.asl_rules.proofs.verdict.EachName.{EachName, name_has, visible_have}
 
 -- ---- what stands for storage has a name with P
 
@@ -34,12 +34,7 @@ One P name (TypeName T) = Unit {0}
 One P name (Label T x) = Unit {0}
 
 abbrev From : (List ℕ → Type 0) → List Entry → Type 0
-From P [] = Unit {0}
-From P (e ∷ es) = One P e.name e.standing × From P es
-
-from_append : (P : List ℕ → Type 0) (xs ys : List Entry) → From P xs → From P ys → From P (xs ++ ys)
-from_append P [] ys a b = b
-from_append P (e ∷ es) ys a b = (a.0, from_append P es ys a.1 b)
+From P es = EachName (λ e. One P e.name e.standing) es
 
 one_more : (P Q : List ℕ → Type 0) → ((name : List ℕ) → P name → Q name) → (name : List ℕ) (s : Standing) → One P name s → One Q name s
 one_more P Q f name (Stored s) a = f name a
@@ -51,23 +46,6 @@ from_more : (P Q : List ℕ → Type 0) → ((name : List ℕ) → P name → Q 
 from_more P Q f [] a = tt
 from_more P Q f (e ∷ es) a = (one_more P Q f e.name e.standing a.0, from_more P Q f es a.1)
 
-from_library : (P : List ℕ → Type 0) (names : List (List ℕ)) → From P (map subprogram names)
-from_library P [] = tt
-from_library P (n ∷ ns) = (tt, from_library P ns)
-
--- a name that stands for storage
-found_one : (P : List ℕ → Type 0) (name : List ℕ) (s : Storage) (t : Standing) → One P name t → t ≡ Stored s → P name
-found_one P name s t a h = subst (One P name) h a
-
--- the first entry has the name, or not
-found_in : (P : List ℕ → Type 0) (e : Entry) (o : Option Standing) (name : List ℕ) (s : Storage) → One P e.name e.standing → (o ≡ Some (Stored s) → P name) → (b : Bool) → bytes_eq e.name name ≡ b → cond b (Some e.standing) o ≡ Some (Stored s) → P name
-found_in P e o name s a rest true is h = found_one P name s e.standing (subst (λ n. One P n e.standing) (same_name e.name name is) a) (some_same e.standing (Stored s) h)
-found_in P e o name s a rest false is h = rest h
-
-found_from : (P : List ℕ → Type 0) (es : List Entry) (name : List ℕ) (s : Storage) → From P es → standing_of name es ≡ Some (Stored s) → P name
-found_from P [] name s a h = none_some (Stored s) h
-found_from P (e ∷ es) name s a h = found_in P e (standing_of name es) name s a.0 (found_from P es name s a.1) (bytes_eq e.name name) refl h
-
 -- ---- declarations
 
 abbrev IsStorage : Decl → List ℕ → Type 0
@@ -78,6 +56,11 @@ IsStorage (dc.Func f) name = ⊥
 abbrev HasStorage : List Decl → List ℕ → Type 0
 HasStorage [] name = ⊥
 HasStorage (d ∷ ds) name = IsStorage d name ⊎ HasStorage ds name
+
+has_storage : (ds : List Decl) (d : Decl) (name : List ℕ) → In d ds → IsStorage d name → HasStorage ds name
+has_storage [] d name i h = absurd i
+has_storage (e ∷ ds) d name (inl q) h = inl (subst (λ z. IsStorage z name) (sym q) h)
+has_storage (e ∷ ds) d name (inr i) h = inr (has_storage ds d name i h)
 
 abbrev OkFrom : Decl → Result (List Entry) Fault → Type 0
 OkFrom d (Ok es) = From (IsStorage d) es
@@ -102,41 +85,13 @@ decl_from t (dc.Type d) G = bind_from (dc.Type d) (def_rule t d.name.text d.def 
 decl_from t (dc.Storage d) G = bind_from (dc.Storage d) (storage_rule t d (decl.is_var d.kind) d.ty d.init G) _ (λ s. (refl, tt))
 decl_from t (dc.Func f) G = (tt, tt)
 
-abbrev JudgedFrom : Decl → Judged → Type 0
-JudgedFrom d Waiting = Unit {0}
-JudgedFrom d (Fine es) = From (IsStorage d) es
-JudgedFrom d (Faulty f) = Unit {0}
-
-judged_from : (d : Decl) (r : Result (List Entry) Fault) → OkFrom d r → JudgedFrom d (judged r)
-judged_from d (Ok es) a = a
-judged_from d (Err f) a = a
-
-if_from : (d : Decl) (b : Bool) (j : Judged) → JudgedFrom d j → JudgedFrom d (cond b j Waiting)
-if_from d true j a = a
-if_from d false j a = tt
-
-still_from : (d : Decl) (j k : Judged) → JudgedFrom d j → JudgedFrom d k → JudgedFrom d (still j k)
-still_from d Waiting k a b = b
-still_from d (Fine es) k a b = a
-still_from d (Faulty f) k a b = a
-
-by_from : (t : Tests) (f : Decl → Judged) (ds : List Decl) (d : Decl) → JudgedFrom d (judged_by t f ds d)
-by_from t f ds d = if_from d (all_fine f (uses d) ds) _ (judged_from d (decl_rule t d (in_names (map subprogram library ++ entries f ds))) (decl_from t d (in_names (map subprogram library ++ entries f ds))))
-
-judgement_from : (t : Tests) (n : ℕ) (ds : List Decl) (d : Decl) → JudgedFrom d (judgement t n ds d)
-judgement_from t zero ds d = tt
-judgement_from t (suc n) ds d = still_from d (judgement t n ds d) (judged_by t (λ e. judgement t n ds e) ds d) (judgement_from t n ds d) (by_from t (λ e. judgement t n ds e) ds d)
-
-entries_of_from : (d : Decl) (j : Judged) → JudgedFrom d j → From (IsStorage d) (entries_of j)
-entries_of_from d Waiting a = tt
-entries_of_from d (Fine es) a = a
-entries_of_from d (Faulty f) a = tt
-
-entries_from : (f : Decl → Judged) → ((d : Decl) → JudgedFrom d (f d)) → (ds : List Decl) → From (HasStorage ds) (entries f ds)
-entries_from f h [] = tt
-entries_from f h (d ∷ ds) = from_append (HasStorage (d ∷ ds)) (entries_of (f d)) (entries f ds)
-    (from_more (IsStorage d) (HasStorage (d ∷ ds)) (λ name a. inl a) (entries_of (f d)) (entries_of_from d (f d) (h d)))
-    (from_more (HasStorage ds) (HasStorage (d ∷ ds)) (λ name a. inr a) (entries f ds) (entries_from f h ds))
+-- after any number of turns each name of storage is that of a declaration
+names_from : (t : Tests) (n : ℕ) (ds : List Decl) → From (HasStorage ds) (names_after t n ds)
+names_from t n ds =
+    visible_have (λ e. One (HasStorage ds) e.name e.standing) (λ m. tt) t ds (λ d i. has_storage ds (dc.Storage d) d.name.text i refl)
+    (λ d i names a es h.
+    let own : From (IsStorage d) es = subst (OkFrom d) h (decl_from t d (in_names names)) in
+    from_more (IsStorage d) (HasStorage ds) (λ name k. has_storage ds d name i k) es own) n
 
 -- ---- the globals as a run begins
 
@@ -200,7 +155,9 @@ module _ (names : List Entry) (ds : List Decl) (from : From (HasStorage ds) name
 
   stored : (s : Storage) (i : Option Value) → s.initial ≡ i → standing_of name names ≡ Some (Stored s) → Holds (Some (Stored s))
   stored s None e is = none_held (Some (Stored s)) is e (sym e)
-  stored s (Some x) e is = ap (λ v. or_value v None) (present names name x (ap (λ z. held_by (storage_in z)) is ∙ e) ds (found_from (HasStorage ds) names name s from is)) ∙ sym e
+  stored s (Some x) e is =
+      let of_decl : HasStorage ds name = name_has (One (HasStorage ds)) names name (Stored s) from is in
+      ap (λ v. or_value v None) (present names name x (ap (λ z. held_by (storage_in z)) is ∙ e) ds of_decl) ∙ sym e
 
   each : (o : Option Standing) → standing_of name names ≡ o → Holds o
   each None is = none_held None is refl refl
@@ -209,15 +166,12 @@ module _ (names : List Entry) (ds : List Decl) (from : From (HasStorage ds) name
   each (Some (Label T x)) is = none_held (Some (Label T x)) is refl refl
   each (Some (Stored s)) is = stored s s.initial refl is
 
--- after any number of rounds
-pub starts_at : (t : Tests) (n : ℕ) (ds : List Decl) → let names : List Entry = map subprogram library ++ entries (judgement t n ds) ds in HoldsInitial (record { decls = ds; names = names; limit = t.limit }) (resting (globals_among ds names))
-starts_at t n ds name =
-    let names : List Entry = map subprogram library ++ entries (judgement t n ds) ds in
-    let from = from_append (HasStorage ds) (map subprogram library) (entries (judgement t n ds) ds) (from_library (HasStorage ds) library) (entries_from (judgement t n ds) (judgement_from t n ds) ds) in
-    each names ds from name (standing_of name names) refl
+-- after any number of turns
+pub starts_at : (t : Tests) (n : ℕ) (ds : List Decl) →
+    let names : List Entry = names_after t n ds in
+    HoldsInitial (record { decls = ds; names = names; limit = t.limit }) (resting (globals_among ds names))
+starts_at t n ds name = each (names_after t n ds) ds (names_from t n ds) name (standing_of name (names_after t n ds)) refl
 
+-- and so as a run begins
 pub starts : (t : Tests) (ds : List Decl) → BeginsSo t ds
-starts t ds name =
-    let own = entries_from (final t ds) (judgement_from t (suc (length ds)) ds) ds in
-    let from = entries_keep (From (HasStorage ds)) (from_append (HasStorage ds)) (λ e es h. ((h.0, tt), h.1)) (entries (final t ds) ds) (map subprogram library) own (from_library (HasStorage ds) library) in
-    each (names_of_program t ds) ds from name (standing_of name (names_of_program t ds)) refl
+starts t ds = starts_at t (length ds) ds

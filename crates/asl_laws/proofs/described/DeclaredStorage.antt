@@ -27,7 +27,8 @@ use Rattle.asl_rules.specs.runs.Plans.{Faulted, Stuck, Pure, Good, Bad}
 use Rattle.asl_rules.specs.runs.Pures as pures
 use Rattle.asl_rules.specs.declarations.Constants.{constant}
 use Rattle.asl_rules.specs.types.Written.{Sized, first_value, type_span, type_layer_span}
-use Rattle.asl_rules.specs.declarations.Declarations.{in_names, evaluated, Initial, with_type, unannotated, known, first_in, storage_rule, is_var, names_of_program}
+use Rattle.asl_rules.specs.declarations.Declarations.{in_names, evaluated, Initial, with_type, unannotated, known, first_in, storage_rule, is_var}
+use Rattle.asl_rules.specs.declarations.Turns.{names_of_program}
 use Rattle.asl_rules.specs.declarations.Programs.{Environment, environment}
 use Rattle.asl_laws.specs.Described.{begins_with, HasWritten, StorageDescribed}
 use Rattle.asl_rules.proofs.basics.Inversions.{ok_ok, err_ok, bind_ok, then_ok}
@@ -124,12 +125,12 @@ module _ (t : Tests) (ds : List Decl) (g : Outside t ds) where
 
   pub storage_described : (d : StorageDecl) → In (dc.Storage d) ds → StorageDescribed env d
   storage_described d i =
-      let b = g.brings (dc.Storage d) i in
+      let b = g.brings (dc.Storage d) i refl in
       let name = d.name.text in
       let s = bind_ok (storage_rule t d (is_var d.kind) d.ty d.init (in_names names)) _ b.entries b.gives in
       let st : Standing = Stored (stored (is_var d.kind) s.value) in
       let e : b.entries ≡ global name s.value.ty (is_var d.kind) s.value.value ∷ [] = sym (ok_ok (global name s.value.ty (is_var d.kind) s.value.value ∷ []) b.entries s.then) in
       let here : standing_of name b.entries ≡ Some st = ap (standing_of name) e ∙ ap (λ c. cond c (Some st) None) (name_is name) in
-      let known_so : standing_of name names ≡ Some st = stands t ds g (dc.Storage d) b.entries name st i b.is_fine here tt in
+      let known_so : standing_of name names ≡ Some st = stands t ds g (dc.Storage d) b.entries name st b.is_of here tt in
       let k = begins d (is_var d.kind) d.ty d.init s.value s.first in
       record { storage = stored (is_var d.kind) s.value; stands = ap storage_in known_so; mutable = refl; value = s.value.value; is = k.is; begins = refl; has = k.has }

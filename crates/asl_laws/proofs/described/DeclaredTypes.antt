@@ -1,5 +1,5 @@
 -- Each declared type stands for what evaluating its declaration gives, and each label for its value.
-use Rattle.std.proofs.Common.{◌≡◌, ℕ, suc, inl, inr, Bool, true, false, cond, List, [], ◌∷◌, ◌++◌, Option, Some, None, Ok, refl, sym, ap, ap₂, ◌∙◌, subst, map, length}
+use Rattle.std.proofs.Common.{◌≡◌, ℕ, inl, inr, Bool, true, false, cond, List, [], ◌∷◌, ◌++◌, Option, Some, None, Ok, refl, sym, ap, ap₂, ◌∙◌, subst, map}
 use Rattle.std.specs.Prelude.{option_map, option_and_then}
 use Rattle.std.specs.Str.{bytes_eq}
 use Rattle.asl_syn.specs.declared.code.StaticCode.TheVariants.{T02, T15, T25}
@@ -23,7 +23,9 @@ use Rattle.asl_rules.specs.declarations.Scopes.{Entry, Standing, Stored, Subprog
 use Rattle.asl_rules.specs.types.Widths.{bounded}
 use Rattle.asl_rules.specs.expressions.Exprs.{written}
 use Rattle.asl_rules.specs.private.Agreement.{no_atoms}
-use Rattle.asl_rules.specs.declarations.Declarations.{in_names, fields_written, once, labels, def_rule, reached, is_none, supertype_rule, label_entries, type_entries, Fine, final, names_of_program}
+use Rattle.asl_rules.specs.private.Judgements.{CameOf}
+use Rattle.asl_rules.specs.declarations.Declarations.{in_names, fields_written, once, labels, def_rule, reached, is_none, supertype_rule, label_entries, type_entries}
+use Rattle.asl_rules.specs.declarations.Turns.{Fine, final, names_of_program}
 use Rattle.asl_rules.specs.declarations.Programs.{Environment, environment}
 use Rattle.asl_rules.specs.runs.Evaluation.{label_in}
 use Rattle.asl_laws.specs.Described.{structure_at, with_field, written_fields, definition, names_at, supertypes, LabelsDescribed, DefinitionDescribed, TypeDescribed}
@@ -31,8 +33,7 @@ use Rattle.asl_rules.proofs.basics.Inversions.{ok_ok, bind_ok, then_ok, found_ok
 use Rattle.asl_rules.proofs.basics.Tests.{no, some_same, none_some, same_name, name_is}
 use Rattle.asl_rules.proofs.scopes.EachOnce.{turned}
 use Rattle.asl_rules.proofs.verdict.Distinct.{ApartFrom, Distinct, NotIn, apart_later, rest_distinct, IsPlain, In}
-use Rattle.asl_rules.proofs.verdict.Settled.{own_at}
-use Rattle.asl_rules.proofs.verdict.SharedNames.{names_stand}
+use Rattle.asl_rules.proofs.verdict.Named.{final_stands, own_stands}
 use Rattle.asl_laws.proofs.described.Forms.{GoesBy, formed}
 use Rattle.asl_laws.proofs.described.WrittenTypes.{Outside, written_is}
 
@@ -91,9 +92,10 @@ module _ (t : Tests) (ds : List Decl) (g : Outside t ds) where
   abbrev env : Environment
   env = environment t ds
 
-  -- what a declaration brings is found among all names
-  pub stands : (d : Decl) (es : List Entry) (name : List ℕ) (st : Standing) → In d ds → final t ds d ≡ Fine es → standing_of name es ≡ Some st → IsPlain st → standing_of name names ≡ Some st
-  stands d es name st i q h p = sym (names_stand t ds name) ∙ own_at t ds g.distinct (suc (length ds)) d es name st i q h p
+  -- what a declaration brings is visible
+  pub stands : (d : Decl) (es : List Entry) (name : List ℕ) (st : Standing) → CameOf d (Fine es) ds (final t ds) →
+      standing_of name es ≡ Some st → IsPlain st → standing_of name names ≡ Some st
+  stands d es name st c h p = own_stands ds (final t ds) d (Fine es) name st (final_stands t ds) g.distinct c h p
 
   -- ---- what a declared type stands for
 
@@ -132,41 +134,49 @@ module _ (t : Tests) (ds : List Decl) (g : Outside t ds) where
       let U = f.value in
       let n = then_ok (need (is_none (misfit t (structure T) (structure U))) T25 u.span) (Ok (reached u.text U)) supers f.then in
       let k : type_of_name u.text names ≡ Some U = found_ok (type_of_name u.text names) T02 u.span U f.first in
-      let b : GoesBy u.text U = formed t ds g.brings u.text (TypeName U) (type_standing (standing_of u.text names) U k) in
+      let b : GoesBy u.text U = formed t ds u.text (TypeName U) (type_standing (standing_of u.text names) U k) in
       ap (λ o. option_map names_at (option_map closed o)) k ∙ ap Some (reached_is u.text U b) ∙ ap Some (ok_ok (reached u.text U) supers n.then)
 
   -- ---- labels
 
-  labels_are : (d : Decl) (es : List Entry) (name : List ℕ) (T : Ty) (own : Entry) (is js : List Ident) → In d ds → final t ds d ≡ Fine es → es ≡ own ∷ map (label_entry name T) is → NotIn own.name (map (declared_as false) js) → ((i : Ident) → In i js → In i is) → LabelsDescribed env name js
-  labels_are d es name T own is [] i q e n f = tt
-  labels_are d es name T own is (j ∷ js) i q e n f =
+  labels_are : (d : Decl) (es : List Entry) (name : List ℕ) (T : Ty) (own : Entry) (is js : List Ident) →
+      CameOf d (Fine es) ds (final t ds) → es ≡ own ∷ map (label_entry name T) is → NotIn own.name (map (declared_as false) js) →
+      ((i : Ident) → In i js → In i is) → LabelsDescribed env name js
+  labels_are d es name T own is [] c e n f = tt
+  labels_are d es name T own is (j ∷ js) c e n f =
       let here : standing_of j.text es ≡ Some (Label T (label name j.text)) =
-      ap (standing_of j.text) e ∙ ap (λ b. cond b (Some own.standing) (standing_of j.text (map (label_entry name T) is))) (turned j.text own.name n.0) ∙ label_found name T is j (f j (inl refl)) in
-      (ap label_in (stands d es j.text (Label T (label name j.text)) i q here tt), labels_are d es name T own is js i q e n.1 (λ k m. f k (inr m)))
+      ap (standing_of j.text) e ∙ ap (λ b. cond b (Some own.standing) (standing_of j.text (map (label_entry name T) is))) (turned j.text own.name n.0) ∙ label_found name T is j (f j (inl refl)) in (
+        ap label_in (stands d es j.text (Label T (label name j.text)) c here tt),
+        labels_are d es name T own is js c e n.1 (λ k m. f k (inr m)),
+      )
 
-  def_described : (d : TypeDecl) (def : TypeDef) (es : List Entry) (T : Ty) → In (dc.Type d) ds → final t ds (dc.Type d) ≡ Fine es → es ≡ type_name d.name.text T ∷ label_entries def d.name.text T → NotIn d.name.text (map (declared_as false) (labels_of def)) → DefinitionDescribed env d.name.text def
-  def_described d (td.Alias ty) es T i q e n = tt
-  def_described d (td.Labels span is) es T i q e n = labels_are (dc.Type d) es d.name.text T (type_name d.name.text T) is is i q e n (λ k m. m)
-  def_described d (td.Record span fs) es T i q e n = tt
-  def_described d (td.Exception span fs) es T i q e n = tt
+  def_described : (d : TypeDecl) (def : TypeDef) (es : List Entry) (T : Ty) → CameOf (dc.Type d) (Fine es) ds (final t ds) →
+      es ≡ type_name d.name.text T ∷ label_entries def d.name.text T → NotIn d.name.text (map (declared_as false) (labels_of def)) →
+      DefinitionDescribed env d.name.text def
+  def_described d (td.Alias ty) es T c e n = tt
+  def_described d (td.Labels span is) es T c e n = labels_are (dc.Type d) es d.name.text T (type_name d.name.text T) is is c e n (λ k m. m)
+  def_described d (td.Record span fs) es T c e n = tt
+  def_described d (td.Exception span fs) es T c e n = tt
 
   -- ---- a declaration
 
   pub type_described : (d : TypeDecl) → In (dc.Type d) ds → TypeDescribed env d
   type_described d i =
-      let b = g.brings (dc.Type d) i in
+      let b = g.brings (dc.Type d) i refl in
       let name = d.name.text in
       let v = bind_ok (def_rule t name d.def (in_names names)) _ b.entries b.gives in
       let s = bind_ok (supertype_rule t d.supertype v.value (in_names names)) _ b.entries v.then in
       let T : Ty = named name s.value (structure v.value) in
       let e : b.entries ≡ type_entries d T = sym (ok_ok (type_entries d T) b.entries s.then) in
       let here : standing_of name b.entries ≡ Some (TypeName T) = ap (standing_of name) e ∙ ap (λ c. cond c (Some (TypeName T)) (standing_of name (label_entries d.def name T))) (name_is name) in
-      let known : standing_of name names ≡ Some (TypeName T) = stands (dc.Type d) b.entries name (TypeName T) i b.is_fine here tt in
+      let known : standing_of name names ≡ Some (TypeName T) = stands (dc.Type d) b.entries name (TypeName T) b.is_of here tt in
       let apart = (distinct_in ds (dc.Type d) i g.distinct).1 in
       record {
         stands_for = closed T;
         is = ap (option_and_then (λ C. option_map (λ supers. cl.named name supers C) (supertypes env d.supertype))) (definition_is name d.def v.value v.first)
             ∙ ap (option_map (λ supers. cl.named name supers (closed (structure v.value)))) (supertypes_are d.supertype v.value s.value s.first);
         stands = ap (λ o. option_map closed (type_in o)) known;
-        def = def_described d d.def b.entries T i b.is_fine e (apart_later (declared_as false d.name) (map (declared_as false) (labels_of d.def)) refl apart);
+        def =
+            def_described d d.def b.entries T b.is_of e
+            (apart_later (declared_as false d.name) (map (declared_as false) (labels_of d.def)) refl apart);
       }

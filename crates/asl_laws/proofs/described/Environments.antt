@@ -9,7 +9,7 @@ use Rattle.asl_rules.specs.Tests.{Tests, IsRight}
 use Rattle.asl_rules.specs.declarations.Names.{names_rule, all_declared}
 use Rattle.asl_rules.specs.declarations.Uses.{cycles_rule}
 use Rattle.asl_rules.specs.private.Grown.{AreGrown}
-use Rattle.asl_rules.specs.declarations.Declarations.{faults_rule, globals_rule, names_of_program}
+use Rattle.asl_rules.specs.declarations.Turns.{final, faults_rule, globals_rule, names_of_program}
 use Rattle.asl_rules.specs.declarations.Programs.{verdict, Accepted, ProgramOk, environment}
 use Rattle.asl_rules.specs.runs.Evaluation.{initial_globals}
 use Rattle.asl_laws.specs.Described.{Described, AllDescribed, Describes}
@@ -21,7 +21,7 @@ use Rattle.asl_laws.proofs.soundness.GivenTypes.{belong_by_forms}
 use Rattle.asl_laws.proofs.soundness.Soundness.{others_of}
 use Rattle.asl_laws.proofs.soundness.SoundnessEnds.{no_calls, no_procedures}
 use Rattle.asl_rules.proofs.verdict.Distinct.{Distinct, distinct_of, In}
-use Rattle.asl_rules.proofs.verdict.Settled.{all_bring}
+use Rattle.asl_laws.proofs.names.Turned.{all_bring}
 use Rattle.asl_laws.proofs.described.WrittenTypes.{Outside}
 use Rattle.asl_laws.proofs.described.DeclaredTypes.{type_described}
 use Rattle.asl_laws.proofs.described.DeclaredStorage.{storage_described}
@@ -36,7 +36,8 @@ module _ (t : Tests) (ds : List Decl) (g : Outside t ds) where
   all_described [] f = tt
   all_described (d ∷ rs) f = (one_described d (f d (inl refl)), all_described rs (λ e i. f e (inr i)))
 
-outside : (t : Tests) (ds : List Decl) → IsRight t → AreGrown ds → names_rule [] (all_declared ds) ≡ Ok tt → cycles_rule ds ds ≡ Ok tt → faults_rule t ds ds ≡ Ok tt → Outside t ds
+outside : (t : Tests) (ds : List Decl) → IsRight t → AreGrown ds → names_rule [] (all_declared ds) ≡ Ok tt → cycles_rule ds ds ≡ Ok tt →
+    faults_rule (final t ds) ≡ Ok tt → Outside t ds
 outside t ds right grown apart cycles faults =
     let distinct : Distinct (all_declared ds) = distinct_of (all_declared ds) [] apart in
     let labels = grown_labels ds grown in
@@ -44,7 +45,7 @@ outside t ds right grown apart cycles faults =
     record {
       right = right;
       distinct = distinct;
-      brings = all_bring t ds apart cycles faults;
+      brings = all_bring t ds cycles faults;
       named = names_good t right ds distinct labels belong;
       agrees = resting_agrees (names_of_program t ds) (initial_globals (environment t ds)) (globals_good t right ds distinct labels belong);
     }
@@ -55,7 +56,7 @@ program_described t e ds a right grown h =
     let n = then_ok (names_rule [] (all_declared ds)) _ a h in
     let c = then_ok (cycles_rule ds ds) _ a n.then in
     let s = bind_ok (globals_rule t ds) _ a c.then in
-    let f = then_ok (faults_rule t ds ds) (Ok (names_of_program t ds)) s.value s.first in
+    let f = then_ok (faults_rule (final t ds)) (Ok (names_of_program t ds)) s.value s.first in
     all_described t ds (outside t ds right grown n.first c.first f.first) ds (λ d i. i)
 
 -- so it is of each program that is read from files

@@ -25,7 +25,8 @@ use Rattle.asl_rules.specs.types.Shaped.{shape_of, type_parts}
 use Rattle.asl_rules.specs.runs.Trees.{Tree}
 use Rattle.asl_rules.specs.runs.States.{resting}
 use Rattle.asl_rules.specs.private.Agreement.{no_atoms, types_in, Agrees}
-use Rattle.asl_rules.specs.declarations.Declarations.{in_names, names_of_program}
+use Rattle.asl_rules.specs.declarations.Declarations.{in_names}
+use Rattle.asl_rules.specs.declarations.Turns.{takes_turn, names_of_program}
 use Rattle.asl_rules.specs.declarations.Programs.{Environment, environment}
 use Rattle.asl_rules.specs.types.Written.{Sized, sized, filled, type_span}
 use Rattle.asl_rules.specs.runs.Evaluation.{types_of, sized_at, initial_globals}
@@ -44,7 +45,7 @@ use Rattle.asl_laws.proofs.expressions.TreePlans.{AllAsked, AllGive, append_nil}
 use Rattle.asl_laws.proofs.widths.OutsideWidths.{NoneCounted, outside_whole}
 use Rattle.asl_laws.proofs.widths.WholeWidths.{number_width, width_value}
 use Rattle.asl_rules.proofs.verdict.Distinct.{Distinct, In}
-use Rattle.asl_rules.proofs.verdict.Settled.{Brought}
+use Rattle.asl_laws.proofs.names.Turned.{Brought}
 use Rattle.asl_rules.proofs.widths.Known.{integer_of_width, integer_of_number}
 use Rattle.asl_laws.proofs.widths.PresentNumbers.{NumbersAgree}
 use Rattle.asl_laws.proofs.described.FirstFilled.{Begins, filled_begins}
@@ -55,7 +56,7 @@ use Rattle.asl_laws.proofs.expressions.Claims.{Here, Asked, of_type, of_pure, of
 pub record Outside (t : Tests) (ds : List Decl) : Type 0 where
   pub right : IsRight t
   pub distinct : Distinct (all_declared ds)
-  pub brings : (d : Decl) → In d ds → Brought t ds d
+  pub brings : (d : Decl) → In d ds → takes_turn d ≡ true → Brought t ds d
   pub named : WellNamed (names_of_program t ds)
   pub agrees : Agrees (names_of_program t ds) (names_of_program t ds) no_atoms (resting (initial_globals (environment t ds)))
 
@@ -91,7 +92,7 @@ module _ (t : Tests) (ds : List Decl) (g : Outside t ds) where
       width_of_standing span o ≡ Ok p → IsFixed (known_numbers env name) p
   width_of_name span name p (Some (Stored s)) e h =
       let u = then_ok (need (is_integer s.ty) T05 span) (width_of_counted span s.counted (known_value s)) p h in
-      let k : s.counted ≡ None = formed t ds g.brings name (Stored s) e in
+      let k : s.counted ≡ None = formed t ds name (Stored s) e in
       let w : width_of_known span (known_value s) ≡ Ok p = subst (λ c. width_of_counted span c (known_value s) ≡ Ok p) k u.then in
       let x = known_width span s p (known_value s) refl w in
       (ap (λ o. option_and_then fixed_storage (storage_in o)) e ∙ x.0, x.1)
@@ -103,7 +104,7 @@ module _ (t : Tests) (ds : List Decl) (g : Outside t ds) where
   number_of_name : (span : Span) (name : List ℕ) (z : ℤ) (o : Option Standing) → standing_of name names ≡ o → number_of_standing span o ≡ Ok z → known_numbers env name ≡ Some z
   number_of_name span name z (Some (Stored s)) e h =
       let u = then_ok (need (is_integer s.ty) T05 span) (number_of_counted span s.counted (known_value s)) z h in
-      let k : s.counted ≡ None = formed t ds g.brings name (Stored s) e in
+      let k : s.counted ≡ None = formed t ds name (Stored s) e in
       let w : number_of_known span (known_value s) ≡ Ok z = subst (λ c. number_of_counted span c (known_value s) ≡ Ok z) k u.then in
       ap (λ o. option_and_then fixed_storage (storage_in o)) e ∙ known_number span s z (known_value s) refl w
   number_of_name span name z (Some (Label T x)) e h = err_ok (fault_of T05 span) z h
@@ -136,7 +137,7 @@ module _ (t : Tests) (ds : List Decl) (g : Outside t ds) where
   filled_by ty zs s (Some shape) h = filled_begins t.limit (type_span ty) shape zs s h
 
   none_counted : NoneCounted names
-  none_counted name s e = formed t ds g.brings name (Stored s) e
+  none_counted name s e = formed t ds name (Stored s) e
 
   at_names : Here
   at_names = record { scope = in_names names; present = no_atoms; around = nothing_around }

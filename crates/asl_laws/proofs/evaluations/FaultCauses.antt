@@ -49,7 +49,7 @@ use Rattle.asl_laws.proofs.spans.ProgramSpans.{IsOutside, AsksOf, verdict_stands
 use Rattle.asl_laws.proofs.evaluations.NeverStuck.{evaluates}
 use Rattle.asl_syn.specs.declared.read.ReadDecl.{ReadDecl}
 use Rattle.asl_laws.proofs.verdict.ReadVerdict.{Faulty, HeaderSays, bodies_say, fault_of_steps}
-use Rattle.asl_rules.proofs.verdict.SameRules.{AllOf}
+use Rattle.asl_laws.proofs.basics.Lists.{AllOf}
 use Rattle.asl_rules.specs.declarations.Replacing.{Header, header_of, bodies_matched}
 
 -- the code isn't that of literals that are none
@@ -142,7 +142,7 @@ module _ (t : Tests) (ds : List Decl) where
 
   module _ (given : Evaluates t ds) where
     constants : (names : List Entry) → AreVisible t ds names → ConstantsGiven t names
-    constants names (inl (n, same)) = subst (ConstantsGiven t) same (given.rounds n)
+    constants names (inl (n, same)) = subst (ConstantsGiven t) same (given.each_turn n)
     constants names (inr same) = subst (ConstantsGiven t) same given.all
 
     asks : AsksOf t ds Caused

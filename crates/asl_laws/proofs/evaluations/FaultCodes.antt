@@ -39,7 +39,7 @@ use Rattle.asl_laws.proofs.spans.Standing.{At, Stands, Marked}
 use Rattle.asl_laws.proofs.spans.ProgramSpans.{AsksOf, fault_stands}
 use Rattle.asl_syn.specs.declared.read.ReadDecl.{ReadDecl}
 use Rattle.asl_laws.proofs.verdict.ReadVerdict.{Faulty, HeaderSays, bodies_say, fault_of_steps}
-use Rattle.asl_rules.proofs.verdict.SameRules.{AllOf}
+use Rattle.asl_laws.proofs.basics.Lists.{AllOf}
 use Rattle.asl_rules.specs.declarations.Replacing.{Header, header_of}
 
 other_of_rules : (code : StaticCode) → Other code → IsOfRules code

@@ -19,14 +19,15 @@ use Rattle.asl_rules.specs.runs.Plans.{Meter, starting, Faulted, Stuck, Outcome,
 use Rattle.asl_rules.specs.runs.Pures.{◌>>=◌}
 use Rattle.asl_rules.specs.declarations.Constants.{constant}
 use Rattle.asl_rules.specs.types.Written.{first_integer, first_bits, first_elements, first_value, first_fields, first_parts}
-use Rattle.asl_rules.specs.declarations.Declarations.{in_names, names_of_program}
+use Rattle.asl_rules.specs.declarations.Declarations.{in_names}
+use Rattle.asl_rules.specs.declarations.Turns.{names_of_program}
 use Rattle.asl_rules.specs.private.Grown.{AreGrown}
 use Rattle.asl_rules.specs.runs.Evaluation.{meaning, globals_among}
 use Rattle.asl_laws.specs.BeforeRuns.{HoldsInitial, EndsSo}
 use Rattle.asl_laws.specs.Soundness.{NotStuck, GivesType}
 use Rattle.asl_laws.specs.Evaluated.{GivesOrFaults, ConstantsGiven, names_after, Evaluates}
 use Rattle.asl_rules.proofs.scopes.Naming.{WellNamed}
-use Rattle.asl_laws.proofs.scopes.Globals.{AllBelong, grown_labels, names_good, globals_good, round_named, round_match}
+use Rattle.asl_laws.proofs.scopes.Globals.{AllBelong, grown_labels, names_good, globals_good, turn_named, turn_match}
 use Rattle.asl_laws.proofs.scopes.GrownTexts.{judged_grown}
 use Rattle.asl_rules.proofs.verdict.Distinct.{Distinct, distinct_of}
 use Rattle.asl_laws.proofs.evaluations.NoCalls.{ends_uncalled}
@@ -116,7 +117,9 @@ evaluates tests right ds grown apart =
     let labels = grown_labels ds grown in
     let belong : AllBelong tests ds = belong_by_forms tests right ds (λ b w. (no_calls tests right ds b w, others_of tests right ds b [] true [] w (no_procedures tests right ds b w))) in
     record {
-      rounds = λ n. constants_given tests right ds (names_after tests n ds) (round_named tests right ds distinct labels belong n) (round_match tests right ds distinct labels belong n) (starts_at tests n ds);
+      each_turn =
+          λ n. constants_given tests right ds (names_after tests n ds) (turn_named tests right ds distinct labels belong n)
+          (turn_match tests right ds distinct labels belong n) (starts_at tests n ds);
       all = constants_given tests right ds (names_of_program tests ds) (names_good tests right ds distinct labels belong) (globals_good tests right ds distinct labels belong) (starts tests ds);
       first = λ at T. value_given tests.limit at T;
     }

@@ -16,7 +16,8 @@ use Rattle.asl_rules.proofs.basics.Tests.{none_some}
 use Rattle.asl_laws.proofs.constants.KnownTwins.{OfBitfield, OfPart, OfField, OfPattern, OfSlice, OfType, BitfieldBelow, PartBelow, ExprBelow, FieldBelow, PatternBelow, SliceBelow, TypeBelow, bitfield_trees, part_trees, expr_trees, field_trees, pattern_trees, slice_trees, type_trees, MayCall, PlansTwin, layer_twin, bitfield_step, part_step, field_step, pattern_step, slice_step, type_step}
 use Rattle.asl_laws.proofs.constants.KnownEnough.{Bounded, node_bound, ends_so}
 use Rattle.asl_laws.proofs.spans.Inductions.{Shown, BitfieldNode, ConstraintPartNode, ExprNode, FieldValueNode, PatternNode, SliceNode, TypeExprNode, bitfield_trees as shown_bitfield, part_trees as shown_part, expr_trees as shown_expr, given_trees as shown_given, pattern_trees as shown_pattern, slice_trees as shown_slice, type_trees as shown_type, each_expr}
-use Rattle.asl_rules.proofs.verdict.SameNames.{each_first, each_second, using_bitfield, using_part, using_expr, using_given, using_pattern, using_slice, using_type}
+use Rattle.asl_laws.proofs.names.ByUses.{each_first, each_second}
+use Rattle.asl_laws.proofs.names.LayerUses.{using_bitfield, using_part, using_expr, using_given, using_pattern, using_slice, using_type}
 
 -- ---- no use is a call
 

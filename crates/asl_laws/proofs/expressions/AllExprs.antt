@@ -26,7 +26,7 @@ use Rattle.asl_laws.proofs.scopes.WellTyped.{FormedSubs, typed_formed}
 use Rattle.asl_rules.proofs.basics.Opening.{opened, unrolled}
 use Rattle.asl_laws.proofs.expressions.Twins.{twins_weaker}
 use Rattle.asl_laws.proofs.expressions.Claims.{Here, Asked, of_type, of_pure, of_width, of_number, of_known, of_divisor, tree_asked, Answers, GivesAsked, At, our}
-use Rattle.asl_laws.proofs.expressions.Standing.{stands_lesser}
+use Rattle.asl_laws.proofs.expressions.Standing.{stands_lesser, thrown_lesser}
 use Rattle.asl_laws.proofs.expressions.TreePlans.{Out, Throws, Same}
 use Rattle.asl_laws.proofs.expressions.ExprForms.{env, program, Formed, int_formed, bool_formed, bits_formed, name_formed, operation_formed, two_formed, conditional_formed, tuple_formed, element_formed}
 use Rattle.asl_laws.proofs.expressions.FieldForms.{field_formed, bitfields_formed}
@@ -115,7 +115,7 @@ module _ (tests : Tests) (right : IsRight tests) (ds : List Decl) (base : List E
       record {
         at = f.at;
         does = twins_weaker (our tests base subs loose) (Out tests right base subs loose (in_pure H) S.ty) (λ x y c1. (x ≡ y) × (GivesAsked (types_in base) H.present (of_pure S) x × At tests base subs loose H c1)) (Throws tests right base subs loose (in_pure H)) (Throws tests right base subs loose H)
-            (λ x y c1 k. (k.0, (k.1.0, from_pure H c c1 a k.1.1))) (λ x c1 k. k) (expr_node (env tests right ds base subs loose funcs w) (out-Expr e) c) (tree_node (program tests right ds base subs loose funcs w) S.tree (erased c)) f.does;
+            (λ x y c1 k. (k.0, (k.1.0, from_pure H c c1 a k.1.1))) (λ x c1 k. thrown_lesser tests base subs loose Pure H.scope.class H.scope.names H.present H.around x c1 refl k) (expr_node (env tests right ds base subs loose funcs w) (out-Expr e) c) (tree_node (program tests right ds base subs loose funcs w) S.tree (erased c)) f.does;
       }
   asked_formed o H (of_width W) e c h a = let f = width_formed tests right ds base subs loose funcs w H W e c h a in record { at = f.at; does = f.does }
   asked_formed o H (of_number N) e c h a = let f = number_formed tests right ds base subs loose funcs w H N e c h a in record { at = f.at; does = f.does }

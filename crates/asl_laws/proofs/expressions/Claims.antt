@@ -11,7 +11,8 @@ use Rattle.asl_rules.specs.types.Types.{Ty}
 use Rattle.asl_rules.specs.types.Closed.{Assignment, Closed, type_with, width_at}
 use Rattle.asl_rules.specs.declarations.Scopes.{Scope, Body, Entry, Signature, with_class}
 use Rattle.asl_rules.specs.declared.effect.Effect.{Effect}
-use Rattle.asl_rules.specs.declared.effect.Effect.TheVariants.{Pure}
+use Rattle.asl_rules.specs.declared.effect.Effect.TheVariants.{Pure, Writes}
+use Rattle.asl_rules.specs.types.Effects.{at_most}
 use Rattle.asl_rules.specs.private.WellFormed.{WellFormed, Built}
 use Rattle.asl_rules.specs.runs.Trees.{Tree, Act}
 use Rattle.asl_rules.specs.runs.Trees as tree
@@ -166,9 +167,11 @@ module _ (tests : Tests) (base : List Entry) (subs : List Signature) (loose : Bo
     pub stands : Stands H.scope.class H.around
     pub counted : Bound (Ruled H.scope.names H.scope.subs)
 
-  -- where an exception comes out: the state agrees with these names, and maybe with more behind them, at an assignment that is the same on them
-  pub record Over (names : List Entry) (a : Assignment) (around : Around) (x : Value) (c : Core) : Type 0 where
+  -- where an exception comes out: the class of the scope is that of what writes, and the state agrees with these names, and maybe with more
+  -- behind them, at an assignment that is the same on them
+  pub record Over (class : Effect) (names : List Entry) (a : Assignment) (around : Around) (x : Value) (c : Core) : Type 0 where
     pub raised : Raised (types_in base) x
+    pub writes : at_most Writes class ≡ true
     pub more : List Entry
     pub later : Assignment
     pub same : SameOn names a later
@@ -219,10 +222,10 @@ module _ (tests : Tests) (base : List Entry) (subs : List Signature) (loose : Bo
     J = StmtClaim × Bool;
     expr_in = λ i e t c. ExprIn i.0 i.1 e t c;
     expr_out = λ i x c. GivesAsked (types_in base) i.0.present i.1 x × At i.0 c;
-    expr_thrown = λ i x c. Over i.0.scope.names i.0.present i.0.around x c;
+    expr_thrown = λ i x c. Over i.0.scope.class i.0.scope.names i.0.present i.0.around x c;
     stmt_in = λ j s t c. StmtIn j.0 s t c × (j.1 ≡ falls s);
     stmt_out = λ j x c. Ends j.0 j.1 x c;
-    stmt_thrown = λ j x c. Over j.0.body.scope.names j.0.present j.0.around x c;
+    stmt_thrown = λ j x c. Over j.0.body.scope.class j.0.body.scope.names j.0.present j.0.around x c;
     halted = λ c. GlobalsMatch base c.globals;
   }
 

@@ -37,7 +37,7 @@ module _ (tests : Tests) (right : IsRight tests) (base : List Entry) (subs : Lis
   Out H U x y c = (x ≡ y) × (InType (types_in base) H.present x U × At tests base subs loose H c)
 
   abbrev pub Throws : Here → Value → Core → Type 0
-  Throws H x c = Over tests base subs loose H.scope.names H.present H.around x c
+  Throws H x c = Over tests base subs loose H.scope.class H.scope.names H.present H.around x c
 
   abbrev pub Same : {A B : Type 0} → Here → (A → B → Core → Type 0) → Does A → Runs B → Type 0
   Same H Q p q = Twins (our tests base subs loose) Q (Throws H) p q
@@ -46,6 +46,15 @@ module _ (tests : Tests) (right : IsRight tests) (base : List Entry) (subs : Lis
   pub operand : {A B : Type 0} (H : Here) (Q : A → B → Core → Type 0) (e : Expr) (S : Typed) (c : Core) (k : Value → Core → Does A) (l : Value → BareCore → Runs B) → typed tests e H.scope ≡ Ok S → At tests base subs loose H c →
       ((x : Value) (c1 : Core) → InType (types_in base) H.present x S.ty → At tests base subs loose H c1 → Same H Q (k x c1) (l x (erased c1))) → Same H Q (Eval e c k) (Eval S.tree (erased c) l)
   operand H Q e S c k l h a next = (one (H, of_type S), record { answers = h; is_tree = refl; at = a }, refl, λ x c1 v. next x c1 v.0 v.1, λ x c1 v. v)
+
+  -- an operand that is judged in another scope, and what follows it in this one
+  pub operand_in : {A B : Type 0} (H K : Here) (Q : A → B → Core → Type 0) (e : Expr) (S : Typed) (c : Core) (k : Value → Core → Does A)
+      (l : Value → BareCore → Runs B) → typed tests e K.scope ≡ Ok S → At tests base subs loose K c →
+      ((x : Value) (c1 : Core) → Throws K x c1 → Throws H x c1) →
+      ((x : Value) (c1 : Core) → InType (types_in base) K.present x S.ty → At tests base subs loose K c1 →
+      Same H Q (k x c1) (l x (erased c1))) → Same H Q (Eval e c k) (Eval S.tree (erased c) l)
+  operand_in H K Q e S c k l h a out next =
+      (one (K, of_type S), record { answers = h; is_tree = refl; at = a }, refl, λ x c1 v. next x c1 v.0 v.1, λ x c1 v. out x c1 v)
 
   -- an operand of which more is known, and what follows it
   pub operand_also : {A B : Type 0} (H : Here) (Q : A → B → Core → Type 0) (e : Expr) (S : Typed) (q : Asked) (c : Core) (k : Value → Core → Does A) (l : Value → BareCore → Runs B) → typed tests e H.scope ≡ Ok S → Answers tests q e H.scope → At tests base subs loose H c →

@@ -26,7 +26,7 @@ use Rattle.asl_rules.specs.statements.Stmts.{found_stmt}
 use Rattle.asl_rules.specs.report.MaskTables.{Cases, cases_in, body_of, cases_of}
 use Rattle.asl_rules.proofs.basics.Inversions.{bind_ok, then_ok, ok_ok, need_ok}
 use Rattle.asl_rules.proofs.basics.Tests.{no, both, same_name, name_is}
-use Rattle.asl_rules.proofs.verdict.SameRules.{AllOf}
+use Rattle.asl_laws.proofs.basics.Lists.{AllOf}
 use Rattle.asl_laws.proofs.masks.CaseWidths.{CaseEven, AllEven, body_even}
 use Rattle.asl_laws.proofs.certificates.Sites.{all_append}
 use Rattle.asl_laws.proofs.soundness.SoundnessFacts.{facts_of, head_func}

@@ -39,7 +39,7 @@ use Rattle.asl_rules.specs.report.MaskTables.{Masks, MaskCase, Cases, Choice, li
 use Rattle.asl_rules.specs.report.MaskTables.{stmt_cases, alternative_choice, catcher_cases, else_if_cases, otherwise_cases, cases_in}
 use Rattle.asl_rules.proofs.basics.Inversions.{bind_ok, then_ok}
 use Rattle.asl_rules.proofs.basics.Tests.{some_same, none_some}
-use Rattle.asl_rules.proofs.verdict.SameRules.{AllOf}
+use Rattle.asl_laws.proofs.basics.Lists.{AllOf}
 use Rattle.asl_laws.proofs.masks.PatternWidths.{AllFit, IsEven, literals_fit, fit_even}
 use Rattle.asl_laws.proofs.certificates.Sites.{all_append}
 use Rattle.asl_laws.proofs.masks.ReadTrees as induction

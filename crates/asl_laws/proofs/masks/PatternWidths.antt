@@ -40,7 +40,7 @@ use Rattle.asl_rules.proofs.basics.Opening.{opened, pattern_opened, unrolled, in
 use Rattle.asl_rules.specs.types.Closed.{width_at}
 use Rattle.asl_rules.proofs.values.SameKind.{number_is}
 use Rattle.asl_rules.proofs.values.Rounded.{same_width_at, constant_at}
-use Rattle.asl_rules.proofs.verdict.SameRules.{AllOf}
+use Rattle.asl_laws.proofs.basics.Lists.{AllOf}
 
 -- ---- literals of bits
 

@@ -13,7 +13,7 @@ use Rattle.asl_rules.specs.declarations.Programs.{Accepted, read_verdict}
 use Rattle.asl_rules.specs.report.MaskTables.{Masks, MaskCase, Cases, MaskTable, is_even, is_narrow, are_wide, width_in, table_of, tables_from, tables_of, cases_of, digits_in}
 use Rattle.asl_rules.proofs.basics.Tests.{no, both, and_true}
 use Rattle.asl_rules.proofs.values.SameKind.{same_number}
-use Rattle.asl_rules.proofs.verdict.SameRules.{AllOf}
+use Rattle.asl_laws.proofs.basics.Lists.{AllOf}
 use Rattle.asl_laws.specs.Masks.{AllWide, case_of_table}
 use Rattle.asl_laws.proofs.masks.CaseWidths.{CaseEven, AllEven}
 use Rattle.asl_laws.proofs.certificates.Sites.{all_append}

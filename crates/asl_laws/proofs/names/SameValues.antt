@@ -23,9 +23,9 @@ use Rattle.asl_rules.specs.types.Shaped.{bitfield_layer, type_layer}
 use Rattle.asl_rules.specs.declarations.Constants.{Known, initial_value, settled, constant_layer, constant}
 use Rattle.asl_rules.specs.runs.Pures.{known}
 use Rattle.asl_rules.specs.declarations.UsedNames.{Use, Each, expr_uses}
-use Rattle.asl_rules.proofs.verdict.SameRules.{AllOf}
-use Rattle.asl_rules.proofs.verdict.SameConstants.{KnownSame, ShapeSame, pure_same, once_same, behind_same, eval_all_same, behind_all_same}
-use Rattle.asl_rules.proofs.verdict.SameConstants.{behind_more_same, behind_left_same, taken_same, exprs_same, written_exprs, shapes_same}
+use Rattle.asl_laws.proofs.basics.Lists.{AllOf}
+use Rattle.asl_laws.proofs.names.SameConstants.{KnownSame, ShapeSame, pure_same, once_same, behind_same, eval_all_same, behind_all_same}
+use Rattle.asl_laws.proofs.names.SameConstants.{behind_more_same, behind_left_same, taken_same, exprs_same, written_exprs, shapes_same}
 use Rattle.asl_laws.proofs.names.SamePlaces.{Shows}
 use Rattle.asl_laws.proofs.names.ByUses as by_uses
 use Rattle.asl_laws.proofs.names.ByUses.{OwnExpr, OwnType}

@@ -53,7 +53,7 @@ width_in X ss f = record {
 }
 
 -- an expression that is this in widths
-abbrev as_found : Found → InWidth → Found
+abbrev pub as_found : Found → InWidth → Found
 as_found f w = record f { width = w.width; number = w.number; has_atom = w.has_atom }
 
 module _ (t : Tests) (A B : List Entry) (ss rs : List Signature) where

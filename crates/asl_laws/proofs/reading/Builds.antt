@@ -12,7 +12,6 @@ use Rattle.asl_syn.specs.declared.tree.Suffix.{Suffix}
 use Rattle.asl_syn.specs.declared.tree.Suffix.TheVariants as su
 use Rattle.asl_syn.specs.declared.tree.PlacedSuffix.{PlacedSuffix}
 use Rattle.asl_syn.specs.declared.tree.LocalKind.TheVariants as lk
-use Rattle.asl_syn.specs.declared.tree.Stmt.{Stmt}
 use Rattle.asl_syn.specs.declared.read.ReadStmt.{ReadStmt}
 use Rattle.asl_syn.specs.declared.read.ReadOtherwise.{ReadOtherwise}
 use Rattle.asl_syn.specs.declared.read.BodyWord.{BodyWord}
@@ -30,7 +29,7 @@ use Rattle.asl_grammar.specs.grammar.Cursor.{Extent, end_of, span_to}
 use Rattle.asl_grammar.specs.grammar.Kinds.{kind_of}
 use Rattle.asl_grammar.specs.grammar.Operators.{binary_of}
 use Rattle.asl_grammar.specs.grammar.Build.{Link, Links, AsLinks, linked, chained, compared, as_chained, logically, one_link, joined, finished, suffix_on, suffixed, in_on, Posts, posted, parens_of, after_of, named_of, parameters_or, empty_or, braced, LateTail, NameTail, prefixed_at, late_of, after_name_of, parameters_from_minus, parameters_from_name, fields_from_name, minus_in_braces_of, name_in_braces_of, slice_by, slice_of, constraint_part_of, bitfield_of, pattern_of, SumTail, LateRange, late_sum_of, late_range_of, minus_pattern_of, bang_pattern_of, pattern_parens_of, last_end, place_of, VarRest, MoreNames, Typed, Untyped, var_tail_of, var_of, called_of, name_statement_of, or_no_otherwise, no_catchers, catch_of, bodied_of, untyped}
-use Rattle.asl_rules.proofs.verdict.SameRules.{AllOf}
+use Rattle.asl_laws.proofs.basics.Lists.{AllOf}
 use Rattle.asl_laws.specs.Spans.{slice_spans}
 use Rattle.asl_laws.proofs.reading.Inside.{ExtIn, in_opt, between_in}
 use Rattle.asl_laws.proofs.reading.Predicates.{P, FromIn, IdentIn, ExprIn, SliceIn, FieldValueIn, TypeExprIn, ConstraintPartIn, BitfieldIn, PatternIn, SuffixIn, PlacedSuffixIn, TargetIn, StmtIn, ReadStmtIn, ReadOtherwiseIn, ReadCatcherIn, ReadDeclIn, BodiedIn, SliceFormIn, BracesIn, AfterNameIn, VarTailIn, VarRestIn, LinkIn, LinksIn, AsLinksIn, PostsIn, LateTailIn, NameTailIn, SumTailIn, LateRangeIn, in_pair, in_sum, of_each_in, of_each_names_in, span_from, or_nil_in, append_in}

@@ -1,6 +1,6 @@
 -- What a grammar reads is as asked, where its parts are.
 use Rattle.std.proofs.Common.{◌⊎◌, inl, inr, List, [], ◌∷◌, Option, Some, None}
-use Rattle.asl_rules.proofs.verdict.SameRules.{AllOf}
+use Rattle.asl_laws.proofs.basics.Lists.{AllOf}
 use Rattle.asl_laws.proofs.reading.Inside.{in_opt, in_follows}
 use Rattle.asl_laws.proofs.reading.Predicates.{in_pair, in_sum}
 

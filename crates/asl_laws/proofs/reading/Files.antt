@@ -25,7 +25,7 @@ use Rattle.asl_grammar.proofs.grammar.Checked.{each, covered}
 use Rattle.asl_grammar.proofs.grammar.Symbols.{short_n}
 use Rattle.asl_grammar.proofs.lexemes.Placing.{tokens_stand}
 use Rattle.asl_laws.proofs.reading.Inside.{AheadIn, CurIn, Inside, inside}
-use Rattle.asl_rules.proofs.verdict.SameRules.{AllOf}
+use Rattle.asl_laws.proofs.basics.Lists.{AllOf}
 use Rattle.asl_laws.proofs.reading.Literals.{IsLiteral, token_literal}
 
 -- ---- the tokens of a file

@@ -9,7 +9,7 @@ use Rattle.asl_grammar.specs.grammar.Combinators.{G, tok, opens, into, seq, eith
 use Rattle.asl_grammar.specs.grammar.Reader.{nullable, first, by_one}
 use Rattle.asl_grammar.proofs.grammar.Basics.{both_true, both_four, flipped_true}
 use Rattle.asl_grammar.proofs.grammar.Readings.{took, took_some}
-use Rattle.asl_rules.proofs.verdict.SameRules.{AllOf}
+use Rattle.asl_laws.proofs.basics.Lists.{AllOf}
 use Rattle.asl_laws.proofs.reading.Literals.{IsLiteral}
 
 -- a token of this file, which lies in its text of so many bytes

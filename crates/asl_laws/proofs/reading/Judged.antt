@@ -1,6 +1,6 @@
 -- What holds of each declaration that is read, written out, holds of all that is judged of them: with the bodies that may be replaced, and with those that
 -- replace them.
-use Rattle.std.proofs.Common.{◌≡◌, ◌++◌, ◌⊎◌, inl, inr, Bool, true, false, if◌then◌else◌, List, [], ◌∷◌, map, Option, Some, None, sym, subst}
+use Rattle.std.proofs.Common.{◌≡◌, ◌++◌, ◌⊎◌, inl, inr, Bool, true, false, if◌then◌else◌, List, [], ◌∷◌, Option, Some, None, sym, subst}
 use Rattle.asl_syn.specs.declared.read.BodyWord.{BodyWord}
 use Rattle.asl_syn.specs.declared.read.ReadDecl.{ReadDecl}
 use Rattle.asl_syn.specs.declared.read.ReadDecl.TheVariants as rd
@@ -8,8 +8,8 @@ use Rattle.asl_syn.specs.declared.tree.Decl.{Decl}
 use Rattle.asl_rules.specs.declarations.Keys.{Key}
 use Rattle.asl_rules.specs.declarations.Programs.{default_decls, final_decls}
 use Rattle.asl_rules.specs.declarations.Replacing.{Header, header_of, is_impdef, is_implementation, has_word, has_header, first_with, without_word, without_implementations, defaults, or_itself, in_place, replaced}
-use Rattle.asl_rules.specs.declarations.WrittenOut.{joined, decl_written, written_out}
-use Rattle.asl_rules.proofs.verdict.SameRules.{AllOf}
+use Rattle.asl_rules.specs.declarations.WrittenOut.{decl_written, written_out}
+use Rattle.asl_laws.proofs.basics.Lists.{AllOf}
 
 -- ---- declarations that are kept, and those that take the place of others
 

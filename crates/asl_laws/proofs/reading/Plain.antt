@@ -1,6 +1,5 @@
 -- What has no accessors, and no bodies that replace others, is written out as itself.
-use Rattle.std.proofs.Common.{◌≡◌, List, [], ◌∷◌, ◌++◌, map, Option, Some, None, Result, Ok, Err, refl, ap, ap₂, sym, ◌∙◌, subst}
-use Rattle.asl_syn.specs.declared.code.Fault.{Fault}
+use Rattle.std.proofs.Common.{◌≡◌, List, [], ◌∷◌, ◌++◌, map, Ok, refl, ap, ap₂, sym, ◌∙◌}
 use Rattle.asl_syn.specs.declared.tree.Stmt.{Stmt, roll-Stmt}
 use Rattle.asl_syn.specs.declared.tree.Stmt.TheVariants as stm
 use Rattle.asl_syn.specs.declared.tree.ElseIf.{ElseIf, roll-ElseIf}
@@ -11,7 +10,6 @@ use Rattle.asl_syn.specs.declared.tree.Otherwise.{Otherwise, roll-Otherwise}
 use Rattle.asl_syn.specs.declared.tree.Otherwise.TheVariants as ot
 use Rattle.asl_syn.specs.declared.tree.Catcher.{Catcher, roll-Catcher}
 use Rattle.asl_syn.specs.declared.tree.Catcher.TheVariants as ca
-use Rattle.asl_syn.specs.declared.tree.Func.{Func}
 use Rattle.asl_syn.specs.declared.tree.Decl.{Decl}
 use Rattle.asl_syn.specs.declared.tree.Decl.TheVariants as dc
 use Rattle.asl_syn.specs.declared.tree.Alternative.TheOpen as st
@@ -27,13 +25,12 @@ use Rattle.asl_syn.specs.declared.read.ReadAlternative.TheFolds.{fold-roll-ReadA
 use Rattle.asl_syn.specs.declared.read.ReadAlternative.TheFolds.{map-ReadAlternative, map-ReadCatcher, map-ReadElseIf, map-ReadOtherwise, map-ReadStmt}
 use Rattle.asl_rules.specs.declared.entry.Entry.{Entry}
 use Rattle.asl_rules.specs.Tests.{Tests}
-use Rattle.asl_rules.specs.Faults.{◌>>=◌}
 use Rattle.asl_rules.specs.declarations.WrittenOut.{joined, alternative_layer_written, catcher_layer_written, else_if_layer_written, otherwise_layer_written, stmt_layer_written}
-use Rattle.asl_rules.specs.declarations.WrittenOut.{alternative_written, catcher_written, else_if_written, otherwise_written, stmt_written, list_written, func_written, decl_written, written_out}
+use Rattle.asl_rules.specs.declarations.WrittenOut.{alternative_written, catcher_written, else_if_written, otherwise_written, stmt_written, list_written, decl_written, written_out}
 use Rattle.asl_rules.specs.declarations.Replacing.{header_of, in_place, without_implementations, headers_matched, bodies_matched, defaults, replaced}
 use Rattle.asl_rules.specs.declarations.Programs.{verdict, read_verdict, default_decls, final_decls}
 use Rattle.asl_laws.specs.Plain.{alternative_layer_read, catcher_layer_read, else_if_layer_read, otherwise_layer_read, stmt_layer_read}
-use Rattle.asl_laws.specs.Plain.{alternative_read, catcher_read, else_if_read, otherwise_read, stmt_read, func_read, decl_read, as_read}
+use Rattle.asl_laws.specs.Plain.{alternative_read, catcher_read, else_if_read, otherwise_read, stmt_read, decl_read, as_read}
 use Rattle.asl_laws.proofs.names.StmtInduction as induction
 use Rattle.asl_laws.proofs.verdict.ReadVerdict.{read_same}
 

@@ -48,7 +48,7 @@ use Rattle.asl_grammar.specs.declared.parts.Bodied.TheVariants as bo
 use Rattle.asl_grammar.specs.grammar.Cursor.{Lexeme, Extent}
 use Rattle.asl_grammar.specs.grammar.Build.{seconds, or_nil, behind, ident, Link, Links, AsLinks, Posts, LateTail, NameTail, SumTail, LateRange, VarRest, MoreNames, Typed, Untyped}
 use Rattle.asl_rules.specs.declarations.WrittenOut.{stmt_written, else_if_written, alternative_written, otherwise_written, catcher_written, decl_written}
-use Rattle.asl_rules.proofs.verdict.SameRules.{AllOf}
+use Rattle.asl_laws.proofs.basics.Lists.{AllOf}
 use Rattle.asl_laws.specs.Spans.{Mark, place, literal, Spans, Each, all_of, of_names, maybe, expr_spans, given_spans, slice_spans, type_spans, part_spans, bitfield_spans, pattern_spans, suffix_spans, target_spans, binder_spans, bind_spans, item_spans, stmt_spans, branch_spans, alternative_spans, otherwise_spans, catcher_spans, formal_spans, param_spans, def_spans, decl_spans}
 use Rattle.asl_laws.proofs.reading.Literals.{IsLiteral}
 use Rattle.asl_laws.proofs.reading.Inside.{LexIn, ExtIn, in_opt}

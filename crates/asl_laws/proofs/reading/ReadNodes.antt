@@ -1,6 +1,6 @@
 -- Each form of statement and declaration as it is read: the spans of what it is written out as lie in the file, where those of its
 -- parts do.
-use Rattle.std.proofs.Common.{ℕ, ◌≤◌, suc, List, [], ◌∷◌, ◌++◌, map, Option, Some, None, sym, subst, codes, arith}
+use Rattle.std.proofs.Common.{ℕ, ◌≤◌, suc, List, [], ◌∷◌, map, Option, None, sym, subst}
 use Rattle.asl_syn.specs.declared.token.Span.{Span}
 use Rattle.asl_syn.specs.declared.tree.Ident.{Ident}
 use Rattle.asl_syn.specs.declared.tree.Bitfield.{Bitfield}
@@ -16,17 +16,13 @@ use Rattle.asl_syn.specs.declared.tree.Bitfield.TheFolds.{fold_out-Expr, map-Exp
 use Rattle.asl_syn.specs.declared.tree.PlacedSuffix.{PlacedSuffix}
 use Rattle.asl_syn.specs.declared.tree.Binder.TheVariants as bd
 use Rattle.asl_syn.specs.declared.tree.Bind.TheVariants as bi
-use Rattle.asl_syn.specs.declared.tree.LocalKind.{LocalKind}
 use Rattle.asl_syn.specs.declared.tree.LocalKind.TheVariants as lk
 use Rattle.asl_syn.specs.declared.tree.Direction.{Direction}
-use Rattle.asl_syn.specs.declared.tree.Qualifier.{Qualifier}
 use Rattle.asl_syn.specs.declared.tree.Stmt.{Stmt}
 use Rattle.asl_syn.specs.declared.tree.ElseIf.{ElseIf}
 use Rattle.asl_syn.specs.declared.tree.Alternative.{Alternative}
 use Rattle.asl_syn.specs.declared.tree.Otherwise.{Otherwise}
 use Rattle.asl_syn.specs.declared.tree.Catcher.{Catcher}
-use Rattle.asl_syn.specs.declared.tree.Formal.{Formal}
-use Rattle.asl_syn.specs.declared.tree.Param.{Param}
 use Rattle.asl_syn.specs.declared.tree.TypeDecl.{TypeDecl}
 use Rattle.asl_syn.specs.declared.tree.StorageDecl.{StorageDecl}
 use Rattle.asl_syn.specs.declared.read.ReadStmt.{ReadStmt, roll-ReadStmt}
@@ -41,15 +37,13 @@ use Rattle.asl_syn.specs.declared.read.ReadCatcher.{ReadCatcher, roll-ReadCatche
 use Rattle.asl_syn.specs.declared.read.ReadCatcher.TheVariants as rc
 use Rattle.asl_syn.specs.declared.read.ReadAlternative.TheOpen as node
 use Rattle.asl_syn.specs.declared.read.ReadAlternative.TheFolds.{fold-roll-ReadAlternative, fold-roll-ReadCatcher, fold-roll-ReadElseIf, fold-roll-ReadOtherwise, fold-roll-ReadStmt, map-ReadAlternative, map-ReadCatcher, map-ReadElseIf, map-ReadOtherwise, map-ReadStmt}
-use Rattle.asl_syn.specs.declared.read.BodyWord.{BodyWord}
 use Rattle.asl_syn.specs.declared.read.ReadFunc.{ReadFunc}
 use Rattle.asl_syn.specs.declared.read.Accessor.{Accessor}
 use Rattle.asl_syn.specs.declared.read.ReadDecl.TheVariants as rd
 use Rattle.asl_syn.specs.Layers.{ExprLayer}
 use Rattle.asl_rules.specs.expressions.Exprs.{span_of, expr_span}
-use Rattle.asl_rules.specs.statements.Targets.{up_to}
-use Rattle.asl_rules.specs.declarations.WrittenOut.{made_value, made_place, ident, bound, values_bound, values_named, stored_to, place_stored, stored_in_part, stored, joined, stmt_layer_written, else_if_layer_written, alternative_layer_written, catcher_layer_written, otherwise_layer_written, stmt_written, else_if_written, alternative_written, catcher_written, otherwise_written, list_written, func_written, getter_of, setter_of}
-use Rattle.asl_rules.proofs.verdict.SameRules.{AllOf}
+use Rattle.asl_rules.specs.declarations.WrittenOut.{made_value, made_place, ident, values_bound, values_named, stored_to, place_stored, stored, joined, stmt_layer_written, else_if_layer_written, alternative_layer_written, catcher_layer_written, otherwise_layer_written, stmt_written, else_if_written, alternative_written, catcher_written, otherwise_written, list_written, func_written, getter_of, setter_of}
+use Rattle.asl_laws.proofs.basics.Lists.{AllOf}
 use Rattle.asl_laws.specs.Spans.{Spans, Each, in_bitfield, in_part, in_expr, in_field, in_pattern, in_slice, in_type, bitfield_spans, part_spans, expr_spans, given_spans, pattern_spans, slice_spans, type_spans}
 use Rattle.asl_laws.proofs.reading.Inside.{in_opt, between_in}
 use Rattle.asl_laws.proofs.reading.Predicates.{P, MarkIn, IdentIn, ExprIn, TypeExprIn, PatternIn, PlacedSuffixIn, TargetIn, StmtIn, ElseIfIn, AlternativeIn, OtherwiseIn, CatcherIn, FormalIn, ParamIn, TypeDefIn, ReadStmtIn, ReadElseIfIn, ReadAlternativeIn, ReadOtherwiseIn, ReadCatcherIn, ReadDeclIn, span_from, append_in}

@@ -16,7 +16,7 @@ use Rattle.asl_syn.specs.declared.read.ReadDecl.{ReadDecl}
 use Rattle.asl_grammar.specs.declared.parts.Bodied.{Bodied}
 use Rattle.asl_grammar.specs.grammar.Cursor.{whole}
 use Rattle.asl_grammar.specs.grammar.Rules.{formal, formal_list, maybe_formals, formals, param, param_list, maybe_param_list, params, maybe_params, label_list, label_braces, labels, no_members, listed_members, some_members, maybe_some_members, member_braces, members, record_type, exception_type, type_definition, supertype, type_decl, fixed_kind, fixed_storage, typed_var, global_rest, global_var, result_type, recursion_limit, written_qualifier, qualifier, body_word, maybe_body_word, function, getter, setter, accessor, behind_word, bodied, declaration, program}
-use Rattle.asl_rules.proofs.verdict.SameRules.{AllOf}
+use Rattle.asl_laws.proofs.basics.Lists.{AllOf}
 use Rattle.asl_laws.proofs.reading.Inside.{whole_in, in_opt}
 use Rattle.asl_laws.proofs.reading.Predicates.{in_pair, IdentIn, ExprIn, TypeExprIn, FormalIn, ParamIn, TypeDefIn, ReadStmtIn, ReadDeclIn, QualifierIn, StorageKindIn, BodyWordIn, BodiedIn, seconds_in, or_nil_in}
 use Rattle.asl_laws.proofs.reading.StmtNodes.{labels_node, record_node, exception_node, param_node}

@@ -21,7 +21,7 @@ use Rattle.asl_grammar.specs.grammar.Cursor.{Extent, Kinds, whole}
 use Rattle.asl_grammar.specs.grammar.Build.{int_of, Link, Links, AsLinks, Posts, parameters_or, empty_or}
 use Rattle.asl_grammar.specs.grammar.Combinators.{by}
 use Rattle.asl_grammar.specs.grammar.Rules.{name, names, integer_literal, bits_literal, boolean_literal, literal, parenthesized, arguments, braces, braces_called, after_braces, after_name, maybe_after_name, named, field_list, dotted, dot, bracket, suffix_part, suffix, suffixes, bits_pattern, mask_pattern, set_braces, set_pattern, not_set_pattern, in_pattern, in_clause, post_rest, post_literal, post_parenthesized, post_named, prefixed_by, unary, power_rest, power, product_rest, product, sum_rest, sum, comparison_rest, comparison, equality_rest, equality, links_by, some_links_by, logic_links, logic_rest, logic, constraint, maybe_constraint, integer_type, boolean_type, bit_type, named_type, bitfields, maybe_bitfields, bits_type, tuple_type, array_type, type_expression, constraint_type, as_type, as_rest, as_chain, conditional, open_expression, expression, if_parts, rest, more_expressions, expressions, maybe_expressions, maybe_expression, parenthesized_in, arguments_in, width_in}
-use Rattle.asl_rules.proofs.verdict.SameRules.{AllOf}
+use Rattle.asl_laws.proofs.basics.Lists.{AllOf}
 use Rattle.asl_laws.proofs.reading.Inside.{ExtIn, literal_read, whole_in, in_opt}
 use Rattle.asl_laws.proofs.reading.Predicates.{in_pair, in_sum, IdentIn, ExprIn, FieldValueIn, TypeExprIn, ConstraintPartIn, BitfieldIn, PatternIn, SuffixIn, PlacedSuffixIn, BracesIn, AfterNameIn, LinkIn, LinksIn, AsLinksIn, PostsIn, from_in, ident_in, seconds_in, or_nil_in, behind_in}
 use Rattle.asl_laws.proofs.reading.Nodes.{int_node, bits_node, bool_node, unary_node, conditional_node, integer_type_node, boolean_type_node, bit_type_node, named_type_node, bits_type_node, tuple_type_node, array_type_node, set_pattern_node, mask_pattern_node, value_pattern_node, fields_of_node}

@@ -15,7 +15,7 @@ use Rattle.asl_grammar.specs.declared.kinds.Kind.TheVariants as kind
 use Rattle.asl_grammar.specs.grammar.Cursor.{whole}
 use Rattle.asl_grammar.specs.grammar.Build.{Links, LateTail, NameTail, SumTail, LateRange}
 use Rattle.asl_grammar.specs.grammar.Rules.{late_expression, expression_after_name, other_unary, other_chain, other_open_expression, other_expression, field_value, more_field_values, field_values_after_name, more_parameters, parameters_after_minus, parameters_after_name, minus_alone, after_minus, after_first_name, minus_in_braces, name_in_braces, other_in_braces, empty_braces, braced_in, slice_form, slice_rest, slice, slices, slices_in, element, bracketed_in, sum_rests, scoped_sum, range_end, late_sum, late_range, maybe_late_range, minus_pattern, after_bang, bang_pattern, at_most, at_least, pattern_in_parens, plain_unary, plain_chain, plain_sum, sum_pattern, pattern, patterns, set_parts, pattern_parts, constraint_end, constraint_part, constraint_list, constraint_parts, low_end, bit_ends, bitfield, bitfield_list, maybe_bitfield_list, bitfields_in, more_types, two_types, type_parts, array_length, array_parts, typed}
-use Rattle.asl_rules.proofs.verdict.SameRules.{AllOf}
+use Rattle.asl_laws.proofs.basics.Lists.{AllOf}
 use Rattle.asl_laws.proofs.reading.Inside.{whole_in, in_opt}
 use Rattle.asl_laws.proofs.reading.Predicates.{in_pair, in_sum, ExprIn, SliceIn, FieldValueIn, TypeExprIn, ConstraintPartIn, BitfieldIn, PatternIn, SuffixIn, SliceFormIn, BracesIn, LinkIn, LinksIn, LateTailIn, NameTailIn, SumTailIn, LateRangeIn, from_in, lex_from, seconds_in, or_nil_in, append_in, behind_in}
 use Rattle.asl_laws.proofs.reading.Nodes.{given_node, at_most_node, at_least_node, slices_of_node}

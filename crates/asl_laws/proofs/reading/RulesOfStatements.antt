@@ -21,7 +21,7 @@ use Rattle.asl_grammar.specs.declared.parts.VarTail.{VarTail}
 use Rattle.asl_grammar.specs.grammar.Cursor.{whole}
 use Rattle.asl_grammar.specs.grammar.Build.{VarRest}
 use Rattle.asl_grammar.specs.grammar.Rules.{pass, unreachable, assert, bind_name, no_binder, binder, more_binders, two_binders, several, other_bind, local_bind, value, let_statement, names_typed, no_value, maybe_value, typed_value, var_rest, var_names, var_other, var_tail, var_statement, no_target, targets, other_target, assignment, return_statement, throw_statement, print_kind, verbatim, print_item, print_items, maybe_print_items, print_arguments, print_statement, simple_statement, parameters, maybe_parameters, call_arguments, call_ends, target_suffixes, assigned, after_call, called, name_statement_rest, name_statement, if_statement, case_statement, for_statement, while_statement, repeat_statement, try_statement, statement, block, loop_limit, otherwise, maybe_otherwise, place, target, more_targets, two_targets, target_parts, else_if, else_ifs, else_block, maybe_else, if_body, where_clause, alternative, alternatives, case_body, direction, for_body, while_body, repeat_body, caught_type, catcher, catchers, some_catchers, handlers, try_body}
-use Rattle.asl_rules.proofs.verdict.SameRules.{AllOf}
+use Rattle.asl_laws.proofs.basics.Lists.{AllOf}
 use Rattle.asl_laws.proofs.reading.Inside.{whole_in, in_opt}
 use Rattle.asl_laws.proofs.reading.Predicates.{in_pair, in_sum, IdentIn, ExprIn, PlacedSuffixIn, TargetIn, BinderIn, BindIn, PrintItemIn, StmtIn, ReadStmtIn, ReadElseIfIn, ReadAlternativeIn, ReadOtherwiseIn, ReadCatcherIn, DirectionIn, PrintKindIn, VarTailIn, VarRestIn, seconds_in, or_nil_in, behind_in}
 use Rattle.asl_laws.proofs.reading.StmtNodes.{discarded_node, targets_node, pass_node, unreachable_node, assert_node, print_node, local_node, assign_node, return_node, throw_node, several_node}

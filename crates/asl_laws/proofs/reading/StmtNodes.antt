@@ -35,7 +35,7 @@ use Rattle.asl_syn.specs.declared.tree.StorageDecl.{StorageDecl}
 use Rattle.asl_syn.specs.declared.tree.Func.{Func}
 use Rattle.asl_syn.specs.declared.tree.Decl.TheVariants as dc
 use Rattle.asl_syn.specs.declared.tree.Alternative.TheFolds.{fold-roll-Alternative, fold-roll-Catcher, fold-roll-ElseIf, fold-roll-Otherwise, fold-roll-Stmt, map-Alternative, map-Catcher, map-ElseIf, map-Otherwise, map-Stmt}
-use Rattle.asl_rules.proofs.verdict.SameRules.{AllOf}
+use Rattle.asl_laws.proofs.basics.Lists.{AllOf}
 use Rattle.asl_laws.specs.Spans.{Spans, Each, all_of, of_name, expr_spans, type_spans, pattern_spans, placed_spans, binder_spans, item_spans, in_target, target_spans, in_alternative, in_catcher, in_branch, in_otherwise, in_stmt, alternative_spans, catcher_spans, branch_spans, otherwise_spans, stmt_spans, formal_spans, param_spans}
 use Rattle.asl_laws.proofs.reading.Inside.{in_opt, between_in}
 use Rattle.asl_laws.proofs.reading.Predicates.{P, MarkIn, IdentIn, ExprIn, TypeExprIn, PatternIn, PlacedSuffixIn, TargetIn, BinderIn, BindIn, PrintItemIn, StmtIn, ElseIfIn, AlternativeIn, OtherwiseIn, CatcherIn, FormalIn, ParamIn, TypeDefIn, DeclIn, each_in, each_names_in, each_maybe_in, span_from}

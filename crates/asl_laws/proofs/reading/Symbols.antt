@@ -2,7 +2,7 @@
 -- Written by tools/grammar/generate.py from tools/grammar/table.py.
 use Rattle.std.proofs.Common.{ℕ}
 use Rattle.asl_grammar.specs.grammar.Rules.{Sym, Val, Rule, after, Parenthesized, Arguments, Braced, Operand, IfParts, Bracketed, Width, SetParts, PatternParts, ConstraintParts, Bitfields, TypeParts, ArrayParts, TargetParts, IfBody, CaseBody, ForBody, WhileBody, RepeatBody, TryBody, Program}
-use Rattle.asl_rules.proofs.verdict.SameRules.{AllOf}
+use Rattle.asl_laws.proofs.basics.Lists.{AllOf}
 use Rattle.asl_laws.proofs.reading.Inside.{in_opt, Inside}
 use Rattle.asl_laws.proofs.reading.Predicates.{IdentIn, ExprIn, TypeExprIn, ConstraintPartIn, BitfieldIn, PatternIn, SuffixIn, TargetIn, ReadStmtIn, ReadElseIfIn, ReadAlternativeIn, ReadOtherwiseIn, ReadCatcherIn, ReadDeclIn, DirectionIn, BracesIn}
 

@@ -1,6 +1,6 @@
 -- The spans of the trees that a file has lie in it, and so does the fault of files in one of them. Literals of bits keep within the
 -- width limit.
-use Rattle.std.proofs.Common.{ℕ, ◌+◌, List, [], ◌∷◌, map, length, Ok, sym, subst}
+use Rattle.std.proofs.Common.{ℕ, ◌+◌, List, [], ◌∷◌, map, length, sym, subst}
 use Rattle.asl_syn.specs.declared.code.Fault.{Fault}
 use Rattle.asl_syn.specs.declared.token.Token.{Token}
 use Rattle.asl_syn.specs.declared.tree.Decl.{Decl}
@@ -12,7 +12,7 @@ use Rattle.asl_grammar.specs.grammar.Faults.{Parses}
 use Rattle.asl_grammar.specs.Reading.{Text, File, HasTrees}
 use Rattle.asl_rules.specs.declared.entry.Entry.{Entry}
 use Rattle.asl_rules.specs.declarations.WrittenOut.{decl_written}
-use Rattle.asl_rules.proofs.verdict.SameRules.{AllOf}
+use Rattle.asl_laws.proofs.basics.Lists.{AllOf}
 use Rattle.asl_laws.specs.Answers.{AreJudged, FaultOfFiles}
 use Rattle.asl_laws.specs.Spans.{Mark, place, literal, Each, Placed, all_of, decl_spans}
 use Rattle.asl_laws.proofs.spans.EachSpan.{each_so}

@@ -5,7 +5,7 @@ use Rattle.asl_syn.specs.declared.code.StaticCode.TheVariants.{T24}
 use Rattle.asl_syn.specs.declared.tree.Decl.{Decl}
 use Rattle.asl_rules.specs.declared.entry.Entry.{Entry}
 use Rattle.asl_rules.specs.declared.entry.Entry.TheVariants as entry
-use Rattle.asl_rules.specs.declarations.Declarations.{globals_rule}
+use Rattle.asl_rules.specs.declarations.Turns.{globals_rule}
 use Rattle.asl_rules.specs.Faults.{fault_of}
 use Rattle.asl_rules.specs.declarations.Names.{names_rule, all_declared}
 use Rattle.asl_rules.specs.declarations.Programs.{Accepted, Entries, accepted, bodies_rule, entries, entry16_rule, entry_found, entry_from, entry_rule, funcs_of, is_decode, is_decode16, is_main, main_rule, origin, overloads_rule, signatures, signatures_rule, verdict}

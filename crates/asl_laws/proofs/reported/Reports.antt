@@ -1,5 +1,5 @@
 -- What a report is put together from isn't stuck, for all files that are read.
-use Rattle.std.proofs.Common.{List, [], Some, Ok}
+use Rattle.std.proofs.Common.{List, [], Some}
 use Rattle.asl_grammar.specs.Reading.{File}
 use Rattle.asl_laws.specs.Answers.{AreJudged}
 use Rattle.asl_syn.specs.declared.tree.Decl.{Decl}

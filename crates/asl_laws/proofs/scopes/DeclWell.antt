@@ -21,10 +21,10 @@ use Rattle.asl_rules.specs.Faults.{◌>>=◌, ◌>>◌, need, none_at, found_or,
 use Rattle.asl_rules.specs.Tests.{Tests, IsRight}
 use Rattle.asl_rules.specs.types.Types.{Ty, Fields, Parts, integer_of, boolean, bits_of, enumeration_of, record_of, exception_of, tuple_of, array_of, named, no_field, field, no_part, part, structure, is_among, misfit, misfit_inside, misfit_of_parts, by_names, or_else, same_kind, parts_of, element_of, bits_wide, kind, kind_eq}
 use Rattle.asl_rules.specs.types.Closed.{closed}
-use Rattle.asl_rules.specs.values.Values.{Value, label}
+use Rattle.asl_rules.specs.values.Values.{Value, bool, label}
 use Rattle.asl_rules.specs.types.Views.{viewed}
 use Rattle.asl_rules.specs.private.WellFormed.{is_named, HasLabel, Fits, Nearest, Shaped, ShapedFields, WellFormed, WellDeclared, Extends}
-use Rattle.asl_rules.specs.declarations.Scopes.{Scope, Entry, Standing, Stored, Subprogram, TypeName, Label, label_name, global, standing_of, type_of_name}
+use Rattle.asl_rules.specs.declarations.Scopes.{Scope, Entry, Standing, Stored, Subprogram, TypeName, Label, label_name, global, subprogram, standing_of, type_of_name}
 use Rattle.asl_rules.specs.types.Widths.{bounded, length_of}
 use Rattle.asl_poly.specs.Poly.{constant_value}
 use Rattle.asl_rules.specs.runs.Trees.{Tree}
@@ -41,6 +41,8 @@ use Rattle.asl_rules.specs.runs.Plans.{Faulted, Stuck, Pure as PureOf, Good, Bad
 use Rattle.asl_rules.specs.declarations.Constants.{constant}
 use Rattle.asl_rules.specs.types.Written.{first_value}
 use Rattle.asl_rules.specs.declarations.Barred.{barred}
+use Rattle.asl_rules.specs.declarations.Names.{labels_of}
+use Rattle.asl_rules.specs.declarations.Turns.{reserved}
 use Rattle.asl_rules.specs.declarations.Declarations.{in_names, fields_written, once, labels, def_rule, reached, supertype_rule, is_none, label_entries, type_entries, type_decl_rule, evaluated, Initial, with_type, unannotated, known, first_in, storage_rule, is_var, storage_decl_rule, decl_rule}
 use Rattle.asl_laws.proofs.values.Widening.{widened_formed, widened_in}
 use Rattle.asl_rules.proofs.basics.Inversions.{ok_ok, err_ok, bind_ok, then_ok, need_ok, found_ok, fitted_ok}
@@ -92,6 +94,16 @@ stands_grows d D g n (Label T x) w = (well_formed_grows d D g T w.0, in_type_gro
 pub well_grows : (d D : List ℕ → Option Ty) → Extends d D → (es : List Entry) → AllWell d es → AllWell D es
 well_grows d D g [] w = tt
 well_grows d D g (e ∷ es) w = (stands_grows d D g e.name e.standing w.0, well_grows d D g es w.1)
+
+-- what stands in for a declaration is well formed
+pub reserved_well : (D : List ℕ → Option Ty) (d : Decl) → AllWell D (reserved d)
+reserved_well D (dc.Type d) = (tt, each (labels_of d.def))
+  where
+    each : (is : List Ident) → AllWell D (map (λ (i : Ident). subprogram i.text) is)
+    each [] = tt
+    each (i ∷ is) = (tt, each is)
+reserved_well D (dc.Storage d) = ((record { shaped = tt; has_name = refl }, bool false, refl, (refl, tt, refl), refl), tt)
+reserved_well D (dc.Func f) = (tt, tt)
 
 -- ---- structures
 

@@ -1,6 +1,8 @@
--- The names that a program declares are well formed, and the globals as a run begins hold its storage: in the rounds in which declarations are judged, where
--- constants belong to their types in each round.
-use Rattle.std.proofs.Common.{◌≡◌, ℕ, zero, suc, inl, inr, ⊎_elim, Bool, true, false, cond, List, [], ◌∷◌, ◌++◌, Option, Some, None, Ok, refl, sym, ap, ap₂, ◌∙◌, subst, length, map}
+-- The names that are visible in a turn are well formed, and the globals hold the storage among them: after any number of turns, since a
+-- constant that is evaluated in a turn belongs to its type.
+use Rattle.std.proofs.Common.{◌≡◌, ℕ, zero, suc, ◌⊎◌, inl, inr, Bool, true, false, cond, List, [], ◌∷◌, ◌++◌, Option, Some, None, Ok, Err, refl, sym, ap, ◌∙◌, subst, length, map}
+use Rattle.std.specs.Prelude.{Result}
+use Rattle.asl_syn.specs.declared.code.Fault.{Fault}
 use Rattle.asl_syn.specs.declared.tree.Expr.{Expr}
 use Rattle.asl_syn.specs.declared.tree.TypeExpr.{TypeExpr}
 use Rattle.asl_syn.specs.declared.tree.Ident.{Ident}
@@ -10,40 +12,45 @@ use Rattle.asl_syn.specs.declared.tree.StorageDecl.{StorageDecl}
 use Rattle.asl_syn.specs.declared.tree.Decl.{Decl}
 use Rattle.asl_syn.specs.declared.tree.Decl.TheVariants as dc
 use Rattle.asl_rules.specs.Tests.{Tests, IsRight}
-use Rattle.asl_rules.specs.types.Types.{Ty, named, structure}
+use Rattle.asl_rules.specs.types.Types.{Ty, boolean, named, structure}
 use Rattle.asl_rules.specs.types.Closed.{Assignment}
-use Rattle.asl_rules.specs.values.Values.{Value, label, has}
+use Rattle.asl_rules.specs.values.Values.{Value, bool, label, has}
 use Rattle.asl_rules.specs.types.Views.{viewed}
 use Rattle.asl_rules.specs.private.WellFormed.{Extends, Fixed}
-use Rattle.asl_rules.specs.declarations.Names.{library, names_rule, all_declared, declared_by}
-use Rattle.asl_rules.specs.declarations.Scopes.{Scope, Entry, Standing, Stored, Subprogram, TypeName, Label, subprogram, global, label_name, standing_of, storage_in, storage_of, type_in}
+use Rattle.asl_rules.specs.private.Judgements.{EachJudged, CameOf}
+use Rattle.asl_rules.specs.declarations.Names.{library, labels_of, names_rule, all_declared}
+use Rattle.asl_rules.specs.declarations.Scopes.{Scope, Entry, Standing, Stored, Subprogram, TypeName, Label, Storage, subprogram, global, label_name, standing_of, storage_in, storage_of, type_in}
 use Rattle.asl_rules.specs.expressions.Typing.{Typed}
 use Rattle.asl_rules.specs.expressions.Exprs.{typed}
 use Rattle.asl_rules.specs.runs.States.{Binding, resting}
 use Rattle.asl_laws.specs.BeforeRuns.{HoldsInitial}
+use Rattle.asl_laws.specs.Evaluated.{names_after}
 use Rattle.asl_rules.specs.private.Belonging.{InType}
 use Rattle.asl_rules.specs.private.Agreement.{no_atoms, IsUnder, IsKnown, HoldsGlobal, types_in, AllMatch, GlobalsMatch, global_matches}
-use Rattle.asl_rules.specs.declarations.Uses.{uses}
 use Rattle.asl_rules.specs.private.Worth.{IsHeld}
 use Rattle.asl_rules.specs.private.Grown.{is_def_grown, is_grown, AreGrown}
 use Rattle.asl_rules.specs.runs.Plans.{Good}
 use Rattle.asl_rules.specs.declarations.Constants.{constant}
 use Rattle.asl_rules.specs.declarations.Programs.{environment}
-use Rattle.asl_rules.specs.declarations.Declarations.{in_names, def_rule, supertype_rule, label_entries, type_entries, Initial, storage_rule, decl_rule, is_var, Judged, Waiting, Fine, Faulty, entries_of, entries, all_fine, judged_by, still, judgement, faults_rule, names_of_program, globals_rule}
+use Rattle.asl_rules.specs.declarations.Declarations.{in_names, def_rule, supertype_rule, label_entries, type_entries, Initial, with_type, storage_rule, decl_rule, is_var}
+use Rattle.asl_rules.specs.declarations.Turns.{Judged, Waiting, Fine, judged, SoFar, reserved, entries_or, entries, names_so_far, decl_judged, turns, all_waiting, final, faults_rule, names_of_program, globals_rule}
 use Rattle.asl_rules.specs.runs.Evaluation.{global_under, global_with, global_in, cons_some, globals_among, initial_globals}
 use Rattle.asl_rules.proofs.basics.Inversions.{ok_ok, bind_ok, then_ok}
 use Rattle.asl_rules.proofs.basics.Tests.{no, some_same, none_some, name_is}
-use Rattle.asl_rules.proofs.scopes.Naming.{GoodStanding, GoodNames, WellNamed}
+use Rattle.asl_rules.proofs.scopes.Naming.{GoodNames, WellNamed}
 use Rattle.asl_rules.proofs.scopes.Slots.{IsOutside, AllOutside}
+use Rattle.asl_rules.proofs.scopes.EachOnce.{once_apart, passed_over}
 use Rattle.asl_laws.proofs.scopes.OverScope.{NamesOver}
 use Rattle.asl_laws.proofs.widths.TypesOver.{Never}
-use Rattle.asl_laws.proofs.scopes.ScopesOver.{fixed_never, rounds_over}
-use Rattle.asl_rules.proofs.verdict.Distinct.{Distinct, distinct_of, IsPlain, In, Plain, plain_in, plain_new, behind_library, past_library, FoundAt, found_at, not_found, all_apart}
+use Rattle.asl_laws.proofs.scopes.ScopesOver.{fixed_never, turns_over}
+use Rattle.asl_rules.proofs.verdict.Distinct.{Distinct, distinct_of, IsPlain, In}
+use Rattle.asl_rules.proofs.verdict.Turning.{each_at, each_waiting, came_in, OneTurn, turn_later, turns_hold}
+use Rattle.asl_rules.proofs.verdict.Named.{AllStand, turns_stand, FoundAt, own_visible, own_stands, found_visible}
+use Rattle.asl_rules.proofs.verdict.SharedNames.{names_once, names_shared}
+use Rattle.asl_rules.proofs.verdict.EachName.{EachName, name_has, visible_have}
+use Rattle.asl_rules.proofs.verdict.AfterTurns.{came_later, next_after, next_holds}
 use Rattle.asl_laws.proofs.constants.KnownStart.{starts_at}
-use Rattle.asl_rules.proofs.verdict.Settled.{not_waiting, by_test, still_is, names_at, named_at, own_at}
-use Rattle.asl_laws.proofs.scopes.DeclWell.{StandsWell, AllWell, well_at, well_grows, Ready, LabelsIn, HasLabels, decl_well}
-use Rattle.asl_rules.proofs.scopes.EachOnce.{SameStandings, entries_keep, once_apart, passed_over}
-use Rattle.asl_rules.proofs.verdict.SharedNames.{names_stand, names_once, names_shared}
+use Rattle.asl_laws.proofs.scopes.DeclWell.{StandsWell, AllWell, well_at, well_grows, reserved_well, Ready, LabelsIn, HasLabels, decl_well}
 
 type_standing : (o : Option Standing) (T : Ty) → type_in o ≡ Some T → o ≡ Some (TypeName T)
 type_standing (Some (TypeName U)) T h = ap (λ V. Some (TypeName V)) (some_same U T h)
@@ -89,11 +96,43 @@ decl_brings tests (dc.Storage s) G es h =
     (i.value, sym (ok_ok (global s.name.text i.value.ty (is_var s.kind) i.value.value ∷ []) es i.then))
 decl_brings tests (dc.Func f) G es h = subst NoneStored (ok_ok (subprogram f.name.text ∷ []) es h) (tt, tt)
 
--- ---- names outside bodies
+-- what stands in for a declaration is of its sort
 
-outside_append : (xs ys : List Entry) → AllOutside xs → AllOutside ys → AllOutside (xs ++ ys)
-outside_append [] ys a b = b
-outside_append (x ∷ xs) ys a b = (a.0, outside_append xs ys a.1 b)
+reserved_labels : (is : List Ident) → NoneStored (map (λ (i : Ident). subprogram i.text) is)
+reserved_labels [] = tt
+reserved_labels (i ∷ is) = (tt, reserved_labels is)
+
+reserved_brings : (d : Decl) → Brings d (reserved d)
+reserved_brings (dc.Type d) = (tt, reserved_labels (labels_of d.def))
+reserved_brings (dc.Storage d) = (with_type boolean (bool false), refl)
+reserved_brings (dc.Func f) = (tt, tt)
+
+judged_brings : (d : Decl) (r : Result (List Entry) Fault) → ((es : List Entry) → r ≡ Ok es → Brings d es) →
+    Brings d (entries_or d (judged r))
+judged_brings d (Ok es) f = f es refl
+judged_brings d (Err e) f = reserved_brings d
+
+-- nothing that stands in is a type
+
+abbrev IsNoType : Standing → Type 0
+IsNoType (Stored s) = Unit {0}
+IsNoType Subprogram = Unit {0}
+IsNoType (TypeName T) = ⊥
+IsNoType (Label T x) = Unit {0}
+
+abbrev NoTypes : List Entry → Type 0
+NoTypes es = EachName (λ e. IsNoType e.standing) es
+
+labels_no_type : (is : List Ident) → NoTypes (map (λ (i : Ident). subprogram i.text) is)
+labels_no_type [] = tt
+labels_no_type (i ∷ is) = (tt, labels_no_type is)
+
+reserved_no_type : (d : Decl) → NoTypes (reserved d)
+reserved_no_type (dc.Type d) = (tt, labels_no_type (labels_of d.def))
+reserved_no_type (dc.Storage d) = (tt, tt)
+reserved_no_type (dc.Func f) = (tt, tt)
+
+-- ---- names outside bodies
 
 outside_one : (st : Standing) → has_no_storage st → IsOutside st
 outside_one (Stored s) k = absurd k
@@ -110,17 +149,6 @@ outside_brought (dc.Type t) es b = outside_none es b
 outside_brought (dc.Storage s) es b = subst AllOutside (sym b.1) (refl, tt)
 outside_brought (dc.Func f) es b = outside_none es b
 
-outside_library : (ns : List (List ℕ)) → AllOutside (map subprogram ns)
-outside_library [] = tt
-outside_library (n ∷ ns) = (tt, outside_library ns)
-
--- storage begins alike where names stand for the same
-among_same : (N M : List Entry) → SameStandings N M → (ds : List Decl) → globals_among ds N ≡ globals_among ds M
-among_same N M s [] = refl
-among_same N M s (dc.Type t ∷ ds) = among_same N M s ds
-among_same N M s (dc.Storage d ∷ ds) = ap₂ (λ o bs. cons_some (global_in d (storage_in o)) bs) (s d.name.text) (among_same N M s ds)
-among_same N M s (dc.Func f ∷ ds) = among_same N M s ds
-
 -- ---- types without atoms
 
 in_any : (d : List ℕ → Option Ty) (T : Ty) (x : Value) → Fixed T → InType d no_atoms x T → (a : Assignment) → InType d a x T
@@ -131,65 +159,89 @@ abbrev pub ConstantsBelong : Tests → List Entry → Type 0
 ConstantsBelong tests base = (e : Expr) (S : Typed) (x : Value) → typed tests e (in_names base) ≡ Ok S → constant tests.limit e base ≡ Good x → InType (types_in base) no_atoms x S.ty
 
 module _ (tests : Tests) (right : IsRight tests) (ds : List Decl) (distinct : Distinct (all_declared ds)) (labels : (d : Decl) → In d ds → HasLabels d) (belong : (base : List Entry) → WellNamed base → GlobalsMatch base (globals_among ds base) → HoldsInitial (record { decls = ds; names = base; limit = tests.limit }) (resting (globals_among ds base)) → ConstantsBelong tests base) where
-  abbrev at_round : ℕ → List Entry
-  at_round n = names_at tests ds distinct n
+  abbrev state : ℕ → SoFar
+  state n = turns tests n ds (all_waiting ds)
+
+  -- a turn was taken behind so many
+  abbrev Turned : ℕ → Type 0
+  Turned n = OneTurn tests ds (state n) (state (suc n))
+
+  abbrev names_at : ℕ → List Entry
+  names_at n = names_after tests n ds
 
   abbrev types_at : ℕ → List ℕ → Option Ty
-  types_at n = types_in (at_round n)
+  types_at n = types_in (names_at n)
 
-  judged_now : (n : ℕ) (d : Decl) (es : List Entry) → judged_by tests (judgement tests n ds) ds d ≡ Fine es → decl_rule tests d (in_names (at_round n)) ≡ Ok es
-  judged_now n d es h = (by_test (all_fine (judgement tests n ds) (uses d) ds) (decl_rule tests d (in_names (at_round n))) es h).1
+  all_stand : (n : ℕ) → AllStand ds (state n)
+  all_stand n = turns_stand tests ds n
 
-  brings_at : (n : ℕ) (d : Decl) (es : List Entry) → judgement tests n ds d ≡ Fine es → Brings d es
-  brings_at zero d es h = not_waiting es h
-  brings_at (suc n) d es h = ⊎_elim (brings_at n d es) (λ k. decl_brings tests d (in_names (at_round n)) es (judged_now n d es k)) (still_is (judgement tests n ds d) (judged_by tests (judgement tests n ds) ds d) es h)
+  abbrev AllBring : List Decl → SoFar → Type 0
+  AllBring rs js = EachJudged (λ d j. Brings d (entries_or d j)) rs js
 
-  stays_fine : (n : ℕ) (d : Decl) (es : List Entry) → judgement tests n ds d ≡ Fine es → judgement tests (suc n) ds d ≡ Fine es
-  stays_fine n d es h = ap (λ j. still j (judged_by tests (judgement tests n ds) ds d)) h
+  all_bring : (n : ℕ) → AllBring ds (state n)
+  all_bring n =
+      turns_hold tests ds (λ d j. Brings d (entries_or d j))
+      (λ js a d i r. let G = in_names (names_so_far ds js) in judged_brings d (decl_rule tests d G) (decl_brings tests d G))
+      n (all_waiting ds) (each_waiting (λ d j. Brings d (entries_or d j)) reserved_brings ds)
 
-  found_in : (n : ℕ) (name : List ℕ) (st : Standing) → IsPlain st → standing_of name (at_round n) ≡ Some st → FoundAt (judgement tests n ds) ds name st
-  found_in n name st p h = found_at (judgement tests n ds) (named_at tests ds distinct n) ds name st (past_library name (entries (judgement tests n ds) ds) st p h)
+  all_outside : (n : ℕ) → AllOutside (names_at n)
+  all_outside n =
+      visible_have (λ e. IsOutside e.standing) (λ m. tt) tests ds (λ d i. refl)
+      (λ d i names a es h. outside_brought d es (decl_brings tests d (in_names names) es h)) n
 
-  extends : (n : ℕ) → Extends (types_at n) (types_at (suc n))
-  extends n = record {
+  found_in : (n : ℕ) (name : List ℕ) (st : Standing) → IsPlain st → standing_of name (names_at n) ≡ Some st → FoundAt ds (state n) name st
+  found_in n name st p h = found_visible ds (state n) name st (all_stand n) p h
+
+  own : (n : ℕ) (d : Decl) (j : Judged) (name : List ℕ) (st : Standing) → CameOf d j ds (state n) →
+      standing_of name (entries_or d j) ≡ Some st → IsPlain st → standing_of name (names_at n) ≡ Some st
+  own n d j name st c h p = own_stands ds (state n) d j name st (all_stand n) distinct c h p
+
+  type_stays : (n : ℕ) → Turned n → (d : Decl) (j : Judged) (name : List ℕ) (T : Ty) → CameOf d j ds (state n) →
+      standing_of name (entries_or d j) ≡ Some (TypeName T) → CameOf d j ds (state (suc n))
+  type_stays n o d j name T c h =
+      by (came_later d j ds (state n) (state (suc n)) (turn_later tests ds (state n) ds (state n) (state (suc n)) o) c)
+    where
+      by : (j ≡ Waiting) ⊎ CameOf d j ds (state (suc n)) → CameOf d j ds (state (suc n))
+      by (inl w) =
+          let waits : standing_of name (reserved d) ≡ Some (TypeName T) =
+          subst (λ k. standing_of name (entries_or d k) ≡ Some (TypeName T)) w h in
+          absurd (name_has (λ m st. IsNoType st) (reserved d) name (TypeName T) (reserved_no_type d) waits)
+      by (inr k) = k
+
+  extends : (n : ℕ) → Turned n → Extends (types_at n) (types_at (suc n))
+  extends n o = record {
     kept = λ name T h.
-        let f = found_in n name (TypeName T) tt (type_standing (standing_of name (at_round n)) T h) in
-        ap type_in (own_at tests ds distinct (suc n) f.decl f.brings name (TypeName T) f.is_in (stays_fine n f.decl f.brings f.is_fine) f.stands tt);
+        let f = found_in n name (TypeName T) tt (type_standing (standing_of name (names_at n)) T h) in
+        ap type_in (own (suc n) f.decl f.judged name (TypeName T) (type_stays n o f.decl f.judged name T f.is_of f.stands) f.stands tt);
   }
 
-  -- what was brought by then is well formed
+  -- what stands in the places of each declaration is well formed
+  abbrev WellIn : SoFar → Type 0
+  WellIn js = EachJudged (λ d j. AllWell (types_in (names_so_far ds js)) (entries_or d j)) ds js
+
   abbrev Well : ℕ → Type 0
-  Well n = (d : Decl) (es : List Entry) → In d ds → judgement tests n ds d ≡ Fine es → AllWell (types_at n) es
+  Well n = WellIn (state n)
 
-  stands_well : (n : ℕ) → Well n → (name : List ℕ) (st : Standing) → IsPlain st → standing_of name (at_round n) ≡ Some st → StandsWell (types_at n) name st
-  stands_well n w name st p h = let f = found_in n name st p h in well_at (types_at n) f.brings name st (w f.decl f.brings f.is_in f.is_fine) f.stands
+  stands_well : (n : ℕ) → Well n → (name : List ℕ) (st : Standing) → IsPlain st → standing_of name (names_at n) ≡ Some st →
+      StandsWell (types_at n) name st
+  stands_well n w name st p h =
+      let f = found_in n name st p h in
+      let well = each_at (λ d j. AllWell (types_at n) (entries_or d j)) f.decl f.judged ds (state n) w f.is_of in
+      well_at (types_at n) (entries_or f.decl f.judged) name st well f.stands
 
-  over_at : (n : ℕ) → NamesOver Never (at_round n)
-  over_at n = rounds_over tests Never n ds
+  over_at : (n : ℕ) → NamesOver Never (names_at n)
+  over_at n = turns_over tests Never n ds
 
-  good_at : (n : ℕ) → Well n → GoodNames (types_at n) (at_round n)
+  good_at : (n : ℕ) → Well n → GoodNames (types_at n) (names_at n)
   good_at n w name (Stored s) h = let k = stands_well n w name (Stored s) tt h in (k.0, subst IsHeld (sym k.4) tt)
   good_at n w name Subprogram h = tt
   good_at n w name (TypeName T) h = let k = stands_well n w name (TypeName T) tt h in (k.0, k.1, fixed_never T ((over_at n).standing name (TypeName T) h))
   good_at n w name (Label T x) h = let k = stands_well n w name (Label T x) tt h in (k.0, in_any (types_at n) T x (fixed_never T ((over_at n).standing name (Label T x) h)) k.1)
 
-  outside_judged : (n : ℕ) (d : Decl) (j : Judged) → judgement tests n ds d ≡ j → AllOutside (entries_of j)
-  outside_judged n d Waiting q = tt
-  outside_judged n d (Faulty f) q = tt
-  outside_judged n d (Fine es) q = outside_brought d es (brings_at n d es q)
+  well_named_at : (n : ℕ) → Well n → WellNamed (names_at n)
+  well_named_at n w = record { good = good_at n w; apart = once_apart (names_at n) (names_once ds (state n)); outside = all_outside n }
 
-  outside_entries : (n : ℕ) (rs : List Decl) → AllOutside (entries (judgement tests n ds) rs)
-  outside_entries n [] = tt
-  outside_entries n (d ∷ rs) = outside_append (entries_of (judgement tests n ds d)) (entries (judgement tests n ds) rs) (outside_judged n d (judgement tests n ds d) refl) (outside_entries n rs)
-
-  well_named_at : (n : ℕ) → Well n → WellNamed (at_round n)
-  well_named_at n w = record {
-    good = good_at n w;
-    apart = all_apart (judgement tests n ds) (named_at tests ds distinct n) ds distinct;
-    outside = outside_append (map subprogram library) (entries (judgement tests n ds) ds) (outside_library library) (outside_entries n ds);
-  }
-
-  -- ---- the globals of a round
+  -- ---- the globals of a turn
 
   module _ (n : ℕ) (w : Well n) where
     abbrev D : List ℕ → Option Ty
@@ -217,111 +269,131 @@ module _ (tests : Tests) (right : IsRight tests) (ds : List Decl) (distinct : Di
     known_self true x = tt
     known_self false x = refl
 
-    absent_at : (d : Decl) (name : List ℕ) → In d ds → entries_of (judgement tests n ds d) ≡ [] → Plain name (declared_by d) → standing_of name (at_round n) ≡ None
-    absent_at d name i q p =
-        behind_library name (entries (judgement tests n ds) ds) (plain_new name (all_declared ds) distinct (plain_in d ds name i p)) ∙ not_found (judgement tests n ds) (named_at tests ds distinct n) ds d name distinct i q p
+    abbrev stored : StorageDecl → Ty → Value → Storage
+    stored s T x = record { ty = T; is_global = true; is_mutable = is_var s.kind; initial = Some x; counted = None }
 
-    holds_global : (s : StorageDecl) (T : Ty) (x : Value) → standing_of s.name.text (at_round n) ≡ Some (Stored (record { ty = T; is_global = true; is_mutable = is_var s.kind; initial = Some x; counted = None })) →
-        HoldsGlobal D s.name.text (record { ty = T; is_global = true; is_mutable = is_var s.kind; initial = Some x; counted = None }) (global_with s T x)
+    holds_global : (s : StorageDecl) (T : Ty) (x : Value) → standing_of s.name.text (names_at n) ≡ Some (Stored (stored s T x)) →
+        HoldsGlobal D s.name.text (stored s T x) (global_with s T x)
     holds_global s T x h =
-        let st : Standing = Stored (record { ty = T; is_global = true; is_mutable = is_var s.kind; initial = Some x; counted = None }) in
+        let st : Standing = Stored (stored s T x) in
         let k = stands_well n w s.name.text st tt h in
         let i : InType D no_atoms x T = subst (λ y. InType D no_atoms y T) (sym (some_same x k.1 k.2)) k.3 in
         record {
-          holds = record { name_is = refl; under_is = under_written s.ty T x i; mutable_is = refl; well_formed = k.0; belongs = i; known = known_self (is_var s.kind) x; counts = tt };
+          holds = record {
+            name_is = refl;
+            under_is = under_written s.ty T x i;
+            mutable_is = refl;
+            well_formed = k.0;
+            belongs = i;
+            known = known_self (is_var s.kind) x;
+            counts = tt;
+          };
           fixed = fixed_never T ((over_at n).standing s.name.text st h);
           no_atom = refl;
         }
 
-    absent_match : (s : StorageDecl) (tail : List Entry) (rest : List Binding) → standing_of s.name.text (at_round n) ≡ None → AllMatch D tail rest → AllMatch D tail (cons_some (global_in s (storage_of s.name.text (at_round n))) rest)
-    absent_match s tail rest h m = subst (λ o. AllMatch D tail (cons_some (global_in s (storage_in o)) rest)) (sym h) m
-
-    storage_match : (s : StorageDecl) (j : Judged) (tail : List Entry) (rest : List Binding) → judgement tests n ds (dc.Storage s) ≡ j → In (dc.Storage s) ds → AllMatch D tail rest → AllMatch D (entries_of j ++ tail) (cons_some (global_in s (storage_of s.name.text (at_round n))) rest)
-    storage_match s Waiting tail rest q i m = absent_match s tail rest (absent_at (dc.Storage s) s.name.text i (ap entries_of q) (inl (refl, refl))) m
-    storage_match s (Faulty f) tail rest q i m = absent_match s tail rest (absent_at (dc.Storage s) s.name.text i (ap entries_of q) (inl (refl, refl))) m
-    storage_match s (Fine es) tail rest q i m =
-        let b = brings_at n (dc.Storage s) es q in
+    storage_match : (s : StorageDecl) (es tail : List Entry) (rest : List Binding) → Brings (dc.Storage s) es →
+        standing_of s.name.text (names_at n) ≡ standing_of s.name.text es → AllMatch D tail rest →
+        AllMatch D (es ++ tail) (cons_some (global_in s (storage_of s.name.text (names_at n))) rest)
+    storage_match s es tail rest b q m =
         let T = b.0.ty in
         let x = b.0.value in
-        let st : Standing = Stored (record { ty = T; is_global = true; is_mutable = is_var s.kind; initial = Some x; counted = None }) in
+        let st : Standing = Stored (stored s T x) in
         let here : standing_of s.name.text es ≡ Some st = ap (standing_of s.name.text) b.1 ∙ ap (λ t. cond t (Some st) None) (name_is s.name.text) in
-        let k = own_at tests ds distinct n (dc.Storage s) es s.name.text st i q here tt in
+        let k = q ∙ here in
         subst (λ o. AllMatch D (es ++ tail) (cons_some (global_in s (storage_in o)) rest)) (sym k)
         (subst (λ l. AllMatch D (l ++ tail) (global_with s T x ∷ rest)) (sym b.1) (holds_global s T x k, m))
 
-    brought_none : (d : Decl) (j : Judged) (tail : List Entry) (bs : List Binding) → judgement tests n ds d ≡ j → ((es : List Entry) → judgement tests n ds d ≡ Fine es → NoneStored es) → AllMatch D tail bs → AllMatch D (entries_of j ++ tail) bs
-    brought_none d Waiting tail bs q f m = m
-    brought_none d (Faulty e) tail bs q f m = m
-    brought_none d (Fine es) tail bs q f m = none_match es tail bs (f es q) m
+    among_match : (rs : List Decl) (js : SoFar) → ((d : Decl) (j : Judged) → CameOf d j rs js → CameOf d j ds (state n)) → AllBring rs js →
+        AllMatch D (entries rs js) (globals_among rs (names_at n))
+    among_match [] [] f b = tt
+    among_match [] (j ∷ js) f b = absurd b
+    among_match (d ∷ rs) [] f b = absurd b
+    among_match (dc.Type t ∷ rs) (j ∷ js) f b =
+        none_match (entries_or (dc.Type t) j) (entries rs js) (globals_among rs (names_at n)) b.0
+        (among_match rs js (λ d k i. f d k (inr i)) b.1)
+    among_match (dc.Storage s ∷ rs) (j ∷ js) f b =
+        let came = f (dc.Storage s) j (inl (refl, refl)) in
+        let here = own_visible ds (state n) (dc.Storage s) j s.name.text (all_stand n) distinct came (inl (refl, refl)) in
+        storage_match s (entries_or (dc.Storage s) j) (entries rs js) (globals_among rs (names_at n)) b.0 here
+        (among_match rs js (λ d k i. f d k (inr i)) b.1)
+    among_match (dc.Func g ∷ rs) (j ∷ js) f b =
+        none_match (entries_or (dc.Func g) j) (entries rs js) (globals_among rs (names_at n)) b.0
+        (among_match rs js (λ d k i. f d k (inr i)) b.1)
 
-    among_match : (rs : List Decl) → ((d : Decl) → In d rs → In d ds) → AllMatch D (entries (judgement tests n ds) rs) (globals_among rs (at_round n))
-    among_match [] f = tt
-    among_match (dc.Type t ∷ rs) f = brought_none (dc.Type t) (judgement tests n ds (dc.Type t)) (entries (judgement tests n ds) rs) (globals_among rs (at_round n)) refl (brings_at n (dc.Type t)) (among_match rs (λ d i. f d (inr i)))
-    among_match (dc.Storage s ∷ rs) f = storage_match s (judgement tests n ds (dc.Storage s)) (entries (judgement tests n ds) rs) (globals_among rs (at_round n)) refl (f (dc.Storage s) (inl refl)) (among_match rs (λ d i. f d (inr i)))
-    among_match (dc.Func g ∷ rs) f = brought_none (dc.Func g) (judgement tests n ds (dc.Func g)) (entries (judgement tests n ds) rs) (globals_among rs (at_round n)) refl (brings_at n (dc.Func g)) (among_match rs (λ d i. f d (inr i)))
+    -- a name that stands for no storage is passed over
+    match_same : AllMatch D (names_at n) ≡ AllMatch D (map subprogram library ++ entries ds (state n))
+    match_same =
+        passed_over (AllMatch D) (λ e P bs. global_matches D e.name e.standing bs P) (λ e es. refl)
+        (λ e P h. ap (λ st bs. global_matches D e.name st bs P) h)
+        (entries ds (state n)) (map subprogram library) (names_shared ds (state n) (all_stand n) distinct)
 
-    globals_match_at : GlobalsMatch (at_round n) (globals_among ds (at_round n))
-    globals_match_at = library_match library (entries (judgement tests n ds) ds) (globals_among ds (at_round n)) (among_match ds (λ d i. i))
+    globals_match_at : GlobalsMatch (names_at n) (globals_among ds (names_at n))
+    globals_match_at =
+        let bs = globals_among ds (names_at n) in
+        let all = among_match ds (state n) (λ d j c. c) (all_bring n) in
+        subst (λ P. P bs) (sym match_same) (library_match library (entries ds (state n)) bs all)
 
-  -- ---- the rounds
+  -- ---- turn by turn
 
-  ready_at : (n : ℕ) → Well n → Ready tests (types_at n) (at_round n)
+  ready_at : (n : ℕ) → Well n → Ready tests (types_at n) (names_at n)
   ready_at n w = record {
     good = good_at n w;
-    named_by = λ name T h. (stands_well n w name (TypeName T) tt (type_standing (standing_of name (at_round n)) T h)).2;
+    named_by = λ name T h. (stands_well n w name (TypeName T) tt (type_standing (standing_of name (names_at n)) T h)).2;
     declared = record {
-      each = λ name T h. (stands_well n w name (TypeName T) tt (type_standing (standing_of name (at_round n)) T h)).0;
-      fixed = λ name T h. fixed_never T ((over_at n).standing name (TypeName T) (type_standing (standing_of name (at_round n)) T h));
+      each = λ name T h. (stands_well n w name (TypeName T) tt (type_standing (standing_of name (names_at n)) T h)).0;
+      fixed = λ name T h. fixed_never T ((over_at n).standing name (TypeName T) (type_standing (standing_of name (names_at n)) T h));
     };
     is = λ name. refl;
-    constants = belong (at_round n) (well_named_at n w) (globals_match_at n w) (starts_at tests n ds);
+    constants = belong (names_at n) (well_named_at n w) (globals_match_at n w) (starts_at tests n ds);
   }
+
+  judged_well : (n : ℕ) → Well n → Turned n → (d : Decl) → CameOf d (decl_judged tests d (names_at n)) ds (state (suc n)) →
+      AllWell (types_at (suc n)) (entries_or d (decl_judged tests d (names_at n)))
+  judged_well n w o d c = by (decl_rule tests d (in_names (names_at n))) refl
+    where
+      by : (r : Result (List Entry) Fault) → decl_rule tests d (in_names (names_at n)) ≡ r →
+          AllWell (types_at (suc n)) (entries_or d (judged r))
+      by (Err e) q = reserved_well (types_at (suc n)) d
+      by (Ok es) q =
+          let came : CameOf d (Fine es) ds (state (suc n)) = subst (λ r. CameOf d (judged r) ds (state (suc n))) q c in
+          decl_well tests right (types_at n) (types_at (suc n)) (extends n o) (names_at n) (ready_at n w) d es q
+          (labels d (came_in d (Fine es) ds (state (suc n)) came))
+          (λ name T s. ap type_in (own (suc n) d (Fine es) name (TypeName T) came s tt))
+
+  one_well : (n : ℕ) → Well n → Turned n → Well (suc n)
+  one_well n w o =
+      next_holds tests ds (λ d j. AllWell (types_at n) (entries_or d j)) (λ d j. AllWell (types_at (suc n)) (entries_or d j)) (state n)
+      (state (suc n)) o (λ d j c a. well_grows (types_at n) (types_at (suc n)) (extends n o) (entries_or d j) a)
+      (λ d r c. judged_well n w o d c) w
+
+  well_next : (n : ℕ) → Well n → (state n ≡ state (suc n)) ⊎ Turned n → Well (suc n)
+  well_next n w (inl q) = subst WellIn q w
+  well_next n w (inr o) = one_well n w o
 
   well_after : (n : ℕ) → Well n
-  well_after zero d es i h = not_waiting es h
-  well_after (suc n) d es i h =
-      ⊎_elim (λ k. well_grows (types_at n) (types_at (suc n)) (extends n) es (well_after n d es i k))
-      (λ k. decl_well tests right (types_at n) (types_at (suc n)) (extends n) (at_round n) (ready_at n (well_after n)) d es (judged_now n d es k) (labels d i) (λ name T s. ap type_in (own_at tests ds distinct (suc n) d es name (TypeName T) i h s tt)))
-      (still_is (judgement tests n ds d) (judged_by tests (judgement tests n ds) ds d) es h)
+  well_after zero = each_waiting (λ d j. AllWell (types_at zero) (entries_or d j)) (reserved_well (types_at zero)) ds
+  well_after (suc n) = well_next n (well_after n) (next_after tests ds n)
 
-  -- after any number of rounds the names are well formed, and the globals hold their storage
-  pub round_named : (n : ℕ) → WellNamed (names_at tests ds distinct n)
-  round_named n = well_named_at n (well_after n)
+  -- after any number of turns the names are well formed, and the globals hold their storage
+  pub turn_named : (n : ℕ) → WellNamed (names_after tests n ds)
+  turn_named n = well_named_at n (well_after n)
 
-  pub round_match : (n : ℕ) → GlobalsMatch (names_at tests ds distinct n) (globals_among ds (names_at tests ds distinct n))
-  round_match n = globals_match_at n (well_after n)
+  pub turn_match : (n : ℕ) → GlobalsMatch (names_after tests n ds) (globals_among ds (names_after tests n ds))
+  turn_match n = globals_match_at n (well_after n)
 
-  abbrev last : ℕ
-  last = suc (length ds)
-
-  -- ---- all names, each once
-
-  types_same : types_at last ≡ types_in (names_of_program tests ds)
-  types_same = λ i name. type_in (names_stand tests ds name i)
-
+  -- and so they are at the end
   pub names_good : WellNamed (names_of_program tests ds)
-  names_good = record {
-    good = λ name st h. subst (λ D. GoodStanding D st) types_same (good_at last (well_after last) name st (names_stand tests ds name ∙ h));
-    apart = once_apart (names_of_program tests ds) (names_once tests ds);
-    outside = entries_keep AllOutside outside_append (λ e es h. ((h.0, tt), h.1)) (entries (judgement tests last ds) ds) (map subprogram library) (outside_entries last ds) (outside_library library);
-  }
-
-  -- a name that stands for no storage is passed over
-  match_same : (D : List ℕ → Option Ty) → AllMatch D (names_of_program tests ds) ≡ AllMatch D (at_round last)
-  match_same D =
-      passed_over (AllMatch D) (λ e P bs. global_matches D e.name e.standing bs P) (λ e es. refl) (λ e P h. ap (λ st bs. global_matches D e.name st bs P) h)
-      (entries (judgement tests last ds) ds) (map subprogram library) (names_shared tests ds distinct)
+  names_good = turn_named (length ds)
 
   pub globals_good : GlobalsMatch (names_of_program tests ds) (initial_globals (environment tests ds))
-  globals_good =
-      subst (AllMatch (types_in (names_of_program tests ds)) (names_of_program tests ds)) (among_same (at_round last) (names_of_program tests ds) (names_stand tests ds) ds)
-      (subst (λ P. P (globals_among ds (at_round last))) (sym (match_same (types_in (names_of_program tests ds))))
-      (subst (λ D. AllMatch D (at_round last) (globals_among ds (at_round last))) types_same (globals_match_at last (well_after last))))
+  globals_good = turn_match (length ds)
 
 -- ---- of a program
 
 pub names_same : (tests : Tests) (ds : List Decl) (names : List Entry) → globals_rule tests ds ≡ Ok names → names_of_program tests ds ≡ names
-names_same tests ds names h = ok_ok (names_of_program tests ds) names (then_ok (faults_rule tests ds ds) (Ok (names_of_program tests ds)) names h).then
+names_same tests ds names h =
+    ok_ok (names_of_program tests ds) names (then_ok (faults_rule (final tests ds)) (Ok (names_of_program tests ds)) names h).then
 
 -- what is read from texts has a label in each enumeration
 def_labels : (def : TypeDef) → is_def_grown def ≡ true → LabelsIn def

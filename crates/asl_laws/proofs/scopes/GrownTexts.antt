@@ -26,7 +26,7 @@ use Rattle.asl_grammar.specs.grammar.Rules.{Sym, Val, rule, label_list, label_br
 use Rattle.asl_rules.specs.private.Grown.{is_positive, is_def_grown, is_read_grown, AreGrown, AreReadGrown}
 use Rattle.asl_rules.specs.declarations.Programs.{default_decls, final_decls}
 use Rattle.asl_rules.specs.declarations.WrittenOut.{decl_written}
-use Rattle.asl_rules.proofs.verdict.SameRules.{AllOf}
+use Rattle.asl_laws.proofs.basics.Lists.{AllOf}
 use Rattle.asl_laws.specs.Answers.{AreJudged}
 use Rattle.asl_laws.proofs.reading.Judged.{judged_each}
 

@@ -30,7 +30,7 @@ use Rattle.asl_rules.specs.statements.Acting.{Done}
 use Rattle.asl_rules.specs.statements.Locals.{Initialised, initialised, initialised_as, itself, declared, type_declared, part_declared, written_or, taken, binders_free, bound_parts, bound_in, bound, bind_rule, names_rule, vars_rule}
 use Rattle.asl_rules.specs.statements.Branches.{index_type, with_index, with_caught}
 use Rattle.asl_rules.specs.statements.Stmts.{found_stmt}
-use Rattle.asl_rules.specs.declarations.Declarations.{names_of_program}
+use Rattle.asl_rules.specs.declarations.Turns.{final, names_of_program}
 use Rattle.asl_rules.specs.declarations.Programs.{Head, funcs_of, signatures, params_free, formals_free, param_written, param_entry, params_rule, formals_rule, result_rule, limit_typed, params_are_integers, limit_rule, with_formals, signature_rule, signatures_rule}
 use Rattle.asl_rules.proofs.basics.Inversions.{ok_ok, bind_ok, then_ok, need_ok, found_ok}
 use Rattle.asl_rules.proofs.basics.Tests.{no, some_same, some_none, none_some}
@@ -74,7 +74,7 @@ declared_added : (kind : LocalKind) (names : List Entry) (name : List ℕ) (T : 
 declared_added local.Let names name T c o f = added names (fixed name T c) o f
 declared_added local.Var names name T c o f = added names (variable name T) o f
 
-of_once : (es : List Entry) → Once es → NoneShadowed es
+pub of_once : (es : List Entry) → Once es → NoneShadowed es
 of_once [] o = tt
 of_once (e ∷ es) o = (o.0, of_once es o.1)
 
@@ -215,7 +215,10 @@ names_over A names g = record {
 -- ---- the rules
 
 pub outside_rules : (t : Tests) (ds : List Decl) → OutsideRules (names_of_program t ds)
-outside_rules t ds = record { shadowed = of_once (names_of_program t ds) (names_once t ds); types = (program_over t Never ds).each }
+outside_rules t ds = record {
+  shadowed = of_once (names_of_program t ds) (names_once ds (final t ds));
+  types = (program_over t Never ds).each;
+}
 
 heads_begin : (t : Tests) (base : List Entry) → NoneShadowed base → NamesOver Never base → (subs : List Signature) → SubsOver subs →
     (fs : List Func) (hs : List Head) → signatures_rule t base fs ≡ Ok hs → AllBegin subs hs

@@ -5,7 +5,6 @@ use Rattle.asl_syn.specs.declared.tree.Expr.{Expr}
 use Rattle.asl_syn.specs.declared.tree.Ident.{Ident}
 use Rattle.asl_syn.specs.declared.tree.Direction.{Direction}
 use Rattle.asl_syn.specs.declared.tree.Stmt.{Stmt}
-use Rattle.asl_syn.specs.declared.tree.Decl.{Decl}
 use Rattle.asl_syn.specs.declared.tree.Func.{Func}
 use Rattle.asl_rules.specs.declared.effect.Effect.{Effect}
 use Rattle.asl_rules.specs.Tests.{Tests}
@@ -15,17 +14,16 @@ use Rattle.asl_rules.specs.declarations.Scopes.{Scope, Body, Entry, Signature, f
 use Rattle.asl_rules.specs.statements.Branches.{index_type, with_index, with_caught}
 use Rattle.asl_rules.specs.statements.Acting.{Done, Listed, in_order}
 use Rattle.asl_rules.specs.statements.Stmts.{found_stmt}
-use Rattle.asl_rules.specs.declarations.Declarations.{names_of_program}
 use Rattle.asl_rules.specs.declarations.Programs.{Head, signature_rule}
 use Rattle.asl_rules.specs.private.Worth.{WellCounted}
 use Rattle.asl_rules.proofs.basics.Inversions.{ok_ok, then_ok}
 use Rattle.asl_rules.proofs.widths.Counting.{well_kept, atom_counts}
-use Rattle.asl_rules.proofs.widths.ScopesCounted.{names_counted, signature_counted, bind_counted, vars_counted, plain_counts}
+use Rattle.asl_rules.proofs.widths.ScopesCounted.{signature_counted, bind_counted, vars_counted, plain_counts}
 use Rattle.asl_laws.proofs.widths.TypesOver.{Never}
 use Rattle.asl_laws.specs.ScopeRules.{NoneShadowed, EachOver, Below, KeepsRules}
-use Rattle.asl_laws.proofs.scopes.ScopeRules.{outside_rules, added, bind_added, vars_added, head_added, caught_added}
+use Rattle.asl_laws.proofs.scopes.ScopeRules.{added, bind_added, vars_added, head_added, caught_added}
 use Rattle.asl_laws.proofs.scopes.OverScope.{SubsOver}
-use Rattle.asl_laws.proofs.scopes.ScopesOver.{program_over}
+use Rattle.asl_laws.proofs.scopes.NamesOutside.{NamesOutside, outside_counted, outside_over}
 use Rattle.asl_laws.proofs.scopes.BodiesOver.{ScopeOver, signature_over, bind_over, vars_over, index_over, caught_over}
 use Rattle.asl_rules.proofs.scopes.KeptNames.{DeclarationsKeep, stmt_keeps, list_keeps}
 
@@ -62,11 +60,12 @@ pub list_scope : (t : Tests) (ss : List Stmt) (k : Effect) (B : Body) (l : Liste
 list_scope t ss k B l p h = list_keeps t (GoodScope t) (kept t) ss k B l p h
 
 -- what a body begins with
-pub head_scope : (t : Tests) (ds : List Decl) (f : Func) (head : Head) (G : Scope) → G.names ≡ head.names → SubsOver G.subs → signature_rule t (names_of_program t ds) f ≡ Ok head → GoodScope t G
-head_scope t ds f head G e s h = record {
-  counted = subst WellCounted (sym e) (signature_counted t (names_of_program t ds) f head (names_counted t ds) h);
-  shadowed = subst NoneShadowed (sym e) (head_added t (names_of_program t ds) f head (outside_rules t ds).shadowed h);
-  over = subst (ScopeOver t) (sym e) (signature_over t (names_of_program t ds) f head (program_over t Never ds) h).names;
+pub head_scope : (t : Tests) (base : List Entry) → NamesOutside base → (f : Func) (head : Head) (G : Scope) → G.names ≡ head.names →
+    SubsOver G.subs → signature_rule t base f ≡ Ok head → GoodScope t G
+head_scope t base out f head G e s h = record {
+  counted = subst WellCounted (sym e) (signature_counted t base f head (outside_counted base out) h);
+  shadowed = subst NoneShadowed (sym e) (head_added t base f head out.shadowed h);
+  over = subst (ScopeOver t) (sym e) (signature_over t base f head (outside_over base out Never) h).names;
   subs = s;
 }
 

@@ -1,9 +1,7 @@
 -- The scopes of a program: the types of names outside bodies have no atoms, and the types of the names of a body have atoms of names of that body alone. So a
 -- type is the same type for two assignments that agree on the atoms of its scope.
-use Rattle.std.proofs.Common.{◌≡◌, ℕ, zero, suc, Bool, true, false, pos, List, [], ◌∷◌, ◌++◌, length, map, Option, Some, None, Result, Ok, Err, refl, sym, ap, ap₂, ◌∙◌, subst}
+use Rattle.std.proofs.Common.{◌≡◌, ℕ, suc, Bool, true, false, pos, List, [], ◌∷◌, length, Option, Some, None, Ok, refl, sym, ap, ap₂, ◌∙◌, subst}
 use Rattle.std.specs.Prelude.{if◌then◌else◌, ◌+ℤ◌, ◌*ℤ◌, not}
-use Rattle.std.specs.Str.{bytes_eq}
-use Rattle.asl_syn.specs.declared.code.Fault.{Fault}
 use Rattle.asl_syn.specs.declared.code.StaticCode.TheVariants.{S03, T04, T15}
 use Rattle.asl_syn.specs.declared.tree.Expr.{Expr}
 use Rattle.asl_syn.specs.declared.tree.TypeExpr.{TypeExpr}
@@ -27,21 +25,21 @@ use Rattle.asl_rules.specs.types.Closed as cl
 use Rattle.asl_rules.specs.declarations.Scopes.{Entry, Standing, Stored, Subprogram, TypeName, Label, next_atom, subprogram, standing_of, is_local}
 use Rattle.asl_rules.specs.expressions.Exprs.{found, found_type, typed, written}
 use Rattle.asl_rules.specs.types.Written.{first_value}
-use Rattle.asl_rules.specs.declarations.Names.{library}
-use Rattle.asl_rules.specs.declarations.Uses.{uses}
 use Rattle.asl_rules.specs.declarations.Barred.{barred}
-use Rattle.asl_rules.specs.declarations.Declarations.{evaluated, with_type, Judged, Waiting, Fine, Faulty, Initial, fields_written, once, def_rule, supertype_rule, label_entries, storage_rule, unannotated, is_var, known, decl_rule, judged, judged_by, still, judgement, entries_of, entries, final, names_of_program, in_names, all_fine}
+use Rattle.asl_rules.specs.declarations.Declarations.{evaluated, with_type, Initial, fields_written, once, def_rule, supertype_rule, label_entries, storage_rule, unannotated, is_var, known, decl_rule, in_names}
+use Rattle.asl_rules.specs.declarations.Turns.{names_of_program}
 use Rattle.asl_rules.specs.private.Worth.{AllOf, AtomsOf}
 use Rattle.asl_rules.specs.private.WellFormed.{Fixed}
 use Rattle.asl_rules.specs.private.Agreement.{SameOn}
 use Rattle.asl_rules.proofs.basics.Inversions.{ok_ok, err_ok, bind_ok, then_ok}
-use Rattle.asl_rules.proofs.basics.Tests.{none_some, some_same}
+use Rattle.asl_rules.proofs.basics.Tests.{none_some}
 use Rattle.asl_rules.proofs.basics.Opening.{bounded_ok}
 use Rattle.asl_rules.proofs.widths.Counting.{stored_of}
 pub use Rattle.asl_laws.specs.ScopeRules.{Below}
 use Rattle.asl_laws.proofs.widths.TypesOver.{EndOver, PartsOver, Never, Over, FieldsOver, AllOver, over_any, widened_over}
 use Rattle.asl_laws.proofs.scopes.OverScope.{StandingOver, CountedOver, EachOver, NamesOver, typed_over, written_over}
-use Rattle.asl_rules.proofs.scopes.EachOnce.{entries_keep}
+use Rattle.asl_rules.proofs.verdict.EachName.{EachName, name_has, visible_have}
+use Rattle.asl_laws.specs.Evaluated.{names_after}
 
 -- ---- a type for assignments that agree on its atoms
 
@@ -131,17 +129,14 @@ Clean Subprogram = Unit {0}
 Clean (TypeName T) = Over Never T
 Clean (Label T x) = Over Never T
 
-abbrev AllClean : List Entry → Type 0
-AllClean [] = Unit {0}
-AllClean (e ∷ es) = Clean e.standing × AllClean es
+abbrev IsClean : Entry → Type 0
+IsClean e = Clean e.standing
 
-clean_if : (b : Bool) (y : Standing) (o : Option Standing) (x : Standing) → Clean y → (o ≡ Some x → Clean x) → (if b then Some y else o) ≡ Some x → Clean x
-clean_if true y o x c f h = subst (λ z. Clean z) (some_same y x h) c
-clean_if false y o x c f h = f h
+abbrev pub AllClean : List Entry → Type 0
+AllClean es = EachName IsClean es
 
-clean_at : (name : List ℕ) (es : List Entry) (x : Standing) → AllClean es → standing_of name es ≡ Some x → Clean x
-clean_at name [] x c h = none_some x h
-clean_at name (e ∷ es) x c h = clean_if (bytes_eq e.name name) e.standing (standing_of name es) x c.0 (clean_at name es x c.1) h
+pub clean_at : (name : List ℕ) (es : List Entry) (x : Standing) → AllClean es → standing_of name es ≡ Some x → Clean x
+clean_at name es x c h = name_has (λ n st. Clean st) es name x c h
 
 clean_standing : (A : ℕ → Type 0) (x : Standing) → Clean x → StandingOver A x
 clean_standing A (Stored s) c = over_any A s.ty c.1.1
@@ -156,16 +151,23 @@ clean_each : (A : ℕ → Type 0) (es : List Entry) → AllClean es → EachOver
 clean_each A [] c = tt
 clean_each A (e ∷ es) c = (clean_standing A e.standing c.0, (clean_counted A e.standing c.0, clean_each A es c.1))
 
-clean_over : (A : ℕ → Type 0) (es : List Entry) → AllClean es → NamesOver A es
+pub clean_over : (A : ℕ → Type 0) (es : List Entry) → AllClean es → NamesOver A es
 clean_over A es c = record {
   each = clean_each A es c;
   standing = λ name x h. clean_standing A x (clean_at name es x c h);
   counts = λ name s d h q. none_some d (sym (clean_at name es (Stored s) c (stored_of (standing_of name es) s h)).0 ∙ q);
 }
 
-more_clean : (xs ys : List Entry) → AllClean xs → AllClean ys → AllClean (xs ++ ys)
-more_clean [] ys a b = b
-more_clean (x ∷ xs) ys a b = (a.0, more_clean xs ys a.1 b)
+clean_local : (x : Standing) → Clean x → is_local x ≡ false
+clean_local (Stored s) c = ap not c.1.0
+clean_local Subprogram c = refl
+clean_local (TypeName T) c = refl
+clean_local (Label T x) c = refl
+
+-- none of them is the name of a body
+pub clean_atoms : (es : List Entry) → AllClean es → next_atom es ≡ 0
+clean_atoms [] c = refl
+clean_atoms (e ∷ es) c = ap (λ b. if b then suc (suc (next_atom es)) else next_atom es) (clean_local e.standing c.0) ∙ clean_atoms es c.1
 
 structure_over : (T : Ty) → Over Never T → Over Never (structure T)
 structure_over (named name supers T) h = structure_over T h
@@ -245,71 +247,13 @@ module _ (t : Tests) where
       subst (λ z. AllClean z) (ok_ok _ es u.then) ((refl, (refl, storage_clean d (is_var d.kind) d.ty d.init names u.value c u.first)), tt)
   decl_clean (dc.Func f) names es c h = subst (λ z. AllClean z) (ok_ok (subprogram f.name.text ∷ []) es h) (tt, tt)
 
-  abbrev BringsClean : Judged → Type 0
-  BringsClean Waiting = Unit {0}
-  BringsClean (Fine es) = AllClean es
-  BringsClean (Faulty f) = Unit {0}
+  pub names_clean : (n : ℕ) (ds : List Decl) → AllClean (names_after t n ds)
+  names_clean n ds = visible_have IsClean (λ m. tt) t ds (λ d i. (refl, (refl, tt))) (λ d i names c es h. decl_clean d names es c h) n
 
-  judged_clean : (r : Result (List Entry) Fault) → ((es : List Entry) → r ≡ Ok es → AllClean es) → BringsClean (judged r)
-  judged_clean (Ok es) f = f es refl
-  judged_clean (Err e) f = tt
+  -- the names after so many turns have no atoms
+  pub turns_over : (A : ℕ → Type 0) (n : ℕ) (ds : List Decl) → NamesOver A (names_after t n ds)
+  turns_over A n ds = clean_over A (names_after t n ds) (names_clean n ds)
 
-  if_clean : (b : Bool) (j : Judged) → BringsClean j → BringsClean (if b then j else Waiting)
-  if_clean true j a = a
-  if_clean false j a = tt
-
-  still_clean : (j k : Judged) → BringsClean j → BringsClean k → BringsClean (still j k)
-  still_clean Waiting k a b = b
-  still_clean (Fine es) k a b = a
-  still_clean (Faulty f) k a b = tt
-
-  brought_clean : (j : Judged) → BringsClean j → AllClean (entries_of j)
-  brought_clean Waiting a = tt
-  brought_clean (Fine es) a = a
-  brought_clean (Faulty f) a = tt
-
-  entries_clean : (f : Decl → Judged) → ((d : Decl) → BringsClean (f d)) → (ds : List Decl) → AllClean (entries f ds)
-  entries_clean f a [] = tt
-  entries_clean f a (d ∷ ds) = more_clean (entries_of (f d)) (entries f ds) (brought_clean (f d) (a d)) (entries_clean f a ds)
-
-  library_clean : (ns : List (List ℕ)) → AllClean (map subprogram ns)
-  library_clean [] = tt
-  library_clean (n ∷ ns) = (tt, library_clean ns)
-
-  with_library : (f : Decl → Judged) → ((d : Decl) → BringsClean (f d)) → (ds : List Decl) → AllClean (map subprogram library ++ entries f ds)
-  with_library f a ds = more_clean (map subprogram library) (entries f ds) (library_clean library) (entries_clean f a ds)
-
-  by_clean : (f : Decl → Judged) → ((d : Decl) → BringsClean (f d)) → (ds : List Decl) (d : Decl) → BringsClean (judged_by t f ds d)
-  by_clean f a ds d =
-      let names : List Entry = map subprogram library ++ entries f ds in
-      if_clean (all_fine f (uses d) ds) (judged (decl_rule t d (in_names names))) (judged_clean (decl_rule t d (in_names names)) (λ es h. decl_clean d names es (with_library f a ds) h))
-
-  judgement_clean : (n : ℕ) (ds : List Decl) (d : Decl) → BringsClean (judgement t n ds d)
-  judgement_clean zero ds d = tt
-  judgement_clean (suc n) ds d =
-      still_clean (judgement t n ds d) (judged_by t (λ e. judgement t n ds e) ds d) (judgement_clean n ds d) (by_clean (λ e. judgement t n ds e) (λ e. judgement_clean n ds e) ds d)
-
-  -- the names after so many rounds have no atoms
-  pub rounds_over : (A : ℕ → Type 0) (n : ℕ) (ds : List Decl) → NamesOver A (map subprogram library ++ entries (judgement t n ds) ds)
-  rounds_over A n ds = clean_over A (map subprogram library ++ entries (judgement t n ds) ds) (with_library (judgement t n ds) (λ d. judgement_clean n ds d) ds)
-
-  program_clean : (ds : List Decl) → AllClean (names_of_program t ds)
-  program_clean ds = entries_keep AllClean more_clean (λ e es h. ((h.0, tt), h.1)) (entries (final t ds) ds) (map subprogram library) (entries_clean (final t ds) (λ d. judgement_clean (suc (length ds)) ds d) ds) (library_clean library)
-
-  -- the names that are visible in all bodies have no atoms
+  -- so those that are visible in all bodies have none
   pub program_over : (A : ℕ → Type 0) (ds : List Decl) → NamesOver A (names_of_program t ds)
-  program_over A ds = clean_over A (names_of_program t ds) (program_clean ds)
-
-  -- and none of them is the name of a body
-  pub program_atoms : (ds : List Decl) → next_atom (names_of_program t ds) ≡ 0
-  program_atoms ds = no_local (names_of_program t ds) (program_clean ds)
-    where
-      outside : (x : Standing) → Clean x → is_local x ≡ false
-      outside (Stored s) c = ap not c.1.0
-      outside Subprogram c = refl
-      outside (TypeName T) c = refl
-      outside (Label T x) c = refl
-
-      no_local : (es : List Entry) → AllClean es → next_atom es ≡ 0
-      no_local [] c = refl
-      no_local (e ∷ es) c = ap (λ b. if b then suc (suc (next_atom es)) else next_atom es) (outside e.standing c.0) ∙ no_local es c.1
+  program_over A ds = turns_over A (length ds) ds

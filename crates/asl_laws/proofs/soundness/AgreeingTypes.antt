@@ -1,4 +1,4 @@
--- The types of declarations and of signatures agree with what is declared, in each round in which declarations are judged and in
+-- The types of declarations and of signatures agree with what is declared, in each turn in which a declaration is judged and in
 -- the scope of all signatures, whether the program is accepted or refused.
 use Rattle.std.proofs.Common.{true, ◌≡◌, ℕ, false, List, [], ◌∷◌, ◌++◌, Option, Some, None, Ok, subst}
 use Rattle.asl_syn.specs.declared.tree.Decl.{Decl}
@@ -15,7 +15,8 @@ use Rattle.asl_rules.specs.declarations.Names.{names_rule, all_declared}
 use Rattle.asl_rules.specs.declarations.Scopes.{Entry, Param, fixed, next_atom}
 use Rattle.asl_rules.specs.expressions.Exprs.{written}
 use Rattle.asl_rules.specs.statements.Locals.{itself}
-use Rattle.asl_rules.specs.declarations.Declarations.{in_names, names_of_program}
+use Rattle.asl_rules.specs.declarations.Declarations.{in_names}
+use Rattle.asl_rules.specs.declarations.Turns.{names_of_program}
 use Rattle.asl_rules.specs.declarations.Programs.{Head, funcs_of, signatures, params_free, formals_free, type_or_itself, param_entry, param_written, params_rule, formals_rule, result_rule, limit_typed, params_are_integers, limit_rule, with_formals, signature_rule, signatures_rule}
 use Rattle.asl_rules.specs.private.Agreement.{types_in}
 use Rattle.asl_rules.specs.private.Grown.{AreGrown}
@@ -28,7 +29,7 @@ use Rattle.asl_laws.specs.AgreeingTypes.{NamesFormed, MaybeFormed, ResultsFormed
 use Rattle.asl_laws.specs.Evaluated.{names_after}
 use Rattle.asl_laws.proofs.scopes.FormedScopes.{added, itself_held}
 use Rattle.asl_laws.proofs.scopes.HeldRules.{only_ends}
-use Rattle.asl_laws.proofs.scopes.Globals.{AllBelong, grown_labels, names_good, round_named}
+use Rattle.asl_laws.proofs.scopes.Globals.{AllBelong, grown_labels, names_good, turn_named}
 use Rattle.asl_laws.proofs.scopes.GrownTexts.{judged_grown}
 use Rattle.asl_laws.proofs.scopes.WellTyped.{integer_formed, written_in_formed, good_formed}
 use Rattle.asl_laws.proofs.soundness.GivenTypes.{belong_by_forms}
@@ -138,7 +139,7 @@ declarations_agree t right ds grown apart =
     let base = names_of_program t ds in
     let all : NamesAgree base = names_agree base (names_good t right ds distinct labels belong) in
     record {
-      rounds = λ n. names_agree (names_after t n ds) (round_named t right ds distinct labels belong n);
+      each_turn = λ n. names_agree (names_after t n ds) (turn_named t right ds distinct labels belong n);
       all = all;
       heads = λ hs h. heads_formed t right (types_in base) all.declared base (funcs_of ds) hs all.formed h;
     }

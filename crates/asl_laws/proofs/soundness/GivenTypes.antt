@@ -2,6 +2,9 @@
 use Rattle.std.proofs.Common.{◌≡◌, ℕ, Bool, List, [], Ok, refl, true, inl}
 use Rattle.asl_syn.specs.declared.tree.Expr.{Expr}
 use Rattle.asl_syn.specs.declared.tree.Decl.{Decl}
+use Rattle.asl_rules.specs.declared.effect.Effect.{Effect}
+use Rattle.asl_rules.specs.declared.effect.Effect.TheVariants.{Writes}
+use Rattle.asl_rules.specs.types.Effects.{at_most}
 use Rattle.asl_rules.specs.Tests.{Tests, IsRight}
 use Rattle.asl_rules.specs.declarations.Scopes.{Entry, Signature}
 use Rattle.asl_rules.specs.runs.Trees.{TreeFunc}
@@ -28,9 +31,28 @@ use Rattle.asl_laws.proofs.statements.AllStmts.{OtherStmts, all_meet}
 use Rattle.asl_laws.proofs.scopes.Globals.{AllBelong}
 use Rattle.asl_laws.proofs.constants.KnownTypes.{GivesTypes, resting_agrees, all_belong}
 
+-- an exception comes out only where the class allows what writes
+abbrev pub ThrownIn : {A : Type 0} → Effect → Outcome Core A → Type 0
+ThrownIn k (Done x c h) = Unit {0}
+ThrownIn k (Thrown x c h) = at_most Writes k ≡ true
+ThrownIn k (Halt e c h) = Unit {0}
+
 module _ (tests : Tests) (base : List Entry) (subs : List Signature) (loose : Bool) where
-  gives_it : (H : Here) (S : Typed) (r : Outcome Core Value) (t : Outcome BareCore Value) →
-      SameEnd erased (λ c. GlobalsMatch base c.globals) (λ x y c. (x ≡ y) × (InType (types_in base) H.present x S.ty × At tests base subs loose H c)) (λ x c. Over tests base subs loose H.scope.names H.present H.around x c) r t → NotStuck r × GivesType base H.scope.names H.present S.ty r
+  abbrev EndsSame : Here → Typed → Outcome Core Value → Outcome BareCore Value → Type 0
+  EndsSame H S r t =
+      SameEnd erased (λ c. GlobalsMatch base c.globals)
+      (λ x y c. (x ≡ y) × (InType (types_in base) H.present x S.ty × At tests base subs loose H c))
+      (λ x c. Over tests base subs loose H.scope.class H.scope.names H.present H.around x c) r t
+
+  thrown_there : (H : Here) (S : Typed) (r : Outcome Core Value) (t : Outcome BareCore Value) → EndsSame H S r t → ThrownIn H.scope.class r
+  thrown_there H S (Done x c h) t q = tt
+  thrown_there H S (Halt e c h) t q = tt
+  thrown_there H S (Thrown x c h) (Thrown y d k) q = q.3.writes
+  thrown_there H S (Thrown x c h) (Done y d k) q = absurd q
+  thrown_there H S (Thrown x c h) (Halt e d k) q = absurd q
+
+  gives_it : (H : Here) (S : Typed) (r : Outcome Core Value) (t : Outcome BareCore Value) → EndsSame H S r t →
+      NotStuck r × GivesType base H.scope.names H.present S.ty r
   gives_it H S (Done x c h) (Done y d k) q = (tt, (q.2.1.0, q.2.1.1.agrees))
   gives_it H S (Thrown x c h) (Thrown y d k) q = (tt, (q.3.raised, q.3.agrees.globals))
   gives_it H S (Halt (Faulted code span) c h) (Halt e d k) q = (tt, q.3)
@@ -49,6 +71,16 @@ module _ (tests : Tests) (right : IsRight tests) (ds : List Decl) (base : List E
   typed_run o q d e H S c h t a =
       gives_it tests base subs loose H S ((meaning (env tests right ds base subs loose funcs w) d).expr e c h) ((tree_meaning (program tests right ds base subs loose funcs w) d).expr S.tree (erased c) h)
       ((all_meet tests right ds base subs loose funcs w s o q d).expr (one (H, of_type S)) e S.tree c h (record { answers = t; is_tree = refl; at = a }))
+
+  -- what is thrown there is thrown where it may be
+  pub typed_thrown : Others tests right ds base subs loose funcs w s → OtherStmts tests right ds base subs loose funcs w →
+      (d : ℕ) (e : Expr) (H : Here) (S : Typed) (c : Core) (h : Meter) → typed tests e H.scope ≡ Ok S → At tests base subs loose H c →
+      ThrownIn H.scope.class ((meaning (env tests right ds base subs loose funcs w) d).expr e c h)
+  typed_thrown o q d e H S c h t a =
+      thrown_there tests base subs loose H S ((meaning (env tests right ds base subs loose funcs w) d).expr e c h)
+      ((tree_meaning (program tests right ds base subs loose funcs w) d).expr S.tree (erased c) h)
+      ((all_meet tests right ds base subs loose funcs w s o q d).expr (one (H, of_type S)) e S.tree c h
+      (record { answers = t; is_tree = refl; at = a }))
 
 -- outside bodies there are no subprograms of the program
 pub gives_types : (tests : Tests) (right : IsRight tests) (ds : List Decl) (base : List Entry) (w : WellNamed base) → Others tests right ds base [] true [] w tt → OtherStmts tests right ds base [] true [] w → GlobalsMatch base (globals_among ds base) → GivesTypes tests ds base

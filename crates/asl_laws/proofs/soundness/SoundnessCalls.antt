@@ -7,7 +7,9 @@ use Rattle.asl_syn.specs.declared.tree.Param.{Param as WrittenParam}
 use Rattle.asl_syn.specs.declared.tree.TypeExpr.{TypeExpr}
 use Rattle.asl_syn.specs.declared.tree.Func.{Func}
 use Rattle.asl_syn.specs.declared.tree.Decl.{Decl}
-use Rattle.asl_rules.specs.declared.effect.Effect.TheVariants.{Pure}
+use Rattle.asl_rules.specs.declared.effect.Effect.{Effect}
+use Rattle.asl_rules.specs.declared.effect.Effect.TheVariants.{Pure, Readonly, Writes}
+use Rattle.asl_rules.specs.types.Effects.{at_most}
 use Rattle.asl_rules.specs.declared.entry.Entry.{Entry as Asked}
 use Rattle.asl_rules.specs.Faults.{need}
 use Rattle.asl_rules.specs.Tests.{Tests, IsRight}
@@ -19,7 +21,7 @@ use Rattle.asl_rules.specs.runs.Trees.{TreeFunc}
 use Rattle.asl_rules.specs.expressions.Exprs.{written}
 use Rattle.asl_rules.specs.statements.Acting.{Listed, in_order}
 use Rattle.asl_rules.specs.statements.Stmts.{found_stmt}
-use Rattle.asl_rules.specs.declarations.Declarations.{in_names, names_of_program}
+use Rattle.asl_rules.specs.declarations.Declarations.{in_names}
 use Rattle.asl_rules.specs.declarations.Programs.{Entries, body_scope, funcs_of, Head, params_free, formals_free, param_written, params_rule, formals_rule, result_rule, limit_typed, params_are_integers, limit_rule, with_formals, signature_rule, signatures_rule, signatures, may_end, body_of, tree_func, bodies_rule, origin, accepted}
 use Rattle.asl_rules.specs.private.Belonging.{Belong}
 use Rattle.asl_rules.specs.private.Agreement.{types_in, no_atoms, GlobalsMatch, Agrees}
@@ -42,7 +44,8 @@ use Rattle.asl_laws.proofs.scopes.WellTyped.{FormedSubs}
 use Rattle.asl_laws.proofs.scopes.WellTyped as typing
 use Rattle.asl_laws.proofs.widths.TypesOver.{Never, Over, AllOver, over_more, all_more}
 use Rattle.asl_laws.proofs.scopes.OverScope.{IsAtomOf}
-use Rattle.asl_laws.proofs.scopes.ScopesOver.{never_moved, program_over, program_atoms}
+use Rattle.asl_laws.proofs.scopes.ScopesOver.{never_moved}
+use Rattle.asl_laws.proofs.scopes.NamesOutside.{NamesOutside, outside_over, outside_atoms}
 use Rattle.asl_laws.proofs.scopes.BodiesOver.{signature_over, signatures_over}
 use Rattle.asl_laws.proofs.scopes.ScopesKept.{ruled, head_scope}
 use Rattle.asl_laws.proofs.expressions.Twins.{twins_weaker}
@@ -137,23 +140,25 @@ has_all tests right ds base subs loose funcs w a b [] (part T Ts) o h = absurd h
 has_all tests right ds base subs loose funcs w a b (x ∷ xs) no_part o h = absurd h
 has_all tests right ds base subs loose funcs w a b (x ∷ xs) (part T Ts) o h = (subst (λ C. has x C ≡ true) (never_moved a b T o.0) h.0.0, h.0.1, has_all tests right ds base subs loose funcs w a b xs Ts o.1 h.1)
 
+writes_most : (k : Effect) → at_most k Writes ≡ true
+writes_most Pure = refl
+writes_most Readonly = refl
+writes_most Writes = refl
+
 zero_more : (n : ℕ) → n + 0 ≡ n
 zero_more n = omega arith
 
 abbrev states : Core → Core → Entering
 states p i = record { params = p; inner = i }
 
-module _ (tests : Tests) (right : IsRight tests) (ds : List Decl) (asked : Asked) (main : Entries) (loose : Bool) (heads : List Head) (trees : List TreeFunc) (w : WellNamed (names_of_program tests ds)) (s : FormedSubs tests right (types_in (names_of_program tests ds)) (well_declared (names_of_program tests ds) w) (signatures heads))
-    (heads_are : signatures_rule tests (names_of_program tests ds) (funcs_of ds) ≡ Ok heads) (bodies : bodies_rule tests (signatures heads) heads ≡ Ok trees) where
-  abbrev base : List Entry
-  base = names_of_program tests ds
-
+module _ (tests : Tests) (right : IsRight tests) (ds : List Decl) (base : List Entry) (out : NamesOutside base) (asked : Asked) (main : Entries) (loose : Bool) (heads : List Head) (trees : List TreeFunc) (w : WellNamed base) (s : FormedSubs tests right (types_in base) (well_declared base w) (signatures heads))
+    (heads_are : signatures_rule tests base (funcs_of ds) ≡ Ok heads) (bodies : bodies_rule tests (signatures heads) heads ≡ Ok trees) where
   abbrev subs : List Signature
   subs = signatures heads
 
-  -- where a call from outside stands
+  -- where a call from outside stands, of whatever class it is
   abbrev outer : Here
-  outer = record { scope = record { names = base; subs = subs; class = Pure }; present = no_atoms; around = around_of (resting []) }
+  outer = record { scope = record { names = base; subs = subs; class = Writes }; present = no_atoms; around = around_of (resting []) }
 
   abbrev Keeps : Option Value → Option Value → Core → Type 0
   Keeps x y c = (x ≡ y) × GlobalsMatch base c.globals
@@ -178,7 +183,7 @@ module _ (tests : Tests) (right : IsRight tests) (ds : List Decl) (asked : Asked
   keeps_so span a c None T h k = ap (seen_by span a) (ok_ok None T h)
   keeps_so span a c (Some t) T h k =
       let v = bind_ok (written tests t false (in_names base)) _ T h in
-      ap (λ z. Some (under_written span z)) (type_present tests right ds base subs loose trees w (in_names base) a c t false v.value (counted_fixed Never base (program_over tests Never ds).each) k v.first)
+      ap (λ z. Some (under_written span z)) (type_present tests right ds base subs loose trees w (in_names base) a c t false v.value (counted_fixed Never base (outside_over base out Never).each) k v.first)
       ∙ ap (seen_by span a) (ok_ok (Some v.value.ty) T v.then)
 
   call_kept : (id : ℕ) (args : List Value) (globals : List Binding) (h : Head) (l : Listed) → slice_get subs id ≡ Some h.signature → signature_rule tests base h.func ≡ Ok h → h.signature.params ≡ [] → in_order (map (found_stmt tests) h.func.body) Pure (body_of subs h) ≡ Ok l → may_end h.signature.result h.func ≡ true →
@@ -192,18 +197,18 @@ module _ (tests : Tests) (right : IsRight tests) (ds : List Decl) (asked : Asked
       let c1 = entered id c0 in
       let a : Assignment = integers_of args in
       let n = alone tests base f h k p in
-      let over = signature_over tests base f h (program_over tests Never ds) k in
+      let over = signature_over tests base f h (outside_over base out Never) k in
       let formals_over : AllOver Never h.signature.formals = all_more (IsAtomOf h.signature.params) Never (none_never h.signature.params p) h.signature.formals over.formals in
       let result_over : (T : Ty) → h.signature.result ≡ Some T → Over Never T = λ T q. over_more (IsAtomOf h.signature.params) Never (none_never h.signature.params p) T (over.result T q) in
       let begun = entered_so a id globals m in
-      let agree = present_agree a base (in_names base) c1 (counted_fixed Never base (program_over tests Never ds).each) begun in
+      let agree = present_agree a base (in_names base) c1 (counted_fixed Never base (outside_over base out Never).each) begun in
       let bound = formals_good tests right ds base subs loose trees w span base (present c1) a c1 agree begun f.formals h.signature.formals args base [] c1 n.formals n.free (λ name q r. q)
-      (subst (λ z. Follows a z args) (sym (program_atoms tests ds)) (follows a 0 args (λ i. ap a (zero_more i)))) (has_all tests right ds base subs loose trees w no_atoms a args h.signature.formals formals_over b) begun in
+      (subst (λ z. Follows a z args) (sym (outside_atoms base out)) (follows a 0 args (λ i. ap a (zero_more i)))) (has_all tests right ds base subs loose trees w no_atoms a args h.signature.formals formals_over b) begun in
       let ok : BodyOk tests right ds base subs loose trees w h l a = record {
         judged = j;
         ends = e;
         formed = formed_claim tests right base w h.signature.result (head_formed tests right (types_in base) (well_declared base w) base f h w.good k);
-        scope_good = head_scope tests ds f h _ refl (signatures_over tests base (funcs_of ds) heads (program_over tests Never ds) heads_are) k;
+        scope_good = head_scope tests base out f h _ refl (signatures_over tests base (funcs_of ds) heads (outside_over base out Never) heads_are) k;
         result_is = λ d q. result_same d a h.signature.result result_over;
       } in
       let states_are : entering E span id f [] args c0 ≡ Good (states c1 bound.state) =
@@ -214,12 +219,12 @@ module _ (tests : Tests) (right : IsRight tests) (ds : List Decl) (asked : Asked
       (subst (λ q. Same tests right base subs loose outer Keeps (in_frame span q (restored c0) (plan.in_order f.body bound.state)) (bare.run_with span id (tree_func h l.acts) [] args (erased c0))) (sym (keeps_so span a c1 f.result h.signature.result n.result begun))
       (subst (λ r. Same tests right base subs loose outer Keeps (in_frame span (seen_by span a h.signature.result) (restored c0) (plan.in_order f.body bound.state)) (lift r (erased c0) after)) (sym bound.seen_are)
       (subst (λ d. Same tests right base subs loose outer Keeps (in_frame span (seen_by span a h.signature.result) (restored c0) (plan.in_order f.body bound.state)) (in_frame span (result_seen h.signature.result) (bare.restored (erased c0)) (plan.in_order (acts_of l.acts) d))) bound.erased_so
-      (body_same tests right ds base subs loose trees w true outer Keeps h l a (around_of c1) span c0 bound.state s ok (inr (h.signature, is, refl, refl))
+      (body_same tests right ds base subs loose trees w true outer Keeps h l a (around_of c1) span c0 bound.state s ok (writes_most h.signature.class) (inr (h.signature, is, refl, refl))
       (record { agrees = subst (λ ns. Agrees base ns a bound.state) n.names bound.agrees; subs_are = refl; around_is = bound.around_is; stands = inr ((h.signature, is, itself_below h.signature.class), inl (refl, refl, refl)); counted = inr (ruled tests (body_scope (signatures heads) h) ok.scope_good) })
       (record { agrees = resting_so globals m; subs_are = refl; around_is = refl; stands = inl refl; counted = inl refl }) (λ r c g i. (refl, i.agrees.globals))))))
 
   -- a call from outside
-  pub call_same : (id : ℕ) (args : List Value) (globals : List Binding) → IsCall (accepted asked main subs trees base) id args globals → CallSame tests right ds asked main subs trees w s loose id args globals
+  pub call_same : (id : ℕ) (args : List Value) (globals : List Binding) → IsCall (accepted asked main subs trees base) id args globals → CallSame tests right ds base asked main subs trees w s loose id args globals
   call_same id args globals k =
       let E = env tests right ds base subs loose trees w in
       let c0 = resting globals in

@@ -20,8 +20,7 @@ use Rattle.asl_rules.specs.Faults.{fault, fault_of}
 use Rattle.asl_rules.specs.declarations.Routines.{Routine, routine_named}
 use Rattle.asl_rules.specs.statements.Stmts.{invoke_rule, found_stmt}
 use Rattle.asl_rules.specs.expressions.Calls.{chosen, Called, call_begun, routine_taken, procedure_of, procedure_rule}
-use Rattle.asl_rules.specs.declarations.Declarations.{names_of_program}
-use Rattle.asl_rules.specs.declarations.Programs.{Entries, Accepted, accepted, environment}
+use Rattle.asl_rules.specs.declarations.Programs.{Entries, Accepted, accepted}
 use Rattle.asl_rules.specs.runs.States.{Binding, Core, resting}
 use Rattle.asl_rules.specs.private.Belonging.{InType}
 use Rattle.asl_rules.specs.private.Agreement.{types_in, GlobalsMatch, Agrees}
@@ -31,7 +30,8 @@ use Rattle.asl_rules.specs.runs.Machines.{most_open, run_of, visits_of}
 use Rattle.asl_rules.specs.runs.Visits.{Visit, trails}
 use Rattle.asl_rules.specs.private.TypedMeaning.{BareCore, tree_nodes, tree_meaning, tree_call}
 use Rattle.asl_rules.specs.private.Erasure.{erased, erased_outcome}
-use Rattle.asl_laws.specs.Soundness.{NotStuck, AllVisited, IsCall, KeepsGlobals, Soundness, trees_of, tree_run, SameMeaning}
+use Rattle.asl_laws.specs.Soundness.{NotStuck, AllVisited, IsCall, KeepsGlobals, SoundRuns, trees_of, tree_run, SameRuns}
+use Rattle.asl_laws.proofs.constants.KnownTypes.{over_names}
 use Rattle.asl_rules.proofs.basics.Inversions.{err_ok, bind_ok, then_ok, found_ok}
 use Rattle.asl_rules.proofs.basics.Tests.{none_some}
 use Rattle.asl_rules.proofs.scopes.Naming.{WellNamed, well_declared}
@@ -92,12 +92,9 @@ no_procedures tests right ds base w j s span i ps es c is_found h k =
         let u = bind_ok (chosen span i os j.body.scope.subs) _ d q in
         none_some u.value (found_ok (choose i.text (types_of os) []) T09 span u.value (subst (λ fs. chosen span i os fs ≡ Ok u.value) k.at.subs_are u.first))
 
--- ---- of a program
+-- ---- over names outside bodies
 
-module _ (tests : Tests) (right : IsRight tests) (ds : List Decl) (asked : Entered_by) (main : Entries) (subs : List Signature) (funcs : List TreeFunc) (w : WellNamed (names_of_program tests ds)) (s : FormedSubs tests right (types_in (names_of_program tests ds)) (well_declared (names_of_program tests ds) w) subs) where
-  abbrev base : List Entry
-  base = names_of_program tests ds
-
+module _ (tests : Tests) (right : IsRight tests) (ds : List Decl) (base : List Entry) (asked : Entered_by) (main : Entries) (subs : List Signature) (funcs : List TreeFunc) (w : WellNamed base) (s : FormedSubs tests right (types_in base) (well_declared base w) subs) where
   abbrev whole : Accepted
   whole = accepted asked main subs funcs base
 
@@ -112,25 +109,25 @@ module _ (tests : Tests) (right : IsRight tests) (ds : List Decl) (asked : Enter
   module _ (o : (loose : Bool) → Others tests right ds base subs loose funcs w s) (q : (loose : Bool) → OtherStmts tests right ds base subs loose funcs w) (calls : (id : ℕ) (args : List Value) (globals : List Binding) → IsCall whole id args globals → CallSame false id args globals) where
     -- ---- visits
 
-    all_seen : (vs : List (Visit Core Expr Stmt)) → AllHold (AtNode tests ds whole) vs → AllVisited tests ds whole vs
+    all_seen : (vs : List (Visit Core Expr Stmt)) → AllHold (AtNode tests (over_names tests ds base) whole) vs → AllVisited tests (over_names tests ds base) whole vs
     all_seen [] h = tt
     all_seen (v ∷ vs) h = (h.0.0, h.0.1, h.0.2, all_seen vs h.1)
 
     -- ---- whole calls
 
     ends : (id : ℕ) (args : List Value) (globals : List Binding) (h : Meter) → IsCall whole id args globals →
-        SameEnd erased (λ c. GlobalsMatch base c.globals) (λ x y c. (x ≡ y) × GlobalsMatch base c.globals) (λ x c. GlobalsMatch base c.globals) (run_of (environment tests ds) id args globals h) (tree_run (trees_of tests whole) id args (erased (resting globals)) h)
+        SameEnd erased (λ c. GlobalsMatch base c.globals) (λ x y c. (x ≡ y) × GlobalsMatch base c.globals) (λ x c. GlobalsMatch base c.globals) (run_of (over_names tests ds base) id args globals h) (tree_run (trees_of tests whole) id args (erased (resting globals)) h)
     unfolding run_of
     ends id args globals h k =
-        twins_run (our tests base subs false) (meaning (environment tests ds) most_open) (tree_meaning (trees_of tests whole) most_open) (all_meet tests right ds base subs false funcs w s (o false) (q false) most_open)
-        (λ x y c. (x ≡ y) × GlobalsMatch base c.globals) (λ x c. GlobalsMatch base c.globals) (call_of (environment tests ds) id args (resting globals)) (tree_call (trees_of tests whole) id args (erased (resting globals))) h (calls id args globals k)
+        twins_run (our tests base subs false) (meaning (over_names tests ds base) most_open) (tree_meaning (trees_of tests whole) most_open) (all_meet tests right ds base subs false funcs w s (o false) (q false) most_open)
+        (λ x y c. (x ≡ y) × GlobalsMatch base c.globals) (λ x c. GlobalsMatch base c.globals) (call_of (over_names tests ds base) id args (resting globals)) (tree_call (trees_of tests whole) id args (erased (resting globals))) h (calls id args globals k)
 
-    all_at : (id : ℕ) (args : List Value) (globals : List Binding) (h : Meter) → IsCall whole id args globals → AllHold (AtNode tests ds whole) (visits_of (environment tests ds) id args globals h)
+    all_at : (id : ℕ) (args : List Value) (globals : List Binding) (h : Meter) → IsCall whole id args globals → AllHold (AtNode tests (over_names tests ds base) whole) (visits_of (over_names tests ds base) id args globals h)
     unfolding visits_of
     all_at id args globals h k =
-        twins_visits (our tests base subs false) (meaning (environment tests ds) most_open) (tree_meaning (trees_of tests whole) most_open) (trails (nodes (environment tests ds)) most_open 0) (AtNode tests ds whole) (all_meet tests right ds base subs false funcs w s (o false) (q false) most_open)
-        (visits_hold (nodes (environment tests ds)) (tree_nodes (trees_of tests whole)) (our tests base subs false) (AtNode tests ds whole) (all_forms tests right ds base subs false funcs w s (o false) (q false)) (at_exprs tests right ds asked main subs funcs w s (o true) (q true)) (at_stmts tests right ds asked main subs funcs w s (o true) (q true)) most_open 0)
-        (λ x y c. (x ≡ y) × GlobalsMatch base c.globals) (λ x c. GlobalsMatch base c.globals) (call_of (environment tests ds) id args (resting globals)) (tree_call (trees_of tests whole) id args (erased (resting globals))) h (calls id args globals k)
+        twins_visits (our tests base subs false) (meaning (over_names tests ds base) most_open) (tree_meaning (trees_of tests whole) most_open) (trails (nodes (over_names tests ds base)) most_open 0) (AtNode tests (over_names tests ds base) whole) (all_meet tests right ds base subs false funcs w s (o false) (q false) most_open)
+        (visits_hold (nodes (over_names tests ds base)) (tree_nodes (trees_of tests whole)) (our tests base subs false) (AtNode tests (over_names tests ds base) whole) (all_forms tests right ds base subs false funcs w s (o false) (q false)) (at_exprs tests right ds base asked main subs funcs w s (o true) (q true)) (at_stmts tests right ds base asked main subs funcs w s (o true) (q true)) most_open 0)
+        (λ x y c. (x ≡ y) × GlobalsMatch base c.globals) (λ x c. GlobalsMatch base c.globals) (call_of (over_names tests ds base) id args (resting globals)) (tree_call (trees_of tests whole) id args (erased (resting globals))) h (calls id args globals k)
 
     -- ---- expressions
 
@@ -138,13 +135,13 @@ module _ (tests : Tests) (right : IsRight tests) (ds : List Decl) (asked : Enter
     there G p c = record { scope = G; present = p; around = around_of c }
 
     expr_ends : (d : ℕ) (e : Expr) (G : Scope) (S : Typed) (p : Assignment) (c : Core) (h : Meter) → typed tests e G ≡ Ok S → G.subs ≡ subs → Agrees base G.names p c →
-        SameEnd erased (λ c1. GlobalsMatch base c1.globals) (λ x y c1. (x ≡ y) × (InType (types_in base) p x S.ty × At tests base subs true (there G p c) c1)) (λ x c1. Over tests base subs true G.names p (around_of c) x c1) ((meaning (environment tests ds) d).expr e c h) ((tree_meaning (trees_of tests whole) d).expr S.tree (erased c) h)
+        SameEnd erased (λ c1. GlobalsMatch base c1.globals) (λ x y c1. (x ≡ y) × (InType (types_in base) p x S.ty × At tests base subs true (there G p c) c1)) (λ x c1. Over tests base subs true G.class G.names p (around_of c) x c1) ((meaning (over_names tests ds base) d).expr e c h) ((tree_meaning (trees_of tests whole) d).expr S.tree (erased c) h)
     expr_ends d e G S p c h t g k =
         (all_meet tests right ds base subs true funcs w s (o true) (q true) d).expr (one (there G p c, of_type S)) e S.tree c h (record { answers = t; is_tree = refl; at = record { agrees = k; subs_are = g; around_is = refl; stands = inl refl; counted = inl refl } })
 
     -- ---- both
 
-    pub sound_with : GlobalsMatch base (initial_globals (environment tests ds)) → Soundness tests ds whole
+    pub sound_with : GlobalsMatch base (initial_globals (over_names tests ds base)) → SoundRuns tests (over_names tests ds base) whole
     sound_with m = record {
       initial = m;
       never_stuck = λ id args globals h k. not_stuck (λ c. GlobalsMatch base c.globals) (λ x y c. (x ≡ y) × GlobalsMatch base c.globals) (λ x c. GlobalsMatch base c.globals) _ _ (ends id args globals h k);
@@ -157,8 +154,8 @@ module _ (tests : Tests) (right : IsRight tests) (ds : List Decl) (asked : Enter
       };
     }
 
-    pub same_with : SameMeaning tests ds whole
+    pub same_with : SameRuns tests (over_names tests ds base) whole
     same_with = record {
-      expr = λ d e G S p c h t g k. same_end (λ c1. GlobalsMatch base c1.globals) (λ x c1. InType (types_in base) p x S.ty × At tests base subs true (there G p c) c1) (λ x c1. Over tests base subs true G.names p (around_of c) x c1) _ _ (expr_ends d e G S p c h t g k);
+      expr = λ d e G S p c h t g k. same_end (λ c1. GlobalsMatch base c1.globals) (λ x c1. InType (types_in base) p x S.ty × At tests base subs true (there G p c) c1) (λ x c1. Over tests base subs true G.class G.names p (around_of c) x c1) _ _ (expr_ends d e G S p c h t g k);
       call = λ id args globals h k. same_end (λ c. GlobalsMatch base c.globals) (λ x c. GlobalsMatch base c.globals) (λ x c. GlobalsMatch base c.globals) _ _ (ends id args globals h k);
     }

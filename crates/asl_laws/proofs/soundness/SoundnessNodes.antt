@@ -11,8 +11,7 @@ use Rattle.asl_rules.specs.declarations.Scopes.{Entry, Signature, with_class}
 use Rattle.asl_rules.specs.expressions.Typing.{Typed}
 use Rattle.asl_rules.specs.runs.Trees.{TreeFunc, Tree, Act}
 use Rattle.asl_rules.specs.expressions.Exprs.{typed}
-use Rattle.asl_rules.specs.declarations.Declarations.{names_of_program}
-use Rattle.asl_rules.specs.declarations.Programs.{Entries, Accepted, accepted}
+use Rattle.asl_rules.specs.declarations.Programs.{Environment, Entries, Accepted, accepted}
 use Rattle.asl_rules.specs.runs.States.{Binding, Core, resting, Frame}
 use Rattle.asl_rules.specs.private.Belonging.{Sound}
 use Rattle.asl_rules.specs.private.Agreement.{types_in, GlobalsMatch, Agrees}
@@ -24,6 +23,7 @@ use Rattle.asl_laws.specs.Soundness.{ValuesIn, ExprVisited, NodeVisited, StandsI
 use Rattle.asl_rules.proofs.basics.Tests.{no}
 use Rattle.asl_rules.proofs.scopes.Naming.{WellNamed, well_declared}
 use Rattle.asl_laws.proofs.scopes.WellTyped.{FormedSubs}
+use Rattle.asl_laws.proofs.constants.KnownTypes.{over_names}
 use Rattle.asl_laws.proofs.runs.Several.{Several, one, two, expr_enters, stmt_enters}
 use Rattle.asl_laws.proofs.expressions.Claims.{Here, Asked, of_type, of_pure, of_width, of_number, of_known, of_divisor, StmtClaim, At, ExprIn, StmtIn, our_each, around_of, Around, Caller, caller_at, by_expr, by_stmt, IsOutermost, Bound, IsCaller, Waiting, StandsOver, Stands}
 use Rattle.asl_rules.proofs.widths.WidthForms.{is_written}
@@ -42,13 +42,10 @@ HasFrame [] = ⊥
 HasFrame (f ∷ fs) = Unit {0}
 
 -- what holds at a node
-abbrev pub AtNode : Tests → List Decl → Accepted → Entered Expr Stmt → Core → Type 0
-AtNode t ds a n c = Sound c × NodeVisited t ds a n c × CallersWait t ds a c.globals c.callers c.live
+abbrev pub AtNode : Tests → Environment → Accepted → Entered Expr Stmt → Core → Type 0
+AtNode t env a n c = Sound c × NodeVisited t env a n c × CallersWait t env a c.globals c.callers c.live
 
-module _ (tests : Tests) (right : IsRight tests) (ds : List Decl) (asked : Entered_by) (main : Entries) (subs : List Signature) (funcs : List TreeFunc) (w : WellNamed (names_of_program tests ds)) (s : FormedSubs tests right (types_in (names_of_program tests ds)) (well_declared (names_of_program tests ds) w) subs) where
-  abbrev base : List Entry
-  base = names_of_program tests ds
-
+module _ (tests : Tests) (right : IsRight tests) (ds : List Decl) (base : List Entry) (asked : Entered_by) (main : Entries) (subs : List Signature) (funcs : List TreeFunc) (w : WellNamed base) (s : FormedSubs tests right (types_in base) (well_declared base w) subs) where
   abbrev whole : Accepted
   whole = accepted asked main subs funcs base
 
@@ -62,13 +59,13 @@ module _ (tests : Tests) (right : IsRight tests) (ds : List Decl) (asked : Enter
     anywhere : (H : Here) (c : Core) → Agrees base H.scope.names H.present c → H.scope.subs ≡ subs → around_of c ≡ H.around → At tests base subs true H c
     anywhere H c a i e = record { agrees = a; subs_are = i; around_is = e; stands = inl refl; counted = inl refl }
 
-    gives : (H : Here) (S : Typed) (e : Expr) (c : Core) → typed tests e H.scope ≡ Ok S → Agrees base H.scope.names H.present c → H.scope.subs ≡ subs → around_of c ≡ H.around → ValuesIn tests ds whole e H.scope H.present S.ty c
+    gives : (H : Here) (S : Typed) (e : Expr) (c : Core) → typed tests e H.scope ≡ Ok S → Agrees base H.scope.names H.present c → H.scope.subs ≡ subs → around_of c ≡ H.around → ValuesIn (over_names tests ds base) whole e H.scope H.present S.ty c
     gives H S e c t a i r d h = typed_run tests right ds base subs true funcs w s o q d e H S c h t (record { agrees = a; subs_are = i; around_is = r; stands = inl refl; counted = inl refl })
 
     -- ---- callers
 
     caller_waits : (globals : List Binding) (f : Frame) (fs : List Frame) (id : ℕ) (ids : List ℕ) (u : Caller) → IsCaller tests base subs false u id → Agrees base (caller_at u).scope.names (caller_at u).present (waiting globals f fs ids) → (caller_at u).scope.subs ≡ subs → around_of (waiting globals f fs ids) ≡ (caller_at u).around →
-        StandsIn subs (caller_at u).scope.class ids → Ruled (caller_at u).scope.names (caller_at u).scope.subs → ExprWaits tests ds whole id (waiting globals f fs ids) ⊎ StmtWaits tests whole id (waiting globals f fs ids)
+        StandsIn subs (caller_at u).scope.class ids → Ruled (caller_at u).scope.names (caller_at u).scope.subs → ExprWaits tests (over_names tests ds base) whole id (waiting globals f fs ids) ⊎ StmtWaits tests whole id (waiting globals f fs ids)
     caller_waits globals f fs id ids (by_expr H e S) k a i r n g = inl (record {
       node = e;
       visited = record { scope = H.scope; present = H.present; subs_are = i; stands = n; counted = g.counted; rules = keeps_rules H.scope g; judged = inl (S, k.0, gives H S e (waiting globals f fs ids) k.0 a i r); agrees = a };
@@ -82,7 +79,7 @@ module _ (tests : Tests) (right : IsRight tests) (ds : List Decl) (asked : Enter
       calls = k.1;
     })
 
-    all_wait : (globals : List Binding) (k : Effect) (fs : List Frame) (ids : List ℕ) → GlobalsMatch base globals → StandsOver tests base subs false k fs ids → StandsIn subs k ids × CallersWait tests ds whole globals fs ids
+    all_wait : (globals : List Binding) (k : Effect) (fs : List Frame) (ids : List ℕ) → GlobalsMatch base globals → StandsOver tests base subs false k fs ids → StandsIn subs k ids × CallersWait tests (over_names tests ds base) whole globals fs ids
     unfolding bound
     all_wait globals k [] ids m n = absurd n
     all_wait globals k (f ∷ fs) [] m n = absurd n
@@ -94,7 +91,7 @@ module _ (tests : Tests) (right : IsRight tests) (ds : List Decl) (asked : Enter
     all_wait globals k (f ∷ g ∷ fs) (id ∷ ids) m n = (n.0, by n.1 (λ l i. all_wait globals l (g ∷ fs) ids m i))
       where
         by : IsOutermost f (g ∷ fs) ids ⊎ ((q : Waiting tests base subs false f (g ∷ fs) id ids) × Bound tests base subs false (StandsOver tests base subs false (caller_at q.caller).scope.class (g ∷ fs) ids)) →
-            ((l : Effect) → StandsOver tests base subs false l (g ∷ fs) ids → StandsIn subs l ids × CallersWait tests ds whole globals (g ∷ fs) ids) → CallersWait tests ds whole globals (f ∷ g ∷ fs) (id ∷ ids)
+            ((l : Effect) → StandsOver tests base subs false l (g ∷ fs) ids → StandsIn subs l ids × CallersWait tests (over_names tests ds base) whole globals (g ∷ fs) ids) → CallersWait tests (over_names tests ds base) whole globals (f ∷ g ∷ fs) (id ∷ ids)
         by (inl e) next = absurd (subst HasFrame e.1 tt)
         by (inr v) next =
             let H = caller_at v.0.caller in
@@ -103,7 +100,7 @@ module _ (tests : Tests) (right : IsRight tests) (ds : List Decl) (asked : Enter
 
     -- ---- nodes
 
-    stands_at : (H : Here) (c : Core) → At tests base subs false H c → StandsIn subs H.scope.class c.live × CallersWait tests ds whole c.globals c.callers c.live
+    stands_at : (H : Here) (c : Core) → At tests base subs false H c → StandsIn subs H.scope.class c.live × CallersWait tests (over_names tests ds base) whole c.globals c.callers c.live
     stands_at H c a = all_wait c.globals H.scope.class c.callers c.live a.agrees.globals (bound (subst (λ (r : Around). Stands tests base subs false H.scope.class r) (sym a.around_is) a.stands))
 
     -- the scope in which it was judged
@@ -131,7 +128,7 @@ module _ (tests : Tests) (right : IsRight tests) (ds : List Decl) (asked : Enter
     unfolding bound
     body_stands j x t c p = subst (λ (r : Around). IsBodyOf subs j.body r.live) (sym p.at.around_is) (bound p.body_is)
 
-    expr_judged : (H : Here) (i : Asked) (e : Expr) (t : Tree) (c : Core) → ExprIn tests base subs false H i e t c → IsJudged tests ds whole e (asked_in H i).scope H.present c
+    expr_judged : (H : Here) (i : Asked) (e : Expr) (t : Tree) (c : Core) → ExprIn tests base subs false H i e t c → IsJudged tests (over_names tests ds base) whole e (asked_in H i).scope H.present c
     expr_judged H (of_type S) e t c p = inl (S, p.answers, gives H S e c p.answers p.at.agrees p.at.subs_are p.at.around_is)
     expr_judged H (of_pure S) e t c p = inl (S, p.answers, gives (asked_in H (of_pure S)) S e c p.answers p.at.agrees p.at.subs_are p.at.around_is)
     expr_judged H (of_width W) e t c p =
@@ -169,7 +166,7 @@ module _ (tests : Tests) (right : IsRight tests) (ds : List Decl) (asked : Enter
     asked_rules H (of_known S W) r = keeps_rules H.scope r
     asked_rules H (of_divisor span k) r = keeps_rules H.scope r
 
-    expr_visited : (H : Here) (i : Asked) (e : Expr) (t : Tree) (c : Core) → ExprIn tests base subs false H i e t c → ExprVisited tests ds whole e c
+    expr_visited : (H : Here) (i : Asked) (e : Expr) (t : Tree) (c : Core) → ExprIn tests base subs false H i e t c → ExprVisited tests (over_names tests ds base) whole e c
     expr_visited H i e t c p = record {
       scope = (asked_in H i).scope;
       present = H.present;
@@ -181,10 +178,10 @@ module _ (tests : Tests) (right : IsRight tests) (ds : List Decl) (asked : Enter
       agrees = subst (λ ns. Agrees base ns H.present c) (sym (asked_names H i)) p.at.agrees;
     }
 
-    at_expr : (H : Here) (i : Asked) (e : Expr) (t : Tree) (c : Core) → ExprIn tests base subs false H i e t c → AtNode tests ds whole (AtExpr e) c
+    at_expr : (H : Here) (i : Asked) (e : Expr) (t : Tree) (c : Core) → ExprIn tests base subs false H i e t c → AtNode tests (over_names tests ds base) whole (AtExpr e) c
     at_expr H i e t c p = (agrees_sound base H.scope.names H.present c p.at.agrees, expr_visited H i e t c p, (stands_at H c p.at).1)
 
-    at_stmt : (j : StmtClaim) (x : Stmt) (t : Act) (c : Core) → StmtIn tests base subs false j x t c → AtNode tests ds whole (AtStmt x) c
+    at_stmt : (j : StmtClaim) (x : Stmt) (t : Act) (c : Core) → StmtIn tests base subs false j x t c → AtNode tests (over_names tests ds base) whole (AtStmt x) c
     unfolding bound
     at_stmt j x t c p = (
       agrees_sound base j.body.scope.names j.present c p.at.agrees,
@@ -202,10 +199,10 @@ module _ (tests : Tests) (right : IsRight tests) (ds : List Decl) (asked : Enter
       (stands_at (record { scope = j.body.scope; present = j.present; around = j.around }) c p.at).1,
     )
 
-    pub at_exprs : (i : Several (Here × Asked)) (e : Expr) (t : Tree) (c : Core) → expr_enters (our_each tests base subs false) i e t c → AtNode tests ds whole (AtExpr e) c
+    pub at_exprs : (i : Several (Here × Asked)) (e : Expr) (t : Tree) (c : Core) → expr_enters (our_each tests base subs false) i e t c → AtNode tests (over_names tests ds base) whole (AtExpr e) c
     at_exprs (one i) e t c p = at_expr i.0 i.1 e t c p
     at_exprs (two i j) e t c p = at_exprs i e t c p.0
 
-    pub at_stmts : (j : Several (StmtClaim × Bool)) (x : Stmt) (t : Act) (c : Core) → stmt_enters (our_each tests base subs false) j x t c → AtNode tests ds whole (AtStmt x) c
+    pub at_stmts : (j : Several (StmtClaim × Bool)) (x : Stmt) (t : Act) (c : Core) → stmt_enters (our_each tests base subs false) j x t c → AtNode tests (over_names tests ds base) whole (AtStmt x) c
     at_stmts (one j) x t c p = at_stmt j.0 x t c p.0
     at_stmts (two i j) x t c p = at_stmts i x t c p.0

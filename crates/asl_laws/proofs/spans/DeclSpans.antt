@@ -25,7 +25,7 @@ use Rattle.asl_rules.specs.statements.Acting.{in_order}
 use Rattle.asl_rules.specs.statements.Stmts.{found_stmt}
 use Rattle.asl_rules.specs.declarations.Declarations.{fields_written, def_rule, supertype_rule, type_decl_rule}
 use Rattle.asl_rules.specs.declarations.Programs.{params_free, formals_free, param_written, params_rule, formals_rule, result_rule, type_is_integer, params_are_integers, Head, overloads_rule, body_rule, bodies_rule, body_of, origin, entry_from, entry_found, entry16_rule, entry_rule, is_decode, main_rule}
-use Rattle.asl_rules.proofs.verdict.SameRules.{AllOf}
+use Rattle.asl_laws.proofs.basics.Lists.{AllOf}
 use Rattle.asl_laws.specs.Spans.{Each, all_of, maybe, of_name, of_names, type_spans, stmt_spans, formal_spans, param_spans, def_spans, decl_spans}
 use Rattle.asl_laws.proofs.spans.SpanLayers.{all_there}
 use Rattle.asl_laws.proofs.spans.Standing.{At, Stands, bound, next, steps, Marked}

@@ -31,7 +31,7 @@ use Rattle.asl_rules.specs.types.Writing.{WrittenField, WrittenEnd, Numbered, en
 use Rattle.asl_rules.specs.expressions.Patterns.{FoundPattern, all_match, parts_match}
 use Rattle.asl_rules.specs.expressions.Calls.{Given, Giving, given_by_argument, is_width_alone, function_rule, Replacing, widths_given, widths_omitted, widths_rule, params_fit, arguments_fit, fits_written, function_of, procedure_of, procedure_rule, call_begun}
 use Rattle.asl_rules.specs.expressions.Exprs.{FoundField, name_of_standing, width_of, number_of, values_given, names_given, construct_rule}
-use Rattle.asl_rules.proofs.verdict.SameRules.{AllOf}
+use Rattle.asl_laws.proofs.basics.Lists.{AllOf}
 use Rattle.asl_laws.proofs.spans.OtherCodes.{Other}
 use Rattle.asl_laws.proofs.spans.Standing.{At, Answers, Stands, then_with, then_stands, bound, next, refused, found_at, steps, typed_there, width_there, ExprStands, SliceStands, GivenStands, PatternStands, PartStands, EndsStand, BitfieldStands, TypeStands, NamesStand}
 

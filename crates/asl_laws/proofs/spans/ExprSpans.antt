@@ -20,7 +20,7 @@ use Rattle.asl_rules.specs.types.Writing.{FoundPart, FoundBitfield, FoundType}
 use Rattle.asl_rules.specs.expressions.Patterns.{FoundPattern}
 use Rattle.asl_rules.specs.expressions.Exprs.{FoundField, span_of, type_span, typed_rule, width_rule, number_rule, written_rule, found, found_type, found_slice, found_pattern, expr_rule, given_rule, slice_rule, part_rule, bitfield_rule, type_rule, pattern_rule}
 use Rattle.asl_rules.proofs.basics.Opening.{found_field, found_bitfield, found_part, opened, field_opened, pattern_opened, part_opened, bitfield_opened, type_opened}
-use Rattle.asl_rules.proofs.verdict.SameRules.{AllOf}
+use Rattle.asl_laws.proofs.basics.Lists.{AllOf}
 use Rattle.asl_laws.specs.Spans.{Each, joined, in_bitfield, in_part, in_expr, in_field, in_pattern, in_slice, in_type, bitfield_spans, part_spans, expr_spans, given_spans, pattern_spans, slice_spans, type_spans}
 use Rattle.asl_laws.proofs.spans.Inductions.{Shown, Bitfields, Parts, Exprs, Givens, Patterns, Slices, Types, BitfieldNode, ConstraintPartNode, ExprNode, FieldValueNode, PatternNode, SliceNode, TypeExprNode, bitfield_trees, part_trees, expr_trees, given_trees, pattern_trees, slice_trees, type_trees, Steps, each_expr, each_pattern, each_slice, each_type}
 use Rattle.asl_laws.proofs.spans.SpanLayers.{spans_of_bitfield, spans_of_part, spans_of_expr, spans_of_given, spans_of_pattern, spans_of_slice, spans_of_type, inside_bitfield, inside_part, inside_expr, inside_given, inside_pattern, inside_slice, inside_type, all_parts}

@@ -21,7 +21,7 @@ use Rattle.asl_rules.specs.declarations.Programs.{origin, default_decls, final_d
 use Rattle.asl_rules.specs.declarations.Replacing.{header_of}
 use Rattle.asl_rules.specs.declarations.WrittenOut.{decl_written}
 use Rattle.asl_laws.specs.Answers.{FaultOfFiles}
-use Rattle.asl_rules.proofs.verdict.SameRules.{AllOf}
+use Rattle.asl_laws.proofs.basics.Lists.{AllOf}
 use Rattle.asl_laws.specs.Spans.{Mark, Each, Placed, all_of, decl_spans}
 use Rattle.asl_laws.proofs.spans.EachSpan.{each_placed}
 use Rattle.asl_laws.proofs.reading.Judged.{judged_each}

@@ -40,8 +40,8 @@ use Rattle.asl_rules.specs.runs.Forms.{at_once, behind, behind_all, behind_more,
 use Rattle.asl_rules.specs.declarations.Constants.{Known, settled, constant_layer, constant}
 use Rattle.asl_rules.proofs.constants.KnownParts.{known_bitfield, known_part, known_given, known_pattern, known_slice, known_type, known_layer, given_opened, slice_opened, range_opened, bitfield_opened, pattern_opened, type_opened}
 use Rattle.asl_rules.proofs.basics.Tests.{some_same, none_some}
-use Rattle.asl_rules.proofs.verdict.SameRules.{AllOf}
-use Rattle.asl_rules.proofs.verdict.SameNames.{using_bitfield, using_part, using_expr, using_given, using_pattern, using_slice, using_type}
+use Rattle.asl_laws.proofs.basics.Lists.{AllOf}
+use Rattle.asl_laws.proofs.names.LayerUses.{using_bitfield, using_part, using_expr, using_given, using_pattern, using_slice, using_type}
 use Rattle.asl_laws.specs.Evaluated.{expr_outside}
 use Rattle.asl_laws.specs.Spans.{Mark, place, literal, Spans, Each, Placed, joined, all_of, maybe, decl_spans, in_bitfield, in_part, in_expr, in_field, in_pattern, in_slice, in_type, bitfield_spans, part_spans, expr_spans, given_spans, pattern_spans, slice_spans, type_spans}
 use Rattle.asl_laws.proofs.spans.EachSpan.{each_so}

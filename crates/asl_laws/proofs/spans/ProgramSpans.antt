@@ -1,6 +1,6 @@
 -- What holds of the fault of declarations: it stands at one of their spans, or, where no entry is found, at the beginning of the first file, and has another
 -- code than T04, unless it is one of evaluations, of which it is asked.
-use Rattle.std.proofs.Common.{◌≡◌, ℕ, zero, suc, inl, inr, Bool, true, false, cond, List, [], ◌∷◌, length, Option, Some, None, Result, Ok, Err, refl, ap, ◌∙◌, subst}
+use Rattle.std.proofs.Common.{◌≡◌, ℕ, zero, suc, inl, inr, Bool, true, List, [], ◌∷◌, length, Option, Some, None, Result, Ok, Err, refl, ap, ◌∙◌, subst}
 use Rattle.asl_syn.specs.declared.token.Span.{Span}
 use Rattle.asl_syn.specs.declared.code.Fault.{Fault}
 use Rattle.asl_syn.specs.declared.code.StaticCode.{StaticCode}
@@ -26,17 +26,21 @@ use Rattle.asl_rules.specs.expressions.Typing.{Typed}
 use Rattle.asl_rules.specs.types.Writing.{Written}
 use Rattle.asl_rules.specs.expressions.Exprs.{found, found_type, typed, written}
 use Rattle.asl_rules.specs.types.Written.{first_value}
-use Rattle.asl_rules.specs.declarations.Uses.{cycles_rule, uses}
+use Rattle.asl_rules.specs.declarations.Uses.{cycles_rule}
 use Rattle.asl_rules.specs.declarations.Barred.{barred}
 use Rattle.asl_rules.specs.declarations.Constants.{constant}
-use Rattle.asl_rules.specs.declarations.Declarations.{in_names, evaluated, storage_rule, is_var, decl_rule, Judged, Waiting, Fine, Faulty, judged, all_fine, judged_by, still, judgement, final, faulty, faults_rule, globals_rule}
+use Rattle.asl_rules.specs.declarations.Declarations.{in_names, evaluated, storage_rule, is_var, decl_rule}
+use Rattle.asl_rules.specs.declarations.Turns.{Judged, Waiting, Fine, Faulty, judged, SoFar, decl_judged, turns, all_waiting, final, faulty, faults_rule, globals_rule}
 use Rattle.asl_rules.specs.declarations.Programs.{funcs_of, params_free, formals_free, params_rule, formals_rule, result_rule, limit_typed, params_are_integers, as_number, limit_of_expr, limit_rule, signature_rule, signatures_rule, signatures, overloads_rule, bodies_rule, origin, entry_rule, verdict}
 use Rattle.asl_rules.proofs.basics.Inversions.{ok_ok, err_ok, bind_ok, then_ok, need_ok}
 use Rattle.asl_rules.proofs.basics.Tests.{some_same}
+use Rattle.asl_rules.specs.private.Judgements.{EachJudged}
+use Rattle.asl_rules.proofs.verdict.Turning.{each_waiting, came_in}
+use Rattle.asl_rules.proofs.verdict.AfterTurns.{Moves, next_after, next_holds}
 use Rattle.asl_laws.proofs.scopes.Globals.{names_same}
-use Rattle.asl_rules.proofs.verdict.SameRules.{AllOf}
+use Rattle.asl_laws.proofs.basics.Lists.{AllOf}
 use Rattle.asl_laws.specs.Evaluated.{names_after, expr_outside, StandsIn, AreVisible}
-use Rattle.asl_laws.specs.Spans.{Each, all_of, maybe, expr_spans, type_spans, decl_spans}
+use Rattle.asl_laws.specs.Spans.{Mark, Each, all_of, maybe, expr_spans, type_spans, decl_spans}
 use Rattle.asl_laws.proofs.spans.OtherCodes.{misfit_other}
 use Rattle.asl_laws.proofs.spans.Standing.{Has, At, Answers, Stands, then_with, then_stands, bound, next, bound_by, next_by, with_by, next_with, needed, fitted_at, Marked}
 use Rattle.asl_laws.proofs.spans.ExprSpans.{expr_there, type_there}
@@ -60,6 +64,12 @@ pub record AsksOf (t : Tests) (ds : List Decl) (P : Fault → Type 0) : Type 0 w
 none_there : (code : StaticCode) (o : Option Span) (u : Unit {0}) → none_at code o ≡ Ok u → o ≡ None
 none_there code None u h = refl
 none_there code (Some span) u h = err_ok (fault_of code span) u h
+
+-- the spans of one of these declarations
+spans_in : (Q : Mark → Type 0) (ds : List Decl) (d : Decl) → StandsIn d ds → Each Q (all_of decl_spans ds) → Each Q (decl_spans d)
+spans_in Q [] d i h = absurd i
+spans_in Q (e ∷ ds) d (inl q) h = subst (λ z. Each Q (decl_spans z)) q h.0
+spans_in Q (e ∷ ds) d (inr i) h = spans_in Q ds d i h.1
 
 module _ (t : Tests) (P : Fault → Type 0) (ds : List Decl) (asks : AsksOf t ds P) where
   module _ (names : List scopes.Entry) (visible : AreVisible t ds names) where
@@ -140,7 +150,7 @@ module _ (t : Tests) (P : Fault → Type 0) (ds : List Decl) (asks : AsksOf t ds
         then_with P (HeadStands t P) (AllOf (HeadStands t P)) (signature_rule t names f) _ (signature_stands f (among (dc.Func f) (inl refl)) h.0) (λ x k.
         then_with P (AllOf (HeadStands t P)) (AllOf (HeadStands t P)) (signatures_rule t names (funcs_of es)) _ (signatures_stand es (λ d i. among d (inr i)) h.1) (λ xs l. (k, l)))
 
-  -- ---- in any order
+  -- ---- turn by turn
 
   FaultyStands : Judged → Type 0
   FaultyStands Waiting = Unit {0}
@@ -152,22 +162,29 @@ module _ (t : Tests) (P : Fault → Type 0) (ds : List Decl) (asks : AsksOf t ds
   judged_stands (Ok es) h = tt
   judged_stands (Err f) h = h
 
-  either_stands : (b : Bool) (j : Judged) → FaultyStands j → FaultyStands (cond b j Waiting)
-  unfolding FaultyStands
-  either_stands true j h = h
-  either_stands false j h = tt
+  abbrev FaultsStand : SoFar → Type 0
+  FaultsStand js = EachJudged (λ d j. FaultyStands j) ds js
 
-  still_stands : (j k : Judged) → FaultyStands j → FaultyStands k → FaultyStands (still j k)
-  still_stands Waiting k h l = l
-  still_stands (Fine es) k h l = h
-  still_stands (Faulty f) k h l = h
-
-  judgement_stands : (n : ℕ) (d : Decl) → StandsIn d ds → Each (Marked P t) (decl_spans d) → FaultyStands (judgement t n ds d)
+  start_stands : FaultsStand (all_waiting ds)
   unfolding FaultyStands
-  judgement_stands zero d i h = tt
-  judgement_stands (suc n) d i h =
-      still_stands (judgement t n ds d) (judged_by t (λ e. judgement t n ds e) ds d) (judgement_stands n d i h)
-      (either_stands (all_fine (λ e. judgement t n ds e) (uses d) ds) _ (judged_stands _ (decl_stands (names_after t n ds) (inl (n, refl)) d i h)))
+  start_stands = each_waiting (λ d j. FaultyStands j) (λ d. tt) ds
+
+  abbrev state : ℕ → SoFar
+  state n = turns t n ds (all_waiting ds)
+
+  turns_stand : Each (Marked P t) (all_of decl_spans ds) → (n : ℕ) → FaultsStand (state n)
+  turns_stand h zero = start_stands
+  turns_stand h (suc n) = by (turns_stand h n) (next_after t ds n)
+    where
+      by : FaultsStand (state n) → Moves t ds (state n) (state (suc n)) → FaultsStand (state (suc n))
+      by a (inl q) = subst FaultsStand q a
+      by a (inr o) =
+          let names = names_after t n ds in
+          next_holds t ds (λ d j. FaultyStands j) (λ d j. FaultyStands j) (state n) (state (suc n)) o (λ d j c k. k)
+          (λ d r c.
+          let i = came_in d (decl_judged t d names) ds (state (suc n)) c in
+          judged_stands (decl_rule t d (in_names names)) (decl_stands names (inl (n, refl)) d i (spans_in (Marked P t) ds d i h)))
+          a
 
   faulty_stands : (j : Judged) → FaultyStands j → Stands P (faulty j)
   unfolding FaultyStands
@@ -175,10 +192,11 @@ module _ (t : Tests) (P : Fault → Type 0) (ds : List Decl) (asks : AsksOf t ds
   faulty_stands (Fine es) h = tt
   faulty_stands (Faulty f) h = h
 
-  faults_stand : (es : List Decl) → ((d : Decl) → StandsIn d es → StandsIn d ds) → Each (Marked P t) (all_of decl_spans es) → Stands P (faults_rule t ds es)
-  faults_stand [] among h = tt
-  faults_stand (d ∷ es) among h =
-      next P (faulty (final t ds d)) (faults_rule t ds es) (faulty_stands (final t ds d) (judgement_stands (suc (length ds)) d (among d (inl refl)) h.0)) (faults_stand es (λ d i. among d (inr i)) h.1)
+  faults_stand : (es : List Decl) (js : SoFar) → EachJudged (λ d j. FaultyStands j) es js → Stands P (faults_rule js)
+  faults_stand [] [] a = tt
+  faults_stand [] (j ∷ js) a = absurd a
+  faults_stand (d ∷ es) [] a = absurd a
+  faults_stand (d ∷ es) (j ∷ js) a = next P (faulty j) (faults_rule js) (faulty_stands j a.0) (faults_stand es js a.1)
 
   -- ---- the verdict
 
@@ -187,7 +205,8 @@ module _ (t : Tests) (P : Fault → Type 0) (ds : List Decl) (asks : AsksOf t ds
   verdict_stands e p h =
       next P (names_rule [] (all_declared ds)) _ (names_stand t P [] (all_declared ds) (all_declared_stand t P ds h))
       (next P (cycles_rule ds ds) _ (cycles_stand t P ds ds h)
-      (bound_by P (globals_rule t ds) _ (next P (faults_rule t ds ds) _ (faults_stand ds (λ d i. i) h) tt) (λ names g.
+      (bound_by P (globals_rule t ds) _
+      (next P (faults_rule (final t ds)) _ (faults_stand ds (final t ds) (turns_stand h (length ds))) tt) (λ names g.
       then_stands P (AllOf (HeadStands t P)) (signatures_rule t names (funcs_of ds)) _ (signatures_stand names (inr (names_same t ds names g)) ds (λ d i. i) h) (λ hs k.
       next P (overloads_rule [] hs) _ (overloads_stand t P [] hs k)
       (bound P (bodies_rule t (signatures hs) hs) _ (bodies_stand t P (signatures hs) hs k) (λ trees.

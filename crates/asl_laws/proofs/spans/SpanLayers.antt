@@ -16,7 +16,7 @@ use Rattle.asl_syn.specs.declared.tree.Otherwise.{Otherwise, roll-Otherwise}
 use Rattle.asl_syn.specs.declared.tree.Stmt.{Stmt, roll-Stmt}
 use Rattle.asl_syn.specs.declared.tree.Alternative.TheOpen as st
 use Rattle.asl_syn.specs.declared.tree.Alternative.TheFolds.{fold-roll-Alternative, fold-roll-Catcher, fold-roll-ElseIf, fold-roll-Otherwise, fold-roll-Stmt, map-Alternative, map-Catcher, map-ElseIf, map-Otherwise, map-Stmt}
-use Rattle.asl_rules.proofs.verdict.SameRules.{AllOf}
+use Rattle.asl_laws.proofs.basics.Lists.{AllOf}
 use Rattle.asl_laws.specs.Spans.{Mark, Spans, Each, joined, all_of, in_bitfield, in_part, in_expr, in_field, in_pattern, in_slice, in_type, in_alternative, in_catcher, in_branch, in_otherwise, in_stmt, bitfield_spans, part_spans, expr_spans, given_spans, pattern_spans, slice_spans, type_spans, alternative_spans, catcher_spans, branch_spans, otherwise_spans, stmt_spans}
 
 -- ---- the spans of the parts of a layer

@@ -25,7 +25,7 @@ use Rattle.asl_rules.specs.statements.Acting.{Listed, FoundStmt, FoundOtherwise,
 use Rattle.asl_rules.specs.statements.Locals.{Initialised, initialised, bound as declares, binders_free, bind_rule, names_rule}
 use Rattle.asl_rules.specs.statements.Branches.{FoundBranch, TypedBranch, FoundAlternative, TypedAlternative, FoundCatcher, branch_rule, branches, branch_conditions, all_patterns, where_rule, alternative_rule, alternatives, where_condition, where_conditions, limit_typed, limit_fits, with_caught, catcher_rule, catchers}
 use Rattle.asl_rules.specs.statements.Stmts.{returned, return_rule, throw_rule, items_rule}
-use Rattle.asl_rules.proofs.verdict.SameRules.{AllOf}
+use Rattle.asl_laws.proofs.basics.Lists.{AllOf}
 use Rattle.asl_laws.specs.Spans.{Each, all_of, binder_spans, bind_spans, item_spans}
 use Rattle.asl_laws.proofs.spans.Standing.{At, Answers, Stands, then_with, then_stands, bound, next, steps, ExprStands, PatternStands, TypeStands, NamesStand, Marked}
 use Rattle.asl_laws.proofs.spans.ExprRows.{procedure_call_stands}

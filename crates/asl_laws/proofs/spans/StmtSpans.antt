@@ -18,7 +18,7 @@ use Rattle.asl_rules.specs.expressions.Exprs.{found}
 use Rattle.asl_rules.specs.statements.Acting.{FoundStmt, FoundOtherwise}
 use Rattle.asl_rules.specs.statements.Branches.{FoundBranch, FoundAlternative, FoundCatcher}
 use Rattle.asl_rules.specs.statements.Stmts.{stmt_layer_rule, branch_found, alternative_found, catcher_found, otherwise_found, found_stmt}
-use Rattle.asl_rules.proofs.verdict.SameRules.{AllOf}
+use Rattle.asl_laws.proofs.basics.Lists.{AllOf}
 use Rattle.asl_laws.specs.Spans.{Each, joined, all_of, maybe, of_name, expr_spans, type_spans, pattern_spans, in_alternative, in_catcher, in_branch, in_otherwise, in_stmt, alternative_spans, catcher_spans, branch_spans, otherwise_spans, stmt_spans}
 use Rattle.asl_laws.proofs.spans.SpanLayers.{spans_of_alternative, spans_of_catcher, spans_of_branch, spans_of_otherwise, spans_of_stmt, inside_alternative, inside_catcher, inside_branch, inside_otherwise, inside_stmt, all_parts, all_there}
 use Rattle.asl_laws.proofs.spans.Standing.{names_there, Stands, ExprStands, Marked}

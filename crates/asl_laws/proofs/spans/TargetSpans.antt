@@ -17,7 +17,7 @@ use Rattle.asl_rules.specs.expressions.Typing.{Operand}
 use Rattle.asl_rules.specs.expressions.Slicing.{all_operands}
 use Rattle.asl_rules.specs.expressions.Exprs.{found_slice, typed}
 use Rattle.asl_rules.specs.statements.Targets.{TypedSuffix, by_field, by_bitfields, by_slices, by_element, typed_suffix, typed_suffixes, behind_suffix, behind_suffixes, FoundTarget, TypedPlace, inside, all_places, one_place, target_layer, found_target, Placed, placed, all_placed, part_of, part_fits, all_parts_fit, assign_rule}
-use Rattle.asl_rules.proofs.verdict.SameRules.{AllOf}
+use Rattle.asl_laws.proofs.basics.Lists.{AllOf}
 use Rattle.asl_laws.specs.Spans.{Spans, Each, all_of, up_to, slice_spans, suffix_spans, placed_spans, in_target, target_spans}
 use Rattle.asl_laws.proofs.spans.SpanLayers.{all_parts, all_there}
 use Rattle.asl_laws.proofs.spans.Standing.{names_there, At, Answers, Stands, then_with, then_stands, bound, next, steps, SliceStands, NamesStand, Marked}

@@ -133,7 +133,7 @@ module _ (tests : Tests) (right : IsRight tests) (ds : List Decl) (base : List E
         subst (λ t. Same tests right base subs loose i.0 (λ x y c1. (x ≡ y) × (GivesAsked (types_in base) i.0.present i.1 x × At tests base subs loose i.0 c1)) ((nodes (env tests right ds base subs loose funcs w)).expr e c) (tree_node (program tests right ds base subs loose funcs w) t (erased c))) p.is_tree r.does;
     stmt = λ j x t c p.
         let r = stmt_acted tests right ds base subs loose funcs w q j.0 x c p.0.is_found (held_in j.0 x t c p.0) in
-        subst (λ b. Twins (our tests base subs loose) (λ y z c1. (y ≡ z) × Ends tests base subs loose j.0 b y c1) (λ y c1. Over tests base subs loose j.0.body.scope.names j.0.present j.0.around y c1) ((nodes (env tests right ds base subs loose funcs w)).stmt x c) (act_node (program tests right ds base subs loose funcs w) t (erased c))) (sym p.1)
+        subst (λ b. Twins (our tests base subs loose) (λ y z c1. (y ≡ z) × Ends tests base subs loose j.0 b y c1) (λ y c1. Over tests base subs loose j.0.body.scope.class j.0.body.scope.names j.0.present j.0.around y c1) ((nodes (env tests right ds base subs loose funcs w)).stmt x c) (act_node (program tests right ds base subs loose funcs w) t (erased c))) (sym p.1)
         (subst (λ u. ActSame tests right ds base subs loose funcs w j.0 (falls x) ((nodes (env tests right ds base subs loose funcs w)).stmt x c) (act_node (program tests right ds base subs loose funcs w) u (erased c))) p.0.is_tree r.does);
     expr_at = λ i e f c p. let r = asked_formed tests right ds base subs loose funcs w s o i.0 i.1 e c p.answers p.at in r.at ∙ ap tree_at p.is_tree;
     stmt_at = λ j x t c p. let r = stmt_acted tests right ds base subs loose funcs w q j.0 x c p.0.is_found (held_in j.0 x t c p.0) in r.at ∙ ap act_at p.0.is_tree;

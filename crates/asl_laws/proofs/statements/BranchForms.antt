@@ -39,8 +39,8 @@ use Rattle.asl_rules.proofs.expressions.OperatorForms.{is_int}
 use Rattle.asl_rules.proofs.scopes.Naming.{WellNamed}
 use Rattle.asl_laws.proofs.expressions.Twins.{Twins, twins_weaker}
 use Rattle.asl_laws.proofs.expressions.Claims.{Here, StmtClaim, At, Ends, our, around_of}
-use Rattle.asl_laws.proofs.expressions.Standing.{stands_lesser}
-use Rattle.asl_laws.proofs.expressions.TreePlans.{Throws, operand}
+use Rattle.asl_laws.proofs.expressions.Standing.{stands_lesser, thrown_lesser}
+use Rattle.asl_laws.proofs.expressions.TreePlans.{Throws, operand_in}
 use Rattle.asl_rules.proofs.scopes.Longer.{longer_self, same_on_both}
 use Rattle.asl_laws.proofs.statements.StmtForms.{here, in_class, Held, OutAct, ActSame, Acted, acted, operand_typed, ended_is}
 use Rattle.asl_laws.proofs.statements.ListForms.{moved, over_back, block_same, condition_same, fall_same}
@@ -215,8 +215,9 @@ module _ (tests : Tests) (right : IsRight tests) (ds : List Decl) (base : List E
       let H = in_class tests right ds base subs loose funcs w (spot j) (with_class j.body.scope Pure) in
       let S = o.value.typed in
       subst (λ z. limit_fits z ≡ Ok tt → Both j true (limited span (Some e) c go) (limited span (tree_in z) (erased c) run_on)) (ok_ok (Some o.value) l o.then)
-      (λ f. operand tests right base subs loose H (Out j true) e S c (λ x c1. lift (whole_number span x) c1 (λ z. go (turns_in z) c1)) (λ x c1. lift (whole_number span x) c1 (λ z. run_on (turns_in z) c1)) (operand_typed tests e (with_class j.body.scope Pure) o.value o.first)
+      (λ f. operand_in tests right base subs loose (spot j) H (Out j true) e S c (λ x c1. lift (whole_number span x) c1 (λ z. go (turns_in z) c1)) (λ x c1. lift (whole_number span x) c1 (λ z. run_on (turns_in z) c1)) (operand_typed tests e (with_class j.body.scope Pure) o.value o.first)
       (record { agrees = held.at.agrees; subs_are = held.at.subs_are; around_is = held.at.around_is; stands = stands_lesser tests base subs loose Pure j.body.scope.class j.around refl held.at.stands; counted = held.at.counted })
+      (λ x c1 t. thrown_lesser tests base subs loose Pure j.body.scope.class j.body.scope.names j.present j.around x c1 refl t)
       (λ x c1 i a.
       let z = is_int (types_in base) j.present tests right S.ty x (need_ok (is_integer S.ty) T05 o.value.span tt f) i in
       subst (λ y. Both j true (lift (whole_number span y) c1 (λ n. go (turns_in n) c1)) (lift (whole_number span y) (erased c1) (λ n. run_on (turns_in n) (erased c1)))) (sym z.1)

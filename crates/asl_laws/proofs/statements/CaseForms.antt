@@ -45,8 +45,8 @@ use Rattle.asl_rules.proofs.basics.Inversions.{ok_ok, bind_ok, then_ok, need_ok}
 use Rattle.asl_rules.proofs.basics.Tests.{or_first, or_second}
 use Rattle.asl_rules.proofs.scopes.Naming.{WellNamed, scope_good, well_declared}
 use Rattle.asl_laws.proofs.expressions.Claims.{Here, Asked, StmtClaim, At}
-use Rattle.asl_laws.proofs.expressions.Standing.{lesser_below, stands_lesser}
-use Rattle.asl_laws.proofs.expressions.TreePlans.{AllAsked, AllGive, operand, truth_same, all_same, list_from, append_nil}
+use Rattle.asl_laws.proofs.expressions.Standing.{lesser_below, stands_lesser, thrown_lesser}
+use Rattle.asl_laws.proofs.expressions.TreePlans.{AllAsked, AllGive, operand, operand_in, truth_same, all_same, list_from, append_nil}
 use Rattle.asl_laws.proofs.expressions.MatchForms.{Decided, decided_then, asks_both, split, Known, pattern_says}
 use Rattle.asl_laws.proofs.expressions.ExprForms.{env}
 use Rattle.asl_laws.proofs.statements.StmtForms.{here, in_class, Held, OutAct, ActSame, Acted, acted, operand_typed, ended_is}
@@ -142,11 +142,14 @@ module _ (tests : Tests) (right : IsRight tests) (ds : List Decl) (base : List E
       let H = in_class tests right ds base subs loose funcs w (spot j) (reading_scope j.body.scope) in
       let S = t.value.typed in
       subst (λ z. where_condition z ≡ Ok tt → Both j b (guarded frames span (Some e) ss rest c) (guarded in_bare span (tree_in z) (acts_of l.acts) others (erased c))) (ok_ok (Some t.value) o t.then)
-      (λ q. operand tests right base subs loose H (OutAct tests right ds base subs loose funcs w j b) e S c (λ x c1. lift (truth span x) c1 (λ p. choose p (scope frames ss c1) (rest c1))) (λ x c1. lift (truth span x) c1 (λ p. choose p (scope in_bare (acts_of l.acts) c1) (others c1))) (operand_typed tests e (reading_scope j.body.scope) t.value t.first)
+      (λ q. operand_in tests right base subs loose (spot j) H (OutAct tests right ds base subs loose funcs w j b) e S c (λ x c1. lift (truth span x) c1 (λ p. choose p (scope frames ss c1) (rest c1))) (λ x c1. lift (truth span x) c1 (λ p. choose p (scope in_bare (acts_of l.acts) c1) (others c1))) (operand_typed tests e (reading_scope j.body.scope) t.value t.first)
       (record { agrees = held.at.agrees; subs_are = held.at.subs_are; around_is = held.at.around_is; stands = stands_lesser tests base subs loose (lesser j.body.scope.class Readonly) j.body.scope.class j.around (lesser_below j.body.scope.class) held.at.stands; counted = held.at.counted })
+      (λ x c1 t.
+      thrown_lesser tests base subs loose (lesser j.body.scope.class Readonly) j.body.scope.class j.body.scope.names j.present j.around x c1
+      (lesser_below j.body.scope.class) t)
       (λ x c1 i a.
       let m = moved tests right ds base subs loose funcs w j c c1 held (record { agrees = a.agrees; subs_are = a.subs_are; around_is = a.around_is; stands = held.at.stands; counted = held.at.counted }) in
-      truth_same tests right base subs loose H (OutAct tests right ds base subs loose funcs w j b) span x S.ty c1 (λ p. choose p (scope frames ss c1) (rest c1)) (λ p. choose p (scope in_bare (acts_of l.acts) (erased c1)) (others (erased c1))) (need_ok (is_boolean S.ty) T05 t.value.span tt q) i
+      truth_same tests right base subs loose (spot j) (OutAct tests right ds base subs loose funcs w j b) span x S.ty c1 (λ p. choose p (scope frames ss c1) (rest c1)) (λ p. choose p (scope in_bare (acts_of l.acts) (erased c1)) (others (erased c1))) (need_ok (is_boolean S.ty) T05 t.value.span tt q) i
       (λ p. chosen p (scope frames ss c1) (rest c1) (scope in_bare (acts_of l.acts) (erased c1)) (others (erased c1)) (block_same tests right ds base subs loose funcs w j b l ss c1 g m names f) (next c1 m)))) k
     where
       chosen : (p : Bool) (x y : Does Exit) (u v : Runs Exit) → Both j b x u → Both j b y v → Both j b (choose p x y) (choose p u v)

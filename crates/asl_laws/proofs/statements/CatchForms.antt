@@ -5,7 +5,8 @@ use Rattle.asl_syn.specs.declared.tree.Ident.{Ident}
 use Rattle.asl_syn.specs.declared.tree.Stmt.{Stmt}
 use Rattle.asl_syn.specs.declared.tree.Decl.{Decl}
 use Rattle.asl_rules.specs.Tests.{Tests, IsRight}
-use Rattle.asl_rules.specs.declared.effect.Effect.TheVariants.{Pure}
+use Rattle.asl_rules.specs.declared.effect.Effect.TheVariants.{Pure, Writes}
+use Rattle.asl_rules.specs.types.Effects.{at_most}
 use Rattle.asl_rules.specs.types.Types.{Ty, reaches, integer_of, boolean, bits_of, enumeration_of, record_of, exception_of, tuple_of, array_of, named}
 use Rattle.asl_rules.specs.types.Closed.{Assignment, Closed, type_with, closed}
 use Rattle.asl_rules.specs.declarations.Scopes.{Entry, Standing, Signature, body_names, handling, fixed, is_free, is_absent, standing_of, with_names}
@@ -112,8 +113,8 @@ handled_agrees base names a hs c r k = record { locals = k.locals; names_are = k
 
 module _ (tests : Tests) (right : IsRight tests) (ds : List Decl) (base : List Entry) (subs : List Signature) (loose : Bool) (funcs : List TreeFunc) (w : WellNamed base) where
   -- an exception that comes out here
-  pub over_here : (j : StmtClaim) (x : Value) (c : Core) → Raised (types_in base) x → At tests base subs loose (here tests right ds base subs loose funcs w j) c → Throws tests right base subs loose (here tests right ds base subs loose funcs w j) x c
-  over_here j x c r a = record { raised = r; more = []; later = j.present; same = λ n l. refl; agrees = subst (λ ns. Agrees base ns j.present c) (sym (append_nil j.body.scope.names)) a.agrees; around_is = a.around_is }
+  pub over_here : (j : StmtClaim) (x : Value) (c : Core) → Raised (types_in base) x → at_most Writes j.body.scope.class ≡ true → At tests base subs loose (here tests right ds base subs loose funcs w j) c → Throws tests right base subs loose (here tests right ds base subs loose funcs w j) x c
+  over_here j x c r h a = record { raised = r; writes = h; more = []; later = j.present; same = λ n l. refl; agrees = subst (λ ns. Agrees base ns j.present c) (sym (append_nil j.body.scope.names)) a.agrees; around_is = a.around_is }
 
   -- ---- what runs while an exception is being handled
 
@@ -131,7 +132,7 @@ module _ (tests : Tests) (right : IsRight tests) (ds : List Decl) (base : List E
       twins_weaker (our tests base subs loose) (OutAct tests right ds base subs loose funcs w (inside j x) b) (λ e f c1. (refl_of c1) × OutAct tests right ds base subs loose funcs w j b e f (record c1 { handled = c.handled }))
       (Throws tests right base subs loose (here tests right ds base subs loose funcs w (inside j x))) (λ y c1. (refl_of c1) × (y ≡ y) × Throws tests right base subs loose (here tests right ds base subs loose funcs w j) y (record c1 { handled = c.handled }))
       (λ e f c1 o. (refl, (o.0, outside_again j b x c a e c1 o.1)))
-      (λ y c1 o. (refl, refl, record { raised = o.raised; more = o.more; later = o.later; same = o.same; agrees = handled_agrees base (j.body.scope.names ++ o.more) o.later c.handled c1 a.agrees.handled o.agrees; around_is = around_again j.around x c c1 a.around_is o.around_is }))
+      (λ y c1 o. (refl, refl, record { raised = o.raised; writes = o.writes; more = o.more; later = o.later; same = o.same; agrees = handled_agrees base (j.body.scope.names ++ o.more) o.later c.handled c1 a.agrees.handled o.agrees; around_is = around_again j.around x c c1 a.around_is o.around_is }))
       (q (record c { handled = x ∷ c.handled })) (r (erased (record c { handled = x ∷ c.handled }))) s
     where
       refl_of : Core → Type 0
@@ -199,7 +200,7 @@ module _ (tests : Tests) (right : IsRight tests) (ds : List Decl) (base : List E
         ),
       ))
       (λ o c1 m. (erased_cut n c1, (refl, record { gives = m.gives; more = []; later = m.later; agrees = subst (λ ns. Agrees base ns m.later (frames.cut n c1)) (sym (append_nil j.body.scope.names)) (cut_agrees base j.body.scope.names (entry ∷ m.more) j.present m.later c c1 held.at.agrees (subst (λ ns. Agrees base ns m.later c1) (append_assoc j.body.scope.names (entry ∷ []) m.more) m.agrees)); around_is = m.around_is })))
-      (λ y c1 m. (refl, refl, record { raised = m.raised; more = entry ∷ m.more; later = m.later; same = same_on_fewer j.body.scope.names later j.present m.later longer m.same; agrees = subst (λ ns. Agrees base ns m.later c1) (append_assoc j.body.scope.names (entry ∷ []) m.more) m.agrees; around_is = m.around_is })))))
+      (λ y c1 m. (refl, refl, record { raised = m.raised; writes = m.writes; more = entry ∷ m.more; later = m.later; same = same_on_fewer j.body.scope.names later j.present m.later longer m.same; agrees = subst (λ ns. Agrees base ns m.later c1) (append_assoc j.body.scope.names (entry ∷ []) m.more) m.agrees; around_is = m.around_is })))))
     where
       cut_behind : (j : StmtClaim) (later : List Entry) (entry : Entry) (names : List Entry) (a : Assignment) (c c1 : Core) → StmtAt j c → later ≡ j.body.scope.names ++ entry ∷ [] → Longer later names → Agrees base names a c1 → Agrees base j.body.scope.names a (frames.cut (length c.frame) c1)
       cut_behind j later entry names a c c1 held q m k =

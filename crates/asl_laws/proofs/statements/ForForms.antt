@@ -172,7 +172,7 @@ module _ (tests : Tests) (right : IsRight tests) (ds : List Decl) (base : List E
         ),
       ))
       (λ o c1 m. (erased_cut n c1, (refl, record { gives = m.gives; more = []; later = m.later; agrees = subst (λ ns. Agrees base ns m.later (frames.cut n c1)) (sym (append_nil j.body.scope.names)) (cut_agrees base j.body.scope.names (entry ∷ m.more) j.present m.later c c1 held.at.agrees (subst (λ ns. Agrees base ns m.later c1) (append_assoc j.body.scope.names (entry ∷ []) m.more) m.agrees)); around_is = m.around_is })))
-      (λ y c1 m. (refl, refl, record { raised = m.raised; more = entry ∷ m.more; later = m.later; same = same_on_both j.body.scope.names j.present a m.later s (same_on_fewer j.body.scope.names later a m.later longer m.same); agrees = subst (λ ns. Agrees base ns m.later c1) (append_assoc j.body.scope.names (entry ∷ []) m.more) m.agrees; around_is = m.around_is }))))
+      (λ y c1 m. (refl, refl, record { raised = m.raised; writes = m.writes; more = entry ∷ m.more; later = m.later; same = same_on_both j.body.scope.names j.present a m.later s (same_on_fewer j.body.scope.names later a m.later longer m.same); agrees = subst (λ ns. Agrees base ns m.later c1) (append_assoc j.body.scope.names (entry ∷ []) m.more) m.agrees; around_is = m.around_is }))))
 
   -- ---- turns
 

@@ -127,9 +127,10 @@ module _ (tests : Tests) (right : IsRight tests) (ds : List Decl) (base : List E
     pub agrees : Agrees base names later c
     pub around_is : around_of c ≡ j.around
 
-  pub over_back : (j : StmtClaim) (names : List Entry) (later : Assignment) (x : Value) (c : Core) → Longer j.body.scope.names names → SameOn j.body.scope.names j.present later → Over tests base subs loose names later j.around x c → Over tests base subs loose j.body.scope.names j.present j.around x c
+  pub over_back : (j : StmtClaim) (names : List Entry) (later : Assignment) (x : Value) (c : Core) → Longer j.body.scope.names names → SameOn j.body.scope.names j.present later → Over tests base subs loose j.body.scope.class names later j.around x c → Over tests base subs loose j.body.scope.class j.body.scope.names j.present j.around x c
   over_back j names later x c l s o = record {
     raised = o.raised;
+    writes = o.writes;
     more = l.more ++ o.more;
     later = o.later;
     same = same_on_both j.body.scope.names j.present later o.later s (same_on_fewer j.body.scope.names names later o.later l o.same);
@@ -156,7 +157,7 @@ module _ (tests : Tests) (right : IsRight tests) (ds : List Decl) (base : List E
   pub list_same : (j : StmtClaim) (k : Effect) (l : Listed) (Q : Exit → Exit → Core → Type 0) (R : Value → Core → Type 0) (ss : List Stmt) (c : Core) → in_order (map (found_stmt tests) ss) k j.body ≡ Ok l → HeldAt j c →
       ((c1 : Core) → Ending j l.names c1 → falls_through ss ≡ true → Q Normal Normal c1) →
       ((o : Option Value) (c1 : Core) → Left tests base subs loose j o c1 → Q (Returned o) (Returned o) c1) →
-      ((x : Value) (c1 : Core) → Over tests base subs loose j.body.scope.names j.present j.around x c1 → R x c1) →
+      ((x : Value) (c1 : Core) → Over tests base subs loose j.body.scope.class j.body.scope.names j.present j.around x c1 → R x c1) →
       Twins (our tests base subs loose) Q R (plan.in_order ss c) (plan.in_order (acts_of l.acts) (erased c))
   list_same j k l Q R [] c h held normal returned thrown =
       let e : listed j.body.scope.names k _ ≡ l = ok_ok _ l h in

@@ -43,8 +43,8 @@ use Rattle.asl_rules.proofs.values.Keeping.{satisfying_keeps}
 use Rattle.asl_rules.proofs.scopes.Naming.{WellNamed, well_declared, scope_good}
 use Rattle.asl_laws.proofs.scopes.WellTyped.{FormedSubs, typed_formed}
 use Rattle.asl_laws.proofs.expressions.Claims.{Here, StmtClaim, GivesResult, FormedResult, Handles, Bound, result_at, At, Ended, Left, Ends}
-use Rattle.asl_laws.proofs.expressions.Standing.{lesser_below, stands_lesser}
-use Rattle.asl_laws.proofs.expressions.TreePlans.{Same, operand, truth_same, append_nil}
+use Rattle.asl_laws.proofs.expressions.Standing.{lesser_below, stands_lesser, thrown_lesser}
+use Rattle.asl_laws.proofs.expressions.TreePlans.{Same, operand, operand_in, truth_same, append_nil}
 use Rattle.asl_laws.proofs.expressions.ExprForms.{env, program}
 use Rattle.asl_laws.specs.Soundness.{IsBodyOf}
 
@@ -57,6 +57,14 @@ ended_is class span ok k names act d h =
     let a = then_ok (need ok T13 span) (need (at_most k class) T12 span >> Ok (done names k act)) d h in
     let b = then_ok (need (at_most k class) T12 span) (Ok (done names k act)) d a.then in
     ok_ok (done names k act) d b.then
+
+-- its effect is allowed
+pub ended_below : (class : Effect) (span : Span) (ok : Bool) (k : Effect) (names : List Entry) (act : Act) (d : Done) →
+    ended class span ok k names act ≡ Ok d → at_most k class ≡ true
+ended_below class span ok k names act d h =
+    let a = then_ok (need ok T13 span) (need (at_most k class) T12 span >> Ok (done names k act)) d h in
+    let b = then_ok (need (at_most k class) T12 span) (Ok (done names k act)) d a.then in
+    need_ok (at_most k class) T12 span tt b.first
 
 some_in : {A : Type 0} → A → Option A → A
 some_in x (Some y) = y
@@ -126,8 +134,10 @@ module _ (tests : Tests) (right : IsRight tests) (ds : List Decl) (base : List E
       let S = o.value.typed in
       let d = done G.names S.effect (tree.Assert span S.tree) in
       acted j true (st.Assert span e) c d (ended_is G.class span true S.effect G.names (tree.Assert span S.tree) j.done b.then) refl
-      (λ i. operand tests right base subs loose (in_class (here j) (reading_scope G)) (OutAct j true) e S c (λ x c1. lift (truth span x) c1 (λ t. choose t (done_normal c1) (asserted span c1))) (λ x c1. lift (truth span x) c1 (λ t. choose t (done_normal c1) (asserted span c1))) (operand_typed tests e (reading_scope G) o.value o.first) (record { agrees = k.at.agrees; subs_are = k.at.subs_are; around_is = k.at.around_is; stands = stands_lesser tests base subs loose (lesser G.class Readonly) G.class j.around (lesser_below G.class) k.at.stands; counted = k.at.counted })
-      (λ x c1 v a1. truth_same tests right base subs loose (in_class (here j) (reading_scope G)) (OutAct j true) span x S.ty c1 (λ t. choose t (done_normal c1) (asserted span c1)) (λ t. choose t (done_normal (erased c1)) (asserted span (erased c1))) (need_ok (is_boolean S.ty) T05 o.value.span tt b.first) v
+      (λ i. operand_in tests right base subs loose (here j) (in_class (here j) (reading_scope G)) (OutAct j true) e S c (λ x c1. lift (truth span x) c1 (λ t. choose t (done_normal c1) (asserted span c1))) (λ x c1. lift (truth span x) c1 (λ t. choose t (done_normal c1) (asserted span c1))) (operand_typed tests e (reading_scope G) o.value o.first) (record { agrees = k.at.agrees; subs_are = k.at.subs_are; around_is = k.at.around_is; stands = stands_lesser tests base subs loose (lesser G.class Readonly) G.class j.around (lesser_below G.class) k.at.stands; counted = k.at.counted })
+      (λ x c1 o.
+      thrown_lesser tests base subs loose (lesser G.class Readonly) G.class G.names j.present j.around x c1 (lesser_below G.class) o)
+      (λ x c1 v a1. truth_same tests right base subs loose (here j) (OutAct j true) span x S.ty c1 (λ t. choose t (done_normal c1) (asserted span c1)) (λ t. choose t (done_normal (erased c1)) (asserted span (erased c1))) (need_ok (is_boolean S.ty) T05 o.value.span tt b.first) v
       (λ t. assert_by j span c1 t d i refl (record { agrees = a1.agrees; subs_are = a1.subs_are; around_is = a1.around_is; stands = k.at.stands; counted = k.at.counted }))))
 
   -- ---- exits

@@ -19,7 +19,8 @@ use Rattle.asl_rules.specs.types.Closed.{Assignment, closed, type_with}
 use Rattle.asl_rules.specs.private.WellFormed.{WellFormed, Fixed}
 use Rattle.asl_rules.specs.private.Belonging.{InType}
 use Rattle.asl_rules.specs.types.Views.{viewed}
-use Rattle.asl_rules.specs.types.Effects.{greater}
+use Rattle.asl_rules.specs.declared.effect.Effect.TheVariants.{Writes}
+use Rattle.asl_rules.specs.types.Effects.{at_most, greater}
 use Rattle.asl_rules.specs.declarations.Scopes.{Body, Entry, Signature, body_names, handling, fixed, is_free, is_absent, type_of_name}
 use Rattle.asl_rules.specs.runs.Trees as tree
 use Rattle.asl_rules.specs.runs.Trees.{TreeFunc, Act}
@@ -78,13 +79,13 @@ module _ (tests : Tests) (right : IsRight tests) (ds : List Decl) (base : List E
       last_block (otherwise_found (map-Otherwise Alternative Catcher ElseIf Otherwise Stmt FoundAlternative FoundCatcher FoundBranch FoundOtherwise FoundStmt
       (found_alternative tests) (found_catcher tests)
       (found_branch tests) (found_otherwise tests) (found_stmt tests) o)) (handling j.body) ≡ Ok l →
-      StmtAt j c → Raised (types_in base) x → j.body.scope.names ≡ j.done.names → (otherwise_falls (map-Otherwise Alternative Catcher ElseIf Otherwise Stmt Bool Bool Bool Bool Bool
+      StmtAt j c → Raised (types_in base) x → at_most Writes j.body.scope.class ≡ true → j.body.scope.names ≡ j.done.names → (otherwise_falls (map-Otherwise Alternative Catcher ElseIf Otherwise Stmt Bool Bool Bool Bool Bool
       alternative_fallen catcher_fallen
       branch_fallen otherwise_fallen falls o) ≡ true → b ≡ true) →
       Same_act j b (plan.uncaught frames x (otherwise_layer o) c) (plan.uncaught in_bare x (last_of l.last) (erased c))
-  last_same j b x st.NoOtherwise l c h k r names f =
-      subst (λ (z : LastListed). Same_act j b (Raise x c) (plan.uncaught in_bare x (last_of z.last) (erased c))) (ok_ok _ l h) (refl, refl, over_here tests right ds base subs loose funcs w j x c r k.at)
-  last_same j b x (st.Otherwise ss) l c h k r names f =
+  last_same j b x st.NoOtherwise l c h k r g names f =
+      subst (λ (z : LastListed). Same_act j b (Raise x c) (plan.uncaught in_bare x (last_of z.last) (erased c))) (ok_ok _ l h) (refl, refl, over_here tests right ds base subs loose funcs w j x c r g k.at)
+  last_same j b x (st.Otherwise ss) l c h k r g names f =
       let m = bind_ok (block (map (found_stmt tests) ss) (handling j.body)) _ l h in
       subst (λ (z : LastListed). Same_act j b (plan.handling frames x (scope frames ss) c) (plan.uncaught in_bare x (last_of z.last) (erased c))) (ok_ok _ l m.then)
       (handling_same tests right ds base subs loose funcs w j b x c (scope frames ss) (scope in_bare (acts_of m.value.acts)) k.at
@@ -134,14 +135,14 @@ module _ (tests : Tests) (right : IsRight tests) (ds : List Decl) (base : List E
 
   -- the catchers in their order
   catchers_same : (j : StmtClaim) (b : Bool) (x : Value) (hs : List Catcher) (ys : List TypedCatcher) (o : Otherwise) (l : LastListed) (c : Core) → branches.catchers (map (found_catcher tests) hs) j.body ≡ Ok ys → last_block (found_otherwise tests o) (handling j.body) ≡ Ok l →
-      StmtAt j c → Raised (types_in base) x → j.body.scope.names ≡ j.done.names → (any_falls (map catcher_fallen hs) ≡ true → b ≡ true) → (otherwise_fallen o ≡ true → b ≡ true) →
+      StmtAt j c → Raised (types_in base) x → at_most Writes j.body.scope.class ≡ true → j.body.scope.names ≡ j.done.names → (any_falls (map catcher_fallen hs) ≡ true → b ≡ true) → (otherwise_fallen o ≡ true → b ≡ true) →
       Same_act j b (plan.catchers frames (catch_in (env tests right ds base subs loose funcs w)) x hs (otherwise_in o) c) (plan.catchers in_bare itself x (catches_of (catcher_trees ys)) (last_of l.last) (erased c))
-  catchers_same j b x [] ys o l c h m k r names f g =
+  catchers_same j b x [] ys o l c h m k r a names f g =
       let u : found_otherwise tests o ≡ otherwise_found (map-Otherwise Alternative Catcher ElseIf Otherwise Stmt FoundAlternative FoundCatcher FoundBranch FoundOtherwise FoundStmt (found_alternative tests) (found_catcher tests) (found_branch tests) (found_otherwise tests) (found_stmt tests) (out-Otherwise o)) = fold_out-Otherwise FoundAlternative FoundCatcher FoundBranch FoundOtherwise FoundStmt alternative_found catcher_found branch_found otherwise_found (stmt_layer_rule tests) o in
       let v : otherwise_fallen o ≡ otherwise_falls (map-Otherwise Alternative Catcher ElseIf Otherwise Stmt Bool Bool Bool Bool Bool alternative_fallen catcher_fallen branch_fallen otherwise_fallen falls (out-Otherwise o)) = fold_out-Otherwise Bool Bool Bool Bool Bool alternative_falls catcher_falls branch_falls otherwise_falls falls_layer o in
       subst (λ z. Same_act j b (plan.catchers frames (catch_in (env tests right ds base subs loose funcs w)) x [] (otherwise_in o) c) (plan.catchers in_bare itself x (catches_of (catcher_trees z)) (last_of l.last) (erased c))) (ok_ok [] ys h)
-      (last_same j b x (out-Otherwise o) l c (sym (ap (λ (z : FoundOtherwise). last_block z (handling j.body)) u) ∙ m) k r names (λ i. g (v ∙ i)))
-  catchers_same j b x (y ∷ hs) ys o l c h m k r names f g =
+      (last_same j b x (out-Otherwise o) l c (sym (ap (λ (z : FoundOtherwise). last_block z (handling j.body)) u) ∙ m) k r a names (λ i. g (v ∙ i)))
+  catchers_same j b x (y ∷ hs) ys o l c h m k r a names f g =
       let t = bind_ok (catcher_rule (found_catcher tests y) j.body) _ ys h in
       let ts = bind_ok (branches.catchers (map (found_catcher tests) hs) j.body) _ ys t.then in
       let u : found_catcher tests y ≡ catcher_found (map-Catcher Alternative Catcher ElseIf Otherwise Stmt FoundAlternative FoundCatcher FoundBranch FoundOtherwise FoundStmt (found_alternative tests) (found_catcher tests) (found_branch tests) (found_otherwise tests) (found_stmt tests) (out-Catcher y)) = fold_out-Catcher FoundAlternative FoundCatcher FoundBranch FoundOtherwise FoundStmt alternative_found catcher_found branch_found otherwise_found (stmt_layer_rule tests) y in
@@ -149,7 +150,7 @@ module _ (tests : Tests) (right : IsRight tests) (ds : List Decl) (base : List E
       subst (λ z. Same_act j b (plan.catchers frames (catch_in (env tests right ds base subs loose funcs w)) x (y ∷ hs) (otherwise_in o) c) (plan.catchers in_bare itself x (catches_of (catcher_trees z)) (last_of l.last) (erased c))) (ok_ok (t.value ∷ ts.value) ys ts.then)
       (catcher_same j b x (out-Catcher y) t.value c (plan.catchers frames (catch_in (env tests right ds base subs loose funcs w)) x hs (otherwise_in o)) (plan.catchers in_bare itself x (catches_of (catcher_trees ts.value)) (last_of l.last))
       (sym (ap (λ (z : FoundCatcher). catcher_rule z j.body) u) ∙ t.first) k r names (λ i. f (or_first (catcher_fallen y) (any_falls (map catcher_fallen hs)) (v ∙ i)))
-      (catchers_same j b x hs ts.value o l c ts.first m k r names (λ i. f (or_second (catcher_fallen y) (any_falls (map catcher_fallen hs)) i)) g))
+      (catchers_same j b x hs ts.value o l c ts.first m k r a names (λ i. f (or_second (catcher_fallen y) (any_falls (map catcher_fallen hs)) i)) g))
 
   abbrev later_on : StmtClaim → Assignment → StmtClaim
   later_on j later = record { body = j.body; done = j.done; present = later; params = j.params; around = j.around }
@@ -173,7 +174,7 @@ module _ (tests : Tests) (right : IsRight tests) (ds : List Decl) (base : List E
       (subst (λ d. Same_act j b (from_here hs o x (frames.cut n c1)) (in_trees ys l x d)) (erased_cut n c1)
       (brought_back tests right ds base subs loose funcs w j b q.later (from_here hs o x (frames.cut n c1)) (in_trees ys l x (erased (frames.cut n c1))) q.same
       (catchers_same (later_on j q.later) b x hs ys o l (frames.cut n c1) hy hl
-      (held_later tests right ds base subs loose funcs w j q.later c (frames.cut n c1) k q.same (cut_agrees base j.body.scope.names q.more j.present q.later c c1 k.at.agrees q.agrees) q.around_is) q.raised names f g))))
+      (held_later tests right ds base subs loose funcs w j q.later c (frames.cut n c1) k q.same (cut_agrees base j.body.scope.names q.more j.present q.later c c1 k.at.agrees q.agrees) q.around_is) q.raised q.writes names f g))))
       (scope frames ss c) (scope in_bare (acts_of m.acts) (erased c)) (block_same tests right ds base subs loose funcs w j b m ss c hm k names e)
 
   pub try_acted : (j : StmtClaim) (span : Span) (ss : List Stmt) (hs : List Catcher) (o : Otherwise) (c : Core) → try_rule span (map (found_stmt tests) ss) (map (found_catcher tests) hs) (found_otherwise tests o) j.body ≡ Ok j.done → StmtAt j c →

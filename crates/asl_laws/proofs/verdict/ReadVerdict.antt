@@ -1,6 +1,6 @@
 -- The verdict on what is read goes step by step: the bodies that replace others, the program with those that may be replaced, and the one with those that
 -- replace them.
-use Rattle.std.proofs.Common.{◌≡◌, ◌⊎◌, inl, inr, Bool, true, false, not, if◌then◌else◌, List, [], ◌∷◌, ◌++◌, Option, Some, None, Result, Ok, Err, refl, ap, sym, ◌∙◌, subst}
+use Rattle.std.proofs.Common.{◌≡◌, ◌⊎◌, inl, inr, Bool, true, false, not, if◌then◌else◌, List, [], ◌∷◌, ◌++◌, Option, Some, None, Result, Ok, Err, refl, ap, ◌∙◌, subst}
 use Rattle.asl_syn.specs.declared.token.Span.{Span}
 use Rattle.asl_syn.specs.declared.code.Fault.{Fault}
 use Rattle.asl_syn.specs.declared.code.StaticCode.{StaticCode}
@@ -11,7 +11,7 @@ use Rattle.asl_rules.specs.Faults.{◌>>=◌, ◌>>◌, need}
 use Rattle.asl_rules.specs.Tests.{Tests}
 use Rattle.asl_rules.specs.declarations.Programs.{Accepted, verdict, read_verdict, default_decls, final_decls}
 use Rattle.asl_rules.specs.declarations.Replacing.{Header, header_of, is_impdef, is_implementation, some_with, header_matched, headers_matched, bodies_matched}
-use Rattle.asl_rules.proofs.verdict.SameRules.{AllOf}
+use Rattle.asl_laws.proofs.basics.Lists.{AllOf}
 
 err_is : {A B : Type 0} (f g : Fault) → (let r : Result A Fault = Err f in r) ≡ Err g → (let r : Result B Fault = Err f in r) ≡ Err g
 err_is f g h = ap Err (same f g h)

@@ -61,6 +61,7 @@ use Rattle.asl_laws.proofs.statements.AssignForms.{suffix_formed}
 use Rattle.asl_rules.specs.private.TypedMeaning.{value_at}
 use Rattle.asl_poly.specs.Poly.{constant_map}
 use Rattle.asl_rules.proofs.scopes.Slots.{has_names, slot_is}
+use Rattle.asl_laws.proofs.constants.KnownTypes.{over_names}
 
 -- ---- what was given
 
@@ -298,7 +299,7 @@ module _ (tests : Tests) (right : IsRight tests) (ds : List Decl) (base : List E
       subst (λ v. PlacesFind (Agrees base G.names av) (m ∷ ns) (tree_places v)) are
       (subst (λ i. PlaceFinds (Agrees base G.names av) (i, m.1) at.place) (sym n.0) (place_finds G p.name m.1 p.suffixes s.value r.value p.way typed_so r.first stands), all_find G ns ps l.value n.2 l.first)
 
-  pub assign_finds : (G : Scope) (span : Span) (t : Target) (e : Expr) (k : Done) (c : Core) → assign_rule tests span (found_target tests t) e G ≡ Ok k → StmtChosen tests ds (Agrees base G.names av) (st.Assign span t e) k.act c
+  pub assign_finds : (G : Scope) (span : Span) (t : Target) (e : Expr) (k : Done) (c : Core) → assign_rule tests span (found_target tests t) e G ≡ Ok k → StmtChosen (over_names tests ds base) (Agrees base G.names av) (st.Assign span t e) k.act c
   unfolding TargetNamed
   assign_finds G span t e k c h =
       let ps = bind_ok ((found_target tests t).places G) _ k h in

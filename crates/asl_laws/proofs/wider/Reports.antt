@@ -31,7 +31,7 @@ use Rattle.asl_laws.specs.Wider.{UnlessLong, OnList, Fits}
 use Rattle.asl_laws.proofs.reported.Reports.{reports_run_well}
 use Rattle.asl_laws.proofs.wider.Plans.{out_fits}
 use Rattle.asl_laws.proofs.wider.Runs.{run_wider, words_wider, words_fit}
-use Rattle.asl_laws.proofs.wider.Verdict.{same_verdict, same_environment, same_read_verdict}
+use Rattle.asl_laws.proofs.wider.Verdict.{same_environment, same_read_verdict}
 use Rattle.asl_laws.proofs.wider.Reading.{reads_stay, read_same}
 use Rattle.asl_syn.specs.declared.read.ReadDecl.{ReadDecl}
 use Rattle.asl_laws.proofs.verdict.ReadVerdict.{steps_of}

@@ -55,7 +55,7 @@ use Rattle.asl_rules.specs.runs.Evaluation.{meaning, stmt_span}
 use Rattle.asl_rules.specs.runs.Machines.{most_open, run_of}
 use Rattle.asl_rules.specs.report.WordList.{Word}
 use Rattle.asl_rules.specs.runs.Words.{WordsEnd, AllReturned, WordThrew, WordHalted, behind_word, entry_for, run_word, run_words, word_line, word_value}
-use Rattle.asl_rules.proofs.verdict.SameConstants.{pure_same}
+use Rattle.asl_laws.proofs.names.SameConstants.{pure_same}
 use Rattle.asl_laws.specs.Wider.{IsNarrow, WordsFitLimit}
 use Rattle.asl_laws.proofs.wider.Steps.{Wider, wider_same, wider_equal, wider_bind, wider_step}
 use Rattle.asl_laws.proofs.wider.Pures.{SizedSame, sized_same, literal_wider, slices_wider, slice_places_wider}

@@ -1,5 +1,5 @@
 -- A program that is accepted stays accepted under a wider limit, as the same program.
-use Rattle.std.proofs.Common.{◌≡◌, ℕ, zero, suc, ◌≤◌, Bool, true, false, cond, ◌&&◌, List, [], ◌∷◌, ◌++◌, length, map, Option, Some, None}
+use Rattle.std.proofs.Common.{◌≡◌, ℕ, zero, suc, ◌≤◌, Bool, true, false, inl, inr, List, [], ◌∷◌, ◌++◌, length, map, Option, Some, None}
 use Rattle.std.proofs.Common.{Ok, Err, refl, sym, ap, ap₂, subst, ◌∙◌}
 use Rattle.std.specs.Prelude.{Result}
 use Rattle.asl_syn.specs.declared.token.Span.{Span}
@@ -25,9 +25,9 @@ use Rattle.asl_rules.specs.types.Types.{Ty, structure, misfit, is_integer}
 use Rattle.asl_rules.specs.types.Closed.{closed}
 use Rattle.asl_rules.specs.values.Values.{Value}
 use Rattle.asl_rules.specs.types.Written.{first_value}
-use Rattle.asl_rules.specs.declarations.Names.{library, names_rule, all_declared}
-use Rattle.asl_rules.specs.declarations.Uses.{Used, uses, cycles_rule}
-use Rattle.asl_rules.specs.declarations.Scopes.{Scope, Entry, Signature, Param, subprogram, type_of_name, with_entries, with_class}
+use Rattle.asl_rules.specs.declarations.Names.{names_rule, all_declared}
+use Rattle.asl_rules.specs.declarations.Uses.{cycles_rule}
+use Rattle.asl_rules.specs.declarations.Scopes.{Scope, Entry, Signature, Param, type_of_name, with_class}
 use Rattle.asl_rules.specs.declarations.Scopes.{next_atom}
 use Rattle.asl_rules.specs.expressions.Typing.{Typed}
 use Rattle.asl_rules.specs.expressions.Exprs.{typed, written, found, found_type}
@@ -37,14 +37,15 @@ use Rattle.asl_rules.specs.declarations.Barred.{barred}
 use Rattle.asl_rules.specs.statements.Acting.{in_order}
 use Rattle.asl_rules.specs.statements.Stmts.{found_stmt}
 use Rattle.asl_rules.specs.declarations.Declarations.{in_names, fields_written, def_rule, is_none, reached, supertype_rule, type_decl_rule}
-use Rattle.asl_rules.specs.declarations.Declarations.{evaluated, known, first_in, storage_rule, is_var, decl_rule, Judged, Waiting, Fine}
-use Rattle.asl_rules.specs.declarations.Declarations.{Faulty, judged, entries_of, entries, fine_where_used, all_fine, judged_by, still}
-use Rattle.asl_rules.specs.declarations.Declarations.{judgement, final, faulty, faults_rule, names_of_program, globals_rule}
+use Rattle.asl_rules.specs.declarations.Declarations.{evaluated, known, first_in, storage_rule, is_var, decl_rule}
+use Rattle.asl_rules.specs.declarations.Turns.{Judged, Waiting, Fine, Faulty, judged, SoFar, names_so_far, next_turn, judged_at, one_turn, turns}
+use Rattle.asl_rules.specs.declarations.Turns.{all_waiting, final, faulty, faults_rule, names_of_program, globals_rule}
 use Rattle.asl_rules.specs.declarations.Programs.{environment, funcs_of, params_free, formals_free, param_written, param_entry, params_rule, read_verdict, default_decls, final_decls}
 use Rattle.asl_rules.specs.declarations.Programs.{formals_rule, result_rule, limit_typed, type_is_integer, params_are_integers, as_number}
 use Rattle.asl_rules.specs.declarations.Programs.{limit_of_expr, limit_rule, Head, signature_rule, signatures_rule, signatures}
 use Rattle.asl_rules.specs.declarations.Programs.{overloads_rule, body_of, body_rule, bodies_rule, Accepted, verdict}
 use Rattle.asl_rules.proofs.basics.Inversions.{then_ok, bind_ok}
+use Rattle.asl_rules.proofs.verdict.Turning.{Stays as StaysJudged, Later, later_self, later_then, turn_later, turns_keep}
 use Rattle.asl_laws.proofs.wider.Steps.{Wider, wider_good}
 use Rattle.asl_laws.proofs.wider.Pures.{first_wider}
 use Rattle.asl_laws.proofs.wider.Known.{known_wider}
@@ -69,19 +70,7 @@ unfolding Stays
 stays_if (Ok x) s h = h x refl
 stays_if (Err e) s h = tt
 
--- ---- of all declarations
-
-abbrev All : (Decl → Type 0) → List Decl → Type 0
-All P [] = Unit {0}
-All P (d ∷ ds) = P d × All P ds
-
-all_map : (P Q : Decl → Type 0) (ds : List Decl) → ((d : Decl) → P d → Q d) → All P ds → All Q ds
-all_map P Q [] f h = tt
-all_map P Q (d ∷ ds) f h = (f d h.0, all_map P Q ds f h.1)
-
-all_both : (P Q R : Decl → Type 0) (ds : List Decl) → ((d : Decl) → P d → Q d → R d) → All P ds → All Q ds → All R ds
-all_both P Q R [] f h k = tt
-all_both P Q R (d ∷ ds) f h k = (f d h.0 k.0, all_both P Q R ds f h.1 k.1)
+-- ---- faults of declarations
 
 abbrev IsFaulty : Judged → Type 0
 IsFaulty Waiting = ⊥
@@ -91,34 +80,41 @@ IsFaulty (Faulty f) = Unit {0}
 abbrev Fair : Judged → Type 0
 Fair j = IsFaulty j → ⊥
 
-entries_same : (f g : Decl → Judged) (ds : List Decl) → All (λ d. g d ≡ f d) ds → entries g ds ≡ entries f ds
-entries_same f g [] h = refl
-entries_same f g (d ∷ ds) h = ap₂ (λ j es. entries_of j ++ es) h.0 (entries_same f g ds h.1)
+abbrev AllFair : SoFar → Type 0
+AllFair [] = Unit {0}
+AllFair (j ∷ js) = Fair j × AllFair js
 
-fine_same : (f g : Decl → Judged) (us : Used) (ds : List Decl) → All (λ d. g d ≡ f d) ds → all_fine g us ds ≡ all_fine f us ds
-fine_same f g us [] h = refl
-fine_same f g us (d ∷ ds) h = ap₂ (λ j b. fine_where_used j d us && b) h.0 (fine_same f g us ds h.1)
+-- what is faulty stays so
+fair_before : (js ks : SoFar) → Later js ks → AllFair ks → AllFair js
+fair_before [] [] l h = tt
+fair_before [] (k ∷ ks) l h = absurd l
+fair_before (j ∷ js) [] l h = absurd l
+fair_before (j ∷ js) (k ∷ ks) l h = (by l.0, fair_before js ks l.1 h.1)
+  where
+    by : StaysJudged j k → Fair j
+    by (inl w) = λ x. subst IsFaulty w x
+    by (inr q) = λ x. h.0 (subst IsFaulty q x)
+
+turns_later : (t : Tests) (ds : List Decl) (k : ℕ) (js : SoFar) → Later js (turns t k ds js)
+turns_later t ds k js = turns_keep t ds (Later js) (λ ls ms o l. later_then js ls ms l (turn_later t ds ls ds ls ms o)) k js (later_self js)
+
+faulty_fair : (j : Judged) → faulty j ≡ Ok tt → Fair j
+faulty_fair Waiting h = λ x. x
+faulty_fair (Fine es) h = λ x. x
+faulty_fair (Faulty f) h = λ x. err_ok h
+  where
+    err_ok : {f : Fault} → (let r : Result (Unit {0}) Fault = Err f in r) ≡ Ok tt → ⊥
+    err_ok h = cc
+
+fair_all : (js : SoFar) → faults_rule js ≡ Ok tt → AllFair js
+fair_all [] h = tt
+fair_all (j ∷ js) h = let p = then_ok (faulty j) (faults_rule js) tt h in (faulty_fair j p.first, fair_all js p.then)
 
 -- a judgement that isn't faulty stays
 judged_same : (r s : Result (List Entry) Fault) → Stays r s → Fair (judged r) → judged s ≡ judged r
 unfolding Stays
 judged_same (Ok es) s h k = ap judged h
 judged_same (Err e) s h k = absurd (k tt)
-
-cond_judged : (b : Bool) (r s : Result (List Entry) Fault) → Stays r s → Fair (cond b (judged r) Waiting) →
-    cond b (judged s) Waiting ≡ cond b (judged r) Waiting
-cond_judged true r s h k = judged_same r s h k
-cond_judged false r s h k = refl
-
-still_fair : (j k : Judged) → Fair (still j k) → Fair j
-still_fair Waiting k h = λ x. x
-still_fair (Fine es) k h = λ x. x
-still_fair (Faulty f) k h = h
-
-still_same : (j k l : Judged) → Fair (still j k) → (Fair k → l ≡ k) → still j l ≡ still j k
-still_same Waiting k l h e = e h
-still_same (Fine es) k l h e = refl
-still_same (Faulty f) k l h e = refl
 
 module _ (t : Tests) (m : ℕ) (le : t.limit ≤ m) where
   abbrev u : Tests
@@ -184,69 +180,41 @@ module _ (t : Tests) (m : ℕ) (le : t.limit ≤ m) where
       _ _ (storage_stays d (is_var d.kind) d.ty d.init G) (λ s. stays_same _)
   decl_stays (dc.Func f) G = stays_same _
 
-  -- ---- rounds: where no declaration is faulty at the end, none was before, and each is judged alike
+  -- ---- turns: where no declaration is faulty at the end, none was before, and each is judged alike
 
   module _ (ds : List Decl) where
-    abbrev FairAt : ℕ → Type 0
-    FairAt n = All (λ d. Fair (judgement t n ds d)) ds
+    one_same : (n : ℕ) (es : List Decl) (js : SoFar) (names : List Entry) → AllFair (judged_at t n es js names) →
+        judged_at u n es js names ≡ judged_at t n es js names
+    one_same n [] js names h = refl
+    one_same n (d ∷ es) [] names h = refl
+    one_same zero (d ∷ es) (j ∷ js) names h =
+        ap (λ k. k ∷ js) (judged_same (decl_rule t d (in_names names)) (decl_rule u d (in_names names)) (decl_stays d (in_names names)) h.0)
+    one_same (suc n) (d ∷ es) (j ∷ js) names h = ap (λ ks. j ∷ ks) (one_same n es js names h.1)
 
-    abbrev SameAt : ℕ → Type 0
-    SameAt n = All (λ d. judgement u n ds d ≡ judgement t n ds d) ds
-
-    judged_by_same : (f g : Decl → Judged) (d : Decl) → All (λ e. g e ≡ f e) ds → Fair (judged_by t f ds d) →
-        judged_by u g ds d ≡ judged_by t f ds d
-    judged_by_same f g d h k =
-        ap₂ (λ b es. cond b (judged (decl_rule u d (in_names (map subprogram library ++ es)))) Waiting) (fine_same f g (uses d) ds h)
-        (entries_same f g ds h)
-        ∙ cond_judged (all_fine f (uses d) ds) (decl_rule t d (in_names (map subprogram library ++ entries f ds)))
-        (decl_rule u d (in_names (map subprogram library ++ entries f ds)))
-        (decl_stays d (in_names (map subprogram library ++ entries f ds))) k
-
-    before : (n : ℕ) → FairAt (suc n) → FairAt n
-    before n h = all_map (λ d. Fair (judgement t (suc n) ds d)) (λ d. Fair (judgement t n ds d)) ds
-        (λ d k. still_fair (judgement t n ds d) (judged_by t (λ e. judgement t n ds e) ds d) k) h
-
-    step_same : (n : ℕ) (e : SameAt n) (d : Decl) → judgement u n ds d ≡ judgement t n ds d → Fair (judgement t (suc n) ds d) →
-        judgement u (suc n) ds d ≡ judgement t (suc n) ds d
-    step_same n e d i k =
-        ap (λ j. still j (judged_by u (λ x. judgement u n ds x) ds d)) i
-        ∙ still_same (judgement t n ds d) (judged_by t (λ x. judgement t n ds x) ds d) (judged_by u (λ x. judgement u n ds x) ds d) k
-        (judged_by_same (λ x. judgement t n ds x) (λ x. judgement u n ds x) d e)
-
-    rounds_same : (n : ℕ) → FairAt n → SameAt n
-    rounds_same zero h = all_map (λ d. Fair (judgement t zero ds d)) (λ d. judgement u zero ds d ≡ judgement t zero ds d) ds (λ d k. refl) h
-    rounds_same (suc n) h =
-        let e = rounds_same n (before n h) in
-        all_both (λ d. judgement u n ds d ≡ judgement t n ds d) (λ d. Fair (judgement t (suc n) ds d))
-        (λ d. judgement u (suc n) ds d ≡ judgement t (suc n) ds d) ds (step_same n e) e h
-
-    faulty_fair : (j : Judged) → faulty j ≡ Ok tt → Fair j
-    faulty_fair Waiting h = λ x. x
-    faulty_fair (Fine es) h = λ x. x
-    faulty_fair (Faulty f) h = λ x. err_ok h
+    turns_same : (k : ℕ) (js : SoFar) → AllFair (turns t k ds js) → turns u k ds js ≡ turns t k ds js
+    turns_same zero js h = refl
+    turns_same (suc k) js h = by (next_turn ds js) h (turns_same k)
       where
-        err_ok : {f : Fault} → (let r : Result (Unit {0}) Fault = Err f in r) ≡ Ok tt → ⊥
-        err_ok h = cc
+        by : (o : Option ℕ) → AllFair (one_turn t ds js (turns t k ds) o) →
+            ((ks : SoFar) → AllFair (turns t k ds ks) → turns u k ds ks ≡ turns t k ds ks) →
+            one_turn u ds js (turns u k ds) o ≡ one_turn t ds js (turns t k ds) o
+        by None h next = refl
+        by (Some n) h next =
+            let names = names_so_far ds js in
+            let ks = judged_at t n ds js names in
+            let fair = fair_before ks (turns t k ds ks) (turns_later t ds k ks) h in
+            ap (turns u k ds) (one_same n ds js names fair) ∙ next ks h
 
-    fair_all : (es : List Decl) → faults_rule t ds es ≡ Ok tt → All (λ d. Fair (final t ds d)) es
-    fair_all [] h = tt
-    fair_all (d ∷ es) h = let p = then_ok (faulty (final t ds d)) (faults_rule t ds es) tt h in
-        (faulty_fair (final t ds d) p.first, fair_all es p.then)
+    finals_same : faults_rule (final t ds) ≡ Ok tt → final u ds ≡ final t ds
+    finals_same h = turns_same (length ds) (all_waiting ds) (fair_all (final t ds) h)
 
-    finals_same : faults_rule t ds ds ≡ Ok tt → All (λ d. final u ds d ≡ final t ds d) ds
-    finals_same h = rounds_same (suc (length ds)) (fair_all ds h)
-
-    faults_all : (es : List Decl) → All (λ d. final u ds d ≡ final t ds d) es → faults_rule u ds es ≡ faults_rule t ds es
-    faults_all [] h = refl
-    faults_all (d ∷ es) h = ap₂ (λ j r. faulty j >> r) h.0 (faults_all es h.1)
-
-    pub names_same : faults_rule t ds ds ≡ Ok tt → names_of_program u ds ≡ names_of_program t ds
-    names_same h = ap (λ es. with_entries es (map subprogram library)) (entries_same (final t ds) (final u ds) ds (finals_same h))
+    pub names_same : faults_rule (final t ds) ≡ Ok tt → names_of_program u ds ≡ names_of_program t ds
+    names_same h = ap (names_so_far ds) (finals_same h)
 
     globals_stay : Stays (globals_rule t ds) (globals_rule u ds)
     globals_stay = stays_if (globals_rule t ds) (globals_rule u ds) (λ names h.
-        let p = then_ok (faults_rule t ds ds) (Ok (names_of_program t ds)) names h in
-        ap₂ (λ r ns. r >> Ok ns) (faults_all ds (finals_same p.first)) (names_same p.first) ∙ h)
+        let p = then_ok (faults_rule (final t ds)) (Ok (names_of_program t ds)) names h in
+        ap (λ js. faults_rule js >> Ok (names_so_far ds js)) (finals_same p.first) ∙ h)
 
   -- ---- signatures
 
@@ -367,7 +335,7 @@ module _ (t : Tests) (m : ℕ) (le : t.limit ≤ m) where
       let p = then_ok (names_rule [] (all_declared ds)) _ a h in
       let c = then_ok (cycles_rule ds ds) _ a p.then in
       let n = bind_ok (globals_rule t ds) _ a c.then in
-      names_same ds (then_ok (faults_rule t ds ds) (Ok (names_of_program t ds)) n.value n.first).first
+      names_same ds (then_ok (faults_rule (final t ds)) (Ok (names_of_program t ds)) n.value n.first).first
 
   pub same_environment : (e : Asked) (ds : List Decl) (a : Accepted) → verdict e ds t ≡ Ok a →
       environment u ds ≡ record (environment t ds) { limit = m }

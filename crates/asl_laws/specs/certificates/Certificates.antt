@@ -9,7 +9,7 @@ use Rattle.asl_rules.specs.report.Texts.{Text, line_feed}
 use Rattle.asl_rules.specs.Tests.{Tests}
 use Rattle.asl_rules.specs.declarations.Names.{names_rule, all_declared}
 use Rattle.asl_rules.specs.declarations.Uses.{cycles_rule}
-use Rattle.asl_rules.specs.declarations.Declarations.{globals_rule}
+use Rattle.asl_rules.specs.declarations.Turns.{globals_rule}
 use Rattle.asl_rules.specs.declarations.Programs.{Accepted, Head, funcs_of, signatures, signatures_rule, overloads_rule, verdict, ProgramOk}
 use Rattle.asl_rules.specs.Faults.{◌>>=◌, ◌>>◌}
 use Rattle.asl_laws.specs.certificates.Texts.{Line, place_text, line_text, first_line, last_line}

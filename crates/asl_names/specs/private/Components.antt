@@ -1,6 +1,6 @@
 -- Numbers for the nodes of a graph, which don't rise along its edges.
 use Rattle.std.specs.Prelude.{◌≡◌, ℕ, Bool, true, false, ◌&&◌, ◌||◌, ◌==◌, nat_le, List, [], ◌∷◌, slice_index_or}
-use Rattle.asl_names.specs.private.Orders.{Graph, row}
+use Rattle.asl_turns.specs.Graphs.{Graph, row}
 
 -- the number of a node
 abbrev pub level : List ℕ → ℕ → ℕ

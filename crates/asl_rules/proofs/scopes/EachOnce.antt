@@ -1,9 +1,8 @@
 -- Names that are kept each once: a name stands for what it does among all of them, and nothing is lost but further names of subprograms.
-use Rattle.std.proofs.Common.{◌≡◌, ℕ, suc, Bool, true, false, cond, ◌⊎◌, inl, inr, List, [], ◌∷◌, ◌++◌, Option, Some, None, refl, sym, ap, ◌∙◌, append_assoc}
+use Rattle.std.proofs.Common.{◌≡◌, ℕ, Bool, true, false, cond, ◌⊎◌, inl, inr, List, [], ◌∷◌, ◌++◌, Option, Some, None, refl, sym, ap, ◌∙◌, append_assoc}
 use Rattle.std.proofs.lemmas.List.{append-nil}
 use Rattle.std.specs.Str.{bytes_eq}
-use Rattle.asl_rules.specs.declarations.Layouts.{Layout, local_name, global_name, local_names, global_names, layout_of}
-use Rattle.asl_rules.specs.declarations.Scopes.{Entry, Standing, Stored, Subprogram, TypeName, Label, is_local, next_atom, standing_of, is_absent, is_free, with_entry, with_entries}
+use Rattle.asl_rules.specs.declarations.Scopes.{Entry, Standing, Stored, Subprogram, TypeName, Label, standing_of, is_absent, is_free, with_entry, with_entries}
 use Rattle.asl_rules.proofs.basics.Tests.{no, some_none, same_name, name_is}
 use Rattle.asl_rules.proofs.scopes.Lookups.{behind, before_is, apart_from, Apart}
 
@@ -124,16 +123,3 @@ module _ {ℓ} {A : Type ℓ} (f : List Entry → A) (after : Entry → A → A)
       one None k = ap f (append_assoc es (x ∷ []) xs)
       one (Some st) (inl k) = absurd (some_none st k)
       one (Some st) (inr k) = without es x xs k
-
--- each name is held in the same place
-pub layouts_same : (xs es : List Entry) → NewOrSubprograms es xs → layout_of (with_entries xs es) ≡ layout_of (es ++ xs)
-layouts_same xs es s =
-    ap (λ ls. layout ls (global_names (with_entries xs es))) (passed_over local_names (λ e. local_name e.name e.standing) (λ e fs. refl) (λ e ns h. ap (λ st. local_name e.name st ns) h) xs es s)
-    ∙ ap (layout (local_names (es ++ xs))) (passed_over global_names (λ e. global_name e.name e.standing) (λ e fs. refl) (λ e ns h. ap (λ st. global_name e.name st ns) h) xs es s)
-  where
-    layout : List (List ℕ) → List (List ℕ) → Layout
-    layout ls gs = record { locals = ls; globals = gs }
-
--- and the next name of a body has the same atom
-pub atoms_same : (xs es : List Entry) → NewOrSubprograms es xs → next_atom (with_entries xs es) ≡ next_atom (es ++ xs)
-atoms_same xs es s = passed_over next_atom (λ e n. cond (is_local e.standing) (suc (suc n)) n) (λ e fs. refl) (λ e n h. ap (λ st. cond (is_local st) (suc (suc n)) n) h) xs es s

@@ -8,7 +8,6 @@ use Rattle.asl_syn.specs.declared.tree.Decl.{Decl}
 use Rattle.asl_rules.specs.Faults.{need}
 use Rattle.asl_rules.specs.declarations.Names.{library, is_listed, Declared, declared_by, standing, may_share, is_new, names_rule, all_declared}
 use Rattle.asl_rules.specs.declarations.Scopes.{Entry, Standing, Stored, Subprogram, TypeName, Label, subprogram, standing_of}
-use Rattle.asl_rules.specs.declarations.Declarations.{Judged, Waiting, Fine, Faulty, entries_of, entries}
 use Rattle.asl_rules.proofs.basics.Inversions.{then_ok, need_ok}
 use Rattle.asl_rules.proofs.basics.Tests.{no, some_same, none_some, both, same_name, name_is}
 use Rattle.asl_rules.proofs.scopes.Lookups.{behind, before_is, apart_from, Apart}
@@ -160,47 +159,76 @@ IsPlain Subprogram = ⊥
 IsPlain (TypeName T) = Unit {0}
 IsPlain (Label T x) = Unit {0}
 
-pub none_named : (n : List ℕ) (xs : List Declared) (es : List Entry) → AllNamed xs es → NotIn n xs → standing_of n es ≡ None
+-- each entry has the name that is declared in its place, and a subprogram's stands for one
+abbrev pub HasNames : List Declared → List Entry → Type 0
+HasNames [] [] = Unit {0}
+HasNames [] (e ∷ es) = ⊥
+HasNames (x ∷ xs) [] = ⊥
+HasNames (x ∷ xs) (e ∷ es) = (e.name ≡ x.name.text) × (x.is_subprogram ≡ true → e.standing ≡ Subprogram) × HasNames xs es
+
+sub_of : (b : Bool) (st : Standing) → SameSort b st → b ≡ true → st ≡ Subprogram
+sub_of true st s h = s
+sub_of false st s h = no h
+
+pub has_names : (xs : List Declared) (es : List Entry) → AllNamed xs es → HasNames xs es
+has_names [] [] a = tt
+has_names [] (e ∷ es) a = absurd a
+has_names (x ∷ xs) [] a = absurd a
+has_names (x ∷ xs) (e ∷ es) a = (a.0, sub_of x.is_subprogram e.standing a.1, has_names xs es a.2)
+
+pub names_append : (xs ys : List Declared) (es fs : List Entry) → HasNames xs es → HasNames ys fs → HasNames (xs ++ ys) (es ++ fs)
+names_append [] ys [] fs a b = b
+names_append [] ys (e ∷ es) fs a b = absurd a
+names_append (x ∷ xs) ys [] fs a b = absurd a
+names_append (x ∷ xs) ys (e ∷ es) fs a b = (a.0, a.1, names_append xs ys es fs a.2 b)
+
+pub none_named : (n : List ℕ) (xs : List Declared) (es : List Entry) → HasNames xs es → NotIn n xs → standing_of n es ≡ None
 none_named n [] [] a h = refl
 none_named n [] (e ∷ es) a h = absurd a
 none_named n (x ∷ xs) [] a h = absurd a
-none_named n (x ∷ xs) (e ∷ es) a h = ap (λ b. cond b (Some e.standing) (standing_of n es)) (ap (λ m. bytes_eq m n) a.0 ∙ h.0) ∙ none_named n xs es a.2 h.1
+none_named n (x ∷ xs) (e ∷ es) a h =
+    ap (λ b. cond b (Some e.standing) (standing_of n es)) (ap (λ m. bytes_eq m n) a.0 ∙ h.0) ∙ none_named n xs es a.2 h.1
 
-plain_sort : (b : Bool) (st : Standing) → SameSort b st → IsPlain st → b ≡ false
-plain_sort true st s p = absurd (subst IsPlain s p)
+plain_sort : (b : Bool) (st : Standing) → (b ≡ true → st ≡ Subprogram) → IsPlain st → b ≡ false
+plain_sort true st s p = absurd (subst IsPlain (s refl) p)
 plain_sort false st s p = refl
 
-named_first : (b : Bool) (n : List ℕ) (x : Declared) (e : Entry) (st : Standing) (o : Option Standing) (xs : List Declared) → bytes_eq e.name n ≡ b → e.name ≡ x.name.text → SameSort x.is_subprogram e.standing → cond b (Some e.standing) o ≡ Some st → IsPlain st → (o ≡ Some st → Plain n xs) → Plain n (x ∷ xs)
-named_first true n x e st o xs q m s h p next = inl (sym m ∙ same_name e.name n q, plain_sort x.is_subprogram e.standing s (subst IsPlain (sym (some_same e.standing st h)) p))
+named_first : (b : Bool) (n : List ℕ) (x : Declared) (e : Entry) (st : Standing) (o : Option Standing) (xs : List Declared) →
+    bytes_eq e.name n ≡ b → e.name ≡ x.name.text → (x.is_subprogram ≡ true → e.standing ≡ Subprogram) →
+    cond b (Some e.standing) o ≡ Some st → IsPlain st → (o ≡ Some st → Plain n xs) → Plain n (x ∷ xs)
+named_first true n x e st o xs q m s h p next =
+    inl (sym m ∙ same_name e.name n q, plain_sort x.is_subprogram e.standing s (subst IsPlain (sym (some_same e.standing st h)) p))
 named_first false n x e st o xs q m s h p next = inr (next h)
 
-pub plain_named : (n : List ℕ) (st : Standing) (xs : List Declared) (es : List Entry) → AllNamed xs es → standing_of n es ≡ Some st → IsPlain st → Plain n xs
+pub plain_named : (n : List ℕ) (st : Standing) (xs : List Declared) (es : List Entry) → HasNames xs es → standing_of n es ≡ Some st →
+    IsPlain st → Plain n xs
 plain_named n st [] [] a h p = none_some st h
 plain_named n st [] (e ∷ es) a h p = absurd a
 plain_named n st (x ∷ xs) [] a h p = absurd a
-plain_named n st (x ∷ xs) (e ∷ es) a h p = named_first (bytes_eq e.name n) n x e st (standing_of n es) xs refl a.0 a.1 h p (λ k. plain_named n st xs es a.2 k p)
+plain_named n st (x ∷ xs) (e ∷ es) a h p =
+    named_first (bytes_eq e.name n) n x e st (standing_of n es) xs refl a.0 a.1 h p (λ k. plain_named n st xs es a.2 k p)
 
-apart_entry : (x : Declared) (e : Entry) (es : List Entry) (b : Bool) → x.is_subprogram ≡ b → SameSort b e.standing → (b ≡ false → standing_of e.name es ≡ None) → apart_from e.name e.standing es
-apart_entry x e es b q s f = by e.standing s
+apart_entry : (x : Declared) (e : Entry) (es : List Entry) → (x.is_subprogram ≡ true → e.standing ≡ Subprogram) →
+    (x.is_subprogram ≡ false → standing_of e.name es ≡ None) → apart_from e.name e.standing es
+apart_entry x e es s f = by e.standing s
   where
-    by : (st : Standing) → SameSort b st → apart_from e.name st es
+    by : (st : Standing) → (x.is_subprogram ≡ true → st ≡ Subprogram) → apart_from e.name st es
     by Subprogram s = tt
-    by (Stored u) s = f (plain_sort b (Stored u) s tt)
-    by (TypeName T) s = f (plain_sort b (TypeName T) s tt)
-    by (Label T y) s = f (plain_sort b (Label T y) s tt)
+    by (Stored u) s = f (plain_sort x.is_subprogram (Stored u) s tt)
+    by (TypeName T) s = f (plain_sort x.is_subprogram (TypeName T) s tt)
+    by (Label T y) s = f (plain_sort x.is_subprogram (Label T y) s tt)
 
-pub apart_named : (xs zs : List Declared) (es tail : List Entry) → AllNamed xs es → Distinct (xs ++ zs) → ((n : List ℕ) → NotIn n zs → standing_of n tail ≡ None) → Apart tail → Apart (es ++ tail)
-apart_named [] zs [] tail a d f t = t
-apart_named [] zs (e ∷ es) tail a d f t = absurd a
-apart_named (x ∷ xs) zs [] tail a d f t = absurd a
-apart_named (x ∷ xs) zs (e ∷ es) tail a d f t = (
-  apart_entry x e (es ++ tail) x.is_subprogram refl a.1 (λ s.
-      let l = subst (λ m. NotIn m (xs ++ zs)) (sym a.0) (apart_later x (xs ++ zs) s d.1) in
-      behind es tail e.name (none_named e.name xs es a.2 (in_first e.name xs zs l)) ∙ f e.name (in_second e.name xs zs l)),
-  apart_named xs zs es tail a.2 d.2 f t,
+-- entries with distinct names are apart
+pub names_apart : (xs : List Declared) (es : List Entry) → HasNames xs es → Distinct xs → Apart es
+names_apart [] [] a d = tt
+names_apart [] (e ∷ es) a d = absurd a
+names_apart (x ∷ xs) [] a d = absurd a
+names_apart (x ∷ xs) (e ∷ es) a d = (
+  apart_entry x e es a.1 (λ s. none_named e.name xs es a.2 (subst (λ m. NotIn m xs) (sym a.0) (apart_later x xs s d.1))),
+  names_apart xs es a.2 d.2,
 )
 
--- ---- what declarations bring, where each brings what it declares
+-- ---- declarations, and the library
 
 -- a member of a list
 abbrev pub In : {A : Type 0} → A → List A → Type 0
@@ -241,64 +269,6 @@ past_by n es st (Some own) q p h =
 pub past_library : (n : List ℕ) (es : List Entry) (st : Standing) → IsPlain st → standing_of n (map subprogram library ++ es) ≡ Some st → standing_of n es ≡ Some st
 past_library n es st p h = past_by n es st (standing_of n (map subprogram library)) refl p h
 
--- where a name was found
-pub record FoundAt (f : Decl → Judged) (ds : List Decl) (n : List ℕ) (st : Standing) : Type 0 where
-  pub decl : Decl
-  pub brings : List Entry
-  pub is_in : In decl ds
-  pub is_fine : f decl ≡ Fine brings
-  pub stands : standing_of n brings ≡ Some st
-
-module _ (f : Decl → Judged) (named : (d : Decl) (es : List Entry) → f d ≡ Fine es → AllNamed (declared_by d) es) where
-  found_first : (d : Decl) (ds : List Decl) (n : List ℕ) (st : Standing) (j : Judged) (o : Option Standing) → f d ≡ j → standing_of n (entries_of j) ≡ o → standing_of n (entries_of j ++ entries f ds) ≡ Some st → (standing_of n (entries f ds) ≡ Some st → FoundAt f ds n st) → FoundAt f (d ∷ ds) n st
-  found_first d ds n st Waiting o q e h next = let r = next h in record { decl = r.decl; brings = r.brings; is_in = inr r.is_in; is_fine = r.is_fine; stands = r.stands }
-  found_first d ds n st (Faulty x) o q e h next = let r = next h in record { decl = r.decl; brings = r.brings; is_in = inr r.is_in; is_fine = r.is_fine; stands = r.stands }
-  found_first d ds n st (Fine es) None q e h next = let r = next (sym (behind es (entries f ds) n e) ∙ h) in record { decl = r.decl; brings = r.brings; is_in = inr r.is_in; is_fine = r.is_fine; stands = r.stands }
-  found_first d ds n st (Fine es) (Some own) q e h next = record { decl = d; brings = es; is_in = inl refl; is_fine = q; stands = e ∙ sym (before_is es (entries f ds) n own e) ∙ h }
-
-  pub found_at : (ds : List Decl) (n : List ℕ) (st : Standing) → standing_of n (entries f ds) ≡ Some st → FoundAt f ds n st
-  found_at [] n st h = none_some st h
-  found_at (d ∷ ds) n st h = found_first d ds n st (f d) (standing_of n (entries_of (f d))) refl refl h (found_at ds n st)
-
-  none_brought : (d : Decl) (n : List ℕ) (j : Judged) → f d ≡ j → NotIn n (declared_by d) → standing_of n (entries_of j) ≡ None
-  none_brought d n Waiting q h = refl
-  none_brought d n (Faulty x) q h = refl
-  none_brought d n (Fine es) q h = none_named n (declared_by d) es (named d es q) h
-
-  pub none_entries : (ds : List Decl) (n : List ℕ) → NotIn n (all_declared ds) → standing_of n (entries f ds) ≡ None
-  none_entries [] n h = refl
-  none_entries (d ∷ ds) n h =
-      behind (entries_of (f d)) (entries f ds) n (none_brought d n (f d) refl (in_first n (declared_by d) (all_declared ds) h)) ∙ none_entries ds n (in_second n (declared_by d) (all_declared ds) h)
-
-  -- what a declaration brings is found under its names
-  pub own_found : (ds : List Decl) (d : Decl) (es : List Entry) (n : List ℕ) (st : Standing) → Distinct (all_declared ds) → In d ds → f d ≡ Fine es → standing_of n es ≡ Some st → IsPlain st → standing_of n (entries f ds) ≡ Some st
-  own_found [] d es n st x i q h p = absurd i
-  own_found (e ∷ ds) d es n st x (inl c) q h p =
-      ap (λ z. standing_of n (entries_of z ++ entries f ds)) (ap f c ∙ q) ∙ before_is es (entries f ds) n st h
-  own_found (e ∷ ds) d es n st x (inr i) q h p =
-      let l = plain_in d ds n i (plain_named n st (declared_by d) es (named d es q) h p) in
-      behind (entries_of (f e)) (entries f ds) n (none_brought e n (f e) refl (front_not_in n (declared_by e) (all_declared ds) x l)) ∙ own_found ds d es n st (rest_distinct (declared_by e) (all_declared ds) x) i q h p
-
-  -- what isn't well formed brings no name
-  pub not_found : (ds : List Decl) (d : Decl) (n : List ℕ) → Distinct (all_declared ds) → In d ds → entries_of (f d) ≡ [] → Plain n (declared_by d) → standing_of n (entries f ds) ≡ None
-  not_found [] d n x i q p = absurd i
-  not_found (e ∷ ds) d n x (inl c) q p =
-      ap (λ z. standing_of n (z ++ entries f ds)) (ap (λ y. entries_of (f y)) c ∙ q) ∙ none_entries ds n (back_not_in n (declared_by e) (all_declared ds) x (subst (λ z. Plain n (declared_by z)) (sym c) p))
-  not_found (e ∷ ds) d n x (inr i) q p =
-      behind (entries_of (f e)) (entries f ds) n (none_brought e n (f e) refl (front_not_in n (declared_by e) (all_declared ds) x (plain_in d ds n i p))) ∙ not_found ds d n (rest_distinct (declared_by e) (all_declared ds) x) i q p
-
-  apart_first : (d : Decl) (ds : List Decl) (j : Judged) → f d ≡ j → Distinct (declared_by d ++ all_declared ds) → Apart (entries f ds) → Apart (entries_of j ++ entries f ds)
-  apart_first d ds Waiting q x a = a
-  apart_first d ds (Faulty y) q x a = a
-  apart_first d ds (Fine es) q x a = apart_named (declared_by d) (all_declared ds) es (entries f ds) (named d es q) x (none_entries ds) a
-
-  entries_apart : (ds : List Decl) → Distinct (all_declared ds) → Apart (entries f ds)
-  entries_apart [] x = tt
-  entries_apart (d ∷ ds) x = apart_first d ds (f d) refl x (entries_apart ds (rest_distinct (declared_by d) (all_declared ds) x))
-
-  library_apart : (ns : List (List ℕ)) (es : List Entry) → Apart es → Apart (map subprogram ns ++ es)
-  library_apart [] es a = a
-  library_apart (n ∷ ns) es a = (tt, library_apart ns es a)
-
-  pub all_apart : (ds : List Decl) → Distinct (all_declared ds) → Apart (map subprogram library ++ entries f ds)
-  all_apart ds x = library_apart library (entries f ds) (entries_apart ds x)
+pub library_apart : (ns : List (List ℕ)) (es : List Entry) → Apart es → Apart (map subprogram ns ++ es)
+library_apart [] es a = a
+library_apart (n ∷ ns) es a = (tt, library_apart ns es a)

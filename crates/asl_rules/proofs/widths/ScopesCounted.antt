@@ -1,6 +1,6 @@
 -- The scopes of bodies: outside bodies no name counts in widths, and each name that a signature or a statement adds keeps that a `let` counts as names that
 -- stand for themselves.
-use Rattle.std.proofs.Common.{◌≡◌, ℕ, zero, suc, Bool, true, false, ◌&&◌, List, [], ◌∷◌, ◌++◌, length, map, Option, Some, None, Result, Ok, Err, refl, sym, ap, ◌∙◌, subst}
+use Rattle.std.proofs.Common.{◌≡◌, ℕ, Bool, true, false, ◌&&◌, List, [], ◌∷◌, ◌++◌, length, Option, Some, None, Result, Ok, Err, refl, sym, ap, ◌∙◌, subst}
 use Rattle.std.specs.Prelude.{if◌then◌else◌, not}
 use Rattle.std.specs.Str.{bytes_eq}
 use Rattle.asl_syn.specs.declared.token.Span.{Span}
@@ -34,9 +34,8 @@ use Rattle.asl_rules.specs.expressions.Typing.{Width}
 use Rattle.asl_rules.specs.values.Members.{has_name}
 use Rattle.asl_rules.specs.expressions.Exprs.{found, written}
 use Rattle.asl_rules.specs.statements.Acting.{Done, done, ended}
-use Rattle.asl_rules.specs.declarations.Names.{library}
-use Rattle.asl_rules.specs.declarations.Declarations.{Judged, Waiting, Fine, Faulty, def_rule, supertype_rule, label_entries, storage_rule, is_var, decl_rule, judged, judged_by, still, judgement, entries_of, entries, final, names_of_program, in_names, all_fine}
-use Rattle.asl_rules.specs.declarations.Uses.{uses}
+use Rattle.asl_rules.specs.declarations.Declarations.{def_rule, supertype_rule, label_entries, storage_rule, is_var, decl_rule, in_names}
+use Rattle.asl_rules.specs.declarations.Turns.{names_of_program}
 use Rattle.asl_rules.specs.statements.Locals.{Initialised, taken, itself, counted_as, initialised_as, declared, type_declared, part_declared, written_or, initialised, binders_free, bound_parts, bound_in, bound, bind_rule, names_rule, vars_rule}
 use Rattle.asl_rules.specs.declarations.Programs.{Head, params_free, formals_free, param_written, param_entry, type_or_itself, params_rule, formals_rule, result_rule, limit_typed, params_are_integers, limit_rule, with_formals, signature_rule}
 use Rattle.asl_rules.specs.private.Worth.{WellCounted}
@@ -45,7 +44,7 @@ use Rattle.asl_rules.proofs.basics.Tests.{no, none_some, some_same, both}
 use Rattle.asl_rules.proofs.widths.Counting.{NewCounted, stored_of, well_kept, variable_counts, let_counts, atom_counts}
 use Rattle.asl_rules.proofs.widths.WidthAtoms.{width_is_alone}
 use Rattle.asl_rules.proofs.widths.WidthsHeld.{width_is_held}
-use Rattle.asl_rules.proofs.scopes.EachOnce.{entries_keep}
+use Rattle.asl_rules.proofs.verdict.EachName.{EachName, name_has, visible_have}
 
 -- ---- names outside bodies count as nothing
 
@@ -56,16 +55,10 @@ IsUncounted (TypeName T) = Unit {0}
 IsUncounted (Label T x) = Unit {0}
 
 abbrev AllUncounted : List Entry → Type 0
-AllUncounted [] = Unit {0}
-AllUncounted (e ∷ es) = IsUncounted e.standing × AllUncounted es
-
-uncounted_if : (b : Bool) (y : Standing) (o : Option Standing) (x : Standing) → IsUncounted y → (o ≡ Some x → IsUncounted x) → (if b then Some y else o) ≡ Some x → IsUncounted x
-uncounted_if true y o x a f h = subst (λ z. IsUncounted z) (some_same y x h) a
-uncounted_if false y o x a f h = f h
+AllUncounted es = EachName (λ e. IsUncounted e.standing) es
 
 uncounted_at : (name : List ℕ) (es : List Entry) (x : Standing) → AllUncounted es → standing_of name es ≡ Some x → IsUncounted x
-uncounted_at name [] x a h = none_some x h
-uncounted_at name (e ∷ es) x a h = uncounted_if (bytes_eq e.name name) e.standing (standing_of name es) x a.0 (uncounted_at name es x a.1) h
+uncounted_at name es x a h = name_has (λ n st. IsUncounted st) es name x a h
 
 uncounted_stored : (name : List ℕ) (es : List Entry) (s : Storage) → AllUncounted es → storage_of name es ≡ Some s → s.counted ≡ None
 uncounted_stored name es s a h = uncounted_at name es (Stored s) a (stored_of (standing_of name es) s h)
@@ -76,10 +69,6 @@ well_uncounted es a = record {
   within = λ name s c h q. none_some c (sym (uncounted_stored name es s a h) ∙ q);
   unknown = λ name s c h q. none_some c (sym (uncounted_stored name es s a h) ∙ q);
 }
-
-uncounted_more : (xs ys : List Entry) → AllUncounted xs → AllUncounted ys → AllUncounted (xs ++ ys)
-uncounted_more [] ys a b = b
-uncounted_more (x ∷ xs) ys a b = (a.0, uncounted_more xs ys a.1 b)
 
 -- ---- declarations
 
@@ -103,52 +92,12 @@ decl_uncounted t (dc.Storage d) G es h =
     subst (λ z. AllUncounted z) (ok_ok _ es u.then) (refl, tt)
 decl_uncounted t (dc.Func f) G es h = subst (λ z. AllUncounted z) (ok_ok (subprogram f.name.text ∷ []) es h) (tt, tt)
 
-abbrev BringsUncounted : Judged → Type 0
-BringsUncounted Waiting = Unit {0}
-BringsUncounted (Fine es) = AllUncounted es
-BringsUncounted (Faulty f) = Unit {0}
-
-judged_uncounted : (r : Result (List Entry) Fault) → ((es : List Entry) → r ≡ Ok es → AllUncounted es) → BringsUncounted (judged r)
-judged_uncounted (Ok es) f = f es refl
-judged_uncounted (Err e) f = tt
-
-if_uncounted : (b : Bool) (j : Judged) → BringsUncounted j → BringsUncounted (if b then j else Waiting)
-if_uncounted true j a = a
-if_uncounted false j a = tt
-
-still_uncounted : (j k : Judged) → BringsUncounted j → BringsUncounted k → BringsUncounted (still j k)
-still_uncounted Waiting k a b = b
-still_uncounted (Fine es) k a b = a
-still_uncounted (Faulty f) k a b = tt
-
-by_uncounted : (t : Tests) (f : Decl → Judged) (ds : List Decl) (d : Decl) → BringsUncounted (judged_by t f ds d)
-by_uncounted t f ds d =
-    let G : Scope = in_names (map subprogram library ++ entries f ds) in
-    if_uncounted (all_fine f (uses d) ds) (judged (decl_rule t d G)) (judged_uncounted (decl_rule t d G) (λ es h. decl_uncounted t d G es h))
-
-judgement_uncounted : (t : Tests) (n : ℕ) (ds : List Decl) (d : Decl) → BringsUncounted (judgement t n ds d)
-judgement_uncounted t zero ds d = tt
-judgement_uncounted t (suc n) ds d =
-    still_uncounted (judgement t n ds d) (judged_by t (λ e. judgement t n ds e) ds d) (judgement_uncounted t n ds d) (by_uncounted t (λ e. judgement t n ds e) ds d)
-
-brought_uncounted : (j : Judged) → BringsUncounted j → AllUncounted (entries_of j)
-brought_uncounted Waiting a = tt
-brought_uncounted (Fine es) a = a
-brought_uncounted (Faulty f) a = tt
-
-entries_uncounted : (f : Decl → Judged) → ((d : Decl) → BringsUncounted (f d)) → (ds : List Decl) → AllUncounted (entries f ds)
-entries_uncounted f a [] = tt
-entries_uncounted f a (d ∷ ds) = uncounted_more (entries_of (f d)) (entries f ds) (brought_uncounted (f d) (a d)) (entries_uncounted f a ds)
-
-library_uncounted : (ns : List (List ℕ)) → AllUncounted (map subprogram ns)
-library_uncounted [] = tt
-library_uncounted (n ∷ ns) = (tt, library_uncounted ns)
-
 -- the names that are visible in all bodies
 pub names_counted : (t : Tests) (ds : List Decl) → WellCounted (names_of_program t ds)
 names_counted t ds =
     well_uncounted (names_of_program t ds)
-    (entries_keep AllUncounted uncounted_more (λ e es h. ((h.0, tt), h.1)) (entries (final t ds) ds) (map subprogram library) (entries_uncounted (final t ds) (λ d. judgement_uncounted t (suc (length ds)) ds d) ds) (library_uncounted library))
+    (visible_have (λ e. IsUncounted e.standing) (λ n. tt) t ds (λ d i. refl)
+    (λ d i names a es h. decl_uncounted t d (in_names names) es h) (length ds))
 
 -- ---- names that aren't visible yet
 

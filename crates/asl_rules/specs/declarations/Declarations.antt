@@ -1,5 +1,5 @@
 -- Declarations of types and of storage, in any order: each is judged where all that it uses is well formed.
-use Rattle.std.specs.Prelude.{ℕ, zero, suc, Bool, true, false, ◌&&◌, ◌||◌, not, if◌then◌else◌, List, [], ◌∷◌, ◌++◌, length, map, Option, Some, None, Result, Ok, Err}
+use Rattle.std.specs.Prelude.{ℕ, Bool, true, false, ◌&&◌, not, List, [], ◌∷◌, ◌++◌, map, Option, Some, None, Result, Ok, Err}
 use Rattle.asl_syn.specs.declared.token.Span.{Span}
 use Rattle.asl_syn.specs.declared.code.Fault.{Fault}
 use Rattle.asl_syn.specs.declared.code.StaticCode.TheVariants.{S03, T02, T04, T15, T25}
@@ -23,13 +23,11 @@ use Rattle.asl_rules.specs.types.Closed.{closed}
 use Rattle.asl_rules.specs.values.Values.{Value, label}
 use Rattle.asl_rules.specs.types.Views.{viewed}
 use Rattle.asl_rules.specs.types.Written.{first_value}
-use Rattle.asl_rules.specs.declarations.Names.{library}
-use Rattle.asl_rules.specs.declarations.Scopes.{Scope, Entry, global, subprogram, type_name, label_name, type_of_name, with_entries}
+use Rattle.asl_rules.specs.declarations.Scopes.{Scope, Entry, global, subprogram, type_name, label_name, type_of_name}
 use Rattle.asl_rules.specs.types.Widths.{bounded}
 use Rattle.asl_rules.specs.values.Members.{has_name}
 use Rattle.asl_rules.specs.expressions.Exprs.{typed, written, found, found_type}
 use Rattle.asl_rules.specs.runs.Plans.{Faulted, Stuck, Pure, Good, Bad}
-use Rattle.asl_rules.specs.declarations.Uses.{Used, uses, declares}
 use Rattle.asl_rules.specs.declarations.Constants.{constant}
 use Rattle.asl_rules.specs.declarations.Barred.{barred}
 
@@ -142,79 +140,10 @@ is_var storage.Var = true
 abbrev pub storage_decl_rule : Tests → StorageDecl → Scope → Result (List Entry) Fault
 storage_decl_rule t d G = storage_rule t d (is_var d.kind) d.ty d.init G >>= λ s. Ok (global d.name.text s.ty (is_var d.kind) s.value ∷ [])
 
--- ---- in any order
+-- ---- both
 
 -- what a declaration brings into the scope of all bodies
 abbrev pub decl_rule : Tests → Decl → Scope → Result (List Entry) Fault
 decl_rule t (dc.Type d) G = type_decl_rule t d G
 decl_rule t (dc.Storage d) G = storage_decl_rule t d G
 decl_rule t (dc.Func f) G = Ok (subprogram f.name.text ∷ [])
-
--- a declaration waits until all that it uses is well formed; then it is well formed or has its fault
-pub data Judged : Type 0 where
-  Waiting : Judged
-  Fine : List Entry → Judged
-  Faulty : Fault → Judged
-
-abbrev pub judged : Result (List Entry) Fault → Judged
-judged (Ok es) = Fine es
-judged (Err f) = Faulty f
-
-abbrev pub is_fine : Judged → Bool
-is_fine Waiting = false
-is_fine (Fine es) = true
-is_fine (Faulty f) = false
-
-abbrev pub entries_of : Judged → List Entry
-entries_of Waiting = []
-entries_of (Fine es) = es
-entries_of (Faulty f) = []
-
--- what these declarations bring, each as it was judged
-abbrev pub entries : (Decl → Judged) → List Decl → List Entry
-entries f [] = []
-entries f (d ∷ ds) = entries_of (f d) ++ entries f ds
-
--- a declaration is well formed, where it declares one of these names
-abbrev pub fine_where_used : Judged → Decl → Used → Bool
-fine_where_used j d [] = true
-fine_where_used j d (u ∷ us) = (not (declares d u) || is_fine j) && fine_where_used j d us
-
-abbrev pub all_fine : (Decl → Judged) → Used → List Decl → Bool
-all_fine f us [] = true
-all_fine f us (d ∷ ds) = fine_where_used (f d) d us && all_fine f us ds
-
-abbrev pub judged_by : Tests → (Decl → Judged) → List Decl → Decl → Judged
-judged_by t f ds d = if all_fine f (uses d) ds then judged (decl_rule t d (in_names (map subprogram library ++ entries f ds))) else Waiting
-
--- what was judged stays
-abbrev pub still : Judged → Judged → Judged
-still Waiting j = j
-still (Fine es) j = Fine es
-still (Faulty f) j = Faulty f
-
--- after so many rounds, in each of which all that wait are judged that use only what was well formed before it
-abbrev pub judgement : Tests → ℕ → List Decl → Decl → Judged
-judgement t zero ds d = Waiting
-judgement t (suc n) ds d = still (judgement t n ds d) (judged_by t (λ e. judgement t n ds e) ds d)
-
--- as many rounds as there are declarations
-abbrev pub final : Tests → List Decl → Decl → Judged
-final t ds d = judgement t (suc (length ds)) ds d
-
-abbrev pub faulty : Judged → Result (Unit {0}) Fault
-faulty Waiting = Ok tt
-faulty (Fine es) = Ok tt
-faulty (Faulty f) = Err f
-
--- the fault of the first, in source order, that has one
-abbrev pub faults_rule : Tests → List Decl → List Decl → Result (Unit {0}) Fault
-faults_rule t all [] = Ok tt
-faults_rule t all (d ∷ ds) = faulty (final t all d) >> faults_rule t all ds
-
--- the names that are visible in all bodies, each once: those of the library, and in source order those of the declarations
-abbrev pub names_of_program : Tests → List Decl → List Entry
-names_of_program t ds = with_entries (entries (final t ds) ds) (map subprogram library)
-
-abbrev pub globals_rule : Tests → List Decl → Result (List Entry) Fault
-globals_rule t ds = faults_rule t ds ds >> Ok (names_of_program t ds)

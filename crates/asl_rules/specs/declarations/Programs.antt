@@ -34,7 +34,8 @@ use Rattle.asl_rules.specs.values.Members.{has_name}
 use Rattle.asl_rules.specs.expressions.Exprs.{found, found_type, typed, written}
 use Rattle.asl_rules.specs.declarations.Uses.{cycles_rule}
 use Rattle.asl_rules.specs.declarations.Barred.{barred}
-use Rattle.asl_rules.specs.declarations.Declarations.{in_names, names_of_program, globals_rule, known}
+use Rattle.asl_rules.specs.declarations.Declarations.{in_names, known}
+use Rattle.asl_rules.specs.declarations.Turns.{names_of_program, globals_rule}
 use Rattle.asl_rules.specs.declarations.WrittenOut.{written_out}
 use Rattle.asl_rules.specs.declarations.Replacing.{bodies_matched, defaults, replaced}
 use Rattle.asl_rules.specs.statements.Acting.{in_order}

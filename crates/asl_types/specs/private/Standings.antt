@@ -1,5 +1,5 @@
 -- What names stand for, in the rules and in code.
-use Rattle.std.specs.Prelude.{◌≡◌, ℕ, suc, Bool, true, false, List, [], ◌∷◌, Option, None, Some, map}
+use Rattle.std.specs.Prelude.{◌≡◌, ℕ, suc, Bool, true, false, if◌then◌else◌, List, [], ◌∷◌, Option, None, Some, map}
 use Rattle.std.specs.Option.{option_map}
 use Rattle.std.specs.Borrow.{Bor}
 use Rattle.std.specs.Str.{bytes_eq}
@@ -47,6 +47,28 @@ form_view (form.Label T x) = rules.Label T (value_of x)
 
 abbrev pub entry_view : List ℕ → Form → rules.Entry
 entry_view name f = record { name = name; standing = form_view f }
+
+-- ---- names that are settled
+
+-- storage outside bodies
+abbrev pub is_outside : Option rules.Standing → Bool
+is_outside (Some (rules.Stored s)) = s.is_global
+is_outside (Some rules.Subprogram) = false
+is_outside (Some (rules.TypeName T)) = false
+is_outside (Some (rules.Label T x)) = false
+is_outside None = false
+
+-- whether what a name stands for is storage, and whether that is outside bodies
+abbrev pub storage_sort : rules.Standing → Option Bool
+storage_sort (rules.Stored s) = Some s.is_global
+storage_sort rules.Subprogram = None
+storage_sort (rules.TypeName T) = None
+storage_sort (rules.Label T x) = None
+
+-- the names, of which the first of this name stands for this
+abbrev pub settled : List ℕ → rules.Standing → List rules.Entry → List rules.Entry
+settled name s [] = []
+settled name s (e ∷ es) = if bytes_eq e.name name then record { name = e.name; standing = s } ∷ es else e ∷ settled name s es
 
 -- ---- the map of the names
 

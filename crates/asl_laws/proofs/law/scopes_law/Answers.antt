@@ -1,4 +1,4 @@
-use Rattle.asl_laws.proofs.scopes.Placeless.{judged_same}
+use Rattle.asl_laws.proofs.placeless.Placeless.{judged_same}
 use Rattle.asl_laws.proofs.scopes.ScopeRules.{outside_rules, bodies_begin, types_own, statements_keep, indices_keep, catchers_keep}
 use Rattle.asl_laws.proofs.law.scopes_law.Goals as goal
 

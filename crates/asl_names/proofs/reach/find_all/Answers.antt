@@ -1,5 +1,6 @@
 use Rattle.std.proofs.Common.{refl, ◌∙◌, arith}
-use Rattle.asl_names.proofs.Ways.{among_place, goes_one, marked_to_next, more_trans, marked_to_end}
+use Rattle.asl_turns.proofs.Marks.{among_place}
+use Rattle.asl_names.proofs.Ways.{goes_one, marked_to_next, more_trans, marked_to_end}
 use Rattle.asl_names.proofs.reach.find_all.Goals as goal
 
 pub find-requires-clause-within : goal.find-requires-clause-within

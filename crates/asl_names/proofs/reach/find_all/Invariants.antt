@@ -1,5 +1,5 @@
 use Rattle.std.proofs.Common.{◌≡◌, length}
-use Rattle.asl_names.specs.private.Orders.{room, IsListed, MarkedMore, Goes, MarkedTo}
+use Rattle.asl_names.specs.private.Ways.{room, IsListed, MarkedMore, Goes, MarkedTo}
 use Rattle.asl_names.proofs.reach.find_all.Given as goal
 
 abbrev pub invariant-loop-node : goal.invariant-loop-node

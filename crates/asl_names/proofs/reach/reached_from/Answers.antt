@@ -1,6 +1,8 @@
 use Rattle.std.proofs.Common.{◌≡◌, ◌+◌, true, get_or, sym, ap, ◌∙◌, subst, arith}
-use Rattle.asl_names.specs.private.Orders.{row, all_marked, is_among, ClosedTo}
-use Rattle.asl_names.proofs.Ways.{among_place, goes_reached, marked_more, closed_next, way_mark}
+use Rattle.asl_turns.specs.Graphs.{row, all_marked, is_among}
+use Rattle.asl_names.specs.private.Ways.{ClosedTo}
+use Rattle.asl_turns.proofs.Marks.{among_place, marked_more}
+use Rattle.asl_names.proofs.Ways.{goes_reached, closed_next, way_mark}
 use Rattle.asl_names.proofs.reach.reached_from.Goals as goal
 
 pub loop-at-preserved : goal.loop-at-preserved

@@ -1,5 +1,6 @@
 use Rattle.std.proofs.Common.{◌≡◌, ◌-◌, length, true}
-use Rattle.asl_names.specs.private.Orders.{row, all_marked, room, IsListed, ClosedTo, Reached}
+use Rattle.asl_turns.specs.Graphs.{row, all_marked}
+use Rattle.asl_names.specs.private.Ways.{room, IsListed, ClosedTo, Reached}
 use Rattle.asl_names.proofs.reach.reached_from.Given as goal
 
 abbrev pub invariant-loop-at : goal.invariant-loop-at

@@ -1,0 +1,4 @@
+mod FirstReady
+pub mod Marks
+mod Placing
+mod Settling
