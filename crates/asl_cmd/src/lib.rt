@@ -2,7 +2,6 @@
 #![tactic(auto)]
 
 mod memory;
-mod reading;
 mod top;
 
 pub use asl_answer::Status;

@@ -1,4 +1,3 @@
 pub mod Faults
-pub mod Shelf
 pub mod Told
 pub mod private

@@ -11,6 +11,7 @@ ghost use Rattle.asl_types.specs.View.{parts_of};
 ghost use Rattle.asl_blocks.specs.private.Walks as walks;
 ghost use Rattle.asl_blocks.specs.private.Walks.{after, binding};
 
+use asl_shared::Held;
 use asl_syn::code::{Refused, StaticCode};
 use asl_syn::tree::{Binder, LocalKind};
 use asl_types::answer::fault;
@@ -112,14 +113,15 @@ fn declare_binder<'a>(
 ) -> Result<(), Refused>
     ensures { Met (λ _. names.new) result (walks.binder_declared kind ty binder.now names.old) }
 {
+    let ty = Held::new(ty);
     match binder {
         Binder::Bound(name) => {
             let text = name.text.as_slice();
             if !names.is_free(text) {
                 return fault(StaticCode::T01, name.span);
             }
-            let counted = itself(alloc, &ty, names)?;
-            declare_local(names, kind, text, ty, counted)
+            let counted = itself(alloc, ty.get(), names)?;
+            declare_local(names, kind, text, ty.into_inner(), counted)
         }
         Binder::Unbound(_) => Ok(()),
     }

@@ -6,11 +6,7 @@
 #[cfg(test)]
 mod bits;
 #[cfg(test)]
-mod commands;
-#[cfg(test)]
 mod constraints;
-#[cfg(test)]
-mod declarations;
 #[cfg(test)]
 mod lexemes;
 #[cfg(test)]
@@ -25,5 +21,3 @@ mod polynomials;
 mod types;
 #[cfg(test)]
 mod values;
-#[cfg(test)]
-mod widths;
