@@ -2,7 +2,7 @@
 #![tactic(auto)]
 
 use asl_cmd::{Status, asl};
-use asl_devices::{HostFiles, HostSink};
+use asl_io::{HostFiles, HostSink};
 use std::io;
 use std::process::ExitCode;
 

@@ -4,6 +4,7 @@ pub mod Fronts
 pub mod Stacks
 pub mod Room
 pub mod Listing
+pub mod Choosing
 pub mod Catching
 pub mod Packing
 pub mod Framing

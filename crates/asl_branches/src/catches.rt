@@ -1,10 +1,10 @@
-//! `throw`, and the catchers of a `try`.
+//! `throw` and `try`.
 ghost use Rattle.std.specs.Prelude.{◌≡◌, None};
 ghost use Rattle.asl_rules.specs.runs.StatementForms as forms;
 ghost use Rattle.asl_rules.specs.private.TypedMeaning as rules;
 ghost use Rattle.asl_rules.specs.private.TypedMeaning.{acts_of, caught_as, in_bare, itself};
 ghost use Rattle.asl_tree.specs.Acts.{all_acts, all_catchers, last_of};
-ghost use Rattle.asl_tree.specs.private.Room.{FitsCatchers, FitsLast};
+ghost use Rattle.asl_tree.specs.private.Room.{FitsCatchers, FitsLast, FitsList};
 ghost use Rattle.asl_tree.specs.declared.act.Catcher.TheVariants.{Catch};
 ghost use Rattle.asl_value.specs.View.{value_of};
 ghost use Rattle.asl_branches.specs.Meets.{Acts, at, NoneRefused, Ran};
@@ -39,8 +39,36 @@ pub fn throw_again(run: &Run, span: Span) -> Result<Exit, Stop>
     }
 }
 
+/// A list, and the catchers of what it throws.
+#[tactic(auto, using(crate::proofs::Stacks::cut_values, crate::proofs::Stacks::cut_height))]
+pub fn exec_try<K: Sink, N: Nodes<K>>(
+    here: &N,
+    run: &mut Run,
+    sink: &mut K,
+    list: &Items<Act>,
+    it: Try,
+) -> Result<Exit, Stop>
+    requires ready { N.ready here.now }
+    requires room { FitsList (room_of run.old) (all_acts list.now) }
+    requires catchers { FitsCatchers (room_of run.old) (all_catchers it.catchers.now) }
+    requires last { FitsLast (room_of run.old) (last_of it.last.now) }
+    ensures { Ran exit_of result (N.setting here.now)
+        (forms.try_list in_bare itself (acts_of (all_acts list.now)) (rules.catches_of (all_catchers it.entry.catchers.now)) (rules.last_of (last_of it.entry.last.now)))
+        (at K.Sink run.old sink.old) (at K.Sink run.new sink.new) }
+{
+    let height = run.frames.height();
+    match exec_scope(here, run, sink, list) {
+        Ok(exit) => Ok(exit),
+        Err(Stop::Thrown(x)) => {
+            run.frames.truncate(height);
+            exec_catchers(here, run, sink, x, it)
+        }
+        Err(stop) => Err(stop),
+    }
+}
+
 /// The first catcher of the exception's type, or else `otherwise`; where there is none, it is thrown on.
-pub fn exec_catchers<K: Sink, N: Nodes<K>>(
+fn exec_catchers<K: Sink, N: Nodes<K>>(
     here: &N,
     run: &mut Run,
     sink: &mut K,

@@ -1,15 +1,17 @@
-//! The parts of a `case`: whether an alternative is chosen, and what is done where none is.
-ghost use Rattle.std.specs.Prelude.{false, map};
+//! `case`.
+ghost use Rattle.std.specs.Prelude.{◌≡◌, IsTrue, false, map};
 ghost use Rattle.asl_bits.specs.declared.TheConstants.{WIDTH_LIMIT};
+ghost use Rattle.asl_syn.specs.declared.token.Span.{Span as At};
 ghost use Rattle.asl_rules.specs.values.Matching as matching;
 ghost use Rattle.asl_rules.specs.runs.Plans.{Ret, choose, lift};
 ghost use Rattle.asl_rules.specs.runs.StatementForms as forms;
 ghost use Rattle.asl_rules.specs.private.TypedMeaning as rules;
-ghost use Rattle.asl_rules.specs.private.TypedMeaning.{in_bare};
+ghost use Rattle.asl_rules.specs.private.TypedMeaning.{BareCore, in_bare, itself};
 ghost use Rattle.asl_shape.specs.View.{all_patterns};
-ghost use Rattle.asl_tree.specs.Acts.{last_of, maybe_tree};
-ghost use Rattle.asl_tree.specs.View.{all_trees};
-ghost use Rattle.asl_tree.specs.private.Room.{FitsLast};
+ghost use Rattle.asl_tree.specs.Acts.{all_alternatives, last_of, maybe_tree};
+ghost use Rattle.asl_tree.specs.View.{tree_of, all_trees};
+ghost use Rattle.asl_tree.specs.private.Room.{FitsAlternatives, FitsLast};
+ghost use Rattle.asl_tree.specs.declared.act.Alternative.TheVariants.{When};
 ghost use Rattle.asl_value.specs.View.{value_of};
 ghost use Rattle.asl_branches.specs.private.Choosing.{chosen, guard};
 ghost use Rattle.asl_branches.specs.Meets.{at, Ran};
@@ -20,15 +22,95 @@ use crate::lists::{eval_all, exec_scope};
 use crate::run::Run;
 use crate::stop::{Exit, Stop};
 use asl_io::Sink;
-use asl_shape::is_matched;
+use asl_shape::{is_matched, misses};
 use asl_shared::Held;
 use asl_syn::code::DynCode;
 use asl_syn::token::Span;
-use asl_tree::act::{Choice, Last};
+use asl_tree::act::{Act, Alternative, Choice, Last};
+use asl_tree::tree::Tree;
 use asl_value::{Value, truth};
+use sqlite_items::Items;
+
+/// The alternatives of a `case`.
+#[derive(Clone, Copy)]
+pub struct Case<'r> {
+    pub span: Span,
+    pub others: &'r [Alternative],
+    pub last: &'r Last,
+}
+
+/// A `case`: its value, and then the first alternative that it matches and whose condition holds, or else `otherwise`,
+/// or D09.
+pub fn exec_case<K: Sink, N: Nodes<K>>(
+    here: &N,
+    run: &mut Run,
+    sink: &mut K,
+    e: &Tree,
+    case: Case,
+) -> Result<Exit, Stop>
+    requires ready { N.ready here.now }
+    requires alternatives { FitsAlternatives (room_of run.old) (all_alternatives case.others.now) }
+    requires last { FitsLast (room_of run.old) (last_of case.last.now) }
+    ensures { Ran exit_of result (N.setting here.now)
+        (forms.case_of in_bare itself case.entry.span (tree_of e.now)
+        (rules.choices_of WIDTH_LIMIT (all_alternatives case.entry.others.now)) (rules.last_of (last_of case.entry.last.now)))
+        (at K.Sink run.old sink.old) (at K.Sink run.new sink.new) }
+{
+    let x = Held::new(here.eval(run, sink, e)?);
+    exec_alternatives(here, run, sink, x.get(), case)
+}
+
+/// The first alternative that matches and whose condition holds.
+fn exec_alternatives<K: Sink, N: Nodes<K>>(
+    here: &N,
+    run: &mut Run,
+    sink: &mut K,
+    x: &Value,
+    case: Case,
+) -> Result<Exit, Stop>
+    requires ready { N.ready here.now }
+    requires alternatives { FitsAlternatives (room_of run.old) (all_alternatives case.others.now) }
+    requires last { FitsLast (room_of run.old) (last_of case.last.now) }
+    ensures { Ran exit_of result (N.setting here.now)
+        (forms.alternatives in_bare itself case.entry.span (value_of x.now)
+        (rules.choices_of WIDTH_LIMIT (all_alternatives case.entry.others.now)) (rules.last_of (last_of case.entry.last.now)))
+        (at K.Sink run.old sink.old) (at K.Sink run.new sink.new) }
+{
+    for other in case.others {
+        let (choice, list) = alternative_parts(other);
+        if is_passed(choice, x) {
+            continue;
+        }
+        let it = Pick {
+            span: case.span,
+            choice,
+        };
+        if is_chosen(here, run, sink, x, it)? {
+            return exec_scope(here, run, sink, list);
+        }
+    }
+    exec_last(here, run, sink, case.span, case.last)
+}
+
+/// Whether it is seen at once that a value misses what an alternative asks for.
+#[tactic(auto, using(crate::proofs::Choosing::passed))]
+fn is_passed(choice: &Choice, x: &Value) -> bool
+    ensures { IsTrue result → (span : At) (c : BareCore) →
+        chosen span (value_of x.now) (all_patterns choice.now.patterns) (all_trees choice.now.trees) (maybe_tree choice.now.condition) c ≡ Ret false c }
+{
+    choice.trees.is_empty() && misses(choice.patterns.as_slice(), x)
+}
+
+/// What an alternative asks for, and its list.
+fn alternative_parts(other: &Alternative) -> (&Choice, &Items<Act>)
+    ensures { other.now ≡ When result.0.now result.1.now }
+{
+    let Alternative::When(choice, list) = other;
+    (choice, list)
+}
 
 /// Where none matches: `otherwise`, or else D09.
-pub fn exec_last<K: Sink, N: Nodes<K>>(
+fn exec_last<K: Sink, N: Nodes<K>>(
     here: &N,
     run: &mut Run,
     sink: &mut K,
@@ -55,7 +137,7 @@ pub struct Pick<'r> {
 }
 
 /// Whether a value matches and the condition holds, which is asked after a match.
-pub fn is_chosen<K: Sink, N: Nodes<K>>(
+fn is_chosen<K: Sink, N: Nodes<K>>(
     here: &N,
     run: &mut Run,
     sink: &mut K,

@@ -1,2 +1,3 @@
+pub mod ReadingLemmas
 pub mod Reports
 pub mod Roomy

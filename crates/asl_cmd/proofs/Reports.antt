@@ -8,7 +8,7 @@ use Rattle.asl_rules.specs.report.Report.{Answer, answer, Reading, all, long, ma
 use Rattle.asl_rules.specs.Tests.{Tests}
 use Rattle.asl_rules.specs.report.Texts.{Text, File, long_line}
 use Rattle.asl_answer.specs.private.Report.{Came, whole, too_long, check_answer, run_answer, exec_answer, list_answer, masks_answer, answer_on_files, answer_of}
-use Rattle.asl_reading.specs.private.Reading.{list_behind, without_list, came_of}
+use Rattle.asl_cmd.specs.private.Reading.{list_behind, without_list, came_of}
 
 -- ---- the report, by the two steps of the code
 

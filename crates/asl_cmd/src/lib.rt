@@ -2,6 +2,7 @@
 #![tactic(auto)]
 
 mod memory;
+mod reading;
 mod top;
 
 pub use asl_answer::Status;

@@ -1,6 +1,6 @@
 //! The whole program over files and a sink in memory.
 ghost use Rattle.std.specs.Prelude.{◌≡◌, ◌<◌, ◌⊎◌, Some, IfOk, length, map, string_bytes};
-ghost use Rattle.asl_devices.specs.Shelf.{held_of};
+ghost use Rattle.asl_io.specs.Shelf.{held_of};
 ghost use Rattle.asl_line.specs.Line.{line_of};
 ghost use Rattle.asl_grammar.specs.Reading.{Reader, IsReading};
 ghost use Rattle.asl_rules.specs.Tests.{Tests};
@@ -10,8 +10,7 @@ ghost use Rattle.asl_answer.specs.Statuses.{code_of};
 
 use crate::top::asl;
 use asl_answer::Status;
-use asl_devices::SureFiles;
-use asl_io::{MemSink, Sink};
+use asl_io::{MemSink, Sink, SureFiles};
 use std::alloc::{AllocError, Global};
 
 /// The greatest piece that the sink takes, in bytes.

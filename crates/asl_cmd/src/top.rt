@@ -10,10 +10,10 @@ ghost use Rattle.asl_types.specs.Suits.{Suits};
 ghost use Rattle.asl_rules.specs.report.Report.{report_of};
 ghost use Rattle.asl_answer.specs.Statuses.{code_of};
 
+use crate::reading::read_line;
 use asl_answer::{Status, Stop, write_answer};
 use asl_io::{Files, Sink};
 use asl_line::parse;
-use asl_reading::read_line;
 use std::alloc::Global;
 
 /// Does what the words of the command line ask for, the name of the program first: reads the files that they

@@ -5,7 +5,6 @@ ghost use Rattle.std.specs.Prelude.{◌≡◌, IfOk};
 use crate::exprs::{copy_maybe_expr, copy_maybe_type, copy_type};
 use crate::names::{copy_ident, copy_idents, copy_maybe_ident};
 use crate::reads::copy_read_stmts;
-use asl_shared::Held;
 use asl_syn::read::{Accessor, ReadDecl, ReadFunc};
 use asl_syn::tree::{Formal, Param, StorageDecl, TypeDecl, TypeDef};
 use sqlite_items::Items;
@@ -75,14 +74,11 @@ fn copy_def(alloc: Global, def: &TypeDef) -> Result<TypeDef, AllocError>
 fn copy_type_decl(alloc: Global, decl: &TypeDecl) -> Result<TypeDecl, AllocError>
     ensures { IfOk result (λ copy. copy ≡ decl.now) }
 {
-    let name = copy_ident(alloc, &decl.name)?;
-    let supertype = copy_maybe_ident(alloc, &decl.supertype)?;
-    let def = copy_def(alloc, &decl.def)?;
     Ok(TypeDecl {
         span: decl.span,
-        name,
-        def,
-        supertype,
+        name: copy_ident(alloc, &decl.name)?,
+        def: copy_def(alloc, &decl.def)?,
+        supertype: copy_maybe_ident(alloc, &decl.supertype)?,
     })
 }
 
@@ -90,15 +86,12 @@ fn copy_type_decl(alloc: Global, decl: &TypeDecl) -> Result<TypeDecl, AllocError
 fn copy_storage(alloc: Global, decl: &StorageDecl) -> Result<StorageDecl, AllocError>
     ensures { IfOk result (λ copy. copy ≡ decl.now) }
 {
-    let name = copy_ident(alloc, &decl.name)?;
-    let ty = Held::new(copy_maybe_type(alloc, &decl.ty)?);
-    let init = copy_maybe_expr(alloc, &decl.init)?;
     Ok(StorageDecl {
         span: decl.span,
         kind: decl.kind,
-        name,
-        ty: ty.into_inner(),
-        init,
+        name: copy_ident(alloc, &decl.name)?,
+        ty: copy_maybe_type(alloc, &decl.ty)?,
+        init: copy_maybe_expr(alloc, &decl.init)?,
     })
 }
 
@@ -106,22 +99,16 @@ fn copy_storage(alloc: Global, decl: &StorageDecl) -> Result<StorageDecl, AllocE
 fn copy_read_func(alloc: Global, func: &ReadFunc) -> Result<ReadFunc, AllocError>
     ensures { IfOk result (λ copy. copy ≡ func.now) }
 {
-    let name = copy_ident(alloc, &func.name)?;
-    let params = copy_params(alloc, func.params.as_slice())?;
-    let formals = copy_formals(alloc, func.formals.as_slice())?;
-    let body = copy_read_stmts(alloc, func.body.as_slice())?;
-    let limit = Held::new(copy_maybe_expr(alloc, &func.limit)?);
-    let result = copy_maybe_type(alloc, &func.result)?;
     Ok(ReadFunc {
         span: func.span,
         word: func.word,
         qualifier: func.qualifier,
-        name,
-        params,
-        formals,
-        result,
-        limit: limit.into_inner(),
-        body,
+        name: copy_ident(alloc, &func.name)?,
+        params: copy_params(alloc, func.params.as_slice())?,
+        formals: copy_formals(alloc, func.formals.as_slice())?,
+        result: copy_maybe_type(alloc, &func.result)?,
+        limit: copy_maybe_expr(alloc, &func.limit)?,
+        body: copy_read_stmts(alloc, func.body.as_slice())?,
     })
 }
 
@@ -129,22 +116,16 @@ fn copy_read_func(alloc: Global, func: &ReadFunc) -> Result<ReadFunc, AllocError
 fn copy_accessor(alloc: Global, accessor: &Accessor) -> Result<Accessor, AllocError>
     ensures { IfOk result (λ copy. copy ≡ accessor.now) }
 {
-    let name = copy_ident(alloc, &accessor.name)?;
-    let params = copy_params(alloc, accessor.params.as_slice())?;
-    let formals = copy_formals(alloc, accessor.formals.as_slice())?;
-    let getter = copy_read_stmts(alloc, accessor.getter.as_slice())?;
-    let setter = copy_read_stmts(alloc, accessor.setter.as_slice())?;
-    let value = copy_formal(alloc, &accessor.value)?;
     Ok(Accessor {
         span: accessor.span,
         word: accessor.word,
-        name,
-        params,
-        formals,
-        value,
+        name: copy_ident(alloc, &accessor.name)?,
+        params: copy_params(alloc, accessor.params.as_slice())?,
+        formals: copy_formals(alloc, accessor.formals.as_slice())?,
+        value: copy_formal(alloc, &accessor.value)?,
         qualifier: accessor.qualifier,
-        getter,
-        setter,
+        getter: copy_read_stmts(alloc, accessor.getter.as_slice())?,
+        setter: copy_read_stmts(alloc, accessor.setter.as_slice())?,
     })
 }
 

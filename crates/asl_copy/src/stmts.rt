@@ -3,17 +3,11 @@
 ghost use Rattle.std.specs.Prelude.{◌≡◌, IfOk};
 
 use crate::exprs::{
-    copy_call, copy_ends, copy_expr, copy_limited, copy_maybe_expr, copy_maybe_type, copy_patterns,
-    copy_type,
+    copy_expr, copy_exprs, copy_maybe_expr, copy_maybe_type, copy_patterns, copy_type,
 };
 use crate::names::{copy_ident, copy_idents, copy_maybe_ident, copy_text};
 use crate::targets::copy_target;
-use asl_shared::Held;
-use asl_syn::token::Span;
-use asl_syn::tree::{
-    Alternative, Bind, Binder, Catcher, ElseIf, Expr, LocalKind, Otherwise, PrintItem, Stmt,
-    Target, TypeExpr,
-};
+use asl_syn::tree::{Alternative, Bind, Binder, Catcher, ElseIf, Otherwise, PrintItem, Stmt};
 use sqlite_items::Items;
 use std::alloc::{AllocError, Global};
 
@@ -73,32 +67,6 @@ fn copy_print_items(alloc: Global, items: &[PrintItem]) -> Result<Items<PrintIte
     Ok(copies)
 }
 
-/// A copy of a local declaration.
-fn copy_local(
-    alloc: Global,
-    span: Span,
-    kind: LocalKind,
-    bind: &Bind,
-    ty: &Option<TypeExpr>,
-    value: &Expr,
-) -> Result<Stmt, AllocError>
-    ensures { IfOk result (λ copy. copy ≡ Stmt.Local span kind bind.now ty.now value.now) }
-{
-    let bind = copy_bind(alloc, bind)?;
-    let ty = Held::new(copy_maybe_type(alloc, ty)?);
-    let value = copy_expr(alloc, value)?;
-    Ok(Stmt::Local(span, kind, bind, ty.into_inner(), value))
-}
-
-/// A copy of an assignment.
-fn copy_assign(alloc: Global, span: Span, target: &Target, value: &Expr) -> Result<Stmt, AllocError>
-    ensures { IfOk result (λ copy. copy ≡ Stmt.Assign span target.now value.now) }
-{
-    let target = Held::new(copy_target(alloc, target)?);
-    let value = copy_expr(alloc, value)?;
-    Ok(Stmt::Assign(span, target.into_inner(), value))
-}
-
 /// A copy of a statement.
 #[cycle(stmt_copies)]
 pub fn copy_stmt(alloc: Global, stmt: &Stmt) -> Result<Stmt, AllocError>
@@ -112,93 +80,69 @@ pub fn copy_stmt(alloc: Global, stmt: &Stmt) -> Result<Stmt, AllocError>
             Ok(Stmt::Print(*span, *kind, copy_print_items(alloc, items.as_slice())?))
         }
         Stmt::Local(span, kind, bind, ty, value) => {
-            copy_local(alloc, *span, *kind, bind, ty, value)
+            let bind = copy_bind(alloc, bind)?;
+            let ty = copy_maybe_type(alloc, ty)?;
+            let value = copy_expr(alloc, value)?;
+            Ok(Stmt::Local(*span, *kind, bind, ty, value))
         }
         Stmt::LocalVars(span, names, ty) => {
             let names = copy_idents(alloc, names.as_slice())?;
             let ty = copy_type(alloc, ty)?;
             Ok(Stmt::LocalVars(*span, names, ty))
         }
-        Stmt::Assign(span, target, value) => copy_assign(alloc, *span, target, value),
+        Stmt::Assign(span, target, value) => {
+            let target = copy_target(alloc, target)?;
+            let value = copy_expr(alloc, value)?;
+            Ok(Stmt::Assign(*span, target, value))
+        }
         Stmt::Invoke(span, name, parameters, arguments) => {
-            let (name, parameters, arguments) = copy_call(
-                alloc,
-                name,
-                parameters.as_slice(),
-                arguments.as_slice(),
-            )?;
+            let name = copy_ident(alloc, name)?;
+            let parameters = copy_exprs(alloc, parameters.as_slice())?;
+            let arguments = copy_exprs(alloc, arguments.as_slice())?;
             Ok(Stmt::Invoke(*span, name, parameters, arguments))
         }
         Stmt::Return(span, value) => Ok(Stmt::Return(*span, copy_maybe_expr(alloc, value)?)),
         Stmt::Throw(span, value) => Ok(Stmt::Throw(*span, copy_maybe_expr(alloc, value)?)),
         Stmt::If(span, condition, first, others, last) => {
+            let condition = copy_expr(alloc, condition)?;
             let first = copy_stmts(alloc, first.as_slice())?;
             let others = copy_else_ifs(alloc, others.as_slice())?;
             let last = copy_stmts(alloc, last.as_slice())?;
-            let condition = copy_expr(alloc, condition)?;
             Ok(Stmt::If(*span, condition, first, others, last))
         }
         Stmt::Case(span, subject, alternatives, otherwise) => {
-            copy_case(alloc, stmt, *span, subject, alternatives, otherwise)
+            let subject = copy_expr(alloc, subject)?;
+            let alternatives = copy_alternatives(alloc, alternatives.as_slice())?;
+            let otherwise = copy_otherwise(alloc, otherwise)?;
+            Ok(Stmt::Case(*span, subject, alternatives, otherwise))
         }
         Stmt::For(span, index, from, direction, to, limit, body) => {
             let index = copy_ident(alloc, index)?;
+            let from = copy_expr(alloc, from)?;
+            let to = copy_expr(alloc, to)?;
+            let limit = copy_maybe_expr(alloc, limit)?;
             let body = copy_stmts(alloc, body.as_slice())?;
-            let (from, to, limit) = copy_ends(alloc, from, to, limit)?;
             Ok(Stmt::For(*span, index, from, *direction, to, limit, body))
         }
         Stmt::While(span, condition, limit, body) => {
+            let condition = copy_expr(alloc, condition)?;
+            let limit = copy_maybe_expr(alloc, limit)?;
             let body = copy_stmts(alloc, body.as_slice())?;
-            let (condition, limit) = copy_limited(alloc, condition, limit)?;
             Ok(Stmt::While(*span, condition, limit, body))
         }
         Stmt::Repeat(span, body, condition, limit) => {
             let body = copy_stmts(alloc, body.as_slice())?;
-            let (condition, limit) = copy_limited(alloc, condition, limit)?;
+            let condition = copy_expr(alloc, condition)?;
+            let limit = copy_maybe_expr(alloc, limit)?;
             Ok(Stmt::Repeat(*span, body, condition, limit))
         }
         Stmt::Try(span, body, catchers, otherwise) => {
-            copy_try(alloc, stmt, *span, body, catchers, otherwise)
+            let body = copy_stmts(alloc, body.as_slice())?;
+            let catchers = copy_catchers(alloc, catchers.as_slice())?;
+            let otherwise = copy_otherwise(alloc, otherwise)?;
+            Ok(Stmt::Try(*span, body, catchers, otherwise))
         }
     }
-}
-
-/// A copy of a `case`.
-#[cycle(stmt_copies)]
-fn copy_case(
-    alloc: Global,
-    stmt: &Stmt,
-    span: Span,
-    subject: &Expr,
-    alternatives: &Items<Alternative>,
-    otherwise: &Otherwise,
-) -> Result<Stmt, AllocError>
-    requires { stmt.now ≡ Stmt.Case span subject.now alternatives.now otherwise.now }
-    ensures { IfOk result (λ copy. copy ≡ stmt.now) }
-{
-    let alternatives = copy_alternatives(alloc, alternatives.as_slice())?;
-    let subject = Held::new(copy_expr(alloc, subject)?);
-    let otherwise = copy_otherwise(alloc, otherwise)?;
-    Ok(Stmt::Case(span, subject.into_inner(), alternatives, otherwise))
-}
-
-/// A copy of a `try`.
-#[cycle(stmt_copies)]
-fn copy_try(
-    alloc: Global,
-    stmt: &Stmt,
-    span: Span,
-    body: &Items<Stmt>,
-    catchers: &Items<Catcher>,
-    otherwise: &Otherwise,
-) -> Result<Stmt, AllocError>
-    requires { stmt.now ≡ Stmt.Try span body.now catchers.now otherwise.now }
-    ensures { IfOk result (λ copy. copy ≡ stmt.now) }
-{
-    let body = copy_stmts(alloc, body.as_slice())?;
-    let catchers = copy_catchers(alloc, catchers.as_slice())?;
-    let otherwise = copy_otherwise(alloc, otherwise)?;
-    Ok(Stmt::Try(span, body, catchers, otherwise))
 }
 
 /// Copies of statements.
@@ -219,8 +163,8 @@ fn copy_else_if(alloc: Global, branch: &ElseIf) -> Result<ElseIf, AllocError>
     ensures { IfOk result (λ copy. copy ≡ branch.now) }
 {
     let ElseIf::ElseIf(condition, body) = branch;
-    let body = copy_stmts(alloc, body.as_slice())?;
     let condition = copy_expr(alloc, condition)?;
+    let body = copy_stmts(alloc, body.as_slice())?;
     Ok(ElseIf::ElseIf(condition, body))
 }
 
@@ -243,8 +187,8 @@ fn copy_alternative(alloc: Global, alternative: &Alternative) -> Result<Alternat
 {
     let Alternative::When(patterns, condition, body) = alternative;
     let patterns = copy_patterns(alloc, patterns.as_slice())?;
-    let body = copy_stmts(alloc, body.as_slice())?;
     let condition = copy_maybe_expr(alloc, condition)?;
+    let body = copy_stmts(alloc, body.as_slice())?;
     Ok(Alternative::When(patterns, condition, body))
 }
 

@@ -1,3 +1,4 @@
 pub mod Faults
+pub mod Shelf
 pub mod Told
 pub mod private

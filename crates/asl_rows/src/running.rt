@@ -4,8 +4,7 @@ ghost use Rattle.std.specs.Prelude.{◌<◌};
 use crate::rows::Row;
 use crate::watched::{Watch, Watched};
 use asl_cmd::{asl, asl_in_memory};
-use asl_devices::MemFiles;
-use asl_io::MemSink;
+use asl_io::{MemFiles, MemSink};
 use std::alloc::{AllocError, Global};
 
 /// How many bytes a call moves at most, and which calls fail, counted from 1.

@@ -11,7 +11,6 @@ ghost use Rattle.asl_types.specs.View.{parts_of};
 ghost use Rattle.asl_blocks.specs.private.Walks as walks;
 ghost use Rattle.asl_blocks.specs.private.Walks.{after, binding};
 
-use asl_shared::Held;
 use asl_syn::code::{Refused, StaticCode};
 use asl_syn::tree::{Binder, LocalKind};
 use asl_types::answer::fault;
@@ -113,15 +112,14 @@ fn declare_binder<'a>(
 ) -> Result<(), Refused>
     ensures { Met (λ _. names.new) result (walks.binder_declared kind ty binder.now names.old) }
 {
-    let ty = Held::new(ty);
     match binder {
         Binder::Bound(name) => {
             let text = name.text.as_slice();
             if !names.is_free(text) {
                 return fault(StaticCode::T01, name.span);
             }
-            let counted = itself(alloc, ty.get(), names)?;
-            declare_local(names, kind, text, ty.into_inner(), counted)
+            let counted = itself(alloc, &ty, names)?;
+            declare_local(names, kind, text, ty, counted)
         }
         Binder::Unbound(_) => Ok(()),
     }

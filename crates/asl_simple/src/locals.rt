@@ -20,7 +20,6 @@ use asl_blocks::body::{Body, Done, context};
 use asl_blocks::steps::{check_fits, end_simple};
 use asl_blocks::typing::type_in;
 use asl_rules::effect::Effect;
-use asl_shared::Held;
 use asl_syn::code::{Refused, StaticCode};
 use asl_syn::token::Span;
 use asl_syn::tree::{Bind, Binder, Expr, Ident, LocalKind, TypeExpr};
@@ -138,12 +137,12 @@ fn declare_one<'a>(
     if !names.is_free(text) {
         return fault(StaticCode::T01, name.span);
     }
-    let ty = Held::new(type_declared(body.alloc, declaration.kind, &d)?);
-    let counted = initialised_as(names, body, ty.get(), declaration.value)?;
+    let ty = type_declared(body.alloc, declaration.kind, &d)?;
+    let counted = initialised_as(names, body, &ty, declaration.value)?;
     let effect = d.effect();
     let act = d.into_act(declaration.span, Taken::Whole);
     let done = end_simple(body.class, declaration.span, true, effect, act)?;
-    declare_local(names, declaration.kind, text, ty.into_inner(), counted)?;
+    declare_local(names, declaration.kind, text, ty, counted)?;
     Ok(done)
 }
 

@@ -58,6 +58,7 @@ impl Param {
 }
 
 /// What calls need of a subprogram. It is a procedure where it has no result.
+#[derive(Drop)]
 pub struct Signature {
     name: Name,
     class: Effect,
@@ -65,21 +66,6 @@ pub struct Signature {
     formals: Items<Ty>,
     result: Option<Ty>,
     limit: i128,
-}
-
-// By hand, so that a drop of one is a call, as `Held` of asl_shared says.
-impl Drop for Signature {
-    fn drop(self) {
-        let Signature {
-            name: _name,
-            class: _class,
-            params: _params,
-            formals: _formals,
-            result,
-            limit: _limit,
-        } = self;
-        drop(result);
-    }
 }
 
 impl Model for Signature {

@@ -6,7 +6,11 @@
 #[cfg(test)]
 mod bits;
 #[cfg(test)]
+mod commands;
+#[cfg(test)]
 mod constraints;
+#[cfg(test)]
+mod declarations;
 #[cfg(test)]
 mod lexemes;
 #[cfg(test)]
@@ -21,3 +25,5 @@ mod polynomials;
 mod types;
 #[cfg(test)]
 mod values;
+#[cfg(test)]
+mod widths;

@@ -1,8 +1,9 @@
 //! The host's files and its standard output, and files and sinks in memory.
 ghost use Rattle.std.specs.Prelude.{◌<◌};
 
-use asl_devices::{HostFiles, HostSink, MemFiles, SureFiles, SureSink};
-use asl_io::{MemSink, ReadAnswer, put_all, read_file};
+use asl_io::{
+    HostFiles, HostSink, MemFiles, MemSink, ReadAnswer, SureFiles, SureSink, put_all, read_file,
+};
 use std::alloc::{AllocError, Global};
 use std::{fs, io};
 

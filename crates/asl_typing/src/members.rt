@@ -13,7 +13,6 @@ ghost use Rattle.asl_typing.specs.private.FoundMembers.{found_view, IsNarrow, bi
 use crate::ends::{keep_class, stand_together};
 use asl_allowed::effects::{greater, together};
 use asl_rules::effect::Effect;
-use asl_shared::Held;
 use asl_syn::code::{Refused, StaticCode};
 use asl_syn::token::Span;
 use asl_syn::tree::Ident;
@@ -87,15 +86,9 @@ fn field_at(
 ) -> Result<Boxed<Tree>, Refused>
     ensures { Met typed_of result (in_class class span (typed_of operand).effect ty (rules.member_tree (tree_of operand) (rules.a_field place ty))) }
 {
-    let ty = Held::new(ty);
     let effect = operand.get().effect();
     keep_class(class, span, effect)?;
-    let note = Note {
-        span,
-        ty: ty.into_inner(),
-        effect,
-    };
-    Ok(nodes::field(alloc, note, operand, place)?)
+    Ok(nodes::field(alloc, Note { span, ty, effect }, operand, place)?)
 }
 
 /// A bitfield of what was typed.
@@ -269,15 +262,10 @@ pub fn type_element(
 ) -> Result<Boxed<Tree>, Refused>
     ensures { Met typed_of result (rules.element_at class span (typed_of array) (typed_of index)) }
 {
-    let ty = Held::new(indexed(span, array.get().ty(), index.get().ty())?);
+    let ty = indexed(span, array.get().ty(), index.get().ty())?;
     let (k, l) = (array.get().effect(), index.get().effect());
     stand_together(span, together(k, l))?;
     let effect = greater(k, l);
     keep_class(class, span, effect)?;
-    let note = Note {
-        span,
-        ty: ty.into_inner(),
-        effect,
-    };
-    Ok(nodes::element(alloc, note, array, index)?)
+    Ok(nodes::element(alloc, Note { span, ty, effect }, array, index)?)
 }

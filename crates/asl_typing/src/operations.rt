@@ -19,7 +19,7 @@ use crate::operators::{type_binary, type_unary};
 use asl_allowed::effects;
 use asl_allowed::effects::{greater, together};
 use asl_rules::effect::Effect;
-use asl_shared::{Held, Shared};
+use asl_shared::Shared;
 use asl_syn::code::{Refused, StaticCode};
 use asl_syn::token::Span;
 use asl_syn::tree::{BinaryOperator, UnaryOperator};
@@ -44,15 +44,10 @@ pub fn type_operation_of_one(
 ) -> Result<Boxed<Tree>, Refused>
     ensures { Met typed_of result (operations.operation class span op (typed_of operand)) }
 {
-    let ty = Held::new(type_unary(alloc, span, op, operand.get().ty())?);
+    let ty = type_unary(alloc, span, op, operand.get().ty())?;
     let effect = operand.get().effect();
     keep_class(class, span, effect)?;
-    let note = Note {
-        span,
-        ty: ty.into_inner(),
-        effect,
-    };
-    Ok(nodes::unary(alloc, note, op, operand)?)
+    Ok(nodes::unary(alloc, Note { span, ty, effect }, op, operand)?)
 }
 
 /// An operation with two operands: the fault of `type_binary`, then T13 where these may not stand together, then T12.
@@ -66,17 +61,12 @@ pub fn type_operation(
 ) -> Result<Boxed<Tree>, Refused>
     ensures { (t : Tests) → IsRight t → Met typed_of result (operations.operation_of_two t class span op (typed_of left) (typed_of right)) }
 {
-    let ty = Held::new(type_binary(alloc, span, op, left.get().ty(), right.get().ty())?);
+    let ty = type_binary(alloc, span, op, left.get().ty(), right.get().ty())?;
     let (k, l) = (left.get().effect(), right.get().effect());
     stand_together(span, together(k, l))?;
     let effect = greater(k, l);
     keep_class(class, span, effect)?;
-    let note = Note {
-        span,
-        ty: ty.into_inner(),
-        effect,
-    };
-    Ok(nodes::binary(alloc, note, op, left, right)?)
+    Ok(nodes::binary(alloc, Note { span, ty, effect }, op, left, right)?)
 }
 
 /// The code where two types have no join: T06 of bits, and else T05.
@@ -122,17 +112,13 @@ fn conditional_note(
     ensures { (t : Tests) → IsRight t → Met note_view result (conditional_note t class span (tree_at (tree_of condition.now)) (typed_of condition.now) (typed_of left.now) (typed_of right.now)) }
 {
     need_boolean(condition.span(), condition.ty())?;
-    let ty = Held::new(joined(alloc, span, left.ty(), right.ty())?);
-    let ty = Held::new(bare(alloc, ty.get())?);
+    let ty = joined(alloc, span, left.ty(), right.ty())?;
+    let ty = bare(alloc, &ty)?;
     let parts = [condition.effect(), left.effect(), right.effect()];
     stand_together(span, effects::may_stand_together(&parts))?;
     let effect = effects::greatest(Effect::Pure, &parts);
     keep_class(class, span, effect)?;
-    Ok(Note {
-        span,
-        ty: ty.into_inner(),
-        effect,
-    })
+    Ok(Note { span, ty, effect })
 }
 
 /// A conditional expression: T05 where the condition is no boolean, T06 or T05 where the types have no join, then T13,
@@ -180,14 +166,9 @@ pub fn type_tuple(
 ) -> Result<Boxed<Tree>, Refused>
     ensures { Met typed_of result (rules.tuple_with class span (all_operands parts)) }
 {
-    let ty = Held::new(tuple_type(alloc, span, parts.as_slice())?);
+    let ty = tuple_type(alloc, span, parts.as_slice())?;
     stand_together(span, all_together(Effect::Pure, parts.as_slice()))?;
     let effect = greater(greatest(Effect::Pure, parts.as_slice()), Effect::Pure);
     keep_class(class, span, effect)?;
-    let note = Note {
-        span,
-        ty: ty.into_inner(),
-        effect,
-    };
-    Ok(nodes::tuple(alloc, note, parts)?)
+    Ok(nodes::tuple(alloc, Note { span, ty, effect }, parts)?)
 }

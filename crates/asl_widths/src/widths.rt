@@ -1,9 +1,9 @@
 //! Widths: the polynomials and the integers that expressions stand for where a width, a length or an end of a constraint is
 //! asked for, within the limits.
 
-ghost use Rattle.std.specs.Prelude.{◌≡◌, ◌<◌, ◌%◌, unsigned_abs, pos, ◌+ℤ◌, ◌-ℤ◌, ◌*ℤ◌, Ok, IfOk, IfSome};
+ghost use Rattle.std.specs.Prelude.{◌≡◌, ◌<◌, ◌%◌, unsigned_abs, pos, ◌+ℤ◌, ◌-ℤ◌, ◌*ℤ◌, Ok, option_map, IfOk, IfSome};
 ghost use Rattle.asl_cons.specs.Arithmetic.{fits};
-ghost use Rattle.asl_poly.specs.Poly.{constant_map};
+ghost use Rattle.asl_poly.specs.Poly.{constant_map, constant_value};
 ghost use Rattle.asl_rules.specs.expressions.Exprs as rules;
 ghost use Rattle.asl_rules.specs.expressions.Exprs.{name_read, negative_tree, combined_tree};
 ghost use Rattle.asl_rules.specs.types.Arithmetic as arithmetic;
@@ -14,12 +14,12 @@ ghost use Rattle.asl_rules.specs.Tests.{Tests};
 ghost use Rattle.asl_rules.specs.runs.Trees as rules_trees;
 ghost use Rattle.asl_rules.specs.expressions.Typing.{width_as, number_as, width_note};
 ghost use Rattle.asl_rules.specs.types.Widths as limits;
+ghost use Rattle.asl_types.specs.private.Standings.{storage_view, value_behind};
 ghost use Rattle.asl_types.specs.private.Answers.{Met, Agrees};
 ghost use Rattle.asl_subprograms.specs.private.ContextView.{scope_of};
 ghost use Rattle.asl_tree.specs.View.{note_view, tree_of};
 ghost use Rattle.asl_widths.specs.WidthViews.{width_of, number_of};
 
-use asl_counted::{number_of_storage, storage_has_atom, width_of_storage};
 use asl_poly::{HEAVIEST, Poly};
 use asl_rules::effect::Effect;
 use asl_rules::joining::{Combination, Joining};
@@ -30,12 +30,14 @@ use asl_syn::tree::{BinaryOperator, Expr, UnaryOperator};
 use asl_tree::nodes;
 use asl_tree::places::place;
 use asl_tree::tree::{Note, Tree};
-use asl_types::Standing;
 use asl_types::answer::fault;
 use asl_types::integers::any_integer;
+use asl_types::kinds::is_integer;
 use asl_types::widths::{
     width_difference, width_divided, width_of_number, width_product, width_sum,
 };
+use asl_types::{Counted, Standing, Storage};
+use asl_value::Value;
 use sqlite_items::Boxed;
 use std::alloc::{AllocError, Global};
 
@@ -103,6 +105,38 @@ fn noted(alloc: Global, span: Span) -> Result<Note, AllocError>
         ty: any_integer(alloc)?,
         effect: Effect::Pure,
     })
+}
+
+/// The width of a value that is known: T19 where it is no integer, or where there is none.
+fn width_of_known(alloc: Global, span: Span, value: Option<&Value>) -> Result<Poly, Refused>
+    ensures { Met (λ p. p) result (limits.width_of_known span (value_behind value.entry)) }
+{
+    let Some(value) = value else {
+        return fault(StaticCode::T19, span);
+    };
+    match value {
+        Value::Int(z) => width_of_number(alloc, span, *z),
+        Value::Bool(_) => fault(StaticCode::T19, span),
+        Value::Bits(_, _) => fault(StaticCode::T19, span),
+        Value::Label(_, _) => fault(StaticCode::T19, span),
+        Value::Record(_, _) => fault(StaticCode::T19, span),
+        Value::Exception(_, _, _, _) => fault(StaticCode::T19, span),
+        Value::Tuple(_) => fault(StaticCode::T19, span),
+        Value::Array(_, _) => fault(StaticCode::T19, span),
+    }
+}
+
+/// The width of storage: T05 where it is no integer.
+fn width_of_storage(alloc: Global, span: Span, s: Storage) -> Result<Poly, Refused>
+    ensures { Met (λ p. p) result (limits.width_of_storage span (storage_view s.entry)) }
+{
+    if !is_integer(s.ty) {
+        return fault(StaticCode::T05, span);
+    }
+    match s.counted {
+        None => width_of_known(alloc, span, s.known()),
+        Some(counted) => Ok(counted.poly().copy(alloc)?),
+    }
 }
 
 /// The width of a name: T02 where it is neither storage nor a label, and T05 where it is a label.
@@ -307,6 +341,48 @@ pub fn type_width(alloc: Global, context: Context, e: &Expr) -> Result<Width, Re
     }
 }
 
+/// The integer of a value that is known: T19 where it is no integer, or where there is none.
+fn number_of_known(span: Span, value: Option<&Value>) -> Result<i128, Refused>
+    ensures { Agrees result (limits.number_of_known span (value_behind value.entry)) }
+{
+    let Some(value) = value else {
+        return fault(StaticCode::T19, span);
+    };
+    match value {
+        Value::Int(z) => Ok(*z),
+        Value::Bool(_) => fault(StaticCode::T19, span),
+        Value::Bits(_, _) => fault(StaticCode::T19, span),
+        Value::Label(_, _) => fault(StaticCode::T19, span),
+        Value::Record(_, _) => fault(StaticCode::T19, span),
+        Value::Exception(_, _, _, _) => fault(StaticCode::T19, span),
+        Value::Tuple(_) => fault(StaticCode::T19, span),
+        Value::Array(_, _) => fault(StaticCode::T19, span),
+    }
+}
+
+/// The integer of a name of a body that counts as this: T19 where it has atoms.
+fn number_of_counted(span: Span, counted: &Counted) -> Result<i128, Refused>
+    ensures { Agrees result (found_or (constant_value counted.now.poly) StaticCode.T19 span) }
+{
+    match counted.poly().as_constant() {
+        Some(z) => Ok(z),
+        None => fault(StaticCode::T19, span),
+    }
+}
+
+/// The integer of storage: T05 where it is no integer.
+fn number_of_storage(span: Span, s: Storage) -> Result<i128, Refused>
+    ensures { Agrees result (limits.number_of_storage span (storage_view s.entry)) }
+{
+    if !is_integer(s.ty) {
+        return fault(StaticCode::T05, span);
+    }
+    match s.counted {
+        None => number_of_known(span, s.known()),
+        Some(counted) => number_of_counted(span, counted),
+    }
+}
+
 /// The integer of a name: T02 where it is neither storage nor a label, and T05 where it is a label.
 fn number_of_name(
     alloc: Global,
@@ -480,6 +556,19 @@ pub fn type_number(alloc: Global, context: Context, e: &Expr) -> Result<Number, 
         },
         // no other form is a width
         _ => fault(StaticCode::T19, place(e)),
+    }
+}
+
+/// Whether storage counts as a text that names an atom.
+fn storage_has_atom(s: Option<Storage>) -> bool
+    ensures { result ≡ limits.storage_has_atom (option_map storage_view s.entry) }
+{
+    match s {
+        None => false,
+        Some(s) => match s.counted {
+            None => false,
+            Some(counted) => counted.has_atom(),
+        },
     }
 }
 

@@ -2,7 +2,7 @@ use Rattle.std.proofs.Common.{◌≡◌, ◌∙◌, inr, sym, map, string_bytes}
 use Rattle.asl_line.specs.Line.{line_of}
 use Rattle.asl_line.specs.private.Model.{meaning_of}
 use Rattle.asl_answer.specs.private.Model.{came_in}
-use Rattle.asl_reading.proofs.ReadingLemmas.{IfSome-at}
+use Rattle.asl_cmd.proofs.ReadingLemmas.{IfSome-at}
 use Rattle.asl_io.specs.Told.{Takes}
 use Rattle.asl_answer.specs.Statuses.{code_of}
 use Rattle.asl_cmd.proofs.Reports.{of_report, written_prefix, prefix_written}

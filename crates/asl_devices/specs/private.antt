@@ -1,2 +1,0 @@
--- What restates something for proofs, nearer to how the code goes about it: a lemma ties each to what it restates.
-pub mod MemFiles
